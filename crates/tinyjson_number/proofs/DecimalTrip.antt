@@ -1,0 +1,221 @@
+-- The text of a decimal spells a numeral with that value.
+use Rattle.std.proofs.Common.{◌≡◌, ◌≢◌, ℕ, zero, suc, ◌+◌, ◌-◌, ◌<◌, Bool, true, false, cond, eqb, List, [], ◌∷◌, ◌++◌, length, get_or, take, drop, replicate, refl, sym, ap, ◌∙◌, arith, append-nil, length-append, IsTrue, ℤ, pos, negsuc, neg_ℤ, ◌+ℤ◌, ◌-ℤ◌, Option, Some, None}
+use Rattle.std.specs.Prelude.{unsigned_abs, int_lt, int_le, ◌^◌, ◌&&◌}
+use mir.Val.{hbits}
+use Rattle.std.proofs.lemmas.Nat.{pow_pos}
+use Rattle.std.specs.Int.{Width}
+use Rattle.std.proofs.lemmas.Bool.{false≢true, cond_both}
+use Rattle.std.proofs.Math.Dec.{eqb-suc-zero}
+use Rattle.std.proofs.lemmas.Bool.Decides.{nat_tests}
+use Rattle.std.proofs.lemmas.Int.{ints}
+use Rattle.std.proofs.lemmas.List.{get_or_append_left, length-replicate, take-append-drop, length-drop, length-take-le, get_or-take}
+use Rattle.tinyjson_number.specs.Decimal.{Decimal, strip_leading, strip_trailing, significant, trailing_zeros, decimal_of}
+use Rattle.tinyjson_number.specs.Numeral.{Numeral, Exponent, IsNumeral, IsExponent, AreDigits, minus_text, fraction_text, exponent_text, spelling, has_leading_zero, exponent_value, value, fits_in, power_fits}
+use Rattle.tinyjson_number.specs.Text.{natural_text, integer_text, plain_text, scientific_text, is_far, magnitude_text, decimal_text}
+use Rattle.tinyjson_number.specs.Canonical.{IsDecimalAt, is_canonical_at}
+use Rattle.tinyjson_number.proofs.Strips.{strip_trailing-append_none, strip_trailing-append_some, strip_zeros, strip_trailing_none}
+use Rattle.tinyjson_number.proofs.Naturals.{natural}
+use Rattle.tinyjson_number.proofs.Forms.{form, zero-form}
+
+-- ---- zeros round digits
+
+lead_cases : (b : Bool) (d : ℕ) (xs : List ℕ) → b ≡ false → cond b (strip_leading xs) (d ∷ xs) ≡ d ∷ xs
+lead_cases true d xs h = absurd (false≢true (sym h))
+lead_cases false d xs h = refl
+
+strip_leading_none : (xs : List ℕ) → get_or xs 0 0 ≢ 48 → strip_leading xs ≡ xs
+strip_leading_none [] h = refl
+strip_leading_none (d ∷ xs) h = lead_cases (eqb d 48) d xs (grind (arith, nat_tests))
+
+strip_leading_zeros : (a : ℕ) (xs : List ℕ) → strip_leading (replicate a 48 ++ xs) ≡ strip_leading xs
+strip_leading_zeros zero xs = refl
+strip_leading_zeros (suc a) xs = strip_leading_zeros a xs
+
+decimal-of_some : (g : Bool) (ds : List ℕ) (p : ℤ) → 0 < length ds → decimal_of g ds p ≡ record { negative = g; digits = ds; power = p }
+decimal-of_some g [] p h = absurd (omega arith)
+decimal-of_some g (d ∷ ds) p h = refl
+
+abbrev numeral : Bool → List ℕ → List ℕ → Option Exponent → Numeral
+numeral g w f e = record { negative = g; whole = w; fraction = f; exponent = e }
+
+module _ (ds : List ℕ) (some : 0 < length ds) (first : get_or ds 0 0 ≢ 48) (last : get_or ds (length ds - 1) 0 ≢ 48) where
+  kept : (b : ℕ) → strip_trailing (ds ++ replicate b 48) ≡ ds
+  kept b = strip_trailing-append_none ds (replicate b 48) (strip_zeros b) ∙ strip_trailing_none ds last
+
+  padded : (a b : ℕ) → significant (replicate a 48 ++ (ds ++ replicate b 48)) ≡ ds
+  padded a b =
+      ap strip_trailing (strip_leading_zeros a (ds ++ replicate b 48) ∙ strip_leading_none (ds ++ replicate b 48) (λ e. first (sym (get_or_append_left ds (replicate b 48) 0 0 some) ∙ e)))
+      ∙ kept b
+
+  padding : (a b : ℕ) → trailing_zeros (replicate a 48 ++ (ds ++ replicate b 48)) ≡ b
+  padding a b =
+      let e : strip_trailing (replicate a 48 ++ (ds ++ replicate b 48)) ≡ replicate a 48 ++ ds =
+      strip_trailing-append_some (replicate a 48) (ds ++ replicate b 48) (omega (arith, ap length (kept b))) ∙ ap (λ t. replicate a 48 ++ t) (kept b) in
+      omega (arith, ap length e, length-append (replicate a 48) ds, length-append (replicate a 48) (ds ++ replicate b 48), length-append ds (replicate b 48), length-replicate {A = ℕ} b 48)
+
+  valued : (g : Bool) (w f : List ℕ) (x : Option Exponent) (a b : ℕ) (p : ℤ) → w ++ f ≡ replicate a 48 ++ (ds ++ replicate b 48) → p ≡ (exponent_value x -ℤ pos (length f)) +ℤ pos b →
+      value (numeral g w f x) ≡ record { negative = g; digits = ds; power = p }
+  unfolding value
+  valued g w f x a b p e ep =
+      ap (λ z. decimal_of g (significant z) ((exponent_value x -ℤ pos (length f)) +ℤ pos (trailing_zeros z))) e
+      ∙ ap (λ z. decimal_of g z ((exponent_value x -ℤ pos (length f)) +ℤ pos (trailing_zeros (replicate a 48 ++ (ds ++ replicate b 48))))) (padded a b)
+      ∙ ap (λ z. decimal_of g ds ((exponent_value x -ℤ pos (length f)) +ℤ pos z)) (padding a b)
+      ∙ ap (decimal_of g ds) (sym ep)
+      ∙ decimal-of_some g ds p some
+
+-- ---- the four forms
+
+-- a numeral of the grammar that xs spells, with that value
+pub record IsSpelt (d : Decimal) (xs : List ℕ) : Type 0 where
+  pub numeral : Numeral
+  pub is : IsNumeral numeral
+  pub plain : has_leading_zero numeral.whole ≡ false
+  pub value : value numeral ≡ d
+  pub text : spelling numeral ≡ xs
+
+digits-replicate : (k : ℕ) → AreDigits (replicate k 48)
+digits-replicate zero = tt
+digits-replicate (suc k) = (refl, digits-replicate k)
+
+pub digits-join : (xs ys : List ℕ) → AreDigits xs → AreDigits ys → AreDigits (xs ++ ys)
+digits-join [] ys h k = k
+digits-join (d ∷ xs) ys h k = (h.0, digits-join xs ys h.1 k)
+
+digits-take : (n : ℕ) (xs : List ℕ) → AreDigits xs → AreDigits (take n xs)
+digits-take zero xs h = tt
+digits-take (suc n) [] h = tt
+digits-take (suc n) (d ∷ xs) h = (h.0, digits-take n xs h.1)
+
+digits-drop : (n : ℕ) (xs : List ℕ) → AreDigits xs → AreDigits (drop n xs)
+digits-drop zero xs h = h
+digits-drop (suc n) [] h = tt
+digits-drop (suc n) (d ∷ xs) h = digits-drop n xs h.1
+
+no_leading : (xs : List ℕ) → get_or xs 0 0 ≢ 48 → has_leading_zero xs ≡ false
+no_leading [] h = refl
+no_leading (d ∷ []) h = refl
+no_leading (d ∷ e ∷ ds) h = grind (arith, nat_tests)
+
+fraction-some : (xs : List ℕ) → 0 < length xs → fraction_text xs ≡ 46 ∷ xs
+fraction-some [] h = absurd (omega arith)
+fraction-some (d ∷ xs) h = refl
+
+abbrev scientific_exponent : ℤ → Exponent
+scientific_exponent (pos n) = record { letter = 101; sign = None; digits = natural_text n }
+scientific_exponent (negsuc n) = record { letter = 101; sign = Some 45; digits = natural_text (suc n) }
+
+scientific-is : (z : ℤ) → IsExponent (scientific_exponent z)
+scientific-is (pos n) = record { letter = refl; sign = tt; digits = (natural n).are; some_digit = (natural n).some }
+scientific-is (negsuc n) = record { letter = refl; sign = refl; digits = (natural (suc n)).are; some_digit = (natural (suc n)).some }
+
+scientific-value : (z : ℤ) → exponent_value (Some (scientific_exponent z)) ≡ z
+scientific-value (pos n) = ap pos (natural n).value
+scientific-value (negsuc n) = ap (λ k. neg_ℤ (pos k)) (natural (suc n)).value
+
+scientific-text : (z : ℤ) → exponent_text (Some (scientific_exponent z)) ≡ 101 ∷ integer_text z
+scientific-text (pos n) = refl
+scientific-text (negsuc n) = refl
+
+module _ (g : Bool) (ds : List ℕ) (e : ℤ) (all : AreDigits ds) (some : 0 < length ds) (first : get_or ds 0 0 ≢ 48) (last : get_or ds (length ds - 1) 0 ≢ 48) where
+  abbrev d : Decimal
+  d = record { negative = g; digits = ds; power = e }
+
+  abbrev p : ℤ
+  p = pos (length ds) +ℤ e
+
+  short-take : length (take 1 ds) ≡ 1
+  short-take = length-take-le 1 ds some
+
+  first-take : (n : ℕ) → 0 < n → get_or (take n ds) 0 0 ≢ 48
+  first-take n h k = first (sym (get_or-take n ds 0 0 h) ∙ k)
+
+  whole-parts : (n : ℕ) → take n ds ++ drop n ds ≡ replicate 0 48 ++ (ds ++ replicate 0 48)
+  whole-parts n = take-append-drop n ds ∙ sym (append-nil ds)
+
+  spelt-far : IsSpelt d (minus_text g ++ scientific_text ds p)
+  spelt-far = record {
+    numeral = numeral g (take 1 ds) (drop 1 ds) (Some (scientific_exponent (p -ℤ pos 1)));
+    is = record { whole = digits-take 1 ds all; some_digit = omega (arith, short-take); fraction = digits-drop 1 ds all; exponent = scientific-is (p -ℤ pos 1) };
+    plain = no_leading (take 1 ds) (first-take 1 (omega arith));
+    value = valued ds some first last g (take 1 ds) (drop 1 ds) (Some (scientific_exponent (p -ℤ pos 1))) 0 0 e (whole-parts 1)
+        (rw (scientific-value (p -ℤ pos 1)) (omega (arith, ints, length-drop 1 ds)));
+    text = ap (λ z. minus_text g ++ (take 1 ds ++ (fraction_text (drop 1 ds) ++ z))) (scientific-text (p -ℤ pos 1));
+  }
+
+  spelt-small : int_lt e (pos 0) ≡ true → int_lt p (pos 1) ≡ true → IsSpelt d (minus_text g ++ (48 ∷ 46 ∷ (replicate (unsigned_abs p) 48 ++ ds)))
+  spelt-small low small =
+      let l : length (replicate (unsigned_abs p) 48 ++ ds) ≡ unsigned_abs p + length ds = omega (arith, length-append (replicate (unsigned_abs p) 48) ds, length-replicate {A = ℕ} (unsigned_abs p) 48) in
+      record {
+        numeral = numeral g (48 ∷ []) (replicate (unsigned_abs p) 48 ++ ds) None;
+        is = record { whole = (refl, tt); some_digit = omega arith; fraction = digits-join _ _ (digits-replicate (unsigned_abs p)) all; exponent = tt };
+        plain = refl;
+        value = valued ds some first last g (48 ∷ []) (replicate (unsigned_abs p) 48 ++ ds) None (suc (unsigned_abs p)) 0 e (ap (λ z. 48 ∷ (replicate (unsigned_abs p) 48 ++ z)) (sym (append-nil ds)))
+            (grind (arith, ints, l));
+        text = ap (λ z. minus_text g ++ (48 ∷ z)) (append-nil _ ∙ fraction-some _ (omega (arith, l, some)));
+      }
+
+  spelt-mid : int_lt e (pos 0) ≡ true → int_lt p (pos 1) ≡ false → IsSpelt d (minus_text g ++ (take (unsigned_abs p) ds ++ (46 ∷ drop (unsigned_abs p) ds)))
+  spelt-mid low big =
+      let n : ℕ = unsigned_abs p in
+      let is_pos : 0 < n = grind (arith, ints) in
+      let below : n < length ds = grind (arith, ints) in
+      let split : e ≡ (pos 0 -ℤ pos (length ds - n)) +ℤ pos 0 = grind (arith, ints) in
+      record {
+        numeral = numeral g (take n ds) (drop n ds) None;
+        is = record { whole = digits-take n ds all; some_digit = omega (arith, length-take-le n ds (omega arith)); fraction = digits-drop n ds all; exponent = tt };
+        plain = no_leading (take n ds) (first-take n is_pos);
+        value = valued ds some first last g (take n ds) (drop n ds) None 0 0 e (whole-parts n) (rw (length-drop n ds) split);
+        text = ap (λ z. minus_text g ++ (take n ds ++ z)) (append-nil _ ∙ fraction-some (drop n ds) (omega (arith, length-drop n ds)));
+      }
+
+  spelt-whole : int_lt e (pos 0) ≡ false → IsSpelt d (minus_text g ++ (ds ++ replicate (unsigned_abs e) 48))
+  spelt-whole high =
+      let n : ℕ = unsigned_abs e in
+      record {
+        numeral = numeral g (ds ++ replicate n 48) [] None;
+        is = record { whole = digits-join ds _ all (digits-replicate n); some_digit = omega (arith, length-append ds (replicate n 48)); fraction = tt; exponent = tt };
+        plain = no_leading (ds ++ replicate n 48) (λ k. first (sym (get_or_append_left ds (replicate n 48) 0 0 some) ∙ k));
+        value = valued ds some first last g (ds ++ replicate n 48) [] None 0 n e (append-nil _) (grind (arith, ints));
+        text = ap (λ z. minus_text g ++ z) (append-nil _);
+      }
+
+  pub spelt-some : IsSpelt d (minus_text g ++ magnitude_text ds e p)
+  spelt-some = cond_both (is_far p) (scientific_text ds p) (plain_text ds e p) (λ z. IsSpelt d (minus_text g ++ z)) (λ far. spelt-far)
+      (λ near. cond_both (int_lt e (pos 0)) _ _ (λ z. IsSpelt d (minus_text g ++ z))
+      (λ low. cond_both (int_lt p (pos 1)) _ _ (λ z. IsSpelt d (minus_text g ++ z)) (spelt-small low) (spelt-mid low))
+      spelt-whole)
+
+-- ---- any decimal
+
+no-digits : (g : Bool) (ds : List ℕ) (e : ℤ) → ds ≡ [] → (g ≡ false) × (e ≡ pos 0) → value (numeral false (48 ∷ []) [] None) ≡ record { negative = g; digits = ds; power = e }
+unfolding value
+no-digits g ds e h z = λ i. record { negative = sym z.0 i; digits = sym h i; power = sym z.1 i }
+
+spelt-digits : (width : Width) (g : Bool) (ds : List ℕ) (e : ℤ) → IsDecimalAt width (record { negative = g; digits = ds; power = e }) → IsSpelt (record { negative = g; digits = ds; power = e }) (decimal_text (record { negative = g; digits = ds; power = e }))
+unfolding decimal_text
+spelt-digits width g [] e h = record {
+  numeral = numeral false (48 ∷ []) [] None;
+  is = record { whole = (refl, tt); some_digit = omega arith; fraction = tt; exponent = tt };
+  plain = refl;
+  value = no-digits g [] e refl (zero-form width g e h);
+  text = refl;
+}
+spelt-digits width g (c ∷ cs) e h = let f = form width g c cs e h in rw (eqb-suc-zero (length cs)) (spelt-some g (c ∷ cs) e f.digits (omega arith) f.first f.last)
+
+pub decimal-spelt : (width : Width) (d : Decimal) → IsDecimalAt width d → IsSpelt d (decimal_text d)
+decimal-spelt width d h = spelt-digits width d.negative d.digits d.power h
+
+-- 0 has the power 0
+zero-between : (m : ℕ) → 0 < m → (int_le (neg_ℤ (pos m)) (pos 0) && int_lt (pos 0) (pos m)) ≡ true
+zero-between m h = grind (arith, ints)
+
+zero-fits : (width : Width) → IsTrue (power_fits width (pos 0))
+unfolding power_fits
+zero-fits width = zero-between (2 ^ hbits width) (pow_pos (hbits width))
+
+digits-fit : (width : Width) (g : Bool) (ds : List ℕ) (e : ℤ) → IsTrue (is_canonical_at width g ds e) → IsTrue (power_fits width e)
+digits-fit width g [] e h = rw (zero-form width g e h).1 (zero-fits width)
+digits-fit width g (c ∷ cs) e h = (form width g c cs e h).fits
+
+pub decimal-fits : (width : Width) (d : Decimal) → IsDecimalAt width d → IsTrue (fits_in width d)
+decimal-fits width d h = digits-fit width d.negative d.digits d.power h

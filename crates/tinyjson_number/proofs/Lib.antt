@@ -1,0 +1,4 @@
+pub mod Naturals
+pub mod Strips
+pub mod Forms
+pub mod DecimalTrip

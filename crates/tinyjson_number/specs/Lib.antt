@@ -1,0 +1,5 @@
+pub mod Decimal
+pub mod Numeral
+pub mod Canonical
+pub mod Number
+pub mod Text

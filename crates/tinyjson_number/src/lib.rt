@@ -1,0 +1,9 @@
+//! Exact decimal numbers, as JSON text spells them (RFC 8259, section 6).
+//!
+//! A [`JsonNumber`] is zero, or a sign, digits that neither begin nor end with `0`, and a power of ten
+//! in the range of `i64`. Each number has one such form, so equal numbers have equal texts.
+#![tactic(auto)]
+
+mod number;
+
+pub use number::JsonNumber;
