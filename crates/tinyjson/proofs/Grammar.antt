@@ -1,0 +1,26 @@
+-- The machine accepts exactly the texts of the grammar, each with its tree, and its refusals say what they must.
+pub mod Runs
+pub mod Numerals
+pub mod Strings
+pub mod Values
+pub mod Texts
+pub mod Broken
+pub mod Never
+pub mod Sim
+pub mod Paths
+pub mod Midway
+pub mod Spelt
+pub mod Alive
+pub mod Told
+pub mod Whole
+pub mod Units
+pub mod Start
+pub mod Quoted
+pub mod Numbers
+pub mod Follows
+pub mod Sound
+pub mod Memory
+pub mod InRange
+pub mod Rows
+pub mod Audit
+pub mod Theorem

@@ -1,0 +1,49 @@
+-- A refusal for want of memory: wherever the machine stands, and one character further.
+use Rattle.std.proofs.Common.{◌≡◌, ℕ, suc, List, [], ◌∷◌, ◌++◌, Option, Some, ap, sym, ◌∙◌, subst, append_assoc, append-nil, arith}
+use Rattle.std.specs.Prelude.{All}
+use Rattle.std.specs.Char.{IsScalar}
+use Rattle.tinyjson.specs.Machine.{Frame, Phase, State, Next, next, stop, awaited, step, reach, reach_on}
+use Rattle.tinyjson.specs.declared.parser.error.JsonParseErrorKind.TheVariants.{OutOfMemory}
+use Rattle.tinyjson.specs.Refusal.{PlaceSays, IsPromptly}
+use Rattle.tinyjson.proofs.Grammar.Spelt.{Ranges, Spells}
+use Rattle.tinyjson.proofs.Grammar.Alive.{read-prompt}
+use Rattle.tinyjson.proofs.Grammar.Told.{strictly, Follows}
+use Rattle.tinyjson.proofs.Grammar.Sound.{step-spells, start-spells, spells-alive, NotTooLate, late-one, late-none}
+
+pub spells-prompt : Ranges → (limit : Option ℕ) (used : List ℕ) (fs : List Frame) (q : Phase) → Spells limit used fs q → IsPromptly limit used []
+spells-prompt ranges limit used fs q s = rw s.whole (read-prompt ranges limit s.read s.is)
+
+go-reach : (limit : Option ℕ) (used : List ℕ) (fs : List Frame) (q : Phase) (c : ℕ) (cs : List ℕ) (n : Next) (more : List Frame → Phase → Option State) (s : State) → Follows limit used fs q c n → reach_on more n ≡ Some s →
+    ((gs : List Frame) (p : Phase) → Spells limit (used ++ c ∷ []) gs p → more gs p ≡ Some s → Spells limit ((used ++ c ∷ []) ++ cs) s.frames s.phase) → Spells limit (used ++ c ∷ cs) s.frames s.phase
+go-reach limit used fs q c cs (next gs p) more s h e on = subst (λ xs. Spells limit xs s.frames s.phase) (append_assoc used (c ∷ []) cs) (on gs p h e)
+go-reach limit used fs q c cs (stop k b) more s h e on = absurd cc
+
+-- The machine stands where what was read says.
+pub reach-spells : Ranges → (limit : Option ℕ) (xs : List ℕ) → All IsScalar xs → (used : List ℕ) (fs : List Frame) (q : Phase) → Spells limit used fs q → (s : State) → reach (strictly limit) fs q xs ≡ Some s → Spells limit (used ++ xs) s.frames s.phase
+unfolding reach
+reach-spells ranges limit [] h used fs q i s e =
+    let same : record { frames = fs; phase = q } ≡ s = cc in
+    subst (λ (x : State). Spells limit (used ++ []) x.frames x.phase) same (subst (λ xs. Spells limit xs fs q) (sym (append-nil used)) i)
+reach-spells ranges limit (c ∷ cs) h used fs q i s e =
+    go-reach limit used fs q c cs (step (strictly limit) fs q c) (λ gs p. reach (strictly limit) gs p cs) s (step-spells ranges limit used fs q i c (h 0 0 (omega arith))) e
+    (λ gs p j d. reach-spells ranges limit cs (λ k x l. h (suc k) x (omega arith)) (used ++ c ∷ []) gs p j s d)
+
+-- What is said of a refusal for want of memory.
+pub record IsInterrupted (limit : Option ℕ) (used : List ℕ) : Type 0 where
+  pub place : PlaceSays limit OutOfMemory used
+  pub not_too_late : NotTooLate limit used
+
+pub interrupted : Ranges → (limit : Option ℕ) (used : List ℕ) → All IsScalar used → (s : State) → reach (strictly limit) [] awaited used ≡ Some s → IsInterrupted limit used
+interrupted ranges limit used h s e =
+    let i : Spells limit used s.frames s.phase = reach-spells ranges limit used h [] [] awaited (start-spells limit) s e in
+    record { place = ([], omega arith, spells-prompt ranges limit used s.frames s.phase i); not_too_late = late-none limit used (spells-alive limit used s.frames s.phase i) }
+
+pub interrupted-late : Ranges → (limit : Option ℕ) (used : List ℕ) → All IsScalar used → (s : State) → reach (strictly limit) [] awaited used ≡ Some s → (c : ℕ) → IsInterrupted limit (used ++ c ∷ [])
+interrupted-late ranges limit used h s e c =
+    let i : Spells limit used s.frames s.phase = reach-spells ranges limit used h [] [] awaited (start-spells limit) s e in
+    let p : IsPromptly limit used [] = spells-prompt ranges limit used s.frames s.phase i in
+    let whole : used ++ c ∷ [] ≡ p.front ++ (p.late ++ c ∷ []) = ap (λ xs. xs ++ c ∷ []) p.whole ∙ (ap (λ xs. (p.front ++ xs) ++ c ∷ []) (append-nil p.late) ∙ append_assoc p.front p.late (c ∷ [])) in
+    record {
+      place = (c ∷ [], omega arith, record { front = p.front; late = p.late; whole = whole; midway = p.midway; are_late = p.are_late });
+      not_too_late = late-one limit used c (spells-alive limit used s.frames s.phase i);
+    }

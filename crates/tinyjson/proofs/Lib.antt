@@ -1,0 +1,5 @@
+pub mod Grammar
+pub mod Members
+pub mod Entries
+pub mod Views
+pub mod Trees

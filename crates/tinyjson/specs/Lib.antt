@@ -1,0 +1,13 @@
+pub mod Tree
+pub mod Kind
+pub mod View
+pub mod Soundness
+pub mod Characters
+pub mod Syntax
+pub mod Grammar
+pub mod Continuation
+pub mod Position
+pub mod Error
+pub mod Refusal
+pub mod Text
+pub mod Machine

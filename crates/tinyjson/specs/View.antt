@@ -1,0 +1,37 @@
+-- The tree that a `JsonValue` is seen as.
+use Rattle.std.specs.Prelude.{ℕ, List, [], ◌∷◌, map, String, string_bytes}
+use Rattle.std.specs.Str.{chars}
+use Rattle.std.specs.declared.alloc.Global.{Global}
+use Rattle.tinyjson.specs.Tree.{Tree, null, boolean, number, string, array, object, Items, items_of, Members, no_members, put}
+use Rattle.tinyjson.specs.declared.value.JsonValue.{JsonValue, fold-JsonValue}
+use Rattle.tinyjson.specs.declared.value.JsonValue.TheOpen.{JsonValue-F}
+
+-- the characters of a text
+abbrev pub text : String Global → List ℕ
+text s = chars (string_bytes s)
+
+-- each entry put at its key. Of two entries with one key the first counts; a map has no such two
+abbrev pub members_of : List (String Global × Tree) → Members
+members_of [] = no_members
+members_of (e ∷ es) = put (text e.0) e.1 (members_of es)
+
+-- one level, with each value inside already seen as its tree
+abbrev pub view_step : JsonValue-F Tree → Tree
+view_step JsonValue-F.Null = null
+view_step (JsonValue-F.Boolean b) = boolean b
+view_step (JsonValue-F.Number n) = number n.decimal
+view_step (JsonValue-F.String s) = string (text s)
+view_step (JsonValue-F.Array v) = array (items_of v.items)
+view_step (JsonValue-F.Object m) = object (members_of m.entries)
+
+abbrev pub view : JsonValue → Tree
+view = fold-JsonValue Tree view_step
+
+abbrev pub items_view : List JsonValue → Items
+items_view vs = items_of (map view vs)
+
+abbrev pub seen_entries : List (String Global × JsonValue) → List (String Global × Tree)
+seen_entries es = map (λ e. (e.0, view e.1)) es
+
+abbrev pub members_view : List (String Global × JsonValue) → Members
+members_view es = members_of (seen_entries es)

@@ -1,0 +1,23 @@
+//! JSON with one normal form: a parser and a generator whose every answer, and every refusal, is proved.
+//!
+//! Text by the grammar of RFC 8259, sections 2 to 8, is read from any iterator of characters into a
+//! [`JsonValue`] of plain containers. A value goes back to text over any writer, with its keys in the
+//! order of their bytes, so each value has exactly one compact text.
+//!
+//! | JSON    | Rattle                       |
+//! |---------|------------------------------|
+//! | Number  | `JsonNumber`                 |
+//! | Boolean | `bool`                       |
+//! | String  | `String`                     |
+//! | Null    | `()`                         |
+//! | Array   | `Vec<JsonValue>`             |
+//! | Object  | `HashMap<String, JsonValue>` |
+#![tactic(auto)]
+
+pub mod number;
+pub mod parser;
+pub mod value;
+
+pub use number::JsonNumber;
+pub use parser::{JsonParseError, JsonParseErrorKind};
+pub use value::{JsonKind, JsonValue};

@@ -1,0 +1,5 @@
+//! The parser.
+
+mod error;
+
+pub use error::{JsonParseError, JsonParseErrorKind};

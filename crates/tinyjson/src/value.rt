@@ -1,0 +1,72 @@
+//! JSON values.
+ghost use Rattle.std.specs.Prelude.{◌≡◌};
+ghost use Rattle.tinyjson.specs.Kind.{kind_of};
+ghost use Rattle.tinyjson.specs.View.{view};
+
+use crate::number::JsonNumber;
+use std::collections::HashMap;
+use std::fmt;
+
+/// A JSON value (RFC 8259, section 3), in plain containers.
+///
+/// Contracts see it as its tree, `view`: an array as the list of its items' trees, an object as the
+/// finite map from its keys' characters to its members' trees.
+///
+/// ```
+/// let value = JsonValue::Array(vec![in alloc; JsonValue::Null, JsonValue::Boolean(true)]?);
+/// ```
+#[derive(Debug, Drop)]
+pub enum JsonValue {
+    Number(JsonNumber),
+    Boolean(bool),
+    String(String),
+    Null,
+    Array(Vec<JsonValue>),
+    Object(HashMap<String, JsonValue>),
+}
+
+/// Which of the six variants a value is.
+#[derive(Clone, Copy, PartialEq, Eq, Debug)]
+pub enum JsonKind {
+    Null,
+    Boolean,
+    Number,
+    String,
+    Array,
+    Object,
+}
+
+/// The kind's name in lower case, as `number`.
+impl fmt::Display for JsonKind {
+    ghost use Rattle.std.specs.Prelude.{Some};
+    ghost use Rattle.tinyjson.specs.Kind.{kind_name};
+
+    ghost output = { λ k. Some (kind_name k) };
+
+    fn fmt<W: fmt::Write>(&self, f: &mut fmt::Formatter<W>) -> fmt::Result {
+        match self {
+            JsonKind::Null => f.write_str("null"),
+            JsonKind::Boolean => f.write_str("boolean"),
+            JsonKind::Number => f.write_str("number"),
+            JsonKind::String => f.write_str("string"),
+            JsonKind::Array => f.write_str("array"),
+            JsonKind::Object => f.write_str("object"),
+        }
+    }
+}
+
+impl JsonValue {
+    /// Which variant stands here.
+    pub fn kind(&self) -> JsonKind
+        ensures { result ≡ kind_of (view self.now) }
+    {
+        match self {
+            JsonValue::Null => JsonKind::Null,
+            JsonValue::Boolean(_) => JsonKind::Boolean,
+            JsonValue::Number(_) => JsonKind::Number,
+            JsonValue::String(_) => JsonKind::String,
+            JsonValue::Array(_) => JsonKind::Array,
+            JsonValue::Object(_) => JsonKind::Object,
+        }
+    }
+}
