@@ -3,3 +3,9 @@ pub mod Members
 pub mod Entries
 pub mod Views
 pub mod Trees
+pub mod Positions
+pub mod Cursors
+pub mod Readings
+pub mod UnitDecoding
+pub mod StringReading
+pub mod Containers

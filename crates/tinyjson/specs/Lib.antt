@@ -11,3 +11,6 @@ pub mod Error
 pub mod Refusal
 pub mod Text
 pub mod Machine
+pub mod Cursor
+pub mod Reading
+pub mod Numbers

@@ -13,6 +13,9 @@ pub record Rules : Type 0 where
   pub strict : Bool
   pub limit : Option ℕ
 
+abbrev pub strictly : Option ℕ → Rules
+strictly limit = record { strict = true; limit = limit }
+
 -- An open container: an array with its items, an object that awaits a key, an object that awaits the value of a key.
 pub data Frame : Type 0 where
   in_array : List Tree → Frame

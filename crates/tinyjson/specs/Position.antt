@@ -17,12 +17,15 @@ origin = position_at 1 0
 abbrev pub is_line_feed : ℕ → Bool
 is_line_feed c = c == 10
 
+abbrev pub is_within_line : ℕ → Bool
+is_within_line c = not (is_line_feed c)
+
 abbrev pub line_feeds : List ℕ → ℕ
 line_feeds xs = count_by is_line_feed xs
 
 -- how many characters stand behind the last line feed
 abbrev pub after_line_feed : List ℕ → ℕ
-after_line_feed xs = suffix_len (λ c. not (is_line_feed c)) xs
+after_line_feed xs = suffix_len is_within_line xs
 
 -- both stop at the largest `usize`
 abbrev pub capped : ℕ → ℕ

@@ -1,9 +1,11 @@
 //! JSON values.
-ghost use Rattle.std.specs.Prelude.{◌≡◌};
+ghost use Rattle.std.specs.Prelude.{◌≡◌, IfOk, OnErr};
 ghost use Rattle.tinyjson.specs.Kind.{kind_of};
-ghost use Rattle.tinyjson.specs.View.{view};
+ghost use Rattle.tinyjson.specs.Tree.{put};
+ghost use Rattle.tinyjson.specs.View.{view, text, members_view};
 
 use crate::number::JsonNumber;
+use std::alloc::AllocError;
 use std::collections::HashMap;
 use std::fmt;
 
@@ -69,4 +71,17 @@ impl JsonValue {
             JsonValue::Object(_) => JsonKind::Object,
         }
     }
+}
+
+/// Puts the value at the key, in the place of what stood there.
+pub(crate) fn insert_member(
+    members: &mut HashMap<String, JsonValue>,
+    key: String,
+    value: JsonValue,
+) -> Result<(), AllocError>
+    ensures ok { IfOk result (λ _. members_view members.new.entries ≡ put (text key) (view value) (members_view members.old.entries)) }
+    ensures err { OnErr result (members.new.entries ≡ members.old.entries) }
+{
+    let _ = members.insert(key, value)?;
+    Ok(())
 }

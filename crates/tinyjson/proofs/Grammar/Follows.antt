@@ -2,6 +2,7 @@
 use Rattle.std.proofs.Common.{◌≡◌, ℕ, ◌<◌, Bool, true, false, List, [], ◌∷◌, ◌++◌, Option, refl, ap, sym, ◌∙◌, cond, append_assoc, append-nil, arith, length, subst, IsTrue, ◌==◌, not}
 use Rattle.std.specs.Char.{IsScalar}
 use Rattle.std.proofs.lemmas.Bool.{eqb-false, not-true, not-false}
+use Rattle.tinyjson.specs.Machine.{strictly}
 use Rattle.tinyjson.specs.Tree.{key_of, is_string, Tree, no_members, put, items_of}
 use Rattle.tinyjson.specs.Tree as tree
 use Rattle.tinyjson.specs.Syntax.{Syntax, text, tree_of}
@@ -13,7 +14,7 @@ use Rattle.std.proofs.Common.{length-append}
 use Rattle.tinyjson.proofs.Grammar.Paths.{Path, outside, item_in, key_in, value_in, path_text, path_frames, IsPath, within_le}
 use Rattle.tinyjson.proofs.Grammar.Spelt.{Part, part_point, part_fraction, part_letter, part_sign, part_exponent, part_text, part_stage, part_numeral, IsPart, Ranges, Read, at_first, at_awaited, in_word, in_digits, in_quoted, at_after, part_minus, part_whole, read_text, read_frames, read_phase, IsRead, IsWord, flat_within}
 use Rattle.tinyjson.proofs.Grammar.Alive.{midway-value, read-alive, read-prompt}
-use Rattle.tinyjson.proofs.Grammar.Told.{strictly, Told, Follows, at_code, key-told}
+use Rattle.tinyjson.proofs.Grammar.Told.{Told, Follows, at_code, key-told}
 use Rattle.tinyjson.proofs.Grammar.Whole.{complete-follows, after-follows}
 use Rattle.tinyjson.proofs.Grammar.Spelt.{numeral}
 use Rattle.std.proofs.Common.{inl, inr, None}

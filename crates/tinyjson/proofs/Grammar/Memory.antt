@@ -2,12 +2,13 @@
 use Rattle.std.proofs.Common.{◌≡◌, ℕ, suc, List, [], ◌∷◌, ◌++◌, Option, Some, ap, sym, ◌∙◌, subst, append_assoc, append-nil, arith}
 use Rattle.std.specs.Prelude.{All}
 use Rattle.std.specs.Char.{IsScalar}
+use Rattle.tinyjson.specs.Machine.{strictly}
 use Rattle.tinyjson.specs.Machine.{Frame, Phase, State, Next, next, stop, awaited, step, reach, reach_on}
 use Rattle.tinyjson.specs.declared.parser.error.JsonParseErrorKind.TheVariants.{OutOfMemory}
 use Rattle.tinyjson.specs.Refusal.{PlaceSays, IsPromptly}
 use Rattle.tinyjson.proofs.Grammar.Spelt.{Ranges, Spells}
 use Rattle.tinyjson.proofs.Grammar.Alive.{read-prompt}
-use Rattle.tinyjson.proofs.Grammar.Told.{strictly, Follows}
+use Rattle.tinyjson.proofs.Grammar.Told.{Follows}
 use Rattle.tinyjson.proofs.Grammar.Sound.{step-spells, start-spells, spells-alive, NotTooLate, late-one, late-none}
 
 pub spells-prompt : Ranges → (limit : Option ℕ) (used : List ℕ) (fs : List Frame) (q : Phase) → Spells limit used fs q → IsPromptly limit used []

@@ -2,6 +2,7 @@
 use Rattle.std.proofs.Common.{◌≡◌, ℕ, Bool, true, false, List, [], ◌∷◌, ◌++◌, Option, Some, None, refl, ap, sym, ◌∙◌, cond, append_assoc, append-nil, arith, subst, inl, inr, IsTrue, ◌||◌, ◌==◌, not}
 use Rattle.std.specs.Char.{is_ascii_digit}
 use Rattle.std.proofs.lemmas.Bool.{eqb-true, not-true, not-false, or_from}
+use Rattle.tinyjson.specs.Machine.{strictly}
 use Rattle.tinyjson.specs.Tree.{key_of, is_string, Tree, no_members, put, items_of}
 use Rattle.tinyjson.specs.Tree as tree
 use Rattle.tinyjson.specs.Syntax.{Syntax, text}
@@ -15,7 +16,7 @@ use Rattle.tinyjson_number.specs.Numeral.{is_exponent_letter}
 use Rattle.tinyjson.proofs.Grammar.Paths.{Path, outside, item_in, key_in, value_in, path_text, path_frames, IsPath}
 use Rattle.tinyjson.proofs.Grammar.Spelt.{Part, part_point, part_fraction, part_letter, part_sign, part_exponent, part_text, part_stage, part_numeral, IsPart, IsWhole, Ranges, in_digits, part_minus, part_whole, Spells, flat_within, ends-loosely}
 use Rattle.tinyjson.proofs.Grammar.Alive.{part-ending, part-prompt, midway-minus, midway-point}
-use Rattle.tinyjson.proofs.Grammar.Told.{strictly, Told, Follows, either, key-told}
+use Rattle.tinyjson.proofs.Grammar.Told.{Told, Follows, either, key-told}
 use Rattle.tinyjson.proofs.Grammar.Never.{key-never, zero-never}
 use Rattle.tinyjson.proofs.Grammar.Told.{loosely, NoQuoteFrom}
 use Rattle.tinyjson.specs.Machine.{run, step, go_on, accepted, Phase}

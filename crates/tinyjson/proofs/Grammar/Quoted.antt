@@ -2,6 +2,7 @@
 use Rattle.std.proofs.Common.{◌≡◌, ℕ, ◌<◌, true, false, List, [], ◌∷◌, ◌++◌, Option, Some, None, refl, ap, sym, ◌∙◌, append_assoc, append-nil, arith, length, nat_lt, subst, inl, inr, IsTrue, ◌==◌, not}
 use Rattle.std.specs.Char.{IsScalar}
 use Rattle.std.proofs.lemmas.Bool.{not-true, not-false, eqb-false, ltb-true, ltb-false}
+use Rattle.tinyjson.specs.Machine.{strictly}
 use Rattle.tinyjson.specs.Tree.{key_of, is_string, Tree, no_members, put, items_of}
 use Rattle.tinyjson.specs.Tree as tree
 use Rattle.tinyjson.specs.Characters.{is_hex, unit_of, decode, paired, short_escape}
@@ -14,7 +15,7 @@ use Rattle.tinyjson.specs.Refusal.{IsHex, AreUnits, EndsRun}
 use Rattle.tinyjson.proofs.Grammar.Paths.{Path, path_text, path_frames, IsPath}
 use Rattle.tinyjson.proofs.Grammar.Spelt.{pieces-append, are_pieces_append, within_text, IsPartWithin, IsSettled, Quad, quads, values, in_quoted, Spells, flat_within, Ending, ends-loosely}
 use Rattle.tinyjson.proofs.Grammar.Alive.{quoted-prompt, within-late}
-use Rattle.tinyjson.proofs.Grammar.Told.{strictly, Told, Follows, either, at_code}
+use Rattle.tinyjson.proofs.Grammar.Told.{Told, Follows, either, at_code}
 use Rattle.tinyjson.proofs.Grammar.Whole.{complete-follows}
 use Rattle.tinyjson.proofs.Grammar.Units.{settle-more, settle-end, settle-paired, surrogate}
 use Rattle.tinyjson.proofs.Grammar.Strings.{scalar-no_surrogate, escape-no_surrogate}

@@ -1,12 +1,12 @@
 -- Worked rows, run by the machine.
 use Rattle.std.proofs.Common.{◌≡◌, [], ◌∷◌, None, refl}
+use Rattle.tinyjson.specs.Machine.{strictly}
 use Rattle.tinyjson.specs.Tree.{null}
 use Rattle.tinyjson.specs.declared.value.JsonKind.TheVariants as kind
 use Rattle.tinyjson.specs.declared.parser.error.JsonParseErrorKind.TheVariants.{UnexpectedEof, InvalidCharacter, ExpectedEof, KeyNotString, ExpectedColon, ExpectedCommaOrBracket, InvalidUtf16, InvalidEscape, ControlCharacter, UnexpectedInLiteral, EmptyInteger, LeadingZero, EmptyFraction, EmptyExponent, NumberOutOfRange}
 use Rattle.tinyjson.specs.Machine.{awaited, Outcome, accepted, refused, run, step, end}
 use Rattle.tinyjson_number.specs.Numeral.{value, power_fits}
 use Rattle.tinyjson.specs.Tree.{put}
-use Rattle.tinyjson.proofs.Grammar.Told.{strictly}
 
 abbrev kind_is : Outcome → Outcome → Type 0
 kind_is (accepted t) (accepted u) = Unit {0}

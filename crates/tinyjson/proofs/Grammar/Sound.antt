@@ -2,6 +2,7 @@
 use Rattle.std.proofs.Common.{suc, ◌≡◌, ℕ, Bool, true, false, List, [], ◌∷◌, ◌++◌, Option, refl, ap, sym, ◌∙◌, append_assoc, append-nil, arith, subst, ◌⊎◌, inl, inr}
 use Rattle.std.specs.Prelude.{All}
 use Rattle.std.specs.Char.{IsScalar}
+use Rattle.tinyjson.specs.Machine.{strictly}
 use Rattle.tinyjson.specs.Kind.{kind_of}
 use Rattle.tinyjson.specs.Tree.{Tree}
 use Rattle.tinyjson.specs.Syntax.{tree_of}
@@ -16,7 +17,7 @@ use Rattle.tinyjson.proofs.Grammar.Paths.{outside}
 use Rattle.tinyjson.proofs.Grammar.Midway.{alive-before}
 use Rattle.tinyjson.proofs.Grammar.Spelt.{Ranges, Spells, at_awaited}
 use Rattle.tinyjson.proofs.Grammar.Alive.{read-alive}
-use Rattle.tinyjson.proofs.Grammar.Told.{strictly, loosely, NoQuoteFrom, Cut, Place, Told, Comes, Follows}
+use Rattle.tinyjson.proofs.Grammar.Told.{loosely, NoQuoteFrom, Cut, Place, Told, Comes, Follows}
 use Rattle.tinyjson.proofs.Grammar.Follows.{step-follows, end-follows, Ends}
 use Rattle.tinyjson.proofs.Grammar.Texts.{rules, text-accepted, loose-accepted}
 use Rattle.tinyjson.proofs.Grammar.Never.{broken-end}

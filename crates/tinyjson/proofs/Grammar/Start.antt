@@ -2,6 +2,7 @@
 use Rattle.std.proofs.Common.{suc, ◌≡◌, ℕ, ◌+◌, true, false, List, [], ◌∷◌, ◌++◌, Option, Some, None, refl, ap, sym, ◌∙◌, append_assoc, arith, length, subst, ◌⊎◌, inl, inr, IsTrue, ◌==◌}
 use Rattle.std.specs.Char.{is_ascii_digit}
 use Rattle.std.proofs.lemmas.Bool.{ltb-true, or_from}
+use Rattle.tinyjson.specs.Machine.{strictly}
 use Rattle.tinyjson.specs.Tree.{no_members}
 use Rattle.tinyjson.specs.Characters.{is_white}
 use Rattle.tinyjson.specs.Syntax.{Syntax, null, empty_array, empty_object, IsWithin, tree_of}
@@ -14,7 +15,7 @@ use Rattle.tinyjson.specs.Refusal.{AwaitsValue, begins_value}
 use Rattle.tinyjson.proofs.Grammar.Paths.{Path, outside, item_in, key_in, value_in, path_text, path_frames, level, IsPath}
 use Rattle.tinyjson.proofs.Grammar.Spelt.{at_first, at_awaited, in_word, in_digits, in_quoted, part_minus, part_whole, IsFresh, IsWord, Spells, ends-loosely, are_white_append}
 use Rattle.tinyjson.proofs.Grammar.Alive.{midway-place}
-use Rattle.tinyjson.proofs.Grammar.Told.{strictly, Follows, either, at_code}
+use Rattle.tinyjson.proofs.Grammar.Told.{Follows, either, at_code}
 use Rattle.tinyjson.proofs.Grammar.Whole.{complete-follows}
 use Rattle.tinyjson.proofs.Grammar.Units.{settled-start}
 

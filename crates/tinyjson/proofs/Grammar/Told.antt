@@ -1,6 +1,7 @@
 -- What a refusal tells, as far as it speaks of what is alive; and what comes of a character.
 use Rattle.std.proofs.Common.{suc, ◌≡◌, ℕ, ◌+◌, Bool, true, false, List, [], ◌∷◌, ◌++◌, Option, refl, ap, sym, ◌∙◌, cond, append_assoc, append-nil, ◌⊎◌, inl, inr, ◌==◌}
 use Rattle.std.proofs.lemmas.Bool.{eqb-true}
+use Rattle.tinyjson.specs.Machine.{strictly}
 use Rattle.tinyjson.specs.Kind.{kind_of}
 use Rattle.tinyjson.specs.Syntax.{Syntax, text, is_key, depth, IsWithin, tree_of}
 use Rattle.tinyjson.specs.Continuation.{IsMidway, IsValue, Pair, pairs_before, pair_text}
@@ -14,9 +15,6 @@ use Rattle.tinyjson.specs.Continuation.{Loosely}
 use Rattle.tinyjson.proofs.Grammar.Paths.{Path, key_in, path_text, level, IsPath, closes, closing}
 use Rattle.tinyjson.proofs.Grammar.Midway.{midway}
 use Rattle.tinyjson.proofs.Grammar.Spelt.{Spells, loosely-from}
-
-abbrev pub strictly : Option ℕ → Rules
-strictly limit = record { strict = true; limit = limit }
 
 -- without its last character c the list is midway, and alive with next in its place
 abbrev pub Comes : Option ℕ → List ℕ → ℕ → ℕ → Type 0

@@ -2,6 +2,7 @@
 use Rattle.std.specs.Prelude.{⊤}
 use Rattle.std.proofs.Common.{◌≡◌, ℕ, ◌+◌, true, List, [], ◌∷◌, ◌++◌, Option, refl, ap, sym, ◌∙◌, append_assoc, append-nil, arith, subst, IsTrue, not}
 use Rattle.std.proofs.lemmas.Bool.{not-true, not-false, eqb-false}
+use Rattle.tinyjson.specs.Machine.{strictly}
 use Rattle.tinyjson.specs.Tree.{key_of, is_string, Tree, no_members, put, items_of}
 use Rattle.tinyjson.specs.Tree as tree
 use Rattle.tinyjson.specs.Characters.{is_white}
@@ -15,7 +16,7 @@ use Rattle.tinyjson.proofs.Grammar.Paths.{Path, outside, item_in, key_in, value_
 use Rattle.tinyjson.proofs.Grammar.Midway.{item_value, pair_value}
 use Rattle.tinyjson.proofs.Grammar.Spelt.{at_awaited, at_after, after_frames, after_phase, IsRead, loosely-from, are_white_append}
 use Rattle.tinyjson.proofs.Grammar.Alive.{midway-after}
-use Rattle.tinyjson.proofs.Grammar.Told.{NoQuoteFrom, strictly, Follows, either, at_code, key-told}
+use Rattle.tinyjson.proofs.Grammar.Told.{NoQuoteFrom, Follows, either, at_code, key-told}
 
 pub string-key : (s : Syntax) → is_string (tree_of s) ≡ is_key s
 string-key null = refl

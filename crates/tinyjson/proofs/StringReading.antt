@@ -1,0 +1,122 @@
+-- Strings, as the machine reads them.
+use Rattle.std.proofs.Common.{◌≡◌, ℕ, ◌+◌, ◌*◌, ◌^◌, ◌<◌, ◌≤◌, Bool, true, false, not, cond, List, [], ◌∷◌, ◌++◌, length, suc, zero, Option, Some, None, Result, Ok, Err, MatchResult, String, Global, refl, sym, ap, ap₂, ◌∙◌, subst, arith, length-append, add-one, ⊎_elim}
+use Rattle.std.proofs.Math.Nat.{pow-suc}
+use Rattle.std.specs.Prelude.{nat_lt}
+use Rattle.std.specs.Char.{digit_value}
+use Rattle.std.proofs.lemmas.Bool.{ne_eqb}
+use Rattle.std.proofs.lemmas.Bool.Decides.{nat_tests}
+use Rattle.tinyjson.specs.Tree.{string}
+use Rattle.tinyjson.specs.View.{text}
+use Rattle.tinyjson.specs.declared.parser.cursor.Cursor.{Cursor}
+use Rattle.tinyjson.specs.declared.parser.error.JsonParseError.{JsonParseError}
+use Rattle.tinyjson.specs.Characters.{is_hex, unit_of, paired, decode, short_escape}
+use Rattle.tinyjson.specs.Cursor.{Takes, place}
+use Rattle.tinyjson.specs.Machine.{strictly, step, end, Frame, Next, next, stop, complete, plain, backslash, hex, quoted, refused}
+use Rattle.tinyjson.specs.declared.parser.error.JsonParseErrorKind.TheVariants.{InvalidUtf16, InvalidHexDigit, InvalidEscape, ControlCharacter, UnexpectedEof}
+use Rattle.tinyjson.specs.Reading.{onward, ending, within, Fails, IsNext, IsTaken, Leads, Refuses, Reads}
+use Rattle.tinyjson.proofs.Readings.{Leads-one, Halts-late, Refuses-as, Refuses-memory, taken_if}
+
+module _ {S : Type 0} (steps : S → Option ℕ → S → Type 0) (limit : Option ℕ) where
+  -- the units before the character that was read, c, could not be added
+  pub Refuses-fails : (p q r : Cursor S) {n m : Next} (o : Next) (e : JsonParseError) (b : Bool) (c : ℕ) → Leads steps limit p n q m → Takes steps q (c ∷ []) r → IsNext n → IsNext m
+      → onward limit m c ≡ cond (not b) (stop InvalidUtf16 true) o → Fails e b (place r) → Refuses steps limit p n e r
+  Refuses-fails p q r {n} {m} o e b c l t i h s f = ⊎_elim
+      (λ w. Refuses-as steps limit p r e InvalidUtf16 w.1 f.place (Leads-one steps limit p q r c l t h (s ∙ ap (λ x. cond (not x) (stop InvalidUtf16 true) o) w.0) tt))
+      (λ w. Refuses-memory steps limit p r e w f.place (Halts-late steps limit p q r c l t h))
+      f.why
+
+  -- they were added, and a character d
+  pub Reads-add : (p q r : Cursor S) {n m : Next} (fs : List Frame) (v : Result Bool JsonParseError) (old new : String Global) (us vs : List ℕ) (c d : ℕ) → Leads steps limit p n q m → Takes steps q (c ∷ []) r → IsNext n → IsNext m
+      → onward limit m c ≡ cond (not (paired us)) (stop InvalidUtf16 true) (next fs (quoted plain ((text old ++ decode us) ++ d ∷ []) []))
+      → MatchResult v (λ done. (done ≡ false) × (paired us ≡ true) × (text new ≡ (text old ++ decode us) ++ d ∷ []) × (vs ≡ [])) (λ e. Fails e (paired us) (place r))
+      → Reads steps limit p n v (within fs new vs) r
+  Reads-add p q r {n} {m} fs (Ok done) old new us vs c d l t i h s f =
+      let o : Next = next fs (quoted plain ((text old ++ decode us) ++ d ∷ []) []) in
+      let e : within fs new vs done ≡ o = ap (within fs new vs) f.0 ∙ ap₂ (λ x y. next fs (quoted plain x y)) f.2 f.3 in
+      Leads-one steps limit p q r c l t h (s ∙ ap (λ x. cond (not x) (stop InvalidUtf16 true) o) f.1 ∙ sym e) (subst IsTaken (sym e) tt)
+  Reads-add p q r fs (Err e) old new us vs c d l t i h s f = Refuses-fails p q r (next fs (quoted plain ((text old ++ decode us) ++ d ∷ []) [])) e (paired us) c l t i h s f
+
+-- ---- hexadecimal digits
+
+abbrev pub hexing : List Frame → List ℕ → List ℕ → List ℕ → Next
+hexing fs cs us ds = cond (nat_lt (length ds) 4) (next fs (quoted (hex ds) cs us)) (next fs (quoted plain cs (us ++ unit_of 0 ds ∷ [])))
+
+unit_of-push : (n : ℕ) (ds : List ℕ) (c : ℕ) → unit_of n (ds ++ c ∷ []) ≡ unit_of n ds * 16 + digit_value c
+unit_of-push n [] c = refl
+unit_of-push n (d ∷ ds) c = unit_of-push (n * 16 + digit_value d) ds c
+
+pub unit_grows : (ds : List ℕ) (c u d v : ℕ) → u ≡ unit_of 0 ds → d ≡ digit_value c → v ≡ u * 16 + d → v ≡ unit_of 0 (ds ++ c ∷ [])
+unit_grows ds c u d v a b e = e ∙ ap₂ (λ x y. x * 16 + y) a b ∙ sym (unit_of-push 0 ds c)
+
+pub sixteen_small : (n : ℕ) → n < 4 → 16 ^ n ≤ 4096
+sixteen_small zero h = omega arith
+sixteen_small (suc zero) h = omega arith
+sixteen_small (suc (suc zero)) h = omega arith
+sixteen_small (suc (suc (suc zero))) h = omega arith
+sixteen_small (suc (suc (suc (suc n)))) h = absurd (omega (arith, h))
+
+pub hex_next : (fs : List Frame) (cs us ds : List ℕ) → length ds < 4 → IsNext (hexing fs cs us ds)
+hex_next fs cs us ds h = let b : nat_lt (length ds) 4 ≡ true = grind (arith, nat_tests) in rw b tt
+
+pub hex_step : (limit : Option ℕ) (fs : List Frame) (cs us ds : List ℕ) (c : ℕ) → length ds < 4 → is_hex c ≡ true → onward limit (hexing fs cs us ds) c ≡ hexing fs cs us (ds ++ c ∷ [])
+unfolding step
+hex_step limit fs cs us ds c h x =
+    let b : nat_lt (length ds) 4 ≡ true = grind (arith, nat_tests) in
+    let k : nat_lt (length (ds ++ c ∷ [])) 4 ≡ nat_lt (length ds) 3 = ap (λ n. nat_lt n 4) (length-append ds (c ∷ [])) ∙ shift (length ds) in
+    rw (b, x, k) refl
+  where
+    shift : (n : ℕ) → nat_lt (n + 1) 4 ≡ nat_lt n 3
+    shift n = grind (arith, nat_tests)
+
+pub hex_other : (limit : Option ℕ) (fs : List Frame) (cs us ds : List ℕ) (c : ℕ) → length ds < 4 → is_hex c ≡ false → onward limit (hexing fs cs us ds) c ≡ stop (InvalidHexDigit c) true
+unfolding step
+hex_other limit fs cs us ds c h x = let b : nat_lt (length ds) 4 ≡ true = grind (arith, nat_tests) in rw (b, x) refl
+
+pub hex_done : (fs : List Frame) (cs us ds : List ℕ) (v : ℕ) → length ds ≡ 4 → v ≡ unit_of 0 ds → hexing fs cs us ds ≡ next fs (quoted plain cs (us ++ v ∷ []))
+hex_done fs cs us ds v h e = rw (h, e) refl
+
+-- ---- a character within a string
+
+pub quote_read : (limit : Option ℕ) (fs : List Frame) (cs us : List ℕ) (c : ℕ) → c ≡ 34 → onward limit (next fs (quoted plain cs us)) c ≡ cond (not (paired us)) (stop InvalidUtf16 true) (complete true fs (string (cs ++ decode us)) true)
+unfolding step
+quote_read limit fs cs us c e = rw e refl
+
+pub backslash_read : (limit : Option ℕ) (fs : List Frame) (cs us : List ℕ) (c : ℕ) → c ≡ 92 → onward limit (next fs (quoted plain cs us)) c ≡ next fs (quoted backslash cs us)
+unfolding step
+backslash_read limit fs cs us c e = rw e refl
+
+pub control_read : (limit : Option ℕ) (fs : List Frame) (cs us : List ℕ) (c : ℕ) → (c ≡ 34 → ⊥) → (c ≡ 92 → ⊥) → c < 32 → onward limit (next fs (quoted plain cs us)) c ≡ stop (ControlCharacter c) true
+unfolding step
+control_read limit fs cs us c n m h = let b : nat_lt c 32 ≡ true = grind (arith, nat_tests) in rw (ne_eqb c 34 n, ne_eqb c 92 m, b) refl
+
+pub plain_read : (limit : Option ℕ) (fs : List Frame) (cs us : List ℕ) (c : ℕ) → (c ≡ 34 → ⊥) → (c ≡ 92 → ⊥) → 32 ≤ c
+    → onward limit (next fs (quoted plain cs us)) c ≡ cond (not (paired us)) (stop InvalidUtf16 true) (next fs (quoted plain ((cs ++ decode us) ++ c ∷ []) []))
+unfolding step
+plain_read limit fs cs us c n m h = let b : nat_lt c 32 ≡ false = grind (arith, nat_tests) in rw (ne_eqb c 34 n, ne_eqb c 92 m, b) refl
+
+pub short_read : (limit : Option ℕ) (fs : List Frame) (cs us : List ℕ) (c d : ℕ) → short_escape c ≡ Some d
+    → onward limit (next fs (quoted backslash cs us)) c ≡ cond (not (paired us)) (stop InvalidUtf16 true) (next fs (quoted plain ((cs ++ decode us) ++ d ∷ []) []))
+unfolding step
+short_read limit fs cs us c d e = rw e refl
+
+pub u_read : (limit : Option ℕ) (fs : List Frame) (cs us : List ℕ) (c : ℕ) → c ≡ 117 → onward limit (next fs (quoted backslash cs us)) c ≡ next fs (quoted (hex []) cs us)
+unfolding step
+u_read limit fs cs us c e = rw e refl
+
+pub escape_other : (limit : Option ℕ) (fs : List Frame) (cs us : List ℕ) (c : ℕ) → short_escape c ≡ None → (c ≡ 117 → ⊥) → onward limit (next fs (quoted backslash cs us)) c ≡ stop (InvalidEscape c) true
+unfolding step
+escape_other limit fs cs us c e n = rw (e, ne_eqb c 117 n) refl
+
+pub quote_whole : (limit : Option ℕ) (fs : List Frame) (cs us : List ℕ) (xs : List ℕ) (c : ℕ) → c ≡ 34 → paired us ≡ true → xs ≡ cs ++ decode us → onward limit (next fs (quoted plain cs us)) c ≡ complete true fs (string xs) true
+unfolding step
+quote_whole limit fs cs us xs c e p x = quote_read limit fs cs us c e ∙ ap (λ b. cond (not b) (stop InvalidUtf16 true) (complete true fs (string (cs ++ decode us)) true)) p ∙ ap (λ y. complete true fs (string y) true) (sym x)
+
+pub hex_end : (limit : Option ℕ) (fs : List Frame) (cs us ds : List ℕ) → length ds < 4 → ending limit (hexing fs cs us ds) ≡ refused UnexpectedEof []
+unfolding end
+hex_end limit fs cs us ds h = let b : nat_lt (length ds) 4 ≡ true = grind (arith, nat_tests) in rw b refl
+
+pub hex_taken : (fs : List Frame) (cs us ds : List ℕ) → IsTaken (hexing fs cs us ds)
+hex_taken fs cs us ds = taken_if (nat_lt (length ds) 4) (next fs (quoted (hex ds) cs us)) (next fs (quoted plain cs (us ++ unit_of 0 ds ∷ []))) tt tt
+
+pub sixteen_next : (n : ℕ) → 16 ^ (n + 1) ≡ 16 ^ n * 16
+sixteen_next n = ap (λ m. 16 ^ m) (add-one n) ∙ pow-suc 16 n

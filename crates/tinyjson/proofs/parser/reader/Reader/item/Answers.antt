@@ -1,0 +1,41 @@
+use Rattle.std.proofs.Common.{rules, refl, sym, subst, ◌∙◌, false, IfSome, ◌≡◌}
+use Rattle.tinyjson.specs.Characters.{is_white}
+use Rattle.tinyjson.specs.declared.parser.error.JsonParseErrorKind.TheVariants.{UnexpectedEof, ExpectedCommaOrBracket}
+use Rattle.tinyjson.proofs.Readings.{end_after, Leads-nil, Leads-whites, Leads-one, Leads-none, Halts-here, Refuses-as, Refuses-memory, Reads-after, white_after, taken_complete}
+use Rattle.tinyjson.proofs.Containers.{items-push, array_comma, array_closes, array_other}
+use Rattle.tinyjson.proofs.parser.reader.Reader.item.Goals as goal
+
+pub returns-then-is_err-clause-reads : goal.returns-then-is_err-clause-reads
+returns-then-is_err-clause-reads g c = λ limit.
+    let steps = g.I.Iterator.next_gives in
+    Refuses-memory steps limit _ _ c.refuse.result c.refuse.ensures.kind c.refuse.ensures.at
+    (Halts-here steps limit _ _ (Leads-nil steps limit _ _ c.args.self.now.line_fits c.args.self.now.column_fits) tt tt)
+
+pub returns-in-Some-eq44-clause-reads : goal.returns-in-Some-eq44-clause-reads
+returns-in-Some-eq44-clause-reads g c = λ limit.
+    let steps = g.I.Iterator.next_gives in
+    Reads-after steps limit _ _ _ _ _
+    (Leads-one steps limit _ _ _ c.in-Some-eq44.field-0 (Leads-whites steps limit _ _ _ c.skip_white.ensures.white tt (white_after limit _)) c.in-Some-eq44.ensures.takes tt
+    (array_comma limit _ _ _ c.in-Some-eq44.field-0 (items-push c.push.new.self.items c.args.items.items c.args.value (search rules)) (search rules)) tt)
+    (c.open.ensures.reads limit)
+
+pub returns-in-Some-eq93-clause-reads : goal.returns-in-Some-eq93-clause-reads
+returns-in-Some-eq93-clause-reads g c = λ limit.
+    let steps = g.I.Iterator.next_gives in
+    Leads-one steps limit _ _ _ c.in-Some-eq93.field-0 (Leads-whites steps limit _ _ _ c.skip_white.ensures.white tt (white_after limit _)) c.in-Some-eq93.ensures.takes tt
+    (array_closes limit _ _ c.push.new.self c.in-Some-eq93.field-0 (items-push c.push.new.self.items c.args.items.items c.args.value (search rules)) (search rules)) (taken_complete _ _)
+
+pub returns-in-Some-clause-reads : goal.returns-in-Some-clause-reads
+returns-in-Some-clause-reads g c = λ limit.
+    let steps = g.I.Iterator.next_gives in
+    let e = sym (c.bump.ensures.shown c.skip_white.result c.skip_white.ensures.shows) ∙ c.in-Some.is in
+    let w = subst (λ o. IfSome o (λ d. is_white d ≡ false)) e c.skip_white.ensures.stops in
+    Refuses-as steps limit _ _ c.refuse-in-Some.result (ExpectedCommaOrBracket c.in-Some.c) c.refuse-in-Some.ensures.kind c.refuse-in-Some.ensures.at
+    (Leads-one steps limit _ _ _ c.in-Some.c (Leads-whites steps limit _ _ _ c.skip_white.ensures.white tt (white_after limit _)) c.in-Some.ensures.takes tt
+    (array_other limit _ _ c.in-Some.c w (search rules) (search rules)) tt)
+
+pub returns-in-None-clause-reads : goal.returns-in-None-clause-reads
+returns-in-None-clause-reads g c = λ limit.
+    let steps = g.I.Iterator.next_gives in
+    Refuses-as steps limit _ _ c.refuse-in-None.result UnexpectedEof c.refuse-in-None.ensures.kind c.refuse-in-None.ensures.at
+    (Leads-none steps limit _ _ _ (Leads-whites steps limit _ _ _ c.skip_white.ensures.white tt (white_after limit _)) c.in-None.ensures.takes.0 c.in-None.ensures.takes.1 (end_after limit _) tt)

@@ -1,0 +1,41 @@
+use Rattle.std.proofs.Common.{rules, arith, ◌≡◌, ◌∙◌, sym, [], ap₂, true, ap}
+use Rattle.std.proofs.lemmas.Result.{err_from_is_err_and}
+use Rattle.std.proofs.lemmas.Str.{chars-nil}
+use Rattle.tinyjson.specs.View.{text}
+use Rattle.tinyjson.specs.Machine.{next, quoted, plain, complete}
+use Rattle.tinyjson.specs.Reading.{within}
+use Rattle.tinyjson.proofs.Containers.{view-String}
+use Rattle.tinyjson.proofs.Readings.{Leads-nil, Leads-to, Leads-trans, Refuses-after}
+use Rattle.tinyjson.proofs.parser.reader.Reader.string.Goals as goal
+
+pub loop-units-init : goal.loop-units-init
+loop-units-init g c =
+    let steps = g.I.Iterator.next_gives in
+    let a : text c.new-string.result ≡ [] = search (rules, chars-nil) in
+    let b : c.new-units.result.items ≡ [] = search rules in
+    record {
+      reads = λ limit fs. Leads-to steps limit _ _ (Leads-nil steps limit _ _ c.args.self.now.line_fits c.args.self.now.column_fits) (ap₂ (λ x y. next fs (quoted plain x y)) (sym a) (sym b));
+      left = search rules;
+    }
+
+pub returns-in_err-piece-clause-reads : goal.returns-in_err-piece-clause-reads
+returns-in_err-piece-clause-reads g c = λ limit fs.
+    let steps = g.I.Iterator.next_gives in
+    let p = err_from_is_err_and c.from_residual.result c.from_residual.ensures.1 in
+    rw (p.1, p.2) (Refuses-after steps limit _ _ _ _ (c.loop-units.invariant.reads limit fs) (c.in_err-piece.ensures.reads limit fs))
+
+pub returns-then-branch-clause-reads : goal.returns-then-branch-clause-reads
+returns-then-branch-clause-reads g c = λ limit fs.
+    let steps = g.I.Iterator.next_gives in
+    Leads-trans steps limit _ _ _ (c.loop-units.invariant.reads limit fs)
+    (Leads-to steps limit _ _ (c.in_ok-piece.ensures.reads limit fs) (ap (within fs c.piece.new.string c.piece.new.units.items) c.if-branch.true ∙ ap (λ t. complete true fs t true) (sym (view-String c.piece.new.string))))
+
+pub loop-units-preserved : goal.loop-units-preserved
+loop-units-preserved g c =
+    let steps = g.I.Iterator.next_gives in
+    record {
+      reads = λ limit fs.
+          Leads-trans steps limit _ _ _ (c.loop-units.invariant.reads limit fs)
+          (Leads-to steps limit _ _ (c.in_ok-piece.ensures.reads limit fs) (ap (within fs c.piece.new.string c.piece.new.units.items) c.if-branch.false));
+      left = omega (arith, c.piece.ensures.left, c.loop-units.invariant.left);
+    }

@@ -1,0 +1,56 @@
+use Rattle.std.proofs.Common.{rules, ◌≡◌, [], ap₂, ap}
+use Rattle.std.proofs.lemmas.Result.{err_from_is_err_and}
+use Rattle.tinyjson.specs.View.{view}
+use Rattle.tinyjson.specs.Reading.{at, frames}
+use Rattle.tinyjson.proofs.Readings.{Leads-nil, Leads-to, Leads-trans, Refuses-after}
+use Rattle.tinyjson.proofs.Containers.{frames-pop}
+use Rattle.tinyjson.proofs.parser.reader.Reader.text.Goals as goal
+
+pub loop-whole-init : goal.loop-whole-init
+loop-whole-init g c = rw c.new-stack.ensures.items (Leads-nil g.I.Iterator.next_gives c.args.limit _ _ c.args.self.now.line_fits c.args.self.now.column_fits)
+
+pub returns-in_err-whole-in-None-clause-reads : goal.returns-in_err-whole-in-None-clause-reads
+returns-in_err-whole-in-None-clause-reads g c =
+    let steps = g.I.Iterator.next_gives in
+    let limit = c.args.limit in
+    let p = err_from_is_err_and c.from_residual.result c.from_residual.ensures.1 in
+    let l = Leads-to steps limit _ _ c.loop-whole.invariant (ap (at (frames c.loop-whole.stack.items)) c.in-None.is) in
+    rw (p.1, p.2) (Refuses-after steps limit _ _ _ _ l c.in_err-whole-in-None.ensures.reads)
+
+pub returns-in_err-whole-in-Some-pop-clause-reads : goal.returns-in_err-whole-in-Some-pop-clause-reads
+returns-in_err-whole-in-Some-pop-clause-reads g c =
+    let steps = g.I.Iterator.next_gives in
+    let limit = c.args.limit in
+    let r = c.from_residual-in_err-whole-in-Some-pop in
+    let p = err_from_is_err_and r.result r.ensures.1 in
+    let l = Leads-to steps limit _ _ c.loop-whole.invariant (ap₂ at (frames-pop _ _ c.pop.result c.in-Some-pop.container c.pop.ensures.items c.in-Some-pop.is) c.in-Some.is) in
+    rw (p.1, p.2) (Refuses-after steps limit _ _ _ _ l (c.in_err-whole-in-Some-pop.ensures.reads limit))
+
+pub returns-in_err-end-in-None-pop-clause-reads : goal.returns-in_err-end-in-None-pop-clause-reads
+returns-in_err-end-in-None-pop-clause-reads g c =
+    let steps = g.I.Iterator.next_gives in
+    let limit = c.args.limit in
+    let r = c.from_residual-in_err-end-in-None-pop in
+    let p = err_from_is_err_and r.result r.ensures.1 in
+    let e : c.loop-whole.stack.items ≡ [] = search rules in
+    let l = Leads-to steps limit _ _ c.loop-whole.invariant (ap₂ at (ap frames e) c.in-Some.is) in
+    rw (p.1, p.2) (Refuses-after steps limit _ _ _ _ l (c.in_err-end-in-None-pop.ensures.reads limit (view c.in-Some.value)))
+
+pub returns-in-None-pop-clause-reads : goal.returns-in-None-pop-clause-reads
+returns-in-None-pop-clause-reads g c =
+    let steps = g.I.Iterator.next_gives in
+    let limit = c.args.limit in
+    let e : c.loop-whole.stack.items ≡ [] = search rules in
+    Leads-trans steps limit _ _ _ (Leads-to steps limit _ _ c.loop-whole.invariant (ap₂ at (ap frames e) c.in-Some.is)) (c.in_ok-end-in-None-pop.ensures.reads limit (view c.in-Some.value))
+
+pub loop-whole-preserved-in_ok-whole-in-None : goal.loop-whole-preserved-in_ok-whole-in-None
+loop-whole-preserved-in_ok-whole-in-None g c =
+    let steps = g.I.Iterator.next_gives in
+    let limit = c.args.limit in
+    Leads-trans steps limit _ _ _ (Leads-to steps limit _ _ c.loop-whole.invariant (ap (at (frames c.loop-whole.stack.items)) c.in-None.is)) c.in_ok-whole-in-None.ensures.reads
+
+pub loop-whole-preserved : goal.loop-whole-preserved
+loop-whole-preserved g c =
+    let steps = g.I.Iterator.next_gives in
+    let limit = c.args.limit in
+    Leads-trans steps limit _ _ _ (Leads-to steps limit _ _ c.loop-whole.invariant (ap₂ at (frames-pop _ _ c.pop.result c.in-Some-pop.container c.pop.ensures.items c.in-Some-pop.is) c.in-Some.is)) (c.in_ok-whole-in-Some-pop.ensures.reads limit)

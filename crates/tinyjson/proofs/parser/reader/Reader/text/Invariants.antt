@@ -1,0 +1,11 @@
+use Rattle.std.proofs.Common.{[]}
+use Rattle.tinyjson.specs.Cursor.{left}
+use Rattle.tinyjson.specs.Machine.{awaited, next}
+use Rattle.tinyjson.specs.Reading.{Leads, at, frames}
+use Rattle.tinyjson.proofs.parser.reader.Reader.text.Given as goal
+
+abbrev pub invariant-loop-whole : goal.invariant-loop-whole
+invariant-loop-whole g l = Leads g.I.Iterator.next_gives l.fn.limit l.initial.self.cursor (next [] awaited) l.self.cursor (at (frames l.stack.items) l.whole)
+
+abbrev pub decreases-loop-whole : goal.decreases-loop-whole
+decreases-loop-whole g l = left g.I.Iterator.remaining l.self.cursor

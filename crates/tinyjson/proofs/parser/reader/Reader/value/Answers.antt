@@ -1,0 +1,84 @@
+use Rattle.std.proofs.Common.{rules, arith, refl, Some, true, false, inl, inr, ◌≡◌, ◌∙◌, sym}
+use Rattle.std.proofs.lemmas.Bool.Decides.{nat_tests}
+use Rattle.std.specs.Char.{is_ascii_digit}
+use Rattle.tinyjson.specs.declared.parser.error.JsonParseErrorKind.TheVariants.{UnexpectedEof, InvalidCharacter}
+use Rattle.tinyjson.proofs.Containers.{null_begins, true_begins, false_begins, string_begins}
+use Rattle.tinyjson.proofs.Cursors.{Takes-shown}
+use Rattle.tinyjson.proofs.Readings.{end_awaited, Leads-whites, Leads-one, Leads-end, Leads-shown, Refuses-as, Reads-after, white_awaited, invalid}
+use Rattle.tinyjson.proofs.parser.reader.Reader.value.Goals as goal
+use Rattle.tinyjson.proofs.parser.reader.Reader.value.Goals.{in_default-first-via-then-first-lt48, in_default-first-via-else-first-lt48+else-first-lt58}
+
+pub returns-in_default-clause-reads : goal.returns-in_default-clause-reads
+returns-in_default-clause-reads g c =
+    let steps = g.I.Iterator.next_gives in
+    let limit = c.args.limit in
+    Refuses-as steps limit _ _ c.refuse.result UnexpectedEof c.refuse.ensures.kind c.refuse.ensures.at
+    (Leads-end steps limit _ _ (Leads-whites steps limit _ _ _ c.skip_white.ensures.white tt (white_awaited limit _)) c.in_default.ensures.shows (end_awaited limit _) tt)
+
+pub returns-in-n-clause-reads : goal.returns-in-n-clause-reads
+returns-in-n-clause-reads g c =
+    let steps = g.I.Iterator.next_gives in
+    let limit = c.args.limit in
+    Reads-after steps limit _ _ _ _ _
+    (Leads-one steps limit _ _ _ c.in-Some.first (Leads-whites steps limit _ _ _ c.skip_white.ensures.white tt (white_awaited limit _))
+    (Takes-shown steps _ _ _ _ (c.bump.ensures.shown (Some c.in-Some.first) c.in-Some.ensures.shows) c.bump.ensures.takes) tt
+    (null_begins limit _ c.in-Some.first (search rules)) tt)
+    (c.literal.ensures.reads limit _)
+
+pub returns-in-t-clause-reads : goal.returns-in-t-clause-reads
+returns-in-t-clause-reads g c =
+    let steps = g.I.Iterator.next_gives in
+    let limit = c.args.limit in
+    Reads-after steps limit _ _ _ _ _
+    (Leads-one steps limit _ _ _ c.in-Some.first (Leads-whites steps limit _ _ _ c.skip_white.ensures.white tt (white_awaited limit _))
+    (Takes-shown steps _ _ _ _ (c.bump-in-t.ensures.shown (Some c.in-Some.first) c.in-Some.ensures.shows) c.bump-in-t.ensures.takes) tt
+    (true_begins limit _ c.in-Some.first (search rules)) tt)
+    (c.literal-in-t.ensures.reads limit _)
+
+pub returns-in-f-clause-reads : goal.returns-in-f-clause-reads
+returns-in-f-clause-reads g c =
+    let steps = g.I.Iterator.next_gives in
+    let limit = c.args.limit in
+    Reads-after steps limit _ _ _ _ _
+    (Leads-one steps limit _ _ _ c.in-Some.first (Leads-whites steps limit _ _ _ c.skip_white.ensures.white tt (white_awaited limit _))
+    (Takes-shown steps _ _ _ _ (c.bump-in-f.ensures.shown (Some c.in-Some.first) c.in-Some.ensures.shows) c.bump-in-f.ensures.takes) tt
+    (false_begins limit _ c.in-Some.first (search rules)) tt)
+    (c.literal-in-f.ensures.reads limit _)
+
+pub returns-in-34-clause-reads : goal.returns-in-34-clause-reads
+returns-in-34-clause-reads g c =
+    let steps = g.I.Iterator.next_gives in
+    let limit = c.args.limit in
+    Reads-after steps limit _ _ _ _ _
+    (Leads-one steps limit _ _ _ c.in-Some.first (Leads-whites steps limit _ _ _ c.skip_white.ensures.white tt (white_awaited limit _))
+    (Takes-shown steps _ _ _ _ (c.bump-in-34.ensures.shown (Some c.in-Some.first) c.in-Some.ensures.shows) c.bump-in-34.ensures.takes) tt
+    (string_begins limit _ c.in-Some.first (search rules)) tt)
+    (c.string.ensures.reads limit _)
+
+pub returns-in-91-clause-reads : goal.returns-in-91-clause-reads
+returns-in-91-clause-reads g c =
+    let steps = g.I.Iterator.next_gives in
+    let limit = c.args.limit in
+    Reads-after steps limit _ _ _ _ _ (Leads-whites steps limit _ _ _ c.skip_white.ensures.white tt (white_awaited limit _)) c.array.ensures.reads
+
+pub returns-in-123-clause-reads : goal.returns-in-123-clause-reads
+returns-in-123-clause-reads g c =
+    let steps = g.I.Iterator.next_gives in
+    let limit = c.args.limit in
+    Reads-after steps limit _ _ _ _ _ (Leads-whites steps limit _ _ _ c.skip_white.ensures.white tt (white_awaited limit _)) c.object.ensures.reads
+
+pub returns-in-45-clause-reads : goal.returns-in-45-clause-reads
+returns-in-45-clause-reads g c =
+    let steps = g.I.Iterator.next_gives in
+    let limit = c.args.limit in
+    Reads-after steps limit _ _ _ _ _ (Leads-whites steps limit _ _ _ c.skip_white.ensures.white tt (white_awaited limit _)) (c.number.ensures.reads limit _)
+
+pub returns-in_default-first-clause-reads : goal.returns-in_default-first-clause-reads
+returns-in_default-first-clause-reads g c =
+    let steps = g.I.Iterator.next_gives in
+    let limit = c.args.limit in
+    let d : is_ascii_digit c.in-Some.first ≡ false =
+        elim c.in_default-first-1.branch [ in_default-first-via-then-first-lt48 w ↦ grind (arith, nat_tests) | in_default-first-via-else-first-lt48+else-first-lt58 w ↦ grind (arith, nat_tests) ] in
+    Refuses-as steps limit _ _ c.refuse-in_default-first.result (InvalidCharacter c.in-Some.first) c.refuse-in_default-first.ensures.kind c.refuse-in_default-first.ensures.at
+    (Leads-shown steps limit _ _ c.in-Some.first (Leads-whites steps limit _ _ _ c.skip_white.ensures.white tt (white_awaited limit _)) c.in-Some.ensures.shows
+    (invalid limit _ c.in-Some.first c.in-Some.ensures.stops (search rules) (search rules) (search rules) (search rules) (search rules) (search rules) (search rules) d) tt)

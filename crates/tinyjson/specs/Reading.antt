@@ -1,0 +1,127 @@
+-- What a part of the parser did, in the words of the machine. For private contracts.
+use Rattle.std.specs.Prelude.{◌≡◌, ℕ, ◌≤◌, Bool, true, false, List, [], ◌∷◌, ◌++◌, map, reverse, length, Option, Some, None, Result, MatchResult, IfSome, String, cond, ◌⊎◌, ⊤}
+use Rattle.std.specs.Char.{is_ascii_digit}
+use Rattle.std.specs.List.{AllByRecursion}
+use Rattle.std.specs.declared.alloc.Global.{Global}
+use Rattle.tinyjson.specs.Tree.{Tree, string}
+use Rattle.tinyjson.specs.View.{view, members_view, text}
+use Rattle.tinyjson.specs.Position.{Position, advance}
+use Rattle.tinyjson.specs.Error.{error_position}
+use Rattle.tinyjson.specs.Cursor.{Gives, Takes, Shows, place}
+use Rattle.tinyjson.specs.Machine.{Frame, in_array, at_key, at_value, awaited, word, plain, quoted, Next, next, stop, Outcome, accepted, refused, complete, step, end, run, strictly}
+use Rattle.tinyjson.specs.declared.parser.cursor.Cursor.{Cursor}
+use Rattle.tinyjson.specs.declared.parser.stack.Open.{Open}
+use Rattle.tinyjson.specs.declared.parser.stack.Open.TheVariants as container
+use Rattle.tinyjson.specs.declared.parser.error.JsonParseError.{JsonParseError}
+use Rattle.tinyjson.specs.declared.parser.error.JsonParseErrorKind.{JsonParseErrorKind}
+use Rattle.tinyjson.specs.declared.parser.error.JsonParseErrorKind.TheVariants.{InvalidUtf16, OutOfMemory}
+use Rattle.tinyjson.specs.declared.value.JsonValue.{JsonValue}
+
+-- an open container as a frame; the last of the stack is the innermost, and comes first
+abbrev pub frame_view : Open → Frame
+frame_view (container.Array v) = in_array (map view v.items)
+frame_view (container.Object m) = at_key (members_view m.entries)
+frame_view (container.Member m k) = at_value (members_view m.entries) (text k)
+
+abbrev pub frames : List Open → List Frame
+frames os = map frame_view (reverse os)
+
+-- a value is awaited, or is whole
+abbrev pub at : List Frame → Option JsonValue → Next
+at fs None = next fs awaited
+at fs (Some v) = complete true fs (view v) true
+
+-- these letters, and then the value is whole
+abbrev pub wanting : List Frame → List ℕ → Tree → Next
+wanting fs [] t = complete true fs t true
+wanting fs (l ∷ ls) t = next fs (word (l ∷ ls) t)
+
+-- within a string, and behind it where it is done
+abbrev pub within : List Frame → String Global → List ℕ → Bool → Next
+within fs s us done = cond done (complete true fs (string (text s)) true) (next fs (quoted plain (text s) us))
+
+-- why characters could not be added to a string: a unit had no partner, or there was no memory
+pub record Fails (e : JsonParseError) (whole : Bool) (p : Position) : Type 0 where
+  pub place : error_position e ≡ p
+  pub why : ((whole ≡ false) × (e.kind ≡ InvalidUtf16)) ⊎ (e.kind ≡ OutOfMemory)
+
+-- no digit comes
+abbrev pub Ends : {S : Type 0} → Cursor S → Type 0
+Ends q = (o : Option ℕ) × Shows q o × IfSome o (λ c. is_ascii_digit c ≡ false)
+
+-- ---- a refusal is a state that stays
+
+abbrev pub IsNext : Next → Type 0
+IsNext (next fs p) = ⊤
+IsNext (stop k b) = ⊥
+
+-- the character that led here was taken
+abbrev pub IsTaken : Next → Type 0
+IsTaken (next fs p) = ⊤
+IsTaken (stop k true) = ⊤
+IsTaken (stop k false) = ⊥
+
+module _ (limit : Option ℕ) where
+  abbrev pub onward : Next → ℕ → Next
+  onward (next fs p) c = step (strictly limit) fs p c
+  onward (stop k b) c = stop k false
+
+  abbrev pub ending : Next → Outcome
+  ending (next fs p) = end (strictly limit) fs p
+  ending (stop k b) = refused k []
+
+  abbrev pub outcome : Next → List ℕ → Outcome
+  outcome (next fs p) xs = run (strictly limit) fs p xs
+  outcome (stop k b) xs = refused k xs
+
+  abbrev pub behind : Next → List ℕ → Next
+  behind n [] = n
+  behind n (c ∷ cs) = behind (onward n c) cs
+
+  -- they do the same at what comes next
+  abbrev pub Same : Next → Next → List ℕ → Type 0
+  Same n m [] = ending n ≡ ending m
+  Same n m (c ∷ cs) = onward n c ≡ onward m c
+
+  -- From n the machine takes xs, and then does at rest what m does.
+  abbrev pub Comes : Next → List ℕ → Next → List ℕ → Type 0
+  Comes n [] m rest = Same n m rest × (IsNext m → IsNext n)
+  Comes n (c ∷ cs) m rest = IsNext n × IsTaken (onward n c) × Comes (onward n c) cs m rest
+
+  -- All of xs but at most its last character leads to no refusal.
+  pub record IsHeld (n : Next) (xs : List ℕ) : Type 0 where
+    pub front : List ℕ
+    pub late : List ℕ
+    pub whole : xs ≡ front ++ late
+    pub short : length late ≤ 1
+    pub goes : IsNext (behind n front)
+
+module _ {S : Type 0} (steps : S → Option ℕ → S → Type 0) (limit : Option ℕ) where
+  -- A call took some characters from p and left q: the machine went from n to m.
+  pub record Leads (p : Cursor S) (n : Next) (q : Cursor S) (m : Next) : Type 0 where
+    pub taken : List ℕ
+    pub gives : (zs : List ℕ) → Gives steps p zs → (rest : List ℕ) × (zs ≡ taken ++ rest) × Gives steps q rest × Comes limit n taken m rest
+    pub moves : place q ≡ advance (place p) taken
+
+  -- A call took some characters and found no memory.
+  pub record Halts (p : Cursor S) (n : Next) (q : Cursor S) : Type 0 where
+    pub taken : List ℕ
+    pub gives : (zs : List ℕ) → Gives steps p zs → (rest : List ℕ) × (zs ≡ taken ++ rest) × Gives steps q rest × IsHeld limit n taken
+    pub moves : place q ≡ advance (place p) taken
+
+  -- the machine refuses, or there was no memory
+  pub record Refuses (p : Cursor S) (n : Next) (e : JsonParseError) (q : Cursor S) : Type 0 where
+    pub place : error_position e ≡ place q
+    pub why : ((k : JsonParseErrorKind) × (e.kind ≡ k) × Leads p n q (stop k true)) ⊎ ((e.kind ≡ OutOfMemory) × Halts p n q)
+
+  -- a part of the parser, in which the machine went from n to the state of the result
+  abbrev pub Reads : {T : Type 0} → Cursor S → Next → Result T JsonParseError → (T → Next) → Cursor S → Type 0
+  Reads p n r m q = MatchResult r (λ v. Leads p n q (m v)) (λ e. Refuses p n e q)
+
+module _ {S : Type 0} (steps : S → Option ℕ → S → Type 0) where
+  -- digits were taken and added to a text, or for some of them there was no memory
+  pub record Gathers (p : Cursor S) (old : List ℕ) (r : Result (Unit {0}) JsonParseError) (new : List ℕ) (q : Cursor S) : Type 0 where
+    pub ds : List ℕ
+    pub digits : AllByRecursion (λ c. is_ascii_digit c ≡ true) ds
+    pub takes : Takes steps p ds q
+    pub result : MatchResult r (λ _. new ≡ old ++ ds) (λ e. (e.kind ≡ OutOfMemory) × (error_position e ≡ place q))

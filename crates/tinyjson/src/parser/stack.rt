@@ -1,0 +1,260 @@
+//! Containers, and the loop over those that are open.
+ghost use Rattle.std.specs.Prelude.{◌≡◌, ◌<◌, ◌≤◌, [], ◌∷◌, ◌++◌, true, OnOk, Option, Some, ℕ, map};
+ghost use Rattle.tinyjson.specs.Cursor.{Shows, left};
+ghost use Rattle.tinyjson.specs.Machine.{in_array, at_key, colon, awaited, after, finished, next, complete, fits};
+ghost use Rattle.tinyjson.specs.Reading.{Reads, at, frames, frame_view};
+ghost use Rattle.tinyjson.specs.Tree.{Tree, no_members, put};
+ghost use Rattle.tinyjson.specs.View.{view, members_view, text};
+
+use super::error::{JsonParseError, JsonParseErrorKind};
+use super::reader::Reader;
+use crate::value::{JsonValue, insert_member};
+use std::collections::HashMap;
+
+/// A container that was opened and not closed. An object awaits a key, or has a key and awaits its value.
+#[derive(Drop)]
+pub(super) enum Open {
+    Array(Vec<JsonValue>),
+    Object(HashMap<String, JsonValue>),
+    Member(HashMap<String, JsonValue>, String),
+}
+
+/// Whether one more container may be opened.
+fn fits(limit: Option<usize>, depth: usize) -> bool
+    ensures { result ≡ fits limit depth }
+{
+    match limit {
+        None => true,
+        Some(limit) => depth < limit,
+    }
+}
+
+impl<I: Iterator<Item = char>> Reader<I> {
+    /// Opens the array whose bracket comes next, or reads it whole if it is empty.
+    fn array(
+        &mut self,
+        limit: Option<usize>,
+        stack: &mut Vec<Open>,
+    ) -> Result<Option<JsonValue>, JsonParseError>
+        requires { Shows self.old.cursor (Some 91) }
+        ensures reads { Reads I.next_gives limit self.old.cursor (next (frames stack.old.items) awaited) result (at (frames stack.new.items)) self.new.cursor }
+        ensures left { OnOk result (left I.remaining self.new.cursor < left I.remaining self.old.cursor) }
+    {
+        if !fits(limit, stack.len()) {
+            return Err(self.refuse(JsonParseErrorKind::TooDeep('[')));
+        }
+        self.bump();
+        let items = Vec::new(self.alloc);
+        match self.skip_white() {
+            Some(']') => {
+                self.bump();
+                Ok(Some(JsonValue::Array(items)))
+            }
+            _ => self.open(stack, Open::Array(items)),
+        }
+    }
+
+    /// Opens the object whose brace comes next, or reads it whole if it is empty.
+    fn object(
+        &mut self,
+        limit: Option<usize>,
+        stack: &mut Vec<Open>,
+    ) -> Result<Option<JsonValue>, JsonParseError>
+        requires { Shows self.old.cursor (Some 123) }
+        ensures reads { Reads I.next_gives limit self.old.cursor (next (frames stack.old.items) awaited) result (at (frames stack.new.items)) self.new.cursor }
+        ensures left { OnOk result (left I.remaining self.new.cursor < left I.remaining self.old.cursor) }
+    {
+        if !fits(limit, stack.len()) {
+            return Err(self.refuse(JsonParseErrorKind::TooDeep('{')));
+        }
+        self.bump();
+        let members = HashMap::new(self.alloc);
+        match self.skip_white() {
+            Some('}') => {
+                self.bump();
+                Ok(Some(JsonValue::Object(members)))
+            }
+            _ => self.open(stack, Open::Object(members)),
+        }
+    }
+
+    /// Opens a container, or goes on in it.
+    fn open(
+        &mut self,
+        stack: &mut Vec<Open>,
+        container: Open,
+    ) -> Result<Option<JsonValue>, JsonParseError>
+        ensures reads { (limit : Option ℕ) → Reads I.next_gives limit self.old.cursor (next (frame_view container ∷ frames stack.old.items) awaited) result (at (frames stack.new.items)) self.new.cursor }
+        ensures same { self.new.cursor ≡ self.old.cursor }
+    {
+        if stack.push(container).is_err() {
+            return Err(self.refuse(JsonParseErrorKind::OutOfMemory));
+        }
+        Ok(None)
+    }
+
+    /// Puts an item into its array, and reads a comma or the bracket that closes the array.
+    fn item(
+        &mut self,
+        stack: &mut Vec<Open>,
+        mut items: Vec<JsonValue>,
+        value: JsonValue,
+    ) -> Result<Option<JsonValue>, JsonParseError>
+        ensures reads { (limit : Option ℕ) → Reads I.next_gives limit self.old.cursor (next (in_array (map view items.items ++ view value ∷ []) ∷ frames stack.old.items) after) result (at (frames stack.new.items)) self.new.cursor }
+        ensures left { OnOk result (left I.remaining self.new.cursor < left I.remaining self.old.cursor) }
+    {
+        if items.push(value).is_err() {
+            return Err(self.refuse(JsonParseErrorKind::OutOfMemory));
+        }
+        self.skip_white();
+        match self.bump() {
+            Some(',') => self.open(stack, Open::Array(items)),
+            Some(']') => Ok(Some(JsonValue::Array(items))),
+            Some(c) => Err(self.refuse(JsonParseErrorKind::ExpectedCommaOrBracket(c))),
+            None => Err(self.refuse(JsonParseErrorKind::UnexpectedEof)),
+        }
+    }
+
+    /// Makes a value the key of its object, and reads the colon.
+    fn key(
+        &mut self,
+        stack: &mut Vec<Open>,
+        members: HashMap<String, JsonValue>,
+        value: JsonValue,
+    ) -> Result<Option<JsonValue>, JsonParseError>
+        ensures reads { (limit : Option ℕ) → Reads I.next_gives limit self.old.cursor (complete true (at_key (members_view members.entries) ∷ frames stack.old.items) (view value) true) result (at (frames stack.new.items)) self.new.cursor }
+        ensures left { OnOk result (left I.remaining self.new.cursor < left I.remaining self.old.cursor) }
+    {
+        match value {
+            JsonValue::String(key) => self.colon(stack, members, key),
+            other => Err(self.refuse(JsonParseErrorKind::KeyNotString(other.kind()))),
+        }
+    }
+
+    /// Reads the colon behind a key.
+    fn colon(
+        &mut self,
+        stack: &mut Vec<Open>,
+        members: HashMap<String, JsonValue>,
+        key: String,
+    ) -> Result<Option<JsonValue>, JsonParseError>
+        ensures reads { (limit : Option ℕ) → Reads I.next_gives limit self.old.cursor (next (at_key (members_view members.entries) ∷ frames stack.old.items) (colon (text key))) result (at (frames stack.new.items)) self.new.cursor }
+        ensures left { OnOk result (left I.remaining self.new.cursor < left I.remaining self.old.cursor) }
+    {
+        self.skip_white();
+        match self.bump() {
+            Some(':') => self.open(stack, Open::Member(members, key)),
+            Some(c) => Err(self.refuse(JsonParseErrorKind::ExpectedColon(c))),
+            None => Err(self.refuse(JsonParseErrorKind::UnexpectedEof)),
+        }
+    }
+
+    /// Puts a member into its object, and reads a comma or the brace that closes the object.
+    fn member(
+        &mut self,
+        stack: &mut Vec<Open>,
+        mut members: HashMap<String, JsonValue>,
+        key: String,
+        value: JsonValue,
+    ) -> Result<Option<JsonValue>, JsonParseError>
+        ensures reads { (limit : Option ℕ) → Reads I.next_gives limit self.old.cursor (next (at_key (put (text key) (view value) (members_view members.entries)) ∷ frames stack.old.items) after) result (at (frames stack.new.items)) self.new.cursor }
+        ensures left { OnOk result (left I.remaining self.new.cursor < left I.remaining self.old.cursor) }
+    {
+        if insert_member(&mut members, key, value).is_err() {
+            return Err(self.refuse(JsonParseErrorKind::OutOfMemory));
+        }
+        self.skip_white();
+        match self.bump() {
+            Some(',') => self.open(stack, Open::Object(members)),
+            Some('}') => Ok(Some(JsonValue::Object(members))),
+            Some(c) => Err(self.refuse(JsonParseErrorKind::ExpectedCommaOrBrace(c))),
+            None => Err(self.refuse(JsonParseErrorKind::UnexpectedEof)),
+        }
+    }
+
+    /// Puts a value into the container that it stands in, and reads what follows.
+    fn put(
+        &mut self,
+        stack: &mut Vec<Open>,
+        container: Open,
+        value: JsonValue,
+    ) -> Result<Option<JsonValue>, JsonParseError>
+        ensures reads { (limit : Option ℕ) → Reads I.next_gives limit self.old.cursor (complete true (frame_view container ∷ frames stack.old.items) (view value) true) result (at (frames stack.new.items)) self.new.cursor }
+        ensures left { OnOk result (left I.remaining self.new.cursor < left I.remaining self.old.cursor) }
+    {
+        match container {
+            Open::Array(items) => self.item(stack, items, value),
+            Open::Object(members) => self.key(stack, members, value),
+            Open::Member(members, key) => self.member(stack, members, key, value),
+        }
+    }
+
+    /// Reads white space and a value, or opens a container.
+    fn value(
+        &mut self,
+        limit: Option<usize>,
+        stack: &mut Vec<Open>,
+    ) -> Result<Option<JsonValue>, JsonParseError>
+        ensures reads { Reads I.next_gives limit self.old.cursor (next (frames stack.old.items) awaited) result (at (frames stack.new.items)) self.new.cursor }
+        ensures left { OnOk result (left I.remaining self.new.cursor < left I.remaining self.old.cursor) }
+    {
+        let Some(first) = self.skip_white() else {
+            return Err(self.refuse(JsonParseErrorKind::UnexpectedEof));
+        };
+        match first {
+            'n' => {
+                self.bump();
+                self.literal(&['u', 'l', 'l'], JsonValue::Null)
+            }
+            't' => {
+                self.bump();
+                self.literal(&['r', 'u', 'e'], JsonValue::Boolean(true))
+            }
+            'f' => {
+                self.bump();
+                self.literal(&['a', 'l', 's', 'e'], JsonValue::Boolean(false))
+            }
+            '"' => {
+                self.bump();
+                self.string()
+            }
+            '[' => self.array(limit, stack),
+            '{' => self.object(limit, stack),
+            '-' | '0'..='9' => self.number(),
+            c => Err(self.refuse(JsonParseErrorKind::InvalidCharacter(c))),
+        }
+    }
+
+    /// The end of the text.
+    fn end(&mut self) -> Result<(), JsonParseError>
+        ensures reads { (limit : Option ℕ) (t : Tree) → Reads I.next_gives limit self.old.cursor (next [] (finished t)) result (λ _. next [] (finished t)) self.new.cursor }
+        ensures end { OnOk result (Shows self.new.cursor None) }
+    {
+        self.skip_white();
+        match self.bump() {
+            None => Ok(()),
+            Some(c) => Err(self.refuse(JsonParseErrorKind::ExpectedEof(c))),
+        }
+    }
+
+    /// Reads a whole text: one turn for each value that is read or container that is opened.
+    pub(super) fn text(&mut self, limit: Option<usize>) -> Result<JsonValue, JsonParseError>
+        ensures reads { Reads I.next_gives limit self.old.cursor (next [] awaited) result (λ v. next [] (finished (view v))) self.new.cursor }
+        ensures end { OnOk result (Shows self.new.cursor None) }
+    {
+        let mut stack = Vec::new(self.alloc);
+        let mut whole: Option<JsonValue> = None;
+        loop {
+            whole = match whole {
+                None => self.value(limit, &mut stack)?,
+                Some(value) => match stack.pop() {
+                    Some(container) => self.put(&mut stack, container, value)?,
+                    None => {
+                        self.end()?;
+                        return Ok(value);
+                    }
+                },
+            };
+        }
+    }
+}

@@ -1,0 +1,76 @@
+//! Characters from UTF-16 units.
+ghost use Rattle.std.specs.Prelude.{◌≡◌, ◌++◌, ◌∷◌, [], IfOk, true, Some};
+ghost use Rattle.tinyjson.specs.View.{text};
+ghost use Rattle.tinyjson.specs.Characters.{is_high, is_low, pair_of, paired, decode, short_escape};
+
+use std::alloc::AllocError;
+
+fn is_high(unit: u16) -> bool
+    ensures { result ≡ is_high unit }
+{
+    unit >= 0xd800 && unit < 0xdc00
+}
+
+fn is_low(unit: u16) -> bool
+    ensures { result ≡ is_low unit }
+{
+    unit >= 0xdc00 && unit < 0xe000
+}
+
+/// The character that a pair of surrogates stands for.
+fn pair(high: u16, low: u16) -> char
+    requires high { is_high high ≡ true }
+    requires low { is_low low ≡ true }
+    ensures { result ≡ pair_of high low }
+{
+    char::from_u32(0x10000 + (high as u32 - 0xd800) * 1024 + (low as u32 - 0xdc00)).unwrap_or(' ')
+}
+
+/// Appends a character.
+pub(super) fn push(string: &mut String, c: char) -> Result<(), AllocError>
+    ensures { IfOk result (λ _. text string.new ≡ text string.old ++ c ∷ []) }
+{
+    string.push(c)
+}
+
+/// Appends the characters that units spell; `false` where a surrogate has no partner.
+pub(super) fn decode(units: &[u16], string: &mut String) -> Result<bool, AllocError>
+    ensures whole { IfOk result (λ whole. whole ≡ paired units.now) }
+    ensures text { IfOk result (λ whole. whole ≡ true → text string.new ≡ text string.old ++ decode units.now) }
+{
+    let mut high: Option<u16> = None;
+    for unit in units {
+        match high {
+            Some(first) => {
+                if !is_low(*unit) {
+                    return Ok(false);
+                }
+                push(string, pair(first, *unit))?;
+                high = None;
+            }
+            None if is_high(*unit) => high = Some(*unit),
+            None => {
+                let Some(c) = char::from_u32(*unit as u32) else {
+                    return Ok(false);
+                };
+                push(string, c)?;
+            }
+        }
+    }
+    Ok(high.is_none())
+}
+
+/// What the letter behind a backslash stands for.
+pub(super) fn short_escape(c: char) -> Option<char>
+    ensures { result ≡ short_escape c }
+{
+    match c {
+        '"' | '\\' | '/' => Some(c),
+        'b' => Some('\x08'),
+        'f' => Some('\x0c'),
+        'n' => Some('\n'),
+        'r' => Some('\r'),
+        't' => Some('\t'),
+        _ => None,
+    }
+}
