@@ -9,6 +9,7 @@ mod error;
 mod literal;
 mod number;
 mod reading;
+mod text;
 
 pub use error::{JsonNumberError, LiteralError};
 pub use number::JsonNumber;
