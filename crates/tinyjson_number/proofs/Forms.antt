@@ -53,3 +53,7 @@ formed width g c cs p h =
 
 pub zero-form : (width : Width) (g : Bool) (p : ℤ) → IsTrue (is_canonical_at width g [] p) → (g ≡ false) × (p ≡ pos 0)
 zero-form width g p h = let k = and_parts (not g) (int_eq p (pos 0)) h in (not-true g k.0, (Decides-int_eq p (pos 0)).0 k.1)
+
+pub digits_of_form : (width : Width) (g : Bool) (ds : List ℕ) (p : ℤ) → IsTrue (is_canonical_at width g ds p) → AreDigits ds
+digits_of_form width g [] p h = tt
+digits_of_form width g (c ∷ cs) p h = (form width g c cs p h).digits

@@ -4,6 +4,12 @@
 //! in the range of `i64`. Each number has one such form, so equal numbers have equal texts.
 #![tactic(auto)]
 
+mod digits;
+mod error;
+mod literal;
 mod number;
+mod reading;
+mod text;
 
+pub use error::{JsonNumberError, LiteralError};
 pub use number::JsonNumber;
