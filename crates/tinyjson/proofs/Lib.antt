@@ -9,3 +9,5 @@ pub mod Readings
 pub mod UnitDecoding
 pub mod StringReading
 pub mod Containers
+pub mod Growth
+pub mod Answering

@@ -14,3 +14,4 @@ pub mod Machine
 pub mod Cursor
 pub mod Reading
 pub mod Numbers
+pub mod Parser

@@ -1,5 +1,5 @@
 -- What a part of the parser did, in the words of the machine. For private contracts.
-use Rattle.std.specs.Prelude.{◌≡◌, ℕ, ◌≤◌, Bool, true, false, List, [], ◌∷◌, ◌++◌, map, reverse, length, Option, Some, None, Result, MatchResult, IfSome, String, cond, ◌⊎◌, ⊤}
+use Rattle.std.specs.Prelude.{◌≡◌, ℕ, ◌≤◌, Bool, true, false, List, [], ◌∷◌, ◌++◌, map, reverse, length, Option, Some, None, Result, Ok, Err, IfErr, MatchResult, IfSome, String, cond, ◌⊎◌, ⊤}
 use Rattle.std.specs.Char.{is_ascii_digit}
 use Rattle.std.specs.List.{AllByRecursion}
 use Rattle.std.specs.declared.alloc.Global.{Global}
@@ -7,6 +7,7 @@ use Rattle.tinyjson.specs.Tree.{Tree, string}
 use Rattle.tinyjson.specs.View.{view, members_view, text}
 use Rattle.tinyjson.specs.Position.{Position, advance}
 use Rattle.tinyjson.specs.Error.{error_position}
+use Rattle.tinyjson.specs.Refusal.{MayGrow}
 use Rattle.tinyjson.specs.Cursor.{Gives, Takes, Shows, place}
 use Rattle.tinyjson.specs.Machine.{Frame, in_array, at_key, at_value, awaited, word, plain, quoted, Next, next, stop, Outcome, accepted, refused, complete, step, end, run, strictly}
 use Rattle.tinyjson.specs.declared.parser.cursor.Cursor.{Cursor}
@@ -125,3 +126,17 @@ module _ {S : Type 0} (steps : S → Option ℕ → S → Type 0) where
     pub digits : AllByRecursion (λ c. is_ascii_digit c ≡ true) ds
     pub takes : Takes steps p ds q
     pub result : MatchResult r (λ _. new ≡ old ++ ds) (λ e. (e.kind ≡ OutOfMemory) × (error_position e ≡ place q))
+
+  -- what the cursor gives begins, behind white space, with a string, a number or a container
+  abbrev pub Grows : Cursor S → Type 0
+  Grows p = (zs : List ℕ) → Gives steps p zs → MayGrow zs
+
+  -- a call that found no memory, or that opened a container, began with a string, a number or a container
+  abbrev pub GrowsFor : Cursor S → Result (Option JsonValue) JsonParseError → Type 0
+  GrowsFor p (Ok (Some v)) = ⊤
+  GrowsFor p (Ok None) = Grows p
+  GrowsFor p (Err e) = e.kind ≡ OutOfMemory → Grows p
+
+-- no want of memory
+abbrev pub NeedsNone : {T : Type 0} → Result T JsonParseError → Type 0
+NeedsNone r = IfErr r (λ e. e.kind ≡ OutOfMemory → ⊥)

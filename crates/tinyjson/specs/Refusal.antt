@@ -1,5 +1,5 @@
 -- What a refusal says of the characters (`says`), and where it comes.
-use Rattle.std.specs.Prelude.{◌≡◌, ℕ, ◌<◌, ◌≤◌, List, [], ◌∷◌, ◌++◌, Option, None, ⊤, ◌⊎◌, IsTrue, length, take, slice_index, false, Bool, ◌||◌, ◌==◌}
+use Rattle.std.specs.Prelude.{◌≡◌, ℕ, ◌<◌, ◌≤◌, List, [], ◌∷◌, ◌++◌, Option, None, IsSome, ⊤, ◌⊎◌, IsTrue, length, take, slice_index, false, Bool, ◌||◌, ◌==◌}
 use Rattle.std.specs.Char.{is_ascii_digit}
 use Rattle.tinyjson.specs.Characters.{is_white, is_hex, short_escape, unit_of, is_high, is_low}
 use Rattle.tinyjson_number.specs.Numeral.{is_sign, is_exponent_letter, Numeral, IsNumeral, spelling, value, in_range, has_leading_zero, AreDigits}
@@ -46,7 +46,7 @@ EndsRun e = (e ≡ 34 ∷ []) ⊎ ((p : Piece) × IsPiece p × (e ≡ pieces_tex
 abbrev pub IsLiteral : List ℕ → Type 0
 IsLiteral l = (l ≡ 110 ∷ 117 ∷ 108 ∷ 108 ∷ []) ⊎ (l ≡ 116 ∷ 114 ∷ 117 ∷ 101 ∷ []) ⊎ (l ≡ 102 ∷ 97 ∷ 108 ∷ 115 ∷ 101 ∷ [])
 
--- The fact that a kind tells, of what was consumed and of what is left.
+-- The fact that a kind tells, of what was consumed and of what is left. Want of memory is no fault of the text: IsInterrupted, below.
 abbrev pub KindSays : Option ℕ → JsonParseErrorKind → List ℕ → List ℕ → Type 0
 KindSays limit UnexpectedEof used rest = rest ≡ []
 KindSays limit (InvalidCharacter c) used rest = ((more : List ℕ) × (rest ≡ c ∷ more)) × (is_white c ≡ false) × (begins_value c ≡ false)
@@ -70,8 +70,8 @@ KindSays limit EmptyExponent used rest =
     ⊎ ((s : ℕ) × IsTrue (is_sign s) × EndsWith (l ∷ s ∷ []) used × BeginsWithNone is_ascii_digit rest))
 KindSays limit NumberOutOfRange used rest =
     (n : Numeral) × IsNumeral n × (has_leading_zero n.whole ≡ false) × (in_range (value n) ≡ false) × EndsWith (spelling n) used
-KindSays limit OutOfMemory used rest = ⊤
-KindSays limit (TooDeep c) used rest = ((more : List ℕ) × (rest ≡ c ∷ more)) × ((c ≡ 91) ⊎ (c ≡ 123))
+KindSays limit OutOfMemory used rest = ⊥
+KindSays limit (TooDeep c) used rest = ((more : List ℕ) × (rest ≡ c ∷ more)) × ((c ≡ 91) ⊎ (c ≡ 123)) × IsSome limit
 
 -- ---- where a refusal comes
 
@@ -147,3 +147,27 @@ pub record IsRefusal (limit : Option ℕ) (kind : JsonParseErrorKind) (used rest
   pub not_too_soon : (c : ℕ) (more : List ℕ) → rest ≡ c ∷ more → ¬ IsMidway limit (used ++ c ∷ [])
   -- without its last character it is alive in the loose grammar
   pub not_too_late : (front : List ℕ) (c : ℕ) → used ≡ front ++ c ∷ [] → Loosely limit front
+
+-- A refusal for want of memory: no more than where it may come, and nothing of what is left.
+pub record IsInterrupted (limit : Option ℕ) (used : List ℕ) : Type 0 where
+  pub place : PlaceSays limit OutOfMemory used
+  -- without its last character it is alive in the loose grammar
+  pub not_too_late : (front : List ℕ) (c : ℕ) → used ≡ front ++ c ∷ [] → Loosely limit front
+
+-- begins a string, a number or a container
+abbrev pub begins_growth : ℕ → Bool
+begins_growth c = (c == 34) || ((c == 91) || ((c == 123) || ((c == 45) || is_ascii_digit c)))
+
+-- The first character that is not white space begins a string, a number or a container.
+pub record MayGrow (xs : List ℕ) : Type 0 where
+  pub before : List ℕ
+  pub first : ℕ
+  pub more : List ℕ
+  pub whole : xs ≡ before ++ first ∷ more
+  pub white : AreWhite before
+  pub grows : IsTrue (begins_growth first)
+
+-- What a refusal of the kind says, of what was consumed and of what is left.
+abbrev pub RefusalSays : Option ℕ → JsonParseErrorKind → List ℕ → List ℕ → Type 0
+RefusalSays limit OutOfMemory used rest = IsInterrupted limit used × MayGrow (used ++ rest)
+RefusalSays limit kind used rest = IsRefusal limit kind used rest

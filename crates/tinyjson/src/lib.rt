@@ -19,5 +19,5 @@ pub mod parser;
 pub mod value;
 
 pub use number::JsonNumber;
-pub use parser::{JsonParseError, JsonParseErrorKind};
+pub use parser::{JsonParseError, JsonParseErrorKind, JsonParseResult, JsonParser};
 pub use value::{JsonKind, JsonValue};

@@ -5,7 +5,7 @@ use Rattle.std.specs.Char.{IsScalar}
 use Rattle.tinyjson.specs.Machine.{strictly}
 use Rattle.tinyjson.specs.Machine.{Frame, Phase, State, Next, next, stop, awaited, step, reach, reach_on}
 use Rattle.tinyjson.specs.declared.parser.error.JsonParseErrorKind.TheVariants.{OutOfMemory}
-use Rattle.tinyjson.specs.Refusal.{PlaceSays, IsPromptly}
+use Rattle.tinyjson.specs.Refusal.{PlaceSays, IsPromptly, IsInterrupted}
 use Rattle.tinyjson.proofs.Grammar.Spelt.{Ranges, Spells}
 use Rattle.tinyjson.proofs.Grammar.Alive.{read-prompt}
 use Rattle.tinyjson.proofs.Grammar.Told.{Follows}
@@ -28,11 +28,6 @@ reach-spells ranges limit [] h used fs q i s e =
 reach-spells ranges limit (c ∷ cs) h used fs q i s e =
     go-reach limit used fs q c cs (step (strictly limit) fs q c) (λ gs p. reach (strictly limit) gs p cs) s (step-spells ranges limit used fs q i c (h 0 0 (omega arith))) e
     (λ gs p j d. reach-spells ranges limit cs (λ k x l. h (suc k) x (omega arith)) (used ++ c ∷ []) gs p j s d)
-
--- What is said of a refusal for want of memory.
-pub record IsInterrupted (limit : Option ℕ) (used : List ℕ) : Type 0 where
-  pub place : PlaceSays limit OutOfMemory used
-  pub not_too_late : NotTooLate limit used
 
 pub interrupted : Ranges → (limit : Option ℕ) (used : List ℕ) → All IsScalar used → (s : State) → reach (strictly limit) [] awaited used ≡ Some s → IsInterrupted limit used
 interrupted ranges limit used h s e =

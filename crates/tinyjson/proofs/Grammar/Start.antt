@@ -1,5 +1,5 @@
 -- What comes of the first character of a value, and of a letter of a literal.
-use Rattle.std.proofs.Common.{suc, ◌≡◌, ℕ, ◌+◌, true, false, List, [], ◌∷◌, ◌++◌, Option, Some, None, refl, ap, sym, ◌∙◌, append_assoc, arith, length, subst, ◌⊎◌, inl, inr, IsTrue, ◌==◌}
+use Rattle.std.proofs.Common.{IsSome, suc, ◌≡◌, ℕ, ◌+◌, true, false, List, [], ◌∷◌, ◌++◌, Option, Some, None, refl, ap, sym, ◌∙◌, append_assoc, arith, length, subst, ◌⊎◌, inl, inr, IsTrue, ◌==◌}
 use Rattle.std.specs.Char.{is_ascii_digit}
 use Rattle.std.proofs.lemmas.Bool.{ltb-true, or_from}
 use Rattle.tinyjson.specs.Machine.{strictly}
@@ -62,6 +62,10 @@ pub fits_within : (limit : Option ℕ) (n : ℕ) → fits limit n ≡ true → I
 fits_within None n h = tt
 fits_within (Some l) n h = omega (arith, ltb-true n l h)
 
+limited : (limit : Option ℕ) (n : ℕ) → fits limit n ≡ false → IsSome limit
+limited None n h = absurd cc
+limited (Some l) n h = refl
+
 pub none_begins : (c : ℕ) → (c == 110) ≡ false → (c == 116) ≡ false → (c == 102) ≡ false → (c == 34) ≡ false → (c == 91) ≡ false → (c == 123) ≡ false → (c == 45) ≡ false → is_ascii_digit c ≡ false → begins_value c ≡ false
 none_begins c a b d e f g h i = or_from _ _ a (or_from _ _ b (or_from _ _ d (or_from _ _ e (or_from _ _ f (or_from _ _ g (or_from _ _ h i))))))
 
@@ -78,7 +82,7 @@ pub push-follows : (limit : Option ℕ) (p q : Path) (f : Frame) (c : ℕ) → I
 push-follows limit p q f c hp hc hf ht hq h fs a =
     either limit (path_text p) fs a c (fits limit (length (path_frames p))) _ _
     (λ e. record { read = at_first q; is = (h (rw (← level-frames p) (fits_within limit (length (path_frames p)) e)), hq); whole = ht; frames = sym hf; phase = refl })
-    (λ e. ((λ more. (((more, refl), hc), awaits-value limit p hp)), tt))
+    (λ e. ((λ more. (((more, refl), hc, limited limit (length (path_frames p)) e), awaits-value limit p hp)), tt))
 
 pub start-follows : (limit : Option ℕ) (p : Path) → IsPath limit p → (c : ℕ) → is_white c ≡ false → (fs : List Frame) (a : Phase) → Follows limit (path_text p) fs a c (start (strictly limit) (path_frames p) c)
 start-follows limit p hp c hw fs a =

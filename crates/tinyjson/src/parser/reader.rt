@@ -1,5 +1,5 @@
 //! What all parts of the parser stand on: one character of lookahead, the position, refusals, literals.
-ghost use Rattle.std.specs.Prelude.{◌≡◌, ℕ, ◌+◌, ◌<◌, ◌≤◌, List, [], ◌∷◌, true, false, IfSome, MatchOption, Option, None};
+ghost use Rattle.std.specs.Prelude.{◌≡◌, ℕ, ◌+◌, ◌<◌, ◌≤◌, List, [], ◌∷◌, true, false, IfOk, IsSome, IfSome, MatchOption, Option, None};
 ghost use Rattle.std.specs.Iterator.{IsFinite};
 ghost use Rattle.std.specs.Option.{option_len};
 ghost use Rattle.tinyjson.specs.Characters.{is_white};
@@ -7,7 +7,7 @@ ghost use Rattle.tinyjson.specs.Cursor.{Takes, Shows, Ready, Gives, Begins, Whit
 ghost use Rattle.tinyjson.specs.Error.{error_position};
 ghost use Rattle.tinyjson.specs.Machine.{Frame, complete};
 ghost use Rattle.tinyjson.specs.Position.{origin};
-ghost use Rattle.tinyjson.specs.Reading.{Reads, at, wanting};
+ghost use Rattle.tinyjson.specs.Reading.{NeedsNone, Reads, at, wanting};
 ghost use Rattle.tinyjson.specs.Tree.{Tree};
 ghost use Rattle.tinyjson.specs.View.{view};
 
@@ -124,6 +124,7 @@ impl<I: Iterator<Item = char>> Reader<I> {
     /// Reads these letters.
     fn letters(&mut self, letters: &[char]) -> Result<(), JsonParseError>
         ensures reads { (limit : Option ℕ) (fs : List Frame) (t : Tree) → Reads I.next_gives limit self.old.cursor (wanting fs letters.now t) result (λ _. complete true fs t true) self.new.cursor }
+        ensures memory { NeedsNone result }
         ensures left { left I.remaining self.new.cursor ≤ left I.remaining self.old.cursor }
     {
         for letter in letters {
@@ -144,6 +145,8 @@ impl<I: Iterator<Item = char>> Reader<I> {
         value: JsonValue,
     ) -> Result<Option<JsonValue>, JsonParseError>
         ensures reads { (limit : Option ℕ) (fs : List Frame) → Reads I.next_gives limit self.old.cursor (wanting fs letters.now (view value)) result (at fs) self.new.cursor }
+        ensures memory { NeedsNone result }
+        ensures whole { IfOk result (λ v. IsSome v) }
         ensures left { left I.remaining self.new.cursor ≤ left I.remaining self.old.cursor }
     {
         self.letters(letters)?;

@@ -1,10 +1,11 @@
 //! Containers, and the loop over those that are open.
-ghost use Rattle.std.specs.Prelude.{◌≡◌, ◌<◌, ◌≤◌, [], ◌∷◌, ◌++◌, true, OnOk, Option, Some, ℕ, map};
+ghost use Rattle.std.specs.Prelude.{◌≡◌, ◌<◌, ◌≤◌, [], ◌∷◌, ◌++◌, true, OnOk, IfOk, IfErr, IsNone, IfSome, Option, Some, ℕ, map};
 ghost use Rattle.tinyjson.specs.Cursor.{Shows, left};
 ghost use Rattle.tinyjson.specs.Machine.{in_array, at_key, colon, awaited, after, finished, next, complete, fits};
-ghost use Rattle.tinyjson.specs.Reading.{Reads, at, frames, frame_view};
+ghost use Rattle.tinyjson.specs.Reading.{Grows, GrowsFor, NeedsNone, Reads, at, frames, frame_view};
 ghost use Rattle.tinyjson.specs.Tree.{Tree, no_members, put};
 ghost use Rattle.tinyjson.specs.View.{view, members_view, text};
+ghost use Rattle.tinyjson.specs.declared.parser.error.JsonParseErrorKind.TheVariants.{OutOfMemory};
 
 use super::error::{JsonParseError, JsonParseErrorKind};
 use super::reader::Reader;
@@ -39,6 +40,7 @@ impl<I: Iterator<Item = char>> Reader<I> {
         requires { Shows self.old.cursor (Some 91) }
         ensures reads { Reads I.next_gives limit self.old.cursor (next (frames stack.old.items) awaited) result (at (frames stack.new.items)) self.new.cursor }
         ensures left { OnOk result (left I.remaining self.new.cursor < left I.remaining self.old.cursor) }
+        ensures same { IfOk result (λ v. IfSome v (λ _. stack.new.items ≡ stack.old.items)) }
     {
         if !fits(limit, stack.len()) {
             return Err(self.refuse(JsonParseErrorKind::TooDeep('[')));
@@ -63,6 +65,7 @@ impl<I: Iterator<Item = char>> Reader<I> {
         requires { Shows self.old.cursor (Some 123) }
         ensures reads { Reads I.next_gives limit self.old.cursor (next (frames stack.old.items) awaited) result (at (frames stack.new.items)) self.new.cursor }
         ensures left { OnOk result (left I.remaining self.new.cursor < left I.remaining self.old.cursor) }
+        ensures same { IfOk result (λ v. IfSome v (λ _. stack.new.items ≡ stack.old.items)) }
     {
         if !fits(limit, stack.len()) {
             return Err(self.refuse(JsonParseErrorKind::TooDeep('{')));
@@ -86,6 +89,7 @@ impl<I: Iterator<Item = char>> Reader<I> {
     ) -> Result<Option<JsonValue>, JsonParseError>
         ensures reads { (limit : Option ℕ) → Reads I.next_gives limit self.old.cursor (next (frame_view container ∷ frames stack.old.items) awaited) result (at (frames stack.new.items)) self.new.cursor }
         ensures same { self.new.cursor ≡ self.old.cursor }
+        ensures opened { IfOk result (λ v. IsNone v) }
     {
         if stack.push(container).is_err() {
             return Err(self.refuse(JsonParseErrorKind::OutOfMemory));
@@ -197,6 +201,8 @@ impl<I: Iterator<Item = char>> Reader<I> {
     ) -> Result<Option<JsonValue>, JsonParseError>
         ensures reads { Reads I.next_gives limit self.old.cursor (next (frames stack.old.items) awaited) result (at (frames stack.new.items)) self.new.cursor }
         ensures left { OnOk result (left I.remaining self.new.cursor < left I.remaining self.old.cursor) }
+        ensures same { IfOk result (λ v. IfSome v (λ _. stack.new.items ≡ stack.old.items)) }
+        ensures memory { GrowsFor I.next_gives self.old.cursor result }
     {
         let Some(first) = self.skip_white() else {
             return Err(self.refuse(JsonParseErrorKind::UnexpectedEof));
@@ -229,6 +235,7 @@ impl<I: Iterator<Item = char>> Reader<I> {
     fn end(&mut self) -> Result<(), JsonParseError>
         ensures reads { (limit : Option ℕ) (t : Tree) → Reads I.next_gives limit self.old.cursor (next [] (finished t)) result (λ _. next [] (finished t)) self.new.cursor }
         ensures end { OnOk result (Shows self.new.cursor None) }
+        ensures memory { NeedsNone result }
     {
         self.skip_white();
         match self.bump() {
@@ -241,6 +248,7 @@ impl<I: Iterator<Item = char>> Reader<I> {
     pub(super) fn text(&mut self, limit: Option<usize>) -> Result<JsonValue, JsonParseError>
         ensures reads { Reads I.next_gives limit self.old.cursor (next [] awaited) result (λ v. next [] (finished (view v))) self.new.cursor }
         ensures end { OnOk result (Shows self.new.cursor None) }
+        ensures memory { IfErr result (λ e. e.kind ≡ OutOfMemory → Grows I.next_gives self.old.cursor) }
     {
         let mut stack = Vec::new(self.alloc);
         let mut whole: Option<JsonValue> = None;

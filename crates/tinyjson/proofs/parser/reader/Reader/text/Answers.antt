@@ -1,20 +1,24 @@
-use Rattle.std.proofs.Common.{rules, ◌≡◌, [], ap₂, ap}
+use Rattle.std.proofs.Common.{rules, ◌≡◌, [], ap₂, ap, inl, inr, refl}
 use Rattle.std.proofs.lemmas.Result.{err_from_is_err_and}
 use Rattle.tinyjson.specs.View.{view}
 use Rattle.tinyjson.specs.Reading.{at, frames}
+use Rattle.tinyjson.proofs.Growth.{turn-grows, turn-value, turn-open}
 use Rattle.tinyjson.proofs.Readings.{Leads-nil, Leads-to, Leads-trans, Refuses-after}
 use Rattle.tinyjson.proofs.Containers.{frames-pop}
 use Rattle.tinyjson.proofs.parser.reader.Reader.text.Goals as goal
 
 pub loop-whole-init : goal.loop-whole-init
-loop-whole-init g c = rw c.new-stack.ensures.items (Leads-nil g.I.Iterator.next_gives c.args.limit _ _ c.args.self.now.line_fits c.args.self.now.column_fits)
+loop-whole-init g c = record {
+  reads = rw c.new-stack.ensures.items (Leads-nil g.I.Iterator.next_gives c.args.limit _ _ c.args.self.now.line_fits c.args.self.now.column_fits);
+  memory = inr (c.new-stack.ensures.items, λ e. refl);
+}
 
 pub returns-in_err-whole-in-None-clause-reads : goal.returns-in_err-whole-in-None-clause-reads
 returns-in_err-whole-in-None-clause-reads g c =
     let steps = g.I.Iterator.next_gives in
     let limit = c.args.limit in
     let p = err_from_is_err_and c.from_residual.result c.from_residual.ensures.1 in
-    let l = Leads-to steps limit _ _ c.loop-whole.invariant (ap (at (frames c.loop-whole.stack.items)) c.in-None.is) in
+    let l = Leads-to steps limit _ _ c.loop-whole.invariant.reads (ap (at (frames c.loop-whole.stack.items)) c.in-None.is) in
     rw (p.1, p.2) (Refuses-after steps limit _ _ _ _ l c.in_err-whole-in-None.ensures.reads)
 
 pub returns-in_err-whole-in-Some-pop-clause-reads : goal.returns-in_err-whole-in-Some-pop-clause-reads
@@ -23,7 +27,7 @@ returns-in_err-whole-in-Some-pop-clause-reads g c =
     let limit = c.args.limit in
     let r = c.from_residual-in_err-whole-in-Some-pop in
     let p = err_from_is_err_and r.result r.ensures.1 in
-    let l = Leads-to steps limit _ _ c.loop-whole.invariant (ap₂ at (frames-pop _ _ c.pop.result c.in-Some-pop.container c.pop.ensures.items c.in-Some-pop.is) c.in-Some.is) in
+    let l = Leads-to steps limit _ _ c.loop-whole.invariant.reads (ap₂ at (frames-pop _ _ c.pop.result c.in-Some-pop.container c.pop.ensures.items c.in-Some-pop.is) c.in-Some.is) in
     rw (p.1, p.2) (Refuses-after steps limit _ _ _ _ l (c.in_err-whole-in-Some-pop.ensures.reads limit))
 
 pub returns-in_err-end-in-None-pop-clause-reads : goal.returns-in_err-end-in-None-pop-clause-reads
@@ -33,7 +37,7 @@ returns-in_err-end-in-None-pop-clause-reads g c =
     let r = c.from_residual-in_err-end-in-None-pop in
     let p = err_from_is_err_and r.result r.ensures.1 in
     let e : c.loop-whole.stack.items ≡ [] = search rules in
-    let l = Leads-to steps limit _ _ c.loop-whole.invariant (ap₂ at (ap frames e) c.in-Some.is) in
+    let l = Leads-to steps limit _ _ c.loop-whole.invariant.reads (ap₂ at (ap frames e) c.in-Some.is) in
     rw (p.1, p.2) (Refuses-after steps limit _ _ _ _ l (c.in_err-end-in-None-pop.ensures.reads limit (view c.in-Some.value)))
 
 pub returns-in-None-pop-clause-reads : goal.returns-in-None-pop-clause-reads
@@ -41,16 +45,42 @@ returns-in-None-pop-clause-reads g c =
     let steps = g.I.Iterator.next_gives in
     let limit = c.args.limit in
     let e : c.loop-whole.stack.items ≡ [] = search rules in
-    Leads-trans steps limit _ _ _ (Leads-to steps limit _ _ c.loop-whole.invariant (ap₂ at (ap frames e) c.in-Some.is)) (c.in_ok-end-in-None-pop.ensures.reads limit (view c.in-Some.value))
+    Leads-trans steps limit _ _ _ (Leads-to steps limit _ _ c.loop-whole.invariant.reads (ap₂ at (ap frames e) c.in-Some.is)) (c.in_ok-end-in-None-pop.ensures.reads limit (view c.in-Some.value))
 
 pub loop-whole-preserved-in_ok-whole-in-None : goal.loop-whole-preserved-in_ok-whole-in-None
 loop-whole-preserved-in_ok-whole-in-None g c =
     let steps = g.I.Iterator.next_gives in
     let limit = c.args.limit in
-    Leads-trans steps limit _ _ _ (Leads-to steps limit _ _ c.loop-whole.invariant (ap (at (frames c.loop-whole.stack.items)) c.in-None.is)) c.in_ok-whole-in-None.ensures.reads
+    record {
+      reads = Leads-trans steps limit _ _ _ (Leads-to steps limit _ _ c.loop-whole.invariant.reads (ap (at (frames c.loop-whole.stack.items)) c.in-None.is)) c.in_ok-whole-in-None.ensures.reads;
+      memory = turn-value steps _ _ _ c.loop-whole.stack.items _ c.loop-whole.whole _ c.in-None.is c.loop-whole.invariant.memory c.in_ok-whole-in-None.ensures.memory c.in_ok-whole-in-None.ensures.same;
+    }
 
 pub loop-whole-preserved : goal.loop-whole-preserved
 loop-whole-preserved g c =
     let steps = g.I.Iterator.next_gives in
     let limit = c.args.limit in
-    Leads-trans steps limit _ _ _ (Leads-to steps limit _ _ c.loop-whole.invariant (ap₂ at (frames-pop _ _ c.pop.result c.in-Some-pop.container c.pop.ensures.items c.in-Some-pop.is) c.in-Some.is)) (c.in_ok-whole-in-Some-pop.ensures.reads limit)
+    record {
+      reads =
+          Leads-trans steps limit _ _ _ (Leads-to steps limit _ _ c.loop-whole.invariant.reads (ap₂ at (frames-pop _ _ c.pop.result c.in-Some-pop.container c.pop.ensures.items c.in-Some-pop.is) c.in-Some.is)) (c.in_ok-whole-in-Some-pop.ensures.reads limit);
+      memory = inl (turn-open steps _ _ _ _ c.loop-whole.whole c.pop.result c.in-Some-pop.container c.pop.ensures.items c.in-Some-pop.is c.loop-whole.invariant.memory);
+    }
+
+pub returns-in_err-whole-in-None-clause-memory : goal.returns-in_err-whole-in-None-clause-memory
+returns-in_err-whole-in-None-clause-memory g c =
+    let steps = g.I.Iterator.next_gives in
+    let p = err_from_is_err_and c.from_residual.result c.from_residual.ensures.1 in
+    rw (p.1, p.2) (λ m. turn-grows steps _ _ c.loop-whole.stack.items c.loop-whole.whole c.in-None.is c.loop-whole.invariant.memory (c.in_err-whole-in-None.ensures.memory m))
+
+pub returns-in_err-whole-in-Some-pop-clause-memory : goal.returns-in_err-whole-in-Some-pop-clause-memory
+returns-in_err-whole-in-Some-pop-clause-memory g c =
+    let steps = g.I.Iterator.next_gives in
+    let r = c.from_residual-in_err-whole-in-Some-pop in
+    let p = err_from_is_err_and r.result r.ensures.1 in
+    rw (p.1, p.2) (λ m. turn-open steps _ _ _ _ c.loop-whole.whole c.pop.result c.in-Some-pop.container c.pop.ensures.items c.in-Some-pop.is c.loop-whole.invariant.memory)
+
+pub returns-in_err-end-in-None-pop-clause-memory : goal.returns-in_err-end-in-None-pop-clause-memory
+returns-in_err-end-in-None-pop-clause-memory g c =
+    let r = c.from_residual-in_err-end-in-None-pop in
+    let p = err_from_is_err_and r.result r.ensures.1 in
+    rw (p.1, p.2) (λ m. absurd (c.in_err-end-in-None-pop.ensures.memory m))

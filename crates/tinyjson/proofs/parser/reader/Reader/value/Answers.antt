@@ -1,12 +1,14 @@
-use Rattle.std.proofs.Common.{rules, arith, refl, Some, true, false, inl, inr, ◌≡◌, ◌∙◌, sym}
+use Rattle.std.proofs.Common.{IsTrue, rules, arith, refl, Some, true, false, inl, inr, ◌≡◌, ◌∙◌, sym}
 use Rattle.std.proofs.lemmas.Bool.Decides.{nat_tests}
 use Rattle.std.specs.Char.{is_ascii_digit}
 use Rattle.tinyjson.specs.declared.parser.error.JsonParseErrorKind.TheVariants.{UnexpectedEof, InvalidCharacter}
 use Rattle.tinyjson.proofs.Containers.{null_begins, true_begins, false_begins, string_begins}
 use Rattle.tinyjson.proofs.Cursors.{Takes-shown}
+use Rattle.tinyjson.specs.Refusal.{begins_growth}
+use Rattle.tinyjson.proofs.Growth.{grows-at, grows-for, grows-none, growth_of, digit-grows}
 use Rattle.tinyjson.proofs.Readings.{end_awaited, Leads-whites, Leads-one, Leads-end, Leads-shown, Refuses-as, Reads-after, white_awaited, invalid}
 use Rattle.tinyjson.proofs.parser.reader.Reader.value.Goals as goal
-use Rattle.tinyjson.proofs.parser.reader.Reader.value.Goals.{in_default-first-via-then-first-lt48, in_default-first-via-else-first-lt48+else-first-lt58}
+use Rattle.tinyjson.proofs.parser.reader.Reader.value.Goals.{in-45-1, in_default+else-first-lt48+then-first-lt58, in_default-first-via-then-first-lt48, in_default-first-via-else-first-lt48+else-first-lt58}
 
 pub returns-in_default-clause-reads : goal.returns-in_default-clause-reads
 returns-in_default-clause-reads g c =
@@ -78,7 +80,38 @@ returns-in_default-first-clause-reads g c =
     let steps = g.I.Iterator.next_gives in
     let limit = c.args.limit in
     let d : is_ascii_digit c.in-Some.first ≡ false =
-        elim c.in_default-first-1.branch [ in_default-first-via-then-first-lt48 w ↦ grind (arith, nat_tests) | in_default-first-via-else-first-lt48+else-first-lt58 w ↦ grind (arith, nat_tests) ] in
+    elim c.in_default-first-1.branch [ in_default-first-via-then-first-lt48 w ↦ grind (arith, nat_tests) | in_default-first-via-else-first-lt48+else-first-lt58 w ↦ grind (arith, nat_tests) ] in
     Refuses-as steps limit _ _ c.refuse-in_default-first.result (InvalidCharacter c.in-Some.first) c.refuse-in_default-first.ensures.kind c.refuse-in_default-first.ensures.at
     (Leads-shown steps limit _ _ c.in-Some.first (Leads-whites steps limit _ _ _ c.skip_white.ensures.white tt (white_awaited limit _)) c.in-Some.ensures.shows
     (invalid limit _ c.in-Some.first c.in-Some.ensures.stops (search rules) (search rules) (search rules) (search rules) (search rules) (search rules) (search rules) d) tt)
+
+pub returns-in-n-clause-memory : goal.returns-in-n-clause-memory
+returns-in-n-clause-memory g c = grows-none g.I.Iterator.next_gives _ _ c.literal.ensures.whole c.literal.ensures.memory
+
+pub returns-in-t-clause-memory : goal.returns-in-t-clause-memory
+returns-in-t-clause-memory g c = grows-none g.I.Iterator.next_gives _ _ c.literal-in-t.ensures.whole c.literal-in-t.ensures.memory
+
+pub returns-in-f-clause-memory : goal.returns-in-f-clause-memory
+returns-in-f-clause-memory g c = grows-none g.I.Iterator.next_gives _ _ c.literal-in-f.ensures.whole c.literal-in-f.ensures.memory
+
+pub returns-in-34-clause-memory : goal.returns-in-34-clause-memory
+returns-in-34-clause-memory g c =
+    let steps = g.I.Iterator.next_gives in
+    grows-for steps _ _ (grows-at steps _ _ c.in-Some.first c.skip_white.ensures.white c.in-Some.ensures.shows (growth_of c.in-Some.first 34 (search rules) refl))
+
+pub returns-in-91-clause-memory : goal.returns-in-91-clause-memory
+returns-in-91-clause-memory g c =
+    let steps = g.I.Iterator.next_gives in
+    grows-for steps _ _ (grows-at steps _ _ c.in-Some.first c.skip_white.ensures.white c.in-Some.ensures.shows (growth_of c.in-Some.first 91 (search rules) refl))
+
+pub returns-in-123-clause-memory : goal.returns-in-123-clause-memory
+returns-in-123-clause-memory g c =
+    let steps = g.I.Iterator.next_gives in
+    grows-for steps _ _ (grows-at steps _ _ c.in-Some.first c.skip_white.ensures.white c.in-Some.ensures.shows (growth_of c.in-Some.first 123 (search rules) refl))
+
+pub returns-in-45-clause-memory : goal.returns-in-45-clause-memory
+returns-in-45-clause-memory g c =
+    let steps = g.I.Iterator.next_gives in
+    let grows : IsTrue (begins_growth c.in-Some.first) =
+    elim c.in-45-1.branch [ in-45-1 w ↦ growth_of c.in-Some.first 45 (search rules) refl | in_default+else-first-lt48+then-first-lt58 w ↦ digit-grows c.in-Some.first (grind (arith, nat_tests)) ] in
+    grows-for steps _ _ (grows-at steps _ _ c.in-Some.first c.skip_white.ensures.white c.in-Some.ensures.shows grows)

@@ -1,0 +1,143 @@
+-- What `parse` answers, from what the reader did.
+use Rattle.std.proofs.Common.{◌≡◌, ℕ, zero, suc, ◌≤◌, Bool, true, false, List, [], ◌∷◌, ◌++◌, length, Result, Ok, Err, OnOk, IfErr, Option, Some, None, MatchResult, refl, sym, ap, ◌∙◌, subst, append-nil, arith, ⊎_elim, ◌⊎◌}
+use Rattle.std.specs.Prelude.{All}
+use Rattle.std.specs.Char.{IsScalar}
+use Rattle.tinyjson.specs.Cursor.{Gives, Shows, place}
+use Rattle.tinyjson.specs.Error.{error_position}
+use Rattle.tinyjson.specs.Grammar.{IsText}
+use Rattle.tinyjson.specs.Machine.{Frame, Phase, State, Next, next, stop, awaited, finished, accepted, refused, step, end, run, reach, reach_on, strictly}
+use Rattle.tinyjson.specs.Position.{advance}
+use Rattle.tinyjson.specs.Reading.{IsNext, IsHeld, Leads, Halts, Refuses, Reads, Grows, behind, outcome}
+use Rattle.tinyjson.specs.Refusal.{IsInterrupted, IsRefusal, MayGrow, RefusalSays}
+use Rattle.tinyjson.specs.Tree.{Tree}
+use Rattle.tinyjson.specs.View.{view}
+use Rattle.tinyjson.specs.declared.parser.cursor.Cursor.{Cursor}
+use Rattle.tinyjson.specs.declared.parser.error.JsonParseError.{JsonParseError}
+use Rattle.tinyjson.specs.declared.parser.error.JsonParseErrorKind.{JsonParseErrorKind}
+use Rattle.tinyjson.specs.declared.parser.error.JsonParseErrorKind.TheVariants as kind
+use Rattle.tinyjson.specs.declared.value.JsonValue.{JsonValue}
+use Rattle.tinyjson.proofs.Cursors.{nothing_left}
+use Rattle.tinyjson.proofs.Grammar.InRange.{ranges}
+use Rattle.tinyjson.proofs.Grammar.Memory.{interrupted, interrupted-late}
+use Rattle.tinyjson.proofs.Grammar.Theorem.{accepts, refuses}
+use Rattle.tinyjson.proofs.Readings.{Comes-outcome}
+
+end-finished : (limit : Option ℕ) (t : Tree) → outcome limit (next [] (finished t)) [] ≡ accepted t
+unfolding run end
+end-finished limit t = refl
+
+-- ---- want of memory
+
+module _ (limit : Option ℕ) where
+  behind-stop : (k : JsonParseErrorKind) (b : Bool) (xs : List ℕ) → IsNext (behind limit (stop k b) xs) → ⊥
+  behind-stop k b [] h = h
+  behind-stop k b (c ∷ cs) h = behind-stop k false cs h
+
+  behind-reach : (fs : List Frame) (p : Phase) (xs : List ℕ) → IsNext (behind limit (next fs p) xs) → (s : State) × (reach (strictly limit) fs p xs ≡ Some s)
+  unfolding reach
+  behind-reach fs p [] h = (record { frames = fs; phase = p }, refl)
+  behind-reach fs p (c ∷ cs) h = go (step (strictly limit) fs p c) h (λ gs q. behind-reach gs q cs)
+    where
+      go : (n : Next) → IsNext (behind limit n cs) → ((gs : List Frame) (q : Phase) → IsNext (behind limit (next gs q) cs) → (s : State) × (reach (strictly limit) gs q cs ≡ Some s)) →
+          (s : State) × (reach_on (λ gs q. reach (strictly limit) gs q cs) n ≡ Some s)
+      go (next gs q) h more = more gs q h
+      go (stop k b) h more = absurd (behind-stop k b cs h)
+
+all-front : (xs ys : List ℕ) → All IsScalar (xs ++ ys) → All IsScalar xs
+all-front [] ys h k d l = absurd (omega (arith, l))
+all-front (x ∷ xs) ys h zero d l = h 0 d (omega arith)
+all-front (x ∷ xs) ys h (suc k) d l = all-front xs ys (λ j e m. h (suc j) e (omega (arith, m))) k d (omega (arith, l))
+
+pub all-rest : (xs ys : List ℕ) → All IsScalar (xs ++ ys) → All IsScalar ys
+all-rest [] ys h = h
+all-rest (x ∷ xs) ys h = all-rest xs ys (λ j e m. h (suc j) e (omega (arith, m)))
+
+module _ (limit : Option ℕ) where
+  held-interrupted : (xs : List ℕ) → All IsScalar xs → IsHeld limit (next [] awaited) xs → IsInterrupted limit xs
+  held-interrupted xs a h = go h.late h.whole h.short
+    where
+      go : (late : List ℕ) → xs ≡ h.front ++ late → length late ≤ 1 → IsInterrupted limit xs
+      go [] e s =
+          let same : xs ≡ h.front = e ∙ append-nil h.front in
+          let r = behind-reach limit [] awaited h.front h.goes in
+          subst (IsInterrupted limit) (sym same) (interrupted ranges limit h.front (subst (All IsScalar) same a) r.0 r.1)
+      go (c ∷ []) e s =
+          let r = behind-reach limit [] awaited h.front h.goes in
+          subst (IsInterrupted limit) (sym e) (interrupted-late ranges limit h.front (all-front h.front (c ∷ []) (subst (All IsScalar) e a)) r.0 r.1 c)
+      go (c ∷ d ∷ ds) e s = absurd (omega (arith, s))
+
+  refusal-says : (k : JsonParseErrorKind) (used rest : List ℕ) → IsRefusal limit k used rest → RefusalSays limit k used rest
+  refusal-says kind.OutOfMemory used rest r = absurd r.says
+  refusal-says kind.UnexpectedEof used rest r = r
+  refusal-says (kind.InvalidCharacter c) used rest r = r
+  refusal-says (kind.ExpectedEof c) used rest r = r
+  refusal-says (kind.KeyNotString k) used rest r = r
+  refusal-says (kind.ExpectedColon c) used rest r = r
+  refusal-says (kind.ExpectedCommaOrBrace c) used rest r = r
+  refusal-says (kind.ExpectedCommaOrBracket c) used rest r = r
+  refusal-says kind.InvalidUtf16 used rest r = r
+  refusal-says (kind.InvalidHexDigit c) used rest r = r
+  refusal-says (kind.InvalidEscape c) used rest r = r
+  refusal-says (kind.ControlCharacter c) used rest r = r
+  refusal-says (kind.UnexpectedInLiteral c) used rest r = r
+  refusal-says kind.EmptyInteger used rest r = r
+  refusal-says kind.LeadingZero used rest r = r
+  refusal-says kind.EmptyFraction used rest r = r
+  refusal-says kind.EmptyExponent used rest r = r
+  refusal-says kind.NumberOutOfRange used rest r = r
+  refusal-says (kind.TooDeep c) used rest r = r
+
+-- ---- the whole call
+
+module _ {S : Type 0} (steps : S → Option ℕ → S → Type 0) (limit : Option ℕ) where
+  -- What a reader that stood at p took of xs, and what it answered.
+  pub record Answered (p : Cursor S) (xs : List ℕ) (r : Result JsonValue JsonParseError) (q : Cursor S) : Type 0 where
+    pub consumed : List ℕ
+    pub rest : List ℕ
+    pub whole : xs ≡ consumed ++ rest
+    pub gives : Gives steps q rest
+    pub moves : place q ≡ advance (place p) consumed
+    pub answer : MatchResult r
+        (λ v. (rest ≡ []) × IsText limit xs (view v))
+        (λ e. (error_position e ≡ place q) × RefusalSays limit e.kind consumed rest)
+
+  answered-error : (p q : Cursor S) (e : JsonParseError) (xs : List ℕ) → Gives steps p xs → All IsScalar xs → Refuses steps limit p (next [] awaited) e q → (e.kind ≡ kind.OutOfMemory → Grows steps p) → Answered p xs (Err e) q
+  answered-error p q e xs g a r m = ⊎_elim told wanted r.why
+    where
+      told : (k : JsonParseErrorKind) × (e.kind ≡ k) × Leads steps limit p (next [] awaited) q (stop k true) → Answered p xs (Err e) q
+      told w =
+          let x = w.2.gives xs g in
+          let ran : run (strictly limit) [] awaited (w.2.taken ++ x.0) ≡ refused w.0 x.0 = Comes-outcome limit (next [] awaited) (stop w.0 true) w.2.taken x.0 x.3 in
+          let s = refuses limit w.2.taken x.0 (subst (All IsScalar) x.1 a) w.0 ran in
+          record {
+            consumed = w.2.taken;
+            rest = x.0;
+            whole = x.1;
+            gives = x.2;
+            moves = w.2.moves;
+            answer = (r.place, subst (λ k. RefusalSays limit k w.2.taken x.0) (sym w.1) (refusal-says limit w.0 w.2.taken x.0 s));
+          }
+
+      wanted : (e.kind ≡ kind.OutOfMemory) × Halts steps limit p (next [] awaited) q → Answered p xs (Err e) q
+      wanted w =
+          let x = w.1.gives xs g in
+          let i = held-interrupted limit w.1.taken (all-front w.1.taken x.0 (subst (All IsScalar) x.1 a)) x.3 in
+          let n = subst MayGrow x.1 (m w.0 xs g) in
+          record {
+            consumed = w.1.taken;
+            rest = x.0;
+            whole = x.1;
+            gives = x.2;
+            moves = w.1.moves;
+            answer = (r.place, subst (λ k. RefusalSays limit k w.1.taken x.0) (sym w.0) (i, n));
+          }
+
+  pub answered : (p q : Cursor S) (r : Result JsonValue JsonParseError) → Reads steps limit p (next [] awaited) r (λ v. next [] (finished (view v))) q → OnOk r (Shows q None)
+      → IfErr r (λ e. e.kind ≡ kind.OutOfMemory → Grows steps p) → (xs : List ℕ) → Gives steps p xs → All IsScalar xs → Answered p xs r q
+  answered p q (Ok v) l s m xs g a =
+      let x = l.gives xs g in
+      let n = nothing_left steps q x.0 s x.2 in
+      let w = next [] (finished (view v)) in
+      let ran : run (strictly limit) [] awaited xs ≡ accepted (view v) = ap (outcome limit (next [] awaited)) x.1 ∙ Comes-outcome limit (next [] awaited) w l.taken x.0 x.3 ∙ ap (outcome limit w) n ∙ end-finished limit (view v) in
+      record { consumed = l.taken; rest = x.0; whole = x.1; gives = x.2; moves = l.moves; answer = (n, (accepts limit xs a (view v)).0 ran) }
+  answered p q (Err e) l s m xs g a = answered-error p q e xs g a l m
