@@ -1,6 +1,8 @@
 pub mod Tree
 pub mod Kind
 pub mod View
+pub mod Equality
+pub mod Access
 pub mod Soundness
 pub mod Characters
 pub mod Syntax

@@ -7,6 +7,13 @@ use crate::number::JsonNumber;
 use std::collections::HashMap;
 use std::fmt;
 
+mod access;
+mod copy;
+mod equality;
+mod members;
+
+pub use access::{InnerAsRef, InnerAsRefMut};
+
 /// A JSON value (RFC 8259, section 3), in plain containers.
 ///
 /// Contracts see it as its tree, `view`: an array as the list of its items' trees, an object as the
