@@ -3,6 +3,8 @@ pub mod Kind
 pub mod View
 pub mod Equality
 pub mod Access
+pub mod Convert
+pub mod Index
 pub mod Soundness
 pub mod Characters
 pub mod Syntax

@@ -1,5 +1,6 @@
 //! JSON values.
-ghost use Rattle.std.specs.Prelude.{◌≡◌};
+ghost use Rattle.std.specs.Prelude.{◌≡◌, is_some};
+ghost use Rattle.tinyjson.specs.Access.{number_part, boolean_part, string_part, null_part, array_part, object_part};
 ghost use Rattle.tinyjson.specs.Kind.{kind_of};
 ghost use Rattle.tinyjson.specs.View.{view};
 
@@ -8,11 +9,14 @@ use std::collections::HashMap;
 use std::fmt;
 
 mod access;
+mod convert;
 mod copy;
 mod equality;
+mod index;
 mod members;
 
 pub use access::{InnerAsRef, InnerAsRefMut};
+pub use convert::UnexpectedValue;
 
 /// A JSON value (RFC 8259, section 3), in plain containers.
 ///
@@ -75,5 +79,46 @@ impl JsonValue {
             JsonValue::Array(_) => JsonKind::Array,
             JsonValue::Object(_) => JsonKind::Object,
         }
+    }
+    /// Whether this is a truth value.
+    pub fn is_bool(&self) -> bool
+        ensures { result ≡ is_some (boolean_part self.now) }
+    {
+        matches!(self, JsonValue::Boolean(_))
+    }
+
+    /// Whether this is a number.
+    pub fn is_number(&self) -> bool
+        ensures { result ≡ is_some (number_part self.now) }
+    {
+        matches!(self, JsonValue::Number(_))
+    }
+
+    /// Whether this is a string.
+    pub fn is_string(&self) -> bool
+        ensures { result ≡ is_some (string_part self.now) }
+    {
+        matches!(self, JsonValue::String(_))
+    }
+
+    /// Whether this is null.
+    pub fn is_null(&self) -> bool
+        ensures { result ≡ is_some (null_part self.now) }
+    {
+        matches!(self, JsonValue::Null)
+    }
+
+    /// Whether this is an array.
+    pub fn is_array(&self) -> bool
+        ensures { result ≡ is_some (array_part self.now) }
+    {
+        matches!(self, JsonValue::Array(_))
+    }
+
+    /// Whether this is an object.
+    pub fn is_object(&self) -> bool
+        ensures { result ≡ is_some (object_part self.now) }
+    {
+        matches!(self, JsonValue::Object(_))
     }
 }
