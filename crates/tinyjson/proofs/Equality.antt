@@ -43,10 +43,10 @@ module _ {S : Type 0} (m n : HashMap (String Global) JsonValue S) where
 view-String : (s : String Global) → view (is.String s) ≡ string (text s)
 view-String s = search (rules, the_lemmas)
 
-view-Array : (v : Vec JsonValue Global) → view (is.Array v) ≡ array (items_view v.items)
+pub view-Array : (v : Vec JsonValue Global) → view (is.Array v) ≡ array (items_view v.items)
 view-Array v = search (rules, the_lemmas)
 
-view-Object : (m : JsonMap) → view (is.Object m) ≡ object (members_view m.entries)
+pub view-Object : (m : JsonMap) → view (is.Object m) ≡ object (members_view m.entries)
 view-Object m = search (rules, the_lemmas)
 
 module _ (v w : JsonValue) (r : Bool) where

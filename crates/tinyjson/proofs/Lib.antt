@@ -4,3 +4,5 @@ pub mod Entries
 pub mod Views
 pub mod Trees
 pub mod Equality
+pub mod Index
+pub mod Steps
