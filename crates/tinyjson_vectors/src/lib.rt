@@ -4,4 +4,6 @@
 pub mod access;
 pub mod conversions;
 #[cfg(test)]
+mod equality;
+#[cfg(test)]
 mod places;
