@@ -5,7 +5,8 @@ use Rattle.std.proofs.lemmas.List.{reverse-append, map-append, length-map, lengt
 use Rattle.std.specs.Option.{option_to_list}
 use Rattle.tinyjson.specs.Kind.{kind_of}
 use Rattle.tinyjson.specs.Tree.{Tree, Members, no_members, null, boolean, number, string, array, object}
-use Rattle.tinyjson.specs.View.{Map, view, items_view, members_view, text}
+use Rattle.tinyjson.specs.Access.{JsonMap}
+use Rattle.tinyjson.specs.View.{view, items_view, members_view, text}
 use Rattle.tinyjson_number.specs.Number.{Canonical}
 use Rattle.tinyjson.specs.declared.value.JsonValue.{JsonValue, out-JsonValue, roll-JsonValue, roll-out-JsonValue, the_lemmas}
 use Rattle.tinyjson.specs.declared.value.JsonValue.TheOpen.{JsonValue-F}
@@ -116,10 +117,10 @@ array_goes_on steps limit p q fs vs (Some c) h l s w k = Leads-shown steps limit
 pub view-String : (s : String Global) → view (is.String s) ≡ string (text s)
 view-String s = search (rules, the_lemmas)
 
-pub view-Object : (m : Map) → view (is.Object m) ≡ object (members_view m.entries)
+pub view-Object : (m : JsonMap) → view (is.Object m) ≡ object (members_view m.entries)
 view-Object m = search (rules, the_lemmas)
 
-pub object_closes_first : (limit : Option ℕ) (fs : List Frame) (m : Map) (c : ℕ) → m.entries ≡ [] → c ≡ 125 → onward limit (next (at_key no_members ∷ fs) first) c ≡ complete true fs (view (is.Object m)) true
+pub object_closes_first : (limit : Option ℕ) (fs : List Frame) (m : JsonMap) (c : ℕ) → m.entries ≡ [] → c ≡ 125 → onward limit (next (at_key no_members ∷ fs) first) c ≡ complete true fs (view (is.Object m)) true
 unfolding step
 object_closes_first limit fs m c h e = rw (view-Object m, h, e) refl
 
@@ -127,7 +128,7 @@ pub object_opens : (limit : Option ℕ) (fs : List Frame) (ms : Members) (c : �
 unfolding step
 object_opens limit fs ms c h w n = rw (h, w, ne_eqb c 125 n) refl
 
-pub object_closes : (limit : Option ℕ) (fs : List Frame) (ms : Members) (m : Map) (c : ℕ) → members_view m.entries ≡ ms → c ≡ 125 → onward limit (next (at_key ms ∷ fs) after) c ≡ complete true fs (view (is.Object m)) true
+pub object_closes : (limit : Option ℕ) (fs : List Frame) (ms : Members) (m : JsonMap) (c : ℕ) → members_view m.entries ≡ ms → c ≡ 125 → onward limit (next (at_key ms ∷ fs) after) c ≡ complete true fs (view (is.Object m)) true
 unfolding step
 object_closes limit fs ms m c h e = rw (view-Object m, h, e) refl
 

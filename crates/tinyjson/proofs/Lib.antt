@@ -11,3 +11,6 @@ pub mod StringReading
 pub mod Containers
 pub mod Growth
 pub mod Answering
+pub mod Equality
+pub mod Index
+pub mod Steps

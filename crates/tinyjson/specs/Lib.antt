@@ -1,6 +1,11 @@
 pub mod Tree
 pub mod Kind
 pub mod View
+pub mod Equality
+pub mod Access
+pub mod Convert
+pub mod Index
+pub mod Rows
 pub mod Soundness
 pub mod Characters
 pub mod Syntax

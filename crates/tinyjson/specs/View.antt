@@ -2,16 +2,9 @@
 use Rattle.std.specs.Prelude.{ℕ, List, [], ◌∷◌, map, String, string_bytes}
 use Rattle.std.specs.Str.{chars}
 use Rattle.std.specs.declared.alloc.Global.{Global}
-use Rattle.std.specs.HashMap.{HashMap}
-use Rattle.std.specs.declared.hash.BuildHasherDefault.{BuildHasherDefault}
-use Rattle.std.specs.declared.hash.FoldHasher.{FoldHasher}
 use Rattle.tinyjson.specs.Tree.{Tree, null, boolean, number, string, array, object, Items, items_of, Members, no_members, put}
 use Rattle.tinyjson.specs.declared.value.JsonValue.{JsonValue, fold-JsonValue}
 use Rattle.tinyjson.specs.declared.value.JsonValue.TheOpen.{JsonValue-F}
-
--- what an object holds
-abbrev pub Map : Type 0
-Map = HashMap (String Global) JsonValue (BuildHasherDefault FoldHasher)
 
 -- the characters of a text
 abbrev pub text : String Global → List ℕ

@@ -20,4 +20,4 @@ pub mod value;
 
 pub use number::JsonNumber;
 pub use parser::{JsonParseError, JsonParseErrorKind, JsonParseResult, JsonParser};
-pub use value::{JsonKind, JsonValue};
+pub use value::{InnerAsRef, InnerAsRefMut, JsonKind, JsonValue, UnexpectedValue};

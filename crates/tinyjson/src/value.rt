@@ -1,13 +1,23 @@
 //! JSON values.
-ghost use Rattle.std.specs.Prelude.{◌≡◌, IfOk, OnErr};
+ghost use Rattle.std.specs.Prelude.{◌≡◌, is_some};
+ghost use Rattle.tinyjson.specs.Access.{number_part, boolean_part, string_part, null_part, array_part, object_part};
 ghost use Rattle.tinyjson.specs.Kind.{kind_of};
-ghost use Rattle.tinyjson.specs.Tree.{put};
-ghost use Rattle.tinyjson.specs.View.{view, text, members_view};
+ghost use Rattle.tinyjson.specs.View.{view};
 
 use crate::number::JsonNumber;
-use std::alloc::AllocError;
 use std::collections::HashMap;
 use std::fmt;
+
+mod access;
+mod convert;
+mod copy;
+mod equality;
+mod index;
+mod members;
+
+pub use access::{InnerAsRef, InnerAsRefMut};
+pub use convert::UnexpectedValue;
+pub(crate) use members::insert_member;
 
 /// A JSON value (RFC 8259, section 3), in plain containers.
 ///
@@ -71,17 +81,46 @@ impl JsonValue {
             JsonValue::Object(_) => JsonKind::Object,
         }
     }
-}
 
-/// Puts the value at the key, in the place of what stood there.
-pub(crate) fn insert_member(
-    members: &mut HashMap<String, JsonValue>,
-    key: String,
-    value: JsonValue,
-) -> Result<(), AllocError>
-    ensures ok { IfOk result (λ _. members_view members.new.entries ≡ put (text key) (view value) (members_view members.old.entries)) }
-    ensures err { OnErr result (members.new.entries ≡ members.old.entries) }
-{
-    let _ = members.insert(key, value)?;
-    Ok(())
+    /// Whether this is a truth value.
+    pub fn is_bool(&self) -> bool
+        ensures { result ≡ is_some (boolean_part self.now) }
+    {
+        matches!(self, JsonValue::Boolean(_))
+    }
+
+    /// Whether this is a number.
+    pub fn is_number(&self) -> bool
+        ensures { result ≡ is_some (number_part self.now) }
+    {
+        matches!(self, JsonValue::Number(_))
+    }
+
+    /// Whether this is a string.
+    pub fn is_string(&self) -> bool
+        ensures { result ≡ is_some (string_part self.now) }
+    {
+        matches!(self, JsonValue::String(_))
+    }
+
+    /// Whether this is null.
+    pub fn is_null(&self) -> bool
+        ensures { result ≡ is_some (null_part self.now) }
+    {
+        matches!(self, JsonValue::Null)
+    }
+
+    /// Whether this is an array.
+    pub fn is_array(&self) -> bool
+        ensures { result ≡ is_some (array_part self.now) }
+    {
+        matches!(self, JsonValue::Array(_))
+    }
+
+    /// Whether this is an object.
+    pub fn is_object(&self) -> bool
+        ensures { result ≡ is_some (object_part self.now) }
+    {
+        matches!(self, JsonValue::Object(_))
+    }
 }

@@ -23,7 +23,7 @@ pub returns-in-Some-eq125-clause-reads : goal.returns-in-Some-eq125-clause-reads
 returns-in-Some-eq125-clause-reads g c = λ limit.
     let steps = g.I.Iterator.next_gives in
     Leads-one steps limit _ _ _ c.in-Some-eq125.field-0 (Leads-whites steps limit _ _ _ c.skip_white.ensures.white tt (white_after limit _)) c.in-Some-eq125.ensures.takes tt
-    (object_closes limit _ _ c.insert_member.new.members c.in-Some-eq125.field-0 (search rules) (search rules)) (taken_complete _ _)
+    (object_closes limit _ _ c.insert_member.new.map c.in-Some-eq125.field-0 (search rules) (search rules)) (taken_complete _ _)
 
 pub returns-in-Some-clause-reads : goal.returns-in-Some-clause-reads
 returns-in-Some-clause-reads g c = λ limit.

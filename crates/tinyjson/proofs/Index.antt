@@ -1,0 +1,42 @@
+-- The places in a value, and those in its tree.
+use Rattle.std.proofs.Common.{◌≡◌, ℕ, zero, suc, List, [], ◌∷◌, Option, Some, None, option_map, bytes_eq, string_bytes, Vec, Global, sym, ap, ◌∙◌, refl, subst}
+use Rattle.std.proofs.lemmas.Option.{slice_get_within}
+use Rattle.std.specs.HashMap.{get_by_text}
+use Rattle.std.specs.Map.{lookup}
+use Rattle.std.specs.Prelude.{◌<◌, IsSome, length, slice_get, option_and_then}
+use Rattle.std.specs.Str.{IsUtf8, chars}
+use Rattle.tinyjson.proofs.Equality.{view-Array, view-Object}
+use Rattle.tinyjson.proofs.Views.{find-members_view}
+use Rattle.tinyjson.specs.Access.{array_part, object_part}
+use Rattle.tinyjson.specs.Access.Laws.{put_of_array, put_of_object}
+use Rattle.tinyjson.specs.Index.{item_at, member_at, nth, tree_at, tree_at_key, IsItemAt, IsMemberAt}
+use Rattle.tinyjson.specs.Tree.{Tree}
+use Rattle.tinyjson.specs.View.{view, items_view}
+use Rattle.tinyjson.specs.declared.value.JsonValue.{JsonValue}
+
+nth_item : (vs : List JsonValue) (i : ℕ) (x : JsonValue) → slice_get vs i ≡ Some x → nth (items_view vs) i ≡ Some (view x)
+nth_item [] i x h = cc
+nth_item (v ∷ vs) zero x h = cc
+nth_item (v ∷ vs) (suc i) x h = nth_item vs i x h
+
+within : {A : Type 0} (xs : List A) (i : ℕ) (o : Option A) → slice_get xs i ≡ o → IsSome o → i < length xs
+within xs i (Some x) e h = slice_get_within xs i x e
+within xs i None e h = cc
+
+-- an index that has an item is within the array
+pub within_array : (v : JsonValue) (i : ℕ) (list : Vec JsonValue Global) → IsSome (item_at v i) → array_part v ≡ Some list → i < length list.items
+within_array v i list h held = within list.items i (slice_get list.items i) refl (subst (λ o. IsSome (option_and_then (λ (m : Vec JsonValue Global). slice_get m.items i) o)) held h)
+
+-- an item of the array that a value holds
+pub is_item_at : (v : JsonValue) (i : ℕ) (list : Vec JsonValue Global) (x : JsonValue) → array_part v ≡ Some list → slice_get list.items i ≡ Some x → IsItemAt v i x
+is_item_at v i list x held at = (
+  ap (λ o. option_and_then (λ (m : Vec JsonValue Global). slice_get m.items i) o) held ∙ at,
+  ap (λ t. tree_at t i) (ap view (sym (put_of_array v list held)) ∙ view-Array list) ∙ nth_item list.items i x at,
+)
+
+pub is_member_at : (v : JsonValue) (bs : List ℕ) (x : JsonValue) → IsUtf8 bs → member_at v bs ≡ Some x → IsMemberAt v bs x
+is_member_at v bs x u h = by (object_part v) refl h
+  where
+    by : (o : Option _) → object_part v ≡ o → option_and_then (λ m. get_by_text m bs) o ≡ Some x → IsMemberAt v bs x
+    by None e g = cc
+    by (Some m) e g = (h, ap (λ t. tree_at_key t (chars bs)) (ap view (sym (put_of_object v m e)) ∙ view-Object m) ∙ (find-members_view bs u m.entries ∙ ap (option_map view) g))

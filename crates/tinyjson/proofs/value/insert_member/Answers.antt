@@ -1,5 +1,0 @@
-use Rattle.tinyjson.proofs.Views.{members_view-updates}
-use Rattle.tinyjson.proofs.value.insert_member.Goals as goal
-
-pub returns-clause-ok : goal.returns-clause-ok
-returns-clause-ok c = members_view-updates c.args.members.now.entries c.insert.new.self.entries c.args.key c.args.value c.in_ok-insert.ensures.updates.0

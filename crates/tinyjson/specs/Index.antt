@@ -1,0 +1,46 @@
+-- The places in a value: an item of an array, a member of an object.
+use Rattle.std.specs.Prelude.{◌≡◌, ℕ, zero, suc, List, Option, Some, None, slice_get, option_and_then}
+use Rattle.std.specs.HashMap.{get_by_text}
+use Rattle.std.specs.Option.{option_map_or}
+use Rattle.std.specs.Str.{chars}
+use Rattle.std.specs.Vec.{with_item}
+use Rattle.tinyjson.specs.Access.{array_part, object_part}
+use Rattle.tinyjson.specs.Tree.{Tree, null, boolean, number, string, array, object, Items, no_items, item, find}
+use Rattle.tinyjson.specs.View.{view}
+use Rattle.tinyjson.specs.declared.value.JsonValue as made
+use Rattle.tinyjson.specs.declared.value.JsonValue.{JsonValue}
+
+-- the item at the index
+abbrev pub item_at : JsonValue → ℕ → Option JsonValue
+item_at v i = option_and_then (λ list. slice_get list.items i) (array_part v)
+
+-- the member at the key whose bytes are bs
+abbrev pub member_at : JsonValue → List ℕ → Option JsonValue
+member_at v bs = option_and_then (λ m. get_by_text m bs) (object_part v)
+
+abbrev pub nth : Items → ℕ → Option Tree
+nth no_items i = None
+nth (item t ts) zero = Some t
+nth (item t ts) (suc i) = nth ts i
+
+-- the tree at the index, in a tree
+abbrev pub tree_at : Tree → ℕ → Option Tree
+tree_at (array ts) i = nth ts i
+tree_at _ i = None
+
+-- the tree at the key, in a tree
+abbrev pub tree_at_key : Tree → List ℕ → Option Tree
+tree_at_key (object ms) k = find k ms
+tree_at_key _ k = None
+
+-- x is the item at the index, and its tree is the one that v's tree has there
+abbrev pub IsItemAt : JsonValue → ℕ → JsonValue → Type 0
+IsItemAt v i x = (item_at v i ≡ Some x) × (tree_at (view v) i ≡ Some (view x))
+
+-- x is the member at the key, and its tree is the one that v's tree has there
+abbrev pub IsMemberAt : JsonValue → List ℕ → JsonValue → Type 0
+IsMemberAt v bs x = (member_at v bs ≡ Some x) × (tree_at_key (view v) (chars bs) ≡ Some (view x))
+
+-- v with w in place of the item at the index
+abbrev pub with_item_at : JsonValue → ℕ → JsonValue → JsonValue
+with_item_at v i w = option_map_or (λ list. made.Array (with_item list i w)) (array_part v) v

@@ -1,0 +1,145 @@
+//! A type of a user's own that sees a part of a value, and a function over every such type.
+ghost use Rattle.std.specs.Prelude.{◌≡◌, Some, None, Ok, Err, refl};
+ghost use Rattle.tinyjson_vectors.specs.Access.{mark_part};
+
+use std::mem;
+use tinyjson::{InnerAsRef, InnerAsRefMut, JsonValue};
+
+/// Sees null, and nothing for writing.
+#[derive(Debug, Drop)]
+pub struct NullMark;
+
+impl InnerAsRef for NullMark {
+    ghost part = { mark_part };
+
+    fn json_value_as(v: &JsonValue) -> Option<&NullMark> {
+        match v {
+            JsonValue::Null => Some(&NullMark),
+            _ => None,
+        }
+    }
+}
+
+impl InnerAsRefMut for NullMark {
+    ghost part = { λ _. None };
+
+    ghost put = { λ v _. v };
+
+    fn json_value_as_mut(_v: &mut JsonValue) -> Option<&mut NullMark> {
+        None
+    }
+
+    ghost part_of_put = { λ v x seen. Prim.cc };
+
+    ghost put_of_part = { λ v x same. refl };
+}
+
+/// Puts `x` in the place of the part that `T` sees, and answers that part. Where `T` sees nothing,
+/// it gives `x` back as an `Err`, and the value stays as it is.
+///
+/// ```
+/// let mut value = JsonValue::Boolean(false);
+/// assert!(rt; swap_in(&mut value, true) == Ok(false));
+/// assert!(rt; value == JsonValue::Boolean(true));
+/// ```
+pub fn swap_in<T: InnerAsRefMut>(v: &mut JsonValue, x: T) -> Result<T, T>
+    ensures seen { (old : T) → T.part v.old ≡ Some old → (result ≡ Ok old) × (v.new ≡ T.put v.old x) }
+    ensures unseen { T.part v.old ≡ None → (result ≡ Err x) × (v.new ≡ v.old) }
+{
+    match v.get_mut::<T>() {
+        Some(place) => Ok(mem::replace(place, x)),
+        None => Err(x),
+    }
+}
+
+#[cfg(test)]
+mod tests {
+    use super::*;
+    use std::collections::HashMap;
+    use std::test::Fail;
+    use tinyjson::JsonNumber;
+
+    #[test]
+    fn the_mark_sees_null(rt: HostRuntime) {
+        assert!(rt; JsonValue::Null.get::<NullMark>().is_some());
+        assert!(rt; JsonValue::Boolean(false).get::<NullMark>().is_none());
+        assert!(rt; JsonValue::Null.get_mut::<NullMark>().is_none());
+    }
+
+    #[test]
+    fn a_part_is_swapped(rt: HostRuntime) {
+        let mut value = JsonValue::Boolean(false);
+        assert_eq!(rt; swap_in(&mut value, true), Ok(false));
+        assert!(rt; value == JsonValue::Boolean(true));
+        let mut null = JsonValue::Null;
+        assert_eq!(rt; swap_in(&mut null, true), Err(true));
+        assert!(rt; null == JsonValue::Null);
+        assert!(rt; swap_in(&mut null, NullMark).is_err());
+    }
+
+    #[test]
+    fn a_string_is_seen_as_a_string(rt: HostRuntime) -> Result<(), Fail> {
+        let value = JsonValue::from("this is string".to_string(rt.alloc())?);
+        assert!(rt; value.get::<JsonNumber>().is_none());
+        assert!(rt;
+            value
+                .get::<String>()
+                .is_some_and(|s| s.as_str() == "this is string")
+        );
+        assert!(rt; matches!(value, JsonValue::String(_)));
+        assert!(rt; value.is_string());
+        let text = String::try_from(value)?;
+        assert_eq!(rt; text.as_str(), "this is string");
+        Ok(())
+    }
+
+    #[test]
+    fn an_array_is_seen_and_written(rt: HostRuntime) -> Result<(), Fail> {
+        let alloc = rt.alloc();
+        let zero = || JsonValue::from(JsonNumber::zero());
+        let mut value = JsonValue::from(vec![in alloc; zero(), zero(), zero()]?);
+        assert!(rt;
+            value
+                .get::<Vec<JsonValue>>()
+                .is_some_and(|items| items.first() == Some(&zero()))
+        );
+        assert!(rt; value.get::<JsonNumber>().is_none());
+        assert!(rt; value.get_mut::<JsonNumber>().is_none());
+        if let Some(first) = value
+            .get_mut::<Vec<JsonValue>>()
+            .and_then(|items| items.first_mut())
+        {
+            *first = JsonValue::from(false);
+        }
+        let expected = vec![in alloc; JsonValue::Boolean(false), zero(), zero()]?;
+        assert!(rt; value == JsonValue::Array(expected));
+        Ok(())
+    }
+
+    #[test]
+    fn each_kind_is_told(rt: HostRuntime) -> Result<(), Fail> {
+        let alloc = rt.alloc();
+        let values = vec![in alloc;
+            JsonValue::from(true),
+            JsonValue::from(JsonNumber::zero()),
+            JsonValue::from("foo".to_string(alloc)?),
+            JsonValue::from(()),
+            JsonValue::from(Vec::new(alloc)),
+            JsonValue::from(HashMap::new(alloc)),
+        ]?;
+        for (place, value) in values.iter().enumerate() {
+            let told = [
+                value.is_bool(),
+                value.is_number(),
+                value.is_string(),
+                value.is_null(),
+                value.is_array(),
+                value.is_object(),
+            ];
+            for (kind, is) in told.iter().enumerate() {
+                assert_eq!(rt; *is, kind == place, "value {place} at test {kind}");
+            }
+        }
+        Ok(())
+    }
+}

@@ -1,0 +1,9 @@
+//! Users of the crate `tinyjson`, and the tests that need more than one of its modules.
+#![tactic(auto)]
+
+pub mod access;
+pub mod conversions;
+#[cfg(test)]
+mod equality;
+#[cfg(test)]
+mod places;

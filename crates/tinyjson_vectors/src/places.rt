@@ -1,0 +1,83 @@
+//! Values by index and by key.
+ghost use Rattle.std.specs.Prelude.{IsTrue, IsSome, ◌↔◌};
+ghost use Rattle.tinyjson.specs.Index.{item_at, member_at};
+
+use std::alloc::{AllocError, Global};
+use std::collections::HashMap;
+use std::test::Fail;
+use tinyjson::{JsonNumber, JsonValue};
+
+fn number() -> JsonValue {
+    JsonValue::from(JsonNumber::zero())
+}
+
+fn object(alloc: Global, key: &str, value: JsonValue) -> Result<JsonValue, AllocError> {
+    let mut members = HashMap::new(alloc);
+    members.insert(key.to_string(alloc)?, value)?;
+    Ok(JsonValue::from(members))
+}
+
+/// `{"foo": {"bar": [{"target": 0}]}}`
+fn document(alloc: Global) -> Result<JsonValue, AllocError> {
+    let target = object(alloc, "target", number())?;
+    let bar = JsonValue::from(vec![in alloc; target]?);
+    object(alloc, "foo", object(alloc, "bar", bar)?)
+}
+
+fn has_member(value: &JsonValue, key: &str) -> bool
+    ensures { IsTrue result ↔ IsSome (member_at value.now key.now) }
+{
+    value
+        .get::<HashMap<String, JsonValue>>()
+        .is_some_and(|members| members.contains_key(key))
+}
+
+fn has_item(value: &JsonValue, index: usize) -> bool
+    ensures { IsTrue result ↔ IsSome (item_at value.now index) }
+{
+    value
+        .get::<Vec<JsonValue>>()
+        .is_some_and(|items| index < items.len())
+}
+
+#[test]
+fn a_member_by_its_key(rt: HostRuntime) -> Result<(), Fail> {
+    let alloc = rt.alloc();
+    let mut value = object(alloc, "foo", JsonValue::from(true))?;
+    assert!(rt; has_member(&value, "foo"));
+    assert!(rt; value["foo"] == JsonValue::Boolean(true));
+    value["foo"] = JsonValue::from("hello".to_string(alloc)?);
+    assert!(rt; value == object(alloc, "foo", JsonValue::from("hello".to_string(alloc)?))?);
+    Ok(())
+}
+
+#[test]
+fn an_item_by_its_index(rt: HostRuntime) -> Result<(), Fail> {
+    let alloc = rt.alloc();
+    let mut value = JsonValue::from(vec![in alloc; number(), true.into()]?);
+    assert!(rt; has_item(&value, 1));
+    assert!(rt; value[1] == JsonValue::Boolean(true));
+    value[1] = JsonValue::from(());
+    let expected = vec![in alloc; number(), JsonValue::Null]?;
+    assert!(rt; value == JsonValue::Array(expected));
+    Ok(())
+}
+
+#[test]
+fn a_place_further_in(rt: HostRuntime) -> Result<(), Fail> {
+    let alloc = rt.alloc();
+    let mut json = document(alloc)?;
+    assert!(rt; has_member(&json, "foo"));
+    assert!(rt; has_member(&json["foo"], "bar"));
+    assert!(rt; has_item(&json["foo"]["bar"], 0));
+    assert!(rt; has_member(&json["foo"]["bar"][0], "target"));
+    assert!(rt; json["foo"]["bar"][0]["target"] == number());
+    json["foo"]["bar"][0]["target"] = JsonValue::Boolean(false);
+    assert!(rt; json != document(alloc)?);
+    assert!(rt; has_member(&json, "foo"));
+    assert!(rt; has_member(&json["foo"], "bar"));
+    assert!(rt; has_item(&json["foo"]["bar"], 0));
+    assert!(rt; has_member(&json["foo"]["bar"][0], "target"));
+    assert!(rt; json["foo"]["bar"][0]["target"] == JsonValue::Boolean(false));
+    Ok(())
+}
