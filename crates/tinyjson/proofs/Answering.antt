@@ -1,12 +1,18 @@
 -- What `parse` answers, from what the reader did.
-use Rattle.std.proofs.Common.{◌≡◌, ℕ, zero, suc, ◌≤◌, Bool, true, false, List, [], ◌∷◌, ◌++◌, length, Result, Ok, Err, OnOk, IfErr, Option, Some, None, MatchResult, refl, sym, ap, ◌∙◌, subst, append-nil, arith, ⊎_elim, ◌⊎◌}
+use Rattle.std.proofs.Common.{◌≡◌, IsTrue, ℕ, zero, suc, ◌≤◌, Bool, true, false, List, [], ◌∷◌, ◌++◌, length, Result, Ok, Err, OnOk, IfErr, Option, Some, None, MatchResult, refl, sym, ap, ◌∙◌, subst, append-nil, arith, ⊎_elim, ◌⊎◌}
 use Rattle.std.specs.Prelude.{All}
+use Rattle.std.proofs.lemmas.Bool.{and_parts}
 use Rattle.std.specs.Char.{IsScalar}
+use Rattle.std.specs.Str.{all_scalars}
+use lib.Utf8.{scalar as is_scalar}
+use Rattle.std.specs.declared.iter.Iterator as iterator
+use Rattle.tinyjson.specs.Parser.{Parses, ParsesText, parser_position, parser_limit}
+use Rattle.tinyjson.specs.declared.parser.JsonParser.{JsonParser}
 use Rattle.tinyjson.specs.Cursor.{Gives, Shows, place}
 use Rattle.tinyjson.specs.Error.{error_position}
 use Rattle.tinyjson.specs.Grammar.{IsText}
 use Rattle.tinyjson.specs.Machine.{Frame, Phase, State, Next, next, stop, awaited, finished, accepted, refused, step, end, run, reach, reach_on, strictly}
-use Rattle.tinyjson.specs.Position.{advance}
+use Rattle.tinyjson.specs.Position.{advance, origin}
 use Rattle.tinyjson.specs.Reading.{IsNext, IsHeld, Leads, Halts, Refuses, Reads, Grows, behind, outcome}
 use Rattle.tinyjson.specs.Refusal.{IsInterrupted, IsRefusal, MayGrow, RefusalSays}
 use Rattle.tinyjson.specs.Tree.{Tree}
@@ -141,3 +147,18 @@ module _ {S : Type 0} (steps : S → Option ℕ → S → Type 0) (limit : Optio
       let ran : run (strictly limit) [] awaited xs ≡ accepted (view v) = ap (outcome limit (next [] awaited)) x.1 ∙ Comes-outcome limit (next [] awaited) w l.taken x.0 x.3 ∙ ap (outcome limit w) n ∙ end-finished limit (view v) in
       record { consumed = l.taken; rest = x.0; whole = x.1; gives = x.2; moves = l.moves; answer = (n, (accepts limit xs a (view v)).0 ran) }
   answered p q (Err e) l s m xs g a = answered-error p q e xs g a l m
+
+pub all-scalars : (xs : List ℕ) → IsTrue (all_scalars xs) → All IsScalar xs
+all-scalars [] h k d l = absurd (omega (arith, l))
+all-scalars (x ∷ xs) h zero d l = (and_parts (is_scalar x) (all_scalars xs) h).0
+all-scalars (x ∷ xs) h (suc k) d l = all-scalars xs (and_parts (is_scalar x) (all_scalars xs) h).1 k d (omega (arith, l))
+
+-- a new parser over a text
+pub parses-text : {S : Type 0} {g : iterator.Ghosts S ℕ} (xs : List ℕ) (p q : JsonParser S g) (r : Result JsonValue JsonParseError) → parser_position p ≡ origin → parser_limit p ≡ None → Parses p xs r q → ParsesText xs r
+parses-text xs p q (Ok v) h n a = record { consumed = a.consumed; rest = a.rest; whole = a.whole; answer = subst (λ l. (a.rest ≡ []) × IsText l xs (view v)) n a.answer }
+parses-text xs p q (Err e) h n a = record {
+  consumed = a.consumed;
+  rest = a.rest;
+  whole = a.whole;
+  answer = (a.answer.0 ∙ a.position ∙ ap (λ x. advance x a.consumed) h, subst (λ l. RefusalSays l e.kind a.consumed a.rest) n a.answer.1);
+}
