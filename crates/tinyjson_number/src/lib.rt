@@ -6,6 +6,7 @@
 
 mod digits;
 mod error;
+mod integer;
 mod literal;
 mod number;
 mod reading;
