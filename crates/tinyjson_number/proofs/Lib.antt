@@ -6,3 +6,4 @@ pub mod Runs
 pub mod Literals
 pub mod Readings
 pub mod Integers
+pub mod Laws
