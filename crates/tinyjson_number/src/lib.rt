@@ -14,3 +14,6 @@ mod text;
 
 pub use error::{JsonNumberError, LiteralError};
 pub use number::JsonNumber;
+
+#[cfg(test)]
+mod tests;

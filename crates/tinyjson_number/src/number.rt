@@ -116,8 +116,8 @@ impl PartialEq for JsonNumber {
     ghost laws = { partial_equiv_from_equiv number_eq-equiv };
 
     fn eq(&self, other: &JsonNumber) -> bool {
-        self.negative == other.negative
-            && self.power == other.power
+        self.is_negative() == other.is_negative()
+            && self.power() == other.power()
             && self.digits() == other.digits()
     }
 }
