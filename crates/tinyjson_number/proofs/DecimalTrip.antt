@@ -65,7 +65,7 @@ pub record IsSpelt (d : Decimal) (xs : List ℕ) : Type 0 where
   pub value : value numeral ≡ d
   pub text : spelling numeral ≡ xs
 
-digits-replicate : (k : ℕ) → AreDigits (replicate k 48)
+pub digits-replicate : (k : ℕ) → AreDigits (replicate k 48)
 digits-replicate zero = tt
 digits-replicate (suc k) = (refl, digits-replicate k)
 

@@ -5,3 +5,5 @@ pub mod DecimalTrip
 pub mod Runs
 pub mod Literals
 pub mod Readings
+pub mod Integers
+pub mod Laws

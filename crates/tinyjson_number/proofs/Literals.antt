@@ -109,6 +109,14 @@ unfolding exponent_at
 exponent_sound [] e h = let q : None ≡ e = cc in subst (ExponentRead []) q (tt, refl)
 exponent_sound (x ∷ xs) e h = exponent_cases (is_exponent_letter x) x xs e refl h
 
+-- the parts joined again
+spelled_parts : (n : Numeral) (after_whole after_fraction text : List ℕ) → exponent_text n.exponent ≡ after_fraction → fraction_text n.fraction ++ after_fraction ≡ after_whole → n.whole ++ after_whole ≡ after_minus text → n.negative ≡ begins 45 text → spelling n ≡ text
+spelled_parts n after_whole after_fraction text exponent fraction whole minus =
+    (λ i. minus_text (minus i) ++ (n.whole ++ (fraction_text n.fraction ++ exponent i)))
+    ∙ (λ i. minus_text (begins 45 text) ++ (n.whole ++ fraction i))
+    ∙ (λ i. minus_text (begins 45 text) ++ whole i)
+    ∙ minus_joined text
+
 -- what is read is a numeral that the text spells
 pub scan_sound : (text : List ℕ) (n : Numeral) → scan text ≡ Some n → Spells n text
 unfolding scan
@@ -125,7 +133,7 @@ scan_sound text n h =
     (record {
       well_formed = record { whole = whole.digits; some_digit = whole.some_digit; fraction = fraction.0; exponent = exponent.0 };
       no_leading_zero = whole.no_leading_zero;
-      spelled = ap (λ t. minus_text (begins 45 text) ++ (w.0.0 ++ (fraction_text f.0.0 ++ t))) exponent.1 ∙ ap (λ t. minus_text (begins 45 text) ++ (w.0.0 ++ t)) fraction.1 ∙ ap (λ t. minus_text (begins 45 text) ++ t) whole.joined ∙ minus_joined text;
+      spelled = spelled_parts m w.0.1 f.0.1 text exponent.1 fraction.1 whole.joined refl;
     })
 
 -- ---- what is spelled is read

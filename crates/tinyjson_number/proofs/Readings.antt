@@ -100,28 +100,38 @@ zero-value n h = ap (λ t. decimal_of n.negative t (power_of n)) h
 pub zero-in_range : (n : Numeral) → significant (n.whole ++ n.fraction) ≡ [] → IsTrue (in_range (value n))
 zero-in_range n h = subst (λ (d : Decimal). IsTrue (in_range d)) (sym (zero-value n h)) (power-fits (pos 0) (record { sfits = omega arith }))
 
-module _ (n : Numeral) (s : List ℕ) (zeros : ℕ) (is : s ≡ significant (n.whole ++ n.fraction)) (some : 0 < length s) (zeros_are : zeros ≡ trailing_zeros (n.whole ++ n.fraction)) (short : length n.fraction < 2 ^ 64) (few : zeros < 2 ^ 64) where
-  value_is : value n ≡ record { negative = n.negative; digits = s; power = power_of n }
+-- from the parts that the code keeps of the numeral, and the digits that are left of them
+module _ (n : Numeral) (l : Parts) (same : l ≡ parts n) (s : List ℕ) (zeros : ℕ) (is : s ≡ significant (l.whole ++ l.fraction)) (some : 0 < length s) (zeros_are : zeros ≡ trailing_zeros (l.whole ++ l.fraction)) (short : length l.fraction < 2 ^ 64) (few : zeros < 2 ^ 64) where
+  abbrev shifted_by : ℤ → ℤ
+  shifted_by e = shifted e (length l.fraction) zeros
+
+  power_is : power_of n ≡ shifted_by (exponent_value n.exponent)
+  power_is = λ i. shifted (exponent_value n.exponent) (length (sym same i).fraction) ((ap (λ (k : Parts). trailing_zeros (k.whole ++ k.fraction)) (sym same) ∙ sym zeros_are) i)
+
+  value_is : record { negative = l.negative; digits = s; power = power_of n } ≡ value n
   unfolding value
-  value_is = ap (λ t. decimal_of n.negative t (power_of n)) (sym is) ∙ decimal-of_some n.negative s (power_of n) some
+  value_is =
+      sym (decimal-of_some l.negative s (power_of n) some)
+      ∙ ap (λ t. decimal_of l.negative t (power_of n)) is
+      ∙ ap (λ (k : Parts). decimal_of k.negative (significant (k.whole ++ k.fraction)) (power_of n)) same
 
-  power_is : power_of n ≡ shifted (exponent_value n.exponent) (length n.fraction) zeros
-  power_is = ap (shifted (exponent_value n.exponent) (length n.fraction)) (sym zeros_are)
+  harmless : FitsSigned w64 (shifted_by l.exponent) ⊎ FitsSigned w64 (shifted_by (exponent_value n.exponent)) → l.exponent ≡ exponent_value n.exponent
+  harmless fits =
+      let capped_is = ap (λ (k : Parts). k.exponent) same in
+      capped_is ∙ cap_harmless n.exponent (length l.fraction) zeros short few (subst (λ e. FitsSigned w64 (shifted_by e) ⊎ FitsSigned w64 (shifted_by (exponent_value n.exponent))) capped_is fits)
 
-  pub value_kept : (p : ℤ) → p ≡ shifted (capped n.exponent) (length n.fraction) zeros → FitsSigned w64 p → value n ≡ record { negative = n.negative; digits = s; power = p }
+  pub value_kept : (p : ℤ) → p ≡ shifted_by l.exponent → FitsSigned w64 p → record { negative = l.negative; digits = s; power = p } ≡ value n
   value_kept p p_is fits =
-      let harmless = cap_harmless n.exponent (length n.fraction) zeros short few (inl (subst (FitsSigned w64) p_is fits)) in
-      let same : power_of n ≡ p = power_is ∙ ap (λ e. shifted e (length n.fraction) zeros) (sym harmless) ∙ sym p_is in
-      value_is ∙ ap (λ q. record { negative = n.negative; digits = s; power = q }) same
+      let exact : p ≡ power_of n = p_is ∙ ap shifted_by (harmless (inl (subst (FitsSigned w64) p_is fits))) ∙ sym power_is in
+      ap (λ q. record { negative = l.negative; digits = s; power = q }) exact ∙ value_is
 
-  pub value_in : (p : ℤ) → p ≡ shifted (capped n.exponent) (length n.fraction) zeros → FitsSigned w64 p → IsTrue (in_range (value n))
-  value_in p p_is fits = subst (λ q. IsTrue (power_fits power_width q)) (sym (ap (λ (d : Decimal). d.power) (value_kept p p_is fits))) (power-fits p fits)
+  pub value_in : (p : ℤ) → p ≡ shifted_by l.exponent → FitsSigned w64 p → IsTrue (in_range (value n))
+  value_in p p_is fits = subst (λ q. IsTrue (power_fits power_width q)) (ap (λ (d : Decimal). d.power) (value_kept p p_is fits)) (power-fits p fits)
 
-  pub value_out : ¬ FitsSigned w64 (shifted (capped n.exponent) (length n.fraction) zeros) → in_range (value n) ≡ false
+  pub value_out : ¬ FitsSigned w64 (shifted_by l.exponent) → in_range (value n) ≡ false
   value_out out = refuted (in_range (value n)) (λ fits.
-      let fits_real : FitsSigned w64 (shifted (exponent_value n.exponent) (length n.fraction) zeros) = subst (FitsSigned w64) (ap (λ (d : Decimal). d.power) value_is ∙ power_is) (power-within (value n).power fits) in
-      let harmless = cap_harmless n.exponent (length n.fraction) zeros short few (inr fits_real) in
-      out (subst (λ e. FitsSigned w64 (shifted e (length n.fraction) zeros)) (sym harmless) fits_real))
+      let real : FitsSigned w64 (shifted_by (exponent_value n.exponent)) = subst (FitsSigned w64) (sym (ap (λ (d : Decimal). d.power) value_is) ∙ power_is) (power-within (value n).power fits) in
+      out (subst (λ e. FitsSigned w64 (shifted_by e)) (sym (harmless (inr real))) real))
 
 -- ---- from the parts that the code keeps to the numeral
 

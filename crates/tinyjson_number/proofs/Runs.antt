@@ -1,10 +1,11 @@
 -- Runs of digits, and where a text may be cut.
 use Rattle.std.proofs.Common.{◌≡◌, ℕ, zero, suc, ◌+◌, ◌-◌, ◌<◌, ◌≤◌, true, List, [], ◌∷◌, length, get_or, IsTrue, IsUtf8, refl, subst, ⊎_elim, arith}
 use Rattle.std.specs.List.{prefix_len, list_all}
-use Rattle.std.specs.Str.{IsCharBoundary}
+use Rattle.std.specs.Str.{IsCharBoundary, IsAscii}
 use Rattle.std.specs.Char.{is_ascii_digit}
 use Rattle.std.specs.Int.{IsInRange}
-use Rattle.std.proofs.lemmas.Str.{IsCharBoundary-start, IsCharBoundary-after_ascii}
+use Rattle.std.proofs.lemmas.Str.{IsCharBoundary-start, IsCharBoundary-after_ascii, IsUtf8-from_ascii}
+use Rattle.std.proofs.lemmas.Str.Ascii.{IsAscii-nil, IsAscii-cons}
 use Rattle.std.proofs.lemmas.List.Sums.{prefix_len_passes, prefix_len-le-length, list_all-from_AllPass}
 use Rattle.std.proofs.lemmas.List.Folds.{length-prefix_len}
 use Rattle.std.proofs.lemmas.List.Elements.{All-from_get_or}
@@ -61,3 +62,11 @@ front_digits xs =
 -- digits may be cut anywhere
 pub boundary_in_digits : (xs : List ℕ) (k : ℕ) → AreDigits xs → k < length xs → 128 ≤ get_or xs k 0 → 192 ≤ get_or xs k 0
 boundary_in_digits xs k all lt high = absurd (omega (arith, high, ascii_from_digit (get_or xs k 0) (digit_at xs k all lt)))
+
+-- digits are UTF-8
+digits-ascii : (xs : List ℕ) → AreDigits xs → IsAscii xs
+digits-ascii [] h = IsAscii-nil
+digits-ascii (d ∷ xs) h = IsAscii-cons d xs (ascii_from_digit d h.0) (digits-ascii xs h.1)
+
+pub digits-utf8 : (xs : List ℕ) → AreDigits xs → IsUtf8 xs
+digits-utf8 xs h = IsUtf8-from_ascii xs (digits-ascii xs h)

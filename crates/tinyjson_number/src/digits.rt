@@ -48,6 +48,7 @@ pub(crate) fn strip<'a>(whole: &'a str, fraction: &'a str) -> Stripped<'a>
     }
 }
 
+// The digits from the first on that is not 0.
 fn strip_leading(digits: &str) -> &str
     requires { AreDigits digits.now }
     ensures value { result.now ≡ strip_leading digits.now }
@@ -57,7 +58,8 @@ fn strip_leading(digits: &str) -> &str
     &digits[leading_zeros(digits.as_bytes())..]
 }
 
-fn strip_trailing(digits: &str) -> &str
+/// The digits up to the last that is not `0`.
+pub(crate) fn strip_trailing(digits: &str) -> &str
     requires { AreDigits digits.now }
     ensures value { result.now ≡ strip_trailing digits.now }
     ensures digits { AreDigits result.now }
@@ -79,8 +81,8 @@ fn leading_zeros(digits: &[u8]) -> usize
     digits.len()
 }
 
-/// How many digits there are up to the last that is not `0`.
-pub(crate) fn kept_len(digits: &[u8]) -> usize
+// How many digits there are up to the last that is not 0.
+fn kept_len(digits: &[u8]) -> usize
     ensures within { result ≤ length digits.now }
     ensures kept { take result digits.now ≡ strip_trailing digits.now }
 {

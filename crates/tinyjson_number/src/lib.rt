@@ -6,6 +6,7 @@
 
 mod digits;
 mod error;
+mod integer;
 mod literal;
 mod number;
 mod reading;
@@ -13,3 +14,6 @@ mod text;
 
 pub use error::{JsonNumberError, LiteralError};
 pub use number::JsonNumber;
+
+#[cfg(test)]
+mod tests;

@@ -1,5 +1,5 @@
 //! The number itself.
-ghost use Rattle.std.specs.Prelude.{◌≡◌, ◌↔◌, IsTrue, IfOk, string_bytes};
+ghost use Rattle.std.specs.Prelude.{◌≡◌, ◌↔◌, ◌+◌, ◌<◌, ◌^◌, ◌++◌, length, IsTrue, IfOk};
 ghost use Rattle.tinyjson_number.specs.Decimal.{zero_decimal};
 ghost use Rattle.tinyjson_number.specs.Canonical.{is_canonical};
 ghost use Rattle.tinyjson_number.specs.Number.{digits_of};
@@ -41,17 +41,28 @@ impl JsonNumber {
         }
     }
 
-    // The number of these parts, which are those of the one form.
-    pub(crate) fn from_parts(negative: bool, digits: String, power: i64) -> JsonNumber
-        requires { IsTrue (is_canonical negative (string_bytes digits) power) }
-        ensures { result.decimal
-            ≡ record { negative = negative; digits = string_bytes digits; power = power } }
+    // The number of these parts, which are those of the one form: its digits are the two texts together.
+    // It takes memory once, and exactly what they need.
+    pub(crate) fn from_parts(
+        alloc: Global,
+        negative: bool,
+        front: &str,
+        back: &str,
+        power: i64,
+    ) -> Result<JsonNumber, AllocError>
+        requires room { length front.now + length back.now < 2 ^ 64 }
+        requires canonical { IsTrue (is_canonical negative (front.now ++ back.now) power) }
+        ensures { IfOk result (λ n. n.decimal
+            ≡ record { negative = negative; digits = front.now ++ back.now; power = power }) }
     {
-        JsonNumber {
+        let mut digits = String::with_capacity(alloc, front.len() + back.len())?;
+        digits.push_str(front)?;
+        digits.push_str(back)?;
+        Ok(JsonNumber {
             negative,
             digits: Some(digits),
             power,
-        }
+        })
     }
 
     /// Whether this is zero.
@@ -89,15 +100,10 @@ impl JsonNumber {
     pub fn try_clone(&self, alloc: Global) -> Result<JsonNumber, AllocError>
         ensures { IfOk result (λ n. n.decimal ≡ self.now.decimal) }
     {
-        let digits = match &self.digits {
-            Some(digits) => Some(String::from_str(alloc, digits.as_str())?),
-            None => None,
-        };
-        Ok(JsonNumber {
-            negative: self.negative,
-            digits,
-            power: self.power,
-        })
+        if self.is_zero() {
+            return Ok(JsonNumber::zero());
+        }
+        JsonNumber::from_parts(alloc, self.is_negative(), self.digits(), "", self.power())
     }
 }
 
@@ -110,8 +116,8 @@ impl PartialEq for JsonNumber {
     ghost laws = { partial_equiv_from_equiv number_eq-equiv };
 
     fn eq(&self, other: &JsonNumber) -> bool {
-        self.negative == other.negative
-            && self.power == other.power
+        self.is_negative() == other.is_negative()
+            && self.power() == other.power()
             && self.digits() == other.digits()
     }
 }

@@ -1,5 +1,5 @@
 //! The number that a text spells.
-ghost use Rattle.std.specs.Prelude.{◌≡◌, ◌+◌, ◌<◌, ◌^◌, ◌++◌, length, pos, neg_ℤ, ◌≤ℤ◌, MatchOption, FitsSigned, IfOk, string_bytes};
+ghost use Rattle.std.specs.Prelude.{◌≡◌, ◌+◌, ◌<◌, ◌^◌, length, pos, neg_ℤ, ◌≤ℤ◌, MatchOption, FitsSigned};
 ghost use Rattle.std.specs.Int.{w64};
 ghost use Rattle.tinyjson_number.specs.Numeral.{Numeral, AreDigits};
 ghost use Rattle.tinyjson_number.specs.NumberText.{Spells};
@@ -10,7 +10,7 @@ use crate::digits::strip;
 use crate::error::{JsonNumberError, LiteralError};
 use crate::literal::{Literal, read};
 use crate::number::JsonNumber;
-use std::alloc::{AllocError, Global};
+use std::alloc::Global;
 
 impl JsonNumber {
     /// The decimal of the number that the whole text is, exactly as it is written: any count of digits,
@@ -60,8 +60,7 @@ fn number(alloc: Global, literal: Literal<'_>) -> Result<JsonNumber, LiteralErro
     let Some(power) = power_of(literal.exponent, literal.fraction.len(), kept.zeros) else {
         return Err(LiteralError::OutOfRange);
     };
-    let digits = joined(alloc, kept.whole, kept.fraction)?;
-    Ok(JsonNumber::from_parts(literal.negative, digits, power))
+    Ok(JsonNumber::from_parts(alloc, literal.negative, kept.whole, kept.fraction, power)?)
 }
 
 // The exponent, less the count of fraction digits, and the count of zeros stripped, if a power may be that.
@@ -77,15 +76,4 @@ fn power_of(exponent: i128, fraction: usize, zeros: usize) -> Option<i64>
         return None;
     }
     Some(power as i64)
-}
-
-// One text made of two, in one allocation of its length.
-fn joined(alloc: Global, front: &str, back: &str) -> Result<String, AllocError>
-    requires { length front.now + length back.now < 2 ^ 64 }
-    ensures { IfOk result (λ s. string_bytes s ≡ front.now ++ back.now) }
-{
-    let mut text = String::with_capacity(alloc, front.len() + back.len())?;
-    text.push_str(front)?;
-    text.push_str(back)?;
-    Ok(text)
 }

@@ -126,8 +126,21 @@ fn write_exponent<W: fmt::Write>(f: &mut fmt::Formatter<W>, exponent: i128) -> f
 fn write_zeros<W: fmt::Write>(f: &mut fmt::Formatter<W>, count: usize) -> fmt::Result
     ensures { WritesOnOk W.write_str_gives f.old result (replicate count 48) f.new }
 {
-    for _i in 0..count {
-        f.write_str("0")?;
+    let mut left = count;
+    while left > 0 {
+        let piece = left.min(ZEROS.len());
+        f.write_str(zeros(piece))?;
+        left -= piece;
     }
     Ok(())
+}
+
+/// Zeros are written by pieces of this text.
+const ZEROS: &str = "0000000000000000000000000000000000000000000000000000000000000000";
+
+fn zeros(count: usize) -> &'static str
+    requires { count ≤ 64 }
+    ensures { result.now ≡ replicate count 48 }
+{
+    &ZEROS[..count]
 }

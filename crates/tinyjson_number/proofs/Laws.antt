@@ -1,0 +1,31 @@
+-- Laws of the texts of numbers.
+use Rattle.std.proofs.Common.{◌≡◌, ℕ, ◌^◌, List, ℤ, pos, neg_ℤ, true, IsTrue, ◌&&◌, sym, ap, ◌∙◌, arith}
+use Rattle.std.specs.Prelude.{int_le, int_lt}
+use Rattle.std.specs.Int.{Width, w32}
+use Rattle.std.proofs.lemmas.Int.{ints}
+use Rattle.tinyjson_number.specs.Decimal.{Decimal}
+use Rattle.tinyjson_number.specs.Numeral.{value, power_fits, power_width}
+use Rattle.tinyjson_number.specs.Canonical.{IsDecimalAt}
+use Rattle.tinyjson_number.specs.NumberText.{IsNumberTextAt, IsNumberText}
+use Rattle.tinyjson_number.specs.Text.{decimal_text}
+use Rattle.tinyjson_number.proofs.Literals.{one_numeral}
+use Rattle.tinyjson_number.proofs.DecimalTrip.{decimal-spelt, decimal-fits}
+
+-- a text is a number of at most one decimal
+pub one_decimal : (v w : Width) (text : List ℕ) (d e : Decimal) → IsNumberTextAt v text d → IsNumberTextAt w text e → d ≡ e
+one_decimal v w text d e p q = sym p.2 ∙ ap value (one_numeral text p.0 q.0 p.1 q.1) ∙ q.2
+
+-- the text of a decimal is a number of that decimal
+pub text_is_number : (width : Width) (d : Decimal) → IsDecimalAt width d → IsNumberTextAt width (decimal_text d) d
+text_is_number width d h = let s = decimal-spelt width d h in (s.numeral, record { well_formed = s.is; no_leading_zero = s.plain; spelled = s.text }, s.value, decimal-fits width d h)
+
+wider_bounds : (z : ℤ) → (int_le (neg_ℤ (pos (2 ^ 31))) z && int_lt z (pos (2 ^ 31))) ≡ true → (int_le (neg_ℤ (pos (2 ^ 63))) z && int_lt z (pos (2 ^ 63))) ≡ true
+wider_bounds z h = grind (arith, ints)
+
+wider_fits : (z : ℤ) → IsTrue (power_fits w32 z) → IsTrue (power_fits power_width z)
+unfolding power_fits
+wider_fits z h = wider_bounds z h
+
+-- what is a number with powers in the range of `i32` is one with those of `i64`, of the same decimal
+pub wider_accepts : (text : List ℕ) (d : Decimal) → IsNumberTextAt w32 text d → IsNumberText text d
+wider_accepts text d p = (p.0, p.1, p.2, wider_fits d.power p.3)

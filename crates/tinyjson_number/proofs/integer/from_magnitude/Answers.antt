@@ -1,0 +1,40 @@
+use Rattle.std.proofs.Common.{◌≡◌, ◌<◌, ◌≤◌, ◌-◌, ◌^◌, ℕ, length, sym, ap, ◌∙◌, subst, arith, append-nil}
+use Rattle.std.specs.Prelude.{decimal, IfOk}
+use Rattle.std.specs.Int.{w64}
+use Rattle.std.proofs.lemmas.Int.{to_z_pos}
+use Rattle.std.proofs.lemmas.Fmt.{length-decimal-le}
+use Rattle.tinyjson_number.specs.Decimal.{Decimal, strip_trailing}
+use Rattle.tinyjson_number.specs.Numeral.{AreDigits}
+use Rattle.tinyjson_number.specs.Integer.{whole_decimal}
+use Rattle.tinyjson_number.proofs.Integers.{zero_is, whole_is, whole_fits, decimal-digits}
+use Rattle.tinyjson_number.proofs.integer.from_magnitude.Goals as goal
+
+pub returns-then-value-eq0 : goal.returns-then-value-eq0
+returns-then-value-eq0 c = c.zero.ensures ∙ zero_is c.args.negative ∙ ap (whole_decimal c.args.negative) (sym c.if-value-eq0.true)
+
+pub strip_trailing-kept-requires : goal.strip_trailing-kept-requires
+strip_trailing-kept-requires c = subst AreDigits (sym c.digits_of-digits.ensures) (decimal-digits c.args.value (omega arith))
+
+pub from_parts-requires-clause-canonical : goal.from_parts-requires-clause-canonical
+from_parts-requires-clause-canonical c =
+    let n = c.args.value in
+    let fits : n < 2 ^ 64 = omega arith in
+    let s = c.strip_trailing-kept.result.now in
+    let text = c.digits_of-digits.ensures in
+    let is : s ≡ strip_trailing (decimal n) = c.strip_trailing-kept.ensures.value ∙ ap strip_trailing text in
+    let few : length c.digits_of-digits.result.now - length s ≤ length (decimal n) = omega (arith, ap length text) in
+    rw (append-nil s, to_z_pos w64 (length c.digits_of-digits.result.now - length s) (omega (arith, few, length-decimal-le 20 n (omega arith) (omega arith) fits)))
+    (whole_fits n (omega arith) fits c.args.negative s _ is few)
+
+pub returns : goal.returns
+returns c =
+    let n = c.args.value in
+    let fits : n < 2 ^ 64 = omega arith in
+    let s = c.strip_trailing-kept.result.now in
+    let z : ℕ = length c.digits_of-digits.result.now - length s in
+    let text = c.digits_of-digits.ensures in
+    let is : s ≡ strip_trailing (decimal n) = c.strip_trailing-kept.ensures.value ∙ ap strip_trailing text in
+    let few : z ≤ length (decimal n) = omega (arith, ap length text) in
+    let power = to_z_pos w64 z (omega (arith, few, length-decimal-le 20 n (omega arith) (omega arith) fits)) in
+    let same = whole_is n (omega arith) fits c.args.negative s z is (omega (arith, ap length text)) in
+    subst (λ (d : Decimal). IfOk c.from_parts.result (λ n. n.decimal ≡ d)) ((λ i. record { negative = c.args.negative; digits = append-nil s i; power = power i }) ∙ same) c.from_parts.ensures

@@ -1,0 +1,150 @@
+//! Whole numbers as decimals, and back.
+ghost use Rattle.std.specs.Prelude.{◌≡◌, ℕ, ℤ, pos, ◌*◌, ◌<◌, ◌^◌, drop, IfOk, MatchOption, SomeIff, FitsSigned};
+ghost use Rattle.std.specs.Fmt.{decimal};
+ghost use Rattle.std.specs.Int.{w64};
+ghost use Rattle.std.specs.Str.Parse.{digits_value};
+ghost use Rattle.tinyjson_number.specs.Numeral.{AreDigits};
+ghost use Rattle.tinyjson_number.specs.Integer.{whole_decimal, integer_decimal};
+
+use crate::digits::strip_trailing;
+use crate::number::JsonNumber;
+use std::alloc::{AllocError, Global};
+use std::str;
+
+impl JsonNumber {
+    /// The decimal of a whole number.
+    pub fn from_u64(alloc: Global, value: u64) -> Result<JsonNumber, AllocError>
+        ensures { IfOk result (λ n. n.decimal ≡ integer_decimal (pos value)) }
+    {
+        from_magnitude(alloc, false, value)
+    }
+
+    /// The decimal of a whole number.
+    pub fn from_i64(alloc: Global, value: i64) -> Result<JsonNumber, AllocError>
+        ensures { IfOk result (λ n. n.decimal ≡ integer_decimal value) }
+    {
+        from_magnitude(alloc, value < 0, value.unsigned_abs())
+    }
+
+    /// The whole number that this is, exactly where it is one in the range of `u64`.
+    pub fn to_u64(&self) -> Option<u64>
+        ensures { MatchOption result
+            ((n : ℕ) → n < 2 ^ 64 → ¬ (self.now.decimal ≡ integer_decimal (pos n)))
+            (λ n. self.now.decimal ≡ integer_decimal (pos n)) }
+    {
+        if self.is_negative() {
+            return None;
+        }
+        self.magnitude()
+    }
+
+    /// The whole number that this is, exactly where it is one in the range of `i64`.
+    pub fn to_i64(&self) -> Option<i64>
+        ensures { MatchOption result
+            ((z : ℤ) → FitsSigned w64 z → ¬ (self.now.decimal ≡ integer_decimal z))
+            (λ z. self.now.decimal ≡ integer_decimal z) }
+    {
+        let magnitude = self.magnitude()?;
+        if self.is_negative() {
+            if magnitude > 1 << 63 {
+                return None;
+            }
+            return Some((-(magnitude as i128)) as i64);
+        }
+        if magnitude > i64::MAX as u64 {
+            return None;
+        }
+        Some(magnitude as i64)
+    }
+
+    // The whole number that this is without its sign, if it fits.
+    fn magnitude(&self) -> Option<u64>
+        ensures { MatchOption result
+            ((n : ℕ) → n < 2 ^ 64
+            → ¬ (self.now.decimal ≡ whole_decimal self.now.decimal.negative n))
+            (λ n. self.now.decimal ≡ whole_decimal self.now.decimal.negative n) }
+    {
+        let digits = self.digits();
+        let power = self.power();
+        if power < 0 {
+            return None;
+        }
+        let Some(number) = digits_number(digits.as_bytes()) else {
+            return None;
+        };
+        times_ten(number, power as u64)
+    }
+}
+
+// The number that the digits write, if it fits.
+fn digits_number(digits: &[u8]) -> Option<u64>
+    requires { AreDigits digits.now }
+    ensures { SomeIff result (digits_value 10 digits.now < 2 ^ 64) (digits_value 10 digits.now) }
+{
+    let mut value: u64 = 0;
+    for d in digits {
+        let Some(tens) = value.checked_mul(10) else {
+            return None;
+        };
+        let Some(sum) = tens.checked_add((*d - b'0') as u64) else {
+            return None;
+        };
+        value = sum;
+    }
+    Some(value)
+}
+
+// A number times a power of ten, if it fits.
+fn times_ten(number: u64, times: u64) -> Option<u64>
+    ensures { SomeIff result (number * 10 ^ times < 2 ^ 64) (number * 10 ^ times) }
+{
+    let mut value = number;
+    for _i in 0..times {
+        let Some(tens) = value.checked_mul(10) else {
+            return None;
+        };
+        value = tens;
+    }
+    Some(value)
+}
+
+// The decimal of a whole number and a sign.
+fn from_magnitude(alloc: Global, negative: bool, value: u64) -> Result<JsonNumber, AllocError>
+    ensures { IfOk result (λ n. n.decimal ≡ whole_decimal negative value) }
+{
+    if value == 0 {
+        return Ok(JsonNumber::zero());
+    }
+    let mut buffer = [b'0'; MAX_DIGITS];
+    let digits = digits_of(value, &mut buffer);
+    let kept = strip_trailing(digits);
+    let zeros = digits.len() - kept.len();
+    JsonNumber::from_parts(alloc, negative, kept, "", zeros as i64)
+}
+
+/// The digits of `u64::MAX`.
+const MAX_DIGITS: usize = 20;
+
+// The digits of a number, which are written to the buffer.
+fn digits_of(value: u64, buffer: &mut [u8; MAX_DIGITS]) -> &str
+    ensures { result.now ≡ decimal value }
+{
+    let start = write_digits(value, buffer);
+    str::from_utf8(&buffer[start..]).unwrap()
+}
+
+// Writes the digits of a number to the end of the buffer, and answers where they begin.
+fn write_digits(value: u64, buffer: &mut [u8; MAX_DIGITS]) -> usize
+    ensures within { result < 20 }
+    ensures digits { drop result buffer.new ≡ decimal value }
+{
+    let mut start = MAX_DIGITS;
+    let mut rest = value;
+    while rest >= 10 {
+        start -= 1;
+        buffer[start] = b'0' + (rest % 10) as u8;
+        rest /= 10;
+    }
+    buffer[start - 1] = b'0' + rest as u8;
+    start - 1
+}

@@ -1,0 +1,170 @@
+use super::*;
+use std::string::ToString;
+use std::test::*;
+
+/// A number's text, whether it is negative, its digits, its power and its own text.
+type Row = (&'static str, bool, &'static str, i64, &'static str);
+
+const ROWS: [Row; 28] = [
+    ("0", false, "", 0, "0"),
+    ("-0", false, "", 0, "0"),
+    ("0.000", false, "", 0, "0"),
+    ("0e99999999999", false, "", 0, "0"),
+    (
+        "0e9999999999999999999999999999999999999999",
+        false,
+        "",
+        0,
+        "0",
+    ),
+    ("15", false, "15", 0, "15"),
+    ("1.50e1", false, "15", 0, "15"),
+    ("0.15E+2", false, "15", 0, "15"),
+    ("1200", false, "12", 2, "1200"),
+    ("3.14", false, "314", -2, "3.14"),
+    ("-12.30e-1", true, "123", -2, "-1.23"),
+    ("0.00120", false, "12", -4, "0.0012"),
+    ("100e-2", false, "1", 0, "1"),
+    ("0.5", false, "5", -1, "0.5"),
+    (
+        "0.0000000000000000000000000000001e30",
+        false,
+        "1",
+        -1,
+        "0.1",
+    ),
+    ("1e00000000000000000000005", false, "1", 5, "100000"),
+    ("1e309", false, "1", 309, "1e309"),
+    ("12e308", false, "12", 308, "1.2e309"),
+    ("-25e400", true, "25", 400, "-2.5e401"),
+    ("12e-400", false, "12", -400, "1.2e-399"),
+    ("5e-325", false, "5", -325, "5e-325"),
+    ("10e-2147483649", false, "1", -2147483648, "1e-2147483648"),
+    ("1e-2147483649", false, "1", -2147483649, "1e-2147483649"),
+    ("10e2147483647", false, "1", 2147483648, "1e2147483648"),
+    ("12e2147483647", false, "12", 2147483647, "1.2e2147483648"),
+    (
+        "10e-9223372036854775809",
+        false,
+        "1",
+        i64::MIN,
+        "1e-9223372036854775808",
+    ),
+    (
+        "12e9223372036854775807",
+        false,
+        "12",
+        i64::MAX,
+        "1.2e9223372036854775808",
+    ),
+    (
+        "0.1e9223372036854775808",
+        false,
+        "1",
+        i64::MAX,
+        "1e9223372036854775807",
+    ),
+];
+
+fn number(rt: &HostRuntime, text: &str) -> Result<JsonNumber, Fail> {
+    Ok(JsonNumber::from_text(rt.alloc(), text)?)
+}
+
+#[test]
+fn decimals(rt: HostRuntime) -> Result<(), Fail> {
+    for (text, negative, digits, power, shown) in ROWS {
+        let number = number(&rt, text)?;
+        assert_eq!(rt; number.is_zero(), digits.is_empty(), "{text}");
+        assert_eq!(rt; number.is_negative(), negative, "{text}");
+        assert_eq!(rt; number.digits(), digits, "{text}");
+        assert_eq!(rt; number.power(), power, "{text}");
+        let own = number.to_string(rt.alloc())?;
+        assert_eq!(rt; own.as_str(), shown, "{text}");
+        assert!(rt;
+            JsonNumber::from_text(rt.alloc(), own.as_str())? == number,
+            "{text}"
+        );
+        assert!(rt; number.try_clone(rt.alloc())? == number, "{text}");
+    }
+    Ok(())
+}
+
+#[test]
+fn longest_plain_texts(rt: HostRuntime) -> Result<(), Fail> {
+    let mut large = String::from_str(rt.alloc(), "1")?;
+    large.push_str("0".repeat(rt.alloc(), 308)?.as_str())?;
+    assert_eq!(rt;
+        number(&rt, "1e308")?.to_string(rt.alloc())?.as_str(),
+        large.as_str()
+    );
+    let mut small = String::from_str(rt.alloc(), "0.")?;
+    small.push_str("0".repeat(rt.alloc(), 323)?.as_str())?;
+    small.push_str("5")?;
+    assert_eq!(rt;
+        number(&rt, "5e-324")?.to_string(rt.alloc())?.as_str(),
+        small.as_str()
+    );
+    Ok(())
+}
+
+#[test]
+fn refusals(rt: HostRuntime) {
+    for text in ["", " 1", "01", "1.", "-", "1e+", "- 1", "0123]"] {
+        let read = JsonNumber::from_text(rt.alloc(), text);
+        assert!(rt; matches!(read, Err(JsonNumberError::NotANumber)), "{text}");
+    }
+    for text in ["1e9223372036854775808", "1e-9223372036854775809"] {
+        let read = JsonNumber::from_text(rt.alloc(), text);
+        assert!(rt; matches!(read, Err(JsonNumberError::OutOfRange)), "{text}");
+    }
+}
+
+#[test]
+fn whole_numbers(rt: HostRuntime) -> Result<(), Fail> {
+    for (text, signed, unsigned) in [
+        ("1e3", Some(1000), Some(1000)),
+        ("1.5", None, None),
+        ("-9223372036854775808", Some(i64::MIN), None),
+        ("9223372036854775808", None, Some(9223372036854775808)),
+        ("1e9223372036854775807", None, None),
+    ] {
+        let number = number(&rt, text)?;
+        assert_eq!(rt; number.to_i64(), signed, "{text}");
+        assert_eq!(rt; number.to_u64(), unsigned, "{text}");
+    }
+    let number = JsonNumber::from_i64(rt.alloc(), -1200)?;
+    assert!(rt; number.is_negative());
+    assert_eq!(rt; number.digits(), "12");
+    assert_eq!(rt; number.power(), 2);
+    let least = JsonNumber::from_i64(rt.alloc(), i64::MIN)?;
+    assert_eq!(rt; least.to_i64(), Some(i64::MIN));
+    let greatest = JsonNumber::from_u64(rt.alloc(), u64::MAX)?;
+    assert_eq!(rt; greatest.to_u64(), Some(u64::MAX));
+    assert!(rt; JsonNumber::from_u64(rt.alloc(), 0)? == JsonNumber::zero());
+    Ok(())
+}
+
+#[test]
+fn known_literal(rt: HostRuntime) -> Result<(), Fail> {
+    let number = JsonNumber::from_literal(rt.alloc(), "15")?;
+    assert_eq!(rt; number.to_u64(), Some(15));
+    Ok(())
+}
+
+#[test]
+fn words(rt: HostRuntime) -> Result<(), Fail> {
+    for (error, shown) in [
+        (JsonNumberError::NotANumber, "not a JSON number"),
+        (JsonNumberError::OutOfRange, "power of ten out of range"),
+        (JsonNumberError::OutOfMemory, "out of memory"),
+    ] {
+        assert_eq!(rt; error.to_string(rt.alloc())?.as_str(), shown);
+    }
+    for (error, shown) in [
+        (LiteralError::OutOfRange, "power of ten out of range"),
+        (LiteralError::OutOfMemory, "out of memory"),
+    ] {
+        assert_eq!(rt; error.to_string(rt.alloc())?.as_str(), shown);
+    }
+    Ok(())
+}
