@@ -3,3 +3,4 @@ pub mod Members
 pub mod Entries
 pub mod Views
 pub mod Trees
+pub mod Writing

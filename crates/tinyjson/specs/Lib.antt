@@ -11,3 +11,4 @@ pub mod Error
 pub mod Refusal
 pub mod Text
 pub mod Machine
+pub mod Written

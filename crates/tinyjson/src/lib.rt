@@ -14,6 +14,7 @@
 //! | Object  | `HashMap<String, JsonValue>` |
 #![tactic(auto)]
 
+pub mod generator;
 pub mod number;
 pub mod parser;
 pub mod value;
