@@ -4,3 +4,6 @@ pub mod Entries
 pub mod Views
 pub mod Trees
 pub mod Writing
+pub mod Sorted
+pub mod Texts
+pub mod Sizes

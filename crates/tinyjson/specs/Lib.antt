@@ -12,3 +12,4 @@ pub mod Refusal
 pub mod Text
 pub mod Machine
 pub mod Written
+pub mod Sorted

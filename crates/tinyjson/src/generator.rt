@@ -1,3 +1,5 @@
 //! The generator.
 
+mod members;
 mod output;
+mod quote;
