@@ -1,10 +1,10 @@
 -- The text of a decimal spells a numeral with that value.
-use Rattle.std.proofs.Common.{◌≡◌, ◌≢◌, ℕ, zero, suc, ◌+◌, ◌-◌, ◌<◌, Bool, true, false, cond, eqb, List, [], ◌∷◌, ◌++◌, length, get_or, take, drop, replicate, refl, sym, ap, ◌∙◌, arith, append-nil, length-append, IsTrue, ℤ, pos, negsuc, neg_ℤ, ◌+ℤ◌, ◌-ℤ◌, Option, Some, None}
+use Rattle.std.proofs.Common.{◌≡◌, ◌≢◌, ℕ, zero, suc, ◌+◌, ◌-◌, ◌<◌, Bool, true, false, List, [], ◌∷◌, ◌++◌, length, get_or, take, drop, replicate, refl, sym, ap, ◌∙◌, arith, append-nil, length-append, IsTrue, ℤ, pos, negsuc, neg_ℤ, ◌+ℤ◌, ◌-ℤ◌, Option, Some, None}
 use Rattle.std.specs.Prelude.{unsigned_abs, int_lt, int_le, ◌^◌, ◌&&◌}
 use mir.Val.{hbits}
 use Rattle.std.proofs.lemmas.Nat.{pow_pos}
 use Rattle.std.specs.Int.{Width}
-use Rattle.std.proofs.lemmas.Bool.{false≢true, cond_both}
+use Rattle.std.proofs.lemmas.Bool.{cond_both}
 use Rattle.std.proofs.Math.Dec.{eqb-suc-zero}
 use Rattle.std.proofs.lemmas.Bool.Decides.{nat_tests}
 use Rattle.std.proofs.lemmas.Int.{ints}
@@ -13,25 +13,17 @@ use Rattle.tinyjson_number.specs.Decimal.{Decimal, strip_leading, strip_trailing
 use Rattle.tinyjson_number.specs.Numeral.{Numeral, Exponent, IsNumeral, IsExponent, AreDigits, minus_text, fraction_text, exponent_text, spelling, has_leading_zero, exponent_value, value, fits_in, power_fits}
 use Rattle.tinyjson_number.specs.Text.{natural_text, integer_text, plain_text, scientific_text, is_far, magnitude_text, decimal_text}
 use Rattle.tinyjson_number.specs.Canonical.{IsDecimalAt, is_canonical_at}
-use Rattle.tinyjson_number.proofs.Strips.{strip_trailing-append_none, strip_trailing-append_some, strip_zeros, strip_trailing_none}
+use Rattle.tinyjson_number.proofs.Strips.{strip_leading_none, strip_trailing-append_none, strip_trailing-append_some, strip_zeros, strip_trailing_none}
 use Rattle.tinyjson_number.proofs.Naturals.{natural}
 use Rattle.tinyjson_number.proofs.Forms.{form, zero-form}
 
 -- ---- zeros round digits
 
-lead_cases : (b : Bool) (d : ℕ) (xs : List ℕ) → b ≡ false → cond b (strip_leading xs) (d ∷ xs) ≡ d ∷ xs
-lead_cases true d xs h = absurd (false≢true (sym h))
-lead_cases false d xs h = refl
-
-strip_leading_none : (xs : List ℕ) → get_or xs 0 0 ≢ 48 → strip_leading xs ≡ xs
-strip_leading_none [] h = refl
-strip_leading_none (d ∷ xs) h = lead_cases (eqb d 48) d xs (grind (arith, nat_tests))
-
 strip_leading_zeros : (a : ℕ) (xs : List ℕ) → strip_leading (replicate a 48 ++ xs) ≡ strip_leading xs
 strip_leading_zeros zero xs = refl
 strip_leading_zeros (suc a) xs = strip_leading_zeros a xs
 
-decimal-of_some : (g : Bool) (ds : List ℕ) (p : ℤ) → 0 < length ds → decimal_of g ds p ≡ record { negative = g; digits = ds; power = p }
+pub decimal-of_some : (g : Bool) (ds : List ℕ) (p : ℤ) → 0 < length ds → decimal_of g ds p ≡ record { negative = g; digits = ds; power = p }
 decimal-of_some g [] p h = absurd (omega arith)
 decimal-of_some g (d ∷ ds) p h = refl
 

@@ -1,11 +1,30 @@
 -- Zeros stripped from digits.
-use Rattle.std.proofs.Common.{◌≡◌, ◌≢◌, ℕ, zero, suc, ◌+◌, ◌-◌, ◌<◌, Bool, true, false, cond, eqb, List, [], ◌∷◌, ◌++◌, length, get_or, replicate, refl, sym, ap, ◌∙◌, ⊎_elim, arith, append-nil, length-append}
-use Rattle.std.proofs.lemmas.Bool.{eqb-true, cases_lt}
+use Rattle.std.proofs.Common.{◌≡◌, ◌≢◌, ℕ, zero, suc, ◌+◌, ◌-◌, ◌<◌, ◌≤◌, Bool, true, false, cond, eqb, List, [], ◌∷◌, ◌++◌, length, get_or, replicate, IsTrue, refl, sym, ap, ◌∙◌, ⊎_elim, arith, append-nil, length-append}
+use Rattle.std.specs.Char.{is_ascii_digit}
+use Rattle.std.proofs.lemmas.Bool.{eqb-true, cases_lt, cond_both, false≢true}
 use Rattle.std.proofs.lemmas.Bool.Decides.{nat_tests}
 use Rattle.std.proofs.lemmas.List.{get_or-append_right, get_or-replicate, length-replicate}
-use Rattle.tinyjson_number.specs.Decimal.{strip_leading, strip_trailing, before_stripped, trailing_zeros}
+use Rattle.tinyjson_number.specs.Decimal.{strip_leading, strip_trailing, before_stripped, significant, trailing_zeros}
+use Rattle.tinyjson_number.specs.Numeral.{AreDigits}
 
--- trailing zeros of joined digits
+-- ---- joined digits
+
+leading_cases : (b : Bool) (d : ℕ) (w f : List ℕ) → (strip_leading w ≡ [] → strip_leading (w ++ f) ≡ strip_leading f) → cond b (strip_leading w) (d ∷ w) ≡ [] → cond b (strip_leading (w ++ f)) (d ∷ (w ++ f)) ≡ strip_leading f
+leading_cases true d w f more h = more h
+leading_cases false d w f more h = absurd (cc)
+
+strip_leading-append_none : (w f : List ℕ) → strip_leading w ≡ [] → strip_leading (w ++ f) ≡ strip_leading f
+strip_leading-append_none [] f h = refl
+strip_leading-append_none (d ∷ w) f h = leading_cases (eqb d 48) d w f (strip_leading-append_none w f) h
+
+leading_some_cases : (b : Bool) (d : ℕ) (w f : List ℕ) → (0 < length (strip_leading w) → strip_leading (w ++ f) ≡ strip_leading w ++ f) → 0 < length (cond b (strip_leading w) (d ∷ w)) → cond b (strip_leading (w ++ f)) (d ∷ (w ++ f)) ≡ cond b (strip_leading w) (d ∷ w) ++ f
+leading_some_cases true d w f more h = more h
+leading_some_cases false d w f more h = refl
+
+strip_leading-append_some : (w f : List ℕ) → 0 < length (strip_leading w) → strip_leading (w ++ f) ≡ strip_leading w ++ f
+strip_leading-append_some [] f h = absurd (omega arith)
+strip_leading-append_some (d ∷ w) f h = leading_some_cases (eqb d 48) d w f (strip_leading-append_some w f) h
+
 pub strip_trailing-append_none : (w f : List ℕ) → strip_trailing f ≡ [] → strip_trailing (w ++ f) ≡ strip_trailing w
 strip_trailing-append_none [] f h = h
 strip_trailing-append_none (d ∷ w) f h = ap (before_stripped d) (strip_trailing-append_none w f h)
@@ -94,3 +113,109 @@ strip_trailing_none xs h =
     in absurd (h last))
     (λ none. let is : t ≡ 0 = omega arith in sym (tail ∙ ap (λ k. kept ++ replicate k 48) is ∙ append-nil kept))
     (cases_lt 0 t)
+
+-- digits that do not begin with 0
+lead_cases : (b : Bool) (d : ℕ) (xs : List ℕ) → b ≡ false → cond b (strip_leading xs) (d ∷ xs) ≡ d ∷ xs
+lead_cases true d xs h = absurd (false≢true (sym h))
+lead_cases false d xs h = refl
+
+pub strip_leading_none : (xs : List ℕ) → get_or xs 0 0 ≢ 48 → strip_leading xs ≡ xs
+strip_leading_none [] h = refl
+strip_leading_none (d ∷ xs) h = lead_cases (eqb d 48) d xs (grind (arith, nat_tests))
+
+-- ---- one more digit at the end
+
+last_zero : (b : Bool) (d : ℕ) → b ≡ true → cond b [] (d ∷ []) ≡ []
+last_zero true d h = refl
+last_zero false d h = absurd (false≢true h)
+
+last_kept : (b : Bool) (d : ℕ) → b ≡ false → cond b [] (d ∷ []) ≡ d ∷ []
+last_kept true d h = absurd (false≢true (sym h))
+last_kept false d h = refl
+
+pub strip_trailing_push_zero : (xs : List ℕ) (d : ℕ) → d ≡ 48 → strip_trailing (xs ++ d ∷ []) ≡ strip_trailing xs
+strip_trailing_push_zero xs d h = strip_trailing-append_none xs (d ∷ []) (last_zero (eqb d 48) d (grind (arith, nat_tests)))
+
+pub strip_trailing_push_other : (xs : List ℕ) (d : ℕ) → d ≢ 48 → strip_trailing (xs ++ d ∷ []) ≡ xs ++ d ∷ []
+strip_trailing_push_other xs d h =
+    let kept = last_kept (eqb d 48) d (grind (arith, nat_tests)) in
+    strip_trailing-append_some xs (d ∷ []) (omega (arith, ap length kept)) ∙ ap (λ t. xs ++ t) kept
+
+some_cases : (d : ℕ) (xs : List ℕ) → d ≢ 48 → 0 < length (before_stripped d xs)
+some_cases d [] h = omega (arith, ap length (last_kept (eqb d 48) d (grind (arith, nat_tests))))
+some_cases d (x ∷ xs) h = omega arith
+
+-- something is left of digits that do not begin with 0
+pub strip_trailing_some : (xs : List ℕ) → 0 < length xs → get_or xs 0 0 ≢ 48 → 0 < length (strip_trailing xs)
+strip_trailing_some [] some h = absurd (omega (arith, some))
+strip_trailing_some (d ∷ xs) some h = some_cases d (strip_trailing xs) h
+
+-- ---- what is stripped of digits are digits
+
+pub digits-leading : (xs : List ℕ) → AreDigits xs → AreDigits (strip_leading xs)
+digits-leading [] h = tt
+digits-leading (d ∷ xs) h = cond_both (eqb d 48) _ _ AreDigits (λ _. digits-leading xs h.1) (λ _. h)
+
+digits-before : (d : ℕ) (xs : List ℕ) → IsTrue (is_ascii_digit d) → AreDigits xs → AreDigits (before_stripped d xs)
+digits-before d [] h k = cond_both (eqb d 48) _ _ AreDigits (λ _. tt) (λ _. (h, tt))
+digits-before d (e ∷ es) h k = (h, k)
+
+pub digits-trailing : (xs : List ℕ) → AreDigits xs → AreDigits (strip_trailing xs)
+digits-trailing [] h = tt
+digits-trailing (d ∷ xs) h = digits-before d (strip_trailing xs) h.0 (digits-trailing xs h.1)
+
+-- ---- how many zeros the digits end with
+
+length_cases : (b : Bool) (d : ℕ) (xs : List ℕ) → length (strip_leading xs) ≤ length xs → length (cond b (strip_leading xs) (d ∷ xs)) ≤ suc (length xs)
+length_cases true d xs h = omega (arith, h)
+length_cases false d xs h = omega arith
+
+length_one : (b : Bool) (d : ℕ) → length (cond b [] (d ∷ [])) ≤ 1
+length_one true d = omega arith
+length_one false d = omega arith
+
+length_before : (d : ℕ) (xs : List ℕ) → length (before_stripped d xs) ≤ suc (length xs)
+length_before d [] = length_one (eqb d 48) d
+length_before d (x ∷ xs) = omega arith
+
+length_leading : (xs : List ℕ) → length (strip_leading xs) ≤ length xs
+length_leading [] = omega arith
+length_leading (d ∷ xs) = length_cases (eqb d 48) d xs (length_leading xs)
+
+length_trailing : (xs : List ℕ) → length (strip_trailing xs) ≤ length xs
+length_trailing [] = omega arith
+length_trailing (d ∷ xs) = omega (arith, length_before d (strip_trailing xs), length_trailing xs)
+
+-- they are those after the first digit that is not 0
+zeros_cases : (b : Bool) (d : ℕ) (xs : List ℕ) → (0 < length (significant xs) → length xs + length (significant xs) ≡ length (strip_leading xs) + length (strip_trailing xs)) → 0 < length (strip_trailing (cond b (strip_leading xs) (d ∷ xs))) → suc (length xs) + length (strip_trailing (cond b (strip_leading xs) (d ∷ xs))) ≡ length (cond b (strip_leading xs) (d ∷ xs)) + length (before_stripped d (strip_trailing xs))
+zeros_cases true d xs more some =
+    let m = more some in
+    let kept : 0 < length (strip_trailing xs) = omega (arith, m, some, length_leading xs) in
+    omega (arith, m, ap length (before_some d (strip_trailing xs) kept))
+zeros_cases false d xs more some = refl
+
+zeros_same : (xs : List ℕ) → 0 < length (significant xs) → length xs + length (significant xs) ≡ length (strip_leading xs) + length (strip_trailing xs)
+zeros_same [] h = refl
+zeros_same (d ∷ xs) h = zeros_cases (eqb d 48) d xs (zeros_same xs) h
+
+trailing_zeros_is : (xs : List ℕ) → 0 < length (significant xs) → length (strip_leading xs) - length (significant xs) ≡ trailing_zeros xs
+trailing_zeros_is xs h = omega (arith, zeros_same xs h, length_leading xs, length_trailing xs, length_trailing (strip_leading xs))
+
+-- the three ways in which a whole part and a fraction are stripped
+module _ (w f : List ℕ) where
+  pub strip_fraction_alone : strip_leading w ≡ [] → (strip_trailing (strip_leading f) ≡ significant (w ++ f)) × (0 < length (significant (w ++ f)) → length (strip_leading f) - length (strip_trailing (strip_leading f)) ≡ trailing_zeros (w ++ f))
+  strip_fraction_alone h =
+      let e = strip_leading-append_none w f h in
+      (ap strip_trailing (sym e), λ some. ap (λ t. length t - length (strip_trailing t)) (sym e) ∙ trailing_zeros_is (w ++ f) some)
+
+  pub strip_whole_alone : 0 < length (strip_leading w) → strip_trailing f ≡ [] → (strip_trailing (strip_leading w) ++ [] ≡ significant (w ++ f)) × (0 < length (significant (w ++ f)) → (length (strip_leading w) - length (strip_trailing (strip_leading w))) + length f ≡ trailing_zeros (w ++ f))
+  strip_whole_alone some none =
+      let e = strip_leading-append_some w f some in
+      let s : significant (w ++ f) ≡ strip_trailing (strip_leading w) = ap strip_trailing e ∙ strip_trailing-append_none (strip_leading w) f none in
+      (append-nil _ ∙ sym s, λ h. omega (arith, ap length s, ap length e, length-append (strip_leading w) f, trailing_zeros_is (w ++ f) h, length_trailing (strip_leading w)))
+
+  pub strip_both : 0 < length (strip_leading w) → 0 < length (strip_trailing f) → (strip_leading w ++ strip_trailing f ≡ significant (w ++ f)) × (0 < length (significant (w ++ f)) → length f - length (strip_trailing f) ≡ trailing_zeros (w ++ f))
+  strip_both some kept =
+      let e = strip_leading-append_some w f some in
+      let s : significant (w ++ f) ≡ strip_leading w ++ strip_trailing f = ap strip_trailing e ∙ strip_trailing-append_some (strip_leading w) f kept in
+      (sym s, λ h. omega (arith, ap length s, ap length e, length-append (strip_leading w) f, length-append (strip_leading w) (strip_trailing f), trailing_zeros_is (w ++ f) h))

@@ -2,4 +2,9 @@ pub mod Decimal
 pub mod Numeral
 pub mod Canonical
 pub mod Number
+pub mod NumberText
 pub mod Text
+pub mod Error
+pub mod Literal
+pub mod Integer
+pub mod Reading

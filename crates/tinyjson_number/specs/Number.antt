@@ -1,5 +1,5 @@
 -- What a contract sees of a `JsonNumber`.
-use Rattle.std.specs.Prelude.{◌≡◌, ℕ, ℤ, pos, ◌&&◌, Bool, true, false, not, List, [], ◌∷◌, IsTrue, Option, Some, None, String, string_bytes}
+use Rattle.std.specs.Prelude.{◌≡◌, ℕ, ℤ, ◌&&◌, Bool, List, [], Option, Some, None, String, string_bytes}
 use Rattle.std.specs.Bool.{beq, Decides}
 use Rattle.std.specs.Cmp.{IsEquivalence, booleans_Decides, decided}
 use Rattle.std.specs.Coded.{Coded, Coded-set, coded×, coded_ℕ, coded_bool, coded_list, coded_ℤ}

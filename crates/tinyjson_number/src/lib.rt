@@ -4,6 +4,11 @@
 //! in the range of `i64`. Each number has one such form, so equal numbers have equal texts.
 #![tactic(auto)]
 
+mod digits;
+mod error;
+mod literal;
 mod number;
+mod reading;
 
+pub use error::{JsonNumberError, LiteralError};
 pub use number::JsonNumber;

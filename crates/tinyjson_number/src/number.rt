@@ -1,9 +1,10 @@
 //! The number itself.
-ghost use Rattle.std.specs.Prelude.{◌≡◌, IsTrue};
+ghost use Rattle.std.specs.Prelude.{◌≡◌, ◌↔◌, IsTrue, IfOk, string_bytes};
 ghost use Rattle.tinyjson_number.specs.Decimal.{zero_decimal};
 ghost use Rattle.tinyjson_number.specs.Canonical.{is_canonical};
 ghost use Rattle.tinyjson_number.specs.Number.{digits_of};
 
+use std::alloc::{AllocError, Global};
 use std::marker::Model;
 
 /// An exact decimal number: digits times ten to a power.
@@ -39,4 +40,84 @@ impl JsonNumber {
             power: 0,
         }
     }
+
+    // The number of these parts, which are those of the one form.
+    pub(crate) fn from_parts(negative: bool, digits: String, power: i64) -> JsonNumber
+        requires { IsTrue (is_canonical negative (string_bytes digits) power) }
+        ensures { result.decimal
+            ≡ record { negative = negative; digits = string_bytes digits; power = power } }
+    {
+        JsonNumber {
+            negative,
+            digits: Some(digits),
+            power,
+        }
+    }
+
+    /// Whether this is zero.
+    pub fn is_zero(&self) -> bool
+        ensures { IsTrue result ↔ (self.now.decimal ≡ zero_decimal) }
+    {
+        self.digits().is_empty()
+    }
+
+    /// Whether this is below zero.
+    pub fn is_negative(&self) -> bool
+        ensures { result ≡ self.now.decimal.negative }
+    {
+        self.negative
+    }
+
+    /// The digits as text, without zeros at either end: empty for zero.
+    pub fn digits(&self) -> &str
+        ensures { result.now ≡ self.now.decimal.digits }
+    {
+        match &self.digits {
+            Some(digits) => digits.as_str(),
+            None => "",
+        }
+    }
+
+    /// The power of ten that the digits, read as a whole number, are multiplied by: 0 for zero.
+    pub fn power(&self) -> i64
+        ensures { result ≡ self.now.decimal.power }
+    {
+        self.power
+    }
+
+    /// An equal number with memory of its own, or the error where there is none. `self` stays as it is.
+    pub fn try_clone(&self, alloc: Global) -> Result<JsonNumber, AllocError>
+        ensures { IfOk result (λ n. n.decimal ≡ self.now.decimal) }
+    {
+        let digits = match &self.digits {
+            Some(digits) => Some(String::from_str(alloc, digits.as_str())?),
+            None => None,
+        };
+        Ok(JsonNumber {
+            negative: self.negative,
+            digits,
+            power: self.power,
+        })
+    }
+}
+
+impl PartialEq for JsonNumber {
+    ghost use Rattle.tinyjson_number.specs.Number.{number_eq, number_eq-equiv};
+    ghost use Rattle.std.specs.Cmp.{partial_equiv_from_equiv};
+
+    ghost eq = { number_eq };
+
+    ghost laws = { partial_equiv_from_equiv number_eq-equiv };
+
+    fn eq(&self, other: &JsonNumber) -> bool {
+        self.negative == other.negative
+            && self.power == other.power
+            && self.digits() == other.digits()
+    }
+}
+
+impl Eq for JsonNumber {
+    ghost use Rattle.tinyjson_number.specs.Number.{number_eq-equiv};
+
+    ghost laws = { number_eq-equiv };
 }

@@ -1,0 +1,150 @@
+-- The decimal of a numeral, from what the code keeps of it.
+use Rattle.std.proofs.Common.{◌≡◌, ◌≢◌, ℕ, ◌-◌, ◌<◌, ◌^◌, min, get_or, Bool, true, false, List, [], ◌∷◌, ◌++◌, length, ℤ, pos, neg_ℤ, ◌≤ℤ◌, IsTrue, ◌&&◌, ◌==◌, cond, refl, sym, ap, ◌∙◌, subst, ⊎_elim, arith, Option, Some, None, inl, inr, ◌⊎◌, Result, Ok, Err}
+use Rattle.std.specs.Prelude.{FitsSigned, int_le, int_lt}
+use Rattle.std.specs.Option.{option_map}
+use Rattle.std.specs.Result.{IsErrAnd}
+use Rattle.std.specs.Int.{w64}
+use Rattle.std.specs.Str.Parse.{digits_value}
+use Rattle.std.proofs.lemmas.Bool.{cases_lt}
+use Rattle.std.proofs.lemmas.Int.{ints}
+use Rattle.tinyjson_number.specs.Decimal.{Decimal, decimal_of, strip_leading, significant, trailing_zeros, zero_decimal}
+use Rattle.tinyjson_number.specs.Numeral.{Exponent, Numeral, AreDigits, signed, exponent_value, power_of, value, power_fits, power_width, in_range}
+use Rattle.tinyjson_number.specs.Canonical.{is_canonical}
+use Rattle.tinyjson_number.specs.NumberText.{Spells}
+use Rattle.tinyjson_number.specs.Number.{Canonical}
+use Rattle.tinyjson_number.specs.Literal.{exponent_cap, capped, shifted, Parts, parts}
+use Rattle.tinyjson_number.specs.Reading.{Reads, ReadsNumeral}
+use Rattle.tinyjson_number.specs.Error.{of_literal}
+use Rattle.tinyjson_number.specs.declared.error.JsonNumberError.{JsonNumberError}
+use Rattle.tinyjson_number.specs.declared.error.LiteralError.{LiteralError}
+use Rattle.tinyjson_number.specs.declared.error.LiteralError.TheVariants.{OutOfRange, OutOfMemory}
+use Rattle.tinyjson_number.proofs.Strips.{digits-leading, digits-trailing, first_leading, first_trailing, last_trailing}
+use Rattle.tinyjson_number.proofs.Forms.{formed}
+use Rattle.tinyjson_number.proofs.DecimalTrip.{decimal-of_some}
+
+-- ---- the range of powers
+
+fits_cases : (z : ℤ) → FitsSigned w64 z → (int_le (neg_ℤ (pos (2 ^ 63))) z && int_lt z (pos (2 ^ 63))) ≡ true
+fits_cases z h = grind (arith, ints)
+
+pub power-fits : (z : ℤ) → FitsSigned w64 z → IsTrue (power_fits power_width z)
+unfolding power_fits
+power-fits z h = fits_cases z h
+
+within_cases : (z : ℤ) → (int_le (neg_ℤ (pos (2 ^ 63))) z && int_lt z (pos (2 ^ 63))) ≡ true → FitsSigned w64 z
+within_cases z h = record { sfits = grind (arith, ints) }
+
+pub power-within : (z : ℤ) → IsTrue (power_fits power_width z) → FitsSigned w64 z
+unfolding power_fits
+power-within z h = within_cases z h
+
+refuted : (b : Bool) → ¬ IsTrue b → b ≡ false
+refuted true h = absurd (h refl)
+refuted false h = refl
+
+-- ---- the cap on the exponent
+
+cap_cases : (v : ℕ) → (min v exponent_cap ≡ v) ⊎ ((min v exponent_cap ≡ exponent_cap) × (exponent_cap < v))
+cap_cases v = ⊎_elim (λ over. inr (omega arith, over)) (λ under. inl (omega arith)) (cases_lt exponent_cap v)
+
+same_plus : (v f t : ℕ) → f < 2 ^ 64 → t < 2 ^ 64 → FitsSigned w64 (shifted (pos (min v exponent_cap)) f t) ⊎ FitsSigned w64 (shifted (pos v) f t) → min v exponent_cap ≡ v
+same_plus v f t hf ht fits = ⊎_elim (λ same. same) (λ over. absurd (⊎_elim (λ h. omega (arith, ints, h)) (λ h. omega (arith, ints, h)) fits)) (cap_cases v)
+
+same_minus : (v f t : ℕ) → f < 2 ^ 64 → t < 2 ^ 64 → FitsSigned w64 (shifted (neg_ℤ (pos (min v exponent_cap))) f t) ⊎ FitsSigned w64 (shifted (neg_ℤ (pos v)) f t) → min v exponent_cap ≡ v
+same_minus v f t hf ht fits = ⊎_elim (λ same. same) (λ over. absurd (⊎_elim (λ h. omega (arith, ints, h)) (λ h. omega (arith, ints, h)) fits)) (cap_cases v)
+
+sign_cases : (b : Bool) (v f t : ℕ) → f < 2 ^ 64 → t < 2 ^ 64 → FitsSigned w64 (shifted (cond b (neg_ℤ (pos (min v exponent_cap))) (pos (min v exponent_cap))) f t) ⊎ FitsSigned w64 (shifted (cond b (neg_ℤ (pos v)) (pos v)) f t) → cond b (neg_ℤ (pos (min v exponent_cap))) (pos (min v exponent_cap)) ≡ cond b (neg_ℤ (pos v)) (pos v)
+sign_cases true v f t hf ht fits = ap (λ n. neg_ℤ (pos n)) (same_minus v f t hf ht fits)
+sign_cases false v f t hf ht fits = ap pos (same_plus v f t hf ht fits)
+
+cap_signed : (s : Option ℕ) (v f t : ℕ) → f < 2 ^ 64 → t < 2 ^ 64 → FitsSigned w64 (shifted (signed s (min v exponent_cap)) f t) ⊎ FitsSigned w64 (shifted (signed s v) f t) → signed s (min v exponent_cap) ≡ signed s v
+cap_signed None v f t hf ht fits = ap pos (same_plus v f t hf ht fits)
+cap_signed (Some c) v f t hf ht fits = sign_cases (c == 45) v f t hf ht fits
+
+-- where either power is in range, the cap changed nothing
+cap_harmless : (e : Option Exponent) (f t : ℕ) → f < 2 ^ 64 → t < 2 ^ 64 → FitsSigned w64 (shifted (capped e) f t) ⊎ FitsSigned w64 (shifted (exponent_value e) f t) → capped e ≡ exponent_value e
+cap_harmless None f t hf ht fits = refl
+cap_harmless (Some e) f t hf ht fits = cap_signed e.sign (digits_value 10 e.digits) f t hf ht fits
+
+abbrev WithinCap : ℤ → Type 0
+WithinCap z = (neg_ℤ (pos exponent_cap) ≤ℤ z) × (z ≤ℤ pos exponent_cap)
+
+bound_cases : (b : Bool) (v : ℕ) → WithinCap (cond b (neg_ℤ (pos (min v exponent_cap))) (pos (min v exponent_cap)))
+bound_cases true v = (omega (arith, ints), omega (arith, ints))
+bound_cases false v = (omega (arith, ints), omega (arith, ints))
+
+signed_bounds : (s : Option ℕ) (v : ℕ) → WithinCap (signed s (min v exponent_cap))
+signed_bounds None v = (omega (arith, ints), omega (arith, ints))
+signed_bounds (Some c) v = bound_cases (c == 45) v
+
+pub capped_bounds : (e : Option Exponent) → WithinCap (capped e)
+capped_bounds None = (omega (arith, ints), omega (arith, ints))
+capped_bounds (Some e) = signed_bounds e.sign (digits_value 10 e.digits)
+
+-- ---- the decimal of a numeral
+
+-- stripped digits have the one form
+pub kept_is : (negative : Bool) (s : List ℕ) (power : ℤ) → 0 < length s → (ds : List ℕ) → s ≡ significant ds → AreDigits ds → FitsSigned w64 power → IsTrue (is_canonical negative s power)
+kept_is negative [] power some ds is all fits = absurd (omega arith)
+kept_is negative (c ∷ cs) power some ds is all fits = formed power_width negative c cs power (record {
+  digits = subst AreDigits (sym is) (digits-trailing (strip_leading ds) (digits-leading ds all));
+  first = subst (λ t. get_or t 0 0 ≢ 48) (sym is) (first_trailing (strip_leading ds) (first_leading ds));
+  last = subst (λ t. get_or t (length t - 1) 0 ≢ 48) (sym is) (last_trailing (strip_leading ds));
+  fits = power-fits power fits;
+})
+
+pub zero-value : (n : Numeral) → significant (n.whole ++ n.fraction) ≡ [] → value n ≡ zero_decimal
+unfolding value
+zero-value n h = ap (λ t. decimal_of n.negative t (power_of n)) h
+
+pub zero-in_range : (n : Numeral) → significant (n.whole ++ n.fraction) ≡ [] → IsTrue (in_range (value n))
+zero-in_range n h = subst (λ (d : Decimal). IsTrue (in_range d)) (sym (zero-value n h)) (power-fits (pos 0) (record { sfits = omega arith }))
+
+module _ (n : Numeral) (s : List ℕ) (zeros : ℕ) (is : s ≡ significant (n.whole ++ n.fraction)) (some : 0 < length s) (zeros_are : zeros ≡ trailing_zeros (n.whole ++ n.fraction)) (short : length n.fraction < 2 ^ 64) (few : zeros < 2 ^ 64) where
+  value_is : value n ≡ record { negative = n.negative; digits = s; power = power_of n }
+  unfolding value
+  value_is = ap (λ t. decimal_of n.negative t (power_of n)) (sym is) ∙ decimal-of_some n.negative s (power_of n) some
+
+  power_is : power_of n ≡ shifted (exponent_value n.exponent) (length n.fraction) zeros
+  power_is = ap (shifted (exponent_value n.exponent) (length n.fraction)) (sym zeros_are)
+
+  pub value_kept : (p : ℤ) → p ≡ shifted (capped n.exponent) (length n.fraction) zeros → FitsSigned w64 p → value n ≡ record { negative = n.negative; digits = s; power = p }
+  value_kept p p_is fits =
+      let harmless = cap_harmless n.exponent (length n.fraction) zeros short few (inl (subst (FitsSigned w64) p_is fits)) in
+      let same : power_of n ≡ p = power_is ∙ ap (λ e. shifted e (length n.fraction) zeros) (sym harmless) ∙ sym p_is in
+      value_is ∙ ap (λ q. record { negative = n.negative; digits = s; power = q }) same
+
+  pub value_in : (p : ℤ) → p ≡ shifted (capped n.exponent) (length n.fraction) zeros → FitsSigned w64 p → IsTrue (in_range (value n))
+  value_in p p_is fits = subst (λ q. IsTrue (power_fits power_width q)) (sym (ap (λ (d : Decimal). d.power) (value_kept p p_is fits))) (power-fits p fits)
+
+  pub value_out : ¬ FitsSigned w64 (shifted (capped n.exponent) (length n.fraction) zeros) → in_range (value n) ≡ false
+  value_out out = refuted (in_range (value n)) (λ fits.
+      let fits_real : FitsSigned w64 (shifted (exponent_value n.exponent) (length n.fraction) zeros) = subst (FitsSigned w64) (ap (λ (d : Decimal). d.power) value_is ∙ power_is) (power-within (value n).power fits) in
+      let harmless = cap_harmless n.exponent (length n.fraction) zeros short few (inr fits_real) in
+      out (subst (λ e. FitsSigned w64 (shifted e (length n.fraction) zeros)) (sym harmless) fits_real))
+
+-- ---- from the parts that the code keeps to the numeral
+
+pub kept_of : (o : Option Numeral) (p : Parts) → Some p ≡ option_map parts o → (n : Numeral) × (o ≡ Some n) × (p ≡ parts n)
+kept_of None p h = absurd (cc)
+kept_of (Some n) p h = (n, refl, cc)
+
+pub none_of : (o : Option Numeral) → None ≡ option_map parts o → o ≡ None
+none_of None h = refl
+none_of (Some n) h = absurd (cc)
+
+pub reads_number : (text : List ℕ) (n : Numeral) (x : Canonical) → Spells n text → ReadsNumeral n (Ok x) → Reads text (Ok x)
+reads_number text n x s r = (n, s, sym r.0, subst (λ (d : Decimal). IsTrue (in_range d)) (sym r.0) r.1)
+
+pub memory_refused : (n : Numeral) (r : Result Canonical LiteralError) → IsErrAnd r (λ e. e ≡ OutOfMemory) → IsTrue (in_range (value n)) → ReadsNumeral n r
+memory_refused n (Ok x) h fits = absurd h
+memory_refused n (Err OutOfRange) h fits = absurd (cc)
+memory_refused n (Err OutOfMemory) h fits = fits
+
+reads_error : (text : List ℕ) (n : Numeral) (e : LiteralError) → Spells n text → ReadsNumeral n (Err e) → Reads text (Err (of_literal e))
+reads_error text n OutOfRange s r = (n, s, r)
+reads_error text n OutOfMemory s r = (value n, (n, s, refl, r))
+
+pub refused_so : (text : List ℕ) (n : Numeral) (l : LiteralError) (r : Result Canonical JsonNumberError) → IsErrAnd r (λ e. e ≡ of_literal l) → Spells n text → ReadsNumeral n (Err l) → Reads text r
+refused_so text n l (Ok x) h s k = absurd h
+refused_so text n l (Err e) h s k = subst (λ (x : JsonNumberError). Reads text (Err x)) (sym h) (reads_error text n l s k)

@@ -1,0 +1,63 @@
+-- Runs of digits, and where a text may be cut.
+use Rattle.std.proofs.Common.{◌≡◌, ℕ, zero, suc, ◌+◌, ◌-◌, ◌<◌, ◌≤◌, true, List, [], ◌∷◌, length, get_or, IsTrue, IsUtf8, refl, subst, ⊎_elim, arith}
+use Rattle.std.specs.List.{prefix_len, list_all}
+use Rattle.std.specs.Str.{IsCharBoundary}
+use Rattle.std.specs.Char.{is_ascii_digit}
+use Rattle.std.specs.Int.{IsInRange}
+use Rattle.std.proofs.lemmas.Str.{IsCharBoundary-start, IsCharBoundary-after_ascii}
+use Rattle.std.proofs.lemmas.List.Sums.{prefix_len_passes, prefix_len-le-length, list_all-from_AllPass}
+use Rattle.std.proofs.lemmas.List.Folds.{length-prefix_len}
+use Rattle.std.proofs.lemmas.List.Elements.{All-from_get_or}
+use Rattle.std.proofs.lemmas.List.{get_or-take}
+use Rattle.std.proofs.lemmas.Bool.Decides.{nat_tests}
+use Rattle.std.proofs.lemmas.Bool.{cases_lt, and_parts, and_from}
+use Rattle.tinyjson_number.specs.Numeral.{AreDigits}
+use Rattle.tinyjson_number.specs.Literal.{digits_front}
+
+-- the same by std's word
+pub digits-list_all : (xs : List ℕ) → list_all is_ascii_digit xs ≡ true → AreDigits xs
+digits-list_all [] h = tt
+digits-list_all (d ∷ xs) h = let p = and_parts (is_ascii_digit d) (list_all is_ascii_digit xs) h in (p.0, digits-list_all xs p.1)
+
+pub list_all-digits : (xs : List ℕ) → AreDigits xs → list_all is_ascii_digit xs ≡ true
+list_all-digits [] h = refl
+list_all-digits (d ∷ xs) h = and_from (is_ascii_digit d) (list_all is_ascii_digit xs) h.0 (list_all-digits xs h.1)
+
+pub digit_at : (xs : List ℕ) (i : ℕ) → AreDigits xs → i < length xs → IsTrue (is_ascii_digit (get_or xs i 0))
+digit_at [] i h lt = absurd (omega arith)
+digit_at (d ∷ xs) zero h lt = h.0
+digit_at (d ∷ xs) (suc i) h lt = digit_at xs i h.1 (omega arith)
+
+pub range_from_digit : (c : ℕ) → IsTrue (is_ascii_digit c) → IsInRange 48 57 c
+range_from_digit c h = grind (arith, nat_tests)
+
+ascii_from_digit : (c : ℕ) → IsTrue (is_ascii_digit c) → c < 128
+ascii_from_digit c h = grind (arith, nat_tests)
+
+-- a text may be cut after the digits that it begins with
+pub boundary_after_digits : (bs : List ℕ) → IsUtf8 bs → IsCharBoundary bs (prefix_len is_ascii_digit bs)
+boundary_after_digits bs u =
+    ⊎_elim
+    (λ some.
+    let n : ℕ = prefix_len is_ascii_digit bs - 1 in
+    let more : n + 1 ≡ prefix_len is_ascii_digit bs = omega arith in
+    subst (IsCharBoundary bs) more (IsCharBoundary-after_ascii bs n u (omega (arith, prefix_len-le-length is_ascii_digit bs)) (ascii_from_digit _ (prefix_len_passes is_ascii_digit bs n 0 (omega arith)))))
+    (λ none.
+    let is_none : 0 ≡ prefix_len is_ascii_digit bs = omega arith in
+    subst (IsCharBoundary bs) is_none (IsCharBoundary-start bs u))
+    (cases_lt 0 (prefix_len is_ascii_digit bs))
+
+-- a text whose digits in front are all of it is all digits
+pub all_from_prefix : (xs : List ℕ) → length xs ≤ prefix_len is_ascii_digit xs → AreDigits xs
+all_from_prefix xs h = digits-list_all xs (list_all-from_AllPass is_ascii_digit xs (All-from_get_or (λ x. IsTrue (is_ascii_digit x)) xs 0 (λ i lt. prefix_len_passes is_ascii_digit xs i 0 (omega (arith, lt, h)))))
+
+-- the digits in front are digits
+pub front_digits : (xs : List ℕ) → AreDigits (digits_front xs)
+front_digits xs =
+    digits-list_all _ (list_all-from_AllPass is_ascii_digit _ (All-from_get_or (λ x. IsTrue (is_ascii_digit x)) (digits_front xs) 0 (λ i lt.
+    let within : i < prefix_len is_ascii_digit xs = omega (arith, lt, length-prefix_len is_ascii_digit xs) in
+    rw (get_or-take (prefix_len is_ascii_digit xs) xs i 0 within) (prefix_len_passes is_ascii_digit xs i 0 within))))
+
+-- digits may be cut anywhere
+pub boundary_in_digits : (xs : List ℕ) (k : ℕ) → AreDigits xs → k < length xs → 128 ≤ get_or xs k 0 → 192 ≤ get_or xs k 0
+boundary_in_digits xs k all lt high = absurd (omega (arith, high, ascii_from_digit (get_or xs k 0) (digit_at xs k all lt)))
