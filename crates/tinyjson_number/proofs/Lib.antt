@@ -5,3 +5,4 @@ pub mod DecimalTrip
 pub mod Runs
 pub mod Literals
 pub mod Readings
+pub mod Layouts

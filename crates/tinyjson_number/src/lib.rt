@@ -6,9 +6,11 @@
 
 mod digits;
 mod error;
+mod layout;
 mod literal;
 mod number;
 mod reading;
 
 pub use error::{JsonNumberError, LiteralError};
+pub use layout::Layout;
 pub use number::JsonNumber;
