@@ -11,13 +11,19 @@ use Rattle.std.proofs.lemmas.List.{at_drop_more, take_more, get_or-drop, drop_al
 use Rattle.std.proofs.lemmas.Bool.Decides.{nat_tests}
 use Rattle.tinyjson.specs.declared.value.JsonValue.{JsonValue}
 use Rattle.tinyjson.specs.Written.{Written}
-use Rattle.tinyjson.specs.Text.{text, repeated, items_text, members_text, before, after_colon, quoted, escape, escapes, has_no_items, has_no_members}
+use Rattle.tinyjson.specs.Text.{text, repeated, items_text, members_text, before, separator, newline, closing, after_colon, quoted, escape, escapes, has_no_items, has_no_members}
 use Rattle.std.specs.Ordering.{nat_cmp, match_ordering}
 use Rattle.std.specs.Cmp.Lexicographic.{slice_cmp}
 use Rattle.std.specs.declared.cmp.Ordering.TheVariants.{Less, Equal, Greater}
-use Rattle.tinyjson.specs.Tree.{Tree, Members, no_members, member, put}
+use Rattle.tinyjson.specs.Tree.{Tree, array, object, Members, no_members, member, put}
 use Rattle.tinyjson.specs.View.{view, items_view, members_view}
 use Rattle.tinyjson.specs.Sorted.{sorted_view}
+use Rattle.tinyjson_number.specs.Text.{natural_text, integer_text}
+use Rattle.tinyjson_number.proofs.Naturals.{natural-decimal}
+use Rattle.std.proofs.lemmas.Fmt.{decimal_digit, decimal_step_wide}
+use Rattle.std.proofs.Common.{◌^◌, ℤ, pos, negsuc}
+use Rattle.std.specs.Prelude.{unsigned_abs, int_lt}
+use Rattle.std.proofs.lemmas.Int.{ints}
 
 abbrev pub enc : List ℕ → List ℕ
 enc = encode_utf8_all
@@ -35,6 +41,37 @@ three a b c = encodes-append a (b ++ c) ∙ ap (λ w. enc a ++ w) (encodes-appen
 -- an ASCII character, and two texts
 pub opened : (a : ℕ) (cs ds : List ℕ) → a < 128 → enc (a ∷ (cs ++ ds)) ≡ a ∷ [] ++ (enc cs ++ enc ds)
 opened a cs ds h = enc_cons a (cs ++ ds) h ∙ ap (λ w. a ∷ w) (encodes-append cs ds)
+
+pub closed : (cs : List ℕ) (b : ℕ) → b < 128 → enc (cs ++ b ∷ []) ≡ enc cs ++ b ∷ []
+closed cs b h = encodes-append cs (b ∷ []) ∙ ap (λ w. enc cs ++ w) (enc_cons b [] h)
+
+-- an array that is not empty, and an object
+pub array_here : (w : Option (List ℕ)) (k : ℕ) (xs : List JsonValue) → has_no_items (items_view xs) ≡ false
+    → enc (text w k (array (items_view xs))) ≡ 91 ∷ [] ++ (enc (items_text w (k + 1) true (items_view xs)) ++ (enc (newline w k) ++ 93 ∷ []))
+array_here w k xs e =
+    let its = items_text w (k + 1) true (items_view xs) in
+    ap (λ b. enc (91 ∷ (its ++ closing w k b 93))) e ∙ opened 91 its (newline w k ++ 93 ∷ []) (omega arith) ∙ ap (λ v. 91 ∷ [] ++ (enc its ++ v)) (closed (newline w k) 93 (omega arith))
+
+pub object_here : (w : Option (List ℕ)) (k : ℕ) (ms : Members) → has_no_members ms ≡ false
+    → enc (text w k (object ms)) ≡ 123 ∷ [] ++ (enc (members_text w (k + 1) true ms) ++ (enc (newline w k) ++ 125 ∷ []))
+object_here w k ms e =
+    let mems = members_text w (k + 1) true ms in
+    ap (λ b. enc (123 ∷ (mems ++ closing w k b 125))) e ∙ opened 123 mems (newline w k ++ 125 ∷ []) (omega arith) ∙ ap (λ v. 123 ∷ [] ++ (enc mems ++ v)) (closed (newline w k) 125 (omega arith))
+
+-- what stands before an item
+pub comma_here : (first : Bool) (n : List ℕ) → first ≡ false → enc (separator first ++ n) ≡ 44 ∷ [] ++ enc n
+comma_here first n e = ap (λ b. enc (separator b ++ n)) e ∙ enc_cons 44 n (omega arith)
+
+pub no_comma : (first : Bool) (n : List ℕ) → first ≡ true → enc (separator first ++ n) ≡ enc n
+no_comma first n e = ap (λ b. enc (separator b ++ n)) e
+
+-- the digits of a number
+pub natural_more : (n : ℕ) → 10 ≤ n → n < 2 ^ 128 → natural_text n ≡ natural_text (n / 10) ++ (48 + n % 10) ∷ []
+natural_more n h s =
+    natural-decimal n (omega arith) ∙ decimal_step_wide n h (omega arith) ∙ ap (λ w. w ++ (48 + n % 10) ∷ []) (sym (natural-decimal (n / 10) (omega arith)))
+
+pub natural_one : (n : ℕ) → n < 10 → natural_text n ≡ (48 + n % 10) ∷ []
+natural_one n h = let e : n % 10 ≡ n = omega arith in natural-decimal n (omega arith) ∙ decimal_digit n h ∙ ap (λ d. (48 + d) ∷ []) (sym e)
 
 -- what is left of a list's text at the item x, where `end` follows the list
 pub items_here : (w : Option (List ℕ)) (k : ℕ) (first : Bool) (xs : List JsonValue) (i : ℕ) (x : JsonValue) (end : List ℕ) → i < length xs → x ≡ get_or xs i x
@@ -74,10 +111,6 @@ no_items_is (x ∷ xs) = grind (arith, nat_tests)
 put_some : (k : List ℕ) (t : Tree) (ms : Members) → has_no_members (put k t ms) ≡ false
 put_some k t no_members = refl
 put_some k t (member l u ms) = elim (slice_cmp nat_cmp (enc k) (enc l)) as (λ r. has_no_members (match_ordering r (member k t (member l u ms)) (member k t ms) (member l u (put k t ms))) ≡ false) [ Less ↦ refl | Equal ↦ refl | Greater ↦ refl ]
-
-pub no_members_is : (es : List (String Global × JsonValue)) → has_no_members (members_view es) ≡ nat_eq (length es) 0
-no_members_is [] = refl
-no_members_is (e ∷ es) = let n : false ≡ nat_eq (suc (length es)) 0 = grind (arith, nat_tests) in put_some (chars (string_bytes e.0)) (view e.1) (members_view es) ∙ n
 
 -- characters below 128
 abbrev Plain : List ℕ → Type 0
@@ -197,10 +230,15 @@ line_here level done bs u h =
     let e : level - done ≡ suc (level - (done + 1)) = omega arith in
     ap (λ n. enc (repeated n (chars bs))) e ∙ encodes-append (chars bs) r ∙ ap (λ w. w ++ enc r) (encodes-chars bs u)
 
-pub closed : (cs : List ℕ) (b : ℕ) → b < 128 → enc (cs ++ b ∷ []) ≡ enc cs ++ b ∷ []
-closed cs b h = encodes-append cs (b ∷ []) ∙ ap (λ w. enc cs ++ w) (enc_cons b [] h)
+pub some_members : (es : List (String Global × JsonValue)) (b : Bool) → (length es ≡ 0 → b ≡ true) → b ≡ false → has_no_members (members_view es) ≡ false
+some_members [] b h e = let t = h refl in cc
+some_members (x ∷ es) b h e = put_some (chars (string_bytes x.0)) (view x.1) (members_view es)
 
-pub empty_is : (b : Bool) (n : ℕ) → (b ≡ true → n ≡ 0) → (n ≡ 0 → b ≡ true) → b ≡ nat_eq n 0
-empty_is true n f g = let e : n ≡ 0 = f refl in rw e refl
-empty_is false zero f g = absurd (let h : false ≡ true = g refl in cc)
-empty_is false (suc n) f g = grind (arith, nat_tests)
+-- an exponent with its letter: the sign, and its digits
+pub negative_exponent : (z : ℤ) (n : ℕ) → int_lt z (pos 0) ≡ true → n ≡ unsigned_abs z → 101 ∷ integer_text z ≡ 101 ∷ 45 ∷ [] ++ natural_text n
+negative_exponent (pos m) n h e = absurd (grind (arith, ints))
+negative_exponent (negsuc m) n h e = ap (λ k. 101 ∷ 45 ∷ natural_text k) (sym e)
+
+pub positive_exponent : (z : ℤ) (n : ℕ) → int_lt z (pos 0) ≡ false → n ≡ unsigned_abs z → 101 ∷ integer_text z ≡ 101 ∷ [] ++ natural_text n
+positive_exponent (pos m) n h e = ap (λ k. 101 ∷ natural_text k) (sym e)
+positive_exponent (negsuc m) n h e = absurd (grind (arith, ints))

@@ -13,3 +13,5 @@ pub mod Text
 pub mod Machine
 pub mod Written
 pub mod Sorted
+pub mod Indent
+pub mod Generator

@@ -19,6 +19,7 @@ pub mod number;
 pub mod parser;
 pub mod value;
 
+pub use generator::JsonGenerator;
 pub use number::JsonNumber;
 pub use parser::{JsonParseError, JsonParseErrorKind};
 pub use value::{JsonKind, JsonValue};
