@@ -14,3 +14,7 @@ pub mod Answering
 pub mod Equality
 pub mod Index
 pub mod Steps
+pub mod Writing
+pub mod Sorted
+pub mod Texts
+pub mod Sizes

@@ -20,3 +20,7 @@ pub mod Cursor
 pub mod Reading
 pub mod Numbers
 pub mod Parser
+pub mod Written
+pub mod Sorted
+pub mod Indent
+pub mod Generator

@@ -50,5 +50,5 @@ pub record ParsesText (xs : List ℕ) (result : Result JsonValue JsonParseError)
   pub rest : List ℕ
   pub whole : xs ≡ consumed ++ rest
   pub answer : MatchResult result
-    (λ v. (rest ≡ []) × IsText None xs (view v))
-    (λ e. (error_position e ≡ advance origin consumed) × RefusalSays None (error_kind e) consumed rest)
+      (λ v. (rest ≡ []) × IsText None xs (view v))
+      (λ e. (error_position e ≡ advance origin consumed) × RefusalSays None (error_kind e) consumed rest)

@@ -1,5 +1,5 @@
 -- The text of a tree, without white space or with indents.
-use Rattle.std.specs.Prelude.{ℕ, zero, suc, Option, None, Some, ◌+◌, ◌/◌, ◌%◌, ◌==◌, nat_lt, List, [], ◌∷◌, ◌++◌, Bool, true, false, cond, codes}
+use Rattle.std.specs.Prelude.{◌≡◌, ◌<◌, ◌⊎◌, ℕ, zero, suc, Option, None, Some, ◌+◌, ◌/◌, ◌%◌, ◌==◌, nat_lt, List, [], ◌∷◌, ◌++◌, Bool, true, false, cond, codes}
 use Rattle.std.specs.Char.{digit_char}
 use Rattle.tinyjson.specs.Tree.{Tree, Items, Members, null, boolean, number, string, array, object, no_items, item, no_members, member}
 use Rattle.tinyjson_number.specs.Text.{decimal_text}
@@ -15,6 +15,10 @@ escape c =
     (cond (c == 34) (codes "\\\"")
     (cond (c == 92) (codes "\\\\")
     (cond (nat_lt c 32) (codes "\\u00" ++ digit_char (c / 16) ∷ digit_char (c % 16) ∷ []) (c ∷ []))))))))
+
+-- the characters that do not stand as they are
+abbrev pub IsEscaped : ℕ → Type 0
+IsEscaped c = (c < 32) ⊎ ((c ≡ 34) ⊎ (c ≡ 92))
 
 abbrev pub escapes : List ℕ → List ℕ
 escapes [] = []

@@ -14,10 +14,12 @@
 //! | Object  | `HashMap<String, JsonValue>` |
 #![tactic(auto)]
 
+pub mod generator;
 pub mod number;
 pub mod parser;
 pub mod value;
 
+pub use generator::JsonGenerator;
 pub use number::JsonNumber;
 pub use parser::{JsonParseError, JsonParseErrorKind, JsonParseResult, JsonParser};
 pub use value::{InnerAsRef, InnerAsRefMut, JsonKind, JsonValue, UnexpectedValue};

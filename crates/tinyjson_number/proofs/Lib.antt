@@ -7,3 +7,4 @@ pub mod Literals
 pub mod Readings
 pub mod Integers
 pub mod Laws
+pub mod Layouts

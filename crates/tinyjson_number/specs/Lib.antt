@@ -8,3 +8,4 @@ pub mod Error
 pub mod Literal
 pub mod Integer
 pub mod Reading
+pub mod Layout

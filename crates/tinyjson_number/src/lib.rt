@@ -7,12 +7,14 @@
 mod digits;
 mod error;
 mod integer;
+mod layout;
 mod literal;
 mod number;
 mod reading;
 mod text;
 
 pub use error::{JsonNumberError, LiteralError};
+pub use layout::Layout;
 pub use number::JsonNumber;
 
 #[cfg(test)]

@@ -1,0 +1,74 @@
+use Rattle.std.proofs.Common.{◌≡◌, ℕ, rules, List, [], ◌++◌, Option, sym, ◌∙◌}
+use Rattle.std.proofs.lemmas.Str.{encodes-IsAscii}
+use Rattle.std.proofs.lemmas.Int.{to_z-of_z}
+use Rattle.std.specs.Int.{w128}
+use mir.Val.{SFits}
+use Rattle.tinyjson_number.specs.Layout.{power_text, layout_text}
+use Rattle.tinyjson_number.specs.Number.{Canonical}
+use Rattle.tinyjson_number.specs.Text.{decimal_text}
+use Rattle.tinyjson_number.specs.declared.layout.Layout.{Layout}
+use Rattle.tinyjson_number.proofs.Layouts.{decimal_ascii}
+use Rattle.tinyjson.specs.Written.{Written}
+use Rattle.tinyjson.proofs.Writing.{goes, ends, fails, written_none}
+use Rattle.tinyjson.proofs.Texts.{enc}
+use Rattle.tinyjson.proofs.generator.number.write_number.Goals as goal
+
+module _ (n : Canonical) (l : Layout) (is : layout_text l ≡ decimal_text n.decimal) where
+  abbrev bytes : List ℕ
+  bytes = enc (decimal_text n.decimal)
+
+  at_sign : (old : Option (List ℕ)) → Written old old bytes (layout_text l)
+  at_sign old = written_none old bytes (layout_text l) (encodes-IsAscii (decimal_text n.decimal) (decimal_ascii n.decimal n.canonical) ∙ sym is)
+
+  at_front : {old s1 : Option (List ℕ)} → Written old s1 l.sign.now [] → Written old s1 bytes (l.front.now ++ (l.middle.now ++ (l.back.now ++ power_text l.exponent)))
+  at_front {old} sign = goes (l.front.now ++ (l.middle.now ++ (l.back.now ++ power_text l.exponent))) sign (at_sign old)
+
+  at_middle : {old s1 s2 : Option (List ℕ)} → Written old s1 l.sign.now [] → Written s1 s2 l.front.now [] → Written old s2 bytes (l.middle.now ++ (l.back.now ++ power_text l.exponent))
+  at_middle sign front = goes (l.middle.now ++ (l.back.now ++ power_text l.exponent)) front (at_front sign)
+
+  at_back : {old s1 s2 s3 : Option (List ℕ)} → Written old s1 l.sign.now [] → Written s1 s2 l.front.now [] → Written s2 s3 l.middle.now [] → Written old s3 bytes (l.back.now ++ power_text l.exponent)
+  at_back sign front middle = goes (l.back.now ++ power_text l.exponent) middle (at_middle sign front)
+
+  at_power : {old s1 s2 s3 s4 : Option (List ℕ)} → Written old s1 l.sign.now [] → Written s1 s2 l.front.now [] → Written s2 s3 l.middle.now [] → Written s3 s4 l.back.now [] → Written old s4 bytes (power_text l.exponent)
+  at_power sign front middle back = goes (power_text l.exponent) back (at_back sign front middle)
+
+pub returns-in_err-write_bytes : goal.returns-in_err-write_bytes
+returns-in_err-write_bytes g c =
+    fails _ _ c.from_residual.ensures.0 (rw c.as_bytes.ensures.value at c.in_err-write_bytes.ensures) (at_sign c.args.number.now c.layout-layout.result c.layout-layout.ensures _)
+
+pub returns-in_err-write_bytes-2 : goal.returns-in_err-write_bytes-2
+returns-in_err-write_bytes-2 g c =
+    let sign = rw c.as_bytes.ensures.value at c.in_ok-write_bytes.ensures in
+    fails _ _ c.from_residual-in_err-write_bytes-2.ensures.0 (rw c.as_bytes-2.ensures.value at c.in_err-write_bytes-2.ensures) (at_front c.args.number.now c.layout-layout.result c.layout-layout.ensures sign)
+
+pub returns-in_err-write_bytes-3 : goal.returns-in_err-write_bytes-3
+returns-in_err-write_bytes-3 g c =
+    let sign = rw c.as_bytes.ensures.value at c.in_ok-write_bytes.ensures in
+    let front = rw c.as_bytes-2.ensures.value at c.in_ok-write_bytes-2.ensures in
+    fails _ _ c.from_residual-in_err-write_bytes-3.ensures.0 (rw c.as_bytes-3.ensures.value at c.in_err-write_bytes-3.ensures) (at_middle c.args.number.now c.layout-layout.result c.layout-layout.ensures sign front)
+
+pub returns-in_err-write_bytes-4 : goal.returns-in_err-write_bytes-4
+returns-in_err-write_bytes-4 g c =
+    let sign = rw c.as_bytes.ensures.value at c.in_ok-write_bytes.ensures in
+    let front = rw c.as_bytes-2.ensures.value at c.in_ok-write_bytes-2.ensures in
+    let middle = rw c.as_bytes-3.ensures.value at c.in_ok-write_bytes-3.ensures in
+    fails _ _ c.from_residual-in_err-write_bytes-4.ensures.0 (rw c.as_bytes-4.ensures.value at c.in_err-write_bytes-4.ensures) (at_back c.args.number.now c.layout-layout.result c.layout-layout.ensures sign front middle)
+
+pub returns-in-None : goal.returns-in-None
+returns-in-None g c =
+    let sign = rw c.as_bytes.ensures.value at c.in_ok-write_bytes.ensures in
+    let front = rw c.as_bytes-2.ensures.value at c.in_ok-write_bytes-2.ensures in
+    let middle = rw c.as_bytes-3.ensures.value at c.in_ok-write_bytes-3.ensures in
+    let back = rw c.as_bytes-4.ensures.value at c.in_ok-write_bytes-4.ensures in
+    let all = at_power c.args.number.now c.layout-layout.result c.layout-layout.ensures sign front middle back in
+    rw c.in-None.is at all
+
+pub returns-in-Some : goal.returns-in-Some
+returns-in-Some g c =
+    let sign = rw c.as_bytes.ensures.value at c.in_ok-write_bytes.ensures in
+    let front = rw c.as_bytes-2.ensures.value at c.in_ok-write_bytes-2.ensures in
+    let middle = rw c.as_bytes-3.ensures.value at c.in_ok-write_bytes-3.ensures in
+    let back = rw c.as_bytes-4.ensures.value at c.in_ok-write_bytes-4.ensures in
+    let all = at_power c.args.number.now c.layout-layout.result c.layout-layout.ensures sign front middle back in
+    let fits : SFits w128 c.in-Some.exponent = search rules in
+    ends _ _ _ _ _ _ c.write_exponent.ensures (rw (to_z-of_z w128 c.in-Some.exponent fits) (rw c.in-Some.is at all))

@@ -1,0 +1,20 @@
+-- A map's members in a list of references.
+use Rattle.std.specs.Prelude.{ℕ, List, [], ◌∷◌, String, string_bytes}
+use Rattle.std.specs.Borrow.{Bor}
+use Rattle.std.specs.Str.{chars}
+use Rattle.std.specs.declared.alloc.Global.{Global}
+use Rattle.tinyjson.specs.Tree.{Members, no_members, member}
+use Rattle.tinyjson.specs.View.{view}
+use Rattle.tinyjson.specs.declared.value.JsonValue.{JsonValue}
+
+-- a member by its key's bytes: of a map's entry, and of a pair of references
+abbrev pub bytes_pair : String Global × JsonValue → List ℕ × JsonValue
+bytes_pair e = (string_bytes e.0, e.1)
+
+abbrev pub now_pair : Bor (List ℕ) × Bor JsonValue → List ℕ × JsonValue
+now_pair p = (p.0.now, p.1.now)
+
+-- the members that the list has, as it stands
+abbrev pub sorted_view : List (Bor (List ℕ) × Bor JsonValue) → Members
+sorted_view [] = no_members
+sorted_view (m ∷ ms) = member (chars m.0.now) (view m.1.now) (sorted_view ms)

@@ -1,0 +1,67 @@
+-- Digits and zeros as text that may be cut anywhere.
+use Rattle.std.proofs.Common.{ℕ, zero, suc, ◌<◌, ◌≤◌, Bool, true, false, List, [], ◌∷◌, ◌++◌, Option, None, Some, IfSome, length, replicate, ℤ, subst, IsTrue, arith}
+use Rattle.std.specs.Str.{IsAscii, IsCharBoundary}
+use Rattle.std.proofs.lemmas.Str.{IsCharBoundary-from_ascii, IsAscii-append}
+use Rattle.std.proofs.lemmas.Bool.Decides.{nat_tests}
+use Rattle.tinyjson_number.specs.Canonical.{is_canonical, IsDecimal}
+use Rattle.tinyjson_number.specs.Decimal.{Decimal}
+use Rattle.tinyjson_number.specs.Text.{decimal_text}
+use Rattle.tinyjson_number.proofs.DecimalTrip.{decimal-spelt}
+use Rattle.tinyjson_number.specs.Number.{Canonical}
+use Rattle.tinyjson_number.specs.Numeral.{AreDigits, power_width, Numeral, Exponent, IsNumeral, IsExponent, minus_text, sign_text, fraction_text, exponent_text, spelling, is_sign}
+use Rattle.tinyjson_number.proofs.Forms.{form}
+use Rattle.tinyjson_number.proofs.Runs.{range_from_digit}
+
+pub zeros_ascii : (n : ℕ) → IsAscii (replicate n 48)
+zeros_ascii zero i = omega arith
+zeros_ascii (suc n) zero = omega arith
+zeros_ascii (suc n) (suc i) = zeros_ascii n i
+
+none_ascii : IsAscii []
+none_ascii i = omega arith
+
+pub digits_ascii : (ds : List ℕ) → AreDigits ds → IsAscii ds
+digits_ascii [] h i = omega arith
+digits_ascii (d ∷ ds) h zero = let r = range_from_digit d h.0 in omega (arith, r)
+digits_ascii (d ∷ ds) h (suc i) = digits_ascii ds h.1 i
+
+pub boundary_in_digits : (ds : List ℕ) (i : ℕ) → AreDigits ds → i ≤ length ds → IsCharBoundary ds i
+boundary_in_digits ds i h within = IsCharBoundary-from_ascii ds i (digits_ascii ds h) within
+
+kept_digits : (negative : Bool) (ds : List ℕ) (power : ℤ) → IsTrue (is_canonical negative ds power) → AreDigits ds
+kept_digits negative [] power h = tt
+kept_digits negative (d ∷ ds) power h = (form power_width negative d ds power h).digits
+
+pub digits_are : (c : Canonical) → AreDigits c.decimal.digits
+digits_are c = kept_digits c.decimal.negative c.decimal.digits c.decimal.power c.canonical
+
+-- ---- a decimal's text is ASCII
+
+more_ascii : (c : ℕ) (cs : List ℕ) → c < 128 → IsAscii cs → IsAscii (c ∷ cs)
+more_ascii c cs h k zero = h
+more_ascii c cs h k (suc i) = k i
+
+minus_ascii : (b : Bool) → IsAscii (minus_text b)
+minus_ascii true = more_ascii 45 [] (omega arith) none_ascii
+minus_ascii false = none_ascii
+
+fraction_ascii : (ds : List ℕ) → AreDigits ds → IsAscii (fraction_text ds)
+fraction_ascii [] h = none_ascii
+fraction_ascii (d ∷ ds) h = more_ascii 46 (d ∷ ds) (omega arith) (digits_ascii (d ∷ ds) h)
+
+sign_ascii : (s : Option ℕ) → IfSome s (λ c. IsTrue (is_sign c)) → IsAscii (sign_text s)
+sign_ascii None h = none_ascii
+sign_ascii (Some c) h = more_ascii c [] (grind (arith, nat_tests)) none_ascii
+
+exponent_ascii : (e : Option Exponent) → IfSome e IsExponent → IsAscii (exponent_text e)
+exponent_ascii None h = none_ascii
+exponent_ascii (Some e) h =
+    more_ascii e.letter _ (let l = h.letter in grind (arith, nat_tests)) (IsAscii-append (sign_text e.sign) e.digits (sign_ascii e.sign h.sign) (digits_ascii e.digits h.digits))
+
+spelling_ascii : (n : Numeral) → IsNumeral n → IsAscii (spelling n)
+spelling_ascii n h =
+    IsAscii-append (minus_text n.negative) _ (minus_ascii n.negative) (IsAscii-append n.whole _ (digits_ascii n.whole h.whole)
+    (IsAscii-append (fraction_text n.fraction) _ (fraction_ascii n.fraction h.fraction) (exponent_ascii n.exponent h.exponent)))
+
+pub decimal_ascii : (d : Decimal) → IsDecimal d → IsAscii (decimal_text d)
+decimal_ascii d h = let s = decimal-spelt power_width d h in subst IsAscii s.text (spelling_ascii s.numeral s.is)
