@@ -226,7 +226,8 @@ impl<I: Iterator<Item = char>> Reader<I> {
             }
             '[' => self.array(limit, stack),
             '{' => self.object(limit, stack),
-            '-' | '0'..='9' => self.number(),
+            '-' => self.number(),
+            c if c.is_ascii_digit() => self.number(),
             c => Err(self.refuse(JsonParseErrorKind::InvalidCharacter(c))),
         }
     }

@@ -8,7 +8,6 @@ use Rattle.tinyjson.specs.Refusal.{begins_growth}
 use Rattle.tinyjson.proofs.Growth.{grows-at, grows-for, grows-none, growth_of, digit-grows}
 use Rattle.tinyjson.proofs.Readings.{end_awaited, Leads-whites, Leads-one, Leads-end, Leads-shown, Refuses-as, Reads-after, white_awaited, invalid}
 use Rattle.tinyjson.proofs.parser.reader.Reader.value.Goals as goal
-use Rattle.tinyjson.proofs.parser.reader.Reader.value.Goals.{in-45-1, in_default+else-first-lt48+then-first-lt58, in_default-first-via-then-first-lt48, in_default-first-via-else-first-lt48+else-first-lt58}
 
 pub returns-in_default-clause-reads : goal.returns-in_default-clause-reads
 returns-in_default-clause-reads g c =
@@ -75,16 +74,6 @@ returns-in-45-clause-reads g c =
     let limit = c.args.limit in
     Reads-after steps limit _ _ _ _ _ (Leads-whites steps limit _ _ _ c.skip_white.ensures.white tt (white_awaited limit _)) (c.number.ensures.reads limit _)
 
-pub returns-in_default-first-clause-reads : goal.returns-in_default-first-clause-reads
-returns-in_default-first-clause-reads g c =
-    let steps = g.I.Iterator.next_gives in
-    let limit = c.args.limit in
-    let d : is_ascii_digit c.in-Some.first ≡ false =
-    elim c.in_default-first-1.branch [ in_default-first-via-then-first-lt48 w ↦ grind (arith, nat_tests) | in_default-first-via-else-first-lt48+else-first-lt58 w ↦ grind (arith, nat_tests) ] in
-    Refuses-as steps limit _ _ c.refuse-in_default-first.result (InvalidCharacter c.in-Some.first) c.refuse-in_default-first.ensures.kind c.refuse-in_default-first.ensures.at
-    (Leads-shown steps limit _ _ c.in-Some.first (Leads-whites steps limit _ _ _ c.skip_white.ensures.white tt (white_awaited limit _)) c.in-Some.ensures.shows
-    (invalid limit _ c.in-Some.first c.in-Some.ensures.stops (search rules) (search rules) (search rules) (search rules) (search rules) (search rules) (search rules) d) tt)
-
 pub returns-in-n-clause-memory : goal.returns-in-n-clause-memory
 returns-in-n-clause-memory g c = grows-none g.I.Iterator.next_gives _ _ c.literal.ensures.whole c.literal.ensures.memory
 
@@ -112,6 +101,23 @@ returns-in-123-clause-memory g c =
 pub returns-in-45-clause-memory : goal.returns-in-45-clause-memory
 returns-in-45-clause-memory g c =
     let steps = g.I.Iterator.next_gives in
-    let grows : IsTrue (begins_growth c.in-Some.first) =
-    elim c.in-45-1.branch [ in-45-1 w ↦ growth_of c.in-Some.first 45 (search rules) refl | in_default+else-first-lt48+then-first-lt58 w ↦ digit-grows c.in-Some.first (grind (arith, nat_tests)) ] in
-    grows-for steps _ _ (grows-at steps _ _ c.in-Some.first c.skip_white.ensures.white c.in-Some.ensures.shows grows)
+    grows-for steps _ _ (grows-at steps _ _ c.in-Some.first c.skip_white.ensures.white c.in-Some.ensures.shows (growth_of c.in-Some.first 45 (search rules) refl))
+
+pub returns-in_default-first-clause-reads : goal.returns-in_default-first-clause-reads
+returns-in_default-first-clause-reads g c =
+    let steps = g.I.Iterator.next_gives in
+    let limit = c.args.limit in
+    Reads-after steps limit _ _ _ _ _ (Leads-whites steps limit _ _ _ c.skip_white.ensures.white tt (white_awaited limit _)) (c.number-in_default-first.ensures.reads limit _)
+
+pub returns-in_default-first-clause-memory : goal.returns-in_default-first-clause-memory
+returns-in_default-first-clause-memory g c =
+    let steps = g.I.Iterator.next_gives in
+    grows-for steps _ _ (grows-at steps _ _ c.in-Some.first c.skip_white.ensures.white c.in-Some.ensures.shows (digit-grows c.in-Some.first (search rules)))
+
+pub returns-in_default-2-clause-reads : goal.returns-in_default-2-clause-reads
+returns-in_default-2-clause-reads g c =
+    let steps = g.I.Iterator.next_gives in
+    let limit = c.args.limit in
+    Refuses-as steps limit _ _ c.refuse-in_default-2.result (InvalidCharacter c.in-Some.first) c.refuse-in_default-2.ensures.kind c.refuse-in_default-2.ensures.at
+    (Leads-shown steps limit _ _ c.in-Some.first (Leads-whites steps limit _ _ _ c.skip_white.ensures.white tt (white_awaited limit _)) c.in-Some.ensures.shows
+    (invalid limit _ c.in-Some.first c.in-Some.ensures.stops (search rules) (search rules) (search rules) (search rules) (search rules) (search rules) (search rules) (search rules)) tt)
