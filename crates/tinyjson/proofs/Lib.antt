@@ -7,3 +7,4 @@ pub mod Writing
 pub mod Sorted
 pub mod Texts
 pub mod Sizes
+pub mod Scalars

@@ -3,6 +3,8 @@ ghost use Rattle.std.specs.Prelude.{◌≡◌};
 ghost use Rattle.tinyjson.specs.Kind.{kind_of};
 ghost use Rattle.tinyjson.specs.View.{view};
 
+mod text;
+
 use crate::number::JsonNumber;
 use std::collections::HashMap;
 use std::fmt;
