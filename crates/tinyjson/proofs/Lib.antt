@@ -18,3 +18,4 @@ pub mod Writing
 pub mod Sorted
 pub mod Texts
 pub mod Sizes
+pub mod Scalars

@@ -1,12 +1,13 @@
 -- A text's bytes, piece by piece.
-use Rattle.std.proofs.Common.{◌≡◌, ℕ, zero, suc, ◌+◌, ◌/◌, ◌%◌, cond, ◌⊎◌, inl, inr, Bool, true, false, Option, List, [], ◌∷◌, ◌++◌, length, get_or, take, drop, length-drop, ◌-◌, ◌≤◌, refl, sym, ◌∙◌, ap, append_assoc, append-nil, String, string_bytes, arith, codes, lit<, subst, ◌<◌}
+use Rattle.std.proofs.Common.{◌==◌, ◌≡◌, ℕ, zero, suc, ◌+◌, ◌/◌, ◌%◌, cond, ◌⊎◌, inl, inr, Bool, true, false, Option, List, [], ◌∷◌, ◌++◌, length, get_or, take, drop, length-drop, ◌-◌, ◌≤◌, refl, sym, ◌∙◌, ap, append_assoc, append-nil, String, string_bytes, arith, lit<, subst, ◌<◌}
 use Rattle.std.specs.Borrow.{Bor}
 use Rattle.std.specs.declared.alloc.Global.{Global}
-use Rattle.std.specs.Str.{encode_utf8_all, chars, IsUtf8}
+use Rattle.std.specs.Str.{encode_utf8_all, chars, IsUtf8, IsAscii}
+use Rattle.tinyjson_number.proofs.Layouts.{none_ascii, more_ascii}
 use Rattle.std.proofs.Math.Utf8.{encode}
 use Rattle.std.specs.Char.{digit_char}
 use Rattle.std.specs.Bool.{nat_lt, nat_eq}
-use Rattle.std.proofs.lemmas.Str.{encodes-append, encode_ascii, encodes-chars, inside_one}
+use Rattle.std.proofs.lemmas.Str.{encodes-append, encode_ascii, encodes-chars, encodes-IsAscii, inside_one, IsAscii-append}
 use Rattle.std.proofs.lemmas.List.{at_drop_more, take_more, get_or-drop, drop_all}
 use Rattle.std.proofs.lemmas.Bool.Decides.{nat_tests}
 use Rattle.tinyjson.specs.declared.value.JsonValue.{JsonValue}
@@ -112,24 +113,6 @@ put_some : (k : List ℕ) (t : Tree) (ms : Members) → has_no_members (put k t 
 put_some k t no_members = refl
 put_some k t (member l u ms) = elim (slice_cmp nat_cmp (enc k) (enc l)) as (λ r. has_no_members (match_ordering r (member k t (member l u ms)) (member k t ms) (member l u (put k t ms))) ≡ false) [ Less ↦ refl | Equal ↦ refl | Greater ↦ refl ]
 
--- characters below 128
-abbrev Plain : List ℕ → Type 0
-Plain [] = Unit {0}
-Plain (c ∷ cs) = (c < 128) × Plain cs
-
-pub plain : (cs : List ℕ) → Plain cs → enc cs ≡ cs
-plain [] h = refl
-plain (c ∷ cs) h = enc_cons c cs h.0 ∙ ap (λ w. c ∷ w) (plain cs h.1)
-
-pub null_bytes : enc (codes "null") ≡ codes "null"
-null_bytes = plain (codes "null") (lit< tt, (lit< tt, (lit< tt, (lit< tt, tt))))
-
-pub true_bytes : enc (codes "true") ≡ codes "true"
-true_bytes = plain (codes "true") (lit< tt, (lit< tt, (lit< tt, (lit< tt, tt))))
-
-pub false_bytes : enc (codes "false") ≡ codes "false"
-false_bytes = plain (codes "false") (lit< tt, (lit< tt, (lit< tt, (lit< tt, (lit< tt, tt)))))
-
 -- a stretch of bytes that stand as they are, and what follows it
 pub at_escape : (xs : List ℕ) (i : ℕ) → i < length xs → escapes (drop i xs) ≡ escape (get_or xs i 0) ++ escapes (drop (i + 1) xs)
 at_escape xs i h = at_drop_more escapes xs i 0 h
@@ -159,7 +142,7 @@ stretch_end xs start i h k =
     rw (d, e) (append-nil (take (length xs - start) (drop start xs)))
 
 -- the escapes of a text's bytes are the bytes of its escapes
-high : (c : ℕ) → 128 ≤ c → escape c ≡ c ∷ []
+pub high : (c : ℕ) → 128 ≤ c → escape c ≡ c ∷ []
 high c h = grind (arith, nat_tests)
 
 escapes-append : (xs ys : List ℕ) → escapes (xs ++ ys) ≡ escapes xs ++ escapes ys
@@ -170,35 +153,29 @@ escapes_high : (bs : List ℕ) → ((k : ℕ) → k < length bs → 128 ≤ get_
 escapes_high [] h = refl
 escapes_high (b ∷ bs) h = ap (λ w. w ++ escapes bs) (high b (h 0 (omega arith))) ∙ ap (λ w. b ∷ w) (escapes_high bs (λ k l. h (suc k) (omega arith)))
 
-Plain-cond : (b : Bool) (xs ys : List ℕ) → Plain xs → Plain ys → Plain (cond b xs ys)
-Plain-cond true xs ys h k = h
-Plain-cond false xs ys h k = k
+ascii-cond : (b : Bool) (xs ys : List ℕ) → IsAscii xs → IsAscii ys → IsAscii (cond b xs ys)
+ascii-cond true xs ys h k = h
+ascii-cond false xs ys h k = k
 
-digit_plain : (d : ℕ) → d < 16 → digit_char d < 128
-digit_plain d h = elim (nat_lt d 10) as (λ b. cond b (48 + d) (87 + d) < 128) [ true ↦ omega arith | false ↦ omega arith ]
+digit_ascii : (d : ℕ) → d < 16 → digit_char d < 128
+digit_ascii d h = elim (nat_lt d 10) as (λ b. cond b (48 + d) (87 + d) < 128) [ true ↦ omega arith | false ↦ omega arith ]
 
-escape_plain : (c : ℕ) → c < 128 → Plain (escape c)
-escape_plain c h =
-    let two : (a b : ℕ) → a < 128 → b < 128 → Plain (a ∷ b ∷ []) = λ a b p q. (p, (q, tt)) in
-    let self : Plain (c ∷ []) = (h, tt) in
-    let hex : Plain (92 ∷ 117 ∷ 48 ∷ 48 ∷ digit_char (c / 16) ∷ digit_char (c % 16) ∷ []) = (lit< tt, (lit< tt, (lit< tt, (lit< tt, (digit_plain (c / 16) (omega arith), (digit_plain (c % 16) (omega arith), tt)))))) in
-    let x0 : List ℕ = cond (nat_lt c 32) (92 ∷ 117 ∷ 48 ∷ 48 ∷ digit_char (c / 16) ∷ digit_char (c % 16) ∷ []) (c ∷ []) in
-    let p0 : Plain x0 = Plain-cond (nat_lt c 32) (92 ∷ 117 ∷ 48 ∷ 48 ∷ digit_char (c / 16) ∷ digit_char (c % 16) ∷ []) (c ∷ []) hex self in
-    let x1 : List ℕ = cond (nat_eq c 92) (92 ∷ 92 ∷ []) x0 in
-    let p1 : Plain x1 = Plain-cond (nat_eq c 92) (92 ∷ 92 ∷ []) x0 (two 92 92 (lit< tt) (lit< tt)) p0 in
-    let x2 : List ℕ = cond (nat_eq c 34) (92 ∷ 34 ∷ []) x1 in
-    let p2 : Plain x2 = Plain-cond (nat_eq c 34) (92 ∷ 34 ∷ []) x1 (two 92 34 (lit< tt) (lit< tt)) p1 in
-    let x3 : List ℕ = cond (nat_eq c 13) (92 ∷ 114 ∷ []) x2 in
-    let p3 : Plain x3 = Plain-cond (nat_eq c 13) (92 ∷ 114 ∷ []) x2 (two 92 114 (lit< tt) (lit< tt)) p2 in
-    let x4 : List ℕ = cond (nat_eq c 12) (92 ∷ 102 ∷ []) x3 in
-    let p4 : Plain x4 = Plain-cond (nat_eq c 12) (92 ∷ 102 ∷ []) x3 (two 92 102 (lit< tt) (lit< tt)) p3 in
-    let x5 : List ℕ = cond (nat_eq c 10) (92 ∷ 110 ∷ []) x4 in
-    let p5 : Plain x5 = Plain-cond (nat_eq c 10) (92 ∷ 110 ∷ []) x4 (two 92 110 (lit< tt) (lit< tt)) p4 in
-    let x6 : List ℕ = cond (nat_eq c 9) (92 ∷ 116 ∷ []) x5 in
-    let p6 : Plain x6 = Plain-cond (nat_eq c 9) (92 ∷ 116 ∷ []) x5 (two 92 116 (lit< tt) (lit< tt)) p5 in
-    Plain-cond (nat_eq c 8) (92 ∷ 98 ∷ []) x6 (two 92 98 (lit< tt) (lit< tt)) p6
+pub two_ascii : (a b : ℕ) → a < 128 → b < 128 → IsAscii (a ∷ b ∷ [])
+two_ascii a b h k = more_ascii a (b ∷ []) h (more_ascii b [] k none_ascii)
 
-le_or_lt : (a b : ℕ) → (a ≤ b) ⊎ (b < a)
+hex_ascii : (a b : ℕ) → a < 128 → b < 128 → IsAscii (92 ∷ 117 ∷ 48 ∷ 48 ∷ a ∷ b ∷ [])
+hex_ascii a b h k =
+    IsAscii-append (92 ∷ 117 ∷ []) (48 ∷ 48 ∷ a ∷ b ∷ []) (two_ascii 92 117 (lit< tt) (lit< tt)) (IsAscii-append (48 ∷ 48 ∷ []) (a ∷ b ∷ []) (two_ascii 48 48 (lit< tt) (lit< tt)) (two_ascii a b h k))
+
+pub escape_ascii : (c : ℕ) → c < 128 → IsAscii (escape c)
+escape_ascii c h =
+    let short : (d : ℕ) → d < 128 → IsAscii (92 ∷ d ∷ []) = λ d l. two_ascii 92 d (lit< tt) l in
+    let hex = hex_ascii (digit_char (c / 16)) (digit_char (c % 16)) (digit_ascii (c / 16) (omega arith)) (digit_ascii (c % 16) (omega arith)) in
+    ascii-cond (c == 8) _ _ (short 98 (lit< tt)) (ascii-cond (c == 9) _ _ (short 116 (lit< tt)) (ascii-cond (c == 10) _ _ (short 110 (lit< tt))
+    (ascii-cond (c == 12) _ _ (short 102 (lit< tt)) (ascii-cond (c == 13) _ _ (short 114 (lit< tt)) (ascii-cond (c == 34) _ _ (short 34 (lit< tt))
+    (ascii-cond (c == 92) _ _ (short 92 (lit< tt)) (ascii-cond (nat_lt c 32) _ _ hex (more_ascii c [] h none_ascii))))))))
+
+pub le_or_lt : (a b : ℕ) → (a ≤ b) ⊎ (b < a)
 le_or_lt zero b = inl (omega arith)
 le_or_lt (suc a) zero = inr (omega arith)
 le_or_lt (suc a) (suc b) = elim (le_or_lt a b) [ inl h ↦ inl (omega arith) | inr h ↦ inr (omega arith) ]
@@ -212,7 +189,7 @@ not_low c k h l = elim (le_or_lt 128 (get_or (encode c) k 0)) [
 enc_escape : (c : ℕ) → enc (escape c) ≡ escapes (encode c)
 enc_escape c = elim (le_or_lt 128 c) [
   | inl h ↦ ap enc (high c h) ∙ append-nil (encode c) ∙ sym (escapes_high (encode c) (λ k l. not_low c k h l))
-  | inr h ↦ plain (escape c) (escape_plain c h) ∙ sym (append-nil (escape c)) ∙ ap escapes (sym (encode_ascii c h))
+  | inr h ↦ encodes-IsAscii (escape c) (escape_ascii c h) ∙ sym (append-nil (escape c)) ∙ ap escapes (sym (encode_ascii c h))
 ]
 
 enc_escapes : (cs : List ℕ) → enc (escapes cs) ≡ escapes (enc cs)

@@ -69,3 +69,7 @@ begins {old} {bytes} = written_none old bytes bytes refl
 -- where a fault comes before a write
 pub stop : {old new : Option (List ℕ)} {bytes rest : List ℕ} → Written old new bytes rest → WrittenPart old new bytes
 stop {old} {new} {bytes} {rest} h = record { rest = rest; written = h }
+
+-- what is written to an empty list
+pub written_all : (new bytes : List ℕ) → Written (Some []) (Some new) bytes [] → new ≡ bytes
+written_all new bytes h = h.appended ∙ sym (append-nil h.done) ∙ sym h.split

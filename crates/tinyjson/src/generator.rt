@@ -1,6 +1,7 @@
-//! The generator.
-ghost use Rattle.std.specs.Prelude.{◌≡◌, Some, None, IfOk, string_bytes, encode_utf8_all};
-ghost use Rattle.std.specs.Str.{chars};
+//! The generator: values to text (RFC 8259, section 10).
+ghost use Rattle.std.specs.Prelude.{◌≡◌, Some, None, IfSome, IfOk, IsTrue, string_bytes, codes};
+ghost use Rattle.std.specs.Str.{all_scalars, chars};
+ghost use Rattle.tinyjson.specs.Indent.{indent_of};
 ghost use Rattle.tinyjson.specs.Text.{compact, indented, text};
 ghost use Rattle.tinyjson.specs.View.{view};
 ghost use Rattle.tinyjson.specs.Written.{WritesText};
@@ -12,11 +13,20 @@ mod output;
 mod quote;
 
 use crate::value::JsonValue;
-use encode::Encoder;
+pub(crate) use encode::Encoder;
 use std::alloc::Global;
+use std::error::Error;
+use std::fmt;
 use std::io::{self, Write};
 
-/// Writes JSON values to a writer, as compact text or indented.
+/// Writes JSON values to a writer, compact or indented.
+///
+/// The keys of each object stand in the order of their UTF-8 bytes, so each value has one compact text.
+///
+/// ```
+/// let mut generator = JsonGenerator::new(alloc, Vec::new(alloc)).indent("  ");
+/// generator.generate(&value)?;
+/// ```
 #[derive(Drop)]
 pub struct JsonGenerator<'indent, W: Write> {
     alloc: Global,
@@ -27,7 +37,7 @@ pub struct JsonGenerator<'indent, W: Write> {
 impl<'indent, W: Write> JsonGenerator<'indent, W> {
     ghost use Rattle.tinyjson.specs.Generator.{generator_out, generator_indent};
 
-    /// A generator of compact text. This takes no memory.
+    /// A generator of compact text.
     pub fn new(alloc: Global, out: W) -> Self
         ensures out { generator_out result ≡ out }
         ensures indent { generator_indent result ≡ None }
@@ -39,7 +49,9 @@ impl<'indent, W: Write> JsonGenerator<'indent, W> {
         }
     }
 
-    /// Indents the text from now on, by this text for each level. The last call decides.
+    /// Writes indented text from now on: each item and each key on a line of its own, behind `indent`
+    /// once for each container around it. Only text that is indented by white space, or by the empty
+    /// text, is JSON. The last call decides.
     pub fn indent(self, indent: &'indent str) -> Self
         ensures out { generator_out result ≡ generator_out self.entry }
         ensures indent { generator_indent result ≡ Some (chars indent.now) }
@@ -52,7 +64,12 @@ impl<'indent, W: Write> JsonGenerator<'indent, W> {
         }
     }
 
-    /// Writes the value's text.
+    /// Writes the text of the value, in UTF-8, and flushes nothing.
+    ///
+    /// It ends with the first fault: the writer's own, an interruption too; one of kind `WriteZero` where
+    /// the writer takes nothing; or one of kind `OutOfMemory` where there is no memory for sorting the
+    /// members of an object that has two or more. Then a beginning of the text is written, and the next
+    /// call begins a new text.
     pub fn generate(&mut self, value: &JsonValue) -> io::Result<()>
         ensures written { WritesText (W.contents (generator_out self.old)) (W.contents (generator_out self.new))
             (text (generator_indent self.old) 0 (view value.now)) result }
@@ -65,3 +82,68 @@ impl<'indent, W: Write> JsonGenerator<'indent, W> {
         encoder.encode(&mut self.out, 0, value)
     }
 }
+
+/// The indent of [`format`].
+pub(crate) const INDENT: &str = "  ";
+
+/// The compact text of a value.
+///
+/// ```
+/// stringify(alloc, &value)?; // {"arr":[1,null],"bool":true}
+/// ```
+pub fn stringify(alloc: Global, value: &JsonValue) -> JsonGenerateResult
+    ensures { IfOk result (λ s. chars (string_bytes s) ≡ compact (view value.now)) }
+{
+    written(alloc, None, value)
+}
+
+/// The text of a value, indented with two spaces.
+pub fn format(alloc: Global, value: &JsonValue) -> JsonGenerateResult
+    ensures { IfOk result (λ s. chars (string_bytes s) ≡ indented (view value.now) (codes "  ") 0) }
+{
+    written(alloc, Some(INDENT), value)
+}
+
+// The text, whose bytes are UTF-8, since a value's characters are scalar values.
+fn written(alloc: Global, indent: Option<&str>, value: &JsonValue) -> JsonGenerateResult
+    requires { IfSome (indent_of indent) (λ i. IsTrue (all_scalars i)) }
+    ensures { IfOk result
+        (λ s. chars (string_bytes s) ≡ text (indent_of indent.entry) 0 (view value.now)) }
+{
+    let mut bytes = Vec::new(alloc);
+    let encoder = Encoder { alloc, indent };
+    let Ok(()) = encoder.encode(&mut bytes, 0, value) else {
+        return Err(JsonGenerateError);
+    };
+    match String::from_utf8(bytes) {
+        Ok(text) => Ok(text),
+        Err(_) => unreachable!(),
+    }
+}
+
+pub type JsonGenerateResult = Result<String, JsonGenerateError>;
+
+/// There is no memory for a text.
+#[derive(Debug, Drop)]
+pub struct JsonGenerateError;
+
+impl JsonGenerateError {
+    /// What went wrong.
+    pub fn message(&self) -> &str
+        ensures { result.now ≡ codes "out of memory" }
+    {
+        "out of memory"
+    }
+}
+
+impl fmt::Display for JsonGenerateError {
+    ghost use Rattle.std.specs.Prelude.{Some, codes};
+
+    ghost output = { λ _. Some (codes "Generate error: out of memory") };
+
+    fn fmt<W: fmt::Write>(&self, f: &mut fmt::Formatter<W>) -> fmt::Result {
+        write!(f, "Generate error: {}", self.message())
+    }
+}
+
+impl Error for JsonGenerateError {}

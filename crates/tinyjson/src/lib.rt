@@ -19,7 +19,7 @@ pub mod number;
 pub mod parser;
 pub mod value;
 
-pub use generator::JsonGenerator;
+pub use generator::{JsonGenerateError, JsonGenerateResult, JsonGenerator, format, stringify};
 pub use number::JsonNumber;
 pub use parser::{JsonParseError, JsonParseErrorKind, JsonParseResult, JsonParser};
 pub use value::{InnerAsRef, InnerAsRefMut, JsonKind, JsonValue, UnexpectedValue};

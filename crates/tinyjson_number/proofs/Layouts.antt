@@ -1,5 +1,5 @@
 -- Digits and zeros as text that may be cut anywhere.
-use Rattle.std.proofs.Common.{ℕ, zero, suc, ◌<◌, ◌≤◌, Bool, true, false, List, [], ◌∷◌, ◌++◌, Option, None, Some, IfSome, length, replicate, ℤ, subst, IsTrue, arith}
+use Rattle.std.proofs.Common.{ℕ, zero, suc, ◌<◌, ◌≤◌, Bool, true, false, List, [], ◌∷◌, Option, None, Some, IfSome, length, replicate, ℤ, subst, IsTrue, arith}
 use Rattle.std.specs.Str.{IsAscii, IsCharBoundary}
 use Rattle.std.proofs.lemmas.Str.{IsCharBoundary-from_ascii, IsAscii-append}
 use Rattle.std.proofs.lemmas.Bool.Decides.{nat_tests}
@@ -17,10 +17,10 @@ zeros_ascii zero i = omega arith
 zeros_ascii (suc n) zero = omega arith
 zeros_ascii (suc n) (suc i) = zeros_ascii n i
 
-none_ascii : IsAscii []
+pub none_ascii : IsAscii []
 none_ascii i = omega arith
 
-pub digits_ascii : (ds : List ℕ) → AreDigits ds → IsAscii ds
+digits_ascii : (ds : List ℕ) → AreDigits ds → IsAscii ds
 digits_ascii [] h i = omega arith
 digits_ascii (d ∷ ds) h zero = let r = range_from_digit d h.0 in omega (arith, r)
 digits_ascii (d ∷ ds) h (suc i) = digits_ascii ds h.1 i
@@ -37,7 +37,7 @@ digits_are c = kept_digits c.decimal.negative c.decimal.digits c.decimal.power c
 
 -- ---- a decimal's text is ASCII
 
-more_ascii : (c : ℕ) (cs : List ℕ) → c < 128 → IsAscii cs → IsAscii (c ∷ cs)
+pub more_ascii : (c : ℕ) (cs : List ℕ) → c < 128 → IsAscii cs → IsAscii (c ∷ cs)
 more_ascii c cs h k zero = h
 more_ascii c cs h k (suc i) = k i
 

@@ -7,7 +7,6 @@ use Rattle.tinyjson.specs.Characters.{is_hex, paired}
 use Rattle.tinyjson_number.specs.Numeral.{Exponent, AreDigits, minus_text, fraction_text, sign_text, exponent_text}
 use Rattle.tinyjson.specs.Syntax.{Syntax, null, text, depth, Piece, unit, ArePieces, codes, pieces_text}
 use Rattle.tinyjson.specs.Continuation.{IsMidway, IsValue}
-use Rattle.tinyjson.specs.declared.parser.error.JsonParseErrorKind.{JsonParseErrorKind}
 use Rattle.tinyjson.specs.Machine.{Frame, Phase, Stage, Within}
 use Rattle.tinyjson.specs.Machine
 use Rattle.tinyjson.specs.Continuation.{Loosely}

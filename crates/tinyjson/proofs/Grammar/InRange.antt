@@ -1,11 +1,10 @@
 -- Each numeral without exponent has an exponent with which its power is 0.
-use Rattle.std.proofs.Common.{◌≡◌, ℕ, zero, suc, ◌+◌, ◌-◌, ◌*◌, ◌/◌, ◌%◌, ◌<◌, ◌≤◌, Bool, List, [], ◌∷◌, ◌++◌, length, Some, None, ℤ, pos, ◌+ℤ◌, ◌-ℤ◌, neg_ℤ, refl, ◌∙◌, arith, IsTrue, ⊎_elim, length-append}
-use Rattle.std.specs.Char.{is_ascii_digit, digit_value}
-use Rattle.std.specs.Str.Parse.{digits_value, digits_value_after}
-use Rattle.std.proofs.lemmas.Bool.{cases_lt, and_from, le-leb, le-ltb, lt-ltb}
+use Rattle.std.proofs.Common.{◌≡◌, ℕ, ◌-◌, ◌<◌, ◌≤◌, Bool, List, [], ◌∷◌, ◌++◌, length, Some, None, ℤ, pos, ◌+ℤ◌, ◌-ℤ◌, neg_ℤ, refl, arith, IsTrue, ⊎_elim}
+use Rattle.std.specs.Str.Parse.{digits_value}
+use Rattle.std.proofs.lemmas.Bool.{cases_lt}
 use Rattle.std.proofs.lemmas.Int.{ints}
 use Rattle.tinyjson_number.specs.Decimal.{decimal_of, significant, trailing_zeros}
-use Rattle.tinyjson_number.specs.Numeral.{Exponent, IsExponent, AreDigits, value, in_range, power_fits}
+use Rattle.tinyjson_number.specs.Numeral.{Exponent, IsExponent, value, in_range, power_fits}
 use Rattle.tinyjson_number.specs.Text.{natural_text}
 use Rattle.tinyjson_number.proofs.Naturals.{natural}
 use Rattle.tinyjson.proofs.Grammar.Spelt.{Ranges, numeral, exponent_with}

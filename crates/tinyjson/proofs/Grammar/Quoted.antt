@@ -7,8 +7,7 @@ use Rattle.tinyjson.specs.Tree.{key_of, is_string, Tree, no_members, put, items_
 use Rattle.tinyjson.specs.Tree as tree
 use Rattle.tinyjson.specs.Characters.{is_hex, unit_of, decode, paired, short_escape}
 use Rattle.tinyjson.specs.Syntax.{Syntax, Piece, unit, IsPiece, ArePieces, code, piece_text, pieces_text}
-use Rattle.tinyjson.specs.declared.parser.error.JsonParseErrorKind.{JsonParseErrorKind}
-use Rattle.tinyjson.specs.declared.parser.error.JsonParseErrorKind.TheVariants.{UnexpectedEof, InvalidCharacter, ExpectedEof, KeyNotString, ExpectedColon, ExpectedCommaOrBrace, ExpectedCommaOrBracket, InvalidUtf16, InvalidHexDigit, InvalidEscape, ControlCharacter, UnexpectedInLiteral, EmptyInteger, LeadingZero, EmptyFraction, EmptyExponent, NumberOutOfRange, OutOfMemory, TooDeep}
+use Rattle.tinyjson.specs.declared.parser.error.JsonParseErrorKind.TheVariants.{InvalidUtf16, InvalidHexDigit}
 use Rattle.tinyjson.specs.Machine.{Frame, Phase, first, awaited, word, digits, quoted, colon, after, finished, Stage, Within, Next, next, stop, Rules, complete, complete_key, step_plain, step_awaited, step_first, step_word, step_quoted, step_escape, flush, start, push_frame, step_after, step_colon, fits}
 use Rattle.tinyjson.specs.Machine
 use Rattle.tinyjson.specs.Refusal.{IsHex, AreUnits, EndsRun}

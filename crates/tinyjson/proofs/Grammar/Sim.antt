@@ -1,7 +1,6 @@
 -- The loose machine does as the strict one, as far as that goes.
 use Rattle.std.proofs.Common.{◌≡◌, ℕ, Bool, true, false, List, [], ◌∷◌, ◌++◌, Option, Some, None, refl, sym, ◌∙◌, cond, ◌&&◌, ◌==◌, not, nat_lt}
 use Rattle.std.specs.Char.{is_ascii_digit}
-use Rattle.tinyjson.specs.Kind.{kind_of}
 use Rattle.tinyjson_number.specs.Numeral.{Numeral, has_leading_zero, in_range, value}
 use Rattle.tinyjson.specs.Tree.{Tree, is_string, array, object, string, number, items_of}
 use Rattle.tinyjson.specs.Characters.{is_white, short_escape, decode, paired}

@@ -7,7 +7,6 @@ use Rattle.tinyjson_number.specs.Numeral.{Numeral, Exponent, IsExponent, AreDigi
 use Rattle.tinyjson.specs.Syntax.{Syntax, text, AreWhite, IsSpelled, depth, IsWithin, tree_of, Piece, unit, ArePieces, codes, pieces_text}
 use Rattle.tinyjson.specs.Grammar.{IsLoose}
 use Rattle.tinyjson.specs.Continuation.{IsValue}
-use Rattle.tinyjson.specs.declared.parser.error.JsonParseErrorKind.{JsonParseErrorKind}
 use Rattle.tinyjson.specs.Machine.{Frame, Phase, first, awaited, word, digits, quoted, colon, after, finished, Stage, Within, Next, next, stop, Rules}
 use Rattle.tinyjson.specs.Machine
 use Rattle.tinyjson.specs.Continuation.{Loosely}

@@ -6,8 +6,6 @@ use Rattle.tinyjson.specs.Machine.{strictly}
 use Rattle.tinyjson.specs.Tree.{no_members}
 use Rattle.tinyjson.specs.Characters.{is_white}
 use Rattle.tinyjson.specs.Syntax.{Syntax, null, empty_array, empty_object, IsWithin, tree_of}
-use Rattle.tinyjson.specs.declared.parser.error.JsonParseErrorKind.{JsonParseErrorKind}
-use Rattle.tinyjson.specs.declared.parser.error.JsonParseErrorKind.TheVariants.{UnexpectedEof, InvalidCharacter, ExpectedEof, KeyNotString, ExpectedColon, ExpectedCommaOrBrace, ExpectedCommaOrBracket, InvalidUtf16, InvalidHexDigit, InvalidEscape, ControlCharacter, UnexpectedInLiteral, EmptyInteger, LeadingZero, EmptyFraction, EmptyExponent, NumberOutOfRange, OutOfMemory, TooDeep}
 use Rattle.tinyjson.specs.Machine.{Frame, Phase, first, awaited, word, digits, quoted, colon, after, finished, Stage, Within, Next, next, stop, Rules, complete, complete_key, step_plain, step_awaited, step_first, step_word, start, push_frame, step_after, step_colon, fits}
 use Rattle.tinyjson.specs.Machine
 use Rattle.tinyjson.specs.Continuation.{Loosely}

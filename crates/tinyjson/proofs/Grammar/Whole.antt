@@ -10,7 +10,6 @@ use Rattle.tinyjson.specs.Syntax.{Syntax, array, object, null, empty_array, empt
 use Rattle.tinyjson.specs.Continuation.{IsValue, Pair}
 use Rattle.tinyjson.specs.Machine.{Frame, Phase, run, step, accepted, refused, Frame, Phase, first, awaited, word, digits, quoted, colon, after, finished, Stage, Within, Next, next, stop, Rules, complete, complete_key, step_plain, step_after, step_colon, fits}
 use Rattle.tinyjson.specs.declared.parser.error.JsonParseErrorKind.{JsonParseErrorKind, JsonParseErrorKind}
-use Rattle.tinyjson.specs.declared.parser.error.JsonParseErrorKind.TheVariants.{UnexpectedEof, InvalidCharacter, ExpectedEof, KeyNotString, ExpectedColon, ExpectedCommaOrBrace, ExpectedCommaOrBracket, InvalidUtf16, InvalidHexDigit, InvalidEscape, ControlCharacter, UnexpectedInLiteral, EmptyInteger, LeadingZero, EmptyFraction, EmptyExponent, NumberOutOfRange, OutOfMemory, TooDeep}
 use Rattle.tinyjson.specs.Machine
 use Rattle.tinyjson.proofs.Grammar.Paths.{Path, outside, item_in, key_in, value_in, path_text, path_frames, level, IsPath, within_le, within_max, closes, closing, key-depth, items_with, pairs_with, items-text, pairs-text, items-depth, pairs-depth, items-trees, pairs-members, before_push, pairs_push, trees_push, members_push, deepest_push, pairs_deepest_push, AreElements-push, ArePairs-push}
 use Rattle.tinyjson.proofs.Grammar.Midway.{item_value, pair_value}

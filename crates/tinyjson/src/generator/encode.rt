@@ -19,15 +19,15 @@ use std::io::{self, ErrorKind, Write};
 
 // How values are written: compact, or indented by a text.
 #[derive(Drop)]
-pub(super) struct Encoder<'a> {
-    pub(super) alloc: Global,
-    pub(super) indent: Option<&'a str>,
+pub(crate) struct Encoder<'a> {
+    pub(crate) alloc: Global,
+    pub(crate) indent: Option<&'a str>,
 }
 
 impl Encoder<'_> {
     // Writes the value, whose first line stands at the level.
     #[cycle(encode)]
-    pub(super) fn encode<W: Write>(
+    pub(crate) fn encode<W: Write>(
         &self,
         out: &mut W,
         level: usize,

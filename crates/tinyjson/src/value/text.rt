@@ -1,0 +1,53 @@
+//! A value's text.
+ghost use Rattle.std.specs.Prelude.{◌≡◌, IfOk, string_bytes, codes};
+ghost use Rattle.std.specs.Str.{chars};
+ghost use Rattle.tinyjson.specs.Text.{compact, indented};
+ghost use Rattle.tinyjson.specs.View.{view};
+ghost use Rattle.tinyjson.specs.Written.{WritesText};
+
+use crate::generator::{self, Encoder, INDENT, JsonGenerateResult};
+use crate::value::JsonValue;
+use std::alloc::Global;
+use std::io::{self, Write};
+
+impl JsonValue {
+    /// The compact text.
+    pub fn stringify(&self, alloc: Global) -> JsonGenerateResult
+        ensures { IfOk result (λ s. chars (string_bytes s) ≡ compact (view self.now)) }
+    {
+        generator::stringify(alloc, self)
+    }
+
+    /// The text indented with two spaces.
+    pub fn format(&self, alloc: Global) -> JsonGenerateResult
+        ensures { IfOk result (λ s. chars (string_bytes s) ≡ indented (view self.now) (codes "  ") 0) }
+    {
+        generator::format(alloc, self)
+    }
+
+    /// Writes the compact text, with the faults of [`JsonGenerator::generate`].
+    ///
+    /// [`JsonGenerator::generate`]: crate::JsonGenerator::generate
+    pub fn write_to<W: Write>(&self, alloc: Global, w: &mut W) -> io::Result<()>
+        ensures { WritesText (W.contents w.old) (W.contents w.new) (compact (view self.now)) result }
+    {
+        let encoder = Encoder {
+            alloc,
+            indent: None,
+        };
+        encoder.encode(w, 0, self)
+    }
+
+    /// Writes the text indented with two spaces, with the faults of [`JsonGenerator::generate`].
+    ///
+    /// [`JsonGenerator::generate`]: crate::JsonGenerator::generate
+    pub fn format_to<W: Write>(&self, alloc: Global, w: &mut W) -> io::Result<()>
+        ensures { WritesText (W.contents w.old) (W.contents w.new) (indented (view self.now) (codes "  ") 0) result }
+    {
+        let encoder = Encoder {
+            alloc,
+            indent: Some(INDENT),
+        };
+        encoder.encode(w, 0, self)
+    }
+}
