@@ -1,8 +1,7 @@
 //! The parser.
 ghost use Rattle.std.specs.Prelude.{◌≡◌, ℕ, List, Option, None, Some};
-ghost use Rattle.std.specs.Str.{chars};
 ghost use Rattle.std.specs.Iterator.{IsFinite};
-ghost use Rattle.tinyjson.specs.Parser.{Provides, Remains, Parses, ParsesText, parser_limit, parser_position};
+ghost use Rattle.tinyjson.specs.Parser.{Provides, Remains, Parses, parser_limit, parser_position};
 ghost use Rattle.tinyjson.specs.Position.{origin};
 
 mod cursor;
@@ -82,18 +81,5 @@ impl<I: Iterator<Item = char>> JsonParser<I> {
         ensures limit { parser_limit self.new ≡ parser_limit self.old }
     {
         self.reader.text(self.limit)
-    }
-}
-
-impl JsonValue {
-    /// The value of a text: what [`JsonParser::parse`] of a new parser answers on its characters.
-    ///
-    /// ```
-    /// let value = JsonValue::from_str(alloc, "{\"a\": 1.50e1}")?;
-    /// ```
-    pub fn from_str(alloc: Global, s: &str) -> JsonParseResult
-        ensures { ParsesText (chars s.now) result }
-    {
-        JsonParser::new(alloc, s.chars()).parse()
     }
 }

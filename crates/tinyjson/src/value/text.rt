@@ -1,16 +1,29 @@
-//! A value's text.
+//! Values from text, and the text of values.
 ghost use Rattle.std.specs.Prelude.{◌≡◌, IfOk, string_bytes, codes};
 ghost use Rattle.std.specs.Str.{chars};
+ghost use Rattle.tinyjson.specs.Parser.{ParsesText};
 ghost use Rattle.tinyjson.specs.Text.{compact, indented};
 ghost use Rattle.tinyjson.specs.View.{view};
 ghost use Rattle.tinyjson.specs.Written.{WritesText};
 
 use crate::generator::{self, Encoder, INDENT, JsonGenerateResult};
+use crate::parser::{JsonParseResult, JsonParser};
 use crate::value::JsonValue;
 use std::alloc::Global;
 use std::io::{self, Write};
 
 impl JsonValue {
+    /// The value of a text: what [`JsonParser::parse`](crate::JsonParser::parse) of a new parser answers on its characters.
+    ///
+    /// ```
+    /// let value = JsonValue::from_str(alloc, "{\"a\": 1.50e1}")?;
+    /// ```
+    pub fn from_str(alloc: Global, s: &str) -> JsonParseResult
+        ensures { ParsesText (chars s.now) result }
+    {
+        JsonParser::new(alloc, s.chars()).parse()
+    }
+
     /// The compact text.
     pub fn stringify(&self, alloc: Global) -> JsonGenerateResult
         ensures { IfOk result (λ s. chars (string_bytes s) ≡ compact (view self.now)) }
