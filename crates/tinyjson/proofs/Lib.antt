@@ -9,3 +9,4 @@ pub mod Readings
 pub mod UnitDecoding
 pub mod StringReading
 pub mod Containers
+pub mod NumberReading

@@ -25,6 +25,10 @@ is_any cs c = list_any (λ d. nat_eq d c) cs
 abbrev pub numeral : Bool → List ℕ → List ℕ → Option Exponent → Numeral
 numeral b ds f e = record { negative = b; whole = ds; fraction = f; exponent = e }
 
+-- what was shown is still shown
+abbrev pub Still : {S : Type 0} → Cursor S → Cursor S → Type 0
+Still p q = (o : Option ℕ) → Shows p o → Shows q o
+
 -- there was no memory
 abbrev pub LacksMemory : {S : Type 0} → JsonParseError → Cursor S → Type 0
 LacksMemory e q = (e.kind ≡ OutOfMemory) × (error_position e ≡ place q)
@@ -46,7 +50,7 @@ module _ {S : Type 0} (steps : S → Option ℕ → S → Type 0) where
     pub o : Option ℕ
     pub shows : Shows q o
     pub none : IfSome o (λ c. is_any cs c ≡ false)
-    pub was : (u : Option ℕ) → Shows p u → u ≡ o
+    pub still : Still p q
     pub takes : Takes steps p [] q
     pub text : new ≡ old
 
@@ -59,7 +63,7 @@ module _ {S : Type 0} (steps : S → Option ℕ → S → Type 0) where
     pub ds : List ℕ
     pub digits : AllByRecursion (λ c. is_ascii_digit c ≡ true) ds
     pub takes : Takes steps p ds q
-    pub result : MatchResult r (λ _. (new ≡ old ++ ds) × (0 < length ds) × Ends q) (λ e. (error_position e ≡ place q) × (((e.kind ≡ empty) × (ds ≡ []) × Ends q) ⊎ (e.kind ≡ OutOfMemory)))
+    pub result : MatchResult r (λ _. (new ≡ old ++ ds) × (0 < length ds) × Ends q) (λ e. (error_position e ≡ place q) × (((e.kind ≡ empty) × (ds ≡ []) × Ends q × Still p q) ⊎ (e.kind ≡ OutOfMemory)))
 
   -- A part of a number was read. The text now spells a numeral of that form, the machine came to it in that stage, and no digit comes next.
   pub record Part {A : Type 0} (form : A → Numeral) (stage : Stage) (p : Cursor S) (before : List Frame → Next) (new : List ℕ) (q : Cursor S) : Type 0 where
