@@ -10,3 +10,4 @@ pub mod UnitDecoding
 pub mod StringReading
 pub mod Containers
 pub mod NumberReading
+pub mod NumberParts
