@@ -1,18 +1,23 @@
 -- The parts of a number, as the machine reads them.
 use Rattle.std.proofs.Common.{◌≡◌, ℕ, ◌<◌, Bool, true, false, List, [], ◌∷◌, ◌++◌, length, Option, Some, None, IfSome, MatchBool, Result, Ok, Err, refl, sym, ap, ◌∙◌, subst, append-nil}
 use Rattle.std.specs.Char.{is_ascii_digit}
-use Rattle.tinyjson_number.specs.Numeral.{Exponent, has_leading_zero, is_sign, minus_text, sign_text}
+use Rattle.tinyjson_number.specs.Numeral.{Numeral, Exponent, value, in_range, has_leading_zero, is_sign, minus_text, sign_text}
+use Rattle.tinyjson_number.specs.Number.{Canonical}
 use Rattle.tinyjson_number.specs.NumberText.{Spells}
 use Rattle.tinyjson.specs.Cursor.{Takes, Shows, place}
 use Rattle.tinyjson.specs.Error.{error_position}
-use Rattle.tinyjson.specs.Machine.{Frame, Next, next, stop, awaited, digits, whole, fraction, exponent}
+use Rattle.tinyjson.specs.Machine.{Frame, Next, next, stop, awaited, digits, whole, fraction, exponent, complete}
 use Rattle.tinyjson.specs.Numbers.{BeginsNumber, Still, LacksMemory, is_any, numeral, Accepted, Declined, Digits, Part, ReadsPart}
 use Rattle.tinyjson.specs.Reading.{IsNext, Ends, Leads, Refuses}
 use Rattle.tinyjson.specs.declared.parser.cursor.Cursor.{Cursor}
 use Rattle.tinyjson.specs.declared.parser.error.JsonParseError.{JsonParseError}
-use Rattle.tinyjson.specs.declared.parser.error.JsonParseErrorKind.TheVariants.{EmptyInteger, LeadingZero, EmptyFraction, EmptyExponent}
-use Rattle.tinyjson.proofs.Readings.{Leads-nil, Leads-to, Leads-peek, Leads-one, Halts-here, Refuses-as, Refuses-memory}
-use Rattle.tinyjson.proofs.NumberReading.{any_one, letter_any, sign_any, no_sign, are_digits, spells_whole, spells_fraction, spells_exponent, begun, begun_next, begun_digit, begun_whole, pointed, pointed_next, pointed_digit, pointed_whole, powered, powered_next, powered_digit, powered_whole, minus_begins, point_read, letter_read, sign_read, Alike, no_whole, no_fraction, no_exponent, zero_leads, no_point, no_letter, ends_declined, digit_comes, minus_written, Leads-rest, Leads-digits, Refuses-digits}
+use Rattle.tinyjson.specs.declared.parser.error.JsonParseErrorKind.TheVariants.{EmptyInteger, LeadingZero, EmptyFraction, EmptyExponent, NumberOutOfRange}
+use Rattle.tinyjson.specs.Tree.{number}
+use Rattle.tinyjson.specs.View.{view}
+use Rattle.tinyjson.specs.declared.value.JsonValue.TheVariants as is
+use Rattle.tinyjson.proofs.Containers.{view-Number}
+use Rattle.tinyjson.proofs.Readings.{Leads-nil, Leads-to, Leads-trans, Leads-peek, Leads-one, Halts-here, Refuses-as, Refuses-memory}
+use Rattle.tinyjson.proofs.NumberReading.{any_one, letter_any, sign_any, no_sign, are_digits, spells_whole, spells_fraction, spells_exponent, begun, begun_next, begun_digit, begun_whole, pointed, pointed_next, pointed_digit, pointed_whole, powered, powered_next, powered_digit, powered_whole, minus_begins, point_read, letter_read, sign_read, Alike, no_whole, no_fraction, no_exponent, zero_leads, no_point, no_letter, number_ends, range_ends, ends_declined, digit_comes, minus_written, Leads-rest, Leads-digits, Refuses-digits}
 
 module _ {S : Type 0} (steps : S → Option ℕ → S → Type 0) (p q : Cursor S) (l : p.line < 18446744073709551616) (k : p.column < 18446744073709551616) where
   -- there was no memory for the first character
@@ -100,9 +105,9 @@ module _ {S : Type 0} (steps : S → Option ℕ → S → Type 0) (p q : Cursor 
       Refuses-sign e t m limit fs = Refuses-memory steps limit p r e m.0 m.1 (Halts-here steps limit p r (Leads-peek steps limit p q r (letter_leads limit fs) t) tt tt)
 
       -- with the sign, if there is one
-      module _ (t : Cursor S) (end new : List ℕ) (x : Option ℕ) (is : IfSome x (λ c. is_sign c ≡ true)) (e : end ≡ mid ++ sign_text x) (y : Takes steps q (sign_text x) r) (none : (o : Option ℕ) → Shows t o → Still r t → x ≡ None → IfSome o (λ c. is_sign c ≡ false)) where
+      module _ (t : Cursor S) (end new : List ℕ) (x : Option ℕ) (known : IfSome x (λ c. is_sign c ≡ true)) (e : end ≡ mid ++ sign_text x) (y : Takes steps q (sign_text x) r) (none : (o : Option ℕ) → Shows t o → Still r t → x ≡ None → IfSome o (λ c. is_sign c ≡ false)) where
         sign_leads : (limit : Option ℕ) (fs : List Frame) → Leads steps limit p (next fs (digits fraction (numeral b ds f None))) r (powered fs b ds f a.c x [])
-        sign_leads limit fs = go x is y
+        sign_leads limit fs = go x known y
           where
             go : (x : Option ℕ) → IfSome x (λ c. is_sign c ≡ true) → Takes steps q (sign_text x) r → Leads steps limit p (next fs (digits fraction (numeral b ds f None))) r (powered fs b ds f a.c x [])
             go None i y = Leads-peek steps limit p q r (letter_leads limit fs) y
@@ -111,7 +116,7 @@ module _ {S : Type 0} (steps : S → Option ℕ → S → Type 0) (p q : Cursor 
         Reads-signed : (v : Result (Unit {0}) JsonParseError) → Digits steps EmptyExponent r end v new t → ReadsPart steps (numeral b ds f) exponent p (λ fs. next fs (digits fraction (numeral b ds f None))) v new t
         Reads-signed (Ok u) g = record {
           part = Some (record { letter = a.c; sign = x; digits = g.ds });
-          spells = spells_exponent b ds f a.c x g.ds old new s (sym (letter_any a.c) ∙ a.one) is (are_digits g.ds g.digits) g.result.1 (g.result.0 ∙ ap (λ z. z ++ g.ds) (e ∙ ap (λ z. z ++ sign_text x) a.text));
+          spells = spells_exponent b ds f a.c x g.ds old new s (sym (letter_any a.c) ∙ a.one) known (are_digits g.ds g.digits) g.result.1 (g.result.0 ∙ ap (λ z. z ++ g.ds) (e ∙ ap (λ z. z ++ sign_text x) a.text));
           ends = g.result.2;
           leads = λ limit fs.
               Leads-to steps limit p t (Leads-digits steps limit (powered fs b ds f a.c x) (powered_next fs b ds f a.c x) (powered_digit limit fs b ds f a.c x) p r t (sign_leads limit fs) g.ds g.digits g.takes) (powered_whole fs b ds f a.c x g.ds g.result.1);
@@ -126,3 +131,32 @@ module _ {S : Type 0} (steps : S → Option ℕ → S → Type 0) (p q : Cursor 
         where
           unsigned : (u : Option ℕ) {o : Option ℕ} → Shows t u → Shows t o → IfSome u (λ c. is_any (43 ∷ 45 ∷ []) c ≡ false) → IfSome o (λ c. is_sign c ≡ false)
           unsigned u {o} a b h = no_sign o (subst (λ z. IfSome z (λ c. is_any (43 ∷ 45 ∷ []) c ≡ false)) (sym a.peeked ∙ b.peeked) h)
+
+-- ---- the whole number
+
+module _ {S : Type 0} (steps : S → Option ℕ → S → Type 0) (p q r : Cursor S) (mid new : List ℕ) where
+  -- a part, and the next
+  pub Part-fraction : Part steps (λ (x : Bool × List ℕ). numeral x.0 x.1 [] None) whole p (λ fs. next fs awaited) mid q
+      → ((b : Bool) (ds : List ℕ) → Spells (numeral b ds [] None) mid → Ends q → Part steps (λ f. numeral b ds f None) fraction q (λ fs. next fs (digits whole (numeral b ds [] None))) new r)
+      → Part steps (λ (x : Bool × List ℕ × List ℕ). numeral x.0 x.1 x.2 None) fraction p (λ fs. next fs awaited) new r
+  Part-fraction i f =
+      let x = f i.part.0 i.part.1 i.spells i.ends in
+      record { part = (i.part.0, i.part.1, x.part); spells = x.spells; ends = x.ends; leads = λ limit fs. Leads-trans steps limit p q r (i.leads limit fs) (x.leads limit fs) }
+
+  pub Part-number : Part steps (λ (x : Bool × List ℕ × List ℕ). numeral x.0 x.1 x.2 None) fraction p (λ fs. next fs awaited) mid q
+      → ((b : Bool) (ds f : List ℕ) → Spells (numeral b ds f None) mid → Ends q → Part steps (numeral b ds f) exponent q (λ fs. next fs (digits fraction (numeral b ds f None))) new r)
+      → Part steps (λ n. n) exponent p (λ fs. next fs awaited) new r
+  Part-number i e =
+      let x = e i.part.0 i.part.1 i.part.2 i.spells i.ends in
+      record { part = numeral i.part.0 i.part.1 i.part.2 x.part; spells = x.spells; ends = x.ends; leads = λ limit fs. Leads-trans steps limit p q r (i.leads limit fs) (x.leads limit fs) }
+
+-- the number ends here
+module _ {S : Type 0} (steps : S → Option ℕ → S → Type 0) (limit : Option ℕ) (fs : List Frame) (p q : Cursor S) (text : List ℕ) (n : Part steps (λ n. n) exponent p (λ fs. next fs awaited) text q) where
+  pub Leads-number : (x : Canonical) → (x.decimal ≡ value n.part) × (in_range (value n.part) ≡ true) → Leads steps limit p (next fs awaited) q (complete true fs (view (is.Number x)) true)
+  Leads-number x r = let e = n.ends in
+      Leads-to steps limit p q (Leads-rest steps limit p q (complete true fs (number (value n.part)) true) e.0 (n.leads limit fs) e.1 tt (number_ends limit fs n.part e.0 r.1 e.2))
+      (ap (λ t. complete true fs t true) (sym (view-Number x ∙ ap number r.0)))
+
+  pub Refuses-range : (err : JsonParseError) → in_range (value n.part) ≡ false → err.kind ≡ NumberOutOfRange → error_position err ≡ place q → Refuses steps limit p (next fs awaited) err q
+  Refuses-range err r i j = let e = n.ends in
+      Refuses-as steps limit p q err NumberOutOfRange i j (Leads-rest steps limit p q (stop NumberOutOfRange true) e.0 (n.leads limit fs) e.1 tt (range_ends limit fs n.part e.0 r e.2))
