@@ -1,7 +1,7 @@
 -- The parts of a number, as the machine reads them.
-use Rattle.std.proofs.Common.{◌≡◌, ℕ, ◌<◌, Bool, true, false, List, [], ◌∷◌, ◌++◌, length, Option, Some, None, IfSome, MatchBool, Result, Ok, Err, refl, sym, ap, ◌∙◌, subst, append-nil}
+use Rattle.std.proofs.Common.{◌≡◌, ℕ, ◌<◌, Bool, true, false, List, [], ◌∷◌, ◌++◌, Option, Some, None, IfSome, MatchBool, Result, Ok, Err, sym, ap, ◌∙◌, subst, append-nil}
 use Rattle.std.specs.Char.{is_ascii_digit}
-use Rattle.tinyjson_number.specs.Numeral.{Numeral, Exponent, value, in_range, has_leading_zero, is_sign, minus_text, sign_text}
+use Rattle.tinyjson_number.specs.Numeral.{value, in_range, has_leading_zero, is_sign, sign_text}
 use Rattle.tinyjson_number.specs.Number.{Canonical}
 use Rattle.tinyjson_number.specs.NumberText.{Spells}
 use Rattle.tinyjson.specs.Cursor.{Takes, Shows, place}

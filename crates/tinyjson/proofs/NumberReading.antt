@@ -1,17 +1,16 @@
 -- Numbers, as the machine reads them.
-use Rattle.std.proofs.Common.{◌≡◌, ℕ, ◌+◌, ◌<◌, ◌≤◌, ◌==◌, ◌||◌, Bool, true, false, cond, List, [], ◌∷◌, ◌++◌, length, drop, Option, Some, None, IfSome, MatchOption, MatchBool, Result, Ok, Err, OnOk, refl, sym, ap, ◌∙◌, subst, inr, ⊎_elim, true≢false, append_assoc, append-nil, arith}
+use Rattle.std.proofs.Common.{◌≡◌, ℕ, ◌<◌, ◌≤◌, ◌==◌, ◌||◌, Bool, true, false, List, [], ◌∷◌, ◌++◌, length, drop, Option, Some, None, IfSome, MatchOption, MatchBool, Result, Ok, Err, OnOk, refl, sym, ap, ◌∙◌, subst, inr, ⊎_elim, true≢false, append_assoc, append-nil, arith}
 use Rattle.std.specs.Char.{is_ascii_digit}
 use Rattle.std.specs.List.{AllByRecursion}
 use Rattle.std.proofs.lemmas.Bool.{ne_eqb}
 use Rattle.std.proofs.lemmas.Bool.Decides.{nat_tests}
 use Rattle.tinyjson_number.specs.Decimal.{Decimal}
-use Rattle.tinyjson_number.specs.Numeral.{Numeral, Exponent, AreDigits, IsNumeral, IsExponent, has_leading_zero, is_exponent_letter, is_sign, minus_text, sign_text, fraction_text, value, in_range}
+use Rattle.tinyjson_number.specs.Numeral.{Numeral, AreDigits, has_leading_zero, is_exponent_letter, is_sign, minus_text, sign_text, fraction_text, value, in_range}
 use Rattle.tinyjson_number.specs.NumberText.{Spells}
 use Rattle.tinyjson.specs.Characters.{is_white}
-use Rattle.tinyjson.specs.Cursor.{Takes, Shows, Gives, place}
-use Rattle.tinyjson.specs.Error.{error_position}
-use Rattle.tinyjson.specs.Machine.{strictly, step, end, then_step, end_plain, Frame, in_array, at_key, at_value, Next, next, stop, Outcome, refused, awaited, digits, minus, whole, point, fraction, letter, sign, exponent, complete}
-use Rattle.tinyjson.specs.Numbers.{BeginsNumber, Still, is_any, numeral, Accepted, Declined, Digits, Part}
+use Rattle.tinyjson.specs.Cursor.{Takes, Shows}
+use Rattle.tinyjson.specs.Machine.{strictly, step, end, then_step, end_plain, Frame, in_array, at_key, at_value, Next, next, stop, awaited, digits, minus, whole, point, fraction, letter, sign, exponent, complete}
+use Rattle.tinyjson.specs.Numbers.{BeginsNumber, Still, is_any, numeral, Accepted, Declined, Digits}
 use Rattle.tinyjson.specs.Reading.{onward, ending, IsNext, IsTaken, Comes, Ends, Gathers, Leads, Refuses}
 use Rattle.tinyjson.specs.Tree.{number}
 use Rattle.tinyjson.specs.declared.parser.cursor.Cursor.{Cursor}
@@ -19,7 +18,7 @@ use Rattle.tinyjson.specs.declared.parser.error.JsonParseError.{JsonParseError}
 use Rattle.tinyjson.specs.declared.parser.error.JsonParseErrorKind.{JsonParseErrorKind}
 use Rattle.tinyjson.specs.declared.parser.error.JsonParseErrorKind.TheVariants.{EmptyInteger, LeadingZero, EmptyFraction, EmptyExponent, NumberOutOfRange}
 use Rattle.tinyjson.proofs.Cursors.{Takes-append}
-use Rattle.tinyjson.proofs.Readings.{Same-refl, Leads-nil, Leads-to, Leads-trans, Leads-peek, Leads-one, Leads-shown, Leads-end, Halts-here, Refuses-as, Refuses-memory}
+use Rattle.tinyjson.proofs.Readings.{Same-refl, Leads-trans, Leads-peek, Leads-shown, Leads-end, Halts-here, Refuses-as, Refuses-memory}
 
 -- ---- characters
 

@@ -1,9 +1,8 @@
 -- The parts of a number, as the parser reads them. For private contracts.
-use Rattle.std.specs.Prelude.{◌≡◌, ℕ, ◌<◌, Bool, true, false, cond, List, [], ◌∷◌, ◌++◌, Option, Some, None, Result, MatchResult, MatchBool, IfSome, length, ◌⊎◌, nat_eq}
+use Rattle.std.specs.Prelude.{◌≡◌, ℕ, ◌<◌, Bool, true, false, List, [], ◌∷◌, ◌++◌, Option, Some, Result, MatchResult, MatchBool, IfSome, length, ◌⊎◌, nat_eq}
 use Rattle.std.specs.Char.{is_ascii_digit}
 use Rattle.std.specs.List.{AllByRecursion, list_any}
-use Rattle.tinyjson_number.specs.Decimal.{Decimal}
-use Rattle.tinyjson_number.specs.Numeral.{Numeral, Exponent, value, in_range}
+use Rattle.tinyjson_number.specs.Numeral.{Numeral, Exponent}
 use Rattle.tinyjson_number.specs.NumberText.{Spells}
 use Rattle.tinyjson.specs.Error.{error_position}
 use Rattle.tinyjson.specs.Cursor.{Takes, Shows, place}

@@ -1,4 +1,3 @@
-use Rattle.std.proofs.Common.{rules}
 use Rattle.std.proofs.lemmas.Result.{err_from_is_err_and}
 use Rattle.tinyjson.proofs.NumberReading.{was_accepted, was_declined}
 use Rattle.tinyjson.proofs.NumberParts.{Refuses-first, Part-no-fraction, Reads-fraction}

@@ -1,4 +1,4 @@
-use Rattle.std.proofs.Common.{rules, arith, ◌≡◌, ◌++◌, ◌∷◌, [], Some, string_bytes, ap, sym, ◌∙◌, true, append-nil, append_assoc}
+use Rattle.std.proofs.Common.{rules, arith, ◌≡◌, ◌++◌, ◌∷◌, [], string_bytes, ap, sym, ◌∙◌, true, append-nil, append_assoc}
 use Rattle.std.proofs.lemmas.Result.{err_from_is_err_and}
 use Rattle.std.specs.Char.{is_ascii_digit}
 use Rattle.tinyjson.proofs.Cursors.{Takes-nil, Takes-peek, Takes-append, AllByRecursion-push}
@@ -26,9 +26,12 @@ loop-c-preserved g c =
     let v = c.loop-c.invariant.gathers in
     let e : string_bytes c.peek.new.self.literal ≡ string_bytes c.args.self.now.literal ++ v.0 = ap string_bytes c.peek.ensures.literal ∙ v.3 in
     record {
-      gathers = (v.0 ++ c.in-Some.c ∷ [], AllByRecursion-push steps (λ x. is_ascii_digit x ≡ true) v.0 c.in-Some.c v.1 d,
+      gathers = (
+        v.0 ++ c.in-Some.c ∷ [],
+        AllByRecursion-push steps (λ x. is_ascii_digit x ≡ true) v.0 c.in-Some.c v.1 d,
         Takes-append steps _ _ _ v.0 (c.in-Some.c ∷ []) (Takes-peek steps _ _ _ v.0 v.2 c.peek.ensures.takes) k.0,
-        k.1 ∙ ap (λ x. x ++ c.in-Some.c ∷ []) e ∙ append_assoc (string_bytes c.args.self.now.literal) v.0 (c.in-Some.c ∷ []));
+        k.1 ∙ ap (λ x. x ++ c.in-Some.c ∷ []) e ∙ append_assoc (string_bytes c.args.self.now.literal) v.0 (c.in-Some.c ∷ []),
+      );
       left = omega (arith, c.in_ok-keep-in-Some.ensures.left, c.peek.ensures.left, c.loop-c.invariant.left);
     }
 
