@@ -5,4 +5,3 @@ pub mod Views
 pub mod Trees
 pub mod Equality
 pub mod Index
-pub mod Steps
