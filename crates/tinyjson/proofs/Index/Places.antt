@@ -1,8 +1,8 @@
 -- An `Option` of a `&mut` to a value is taken apart.
 use mathlib.Core.List.{List, [], ◌∷◌, ◌++◌}
-use mathlib.Core.Path.{◌≡◌, refl, ap, ◌∙◌}
+use mathlib.Core.Path.{refl, ap, ◌∙◌}
 use seplogic.Ra.Ura.{Ura}
-use base.Fml.{Fml, Lft, feq, fsep}
+use base.Fml.{Lft, feq, fsep}
 use base.Logic.{ent}
 use mir.Syntax.{named}
 use mir.Val.{Val, vptr, vcons, vnil, of_list}
