@@ -3,7 +3,6 @@
 
 pub mod access;
 pub mod conversions;
-#[cfg(test)]
-mod equality;
+pub mod equality;
 #[cfg(test)]
 mod places;
