@@ -6,3 +6,6 @@ pub mod conversions;
 pub mod equality;
 #[cfg(test)]
 mod places;
+pub mod writers;
+#[cfg(test)]
+mod written;
