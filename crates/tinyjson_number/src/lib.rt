@@ -6,10 +6,12 @@
 
 mod digits;
 mod error;
+mod inline;
 mod integer;
 mod literal;
 mod number;
 mod reading;
+mod storage;
 mod text;
 
 pub use error::{JsonNumberError, LiteralError};
