@@ -8,10 +8,12 @@ use crate::storage::Digits;
 use std::alloc::{AllocError, Global};
 use std::marker::Model;
 
-/// An exact decimal number: digits times ten to a power.
+/// An exact decimal number: zero, or a sign and digits times ten to a power. Each number has one form,
+/// with digits that neither begin nor end with `0`, so `1200` is 12 times ten to the power 2.
 ///
-/// A contract sees it as its decimal, `decimal`, together with the fact that the decimal has the one
-/// form. Few digits are kept in the number itself; more take memory once, and exactly what they need.
+/// A contract sees it as its decimal, `decimal`, together with the fact, `canonical`, that the decimal
+/// has the one form. Up to 24 digits are kept in the number itself. More take memory once, and exactly
+/// what they need.
 #[derive(Debug, Drop)]
 pub struct JsonNumber {
     negative: bool,
@@ -91,7 +93,7 @@ impl JsonNumber {
         self.power
     }
 
-    /// An equal number with memory of its own, or the error where there is none. `self` stays as it is.
+    /// An equal number, with memory of its own where it needs any. `self` stays as it is.
     pub fn try_clone(&self, alloc: Global) -> Result<JsonNumber, AllocError>
         ensures { IfOk result (λ n. n.decimal ≡ self.now.decimal) }
     {

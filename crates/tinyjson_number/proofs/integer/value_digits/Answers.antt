@@ -3,7 +3,7 @@ use Rattle.std.specs.Fmt.{decimal}
 use Rattle.std.proofs.lemmas.List.{take_all}
 use Rattle.tinyjson_number.proofs.Runs.{digits-utf8, ok_of}
 use Rattle.tinyjson_number.proofs.Integers.{decimal-digits}
-use Rattle.tinyjson_number.proofs.integer.digits_of.Goals as goal
+use Rattle.tinyjson_number.proofs.integer.value_digits.Goals as goal
 
 all_taken : (bs ds : List ℕ) (start : ℕ) → length bs ≡ 20 → drop start bs ≡ ds → take (20 - start) (drop start bs) ≡ ds
 all_taken bs ds start long is = take_all (20 - start) (drop start bs) (omega (arith, long, length-drop start bs)) ∙ is
