@@ -1,14 +1,9 @@
-use Rattle.std.proofs.Common.{◌≡◌, ◌-◌, ℕ, List, length, take, drop, sym, ◌∙◌, subst, refl, arith, length-drop, Result, Ok, Err, IsUtf8}
-use Rattle.std.specs.Result.{MatchResult, IsOk}
+use Rattle.std.proofs.Common.{◌≡◌, ◌-◌, ℕ, List, length, take, drop, sym, ◌∙◌, subst, arith, length-drop, IsUtf8}
 use Rattle.std.specs.Fmt.{decimal}
 use Rattle.std.proofs.lemmas.List.{take_all}
-use Rattle.tinyjson_number.proofs.Runs.{digits-utf8}
+use Rattle.tinyjson_number.proofs.Runs.{digits-utf8, ok_of}
 use Rattle.tinyjson_number.proofs.Integers.{decimal-digits}
-use Rattle.tinyjson_number.proofs.integer.digits_of.Goals as goal
-
-ok_of : {A E : Type 0} (r : Result A E) (P : A → Type 0) (Q : E → Type 0) → MatchResult r P Q → ((e : E) → ¬ Q e) → IsOk r
-ok_of (Ok x) P Q h none = refl
-ok_of (Err e) P Q h none = absurd (none e h)
+use Rattle.tinyjson_number.proofs.integer.value_digits.Goals as goal
 
 all_taken : (bs ds : List ℕ) (start : ℕ) → length bs ≡ 20 → drop start bs ≡ ds → take (20 - start) (drop start bs) ≡ ds
 all_taken bs ds start long is = take_all (20 - start) (drop start bs) (omega (arith, long, length-drop start bs)) ∙ is
