@@ -1,0 +1,13 @@
+pub mod JoinedMembers
+pub mod QuotedTrip
+pub mod TreeTrip
+pub mod ReadTrees
+pub mod Scalars
+pub mod Wider
+pub mod ReadingLaws
+pub mod WritingLaws
+pub mod NumberLaws
+pub mod LayoutLaws
+pub mod Bare
+pub mod WhiteSpaceLaws
+pub mod MemberLaws
