@@ -11,3 +11,5 @@ pub mod LayoutLaws
 pub mod Bare
 pub mod WhiteSpaceLaws
 pub mod MemberLaws
+pub mod Midways
+pub mod BeginningLaws

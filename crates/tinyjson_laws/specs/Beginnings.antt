@@ -22,10 +22,13 @@ AliveIsMidway = (limit : Option ℕ) (xs : List ℕ) → IsAlive (IsAccepted lim
 abbrev pub MidwayIsLooselyAlive : Type 0
 MidwayIsLooselyAlive = (limit : Option ℕ) (xs : List ℕ) → IsMidway limit xs → Loosely limit xs
 
--- a list that begins with a dead one is dead, in both grammars, and what begins with a list that is not midway is not midway
+-- a list that begins with a dead one is dead, in both grammars, and one that begins with a list that is not midway is not midway
 abbrev pub DeadStaysDead : Type 0
 DeadStaysDead =
-    (limit : Option ℕ) (xs ys : List ℕ) → (IsDead (IsAccepted limit) xs → IsDead (IsAccepted limit) (xs ++ ys)) × (¬ IsMidway limit xs → ¬ IsMidway limit (xs ++ ys)) × (¬ Loosely limit xs → ¬ Loosely limit (xs ++ ys))
+    (limit : Option ℕ) (xs ys : List ℕ) →
+    (IsDead (IsAccepted limit) xs → IsDead (IsAccepted limit) (xs ++ ys)) ×
+    (IsDead (IsLoose limit) xs → IsDead (IsLoose limit) (xs ++ ys)) ×
+    (¬ IsMidway limit xs → ¬ IsMidway limit (xs ++ ys))
 
 -- a character begins a value of the loose grammar exactly if `begins_value` says so
 abbrev pub ValuesBegin : Type 0

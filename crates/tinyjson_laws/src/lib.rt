@@ -5,6 +5,7 @@
 //! under the name of the function's module.
 #![tactic(auto)]
 
+pub mod beginnings;
 pub mod layout;
 pub mod members;
 pub mod numbers;
