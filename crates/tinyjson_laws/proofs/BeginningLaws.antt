@@ -1,16 +1,17 @@
 -- Beginnings of texts, and where a refusal comes.
 use Rattle.std.proofs.Common.{zero, suc, ◌≡◌, ℕ, ◌<◌, ◌≤◌, Bool, true, false, List, [], ◌∷◌, ◌++◌, Option, Some, None, refl, ap, sym, ◌∙◌, subst, append_assoc, arith, length, take, ◌⊎◌, inl, inr, ⊎_elim, IsTrue, ◌==◌, ◌||◌, length-append}
 use Rattle.std.specs.Char.{is_ascii_digit}
-use Rattle.std.proofs.lemmas.Bool.{cases_lt, or_right, eqb-true}
+use Rattle.std.proofs.lemmas.Bool.{false≢true, cases_lt, or_right, eqb-true}
 use Rattle.tinyjson_number.specs.Numeral.{AreDigits, minus_text}
 use Rattle.tinyjson.specs.Tree as tree
-use Rattle.tinyjson.specs.Syntax.{Syntax, null, boolean, number, string, empty_array, array, empty_object, object, text, IsSpelled, IsWithin}
+use Rattle.tinyjson.specs.Characters.{is_white}
+use Rattle.tinyjson.specs.Syntax.{Syntax, null, boolean, number, string, empty_array, array, empty_object, object, text, AreWhite, IsSpelled, IsWithin}
 use Rattle.tinyjson.specs.Grammar.{IsLoose, IsAccepted}
 use Rattle.tinyjson.specs.Continuation.{IsAlive, IsMidway, IsBrokenText, Loosely}
 use Rattle.tinyjson.specs.Refusal.{begins_value}
 use Rattle.tinyjson.proofs.Grammar.Midway.{alive-before}
 use Rattle.tinyjson_laws.proofs.Midways.{midway-loosely}
-use Rattle.tinyjson_laws.specs.Beginnings.{AcceptedIsLoose, EmptyIsAlive, AliveIsMidway, MidwayIsLooselyAlive, DeadStaysDead, ValuesBegin, IsShortest, ShortestInOrder, RefusedNotTooSoon, RefusedAtEnd, RefusedNotTooLate}
+use Rattle.tinyjson_laws.specs.Beginnings.{AcceptedIsLoose, EmptyIsAlive, AliveIsMidway, MidwayIsLooselyAlive, DeadStaysDead, ValuesBegin, DeadAtFirst, IsShortest, ShortestInOrder, RefusedNotTooSoon, RefusedAtEnd, RefusedNotTooLate}
 
 pub accepted_is_loose : AcceptedIsLoose
 accepted_is_loose limit xs h = h.1.loose
@@ -102,6 +103,20 @@ same_first c d xs ys e = cc
 
 pub values_begin : ValuesBegin
 values_begin c = (begun c, λ p. let f = first-of p.0 p.2 in subst (λ d. IsTrue (begins_value d)) (same_first f.0 c f.1 p.1 (sym f.2 ∙ p.3)) f.3)
+
+-- no text of the loose grammar begins so
+no-first : (c : ℕ) (w : List ℕ) (s : Syntax) (v xs : List ℕ) → AreWhite w → IsSpelled s → is_white c ≡ false → begins_value c ≡ false → c ∷ xs ≡ w ++ (text s ++ v) → ⊥
+no-first c [] s v xs hw hs n b e =
+    let f = first-of s hs in
+    let same : c ≡ f.0 = same_first c f.0 xs (f.1 ++ v) (e ∙ ap (λ ys. ys ++ v) f.2) in
+    let begun : begins_value c ≡ true = subst (λ d. IsTrue (begins_value d)) (sym same) f.3 in
+    false≢true (sym b ∙ begun)
+no-first c (d ∷ ds) s v xs hw hs n b e =
+    let white : is_white c ≡ true = subst (λ k. IsTrue (is_white k)) (sym (same_first c d xs (ds ++ (text s ++ v)) e)) hw.0 in
+    false≢true (sym n ∙ white)
+
+pub dead_at_first : DeadAtFirst
+dead_at_first limit c xs n b h = let l = h.1 in no-first c l.before l.value l.after (xs ++ h.0) l.white_before l.spelled n b l.whole
 
 -- ---- lengths
 

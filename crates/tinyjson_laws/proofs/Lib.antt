@@ -2,7 +2,7 @@ pub mod JoinedMembers
 pub mod QuotedTrip
 pub mod TreeTrip
 pub mod ReadTrees
-pub mod Scalars
+pub mod TextScalars
 pub mod Wider
 pub mod ReadingLaws
 pub mod WritingLaws

@@ -8,7 +8,7 @@ use Rattle.tinyjson.specs.Grammar.{IsTextAt}
 use Rattle.tinyjson.specs.Text as written
 use Rattle.tinyjson.specs.Soundness.{IsTreeAt, tree_depth}
 use Rattle.tinyjson.proofs.Grammar.Texts.{one-tree}
-use Rattle.tinyjson_laws.specs.Reading.{OneTree, TextsAreSound, TreesHaveTexts, WiderRange}
+use Rattle.tinyjson_laws.specs.Reading.{OneTree, TextsAreSound, TreesHaveTexts, WiderLimit, WiderRange}
 use Rattle.tinyjson_laws.proofs.TreeTrip.{IsWhiteIndent, spell}
 use Rattle.tinyjson_laws.proofs.ReadTrees.{tree-is, depth-is}
 use Rattle.tinyjson_laws.proofs.Wider.{wider-text}
@@ -45,6 +45,16 @@ texts_are_sound limit xs t h = sound-at power_width limit xs t h
 
 pub trees_have_texts : TreesHaveTexts
 trees_have_texts t = (λ h. (written.compact t, written-text power_width None None 0 t tt h tt), λ p. texts_are_sound None p.0 t p.1)
+
+at-limit : (width : Width) (limit other : Option ℕ) (xs : List ℕ) (t : Tree) → ((n : ℕ) → IsWithin limit n → IsWithin other n) → IsTextAt width limit xs t → IsTextAt width other xs t
+at-limit width limit other xs t f h = let l = h.loose in record {
+  loose = record { before = l.before; value = l.value; after = l.after; white_before = l.white_before; spelled = l.spelled; white_after = l.white_after; shallow = f (depth l.value) l.shallow; whole = l.whole };
+  strict = h.strict;
+  tree = h.tree;
+}
+
+pub wider_limit : WiderLimit
+wider_limit m n xs t l h = (at-limit power_width (Some m) (Some n) xs t (λ k d. omega arith) h, at-limit power_width (Some m) None xs t (λ k d. tt) h)
 
 pub wider_range : WiderRange
 wider_range limit xs t h = let wide = wider-text limit xs t h in (wide, rewritten w32 limit xs t None tt h, λ u j. ap written.compact (one-tree limit xs u t j wide))

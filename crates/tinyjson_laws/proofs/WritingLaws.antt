@@ -8,7 +8,7 @@ use Rattle.tinyjson.specs.Text as written
 use Rattle.tinyjson.proofs.Grammar.Texts.{one-tree}
 use Rattle.tinyjson_laws.specs.Writing.{CompactReadsBack, IndentedReadsBack, SameCompact, SameIndented, WrittenOnce, CompactWithin, IndentedWithin, LimitKept, TextsAreUtf8, CompactIsUtf8, IndentedIsUtf8}
 use Rattle.tinyjson_laws.proofs.ReadingLaws.{written-text, tree-within, rewritten}
-use Rattle.tinyjson_laws.proofs.Scalars.{scalars-join, white-scalars, text-scalars}
+use Rattle.tinyjson_laws.proofs.TextScalars.{scalars-append, white-scalars, text-scalars}
 
 pub compact_reads_back : CompactReadsBack
 compact_reads_back t h = written-text power_width None None 0 t tt h tt
@@ -43,7 +43,7 @@ indented_within t indent n i h = (tree-within power_width (Some n) (written.inde
 pub texts_are_utf8 : TextsAreUtf8
 texts_are_utf8 limit xs t h =
     let l = h.loose in
-    let s : IsTrue _ = rw l.whole (scalars-join l.before _ (white-scalars l.before l.white_before) (scalars-join (text l.value) l.after (text-scalars l.value l.spelled) (white-scalars l.after l.white_after))) in
+    let s : IsTrue _ = rw l.whole (scalars-append l.before _ (white-scalars l.before l.white_before) (scalars-append (text l.value) l.after (text-scalars l.value l.spelled) (white-scalars l.after l.white_after))) in
     (s, (xs, (s, refl)))
 
 pub compact_is_utf8 : CompactIsUtf8

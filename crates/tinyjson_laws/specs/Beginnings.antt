@@ -1,5 +1,6 @@
 -- Laws of beginnings: what can still become a text, what cannot, and where a refusal comes between the two.
-use Rattle.std.specs.Prelude.{◌≡◌, ◌↔◌, ℕ, ◌+◌, ◌<◌, ◌≤◌, List, [], ◌∷◌, ◌++◌, Option, IsTrue, length, take}
+use Rattle.std.specs.Prelude.{◌≡◌, ◌↔◌, ℕ, false, ◌+◌, ◌<◌, ◌≤◌, List, [], ◌∷◌, ◌++◌, Option, IsTrue, length, take}
+use Rattle.tinyjson.specs.Characters.{is_white}
 use Rattle.tinyjson.specs.Syntax.{Syntax, text, IsSpelled}
 use Rattle.tinyjson.specs.Grammar.{IsLoose, IsAccepted}
 use Rattle.tinyjson.specs.Continuation.{IsAlive, IsDead, Loosely, IsMidway}
@@ -33,6 +34,10 @@ DeadStaysDead =
 -- a character begins a value of the loose grammar exactly if `begins_value` says so
 abbrev pub ValuesBegin : Type 0
 ValuesBegin = (c : ℕ) → IsTrue (begins_value c) ↔ ((s : Syntax) × (more : List ℕ) × IsSpelled s × (text s ≡ c ∷ more))
+
+-- a list that begins with a character that is not white space and begins no value is dead, in the loose grammar too
+abbrev pub DeadAtFirst : Type 0
+DeadAtFirst = (limit : Option ℕ) (c : ℕ) (xs : List ℕ) → is_white c ≡ false → begins_value c ≡ false → IsDead (IsLoose limit) (c ∷ xs)
 
 -- ---- shortest beginnings
 

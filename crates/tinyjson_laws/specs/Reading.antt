@@ -1,5 +1,5 @@
 -- Laws of reading: texts and the trees that they have.
-use Rattle.std.specs.Prelude.{◌≡◌, ◌↔◌, ℕ, List, Option, None}
+use Rattle.std.specs.Prelude.{◌≡◌, ◌≤◌, ◌↔◌, ℕ, List, Option, Some, None}
 use Rattle.std.specs.Int.{w32, w64}
 use Rattle.tinyjson.specs.Tree.{Tree}
 use Rattle.tinyjson.specs.Grammar.{IsText, IsTextAt}
@@ -17,6 +17,10 @@ TextsAreSound = (limit : Option ℕ) (xs : List ℕ) (t : Tree) → IsText limit
 -- a tree is sound exactly if some text has it
 abbrev pub TreesHaveTexts : Type 0
 TreesHaveTexts = (t : Tree) → IsTree t ↔ ((xs : List ℕ) × IsText None xs t)
+
+-- what is a text under a limit on nesting is one under every greater limit, and under none
+abbrev pub WiderLimit : Type 0
+WiderLimit = (m n : ℕ) (xs : List ℕ) (t : Tree) → m ≤ n → IsText (Some m) xs t → IsText (Some n) xs t × IsText None xs t
 
 -- What is a text with the powers of ten of `i32` is one with those of `i64`, with the same tree. Its compact text is the same too: any tree that the wider range gives has it,
 -- and it is a text with either range.

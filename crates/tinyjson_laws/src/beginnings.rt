@@ -1,22 +1,26 @@
 //! Laws of beginnings: what can still become a text, what cannot, and where a refusal comes.
-ghost use Rattle.tinyjson_laws.specs.Beginnings.{AcceptedIsLoose, EmptyIsAlive, AliveIsMidway, MidwayIsLooselyAlive, DeadStaysDead, ValuesBegin, ShortestInOrder, RefusedNotTooSoon, RefusedAtEnd, RefusedNotTooLate};
+//!
+//! A list is alive if some list completes it, and dead if none does. It is midway if some list completes
+//! it to a text, or to one that ends with its first key that is no string. In the loose grammar leading
+//! zeros, powers of any size, lone surrogates and keys of any kind are let pass.
+ghost use Rattle.tinyjson_laws.specs.Beginnings.{AcceptedIsLoose, EmptyIsAlive, AliveIsMidway, MidwayIsLooselyAlive, DeadStaysDead, ValuesBegin, DeadAtFirst, ShortestInOrder, RefusedNotTooSoon, RefusedAtEnd, RefusedNotTooLate};
 
-/// An accepted list is one of the loose grammar.
+/// Every text is one of the loose grammar.
 pub fn accepted_is_loose()
     ensures { AcceptedIsLoose }
 {}
 
-/// The empty list is alive in both grammars.
+/// The empty list begins a text.
 pub fn empty_is_alive()
     ensures { EmptyIsAlive }
 {}
 
-/// What is alive in the grammar is midway.
+/// What begins a text is midway.
 pub fn alive_is_midway()
     ensures { AliveIsMidway }
 {}
 
-/// What is midway is alive in the loose grammar.
+/// What is midway begins a text of the loose grammar.
 pub fn midway_is_loosely_alive()
     ensures { MidwayIsLooselyAlive }
 {}
@@ -26,9 +30,14 @@ pub fn dead_stays_dead()
     ensures { DeadStaysDead }
 {}
 
-/// Which characters a value begins with.
+/// With which characters a value begins, and with which none does.
 pub fn values_begin()
     ensures { ValuesBegin }
+{}
+
+/// A list that begins with a character that is not white space and begins no value is dead.
+pub fn dead_at_first()
+    ensures { DeadAtFirst }
 {}
 
 /// The shortest dead beginning is no longer than the shortest that is not midway, and that no longer
@@ -37,7 +46,8 @@ pub fn shortest_in_order()
     ensures { ShortestInOrder }
 {}
 
-/// A refusal has consumed the shortest beginning that is not midway, or all of it but its last character.
+/// A refusal has consumed the shortest beginning that is not midway, or all of it but its last
+/// character.
 pub fn refused_not_too_soon()
     ensures { RefusedNotTooSoon }
 {}

@@ -6,7 +6,7 @@ pub fn one_decimal()
     ensures { OneDecimal }
 {}
 
-/// A decimal has the one form exactly if some text spells it.
+/// A decimal is in its one form exactly if some text spells it.
 pub fn decimals_have_texts()
     ensures { DecimalsHaveTexts }
 {}

@@ -6,7 +6,7 @@ pub fn compact_reads_back()
     ensures { CompactReadsBack }
 {}
 
-/// So is its indented text, where the indent is white space.
+/// The indented text of a tree is a text of that tree, where the indent is white space.
 pub fn indented_reads_back()
     ensures { IndentedReadsBack }
 {}
@@ -21,37 +21,39 @@ pub fn same_indented()
     ensures { SameIndented }
 {}
 
-/// Reading and writing twice gives the text of once.
+/// Reading a text and writing its tree, done twice, gives the text of once.
 pub fn written_once()
     ensures { WrittenOnce }
 {}
 
-/// A limit admits the compact text of a tree exactly if its containers are nested at most so deep.
+/// The compact text of a tree is a text under a limit exactly if its containers are nested at most
+/// so deep.
 pub fn compact_within()
     ensures { CompactWithin }
 {}
 
-/// A limit admits the indented text of a tree exactly if its containers are nested at most so deep.
+/// The indented text of a tree is a text under a limit exactly if its containers are nested at most
+/// so deep.
 pub fn indented_within()
     ensures { IndentedWithin }
 {}
 
-/// What is accepted under a limit, and then written, is accepted under the same limit.
+/// What is accepted under a limit is, once written, accepted under the same limit.
 pub fn limit_kept()
     ensures { LimitKept }
 {}
 
-/// The characters of a text have a UTF-8.
+/// The characters of a text have an encoding in UTF-8.
 pub fn texts_are_utf8()
     ensures { TextsAreUtf8 }
 {}
 
-/// A compact text has a UTF-8.
+/// The characters of a compact text have an encoding in UTF-8.
 pub fn compact_is_utf8()
     ensures { CompactIsUtf8 }
 {}
 
-/// An indented text has a UTF-8, where the indent is white space.
+/// The characters of an indented text have an encoding in UTF-8, where the indent is white space.
 pub fn indented_is_utf8()
     ensures { IndentedIsUtf8 }
 {}
