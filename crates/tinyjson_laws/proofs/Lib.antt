@@ -13,3 +13,4 @@ pub mod WhiteSpaceLaws
 pub mod MemberLaws
 pub mod Midways
 pub mod BeginningLaws
+pub mod Examples
