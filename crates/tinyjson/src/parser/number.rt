@@ -1,5 +1,5 @@
 //! Numbers (RFC 8259, section 6).
-ghost use Rattle.std.specs.Prelude.{◌≡◌, ◌<◌, ◌≤◌, ◌++◌, ◌∷◌, [], ℕ, List, Bool, OnOk, Option, Some, None, string_bytes};
+ghost use Rattle.std.specs.Prelude.{◌≡◌, ◌<◌, ◌≤◌, [], ℕ, List, Bool, OnOk, Option, Some, None, string_bytes};
 ghost use Rattle.std.specs.List.{AllByRecursion};
 ghost use Rattle.tinyjson.specs.Cursor.{Shows, left};
 ghost use Rattle.tinyjson.specs.Machine.{Frame, awaited, digits, whole, fraction, exponent, next};
