@@ -20,6 +20,15 @@ impl fmt::Display for JsonNumber {
     }
 }
 
+/// The same text as that of `Display`.
+impl fmt::Debug for JsonNumber {
+    ghost debug_output = { λ n. Some (decimal_text n.decimal) };
+
+    fn fmt<W: fmt::Write>(&self, f: &mut fmt::Formatter<W>) -> fmt::Result {
+        fmt::Display::fmt(self, f)
+    }
+}
+
 fn write_signed<W: fmt::Write>(
     f: &mut fmt::Formatter<W>,
     negative: bool,
