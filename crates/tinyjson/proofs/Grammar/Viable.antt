@@ -1,4 +1,4 @@
--- Each state that is read is alive in the loose grammar, and but for late characters midway.
+-- Each state that is read is viable in the loose grammar, and but for late characters faultless.
 use Rattle.std.proofs.Common.{◌≡◌, ℕ, Bool, true, List, [], ◌∷◌, ◌++◌, Option, Some, None, refl, ap, sym, ◌∙◌, append_assoc, append-nil, arith, subst, inl, ⊎_elim, IsTrue, ◌==◌}
 use Rattle.std.specs.Prelude.{IfSome}
 use Rattle.std.specs.Char.{is_ascii_digit}
@@ -6,15 +6,15 @@ use Rattle.std.proofs.lemmas.Bool.{eqb-true, le-ltb, lt-ltb, leb-true, and_parts
 use Rattle.tinyjson.specs.Characters.{is_hex, paired}
 use Rattle.tinyjson_number.specs.Numeral.{Exponent, AreDigits, minus_text, fraction_text, sign_text, exponent_text}
 use Rattle.tinyjson.specs.Syntax.{Syntax, null, text, depth, Piece, unit, ArePieces, codes, pieces_text}
-use Rattle.tinyjson.specs.Continuation.{IsMidway, IsValue}
+use Rattle.tinyjson.specs.Continuation.{IsFaultless, IsValue}
 use Rattle.tinyjson.specs.Machine.{Frame, Phase, Stage, Within}
 use Rattle.tinyjson.specs.Machine
-use Rattle.tinyjson.specs.Continuation.{Loosely}
+use Rattle.tinyjson.specs.Continuation.{IsLooselyViable}
 use Rattle.tinyjson.specs.Refusal.{IsPromptly, AreLate, is_late, IsHex}
 use Rattle.tinyjson_number.specs.Numeral.{is_sign}
 use Rattle.tinyjson_number.specs.Numeral.{is_exponent_letter}
 use Rattle.tinyjson.proofs.Grammar.Paths.{Path, outside, item_in, key_in, value_in, path_text, IsPath}
-use Rattle.tinyjson.proofs.Grammar.Midway.{midway, midway-from, placed, IsPlaced}
+use Rattle.tinyjson.proofs.Grammar.Faultless.{faultless, faultless-from, placed, IsPlaced}
 use Rattle.tinyjson.proofs.Grammar.Spelt.{Part, part_minus, part_whole, part_point, part_fraction, part_letter, part_sign, part_exponent, numeral, exponent_with, part_text, IsPart, IsWhole, Ranges, Quad, quads, IsSettled, within_text, IsPartWithin, Read, at_first, at_awaited, in_word, in_digits, in_quoted, at_after, read_text, IsRead, IsKeyed, flat_within, Ending, ends-loosely, white-loosely, are_pieces_append, pieces-append}
 
 pub part-ending : (n : Part) → IsPart n → Ending (part_text n)
@@ -60,15 +60,15 @@ quoted-ending ps qs wi h i j =
       whole = ap (λ xs. 34 ∷ xs) (simp (pieces-append, l.whole, append_assoc));
     }
 
-pub read-alive : (limit : Option ℕ) (x : Read) → IsRead limit x → Loosely limit (read_text x)
-read-alive limit (at_first p) h = subst (Loosely limit) (append-nil (path_text p)) (ends-loosely limit p h.0 [] (record { value = null; spelled = tt; flat = refl; rest = 110 ∷ 117 ∷ 108 ∷ 108 ∷ []; whole = refl }))
-read-alive limit (at_awaited p) h = subst (Loosely limit) (append-nil (path_text p)) (ends-loosely limit p h [] (record { value = null; spelled = tt; flat = refl; rest = 110 ∷ 117 ∷ 108 ∷ 108 ∷ []; whole = refl }))
-read-alive limit (in_word p s done left) h = ends-loosely limit p h.0 done (record { value = s; spelled = h.1.value.spelled; flat = h.1.flat; rest = left; whole = h.1.whole })
-read-alive limit (in_digits p n) h = ends-loosely limit p h.0 (part_text n) (part-ending n h.1)
-read-alive limit (in_quoted p ps cs qs wi) h = ends-loosely limit p h.0 _ (quoted-ending ps qs wi h.1 h.3 h.4)
-read-alive limit (at_after p s v) h = white-loosely limit p h.0 s h.1.spelled h.3 v h.4
+pub read-viable : (limit : Option ℕ) (x : Read) → IsRead limit x → IsLooselyViable limit (read_text x)
+read-viable limit (at_first p) h = subst (IsLooselyViable limit) (append-nil (path_text p)) (ends-loosely limit p h.0 [] (record { value = null; spelled = tt; flat = refl; rest = 110 ∷ 117 ∷ 108 ∷ 108 ∷ []; whole = refl }))
+read-viable limit (at_awaited p) h = subst (IsLooselyViable limit) (append-nil (path_text p)) (ends-loosely limit p h [] (record { value = null; spelled = tt; flat = refl; rest = 110 ∷ 117 ∷ 108 ∷ 108 ∷ []; whole = refl }))
+read-viable limit (in_word p s done left) h = ends-loosely limit p h.0 done (record { value = s; spelled = h.1.value.spelled; flat = h.1.flat; rest = left; whole = h.1.whole })
+read-viable limit (in_digits p n) h = ends-loosely limit p h.0 (part_text n) (part-ending n h.1)
+read-viable limit (in_quoted p ps cs qs wi) h = ends-loosely limit p h.0 _ (quoted-ending ps qs wi h.1 h.3 h.4)
+read-viable limit (at_after p s v) h = white-loosely limit p h.0 s h.1.spelled h.3 v h.4
 
--- ---- midway, then late characters
+-- ---- faultless, then late characters
 
 pub digit-hex : (c : ℕ) → IsTrue (is_ascii_digit c) → IsTrue (is_hex c)
 digit-hex c h =
@@ -112,7 +112,7 @@ within-late (Machine.hex ds) h = (refl, (refl, hexes-late ds h.0))
 -- a numeral without exponent, and what may follow of it
 pub record Numbered (limit : Option ℕ) (p : Path) (b : Bool) (w f : List ℕ) : Type 0 where
   pub exponent : Exponent
-  pub midway : IsMidway limit (path_text p ++ (text (Syntax.number (numeral b w f (Some exponent))) ++ []))
+  pub faultless : IsFaultless limit (path_text p ++ (text (Syntax.number (numeral b w f (Some exponent))) ++ []))
 
 module _ (ranges : Ranges) where
   pub numbered : (limit : Option ℕ) (p : Path) → IsPath limit p → (b : Bool) (d : ℕ) (ds f : List ℕ) → IsWhole d ds → AreDigits f → Numbered limit p b (d ∷ ds) f
@@ -121,53 +121,53 @@ module _ (ranges : Ranges) where
       let s : Syntax = Syntax.number (numeral b (d ∷ ds) f (Some r.0)) in
       record {
         exponent = r.0;
-        midway = midway limit p hp s
+        faultless = faultless limit p hp s
             (record { spelled = record { whole = h.0; some_digit = omega arith; fraction = i; exponent = r.1 }; strict = (rw h.1 refl, r.2) }) (flat_within limit p s hp refl) [] tt (placed p s);
       }
 
-  pub midway-number : (limit : Option ℕ) (p : Path) → IsPath limit p → (b : Bool) (d : ℕ) (ds f : List ℕ) → IsWhole d ds → AreDigits f →
-      IsMidway limit (path_text p ++ (minus_text b ++ d ∷ (ds ++ fraction_text f)))
-  midway-number limit p hp b d ds f h i =
+  pub faultless-number : (limit : Option ℕ) (p : Path) → IsPath limit p → (b : Bool) (d : ℕ) (ds f : List ℕ) → IsWhole d ds → AreDigits f →
+      IsFaultless limit (path_text p ++ (minus_text b ++ d ∷ (ds ++ fraction_text f)))
+  faultless-number limit p hp b d ds f h i =
       let n : Numbered limit p b (d ∷ ds) f = numbered limit p hp b d ds f h i in
-      midway-from limit (path_text p ++ (minus_text b ++ d ∷ (ds ++ fraction_text f))) (exponent_text (Some n.exponent)) _ (simp (append_assoc, append-nil)) n.midway
+      faultless-from limit (path_text p ++ (minus_text b ++ d ∷ (ds ++ fraction_text f))) (exponent_text (Some n.exponent)) _ (simp (append_assoc, append-nil)) n.faultless
 
-  pub midway-minus : (limit : Option ℕ) (p : Path) → IsPath limit p → IsMidway limit (path_text p ++ 45 ∷ [])
-  midway-minus limit p hp =
-      midway-from limit (path_text p ++ 45 ∷ []) (48 ∷ []) (path_text p ++ 45 ∷ 48 ∷ []) (simp append_assoc) (midway-number limit p hp true 48 [] [] ((refl, tt), refl) tt)
+  pub faultless-minus : (limit : Option ℕ) (p : Path) → IsPath limit p → IsFaultless limit (path_text p ++ 45 ∷ [])
+  faultless-minus limit p hp =
+      faultless-from limit (path_text p ++ 45 ∷ []) (48 ∷ []) (path_text p ++ 45 ∷ 48 ∷ []) (simp append_assoc) (faultless-number limit p hp true 48 [] [] ((refl, tt), refl) tt)
 
-  pub midway-point : (limit : Option ℕ) (p : Path) → IsPath limit p → (b : Bool) (d : ℕ) (ds : List ℕ) → IsWhole d ds → IsMidway limit (path_text p ++ (minus_text b ++ d ∷ (ds ++ 46 ∷ [])))
-  midway-point limit p hp b d ds h =
-      midway-from limit (path_text p ++ (minus_text b ++ d ∷ (ds ++ 46 ∷ []))) (48 ∷ []) _ (simp append_assoc) (midway-number limit p hp b d ds (48 ∷ []) h (refl, tt))
+  pub faultless-point : (limit : Option ℕ) (p : Path) → IsPath limit p → (b : Bool) (d : ℕ) (ds : List ℕ) → IsWhole d ds → IsFaultless limit (path_text p ++ (minus_text b ++ d ∷ (ds ++ 46 ∷ [])))
+  faultless-point limit p hp b d ds h =
+      faultless-from limit (path_text p ++ (minus_text b ++ d ∷ (ds ++ 46 ∷ []))) (48 ∷ []) _ (simp append_assoc) (faultless-number limit p hp b d ds (48 ∷ []) h (refl, tt))
 
   pub part-prompt : (limit : Option ℕ) (p : Path) → IsPath limit p → (n : Part) → IsPart n → IsPromptly limit (path_text p ++ part_text n) []
-  part-prompt limit p hp part_minus h = record { front = path_text p ++ 45 ∷ []; late = []; whole = simp append-nil; midway = midway-minus limit p hp; are_late = tt }
+  part-prompt limit p hp part_minus h = record { front = path_text p ++ 45 ∷ []; late = []; whole = simp append-nil; faultless = faultless-minus limit p hp; are_late = tt }
   part-prompt limit p hp (part_whole b d ds) h =
-      record { front = path_text p ++ (minus_text b ++ d ∷ []); late = ds; whole = simp (append_assoc, append-nil); midway = midway-number limit p hp b d [] [] ((h.0, tt), refl) tt; are_late = digits-late ds h.1 }
-  part-prompt limit p hp (part_point b d ds) h = record { front = path_text p ++ (minus_text b ++ d ∷ (ds ++ 46 ∷ [])); late = []; whole = simp append-nil; midway = midway-point limit p hp b d ds h; are_late = tt }
+      record { front = path_text p ++ (minus_text b ++ d ∷ []); late = ds; whole = simp (append_assoc, append-nil); faultless = faultless-number limit p hp b d [] [] ((h.0, tt), refl) tt; are_late = digits-late ds h.1 }
+  part-prompt limit p hp (part_point b d ds) h = record { front = path_text p ++ (minus_text b ++ d ∷ (ds ++ 46 ∷ [])); late = []; whole = simp append-nil; faultless = faultless-point limit p hp b d ds h; are_late = tt }
   part-prompt limit p hp (part_fraction b d ds e es) h =
-      record { front = path_text p ++ (minus_text b ++ d ∷ (ds ++ 46 ∷ e ∷ es)); late = []; whole = simp append-nil; midway = midway-number limit p hp b d ds (e ∷ es) h.0 h.1; are_late = tt }
+      record { front = path_text p ++ (minus_text b ++ d ∷ (ds ++ 46 ∷ e ∷ es)); late = []; whole = simp append-nil; faultless = faultless-number limit p hp b d ds (e ∷ es) h.0 h.1; are_late = tt }
   part-prompt limit p hp (part_letter b d ds f l) h =
-      record { front = path_text p ++ (minus_text b ++ d ∷ (ds ++ fraction_text f)); late = l ∷ []; whole = simp append_assoc; midway = midway-number limit p hp b d ds f h.0 h.1; are_late = (letter-late l h.2, tt) }
+      record { front = path_text p ++ (minus_text b ++ d ∷ (ds ++ fraction_text f)); late = l ∷ []; whole = simp append_assoc; faultless = faultless-number limit p hp b d ds f h.0 h.1; are_late = (letter-late l h.2, tt) }
   part-prompt limit p hp (part_sign b d ds f l s) h =
-      record { front = path_text p ++ (minus_text b ++ d ∷ (ds ++ fraction_text f)); late = l ∷ s ∷ []; whole = simp append_assoc; midway = midway-number limit p hp b d ds f h.0 h.1; are_late = (letter-late l h.2, (sign-late s h.3, tt)) }
+      record { front = path_text p ++ (minus_text b ++ d ∷ (ds ++ fraction_text f)); late = l ∷ s ∷ []; whole = simp append_assoc; faultless = faultless-number limit p hp b d ds f h.0 h.1; are_late = (letter-late l h.2, (sign-late s h.3, tt)) }
   part-prompt limit p hp (part_exponent b d ds f l s e es) h =
       record {
         front = path_text p ++ (minus_text b ++ d ∷ (ds ++ fraction_text f));
         late = l ∷ (sign_text s ++ e ∷ es);
         whole = simp (append_assoc, append-nil);
-        midway = midway-number limit p hp b d ds f h.0 h.1;
+        faultless = faultless-number limit p hp b d ds f h.0 h.1;
         are_late = (letter-late l h.2, late-append (sign_text s) (e ∷ es) (signs-late s h.3) (digits-late (e ∷ es) h.4));
       }
 
 -- ---- the other states
 
-pub midway-value : (limit : Option ℕ) (p : Path) → IsPath limit p → (s : Syntax) → IsValue s → depth s ≡ 0 → (front rest : List ℕ) → text s ≡ front ++ rest → IsMidway limit (path_text p ++ front)
-midway-value limit p hp s hs hd front rest e =
-    midway-from limit (path_text p ++ front) rest (path_text p ++ (text s ++ [])) (rw e (simp (append_assoc, append-nil))) (midway limit p hp s hs (flat_within limit p s hp hd) [] tt (placed p s))
+pub faultless-value : (limit : Option ℕ) (p : Path) → IsPath limit p → (s : Syntax) → IsValue s → depth s ≡ 0 → (front rest : List ℕ) → text s ≡ front ++ rest → IsFaultless limit (path_text p ++ front)
+faultless-value limit p hp s hs hd front rest e =
+    faultless-from limit (path_text p ++ front) rest (path_text p ++ (text s ++ [])) (rw e (simp (append_assoc, append-nil))) (faultless limit p hp s hs (flat_within limit p s hp hd) [] tt (placed p s))
 
-pub midway-place : (limit : Option ℕ) (p : Path) → IsPath limit p → IsMidway limit (path_text p)
-midway-place limit p hp =
-    midway-from limit (path_text p) (110 ∷ 117 ∷ 108 ∷ 108 ∷ []) (path_text p ++ (text null ++ [])) refl (midway limit p hp null (record { spelled = tt; strict = tt }) (flat_within limit p null hp refl) [] tt (placed p null))
+pub faultless-place : (limit : Option ℕ) (p : Path) → IsPath limit p → IsFaultless limit (path_text p)
+faultless-place limit p hp =
+    faultless-from limit (path_text p) (110 ∷ 117 ∷ 108 ∷ 108 ∷ []) (path_text p ++ (text null ++ [])) refl (faultless limit p hp null (record { spelled = tt; strict = tt }) (flat_within limit p null hp refl) [] tt (placed p null))
 
 pub is_keyed_placed : (p : Path) (s : Syntax) (v : List ℕ) → IsKeyed p s → IsPlaced p s v
 is_keyed_placed (outside w) s v h = tt
@@ -175,29 +175,29 @@ is_keyed_placed (item_in p es w) s v h = tt
 is_keyed_placed (key_in p ps w) s v h = inl h
 is_keyed_placed (value_in p ps a k b w) s v h = tt
 
-pub midway-after : (limit : Option ℕ) (p : Path) (s : Syntax) (v : List ℕ) → IsRead limit (at_after p s v) → IsMidway limit (path_text p ++ (text s ++ v))
-midway-after limit p s v h = midway limit p h.0 s h.1 h.3 v h.4 (is_keyed_placed p s v h.2)
+pub faultless-after : (limit : Option ℕ) (p : Path) (s : Syntax) (v : List ℕ) → IsRead limit (at_after p s v) → IsFaultless limit (path_text p ++ (text s ++ v))
+faultless-after limit p s v h = faultless limit p h.0 s h.1 h.3 v h.4 (is_keyed_placed p s v h.2)
 
 pub settled-strict : (ps : List Piece) (cs : List ℕ) → IsSettled ps cs → IsTrue (paired (codes ps))
 settled-strict ps cs h = ap (λ qs. paired (codes qs)) (sym (append-nil ps)) ∙ (h []).1
 
-pub midway-open : (limit : Option ℕ) (p : Path) → IsPath limit p → (ps : List Piece) (cs : List ℕ) → ArePieces ps → IsSettled ps cs → IsMidway limit (path_text p ++ 34 ∷ pieces_text ps)
-midway-open limit p hp ps cs h i = midway-value limit p hp (Syntax.string ps) (record { spelled = h; strict = settled-strict ps cs i }) refl (34 ∷ pieces_text ps) (34 ∷ []) refl
+pub faultless-open : (limit : Option ℕ) (p : Path) → IsPath limit p → (ps : List Piece) (cs : List ℕ) → ArePieces ps → IsSettled ps cs → IsFaultless limit (path_text p ++ 34 ∷ pieces_text ps)
+faultless-open limit p hp ps cs h i = faultless-value limit p hp (Syntax.string ps) (record { spelled = h; strict = settled-strict ps cs i }) refl (34 ∷ pieces_text ps) (34 ∷ []) refl
 
 pub quoted-prompt : (limit : Option ℕ) (p : Path) → IsPath limit p → (ps : List Piece) (cs : List ℕ) → ArePieces ps → IsSettled ps cs → (qs : List Quad) → ArePieces (quads qs) → (late : List ℕ) → AreLate late → (end : List ℕ) →
     IsPromptly limit (path_text p ++ 34 ∷ (pieces_text ps ++ (pieces_text (quads qs) ++ (late ++ end)))) end
 quoted-prompt limit p hp ps cs h i qs j late l end =
-    record { front = path_text p ++ 34 ∷ pieces_text ps; late = pieces_text (quads qs) ++ late; whole = simp append_assoc; midway = midway-open limit p hp ps cs h i; are_late = late-append _ _ (quads-late qs j) l }
+    record { front = path_text p ++ 34 ∷ pieces_text ps; late = pieces_text (quads qs) ++ late; whole = simp append_assoc; faultless = faultless-open limit p hp ps cs h i; are_late = late-append _ _ (quads-late qs j) l }
 
-pub at-once : (limit : Option ℕ) (xs : List ℕ) → IsMidway limit xs → IsPromptly limit xs []
-at-once limit xs h = record { front = xs; late = []; whole = sym (append-nil xs); midway = h; are_late = tt }
+pub at-once : (limit : Option ℕ) (xs : List ℕ) → IsFaultless limit xs → IsPromptly limit xs []
+at-once limit xs h = record { front = xs; late = []; whole = sym (append-nil xs); faultless = h; are_late = tt }
 
 pub read-prompt : Ranges → (limit : Option ℕ) (x : Read) → IsRead limit x → IsPromptly limit (read_text x) []
-read-prompt ranges limit (at_first p) h = at-once limit _ (midway-place limit p h.0)
-read-prompt ranges limit (at_awaited p) h = at-once limit _ (midway-place limit p h)
-read-prompt ranges limit (in_word p s done left) h = at-once limit (path_text p ++ done) (midway-value limit p h.0 s h.1.value h.1.flat done left h.1.whole)
+read-prompt ranges limit (at_first p) h = at-once limit _ (faultless-place limit p h.0)
+read-prompt ranges limit (at_awaited p) h = at-once limit _ (faultless-place limit p h)
+read-prompt ranges limit (in_word p s done left) h = at-once limit (path_text p ++ done) (faultless-value limit p h.0 s h.1.value h.1.flat done left h.1.whole)
 read-prompt ranges limit (in_digits p n) h = part-prompt ranges limit p h.0 n h.1
 read-prompt ranges limit (in_quoted p ps cs qs wi) h =
     subst (λ xs. IsPromptly limit (path_text p ++ 34 ∷ (pieces_text ps ++ (pieces_text (quads qs) ++ xs))) []) (append-nil (within_text wi))
     (quoted-prompt limit p h.0 ps cs h.1 h.2 qs h.3 (within_text wi) (within-late wi h.4) [])
-read-prompt ranges limit (at_after p s v) h = at-once limit _ (midway-after limit p s v h)
+read-prompt ranges limit (at_after p s v) h = at-once limit _ (faultless-after limit p s v h)

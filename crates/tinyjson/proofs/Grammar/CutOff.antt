@@ -4,7 +4,7 @@ use Rattle.std.specs.Prelude.{max}
 use Rattle.tinyjson.specs.Tree as tree
 use Rattle.tinyjson.specs.Characters.{decode}
 use Rattle.tinyjson.specs.Syntax.{Syntax, string, text, AreWhite, is_key, tree_of, depth, pieces_text, codes}
-use Rattle.tinyjson.specs.Continuation.{Element, Pair, elements_before, pairs_before, IsValue, AreElementsBefore, ArePairsBefore, Broken, bad_key, in_key, in_member, in_item, broken_text, IsBroken, elements_deepest, pairs_deepest, broken_depth}
+use Rattle.tinyjson.specs.Continuation.{Element, Pair, elements_before, pairs_before, IsValue, AreElementsBefore, ArePairsBefore, CutOff, bad_key, in_key, in_member, in_item, cut_off_text, IsCutOff, elements_deepest, pairs_deepest, cut_off_depth}
 use Rattle.tinyjson.specs.Machine.{Rules, Frame, in_array, at_key, at_value, awaited, first, step, run}
 use Rattle.tinyjson.proofs.Grammar.Runs.{delimited-white, run-white, after-white}
 use Rattle.tinyjson.proofs.Grammar.Values.{run-value, less-within, fits-within, HasRoom, ends, Begins, begins-append, text-begins, first-array, first-object, after-key}
@@ -76,14 +76,14 @@ open-object ps w r fs xs h hw b d m = rw (fits-within r.limit (length fs) (max (
 -- ---- the bad key
 
 -- the place of the bad key, from the frames fs on
-pub record BadKey (r : Rules) (fs : List Frame) (b : Broken) : Type 0 where
+pub record BadKey (r : Rules) (fs : List Frame) (b : CutOff) : Type 0 where
   pub members : tree.Members
   pub frames : List Frame
   pub key : Syntax
   pub value : IsValue key
   pub no_string : is_key key ≡ false
   pub room : HasRoom r (at_key members ∷ frames) (depth key)
-  pub reads : (ys : List ℕ) → run r fs awaited (broken_text b ++ ys) ≡ run r (at_key members ∷ frames) awaited (text key ++ ys)
+  pub reads : (ys : List ℕ) → run r fs awaited (cut_off_text b ++ ys) ≡ run r (at_key members ∷ frames) awaited (text key ++ ys)
 
 two-assoc : (ps w t ys : List ℕ) → (ps ++ (w ++ t)) ++ ys ≡ ps ++ (w ++ (t ++ ys))
 two-assoc ps w t ys = simp append_assoc
@@ -91,13 +91,13 @@ two-assoc ps w t ys = simp append_assoc
 member-assoc : (ps w k v u t ys : List ℕ) → (ps ++ (w ++ 34 ∷ (k ++ 34 ∷ (v ++ 58 ∷ (u ++ t))))) ++ ys ≡ ps ++ (w ++ ((34 ∷ (k ++ 34 ∷ [])) ++ (v ++ 58 ∷ (u ++ (t ++ ys)))))
 member-assoc ps w k v u t ys = simp append_assoc
 
-broken-begins : (b : Broken) → Begins (broken_text b)
-broken-begins (bad_key ps w s) = (_, _, refl, (refl, refl, refl))
-broken-begins (in_key ps w b) = (_, _, refl, (refl, refl, refl))
-broken-begins (in_member ps w k v u b) = (_, _, refl, (refl, refl, refl))
-broken-begins (in_item es w b) = (_, _, refl, (refl, refl, refl))
+cut_off-begins : (b : CutOff) → Begins (cut_off_text b)
+cut_off-begins (bad_key ps w s) = (_, _, refl, (refl, refl, refl))
+cut_off-begins (in_key ps w b) = (_, _, refl, (refl, refl, refl))
+cut_off-begins (in_member ps w k v u b) = (_, _, refl, (refl, refl, refl))
+cut_off-begins (in_item es w b) = (_, _, refl, (refl, refl, refl))
 
-pub bad-key : (b : Broken) (r : Rules) (fs : List Frame) → IsBroken b → HasRoom r fs (broken_depth b) → BadKey r fs b
+pub bad-key : (b : CutOff) (r : Rules) (fs : List Frame) → IsCutOff b → HasRoom r fs (cut_off_depth b) → BadKey r fs b
 bad-key (bad_key ps w s) r fs h m = record {
   members = members_before tree.no_members ps;
   frames = fs;
@@ -115,7 +115,7 @@ bad-key (in_key ps w b) r fs h m =
       value = i.value;
       no_string = i.no_string;
       room = i.room;
-      reads = λ ys. rw (two-assoc (pairs_before ps) w (broken_text b) ys) (open-object ps w r fs (broken_text b ++ ys) h.0 h.1 (begins-append (broken_text b) ys (broken-begins b)) (broken_depth b) m ∙ i.reads ys);
+      reads = λ ys. rw (two-assoc (pairs_before ps) w (cut_off_text b) ys) (open-object ps w r fs (cut_off_text b ++ ys) h.0 h.1 (begins-append (cut_off_text b) ys (cut_off-begins b)) (cut_off_depth b) m ∙ i.reads ys);
     }
 bad-key (in_item es w b) r fs h m =
     let i = bad-key b r (in_array (elements_trees es) ∷ fs) h.2 (less-within r.limit _ _ m (omega arith)) in record {
@@ -125,7 +125,7 @@ bad-key (in_item es w b) r fs h m =
       value = i.value;
       no_string = i.no_string;
       room = i.room;
-      reads = λ ys. rw (two-assoc (elements_before es) w (broken_text b) ys) (open-array es w r fs (broken_text b ++ ys) h.0 h.1 (begins-append (broken_text b) ys (broken-begins b)) (broken_depth b) m ∙ i.reads ys);
+      reads = λ ys. rw (two-assoc (elements_before es) w (cut_off_text b) ys) (open-array es w r fs (cut_off_text b ++ ys) h.0 h.1 (begins-append (cut_off_text b) ys (cut_off-begins b)) (cut_off_depth b) m ∙ i.reads ys);
     }
 bad-key (in_member ps w k v u b) r fs h m =
     let ms = members_before tree.no_members ps in
@@ -136,9 +136,9 @@ bad-key (in_member ps w k v u b) r fs h m =
       value = i.value;
       no_string = i.no_string;
       room = i.room;
-      reads = λ ys. rw (member-assoc (pairs_before ps) w (pieces_text k) v u (broken_text b) ys)
-          (open-object ps w r fs _ h.0 h.1 (_, _, refl, (refl, refl, refl)) (broken_depth b) m
-          ∙ run-value (string k) r (at_key ms ∷ fs) (v ++ 58 ∷ (u ++ (broken_text b ++ ys))) h.2 (λ e. h.3) (less-within r.limit _ _ m (omega arith)) tt
+      reads = λ ys. rw (member-assoc (pairs_before ps) w (pieces_text k) v u (cut_off_text b) ys)
+          (open-object ps w r fs _ h.0 h.1 (_, _, refl, (refl, refl, refl)) (cut_off_depth b) m
+          ∙ run-value (string k) r (at_key ms ∷ fs) (v ++ 58 ∷ (u ++ (cut_off_text b ++ ys))) h.2 (λ e. h.3) (less-within r.limit _ _ m (omega arith)) tt
           ∙ after-key r ms fs (string k) v _ (λ e. refl) h.4
           ∙ run-white r (at_value ms (decode (codes k)) ∷ fs) u _ h.5
           ∙ i.reads ys);
