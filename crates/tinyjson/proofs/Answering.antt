@@ -154,9 +154,9 @@ all-scalars (x ∷ xs) h zero d l = (and_parts (is_scalar x) (all_scalars xs) h)
 all-scalars (x ∷ xs) h (suc k) d l = all-scalars xs (and_parts (is_scalar x) (all_scalars xs) h).1 k d (omega (arith, l))
 
 -- a new parser over a text
-pub parses-text : {S : Type 0} {g : iterator.Ghosts S ℕ} (xs : List ℕ) (p q : JsonParser S g) (r : Result JsonValue JsonParseError) → parser_position p ≡ origin → parser_limit p ≡ None → Parses p xs r q → ParsesText xs r
-parses-text xs p q (Ok v) h n a = record { consumed = a.consumed; rest = a.rest; whole = a.whole; answer = subst (λ l. (a.rest ≡ []) × IsText l xs (view v)) n a.answer }
-parses-text xs p q (Err e) h n a = record {
+pub parses-text : {S : Type 0} {g : iterator.Ghosts S ℕ} (limit : Option ℕ) (xs : List ℕ) (p q : JsonParser S g) (r : Result JsonValue JsonParseError) → parser_position p ≡ origin → parser_limit p ≡ limit → Parses p xs r q → ParsesText limit xs r
+parses-text limit xs p q (Ok v) h n a = record { consumed = a.consumed; rest = a.rest; whole = a.whole; answer = subst (λ l. (a.rest ≡ []) × IsText l xs (view v)) n a.answer }
+parses-text limit xs p q (Err e) h n a = record {
   consumed = a.consumed;
   rest = a.rest;
   whole = a.whole;
