@@ -10,6 +10,8 @@ mod input;
 pub mod options;
 mod output;
 pub mod run;
+#[cfg(test)]
+mod tests;
 
 use fault::RunFault;
 use run::Options;
