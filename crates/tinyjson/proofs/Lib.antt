@@ -13,9 +13,10 @@ pub mod Growth
 pub mod Answering
 pub mod Equality
 pub mod Index
-pub mod Steps
 pub mod Writing
 pub mod Sorted
 pub mod Texts
 pub mod Sizes
 pub mod Scalars
+pub mod NumberReading
+pub mod NumberParts

@@ -3,7 +3,9 @@
 
 pub mod access;
 pub mod conversions;
-#[cfg(test)]
-mod equality;
+pub mod equality;
 #[cfg(test)]
 mod places;
+pub mod writers;
+#[cfg(test)]
+mod written;
