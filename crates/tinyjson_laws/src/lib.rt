@@ -1,8 +1,9 @@
 //! The laws over the definitions that the contracts of `tinyjson` cite: the grammar, the written texts,
 //! and the trees that values are seen as.
 //!
-//! Each law is the contract of a public function that does nothing. Its statement stands in `specs/`,
-//! under the name of the function's module.
+//! Each law is the contract of a public function. Most of them do nothing, and their statements stand in
+//! `specs/` under the name of the function's module; those of `values` and `round_trips` compare, write
+//! and read.
 #![tactic(auto)]
 
 pub mod beginnings;
@@ -10,6 +11,7 @@ pub mod layout;
 pub mod members;
 pub mod numbers;
 pub mod reading;
+pub mod round_trips;
 pub mod values;
 pub mod white_space;
 pub mod writing;
