@@ -14,3 +14,4 @@ pub mod MemberLaws
 pub mod Faultless
 pub mod BeginningLaws
 pub mod Examples
+pub mod RoundTrips

@@ -7,11 +7,7 @@ use std::alloc::Global;
 use tinyjson::{JsonGenerateError, JsonParseErrorKind, JsonValue};
 
 /// Whether the compact texts of two values are the same, which they are exactly if the values are equal.
-pub fn same_written(
-    alloc: Global,
-    a: &JsonValue,
-    b: &JsonValue,
-) -> Result<bool, JsonGenerateError>
+pub fn same_written(alloc: Global, a: &JsonValue, b: &JsonValue) -> Result<bool, JsonGenerateError>
     ensures { IfOk result (λ same. IsTrue same ↔ (view a.now ≡ view b.now)) }
 {
     let first = a.stringify(alloc)?;
