@@ -5,6 +5,9 @@ pub mod Views
 pub mod Trees
 pub mod Writing
 pub mod Sorted
+pub mod Encoded
+pub mod Quotes
+pub mod NumberTexts
 pub mod Texts
 pub mod Sizes
 pub mod Scalars
