@@ -15,6 +15,9 @@ pub mod Equality
 pub mod Index
 pub mod Writing
 pub mod Sorted
+pub mod Encoded
+pub mod Quotes
+pub mod NumberTexts
 pub mod Texts
 pub mod Sizes
 pub mod Scalars

@@ -121,6 +121,7 @@ fn written(alloc: Global, indent: Option<&str>, value: &JsonValue) -> JsonGenera
     }
 }
 
+/// A text, or the want of memory for it.
 pub type JsonGenerateResult = Result<String, JsonGenerateError>;
 
 /// There is no memory for a text.

@@ -1,21 +1,23 @@
 //! A number's text in parts.
 ghost use Rattle.std.specs.Prelude.{◌≡◌, ◌<◌, ◌≤◌, ◌++◌, length, take, drop, replicate, ◌∷◌, pos, neg_ℤ, ◌+ℤ◌, ◌≤ℤ◌, ◌^◌};
 ghost use Rattle.tinyjson_number.specs.Layout.{layout_text};
-ghost use Rattle.tinyjson_number.specs.Numeral.{AreDigits, minus_text};
+ghost use Rattle.tinyjson_number.specs.Numeral.{AreDigits};
 ghost use Rattle.tinyjson_number.specs.Text.{decimal_text, magnitude_text, scientific_text};
 
 use crate::number::JsonNumber;
 
-/// The text of a number in parts, none of which is copied.
-///
-/// The first four stand one after another, some of them empty. Where there is an exponent, an `e` and
-/// the exponent in decimal follow.
+/// The text of a number in parts that stand one after another. None of them is copied.
 #[derive(Clone, Copy, Debug)]
 pub struct Layout<'a> {
+    /// `-`, or nothing.
     pub sign: &'a str,
+    /// The first digits, or `0.`.
     pub front: &'a str,
+    /// The point, or zeros, or nothing.
     pub middle: &'a str,
+    /// The other digits, or nothing.
     pub back: &'a str,
+    /// What stands in decimal behind an `e`, where there is one.
     pub exponent: Option<i128>,
 }
 

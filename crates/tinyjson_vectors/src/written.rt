@@ -4,6 +4,7 @@ use crate::writers::{Fault, FaultyWriter};
 use std::alloc::Global;
 use std::collections::HashMap;
 use std::io::ErrorKind;
+use std::process::Abort;
 use std::string::ToString;
 use std::test::Fail;
 use tinyjson::{JsonGenerateError, JsonGenerator, JsonNumber, JsonValue, format, stringify};
@@ -17,42 +18,76 @@ fn string(alloc: Global, text: &str) -> Result<JsonValue, Fail> {
 }
 
 fn put(
-    alloc: Global,
     members: &mut HashMap<String, JsonValue>,
-    key: &str,
+    key: String,
     value: JsonValue,
 ) -> Result<(), Fail> {
-    drop(members.insert(String::from_str(alloc, key)?, value)?);
+    drop(members.insert(key, value)?);
     Ok(())
 }
 
-fn indented(alloc: Global, value: &JsonValue, indent: &str) -> Result<Vec<u8>, Fail> {
-    let mut bytes = Vec::new(alloc);
-    let mut generator = JsonGenerator::new(alloc, &mut bytes).indent(indent);
-    generator.generate(value)?;
-    Ok(bytes)
+// The object with one member.
+fn single(alloc: Global, key: &str, value: JsonValue) -> Result<JsonValue, Fail> {
+    let mut members = HashMap::new(alloc);
+    put(&mut members, String::from_str(alloc, key)?, value)?;
+    Ok(JsonValue::Object(members))
 }
 
-// {"bool":true,"arr":[1,null,"test"],"nested":{"blah":false,"blahblah":3.14},"unicode":"❤"}
-fn document(alloc: Global) -> Result<JsonValue, Fail> {
-    let mut items = Vec::new(alloc);
-    items.push(number(alloc, "1")?)?;
-    items.push(JsonValue::Null)?;
-    items.push(string(alloc, "test")?)?;
-    let mut nested = HashMap::new(alloc);
-    put(alloc, &mut nested, "blah", JsonValue::Boolean(false))?;
-    put(alloc, &mut nested, "blahblah", number(alloc, "3.14")?)?;
+// The object with two members.
+fn pair(alloc: Global, a: (&str, JsonValue), b: (&str, JsonValue)) -> Result<JsonValue, Fail> {
     let mut members = HashMap::new(alloc);
-    put(alloc, &mut members, "bool", JsonValue::Boolean(true))?;
-    put(alloc, &mut members, "arr", JsonValue::Array(items))?;
-    put(alloc, &mut members, "nested", JsonValue::Object(nested))?;
-    put(alloc, &mut members, "unicode", string(alloc, "\u{2764}")?)?;
+    put(&mut members, String::from_str(alloc, a.0)?, a.1)?;
+    put(&mut members, String::from_str(alloc, b.0)?, b.1)?;
     Ok(JsonValue::Object(members))
+}
+
+fn numbers(alloc: Global, literals: &[&str]) -> Result<JsonValue, Fail> {
+    let mut items = Vec::new(alloc);
+    for literal in literals {
+        items.push(number(alloc, literal)?)?;
+    }
+    Ok(JsonValue::Array(items))
+}
+
+fn check_compact(
+    rt: &impl Abort,
+    alloc: Global,
+    value: &JsonValue,
+    text: &str,
+) -> Result<(), Fail> {
+    assert_eq!(rt; stringify(alloc, value)?.as_str(), text);
+    assert_eq!(rt; value.stringify(alloc)?.as_str(), text);
+    let mut bytes = Vec::new(alloc);
+    value.write_to(alloc, &mut bytes)?;
+    assert_eq!(rt; bytes.as_slice(), text.as_bytes());
+    Ok(())
+}
+
+fn check_format(rt: &impl Abort, alloc: Global, value: &JsonValue, text: &str) -> Result<(), Fail> {
+    assert_eq!(rt; format(alloc, value)?.as_str(), text);
+    assert_eq!(rt; value.format(alloc)?.as_str(), text);
+    let mut bytes = Vec::new(alloc);
+    value.format_to(alloc, &mut bytes)?;
+    assert_eq!(rt; bytes.as_slice(), text.as_bytes());
+    Ok(())
+}
+
+fn check_indent(
+    rt: &impl Abort,
+    alloc: Global,
+    value: &JsonValue,
+    indent: &str,
+    text: &str,
+) -> Result<(), Fail> {
+    let mut bytes = Vec::new(alloc);
+    let generator = JsonGenerator::new(alloc, &mut bytes);
+    generator.indent("-").indent(indent).generate(value)?;
+    assert_eq!(rt; bytes.as_slice(), text.as_bytes());
+    Ok(())
 }
 
 #[test]
 fn writes_numbers(rt: HostRuntime) -> Result<(), Fail> {
-    let alloc = rt.alloc();
     for (literal, text) in [
         ("-0", "0"),
         ("0e99999999999", "0"),
@@ -71,21 +106,35 @@ fn writes_numbers(rt: HostRuntime) -> Result<(), Fail> {
         ("10e-9223372036854775809", "1e-9223372036854775808"),
         ("12e9223372036854775807", "1.2e9223372036854775808"),
     ] {
-        let written = stringify(alloc, &number(alloc, literal)?)?;
-        assert_eq!(rt; written.as_str(), text, "{literal}");
+        let written = stringify(rt.alloc(), &number(rt.alloc(), literal)?)?;
+        assert_eq!(rt; written.as_str(), text);
     }
-    let large = stringify(alloc, &number(alloc, "1e308")?)?;
+    Ok(())
+}
+
+// 1 and 308 zeros, and 323 zeros between `0.` and 5.
+#[test]
+fn writes_many_zeros(rt: HostRuntime) -> Result<(), Fail> {
+    let large = stringify(rt.alloc(), &number(rt.alloc(), "1e308")?)?;
     assert_eq!(rt; large.len(), 309);
-    assert!(rt; large.as_str().starts_with('1') && large.as_str().ends_with("00"));
-    let small = stringify(alloc, &number(alloc, "5e-324")?)?;
+    assert!(rt; large.as_str().starts_with('1'));
+    assert!(rt; large.as_bytes().iter().skip(1).all(|b| *b == b'0'));
+    let small = stringify(rt.alloc(), &number(rt.alloc(), "5e-324")?)?;
     assert_eq!(rt; small.len(), 326);
-    assert!(rt; small.as_str().starts_with("0.00") && small.as_str().ends_with("05"));
+    assert!(rt; small.as_str().starts_with("0.") && small.as_str().ends_with('5'));
+    assert!(rt;
+        small
+            .as_bytes()
+            .iter()
+            .skip(2)
+            .take(323)
+            .all(|b| *b == b'0')
+    );
     Ok(())
 }
 
 #[test]
 fn writes_strings(rt: HostRuntime) -> Result<(), Fail> {
-    let alloc = rt.alloc();
     for (characters, text) in [
         ("\u{8}\u{b}\u{7f}/\"\\", "\"\\b\\u000b\u{7f}/\\\"\\\\\""),
         ("\u{2764}", "\"\u{2764}\""),
@@ -96,149 +145,201 @@ fn writes_strings(rt: HostRuntime) -> Result<(), Fail> {
         ("hello, world", "\"hello, world\""),
         ("", "\"\""),
     ] {
-        let written = stringify(alloc, &string(alloc, characters)?)?;
+        let written = stringify(rt.alloc(), &string(rt.alloc(), characters)?)?;
         assert_eq!(rt; written.as_str(), text);
     }
     Ok(())
 }
 
-#[test]
-fn writes_documents(rt: HostRuntime) -> Result<(), Fail> {
-    let alloc = rt.alloc();
-    let value = document(alloc)?;
-    let compact =
-        "{\"arr\":[1,null,\"test\"],\"bool\":true,\"nested\":{\"blah\":false,\"blahblah\":3.14},\"unicode\":\"\u{2764}\"}";
-    let pretty =
-        "{\n  \"arr\": [\n    1,\n    null,\n    \"test\"\n  ],\n  \"bool\": true,\n  \"nested\": {\n    \"blah\": false,\n    \"blahblah\": 3.14\n  },\n  \"unicode\": \"\u{2764}\"\n}";
-    assert_eq!(rt; stringify(alloc, &value)?.as_str(), compact);
-    assert_eq!(rt; value.stringify(alloc)?.as_str(), compact);
-    assert_eq!(rt; format(alloc, &value)?.as_str(), pretty);
-    assert_eq!(rt; value.format(alloc)?.as_str(), pretty);
-    let mut bytes = Vec::new(alloc);
-    value.write_to(alloc, &mut bytes)?;
-    assert_eq!(rt; bytes.as_slice(), compact.as_bytes());
-    let mut bytes = Vec::new(alloc);
-    value.format_to(alloc, &mut bytes)?;
-    assert_eq!(rt; bytes.as_slice(), pretty.as_bytes());
+fn mixed_array(alloc: Global) -> Result<JsonValue, Fail> {
+    let mut items = Vec::new(alloc);
+    items.push(number(alloc, "1")?)?;
+    items.push(JsonValue::Null)?;
+    items.push(string(alloc, "test")?)?;
+    Ok(JsonValue::Array(items))
+}
 
+fn document(alloc: Global) -> Result<HashMap<String, JsonValue>, Fail> {
+    let nested = pair(
+        alloc,
+        ("blah", JsonValue::Boolean(false)),
+        ("blahblah", number(alloc, "3.14")?),
+    )?;
     let mut members = HashMap::new(alloc);
-    put(alloc, &mut members, "\u{1f600}", number(alloc, "1")?)?;
-    put(alloc, &mut members, "\u{ff5e}", number(alloc, "2")?)?;
-    let keys = stringify(alloc, &JsonValue::Object(members))?;
-    assert_eq!(rt; keys.as_str(), "{\"\u{ff5e}\":2,\"\u{1f600}\":1}");
-    Ok(())
+    put(
+        &mut members,
+        String::from_str(alloc, "bool")?,
+        JsonValue::Boolean(true),
+    )?;
+    put(&mut members, String::from_str(alloc, "nested")?, nested)?;
+    put(
+        &mut members,
+        String::from_str(alloc, "arr")?,
+        mixed_array(alloc)?,
+    )?;
+    put(
+        &mut members,
+        String::from_str(alloc, "unicode")?,
+        string(alloc, "\u{2764}")?,
+    )?;
+    Ok(members)
+}
+
+#[test]
+fn writes_a_document(rt: HostRuntime) -> Result<(), Fail> {
+    let value = JsonValue::Object(document(rt.alloc())?);
+    check_compact(
+        &rt,
+        rt.alloc(),
+        &value,
+        "{\"arr\":[1,null,\"test\"],\"bool\":true,\"nested\":{\"blah\":false,\"blahblah\":3.14},\"unicode\":\"\u{2764}\"}",
+    )?;
+    check_format(
+        &rt,
+        rt.alloc(),
+        &value,
+        "{\n  \"arr\": [\n    1,\n    null,\n    \"test\"\n  ],\n  \"bool\": true,\n  \"nested\": {\n    \"blah\": false,\n    \"blahblah\": 3.14\n  },\n  \"unicode\": \"\u{2764}\"\n}",
+    )
+}
+
+#[test]
+fn sorts_keys_by_their_bytes(rt: HostRuntime) -> Result<(), Fail> {
+    let alloc = rt.alloc();
+    let value = pair(
+        alloc,
+        ("\u{1f600}", number(alloc, "1")?),
+        ("\u{ff5e}", number(alloc, "2")?),
+    )?;
+    check_compact(&rt, rt.alloc(), &value, "{\"\u{ff5e}\":2,\"\u{1f600}\":1}")
 }
 
 // [{},[],{"k":[null]}]
 fn containers(alloc: Global) -> Result<JsonValue, Fail> {
+    let inner = JsonValue::Array(vec![in alloc; JsonValue::Null]?);
     let mut items = Vec::new(alloc);
     items.push(JsonValue::Object(HashMap::new(alloc)))?;
     items.push(JsonValue::Array(Vec::new(alloc)))?;
-    let mut members = HashMap::new(alloc);
-    let inner = JsonValue::Array(vec![in alloc; JsonValue::Null]?);
-    put(alloc, &mut members, "k", inner)?;
-    items.push(JsonValue::Object(members))?;
+    items.push(single(alloc, "k", inner)?)?;
     Ok(JsonValue::Array(items))
 }
 
 #[test]
-fn indents(rt: HostRuntime) -> Result<(), Fail> {
-    let alloc = rt.alloc();
-    let value = containers(alloc)?;
-    let bytes = indented(alloc, &value, "")?;
-    let text = "[\n{},\n[],\n{\n\"k\": [\nnull\n]\n}\n]";
-    assert_eq!(rt; bytes.as_slice(), text.as_bytes());
+fn indents_containers(rt: HostRuntime) -> Result<(), Fail> {
+    let value = containers(rt.alloc())?;
+    check_indent(
+        &rt,
+        rt.alloc(),
+        &value,
+        "",
+        "[\n{},\n[],\n{\n\"k\": [\nnull\n]\n}\n]",
+    )?;
+    let empty = JsonValue::Array(Vec::new(rt.alloc()));
+    let value = single(rt.alloc(), "k", empty)?;
+    check_format(&rt, rt.alloc(), &value, "{\n  \"k\": []\n}")
+}
 
-    let mut members = HashMap::new(alloc);
-    let one = JsonValue::Array(vec![in alloc; number(alloc, "1")?]?);
-    assert_eq!(rt;
-        indented(alloc, &one, "--")?.as_slice(),
-        b"[\n--1\n]".as_slice()
-    );
-    put(alloc, &mut members, "b", one)?;
-    put(alloc, &mut members, "a", JsonValue::Null)?;
-    let value = JsonValue::Object(members);
-    let text = "{\n  \"a\": null,\n  \"b\": [\n    1\n  ]\n}";
-    assert_eq!(rt; format(alloc, &value)?.as_str(), text);
+#[test]
+fn indents_members(rt: HostRuntime) -> Result<(), Fail> {
+    let one = numbers(rt.alloc(), &["1"])?;
+    check_indent(&rt, rt.alloc(), &one, "--", "[\n--1\n]")?;
+    check_indent(&rt, rt.alloc(), &one, " ", "[\n 1\n]")?;
+    let value = pair(rt.alloc(), ("b", one), ("a", JsonValue::Null))?;
+    check_format(
+        &rt,
+        rt.alloc(),
+        &value,
+        "{\n  \"a\": null,\n  \"b\": [\n    1\n  ]\n}",
+    )
+}
 
-    let mut members = HashMap::new(alloc);
-    put(alloc, &mut members, "k", JsonValue::Array(Vec::new(alloc)))?;
-    let value = JsonValue::Object(members);
-    assert_eq!(rt; format(alloc, &value)?.as_str(), "{\n  \"k\": []\n}");
-
-    let mut items = Vec::new(alloc);
-    for literal in ["1", "2", "3"] {
-        items.push(number(alloc, literal)?)?;
-    }
-    let value = JsonValue::Array(items);
-    assert_eq!(rt; format(alloc, &value)?.as_str(), "[\n  1,\n  2,\n  3\n]");
-    assert_eq!(rt; stringify(alloc, &value)?.as_str(), "[1,2,3]");
-    let bytes = indented(alloc, &value, "        ")?;
+#[test]
+fn indents_items(rt: HostRuntime) -> Result<(), Fail> {
+    let value = numbers(rt.alloc(), &["1", "2", "3"])?;
+    check_compact(&rt, rt.alloc(), &value, "[1,2,3]")?;
+    check_format(&rt, rt.alloc(), &value, "[\n  1,\n  2,\n  3\n]")?;
     let text = "[\n        1,\n        2,\n        3\n]";
-    assert_eq!(rt; bytes.as_slice(), text.as_bytes());
-    let mut bytes = Vec::new(alloc);
-    let mut generator = JsonGenerator::new(alloc, &mut bytes)
-        .indent("--")
-        .indent(" ");
-    generator.generate(&value)?;
-    assert_eq!(rt; bytes.as_slice(), b"[\n 1,\n 2,\n 3\n]".as_slice());
-    Ok(())
+    check_indent(&rt, rt.alloc(), &value, "        ", text)
 }
 
 // [1,{"b":2,"a":[null,"x"]}]
 fn nested(alloc: Global) -> Result<JsonValue, Fail> {
-    let inner = vec![in alloc; JsonValue::Null, string(alloc, "x")?]?;
-    let mut members = HashMap::new(alloc);
-    put(alloc, &mut members, "b", number(alloc, "2")?)?;
-    put(alloc, &mut members, "a", JsonValue::Array(inner))?;
-    let items = vec![in alloc; number(alloc, "1")?, JsonValue::Object(members)]?;
+    let mut inner = Vec::new(alloc);
+    inner.push(JsonValue::Null)?;
+    inner.push(string(alloc, "x")?)?;
+    let members = pair(
+        alloc,
+        ("b", number(alloc, "2")?),
+        ("a", JsonValue::Array(inner)),
+    )?;
+    let mut items = Vec::new(alloc);
+    items.push(number(alloc, "1")?)?;
+    items.push(members)?;
     Ok(JsonValue::Array(items))
 }
 
 #[test]
-fn ends_with_the_first_fault(rt: HostRuntime) -> Result<(), Fail> {
-    let alloc = rt.alloc();
-    let value = nested(alloc)?;
-    let text = b"[1,{\"a\":[null,\"x\"],\"b\":2}]".as_slice();
-    let mut writer = FaultyWriter::good(alloc, 1);
-    JsonGenerator::new(alloc, &mut writer).generate(&value)?;
-    assert_eq!(rt; writer.bytes(), text);
+fn writes_byte_by_byte(rt: HostRuntime) -> Result<(), Fail> {
+    let value = nested(rt.alloc())?;
+    let mut writer = FaultyWriter::good(rt.alloc(), 1);
+    value.write_to(rt.alloc(), &mut writer)?;
+    assert_eq!(rt;
+        writer.bytes(),
+        b"[1,{\"a\":[null,\"x\"],\"b\":2}]".as_slice()
+    );
     assert_eq!(rt; (writer.calls(), writer.empty_calls()), (26, 0));
-    for (fault, kind) in [
-        (Fault::Error(ErrorKind::BrokenPipe), ErrorKind::BrokenPipe),
-        (Fault::Error(ErrorKind::Interrupted), ErrorKind::Interrupted),
-        (Fault::TakesNothing, ErrorKind::WriteZero),
-    ] {
-        for room in 0..26 {
-            let mut writer = FaultyWriter::failing(alloc, 1, room, fault);
-            match JsonGenerator::new(alloc, &mut writer).generate(&value) {
-                Ok(()) => return Err(Fail::new("the fault was lost")),
-                Err(error) => assert_eq!(rt; error.kind(), kind),
-            }
-            assert!(rt; room < text.len());
-            assert_eq!(rt; writer.bytes(), &text[..room]);
-            assert_eq!(rt; (writer.calls(), writer.empty_calls()), (room + 1, 0));
+    Ok(())
+}
+
+// The writer fails at each place in turn.
+fn check_fault(rt: &impl Abort, alloc: Global, value: &JsonValue, fault: Fault, kind: ErrorKind) {
+    let text = b"[1,{\"a\":[null,\"x\"],\"b\":2}]";
+    for room in 0..26 {
+        let mut writer = FaultyWriter::failing(alloc, 1, room, fault);
+        match JsonGenerator::new(alloc, &mut writer).generate(value) {
+            Ok(()) => panic!(rt; "the fault was lost"),
+            Err(error) => assert_eq!(rt; error.kind(), kind),
         }
+        assert_eq!(rt; writer.bytes(), &text[..room]);
+        assert_eq!(rt; (writer.calls(), writer.empty_calls()), (room + 1, 0));
     }
+}
+
+#[test]
+fn ends_with_the_first_fault(rt: HostRuntime) -> Result<(), Fail> {
+    let value = nested(rt.alloc())?;
+    check_fault(
+        &rt,
+        rt.alloc(),
+        &value,
+        Fault::Error(ErrorKind::BrokenPipe),
+        ErrorKind::BrokenPipe,
+    );
+    check_fault(
+        &rt,
+        rt.alloc(),
+        &value,
+        Fault::Error(ErrorKind::Interrupted),
+        ErrorKind::Interrupted,
+    );
+    check_fault(
+        &rt,
+        rt.alloc(),
+        &value,
+        Fault::TakesNothing,
+        ErrorKind::WriteZero,
+    );
     Ok(())
 }
 
 #[test]
 fn writes_again_after_a_fault(rt: HostRuntime) -> Result<(), Fail> {
-    let alloc = rt.alloc();
-    let value = JsonValue::Array(vec![in alloc; JsonValue::Boolean(true), JsonValue::Null]?);
+    let value = JsonValue::Array(vec![in rt.alloc(); JsonValue::Boolean(true), JsonValue::Null]?);
     let fault = Fault::Error(ErrorKind::BrokenPipe);
-    let mut writer = FaultyWriter::failing(alloc, usize::MAX, 3, fault);
-    let mut generator = JsonGenerator::new(alloc, &mut writer);
+    let mut writer = FaultyWriter::failing(rt.alloc(), usize::MAX, 3, fault);
+    let mut generator = JsonGenerator::new(rt.alloc(), &mut writer);
     assert!(rt; generator.generate(&value).is_err());
     generator.generate(&value)?;
     assert_eq!(rt; writer.bytes(), b"[tr[true,null]".as_slice());
-    let mut writer = FaultyWriter::failing(alloc, usize::MAX, 0, Fault::TakesNothing);
-    match value.write_to(alloc, &mut writer) {
-        Ok(()) => return Err(Fail::new("the fault was lost")),
-        Err(error) => assert_eq!(rt; error.kind(), ErrorKind::WriteZero),
-    }
-    assert_eq!(rt; writer.bytes().len(), 0);
     Ok(())
 }
 

@@ -5,7 +5,7 @@ use Rattle.tinyjson.specs.Text.{text}
 use Rattle.tinyjson.specs.View.{view}
 use Rattle.tinyjson.proofs.Trees.{view-IsTree}
 use Rattle.tinyjson.proofs.Scalars.{text-scalars, encoded_utf8, encoded_chars}
-use Rattle.tinyjson.proofs.Texts.{enc}
+use Rattle.tinyjson.proofs.Encoded.{enc}
 use Rattle.tinyjson.proofs.Writing.{written_all}
 use Rattle.tinyjson.proofs.generator.written.Goals as goal
 

@@ -10,7 +10,7 @@ use Rattle.tinyjson_number.specs.declared.layout.Layout.{Layout}
 use Rattle.tinyjson_number.proofs.Layouts.{decimal_ascii}
 use Rattle.tinyjson.specs.Written.{Written}
 use Rattle.tinyjson.proofs.Writing.{goes, ends, fails, written_none}
-use Rattle.tinyjson.proofs.Texts.{enc}
+use Rattle.tinyjson.proofs.Encoded.{enc}
 use Rattle.tinyjson.proofs.generator.number.write_number.Goals as goal
 
 module _ (n : Canonical) (l : Layout) (is : layout_text l ≡ decimal_text n.decimal) where

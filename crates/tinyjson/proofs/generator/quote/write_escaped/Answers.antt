@@ -1,7 +1,7 @@
 use Rattle.std.proofs.Common.{◌+◌, drop, arith}
 use Rattle.tinyjson.specs.Text.{escapes}
 use Rattle.tinyjson.proofs.Writing.{goes, ends, fails}
-use Rattle.tinyjson.proofs.Texts.{at_escape, stretch_none, stretch_more, stretch_end}
+use Rattle.tinyjson.proofs.Quotes.{at_escape, stretch_none, stretch_more, stretch_end}
 use Rattle.tinyjson.proofs.generator.quote.write_escaped.Goals as goal
 use Rattle.tinyjson.proofs.generator.quote.write_escaped.Goals.{then-is_escaped+in_ok-write_bytes+in_ok-write_escape, else-is_escaped}
 

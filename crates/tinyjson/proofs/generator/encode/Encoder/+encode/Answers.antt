@@ -8,7 +8,8 @@ use Rattle.tinyjson.specs.Sorted.{sorted_view, bytes_pair, now_pair}
 use Rattle.tinyjson.specs.Indent.{indent_of}
 use Rattle.tinyjson.specs.Text.{text, items_text, members_text, newline, after_colon, quoted, has_no_items, has_no_members}
 use Rattle.tinyjson.proofs.Writing.{begins, goes, ends, fails, stop, written_none}
-use Rattle.tinyjson.proofs.Texts.{enc, three, array_here, object_here, items_here, members_here, member_text, only_member, no_items_is, some_members}
+use Rattle.tinyjson.proofs.Encoded.{enc, three}
+use Rattle.tinyjson.proofs.Texts.{array_here, object_here, items_here, members_here, member_text, only_member, no_items_is, some_members}
 use Rattle.tinyjson.proofs.Sizes.{sorted_size, member_size}
 use Rattle.tinyjson.proofs.generator.encode.Encoder.+encode.Goals as goal
 

@@ -1,7 +1,8 @@
 use Rattle.tinyjson.specs.Text.{newline}
 use Rattle.tinyjson.specs.Indent.{indent_of}
 use Rattle.tinyjson.proofs.Writing.{goes, ends, fails, written_none}
-use Rattle.tinyjson.proofs.Texts.{enc, comma_here, no_comma}
+use Rattle.tinyjson.proofs.Encoded.{enc}
+use Rattle.tinyjson.proofs.Texts.{comma_here, no_comma}
 use Rattle.tinyjson.proofs.generator.encode.Encoder.separate.Goals as goal
 use Rattle.tinyjson.proofs.generator.encode.Encoder.separate.Goals.{then-not-first+in_ok-write_bytes, else-not-first}
 
