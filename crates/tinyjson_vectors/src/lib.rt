@@ -4,6 +4,12 @@
 pub mod access;
 pub mod conversions;
 #[cfg(test)]
+mod documentation;
+#[cfg(test)]
 mod equality;
+#[cfg(test)]
+mod messages;
+#[cfg(test)]
+mod parsing;
 #[cfg(test)]
 mod places;
