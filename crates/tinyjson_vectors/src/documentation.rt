@@ -5,7 +5,7 @@ use std::collections::HashMap;
 use std::test::Fail;
 use tinyjson::{JsonNumber, JsonValue};
 
-const DOCUMENT: &str = r#"
+pub(crate) const DOCUMENT: &str = r#"
     {
         "bool": true,
         "arr": [1, null, "test"],
@@ -17,10 +17,10 @@ const DOCUMENT: &str = r#"
     }
 "#;
 
-const COMPACT: &str =
+pub(crate) const COMPACT: &str =
     "{\"arr\":[1,null,\"test\"],\"bool\":true,\"nested\":{\"blah\":false,\"blahblah\":3.14},\"unicode\":\"\u{2764}\"}";
 
-const INDENTED: &str = "{
+pub(crate) const INDENTED: &str = "{
   \"arr\": [
     1,
     null,

@@ -8,6 +8,8 @@ mod documentation;
 #[cfg(test)]
 mod equality;
 #[cfg(test)]
+mod memory;
+#[cfg(test)]
 mod messages;
 #[cfg(test)]
 mod parsing;

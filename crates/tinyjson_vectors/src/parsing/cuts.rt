@@ -1,6 +1,6 @@
 //! Texts cut off at each place.
 
-use super::values;
+use super::{moved, values};
 use std::process::Abort;
 use tinyjson::{JsonParseErrorKind as Kind, JsonParser};
 
@@ -29,15 +29,10 @@ fn ends(rt: &(impl Abort + AllocGlobal), text: &str, length: usize, place: (usiz
 fn each_beginning_ends_well(rt: HostRuntime) {
     let texts = values::ROWS.iter().map(|row| row.0);
     for text in texts.chain(TEXTS.iter().copied()) {
-        let (mut line, mut column) = (1usize, 0usize);
+        let mut place = (1, 0);
         for (length, c) in text.chars().enumerate() {
-            ends(&rt, text, length, (line, column));
-            if c == '\n' {
-                line = line.saturating_add(1);
-                column = 0;
-            } else {
-                column = column.saturating_add(1);
-            }
+            ends(&rt, text, length, place);
+            place = moved(place, c);
         }
     }
 }

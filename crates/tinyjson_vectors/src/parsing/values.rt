@@ -1,5 +1,6 @@
 //! Texts that are read, each with the compact text of its value.
 
+use crate::documentation::{COMPACT, DOCUMENT};
 use std::test::Fail;
 use tinyjson::{JsonParseErrorKind, JsonParser, JsonValue};
 
@@ -62,20 +63,7 @@ pub(super) const ROWS: &[(&str, &str)] = &[
         "[\n{},\n[],\n{\n\"k\": [\nnull\n]\n}\n]",
         r#"[{},[],{"k":[null]}]"#,
     ),
-    (
-        r#"
-    {
-        "bool": true,
-        "arr": [1, null, "test"],
-        "nested": {
-            "blah": false,
-            "blahblah": 3.14
-        },
-        "unicode": "\u2764"
-    }
-"#,
-        "{\"arr\":[1,null,\"test\"],\"bool\":true,\"nested\":{\"blah\":false,\"blahblah\":3.14},\"unicode\":\"\u{2764}\"}",
-    ),
+    (DOCUMENT, COMPACT),
 ];
 
 #[test]
