@@ -22,5 +22,4 @@ pub mod Sound
 pub mod Memory
 pub mod InRange
 pub mod Rows
-pub mod Audit
 pub mod Theorem

@@ -1,4 +1,7 @@
 -- The places in a value, and those in its tree.
+pub mod Lending
+pub mod Places
+pub mod Steps
 use Rattle.std.proofs.Common.{◌≡◌, ℕ, zero, suc, List, [], ◌∷◌, Option, Some, None, option_map, bytes_eq, string_bytes, Vec, Global, sym, ap, ◌∙◌, refl, subst}
 use Rattle.std.proofs.lemmas.Option.{slice_get_within}
 use Rattle.std.specs.HashMap.{get_by_text}

@@ -19,3 +19,5 @@ pub mod Sorted
 pub mod Texts
 pub mod Sizes
 pub mod Scalars
+pub mod NumberReading
+pub mod NumberParts

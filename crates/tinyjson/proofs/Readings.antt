@@ -25,7 +25,7 @@ use Rattle.tinyjson.proofs.Positions.{advance-append}
 -- ---- the machine alone
 
 module _ (limit : Option ℕ) where
-  Same-refl : (n : Next) (zs : List ℕ) → Same limit n n zs
+  pub Same-refl : (n : Next) (zs : List ℕ) → Same limit n n zs
   Same-refl n [] = refl
   Same-refl n (c ∷ cs) = refl
 

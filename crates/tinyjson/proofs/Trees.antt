@@ -3,9 +3,10 @@ use Rattle.std.proofs.Common.{ℕ, List, [], ◌∷◌, String, Global, string_b
 use Rattle.std.proofs.lemmas.Str.{scalars-chars, IsUtf8-string_bytes}
 use Rattle.std.specs.Ordering.{match_ordering}
 use Rattle.tinyjson_number.specs.Numeral.{power_width}
+use Rattle.std.specs.Int.{Width}
 use Rattle.std.specs.Str.{all_scalars}
 use Rattle.tinyjson.specs.Tree.{Tree, items_of, Members, no_members, member, key_cmp, put}
-use Rattle.tinyjson.specs.Soundness.{IsTree, AreItemsAt, AreMembersAt}
+use Rattle.tinyjson.specs.Soundness.{IsTree, IsTreeAt, AreItemsAt, AreMembersAt}
 use Rattle.tinyjson.specs.View.{text, view, view_step, members_view, seen_entries}
 use Rattle.tinyjson.proofs.Entries.{members_of-sorted}
 use Rattle.tinyjson.specs.declared.value.JsonValue.{JsonValue, roll-JsonValue, map-JsonValue, fold-roll-JsonValue, ind-JsonValue}
@@ -14,15 +15,15 @@ use Rattle.tinyjson.specs.declared.value.JsonValue.TheOpen.{JsonValue-F}
 text_scalars : (s : String Global) → IsTrue (all_scalars (text s))
 text_scalars s = scalars-chars (string_bytes s) (IsUtf8-string_bytes s)
 
-are_put_at : (o : Ordering) (k l : List ℕ) (t u : Tree) (ms : Members) → IsTrue (all_scalars k) → IsTree t → AreMembersAt power_width (member l u ms) → AreMembersAt power_width (put k t ms)
-    → AreMembersAt power_width (match_ordering o (member k t (member l u ms)) (member k t ms) (member l u (put k t ms)))
-are_put_at Less k l t u ms a b c later = (a, b, c)
-are_put_at Equal k l t u ms a b c later = (a, b, c.2)
-are_put_at Greater k l t u ms a b c later = (c.0, c.1, later)
+are_put_at : (width : Width) (o : Ordering) (k l : List ℕ) (t u : Tree) (ms : Members) → IsTrue (all_scalars k) → IsTreeAt width t → AreMembersAt width (member l u ms) → AreMembersAt width (put k t ms)
+    → AreMembersAt width (match_ordering o (member k t (member l u ms)) (member k t ms) (member l u (put k t ms)))
+are_put_at width Less k l t u ms a b c later = (a, b, c)
+are_put_at width Equal k l t u ms a b c later = (a, b, c.2)
+are_put_at width Greater k l t u ms a b c later = (c.0, c.1, later)
 
-are_put : (k : List ℕ) (t : Tree) (ms : Members) → IsTrue (all_scalars k) → IsTree t → AreMembersAt power_width ms → AreMembersAt power_width (put k t ms)
-are_put k t no_members a b c = (a, b, tt)
-are_put k t (member l u ms) a b c = are_put_at (key_cmp k l) k l t u ms a b c (are_put k t ms a b c.2)
+pub are_put : (width : Width) (k : List ℕ) (t : Tree) (ms : Members) → IsTrue (all_scalars k) → IsTreeAt width t → AreMembersAt width ms → AreMembersAt width (put k t ms)
+are_put width k t no_members a b c = (a, b, tt)
+are_put width k t (member l u ms) a b c = are_put_at width (key_cmp k l) k l t u ms a b c (are_put width k t ms a b c.2)
 
 abbrev Seen : JsonValue → Type 0
 Seen v = IsTree (view v)
@@ -36,7 +37,7 @@ items_sound (t ∷ ts) = (t.1, items_sound ts)
 
 members_sound : (es : List (String Global × Sound)) → AreMembersAt power_width (members_view (map (λ (e : String Global × Sound). (e.0, e.1.0)) es))
 members_sound [] = tt
-members_sound (e ∷ es) = are_put (text e.0) (view e.1.0) _ (text_scalars e.0) e.1.1 (members_sound es)
+members_sound (e ∷ es) = are_put power_width (text e.0) (view e.1.0) _ (text_scalars e.0) e.1.1 (members_sound es)
 
 abbrev held : JsonValue-F Sound → JsonValue-F JsonValue
 held = map-JsonValue Sound JsonValue (λ t. t.0)

@@ -1,10 +1,13 @@
 -- The places in a value: an item of an array, a member of an object.
+pub mod Rows
 use Rattle.std.specs.Prelude.{◌≡◌, ℕ, zero, suc, List, Option, Some, None, slice_get, option_and_then}
 use Rattle.std.specs.HashMap.{get_by_text}
-use Rattle.std.specs.Option.{option_map_or}
-use Rattle.std.specs.Str.{chars}
+use Rattle.std.specs.Option.{IfSome, option_map_or}
+use Rattle.std.specs.Map.{set_value}
+use Rattle.std.specs.Str.{bytes_eq, chars}
+use Rattle.std.specs.String.{string_bytes}
 use Rattle.std.specs.Vec.{with_item}
-use Rattle.tinyjson.specs.Access.{array_part, object_part}
+use Rattle.tinyjson.specs.Access.{JsonMap, array_part, object_part}
 use Rattle.tinyjson.specs.Tree.{Tree, null, boolean, number, string, array, object, Items, no_items, item, find}
 use Rattle.tinyjson.specs.View.{view}
 use Rattle.tinyjson.specs.declared.value.JsonValue as made
@@ -40,6 +43,14 @@ IsItemAt v i x = (item_at v i ≡ Some x) × (tree_at (view v) i ≡ Some (view 
 -- x is the member at the key, and its tree is the one that v's tree has there
 abbrev pub IsMemberAt : JsonValue → List ℕ → JsonValue → Type 0
 IsMemberAt v bs x = (member_at v bs ≡ Some x) × (tree_at_key (view v) (chars bs) ≡ Some (view x))
+
+-- n is m with w in place of what the key had
+abbrev pub IsMapWith : JsonMap → List ℕ → JsonValue → JsonMap → Type 0
+IsMapWith m bs w n = n.entries ≡ set_value (λ k. bytes_eq bs (string_bytes k)) m.entries w
+
+-- n is the object v with w in place of the member at the key
+abbrev pub IsWithMember : JsonValue → List ℕ → JsonValue → JsonValue → Type 0
+IsWithMember v bs w n = IfSome (object_part v) (λ m. (new : JsonMap) × (n ≡ made.Object new) × IsMapWith m bs w new)
 
 -- v with w in place of the item at the index
 abbrev pub with_item_at : JsonValue → ℕ → JsonValue → JsonValue

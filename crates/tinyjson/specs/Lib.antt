@@ -5,7 +5,6 @@ pub mod Equality
 pub mod Access
 pub mod Convert
 pub mod Index
-pub mod Rows
 pub mod Soundness
 pub mod Characters
 pub mod Syntax

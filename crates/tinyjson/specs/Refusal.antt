@@ -1,9 +1,9 @@
 -- What a refusal says of the characters (`says`), and where it comes.
 use Rattle.std.specs.Prelude.{◌≡◌, ℕ, ◌<◌, ◌≤◌, List, [], ◌∷◌, ◌++◌, Option, None, IsSome, ⊤, ◌⊎◌, IsTrue, length, take, slice_index, false, Bool, ◌||◌, ◌==◌}
 use Rattle.std.specs.Char.{is_ascii_digit}
-use Rattle.tinyjson.specs.Characters.{is_white, is_hex, short_escape, unit_of, is_high, is_low}
+use Rattle.tinyjson.specs.Characters.{is_white, is_hex, short_escape, paired}
 use Rattle.tinyjson_number.specs.Numeral.{is_sign, is_exponent_letter, Numeral, IsNumeral, spelling, value, in_range, has_leading_zero, AreDigits}
-use Rattle.tinyjson.specs.Syntax.{Syntax, text, AreWhite, IsSpelled, IsStrict, is_key, Piece, unit, pieces_text, IsPiece, tree_of}
+use Rattle.tinyjson.specs.Syntax.{Syntax, text, AreWhite, IsSpelled, IsStrict, is_key, Piece, unit, pieces_text, codes, IsPiece, tree_of}
 use Rattle.tinyjson.specs.Kind.{kind_of}
 use Rattle.tinyjson.specs.Grammar.{IsAccepted}
 use Rattle.tinyjson.specs.Continuation.{IsAlive, IsMidway, Loosely}
@@ -26,18 +26,12 @@ EndsWith end xs = (front : List ℕ) × (xs ≡ front ++ end)
 abbrev pub begins_value : ℕ → Bool
 begins_value c = (c == 110) || ((c == 116) || ((c == 102) || ((c == 34) || ((c == 91) || ((c == 123) || ((c == 45) || is_ascii_digit c))))))
 
--- escapes side by side, one of them of a surrogate
+-- `\u` escapes side by side
 abbrev pub AreUnits : List Piece → Type 0
 AreUnits [] = ⊤
 AreUnits (Piece.plain c ∷ ps) = ⊥
 AreUnits (Piece.escape c ∷ ps) = ⊥
 AreUnits (unit a b c d ∷ ps) = IsPiece (unit a b c d) × AreUnits ps
-
-abbrev pub has_surrogate : List Piece → Bool
-has_surrogate [] = false
-has_surrogate (Piece.plain c ∷ ps) = false
-has_surrogate (Piece.escape c ∷ ps) = false
-has_surrogate (unit a b c d ∷ ps) = let u = unit_of 0 (a ∷ b ∷ c ∷ d ∷ []) in is_high u || (is_low u || has_surrogate ps)
 
 -- the closing quote, or a piece that is no `\u` escape
 abbrev pub EndsRun : List ℕ → Type 0
@@ -56,7 +50,7 @@ KindSays limit (KeyNotString k) used rest =
 KindSays limit (ExpectedColon c) used rest = EndsWith (c ∷ []) used × (is_white c ≡ false) × (c ≡ 58 → ⊥)
 KindSays limit (ExpectedCommaOrBrace c) used rest = EndsWith (c ∷ []) used × (is_white c ≡ false) × (c ≡ 44 → ⊥) × (c ≡ 125 → ⊥)
 KindSays limit (ExpectedCommaOrBracket c) used rest = EndsWith (c ∷ []) used × (is_white c ≡ false) × (c ≡ 44 → ⊥) × (c ≡ 93 → ⊥)
-KindSays limit InvalidUtf16 used rest = (us : List Piece) × (e : List ℕ) × AreUnits us × IsTrue (has_surrogate us) × EndsRun e × EndsWith (pieces_text us ++ e) used
+KindSays limit InvalidUtf16 used rest = (us : List Piece) × (e : List ℕ) × AreUnits us × (paired (codes us) ≡ false) × EndsRun e × EndsWith (pieces_text us ++ e) used
 KindSays limit (InvalidHexDigit c) used rest = (ds : List ℕ) × (length ds ≤ 3) × IsHex ds × (is_hex c ≡ false) × EndsWith (92 ∷ 117 ∷ (ds ++ c ∷ [])) used
 KindSays limit (InvalidEscape c) used rest = EndsWith (92 ∷ c ∷ []) used × (short_escape c ≡ None) × (c ≡ 117 → ⊥)
 KindSays limit (ControlCharacter c) used rest = EndsWith (c ∷ []) used × (c < 32)

@@ -71,6 +71,10 @@ impl fmt::Display for JsonKind {
 
 impl JsonValue {
     /// Which variant stands here.
+    ///
+    /// ```
+    /// assert!(rt; JsonValue::Null.kind() == JsonKind::Null);
+    /// ```
     pub fn kind(&self) -> JsonKind
         ensures { result ≡ kind_of (view self.now) }
     {
@@ -85,6 +89,10 @@ impl JsonValue {
     }
 
     /// Whether this is a truth value.
+    ///
+    /// ```
+    /// assert!(rt; JsonValue::from(true).is_bool());
+    /// ```
     pub fn is_bool(&self) -> bool
         ensures { result ≡ is_some (boolean_part self.now) }
     {
@@ -92,6 +100,10 @@ impl JsonValue {
     }
 
     /// Whether this is a number.
+    ///
+    /// ```
+    /// assert!(rt; JsonValue::from(JsonNumber::zero()).is_number());
+    /// ```
     pub fn is_number(&self) -> bool
         ensures { result ≡ is_some (number_part self.now) }
     {
@@ -99,6 +111,10 @@ impl JsonValue {
     }
 
     /// Whether this is a string.
+    ///
+    /// ```
+    /// assert!(rt; JsonValue::from("foo".to_string(alloc)?).is_string());
+    /// ```
     pub fn is_string(&self) -> bool
         ensures { result ≡ is_some (string_part self.now) }
     {
@@ -106,6 +122,10 @@ impl JsonValue {
     }
 
     /// Whether this is null.
+    ///
+    /// ```
+    /// assert!(rt; JsonValue::from(()).is_null());
+    /// ```
     pub fn is_null(&self) -> bool
         ensures { result ≡ is_some (null_part self.now) }
     {
@@ -113,6 +133,10 @@ impl JsonValue {
     }
 
     /// Whether this is an array.
+    ///
+    /// ```
+    /// assert!(rt; JsonValue::from(Vec::new(alloc)).is_array());
+    /// ```
     pub fn is_array(&self) -> bool
         ensures { result ≡ is_some (array_part self.now) }
     {
@@ -120,6 +144,10 @@ impl JsonValue {
     }
 
     /// Whether this is an object.
+    ///
+    /// ```
+    /// assert!(rt; JsonValue::from(HashMap::new(alloc)).is_object());
+    /// ```
     pub fn is_object(&self) -> bool
         ensures { result ≡ is_some (object_part self.now) }
     {

@@ -1,6 +1,7 @@
 pub mod Naturals
 pub mod Strips
 pub mod Forms
+pub mod Canonicals
 pub mod DecimalTrip
 pub mod Runs
 pub mod Literals

@@ -1,5 +1,6 @@
 -- Runs of digits, and where a text may be cut.
-use Rattle.std.proofs.Common.{◌≡◌, ℕ, zero, suc, ◌+◌, ◌-◌, ◌<◌, ◌≤◌, true, List, [], ◌∷◌, length, get_or, IsTrue, IsUtf8, refl, subst, ⊎_elim, arith}
+use Rattle.std.proofs.Common.{◌≡◌, ℕ, zero, suc, ◌+◌, ◌-◌, ◌<◌, ◌≤◌, true, List, [], ◌∷◌, length, get_or, IsTrue, IsUtf8, refl, subst, ⊎_elim, arith, Result, Ok, Err}
+use Rattle.std.specs.Result.{MatchResult, IsOk}
 use Rattle.std.specs.List.{prefix_len, list_all}
 use Rattle.std.specs.Str.{IsCharBoundary, IsAscii}
 use Rattle.std.specs.Char.{is_ascii_digit}
@@ -70,3 +71,8 @@ digits-ascii (d ∷ xs) h = IsAscii-cons d xs (ascii_from_digit d h.0) (digits-a
 
 pub digits-utf8 : (xs : List ℕ) → AreDigits xs → IsUtf8 xs
 digits-utf8 xs h = IsUtf8-from_ascii xs (digits-ascii xs h)
+
+-- a result that is no error
+pub ok_of : {A E : Type 0} (r : Result A E) (P : A → Type 0) (Q : E → Type 0) → MatchResult r P Q → ((e : E) → ¬ Q e) → IsOk r
+ok_of (Ok x) P Q h none = refl
+ok_of (Err e) P Q h none = absurd (none e h)

@@ -1,16 +1,17 @@
 -- What a contract sees of a `JsonNumber`.
-use Rattle.std.specs.Prelude.{◌≡◌, ℕ, ℤ, ◌&&◌, Bool, List, [], Option, Some, None, String, string_bytes}
+use Rattle.std.specs.Prelude.{◌≡◌, ℕ, ℤ, ◌&&◌, Bool, List, take, string_bytes}
 use Rattle.std.specs.Bool.{beq, Decides}
 use Rattle.std.specs.Cmp.{IsEquivalence, booleans_Decides, decided}
 use Rattle.std.specs.Coded.{Coded, Coded-set, coded×, coded_ℕ, coded_bool, coded_list, coded_ℤ}
 use Rattle.std.specs.Ordering.{int_eq}
 use Rattle.std.specs.Str.{bytes_eq}
-use Rattle.std.specs.declared.alloc.Global.{Global}
 use Rattle.std.proofs.Common.{ap}
 use Rattle.std.proofs.lemmas.Bool.Decides.{Decides-and, Decides-like, Decides-int_eq}
 use Rattle.std.proofs.lemmas.Cmp.{on_equiv}
 use Rattle.std.proofs.lemmas.Slice.Eq.{bytes_eq-Decides}
 use mathlib.Core.HLevel.{is_prop→PathP}
+use Rattle.tinyjson_number.specs.declared.storage.Digits.{Digits}
+use Rattle.tinyjson_number.specs.declared.storage.Digits.TheVariants.{Short, Long}
 use Rattle.tinyjson_number.specs.Decimal.{Decimal}
 use Rattle.tinyjson_number.specs.Canonical.{IsDecimal}
 
@@ -19,10 +20,10 @@ pub record Canonical : Type 0 where
   pub decimal : Decimal
   pub canonical : IsDecimal decimal
 
--- the digits that are kept, where zero keeps none
-abbrev pub digits_of : Option (String Global) → List ℕ
-digits_of None = []
-digits_of (Some s) = string_bytes s
+-- the digits that are kept
+abbrev pub digits_of : Digits → List ℕ
+digits_of (Short s) = take s.len s.bytes
+digits_of (Long s) = string_bytes s
 
 -- equal decimals are equal, whatever shows that they are canonical
 pub same_canonical : (a b : Canonical) → a.decimal ≡ b.decimal → a ≡ b

@@ -116,7 +116,7 @@ fn from_magnitude(alloc: Global, negative: bool, value: u64) -> Result<JsonNumbe
         return Ok(JsonNumber::zero());
     }
     let mut buffer = [b'0'; MAX_DIGITS];
-    let digits = digits_of(value, &mut buffer);
+    let digits = value_digits(value, &mut buffer);
     let kept = strip_trailing(digits);
     let zeros = digits.len() - kept.len();
     JsonNumber::from_parts(alloc, negative, kept, "", zeros as i64)
@@ -126,7 +126,7 @@ fn from_magnitude(alloc: Global, negative: bool, value: u64) -> Result<JsonNumbe
 const MAX_DIGITS: usize = 20;
 
 // The digits of a number, which are written to the buffer.
-fn digits_of(value: u64, buffer: &mut [u8; MAX_DIGITS]) -> &str
+fn value_digits(value: u64, buffer: &mut [u8; MAX_DIGITS]) -> &str
     ensures { result.now ≡ decimal value }
 {
     let start = write_digits(value, buffer);

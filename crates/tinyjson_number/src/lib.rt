@@ -6,11 +6,13 @@
 
 mod digits;
 mod error;
+mod inline;
 mod integer;
 mod layout;
 mod literal;
 mod number;
 mod reading;
+mod storage;
 mod text;
 
 pub use error::{JsonNumberError, LiteralError};

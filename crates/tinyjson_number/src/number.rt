@@ -4,17 +4,20 @@ ghost use Rattle.tinyjson_number.specs.Decimal.{zero_decimal};
 ghost use Rattle.tinyjson_number.specs.Canonical.{is_canonical};
 ghost use Rattle.tinyjson_number.specs.Number.{digits_of};
 
+use crate::storage::Digits;
 use std::alloc::{AllocError, Global};
 use std::marker::Model;
 
-/// An exact decimal number: digits times ten to a power.
+/// An exact decimal number: zero, or a sign and digits times ten to a power. Each number has one form,
+/// with digits that neither begin nor end with `0`, so `1200` is 12 times ten to the power 2.
 ///
-/// A contract sees it as its decimal, `decimal`, together with the fact that the decimal has the one
-/// form. Zero keeps no digits and takes no memory.
+/// A contract sees it as its decimal, `decimal`, together with the fact, `canonical`, that the decimal
+/// has the one form. Up to 24 digits are kept in the number itself. More take memory once, and exactly
+/// what they need.
 #[derive(Debug, Drop)]
 pub struct JsonNumber {
     negative: bool,
-    digits: Option<String>,
+    digits: Digits,
     power: i64,
     ghost canonical: { IsTrue (is_canonical negative (digits_of digits) power) },
 }
@@ -36,13 +39,12 @@ impl JsonNumber {
     {
         JsonNumber {
             negative: false,
-            digits: None,
+            digits: Digits::empty(),
             power: 0,
         }
     }
 
     // The number of these parts, which are those of the one form: its digits are the two texts together.
-    // It takes memory once, and exactly what they need.
     pub(crate) fn from_parts(
         alloc: Global,
         negative: bool,
@@ -55,12 +57,10 @@ impl JsonNumber {
         ensures { IfOk result (λ n. n.decimal
             ≡ record { negative = negative; digits = front.now ++ back.now; power = power }) }
     {
-        let mut digits = String::with_capacity(alloc, front.len() + back.len())?;
-        digits.push_str(front)?;
-        digits.push_str(back)?;
+        let digits = Digits::joined(alloc, front, back)?;
         Ok(JsonNumber {
             negative,
-            digits: Some(digits),
+            digits,
             power,
         })
     }
@@ -83,10 +83,7 @@ impl JsonNumber {
     pub fn digits(&self) -> &str
         ensures { result.now ≡ self.now.decimal.digits }
     {
-        match &self.digits {
-            Some(digits) => digits.as_str(),
-            None => "",
-        }
+        self.digits.as_str()
     }
 
     /// The power of ten that the digits, read as a whole number, are multiplied by: 0 for zero.
@@ -96,7 +93,7 @@ impl JsonNumber {
         self.power
     }
 
-    /// An equal number with memory of its own, or the error where there is none. `self` stays as it is.
+    /// An equal number, with memory of its own where it needs any. `self` stays as it is.
     pub fn try_clone(&self, alloc: Global) -> Result<JsonNumber, AllocError>
         ensures { IfOk result (λ n. n.decimal ≡ self.now.decimal) }
     {

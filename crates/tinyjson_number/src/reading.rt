@@ -30,9 +30,9 @@ impl JsonNumber {
         }
     }
 
-    /// The decimal of a text that is known to be a number of the grammar: for a parser that has found
-    /// the ends of the number itself. It answers as `from_text` does, which has no refusal more for such
-    /// a text.
+    /// The decimal of a text that is known to be a number of the grammar. This is for callers that have
+    /// read the literal themselves, as a parser: it cannot answer that the text is no number, and
+    /// otherwise answers as `from_text` does.
     pub fn from_literal(alloc: Global, literal: &str) -> Result<JsonNumber, LiteralError>
         requires { (n : Numeral) × Spells n literal.now }
         ensures { (n : Numeral) → Spells n literal.now → ReadsNumeral n result }

@@ -5,7 +5,7 @@ use std::test::*;
 /// A number's text, whether it is negative, its digits, its power and its own text.
 type Row = (&'static str, bool, &'static str, i64, &'static str);
 
-const ROWS: [Row; 28] = [
+const ROWS: [Row; 29] = [
     ("0", false, "", 0, "0"),
     ("-0", false, "", 0, "0"),
     ("0.000", false, "", 0, "0"),
@@ -21,6 +21,13 @@ const ROWS: [Row; 28] = [
     ("1.50e1", false, "15", 0, "15"),
     ("0.15E+2", false, "15", 0, "15"),
     ("1200", false, "12", 2, "1200"),
+    (
+        "12345678901234567890123456789012",
+        false,
+        "12345678901234567890123456789012",
+        0,
+        "12345678901234567890123456789012",
+    ),
     ("3.14", false, "314", -2, "3.14"),
     ("-12.30e-1", true, "123", -2, "-1.23"),
     ("0.00120", false, "12", -4, "0.0012"),

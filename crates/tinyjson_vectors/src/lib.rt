@@ -5,8 +5,7 @@ pub mod access;
 pub mod conversions;
 #[cfg(test)]
 mod documentation;
-#[cfg(test)]
-mod equality;
+pub mod equality;
 #[cfg(test)]
 mod memory;
 #[cfg(test)]
@@ -15,3 +14,6 @@ mod messages;
 mod parsing;
 #[cfg(test)]
 mod places;
+pub mod writers;
+#[cfg(test)]
+mod written;

@@ -16,7 +16,7 @@ use Rattle.tinyjson.proofs.Grammar.Spelt.{pieces-append, are_pieces_append, with
 use Rattle.tinyjson.proofs.Grammar.Alive.{quoted-prompt, within-late}
 use Rattle.tinyjson.proofs.Grammar.Told.{Told, Follows, either, at_code}
 use Rattle.tinyjson.proofs.Grammar.Whole.{complete-follows}
-use Rattle.tinyjson.proofs.Grammar.Units.{settle-more, settle-end, settle-paired, surrogate}
+use Rattle.tinyjson.proofs.Grammar.Units.{codes-quads, settle-more, settle-end, settle-paired}
 use Rattle.tinyjson.proofs.Grammar.Strings.{scalar-no_surrogate, escape-no_surrogate}
 use Rattle.tinyjson.specs.Characters.{is_surrogate}
 use Rattle.std.specs.Prelude.{unwrap_or}
@@ -63,7 +63,7 @@ pub utf16-told : (limit : Option ℕ) (p : Path) (ps : List Piece) (cs : List �
     EndsRun (within_text w ++ c ∷ []) → Ending (34 ∷ (pieces_text ps ++ (pieces_text (quads qs) ++ (within_text w ++ c ∷ [])))) → (more : List ℕ) →
     Told limit InvalidUtf16 (string_text p ps qs (within_text w) ++ c ∷ []) more
 utf16-told limit p ps cs qs h hd w c hw hr he more = (
-  (quads qs, within_text w ++ c ∷ [], are_units qs h.run, surrogate qs hd, hr, (path_text p ++ 34 ∷ pieces_text ps, simp append_assoc)),
+  (quads qs, within_text w ++ c ∷ [], are_units qs h.run, ap paired (codes-quads qs) ∙ hd, hr, (path_text p ++ 34 ∷ pieces_text ps, simp append_assoc)),
   (
     (c, rw (string-longer (path_text p) (pieces_text ps) (pieces_text (quads qs)) (within_text w) c) (quoted-prompt limit p h.path ps cs h.pieces h.settled qs h.run (within_text w) (within-late w hw) (c ∷ []))),
     rw (string-longer (path_text p) (pieces_text ps) (pieces_text (quads qs)) (within_text w) c) (ends-loosely limit p h.path _ he),

@@ -3,7 +3,6 @@ use Rattle.std.proofs.Common.{◌≡◌, ℕ, Bool, true, false, List, [], ◌�
 use Rattle.std.proofs.lemmas.Bool.{or_parts, cases_Bool, false≢true}
 use Rattle.tinyjson.specs.Characters.{unit_of, decode, paired, is_high, is_low, is_surrogate}
 use Rattle.tinyjson.specs.Syntax.{Piece, code, codes}
-use Rattle.tinyjson.specs.Refusal.{has_surrogate}
 use Rattle.tinyjson.proofs.Grammar.Spelt.{Quad, quads, values, IsSettled}
 use Rattle.tinyjson.proofs.Grammar.Strings.{decode-append, paired-append}
 
@@ -41,23 +40,3 @@ settle-end ps cs h qs = (h (quads qs)).0 ∙ ap (λ xs. cs ++ decode xs) (codes-
 
 pub settle-paired : (ps : List Piece) (cs : List ℕ) → IsSettled ps cs → (qs : List Quad) → paired (codes (ps ++ quads qs)) ≡ paired (values qs)
 settle-paired ps cs h qs = (h (quads qs)).1 ∙ ap paired (codes-quads qs)
-
--- a run that is not paired has a surrogate
-plain_one : (h l : Bool) → h ≡ false → l ≡ false → not (h || l) ≡ true
-plain_one h l i j = rw (i, j) refl
-
-plain_two : (h l m x y : Bool) → h ≡ false → l ≡ false → y ≡ true → cond (h && m) x (not (h || l) && y) ≡ true
-plain_two h l m x y i j k = rw (i, j, k) refl
-
-plainly : (qs : List Quad) → has_surrogate (quads qs) ≡ false → paired (values qs) ≡ true
-plainly [] h = refl
-plainly (q ∷ []) h =
-    let u : ℕ = unit_of 0 (q.a ∷ q.b ∷ q.c ∷ q.d ∷ []) in
-    let p = or_parts (is_high u) _ h in let r = or_parts (is_low u) _ p.1 in plain_one (is_high u) (is_low u) p.0 r.0
-plainly (q ∷ s ∷ qs) h =
-    let u : ℕ = unit_of 0 (q.a ∷ q.b ∷ q.c ∷ q.d ∷ []) in
-    let p = or_parts (is_high u) _ h in let r = or_parts (is_low u) _ p.1 in
-    plain_two (is_high u) (is_low u) _ (paired (values qs)) (paired (values (s ∷ qs))) p.0 r.0 (plainly (s ∷ qs) r.1)
-
-pub surrogate : (qs : List Quad) → paired (values qs) ≡ false → IsTrue (has_surrogate (quads qs))
-surrogate qs h = ⊎_elim (λ e. e) (λ e. absurd (false≢true (sym h ∙ plainly qs e))) (cases_Bool (has_surrogate (quads qs)))

@@ -146,7 +146,7 @@ impl From<HashMap<String, JsonValue>> for JsonValue {
     }
 }
 
-/// The number that the value is.
+/// The number that the value is, or a fault that holds a value of another kind.
 ///
 /// ```
 /// assert!(rt; JsonNumber::try_from(JsonValue::Boolean(true)).is_err());
@@ -167,7 +167,7 @@ impl TryFrom<JsonValue> for JsonNumber {
     }
 }
 
-/// The truth value that the value is.
+/// The truth value that the value is, or a fault that holds a value of another kind.
 ///
 /// ```
 /// assert!(rt; bool::try_from(JsonValue::Boolean(true)).is_ok_and(|b| b));
@@ -188,7 +188,7 @@ impl TryFrom<JsonValue> for bool {
     }
 }
 
-/// The text of the string that the value is.
+/// The text of the string that the value is, or a fault that holds a value of another kind.
 ///
 /// ```
 /// let value = JsonValue::from("foo".to_string(alloc)?);
@@ -210,7 +210,7 @@ impl TryFrom<JsonValue> for String {
     }
 }
 
-/// Nothing, of the value null.
+/// `()` of the value null, or a fault that holds a value of another kind.
 ///
 /// ```
 /// assert!(rt; <()>::try_from(JsonValue::Null).is_ok());
@@ -231,7 +231,7 @@ impl TryFrom<JsonValue> for () {
     }
 }
 
-/// The items of the array that the value is.
+/// The items of the array that the value is, or a fault that holds a value of another kind.
 ///
 /// ```
 /// let value = JsonValue::from(vec![in alloc; JsonValue::Null]?);
@@ -253,7 +253,7 @@ impl TryFrom<JsonValue> for Vec<JsonValue> {
     }
 }
 
-/// The members of the object that the value is.
+/// The members of the object that the value is, or a fault that holds a value of another kind.
 ///
 /// ```
 /// let value = JsonValue::from(HashMap::new(alloc));

@@ -1,10 +1,11 @@
 //! Values by an index of an array and by a key of an object.
-ghost use Rattle.std.specs.Borrow.{Lends, sem};
-ghost use Rattle.std.specs.Prelude.{◌≡◌, ◌<◌, IsSome, Some, length, slice_get};
+ghost use Rattle.std.specs.Borrow.{Lends, LendsSo, sem};
+ghost use Rattle.std.specs.HashMap.{get_by_text};
+ghost use Rattle.std.specs.Prelude.{◌≡◌, ◌<◌, ⊤, IsSome, Some, OnSome, option_map, length, slice_get};
 ghost use Rattle.std.specs.Vec.{with_item};
-ghost use Rattle.tinyjson.specs.Access.{array_part};
-ghost use Rattle.tinyjson.specs.Index.{item_at, member_at, IsItemAt, IsMemberAt};
-ghost use Rattle.tinyjson.specs.Rows.{array_row};
+ghost use Rattle.tinyjson.specs.Access.{array_part, object_part};
+ghost use Rattle.tinyjson.specs.Index.{item_at, member_at, with_item_at, IsItemAt, IsMemberAt, IsMapWith, IsWithMember};
+ghost use Rattle.tinyjson.specs.Index.Rows.{array_row, object_row};
 ghost use Rattle.tinyjson.specs.contracts.value.JsonValue.{the_row};
 ghost use Rattle.tinyjson.specs.declared.value.JsonValue as made;
 
@@ -35,6 +36,17 @@ impl Index<usize> for JsonValue {
     }
 }
 
+/// The member at the key of an object.
+///
+/// The caller shows that the value is an object that has the key; `get` and `contains_key` are the
+/// test.
+///
+/// ```
+/// let value = JsonValue::from(members);
+/// if value.get::<HashMap<String, JsonValue>>().is_some_and(|m| m.contains_key("foo")) {
+///     assert!(rt; value["foo"] == JsonValue::Boolean(true));
+/// }
+/// ```
 impl<'k> Index<&'k str> for JsonValue {
     type Output = JsonValue;
 
@@ -60,10 +72,6 @@ impl<'k> Index<&'k str> for JsonValue {
 /// }
 /// ```
 impl IndexMut<usize> for JsonValue {
-    ghost use Rattle.std.specs.Borrow.{Lends, sem};
-    ghost use Rattle.tinyjson.specs.Index.{with_item_at};
-    ghost use Rattle.tinyjson.specs.contracts.value.JsonValue.{the_row};
-
     fn index_mut(&mut self, index: usize) -> &mut JsonValue
         requires { IsSome (item_at self.old index) }
         ensures* writes_back { sem 𝓛 (Lends the_row the_row self.entry result (with_item_at self.old index)) }
@@ -73,13 +81,24 @@ impl IndexMut<usize> for JsonValue {
     }
 }
 
+/// The member at the key of an object, for writing. Afterwards the value is the old one with what was
+/// written in the place of that member.
+///
+/// The caller shows that the value is an object that has the key.
+///
+/// ```
+/// let mut value = JsonValue::from(members);
+/// if value.get::<HashMap<String, JsonValue>>().is_some_and(|m| m.contains_key("foo")) {
+///     value["foo"] = JsonValue::from(true);
+/// }
+/// ```
 impl<'k> IndexMut<&'k str> for JsonValue {
     fn index_mut(&mut self, key: &'k str) -> &mut JsonValue
         requires { IsSome (member_at self.old key.now) }
+        ensures* writes_back { sem 𝓛 (LendsSo the_row the_row self.entry (Some result) (λ n w. IsWithMember self.old key.now w n) (λ n. ⊤)) }
         ensures value { IsMemberAt self.old key.now result.now }
     {
-        let members = self.get_mut::<HashMap<String, JsonValue>>().unwrap();
-        members.get_mut(key).unwrap()
+        found(member_mut(object_mut(self), key))
     }
 }
 
@@ -99,4 +118,32 @@ fn item_mut(items: &mut Vec<JsonValue>, index: usize) -> &mut JsonValue
     ensures value { slice_get items.old.items index ≡ Some result.now }
 {
     &mut items[index]
+}
+
+/// The members of an object, for writing.
+fn object_mut(value: &mut JsonValue) -> &mut HashMap<String, JsonValue>
+    requires { IsSome (object_part value.old) }
+    ensures* writes_back { sem 𝓛 (Lends the_row object_row value.entry result made.Object) }
+    ensures value { object_part value.old ≡ Some result.now }
+{
+    value.get_mut::<HashMap<String, JsonValue>>().unwrap()
+}
+
+/// The member at the key, for writing, if there is one.
+fn member_mut<'m>(
+    members: &'m mut HashMap<String, JsonValue>,
+    key: &str,
+) -> Option<&'m mut JsonValue>
+    ensures* writes_back { sem 𝓛 (LendsSo object_row the_row members.entry result (λ n w. OnSome result (IsMapWith members.old key.now w n)) (λ n. n ≡ members.old)) }
+    ensures value { option_map (λ x. x.now) result ≡ get_by_text members.old key.now }
+{
+    members.get_mut(key)
+}
+
+/// The place that is there.
+fn found<'v>(place: Option<&'v mut JsonValue>) -> &'v mut JsonValue
+    requires { IsSome place }
+    ensures { place.entry ≡ Some result }
+{
+    place.unwrap()
 }

@@ -13,17 +13,17 @@ pub returns-then-value-eq0 : goal.returns-then-value-eq0
 returns-then-value-eq0 c = c.zero.ensures ∙ zero_is c.args.negative ∙ ap (whole_decimal c.args.negative) (sym c.if-value-eq0.true)
 
 pub strip_trailing-kept-requires : goal.strip_trailing-kept-requires
-strip_trailing-kept-requires c = subst AreDigits (sym c.digits_of-digits.ensures) (decimal-digits c.args.value (omega arith))
+strip_trailing-kept-requires c = subst AreDigits (sym c.value_digits-digits.ensures) (decimal-digits c.args.value (omega arith))
 
 pub from_parts-requires-clause-canonical : goal.from_parts-requires-clause-canonical
 from_parts-requires-clause-canonical c =
     let n = c.args.value in
     let fits : n < 2 ^ 64 = omega arith in
     let s = c.strip_trailing-kept.result.now in
-    let text = c.digits_of-digits.ensures in
+    let text = c.value_digits-digits.ensures in
     let is : s ≡ strip_trailing (decimal n) = c.strip_trailing-kept.ensures.value ∙ ap strip_trailing text in
-    let few : length c.digits_of-digits.result.now - length s ≤ length (decimal n) = omega (arith, ap length text) in
-    rw (append-nil s, to_z_pos w64 (length c.digits_of-digits.result.now - length s) (omega (arith, few, length-decimal-le 20 n (omega arith) (omega arith) fits)))
+    let few : length c.value_digits-digits.result.now - length s ≤ length (decimal n) = omega (arith, ap length text) in
+    rw (append-nil s, to_z_pos w64 (length c.value_digits-digits.result.now - length s) (omega (arith, few, length-decimal-le 20 n (omega arith) (omega arith) fits)))
     (whole_fits n (omega arith) fits c.args.negative s _ is few)
 
 pub returns : goal.returns
@@ -31,8 +31,8 @@ returns c =
     let n = c.args.value in
     let fits : n < 2 ^ 64 = omega arith in
     let s = c.strip_trailing-kept.result.now in
-    let z : ℕ = length c.digits_of-digits.result.now - length s in
-    let text = c.digits_of-digits.ensures in
+    let z : ℕ = length c.value_digits-digits.result.now - length s in
+    let text = c.value_digits-digits.ensures in
     let is : s ≡ strip_trailing (decimal n) = c.strip_trailing-kept.ensures.value ∙ ap strip_trailing text in
     let few : z ≤ length (decimal n) = omega (arith, ap length text) in
     let power = to_z_pos w64 z (omega (arith, few, length-decimal-le 20 n (omega arith) (omega arith) fits)) in

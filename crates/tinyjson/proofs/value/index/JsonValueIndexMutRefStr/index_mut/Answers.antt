@@ -1,6 +1,0 @@
-use Rattle.std.proofs.Common.{rules}
-use Rattle.tinyjson.proofs.Index.{is_member_at}
-use Rattle.tinyjson.proofs.value.index.JsonValueIndexMutRefStr.index_mut.Goals as goal
-
-pub returns : goal.returns
-returns c = record { value = is_member_at c.args.self.now c.args.key.now c.unwrap.result.now c.utf8.key (search rules) }

@@ -1,0 +1,171 @@
+-- Beginnings of texts, and where a refusal comes.
+use Rattle.std.proofs.Common.{zero, suc, ◌≡◌, ℕ, ◌<◌, ◌≤◌, Bool, true, false, List, [], ◌∷◌, ◌++◌, Option, Some, None, refl, ap, sym, ◌∙◌, subst, append_assoc, arith, length, take, ◌⊎◌, inl, inr, ⊎_elim, IsTrue, ◌==◌, ◌||◌, length-append}
+use Rattle.std.specs.Char.{is_ascii_digit}
+use Rattle.std.proofs.lemmas.Bool.{false≢true, cases_lt, or_right, eqb-true}
+use Rattle.tinyjson_number.specs.Numeral.{AreDigits, minus_text}
+use Rattle.tinyjson.specs.Tree as tree
+use Rattle.tinyjson.specs.Characters.{is_white}
+use Rattle.tinyjson.specs.Syntax.{Syntax, null, boolean, number, string, empty_array, array, empty_object, object, text, AreWhite, IsSpelled, IsWithin}
+use Rattle.tinyjson.specs.Grammar.{IsLoose, IsAccepted}
+use Rattle.tinyjson.specs.Continuation.{IsAlive, IsMidway, IsBrokenText, Loosely}
+use Rattle.tinyjson.specs.Refusal.{begins_value}
+use Rattle.tinyjson.proofs.Grammar.Midway.{alive-before}
+use Rattle.tinyjson_laws.proofs.Midways.{midway-loosely}
+use Rattle.tinyjson_laws.specs.Beginnings.{AcceptedIsLoose, EmptyIsAlive, AliveIsMidway, MidwayIsLooselyAlive, DeadStaysDead, ValuesBegin, DeadAtFirst, IsShortest, ShortestInOrder, RefusedNotTooSoon, RefusedAtEnd, RefusedNotTooLate}
+
+pub accepted_is_loose : AcceptedIsLoose
+accepted_is_loose limit xs h = h.1.loose
+
+-- ---- alive, midway, dead
+
+abbrev null_text : List ℕ
+null_text = text null
+
+scalar-within : (limit : Option ℕ) → IsWithin limit 0
+scalar-within None = tt
+scalar-within (Some n) = omega arith
+
+null-accepted : (limit : Option ℕ) → IsAccepted limit null_text
+null-accepted limit = (
+  tree.null,
+  record {
+    loose = record { before = []; value = null; after = []; white_before = tt; spelled = tt; white_after = tt; shallow = scalar-within limit; whole = refl };
+    strict = tt;
+    tree = refl;
+  },
+)
+
+pub empty_is_alive : EmptyIsAlive
+empty_is_alive limit = let a = null-accepted limit in ((null_text, a), (null_text, accepted_is_loose limit null_text a))
+
+pub alive_is_midway : AliveIsMidway
+alive_is_midway limit xs h = (h.0, inl h.1)
+
+pub midway_is_loosely_alive : MidwayIsLooselyAlive
+midway_is_loosely_alive limit xs h = midway-loosely limit xs h
+
+pub dead_stays_dead : DeadStaysDead
+dead_stays_dead limit xs ys = (
+  λ h a. h (alive-before (IsAccepted limit) xs ys a),
+  λ h a. h (alive-before (IsLoose limit) xs ys a),
+  λ h a. h (alive-before (λ zs. IsAccepted limit zs ⊎ IsBrokenText limit zs) xs ys a),
+)
+
+-- ---- how a value begins
+
+digit-begins : (c : ℕ) → IsTrue (is_ascii_digit c) → IsTrue (begins_value c)
+digit-begins c h = or_right (c == 110) _ (or_right (c == 116) _ (or_right (c == 102) _ (or_right (c == 34) _ (or_right (c == 91) _ (or_right (c == 123) _ (or_right (c == 45) _ h))))))
+
+abbrev FirstOf : List ℕ → Type 0
+FirstOf xs = (c : ℕ) × (more : List ℕ) × (xs ≡ c ∷ more) × IsTrue (begins_value c)
+
+numeral-first : (b : Bool) (w xs : List ℕ) → 0 < length w → AreDigits w → FirstOf (minus_text b ++ (w ++ xs))
+numeral-first b [] xs h d = absurd (omega (arith, h))
+numeral-first true (c ∷ cs) xs h d = (45, _, refl, refl)
+numeral-first false (c ∷ cs) xs h d = (c, _, refl, digit-begins c d.0)
+
+first-of : (s : Syntax) → IsSpelled s → FirstOf (text s)
+first-of null h = (110, _, refl, refl)
+first-of (boolean true) h = (116, _, refl, refl)
+first-of (boolean false) h = (102, _, refl, refl)
+first-of (number n) h = numeral-first n.negative n.whole _ h.some_digit h.whole
+first-of (string ps) h = (34, _, refl, refl)
+first-of (empty_array w) h = (91, _, refl, refl)
+first-of (array es) h = (91, _, refl, refl)
+first-of (empty_object w) h = (123, _, refl, refl)
+first-of (object ps) h = (123, _, refl, refl)
+
+abbrev Begun : ℕ → Type 0
+Begun c = (s : Syntax) × (more : List ℕ) × IsSpelled s × (text s ≡ c ∷ more)
+
+begun-by : (s : Syntax) (d : ℕ) (more : List ℕ) → IsSpelled s → text s ≡ d ∷ more → (c : ℕ) → (c == d) ≡ true → Begun c
+begun-by s d more i e c h = (s, more, i, e ∙ ap (λ k. k ∷ more) (sym (eqb-true c d h)))
+
+begun-digit : (c : ℕ) → IsTrue (is_ascii_digit c) → Begun c
+begun-digit c h = (number (record { negative = false; whole = c ∷ []; fraction = []; exponent = None }), [], record { whole = (h, tt); some_digit = omega arith; fraction = tt; exponent = tt }, refl)
+
+either : (b d : Bool) (P : Type 0) → (b || d) ≡ true → (b ≡ true → P) → (d ≡ true → P) → P
+either true d P h f g = f refl
+either false d P h f g = g h
+
+begun : (c : ℕ) → IsTrue (begins_value c) → Begun c
+begun c h =
+    either (c == 110) _ (Begun c) h (begun-by null 110 _ tt refl c) (λ h.
+    either (c == 116) _ (Begun c) h (begun-by (boolean true) 116 _ tt refl c) (λ h.
+    either (c == 102) _ (Begun c) h (begun-by (boolean false) 102 _ tt refl c) (λ h.
+    either (c == 34) _ (Begun c) h (begun-by (string []) 34 _ tt refl c) (λ h.
+    either (c == 91) _ (Begun c) h (begun-by (empty_array []) 91 _ tt refl c) (λ h.
+    either (c == 123) _ (Begun c) h (begun-by (empty_object []) 123 _ tt refl c) (λ h.
+    either (c == 45) _ (Begun c) h (begun-by (number (record { negative = true; whole = 48 ∷ []; fraction = []; exponent = None })) 45 _ (record { whole = (refl, tt); some_digit = omega arith; fraction = tt; exponent = tt }) refl c) (begun-digit c)))))))
+
+same_first : (c d : ℕ) (xs ys : List ℕ) → c ∷ xs ≡ d ∷ ys → c ≡ d
+same_first c d xs ys e = cc
+
+pub values_begin : ValuesBegin
+values_begin c = (begun c, λ p. let f = first-of p.0 p.2 in subst (λ d. IsTrue (begins_value d)) (same_first f.0 c f.1 p.1 (sym f.2 ∙ p.3)) f.3)
+
+-- no text of the loose grammar begins so
+no-first : (c : ℕ) (w : List ℕ) (s : Syntax) (v xs : List ℕ) → AreWhite w → IsSpelled s → is_white c ≡ false → begins_value c ≡ false → c ∷ xs ≡ w ++ (text s ++ v) → ⊥
+no-first c [] s v xs hw hs n b e =
+    let f = first-of s hs in
+    let same : c ≡ f.0 = same_first c f.0 xs (f.1 ++ v) (e ∙ ap (λ ys. ys ++ v) f.2) in
+    let begun : begins_value c ≡ true = subst (λ d. IsTrue (begins_value d)) (sym same) f.3 in
+    false≢true (sym b ∙ begun)
+no-first c (d ∷ ds) s v xs hw hs n b e =
+    let white : is_white c ≡ true = subst (λ k. IsTrue (is_white k)) (sym (same_first c d xs (ds ++ (text s ++ v)) e)) hw.0 in
+    false≢true (sym n ∙ white)
+
+pub dead_at_first : DeadAtFirst
+dead_at_first limit c xs n b h = let l = h.1 in no-first c l.before l.value l.after (xs ++ h.0) l.white_before l.spelled n b l.whole
+
+-- ---- lengths
+
+-- a beginning that meets less is no longer
+shortest-first : (P Q : List ℕ → Type 0) (xs : List ℕ) (m n : ℕ) → ((ys : List ℕ) → P ys → Q ys) → IsShortest P xs m → IsShortest Q xs n → m ≤ n
+shortest-first P Q xs m n f p q = ⊎_elim (λ l. absurd (p.least n l (λ h. q.fails (f (take n xs) h)))) (λ l. l) (cases_lt n m)
+
+pub shortest_in_order : ShortestInOrder
+shortest_in_order limit xs = (
+  λ d m. shortest-first (IsAlive (IsAccepted limit)) (IsMidway limit) xs d m (alive_is_midway limit),
+  λ m l. shortest-first (IsMidway limit) (Loosely limit) xs m l (midway_is_loosely_alive limit),
+)
+
+-- ---- refusals
+
+take-front : (xs ys : List ℕ) → take (length xs) (xs ++ ys) ≡ xs
+take-front [] ys = refl
+take-front (x ∷ xs) ys = ap (λ zs. x ∷ zs) (take-front xs ys)
+
+pub refused_not_too_soon : RefusedNotTooSoon
+refused_not_too_soon limit k used [] r m h = let l = length-append used [] in omega (arith, h.within, l)
+refused_not_too_soon limit k used (c ∷ more) r m h = ⊎_elim
+    (λ l. absurd (h.least (length (used ++ c ∷ [])) l (λ a. r.not_too_soon c more refl (subst (IsMidway limit) (ap (take (length (used ++ c ∷ []))) (sym (append_assoc used (c ∷ []) more)) ∙ take-front (used ++ c ∷ []) more) a))))
+    (λ l. let e = length-append used (c ∷ []) in omega (arith, l, e)) (cases_lt (length (used ++ c ∷ [])) m)
+
+pub refused_at_end : RefusedAtEnd
+refused_at_end limit k used [] r h = refl
+refused_at_end limit k used (c ∷ more) r h =
+    let e : (used ++ c ∷ []) ++ more ≡ used ++ c ∷ more = append_assoc used (c ∷ []) more in
+    let l = length-append (used ++ c ∷ []) more in
+    absurd (h (length (used ++ c ∷ [])) (omega (arith, ap length e, l)) (λ a. r.not_too_soon c more refl (subst (IsMidway limit) (ap (take (length (used ++ c ∷ []))) (sym e) ∙ take-front (used ++ c ∷ []) more) a)))
+
+last_of : (xs : List ℕ) → (xs ≡ []) ⊎ ((front : List ℕ) × (c : ℕ) × (xs ≡ front ++ c ∷ []))
+last_of [] = inl refl
+last_of (x ∷ xs) = inr (⊎_elim (λ e. ([], x, ap (λ ys. x ∷ ys) e)) (λ f. (x ∷ f.0, f.1, ap (λ ys. x ∷ ys) f.2)) (last_of xs))
+
+take-within : (n : ℕ) (xs ys : List ℕ) → n ≤ length xs → (zs : List ℕ) × (xs ≡ take n (xs ++ ys) ++ zs)
+take-within zero xs ys h = (xs, refl)
+take-within (suc n) [] ys h = absurd (omega (arith, h))
+take-within (suc n) (x ∷ xs) ys h = let r = take-within n xs ys (omega arith) in (r.0, ap (λ us. x ∷ us) r.1)
+
+pub refused_not_too_late : RefusedNotTooLate
+refused_not_too_late limit k used rest r l h = ⊎_elim (λ s. absurd (early s (last_of used))) (λ s. s) (cases_lt l (length used))
+  where
+    early : l < length used → (used ≡ []) ⊎ ((front : List ℕ) × (c : ℕ) × (used ≡ front ++ c ∷ [])) → ⊥
+    early s (inl e) = omega (arith, s, ap length e)
+    early s (inr f) =
+        let n = length-append f.0 (f.1 ∷ []) in
+        let t = take-within l f.0 ((f.1 ∷ []) ++ rest) (omega (arith, s, ap length f.2, n)) in
+        let same : f.0 ++ ((f.1 ∷ []) ++ rest) ≡ used ++ rest = sym (append_assoc f.0 (f.1 ∷ []) rest) ∙ ap (λ xs. xs ++ rest) (sym f.2) in
+        let whole : f.0 ≡ take l (used ++ rest) ++ t.0 = t.1 ∙ ap (λ xs. take l xs ++ t.0) same in
+        h.fails (alive-before (λ us. IsLoose limit us) (take l (used ++ rest)) t.0 (subst (Loosely limit) whole (r.not_too_late f.0 f.1 f.2)))

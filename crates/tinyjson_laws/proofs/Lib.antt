@@ -1,0 +1,16 @@
+pub mod JoinedMembers
+pub mod QuotedTrip
+pub mod TreeTrip
+pub mod ReadTrees
+pub mod TextScalars
+pub mod Wider
+pub mod ReadingLaws
+pub mod WritingLaws
+pub mod NumberLaws
+pub mod LayoutLaws
+pub mod Bare
+pub mod WhiteSpaceLaws
+pub mod MemberLaws
+pub mod Midways
+pub mod BeginningLaws
+pub mod Examples

@@ -1,0 +1,98 @@
+-- The last pair with a key counts.
+use Rattle.std.proofs.Common.{◌≡◌, ◌≢◌, ℕ, Bool, true, false, cond, List, [], ◌∷◌, ◌++◌, Option, Some, None, refl, sym, ap, ◌∙◌}
+use Rattle.std.specs.Str.{bytes_eq}
+use Rattle.std.specs.Option.{option_or}
+use Rattle.std.proofs.lemmas.Slice.Eq.{bytes_eq-Decides}
+use Rattle.tinyjson.specs.Tree as tree
+use Rattle.tinyjson.specs.Tree.{Tree, Members, key_of, find}
+use Rattle.tinyjson.specs.Syntax.{Pairs, last_pair, pair, tree_of, pairs_members}
+use Rattle.tinyjson.proofs.Members.{find-put}
+use Rattle.tinyjson_laws.specs.Members.{entries_of, HasNone, IsLast, LastPairStays}
+
+abbrev Entry : Type 0
+Entry = List ℕ × Tree
+
+-- the tree of an entry that has the key
+abbrev value_at : List ℕ → Entry → Option Tree
+value_at k e = cond (bytes_eq k e.0) (Some e.1) None
+
+-- the tree of the last entry that has the key
+abbrev last_value : List ℕ → List Entry → Option Tree
+last_value k [] = None
+last_value k (e ∷ es) = option_or (last_value k es) (value_at k e)
+
+-- ---- what is found is the last
+
+first : (b : Bool) (t : Tree) (o : Option Tree) → cond b (Some t) o ≡ option_or (cond b (Some t) None) o
+first true t o = refl
+first false t o = refl
+
+option_or_assoc : (a b c : Option Tree) → option_or a (option_or b c) ≡ option_or (option_or a b) c
+option_or_assoc None b c = refl
+option_or_assoc (Some t) b c = refl
+
+option_or_none : (o : Option Tree) → option_or o None ≡ o
+option_or_none None = refl
+option_or_none (Some t) = refl
+
+found-put : (k l : List ℕ) (t : Tree) (ms : Members) → find k (tree.put l t ms) ≡ option_or (value_at k (l, t)) (find k ms)
+found-put k l t ms = find-put k l t ms ∙ first (bytes_eq k l) t (find k ms)
+
+found : (k : List ℕ) (ps : Pairs) (ms : Members) → find k (pairs_members ms ps) ≡ option_or (last_value k (entries_of ps)) (find k ms)
+found k (last_pair a l b c s d) ms = found-put k (key_of (tree_of l)) (tree_of s) ms
+found k (pair a l b c s d ps) ms =
+    found k ps (tree.put (key_of (tree_of l)) (tree_of s) ms)
+    ∙ ap (option_or (last_value k (entries_of ps))) (found-put k (key_of (tree_of l)) (tree_of s) ms)
+    ∙ option_or_assoc (last_value k (entries_of ps)) (value_at k (key_of (tree_of l), tree_of s)) (find k ms)
+
+found-last : (k : List ℕ) (ps : Pairs) → find k (pairs_members tree.no_members ps) ≡ last_value k (entries_of ps)
+found-last k ps = found k ps tree.no_members ∙ option_or_none (last_value k (entries_of ps))
+
+-- ---- what the last is
+
+some≢none : (t : Tree) → Some t ≡ None → ⊥
+some≢none t h = cc
+
+some-same : (t u : Tree) → Some t ≡ Some u → t ≡ u
+some-same t u h = cc
+
+here : (k : List ℕ) (e : Entry) (b : Bool) → bytes_eq k e.0 ≡ b → ((t : Tree) → (cond b (Some e.1) None ≡ Some t) → (e.0 ≡ k) × (e.1 ≡ t)) × ((cond b (Some e.1) None ≡ None) → e.0 ≢ k)
+here k e true h = (λ t i. (sym ((bytes_eq-Decides k e.0).0 h), some-same e.1 t i), λ i. absurd (some≢none e.1 i))
+here k e false h = (λ t i. absurd (some≢none t (sym i)), λ i j. let r : bytes_eq k e.0 ≡ true = (bytes_eq-Decides k e.0).1 (sym j) in let f : true ≡ false = sym r ∙ h in cc)
+
+none-by : (k : List ℕ) (e : Entry) (es : List Entry) (o : Option Tree) → last_value k es ≡ o → option_or o (value_at k e) ≡ None → (last_value k es ≡ None → HasNone k es) → HasNone k (e ∷ es)
+none-by k e es None i h rest = ((here k e (bytes_eq k e.0) refl).1 h, rest i)
+none-by k e es (Some t) i h rest = absurd (some≢none t h)
+
+none-has : (k : List ℕ) (es : List Entry) → last_value k es ≡ None → HasNone k es
+none-has k [] h = tt
+none-has k (e ∷ es) h = none-by k e es (last_value k es) refl h (none-has k es)
+
+apart : (k : List ℕ) (e : Entry) → e.0 ≢ k → (b : Bool) → bytes_eq k e.0 ≡ b → cond b (Some e.1) None ≡ None
+apart k e h true i = absurd (h (sym ((bytes_eq-Decides k e.0).0 i)))
+apart k e h false i = refl
+
+has-none : (k : List ℕ) (es : List Entry) → HasNone k es → last_value k es ≡ None
+has-none k [] h = refl
+has-none k (e ∷ es) h = ap (λ o. option_or o (value_at k e)) (has-none k es h.1) ∙ apart k e h.0 (bytes_eq k e.0) refl
+
+some-by : (k : List ℕ) (t : Tree) (e : Entry) (es : List Entry) (o : Option Tree) → last_value k es ≡ o → option_or o (value_at k e) ≡ Some t → (last_value k es ≡ Some t → IsLast k t es) → IsLast k t (e ∷ es)
+some-by k t e es None i h rest = let p = (here k e (bytes_eq k e.0) refl).0 t h in ([], es, (λ j. (p.0 j, p.1 j) ∷ es), none-has k es i)
+some-by k t e es (Some u) i h rest = let r = rest (i ∙ h) in (e ∷ r.0, r.1, ap (λ xs. e ∷ xs) r.2, r.3)
+
+some-last : (k : List ℕ) (t : Tree) (es : List Entry) → last_value k es ≡ Some t → IsLast k t es
+some-last k t [] h = absurd (some≢none t (sym h))
+some-last k t (e ∷ es) h = some-by k t e es (last_value k es) refl h (some-last k t es)
+
+same-key : (k : List ℕ) (t : Tree) → value_at k (k, t) ≡ Some t
+same-key k t = ap (λ b. cond b (Some t) None) ((bytes_eq-Decides k k).1 refl)
+
+last-of : (k : List ℕ) (t : Tree) (front back : List Entry) → HasNone k back → last_value k (front ++ (k, t) ∷ back) ≡ Some t
+last-of k t [] back h = ap (λ o. option_or o (value_at k (k, t))) (has-none k back h) ∙ same-key k t
+last-of k t (e ∷ es) back h = ap (λ o. option_or o (value_at k e)) (last-of k t es back h)
+
+pub last_pair_stays : LastPairStays
+last_pair_stays ps k = (
+  λ t. (λ h. some-last k t (entries_of ps) (sym (found-last k ps) ∙ h), λ r. found-last k ps ∙ ap (last_value k) r.2 ∙ last-of k t r.0 r.1 r.3),
+  (λ h. none-has k (entries_of ps) (sym (found-last k ps) ∙ h), λ h. found-last k ps ∙ has-none k (entries_of ps) h),
+)

@@ -1,0 +1,53 @@
+-- What is written reads back.
+use Rattle.std.proofs.Common.{◌≡◌, ℕ, List, Some, None, refl, ap, subst, IsTrue}
+use Rattle.tinyjson_number.specs.Numeral.{power_width}
+use Rattle.tinyjson.specs.Tree.{Tree}
+use Rattle.tinyjson.specs.Syntax.{text}
+use Rattle.tinyjson.specs.Grammar.{IsText}
+use Rattle.tinyjson.specs.Text as written
+use Rattle.tinyjson.proofs.Grammar.Texts.{one-tree}
+use Rattle.tinyjson_laws.specs.Writing.{CompactReadsBack, IndentedReadsBack, SameCompact, SameIndented, WrittenOnce, CompactWithin, IndentedWithin, LimitKept, TextsAreUtf8, CompactIsUtf8, IndentedIsUtf8}
+use Rattle.tinyjson_laws.proofs.ReadingLaws.{written-text, tree-within, rewritten}
+use Rattle.tinyjson_laws.proofs.TextScalars.{scalars-append, white-scalars, text-scalars}
+
+pub compact_reads_back : CompactReadsBack
+compact_reads_back t h = written-text power_width None None 0 t tt h tt
+
+pub indented_reads_back : IndentedReadsBack
+indented_reads_back t indent i h = written-text power_width None (Some indent) 0 t i h tt
+
+-- trees that are read from one text
+from-text : (t u : Tree) (xs ys : List ℕ) → IsText None xs t → IsText None ys u → xs ≡ ys → t ≡ u
+from-text t u xs ys h j e = one-tree None ys t u (subst (λ zs. IsText None zs t) e h) j
+
+pub same_compact : SameCompact
+same_compact t u h j = (from-text t u _ _ (compact_reads_back t h) (compact_reads_back u j), λ e. ap written.compact e)
+
+pub same_indented : SameIndented
+same_indented t u indent i h j = (from-text t u _ _ (indented_reads_back t indent i h) (indented_reads_back u indent i j), λ e. ap (λ v. written.indented v indent 0) e)
+
+pub limit_kept : LimitKept
+limit_kept limit xs t indent i h = (rewritten power_width limit xs t None tt h, rewritten power_width limit xs t (Some indent) i h)
+
+pub written_once : WrittenOnce
+written_once limit xs t h =
+    let c = rewritten power_width limit xs t None tt h in
+    (c, λ u j. ap written.compact (one-tree limit (written.compact t) u t j c))
+
+pub compact_within : CompactWithin
+compact_within t n h = (tree-within power_width (Some n) (written.compact t) t, written-text power_width (Some n) None 0 t tt h)
+
+pub indented_within : IndentedWithin
+indented_within t indent n i h = (tree-within power_width (Some n) (written.indented t indent 0) t, written-text power_width (Some n) (Some indent) 0 t i h)
+
+pub texts_are_utf8 : TextsAreUtf8
+texts_are_utf8 limit xs t h =
+    let l = h.loose in
+    let s : IsTrue _ = rw l.whole (scalars-append l.before _ (white-scalars l.before l.white_before) (scalars-append (text l.value) l.after (text-scalars l.value l.spelled) (white-scalars l.after l.white_after))) in
+    (s, (xs, (s, refl)))
+
+pub compact_is_utf8 : CompactIsUtf8
+compact_is_utf8 t h = (texts_are_utf8 None (written.compact t) t (compact_reads_back t h)).1
+
+pub indented_is_utf8 : IndentedIsUtf8
+indented_is_utf8 t indent i h = (texts_are_utf8 None (written.indented t indent 0) t (indented_reads_back t indent i h)).1

@@ -1,0 +1,23 @@
+-- The law of equal keys: the last pair with a key counts.
+use Rattle.std.specs.Prelude.{◌≡◌, ◌≢◌, ◌↔◌, ℕ, List, [], ◌∷◌, ◌++◌, Some, None}
+use Rattle.std.specs.List.{AllByRecursion}
+use Rattle.tinyjson.specs.Tree.{Tree, key_of, no_members, find}
+use Rattle.tinyjson.specs.Syntax.{Pairs, last_pair, pair, tree_of, pairs_members}
+
+-- the pairs of an object, each as its key and its tree
+abbrev pub entries_of : Pairs → List (List ℕ × Tree)
+entries_of (last_pair a key b c s d) = (key_of (tree_of key), tree_of s) ∷ []
+entries_of (pair a key b c s d ps) = (key_of (tree_of key), tree_of s) ∷ entries_of ps
+
+-- none of the entries has the key
+abbrev pub HasNone : List ℕ → List (List ℕ × Tree) → Type 0
+HasNone k es = AllByRecursion (λ (e : List ℕ × Tree). e.0 ≢ k) es
+
+-- the last of the entries that have the key has the tree
+abbrev pub IsLast : List ℕ → Tree → List (List ℕ × Tree) → Type 0
+IsLast k t es = (front back : List (List ℕ × Tree)) × (es ≡ front ++ (k, t) ∷ back) × HasNone k back
+
+-- an object has a key exactly if some pair has it, with the tree of the last such pair
+abbrev pub LastPairStays : Type 0
+LastPairStays =
+    (ps : Pairs) (k : List ℕ) → ((t : Tree) → (find k (pairs_members no_members ps) ≡ Some t) ↔ IsLast k t (entries_of ps)) × ((find k (pairs_members no_members ps) ≡ None) ↔ HasNone k (entries_of ps))

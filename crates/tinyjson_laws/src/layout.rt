@@ -1,0 +1,12 @@
+//! Laws of layout: the written texts, said once more in the plainest way.
+ghost use Rattle.tinyjson_laws.specs.Layout.{CompactLayout, IndentedLayout};
+
+/// The compact text of a tree: no white space, a comma between two items or members.
+pub fn compact_layout()
+    ensures { CompactLayout }
+{}
+
+/// The indented text of a tree: each item and member on a line of its own, behind its indent.
+pub fn indented_layout()
+    ensures { IndentedLayout }
+{}

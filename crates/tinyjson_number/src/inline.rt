@@ -1,0 +1,40 @@
+//! A few digits in the number itself.
+ghost use Rattle.std.specs.Prelude.{◌≡◌, ◌+◌, ◌≤◌, ◌++◌, length, take};
+ghost use Rattle.tinyjson_number.specs.Numeral.{AreDigits};
+
+use std::str;
+
+/// So many digits are kept in the number itself.
+pub(crate) const ROOM: usize = 24;
+
+/// The first `len` of the bytes.
+#[derive(Clone, Copy, Debug)]
+pub(crate) struct Inline {
+    bytes: [u8; ROOM],
+    len: u8,
+    ghost within: { len ≤ 24 },
+}
+
+impl Inline {
+    /// The digits of two texts together.
+    pub(crate) fn joined(front: &str, back: &str) -> Inline
+        requires { length front.now + length back.now ≤ 24 }
+        ensures { take result.len result.bytes ≡ front.now ++ back.now }
+    {
+        let len = front.len() + back.len();
+        let mut bytes = [0; ROOM];
+        bytes[..front.len()].copy_from_slice(front.as_bytes());
+        bytes[front.len()..len].copy_from_slice(back.as_bytes());
+        Inline {
+            bytes,
+            len: len as u8,
+        }
+    }
+
+    pub(crate) fn as_str(&self) -> &str
+        requires { AreDigits (take self.now.len self.now.bytes) }
+        ensures { result.now ≡ take self.now.len self.now.bytes }
+    {
+        str::from_utf8(&self.bytes[..self.len as usize]).unwrap()
+    }
+}

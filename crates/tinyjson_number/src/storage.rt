@@ -1,0 +1,48 @@
+//! How a number keeps its digits.
+ghost use Rattle.std.specs.Prelude.{◌≡◌, ◌+◌, ◌<◌, ◌^◌, [], ◌++◌, length, IfOk};
+ghost use Rattle.tinyjson_number.specs.Numeral.{AreDigits};
+ghost use Rattle.tinyjson_number.specs.Number.{digits_of};
+
+use crate::inline::{Inline, ROOM};
+use std::alloc::{AllocError, Global};
+
+/// Few digits are kept in the number itself, and many in memory of their own.
+#[derive(Debug, Drop)]
+pub(crate) enum Digits {
+    Short(Inline),
+    Long(String),
+}
+
+impl Digits {
+    /// No digits.
+    pub(crate) fn empty() -> Digits
+        ensures { digits_of result ≡ [] }
+    {
+        Digits::Short(Inline::joined("", ""))
+    }
+
+    /// The digits of two texts together. Where there are many, it takes memory once, and exactly what
+    /// they need.
+    pub(crate) fn joined(alloc: Global, front: &str, back: &str) -> Result<Digits, AllocError>
+        requires { length front.now + length back.now < 2 ^ 64 }
+        ensures { IfOk result (λ d. digits_of d ≡ front.now ++ back.now) }
+    {
+        if front.len() + back.len() <= ROOM {
+            return Ok(Digits::Short(Inline::joined(front, back)));
+        }
+        let mut digits = String::with_capacity(alloc, front.len() + back.len())?;
+        digits.push_str(front)?;
+        digits.push_str(back)?;
+        Ok(Digits::Long(digits))
+    }
+
+    pub(crate) fn as_str(&self) -> &str
+        requires { AreDigits (digits_of self.now) }
+        ensures { result.now ≡ digits_of self.now }
+    {
+        match self {
+            Digits::Short(digits) => digits.as_str(),
+            Digits::Long(digits) => digits.as_str(),
+        }
+    }
+}

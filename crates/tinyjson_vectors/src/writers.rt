@@ -1,0 +1,102 @@
+//! Writers that fail.
+ghost use Rattle.std.specs.Prelude.{◌≡◌, Some};
+
+use std::alloc::Global;
+use std::io::{self, ErrorKind, Write};
+
+/// How a writer fails.
+#[derive(Clone, Copy, Debug)]
+pub enum Fault {
+    /// It answers an error of this kind.
+    Error(ErrorKind),
+    /// It takes nothing, though it was given bytes.
+    TakesNothing,
+}
+
+/// A writer that keeps what it takes, and fails once.
+///
+/// It takes at most `chunk` bytes a call. After `room` bytes in all it fails in one call, and then it
+/// takes bytes again.
+#[derive(Drop)]
+pub struct FaultyWriter {
+    bytes: Vec<u8>,
+    chunk: usize,
+    room: usize,
+    fault: Option<Fault>,
+    calls: usize,
+    empty_calls: usize,
+}
+
+impl FaultyWriter {
+    /// A writer that takes at most so many bytes a call, and never fails.
+    pub fn good(alloc: Global, chunk: usize) -> FaultyWriter {
+        FaultyWriter {
+            bytes: Vec::new(alloc),
+            chunk,
+            room: usize::MAX,
+            fault: None,
+            calls: 0,
+            empty_calls: 0,
+        }
+    }
+
+    /// A writer that takes at most `chunk` bytes a call and fails after `room` bytes.
+    pub fn failing(alloc: Global, chunk: usize, room: usize, fault: Fault) -> FaultyWriter {
+        FaultyWriter {
+            bytes: Vec::new(alloc),
+            chunk,
+            room,
+            fault: Some(fault),
+            calls: 0,
+            empty_calls: 0,
+        }
+    }
+
+    /// What was taken.
+    pub fn bytes(&self) -> &[u8] {
+        self.bytes.as_slice()
+    }
+
+    /// How often `write` was called.
+    pub fn calls(&self) -> usize {
+        self.calls
+    }
+
+    /// How often `write` was called with no bytes.
+    pub fn empty_calls(&self) -> usize {
+        self.empty_calls
+    }
+
+    fn count(&mut self, is_empty: bool)
+        ensures { self.new.bytes ≡ self.old.bytes }
+    {
+        self.calls = self.calls.saturating_add(1);
+        if is_empty {
+            self.empty_calls = self.empty_calls.saturating_add(1);
+        }
+    }
+}
+
+impl Write for FaultyWriter {
+    ghost contents = { λ w. Some w.bytes.items };
+
+    fn write(&mut self, buf: &[u8]) -> io::Result<usize> {
+        self.count(buf.is_empty());
+        if self.room == 0 {
+            self.room = usize::MAX;
+            match self.fault {
+                Some(Fault::Error(kind)) => return Err(io::Error::from(kind)),
+                Some(Fault::TakesNothing) => return Ok(0),
+                None => {}
+            }
+        }
+        let count = buf.len().min(self.chunk).min(self.room);
+        self.bytes.extend_from_slice(&buf[..count])?;
+        self.room -= count;
+        Ok(count)
+    }
+
+    fn flush(&mut self) -> io::Result<()> {
+        Ok(())
+    }
+}
