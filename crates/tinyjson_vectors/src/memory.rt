@@ -10,9 +10,9 @@ use std::alloc::Global;
 use std::io::ErrorKind;
 use std::process::Abort;
 use std::test::Fail;
-use tinyjson::number::JsonNumberError;
 use tinyjson::{
-    JsonGenerator, JsonNumber, JsonParseError, JsonParseErrorKind as Kind, JsonParser, JsonValue,
+    JsonGenerator, JsonNumber, JsonNumberError, JsonParseError, JsonParseErrorKind as Kind,
+    JsonParser, JsonValue,
 };
 
 const TEXTS: &[(&str, Answer)] = &[
