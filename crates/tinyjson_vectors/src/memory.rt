@@ -25,6 +25,9 @@ const TEXTS: &[(&str, Answer)] = &[
     ),
 ];
 
+/// A whole number with more digits than a small number has.
+const LONG: &str = "1234567890123456789012345678901234567890123456789";
+
 /// How many characters of the text stand before the place of a refusal.
 fn consumed(text: &str, fault: &JsonParseError) -> usize {
     let mut place = (1, 0);
@@ -93,7 +96,11 @@ fn numbers_keep_their_faults(rt: HostRuntime) -> Result<(), Fail> {
     let fault = JsonNumber::from_text(alloc, "1e9223372036854775808").expect_err(&rt, "too large");
     assert!(rt; matches!(fault, JsonNumberError::OutOfRange));
     let number = JsonNumber::from_text(alloc, "-12.30e-1")?;
+    assert!(rt; number.is_negative());
     assert_eq!(rt; (number.digits(), number.power()), ("123", -2));
+    let long = JsonNumber::from_text(alloc, LONG)?;
+    assert_eq!(rt; (long.digits(), long.power()), (LONG, 0));
+    assert!(rt; long.try_clone(alloc)? == long);
     let least = JsonNumber::from_i64(alloc, i64::MIN)?;
     assert_eq!(rt; least.to_i64(), Some(i64::MIN));
     let greatest = JsonNumber::from_u64(alloc, u64::MAX)?;
