@@ -13,7 +13,6 @@ pub mod Growth
 pub mod Answering
 pub mod Equality
 pub mod Index
-pub mod Steps
 pub mod Writing
 pub mod Sorted
 pub mod Texts

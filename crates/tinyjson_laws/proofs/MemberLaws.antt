@@ -2,6 +2,7 @@
 use Rattle.std.proofs.Common.{◌≡◌, ◌≢◌, ℕ, Bool, true, false, cond, List, [], ◌∷◌, ◌++◌, Option, Some, None, refl, sym, ap, ◌∙◌}
 use Rattle.std.specs.Str.{bytes_eq}
 use Rattle.std.specs.Option.{option_or}
+use Rattle.std.specs.Prelude.{◌↔◌}
 use Rattle.std.proofs.lemmas.Slice.Eq.{bytes_eq-Decides}
 use Rattle.tinyjson.specs.Tree as tree
 use Rattle.tinyjson.specs.Tree.{Tree, Members, key_of, find}
@@ -91,8 +92,16 @@ last-of : (k : List ℕ) (t : Tree) (front back : List Entry) → HasNone k back
 last-of k t [] back h = ap (λ o. option_or o (value_at k (k, t))) (has-none k back h) ∙ same-key k t
 last-of k t (e ∷ es) back h = ap (λ o. option_or o (value_at k e)) (last-of k t es back h)
 
+-- the members that the pairs give
+module _ (ps : Pairs) (ms : Members) (e : tree.object (pairs_members tree.no_members ps) ≡ tree.object ms) (k : List ℕ) where
+  found-in : find k ms ≡ last_value k (entries_of ps)
+  found-in = let same : ms ≡ pairs_members tree.no_members ps = cc in ap (find k) same ∙ found-last k ps
+
+  last-in : (t : Tree) → (find k ms ≡ Some t) ↔ IsLast k t (entries_of ps)
+  last-in t = (λ h. some-last k t (entries_of ps) (sym found-in ∙ h), λ r. found-in ∙ (ap (last_value k) r.2 ∙ last-of k t r.0 r.1 r.3))
+
+  none-in : (find k ms ≡ None) ↔ HasNone k (entries_of ps)
+  none-in = (λ h. none-has k (entries_of ps) (sym found-in ∙ h), λ h. found-in ∙ has-none k (entries_of ps) h)
+
 pub last_pair_stays : LastPairStays
-last_pair_stays ps k = (
-  λ t. (λ h. some-last k t (entries_of ps) (sym (found-last k ps) ∙ h), λ r. found-last k ps ∙ ap (last_value k) r.2 ∙ last-of k t r.0 r.1 r.3),
-  (λ h. none-has k (entries_of ps) (sym (found-last k ps) ∙ h), λ h. found-last k ps ∙ has-none k (entries_of ps) h),
-)
+last_pair_stays ps ms e k = (last-in ps ms e k, none-in ps ms e k)

@@ -1,8 +1,9 @@
 -- The law of equal keys: the last pair with a key counts.
 use Rattle.std.specs.Prelude.{◌≡◌, ◌≢◌, ◌↔◌, ℕ, List, [], ◌∷◌, ◌++◌, Some, None}
 use Rattle.std.specs.List.{AllByRecursion}
-use Rattle.tinyjson.specs.Tree.{Tree, key_of, no_members, find}
-use Rattle.tinyjson.specs.Syntax.{Pairs, last_pair, pair, tree_of, pairs_members}
+use Rattle.tinyjson.specs.Tree as tree
+use Rattle.tinyjson.specs.Tree.{Tree, Members, key_of, find}
+use Rattle.tinyjson.specs.Syntax.{Pairs, object, last_pair, pair, tree_of}
 
 -- the pairs of an object, each as its key and its tree
 abbrev pub entries_of : Pairs → List (List ℕ × Tree)
@@ -17,7 +18,8 @@ HasNone k es = AllByRecursion (λ (e : List ℕ × Tree). e.0 ≢ k) es
 abbrev pub IsLast : List ℕ → Tree → List (List ℕ × Tree) → Type 0
 IsLast k t es = (front back : List (List ℕ × Tree)) × (es ≡ front ++ (k, t) ∷ back) × HasNone k back
 
--- an object has a key exactly if some pair has it, with the tree of the last such pair
+-- an object has a key exactly if some pair of its text has it, with the tree of the last such pair
 abbrev pub LastPairStays : Type 0
 LastPairStays =
-    (ps : Pairs) (k : List ℕ) → ((t : Tree) → (find k (pairs_members no_members ps) ≡ Some t) ↔ IsLast k t (entries_of ps)) × ((find k (pairs_members no_members ps) ≡ None) ↔ HasNone k (entries_of ps))
+    (ps : Pairs) (ms : Members) → tree_of (object ps) ≡ tree.object ms → (k : List ℕ) →
+    ((t : Tree) → (find k ms ≡ Some t) ↔ IsLast k t (entries_of ps)) × ((find k ms ≡ None) ↔ HasNone k (entries_of ps))

@@ -9,7 +9,7 @@ use Rattle.tinyjson_number.specs.Text.{decimal_text}
 use Rattle.tinyjson_number.proofs.DecimalTrip.{decimal-spelt}
 use Rattle.tinyjson_number.specs.Number.{Canonical}
 use Rattle.tinyjson_number.specs.Numeral.{AreDigits, power_width, Numeral, Exponent, IsNumeral, IsExponent, minus_text, sign_text, fraction_text, exponent_text, spelling, is_sign}
-use Rattle.tinyjson_number.proofs.Forms.{form}
+use Rattle.tinyjson_number.proofs.Forms.{digits_of_form}
 use Rattle.tinyjson_number.proofs.Runs.{range_from_digit}
 
 pub zeros_ascii : (n : ℕ) → IsAscii (replicate n 48)
@@ -28,12 +28,8 @@ digits_ascii (d ∷ ds) h (suc i) = digits_ascii ds h.1 i
 pub boundary_in_digits : (ds : List ℕ) (i : ℕ) → AreDigits ds → i ≤ length ds → IsCharBoundary ds i
 boundary_in_digits ds i h within = IsCharBoundary-from_ascii ds i (digits_ascii ds h) within
 
-kept_digits : (negative : Bool) (ds : List ℕ) (power : ℤ) → IsTrue (is_canonical negative ds power) → AreDigits ds
-kept_digits negative [] power h = tt
-kept_digits negative (d ∷ ds) power h = (form power_width negative d ds power h).digits
-
 pub digits_are : (c : Canonical) → AreDigits c.decimal.digits
-digits_are c = kept_digits c.decimal.negative c.decimal.digits c.decimal.power c.canonical
+digits_are c = digits_of_form power_width c.decimal.negative c.decimal.digits c.decimal.power c.canonical
 
 -- ---- a decimal's text is ASCII
 

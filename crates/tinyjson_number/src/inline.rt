@@ -8,7 +8,7 @@ use std::str;
 pub(crate) const ROOM: usize = 24;
 
 /// The first `len` of the bytes.
-#[derive(Clone, Copy, Debug)]
+#[derive(Clone, Copy)]
 pub(crate) struct Inline {
     bytes: [u8; ROOM],
     len: u8,

@@ -14,7 +14,7 @@ use std::marker::Model;
 /// A contract sees it as its decimal, `decimal`, together with the fact, `canonical`, that the decimal
 /// has the one form. Up to 24 digits are kept in the number itself. More take memory once, and exactly
 /// what they need.
-#[derive(Debug, Drop)]
+#[derive(Drop)]
 pub struct JsonNumber {
     negative: bool,
     digits: Digits,

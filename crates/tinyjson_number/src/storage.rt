@@ -7,7 +7,7 @@ use crate::inline::{Inline, ROOM};
 use std::alloc::{AllocError, Global};
 
 /// Few digits are kept in the number itself, and many in memory of their own.
-#[derive(Debug, Drop)]
+#[derive(Drop)]
 pub(crate) enum Digits {
     Short(Inline),
     Long(String),
