@@ -12,7 +12,7 @@ use std::test::Fail;
 use tinyjson::{JsonParseErrorKind, JsonParseResult};
 
 /// What a call of `parse` answers.
-#[derive(Clone, Copy, Debug, PartialEq, Eq)]
+#[derive(Clone, Copy, Debug)]
 pub(crate) enum Answer {
     /// A value with this compact text.
     Text(&'static str),
