@@ -10,7 +10,7 @@ use Rattle.tinyjson.specs.Parser.{Parses, ParsesText, parser_position, parser_li
 use Rattle.tinyjson.specs.declared.parser.JsonParser.{JsonParser}
 use Rattle.tinyjson.specs.Cursor.{Gives, Shows, place}
 use Rattle.tinyjson.specs.Error.{error_position}
-use Rattle.tinyjson.specs.Grammar.{IsText}
+use Rattle.tinyjson.specs.Grammar.{IsText, IsAccepted}
 use Rattle.tinyjson.specs.Machine.{Frame, Phase, State, Next, next, stop, awaited, finished, accepted, refused, step, end, run, reach, reach_on, strictly}
 use Rattle.tinyjson.specs.Position.{advance, origin}
 use Rattle.tinyjson.specs.Reading.{IsNext, IsHeld, Leads, Halts, Refuses, Reads, Grows, behind, outcome}
@@ -93,6 +93,10 @@ module _ (limit : Option ℕ) where
   refusal-says kind.NumberOutOfRange used rest r = r
   refusal-says (kind.TooDeep c) used rest r = r
 
+  refused-list : (k : JsonParseErrorKind) (used rest : List ℕ) → ¬ (k ≡ kind.OutOfMemory) → RefusalSays limit k used rest → ¬ IsAccepted limit (used ++ rest)
+  refused-list kind.OutOfMemory used rest n r = absurd (n refl)
+  refused-list k used rest n r = r.refused
+
 -- ---- the whole call
 
 module _ {S : Type 0} (steps : S → Option ℕ → S → Type 0) (limit : Option ℕ) where
@@ -154,11 +158,15 @@ all-scalars (x ∷ xs) h zero d l = (and_parts (is_scalar x) (all_scalars xs) h)
 all-scalars (x ∷ xs) h (suc k) d l = all-scalars xs (and_parts (is_scalar x) (all_scalars xs) h).1 k d (omega (arith, l))
 
 -- a new parser over a text
-pub parses-text : {S : Type 0} {g : iterator.Ghosts S ℕ} (xs : List ℕ) (p q : JsonParser S g) (r : Result JsonValue JsonParseError) → parser_position p ≡ origin → parser_limit p ≡ None → Parses p xs r q → ParsesText xs r
-parses-text xs p q (Ok v) h n a = record { consumed = a.consumed; rest = a.rest; whole = a.whole; answer = subst (λ l. (a.rest ≡ []) × IsText l xs (view v)) n a.answer }
-parses-text xs p q (Err e) h n a = record {
+pub parses-text : {S : Type 0} {g : iterator.Ghosts S ℕ} (limit : Option ℕ) (xs : List ℕ) (p q : JsonParser S g) (r : Result JsonValue JsonParseError) → parser_position p ≡ origin → parser_limit p ≡ limit → Parses p xs r q → ParsesText limit xs r
+parses-text limit xs p q (Ok v) h n a = record { consumed = a.consumed; rest = a.rest; whole = a.whole; answer = subst (λ l. (a.rest ≡ []) × IsText l xs (view v)) n a.answer }
+parses-text limit xs p q (Err e) h n a = record {
   consumed = a.consumed;
   rest = a.rest;
   whole = a.whole;
   answer = (a.answer.0 ∙ a.position ∙ ap (λ x. advance x a.consumed) h, subst (λ l. RefusalSays l e.kind a.consumed a.rest) n a.answer.1);
 }
+
+-- a refusal that is not for want of memory: the characters have no tree
+pub refused-text : (limit : Option ℕ) (xs : List ℕ) (e : JsonParseError) → ¬ (e.kind ≡ kind.OutOfMemory) → ParsesText limit xs (Err e) → ¬ IsAccepted limit xs
+refused-text limit xs e n a = subst (λ ys. ¬ IsAccepted limit ys) (sym a.whole) (refused-list limit e.kind a.consumed a.rest n a.answer.1)

@@ -4,13 +4,13 @@ pub mod Numerals
 pub mod Strings
 pub mod Values
 pub mod Texts
-pub mod Broken
+pub mod CutOff
 pub mod Never
 pub mod Sim
 pub mod Paths
-pub mod Midway
+pub mod Faultless
 pub mod Spelt
-pub mod Alive
+pub mod Viable
 pub mod Told
 pub mod Whole
 pub mod Units

@@ -1,20 +1,20 @@
--- What can still become a text, and what cannot: alive, dead, midway.
+-- What can still become a text (a viable prefix), and what has no fault so far.
 use Rattle.std.specs.Prelude.{◌≡◌, ℕ, ◌+◌, max, false, List, [], ◌∷◌, ◌++◌, Option, ⊤, ◌⊎◌, IsTrue}
 use Rattle.tinyjson.specs.Characters.{paired}
 use Rattle.tinyjson.specs.Syntax.{Syntax, text, AreWhite, IsSpelled, IsStrict, is_key, Piece, pieces_text, ArePieces, codes, depth, IsWithin}
 use Rattle.tinyjson.specs.Grammar.{IsLoose, IsAccepted}
 
--- some list completes it
-abbrev pub IsAlive : (List ℕ → Type 0) → List ℕ → Type 0
-IsAlive P xs = (ys : List ℕ) × P (xs ++ ys)
+-- A viable prefix: some list, perhaps the empty one, completes it.
+abbrev pub IsViable : (List ℕ → Type 0) → List ℕ → Type 0
+IsViable P xs = (ys : List ℕ) × P (xs ++ ys)
 
--- none does
-abbrev pub IsDead : (List ℕ → Type 0) → List ℕ → Type 0
-IsDead P xs = ¬ IsAlive P xs
+-- no list does
+abbrev pub IsNotViable : (List ℕ → Type 0) → List ℕ → Type 0
+IsNotViable P xs = ¬ IsViable P xs
 
--- alive in the loose grammar
-abbrev pub Loosely : Option ℕ → List ℕ → Type 0
-Loosely limit xs = IsAlive (IsLoose limit) xs
+-- viable in the loose grammar
+abbrev pub IsLooselyViable : Option ℕ → List ℕ → Type 0
+IsLooselyViable limit xs = IsViable (IsLoose limit) xs
 
 -- ---- texts that end with their first key that is no string
 
@@ -75,23 +75,23 @@ ArePairsBefore [] = ⊤
 ArePairsBefore (p ∷ ps) = IsPair p × ArePairsBefore ps
 
 -- A container that is left open behind its first key that is no string.
-pub data Broken : Type 0 where
-  bad_key : List Pair → List ℕ → Syntax → Broken
-  in_key : List Pair → List ℕ → Broken → Broken
-  in_member : List Pair → List ℕ → List Piece → List ℕ → List ℕ → Broken → Broken
-  in_item : List Element → List ℕ → Broken → Broken
+pub data CutOff : Type 0 where
+  bad_key : List Pair → List ℕ → Syntax → CutOff
+  in_key : List Pair → List ℕ → CutOff → CutOff
+  in_member : List Pair → List ℕ → List Piece → List ℕ → List ℕ → CutOff → CutOff
+  in_item : List Element → List ℕ → CutOff → CutOff
 
-abbrev pub broken_text : Broken → List ℕ
-broken_text (bad_key ps w s) = 123 ∷ (pairs_before ps ++ (w ++ text s))
-broken_text (in_key ps w b) = 123 ∷ (pairs_before ps ++ (w ++ broken_text b))
-broken_text (in_member ps w k v u b) = 123 ∷ (pairs_before ps ++ (w ++ 34 ∷ (pieces_text k ++ 34 ∷ (v ++ 58 ∷ (u ++ broken_text b)))))
-broken_text (in_item es w b) = 91 ∷ (elements_before es ++ (w ++ broken_text b))
+abbrev pub cut_off_text : CutOff → List ℕ
+cut_off_text (bad_key ps w s) = 123 ∷ (pairs_before ps ++ (w ++ text s))
+cut_off_text (in_key ps w b) = 123 ∷ (pairs_before ps ++ (w ++ cut_off_text b))
+cut_off_text (in_member ps w k v u b) = 123 ∷ (pairs_before ps ++ (w ++ 34 ∷ (pieces_text k ++ 34 ∷ (v ++ 58 ∷ (u ++ cut_off_text b)))))
+cut_off_text (in_item es w b) = 91 ∷ (elements_before es ++ (w ++ cut_off_text b))
 
-abbrev pub IsBroken : Broken → Type 0
-IsBroken (bad_key ps w s) = ArePairsBefore ps × AreWhite w × IsValue s × (is_key s ≡ false)
-IsBroken (in_key ps w b) = ArePairsBefore ps × AreWhite w × IsBroken b
-IsBroken (in_member ps w k v u b) = ArePairsBefore ps × AreWhite w × ArePieces k × IsTrue (paired (codes k)) × AreWhite v × AreWhite u × IsBroken b
-IsBroken (in_item es w b) = AreElementsBefore es × AreWhite w × IsBroken b
+abbrev pub IsCutOff : CutOff → Type 0
+IsCutOff (bad_key ps w s) = ArePairsBefore ps × AreWhite w × IsValue s × (is_key s ≡ false)
+IsCutOff (in_key ps w b) = ArePairsBefore ps × AreWhite w × IsCutOff b
+IsCutOff (in_member ps w k v u b) = ArePairsBefore ps × AreWhite w × ArePieces k × IsTrue (paired (codes k)) × AreWhite v × AreWhite u × IsCutOff b
+IsCutOff (in_item es w b) = AreElementsBefore es × AreWhite w × IsCutOff b
 
 abbrev pub elements_deepest : List Element → ℕ
 elements_deepest [] = 0
@@ -101,21 +101,21 @@ abbrev pub pairs_deepest : List Pair → ℕ
 pairs_deepest [] = 0
 pairs_deepest (p ∷ ps) = max (max (depth p.key) (depth p.value)) (pairs_deepest ps)
 
-abbrev pub broken_depth : Broken → ℕ
-broken_depth (bad_key ps w s) = 1 + max (pairs_deepest ps) (depth s)
-broken_depth (in_key ps w b) = 1 + max (pairs_deepest ps) (broken_depth b)
-broken_depth (in_member ps w k v u b) = 1 + max (pairs_deepest ps) (broken_depth b)
-broken_depth (in_item es w b) = 1 + max (elements_deepest es) (broken_depth b)
+abbrev pub cut_off_depth : CutOff → ℕ
+cut_off_depth (bad_key ps w s) = 1 + max (pairs_deepest ps) (depth s)
+cut_off_depth (in_key ps w b) = 1 + max (pairs_deepest ps) (cut_off_depth b)
+cut_off_depth (in_member ps w k v u b) = 1 + max (pairs_deepest ps) (cut_off_depth b)
+cut_off_depth (in_item es w b) = 1 + max (elements_deepest es) (cut_off_depth b)
 
--- white and a Broken
-pub record IsBrokenText (limit : Option ℕ) (xs : List ℕ) : Type 0 where
+-- white and a CutOff
+pub record IsCutOffText (limit : Option ℕ) (xs : List ℕ) : Type 0 where
   pub before : List ℕ
-  pub broken : Broken
+  pub cut_off : CutOff
   pub white_before : AreWhite before
-  pub is_broken : IsBroken broken
-  pub shallow : IsWithin limit (broken_depth broken)
-  pub whole : xs ≡ before ++ broken_text broken
+  pub is_cut_off : IsCutOff cut_off
+  pub shallow : IsWithin limit (cut_off_depth cut_off)
+  pub whole : xs ≡ before ++ cut_off_text cut_off
 
--- some list, perhaps the empty one, completes it to a text, or to one that ends with its first key that is no string
-abbrev pub IsMidway : Option ℕ → List ℕ → Type 0
-IsMidway limit xs = IsAlive (λ ys. IsAccepted limit ys ⊎ IsBrokenText limit ys) xs
+-- No fault has come yet: some list, perhaps the empty one, completes it to a text, or to one that ends with its first key that is no string.
+abbrev pub IsFaultless : Option ℕ → List ℕ → Type 0
+IsFaultless limit xs = IsViable (λ ys. IsAccepted limit ys ⊎ IsCutOffText limit ys) xs

@@ -1,5 +1,5 @@
 -- What a contract sees of a parser, and what a call of `parse` answers.
-use Rattle.std.specs.Prelude.{◌≡◌, ℕ, List, [], ◌++◌, Option, None, Result, MatchResult, All}
+use Rattle.std.specs.Prelude.{◌≡◌, ℕ, List, [], ◌++◌, Option, Result, MatchResult, All}
 use Rattle.std.specs.Char.{IsScalar}
 use Rattle.std.specs.Iterator.{AlwaysYields}
 use Rattle.std.specs.declared.iter.Iterator as iterator
@@ -44,11 +44,11 @@ pub record Parses {S : Type 0} {g : iterator.Ghosts S ℕ} (p : JsonParser S g) 
       (λ v. (rest ≡ []) × IsText (parser_limit p) xs (view v))
       (λ e. (error_position e ≡ parser_position q) × RefusalSays (parser_limit p) (error_kind e) consumed rest)
 
--- What a new parser without a limit answers on a text of these characters.
-pub record ParsesText (xs : List ℕ) (result : Result JsonValue JsonParseError) : Type 0 where
+-- What a new parser with this limit answers on a text of these characters.
+pub record ParsesText (limit : Option ℕ) (xs : List ℕ) (result : Result JsonValue JsonParseError) : Type 0 where
   pub consumed : List ℕ
   pub rest : List ℕ
   pub whole : xs ≡ consumed ++ rest
   pub answer : MatchResult result
-      (λ v. (rest ≡ []) × IsText None xs (view v))
-      (λ e. (error_position e ≡ advance origin consumed) × RefusalSays None (error_kind e) consumed rest)
+      (λ v. (rest ≡ []) × IsText limit xs (view v))
+      (λ e. (error_position e ≡ advance origin consumed) × RefusalSays limit (error_kind e) consumed rest)

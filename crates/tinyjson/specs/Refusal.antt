@@ -6,7 +6,7 @@ use Rattle.tinyjson_number.specs.Numeral.{is_sign, is_exponent_letter, Numeral, 
 use Rattle.tinyjson.specs.Syntax.{Syntax, text, AreWhite, IsSpelled, IsStrict, is_key, Piece, unit, pieces_text, codes, IsPiece, tree_of}
 use Rattle.tinyjson.specs.Kind.{kind_of}
 use Rattle.tinyjson.specs.Grammar.{IsAccepted}
-use Rattle.tinyjson.specs.Continuation.{IsAlive, IsMidway, Loosely}
+use Rattle.tinyjson.specs.Continuation.{IsViable, IsFaultless, IsLooselyViable}
 use Rattle.tinyjson.specs.declared.parser.error.JsonParseErrorKind.{JsonParseErrorKind}
 use Rattle.tinyjson.specs.declared.parser.error.JsonParseErrorKind.TheVariants.{UnexpectedEof, InvalidCharacter, ExpectedEof, KeyNotString, ExpectedColon, ExpectedCommaOrBrace, ExpectedCommaOrBracket, InvalidUtf16, InvalidHexDigit, InvalidEscape, ControlCharacter, UnexpectedInLiteral, EmptyInteger, LeadingZero, EmptyFraction, EmptyExponent, NumberOutOfRange, OutOfMemory, TooDeep}
 
@@ -69,20 +69,20 @@ KindSays limit (TooDeep c) used rest = ((more : List ℕ) × (rest ≡ c ∷ mor
 
 -- ---- where a refusal comes
 
--- the last character was too many: without it, the list is alive in the loose grammar, and with it dead
-abbrev pub DiesAt : Option ℕ → List ℕ → Type 0
-DiesAt limit used = ¬ Loosely limit used
+-- the last character was too many: with it, no list completes the list even in the loose grammar
+abbrev pub IsNotLooselyViable : Option ℕ → List ℕ → Type 0
+IsNotLooselyViable limit used = ¬ IsLooselyViable limit used
 
--- without its last character c the list, followed by next, is alive, and followed by a quote dead
+-- without its last character c the list has no fault, and a quote may not follow it
 pub record NoStringAt (limit : Option ℕ) (used : List ℕ) (c : ℕ) : Type 0 where
   pub front : List ℕ
   pub ends : used ≡ front ++ c ∷ []
-  pub midway : IsMidway limit front
-  pub no_string : ¬ Loosely limit (front ++ 34 ∷ [])
+  pub faultless : IsFaultless limit front
+  pub no_string : ¬ IsLooselyViable limit (front ++ 34 ∷ [])
 
 pub record AwaitsAt (limit : Option ℕ) (used : List ℕ) (c next : ℕ) : Type 0 where
   pub place : NoStringAt limit used c
-  pub alive : Loosely limit (place.front ++ next ∷ [])
+  pub viable : IsLooselyViable limit (place.front ++ next ∷ [])
 
 -- characters that may stand between the first fault and the refusal
 abbrev pub is_late : ℕ → Bool
@@ -92,39 +92,39 @@ abbrev pub AreLate : List ℕ → Type 0
 AreLate [] = ⊤
 AreLate (c ∷ cs) = IsTrue (is_late c) × AreLate cs
 
--- midway, then late characters, then the end
+-- no fault, then late characters, then the end
 pub record IsPromptly (limit : Option ℕ) (used end : List ℕ) : Type 0 where
   pub front : List ℕ
   pub late : List ℕ
   pub whole : used ≡ front ++ (late ++ end)
-  pub midway : IsMidway limit front
+  pub faultless : IsFaultless limit front
   pub are_late : AreLate late
 
 -- a value is awaited: a line feed and a quote may follow
 abbrev pub AwaitsValue : Option ℕ → List ℕ → Type 0
-AwaitsValue limit used = IsMidway limit used × Loosely limit (used ++ 10 ∷ 34 ∷ [])
+AwaitsValue limit used = IsFaultless limit used × IsLooselyViable limit (used ++ 10 ∷ 34 ∷ [])
 
 -- within a numeral: no quote may follow
 abbrev pub WithinNumeral : Option ℕ → List ℕ → Type 0
-WithinNumeral limit used = Loosely limit used × ¬ Loosely limit (used ++ 34 ∷ [])
+WithinNumeral limit used = IsLooselyViable limit used × ¬ IsLooselyViable limit (used ++ 34 ∷ [])
 
 -- What a kind says of the place.
 abbrev pub PlaceSays : Option ℕ → JsonParseErrorKind → List ℕ → Type 0
-PlaceSays limit UnexpectedEof used = IsPromptly limit used [] × Loosely limit used
+PlaceSays limit UnexpectedEof used = IsPromptly limit used [] × IsLooselyViable limit used
 PlaceSays limit (InvalidCharacter c) used = AwaitsValue limit used
-PlaceSays limit (ExpectedEof c) used = ((front : List ℕ) × (used ≡ front ++ c ∷ []) × IsMidway limit front) × DiesAt limit used
-PlaceSays limit (KeyNotString k) used = IsMidway limit used × Loosely limit (used ++ 58 ∷ []) × ¬ IsAlive (IsAccepted limit) used
-PlaceSays limit (ExpectedColon c) used = AwaitsAt limit used c 58 × DiesAt limit used
-PlaceSays limit (ExpectedCommaOrBrace c) used = AwaitsAt limit used c 125 × DiesAt limit used
-PlaceSays limit (ExpectedCommaOrBracket c) used = AwaitsAt limit used c 93 × DiesAt limit used
-PlaceSays limit InvalidUtf16 used = ((c : ℕ) × IsPromptly limit used (c ∷ [])) × Loosely limit used × ¬ IsAlive (IsAccepted limit) used
-PlaceSays limit (InvalidHexDigit c) used = IsPromptly limit used (c ∷ []) × DiesAt limit used
-PlaceSays limit (InvalidEscape c) used = IsPromptly limit used (c ∷ []) × DiesAt limit used
-PlaceSays limit (ControlCharacter c) used = IsPromptly limit used (c ∷ []) × DiesAt limit used × ((front : List ℕ) × (used ≡ front ++ c ∷ []) × Loosely limit (front ++ 120 ∷ []))
-PlaceSays limit (UnexpectedInLiteral c) used = NoStringAt limit used c × DiesAt limit used
-PlaceSays limit EmptyInteger used = IsMidway limit used × WithinNumeral limit used
-PlaceSays limit LeadingZero used = IsPromptly limit used [] × WithinNumeral limit used × ¬ IsAlive (IsAccepted limit) used
-PlaceSays limit EmptyFraction used = IsMidway limit used × WithinNumeral limit used
+PlaceSays limit (ExpectedEof c) used = ((front : List ℕ) × (used ≡ front ++ c ∷ []) × IsFaultless limit front) × IsNotLooselyViable limit used
+PlaceSays limit (KeyNotString k) used = IsFaultless limit used × IsLooselyViable limit (used ++ 58 ∷ []) × ¬ IsViable (IsAccepted limit) used
+PlaceSays limit (ExpectedColon c) used = AwaitsAt limit used c 58 × IsNotLooselyViable limit used
+PlaceSays limit (ExpectedCommaOrBrace c) used = AwaitsAt limit used c 125 × IsNotLooselyViable limit used
+PlaceSays limit (ExpectedCommaOrBracket c) used = AwaitsAt limit used c 93 × IsNotLooselyViable limit used
+PlaceSays limit InvalidUtf16 used = ((c : ℕ) × IsPromptly limit used (c ∷ [])) × IsLooselyViable limit used × ¬ IsViable (IsAccepted limit) used
+PlaceSays limit (InvalidHexDigit c) used = IsPromptly limit used (c ∷ []) × IsNotLooselyViable limit used
+PlaceSays limit (InvalidEscape c) used = IsPromptly limit used (c ∷ []) × IsNotLooselyViable limit used
+PlaceSays limit (ControlCharacter c) used = IsPromptly limit used (c ∷ []) × IsNotLooselyViable limit used × ((front : List ℕ) × (used ≡ front ++ c ∷ []) × IsLooselyViable limit (front ++ 120 ∷ []))
+PlaceSays limit (UnexpectedInLiteral c) used = NoStringAt limit used c × IsNotLooselyViable limit used
+PlaceSays limit EmptyInteger used = IsFaultless limit used × WithinNumeral limit used
+PlaceSays limit LeadingZero used = IsPromptly limit used [] × WithinNumeral limit used × ¬ IsViable (IsAccepted limit) used
+PlaceSays limit EmptyFraction used = IsFaultless limit used × WithinNumeral limit used
 PlaceSays limit EmptyExponent used = IsPromptly limit used [] × WithinNumeral limit used
 PlaceSays limit NumberOutOfRange used = IsPromptly limit used [] × WithinNumeral limit used
 PlaceSays limit OutOfMemory used = ((end : List ℕ) × (length end ≤ 1) × IsPromptly limit used end)
@@ -138,15 +138,15 @@ pub record IsRefusal (limit : Option ℕ) (kind : JsonParseErrorKind) (used rest
   -- the list has no tree
   pub refused : ¬ IsAccepted limit (used ++ rest)
   -- all was consumed, or with the next character not even the first fault is still to come
-  pub not_too_soon : (c : ℕ) (more : List ℕ) → rest ≡ c ∷ more → ¬ IsMidway limit (used ++ c ∷ [])
-  -- without its last character it is alive in the loose grammar
-  pub not_too_late : (front : List ℕ) (c : ℕ) → used ≡ front ++ c ∷ [] → Loosely limit front
+  pub not_too_soon : (c : ℕ) (more : List ℕ) → rest ≡ c ∷ more → ¬ IsFaultless limit (used ++ c ∷ [])
+  -- without its last character it is viable in the loose grammar
+  pub not_too_late : (front : List ℕ) (c : ℕ) → used ≡ front ++ c ∷ [] → IsLooselyViable limit front
 
 -- A refusal for want of memory: no more than where it may come, and nothing of what is left.
 pub record IsInterrupted (limit : Option ℕ) (used : List ℕ) : Type 0 where
   pub place : PlaceSays limit OutOfMemory used
-  -- without its last character it is alive in the loose grammar
-  pub not_too_late : (front : List ℕ) (c : ℕ) → used ≡ front ++ c ∷ [] → Loosely limit front
+  -- without its last character it is viable in the loose grammar
+  pub not_too_late : (front : List ℕ) (c : ℕ) → used ≡ front ++ c ∷ [] → IsLooselyViable limit front
 
 -- begins a string, a number or a container
 abbrev pub begins_growth : ℕ → Bool

@@ -3,10 +3,10 @@ use Rattle.std.proofs.Common.{◌≡◌, ◌+◌, max, ◌∷◌, [], refl, ap, 
 use Rattle.std.specs.Int.{Width}
 use Rattle.tinyjson.specs.Tree as tree
 use Rattle.tinyjson.specs.Syntax.{Syntax, Elements, Pairs, null, boolean, number, string, empty_array, array, empty_object, object, last_element, element, last_pair, pair, is_key, tree_of, elements_trees, pairs_members, IsStrictAt, ElementsAreStrictAt, PairsAreStrictAt, IsSpelled, AreElements, ArePairs, depth, elements_depth, pairs_depth}
-use Rattle.tinyjson_laws.specs.WhiteSpace.{bare, bare_elements, bare_pairs}
+use Rattle.tinyjson_laws.specs.WhiteSpace.{bare_value, bare_elements, bare_pairs}
 
 mutual
-  pub bare-spelled : (s : Syntax) → IsSpelled s → IsSpelled (bare s)
+  pub bare-spelled : (s : Syntax) → IsSpelled s → IsSpelled (bare_value s)
   bare-spelled null h = tt
   bare-spelled (boolean b) h = tt
   bare-spelled (number n) h = h
@@ -25,7 +25,7 @@ mutual
   bare-pairs-spelled (pair a k b c s d ps) h = (tt, bare-spelled k h.1, tt, tt, bare-spelled s h.4, tt, bare-pairs-spelled ps h.6)
 
 mutual
-  pub bare-depth : (s : Syntax) → depth (bare s) ≡ depth s
+  pub bare-depth : (s : Syntax) → depth (bare_value s) ≡ depth s
   bare-depth null = refl
   bare-depth (boolean b) = refl
   bare-depth (number n) = refl
@@ -44,7 +44,7 @@ mutual
   bare-pairs-depth (pair a k b c s d ps) = λ i. max (max (bare-depth k i) (bare-depth s i)) (bare-pairs-depth ps i)
 
 mutual
-  pub bare-tree : (s : Syntax) → tree_of (bare s) ≡ tree_of s
+  pub bare-tree : (s : Syntax) → tree_of (bare_value s) ≡ tree_of s
   bare-tree null = refl
   bare-tree (boolean b) = refl
   bare-tree (number n) = refl
@@ -62,7 +62,7 @@ mutual
   bare-members (last_pair a k b c s d) ms = λ i. tree.put (tree.key_of (bare-tree k i)) (bare-tree s i) ms
   bare-members (pair a k b c s d ps) ms = ap (λ z. pairs_members z (bare_pairs ps)) (λ i. tree.put (tree.key_of (bare-tree k i)) (bare-tree s i) ms) ∙ bare-members ps (tree.put (tree.key_of (tree_of k)) (tree_of s) ms)
 
-pub bare-key : (s : Syntax) → is_key (bare s) ≡ is_key s
+pub bare-key : (s : Syntax) → is_key (bare_value s) ≡ is_key s
 bare-key null = refl
 bare-key (boolean b) = refl
 bare-key (number n) = refl
@@ -74,7 +74,7 @@ bare-key (object ps) = refl
 
 -- what is strict without white space is so with it, and the reverse: the condition is the same type
 mutual
-  pub bare-strict : (width : Width) (s : Syntax) → IsStrictAt width (bare s) ≡ IsStrictAt width s
+  pub bare-strict : (width : Width) (s : Syntax) → IsStrictAt width (bare_value s) ≡ IsStrictAt width s
   bare-strict width null = refl
   bare-strict width (boolean b) = refl
   bare-strict width (number n) = refl

@@ -7,16 +7,16 @@ use Rattle.tinyjson.specs.Tree as tree
 use Rattle.tinyjson.specs.Characters.{is_white}
 use Rattle.tinyjson.specs.Syntax.{Syntax, null, boolean, number, string, empty_array, array, empty_object, object, text, AreWhite, IsSpelled, IsWithin}
 use Rattle.tinyjson.specs.Grammar.{IsLoose, IsAccepted}
-use Rattle.tinyjson.specs.Continuation.{IsAlive, IsMidway, IsBrokenText, Loosely}
+use Rattle.tinyjson.specs.Continuation.{IsViable, IsFaultless, IsCutOffText, IsLooselyViable}
 use Rattle.tinyjson.specs.Refusal.{begins_value}
-use Rattle.tinyjson.proofs.Grammar.Midway.{alive-before}
-use Rattle.tinyjson_laws.proofs.Midways.{midway-loosely}
-use Rattle.tinyjson_laws.specs.Beginnings.{AcceptedIsLoose, EmptyIsAlive, AliveIsMidway, MidwayIsLooselyAlive, DeadStaysDead, ValuesBegin, DeadAtFirst, IsShortest, ShortestInOrder, RefusedNotTooSoon, RefusedAtEnd, RefusedNotTooLate}
+use Rattle.tinyjson.proofs.Grammar.Faultless.{viable-before}
+use Rattle.tinyjson_laws.proofs.Faultless.{faultless-loosely}
+use Rattle.tinyjson_laws.specs.Beginnings.{AcceptedIsLoose, EmptyIsViable, ViableIsFaultless, FaultlessIsLooselyViable, UnviableStaysSo, ValuesBegin, UnviableAtFirst, IsShortest, ShortestInOrder, RefusedNotTooSoon, RefusedAtEnd, RefusedNotTooLate}
 
 pub accepted_is_loose : AcceptedIsLoose
 accepted_is_loose limit xs h = h.1.loose
 
--- ---- alive, midway, dead
+-- ---- viable, faultless, unviable
 
 abbrev null_text : List ℕ
 null_text = text null
@@ -35,20 +35,20 @@ null-accepted limit = (
   },
 )
 
-pub empty_is_alive : EmptyIsAlive
-empty_is_alive limit = let a = null-accepted limit in ((null_text, a), (null_text, accepted_is_loose limit null_text a))
+pub empty_is_viable : EmptyIsViable
+empty_is_viable limit = let a = null-accepted limit in ((null_text, a), (null_text, accepted_is_loose limit null_text a))
 
-pub alive_is_midway : AliveIsMidway
-alive_is_midway limit xs h = (h.0, inl h.1)
+pub viable_is_faultless : ViableIsFaultless
+viable_is_faultless limit xs h = (h.0, inl h.1)
 
-pub midway_is_loosely_alive : MidwayIsLooselyAlive
-midway_is_loosely_alive limit xs h = midway-loosely limit xs h
+pub faultless_is_loosely_viable : FaultlessIsLooselyViable
+faultless_is_loosely_viable limit xs h = faultless-loosely limit xs h
 
-pub dead_stays_dead : DeadStaysDead
-dead_stays_dead limit xs ys = (
-  λ h a. h (alive-before (IsAccepted limit) xs ys a),
-  λ h a. h (alive-before (IsLoose limit) xs ys a),
-  λ h a. h (alive-before (λ zs. IsAccepted limit zs ⊎ IsBrokenText limit zs) xs ys a),
+pub unviable_stays_so : UnviableStaysSo
+unviable_stays_so limit xs ys = (
+  λ h a. h (viable-before (IsAccepted limit) xs ys a),
+  λ h a. h (viable-before (IsLoose limit) xs ys a),
+  λ h a. h (viable-before (λ zs. IsAccepted limit zs ⊎ IsCutOffText limit zs) xs ys a),
 )
 
 -- ---- how a value begins
@@ -115,8 +115,8 @@ no-first c (d ∷ ds) s v xs hw hs n b e =
     let white : is_white c ≡ true = subst (λ k. IsTrue (is_white k)) (sym (same_first c d xs (ds ++ (text s ++ v)) e)) hw.0 in
     false≢true (sym n ∙ white)
 
-pub dead_at_first : DeadAtFirst
-dead_at_first limit c xs n b h = let l = h.1 in no-first c l.before l.value l.after (xs ++ h.0) l.white_before l.spelled n b l.whole
+pub unviable_at_first : UnviableAtFirst
+unviable_at_first limit c xs n b h = let l = h.1 in no-first c l.before l.value l.after (xs ++ h.0) l.white_before l.spelled n b l.whole
 
 -- ---- lengths
 
@@ -126,8 +126,8 @@ shortest-first P Q xs m n f p q = ⊎_elim (λ l. absurd (p.least n l (λ h. q.f
 
 pub shortest_in_order : ShortestInOrder
 shortest_in_order limit xs = (
-  λ d m. shortest-first (IsAlive (IsAccepted limit)) (IsMidway limit) xs d m (alive_is_midway limit),
-  λ m l. shortest-first (IsMidway limit) (Loosely limit) xs m l (midway_is_loosely_alive limit),
+  λ d m. shortest-first (IsViable (IsAccepted limit)) (IsFaultless limit) xs d m (viable_is_faultless limit),
+  λ m l. shortest-first (IsFaultless limit) (IsLooselyViable limit) xs m l (faultless_is_loosely_viable limit),
 )
 
 -- ---- refusals
@@ -139,7 +139,7 @@ take-front (x ∷ xs) ys = ap (λ zs. x ∷ zs) (take-front xs ys)
 pub refused_not_too_soon : RefusedNotTooSoon
 refused_not_too_soon limit k used [] r m h = let l = length-append used [] in omega (arith, h.within, l)
 refused_not_too_soon limit k used (c ∷ more) r m h = ⊎_elim
-    (λ l. absurd (h.least (length (used ++ c ∷ [])) l (λ a. r.not_too_soon c more refl (subst (IsMidway limit) (ap (take (length (used ++ c ∷ []))) (sym (append_assoc used (c ∷ []) more)) ∙ take-front (used ++ c ∷ []) more) a))))
+    (λ l. absurd (h.least (length (used ++ c ∷ [])) l (λ a. r.not_too_soon c more refl (subst (IsFaultless limit) (ap (take (length (used ++ c ∷ []))) (sym (append_assoc used (c ∷ []) more)) ∙ take-front (used ++ c ∷ []) more) a))))
     (λ l. let e = length-append used (c ∷ []) in omega (arith, l, e)) (cases_lt (length (used ++ c ∷ [])) m)
 
 pub refused_at_end : RefusedAtEnd
@@ -147,7 +147,7 @@ refused_at_end limit k used [] r h = refl
 refused_at_end limit k used (c ∷ more) r h =
     let e : (used ++ c ∷ []) ++ more ≡ used ++ c ∷ more = append_assoc used (c ∷ []) more in
     let l = length-append (used ++ c ∷ []) more in
-    absurd (h (length (used ++ c ∷ [])) (omega (arith, ap length e, l)) (λ a. r.not_too_soon c more refl (subst (IsMidway limit) (ap (take (length (used ++ c ∷ []))) (sym e) ∙ take-front (used ++ c ∷ []) more) a)))
+    absurd (h (length (used ++ c ∷ [])) (omega (arith, ap length e, l)) (λ a. r.not_too_soon c more refl (subst (IsFaultless limit) (ap (take (length (used ++ c ∷ []))) (sym e) ∙ take-front (used ++ c ∷ []) more) a)))
 
 last_of : (xs : List ℕ) → (xs ≡ []) ⊎ ((front : List ℕ) × (c : ℕ) × (xs ≡ front ++ c ∷ []))
 last_of [] = inl refl
@@ -168,4 +168,4 @@ refused_not_too_late limit k used rest r l h = ⊎_elim (λ s. absurd (early s (
         let t = take-within l f.0 ((f.1 ∷ []) ++ rest) (omega (arith, s, ap length f.2, n)) in
         let same : f.0 ++ ((f.1 ∷ []) ++ rest) ≡ used ++ rest = sym (append_assoc f.0 (f.1 ∷ []) rest) ∙ ap (λ xs. xs ++ rest) (sym f.2) in
         let whole : f.0 ≡ take l (used ++ rest) ++ t.0 = t.1 ∙ ap (λ xs. take l xs ++ t.0) same in
-        h.fails (alive-before (λ us. IsLoose limit us) (take l (used ++ rest)) t.0 (subst (Loosely limit) whole (r.not_too_late f.0 f.1 f.2)))
+        h.fails (viable-before (λ us. IsLoose limit us) (take l (used ++ rest)) t.0 (subst (IsLooselyViable limit) whole (r.not_too_late f.0 f.1 f.2)))

@@ -14,7 +14,7 @@ use Rattle.tinyjson.specs.Tree.{Tree, Items, Members, no_items, item, no_members
 use Rattle.tinyjson.specs.Characters.{is_white}
 use Rattle.tinyjson.specs.Syntax.{pair, last_pair, null, boolean, string, plain, pairs_members}
 use Rattle.tinyjson.specs.Grammar.{IsText, IsAccepted}
-use Rattle.tinyjson.specs.Continuation.{IsAlive, IsMidway, Loosely}
+use Rattle.tinyjson.specs.Continuation.{IsViable, IsFaultless, IsLooselyViable}
 use Rattle.tinyjson.specs.Soundness.{IsTree, tree_depth}
 use Rattle.tinyjson.specs.Text.{compact, indented, quoted}
 use Rattle.tinyjson.specs.Refusal.{begins_value, IsRefusal}
@@ -23,7 +23,7 @@ use Rattle.tinyjson.specs.declared.parser.error.JsonParseErrorKind.TheVariants.{
 use Rattle.tinyjson.proofs.Grammar.Theorem.{accepts, refuses}
 use Rattle.tinyjson_laws.specs.Beginnings.{IsShortest}
 use Rattle.tinyjson_laws.specs.WhiteSpace.{without_white}
-use Rattle.tinyjson_laws.proofs.BeginningLaws.{empty_is_alive, alive_is_midway, midway_is_loosely_alive, dead_at_first}
+use Rattle.tinyjson_laws.proofs.BeginningLaws.{empty_is_viable, viable_is_faultless, faultless_is_loosely_viable, unviable_at_first}
 
 -- ---- a document, as a tree and written
 
@@ -123,14 +123,14 @@ wide_range = (refl, refl, refl)
 -- ---- a refusal
 
 -- a list whose first character is at fault has shortest beginnings of all three kinds
-dead_from_the_first : (c : ℕ) (xs : List ℕ) → is_white c ≡ false → begins_value c ≡ false →
-    IsShortest (IsAlive (IsAccepted None)) (c ∷ xs) 1 × IsShortest (IsMidway None) (c ∷ xs) 1 × IsShortest (Loosely None) (c ∷ xs) 1
-dead_from_the_first c xs n b =
-    let dead = dead_at_first None c [] n b in
-    let alive = empty_is_alive None in (
-      record { within = omega arith; fails = λ a. dead (midway_is_loosely_alive None (c ∷ []) (alive_is_midway None (c ∷ []) a)); least = λ k l d. d (first-only k l (IsAlive (IsAccepted None)) alive.0) },
-      record { within = omega arith; fails = λ m. dead (midway_is_loosely_alive None (c ∷ []) m); least = λ k l d. d (first-only k l (IsMidway None) (alive_is_midway None [] alive.0)) },
-      record { within = omega arith; fails = dead; least = λ k l d. d (first-only k l (Loosely None) alive.1) },
+unviable_from_the_first : (c : ℕ) (xs : List ℕ) → is_white c ≡ false → begins_value c ≡ false →
+    IsShortest (IsViable (IsAccepted None)) (c ∷ xs) 1 × IsShortest (IsFaultless None) (c ∷ xs) 1 × IsShortest (IsLooselyViable None) (c ∷ xs) 1
+unviable_from_the_first c xs n b =
+    let unviable = unviable_at_first None c [] n b in
+    let viable = empty_is_viable None in (
+      record { within = omega arith; fails = λ a. unviable (faultless_is_loosely_viable None (c ∷ []) (viable_is_faultless None (c ∷ []) a)); least = λ k l d. d (first-only k l (IsViable (IsAccepted None)) viable.0) },
+      record { within = omega arith; fails = λ m. unviable (faultless_is_loosely_viable None (c ∷ []) m); least = λ k l d. d (first-only k l (IsFaultless None) (viable_is_faultless None [] viable.0)) },
+      record { within = omega arith; fails = unviable; least = λ k l d. d (first-only k l (IsLooselyViable None) viable.1) },
     )
   where
     first-only : (k : ℕ) → k < 1 → (P : List ℕ → Type 0) → P [] → P (take k (c ∷ xs))

@@ -11,6 +11,6 @@ pub mod LayoutLaws
 pub mod Bare
 pub mod WhiteSpaceLaws
 pub mod MemberLaws
-pub mod Midways
+pub mod Faultless
 pub mod BeginningLaws
 pub mod Examples

@@ -1,21 +1,20 @@
 -- Decimals and the texts that spell them.
-use Rattle.std.proofs.Common.{ℕ, List, sym, ap, ◌∙◌, subst}
+use Rattle.std.proofs.Common.{ℕ, List, sym, ap, subst}
 use Rattle.std.specs.Prelude.{IsTrue}
 use Rattle.tinyjson_number.specs.Decimal.{Decimal}
-use Rattle.tinyjson_number.specs.Numeral.{power_width, value, fits_in}
+use Rattle.tinyjson_number.specs.Numeral.{power_width, fits_in}
 use Rattle.tinyjson_number.specs.Canonical.{IsDecimal, IsDecimalAt}
 use Rattle.tinyjson_number.specs.NumberText.{IsNumberText}
 use Rattle.tinyjson_number.specs.Text.{decimal_text}
 use Rattle.tinyjson_number.proofs.Canonicals.{value-canonical}
-use Rattle.tinyjson_number.proofs.DecimalTrip.{decimal-spelt, decimal-fits}
-use Rattle.tinyjson_number.proofs.Literals.{one_numeral}
+use Rattle.tinyjson_number.proofs.Laws as number_laws
 use Rattle.tinyjson_laws.specs.Numbers.{OneDecimal, DecimalsHaveTexts, DecimalReadsBack, SameDecimal}
 
 pub one_decimal : OneDecimal
-one_decimal text d e h j = sym h.2 ∙ ap value (one_numeral text h.0 j.0 h.1 j.1) ∙ j.2
+one_decimal text d e h j = number_laws.one_decimal power_width power_width text d e h j
 
 pub decimal_reads_back : DecimalReadsBack
-decimal_reads_back d h = let s = decimal-spelt power_width d h in (s.numeral, record { well_formed = s.is; no_leading_zero = s.plain; spelled = s.text }, s.value, decimal-fits power_width d h)
+decimal_reads_back d h = number_laws.text_is_number power_width d h
 
 spelt-canonical : (text : List ℕ) (d : Decimal) → IsNumberText text d → IsDecimal d
 spelt-canonical text d h = subst (IsDecimalAt power_width) h.2 (value-canonical power_width h.0 h.1.well_formed (subst (λ e. IsTrue (fits_in power_width e)) (sym h.2) h.3))

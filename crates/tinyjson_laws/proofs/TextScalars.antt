@@ -1,16 +1,13 @@
 -- The characters of a text of the grammar are scalar values.
-use Rattle.std.proofs.Common.{ℕ, Bool, true, false, List, [], ◌∷◌, ◌++◌, Option, Some, None, refl, arith, IsTrue, ◌||◌, ◌==◌}
+use Rattle.std.proofs.Common.{ℕ, Bool, true, false, List, [], ◌∷◌, Option, Some, None, refl, arith, IsTrue, ◌||◌, ◌==◌}
 use Rattle.std.specs.Prelude.{IfSome, IsSome}
 use Rattle.std.specs.Char.{IsScalar, is_ascii_digit}
 use Rattle.std.specs.Str.{all_scalars}
-use Rattle.std.proofs.lemmas.Bool.{and_from, and_parts}
+use Rattle.std.proofs.lemmas.Bool.{and_from}
 use Rattle.tinyjson_number.specs.Numeral.{Numeral, Exponent, IsNumeral, IsExponent, AreDigits, minus_text, sign_text, fraction_text, exponent_text, spelling}
 use Rattle.tinyjson.specs.Characters.{is_white, is_hex, short_escape}
 use Rattle.tinyjson.specs.Syntax.{Syntax, Elements, Pairs, null, boolean, number, string, empty_array, array, empty_object, object, last_element, element, last_pair, pair, Piece, plain, escape, unit, piece_text, pieces_text, IsPiece, ArePieces, text, elements_text, pairs_text, AreWhite, IsSpelled, AreElements, ArePairs}
-
-pub scalars-append : (xs ys : List ℕ) → IsTrue (all_scalars xs) → IsTrue (all_scalars ys) → IsTrue (all_scalars (xs ++ ys))
-scalars-append [] ys h k = k
-scalars-append (x ∷ xs) ys h k = let p = and_parts _ (all_scalars xs) h in and_from _ _ p.0 (scalars-append xs ys p.1 k)
+use Rattle.tinyjson.proofs.Scalars.{scalars-append}
 
 digit-scalar : (c : ℕ) → IsTrue (is_ascii_digit c) → IsScalar c
 digit-scalar c h = grind arith

@@ -5,7 +5,7 @@ use Rattle.std.specs.Char.{is_ascii_digit}
 use Rattle.tinyjson.specs.Characters.{is_white, is_hex}
 use Rattle.tinyjson_number.specs.Numeral.{Numeral, Exponent, IsNumeral, IsExponent, AreDigits, minus_text, sign_text, fraction_text, exponent_text, spelling}
 use Rattle.tinyjson.specs.Syntax.{Syntax, Elements, Pairs, null, boolean, number, string, empty_array, array, empty_object, object, last_element, element, last_pair, pair, Piece, plain, escape, unit, pieces_text, ArePieces, text, elements_text, pairs_text, AreWhite, IsSpelled, IsStrictAt, tree_of, AreElements, ArePairs}
-use Rattle.tinyjson_laws.specs.WhiteSpace.{bare, bare_elements, bare_pairs}
+use Rattle.tinyjson_laws.specs.WhiteSpace.{bare_value, bare_elements, bare_pairs}
 use Rattle.tinyjson_laws.specs.WhiteSpace.{outside, in_string, kept_from, without_white, WhiteRemoved, SameButWhite, WhiteChangesNothing}
 use Rattle.tinyjson.specs.Grammar.{IsLoose, IsText}
 use Rattle.tinyjson.proofs.Grammar.Texts.{one-tree}
@@ -98,7 +98,7 @@ string-kept ps xs h =
     ∙ ap (λ z. 34 ∷ z) (pieces-stay ps xs h ∙ sym (append_assoc (pieces_text ps) (34 ∷ []) (kept_from outside xs)))
 
 mutual
-  pub value-kept : (s : Syntax) (xs : List ℕ) → IsSpelled s → kept_from outside (text s ++ xs) ≡ text (bare s) ++ kept_from outside xs
+  pub value-kept : (s : Syntax) (xs : List ℕ) → IsSpelled s → kept_from outside (text s ++ xs) ≡ text (bare_value s) ++ kept_from outside xs
   value-kept null xs h = refl
   value-kept (boolean true) xs h = refl
   value-kept (boolean false) xs h = refl
@@ -116,37 +116,37 @@ mutual
   elements-kept : (es : Elements) (xs : List ℕ) → AreElements es → kept_from outside (elements_text es ++ xs) ≡ elements_text (bare_elements es) ++ kept_from outside xs
   elements-kept (last_element v s w) xs h =
       ap (kept_from outside) (last_element-assoc v (text s) w xs)
-      ∙ white-goes v _ h.0 ∙ value-kept s (w ++ xs) h.1 ∙ ap (λ z. text (bare s) ++ z) (white-goes w xs h.2)
-      ∙ sym (last_element-assoc [] (text (bare s)) [] (kept_from outside xs))
+      ∙ white-goes v _ h.0 ∙ value-kept s (w ++ xs) h.1 ∙ ap (λ z. text (bare_value s) ++ z) (white-goes w xs h.2)
+      ∙ sym (last_element-assoc [] (text (bare_value s)) [] (kept_from outside xs))
   elements-kept (element v s w es) xs h =
       ap (kept_from outside) (element-assoc v (text s) w (elements_text es) xs)
-      ∙ white-goes v _ h.0 ∙ value-kept s _ h.1 ∙ ap (λ z. text (bare s) ++ z) (white-goes w _ h.2 ∙ ap (λ z. 44 ∷ z) (elements-kept es xs h.3))
-      ∙ sym (element-assoc [] (text (bare s)) [] (elements_text (bare_elements es)) (kept_from outside xs))
+      ∙ white-goes v _ h.0 ∙ value-kept s _ h.1 ∙ ap (λ z. text (bare_value s) ++ z) (white-goes w _ h.2 ∙ ap (λ z. 44 ∷ z) (elements-kept es xs h.3))
+      ∙ sym (element-assoc [] (text (bare_value s)) [] (elements_text (bare_elements es)) (kept_from outside xs))
 
   pairs-kept : (ps : Pairs) (xs : List ℕ) → ArePairs ps → kept_from outside (pairs_text ps ++ xs) ≡ pairs_text (bare_pairs ps) ++ kept_from outside xs
   pairs-kept (last_pair a k b c s d) xs h =
       ap (kept_from outside) (last_pair-assoc a (text k) b c (text s) d xs)
-      ∙ white-goes a _ h.0 ∙ value-kept k _ h.1 ∙ ap (λ z. text (bare k) ++ z) (white-goes b _ h.2 ∙ ap (λ z. 58 ∷ z) (white-goes c _ h.3 ∙ value-kept s _ h.4 ∙ ap (λ z. text (bare s) ++ z) (white-goes d xs h.5)))
-      ∙ sym (last_pair-assoc [] (text (bare k)) [] [] (text (bare s)) [] (kept_from outside xs))
+      ∙ white-goes a _ h.0 ∙ value-kept k _ h.1 ∙ ap (λ z. text (bare_value k) ++ z) (white-goes b _ h.2 ∙ ap (λ z. 58 ∷ z) (white-goes c _ h.3 ∙ value-kept s _ h.4 ∙ ap (λ z. text (bare_value s) ++ z) (white-goes d xs h.5)))
+      ∙ sym (last_pair-assoc [] (text (bare_value k)) [] [] (text (bare_value s)) [] (kept_from outside xs))
   pairs-kept (pair a k b c s d ps) xs h =
       ap (kept_from outside) (pair-assoc a (text k) b c (text s) d (pairs_text ps) xs)
-      ∙ white-goes a _ h.0 ∙ value-kept k _ h.1 ∙ ap (λ z. text (bare k) ++ z) (white-goes b _ h.2 ∙ ap (λ z. 58 ∷ z) (white-goes c _ h.3 ∙ value-kept s _ h.4 ∙ ap (λ z. text (bare s) ++ z) (white-goes d _ h.5 ∙ ap (λ z. 44 ∷ z) (pairs-kept ps xs h.6))))
-      ∙ sym (pair-assoc [] (text (bare k)) [] [] (text (bare s)) [] (pairs_text (bare_pairs ps)) (kept_from outside xs))
+      ∙ white-goes a _ h.0 ∙ value-kept k _ h.1 ∙ ap (λ z. text (bare_value k) ++ z) (white-goes b _ h.2 ∙ ap (λ z. 58 ∷ z) (white-goes c _ h.3 ∙ value-kept s _ h.4 ∙ ap (λ z. text (bare_value s) ++ z) (white-goes d _ h.5 ∙ ap (λ z. 44 ∷ z) (pairs-kept ps xs h.6))))
+      ∙ sym (pair-assoc [] (text (bare_value k)) [] [] (text (bare_value s)) [] (pairs_text (bare_pairs ps)) (kept_from outside xs))
 
 -- ---- texts
 
-without-white : (limit : Option ℕ) (xs : List ℕ) (l : IsLoose limit xs) → without_white xs ≡ text (bare l.value)
+without-white : (limit : Option ℕ) (xs : List ℕ) (l : IsLoose limit xs) → without_white xs ≡ text (bare_value l.value)
 without-white limit xs l =
     ap without_white l.whole
     ∙ white-goes l.before _ l.white_before
     ∙ value-kept l.value l.after l.spelled
-    ∙ ap (λ z. text (bare l.value) ++ z) (ap (kept_from outside) (sym (append-nil l.after)) ∙ white-goes l.after [] l.white_after)
-    ∙ append-nil (text (bare l.value))
+    ∙ ap (λ z. text (bare_value l.value) ++ z) (ap (kept_from outside) (sym (append-nil l.after)) ∙ white-goes l.after [] l.white_after)
+    ∙ append-nil (text (bare_value l.value))
 
 pub white_removed : WhiteRemoved
 white_removed limit xs t h =
     let l = h.loose in record {
-      loose = record { before = []; value = bare l.value; after = []; white_before = tt; spelled = bare-spelled l.value l.spelled; white_after = tt; shallow = rw (bare-depth l.value) l.shallow; whole = without-white limit xs l ∙ sym (append-nil (text (bare l.value))) };
+      loose = record { before = []; value = bare_value l.value; after = []; white_before = tt; spelled = bare-spelled l.value l.spelled; white_after = tt; shallow = rw (bare-depth l.value) l.shallow; whole = without-white limit xs l ∙ sym (append-nil (text (bare_value l.value))) };
       strict = subst (λ T. T) (sym (bare-strict power_width l.value)) h.strict;
       tree = h.tree ∙ sym (bare-tree l.value);
     }

@@ -1,22 +1,17 @@
 -- What fits 32 bits fits 64.
-use Rattle.std.proofs.Common.{ℕ, List, Option, IsTrue, arith}
+use Rattle.std.proofs.Common.{ℕ, List, Option}
 use Rattle.std.specs.Int.{w32, w64}
-use Rattle.std.proofs.lemmas.Int.{ints}
-use Rattle.tinyjson_number.specs.Decimal.{Decimal}
-use Rattle.tinyjson_number.specs.Numeral.{fits_in, power_fits, value}
+use Rattle.tinyjson_number.specs.Numeral.{value}
+use Rattle.tinyjson_number.proofs.Laws.{wider_fits}
 use Rattle.tinyjson.specs.Syntax.{Syntax, Elements, Pairs, null, boolean, number, string, empty_array, array, empty_object, object, last_element, element, last_pair, pair, IsStrictAt, ElementsAreStrictAt, PairsAreStrictAt}
 use Rattle.tinyjson.specs.Tree.{Tree}
 use Rattle.tinyjson.specs.Grammar.{IsTextAt}
-
-wider-fits : (d : Decimal) → IsTrue (fits_in w32 d) → IsTrue (fits_in w64 d)
-unfolding power_fits
-wider-fits d h = grind (arith, ints)
 
 mutual
   wider-value : (s : Syntax) → IsStrictAt w32 s → IsStrictAt w64 s
   wider-value null h = tt
   wider-value (boolean b) h = tt
-  wider-value (number n) h = (h.0, wider-fits (value n) h.1)
+  wider-value (number n) h = (h.0, wider_fits (value n).power h.1)
   wider-value (string ps) h = h
   wider-value (empty_array w) h = tt
   wider-value (array es) h = wider-elements es h

@@ -8,7 +8,9 @@ use Rattle.tinyjson.specs.Text as written
 use Rattle.tinyjson.proofs.Grammar.Texts.{one-tree}
 use Rattle.tinyjson_laws.specs.Writing.{CompactReadsBack, IndentedReadsBack, SameCompact, SameIndented, WrittenOnce, CompactWithin, IndentedWithin, LimitKept, TextsAreUtf8, CompactIsUtf8, IndentedIsUtf8}
 use Rattle.tinyjson_laws.proofs.ReadingLaws.{written-text, tree-within, rewritten}
-use Rattle.tinyjson_laws.proofs.TextScalars.{scalars-append, white-scalars, text-scalars}
+use Rattle.tinyjson.proofs.Scalars as trees
+use Rattle.tinyjson.proofs.Scalars.{scalars-append, encoded_utf8}
+use Rattle.tinyjson_laws.proofs.TextScalars.{white-scalars, text-scalars}
 
 pub compact_reads_back : CompactReadsBack
 compact_reads_back t h = written-text power_width None None 0 t tt h tt
@@ -47,7 +49,7 @@ texts_are_utf8 limit xs t h =
     (s, (xs, (s, refl)))
 
 pub compact_is_utf8 : CompactIsUtf8
-compact_is_utf8 t h = (texts_are_utf8 None (written.compact t) t (compact_reads_back t h)).1
+compact_is_utf8 t h = encoded_utf8 (written.compact t) (trees.text-scalars None tt 0 t h)
 
 pub indented_is_utf8 : IndentedIsUtf8
-indented_is_utf8 t indent i h = (texts_are_utf8 None (written.indented t indent 0) t (indented_reads_back t indent i h)).1
+indented_is_utf8 t indent i h = encoded_utf8 (written.indented t indent 0) (trees.text-scalars (Some indent) i 0 t h)

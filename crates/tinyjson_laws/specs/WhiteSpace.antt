@@ -19,14 +19,15 @@ place_after outside c = cond (c == 34) in_string outside
 place_after in_string c = cond (c == 34) outside (cond (c == 92) behind_backslash in_string)
 place_after behind_backslash c = in_string
 
-abbrev pub kept : Place → ℕ → List ℕ
-kept outside c = cond (is_white c) [] (c ∷ [])
-kept in_string c = c ∷ []
-kept behind_backslash c = c ∷ []
+-- the character, or nothing where it is white space outside a string
+abbrev pub kept_part : Place → ℕ → List ℕ
+kept_part outside c = cond (is_white c) [] (c ∷ [])
+kept_part in_string c = c ∷ []
+kept_part behind_backslash c = c ∷ []
 
 abbrev pub kept_from : Place → List ℕ → List ℕ
 kept_from p [] = []
-kept_from p (c ∷ cs) = kept p c ++ kept_from (place_after p c) cs
+kept_from p (c ∷ cs) = kept_part p c ++ kept_from (place_after p c) cs
 
 -- the list without the white space outside its strings
 abbrev pub without_white : List ℕ → List ℕ
@@ -44,24 +45,24 @@ SameButWhite = (limit : Option ℕ) (xs ys : List ℕ) (t u : Tree) → IsText l
 
 -- the value without the white space between its tokens
 abbrev mutual
-  pub bare : Syntax → Syntax
-  bare null = null
-  bare (boolean b) = boolean b
-  bare (number n) = number n
-  bare (string ps) = string ps
-  bare (empty_array w) = empty_array []
-  bare (array es) = array (bare_elements es)
-  bare (empty_object w) = empty_object []
-  bare (object ps) = object (bare_pairs ps)
+  pub bare_value : Syntax → Syntax
+  bare_value null = null
+  bare_value (boolean b) = boolean b
+  bare_value (number n) = number n
+  bare_value (string ps) = string ps
+  bare_value (empty_array w) = empty_array []
+  bare_value (array es) = array (bare_elements es)
+  bare_value (empty_object w) = empty_object []
+  bare_value (object ps) = object (bare_pairs ps)
 
   pub bare_elements : Elements → Elements
-  bare_elements (last_element v s w) = last_element [] (bare s) []
-  bare_elements (element v s w es) = element [] (bare s) [] (bare_elements es)
+  bare_elements (last_element v s w) = last_element [] (bare_value s) []
+  bare_elements (element v s w es) = element [] (bare_value s) [] (bare_elements es)
 
   pub bare_pairs : Pairs → Pairs
-  bare_pairs (last_pair a k b c s d) = last_pair [] (bare k) [] [] (bare s) []
-  bare_pairs (pair a k b c s d ps) = pair [] (bare k) [] [] (bare s) [] (bare_pairs ps)
+  bare_pairs (last_pair a k b c s d) = last_pair [] (bare_value k) [] [] (bare_value s) []
+  bare_pairs (pair a k b c s d ps) = pair [] (bare_value k) [] [] (bare_value s) [] (bare_pairs ps)
 
 -- where one of two lists that differ in the white space between tokens alone is a text, so is the other, with the same tree
 abbrev pub WhiteChangesNothing : Type 0
-WhiteChangesNothing = (limit : Option ℕ) (xs ys : List ℕ) (t : Tree) (h : IsText limit xs t) (m : IsLoose limit ys) → bare h.loose.value ≡ bare m.value → IsText limit ys t
+WhiteChangesNothing = (limit : Option ℕ) (xs ys : List ℕ) (t : Tree) (h : IsText limit xs t) (m : IsLoose limit ys) → bare_value h.loose.value ≡ bare_value m.value → IsText limit ys t

@@ -47,6 +47,6 @@ TextsAreUtf8 = (limit : Option ℕ) (xs : List ℕ) (t : Tree) → IsText limit 
 abbrev pub CompactIsUtf8 : Type 0
 CompactIsUtf8 = (t : Tree) → IsTree t → IsUtf8 (encode_utf8_all (compact t))
 
--- an indented text has a UTF-8, where the indent is white space
+-- an indented text has a UTF-8, where the indent has
 abbrev pub IndentedIsUtf8 : Type 0
-IndentedIsUtf8 = (t : Tree) (indent : List ℕ) → AreWhite indent → IsTree t → IsUtf8 (encode_utf8_all (indented t indent 0))
+IndentedIsUtf8 = (t : Tree) (indent : List ℕ) → IsTrue (all_scalars indent) → IsTree t → IsUtf8 (encode_utf8_all (indented t indent 0))

@@ -53,7 +53,7 @@ pub fn compact_is_utf8()
     ensures { CompactIsUtf8 }
 {}
 
-/// The characters of an indented text have an encoding in UTF-8, where the indent is white space.
+/// The characters of an indented text have an encoding in UTF-8, where those of the indent have.
 pub fn indented_is_utf8()
     ensures { IndentedIsUtf8 }
 {}

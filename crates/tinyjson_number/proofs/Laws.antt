@@ -22,7 +22,7 @@ text_is_number width d h = let s = decimal-spelt width d h in (s.numeral, record
 wider_bounds : (z : ℤ) → (int_le (neg_ℤ (pos (2 ^ 31))) z && int_lt z (pos (2 ^ 31))) ≡ true → (int_le (neg_ℤ (pos (2 ^ 63))) z && int_lt z (pos (2 ^ 63))) ≡ true
 wider_bounds z h = grind (arith, ints)
 
-wider_fits : (z : ℤ) → IsTrue (power_fits w32 z) → IsTrue (power_fits power_width z)
+pub wider_fits : (z : ℤ) → IsTrue (power_fits w32 z) → IsTrue (power_fits power_width z)
 unfolding power_fits
 wider_fits z h = wider_bounds z h
 

@@ -18,6 +18,15 @@ impl fmt::Display for JsonNumber {
     }
 }
 
+/// The same text as that of `Display`.
+impl fmt::Debug for JsonNumber {
+    ghost debug_output = { λ n. Some (decimal_text n.decimal) };
+
+    fn fmt<W: fmt::Write>(&self, f: &mut fmt::Formatter<W>) -> fmt::Result {
+        fmt::Display::fmt(self, f)
+    }
+}
+
 fn write_layout<W: fmt::Write>(f: &mut fmt::Formatter<W>, layout: Layout<'_>) -> fmt::Result
     ensures { WritesOnOk W.write_str_gives f.old result (layout_text layout.entry) f.new }
 {

@@ -13,7 +13,7 @@ use Rattle.tinyjson.specs.Machine.{Next, complete, step_word, step, end, end_dig
 use Rattle.std.proofs.Common.{length-append}
 use Rattle.tinyjson.proofs.Grammar.Paths.{Path, outside, item_in, key_in, value_in, path_text, path_frames, IsPath, within_le}
 use Rattle.tinyjson.proofs.Grammar.Spelt.{Part, part_point, part_fraction, part_letter, part_sign, part_exponent, part_text, part_stage, part_numeral, IsPart, Ranges, Read, at_first, at_awaited, in_word, in_digits, in_quoted, at_after, part_minus, part_whole, read_text, read_frames, read_phase, IsRead, IsWord, flat_within}
-use Rattle.tinyjson.proofs.Grammar.Alive.{midway-value, read-alive, read-prompt}
+use Rattle.tinyjson.proofs.Grammar.Viable.{faultless-value, read-viable, read-prompt}
 use Rattle.tinyjson.proofs.Grammar.Told.{Told, Follows, at_code, key-told}
 use Rattle.tinyjson.proofs.Grammar.Whole.{complete-follows, after-follows}
 use Rattle.tinyjson.proofs.Grammar.Spelt.{numeral}
@@ -54,7 +54,7 @@ word-told limit p hp s done l left h c hc more = (
     (path_text p, rw h.whole (rw (take-front done (l ∷ left)) (append_assoc (path_text p) done (c ∷ [])))),
     (λ e. eqb-false c l hc (sym e ∙ rw h.whole (index-front done l left))),
   ),
-  (path_text p ++ done, refl, midway-value limit p hp s h.value h.flat done (l ∷ left) h.whole),
+  (path_text p ++ done, refl, faultless-value limit p hp s h.value h.flat done (l ∷ left) h.whole),
 )
 
 -- no letter of a literal is a quote
@@ -115,7 +115,7 @@ Ends limit used fs q (accepted t) = IsText limit used t
 Ends limit used fs q (refused k rest) = (rest ≡ []) × Told limit k used [] × Cut limit k false fs q
 
 eof-told : Ranges → (limit : Option ℕ) (x : Read) → IsRead limit x → Told limit UnexpectedEof (read_text x) []
-eof-told ranges limit x h = (refl, (read-prompt ranges limit x h, read-alive limit x h))
+eof-told ranges limit x h = (refl, (read-prompt ranges limit x h, read-viable limit x h))
 
 abbrev EndsPlain : Option ℕ → List ℕ → List Frame → Phase → Next → Type 0
 EndsPlain limit used fs q n = Ends limit used fs q (end_plain n)

@@ -6,7 +6,7 @@ use Rattle.tinyjson.specs.Kind.{kind_of}
 use Rattle.tinyjson.specs.Tree as tree
 use Rattle.tinyjson_number.specs.Numeral.{Numeral, has_leading_zero, in_range, value}
 use Rattle.tinyjson.specs.Syntax.{Syntax, null, boolean, number, string, empty_array, array, empty_object, object, text, is_key, tree_of, depth}
-use Rattle.tinyjson.specs.Continuation.{IsValue, IsBrokenText, broken_text}
+use Rattle.tinyjson.specs.Continuation.{IsValue, IsCutOffText, cut_off_text}
 use Rattle.tinyjson.specs.Machine.{Rules, Frame, at_key, awaited, Next, next, stop, accepted, refused, complete, step, run, end, end_digits, step_digits, finish, unless_ended, go_on, digits, Stage, minus, whole, point, fraction, letter, sign, exponent}
 use Rattle.tinyjson.specs.declared.parser.error.JsonParseErrorKind.{JsonParseErrorKind}
 use Rattle.tinyjson.specs.declared.parser.error.JsonParseErrorKind.TheVariants.{KeyNotString, NumberOutOfRange, LeadingZero}
@@ -15,7 +15,7 @@ use Rattle.tinyjson.proofs.Grammar.Runs.{run-white}
 use Rattle.tinyjson.proofs.Grammar.Numerals.{run-spelling, last_stage, fine-zero}
 use Rattle.tinyjson.proofs.Grammar.Values.{run-value, less-within, HasRoom, Ends, ends, string-key}
 use Rattle.tinyjson.proofs.Grammar.Texts.{rules}
-use Rattle.tinyjson.proofs.Grammar.Broken.{BadKey, bad-key}
+use Rattle.tinyjson.proofs.Grammar.CutOff.{BadKey, bad-key}
 
 -- ---- what a character can do to a numeral
 
@@ -118,22 +118,22 @@ bad_key-never r ms fs (object ps) ys t h v b m e = refused-accepted _ _ t (sym (
 
 -- ---- texts that end with their first key that is no string
 
-pub broken-key : (limit : Option ℕ) (xs : List ℕ) (h : IsBrokenText limit xs) → BadKey (rules true limit) [] h.broken
-broken-key limit xs h = bad-key h.broken (rules true limit) [] h.is_broken (less-within limit _ _ h.shallow (omega arith))
+pub cut_off-key : (limit : Option ℕ) (xs : List ℕ) (h : IsCutOffText limit xs) → BadKey (rules true limit) [] h.cut_off
+cut_off-key limit xs h = bad-key h.cut_off (rules true limit) [] h.is_cut_off (less-within limit _ _ h.shallow (omega arith))
 
-broken-reads : (limit : Option ℕ) (xs : List ℕ) (h : IsBrokenText limit xs) (ys : List ℕ) →
-    run (rules true limit) [] awaited (xs ++ ys) ≡ run (rules true limit) (at_key (broken-key limit xs h).members ∷ (broken-key limit xs h).frames) awaited (text (broken-key limit xs h).key ++ ys)
-broken-reads limit xs h ys = ap (λ zs. run (rules true limit) [] awaited (zs ++ ys)) h.whole ∙ rw (append_assoc h.before (broken_text h.broken) ys) (run-white (rules true limit) [] h.before _ h.white_before ∙ (broken-key limit xs h).reads ys)
+cut_off-reads : (limit : Option ℕ) (xs : List ℕ) (h : IsCutOffText limit xs) (ys : List ℕ) →
+    run (rules true limit) [] awaited (xs ++ ys) ≡ run (rules true limit) (at_key (cut_off-key limit xs h).members ∷ (cut_off-key limit xs h).frames) awaited (text (cut_off-key limit xs h).key ++ ys)
+cut_off-reads limit xs h ys = ap (λ zs. run (rules true limit) [] awaited (zs ++ ys)) h.whole ∙ rw (append_assoc h.before (cut_off_text h.cut_off) ys) (run-white (rules true limit) [] h.before _ h.white_before ∙ (cut_off-key limit xs h).reads ys)
 
-pub broken-refused : (limit : Option ℕ) (xs : List ℕ) (h : IsBrokenText limit xs) (ys : List ℕ) → Ends (broken-key limit xs h).key ys →
-    run (rules true limit) [] awaited (xs ++ ys) ≡ refused (KeyNotString (kind_of (tree_of (broken-key limit xs h).key))) ys
-broken-refused limit xs h ys d = let b = broken-key limit xs h in
-    broken-reads limit xs h ys ∙ refused-key (rules true limit) b.members b.frames b.key ys refl b.value b.no_string b.room d
+pub cut_off-refused : (limit : Option ℕ) (xs : List ℕ) (h : IsCutOffText limit xs) (ys : List ℕ) → Ends (cut_off-key limit xs h).key ys →
+    run (rules true limit) [] awaited (xs ++ ys) ≡ refused (KeyNotString (kind_of (tree_of (cut_off-key limit xs h).key))) ys
+cut_off-refused limit xs h ys d = let b = cut_off-key limit xs h in
+    cut_off-reads limit xs h ys ∙ refused-key (rules true limit) b.members b.frames b.key ys refl b.value b.no_string b.room d
 
 -- the end behind it
-pub broken-end : (limit : Option ℕ) (xs : List ℕ) → IsBrokenText limit xs → (t : tree.Tree) × (run (rules true limit) [] awaited xs ≡ refused (KeyNotString (kind_of t)) [])
-broken-end limit xs h = (_, rw (append-nil xs) at (broken-refused limit xs h [] (ends (broken-key limit xs h).key [] tt)))
+pub cut_off-end : (limit : Option ℕ) (xs : List ℕ) → IsCutOffText limit xs → (t : tree.Tree) × (run (rules true limit) [] awaited xs ≡ refused (KeyNotString (kind_of t)) [])
+cut_off-end limit xs h = (_, rw (append-nil xs) at (cut_off-refused limit xs h [] (ends (cut_off-key limit xs h).key [] tt)))
 
-pub broken-never : (limit : Option ℕ) (xs : List ℕ) → IsBrokenText limit xs → (ys : List ℕ) (t : tree.Tree) → run (rules true limit) [] awaited (xs ++ ys) ≡ accepted t → ⊥
-broken-never limit xs h ys t e = let b = broken-key limit xs h in
-    bad_key-never (rules true limit) b.members b.frames b.key ys t refl b.value b.no_string b.room (sym (broken-reads limit xs h ys) ∙ e)
+pub cut_off-never : (limit : Option ℕ) (xs : List ℕ) → IsCutOffText limit xs → (ys : List ℕ) (t : tree.Tree) → run (rules true limit) [] awaited (xs ++ ys) ≡ accepted t → ⊥
+cut_off-never limit xs h ys t e = let b = cut_off-key limit xs h in
+    bad_key-never (rules true limit) b.members b.frames b.key ys t refl b.value b.no_string b.room (sym (cut_off-reads limit xs h ys) ∙ e)

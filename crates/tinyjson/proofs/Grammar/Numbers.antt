@@ -15,7 +15,7 @@ use Rattle.tinyjson_number.specs.Numeral.{is_sign}
 use Rattle.tinyjson_number.specs.Numeral.{is_exponent_letter}
 use Rattle.tinyjson.proofs.Grammar.Paths.{Path, outside, item_in, key_in, value_in, path_text, path_frames, IsPath}
 use Rattle.tinyjson.proofs.Grammar.Spelt.{Part, part_point, part_fraction, part_letter, part_sign, part_exponent, part_text, part_stage, part_numeral, IsPart, IsWhole, Ranges, in_digits, part_minus, part_whole, Spells, flat_within, ends-loosely}
-use Rattle.tinyjson.proofs.Grammar.Alive.{part-ending, part-prompt, midway-minus, midway-point}
+use Rattle.tinyjson.proofs.Grammar.Viable.{part-ending, part-prompt, faultless-minus, faultless-point}
 use Rattle.tinyjson.proofs.Grammar.Told.{Told, Follows, either, key-told}
 use Rattle.tinyjson.proofs.Grammar.Never.{key-never, zero-never}
 use Rattle.tinyjson.proofs.Grammar.Told.{loosely, NoQuoteFrom}
@@ -37,7 +37,7 @@ last-digit d (e ∷ es) h = let r = last-digit e es h.1 in (d ∷ r.0, r.1, r.2,
 
 module _ (ranges : Ranges) (limit : Option ℕ) (p : Path) (hp : IsPath limit p) where
   pub minus-told : (rest : List ℕ) → BeginsWithNone is_ascii_digit rest → Told limit EmptyInteger (path_text p ++ 45 ∷ []) rest
-  minus-told rest h = (((path_text p, refl), h), (midway-minus ranges limit p hp, ends-loosely limit p hp _ (part-ending part_minus tt)))
+  minus-told rest h = (((path_text p, refl), h), (faultless-minus ranges limit p hp, ends-loosely limit p hp _ (part-ending part_minus tt)))
 
   pub zero-told : (b : Bool) (d : ℕ) (ds : List ℕ) → AreDigits (d ∷ ds) → IsTrue (has_leading_zero (d ∷ ds)) → (rest : List ℕ) → BeginsWithNone is_ascii_digit rest →
       Told limit LeadingZero (path_text p ++ (minus_text b ++ d ∷ ds)) rest
@@ -48,7 +48,7 @@ module _ (ranges : Ranges) (limit : Option ℕ) (p : Path) (hp : IsPath limit p)
   point-told b d ds h rest e =
       let l : LastDigit d ds = last-digit d ds h.0 in (
         (l.1, l.2, (path_text p ++ (minus_text b ++ l.0), ap (λ xs. path_text p ++ (minus_text b ++ (xs ++ 46 ∷ []))) l.3 ∙ simp append_assoc), e),
-        (midway-point ranges limit p hp b d ds h, ends-loosely limit p hp _ (part-ending (part_point b d ds) h)),
+        (faultless-point ranges limit p hp b d ds h, ends-loosely limit p hp _ (part-ending (part_point b d ds) h)),
       )
 
   pub letter-told : (b : Bool) (d : ℕ) (ds f : List ℕ) (l : ℕ) → IsPart (part_letter b d ds f l) → (rest : List ℕ) → BeginsWithNone (λ c. is_ascii_digit c || is_sign c) rest →

@@ -13,7 +13,7 @@ use Rattle.tinyjson.specs.Machine
 use Rattle.tinyjson.specs.Refusal.{IsHex, AreUnits, EndsRun}
 use Rattle.tinyjson.proofs.Grammar.Paths.{Path, path_text, path_frames, IsPath}
 use Rattle.tinyjson.proofs.Grammar.Spelt.{pieces-append, are_pieces_append, within_text, IsPartWithin, IsSettled, Quad, quads, values, in_quoted, Spells, flat_within, Ending, ends-loosely}
-use Rattle.tinyjson.proofs.Grammar.Alive.{quoted-prompt, within-late}
+use Rattle.tinyjson.proofs.Grammar.Viable.{quoted-prompt, within-late}
 use Rattle.tinyjson.proofs.Grammar.Told.{Told, Follows, either, at_code}
 use Rattle.tinyjson.proofs.Grammar.Whole.{complete-follows}
 use Rattle.tinyjson.proofs.Grammar.Units.{codes-quads, settle-more, settle-end, settle-paired}

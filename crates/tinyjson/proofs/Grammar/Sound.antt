@@ -7,20 +7,20 @@ use Rattle.tinyjson.specs.Kind.{kind_of}
 use Rattle.tinyjson.specs.Tree.{Tree}
 use Rattle.tinyjson.specs.Syntax.{tree_of}
 use Rattle.tinyjson.specs.Grammar.{IsLoose, IsText, IsAccepted}
-use Rattle.tinyjson.specs.Continuation.{IsAlive, IsMidway, IsBrokenText}
+use Rattle.tinyjson.specs.Continuation.{IsViable, IsFaultless, IsCutOffText}
 use Rattle.tinyjson.specs.Machine.{Rules, Frame, Phase, awaited, Next, next, stop, Outcome, accepted, refused, step, end, run, go_on}
 use Rattle.tinyjson.specs.declared.parser.error.JsonParseErrorKind.{JsonParseErrorKind}
 use Rattle.tinyjson.specs.declared.parser.error.JsonParseErrorKind.TheVariants.{UnexpectedEof, InvalidCharacter, ExpectedEof, KeyNotString, ExpectedColon, ExpectedCommaOrBrace, ExpectedCommaOrBracket, InvalidUtf16, InvalidHexDigit, InvalidEscape, ControlCharacter, UnexpectedInLiteral, EmptyInteger, LeadingZero, EmptyFraction, EmptyExponent, NumberOutOfRange, OutOfMemory, TooDeep}
 use Rattle.tinyjson.specs.Refusal.{PlaceSays, NoStringAt, AwaitsAt, IsRefusal}
-use Rattle.tinyjson.specs.Continuation.{Loosely}
+use Rattle.tinyjson.specs.Continuation.{IsLooselyViable}
 use Rattle.tinyjson.proofs.Grammar.Paths.{outside}
-use Rattle.tinyjson.proofs.Grammar.Midway.{alive-before}
+use Rattle.tinyjson.proofs.Grammar.Faultless.{viable-before}
 use Rattle.tinyjson.proofs.Grammar.Spelt.{Ranges, Spells, at_awaited}
-use Rattle.tinyjson.proofs.Grammar.Alive.{read-alive}
+use Rattle.tinyjson.proofs.Grammar.Viable.{read-viable}
 use Rattle.tinyjson.proofs.Grammar.Told.{loosely, NoQuoteFrom, Cut, Place, Told, Comes, Follows}
 use Rattle.tinyjson.proofs.Grammar.Follows.{step-follows, end-follows, Ends}
 use Rattle.tinyjson.proofs.Grammar.Texts.{rules, text-accepted, loose-accepted}
-use Rattle.tinyjson.proofs.Grammar.Never.{broken-end}
+use Rattle.tinyjson.proofs.Grammar.Never.{cut_off-end}
 use Rattle.tinyjson.proofs.Grammar.Sim.{is_own, strict-next, strict-stop}
 
 -- ---- one step of a run
@@ -46,41 +46,41 @@ reached-next limit used fs gs q p c h e true ys = ap (run (rules true limit) [] 
 reached-next limit used fs gs q p c h e false ys =
     ap (run (rules false limit) [] awaited) (append_assoc used (c ∷ []) ys) ∙ (h false (c ∷ ys) ∙ run-next (rules false limit) fs gs q p c ys (strict-next limit fs gs q p c e))
 
--- ---- what is dead
+-- ---- what is unviable
 
 refused-accepted : (k : JsonParseErrorKind) (xs : List ℕ) (t : Tree) → refused k xs ≡ accepted t → ⊥
 refused-accepted k xs t e = cc
 
-dead : (limit : Option ℕ) (used : List ℕ) → ((ys : List ℕ) (t : Tree) → run (strictly limit) [] awaited (used ++ ys) ≡ accepted t → ⊥) → ¬ IsAlive (IsAccepted limit) used
-dead limit used h a = h a.0 a.1.0 (text-accepted limit (used ++ a.0) a.1.0 a.1.1)
+unviable : (limit : Option ℕ) (used : List ℕ) → ((ys : List ℕ) (t : Tree) → run (strictly limit) [] awaited (used ++ ys) ≡ accepted t → ⊥) → ¬ IsViable (IsAccepted limit) used
+unviable limit used h a = h a.0 a.1.0 (text-accepted limit (used ++ a.0) a.1.0 a.1.1)
 
-loosely-dead : (limit : Option ℕ) (used : List ℕ) → ((ys : List ℕ) (t : Tree) → run (loosely limit) [] awaited (used ++ ys) ≡ accepted t → ⊥) → ¬ Loosely limit used
-loosely-dead limit used h a = h a.0 (tree_of a.1.value) (loose-accepted limit (used ++ a.0) a.1)
+loosely-unviable : (limit : Option ℕ) (used : List ℕ) → ((ys : List ℕ) (t : Tree) → run (loosely limit) [] awaited (used ++ ys) ≡ accepted t → ⊥) → ¬ IsLooselyViable limit used
+loosely-unviable limit used h a = h a.0 (tree_of a.1.value) (loose-accepted limit (used ++ a.0) a.1)
 
-pub no-quote : (limit : Option ℕ) (used : List ℕ) (fs : List Frame) (q : Phase) → Reached limit used fs q → NoQuoteFrom limit fs q → ¬ Loosely limit (used ++ 34 ∷ [])
-no-quote limit used fs q h n = loosely-dead limit (used ++ 34 ∷ []) (λ ys t e. n ys t (sym (ap (run (loosely limit) [] awaited) (append_assoc used (34 ∷ []) ys) ∙ h false (34 ∷ ys)) ∙ e))
+pub no-quote : (limit : Option ℕ) (used : List ℕ) (fs : List Frame) (q : Phase) → Reached limit used fs q → NoQuoteFrom limit fs q → ¬ IsLooselyViable limit (used ++ 34 ∷ [])
+no-quote limit used fs q h n = loosely-unviable limit (used ++ 34 ∷ []) (λ ys t e. n ys t (sym (ap (run (loosely limit) [] awaited) (append_assoc used (34 ∷ []) ys) ∙ h false (34 ∷ ys)) ∙ e))
 
 taken-run : (b : Bool) (limit : Option ℕ) (used : List ℕ) (fs : List Frame) (q : Phase) (c : ℕ) (k : JsonParseErrorKind) → Reached limit used fs q → step (rules b limit) fs q c ≡ stop k true → (ys : List ℕ) → run (rules b limit) [] awaited ((used ++ c ∷ []) ++ ys) ≡ refused k ys
 taken-run b limit used fs q c k h e ys = ap (run (rules b limit) [] awaited) (append_assoc used (c ∷ []) ys) ∙ (h b (c ∷ ys) ∙ run-taken (rules b limit) fs q c k ys e)
 
-taken-dead : (limit : Option ℕ) (used : List ℕ) (fs : List Frame) (q : Phase) (c : ℕ) (k : JsonParseErrorKind) → Reached limit used fs q → step (strictly limit) fs q c ≡ stop k true → ¬ IsAlive (IsAccepted limit) (used ++ c ∷ [])
-taken-dead limit used fs q c k h e = dead limit (used ++ c ∷ []) (λ ys t g. refused-accepted k ys t (sym (taken-run true limit used fs q c k h e ys) ∙ g))
+taken-unviable : (limit : Option ℕ) (used : List ℕ) (fs : List Frame) (q : Phase) (c : ℕ) (k : JsonParseErrorKind) → Reached limit used fs q → step (strictly limit) fs q c ≡ stop k true → ¬ IsViable (IsAccepted limit) (used ++ c ∷ [])
+taken-unviable limit used fs q c k h e = unviable limit (used ++ c ∷ []) (λ ys t g. refused-accepted k ys t (sym (taken-run true limit used fs q c k h e ys) ∙ g))
 
-dies : (limit : Option ℕ) (used : List ℕ) (fs : List Frame) (q : Phase) (c : ℕ) (k : JsonParseErrorKind) → Reached limit used fs q → is_own k ≡ false → step (strictly limit) fs q c ≡ stop k true → ¬ Loosely limit (used ++ c ∷ [])
-dies limit used fs q c k h o e = loosely-dead limit (used ++ c ∷ []) (λ ys t g. refused-accepted k ys t (sym (taken-run false limit used fs q c k h (strict-stop limit fs q c k true o e) ys) ∙ g))
+dies : (limit : Option ℕ) (used : List ℕ) (fs : List Frame) (q : Phase) (c : ℕ) (k : JsonParseErrorKind) → Reached limit used fs q → is_own k ≡ false → step (strictly limit) fs q c ≡ stop k true → ¬ IsLooselyViable limit (used ++ c ∷ [])
+dies limit used fs q c k h o e = loosely-unviable limit (used ++ c ∷ []) (λ ys t g. refused-accepted k ys t (sym (taken-run false limit used fs q c k h (strict-stop limit fs q c k true o e) ys) ∙ g))
 
 -- the next character is too many: not even the first key that is no string is still to come
 no_middle : (limit : Option ℕ) (u : List ℕ) (d : ℕ) (k : JsonParseErrorKind) → ((ys : List ℕ) → run (strictly limit) [] awaited (u ++ d ∷ ys) ≡ refused k (d ∷ ys)) → (ys : List ℕ) →
-    (IsAccepted limit ((u ++ d ∷ []) ++ ys) ⊎ IsBrokenText limit ((u ++ d ∷ []) ++ ys)) → ⊥
+    (IsAccepted limit ((u ++ d ∷ []) ++ ys) ⊎ IsCutOffText limit ((u ++ d ∷ []) ++ ys)) → ⊥
 no_middle limit u d k h ys (inl a) =
     refused-accepted k (d ∷ ys) a.0 (sym (h ys) ∙ (sym (ap (run (strictly limit) [] awaited) (append_assoc u (d ∷ []) ys)) ∙ text-accepted limit ((u ++ d ∷ []) ++ ys) a.0 a.1))
 no_middle limit u d k h ys (inr b) =
-    let i = broken-end limit ((u ++ d ∷ []) ++ ys) b in
+    let i = cut_off-end limit ((u ++ d ∷ []) ++ ys) b in
     let e : refused k (d ∷ ys) ≡ refused (KeyNotString (kind_of i.0)) [] = sym (h ys) ∙ (sym (ap (run (strictly limit) [] awaited) (append_assoc u (d ∷ []) ys)) ∙ i.1) in
     absurd cc
 
-pub not-midway : (limit : Option ℕ) (u : List ℕ) (d : ℕ) (k : JsonParseErrorKind) → ((ys : List ℕ) → run (strictly limit) [] awaited (u ++ d ∷ ys) ≡ refused k (d ∷ ys)) → ¬ IsMidway limit (u ++ d ∷ [])
-not-midway limit u d k h a = no_middle limit u d k h a.0 a.1
+pub not-faultless : (limit : Option ℕ) (u : List ℕ) (d : ℕ) (k : JsonParseErrorKind) → ((ys : List ℕ) → run (strictly limit) [] awaited (u ++ d ∷ ys) ≡ refused k (d ∷ ys)) → ¬ IsFaultless limit (u ++ d ∷ [])
+not-faultless limit u d k h a = no_middle limit u d k h a.0 a.1
 
 -- ---- the place
 
@@ -97,20 +97,20 @@ init-push (x ∷ y ∷ ys) c = ap (λ zs. x ∷ zs) (init-push (y ∷ ys) c)
 same_front : (front other : List ℕ) (c d : ℕ) → front ++ c ∷ [] ≡ other ++ d ∷ [] → front ≡ other
 same_front front other c d e = sym (init-push front c) ∙ (ap init e ∙ init-push other d)
 
-abbrev no-string-at : (limit : Option ℕ) (used front : List ℕ) (c d : ℕ) → used ++ c ∷ [] ≡ front ++ d ∷ [] → IsMidway limit front → ¬ Loosely limit (used ++ 34 ∷ []) → NoStringAt limit (used ++ c ∷ []) d
-no-string-at limit used front c d e m n = record { front = front; ends = e; midway = m; no_string = subst (λ xs. ¬ Loosely limit (xs ++ 34 ∷ [])) (same_front used front c d e) n }
+abbrev no-string-at : (limit : Option ℕ) (used front : List ℕ) (c d : ℕ) → used ++ c ∷ [] ≡ front ++ d ∷ [] → IsFaultless limit front → ¬ IsLooselyViable limit (used ++ 34 ∷ []) → NoStringAt limit (used ++ c ∷ []) d
+no-string-at limit used front c d e m n = record { front = front; ends = e; faultless = m; no_string = subst (λ xs. ¬ IsLooselyViable limit (xs ++ 34 ∷ [])) (same_front used front c d e) n }
 
-awaits-at : (limit : Option ℕ) (used : List ℕ) (c d n : ℕ) → Comes limit (used ++ c ∷ []) d n → ¬ Loosely limit (used ++ 34 ∷ []) → AwaitsAt limit (used ++ c ∷ []) d n
-awaits-at limit used c d n h q = record { place = no-string-at limit used h.0 c d h.1 h.2 q; alive = h.3 }
+awaits-at : (limit : Option ℕ) (used : List ℕ) (c d n : ℕ) → Comes limit (used ++ c ∷ []) d n → ¬ IsLooselyViable limit (used ++ 34 ∷ []) → AwaitsAt limit (used ++ c ∷ []) d n
+awaits-at limit used c d n h q = record { place = no-string-at limit used h.0 c d h.1 h.2 q; viable = h.3 }
 
 -- of a kind that takes its character
 place-taken : (limit : Option ℕ) (used : List ℕ) (fs : List Frame) (q : Phase) (c : ℕ) (k : JsonParseErrorKind) → Reached limit used fs q → step (strictly limit) fs q c ≡ stop k true → Cut limit k true fs q → Place limit k (used ++ c ∷ []) → PlaceSays limit k (used ++ c ∷ [])
 place-taken limit used fs q c (ExpectedEof d) h e x p = (p, dies limit used fs q c _ h refl e)
-place-taken limit used fs q c (KeyNotString j) h e x p = (p.0, p.1, taken-dead limit used fs q c _ h e)
+place-taken limit used fs q c (KeyNotString j) h e x p = (p.0, p.1, taken-unviable limit used fs q c _ h e)
 place-taken limit used fs q c (ExpectedColon d) h e x p = (awaits-at limit used c d 58 p (no-quote limit used fs q h x), dies limit used fs q c _ h refl e)
 place-taken limit used fs q c (ExpectedCommaOrBrace d) h e x p = (awaits-at limit used c d 125 p (no-quote limit used fs q h x), dies limit used fs q c _ h refl e)
 place-taken limit used fs q c (ExpectedCommaOrBracket d) h e x p = (awaits-at limit used c d 93 p (no-quote limit used fs q h x), dies limit used fs q c _ h refl e)
-place-taken limit used fs q c InvalidUtf16 h e x p = (p.0, p.1, taken-dead limit used fs q c _ h e)
+place-taken limit used fs q c InvalidUtf16 h e x p = (p.0, p.1, taken-unviable limit used fs q c _ h e)
 place-taken limit used fs q c (InvalidHexDigit d) h e x p = (p, dies limit used fs q c _ h refl e)
 place-taken limit used fs q c (InvalidEscape d) h e x p = (p, dies limit used fs q c _ h refl e)
 place-taken limit used fs q c (ControlCharacter d) h e x p = (p.0, dies limit used fs q c _ h refl e, p.1)
@@ -129,9 +129,9 @@ place-taken limit used fs q c (TooDeep d) h e x p = elim x [ ]
 place-left : (limit : Option ℕ) (used : List ℕ) (fs : List Frame) (q : Phase) (k : JsonParseErrorKind) → Reached limit used fs q → Cut limit k false fs q → Place limit k used → PlaceSays limit k used
 place-left limit used fs q UnexpectedEof h x p = p
 place-left limit used fs q (InvalidCharacter d) h x p = p
-place-left limit used fs q (KeyNotString j) h x p = (p.0, p.1, dead limit used (λ ys u e. x ys u (sym (h true ys) ∙ e)))
+place-left limit used fs q (KeyNotString j) h x p = (p.0, p.1, unviable limit used (λ ys u e. x ys u (sym (h true ys) ∙ e)))
 place-left limit used fs q EmptyInteger h x p = (p.0, (p.1, no-quote limit used fs q h x))
-place-left limit used fs q LeadingZero h x p = (p.0, (p.1, no-quote limit used fs q h x.0), dead limit used (λ ys u e. x.1 ys u (sym (h true ys) ∙ e)))
+place-left limit used fs q LeadingZero h x p = (p.0, (p.1, no-quote limit used fs q h x.0), unviable limit used (λ ys u e. x.1 ys u (sym (h true ys) ∙ e)))
 place-left limit used fs q EmptyFraction h x p = (p.0, (p.1, no-quote limit used fs q h x))
 place-left limit used fs q EmptyExponent h x p = (p.0, (p.1, no-quote limit used fs q h x))
 place-left limit used fs q NumberOutOfRange h x p = (p.0, (p.1, no-quote limit used fs q h x))
@@ -147,46 +147,46 @@ place-left limit used fs q (ControlCharacter d) h x p = elim x [ ]
 place-left limit used fs q (UnexpectedInLiteral d) h x p = elim x [ ]
 place-left limit used fs q OutOfMemory h x p = elim x [ ]
 
--- ---- without its last character it is alive in the loose grammar
+-- ---- without its last character it is viable in the loose grammar
 
 abbrev pub NotTooLate : Option ℕ → List ℕ → Type 0
-NotTooLate limit used = (front : List ℕ) (c : ℕ) → used ≡ front ++ c ∷ [] → Loosely limit front
+NotTooLate limit used = (front : List ℕ) (c : ℕ) → used ≡ front ++ c ∷ [] → IsLooselyViable limit front
 
-pub late-one : (limit : Option ℕ) (used : List ℕ) (c : ℕ) → Loosely limit used → NotTooLate limit (used ++ c ∷ [])
-late-one limit used c h front d e = subst (Loosely limit) (same_front used front c d e) h
+pub late-one : (limit : Option ℕ) (used : List ℕ) (c : ℕ) → IsLooselyViable limit used → NotTooLate limit (used ++ c ∷ [])
+late-one limit used c h front d e = subst (IsLooselyViable limit) (same_front used front c d e) h
 
-pub late-none : (limit : Option ℕ) (used : List ℕ) → Loosely limit used → NotTooLate limit used
-late-none limit used h front d e = alive-before (IsLoose limit) front (d ∷ []) (subst (Loosely limit) e h)
+pub late-none : (limit : Option ℕ) (used : List ℕ) → IsLooselyViable limit used → NotTooLate limit used
+late-none limit used h front d e = viable-before (IsLoose limit) front (d ∷ []) (subst (IsLooselyViable limit) e h)
 
 -- ---- the refusal
 
 refuses : (limit : Option ℕ) (xs rest : List ℕ) (k : JsonParseErrorKind) → run (strictly limit) [] awaited xs ≡ refused k rest → ¬ IsAccepted limit xs
 refuses limit xs rest k e a = refused-accepted k rest a.0 (sym e ∙ text-accepted limit xs a.0 a.1)
 
-refusal-taken : (limit : Option ℕ) (used : List ℕ) (fs : List Frame) (q : Phase) (c : ℕ) (k : JsonParseErrorKind) (rest : List ℕ) → Reached limit used fs q → Loosely limit used → step (strictly limit) fs q c ≡ stop k true → Follows limit used fs q c (stop k true) →
+refusal-taken : (limit : Option ℕ) (used : List ℕ) (fs : List Frame) (q : Phase) (c : ℕ) (k : JsonParseErrorKind) (rest : List ℕ) → Reached limit used fs q → IsLooselyViable limit used → step (strictly limit) fs q c ≡ stop k true → Follows limit used fs q c (stop k true) →
     IsRefusal limit k (used ++ c ∷ []) rest
 refusal-taken limit used fs q c k rest h a e f = record {
   says = (f.0 rest).0;
   place = place-taken limit used fs q c k h e f.1 (f.0 rest).1;
   refused = refuses limit ((used ++ c ∷ []) ++ rest) rest k (taken-run true limit used fs q c k h e rest);
-  not_too_soon = λ d more g. not-midway limit (used ++ c ∷ []) d k (λ ys. taken-run true limit used fs q c k h e (d ∷ ys));
+  not_too_soon = λ d more g. not-faultless limit (used ++ c ∷ []) d k (λ ys. taken-run true limit used fs q c k h e (d ∷ ys));
   not_too_late = late-one limit used c a;
 }
 
-refusal-left : (limit : Option ℕ) (used : List ℕ) (fs : List Frame) (q : Phase) (c : ℕ) (k : JsonParseErrorKind) (cs : List ℕ) → Reached limit used fs q → Loosely limit used → step (strictly limit) fs q c ≡ stop k false → Follows limit used fs q c (stop k false) →
+refusal-left : (limit : Option ℕ) (used : List ℕ) (fs : List Frame) (q : Phase) (c : ℕ) (k : JsonParseErrorKind) (cs : List ℕ) → Reached limit used fs q → IsLooselyViable limit used → step (strictly limit) fs q c ≡ stop k false → Follows limit used fs q c (stop k false) →
     IsRefusal limit k used (c ∷ cs)
 refusal-left limit used fs q c k cs h a e f = record {
   says = (f.0 cs).0;
   place = place-left limit used fs q k h f.1 (f.0 cs).1;
   refused = refuses limit (used ++ c ∷ cs) (c ∷ cs) k (h true (c ∷ cs) ∙ run-left (strictly limit) fs q c k cs e);
-  not_too_soon = λ d more g. subst (λ x. ¬ IsMidway limit (used ++ x ∷ [])) (same_head c d cs more g) (not-midway limit used c k (λ ys. h true (c ∷ ys) ∙ run-left (strictly limit) fs q c k ys e));
+  not_too_soon = λ d more g. subst (λ x. ¬ IsFaultless limit (used ++ x ∷ [])) (same_head c d cs more g) (not-faultless limit used c k (λ ys. h true (c ∷ ys) ∙ run-left (strictly limit) fs q c k ys e));
   not_too_late = late-none limit used a;
 }
   where
     same_head : (x y : ℕ) (xs ys : List ℕ) → x ∷ xs ≡ y ∷ ys → x ≡ y
     same_head x y xs ys g = cc
 
-refusal-end : (limit : Option ℕ) (used : List ℕ) (fs : List Frame) (q : Phase) (k : JsonParseErrorKind) → Reached limit used fs q → Loosely limit used → run (strictly limit) fs q [] ≡ refused k [] → Told limit k used [] → Cut limit k false fs q → IsRefusal limit k used []
+refusal-end : (limit : Option ℕ) (used : List ℕ) (fs : List Frame) (q : Phase) (k : JsonParseErrorKind) → Reached limit used fs q → IsLooselyViable limit used → run (strictly limit) fs q [] ≡ refused k [] → Told limit k used [] → Cut limit k false fs q → IsRefusal limit k used []
 refusal-end limit used fs q k h a e f x = record {
   says = f.0;
   place = place-left limit used fs q k h x f.1;
@@ -207,13 +207,13 @@ results-shift : (limit : Option ℕ) (used : List ℕ) (c : ℕ) (cs : List ℕ)
 results-shift limit used c cs (accepted t) h = subst (λ xs. IsText limit xs t) (append_assoc used (c ∷ []) cs) h
 results-shift limit used c cs (refused k rest) h = (c ∷ h.0, ap (λ xs. c ∷ xs) h.1, subst (λ xs. IsRefusal limit k xs rest) (append_assoc used (c ∷ []) h.0) h.2)
 
-go-results : (limit : Option ℕ) (used : List ℕ) (fs : List Frame) (q : Phase) (c : ℕ) (cs : List ℕ) (more : List Frame → Phase → Outcome) (n : Next) → step (strictly limit) fs q c ≡ n → Reached limit used fs q → Follows limit used fs q c n → Loosely limit used →
+go-results : (limit : Option ℕ) (used : List ℕ) (fs : List Frame) (q : Phase) (c : ℕ) (cs : List ℕ) (more : List Frame → Phase → Outcome) (n : Next) → step (strictly limit) fs q c ≡ n → Reached limit used fs q → Follows limit used fs q c n → IsLooselyViable limit used →
     ((gs : List Frame) (p : Phase) → Spells limit (used ++ c ∷ []) gs p → Reached limit (used ++ c ∷ []) gs p → Results limit (used ++ c ∷ []) cs (more gs p)) → Results limit used (c ∷ cs) (go_on more n (c ∷ cs) cs)
 go-results limit used fs q c cs more (next gs p) e r h a on = results-shift limit used c cs (more gs p) (on gs p h (reached-next limit used fs gs q p c r e))
 go-results limit used fs q c cs more (stop k true) e r h a on = (c ∷ [], refl, refusal-taken limit used fs q c k cs r a e h)
 go-results limit used fs q c cs more (stop k false) e r h a on = ([], refl, subst (λ xs. IsRefusal limit k xs (c ∷ cs)) (sym (append-nil used)) (refusal-left limit used fs q c k cs r a e h))
 
-end-results : (limit : Option ℕ) (used : List ℕ) (fs : List Frame) (q : Phase) (o : Outcome) → run (strictly limit) fs q [] ≡ o → Reached limit used fs q → Ends limit used fs q o → Loosely limit used → Results limit used [] o
+end-results : (limit : Option ℕ) (used : List ℕ) (fs : List Frame) (q : Phase) (o : Outcome) → run (strictly limit) fs q [] ≡ o → Reached limit used fs q → Ends limit used fs q o → IsLooselyViable limit used → Results limit used [] o
 end-results limit used fs q (accepted t) e r h a = subst (λ xs. IsText limit xs t) (sym (append-nil used)) h
 end-results limit used fs q (refused k rest) e r h a =
     ([], sym h.0, rw h.0 (subst (λ xs. IsRefusal limit k xs []) (sym (append-nil used)) (refusal-end limit used fs q k r a (e ∙ ap (refused k) h.0) h.1 h.2)))
@@ -224,14 +224,14 @@ step-spells ranges limit used fs q s c hc = rw (s.whole, s.frames, s.phase) (ste
 end-spells : Ranges → (limit : Option ℕ) (used : List ℕ) (fs : List Frame) (q : Phase) → Spells limit used fs q → Ends limit used fs q (end (strictly limit) fs q)
 end-spells ranges limit used fs q s = rw (s.whole, s.frames, s.phase) (end-follows ranges limit s.read s.is)
 
-pub spells-alive : (limit : Option ℕ) (used : List ℕ) (fs : List Frame) (q : Phase) → Spells limit used fs q → Loosely limit used
-spells-alive limit used fs q s = rw s.whole (read-alive limit s.read s.is)
+pub spells-viable : (limit : Option ℕ) (used : List ℕ) (fs : List Frame) (q : Phase) → Spells limit used fs q → IsLooselyViable limit used
+spells-viable limit used fs q s = rw s.whole (read-viable limit s.read s.is)
 
 pub run-results : Ranges → (limit : Option ℕ) (xs : List ℕ) → All IsScalar xs → (used : List ℕ) (fs : List Frame) (q : Phase) → Spells limit used fs q → Reached limit used fs q → Results limit used xs (run (strictly limit) fs q xs)
 unfolding run
-run-results ranges limit [] h used fs q s r = end-results limit used fs q (end (strictly limit) fs q) refl r (end-spells ranges limit used fs q s) (spells-alive limit used fs q s)
+run-results ranges limit [] h used fs q s r = end-results limit used fs q (end (strictly limit) fs q) refl r (end-spells ranges limit used fs q s) (spells-viable limit used fs q s)
 run-results ranges limit (c ∷ cs) h used fs q s r =
-    go-results limit used fs q c cs (λ gs p. run (strictly limit) gs p cs) (step (strictly limit) fs q c) refl r (step-spells ranges limit used fs q s c (h 0 0 (omega arith))) (spells-alive limit used fs q s)
+    go-results limit used fs q c cs (λ gs p. run (strictly limit) gs p cs) (step (strictly limit) fs q c) refl r (step-spells ranges limit used fs q s c (h 0 0 (omega arith))) (spells-viable limit used fs q s)
     (λ gs p i j. run-results ranges limit cs (λ k d l. h (suc k) d (omega arith)) (used ++ c ∷ []) gs p i j)
 
 -- ---- from the start

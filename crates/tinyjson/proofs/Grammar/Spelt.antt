@@ -9,7 +9,7 @@ use Rattle.tinyjson.specs.Grammar.{IsLoose}
 use Rattle.tinyjson.specs.Continuation.{IsValue}
 use Rattle.tinyjson.specs.Machine.{Frame, Phase, first, awaited, word, digits, quoted, colon, after, finished, Stage, Within, Next, next, stop, Rules}
 use Rattle.tinyjson.specs.Machine
-use Rattle.tinyjson.specs.Continuation.{Loosely}
+use Rattle.tinyjson.specs.Continuation.{IsLooselyViable}
 use Rattle.tinyjson.specs.Refusal.{IsLiteral, IsHex}
 use Rattle.tinyjson_number.specs.Numeral.{is_sign}
 use Rattle.tinyjson_number.specs.Numeral.{is_exponent_letter}
@@ -193,7 +193,7 @@ pub record Spells (limit : Option ℕ) (used : List ℕ) (fs : List Frame) (q : 
   pub frames : fs ≡ read_frames read
   pub phase : q ≡ read_phase read
 
--- ---- a state is alive
+-- ---- a state is viable
 
 pub path_within : (limit : Option ℕ) (p : Path) → IsPath limit p → IsWithin limit (level p + 0)
 path_within None p h = tt
@@ -205,7 +205,7 @@ path_within (Some l) (value_in p ps a k b w) h = omega (arith, h.7)
 pub flat_within : (limit : Option ℕ) (p : Path) (s : Syntax) → IsPath limit p → depth s ≡ 0 → IsWithin limit (level p + depth s)
 flat_within limit p s h e = within_le limit _ _ (path_within limit p h) (rw e (omega arith))
 
-pub loosely-from : (limit : Option ℕ) (xs ys : List ℕ) {zs : List ℕ} → zs ≡ xs ++ ys → IsLoose limit zs → Loosely limit xs
+pub loosely-from : (limit : Option ℕ) (xs ys : List ℕ) {zs : List ℕ} → zs ≡ xs ++ ys → IsLoose limit zs → IsLooselyViable limit xs
 loosely-from limit xs ys e h = (ys, subst (IsLoose limit) e h)
 
 pub are_white_append : (v w : List ℕ) → AreWhite v → AreWhite w → AreWhite (v ++ w)
@@ -228,9 +228,9 @@ pub record Ending (front : List ℕ) : Type 0 where
   pub rest : List ℕ
   pub whole : text value ≡ front ++ rest
 
-pub ends-loosely : (limit : Option ℕ) (p : Path) → IsPath limit p → (front : List ℕ) → Ending front → Loosely limit (path_text p ++ front)
+pub ends-loosely : (limit : Option ℕ) (p : Path) → IsPath limit p → (front : List ℕ) → Ending front → IsLooselyViable limit (path_text p ++ front)
 ends-loosely limit p hp front e =
     loosely-from limit (path_text p ++ front) (e.rest ++ closing p) (rw e.whole (simp append_assoc)) (closes limit p hp e.value e.spelled (flat_within limit p e.value hp e.flat) [] tt)
 
-pub white-loosely : (limit : Option ℕ) (p : Path) → IsPath limit p → (s : Syntax) → IsSpelled s → IsWithin limit (level p + depth s) → (v : List ℕ) → AreWhite v → Loosely limit (path_text p ++ (text s ++ v))
+pub white-loosely : (limit : Option ℕ) (p : Path) → IsPath limit p → (s : Syntax) → IsSpelled s → IsWithin limit (level p + depth s) → (v : List ℕ) → AreWhite v → IsLooselyViable limit (path_text p ++ (text s ++ v))
 white-loosely limit p hp s hs hd v hv = loosely-from limit (path_text p ++ (text s ++ v)) (closing p) (simp append_assoc) (closes limit p hp s hs hd v hv)

@@ -8,11 +8,11 @@ use Rattle.tinyjson.specs.Characters.{is_white}
 use Rattle.tinyjson.specs.Syntax.{Syntax, null, empty_array, empty_object, IsWithin, tree_of}
 use Rattle.tinyjson.specs.Machine.{Frame, Phase, first, awaited, word, digits, quoted, colon, after, finished, Stage, Within, Next, next, stop, Rules, complete, complete_key, step_plain, step_awaited, step_first, step_word, start, push_frame, step_after, step_colon, fits}
 use Rattle.tinyjson.specs.Machine
-use Rattle.tinyjson.specs.Continuation.{Loosely}
+use Rattle.tinyjson.specs.Continuation.{IsLooselyViable}
 use Rattle.tinyjson.specs.Refusal.{AwaitsValue, begins_value}
 use Rattle.tinyjson.proofs.Grammar.Paths.{Path, outside, item_in, key_in, value_in, path_text, path_frames, level, IsPath}
 use Rattle.tinyjson.proofs.Grammar.Spelt.{at_first, at_awaited, in_word, in_digits, in_quoted, part_minus, part_whole, IsFresh, IsWord, Spells, ends-loosely, are_white_append}
-use Rattle.tinyjson.proofs.Grammar.Alive.{midway-place}
+use Rattle.tinyjson.proofs.Grammar.Viable.{faultless-place}
 use Rattle.tinyjson.proofs.Grammar.Told.{Follows, either, at_code}
 use Rattle.tinyjson.proofs.Grammar.Whole.{complete-follows}
 use Rattle.tinyjson.proofs.Grammar.Units.{settled-start}
@@ -69,8 +69,8 @@ none_begins c a b d e f g h i = or_from _ _ a (or_from _ _ b (or_from _ _ d (or_
 
 pub awaits-value : (limit : Option ℕ) (p : Path) → IsPath limit p → AwaitsValue limit (path_text p)
 awaits-value limit p hp =
-    let a : Loosely limit (path_text (whiter p 10) ++ 34 ∷ []) = ends-loosely limit (whiter p 10) (whiter-path limit p hp 10 refl) (34 ∷ []) (record { value = Syntax.string []; spelled = tt; flat = refl; rest = 34 ∷ []; whole = refl }) in
-    (midway-place limit p hp, subst (Loosely limit) (ap (λ xs. xs ++ 34 ∷ []) (sym (whiter-text p 10)) ∙ append_assoc (path_text p) (10 ∷ []) (34 ∷ [])) a)
+    let a : IsLooselyViable limit (path_text (whiter p 10) ++ 34 ∷ []) = ends-loosely limit (whiter p 10) (whiter-path limit p hp 10 refl) (34 ∷ []) (record { value = Syntax.string []; spelled = tt; flat = refl; rest = 34 ∷ []; whole = refl }) in
+    (faultless-place limit p hp, subst (IsLooselyViable limit) (ap (λ xs. xs ++ 34 ∷ []) (sym (whiter-text p 10)) ∙ append_assoc (path_text p) (10 ∷ []) (34 ∷ [])) a)
 
 pub word-begun : (limit : Option ℕ) (p : Path) → IsPath limit p → (s : Syntax) (c n : ℕ) (left : List ℕ) → IsWord s (n ∷ []) left → c ≡ n → Spells limit (path_text p ++ c ∷ []) (path_frames p) (word left (tree_of s))
 word-begun limit p hp s c n left h e = record { read = in_word p s (n ∷ []) left; is = (hp, h); whole = ap (λ x. path_text p ++ x ∷ []) e; frames = refl; phase = refl }

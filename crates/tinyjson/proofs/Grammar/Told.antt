@@ -1,47 +1,47 @@
--- What a refusal tells, as far as it speaks of what is alive; and what comes of a character.
+-- What a refusal tells, as far as it speaks of what is viable; and what comes of a character.
 use Rattle.std.proofs.Common.{suc, ◌≡◌, ℕ, ◌+◌, Bool, true, false, List, [], ◌∷◌, ◌++◌, Option, refl, ap, sym, ◌∙◌, cond, append_assoc, append-nil, ◌⊎◌, inl, inr, ◌==◌}
 use Rattle.std.proofs.lemmas.Bool.{eqb-true}
 use Rattle.tinyjson.specs.Machine.{strictly}
 use Rattle.tinyjson.specs.Kind.{kind_of}
 use Rattle.tinyjson.specs.Syntax.{Syntax, text, is_key, depth, IsWithin, tree_of}
-use Rattle.tinyjson.specs.Continuation.{IsMidway, IsValue, Pair, pairs_before, pair_text}
+use Rattle.tinyjson.specs.Continuation.{IsFaultless, IsValue, Pair, pairs_before, pair_text}
 use Rattle.std.specs.Prelude.{⊤}
 use Rattle.tinyjson.specs.Tree.{Tree}
 use Rattle.tinyjson.specs.Machine.{Frame, Phase, Rules, Next, next, stop, run, accepted, Next, next, stop, Rules}
 use Rattle.tinyjson.specs.declared.parser.error.JsonParseErrorKind.{JsonParseErrorKind}
 use Rattle.tinyjson.specs.declared.parser.error.JsonParseErrorKind.TheVariants.{UnexpectedEof, InvalidCharacter, ExpectedEof, KeyNotString, ExpectedColon, ExpectedCommaOrBrace, ExpectedCommaOrBracket, InvalidUtf16, InvalidHexDigit, InvalidEscape, ControlCharacter, UnexpectedInLiteral, EmptyInteger, LeadingZero, EmptyFraction, EmptyExponent, NumberOutOfRange, OutOfMemory, TooDeep}
 use Rattle.tinyjson.specs.Refusal.{KindSays, IsPromptly, AwaitsValue}
-use Rattle.tinyjson.specs.Continuation.{Loosely}
+use Rattle.tinyjson.specs.Continuation.{IsLooselyViable}
 use Rattle.tinyjson.proofs.Grammar.Paths.{Path, key_in, path_text, level, IsPath, closes, closing}
-use Rattle.tinyjson.proofs.Grammar.Midway.{midway}
+use Rattle.tinyjson.proofs.Grammar.Faultless.{faultless}
 use Rattle.tinyjson.proofs.Grammar.Spelt.{Spells, loosely-from}
 
--- without its last character c the list is midway, and alive with next in its place
+-- without its last character c the list is faultless, and viable with next in its place
 abbrev pub Comes : Option ℕ → List ℕ → ℕ → ℕ → Type 0
-Comes limit used c n = (front : List ℕ) × (used ≡ front ++ c ∷ []) × IsMidway limit front × Loosely limit (front ++ n ∷ [])
+Comes limit used c n = (front : List ℕ) × (used ≡ front ++ c ∷ []) × IsFaultless limit front × IsLooselyViable limit (front ++ n ∷ [])
 
-abbrev pub ComesMidway : Option ℕ → List ℕ → ℕ → Type 0
-ComesMidway limit used c = (front : List ℕ) × (used ≡ front ++ c ∷ []) × IsMidway limit front
+abbrev pub ComesFaultless : Option ℕ → List ℕ → ℕ → Type 0
+ComesFaultless limit used c = (front : List ℕ) × (used ≡ front ++ c ∷ []) × IsFaultless limit front
 
--- What a kind says of the place, as far as it speaks of what is alive.
+-- What a kind says of the place, as far as it speaks of what is viable.
 abbrev pub Place : Option ℕ → JsonParseErrorKind → List ℕ → Type 0
-Place limit UnexpectedEof used = IsPromptly limit used [] × Loosely limit used
+Place limit UnexpectedEof used = IsPromptly limit used [] × IsLooselyViable limit used
 Place limit (InvalidCharacter c) used = AwaitsValue limit used
-Place limit (ExpectedEof c) used = ComesMidway limit used c
-Place limit (KeyNotString k) used = IsMidway limit used × Loosely limit (used ++ 58 ∷ [])
+Place limit (ExpectedEof c) used = ComesFaultless limit used c
+Place limit (KeyNotString k) used = IsFaultless limit used × IsLooselyViable limit (used ++ 58 ∷ [])
 Place limit (ExpectedColon c) used = Comes limit used c 58
 Place limit (ExpectedCommaOrBrace c) used = Comes limit used c 125
 Place limit (ExpectedCommaOrBracket c) used = Comes limit used c 93
-Place limit InvalidUtf16 used = ((c : ℕ) × IsPromptly limit used (c ∷ [])) × Loosely limit used
+Place limit InvalidUtf16 used = ((c : ℕ) × IsPromptly limit used (c ∷ [])) × IsLooselyViable limit used
 Place limit (InvalidHexDigit c) used = IsPromptly limit used (c ∷ [])
 Place limit (InvalidEscape c) used = IsPromptly limit used (c ∷ [])
-Place limit (ControlCharacter c) used = IsPromptly limit used (c ∷ []) × ((front : List ℕ) × (used ≡ front ++ c ∷ []) × Loosely limit (front ++ 120 ∷ []))
-Place limit (UnexpectedInLiteral c) used = ComesMidway limit used c
-Place limit EmptyInteger used = IsMidway limit used × Loosely limit used
-Place limit LeadingZero used = IsPromptly limit used [] × Loosely limit used
-Place limit EmptyFraction used = IsMidway limit used × Loosely limit used
-Place limit EmptyExponent used = IsPromptly limit used [] × Loosely limit used
-Place limit NumberOutOfRange used = IsPromptly limit used [] × Loosely limit used
+Place limit (ControlCharacter c) used = IsPromptly limit used (c ∷ []) × ((front : List ℕ) × (used ≡ front ++ c ∷ []) × IsLooselyViable limit (front ++ 120 ∷ []))
+Place limit (UnexpectedInLiteral c) used = ComesFaultless limit used c
+Place limit EmptyInteger used = IsFaultless limit used × IsLooselyViable limit used
+Place limit LeadingZero used = IsPromptly limit used [] × IsLooselyViable limit used
+Place limit EmptyFraction used = IsFaultless limit used × IsLooselyViable limit used
+Place limit EmptyExponent used = IsPromptly limit used [] × IsLooselyViable limit used
+Place limit NumberOutOfRange used = IsPromptly limit used [] × IsLooselyViable limit used
 Place limit OutOfMemory used = ⊥
 Place limit (TooDeep c) used = AwaitsValue limit used
 
@@ -118,7 +118,7 @@ key-told limit p ps w hp s hs hk hd used e rest =
     let used_is : used ≡ o.0 ++ o.1 ∷ (w ++ text s) = e ∙ (regroup (path_text p) (123 ∷ pairs_before ps) w (text s) ∙ (ap (λ xs. xs ++ (w ++ text s)) o.3 ∙ append_assoc o.0 (o.1 ∷ []) (w ++ text s))) in (
       (o.0, w, o.1, s, o.2, hp.2, hs.spelled, hs.strict, hk, refl, used_is),
       (
-        rw e (rw (sym (append-nil (text s))) (midway limit (key_in p ps w) hp s hs hd [] tt (inr (hk, refl)))),
+        rw e (rw (sym (append-nil (text s))) (faultless limit (key_in p ps w) hp s hs hd [] tt (inr (hk, refl)))),
         rw e (loosely-from limit _ (48 ∷ 125 ∷ closing p) (simp append_assoc) (closes limit (key_in p ps w) hp s hs.spelled hd [] tt)),
       ),
     )

@@ -12,9 +12,9 @@ use Rattle.tinyjson.specs.Machine.{Frame, Phase, run, step, accepted, refused, F
 use Rattle.tinyjson.specs.declared.parser.error.JsonParseErrorKind.{JsonParseErrorKind, JsonParseErrorKind}
 use Rattle.tinyjson.specs.Machine
 use Rattle.tinyjson.proofs.Grammar.Paths.{Path, outside, item_in, key_in, value_in, path_text, path_frames, level, IsPath, within_le, within_max, closes, closing, key-depth, items_with, pairs_with, items-text, pairs-text, items-depth, pairs-depth, items-trees, pairs-members, before_push, pairs_push, trees_push, members_push, deepest_push, pairs_deepest_push, AreElements-push, ArePairs-push}
-use Rattle.tinyjson.proofs.Grammar.Midway.{item_value, pair_value}
+use Rattle.tinyjson.proofs.Grammar.Faultless.{item_value, pair_value}
 use Rattle.tinyjson.proofs.Grammar.Spelt.{at_awaited, at_after, after_frames, after_phase, IsRead, loosely-from, are_white_append}
-use Rattle.tinyjson.proofs.Grammar.Alive.{midway-after}
+use Rattle.tinyjson.proofs.Grammar.Viable.{faultless-after}
 use Rattle.tinyjson.proofs.Grammar.Told.{NoQuoteFrom, Follows, either, at_code, key-told}
 
 pub string-key : (s : Syntax) → is_string (tree_of s) ≡ is_key s
@@ -91,7 +91,7 @@ after-follows limit (outside w) s v h fs q nq c =
             ),
           ),
         ),
-        (w ++ (text s ++ v), refl, midway-after limit (outside w) s v h),
+        (w ++ (text s ++ v), refl, faultless-after limit (outside w) s v h),
       )),
       tt,
     ))
@@ -116,7 +116,7 @@ after-follows limit (item_in p es w) s v h fs q nq c =
         (
           path_text (item_in p es w) ++ (text s ++ v),
           refl,
-          midway-after limit (item_in p es w) s v h,
+          faultless-after limit (item_in p es w) s v h,
           loosely-from limit _ (closing p) (then_one (path_text (item_in p es w)) (text s) v 93 (closing p)) (closes limit (item_in p es w) h.0 s h.1.spelled h.3 v h.4),
         ),
       )),
@@ -139,7 +139,7 @@ after-follows limit (key_in p ps w) s v h fs q nq c =
         (
           path_text (key_in p ps w) ++ (text s ++ v),
           refl,
-          midway-after limit (key_in p ps w) s v h,
+          faultless-after limit (key_in p ps w) s v h,
           loosely-from limit _ (48 ∷ 125 ∷ closing p) (then_one (path_text (key_in p ps w)) (text s) v 58 (48 ∷ 125 ∷ closing p)) (closes limit (key_in p ps w) h.0 s h.1.spelled h.3 v h.4),
         ),
       )),
@@ -173,7 +173,7 @@ after-follows limit (value_in p ps a k b w) s v h fs q nq c =
         (
           path_text (value_in p ps a k b w) ++ (text s ++ v),
           refl,
-          midway-after limit (value_in p ps a k b w) s v h,
+          faultless-after limit (value_in p ps a k b w) s v h,
           loosely-from limit _ (closing p) (then_one (path_text (value_in p ps a k b w)) (text s) v 125 (closing p)) (closes limit (value_in p ps a k b w) h.0 s h.1.spelled h.3 v h.4),
         ),
       )),

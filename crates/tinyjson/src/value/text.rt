@@ -1,5 +1,5 @@
 //! Values from text, and the text of values.
-ghost use Rattle.std.specs.Prelude.{◌≡◌, IfOk, string_bytes, codes};
+ghost use Rattle.std.specs.Prelude.{◌≡◌, None, IfOk, string_bytes, codes};
 ghost use Rattle.std.specs.Str.{chars};
 ghost use Rattle.tinyjson.specs.Parser.{ParsesText};
 ghost use Rattle.tinyjson.specs.Text.{compact, indented};
@@ -19,7 +19,7 @@ impl JsonValue {
     /// let value = JsonValue::from_str(alloc, "{\"a\": 1.50e1}")?;
     /// ```
     pub fn from_str(alloc: Global, s: &str) -> JsonParseResult
-        ensures { ParsesText (chars s.now) result }
+        ensures { ParsesText None (chars s.now) result }
     {
         JsonParser::new(alloc, s.chars()).parse()
     }

@@ -1,0 +1,93 @@
+//! From the bytes of a reader to a value's normal text in a writer.
+ghost use Rattle.std.specs.Prelude.{◌≡◌, None, Some};
+ghost use Rattle.std.specs.Str.{chars};
+ghost use Rattle.tinyjson.specs.Parser.{ParsesText};
+ghost use Rattle.jsonnorm.specs.Run.{Runs};
+
+use crate::fault::{RunFault, refusal, writing_fault};
+use crate::input::read_all;
+use crate::output::write_line;
+use std::alloc::Global;
+use std::io::{Read, Write};
+use std::{mem, str};
+use tinyjson::{JsonParseResult, JsonParser, JsonValue};
+
+/// How a text is read and written.
+#[derive(Clone, Copy, Debug, PartialEq, Eq)]
+pub struct Options {
+    /// Whether the text is indented with two spaces.
+    pub indented: bool,
+    /// How many containers may be open at once, if there is a limit.
+    pub limit: Option<usize>,
+}
+
+/// Reads one JSON text in UTF-8 to the end of the input, and writes its value's compact text, or
+/// the text indented with two spaces, and a line feed.
+///
+/// All is read and parsed before anything is written. After a fault of writing a beginning of the
+/// line is written, and nothing is flushed.
+///
+/// ```
+/// let mut output = Vec::new(alloc);
+/// run(alloc, &mut b" [1, 2.0] ".as_slice(), &mut output, false)?; // [1,2] and a line feed
+/// ```
+pub fn run<R: Read, W: Write>(
+    alloc: Global,
+    input: &mut R,
+    output: &mut W,
+    indented: bool,
+) -> Result<(), RunFault>
+    ensures { Runs None indented (R.remaining input.old) (R.remaining input.new)
+        (W.contents output.old) (W.contents output.new) result }
+{
+    let limit = None;
+    normalize(alloc, input, output, Options { indented, limit })
+}
+
+/// Does what [`run`] does, but refuses a text in which more than `limit` containers are open at once.
+pub fn run_limited<R: Read, W: Write>(
+    alloc: Global,
+    input: &mut R,
+    output: &mut W,
+    indented: bool,
+    limit: usize,
+) -> Result<(), RunFault>
+    ensures { Runs (Some limit) indented (R.remaining input.old) (R.remaining input.new)
+        (W.contents output.old) (W.contents output.new) result }
+{
+    let limit = Some(limit);
+    normalize(alloc, input, output, Options { indented, limit })
+}
+
+fn normalize<R: Read, W: Write>(
+    alloc: Global,
+    input: &mut R,
+    output: &mut W,
+    options: Options,
+) -> Result<(), RunFault>
+    ensures { Runs options.limit options.indented (R.remaining input.old) (R.remaining input.new)
+        (W.contents output.old) (W.contents output.new) result }
+{
+    let bytes = read_all(alloc, input)?;
+    let Ok(text) = str::from_utf8(bytes.as_slice()) else {
+        return Err(RunFault::NotUtf8);
+    };
+    match parse(alloc, text, options.limit) {
+        Err(error) => Err(refusal(error)),
+        Ok(value) => {
+            let written = write_line(alloc, output, &value, options.indented);
+            // The program ends soon, and walking the value only to free it would cost time.
+            mem::forget(value);
+            written.map_err(writing_fault)
+        }
+    }
+}
+
+fn parse(alloc: Global, text: &str, limit: Option<usize>) -> JsonParseResult
+    ensures { ParsesText limit (chars text.now) result }
+{
+    match limit {
+        None => JsonValue::from_str(alloc, text),
+        Some(limit) => JsonParser::with_depth_limit(alloc, text.chars(), limit).parse(),
+    }
+}
