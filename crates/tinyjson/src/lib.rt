@@ -20,6 +20,6 @@ pub mod parser;
 pub mod value;
 
 pub use generator::{JsonGenerateError, JsonGenerateResult, JsonGenerator, format, stringify};
-pub use number::JsonNumber;
+pub use number::{JsonNumber, JsonNumberError};
 pub use parser::{JsonParseError, JsonParseErrorKind, JsonParseResult, JsonParser};
 pub use value::{InnerAsRef, InnerAsRefMut, JsonKind, JsonValue, UnexpectedValue};

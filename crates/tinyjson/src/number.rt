@@ -1,3 +1,3 @@
 //! Exact decimal numbers: the crate `tinyjson_number`.
 
-pub use tinyjson_number::JsonNumber;
+pub use tinyjson_number::{JsonNumber, JsonNumberError};

@@ -44,15 +44,6 @@ mod tests {
     }
 
     #[test]
-    fn a_number_is_no_string(rt: HostRuntime) -> Result<(), Fail> {
-        let alloc = rt.alloc();
-        let number = vec![in alloc; JsonValue::from(JsonNumber::zero())]?;
-        let string = vec![in alloc; JsonValue::from("0".to_string(alloc)?)]?;
-        assert!(rt; JsonValue::from(number) != JsonValue::from(string));
-        Ok(())
-    }
-
-    #[test]
     fn a_copy_is_equal(rt: HostRuntime) -> Result<(), Fail> {
         let alloc = rt.alloc();
         let items = vec![in alloc;

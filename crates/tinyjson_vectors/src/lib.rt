@@ -3,7 +3,15 @@
 
 pub mod access;
 pub mod conversions;
+#[cfg(test)]
+mod documentation;
 pub mod equality;
+#[cfg(test)]
+mod memory;
+#[cfg(test)]
+mod messages;
+#[cfg(test)]
+mod parsing;
 #[cfg(test)]
 mod places;
 pub mod writers;

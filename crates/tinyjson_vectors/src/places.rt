@@ -24,7 +24,7 @@ fn document(alloc: Global) -> Result<JsonValue, AllocError> {
     object(alloc, "foo", object(alloc, "bar", bar)?)
 }
 
-fn has_member(value: &JsonValue, key: &str) -> bool
+pub(crate) fn has_member(value: &JsonValue, key: &str) -> bool
     ensures { IsTrue result ↔ IsSome (member_at value.now key.now) }
 {
     value
@@ -32,7 +32,7 @@ fn has_member(value: &JsonValue, key: &str) -> bool
         .is_some_and(|members| members.contains_key(key))
 }
 
-fn has_item(value: &JsonValue, index: usize) -> bool
+pub(crate) fn has_item(value: &JsonValue, index: usize) -> bool
     ensures { IsTrue result ↔ IsSome (item_at value.now index) }
 {
     value

@@ -1,0 +1,167 @@
+//! Answers where memory is refused.
+//!
+//! With ample memory these tests pass as any do. `tools/refuse-allocations` runs each of them with one
+//! request for memory refused, for each request in turn: then a test passes too, or it ends with the
+//! want of memory that a call answered.
+
+use crate::documentation::{COMPACT, DOCUMENT, INDENTED};
+use crate::parsing::{Answer, agrees, moved};
+use std::alloc::Global;
+use std::io::ErrorKind;
+use std::process::Abort;
+use std::test::Fail;
+use tinyjson::{
+    JsonGenerator, JsonNumber, JsonNumberError, JsonParseError, JsonParseErrorKind as Kind,
+    JsonParser, JsonValue,
+};
+
+const TEXTS: &[(&str, Answer)] = &[
+    (DOCUMENT, Answer::Text(COMPACT)),
+    ("[1,]", Answer::Refusal(Kind::InvalidCharacter(']'), 1, 3)),
+    (r#""\ud800""#, Answer::Refusal(Kind::InvalidUtf16, 1, 8)),
+    (
+        r#"{"a":{"b":[1.5]},"c" 1}"#,
+        Answer::Refusal(Kind::ExpectedColon('1'), 1, 22),
+    ),
+];
+
+/// A whole number with more digits than a small number has.
+const LONG: &str = "1234567890123456789012345678901234567890123456789";
+
+/// How many characters of the text stand before the place of a refusal.
+fn consumed(text: &str, fault: &JsonParseError) -> usize {
+    let mut place = (1, 0);
+    for (count, c) in text.chars().enumerate() {
+        if place == (fault.line(), fault.column()) {
+            return count;
+        }
+        place = moved(place, c);
+    }
+    text.chars().count()
+}
+
+#[test]
+fn parse_goes_on(rt: HostRuntime) -> Result<(), Fail> {
+    let alloc = rt.alloc();
+    for &(text, expected) in TEXTS {
+        let mut parser = JsonParser::new(alloc, text.chars());
+        match parser.parse() {
+            Err(fault) if fault.kind() == Kind::OutOfMemory => {
+                let rest = text.chars().skip(consumed(text, &fault));
+                let fresh = JsonParser::new(alloc, rest).parse();
+                let again = parser.parse();
+                assert!(rt;
+                    again.map_err(|e| e.kind()) == fresh.map_err(|e| e.kind()),
+                    "{fault}"
+                );
+                return Err(Fail::from(fault));
+            }
+            answer => assert!(rt; agrees(alloc, answer, expected)?, "{text}"),
+        }
+    }
+    Ok(())
+}
+
+#[test]
+fn from_str_answers_no_other_fault(rt: HostRuntime) -> Result<(), Fail> {
+    let alloc = rt.alloc();
+    for &(text, expected) in TEXTS {
+        match JsonValue::from_str(alloc, text) {
+            Err(fault) if fault.kind() == Kind::OutOfMemory => return Err(Fail::from(fault)),
+            answer => assert!(rt; agrees(alloc, answer, expected)?, "{text}"),
+        }
+    }
+    Ok(())
+}
+
+#[test]
+fn some_texts_take_no_memory(rt: HostRuntime) -> Result<(), Fail> {
+    let alloc = rt.alloc();
+    for (text, expected) in [
+        (" true", Answer::Text("true")),
+        ("x", Answer::Refusal(Kind::InvalidCharacter('x'), 1, 0)),
+        ("", Answer::Refusal(Kind::UnexpectedEof, 1, 0)),
+    ] {
+        let answer = JsonParser::new(alloc, text.chars()).parse();
+        assert!(rt; agrees(alloc, answer, expected)?, "{text}");
+    }
+    Ok(())
+}
+
+#[test]
+fn numbers_keep_their_faults(rt: HostRuntime) -> Result<(), Fail> {
+    let alloc = rt.alloc();
+    let fault = JsonNumber::from_text(alloc, "1.").expect_err(&rt, "no number");
+    assert!(rt; matches!(fault, JsonNumberError::NotANumber));
+    let fault = JsonNumber::from_text(alloc, "1e9223372036854775808").expect_err(&rt, "too large");
+    assert!(rt; matches!(fault, JsonNumberError::OutOfRange));
+    let number = JsonNumber::from_text(alloc, "-12.30e-1")?;
+    assert!(rt; number.is_negative());
+    assert_eq!(rt; (number.digits(), number.power()), ("123", -2));
+    let long = JsonNumber::from_text(alloc, LONG)?;
+    assert_eq!(rt; (long.digits(), long.power()), (LONG, 0));
+    assert!(rt; long.try_clone(alloc)? == long);
+    let least = JsonNumber::from_i64(alloc, i64::MIN)?;
+    assert_eq!(rt; least.to_i64(), Some(i64::MIN));
+    let greatest = JsonNumber::from_u64(alloc, u64::MAX)?;
+    assert_eq!(rt; greatest.to_u64(), Some(u64::MAX));
+    Ok(())
+}
+
+#[test]
+fn a_refused_copy_changes_nothing(rt: HostRuntime) -> Result<(), Fail> {
+    let alloc = rt.alloc();
+    let value = JsonValue::from_str(alloc, DOCUMENT)?;
+    let same = JsonValue::from_str(alloc, DOCUMENT)?;
+    let copy = value.try_clone(alloc);
+    assert!(rt; value == same);
+    assert!(rt; copy? == value);
+    Ok(())
+}
+
+#[test]
+fn texts_are_made(rt: HostRuntime) -> Result<(), Fail> {
+    let alloc = rt.alloc();
+    let value = JsonValue::from_str(alloc, DOCUMENT)?;
+    for (made, expected) in [
+        (value.stringify(alloc), COMPACT),
+        (value.format(alloc), INDENTED),
+    ] {
+        if let Err(fault) = &made {
+            assert_eq!(rt; fault.message(), "out of memory");
+        }
+        assert_eq!(rt; made?.as_str(), expected);
+    }
+    Ok(())
+}
+
+/// Writes the value into an array, and checks that this text, or a beginning of it, was written.
+fn generates(
+    rt: &impl Abort,
+    alloc: Global,
+    value: &JsonValue,
+    expected: &str,
+) -> Result<(), ErrorKind> {
+    let mut bytes = [0; 128];
+    let mut room = &mut bytes[..];
+    let answer = JsonGenerator::new(alloc, &mut room).generate(value);
+    let left = room.len();
+    let written = bytes.len().saturating_sub(left);
+    let text = expected.as_bytes();
+    if answer.is_ok() {
+        assert!(rt; written == text.len());
+    }
+    assert!(rt; text.starts_with(&bytes[..written]));
+    answer.map_err(|fault| fault.kind())
+}
+
+#[test]
+fn a_beginning_is_written(rt: HostRuntime) -> Result<(), Fail> {
+    let alloc = rt.alloc();
+    let single = JsonValue::from_str(alloc, r#"{"a":1}"#)?;
+    assert_eq!(rt; generates(&rt, alloc, &single, r#"{"a":1}"#), Ok(()));
+    let value = JsonValue::from_str(alloc, DOCUMENT)?;
+    let answer = generates(&rt, alloc, &value, COMPACT);
+    assert!(rt; answer.is_ok() || answer == Err(ErrorKind::OutOfMemory));
+    Ok(answer?)
+}

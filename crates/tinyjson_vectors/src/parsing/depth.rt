@@ -1,0 +1,55 @@
+//! Parsers with a limit on open containers.
+
+use super::{Answer, agrees};
+use std::iter;
+use std::test::Fail;
+use tinyjson::{JsonKind, JsonParseErrorKind as Kind, JsonParser};
+
+/// A text, a limit and the answer.
+const ROWS: &[(&str, usize, Answer)] = &[
+    ("7", 0, Answer::Text("7")),
+    ("[1]", 1, Answer::Text("[1]")),
+    ("[[1]]", 0, Answer::Refusal(Kind::TooDeep('['), 1, 0)),
+    ("[[1]]", 1, Answer::Refusal(Kind::TooDeep('['), 1, 1)),
+    ("[[],[]]", 2, Answer::Text("[[],[]]")),
+    (
+        r#"{"a":{"b":1}}"#,
+        1,
+        Answer::Refusal(Kind::TooDeep('{'), 1, 5),
+    ),
+    (
+        r#"{"a":[[[]]],"a":1}"#,
+        3,
+        Answer::Refusal(Kind::TooDeep('['), 1, 7),
+    ),
+    (r#"{"a":[[[]]],"a":1}"#, 4, Answer::Text(r#"{"a":1}"#)),
+    ("{[]:1}", 1, Answer::Refusal(Kind::TooDeep('['), 1, 1)),
+    (
+        "{[]:1}",
+        2,
+        Answer::Refusal(Kind::KeyNotString(JsonKind::Array), 1, 3),
+    ),
+];
+
+#[test]
+fn the_limit_decides(rt: HostRuntime) -> Result<(), Fail> {
+    for &(text, limit, expected) in ROWS {
+        let answer = JsonParser::with_depth_limit(rt.alloc(), text.chars(), limit).parse();
+        assert!(rt;
+            agrees(rt.alloc(), answer, expected)?,
+            "{text} with limit {limit}: {expected:?}"
+        );
+    }
+    Ok(())
+}
+
+#[test]
+fn each_call_begins_with_nothing_open(rt: HostRuntime) -> Result<(), Fail> {
+    let mut parser = JsonParser::with_depth_limit(rt.alloc(), iter::repeat_n('[', 1000), 10);
+    for column in [10, 20] {
+        let fault = parser.parse().expect_err(&rt, "ten brackets are open");
+        assert_eq!(rt; fault.kind(), Kind::TooDeep('['));
+        assert_eq!(rt; (fault.line(), fault.column()), (1, column));
+    }
+    Ok(())
+}

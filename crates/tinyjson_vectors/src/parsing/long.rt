@@ -1,0 +1,103 @@
+//! Long texts.
+
+use std::alloc::{AllocError, Global};
+use std::test::Fail;
+use tinyjson::{JsonParseErrorKind as Kind, JsonParser, JsonValue};
+
+/// A text that has `unit` many times between `head` and `tail`.
+type Repeated = (&'static str, &'static str, usize, &'static str);
+
+fn written(alloc: Global, (head, unit, count, tail): Repeated) -> Result<String, AllocError> {
+    let mut text = String::from_str(alloc, head)?;
+    for _ in 0..count {
+        text.push_str(unit)?;
+    }
+    text.push_str(tail)?;
+    Ok(text)
+}
+
+/// Texts that are refused, and the column.
+const REFUSED: &[(Repeated, Kind, usize)] = &[
+    (("", "[", 100_000, ""), Kind::UnexpectedEof, 100_000),
+    (
+        ("", "[", 100_000, "x"),
+        Kind::InvalidCharacter('x'),
+        100_000,
+    ),
+    (("", "{", 100_000, ""), Kind::UnexpectedEof, 100_000),
+    (("", "{\"a\":", 20_000, ""), Kind::UnexpectedEof, 100_000),
+];
+
+#[test]
+fn deep_texts_are_refused(rt: HostRuntime) -> Result<(), Fail> {
+    for &(text, kind, column) in REFUSED {
+        let text = written(rt.alloc(), text)?;
+        let fault = JsonParser::new(rt.alloc(), text.chars())
+            .parse()
+            .expect_err(&rt, "the text is not whole");
+        assert_eq!(rt; fault.kind(), kind);
+        assert_eq!(rt; (fault.line(), fault.column()), (1, column));
+    }
+    Ok(())
+}
+
+/// Numbers and their compact texts.
+const NUMBERS: &[(Repeated, Repeated)] = &[
+    (("", "9", 100_000, ""), ("9.", "9", 99_999, "e99999")),
+    (("1", "0", 100_000, ""), ("1e100000", "", 0, "")),
+    (("0.", "0", 100_000, "1"), ("1e-100001", "", 0, "")),
+    (("1e308", "", 0, ""), ("1", "0", 308, "")),
+    (("5e-324", "", 0, ""), ("0.", "0", 323, "5")),
+];
+
+#[test]
+fn long_numbers_are_written(rt: HostRuntime) -> Result<(), Fail> {
+    for &(text, compact) in NUMBERS {
+        let text = written(rt.alloc(), text)?;
+        let compact = written(rt.alloc(), compact)?;
+        let value = JsonValue::from_str(rt.alloc(), text.as_str())?;
+        assert!(rt; value.stringify(rt.alloc())? == compact);
+        let again = JsonValue::from_str(rt.alloc(), compact.as_str())?;
+        assert!(rt; again.stringify(rt.alloc())? == compact);
+    }
+    Ok(())
+}
+
+#[test]
+fn a_thousand_arrays(rt: HostRuntime) -> Result<(), Fail> {
+    let mut text = written(rt.alloc(), ("", "[", 1000, ""))?;
+    text.push_str(written(rt.alloc(), ("", "]", 1000, ""))?.as_str())?;
+    let value = JsonValue::from_str(rt.alloc(), text.as_str())?;
+    assert!(rt; value.stringify(rt.alloc())? == text);
+    Ok(())
+}
+
+/// Six escapes of surrogates without one of them, and what ends the string.
+fn broken(alloc: Global, left_out: usize, end: &str) -> Result<String, AllocError> {
+    let mut text = String::from_str(alloc, "\"")?;
+    for place in 0..6 {
+        if place != left_out {
+            text.push_str(if place % 2 == 0 { "\\ud83d" } else { "\\ude00" })?;
+        }
+    }
+    text.push_str(end)?;
+    Ok(text)
+}
+
+#[test]
+fn a_surrogate_is_left_out(rt: HostRuntime) -> Result<(), Fail> {
+    for left_out in 0..6 {
+        // The column of the second refusal shows whether the quote was left.
+        for (end, column) in [("\"", 32), ("x\"", 33)] {
+            let text = broken(rt.alloc(), left_out, end)?;
+            let mut parser = JsonParser::new(rt.alloc(), text.chars());
+            let fault = parser.parse().expect_err(&rt, "a surrogate is alone");
+            assert_eq!(rt; fault.kind(), Kind::InvalidUtf16);
+            assert_eq!(rt; fault.column(), 32);
+            let rest = parser.parse().expect_err(&rt, "no value is left");
+            assert_eq!(rt; rest.kind(), Kind::UnexpectedEof);
+            assert_eq!(rt; rest.column(), column);
+        }
+    }
+    Ok(())
+}
