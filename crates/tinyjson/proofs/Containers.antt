@@ -4,7 +4,7 @@ use Rattle.std.proofs.lemmas.Bool.{ne_eqb}
 use Rattle.std.proofs.lemmas.List.{reverse-append, map-append, length-map, length-reverse}
 use Rattle.std.specs.Option.{option_to_list}
 use Rattle.tinyjson.specs.Kind.{kind_of}
-use Rattle.tinyjson.specs.Tree.{Tree, Members, no_members, null, boolean, number, string, array, object}
+use Rattle.tinyjson.specs.Tree.{Tree, items_of, Members, no_members, null, boolean, number, string, array, object}
 use Rattle.tinyjson.specs.Access.{JsonMap}
 use Rattle.tinyjson.specs.View.{view, items_view, members_view, text}
 use Rattle.tinyjson_number.specs.Number.{Canonical}
@@ -94,9 +94,9 @@ pub array_opens : (limit : Option ℕ) (fs : List Frame) (vs : List JsonValue) (
 unfolding step
 array_opens limit fs vs c h w n = rw (h, w, ne_eqb c 93 n) refl
 
-pub array_closes : (limit : Option ℕ) (fs : List Frame) (ts : List Tree) (v : Vec JsonValue Global) (c : ℕ) → map view v.items ≡ ts → c ≡ 93 → onward limit (next (in_array ts ∷ fs) after) c ≡ complete true fs (view (is.Array v)) true
+pub array_closes : (limit : Option ℕ) (fs : List Frame) (ts : List Tree) (t : Tree) (c : ℕ) → t ≡ array (items_of ts) → c ≡ 93 → onward limit (next (in_array ts ∷ fs) after) c ≡ complete true fs t true
 unfolding step
-array_closes limit fs ts v c h e = rw (view-Array v, h, e) refl
+array_closes limit fs ts t c h e = rw (h, e) refl
 
 pub array_comma : (limit : Option ℕ) (fs : List Frame) (ts us : List Tree) (c : ℕ) → us ≡ ts → c ≡ 44 → onward limit (next (in_array ts ∷ fs) after) c ≡ next (in_array us ∷ fs) awaited
 unfolding step
@@ -128,9 +128,9 @@ pub object_opens : (limit : Option ℕ) (fs : List Frame) (ms : Members) (c : �
 unfolding step
 object_opens limit fs ms c h w n = rw (h, w, ne_eqb c 125 n) refl
 
-pub object_closes : (limit : Option ℕ) (fs : List Frame) (ms : Members) (m : JsonMap) (c : ℕ) → members_view m.entries ≡ ms → c ≡ 125 → onward limit (next (at_key ms ∷ fs) after) c ≡ complete true fs (view (is.Object m)) true
+pub object_closes : (limit : Option ℕ) (fs : List Frame) (ms : Members) (t : Tree) (c : ℕ) → t ≡ object ms → c ≡ 125 → onward limit (next (at_key ms ∷ fs) after) c ≡ complete true fs t true
 unfolding step
-object_closes limit fs ms m c h e = rw (view-Object m, h, e) refl
+object_closes limit fs ms t c h e = rw (h, e) refl
 
 pub object_comma : (limit : Option ℕ) (fs : List Frame) (ms ns : Members) (c : ℕ) → ns ≡ ms → c ≡ 44 → onward limit (next (at_key ms ∷ fs) after) c ≡ next (at_key ns ∷ fs) awaited
 unfolding step

@@ -34,6 +34,10 @@ members_view-updates old new k v h =
     = ap (λ b. cond b (Some v) (lookup (string_eq q) old)) (string_eq_equiv.symm k q) in
     view_lookup q new ∙ (ap (λ r. option_map view r) (h q ∙ side) ∙ sym (seen_value (string_eq q k) v _ _ (view_lookup q old))))
 
+-- a map with the same values at all keys
+pub members_view-same : (old new : List Entry) → ((q : String Global) → lookup (string_eq q) new ≡ lookup (string_eq q) old) → members_view new ≡ members_view old
+members_view-same old new h = members_from_lookups (seen_entries new) (seen_entries old) (λ q. view_lookup q new ∙ (ap (λ r. option_map view r) (h q) ∙ sym (view_lookup q old)))
+
 differs_later : (d : String Global) (es : List Entry) (e : Entry) (more : List Entry) → AllByRecursion (λ y. string_eq d y ≡ false) (keys_of (es ++ e ∷ more)) → string_eq d e.0 ≡ false
 differs_later d [] e more h = h.0
 differs_later d (x ∷ es) e more h = differs_later d es e more h.1

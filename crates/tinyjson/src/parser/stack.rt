@@ -3,8 +3,8 @@ ghost use Rattle.std.specs.Prelude.{◌≡◌, ◌<◌, ◌≤◌, [], ◌∷◌
 ghost use Rattle.tinyjson.specs.Cursor.{Shows, left};
 ghost use Rattle.tinyjson.specs.Machine.{in_array, at_key, colon, awaited, after, finished, next, complete, fits};
 ghost use Rattle.tinyjson.specs.Reading.{Grows, GrowsFor, NeedsNone, Reads, at, frames, frame_view};
-ghost use Rattle.tinyjson.specs.Tree.{Tree, no_members, put};
-ghost use Rattle.tinyjson.specs.View.{view, members_view, text};
+ghost use Rattle.tinyjson.specs.Tree.{Tree, array, object, no_members, put};
+ghost use Rattle.tinyjson.specs.View.{view, items_view, members_view, text};
 ghost use Rattle.tinyjson.specs.declared.parser.error.JsonParseErrorKind.TheVariants.{OutOfMemory};
 
 use super::error::{JsonParseError, JsonParseErrorKind};
@@ -18,6 +18,22 @@ pub(super) enum Open {
     Array(Vec<JsonValue>),
     Object(HashMap<String, JsonValue>),
     Member(HashMap<String, JsonValue>, String),
+}
+
+/// The value of an array that is read whole. It keeps no more memory than its items need.
+fn whole_array(mut items: Vec<JsonValue>) -> JsonValue
+    ensures { view result ≡ array (items_view items.items) }
+{
+    items.shrink_to_fit();
+    JsonValue::Array(items)
+}
+
+/// The value of an object that is read whole. It keeps no more memory than its members need.
+fn whole_object(mut members: HashMap<String, JsonValue>) -> JsonValue
+    ensures { view result ≡ object (members_view members.entries) }
+{
+    members.shrink_to_fit();
+    JsonValue::Object(members)
 }
 
 /// Whether one more container may be opened.
@@ -113,7 +129,7 @@ impl<I: Iterator<Item = char>> Reader<I> {
         self.skip_white();
         match self.bump() {
             Some(',') => self.open(stack, Open::Array(items)),
-            Some(']') => Ok(Some(JsonValue::Array(items))),
+            Some(']') => Ok(Some(whole_array(items))),
             Some(c) => Err(self.refuse(JsonParseErrorKind::ExpectedCommaOrBracket(c))),
             None => Err(self.refuse(JsonParseErrorKind::UnexpectedEof)),
         }
@@ -170,7 +186,7 @@ impl<I: Iterator<Item = char>> Reader<I> {
         self.skip_white();
         match self.bump() {
             Some(',') => self.open(stack, Open::Object(members)),
-            Some('}') => Ok(Some(JsonValue::Object(members))),
+            Some('}') => Ok(Some(whole_object(members))),
             Some(c) => Err(self.refuse(JsonParseErrorKind::ExpectedCommaOrBrace(c))),
             None => Err(self.refuse(JsonParseErrorKind::UnexpectedEof)),
         }

@@ -1,6 +1,7 @@
-use Rattle.std.proofs.Common.{rules, refl, sym, subst, ◌∙◌, false, IfSome, ◌≡◌}
+use Rattle.std.proofs.Common.{ap, rules, refl, sym, subst, ◌∙◌, false, IfSome, ◌≡◌}
 use Rattle.tinyjson.specs.Characters.{is_white}
 use Rattle.tinyjson.specs.declared.parser.error.JsonParseErrorKind.TheVariants.{UnexpectedEof, ExpectedCommaOrBracket}
+use Rattle.tinyjson.specs.Tree.{array, items_of}
 use Rattle.tinyjson.proofs.Readings.{end_after, Leads-nil, Leads-whites, Leads-one, Leads-none, Halts-here, Refuses-as, Refuses-memory, Reads-after, white_after, taken_complete}
 use Rattle.tinyjson.proofs.Containers.{items-push, array_comma, array_closes, array_other}
 use Rattle.tinyjson.proofs.parser.reader.Reader.item.Goals as goal
@@ -23,7 +24,7 @@ pub returns-in-Some-eq93-clause-reads : goal.returns-in-Some-eq93-clause-reads
 returns-in-Some-eq93-clause-reads g c = λ limit.
     let steps = g.I.Iterator.next_gives in
     Leads-one steps limit _ _ _ c.in-Some-eq93.field-0 (Leads-whites steps limit _ _ _ c.skip_white.ensures.white tt (white_after limit _)) c.in-Some-eq93.ensures.takes tt
-    (array_closes limit _ _ c.push.new.self c.in-Some-eq93.field-0 (items-push c.push.new.self.items c.args.items.items c.args.value (search rules)) (search rules)) (taken_complete _ _)
+    (array_closes limit _ _ _ c.in-Some-eq93.field-0 (c.whole_array.ensures ∙ ap (λ ts. array (items_of ts)) (items-push c.push.new.self.items c.args.items.items c.args.value (search rules))) (search rules)) (taken_complete _ _)
 
 pub returns-in-Some-clause-reads : goal.returns-in-Some-clause-reads
 returns-in-Some-clause-reads g c = λ limit.

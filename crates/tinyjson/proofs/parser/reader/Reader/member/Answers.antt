@@ -1,6 +1,7 @@
-use Rattle.std.proofs.Common.{rules, refl, sym, subst, ◌∙◌, false, IfSome, ◌≡◌}
+use Rattle.std.proofs.Common.{ap, rules, refl, sym, subst, ◌∙◌, false, IfSome, ◌≡◌}
 use Rattle.tinyjson.specs.Characters.{is_white}
 use Rattle.tinyjson.specs.declared.parser.error.JsonParseErrorKind.TheVariants.{UnexpectedEof, ExpectedCommaOrBrace}
+use Rattle.tinyjson.specs.Tree.{object}
 use Rattle.tinyjson.proofs.Readings.{end_after, Leads-nil, Leads-whites, Leads-one, Leads-none, Halts-here, Refuses-as, Refuses-memory, Reads-after, white_after, taken_complete}
 use Rattle.tinyjson.proofs.Containers.{object_comma, object_closes, object_other}
 use Rattle.tinyjson.proofs.parser.reader.Reader.member.Goals as goal
@@ -23,7 +24,7 @@ pub returns-in-Some-eq125-clause-reads : goal.returns-in-Some-eq125-clause-reads
 returns-in-Some-eq125-clause-reads g c = λ limit.
     let steps = g.I.Iterator.next_gives in
     Leads-one steps limit _ _ _ c.in-Some-eq125.field-0 (Leads-whites steps limit _ _ _ c.skip_white.ensures.white tt (white_after limit _)) c.in-Some-eq125.ensures.takes tt
-    (object_closes limit _ _ c.insert_member.new.map c.in-Some-eq125.field-0 (search rules) (search rules)) (taken_complete _ _)
+    (object_closes limit _ _ _ c.in-Some-eq125.field-0 (c.whole_object.ensures ∙ ap object (search rules)) (search rules)) (taken_complete _ _)
 
 pub returns-in-Some-clause-reads : goal.returns-in-Some-clause-reads
 returns-in-Some-clause-reads g c = λ limit.
