@@ -88,7 +88,7 @@ no_leading [] h = refl
 no_leading (d ∷ []) h = refl
 no_leading (d ∷ e ∷ ds) h = grind (arith, nat_tests)
 
-fraction-some : (xs : List ℕ) → 0 < length xs → fraction_text xs ≡ 46 ∷ xs
+pub fraction-some : (xs : List ℕ) → 0 < length xs → fraction_text xs ≡ 46 ∷ xs
 fraction-some [] h = absurd (omega arith)
 fraction-some (d ∷ xs) h = refl
 

@@ -1,12 +1,14 @@
 -- What a canonical decimal is, in parts.
-use Rattle.std.proofs.Common.{◌≡◌, ◌≢◌, ℕ, suc, ◌-◌, Bool, false, List, [], ◌∷◌, length, get_or, ℤ, pos, refl, sym, ap, ◌∙◌, arith, IsTrue, not, ◌==◌}
+use Rattle.std.proofs.Common.{◌≡◌, ◌≢◌, ℕ, ◌-◌, Bool, false, List, [], ◌∷◌, length, get_or, ℤ, pos, refl, sym, ◌∙◌, arith, IsTrue, not, ◌==◌}
 use Rattle.std.specs.Int.{Width}
 use Rattle.std.specs.Char.{is_ascii_digit}
 use Rattle.std.specs.Ordering.{int_eq}
+use Rattle.std.specs.Str.{all_ascii_digits}
 use Rattle.std.proofs.lemmas.Bool.{and_parts, and_from, not-true}
 use Rattle.std.proofs.lemmas.Bool.Decides.{nat_tests, Decides-int_eq}
 use Rattle.tinyjson_number.specs.Numeral.{AreDigits, power_fits}
-use Rattle.tinyjson_number.specs.Canonical.{is_canonical_at, all_digits, starts_without_zero, ends_nonzero, ends_without_zero}
+use Rattle.tinyjson_number.proofs.Strips.{last_cons}
+use Rattle.tinyjson_number.specs.Canonical.{is_canonical_at, starts_without_zero, ends_nonzero, ends_without_zero}
 
 -- digits that neither begin nor end with 0, where there are any
 pub record HasForm (width : Width) (ds : List ℕ) (p : ℤ) : Type 0 where
@@ -15,24 +17,21 @@ pub record HasForm (width : Width) (ds : List ℕ) (p : ℤ) : Type 0 where
   pub last : get_or ds (length ds - 1) 0 ≢ 48
   pub fits : IsTrue (power_fits width p)
 
-digits-from : (ds : List ℕ) → IsTrue (all_digits ds) → AreDigits ds
+digits-from : (ds : List ℕ) → IsTrue (all_ascii_digits ds) → AreDigits ds
 digits-from [] h = tt
-digits-from (c ∷ cs) h = let k = and_parts (is_ascii_digit c) (all_digits cs) h in (k.0, digits-from cs k.1)
+digits-from (c ∷ cs) h = let k = and_parts (is_ascii_digit c) (all_ascii_digits cs) h in (k.0, digits-from cs k.1)
 
-from-digits : (ds : List ℕ) → AreDigits ds → IsTrue (all_digits ds)
+from-digits : (ds : List ℕ) → AreDigits ds → IsTrue (all_ascii_digits ds)
 from-digits [] h = refl
-from-digits (c ∷ cs) h = and_from (is_ascii_digit c) (all_digits cs) h.0 (from-digits cs h.1)
-
-last-next : (c d : ℕ) (ds : List ℕ) → get_or (c ∷ d ∷ ds) (length (c ∷ d ∷ ds) - 1) 0 ≡ get_or (d ∷ ds) (length (d ∷ ds) - 1) 0
-last-next c d ds = let e : length (c ∷ d ∷ ds) - 1 ≡ suc (length ds) = omega arith in let f : length (d ∷ ds) - 1 ≡ length ds = omega arith in ap (λ n. get_or (c ∷ d ∷ ds) n 0) e ∙ ap (λ n. get_or (d ∷ ds) n 0) (sym f)
+from-digits (c ∷ cs) h = and_from (is_ascii_digit c) (all_ascii_digits cs) h.0 (from-digits cs h.1)
 
 last-from : (c : ℕ) (cs : List ℕ) → IsTrue (ends_nonzero c cs) → get_or (c ∷ cs) (length (c ∷ cs) - 1) 0 ≢ 48
 last-from c [] h = λ e. grind (arith, nat_tests)
-last-from c (d ∷ ds) h = λ e. last-from d ds h (sym (last-next c d ds) ∙ e)
+last-from c (d ∷ ds) h = λ e. last-from d ds h (sym (last_cons c d ds) ∙ e)
 
 from-last : (c : ℕ) (cs : List ℕ) → get_or (c ∷ cs) (length (c ∷ cs) - 1) 0 ≢ 48 → IsTrue (ends_nonzero c cs)
 from-last c [] h = grind (arith, nat_tests)
-from-last c (d ∷ ds) h = from-last d ds (λ e. h (last-next c d ds ∙ e))
+from-last c (d ∷ ds) h = from-last d ds (λ e. h (last_cons c d ds ∙ e))
 
 first-from : (c : ℕ) → IsTrue (not (c == 48)) → c ≢ 48
 first-from c h = λ e. grind (arith, nat_tests)
@@ -43,13 +42,13 @@ from-first c h = grind (arith, nat_tests)
 pub form : (width : Width) (g : Bool) (c : ℕ) (cs : List ℕ) (p : ℤ) → IsTrue (is_canonical_at width g (c ∷ cs) p) → HasForm width (c ∷ cs) p
 form width g c cs p h =
     let k = and_parts (power_fits width p) _ h in
-    let d = and_parts (all_digits (c ∷ cs)) _ k.1 in
+    let d = and_parts (all_ascii_digits (c ∷ cs)) _ k.1 in
     let f = and_parts (starts_without_zero (c ∷ cs)) (ends_without_zero (c ∷ cs)) d.1 in
     record { digits = digits-from (c ∷ cs) d.0; first = first-from c f.0; last = last-from c cs f.1; fits = k.0 }
 
 pub formed : (width : Width) (g : Bool) (c : ℕ) (cs : List ℕ) (p : ℤ) → HasForm width (c ∷ cs) p → IsTrue (is_canonical_at width g (c ∷ cs) p)
 formed width g c cs p h =
-    and_from (power_fits width p) _ h.fits (and_from (all_digits (c ∷ cs)) _ (from-digits (c ∷ cs) h.digits) (and_from (starts_without_zero (c ∷ cs)) (ends_without_zero (c ∷ cs)) (from-first c h.first) (from-last c cs h.last)))
+    and_from (power_fits width p) _ h.fits (and_from (all_ascii_digits (c ∷ cs)) _ (from-digits (c ∷ cs) h.digits) (and_from (starts_without_zero (c ∷ cs)) (ends_without_zero (c ∷ cs)) (from-first c h.first) (from-last c cs h.last)))
 
 pub zero-form : (width : Width) (g : Bool) (p : ℤ) → IsTrue (is_canonical_at width g [] p) → (g ≡ false) × (p ≡ pos 0)
 zero-form width g p h = let k = and_parts (not g) (int_eq p (pos 0)) h in (not-true g k.0, (Decides-int_eq p (pos 0)).0 k.1)

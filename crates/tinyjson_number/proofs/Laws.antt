@@ -6,7 +6,7 @@ use Rattle.std.proofs.lemmas.Int.{ints}
 use Rattle.tinyjson_number.specs.Decimal.{Decimal}
 use Rattle.tinyjson_number.specs.Numeral.{value, power_fits, power_width}
 use Rattle.tinyjson_number.specs.Canonical.{IsDecimalAt}
-use Rattle.tinyjson_number.specs.NumberText.{IsNumberTextAt, IsNumberText}
+use Rattle.tinyjson_number.specs.NumberText.{IsNumberTextAt}
 use Rattle.tinyjson_number.specs.Text.{decimal_text}
 use Rattle.tinyjson_number.proofs.Literals.{one_numeral}
 use Rattle.tinyjson_number.proofs.DecimalTrip.{decimal-spelt, decimal-fits}
@@ -25,7 +25,3 @@ wider_bounds z h = grind (arith, ints)
 pub wider_fits : (z : ℤ) → IsTrue (power_fits w32 z) → IsTrue (power_fits power_width z)
 unfolding power_fits
 wider_fits z h = wider_bounds z h
-
--- what is a number with powers in the range of `i32` is one with those of `i64`, of the same decimal
-pub wider_accepts : (text : List ℕ) (d : Decimal) → IsNumberTextAt w32 text d → IsNumberText text d
-wider_accepts text d p = (p.0, p.1, p.2, wider_fits d.power p.3)

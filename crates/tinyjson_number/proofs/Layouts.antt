@@ -10,7 +10,7 @@ use Rattle.tinyjson_number.proofs.DecimalTrip.{decimal-spelt}
 use Rattle.tinyjson_number.specs.Number.{Canonical}
 use Rattle.tinyjson_number.specs.Numeral.{AreDigits, power_width, Numeral, Exponent, IsNumeral, IsExponent, minus_text, sign_text, fraction_text, exponent_text, spelling, is_sign}
 use Rattle.tinyjson_number.proofs.Forms.{digits_of_form}
-use Rattle.tinyjson_number.proofs.Runs.{range_from_digit}
+use Rattle.tinyjson_number.proofs.Runs.{digits-ascii}
 
 pub zeros_ascii : (n : ℕ) → IsAscii (replicate n 48)
 zeros_ascii zero i = omega arith
@@ -20,13 +20,8 @@ zeros_ascii (suc n) (suc i) = zeros_ascii n i
 pub none_ascii : IsAscii []
 none_ascii i = omega arith
 
-digits_ascii : (ds : List ℕ) → AreDigits ds → IsAscii ds
-digits_ascii [] h i = omega arith
-digits_ascii (d ∷ ds) h zero = let r = range_from_digit d h.0 in omega (arith, r)
-digits_ascii (d ∷ ds) h (suc i) = digits_ascii ds h.1 i
-
 pub boundary_in_digits : (ds : List ℕ) (i : ℕ) → AreDigits ds → i ≤ length ds → IsCharBoundary ds i
-boundary_in_digits ds i h within = IsCharBoundary-from_ascii ds i (digits_ascii ds h) within
+boundary_in_digits ds i h within = IsCharBoundary-from_ascii ds i (digits-ascii ds h) within
 
 pub digits_are : (c : Canonical) → AreDigits c.decimal.digits
 digits_are c = digits_of_form power_width c.decimal.negative c.decimal.digits c.decimal.power c.canonical
@@ -43,7 +38,7 @@ minus_ascii false = none_ascii
 
 fraction_ascii : (ds : List ℕ) → AreDigits ds → IsAscii (fraction_text ds)
 fraction_ascii [] h = none_ascii
-fraction_ascii (d ∷ ds) h = more_ascii 46 (d ∷ ds) (omega arith) (digits_ascii (d ∷ ds) h)
+fraction_ascii (d ∷ ds) h = more_ascii 46 (d ∷ ds) (omega arith) (digits-ascii (d ∷ ds) h)
 
 sign_ascii : (s : Option ℕ) → IfSome s (λ c. IsTrue (is_sign c)) → IsAscii (sign_text s)
 sign_ascii None h = none_ascii
@@ -52,11 +47,11 @@ sign_ascii (Some c) h = more_ascii c [] (grind (arith, nat_tests)) none_ascii
 exponent_ascii : (e : Option Exponent) → IfSome e IsExponent → IsAscii (exponent_text e)
 exponent_ascii None h = none_ascii
 exponent_ascii (Some e) h =
-    more_ascii e.letter _ (let l = h.letter in grind (arith, nat_tests)) (IsAscii-append (sign_text e.sign) e.digits (sign_ascii e.sign h.sign) (digits_ascii e.digits h.digits))
+    more_ascii e.letter _ (let l = h.letter in grind (arith, nat_tests)) (IsAscii-append (sign_text e.sign) e.digits (sign_ascii e.sign h.sign) (digits-ascii e.digits h.digits))
 
 spelling_ascii : (n : Numeral) → IsNumeral n → IsAscii (spelling n)
 spelling_ascii n h =
-    IsAscii-append (minus_text n.negative) _ (minus_ascii n.negative) (IsAscii-append n.whole _ (digits_ascii n.whole h.whole)
+    IsAscii-append (minus_text n.negative) _ (minus_ascii n.negative) (IsAscii-append n.whole _ (digits-ascii n.whole h.whole)
     (IsAscii-append (fraction_text n.fraction) _ (fraction_ascii n.fraction h.fraction) (exponent_ascii n.exponent h.exponent)))
 
 pub decimal_ascii : (d : Decimal) → IsDecimal d → IsAscii (decimal_text d)

@@ -6,6 +6,7 @@ pub mod DecimalTrip
 pub mod Runs
 pub mod Literals
 pub mod Readings
+pub mod Parts
 pub mod Integers
 pub mod Laws
 pub mod Layouts

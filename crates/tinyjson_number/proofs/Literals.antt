@@ -4,13 +4,14 @@ use Rattle.std.specs.List.{prefix_len}
 use Rattle.std.specs.Char.{is_ascii_digit}
 use Rattle.std.proofs.lemmas.Bool.Decides.{nat_tests}
 use Rattle.std.proofs.Math.Dec.{eqb-suc-zero}
-use Rattle.std.proofs.lemmas.Bool.{eqb-true}
+use Rattle.std.proofs.lemmas.Bool.{eqb-true, or_parts}
 use Rattle.std.proofs.lemmas.List.Sums.{prefix_len_is}
 use Rattle.std.proofs.lemmas.List.{get_or_append_left, get_or-append_right, take_at, drop_at}
+use Rattle.tinyjson_number.proofs.DecimalTrip.{fraction-some}
 use Rattle.tinyjson_number.proofs.Runs.{all_from_prefix, digit_at, front_digits}
 use Rattle.tinyjson_number.specs.Numeral.{Exponent, Numeral, AreDigits, IsExponent, IsNumeral, sign_text, minus_text, fraction_text, exponent_text, spelling, is_exponent_letter, is_sign, has_leading_zero}
 use Rattle.tinyjson_number.specs.NumberText.{Spells}
-use Rattle.tinyjson_number.specs.Literal.{◌>>=◌, begins, digits_front, digits_rest, after_minus, whole_at, fraction_at, sign_at, exponent_digits_at, exponent_at, scan}
+use Rattle.tinyjson_number.specs.private.Scan.{◌>>=◌, begins, digits_front, digits_rest, after_minus, whole_at, fraction_at, sign_at, exponent_digits_at, exponent_at, scan}
 
 -- a bind that gives something
 bind_some : {A B : Type 0} (o : Option A) (f : A → Option B) (y : B) → (o >>= f) ≡ Some y → (x : A) × (o ≡ Some x) × (f x ≡ Some y)
@@ -39,23 +40,15 @@ record WholeRead (text : List ℕ) (p : List ℕ × List ℕ) : Type 0 where
   no_leading_zero : has_leading_zero p.0 ≡ false
   joined : p.0 ++ p.1 ≡ text
 
-either_false : (a b : Bool) → (a || b) ≡ false → (a ≡ false) × (b ≡ false)
-either_false true b h = absurd (cc)
-either_false false b h = (refl, h)
-
 whole_sound : (text : List ℕ) (p : List ℕ × List ℕ) → whole_at text ≡ Some p → WholeRead text p
 unfolding whole_at
 whole_sound text p h =
     let front : List ℕ = digits_front text in
     let c = chosen_some (eqb (length front) 0 || has_leading_zero front) (front, digits_rest text) p h in
-    let tests = either_false (eqb (length front) 0) (has_leading_zero front) c.0 in
+    let tests = or_parts (eqb (length front) 0) (has_leading_zero front) c.0 in
     let empty = tests.0 in
     subst (WholeRead text) c.1
     (record { digits = front_digits text; some_digit = grind (arith, nat_tests); no_leading_zero = tests.1; joined = take-append-drop (prefix_len is_ascii_digit text) text })
-
-fraction_text_is : (ds : List ℕ) → 0 < length ds → fraction_text ds ≡ 46 ∷ ds
-fraction_text_is [] h = absurd (omega arith)
-fraction_text_is (d ∷ ds) h = refl
 
 abbrev FractionRead : List ℕ → List ℕ × List ℕ → Type 0
 FractionRead text p = AreDigits p.0 × (fraction_text p.0 ++ p.1 ≡ text)
@@ -66,7 +59,7 @@ fraction_cases true x xs p is_point h =
     let c = chosen_some (eqb (length fr) 0) (fr, digits_rest xs) p h in
     let some : 0 < length fr = grind (arith, nat_tests, c.0) in
     subst (FractionRead (x ∷ xs)) c.1
-    (front_digits xs, ap (λ t. t ++ digits_rest xs) (fraction_text_is fr some) ∙ (λ i. sym (is_point refl) i ∷ take-append-drop (prefix_len is_ascii_digit xs) xs i))
+    (front_digits xs, ap (λ t. t ++ digits_rest xs) (fraction-some fr some) ∙ (λ i. sym (is_point refl) i ∷ take-append-drop (prefix_len is_ascii_digit xs) xs i))
 fraction_cases false x xs p is_point h = let e : ◌≡◌ {A = List ℕ × List ℕ} ([], x ∷ xs) p = cc in subst (FractionRead (x ∷ xs)) e (tt, refl)
 
 fraction_sound : (text : List ℕ) (p : List ℕ × List ℕ) → fraction_at text ≡ Some p → FractionRead text p

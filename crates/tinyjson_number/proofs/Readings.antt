@@ -1,6 +1,7 @@
 -- The decimal of a numeral, from what the code keeps of it.
-use Rattle.std.proofs.Common.{◌≡◌, ◌≢◌, ℕ, ◌-◌, ◌<◌, ◌^◌, min, get_or, Bool, true, false, List, [], ◌∷◌, ◌++◌, length, ℤ, pos, neg_ℤ, ◌≤ℤ◌, IsTrue, ◌&&◌, ◌==◌, cond, refl, sym, ap, ◌∙◌, subst, ⊎_elim, arith, Option, Some, None, inl, inr, ◌⊎◌, Result, Ok, Err}
-use Rattle.std.specs.Prelude.{FitsSigned, int_le, int_lt}
+use Rattle.std.proofs.Common.{◌≡◌, ◌≢◌, ℕ, ◌-◌, ◌<◌, ◌≤◌, ◌^◌, min, get_or, Bool, true, false, List, [], ◌∷◌, ◌++◌, length, ℤ, pos, negsuc, neg_ℤ, IsTrue, ◌&&◌, ◌==◌, cond, refl, sym, ap, ◌∙◌, subst, ⊎_elim, arith, Option, Some, None, inl, inr, ◌⊎◌, Result, Ok, Err}
+use mir.Val.{to_z, of_z}
+use Rattle.std.specs.Prelude.{FitsSigned, int_le, int_lt, ◌+ℤ◌, ◌-ℤ◌}
 use Rattle.std.specs.Option.{option_map}
 use Rattle.std.specs.Result.{IsErrAnd}
 use Rattle.std.specs.Int.{w64}
@@ -12,8 +13,8 @@ use Rattle.tinyjson_number.specs.Numeral.{Exponent, Numeral, AreDigits, signed, 
 use Rattle.tinyjson_number.specs.Canonical.{is_canonical}
 use Rattle.tinyjson_number.specs.NumberText.{Spells}
 use Rattle.tinyjson_number.specs.Number.{Canonical}
-use Rattle.tinyjson_number.specs.Literal.{exponent_cap, capped, shifted, Parts, parts}
-use Rattle.tinyjson_number.specs.Reading.{Reads, ReadsNumeral}
+use Rattle.tinyjson_number.specs.private.Scan.{exponent_cap, capped, shifted}
+use Rattle.tinyjson_number.specs.Reading.{Reads, ReadsNumeral, plain}
 use Rattle.tinyjson_number.specs.Error.{of_literal}
 use Rattle.tinyjson_number.specs.declared.error.JsonNumberError.{JsonNumberError}
 use Rattle.tinyjson_number.specs.declared.error.LiteralError.{LiteralError}
@@ -66,21 +67,6 @@ cap_harmless : (e : Option Exponent) (f t : ℕ) → f < 2 ^ 64 → t < 2 ^ 64 �
 cap_harmless None f t hf ht fits = refl
 cap_harmless (Some e) f t hf ht fits = cap_signed e.sign (digits_value 10 e.digits) f t hf ht fits
 
-abbrev WithinCap : ℤ → Type 0
-WithinCap z = (neg_ℤ (pos exponent_cap) ≤ℤ z) × (z ≤ℤ pos exponent_cap)
-
-bound_cases : (b : Bool) (v : ℕ) → WithinCap (cond b (neg_ℤ (pos (min v exponent_cap))) (pos (min v exponent_cap)))
-bound_cases true v = (omega (arith, ints), omega (arith, ints))
-bound_cases false v = (omega (arith, ints), omega (arith, ints))
-
-signed_bounds : (s : Option ℕ) (v : ℕ) → WithinCap (signed s (min v exponent_cap))
-signed_bounds None v = (omega (arith, ints), omega (arith, ints))
-signed_bounds (Some c) v = bound_cases (c == 45) v
-
-pub capped_bounds : (e : Option Exponent) → WithinCap (capped e)
-capped_bounds None = (omega (arith, ints), omega (arith, ints))
-capped_bounds (Some e) = signed_bounds e.sign (digits_value 10 e.digits)
-
 -- ---- the decimal of a numeral
 
 -- stripped digits have the one form
@@ -100,46 +86,61 @@ zero-value n h = ap (λ t. decimal_of n.negative t (power_of n)) h
 pub zero-in_range : (n : Numeral) → significant (n.whole ++ n.fraction) ≡ [] → IsTrue (in_range (value n))
 zero-in_range n h = subst (λ (d : Decimal). IsTrue (in_range d)) (sym (zero-value n h)) (power-fits (pos 0) (record { sfits = omega arith }))
 
--- from the parts that the code keeps of the numeral, and the digits that are left of them
-module _ (n : Numeral) (l : Parts) (same : l ≡ parts n) (s : List ℕ) (zeros : ℕ) (is : s ≡ significant (l.whole ++ l.fraction)) (some : 0 < length s) (zeros_are : zeros ≡ trailing_zeros (l.whole ++ l.fraction)) (short : length l.fraction < 2 ^ 64) (few : zeros < 2 ^ 64) where
+-- from the digits that are left of the numeral
+module _ (n : Numeral) (s : List ℕ) (zeros : ℕ) (is : s ≡ significant (n.whole ++ n.fraction)) (some : 0 < length s) (zeros_are : zeros ≡ trailing_zeros (n.whole ++ n.fraction)) where
   abbrev shifted_by : ℤ → ℤ
-  shifted_by e = shifted e (length l.fraction) zeros
+  shifted_by e = shifted e (length n.fraction) zeros
 
   power_is : power_of n ≡ shifted_by (exponent_value n.exponent)
-  power_is = λ i. shifted (exponent_value n.exponent) (length (sym same i).fraction) ((ap (λ (k : Parts). trailing_zeros (k.whole ++ k.fraction)) (sym same) ∙ sym zeros_are) i)
+  power_is = ap (λ z. shifted (exponent_value n.exponent) (length n.fraction) z) (sym zeros_are)
 
-  value_is : record { negative = l.negative; digits = s; power = power_of n } ≡ value n
+  value_is : record { negative = n.negative; digits = s; power = power_of n } ≡ value n
   unfolding value
-  value_is =
-      sym (decimal-of_some l.negative s (power_of n) some)
-      ∙ ap (λ t. decimal_of l.negative t (power_of n)) is
-      ∙ ap (λ (k : Parts). decimal_of k.negative (significant (k.whole ++ k.fraction)) (power_of n)) same
+  value_is = sym (decimal-of_some n.negative s (power_of n) some) ∙ ap (λ t. decimal_of n.negative t (power_of n)) is
 
-  harmless : FitsSigned w64 (shifted_by l.exponent) ⊎ FitsSigned w64 (shifted_by (exponent_value n.exponent)) → l.exponent ≡ exponent_value n.exponent
-  harmless fits =
-      let capped_is = ap (λ (k : Parts). k.exponent) same in
-      capped_is ∙ cap_harmless n.exponent (length l.fraction) zeros short few (subst (λ e. FitsSigned w64 (shifted_by e) ⊎ FitsSigned w64 (shifted_by (exponent_value n.exponent))) capped_is fits)
+  pub value_exact : (p : ℤ) → p ≡ shifted_by (exponent_value n.exponent) → record { negative = n.negative; digits = s; power = p } ≡ value n
+  value_exact p p_is = ap (λ q. record { negative = n.negative; digits = s; power = q }) (p_is ∙ sym power_is) ∙ value_is
 
-  pub value_kept : (p : ℤ) → p ≡ shifted_by l.exponent → FitsSigned w64 p → record { negative = l.negative; digits = s; power = p } ≡ value n
-  value_kept p p_is fits =
-      let exact : p ≡ power_of n = p_is ∙ ap shifted_by (harmless (inl (subst (FitsSigned w64) p_is fits))) ∙ sym power_is in
-      ap (λ q. record { negative = l.negative; digits = s; power = q }) exact ∙ value_is
+  pub value_fits : (p : ℤ) → p ≡ shifted_by (exponent_value n.exponent) → FitsSigned w64 p → IsTrue (in_range (value n))
+  value_fits p p_is fits = subst (λ q. IsTrue (power_fits power_width q)) (ap (λ (d : Decimal). d.power) (value_exact p p_is)) (power-fits p fits)
 
-  pub value_in : (p : ℤ) → p ≡ shifted_by l.exponent → FitsSigned w64 p → IsTrue (in_range (value n))
-  value_in p p_is fits = subst (λ q. IsTrue (power_fits power_width q)) (ap (λ (d : Decimal). d.power) (value_kept p p_is fits)) (power-fits p fits)
+  -- by the exponent that is cut to the cap
+  module _ (short : length n.fraction < 2 ^ 64) (few : zeros < 2 ^ 64) where
+    harmless : FitsSigned w64 (shifted_by (capped n.exponent)) ⊎ FitsSigned w64 (shifted_by (exponent_value n.exponent)) → capped n.exponent ≡ exponent_value n.exponent
+    harmless fits = cap_harmless n.exponent (length n.fraction) zeros short few fits
 
-  pub value_out : ¬ FitsSigned w64 (shifted_by l.exponent) → in_range (value n) ≡ false
-  value_out out = refuted (in_range (value n)) (λ fits.
-      let real : FitsSigned w64 (shifted_by (exponent_value n.exponent)) = subst (FitsSigned w64) (sym (ap (λ (d : Decimal). d.power) value_is) ∙ power_is) (power-within (value n).power fits) in
-      out (subst (λ e. FitsSigned w64 (shifted_by e)) (sym (harmless (inr real))) real))
+    exact_power : (p : ℤ) → p ≡ shifted_by (capped n.exponent) → FitsSigned w64 p → p ≡ shifted_by (exponent_value n.exponent)
+    exact_power p p_is fits = p_is ∙ ap shifted_by (harmless (inl (subst (FitsSigned w64) p_is fits)))
 
--- ---- from the parts that the code keeps to the numeral
+    pub value_kept : (p : ℤ) → p ≡ shifted_by (capped n.exponent) → FitsSigned w64 p → record { negative = n.negative; digits = s; power = p } ≡ value n
+    value_kept p p_is fits = value_exact p (exact_power p p_is fits)
 
-pub kept_of : (o : Option Numeral) (p : Parts) → Some p ≡ option_map parts o → (n : Numeral) × (o ≡ Some n) × (p ≡ parts n)
-kept_of None p h = absurd (cc)
-kept_of (Some n) p h = (n, refl, cc)
+    pub value_in : (p : ℤ) → p ≡ shifted_by (capped n.exponent) → FitsSigned w64 p → IsTrue (in_range (value n))
+    value_in p p_is fits = value_fits p (exact_power p p_is fits) fits
 
-pub none_of : (o : Option Numeral) → None ≡ option_map parts o → o ≡ None
+    pub value_out : ¬ FitsSigned w64 (shifted_by (capped n.exponent)) → in_range (value n) ≡ false
+    value_out out = refuted (in_range (value n)) (λ fits.
+        let real : FitsSigned w64 (shifted_by (exponent_value n.exponent)) = subst (FitsSigned w64) (sym (ap (λ (d : Decimal). d.power) value_is) ∙ power_is) (power-within (value n).power fits) in
+        out (subst (λ e. FitsSigned w64 (shifted_by e)) (sym (harmless (inr real))) real))
+
+-- the power of few digits without an exponent, as the code computes it
+pub power_few : (zeros fraction : ℕ) → zeros ≤ 24 → fraction ≤ 24 → to_z w64 (of_z w64 (to_z w64 zeros -ℤ to_z w64 fraction)) ≡ shifted (pos 0) fraction zeros
+power_few zeros fraction h k = omega (arith, ints, h, k)
+
+few-fits : (z : ℤ) (zeros fraction : ℕ) → z ≡ (pos 0 -ℤ pos fraction) +ℤ pos zeros → zeros ≤ 24 → fraction ≤ 24 → FitsSigned w64 z
+few-fits (pos n) zeros fraction e h k = record { sfits = omega (arith, ints, e, h, k) }
+few-fits (negsuc n) zeros fraction e h k = record { sfits = omega (arith, ints, e, h, k) }
+
+pub power_few-fits : (zeros fraction : ℕ) → zeros ≤ 24 → fraction ≤ 24 → FitsSigned w64 (shifted (pos 0) fraction zeros)
+power_few-fits zeros fraction h k = few-fits (shifted (pos 0) fraction zeros) zeros fraction refl h k
+
+-- ---- from what was read to the numeral
+
+pub plain_of : (o : Option Numeral) (m : Numeral) → Some m ≡ option_map plain o → (n : Numeral) × (o ≡ Some n) × (m ≡ plain n)
+plain_of None m h = absurd (cc)
+plain_of (Some n) m h = (n, refl, cc)
+
+pub none_of : (o : Option Numeral) → None ≡ option_map plain o → o ≡ None
 none_of None h = refl
 none_of (Some n) h = absurd (cc)
 

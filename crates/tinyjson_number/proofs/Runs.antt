@@ -1,5 +1,5 @@
 -- Runs of digits, and where a text may be cut.
-use Rattle.std.proofs.Common.{◌≡◌, ℕ, zero, suc, ◌+◌, ◌-◌, ◌<◌, ◌≤◌, true, List, [], ◌∷◌, length, get_or, IsTrue, IsUtf8, refl, subst, ⊎_elim, arith, Result, Ok, Err}
+use Rattle.std.proofs.Common.{◌≡◌, ℕ, zero, suc, ◌+◌, ◌-◌, ◌<◌, ◌≤◌, true, List, [], ◌∷◌, ◌++◌, length, get_or, IsTrue, IsUtf8, refl, subst, ⊎_elim, arith, Result, Ok, Err}
 use Rattle.std.specs.Result.{MatchResult, IsOk}
 use Rattle.std.specs.List.{prefix_len, list_all}
 use Rattle.std.specs.Str.{IsCharBoundary, IsAscii}
@@ -14,7 +14,7 @@ use Rattle.std.proofs.lemmas.List.{get_or-take}
 use Rattle.std.proofs.lemmas.Bool.Decides.{nat_tests}
 use Rattle.std.proofs.lemmas.Bool.{cases_lt, and_parts, and_from}
 use Rattle.tinyjson_number.specs.Numeral.{AreDigits}
-use Rattle.tinyjson_number.specs.Literal.{digits_front}
+use Rattle.tinyjson_number.specs.private.Scan.{digits_front}
 
 -- the same by std's word
 pub digits-list_all : (xs : List ℕ) → list_all is_ascii_digit xs ≡ true → AreDigits xs
@@ -36,18 +36,14 @@ range_from_digit c h = grind (arith, nat_tests)
 ascii_from_digit : (c : ℕ) → IsTrue (is_ascii_digit c) → c < 128
 ascii_from_digit c h = grind (arith, nat_tests)
 
--- a text may be cut after the digits that it begins with
-pub boundary_after_digits : (bs : List ℕ) → IsUtf8 bs → IsCharBoundary bs (prefix_len is_ascii_digit bs)
-boundary_after_digits bs u =
-    ⊎_elim
-    (λ some.
-    let n : ℕ = prefix_len is_ascii_digit bs - 1 in
-    let more : n + 1 ≡ prefix_len is_ascii_digit bs = omega arith in
-    subst (IsCharBoundary bs) more (IsCharBoundary-after_ascii bs n u (omega (arith, prefix_len-le-length is_ascii_digit bs)) (ascii_from_digit _ (prefix_len_passes is_ascii_digit bs n 0 (omega arith)))))
-    (λ none.
-    let is_none : 0 ≡ prefix_len is_ascii_digit bs = omega arith in
-    subst (IsCharBoundary bs) is_none (IsCharBoundary-start bs u))
-    (cases_lt 0 (prefix_len is_ascii_digit bs))
+-- the two parts of digits
+pub digits-front : (xs ys : List ℕ) → AreDigits (xs ++ ys) → AreDigits xs
+digits-front [] ys h = tt
+digits-front (d ∷ xs) ys h = (h.0, digits-front xs ys h.1)
+
+pub digits-back : (xs ys : List ℕ) → AreDigits (xs ++ ys) → AreDigits ys
+digits-back [] ys h = h
+digits-back (d ∷ xs) ys h = digits-back xs ys h.1
 
 -- a text whose digits in front are all of it is all digits
 pub all_from_prefix : (xs : List ℕ) → length xs ≤ prefix_len is_ascii_digit xs → AreDigits xs
@@ -60,12 +56,8 @@ front_digits xs =
     let within : i < prefix_len is_ascii_digit xs = omega (arith, lt, length-prefix_len is_ascii_digit xs) in
     rw (get_or-take (prefix_len is_ascii_digit xs) xs i 0 within) (prefix_len_passes is_ascii_digit xs i 0 within))))
 
--- digits may be cut anywhere
-pub boundary_in_digits : (xs : List ℕ) (k : ℕ) → AreDigits xs → k < length xs → 128 ≤ get_or xs k 0 → 192 ≤ get_or xs k 0
-boundary_in_digits xs k all lt high = absurd (omega (arith, high, ascii_from_digit (get_or xs k 0) (digit_at xs k all lt)))
-
 -- digits are UTF-8
-digits-ascii : (xs : List ℕ) → AreDigits xs → IsAscii xs
+pub digits-ascii : (xs : List ℕ) → AreDigits xs → IsAscii xs
 digits-ascii [] h = IsAscii-nil
 digits-ascii (d ∷ xs) h = IsAscii-cons d xs (ascii_from_digit d h.0) (digits-ascii xs h.1)
 

@@ -64,7 +64,7 @@ last_one true d e = λ h. absurd (omega (arith, h))
 last_one false d e = λ h. grind (arith, nat_tests)
 
 -- the last of a longer list
-last_cons : (d x : ℕ) (xs : List ℕ) → get_or (d ∷ x ∷ xs) (length (d ∷ x ∷ xs) - 1) 0 ≡ get_or (x ∷ xs) (length (x ∷ xs) - 1) 0
+pub last_cons : (d x : ℕ) (xs : List ℕ) → get_or (d ∷ x ∷ xs) (length (d ∷ x ∷ xs) - 1) 0 ≡ get_or (x ∷ xs) (length (x ∷ xs) - 1) 0
 last_cons d x xs = let e : length (d ∷ x ∷ xs) - 1 ≡ suc (length xs) = omega arith in let f : length (x ∷ xs) - 1 ≡ length xs = omega arith in ap (λ n. get_or (d ∷ x ∷ xs) n 0) e ∙ ap (λ n. get_or (x ∷ xs) n 0) (sym f)
 
 last_before : (d : ℕ) (xs : List ℕ) → get_or xs (length xs - 1) 0 ≢ 48 → get_or (before_stripped d xs) (length (before_stripped d xs) - 1) 0 ≢ 48

@@ -1,14 +1,10 @@
 -- The one form of each decimal.
 use Rattle.std.specs.Prelude.{ℕ, ℤ, pos, Bool, true, not, ◌&&◌, ◌==◌, List, [], ◌∷◌, IsTrue}
 use Rattle.std.specs.Ordering.{int_eq}
-use Rattle.std.specs.Char.{is_ascii_digit}
+use Rattle.std.specs.Str.{all_ascii_digits}
 use Rattle.std.specs.Int.{Width}
 use Rattle.tinyjson_number.specs.Decimal.{Decimal}
 use Rattle.tinyjson_number.specs.Numeral.{power_fits, power_width}
-
-abbrev pub all_digits : List ℕ → Bool
-all_digits [] = true
-all_digits (c ∷ cs) = is_ascii_digit c && all_digits cs
 
 abbrev pub starts_without_zero : List ℕ → Bool
 starts_without_zero [] = true
@@ -26,7 +22,8 @@ ends_without_zero (c ∷ cs) = ends_nonzero c cs
 -- zero, which has no sign and no power, or digits that neither begin nor end with 0, and a power that fits the width
 abbrev pub is_canonical_at : Width → Bool → List ℕ → ℤ → Bool
 is_canonical_at width negative [] power = not negative && int_eq power (pos 0)
-is_canonical_at width negative (c ∷ cs) power = power_fits width power && (all_digits (c ∷ cs) && (starts_without_zero (c ∷ cs) && ends_without_zero (c ∷ cs)))
+is_canonical_at width negative (c ∷ cs) power =
+    power_fits width power && (all_ascii_digits (c ∷ cs) && (starts_without_zero (c ∷ cs) && ends_without_zero (c ∷ cs)))
 
 abbrev pub IsDecimalAt : Width → Decimal → Type 0
 IsDecimalAt width d = IsTrue (is_canonical_at width d.negative d.digits d.power)

@@ -5,7 +5,7 @@ pub mod Number
 pub mod NumberText
 pub mod Text
 pub mod Error
-pub mod Literal
 pub mod Integer
 pub mod Reading
 pub mod Layout
+pub mod private

@@ -10,8 +10,8 @@ use Rattle.std.proofs.lemmas.Bool.Decides.{Decides-and, Decides-like, Decides-in
 use Rattle.std.proofs.lemmas.Cmp.{on_equiv}
 use Rattle.std.proofs.lemmas.Slice.Eq.{bytes_eq-Decides}
 use mathlib.Core.HLevel.{is_prop→PathP}
-use Rattle.tinyjson_number.specs.declared.storage.Digits.{Digits}
-use Rattle.tinyjson_number.specs.declared.storage.Digits.TheVariants.{Short, Long}
+use Rattle.tinyjson_number.specs.declared.digits.Digits.{Digits}
+use Rattle.tinyjson_number.specs.declared.digits.Digits.TheVariants.{Short, Long}
 use Rattle.tinyjson_number.specs.Decimal.{Decimal}
 use Rattle.tinyjson_number.specs.Canonical.{IsDecimal}
 
@@ -27,16 +27,24 @@ digits_of (Long s) = string_bytes s
 
 -- equal decimals are equal, whatever shows that they are canonical
 pub same_canonical : (a b : Canonical) → a.decimal ≡ b.decimal → a ≡ b
-same_canonical a b e = λ i. record { decimal = e i; canonical = is_prop→PathP (λ j. IsDecimal (e j)) (λ j. Coded-set coded_bool _ _) a.canonical b.canonical i }
+same_canonical a b e = λ i. record {
+  decimal = e i;
+  canonical = is_prop→PathP (λ j. IsDecimal (e j)) (λ j. Coded-set coded_bool _ _) a.canonical b.canonical i;
+}
 
 abbrev pub parts_code : Coded (Bool × (List ℕ × ℤ))
 parts_code = coded× coded_bool (coded× (coded_list coded_ℕ) coded_ℤ)
 
-pub same_code : (a b : Canonical) → parts_code.code (a.decimal.negative, (a.decimal.digits, a.decimal.power)) ≡ parts_code.code (b.decimal.negative, (b.decimal.digits, b.decimal.power)) → a ≡ b
-same_code a b h = same_canonical a b (let e = parts_code.inj _ _ h in λ i. record { negative = (e i).0; digits = (e i).1.0; power = (e i).1.1 })
+abbrev pub decimal_parts : Decimal → Bool × (List ℕ × ℤ)
+decimal_parts d = (d.negative, (d.digits, d.power))
+
+pub same_code : (a b : Canonical) → parts_code.code (decimal_parts a.decimal) ≡ parts_code.code (decimal_parts b.decimal) → a ≡ b
+same_code a b h =
+    let e = parts_code.inj _ _ h in
+    same_canonical a b (λ i. record { negative = (e i).0; digits = (e i).1.0; power = (e i).1.1 })
 
 abbrev pub canonical_code : Coded Canonical
-canonical_code = record { code = λ a. parts_code.code (a.decimal.negative, (a.decimal.digits, a.decimal.power)); inj = same_code }
+canonical_code = record { code = λ a. parts_code.code (decimal_parts a.decimal); inj = same_code }
 
 -- the test of two decimals for equality
 abbrev pub decimal_eq : Decimal → Decimal → Bool
@@ -44,8 +52,10 @@ decimal_eq a b = beq a.negative b.negative && (bytes_eq a.digits b.digits && int
 
 pub decimal_eq-Decides : (a b : Decimal) → Decides (decimal_eq a b) (a ≡ b)
 decimal_eq-Decides a b =
-    let parts = Decides-and _ _ (booleans_Decides a.negative b.negative) (Decides-and _ _ (bytes_eq-Decides a.digits b.digits) (Decides-int_eq a.power b.power)) in
-    Decides-like _ (λ p. (λ i. record { negative = p.0 i; digits = p.1.0 i; power = p.1.1 i })) (λ e. (ap (λ d. d.negative) e, (ap (λ d. d.digits) e, ap (λ d. d.power) e))) parts
+    let digits_power = Decides-and _ _ (bytes_eq-Decides a.digits b.digits) (Decides-int_eq a.power b.power) in
+    let parts = Decides-and _ _ (booleans_Decides a.negative b.negative) digits_power in
+    Decides-like _ (λ p. (λ i. record { negative = p.0 i; digits = p.1.0 i; power = p.1.1 i }))
+    (λ e. (ap (λ d. d.negative) e, (ap (λ d. d.digits) e, ap (λ d. d.power) e))) parts
 
 -- what `==` of two numbers answers: whether their decimals are equal
 abbrev pub number_eq : Canonical → Canonical → Bool

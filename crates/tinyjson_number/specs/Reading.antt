@@ -1,13 +1,41 @@
 -- What reading a number answers.
-use Rattle.std.specs.Prelude.{◌≡◌, ℕ, List, false, IsTrue, Result, Ok, Err}
+use Rattle.std.specs.Prelude.{◌≡◌, ◌==◌, ℕ, Bool, List, false, IsTrue, Option, Some, None, Result, Ok, Err, if◌then◌else◌, option_map}
 use Rattle.tinyjson_number.specs.Decimal.{Decimal}
-use Rattle.tinyjson_number.specs.Numeral.{Numeral, value, in_range}
+use Rattle.tinyjson_number.specs.Numeral.{Numeral, Exponent, value, in_range}
 use Rattle.tinyjson_number.specs.NumberText.{Spells, IsNumberText}
 use Rattle.tinyjson_number.specs.Number.{Canonical}
 use Rattle.tinyjson_number.specs.declared.error.LiteralError.{LiteralError}
 use Rattle.tinyjson_number.specs.declared.error.LiteralError.TheVariants as literal
 use Rattle.tinyjson_number.specs.declared.error.JsonNumberError.{JsonNumberError}
 use Rattle.tinyjson_number.specs.declared.error.JsonNumberError.TheVariants.{NotANumber, OutOfRange, OutOfMemory}
+use Rattle.tinyjson_number.specs.declared.parse.NumberParts.{NumberParts}
+use Rattle.tinyjson_number.specs.declared.parse.ExponentParts.{ExponentParts}
+
+-- the exponent of these parts, with the letter e and without a plus sign
+abbrev pub exponent_of : Option ExponentParts → Option Exponent
+exponent_of None = None
+exponent_of (Some e) = Some (record { letter = 101; sign = if e.negative then Some 45 else None; digits = e.digits.now })
+
+-- the numeral of these parts
+abbrev pub numeral_of : NumberParts → Numeral
+numeral_of p = record { negative = p.negative; whole = p.whole.now; fraction = p.fraction.now; exponent = exponent_of p.exponent }
+
+-- the same sign, or none for a plus sign
+abbrev pub plain_sign : Option ℕ → Option ℕ
+plain_sign None = None
+plain_sign (Some c) = if c == 45 then Some 45 else None
+
+abbrev pub plain_exponent : Option Exponent → Option Exponent
+plain_exponent None = None
+plain_exponent (Some e) = Some (record { letter = 101; sign = plain_sign e.sign; digits = e.digits })
+
+-- the same numeral, its exponent with the letter e and without a plus sign
+abbrev pub plain : Numeral → Numeral
+plain n = record { negative = n.negative; whole = n.whole; fraction = n.fraction; exponent = plain_exponent n.exponent }
+
+-- the numeral without an exponent
+abbrev pub plain_numeral : Bool → List ℕ → List ℕ → Numeral
+plain_numeral negative whole fraction = record { negative = negative; whole = whole; fraction = fraction; exponent = None }
 
 -- of any text: a number only with the decimal of the text, and each refusal only of such a text
 abbrev pub Reads : List ℕ → Result Canonical JsonNumberError → Type 0

@@ -1,94 +1,50 @@
-//! Digits without the zeros at their ends.
-ghost use Rattle.std.specs.Prelude.{◌≡◌, ◌+◌, ◌<◌, ◌≤◌, ◌^◌, ◌++◌, length, take, drop};
-ghost use Rattle.tinyjson_number.specs.Decimal.{strip_leading, strip_trailing, significant, trailing_zeros};
+//! How a number keeps its digits.
+ghost use Rattle.std.specs.Prelude.{◌≡◌, ◌+◌, ◌<◌, ◌^◌, [], ◌++◌, length, IfOk};
 ghost use Rattle.tinyjson_number.specs.Numeral.{AreDigits};
+ghost use Rattle.tinyjson_number.specs.Number.{digits_of};
 
-/// The digits of a whole part and a fraction without the zeros at both ends, and how many zeros were
-/// stripped at the right end.
-#[derive(Clone, Copy)]
-pub(crate) struct Stripped<'a> {
-    pub(crate) whole: &'a str,
-    pub(crate) fraction: &'a str,
-    pub(crate) zeros: usize,
+use crate::inline::{Inline, ROOM, digits_str};
+use std::alloc::{AllocError, Global};
+
+/// Few digits are kept in the number itself, and many in memory of their own.
+#[derive(Drop)]
+pub(crate) enum Digits {
+    Short(Inline),
+    Long(String),
 }
 
-pub(crate) fn strip<'a>(whole: &'a str, fraction: &'a str) -> Stripped<'a>
-    requires whole { AreDigits whole.now }
-    requires fraction { AreDigits fraction.now }
-    requires room { length whole.now + length fraction.now < 2 ^ 64 }
-    ensures digits { result.whole.now ++ result.fraction.now ≡ significant (whole.now ++ fraction.now) }
-    ensures within { length result.whole.now + length result.fraction.now
-        ≤ length whole.now + length fraction.now }
-    ensures zeros { 0 < length (significant (whole.now ++ fraction.now))
-        → result.zeros ≡ trailing_zeros (whole.now ++ fraction.now) }
-{
-    let whole = strip_leading(whole);
-    if whole.is_empty() {
-        let digits = strip_leading(fraction);
-        let fraction = strip_trailing(digits);
-        return Stripped {
-            whole: "",
-            fraction,
-            zeros: digits.len() - fraction.len(),
-        };
+impl Digits {
+    /// No digits.
+    pub(crate) fn empty() -> Digits
+        ensures { digits_of result ≡ [] }
+    {
+        Digits::Short(Inline::joined(b"", b""))
     }
-    let kept = strip_trailing(fraction);
-    if kept.is_empty() {
-        let digits = strip_trailing(whole);
-        return Stripped {
-            whole: digits,
-            fraction: "",
-            zeros: whole.len() - digits.len() + fraction.len(),
-        };
+
+    /// The digits of two slices together. Where there are many, it takes memory once, and exactly what
+    /// they need.
+    pub(crate) fn joined(alloc: Global, front: &[u8], back: &[u8]) -> Result<Digits, AllocError>
+        requires front { AreDigits front.now }
+        requires back { AreDigits back.now }
+        requires room { length front.now + length back.now < 2 ^ 64 }
+        ensures { IfOk result (λ d. digits_of d ≡ front.now ++ back.now) }
+    {
+        if front.len() + back.len() <= ROOM {
+            return Ok(Digits::Short(Inline::joined(front, back)));
+        }
+        let mut digits = String::with_capacity(alloc, front.len() + back.len())?;
+        digits.push_str(digits_str(front))?;
+        digits.push_str(digits_str(back))?;
+        Ok(Digits::Long(digits))
     }
-    Stripped {
-        whole,
-        fraction: kept,
-        zeros: fraction.len() - kept.len(),
-    }
-}
 
-// The digits from the first on that is not 0.
-fn strip_leading(digits: &str) -> &str
-    requires { AreDigits digits.now }
-    ensures value { result.now ≡ strip_leading digits.now }
-    ensures digits { AreDigits result.now }
-    ensures within { length result.now ≤ length digits.now }
-{
-    &digits[leading_zeros(digits.as_bytes())..]
-}
-
-/// The digits up to the last that is not `0`.
-pub(crate) fn strip_trailing(digits: &str) -> &str
-    requires { AreDigits digits.now }
-    ensures value { result.now ≡ strip_trailing digits.now }
-    ensures digits { AreDigits result.now }
-    ensures within { length result.now ≤ length digits.now }
-{
-    &digits[..kept_len(digits.as_bytes())]
-}
-
-// How many zeros the digits begin with.
-fn leading_zeros(digits: &[u8]) -> usize
-    ensures within { result ≤ length digits.now }
-    ensures rest { drop result digits.now ≡ strip_leading digits.now }
-{
-    for (i, d) in digits.iter().enumerate() {
-        if *d != b'0' {
-            return i;
+    pub(crate) fn as_str(&self) -> &str
+        requires { AreDigits (digits_of self.now) }
+        ensures { result.now ≡ digits_of self.now }
+    {
+        match self {
+            Digits::Short(digits) => digits.as_str(),
+            Digits::Long(digits) => digits.as_str(),
         }
     }
-    digits.len()
-}
-
-// How many digits there are up to the last that is not 0.
-fn kept_len(digits: &[u8]) -> usize
-    ensures within { result ≤ length digits.now }
-    ensures kept { take result digits.now ≡ strip_trailing digits.now }
-{
-    let mut n = digits.len();
-    while n > 0 && digits[n - 1] == b'0' {
-        n -= 1;
-    }
-    n
 }

@@ -8,6 +8,11 @@ use std::error::Error;
 use std::fmt;
 
 /// Why a text gives no number.
+///
+/// ```
+/// let read = JsonNumber::from_text(alloc, "1e9223372036854775808");
+/// assert!(rt; matches!(read, Err(JsonNumberError::OutOfRange)));
+/// ```
 #[derive(Debug, Drop)]
 pub enum JsonNumberError {
     /// The text is no number of the grammar (RFC 8259, section 6).
@@ -44,6 +49,11 @@ impl From<LiteralError> for JsonNumberError {
 }
 
 /// Why a number of the grammar gives no `JsonNumber`.
+///
+/// ```
+/// let error = JsonNumberError::from(LiteralError::OutOfRange);
+/// assert!(rt; matches!(error, JsonNumberError::OutOfRange));
+/// ```
 #[derive(Debug, Drop)]
 pub enum LiteralError {
     /// The power of ten of its decimal is out of the range of `i64`.

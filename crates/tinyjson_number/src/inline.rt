@@ -16,15 +16,15 @@ pub(crate) struct Inline {
 }
 
 impl Inline {
-    /// The digits of two texts together.
-    pub(crate) fn joined(front: &str, back: &str) -> Inline
+    /// The digits of two slices together.
+    pub(crate) fn joined(front: &[u8], back: &[u8]) -> Inline
         requires { length front.now + length back.now ≤ 24 }
         ensures { take result.len result.bytes ≡ front.now ++ back.now }
     {
         let len = front.len() + back.len();
         let mut bytes = [0; ROOM];
-        bytes[..front.len()].copy_from_slice(front.as_bytes());
-        bytes[front.len()..len].copy_from_slice(back.as_bytes());
+        bytes[..front.len()].copy_from_slice(front);
+        bytes[front.len()..len].copy_from_slice(back);
         Inline {
             bytes,
             len: len as u8,
@@ -35,6 +35,14 @@ impl Inline {
         requires { AreDigits (take self.now.len self.now.bytes) }
         ensures { result.now ≡ take self.now.len self.now.bytes }
     {
-        str::from_utf8(&self.bytes[..self.len as usize]).unwrap()
+        digits_str(&self.bytes[..self.len as usize])
     }
+}
+
+/// Digits as text.
+pub(crate) fn digits_str(digits: &[u8]) -> &str
+    requires { AreDigits digits.now }
+    ensures { result.now ≡ digits.now }
+{
+    str::from_utf8(digits).unwrap()
 }

@@ -1,18 +1,23 @@
 //! Whole numbers as decimals, and back.
-ghost use Rattle.std.specs.Prelude.{◌≡◌, ℕ, ℤ, pos, ◌*◌, ◌<◌, ◌^◌, drop, IfOk, MatchOption, SomeIff, FitsSigned};
+ghost use Rattle.std.specs.Prelude.{◌≡◌, ℕ, ℤ, pos, ◌*◌, ◌<◌, ◌^◌, drop};
+ghost use Rattle.std.specs.Prelude.{IfOk, IfSome, MatchOption, SomeIff, FitsSigned};
 ghost use Rattle.std.specs.Fmt.{decimal};
 ghost use Rattle.std.specs.Int.{w64};
 ghost use Rattle.std.specs.Str.Parse.{digits_value};
 ghost use Rattle.tinyjson_number.specs.Numeral.{AreDigits};
 ghost use Rattle.tinyjson_number.specs.Integer.{whole_decimal, integer_decimal};
 
-use crate::digits::strip_trailing;
 use crate::number::JsonNumber;
+use crate::parse::strip_trailing;
 use std::alloc::{AllocError, Global};
-use std::str;
 
 impl JsonNumber {
     /// The decimal of a whole number.
+    ///
+    /// ```
+    /// let number = JsonNumber::from_u64(alloc, 1200)?;
+    /// assert_eq!(rt; number.to_string(alloc)?.as_str(), "1200");
+    /// ```
     pub fn from_u64(alloc: Global, value: u64) -> Result<JsonNumber, AllocError>
         ensures { IfOk result (λ n. n.decimal ≡ integer_decimal (pos value)) }
     {
@@ -20,6 +25,11 @@ impl JsonNumber {
     }
 
     /// The decimal of a whole number.
+    ///
+    /// ```
+    /// let number = JsonNumber::from_i64(alloc, -5)?;
+    /// assert_eq!(rt; number.to_string(alloc)?.as_str(), "-5");
+    /// ```
     pub fn from_i64(alloc: Global, value: i64) -> Result<JsonNumber, AllocError>
         ensures { IfOk result (λ n. n.decimal ≡ integer_decimal value) }
     {
@@ -27,10 +37,16 @@ impl JsonNumber {
     }
 
     /// The whole number that this is, exactly where it is one in the range of `u64`.
+    ///
+    /// ```
+    /// assert_eq!(rt; JsonNumber::from_text(alloc, "1.2e3")?.to_u64(), Some(1200));
+    /// assert_eq!(rt; JsonNumber::from_text(alloc, "-1")?.to_u64(), None);
+    /// ```
     pub fn to_u64(&self) -> Option<u64>
-        ensures { MatchOption result
+        ensures value { MatchOption result
             ((n : ℕ) → n < 2 ^ 64 → ¬ (self.now.decimal ≡ integer_decimal (pos n)))
             (λ n. self.now.decimal ≡ integer_decimal (pos n)) }
+        ensures range { IfSome result (λ n. n < 2 ^ 64) }
     {
         if self.is_negative() {
             return None;
@@ -39,10 +55,16 @@ impl JsonNumber {
     }
 
     /// The whole number that this is, exactly where it is one in the range of `i64`.
+    ///
+    /// ```
+    /// assert_eq!(rt; JsonNumber::from_text(alloc, "-1.0")?.to_i64(), Some(-1));
+    /// assert_eq!(rt; JsonNumber::from_text(alloc, "1.5")?.to_i64(), None);
+    /// ```
     pub fn to_i64(&self) -> Option<i64>
-        ensures { MatchOption result
+        ensures value { MatchOption result
             ((z : ℤ) → FitsSigned w64 z → ¬ (self.now.decimal ≡ integer_decimal z))
             (λ z. self.now.decimal ≡ integer_decimal z) }
+        ensures range { IfSome result (λ z. FitsSigned w64 z) }
     {
         let magnitude = self.magnitude()?;
         if self.is_negative() {
@@ -119,18 +141,18 @@ fn from_magnitude(alloc: Global, negative: bool, value: u64) -> Result<JsonNumbe
     let digits = value_digits(value, &mut buffer);
     let kept = strip_trailing(digits);
     let zeros = digits.len() - kept.len();
-    JsonNumber::from_parts(alloc, negative, kept, "", zeros as i64)
+    JsonNumber::of_digits(alloc, negative, kept, b"", zeros as i64)
 }
 
 /// The digits of `u64::MAX`.
 const MAX_DIGITS: usize = 20;
 
 // The digits of a number, which are written to the buffer.
-fn value_digits(value: u64, buffer: &mut [u8; MAX_DIGITS]) -> &str
+fn value_digits(value: u64, buffer: &mut [u8; MAX_DIGITS]) -> &[u8]
     ensures { result.now ≡ decimal value }
 {
     let start = write_digits(value, buffer);
-    str::from_utf8(&buffer[start..]).unwrap()
+    &buffer[start..]
 }
 
 // Writes the digits of a number to the end of the buffer, and answers where they begin.

@@ -7,6 +7,16 @@ ghost use Rattle.tinyjson_number.specs.Text.{decimal_text, magnitude_text, scien
 use crate::number::JsonNumber;
 
 /// The text of a number in parts that stand one after another. None of them is copied.
+///
+/// ```
+/// let layout = Layout {
+///     sign: "-",
+///     front: "1",
+///     middle: ".",
+///     back: "5",
+///     exponent: Some(400),
+/// };
+/// ```
 #[derive(Clone, Copy, Debug)]
 pub struct Layout<'a> {
     /// `-`, or nothing.
@@ -23,6 +33,12 @@ pub struct Layout<'a> {
 
 impl JsonNumber {
     /// The text of this number in parts.
+    ///
+    /// ```
+    /// let number = JsonNumber::from_text(alloc, "-15e399")?;
+    /// assert_eq!(rt; number.layout().front, layout.front);
+    /// assert_eq!(rt; number.layout().exponent, layout.exponent);
+    /// ```
     pub fn layout(&self) -> Layout<'_>
         ensures { layout_text result ≡ decimal_text self.now.decimal }
     {

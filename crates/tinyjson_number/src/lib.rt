@@ -9,15 +9,14 @@ mod error;
 mod inline;
 mod integer;
 mod layout;
-mod literal;
 mod number;
-mod reading;
-mod storage;
+mod parse;
 mod text;
 
 pub use error::{JsonNumberError, LiteralError};
 pub use layout::Layout;
 pub use number::JsonNumber;
+pub use parse::{ExponentParts, NumberParts};
 
 #[cfg(test)]
 mod tests;

@@ -1,10 +1,11 @@
 //! The number itself.
-ghost use Rattle.std.specs.Prelude.{◌≡◌, ◌↔◌, ◌+◌, ◌<◌, ◌^◌, ◌++◌, length, IsTrue, IfOk};
+ghost use Rattle.std.specs.Prelude.{◌≡◌, ◌↔◌, ◌+◌, ◌<◌, ◌≤◌, ◌^◌, ◌++◌, length, IsTrue, IfOk};
 ghost use Rattle.tinyjson_number.specs.Decimal.{zero_decimal};
 ghost use Rattle.tinyjson_number.specs.Canonical.{is_canonical};
 ghost use Rattle.tinyjson_number.specs.Number.{digits_of};
 
-use crate::storage::Digits;
+use crate::digits::Digits;
+use crate::inline::Inline;
 use std::alloc::{AllocError, Global};
 use std::marker::Model;
 
@@ -14,6 +15,12 @@ use std::marker::Model;
 /// A contract sees it as its decimal, `decimal`, together with the fact, `canonical`, that the decimal
 /// has the one form. Up to 24 digits are kept in the number itself. More take memory once, and exactly
 /// what they need.
+///
+/// ```
+/// let number = JsonNumber::from_text(alloc, "1200")?;
+/// assert_eq!(rt; number.digits(), "12");
+/// assert_eq!(rt; number.power(), 2);
+/// ```
 #[derive(Drop)]
 pub struct JsonNumber {
     negative: bool,
@@ -29,11 +36,18 @@ impl Model for JsonNumber {
 
     ghost coded = { canonical_code };
 
-    ghost view = { λ n. record { decimal = record { negative = n.negative; digits = digits_of n.digits; power = n.power }; canonical = n.canonical } };
+    ghost view = { λ n. record {
+      decimal = record { negative = n.negative; digits = digits_of n.digits; power = n.power };
+      canonical = n.canonical;
+    } };
 }
 
 impl JsonNumber {
     /// Zero, which has no sign.
+    ///
+    /// ```
+    /// assert_eq!(rt; JsonNumber::zero().digits(), "");
+    /// ```
     pub fn zero() -> JsonNumber
         ensures { result.decimal ≡ zero_decimal }
     {
@@ -44,12 +58,12 @@ impl JsonNumber {
         }
     }
 
-    // The number of these parts, which are those of the one form: its digits are the two texts together.
-    pub(crate) fn from_parts(
+    // The number of the one form whose digits are the two slices together.
+    pub(crate) fn of_digits(
         alloc: Global,
         negative: bool,
-        front: &str,
-        back: &str,
+        front: &[u8],
+        back: &[u8],
         power: i64,
     ) -> Result<JsonNumber, AllocError>
         requires room { length front.now + length back.now < 2 ^ 64 }
@@ -65,7 +79,25 @@ impl JsonNumber {
         })
     }
 
+    // The same of so few digits that they need no memory.
+    pub(crate) fn of_few(negative: bool, front: &[u8], back: &[u8], power: i64) -> JsonNumber
+        requires few { length front.now + length back.now ≤ 24 }
+        requires canonical { IsTrue (is_canonical negative (front.now ++ back.now) power) }
+        ensures { result.decimal
+            ≡ record { negative = negative; digits = front.now ++ back.now; power = power } }
+    {
+        JsonNumber {
+            negative,
+            digits: Digits::Short(Inline::joined(front, back)),
+            power,
+        }
+    }
+
     /// Whether this is zero.
+    ///
+    /// ```
+    /// assert!(rt; JsonNumber::from_text(alloc, "-0.0e7")?.is_zero());
+    /// ```
     pub fn is_zero(&self) -> bool
         ensures { IsTrue result ↔ (self.now.decimal ≡ zero_decimal) }
     {
@@ -73,6 +105,10 @@ impl JsonNumber {
     }
 
     /// Whether this is below zero.
+    ///
+    /// ```
+    /// assert!(rt; JsonNumber::from_i64(alloc, -1)?.is_negative());
+    /// ```
     pub fn is_negative(&self) -> bool
         ensures { result ≡ self.now.decimal.negative }
     {
@@ -80,6 +116,10 @@ impl JsonNumber {
     }
 
     /// The digits as text, without zeros at either end: empty for zero.
+    ///
+    /// ```
+    /// assert_eq!(rt; JsonNumber::from_text(alloc, "0.0120")?.digits(), "12");
+    /// ```
     pub fn digits(&self) -> &str
         ensures { result.now ≡ self.now.decimal.digits }
     {
@@ -87,6 +127,10 @@ impl JsonNumber {
     }
 
     /// The power of ten that the digits, read as a whole number, are multiplied by: 0 for zero.
+    ///
+    /// ```
+    /// assert_eq!(rt; JsonNumber::from_text(alloc, "0.0120")?.power(), -3);
+    /// ```
     pub fn power(&self) -> i64
         ensures { result ≡ self.now.decimal.power }
     {
@@ -94,13 +138,19 @@ impl JsonNumber {
     }
 
     /// An equal number, with memory of its own where it needs any. `self` stays as it is.
+    ///
+    /// ```
+    /// let number = JsonNumber::from_text(alloc, "-0.5")?;
+    /// assert!(rt; number.try_clone(alloc)? == number);
+    /// ```
     pub fn try_clone(&self, alloc: Global) -> Result<JsonNumber, AllocError>
         ensures { IfOk result (λ n. n.decimal ≡ self.now.decimal) }
     {
         if self.is_zero() {
             return Ok(JsonNumber::zero());
         }
-        JsonNumber::from_parts(alloc, self.is_negative(), self.digits(), "", self.power())
+        let digits = self.digits().as_bytes();
+        JsonNumber::of_digits(alloc, self.is_negative(), digits, b"", self.power())
     }
 }
 

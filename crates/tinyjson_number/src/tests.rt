@@ -159,6 +159,22 @@ fn known_literal(rt: HostRuntime) -> Result<(), Fail> {
 }
 
 #[test]
+fn known_parts(rt: HostRuntime) -> Result<(), Fail> {
+    let parts = NumberParts {
+        negative: true,
+        whole: b"12",
+        fraction: b"30",
+        exponent: Some(ExponentParts {
+            negative: true,
+            digits: b"1",
+        }),
+    };
+    let number = JsonNumber::from_parts(rt.alloc(), parts)?;
+    assert_eq!(rt; number.to_string(rt.alloc())?.as_str(), "-1.23");
+    Ok(())
+}
+
+#[test]
 fn words(rt: HostRuntime) -> Result<(), Fail> {
     for (error, shown) in [
         (JsonNumberError::NotANumber, "not a JSON number"),

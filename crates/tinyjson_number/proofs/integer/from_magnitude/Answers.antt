@@ -12,11 +12,8 @@ use Rattle.tinyjson_number.proofs.integer.from_magnitude.Goals as goal
 pub returns-then-value-eq0 : goal.returns-then-value-eq0
 returns-then-value-eq0 c = c.zero.ensures ∙ zero_is c.args.negative ∙ ap (whole_decimal c.args.negative) (sym c.if-value-eq0.true)
 
-pub strip_trailing-kept-requires : goal.strip_trailing-kept-requires
-strip_trailing-kept-requires c = subst AreDigits (sym c.value_digits-digits.ensures) (decimal-digits c.args.value (omega arith))
-
-pub from_parts-requires-clause-canonical : goal.from_parts-requires-clause-canonical
-from_parts-requires-clause-canonical c =
+pub of_digits-requires-clause-canonical : goal.of_digits-requires-clause-canonical
+of_digits-requires-clause-canonical c =
     let n = c.args.value in
     let fits : n < 2 ^ 64 = omega arith in
     let s = c.strip_trailing-kept.result.now in
@@ -37,4 +34,4 @@ returns c =
     let few : z ≤ length (decimal n) = omega (arith, ap length text) in
     let power = to_z_pos w64 z (omega (arith, few, length-decimal-le 20 n (omega arith) (omega arith) fits)) in
     let same = whole_is n (omega arith) fits c.args.negative s z is (omega (arith, ap length text)) in
-    subst (λ (d : Decimal). IfOk c.from_parts.result (λ n. n.decimal ≡ d)) ((λ i. record { negative = c.args.negative; digits = append-nil s i; power = power i }) ∙ same) c.from_parts.ensures
+    subst (λ (d : Decimal). IfOk c.of_digits.result (λ n. n.decimal ≡ d)) ((λ i. record { negative = c.args.negative; digits = append-nil s i; power = power i }) ∙ same) c.of_digits.ensures

@@ -12,4 +12,4 @@ both one two over front back k p q =
     ∙ ap (λ t. t ++ back) (take_at front over (length front) refl)
 
 pub returns : goal.returns
-returns c = both _ _ _ c.args.front.now c.args.back.now _ (c.copy_from_slice.ensures.after ∙ c.as_bytes.ensures.value) (c.copy_from_slice-2.ensures.after ∙ c.as_bytes-2.ensures.value)
+returns c = both _ _ _ c.args.front.now c.args.back.now _ c.copy_from_slice.ensures.after c.copy_from_slice-2.ensures.after

@@ -1,28 +1,32 @@
-use Rattle.std.proofs.Common.{ap, sym, subst}
-use Rattle.tinyjson_number.specs.Literal.{Parts, scan, parts_kept}
-use Rattle.tinyjson_number.specs.Numeral.{Numeral, AreDigits}
-use Rattle.tinyjson_number.specs.Reading.{ReadsNumeral}
+use Rattle.std.proofs.Common.{◌+◌, length, sym, ap, subst, arith}
+use Rattle.tinyjson_number.specs.private.Scan.{scan}
+use Rattle.tinyjson_number.specs.Numeral.{Numeral}
+use Rattle.tinyjson_number.specs.NumberText.{Spells}
+use Rattle.tinyjson_number.specs.Reading.{ReadsNumeral, numeral_of}
 use Rattle.tinyjson_number.proofs.Literals.{scan_sound, none_spells, one_numeral}
-use Rattle.tinyjson_number.proofs.Readings.{kept_of, none_of}
+use Rattle.tinyjson_number.proofs.Readings.{plain_of, none_of}
+use Rattle.tinyjson_number.proofs.Parts.{spelled_room, parts-numeral, parts-read}
 use Rattle.tinyjson_number.proofs.number.JsonNumber.from_literal.Goals as goal
 
+pub from_parts-requires-clause-numeral : goal.from_parts-requires-clause-numeral
+from_parts-requires-clause-numeral c =
+    let t = c.as_bytes.result.now in
+    let k = plain_of (scan t) (numeral_of c.in-Some.parts) c.in-Some.ensures in
+    parts-numeral k.0 c.in-Some.parts k.2 (scan_sound t k.0 k.1).well_formed
+
+pub from_parts-requires-clause-room : goal.from_parts-requires-clause-room
+from_parts-requires-clause-room c =
+    let t = c.as_bytes.result.now in
+    let k = plain_of (scan t) (numeral_of c.in-Some.parts) c.in-Some.ensures in
+    omega (arith, ap (λ (n : Numeral). length n.whole + length n.fraction) k.2, spelled_room k.0 t (scan_sound t k.0 k.1), c.as_bytes.ensures.len)
+
 pub unreachable-requires : goal.unreachable-requires
-unreachable-requires c = none_spells c.args.literal.now (none_of (scan c.args.literal.now) c.in-None.ensures) c.requires.0 c.requires.1
-
-pub number-requires-clause-whole : goal.number-requires-clause-whole
-number-requires-clause-whole c =
-    let k = kept_of (scan c.args.literal.now) (parts_kept c.in-Some.literal) c.in-Some.ensures in
-    let s = scan_sound c.args.literal.now k.0 k.1 in
-    subst AreDigits (sym (ap (λ (x : Parts). x.whole) k.2)) s.well_formed.whole
-
-pub number-requires-clause-fraction : goal.number-requires-clause-fraction
-number-requires-clause-fraction c =
-    let k = kept_of (scan c.args.literal.now) (parts_kept c.in-Some.literal) c.in-Some.ensures in
-    let s = scan_sound c.args.literal.now k.0 k.1 in
-    subst AreDigits (sym (ap (λ (x : Parts). x.fraction) k.2)) s.well_formed.fraction
+unreachable-requires c = none_spells c.as_bytes.result.now (none_of (scan c.as_bytes.result.now) c.in-None.ensures) c.requires.0 (subst (Spells c.requires.0) (sym c.as_bytes.ensures.value) c.requires.1)
 
 pub returns : goal.returns
 returns c = λ n s.
-    let k = kept_of (scan c.args.literal.now) (parts_kept c.in-Some.literal) c.in-Some.ensures in
-    let same = one_numeral c.args.literal.now k.0 n (scan_sound c.args.literal.now k.0 k.1) s in
-    subst (λ (m : Numeral). ReadsNumeral m c.number.result) same (c.number.ensures k.0 k.2)
+    let t = c.as_bytes.result.now in
+    let k = plain_of (scan t) (numeral_of c.in-Some.parts) c.in-Some.ensures in
+    let spelled = subst (Spells k.0) c.as_bytes.ensures.value (scan_sound t k.0 k.1) in
+    let read = parts-read k.0 c.in-Some.parts k.2 c.from_parts.result c.from_parts.ensures in
+    subst (λ (m : Numeral). ReadsNumeral m c.from_parts.result) (one_numeral c.args.literal.now k.0 n spelled s) read

@@ -1,32 +1,40 @@
-use Rattle.std.proofs.Common.{ap, sym, subst}
-use Rattle.tinyjson_number.specs.Literal.{Parts, scan, parts_kept}
-use Rattle.tinyjson_number.specs.Numeral.{AreDigits}
-use Rattle.tinyjson_number.specs.Reading.{ReadsNumeral}
+use Rattle.std.proofs.Common.{◌+◌, length, sym, ap, subst, arith}
+use Rattle.tinyjson_number.specs.private.Scan.{scan}
+use Rattle.tinyjson_number.specs.Numeral.{Numeral}
+use Rattle.tinyjson_number.specs.NumberText.{Spells}
+use Rattle.tinyjson_number.specs.Reading.{ReadsNumeral, numeral_of}
 use Rattle.tinyjson_number.proofs.Literals.{scan_sound, none_spells}
-use Rattle.tinyjson_number.proofs.Readings.{kept_of, none_of, reads_number, refused_so}
+use Rattle.tinyjson_number.proofs.Readings.{plain_of, none_of, reads_number, refused_so}
+use Rattle.tinyjson_number.proofs.Parts.{spelled_room, parts-numeral, parts-read}
 use Rattle.tinyjson_number.proofs.number.JsonNumber.from_text.Goals as goal
 
-pub number-requires-clause-whole : goal.number-requires-clause-whole
-number-requires-clause-whole c =
-    let k = kept_of (scan c.args.text.now) (parts_kept c.in-Some.literal) c.in-Some.ensures in
-    let s = scan_sound c.args.text.now k.0 k.1 in
-    subst AreDigits (sym (ap (λ (x : Parts). x.whole) k.2)) s.well_formed.whole
+pub from_parts-requires-clause-numeral : goal.from_parts-requires-clause-numeral
+from_parts-requires-clause-numeral c =
+    let t = c.as_bytes.result.now in
+    let k = plain_of (scan t) (numeral_of c.in-Some.parts) c.in-Some.ensures in
+    parts-numeral k.0 c.in-Some.parts k.2 (scan_sound t k.0 k.1).well_formed
 
-pub number-requires-clause-fraction : goal.number-requires-clause-fraction
-number-requires-clause-fraction c =
-    let k = kept_of (scan c.args.text.now) (parts_kept c.in-Some.literal) c.in-Some.ensures in
-    let s = scan_sound c.args.text.now k.0 k.1 in
-    subst AreDigits (sym (ap (λ (x : Parts). x.fraction) k.2)) s.well_formed.fraction
+pub from_parts-requires-clause-room : goal.from_parts-requires-clause-room
+from_parts-requires-clause-room c =
+    let t = c.as_bytes.result.now in
+    let k = plain_of (scan t) (numeral_of c.in-Some.parts) c.in-Some.ensures in
+    omega (arith, ap (λ (n : Numeral). length n.whole + length n.fraction) k.2, spelled_room k.0 t (scan_sound t k.0 k.1), c.as_bytes.ensures.len)
 
 pub returns-in-None : goal.returns-in-None
-returns-in-None c = none_spells c.args.text.now (none_of (scan c.args.text.now) c.in-None.ensures)
+returns-in-None c = λ n s. none_spells c.as_bytes.result.now (none_of (scan c.as_bytes.result.now) c.in-None.ensures) n (subst (Spells n) (sym c.as_bytes.ensures.value) s)
 
-pub returns-in_ok-number-in-Some : goal.returns-in_ok-number-in-Some
-returns-in_ok-number-in-Some c =
-    let k = kept_of (scan c.args.text.now) (parts_kept c.in-Some.literal) c.in-Some.ensures in
-    reads_number c.args.text.now k.0 c.in_ok-number-in-Some.field-0 (scan_sound c.args.text.now k.0 k.1) (subst (ReadsNumeral k.0) c.in_ok-number-in-Some.was (c.number.ensures k.0 k.2))
+pub returns-in_ok-from_parts-in-Some : goal.returns-in_ok-from_parts-in-Some
+returns-in_ok-from_parts-in-Some c =
+    let t = c.as_bytes.result.now in
+    let k = plain_of (scan t) (numeral_of c.in-Some.parts) c.in-Some.ensures in
+    let spelled = subst (Spells k.0) c.as_bytes.ensures.value (scan_sound t k.0 k.1) in
+    let read = parts-read k.0 c.in-Some.parts k.2 c.from_parts.result c.from_parts.ensures in
+    reads_number c.args.text.now k.0 c.in_ok-from_parts-in-Some.field-0 spelled (subst (ReadsNumeral k.0) c.in_ok-from_parts-in-Some.was read)
 
-pub returns-in_err-number-in-Some : goal.returns-in_err-number-in-Some
-returns-in_err-number-in-Some c =
-    let k = kept_of (scan c.args.text.now) (parts_kept c.in-Some.literal) c.in-Some.ensures in
-    refused_so c.args.text.now k.0 c.in_err-number-in-Some.field-0.0 c.from_residual.result c.from_residual.ensures.1 (scan_sound c.args.text.now k.0 k.1) (subst (ReadsNumeral k.0) c.in_err-number-in-Some.was (c.number.ensures k.0 k.2))
+pub returns-in_err-from_parts-in-Some : goal.returns-in_err-from_parts-in-Some
+returns-in_err-from_parts-in-Some c =
+    let t = c.as_bytes.result.now in
+    let k = plain_of (scan t) (numeral_of c.in-Some.parts) c.in-Some.ensures in
+    let spelled = subst (Spells k.0) c.as_bytes.ensures.value (scan_sound t k.0 k.1) in
+    let read = parts-read k.0 c.in-Some.parts k.2 c.from_parts.result c.from_parts.ensures in
+    refused_so c.args.text.now k.0 c.in_err-from_parts-in-Some.field-0.0 c.from_residual.result c.from_residual.ensures.1 spelled (subst (ReadsNumeral k.0) c.in_err-from_parts-in-Some.was read)

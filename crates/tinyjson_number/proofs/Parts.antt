@@ -1,0 +1,71 @@
+-- A numeral and the parts that a parser finds of it.
+use Rattle.std.proofs.Common.{◌≡◌, ℕ, List, [], ◌∷◌, Bool, true, false, cond, ◌==◌, IsTrue, ◌<◌, ◌+◌, ◌≤◌, ◌++◌, length, ℤ, pos, neg_ℤ, Option, Some, None, IfSome, Result, Ok, Err, refl, sym, ap, ◌∙◌, subst, arith, length-append}
+use Rattle.std.specs.Prelude.{◌+ℤ◌, ◌-ℤ◌}
+use Rattle.tinyjson_number.specs.Decimal.{Decimal, decimal_of, significant, trailing_zeros}
+use Rattle.tinyjson_number.specs.Numeral.{Numeral, Exponent, IsNumeral, IsExponent, is_sign, signed, exponent_value, value, in_range, minus_text, fraction_text, exponent_text}
+use Rattle.tinyjson_number.specs.NumberText.{Spells}
+use Rattle.tinyjson_number.specs.Number.{Canonical}
+use Rattle.tinyjson_number.specs.Reading.{ReadsNumeral, numeral_of, plain, plain_sign, plain_exponent}
+use Rattle.tinyjson_number.specs.declared.error.LiteralError.{LiteralError}
+use Rattle.tinyjson_number.specs.declared.error.LiteralError.TheVariants.{OutOfRange, OutOfMemory}
+use Rattle.tinyjson_number.specs.declared.parse.NumberParts.{NumberParts}
+
+-- ---- the plain spelling of a numeral has the same decimal
+
+minus_cases : (b : Bool) (n : ℕ) → signed (cond b (Some 45) None) n ≡ cond b (neg_ℤ (pos n)) (pos n)
+minus_cases true n = refl
+minus_cases false n = refl
+
+signed-plain : (s : Option ℕ) (n : ℕ) → signed (plain_sign s) n ≡ signed s n
+signed-plain None n = refl
+signed-plain (Some c) n = minus_cases (c == 45) n
+
+exponent-plain : (e : Option Exponent) → exponent_value (plain_exponent e) ≡ exponent_value e
+exponent-plain None = refl
+exponent-plain (Some e) = signed-plain e.sign _
+
+pub value-plain : (n : Numeral) → value (plain n) ≡ value n
+unfolding value
+value-plain n =
+    ap (λ z. decimal_of n.negative (significant (n.whole ++ n.fraction)) ((z -ℤ pos (length n.fraction)) +ℤ pos (trailing_zeros (n.whole ++ n.fraction)))) (exponent-plain n.exponent)
+
+sign_cases : (b : Bool) → IfSome (cond b (Some 45) None) (λ c. IsTrue (is_sign c))
+sign_cases true = refl
+sign_cases false = tt
+
+sign-plain : (s : Option ℕ) → IfSome (plain_sign s) (λ c. IsTrue (is_sign c))
+sign-plain None = tt
+sign-plain (Some c) = sign_cases (c == 45)
+
+is_exponent-plain : (e : Option Exponent) → IfSome e IsExponent → IfSome (plain_exponent e) IsExponent
+is_exponent-plain None h = tt
+is_exponent-plain (Some e) h = record { letter = refl; sign = sign-plain e.sign; digits = h.digits; some_digit = h.some_digit }
+
+is_numeral-plain : (n : Numeral) → IsNumeral n → IsNumeral (plain n)
+is_numeral-plain n h = record { whole = h.whole; some_digit = h.some_digit; fraction = h.fraction; exponent = is_exponent-plain n.exponent h.exponent }
+
+-- ---- a text is as long as the digits that it spells
+
+fraction_room : (ds : List ℕ) → length ds ≤ length (fraction_text ds)
+fraction_room [] = omega arith
+fraction_room (d ∷ ds) = omega arith
+
+pub spelled_room : (n : Numeral) (text : List ℕ) → Spells n text → length n.whole + length n.fraction ≤ length text
+spelled_room n text h =
+    let r : List ℕ = fraction_text n.fraction ++ exponent_text n.exponent in
+    omega (arith, ap length h.spelled, length-append (minus_text n.negative) (n.whole ++ r), length-append n.whole r, length-append (fraction_text n.fraction) (exponent_text n.exponent), fraction_room n.fraction)
+
+-- ---- for a caller of `from_parts` that knows the numeral
+
+-- the parts of a numeral may be passed
+pub parts-numeral : (n : Numeral) (p : NumberParts) → numeral_of p ≡ plain n → IsNumeral n → IsNumeral (numeral_of p)
+parts-numeral n p same h = subst IsNumeral (sym same) (is_numeral-plain n h)
+
+reads_plain : (n : Numeral) (r : Result Canonical LiteralError) → ReadsNumeral (plain n) r → ReadsNumeral n r
+reads_plain n (Ok x) h = (h.0 ∙ value-plain n, subst (λ (d : Decimal). IsTrue (in_range d)) (value-plain n) h.1)
+reads_plain n (Err OutOfRange) h = subst (λ (d : Decimal). in_range d ≡ false) (value-plain n) h
+reads_plain n (Err OutOfMemory) h = subst (λ (d : Decimal). IsTrue (in_range d)) (value-plain n) h
+
+-- and the answer is that of the numeral
+pub parts-read : (n : Numeral) (p : NumberParts) → numeral_of p ≡ plain n → (r : Result Canonical LiteralError) → ReadsNumeral (numeral_of p) r → ReadsNumeral n r
+parts-read n p same r h = reads_plain n r (subst (λ (m : Numeral). ReadsNumeral m r) same h)

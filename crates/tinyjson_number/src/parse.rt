@@ -1,0 +1,409 @@
+//! The number that a text spells (RFC 8259, section 6).
+ghost use Rattle.std.specs.Prelude.{◌≡◌, ℕ, ◌+◌, ◌<◌, ◌≤◌, ◌^◌, ◌++◌, length, take, drop, min, pos, neg_ℤ, ◌≤ℤ◌};
+ghost use Rattle.std.specs.Prelude.{option_map, IfSome, MatchOption, FitsSigned, IsTrue};
+ghost use Rattle.std.specs.Int.{w64};
+ghost use Rattle.std.specs.List.{prefix_len};
+ghost use Rattle.std.specs.Char.{is_ascii_digit};
+ghost use Rattle.std.specs.Str.Parse.{digits_value};
+ghost use Rattle.tinyjson_number.specs.Decimal.{strip_leading, strip_trailing, significant, trailing_zeros};
+ghost use Rattle.tinyjson_number.specs.Numeral.{Numeral, IsNumeral, AreDigits, has_leading_zero, value, in_range};
+ghost use Rattle.tinyjson_number.specs.NumberText.{Spells};
+ghost use Rattle.tinyjson_number.specs.private.Scan.{begins, digits_front, digits_rest, after_minus, whole_at, fraction_at};
+ghost use Rattle.tinyjson_number.specs.private.Scan.{exponent_at, exponent_digits_at, exponent_cap, capped, scan, shifted};
+ghost use Rattle.tinyjson_number.specs.Reading.{Reads, ReadsNumeral, numeral_of, exponent_of, plain, plain_exponent, plain_numeral};
+
+use crate::error::{JsonNumberError, LiteralError};
+use crate::inline::ROOM;
+use crate::number::JsonNumber;
+use std::alloc::Global;
+
+/// The parts of a number, as a parser finds them in a text (RFC 8259, section 6).
+///
+/// ```
+/// let parts = NumberParts {
+///     negative: true,
+///     whole: b"12",
+///     fraction: b"30",
+///     exponent: Some(exponent),
+/// };
+/// ```
+#[derive(Clone, Copy, Debug)]
+pub struct NumberParts<'a> {
+    /// Whether a `-` stands in front.
+    pub negative: bool,
+    /// The digits before the point, as ASCII.
+    pub whole: &'a [u8],
+    /// The digits after the point, as ASCII: none where there is no point.
+    pub fraction: &'a [u8],
+    /// The exponent, if there is one.
+    pub exponent: Option<ExponentParts<'a>>,
+}
+
+/// The exponent of a number: what stands after its `e` or `E`.
+///
+/// ```
+/// let exponent = ExponentParts {
+///     negative: true,
+///     digits: b"1",
+/// };
+/// ```
+#[derive(Clone, Copy, Debug)]
+pub struct ExponentParts<'a> {
+    /// Whether a `-` stands in front.
+    pub negative: bool,
+    /// Its digits, as ASCII, of any count.
+    pub digits: &'a [u8],
+}
+
+impl JsonNumber {
+    /// The decimal of the number that the whole text is, exactly as it is written: any count of digits,
+    /// and an exponent of any size.
+    ///
+    /// It answers `NotANumber` exactly where the text is no number of the grammar (RFC 8259, section 6),
+    /// `OutOfRange` exactly where it is one whose power of ten, behind its last digit that is not `0`, is
+    /// out of the range of `i64`, and `OutOfMemory` only of a text that has a decimal.
+    ///
+    /// `1.50e1` is 15, `-0` is zero, and ` 1`, `01` and `1.` are no numbers.
+    ///
+    /// ```
+    /// assert_eq!(rt; JsonNumber::from_text(alloc, "1.50e1")?.to_u64(), Some(15));
+    /// assert!(rt; JsonNumber::from_text(alloc, "01").is_err());
+    /// ```
+    pub fn from_text(alloc: Global, text: &str) -> Result<JsonNumber, JsonNumberError>
+        ensures { Reads text.now result }
+    {
+        match read(text.as_bytes()) {
+            None => Err(JsonNumberError::NotANumber),
+            Some(parts) => Ok(JsonNumber::from_parts(alloc, parts)?),
+        }
+    }
+
+    /// The decimal of a text that is known to be a number of the grammar. It cannot answer that the text
+    /// is no number, and otherwise answers as `from_text` does.
+    ///
+    /// ```
+    /// let number = JsonNumber::from_literal(alloc, "15")?;
+    /// assert_eq!(rt; number.to_u64(), Some(15));
+    /// ```
+    pub fn from_literal(alloc: Global, literal: &str) -> Result<JsonNumber, LiteralError>
+        requires { (n : Numeral) × Spells n literal.now }
+        ensures { (n : Numeral) → Spells n literal.now → ReadsNumeral n result }
+    {
+        match read(literal.as_bytes()) {
+            None => unreachable!(),
+            Some(parts) => JsonNumber::from_parts(alloc, parts),
+        }
+    }
+
+    /// The decimal of a number whose parts are known. This is for callers that have read the number
+    /// themselves, as a parser, so that its digits are looked at no second time but to strip zeros.
+    ///
+    /// It answers `OutOfRange` exactly where the power of ten behind the last digit that is not `0` is out
+    /// of the range of `i64`, and `OutOfMemory` only of a number that has a decimal. At most 24 digits
+    /// without an exponent need no memory.
+    ///
+    /// ```
+    /// let number = JsonNumber::from_parts(alloc, parts)?;
+    /// assert_eq!(rt; number.to_string(alloc)?.as_str(), "-1.23");
+    /// ```
+    #[inline]
+    pub fn from_parts(alloc: Global, parts: NumberParts<'_>) -> Result<JsonNumber, LiteralError>
+        requires numeral { IsNumeral (numeral_of parts) }
+        requires room { length parts.whole.now + length parts.fraction.now < 2 ^ 64 }
+        ensures { ReadsNumeral (numeral_of parts.entry) result }
+    {
+        if parts.exponent.is_none() && parts.whole.len() + parts.fraction.len() <= ROOM {
+            return Ok(short(parts.negative, parts.whole, parts.fraction));
+        }
+        long(alloc, parts)
+    }
+}
+
+// The number of few digits and no exponent.
+fn short(negative: bool, whole: &[u8], fraction: &[u8]) -> JsonNumber
+    requires whole { AreDigits whole.now }
+    requires fraction { AreDigits fraction.now }
+    requires few { length whole.now + length fraction.now ≤ 24 }
+    ensures decimal { result.decimal ≡ value (plain_numeral negative whole.now fraction.now) }
+    ensures fits { IsTrue (in_range (value (plain_numeral negative whole.now fraction.now))) }
+{
+    let kept = strip(whole, fraction);
+    if kept.whole.len() + kept.fraction.len() == 0 {
+        return JsonNumber::zero();
+    }
+    let power = kept.zeros as i64 - fraction.len() as i64;
+    JsonNumber::of_few(negative, kept.whole, kept.fraction, power)
+}
+
+// The number of any digits and any exponent.
+fn long(alloc: Global, parts: NumberParts<'_>) -> Result<JsonNumber, LiteralError>
+    requires numeral { IsNumeral (numeral_of parts) }
+    requires room { length parts.whole.now + length parts.fraction.now < 2 ^ 64 }
+    ensures { ReadsNumeral (numeral_of parts.entry) result }
+{
+    let kept = strip(parts.whole, parts.fraction);
+    if kept.whole.len() + kept.fraction.len() == 0 {
+        return Ok(JsonNumber::zero());
+    }
+    let exponent = capped_exponent(parts.exponent);
+    let Some(power) = power_of(exponent, parts.fraction.len(), kept.zeros) else {
+        return Err(LiteralError::OutOfRange);
+    };
+    Ok(JsonNumber::of_digits(alloc, parts.negative, kept.whole, kept.fraction, power)?)
+}
+
+// The exponent, less the count of fraction digits, and the count of zeros stripped, if it fits a power.
+fn power_of(exponent: i128, fraction: usize, zeros: usize) -> Option<i64>
+    requires low { neg_ℤ (pos exponent_cap) ≤ℤ exponent }
+    requires high { exponent ≤ℤ pos exponent_cap }
+    ensures { MatchOption result
+        (¬ FitsSigned w64 (shifted exponent fraction zeros))
+        (λ p. p ≡ shifted exponent fraction zeros) }
+{
+    let power = exponent - fraction as i128 + zeros as i128;
+    if power < i64::MIN as i128 || power > i64::MAX as i128 {
+        return None;
+    }
+    Some(power as i64)
+}
+
+/// Past the range of powers by more than any count of digits in memory, so that no exponent that is
+/// cut to it comes back into range.
+const EXPONENT_CAP: u128 = 1 << 66;
+
+// The exponent, 0 where there is none, kept at most as far from 0 as `EXPONENT_CAP`.
+fn capped_exponent(exponent: Option<ExponentParts<'_>>) -> i128
+    requires { IfSome exponent (λ e. AreDigits e.digits.now) }
+    ensures value { result ≡ capped (exponent_of exponent.entry) }
+    ensures low { neg_ℤ (pos exponent_cap) ≤ℤ result }
+    ensures high { result ≤ℤ pos exponent_cap }
+{
+    let Some(exponent) = exponent else {
+        return 0;
+    };
+    let value = capped_value(exponent.digits) as i128;
+    if exponent.negative { -value } else { value }
+}
+
+// The number that the digits write, or the cap if that is less.
+fn capped_value(digits: &[u8]) -> u128
+    requires { AreDigits digits.now }
+    ensures { result ≡ min (digits_value 10 digits.now) exponent_cap }
+{
+    let mut value: u128 = 0;
+    for b in digits {
+        value = (value * 10 + (*b - b'0') as u128).min(EXPONENT_CAP);
+    }
+    value
+}
+
+/// The digits of a whole part and a fraction without the zeros at both ends, and how many zeros were
+/// stripped at the right end.
+#[derive(Clone, Copy)]
+struct Stripped<'a> {
+    whole: &'a [u8],
+    fraction: &'a [u8],
+    zeros: usize,
+}
+
+fn strip<'a>(whole: &'a [u8], fraction: &'a [u8]) -> Stripped<'a>
+    requires { length whole.now + length fraction.now < 2 ^ 64 }
+    ensures digits { result.whole.now ++ result.fraction.now
+        ≡ significant (whole.now ++ fraction.now) }
+    ensures within { length result.whole.now + length result.fraction.now
+        ≤ length whole.now + length fraction.now }
+    ensures zeros { 0 < length (significant (whole.now ++ fraction.now))
+        → result.zeros ≡ trailing_zeros (whole.now ++ fraction.now) }
+{
+    let whole = strip_leading(whole);
+    if whole.is_empty() {
+        let digits = strip_leading(fraction);
+        let fraction = strip_trailing(digits);
+        return Stripped {
+            whole: b"",
+            fraction,
+            zeros: digits.len() - fraction.len(),
+        };
+    }
+    let kept = strip_trailing(fraction);
+    if kept.is_empty() {
+        let digits = strip_trailing(whole);
+        return Stripped {
+            whole: digits,
+            fraction: b"",
+            zeros: whole.len() - digits.len() + fraction.len(),
+        };
+    }
+    Stripped {
+        whole,
+        fraction: kept,
+        zeros: fraction.len() - kept.len(),
+    }
+}
+
+// The digits from the first on that is not `0`.
+fn strip_leading(digits: &[u8]) -> &[u8]
+    ensures value { result.now ≡ strip_leading digits.now }
+    ensures within { length result.now ≤ length digits.now }
+{
+    &digits[leading_zeros(digits)..]
+}
+
+/// The digits up to the last that is not `0`.
+pub(crate) fn strip_trailing(digits: &[u8]) -> &[u8]
+    ensures value { result.now ≡ strip_trailing digits.now }
+    ensures within { length result.now ≤ length digits.now }
+{
+    &digits[..kept_len(digits)]
+}
+
+// How many zeros the digits begin with.
+fn leading_zeros(digits: &[u8]) -> usize
+    ensures within { result ≤ length digits.now }
+    ensures rest { drop result digits.now ≡ strip_leading digits.now }
+{
+    for (i, d) in digits.iter().enumerate() {
+        if *d != b'0' {
+            return i;
+        }
+    }
+    digits.len()
+}
+
+// How many digits there are up to the last that is not `0`.
+fn kept_len(digits: &[u8]) -> usize
+    ensures within { result ≤ length digits.now }
+    ensures kept { take result digits.now ≡ strip_trailing digits.now }
+{
+    let mut n = digits.len();
+    while n > 0 && digits[n - 1] == b'0' {
+        n -= 1;
+    }
+    n
+}
+
+// The parts of the number that the whole text is, or `None` if it is none of the grammar.
+#[tactic(auto, unfolding(crate::specs::private::Scan::scan))]
+fn read(text: &[u8]) -> Option<NumberParts<'_>>
+    ensures { option_map numeral_of result ≡ option_map plain (scan text.now) }
+{
+    let negative = begins_with(text, b'-');
+    let (whole, rest) = whole(after_minus(text))?;
+    let (fraction, rest) = fraction(rest)?;
+    let exponent = exponent(rest)?;
+    Some(NumberParts {
+        negative,
+        whole,
+        fraction,
+        exponent,
+    })
+}
+
+fn begins_with(text: &[u8], byte: u8) -> bool
+    ensures { result ≡ begins byte text.now }
+{
+    match text {
+        [] => false,
+        [first, ..] => *first == byte,
+    }
+}
+
+// The text after a `-` that it begins with.
+fn after_minus(text: &[u8]) -> &[u8]
+    ensures { result.now ≡ after_minus text.now }
+{
+    if begins_with(text, b'-') {
+        &text[1..]
+    } else {
+        text
+    }
+}
+
+fn digits_len(text: &[u8]) -> usize
+    ensures value { result ≡ prefix_len is_ascii_digit text.now }
+    ensures within { result ≤ length text.now }
+{
+    for (i, b) in text.iter().enumerate() {
+        if !b.is_ascii_digit() {
+            return i;
+        }
+    }
+    text.len()
+}
+
+// The digits that a text begins with, and the rest.
+fn split_digits(text: &[u8]) -> (&[u8], &[u8])
+    ensures front { result.0.now ≡ digits_front text.now }
+    ensures rest { result.1.now ≡ digits_rest text.now }
+{
+    text.split_at(digits_len(text))
+}
+
+fn has_leading_zero(digits: &[u8]) -> bool
+    ensures { result ≡ has_leading_zero digits.now }
+{
+    match digits {
+        [first, _, ..] => *first == b'0',
+        _ => false,
+    }
+}
+
+// The whole part, and the rest.
+#[tactic(auto, unfolding(crate::specs::private::Scan::whole_at))]
+fn whole(text: &[u8]) -> Option<(&[u8], &[u8])>
+    ensures { option_map (λ p. (p.0.now, p.1.now)) result ≡ whole_at text.now }
+{
+    let (digits, rest) = split_digits(text);
+    if digits.is_empty() || has_leading_zero(digits) {
+        return None;
+    }
+    Some((digits, rest))
+}
+
+// The digits after a point, and the rest.
+#[tactic(auto, unfolding(crate::specs::private::Scan::fraction_at))]
+fn fraction(text: &[u8]) -> Option<(&[u8], &[u8])>
+    ensures { option_map (λ p. (p.0.now, p.1.now)) result ≡ fraction_at text.now }
+{
+    if !begins_with(text, b'.') {
+        return Some((b"", text));
+    }
+    let (digits, rest) = split_digits(&text[1..]);
+    if digits.is_empty() {
+        return None;
+    }
+    Some((digits, rest))
+}
+
+// The exponent that the rest of a number is, if it is one.
+#[tactic(auto, unfolding(crate::specs::private::Scan::exponent_at))]
+fn exponent(text: &[u8]) -> Option<Option<ExponentParts<'_>>>
+    ensures { option_map exponent_of result ≡ option_map plain_exponent (exponent_at text.now) }
+{
+    if text.is_empty() {
+        return Some(None);
+    }
+    if begins_with(text, b'e') || begins_with(text, b'E') {
+        exponent_digits(&text[1..])
+    } else {
+        None
+    }
+}
+
+// The sign and the digits of an exponent, to the end of the text.
+#[tactic(auto, unfolding(crate::specs::private::Scan::exponent_digits_at))]
+fn exponent_digits(text: &[u8]) -> Option<Option<ExponentParts<'_>>>
+    ensures { (letter : ℕ) → option_map exponent_of result
+        ≡ option_map plain_exponent (exponent_digits_at letter text.now) }
+{
+    let negative = begins_with(text, b'-');
+    let digits = if negative || begins_with(text, b'+') {
+        &text[1..]
+    } else {
+        text
+    };
+    if digits.is_empty() || digits_len(digits) < digits.len() {
+        return None;
+    }
+    Some(Some(ExponentParts { negative, digits }))
+}
