@@ -1,5 +1,5 @@
 -- What `parse` answers, from what the reader did.
-use Rattle.std.proofs.Common.{◌≡◌, IsTrue, ℕ, zero, suc, ◌≤◌, Bool, true, false, List, [], ◌∷◌, ◌++◌, length, Result, Ok, Err, OnOk, IfErr, Option, Some, None, MatchResult, refl, sym, ap, ◌∙◌, subst, append-nil, arith, ⊎_elim, ◌⊎◌}
+use Rattle.std.proofs.Common.{◌≡◌, IsTrue, ℕ, zero, suc, ◌≤◌, Bool, true, false, List, [], ◌∷◌, ◌++◌, length, Result, Ok, Err, OnOk, IfErr, Option, Some, None, MatchResult, refl, sym, ap, ◌∙◌, subst, append-nil, arith, ⊎_elim}
 use Rattle.std.specs.Prelude.{All}
 use Rattle.std.proofs.lemmas.Bool.{and_parts}
 use Rattle.std.specs.Char.{IsScalar}
@@ -8,7 +8,7 @@ use lib.Utf8.{scalar as is_scalar}
 use Rattle.std.specs.declared.iter.Iterator as iterator
 use Rattle.tinyjson.specs.Parser.{Parses, ParsesText, parser_position, parser_limit}
 use Rattle.tinyjson.specs.declared.parser.JsonParser.{JsonParser}
-use Rattle.tinyjson.specs.Cursor.{Gives, Shows, place}
+use Rattle.tinyjson.specs.Source.{Sight}
 use Rattle.tinyjson.specs.Error.{error_position}
 use Rattle.tinyjson.specs.Grammar.{IsText, IsAccepted}
 use Rattle.tinyjson.specs.Machine.{Frame, Phase, State, Next, next, stop, awaited, finished, accepted, refused, step, end, run, reach, reach_on, strictly}
@@ -17,12 +17,10 @@ use Rattle.tinyjson.specs.Reading.{IsNext, IsHeld, Leads, Halts, Refuses, Reads,
 use Rattle.tinyjson.specs.Refusal.{IsInterrupted, IsRefusal, MayGrow, RefusalSays}
 use Rattle.tinyjson.specs.Tree.{Tree}
 use Rattle.tinyjson.specs.View.{view}
-use Rattle.tinyjson.specs.declared.parser.cursor.Cursor.{Cursor}
 use Rattle.tinyjson.specs.declared.parser.error.JsonParseError.{JsonParseError}
 use Rattle.tinyjson.specs.declared.parser.error.JsonParseErrorKind.{JsonParseErrorKind}
 use Rattle.tinyjson.specs.declared.parser.error.JsonParseErrorKind.TheVariants as kind
 use Rattle.tinyjson.specs.declared.value.JsonValue.{JsonValue}
-use Rattle.tinyjson.proofs.Cursors.{nothing_left}
 use Rattle.tinyjson.proofs.Grammar.InRange.{ranges}
 use Rattle.tinyjson.proofs.Grammar.Memory.{interrupted, interrupted-late}
 use Rattle.tinyjson.proofs.Grammar.Theorem.{accepts, refuses}
@@ -49,7 +47,7 @@ module _ (limit : Option ℕ) where
       go (next gs q) h more = more gs q h
       go (stop k b) h more = absurd (behind-stop k b cs h)
 
-all-front : (xs ys : List ℕ) → All IsScalar (xs ++ ys) → All IsScalar xs
+pub all-front : (xs ys : List ℕ) → All IsScalar (xs ++ ys) → All IsScalar xs
 all-front [] ys h k d l = absurd (omega (arith, l))
 all-front (x ∷ xs) ys h zero d l = h 0 d (omega arith)
 all-front (x ∷ xs) ys h (suc k) d l = all-front xs ys (λ j e m. h (suc j) e (omega (arith, m))) k d (omega (arith, l))
@@ -97,24 +95,30 @@ module _ (limit : Option ℕ) where
   refused-list kind.OutOfMemory used rest n r = absurd (n refl)
   refused-list k used rest n r = r.refused
 
+-- a refusal that does not say that memory ran out: the characters have no tree
+pub refused-answer : (limit : Option ℕ) (xs used rest : List ℕ) (P : JsonValue → Type 0) (Q : JsonParseError → Type 0) (r : Result JsonValue JsonParseError) → xs ≡ used ++ rest
+    → MatchResult r P (λ e. Q e × RefusalSays limit e.kind used rest) → IfErr r (λ e. ¬ (e.kind ≡ kind.OutOfMemory) → ¬ IsAccepted limit xs)
+refused-answer limit xs used rest P Q (Ok v) whole a = tt
+refused-answer limit xs used rest P Q (Err e) whole a = λ n. subst (λ ys. ¬ IsAccepted limit ys) (sym whole) (refused-list limit e.kind used rest n a.1)
+
 -- ---- the whole call
 
-module _ {S : Type 0} (steps : S → Option ℕ → S → Type 0) (limit : Option ℕ) where
+module _ {S : Type 0} (sight : Sight S) (limit : Option ℕ) where
   -- What a reader that stood at p took of xs, and what it answered.
-  pub record Answered (p : Cursor S) (xs : List ℕ) (r : Result JsonValue JsonParseError) (q : Cursor S) : Type 0 where
+  pub record Answered (p : S) (xs : List ℕ) (r : Result JsonValue JsonParseError) (q : S) : Type 0 where
     pub consumed : List ℕ
     pub rest : List ℕ
     pub whole : xs ≡ consumed ++ rest
-    pub gives : Gives steps q rest
-    pub moves : place q ≡ advance (place p) consumed
+    pub gives : sight.gives q rest
+    pub moves : sight.place q ≡ advance (sight.place p) consumed
     pub answer : MatchResult r
         (λ v. (rest ≡ []) × IsText limit xs (view v))
-        (λ e. (error_position e ≡ place q) × RefusalSays limit e.kind consumed rest)
+        (λ e. (error_position e ≡ sight.place q) × RefusalSays limit e.kind consumed rest)
 
-  answered-error : (p q : Cursor S) (e : JsonParseError) (xs : List ℕ) → Gives steps p xs → All IsScalar xs → Refuses steps limit p (next [] awaited) e q → (e.kind ≡ kind.OutOfMemory → Grows steps p) → Answered p xs (Err e) q
+  answered-error : (p q : S) (e : JsonParseError) (xs : List ℕ) → sight.gives p xs → All IsScalar xs → Refuses sight limit p (next [] awaited) e q → (e.kind ≡ kind.OutOfMemory → Grows sight p) → Answered p xs (Err e) q
   answered-error p q e xs g a r m = ⊎_elim told wanted r.why
     where
-      told : (k : JsonParseErrorKind) × (e.kind ≡ k) × Leads steps limit p (next [] awaited) q (stop k true) → Answered p xs (Err e) q
+      told : (k : JsonParseErrorKind) × (e.kind ≡ k) × Leads sight limit p (next [] awaited) q (stop k true) → Answered p xs (Err e) q
       told w =
           let x = w.2.gives xs g in
           let ran : run (strictly limit) [] awaited (w.2.taken ++ x.0) ≡ refused w.0 x.0 = Comes-outcome limit (next [] awaited) (stop w.0 true) w.2.taken x.0 x.3 in
@@ -128,7 +132,7 @@ module _ {S : Type 0} (steps : S → Option ℕ → S → Type 0) (limit : Optio
             answer = (r.place, subst (λ k. RefusalSays limit k w.2.taken x.0) (sym w.1) (refusal-says limit w.0 w.2.taken x.0 s));
           }
 
-      wanted : (e.kind ≡ kind.OutOfMemory) × Halts steps limit p (next [] awaited) q → Answered p xs (Err e) q
+      wanted : (e.kind ≡ kind.OutOfMemory) × Halts sight limit p (next [] awaited) q → Answered p xs (Err e) q
       wanted w =
           let x = w.1.gives xs g in
           let i = held-interrupted limit w.1.taken (all-front w.1.taken x.0 (subst (All IsScalar) x.1 a)) x.3 in
@@ -142,11 +146,11 @@ module _ {S : Type 0} (steps : S → Option ℕ → S → Type 0) (limit : Optio
             answer = (r.place, subst (λ k. RefusalSays limit k w.1.taken x.0) (sym w.0) (i, n));
           }
 
-  pub answered : (p q : Cursor S) (r : Result JsonValue JsonParseError) → Reads steps limit p (next [] awaited) r (λ v. next [] (finished (view v))) q → OnOk r (Shows q None)
-      → IfErr r (λ e. e.kind ≡ kind.OutOfMemory → Grows steps p) → (xs : List ℕ) → Gives steps p xs → All IsScalar xs → Answered p xs r q
+  pub answered : (p q : S) (r : Result JsonValue JsonParseError) → Reads sight limit p (next [] awaited) r (λ v. next [] (finished (view v))) q → OnOk r (sight.shows q None)
+      → IfErr r (λ e. e.kind ≡ kind.OutOfMemory → Grows sight p) → (xs : List ℕ) → sight.gives p xs → All IsScalar xs → Answered p xs r q
   answered p q (Ok v) l s m xs g a =
       let x = l.gives xs g in
-      let n = nothing_left steps q x.0 s x.2 in
+      let n = sight.none q x.0 s x.2 in
       let w = next [] (finished (view v)) in
       let ran : run (strictly limit) [] awaited xs ≡ accepted (view v) = ap (outcome limit (next [] awaited)) x.1 ∙ Comes-outcome limit (next [] awaited) w l.taken x.0 x.3 ∙ ap (outcome limit w) n ∙ end-finished limit (view v) in
       record { consumed = l.taken; rest = x.0; whole = x.1; gives = x.2; moves = l.moves; answer = (n, (accepts limit xs a (view v)).0 ran) }
@@ -159,14 +163,15 @@ all-scalars (x ∷ xs) h (suc k) d l = all-scalars xs (and_parts (is_scalar x) (
 
 -- a new parser over a text
 pub parses-text : {S : Type 0} {g : iterator.Ghosts S ℕ} (limit : Option ℕ) (xs : List ℕ) (p q : JsonParser S g) (r : Result JsonValue JsonParseError) → parser_position p ≡ origin → parser_limit p ≡ limit → Parses p xs r q → ParsesText limit xs r
-parses-text limit xs p q (Ok v) h n a = record { consumed = a.consumed; rest = a.rest; whole = a.whole; answer = subst (λ l. (a.rest ≡ []) × IsText l xs (view v)) n a.answer }
+parses-text limit xs p q (Ok v) h n a = record { consumed = a.consumed; rest = a.rest; whole = a.whole; answer = subst (λ l. (a.rest ≡ []) × IsText l xs (view v)) n a.answer; refused = tt }
 parses-text limit xs p q (Err e) h n a = record {
   consumed = a.consumed;
   rest = a.rest;
   whole = a.whole;
   answer = (a.answer.0 ∙ a.position ∙ ap (λ x. advance x a.consumed) h, subst (λ l. RefusalSays l e.kind a.consumed a.rest) n a.answer.1);
+  refused = subst (λ l. ¬ (e.kind ≡ kind.OutOfMemory) → ¬ IsAccepted l xs) n a.refused;
 }
 
 -- a refusal that is not for want of memory: the characters have no tree
 pub refused-text : (limit : Option ℕ) (xs : List ℕ) (e : JsonParseError) → ¬ (e.kind ≡ kind.OutOfMemory) → ParsesText limit xs (Err e) → ¬ IsAccepted limit xs
-refused-text limit xs e n a = subst (λ ys. ¬ IsAccepted limit ys) (sym a.whole) (refused-list limit e.kind a.consumed a.rest n a.answer.1)
+refused-text limit xs e n a = a.refused n

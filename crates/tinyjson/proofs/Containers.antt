@@ -1,5 +1,5 @@
 -- Values and open containers, as the machine sees them.
-use Rattle.std.proofs.Common.{◌≡◌, ℕ, ◌<◌, Bool, true, false, List, [], ◌∷◌, ◌++◌, length, reverse, map, String, Global, Vec, Option, Some, None, IfSome, refl, sym, ap, ◌∙◌, rules}
+use Rattle.std.proofs.Common.{◌≡◌, ℕ, Bool, true, false, List, [], ◌∷◌, ◌++◌, length, reverse, map, String, Global, Vec, Option, Some, None, IfSome, refl, sym, ap, ◌∙◌, rules}
 use Rattle.std.proofs.lemmas.Bool.{ne_eqb}
 use Rattle.std.proofs.lemmas.List.{reverse-append, map-append, length-map, length-reverse}
 use Rattle.std.specs.Option.{option_to_list}
@@ -13,11 +13,10 @@ use Rattle.tinyjson.specs.declared.value.JsonValue.TheOpen.{JsonValue-F}
 use Rattle.tinyjson.specs.declared.value.JsonValue.TheVariants as is
 use Rattle.tinyjson.specs.declared.parser.stack.Open.{Open}
 use Rattle.tinyjson.specs.Characters.{is_white}
-use Rattle.tinyjson.specs.Machine.{strictly, step, fits, quoted, plain, Frame, in_array, at_key, at_value, colon, first, awaited, after, Next, next, stop, complete}
+use Rattle.tinyjson.specs.Machine.{step, fits, quoted, plain, Frame, in_array, at_key, at_value, colon, first, awaited, after, Next, next, stop, complete}
 use Rattle.tinyjson.specs.Tree.{is_string}
 use Rattle.tinyjson.specs.declared.parser.error.JsonParseErrorKind.TheVariants.{TooDeep, KeyNotString, ExpectedCommaOrBracket, ExpectedCommaOrBrace, ExpectedColon}
-use Rattle.tinyjson.specs.declared.parser.cursor.Cursor.{Cursor}
-use Rattle.tinyjson.specs.Cursor.{Shows, Takes}
+use Rattle.tinyjson.specs.Source.{Sight, Takes}
 use Rattle.tinyjson.specs.Reading.{wanting, frames, frame_view, onward, Leads}
 use Rattle.tinyjson.proofs.Readings.{Leads-nil, Leads-one, Leads-shown, Leads-end, end_first, end_awaited}
 
@@ -107,10 +106,10 @@ unfolding step
 array_other limit fs ts c w n m = rw (w, ne_eqb c 44 n, ne_eqb c 93 m) refl
 
 -- no bracket closes the array that was just opened
-pub array_goes_on : {S : Type 0} (steps : S → Option ℕ → S → Type 0) (limit : Option ℕ) (p q : Cursor S) {n : Next} (fs : List Frame) (vs : List JsonValue) (o : Option ℕ) → vs ≡ []
-    → Leads steps limit p n q (next (in_array [] ∷ fs) first) → Shows q o → IfSome o (λ c. is_white c ≡ false) → IfSome o (λ c. c ≡ 93 → ⊥) → Leads steps limit p n q (next (in_array (map view vs) ∷ fs) awaited)
-array_goes_on steps limit p q fs vs None h l s w k = Leads-end steps limit p q l s (end_first limit _ ∙ sym (end_awaited limit _)) tt
-array_goes_on steps limit p q fs vs (Some c) h l s w k = Leads-shown steps limit p q c l s (array_opens limit fs vs c h w k) tt
+pub array_goes_on : {S : Type 0} (sight : Sight S) (limit : Option ℕ) (p q : S) {n : Next} (fs : List Frame) (vs : List JsonValue) (o : Option ℕ) → vs ≡ []
+    → Leads sight limit p n q (next (in_array [] ∷ fs) first) → sight.shows q o → IfSome o (λ c. is_white c ≡ false) → IfSome o (λ c. c ≡ 93 → ⊥) → Leads sight limit p n q (next (in_array (map view vs) ∷ fs) awaited)
+array_goes_on sight limit p q fs vs None h l s w k = Leads-end sight limit p q l s (end_first limit _ ∙ sym (end_awaited limit _)) tt
+array_goes_on sight limit p q fs vs (Some c) h l s w k = Leads-shown sight limit p q c l s (array_opens limit fs vs c h w k) tt
 
 -- ---- objects
 
@@ -149,10 +148,10 @@ unfolding step
 colon_other limit fs ms k c w n = rw (w, ne_eqb c 58 n) refl
 
 -- no brace closes the object that was just opened
-pub object_goes_on : {S : Type 0} (steps : S → Option ℕ → S → Type 0) (limit : Option ℕ) (p q : Cursor S) {n : Next} (fs : List Frame) (ms : Members) (o : Option ℕ) → ms ≡ no_members
-    → Leads steps limit p n q (next (at_key no_members ∷ fs) first) → Shows q o → IfSome o (λ c. is_white c ≡ false) → IfSome o (λ c. c ≡ 125 → ⊥) → Leads steps limit p n q (next (at_key ms ∷ fs) awaited)
-object_goes_on steps limit p q fs ms None h l s w k = Leads-end steps limit p q l s (end_first limit _ ∙ sym (end_awaited limit _)) tt
-object_goes_on steps limit p q fs ms (Some c) h l s w k = Leads-shown steps limit p q c l s (object_opens limit fs ms c h w k) tt
+pub object_goes_on : {S : Type 0} (sight : Sight S) (limit : Option ℕ) (p q : S) {n : Next} (fs : List Frame) (ms : Members) (o : Option ℕ) → ms ≡ no_members
+    → Leads sight limit p n q (next (at_key no_members ∷ fs) first) → sight.shows q o → IfSome o (λ c. is_white c ≡ false) → IfSome o (λ c. c ≡ 125 → ⊥) → Leads sight limit p n q (next (at_key ms ∷ fs) awaited)
+object_goes_on sight limit p q fs ms None h l s w k = Leads-end sight limit p q l s (end_first limit _ ∙ sym (end_awaited limit _)) tt
+object_goes_on sight limit p q fs ms (Some c) h l s w k = Leads-shown sight limit p q c l s (object_opens limit fs ms c h w k) tt
 
 -- what is no string is no key
 pub no_key : (fs : List Frame) (ms : Members) (t : Tree) → is_string t ≡ false → stop (KeyNotString (kind_of t)) true ≡ complete true (at_key ms ∷ fs) t true
@@ -172,15 +171,15 @@ no_string v h = ap (λ z. is_string (view z)) (sym (roll-out-JsonValue v)) ∙ g
 
 -- ---- a container that begins
 
-module _ {S : Type 0} (steps : S → Option ℕ → S → Type 0) (limit : Option ℕ) (p q : Cursor S) (fs : List Frame) (n : ℕ) (d : n ≡ length fs) (l : p.line < 18446744073709551616) (k : p.column < 18446744073709551616) where
-  pub array_begins : fits limit n ≡ true → Takes steps p (91 ∷ []) q → Leads steps limit p (next fs awaited) q (next (in_array [] ∷ fs) first)
-  array_begins h t = Leads-one steps limit p p q 91 (Leads-nil steps limit p (next fs awaited) l k) t tt (bracket_opens limit fs (ap (fits limit) (sym d) ∙ h)) tt
+module _ {S : Type 0} (sight : Sight S) (limit : Option ℕ) (p q : S) (fs : List Frame) (n : ℕ) (d : n ≡ length fs) where
+  pub array_begins : fits limit n ≡ true → Takes sight p (91 ∷ []) q → Leads sight limit p (next fs awaited) q (next (in_array [] ∷ fs) first)
+  array_begins h t = Leads-one sight limit p p q 91 (Leads-nil sight limit p (next fs awaited)) t tt (bracket_opens limit fs (ap (fits limit) (sym d) ∙ h)) tt
 
-  pub object_begins : fits limit n ≡ true → Takes steps p (123 ∷ []) q → Leads steps limit p (next fs awaited) q (next (at_key no_members ∷ fs) first)
-  object_begins h t = Leads-one steps limit p p q 123 (Leads-nil steps limit p (next fs awaited) l k) t tt (brace_opens limit fs (ap (fits limit) (sym d) ∙ h)) tt
+  pub object_begins : fits limit n ≡ true → Takes sight p (123 ∷ []) q → Leads sight limit p (next fs awaited) q (next (at_key no_members ∷ fs) first)
+  object_begins h t = Leads-one sight limit p p q 123 (Leads-nil sight limit p (next fs awaited)) t tt (brace_opens limit fs (ap (fits limit) (sym d) ∙ h)) tt
 
-  pub array_too_deep : fits limit n ≡ false → Shows p (Some 91) → Leads steps limit p (next fs awaited) p (stop (TooDeep 91) true)
-  array_too_deep h s = Leads-shown steps limit p p 91 (Leads-nil steps limit p (next fs awaited) l k) s (bracket_too_deep limit fs (ap (fits limit) (sym d) ∙ h)) tt
+  pub array_too_deep : fits limit n ≡ false → sight.shows p (Some 91) → Leads sight limit p (next fs awaited) p (stop (TooDeep 91) true)
+  array_too_deep h s = Leads-shown sight limit p p 91 (Leads-nil sight limit p (next fs awaited)) s (bracket_too_deep limit fs (ap (fits limit) (sym d) ∙ h)) tt
 
-  pub object_too_deep : fits limit n ≡ false → Shows p (Some 123) → Leads steps limit p (next fs awaited) p (stop (TooDeep 123) true)
-  object_too_deep h s = Leads-shown steps limit p p 123 (Leads-nil steps limit p (next fs awaited) l k) s (brace_too_deep limit fs (ap (fits limit) (sym d) ∙ h)) tt
+  pub object_too_deep : fits limit n ≡ false → sight.shows p (Some 123) → Leads sight limit p (next fs awaited) p (stop (TooDeep 123) true)
+  object_too_deep h s = Leads-shown sight limit p p 123 (Leads-nil sight limit p (next fs awaited)) s (brace_too_deep limit fs (ap (fits limit) (sym d) ∙ h)) tt

@@ -1,5 +1,5 @@
 -- A text as its bytes.
-use Rattle.std.proofs.Common.{◌≡◌, ℕ, List, [], ◌∷◌, ◌++◌, ◌∙◌, ap, ◌<◌}
+use Rattle.std.proofs.Common.{◌≡◌, ℕ, List, [], ◌∷◌, ◌++◌, ◌∙◌, ap, ◌<◌, arith}
 use Rattle.std.specs.Str.{encode_utf8_all}
 use Rattle.std.proofs.lemmas.Str.{encodes-append, encode_ascii}
 
@@ -16,9 +16,10 @@ enclosed a b cs h k = enc_cons a (cs ++ b ∷ []) h ∙ ap (λ w. a ∷ w) (enco
 pub three : (a b c : List ℕ) → enc (a ++ (b ++ c)) ≡ enc a ++ (enc b ++ enc c)
 three a b c = encodes-append a (b ++ c) ∙ ap (λ w. enc a ++ w) (encodes-append b c)
 
--- an ASCII character, and two texts
-pub opened : (a : ℕ) (cs ds : List ℕ) → a < 128 → enc (a ∷ (cs ++ ds)) ≡ a ∷ [] ++ (enc cs ++ enc ds)
-opened a cs ds h = enc_cons a (cs ++ ds) h ∙ ap (λ w. a ∷ w) (encodes-append cs ds)
-
 pub closed : (cs : List ℕ) (b : ℕ) → b < 128 → enc (cs ++ b ∷ []) ≡ enc cs ++ b ∷ []
 closed cs b h = encodes-append cs (b ∷ []) ∙ ap (λ w. enc cs ++ w) (enc_cons b [] h)
+
+pub null_bytes : enc (110 ∷ 117 ∷ 108 ∷ 108 ∷ []) ≡ 110 ∷ 117 ∷ 108 ∷ 108 ∷ []
+null_bytes =
+    enc_cons 110 (117 ∷ 108 ∷ 108 ∷ []) (omega arith) ∙ ap (λ z. 110 ∷ z) (enc_cons 117 (108 ∷ 108 ∷ []) (omega arith)
+    ∙ ap (λ z. 117 ∷ z) (enc_cons 108 (108 ∷ []) (omega arith) ∙ ap (λ z. 108 ∷ z) (enc_cons 108 [] (omega arith))))

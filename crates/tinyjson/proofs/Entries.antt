@@ -44,7 +44,7 @@ find-members_of k (e ∷ es) =
     find-put (text k) (text e.0) e.1 (members_of es) ∙ λ i. cond (text_eq k e.0 i) (Some e.1) (find-members_of k es i)
 
 -- a key is found only if it is a text
-None-or_text : (q : List ℕ) (es : List Seen) → (find q (members_of es) ≡ None) ⊎ ((k : String Global) × (q ≡ text k))
+pub None-or_text : (q : List ℕ) (es : List Seen) → (find q (members_of es) ≡ None) ⊎ ((k : String Global) × (q ≡ text k))
 None-or_text q [] = inl refl
 None-or_text q (e ∷ es) = by (bytes_eq q (text e.0)) refl (None-or_text q es)
   where

@@ -11,6 +11,7 @@ pub mod Paths
 pub mod Faultless
 pub mod Spelt
 pub mod Viable
+pub mod Awaits
 pub mod Told
 pub mod Whole
 pub mod Units

@@ -3,7 +3,9 @@ pub mod Members
 pub mod Entries
 pub mod Views
 pub mod Trees
+pub mod Callers
 pub mod Positions
+pub mod Sources
 pub mod Cursors
 pub mod Readings
 pub mod UnitDecoding
@@ -12,6 +14,7 @@ pub mod Containers
 pub mod Growth
 pub mod Answering
 pub mod Equality
+pub mod Copies
 pub mod Index
 pub mod Writing
 pub mod Sorted
@@ -19,7 +22,7 @@ pub mod Encoded
 pub mod Quotes
 pub mod NumberTexts
 pub mod Texts
-pub mod Sizes
+pub mod Pending
 pub mod Scalars
 pub mod NumberReading
 pub mod NumberParts

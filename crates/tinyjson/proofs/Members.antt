@@ -7,7 +7,7 @@ use Rattle.std.proofs.lemmas.Str.{encodes_same}
 use Rattle.std.specs.Cmp.{IsTotalOrder}
 use Rattle.std.specs.Ordering.{match_ordering, ordering_reverse}
 use Rattle.std.specs.Str.{encode_utf8_all}
-use Rattle.tinyjson.specs.Tree.{Tree, Members, no_members, member, key_cmp, put, find}
+use Rattle.tinyjson.specs.Tree.{Tree, Members, no_members, member, key_cmp, put, find, remove}
 use Rattle.tinyjson.specs.Soundness.{IsBelow, IsSorted}
 
 pub key_total : IsTotalOrder key_cmp
@@ -93,6 +93,40 @@ sorted-put_at Greater k l t u ms e s later = (below-put l k t ms (flip k l e) s.
 pub sorted-put : (k : List ℕ) (t : Tree) (ms : Members) → IsSorted ms → IsSorted (put k t ms)
 sorted-put k t no_members s = (tt, tt)
 sorted-put k t (member l u ms) s = sorted-put_at (key_cmp k l) k l t u ms refl s (sorted-put k t ms s.1)
+
+cond_itself : {A : Type 0} (b : Bool) (x : A) → x ≡ cond b x x
+cond_itself true x = refl
+cond_itself false x = refl
+
+find-remove_at : (b : Bool) (q k l : List ℕ) (u : Tree) (ms : Members) → bytes_eq k l ≡ b → find q (remove k ms) ≡ cond (bytes_eq q k) None (find q ms)
+    → find q (cond b (remove k ms) (member l u (remove k ms))) ≡ cond (bytes_eq q k) None (cond (bytes_eq q l) (Some u) (find q ms))
+find-remove_at true q k l u ms e later =
+    later ∙ (cond_twice (bytes_eq q k) None (Some u) (find q ms) ∙ ap (λ x. cond (bytes_eq q k) None (cond (bytes_eq q x) (Some u) (find q ms))) ((bytes_eq-Decides k l).0 e))
+find-remove_at false q k l u ms e later =
+    let clash : bytes_eq q l ≡ true → bytes_eq q k ≡ true → ⊥
+    = λ a b. true≢false (sym (same_key k) ∙ (ap (λ x. bytes_eq k x) (sym ((bytes_eq-Decides q k).0 b) ∙ (bytes_eq-Decides q l).0 a) ∙ e)) in
+    ap (cond (bytes_eq q l) (Some u)) later ∙ cond_swap (bytes_eq q l) (bytes_eq q k) (Some u) None (find q ms) clash
+
+-- the removed key is not found, and the rest as before
+pub find-remove : (q k : List ℕ) (ms : Members) → find q (remove k ms) ≡ cond (bytes_eq q k) None (find q ms)
+find-remove q k no_members = cond_itself (bytes_eq q k) None
+find-remove q k (member l u ms) = find-remove_at (bytes_eq k l) q k l u ms refl (find-remove q k ms)
+
+below-remove : (j k : List ℕ) (ms : Members) → IsSorted ms → IsBelow j ms → IsBelow j (remove k ms)
+below-remove j k no_members s h = tt
+below-remove j k (member l u ms) s h = by (bytes_eq k l) (below-remove j k ms s.1 (below_trans j l ms h s.0))
+  where
+    by : (b : Bool) → IsBelow j (remove k ms) → IsBelow j (cond b (remove k ms) (member l u (remove k ms)))
+    by true later = later
+    by false later = h
+
+pub sorted-remove : (k : List ℕ) (ms : Members) → IsSorted ms → IsSorted (remove k ms)
+sorted-remove k no_members s = tt
+sorted-remove k (member l u ms) s = by (bytes_eq k l) (sorted-remove k ms s.1)
+  where
+    by : (b : Bool) → IsSorted (remove k ms) → IsSorted (cond b (remove k ms) (member l u (remove k ms)))
+    by true h = h
+    by false h = (below-remove l k ms s.1 s.0, h)
 
 found_first : (k : List ℕ) (t : Tree) (ms : Members) → find k (member k t ms) ≡ Some t
 found_first k t ms = ap (λ b. cond b (Some t) (find k ms)) (same_key k)

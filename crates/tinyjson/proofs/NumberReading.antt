@@ -8,16 +8,15 @@ use Rattle.tinyjson_number.specs.Decimal.{Decimal}
 use Rattle.tinyjson_number.specs.Numeral.{Numeral, AreDigits, has_leading_zero, is_exponent_letter, is_sign, minus_text, sign_text, fraction_text, value, in_range}
 use Rattle.tinyjson_number.specs.NumberText.{Spells}
 use Rattle.tinyjson.specs.Characters.{is_white}
-use Rattle.tinyjson.specs.Cursor.{Takes, Shows}
+use Rattle.tinyjson.specs.Source.{Sight, Takes}
 use Rattle.tinyjson.specs.Machine.{strictly, step, end, then_step, end_plain, Frame, in_array, at_key, at_value, Next, next, stop, awaited, digits, minus, whole, point, fraction, letter, sign, exponent, complete}
 use Rattle.tinyjson.specs.Numbers.{BeginsNumber, Still, is_any, numeral, Accepted, Declined, Digits}
 use Rattle.tinyjson.specs.Reading.{onward, ending, IsNext, IsTaken, Comes, Ends, Gathers, Leads, Refuses}
 use Rattle.tinyjson.specs.Tree.{number}
-use Rattle.tinyjson.specs.declared.parser.cursor.Cursor.{Cursor}
 use Rattle.tinyjson.specs.declared.parser.error.JsonParseError.{JsonParseError}
 use Rattle.tinyjson.specs.declared.parser.error.JsonParseErrorKind.{JsonParseErrorKind}
 use Rattle.tinyjson.specs.declared.parser.error.JsonParseErrorKind.TheVariants.{EmptyInteger, LeadingZero, EmptyFraction, EmptyExponent, NumberOutOfRange}
-use Rattle.tinyjson.proofs.Cursors.{Takes-append}
+use Rattle.tinyjson.proofs.Sources.{Takes-append}
 use Rattle.tinyjson.proofs.Readings.{Same-refl, Leads-trans, Leads-peek, Leads-shown, Leads-end, Halts-here, Refuses-as, Refuses-memory}
 
 -- ---- characters
@@ -275,70 +274,70 @@ module _ (limit : Option ℕ) where
 
 -- ---- the machine and the cursor
 
-module _ {S : Type 0} (steps : S → Option ℕ → S → Type 0) where
+module _ {S : Type 0} (sight : Sight S) where
   -- a digit, and those that follow it
-  pub Digits-cons : (empty : JsonParseErrorKind) (p q r : Cursor S) (c : ℕ) (old mid new : List ℕ) (v : Result (Unit {0}) JsonParseError) → is_ascii_digit c ≡ true → Takes steps p (c ∷ []) q → mid ≡ old ++ c ∷ []
-      → Gathers steps q mid v new r → OnOk v (Ends r) → Digits steps empty p old v new r
+  pub Digits-cons : (empty : JsonParseErrorKind) (p q r : S) (c : ℕ) (old mid new : List ℕ) (v : Result (Unit {0}) JsonParseError) → is_ascii_digit c ≡ true → Takes sight p (c ∷ []) q → mid ≡ old ++ c ∷ []
+      → Gathers sight q mid v new r → OnOk v (Ends sight r) → Digits sight empty p old v new r
   Digits-cons empty p q r c old mid new (Ok u) d t e g h = record {
     ds = c ∷ g.ds;
     digits = (d, g.digits);
-    takes = Takes-append steps p q r (c ∷ []) g.ds t g.takes;
+    takes = Takes-append sight p q r (c ∷ []) g.ds t g.takes;
     result = (g.result ∙ ap (λ x. x ++ g.ds) e ∙ append_assoc old (c ∷ []) g.ds, omega arith, h);
   }
   Digits-cons empty p q r c old mid new (Err e) d t m g h = record {
     ds = c ∷ g.ds;
     digits = (d, g.digits);
-    takes = Takes-append steps p q r (c ∷ []) g.ds t g.takes;
+    takes = Takes-append sight p q r (c ∷ []) g.ds t g.takes;
     result = (g.result.1, inr g.result.0);
   }
 
   -- what the answer says
-  pub was_accepted : (cs : List ℕ) (p q : Cursor S) (old new : List ℕ) (v : Bool) → MatchBool v (Accepted steps cs p old new q) (Declined steps cs p old new q) → v ≡ true → Accepted steps cs p old new q
+  pub was_accepted : (cs : List ℕ) (p q : S) (old new : List ℕ) (v : Bool) → MatchBool v (Accepted sight cs p old new q) (Declined sight cs p old new q) → v ≡ true → Accepted sight cs p old new q
   was_accepted cs p q old new true a e = a
   was_accepted cs p q old new false d e = absurd (true≢false (sym e))
 
-  pub was_declined : (cs : List ℕ) (p q : Cursor S) (old new : List ℕ) (v : Bool) → MatchBool v (Accepted steps cs p old new q) (Declined steps cs p old new q) → v ≡ false → Declined steps cs p old new q
+  pub was_declined : (cs : List ℕ) (p q : S) (old new : List ℕ) (v : Bool) → MatchBool v (Accepted sight cs p old new q) (Declined sight cs p old new q) → v ≡ false → Declined sight cs p old new q
   was_declined cs p q old new true a e = absurd (true≢false e)
   was_declined cs p q old new false d e = d
 
   -- none of these characters came next, and no digit
-  pub ends_declined : (cs : List ℕ) (p q : Cursor S) (old new : List ℕ) → Ends p → Declined steps cs p old new q → (o : Option ℕ) × Shows q o × IfSome o (λ c. is_ascii_digit c ≡ false) × IfSome o (λ c. is_any cs c ≡ false)
+  pub ends_declined : (cs : List ℕ) (p q : S) (old new : List ℕ) → Ends sight p → Declined sight cs p old new q → (o : Option ℕ) × sight.shows q o × IfSome o (λ c. is_ascii_digit c ≡ false) × IfSome o (λ c. is_any cs c ≡ false)
   ends_declined cs p q old new e d =
-      let s : Shows q e.0 = d.still e.0 e.1 in
-      (e.0, s, e.2, subst (λ o. IfSome o (λ c. is_any cs c ≡ false)) (sym d.shows.peeked ∙ s.peeked) d.none)
+      let s : sight.shows q e.0 = d.still e.0 e.1 in
+      (e.0, s, e.2, subst (λ o. IfSome o (λ c. is_any cs c ≡ false)) (sight.one q d.o e.0 d.shows s) d.none)
 
   -- where no minus sign came, a digit did
-  pub digit_comes : (p q r : Cursor S) (old new : List ℕ) (o : Option ℕ) → BeginsNumber p → Declined steps (45 ∷ []) p old new q → Shows r o → IfSome o (λ c. is_ascii_digit c ≡ false) → Still q r → ⊥
+  pub digit_comes : (p q r : S) (old new : List ℕ) (o : Option ℕ) → BeginsNumber sight p → Declined sight (45 ∷ []) p old new q → sight.shows r o → IfSome o (λ c. is_ascii_digit c ≡ false) → Still sight q r → ⊥
   digit_comes p q r old new o b d t h k =
-      let s : Shows q (Some b.0) = d.still (Some b.0) b.1 in
-      let x : is_any (45 ∷ []) b.0 ≡ false = subst (λ o. IfSome o (λ c. is_any (45 ∷ []) c ≡ false)) (sym d.shows.peeked ∙ s.peeked) d.none in
-      let y : is_ascii_digit b.0 ≡ false = subst (λ o. IfSome o (λ c. is_ascii_digit c ≡ false)) (sym t.peeked ∙ (k (Some b.0) s).peeked) h in
+      let s : sight.shows q (Some b.0) = d.still (Some b.0) b.1 in
+      let x : is_any (45 ∷ []) b.0 ≡ false = subst (λ o. IfSome o (λ c. is_any (45 ∷ []) c ≡ false)) (sight.one q d.o (Some b.0) d.shows s) d.none in
+      let y : is_ascii_digit b.0 ≡ false = subst (λ o. IfSome o (λ c. is_ascii_digit c ≡ false)) (sight.one r o (Some b.0) t (k (Some b.0) s)) h in
       ⊎_elim (not_one 45 b.0 x) (λ w. true≢false (sym w ∙ y)) b.2
 
-  pub minus_written : (v : Bool) (p q : Cursor S) (old new : List ℕ) → old ≡ [] → MatchBool v (Accepted steps (45 ∷ []) p old new q) (Declined steps (45 ∷ []) p old new q) → new ≡ minus_text v
+  pub minus_written : (v : Bool) (p q : S) (old new : List ℕ) → old ≡ [] → MatchBool v (Accepted sight (45 ∷ []) p old new q) (Declined sight (45 ∷ []) p old new q) → new ≡ minus_text v
   minus_written true p q old new e a = a.text ∙ ap (λ x. x ++ a.c ∷ []) e ∙ ap (λ c. c ∷ []) (any_one 45 a.c a.one)
   minus_written false p q old new e d = d.text ∙ e
 
   module _ (limit : Option ℕ) where
     -- what comes next tells no difference
-    pub Leads-rest : (p q : Cursor S) {n m : Next} (u : Next) (o : Option ℕ) → Leads steps limit p n q m → Shows q o → IsNext m → Alike limit m u o → Leads steps limit p n q u
-    Leads-rest p q u None l s h a = Leads-end steps limit p q l s a h
-    Leads-rest p q u (Some c) l s h a = Leads-shown steps limit p q c l s a h
+    pub Leads-rest : (p q : S) {n m : Next} (u : Next) (o : Option ℕ) → Leads sight limit p n q m → sight.shows q o → IsNext m → Alike limit m u o → Leads sight limit p n q u
+    Leads-rest p q u None l s h a = Leads-end sight limit p q l s a h
+    Leads-rest p q u (Some c) l s h a = Leads-shown sight limit p q c l s a h
 
     -- digits are taken in a state K that gathers them, or refused
-    module _ (K : List ℕ → Next) (h : (xs : List ℕ) → IsNext (K xs)) (k : (xs : List ℕ) (c : ℕ) → is_ascii_digit c ≡ true → onward limit (K xs) c ≡ K (xs ++ c ∷ [])) (p q r : Cursor S) {n : Next} (l : Leads steps limit p n q (K [])) where
-      pub Leads-digits : (ds : List ℕ) → AllByRecursion (λ c. is_ascii_digit c ≡ true) ds → Takes steps q ds r → Leads steps limit p n r (K ds)
+    module _ (K : List ℕ → Next) (h : (xs : List ℕ) → IsNext (K xs)) (k : (xs : List ℕ) (c : ℕ) → is_ascii_digit c ≡ true → onward limit (K xs) c ≡ K (xs ++ c ∷ [])) (p q r : S) {n : Next} (l : Leads sight limit p n q (K [])) where
+      pub Leads-digits : (ds : List ℕ) → AllByRecursion (λ c. is_ascii_digit c ≡ true) ds → Takes sight q ds r → Leads sight limit p n r (K ds)
       Leads-digits ds a t =
-          let m : Leads steps limit q (K []) r (K ds) = record {
+          let m : Leads sight limit q (K []) r (K ds) = record {
             taken = ds;
             gives = λ zs g. let x = t.gives zs g in (x.0, x.1, x.2, digits_come limit K h k [] ds x.0 a);
             moves = t.moves;
           } in
-          Leads-trans steps limit p q r l m
+          Leads-trans sight limit p q r l m
 
-      pub Refuses-digits : (empty : JsonParseErrorKind) (old new : List ℕ) (e : JsonParseError) → IsNext n → Digits steps empty q old (Err e) new r
-          → ((o : Option ℕ) → Shows r o → IfSome o (λ c. is_ascii_digit c ≡ false) → Still q r → Alike limit (K []) (stop empty true) o) → Refuses steps limit p n e r
+      pub Refuses-digits : (empty : JsonParseErrorKind) (old new : List ℕ) (e : JsonParseError) → IsNext n → Digits sight empty q old (Err e) new r
+          → ((o : Option ℕ) → sight.shows r o → IfSome o (λ c. is_ascii_digit c ≡ false) → Still sight q r → Alike limit (K []) (stop empty true) o) → Refuses sight limit p n e r
       Refuses-digits empty old new e i g f = ⊎_elim
-          (λ w. Refuses-as steps limit p r e empty w.0 g.result.0 (Leads-rest p r (stop empty true) w.2.0 (Leads-peek steps limit p q r l (subst (λ ds. Takes steps q ds r) w.1 g.takes)) w.2.1 (h []) (f w.2.0 w.2.1 w.2.2 w.3)))
-          (λ w. Refuses-memory steps limit p r e w g.result.0 (Halts-here steps limit p r (Leads-digits g.ds g.digits g.takes) i (h g.ds)))
+          (λ w. Refuses-as sight limit p r e empty w.0 g.result.0 (Leads-rest p r (stop empty true) w.2.0 (Leads-peek sight limit p q r l (subst (λ ds. Takes sight q ds r) w.1 g.takes)) w.2.1 (h []) (f w.2.0 w.2.1 w.2.2 w.3)))
+          (λ w. Refuses-memory sight limit p r e w g.result.0 (Halts-here sight limit p r (Leads-digits g.ds g.digits g.takes) i (h g.ds)))
           g.result.1

@@ -1,25 +1,22 @@
 -- How one step leads to the next.
-use Rattle.std.proofs.Common.{◌≡◌, ℕ, ◌+◌, ◌<◌, ◌==◌, Bool, not, cond, true, false, List, [], ◌∷◌, ◌++◌, length, get_or, drop, suc, Result, Ok, Err, OnOk, Option, Some, None, refl, sym, ap, ◌∙◌, subst, append_assoc, append-nil, drop-cons, add-one, arith, IfSome, inl, inr, ⊎_elim}
+use Rattle.std.proofs.Common.{◌≡◌, ℕ, ◌+◌, ◌<◌, ◌==◌, Bool, not, cond, true, false, List, [], ◌∷◌, ◌++◌, length, get_or, drop, suc, Result, Ok, Err, Option, Some, None, refl, sym, ap, ◌∙◌, subst, append_assoc, append-nil, drop-cons, add-one, arith, inl, inr, ⊎_elim}
 use Rattle.std.proofs.lemmas.Bool.{eq-eqb, ne_eqb}
 use Rattle.std.specs.List.{AllByRecursion}
 use Rattle.std.specs.Char.{is_ascii_digit}
-use Rattle.tinyjson_number.specs.Decimal.{Decimal}
 use Rattle.tinyjson.specs.Kind.{kind_of}
 use Rattle.tinyjson.specs.Tree.{Tree}
 use Rattle.tinyjson.specs.declared.parser.error.JsonParseErrorKind.{JsonParseErrorKind}
-use Rattle.tinyjson.specs.declared.parser.cursor.Cursor.{Cursor}
 use Rattle.tinyjson.specs.declared.parser.error.JsonParseError.{JsonParseError}
 use Rattle.tinyjson.specs.declared.parser.error.JsonParseErrorKind.TheVariants.{OutOfMemory}
 use Rattle.tinyjson.specs.Position.{advance}
 use Rattle.tinyjson.specs.Characters.{is_white}
-use Rattle.tinyjson.specs.Cursor.{Gives, Takes, Whites, Shows, place}
-use Rattle.tinyjson.specs.declared.parser.error.JsonParseErrorKind.TheVariants.{UnexpectedEof, LeadingZero, ExpectedEof, InvalidCharacter, KeyNotString, UnexpectedInLiteral}
-use Rattle.tinyjson_number.specs.Numeral.{has_leading_zero, value}
+use Rattle.tinyjson.specs.Source.{Sight, Takes, Whites}
+use Rattle.tinyjson.specs.declared.parser.error.JsonParseErrorKind.TheVariants.{UnexpectedEof, ExpectedEof, InvalidCharacter, KeyNotString, UnexpectedInLiteral}
 use Rattle.tinyjson.specs.Machine.{strictly, Within, quoted, end, colon, Frame, in_array, at_key, at_value, first, awaited, after, finished, Next, next, stop, refused, complete, step, run, go_on}
 use Rattle.tinyjson.specs.Tree.{is_string, key_of}
 use Rattle.tinyjson.specs.Error.{error_position}
-use Rattle.tinyjson.specs.Reading.{onward, ending, outcome, IsNext, IsTaken, behind, wanting, Same, Comes, IsHeld, Leads, Halts, Refuses, Reads, Ends, Gathers}
-use Rattle.tinyjson.proofs.Cursors.{Takes-nil, nothing_left, shown_first}
+use Rattle.tinyjson.specs.Reading.{onward, ending, outcome, IsNext, IsTaken, behind, wanting, Same, Comes, IsHeld, Leads, Halts, Refuses, Reads}
+use Rattle.tinyjson.proofs.Sources.{Takes-nil}
 use Rattle.tinyjson.proofs.Positions.{advance-append}
 
 -- ---- the machine alone
@@ -153,40 +150,40 @@ module _ (limit : Option ℕ) where
 
 -- ---- the machine and the cursor
 
-module _ {S : Type 0} (steps : S → Option ℕ → S → Type 0) (limit : Option ℕ) where
-  pub Leads-nil : (p : Cursor S) (n : Next) → p.line < 18446744073709551616 → p.column < 18446744073709551616 → Leads steps limit p n p n
-  Leads-nil p n h k = let t = Takes-nil steps p h k in record {
+module _ {S : Type 0} (sight : Sight S) (limit : Option ℕ) where
+  pub Leads-nil : (p : S) (n : Next) → Leads sight limit p n p n
+  Leads-nil p n = let t = Takes-nil sight p in record {
     taken = [];
     gives = λ zs g. let x = t.gives zs g in (x.0, x.1, x.2, (Same-refl limit n x.0, λ w. w));
     moves = t.moves;
   }
 
   -- the same state by another name
-  pub Leads-to : (p q : Cursor S) {n m o : Next} → Leads steps limit p n q m → m ≡ o → Leads steps limit p n q o
-  Leads-to p q {n} l e = subst (Leads steps limit p n q) e l
+  pub Leads-to : (p q : S) {n m o : Next} → Leads sight limit p n q m → m ≡ o → Leads sight limit p n q o
+  Leads-to p q {n} l e = subst (Leads sight limit p n q) e l
 
-  pub Leads-trans : (p q r : Cursor S) {n m o : Next} → Leads steps limit p n q m → Leads steps limit q m r o → Leads steps limit p n r o
+  pub Leads-trans : (p q r : S) {n m o : Next} → Leads sight limit p n q m → Leads sight limit q m r o → Leads sight limit p n r o
   Leads-trans p q r {n} {m} {o} a b = record {
     taken = a.taken ++ b.taken;
     gives = λ zs g.
         let x = a.gives zs g in
         let y = b.gives x.0 x.2 in
         (y.0, x.1 ∙ ap (λ t. a.taken ++ t) y.1 ∙ sym (append_assoc a.taken b.taken y.0), y.2, Comes-trans limit n m o a.taken b.taken y.0 (subst (λ z. Comes limit n a.taken m z) y.1 x.3) y.3);
-    moves = b.moves ∙ ap (λ t. advance t b.taken) a.moves ∙ advance-append (place p) a.taken b.taken;
+    moves = b.moves ∙ ap (λ t. advance t b.taken) a.moves ∙ advance-append (sight.place p) a.taken b.taken;
   }
 
-  pub Halts-trans : (p q r : Cursor S) {n m : Next} → Leads steps limit p n q m → Halts steps limit q m r → Halts steps limit p n r
+  pub Halts-trans : (p q r : S) {n m : Next} → Leads sight limit p n q m → Halts sight limit q m r → Halts sight limit p n r
   Halts-trans p q r {n} {m} a b = record {
     taken = a.taken ++ b.taken;
     gives = λ zs g.
         let x = a.gives zs g in
         let y = b.gives x.0 x.2 in
         (y.0, x.1 ∙ ap (λ t. a.taken ++ t) y.1 ∙ sym (append_assoc a.taken b.taken y.0), y.2, Comes-halts limit n m a.taken b.taken y.0 (subst (λ z. Comes limit n a.taken m z) y.1 x.3) y.3);
-    moves = b.moves ∙ ap (λ t. advance t b.taken) a.moves ∙ advance-append (place p) a.taken b.taken;
+    moves = b.moves ∙ ap (λ t. advance t b.taken) a.moves ∙ advance-append (sight.place p) a.taken b.taken;
   }
 
   -- no memory here
-  pub Halts-here : (p q : Cursor S) {n m : Next} → Leads steps limit p n q m → IsNext n → IsNext m → Halts steps limit p n q
+  pub Halts-here : (p q : S) {n m : Next} → Leads sight limit p n q m → IsNext n → IsNext m → Halts sight limit p n q
   Halts-here p q {n} {m} a h k = record {
     taken = a.taken;
     gives = λ zs g. let x = a.gives zs g in (x.0, x.1, x.2, Comes-held limit n m a.taken x.0 h k x.3);
@@ -194,7 +191,7 @@ module _ {S : Type 0} (steps : S → Option ℕ → S → Type 0) (limit : Optio
   }
 
   -- no memory behind a character that was taken
-  pub Halts-late : (p q r : Cursor S) {n m : Next} (c : ℕ) → Leads steps limit p n q m → Takes steps q (c ∷ []) r → IsNext m → Halts steps limit p n r
+  pub Halts-late : (p q r : S) {n m : Next} (c : ℕ) → Leads sight limit p n q m → Takes sight q (c ∷ []) r → IsNext m → Halts sight limit p n r
   Halts-late p q r {n} {m} c a t h = Halts-trans p q r a (record {
     taken = c ∷ [];
     gives = λ zs g. let x = t.gives zs g in (x.0, x.1, x.2, IsHeld-late limit m c h);
@@ -209,7 +206,7 @@ module _ {S : Type 0} (steps : S → Option ℕ → S → Type 0) (limit : Optio
       (h, subst IsTaken e (held n h), subst (λ z. Comes limit z ws n rest) e (stays n h k ws rest a.1))
 
   -- white space changes nothing
-  pub Leads-whites : (p q : Cursor S) (n : Next) → Whites steps p q → IsNext n → ((c : ℕ) → is_white c ≡ true → onward limit n c ≡ n) → Leads steps limit p n q n
+  pub Leads-whites : (p q : S) (n : Next) → Whites sight p q → IsNext n → ((c : ℕ) → is_white c ≡ true → onward limit n c ≡ n) → Leads sight limit p n q n
   Leads-whites p q n w h k = record {
     taken = w.taken;
     gives = λ zs g. let x = w.takes.gives zs g in (x.0, x.1, x.2, stays n h k w.taken x.0 w.white);
@@ -217,14 +214,14 @@ module _ {S : Type 0} (steps : S → Option ℕ → S → Type 0) (limit : Optio
   }
 
   -- the next character is taken
-  pub Leads-one : (p q r : Cursor S) {n m o : Next} (c : ℕ) → Leads steps limit p n q m → Takes steps q (c ∷ []) r → IsNext m → onward limit m c ≡ o → IsTaken o → Leads steps limit p n r o
+  pub Leads-one : (p q r : S) {n m o : Next} (c : ℕ) → Leads sight limit p n q m → Takes sight q (c ∷ []) r → IsNext m → onward limit m c ≡ o → IsTaken o → Leads sight limit p n r o
   Leads-one p q r {n} {m} {o} c a t h e k = Leads-trans p q r a (record {
     taken = c ∷ [];
     gives = λ zs g. let x = t.gives zs g in (x.0, x.1, x.2, (h, subst IsTaken (sym e) k, subst (λ z. Comes limit z [] o x.0) (sym e) (Same-refl limit o x.0, λ w. w)));
     moves = t.moves;
   })
 
-  then : (p q : Cursor S) {n m o : Next} → Leads steps limit p n q m → ((rest : List ℕ) → Gives steps q rest → Same limit m o rest) → IsNext m → Leads steps limit p n q o
+  then : (p q : S) {n m o : Next} → Leads sight limit p n q m → ((rest : List ℕ) → sight.gives q rest → Same limit m o rest) → IsNext m → Leads sight limit p n q o
   then p q {n} {m} {o} a h k = record {
     taken = a.taken;
     gives = λ zs g.
@@ -234,44 +231,44 @@ module _ {S : Type 0} (steps : S → Option ℕ → S → Type 0) (limit : Optio
   }
 
   -- at a character that is shown, and at the end
-  pub Leads-shown : (p q : Cursor S) {n m o : Next} (c : ℕ) → Leads steps limit p n q m → Shows q (Some c) → onward limit m c ≡ onward limit o c → IsNext m → Leads steps limit p n q o
-  Leads-shown p q {n} {m} {o} c a s e k = then p q a (λ rest g. let f = shown_first steps q rest c s g in subst (Same limit m o) (sym f.1) e) k
+  pub Leads-shown : (p q : S) {n m o : Next} (c : ℕ) → Leads sight limit p n q m → sight.shows q (Some c) → onward limit m c ≡ onward limit o c → IsNext m → Leads sight limit p n q o
+  Leads-shown p q {n} {m} {o} c a s e k = then p q a (λ rest g. let f = sight.first q rest c s g in subst (Same limit m o) (sym f.1) e) k
 
-  pub Leads-end : (p q : Cursor S) {n m o : Next} → Leads steps limit p n q m → Shows q None → ending limit m ≡ ending limit o → IsNext m → Leads steps limit p n q o
-  Leads-end p q {n} {m} {o} a s e k = then p q a (λ rest g. subst (Same limit m o) (sym (nothing_left steps q rest s g)) e) k
+  pub Leads-end : (p q : S) {n m o : Next} → Leads sight limit p n q m → sight.shows q None → ending limit m ≡ ending limit o → IsNext m → Leads sight limit p n q o
+  Leads-end p q {n} {m} {o} a s e k = then p q a (λ rest g. subst (Same limit m o) (sym (sight.none q rest s g)) e) k
 
   -- a look ahead
-  pub Leads-peek : (p q r : Cursor S) {n m : Next} → Leads steps limit p n q m → Takes steps q [] r → Leads steps limit p n r m
+  pub Leads-peek : (p q r : S) {n m : Next} → Leads sight limit p n q m → Takes sight q [] r → Leads sight limit p n r m
   Leads-peek p q r {n} {m} a t =
-      let l : Leads steps limit q m r m = record {
+      let l : Leads sight limit q m r m = record {
         taken = [];
         gives = λ zs g. let x = t.gives zs g in (x.0, x.1, x.2, (Same-refl limit m x.0, λ w. w));
         moves = t.moves;
       } in
       Leads-trans p q r a l
 
-  pub Leads-at : (p q r : Cursor S) {n m : Next} → Leads steps limit p n q m → r ≡ q → Leads steps limit p n r m
-  Leads-at p q r {n} {m} l e = subst (λ s. Leads steps limit p n s m) (sym e) l
+  pub Leads-at : (p q r : S) {n m : Next} → Leads sight limit p n q m → r ≡ q → Leads sight limit p n r m
+  Leads-at p q r {n} {m} l e = subst (λ s. Leads sight limit p n s m) (sym e) l
 
   -- the end is found
-  pub Leads-none : (p q r : Cursor S) {n m o : Next} → Leads steps limit p n q m → Takes steps q [] r → Shows r None → ending limit m ≡ ending limit o → IsNext m → Leads steps limit p n r o
+  pub Leads-none : (p q r : S) {n m o : Next} → Leads sight limit p n q m → Takes sight q [] r → sight.shows r None → ending limit m ≡ ending limit o → IsNext m → Leads sight limit p n r o
   Leads-none p q r {n} {m} {o} a t s e k = Leads-end p r (Leads-peek p q r a t) s e k
 
   -- an error of the kind that the machine says, and for want of memory
-  pub Refuses-as : (p q : Cursor S) {n : Next} (e : JsonParseError) (k : JsonParseErrorKind) → e.kind ≡ k → error_position e ≡ place q → Leads steps limit p n q (stop k true) → Refuses steps limit p n e q
+  pub Refuses-as : (p q : S) {n : Next} (e : JsonParseError) (k : JsonParseErrorKind) → e.kind ≡ k → error_position e ≡ sight.place q → Leads sight limit p n q (stop k true) → Refuses sight limit p n e q
   Refuses-as p q e k s a l = record { place = a; why = inl (k, s, l) }
 
-  pub Refuses-memory : (p q : Cursor S) {n : Next} (e : JsonParseError) → e.kind ≡ OutOfMemory → error_position e ≡ place q → Halts steps limit p n q → Refuses steps limit p n e q
+  pub Refuses-memory : (p q : S) {n : Next} (e : JsonParseError) → e.kind ≡ OutOfMemory → error_position e ≡ sight.place q → Halts sight limit p n q → Refuses sight limit p n e q
   Refuses-memory p q e s a l = record { place = a; why = inr (s, l) }
 
-  pub Refuses-after : (p q r : Cursor S) {n m : Next} (e : JsonParseError) → Leads steps limit p n q m → Refuses steps limit q m e r → Refuses steps limit p n e r
+  pub Refuses-after : (p q r : S) {n m : Next} (e : JsonParseError) → Leads sight limit p n q m → Refuses sight limit q m e r → Refuses sight limit p n e r
   Refuses-after p q r {n} {m} e a b = record {
     place = b.place;
     why = ⊎_elim (λ w. inl (w.0, w.1, Leads-trans p q r a w.2)) (λ w. inr (w.0, Halts-trans p q r a w.1)) b.why;
   }
 
   -- what was read before, and what was read then
-  pub Reads-after : {T : Type 0} (p q s : Cursor S) {n m : Next} (r : Result T JsonParseError) (K : T → Next) → Leads steps limit p n q m → Reads steps limit q m r K s → Reads steps limit p n r K s
+  pub Reads-after : {T : Type 0} (p q s : S) {n m : Next} (r : Result T JsonParseError) (K : T → Next) → Leads sight limit p n q m → Reads sight limit q m r K s → Reads sight limit p n r K s
   Reads-after p q s (Ok v) K a b = Leads-trans p q s a b
   Reads-after p q s (Err e) K a b = Refuses-after p q s e a b
 

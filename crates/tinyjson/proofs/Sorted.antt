@@ -1,6 +1,8 @@
 -- The members of a map, and a list of them that was sorted by the keys' bytes.
-use Rattle.std.proofs.Common.{◌≡◌, ℕ, ◌+◌, Bool, false, cond, Option, Some, None, List, [], ◌∷◌, map, length, get_or, bytes_eq, refl, sym, ◌∙◌, ap, subst, String, string_bytes, arith}
+use Rattle.std.proofs.Common.{◌≡◌, ℕ, ◌+◌, ◌-◌, ◌≤◌, ◌++◌, reverse, take, drop, append-nil, length-append, length-take, length-drop, Bool, false, cond, Option, Some, None, List, [], ◌∷◌, map, length, get_or, bytes_eq, refl, sym, ◌∙◌, ap, subst, String, string_bytes, arith}
+use borrow.Rule.Slice.PartMut.{put_mid, post_of}
 use Rattle.std.specs.Borrow.{Bor}
+use Rattle.std.proofs.Math.Seq.{take-append_seam, drop-append_seam}
 use Rattle.std.specs.declared.alloc.Global.{Global}
 use Rattle.std.specs.declared.cmp.Ordering.{Ordering}
 use Rattle.std.specs.declared.cmp.Ordering.TheVariants.{Less, Equal, Greater}
@@ -13,8 +15,8 @@ use Rattle.std.specs.Map.{keys_of, lookup}
 use Rattle.std.specs.String.{string_eq}
 use Rattle.std.proofs.ByRecursion.{all_shuffled}
 use Rattle.std.proofs.lemmas.Cmp.{nat_list_cmp_total, eq_by_cmp_equiv}
-use Rattle.std.proofs.lemmas.List.{length-map}
-use Rattle.std.proofs.lemmas.List.Sorted.{IsPermutation-map, IsPermutation-sym, Contains-permutation}
+use Rattle.std.proofs.lemmas.List.{length-map, length-reverse, get_or-reverse, reverse-append, drop_all, take_all}
+use Rattle.std.proofs.lemmas.List.Sorted.{IsPermutation-map, IsPermutation-sym, IsPermutation-trans, IsPermutation-reverse, Contains-permutation, length_permutation}
 use Rattle.std.proofs.lemmas.Map.Keys.{apart_from_distinct, IsDistinct-cons, IsDistinct-head, IsDistinct-tail, IsDistinct-IsPermutation, sorted_from_all_adjacent, sorted_head, sorted_tail}
 use Rattle.std.proofs.lemmas.Map.Text.{is_eq-slice_cmp}
 use Rattle.std.proofs.lemmas.Map.Views.{Contains-from_lookup, lookup-from_Contains}
@@ -145,6 +147,14 @@ keys_utf8 : (es : List Entry) → AllByRecursion IsUtf8 (keys_of (map bytes_pair
 keys_utf8 [] = tt
 keys_utf8 (e ∷ es) = (IsUtf8-string_bytes e.0, keys_utf8 es)
 
+-- a list that falls, from its end on
+pub sorted_back : (ps : List Pair) → IsSortedBy (λ a b. is_lt (bytes_cmp (key b) (key a))) ps → IsSortedBy (λ a b. is_lt (bytes_cmp (key a) (key b))) (reverse ps)
+sorted_back ps s k d low h =
+    let n : length (reverse ps) ≡ length ps = length-reverse ps in
+    let j = length ps - 1 - (k + 1) in
+    let here : length ps - 1 - k ≡ j + 1 = omega arith in
+    rw (get_or-reverse ps (k + 1) d (omega arith), get_or-reverse ps k d (omega arith), here) (s j d (omega arith) (omega arith))
+
 -- the sorted pairs are the map's members
 pub sorted_members_view : (es : List Entry) (ps : List Pair)
     → IsDistinct string_eq (keys_of es) → IsPermutation (map bytes_pair es) (map now_pair ps) → IsSortedBy (λ a b. is_lt (bytes_cmp (key a) (key b))) ps
@@ -158,3 +168,41 @@ sorted_members_view es ps d p s =
     sym (put_all-pairs ps (in_order ps utf8 (rises ps distinct s)))
     ∙ sym (put_all-permutation (map seen (map bytes_pair es)) (map seen (map now_pair ps)) seen_distinct (IsPermutation-map seen (map bytes_pair es) (map now_pair ps) p))
     ∙ put_all-entries es
+
+-- ---- members gathered behind others
+
+-- a list whose end was rewritten
+rebuilt : {X : Type 0} (len s : ℕ) (xs ys : List X) → len ≡ length xs → s ≤ length xs → length ys ≡ length xs - s
+    → take len (put_mid s (length xs - s) xs ys ++ drop (length (put_mid s (length xs - s) xs ys)) xs) ≡ take s xs ++ ys
+rebuilt len s xs ys l h n =
+    let none : post_of s (length xs - s) xs ≡ [] = drop_all (length xs - s) (drop s xs) (omega (arith, length-drop s xs)) in
+    let joined : put_mid s (length xs - s) xs ys ≡ take s xs ++ ys = ap (λ w. take s xs ++ (ys ++ w)) none ∙ ap (λ w. take s xs ++ w) (append-nil ys) in
+    let size : len ≡ length (take s xs ++ ys) = omega (arith, length-append (take s xs) ys, length-take s xs) in
+    ap (λ w. take len (w ++ drop (length w) xs)) joined ∙ ap (λ m. take m ((take s xs ++ ys) ++ drop (length (take s xs ++ ys)) xs)) size ∙ take-append_seam (take s xs ++ ys) (drop (length (take s xs ++ ys)) xs)
+
+pub regathered : (len s : ℕ) (old xs ds ys : List Pair) → ds ≡ xs → s ≡ length old → len ≡ length xs → take (length old) xs ≡ old → length ys ≡ length (take (length ds - s) (drop s ds))
+    → take len (put_mid s (length ds - s) ds ys ++ drop (length (put_mid s (length ds - s) ds ys)) xs) ≡ old ++ ys
+regathered len s old xs ds ys e f l b n =
+    let size = ap length e in
+    let fits : s ≤ length xs = omega (arith, ap length b, length-take (length old) xs) in
+    let m : length ys ≡ length xs - s = omega (arith, n, length-take (length ds - s) (drop s ds), length-drop s ds, size) in
+    subst (λ z. take len (put_mid s (length z - s) z ys ++ drop (length (put_mid s (length z - s) z ys)) xs) ≡ old ++ ys) (sym e)
+    (rebuilt len s xs ys l fits m ∙ ap (λ w. w ++ ys) (ap (λ k. take k xs) f ∙ b))
+
+pub regathered-IsPermutation : (s : ℕ) (old xs ds ys : List Pair) → ds ≡ xs → s ≡ length old → IsPermutation (take (length ds - s) (drop s ds)) ys → IsPermutation (drop (length old) xs) ys
+regathered-IsPermutation s old xs ds ys e f p =
+    subst (λ w. IsPermutation w ys) (take_all (length ds - s) (drop s ds) (omega (arith, length-drop s ds)) ∙ ap (λ z. drop s z) e ∙ ap (λ k. drop k xs) f) p
+
+module _ (es : List Entry) (old added ys : List Pair) (same : map now_pair added ≡ map bytes_pair es) (p : IsPermutation added ys) where
+  counted : length es ≡ length (reverse ys)
+  counted = sym (length-map es bytes_pair) ∙ ap length (sym same) ∙ length-map added now_pair ∙ sym (length_permutation added ys p) ∙ sym (length-reverse ys)
+
+  pub gathered_members : IsDistinct string_eq (keys_of es) → IsSortedBy (λ a b. is_lt (bytes_cmp (key b) (key a))) ys → sorted_view (take (length es) (reverse (old ++ ys))) ≡ members_view es
+  gathered_members d s =
+      let q = IsPermutation-map now_pair added (reverse ys) (IsPermutation-trans added ys (reverse ys) p (IsPermutation-reverse ys)) in
+      ap (λ w. sorted_view (take (length es) w)) (reverse-append old ys) ∙ ap (λ n. sorted_view (take n (reverse ys ++ reverse old))) counted
+      ∙ ap sorted_view (take-append_seam (reverse ys) (reverse old))
+      ∙ sorted_members_view es (reverse ys) d (subst (λ w. IsPermutation w (map now_pair (reverse ys))) same q) (sorted_back ys s)
+
+  pub gathered_others : drop (length es) (reverse (old ++ ys)) ≡ reverse old
+  gathered_others = ap (drop (length es)) (reverse-append old ys) ∙ ap (λ n. drop n (reverse ys ++ reverse old)) counted ∙ drop-append_seam (reverse ys) (reverse old)

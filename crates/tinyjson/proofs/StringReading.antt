@@ -7,33 +7,32 @@ use Rattle.std.proofs.lemmas.Bool.{ne_eqb}
 use Rattle.std.proofs.lemmas.Bool.Decides.{nat_tests}
 use Rattle.tinyjson.specs.Tree.{string}
 use Rattle.tinyjson.specs.View.{text}
-use Rattle.tinyjson.specs.declared.parser.cursor.Cursor.{Cursor}
 use Rattle.tinyjson.specs.declared.parser.error.JsonParseError.{JsonParseError}
 use Rattle.tinyjson.specs.Characters.{is_hex, unit_of, paired, decode, short_escape}
-use Rattle.tinyjson.specs.Cursor.{Takes, place}
-use Rattle.tinyjson.specs.Machine.{strictly, step, end, Frame, Next, next, stop, complete, plain, backslash, hex, quoted, refused}
+use Rattle.tinyjson.specs.Source.{Sight, Takes}
+use Rattle.tinyjson.specs.Machine.{step, end, Frame, Next, next, stop, complete, plain, backslash, hex, quoted, refused}
 use Rattle.tinyjson.specs.declared.parser.error.JsonParseErrorKind.TheVariants.{InvalidUtf16, InvalidHexDigit, InvalidEscape, ControlCharacter, UnexpectedEof}
 use Rattle.tinyjson.specs.Reading.{onward, ending, within, Fails, IsNext, IsTaken, Leads, Refuses, Reads}
 use Rattle.tinyjson.proofs.Readings.{Leads-one, Halts-late, Refuses-as, Refuses-memory, taken_if}
 
-module _ {S : Type 0} (steps : S → Option ℕ → S → Type 0) (limit : Option ℕ) where
+module _ {S : Type 0} (sight : Sight S) (limit : Option ℕ) where
   -- the units before the character that was read, c, could not be added
-  pub Refuses-fails : (p q r : Cursor S) {n m : Next} (o : Next) (e : JsonParseError) (b : Bool) (c : ℕ) → Leads steps limit p n q m → Takes steps q (c ∷ []) r → IsNext n → IsNext m
-      → onward limit m c ≡ cond (not b) (stop InvalidUtf16 true) o → Fails e b (place r) → Refuses steps limit p n e r
+  pub Refuses-fails : (p q r : S) {n m : Next} (o : Next) (e : JsonParseError) (b : Bool) (c : ℕ) → Leads sight limit p n q m → Takes sight q (c ∷ []) r → IsNext n → IsNext m
+      → onward limit m c ≡ cond (not b) (stop InvalidUtf16 true) o → Fails e b (sight.place r) → Refuses sight limit p n e r
   Refuses-fails p q r {n} {m} o e b c l t i h s f = ⊎_elim
-      (λ w. Refuses-as steps limit p r e InvalidUtf16 w.1 f.place (Leads-one steps limit p q r c l t h (s ∙ ap (λ x. cond (not x) (stop InvalidUtf16 true) o) w.0) tt))
-      (λ w. Refuses-memory steps limit p r e w f.place (Halts-late steps limit p q r c l t h))
+      (λ w. Refuses-as sight limit p r e InvalidUtf16 w.1 f.place (Leads-one sight limit p q r c l t h (s ∙ ap (λ x. cond (not x) (stop InvalidUtf16 true) o) w.0) tt))
+      (λ w. Refuses-memory sight limit p r e w f.place (Halts-late sight limit p q r c l t h))
       f.why
 
   -- they were added, and a character d
-  pub Reads-add : (p q r : Cursor S) {n m : Next} (fs : List Frame) (v : Result Bool JsonParseError) (old new : String Global) (us vs : List ℕ) (c d : ℕ) → Leads steps limit p n q m → Takes steps q (c ∷ []) r → IsNext n → IsNext m
+  pub Reads-add : (p q r : S) {n m : Next} (fs : List Frame) (v : Result Bool JsonParseError) (old new : String Global) (us vs : List ℕ) (c d : ℕ) → Leads sight limit p n q m → Takes sight q (c ∷ []) r → IsNext n → IsNext m
       → onward limit m c ≡ cond (not (paired us)) (stop InvalidUtf16 true) (next fs (quoted plain ((text old ++ decode us) ++ d ∷ []) []))
-      → MatchResult v (λ done. (done ≡ false) × (paired us ≡ true) × (text new ≡ (text old ++ decode us) ++ d ∷ []) × (vs ≡ [])) (λ e. Fails e (paired us) (place r))
-      → Reads steps limit p n v (within fs new vs) r
+      → MatchResult v (λ done. (done ≡ false) × (paired us ≡ true) × (text new ≡ (text old ++ decode us) ++ d ∷ []) × (vs ≡ [])) (λ e. Fails e (paired us) (sight.place r))
+      → Reads sight limit p n v (within fs new vs) r
   Reads-add p q r {n} {m} fs (Ok done) old new us vs c d l t i h s f =
       let o : Next = next fs (quoted plain ((text old ++ decode us) ++ d ∷ []) []) in
       let e : within fs new vs done ≡ o = ap (within fs new vs) f.0 ∙ ap₂ (λ x y. next fs (quoted plain x y)) f.2 f.3 in
-      Leads-one steps limit p q r c l t h (s ∙ ap (λ x. cond (not x) (stop InvalidUtf16 true) o) f.1 ∙ sym e) (subst IsTaken (sym e) tt)
+      Leads-one sight limit p q r c l t h (s ∙ ap (λ x. cond (not x) (stop InvalidUtf16 true) o) f.1 ∙ sym e) (subst IsTaken (sym e) tt)
   Reads-add p q r fs (Err e) old new us vs c d l t i h s f = Refuses-fails p q r (next fs (quoted plain ((text old ++ decode us) ++ d ∷ []) [])) e (paired us) c l t i h s f
 
 -- ---- hexadecimal digits

@@ -12,7 +12,8 @@ use Rattle.tinyjson.proofs.Entries.{members_of-sorted}
 use Rattle.tinyjson.specs.declared.value.JsonValue.{JsonValue, roll-JsonValue, map-JsonValue, fold-roll-JsonValue, ind-JsonValue}
 use Rattle.tinyjson.specs.declared.value.JsonValue.TheOpen.{JsonValue-F}
 
-text_scalars : (s : String Global) → IsTrue (all_scalars (text s))
+-- the characters of a text are scalar values
+pub text_scalars : (s : String Global) → IsTrue (all_scalars (text s))
 text_scalars s = scalars-chars (string_bytes s) (IsUtf8-string_bytes s)
 
 are_put_at : (width : Width) (o : Ordering) (k l : List ℕ) (t u : Tree) (ms : Members) → IsTrue (all_scalars k) → IsTreeAt width t → AreMembersAt width (member l u ms) → AreMembersAt width (put k t ms)
@@ -50,5 +51,6 @@ layer_sound JsonValue-F.Null = tt
 layer_sound (JsonValue-F.Array v) = items_sound v.items
 layer_sound (JsonValue-F.Object m) = (members_sound m.entries, members_of-sorted (seen_entries (map (λ (e : String Global × Sound). (e.0, e.1.0)) m.entries)))
 
+-- the tree of every value is sound
 pub view-IsTree : (v : JsonValue) → IsTree (view v)
 view-IsTree = ind-JsonValue Seen (λ x y e. subst (λ z. Seen (roll-JsonValue z)) e (subst IsTree (sym (fold-roll-JsonValue Tree view_step (held y))) (layer_sound y)))

@@ -53,6 +53,19 @@ goes rest k h = written_more rest h k
 pub stops : {old mid new : Option (List ℕ)} {bytes piece : List ℕ} (rest : List ℕ) → WrittenPart mid new piece → Written old mid bytes (piece ++ rest) → WrittenPart old new bytes
 stops rest k h = record { rest = k.rest ++ rest; written = written_more rest h k.written }
 
+-- what was still to be written is written but for a rest
+pub written_then : {old mid new : Option (List ℕ)} {bytes : List ℕ} (rest left : List ℕ) → Written old mid bytes rest → Written mid new rest left → Written old new bytes left
+written_then {old} {mid} {new} {bytes} rest left h k =
+    let whole : Written old mid bytes (rest ++ []) = rw append-nil h in
+    let all : Written old new bytes (left ++ []) = written_more {old = old} {mid = mid} {new = new} {bytes = bytes} {piece = rest} {left = left} [] whole k in
+    rw append-nil at all
+
+-- or a part of it
+pub stops_then : {old mid new : Option (List ℕ)} {bytes : List ℕ} (rest : List ℕ) → Written old mid bytes rest → WrittenPart mid new rest → WrittenPart old new bytes
+stops_then {old} {mid} {new} {bytes} rest h k =
+    let whole : Written old mid bytes (rest ++ []) = rw append-nil h in
+    stops {old = old} {mid = mid} {new = new} {bytes = bytes} {piece = rest} [] k whole
+
 -- the last piece
 pub ends : {T E : Type 0} (old mid new : Option (List ℕ)) (bytes piece : List ℕ) (r : Result T E) → WritesPrefix mid new piece r → Written old mid bytes piece → WritesPrefix old new bytes r
 ends old mid new bytes piece (Ok x) k h = goes {piece = piece} [] k (rw append-nil h)

@@ -1,13 +1,12 @@
--- What a cursor still gives, and what a call took from it. For private contracts.
+-- What a cursor over an iterator still gives. For private contracts.
 use Rattle.std.specs.Prelude.{◌≡◌, ℕ, ◌+◌, true, false, cond, List, [], ◌++◌, Option, IfNone}
 use Rattle.std.specs.Option.{option_len, option_to_list}
 use Rattle.std.specs.Iterator.{AlwaysYields, Count, IsFinite, size}
-use Rattle.std.specs.List.{AllByRecursion}
 use Rattle.tinyjson.specs.declared.parser.cursor.Cursor.{Cursor}
-use Rattle.tinyjson.specs.Characters.{is_white}
-use Rattle.tinyjson.specs.Position.{Position, position_at, advance}
+use Rattle.tinyjson.specs.Position.{Position, position_at}
+pub mod Laws
 
--- until its end came, the source may be called, and ends
+-- until its end came, the iterator may be called, and ends
 abbrev pub Ready : {S : Type 0} → (S → Type 0) → (S → Count) → Cursor S → Type 0
 Ready can remaining p = p.done ≡ false → can p.it × IsFinite (remaining p.it)
 
@@ -25,7 +24,7 @@ pub record Shows {S : Type 0} (p : Cursor S) (c : Option ℕ) : Type 0 where
   pub ended : IfNone c (p.done ≡ true)
 
 module _ {S : Type 0} (steps : S → Option ℕ → S → Type 0) where
-  -- whichever way the calls on a source go, they give this list, and then the end
+  -- whichever way the calls on an iterator go, they give this list, and then the end
   abbrev pub Begins : S → List ℕ → Type 0
   Begins s xs = AlwaysYields steps (λ x. x) s xs
 
@@ -35,14 +34,3 @@ module _ {S : Type 0} (steps : S → Option ℕ → S → Type 0) where
     pub is : xs ≡ option_to_list p.peeked ++ later
     pub source : p.done ≡ false → Begins p.it later
     pub ended : p.done ≡ true → later ≡ []
-
-  -- a call took xs from p and left q: of any list that p gave, xs stands in front, and q gives the rest
-  pub record Takes (p : Cursor S) (xs : List ℕ) (q : Cursor S) : Type 0 where
-    pub gives : (zs : List ℕ) → Gives p zs → (rest : List ℕ) × (zs ≡ xs ++ rest) × Gives q rest
-    pub moves : place q ≡ advance (place p) xs
-
-  -- a call took white space
-  pub record Whites (p q : Cursor S) : Type 0 where
-    pub taken : List ℕ
-    pub white : AllByRecursion (λ c. is_white c ≡ true) taken
-    pub takes : Takes p taken q

@@ -8,7 +8,7 @@ use Rattle.std.specs.Str.{bytes_eq, chars}
 use Rattle.std.specs.String.{string_bytes}
 use Rattle.std.specs.Vec.{with_item}
 use Rattle.tinyjson.specs.Access.{JsonMap, array_part, object_part}
-use Rattle.tinyjson.specs.Tree.{Tree, null, boolean, number, string, array, object, Items, no_items, item, find}
+use Rattle.tinyjson.specs.Tree.{Tree, null, boolean, number, string, array, object, Items, no_items, item, find, put}
 use Rattle.tinyjson.specs.View.{view}
 use Rattle.tinyjson.specs.declared.value.JsonValue as made
 use Rattle.tinyjson.specs.declared.value.JsonValue.{JsonValue}
@@ -35,6 +35,27 @@ tree_at _ i = None
 abbrev pub tree_at_key : Tree → List ℕ → Option Tree
 tree_at_key (object ms) k = find k ms
 tree_at_key _ k = None
+
+-- the items with u in place of the one at the index
+abbrev pub with_nth : Items → ℕ → Tree → Items
+with_nth no_items i u = no_items
+with_nth (item t ts) zero u = item u ts
+with_nth (item t ts) (suc i) u = item t (with_nth ts i u)
+
+-- the items with u behind the last
+abbrev pub with_last : Items → Tree → Items
+with_last no_items u = item u no_items
+with_last (item t ts) u = item t (with_last ts u)
+
+-- the tree with u in place of the item at the index
+abbrev pub with_tree_at : Tree → ℕ → Tree → Tree
+with_tree_at (array ts) i u = array (with_nth ts i u)
+with_tree_at t i u = t
+
+-- the tree with u at the key
+abbrev pub with_tree_at_key : Tree → List ℕ → Tree → Tree
+with_tree_at_key (object ms) k u = object (put k u ms)
+with_tree_at_key t k u = t
 
 -- x is the item at the index, and its tree is the one that v's tree has there
 abbrev pub IsItemAt : JsonValue → ℕ → JsonValue → Type 0

@@ -8,9 +8,8 @@ use Rattle.tinyjson.specs.View.{view, members_view, text}
 use Rattle.tinyjson.specs.Position.{Position, advance}
 use Rattle.tinyjson.specs.Error.{error_position}
 use Rattle.tinyjson.specs.Refusal.{MayGrow}
-use Rattle.tinyjson.specs.Cursor.{Gives, Takes, Shows, place}
-use Rattle.tinyjson.specs.Machine.{Frame, in_array, at_key, at_value, awaited, word, plain, quoted, Next, next, stop, Outcome, accepted, refused, complete, step, end, run, strictly}
-use Rattle.tinyjson.specs.declared.parser.cursor.Cursor.{Cursor}
+use Rattle.tinyjson.specs.Source.{Sight, Takes}
+use Rattle.tinyjson.specs.Machine.{Frame, in_array, at_key, at_value, awaited, word, plain, quoted, Next, next, stop, Outcome, refused, complete, step, end, run, strictly}
 use Rattle.tinyjson.specs.declared.parser.stack.Open.{Open}
 use Rattle.tinyjson.specs.declared.parser.stack.Open.TheVariants as container
 use Rattle.tinyjson.specs.declared.parser.error.JsonParseError.{JsonParseError}
@@ -47,8 +46,8 @@ pub record Fails (e : JsonParseError) (whole : Bool) (p : Position) : Type 0 whe
   pub why : ((whole ≡ false) × (e.kind ≡ InvalidUtf16)) ⊎ (e.kind ≡ OutOfMemory)
 
 -- no digit comes
-abbrev pub Ends : {S : Type 0} → Cursor S → Type 0
-Ends q = (o : Option ℕ) × Shows q o × IfSome o (λ c. is_ascii_digit c ≡ false)
+abbrev pub Ends : {S : Type 0} → Sight S → S → Type 0
+Ends sight q = (o : Option ℕ) × sight.shows q o × IfSome o (λ c. is_ascii_digit c ≡ false)
 
 -- ---- a refusal is a state that stays
 
@@ -97,42 +96,42 @@ module _ (limit : Option ℕ) where
     pub short : length late ≤ 1
     pub goes : IsNext (behind n front)
 
-module _ {S : Type 0} (steps : S → Option ℕ → S → Type 0) (limit : Option ℕ) where
+module _ {S : Type 0} (sight : Sight S) (limit : Option ℕ) where
   -- A call took some characters from p and left q: the machine went from n to m.
-  pub record Leads (p : Cursor S) (n : Next) (q : Cursor S) (m : Next) : Type 0 where
+  pub record Leads (p : S) (n : Next) (q : S) (m : Next) : Type 0 where
     pub taken : List ℕ
-    pub gives : (zs : List ℕ) → Gives steps p zs → (rest : List ℕ) × (zs ≡ taken ++ rest) × Gives steps q rest × Comes limit n taken m rest
-    pub moves : place q ≡ advance (place p) taken
+    pub gives : (zs : List ℕ) → sight.gives p zs → (rest : List ℕ) × (zs ≡ taken ++ rest) × sight.gives q rest × Comes limit n taken m rest
+    pub moves : sight.place q ≡ advance (sight.place p) taken
 
   -- A call took some characters and found no memory.
-  pub record Halts (p : Cursor S) (n : Next) (q : Cursor S) : Type 0 where
+  pub record Halts (p : S) (n : Next) (q : S) : Type 0 where
     pub taken : List ℕ
-    pub gives : (zs : List ℕ) → Gives steps p zs → (rest : List ℕ) × (zs ≡ taken ++ rest) × Gives steps q rest × IsHeld limit n taken
-    pub moves : place q ≡ advance (place p) taken
+    pub gives : (zs : List ℕ) → sight.gives p zs → (rest : List ℕ) × (zs ≡ taken ++ rest) × sight.gives q rest × IsHeld limit n taken
+    pub moves : sight.place q ≡ advance (sight.place p) taken
 
   -- the machine refuses, or there was no memory
-  pub record Refuses (p : Cursor S) (n : Next) (e : JsonParseError) (q : Cursor S) : Type 0 where
-    pub place : error_position e ≡ place q
+  pub record Refuses (p : S) (n : Next) (e : JsonParseError) (q : S) : Type 0 where
+    pub place : error_position e ≡ sight.place q
     pub why : ((k : JsonParseErrorKind) × (e.kind ≡ k) × Leads p n q (stop k true)) ⊎ ((e.kind ≡ OutOfMemory) × Halts p n q)
 
   -- a part of the parser, in which the machine went from n to the state of the result
-  abbrev pub Reads : {T : Type 0} → Cursor S → Next → Result T JsonParseError → (T → Next) → Cursor S → Type 0
+  abbrev pub Reads : {T : Type 0} → S → Next → Result T JsonParseError → (T → Next) → S → Type 0
   Reads p n r m q = MatchResult r (λ v. Leads p n q (m v)) (λ e. Refuses p n e q)
 
-module _ {S : Type 0} (steps : S → Option ℕ → S → Type 0) where
+module _ {S : Type 0} (sight : Sight S) where
   -- digits were taken and added to a text, or for some of them there was no memory
-  pub record Gathers (p : Cursor S) (old : List ℕ) (r : Result (Unit {0}) JsonParseError) (new : List ℕ) (q : Cursor S) : Type 0 where
+  pub record Gathers (p : S) (old : List ℕ) (r : Result (Unit {0}) JsonParseError) (new : List ℕ) (q : S) : Type 0 where
     pub ds : List ℕ
     pub digits : AllByRecursion (λ c. is_ascii_digit c ≡ true) ds
-    pub takes : Takes steps p ds q
-    pub result : MatchResult r (λ _. new ≡ old ++ ds) (λ e. (e.kind ≡ OutOfMemory) × (error_position e ≡ place q))
+    pub takes : Takes sight p ds q
+    pub result : MatchResult r (λ _. new ≡ old ++ ds) (λ e. (e.kind ≡ OutOfMemory) × (error_position e ≡ sight.place q))
 
   -- what the cursor gives begins, behind white space, with a string, a number or a container
-  abbrev pub Grows : Cursor S → Type 0
-  Grows p = (zs : List ℕ) → Gives steps p zs → MayGrow zs
+  abbrev pub Grows : S → Type 0
+  Grows p = (zs : List ℕ) → sight.gives p zs → MayGrow zs
 
   -- a call that found no memory, or that opened a container, began with a string, a number or a container
-  abbrev pub GrowsFor : Cursor S → Result (Option JsonValue) JsonParseError → Type 0
+  abbrev pub GrowsFor : S → Result (Option JsonValue) JsonParseError → Type 0
   GrowsFor p (Ok (Some v)) = ⊤
   GrowsFor p (Ok None) = Grows p
   GrowsFor p (Err e) = e.kind ≡ OutOfMemory → Grows p

@@ -1,19 +1,24 @@
 -- What a refusal says of the characters (`says`), and where it comes.
-use Rattle.std.specs.Prelude.{◌≡◌, ℕ, ◌<◌, ◌≤◌, List, [], ◌∷◌, ◌++◌, Option, None, IsSome, ⊤, ◌⊎◌, IsTrue, length, take, slice_index, false, Bool, ◌||◌, ◌==◌}
+use Rattle.std.specs.Prelude.{◌≡◌, ℕ, ◌<◌, ◌≤◌, List, [], ◌∷◌, ◌++◌, Option, None, IsSome, ⊤, ◌⊎◌, IsTrue, length, take, slice_index, false, Bool, ◌||◌, ◌==◌, codes}
 use Rattle.std.specs.Char.{is_ascii_digit}
 use Rattle.tinyjson.specs.Characters.{is_white, is_hex, short_escape, paired}
-use Rattle.tinyjson_number.specs.Numeral.{is_sign, is_exponent_letter, Numeral, IsNumeral, spelling, value, in_range, has_leading_zero, AreDigits}
-use Rattle.tinyjson.specs.Syntax.{Syntax, text, AreWhite, IsSpelled, IsStrict, is_key, Piece, unit, pieces_text, codes, IsPiece, tree_of}
+use Rattle.tinyjson_number.specs.Numeral.{is_sign, is_exponent_letter, Numeral, IsNumeral, spelling, value, in_range, has_leading_zero, AreDigits, minus_text, fraction_text}
+use Rattle.tinyjson.specs.Syntax.{Syntax, null, boolean, number, string, empty_array, array, empty_object, object, text, AreWhite, IsSpelled, IsStrict, is_key, Piece, unit, pieces_text, piece_codes, IsPiece, ArePieces, tree_of}
 use Rattle.tinyjson.specs.Kind.{kind_of}
 use Rattle.tinyjson.specs.Grammar.{IsAccepted}
-use Rattle.tinyjson.specs.Continuation.{IsViable, IsFaultless, IsLooselyViable}
+use Rattle.tinyjson.specs.Prefix.{IsViable, IsFaultless, IsLooselyViable}
 use Rattle.tinyjson.specs.declared.parser.error.JsonParseErrorKind.{JsonParseErrorKind}
 use Rattle.tinyjson.specs.declared.parser.error.JsonParseErrorKind.TheVariants.{UnexpectedEof, InvalidCharacter, ExpectedEof, KeyNotString, ExpectedColon, ExpectedCommaOrBrace, ExpectedCommaOrBracket, InvalidUtf16, InvalidHexDigit, InvalidEscape, ControlCharacter, UnexpectedInLiteral, EmptyInteger, LeadingZero, EmptyFraction, EmptyExponent, NumberOutOfRange, OutOfMemory, TooDeep}
+use Rattle.tinyjson.specs.declared.value.JsonKind.{JsonKind}
 
 -- what is left begins with no such character, or nothing is left
 abbrev pub BeginsWithNone : (ℕ → Bool) → List ℕ → Type 0
 BeginsWithNone p [] = ⊤
 BeginsWithNone p (c ∷ cs) = p c ≡ false
+
+-- what is left begins with c
+abbrev pub BeginsWith : ℕ → List ℕ → Type 0
+BeginsWith c rest = (more : List ℕ) × (rest ≡ c ∷ more)
 
 abbrev pub IsHex : List ℕ → Type 0
 IsHex [] = ⊤
@@ -22,9 +27,12 @@ IsHex (d ∷ ds) = IsTrue (is_hex d) × IsHex ds
 abbrev pub EndsWith : List ℕ → List ℕ → Type 0
 EndsWith end xs = (front : List ℕ) × (xs ≡ front ++ end)
 
--- c begins a value
+-- c begins a value: n, t, f, a quote, [, {, a minus sign or a digit
 abbrev pub begins_value : ℕ → Bool
-begins_value c = (c == 110) || ((c == 116) || ((c == 102) || ((c == 34) || ((c == 91) || ((c == 123) || ((c == 45) || is_ascii_digit c))))))
+begins_value c =
+    (c == 110)
+    || ((c == 116) || ((c == 102) || ((c == 34)
+    || ((c == 91) || ((c == 123) || ((c == 45) || is_ascii_digit c))))))
 
 -- `\u` escapes side by side
 abbrev pub AreUnits : List Piece → Type 0
@@ -35,43 +43,163 @@ AreUnits (unit a b c d ∷ ps) = IsPiece (unit a b c d) × AreUnits ps
 
 -- the closing quote, or a piece that is no `\u` escape
 abbrev pub EndsRun : List ℕ → Type 0
-EndsRun e = (e ≡ 34 ∷ []) ⊎ ((p : Piece) × IsPiece p × (e ≡ pieces_text (p ∷ [])) × ¬ AreUnits (p ∷ []))
+EndsRun e =
+    (e ≡ codes "\"") ⊎ ((p : Piece) × IsPiece p × (e ≡ pieces_text (p ∷ [])) × ¬ AreUnits (p ∷ []))
 
 abbrev pub IsLiteral : List ℕ → Type 0
-IsLiteral l = (l ≡ 110 ∷ 117 ∷ 108 ∷ 108 ∷ []) ⊎ (l ≡ 116 ∷ 114 ∷ 117 ∷ 101 ∷ []) ⊎ (l ≡ 102 ∷ 97 ∷ 108 ∷ 115 ∷ 101 ∷ [])
+IsLiteral l = (l ≡ codes "null") ⊎ (l ≡ codes "true") ⊎ (l ≡ codes "false")
 
--- The fact that a kind tells, of what was consumed and of what is left. Want of memory is no fault of the text: IsInterrupted, below.
+-- a value is awaited: a line feed and a quote may follow
+abbrev pub AwaitsValue : Option ℕ → List ℕ → Type 0
+AwaitsValue limit used = IsFaultless limit used × IsLooselyViable limit (used ++ 10 ∷ 34 ∷ [])
+
+-- the list ends with a token that was begun where a value is awaited
+pub record BeginsAt (limit : Option ℕ) (used token : List ℕ) : Type 0 where
+  pub front : List ℕ
+  pub whole : used ≡ front ++ token
+  pub awaited : AwaitsValue limit front
+
+-- The list ends within a string: pieces whose surrogates have their partners, `\u` escapes side by
+-- side, and the end.
+pub record InString (limit : Option ℕ) (used : List ℕ) (units : List Piece) (end : List ℕ) : Type 0 where
+  pub pieces : List Piece
+  pub are_pieces : ArePieces pieces
+  pub are_paired : IsTrue (paired (piece_codes pieces))
+  pub are_units : AreUnits units
+  pub begins : BeginsAt limit used (34 ∷ (pieces_text pieces ++ (pieces_text units ++ end)))
+
+-- the list ends within a string, with the end behind `\u` escapes side by side, perhaps none
+abbrev pub EndsString : Option ℕ → List ℕ → List ℕ → Type 0
+EndsString limit used end = (units : List Piece) × InString limit used units end
+
+-- the list ends with the first letters of a literal, at least one and not all of them
+abbrev pub InLiteral : Option ℕ → List ℕ → Type 0
+InLiteral limit used =
+    (l : List ℕ) × (n : ℕ) × IsLiteral l × (0 < n) × (n < length l) × BeginsAt limit used (take n l)
+
+-- digits of a whole part
+abbrev pub AreWhole : List ℕ → Type 0
+AreWhole ds = AreDigits ds × (0 < length ds) × (has_leading_zero ds ≡ false)
+
+-- no digit follows a number
+abbrev pub EndsBefore : Syntax → List ℕ → Type 0
+EndsBefore (number n) rest = BeginsWithNone is_ascii_digit rest
+EndsBefore null rest = ⊤
+EndsBefore (boolean b) rest = ⊤
+EndsBefore (string ps) rest = ⊤
+EndsBefore (empty_array w) rest = ⊤
+EndsBefore (array es) rest = ⊤
+EndsBefore (empty_object w) rest = ⊤
+EndsBefore (object ps) rest = ⊤
+
+-- the beginning of an escape, or nothing
+abbrev pub BeginsEscape : List ℕ → Type 0
+BeginsEscape e =
+    (e ≡ []) ⊎ (e ≡ 92 ∷ []) ⊎ ((ds : List ℕ) × (length ds ≤ 3) × IsHex ds × (e ≡ 92 ∷ 117 ∷ ds))
+
+-- More is needed: a value is awaited, or a string or a literal was begun, or a colon, a bracket or
+-- a brace may follow, so that a key or a value in a container is whole.
+abbrev pub NeedsMore : Option ℕ → List ℕ → Type 0
+NeedsMore limit used =
+    AwaitsValue limit used
+    ⊎ ((us : List Piece) × (e : List ℕ) × BeginsEscape e × InString limit used us e)
+    ⊎ InLiteral limit used
+    ⊎ IsFaultless limit (used ++ 58 ∷ [])
+    ⊎ IsFaultless limit (used ++ 93 ∷ [])
+    ⊎ IsFaultless limit (used ++ 125 ∷ [])
+
+-- ---- what was consumed ends so
+
+-- text and a character that is not white space
+abbrev pub EndsText : Option ℕ → ℕ → List ℕ → Type 0
+EndsText limit c used =
+    (is_white c ≡ false) × ((text : List ℕ) × (used ≡ text ++ c ∷ []) × IsAccepted limit text)
+
+-- behind a brace or a comma a value of this kind that is no string
+abbrev pub EndsBadKey : Option ℕ → JsonKind → List ℕ → List ℕ → Type 0
+EndsBadKey limit k used rest =
+    (front w : List ℕ) × (o : ℕ) × (s : Syntax) × ((o ≡ 123) ⊎ (o ≡ 44)) × AreWhite w
+    × IsSpelled s × IsStrict s × (is_key s ≡ false) × (kind_of (tree_of s) ≡ k)
+    × (used ≡ front ++ o ∷ (w ++ text s)) × AwaitsValue limit (front ++ o ∷ w) × EndsBefore s rest
+
+-- `\u` escapes of which a surrogate has no partner, and what ends their run
+abbrev pub EndsUnpaired : Option ℕ → List ℕ → Type 0
+EndsUnpaired limit used =
+    (us : List Piece) × (e : List ℕ) × (paired (piece_codes us) ≡ false) × EndsRun e
+    × InString limit used us e
+
+-- fewer than four hexadecimal digits behind `\u`, and c, which is none
+abbrev pub EndsBadUnit : Option ℕ → ℕ → List ℕ → Type 0
+EndsBadUnit limit c used =
+    (ds : List ℕ) × (length ds ≤ 3) × IsHex ds × (is_hex c ≡ false)
+    × EndsString limit used (92 ∷ 117 ∷ (ds ++ c ∷ []))
+
+-- letters of a literal, and c, which is not the next
+abbrev pub EndsBadLiteral : Option ℕ → ℕ → List ℕ → Type 0
+EndsBadLiteral limit c used =
+    (l : List ℕ) × (n : ℕ) × IsLiteral l × (0 < n) × (n < length l)
+    × BeginsAt limit used (take n l ++ c ∷ []) × (slice_index l n ≡ c → ⊥)
+
+-- digits of a whole part that begin with a zero too many
+abbrev pub EndsLeadingZero : Option ℕ → List ℕ → List ℕ → Type 0
+EndsLeadingZero limit used rest =
+    (b : Bool) × (ds : List ℕ) × IsTrue (has_leading_zero ds) × AreDigits ds
+    × BeginsAt limit used (minus_text b ++ ds) × BeginsWithNone is_ascii_digit rest
+
+-- a point with no digit behind it
+abbrev pub EndsPoint : Option ℕ → List ℕ → List ℕ → Type 0
+EndsPoint limit used rest =
+    (b : Bool) × (ds : List ℕ) × AreWhole ds
+    × BeginsAt limit used (minus_text b ++ (ds ++ 46 ∷ [])) × BeginsWithNone is_ascii_digit rest
+
+-- the letter of an exponent, perhaps with a sign, and no digit behind it
+abbrev pub EndsExponent : Option ℕ → List ℕ → List ℕ → Type 0
+EndsExponent limit used rest =
+    (b : Bool) × (ds f : List ℕ) × (l : ℕ) × AreWhole ds × AreDigits f
+    × IsTrue (is_exponent_letter l)
+    × ((BeginsAt limit used (minus_text b ++ (ds ++ (fraction_text f ++ l ∷ [])))
+    × BeginsWithNone (λ c. is_ascii_digit c || is_sign c) rest)
+    ⊎ ((s : ℕ) × IsTrue (is_sign s)
+    × BeginsAt limit used (minus_text b ++ (ds ++ (fraction_text f ++ l ∷ s ∷ [])))
+    × BeginsWithNone is_ascii_digit rest))
+
+-- a number whose power is out of range
+abbrev pub EndsOutOfRange : Option ℕ → List ℕ → List ℕ → Type 0
+EndsOutOfRange limit used rest =
+    (n : Numeral) × IsNumeral n × (has_leading_zero n.whole ≡ false) × (in_range (value n) ≡ false)
+    × BeginsAt limit used (spelling n) × BeginsWithNone is_ascii_digit rest
+
+-- The fact that a kind tells, of what was consumed and of what is left. Out of memory is no error
+-- of the text: IsInterrupted, below.
 abbrev pub KindSays : Option ℕ → JsonParseErrorKind → List ℕ → List ℕ → Type 0
-KindSays limit UnexpectedEof used rest = rest ≡ []
-KindSays limit (InvalidCharacter c) used rest = ((more : List ℕ) × (rest ≡ c ∷ more)) × (is_white c ≡ false) × (begins_value c ≡ false)
-KindSays limit (ExpectedEof c) used rest = (is_white c ≡ false) × ((text : List ℕ) × (used ≡ text ++ c ∷ []) × IsAccepted limit text)
-KindSays limit (KeyNotString k) used rest =
-    (front w : List ℕ) × (o : ℕ) × (s : Syntax) × ((o ≡ 123) ⊎ (o ≡ 44)) × AreWhite w × IsSpelled s × IsStrict s × (is_key s ≡ false) × (kind_of (tree_of s) ≡ k) × (used ≡ front ++ o ∷ (w ++ text s))
-KindSays limit (ExpectedColon c) used rest = EndsWith (c ∷ []) used × (is_white c ≡ false) × (c ≡ 58 → ⊥)
-KindSays limit (ExpectedCommaOrBrace c) used rest = EndsWith (c ∷ []) used × (is_white c ≡ false) × (c ≡ 44 → ⊥) × (c ≡ 125 → ⊥)
-KindSays limit (ExpectedCommaOrBracket c) used rest = EndsWith (c ∷ []) used × (is_white c ≡ false) × (c ≡ 44 → ⊥) × (c ≡ 93 → ⊥)
-KindSays limit InvalidUtf16 used rest = (us : List Piece) × (e : List ℕ) × AreUnits us × (paired (codes us) ≡ false) × EndsRun e × EndsWith (pieces_text us ++ e) used
-KindSays limit (InvalidHexDigit c) used rest = (ds : List ℕ) × (length ds ≤ 3) × IsHex ds × (is_hex c ≡ false) × EndsWith (92 ∷ 117 ∷ (ds ++ c ∷ [])) used
-KindSays limit (InvalidEscape c) used rest = EndsWith (92 ∷ c ∷ []) used × (short_escape c ≡ None) × (c ≡ 117 → ⊥)
-KindSays limit (ControlCharacter c) used rest = EndsWith (c ∷ []) used × (c < 32)
-KindSays limit (UnexpectedInLiteral c) used rest =
-    (l : List ℕ) × (n : ℕ) × IsLiteral l × (0 < n) × (n < length l) × EndsWith (take n l ++ c ∷ []) used × (slice_index l n ≡ c → ⊥)
-KindSays limit EmptyInteger used rest = EndsWith (45 ∷ []) used × BeginsWithNone is_ascii_digit rest
-KindSays limit LeadingZero used rest = (ds : List ℕ) × IsTrue (has_leading_zero ds) × AreDigits ds × EndsWith ds used × BeginsWithNone is_ascii_digit rest
-KindSays limit EmptyFraction used rest = (d : ℕ) × IsTrue (is_ascii_digit d) × EndsWith (d ∷ 46 ∷ []) used × BeginsWithNone is_ascii_digit rest
-KindSays limit EmptyExponent used rest =
-    (l : ℕ) × IsTrue (is_exponent_letter l) × ((EndsWith (l ∷ []) used × BeginsWithNone (λ c. is_ascii_digit c || is_sign c) rest)
-    ⊎ ((s : ℕ) × IsTrue (is_sign s) × EndsWith (l ∷ s ∷ []) used × BeginsWithNone is_ascii_digit rest))
-KindSays limit NumberOutOfRange used rest =
-    (n : Numeral) × IsNumeral n × (has_leading_zero n.whole ≡ false) × (in_range (value n) ≡ false) × EndsWith (spelling n) used
+KindSays limit UnexpectedEof used rest = (rest ≡ []) × NeedsMore limit used
+KindSays limit (InvalidCharacter c) used rest =
+    BeginsWith c rest × (is_white c ≡ false) × (begins_value c ≡ false)
+KindSays limit (ExpectedEof c) used rest = EndsText limit c used
+KindSays limit (KeyNotString k) used rest = EndsBadKey limit k used rest
+KindSays limit (ExpectedColon c) used rest =
+    EndsWith (c ∷ []) used × (is_white c ≡ false) × (c ≡ 58 → ⊥)
+KindSays limit (ExpectedCommaOrBrace c) used rest =
+    EndsWith (c ∷ []) used × (is_white c ≡ false) × (c ≡ 44 → ⊥) × (c ≡ 125 → ⊥)
+KindSays limit (ExpectedCommaOrBracket c) used rest =
+    EndsWith (c ∷ []) used × (is_white c ≡ false) × (c ≡ 44 → ⊥) × (c ≡ 93 → ⊥)
+KindSays limit InvalidUtf16 used rest = EndsUnpaired limit used
+KindSays limit (InvalidHexDigit c) used rest = EndsBadUnit limit c used
+KindSays limit (InvalidEscape c) used rest =
+    EndsString limit used (92 ∷ c ∷ []) × (short_escape c ≡ None) × (c ≡ 117 → ⊥)
+KindSays limit (ControlCharacter c) used rest = EndsString limit used (c ∷ []) × (c < 32)
+KindSays limit (UnexpectedInLiteral c) used rest = EndsBadLiteral limit c used
+KindSays limit EmptyInteger used rest =
+    BeginsAt limit used (45 ∷ []) × BeginsWithNone is_ascii_digit rest
+KindSays limit LeadingZero used rest = EndsLeadingZero limit used rest
+KindSays limit EmptyFraction used rest = EndsPoint limit used rest
+KindSays limit EmptyExponent used rest = EndsExponent limit used rest
+KindSays limit NumberOutOfRange used rest = EndsOutOfRange limit used rest
 KindSays limit OutOfMemory used rest = ⊥
-KindSays limit (TooDeep c) used rest = ((more : List ℕ) × (rest ≡ c ∷ more)) × ((c ≡ 91) ⊎ (c ≡ 123)) × IsSome limit
+KindSays limit (TooDeep c) used rest =
+    BeginsWith c rest × ((c ≡ 91) ⊎ (c ≡ 123)) × IsSome limit
 
 -- ---- where a refusal comes
-
--- the last character was too many: with it, no list completes the list even in the loose grammar
-abbrev pub IsNotLooselyViable : Option ℕ → List ℕ → Type 0
-IsNotLooselyViable limit used = ¬ IsLooselyViable limit used
 
 -- without its last character c the list has no fault, and a quote may not follow it
 pub record NoStringAt (limit : Option ℕ) (used : List ℕ) (c : ℕ) : Type 0 where
@@ -80,9 +208,10 @@ pub record NoStringAt (limit : Option ℕ) (used : List ℕ) (c : ℕ) : Type 0 
   pub faultless : IsFaultless limit front
   pub no_string : ¬ IsLooselyViable limit (front ++ 34 ∷ [])
 
+-- and next may stand in the place of c
 pub record AwaitsAt (limit : Option ℕ) (used : List ℕ) (c next : ℕ) : Type 0 where
   pub place : NoStringAt limit used c
-  pub viable : IsLooselyViable limit (place.front ++ next ∷ [])
+  pub without_fault : IsFaultless limit (place.front ++ next ∷ [])
 
 -- characters that may stand between the first fault and the refusal
 abbrev pub is_late : ℕ → Bool
@@ -100,35 +229,52 @@ pub record IsPromptly (limit : Option ℕ) (used end : List ℕ) : Type 0 where
   pub faultless : IsFaultless limit front
   pub are_late : AreLate late
 
--- a value is awaited: a line feed and a quote may follow
-abbrev pub AwaitsValue : Option ℕ → List ℕ → Type 0
-AwaitsValue limit used = IsFaultless limit used × IsLooselyViable limit (used ++ 10 ∷ 34 ∷ [])
+-- promptly, with its last character c
+abbrev pub IsPromptlyBy : Option ℕ → List ℕ → ℕ → Type 0
+IsPromptlyBy limit used c = IsPromptly limit used (c ∷ [])
 
--- within a numeral: no quote may follow
-abbrev pub WithinNumeral : Option ℕ → List ℕ → Type 0
-WithinNumeral limit used = IsLooselyViable limit used × ¬ IsLooselyViable limit (used ++ 34 ∷ [])
+-- viable in the loose grammar, and no quote may follow: in no string, and where none may begin
+abbrev pub NoQuoteFollows : Option ℕ → List ℕ → Type 0
+NoQuoteFollows limit used = IsLooselyViable limit used × ¬ IsLooselyViable limit (used ++ 34 ∷ [])
 
 -- What a kind says of the place.
 abbrev pub PlaceSays : Option ℕ → JsonParseErrorKind → List ℕ → Type 0
 PlaceSays limit UnexpectedEof used = IsPromptly limit used [] × IsLooselyViable limit used
 PlaceSays limit (InvalidCharacter c) used = AwaitsValue limit used
-PlaceSays limit (ExpectedEof c) used = ((front : List ℕ) × (used ≡ front ++ c ∷ []) × IsFaultless limit front) × IsNotLooselyViable limit used
-PlaceSays limit (KeyNotString k) used = IsFaultless limit used × IsLooselyViable limit (used ++ 58 ∷ []) × ¬ IsViable (IsAccepted limit) used
-PlaceSays limit (ExpectedColon c) used = AwaitsAt limit used c 58 × IsNotLooselyViable limit used
-PlaceSays limit (ExpectedCommaOrBrace c) used = AwaitsAt limit used c 125 × IsNotLooselyViable limit used
-PlaceSays limit (ExpectedCommaOrBracket c) used = AwaitsAt limit used c 93 × IsNotLooselyViable limit used
-PlaceSays limit InvalidUtf16 used = ((c : ℕ) × IsPromptly limit used (c ∷ [])) × IsLooselyViable limit used × ¬ IsViable (IsAccepted limit) used
-PlaceSays limit (InvalidHexDigit c) used = IsPromptly limit used (c ∷ []) × IsNotLooselyViable limit used
-PlaceSays limit (InvalidEscape c) used = IsPromptly limit used (c ∷ []) × IsNotLooselyViable limit used
-PlaceSays limit (ControlCharacter c) used = IsPromptly limit used (c ∷ []) × IsNotLooselyViable limit used × ((front : List ℕ) × (used ≡ front ++ c ∷ []) × IsLooselyViable limit (front ++ 120 ∷ []))
-PlaceSays limit (UnexpectedInLiteral c) used = NoStringAt limit used c × IsNotLooselyViable limit used
-PlaceSays limit EmptyInteger used = IsFaultless limit used × WithinNumeral limit used
-PlaceSays limit LeadingZero used = IsPromptly limit used [] × WithinNumeral limit used × ¬ IsViable (IsAccepted limit) used
-PlaceSays limit EmptyFraction used = IsFaultless limit used × WithinNumeral limit used
-PlaceSays limit EmptyExponent used = IsPromptly limit used [] × WithinNumeral limit used
-PlaceSays limit NumberOutOfRange used = IsPromptly limit used [] × WithinNumeral limit used
-PlaceSays limit OutOfMemory used = ((end : List ℕ) × (length end ≤ 1) × IsPromptly limit used end)
+PlaceSays limit (ExpectedEof c) used =
+    ((front : List ℕ) × (used ≡ front ++ c ∷ []) × IsFaultless limit front)
+    × ¬ IsLooselyViable limit used
+PlaceSays limit (KeyNotString k) used =
+    IsFaultless limit used × IsLooselyViable limit (used ++ 58 ∷ [])
+    × ¬ IsViable (IsAccepted limit) used
+PlaceSays limit (ExpectedColon c) used = AwaitsAt limit used c 58 × ¬ IsLooselyViable limit used
+PlaceSays limit (ExpectedCommaOrBrace c) used =
+    AwaitsAt limit used c 125 × ¬ IsLooselyViable limit used
+PlaceSays limit (ExpectedCommaOrBracket c) used =
+    AwaitsAt limit used c 93 × ¬ IsLooselyViable limit used
+PlaceSays limit InvalidUtf16 used =
+    ((c : ℕ) × IsPromptlyBy limit used c) × IsLooselyViable limit used
+    × ¬ IsViable (IsAccepted limit) used
+PlaceSays limit (InvalidHexDigit c) used = IsPromptlyBy limit used c × ¬ IsLooselyViable limit used
+PlaceSays limit (InvalidEscape c) used = IsPromptlyBy limit used c × ¬ IsLooselyViable limit used
+PlaceSays limit (ControlCharacter c) used =
+    IsPromptlyBy limit used c × ¬ IsLooselyViable limit used
+    × ((front : List ℕ) × (used ≡ front ++ c ∷ []) × IsLooselyViable limit (front ++ 120 ∷ []))
+PlaceSays limit (UnexpectedInLiteral c) used =
+    NoStringAt limit used c × ¬ IsLooselyViable limit used
+PlaceSays limit EmptyInteger used = IsFaultless limit used × NoQuoteFollows limit used
+PlaceSays limit LeadingZero used =
+    IsPromptly limit used [] × NoQuoteFollows limit used × ¬ IsViable (IsAccepted limit) used
+PlaceSays limit EmptyFraction used = IsFaultless limit used × NoQuoteFollows limit used
+PlaceSays limit EmptyExponent used = IsPromptly limit used [] × NoQuoteFollows limit used
+PlaceSays limit NumberOutOfRange used = IsPromptly limit used [] × NoQuoteFollows limit used
+PlaceSays limit OutOfMemory used = ⊥
 PlaceSays limit (TooDeep c) used = AwaitsValue limit used
+
+-- without its last character the list is viable in the loose grammar
+abbrev pub IsNotTooLate : Option ℕ → List ℕ → Type 0
+IsNotTooLate limit used =
+    (front : List ℕ) (c : ℕ) → used ≡ front ++ c ∷ [] → IsLooselyViable limit front
 
 -- A refusal for another cause than memory.
 pub record IsRefusal (limit : Option ℕ) (kind : JsonParseErrorKind) (used rest : List ℕ) : Type 0 where
@@ -137,16 +283,17 @@ pub record IsRefusal (limit : Option ℕ) (kind : JsonParseErrorKind) (used rest
   pub place : PlaceSays limit kind used
   -- the list has no tree
   pub refused : ¬ IsAccepted limit (used ++ rest)
-  -- all was consumed, or with the next character not even the first fault is still to come
+  -- all was consumed, or the next character makes a fault
   pub not_too_soon : (c : ℕ) (more : List ℕ) → rest ≡ c ∷ more → ¬ IsFaultless limit (used ++ c ∷ [])
-  -- without its last character it is viable in the loose grammar
-  pub not_too_late : (front : List ℕ) (c : ℕ) → used ≡ front ++ c ∷ [] → IsLooselyViable limit front
+  pub not_too_late : IsNotTooLate limit used
 
--- A refusal for want of memory: no more than where it may come, and nothing of what is left.
+-- Memory ran out: no more than where that may come, and nothing of what is left.
 pub record IsInterrupted (limit : Option ℕ) (used : List ℕ) : Type 0 where
-  pub place : PlaceSays limit OutOfMemory used
-  -- without its last character it is viable in the loose grammar
-  pub not_too_late : (front : List ℕ) (c : ℕ) → used ≡ front ++ c ∷ [] → IsLooselyViable limit front
+  -- no fault, then late characters, then perhaps one character more
+  pub last : List ℕ
+  pub short : length last ≤ 1
+  pub place : IsPromptly limit used last
+  pub not_too_late : IsNotTooLate limit used
 
 -- begins a string, a number or a container
 abbrev pub begins_growth : ℕ → Bool

@@ -1,5 +1,5 @@
 -- A value as it is spelled, by the loose grammar.
-use Rattle.std.specs.Prelude.{ℕ, ◌+◌, max, ◌≤◌, Bool, true, false, ◌||◌, ◌==◌, not, List, [], ◌∷◌, ◌++◌, Option, Some, None, unwrap_or, ⊤, IsTrue, IsSome}
+use Rattle.std.specs.Prelude.{ℕ, ◌+◌, max, ◌≤◌, Bool, true, false, ◌||◌, ◌==◌, not, List, [], ◌∷◌, ◌++◌, Option, Some, None, unwrap_or, ⊤, IsTrue, IsSome, codes}
 use Rattle.std.specs.Char.{IsScalar}
 use Rattle.tinyjson_number.specs.Numeral.{power_width, Numeral, IsNumeral, has_leading_zero, spelling, value, fits_in}
 use Rattle.std.specs.Int.{Width}
@@ -44,9 +44,9 @@ pieces_text (p ∷ ps) = piece_text p ++ pieces_text ps
 
 abbrev mutual
   pub text : Syntax → List ℕ
-  text null = 110 ∷ 117 ∷ 108 ∷ 108 ∷ []
-  text (boolean true) = 116 ∷ 114 ∷ 117 ∷ 101 ∷ []
-  text (boolean false) = 102 ∷ 97 ∷ 108 ∷ 115 ∷ 101 ∷ []
+  text null = codes "null"
+  text (boolean true) = codes "true"
+  text (boolean false) = codes "false"
   text (number n) = spelling n
   text (string ps) = 34 ∷ (pieces_text ps ++ 34 ∷ [])
   text (empty_array w) = 91 ∷ (w ++ 93 ∷ [])
@@ -60,7 +60,8 @@ abbrev mutual
 
   pub pairs_text : Pairs → List ℕ
   pairs_text (last_pair a k b c s d) = a ++ (text k ++ (b ++ 58 ∷ (c ++ (text s ++ d))))
-  pairs_text (pair a k b c s d ps) = a ++ (text k ++ (b ++ 58 ∷ (c ++ (text s ++ (d ++ 44 ∷ pairs_text ps)))))
+  pairs_text (pair a k b c s d ps) =
+      a ++ (text k ++ (b ++ 58 ∷ (c ++ (text s ++ (d ++ 44 ∷ pairs_text ps)))))
 
 abbrev pub AreWhite : List ℕ → Type 0
 AreWhite [] = ⊤
@@ -69,7 +70,8 @@ AreWhite (c ∷ cs) = IsTrue (is_white c) × AreWhite cs
 abbrev pub IsPiece : Piece → Type 0
 IsPiece (plain c) = IsScalar c × (32 ≤ c) × IsTrue (not ((c == 34) || (c == 92)))
 IsPiece (escape c) = IsSome (short_escape c)
-IsPiece (unit a b c d) = IsTrue (is_hex a) × IsTrue (is_hex b) × IsTrue (is_hex c) × IsTrue (is_hex d)
+IsPiece (unit a b c d) =
+    IsTrue (is_hex a) × IsTrue (is_hex b) × IsTrue (is_hex c) × IsTrue (is_hex d)
 
 abbrev pub ArePieces : List Piece → Type 0
 ArePieces [] = ⊤
@@ -92,8 +94,10 @@ abbrev mutual
   AreElements (element v s w es) = AreWhite v × IsSpelled s × AreWhite w × AreElements es
 
   pub ArePairs : Pairs → Type 0
-  ArePairs (last_pair a k b c s d) = AreWhite a × IsSpelled k × AreWhite b × AreWhite c × IsSpelled s × AreWhite d
-  ArePairs (pair a k b c s d ps) = AreWhite a × IsSpelled k × AreWhite b × AreWhite c × IsSpelled s × AreWhite d × ArePairs ps
+  ArePairs (last_pair a k b c s d) =
+      AreWhite a × IsSpelled k × AreWhite b × AreWhite c × IsSpelled s × AreWhite d
+  ArePairs (pair a k b c s d ps) =
+      AreWhite a × IsSpelled k × AreWhite b × AreWhite c × IsSpelled s × AreWhite d × ArePairs ps
 
 abbrev pub unit_value : ℕ → ℕ → ℕ → ℕ → ℕ
 unit_value a b c d = unit_of 0 (a ∷ b ∷ c ∷ d ∷ [])
@@ -104,9 +108,9 @@ code (plain c) = c
 code (escape c) = unwrap_or (short_escape c) 0
 code (unit a b c d) = unit_value a b c d
 
-abbrev pub codes : List Piece → List ℕ
-codes [] = []
-codes (p ∷ ps) = code p ∷ codes ps
+abbrev pub piece_codes : List Piece → List ℕ
+piece_codes [] = []
+piece_codes (p ∷ ps) = code p ∷ piece_codes ps
 
 -- The tree of a value. What the four conditions of the grammar rule out has some tree too.
 abbrev mutual
@@ -114,7 +118,7 @@ abbrev mutual
   tree_of null = tree.null
   tree_of (boolean b) = tree.boolean b
   tree_of (number n) = tree.number (value n)
-  tree_of (string ps) = tree.string (decode (codes ps))
+  tree_of (string ps) = tree.string (decode (piece_codes ps))
   tree_of (empty_array w) = tree.array tree.no_items
   tree_of (array es) = tree.array (tree.items_of (elements_trees es))
   tree_of (empty_object w) = tree.object tree.no_members
@@ -127,7 +131,8 @@ abbrev mutual
   -- of equal keys the last stays
   pub pairs_members : tree.Members → Pairs → tree.Members
   pairs_members ms (last_pair a k b c s d) = tree.put (tree.key_of (tree_of k)) (tree_of s) ms
-  pairs_members ms (pair a k b c s d ps) = pairs_members (tree.put (tree.key_of (tree_of k)) (tree_of s) ms) ps
+  pairs_members ms (pair a k b c s d ps) =
+      pairs_members (tree.put (tree.key_of (tree_of k)) (tree_of s) ms) ps
 
 abbrev pub is_key : Syntax → Bool
 is_key (string ps) = true
@@ -144,8 +149,9 @@ abbrev mutual
   pub IsStrictAt : Width → Syntax → Type 0
   IsStrictAt width null = ⊤
   IsStrictAt width (boolean b) = ⊤
-  IsStrictAt width (number n) = IsTrue (not (has_leading_zero n.whole)) × IsTrue (fits_in width (value n))
-  IsStrictAt width (string ps) = IsTrue (paired (codes ps))
+  IsStrictAt width (number n) =
+      IsTrue (not (has_leading_zero n.whole)) × IsTrue (fits_in width (value n))
+  IsStrictAt width (string ps) = IsTrue (paired (piece_codes ps))
   IsStrictAt width (empty_array w) = ⊤
   IsStrictAt width (array es) = ElementsAreStrictAt width es
   IsStrictAt width (empty_object w) = ⊤
@@ -156,8 +162,10 @@ abbrev mutual
   ElementsAreStrictAt width (element v s w es) = IsStrictAt width s × ElementsAreStrictAt width es
 
   pub PairsAreStrictAt : Width → Pairs → Type 0
-  PairsAreStrictAt width (last_pair a k b c s d) = IsTrue (is_key k) × IsStrictAt width k × IsStrictAt width s
-  PairsAreStrictAt width (pair a k b c s d ps) = IsTrue (is_key k) × IsStrictAt width k × IsStrictAt width s × PairsAreStrictAt width ps
+  PairsAreStrictAt width (last_pair a k b c s d) =
+      IsTrue (is_key k) × IsStrictAt width k × IsStrictAt width s
+  PairsAreStrictAt width (pair a k b c s d ps) =
+      IsTrue (is_key k) × IsStrictAt width k × IsStrictAt width s × PairsAreStrictAt width ps
 
 abbrev pub IsStrict : Syntax → Type 0
 IsStrict s = IsStrictAt power_width s

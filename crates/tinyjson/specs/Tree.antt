@@ -36,6 +36,11 @@ abbrev pub put : List ℕ → Tree → Members → Members
 put k t no_members = member k t no_members
 put k t (member l u ms) = put_at (key_cmp k l) k t l u ms (put k t ms)
 
+-- the map without the key
+abbrev pub remove : List ℕ → Members → Members
+remove k no_members = no_members
+remove k (member l u ms) = cond (bytes_eq k l) (remove k ms) (member l u (remove k ms))
+
 -- the tree that the map has at the key
 abbrev pub find : List ℕ → Members → Option Tree
 find k no_members = None

@@ -7,17 +7,18 @@ ghost use Rattle.tinyjson.specs.View.{view};
 ghost use Rattle.tinyjson.specs.Written.{WritesText};
 
 mod encode;
-mod members;
 mod number;
 mod output;
+mod pending;
 mod quote;
+mod sorted;
 
 use crate::value::JsonValue;
 pub(crate) use encode::Encoder;
 use std::alloc::Global;
 use std::error::Error;
 use std::fmt;
-use std::io::{self, Write};
+use std::io::{self, ErrorKind, Write};
 
 /// Writes JSON values to a writer, compact or indented.
 ///
@@ -38,6 +39,12 @@ impl<'indent, W: Write> JsonGenerator<'indent, W> {
     ghost use Rattle.tinyjson.specs.Generator.{generator_out, generator_indent};
 
     /// A generator of compact text.
+    ///
+    /// ```
+    /// let mut generator = JsonGenerator::new(alloc, Vec::new(alloc));
+    /// generator.generate(&JsonValue::Null)?;
+    /// assert_eq!(rt; generator.into_inner().as_slice(), b"null".as_slice());
+    /// ```
     pub fn new(alloc: Global, out: W) -> Self
         ensures out { generator_out result ≡ out }
         ensures indent { generator_indent result ≡ None }
@@ -52,6 +59,16 @@ impl<'indent, W: Write> JsonGenerator<'indent, W> {
     /// Writes indented text from now on: each item and each key on a line of its own, behind `indent`
     /// once for each container around it. Only text that is indented by white space, or by the empty
     /// text, is JSON. The last call decides.
+    ///
+    /// ```
+    /// let value = JsonValue::from_str(alloc, "[null]")?;
+    /// let mut generator = JsonGenerator::new(alloc, Vec::new(alloc)).indent("\t");
+    /// generator.generate(&value)?;
+    /// assert_eq!(rt;
+    ///     generator.into_inner().as_slice(),
+    ///     b"[\n\tnull\n]".as_slice()
+    /// );
+    /// ```
     pub fn indent(self, indent: &'indent str) -> Self
         ensures out { generator_out result ≡ generator_out self.entry }
         ensures indent { generator_indent result ≡ Some (chars indent.now) }
@@ -66,10 +83,17 @@ impl<'indent, W: Write> JsonGenerator<'indent, W> {
 
     /// Writes the text of the value, in UTF-8, and flushes nothing.
     ///
-    /// It ends with the first fault: the writer's own, an interruption too; one of kind `WriteZero` where
+    /// It ends with the first error: the writer's own, an interruption too; one of kind `WriteZero` where
     /// the writer takes nothing; or one of kind `OutOfMemory` where there is no memory for sorting the
-    /// members of an object that has two or more. Then a beginning of the text is written, and the next
-    /// call begins a new text.
+    /// members of an object that has two or more, or for more than 64 containers open at once. Then a
+    /// prefix of the text is written, and the next call begins a new text. A value of any depth is written.
+    ///
+    /// ```
+    /// let mut generator = JsonGenerator::new(alloc, Vec::new(alloc));
+    /// generator.generate(&JsonValue::Null)?;
+    /// generator.generate(&JsonValue::Boolean(true))?;
+    /// assert_eq!(rt; generator.into_inner().as_slice(), b"nulltrue".as_slice());
+    /// ```
     pub fn generate(&mut self, value: &JsonValue) -> io::Result<()>
         ensures written { WritesText (W.contents (generator_out self.old)) (W.contents (generator_out self.new))
             (text (generator_indent self.old) 0 (view value.now)) result }
@@ -79,7 +103,20 @@ impl<'indent, W: Write> JsonGenerator<'indent, W> {
             alloc: self.alloc,
             indent: self.indent,
         };
-        encoder.encode(&mut self.out, 0, value)
+        encoder.encode(&mut self.out, value)
+    }
+
+    /// The writer, with what was written to it so far. Nothing is flushed.
+    ///
+    /// ```
+    /// let generator = JsonGenerator::new(alloc, Vec::<u8>::new(alloc));
+    /// assert!(rt; generator.into_inner().is_empty());
+    /// ```
+    pub fn into_inner(self) -> W
+        ensures { result ≡ generator_out self.entry }
+    {
+        let JsonGenerator { out, .. } = self;
+        out
     }
 }
 
@@ -89,7 +126,9 @@ pub(crate) const INDENT: &str = "  ";
 /// The compact text of a value.
 ///
 /// ```
-/// stringify(alloc, &value)?; // {"arr":[1,null],"bool":true}
+/// let value = JsonValue::from_str(alloc, r#"{"bool": true, "arr": [1, null]}"#)?;
+/// let text = stringify(alloc, &value)?;
+/// assert_eq!(rt; text.as_str(), r#"{"arr":[1,null],"bool":true}"#);
 /// ```
 pub fn stringify(alloc: Global, value: &JsonValue) -> JsonGenerateResult
     ensures { IfOk result (λ s. chars (string_bytes s) ≡ compact (view value.now)) }
@@ -98,6 +137,11 @@ pub fn stringify(alloc: Global, value: &JsonValue) -> JsonGenerateResult
 }
 
 /// The text of a value, indented with two spaces.
+///
+/// ```
+/// let value = JsonValue::from_str(alloc, "[null]")?;
+/// assert_eq!(rt; format(alloc, &value)?.as_str(), "[\n  null\n]");
+/// ```
 pub fn format(alloc: Global, value: &JsonValue) -> JsonGenerateResult
     ensures { IfOk result (λ s. chars (string_bytes s) ≡ indented (view value.now) (codes "  ") 0) }
 {
@@ -112,7 +156,7 @@ fn written(alloc: Global, indent: Option<&str>, value: &JsonValue) -> JsonGenera
 {
     let mut bytes = Vec::new(alloc);
     let encoder = Encoder { alloc, indent };
-    let Ok(()) = encoder.encode(&mut bytes, 0, value) else {
+    let Ok(()) = encoder.encode(&mut bytes, value) else {
         return Err(JsonGenerateError);
     };
     match String::from_utf8(bytes) {
@@ -121,15 +165,29 @@ fn written(alloc: Global, indent: Option<&str>, value: &JsonValue) -> JsonGenera
     }
 }
 
-/// A text, or the want of memory for it.
+/// A text, or that there is no memory for it.
+///
+/// ```
+/// let written: JsonGenerateResult = stringify(alloc, &JsonValue::Null);
+/// assert!(rt; written.is_ok());
+/// ```
 pub type JsonGenerateResult = Result<String, JsonGenerateError>;
 
 /// There is no memory for a text.
+///
+/// ```
+/// let words = JsonGenerateError.to_string(alloc)?;
+/// assert_eq!(rt; words.as_str(), "Generate error: out of memory");
+/// ```
 #[derive(Debug, Drop)]
 pub struct JsonGenerateError;
 
 impl JsonGenerateError {
     /// What went wrong.
+    ///
+    /// ```
+    /// assert_eq!(rt; JsonGenerateError.message(), "out of memory");
+    /// ```
     pub fn message(&self) -> &str
         ensures { result.now ≡ codes "out of memory" }
     {
@@ -148,3 +206,15 @@ impl fmt::Display for JsonGenerateError {
 }
 
 impl Error for JsonGenerateError {}
+
+/// An error of kind `OutOfMemory`.
+impl From<JsonGenerateError> for io::Error {
+    ghost use Rattle.std.specs.IoError.{error_kind};
+    ghost use Rattle.std.specs.declared.io.ErrorKind.TheVariants as io;
+
+    ghost from_gives = { λ _ r. error_kind r ≡ io.OutOfMemory };
+
+    fn from(_error: JsonGenerateError) -> io::Error {
+        io::Error::from(ErrorKind::OutOfMemory)
+    }
+}

@@ -22,4 +22,6 @@ pub mod value;
 pub use generator::{JsonGenerateError, JsonGenerateResult, JsonGenerator, format, stringify};
 pub use number::{JsonNumber, JsonNumberError};
 pub use parser::{JsonParseError, JsonParseErrorKind, JsonParseResult, JsonParser};
-pub use value::{InnerAsRef, InnerAsRefMut, JsonKind, JsonValue, UnexpectedValue};
+pub use value::{
+    InnerAsRef, InnerAsRefMut, JsonKind, JsonValue, UnexpectedValue, insert_member, remove_member,
+};

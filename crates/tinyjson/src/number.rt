@@ -1,3 +1,5 @@
 //! Exact decimal numbers: the crate `tinyjson_number`.
 
-pub use tinyjson_number::{JsonNumber, JsonNumberError};
+pub use tinyjson_number::{
+    ExponentParts, JsonNumber, JsonNumberError, Layout, LiteralError, NumberParts,
+};

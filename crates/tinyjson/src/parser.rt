@@ -8,16 +8,23 @@ mod cursor;
 mod error;
 mod number;
 mod reader;
+mod source;
 mod stack;
 mod string;
 mod units;
 
 use crate::value::JsonValue;
+use cursor::Characters;
 pub use error::{JsonParseError, JsonParseErrorKind};
 use reader::Reader;
 use std::alloc::Global;
 
 /// What [`JsonParser::parse`] answers.
+///
+/// ```
+/// let read: JsonParseResult = JsonParser::new(alloc, "null".chars()).parse();
+/// assert!(rt; read.is_ok_and(|value| value.is_null()));
+/// ```
 pub type JsonParseResult = Result<JsonValue, JsonParseError>;
 
 /// A parser of JSON texts (RFC 8259), over any iterator of characters.
@@ -36,11 +43,16 @@ where
     I: Iterator<Item = char>,
 {
     limit: Option<usize>,
-    reader: Reader<I>,
+    reader: Reader<Characters<I>>,
 }
 
 impl<I: Iterator<Item = char>> JsonParser<I> {
     /// A parser that stands at line 1, column 0. It takes no memory, and has no limit on depth.
+    ///
+    /// ```
+    /// let mut parser = JsonParser::new(alloc, "[1, true]".chars());
+    /// assert!(rt; parser.parse().is_ok_and(|value| value.is_array()));
+    /// ```
     pub fn new(alloc: Global, it: I) -> Self
         requires can { I.can_next it }
         requires finite { IsFinite (I.remaining it) }
@@ -50,7 +62,7 @@ impl<I: Iterator<Item = char>> JsonParser<I> {
     {
         JsonParser {
             limit: None,
-            reader: Reader::new(alloc, it),
+            reader: Reader::new(alloc, Characters::new(it)),
         }
     }
 
@@ -58,6 +70,11 @@ impl<I: Iterator<Item = char>> JsonParser<I> {
     /// bracket that would be one too many is refused as `TooDeep` and isn't consumed.
     ///
     /// With the limit 1, `[1]` is accepted and `[[1]]` is refused at its second bracket.
+    ///
+    /// ```
+    /// let refusal = JsonParser::with_depth_limit(alloc, "[[1]]".chars(), 1).parse();
+    /// assert!(rt; refusal.is_err_and(|error| error.kind() == JsonParseErrorKind::TooDeep('[')));
+    /// ```
     pub fn with_depth_limit(alloc: Global, it: I, limit: usize) -> Self
         requires can { I.can_next it }
         requires finite { IsFinite (I.remaining it) }
@@ -67,7 +84,7 @@ impl<I: Iterator<Item = char>> JsonParser<I> {
     {
         JsonParser {
             limit: Some(limit),
-            reader: Reader::new(alloc, it),
+            reader: Reader::new(alloc, Characters::new(it)),
         }
     }
 
@@ -76,6 +93,12 @@ impl<I: Iterator<Item = char>> JsonParser<I> {
     /// Of equal keys in an object the last member stays. A refusal tells its kind, and the line and
     /// the column behind what was consumed; it gives back no part of a value. After a value nothing is
     /// left, and a further call is refused as `UnexpectedEof`.
+    ///
+    /// ```
+    /// let mut parser = JsonParser::new(alloc, "nul 1".chars());
+    /// assert!(rt; parser.parse().is_err());
+    /// assert!(rt; parser.parse().is_ok_and(|value| value.is_number()));
+    /// ```
     pub fn parse(&mut self) -> JsonParseResult
         ensures parses { (xs : List ℕ) → Remains self.old xs → Parses self.old xs result self.new }
         ensures limit { parser_limit self.new ≡ parser_limit self.old }

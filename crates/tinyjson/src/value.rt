@@ -13,18 +13,23 @@ use std::fmt;
 mod access;
 mod convert;
 mod copy;
+mod dismantle;
 mod equality;
 mod index;
 mod members;
+mod replace;
 
 pub use access::{InnerAsRef, InnerAsRefMut};
 pub use convert::UnexpectedValue;
-pub(crate) use members::insert_member;
+pub use members::{insert_member, remove_member};
 
 /// A JSON value (RFC 8259, section 3), in plain containers.
 ///
 /// Contracts see it as its tree, `view`: an array as the list of its items' trees, an object as the
 /// finite map from its keys' characters to its members' trees.
+///
+/// A value that goes out of scope is freed by a recursion over its levels, which overruns a stack of
+/// 8 MB past some ten thousand levels. [`JsonValue::dismantle`] frees a value of any depth.
 ///
 /// ```
 /// let value = JsonValue::Array(vec![in alloc; JsonValue::Null, JsonValue::Boolean(true)]?);
@@ -40,6 +45,11 @@ pub enum JsonValue {
 }
 
 /// Which of the six variants a value is.
+///
+/// ```
+/// assert!(rt; JsonValue::Boolean(true).kind() == JsonKind::Boolean);
+/// assert_eq!(rt; JsonKind::Boolean.to_string(alloc)?.as_str(), "boolean");
+/// ```
 #[derive(Clone, Copy, PartialEq, Eq, Debug)]
 pub enum JsonKind {
     Null,

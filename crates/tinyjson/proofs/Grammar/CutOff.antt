@@ -3,8 +3,8 @@ use Rattle.std.proofs.Common.{◌≡◌, ℕ, ◌+◌, false, List, [], ◌∷�
 use Rattle.std.specs.Prelude.{max}
 use Rattle.tinyjson.specs.Tree as tree
 use Rattle.tinyjson.specs.Characters.{decode}
-use Rattle.tinyjson.specs.Syntax.{Syntax, string, text, AreWhite, is_key, tree_of, depth, pieces_text, codes}
-use Rattle.tinyjson.specs.Continuation.{Element, Pair, elements_before, pairs_before, IsValue, AreElementsBefore, ArePairsBefore, CutOff, bad_key, in_key, in_member, in_item, cut_off_text, IsCutOff, elements_deepest, pairs_deepest, cut_off_depth}
+use Rattle.tinyjson.specs.Syntax.{Syntax, string, text, AreWhite, is_key, tree_of, depth, pieces_text, piece_codes}
+use Rattle.tinyjson.specs.Prefix.{Element, Pair, elements_before, pairs_before, IsValue, AreElementsBefore, ArePairsBefore, CutOff, bad_key, in_key, in_member, in_item, cut_off_text, IsCutOff, elements_deepest, pairs_deepest, cut_off_depth}
 use Rattle.tinyjson.specs.Machine.{Rules, Frame, in_array, at_key, at_value, awaited, first, step, run}
 use Rattle.tinyjson.proofs.Grammar.Runs.{delimited-white, run-white, after-white}
 use Rattle.tinyjson.proofs.Grammar.Values.{run-value, less-within, fits-within, HasRoom, ends, Begins, begins-append, text-begins, first-array, first-object, after-key}
@@ -129,7 +129,7 @@ bad-key (in_item es w b) r fs h m =
     }
 bad-key (in_member ps w k v u b) r fs h m =
     let ms = members_before tree.no_members ps in
-    let i = bad-key b r (at_value ms (decode (codes k)) ∷ fs) h.6 (less-within r.limit _ _ m (omega arith)) in record {
+    let i = bad-key b r (at_value ms (decode (piece_codes k)) ∷ fs) h.6 (less-within r.limit _ _ m (omega arith)) in record {
       members = i.members;
       frames = i.frames;
       key = i.key;
@@ -140,6 +140,6 @@ bad-key (in_member ps w k v u b) r fs h m =
           (open-object ps w r fs _ h.0 h.1 (_, _, refl, (refl, refl, refl)) (cut_off_depth b) m
           ∙ run-value (string k) r (at_key ms ∷ fs) (v ++ 58 ∷ (u ++ (cut_off_text b ++ ys))) h.2 (λ e. h.3) (less-within r.limit _ _ m (omega arith)) tt
           ∙ after-key r ms fs (string k) v _ (λ e. refl) h.4
-          ∙ run-white r (at_value ms (decode (codes k)) ∷ fs) u _ h.5
+          ∙ run-white r (at_value ms (decode (piece_codes k)) ∷ fs) u _ h.5
           ∙ i.reads ys);
     }

@@ -3,9 +3,9 @@ use Rattle.std.proofs.Common.{suc, ◌≡◌, ℕ, ◌+◌, false, List, [], ◌
 use Rattle.std.specs.Prelude.{⊤}
 use Rattle.tinyjson.specs.Characters.{paired}
 use Rattle.std.proofs.lemmas.Bool.{false≢true}
-use Rattle.tinyjson.specs.Syntax.{Syntax, array, object, null, text, AreWhite, is_key, depth, IsWithin, tree_of, Piece, ArePieces, codes, pieces_text}
+use Rattle.tinyjson.specs.Syntax.{Syntax, array, object, null, text, AreWhite, is_key, depth, IsWithin, tree_of, Piece, ArePieces, piece_codes, pieces_text}
 use Rattle.tinyjson.specs.Grammar.{IsAccepted}
-use Rattle.tinyjson.specs.Continuation.{IsViable, IsFaultless, IsCutOffText, Element, Pair, IsValue, AreElementsBefore, ArePairsBefore, CutOff, bad_key, in_key, in_member, in_item, cut_off_text, IsCutOff, cut_off_depth}
+use Rattle.tinyjson.specs.Prefix.{IsViable, IsFaultless, IsCutOffText, Element, Pair, IsValue, AreElementsBefore, ArePairsBefore, CutOff, bad_key, in_key, in_member, in_item, cut_off_text, IsCutOff, cut_off_depth}
 use Rattle.tinyjson.proofs.Grammar.Paths.{IsKey, Path, outside, item_in, key_in, value_in, path_text, level, IsPath, within_le, within_max, items_with, pairs_with, items-text, pairs-text, items-depth, pairs-depth, items-spelled, items-strict, pairs-spelled, pairs-strict, key-depth, key-or}
 
 pub viable-before : (P : List ℕ → Type 0) (xs ys : List ℕ) → IsViable P (xs ++ ys) → IsViable P xs
@@ -16,7 +16,7 @@ pub faultless-from : (limit : Option ℕ) (xs ys zs : List ℕ) → zs ≡ xs ++
 faultless-from limit xs ys zs e h = viable-before (λ us. IsAccepted limit us ⊎ IsCutOffText limit us) xs ys (subst (λ us. IsFaultless limit us) e h)
 
 -- a key's pieces
-key-pieces : (k : Syntax) → IsKey k → IsValue k → (ps : List Piece) × ArePieces ps × IsTrue (paired (codes ps)) × (text k ≡ 34 ∷ (pieces_text ps ++ 34 ∷ []))
+key-pieces : (k : Syntax) → IsKey k → IsValue k → (ps : List Piece) × ArePieces ps × IsTrue (paired (piece_codes ps)) × (text k ≡ 34 ∷ (pieces_text ps ++ 34 ∷ []))
 key-pieces null h v = absurd (false≢true h)
 key-pieces (Syntax.boolean b) h v = absurd (false≢true h)
 key-pieces (Syntax.number n) h v = absurd (false≢true h)

@@ -15,19 +15,24 @@ use Rattle.tinyjson.proofs.Grammar.Paths.{Path, outside, item_in, key_in, value_
 use Rattle.tinyjson.proofs.Grammar.Spelt.{Part, part_point, part_fraction, part_letter, part_sign, part_exponent, part_text, part_stage, part_numeral, IsPart, Ranges, Read, at_first, at_awaited, in_word, in_digits, in_quoted, at_after, part_minus, part_whole, read_text, read_frames, read_phase, IsRead, IsWord, flat_within}
 use Rattle.tinyjson.proofs.Grammar.Viable.{faultless-value, read-viable, read-prompt}
 use Rattle.tinyjson.proofs.Grammar.Told.{Told, Follows, at_code, key-told}
+use Rattle.tinyjson.proofs.Grammar.Awaits.{begins-at, awaits-value}
 use Rattle.tinyjson.proofs.Grammar.Whole.{complete-follows, after-follows}
 use Rattle.tinyjson.proofs.Grammar.Spelt.{numeral}
 use Rattle.std.proofs.Common.{inl, inr, None}
 use Rattle.tinyjson.proofs.Grammar.Told.{NoQuoteFrom, Cut}
 use Rattle.std.specs.Prelude.{⊤}
-use Rattle.tinyjson.specs.Refusal.{IsLiteral}
+use Rattle.tinyjson.specs.Refusal.{IsLiteral, NeedsMore, BeginsEscape}
+use Rattle.tinyjson.specs.Prefix.{IsFaultless}
+use Rattle.tinyjson.specs.Machine.{Within}
+use Rattle.tinyjson.specs.Machine
 use Rattle.tinyjson.specs.Machine.{run, word, digits, Frame, Phase}
 use Rattle.tinyjson.proofs.Grammar.Never.{key-never, zero-never}
-use Rattle.tinyjson.proofs.Grammar.Whole.{no_text, quote-after, after-follows}
+use Rattle.tinyjson.proofs.Grammar.Whole.{no_text, quote-after, after-follows, closed-array, closed-object, taken-key}
+use Rattle.tinyjson.proofs.Grammar.Spelt.{quads, within_text, IsPartWithin}
 use Rattle.tinyjson.proofs.Grammar.Paths.{members_from}
 use Rattle.tinyjson.specs.Tree.{no_members}
 use Rattle.tinyjson.proofs.Grammar.Numbers.{quote-digits, digits-follows, minus-told, zero-told, point-told, letter-told, sign-told, range-told, IsDone, done-value, whole-done, fraction-done, exponent-done}
-use Rattle.tinyjson.proofs.Grammar.Quoted.{quoted-follows}
+use Rattle.tinyjson.proofs.Grammar.Quoted.{quoted-follows, in-string}
 use Rattle.tinyjson.proofs.Grammar.Start.{at_first-follows, awaited-follows}
 use Rattle.std.specs.Prelude.{slice_index, take}
 
@@ -51,7 +56,7 @@ word-told limit p hp s done l left h c hc more = (
     h.literal,
     h.begun,
     rw h.whole (shorter-front done l left),
-    (path_text p, rw h.whole (rw (take-front done (l ∷ left)) (append_assoc (path_text p) done (c ∷ [])))),
+    begins-at limit p hp _ _ (rw h.whole (rw (take-front done (l ∷ left)) (append_assoc (path_text p) done (c ∷ [])))),
     (λ e. eqb-false c l hc (sym e ∙ rw h.whole (index-front done l left))),
   ),
   (path_text p ++ done, refl, faultless-value limit p hp s h.value h.flat done (l ∷ left) h.whole),
@@ -82,13 +87,13 @@ quote-word limit fs l (m ∷ ls) t h ys u e = no_text _ _ u (rw h at e)
 word-follows : (limit : Option ℕ) (p : Path) → IsPath limit p → (s : Syntax) (done left : List ℕ) → IsWord s done left → (c : ℕ) → Follows limit (path_text p ++ done) (path_frames p) (word left (tree_of s)) c (step_word (strictly limit) (path_frames p) left (tree_of s) c)
 word-follows limit p hp s done [] h c = absurd (omega (arith, h.more))
 word-follows limit p hp s done (l ∷ []) h c =
-    at_code limit _ _ _ c l _ _ (λ e. complete-follows limit p hp s h.value (flat_within limit p s hp h.flat) _ _ _ c (append_assoc (path_text p) done (c ∷ []) ∙ ap (λ xs. path_text p ++ xs) (ap (λ x. done ++ x ∷ []) e ∙ sym h.whole)))
+    at_code limit _ _ _ c l _ _ (λ e. complete-follows limit p hp s h.value (flat_within limit p s hp h.flat) h.no_number _ _ _ c (append_assoc (path_text p) done (c ∷ []) ∙ ap (λ xs. path_text p ++ xs) (ap (λ x. done ++ x ∷ []) e ∙ sym h.whole)))
     (λ e. ((λ more. word-told limit p hp s done l [] h c e more), quote-word limit (path_frames p) l [] (tree_of s) (word-no_quote s done l [] h)))
 word-follows limit p hp s done (l ∷ m ∷ ls) h c =
     at_code limit _ _ _ c l _ _
     (λ e. record {
       read = in_word p s (done ++ l ∷ []) (m ∷ ls);
-      is = (hp, record { value = h.value; flat = h.flat; literal = h.literal; whole = h.whole ∙ sym (append_assoc done (l ∷ []) (m ∷ ls)); begun = rw (length-append done (l ∷ [])) (omega arith); more = omega arith });
+      is = (hp, record { value = h.value; flat = h.flat; literal = h.literal; whole = h.whole ∙ sym (append_assoc done (l ∷ []) (m ∷ ls)); no_number = h.no_number; begun = rw (length-append done (l ∷ [])) (omega arith); more = omega arith });
       whole = append_assoc (path_text p) done (c ∷ []) ∙ ap (λ x. path_text p ++ (done ++ x ∷ [])) e;
       frames = refl;
       phase = refl;
@@ -114,8 +119,38 @@ abbrev pub Ends : Option ℕ → List ℕ → List Frame → Phase → Outcome �
 Ends limit used fs q (accepted t) = IsText limit used t
 Ends limit used fs q (refused k rest) = (rest ≡ []) × Told limit k used [] × Cut limit k false fs q
 
-eof-told : Ranges → (limit : Option ℕ) (x : Read) → IsRead limit x → Told limit UnexpectedEof (read_text x) []
-eof-told ranges limit x h = (refl, (read-prompt ranges limit x h, read-viable limit x h))
+-- what a state but a numeral needs
+abbrev Short : Read → Type 0
+Short (in_digits p n) = ⊥
+Short (at_after (outside w) s v) = ⊥
+Short x = ⊤
+
+begins-escape : (wi : Within) → IsPartWithin wi → BeginsEscape (within_text wi)
+begins-escape Machine.plain h = inl refl
+begins-escape Machine.backslash h = inr (inl refl)
+begins-escape (Machine.hex ds) h = inr (inr (ds, h.1, h.0, refl))
+
+word-needs : (limit : Option ℕ) (p : Path) → IsPath limit p → (s : Syntax) (done left : List ℕ) → IsWord s done left → NeedsMore limit (path_text p ++ done)
+word-needs limit p hp s done [] h = absurd (omega (arith, h.more))
+word-needs limit p hp s done (l ∷ left) h =
+    inr (inr (inl (text s, length done, h.literal, h.begun, rw h.whole (shorter-front done l left), begins-at limit p hp _ _ (rw h.whole (rw (take-front done (l ∷ left)) refl)))))
+
+needs : (limit : Option ℕ) (x : Read) → IsRead limit x → Short x → NeedsMore limit (read_text x)
+needs limit (at_first p) h i = inl (awaits-value limit p h.0)
+needs limit (at_awaited p) h i = inl (awaits-value limit p h)
+needs limit (in_word p s done left) h i = word-needs limit p h.0 s done left h.1
+needs limit (in_digits p n) h i = elim i [ ]
+needs limit (in_quoted p ps cs qs wi) h i = inr (inl (quads qs, within_text wi, begins-escape wi h.4, in-string limit p ps cs qs (record { path = h.0; pieces = h.1; settled = h.2; run = h.3 }) _ _ refl))
+needs limit (at_after (outside w) s v) h i = elim i [ ]
+needs limit (at_after (item_in p es w) s v) h i = inr (inr (inr (inr (inl (closed-array limit p es w s v h)))))
+needs limit (at_after (key_in p ps w) s v) h i = inr (inr (inr (inl (taken-key limit p ps w s v h))))
+needs limit (at_after (value_in p ps a k b w) s v) h i = inr (inr (inr (inr (inr (closed-object limit p ps a k b w s v h)))))
+
+eof-told : Ranges → (limit : Option ℕ) (x : Read) → IsRead limit x → NeedsMore limit (read_text x) → Told limit UnexpectedEof (read_text x) []
+eof-told ranges limit x h m = ((refl, m), (read-prompt ranges limit x h, read-viable limit x h))
+
+eof : Ranges → (limit : Option ℕ) (x : Read) → IsRead limit x → Short x → Told limit UnexpectedEof (read_text x) []
+eof ranges limit x h i = eof-told ranges limit x h (needs limit x h i)
 
 abbrev EndsPlain : Option ℕ → List ℕ → List Frame → Phase → Next → Type 0
 EndsPlain limit used fs q n = Ends limit used fs q (end_plain n)
@@ -135,15 +170,23 @@ number-ends : Ranges → (limit : Option ℕ) (p : Path) → IsPath limit p → 
     EndsPlain limit (path_text p ++ part_text n) (path_frames p) (digits (part_stage n) (part_numeral n)) (complete true (path_frames p) (tree.number (value (part_numeral n))) false)
 number-ends ranges limit (outside w) hp n hn h e =
     subst (λ xs. IsText limit (w ++ xs) (tree.number (value (part_numeral n)))) (append-nil _ ∙ sym h.whole) (ends-text limit w (Syntax.number (part_numeral n)) [] (hp, done-value n h e, tt, flat_within limit (outside w) (Syntax.number (part_numeral n)) hp refl, tt))
-number-ends ranges limit (item_in p es w) hp n hn h e = (refl, eof-told ranges limit (in_digits (item_in p es w) n) (hp, hn), tt)
+number-ends ranges limit (item_in p es w) hp n hn h e =
+    let a : IsFaultless limit ((path_text (item_in p es w) ++ (text (Syntax.number (part_numeral n)) ++ [])) ++ 93 ∷ []) =
+    closed-array limit p es w (Syntax.number (part_numeral n)) [] (hp, done-value n h e, tt, flat_within limit (item_in p es w) (Syntax.number (part_numeral n)) hp refl, tt) in
+    let b : IsFaultless limit ((path_text (item_in p es w) ++ part_text n) ++ 93 ∷ []) = subst (λ xs. IsFaultless limit ((path_text (item_in p es w) ++ xs) ++ 93 ∷ [])) (append-nil _ ∙ sym h.whole) a in
+    (refl, eof-told ranges limit (in_digits (item_in p es w) n) (hp, hn) (inr (inr (inr (inr (inl b))))), tt)
 number-ends ranges limit (key_in p ps w) hp n hn h e =
-    (refl, key-told limit p ps w hp (Syntax.number (part_numeral n)) (done-value n h e) refl (flat_within limit (key_in p ps w) (Syntax.number (part_numeral n)) hp refl) _ (ap (λ xs. path_text (key_in p ps w) ++ xs) h.whole) [], (λ ys t. key-never ys (strictly limit) (members_from no_members ps) (path_frames p) (part_stage n) (part_numeral n) t refl))
-number-ends ranges limit (value_in p ps a k b w) hp n hn h e = (refl, eof-told ranges limit (in_digits (value_in p ps a k b w) n) (hp, hn), tt)
+    (refl, key-told limit p ps w hp (Syntax.number (part_numeral n)) (done-value n h e) refl (flat_within limit (key_in p ps w) (Syntax.number (part_numeral n)) hp refl) _ (ap (λ xs. path_text (key_in p ps w) ++ xs) h.whole) [] tt, (λ ys t. key-never ys (strictly limit) (members_from no_members ps) (path_frames p) (part_stage n) (part_numeral n) t refl))
+number-ends ranges limit (value_in p ps a k b w) hp n hn h e =
+    let x : IsFaultless limit ((path_text (value_in p ps a k b w) ++ (text (Syntax.number (part_numeral n)) ++ [])) ++ 125 ∷ []) =
+    closed-object limit p ps a k b w (Syntax.number (part_numeral n)) [] (hp, done-value n h e, tt, flat_within limit (value_in p ps a k b w) (Syntax.number (part_numeral n)) hp refl, tt) in
+    let y : IsFaultless limit ((path_text (value_in p ps a k b w) ++ part_text n) ++ 125 ∷ []) = subst (λ xs. IsFaultless limit ((path_text (value_in p ps a k b w) ++ xs) ++ 125 ∷ [])) (append-nil _ ∙ sym h.whole) x in
+    (refl, eof-told ranges limit (in_digits (value_in p ps a k b w) n) (hp, hn) (inr (inr (inr (inr (inr y))))), tt)
 
 finish-ends : Ranges → (limit : Option ℕ) (p : Path) → IsPath limit p → (n : Part) → IsPart n → IsDone n → EndsPlain limit (path_text p ++ part_text n) (path_frames p) (digits (part_stage n) (part_numeral n)) (finish (strictly limit) (path_frames p) (part_numeral n))
 finish-ends ranges limit p hp n hn h =
     plain-either limit _ _ _ (not (in_range (value (part_numeral n)))) _ _
-    (λ e. (refl, range-told ranges limit p hp n hn h.numeral h.no_zero h.whole (not-true _ e) [], quote-digits limit p n)) (λ e. number-ends ranges limit p hp n hn h (not-false _ e))
+    (λ e. (refl, range-told ranges limit p hp n hn h.numeral h.no_zero h.whole (not-true _ e) [] tt, quote-digits limit p n)) (λ e. number-ends ranges limit p hp n hn h (not-false _ e))
 
 ends-either : (limit : Option ℕ) (used : List ℕ) (fs : List Frame) (q : Phase) (b : Bool) (x y : Outcome) → (b ≡ true → Ends limit used fs q x) → (b ≡ false → Ends limit used fs q y) → Ends limit used fs q (cond b x y)
 ends-either limit used fs q true x y f g = f refl
@@ -161,12 +204,12 @@ digits-end ranges limit p hp (part_exponent b d ds f l s e es) h = finish-ends r
 
 pub end-follows : Ranges → (limit : Option ℕ) (x : Read) → IsRead limit x → Ends limit (read_text x) (read_frames x) (read_phase x) (end (strictly limit) (read_frames x) (read_phase x))
 unfolding end
-end-follows ranges limit (at_first p) h = (refl, eof-told ranges limit (at_first p) h, tt)
-end-follows ranges limit (at_awaited p) h = (refl, eof-told ranges limit (at_awaited p) h, tt)
-end-follows ranges limit (in_word p s done left) h = (refl, eof-told ranges limit (in_word p s done left) h, tt)
+end-follows ranges limit (at_first p) h = (refl, eof ranges limit (at_first p) h tt, tt)
+end-follows ranges limit (at_awaited p) h = (refl, eof ranges limit (at_awaited p) h tt, tt)
+end-follows ranges limit (in_word p s done left) h = (refl, eof ranges limit (in_word p s done left) h tt, tt)
 end-follows ranges limit (in_digits p n) h = digits-end ranges limit p h.0 n h.1
-end-follows ranges limit (in_quoted p ps cs qs wi) h = (refl, eof-told ranges limit (in_quoted p ps cs qs wi) h, tt)
+end-follows ranges limit (in_quoted p ps cs qs wi) h = (refl, eof ranges limit (in_quoted p ps cs qs wi) h tt, tt)
 end-follows ranges limit (at_after (outside w) s v) h = ends-text limit w s v h
-end-follows ranges limit (at_after (item_in p es w) s v) h = (refl, eof-told ranges limit (at_after (item_in p es w) s v) h, tt)
-end-follows ranges limit (at_after (key_in p ps w) s v) h = (refl, eof-told ranges limit (at_after (key_in p ps w) s v) h, tt)
-end-follows ranges limit (at_after (value_in p ps a k b w) s v) h = (refl, eof-told ranges limit (at_after (value_in p ps a k b w) s v) h, tt)
+end-follows ranges limit (at_after (item_in p es w) s v) h = (refl, eof ranges limit (at_after (item_in p es w) s v) h tt, tt)
+end-follows ranges limit (at_after (key_in p ps w) s v) h = (refl, eof ranges limit (at_after (key_in p ps w) s v) h tt, tt)
+end-follows ranges limit (at_after (value_in p ps a k b w) s v) h = (refl, eof ranges limit (at_after (value_in p ps a k b w) s v) h tt, tt)

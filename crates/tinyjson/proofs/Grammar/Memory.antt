@@ -4,12 +4,11 @@ use Rattle.std.specs.Prelude.{All}
 use Rattle.std.specs.Char.{IsScalar}
 use Rattle.tinyjson.specs.Machine.{strictly}
 use Rattle.tinyjson.specs.Machine.{Frame, Phase, State, Next, next, stop, awaited, step, reach, reach_on}
-use Rattle.tinyjson.specs.declared.parser.error.JsonParseErrorKind.TheVariants.{OutOfMemory}
-use Rattle.tinyjson.specs.Refusal.{PlaceSays, IsPromptly, IsInterrupted}
+use Rattle.tinyjson.specs.Refusal.{IsPromptly, IsInterrupted}
 use Rattle.tinyjson.proofs.Grammar.Spelt.{Ranges, Spells}
 use Rattle.tinyjson.proofs.Grammar.Viable.{read-prompt}
 use Rattle.tinyjson.proofs.Grammar.Told.{Follows}
-use Rattle.tinyjson.proofs.Grammar.Sound.{step-spells, start-spells, spells-viable, NotTooLate, late-one, late-none}
+use Rattle.tinyjson.proofs.Grammar.Sound.{step-spells, start-spells, spells-viable, late-one, late-none}
 
 pub spells-prompt : Ranges → (limit : Option ℕ) (used : List ℕ) (fs : List Frame) (q : Phase) → Spells limit used fs q → IsPromptly limit used []
 spells-prompt ranges limit used fs q s = rw s.whole (read-prompt ranges limit s.read s.is)
@@ -32,7 +31,7 @@ reach-spells ranges limit (c ∷ cs) h used fs q i s e =
 pub interrupted : Ranges → (limit : Option ℕ) (used : List ℕ) → All IsScalar used → (s : State) → reach (strictly limit) [] awaited used ≡ Some s → IsInterrupted limit used
 interrupted ranges limit used h s e =
     let i : Spells limit used s.frames s.phase = reach-spells ranges limit used h [] [] awaited (start-spells limit) s e in
-    record { place = ([], omega arith, spells-prompt ranges limit used s.frames s.phase i); not_too_late = late-none limit used (spells-viable limit used s.frames s.phase i) }
+    record { last = []; short = omega arith; place = spells-prompt ranges limit used s.frames s.phase i; not_too_late = late-none limit used (spells-viable limit used s.frames s.phase i) }
 
 pub interrupted-late : Ranges → (limit : Option ℕ) (used : List ℕ) → All IsScalar used → (s : State) → reach (strictly limit) [] awaited used ≡ Some s → (c : ℕ) → IsInterrupted limit (used ++ c ∷ [])
 interrupted-late ranges limit used h s e c =
@@ -40,6 +39,8 @@ interrupted-late ranges limit used h s e c =
     let p : IsPromptly limit used [] = spells-prompt ranges limit used s.frames s.phase i in
     let whole : used ++ c ∷ [] ≡ p.front ++ (p.late ++ c ∷ []) = ap (λ xs. xs ++ c ∷ []) p.whole ∙ (ap (λ xs. (p.front ++ xs) ++ c ∷ []) (append-nil p.late) ∙ append_assoc p.front p.late (c ∷ [])) in
     record {
-      place = (c ∷ [], omega arith, record { front = p.front; late = p.late; whole = whole; faultless = p.faultless; are_late = p.are_late });
+      last = c ∷ [];
+      short = omega arith;
+      place = record { front = p.front; late = p.late; whole = whole; faultless = p.faultless; are_late = p.are_late };
       not_too_late = late-one limit used c (spells-viable limit used s.frames s.phase i);
     }

@@ -6,7 +6,7 @@ use Rattle.tinyjson.specs.Kind.{kind_of}
 use Rattle.tinyjson.specs.Tree as tree
 use Rattle.tinyjson_number.specs.Numeral.{Numeral, has_leading_zero, in_range, value}
 use Rattle.tinyjson.specs.Syntax.{Syntax, null, boolean, number, string, empty_array, array, empty_object, object, text, is_key, tree_of, depth}
-use Rattle.tinyjson.specs.Continuation.{IsValue, IsCutOffText, cut_off_text}
+use Rattle.tinyjson.specs.Prefix.{IsValue, IsCutOffText, cut_off_text}
 use Rattle.tinyjson.specs.Machine.{Rules, Frame, at_key, awaited, Next, next, stop, accepted, refused, complete, step, run, end, end_digits, step_digits, finish, unless_ended, go_on, digits, Stage, minus, whole, point, fraction, letter, sign, exponent}
 use Rattle.tinyjson.specs.declared.parser.error.JsonParseErrorKind.{JsonParseErrorKind}
 use Rattle.tinyjson.specs.declared.parser.error.JsonParseErrorKind.TheVariants.{KeyNotString, NumberOutOfRange, LeadingZero}
@@ -100,7 +100,7 @@ zero-never (c ∷ cs) r fs n t h z e =
 
 -- ---- a key that is no string
 
-refused-key : (r : Rules) (ms : tree.Members) (fs : List Frame) (s : Syntax) (ys : List ℕ) → r.strict ≡ true → IsValue s → is_key s ≡ false → HasRoom r (at_key ms ∷ fs) (depth s) → Ends s ys →
+pub refused-key : (r : Rules) (ms : tree.Members) (fs : List Frame) (s : Syntax) (ys : List ℕ) → r.strict ≡ true → IsValue s → is_key s ≡ false → HasRoom r (at_key ms ∷ fs) (depth s) → Ends s ys →
     run r (at_key ms ∷ fs) awaited (text s ++ ys) ≡ refused (KeyNotString (kind_of (tree_of s))) ys
 refused-key r ms fs s ys h v b m d = run-value s r (at_key ms ∷ fs) ys v.spelled (λ e. v.strict) m d ∙ rw (h, string-key s, b)
 

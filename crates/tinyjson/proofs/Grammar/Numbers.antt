@@ -6,8 +6,8 @@ use Rattle.tinyjson.specs.Machine.{strictly}
 use Rattle.tinyjson.specs.Tree.{key_of, is_string, Tree, no_members, put, items_of}
 use Rattle.tinyjson.specs.Tree as tree
 use Rattle.tinyjson.specs.Syntax.{Syntax, text}
-use Rattle.tinyjson_number.specs.Numeral.{Numeral, IsNumeral, AreDigits, has_leading_zero, minus_text, fraction_text, spelling, value, in_range}
-use Rattle.tinyjson.specs.Continuation.{IsValue}
+use Rattle.tinyjson_number.specs.Numeral.{Numeral, IsNumeral, AreDigits, has_leading_zero, minus_text, spelling, value, in_range}
+use Rattle.tinyjson.specs.Prefix.{IsValue}
 use Rattle.tinyjson.specs.declared.parser.error.JsonParseErrorKind.TheVariants.{EmptyInteger, LeadingZero, EmptyFraction, EmptyExponent, NumberOutOfRange}
 use Rattle.tinyjson.specs.Machine.{Frame, digits, Next, complete, step_digits, finish, then_step, unless_ended}
 use Rattle.tinyjson.specs.Refusal.{BeginsWithNone}
@@ -17,6 +17,7 @@ use Rattle.tinyjson.proofs.Grammar.Paths.{Path, outside, item_in, key_in, value_
 use Rattle.tinyjson.proofs.Grammar.Spelt.{Part, part_point, part_fraction, part_letter, part_sign, part_exponent, part_text, part_stage, part_numeral, IsPart, IsWhole, Ranges, in_digits, part_minus, part_whole, Spells, flat_within, ends-loosely}
 use Rattle.tinyjson.proofs.Grammar.Viable.{part-ending, part-prompt, faultless-minus, faultless-point}
 use Rattle.tinyjson.proofs.Grammar.Told.{Told, Follows, either, key-told}
+use Rattle.tinyjson.proofs.Grammar.Awaits.{begins-at}
 use Rattle.tinyjson.proofs.Grammar.Never.{key-never, zero-never}
 use Rattle.tinyjson.proofs.Grammar.Told.{loosely, NoQuoteFrom}
 use Rattle.tinyjson.specs.Machine.{run, step, go_on, accepted, Phase}
@@ -37,37 +38,34 @@ last-digit d (e ∷ es) h = let r = last-digit e es h.1 in (d ∷ r.0, r.1, r.2,
 
 module _ (ranges : Ranges) (limit : Option ℕ) (p : Path) (hp : IsPath limit p) where
   pub minus-told : (rest : List ℕ) → BeginsWithNone is_ascii_digit rest → Told limit EmptyInteger (path_text p ++ 45 ∷ []) rest
-  minus-told rest h = (((path_text p, refl), h), (faultless-minus ranges limit p hp, ends-loosely limit p hp _ (part-ending part_minus tt)))
+  minus-told rest h = ((begins-at limit p hp _ _ refl, h), (faultless-minus ranges limit p hp, ends-loosely limit p hp _ (part-ending part_minus tt)))
 
   pub zero-told : (b : Bool) (d : ℕ) (ds : List ℕ) → AreDigits (d ∷ ds) → IsTrue (has_leading_zero (d ∷ ds)) → (rest : List ℕ) → BeginsWithNone is_ascii_digit rest →
       Told limit LeadingZero (path_text p ++ (minus_text b ++ d ∷ ds)) rest
   zero-told b d ds h i rest e =
-      ((d ∷ ds, i, h, (path_text p ++ minus_text b, simp append_assoc), e), (part-prompt ranges limit p hp (part_whole b d ds) h, ends-loosely limit p hp _ (part-ending (part_whole b d ds) h)))
+      ((b, d ∷ ds, i, h, begins-at limit p hp _ _ refl, e), (part-prompt ranges limit p hp (part_whole b d ds) h, ends-loosely limit p hp _ (part-ending (part_whole b d ds) h)))
 
   pub point-told : (b : Bool) (d : ℕ) (ds : List ℕ) → IsWhole d ds → (rest : List ℕ) → BeginsWithNone is_ascii_digit rest → Told limit EmptyFraction (path_text p ++ (minus_text b ++ d ∷ (ds ++ 46 ∷ []))) rest
   point-told b d ds h rest e =
-      let l : LastDigit d ds = last-digit d ds h.0 in (
-        (l.1, l.2, (path_text p ++ (minus_text b ++ l.0), ap (λ xs. path_text p ++ (minus_text b ++ (xs ++ 46 ∷ []))) l.3 ∙ simp append_assoc), e),
-        (faultless-point ranges limit p hp b d ds h, ends-loosely limit p hp _ (part-ending (part_point b d ds) h)),
-      )
+      ((b, d ∷ ds, (h.0, omega arith, h.1), begins-at limit p hp _ _ refl, e), (faultless-point ranges limit p hp b d ds h, ends-loosely limit p hp _ (part-ending (part_point b d ds) h)))
 
   pub letter-told : (b : Bool) (d : ℕ) (ds f : List ℕ) (l : ℕ) → IsPart (part_letter b d ds f l) → (rest : List ℕ) → BeginsWithNone (λ c. is_ascii_digit c || is_sign c) rest →
       Told limit EmptyExponent (path_text p ++ part_text (part_letter b d ds f l)) rest
   letter-told b d ds f l h rest e = (
-    (l, h.2, inl ((path_text p ++ (minus_text b ++ d ∷ (ds ++ fraction_text f)), simp append_assoc), e)),
+    (b, d ∷ ds, f, l, (h.0.0, omega arith, h.0.1), h.1, h.2, inl (begins-at limit p hp _ _ refl, e)),
     (part-prompt ranges limit p hp (part_letter b d ds f l) h, ends-loosely limit p hp _ (part-ending (part_letter b d ds f l) h)),
   )
 
   pub sign-told : (b : Bool) (d : ℕ) (ds f : List ℕ) (l s : ℕ) → IsPart (part_sign b d ds f l s) → (rest : List ℕ) → BeginsWithNone is_ascii_digit rest →
       Told limit EmptyExponent (path_text p ++ part_text (part_sign b d ds f l s)) rest
   sign-told b d ds f l s h rest e = (
-    (l, h.2, inr (s, h.3, (path_text p ++ (minus_text b ++ d ∷ (ds ++ fraction_text f)), simp append_assoc), e)),
+    (b, d ∷ ds, f, l, (h.0.0, omega arith, h.0.1), h.1, h.2, inr (s, h.3, begins-at limit p hp _ _ refl, e)),
     (part-prompt ranges limit p hp (part_sign b d ds f l s) h, ends-loosely limit p hp _ (part-ending (part_sign b d ds f l s) h)),
   )
 
-  pub range-told : (n : Part) → IsPart n → IsNumeral (part_numeral n) → has_leading_zero (part_numeral n).whole ≡ false → part_text n ≡ spelling (part_numeral n) → in_range (value (part_numeral n)) ≡ false → (rest : List ℕ) →
+  pub range-told : (n : Part) → IsPart n → IsNumeral (part_numeral n) → has_leading_zero (part_numeral n).whole ≡ false → part_text n ≡ spelling (part_numeral n) → in_range (value (part_numeral n)) ≡ false → (rest : List ℕ) → BeginsWithNone is_ascii_digit rest →
       Told limit NumberOutOfRange (path_text p ++ part_text n) rest
-  range-told n h i j t e rest = ((part_numeral n, i, j, e, (path_text p, ap (λ xs. path_text p ++ xs) t)), (part-prompt ranges limit p hp n h, ends-loosely limit p hp _ (part-ending n h)))
+  range-told n h i j t e rest nd = ((part_numeral n, i, j, e, begins-at limit p hp _ _ (ap (λ xs. path_text p ++ xs) t), nd), (part-prompt ranges limit p hp n h, ends-loosely limit p hp _ (part-ending n h)))
 
 -- the number may end here
 pub record IsDone (n : Part) : Type 0 where
@@ -101,22 +99,22 @@ quote-digits limit p (part_sign b d ds f l s) ys t e = no_text _ _ t e
 quote-digits limit p (part_exponent b d ds f l s x xs) ys t e = quote-ends limit p (numeral b (d ∷ ds) f (Some (exponent_with l s (x ∷ xs)))) ys t e
 
 -- it ends before c
-pub ends-before : (limit : Option ℕ) (p : Path) → IsPath limit p → (n : Part) → IsDone n → IsTrue (in_range (value (part_numeral n))) → (c : ℕ) →
+pub ends-before : (limit : Option ℕ) (p : Path) → IsPath limit p → (n : Part) → IsDone n → IsTrue (in_range (value (part_numeral n))) → (c : ℕ) → is_ascii_digit c ≡ false →
     Follows limit (path_text p ++ (text (Syntax.number (part_numeral n)) ++ [])) (path_frames p) (digits (part_stage n) (part_numeral n)) c (then_step (strictly limit) (complete true (path_frames p) (tree.number (value (part_numeral n))) false) c)
-ends-before limit (outside w) hp n h e c = after-follows limit (outside w) (Syntax.number (part_numeral n)) [] (hp, done-value n h e, tt, flat_within limit (outside w) (Syntax.number (part_numeral n)) hp refl, tt) _ _ (λ i. quote-digits limit (outside w) n) c
-ends-before limit (item_in p es w) hp n h e c = after-follows limit (item_in p es w) (Syntax.number (part_numeral n)) [] (hp, done-value n h e, tt, flat_within limit (item_in p es w) (Syntax.number (part_numeral n)) hp refl, tt) _ _ (λ i. quote-digits limit (item_in p es w) n) c
-ends-before limit (key_in p ps w) hp n h e c =
-    ((λ more. key-told limit p ps w hp (Syntax.number (part_numeral n)) (done-value n h e) refl (flat_within limit (key_in p ps w) (Syntax.number (part_numeral n)) hp refl) _ (ap (λ xs. path_text (key_in p ps w) ++ xs) (append-nil (spelling (part_numeral n)))) (c ∷ more)), (λ ys t. key-never ys (strictly limit) (members_from no_members ps) (path_frames p) (part_stage n) (part_numeral n) t refl))
-ends-before limit (value_in p ps a k b w) hp n h e c =
+ends-before limit (outside w) hp n h e c nd = after-follows limit (outside w) (Syntax.number (part_numeral n)) [] (hp, done-value n h e, tt, flat_within limit (outside w) (Syntax.number (part_numeral n)) hp refl, tt) _ _ (λ i. quote-digits limit (outside w) n) c
+ends-before limit (item_in p es w) hp n h e c nd = after-follows limit (item_in p es w) (Syntax.number (part_numeral n)) [] (hp, done-value n h e, tt, flat_within limit (item_in p es w) (Syntax.number (part_numeral n)) hp refl, tt) _ _ (λ i. quote-digits limit (item_in p es w) n) c
+ends-before limit (key_in p ps w) hp n h e c nd =
+    ((λ more. key-told limit p ps w hp (Syntax.number (part_numeral n)) (done-value n h e) refl (flat_within limit (key_in p ps w) (Syntax.number (part_numeral n)) hp refl) _ (ap (λ xs. path_text (key_in p ps w) ++ xs) (append-nil (spelling (part_numeral n)))) (c ∷ more) nd), (λ ys t. key-never ys (strictly limit) (members_from no_members ps) (path_frames p) (part_stage n) (part_numeral n) t refl))
+ends-before limit (value_in p ps a k b w) hp n h e c nd =
     after-follows limit (value_in p ps a k b w) (Syntax.number (part_numeral n)) [] (hp, done-value n h e, tt, flat_within limit (value_in p ps a k b w) (Syntax.number (part_numeral n)) hp refl, tt) _ _ (λ i. quote-digits limit (value_in p ps a k b w) n) c
 
-pub finish-follows : Ranges → (limit : Option ℕ) (p : Path) → IsPath limit p → (n : Part) → IsPart n → IsDone n → (c : ℕ) →
+pub finish-follows : Ranges → (limit : Option ℕ) (p : Path) → IsPath limit p → (n : Part) → IsPart n → IsDone n → (c : ℕ) → is_ascii_digit c ≡ false →
     Follows limit (path_text p ++ part_text n) (path_frames p) (digits (part_stage n) (part_numeral n)) c (then_step (strictly limit) (finish (strictly limit) (path_frames p) (part_numeral n)) c)
-finish-follows ranges limit p hp n hn h c =
+finish-follows ranges limit p hp n hn h c nd =
     then-either limit _ _ _ c (not (in_range (value (part_numeral n)))) _ _
-    (λ e. ((λ more. range-told ranges limit p hp n hn h.numeral h.no_zero h.whole (not-true _ e) (c ∷ more)), quote-digits limit p n))
+    (λ e. ((λ more. range-told ranges limit p hp n hn h.numeral h.no_zero h.whole (not-true _ e) (c ∷ more) nd), quote-digits limit p n))
     (λ e. subst (λ xs. Follows limit (path_text p ++ xs) (path_frames p) (digits (part_stage n) (part_numeral n)) c (then_step (strictly limit) (complete true (path_frames p) (tree.number (value (part_numeral n))) false) c)) (append-nil _ ∙ sym h.whole)
-    (ends-before limit p hp n h (not-false _ e) c))
+    (ends-before limit p hp n h (not-false _ e) c nd))
 
 -- ---- a character in a number
 
@@ -149,14 +147,14 @@ digits-follows ranges limit p hp (part_whole b d ds) h c =
     (λ i. unless-either limit _ _ _ c _ _ (has_leading_zero (d ∷ ds)) _ _ (λ e. ((λ more. zero-told ranges limit p hp b d ds h e (c ∷ more) i), (quote-digits limit p (part_whole b d ds), (λ ys t. zero-never ys (strictly limit) (path_frames p) (numeral b (d ∷ ds) [] None) t refl e))))
     (λ z. unless-either limit _ _ _ c _ _ (c == 46) _ _ (λ e. goes limit p hp (part_whole b d ds) (part_point b d ds) (h, z) c (rw (eqb-true c 46 e) (simp append_assoc)))
     (λ j. unless-either limit _ _ _ c _ _ (is_exponent_letter c) _ _ (λ e. goes limit p hp (part_whole b d ds) (part_letter b d ds [] c) ((h, z), tt, e) c (simp append_assoc))
-    (λ k. finish-follows ranges limit p hp (part_whole b d ds) h (whole-done b d ds (h, z)) c))))
+    (λ k. finish-follows ranges limit p hp (part_whole b d ds) h (whole-done b d ds (h, z)) c i))))
 digits-follows ranges limit p hp (part_point b d ds) h c =
     either limit _ _ _ c (is_ascii_digit c) _ _ (λ e. goes limit p hp (part_point b d ds) (part_fraction b d ds c []) (h, (e, tt)) c (simp append_assoc)) (λ e. ((λ more. point-told ranges limit p hp b d ds h (c ∷ more) e), quote-digits limit p (part_point b d ds)))
 digits-follows ranges limit p hp (part_fraction b d ds x xs) h c =
     unless-either limit _ _ _ c _ _ (is_ascii_digit c) _ _
     (λ e. goes limit p hp (part_fraction b d ds x xs) (part_fraction b d ds x (xs ++ c ∷ [])) (h.0, (h.1.0, digits-append xs c h.1.1 e)) c (simp append_assoc))
     (λ i. unless-either limit _ _ _ c _ _ (is_exponent_letter c) _ _ (λ e. goes limit p hp (part_fraction b d ds x xs) (part_letter b d ds (x ∷ xs) c) (h.0, h.1, e) c (simp append_assoc))
-    (λ k. finish-follows ranges limit p hp (part_fraction b d ds x xs) h (fraction-done b d ds x xs h) c))
+    (λ k. finish-follows ranges limit p hp (part_fraction b d ds x xs) h (fraction-done b d ds x xs h) c i))
 digits-follows ranges limit p hp (part_letter b d ds f l) h c =
     either limit _ _ _ c (is_ascii_digit c) _ _ (λ e. goes limit p hp (part_letter b d ds f l) (part_exponent b d ds f l None c []) (h.0, h.1, h.2, tt, (e, tt)) c (simp append_assoc))
     (λ i. either limit _ _ _ c (is_sign c) _ _ (λ e. goes limit p hp (part_letter b d ds f l) (part_sign b d ds f l c) (h.0, h.1, h.2, e) c (simp append_assoc))
@@ -167,4 +165,4 @@ digits-follows ranges limit p hp (part_sign b d ds f l s) h c =
 digits-follows ranges limit p hp (part_exponent b d ds f l s x xs) h c =
     unless-either limit _ _ _ c _ _ (is_ascii_digit c) _ _
     (λ e. goes limit p hp (part_exponent b d ds f l s x xs) (part_exponent b d ds f l s x (xs ++ c ∷ [])) (h.0, h.1, h.2, h.3, (h.4.0, digits-append xs c h.4.1 e)) c (simp append_assoc))
-    (λ i. finish-follows ranges limit p hp (part_exponent b d ds f l s x xs) h (exponent-done b d ds f l s x xs h) c)
+    (λ i. finish-follows ranges limit p hp (part_exponent b d ds f l s x xs) h (exponent-done b d ds f l s x xs h) c i)

@@ -44,13 +44,13 @@ exponent-digits r fs g w f l s es (d ∷ ds) xs h = rw h.0 (rw (append_assoc es 
 
 -- ---- the exponent
 
-sign-no_digit : (c : ℕ) → IsTrue ((c == 43) || (c == 45)) → is_ascii_digit c ≡ false
+pub sign-no_digit : (c : ℕ) → IsTrue ((c == 43) || (c == 45)) → is_ascii_digit c ≡ false
 sign-no_digit c h = grind arith
 
-letter-no_digit : (c : ℕ) → IsTrue (is_exponent_letter c) → is_ascii_digit c ≡ false
+pub letter-no_digit : (c : ℕ) → IsTrue (is_exponent_letter c) → is_ascii_digit c ≡ false
 letter-no_digit c h = grind arith
 
-letter-no_point : (c : ℕ) → IsTrue (is_exponent_letter c) → (c == 46) ≡ false
+pub letter-no_point : (c : ℕ) → IsTrue (is_exponent_letter c) → (c == 46) ≡ false
 letter-no_point c h = grind arith
 
 power-digits : (r : Rules) (fs : List Frame) (g : Bool) (w f : List ℕ) (l : ℕ) (s : Option ℕ) (ds xs : List ℕ) → AreDigits ds → 0 < length ds →
@@ -63,7 +63,7 @@ power-digits r fs g w f l None (d ∷ ds) xs h p hs = rw h.0 (exponent-digits r 
 power-digits r fs g w f l (Some c) (d ∷ ds) xs h p hs = rw (sign-no_digit c hs, hs, h.0) (exponent-digits r fs g w f l (Some c) (d ∷ []) ds xs h.1)
 
 -- the stage behind the last character of a numeral
-abbrev stage_of : List ℕ → Option Exponent → Stage
+abbrev pub stage_of : List ℕ → Option Exponent → Stage
 stage_of [] None = whole
 stage_of (d ∷ ds) None = fraction
 stage_of [] (Some e) = exponent
@@ -91,16 +91,20 @@ from-whole r fs g w [] (Some e) xs hf he h =
 from-whole r fs g w (c ∷ cs) e xs hf he h =
     rw (h, hf.0) (fraction-digits r fs g w (c ∷ []) cs (exponent_text e ++ xs) hf.1 ∙ from-fraction r fs g w c cs e xs he)
 
+-- the digits before the point
+pub run-whole : (r : Rules) (fs : List Frame) (g : Bool) (w xs : List ℕ) → AreDigits w → 0 < length w → run r fs awaited (minus_text g ++ (w ++ xs)) ≡ run r fs (digits whole (numeral g w [] None)) xs
+unfolding run step
+run-whole r fs true [] xs h p = absurd (omega (arith, p))
+run-whole r fs false [] xs h p = absurd (omega (arith, p))
+run-whole r fs true (c ∷ cs) xs h p = rw h.0 (whole-digits r fs true (c ∷ []) cs xs h.1)
+run-whole r fs false (c ∷ cs) xs h p =
+    rw (digit-not_white c h.0, digit-is_not c 110 h.0 refl, digit-is_not c 116 h.0 refl, digit-is_not c 102 h.0 refl, digit-is_not c 34 h.0 refl, digit-is_not c 91 h.0 refl, digit-is_not c 123 h.0 refl, digit-is_not c 45 h.0 refl, h.0)
+    (whole-digits r fs false (c ∷ []) cs xs h.1)
+
 from-first : (r : Rules) (fs : List Frame) (g : Bool) (w f : List ℕ) (e : Option Exponent) (xs : List ℕ) →
     IsNumeral (numeral g w f e) → (r.strict && has_leading_zero w) ≡ false →
     run r fs awaited (minus_text g ++ (w ++ (fraction_text f ++ (exponent_text e ++ xs)))) ≡ run r fs (digits (stage_of f e) (numeral g w f e)) xs
-unfolding run step
-from-first r fs true [] f e xs hn h = absurd (omega (arith, hn.some_digit))
-from-first r fs false [] f e xs hn h = absurd (omega (arith, hn.some_digit))
-from-first r fs true (c ∷ cs) f e xs hn h = rw hn.whole.0 (whole-digits r fs true (c ∷ []) cs (fraction_text f ++ (exponent_text e ++ xs)) hn.whole.1 ∙ from-whole r fs true (c ∷ cs) f e xs hn.fraction hn.exponent h)
-from-first r fs false (c ∷ cs) f e xs hn h =
-    rw (digit-not_white c hn.whole.0, digit-is_not c 110 hn.whole.0 refl, digit-is_not c 116 hn.whole.0 refl, digit-is_not c 102 hn.whole.0 refl, digit-is_not c 34 hn.whole.0 refl, digit-is_not c 91 hn.whole.0 refl, digit-is_not c 123 hn.whole.0 refl, digit-is_not c 45 hn.whole.0 refl, hn.whole.0)
-    (whole-digits r fs false (c ∷ []) cs (fraction_text f ++ (exponent_text e ++ xs)) hn.whole.1 ∙ from-whole r fs false (c ∷ cs) f e xs hn.fraction hn.exponent h)
+from-first r fs g w f e xs hn h = run-whole r fs g w (fraction_text f ++ (exponent_text e ++ xs)) hn.whole hn.some_digit ∙ from-whole r fs g w f e xs hn.fraction hn.exponent h
 
 spelling_assoc : (n : Numeral) (xs : List ℕ) → spelling n ++ xs ≡ minus_text n.negative ++ (n.whole ++ (fraction_text n.fraction ++ (exponent_text n.exponent ++ xs)))
 spelling_assoc n xs = simp append_assoc
@@ -112,13 +116,13 @@ run-spelling r fs n xs hn h = rw (spelling_assoc n xs) (from-first r fs n.negati
 
 -- ---- the end of a numeral
 
-none-follows : (r : Rules) (fs : List Frame) (n : Numeral) (f : List ℕ) (e : Option Exponent) (c : ℕ) → (r.strict && has_leading_zero n.whole) ≡ false → continues c ≡ false → step_digits r fs (stage_of f e) n c ≡ None
+pub none-follows : (r : Rules) (fs : List Frame) (n : Numeral) (f : List ℕ) (e : Option Exponent) (c : ℕ) → (r.strict && has_leading_zero n.whole) ≡ false → continues c ≡ false → step_digits r fs (stage_of f e) n c ≡ None
 none-follows r fs n [] None c h hc = rw (continues-digit c hc, h, continues-point c hc, continues-letter c hc)
 none-follows r fs n (d ∷ ds) None c h hc = rw (continues-digit c hc, continues-letter c hc)
 none-follows r fs n [] (Some e) c h hc = rw (continues-digit c hc)
 none-follows r fs n (d ∷ ds) (Some e) c h hc = rw (continues-digit c hc)
 
-end-finishes : (r : Rules) (fs : List Frame) (n : Numeral) (f : List ℕ) (e : Option Exponent) → (r.strict && has_leading_zero n.whole) ≡ false → end_digits r fs (stage_of f e) n ≡ end_plain (finish r fs n)
+pub end-finishes : (r : Rules) (fs : List Frame) (n : Numeral) (f : List ℕ) (e : Option Exponent) → (r.strict && has_leading_zero n.whole) ≡ false → end_digits r fs (stage_of f e) n ≡ end_plain (finish r fs n)
 end-finishes r fs n [] None h = rw h
 end-finishes r fs n (d ∷ ds) None h = refl
 end-finishes r fs n [] (Some e) h = refl

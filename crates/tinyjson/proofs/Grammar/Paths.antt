@@ -4,7 +4,7 @@ use Rattle.std.proofs.lemmas.Bool.{false≢true, cases_Bool}
 use Rattle.tinyjson.specs.Tree.{key_of, Tree, Members, no_members, put}
 use Rattle.tinyjson.specs.Syntax.{Syntax, array, object, null, Elements, last_element, element, Pairs, last_pair, pair, text, elements_text, pairs_text, AreWhite, IsSpelled, AreElements, ArePairs, is_key, IsStrict, ElementsAreStrict, PairsAreStrict, depth, elements_depth, pairs_depth, IsWithin, tree_of, elements_trees, pairs_members}
 use Rattle.tinyjson.specs.Grammar.{IsLoose}
-use Rattle.tinyjson.specs.Continuation.{Element, Pair, element_text, pair_text, elements_before, pairs_before, IsValue, IsElement, IsPair, AreElementsBefore, ArePairsBefore, elements_deepest, pairs_deepest}
+use Rattle.tinyjson.specs.Prefix.{Element, Pair, element_text, pair_text, elements_before, pairs_before, IsValue, IsElement, IsPair, AreElementsBefore, ArePairsBefore, elements_deepest, pairs_deepest}
 use Rattle.tinyjson.specs.Machine
 use Rattle.tinyjson.specs.Machine.{Frame}
 

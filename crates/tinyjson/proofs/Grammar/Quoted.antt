@@ -11,10 +11,12 @@ use Rattle.tinyjson.specs.declared.parser.error.JsonParseErrorKind.TheVariants.{
 use Rattle.tinyjson.specs.Machine.{Frame, Phase, first, awaited, word, digits, quoted, colon, after, finished, Stage, Within, Next, next, stop, Rules, complete, complete_key, step_plain, step_awaited, step_first, step_word, step_quoted, step_escape, flush, start, push_frame, step_after, step_colon, fits}
 use Rattle.tinyjson.specs.Machine
 use Rattle.tinyjson.specs.Refusal.{IsHex, AreUnits, EndsRun}
+use Rattle.tinyjson.specs.Refusal as refusal
 use Rattle.tinyjson.proofs.Grammar.Paths.{Path, path_text, path_frames, IsPath}
 use Rattle.tinyjson.proofs.Grammar.Spelt.{pieces-append, are_pieces_append, within_text, IsPartWithin, IsSettled, Quad, quads, values, in_quoted, Spells, flat_within, Ending, ends-loosely}
-use Rattle.tinyjson.proofs.Grammar.Viable.{quoted-prompt, within-late}
+use Rattle.tinyjson.proofs.Grammar.Viable.{quoted-prompt, within-late, settled-strict}
 use Rattle.tinyjson.proofs.Grammar.Told.{Told, Follows, either, at_code}
+use Rattle.tinyjson.proofs.Grammar.Awaits.{begins-at}
 use Rattle.tinyjson.proofs.Grammar.Whole.{complete-follows}
 use Rattle.tinyjson.proofs.Grammar.Units.{codes-quads, settle-more, settle-end, settle-paired}
 use Rattle.tinyjson.proofs.Grammar.Strings.{scalar-no_surrogate, escape-no_surrogate}
@@ -34,6 +36,14 @@ string_text p ps qs end = path_text p ++ 34 ∷ (pieces_text ps ++ (pieces_text 
 
 pub string-longer : (a ps qs wi : List ℕ) (c : ℕ) → (a ++ 34 ∷ (ps ++ (qs ++ wi))) ++ c ∷ [] ≡ a ++ 34 ∷ (ps ++ (qs ++ (wi ++ c ∷ [])))
 string-longer a ps qs wi c = simp append_assoc
+
+are_units : (xs : List Quad) → ArePieces (quads xs) → AreUnits (quads xs)
+are_units [] i = tt
+are_units (x ∷ xs) i = (i.0, are_units xs i.1)
+
+-- the list ends within a string
+pub in-string : (limit : Option ℕ) (p : Path) (ps : List Piece) (cs : List ℕ) (qs : List Quad) → InString limit p ps cs qs → (used end : List ℕ) → used ≡ string_text p ps qs end → refusal.InString limit used (quads qs) end
+in-string limit p ps cs qs h used end e = record { pieces = ps; are_pieces = h.pieces; are_paired = settled-strict ps cs h.settled; are_units = are_units qs h.run; begins = begins-at limit p h.path used _ e }
 
 -- the character is taken, and the string goes on
 pub string-goes : (limit : Option ℕ) (p : Path) (ps : List Piece) (cs : List ℕ) (qs : List Quad) → InString limit p ps cs qs → (w v : Within) (c : ℕ) → IsPartWithin v → within_text v ≡ within_text w ++ c ∷ [] →
@@ -63,16 +73,12 @@ pub utf16-told : (limit : Option ℕ) (p : Path) (ps : List Piece) (cs : List �
     EndsRun (within_text w ++ c ∷ []) → Ending (34 ∷ (pieces_text ps ++ (pieces_text (quads qs) ++ (within_text w ++ c ∷ [])))) → (more : List ℕ) →
     Told limit InvalidUtf16 (string_text p ps qs (within_text w) ++ c ∷ []) more
 utf16-told limit p ps cs qs h hd w c hw hr he more = (
-  (quads qs, within_text w ++ c ∷ [], are_units qs h.run, ap paired (codes-quads qs) ∙ hd, hr, (path_text p ++ 34 ∷ pieces_text ps, simp append_assoc)),
+  (quads qs, within_text w ++ c ∷ [], ap paired (codes-quads qs) ∙ hd, hr, in-string limit p ps cs qs h _ _ (string-longer (path_text p) (pieces_text ps) (pieces_text (quads qs)) (within_text w) c)),
   (
     (c, rw (string-longer (path_text p) (pieces_text ps) (pieces_text (quads qs)) (within_text w) c) (quoted-prompt limit p h.path ps cs h.pieces h.settled qs h.run (within_text w) (within-late w hw) (c ∷ []))),
     rw (string-longer (path_text p) (pieces_text ps) (pieces_text (quads qs)) (within_text w) c) (ends-loosely limit p h.path _ he),
   ),
 )
-  where
-    are_units : (xs : List Quad) → ArePieces (quads xs) → AreUnits (quads xs)
-    are_units [] i = tt
-    are_units (x ∷ xs) i = (i.0, are_units xs i.1)
 
 -- with a piece, or with the closing quote
 piece-ending : (ps : List Piece) (qs : List Quad) → ArePieces ps → ArePieces (quads qs) → (e : Piece) → IsPiece e → (end : List ℕ) → end ≡ piece_text e → Ending (34 ∷ (pieces_text ps ++ (pieces_text (quads qs) ++ end)))
@@ -99,7 +105,7 @@ quote-follows : (limit : Option ℕ) (p : Path) (ps : List Piece) (cs : List ℕ
 quote-follows limit p ps cs qs h c e hd =
     let s : Syntax = Syntax.string (ps ++ quads qs) in
     subst (λ xs. Follows limit (string_text p ps qs []) (path_frames p) (quoted Machine.plain cs (values qs)) c (complete true (path_frames p) (tree.string xs) true)) (settle-end ps cs h.settled qs)
-    (complete-follows limit p h.path s (record { spelled = are_pieces_append ps _ h.pieces h.run; strict = settle-paired ps cs h.settled qs ∙ hd }) (flat_within limit p s h.path refl) _ _ _ c
+    (complete-follows limit p h.path s (record { spelled = are_pieces_append ps _ h.pieces h.run; strict = settle-paired ps cs h.settled qs ∙ hd }) (flat_within limit p s h.path refl) (λ rest. tt) _ _ _ c
     (string-longer (path_text p) (pieces_text ps) (pieces_text (quads qs)) [] c ∙ ap (λ xs. path_text p ++ 34 ∷ xs) (rw e (simp (pieces-append, append_assoc)))))
 
 plain-piece : (c : ℕ) → IsScalar c → (c == 34) ≡ false → (c == 92) ≡ false → nat_lt c 32 ≡ false → IsPiece (Piece.plain c)
@@ -116,7 +122,7 @@ plain-follows limit p ps cs qs h c hc =
     either limit _ _ _ c (nat_lt c 32) _ _
     (λ e. (
       (λ more. (
-        (((path_text p ++ 34 ∷ (pieces_text ps ++ (pieces_text (quads qs) ++ [])), refl), ltb-true c 32 e)),
+        ((quads qs, in-string limit p ps cs qs h _ _ (string-longer (path_text p) (pieces_text ps) (pieces_text (quads qs)) [] c)), ltb-true c 32 e),
         (
           rw (string-longer (path_text p) (pieces_text ps) (pieces_text (quads qs)) [] c) (quoted-prompt limit p h.path ps cs h.pieces h.settled qs h.run [] tt (c ∷ [])),
           (
@@ -140,7 +146,7 @@ escape-follows limit p ps cs qs h c None i =
     (λ e. string-goes limit p ps cs qs h Machine.backslash (Machine.hex []) c (tt, omega arith) (ap (λ x. 92 ∷ x ∷ []) (sym e)))
     (λ hn. (
       (λ more. (
-        ((path_text p ++ 34 ∷ (pieces_text ps ++ pieces_text (quads qs)), simp append_assoc), i, (λ e. eqb-false c 117 hn e)),
+        ((quads qs, in-string limit p ps cs qs h _ _ (string-longer (path_text p) (pieces_text ps) (pieces_text (quads qs)) (92 ∷ []) c)), i, (λ e. eqb-false c 117 hn e)),
         rw (string-longer (path_text p) (pieces_text ps) (pieces_text (quads qs)) (92 ∷ []) c) (quoted-prompt limit p h.path ps cs h.pieces h.settled qs h.run (92 ∷ []) (refl, tt) (c ∷ [])),
       )),
       tt,
@@ -168,7 +174,7 @@ hex-append (d ∷ ds) c h i = (h.0, hex-append ds c h.1 i)
 hex-told : (limit : Option ℕ) (p : Path) (ps : List Piece) (cs : List ℕ) (qs : List Quad) → InString limit p ps cs qs → (ds : List ℕ) → IsPartWithin (Machine.hex ds) → (c : ℕ) → is_hex c ≡ false → (more : List ℕ) →
     Told limit (InvalidHexDigit c) (string_text p ps qs (92 ∷ 117 ∷ ds) ++ c ∷ []) more
 hex-told limit p ps cs qs h ds hw c hc more = (
-  (ds, hw.1, hw.0, hc, (path_text p ++ 34 ∷ (pieces_text ps ++ pieces_text (quads qs)), simp append_assoc)),
+  (ds, hw.1, hw.0, hc, (quads qs, in-string limit p ps cs qs h _ _ (string-longer (path_text p) (pieces_text ps) (pieces_text (quads qs)) (92 ∷ 117 ∷ ds) c))),
   rw (string-longer (path_text p) (pieces_text ps) (pieces_text (quads qs)) (92 ∷ 117 ∷ ds) c) (quoted-prompt limit p h.path ps cs h.pieces h.settled qs h.run (92 ∷ 117 ∷ ds) (within-late (Machine.hex ds) hw) (c ∷ [])),
 )
 

@@ -7,12 +7,12 @@ use Rattle.tinyjson.specs.Kind.{kind_of}
 use Rattle.tinyjson.specs.Tree.{Tree}
 use Rattle.tinyjson.specs.Syntax.{tree_of}
 use Rattle.tinyjson.specs.Grammar.{IsLoose, IsText, IsAccepted}
-use Rattle.tinyjson.specs.Continuation.{IsViable, IsFaultless, IsCutOffText}
+use Rattle.tinyjson.specs.Prefix.{IsViable, IsFaultless, IsCutOffText}
 use Rattle.tinyjson.specs.Machine.{Rules, Frame, Phase, awaited, Next, next, stop, Outcome, accepted, refused, step, end, run, go_on}
 use Rattle.tinyjson.specs.declared.parser.error.JsonParseErrorKind.{JsonParseErrorKind}
 use Rattle.tinyjson.specs.declared.parser.error.JsonParseErrorKind.TheVariants.{UnexpectedEof, InvalidCharacter, ExpectedEof, KeyNotString, ExpectedColon, ExpectedCommaOrBrace, ExpectedCommaOrBracket, InvalidUtf16, InvalidHexDigit, InvalidEscape, ControlCharacter, UnexpectedInLiteral, EmptyInteger, LeadingZero, EmptyFraction, EmptyExponent, NumberOutOfRange, OutOfMemory, TooDeep}
-use Rattle.tinyjson.specs.Refusal.{PlaceSays, NoStringAt, AwaitsAt, IsRefusal}
-use Rattle.tinyjson.specs.Continuation.{IsLooselyViable}
+use Rattle.tinyjson.specs.Refusal.{PlaceSays, NoStringAt, AwaitsAt, IsNotTooLate, IsRefusal}
+use Rattle.tinyjson.specs.Prefix.{IsLooselyViable}
 use Rattle.tinyjson.proofs.Grammar.Paths.{outside}
 use Rattle.tinyjson.proofs.Grammar.Faultless.{viable-before}
 use Rattle.tinyjson.proofs.Grammar.Spelt.{Ranges, Spells, at_awaited}
@@ -101,7 +101,7 @@ abbrev no-string-at : (limit : Option ℕ) (used front : List ℕ) (c d : ℕ) �
 no-string-at limit used front c d e m n = record { front = front; ends = e; faultless = m; no_string = subst (λ xs. ¬ IsLooselyViable limit (xs ++ 34 ∷ [])) (same_front used front c d e) n }
 
 awaits-at : (limit : Option ℕ) (used : List ℕ) (c d n : ℕ) → Comes limit (used ++ c ∷ []) d n → ¬ IsLooselyViable limit (used ++ 34 ∷ []) → AwaitsAt limit (used ++ c ∷ []) d n
-awaits-at limit used c d n h q = record { place = no-string-at limit used h.0 c d h.1 h.2 q; viable = h.3 }
+awaits-at limit used c d n h q = record { place = no-string-at limit used h.0 c d h.1 h.2 q; without_fault = h.3 }
 
 -- of a kind that takes its character
 place-taken : (limit : Option ℕ) (used : List ℕ) (fs : List Frame) (q : Phase) (c : ℕ) (k : JsonParseErrorKind) → Reached limit used fs q → step (strictly limit) fs q c ≡ stop k true → Cut limit k true fs q → Place limit k (used ++ c ∷ []) → PlaceSays limit k (used ++ c ∷ [])
@@ -149,13 +149,10 @@ place-left limit used fs q OutOfMemory h x p = elim x [ ]
 
 -- ---- without its last character it is viable in the loose grammar
 
-abbrev pub NotTooLate : Option ℕ → List ℕ → Type 0
-NotTooLate limit used = (front : List ℕ) (c : ℕ) → used ≡ front ++ c ∷ [] → IsLooselyViable limit front
-
-pub late-one : (limit : Option ℕ) (used : List ℕ) (c : ℕ) → IsLooselyViable limit used → NotTooLate limit (used ++ c ∷ [])
+pub late-one : (limit : Option ℕ) (used : List ℕ) (c : ℕ) → IsLooselyViable limit used → IsNotTooLate limit (used ++ c ∷ [])
 late-one limit used c h front d e = subst (IsLooselyViable limit) (same_front used front c d e) h
 
-pub late-none : (limit : Option ℕ) (used : List ℕ) → IsLooselyViable limit used → NotTooLate limit used
+pub late-none : (limit : Option ℕ) (used : List ℕ) → IsLooselyViable limit used → IsNotTooLate limit used
 late-none limit used h front d e = viable-before (IsLoose limit) front (d ∷ []) (subst (IsLooselyViable limit) e h)
 
 -- ---- the refusal

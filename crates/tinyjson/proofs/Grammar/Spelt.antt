@@ -4,13 +4,13 @@ use Rattle.std.specs.Prelude.{⊤, IfSome}
 use Rattle.tinyjson.specs.Tree.{key_of}
 use Rattle.tinyjson.specs.Characters.{unit_of, decode, paired}
 use Rattle.tinyjson_number.specs.Numeral.{Numeral, Exponent, IsExponent, AreDigits, has_leading_zero, minus_text, fraction_text, sign_text, value, in_range}
-use Rattle.tinyjson.specs.Syntax.{Syntax, text, AreWhite, IsSpelled, depth, IsWithin, tree_of, Piece, unit, ArePieces, codes, pieces_text}
+use Rattle.tinyjson.specs.Syntax.{Syntax, text, AreWhite, IsSpelled, depth, IsWithin, tree_of, Piece, unit, ArePieces, piece_codes, pieces_text}
 use Rattle.tinyjson.specs.Grammar.{IsLoose}
-use Rattle.tinyjson.specs.Continuation.{IsValue}
+use Rattle.tinyjson.specs.Prefix.{IsValue}
 use Rattle.tinyjson.specs.Machine.{Frame, Phase, first, awaited, word, digits, quoted, colon, after, finished, Stage, Within, Next, next, stop, Rules}
 use Rattle.tinyjson.specs.Machine
-use Rattle.tinyjson.specs.Continuation.{IsLooselyViable}
-use Rattle.tinyjson.specs.Refusal.{IsLiteral, IsHex}
+use Rattle.tinyjson.specs.Prefix.{IsLooselyViable}
+use Rattle.tinyjson.specs.Refusal.{IsLiteral, IsHex, EndsBefore}
 use Rattle.tinyjson_number.specs.Numeral.{is_sign}
 use Rattle.tinyjson_number.specs.Numeral.{is_exponent_letter}
 use Rattle.tinyjson.proofs.Grammar.Paths.{IsKey, Path, outside, item_in, key_in, value_in, path_text, path_frames, trees_of, members_from, level, IsPath, within_le, closes, closing}
@@ -95,7 +95,7 @@ values (q ∷ qs) = unit_of 0 (q.a ∷ q.b ∷ q.c ∷ q.d ∷ []) ∷ values qs
 
 -- whatever follows, the pieces stand for these characters
 abbrev pub IsSettled : List Piece → List ℕ → Type 0
-IsSettled ps cs = (qs : List Piece) → (decode (codes (ps ++ qs)) ≡ cs ++ decode (codes qs)) × (paired (codes (ps ++ qs)) ≡ paired (codes qs))
+IsSettled ps cs = (qs : List Piece) → (decode (piece_codes (ps ++ qs)) ≡ cs ++ decode (piece_codes qs)) × (paired (piece_codes (ps ++ qs)) ≡ paired (piece_codes qs))
 
 abbrev pub within_text : Within → List ℕ
 within_text Machine.plain = []
@@ -174,6 +174,7 @@ pub record IsWord (s : Syntax) (done left : List ℕ) : Type 0 where
   pub flat : depth s ≡ 0
   pub literal : IsLiteral (text s)
   pub whole : text s ≡ done ++ left
+  pub no_number : (rest : List ℕ) → EndsBefore s rest
   pub begun : 0 < length done
   pub more : 0 < length left
 

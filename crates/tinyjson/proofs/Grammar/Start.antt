@@ -1,5 +1,5 @@
 -- What comes of the first character of a value, and of a letter of a literal.
-use Rattle.std.proofs.Common.{IsSome, suc, ◌≡◌, ℕ, ◌+◌, true, false, List, [], ◌∷◌, ◌++◌, Option, Some, None, refl, ap, sym, ◌∙◌, append_assoc, arith, length, subst, ◌⊎◌, inl, inr, IsTrue, ◌==◌}
+use Rattle.std.proofs.Common.{IsSome, suc, ◌≡◌, ℕ, ◌+◌, true, false, List, [], ◌∷◌, ◌++◌, Option, Some, None, refl, ap, sym, append_assoc, arith, length, ◌⊎◌, inl, inr, IsTrue, ◌==◌}
 use Rattle.std.specs.Char.{is_ascii_digit}
 use Rattle.std.proofs.lemmas.Bool.{ltb-true, or_from}
 use Rattle.tinyjson.specs.Machine.{strictly}
@@ -8,33 +8,13 @@ use Rattle.tinyjson.specs.Characters.{is_white}
 use Rattle.tinyjson.specs.Syntax.{Syntax, null, empty_array, empty_object, IsWithin, tree_of}
 use Rattle.tinyjson.specs.Machine.{Frame, Phase, first, awaited, word, digits, quoted, colon, after, finished, Stage, Within, Next, next, stop, Rules, complete, complete_key, step_plain, step_awaited, step_first, step_word, start, push_frame, step_after, step_colon, fits}
 use Rattle.tinyjson.specs.Machine
-use Rattle.tinyjson.specs.Continuation.{IsLooselyViable}
-use Rattle.tinyjson.specs.Refusal.{AwaitsValue, begins_value}
+use Rattle.tinyjson.specs.Refusal.{begins_value}
 use Rattle.tinyjson.proofs.Grammar.Paths.{Path, outside, item_in, key_in, value_in, path_text, path_frames, level, IsPath}
-use Rattle.tinyjson.proofs.Grammar.Spelt.{at_first, at_awaited, in_word, in_digits, in_quoted, part_minus, part_whole, IsFresh, IsWord, Spells, ends-loosely, are_white_append}
-use Rattle.tinyjson.proofs.Grammar.Viable.{faultless-place}
+use Rattle.tinyjson.proofs.Grammar.Spelt.{at_first, at_awaited, in_word, in_digits, in_quoted, part_minus, part_whole, IsFresh, IsWord, Spells}
+use Rattle.tinyjson.proofs.Grammar.Awaits.{whiter, whiter-text, whiter-path, awaits-value}
 use Rattle.tinyjson.proofs.Grammar.Told.{Follows, either, at_code}
 use Rattle.tinyjson.proofs.Grammar.Whole.{complete-follows}
 use Rattle.tinyjson.proofs.Grammar.Units.{settled-start}
-
--- one more white character
-abbrev pub whiter : Path → ℕ → Path
-whiter (outside w) c = outside (w ++ c ∷ [])
-whiter (item_in p es w) c = item_in p es (w ++ c ∷ [])
-whiter (key_in p ps w) c = key_in p ps (w ++ c ∷ [])
-whiter (value_in p ps a k b w) c = value_in p ps a k b (w ++ c ∷ [])
-
-pub whiter-text : (p : Path) (c : ℕ) → path_text p ++ c ∷ [] ≡ path_text (whiter p c)
-whiter-text (outside w) c = refl
-whiter-text (item_in p es w) c = simp append_assoc
-whiter-text (key_in p ps w) c = simp append_assoc
-whiter-text (value_in p ps a k b w) c = simp append_assoc
-
-pub whiter-path : (limit : Option ℕ) (p : Path) → IsPath limit p → (c : ℕ) → IsTrue (is_white c) → IsPath limit (whiter p c)
-whiter-path limit (outside w) h c hc = are_white_append w (c ∷ []) h (hc, tt)
-whiter-path limit (item_in p es w) h c hc = (h.0, h.1, are_white_append w (c ∷ []) h.2 (hc, tt), h.3)
-whiter-path limit (key_in p ps w) h c hc = (h.0, h.1, are_white_append w (c ∷ []) h.2 (hc, tt), h.3)
-whiter-path limit (value_in p ps a k b w) h c hc = (h.0, h.1, h.2, h.3, h.4, h.5, are_white_append w (c ∷ []) h.6 (hc, tt), h.7)
 
 pub whiter-fresh : (p : Path) (c : ℕ) → IsFresh p → IsFresh (whiter p c)
 whiter-fresh (outside w) c h = h
@@ -67,11 +47,6 @@ limited (Some l) n h = refl
 pub none_begins : (c : ℕ) → (c == 110) ≡ false → (c == 116) ≡ false → (c == 102) ≡ false → (c == 34) ≡ false → (c == 91) ≡ false → (c == 123) ≡ false → (c == 45) ≡ false → is_ascii_digit c ≡ false → begins_value c ≡ false
 none_begins c a b d e f g h i = or_from _ _ a (or_from _ _ b (or_from _ _ d (or_from _ _ e (or_from _ _ f (or_from _ _ g (or_from _ _ h i))))))
 
-pub awaits-value : (limit : Option ℕ) (p : Path) → IsPath limit p → AwaitsValue limit (path_text p)
-awaits-value limit p hp =
-    let a : IsLooselyViable limit (path_text (whiter p 10) ++ 34 ∷ []) = ends-loosely limit (whiter p 10) (whiter-path limit p hp 10 refl) (34 ∷ []) (record { value = Syntax.string []; spelled = tt; flat = refl; rest = 34 ∷ []; whole = refl }) in
-    (faultless-place limit p hp, subst (IsLooselyViable limit) (ap (λ xs. xs ++ 34 ∷ []) (sym (whiter-text p 10)) ∙ append_assoc (path_text p) (10 ∷ []) (34 ∷ [])) a)
-
 pub word-begun : (limit : Option ℕ) (p : Path) → IsPath limit p → (s : Syntax) (c n : ℕ) (left : List ℕ) → IsWord s (n ∷ []) left → c ≡ n → Spells limit (path_text p ++ c ∷ []) (path_frames p) (word left (tree_of s))
 word-begun limit p hp s c n left h e = record { read = in_word p s (n ∷ []) left; is = (hp, h); whole = ap (λ x. path_text p ++ x ∷ []) e; frames = refl; phase = refl }
 
@@ -84,9 +59,9 @@ push-follows limit p q f c hp hc hf ht hq h fs a =
 
 pub start-follows : (limit : Option ℕ) (p : Path) → IsPath limit p → (c : ℕ) → is_white c ≡ false → (fs : List Frame) (a : Phase) → Follows limit (path_text p) fs a c (start (strictly limit) (path_frames p) c)
 start-follows limit p hp c hw fs a =
-    at_code limit _ _ _ c 110 _ _ (λ e. word-begun limit p hp null c 110 _ (record { value = record { spelled = tt; strict = tt }; flat = refl; literal = inl refl; whole = refl; begun = omega arith; more = omega arith }) e) (λ h0.
-    at_code limit _ _ _ c 116 _ _ (λ e. word-begun limit p hp (Syntax.boolean true) c 116 _ (record { value = record { spelled = tt; strict = tt }; flat = refl; literal = inr (inl refl); whole = refl; begun = omega arith; more = omega arith }) e) (λ h1.
-    at_code limit _ _ _ c 102 _ _ (λ e. word-begun limit p hp (Syntax.boolean false) c 102 _ (record { value = record { spelled = tt; strict = tt }; flat = refl; literal = inr (inr refl); whole = refl; begun = omega arith; more = omega arith }) e) (λ h2.
+    at_code limit _ _ _ c 110 _ _ (λ e. word-begun limit p hp null c 110 _ (record { value = record { spelled = tt; strict = tt }; flat = refl; literal = inl refl; whole = refl; no_number = λ rest. tt; begun = omega arith; more = omega arith }) e) (λ h0.
+    at_code limit _ _ _ c 116 _ _ (λ e. word-begun limit p hp (Syntax.boolean true) c 116 _ (record { value = record { spelled = tt; strict = tt }; flat = refl; literal = inr (inl refl); whole = refl; no_number = λ rest. tt; begun = omega arith; more = omega arith }) e) (λ h1.
+    at_code limit _ _ _ c 102 _ _ (λ e. word-begun limit p hp (Syntax.boolean false) c 102 _ (record { value = record { spelled = tt; strict = tt }; flat = refl; literal = inr (inr refl); whole = refl; no_number = λ rest. tt; begun = omega arith; more = omega arith }) e) (λ h2.
     at_code limit _ _ _ c 34 _ _ (λ e. record { read = in_quoted p [] [] [] Machine.plain; is = (hp, tt, settled-start, tt, tt); whole = ap (λ x. path_text p ++ x ∷ []) e; frames = refl; phase = refl }) (λ h3.
     at_code limit _ _ _ c 91 _ _ (λ e. push-follows limit p (item_in p [] []) (Machine.in_array []) c hp (inl e) refl (ap (λ x. path_text p ++ x ∷ []) e) tt (λ i. (hp, tt, tt, i)) fs a) (λ h4.
     at_code limit _ _ _ c 123 _ _ (λ e. push-follows limit p (key_in p [] []) (Machine.at_key no_members) c hp (inr e) refl (ap (λ x. path_text p ++ x ∷ []) e) tt (λ i. (hp, tt, tt, i)) fs a) (λ h5.
@@ -104,12 +79,12 @@ pub first-follows : (limit : Option ℕ) (p : Path) → IsPath limit p → IsFre
 first-follows limit (outside w) hp hf c hc = elim hf [ ]
 first-follows limit (item_in p [] w) hp hf c hc =
     at_code limit _ _ _ c 93 _ _
-    (λ e. complete-follows limit p hp.0 (empty_array w) (record { spelled = hp.2; strict = tt }) hp.3 _ _ _ c (rw e (simp append_assoc)))
+    (λ e. complete-follows limit p hp.0 (empty_array w) (record { spelled = hp.2; strict = tt }) hp.3 (λ rest. tt) _ _ _ c (rw e (simp append_assoc)))
     (λ e. start-follows limit (item_in p [] w) hp c hc _ _)
 first-follows limit (item_in p (e ∷ es) w) hp hf c hc = elim hf [ ]
 first-follows limit (key_in p [] w) hp hf c hc =
     at_code limit _ _ _ c 125 _ _
-    (λ e. complete-follows limit p hp.0 (empty_object w) (record { spelled = hp.2; strict = tt }) hp.3 _ _ _ c (rw e (simp append_assoc)))
+    (λ e. complete-follows limit p hp.0 (empty_object w) (record { spelled = hp.2; strict = tt }) hp.3 (λ rest. tt) _ _ _ c (rw e (simp append_assoc)))
     (λ e. start-follows limit (key_in p [] w) hp c hc _ _)
 first-follows limit (key_in p (q ∷ qs) w) hp hf c hc = elim hf [ ]
 first-follows limit (value_in p ps a k b w) hp hf c hc = elim hf [ ]

@@ -5,11 +5,11 @@ use Rattle.std.specs.Char.{IsScalar}
 use Rattle.std.proofs.lemmas.Bool.{and_right, or_parts, true≢false, false≢true}
 use Rattle.tinyjson.specs.Tree.{Tree}
 use Rattle.tinyjson.specs.Characters.{short_escape, is_high, is_low, pair_of, is_surrogate, decode, paired}
-use Rattle.tinyjson.specs.Syntax.{Piece, pieces_text, ArePieces, codes, unit_value}
+use Rattle.tinyjson.specs.Syntax.{Piece, pieces_text, ArePieces, piece_codes, unit_value}
 use Rattle.tinyjson.specs.Machine.{Rules, Frame, awaited, complete, step, run, go_on, quoted, plain, step_escape}
 use Rattle.tinyjson.proofs.Grammar.Runs.{settle, settle-complete, and-false}
 
--- ---- codes
+-- ---- piece_codes
 
 cond-append : (b : Bool) (x y z : List ℕ) → (cond b x y) ++ z ≡ cond b (x ++ z) (y ++ z)
 cond-append true x y z = refl
@@ -59,7 +59,7 @@ escape-no_surrogate c d =
     escape-cond ((c == 34) || ((c == 92) || (c == 47))) c d _ (itself-no_surrogate c) (escape-cond (c == 98) 8 d _ (λ e. refl) (escape-cond (c == 102) 12 d _ (λ e. refl)
     (escape-cond (c == 110) 10 d _ (λ e. refl) (escape-cond (c == 114) 13 d _ (λ e. refl) (escape-cond (c == 116) 9 d None (λ e. refl) (λ e. absurd cc))))))
 
-some-unwrap : (o : Option ℕ) → IsSome o → o ≡ Some (unwrap_or o 0)
+pub some-unwrap : (o : Option ℕ) → IsSome o → o ≡ Some (unwrap_or o 0)
 some-unwrap None h = absurd (false≢true h)
 some-unwrap (Some d) h = refl
 
@@ -82,38 +82,38 @@ fine-parts : (s : Bool) (us : List ℕ) (c : ℕ) (vs : List ℕ) → is_surroga
 fine-parts s us c vs h f = let g : (s && not (paired us && paired vs)) ≡ false = rw (← paired-append us c vs h) f in
     (front-fine s (paired us) (paired vs) g, rest-fine s (paired us) (paired vs) g)
 
-plain-no_quote : (c : ℕ) → IsTrue (not ((c == 34) || (c == 92))) → (c == 34) ≡ false
+pub plain-no_quote : (c : ℕ) → IsTrue (not ((c == 34) || (c == 92))) → (c == 34) ≡ false
 plain-no_quote c h = grind arith
 
-plain-no_backslash : (c : ℕ) → IsTrue (not ((c == 34) || (c == 92))) → (c == 92) ≡ false
+pub plain-no_backslash : (c : ℕ) → IsTrue (not ((c == 34) || (c == 92))) → (c == 92) ≡ false
 plain-no_backslash c h = grind arith
 
-plain-no_control : (c : ℕ) → 32 ≤ c → nat_lt c 32 ≡ false
+pub plain-no_control : (c : ℕ) → 32 ≤ c → nat_lt c 32 ≡ false
 plain-no_control c h = grind arith
 
-run-pieces : (r : Rules) (fs : List Frame) (cs us : List ℕ) (ps : List Piece) (xs : List ℕ) → ArePieces ps → (r.strict && not (paired (us ++ codes ps))) ≡ false →
-    run r fs (quoted plain cs us) (pieces_text ps ++ 34 ∷ xs) ≡ settle r (complete r.strict fs (Tree.string (cs ++ decode (us ++ codes ps))) true) xs
+run-pieces : (r : Rules) (fs : List Frame) (cs us : List ℕ) (ps : List Piece) (xs : List ℕ) → ArePieces ps → (r.strict && not (paired (us ++ piece_codes ps))) ≡ false →
+    run r fs (quoted plain cs us) (pieces_text ps ++ 34 ∷ xs) ≡ settle r (complete r.strict fs (Tree.string (cs ++ decode (us ++ piece_codes ps))) true) xs
 unfolding run step
 run-pieces r fs cs us [] xs h f =
     let f' : (r.strict && not (paired us)) ≡ false = rw (append-nil us) at f in
     rw (f', append-nil us) (settle-complete r r.strict fs (Tree.string (cs ++ decode us)) 34 xs)
 run-pieces r fs cs us (Piece.plain c ∷ ps) xs h f =
     let n = scalar-no_surrogate c h.0.0 in
-    let g = fine-parts r.strict us c (codes ps) n f in
-    rw (plain-no_quote c h.0.2, plain-no_backslash c h.0.2, plain-no_control c h.0.1, g.0, ← append-codes cs us c (codes ps) n) (run-pieces r fs ((cs ++ decode us) ++ c ∷ []) [] ps xs h.1 g.1)
+    let g = fine-parts r.strict us c (piece_codes ps) n f in
+    rw (plain-no_quote c h.0.2, plain-no_backslash c h.0.2, plain-no_control c h.0.1, g.0, ← append-codes cs us c (piece_codes ps) n) (run-pieces r fs ((cs ++ decode us) ++ c ∷ []) [] ps xs h.1 g.1)
 run-pieces r fs cs us (Piece.escape c ∷ ps) xs h f =
     let e = some-unwrap (short_escape c) h.0 in
     let d = unwrap_or (short_escape c) 0 in
     let n = escape-no_surrogate c d e in
-    let g = fine-parts r.strict us d (codes ps) n f in
+    let g = fine-parts r.strict us d (piece_codes ps) n f in
     ap (λ o. go_on (λ gs q. run r gs q (pieces_text ps ++ 34 ∷ xs)) (step_escape r fs cs us c o) (c ∷ (pieces_text ps ++ 34 ∷ xs)) (pieces_text ps ++ 34 ∷ xs)) e
-    ∙ rw (g.0, ← append-codes cs us d (codes ps) n) (run-pieces r fs ((cs ++ decode us) ++ d ∷ []) [] ps xs h.1 g.1)
+    ∙ rw (g.0, ← append-codes cs us d (piece_codes ps) n) (run-pieces r fs ((cs ++ decode us) ++ d ∷ []) [] ps xs h.1 g.1)
 run-pieces r fs cs us (Piece.unit a b c d ∷ ps) xs h f =
     let u = unit_value a b c d in
-    let f' : (r.strict && not (paired ((us ++ u ∷ []) ++ codes ps))) ≡ false = rw (append_assoc us (u ∷ []) (codes ps)) f in
-    rw (h.0.0, h.0.1, h.0.2, h.0.3) (rw (append_assoc us (u ∷ []) (codes ps)) at (run-pieces r fs cs (us ++ u ∷ []) ps xs h.1 f'))
+    let f' : (r.strict && not (paired ((us ++ u ∷ []) ++ piece_codes ps))) ≡ false = rw (append_assoc us (u ∷ []) (piece_codes ps)) f in
+    rw (h.0.0, h.0.1, h.0.2, h.0.3) (rw (append_assoc us (u ∷ []) (piece_codes ps)) at (run-pieces r fs cs (us ++ u ∷ []) ps xs h.1 f'))
 
-pub run-string : (r : Rules) (fs : List Frame) (ps : List Piece) (xs : List ℕ) → ArePieces ps → (r.strict ≡ true → IsTrue (paired (codes ps))) →
-    run r fs awaited ((34 ∷ (pieces_text ps ++ 34 ∷ [])) ++ xs) ≡ settle r (complete r.strict fs (Tree.string (decode (codes ps))) true) xs
+pub run-string : (r : Rules) (fs : List Frame) (ps : List Piece) (xs : List ℕ) → ArePieces ps → (r.strict ≡ true → IsTrue (paired (piece_codes ps))) →
+    run r fs awaited ((34 ∷ (pieces_text ps ++ 34 ∷ [])) ++ xs) ≡ settle r (complete r.strict fs (Tree.string (decode (piece_codes ps))) true) xs
 unfolding run step
 run-string r fs ps xs h f = rw (append_assoc (pieces_text ps) (34 ∷ []) xs) (run-pieces r fs [] [] ps xs h (and-false r.strict _ (λ e. ap not (f e))))

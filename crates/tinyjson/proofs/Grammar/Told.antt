@@ -1,24 +1,25 @@
 -- What a refusal tells, as far as it speaks of what is viable; and what comes of a character.
-use Rattle.std.proofs.Common.{suc, ◌≡◌, ℕ, ◌+◌, Bool, true, false, List, [], ◌∷◌, ◌++◌, Option, refl, ap, sym, ◌∙◌, cond, append_assoc, append-nil, ◌⊎◌, inl, inr, ◌==◌}
+use Rattle.std.proofs.Common.{suc, ◌≡◌, ℕ, ◌+◌, Bool, true, false, List, [], ◌∷◌, ◌++◌, Option, refl, ap, sym, ◌∙◌, cond, append_assoc, append-nil, subst, ◌⊎◌, inl, inr, ◌==◌}
 use Rattle.std.proofs.lemmas.Bool.{eqb-true}
 use Rattle.tinyjson.specs.Machine.{strictly}
 use Rattle.tinyjson.specs.Kind.{kind_of}
 use Rattle.tinyjson.specs.Syntax.{Syntax, text, is_key, depth, IsWithin, tree_of}
-use Rattle.tinyjson.specs.Continuation.{IsFaultless, IsValue, Pair, pairs_before, pair_text}
+use Rattle.tinyjson.specs.Prefix.{IsFaultless, IsValue, Pair, pairs_before, pair_text}
 use Rattle.std.specs.Prelude.{⊤}
 use Rattle.tinyjson.specs.Tree.{Tree}
 use Rattle.tinyjson.specs.Machine.{Frame, Phase, Rules, Next, next, stop, run, accepted, Next, next, stop, Rules}
 use Rattle.tinyjson.specs.declared.parser.error.JsonParseErrorKind.{JsonParseErrorKind}
 use Rattle.tinyjson.specs.declared.parser.error.JsonParseErrorKind.TheVariants.{UnexpectedEof, InvalidCharacter, ExpectedEof, KeyNotString, ExpectedColon, ExpectedCommaOrBrace, ExpectedCommaOrBracket, InvalidUtf16, InvalidHexDigit, InvalidEscape, ControlCharacter, UnexpectedInLiteral, EmptyInteger, LeadingZero, EmptyFraction, EmptyExponent, NumberOutOfRange, OutOfMemory, TooDeep}
-use Rattle.tinyjson.specs.Refusal.{KindSays, IsPromptly, AwaitsValue}
-use Rattle.tinyjson.specs.Continuation.{IsLooselyViable}
+use Rattle.tinyjson.specs.Refusal.{KindSays, IsPromptly, AwaitsValue, EndsBefore}
+use Rattle.tinyjson.specs.Prefix.{IsLooselyViable}
 use Rattle.tinyjson.proofs.Grammar.Paths.{Path, key_in, path_text, level, IsPath, closes, closing}
 use Rattle.tinyjson.proofs.Grammar.Faultless.{faultless}
+use Rattle.tinyjson.proofs.Grammar.Awaits.{awaits-value}
 use Rattle.tinyjson.proofs.Grammar.Spelt.{Spells, loosely-from}
 
--- without its last character c the list is faultless, and viable with next in its place
+-- without its last character c the list is faultless, and with next in its place
 abbrev pub Comes : Option ℕ → List ℕ → ℕ → ℕ → Type 0
-Comes limit used c n = (front : List ℕ) × (used ≡ front ++ c ∷ []) × IsFaultless limit front × IsLooselyViable limit (front ++ n ∷ [])
+Comes limit used c n = (front : List ℕ) × (used ≡ front ++ c ∷ []) × IsFaultless limit front × IsFaultless limit (front ++ n ∷ [])
 
 abbrev pub ComesFaultless : Option ℕ → List ℕ → ℕ → Type 0
 ComesFaultless limit used c = (front : List ℕ) × (used ≡ front ++ c ∷ []) × IsFaultless limit front
@@ -112,11 +113,12 @@ pub regroup : (a b c d : List ℕ) → (a ++ (b ++ c)) ++ d ≡ (a ++ b) ++ (c +
 regroup a b c d = simp append_assoc
 
 pub key-told : (limit : Option ℕ) (p : Path) (ps : List Pair) (w : List ℕ) → IsPath limit (key_in p ps w) → (s : Syntax) → IsValue s → is_key s ≡ false → IsWithin limit (suc (level p) + depth s) →
-    (used : List ℕ) → used ≡ path_text (key_in p ps w) ++ text s → (rest : List ℕ) → Told limit (KeyNotString (kind_of (tree_of s))) used rest
-key-told limit p ps w hp s hs hk hd used e rest =
+    (used : List ℕ) → used ≡ path_text (key_in p ps w) ++ text s → (rest : List ℕ) → EndsBefore s rest → Told limit (KeyNotString (kind_of (tree_of s))) used rest
+key-told limit p ps w hp s hs hk hd used e rest b =
     let o : Opener (path_text p ++ 123 ∷ pairs_before ps) = opener (path_text p) ps in
-    let used_is : used ≡ o.0 ++ o.1 ∷ (w ++ text s) = e ∙ (regroup (path_text p) (123 ∷ pairs_before ps) w (text s) ∙ (ap (λ xs. xs ++ (w ++ text s)) o.3 ∙ append_assoc o.0 (o.1 ∷ []) (w ++ text s))) in (
-      (o.0, w, o.1, s, o.2, hp.2, hs.spelled, hs.strict, hk, refl, used_is),
+    let used_is : used ≡ o.0 ++ o.1 ∷ (w ++ text s) = e ∙ (regroup (path_text p) (123 ∷ pairs_before ps) w (text s) ∙ (ap (λ xs. xs ++ (w ++ text s)) o.3 ∙ append_assoc o.0 (o.1 ∷ []) (w ++ text s))) in
+    let place_is : path_text (key_in p ps w) ≡ o.0 ++ o.1 ∷ w = sym (append_assoc (path_text p) (123 ∷ pairs_before ps) w) ∙ (ap (λ xs. xs ++ w) o.3 ∙ append_assoc o.0 (o.1 ∷ []) w) in (
+      (o.0, w, o.1, s, o.2, hp.2, hs.spelled, hs.strict, hk, refl, used_is, subst (AwaitsValue limit) place_is (awaits-value limit (key_in p ps w) hp), b),
       (
         rw e (rw (sym (append-nil (text s))) (faultless limit (key_in p ps w) hp s hs hd [] tt (inr (hk, refl)))),
         rw e (loosely-from limit _ (48 ∷ 125 ∷ closing p) (simp append_assoc) (closes limit (key_in p ps w) hp s hs.spelled hd [] tt)),

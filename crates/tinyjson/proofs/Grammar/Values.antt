@@ -23,7 +23,7 @@ Begins xs = (c : ℕ) × (cs : List ℕ) × (xs ≡ c ∷ cs) × NoClosing c
 digit-begins : (c : ℕ) → IsTrue (is_ascii_digit c) → NoClosing c
 digit-begins c h = (digit-not_white c h, digit-is_not c 93 h refl, digit-is_not c 125 h refl)
 
-numeral-begins : (g : Bool) (w xs : List ℕ) → 0 < length w → AreDigits w → Begins (minus_text g ++ (w ++ xs))
+pub numeral-begins : (g : Bool) (w xs : List ℕ) → 0 < length w → AreDigits w → Begins (minus_text g ++ (w ++ xs))
 numeral-begins g [] xs h d = absurd (omega (arith, h))
 numeral-begins true (c ∷ cs) xs h d = (_, _, refl, (refl, refl, refl))
 numeral-begins false (c ∷ cs) xs h d = (_, _, refl, (digit-begins c d.0))

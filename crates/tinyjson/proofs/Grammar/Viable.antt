@@ -4,12 +4,12 @@ use Rattle.std.specs.Prelude.{IfSome}
 use Rattle.std.specs.Char.{is_ascii_digit}
 use Rattle.std.proofs.lemmas.Bool.{eqb-true, le-ltb, lt-ltb, leb-true, and_parts, or_left, or_right, or_cases}
 use Rattle.tinyjson.specs.Characters.{is_hex, paired}
-use Rattle.tinyjson_number.specs.Numeral.{Exponent, AreDigits, minus_text, fraction_text, sign_text, exponent_text}
-use Rattle.tinyjson.specs.Syntax.{Syntax, null, text, depth, Piece, unit, ArePieces, codes, pieces_text}
-use Rattle.tinyjson.specs.Continuation.{IsFaultless, IsValue}
+use Rattle.tinyjson_number.specs.Numeral.{Exponent, IsNumeral, AreDigits, minus_text, fraction_text, sign_text, exponent_text, value}
+use Rattle.tinyjson.specs.Syntax.{Syntax, null, text, depth, Piece, unit, ArePieces, piece_codes, pieces_text}
+use Rattle.tinyjson.specs.Prefix.{IsFaultless, IsValue}
 use Rattle.tinyjson.specs.Machine.{Frame, Phase, Stage, Within}
 use Rattle.tinyjson.specs.Machine
-use Rattle.tinyjson.specs.Continuation.{IsLooselyViable}
+use Rattle.tinyjson.specs.Prefix.{IsLooselyViable}
 use Rattle.tinyjson.specs.Refusal.{IsPromptly, AreLate, is_late, IsHex}
 use Rattle.tinyjson_number.specs.Numeral.{is_sign}
 use Rattle.tinyjson_number.specs.Numeral.{is_exponent_letter}
@@ -139,6 +139,17 @@ module _ (ranges : Ranges) where
   faultless-point limit p hp b d ds h =
       faultless-from limit (path_text p ++ (minus_text b ++ d ∷ (ds ++ 46 ∷ []))) (48 ∷ []) _ (simp append_assoc) (faultless-number limit p hp b d ds (48 ∷ []) h (refl, tt))
 
+  pub faultless-letter : (limit : Option ℕ) (p : Path) → IsPath limit p → (b : Bool) (d : ℕ) (ds f : List ℕ) → IsWhole d ds → AreDigits f → (l : ℕ) → IsTrue (is_exponent_letter l) →
+      IsFaultless limit (path_text p ++ (minus_text b ++ d ∷ (ds ++ (fraction_text f ++ l ∷ []))))
+  unfolding value
+  faultless-letter limit p hp b d ds f h i l hl =
+      let r = ranges b (d ∷ ds) f h.0 i in
+      let e : Exponent = exponent_with l r.0.sign r.0.digits in
+      let s : Syntax = Syntax.number (numeral b (d ∷ ds) f (Some e)) in
+      let is : IsNumeral (numeral b (d ∷ ds) f (Some e)) = record { whole = h.0; some_digit = omega arith; fraction = i; exponent = record { letter = hl; sign = r.1.sign; digits = r.1.digits; some_digit = r.1.some_digit } } in
+      faultless-from limit (path_text p ++ (minus_text b ++ d ∷ (ds ++ (fraction_text f ++ l ∷ [])))) (sign_text r.0.sign ++ r.0.digits) (path_text p ++ (text s ++ [])) (simp (append_assoc, append-nil))
+      (faultless limit p hp s (record { spelled = is; strict = (rw h.1 refl, r.2) }) (flat_within limit p s hp refl) [] tt (placed p s))
+
   pub part-prompt : (limit : Option ℕ) (p : Path) → IsPath limit p → (n : Part) → IsPart n → IsPromptly limit (path_text p ++ part_text n) []
   part-prompt limit p hp part_minus h = record { front = path_text p ++ 45 ∷ []; late = []; whole = simp append-nil; faultless = faultless-minus limit p hp; are_late = tt }
   part-prompt limit p hp (part_whole b d ds) h =
@@ -178,8 +189,8 @@ is_keyed_placed (value_in p ps a k b w) s v h = tt
 pub faultless-after : (limit : Option ℕ) (p : Path) (s : Syntax) (v : List ℕ) → IsRead limit (at_after p s v) → IsFaultless limit (path_text p ++ (text s ++ v))
 faultless-after limit p s v h = faultless limit p h.0 s h.1 h.3 v h.4 (is_keyed_placed p s v h.2)
 
-pub settled-strict : (ps : List Piece) (cs : List ℕ) → IsSettled ps cs → IsTrue (paired (codes ps))
-settled-strict ps cs h = ap (λ qs. paired (codes qs)) (sym (append-nil ps)) ∙ (h []).1
+pub settled-strict : (ps : List Piece) (cs : List ℕ) → IsSettled ps cs → IsTrue (paired (piece_codes ps))
+settled-strict ps cs h = ap (λ qs. paired (piece_codes qs)) (sym (append-nil ps)) ∙ (h []).1
 
 pub faultless-open : (limit : Option ℕ) (p : Path) → IsPath limit p → (ps : List Piece) (cs : List ℕ) → ArePieces ps → IsSettled ps cs → IsFaultless limit (path_text p ++ 34 ∷ pieces_text ps)
 faultless-open limit p hp ps cs h i = faultless-value limit p hp (Syntax.string ps) (record { spelled = h; strict = settled-strict ps cs i }) refl (34 ∷ pieces_text ps) (34 ∷ []) refl

@@ -7,14 +7,15 @@ use Rattle.tinyjson.specs.Tree.{key_of, is_string, Tree, no_members, put, items_
 use Rattle.tinyjson.specs.Tree as tree
 use Rattle.tinyjson.specs.Characters.{is_white}
 use Rattle.tinyjson.specs.Syntax.{Syntax, array, object, null, empty_array, empty_object, text, is_key, depth, IsWithin, tree_of}
-use Rattle.tinyjson.specs.Continuation.{IsValue, Pair}
+use Rattle.tinyjson.specs.Prefix.{IsValue, Pair, Element, IsFaultless}
+use Rattle.tinyjson.specs.Refusal.{EndsBefore}
 use Rattle.tinyjson.specs.Machine.{Frame, Phase, run, step, accepted, refused, Frame, Phase, first, awaited, word, digits, quoted, colon, after, finished, Stage, Within, Next, next, stop, Rules, complete, complete_key, step_plain, step_after, step_colon, fits}
 use Rattle.tinyjson.specs.declared.parser.error.JsonParseErrorKind.{JsonParseErrorKind, JsonParseErrorKind}
 use Rattle.tinyjson.specs.Machine
-use Rattle.tinyjson.proofs.Grammar.Paths.{Path, outside, item_in, key_in, value_in, path_text, path_frames, level, IsPath, within_le, within_max, closes, closing, key-depth, items_with, pairs_with, items-text, pairs-text, items-depth, pairs-depth, items-trees, pairs-members, before_push, pairs_push, trees_push, members_push, deepest_push, pairs_deepest_push, AreElements-push, ArePairs-push}
-use Rattle.tinyjson.proofs.Grammar.Faultless.{item_value, pair_value}
-use Rattle.tinyjson.proofs.Grammar.Spelt.{at_awaited, at_after, after_frames, after_phase, IsRead, loosely-from, are_white_append}
-use Rattle.tinyjson.proofs.Grammar.Viable.{faultless-after}
+use Rattle.tinyjson.proofs.Grammar.Paths.{Path, outside, item_in, key_in, value_in, path_text, path_frames, level, IsPath, within_le, within_max, key-depth, items_with, pairs_with, items-text, pairs-text, items-depth, pairs-depth, items-trees, pairs-members, before_push, pairs_push, trees_push, members_push, deepest_push, pairs_deepest_push, AreElements-push, ArePairs-push}
+use Rattle.tinyjson.proofs.Grammar.Faultless.{item_value, pair_value, faultless, faultless-from, placed}
+use Rattle.tinyjson.proofs.Grammar.Spelt.{at_awaited, at_after, after_frames, after_phase, IsRead, are_white_append}
+use Rattle.tinyjson.proofs.Grammar.Viable.{faultless-after, faultless-place}
 use Rattle.tinyjson.proofs.Grammar.Told.{NoQuoteFrom, Follows, either, at_code, key-told}
 
 pub string-key : (s : Syntax) → is_string (tree_of s) ≡ is_key s
@@ -28,17 +29,17 @@ string-key (empty_object w) = refl
 string-key (object ps) = refl
 
 -- the value is whole, and the character was its last
-pub complete-follows : (limit : Option ℕ) (p : Path) → IsPath limit p → (s : Syntax) → IsValue s → IsWithin limit (level p + depth s) → (used : List ℕ) (fs : List Frame) (q : Phase) (c : ℕ) → used ++ c ∷ [] ≡ path_text p ++ text s →
+pub complete-follows : (limit : Option ℕ) (p : Path) → IsPath limit p → (s : Syntax) → IsValue s → IsWithin limit (level p + depth s) → ((rest : List ℕ) → EndsBefore s rest) → (used : List ℕ) (fs : List Frame) (q : Phase) (c : ℕ) → used ++ c ∷ [] ≡ path_text p ++ text s →
     Follows limit used fs q c (complete true (path_frames p) (tree_of s) true)
-complete-follows limit (outside w) hp s hs hd used fs q c e =
+complete-follows limit (outside w) hp s hs hd nn used fs q c e =
     record { read = at_after (outside w) s []; is = (hp, hs, tt, hd, tt); whole = e ∙ ap (λ xs. w ++ xs) (sym (append-nil (text s))); frames = refl; phase = refl }
-complete-follows limit (item_in p es w) hp s hs hd used fs q c e =
+complete-follows limit (item_in p es w) hp s hs hd nn used fs q c e =
     record { read = at_after (item_in p es w) s []; is = (hp, hs, tt, hd, tt); whole = e ∙ ap (λ xs. path_text (item_in p es w) ++ xs) (sym (append-nil (text s))); frames = refl; phase = refl }
-complete-follows limit (value_in p ps a k b w) hp s hs hd used fs q c e =
+complete-follows limit (value_in p ps a k b w) hp s hs hd nn used fs q c e =
     record { read = at_after (value_in p ps a k b w) s []; is = (hp, hs, tt, hd, tt); whole = e ∙ ap (λ xs. path_text (value_in p ps a k b w) ++ xs) (sym (append-nil (text s))); frames = refl; phase = refl }
-complete-follows limit (key_in p ps w) hp s hs hd used fs q c e =
+complete-follows limit (key_in p ps w) hp s hs hd nn used fs q c e =
     either limit used fs q c (not (is_string (tree_of s))) _ _
-    (λ h. ((λ more. key-told limit p ps w hp s hs (sym (string-key s) ∙ not-true _ h) hd _ e more), tt))
+    (λ h. ((λ more. key-told limit p ps w hp s hs (sym (string-key s) ∙ not-true _ h) hd _ e more (nn more)), tt))
     (λ h. record { read = at_after (key_in p ps w) s []; is = (hp, hs, sym (string-key s) ∙ not-false _ h, hd, tt); whole = e ∙ ap (λ ys. path_text (key_in p ps w) ++ ys) (sym (append-nil (text s))); frames = refl; phase = refl })
 
 -- ---- behind a value
@@ -68,6 +69,21 @@ quote-after limit (outside w) s h ys t e = h
 quote-after limit (item_in p es w) s h ys t e = no_text _ _ t e
 quote-after limit (key_in p ps w) s h ys t e = no_text _ _ t e
 quote-after limit (value_in p ps a k b w) s h ys t e = no_text _ _ t e
+
+-- the bracket, the brace or the colon may follow
+pub closed-array : (limit : Option ℕ) (p : Path) (es : List Element) (w : List ℕ) (s : Syntax) (v : List ℕ) → IsRead limit (at_after (item_in p es w) s v) → IsFaultless limit ((path_text (item_in p es w) ++ (text s ++ v)) ++ 93 ∷ [])
+closed-array limit p es w s v h =
+    faultless-from limit _ [] _ (simp (items-text, append_assoc, append-nil))
+    (faultless limit p h.0.0 (array (items_with es w s v)) (item_value es w s v h.0.1 h.0.2 h.1 h.4) (within_max limit _ _ _ h.0.3 h.3 (rw (items-depth es w s v) (omega arith))) [] tt (placed p _))
+
+pub closed-object : (limit : Option ℕ) (p : Path) (ps : List Pair) (a : List ℕ) (k : Syntax) (b w : List ℕ) (s : Syntax) (v : List ℕ) → IsRead limit (at_after (value_in p ps a k b w) s v) → IsFaultless limit ((path_text (value_in p ps a k b w) ++ (text s ++ v)) ++ 125 ∷ [])
+closed-object limit p ps a k b w s v h =
+    faultless-from limit _ [] _ (simp (pairs-text, append_assoc, append-nil))
+    (faultless limit p h.0.0 (object (pairs_with ps a k b w s v)) (pair_value ps a k b w s v h.0.1 h.0.2 h.0.4 h.0.3 h.0.5 h.0.6 h.1 h.4)
+    (within_max limit _ _ _ h.0.7 h.3 (rw (pairs-depth ps a k b w s v) (rw (key-depth k h.0.4) (omega arith)))) [] tt (placed p _))
+
+pub taken-key : (limit : Option ℕ) (p : Path) (ps : List Pair) (w : List ℕ) (s : Syntax) (v : List ℕ) → IsRead limit (at_after (key_in p ps w) s v) → IsFaultless limit ((path_text (key_in p ps w) ++ (text s ++ v)) ++ 58 ∷ [])
+taken-key limit p ps w s v h = faultless-from limit _ [] _ (simp (append_assoc, append-nil)) (faultless-place limit (value_in p ps w s v []) (h.0.0, h.0.1, h.0.2, h.1, h.2, h.4, tt, h.0.3))
 
 pub after-follows : (limit : Option ℕ) (p : Path) (s : Syntax) (v : List ℕ) → IsRead limit (at_after p s v) → (fs : List Frame) (q : Phase) → (IsInside p → NoQuoteFrom limit fs q) → (c : ℕ) →
     Follows limit (path_text p ++ (text s ++ v)) fs q c (step_plain (strictly limit) (after_frames p s) (after_phase p s) c)
@@ -108,7 +124,7 @@ after-follows limit (item_in p es w) s v h fs q nq c =
     })
     (λ hn. at_code limit _ _ _ c 93 _ _
     (λ hc. subst (λ ts. Follows limit (path_text (item_in p es w) ++ (text s ++ v)) fs q c (complete true (path_frames p) (tree.array (items_of ts)) true)) (items-trees es w s v)
-    (complete-follows limit p h.0.0 (array (items_with es w s v)) (item_value es w s v h.0.1 h.0.2 h.1 h.4) (within_max limit _ _ _ h.0.3 h.3 (rw (items-depth es w s v) (omega arith)))
+    (complete-follows limit p h.0.0 (array (items_with es w s v)) (item_value es w s v h.0.1 h.0.2 h.1 h.4) (within_max limit _ _ _ h.0.3 h.3 (rw (items-depth es w s v) (omega arith))) (λ rest. tt)
     (path_text (item_in p es w) ++ (text s ++ v)) _ _ c (rw hc (simp (items-text, append_assoc)))))
     (λ hm. (
       (λ more. (
@@ -117,7 +133,7 @@ after-follows limit (item_in p es w) s v h fs q nq c =
           path_text (item_in p es w) ++ (text s ++ v),
           refl,
           faultless-after limit (item_in p es w) s v h,
-          loosely-from limit _ (closing p) (then_one (path_text (item_in p es w)) (text s) v 93 (closing p)) (closes limit (item_in p es w) h.0 s h.1.spelled h.3 v h.4),
+          closed-array limit p es w s v h,
         ),
       )),
       nq tt,
@@ -140,7 +156,7 @@ after-follows limit (key_in p ps w) s v h fs q nq c =
           path_text (key_in p ps w) ++ (text s ++ v),
           refl,
           faultless-after limit (key_in p ps w) s v h,
-          loosely-from limit _ (48 ∷ 125 ∷ closing p) (then_one (path_text (key_in p ps w)) (text s) v 58 (48 ∷ 125 ∷ closing p)) (closes limit (key_in p ps w) h.0 s h.1.spelled h.3 v h.4),
+          taken-key limit p ps w s v h,
         ),
       )),
       nq tt,
@@ -165,7 +181,7 @@ after-follows limit (value_in p ps a k b w) s v h fs q nq c =
     (λ hn. at_code limit _ _ _ c 125 _ _
     (λ hc. subst (λ ms. Follows limit (path_text (value_in p ps a k b w) ++ (text s ++ v)) fs q c (complete true (path_frames p) (tree.object ms) true)) (pairs-members no_members ps a k b w s v)
     (complete-follows limit p h.0.0 (object (pairs_with ps a k b w s v)) (pair_value ps a k b w s v h.0.1 h.0.2 h.0.4 h.0.3 h.0.5 h.0.6 h.1 h.4)
-    (within_max limit _ _ _ h.0.7 h.3 (rw (pairs-depth ps a k b w s v) (rw (key-depth k h.0.4) (omega arith))))
+    (within_max limit _ _ _ h.0.7 h.3 (rw (pairs-depth ps a k b w s v) (rw (key-depth k h.0.4) (omega arith)))) (λ rest. tt)
     (path_text (value_in p ps a k b w) ++ (text s ++ v)) _ _ c (rw hc (simp (pairs-text, append_assoc)))))
     (λ hm. (
       (λ more. (
@@ -174,7 +190,7 @@ after-follows limit (value_in p ps a k b w) s v h fs q nq c =
           path_text (value_in p ps a k b w) ++ (text s ++ v),
           refl,
           faultless-after limit (value_in p ps a k b w) s v h,
-          loosely-from limit _ (closing p) (then_one (path_text (value_in p ps a k b w)) (text s) v 125 (closing p)) (closes limit (value_in p ps a k b w) h.0 s h.1.spelled h.3 v h.4),
+          closed-object limit p ps a k b w s v h,
         ),
       )),
       nq tt,

@@ -1,21 +1,23 @@
 //! Values, compact and indented.
-ghost use Rattle.std.specs.Prelude.{◌≡◌, ◌++◌, ◌∷◌, ◌+◌, true, None, Some, IfOk};
-ghost use Rattle.std.specs.Str.{chars};
+ghost use Rattle.std.specs.Prelude.{◌≡◌, ◌++◌, ◌∷◌, ◌+◌, ◌-◌, ◌<◌, ℕ, [], List, Option, None, Some, true, length, reverse};
+ghost use Rattle.std.specs.Str.{chars, encode_utf8_all};
 ghost use Rattle.tinyjson.specs.Indent.{indent_of};
-ghost use Rattle.tinyjson.specs.Sorted.{sorted_view};
-ghost use Rattle.tinyjson.specs.Text.{text, quoted, members_text, separator, before, newline, after_colon};
+ghost use Rattle.tinyjson.specs.Pending.{Gathered, IsStack, frames, owed, Advances, Begins};
+ghost use Rattle.tinyjson.specs.Text.{text, quoted, before, newline, after_colon};
 ghost use Rattle.tinyjson.specs.Tree.{array, object, boolean as boolean_tree};
 ghost use Rattle.tinyjson.specs.View.{view, items_view, members_view};
-ghost use Rattle.tinyjson.specs.Written.{WritesText};
+ghost use Rattle.tinyjson.specs.Written.{WritesPrefix, WritesText};
+ghost use Rattle.tinyjson.specs.declared.generator.pending.Frame.TheVariants.{Items, Member, Members};
 
-use super::members::sorted_members;
 use super::number::write_number;
 use super::output::write_bytes;
+use super::pending::{Frame, Stack};
 use super::quote::quote;
+use super::sorted::{gather_sorted, next_member};
 use crate::value::JsonValue;
 use std::alloc::Global;
 use std::collections::HashMap;
-use std::io::{self, ErrorKind, Write};
+use std::io::{self, Write};
 
 // How values are written: compact, or indented by a text.
 #[derive(Drop)]
@@ -25,128 +27,192 @@ pub(crate) struct Encoder<'a> {
 }
 
 impl Encoder<'_> {
-    // Writes the value, whose first line stands at the level.
-    #[cycle(encode)]
-    pub(crate) fn encode<W: Write>(
-        &self,
-        out: &mut W,
-        level: usize,
-        value: &JsonValue,
-    ) -> io::Result<()>
+    // Writes how the value begins, and then what the open containers owe, the innermost first.
+    pub(crate) fn encode<W: Write>(&self, out: &mut W, value: &JsonValue) -> io::Result<()>
         ensures { WritesText (W.contents out.old) (W.contents out.new)
-            (text (indent_of self.now.indent) level (view value.now)) result }
+            (text (indent_of self.now.indent) 0 (view value.now)) result }
     {
-        match value {
-            JsonValue::Null => write_bytes(out, b"null"),
-            JsonValue::Boolean(value) => write_boolean(out, *value),
-            JsonValue::Number(number) => write_number(out, number),
-            JsonValue::String(text) => quote(out, text),
-            JsonValue::Array(items) => self.encode_array(out, level, items),
-            JsonValue::Object(members) => self.encode_object(out, level, members),
+        let mut gathered = Vec::new(self.alloc);
+        match begin(out, &mut gathered, value)? {
+            None => Ok(()),
+            Some(frame) => self.finish(out, gathered, frame),
         }
     }
 
-    #[cycle(encode)]
-    fn encode_array<W: Write>(
+    fn finish<'a, W: Write>(
         &self,
         out: &mut W,
-        level: usize,
-        items: &[JsonValue],
+        gathered: Vec<(&'a str, &'a JsonValue)>,
+        frame: Frame<'a>,
     ) -> io::Result<()>
         ensures { WritesText (W.contents out.old) (W.contents out.new)
-            (text (indent_of self.now.indent) level (array (items_view items.now))) result }
+            (owed (indent_of self.now.indent) (frame.entry ∷ []) (reverse gathered.entry.items)) result }
     {
-        if items.is_empty() {
-            return write_bytes(out, b"[]");
-        }
-        let inner = deeper(level)?;
-        write_bytes(out, b"[")?;
-        let mut first = true;
-        for item in items {
-            self.separate(out, inner, first)?;
-            first = false;
-            self.encode(out, inner, item)?;
-        }
-        self.newline(out, level)?;
-        write_bytes(out, b"]")
-    }
-
-    #[cycle(encode)]
-    fn encode_object<W: Write>(
-        &self,
-        out: &mut W,
-        level: usize,
-        members: &HashMap<String, JsonValue>,
-    ) -> io::Result<()>
-        ensures { WritesText (W.contents out.old) (W.contents out.new)
-            (text (indent_of self.now.indent) level (object (members_view members.now.entries))) result }
-    {
-        if members.is_empty() {
-            return write_bytes(out, b"{}");
-        }
-        let inner = deeper(level)?;
-        write_bytes(out, b"{")?;
-        self.encode_members(out, inner, members)?;
-        self.newline(out, level)?;
-        write_bytes(out, b"}")
-    }
-
-    // One member alone needs no order, and so no memory.
-    #[cycle(encode)]
-    fn encode_members<W: Write>(
-        &self,
-        out: &mut W,
-        level: usize,
-        members: &HashMap<String, JsonValue>,
-    ) -> io::Result<()>
-        ensures { WritesText (W.contents out.old) (W.contents out.new)
-            (members_text (indent_of self.now.indent) level true (members_view members.now.entries)) result }
-    {
-        if members.len() > 1 {
-            let sorted = sorted_members(self.alloc, members)?;
-            return self.encode_sorted(out, level, &sorted);
-        }
-        for (key, value) in members {
-            self.separate(out, level, true)?;
-            self.encode_member(out, level, key, value)?;
+        let mut gathered = gathered;
+        let mut stack = Stack::new(self.alloc);
+        stack.push(frame)?;
+        while let Some((frame, level)) = stack.pop() {
+            self.resume(out, &mut stack, &mut gathered, frame, level)?;
         }
         Ok(())
     }
 
-    #[cycle(encode)]
-    fn encode_sorted<W: Write>(
+    // Writes what a container owes, up to the next bracket.
+    fn resume<'a, W: Write>(
         &self,
         out: &mut W,
+        stack: &mut Stack<'a>,
+        gathered: &mut Vec<(&'a str, &'a JsonValue)>,
+        frame: Frame<'a>,
         level: usize,
-        members: &[(&str, &JsonValue)],
     ) -> io::Result<()>
-        ensures { WritesText (W.contents out.old) (W.contents out.new)
-            (members_text (indent_of self.now.indent) level true (sorted_view members.now)) result }
+        requires stack { IsStack stack.old }
+        requires level { level ≡ length (frames stack.old) + 1 }
+        ensures { Advances (indent_of self.now.indent) (W.contents out.old) (W.contents out.new)
+            (frame.entry ∷ frames stack.old) (reverse gathered.old.items) result stack.new (reverse gathered.new.items) }
     {
-        let mut first = true;
-        for (key, value) in members {
-            self.separate(out, level, first)?;
-            first = false;
-            self.encode_member(out, level, key, value)?;
+        match frame {
+            Frame::Items { rest, first } => self.items(out, stack, gathered, rest, first, level),
+            Frame::Member { key, value } => self.only_member(
+                out, stack, gathered, key, value, level,
+            ),
+            Frame::Members { left, first } => self.members(
+                out, stack, gathered, left, first, level,
+            ),
         }
-        Ok(())
     }
 
-    #[cycle(encode)]
-    fn encode_member<W: Write>(
+    fn only_member<'a, W: Write>(
         &self,
         out: &mut W,
+        stack: &mut Stack<'a>,
+        gathered: &mut Vec<(&'a str, &'a JsonValue)>,
+        key: &'a str,
+        value: &'a JsonValue,
         level: usize,
-        key: &str,
-        value: &JsonValue,
     ) -> io::Result<()>
-        ensures { WritesText (W.contents out.old) (W.contents out.new)
-            (quoted (chars key.now)
-            ++ (58 ∷ (after_colon (indent_of self.now.indent) ++ text (indent_of self.now.indent) level (view value.now)))) result }
+        requires stack { IsStack stack.old }
+        requires level { level ≡ length (frames stack.old) + 1 }
+        ensures { Advances (indent_of self.now.indent) (W.contents out.old) (W.contents out.new)
+            (Member key.entry value.entry ∷ frames stack.old) (reverse gathered.old.items) result stack.new (reverse gathered.new.items) }
     {
+        let begun = self.member(out, gathered, key, value, level, true)?;
+        match begun {
+            Some(inner) => {
+                let outer = Frame::Members {
+                    left: 0,
+                    first: false,
+                };
+                Ok(stack.enter(outer, inner)?)
+            }
+            None => self.close(out, level, b"}"),
+        }
+    }
+
+    fn items<'a, W: Write>(
+        &self,
+        out: &mut W,
+        stack: &mut Stack<'a>,
+        gathered: &mut Vec<(&'a str, &'a JsonValue)>,
+        items: &'a [JsonValue],
+        first: bool,
+        level: usize,
+    ) -> io::Result<()>
+        requires stack { IsStack stack.old }
+        requires level { level ≡ length (frames stack.old) + 1 }
+        ensures { Advances (indent_of self.now.indent) (W.contents out.old) (W.contents out.new)
+            (Items items.entry first ∷ frames stack.old) (reverse gathered.old.items) result stack.new (reverse gathered.new.items) }
+    {
+        let mut rest = items;
+        let mut first = first;
+        while let Some((item, others)) = rest.split_first() {
+            let begun = self.item(out, gathered, item, level, first)?;
+            rest = others;
+            first = false;
+            match begun {
+                Some(inner) => return Ok(stack.enter(Frame::Items { rest, first }, inner)?),
+                None => {}
+            }
+        }
+        self.close(out, level, b"]")
+    }
+
+    fn members<'a, W: Write>(
+        &self,
+        out: &mut W,
+        stack: &mut Stack<'a>,
+        gathered: &mut Vec<(&'a str, &'a JsonValue)>,
+        left: usize,
+        first: bool,
+        level: usize,
+    ) -> io::Result<()>
+        requires stack { IsStack stack.old }
+        requires level { level ≡ length (frames stack.old) + 1 }
+        ensures { Advances (indent_of self.now.indent) (W.contents out.old) (W.contents out.new)
+            (Members left first ∷ frames stack.old) (reverse gathered.old.items) result stack.new (reverse gathered.new.items) }
+    {
+        let mut left = left;
+        let mut first = first;
+        while let Some((key, value)) = next_member(gathered, left) {
+            let begun = self.member(out, gathered, key, value, level, first)?;
+            left -= 1;
+            first = false;
+            match begun {
+                Some(inner) => return Ok(stack.enter(Frame::Members { left, first }, inner)?),
+                None => {}
+            }
+        }
+        self.close(out, level, b"}")
+    }
+
+    // Writes the item, or how it begins, and what stands before it.
+    fn item<'a, W: Write>(
+        &self,
+        out: &mut W,
+        gathered: &mut Vec<(&'a str, &'a JsonValue)>,
+        value: &'a JsonValue,
+        level: usize,
+        first: bool,
+    ) -> io::Result<Option<Frame<'a>>>
+        ensures { Begins (indent_of self.now.indent) level (W.contents out.old) (W.contents out.new)
+            (encode_utf8_all (before (indent_of self.now.indent) level first)
+            ++ encode_utf8_all (text (indent_of self.now.indent) level (view value.now)))
+            (reverse gathered.old.items) result (reverse gathered.new.items) }
+    {
+        self.separate(out, level, first)?;
+        begin(out, gathered, value)
+    }
+
+    // The same of a member.
+    fn member<'a, W: Write>(
+        &self,
+        out: &mut W,
+        gathered: &mut Vec<(&'a str, &'a JsonValue)>,
+        key: &'a str,
+        value: &'a JsonValue,
+        level: usize,
+        first: bool,
+    ) -> io::Result<Option<Frame<'a>>>
+        ensures { Begins (indent_of self.now.indent) level (W.contents out.old) (W.contents out.new)
+            (encode_utf8_all (before (indent_of self.now.indent) level first)
+            ++ encode_utf8_all (quoted (chars key.now) ++ (58 ∷ (after_colon (indent_of self.now.indent)
+            ++ text (indent_of self.now.indent) level (view value.now)))))
+            (reverse gathered.old.items) result (reverse gathered.new.items) }
+    {
+        self.separate(out, level, first)?;
         quote(out, key)?;
         self.colon(out)?;
-        self.encode(out, level, value)
+        begin(out, gathered, value)
+    }
+
+    // Writes the bracket of a container whose items stand at the level.
+    fn close<W: Write>(&self, out: &mut W, level: usize, bracket: &[u8]) -> io::Result<()>
+        requires { 0 < level }
+        ensures { WritesPrefix (W.contents out.old) (W.contents out.new)
+            (encode_utf8_all (newline (indent_of self.now.indent) (level - 1)) ++ bracket.now) result }
+    {
+        self.newline(out, level - 1)?;
+        write_bytes(out, bracket)
     }
 
     // What stands before an item or a member.
@@ -181,13 +247,67 @@ impl Encoder<'_> {
     }
 }
 
-// The level inside. No memory holds a value that is nested so deep that there is none.
-fn deeper(level: usize) -> io::Result<usize>
-    ensures { IfOk result (λ n. n ≡ level + 1) }
+// Writes a value that holds no other. Of others it writes the opening bracket, and answers what they
+// owe then.
+fn begin<'a, W: Write>(
+    out: &mut W,
+    gathered: &mut Vec<(&'a str, &'a JsonValue)>,
+    value: &'a JsonValue,
+) -> io::Result<Option<Frame<'a>>>
+    ensures { (w : Option (List ℕ)) (k : ℕ) → Begins w k (W.contents out.old) (W.contents out.new)
+        (encode_utf8_all (text w k (view value.now))) (reverse gathered.old.items) result (reverse gathered.new.items) }
 {
-    level
-        .checked_add(1)
-        .ok_or_else(|| io::Error::from(ErrorKind::OutOfMemory))
+    match value {
+        JsonValue::Null => write_bytes(out, b"null")?,
+        JsonValue::Boolean(value) => write_boolean(out, *value)?,
+        JsonValue::Number(number) => write_number(out, number)?,
+        JsonValue::String(text) => quote(out, text)?,
+        JsonValue::Array(items) => return begin_array(out, items),
+        JsonValue::Object(members) => return begin_object(out, gathered, members),
+    }
+    Ok(None)
+}
+
+fn begin_array<'a, W: Write>(out: &mut W, items: &'a [JsonValue]) -> io::Result<Option<Frame<'a>>>
+    ensures { (w : Option (List ℕ)) (k : ℕ) (gs : List Gathered) → Begins w k (W.contents out.old) (W.contents out.new)
+        (encode_utf8_all (text w k (array (items_view items.now)))) gs result gs }
+{
+    if items.is_empty() {
+        write_bytes(out, b"[]")?;
+        return Ok(None);
+    }
+    write_bytes(out, b"[")?;
+    Ok(Some(Frame::Items {
+        rest: items,
+        first: true,
+    }))
+}
+
+// One member alone needs no order, and so no memory.
+fn begin_object<'a, W: Write>(
+    out: &mut W,
+    gathered: &mut Vec<(&'a str, &'a JsonValue)>,
+    members: &'a HashMap<String, JsonValue>,
+) -> io::Result<Option<Frame<'a>>>
+    ensures { (w : Option (List ℕ)) (k : ℕ) → Begins w k (W.contents out.old) (W.contents out.new)
+        (encode_utf8_all (text w k (object (members_view members.now.entries))))
+        (reverse gathered.old.items) result (reverse gathered.new.items) }
+{
+    if members.len() > 1 {
+        write_bytes(out, b"{")?;
+        gather_sorted(gathered, members)?;
+        return Ok(Some(Frame::Members {
+            left: members.len(),
+            first: true,
+        }));
+    }
+    let Some((key, value)) = members.iter().next() else {
+        write_bytes(out, b"{}")?;
+        return Ok(None);
+    };
+    write_bytes(out, b"{")?;
+    let key = key.as_str();
+    Ok(Some(Frame::Member { key, value }))
 }
 
 // A line feed, and the indent of the next line.

@@ -1,14 +1,21 @@
 //! Why a text was refused, and where.
-ghost use Rattle.std.specs.Prelude.{◌≡◌};
+ghost use Rattle.std.specs.Prelude.{◌≡◌, ◌↔◌, IsTrue};
 ghost use Rattle.tinyjson.specs.Error.{error_kind, error_position};
 
 use crate::value::JsonKind;
 use std::error::Error;
 use std::fmt;
+use std::io::{self, ErrorKind};
 
 /// Why a text was refused.
 ///
 /// "Consumed" is what the call took from the characters before it refused.
+///
+/// ```
+/// if let Err(error) = JsonValue::from_str(alloc, "[1 2]") {
+///     assert!(rt; error.kind() == JsonParseErrorKind::ExpectedCommaOrBracket('2'));
+/// }
+/// ```
 #[derive(Clone, Copy, Debug, PartialEq, Eq)]
 pub enum JsonParseErrorKind {
     /// The characters end where one was needed.
@@ -53,6 +60,16 @@ pub enum JsonParseErrorKind {
 }
 
 /// A refusal of the parser: a kind, and the position behind what was consumed.
+///
+/// ```
+/// if let Err(error) = JsonValue::from_str(alloc, "{\n\"a\" 1}") {
+///     let words = error.to_string(alloc)?;
+///     assert_eq!(rt;
+///         words.as_str(),
+///         "Parse error at line:2, col:5: ':' is expected after key of object but actually found '1'"
+///     );
+/// }
+/// ```
 #[derive(Clone, Copy, Debug, PartialEq, Eq)]
 pub struct JsonParseError {
     pub(crate) kind: JsonParseErrorKind,
@@ -62,13 +79,38 @@ pub struct JsonParseError {
 
 impl JsonParseError {
     /// Why the text was refused.
+    ///
+    /// ```
+    /// if let Err(error) = JsonValue::from_str(alloc, "01") {
+    ///     assert!(rt; error.kind() == JsonParseErrorKind::LeadingZero);
+    /// }
+    /// ```
     pub fn kind(&self) -> JsonParseErrorKind
         ensures { result ≡ error_kind self.now }
     {
         self.kind
     }
 
+    /// Whether memory ran out. In every other case the characters that were read are no text.
+    ///
+    /// ```
+    /// if let Err(error) = JsonValue::from_str(alloc, "[") {
+    ///     assert!(rt; !error.is_out_of_memory());
+    /// }
+    /// ```
+    pub fn is_out_of_memory(&self) -> bool
+        ensures { IsTrue result ↔ (error_kind self.now ≡ JsonParseErrorKind.OutOfMemory) }
+    {
+        matches!(self.kind, JsonParseErrorKind::OutOfMemory)
+    }
+
     /// The line, from 1: one more than the line feeds that were consumed since the parser was made.
+    ///
+    /// ```
+    /// if let Err(error) = JsonValue::from_str(alloc, "[\n\n]]") {
+    ///     assert!(rt; error.line() == 3);
+    /// }
+    /// ```
     pub fn line(&self) -> usize
         ensures { result ≡ (error_position self.now).line }
     {
@@ -76,6 +118,12 @@ impl JsonParseError {
     }
 
     /// How many characters were consumed after the last line feed; 0 at the beginning of a line.
+    ///
+    /// ```
+    /// if let Err(error) = JsonValue::from_str(alloc, "[\n\n]]") {
+    ///     assert!(rt; error.column() == 2);
+    /// }
+    /// ```
     pub fn column(&self) -> usize
         ensures { result ≡ (error_position self.now).column }
     {
@@ -198,3 +246,27 @@ impl fmt::Display for JsonParseError {
 }
 
 impl Error for JsonParseError {}
+
+/// An error of kind `OutOfMemory` if memory ran out, and otherwise of kind `InvalidData`.
+///
+/// ```
+/// fn read(alloc: Global, text: &str) -> io::Result<JsonValue> {
+///     Ok(JsonValue::from_str(alloc, text)?)
+/// }
+/// ```
+impl From<JsonParseError> for io::Error {
+    ghost use Rattle.std.specs.IoError.{error_kind as io_kind};
+    ghost use Rattle.std.specs.declared.io.ErrorKind.TheVariants as io;
+    ghost use Rattle.tinyjson.specs.declared.parser.error.JsonParseErrorKind.TheVariants as refusal;
+
+    ghost from_gives = { λ e r. (error_kind e ≡ refusal.OutOfMemory → io_kind r ≡ io.OutOfMemory)
+        × (¬ (error_kind e ≡ refusal.OutOfMemory) → io_kind r ≡ io.InvalidData) };
+
+    fn from(error: JsonParseError) -> io::Error {
+        if error.is_out_of_memory() {
+            io::Error::from(ErrorKind::OutOfMemory)
+        } else {
+            io::Error::from(ErrorKind::InvalidData)
+        }
+    }
+}

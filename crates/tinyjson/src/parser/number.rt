@@ -1,7 +1,6 @@
 //! Numbers (RFC 8259, section 6).
 ghost use Rattle.std.specs.Prelude.{◌≡◌, ◌<◌, ◌≤◌, [], ℕ, List, Bool, OnOk, Option, Some, None, string_bytes};
 ghost use Rattle.std.specs.List.{AllByRecursion};
-ghost use Rattle.tinyjson.specs.Cursor.{Shows, left};
 ghost use Rattle.tinyjson.specs.Machine.{Frame, awaited, digits, whole, fraction, exponent, next};
 ghost use Rattle.tinyjson.specs.Numbers.{Digits, BeginsNumber, Keeps, Accepts, ReadsPart, numeral};
 ghost use Rattle.tinyjson.specs.Reading.{Ends, Gathers, Reads, at};
@@ -10,6 +9,7 @@ ghost use Rattle.tinyjson_number.specs.NumberText.{Spells};
 
 use super::error::{JsonParseError, JsonParseErrorKind};
 use super::reader::Reader;
+use super::source::Source;
 use crate::value::JsonValue;
 use tinyjson_number::{JsonNumber, LiteralError};
 
@@ -23,12 +23,12 @@ fn has_leading_zero(digits: &[u8]) -> bool
     }
 }
 
-impl<I: Iterator<Item = char>> Reader<I> {
+impl<S: Source> Reader<S> {
     /// Reads the number whose first character, a minus sign or a digit, comes next.
     pub(super) fn number(&mut self) -> Result<Option<JsonValue>, JsonParseError>
-        requires { BeginsNumber self.old.cursor }
-        ensures reads { (limit : Option ℕ) (fs : List Frame) → Reads I.next_gives limit self.old.cursor (next fs awaited) result (at fs) self.new.cursor }
-        ensures left { OnOk result (left I.remaining self.new.cursor < left I.remaining self.old.cursor) }
+        requires { BeginsNumber S.sight self.old.source }
+        ensures reads { (limit : Option ℕ) (fs : List Frame) → Reads S.sight limit self.old.source (next fs awaited) result (at fs) self.new.source }
+        ensures left { OnOk result (S.left self.new.source < S.left self.old.source) }
     {
         self.literal.clear();
         self.integer()?;
@@ -43,10 +43,10 @@ impl<I: Iterator<Item = char>> Reader<I> {
 
     /// Reads the minus sign, if there is one, and the digits of the whole part.
     fn integer(&mut self) -> Result<(), JsonParseError>
-        requires begins { BeginsNumber self.old.cursor }
+        requires begins { BeginsNumber S.sight self.old.source }
         requires empty { string_bytes self.old.literal ≡ [] }
-        ensures reads { ReadsPart I.next_gives (λ (x : Bool × List ℕ). numeral x.0 x.1 [] None) whole self.old.cursor (λ fs. next fs awaited) result (string_bytes self.new.literal) self.new.cursor }
-        ensures left { OnOk result (left I.remaining self.new.cursor < left I.remaining self.old.cursor) }
+        ensures reads { ReadsPart S.sight (λ (x : Bool × List ℕ). numeral x.0 x.1 [] None) whole self.old.source (λ fs. next fs awaited) result (string_bytes self.new.literal) self.new.source }
+        ensures left { OnOk result (S.left self.new.source < S.left self.old.source) }
     {
         self.accept(&['-'])?;
         let start = self.literal.len();
@@ -59,8 +59,8 @@ impl<I: Iterator<Item = char>> Reader<I> {
 
     /// Reads the point and the digits behind it, if there is a point.
     fn fraction(&mut self) -> Result<(), JsonParseError>
-        ensures reads { (b : Bool) (ds : List ℕ) → Spells (numeral b ds [] None) (string_bytes self.old.literal) → Ends self.old.cursor → ReadsPart I.next_gives (λ f. numeral b ds f None) fraction self.old.cursor (λ fs. next fs (digits whole (numeral b ds [] None))) result (string_bytes self.new.literal) self.new.cursor }
-        ensures left { OnOk result (left I.remaining self.new.cursor ≤ left I.remaining self.old.cursor) }
+        ensures reads { (b : Bool) (ds : List ℕ) → Spells (numeral b ds [] None) (string_bytes self.old.literal) → Ends S.sight self.old.source → ReadsPart S.sight (λ f. numeral b ds f None) fraction self.old.source (λ fs. next fs (digits whole (numeral b ds [] None))) result (string_bytes self.new.literal) self.new.source }
+        ensures left { OnOk result (S.left self.new.source ≤ S.left self.old.source) }
     {
         if !self.accept(&['.'])? {
             return Ok(());
@@ -70,8 +70,8 @@ impl<I: Iterator<Item = char>> Reader<I> {
 
     /// Reads the letter, the sign and the digits of the exponent, if there is one.
     fn exponent(&mut self) -> Result<(), JsonParseError>
-        ensures reads { (b : Bool) (ds f : List ℕ) → Spells (numeral b ds f None) (string_bytes self.old.literal) → Ends self.old.cursor → ReadsPart I.next_gives (numeral b ds f) exponent self.old.cursor (λ fs. next fs (digits fraction (numeral b ds f None))) result (string_bytes self.new.literal) self.new.cursor }
-        ensures left { OnOk result (left I.remaining self.new.cursor ≤ left I.remaining self.old.cursor) }
+        ensures reads { (b : Bool) (ds f : List ℕ) → Spells (numeral b ds f None) (string_bytes self.old.literal) → Ends S.sight self.old.source → ReadsPart S.sight (numeral b ds f) exponent self.old.source (λ fs. next fs (digits fraction (numeral b ds f None))) result (string_bytes self.new.literal) self.new.source }
+        ensures left { OnOk result (S.left self.new.source ≤ S.left self.old.source) }
     {
         if !self.accept(&['e', 'E'])? {
             return Ok(());
@@ -82,10 +82,10 @@ impl<I: Iterator<Item = char>> Reader<I> {
 
     /// Reads digits; the error is of this kind where there is none.
     fn digits(&mut self, empty: JsonParseErrorKind) -> Result<(), JsonParseError>
-        ensures reads { Digits I.next_gives empty self.old.cursor (string_bytes self.old.literal) result (string_bytes self.new.literal) self.new.cursor }
-        ensures left { OnOk result (left I.remaining self.new.cursor < left I.remaining self.old.cursor) }
+        ensures reads { Digits S.sight empty self.old.source (string_bytes self.old.literal) result (string_bytes self.new.literal) self.new.source }
+        ensures left { OnOk result (S.left self.new.source < S.left self.old.source) }
     {
-        match self.peek() {
+        match self.source.peek() {
             Some(c) if c.is_ascii_digit() => self.keep(c)?,
             _ => return Err(self.refuse(empty)),
         }
@@ -94,12 +94,12 @@ impl<I: Iterator<Item = char>> Reader<I> {
 
     /// Reads the digits that are left.
     fn more_digits(&mut self) -> Result<(), JsonParseError>
-        ensures gathers { Gathers I.next_gives self.old.cursor (string_bytes self.old.literal) result (string_bytes self.new.literal) self.new.cursor }
-        ensures ends { OnOk result (Ends self.new.cursor) }
-        ensures left { OnOk result (left I.remaining self.new.cursor ≤ left I.remaining self.old.cursor) }
+        ensures gathers { Gathers S.sight self.old.source (string_bytes self.old.literal) result (string_bytes self.new.literal) self.new.source }
+        ensures ends { OnOk result (Ends S.sight self.new.source) }
+        ensures left { OnOk result (S.left self.new.source ≤ S.left self.old.source) }
     {
         loop {
-            match self.peek() {
+            match self.source.peek() {
                 Some(c) if c.is_ascii_digit() => self.keep(c)?,
                 _ => return Ok(()),
             }
@@ -109,10 +109,10 @@ impl<I: Iterator<Item = char>> Reader<I> {
     /// Reads the next character if it is one of these, and says whether it is.
     fn accept(&mut self, any: &[char]) -> Result<bool, JsonParseError>
         requires { AllByRecursion (λ c. c < 128) any.now }
-        ensures accepts { Accepts I.next_gives any.now self.old.cursor (string_bytes self.old.literal) result (string_bytes self.new.literal) self.new.cursor }
-        ensures left { OnOk result (left I.remaining self.new.cursor ≤ left I.remaining self.old.cursor) }
+        ensures accepts { Accepts S.sight any.now self.old.source (string_bytes self.old.literal) result (string_bytes self.new.literal) self.new.source }
+        ensures left { OnOk result (S.left self.new.source ≤ S.left self.old.source) }
     {
-        match self.peek() {
+        match self.source.peek() {
             Some(c) if any.contains(&c) => {
                 self.keep(c)?;
                 Ok(true)
@@ -123,15 +123,15 @@ impl<I: Iterator<Item = char>> Reader<I> {
 
     /// Adds the character that comes next to the literal, and takes it.
     fn keep(&mut self, c: char) -> Result<(), JsonParseError>
-        requires shown { Shows self.old.cursor (Some c) }
+        requires shown { S.sight.shows self.old.source (Some c) }
         requires ascii { c < 128 }
-        ensures keeps { Keeps I.next_gives c self.old.cursor (string_bytes self.old.literal) result (string_bytes self.new.literal) self.new.cursor }
-        ensures left { OnOk result (left I.remaining self.new.cursor < left I.remaining self.old.cursor) }
+        ensures keeps { Keeps S.sight c self.old.source (string_bytes self.old.literal) result (string_bytes self.new.literal) self.new.source }
+        ensures left { OnOk result (S.left self.new.source < S.left self.old.source) }
     {
         if self.literal.push(c).is_err() {
             return Err(self.refuse(JsonParseErrorKind::OutOfMemory));
         }
-        self.bump();
+        self.source.bump();
         Ok(())
     }
 }

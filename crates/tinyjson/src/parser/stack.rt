@@ -1,6 +1,5 @@
 //! Containers, and the loop over those that are open.
 ghost use Rattle.std.specs.Prelude.{◌≡◌, ◌<◌, ◌≤◌, [], ◌∷◌, ◌++◌, true, OnOk, IfOk, IfErr, IsNone, IfSome, Option, Some, ℕ, map};
-ghost use Rattle.tinyjson.specs.Cursor.{Shows, left};
 ghost use Rattle.tinyjson.specs.Machine.{in_array, at_key, colon, awaited, after, finished, next, complete, fits};
 ghost use Rattle.tinyjson.specs.Reading.{Grows, GrowsFor, NeedsNone, Reads, at, frames, frame_view};
 ghost use Rattle.tinyjson.specs.Tree.{Tree, array, object, no_members, put};
@@ -9,6 +8,7 @@ ghost use Rattle.tinyjson.specs.declared.parser.error.JsonParseErrorKind.TheVari
 
 use super::error::{JsonParseError, JsonParseErrorKind};
 use super::reader::Reader;
+use super::source::Source;
 use crate::value::{JsonValue, insert_member};
 use std::collections::HashMap;
 
@@ -46,26 +46,26 @@ fn fits(limit: Option<usize>, depth: usize) -> bool
     }
 }
 
-impl<I: Iterator<Item = char>> Reader<I> {
+impl<S: Source> Reader<S> {
     /// Opens the array whose bracket comes next, or reads it whole if it is empty.
     fn array(
         &mut self,
         limit: Option<usize>,
         stack: &mut Vec<Open>,
     ) -> Result<Option<JsonValue>, JsonParseError>
-        requires { Shows self.old.cursor (Some 91) }
-        ensures reads { Reads I.next_gives limit self.old.cursor (next (frames stack.old.items) awaited) result (at (frames stack.new.items)) self.new.cursor }
-        ensures left { OnOk result (left I.remaining self.new.cursor < left I.remaining self.old.cursor) }
+        requires { S.sight.shows self.old.source (Some 91) }
+        ensures reads { Reads S.sight limit self.old.source (next (frames stack.old.items) awaited) result (at (frames stack.new.items)) self.new.source }
+        ensures left { OnOk result (S.left self.new.source < S.left self.old.source) }
         ensures same { IfOk result (λ v. IfSome v (λ _. stack.new.items ≡ stack.old.items)) }
     {
         if !fits(limit, stack.len()) {
             return Err(self.refuse(JsonParseErrorKind::TooDeep('[')));
         }
-        self.bump();
+        self.source.bump();
         let items = Vec::new(self.alloc);
-        match self.skip_white() {
+        match self.source.skip_white() {
             Some(']') => {
-                self.bump();
+                self.source.bump();
                 Ok(Some(JsonValue::Array(items)))
             }
             _ => self.open(stack, Open::Array(items)),
@@ -78,19 +78,19 @@ impl<I: Iterator<Item = char>> Reader<I> {
         limit: Option<usize>,
         stack: &mut Vec<Open>,
     ) -> Result<Option<JsonValue>, JsonParseError>
-        requires { Shows self.old.cursor (Some 123) }
-        ensures reads { Reads I.next_gives limit self.old.cursor (next (frames stack.old.items) awaited) result (at (frames stack.new.items)) self.new.cursor }
-        ensures left { OnOk result (left I.remaining self.new.cursor < left I.remaining self.old.cursor) }
+        requires { S.sight.shows self.old.source (Some 123) }
+        ensures reads { Reads S.sight limit self.old.source (next (frames stack.old.items) awaited) result (at (frames stack.new.items)) self.new.source }
+        ensures left { OnOk result (S.left self.new.source < S.left self.old.source) }
         ensures same { IfOk result (λ v. IfSome v (λ _. stack.new.items ≡ stack.old.items)) }
     {
         if !fits(limit, stack.len()) {
             return Err(self.refuse(JsonParseErrorKind::TooDeep('{')));
         }
-        self.bump();
+        self.source.bump();
         let members = HashMap::new(self.alloc);
-        match self.skip_white() {
+        match self.source.skip_white() {
             Some('}') => {
-                self.bump();
+                self.source.bump();
                 Ok(Some(JsonValue::Object(members)))
             }
             _ => self.open(stack, Open::Object(members)),
@@ -103,8 +103,8 @@ impl<I: Iterator<Item = char>> Reader<I> {
         stack: &mut Vec<Open>,
         container: Open,
     ) -> Result<Option<JsonValue>, JsonParseError>
-        ensures reads { (limit : Option ℕ) → Reads I.next_gives limit self.old.cursor (next (frame_view container ∷ frames stack.old.items) awaited) result (at (frames stack.new.items)) self.new.cursor }
-        ensures same { self.new.cursor ≡ self.old.cursor }
+        ensures reads { (limit : Option ℕ) → Reads S.sight limit self.old.source (next (frame_view container ∷ frames stack.old.items) awaited) result (at (frames stack.new.items)) self.new.source }
+        ensures same { self.new.source ≡ self.old.source }
         ensures opened { IfOk result (λ v. IsNone v) }
     {
         if stack.push(container).is_err() {
@@ -120,14 +120,14 @@ impl<I: Iterator<Item = char>> Reader<I> {
         mut items: Vec<JsonValue>,
         value: JsonValue,
     ) -> Result<Option<JsonValue>, JsonParseError>
-        ensures reads { (limit : Option ℕ) → Reads I.next_gives limit self.old.cursor (next (in_array (map view items.items ++ view value ∷ []) ∷ frames stack.old.items) after) result (at (frames stack.new.items)) self.new.cursor }
-        ensures left { OnOk result (left I.remaining self.new.cursor < left I.remaining self.old.cursor) }
+        ensures reads { (limit : Option ℕ) → Reads S.sight limit self.old.source (next (in_array (map view items.items ++ view value ∷ []) ∷ frames stack.old.items) after) result (at (frames stack.new.items)) self.new.source }
+        ensures left { OnOk result (S.left self.new.source < S.left self.old.source) }
     {
         if items.push(value).is_err() {
             return Err(self.refuse(JsonParseErrorKind::OutOfMemory));
         }
-        self.skip_white();
-        match self.bump() {
+        self.source.skip_white();
+        match self.source.bump() {
             Some(',') => self.open(stack, Open::Array(items)),
             Some(']') => Ok(Some(whole_array(items))),
             Some(c) => Err(self.refuse(JsonParseErrorKind::ExpectedCommaOrBracket(c))),
@@ -142,8 +142,8 @@ impl<I: Iterator<Item = char>> Reader<I> {
         members: HashMap<String, JsonValue>,
         value: JsonValue,
     ) -> Result<Option<JsonValue>, JsonParseError>
-        ensures reads { (limit : Option ℕ) → Reads I.next_gives limit self.old.cursor (complete true (at_key (members_view members.entries) ∷ frames stack.old.items) (view value) true) result (at (frames stack.new.items)) self.new.cursor }
-        ensures left { OnOk result (left I.remaining self.new.cursor < left I.remaining self.old.cursor) }
+        ensures reads { (limit : Option ℕ) → Reads S.sight limit self.old.source (complete true (at_key (members_view members.entries) ∷ frames stack.old.items) (view value) true) result (at (frames stack.new.items)) self.new.source }
+        ensures left { OnOk result (S.left self.new.source < S.left self.old.source) }
     {
         match value {
             JsonValue::String(key) => self.colon(stack, members, key),
@@ -158,11 +158,11 @@ impl<I: Iterator<Item = char>> Reader<I> {
         members: HashMap<String, JsonValue>,
         key: String,
     ) -> Result<Option<JsonValue>, JsonParseError>
-        ensures reads { (limit : Option ℕ) → Reads I.next_gives limit self.old.cursor (next (at_key (members_view members.entries) ∷ frames stack.old.items) (colon (text key))) result (at (frames stack.new.items)) self.new.cursor }
-        ensures left { OnOk result (left I.remaining self.new.cursor < left I.remaining self.old.cursor) }
+        ensures reads { (limit : Option ℕ) → Reads S.sight limit self.old.source (next (at_key (members_view members.entries) ∷ frames stack.old.items) (colon (text key))) result (at (frames stack.new.items)) self.new.source }
+        ensures left { OnOk result (S.left self.new.source < S.left self.old.source) }
     {
-        self.skip_white();
-        match self.bump() {
+        self.source.skip_white();
+        match self.source.bump() {
             Some(':') => self.open(stack, Open::Member(members, key)),
             Some(c) => Err(self.refuse(JsonParseErrorKind::ExpectedColon(c))),
             None => Err(self.refuse(JsonParseErrorKind::UnexpectedEof)),
@@ -177,14 +177,14 @@ impl<I: Iterator<Item = char>> Reader<I> {
         key: String,
         value: JsonValue,
     ) -> Result<Option<JsonValue>, JsonParseError>
-        ensures reads { (limit : Option ℕ) → Reads I.next_gives limit self.old.cursor (next (at_key (put (text key) (view value) (members_view members.entries)) ∷ frames stack.old.items) after) result (at (frames stack.new.items)) self.new.cursor }
-        ensures left { OnOk result (left I.remaining self.new.cursor < left I.remaining self.old.cursor) }
+        ensures reads { (limit : Option ℕ) → Reads S.sight limit self.old.source (next (at_key (put (text key) (view value) (members_view members.entries)) ∷ frames stack.old.items) after) result (at (frames stack.new.items)) self.new.source }
+        ensures left { OnOk result (S.left self.new.source < S.left self.old.source) }
     {
         if insert_member(&mut members, key, value).is_err() {
             return Err(self.refuse(JsonParseErrorKind::OutOfMemory));
         }
-        self.skip_white();
-        match self.bump() {
+        self.source.skip_white();
+        match self.source.bump() {
             Some(',') => self.open(stack, Open::Object(members)),
             Some('}') => Ok(Some(whole_object(members))),
             Some(c) => Err(self.refuse(JsonParseErrorKind::ExpectedCommaOrBrace(c))),
@@ -199,8 +199,8 @@ impl<I: Iterator<Item = char>> Reader<I> {
         container: Open,
         value: JsonValue,
     ) -> Result<Option<JsonValue>, JsonParseError>
-        ensures reads { (limit : Option ℕ) → Reads I.next_gives limit self.old.cursor (complete true (frame_view container ∷ frames stack.old.items) (view value) true) result (at (frames stack.new.items)) self.new.cursor }
-        ensures left { OnOk result (left I.remaining self.new.cursor < left I.remaining self.old.cursor) }
+        ensures reads { (limit : Option ℕ) → Reads S.sight limit self.old.source (complete true (frame_view container ∷ frames stack.old.items) (view value) true) result (at (frames stack.new.items)) self.new.source }
+        ensures left { OnOk result (S.left self.new.source < S.left self.old.source) }
     {
         match container {
             Open::Array(items) => self.item(stack, items, value),
@@ -215,29 +215,29 @@ impl<I: Iterator<Item = char>> Reader<I> {
         limit: Option<usize>,
         stack: &mut Vec<Open>,
     ) -> Result<Option<JsonValue>, JsonParseError>
-        ensures reads { Reads I.next_gives limit self.old.cursor (next (frames stack.old.items) awaited) result (at (frames stack.new.items)) self.new.cursor }
-        ensures left { OnOk result (left I.remaining self.new.cursor < left I.remaining self.old.cursor) }
+        ensures reads { Reads S.sight limit self.old.source (next (frames stack.old.items) awaited) result (at (frames stack.new.items)) self.new.source }
+        ensures left { OnOk result (S.left self.new.source < S.left self.old.source) }
         ensures same { IfOk result (λ v. IfSome v (λ _. stack.new.items ≡ stack.old.items)) }
-        ensures memory { GrowsFor I.next_gives self.old.cursor result }
+        ensures memory { GrowsFor S.sight self.old.source result }
     {
-        let Some(first) = self.skip_white() else {
+        let Some(first) = self.source.skip_white() else {
             return Err(self.refuse(JsonParseErrorKind::UnexpectedEof));
         };
         match first {
             'n' => {
-                self.bump();
+                self.source.bump();
                 self.literal(&['u', 'l', 'l'], JsonValue::Null)
             }
             't' => {
-                self.bump();
+                self.source.bump();
                 self.literal(&['r', 'u', 'e'], JsonValue::Boolean(true))
             }
             'f' => {
-                self.bump();
+                self.source.bump();
                 self.literal(&['a', 'l', 's', 'e'], JsonValue::Boolean(false))
             }
             '"' => {
-                self.bump();
+                self.source.bump();
                 self.string()
             }
             '[' => self.array(limit, stack),
@@ -250,12 +250,12 @@ impl<I: Iterator<Item = char>> Reader<I> {
 
     /// The end of the text.
     fn end(&mut self) -> Result<(), JsonParseError>
-        ensures reads { (limit : Option ℕ) (t : Tree) → Reads I.next_gives limit self.old.cursor (next [] (finished t)) result (λ _. next [] (finished t)) self.new.cursor }
-        ensures end { OnOk result (Shows self.new.cursor None) }
+        ensures reads { (limit : Option ℕ) (t : Tree) → Reads S.sight limit self.old.source (next [] (finished t)) result (λ _. next [] (finished t)) self.new.source }
+        ensures end { OnOk result (S.sight.shows self.new.source None) }
         ensures memory { NeedsNone result }
     {
-        self.skip_white();
-        match self.bump() {
+        self.source.skip_white();
+        match self.source.bump() {
             None => Ok(()),
             Some(c) => Err(self.refuse(JsonParseErrorKind::ExpectedEof(c))),
         }
@@ -263,9 +263,9 @@ impl<I: Iterator<Item = char>> Reader<I> {
 
     /// Reads a whole text: one turn for each value that is read or container that is opened.
     pub(super) fn text(&mut self, limit: Option<usize>) -> Result<JsonValue, JsonParseError>
-        ensures reads { Reads I.next_gives limit self.old.cursor (next [] awaited) result (λ v. next [] (finished (view v))) self.new.cursor }
-        ensures end { OnOk result (Shows self.new.cursor None) }
-        ensures memory { IfErr result (λ e. e.kind ≡ OutOfMemory → Grows I.next_gives self.old.cursor) }
+        ensures reads { Reads S.sight limit self.old.source (next [] awaited) result (λ v. next [] (finished (view v))) self.new.source }
+        ensures end { OnOk result (S.sight.shows self.new.source None) }
+        ensures memory { IfErr result (λ e. e.kind ≡ OutOfMemory → Grows S.sight self.old.source) }
     {
         let mut stack = Vec::new(self.alloc);
         let mut whole: Option<JsonValue> = None;

@@ -1,7 +1,6 @@
 //! Strings (RFC 8259, section 7).
 ghost use Rattle.std.specs.Prelude.{◌≡◌, ℕ, ◌<◌, ◌≤◌, List, [], ◌∷◌, ◌++◌, true, false, MatchResult, OnOk, Option, cond};
 ghost use Rattle.tinyjson.specs.Characters.{paired, decode};
-ghost use Rattle.tinyjson.specs.Cursor.{left, place};
 ghost use Rattle.tinyjson.specs.Machine.{Frame, plain, backslash, hex, quoted, next, complete};
 ghost use Rattle.tinyjson.specs.Reading.{Reads, Fails, at, within};
 ghost use Rattle.tinyjson.specs.Tree.{string};
@@ -9,14 +8,15 @@ ghost use Rattle.tinyjson.specs.View.{text};
 
 use super::error::{JsonParseError, JsonParseErrorKind};
 use super::reader::Reader;
+use super::source::Source;
 use super::units::{decode, push, short_escape};
 use crate::value::JsonValue;
 
-impl<I: Iterator<Item = char>> Reader<I> {
+impl<S: Source> Reader<S> {
     /// Behind the quote that opens a string.
     pub(super) fn string(&mut self) -> Result<Option<JsonValue>, JsonParseError>
-        ensures reads { (limit : Option ℕ) (fs : List Frame) → Reads I.next_gives limit self.old.cursor (next fs (quoted plain [] [])) result (at fs) self.new.cursor }
-        ensures left { left I.remaining self.new.cursor ≤ left I.remaining self.old.cursor }
+        ensures reads { (limit : Option ℕ) (fs : List Frame) → Reads S.sight limit self.old.source (next fs (quoted plain [] [])) result (at fs) self.new.source }
+        ensures left { S.left self.new.source ≤ S.left self.old.source }
     {
         let mut string = String::new(self.alloc);
         let mut units = Vec::new(self.alloc);
@@ -29,11 +29,11 @@ impl<I: Iterator<Item = char>> Reader<I> {
 
     /// Reads a part of a string; `true` at the quote that closes it.
     fn piece(&mut self, string: &mut String, units: &mut Vec<u16>) -> Result<bool, JsonParseError>
-        ensures reads { (limit : Option ℕ) (fs : List Frame) → Reads I.next_gives limit self.old.cursor (within fs string.old units.old.items false) result (within fs string.new units.new.items) self.new.cursor }
-        ensures left { left I.remaining self.new.cursor ≤ left I.remaining self.old.cursor }
-        ensures some { OnOk result (left I.remaining self.new.cursor < left I.remaining self.old.cursor) }
+        ensures reads { (limit : Option ℕ) (fs : List Frame) → Reads S.sight limit self.old.source (within fs string.old units.old.items false) result (within fs string.new units.new.items) self.new.source }
+        ensures left { S.left self.new.source ≤ S.left self.old.source }
+        ensures some { OnOk result (S.left self.new.source < S.left self.old.source) }
     {
-        let Some(c) = self.bump() else {
+        let Some(c) = self.source.bump() else {
             return Err(self.refuse(JsonParseErrorKind::UnexpectedEof));
         };
         match c {
@@ -49,10 +49,10 @@ impl<I: Iterator<Item = char>> Reader<I> {
 
     /// Behind a backslash.
     fn escape(&mut self, string: &mut String, units: &mut Vec<u16>) -> Result<bool, JsonParseError>
-        ensures reads { (limit : Option ℕ) (fs : List Frame) → Reads I.next_gives limit self.old.cursor (next fs (quoted backslash (text string.old) units.old.items)) result (within fs string.new units.new.items) self.new.cursor }
-        ensures left { left I.remaining self.new.cursor ≤ left I.remaining self.old.cursor }
+        ensures reads { (limit : Option ℕ) (fs : List Frame) → Reads S.sight limit self.old.source (next fs (quoted backslash (text string.old) units.old.items)) result (within fs string.new units.new.items) self.new.source }
+        ensures left { S.left self.new.source ≤ S.left self.old.source }
     {
-        let Some(c) = self.bump() else {
+        let Some(c) = self.source.bump() else {
             return Err(self.refuse(JsonParseErrorKind::UnexpectedEof));
         };
         match short_escape(c) {
@@ -64,12 +64,12 @@ impl<I: Iterator<Item = char>> Reader<I> {
 
     /// Reads the four digits of a unit.
     fn unit(&mut self, units: &mut Vec<u16>) -> Result<bool, JsonParseError>
-        ensures reads { (limit : Option ℕ) (fs : List Frame) (cs : List ℕ) → Reads I.next_gives limit self.old.cursor (next fs (quoted (hex []) cs units.old.items)) result (λ done. cond done (complete true fs (string cs) true) (next fs (quoted plain cs units.new.items))) self.new.cursor }
-        ensures left { left I.remaining self.new.cursor ≤ left I.remaining self.old.cursor }
+        ensures reads { (limit : Option ℕ) (fs : List Frame) (cs : List ℕ) → Reads S.sight limit self.old.source (next fs (quoted (hex []) cs units.old.items)) result (λ done. cond done (complete true fs (string cs) true) (next fs (quoted plain cs units.new.items))) self.new.source }
+        ensures left { S.left self.new.source ≤ S.left self.old.source }
     {
         let mut unit: u16 = 0;
         for _ in 0..4_usize {
-            let Some(c) = self.bump() else {
+            let Some(c) = self.source.bump() else {
                 return Err(self.refuse(JsonParseErrorKind::UnexpectedEof));
             };
             let Some(digit) = c.to_digit(16) else {
@@ -85,7 +85,7 @@ impl<I: Iterator<Item = char>> Reader<I> {
 
     /// Adds the characters that the units spell.
     fn flush(&self, string: &mut String, units: &mut Vec<u16>) -> Result<(), JsonParseError>
-        ensures { MatchResult result (λ _. (paired units.old.items ≡ true) × (text string.new ≡ text string.old ++ decode units.old.items) × (units.new.items ≡ [])) (λ e. Fails e (paired units.old.items) (place self.now.cursor)) }
+        ensures { MatchResult result (λ _. (paired units.old.items ≡ true) × (text string.new ≡ text string.old ++ decode units.old.items) × (units.new.items ≡ [])) (λ e. Fails e (paired units.old.items) (S.sight.place self.now.source)) }
     {
         match decode(units, string) {
             Ok(true) => {
@@ -104,7 +104,7 @@ impl<I: Iterator<Item = char>> Reader<I> {
         units: &mut Vec<u16>,
         c: char,
     ) -> Result<bool, JsonParseError>
-        ensures { MatchResult result (λ done. (done ≡ false) × (paired units.old.items ≡ true) × (text string.new ≡ (text string.old ++ decode units.old.items) ++ c ∷ []) × (units.new.items ≡ [])) (λ e. Fails e (paired units.old.items) (place self.now.cursor)) }
+        ensures { MatchResult result (λ done. (done ≡ false) × (paired units.old.items ≡ true) × (text string.new ≡ (text string.old ++ decode units.old.items) ++ c ∷ []) × (units.new.items ≡ [])) (λ e. Fails e (paired units.old.items) (S.sight.place self.now.source)) }
     {
         self.flush(string, units)?;
         if push(string, c).is_err() {

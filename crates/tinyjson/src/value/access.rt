@@ -2,7 +2,8 @@
 ghost use Rattle.std.specs.Prelude.{◌≡◌, Option, IsSome, Some, None, option_map, refl};
 ghost use Rattle.tinyjson.specs.declared.value.JsonValue as made;
 ghost use Rattle.tinyjson.specs.Access.{number_part, boolean_part, string_part, null_part, array_part, object_part};
-ghost use Rattle.tinyjson.specs.Access.Laws.{number_of_put, boolean_of_put, string_of_put, array_of_put, object_of_put, put_of_number, put_of_boolean, put_of_string, put_of_array, put_of_object};
+ghost use Rattle.tinyjson.specs.Access.Laws.{number_of_put, boolean_of_put, string_of_put, array_of_put, object_of_put};
+ghost use Rattle.tinyjson.specs.Access.Laws.{put_of_number, put_of_boolean, put_of_string, put_of_array, put_of_object};
 
 use super::JsonValue;
 use crate::number::JsonNumber;
@@ -52,7 +53,8 @@ pub trait InnerAsRefMut {
 
     /// The part of `v` that this type sees, for writing. Where it sees none, `v` stays as it is.
     fn json_value_as_mut(v: &mut JsonValue) -> Option<&mut Self>
-        ensures* writes_back { sem 𝓛 (LendsIf the_row Self.row v.entry result (put v.old) v.old) }
+        ensures* writes_back { sem 𝓛 (LendsIf the_row Self.row v.entry result
+            (put v.old) v.old) }
         ensures value { option_map (λ x. x.now) result ≡ part v.old };
 
     ghost part_of_put: { (v : JsonValue) (x : Self) → IsSome (part v) → part (put v x) ≡ Some x };
@@ -80,14 +82,23 @@ impl JsonValue {
     /// The part of this value that `T` sees, for writing. Afterwards the value is the old one with
     /// what was written in the place of the part; where `T` sees none, it stays as it is.
     ///
+    /// Where the write is to be proved, take this and not a `match` on a `&mut JsonValue`: after it
+    /// the value is plainly `Object`, `Array` or the like of what was written, and a call on a part
+    /// of a part, as below, says of the whole what its own contract says of the part.
+    ///
     /// ```
-    /// let mut value = JsonValue::from(vec![in alloc; JsonValue::Null]?);
-    /// if let Some(items) = value.get_mut::<Vec<JsonValue>>() {
-    ///     items.push(JsonValue::from(false))?;
+    /// fn set_member(value: &mut JsonValue, key: &str, part: JsonValue) -> Option<JsonValue>
+    ///     ensures { OnSome result
+    ///         (view value.new ≡ with_tree_at_key (view value.old) (chars key.now) (view part)) }
+    /// {
+    ///     let members = value.get_mut::<HashMap<String, JsonValue>>()?;
+    ///     let member = members.get_mut(key)?;
+    ///     Some(mem::replace(member, part))
     /// }
     /// ```
     pub fn get_mut<T: InnerAsRefMut>(&mut self) -> Option<&mut T>
-        ensures* writes_back { sem 𝓛 (LendsIf the_row T.row self.entry result (T.put self.old) self.old) }
+        ensures* writes_back { sem 𝓛 (LendsIf the_row T.row self.entry result
+            (T.put self.old) self.old) }
         ensures value { option_map (λ x. x.now) result ≡ T.part self.old }
     {
         T::json_value_as_mut(self)

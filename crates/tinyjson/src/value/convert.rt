@@ -29,6 +29,12 @@ pub struct UnexpectedValue {
 
 impl UnexpectedValue {
     /// The value that was not converted.
+    ///
+    /// ```
+    /// if let Err(fault) = bool::try_from(JsonValue::Null) {
+    ///     assert!(rt; fault.value().is_null());
+    /// }
+    /// ```
     pub fn value(&self) -> &JsonValue
         ensures { result.now ≡ unexpected_value self.now }
     {
@@ -192,7 +198,7 @@ impl TryFrom<JsonValue> for bool {
 ///
 /// ```
 /// let value = JsonValue::from("foo".to_string(alloc)?);
-/// assert!(rt; String::try_from(value).is_ok_and(|text| text == "foo"));
+/// assert!(rt; String::try_from(value).is_ok_and(|text| text.as_str() == "foo"));
 /// ```
 impl TryFrom<JsonValue> for String {
     type Error = UnexpectedValue;

@@ -3,7 +3,7 @@
 use super::JsonValue;
 
 /// Two values are equal if their trees are: arrays item by item, objects with the same keys and
-/// equal members at each, in whatever order they came in.
+/// equal members at each, in whatever order they came in. The comparison recurses over the levels.
 ///
 /// ```
 /// let one = JsonValue::from(vec![in alloc; JsonValue::Null]?);

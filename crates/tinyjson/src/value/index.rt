@@ -19,7 +19,10 @@ use std::ops::{Index, IndexMut};
 ///
 /// ```
 /// let value = JsonValue::from(vec![in alloc; JsonValue::Null, JsonValue::Boolean(true)]?);
-/// if value.get::<Vec<JsonValue>>().is_some_and(|items| items.len() == 2) {
+/// if value
+///     .get::<Vec<JsonValue>>()
+///     .is_some_and(|items| items.len() == 2)
+/// {
 ///     assert!(rt; value[1] == JsonValue::Boolean(true));
 /// }
 /// ```
@@ -39,12 +42,22 @@ impl Index<usize> for JsonValue {
 /// The member at the key of an object.
 ///
 /// The caller shows that the value is an object that has the key; `get` and `contains_key` are the
-/// test.
+/// test. A part of a part is proved step by step, as below: a proof can't follow the chain
+/// `value["arr"][1]`, whose test would name another result of the first index.
 ///
 /// ```
 /// let value = JsonValue::from(members);
-/// if value.get::<HashMap<String, JsonValue>>().is_some_and(|m| m.contains_key("foo")) {
-///     assert!(rt; value["foo"] == JsonValue::Boolean(true));
+/// if value
+///     .get::<HashMap<String, JsonValue>>()
+///     .is_some_and(|m| m.contains_key("arr"))
+/// {
+///     let arr = &value["arr"];
+///     if arr
+///         .get::<Vec<JsonValue>>()
+///         .is_some_and(|items| items.len() == 2)
+///     {
+///         assert!(rt; arr[1] == JsonValue::Boolean(true));
+///     }
 /// }
 /// ```
 impl<'k> Index<&'k str> for JsonValue {
@@ -63,18 +76,23 @@ impl<'k> Index<&'k str> for JsonValue {
 /// The item at the index of an array, for writing. Afterwards the value is the old one with what was
 /// written in the place of that item.
 ///
-/// The caller shows that the value is an array longer than the index.
+/// The caller shows that the value is an array longer than the index. Where a proof is to know what
+/// was written, take [`JsonValue::replace_item`].
 ///
 /// ```
 /// let mut value = JsonValue::from(vec![in alloc; JsonValue::Null]?);
-/// if value.get::<Vec<JsonValue>>().is_some_and(|items| items.len() == 1) {
+/// if value
+///     .get::<Vec<JsonValue>>()
+///     .is_some_and(|items| items.len() == 1)
+/// {
 ///     value[0] = JsonValue::from(true);
 /// }
 /// ```
 impl IndexMut<usize> for JsonValue {
     fn index_mut(&mut self, index: usize) -> &mut JsonValue
         requires { IsSome (item_at self.old index) }
-        ensures* writes_back { sem 𝓛 (Lends the_row the_row self.entry result (with_item_at self.old index)) }
+        ensures* writes_back { sem 𝓛 (Lends the_row the_row self.entry result
+            (with_item_at self.old index)) }
         ensures value { IsItemAt self.old index result.now }
     {
         item_mut(array_mut(self), index)
@@ -84,18 +102,23 @@ impl IndexMut<usize> for JsonValue {
 /// The member at the key of an object, for writing. Afterwards the value is the old one with what was
 /// written in the place of that member.
 ///
-/// The caller shows that the value is an object that has the key.
+/// The caller shows that the value is an object that has the key. Where a proof is to know what was
+/// written, take [`JsonValue::replace_member`].
 ///
 /// ```
 /// let mut value = JsonValue::from(members);
-/// if value.get::<HashMap<String, JsonValue>>().is_some_and(|m| m.contains_key("foo")) {
+/// if value
+///     .get::<HashMap<String, JsonValue>>()
+///     .is_some_and(|m| m.contains_key("foo"))
+/// {
 ///     value["foo"] = JsonValue::from(true);
 /// }
 /// ```
 impl<'k> IndexMut<&'k str> for JsonValue {
     fn index_mut(&mut self, key: &'k str) -> &mut JsonValue
         requires { IsSome (member_at self.old key.now) }
-        ensures* writes_back { sem 𝓛 (LendsSo the_row the_row self.entry (Some result) (λ n w. IsWithMember self.old key.now w n) (λ n. ⊤)) }
+        ensures* writes_back { sem 𝓛 (LendsSo the_row the_row self.entry (Some result)
+            (λ n w. IsWithMember self.old key.now w n) (λ n. ⊤)) }
         ensures value { IsMemberAt self.old key.now result.now }
     {
         found(member_mut(object_mut(self), key))
@@ -114,7 +137,8 @@ fn array_mut(value: &mut JsonValue) -> &mut Vec<JsonValue>
 /// The item at the index, for writing.
 fn item_mut(items: &mut Vec<JsonValue>, index: usize) -> &mut JsonValue
     requires { index < length items.old.items }
-    ensures* writes_back { sem 𝓛 (Lends array_row the_row items.entry result (with_item items.old index)) }
+    ensures* writes_back { sem 𝓛 (Lends array_row the_row items.entry result
+        (with_item items.old index)) }
     ensures value { slice_get items.old.items index ≡ Some result.now }
 {
     &mut items[index]
@@ -134,13 +158,14 @@ fn member_mut<'m>(
     members: &'m mut HashMap<String, JsonValue>,
     key: &str,
 ) -> Option<&'m mut JsonValue>
-    ensures* writes_back { sem 𝓛 (LendsSo object_row the_row members.entry result (λ n w. OnSome result (IsMapWith members.old key.now w n)) (λ n. n ≡ members.old)) }
+    ensures* writes_back { sem 𝓛 (LendsSo object_row the_row members.entry result
+        (λ n w. OnSome result (IsMapWith members.old key.now w n)) (λ n. n ≡ members.old)) }
     ensures value { option_map (λ x. x.now) result ≡ get_by_text members.old key.now }
 {
     members.get_mut(key)
 }
 
-/// The place that is there.
+/// Unwraps a reference that the caller knows to be there.
 fn found<'v>(place: Option<&'v mut JsonValue>) -> &'v mut JsonValue
     requires { IsSome place }
     ensures { place.entry ≡ Some result }

@@ -25,6 +25,11 @@ impl JsonValue {
     }
 
     /// The compact text.
+    ///
+    /// ```
+    /// let value = JsonValue::from_str(alloc, "[1.50e1, null]")?;
+    /// assert_eq!(rt; value.stringify(alloc)?.as_str(), "[15,null]");
+    /// ```
     pub fn stringify(&self, alloc: Global) -> JsonGenerateResult
         ensures { IfOk result (λ s. chars (string_bytes s) ≡ compact (view self.now)) }
     {
@@ -32,15 +37,26 @@ impl JsonValue {
     }
 
     /// The text indented with two spaces.
+    ///
+    /// ```
+    /// let value = JsonValue::from_str(alloc, "[1.50e1, null]")?;
+    /// assert_eq!(rt; value.format(alloc)?.as_str(), "[\n  15,\n  null\n]");
+    /// ```
     pub fn format(&self, alloc: Global) -> JsonGenerateResult
         ensures { IfOk result (λ s. chars (string_bytes s) ≡ indented (view self.now) (codes "  ") 0) }
     {
         generator::format(alloc, self)
     }
 
-    /// Writes the compact text, with the faults of [`JsonGenerator::generate`].
+    /// Writes the compact text, with the errors of [`JsonGenerator::generate`].
     ///
     /// [`JsonGenerator::generate`]: crate::JsonGenerator::generate
+    ///
+    /// ```
+    /// let mut bytes = Vec::new(alloc);
+    /// JsonValue::Boolean(true).write_to(alloc, &mut bytes)?;
+    /// assert_eq!(rt; bytes.as_slice(), b"true".as_slice());
+    /// ```
     pub fn write_to<W: Write>(&self, alloc: Global, w: &mut W) -> io::Result<()>
         ensures { WritesText (W.contents w.old) (W.contents w.new) (compact (view self.now)) result }
     {
@@ -48,12 +64,19 @@ impl JsonValue {
             alloc,
             indent: None,
         };
-        encoder.encode(w, 0, self)
+        encoder.encode(w, self)
     }
 
-    /// Writes the text indented with two spaces, with the faults of [`JsonGenerator::generate`].
+    /// Writes the text indented with two spaces, with the errors of [`JsonGenerator::generate`].
     ///
     /// [`JsonGenerator::generate`]: crate::JsonGenerator::generate
+    ///
+    /// ```
+    /// let value = JsonValue::from_str(alloc, "[true]")?;
+    /// let mut bytes = Vec::new(alloc);
+    /// value.format_to(alloc, &mut bytes)?;
+    /// assert_eq!(rt; bytes.as_slice(), b"[\n  true\n]".as_slice());
+    /// ```
     pub fn format_to<W: Write>(&self, alloc: Global, w: &mut W) -> io::Result<()>
         ensures { WritesText (W.contents w.old) (W.contents w.new) (indented (view self.now) (codes "  ") 0) result }
     {
@@ -61,6 +84,6 @@ impl JsonValue {
             alloc,
             indent: Some(INDENT),
         };
-        encoder.encode(w, 0, self)
+        encoder.encode(w, self)
     }
 }

@@ -1,4 +1,4 @@
-use Rattle.std.proofs.Common.{◌≡◌, ◌∙◌, ap}
+use Rattle.std.proofs.Common.{◌∙◌, ap}
 use Rattle.tinyjson.specs.Tree.{array}
 use Rattle.tinyjson.specs.View.{items_view}
 use Rattle.tinyjson.proofs.Containers.{view-Array}

@@ -1,4 +1,4 @@
-use Rattle.std.proofs.Common.{◌≡◌, ◌∙◌, ap}
+use Rattle.std.proofs.Common.{◌∙◌, ap}
 use Rattle.tinyjson.specs.Tree.{object}
 use Rattle.tinyjson.proofs.Containers.{view-Object}
 use Rattle.tinyjson.proofs.Views.{members_view-same}

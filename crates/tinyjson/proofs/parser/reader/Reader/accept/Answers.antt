@@ -1,6 +1,6 @@
-use Rattle.std.proofs.Common.{rules, ◌++◌, ◌∷◌, [], string_bytes, ap, ◌∙◌}
+use Rattle.std.proofs.Common.{rules, ◌∷◌, []}
 use Rattle.std.proofs.lemmas.Result.{err_from_is_err_and}
-use Rattle.tinyjson.proofs.Cursors.{Takes-append}
+use Rattle.tinyjson.proofs.Sources.{Takes-append}
 use Rattle.tinyjson.proofs.NumberReading.{any_small}
 use Rattle.tinyjson.proofs.parser.reader.Reader.accept.Goals as goal
 
@@ -11,7 +11,7 @@ pub returns-in_err-keep-in-Some-clause-accepts : goal.returns-in_err-keep-in-Som
 returns-in_err-keep-in-Some-clause-accepts g c =
     let p = err_from_is_err_and c.from_residual.result c.from_residual.ensures.1 in
     let k = c.in_err-keep-in-Some.ensures.keeps in
-    rw (p.1, p.2) (Takes-append g.I.Iterator.next_gives _ _ _ [] [] c.peek.ensures.takes k.0, k.1)
+    rw (p.1, p.2) (Takes-append g.S.Source.sight _ _ _ [] [] c.peek.ensures.takes k.0, k.1)
 
 pub returns-in_ok-keep-in-Some-clause-accepts : goal.returns-in_ok-keep-in-Some-clause-accepts
 returns-in_ok-keep-in-Some-clause-accepts g c =
@@ -19,6 +19,6 @@ returns-in_ok-keep-in-Some-clause-accepts g c =
     record {
       c = c.in-Some.c;
       one = search rules;
-      takes = Takes-append g.I.Iterator.next_gives _ _ _ [] (c.in-Some.c ∷ []) c.peek.ensures.takes k.0;
-      text = k.1 ∙ ap (λ s. string_bytes s ++ c.in-Some.c ∷ []) c.peek.ensures.literal;
+      takes = Takes-append g.S.Source.sight _ _ _ [] (c.in-Some.c ∷ []) c.peek.ensures.takes k.0;
+      text = k.1;
     }

@@ -1,4 +1,4 @@
-use Rattle.std.proofs.Common.{refl, ◌∙◌, sym}
+use Rattle.std.proofs.Common.{◌∙◌, sym}
 use Rattle.tinyjson.specs.declared.parser.error.JsonParseErrorKind.TheVariants.{UnexpectedEof, InvalidEscape}
 use Rattle.tinyjson.proofs.Readings.{end_quoted, Leads-nil, Leads-one, Leads-none, Refuses-as, Reads-after}
 use Rattle.tinyjson.proofs.StringReading.{Reads-add, short_read, u_read, escape_other}
@@ -6,27 +6,27 @@ use Rattle.tinyjson.proofs.parser.reader.Reader.escape.Goals as goal
 
 pub returns-in_default-clause-reads : goal.returns-in_default-clause-reads
 returns-in_default-clause-reads g c = λ limit fs.
-    let steps = g.I.Iterator.next_gives in
-    Refuses-as steps limit _ _ c.refuse.result UnexpectedEof c.refuse.ensures.kind c.refuse.ensures.at
-    (Leads-none steps limit _ _ _ (Leads-nil steps limit _ _ c.args.self.now.line_fits c.args.self.now.column_fits) c.in_default.ensures.takes.0 c.in_default.ensures.takes.1 (end_quoted limit fs _ _ _) tt)
+    let sight = g.S.Source.sight in
+    Refuses-as sight limit _ _ c.refuse.result UnexpectedEof c.refuse.ensures.kind c.refuse.ensures.at
+    (Leads-none sight limit _ _ _ (Leads-nil sight limit _ _) c.in_default.ensures.takes.0 c.in_default.ensures.takes.1 (end_quoted limit fs _ _ _) tt)
 
 pub returns-in-Some-short_escape-clause-reads : goal.returns-in-Some-short_escape-clause-reads
 returns-in-Some-short_escape-clause-reads g c = λ limit fs.
-    let steps = g.I.Iterator.next_gives in
-    Reads-add steps limit _ _ _ fs c.add.result c.args.string.now c.add.new.string c.args.units.now.items c.add.new.units.items c.in-Some.c c.in-Some-short_escape.d
-    (Leads-nil steps limit _ _ c.args.self.now.line_fits c.args.self.now.column_fits) c.in-Some.ensures.takes tt tt
+    let sight = g.S.Source.sight in
+    Reads-add sight limit _ _ _ fs c.add.result c.args.string.now c.add.new.string c.args.units.now.items c.add.new.units.items c.in-Some.c c.in-Some-short_escape.d
+    (Leads-nil sight limit _ _) c.in-Some.ensures.takes tt tt
     (short_read limit fs _ _ c.in-Some.c c.in-Some-short_escape.d (sym c.short_escape.ensures ∙ c.in-Some-short_escape.is)) c.add.ensures
 
 pub returns-in-None-clause-reads : goal.returns-in-None-clause-reads
 returns-in-None-clause-reads g c = λ limit fs.
-    let steps = g.I.Iterator.next_gives in
-    Reads-after steps limit _ _ _ _ _
-    (Leads-one steps limit _ _ _ c.in-Some.c (Leads-nil steps limit _ _ c.args.self.now.line_fits c.args.self.now.column_fits) c.in-Some.ensures.takes tt (u_read limit fs _ _ c.in-Some.c c.if-c-eq117.true) tt)
+    let sight = g.S.Source.sight in
+    Reads-after sight limit _ _ _ _ _
+    (Leads-one sight limit _ _ _ c.in-Some.c (Leads-nil sight limit _ _) c.in-Some.ensures.takes tt (u_read limit fs _ _ c.in-Some.c c.if-c-eq117.true) tt)
     (c.unit.ensures.reads limit fs _)
 
 pub returns-in-None-2-clause-reads : goal.returns-in-None-2-clause-reads
 returns-in-None-2-clause-reads g c = λ limit fs.
-    let steps = g.I.Iterator.next_gives in
-    Refuses-as steps limit _ _ c.refuse-in-None-2.result (InvalidEscape c.in-Some.c) c.refuse-in-None-2.ensures.kind c.refuse-in-None-2.ensures.at
-    (Leads-one steps limit _ _ _ c.in-Some.c (Leads-nil steps limit _ _ c.args.self.now.line_fits c.args.self.now.column_fits) c.in-Some.ensures.takes tt
+    let sight = g.S.Source.sight in
+    Refuses-as sight limit _ _ c.refuse-in-None-2.result (InvalidEscape c.in-Some.c) c.refuse-in-None-2.ensures.kind c.refuse-in-None-2.ensures.at
+    (Leads-one sight limit _ _ _ c.in-Some.c (Leads-nil sight limit _ _) c.in-Some.ensures.takes tt
     (escape_other limit fs _ _ c.in-Some.c (sym c.short_escape.ensures ∙ c.in-None-2.is) c.if-c-eq117.false) tt)

@@ -7,13 +7,13 @@ pub returns-in_err-accept-clause-reads : goal.returns-in_err-accept-clause-reads
 returns-in_err-accept-clause-reads g c = λ b ds s e.
     let p = err_from_is_err_and c.from_residual.result c.from_residual.ensures.1 in
     let k = c.in_err-accept.ensures.accepts in
-    rw (p.1, p.2) (λ limit fs. Refuses-first g.I.Iterator.next_gives _ _ c.args.self.now.line_fits c.args.self.now.column_fits limit _ _ tt k.0 k.1)
+    rw (p.1, p.2) (λ limit fs. Refuses-first g.S.Source.sight _ _ limit _ _ tt k.0 k.1)
 
 pub returns-then-not-branch-clause-reads : goal.returns-then-not-branch-clause-reads
 returns-then-not-branch-clause-reads g c = λ b ds s e.
-    Part-no-fraction g.I.Iterator.next_gives _ _ c.args.self.now.line_fits c.args.self.now.column_fits b ds _ _ s e (was_declined g.I.Iterator.next_gives _ _ _ _ _ c.in_ok-accept.field-0 c.in_ok-accept.ensures.accepts c.if-not-branch.true)
+    Part-no-fraction g.S.Source.sight _ _ b ds _ _ s e (was_declined g.S.Source.sight _ _ _ _ _ c.in_ok-accept.field-0 c.in_ok-accept.ensures.accepts c.if-not-branch.true)
 
 pub returns-clause-reads : goal.returns-clause-reads
 returns-clause-reads g c = λ b ds s e.
-    Reads-fraction g.I.Iterator.next_gives _ _ c.args.self.now.line_fits c.args.self.now.column_fits b ds _ _ s _ _ (was_accepted g.I.Iterator.next_gives _ _ _ _ _ c.in_ok-accept.field-0 c.in_ok-accept.ensures.accepts c.if-not-branch.false)
+    Reads-fraction g.S.Source.sight _ _ b ds _ _ s _ _ (was_accepted g.S.Source.sight _ _ _ _ _ c.in_ok-accept.field-0 c.in_ok-accept.ensures.accepts c.if-not-branch.false)
     c.digits.result c.digits.ensures.reads

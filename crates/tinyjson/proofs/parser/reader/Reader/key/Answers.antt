@@ -9,9 +9,9 @@ use Rattle.tinyjson.proofs.parser.reader.Reader.key.Goals as goal
 
 pub returns-in_default-clause-reads : goal.returns-in_default-clause-reads
 returns-in_default-clause-reads g c = λ limit.
-    let steps = g.I.Iterator.next_gives in
-    Refuses-as steps limit _ _ c.refuse.result (KeyNotString (kind_of (view c.args.value))) (c.refuse.ensures.kind ∙ ap KeyNotString c.kind.ensures) c.refuse.ensures.at
-    (Leads-to steps limit _ _ (Leads-nil steps limit _ _ c.args.self.now.line_fits c.args.self.now.column_fits) (sym (no_key _ _ (view c.args.value) (no_string c.args.value c.in_default.not-String))))
+    let sight = g.S.Source.sight in
+    Refuses-as sight limit _ _ c.refuse.result (KeyNotString (kind_of (view c.args.value))) (c.refuse.ensures.kind ∙ ap KeyNotString c.kind.ensures) c.refuse.ensures.at
+    (Leads-to sight limit _ _ (Leads-nil sight limit _ _) (sym (no_key _ _ (view c.args.value) (no_string c.args.value c.in_default.not-String))))
 
 pub returns-in-String-clause-reads : goal.returns-in-String-clause-reads
 returns-in-String-clause-reads g c = λ limit. rw (c.in-String.is, view-String c.in-String.key) (c.colon.ensures.reads limit)

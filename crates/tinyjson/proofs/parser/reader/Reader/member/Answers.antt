@@ -1,4 +1,4 @@
-use Rattle.std.proofs.Common.{ap, rules, refl, sym, subst, ◌∙◌, false, IfSome, ◌≡◌}
+use Rattle.std.proofs.Common.{ap, rules, sym, subst, ◌∙◌, false, IfSome, ◌≡◌}
 use Rattle.tinyjson.specs.Characters.{is_white}
 use Rattle.tinyjson.specs.declared.parser.error.JsonParseErrorKind.TheVariants.{UnexpectedEof, ExpectedCommaOrBrace}
 use Rattle.tinyjson.specs.Tree.{object}
@@ -8,35 +8,35 @@ use Rattle.tinyjson.proofs.parser.reader.Reader.member.Goals as goal
 
 pub returns-then-is_err-clause-reads : goal.returns-then-is_err-clause-reads
 returns-then-is_err-clause-reads g c = λ limit.
-    let steps = g.I.Iterator.next_gives in
-    Refuses-memory steps limit _ _ c.refuse.result c.refuse.ensures.kind c.refuse.ensures.at
-    (Halts-here steps limit _ _ (Leads-nil steps limit _ _ c.args.self.now.line_fits c.args.self.now.column_fits) tt tt)
+    let sight = g.S.Source.sight in
+    Refuses-memory sight limit _ _ c.refuse.result c.refuse.ensures.kind c.refuse.ensures.at
+    (Halts-here sight limit _ _ (Leads-nil sight limit _ _) tt tt)
 
 pub returns-in-Some-eq44-clause-reads : goal.returns-in-Some-eq44-clause-reads
 returns-in-Some-eq44-clause-reads g c = λ limit.
-    let steps = g.I.Iterator.next_gives in
-    Reads-after steps limit _ _ _ _ _
-    (Leads-one steps limit _ _ _ c.in-Some-eq44.field-0 (Leads-whites steps limit _ _ _ c.skip_white.ensures.white tt (white_after limit _)) c.in-Some-eq44.ensures.takes tt
+    let sight = g.S.Source.sight in
+    Reads-after sight limit _ _ _ _ _
+    (Leads-one sight limit _ _ _ c.in-Some-eq44.field-0 (Leads-whites sight limit _ _ _ c.skip_white.ensures.white tt (white_after limit _)) c.in-Some-eq44.ensures.takes tt
     (object_comma limit _ _ _ c.in-Some-eq44.field-0 (search rules) (search rules)) tt)
     (c.open.ensures.reads limit)
 
 pub returns-in-Some-eq125-clause-reads : goal.returns-in-Some-eq125-clause-reads
 returns-in-Some-eq125-clause-reads g c = λ limit.
-    let steps = g.I.Iterator.next_gives in
-    Leads-one steps limit _ _ _ c.in-Some-eq125.field-0 (Leads-whites steps limit _ _ _ c.skip_white.ensures.white tt (white_after limit _)) c.in-Some-eq125.ensures.takes tt
+    let sight = g.S.Source.sight in
+    Leads-one sight limit _ _ _ c.in-Some-eq125.field-0 (Leads-whites sight limit _ _ _ c.skip_white.ensures.white tt (white_after limit _)) c.in-Some-eq125.ensures.takes tt
     (object_closes limit _ _ _ c.in-Some-eq125.field-0 (c.whole_object.ensures ∙ ap object (search rules)) (search rules)) (taken_complete _ _)
 
 pub returns-in-Some-clause-reads : goal.returns-in-Some-clause-reads
 returns-in-Some-clause-reads g c = λ limit.
-    let steps = g.I.Iterator.next_gives in
+    let sight = g.S.Source.sight in
     let e = sym (c.bump.ensures.shown c.skip_white.result c.skip_white.ensures.shows) ∙ c.in-Some.is in
     let w = subst (λ o. IfSome o (λ d. is_white d ≡ false)) e c.skip_white.ensures.stops in
-    Refuses-as steps limit _ _ c.refuse-in-Some.result (ExpectedCommaOrBrace c.in-Some.c) c.refuse-in-Some.ensures.kind c.refuse-in-Some.ensures.at
-    (Leads-one steps limit _ _ _ c.in-Some.c (Leads-whites steps limit _ _ _ c.skip_white.ensures.white tt (white_after limit _)) c.in-Some.ensures.takes tt
+    Refuses-as sight limit _ _ c.refuse-in-Some.result (ExpectedCommaOrBrace c.in-Some.c) c.refuse-in-Some.ensures.kind c.refuse-in-Some.ensures.at
+    (Leads-one sight limit _ _ _ c.in-Some.c (Leads-whites sight limit _ _ _ c.skip_white.ensures.white tt (white_after limit _)) c.in-Some.ensures.takes tt
     (object_other limit _ _ c.in-Some.c w (search rules) (search rules)) tt)
 
 pub returns-in-None-clause-reads : goal.returns-in-None-clause-reads
 returns-in-None-clause-reads g c = λ limit.
-    let steps = g.I.Iterator.next_gives in
-    Refuses-as steps limit _ _ c.refuse-in-None.result UnexpectedEof c.refuse-in-None.ensures.kind c.refuse-in-None.ensures.at
-    (Leads-none steps limit _ _ _ (Leads-whites steps limit _ _ _ c.skip_white.ensures.white tt (white_after limit _)) c.in-None.ensures.takes.0 c.in-None.ensures.takes.1 (end_after limit _) tt)
+    let sight = g.S.Source.sight in
+    Refuses-as sight limit _ _ c.refuse-in-None.result UnexpectedEof c.refuse-in-None.ensures.kind c.refuse-in-None.ensures.at
+    (Leads-none sight limit _ _ _ (Leads-whites sight limit _ _ _ c.skip_white.ensures.white tt (white_after limit _)) c.in-None.ensures.takes.0 c.in-None.ensures.takes.1 (end_after limit _) tt)

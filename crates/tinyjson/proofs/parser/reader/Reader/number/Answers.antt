@@ -12,38 +12,38 @@ returns-in_err-fraction-clause-reads g c = λ limit fs.
     let r = c.from_residual-in_err-fraction in
     let p = err_from_is_err_and r.result r.ensures.1 in
     let i = c.in_ok-integer.ensures.reads in
-    rw (p.1, p.2) (Refuses-after g.I.Iterator.next_gives limit _ _ _ _ (i.leads limit fs) (c.in_err-fraction.ensures.reads i.part.0 i.part.1 i.spells i.ends limit fs))
+    rw (p.1, p.2) (Refuses-after g.S.Source.sight limit _ _ _ _ (i.leads limit fs) (c.in_err-fraction.ensures.reads i.part.0 i.part.1 i.spells i.ends limit fs))
 
 pub returns-in_err-exponent-clause-reads : goal.returns-in_err-exponent-clause-reads
 returns-in_err-exponent-clause-reads g c = λ limit fs.
-    let steps = g.I.Iterator.next_gives in
+    let sight = g.S.Source.sight in
     let r = c.from_residual-in_err-exponent in
     let p = err_from_is_err_and r.result r.ensures.1 in
-    let f = Part-fraction steps _ _ _ _ _ c.in_ok-integer.ensures.reads c.in_ok-fraction.ensures.reads in
-    rw (p.1, p.2) (Refuses-after steps limit _ _ _ _ (f.leads limit fs) (c.in_err-exponent.ensures.reads f.part.0 f.part.1 f.part.2 f.spells f.ends limit fs))
+    let f = Part-fraction sight _ _ _ _ _ c.in_ok-integer.ensures.reads c.in_ok-fraction.ensures.reads in
+    rw (p.1, p.2) (Refuses-after sight limit _ _ _ _ (f.leads limit fs) (c.in_err-exponent.ensures.reads f.part.0 f.part.1 f.part.2 f.spells f.ends limit fs))
 
 pub from_literal-requires : goal.from_literal-requires
 from_literal-requires g c =
-    let steps = g.I.Iterator.next_gives in
-    let n = Part-number steps _ _ _ _ _ (Part-fraction steps _ _ _ _ _ c.in_ok-integer.ensures.reads c.in_ok-fraction.ensures.reads) c.in_ok-exponent.ensures.reads in
+    let sight = g.S.Source.sight in
+    let n = Part-number sight _ _ _ _ _ (Part-fraction sight _ _ _ _ _ c.in_ok-integer.ensures.reads c.in_ok-fraction.ensures.reads) c.in_ok-exponent.ensures.reads in
     (n.part, subst (Spells n.part) (sym c.as_str.ensures.value) n.spells)
 
 pub returns-in-Ok-clause-reads : goal.returns-in-Ok-clause-reads
 returns-in-Ok-clause-reads g c = λ limit fs.
-    let steps = g.I.Iterator.next_gives in
-    let n = Part-number steps _ _ _ _ _ (Part-fraction steps _ _ _ _ _ c.in_ok-integer.ensures.reads c.in_ok-fraction.ensures.reads) c.in_ok-exponent.ensures.reads in
-    Leads-number steps limit fs _ _ _ n c.in-Ok.number (c.in-Ok.ensures n.part (subst (Spells n.part) (sym c.as_str.ensures.value) n.spells))
+    let sight = g.S.Source.sight in
+    let n = Part-number sight _ _ _ _ _ (Part-fraction sight _ _ _ _ _ c.in_ok-integer.ensures.reads c.in_ok-fraction.ensures.reads) c.in_ok-exponent.ensures.reads in
+    Leads-number sight limit fs _ _ _ n c.in-Ok.number (c.in-Ok.ensures n.part (subst (Spells n.part) (sym c.as_str.ensures.value) n.spells))
 
 pub returns-in-Err-OutOfRange-clause-reads : goal.returns-in-Err-OutOfRange-clause-reads
 returns-in-Err-OutOfRange-clause-reads g c = λ limit fs.
-    let steps = g.I.Iterator.next_gives in
-    let n = Part-number steps _ _ _ _ _ (Part-fraction steps _ _ _ _ _ c.in_ok-integer.ensures.reads c.in_ok-fraction.ensures.reads) c.in_ok-exponent.ensures.reads in
+    let sight = g.S.Source.sight in
+    let n = Part-number sight _ _ _ _ _ (Part-fraction sight _ _ _ _ _ c.in_ok-integer.ensures.reads c.in_ok-fraction.ensures.reads) c.in_ok-exponent.ensures.reads in
     let e : c.in-Err-OutOfRange.field-0 ≡ OutOfRange = search rules in
     let r = subst (λ x. ReadsNumeral n.part (Err x)) e (c.in-Err-OutOfRange.ensures n.part (subst (Spells n.part) (sym c.as_str.ensures.value) n.spells)) in
-    Refuses-range steps limit fs _ _ _ n c.refuse.result r c.refuse.ensures.kind c.refuse.ensures.at
+    Refuses-range sight limit fs _ _ _ n c.refuse.result r c.refuse.ensures.kind c.refuse.ensures.at
 
 pub returns-in-Err-OutOfMemory-clause-reads : goal.returns-in-Err-OutOfMemory-clause-reads
 returns-in-Err-OutOfMemory-clause-reads g c = λ limit fs.
-    let steps = g.I.Iterator.next_gives in
-    let n = Part-number steps _ _ _ _ _ (Part-fraction steps _ _ _ _ _ c.in_ok-integer.ensures.reads c.in_ok-fraction.ensures.reads) c.in_ok-exponent.ensures.reads in
-    Refuses-memory steps limit _ _ _ c.refuse-in-Err-OutOfMemory.ensures.kind c.refuse-in-Err-OutOfMemory.ensures.at (Halts-here steps limit _ _ (n.leads limit fs) tt tt)
+    let sight = g.S.Source.sight in
+    let n = Part-number sight _ _ _ _ _ (Part-fraction sight _ _ _ _ _ c.in_ok-integer.ensures.reads c.in_ok-fraction.ensures.reads) c.in_ok-exponent.ensures.reads in
+    Refuses-memory sight limit _ _ _ c.refuse-in-Err-OutOfMemory.ensures.kind c.refuse-in-Err-OutOfMemory.ensures.at (Halts-here sight limit _ _ (n.leads limit fs) tt tt)

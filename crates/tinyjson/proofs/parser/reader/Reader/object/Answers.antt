@@ -3,7 +3,7 @@ use Rattle.tinyjson.specs.Machine.{fits}
 use Rattle.tinyjson.specs.Reading.{frames}
 use Rattle.tinyjson.specs.View.{members_view}
 use Rattle.tinyjson.specs.declared.parser.error.JsonParseErrorKind.TheVariants.{TooDeep}
-use Rattle.tinyjson.proofs.Cursors.{Takes-shown}
+use Rattle.tinyjson.proofs.Sources.{Takes-shown}
 use Rattle.tinyjson.proofs.Readings.{Leads-trans, Leads-whites, Leads-one, Refuses-as, Reads-after, white_first, taken_complete}
 use Rattle.tinyjson.proofs.Containers.{length-frames, object_begins, object_too_deep, object_closes_first, object_goes_on}
 use Rattle.tinyjson.proofs.parser.reader.Reader.object.Goals as goal
@@ -11,38 +11,38 @@ use Rattle.tinyjson.proofs.parser.reader.Reader.object.Goals.{in_default-via-in-
 
 pub returns-then-not-fits-clause-reads : goal.returns-then-not-fits-clause-reads
 returns-then-not-fits-clause-reads g c =
-    let steps = g.I.Iterator.next_gives in
+    let sight = g.S.Source.sight in
     let limit = c.args.limit in
     let p = c.args.self.now in
     let d : c.len.result ≡ length (frames c.args.stack.now.items) = (search rules) ∙ sym (length-frames c.args.stack.now.items) in
     let h : fits limit c.len.result ≡ false = search rules in
-    Refuses-as steps limit _ _ c.refuse.result (TooDeep 123) c.refuse.ensures.kind c.refuse.ensures.at
-    (object_too_deep steps limit p.cursor p.cursor _ _ d p.line_fits p.column_fits h c.requires)
+    Refuses-as sight limit _ _ c.refuse.result (TooDeep 123) c.refuse.ensures.kind c.refuse.ensures.at
+    (object_too_deep sight limit p.source p.source _ _ d h c.requires)
 
 pub returns-in-Some-eq125-clause-reads : goal.returns-in-Some-eq125-clause-reads
 returns-in-Some-eq125-clause-reads g c =
-    let steps = g.I.Iterator.next_gives in
+    let sight = g.S.Source.sight in
     let limit = c.args.limit in
     let p = c.args.self.now in
     let d : c.len.result ≡ length (frames c.args.stack.now.items) = (search rules) ∙ sym (length-frames c.args.stack.now.items) in
     let h : fits limit c.len.result ≡ true = search rules in
-    Leads-trans steps limit _ _ _
-    (object_begins steps limit p.cursor _ _ _ d p.line_fits p.column_fits h (Takes-shown steps _ _ _ _ (c.bump.ensures.shown (Some 123) c.requires) c.bump.ensures.takes))
-    (Leads-one steps limit _ _ _ c.in-Some-eq125.field-0 (Leads-whites steps limit _ _ _ c.skip_white.ensures.white tt (white_first limit _))
-    (Takes-shown steps _ _ _ _ (c.bump-in-Some-eq125.ensures.shown (Some c.in-Some-eq125.field-0) c.in-Some-eq125.ensures.shows) c.bump-in-Some-eq125.ensures.takes) tt
+    Leads-trans sight limit _ _ _
+    (object_begins sight limit p.source _ _ _ d h (Takes-shown sight _ _ _ _ (c.bump.ensures.shown (Some 123) c.requires) c.bump.ensures.takes))
+    (Leads-one sight limit _ _ _ c.in-Some-eq125.field-0 (Leads-whites sight limit _ _ _ c.skip_white.ensures.white tt (white_first limit _))
+    (Takes-shown sight _ _ _ _ (c.bump-in-Some-eq125.ensures.shown (Some c.in-Some-eq125.field-0) c.in-Some-eq125.ensures.shows) c.bump-in-Some-eq125.ensures.takes) tt
     (object_closes_first limit _ c.new-members.result c.in-Some-eq125.field-0 (search rules) (search rules)) (taken_complete _ _))
 
 pub returns-in_default-clause-reads : goal.returns-in_default-clause-reads
 returns-in_default-clause-reads g c =
-    let steps = g.I.Iterator.next_gives in
+    let sight = g.S.Source.sight in
     let limit = c.args.limit in
     let p = c.args.self.now in
     let d : c.len.result ≡ length (frames c.args.stack.now.items) = (search rules) ∙ sym (length-frames c.args.stack.now.items) in
     let h : fits limit c.len.result ≡ true = search rules in
     let empty : c.new-members.result.entries ≡ [] = search rules in
     let other : IfSome c.skip_white.result (λ d. d ≡ 125 → ⊥) = elim c.in_default.branch [ in_default-via-in-Some+in_default w ↦ rw w.in_default.is (search rules) | in_default-via-in_default w ↦ rw w.in_default.is tt ] in
-    Reads-after steps limit _ _ _ _ _
-    (Leads-trans steps limit _ _ _
-    (object_begins steps limit p.cursor _ _ _ d p.line_fits p.column_fits h (Takes-shown steps _ _ _ _ (c.bump.ensures.shown (Some 123) c.requires) c.bump.ensures.takes))
-    (object_goes_on steps limit _ _ _ _ c.skip_white.result (ap members_view empty) (Leads-whites steps limit _ _ _ c.skip_white.ensures.white tt (white_first limit _)) c.skip_white.ensures.shows c.skip_white.ensures.stops other))
+    Reads-after sight limit _ _ _ _ _
+    (Leads-trans sight limit _ _ _
+    (object_begins sight limit p.source _ _ _ d h (Takes-shown sight _ _ _ _ (c.bump.ensures.shown (Some 123) c.requires) c.bump.ensures.takes))
+    (object_goes_on sight limit _ _ _ _ c.skip_white.result (ap members_view empty) (Leads-whites sight limit _ _ _ c.skip_white.ensures.white tt (white_first limit _)) c.skip_white.ensures.shows c.skip_white.ensures.stops other))
     (c.open.ensures.reads limit)

@@ -10,32 +10,32 @@ use Rattle.tinyjson.proofs.parser.reader.Reader.string.Goals as goal
 
 pub loop-units-init : goal.loop-units-init
 loop-units-init g c =
-    let steps = g.I.Iterator.next_gives in
+    let sight = g.S.Source.sight in
     let a : text c.new-string.result ≡ [] = search (rules, chars-nil) in
     let b : c.new-units.result.items ≡ [] = search rules in
     record {
-      reads = λ limit fs. Leads-to steps limit _ _ (Leads-nil steps limit _ _ c.args.self.now.line_fits c.args.self.now.column_fits) (ap₂ (λ x y. next fs (quoted plain x y)) (sym a) (sym b));
+      reads = λ limit fs. Leads-to sight limit _ _ (Leads-nil sight limit _ _) (ap₂ (λ x y. next fs (quoted plain x y)) (sym a) (sym b));
       left = search rules;
     }
 
 pub returns-in_err-piece-clause-reads : goal.returns-in_err-piece-clause-reads
 returns-in_err-piece-clause-reads g c = λ limit fs.
-    let steps = g.I.Iterator.next_gives in
+    let sight = g.S.Source.sight in
     let p = err_from_is_err_and c.from_residual.result c.from_residual.ensures.1 in
-    rw (p.1, p.2) (Refuses-after steps limit _ _ _ _ (c.loop-units.invariant.reads limit fs) (c.in_err-piece.ensures.reads limit fs))
+    rw (p.1, p.2) (Refuses-after sight limit _ _ _ _ (c.loop-units.invariant.reads limit fs) (c.in_err-piece.ensures.reads limit fs))
 
 pub returns-then-branch-clause-reads : goal.returns-then-branch-clause-reads
 returns-then-branch-clause-reads g c = λ limit fs.
-    let steps = g.I.Iterator.next_gives in
-    Leads-trans steps limit _ _ _ (c.loop-units.invariant.reads limit fs)
-    (Leads-to steps limit _ _ (c.in_ok-piece.ensures.reads limit fs) (ap (within fs c.piece.new.string c.piece.new.units.items) c.if-branch.true ∙ ap (λ t. complete true fs t true) (sym (view-String c.piece.new.string))))
+    let sight = g.S.Source.sight in
+    Leads-trans sight limit _ _ _ (c.loop-units.invariant.reads limit fs)
+    (Leads-to sight limit _ _ (c.in_ok-piece.ensures.reads limit fs) (ap (within fs c.piece.new.string c.piece.new.units.items) c.if-branch.true ∙ ap (λ t. complete true fs t true) (sym (view-String c.piece.new.string))))
 
 pub loop-units-preserved : goal.loop-units-preserved
 loop-units-preserved g c =
-    let steps = g.I.Iterator.next_gives in
+    let sight = g.S.Source.sight in
     record {
       reads = λ limit fs.
-          Leads-trans steps limit _ _ _ (c.loop-units.invariant.reads limit fs)
-          (Leads-to steps limit _ _ (c.in_ok-piece.ensures.reads limit fs) (ap (within fs c.piece.new.string c.piece.new.units.items) c.if-branch.false));
+          Leads-trans sight limit _ _ _ (c.loop-units.invariant.reads limit fs)
+          (Leads-to sight limit _ _ (c.in_ok-piece.ensures.reads limit fs) (ap (within fs c.piece.new.string c.piece.new.units.items) c.if-branch.false));
       left = omega (arith, c.piece.ensures.left, c.loop-units.invariant.left);
     }

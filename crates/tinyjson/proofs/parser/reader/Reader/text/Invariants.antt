@@ -1,5 +1,4 @@
 use Rattle.std.proofs.Common.{[]}
-use Rattle.tinyjson.specs.Cursor.{left}
 use Rattle.tinyjson.specs.Machine.{awaited, next}
 use Rattle.tinyjson.specs.Reading.{Leads, at, frames}
 use Rattle.tinyjson.proofs.Growth.{Turn}
@@ -7,9 +6,9 @@ use Rattle.tinyjson.proofs.parser.reader.Reader.text.Given as goal
 
 abbrev pub invariant-loop-whole : goal.invariant-loop-whole
 invariant-loop-whole g l = record {
-  reads : Leads g.I.Iterator.next_gives l.fn.limit l.initial.self.cursor (next [] awaited) l.self.cursor (at (frames l.stack.items) l.whole);
-  memory : Turn g.I.Iterator.next_gives l.initial.self.cursor l.self.cursor l.stack.items l.whole;
+  reads : Leads g.S.Source.sight l.fn.limit l.initial.self.source (next [] awaited) l.self.source (at (frames l.stack.items) l.whole);
+  memory : Turn g.S.Source.sight l.initial.self.source l.self.source l.stack.items l.whole;
 }
 
 abbrev pub decreases-loop-whole : goal.decreases-loop-whole
-decreases-loop-whole g l = left g.I.Iterator.remaining l.self.cursor
+decreases-loop-whole g l = g.S.Source.left l.self.source

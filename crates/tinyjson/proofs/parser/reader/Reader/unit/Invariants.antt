@@ -1,5 +1,4 @@
 use Rattle.std.proofs.Common.{Option, ℕ, ◌≡◌, ◌≤◌, ◌<◌, ◌^◌, List, [], length}
-use Rattle.tinyjson.specs.Cursor.{left}
 use Rattle.tinyjson.specs.Characters.{unit_of}
 use Rattle.tinyjson.specs.Machine.{Frame, next, quoted, hex}
 use Rattle.tinyjson.specs.Reading.{Leads}
@@ -10,6 +9,6 @@ abbrev pub invariant-loop : goal.invariant-loop
 invariant-loop g l = record {
   small : l.unit < 16 ^ l.counter;
   items : l.units.items ≡ l.initial.units.items;
-  left : left g.I.Iterator.remaining l.self.cursor ≤ left g.I.Iterator.remaining l.initial.self.cursor;
-  reads : (ds : List ℕ) × (length ds ≡ l.counter) × (l.unit ≡ unit_of 0 ds) × ((limit : Option ℕ) (fs : List Frame) (cs : List ℕ) → Leads g.I.Iterator.next_gives limit l.initial.self.cursor (next fs (quoted (hex []) cs l.initial.units.items)) l.self.cursor (hexing fs cs l.initial.units.items ds));
+  left : g.S.Source.left l.self.source ≤ g.S.Source.left l.initial.self.source;
+  reads : (ds : List ℕ) × (length ds ≡ l.counter) × (l.unit ≡ unit_of 0 ds) × ((limit : Option ℕ) (fs : List Frame) (cs : List ℕ) → Leads g.S.Source.sight limit l.initial.self.source (next fs (quoted (hex []) cs l.initial.units.items)) l.self.source (hexing fs cs l.initial.units.items ds));
 }

@@ -1,123 +1,120 @@
-use Rattle.std.proofs.Common.{IsTrue, rules, arith, refl, Some, true, false, inl, inr, ◌≡◌, ◌∙◌, sym}
-use Rattle.std.proofs.lemmas.Bool.Decides.{nat_tests}
-use Rattle.std.specs.Char.{is_ascii_digit}
+use Rattle.std.proofs.Common.{rules, refl, Some}
 use Rattle.tinyjson.specs.declared.parser.error.JsonParseErrorKind.TheVariants.{UnexpectedEof, InvalidCharacter}
 use Rattle.tinyjson.proofs.Containers.{null_begins, true_begins, false_begins, string_begins}
-use Rattle.tinyjson.proofs.Cursors.{Takes-shown}
-use Rattle.tinyjson.specs.Refusal.{begins_growth}
+use Rattle.tinyjson.proofs.Sources.{Takes-shown}
 use Rattle.tinyjson.proofs.Growth.{grows-at, grows-for, grows-none, growth_of, digit-grows}
 use Rattle.tinyjson.proofs.Readings.{end_awaited, Leads-whites, Leads-one, Leads-end, Leads-shown, Refuses-as, Reads-after, white_awaited, invalid}
 use Rattle.tinyjson.proofs.parser.reader.Reader.value.Goals as goal
 
 pub returns-in_default-clause-reads : goal.returns-in_default-clause-reads
 returns-in_default-clause-reads g c =
-    let steps = g.I.Iterator.next_gives in
+    let sight = g.S.Source.sight in
     let limit = c.args.limit in
-    Refuses-as steps limit _ _ c.refuse.result UnexpectedEof c.refuse.ensures.kind c.refuse.ensures.at
-    (Leads-end steps limit _ _ (Leads-whites steps limit _ _ _ c.skip_white.ensures.white tt (white_awaited limit _)) c.in_default.ensures.shows (end_awaited limit _) tt)
+    Refuses-as sight limit _ _ c.refuse.result UnexpectedEof c.refuse.ensures.kind c.refuse.ensures.at
+    (Leads-end sight limit _ _ (Leads-whites sight limit _ _ _ c.skip_white.ensures.white tt (white_awaited limit _)) c.in_default.ensures.shows (end_awaited limit _) tt)
 
 pub returns-in-n-clause-reads : goal.returns-in-n-clause-reads
 returns-in-n-clause-reads g c =
-    let steps = g.I.Iterator.next_gives in
+    let sight = g.S.Source.sight in
     let limit = c.args.limit in
-    Reads-after steps limit _ _ _ _ _
-    (Leads-one steps limit _ _ _ c.in-Some.first (Leads-whites steps limit _ _ _ c.skip_white.ensures.white tt (white_awaited limit _))
-    (Takes-shown steps _ _ _ _ (c.bump.ensures.shown (Some c.in-Some.first) c.in-Some.ensures.shows) c.bump.ensures.takes) tt
+    Reads-after sight limit _ _ _ _ _
+    (Leads-one sight limit _ _ _ c.in-Some.first (Leads-whites sight limit _ _ _ c.skip_white.ensures.white tt (white_awaited limit _))
+    (Takes-shown sight _ _ _ _ (c.bump.ensures.shown (Some c.in-Some.first) c.in-Some.ensures.shows) c.bump.ensures.takes) tt
     (null_begins limit _ c.in-Some.first (search rules)) tt)
     (c.literal.ensures.reads limit _)
 
 pub returns-in-t-clause-reads : goal.returns-in-t-clause-reads
 returns-in-t-clause-reads g c =
-    let steps = g.I.Iterator.next_gives in
+    let sight = g.S.Source.sight in
     let limit = c.args.limit in
-    Reads-after steps limit _ _ _ _ _
-    (Leads-one steps limit _ _ _ c.in-Some.first (Leads-whites steps limit _ _ _ c.skip_white.ensures.white tt (white_awaited limit _))
-    (Takes-shown steps _ _ _ _ (c.bump-in-t.ensures.shown (Some c.in-Some.first) c.in-Some.ensures.shows) c.bump-in-t.ensures.takes) tt
+    Reads-after sight limit _ _ _ _ _
+    (Leads-one sight limit _ _ _ c.in-Some.first (Leads-whites sight limit _ _ _ c.skip_white.ensures.white tt (white_awaited limit _))
+    (Takes-shown sight _ _ _ _ (c.bump-in-t.ensures.shown (Some c.in-Some.first) c.in-Some.ensures.shows) c.bump-in-t.ensures.takes) tt
     (true_begins limit _ c.in-Some.first (search rules)) tt)
     (c.literal-in-t.ensures.reads limit _)
 
 pub returns-in-f-clause-reads : goal.returns-in-f-clause-reads
 returns-in-f-clause-reads g c =
-    let steps = g.I.Iterator.next_gives in
+    let sight = g.S.Source.sight in
     let limit = c.args.limit in
-    Reads-after steps limit _ _ _ _ _
-    (Leads-one steps limit _ _ _ c.in-Some.first (Leads-whites steps limit _ _ _ c.skip_white.ensures.white tt (white_awaited limit _))
-    (Takes-shown steps _ _ _ _ (c.bump-in-f.ensures.shown (Some c.in-Some.first) c.in-Some.ensures.shows) c.bump-in-f.ensures.takes) tt
+    Reads-after sight limit _ _ _ _ _
+    (Leads-one sight limit _ _ _ c.in-Some.first (Leads-whites sight limit _ _ _ c.skip_white.ensures.white tt (white_awaited limit _))
+    (Takes-shown sight _ _ _ _ (c.bump-in-f.ensures.shown (Some c.in-Some.first) c.in-Some.ensures.shows) c.bump-in-f.ensures.takes) tt
     (false_begins limit _ c.in-Some.first (search rules)) tt)
     (c.literal-in-f.ensures.reads limit _)
 
 pub returns-in-34-clause-reads : goal.returns-in-34-clause-reads
 returns-in-34-clause-reads g c =
-    let steps = g.I.Iterator.next_gives in
+    let sight = g.S.Source.sight in
     let limit = c.args.limit in
-    Reads-after steps limit _ _ _ _ _
-    (Leads-one steps limit _ _ _ c.in-Some.first (Leads-whites steps limit _ _ _ c.skip_white.ensures.white tt (white_awaited limit _))
-    (Takes-shown steps _ _ _ _ (c.bump-in-34.ensures.shown (Some c.in-Some.first) c.in-Some.ensures.shows) c.bump-in-34.ensures.takes) tt
+    Reads-after sight limit _ _ _ _ _
+    (Leads-one sight limit _ _ _ c.in-Some.first (Leads-whites sight limit _ _ _ c.skip_white.ensures.white tt (white_awaited limit _))
+    (Takes-shown sight _ _ _ _ (c.bump-in-34.ensures.shown (Some c.in-Some.first) c.in-Some.ensures.shows) c.bump-in-34.ensures.takes) tt
     (string_begins limit _ c.in-Some.first (search rules)) tt)
     (c.string.ensures.reads limit _)
 
 pub returns-in-91-clause-reads : goal.returns-in-91-clause-reads
 returns-in-91-clause-reads g c =
-    let steps = g.I.Iterator.next_gives in
+    let sight = g.S.Source.sight in
     let limit = c.args.limit in
-    Reads-after steps limit _ _ _ _ _ (Leads-whites steps limit _ _ _ c.skip_white.ensures.white tt (white_awaited limit _)) c.array.ensures.reads
+    Reads-after sight limit _ _ _ _ _ (Leads-whites sight limit _ _ _ c.skip_white.ensures.white tt (white_awaited limit _)) c.array.ensures.reads
 
 pub returns-in-123-clause-reads : goal.returns-in-123-clause-reads
 returns-in-123-clause-reads g c =
-    let steps = g.I.Iterator.next_gives in
+    let sight = g.S.Source.sight in
     let limit = c.args.limit in
-    Reads-after steps limit _ _ _ _ _ (Leads-whites steps limit _ _ _ c.skip_white.ensures.white tt (white_awaited limit _)) c.object.ensures.reads
+    Reads-after sight limit _ _ _ _ _ (Leads-whites sight limit _ _ _ c.skip_white.ensures.white tt (white_awaited limit _)) c.object.ensures.reads
 
 pub returns-in-45-clause-reads : goal.returns-in-45-clause-reads
 returns-in-45-clause-reads g c =
-    let steps = g.I.Iterator.next_gives in
+    let sight = g.S.Source.sight in
     let limit = c.args.limit in
-    Reads-after steps limit _ _ _ _ _ (Leads-whites steps limit _ _ _ c.skip_white.ensures.white tt (white_awaited limit _)) (c.number.ensures.reads limit _)
+    Reads-after sight limit _ _ _ _ _ (Leads-whites sight limit _ _ _ c.skip_white.ensures.white tt (white_awaited limit _)) (c.number.ensures.reads limit _)
 
 pub returns-in-n-clause-memory : goal.returns-in-n-clause-memory
-returns-in-n-clause-memory g c = grows-none g.I.Iterator.next_gives _ _ c.literal.ensures.whole c.literal.ensures.memory
+returns-in-n-clause-memory g c = grows-none g.S.Source.sight _ _ c.literal.ensures.whole c.literal.ensures.memory
 
 pub returns-in-t-clause-memory : goal.returns-in-t-clause-memory
-returns-in-t-clause-memory g c = grows-none g.I.Iterator.next_gives _ _ c.literal-in-t.ensures.whole c.literal-in-t.ensures.memory
+returns-in-t-clause-memory g c = grows-none g.S.Source.sight _ _ c.literal-in-t.ensures.whole c.literal-in-t.ensures.memory
 
 pub returns-in-f-clause-memory : goal.returns-in-f-clause-memory
-returns-in-f-clause-memory g c = grows-none g.I.Iterator.next_gives _ _ c.literal-in-f.ensures.whole c.literal-in-f.ensures.memory
+returns-in-f-clause-memory g c = grows-none g.S.Source.sight _ _ c.literal-in-f.ensures.whole c.literal-in-f.ensures.memory
 
 pub returns-in-34-clause-memory : goal.returns-in-34-clause-memory
 returns-in-34-clause-memory g c =
-    let steps = g.I.Iterator.next_gives in
-    grows-for steps _ _ (grows-at steps _ _ c.in-Some.first c.skip_white.ensures.white c.in-Some.ensures.shows (growth_of c.in-Some.first 34 (search rules) refl))
+    let sight = g.S.Source.sight in
+    grows-for sight _ _ (grows-at sight _ _ c.in-Some.first c.skip_white.ensures.white c.in-Some.ensures.shows (growth_of c.in-Some.first 34 (search rules) refl))
 
 pub returns-in-91-clause-memory : goal.returns-in-91-clause-memory
 returns-in-91-clause-memory g c =
-    let steps = g.I.Iterator.next_gives in
-    grows-for steps _ _ (grows-at steps _ _ c.in-Some.first c.skip_white.ensures.white c.in-Some.ensures.shows (growth_of c.in-Some.first 91 (search rules) refl))
+    let sight = g.S.Source.sight in
+    grows-for sight _ _ (grows-at sight _ _ c.in-Some.first c.skip_white.ensures.white c.in-Some.ensures.shows (growth_of c.in-Some.first 91 (search rules) refl))
 
 pub returns-in-123-clause-memory : goal.returns-in-123-clause-memory
 returns-in-123-clause-memory g c =
-    let steps = g.I.Iterator.next_gives in
-    grows-for steps _ _ (grows-at steps _ _ c.in-Some.first c.skip_white.ensures.white c.in-Some.ensures.shows (growth_of c.in-Some.first 123 (search rules) refl))
+    let sight = g.S.Source.sight in
+    grows-for sight _ _ (grows-at sight _ _ c.in-Some.first c.skip_white.ensures.white c.in-Some.ensures.shows (growth_of c.in-Some.first 123 (search rules) refl))
 
 pub returns-in-45-clause-memory : goal.returns-in-45-clause-memory
 returns-in-45-clause-memory g c =
-    let steps = g.I.Iterator.next_gives in
-    grows-for steps _ _ (grows-at steps _ _ c.in-Some.first c.skip_white.ensures.white c.in-Some.ensures.shows (growth_of c.in-Some.first 45 (search rules) refl))
+    let sight = g.S.Source.sight in
+    grows-for sight _ _ (grows-at sight _ _ c.in-Some.first c.skip_white.ensures.white c.in-Some.ensures.shows (growth_of c.in-Some.first 45 (search rules) refl))
 
 pub returns-in_default-first-clause-reads : goal.returns-in_default-first-clause-reads
 returns-in_default-first-clause-reads g c =
-    let steps = g.I.Iterator.next_gives in
+    let sight = g.S.Source.sight in
     let limit = c.args.limit in
-    Reads-after steps limit _ _ _ _ _ (Leads-whites steps limit _ _ _ c.skip_white.ensures.white tt (white_awaited limit _)) (c.number-in_default-first.ensures.reads limit _)
+    Reads-after sight limit _ _ _ _ _ (Leads-whites sight limit _ _ _ c.skip_white.ensures.white tt (white_awaited limit _)) (c.number-in_default-first.ensures.reads limit _)
 
 pub returns-in_default-first-clause-memory : goal.returns-in_default-first-clause-memory
 returns-in_default-first-clause-memory g c =
-    let steps = g.I.Iterator.next_gives in
-    grows-for steps _ _ (grows-at steps _ _ c.in-Some.first c.skip_white.ensures.white c.in-Some.ensures.shows (digit-grows c.in-Some.first (search rules)))
+    let sight = g.S.Source.sight in
+    grows-for sight _ _ (grows-at sight _ _ c.in-Some.first c.skip_white.ensures.white c.in-Some.ensures.shows (digit-grows c.in-Some.first (search rules)))
 
 pub returns-in_default-2-clause-reads : goal.returns-in_default-2-clause-reads
 returns-in_default-2-clause-reads g c =
-    let steps = g.I.Iterator.next_gives in
+    let sight = g.S.Source.sight in
     let limit = c.args.limit in
-    Refuses-as steps limit _ _ c.refuse-in_default-2.result (InvalidCharacter c.in-Some.first) c.refuse-in_default-2.ensures.kind c.refuse-in_default-2.ensures.at
-    (Leads-shown steps limit _ _ c.in-Some.first (Leads-whites steps limit _ _ _ c.skip_white.ensures.white tt (white_awaited limit _)) c.in-Some.ensures.shows
+    Refuses-as sight limit _ _ c.refuse-in_default-2.result (InvalidCharacter c.in-Some.first) c.refuse-in_default-2.ensures.kind c.refuse-in_default-2.ensures.at
+    (Leads-shown sight limit _ _ c.in-Some.first (Leads-whites sight limit _ _ _ c.skip_white.ensures.white tt (white_awaited limit _)) c.in-Some.ensures.shows
     (invalid limit _ c.in-Some.first c.in-Some.ensures.stops (search rules) (search rules) (search rules) (search rules) (search rules) (search rules) (search rules) (search rules)) tt)

@@ -1,0 +1,365 @@
+-- For proofs of callers: values, parts, maps and texts beside the trees and the grammar that contracts speak of.
+pub use Rattle.std.proofs.lemmas.Str.{scalars-chars, IsUtf8-string_bytes}
+pub use Rattle.tinyjson.proofs.Entries.{same_text}
+pub use Rattle.tinyjson.proofs.Equality.{view-Array, view-Object}
+pub use Rattle.tinyjson.proofs.Index.{items_view-set, tree-with_item, tree-with_member}
+pub use Rattle.tinyjson.proofs.Members.{find-put, find-remove, sorted-put, sorted-remove, members_from_find}
+pub use Rattle.tinyjson.proofs.Scalars.{encoded_chars, text-scalars}
+pub use Rattle.tinyjson.proofs.Trees.{view-IsTree, text_scalars}
+pub use Rattle.tinyjson.proofs.Views.{Entry, find-members_view, members_view_last}
+pub use Rattle.tinyjson.proofs.Writing.{Appends-trans}
+use Rattle.std.proofs.Common.{◌≡◌, ◌≢◌, ℕ, zero, suc, ◌<◌, Bool, true, false, ◌&&◌, cond, bytes_eq, nat_lt, List, [], ◌∷◌, ◌++◌, Option, Some, None, option_map, Result, Ok, Err, String, string_bytes, Vec, Global, Bor, refl, sym, ap, ◌∙◌, subst, rules, arith, append-nil}
+use Rattle.std.proofs.lemmas.Bool.{and_parts}
+use Rattle.std.proofs.lemmas.Bool.Decides.{nat_tests}
+use Rattle.std.proofs.lemmas.Slice.Eq.{bytes_eq-Decides}
+use Rattle.std.proofs.lemmas.Str.{chars-IsAscii, IsUtf8-from_ascii}
+use Rattle.std.specs.HashMap.{get, get_by_text, Updates, UpdatesBy}
+use Rattle.std.specs.Io.KnownBytes.{Appends}
+use Rattle.std.specs.List.{AllByRecursion, IsDistinct}
+use Rattle.std.specs.Map.{lookup, keys_of}
+use Rattle.std.specs.Prelude.{IsSome, slice_get, option_and_then}
+use Rattle.std.specs.Str.{IsAscii, IsUtf8, chars}
+use Rattle.std.specs.String.{string_eq, string_eq_equiv}
+use Rattle.tinyjson.proofs.Entries.{find-members_of}
+use Rattle.tinyjson.proofs.Views.{view_lookup, view_of_ref, members_view-updates, members_view-removes, members_view-writes}
+use Rattle.tinyjson.specs.Access.{JsonMap, number_in, boolean_in, string_in, null_in, array_in, object_in, number_part, boolean_part, string_part, null_part, array_part, object_part}
+use Rattle.tinyjson.specs.Error.{error_kind}
+use Rattle.tinyjson.specs.Grammar.{IsText, IsAccepted}
+use Rattle.tinyjson.specs.Index.{item_at, member_at, nth, tree_at, tree_at_key, with_nth, with_last, with_tree_at, with_tree_at_key}
+use Rattle.tinyjson.specs.Parser.{ParsesText}
+use Rattle.tinyjson.specs.Soundness.{IsTree, IsSorted}
+use Rattle.tinyjson.specs.Tree.{Tree, null, boolean, number, string, array, object, Items, no_items, item, Members, no_members, member, put, find, remove}
+use Rattle.tinyjson.specs.View.{text, view, view_step, items_view, members_view, seen_entries}
+use Rattle.tinyjson.specs.Written.{Written}
+use Rattle.tinyjson.specs.declared.parser.error.JsonParseError.{JsonParseError}
+use Rattle.tinyjson.specs.declared.parser.error.JsonParseErrorKind.TheVariants as refusal
+use Rattle.tinyjson.specs.declared.value.JsonValue.{JsonValue, JsonValue-F, out-JsonValue, map-JsonValue, fold_out-JsonValue, the_lemmas}
+use Rattle.tinyjson.specs.declared.value.JsonValue.TheVariants as made
+use Rattle.tinyjson_number.specs.Decimal.{Decimal}
+use Rattle.tinyjson_number.specs.declared.number.JsonNumber.{JsonNumber}
+
+-- ---- the tree of each variant
+
+pub view-Null : view made.Null ≡ null
+view-Null = search (rules, the_lemmas)
+
+pub view-Boolean : (b : Bool) → view (made.Boolean b) ≡ boolean b
+view-Boolean b = search (rules, the_lemmas)
+
+pub view-Number : (n : JsonNumber) → view (made.Number n) ≡ number n.decimal
+view-Number n = search (rules, the_lemmas)
+
+pub view-String : (s : String Global) → view (made.String s) ≡ string (text s)
+view-String s = search (rules, the_lemmas)
+
+-- ---- from a part to the tree
+
+-- the tree of one level of a value
+abbrev seen : JsonValue-F JsonValue → Tree
+seen o = view_step (map-JsonValue JsonValue Tree view o)
+
+view-seen : (v : JsonValue) → view v ≡ seen (out-JsonValue v)
+view-seen v = fold_out-JsonValue Tree view_step v
+
+null_seen : (o : JsonValue-F JsonValue) → null_in o ≡ Some tt → seen o ≡ null
+null_seen JsonValue-F.Null h = refl
+null_seen _ h = cc
+
+boolean_seen : (o : JsonValue-F JsonValue) (b : Bool) → boolean_in o ≡ Some b → seen o ≡ boolean b
+boolean_seen (JsonValue-F.Boolean c) b h = cc
+boolean_seen _ b h = cc
+
+number_seen : (o : JsonValue-F JsonValue) (n : JsonNumber) → number_in o ≡ Some n → seen o ≡ number n.decimal
+number_seen (JsonValue-F.Number m) n h = cc
+number_seen _ n h = cc
+
+string_seen : (o : JsonValue-F JsonValue) (s : String Global) → string_in o ≡ Some s → seen o ≡ string (text s)
+string_seen (JsonValue-F.String t) s h = cc
+string_seen _ s h = cc
+
+array_seen : (o : JsonValue-F JsonValue) (l : Vec JsonValue Global) → array_in o ≡ Some l → seen o ≡ array (items_view l.items)
+array_seen (JsonValue-F.Array m) l h = cc
+array_seen _ l h = cc
+
+object_seen : (o : JsonValue-F JsonValue) (m : JsonMap) → object_in o ≡ Some m → seen o ≡ object (members_view m.entries)
+object_seen (JsonValue-F.Object n) m h = cc
+object_seen _ m h = cc
+
+-- a value that is null
+pub null_tree : (v : JsonValue) → null_part v ≡ Some tt → view v ≡ null
+null_tree v h = view-seen v ∙ null_seen (out-JsonValue v) h
+
+-- a value that holds a truth value
+pub boolean_tree : (v : JsonValue) (b : Bool) → boolean_part v ≡ Some b → view v ≡ boolean b
+boolean_tree v b h = view-seen v ∙ boolean_seen (out-JsonValue v) b h
+
+-- a value that holds a number
+pub number_tree : (v : JsonValue) (n : JsonNumber) → number_part v ≡ Some n → view v ≡ number n.decimal
+number_tree v n h = view-seen v ∙ number_seen (out-JsonValue v) n h
+
+-- a value that holds a text
+pub string_tree : (v : JsonValue) (s : String Global) → string_part v ≡ Some s → view v ≡ string (text s)
+string_tree v s h = view-seen v ∙ string_seen (out-JsonValue v) s h
+
+-- a value that holds items
+pub array_tree : (v : JsonValue) (l : Vec JsonValue Global) → array_part v ≡ Some l → view v ≡ array (items_view l.items)
+array_tree v l h = view-seen v ∙ array_seen (out-JsonValue v) l h
+
+-- a value that holds members
+pub object_tree : (v : JsonValue) (m : JsonMap) → object_part v ≡ Some m → view v ≡ object (members_view m.entries)
+object_tree v m h = view-seen v ∙ object_seen (out-JsonValue v) m h
+
+-- ---- from the tree to the part
+
+null_held : (o : JsonValue-F JsonValue) → seen o ≡ null → null_in o ≡ Some tt
+null_held JsonValue-F.Null h = refl
+null_held _ h = cc
+
+boolean_held : (o : JsonValue-F JsonValue) (b : Bool) → seen o ≡ boolean b → boolean_in o ≡ Some b
+boolean_held (JsonValue-F.Boolean c) b h = cc
+boolean_held _ b h = cc
+
+number_held : (o : JsonValue-F JsonValue) (d : Decimal) → seen o ≡ number d → (n : JsonNumber) × (number_in o ≡ Some n) × (n.decimal ≡ d)
+number_held (JsonValue-F.Number n) d h = (n, refl, cc)
+number_held _ d h = cc
+
+string_held : (o : JsonValue-F JsonValue) (cs : List ℕ) → seen o ≡ string cs → (s : String Global) × (string_in o ≡ Some s) × (text s ≡ cs)
+string_held (JsonValue-F.String s) cs h = (s, refl, cc)
+string_held _ cs h = cc
+
+array_held : (o : JsonValue-F JsonValue) (ts : Items) → seen o ≡ array ts → (l : Vec JsonValue Global) × (array_in o ≡ Some l) × (items_view l.items ≡ ts)
+array_held (JsonValue-F.Array l) ts h = (l, refl, cc)
+array_held _ ts h = cc
+
+object_held : (o : JsonValue-F JsonValue) (ms : Members) → seen o ≡ object ms → (m : JsonMap) × (object_in o ≡ Some m) × (members_view m.entries ≡ ms)
+object_held (JsonValue-F.Object m) ms h = (m, refl, cc)
+object_held _ ms h = cc
+
+-- a value whose tree is null
+pub null_from_tree : (v : JsonValue) → view v ≡ null → null_part v ≡ Some tt
+null_from_tree v h = null_held (out-JsonValue v) (sym (view-seen v) ∙ h)
+
+-- a value whose tree is a truth value
+pub boolean_from_tree : (v : JsonValue) (b : Bool) → view v ≡ boolean b → boolean_part v ≡ Some b
+boolean_from_tree v b h = boolean_held (out-JsonValue v) b (sym (view-seen v) ∙ h)
+
+-- a value whose tree is a number
+pub number_from_tree : (v : JsonValue) (d : Decimal) → view v ≡ number d → (n : JsonNumber) × (number_part v ≡ Some n) × (n.decimal ≡ d)
+number_from_tree v d h = number_held (out-JsonValue v) d (sym (view-seen v) ∙ h)
+
+-- a value whose tree is a string
+pub string_from_tree : (v : JsonValue) (cs : List ℕ) → view v ≡ string cs → (s : String Global) × (string_part v ≡ Some s) × (text s ≡ cs)
+string_from_tree v cs h = string_held (out-JsonValue v) cs (sym (view-seen v) ∙ h)
+
+-- a value whose tree is an array
+pub array_from_tree : (v : JsonValue) (ts : Items) → view v ≡ array ts → (l : Vec JsonValue Global) × (array_part v ≡ Some l) × (items_view l.items ≡ ts)
+array_from_tree v ts h = array_held (out-JsonValue v) ts (sym (view-seen v) ∙ h)
+
+-- a value whose tree is an object
+pub object_from_tree : (v : JsonValue) (ms : Members) → view v ≡ object ms → (m : JsonMap) × (object_part v ≡ Some m) × (members_view m.entries ≡ ms)
+object_from_tree v ms h = object_held (out-JsonValue v) ms (sym (view-seen v) ∙ h)
+
+-- ---- keys of ASCII characters
+
+abbrev pub are_ascii : List ℕ → Bool
+are_ascii [] = true
+are_ascii (c ∷ cs) = nat_lt c 128 && are_ascii cs
+
+-- a literal key, as `IsAscii-literal (codes "port") refl`
+pub IsAscii-literal : (bs : List ℕ) → are_ascii bs ≡ true → IsAscii bs
+IsAscii-literal [] h i = omega arith
+IsAscii-literal (c ∷ cs) h zero = let p = and_parts (nat_lt c 128) (are_ascii cs) h in grind (arith, nat_tests)
+IsAscii-literal (c ∷ cs) h (suc i) = IsAscii-literal cs (and_parts (nat_lt c 128) (are_ascii cs) h).1 i
+
+-- its characters are its bytes
+pub chars-literal : (bs : List ℕ) → are_ascii bs ≡ true → chars bs ≡ bs
+chars-literal bs h = chars-IsAscii bs (IsAscii-literal bs h)
+
+-- ---- an item by its index, a member by its key
+
+-- among the items of a vector: there or not
+pub nth-items_view : (vs : List JsonValue) (i : ℕ) → nth (items_view vs) i ≡ option_map view (slice_get vs i)
+nth-items_view [] i = refl
+nth-items_view (v ∷ vs) zero = refl
+nth-items_view (v ∷ vs) (suc i) = nth-items_view vs i
+
+item_seen : (o : JsonValue-F JsonValue) (i : ℕ) → tree_at (seen o) i ≡ option_map view (option_and_then (λ l. slice_get l.items i) (array_in o))
+item_seen (JsonValue-F.Array l) i = nth-items_view l.items i
+item_seen _ i = refl
+
+-- in any value
+pub tree_at-view : (v : JsonValue) (i : ℕ) → tree_at (view v) i ≡ option_map view (item_at v i)
+tree_at-view v i = ap (λ t. tree_at t i) (view-seen v) ∙ item_seen (out-JsonValue v) i
+
+member_seen : (o : JsonValue-F JsonValue) (bs : List ℕ) → IsUtf8 bs → tree_at_key (seen o) (chars bs) ≡ option_map view (option_and_then (λ m. get_by_text m bs) (object_in o))
+member_seen (JsonValue-F.Object m) bs u = find-members_view bs u m.entries
+member_seen _ bs u = refl
+
+-- in any value, by the bytes of a key
+pub tree_at_key-view : (v : JsonValue) (bs : List ℕ) → IsUtf8 bs → tree_at_key (view v) (chars bs) ≡ option_map view (member_at v bs)
+tree_at_key-view v bs u = ap (λ t. tree_at_key t (chars bs)) (view-seen v) ∙ member_seen (out-JsonValue v) bs u
+
+-- the same at a literal key, as `tree_at_literal v (codes "port") refl`
+pub tree_at_literal : (v : JsonValue) (bs : List ℕ) → are_ascii bs ≡ true → tree_at_key (view v) bs ≡ option_map view (member_at v bs)
+tree_at_literal v bs h = ap (tree_at_key (view v)) (sym (chars-literal bs h)) ∙ tree_at_key-view v bs (IsUtf8-from_ascii bs (IsAscii-literal bs h))
+
+-- among the members of a map, by the bytes of a key
+pub find-get : (m : JsonMap) (bs : List ℕ) → IsUtf8 bs → find (chars bs) (members_view m.entries) ≡ option_map view (get_by_text m bs)
+find-get m bs u = find-members_view bs u m.entries
+
+-- by a key that is a `String`
+pub find-get_text : (m : JsonMap) (k : String Global) → find (text k) (members_view m.entries) ≡ option_map view (get string_eq m k)
+find-get_text m k = find-members_of k (seen_entries m.entries) ∙ view_lookup k m.entries
+
+-- at a literal key
+pub find-get_literal : (m : JsonMap) (bs : List ℕ) → are_ascii bs ≡ true → find bs (members_view m.entries) ≡ option_map view (get_by_text m bs)
+find-get_literal m bs h = ap (λ k. find k (members_view m.entries)) (sym (chars-literal bs h)) ∙ find-get m bs (IsUtf8-from_ascii bs (IsAscii-literal bs h))
+
+-- the tree behind a reference that may be there
+pub view-ref : (r : Option (Bor JsonValue)) → option_map (λ x. view x.now) r ≡ option_map view (option_map (λ x. x.now) r)
+view-ref r = view_of_ref r
+
+-- a tree that is there is one of a value
+pub value_from_tree : (o : Option JsonValue) (t : Tree) → option_map view o ≡ Some t → (v : JsonValue) × (o ≡ Some v) × (view v ≡ t)
+value_from_tree (Some v) t h = (v, refl, cc)
+value_from_tree None t h = cc
+
+-- where there is no tree, there is no value
+pub none_from_tree : (o : Option JsonValue) → option_map view o ≡ None → o ≡ None
+none_from_tree None h = refl
+none_from_tree (Some v) h = cc
+
+-- ---- the entries of a map
+
+lookup_at : (done more : List Entry) (e : Entry) → IsDistinct string_eq (keys_of (done ++ e ∷ more)) → lookup (string_eq e.0) (done ++ e ∷ more) ≡ Some e.1
+unfolding IsDistinct
+lookup_at [] more e h = ap (λ b. cond b (Some e.1) (lookup (string_eq e.0) more)) (string_eq_equiv.refl e.0)
+lookup_at (d ∷ done) more e h = ap (λ b. cond b (Some d.1) (lookup (string_eq e.0) (done ++ e ∷ more))) (string_eq_equiv.symm e.0 d.0 ∙ apart done h.0) ∙ lookup_at done more e h.1
+  where
+    apart : (es : List Entry) → AllByRecursion (λ y. string_eq d.0 y ≡ false) (keys_of (es ++ e ∷ more)) → string_eq d.0 e.0 ≡ false
+    apart [] a = a.0
+    apart (x ∷ es) a = apart es a.1
+
+-- each entry is found at its key
+pub find-entry : (done more : List Entry) (e : Entry) → IsDistinct string_eq (keys_of (done ++ e ∷ more)) → find (text e.0) (members_view (done ++ e ∷ more)) ≡ Some (view e.1)
+find-entry done more e h =
+    find-members_of e.0 (seen_entries (done ++ e ∷ more)) ∙ (view_lookup e.0 (done ++ e ∷ more) ∙ ap (λ o. option_map view o) (lookup_at done more e h))
+
+-- An entry with this key and this tree stands among the entries.
+pub record HasEntry (es : List Entry) (k : List ℕ) (t : Tree) : Type 0 where
+  pub done : List Entry
+  pub entry : Entry
+  pub more : List Entry
+  pub split : es ≡ done ++ entry ∷ more
+  pub key : k ≡ text entry.0
+  pub tree : view entry.1 ≡ t
+
+-- whatever is found is an entry
+pub entry_from_find : (es : List Entry) (k : List ℕ) (t : Tree) → find k (members_view es) ≡ Some t → HasEntry es k t
+entry_from_find [] k t h = cc
+entry_from_find (e ∷ es) k t h = by (bytes_eq k (text e.0)) refl (sym (find-put k (text e.0) (view e.1) (members_view es)) ∙ h) (entry_from_find es k t)
+  where
+    by : (b : Bool) → bytes_eq k (text e.0) ≡ b → cond b (Some (view e.1)) (find k (members_view es)) ≡ Some t → (find k (members_view es) ≡ Some t → HasEntry es k t) → HasEntry (e ∷ es) k t
+    by true is g later = record { done = []; entry = e; more = es; split = refl; key = (bytes_eq-Decides k (text e.0)).0 is; tree = cc }
+    by false is g later = let r = later g in record { done = e ∷ r.done; entry = r.entry; more = r.more; split = ap (λ fs. e ∷ fs) r.split; key = r.key; tree = r.tree }
+
+-- ---- after a change
+
+-- `insert` of a value at a key
+pub members_view-insert : (m n : JsonMap) (k : String Global) (v : JsonValue) → Updates string_eq m n k (Some v) → members_view n.entries ≡ put (text k) (view v) (members_view m.entries)
+members_view-insert m n k v h = members_view-updates m.entries n.entries k v h.0
+
+-- `remove` of a key
+pub members_view-remove : (m n : JsonMap) (bs : List ℕ) → IsUtf8 bs → UpdatesBy string_eq (λ k. bytes_eq bs (string_bytes k)) m n None → members_view n.entries ≡ remove (chars bs) (members_view m.entries)
+members_view-remove m n bs u h = members_view-removes m.entries n.entries bs u h.0
+
+-- a write through what `get_mut` of a map lent
+pub members_view-write : (m n : JsonMap) (bs : List ℕ) (w : JsonValue) → IsUtf8 bs → IsSome (get_by_text m bs) → UpdatesBy string_eq (λ k. bytes_eq bs (string_bytes k)) m n (Some w)
+    → members_view n.entries ≡ put (chars bs) (view w) (members_view m.entries)
+members_view-write m n bs w u there h = members_view-writes m.entries n.entries bs w u there h.0
+
+-- the object that a value is, after a member was written through two calls of `get_mut`
+pub tree-write : (v : JsonValue) (m n : JsonMap) (bs : List ℕ) (w : JsonValue) → IsUtf8 bs → object_part v ≡ Some m → IsSome (get_by_text m bs) → UpdatesBy string_eq (λ k. bytes_eq bs (string_bytes k)) m n (Some w)
+    → view (made.Object n) ≡ with_tree_at_key (view v) (chars bs) (view w)
+tree-write v m n bs w u held there h = tree-with_member v m n bs w u held there h.0
+
+-- `push` of a value
+pub items_view-push : (vs : List JsonValue) (v : JsonValue) → items_view (vs ++ v ∷ []) ≡ with_last (items_view vs) (view v)
+items_view-push [] v = refl
+items_view-push (w ∷ vs) v = ap (item (view w)) (items_view-push vs v)
+
+-- ---- what is found after a change of a tree
+
+-- the item that was set
+pub nth-with_nth : (ts : Items) (i : ℕ) (u t : Tree) → nth ts i ≡ Some t → nth (with_nth ts i u) i ≡ Some u
+nth-with_nth no_items i u t h = cc
+nth-with_nth (item t ts) zero u x h = refl
+nth-with_nth (item t ts) (suc i) u x h = nth-with_nth ts i u x h
+
+-- another item
+pub nth-with_nth_other : (ts : Items) (i j : ℕ) (u : Tree) → i ≢ j → nth (with_nth ts i u) j ≡ nth ts j
+nth-with_nth_other no_items i j u h = refl
+nth-with_nth_other (item t ts) zero zero u h = absurd (h refl)
+nth-with_nth_other (item t ts) zero (suc j) u h = refl
+nth-with_nth_other (item t ts) (suc i) zero u h = refl
+nth-with_nth_other (item t ts) (suc i) (suc j) u h = nth-with_nth_other ts i j u (λ e. h (ap suc e))
+
+-- the member that was put
+pub find-put_same : (k : List ℕ) (t : Tree) (ms : Members) → find k (put k t ms) ≡ Some t
+find-put_same k t ms = find-put k k t ms ∙ ap (λ b. cond b (Some t) (find k ms)) ((bytes_eq-Decides k k).1 refl)
+
+bytes_differ : (k l : List ℕ) (b : Bool) → bytes_eq k l ≡ b → k ≢ l → b ≡ false
+bytes_differ k l true e h = absurd (h ((bytes_eq-Decides k l).0 e))
+bytes_differ k l false e h = refl
+
+-- another member after `put`
+pub find-put_other : (q k : List ℕ) (t : Tree) (ms : Members) → q ≢ k → find q (put k t ms) ≡ find q ms
+find-put_other q k t ms h = find-put q k t ms ∙ ap (λ b. cond b (Some t) (find q ms)) (bytes_differ q k (bytes_eq q k) refl h)
+
+-- the member that was removed
+pub find-remove_same : (k : List ℕ) (ms : Members) → find k (remove k ms) ≡ None
+find-remove_same k ms = find-remove k k ms ∙ ap (λ b. cond b None (find k ms)) ((bytes_eq-Decides k k).1 refl)
+
+-- another member after `remove`
+pub find-remove_other : (q k : List ℕ) (ms : Members) → q ≢ k → find q (remove k ms) ≡ find q ms
+find-remove_other q k ms h = find-remove q k ms ∙ ap (λ b. cond b None (find q ms)) (bytes_differ q k (bytes_eq q k) refl h)
+
+-- ---- a part that is put back where it was found
+
+pub with_nth-back : (ts : Items) (i : ℕ) (u : Tree) → nth ts i ≡ Some u → with_nth ts i u ≡ ts
+with_nth-back no_items i u h = refl
+with_nth-back (item t ts) zero u h = let e : t ≡ u = cc in ap (λ x. item x ts) (sym e)
+with_nth-back (item t ts) (suc i) u h = ap (item t) (with_nth-back ts i u h)
+
+pub put-back : (k : List ℕ) (u : Tree) (ms : Members) → IsSorted ms → find k ms ≡ Some u → put k u ms ≡ ms
+put-back k u ms s h = members_from_find (put k u ms) ms (sorted-put k u ms s) s (λ q. find-put q k u ms ∙ by q (bytes_eq q k) refl)
+  where
+    by : (q : List ℕ) (b : Bool) → bytes_eq q k ≡ b → cond b (Some u) (find q ms) ≡ find q ms
+    by q true e = sym (ap (λ x. find x ms) ((bytes_eq-Decides q k).0 e) ∙ h)
+    by q false e = refl
+
+pub with_tree_at-back : (t : Tree) (i : ℕ) (u : Tree) → tree_at t i ≡ Some u → with_tree_at t i u ≡ t
+with_tree_at-back (array ts) i u h = ap array (with_nth-back ts i u h)
+with_tree_at-back _ i u h = refl
+
+pub with_tree_at_key-back : (t : Tree) (k : List ℕ) (u : Tree) → IsTree t → tree_at_key t k ≡ Some u → with_tree_at_key t k u ≡ t
+with_tree_at_key-back (object ms) k u s h = ap object (put-back k u ms s.1 h)
+with_tree_at_key-back _ k u s h = refl
+
+-- ---- texts that are read and written
+
+-- a text that gave a value is accepted, with the value's tree
+pub accepted-text : (limit : Option ℕ) (xs : List ℕ) (v : JsonValue) → ParsesText limit xs (Ok v) → IsText limit xs (view v)
+accepted-text limit xs v p = p.answer.1
+
+-- a text that was refused, and not because memory ran out, is not accepted
+pub refused-text : (limit : Option ℕ) (xs : List ℕ) (e : JsonParseError) → ParsesText limit xs (Err e) → ¬ (error_kind e ≡ refusal.OutOfMemory) → ¬ IsAccepted limit xs
+refused-text limit xs e p n = p.refused n
+
+-- a text that is written as a whole is appended
+pub Appends-written : (old new : Option (List ℕ)) (bytes : List ℕ) → Written old new bytes [] → Appends old new bytes
+Appends-written old new bytes h = subst (Appends old new) (sym (h.split ∙ append-nil h.done)) h.appended
+
+-- two texts, one after the other
+pub Appends-both : (old mid new : Option (List ℕ)) (a b : List ℕ) → Written old mid a [] → Written mid new b [] → Appends old new (a ++ b)
+Appends-both old mid new a b h k = Appends-trans old mid new a b (Appends-written old mid a h) (Appends-written mid new b k)

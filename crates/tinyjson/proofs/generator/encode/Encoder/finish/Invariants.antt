@@ -1,0 +1,17 @@
+use Rattle.std.proofs.Common.{◌∷◌, [], length, reverse}
+use Rattle.std.specs.Str.{encode_utf8_all}
+use Rattle.tinyjson.specs.Indent.{indent_of}
+use Rattle.tinyjson.specs.Pending.{IsStack, frames, owed}
+use Rattle.tinyjson.specs.Written.{Written}
+use Rattle.tinyjson.proofs.generator.encode.Encoder.finish.Given as goal
+
+abbrev pub invariant-loop-frame : goal.invariant-loop-frame
+invariant-loop-frame g l =
+    let w = indent_of l.fn.self.indent in
+    IsStack l.stack
+    × Written (g.W.Write.contents l.fn.out) (g.W.Write.contents l.out)
+    (encode_utf8_all (owed w (l.fn.frame ∷ []) (reverse l.fn.gathered.items)))
+    (encode_utf8_all (owed w (frames l.stack) (reverse l.gathered.items)))
+
+abbrev pub decreases-loop-frame : goal.decreases-loop-frame
+decreases-loop-frame g l = length (encode_utf8_all (owed (indent_of l.fn.self.indent) (frames l.stack) (reverse l.gathered.items)))

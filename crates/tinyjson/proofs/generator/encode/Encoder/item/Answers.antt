@@ -1,0 +1,17 @@
+use Rattle.std.proofs.lemmas.Result.{MatchResult-from_err}
+use Rattle.tinyjson.specs.Indent.{indent_of}
+use Rattle.tinyjson.specs.Text.{text}
+use Rattle.tinyjson.specs.View.{view}
+use Rattle.tinyjson.proofs.Writing.{begins, goes, stops}
+use Rattle.tinyjson.proofs.Encoded.{enc}
+use Rattle.tinyjson.proofs.Pending.{begins_behind}
+use Rattle.tinyjson.proofs.generator.encode.Encoder.item.Goals as goal
+
+pub returns-in_err-separate : goal.returns-in_err-separate
+returns-in_err-separate g c = MatchResult-from_err _ _ _ c.from_residual.ensures.0 (λ _. stops _ c.in_err-separate.ensures begins)
+
+pub returns : goal.returns
+returns g c =
+    let w = indent_of c.args.self.now.indent in
+    let piece = enc (text w c.args.level (view c.args.value.now)) in
+    begins_behind w c.args.level _ _ _ _ piece _ _ _ (goes piece c.in_ok-separate.ensures begins) (c.begin.ensures w c.args.level)

@@ -1,0 +1,63 @@
+use Rattle.std.proofs.Common.{◌≡◌, ◌∷◌, ◌++◌, ◌+◌, ◌-◌, [], true, false, length, refl, sym, ◌∙◌, ap, subst, reverse, arith}
+use Rattle.std.proofs.lemmas.Result.{MatchResult-from_err}
+use Rattle.tinyjson.specs.Indent.{indent_of}
+use Rattle.tinyjson.specs.Pending.{IsStack, frames, owed}
+use Rattle.tinyjson.specs.Text.{items_text, newline}
+use Rattle.tinyjson.specs.View.{items_view}
+use Rattle.tinyjson.specs.declared.generator.pending.Frame.TheVariants.{Items}
+use Rattle.tinyjson.proofs.Writing.{begins, stops, goes}
+use Rattle.tinyjson.proofs.Encoded.{enc}
+use Rattle.tinyjson.proofs.Pending.{items_next, items_end, none_left, advanced_open, closes, stopped_open}
+use Rattle.tinyjson.proofs.generator.encode.Encoder.items.Goals as goal
+
+pub loop-item-init : goal.loop-item-init
+loop-item-init g c = (refl, refl, begins)
+
+pub enter-requires : goal.enter-requires
+enter-requires g c = subst IsStack (sym c.loop-item.invariant.0) c.requires.stack
+
+pub returns-in_err-begun : goal.returns-in_err-begun
+returns-in_err-begun g c =
+    let w = indent_of c.args.self.now.indent in
+    let fs = frames c.args.stack.now in
+    let gs = reverse c.args.gathered.now.items in
+    let h = rw (items_next w fs gs c.args.level c.loop-item.first c.loop-item.rest.now c.in-Some.others.now c.in-Some.item.now c.in-Some.ensures.cases.0 c.requires.level) at c.loop-item.invariant.2 in
+    MatchResult-from_err _ _ _ c.from_residual.ensures.0 (λ _. stops _ c.in_err-begun.ensures h)
+
+pub returns-in_err-enter-in-Some-begun : goal.returns-in_err-enter-in-Some-begun
+returns-in_err-enter-in-Some-begun g c =
+    let w = indent_of c.args.self.now.indent in
+    let fs = frames c.args.stack.now in
+    let gs = reverse c.args.gathered.now.items in
+    let h = rw (items_next w fs gs c.args.level c.loop-item.first c.loop-item.rest.now c.in-Some.others.now c.in-Some.item.now c.in-Some.ensures.cases.0 c.requires.level) at c.loop-item.invariant.2 in
+    let o = rw c.in-Some-begun.is at c.in_ok-begun.ensures in
+    MatchResult-from_err _ _ _ c.from_residual-in_err-enter-in-Some-begun.ensures.0 (λ _. stopped_open w _ _ c.args.level c.in-Some-begun.inner _ o h)
+
+pub returns-in-Some-begun : goal.returns-in-Some-begun
+returns-in-Some-begun g c =
+    let w = indent_of c.args.self.now.indent in
+    let fs = frames c.args.stack.now in
+    let gs = reverse c.args.gathered.now.items in
+    let h = rw (items_next w fs gs c.args.level c.loop-item.first c.loop-item.rest.now c.in-Some.others.now c.in-Some.item.now c.in-Some.ensures.cases.0 c.requires.level) at c.loop-item.invariant.2 in
+    let o = rw (c.in-Some-begun.is, c.loop-item.invariant.1) at c.in_ok-begun.ensures in
+    advanced_open w (Items c.args.items c.args.first ∷ fs) gs gs _ c.args.level c.in-Some-begun.inner (Items c.in-Some.others false) c.args.stack.now c.enter.new.self refl c.in_ok-enter-in-Some-begun.ensures.stack
+    (rw c.loop-item.invariant.0 at c.in_ok-enter-in-Some-begun.ensures.frames) c.requires.level o h
+
+pub loop-item-preserved : goal.loop-item-preserved
+loop-item-preserved g c =
+    let w = indent_of c.args.self.now.indent in
+    let fs = frames c.args.stack.now in
+    let gs = reverse c.args.gathered.now.items in
+    let h = rw (items_next w fs gs c.args.level c.loop-item.first c.loop-item.rest.now c.in-Some.others.now c.in-Some.item.now c.in-Some.ensures.cases.0 c.requires.level) at c.loop-item.invariant.2 in
+    let done = rw c.in-None.is at c.in_ok-begun.ensures in
+    (c.loop-item.invariant.0, done.outside ∙ c.loop-item.invariant.1, goes _ done.written h)
+
+pub returns : goal.returns
+returns g c =
+    let w = indent_of c.args.self.now.indent in
+    let fs = frames c.args.stack.now in
+    let gs = reverse c.args.gathered.now.items in
+    let n : c.args.level - 1 ≡ length fs = omega (arith, c.requires.level) in
+    let none = none_left w c.loop-item.rest.now c.in_default.ensures.cases in
+    closes w _ _ _ (Items c.args.items c.args.first ∷ fs) fs gs gs (reverse c.loop-item.gathered.items) (enc (newline w (length fs))) 93 c.loop-item.stack c.close.result
+    (subst IsStack (sym c.loop-item.invariant.0) c.requires.stack) (ap frames c.loop-item.invariant.0) c.loop-item.invariant.1 (rw n at c.close.ensures) (rw (items_end w fs gs c.loop-item.first c.loop-item.rest.now none) at c.loop-item.invariant.2)

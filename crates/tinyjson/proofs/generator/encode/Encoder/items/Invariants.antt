@@ -1,0 +1,23 @@
+use Rattle.std.proofs.Common.{◌≡◌, ◌+◌, ◌++◌, ◌∷◌, [], length, reverse}
+use Rattle.std.specs.Str.{encode_utf8_all}
+use Rattle.tinyjson.specs.Indent.{indent_of}
+use Rattle.tinyjson.specs.Pending.{frames, owed}
+use Rattle.tinyjson.specs.Text.{items_text, newline}
+use Rattle.tinyjson.specs.View.{items_view}
+use Rattle.tinyjson.specs.Written.{Written}
+use Rattle.tinyjson.proofs.generator.encode.Encoder.items.Given as goal
+
+abbrev pub invariant-loop-item : goal.invariant-loop-item
+invariant-loop-item g l =
+    let w = indent_of l.fn.self.indent in
+    let fs = frames l.fn.stack in
+    let gs = reverse l.fn.gathered.items in
+    let close = newline w (length fs) ++ 93 ∷ [] in
+    (l.stack ≡ l.fn.stack)
+    × (reverse l.gathered.items ≡ gs)
+    × Written (g.W.Write.contents l.fn.out) (g.W.Write.contents l.out)
+    (encode_utf8_all ((items_text w (length fs + 1) l.fn.first (items_view l.fn.items) ++ close) ++ owed w fs gs))
+    (encode_utf8_all ((items_text w (length fs + 1) l.first (items_view l.rest) ++ close) ++ owed w fs gs))
+
+abbrev pub decreases-loop-item : goal.decreases-loop-item
+decreases-loop-item g l = length l.rest

@@ -1,0 +1,50 @@
+use Rattle.std.proofs.Common.{◌∷◌, ◌++◌, ap}
+use Rattle.std.specs.Str.{chars}
+use Rattle.std.proofs.lemmas.Result.{MatchResult-from_err}
+use Rattle.tinyjson.specs.Indent.{indent_of}
+use Rattle.tinyjson.specs.Text.{text, quoted, before, after_colon}
+use Rattle.tinyjson.specs.View.{view}
+use Rattle.tinyjson.proofs.Writing.{goes, stops, written_none}
+use Rattle.tinyjson.proofs.Encoded.{enc, three}
+use Rattle.tinyjson.proofs.Pending.{begins_behind}
+use Rattle.tinyjson.proofs.generator.encode.Encoder.member.Goals as goal
+
+pub returns-in_err-separate : goal.returns-in_err-separate
+returns-in_err-separate g c =
+    let w = indent_of c.args.self.now.indent in
+    let key = quoted (chars c.args.key.now) in
+    let v = text w c.args.level (view c.args.value.now) in
+    let start = enc (before w c.args.level c.args.first) in
+    MatchResult-from_err _ _ _ c.from_residual.ensures.0 (λ _. stops _ c.in_err-separate.ensures (written_none _ _ _ (ap (λ z. start ++ z) (three key (58 ∷ after_colon w) v))))
+
+pub returns-in_err-quote : goal.returns-in_err-quote
+returns-in_err-quote g c =
+    let w = indent_of c.args.self.now.indent in
+    let key = quoted (chars c.args.key.now) in
+    let v = text w c.args.level (view c.args.value.now) in
+    let start = enc (before w c.args.level c.args.first) in
+    let rest = enc (58 ∷ after_colon w) ++ enc v in
+    let h = goes (enc key ++ rest) c.in_ok-separate.ensures (written_none _ _ _ (ap (λ z. start ++ z) (three key (58 ∷ after_colon w) v))) in
+    MatchResult-from_err _ _ _ c.from_residual-in_err-quote.ensures.0 (λ _. stops rest c.in_err-quote.ensures h)
+
+pub returns-in_err-colon : goal.returns-in_err-colon
+returns-in_err-colon g c =
+    let w = indent_of c.args.self.now.indent in
+    let key = quoted (chars c.args.key.now) in
+    let v = text w c.args.level (view c.args.value.now) in
+    let start = enc (before w c.args.level c.args.first) in
+    let rest = enc (58 ∷ after_colon w) ++ enc v in
+    let h = goes (enc key ++ rest) c.in_ok-separate.ensures (written_none _ _ _ (ap (λ z. start ++ z) (three key (58 ∷ after_colon w) v))) in
+    let k = goes rest c.in_ok-quote.ensures h in
+    MatchResult-from_err _ _ _ c.from_residual-in_err-colon.ensures.0 (λ _. stops (enc v) c.in_err-colon.ensures k)
+
+pub returns : goal.returns
+returns g c =
+    let w = indent_of c.args.self.now.indent in
+    let key = quoted (chars c.args.key.now) in
+    let v = text w c.args.level (view c.args.value.now) in
+    let start = enc (before w c.args.level c.args.first) in
+    let rest = enc (58 ∷ after_colon w) ++ enc v in
+    let h = goes (enc key ++ rest) c.in_ok-separate.ensures (written_none _ _ _ (ap (λ z. start ++ z) (three key (58 ∷ after_colon w) v))) in
+    let k = goes rest c.in_ok-quote.ensures h in
+    begins_behind w c.args.level _ _ _ _ (enc v) _ _ _ (goes (enc v) c.in_ok-colon.ensures k) (c.begin.ensures w c.args.level)

@@ -1,0 +1,65 @@
+use Rattle.std.proofs.Common.{◌≡◌, ◌∷◌, ◌++◌, ◌+◌, ◌-◌, suc, [], true, false, length, refl, sym, ◌∙◌, ap, subst, reverse, arith}
+use Rattle.std.proofs.lemmas.Result.{MatchResult-from_err}
+use Rattle.tinyjson.specs.Indent.{indent_of}
+use Rattle.tinyjson.specs.Pending.{IsStack, frames, owed}
+use Rattle.tinyjson.specs.Text.{newline}
+use Rattle.tinyjson.specs.declared.generator.pending.Frame.TheVariants.{Members}
+use Rattle.tinyjson.proofs.Writing.{begins, stops, goes}
+use Rattle.tinyjson.proofs.Encoded.{enc}
+use Rattle.tinyjson.proofs.Pending.{members_next, members_end, advanced_open, closes, stopped_open}
+use Rattle.tinyjson.proofs.generator.encode.Encoder.members.Goals as goal
+
+pub loop-key-init : goal.loop-key-init
+loop-key-init g c = (refl, begins)
+
+pub enter-requires : goal.enter-requires
+enter-requires g c = subst IsStack (sym c.loop-key.invariant.0) c.requires.stack
+
+pub returns-in_err-begun : goal.returns-in_err-begun
+returns-in_err-begun g c =
+    let w = indent_of c.args.self.now.indent in
+    let l = c.loop-key in
+    let n : l.left ≡ suc (l.left - 1) = omega (arith, c.in-Some.ensures.0) in
+    let h = rw (members_next w (frames c.args.stack.now) (reverse l.gathered.items) (reverse c.next_member.new.gathered.items) c.args.level l.left (l.left - 1) l.first (c.in-Some.key, c.in-Some.value) c.in-Some.ensures.1 n c.requires.level) at l.invariant.1 in
+    MatchResult-from_err _ _ _ c.from_residual.ensures.0 (λ _. stops _ c.in_err-begun.ensures h)
+
+pub returns-in_err-enter-in-Some-begun : goal.returns-in_err-enter-in-Some-begun
+returns-in_err-enter-in-Some-begun g c =
+    let w = indent_of c.args.self.now.indent in
+    let l = c.loop-key in
+    let n : l.left ≡ suc (l.left - 1) = omega (arith, c.in-Some.ensures.0) in
+    let h = rw (members_next w (frames c.args.stack.now) (reverse l.gathered.items) (reverse c.next_member.new.gathered.items) c.args.level l.left (l.left - 1) l.first (c.in-Some.key, c.in-Some.value) c.in-Some.ensures.1 n c.requires.level) at l.invariant.1 in
+    let o = rw c.in-Some-begun.is at c.in_ok-begun.ensures in
+    MatchResult-from_err _ _ _ c.from_residual-in_err-enter-in-Some-begun.ensures.0 (λ _. stopped_open w _ _ c.args.level c.in-Some-begun.inner _ o h)
+
+pub returns-in-Some-begun : goal.returns-in-Some-begun
+returns-in-Some-begun g c =
+    let w = indent_of c.args.self.now.indent in
+    let l = c.loop-key in
+    let fs = frames c.args.stack.now in
+    let hs = reverse c.next_member.new.gathered.items in
+    let n : l.left ≡ suc (l.left - 1) = omega (arith, c.in-Some.ensures.0) in
+    let h = rw (members_next w fs (reverse l.gathered.items) hs c.args.level l.left (l.left - 1) l.first (c.in-Some.key, c.in-Some.value) c.in-Some.ensures.1 n c.requires.level) at l.invariant.1 in
+    let o = rw c.in-Some-begun.is at c.in_ok-begun.ensures in
+    advanced_open w (Members c.args.left c.args.first ∷ fs) (reverse c.args.gathered.now.items) hs _ c.args.level c.in-Some-begun.inner (Members (l.left - 1) false) c.args.stack.now c.enter.new.self refl c.in_ok-enter-in-Some-begun.ensures.stack
+    (rw l.invariant.0 at c.in_ok-enter-in-Some-begun.ensures.frames) c.requires.level o h
+
+pub loop-key-preserved : goal.loop-key-preserved
+loop-key-preserved g c =
+    let w = indent_of c.args.self.now.indent in
+    let l = c.loop-key in
+    let n : l.left ≡ suc (l.left - 1) = omega (arith, c.in-Some.ensures.0) in
+    let h = rw (members_next w (frames c.args.stack.now) (reverse l.gathered.items) (reverse c.next_member.new.gathered.items) c.args.level l.left (l.left - 1) l.first (c.in-Some.key, c.in-Some.value) c.in-Some.ensures.1 n c.requires.level) at l.invariant.1 in
+    let done = rw c.in-None.is at c.in_ok-begun.ensures in
+    (l.invariant.0, rw done.outside (goes _ done.written h))
+
+pub returns : goal.returns
+returns g c =
+    let w = indent_of c.args.self.now.indent in
+    let l = c.loop-key in
+    let fs = frames c.args.stack.now in
+    let gs = reverse l.gathered.items in
+    let hs = reverse c.next_member.new.gathered.items in
+    let n : c.args.level - 1 ≡ length fs = omega (arith, c.requires.level) in
+    closes w _ _ _ (Members c.args.left c.args.first ∷ fs) fs (reverse c.args.gathered.now.items) hs hs (enc (newline w (length fs))) 125 l.stack c.close.result
+    (subst IsStack (sym l.invariant.0) c.requires.stack) (ap frames l.invariant.0) refl (rw n at c.close.ensures) (rw (members_end w fs gs hs l.first l.left c.in_default.ensures.0 c.in_default.ensures.1) at l.invariant.1)

@@ -1,0 +1,19 @@
+use Rattle.std.proofs.Common.{◌≡◌, ◌∷◌, reverse}
+use Rattle.std.specs.Str.{encode_utf8_all}
+use Rattle.tinyjson.specs.Indent.{indent_of}
+use Rattle.tinyjson.specs.Pending.{frames, owed}
+use Rattle.tinyjson.specs.Written.{Written}
+use Rattle.tinyjson.specs.declared.generator.pending.Frame.TheVariants.{Members}
+use Rattle.tinyjson.proofs.generator.encode.Encoder.members.Given as goal
+
+abbrev pub invariant-loop-key : goal.invariant-loop-key
+invariant-loop-key g l =
+    let w = indent_of l.fn.self.indent in
+    let fs = frames l.fn.stack in
+    (l.stack ≡ l.fn.stack)
+    × Written (g.W.Write.contents l.fn.out) (g.W.Write.contents l.out)
+    (encode_utf8_all (owed w (Members l.fn.left l.fn.first ∷ fs) (reverse l.fn.gathered.items)))
+    (encode_utf8_all (owed w (Members l.left l.first ∷ fs) (reverse l.gathered.items)))
+
+abbrev pub decreases-loop-key : goal.decreases-loop-key
+decreases-loop-key g l = l.left

@@ -1,0 +1,21 @@
+use Rattle.std.proofs.Common.{refl, sym, ap, ◌∙◌, subst, Some}
+use Rattle.std.specs.HashMap.{get_by_text}
+use Rattle.std.specs.Prelude.{IsSome, option_and_then}
+use Rattle.std.specs.Str.{chars}
+use Rattle.tinyjson.proofs.Index.{is_member_at, tree-with_member}
+use Rattle.tinyjson.specs.Index.{with_tree_at_key}
+use Rattle.tinyjson.specs.View.{view}
+use Rattle.tinyjson.proofs.value.JsonValue.replace_member.Goals as goal
+
+pub returns-clause-old : goal.returns-clause-old
+returns-clause-old c =
+    is_member_at c.args.self.now c.args.key.now c.replace.result c.utf8.key
+    (ap (option_and_then (λ m. get_by_text m c.args.key.now)) (sym c.in-Some.ensures.value) ∙ (sym c.in-Some-get_mut.ensures.value ∙ ap Some (sym c.replace.ensures.value)))
+
+pub returns-clause-tree : goal.returns-clause-tree
+returns-clause-tree c =
+    let v = c.args.self.now in
+    let w = c.replace.new.dest in
+    let there = subst IsSome c.in-Some-get_mut.ensures.value refl in
+    tree-with_member v c.in-Some.members.now (c.get_mut-2.follows.lender w) c.args.key.now w c.utf8.key (sym c.in-Some.ensures.value) there ((c.get_mut-2.follows.holds w).3 there).0
+    ∙ ap (λ x. with_tree_at_key (view v) (chars c.args.key.now) (view x)) c.replace.ensures.after

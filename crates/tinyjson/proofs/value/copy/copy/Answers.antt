@@ -1,0 +1,25 @@
+use Rattle.std.proofs.Common.{◌≡◌, ◌++◌, ◌∷◌, [], ◌∙◌, sym, ap, ap₂, arith}
+use Rattle.tinyjson.proofs.Copies.{filled_all_last, put_all-none, stack_weight_last}
+use Rattle.tinyjson.proofs.value.copy.copy.Goals as goal
+use Rattle.tinyjson.specs.Copy.{put_all, filled_all, step_view, stack_weight, step_weight}
+use Rattle.tinyjson.specs.Tree.{object}
+use Rattle.tinyjson.specs.View.{members_view}
+
+pub loop-step-preserved-in_ok-step-in-Object : goal.loop-step-preserved-in_ok-step-in-Object
+loop-step-preserved-in_ok-step-in-Object c =
+    let stack = c.loop-step.stack.items in
+    let entries = c.in-Object.members.now.entries in
+    let all : put_all c.iter-in-Object.result (members_view c.in_ok-copies-in-Object.copies.entries) ≡ members_view entries
+    = (λ i. put_all (c.iter-in-Object.ensures.rest i) (members_view (c.in_ok-copies-in-Object.ensures.empty i))) ∙ put_all-none entries c.iter-in-Object.ensures.unique in
+    c.in_ok-step-in-Object.ensures.view ∙ (ap (λ ms. filled_all stack (object ms)) all ∙ (ap (λ s. filled_all stack (step_view s)) (sym c.in-Object.is) ∙ c.loop-step.invariant))
+
+pub loop-step-smaller : goal.loop-step-smaller
+loop-step-smaller c =
+    let popped = ap stack_weight c.in-Some.ensures.items ∙ stack_weight_last c.pop.new.self.items c.in-Some.partial in
+    let one = ap step_weight c.in-Copied.is in
+    omega (arith, c.in_ok-step-in-Some.ensures.left, popped, one)
+
+pub loop-step-preserved : goal.loop-step-preserved
+loop-step-preserved c =
+    let before = ap₂ (λ ps s. filled_all ps (step_view s)) c.in-Some.ensures.items c.in-Copied.is ∙ filled_all_last c.pop.new.self.items c.in-Some.partial _ in
+    c.in_ok-step-in-Some.ensures.view ∙ (sym before ∙ c.loop-step.invariant)

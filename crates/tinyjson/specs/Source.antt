@@ -1,0 +1,28 @@
+-- What a source of characters still gives, and what a call took from it. For private contracts.
+use Rattle.std.specs.Prelude.{◌≡◌, ℕ, ◌<◌, true, List, [], ◌∷◌, ◌++◌, Option, Some, None}
+use Rattle.std.specs.List.{AllByRecursion}
+use Rattle.tinyjson.specs.Characters.{is_white}
+use Rattle.tinyjson.specs.Position.{Position, advance}
+
+-- How a source is seen: the list that it still gives, the first character of that list, or none, and where it stands.
+pub record Sight (S : Type 0) : Type 1 where
+  pub gives : S → List ℕ → Type 0
+  pub shows : S → Option ℕ → Type 0
+  pub place : S → Position
+  pub line_fits : (p : S) → (place p).line < 18446744073709551616
+  pub column_fits : (p : S) → (place p).column < 18446744073709551616
+  pub one : (p : S) (o u : Option ℕ) → shows p o → shows p u → o ≡ u
+  pub first : (p : S) (zs : List ℕ) (c : ℕ) → shows p (Some c) → gives p zs → (cs : List ℕ) × (zs ≡ c ∷ cs)
+  pub none : (p : S) (zs : List ℕ) → shows p None → gives p zs → zs ≡ []
+
+module _ {S : Type 0} (sight : Sight S) where
+  -- a call took xs from p and left q: of any list that p gave, xs stands in front, and q gives the rest
+  pub record Takes (p : S) (xs : List ℕ) (q : S) : Type 0 where
+    pub gives : (zs : List ℕ) → sight.gives p zs → (rest : List ℕ) × (zs ≡ xs ++ rest) × sight.gives q rest
+    pub moves : sight.place q ≡ advance (sight.place p) xs
+
+  -- a call took white space
+  pub record Whites (p q : S) : Type 0 where
+    pub taken : List ℕ
+    pub white : AllByRecursion (λ c. is_white c ≡ true) taken
+    pub takes : Takes p taken q

@@ -1,0 +1,57 @@
+//! Where the characters come from.
+ghost use Rattle.std.specs.Prelude.{◌≡◌, ℕ, ◌+◌, ◌≤◌, [], ◌∷◌, false, IfSome, MatchOption, Option, None};
+ghost use Rattle.std.specs.Option.{option_len};
+ghost use Rattle.tinyjson.specs.Characters.{is_white};
+ghost use Rattle.tinyjson.specs.Position.{position_at};
+ghost use Rattle.tinyjson.specs.Source.{Sight, Takes, Whites};
+
+/// A source of characters, of which the next one can be looked at.
+///
+/// `sight` says what the source still gives and where it stands, and `left` goes down with each character.
+pub(super) trait Source: Drop {
+    ghost sight: { Sight Self };
+
+    ghost left: { Self → ℕ };
+
+    /// The next character, which is not consumed yet.
+    fn peek(&mut self) -> Option<char>
+        ensures takes { Takes sight self.old [] self.new }
+        ensures shows { sight.shows self.new result }
+        ensures kept { (o : Option ℕ) → sight.shows self.old o → result ≡ o }
+        ensures left { left self.new ≤ left self.old };
+
+    /// The next character, which is consumed.
+    fn bump(&mut self) -> Option<char>
+        ensures takes { MatchOption result (Takes sight self.old [] self.new × sight.shows self.new None) (λ c. Takes sight self.old (c ∷ []) self.new) }
+        ensures shown { (o : Option ℕ) → sight.shows self.old o → result ≡ o }
+        ensures left { left self.new + option_len result ≤ left self.old };
+
+    /// Passes over white space, and shows what follows it.
+    fn skip_white(&mut self) -> Option<char>
+        ensures white { Whites sight self.old self.new }
+        ensures shows { sight.shows self.new result }
+        ensures stops { IfSome result (λ c. is_white c ≡ false) }
+        ensures left { left self.new ≤ left self.old }
+    {
+        loop {
+            let next = self.peek();
+            match next {
+                Some(c) if is_white(c) => {
+                    self.bump();
+                }
+                _ => return next,
+            }
+        }
+    }
+
+    /// The line and the column behind what was consumed.
+    fn position(&self) -> (usize, usize)
+        ensures { position_at result.0 result.1 ≡ sight.place self.now };
+}
+
+/// White space of JSON (RFC 8259, section 2).
+pub(super) fn is_white(c: char) -> bool
+    ensures { result ≡ is_white c }
+{
+    c == ' ' || c == '\n' || c == '\r' || c == '\t'
+}
