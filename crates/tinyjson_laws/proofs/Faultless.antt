@@ -2,8 +2,8 @@
 use Rattle.std.proofs.Common.{ℕ, ◌+◌, List, [], ◌++◌, Option, refl, sym, subst, append_assoc, append-nil, arith, ⊎_elim}
 use Rattle.tinyjson.specs.Syntax.{string, IsWithin}
 use Rattle.tinyjson.specs.Grammar.{IsLoose}
-use Rattle.tinyjson.specs.Continuation.{IsFaultless, IsCutOffText, CutOff, bad_key, in_key, in_member, in_item, cut_off_text, IsCutOff, cut_off_depth}
-use Rattle.tinyjson.specs.Continuation.{IsLooselyViable}
+use Rattle.tinyjson.specs.Prefix.{IsFaultless, IsCutOffText, CutOff, bad_key, in_key, in_member, in_item, cut_off_text, IsCutOff, cut_off_depth}
+use Rattle.tinyjson.specs.Prefix.{IsLooselyViable}
 use Rattle.tinyjson.proofs.Grammar.Paths.{Path, outside, item_in, key_in, value_in, path_text, level, IsPath, within_le, closes, closing}
 use Rattle.tinyjson.proofs.Grammar.Spelt.{loosely-from}
 use Rattle.tinyjson.proofs.Grammar.Faultless.{viable-before}

@@ -6,7 +6,7 @@ use Rattle.std.proofs.lemmas.Bool.{cond_both, and_parts, lt-ltb, ltb-true, ltb-f
 use Rattle.std.proofs.lemmas.Bool.Decides.{nat_tests}
 use Rattle.std.proofs.lemmas.Str.{digit_value-digit_char}
 use Rattle.tinyjson.specs.Characters.{decode, paired, is_hex}
-use Rattle.tinyjson.specs.Syntax.{Piece, plain, escape, unit, piece_text, pieces_text, IsPiece, ArePieces, code, codes}
+use Rattle.tinyjson.specs.Syntax.{Piece, plain, escape, unit, piece_text, pieces_text, IsPiece, ArePieces, code, piece_codes}
 use Rattle.tinyjson.specs.Text as written
 use Rattle.tinyjson.proofs.Grammar.Strings.{decode-cons, paired-cons, scalar-no_surrogate}
 
@@ -67,7 +67,7 @@ escaped c s =
 pub record StandFor (cs xs : List ℕ) : Type 0 where
   pub pieces : List Piece
   pub are : ArePieces pieces
-  pub codes : codes pieces ≡ cs
+  pub codes : piece_codes pieces ≡ cs
   pub text : pieces_text pieces ≡ xs
 
 pub escapes-stand : (cs : List ℕ) → IsTrue (all_scalars cs) → StandFor cs (written.escapes cs)

@@ -1,16 +1,16 @@
 -- What a text of the grammar gives is a sound tree, no deeper than the text.
-use Rattle.std.proofs.Common.{◌≡◌, ℕ, ◌<◌, ◌≤◌, max, Bool, true, false, cond, List, [], ◌∷◌, Option, Some, None, refl, arith, IsTrue, not, ◌&&◌, ◌||◌, ◌==◌}
+use Rattle.std.proofs.Common.{◌≡◌, ℕ, ◌<◌, ◌≤◌, max, Bool, true, false, cond, List, [], ◌∷◌, refl, arith, IsTrue, not, ◌&&◌}
 use Rattle.std.specs.Prelude.{⊤, unwrap_or}
 use Rattle.std.specs.Int.{Width}
 use Rattle.std.specs.Char.{IsScalar, digit_value}
 use Rattle.std.specs.Str.{all_scalars}
 use Rattle.std.specs.declared.cmp.Ordering.{Ordering}
 use Rattle.std.specs.declared.cmp.Ordering.TheVariants.{Less, Equal, Greater}
-use Rattle.std.proofs.lemmas.Bool.{false≢true, cond_both, and_from, and_parts, ltb-true}
+use Rattle.std.proofs.lemmas.Bool.{false≢true, and_from, and_parts, ltb-true}
 use Rattle.tinyjson.specs.Characters.{short_escape, is_hex, is_high, is_low, is_surrogate, pair_of, decode, paired}
 use Rattle.tinyjson.specs.Tree as tree
 use Rattle.tinyjson.specs.Tree.{key_cmp}
-use Rattle.tinyjson.specs.Syntax.{Syntax, Elements, Pairs, null, boolean, number, string, empty_array, array, empty_object, object, last_element, element, last_pair, pair, Piece, plain, escape, unit, IsPiece, ArePieces, code, codes, unit_value, IsSpelled, AreElements, ArePairs, IsStrictAt, ElementsAreStrictAt, PairsAreStrictAt, is_key, tree_of, elements_trees, pairs_members, depth, elements_depth, pairs_depth}
+use Rattle.tinyjson.specs.Syntax.{Syntax, Elements, Pairs, null, boolean, number, string, empty_array, array, empty_object, object, last_element, element, last_pair, pair, Piece, plain, escape, unit, IsPiece, ArePieces, code, piece_codes, unit_value, IsSpelled, AreElements, ArePairs, IsStrictAt, ElementsAreStrictAt, PairsAreStrictAt, is_key, tree_of, elements_trees, pairs_members, depth, elements_depth, pairs_depth}
 use Rattle.tinyjson.specs.Soundness.{IsSorted, IsTreeAt, AreItemsAt, AreMembersAt, tree_depth, items_depth, members_depth}
 use Rattle.tinyjson.proofs.Members.{sorted-put}
 use Rattle.tinyjson.proofs.Trees.{are_put}
@@ -22,14 +22,8 @@ abbrev AreCodes : List ℕ → Type 0
 AreCodes [] = ⊤
 AreCodes (u ∷ us) = (u < 1114112) × AreCodes us
 
-itself-code : (c : ℕ) → ((c == 34) || ((c == 92) || (c == 47))) ≡ true → c < 1114112
-itself-code c h = grind arith
-
 escape-code : (c : ℕ) → unwrap_or (short_escape c) 0 < 1114112
-escape-code c =
-    let P : Option ℕ → Type 0 = λ o. unwrap_or o 0 < 1114112 in
-    cond_both _ (Some c) _ P (itself-code c) (λ _. cond_both (c == 98) (Some 8) _ P (λ _. omega arith) (λ _. cond_both (c == 102) (Some 12) _ P (λ _. omega arith)
-    (λ _. cond_both (c == 110) (Some 10) _ P (λ _. omega arith) (λ _. cond_both (c == 114) (Some 13) _ P (λ _. omega arith) (λ _. cond_both (c == 116) (Some 9) None P (λ _. omega arith) (λ _. omega arith))))))
+escape-code c = grind arith
 
 unit-code : (a b c d : ℕ) → IsTrue (is_hex a) → IsTrue (is_hex b) → IsTrue (is_hex c) → IsTrue (is_hex d) → unit_value a b c d < 1114112
 unit-code a b c d ha hb hc hd = omega (arith, ltb-true (digit_value a) 16 ha, ltb-true (digit_value b) 16 hb, ltb-true (digit_value c) 16 hc, ltb-true (digit_value d) 16 hd)
@@ -42,7 +36,7 @@ piece-code (plain c) h = scalar-code c h.0
 piece-code (escape c) h = escape-code c
 piece-code (unit a b c d) h = unit-code a b c d h.0 h.1 h.2 h.3
 
-pieces-codes : (ps : List Piece) → ArePieces ps → AreCodes (codes ps)
+pieces-codes : (ps : List Piece) → ArePieces ps → AreCodes (piece_codes ps)
 pieces-codes [] h = tt
 pieces-codes (p ∷ ps) h = (piece-code p h.0, pieces-codes ps h.1)
 
@@ -63,8 +57,8 @@ decoded (u ∷ v ∷ us) h e = choose (is_high u && is_low v) _ _ _ _ e
     (λ b p. and_from _ _ (pair-scalar u v b) (decoded us h.1.1 p))
     (λ b p. let k = and_parts _ _ p in and_from _ _ (alone-scalar u h.0 k.0) (decoded (v ∷ us) h.1 k.1))
 
-pub string-scalars : (ps : List Piece) → ArePieces ps → IsTrue (paired (codes ps)) → IsTrue (all_scalars (decode (codes ps)))
-string-scalars ps h e = decoded (codes ps) (pieces-codes ps h) e
+pub string-scalars : (ps : List Piece) → ArePieces ps → IsTrue (paired (piece_codes ps)) → IsTrue (all_scalars (decode (piece_codes ps)))
+string-scalars ps h e = decoded (piece_codes ps) (pieces-codes ps h) e
 
 -- ---- members
 

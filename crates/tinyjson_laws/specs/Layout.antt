@@ -56,7 +56,8 @@ abbrev mutual
 
   pub indented_members : List ℕ → ℕ → Members → List (List ℕ)
   indented_members indent level no_members = []
-  indented_members indent level (member k t ms) = (line indent level ++ (quoted k ++ 58 ∷ 32 ∷ indented_text indent level t)) ∷ indented_members indent level ms
+  indented_members indent level (member k t ms) =
+      (line indent level ++ (quoted k ++ 58 ∷ 32 ∷ indented_text indent level t)) ∷ indented_members indent level ms
 
 -- the compact text of a tree is laid out so
 abbrev pub CompactLayout : Type 0

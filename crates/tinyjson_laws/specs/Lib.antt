@@ -4,4 +4,9 @@ pub mod Writing
 pub mod Layout
 pub mod WhiteSpace
 pub mod Members
-pub mod Beginnings
+pub mod Prefixes
+pub mod Headline
+pub mod Refusals
+pub mod Positions
+pub mod Values
+pub mod Calls

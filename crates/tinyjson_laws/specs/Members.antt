@@ -1,8 +1,9 @@
--- The law of equal keys: the last pair with a key counts.
+-- Laws of objects: the last pair with a key counts, and members are told by what is found in them.
 use Rattle.std.specs.Prelude.{◌≡◌, ◌≢◌, ◌↔◌, ℕ, List, [], ◌∷◌, ◌++◌, Some, None}
 use Rattle.std.specs.List.{AllByRecursion}
 use Rattle.tinyjson.specs.Tree as tree
 use Rattle.tinyjson.specs.Tree.{Tree, Members, key_of, find}
+use Rattle.tinyjson.specs.Soundness.{IsSorted}
 use Rattle.tinyjson.specs.Syntax.{Pairs, object, last_pair, pair, tree_of}
 
 -- the pairs of an object, each as its key and its tree
@@ -23,3 +24,8 @@ abbrev pub LastPairStays : Type 0
 LastPairStays =
     (ps : Pairs) (ms : Members) → tree_of (object ps) ≡ tree.object ms → (k : List ℕ) →
     ((t : Tree) → (find k ms ≡ Some t) ↔ IsLast k t (entries_of ps)) × ((find k ms ≡ None) ↔ HasNone k (entries_of ps))
+
+-- two maps in which the same is found at every key are one
+abbrev pub MembersFromFind : Type 0
+MembersFromFind =
+    (ms ns : Members) → IsSorted ms → IsSorted ns → ((k : List ℕ) → find k ms ≡ find k ns) → ms ≡ ns

@@ -22,8 +22,8 @@ TreesHaveTexts = (t : Tree) → IsTree t ↔ ((xs : List ℕ) × IsText None xs 
 abbrev pub WiderLimit : Type 0
 WiderLimit = (m n : ℕ) (xs : List ℕ) (t : Tree) → m ≤ n → IsText (Some m) xs t → IsText (Some n) xs t × IsText None xs t
 
--- What is a text with the powers of ten of `i32` is one with those of `i64`, with the same tree. Its compact text is the same too: any tree that the wider range gives has it,
--- and it is a text with either range.
+-- What is a text with the powers of ten of `i32` is one with those of `i64`, with the same tree. Its compact text is the same too:
+-- any tree that the wider range gives has it, and it is a text with either range.
 abbrev pub WiderRange : Type 0
 WiderRange =
     (limit : Option ℕ) (xs : List ℕ) (t : Tree) → IsTextAt w32 limit xs t →

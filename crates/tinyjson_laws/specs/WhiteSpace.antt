@@ -2,7 +2,23 @@
 use Rattle.std.specs.Prelude.{◌≡◌, ℕ, cond, ◌==◌, List, [], ◌∷◌, ◌++◌, Option}
 use Rattle.tinyjson.specs.Characters.{is_white}
 use Rattle.tinyjson.specs.Tree.{Tree}
-use Rattle.tinyjson.specs.Syntax.{Syntax, Elements, Pairs, null, boolean, number, string, empty_array, array, empty_object, object, last_element, element, last_pair, pair}
+use Rattle.tinyjson.specs.Syntax.{
+  Syntax,
+  Elements,
+  Pairs,
+  null,
+  boolean,
+  number,
+  string,
+  empty_array,
+  array,
+  empty_object,
+  object,
+  last_element,
+  element,
+  last_pair,
+  pair,
+}
 use Rattle.tinyjson.specs.Grammar.{IsLoose, IsText}
 
 -- ---- on a list of characters
@@ -39,7 +55,9 @@ WhiteRemoved = (limit : Option ℕ) (xs : List ℕ) (t : Tree) → IsText limit 
 
 -- two texts that are the same but for white space outside strings have one tree
 abbrev pub SameButWhite : Type 0
-SameButWhite = (limit : Option ℕ) (xs ys : List ℕ) (t u : Tree) → IsText limit xs t → IsText limit ys u → without_white xs ≡ without_white ys → t ≡ u
+SameButWhite =
+    (limit : Option ℕ) (xs ys : List ℕ) (t u : Tree) →
+    IsText limit xs t → IsText limit ys u → without_white xs ≡ without_white ys → t ≡ u
 
 -- ---- on a value as it is spelled
 
@@ -65,4 +83,6 @@ abbrev mutual
 
 -- where one of two lists that differ in the white space between tokens alone is a text, so is the other, with the same tree
 abbrev pub WhiteChangesNothing : Type 0
-WhiteChangesNothing = (limit : Option ℕ) (xs ys : List ℕ) (t : Tree) (h : IsText limit xs t) (m : IsLoose limit ys) → bare_value h.loose.value ≡ bare_value m.value → IsText limit ys t
+WhiteChangesNothing =
+    (limit : Option ℕ) (xs ys : List ℕ) (t : Tree) (h : IsText limit xs t) (m : IsLoose limit ys) →
+    bare_value h.loose.value ≡ bare_value m.value → IsText limit ys t

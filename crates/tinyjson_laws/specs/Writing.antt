@@ -21,11 +21,15 @@ SameCompact = (t u : Tree) → IsTree t → IsTree u → (compact t ≡ compact 
 
 -- two trees have one indented text exactly if they are one
 abbrev pub SameIndented : Type 0
-SameIndented = (t u : Tree) (indent : List ℕ) → AreWhite indent → IsTree t → IsTree u → (indented t indent 0 ≡ indented u indent 0) ↔ (t ≡ u)
+SameIndented =
+    (t u : Tree) (indent : List ℕ) → AreWhite indent → IsTree t → IsTree u →
+    (indented t indent 0 ≡ indented u indent 0) ↔ (t ≡ u)
 
 -- reading and writing twice gives the text of once
 abbrev pub WrittenOnce : Type 0
-WrittenOnce = (limit : Option ℕ) (xs : List ℕ) (t : Tree) → IsText limit xs t → IsText limit (compact t) t × ((u : Tree) → IsText limit (compact t) u → compact u ≡ compact t)
+WrittenOnce =
+    (limit : Option ℕ) (xs : List ℕ) (t : Tree) → IsText limit xs t →
+    IsText limit (compact t) t × ((u : Tree) → IsText limit (compact t) u → compact u ≡ compact t)
 
 -- the compact text of a tree is a text at a limit exactly if the tree's containers are nested at most so deep
 abbrev pub CompactWithin : Type 0
@@ -33,20 +37,28 @@ CompactWithin = (t : Tree) (n : ℕ) → IsTree t → IsText (Some n) (compact t
 
 -- and so is its indented text
 abbrev pub IndentedWithin : Type 0
-IndentedWithin = (t : Tree) (indent : List ℕ) (n : ℕ) → AreWhite indent → IsTree t → IsText (Some n) (indented t indent 0) t ↔ (tree_depth t ≤ n)
+IndentedWithin =
+    (t : Tree) (indent : List ℕ) (n : ℕ) → AreWhite indent → IsTree t →
+    IsText (Some n) (indented t indent 0) t ↔ (tree_depth t ≤ n)
 
 -- what is accepted under a limit reads back under the same limit
 abbrev pub LimitKept : Type 0
-LimitKept = (limit : Option ℕ) (xs : List ℕ) (t : Tree) (indent : List ℕ) → AreWhite indent → IsText limit xs t → IsText limit (compact t) t × IsText limit (indented t indent 0) t
+LimitKept =
+    (limit : Option ℕ) (xs : List ℕ) (t : Tree) (indent : List ℕ) → AreWhite indent → IsText limit xs t →
+    IsText limit (compact t) t × IsText limit (indented t indent 0) t
 
--- the characters of a text have a UTF-8
+-- the characters of a text are scalar values, so they have an encoding in UTF-8
 abbrev pub TextsAreUtf8 : Type 0
-TextsAreUtf8 = (limit : Option ℕ) (xs : List ℕ) (t : Tree) → IsText limit xs t → IsTrue (all_scalars xs) × IsUtf8 (encode_utf8_all xs)
+TextsAreUtf8 =
+    (limit : Option ℕ) (xs : List ℕ) (t : Tree) → IsText limit xs t →
+    IsTrue (all_scalars xs) × IsUtf8 (encode_utf8_all xs)
 
--- a compact text has a UTF-8
+-- the characters of a compact text have an encoding in UTF-8
 abbrev pub CompactIsUtf8 : Type 0
 CompactIsUtf8 = (t : Tree) → IsTree t → IsUtf8 (encode_utf8_all (compact t))
 
--- an indented text has a UTF-8, where the indent has
+-- and so have those of an indented text, where those of the indent have
 abbrev pub IndentedIsUtf8 : Type 0
-IndentedIsUtf8 = (t : Tree) (indent : List ℕ) → IsTrue (all_scalars indent) → IsTree t → IsUtf8 (encode_utf8_all (indented t indent 0))
+IndentedIsUtf8 =
+    (t : Tree) (indent : List ℕ) → IsTrue (all_scalars indent) → IsTree t →
+    IsUtf8 (encode_utf8_all (indented t indent 0))

@@ -6,11 +6,15 @@
 //! and read.
 #![tactic(auto)]
 
-pub mod beginnings;
+pub mod calls;
+pub mod headline;
 pub mod layout;
 pub mod members;
 pub mod numbers;
+pub mod positions;
+pub mod prefixes;
 pub mod reading;
+pub mod refusals;
 pub mod round_trips;
 pub mod values;
 pub mod white_space;

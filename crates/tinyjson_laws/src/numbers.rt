@@ -1,5 +1,14 @@
 //! Laws of numbers: a decimal, and the texts that spell it.
-ghost use Rattle.tinyjson_laws.specs.Numbers.{OneDecimal, DecimalsHaveTexts, DecimalReadsBack, SameDecimal};
+ghost use Rattle.tinyjson_laws.specs.Numbers.{
+  OneDecimal,
+  DecimalsHaveTexts,
+  DecimalReadsBack,
+  SameDecimal,
+  OneNumber,
+  WholesMean,
+  IntegersDiffer,
+  NaturalsDiffer,
+};
 
 /// A text spells at most one decimal.
 pub fn one_decimal()
@@ -7,16 +16,41 @@ pub fn one_decimal()
 {}
 
 /// A decimal is in its one form exactly if some text spells it.
+#[tactic(auto, using(crate::proofs::NumberLaws::decimals_have_texts))]
 pub fn decimals_have_texts()
     ensures { DecimalsHaveTexts }
 {}
 
 /// The text of a decimal spells that decimal.
+#[tactic(auto, using(crate::proofs::NumberLaws::decimal_reads_back))]
 pub fn decimal_reads_back()
     ensures { DecimalReadsBack }
 {}
 
 /// Two decimals have one text exactly if they are one.
+#[tactic(auto, using(crate::proofs::NumberLaws::same_decimal))]
 pub fn same_decimal()
     ensures { SameDecimal }
+{}
+
+/// Two numbers with one decimal are one.
+pub fn one_number()
+    ensures { OneNumber }
+{}
+
+/// The decimal of a whole number means that number: the value of its digits times ten to its power, with its
+/// sign.
+pub fn wholes_mean()
+    ensures { WholesMean }
+{}
+
+/// Two integers of `i64` with one decimal are one, so what `to_i64` returns for the number of an integer is
+/// that integer.
+pub fn integers_differ()
+    ensures { IntegersDiffer }
+{}
+
+/// Two integers of `u64` with one decimal are one.
+pub fn naturals_differ()
+    ensures { NaturalsDiffer }
 {}

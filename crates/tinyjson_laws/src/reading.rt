@@ -12,6 +12,7 @@ pub fn texts_are_sound()
 {}
 
 /// A tree is sound exactly if some text has it.
+#[tactic(auto, using(crate::proofs::ReadingLaws::trees_have_texts))]
 pub fn trees_have_texts()
     ensures { TreesHaveTexts }
 {}

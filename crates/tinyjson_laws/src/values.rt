@@ -1,21 +1,37 @@
 //! Laws of values.
 ghost use Rattle.std.specs.Prelude.{◌≡◌, ◌↔◌, IsTrue};
-ghost use Rattle.tinyjson.specs.Soundness.{IsTree};
 ghost use Rattle.tinyjson.specs.Text.{compact};
 ghost use Rattle.tinyjson.specs.View.{view};
+ghost use Rattle.tinyjson_laws.specs.Values.{ValuesAreSound, EqualTrees, EqualTexts};
 
 use tinyjson::JsonValue;
 
 /// Every value has a sound tree.
-pub fn values_are_sound(value: &JsonValue)
-    ensures { IsTree (view value.now) }
+pub fn values_are_sound()
+    ensures { ValuesAreSound }
 {}
 
-/// Whether two values are equal, which they are exactly if their compact texts are.
-#[tactic(auto, using(tinyjson::specs::Equality::tree_eq_decides))]
-pub fn equal_texts(a: &JsonValue, b: &JsonValue) -> bool
-    ensures trees { IsTrue result ↔ (view a.now ≡ view b.now) }
-    ensures texts { IsTrue result ↔ (compact (view a.now) ≡ compact (view b.now)) }
+/// Two values are equal exactly if their trees are one.
+pub fn equal_trees()
+    ensures { EqualTrees }
+{}
+
+/// Two values are equal exactly if their compact texts are one.
+///
+/// To use a law, call it, and cite what it ensures. Of [`have_one_text`], which calls this one, the
+/// proof is
+///
+/// ```text
+/// returns c = rw c.eq.ensures (c.equal_texts.ensures c.args.a.now c.args.b.now)
+/// ```
+pub fn equal_texts()
+    ensures { EqualTexts }
+{}
+
+/// Whether two values have one compact text.
+pub fn have_one_text(a: &JsonValue, b: &JsonValue) -> bool
+    ensures { IsTrue result ↔ (compact (view a.now) ≡ compact (view b.now)) }
 {
+    equal_texts();
     a == b
 }

@@ -1,24 +1,21 @@
-use Rattle.std.proofs.Common.{rules, ◌≡◌, sym, subst, ◌∙◌, None}
-use Rattle.std.specs.Prelude.{IsTrue, codes}
+use Rattle.std.proofs.Common.{rules, ◌≡◌, sym, subst, ◌∙◌, None, Ok, Err}
+use Rattle.std.specs.Prelude.{IsTrue}
 use Rattle.std.specs.Str.{chars}
-use Rattle.tinyjson.specs.Grammar.{IsText}
-use Rattle.tinyjson.specs.Text.{compact, indented}
+use Rattle.tinyjson.specs.Equality.{tree_eq_decides}
+use Rattle.tinyjson.specs.Text.{compact}
 use Rattle.tinyjson.specs.View.{view}
-use Rattle.tinyjson.proofs.Trees.{view-IsTree}
-use Rattle.tinyjson_laws.proofs.RoundTrips.{read-equal, read-refused}
-use Rattle.tinyjson_laws.proofs.WritingLaws.{compact_reads_back}
+use Rattle.tinyjson_laws.proofs.CallLaws as laws
 use Rattle.tinyjson_laws.proofs.round_trips.reads_back.Goals as goal
 
 pub returns-in-Ok-from_str : goal.returns-in-Ok-from_str
 returns-in-Ok-from_str c =
     let v = c.args.value.now in
     let e : chars c.as_str.result.now ≡ compact (view v) = search rules in
-    let t = subst (λ xs. IsText None xs (view v)) (sym e) (compact_reads_back (view v) (view-IsTree v)) in
-    subst IsTrue (sym c.eq.ensures) (read-equal _ v c.in-Ok-from_str.back t c.in-Ok-from_str.ensures)
+    let same : view c.in-Ok-from_str.back ≡ view v = laws.reads_back v None _ (Ok c.in-Ok-from_str.back) tt e c.in-Ok-from_str.ensures in
+    subst IsTrue (sym c.eq.ensures) ((tree_eq_decides (view c.in-Ok-from_str.back) (view v)).1 same)
 
 pub returns : goal.returns
 returns c =
     let v = c.args.value.now in
     let e : chars c.as_str.result.now ≡ compact (view v) = search rules in
-    let t = subst (λ xs. IsText None xs (view v)) (sym e) (compact_reads_back (view v) (view-IsTree v)) in
-    c.kind.ensures ∙ read-refused _ v c.in-Err.fault t c.in-Err.ensures
+    c.kind.ensures ∙ laws.reads_back v None _ (Err c.in-Err.fault) tt e c.in-Err.ensures

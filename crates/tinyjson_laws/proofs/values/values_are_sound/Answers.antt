@@ -2,4 +2,4 @@ use Rattle.tinyjson.proofs.Trees.{view-IsTree}
 use Rattle.tinyjson_laws.proofs.values.values_are_sound.Goals as goal
 
 pub returns : goal.returns
-returns c = view-IsTree c.args.value.now
+returns c = view-IsTree

@@ -1,0 +1,100 @@
+-- Depth: how many containers are open at once, keys that are containers among them, and limits on it.
+use Rattle.std.proofs.Common.{◌≡◌, [], ◌∷◌, None, Some, refl, arith}
+use Rattle.std.specs.Prelude.{codes}
+use lib.Utf8.{encode}
+use Rattle.tinyjson.specs.Grammar.{IsText, IsLoose}
+use Rattle.tinyjson.specs.Machine.{run, step, end}
+use Rattle.tinyjson.specs.Refusal.{IsRefusal}
+use Rattle.tinyjson.specs.Syntax.{Syntax, null, empty_array, array, object, last_element, element, last_pair, text, depth, IsWithin}
+use Rattle.tinyjson.specs.declared.value.JsonKind.TheVariants as kind
+use Rattle.tinyjson.specs.declared.parser.error.JsonParseErrorKind.TheVariants as error
+use Rattle.tinyjson_number.specs.Numeral.{power_fits, value}
+use Rattle.tinyjson_laws.proofs.Examples.Reading as trees
+use Rattle.tinyjson_laws.proofs.Examples.Reading.{text-of, refusal-of, whole}
+
+-- ---- with a limit
+
+scalar_at_no_depth : IsText (Some 0) (codes "7") (whole (codes "7"))
+unfolding run step end value power_fits
+scalar_at_no_depth = text-of refl refl
+
+one_container : IsText (Some 1) (codes "[1]") (trees.array (whole (codes "1") ∷ []))
+unfolding run step end value power_fits
+one_container = text-of refl refl
+
+side_by_side : IsText (Some 2) (codes "[[],[]]") (trees.array (trees.array [] ∷ trees.array [] ∷ []))
+unfolding run step end value power_fits
+side_by_side = text-of refl refl
+
+member_that_is_replaced : IsText (Some 4) (codes "{\"a\":[[[]]],\"a\":1}") (trees.object ((codes "a", whole (codes "1")) ∷ []))
+unfolding run step end value power_fits encode
+member_that_is_replaced = text-of refl refl
+
+one_too_many : IsRefusal (Some 1) (error.TooDeep 91) (codes "[") (codes "[1]]")
+unfolding run step end value power_fits
+one_too_many = refusal-of refl refl
+
+no_container_at_all : IsRefusal (Some 0) (error.TooDeep 91) [] (codes "[[1]]")
+unfolding run step end value power_fits
+no_container_at_all = refusal-of refl refl
+
+object_too_deep : IsRefusal (Some 1) (error.TooDeep 123) (codes "{\"a\":") (codes "{\"b\":1}}")
+unfolding run step end value power_fits
+object_too_deep = refusal-of refl refl
+
+too_deep_though_replaced : IsRefusal (Some 3) (error.TooDeep 91) (codes "{\"a\":[[") (codes "[]]],\"a\":1}")
+unfolding run step end value power_fits
+too_deep_though_replaced = refusal-of refl refl
+
+key_too_deep : IsRefusal (Some 1) (error.TooDeep 91) (codes "{") (codes "[]:1}")
+unfolding run step end value power_fits
+key_too_deep = refusal-of refl refl
+
+key_deep_enough : IsRefusal (Some 2) (error.KeyNotString kind.Array) (codes "{[]") (codes ":1}")
+unfolding run step end value power_fits
+key_deep_enough = refusal-of refl refl
+
+white_space_before_it : IsRefusal (Some 1) (error.TooDeep 91) (codes "[\n ") (codes "[]]")
+unfolding run step end value power_fits
+white_space_before_it = refusal-of refl refl
+
+limit_and_end : IsRefusal (Some 1) error.UnexpectedEof (codes "[") []
+unfolding run step end value power_fits
+limit_and_end = refusal-of refl refl
+
+limit_and_fault : IsRefusal (Some 1) (error.InvalidCharacter 93) (codes "[1,") (codes "]")
+unfolding run step end value power_fits
+limit_and_fault = refusal-of refl refl
+
+-- ---- keys that are containers, in the loose grammar
+
+-- `{[[]]:null}`
+abbrev deep_key : Syntax
+deep_key = object (last_pair [] (array (last_element [] (empty_array []) [])) [] [] null [])
+
+deep_key_text : text deep_key ≡ codes "{[[]]:null}"
+deep_key_text = refl
+
+deep_key_depth : depth deep_key ≡ 3
+deep_key_depth = refl
+
+within_three : IsLoose (Some 3) (codes "{[[]]:null}")
+within_three = record {
+  before = [];
+  value = deep_key;
+  after = [];
+  white_before = tt;
+  spelled = (tt, (tt, tt, tt), tt, tt, tt, tt);
+  white_after = tt;
+  shallow = omega arith;
+  whole = refl;
+}
+
+not_within_two : IsWithin (Some 2) (depth deep_key) → ⊥
+not_within_two h = omega (arith, h)
+
+no_limit : IsWithin None (depth deep_key)
+no_limit = tt
+
+deepest_of_two : depth (array (element [] (empty_array []) [] (last_element [] (array (last_element [] null [])) []))) ≡ 2
+deepest_of_two = refl

@@ -1,0 +1,42 @@
+-- Shortest prefixes, and errors at them.
+use Rattle.std.proofs.Common.{zero, suc, take, ◌<◌, ◌≡◌, ℕ, false, List, [], ◌∷◌, None, refl, arith}
+use Rattle.std.specs.Prelude.{codes}
+use Rattle.tinyjson.specs.Characters.{is_white}
+use Rattle.tinyjson.specs.Prefix.{IsViable, IsFaultless, IsLooselyViable}
+use Rattle.tinyjson.specs.Grammar.{IsAccepted}
+use Rattle.tinyjson.specs.Machine.{run, step, end}
+use Rattle.tinyjson.specs.Refusal.{begins_value, IsRefusal}
+use Rattle.tinyjson.specs.declared.parser.error.JsonParseErrorKind.TheVariants.{InvalidCharacter}
+use Rattle.tinyjson_number.specs.Numeral.{power_fits, value}
+use Rattle.tinyjson_laws.specs.Prefixes.{IsShortest}
+use Rattle.tinyjson_laws.proofs.Examples.Reading.{refusal-of}
+use Rattle.tinyjson_laws.proofs.PrefixLaws.{empty_is_viable, viable_is_faultless, faultless_is_loosely_viable, unviable_at_first}
+
+-- a list whose first character is at fault has shortest prefixes of all three kinds
+unviable_from_the_first : (c : ℕ) (xs : List ℕ) → is_white c ≡ false → begins_value c ≡ false →
+    IsShortest (IsViable (IsAccepted None)) (c ∷ xs) 1
+    × IsShortest (IsFaultless None) (c ∷ xs) 1
+    × IsShortest (IsLooselyViable None) (c ∷ xs) 1
+unviable_from_the_first c xs n b =
+    let unviable = unviable_at_first None c [] n b in
+    let viable = empty_is_viable None in (
+      record {
+        within = omega arith;
+        fails = λ a. unviable (faultless_is_loosely_viable None (c ∷ []) (viable_is_faultless None (c ∷ []) a));
+        least = λ k l d. d (first-only k l (IsViable (IsAccepted None)) viable.0);
+      },
+      record {
+        within = omega arith;
+        fails = λ m. unviable (faultless_is_loosely_viable None (c ∷ []) m);
+        least = λ k l d. d (first-only k l (IsFaultless None) (viable_is_faultless None [] viable.0));
+      },
+      record { within = omega arith; fails = unviable; least = λ k l d. d (first-only k l (IsLooselyViable None) viable.1) },
+    )
+  where
+    first-only : (k : ℕ) → k < 1 → (P : List ℕ → Type 0) → P [] → P (take k (c ∷ xs))
+    first-only zero l P h = h
+    first-only (suc k) l P h = absurd (omega arith)
+
+refused_at_once : IsRefusal None (InvalidCharacter 120) [] (codes "x")
+unfolding run step end value power_fits
+refused_at_once = refusal-of refl refl

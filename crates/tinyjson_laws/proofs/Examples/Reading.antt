@@ -1,0 +1,50 @@
+-- How an example is computed: the machine is run, and the theorem turns its outcome into the grammar's words.
+use Rattle.std.proofs.Common.{◌≡◌, ℕ, ℤ, Bool, true, false, List, [], ◌∷◌, ◌++◌, Option, pos}
+use Rattle.std.specs.Str.{all_scalars}
+use Rattle.tinyjson.specs.Grammar.{IsText}
+use Rattle.tinyjson.specs.Machine.{strictly, awaited, accepted, refused, run}
+use Rattle.tinyjson.specs.Refusal.{IsRefusal}
+use Rattle.tinyjson.specs.Tree as tree
+use Rattle.tinyjson.specs.Tree.{Tree, Members, no_members, member, items_of}
+use Rattle.tinyjson.specs.declared.parser.error.JsonParseErrorKind.{JsonParseErrorKind}
+use Rattle.tinyjson.proofs.Answering.{all-scalars}
+use Rattle.tinyjson.proofs.Grammar.Theorem.{accepts, refuses}
+
+-- the characters are a text of the tree
+pub text-of : {limit : Option ℕ} {xs : List ℕ} {t : Tree} →
+    all_scalars xs ≡ true → run (strictly limit) [] awaited xs ≡ accepted t → IsText limit xs t
+text-of {limit} {xs} {t} scalars e = (accepts limit xs (all-scalars xs scalars) t).0 e
+
+-- they are refused so
+pub refusal-of : {limit : Option ℕ} {k : JsonParseErrorKind} {used rest : List ℕ} →
+    all_scalars (used ++ rest) ≡ true → run (strictly limit) [] awaited (used ++ rest) ≡ refused k rest →
+    IsRefusal limit k used rest
+refusal-of {limit} {k} {used} {rest} scalars e = refuses limit used rest (all-scalars (used ++ rest) scalars) k e
+
+-- each line with a line feed behind it
+abbrev pub lines : List (List ℕ) → List ℕ
+lines [] = []
+lines (l ∷ ls) = l ++ 10 ∷ lines ls
+
+-- ---- trees
+
+abbrev pub decimal : Bool → List ℕ → ℤ → Tree
+decimal negative ds e = tree.number (record { negative = negative; digits = ds; power = e })
+
+-- a whole number that ends with no zero
+abbrev pub whole : List ℕ → Tree
+whole ds = decimal false ds (pos 0)
+
+abbrev pub zero : Tree
+zero = whole []
+
+abbrev pub array : List Tree → Tree
+array ts = tree.array (items_of ts)
+
+abbrev pub members : List (List ℕ × Tree) → Members
+members [] = no_members
+members (e ∷ es) = member e.0 e.1 (members es)
+
+-- an object with these members, whose keys rise
+abbrev pub object : List (List ℕ × Tree) → Tree
+object es = tree.object (members es)

@@ -1,0 +1,42 @@
+-- What a new parser returns, from what `parse` says.
+use Rattle.std.proofs.Common.{◌≡◌, ℕ, List, [], ◌++◌, Option, Result, Ok, Err, refl, ap, sym, ◌∙◌, subst, append-nil, arith, length, length-append}
+use Rattle.std.proofs.Math.Seq.{take-append_seam}
+use Rattle.tinyjson.specs.Error.{error_position}
+use Rattle.tinyjson.specs.Grammar.{IsText}
+use Rattle.tinyjson.specs.Parser.{ParsesText}
+use Rattle.tinyjson.specs.Position.{origin, advance}
+use Rattle.tinyjson.specs.Refusal.{RefusalSays, IsRefusal}
+use Rattle.tinyjson.specs.View.{view}
+use Rattle.tinyjson.specs.declared.parser.error.JsonParseError.{JsonParseError}
+use Rattle.tinyjson.specs.declared.parser.error.JsonParseErrorKind.{JsonParseErrorKind}
+use Rattle.tinyjson.specs.declared.parser.error.JsonParseErrorKind.TheVariants as kind
+use Rattle.tinyjson.specs.declared.value.JsonValue.{JsonValue}
+use Rattle.tinyjson.proofs.Answering.{refused-text}
+use Rattle.tinyjson_laws.specs.Headline.{FollowsGrammar, StopsAt, IsTimely}
+use Rattle.tinyjson_laws.proofs.PrefixLaws.{viable-at-end, refused_not_too_soon, refused_not_too_late}
+use Rattle.tinyjson_laws.proofs.ReadingLaws.{one_tree}
+
+pub follows-grammar : (limit : Option ℕ) (xs : List ℕ) (r : Result JsonValue JsonParseError) → ParsesText limit xs r → FollowsGrammar limit xs r
+follows-grammar limit xs (Ok v) p = λ t. (λ h. one_tree limit xs t (view v) h p.answer.1, λ e. subst (IsText limit xs) (sym e) p.answer.1)
+follows-grammar limit xs (Err e) p = λ n. refused-text limit xs e n p
+
+other-kind : (limit : Option ℕ) (k : JsonParseErrorKind) (used rest : List ℕ) → ¬ (k ≡ kind.OutOfMemory) → RefusalSays limit k used rest → IsRefusal limit k used rest
+other-kind limit kind.OutOfMemory used rest n r = absurd (n refl)
+other-kind limit k used rest n r = r
+
+length-whole : (used rest : List ℕ) → rest ≡ [] → length used ≡ length (used ++ rest)
+length-whole used rest e = ap length (sym (ap (λ ys. used ++ ys) e ∙ append-nil used))
+
+stops-at : (limit : Option ℕ) (e : JsonParseError) (used rest : List ℕ) → RefusalSays limit e.kind used rest → error_position e ≡ advance origin used → StopsAt limit (used ++ rest) e (length used)
+stops-at limit e used rest r p = record {
+  within = let l = length-append used rest in omega (arith, l);
+  position = p ∙ ap (advance origin) (sym (take-append_seam used rest));
+  not_too_soon = λ n. (refused_not_too_soon limit e.kind used rest (other-kind limit e.kind used rest n r)).1;
+  at_end = λ n h. length-whole used rest (viable-at-end limit e.kind used rest (other-kind limit e.kind used rest n r) h);
+  not_too_late = refused_not_too_late limit e.kind used rest r;
+}
+
+pub timely : (limit : Option ℕ) (xs : List ℕ) (r : Result JsonValue JsonParseError) → ParsesText limit xs r → IsTimely limit xs r
+timely limit xs (Ok v) p = tt
+timely limit xs (Err e) p =
+    (length p.consumed, subst (λ ys. StopsAt limit ys e (length p.consumed)) (sym p.whole) (stops-at limit e p.consumed p.rest p.answer.1 p.answer.0))

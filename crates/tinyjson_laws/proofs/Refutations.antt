@@ -1,0 +1,257 @@
+-- Wrong refusals: the contract of `parse` refuses just these. Each names the wrong kind with what it says was consumed and left,
+-- and is refuted by the right refusal of the list, of which there is one.
+use Rattle.std.proofs.Common.{◌≡◌, ℕ, true, false, List, [], ◌∷◌, ◌++◌, Option, None, Some, refl, subst, ap, sym, ◌∙◌, arith, length}
+use Rattle.std.specs.Prelude.{codes}
+use Rattle.std.specs.Str.{all_scalars}
+use Rattle.std.proofs.lemmas.Bool.{false≢true}
+use Rattle.tinyjson.specs.Characters.{is_white}
+use Rattle.tinyjson.specs.Machine.{strictly, awaited, refused, run, step, end}
+use Rattle.tinyjson.specs.Refusal.{IsRefusal, RefusalSays, MayGrow, begins_growth}
+use Rattle.tinyjson.specs.Syntax.{AreWhite}
+use Rattle.tinyjson.specs.declared.parser.error.JsonParseErrorKind.{JsonParseErrorKind}
+use Rattle.tinyjson.specs.declared.parser.error.JsonParseErrorKind.TheVariants as error
+use Rattle.tinyjson.specs.declared.value.JsonKind.TheVariants as kind
+use Rattle.tinyjson.proofs.Answering.{all-scalars}
+use Rattle.tinyjson_number.specs.Numeral.{power_fits, value}
+use Rattle.tinyjson_laws.proofs.Examples.Reading.{refusal-of}
+use Rattle.tinyjson_laws.proofs.RefusalLaws.{one_refusal}
+
+-- the right refusal k of the list, which has consumed `used`, rules out another one
+refuted : {limit : Option ℕ} {j : JsonParseErrorKind} {others left : List ℕ} (k : JsonParseErrorKind) (used rest : List ℕ) →
+    all_scalars (used ++ rest) ≡ true → used ++ rest ≡ others ++ left →
+    run (strictly limit) [] awaited (used ++ rest) ≡ refused k rest →
+    ((k ≡ j) × (used ≡ others) → ⊥) → ¬ IsRefusal limit j others left
+refuted {limit} {j} {others} {left} k used rest scalars e right differ wrong =
+    differ (one_refusal limit k j used rest others left (all-scalars (used ++ rest) scalars) e (refusal-of scalars right) wrong)
+
+-- ---- letters of a literal are no exponent
+
+exponent_in_true : ¬ RefusalSays None error.EmptyExponent (codes "true") (codes "x")
+unfolding run step end value power_fits
+exponent_in_true = refuted (error.ExpectedEof 120) (codes "truex") [] refl refl refl (λ e. cc)
+
+exponent_in_an_item : ¬ RefusalSays None error.EmptyExponent (codes "[true") (codes "false]")
+unfolding run step end value power_fits
+exponent_in_an_item = refuted (error.ExpectedCommaOrBracket 102) (codes "[truef") (codes "alse]") refl refl refl (λ e. cc)
+
+exponent_in_false : ¬ RefusalSays None error.EmptyExponent (codes "[false") (codes "x")
+unfolding run step end value power_fits
+exponent_in_false = refuted (error.ExpectedCommaOrBracket 120) (codes "[falsex") [] refl refl refl (λ e. cc)
+
+exponent_at_the_end : ¬ RefusalSays None error.EmptyExponent (codes "[true") []
+unfolding run step end value power_fits
+exponent_at_the_end = refuted error.UnexpectedEof (codes "[true") [] refl refl refl (λ e. cc)
+
+-- ---- digits of an escape are no number
+
+exponent_in_an_escape : ¬ RefusalSays None error.EmptyExponent (codes "\"\\u00e") (codes "\"")
+unfolding run step end value power_fits
+exponent_in_an_escape = refuted (error.InvalidHexDigit 34) (codes "\"\\u00e\"") [] refl refl refl (λ e. cc)
+
+exponent_before_a_wrong_digit : ¬ RefusalSays None error.EmptyExponent (codes "\"\\u0e") (codes "g1\"")
+unfolding run step end value power_fits
+exponent_before_a_wrong_digit = refuted (error.InvalidHexDigit 103) (codes "\"\\u0eg") (codes "1\"") refl refl refl (λ e. cc)
+
+leading_zero_in_an_escape : ¬ RefusalSays None error.LeadingZero (codes "\"\\ud800\\u00") (codes "\"")
+unfolding run step end value power_fits
+leading_zero_in_an_escape = refuted (error.InvalidHexDigit 34) (codes "\"\\ud800\\u00\"") [] refl refl refl (λ e. cc)
+
+leading_zero_in_an_escape_of_a_key : ¬ RefusalSays None error.LeadingZero (codes "{[\"\\u00") (codes "g")
+unfolding run step end value power_fits
+leading_zero_in_an_escape_of_a_key = refuted (error.InvalidHexDigit 103) (codes "{[\"\\u00g") [] refl refl refl (λ e. cc)
+
+-- ---- nothing is read past a key that is no string
+
+colon_behind_a_number : ¬ RefusalSays None (error.ExpectedColon 125) (codes "{1}") []
+unfolding run step end value power_fits
+colon_behind_a_number = refuted (error.KeyNotString kind.Number) (codes "{1") (codes "}") refl refl refl (λ e. cc)
+
+comma_behind_a_number : ¬ RefusalSays None (error.ExpectedColon 44) (codes "{1,") (codes "2}")
+unfolding run step end value power_fits
+comma_behind_a_number = refuted (error.KeyNotString kind.Number) (codes "{1") (codes ",2}") refl refl refl (λ e. cc)
+
+bracket_behind_null : ¬ RefusalSays None (error.ExpectedColon 91) (codes "{null[") []
+unfolding run step end value power_fits
+bracket_behind_null = refuted (error.KeyNotString kind.Null) (codes "{null") (codes "[") refl refl refl (λ e. cc)
+
+-- ---- nothing is read past a surrogate without its partner
+
+escape_past_a_surrogate : ¬ RefusalSays None (error.InvalidEscape 113) (codes "\"\\ud800abc\\q") []
+unfolding run step end value power_fits
+escape_past_a_surrogate = refuted error.InvalidUtf16 (codes "\"\\ud800a") (codes "bc\\q") refl refl refl (λ e. cc)
+
+end_past_a_surrogate : ¬ RefusalSays None error.UnexpectedEof (codes "\"\\ud800abc") []
+unfolding run step end value power_fits
+end_past_a_surrogate = refuted error.InvalidUtf16 (codes "\"\\ud800a") (codes "bc") refl refl refl (λ e. cc)
+
+control_character_past_a_surrogate : ¬ RefusalSays None (error.ControlCharacter 1) (codes "\"\\udc00u\u{1}") []
+unfolding run step end value power_fits
+control_character_past_a_surrogate = refuted error.InvalidUtf16 (codes "\"\\udc00u") (codes "\u{1}") refl refl refl (λ e. cc)
+
+surrogate_refused_at_once : ¬ RefusalSays None error.InvalidUtf16 (codes "\"\\ud800") (codes "\\q")
+unfolding run step end value power_fits
+surrogate_refused_at_once = refuted (error.InvalidEscape 113) (codes "\"\\ud800\\q") [] refl refl refl (λ e. cc)
+
+-- ---- nothing is read past a leading zero
+
+exponent_past_a_leading_zero : ¬ RefusalSays None error.EmptyExponent (codes "[01e+") (codes "x")
+unfolding run step end value power_fits
+exponent_past_a_leading_zero = refuted error.LeadingZero (codes "[01") (codes "e+x") refl refl refl (λ e. cc)
+
+digits_past_a_leading_zero : ¬ RefusalSays None error.LeadingZero (codes "[01e00") (codes " x")
+unfolding run step end value power_fits
+digits_past_a_leading_zero = refuted error.LeadingZero (codes "[01") (codes "e00 x") refl refl refl
+    (λ e. let n : 3 ≡ 6 = ap length e.1 in omega (arith, n))
+
+power_past_a_leading_zero : ¬ RefusalSays None error.NumberOutOfRange (codes "[01e99999999999999999999") (codes "]")
+unfolding run step end value power_fits
+power_past_a_leading_zero = refuted error.LeadingZero (codes "[01") (codes "e99999999999999999999]") refl refl refl (λ e. cc)
+
+comma_past_a_leading_zero : ¬ RefusalSays None (error.InvalidCharacter 120) (codes "[01,") (codes "x")
+unfolding run step end value power_fits
+comma_past_a_leading_zero = refuted error.LeadingZero (codes "[01") (codes ",x") refl refl refl (λ e. cc)
+
+key_that_is_half_a_number : ¬ RefusalSays None (error.KeyNotString kind.Number) (codes "{0") (codes "1:2}")
+unfolding run step end value power_fits
+key_that_is_half_a_number = refuted error.LeadingZero (codes "{01") (codes ":2}") refl refl refl (λ e. cc)
+
+-- ---- a token is told by where it begins
+
+sign_of_an_exponent : ¬ RefusalSays None error.EmptyInteger (codes "[1e-") (codes "]")
+unfolding run step end value power_fits
+sign_of_an_exponent = refuted error.EmptyExponent (codes "[1e-") (codes "]") refl refl refl (λ e. cc)
+
+sign_of_an_exponent_of_zero : ¬ RefusalSays None error.EmptyInteger (codes "0e-") (codes "]")
+unfolding run step end value power_fits
+sign_of_an_exponent_of_zero = refuted error.EmptyExponent (codes "0e-") (codes "]") refl refl refl (λ e. cc)
+
+escaped_backslash : ¬ RefusalSays None (error.InvalidEscape 1) (codes "\"\\\\\u{1}") []
+unfolding run step end value power_fits
+escaped_backslash = refuted (error.ControlCharacter 1) (codes "\"\\\\\u{1}") [] refl refl refl (λ e. cc)
+
+escaped_backslash_before_u : ¬ RefusalSays None (error.InvalidHexDigit 1) (codes "\"\\\\u\u{1}") []
+unfolding run step end value power_fits
+escaped_backslash_before_u = refuted (error.ControlCharacter 1) (codes "\"\\\\u\u{1}") [] refl refl refl (λ e. cc)
+
+zeros_at_the_end_of_a_number : ¬ RefusalSays None error.LeadingZero (codes "{[100") (codes "x")
+unfolding run step end value power_fits
+zeros_at_the_end_of_a_number = refuted (error.ExpectedCommaOrBracket 120) (codes "{[100x") [] refl refl refl (λ e. cc)
+
+brace_in_a_string : ¬ RefusalSays None (error.KeyNotString kind.Number) (codes "{[\"{1") []
+unfolding run step end value power_fits
+brace_in_a_string = refuted error.UnexpectedEof (codes "{[\"{1") [] refl refl refl (λ e. cc)
+
+number_from_its_middle : ¬ RefusalSays None error.NumberOutOfRange (codes "[0.01e9223372036854775808") (codes "x")
+unfolding run step end value power_fits
+number_from_its_middle = refuted (error.ExpectedCommaOrBracket 120) (codes "[0.01e9223372036854775808x") [] refl refl refl
+    (λ e. cc)
+
+minus_in_a_string : ¬ RefusalSays None error.EmptyInteger (codes "\"a-") []
+unfolding run step end value power_fits
+minus_in_a_string = refuted error.UnexpectedEof (codes "\"a-") [] refl refl refl (λ e. cc)
+
+-- ---- an end in the middle of a number, or behind a wrong key
+
+end_behind_a_minus : ¬ RefusalSays None error.UnexpectedEof (codes "-") []
+unfolding run step end value power_fits
+end_behind_a_minus = refuted error.EmptyInteger (codes "-") [] refl refl refl (λ e. cc)
+
+end_behind_a_point : ¬ RefusalSays None error.UnexpectedEof (codes "0.") []
+unfolding run step end value power_fits
+end_behind_a_point = refuted error.EmptyFraction (codes "0.") [] refl refl refl (λ e. cc)
+
+end_behind_an_exponent_letter : ¬ RefusalSays None error.UnexpectedEof (codes "0e") []
+unfolding run step end value power_fits
+end_behind_an_exponent_letter = refuted error.EmptyExponent (codes "0e") [] refl refl refl (λ e. cc)
+
+end_behind_a_leading_zero : ¬ RefusalSays None error.UnexpectedEof (codes "00") []
+unfolding run step end value power_fits
+end_behind_a_leading_zero = refuted error.LeadingZero (codes "00") [] refl refl refl (λ e. cc)
+
+end_behind_a_wrong_key : ¬ RefusalSays None error.UnexpectedEof (codes "{1") []
+unfolding run step end value power_fits
+end_behind_a_wrong_key = refuted (error.KeyNotString kind.Number) (codes "{1") [] refl refl refl (λ e. cc)
+
+-- ---- the place of an error
+
+read_to_the_end : ¬ RefusalSays None (error.UnexpectedInLiteral 120) (codes "trux true") []
+unfolding run step end value power_fits
+read_to_the_end = refuted (error.UnexpectedInLiteral 120) (codes "trux") (codes " true") refl refl refl
+    (λ e. let n : 4 ≡ 9 = ap length e.1 in omega (arith, n))
+
+item_refused_at_its_start : ¬ RefusalSays None (error.InvalidCharacter 93) [] (codes "[1,]")
+unfolding run step end value power_fits
+item_refused_at_its_start = refuted (error.InvalidCharacter 93) (codes "[1,") (codes "]") refl refl refl
+    (λ e. let n : 3 ≡ 0 = ap length e.1 in omega (arith, n))
+
+number_refused_at_its_start : ¬ RefusalSays None error.LeadingZero [] (codes "0123]")
+unfolding run step end value power_fits
+number_refused_at_its_start = refuted error.LeadingZero (codes "0123") (codes "]") refl refl refl
+    (λ e. let n : 4 ≡ 0 = ap length e.1 in omega (arith, n))
+
+bracket_consumed : ¬ RefusalSays None (error.InvalidCharacter 93) (codes "[1,]") []
+unfolding run step end value power_fits
+bracket_consumed = refuted (error.InvalidCharacter 93) (codes "[1,") (codes "]") refl refl refl
+    (λ e. let n : 3 ≡ 4 = ap length e.1 in omega (arith, n))
+
+space_behind_a_wrong_key_consumed : ¬ RefusalSays None (error.KeyNotString kind.Number) (codes "{1 ") []
+unfolding run step end value power_fits
+space_behind_a_wrong_key_consumed = refuted (error.KeyNotString kind.Number) (codes "{1") (codes " ") refl refl refl
+    (λ e. let n : 2 ≡ 3 = ap length e.1 in omega (arith, n))
+
+-- ---- kinds that stand for one another
+
+second_value_as_the_end : ¬ RefusalSays None error.UnexpectedEof (codes "1 2") []
+unfolding run step end value power_fits
+second_value_as_the_end = refuted (error.ExpectedEof 50) (codes "1 2") [] refl refl refl (λ e. cc)
+
+missing_comma_as_a_wrong_character : ¬ RefusalSays None (error.InvalidCharacter 120) (codes "[1 ") (codes "x")
+unfolding run step end value power_fits
+missing_comma_as_a_wrong_character = refuted (error.ExpectedCommaOrBracket 120) (codes "[1 x") [] refl refl refl (λ e. cc)
+
+wrong_letter_as_a_wrong_character : ¬ RefusalSays None (error.InvalidCharacter 120) (codes "tru") (codes "x")
+unfolding run step end value power_fits
+wrong_letter_as_a_wrong_character = refuted (error.UnexpectedInLiteral 120) (codes "trux") [] refl refl refl (λ e. cc)
+
+wrong_character_as_a_missing_comma : ¬ RefusalSays None (error.ExpectedCommaOrBracket 120) (codes "[x") []
+unfolding run step end value power_fits
+wrong_character_as_a_missing_comma = refuted (error.InvalidCharacter 120) (codes "[") (codes "x") refl refl refl (λ e. cc)
+
+control_character_as_a_missing_comma : ¬ RefusalSays None (error.ExpectedCommaOrBracket 1) (codes "[\"a\u{1}") []
+unfolding run step end value power_fits
+control_character_as_a_missing_comma = refuted (error.ControlCharacter 1) (codes "[\"a\u{1}") [] refl refl refl (λ e. cc)
+
+colon_for_a_comma : ¬ RefusalSays None (error.ExpectedCommaOrBrace 44) (codes "{\"a\",") []
+unfolding run step end value power_fits
+colon_for_a_comma = refuted (error.ExpectedColon 44) (codes "{\"a\",") [] refl refl refl (λ e. cc)
+
+bracket_too_deep_as_a_wrong_character : ¬ RefusalSays (Some 1) (error.InvalidCharacter 91) (codes "[") (codes "[1]]")
+unfolding run step end value power_fits
+bracket_too_deep_as_a_wrong_character = refuted (error.TooDeep 91) (codes "[") (codes "[1]]") refl refl refl (λ e. cc)
+
+no_limit : ¬ RefusalSays None (error.TooDeep 91) (codes "[") (codes "[]x")
+unfolding run step end value power_fits
+no_limit = refuted (error.ExpectedCommaOrBracket 120) (codes "[[]x") [] refl refl refl (λ e. cc)
+
+-- ---- memory
+
+-- no memory is needed before a character that begins no string, no number and no container
+grows-not : (c : ℕ) (xs : List ℕ) → is_white c ≡ false → begins_growth c ≡ false → ¬ MayGrow (c ∷ xs)
+grows-not c xs n g m = by m.before m.whole m.white
+  where
+    same-first : (d : ℕ) (ys zs : List ℕ) → d ∷ ys ≡ c ∷ zs → d ≡ c
+    same-first d ys zs e = cc
+
+    by : (w : List ℕ) → c ∷ xs ≡ w ++ m.first ∷ m.more → AreWhite w → ⊥
+    by [] e w =
+        let f : begins_growth m.first ≡ true = m.grows in
+        false≢true (sym g ∙ (ap begins_growth (sym (same-first m.first m.more xs (sym e))) ∙ f))
+    by (d ∷ ds) e w =
+        let f : is_white d ≡ true = w.0 in
+        false≢true (sym n ∙ (ap is_white (sym (same-first d (ds ++ m.first ∷ m.more) xs (sym e))) ∙ f))
+
+memory_for_true : (used rest : List ℕ) → used ++ rest ≡ codes "true" → ¬ RefusalSays None error.OutOfMemory used rest
+memory_for_true used rest e r = grows-not 116 (codes "rue") refl refl (subst MayGrow e r.1)
+
+memory_for_a_wrong_character : (used rest : List ℕ) → used ++ rest ≡ codes "x" → ¬ RefusalSays None error.OutOfMemory used rest
+memory_for_a_wrong_character used rest e r = grows-not 120 [] refl refl (subst MayGrow e r.1)

@@ -1,5 +1,0 @@
-use Rattle.tinyjson_laws.proofs.BeginningLaws.{refused_not_too_late}
-use Rattle.tinyjson_laws.proofs.beginnings.refused_not_too_late.Goals as goal
-
-pub returns : goal.returns
-returns c = refused_not_too_late

@@ -1,0 +1,5 @@
+use Rattle.tinyjson.proofs.Positions.{advance-append}
+use Rattle.tinyjson_laws.proofs.positions.advance_composes.Goals as goal
+
+pub returns : goal.returns
+returns c = advance-append

@@ -1,0 +1,96 @@
+-- Laws of prefixes: what can still become a text, what cannot, and where an error comes between the two.
+use Rattle.std.specs.Prelude.{
+  ◌≡◌,
+  ◌↔◌,
+  ℕ,
+  false,
+  ◌+◌,
+  ◌<◌,
+  ◌≤◌,
+  List,
+  [],
+  ◌∷◌,
+  ◌++◌,
+  Option,
+  IsTrue,
+  length,
+  take,
+}
+use Rattle.tinyjson.specs.Characters.{is_white}
+use Rattle.tinyjson.specs.Syntax.{Syntax, text, IsSpelled}
+use Rattle.tinyjson.specs.Grammar.{IsLoose, IsAccepted}
+use Rattle.tinyjson.specs.Prefix.{IsViable, IsLooselyViable, IsFaultless}
+use Rattle.tinyjson.specs.Refusal.{begins_value, IsRefusal, RefusalSays}
+use Rattle.tinyjson.specs.declared.parser.error.JsonParseErrorKind.{JsonParseErrorKind}
+
+-- an accepted list is one of the loose grammar
+abbrev pub AcceptedIsLoose : Type 0
+AcceptedIsLoose = (limit : Option ℕ) (xs : List ℕ) → IsAccepted limit xs → IsLoose limit xs
+
+-- the empty list is viable in both grammars
+abbrev pub EmptyIsViable : Type 0
+EmptyIsViable = (limit : Option ℕ) → IsViable (IsAccepted limit) [] × IsLooselyViable limit []
+
+-- what is viable in the grammar is faultless
+abbrev pub ViableIsFaultless : Type 0
+ViableIsFaultless = (limit : Option ℕ) (xs : List ℕ) → IsViable (IsAccepted limit) xs → IsFaultless limit xs
+
+-- what is faultless is viable in the loose grammar
+abbrev pub FaultlessIsLooselyViable : Type 0
+FaultlessIsLooselyViable = (limit : Option ℕ) (xs : List ℕ) → IsFaultless limit xs → IsLooselyViable limit xs
+
+-- what no list completes, in either grammar, or what has a fault, stays so with more characters after it
+abbrev pub UnviableStaysSo : Type 0
+UnviableStaysSo =
+    (limit : Option ℕ) (xs ys : List ℕ) →
+    (¬ IsViable (IsAccepted limit) xs → ¬ IsViable (IsAccepted limit) (xs ++ ys))
+    × (¬ IsLooselyViable limit xs → ¬ IsLooselyViable limit (xs ++ ys))
+    × (¬ IsFaultless limit xs → ¬ IsFaultless limit (xs ++ ys))
+
+-- a character begins a value of the loose grammar exactly if `begins_value` says so
+abbrev pub ValuesBegin : Type 0
+ValuesBegin =
+    (c : ℕ) →
+    IsTrue (begins_value c) ↔ ((s : Syntax) × (more : List ℕ) × IsSpelled s × (text s ≡ c ∷ more))
+
+-- a list whose first character is not white space and begins no value is not viable, in the loose grammar too
+abbrev pub UnviableAtFirst : Type 0
+UnviableAtFirst =
+    (limit : Option ℕ) (c : ℕ) (xs : List ℕ) →
+    is_white c ≡ false → begins_value c ≡ false → ¬ IsLooselyViable limit (c ∷ xs)
+
+-- ---- shortest prefixes
+
+-- n is the length of the shortest prefix of xs without P
+pub record IsShortest (P : List ℕ → Type 0) (xs : List ℕ) (n : ℕ) : Type 0 where
+  pub within : n ≤ length xs
+  pub fails : ¬ P (take n xs)
+  pub least : (k : ℕ) → k < n → ¬ ¬ P (take k xs)
+
+-- The shortest prefix that is not viable is no longer than the shortest with a fault, and that is no longer than the shortest
+-- that is not viable in the loose grammar.
+abbrev pub ShortestInOrder : Type 0
+ShortestInOrder =
+    (limit : Option ℕ) (xs : List ℕ) →
+    ((d m : ℕ) → IsShortest (IsViable (IsAccepted limit)) xs d → IsShortest (IsFaultless limit) xs m → d ≤ m)
+    × ((m l : ℕ) → IsShortest (IsFaultless limit) xs m → IsShortest (IsLooselyViable limit) xs l → m ≤ l)
+
+-- An error for another cause than memory has consumed at least all but the last character of the shortest prefix with a fault,
+-- and so of the shortest prefix that is not viable.
+abbrev pub RefusedNotTooSoon : Type 0
+RefusedNotTooSoon =
+    (limit : Option ℕ) (k : JsonParseErrorKind) (used rest : List ℕ) → IsRefusal limit k used rest →
+    ((m : ℕ) → IsShortest (IsFaultless limit) (used ++ rest) m → m ≤ length used + 1)
+    × ((d : ℕ) → IsShortest (IsViable (IsAccepted limit)) (used ++ rest) d → d ≤ length used + 1)
+
+-- where no prefix has a fault, an error for another cause than memory has consumed the whole list
+abbrev pub RefusedAtEnd : Type 0
+RefusedAtEnd =
+    (limit : Option ℕ) (k : JsonParseErrorKind) (used rest : List ℕ) → IsRefusal limit k used rest →
+    ((n : ℕ) → n ≤ length (used ++ rest) → ¬ ¬ IsFaultless limit (take n (used ++ rest))) → rest ≡ []
+
+-- an error, also one of memory, has consumed no more than the shortest prefix that is not viable in the loose grammar
+abbrev pub RefusedNotTooLate : Type 0
+RefusedNotTooLate =
+    (limit : Option ℕ) (k : JsonParseErrorKind) (used rest : List ℕ) → RefusalSays limit k used rest →
+    (l : ℕ) → IsShortest (IsLooselyViable limit) (used ++ rest) l → length used ≤ l

@@ -1,0 +1,7 @@
+//! Laws of positions.
+ghost use Rattle.tinyjson_laws.specs.Positions.{AdvanceComposes};
+
+/// Lines and columns count on over calls: what two calls consume leads where one call that consumes both leads.
+pub fn advance_composes()
+    ensures { AdvanceComposes }
+{}

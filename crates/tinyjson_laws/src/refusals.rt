@@ -1,0 +1,14 @@
+//! Laws of errors: unless memory runs out, what is returned for a text follows from the text.
+ghost use Rattle.tinyjson_laws.specs.Refusals.{OneRefusal, OneAnswer};
+
+/// A refusal for another cause than memory is a function of the list and the limit: two of them have
+/// the same kind, with the character or the kind of value that it tells, and have consumed the same.
+pub fn one_refusal()
+    ensures { OneRefusal }
+{}
+
+/// Two results for one text and one limit agree, unless memory ran out: both are values of one tree, or
+/// errors of one kind at one position.
+pub fn one_answer()
+    ensures { OneAnswer }
+{}
