@@ -1,5 +1,6 @@
 -- What a run does.
-use Rattle.std.specs.Prelude.{◌≡◌, ℕ, Bool, true, false, List, [], ◌∷◌, ◌++◌, Option, Result, Ok, Err, ◌⊎◌, codes, encode_utf8_all}
+use Rattle.std.specs.Prelude.{◌≡◌, ℕ, Bool, true, false, List, [], ◌∷◌, ◌++◌, Option, Result, Ok, Err, ◌⊎◌}
+use Rattle.std.specs.Prelude.{codes, encode_utf8_all}
 use Rattle.std.specs.Io.KnownBytes.{Consumes, IsAtEnd, Keeps}
 use Rattle.std.specs.Str.{IsUtf8, chars}
 use Rattle.tinyjson.specs.Error.{error_kind}
@@ -26,7 +27,7 @@ pub record IsInput (limit : Option ℕ) (bytes : List ℕ) (t : Tree) : Type 0 w
   pub utf8 : IsUtf8 bytes
   pub text : IsText limit (chars bytes) t
 
--- Of an accepted text a beginning of the line is written.
+-- Of an accepted text a prefix of the line is written.
 pub record WritesPart (limit : Option ℕ) (is_indented : Bool) (bytes : List ℕ) (held holds : Option (List ℕ)) : Type 0 where
   pub tree : Tree
   pub input : IsInput limit bytes tree
@@ -36,14 +37,17 @@ module _ (limit : Option ℕ) (is_indented : Bool) (bytes : List ℕ) (left held
   -- What an answer says of the bytes that were read, of what the reader has left, and of what the writer held and holds.
   abbrev pub AnswerSays : Result (Unit {0}) RunFault → Type 0
   AnswerSays (Ok _) = IsAtEnd left × ((t : Tree) × IsInput limit bytes t × Written held holds (line_of is_indented t) [])
-  AnswerSays (Err (Refused e)) = IsAtEnd left × Keeps held holds × IsUtf8 bytes × ¬ IsAccepted limit (chars bytes) × ¬ (error_kind e ≡ kind.OutOfMemory) × ParsesText limit (chars bytes) (Err e)
+  AnswerSays (Err (Refused e)) =
+      IsAtEnd left × Keeps held holds × IsUtf8 bytes × ¬ IsAccepted limit (chars bytes)
+      × ¬ (error_kind e ≡ kind.OutOfMemory) × ParsesText limit (chars bytes) (Err e)
   AnswerSays (Err NotUtf8) = IsAtEnd left × Keeps held holds × ¬ IsUtf8 bytes
-  AnswerSays (Err OutOfMemory) = Keeps held holds ⊎ WritesPart limit is_indented bytes held holds
+  AnswerSays (Err OutOfMemory) = Keeps held holds ⊎ (IsAtEnd left × WritesPart limit is_indented bytes held holds)
   AnswerSays (Err Reading) = Keeps held holds
   AnswerSays (Err Writing) = IsAtEnd left × WritesPart limit is_indented bytes held holds
 
 -- A run took some bytes of the reader, from its beginning, and then answered.
-pub record Runs (limit : Option ℕ) (is_indented : Bool) (unread left held holds : Option (List ℕ)) (result : Result (Unit {0}) RunFault) : Type 0 where
+pub record Runs (limit : Option ℕ) (is_indented : Bool) (unread left held holds : Option (List ℕ))
+    (result : Result (Unit {0}) RunFault) : Type 0 where
   pub read : List ℕ
   pub taken : Consumes unread left read
   pub says : AnswerSays limit is_indented read left held holds result

@@ -2,7 +2,7 @@
 ghost use Rattle.std.specs.Prelude.{◌≡◌};
 ghost use Rattle.std.specs.IoError.{error_kind as io_kind};
 ghost use Rattle.tinyjson.specs.Error.{error_kind};
-ghost use Rattle.jsonnorm.specs.Fault.{status_of, IsMemoryOr};
+ghost use Rattle.jsonnorm.specs.Fault.{status_of, fault_words, IsMemoryOr};
 
 use std::error::Error;
 use std::fmt;
@@ -57,7 +57,10 @@ pub(crate) fn writing_fault(error: io::Error) -> RunFault
     RunFault::Writing
 }
 
+/// The words that the program writes behind its name.
 impl fmt::Display for RunFault {
+    ghost output = { fault_words };
+
     fn fmt<W: fmt::Write>(&self, f: &mut fmt::Formatter<W>) -> fmt::Result {
         match self {
             RunFault::Refused(error) => write!(f, "{error}"),

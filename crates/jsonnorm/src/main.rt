@@ -21,6 +21,9 @@ use std::process::ExitCode;
 
 const USAGE: &str = "usage: jsonnorm [-i] [-d N]";
 
+/// How many bytes of output are gathered before they are written.
+const OUTPUT_LEN: usize = 65_536;
+
 fn main(rt: HostRuntime) -> ExitCode {
     let ended = match asked(&rt) {
         Ok(Some(options)) => normalize(&rt, options),
@@ -52,17 +55,21 @@ fn asked(rt: &(impl Env + AllocGlobal)) -> Result<Option<Options>, RunFault> {
     }
 }
 
-// From standard input to standard output, which is flushed once, after success.
+// From standard input to standard output, which is flushed once, after success. After a failure
+// nothing more is written, though some bytes may be gathered.
 fn normalize(rt: &(impl Input + Print + AllocGlobal), options: Options) -> Result<(), RunFault> {
     let alloc = rt.alloc();
-    let Ok(mut output) = BufWriter::new(alloc, io::writer(rt)) else {
+    let Ok(mut output) = BufWriter::with_capacity(alloc, OUTPUT_LEN, io::writer(rt)) else {
         return Err(RunFault::OutOfMemory);
     };
     let mut input = rt.reader();
     let Options { indented, limit } = options;
-    match limit {
-        None => run::run(alloc, &mut input, &mut output, indented)?,
-        Some(limit) => run::run_limited(alloc, &mut input, &mut output, indented, limit)?,
-    }
-    output.flush().map_err(|_| RunFault::Writing)
+    let answer = match limit {
+        None => run::run(alloc, &mut input, &mut output, indented),
+        Some(limit) => run::run_limited(alloc, &mut input, &mut output, indented, limit),
+    };
+    let answer = answer.and_then(|()| output.flush().map_err(|_| RunFault::Writing));
+    // Dropped, the gathered bytes would be written.
+    let (_output, _gathered) = output.into_parts();
+    answer
 }
