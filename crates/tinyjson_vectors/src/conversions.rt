@@ -65,20 +65,24 @@ mod tests {
     use std::process::Abort;
     use std::test::Fail;
 
-    fn number() -> JsonValue {
-        JsonValue::from(JsonNumber::zero())
+    fn number(alloc: Global, number: u64) -> Result<JsonValue, AllocError> {
+        Ok(JsonValue::from(JsonNumber::from_u64(alloc, number)?))
+    }
+
+    fn one(alloc: Global) -> Result<JsonValue, AllocError> {
+        number(alloc, 1)
     }
 
     fn object(alloc: Global) -> Result<JsonValue, AllocError> {
         let mut members = HashMap::new(alloc);
-        members.insert("foo".to_string(alloc)?, number())?;
+        members.insert("foo".to_string(alloc)?, number(alloc, 42)?)?;
         Ok(JsonValue::from(members))
     }
 
     #[test]
     fn the_content_of_each_kind(rt: HostRuntime) -> Result<(), Fail> {
         let alloc = rt.alloc();
-        assert!(rt; JsonNumber::try_from(number())? == JsonNumber::zero());
+        assert!(rt; JsonNumber::try_from(one(alloc)?)? == JsonNumber::from_u64(alloc, 1)?);
         assert!(rt; bool::try_from(JsonValue::from(true))?);
         <()>::try_from(JsonValue::Null)?;
         let text = String::try_from(JsonValue::from("foo".to_string(alloc)?))?;
@@ -87,7 +91,7 @@ mod tests {
         assert!(rt; items.as_slice() == [JsonValue::Boolean(true)].as_slice());
         let members = HashMap::try_from(object(alloc)?)?;
         assert_eq!(rt; members.len(), 1);
-        assert!(rt; members.get("foo") == Some(&number()));
+        assert!(rt; members.get("foo") == Some(&number(alloc, 42)?));
         Ok(())
     }
 
@@ -112,36 +116,36 @@ mod tests {
         refused(
             &rt,
             alloc,
-            String::try_from(number()),
-            number(),
+            String::try_from(one(alloc)?),
+            one(alloc)?,
             "Unexpected JSON value: number. Expected string value",
         )?;
         refused(
             &rt,
             alloc,
-            bool::try_from(number()),
-            number(),
+            bool::try_from(one(alloc)?),
+            one(alloc)?,
             "Unexpected JSON value: number. Expected boolean value",
         )?;
         refused(
             &rt,
             alloc,
-            <()>::try_from(number()),
-            number(),
+            <()>::try_from(one(alloc)?),
+            one(alloc)?,
             "Unexpected JSON value: number. Expected null value",
         )?;
         refused(
             &rt,
             alloc,
-            Vec::try_from(number()),
-            number(),
+            Vec::try_from(one(alloc)?),
+            one(alloc)?,
             "Unexpected JSON value: number. Expected array value",
         )?;
         refused(
             &rt,
             alloc,
-            HashMap::try_from(number()),
-            number(),
+            HashMap::try_from(one(alloc)?),
+            one(alloc)?,
             "Unexpected JSON value: number. Expected object value",
         )?;
         refused(
@@ -165,8 +169,8 @@ mod tests {
             object(alloc)?,
             "Unexpected JSON value: object. Expected boolean value",
         )?;
-        let items = vec![in alloc; number()]?;
-        let held = vec![in alloc; number()]?;
+        let items = vec![in alloc; one(alloc)?]?;
+        let held = vec![in alloc; one(alloc)?]?;
         refused(
             &rt,
             alloc,

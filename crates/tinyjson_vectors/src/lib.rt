@@ -7,6 +7,10 @@ pub mod conversions;
 mod documentation;
 pub mod equality;
 #[cfg(test)]
+mod examples;
+#[cfg(test)]
+mod growth;
+#[cfg(test)]
 mod memory;
 #[cfg(test)]
 mod messages;

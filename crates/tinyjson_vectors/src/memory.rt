@@ -1,8 +1,7 @@
 //! Answers where memory is refused.
 //!
-//! With ample memory these tests pass as any do. `tools/refuse-allocations` runs each of them with one
-//! request for memory refused, for each request in turn: then a test passes too, or it ends with the
-//! want of memory that a call answered.
+//! With ample memory these tests pass as any do. `tools/refuse-allocations` runs each of them with requests
+//! for memory refused: then a test passes too, or it ends with the out of memory that a call answered.
 
 use crate::documentation::{COMPACT, DOCUMENT, INDENTED};
 use crate::parsing::{Answer, agrees, moved};
@@ -75,6 +74,19 @@ fn from_str_answers_no_other_fault(rt: HostRuntime) -> Result<(), Fail> {
 }
 
 #[test]
+fn a_limited_parser_answers_no_other_fault(rt: HostRuntime) -> Result<(), Fail> {
+    let alloc = rt.alloc();
+    let too_deep = Answer::Refusal(Kind::TooDeep('['), 4, 15);
+    for (limit, expected) in [(2, Answer::Text(COMPACT)), (1, too_deep)] {
+        match JsonParser::with_depth_limit(alloc, DOCUMENT.chars(), limit).parse() {
+            Err(fault) if fault.kind() == Kind::OutOfMemory => return Err(Fail::from(fault)),
+            answer => assert!(rt; agrees(alloc, answer, expected)?, "limit {limit}"),
+        }
+    }
+    Ok(())
+}
+
+#[test]
 fn some_texts_take_no_memory(rt: HostRuntime) -> Result<(), Fail> {
     let alloc = rt.alloc();
     for (text, expected) in [
@@ -135,16 +147,21 @@ fn texts_are_made(rt: HostRuntime) -> Result<(), Fail> {
     Ok(())
 }
 
-/// Writes the value into an array, and checks that this text, or a beginning of it, was written.
+/// Writes the value into an array, and checks that this text, or a prefix of it, was written.
 fn generates(
     rt: &impl Abort,
     alloc: Global,
     value: &JsonValue,
+    indent: Option<&str>,
     expected: &str,
 ) -> Result<(), ErrorKind> {
-    let mut bytes = [0; 128];
+    let mut bytes = [0; 256];
     let mut room = &mut bytes[..];
-    let answer = JsonGenerator::new(alloc, &mut room).generate(value);
+    let generator = JsonGenerator::new(alloc, &mut room);
+    let answer = match indent {
+        None => { generator }.generate(value),
+        Some(indent) => generator.indent(indent).generate(value),
+    };
     let left = room.len();
     let written = bytes.len().saturating_sub(left);
     let text = expected.as_bytes();
@@ -156,12 +173,15 @@ fn generates(
 }
 
 #[test]
-fn a_beginning_is_written(rt: HostRuntime) -> Result<(), Fail> {
+fn a_prefix_is_written(rt: HostRuntime) -> Result<(), Fail> {
     let alloc = rt.alloc();
     let single = JsonValue::from_str(alloc, r#"{"a":1}"#)?;
-    assert_eq!(rt; generates(&rt, alloc, &single, r#"{"a":1}"#), Ok(()));
+    assert_eq!(rt; generates(&rt, alloc, &single, None, r#"{"a":1}"#), Ok(()));
     let value = JsonValue::from_str(alloc, DOCUMENT)?;
-    let answer = generates(&rt, alloc, &value, COMPACT);
-    assert!(rt; answer.is_ok() || answer == Err(ErrorKind::OutOfMemory));
-    Ok(answer?)
+    for (indent, text) in [(None, COMPACT), (Some("  "), INDENTED)] {
+        let answer = generates(&rt, alloc, &value, indent, text);
+        assert!(rt; answer.is_ok() || answer == Err(ErrorKind::OutOfMemory));
+        answer?;
+    }
+    Ok(())
 }

@@ -51,6 +51,18 @@ const PLAIN: &[(&str, &str)] = &[
         "1e9223372036854775808",
         "Parse error at line:1, col:21: Invalid number literal: power of ten out of range",
     ),
+    (
+        "\"\\u 041\"",
+        "Parse error at line:1, col:4: Unicode character must be \\uXXXX (X is hex character) format but found character ' '",
+    ),
+    (
+        "\"\\ \"",
+        "Parse error at line:1, col:3: '\\ ' is invalid escaped character",
+    ),
+    (
+        "t ",
+        "Parse error at line:1, col:2: Unexpected character ' ' while parsing a literal",
+    ),
 ];
 
 #[test]

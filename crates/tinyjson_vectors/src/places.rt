@@ -7,8 +7,8 @@ use std::collections::HashMap;
 use std::test::Fail;
 use tinyjson::{JsonNumber, JsonValue};
 
-fn number() -> JsonValue {
-    JsonValue::from(JsonNumber::zero())
+fn number(alloc: Global, literal: &str) -> Result<JsonValue, Fail> {
+    Ok(JsonValue::from(JsonNumber::from_text(alloc, literal)?))
 }
 
 fn object(alloc: Global, key: &str, value: JsonValue) -> Result<JsonValue, AllocError> {
@@ -17,11 +17,11 @@ fn object(alloc: Global, key: &str, value: JsonValue) -> Result<JsonValue, Alloc
     Ok(JsonValue::from(members))
 }
 
-/// `{"foo": {"bar": [{"target": 0}]}}`
-fn document(alloc: Global) -> Result<JsonValue, AllocError> {
-    let target = object(alloc, "target", number())?;
+/// `{"foo": {"bar": [{"target": 42}]}}`
+fn document(alloc: Global) -> Result<JsonValue, Fail> {
+    let target = object(alloc, "target", number(alloc, "42")?)?;
     let bar = JsonValue::from(vec![in alloc; target]?);
-    object(alloc, "foo", object(alloc, "bar", bar)?)
+    Ok(object(alloc, "foo", object(alloc, "bar", bar)?)?)
 }
 
 pub(crate) fn has_member(value: &JsonValue, key: &str) -> bool
@@ -52,13 +52,25 @@ fn a_member_by_its_key(rt: HostRuntime) -> Result<(), Fail> {
 }
 
 #[test]
+fn a_number_by_its_key(rt: HostRuntime) -> Result<(), Fail> {
+    let alloc = rt.alloc();
+    let mut value = object(alloc, "foo", number(alloc, "1")?)?;
+    assert!(rt; has_member(&value, "foo"));
+    assert!(rt; value["foo"] == number(alloc, "1")?);
+    value["foo"] = number(alloc, "3.14")?;
+    assert!(rt; has_member(&value, "foo"));
+    assert!(rt; value["foo"] == number(alloc, "3.14")?);
+    Ok(())
+}
+
+#[test]
 fn an_item_by_its_index(rt: HostRuntime) -> Result<(), Fail> {
     let alloc = rt.alloc();
-    let mut value = JsonValue::from(vec![in alloc; number(), true.into()]?);
+    let mut value = JsonValue::from(vec![in alloc; number(alloc, "1")?, true.into()]?);
     assert!(rt; has_item(&value, 1));
     assert!(rt; value[1] == JsonValue::Boolean(true));
     value[1] = JsonValue::from(());
-    let expected = vec![in alloc; number(), JsonValue::Null]?;
+    let expected = vec![in alloc; number(alloc, "1")?, JsonValue::Null]?;
     assert!(rt; value == JsonValue::Array(expected));
     Ok(())
 }
@@ -71,7 +83,7 @@ fn a_place_further_in(rt: HostRuntime) -> Result<(), Fail> {
     assert!(rt; has_member(&json["foo"], "bar"));
     assert!(rt; has_item(&json["foo"]["bar"], 0));
     assert!(rt; has_member(&json["foo"]["bar"][0], "target"));
-    assert!(rt; json["foo"]["bar"][0]["target"] == number());
+    assert!(rt; json["foo"]["bar"][0]["target"] == number(alloc, "42")?);
     json["foo"]["bar"][0]["target"] = JsonValue::Boolean(false);
     assert!(rt; json != document(alloc)?);
     assert!(rt; has_member(&json, "foo"));

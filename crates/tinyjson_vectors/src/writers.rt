@@ -4,10 +4,13 @@ ghost use Rattle.std.specs.Prelude.{◌≡◌, Some};
 use std::alloc::Global;
 use std::io::{self, ErrorKind, Write};
 
+/// The message of a [`FaultyWriter`]'s errors.
+pub const MESSAGE: &str = "the writer's own message";
+
 /// How a writer fails.
 #[derive(Clone, Copy, Debug)]
 pub enum Fault {
-    /// It answers an error of this kind.
+    /// It answers an error of this kind, with [`MESSAGE`].
     Error(ErrorKind),
     /// It takes nothing, though it was given bytes.
     TakesNothing,
@@ -25,6 +28,7 @@ pub struct FaultyWriter {
     fault: Option<Fault>,
     calls: usize,
     empty_calls: usize,
+    flushes: usize,
 }
 
 impl FaultyWriter {
@@ -37,6 +41,7 @@ impl FaultyWriter {
             fault: None,
             calls: 0,
             empty_calls: 0,
+            flushes: 0,
         }
     }
 
@@ -49,6 +54,7 @@ impl FaultyWriter {
             fault: Some(fault),
             calls: 0,
             empty_calls: 0,
+            flushes: 0,
         }
     }
 
@@ -65,6 +71,11 @@ impl FaultyWriter {
     /// How often `write` was called with no bytes.
     pub fn empty_calls(&self) -> usize {
         self.empty_calls
+    }
+
+    /// How often `flush` was called.
+    pub fn flushes(&self) -> usize {
+        self.flushes
     }
 
     fn count(&mut self, is_empty: bool)
@@ -85,7 +96,7 @@ impl Write for FaultyWriter {
         if self.room == 0 {
             self.room = usize::MAX;
             match self.fault {
-                Some(Fault::Error(kind)) => return Err(io::Error::from(kind)),
+                Some(Fault::Error(kind)) => return Err(io::Error::new(kind, MESSAGE)),
                 Some(Fault::TakesNothing) => return Ok(0),
                 None => {}
             }
@@ -97,6 +108,7 @@ impl Write for FaultyWriter {
     }
 
     fn flush(&mut self) -> io::Result<()> {
+        self.flushes = self.flushes.saturating_add(1);
         Ok(())
     }
 }

@@ -1,6 +1,6 @@
 //! Written texts, to good writers and to bad ones.
 
-use crate::writers::{Fault, FaultyWriter};
+use crate::writers::{Fault, FaultyWriter, MESSAGE};
 use std::alloc::Global;
 use std::collections::HashMap;
 use std::io::ErrorKind;
@@ -261,6 +261,39 @@ fn indents_items(rt: HostRuntime) -> Result<(), Fail> {
     check_indent(&rt, rt.alloc(), &value, "        ", text)
 }
 
+#[test]
+fn writes_an_array_of_three_kinds(rt: HostRuntime) -> Result<(), Fail> {
+    let alloc = rt.alloc();
+    let items = vec![in alloc;
+        number(alloc, "1")?,
+        JsonValue::from(true),
+        string(alloc, "str")?,
+    ]?;
+    let value = JsonValue::from(items);
+    check_compact(&rt, alloc, &value, "[1,true,\"str\"]")?;
+    check_format(&rt, alloc, &value, "[\n  1,\n  true,\n  \"str\"\n]")
+}
+
+#[test]
+fn indents_no_empty_container(rt: HostRuntime) -> Result<(), Fail> {
+    let array = JsonValue::Array(Vec::new(rt.alloc()));
+    let object = JsonValue::Object(HashMap::new(rt.alloc()));
+    for indent in ["", " ", "  ", "\t", "--"] {
+        check_indent(&rt, rt.alloc(), &array, indent, "[]")?;
+        check_indent(&rt, rt.alloc(), &object, indent, "{}")?;
+    }
+    Ok(())
+}
+
+#[test]
+fn generates_a_string(rt: HostRuntime) -> Result<(), Fail> {
+    let value = string(rt.alloc(), "hello, world")?;
+    let mut bytes = Vec::new(rt.alloc());
+    JsonGenerator::new(rt.alloc(), &mut bytes).generate(&value)?;
+    assert_eq!(rt; bytes.as_slice(), b"\"hello, world\"".as_slice());
+    Ok(())
+}
+
 // [1,{"b":2,"a":[null,"x"]}]
 fn nested(alloc: Global) -> Result<JsonValue, Fail> {
     let mut inner = Vec::new(alloc);
@@ -286,49 +319,67 @@ fn writes_byte_by_byte(rt: HostRuntime) -> Result<(), Fail> {
         writer.bytes(),
         b"[1,{\"a\":[null,\"x\"],\"b\":2}]".as_slice()
     );
-    assert_eq!(rt; (writer.calls(), writer.empty_calls()), (26, 0));
+    assert_eq!(rt;
+        (writer.calls(), writer.empty_calls(), writer.flushes()),
+        (26, 0, 0)
+    );
+    Ok(())
+}
+
+#[test]
+fn flushes_nothing(rt: HostRuntime) -> Result<(), Fail> {
+    let value = nested(rt.alloc())?;
+    let mut writer = FaultyWriter::good(rt.alloc(), 3);
+    value.format_to(rt.alloc(), &mut writer)?;
+    assert_eq!(rt; (writer.empty_calls(), writer.flushes()), (0, 0));
+    let mut writer = FaultyWriter::good(rt.alloc(), usize::MAX);
+    let mut generator = JsonGenerator::new(rt.alloc(), &mut writer).indent("");
+    generator.generate(&value)?;
+    generator.generate(&JsonValue::Null)?;
+    assert_eq!(rt; (writer.empty_calls(), writer.flushes()), (0, 0));
     Ok(())
 }
 
 // The writer fails at each place in turn.
-fn check_fault(rt: &impl Abort, alloc: Global, value: &JsonValue, fault: Fault, kind: ErrorKind) {
+fn check_fault(
+    rt: &impl Abort,
+    alloc: Global,
+    value: &JsonValue,
+    fault: Fault,
+    (kind, message): (ErrorKind, &str),
+) -> Result<(), Fail> {
     let text = b"[1,{\"a\":[null,\"x\"],\"b\":2}]";
     for room in 0..26 {
         let mut writer = FaultyWriter::failing(alloc, 1, room, fault);
         match JsonGenerator::new(alloc, &mut writer).generate(value) {
             Ok(()) => panic!(rt; "the fault was lost"),
-            Err(error) => assert_eq!(rt; error.kind(), kind),
+            Err(error) => {
+                assert_eq!(rt; error.kind(), kind);
+                assert_eq!(rt; error.to_string(alloc)?.as_str(), message);
+            }
         }
         assert_eq!(rt; writer.bytes(), &text[..room]);
-        assert_eq!(rt; (writer.calls(), writer.empty_calls()), (room + 1, 0));
+        assert_eq!(rt;
+            (writer.calls(), writer.empty_calls(), writer.flushes()),
+            (room + 1, 0, 0)
+        );
     }
+    Ok(())
 }
 
 #[test]
 fn ends_with_the_first_fault(rt: HostRuntime) -> Result<(), Fail> {
-    let value = nested(rt.alloc())?;
-    check_fault(
-        &rt,
-        rt.alloc(),
-        &value,
-        Fault::Error(ErrorKind::BrokenPipe),
+    let alloc = rt.alloc();
+    let value = nested(alloc)?;
+    for kind in [
         ErrorKind::BrokenPipe,
-    );
-    check_fault(
-        &rt,
-        rt.alloc(),
-        &value,
-        Fault::Error(ErrorKind::Interrupted),
         ErrorKind::Interrupted,
-    );
-    check_fault(
-        &rt,
-        rt.alloc(),
-        &value,
-        Fault::TakesNothing,
-        ErrorKind::WriteZero,
-    );
-    Ok(())
+        ErrorKind::Other,
+    ] {
+        check_fault(&rt, alloc, &value, Fault::Error(kind), (kind, MESSAGE))?;
+    }
+    let nothing = (ErrorKind::WriteZero, "the writer took no byte");
+    check_fault(&rt, alloc, &value, Fault::TakesNothing, nothing)
 }
 
 #[test]

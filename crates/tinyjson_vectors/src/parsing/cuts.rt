@@ -5,7 +5,14 @@ use std::process::Abort;
 use tinyjson::{JsonParseErrorKind as Kind, JsonParser};
 
 /// Texts beside those of the table of values.
-const TEXTS: &[&str] = &["1e308", "5e-324"];
+const TEXTS: &[&str] = &[
+    "1e308",
+    "5e-324",
+    "\"\\b\\u000b\u{7f}/\\\"\\\\\"",
+    "[\n  1,\n  2,\n  3\n]",
+    "[\n        1,\n        2,\n        3\n]",
+    "[1,{\"a\":[null,\"x\"],\"b\":2}]",
+];
 
 /// A beginning of a text is accepted, or it is refused where it ends.
 fn ends(rt: &(impl Abort + AllocGlobal), text: &str, length: usize, place: (usize, usize)) {

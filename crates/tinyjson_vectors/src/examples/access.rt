@@ -1,0 +1,52 @@
+//! Typed access to the content of values.
+ghost use Rattle.std.specs.Prelude.{◌≡◌, OnSome};
+ghost use Rattle.std.specs.Str.{chars};
+ghost use Rattle.tinyjson.specs.Index.{with_tree_at_key};
+ghost use Rattle.tinyjson.specs.View.{view};
+
+use std::collections::HashMap;
+use std::mem;
+use std::test::Fail;
+use tinyjson::{InnerAsRef, InnerAsRefMut, JsonNumber, JsonValue, insert_member, remove_member};
+
+fn set_member(value: &mut JsonValue, key: &str, part: JsonValue) -> Option<JsonValue>
+    ensures { OnSome result
+        (view value.new ≡ with_tree_at_key (view value.old) (chars key.now) (view part)) }
+{
+    let members = value.get_mut::<HashMap<String, JsonValue>>()?;
+    let member = members.get_mut(key)?;
+    Some(mem::replace(member, part))
+}
+
+#[test]
+fn parts_and_members(rt: HostRuntime) -> Result<(), Fail> {
+    let alloc = rt.alloc();
+    let value = JsonValue::Boolean(true);
+    assert!(rt; bool::json_value_as(&value) == Some(&true));
+    assert!(rt; String::json_value_as(&value).is_none());
+
+    let mut value = JsonValue::Boolean(true);
+    if let Some(b) = bool::json_value_as_mut(&mut value) {
+        *b = false;
+    }
+    assert!(rt; value == JsonValue::Boolean(false));
+
+    let value = JsonValue::from("this is string".to_string(alloc)?);
+    assert!(rt; value.get::<String>().is_some());
+    assert!(rt; value.get::<JsonNumber>().is_none());
+
+    let mut members = HashMap::new(alloc);
+    insert_member(&mut members, "foo".to_string(alloc)?, JsonValue::from(true))?;
+    let value = JsonValue::from(members);
+    assert_eq!(rt; value.stringify(alloc)?.as_str(), "{\"foo\":true}");
+
+    let mut value = value;
+    assert!(rt; set_member(&mut value, "foo", JsonValue::Null) == Some(JsonValue::from(true)));
+    assert!(rt; set_member(&mut value, "bar", JsonValue::Null).is_none());
+
+    let mut members = HashMap::new(alloc);
+    insert_member(&mut members, "foo".to_string(alloc)?, JsonValue::Null)?;
+    assert!(rt; remove_member(&mut members, "foo") == Some(JsonValue::Null));
+    assert!(rt; members.is_empty());
+    Ok(())
+}

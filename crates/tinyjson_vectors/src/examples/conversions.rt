@@ -1,0 +1,43 @@
+//! Values from their content, and back.
+
+use std::collections::HashMap;
+use std::test::Fail;
+use tinyjson::{JsonNumber, JsonValue};
+
+#[test]
+fn content_goes_in_and_comes_back(rt: HostRuntime) -> Result<(), Fail> {
+    let alloc = rt.alloc();
+    assert!(rt; JsonValue::from(JsonNumber::zero()).is_number());
+    assert!(rt; JsonValue::from(true) == JsonValue::Boolean(true));
+    assert!(rt; JsonValue::from(()).is_null());
+    assert!(rt; JsonNumber::try_from(JsonValue::Boolean(true)).is_err());
+    assert!(rt; bool::try_from(JsonValue::Boolean(true)).is_ok_and(|b| b));
+    assert!(rt; <()>::try_from(JsonValue::Null).is_ok());
+
+    let value = JsonValue::from("foo".to_string(alloc)?);
+    assert!(rt; value.is_string());
+
+    let value = JsonValue::from(vec![in alloc; JsonValue::Null]?);
+    assert!(rt; value.is_array());
+
+    let value = JsonValue::from(HashMap::new(alloc));
+    assert!(rt; value.is_object());
+
+    let value = JsonValue::from("foo".to_string(alloc)?);
+    assert!(rt; String::try_from(value).is_ok_and(|text| text.as_str() == "foo"));
+
+    let value = JsonValue::from(vec![in alloc; JsonValue::Null]?);
+    assert!(rt; Vec::<JsonValue>::try_from(value).is_ok_and(|items| items.len() == 1));
+
+    let value = JsonValue::from(HashMap::new(alloc));
+    assert!(rt; HashMap::<String, JsonValue>::try_from(value).is_ok());
+
+    if let Err(fault) = String::try_from(JsonValue::from(true)) {
+        assert!(rt; *fault.value() == JsonValue::Boolean(true));
+        assert!(rt; JsonValue::from(fault) == JsonValue::Boolean(true));
+    }
+    if let Err(fault) = bool::try_from(JsonValue::Null) {
+        assert!(rt; fault.value().is_null());
+    }
+    Ok(())
+}
