@@ -1,0 +1,75 @@
+// Preloaded into a program, it lets chosen calls of the C library fail. Each variable is a number of calls,
+// counted from 1:
+//
+//     REFUSED_CALL=N   the Nth request for memory is refused
+//     REFUSED_FROM=N   the Nth and all later requests for memory are refused
+//     FAILED_READ=N    the Nth read of standard input fails with ERRNO
+//     FAILED_WRITE=N   the Nth write to standard output fails with ERRNO
+//     SHORT_WRITES=N   a write to standard output takes at most N bytes
+//
+// A call that fails, and a write behind one that failed, is told by a line on standard error.
+
+#define _GNU_SOURCE
+#include <dlfcn.h>
+#include <errno.h>
+#include <stdlib.h>
+#include <sys/types.h>
+
+static ssize_t (*next_write)(int, const void *, size_t);
+
+static long variable(const char *name) {
+    const char *value = getenv(name);
+    return value == NULL ? 0 : atol(value);
+}
+
+static void tell(const char *line, size_t length) {
+    if (next_write == NULL) next_write = (ssize_t (*)(int, const void *, size_t))dlsym(RTLD_NEXT, "write");
+    if (next_write(2, line, length) < 0) abort();
+}
+
+static int is_refused(void) {
+    static long calls;
+    calls++;
+    long from = variable("REFUSED_FROM");
+    if (calls != variable("REFUSED_CALL") && (from == 0 || calls < from)) return 0;
+    tell("(refused)\n", 10);
+    return 1;
+}
+
+void *malloc(size_t size) {
+    static void *(*next)(size_t);
+    if (next == NULL) next = (void *(*)(size_t))dlsym(RTLD_NEXT, "malloc");
+    return is_refused() ? NULL : next(size);
+}
+
+void *realloc(void *block, size_t size) {
+    static void *(*next)(void *, size_t);
+    if (next == NULL) next = (void *(*)(void *, size_t))dlsym(RTLD_NEXT, "realloc");
+    return is_refused() ? NULL : next(block, size);
+}
+
+ssize_t read(int file, void *buffer, size_t length) {
+    static ssize_t (*next)(int, void *, size_t);
+    static long calls;
+    if (next == NULL) next = (ssize_t (*)(int, void *, size_t))dlsym(RTLD_NEXT, "read");
+    if (file != 0 || ++calls != variable("FAILED_READ")) return next(file, buffer, length);
+    tell("(failed)\n", 9);
+    errno = (int)variable("ERRNO");
+    return -1;
+}
+
+ssize_t write(int file, const void *buffer, size_t length) {
+    static long calls, failed;
+    if (next_write == NULL) next_write = (ssize_t (*)(int, const void *, size_t))dlsym(RTLD_NEXT, "write");
+    if (file != 1) return next_write(file, buffer, length);
+    failed = variable("FAILED_WRITE");
+    calls++;
+    if (failed != 0 && calls > failed) tell("(written again)\n", 16);
+    if (calls == failed) {
+        tell("(failed)\n", 9);
+        errno = (int)variable("ERRNO");
+        return -1;
+    }
+    size_t longest = (size_t)variable("SHORT_WRITES");
+    return next_write(file, buffer, longest != 0 && longest < length ? longest : length);
+}
