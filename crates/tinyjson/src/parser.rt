@@ -49,6 +49,10 @@ where
 impl<I: Iterator<Item = char>> JsonParser<I> {
     /// A parser that stands at line 1, column 0. It takes no memory, and has no limit on depth.
     ///
+    /// A value that is nested deeper than some ten thousand levels is freed by [`JsonValue::dismantle`]:
+    /// where it goes out of scope, the language's own recursion can overrun the stack. So read the texts
+    /// of strangers with [`JsonParser::with_depth_limit`], or give their values to `dismantle`.
+    ///
     /// ```
     /// let mut parser = JsonParser::new(alloc, "[1, true]".chars());
     /// assert!(rt; parser.parse().is_ok_and(|value| value.is_array()));
@@ -92,7 +96,8 @@ impl<I: Iterator<Item = char>> JsonParser<I> {
     ///
     /// Of equal keys in an object the last member stays. A refusal tells its kind, and the line and
     /// the column behind what was consumed; it gives back no part of a value. After a value nothing is
-    /// left, and a further call is refused as `UnexpectedEof`.
+    /// left, and a further call is refused as `UnexpectedEof`. What is read and not returned, as of a
+    /// text that is refused, is freed by a loop, however deep it is nested.
     ///
     /// ```
     /// let mut parser = JsonParser::new(alloc, "nul 1".chars());

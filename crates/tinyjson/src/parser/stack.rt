@@ -1,5 +1,6 @@
 //! Containers, and the loop over those that are open.
 ghost use Rattle.std.specs.Prelude.{◌≡◌, ◌<◌, ◌≤◌, [], ◌∷◌, ◌++◌, true, OnOk, IfOk, IfErr, IsNone, IfSome, Option, Some, ℕ, map};
+ghost use Rattle.tinyjson.specs.Error.{error_position};
 ghost use Rattle.tinyjson.specs.Machine.{in_array, at_key, colon, awaited, after, finished, next, complete, fits};
 ghost use Rattle.tinyjson.specs.Reading.{Grows, GrowsFor, NeedsNone, Reads, at, frames, frame_view};
 ghost use Rattle.tinyjson.specs.Tree.{Tree, array, object, no_members, put};
@@ -18,6 +19,17 @@ pub(super) enum Open {
     Array(Vec<JsonValue>),
     Object(HashMap<String, JsonValue>),
     Member(HashMap<String, JsonValue>, String),
+}
+
+impl Open {
+    /// Frees what was read of the container, by a loop.
+    fn abandon(self) {
+        match self {
+            Open::Array(items) => JsonValue::Array(items).dismantle(),
+            Open::Object(members) => JsonValue::Object(members).dismantle(),
+            Open::Member(members, _) => JsonValue::Object(members).dismantle(),
+        }
+    }
 }
 
 /// The value of an array that is read whole. It keeps no more memory than its items need.
@@ -47,6 +59,15 @@ fn fits(limit: Option<usize>, depth: usize) -> bool
 }
 
 impl<S: Source> Reader<S> {
+    /// A refusal at the position of the source, which gives up the container.
+    fn refuse_in(&self, container: Open, kind: JsonParseErrorKind) -> JsonParseError
+        ensures kind { result.kind ≡ kind }
+        ensures at { error_position result ≡ S.sight.place self.now.source }
+    {
+        container.abandon();
+        self.refuse(kind)
+    }
+
     /// Opens the array whose bracket comes next, or reads it whole if it is empty.
     fn array(
         &mut self,
@@ -107,8 +128,8 @@ impl<S: Source> Reader<S> {
         ensures same { self.new.source ≡ self.old.source }
         ensures opened { IfOk result (λ v. IsNone v) }
     {
-        if stack.push(container).is_err() {
-            return Err(self.refuse(JsonParseErrorKind::OutOfMemory));
+        if let Err(refused) = stack.push(container) {
+            return Err(self.refuse_in(refused.value, JsonParseErrorKind::OutOfMemory));
         }
         Ok(None)
     }
@@ -123,15 +144,19 @@ impl<S: Source> Reader<S> {
         ensures reads { (limit : Option ℕ) → Reads S.sight limit self.old.source (next (in_array (map view items.items ++ view value ∷ []) ∷ frames stack.old.items) after) result (at (frames stack.new.items)) self.new.source }
         ensures left { OnOk result (S.left self.new.source < S.left self.old.source) }
     {
-        if items.push(value).is_err() {
-            return Err(self.refuse(JsonParseErrorKind::OutOfMemory));
+        if let Err(refused) = items.push(value) {
+            refused.value.dismantle();
+            return Err(self.refuse_in(Open::Array(items), JsonParseErrorKind::OutOfMemory));
         }
         self.source.skip_white();
         match self.source.bump() {
             Some(',') => self.open(stack, Open::Array(items)),
             Some(']') => Ok(Some(whole_array(items))),
-            Some(c) => Err(self.refuse(JsonParseErrorKind::ExpectedCommaOrBracket(c))),
-            None => Err(self.refuse(JsonParseErrorKind::UnexpectedEof)),
+            Some(c) => {
+                let kind = JsonParseErrorKind::ExpectedCommaOrBracket(c);
+                Err(self.refuse_in(Open::Array(items), kind))
+            }
+            None => Err(self.refuse_in(Open::Array(items), JsonParseErrorKind::UnexpectedEof)),
         }
     }
 
@@ -147,7 +172,11 @@ impl<S: Source> Reader<S> {
     {
         match value {
             JsonValue::String(key) => self.colon(stack, members, key),
-            other => Err(self.refuse(JsonParseErrorKind::KeyNotString(other.kind()))),
+            other => {
+                let kind = JsonParseErrorKind::KeyNotString(other.kind());
+                other.dismantle();
+                Err(self.refuse_in(Open::Object(members), kind))
+            }
         }
     }
 
@@ -164,8 +193,11 @@ impl<S: Source> Reader<S> {
         self.source.skip_white();
         match self.source.bump() {
             Some(':') => self.open(stack, Open::Member(members, key)),
-            Some(c) => Err(self.refuse(JsonParseErrorKind::ExpectedColon(c))),
-            None => Err(self.refuse(JsonParseErrorKind::UnexpectedEof)),
+            Some(c) => {
+                let kind = JsonParseErrorKind::ExpectedColon(c);
+                Err(self.refuse_in(Open::Object(members), kind))
+            }
+            None => Err(self.refuse_in(Open::Object(members), JsonParseErrorKind::UnexpectedEof)),
         }
     }
 
@@ -181,14 +213,17 @@ impl<S: Source> Reader<S> {
         ensures left { OnOk result (S.left self.new.source < S.left self.old.source) }
     {
         if insert_member(&mut members, key, value).is_err() {
-            return Err(self.refuse(JsonParseErrorKind::OutOfMemory));
+            return Err(self.refuse_in(Open::Object(members), JsonParseErrorKind::OutOfMemory));
         }
         self.source.skip_white();
         match self.source.bump() {
             Some(',') => self.open(stack, Open::Object(members)),
             Some('}') => Ok(Some(whole_object(members))),
-            Some(c) => Err(self.refuse(JsonParseErrorKind::ExpectedCommaOrBrace(c))),
-            None => Err(self.refuse(JsonParseErrorKind::UnexpectedEof)),
+            Some(c) => {
+                let kind = JsonParseErrorKind::ExpectedCommaOrBrace(c);
+                Err(self.refuse_in(Open::Object(members), kind))
+            }
+            None => Err(self.refuse_in(Open::Object(members), JsonParseErrorKind::UnexpectedEof)),
         }
     }
 
@@ -261,22 +296,46 @@ impl<S: Source> Reader<S> {
         }
     }
 
-    /// Reads a whole text: one turn for each value that is read or container that is opened.
+    /// Reads a whole text. What a refusal gives up is freed by a loop.
     pub(super) fn text(&mut self, limit: Option<usize>) -> Result<JsonValue, JsonParseError>
         ensures reads { Reads S.sight limit self.old.source (next [] awaited) result (λ v. next [] (finished (view v))) self.new.source }
         ensures end { OnOk result (S.sight.shows self.new.source None) }
         ensures memory { IfErr result (λ e. e.kind ≡ OutOfMemory → Grows S.sight self.old.source) }
     {
         let mut stack = Vec::new(self.alloc);
+        let read = self.values(limit, &mut stack);
+        for container in stack {
+            container.abandon();
+        }
+        read
+    }
+
+    /// One turn for each value that is read or container that is opened. After a refusal the stack
+    /// holds those that are open.
+    fn values(
+        &mut self,
+        limit: Option<usize>,
+        stack: &mut Vec<Open>,
+    ) -> Result<JsonValue, JsonParseError>
+        requires { stack.old.items ≡ [] }
+        ensures reads { Reads S.sight limit self.old.source (next [] awaited) result (λ v. next [] (finished (view v))) self.new.source }
+        ensures end { OnOk result (S.sight.shows self.new.source None) }
+        ensures memory { IfErr result (λ e. e.kind ≡ OutOfMemory → Grows S.sight self.old.source) }
+    {
         let mut whole: Option<JsonValue> = None;
         loop {
             whole = match whole {
-                None => self.value(limit, &mut stack)?,
+                None => self.value(limit, stack)?,
                 Some(value) => match stack.pop() {
-                    Some(container) => self.put(&mut stack, container, value)?,
+                    Some(container) => self.put(stack, container, value)?,
                     None => {
-                        self.end()?;
-                        return Ok(value);
+                        return match self.end() {
+                            Ok(()) => Ok(value),
+                            Err(refusal) => {
+                                value.dismantle();
+                                Err(refusal)
+                            }
+                        };
                     }
                 },
             };

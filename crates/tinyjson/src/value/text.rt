@@ -15,6 +15,10 @@ use std::io::{self, Write};
 impl JsonValue {
     /// The value of a text: what [`JsonParser::parse`](crate::JsonParser::parse) of a new parser answers on its characters.
     ///
+    /// A value that is nested deeper than some ten thousand levels is freed by [`JsonValue::dismantle`]:
+    /// where it goes out of scope, the language's own recursion can overrun the stack. So read the texts
+    /// of strangers with [`JsonParser::with_depth_limit`], or give their values to `dismantle`.
+    ///
     /// ```
     /// let value = JsonValue::from_str(alloc, "{\"a\": 1.50e1}")?;
     /// ```

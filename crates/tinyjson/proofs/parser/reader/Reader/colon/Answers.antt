@@ -18,12 +18,12 @@ returns-in-Some-clause-reads g c = λ limit.
     let sight = g.S.Source.sight in
     let e = sym (c.bump.ensures.shown c.skip_white.result c.skip_white.ensures.shows) ∙ c.in-Some.is in
     let w = subst (λ o. IfSome o (λ d. is_white d ≡ false)) e c.skip_white.ensures.stops in
-    Refuses-as sight limit _ _ c.refuse.result (ExpectedColon c.in-Some.c) c.refuse.ensures.kind c.refuse.ensures.at
+    Refuses-as sight limit _ _ c.refuse_in.result (ExpectedColon c.in-Some.c) c.refuse_in.ensures.kind c.refuse_in.ensures.at
     (Leads-one sight limit _ _ _ c.in-Some.c (Leads-whites sight limit _ _ _ c.skip_white.ensures.white tt (white_colon limit _ _)) c.in-Some.ensures.takes tt
     (colon_other limit _ _ _ c.in-Some.c w (search rules)) tt)
 
 pub returns-in-None-clause-reads : goal.returns-in-None-clause-reads
 returns-in-None-clause-reads g c = λ limit.
     let sight = g.S.Source.sight in
-    Refuses-as sight limit _ _ c.refuse-in-None.result UnexpectedEof c.refuse-in-None.ensures.kind c.refuse-in-None.ensures.at
+    Refuses-as sight limit _ _ c.refuse_in-in-None.result UnexpectedEof c.refuse_in-in-None.ensures.kind c.refuse_in-in-None.ensures.at
     (Leads-none sight limit _ _ _ (Leads-whites sight limit _ _ _ c.skip_white.ensures.white tt (white_colon limit _ _)) c.in-None.ensures.takes.0 c.in-None.ensures.takes.1 (end_colon limit _ _) tt)

@@ -6,10 +6,10 @@ use Rattle.tinyjson.proofs.Readings.{end_after, Leads-nil, Leads-whites, Leads-o
 use Rattle.tinyjson.proofs.Containers.{items-push, array_comma, array_closes, array_other}
 use Rattle.tinyjson.proofs.parser.reader.Reader.item.Goals as goal
 
-pub returns-then-is_err-clause-reads : goal.returns-then-is_err-clause-reads
-returns-then-is_err-clause-reads g c = λ limit.
+pub returns-in-Err-clause-reads : goal.returns-in-Err-clause-reads
+returns-in-Err-clause-reads g c = λ limit.
     let sight = g.S.Source.sight in
-    Refuses-memory sight limit _ _ c.refuse.result c.refuse.ensures.kind c.refuse.ensures.at
+    Refuses-memory sight limit _ _ c.refuse_in.result c.refuse_in.ensures.kind c.refuse_in.ensures.at
     (Halts-here sight limit _ _ (Leads-nil sight limit _ _) tt tt)
 
 pub returns-in-Some-eq44-clause-reads : goal.returns-in-Some-eq44-clause-reads
@@ -31,12 +31,12 @@ returns-in-Some-clause-reads g c = λ limit.
     let sight = g.S.Source.sight in
     let e = sym (c.bump.ensures.shown c.skip_white.result c.skip_white.ensures.shows) ∙ c.in-Some.is in
     let w = subst (λ o. IfSome o (λ d. is_white d ≡ false)) e c.skip_white.ensures.stops in
-    Refuses-as sight limit _ _ c.refuse-in-Some.result (ExpectedCommaOrBracket c.in-Some.c) c.refuse-in-Some.ensures.kind c.refuse-in-Some.ensures.at
+    Refuses-as sight limit _ _ c.refuse_in-in-Some.result (ExpectedCommaOrBracket c.in-Some.c) c.refuse_in-in-Some.ensures.kind c.refuse_in-in-Some.ensures.at
     (Leads-one sight limit _ _ _ c.in-Some.c (Leads-whites sight limit _ _ _ c.skip_white.ensures.white tt (white_after limit _)) c.in-Some.ensures.takes tt
     (array_other limit _ _ c.in-Some.c w (search rules) (search rules)) tt)
 
 pub returns-in-None-clause-reads : goal.returns-in-None-clause-reads
 returns-in-None-clause-reads g c = λ limit.
     let sight = g.S.Source.sight in
-    Refuses-as sight limit _ _ c.refuse-in-None.result UnexpectedEof c.refuse-in-None.ensures.kind c.refuse-in-None.ensures.at
+    Refuses-as sight limit _ _ c.refuse_in-in-None.result UnexpectedEof c.refuse_in-in-None.ensures.kind c.refuse_in-in-None.ensures.at
     (Leads-none sight limit _ _ _ (Leads-whites sight limit _ _ _ c.skip_white.ensures.white tt (white_after limit _)) c.in-None.ensures.takes.0 c.in-None.ensures.takes.1 (end_after limit _) tt)

@@ -10,7 +10,7 @@ use Rattle.tinyjson.proofs.parser.reader.Reader.key.Goals as goal
 pub returns-in_default-clause-reads : goal.returns-in_default-clause-reads
 returns-in_default-clause-reads g c = λ limit.
     let sight = g.S.Source.sight in
-    Refuses-as sight limit _ _ c.refuse.result (KeyNotString (kind_of (view c.args.value))) (c.refuse.ensures.kind ∙ ap KeyNotString c.kind.ensures) c.refuse.ensures.at
+    Refuses-as sight limit _ _ c.refuse_in.result (KeyNotString (kind_of (view c.args.value))) (c.refuse_in.ensures.kind ∙ ap KeyNotString c.kind.ensures) c.refuse_in.ensures.at
     (Leads-to sight limit _ _ (Leads-nil sight limit _ _) (sym (no_key _ _ (view c.args.value) (no_string c.args.value c.in_default.not-String))))
 
 pub returns-in-String-clause-reads : goal.returns-in-String-clause-reads

@@ -5,10 +5,10 @@ use Rattle.tinyjson.proofs.Readings.{Leads-nil, Halts-here, Refuses-memory}
 use Rattle.tinyjson.proofs.Containers.{frames-push}
 use Rattle.tinyjson.proofs.parser.reader.Reader.open.Goals as goal
 
-pub returns-then-is_err-clause-reads : goal.returns-then-is_err-clause-reads
-returns-then-is_err-clause-reads g c = λ limit.
+pub returns-in-Err-clause-reads : goal.returns-in-Err-clause-reads
+returns-in-Err-clause-reads g c = λ limit.
     let sight = g.S.Source.sight in
-    Refuses-memory sight limit _ _ c.refuse.result c.refuse.ensures.kind c.refuse.ensures.at
+    Refuses-memory sight limit _ _ c.refuse_in.result c.refuse_in.ensures.kind c.refuse_in.ensures.at
     (Halts-here sight limit _ _ (Leads-nil sight limit _ _) tt tt)
 
 pub returns-clause-reads : goal.returns-clause-reads

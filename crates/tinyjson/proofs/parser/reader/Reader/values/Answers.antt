@@ -5,12 +5,12 @@ use Rattle.tinyjson.specs.Reading.{at, frames}
 use Rattle.tinyjson.proofs.Growth.{turn-grows, turn-value, turn-open}
 use Rattle.tinyjson.proofs.Readings.{Leads-nil, Leads-to, Leads-trans, Refuses-after}
 use Rattle.tinyjson.proofs.Containers.{frames-pop}
-use Rattle.tinyjson.proofs.parser.reader.Reader.text.Goals as goal
+use Rattle.tinyjson.proofs.parser.reader.Reader.values.Goals as goal
 
 pub loop-whole-init : goal.loop-whole-init
 loop-whole-init g c = record {
-  reads = rw c.new-stack.ensures.items (Leads-nil g.S.Source.sight c.args.limit _ _);
-  memory = inr (c.new-stack.ensures.items, λ e. refl);
+  reads = rw c.requires (Leads-nil g.S.Source.sight c.args.limit _ _);
+  memory = inr (c.requires, λ e. refl);
 }
 
 pub returns-in_err-whole-in-None-clause-reads : goal.returns-in_err-whole-in-None-clause-reads
@@ -30,22 +30,20 @@ returns-in_err-whole-in-Some-pop-clause-reads g c =
     let l = Leads-to sight limit _ _ c.loop-whole.invariant.reads (ap₂ at (frames-pop _ _ c.pop.result c.in-Some-pop.container c.pop.ensures.items c.in-Some-pop.is) c.in-Some.is) in
     rw (p.1, p.2) (Refuses-after sight limit _ _ _ _ l (c.in_err-whole-in-Some-pop.ensures.reads limit))
 
-pub returns-in_err-end-in-None-pop-clause-reads : goal.returns-in_err-end-in-None-pop-clause-reads
-returns-in_err-end-in-None-pop-clause-reads g c =
+pub returns-in-Err-clause-reads : goal.returns-in-Err-clause-reads
+returns-in-Err-clause-reads g c =
     let sight = g.S.Source.sight in
     let limit = c.args.limit in
-    let r = c.from_residual-in_err-end-in-None-pop in
-    let p = err_from_is_err_and r.result r.ensures.1 in
     let e : c.loop-whole.stack.items ≡ [] = search rules in
     let l = Leads-to sight limit _ _ c.loop-whole.invariant.reads (ap₂ at (ap frames e) c.in-Some.is) in
-    rw (p.1, p.2) (Refuses-after sight limit _ _ _ _ l (c.in_err-end-in-None-pop.ensures.reads limit (view c.in-Some.value)))
+    Refuses-after sight limit _ _ _ _ l (c.in-Err.ensures.reads limit (view c.in-Some.value))
 
-pub returns-in-None-pop-clause-reads : goal.returns-in-None-pop-clause-reads
-returns-in-None-pop-clause-reads g c =
+pub returns-in-Ok-clause-reads : goal.returns-in-Ok-clause-reads
+returns-in-Ok-clause-reads g c =
     let sight = g.S.Source.sight in
     let limit = c.args.limit in
     let e : c.loop-whole.stack.items ≡ [] = search rules in
-    Leads-trans sight limit _ _ _ (Leads-to sight limit _ _ c.loop-whole.invariant.reads (ap₂ at (ap frames e) c.in-Some.is)) (c.in_ok-end-in-None-pop.ensures.reads limit (view c.in-Some.value))
+    Leads-trans sight limit _ _ _ (Leads-to sight limit _ _ c.loop-whole.invariant.reads (ap₂ at (ap frames e) c.in-Some.is)) (c.in-Ok.ensures.reads limit (view c.in-Some.value))
 
 pub loop-whole-preserved-in_ok-whole-in-None : goal.loop-whole-preserved-in_ok-whole-in-None
 loop-whole-preserved-in_ok-whole-in-None g c =
@@ -79,8 +77,5 @@ returns-in_err-whole-in-Some-pop-clause-memory g c =
     let p = err_from_is_err_and r.result r.ensures.1 in
     rw (p.1, p.2) (λ m. turn-open sight _ _ _ _ c.loop-whole.whole c.pop.result c.in-Some-pop.container c.pop.ensures.items c.in-Some-pop.is c.loop-whole.invariant.memory)
 
-pub returns-in_err-end-in-None-pop-clause-memory : goal.returns-in_err-end-in-None-pop-clause-memory
-returns-in_err-end-in-None-pop-clause-memory g c =
-    let r = c.from_residual-in_err-end-in-None-pop in
-    let p = err_from_is_err_and r.result r.ensures.1 in
-    rw (p.1, p.2) (λ m. absurd (c.in_err-end-in-None-pop.ensures.memory m))
+pub returns-in-Err-clause-memory : goal.returns-in-Err-clause-memory
+returns-in-Err-clause-memory g c = λ m. absurd (c.in-Err.ensures.memory m)

@@ -2,7 +2,7 @@ use Rattle.std.proofs.Common.{[]}
 use Rattle.tinyjson.specs.Machine.{awaited, next}
 use Rattle.tinyjson.specs.Reading.{Leads, at, frames}
 use Rattle.tinyjson.proofs.Growth.{Turn}
-use Rattle.tinyjson.proofs.parser.reader.Reader.text.Given as goal
+use Rattle.tinyjson.proofs.parser.reader.Reader.values.Given as goal
 
 abbrev pub invariant-loop-whole : goal.invariant-loop-whole
 invariant-loop-whole g l = record {
