@@ -19,6 +19,7 @@ pub mod Index
 pub mod Writing
 pub mod Sorted
 pub mod Encoded
+pub mod Scans
 pub mod Quotes
 pub mod NumberTexts
 pub mod Texts

@@ -6,38 +6,65 @@ use Rattle.std.proofs.Math.Utf8.{encode}
 use Rattle.std.specs.Char.{digit_char}
 use Rattle.std.specs.Bool.{nat_lt}
 use Rattle.std.proofs.lemmas.Str.{encodes-append, encode_ascii, encodes-chars, encodes-IsAscii, inside_one, IsAscii-append}
-use Rattle.std.proofs.lemmas.List.{at_drop_more, take_more, get_or-drop, drop_all}
+use Rattle.std.proofs.lemmas.List.{take_all}
 use Rattle.std.proofs.lemmas.Bool.Decides.{nat_tests}
-use Rattle.tinyjson.specs.Text.{quoted, escape, escapes}
+use Rattle.std.specs.List.{prefix_len}
+use Rattle.tinyjson.specs.Scan.{is_plain}
+use Rattle.tinyjson.specs.Text.{quoted, escape, escapes, IsEscaped}
 use Rattle.tinyjson.proofs.Encoded.{enc, enclosed}
 
--- a stretch of bytes that stand as they are, and what follows it
-pub at_escape : (xs : List ℕ) (i : ℕ) → i < length xs → escapes (drop i xs) ≡ escape (get_or xs i 0) ++ escapes (drop (i + 1) xs)
-at_escape xs i h = at_drop_more escapes xs i 0 h
+-- ---- bytes that stand as they are, and what follows them
 
-pub stretch_none : (n : ℕ) (xs ys : List ℕ) → take (n - n) (drop n xs) ++ ys ≡ ys
-stretch_none n xs ys = let e : n - n ≡ 0 = omega arith in rw e refl
+plain_escape : (b : ℕ) → is_plain b ≡ true → escape b ≡ b ∷ []
+plain_escape b h = grind (arith, nat_tests)
 
-pub stretch_more : (xs : List ℕ) (start i : ℕ) → start ≤ i → i < length xs → escape (get_or xs i 0) ≡ get_or xs i 0 ∷ []
-    → take (i - start) (drop start xs) ++ escapes (drop i xs) ≡ take (i + 1 - start) (drop start xs) ++ escapes (drop (i + 1) xs)
-stretch_more xs start i le lt e =
-    let l = drop start xs in
-    let n : i + 1 - start ≡ (i - start) + 1 = omega arith in
-    let m : start + (i - start) ≡ i = omega arith in
-    let len : length l ≡ length xs - start = length-drop start xs in
-    let b : get_or l (i - start) 0 ≡ get_or xs i 0 = get_or-drop start xs (i - start) 0 ∙ ap (λ k. get_or xs k 0) m in
-    let t : take ((i - start) + 1) l ≡ take (i - start) l ++ get_or l (i - start) 0 ∷ [] = take_more l (i - start) 0 (omega arith) in
-    ap (λ w. take (i - start) l ++ w) (at_escape xs i lt ∙ ap (λ w. w ++ escapes (drop (i + 1) xs)) e)
-    ∙ sym (append_assoc (take (i - start) l) (get_or xs i 0 ∷ []) (escapes (drop (i + 1) xs)))
-    ∙ ap (λ w. (take (i - start) l ++ w ∷ []) ++ escapes (drop (i + 1) xs)) (sym b)
-    ∙ ap (λ w. w ++ escapes (drop (i + 1) xs)) (sym t)
-    ∙ ap (λ k. take k l ++ escapes (drop (i + 1) xs)) (sym n)
+stop_is : (b : ℕ) → is_plain b ≡ false → IsEscaped b
+stop_is b h = grind (arith, nat_tests)
 
-pub stretch_end : (xs : List ℕ) (start i : ℕ) → length xs ≤ i → i ≤ length xs → take (i - start) (drop start xs) ++ escapes (drop i xs) ≡ take (length xs - start) (drop start xs)
-stretch_end xs start i h k =
-    let e : i ≡ length xs = omega arith in
-    let d : drop i xs ≡ [] = drop_all i xs h in
-    rw (d, e) (append-nil (take (length xs - start) (drop start xs)))
+escapes_plain : (xs : List ℕ) → escapes xs ≡ take (prefix_len is_plain xs) xs ++ escapes (drop (prefix_len is_plain xs) xs)
+escapes_plain [] = refl
+escapes_plain (x ∷ xs) = go (is_plain x) refl (escapes_plain xs)
+  where
+    n : ℕ
+    n = prefix_len is_plain xs
+
+    go : (b : Bool) → is_plain x ≡ b → escapes xs ≡ take n xs ++ escapes (drop n xs) → escapes (x ∷ xs) ≡ take (cond b (1 + n) 0) (x ∷ xs) ++ escapes (drop (cond b (1 + n) 0) (x ∷ xs))
+    go true e h = let one : 1 + n ≡ suc n = omega arith in rw one (ap (λ w. w ++ escapes xs) (plain_escape x e) ∙ ap (λ w. x ∷ w) h)
+    go false e h = refl
+
+plain_stops : (xs : List ℕ) → prefix_len is_plain (drop (prefix_len is_plain xs) xs) ≡ 0
+plain_stops [] = refl
+plain_stops (x ∷ xs) = go (is_plain x) refl (plain_stops xs)
+  where
+    n : ℕ
+    n = prefix_len is_plain xs
+
+    go : (b : Bool) → is_plain x ≡ b → prefix_len is_plain (drop n xs) ≡ 0 → prefix_len is_plain (drop (cond b (1 + n) 0) (x ∷ xs)) ≡ 0
+    go true e h = let one : 1 + n ≡ suc n = omega arith in rw one h
+    go false e h = ap (λ b. cond b (1 + n) 0) e
+
+module _ (xs : List ℕ) (n : ℕ) (e : n ≡ 0 + prefix_len is_plain xs) where
+  end_is : n ≡ prefix_len is_plain xs
+  end_is = omega (arith, e)
+
+  pub at_stop : escapes xs ≡ take n xs ++ escapes (drop n xs)
+  at_stop = escapes_plain xs ∙ ap (λ k. take k xs ++ escapes (drop k xs)) (sym end_is)
+
+  rest_is : take (length xs - n) (drop n xs) ≡ drop n xs
+  rest_is = take_all _ (drop n xs) (omega (arith, length-drop n xs))
+
+  pub stops_there : prefix_len is_plain (take (length xs - n) (drop n xs)) ≡ 0
+  stops_there = ap (prefix_len is_plain) rest_is ∙ ap (λ k. prefix_len is_plain (drop k xs)) end_is ∙ plain_stops xs
+
+  pub escapes_there : escapes (drop n xs) ≡ escapes (take (length xs - n) (drop n xs))
+  escapes_there = ap escapes (sym rest_is)
+
+pub first_stops : (b : ℕ) (bs : List ℕ) → prefix_len is_plain (b ∷ bs) ≡ 0 → IsEscaped b
+first_stops b bs h = stop_is b (go (is_plain b) h)
+  where
+    go : (p : Bool) → cond p (1 + prefix_len is_plain bs) 0 ≡ 0 → p ≡ false
+    go true e = absurd (omega arith)
+    go false e = refl
 
 -- the escapes of a text's bytes are the bytes of its escapes
 pub high : (c : ℕ) → 128 ≤ c → escape c ≡ c ∷ []

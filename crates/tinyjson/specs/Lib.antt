@@ -24,6 +24,7 @@ pub mod Number
 pub mod Parser
 pub mod Written
 pub mod Sorted
+pub mod Scan
 pub mod Pending
 pub mod Indent
 pub mod Generator

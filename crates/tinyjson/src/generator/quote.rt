@@ -1,12 +1,14 @@
 //! Quoted strings.
-ghost use Rattle.std.specs.Prelude.{◌≡◌, ◌<◌, ◌∷◌, []};
-ghost use Rattle.std.specs.Bool.{MatchBool};
+ghost use Rattle.std.specs.Prelude.{◌≡◌, ◌<◌};
 ghost use Rattle.std.specs.Char.{digit_char};
+ghost use Rattle.std.specs.List.{prefix_len};
 ghost use Rattle.std.specs.Str.{chars};
+ghost use Rattle.tinyjson.specs.Scan.{is_plain};
 ghost use Rattle.tinyjson.specs.Text.{escape, escapes, quoted, IsEscaped};
 ghost use Rattle.tinyjson.specs.Written.{WritesPrefix, WritesText};
 
 use super::output::write_bytes;
+use crate::scan::plain_end;
 use std::io::{self, Write};
 
 // Writes the text between quotes.
@@ -18,26 +20,32 @@ pub(super) fn quote<W: Write>(out: &mut W, text: &str) -> io::Result<()>
     write_bytes(out, b"\"")
 }
 
-// Each stretch without an escape is written as it is, in one piece.
+#[inline(always)]
 fn write_escaped<W: Write>(out: &mut W, bytes: &[u8]) -> io::Result<()>
     ensures { WritesPrefix (W.contents out.old) (W.contents out.new) (escapes bytes.now) result }
 {
-    let mut start = 0;
-    for (i, byte) in bytes.iter().enumerate() {
-        if is_escaped(*byte) {
-            write_bytes(out, &bytes[start..i])?;
-            write_escape(out, *byte)?;
-            start = i + 1;
-        }
+    let stop = plain_end(bytes, 0);
+    write_bytes(out, &bytes[..stop])?;
+    if stop == bytes.len() {
+        return Ok(());
     }
-    write_bytes(out, &bytes[start..])
+    write_stopped(out, &bytes[stop..])
 }
 
-#[inline]
-fn is_escaped(byte: u8) -> bool
-    ensures { MatchBool result (IsEscaped byte) (escape byte ≡ byte ∷ []) }
+// Writes an escape, and the bytes up to the next one in one piece.
+#[inline(never)]
+fn write_stopped<W: Write>(out: &mut W, bytes: &[u8]) -> io::Result<()>
+    requires { prefix_len is_plain bytes.now ≡ 0 }
+    ensures { WritesPrefix (W.contents out.old) (W.contents out.new) (escapes bytes.now) result }
 {
-    byte < 0x20 || byte == b'"' || byte == b'\\'
+    let mut rest = bytes;
+    while let Some((byte, behind)) = rest.split_first() {
+        write_escape(out, *byte)?;
+        let stop = plain_end(behind, 0);
+        write_bytes(out, &behind[..stop])?;
+        rest = &behind[stop..];
+    }
+    Ok(())
 }
 
 fn write_escape<W: Write>(out: &mut W, byte: u8) -> io::Result<()>
