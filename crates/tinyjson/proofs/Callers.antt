@@ -1,33 +1,38 @@
 -- For proofs of callers: values, parts, maps and texts beside the trees and the grammar that contracts speak of.
 pub use Rattle.std.proofs.lemmas.Str.{scalars-chars, IsUtf8-string_bytes}
-pub use Rattle.tinyjson.proofs.Entries.{same_text}
+pub use Rattle.tinyjson.proofs.Answering.{all-scalars, parses-text}
+pub use Rattle.tinyjson.proofs.Entries.{same_text, text_eq}
 pub use Rattle.tinyjson.proofs.Equality.{view-Array, view-Object}
 pub use Rattle.tinyjson.proofs.Index.{items_view-set, tree-with_item, tree-with_member}
 pub use Rattle.tinyjson.proofs.Members.{find-put, find-remove, sorted-put, sorted-remove, members_from_find}
-pub use Rattle.tinyjson.proofs.Scalars.{encoded_chars, text-scalars}
+pub use Rattle.tinyjson.proofs.Scalars.{encoded_chars, encoded_utf8, text-scalars}
 pub use Rattle.tinyjson.proofs.Trees.{view-IsTree, text_scalars}
 pub use Rattle.tinyjson.proofs.Views.{Entry, find-members_view, members_view_last}
-pub use Rattle.tinyjson.proofs.Writing.{Appends-trans}
+pub use Rattle.tinyjson.proofs.WholeNumbers.{integers_differ, naturals_differ}
+pub use Rattle.tinyjson.proofs.Writing.{Appends-trans, Appends-nothing, written_none, written_take, written_same, written_all, begins, goes, ends, fails, stop}
 use Rattle.std.proofs.Common.{◌≡◌, ◌≢◌, ℕ, zero, suc, ◌<◌, Bool, true, false, ◌&&◌, cond, bytes_eq, nat_lt, List, [], ◌∷◌, ◌++◌, Option, Some, None, option_map, Result, Ok, Err, String, string_bytes, Vec, Global, Bor, refl, sym, ap, ◌∙◌, subst, rules, arith, append-nil}
 use Rattle.std.proofs.lemmas.Bool.{and_parts}
-use Rattle.std.proofs.lemmas.Bool.Decides.{nat_tests}
+use Rattle.std.proofs.lemmas.Bool.Decides.{nat_tests, same_from_decides}
 use Rattle.std.proofs.lemmas.Slice.Eq.{bytes_eq-Decides}
-use Rattle.std.proofs.lemmas.Str.{chars-IsAscii, IsUtf8-from_ascii}
+use Rattle.std.proofs.lemmas.Str.{chars-IsAscii, IsUtf8-from_ascii, encodes-chars}
 use Rattle.std.specs.HashMap.{get, get_by_text, Updates, UpdatesBy}
 use Rattle.std.specs.Io.KnownBytes.{Appends}
 use Rattle.std.specs.List.{AllByRecursion, IsDistinct}
 use Rattle.std.specs.Map.{lookup, keys_of}
 use Rattle.std.specs.Prelude.{IsSome, slice_get, option_and_then}
-use Rattle.std.specs.Str.{IsAscii, IsUtf8, chars}
+use Rattle.std.specs.Str.{IsAscii, IsUtf8, chars, encode_utf8_all}
 use Rattle.std.specs.String.{string_eq, string_eq_equiv}
 use Rattle.tinyjson.proofs.Entries.{find-members_of}
 use Rattle.tinyjson.proofs.Views.{view_lookup, view_of_ref, members_view-updates, members_view-removes, members_view-writes}
 use Rattle.tinyjson.specs.Access.{JsonMap, number_in, boolean_in, string_in, null_in, array_in, object_in, number_part, boolean_part, string_part, null_part, array_part, object_part}
+use Rattle.tinyjson.proofs.WrittenTexts.{compact-text, one-compact}
+use Rattle.tinyjson.specs.Equality.{same_tree, tree_eq_decides}
 use Rattle.tinyjson.specs.Error.{error_kind}
 use Rattle.tinyjson.specs.Grammar.{IsText, IsAccepted}
 use Rattle.tinyjson.specs.Index.{item_at, member_at, nth, tree_at, tree_at_key, with_nth, with_last, with_tree_at, with_tree_at_key}
 use Rattle.tinyjson.specs.Parser.{ParsesText}
 use Rattle.tinyjson.specs.Soundness.{IsTree, IsSorted}
+use Rattle.tinyjson.specs.Text.{compact}
 use Rattle.tinyjson.specs.Tree.{Tree, null, boolean, number, string, array, object, Items, no_items, item, Members, no_members, member, put, find, remove}
 use Rattle.tinyjson.specs.View.{text, view, view_step, items_view, members_view, seen_entries}
 use Rattle.tinyjson.specs.Written.{Written}
@@ -355,6 +360,28 @@ accepted-text limit xs v p = p.answer.1
 -- a text that was refused, and not because memory ran out, is not accepted
 pub refused-text : (limit : Option ℕ) (xs : List ℕ) (e : JsonParseError) → ParsesText limit xs (Err e) → ¬ (error_kind e ≡ refusal.OutOfMemory) → ¬ IsAccepted limit xs
 refused-text limit xs e p n = p.refused n
+
+-- the compact text of a value is a text of its tree
+pub compact-reads_back : (v : JsonValue) → IsText None (compact (view v)) (view v)
+compact-reads_back v = compact-text (view v) (view-IsTree v)
+
+-- its bytes in UTF-8 have the text's characters
+pub chars-compact : (v : JsonValue) → chars (encode_utf8_all (compact (view v))) ≡ compact (view v)
+chars-compact v = encoded_chars (compact (view v)) (text-scalars None tt 0 (view v) (view-IsTree v))
+
+-- a string with the characters of the compact text has its bytes
+pub bytes-compact : (s : String Global) (v : JsonValue) → text s ≡ compact (view v) → string_bytes s ≡ encode_utf8_all (compact (view v))
+bytes-compact s v h = sym (encodes-chars (string_bytes s) (IsUtf8-string_bytes s)) ∙ ap encode_utf8_all h
+
+-- two values are equal (`==`) exactly if the bytes of their compact texts are
+pub equal-compact : (v w : JsonValue) → bytes_eq (encode_utf8_all (compact (view v))) (encode_utf8_all (compact (view w))) ≡ same_tree v w
+equal-compact v w =
+    let trees = tree_eq_decides (view v) (view w) in
+    let bytes = bytes_eq-Decides (encode_utf8_all (compact (view v))) (encode_utf8_all (compact (view w))) in
+    sym (same_from_decides _ _ trees (
+      λ e. one-compact (view v) (view w) (view-IsTree v) (view-IsTree w) (sym (chars-compact v) ∙ (ap chars (bytes.0 e) ∙ chars-compact w)),
+      λ e. bytes.1 (ap (λ t. encode_utf8_all (compact t)) e),
+    ))
 
 -- a text that is written as a whole is appended
 pub Appends-written : (old new : Option (List ℕ)) (bytes : List ℕ) → Written old new bytes [] → Appends old new bytes

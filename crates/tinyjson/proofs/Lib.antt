@@ -4,6 +4,11 @@ pub mod Entries
 pub mod Views
 pub mod Trees
 pub mod Callers
+pub mod WholeNumbers
+pub mod JoinedMembers
+pub mod QuotedTrip
+pub mod TreeTrip
+pub mod WrittenTexts
 pub mod Positions
 pub mod Sources
 pub mod Cursors

@@ -1,6 +1,3 @@
-pub mod JoinedMembers
-pub mod QuotedTrip
-pub mod TreeTrip
 pub mod ReadTrees
 pub mod TextScalars
 pub mod Wider

@@ -9,18 +9,10 @@ use Rattle.tinyjson.specs.Text as written
 use Rattle.tinyjson.specs.Soundness.{IsTreeAt, tree_depth}
 use Rattle.tinyjson.proofs.Grammar.Texts.{one-tree}
 use Rattle.tinyjson_laws.specs.Reading.{OneTree, TextsAreSound, TreesHaveTexts, WiderLimit, WiderRange}
-use Rattle.tinyjson_laws.proofs.TreeTrip.{IsWhiteIndent, spell}
+use Rattle.tinyjson.proofs.TreeTrip.{IsWhiteIndent}
+use Rattle.tinyjson.proofs.WrittenTexts.{written-text}
 use Rattle.tinyjson_laws.proofs.ReadTrees.{tree-is, depth-is}
 use Rattle.tinyjson_laws.proofs.Wider.{wider-text}
-
--- a written text, with any limit that the tree keeps
-pub written-text : (width : Width) (limit : Option ℕ) (w : Option (List ℕ)) (k : ℕ) (t : Tree) → IsWhiteIndent w → IsTreeAt width t → IsWithin limit (tree_depth t) → IsTextAt width limit (written.text w k t) t
-written-text width limit w k t i h d =
-    let s = spell width w i k t h in record {
-      loose = record { before = []; value = s.value; after = []; white_before = tt; spelled = s.spelled; white_after = tt; shallow = rw s.depth d; whole = sym (append-nil (text s.value) ∙ s.text) };
-      strict = s.strict;
-      tree = sym s.tree;
-    }
 
 sound-at : (width : Width) (limit : Option ℕ) (xs : List ℕ) (t : Tree) → IsTextAt width limit xs t → IsTreeAt width t
 sound-at width limit xs t h = subst (IsTreeAt width) (sym h.tree) (tree-is width h.loose.value h.loose.spelled h.strict)

@@ -8,7 +8,8 @@ use Rattle.tinyjson_number.specs.Decimal.{Decimal, decimal_of, significant, trai
 use Rattle.tinyjson_number.specs.Integer.{whole_decimal}
 use Rattle.tinyjson_number.specs.Number.{same_canonical}
 use Rattle.tinyjson_number.specs.Text.{natural_text}
-use Rattle.tinyjson_number.proofs.Integers.{magnitude-whole, magnitude_of, negative-whole}
+use Rattle.tinyjson_number.proofs.Integers.{magnitude-whole, negative-whole}
+use Rattle.tinyjson.proofs.Callers as callers
 use Rattle.tinyjson_laws.specs.Numbers.{OneNumber, WholesMean, IntegersDiffer, NaturalsDiffer}
 
 pub one_number : OneNumber
@@ -32,22 +33,8 @@ wholes_mean negative n fits =
 
 -- ---- integers are told apart by their decimals
 
-same-magnitude : (b c : Bool) (m n : ℕ) → m < 2 ^ 64 → n < 2 ^ 64 → whole_decimal b m ≡ whole_decimal c n → m ≡ n
-same-magnitude b c m n fm fn e = sym (magnitude-whole b m fm) ∙ ap magnitude_of e ∙ magnitude-whole c n fn
-
-signs-differ : (m n : ℕ) → m < 2 ^ 64 → suc n < 2 ^ 64 → whole_decimal false m ≡ whole_decimal true (suc n) → ⊥
-signs-differ m n fm fn e =
-    let q : m ≡ suc n = same-magnitude false true m (suc n) fm fn e in
-    false≢true (sym (negative-whole false m (omega (arith, q)) fm) ∙ ap (λ (d : Decimal). d.negative) e ∙ negative-whole true (suc n) (omega arith) fn)
-
 pub integers_differ : IntegersDiffer
-integers_differ (pos m) (pos n) h k e = ap pos (same-magnitude false false m n (omega (arith, ints, h)) (omega (arith, ints, k)) e)
-integers_differ (pos m) (negsuc n) h k e = absurd (signs-differ m n (omega (arith, ints, h)) (omega (arith, ints, k)) e)
-integers_differ (negsuc m) (pos n) h k e = absurd (signs-differ n m (omega (arith, ints, k)) (omega (arith, ints, h)) (sym e))
-integers_differ (negsuc m) (negsuc n) h k e =
-    let q : suc m ≡ suc n = same-magnitude true true (suc m) (suc n) (omega (arith, ints, h)) (omega (arith, ints, k)) e in
-    let r : m ≡ n = omega (arith, q) in
-    ap negsuc r
+integers_differ z w h k e = callers.integers_differ z w h k e
 
 pub naturals_differ : NaturalsDiffer
-naturals_differ m n h k e = same-magnitude false false m n h k e
+naturals_differ m n h k e = callers.naturals_differ m n h k e

@@ -7,23 +7,20 @@ use Rattle.tinyjson.specs.Grammar.{IsText}
 use Rattle.tinyjson.specs.Text as written
 use Rattle.tinyjson.proofs.Grammar.Texts.{one-tree}
 use Rattle.tinyjson_laws.specs.Writing.{CompactReadsBack, IndentedReadsBack, SameCompact, SameIndented, WrittenOnce, CompactWithin, IndentedWithin, LimitKept, TextsAreUtf8, CompactIsUtf8, IndentedIsUtf8}
-use Rattle.tinyjson_laws.proofs.ReadingLaws.{written-text, tree-within, rewritten}
+use Rattle.tinyjson_laws.proofs.ReadingLaws.{tree-within, rewritten}
+use Rattle.tinyjson.proofs.WrittenTexts.{written-text, compact-text, from-text, one-compact}
 use Rattle.tinyjson.proofs.Scalars as trees
 use Rattle.tinyjson.proofs.Scalars.{scalars-append, encoded_utf8}
 use Rattle.tinyjson_laws.proofs.TextScalars.{white-scalars, text-scalars}
 
 pub compact_reads_back : CompactReadsBack
-compact_reads_back t h = written-text power_width None None 0 t tt h tt
+compact_reads_back t h = compact-text t h
 
 pub indented_reads_back : IndentedReadsBack
 indented_reads_back t indent i h = written-text power_width None (Some indent) 0 t i h tt
 
--- trees that are read from one text
-from-text : (t u : Tree) (xs ys : List ℕ) → IsText None xs t → IsText None ys u → xs ≡ ys → t ≡ u
-from-text t u xs ys h j e = one-tree None ys t u (subst (λ zs. IsText None zs t) e h) j
-
 pub same_compact : SameCompact
-same_compact t u h j = (from-text t u _ _ (compact_reads_back t h) (compact_reads_back u j), λ e. ap written.compact e)
+same_compact t u h j = (one-compact t u h j, λ e. ap written.compact e)
 
 pub same_indented : SameIndented
 same_indented t u indent i h j = (from-text t u _ _ (indented_reads_back t indent i h) (indented_reads_back u indent i j), λ e. ap (λ v. written.indented v indent 0) e)

@@ -11,8 +11,8 @@ use Rattle.tinyjson.specs.Soundness.{IsSorted, IsTreeAt, AreItemsAt, AreMembersA
 use Rattle.tinyjson.specs.Text as written
 use Rattle.tinyjson.specs.Text.{newline, repeated, after_colon, quoted, items_text, members_text}
 use Rattle.tinyjson_number.proofs.DecimalTrip.{decimal-spelt, decimal-fits}
-use Rattle.tinyjson_laws.proofs.QuotedTrip.{escapes-stand, decode-scalars, paired-scalars}
-use Rattle.tinyjson_laws.proofs.JoinedMembers.{join, IsAbove, put-above, join-join, above-join}
+use Rattle.tinyjson.proofs.QuotedTrip.{escapes-stand, decode-scalars, paired-scalars}
+use Rattle.tinyjson.proofs.JoinedMembers.{join, IsAbove, put-above, join-join, above-join}
 
 -- ---- white space
 
