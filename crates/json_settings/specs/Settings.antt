@@ -1,0 +1,57 @@
+-- Which settings a text has.
+use Rattle.std.specs.Prelude.{◌≡◌, ℕ, ◌<◌, Bool, false, List, Option, Some, None, Result, Ok, Err, MatchOption, ◌⊎◌, codes, pos}
+use Rattle.tinyjson.specs.Grammar.{IsText}
+use Rattle.tinyjson.specs.Index.{tree_at_key}
+use Rattle.tinyjson.specs.Number.{integer_decimal}
+use Rattle.tinyjson.specs.Parser.{ParsesText}
+use Rattle.tinyjson.specs.Tree.{Tree, boolean, number, string, object, Members}
+use Rattle.tinyjson.specs.View.{text}
+use Rattle.json_settings.specs.declared.settings.Key.{Key}
+use Rattle.json_settings.specs.declared.settings.Key.TheVariants.{Port, Host, Tls}
+use Rattle.json_settings.specs.declared.settings.Settings.{Settings}
+use Rattle.json_settings.specs.declared.settings.SettingsError.{SettingsError}
+use Rattle.json_settings.specs.declared.settings.SettingsError.TheVariants.{Text, NotAnObject, Lacks}
+
+-- the member is a whole number from 1 to 65535
+abbrev pub IsPort : Option Tree → ℕ → Type 0
+IsPort member n = (member ≡ Some (number (integer_decimal (pos n)))) × (0 < n) × (n < 65536)
+
+-- the member is a string
+abbrev pub IsHost : Option Tree → List ℕ → Type 0
+IsHost member cs = member ≡ Some (string cs)
+
+-- the member is a truth value, or it is absent, which stands for false
+abbrev pub IsTls : Option Tree → Bool → Type 0
+IsTls member b = (member ≡ Some (boolean b)) ⊎ ((member ≡ None) × (b ≡ false))
+
+abbrev pub IsObject : Tree → Type 0
+IsObject t = (ms : Members) × (t ≡ object ms)
+
+-- the tree is an object with these settings
+abbrev pub HasSettings : Tree → Settings → Type 0
+HasSettings t s =
+    IsObject t × IsPort (tree_at_key t (codes "port")) s.port
+    × IsHost (tree_at_key t (codes "host")) (text s.host)
+    × IsTls (tree_at_key t (codes "tls")) s.tls
+
+-- what the tree does not have at the key
+abbrev pub LacksAt : Tree → Key → Type 0
+LacksAt t Port = (n : ℕ) → ¬ IsPort (tree_at_key t (codes "port")) n
+LacksAt t Host = (cs : List ℕ) → ¬ IsHost (tree_at_key t (codes "host")) cs
+LacksAt t Tls = (b : Bool) → ¬ IsTls (tree_at_key t (codes "tls")) b
+
+-- what is answered where this is the tree of the text
+abbrev pub AnswersTree : Tree → Result Settings SettingsError → Type 0
+AnswersTree t (Ok s) = HasSettings t s
+AnswersTree t (Err (Text e)) = ⊥
+AnswersTree t (Err NotAnObject) = ¬ IsObject t
+AnswersTree t (Err (Lacks k)) = IsObject t × LacksAt t k
+
+-- what is answered for the text: what the parser says, or an answer on its one tree
+abbrev pub AnswersText : List ℕ → Result Settings SettingsError → Type 0
+AnswersText xs (Err (Text e)) = ParsesText None xs (Err e)
+AnswersText xs result = (t : Tree) × IsText None xs t × AnswersTree t result
+
+-- the one thing of which P holds, as it is seen, or nothing where there is none
+abbrev pub GivesOnly : {S T : Type 0} → (S → Type 0) → (T → S) → Option T → Type 0
+GivesOnly {S} P seen result = MatchOption result ((x : S) → ¬ P x) (λ y. P (seen y))

@@ -1,0 +1,155 @@
+//! The settings of a JSON text.
+ghost use Rattle.std.specs.Prelude.{option_map};
+ghost use Rattle.std.specs.Str.{chars};
+ghost use Rattle.tinyjson.specs.View.{view, text};
+ghost use Rattle.json_settings.specs.Settings.{AnswersText, AnswersTree, IsPort, IsHost, IsTls, GivesOnly};
+
+use std::alloc::Global;
+use std::collections::HashMap;
+use std::error::Error;
+use std::fmt;
+use tinyjson::{JsonNumber, JsonParseError, JsonValue};
+
+/// Where to listen, and how.
+#[derive(Debug, PartialEq, Eq, Drop)]
+pub struct Settings {
+    /// From 1 to 65535.
+    pub port: u16,
+    pub host: String,
+    /// `false` where the text has no `tls`.
+    pub tls: bool,
+}
+
+/// The key of a setting.
+#[derive(Clone, Copy, Debug, PartialEq, Eq)]
+pub enum Key {
+    /// `port`: a whole number from 1 to 65535.
+    Port,
+    /// `host`: a string.
+    Host,
+    /// `tls`: `true`, `false`, or absent.
+    Tls,
+}
+
+/// Why a text has no settings.
+#[derive(Debug, PartialEq, Eq, Drop)]
+pub enum SettingsError {
+    /// It is no JSON text, or memory ran out.
+    Text(JsonParseError),
+    /// Its value is no object.
+    NotAnObject,
+    /// The object has nothing at this key, or nothing of the right kind.
+    Lacks(Key),
+}
+
+/// The settings of a text, which is an object. Other members than the three are passed over.
+///
+/// ```
+/// let settings = settings::read(alloc, r#"{"port": 8.08e3, "host": "localhost"}"#)?;
+/// ```
+pub fn read(alloc: Global, text: &str) -> Result<Settings, SettingsError>
+    ensures { AnswersText (chars text.now) result }
+{
+    match JsonValue::from_str(alloc, text) {
+        Ok(value) => from_value(value),
+        Err(error) => Err(SettingsError::Text(error)),
+    }
+}
+
+fn from_value(value: JsonValue) -> Result<Settings, SettingsError>
+    ensures { AnswersTree (view value) result }
+{
+    let Ok(mut members) = HashMap::<String, JsonValue>::try_from(value) else {
+        return Err(SettingsError::NotAnObject);
+    };
+    let Some(port) = port(members.get("port")) else {
+        return Err(SettingsError::Lacks(Key::Port));
+    };
+    let Some(tls) = tls(members.get("tls")) else {
+        return Err(SettingsError::Lacks(Key::Tls));
+    };
+    let Some(host) = host(members.remove("host")) else {
+        return Err(SettingsError::Lacks(Key::Host));
+    };
+    Ok(Settings { port, host, tls })
+}
+
+fn port(member: Option<&JsonValue>) -> Option<u16>
+    ensures { GivesOnly (IsPort (option_map (λ x. view x.now) member.entry)) (λ n. n) result }
+{
+    let Some(value) = member else {
+        return None;
+    };
+    match value.get::<JsonNumber>()?.to_u64() {
+        Some(n) if n > 0 && n < 65_536 => Some(n as u16),
+        _ => None,
+    }
+}
+
+fn tls(member: Option<&JsonValue>) -> Option<bool>
+    ensures { GivesOnly (IsTls (option_map (λ x. view x.now) member.entry)) (λ b. b) result }
+{
+    match member {
+        None => Some(false),
+        Some(JsonValue::Boolean(b)) => Some(*b),
+        Some(_) => None,
+    }
+}
+
+fn host(member: Option<JsonValue>) -> Option<String>
+    ensures { GivesOnly (IsHost (option_map view member)) text result }
+{
+    match member {
+        Some(JsonValue::String(text)) => Some(text),
+        _ => None,
+    }
+}
+
+/// The words that the program writes behind its name.
+impl fmt::Display for SettingsError {
+    fn fmt<W: fmt::Write>(&self, f: &mut fmt::Formatter<W>) -> fmt::Result {
+        match self {
+            SettingsError::Text(error) => write!(f, "{error}"),
+            SettingsError::NotAnObject => f.write_str("not an object"),
+            SettingsError::Lacks(Key::Port) => f.write_str("no port from 1 to 65535"),
+            SettingsError::Lacks(Key::Host) => f.write_str("no host"),
+            SettingsError::Lacks(Key::Tls) => f.write_str("tls is neither true nor false"),
+        }
+    }
+}
+
+impl Error for SettingsError {}
+
+#[cfg(test)]
+mod tests {
+    use super::*;
+    use std::test::Fail;
+
+    #[test]
+    fn settings_or_what_is_missing(rt: HostRuntime) -> Result<(), Fail> {
+        let alloc = rt.alloc();
+        let Ok(settings) = read(alloc, r#"{"port": 80.8e2, "host": "a", "b": []}"#) else {
+            return Err(Fail::from("refused"));
+        };
+        assert_eq!(rt; settings.port, 8080);
+        assert_eq!(rt; settings.host.as_str(), "a");
+        assert!(rt; !settings.tls);
+        for (text, words) in [
+            ("{", "Parse error at line:1, col:1: Unexpected EOF"),
+            ("[]", "not an object"),
+            (r#"{"port": 0, "host": "a"}"#, "no port from 1 to 65535"),
+            (r#"{"port": 65536, "host": "a"}"#, "no port from 1 to 65535"),
+            (r#"{"port": 1, "host": null}"#, "no host"),
+            (
+                r#"{"port": 1, "host": "", "tls": 1}"#,
+                "tls is neither true nor false",
+            ),
+        ] {
+            let Err(error) = read(alloc, text) else {
+                return Err(Fail::from("accepted"));
+            };
+            assert_eq!(rt; error.to_string(alloc)?.as_str(), words);
+        }
+        Ok(())
+    }
+}
