@@ -5,9 +5,7 @@ use Rattle.std.proofs.lemmas.Bool.{and_parts}
 use Rattle.std.specs.Char.{IsScalar}
 use Rattle.std.specs.Str.{all_scalars}
 use lib.Utf8.{scalar as is_scalar}
-use Rattle.std.specs.declared.iter.Iterator as iterator
-use Rattle.tinyjson.specs.Parser.{Parses, ParsesText, parser_position, parser_limit}
-use Rattle.tinyjson.specs.declared.parser.JsonParser.{JsonParser}
+use Rattle.tinyjson.specs.Parser.{Parser, Parses, ParsesText}
 use Rattle.tinyjson.specs.Source.{Sight}
 use Rattle.tinyjson.specs.Error.{error_position}
 use Rattle.tinyjson.specs.Grammar.{IsText, IsAccepted}
@@ -162,7 +160,8 @@ all-scalars (x ∷ xs) h zero d l = (and_parts (is_scalar x) (all_scalars xs) h)
 all-scalars (x ∷ xs) h (suc k) d l = all-scalars xs (and_parts (is_scalar x) (all_scalars xs) h).1 k d (omega (arith, l))
 
 -- a new parser over a text
-pub parses-text : {S : Type 0} {g : iterator.Ghosts S ℕ} (limit : Option ℕ) (xs : List ℕ) (p q : JsonParser S g) (r : Result JsonValue JsonParseError) → parser_position p ≡ origin → parser_limit p ≡ limit → Parses p xs r q → ParsesText limit xs r
+pub parses-text : {S : Type 0} {steps : S → Option ℕ → S → Type 0} (limit : Option ℕ) (xs : List ℕ) (p q : Parser S) (r : Result JsonValue JsonParseError)
+    → p.position ≡ origin → p.limit ≡ limit → Parses steps p xs r q → ParsesText limit xs r
 parses-text limit xs p q (Ok v) h n a = record { consumed = a.consumed; rest = a.rest; whole = a.whole; answer = subst (λ l. (a.rest ≡ []) × IsText l xs (view v)) n a.answer; refused = tt }
 parses-text limit xs p q (Err e) h n a = record {
   consumed = a.consumed;

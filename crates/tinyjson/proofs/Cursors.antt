@@ -1,9 +1,10 @@
 -- How a cursor over an iterator goes on.
-use Rattle.std.proofs.Common.{◌≡◌, ℕ, Bool, false, not, is_some, List, [], ◌∷◌, ◌++◌, Option, Some, None, refl, sym, ap, ◌∙◌, true≢false}
+use Rattle.std.proofs.Common.{◌≡◌, ℕ, Bool, true, false, cond, not, is_some, List, [], ◌∷◌, ◌++◌, Option, Some, None, refl, sym, ap, ◌∙◌, true≢false}
 use Rattle.std.specs.Option.{option_to_list}
 use Rattle.std.specs.Iterator.{Count, MakesProgress}
 use Rattle.tinyjson.specs.declared.parser.cursor.Cursor.{Cursor}
 use Rattle.tinyjson.specs.Cursor.{Ready, Gives, Begins, Shows}
+use Rattle.tinyjson.specs.Parser.{Follows}
 
 -- what a call of the iterator leaves may be called, and ends
 pub Ready-filled : {S : Type 0} (can : S → Type 0) (remaining : S → Count) (p : Cursor S) (r : Option ℕ) (t : S) (d : Bool) → Ready can remaining p → p.done ≡ false → d ≡ not (is_some r)
@@ -38,3 +39,24 @@ module _ {S : Type 0} (steps : S → Option ℕ → S → Type 0) where
   pub not_shown : (p : Cursor S) (o r : Option ℕ) → p.peeked ≡ None → p.done ≡ false → Shows p o → r ≡ o
   not_shown p None r n f s = absurd (true≢false (sym s.ended ∙ f))
   not_shown p (Some x) r n f s = absurd (true≢false (ap is_some (sym s.peeked ∙ n)))
+
+-- ---- what a cursor gives is what a parser over it has left
+
+module _ {S : Type 0} (steps : S → Option ℕ → S → Type 0) where
+  pub gives-follows : (p : Cursor S) (xs : List ℕ) → Gives steps p xs → (later : List ℕ) × (xs ≡ option_to_list p.peeked ++ later) × Follows steps (cond p.done None (Some p.it)) later
+  gives-follows p xs g = (g.later, g.is, by p.done g.source g.ended)
+    where
+      by : (d : Bool) → (d ≡ false → Begins steps p.it g.later) → (d ≡ true → g.later ≡ []) → Follows steps (cond d None (Some p.it)) g.later
+      by true f e = e refl
+      by false f e = f refl
+
+  pub follows-gives : (p : Cursor S) (xs later : List ℕ) → xs ≡ option_to_list p.peeked ++ later → Follows steps (cond p.done None (Some p.it)) later → Gives steps p xs
+  follows-gives p xs later e f = record { later = later; is = e; source = λ h. on p.done h f; ended = λ h. off p.done h f }
+    where
+      on : (d : Bool) → d ≡ false → Follows steps (cond d None (Some p.it)) later → Begins steps p.it later
+      on true h f = absurd (true≢false h)
+      on false h f = f
+
+      off : (d : Bool) → d ≡ true → Follows steps (cond d None (Some p.it)) later → later ≡ []
+      off true h f = f
+      off false h f = absurd (true≢false (sym h))

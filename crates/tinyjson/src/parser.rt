@@ -1,7 +1,7 @@
 //! The parser.
 ghost use Rattle.std.specs.Prelude.{◌≡◌, ℕ, List, Option, None, Some};
 ghost use Rattle.std.specs.Iterator.{IsFinite};
-ghost use Rattle.tinyjson.specs.Parser.{Provides, Remains, Parses, parser_limit, parser_position};
+ghost use Rattle.tinyjson.specs.Parser.{Provides, Remains, Parses};
 ghost use Rattle.tinyjson.specs.Position.{origin};
 
 mod cursor;
@@ -18,6 +18,7 @@ use cursor::Characters;
 pub use error::{JsonParseError, JsonParseErrorKind};
 use reader::Reader;
 use std::alloc::Global;
+use std::marker::Model;
 
 /// What [`JsonParser::parse`] answers.
 ///
@@ -46,6 +47,22 @@ where
     reader: Reader<Characters<I>>,
 }
 
+// Contracts see a parser as its limit, its position and the characters that are left.
+impl<I: Iterator<Item = char>> Model for JsonParser<I> {
+    ghost use Rattle.std.specs.Prelude.{Some, None, cond};
+    ghost use Rattle.tinyjson.specs.Parser.{Parser};
+    ghost use Rattle.tinyjson.specs.Position.{position_at};
+
+    ghost Value = { Parser I };
+
+    ghost view = { λ p. record {
+      limit = p.limit;
+      position = position_at p.reader.source.cursor.line p.reader.source.cursor.column;
+      ahead = p.reader.source.cursor.peeked;
+      source = cond p.reader.source.cursor.done None (Some p.reader.source.cursor.it);
+    } };
+}
+
 impl<I: Iterator<Item = char>> JsonParser<I> {
     /// A parser that stands at line 1, column 0. It takes no memory, and has no limit on depth.
     ///
@@ -60,9 +77,9 @@ impl<I: Iterator<Item = char>> JsonParser<I> {
     pub fn new(alloc: Global, it: I) -> Self
         requires can { I.can_next it }
         requires finite { IsFinite (I.remaining it) }
-        ensures remains { (xs : List ℕ) → Provides I.next_gives it xs → Remains result xs }
-        ensures position { parser_position result ≡ origin }
-        ensures limit { parser_limit result ≡ None }
+        ensures remains { (xs : List ℕ) → Provides I.next_gives it xs → Remains I.next_gives result xs }
+        ensures position { result.position ≡ origin }
+        ensures limit { result.limit ≡ None }
     {
         JsonParser {
             limit: None,
@@ -82,9 +99,9 @@ impl<I: Iterator<Item = char>> JsonParser<I> {
     pub fn with_depth_limit(alloc: Global, it: I, limit: usize) -> Self
         requires can { I.can_next it }
         requires finite { IsFinite (I.remaining it) }
-        ensures remains { (xs : List ℕ) → Provides I.next_gives it xs → Remains result xs }
-        ensures position { parser_position result ≡ origin }
-        ensures limit { parser_limit result ≡ Some limit }
+        ensures remains { (xs : List ℕ) → Provides I.next_gives it xs → Remains I.next_gives result xs }
+        ensures position { result.position ≡ origin }
+        ensures limit { result.limit ≡ Some limit }
     {
         JsonParser {
             limit: Some(limit),
@@ -105,8 +122,8 @@ impl<I: Iterator<Item = char>> JsonParser<I> {
     /// assert!(rt; parser.parse().is_ok_and(|value| value.is_number()));
     /// ```
     pub fn parse(&mut self) -> JsonParseResult
-        ensures parses { (xs : List ℕ) → Remains self.old xs → Parses self.old xs result self.new }
-        ensures limit { parser_limit self.new ≡ parser_limit self.old }
+        ensures parses { (xs : List ℕ) → Remains I.next_gives self.old xs → Parses I.next_gives self.old xs result self.new }
+        ensures limit { self.new.limit ≡ self.old.limit }
     {
         self.reader.text(self.limit)
     }
