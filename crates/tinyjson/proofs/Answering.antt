@@ -11,7 +11,7 @@ use Rattle.tinyjson.specs.Error.{error_position}
 use Rattle.tinyjson.specs.Grammar.{IsText, IsAccepted}
 use Rattle.tinyjson.specs.Machine.{Frame, Phase, State, Next, next, stop, awaited, finished, accepted, refused, step, end, run, reach, reach_on, strictly}
 use Rattle.tinyjson.specs.Position.{advance, origin}
-use Rattle.tinyjson.specs.Reading.{IsNext, IsHeld, Leads, Halts, Refuses, Reads, Grows, behind, outcome}
+use Rattle.tinyjson.specs.Reading.{IsNext, IsLate, IsHeld, Leads, Halts, Refuses, Reads, Grows, behind, onward, outcome}
 use Rattle.tinyjson.specs.Refusal.{IsInterrupted, IsRefusal, MayGrow, RefusalSays}
 use Rattle.tinyjson.specs.Tree.{Tree}
 use Rattle.tinyjson.specs.View.{view}
@@ -35,13 +35,15 @@ module _ (limit : Option ℕ) where
   behind-stop k b [] h = h
   behind-stop k b (c ∷ cs) h = behind-stop k false cs h
 
-  behind-reach : (fs : List Frame) (p : Phase) (xs : List ℕ) → IsNext (behind limit (next fs p) xs) → (s : State) × (reach (strictly limit) fs p xs ≡ Some s)
+  behind-reach : (fs : List Frame) (p : Phase) (xs : List ℕ) → IsNext (behind limit (next fs p) xs)
+      → (s : State) × (reach (strictly limit) fs p xs ≡ Some s) × (behind limit (next fs p) xs ≡ next s.frames s.phase)
   unfolding reach
-  behind-reach fs p [] h = (record { frames = fs; phase = p }, refl)
+  behind-reach fs p [] h = (record { frames = fs; phase = p }, refl, refl)
   behind-reach fs p (c ∷ cs) h = go (step (strictly limit) fs p c) h (λ gs q. behind-reach gs q cs)
     where
-      go : (n : Next) → IsNext (behind limit n cs) → ((gs : List Frame) (q : Phase) → IsNext (behind limit (next gs q) cs) → (s : State) × (reach (strictly limit) gs q cs ≡ Some s)) →
-          (s : State) × (reach_on (λ gs q. reach (strictly limit) gs q cs) n ≡ Some s)
+      go : (n : Next) → IsNext (behind limit n cs)
+          → ((gs : List Frame) (q : Phase) → IsNext (behind limit (next gs q) cs) → (s : State) × (reach (strictly limit) gs q cs ≡ Some s) × (behind limit (next gs q) cs ≡ next s.frames s.phase))
+          → (s : State) × (reach_on (λ gs q. reach (strictly limit) gs q cs) n ≡ Some s) × (behind limit n cs ≡ next s.frames s.phase)
       go (next gs q) h more = more gs q h
       go (stop k b) h more = absurd (behind-stop k b cs h)
 
@@ -56,17 +58,19 @@ all-rest (x ∷ xs) ys h = all-rest xs ys (λ j e m. h (suc j) e (omega (arith, 
 
 module _ (limit : Option ℕ) where
   held-interrupted : (xs : List ℕ) → All IsScalar xs → IsHeld limit (next [] awaited) xs → IsInterrupted limit xs
-  held-interrupted xs a h = go h.late h.whole h.short
+  held-interrupted xs a h = go h.late h.whole h.ends
     where
-      go : (late : List ℕ) → xs ≡ h.front ++ late → length late ≤ 1 → IsInterrupted limit xs
+      go : (late : List ℕ) → xs ≡ h.front ++ late → IsLate limit (behind limit (next [] awaited) h.front) late → IsInterrupted limit xs
       go [] e s =
           let same : xs ≡ h.front = e ∙ append-nil h.front in
           let r = behind-reach limit [] awaited h.front h.goes in
           subst (IsInterrupted limit) (sym same) (interrupted ranges limit h.front (subst (All IsScalar) same a) r.0 r.1)
       go (c ∷ []) e s =
           let r = behind-reach limit [] awaited h.front h.goes in
-          subst (IsInterrupted limit) (sym e) (interrupted-late ranges limit h.front (all-front h.front (c ∷ []) (subst (All IsScalar) e a)) r.0 r.1 c)
-      go (c ∷ d ∷ ds) e s = absurd (omega (arith, s))
+          let b = subst (All IsScalar) e a in
+          let stops = sym (ap (λ z. onward limit z c) r.2) ∙ s in
+          subst (IsInterrupted limit) (sym e) (interrupted-late ranges limit h.front (all-front h.front (c ∷ []) b) r.0 r.1 c (all-rest h.front (c ∷ []) b 0 0 (omega arith)) stops)
+      go (c ∷ d ∷ ds) e s = absurd s
 
   refusal-says : (k : JsonParseErrorKind) (used rest : List ℕ) → IsRefusal limit k used rest → RefusalSays limit k used rest
   refusal-says kind.OutOfMemory used rest r = absurd r.says

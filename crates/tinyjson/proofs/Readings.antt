@@ -11,11 +11,11 @@ use Rattle.tinyjson.specs.declared.parser.error.JsonParseErrorKind.TheVariants.{
 use Rattle.tinyjson.specs.Position.{advance}
 use Rattle.tinyjson.specs.Characters.{is_white}
 use Rattle.tinyjson.specs.Source.{Sight, Takes, Whites}
-use Rattle.tinyjson.specs.declared.parser.error.JsonParseErrorKind.TheVariants.{UnexpectedEof, ExpectedEof, InvalidCharacter, KeyNotString, UnexpectedInLiteral}
+use Rattle.tinyjson.specs.declared.parser.error.JsonParseErrorKind.TheVariants.{UnexpectedEof, ExpectedEof, InvalidCharacter, InvalidUtf16, KeyNotString, UnexpectedInLiteral}
 use Rattle.tinyjson.specs.Machine.{strictly, Within, quoted, end, colon, Frame, in_array, at_key, at_value, first, awaited, after, finished, Next, next, stop, refused, complete, step, run, go_on}
 use Rattle.tinyjson.specs.Tree.{is_string, key_of}
 use Rattle.tinyjson.specs.Error.{error_position}
-use Rattle.tinyjson.specs.Reading.{onward, ending, outcome, IsNext, IsTaken, behind, wanting, Same, Comes, IsHeld, Leads, Halts, Refuses, Reads}
+use Rattle.tinyjson.specs.Reading.{onward, ending, outcome, IsNext, IsTaken, behind, wanting, Same, Comes, IsLate, IsHeld, Leads, Halts, Refuses, Reads}
 use Rattle.tinyjson.proofs.Sources.{Takes-nil}
 use Rattle.tinyjson.proofs.Positions.{advance-append}
 
@@ -73,15 +73,15 @@ module _ (limit : Option ℕ) where
   Comes-outcome n m (c ∷ cs) rest a = outcome-step n c (cs ++ rest) a.0 a.1 ∙ Comes-outcome (onward limit n c) m cs rest a.2
 
   -- the character that was read by then is the last
-  IsHeld-late : (n : Next) (c : ℕ) → IsNext n → IsHeld limit n (c ∷ [])
-  IsHeld-late n c h = record { front = []; late = c ∷ []; whole = refl; short = search arith; goes = h }
+  IsHeld-late : (n : Next) (c : ℕ) → IsNext n → onward limit n c ≡ stop InvalidUtf16 true → IsHeld limit n (c ∷ [])
+  IsHeld-late n c h e = record { front = []; late = c ∷ []; whole = refl; goes = h; ends = e }
 
   IsHeld-cons : (n : Next) (c : ℕ) (cs : List ℕ) → IsHeld limit (onward limit n c) cs → IsHeld limit n (c ∷ cs)
-  IsHeld-cons n c cs k = record { front = c ∷ k.front; late = k.late; whole = ap (λ z. c ∷ z) k.whole; short = k.short; goes = k.goes }
+  IsHeld-cons n c cs k = record { front = c ∷ k.front; late = k.late; whole = ap (λ z. c ∷ z) k.whole; goes = k.goes; ends = k.ends }
 
-  -- what was taken was held, but for its last character
+  -- what was taken was held
   pub Comes-held : (n m : Next) (xs rest : List ℕ) → IsNext n → IsNext m → Comes limit n xs m rest → IsHeld limit n xs
-  Comes-held n m [] rest h k a = record { front = []; late = []; whole = refl; short = search arith; goes = h }
+  Comes-held n m [] rest h k a = record { front = []; late = []; whole = refl; goes = h; ends = tt }
   Comes-held n m (c ∷ cs) rest h k a = IsHeld-cons n c cs (Comes-held (onward limit n c) m cs rest (came (onward limit n c) m cs rest k a.2) k a.2)
     where
       came : (n m : Next) (cs rest : List ℕ) → IsNext m → Comes limit n cs m rest → IsNext n
@@ -94,13 +94,21 @@ module _ (limit : Option ℕ) where
   behind-next (stop k b) (c ∷ cs) h = behind-next (stop k false) cs h
 
   IsHeld-same : (n m : Next) (ys rest : List ℕ) → (IsNext m → IsNext n) → Same limit n m (ys ++ rest) → IsHeld limit m ys → IsHeld limit n ys
-  IsHeld-same n m ys rest h a k = record { front = k.front; late = k.late; whole = k.whole; short = k.short; goes = go k.front k.whole k.goes }
+  IsHeld-same n m ys rest h a k = record { front = k.front; late = k.late; whole = k.whole; goes = go k.front k.whole k.goes; ends = on k.front k.late k.whole k.ends }
     where
       go : (f : List ℕ) → ys ≡ f ++ k.late → IsNext (behind limit m f) → IsNext (behind limit n f)
       go [] e g = h g
       go (c ∷ cs) e g =
           let s : onward limit n c ≡ onward limit m c = subst (λ z. Same limit n m (z ++ rest)) e a in
           subst (λ z. IsNext (behind limit z cs)) (sym s) g
+
+      on : (f l : List ℕ) → ys ≡ f ++ l → IsLate limit (behind limit m f) l → IsLate limit (behind limit n f) l
+      on [] [] e g = tt
+      on [] (c ∷ []) e g = subst (λ z. Same limit n m (z ++ rest)) e a ∙ g
+      on [] (c ∷ d ∷ ds) e g = g
+      on (c ∷ cs) l e g =
+          let s : onward limit n c ≡ onward limit m c = subst (λ z. Same limit n m (z ++ rest)) e a in
+          subst (λ z. IsLate limit (behind limit z cs) l) (sym s) g
 
   pub Comes-halts : (n m : Next) (xs ys rest : List ℕ) → Comes limit n xs m (ys ++ rest) → IsHeld limit m ys → IsHeld limit n (xs ++ ys)
   Comes-halts n m [] ys rest a k = IsHeld-same n m ys rest a.1 a.0 k
@@ -190,11 +198,11 @@ module _ {S : Type 0} (sight : Sight S) (limit : Option ℕ) where
     moves = a.moves;
   }
 
-  -- no memory behind a character that was taken
-  pub Halts-late : (p q r : S) {n m : Next} (c : ℕ) → Leads sight limit p n q m → Takes sight q (c ∷ []) r → IsNext m → Halts sight limit p n r
-  Halts-late p q r {n} {m} c a t h = Halts-trans p q r a (record {
+  -- no memory behind the character that ends a run with an unpaired surrogate
+  pub Halts-late : (p q r : S) {n m : Next} (c : ℕ) → Leads sight limit p n q m → Takes sight q (c ∷ []) r → IsNext m → onward limit m c ≡ stop InvalidUtf16 true → Halts sight limit p n r
+  Halts-late p q r {n} {m} c a t h e = Halts-trans p q r a (record {
     taken = c ∷ [];
-    gives = λ zs g. let x = t.gives zs g in (x.0, x.1, x.2, IsHeld-late limit m c h);
+    gives = λ zs g. let x = t.gives zs g in (x.0, x.1, x.2, IsHeld-late limit m c h e);
     moves = t.moves;
   })
 

@@ -10,19 +10,27 @@ use Rattle.tinyjson.specs.View.{text}
 use Rattle.tinyjson.specs.declared.parser.error.JsonParseError.{JsonParseError}
 use Rattle.tinyjson.specs.Characters.{is_hex, unit_of, paired, decode, short_escape}
 use Rattle.tinyjson.specs.Source.{Sight, Takes}
-use Rattle.tinyjson.specs.Machine.{step, end, Frame, Next, next, stop, complete, plain, backslash, hex, quoted, refused}
+use Rattle.tinyjson.specs.Machine.{step, end, Frame, in_array, at_key, at_value, Next, next, stop, complete, plain, backslash, hex, quoted, refused}
 use Rattle.tinyjson.specs.declared.parser.error.JsonParseErrorKind.TheVariants.{InvalidUtf16, InvalidHexDigit, InvalidEscape, ControlCharacter, UnexpectedEof}
-use Rattle.tinyjson.specs.Reading.{onward, ending, within, Fails, IsNext, IsTaken, Leads, Refuses, Reads}
-use Rattle.tinyjson.proofs.Readings.{Leads-one, Halts-late, Refuses-as, Refuses-memory, taken_if}
+use Rattle.tinyjson.specs.Reading.{onward, ending, within, Fails, IsNext, IsTaken, Leads, Halts, Refuses, Reads}
+use Rattle.tinyjson.proofs.Readings.{Leads-one, Halts-here, Halts-late, Refuses-as, Refuses-memory, taken_if}
 
 module _ {S : Type 0} (sight : Sight S) (limit : Option ℕ) where
   -- the units before the character that was read, c, could not be added
   pub Refuses-fails : (p q r : S) {n m : Next} (o : Next) (e : JsonParseError) (b : Bool) (c : ℕ) → Leads sight limit p n q m → Takes sight q (c ∷ []) r → IsNext n → IsNext m
-      → onward limit m c ≡ cond (not b) (stop InvalidUtf16 true) o → Fails e b (sight.place r) → Refuses sight limit p n e r
-  Refuses-fails p q r {n} {m} o e b c l t i h s f = ⊎_elim
+      → IsNext o → onward limit m c ≡ cond (not b) (stop InvalidUtf16 true) o → Fails e b (sight.place r) → Refuses sight limit p n e r
+  Refuses-fails p q r {n} {m} o e b c l t i h j s f = ⊎_elim
       (λ w. Refuses-as sight limit p r e InvalidUtf16 w.1 f.place (Leads-one sight limit p q r c l t h (s ∙ ap (λ x. cond (not x) (stop InvalidUtf16 true) o) w.0) tt))
-      (λ w. Refuses-memory sight limit p r e w f.place (Halts-late sight limit p q r c l t h))
+      (λ w. Refuses-memory sight limit p r e w f.place (halts b s))
       f.why
+    where
+      taken : (z : Next) → IsNext z → IsTaken z
+      taken (next gs x) k = tt
+      taken (stop x d) k = absurd k
+
+      halts : (x : Bool) → onward limit m c ≡ cond (not x) (stop InvalidUtf16 true) o → Halts sight limit p n r
+      halts true g = Halts-here sight limit p r (Leads-one sight limit p q r c l t h g (taken o j)) i j
+      halts false g = Halts-late sight limit p q r c l t h g
 
   -- they were added, and a character d
   pub Reads-add : (p q r : S) {n m : Next} (fs : List Frame) (v : Result Bool JsonParseError) (old new : String Global) (us vs : List ℕ) (c d : ℕ) → Leads sight limit p n q m → Takes sight q (c ∷ []) r → IsNext n → IsNext m
@@ -33,7 +41,7 @@ module _ {S : Type 0} (sight : Sight S) (limit : Option ℕ) where
       let o : Next = next fs (quoted plain ((text old ++ decode us) ++ d ∷ []) []) in
       let e : within fs new vs done ≡ o = ap (within fs new vs) f.0 ∙ ap₂ (λ x y. next fs (quoted plain x y)) f.2 f.3 in
       Leads-one sight limit p q r c l t h (s ∙ ap (λ x. cond (not x) (stop InvalidUtf16 true) o) f.1 ∙ sym e) (subst IsTaken (sym e) tt)
-  Reads-add p q r fs (Err e) old new us vs c d l t i h s f = Refuses-fails p q r (next fs (quoted plain ((text old ++ decode us) ++ d ∷ []) [])) e (paired us) c l t i h s f
+  Reads-add p q r fs (Err e) old new us vs c d l t i h s f = Refuses-fails p q r (next fs (quoted plain ((text old ++ decode us) ++ d ∷ []) [])) e (paired us) c l t i h tt s f
 
 -- ---- hexadecimal digits
 
@@ -75,6 +83,13 @@ pub hex_done : (fs : List Frame) (cs us ds : List ℕ) (v : ℕ) → length ds �
 hex_done fs cs us ds v h e = rw (h, e) refl
 
 -- ---- a character within a string
+
+-- a string may stand wherever a value may
+pub quote_goes : (fs : List Frame) (cs : List ℕ) → IsNext (complete true fs (string cs) true)
+quote_goes [] cs = tt
+quote_goes (in_array ts ∷ fs) cs = tt
+quote_goes (at_key ms ∷ fs) cs = tt
+quote_goes (at_value ms k ∷ fs) cs = tt
 
 pub quote_read : (limit : Option ℕ) (fs : List Frame) (cs us : List ℕ) (c : ℕ) → c ≡ 34 → onward limit (next fs (quoted plain cs us)) c ≡ cond (not (paired us)) (stop InvalidUtf16 true) (complete true fs (string (cs ++ decode us)) true)
 unfolding step

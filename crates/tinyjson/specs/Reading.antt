@@ -88,13 +88,19 @@ module _ (limit : Option ℕ) where
   Comes n [] m rest = Same n m rest × (IsNext m → IsNext n)
   Comes n (c ∷ cs) m rest = IsNext n × IsTaken (onward n c) × Comes (onward n c) cs m rest
 
-  -- All of xs but at most its last character leads to no refusal.
+  -- nothing, or the character that ends a run with an unpaired surrogate
+  abbrev pub IsLate : Next → List ℕ → Type 0
+  IsLate n [] = ⊤
+  IsLate n (c ∷ []) = onward n c ≡ stop InvalidUtf16 true
+  IsLate n (c ∷ d ∷ ds) = ⊥
+
+  -- All of xs leads to no refusal, or its last character alone does, for an unpaired surrogate.
   pub record IsHeld (n : Next) (xs : List ℕ) : Type 0 where
     pub front : List ℕ
     pub late : List ℕ
     pub whole : xs ≡ front ++ late
-    pub short : length late ≤ 1
     pub goes : IsNext (behind n front)
+    pub ends : IsLate (behind n front) late
 
 module _ {S : Type 0} (sight : Sight S) (limit : Option ℕ) where
   -- A call took some characters from p and left q: the machine went from n to m.

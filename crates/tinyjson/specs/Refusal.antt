@@ -287,13 +287,14 @@ pub record IsRefusal (limit : Option ℕ) (kind : JsonParseErrorKind) (used rest
   pub not_too_soon : (c : ℕ) (more : List ℕ) → rest ≡ c ∷ more → ¬ IsFaultless limit (used ++ c ∷ [])
   pub not_too_late : IsNotTooLate limit used
 
--- Memory ran out: no more than where that may come, and nothing of what is left.
+-- Memory ran out: where that may come, and nothing of what is left.
 pub record IsInterrupted (limit : Option ℕ) (used : List ℕ) : Type 0 where
   -- no fault, then late characters, then perhaps one character more
   pub last : List ℕ
   pub short : length last ≤ 1
   pub place : IsPromptly limit used last
-  pub not_too_late : IsNotTooLate limit used
+  -- some list completes it to a text of the loose grammar
+  pub viable : IsLooselyViable limit used
 
 -- begins a string, a number or a container
 abbrev pub begins_growth : ℕ → Bool

@@ -182,7 +182,7 @@ last_of (x ∷ xs) = inr (⊎_elim (λ e. ([], x, ap (λ ys. x ∷ ys) e)) (λ f
 
 -- without its last character the consumed list is viable in the loose grammar, whatever the kind
 one-before : (limit : Option ℕ) (k : JsonParseErrorKind) (used rest : List ℕ) → RefusalSays limit k used rest → (front : List ℕ) (c : ℕ) → used ≡ front ++ c ∷ [] → IsLooselyViable limit front
-one-before limit kind.OutOfMemory used rest r = r.0.not_too_late
+one-before limit kind.OutOfMemory used rest r = λ front c e. viable-before (IsLoose limit) front (c ∷ []) (subst (IsLooselyViable limit) e r.0.viable)
 one-before limit k used rest r = r.not_too_late
 
 pub refused_not_too_late : RefusedNotTooLate

@@ -255,3 +255,16 @@ memory_for_true used rest e r = grows-not 116 (codes "rue") refl refl (subst May
 
 memory_for_a_wrong_character : (used rest : List ℕ) → used ++ rest ≡ codes "x" → ¬ RefusalSays None error.OutOfMemory used rest
 memory_for_a_wrong_character used rest e r = grows-not 120 [] refl refl (subst MayGrow e r.1)
+
+-- no memory is needed behind a character that no text of the loose grammar has there
+memory_behind_a_text : ¬ RefusalSays None error.OutOfMemory (codes "[1]x") []
+unfolding run step end value power_fits
+memory_behind_a_text r =
+    let right : IsRefusal None (error.ExpectedEof 120) (codes "[1]x") [] = refusal-of refl refl in
+    right.place.1 r.0.viable
+
+memory_at_a_wrong_bracket : ¬ RefusalSays None error.OutOfMemory (codes "[1}") (codes "]")
+unfolding run step end value power_fits
+memory_at_a_wrong_bracket r =
+    let right : IsRefusal None (error.ExpectedCommaOrBracket 125) (codes "[1}") (codes "]") = refusal-of refl refl in
+    right.place.1 r.0.viable

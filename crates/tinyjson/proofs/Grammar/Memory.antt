@@ -1,14 +1,15 @@
--- A refusal for want of memory: wherever the machine stands, and one character further.
-use Rattle.std.proofs.Common.{◌≡◌, ℕ, suc, List, [], ◌∷◌, ◌++◌, Option, Some, ap, sym, ◌∙◌, subst, append_assoc, append-nil, arith}
+-- Memory runs out: wherever the machine stands, and behind the character that ends a run with an unpaired surrogate.
+use Rattle.std.proofs.Common.{◌≡◌, ℕ, suc, true, List, [], ◌∷◌, ◌++◌, Option, Some, sym, subst, append_assoc, append-nil, arith}
 use Rattle.std.specs.Prelude.{All}
 use Rattle.std.specs.Char.{IsScalar}
 use Rattle.tinyjson.specs.Machine.{strictly}
 use Rattle.tinyjson.specs.Machine.{Frame, Phase, State, Next, next, stop, awaited, step, reach, reach_on}
 use Rattle.tinyjson.specs.Refusal.{IsPromptly, IsInterrupted}
+use Rattle.tinyjson.specs.declared.parser.error.JsonParseErrorKind.TheVariants.{InvalidUtf16}
 use Rattle.tinyjson.proofs.Grammar.Spelt.{Ranges, Spells}
 use Rattle.tinyjson.proofs.Grammar.Viable.{read-prompt}
 use Rattle.tinyjson.proofs.Grammar.Told.{Follows}
-use Rattle.tinyjson.proofs.Grammar.Sound.{step-spells, start-spells, spells-viable, late-one, late-none}
+use Rattle.tinyjson.proofs.Grammar.Sound.{step-spells, start-spells, spells-viable}
 
 pub spells-prompt : Ranges → (limit : Option ℕ) (used : List ℕ) (fs : List Frame) (q : Phase) → Spells limit used fs q → IsPromptly limit used []
 spells-prompt ranges limit used fs q s = rw s.whole (read-prompt ranges limit s.read s.is)
@@ -31,16 +32,12 @@ reach-spells ranges limit (c ∷ cs) h used fs q i s e =
 pub interrupted : Ranges → (limit : Option ℕ) (used : List ℕ) → All IsScalar used → (s : State) → reach (strictly limit) [] awaited used ≡ Some s → IsInterrupted limit used
 interrupted ranges limit used h s e =
     let i : Spells limit used s.frames s.phase = reach-spells ranges limit used h [] [] awaited (start-spells limit) s e in
-    record { last = []; short = omega arith; place = spells-prompt ranges limit used s.frames s.phase i; not_too_late = late-none limit used (spells-viable limit used s.frames s.phase i) }
+    record { last = []; short = omega arith; place = spells-prompt ranges limit used s.frames s.phase i; viable = spells-viable limit used s.frames s.phase i }
 
-pub interrupted-late : Ranges → (limit : Option ℕ) (used : List ℕ) → All IsScalar used → (s : State) → reach (strictly limit) [] awaited used ≡ Some s → (c : ℕ) → IsInterrupted limit (used ++ c ∷ [])
-interrupted-late ranges limit used h s e c =
+pub interrupted-late : Ranges → (limit : Option ℕ) (used : List ℕ) → All IsScalar used → (s : State) → reach (strictly limit) [] awaited used ≡ Some s
+    → (c : ℕ) → IsScalar c → step (strictly limit) s.frames s.phase c ≡ stop InvalidUtf16 true → IsInterrupted limit (used ++ c ∷ [])
+interrupted-late ranges limit used h s e c hc k =
     let i : Spells limit used s.frames s.phase = reach-spells ranges limit used h [] [] awaited (start-spells limit) s e in
-    let p : IsPromptly limit used [] = spells-prompt ranges limit used s.frames s.phase i in
-    let whole : used ++ c ∷ [] ≡ p.front ++ (p.late ++ c ∷ []) = ap (λ xs. xs ++ c ∷ []) p.whole ∙ (ap (λ xs. (p.front ++ xs) ++ c ∷ []) (append-nil p.late) ∙ append_assoc p.front p.late (c ∷ [])) in
-    record {
-      last = c ∷ [];
-      short = omega arith;
-      place = record { front = p.front; late = p.late; whole = whole; faultless = p.faultless; are_late = p.are_late };
-      not_too_late = late-one limit used c (spells-viable limit used s.frames s.phase i);
-    }
+    let f : Follows limit used s.frames s.phase c (stop InvalidUtf16 true) = subst (Follows limit used s.frames s.phase c) k (step-spells ranges limit used s.frames s.phase i c hc) in
+    let p = (f.0 []).1 in
+    record { last = p.0.0 ∷ []; short = omega arith; place = p.0.1; viable = p.1 }

@@ -6,7 +6,7 @@ use Rattle.tinyjson.specs.Characters.{decode}
 use Rattle.tinyjson.specs.declared.parser.error.JsonParseErrorKind.TheVariants.{UnexpectedEof, ControlCharacter}
 use Rattle.tinyjson.specs.Machine.{complete}
 use Rattle.tinyjson.proofs.Readings.{end_quoted, Leads-nil, Leads-one, Leads-none, Refuses-as, Reads-after, taken_complete}
-use Rattle.tinyjson.proofs.StringReading.{Refuses-fails, Reads-add, quote_whole, quote_read, backslash_read, control_read, plain_read}
+use Rattle.tinyjson.proofs.StringReading.{Refuses-fails, Reads-add, quote_goes, quote_whole, quote_read, backslash_read, control_read, plain_read}
 use Rattle.tinyjson.proofs.parser.reader.Reader.piece.Goals as goal
 
 pub returns-in_default-clause-reads : goal.returns-in_default-clause-reads
@@ -20,7 +20,7 @@ returns-in_err-flush-in-34-clause-reads g c = λ limit fs.
     let sight = g.S.Source.sight in
     let p = err_from_is_err_and c.from_residual.result c.from_residual.ensures.1 in
     rw (p.1, p.2)
-    (Refuses-fails sight limit _ _ _ (complete true fs (string (text c.args.string.now ++ decode c.args.units.now.items)) true) _ _ c.in-Some.c (Leads-nil sight limit _ _) c.in-Some.ensures.takes tt tt
+    (Refuses-fails sight limit _ _ _ (complete true fs (string (text c.args.string.now ++ decode c.args.units.now.items)) true) _ _ c.in-Some.c (Leads-nil sight limit _ _) c.in-Some.ensures.takes tt tt (quote_goes fs _)
     (quote_read limit fs (text c.args.string.now) c.args.units.now.items c.in-Some.c c.in-34.is) c.in_err-flush-in-34.ensures)
 
 pub returns-in_ok-flush-in-34-clause-reads : goal.returns-in_ok-flush-in-34-clause-reads
