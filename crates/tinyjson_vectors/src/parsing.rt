@@ -1,6 +1,7 @@
 //! Texts that are read, and texts that are refused.
 
 mod again;
+mod ahead;
 mod cuts;
 mod depth;
 mod long;

@@ -1,0 +1,38 @@
+//! How far the parser looks ahead.
+
+use std::test::Fail;
+use tinyjson::JsonParser;
+
+/// A text that is refused, and which of its characters the iterator was not asked for by then.
+const ROWS: &[(&str, &str)] = &[
+    ("x1", "1"),
+    ("[1,] ", " "),
+    ("[1 2]", "]"),
+    ("{\"a\" 1}", "}"),
+    ("{true :1}", " :1}"),
+    ("{1 :1}", ":1}"),
+    ("1.xy", "y"),
+    ("trux true", " true"),
+    ("\"\\q\" 1", "\" 1"),
+    ("\"\\ud800x\"", "\""),
+];
+
+#[test]
+fn asks_for_what_it_needs(rt: HostRuntime) -> Result<(), Fail> {
+    for &(text, unasked) in ROWS {
+        let mut characters = text.chars();
+        let mut parser = JsonParser::new(rt.alloc(), &mut characters);
+        assert!(rt; parser.parse().is_err(), "{text}");
+        drop(parser);
+        assert_eq!(rt; characters.as_str(), unasked, "{text}");
+    }
+    Ok(())
+}
+
+#[test]
+fn asks_for_nothing_at_first(rt: HostRuntime) -> Result<(), Fail> {
+    let mut characters = "null".chars();
+    drop(JsonParser::new(rt.alloc(), &mut characters));
+    assert_eq!(rt; characters.as_str(), "null");
+    Ok(())
+}
