@@ -22,6 +22,7 @@ pub mod Equality
 pub mod Copies
 pub mod Index
 pub mod Writing
+pub mod Sending
 pub mod Sorted
 pub mod Encoded
 pub mod Scans

@@ -7,19 +7,16 @@ use Rattle.tinyjson.specs.declared.value.JsonValue.{JsonValue}
 use Rattle.tinyjson.specs.declared.generator.pending.Frame.{Frame}
 use Rattle.tinyjson.specs.declared.generator.pending.Frame.TheVariants.{Items, Member, Members}
 use Rattle.tinyjson.specs.declared.generator.pending.Stack.{Stack}
-use Rattle.tinyjson.specs.Written.{Written, WrittenPart, WritesPrefix}
+use Rattle.tinyjson.specs.Room.{Output, Sent, SentPart, Sends}
 use Rattle.tinyjson.specs.Text.{text, items_text, members_text, before, newline, closing, has_no_items, has_no_members}
 use Rattle.tinyjson.specs.Tree.{Members as Entries, array, object, member, no_members}
 use Rattle.tinyjson.specs.View.{view, items_view, members_view}
 use Rattle.tinyjson.specs.Sorted.{sorted_view}
 use Rattle.tinyjson.specs.Pending.{Gathered, frame_text, others, owed, frames, IsStack, Opened, Finished, Begins, Advanced, Advances}
-use Rattle.tinyjson.proofs.Writing.{goes, stop, stops, written_more, written_none}
+use Rattle.tinyjson.proofs.Sending.{goes, stop, stops, written_more, written_none}
 use Rattle.tinyjson.proofs.Encoded.{enc, enc_cons, closed}
 use Rattle.tinyjson.proofs.Sorted.{Entry}
 use Rattle.tinyjson.proofs.Texts.{member_text, some_members}
-
-abbrev Known : Type 0
-Known = Option (List ℕ)
 
 -- ---- lists
 
@@ -32,7 +29,7 @@ encoded_first b t r = encodes-append (b ++ t) r ∙ ap (λ v. v ++ enc r) (encod
 bracket_first : (n : List ℕ) (b : ℕ) (o : List ℕ) → b < 128 → enc ((n ++ b ∷ []) ++ o) ≡ enc n ++ (b ∷ [] ++ enc o)
 bracket_first n b o h = encodes-append (n ++ b ∷ []) o ∙ ap (λ v. v ++ enc o) (closed n b h) ∙ append_assoc (enc n) (b ∷ []) (enc o)
 
-shorter : {old mid : Known} {bytes : List ℕ} (piece left rest : List ℕ) → Written old mid bytes (piece ++ rest) → length left < length piece → length (left ++ rest) < length bytes
+shorter : {old mid : Output} {bytes : List ℕ} (piece left rest : List ℕ) → Sent old mid bytes (piece ++ rest) → length left < length piece → length (left ++ rest) < length bytes
 shorter {old} {mid} {bytes} piece left rest h less =
     let e = ap length h.split in
     let a = length-append h.done (piece ++ rest) in
@@ -40,7 +37,7 @@ shorter {old} {mid} {bytes} piece left rest h less =
     let c = length-append left rest in
     omega (arith, e, a, b, c)
 
-module _ (w : Known) where
+module _ (w : Option (List ℕ)) where
   -- ---- a container begins
 
   pub array_begins : (k : ℕ) (rest : Bor (List JsonValue)) (gs : List Gathered) → has_no_items (items_view rest.now) ≡ false
@@ -55,8 +52,8 @@ module _ (w : Known) where
       let its = members_text w (k + 1) true ms in
       ap (λ b. enc (123 ∷ (its ++ closing w k b 125))) e ∙ enc_cons 123 (its ++ (newline w k ++ 125 ∷ [])) (omega arith)
 
-  pub opened : {old new : Known} {bytes : List ℕ} (bracket k : ℕ) (f : Frame) (gs hs : List Gathered)
-      → bytes ≡ bracket ∷ [] ++ enc (frame_text w k f hs) → others f hs ≡ gs → Written old new (bracket ∷ []) [] → Opened w k old new bytes gs f hs
+  pub opened : {old new : Output} {bytes : List ℕ} (bracket k : ℕ) (f : Frame) (gs hs : List Gathered)
+      → bytes ≡ bracket ∷ [] ++ enc (frame_text w k f hs) → others f hs ≡ gs → Sent old new (bracket ∷ []) [] → Opened w k old new bytes gs f hs
   opened {old} {new} {bytes} bracket k f gs hs e o h =
       let n = ap length e in
       record { written = goes {piece = bracket ∷ []} (enc (frame_text w k f hs)) h (written_none old bytes _ e); outside = o; less = omega (arith, n) }
@@ -115,9 +112,9 @@ module _ (w : Known) where
   -- ---- what the stack owes then
 
   -- a container was begun inside the outer one
-  pub advanced_open : {old mid new : Known} {bytes piece : List ℕ} (fs : List Frame) (gs₀ gs hs : List Gathered) (level : ℕ) (f g : Frame) (s₀ s₂ : Stack)
+  pub advanced_open : {old mid new : Output} {bytes piece : List ℕ} (fs : List Frame) (gs₀ gs hs : List Gathered) (level : ℕ) (f g : Frame) (s₀ s₂ : Stack)
       → bytes ≡ enc (owed w fs gs₀) → IsStack s₂ → frames s₂ ≡ f ∷ g ∷ frames s₀ → level ≡ length (frames s₀) + 1
-      → Opened w level mid new piece gs f hs → Written old mid bytes (piece ++ enc (owed w (g ∷ frames s₀) gs)) → Advanced w old new fs gs₀ s₂ hs
+      → Opened w level mid new piece gs f hs → Sent old mid bytes (piece ++ enc (owed w (g ∷ frames s₀) gs)) → Advanced w old new fs gs₀ s₂ hs
   advanced_open {old} {mid} {new} {bytes} {piece} fs gs₀ gs hs level f g s₀ s₂ whole is e l o h =
       let rest = enc (owed w (g ∷ frames s₀) gs) in
       let same : enc (frame_text w level f hs) ++ rest ≡ enc (owed w (frames s₂) hs) =
@@ -127,24 +124,24 @@ module _ (w : Known) where
       ∙ ap (λ zs. enc (owed w zs hs)) (sym e) in
       record {
         stack = is;
-        written = subst (λ b. Written old new b (enc (owed w (frames s₂) hs))) whole (subst (Written old new bytes) same (written_more rest h o.written));
+        written = subst (λ b. Sent old new b (enc (owed w (frames s₂) hs))) whole (subst (Sent old new bytes) same (written_more rest h o.written));
         less = subst (λ b. length (enc (owed w (frames s₂) hs)) < length b) whole (subst (λ r. length r < length bytes) same (shorter piece (enc (frame_text w level f hs)) rest h o.less));
       }
 
   -- or the stack had no memory for it
-  pub stopped_open : {old mid new : Known} {bytes piece : List ℕ} (gs hs : List Gathered) (level : ℕ) (f : Frame) (rest : List ℕ)
-      → Opened w level mid new piece gs f hs → Written old mid bytes (piece ++ rest) → WrittenPart old new bytes
+  pub stopped_open : {old mid new : Output} {bytes piece : List ℕ} (gs hs : List Gathered) (level : ℕ) (f : Frame) (rest : List ℕ)
+      → Opened w level mid new piece gs f hs → Sent old mid bytes (piece ++ rest) → SentPart old new bytes
   stopped_open gs hs level f rest o h = stop (written_more rest h o.written)
 
-  closed_rest : {old mid : Known} {bytes : List ℕ} (fs₁ : List Frame) (gs₁ hs : List Gathered) (line : List ℕ) (bracket : ℕ) (s : Stack) → frames s ≡ fs₁ → hs ≡ gs₁
-      → Written old mid bytes (line ++ (bracket ∷ [] ++ enc (owed w fs₁ gs₁))) → Written old mid bytes ((line ++ bracket ∷ []) ++ enc (owed w (frames s) hs))
+  closed_rest : {old mid : Output} {bytes : List ℕ} (fs₁ : List Frame) (gs₁ hs : List Gathered) (line : List ℕ) (bracket : ℕ) (s : Stack) → frames s ≡ fs₁ → hs ≡ gs₁
+      → Sent old mid bytes (line ++ (bracket ∷ [] ++ enc (owed w fs₁ gs₁))) → Sent old mid bytes ((line ++ bracket ∷ []) ++ enc (owed w (frames s) hs))
   closed_rest {old} {mid} {bytes} fs₁ gs₁ hs line bracket s ef eg h =
       let e : enc (owed w fs₁ gs₁) ≡ enc (owed w (frames s) hs) = ap (λ z. enc (owed w z gs₁)) (sym ef) ∙ ap (λ z. enc (owed w (frames s) z)) (sym eg) in
-      rw (append_assoc line (bracket ∷ []) (enc (owed w (frames s) hs))) (subst (λ z. Written old mid bytes (line ++ (bracket ∷ [] ++ z))) e h)
+      rw (append_assoc line (bracket ∷ []) (enc (owed w (frames s) hs))) (subst (λ z. Sent old mid bytes (line ++ (bracket ∷ [] ++ z))) e h)
 
   -- the container was closed, where `line` stands before its bracket
-  pub closes : {E : Type 0} (old mid new : Known) (fs fs₁ : List Frame) (gs gs₁ hs : List Gathered) (line : List ℕ) (bracket : ℕ) (s : Stack) (r : Result (Unit {0}) E) → IsStack s → frames s ≡ fs₁ → hs ≡ gs₁
-      → WritesPrefix mid new (line ++ bracket ∷ []) r → Written old mid (enc (owed w fs gs)) (line ++ (bracket ∷ [] ++ enc (owed w fs₁ gs₁))) → Advances w old new fs gs r s hs
+  pub closes : {E : Type 0} (old mid new : Output) (fs fs₁ : List Frame) (gs gs₁ hs : List Gathered) (line : List ℕ) (bracket : ℕ) (s : Stack) (r : Result (Unit {0}) E) → IsStack s → frames s ≡ fs₁ → hs ≡ gs₁
+      → Sends mid new (line ++ bracket ∷ []) r → Sent old mid (enc (owed w fs gs)) (line ++ (bracket ∷ [] ++ enc (owed w fs₁ gs₁))) → Advances w old new fs gs r s hs
   closes old mid new fs fs₁ gs gs₁ hs line bracket s (Ok u) is ef eg k h =
       let rest = enc (owed w (frames s) hs) in
       let whole = closed_rest fs₁ gs₁ hs line bracket s ef eg h in
@@ -153,14 +150,14 @@ module _ (w : Known) where
 
   -- ---- what begins behind what was written
 
-  pub begins_behind : {E : Type 0} (k : ℕ) (old mid new : Known) (bytes piece : List ℕ) (gs hs : List Gathered) (r : Result (Option Frame) E)
-      → Written old mid bytes piece → Begins w k mid new piece gs r hs → Begins w k old new bytes gs r hs
+  pub begins_behind : {E : Type 0} (k : ℕ) (old mid new : Output) (bytes piece : List ℕ) (gs hs : List Gathered) (r : Result (Option Frame) E)
+      → Sent old mid bytes piece → Begins w k mid new piece gs r hs → Begins w k old new bytes gs r hs
   begins_behind k old mid new bytes piece gs hs (Err e) h b = stops {piece = piece} [] b (rw append-nil h)
   begins_behind k old mid new bytes piece gs hs (Ok None) h b = record { written = goes {piece = piece} [] b.written (rw append-nil h); outside = b.outside }
   begins_behind k old mid new bytes piece gs hs (Ok (Some f)) h b =
       let n = ap length h.split in
       let rest = enc (frame_text w k f hs) in
-      record { written = subst (Written old new bytes) (append-nil rest) (written_more {piece = piece} [] (rw append-nil h) b.written); outside = b.outside; less = omega (arith, n, length-append h.done piece, b.less) }
+      record { written = subst (Sent old new bytes) (append-nil rest) (written_more {piece = piece} [] (rw append-nil h) b.written); outside = b.outside; less = omega (arith, n, length-append h.done piece, b.less) }
 
   -- ---- objects
 
@@ -168,19 +165,25 @@ module _ (w : Known) where
       → enc (text w k (object (members_view es))) ≡ 123 ∷ [] ++ enc (members_text w (k + 1) true (members_view es) ++ (newline w k ++ 125 ∷ []))
   object_start k es h = object_begins k (members_view es) (some_members es false (λ z. absurd (omega arith)) refl)
 
-  pub object_stops : {old new : Known} (k : ℕ) (es : List Entry) → 0 < length es → WrittenPart old new (123 ∷ []) → WrittenPart old new (enc (text w k (object (members_view es))))
+  pub object_stops : {old new : Output} (k : ℕ) (es : List Entry) → 0 < length es → SentPart old new (123 ∷ []) → SentPart old new (enc (text w k (object (members_view es))))
   object_stops {old} k es h p = stops {piece = 123 ∷ []} _ p (written_none old _ _ (object_start k es h))
 
-  pub members_open : {old new : Known} (k n : ℕ) (es : List Entry) (gs hs : List Gathered) → 0 < length es → n ≡ length es → sorted_view (take (length es) hs) ≡ members_view es → drop (length es) hs ≡ gs
-      → Written old new (123 ∷ []) [] → Opened w k old new (enc (text w k (object (members_view es)))) gs (Members n true) hs
+  -- or its members were not gathered
+  pub object_ungathered : {old new : Output} (k : ℕ) (es : List Entry) → 0 < length es → Sent old new (123 ∷ []) [] → SentPart old new (enc (text w k (object (members_view es))))
+  object_ungathered {old} k es some h =
+      let rest = enc (members_text w (k + 1) true (members_view es) ++ (newline w k ++ 125 ∷ [])) in
+      stop (goes {piece = 123 ∷ []} rest h (written_none old _ _ (object_start k es some)))
+
+  pub members_open : {old new : Output} (k n : ℕ) (es : List Entry) (gs hs : List Gathered) → 0 < length es → n ≡ length es → sorted_view (take (length es) hs) ≡ members_view es → drop (length es) hs ≡ gs
+      → Sent old new (123 ∷ []) [] → Opened w k old new (enc (text w k (object (members_view es)))) gs (Members n true) hs
   members_open k n es gs hs some is seen outside h =
       opened 123 k (Members n true) gs hs
       (object_start k es some ∙ ap (λ ms. 123 ∷ [] ++ enc (members_text w (k + 1) true ms ++ (newline w k ++ 125 ∷ []))) (sym seen ∙ ap (λ m. sorted_view (take m hs)) (sym is)))
       (ap (λ m. drop m hs) is ∙ outside) h
 
-  pub member_opens : {old new : Known} (k : ℕ) (es rest : List Entry) (e : Entry) (gs : List Gathered) (key : Bor (List ℕ)) (value : Bor JsonValue) → es ≡ e ∷ rest → length es < 2
+  pub member_opens : {old new : Output} (k : ℕ) (es rest : List Entry) (e : Entry) (gs : List Gathered) (key : Bor (List ℕ)) (value : Bor JsonValue) → es ≡ e ∷ rest → length es < 2
       → key.now ≡ string_bytes e.0 → value.now ≡ e.1
-      → Written old new (123 ∷ []) [] → Opened w k old new (enc (text w k (object (members_view es)))) gs (Member key value) gs
+      → Sent old new (123 ∷ []) [] → Opened w k old new (enc (text w k (object (members_view es)))) gs (Member key value) gs
   member_opens k es (f ∷ rest) e gs key value is n a b h = absurd (let m = ap length is in omega arith)
   member_opens k es [] e gs key value is n a b h =
       let m = ap length is in

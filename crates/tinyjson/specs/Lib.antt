@@ -25,6 +25,7 @@ pub mod Parser
 pub mod Written
 pub mod Sorted
 pub mod Scan
+pub mod Room
 pub mod Pending
 pub mod Indent
 pub mod Generator

@@ -6,7 +6,7 @@ use Rattle.tinyjson.specs.Tree.{member, no_members}
 use Rattle.tinyjson.specs.View.{view, items_view}
 use Rattle.tinyjson.specs.Text.{items_text, members_text, newline}
 use Rattle.tinyjson.specs.Sorted.{sorted_view}
-use Rattle.tinyjson.specs.Written.{Written, WrittenPart}
+use Rattle.tinyjson.specs.Room.{Output, Sent, SentPart}
 use Rattle.tinyjson.specs.declared.value.JsonValue.{JsonValue}
 use Rattle.tinyjson.specs.declared.generator.pending.Frame.{Frame}
 use Rattle.tinyjson.specs.declared.generator.pending.Frame.TheVariants.{Items, Member, Members}
@@ -44,26 +44,26 @@ module _ (w : Option (List ℕ)) where
   owed [] gs = []
   owed (f ∷ fs) gs = frame_text (length fs) f gs ++ owed fs (others f gs)
 
--- a container is begun: its bracket and what stands before it are written, and the frame is what it owes
-pub record Opened (w : Option (List ℕ)) (k : ℕ) (old new : Option (List ℕ)) (bytes : List ℕ) (gs : List Gathered) (f : Frame) (hs : List Gathered) : Type 0 where
-  pub written : Written old new bytes (encode_utf8_all (frame_text w k f hs))
+-- a container is begun: its bracket and what stands before it are sent, and the frame is what it owes
+pub record Opened (w : Option (List ℕ)) (k : ℕ) (old new : Output) (bytes : List ℕ) (gs : List Gathered) (f : Frame) (hs : List Gathered) : Type 0 where
+  pub written : Sent old new bytes (encode_utf8_all (frame_text w k f hs))
   pub outside : others f hs ≡ gs
   pub less : length (encode_utf8_all (frame_text w k f hs)) < length bytes
 
--- a value with no container that is left open is written
-pub record Finished (old new : Option (List ℕ)) (bytes : List ℕ) (gs hs : List Gathered) : Type 0 where
-  pub written : Written old new bytes []
+-- a value with no container that is left open is sent
+pub record Finished (old new : Output) (bytes : List ℕ) (gs hs : List Gathered) : Type 0 where
+  pub written : Sent old new bytes []
   pub outside : hs ≡ gs
 
--- of the bytes all is written but what the frame at the level k owes, where there is one; or, on an error, a prefix
-abbrev pub Begins : {E : Type 0} → Option (List ℕ) → ℕ → Option (List ℕ) → Option (List ℕ) → List ℕ → List Gathered → Result (Option Frame) E → List Gathered → Type 0
-Begins w k old new bytes gs result hs = MatchResult result (λ o. MatchOption o (Finished old new bytes gs hs) (λ f. Opened w k old new bytes gs f hs)) (λ _. WrittenPart old new bytes)
+-- of the bytes all is sent but what the frame at the level k owes, where there is one; or, on an error, a prefix
+abbrev pub Begins : {E : Type 0} → Option (List ℕ) → ℕ → Output → Output → List ℕ → List Gathered → Result (Option Frame) E → List Gathered → Type 0
+Begins w k old new bytes gs result hs = MatchResult result (λ o. MatchOption o (Finished old new bytes gs hs) (λ f. Opened w k old new bytes gs f hs)) (λ _. SentPart old new bytes)
 
--- of what the frames owe all is written but what the stack owes now, which is less
-pub record Advanced (w : Option (List ℕ)) (old new : Option (List ℕ)) (fs : List Frame) (gs : List Gathered) (s : Stack) (hs : List Gathered) : Type 0 where
+-- of what the frames owe all is sent but what the stack owes now, which is less
+pub record Advanced (w : Option (List ℕ)) (old new : Output) (fs : List Frame) (gs : List Gathered) (s : Stack) (hs : List Gathered) : Type 0 where
   pub stack : IsStack s
-  pub written : Written old new (encode_utf8_all (owed w fs gs)) (encode_utf8_all (owed w (frames s) hs))
+  pub written : Sent old new (encode_utf8_all (owed w fs gs)) (encode_utf8_all (owed w (frames s) hs))
   pub less : length (encode_utf8_all (owed w (frames s) hs)) < length (encode_utf8_all (owed w fs gs))
 
-abbrev pub Advances : {T E : Type 0} → Option (List ℕ) → Option (List ℕ) → Option (List ℕ) → List Frame → List Gathered → Result T E → Stack → List Gathered → Type 0
-Advances w old new fs gs result s hs = MatchResult result (λ _. Advanced w old new fs gs s hs) (λ _. WrittenPart old new (encode_utf8_all (owed w fs gs)))
+abbrev pub Advances : {T E : Type 0} → Option (List ℕ) → Output → Output → List Frame → List Gathered → Result T E → Stack → List Gathered → Type 0
+Advances w old new fs gs result s hs = MatchResult result (λ _. Advanced w old new fs gs s hs) (λ _. SentPart old new (encode_utf8_all (owed w fs gs)))

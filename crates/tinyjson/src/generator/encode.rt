@@ -6,11 +6,12 @@ ghost use Rattle.tinyjson.specs.Pending.{Gathered, IsStack, frames, owed, Advanc
 ghost use Rattle.tinyjson.specs.Text.{text, quoted, before, newline, after_colon};
 ghost use Rattle.tinyjson.specs.Tree.{array, object, boolean as boolean_tree};
 ghost use Rattle.tinyjson.specs.View.{view, items_view, members_view};
-ghost use Rattle.tinyjson.specs.Written.{WritesPrefix, WritesText};
+ghost use Rattle.tinyjson.specs.Room.{waiting, Sends, SendsText};
+ghost use Rattle.tinyjson.specs.Written.{WritesText};
 ghost use Rattle.tinyjson.specs.declared.generator.pending.Frame.TheVariants.{Items, Member, Members};
 
 use super::number::write_number;
-use super::output::write_bytes;
+use super::output::{Room, flush, write_bytes};
 use super::pending::{Frame, Stack};
 use super::quote::quote;
 use super::sorted::{gather_sorted, next_member};
@@ -32,27 +33,39 @@ impl Encoder<'_> {
         ensures { WritesText (W.contents out.old) (W.contents out.new)
             (text (indent_of self.now.indent) 0 (view value.now)) result }
     {
+        let mut room = Room::new();
+        self.value(out, &mut room, value)?;
+        flush(out, &mut room)
+    }
+
+    fn value<W: Write>(&self, out: &mut W, room: &mut Room, value: &JsonValue) -> io::Result<()>
+        ensures { SendsText
+            (W.contents out.old, waiting room.old) (W.contents out.new, waiting room.new)
+            (text (indent_of self.now.indent) 0 (view value.now)) result }
+    {
         let mut gathered = Vec::new(self.alloc);
-        match begin(out, &mut gathered, value)? {
+        match begin(out, room, &mut gathered, value)? {
             None => Ok(()),
-            Some(frame) => self.finish(out, gathered, frame),
+            Some(frame) => self.finish(out, room, gathered, frame),
         }
     }
 
     fn finish<'a, W: Write>(
         &self,
         out: &mut W,
+        room: &mut Room,
         gathered: Vec<(&'a str, &'a JsonValue)>,
         frame: Frame<'a>,
     ) -> io::Result<()>
-        ensures { WritesText (W.contents out.old) (W.contents out.new)
+        ensures { SendsText
+            (W.contents out.old, waiting room.old) (W.contents out.new, waiting room.new)
             (owed (indent_of self.now.indent) (frame.entry ∷ []) (reverse gathered.entry.items)) result }
     {
         let mut gathered = gathered;
         let mut stack = Stack::new(self.alloc);
         stack.push(frame)?;
         while let Some((frame, level)) = stack.pop() {
-            self.resume(out, &mut stack, &mut gathered, frame, level)?;
+            self.resume(out, room, &mut stack, &mut gathered, frame, level)?;
         }
         Ok(())
     }
@@ -61,6 +74,7 @@ impl Encoder<'_> {
     fn resume<'a, W: Write>(
         &self,
         out: &mut W,
+        room: &mut Room,
         stack: &mut Stack<'a>,
         gathered: &mut Vec<(&'a str, &'a JsonValue)>,
         frame: Frame<'a>,
@@ -68,16 +82,19 @@ impl Encoder<'_> {
     ) -> io::Result<()>
         requires stack { IsStack stack.old }
         requires level { level ≡ length (frames stack.old) + 1 }
-        ensures { Advances (indent_of self.now.indent) (W.contents out.old) (W.contents out.new)
+        ensures { Advances (indent_of self.now.indent)
+            (W.contents out.old, waiting room.old) (W.contents out.new, waiting room.new)
             (frame.entry ∷ frames stack.old) (reverse gathered.old.items) result stack.new (reverse gathered.new.items) }
     {
         match frame {
-            Frame::Items { rest, first } => self.items(out, stack, gathered, rest, first, level),
+            Frame::Items { rest, first } => self.items(
+                out, room, stack, gathered, rest, first, level,
+            ),
             Frame::Member { key, value } => self.only_member(
-                out, stack, gathered, key, value, level,
+                out, room, stack, gathered, key, value, level,
             ),
             Frame::Members { left, first } => self.members(
-                out, stack, gathered, left, first, level,
+                out, room, stack, gathered, left, first, level,
             ),
         }
     }
@@ -85,6 +102,7 @@ impl Encoder<'_> {
     fn only_member<'a, W: Write>(
         &self,
         out: &mut W,
+        room: &mut Room,
         stack: &mut Stack<'a>,
         gathered: &mut Vec<(&'a str, &'a JsonValue)>,
         key: &'a str,
@@ -93,10 +111,11 @@ impl Encoder<'_> {
     ) -> io::Result<()>
         requires stack { IsStack stack.old }
         requires level { level ≡ length (frames stack.old) + 1 }
-        ensures { Advances (indent_of self.now.indent) (W.contents out.old) (W.contents out.new)
+        ensures { Advances (indent_of self.now.indent)
+            (W.contents out.old, waiting room.old) (W.contents out.new, waiting room.new)
             (Member key.entry value.entry ∷ frames stack.old) (reverse gathered.old.items) result stack.new (reverse gathered.new.items) }
     {
-        let begun = self.member(out, gathered, key, value, level, true)?;
+        let begun = self.member(out, room, gathered, key, value, level, true)?;
         match begun {
             Some(inner) => {
                 let outer = Frame::Members {
@@ -105,13 +124,14 @@ impl Encoder<'_> {
                 };
                 Ok(stack.enter(outer, inner)?)
             }
-            None => self.close(out, level, b"}"),
+            None => self.close(out, room, level, b"}"),
         }
     }
 
     fn items<'a, W: Write>(
         &self,
         out: &mut W,
+        room: &mut Room,
         stack: &mut Stack<'a>,
         gathered: &mut Vec<(&'a str, &'a JsonValue)>,
         items: &'a [JsonValue],
@@ -120,13 +140,14 @@ impl Encoder<'_> {
     ) -> io::Result<()>
         requires stack { IsStack stack.old }
         requires level { level ≡ length (frames stack.old) + 1 }
-        ensures { Advances (indent_of self.now.indent) (W.contents out.old) (W.contents out.new)
+        ensures { Advances (indent_of self.now.indent)
+            (W.contents out.old, waiting room.old) (W.contents out.new, waiting room.new)
             (Items items.entry first ∷ frames stack.old) (reverse gathered.old.items) result stack.new (reverse gathered.new.items) }
     {
         let mut rest = items;
         let mut first = first;
         while let Some((item, others)) = rest.split_first() {
-            let begun = self.item(out, gathered, item, level, first)?;
+            let begun = self.item(out, room, gathered, item, level, first)?;
             rest = others;
             first = false;
             match begun {
@@ -134,12 +155,13 @@ impl Encoder<'_> {
                 None => {}
             }
         }
-        self.close(out, level, b"]")
+        self.close(out, room, level, b"]")
     }
 
     fn members<'a, W: Write>(
         &self,
         out: &mut W,
+        room: &mut Room,
         stack: &mut Stack<'a>,
         gathered: &mut Vec<(&'a str, &'a JsonValue)>,
         left: usize,
@@ -148,13 +170,14 @@ impl Encoder<'_> {
     ) -> io::Result<()>
         requires stack { IsStack stack.old }
         requires level { level ≡ length (frames stack.old) + 1 }
-        ensures { Advances (indent_of self.now.indent) (W.contents out.old) (W.contents out.new)
+        ensures { Advances (indent_of self.now.indent)
+            (W.contents out.old, waiting room.old) (W.contents out.new, waiting room.new)
             (Members left first ∷ frames stack.old) (reverse gathered.old.items) result stack.new (reverse gathered.new.items) }
     {
         let mut left = left;
         let mut first = first;
         while let Some((key, value)) = next_member(gathered, left) {
-            let begun = self.member(out, gathered, key, value, level, first)?;
+            let begun = self.member(out, room, gathered, key, value, level, first)?;
             left -= 1;
             first = false;
             match begun {
@@ -162,87 +185,107 @@ impl Encoder<'_> {
                 None => {}
             }
         }
-        self.close(out, level, b"}")
+        self.close(out, room, level, b"}")
     }
 
     // Writes the item, or how it begins, and what stands before it.
     fn item<'a, W: Write>(
         &self,
         out: &mut W,
+        room: &mut Room,
         gathered: &mut Vec<(&'a str, &'a JsonValue)>,
         value: &'a JsonValue,
         level: usize,
         first: bool,
     ) -> io::Result<Option<Frame<'a>>>
-        ensures { Begins (indent_of self.now.indent) level (W.contents out.old) (W.contents out.new)
+        ensures { Begins (indent_of self.now.indent) level
+            (W.contents out.old, waiting room.old) (W.contents out.new, waiting room.new)
             (encode_utf8_all (before (indent_of self.now.indent) level first)
             ++ encode_utf8_all (text (indent_of self.now.indent) level (view value.now)))
             (reverse gathered.old.items) result (reverse gathered.new.items) }
     {
-        self.separate(out, level, first)?;
-        begin(out, gathered, value)
+        self.separate(out, room, level, first)?;
+        begin(out, room, gathered, value)
     }
 
     // The same of a member.
     fn member<'a, W: Write>(
         &self,
         out: &mut W,
+        room: &mut Room,
         gathered: &mut Vec<(&'a str, &'a JsonValue)>,
         key: &'a str,
         value: &'a JsonValue,
         level: usize,
         first: bool,
     ) -> io::Result<Option<Frame<'a>>>
-        ensures { Begins (indent_of self.now.indent) level (W.contents out.old) (W.contents out.new)
+        ensures { Begins (indent_of self.now.indent) level
+            (W.contents out.old, waiting room.old) (W.contents out.new, waiting room.new)
             (encode_utf8_all (before (indent_of self.now.indent) level first)
             ++ encode_utf8_all (quoted (chars key.now) ++ (58 ∷ (after_colon (indent_of self.now.indent)
             ++ text (indent_of self.now.indent) level (view value.now)))))
             (reverse gathered.old.items) result (reverse gathered.new.items) }
     {
-        self.separate(out, level, first)?;
-        quote(out, key)?;
-        self.colon(out)?;
-        begin(out, gathered, value)
+        self.separate(out, room, level, first)?;
+        quote(out, room, key)?;
+        self.colon(out, room)?;
+        begin(out, room, gathered, value)
     }
 
     // Writes the bracket of a container whose items stand at the level.
-    fn close<W: Write>(&self, out: &mut W, level: usize, bracket: &[u8]) -> io::Result<()>
+    fn close<W: Write>(
+        &self,
+        out: &mut W,
+        room: &mut Room,
+        level: usize,
+        bracket: &[u8],
+    ) -> io::Result<()>
         requires { 0 < level }
-        ensures { WritesPrefix (W.contents out.old) (W.contents out.new)
+        ensures { Sends
+            (W.contents out.old, waiting room.old) (W.contents out.new, waiting room.new)
             (encode_utf8_all (newline (indent_of self.now.indent) (level - 1)) ++ bracket.now) result }
     {
-        self.newline(out, level - 1)?;
-        write_bytes(out, bracket)
+        self.newline(out, room, level - 1)?;
+        write_bytes(out, room, bracket)
     }
 
     // What stands before an item or a member.
-    fn separate<W: Write>(&self, out: &mut W, level: usize, first: bool) -> io::Result<()>
-        ensures { WritesText (W.contents out.old) (W.contents out.new)
+    fn separate<W: Write>(
+        &self,
+        out: &mut W,
+        room: &mut Room,
+        level: usize,
+        first: bool,
+    ) -> io::Result<()>
+        ensures { SendsText
+            (W.contents out.old, waiting room.old) (W.contents out.new, waiting room.new)
             (before (indent_of self.now.indent) level first) result }
     {
         if !first {
-            write_bytes(out, b",")?;
+            write_bytes(out, room, b",")?;
         }
-        self.newline(out, level)
+        self.newline(out, room, level)
     }
 
-    fn newline<W: Write>(&self, out: &mut W, level: usize) -> io::Result<()>
-        ensures { WritesText (W.contents out.old) (W.contents out.new)
+    fn newline<W: Write>(&self, out: &mut W, room: &mut Room, level: usize) -> io::Result<()>
+        ensures { SendsText
+            (W.contents out.old, waiting room.old) (W.contents out.new, waiting room.new)
             (newline (indent_of self.now.indent) level) result }
     {
         match self.indent {
             None => Ok(()),
-            Some(indent) => write_line(out, indent, level),
+            Some(indent) => write_line(out, room, indent, level),
         }
     }
 
-    fn colon<W: Write>(&self, out: &mut W) -> io::Result<()>
-        ensures { WritesText (W.contents out.old) (W.contents out.new)
+    fn colon<W: Write>(&self, out: &mut W, room: &mut Room) -> io::Result<()>
+        ensures { SendsText
+            (W.contents out.old, waiting room.old) (W.contents out.new, waiting room.new)
             (58 ∷ after_colon (indent_of self.now.indent)) result }
     {
         match self.indent {
-            None => write_bytes(out, b":"),
-            Some(_) => write_bytes(out, b": "),
+            None => write_bytes(out, room, b":"),
+            Some(_) => write_bytes(out, room, b": "),
         }
     }
 }
@@ -251,32 +294,39 @@ impl Encoder<'_> {
 // owe then.
 fn begin<'a, W: Write>(
     out: &mut W,
+    room: &mut Room,
     gathered: &mut Vec<(&'a str, &'a JsonValue)>,
     value: &'a JsonValue,
 ) -> io::Result<Option<Frame<'a>>>
-    ensures { (w : Option (List ℕ)) (k : ℕ) → Begins w k (W.contents out.old) (W.contents out.new)
+    ensures { (w : Option (List ℕ)) (k : ℕ) → Begins w k
+        (W.contents out.old, waiting room.old) (W.contents out.new, waiting room.new)
         (encode_utf8_all (text w k (view value.now))) (reverse gathered.old.items) result (reverse gathered.new.items) }
 {
     match value {
-        JsonValue::Null => write_bytes(out, b"null")?,
-        JsonValue::Boolean(value) => write_boolean(out, *value)?,
-        JsonValue::Number(number) => write_number(out, number)?,
-        JsonValue::String(text) => quote(out, text)?,
-        JsonValue::Array(items) => return begin_array(out, items),
-        JsonValue::Object(members) => return begin_object(out, gathered, members),
+        JsonValue::Null => write_bytes(out, room, b"null")?,
+        JsonValue::Boolean(value) => write_boolean(out, room, *value)?,
+        JsonValue::Number(number) => write_number(out, room, number)?,
+        JsonValue::String(text) => quote(out, room, text)?,
+        JsonValue::Array(items) => return begin_array(out, room, items),
+        JsonValue::Object(members) => return begin_object(out, room, gathered, members),
     }
     Ok(None)
 }
 
-fn begin_array<'a, W: Write>(out: &mut W, items: &'a [JsonValue]) -> io::Result<Option<Frame<'a>>>
-    ensures { (w : Option (List ℕ)) (k : ℕ) (gs : List Gathered) → Begins w k (W.contents out.old) (W.contents out.new)
+fn begin_array<'a, W: Write>(
+    out: &mut W,
+    room: &mut Room,
+    items: &'a [JsonValue],
+) -> io::Result<Option<Frame<'a>>>
+    ensures { (w : Option (List ℕ)) (k : ℕ) (gs : List Gathered) → Begins w k
+        (W.contents out.old, waiting room.old) (W.contents out.new, waiting room.new)
         (encode_utf8_all (text w k (array (items_view items.now)))) gs result gs }
 {
     if items.is_empty() {
-        write_bytes(out, b"[]")?;
+        write_bytes(out, room, b"[]")?;
         return Ok(None);
     }
-    write_bytes(out, b"[")?;
+    write_bytes(out, room, b"[")?;
     Ok(Some(Frame::Items {
         rest: items,
         first: true,
@@ -286,15 +336,17 @@ fn begin_array<'a, W: Write>(out: &mut W, items: &'a [JsonValue]) -> io::Result<
 // One member alone needs no order, and so no memory.
 fn begin_object<'a, W: Write>(
     out: &mut W,
+    room: &mut Room,
     gathered: &mut Vec<(&'a str, &'a JsonValue)>,
     members: &'a HashMap<String, JsonValue>,
 ) -> io::Result<Option<Frame<'a>>>
-    ensures { (w : Option (List ℕ)) (k : ℕ) → Begins w k (W.contents out.old) (W.contents out.new)
+    ensures { (w : Option (List ℕ)) (k : ℕ) → Begins w k
+        (W.contents out.old, waiting room.old) (W.contents out.new, waiting room.new)
         (encode_utf8_all (text w k (object (members_view members.now.entries))))
         (reverse gathered.old.items) result (reverse gathered.new.items) }
 {
     if members.len() > 1 {
-        write_bytes(out, b"{")?;
+        write_bytes(out, room, b"{")?;
         gather_sorted(gathered, members)?;
         return Ok(Some(Frame::Members {
             left: members.len(),
@@ -302,32 +354,35 @@ fn begin_object<'a, W: Write>(
         }));
     }
     let Some((key, value)) = members.iter().next() else {
-        write_bytes(out, b"{}")?;
+        write_bytes(out, room, b"{}")?;
         return Ok(None);
     };
-    write_bytes(out, b"{")?;
+    write_bytes(out, room, b"{")?;
     let key = key.as_str();
     Ok(Some(Frame::Member { key, value }))
 }
 
 // A line feed, and the indent of the next line.
-fn write_line<W: Write>(out: &mut W, indent: &str, level: usize) -> io::Result<()>
-    ensures { WritesText (W.contents out.old) (W.contents out.new)
+fn write_line<W: Write>(out: &mut W, room: &mut Room, indent: &str, level: usize) -> io::Result<()>
+    ensures { SendsText
+        (W.contents out.old, waiting room.old) (W.contents out.new, waiting room.new)
         (newline (Some (chars indent.now)) level) result }
 {
-    write_bytes(out, b"\n")?;
+    write_bytes(out, room, b"\n")?;
     for _level in 0..level {
-        write_bytes(out, indent.as_bytes())?;
+        write_bytes(out, room, indent.as_bytes())?;
     }
     Ok(())
 }
 
-fn write_boolean<W: Write>(out: &mut W, value: bool) -> io::Result<()>
-    ensures { WritesText (W.contents out.old) (W.contents out.new)
+fn write_boolean<W: Write>(out: &mut W, room: &mut Room, value: bool) -> io::Result<()>
+    ensures { SendsText
+        (W.contents out.old, waiting room.old) (W.contents out.new, waiting room.new)
         (text None 0 (boolean_tree value)) result }
 {
     write_bytes(
         out,
+        room,
         if value {
             b"true".as_slice()
         } else {

@@ -5,63 +5,72 @@ ghost use Rattle.std.specs.List.{prefix_len};
 ghost use Rattle.std.specs.Str.{chars};
 ghost use Rattle.tinyjson.specs.Scan.{is_plain};
 ghost use Rattle.tinyjson.specs.Text.{escape, escapes, quoted, IsEscaped};
-ghost use Rattle.tinyjson.specs.Written.{WritesPrefix, WritesText};
+ghost use Rattle.tinyjson.specs.Room.{waiting, Sends, SendsText};
 
-use super::output::write_bytes;
+use super::output::{Room, write_bytes};
 use crate::scan::plain_end;
 use std::io::{self, Write};
 
 // Writes the text between quotes.
-pub(super) fn quote<W: Write>(out: &mut W, text: &str) -> io::Result<()>
-    ensures { WritesText (W.contents out.old) (W.contents out.new) (quoted (chars text.now)) result }
+pub(super) fn quote<W: Write>(out: &mut W, room: &mut Room, text: &str) -> io::Result<()>
+    ensures { SendsText
+        (W.contents out.old, waiting room.old) (W.contents out.new, waiting room.new)
+        (quoted (chars text.now)) result }
 {
-    write_bytes(out, b"\"")?;
-    write_escaped(out, text.as_bytes())?;
-    write_bytes(out, b"\"")
+    write_bytes(out, room, b"\"")?;
+    write_escaped(out, room, text.as_bytes())?;
+    write_bytes(out, room, b"\"")
 }
 
 #[inline(always)]
-fn write_escaped<W: Write>(out: &mut W, bytes: &[u8]) -> io::Result<()>
-    ensures { WritesPrefix (W.contents out.old) (W.contents out.new) (escapes bytes.now) result }
+fn write_escaped<W: Write>(out: &mut W, room: &mut Room, bytes: &[u8]) -> io::Result<()>
+    ensures { Sends
+        (W.contents out.old, waiting room.old) (W.contents out.new, waiting room.new)
+        (escapes bytes.now) result }
 {
     let stop = plain_end(bytes, 0);
-    write_bytes(out, &bytes[..stop])?;
+    write_bytes(out, room, &bytes[..stop])?;
     if stop == bytes.len() {
         return Ok(());
     }
-    write_stopped(out, &bytes[stop..])
+    write_stopped(out, room, &bytes[stop..])
 }
 
 // Writes an escape, and the bytes up to the next one in one piece.
 #[inline(never)]
-fn write_stopped<W: Write>(out: &mut W, bytes: &[u8]) -> io::Result<()>
+fn write_stopped<W: Write>(out: &mut W, room: &mut Room, bytes: &[u8]) -> io::Result<()>
     requires { prefix_len is_plain bytes.now ≡ 0 }
-    ensures { WritesPrefix (W.contents out.old) (W.contents out.new) (escapes bytes.now) result }
+    ensures { Sends
+        (W.contents out.old, waiting room.old) (W.contents out.new, waiting room.new)
+        (escapes bytes.now) result }
 {
     let mut rest = bytes;
     while let Some((byte, behind)) = rest.split_first() {
-        write_escape(out, *byte)?;
+        write_escape(out, room, *byte)?;
         let stop = plain_end(behind, 0);
-        write_bytes(out, &behind[..stop])?;
+        write_bytes(out, room, &behind[..stop])?;
         rest = &behind[stop..];
     }
     Ok(())
 }
 
-fn write_escape<W: Write>(out: &mut W, byte: u8) -> io::Result<()>
+fn write_escape<W: Write>(out: &mut W, room: &mut Room, byte: u8) -> io::Result<()>
     requires { IsEscaped byte }
-    ensures { WritesPrefix (W.contents out.old) (W.contents out.new) (escape byte) result }
+    ensures { Sends
+        (W.contents out.old, waiting room.old) (W.contents out.new, waiting room.new)
+        (escape byte) result }
 {
     match byte {
-        0x08 => write_bytes(out, b"\\b"),
-        b'\t' => write_bytes(out, b"\\t"),
-        b'\n' => write_bytes(out, b"\\n"),
-        0x0c => write_bytes(out, b"\\f"),
-        b'\r' => write_bytes(out, b"\\r"),
-        b'"' => write_bytes(out, b"\\\""),
-        b'\\' => write_bytes(out, b"\\\\"),
+        0x08 => write_bytes(out, room, b"\\b"),
+        b'\t' => write_bytes(out, room, b"\\t"),
+        b'\n' => write_bytes(out, room, b"\\n"),
+        0x0c => write_bytes(out, room, b"\\f"),
+        b'\r' => write_bytes(out, room, b"\\r"),
+        b'"' => write_bytes(out, room, b"\\\""),
+        b'\\' => write_bytes(out, room, b"\\\\"),
         _ => write_bytes(
             out,
+            room,
             &[
                 b'\\',
                 b'u',

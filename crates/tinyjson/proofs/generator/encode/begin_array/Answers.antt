@@ -3,7 +3,7 @@ use Rattle.std.proofs.lemmas.Result.{MatchResult-from_err}
 use Rattle.tinyjson.specs.View.{items_view}
 use Rattle.tinyjson.specs.Text.{has_no_items}
 use Rattle.tinyjson.specs.declared.generator.pending.Frame.TheVariants.{Items}
-use Rattle.tinyjson.proofs.Writing.{stops, written_none}
+use Rattle.tinyjson.proofs.Sending.{stops, written_none}
 use Rattle.tinyjson.proofs.Texts.{no_items_is}
 use Rattle.tinyjson.proofs.Pending.{array_begins, opened}
 use Rattle.std.proofs.Common.{true}

@@ -1,12 +1,17 @@
 use Rattle.std.proofs.Common.{◌≡◌, ◌<◌, ◌∷◌, length, refl, sym, ◌∙◌, ap, arith}
 use Rattle.std.proofs.lemmas.Result.{MatchResult-from_err}
-use Rattle.tinyjson.proofs.Pending.{object_stops, members_open, member_opens}
+use Rattle.tinyjson.proofs.Pending.{object_stops, object_ungathered, members_open, member_opens}
 use Rattle.tinyjson.proofs.generator.encode.begin_object.Goals as goal
 
 pub returns-in_err-write_bytes : goal.returns-in_err-write_bytes
 returns-in_err-write_bytes g c =
     let some : 0 < length c.args.members.now.entries = omega (arith, c.len.ensures.len, c.if-len-gt1.true) in
     λ w k. MatchResult-from_err _ _ _ c.from_residual.ensures.0 (λ _. object_stops w k c.args.members.now.entries some c.in_err-write_bytes.ensures)
+
+pub returns-in_err-gather_sorted : goal.returns-in_err-gather_sorted
+returns-in_err-gather_sorted g c =
+    let some : 0 < length c.args.members.now.entries = omega (arith, c.len.ensures.len, c.if-len-gt1.true) in
+    λ w k. MatchResult-from_err _ _ _ c.from_residual-in_err-gather_sorted.ensures.0 (λ _. object_ungathered w k c.args.members.now.entries some c.in_ok-write_bytes.ensures)
 
 pub returns-then-len-gt1 : goal.returns-then-len-gt1
 returns-then-len-gt1 g c =

@@ -1,7 +1,7 @@
 use Rattle.std.proofs.Common.{◌+◌, ◌-◌, arith}
 use Rattle.std.specs.Str.{chars}
 use Rattle.tinyjson.specs.Text.{repeated}
-use Rattle.tinyjson.proofs.Writing.{goes, fails, written_none}
+use Rattle.tinyjson.proofs.Sending.{goes, fails, written_none}
 use Rattle.tinyjson.proofs.Encoded.{enc, enc_cons}
 use Rattle.tinyjson.proofs.Texts.{line_here}
 use Rattle.tinyjson.proofs.generator.encode.write_line.Goals as goal

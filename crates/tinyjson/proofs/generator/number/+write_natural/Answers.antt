@@ -1,5 +1,5 @@
 use Rattle.std.proofs.Common.{◌+◌, ◌%◌, ◌∷◌, [], arith}
-use Rattle.tinyjson.proofs.Writing.{goes, ends, fails, written_none}
+use Rattle.tinyjson.proofs.Sending.{goes, ends, fails, written_none}
 use Rattle.tinyjson.proofs.NumberTexts.{natural_more, natural_one}
 use Rattle.tinyjson.proofs.generator.number.+write_natural.Goals as goal
 use Rattle.tinyjson.proofs.generator.number.+write_natural.Goals.{then-number-ge10+in_ok-write_natural, else-number-ge10}
@@ -14,6 +14,6 @@ returns g t c =
     let n = c.args.number in
     elim c.if-number-ge10.branch [
       | then-number-ge10+in_ok-write_natural w ↦
-          ends _ _ _ _ _ _ c.write_bytes.ensures (rw w.out-is (goes ((48 + n % 10) ∷ []) w.in_ok-write_natural.ensures (written_none _ _ _ (natural_more n w.if-number-ge10.true c.ranges.number.fits))))
-      | else-number-ge10 w ↦ ends _ _ _ _ _ _ c.write_bytes.ensures (rw w.out-is (written_none _ _ _ (natural_one n (omega (arith, w.if-number-ge10.false)))))
+          ends _ _ _ _ _ _ c.write_bytes.ensures (rw (w.out-is, w.room-is) (goes ((48 + n % 10) ∷ []) w.in_ok-write_natural.ensures (written_none _ _ _ (natural_more n w.if-number-ge10.true c.ranges.number.fits))))
+      | else-number-ge10 w ↦ ends _ _ _ _ _ _ c.write_bytes.ensures (rw (w.out-is, w.room-is) (written_none _ _ _ (natural_one n (omega (arith, w.if-number-ge10.false)))))
     ]

@@ -3,7 +3,7 @@ use Rattle.std.specs.Int.{w128}
 use Rattle.std.specs.Prelude.{unsigned_abs}
 use Rattle.std.proofs.lemmas.Int.{to_z-of_z}
 use Rattle.tinyjson_number.specs.Text.{natural_text}
-use Rattle.tinyjson.proofs.Writing.{goes, ends, fails, written_none}
+use Rattle.tinyjson.proofs.Sending.{goes, ends, fails, written_none}
 use Rattle.tinyjson.proofs.NumberTexts.{negative_exponent, positive_exponent}
 use Rattle.tinyjson.proofs.generator.number.write_exponent.Goals as goal
 use Rattle.tinyjson.proofs.generator.number.write_exponent.Goals.{then-exponent-lt0+in_ok-write_bytes, else-exponent-lt0+in_ok-write_bytes-2}
@@ -25,7 +25,7 @@ returns g c =
     let size : n ≡ unsigned_abs z = c.unsigned_abs.ensures.value ∙ ap unsigned_abs (to_z-of_z w128 z c.ranges.exponent) in
     elim c.if-exponent-lt0.branch [
       | then-exponent-lt0+in_ok-write_bytes w ↦
-          ends _ _ _ _ _ _ c.write_natural.ensures (rw w.out-is (goes (natural_text n) w.in_ok-write_bytes.ensures (written_none _ _ _ (negative_exponent z n (rw (to_z-of_z w128 z c.ranges.exponent) at w.if-exponent-lt0.true) size))))
+          ends _ _ _ _ _ _ c.write_natural.ensures (rw (w.out-is, w.room-is) (goes (natural_text n) w.in_ok-write_bytes.ensures (written_none _ _ _ (negative_exponent z n (rw (to_z-of_z w128 z c.ranges.exponent) at w.if-exponent-lt0.true) size))))
       | else-exponent-lt0+in_ok-write_bytes-2 w ↦
-          ends _ _ _ _ _ _ c.write_natural.ensures (rw w.out-is (goes (natural_text n) w.in_ok-write_bytes-2.ensures (written_none _ _ _ (positive_exponent z n (rw (to_z-of_z w128 z c.ranges.exponent) at w.if-exponent-lt0.false) size))))
+          ends _ _ _ _ _ _ c.write_natural.ensures (rw (w.out-is, w.room-is) (goes (natural_text n) w.in_ok-write_bytes-2.ensures (written_none _ _ _ (positive_exponent z n (rw (to_z-of_z w128 z c.ranges.exponent) at w.if-exponent-lt0.false) size))))
     ]

@@ -8,8 +8,8 @@ use Rattle.tinyjson_number.specs.Number.{Canonical}
 use Rattle.tinyjson_number.specs.Text.{decimal_text}
 use Rattle.tinyjson_number.specs.declared.layout.Layout.{Layout}
 use Rattle.tinyjson_number.proofs.Layouts.{decimal_ascii}
-use Rattle.tinyjson.specs.Written.{Written}
-use Rattle.tinyjson.proofs.Writing.{goes, ends, fails, written_none}
+use Rattle.tinyjson.specs.Room.{Output, Sent}
+use Rattle.tinyjson.proofs.Sending.{goes, ends, fails, written_none}
 use Rattle.tinyjson.proofs.Encoded.{enc}
 use Rattle.tinyjson.proofs.generator.number.write_number.Goals as goal
 
@@ -17,19 +17,19 @@ module _ (n : Canonical) (l : Layout) (is : layout_text l ≡ decimal_text n.dec
   abbrev bytes : List ℕ
   bytes = enc (decimal_text n.decimal)
 
-  at_sign : (old : Option (List ℕ)) → Written old old bytes (layout_text l)
+  at_sign : (old : Output) → Sent old old bytes (layout_text l)
   at_sign old = written_none old bytes (layout_text l) (encodes-IsAscii (decimal_text n.decimal) (decimal_ascii n.decimal n.canonical) ∙ sym is)
 
-  at_front : {old s1 : Option (List ℕ)} → Written old s1 l.sign.now [] → Written old s1 bytes (l.front.now ++ (l.middle.now ++ (l.back.now ++ power_text l.exponent)))
+  at_front : {old s1 : Output} → Sent old s1 l.sign.now [] → Sent old s1 bytes (l.front.now ++ (l.middle.now ++ (l.back.now ++ power_text l.exponent)))
   at_front {old} sign = goes (l.front.now ++ (l.middle.now ++ (l.back.now ++ power_text l.exponent))) sign (at_sign old)
 
-  at_middle : {old s1 s2 : Option (List ℕ)} → Written old s1 l.sign.now [] → Written s1 s2 l.front.now [] → Written old s2 bytes (l.middle.now ++ (l.back.now ++ power_text l.exponent))
+  at_middle : {old s1 s2 : Output} → Sent old s1 l.sign.now [] → Sent s1 s2 l.front.now [] → Sent old s2 bytes (l.middle.now ++ (l.back.now ++ power_text l.exponent))
   at_middle sign front = goes (l.middle.now ++ (l.back.now ++ power_text l.exponent)) front (at_front sign)
 
-  at_back : {old s1 s2 s3 : Option (List ℕ)} → Written old s1 l.sign.now [] → Written s1 s2 l.front.now [] → Written s2 s3 l.middle.now [] → Written old s3 bytes (l.back.now ++ power_text l.exponent)
+  at_back : {old s1 s2 s3 : Output} → Sent old s1 l.sign.now [] → Sent s1 s2 l.front.now [] → Sent s2 s3 l.middle.now [] → Sent old s3 bytes (l.back.now ++ power_text l.exponent)
   at_back sign front middle = goes (l.back.now ++ power_text l.exponent) middle (at_middle sign front)
 
-  at_power : {old s1 s2 s3 s4 : Option (List ℕ)} → Written old s1 l.sign.now [] → Written s1 s2 l.front.now [] → Written s2 s3 l.middle.now [] → Written s3 s4 l.back.now [] → Written old s4 bytes (power_text l.exponent)
+  at_power : {old s1 s2 s3 s4 : Output} → Sent old s1 l.sign.now [] → Sent s1 s2 l.front.now [] → Sent s2 s3 l.middle.now [] → Sent s3 s4 l.back.now [] → Sent old s4 bytes (power_text l.exponent)
   at_power sign front middle back = goes (power_text l.exponent) back (at_back sign front middle)
 
 pub returns-in_err-write_bytes : goal.returns-in_err-write_bytes

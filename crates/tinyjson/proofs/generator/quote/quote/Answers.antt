@@ -1,6 +1,6 @@
 use Rattle.std.proofs.Common.{◌++◌, ◌∷◌, []}
 use Rattle.tinyjson.specs.Text.{escapes}
-use Rattle.tinyjson.proofs.Writing.{goes, ends, fails, written_none}
+use Rattle.tinyjson.proofs.Sending.{goes, ends, fails, written_none}
 use Rattle.tinyjson.proofs.Quotes.{quoted_bytes}
 use Rattle.tinyjson.proofs.generator.quote.quote.Goals as goal
 

@@ -2,14 +2,14 @@ use Rattle.std.proofs.Common.{◌∷◌, [], length, reverse}
 use Rattle.std.specs.Str.{encode_utf8_all}
 use Rattle.tinyjson.specs.Indent.{indent_of}
 use Rattle.tinyjson.specs.Pending.{IsStack, frames, owed}
-use Rattle.tinyjson.specs.Written.{Written}
+use Rattle.tinyjson.specs.Room.{waiting, Sent}
 use Rattle.tinyjson.proofs.generator.encode.Encoder.finish.Given as goal
 
 abbrev pub invariant-loop-frame : goal.invariant-loop-frame
 invariant-loop-frame g l =
     let w = indent_of l.fn.self.indent in
     IsStack l.stack
-    × Written (g.W.Write.contents l.fn.out) (g.W.Write.contents l.out)
+    × Sent (g.W.Write.contents l.fn.out, waiting l.fn.room) (g.W.Write.contents l.out, waiting l.room)
     (encode_utf8_all (owed w (l.fn.frame ∷ []) (reverse l.fn.gathered.items)))
     (encode_utf8_all (owed w (frames l.stack) (reverse l.gathered.items)))
 

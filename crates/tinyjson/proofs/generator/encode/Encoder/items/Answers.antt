@@ -5,7 +5,7 @@ use Rattle.tinyjson.specs.Pending.{IsStack, frames, owed}
 use Rattle.tinyjson.specs.Text.{items_text, newline}
 use Rattle.tinyjson.specs.View.{items_view}
 use Rattle.tinyjson.specs.declared.generator.pending.Frame.TheVariants.{Items}
-use Rattle.tinyjson.proofs.Writing.{begins, stops, goes}
+use Rattle.tinyjson.proofs.Sending.{begins, stops, goes}
 use Rattle.tinyjson.proofs.Encoded.{enc}
 use Rattle.tinyjson.proofs.Pending.{items_next, items_end, none_left, advanced_open, closes, stopped_open}
 use Rattle.tinyjson.proofs.generator.encode.Encoder.items.Goals as goal

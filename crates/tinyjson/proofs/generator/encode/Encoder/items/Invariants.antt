@@ -4,7 +4,7 @@ use Rattle.tinyjson.specs.Indent.{indent_of}
 use Rattle.tinyjson.specs.Pending.{frames, owed}
 use Rattle.tinyjson.specs.Text.{items_text, newline}
 use Rattle.tinyjson.specs.View.{items_view}
-use Rattle.tinyjson.specs.Written.{Written}
+use Rattle.tinyjson.specs.Room.{waiting, Sent}
 use Rattle.tinyjson.proofs.generator.encode.Encoder.items.Given as goal
 
 abbrev pub invariant-loop-item : goal.invariant-loop-item
@@ -15,7 +15,7 @@ invariant-loop-item g l =
     let close = newline w (length fs) ++ 93 ∷ [] in
     (l.stack ≡ l.fn.stack)
     × (reverse l.gathered.items ≡ gs)
-    × Written (g.W.Write.contents l.fn.out) (g.W.Write.contents l.out)
+    × Sent (g.W.Write.contents l.fn.out, waiting l.fn.room) (g.W.Write.contents l.out, waiting l.room)
     (encode_utf8_all ((items_text w (length fs + 1) l.fn.first (items_view l.fn.items) ++ close) ++ owed w fs gs))
     (encode_utf8_all ((items_text w (length fs + 1) l.first (items_view l.rest) ++ close) ++ owed w fs gs))
 

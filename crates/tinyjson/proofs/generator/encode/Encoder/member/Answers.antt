@@ -4,7 +4,7 @@ use Rattle.std.proofs.lemmas.Result.{MatchResult-from_err}
 use Rattle.tinyjson.specs.Indent.{indent_of}
 use Rattle.tinyjson.specs.Text.{text, quoted, before, after_colon}
 use Rattle.tinyjson.specs.View.{view}
-use Rattle.tinyjson.proofs.Writing.{goes, stops, written_none}
+use Rattle.tinyjson.proofs.Sending.{goes, stops, written_none}
 use Rattle.tinyjson.proofs.Encoded.{enc, three}
 use Rattle.tinyjson.proofs.Pending.{begins_behind}
 use Rattle.tinyjson.proofs.generator.encode.Encoder.member.Goals as goal

@@ -4,7 +4,7 @@ use Rattle.tinyjson.specs.Indent.{indent_of}
 use Rattle.tinyjson.specs.Pending.{IsStack, frames, owed}
 use Rattle.tinyjson.specs.Text.{newline}
 use Rattle.tinyjson.specs.declared.generator.pending.Frame.TheVariants.{Members}
-use Rattle.tinyjson.proofs.Writing.{begins, stops, goes}
+use Rattle.tinyjson.proofs.Sending.{begins, stops, goes}
 use Rattle.tinyjson.proofs.Encoded.{enc}
 use Rattle.tinyjson.proofs.Pending.{members_next, members_end, advanced_open, closes, stopped_open}
 use Rattle.tinyjson.proofs.generator.encode.Encoder.members.Goals as goal

@@ -2,7 +2,7 @@ use Rattle.std.proofs.Common.{◌≡◌, ◌∷◌, reverse}
 use Rattle.std.specs.Str.{encode_utf8_all}
 use Rattle.tinyjson.specs.Indent.{indent_of}
 use Rattle.tinyjson.specs.Pending.{frames, owed}
-use Rattle.tinyjson.specs.Written.{Written}
+use Rattle.tinyjson.specs.Room.{waiting, Sent}
 use Rattle.tinyjson.specs.declared.generator.pending.Frame.TheVariants.{Members}
 use Rattle.tinyjson.proofs.generator.encode.Encoder.members.Given as goal
 
@@ -11,7 +11,7 @@ invariant-loop-key g l =
     let w = indent_of l.fn.self.indent in
     let fs = frames l.fn.stack in
     (l.stack ≡ l.fn.stack)
-    × Written (g.W.Write.contents l.fn.out) (g.W.Write.contents l.out)
+    × Sent (g.W.Write.contents l.fn.out, waiting l.fn.room) (g.W.Write.contents l.out, waiting l.room)
     (encode_utf8_all (owed w (Members l.fn.left l.fn.first ∷ fs) (reverse l.fn.gathered.items)))
     (encode_utf8_all (owed w (Members l.left l.first ∷ fs) (reverse l.gathered.items)))
 

@@ -4,7 +4,7 @@ use Rattle.tinyjson.specs.Indent.{indent_of}
 use Rattle.tinyjson.specs.Pending.{frames, owed}
 use Rattle.tinyjson.specs.Text.{newline}
 use Rattle.tinyjson.specs.declared.generator.pending.Frame.TheVariants.{Member, Members}
-use Rattle.tinyjson.proofs.Writing.{stops, goes, written_none}
+use Rattle.tinyjson.proofs.Sending.{stops, goes, written_none}
 use Rattle.tinyjson.proofs.Encoded.{enc}
 use Rattle.tinyjson.proofs.Pending.{member_next, members_end, advanced_open, closes, stopped_open}
 use Rattle.tinyjson.proofs.generator.encode.Encoder.only_member.Goals as goal

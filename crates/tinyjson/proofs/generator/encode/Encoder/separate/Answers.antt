@@ -1,6 +1,6 @@
 use Rattle.tinyjson.specs.Text.{newline}
 use Rattle.tinyjson.specs.Indent.{indent_of}
-use Rattle.tinyjson.proofs.Writing.{goes, ends, fails, written_none}
+use Rattle.tinyjson.proofs.Sending.{goes, ends, fails, written_none}
 use Rattle.tinyjson.proofs.Encoded.{enc}
 use Rattle.tinyjson.proofs.Texts.{comma_here, no_comma}
 use Rattle.tinyjson.proofs.generator.encode.Encoder.separate.Goals as goal
@@ -16,6 +16,6 @@ returns g c =
     let n = newline (indent_of c.args.self.now.indent) c.args.level in
     elim c.if-not-first.branch [
       | then-not-first+in_ok-write_bytes w ↦
-          ends _ _ _ _ _ _ c.newline.ensures (rw w.out-is (goes (enc n) w.in_ok-write_bytes.ensures (written_none _ _ _ (comma_here c.args.first n w.if-not-first.true))))
-      | else-not-first w ↦ ends _ _ _ _ _ _ c.newline.ensures (rw w.out-is (written_none _ _ _ (no_comma c.args.first n w.if-not-first.false)))
+          ends _ _ _ _ _ _ c.newline.ensures (rw (w.out-is, w.room-is) (goes (enc n) w.in_ok-write_bytes.ensures (written_none _ _ _ (comma_here c.args.first n w.if-not-first.true))))
+      | else-not-first w ↦ ends _ _ _ _ _ _ c.newline.ensures (rw (w.out-is, w.room-is) (written_none _ _ _ (no_comma c.args.first n w.if-not-first.false)))
     ]

@@ -1,6 +1,6 @@
 use Rattle.std.proofs.Common.{length}
 use Rattle.tinyjson.specs.Written.{Written}
-use Rattle.tinyjson.proofs.generator.output.write_bytes.Given as goal
+use Rattle.tinyjson.proofs.generator.output.write_all.Given as goal
 
 abbrev pub invariant-loop-rest : goal.invariant-loop-rest
 invariant-loop-rest g l = Written (g.W.Write.contents l.initial.out) (g.W.Write.contents l.out) l.bytes l.rest
