@@ -1,12 +1,13 @@
+-- what public contracts say
 pub mod Tree
 pub mod Kind
 pub mod View
 pub mod Equality
-pub mod Copy
 pub mod Access
 pub mod Convert
 pub mod Index
 pub mod Soundness
+pub mod Number
 pub mod Characters
 pub mod Syntax
 pub mod Grammar
@@ -14,18 +15,19 @@ pub mod Prefix
 pub mod Position
 pub mod Error
 pub mod Refusal
+pub mod Parser
 pub mod Text
+pub mod Written
+pub mod Indent
+pub mod Generator
+-- what private contracts alone say
+pub mod Copy
 pub mod Machine
 pub mod Source
 pub mod Cursor
 pub mod Reading
 pub mod Numbers
-pub mod Number
-pub mod Parser
-pub mod Written
 pub mod Sorted
 pub mod Scan
 pub mod Room
 pub mod Pending
-pub mod Indent
-pub mod Generator

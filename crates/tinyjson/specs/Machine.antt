@@ -1,4 +1,4 @@
--- The parser as a machine over characters. `strict` refuses what the grammar refuses; otherwise the four conditions are off.
+-- The parser as a machine over characters, for private contracts. `strict` refuses what the grammar refuses; otherwise the four conditions are off.
 use Rattle.std.specs.Prelude.{ℕ, Bool, true, false, cond, ◌||◌, ◌&&◌, ◌==◌, not, List, [], ◌∷◌, ◌++◌, Option, Some, None, length, nat_lt}
 use Rattle.std.specs.Char.{is_ascii_digit}
 use Rattle.tinyjson_number.specs.Numeral.{is_exponent_letter, Numeral, Exponent, has_leading_zero, value, in_range}

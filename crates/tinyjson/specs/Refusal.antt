@@ -51,7 +51,7 @@ IsLiteral l = (l ≡ codes "null") ⊎ (l ≡ codes "true") ⊎ (l ≡ codes "fa
 
 -- a value is awaited: a line feed and a quote may follow
 abbrev pub AwaitsValue : Option ℕ → List ℕ → Type 0
-AwaitsValue limit used = IsFaultless limit used × IsLooselyViable limit (used ++ 10 ∷ 34 ∷ [])
+AwaitsValue limit used = IsFaultless limit used × IsLooselyViable limit (used ++ codes "\n\"")
 
 -- the list ends with a token that was begun where a value is awaited
 pub record BeginsAt (limit : Option ℕ) (used token : List ℕ) : Type 0 where
@@ -95,7 +95,7 @@ EndsBefore (object ps) rest = ⊤
 -- the beginning of an escape, or nothing
 abbrev pub BeginsEscape : List ℕ → Type 0
 BeginsEscape e =
-    (e ≡ []) ⊎ (e ≡ 92 ∷ []) ⊎ ((ds : List ℕ) × (length ds ≤ 3) × IsHex ds × (e ≡ 92 ∷ 117 ∷ ds))
+    (e ≡ []) ⊎ (e ≡ codes "\\") ⊎ ((ds : List ℕ) × (length ds ≤ 3) × IsHex ds × (e ≡ codes "\\u" ++ ds))
 
 -- More is needed: a value is awaited, or a string or a literal was begun, or a colon, a bracket or
 -- a brace may follow, so that a key or a value in a container is whole.
@@ -104,9 +104,9 @@ NeedsMore limit used =
     AwaitsValue limit used
     ⊎ ((us : List Piece) × (e : List ℕ) × BeginsEscape e × InString limit used us e)
     ⊎ InLiteral limit used
-    ⊎ IsFaultless limit (used ++ 58 ∷ [])
-    ⊎ IsFaultless limit (used ++ 93 ∷ [])
-    ⊎ IsFaultless limit (used ++ 125 ∷ [])
+    ⊎ IsFaultless limit (used ++ codes ":")
+    ⊎ IsFaultless limit (used ++ codes "]")
+    ⊎ IsFaultless limit (used ++ codes "}")
 
 -- ---- what was consumed ends so
 
@@ -132,7 +132,7 @@ EndsUnpaired limit used =
 abbrev pub EndsBadUnit : Option ℕ → ℕ → List ℕ → Type 0
 EndsBadUnit limit c used =
     (ds : List ℕ) × (length ds ≤ 3) × IsHex ds × (is_hex c ≡ false)
-    × EndsString limit used (92 ∷ 117 ∷ (ds ++ c ∷ []))
+    × EndsString limit used (codes "\\u" ++ (ds ++ c ∷ []))
 
 -- letters of a literal, and c, which is not the next
 abbrev pub EndsBadLiteral : Option ℕ → ℕ → List ℕ → Type 0
@@ -150,7 +150,7 @@ EndsLeadingZero limit used rest =
 abbrev pub EndsPoint : Option ℕ → List ℕ → List ℕ → Type 0
 EndsPoint limit used rest =
     (b : Bool) × (ds : List ℕ) × AreWhole ds
-    × BeginsAt limit used (minus_text b ++ (ds ++ 46 ∷ [])) × BeginsWithNone is_ascii_digit rest
+    × BeginsAt limit used (minus_text b ++ (ds ++ codes ".")) × BeginsWithNone is_ascii_digit rest
 
 -- the letter of an exponent, perhaps with a sign, and no digit behind it
 abbrev pub EndsExponent : Option ℕ → List ℕ → List ℕ → Type 0
@@ -190,7 +190,7 @@ KindSays limit (InvalidEscape c) used rest =
 KindSays limit (ControlCharacter c) used rest = EndsString limit used (c ∷ []) × (c < 32)
 KindSays limit (UnexpectedInLiteral c) used rest = EndsBadLiteral limit c used
 KindSays limit EmptyInteger used rest =
-    BeginsAt limit used (45 ∷ []) × BeginsWithNone is_ascii_digit rest
+    BeginsAt limit used (codes "-") × BeginsWithNone is_ascii_digit rest
 KindSays limit LeadingZero used rest = EndsLeadingZero limit used rest
 KindSays limit EmptyFraction used rest = EndsPoint limit used rest
 KindSays limit EmptyExponent used rest = EndsExponent limit used rest
@@ -206,7 +206,7 @@ pub record NoStringAt (limit : Option ℕ) (used : List ℕ) (c : ℕ) : Type 0 
   pub front : List ℕ
   pub ends : used ≡ front ++ c ∷ []
   pub faultless : IsFaultless limit front
-  pub no_string : ¬ IsLooselyViable limit (front ++ 34 ∷ [])
+  pub no_string : ¬ IsLooselyViable limit (front ++ codes "\"")
 
 -- and next may stand in the place of c
 pub record AwaitsAt (limit : Option ℕ) (used : List ℕ) (c next : ℕ) : Type 0 where
@@ -235,7 +235,7 @@ IsPromptlyBy limit used c = IsPromptly limit used (c ∷ [])
 
 -- viable in the loose grammar, and no quote may follow: in no string, and where none may begin
 abbrev pub NoQuoteFollows : Option ℕ → List ℕ → Type 0
-NoQuoteFollows limit used = IsLooselyViable limit used × ¬ IsLooselyViable limit (used ++ 34 ∷ [])
+NoQuoteFollows limit used = IsLooselyViable limit used × ¬ IsLooselyViable limit (used ++ codes "\"")
 
 -- What a kind says of the place.
 abbrev pub PlaceSays : Option ℕ → JsonParseErrorKind → List ℕ → Type 0
@@ -245,7 +245,7 @@ PlaceSays limit (ExpectedEof c) used =
     ((front : List ℕ) × (used ≡ front ++ c ∷ []) × IsFaultless limit front)
     × ¬ IsLooselyViable limit used
 PlaceSays limit (KeyNotString k) used =
-    IsFaultless limit used × IsLooselyViable limit (used ++ 58 ∷ [])
+    IsFaultless limit used × IsLooselyViable limit (used ++ codes ":")
     × ¬ IsViable (IsAccepted limit) used
 PlaceSays limit (ExpectedColon c) used = AwaitsAt limit used c 58 × ¬ IsLooselyViable limit used
 PlaceSays limit (ExpectedCommaOrBrace c) used =

@@ -1,4 +1,4 @@
--- A map's members in a list of references.
+-- A map's members in a list of references. For private contracts.
 use Rattle.std.specs.Prelude.{ℕ, List, [], ◌∷◌, String, string_bytes}
 use Rattle.std.specs.Borrow.{Bor}
 use Rattle.std.specs.Str.{chars}
