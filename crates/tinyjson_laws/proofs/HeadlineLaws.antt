@@ -5,6 +5,7 @@ use Rattle.tinyjson.specs.Error.{error_position}
 use Rattle.tinyjson.specs.Grammar.{IsText}
 use Rattle.tinyjson.specs.Parser.{ParsesText}
 use Rattle.tinyjson.specs.Position.{origin, advance}
+use Rattle.tinyjson.specs.Prefix.{IsLooselyViable}
 use Rattle.tinyjson.specs.Refusal.{RefusalSays, IsRefusal}
 use Rattle.tinyjson.specs.View.{view}
 use Rattle.tinyjson.specs.declared.parser.error.JsonParseError.{JsonParseError}
@@ -24,6 +25,9 @@ other-kind : (limit : Option ℕ) (k : JsonParseErrorKind) (used rest : List ℕ
 other-kind limit kind.OutOfMemory used rest n r = absurd (n refl)
 other-kind limit k used rest n r = r
 
+memory-viable : (limit : Option ℕ) (k : JsonParseErrorKind) (used rest : List ℕ) → RefusalSays limit k used rest → k ≡ kind.OutOfMemory → IsLooselyViable limit used
+memory-viable limit k used rest r o = (subst (λ j. RefusalSays limit j used rest) o r).0.viable
+
 length-whole : (used rest : List ℕ) → rest ≡ [] → length used ≡ length (used ++ rest)
 length-whole used rest e = ap length (sym (ap (λ ys. used ++ ys) e ∙ append-nil used))
 
@@ -34,6 +38,7 @@ stops-at limit e used rest r p = record {
   not_too_soon = λ n. (refused_not_too_soon limit e.kind used rest (other-kind limit e.kind used rest n r)).1;
   at_end = λ n h. length-whole used rest (viable-at-end limit e.kind used rest (other-kind limit e.kind used rest n r) h);
   not_too_late = refused_not_too_late limit e.kind used rest r;
+  viable = λ o. subst (IsLooselyViable limit) (sym (take-append_seam used rest)) (memory-viable limit e.kind used rest r o);
 }
 
 pub timely : (limit : Option ℕ) (xs : List ℕ) (r : Result JsonValue JsonParseError) → ParsesText limit xs r → IsTimely limit xs r

@@ -31,6 +31,8 @@ pub record StopsAt (limit : Option ℕ) (xs : List ℕ) (e : JsonParseError) (n 
   pub at_end : IsNotOutOfMemory e → ((k : ℕ) → k ≤ length xs → ¬ ¬ IsViable (IsAccepted limit) (take k xs)) → n ≡ length xs
   -- no more than the shortest prefix that no text of the loose grammar continues, where memory ran out too
   pub not_too_late : (l : ℕ) → IsShortest (IsLooselyViable limit) xs l → n ≤ l
+  -- where memory ran out, some text of the loose grammar continues those n characters
+  pub viable : error_kind e ≡ OutOfMemory → IsLooselyViable limit (take n xs)
 
 -- An error is reported neither early nor late.
 abbrev pub IsTimely : Option ℕ → List ℕ → Result JsonValue JsonParseError → Type 0
