@@ -1,0 +1,4 @@
+pub mod Tokens
+pub mod Steps
+pub mod Replacing
+pub mod Indices

@@ -1,0 +1,5 @@
+pub mod Text
+pub mod Tokens
+pub mod Reading
+pub mod Index
+pub mod Walk

@@ -1,0 +1,51 @@
+-- What the reading of a pointer's text answers.
+use Rattle.std.specs.Prelude.{◌≡◌, ◌≢◌, ◌↔◌, ◌⊎◌, ℕ, List, [], ◌∷◌, ◌++◌, Result, Ok, Err, MatchResult, String, Vec, map}
+use Rattle.std.specs.declared.alloc.Global.{Global}
+use Rattle.tinyjson.specs.View.{text}
+use Rattle.json_pointer.specs.Text.{escape_char, pointer_text}
+use Rattle.json_pointer.specs.Tokens.{tokens_of}
+use Rattle.json_pointer.specs.declared.pointer.Pointer.{Pointer}
+use Rattle.json_pointer.specs.declared.pointer.PointerError.{PointerError}
+use Rattle.json_pointer.specs.declared.pointer.PointerError.TheVariants.{NoSlash, BadEscape, OutOfMemory}
+
+-- The characters are no pointer of any tokens.
+abbrev pub IsNoPointer : List ℕ → Type 0
+IsNoPointer cs = (ts : List (List ℕ)) → cs ≢ pointer_text ts
+
+abbrev pub BeginsWithOther : List ℕ → Type 0
+BeginsWithOther [] = ⊥
+BeginsWithOther (c ∷ cs) = c ≢ 47
+
+-- `0` or `1` comes first
+abbrev pub BeginsEscape : List ℕ → Type 0
+BeginsEscape [] = ⊥
+BeginsEscape (c ∷ cs) = (c ≡ 48) ⊎ (c ≡ 49)
+
+-- A `~` that is followed by neither `0` nor `1`.
+pub record HasBadEscape (cs : List ℕ) : Type 0 where
+  pub front : List ℕ
+  pub rest : List ℕ
+  pub split : cs ≡ front ++ 126 ∷ rest
+  pub bad : ¬ BeginsEscape rest
+
+abbrev pub BeginsWithSlash : List ℕ → Type 0
+BeginsWithSlash [] = ⊥
+BeginsWithSlash (c ∷ cs) = c ≡ 47
+
+-- A pointer comes with just the tokens whose text this is; a refusal says what is wrong, and that it is the text of none.
+abbrev pub Reads : List ℕ → Result Pointer PointerError → Type 0
+Reads cs (Ok p) = (ts : List (List ℕ)) → (cs ≡ pointer_text ts) ↔ (ts ≡ tokens_of p)
+Reads cs (Err NoSlash) = BeginsWithOther cs × IsNoPointer cs
+Reads cs (Err BadEscape) = BeginsWithSlash cs × HasBadEscape cs × IsNoPointer cs
+Reads cs (Err OutOfMemory) = Unit {0}
+
+-- The same of the characters behind the first slash.
+abbrev pub ReadsTokens : List ℕ → Result (Vec (String Global) Global) PointerError → Type 0
+ReadsTokens cs (Ok v) = 47 ∷ cs ≡ pointer_text (map text v.items)
+ReadsTokens cs (Err NoSlash) = ⊥
+ReadsTokens cs (Err BadEscape) = HasBadEscape (47 ∷ cs)
+ReadsTokens cs (Err OutOfMemory) = Unit {0}
+
+-- The character that is escaped with c behind a `~`, or a refusal, where none is.
+abbrev pub Unescapes : ℕ → Result ℕ PointerError → Type 0
+Unescapes c result = MatchResult result (λ d. escape_char d ≡ 126 ∷ c ∷ []) (λ e. (e ≡ BadEscape) × ¬ BeginsEscape (c ∷ []))

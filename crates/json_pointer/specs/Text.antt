@@ -1,0 +1,15 @@
+-- The text of a pointer (RFC 6901, sections 3 and 4).
+use Rattle.std.specs.Prelude.{ℕ, ◌==◌, List, [], ◌∷◌, ◌++◌, cond, codes}
+
+-- `~` is written `~0`, and `/` is written `~1`
+abbrev pub escape_char : ℕ → List ℕ
+escape_char c = cond (c == 126) (codes "~0") (cond (c == 47) (codes "~1") (c ∷ []))
+
+abbrev pub escape : List ℕ → List ℕ
+escape [] = []
+escape (c ∷ cs) = escape_char c ++ escape cs
+
+-- a `/` before each token
+abbrev pub pointer_text : List (List ℕ) → List ℕ
+pointer_text [] = []
+pointer_text (t ∷ ts) = 47 ∷ (escape t ++ pointer_text ts)

@@ -1,0 +1,16 @@
+//! JSON pointers (RFC 6901): texts that name a part of a JSON value.
+//!
+//! ```
+//! let pointer = Pointer::parse(alloc, "/foo/0")?;
+//! let part = pointer.find(&value);
+//! ```
+#![tactic(auto)]
+
+mod index;
+mod parse;
+mod pointer;
+#[cfg(test)]
+mod tests;
+mod walk;
+
+pub use pointer::{Pointer, PointerError};

@@ -1,0 +1,110 @@
+//! A pointer: the tokens of its text.
+ghost use Rattle.std.specs.Prelude.{◌≡◌, ◌∷◌, [], Some, OnOk, codes, encode_utf8_all};
+ghost use Rattle.std.specs.Fmt.{WritesOnOk};
+ghost use Rattle.std.specs.Str.{chars};
+ghost use Rattle.tinyjson.specs.View.{text};
+ghost use Rattle.json_pointer.specs.Text.{escape_char, escape, pointer_text};
+ghost use Rattle.json_pointer.specs.Tokens.{tokens_of};
+ghost use Rattle.json_pointer.specs.declared.pointer.PointerError.{PointerError};
+
+use std::alloc::{AllocError, AllocFailed, Global};
+use std::error::Error;
+use std::fmt::{self, Write};
+
+/// Why a text is no pointer.
+#[derive(Clone, Copy, Debug, PartialEq, Eq)]
+pub enum PointerError {
+    /// The text is not empty and begins with no `/`.
+    NoSlash,
+    /// A `~` is followed by neither `0` nor `1`.
+    BadEscape,
+    /// A growth of memory was refused.
+    OutOfMemory,
+}
+
+impl From<AllocError> for PointerError {
+    ghost from_gives = { λ _ e. e ≡ PointerError.OutOfMemory };
+
+    fn from(_: AllocError) -> PointerError {
+        PointerError::OutOfMemory
+    }
+}
+
+impl<T: Drop> From<AllocFailed<T>> for PointerError {
+    ghost from_gives = { λ _ e. e ≡ PointerError.OutOfMemory };
+
+    fn from(_: AllocFailed<T>) -> PointerError {
+        PointerError::OutOfMemory
+    }
+}
+
+impl fmt::Display for PointerError {
+    fn fmt<W: fmt::Write>(&self, f: &mut fmt::Formatter<W>) -> fmt::Result {
+        f.write_str(match self {
+            PointerError::NoSlash => "the pointer begins with no '/'",
+            PointerError::BadEscape => "a '~' is followed by neither '0' nor '1'",
+            PointerError::OutOfMemory => "out of memory",
+        })
+    }
+}
+
+impl Error for PointerError {}
+
+/// A JSON pointer: the keys and indices that lead from a value to a part of it.
+#[derive(Debug, Drop)]
+pub struct Pointer {
+    pub(crate) tokens: Vec<String>,
+}
+
+impl Pointer {
+    /// The pointer to the whole value, whose text is empty.
+    pub fn whole(alloc: Global) -> Pointer
+        ensures { tokens_of result ≡ [] }
+    {
+        Pointer {
+            tokens: Vec::new(alloc),
+        }
+    }
+
+    /// Puts a token in front: what this names in a value, it then names in the value's container.
+    pub fn prepend(&mut self, token: String) -> Result<(), AllocError>
+        ensures { OnOk result (tokens_of self.new ≡ text token ∷ tokens_of self.old) }
+    {
+        Ok(self.tokens.insert(0, token)?)
+    }
+}
+
+/// The text, as [`Pointer::parse`] reads it.
+impl fmt::Display for Pointer {
+    ghost output = { λ p. Some (encode_utf8_all (pointer_text (tokens_of p))) };
+
+    fn fmt<W: fmt::Write>(&self, f: &mut fmt::Formatter<W>) -> fmt::Result {
+        for token in &self.tokens {
+            f.write_str("/")?;
+            write_escaped(f, token.as_str())?;
+        }
+        Ok(())
+    }
+}
+
+fn write_escaped<W: fmt::Write>(f: &mut fmt::Formatter<W>, token: &str) -> fmt::Result
+    ensures { WritesOnOk W.write_str_gives f.old result
+        (encode_utf8_all (escape (chars token.now))) f.new }
+{
+    for c in token.chars() {
+        write_escaped_char(f, c)?;
+    }
+    Ok(())
+}
+
+fn write_escaped_char<W: fmt::Write>(f: &mut fmt::Formatter<W>, c: char) -> fmt::Result
+    ensures { WritesOnOk W.write_str_gives f.old result (encode_utf8_all (escape_char c)) f.new }
+{
+    if c == '~' {
+        f.write_str("~0")
+    } else if c == '/' {
+        f.write_str("~1")
+    } else {
+        f.write_char(c)
+    }
+}
