@@ -9,7 +9,7 @@ pub use Rattle.tinyjson.proofs.Scalars.{encoded_chars, encoded_utf8, text-scalar
 pub use Rattle.tinyjson.proofs.Trees.{view-IsTree, text_scalars}
 pub use Rattle.tinyjson.proofs.Views.{Entry, find-members_view, members_view_last}
 pub use Rattle.tinyjson.proofs.WholeNumbers.{integers_differ, naturals_differ}
-pub use Rattle.tinyjson.proofs.Writing.{Appends-trans, Appends-nothing, written_none, written_take, written_same, written_all, begins, goes, ends, fails, stop}
+pub use Rattle.tinyjson.proofs.Writing.{Appends-trans, Appends-nothing, Appends-keeps, written_none, written_all, begins, goes, ends, written_take, written_same, written_then, stop, stops, stops_then, fails}
 use Rattle.std.proofs.Common.{◌≡◌, ◌≢◌, ℕ, zero, suc, ◌<◌, Bool, true, false, ◌&&◌, cond, bytes_eq, nat_lt, List, [], ◌∷◌, ◌++◌, Option, Some, None, option_map, Result, Ok, Err, String, string_bytes, Vec, Global, Bor, refl, sym, ap, ◌∙◌, subst, rules, arith, append-nil}
 use Rattle.std.proofs.lemmas.Bool.{and_parts}
 use Rattle.std.proofs.lemmas.Bool.Decides.{nat_tests, same_from_decides}
