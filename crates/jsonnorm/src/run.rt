@@ -10,7 +10,7 @@ use crate::output::write_line;
 use std::alloc::Global;
 use std::io::{Read, Write};
 use std::{mem, str};
-use tinyjson::{JsonParseResult, JsonParser, JsonValue};
+use tinyjson::{JsonParseResult, JsonValue};
 
 /// How a text is read and written.
 #[derive(Clone, Copy, Debug, PartialEq, Eq)]
@@ -88,6 +88,6 @@ fn parse(alloc: Global, text: &str, limit: Option<usize>) -> JsonParseResult
 {
     match limit {
         None => JsonValue::from_str(alloc, text),
-        Some(limit) => JsonParser::with_depth_limit(alloc, text.chars(), limit).parse(),
+        Some(limit) => JsonValue::from_str_with_depth_limit(alloc, text, limit),
     }
 }

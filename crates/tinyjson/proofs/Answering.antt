@@ -158,6 +158,17 @@ module _ {S : Type 0} (sight : Sight S) (limit : Option ℕ) where
       record { consumed = l.taken; rest = x.0; whole = x.1; gives = x.2; moves = l.moves; answer = (n, (accepts limit xs a (view v)).0 ran) }
   answered p q (Err e) l s m xs g a = answered-error p q e xs g a l m
 
+  -- of a source that stands at the origin
+  pub answered-text : (p q : S) (xs : List ℕ) (r : Result JsonValue JsonParseError) → sight.place p ≡ origin → Answered p xs r q → ParsesText limit xs r
+  answered-text p q xs (Ok v) h a = record { consumed = a.consumed; rest = a.rest; whole = a.whole; answer = a.answer; refused = tt }
+  answered-text p q xs (Err e) h a = record {
+    consumed = a.consumed;
+    rest = a.rest;
+    whole = a.whole;
+    answer = (a.answer.0 ∙ a.moves ∙ ap (λ x. advance x a.consumed) h, a.answer.1);
+    refused = refused-answer limit xs a.consumed a.rest (λ v. (a.rest ≡ []) × IsText limit xs (view v)) (λ e. error_position e ≡ sight.place q) (Err e) a.whole a.answer;
+  }
+
 pub all-scalars : (xs : List ℕ) → IsTrue (all_scalars xs) → All IsScalar xs
 all-scalars [] h k d l = absurd (omega (arith, l))
 all-scalars (x ∷ xs) h zero d l = (and_parts (is_scalar x) (all_scalars xs) h).0

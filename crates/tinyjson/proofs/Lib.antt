@@ -11,6 +11,7 @@ pub mod TreeTrip
 pub mod WrittenTexts
 pub mod Positions
 pub mod Sources
+pub mod Slices
 pub mod Cursors
 pub mod Readings
 pub mod UnitDecoding

@@ -24,6 +24,7 @@ pub mod Generator
 pub mod Copy
 pub mod Machine
 pub mod Source
+pub mod Slice
 pub mod Cursor
 pub mod Reading
 pub mod Numbers

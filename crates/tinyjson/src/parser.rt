@@ -1,16 +1,19 @@
 //! The parser.
 ghost use Rattle.std.specs.Prelude.{◌≡◌, ℕ, List, Option, None, Some};
 ghost use Rattle.std.specs.Iterator.{IsFinite};
-ghost use Rattle.tinyjson.specs.Parser.{Provides, Remains, Parses};
+ghost use Rattle.std.specs.Str.{chars};
+ghost use Rattle.tinyjson.specs.Parser.{Provides, Remains, Parses, ParsesText};
 ghost use Rattle.tinyjson.specs.Position.{origin};
 
 mod cursor;
 mod error;
 mod number;
 mod reader;
+mod scan;
 mod source;
 mod stack;
 mod string;
+mod text;
 mod units;
 
 use crate::value::JsonValue;
@@ -19,6 +22,7 @@ pub use error::{JsonParseError, JsonParseErrorKind};
 use reader::Reader;
 use std::alloc::Global;
 use std::marker::Model;
+use text::TextBytes;
 
 /// What [`JsonParser::parse`] answers.
 ///
@@ -127,4 +131,11 @@ impl<I: Iterator<Item = char>> JsonParser<I> {
     {
         self.reader.text(self.limit)
     }
+}
+
+/// What [`JsonParser::parse`] of a new parser with this limit answers on the characters of a text.
+pub(crate) fn parse_text(alloc: Global, text: &str, limit: Option<usize>) -> JsonParseResult
+    ensures { ParsesText limit (chars text.now) result }
+{
+    Reader::new(alloc, TextBytes::new(text)).text(limit)
 }

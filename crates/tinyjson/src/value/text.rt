@@ -1,5 +1,5 @@
 //! Values from text, and the text of values.
-ghost use Rattle.std.specs.Prelude.{◌≡◌, None, IfOk, string_bytes, codes};
+ghost use Rattle.std.specs.Prelude.{◌≡◌, None, Some, IfOk, string_bytes, codes};
 ghost use Rattle.std.specs.Str.{chars};
 ghost use Rattle.tinyjson.specs.Parser.{ParsesText};
 ghost use Rattle.tinyjson.specs.Text.{compact, indented};
@@ -7,7 +7,7 @@ ghost use Rattle.tinyjson.specs.View.{view};
 ghost use Rattle.tinyjson.specs.Written.{WritesText};
 
 use crate::generator::{self, Encoder, INDENT, JsonGenerateResult};
-use crate::parser::{JsonParseResult, JsonParser};
+use crate::parser::{self, JsonParseResult};
 use crate::value::JsonValue;
 use std::alloc::Global;
 use std::io::{self, Write};
@@ -25,7 +25,20 @@ impl JsonValue {
     pub fn from_str(alloc: Global, s: &str) -> JsonParseResult
         ensures { ParsesText None (chars s.now) result }
     {
-        JsonParser::new(alloc, s.chars()).parse()
+        parser::parse_text(alloc, s, None)
+    }
+
+    /// The value of a text in which at most `limit` containers are open at once: what a parser made by
+    /// [`JsonParser::with_depth_limit`](crate::JsonParser::with_depth_limit) answers on its characters.
+    ///
+    /// ```
+    /// let refusal = JsonValue::from_str_with_depth_limit(alloc, "[[1]]", 1);
+    /// assert!(rt; refusal.is_err_and(|error| error.kind() == JsonParseErrorKind::TooDeep('[')));
+    /// ```
+    pub fn from_str_with_depth_limit(alloc: Global, s: &str, limit: usize) -> JsonParseResult
+        ensures { ParsesText (Some limit) (chars s.now) result }
+    {
+        parser::parse_text(alloc, s, Some(limit))
     }
 
     /// The compact text.

@@ -26,6 +26,9 @@ fn texts(rt: HostRuntime) -> Result<(), Fail> {
     let refusal = JsonParser::with_depth_limit(alloc, "[[1]]".chars(), 1).parse();
     assert!(rt; refusal.is_err_and(|error| error.kind() == JsonParseErrorKind::TooDeep('[')));
 
+    let refusal = JsonValue::from_str_with_depth_limit(alloc, "[[1]]", 1);
+    assert!(rt; refusal.is_err_and(|error| error.kind() == JsonParseErrorKind::TooDeep('[')));
+
     let mut parser = JsonParser::new(alloc, "nul 1".chars());
     assert!(rt; parser.parse().is_err());
     assert!(rt; parser.parse().is_ok_and(|value| value.is_number()));

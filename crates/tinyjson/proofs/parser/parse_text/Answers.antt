@@ -1,0 +1,16 @@
+use Rattle.std.proofs.Common.{sym, ap, ◌∙◌}
+use Rattle.std.proofs.lemmas.Str.{scalars-chars}
+use Rattle.std.specs.Str.{chars}
+use Rattle.tinyjson.specs.Position.{advance, origin}
+use Rattle.tinyjson.specs.Slice.{before, behind}
+use Rattle.tinyjson.specs.declared.parser.text.TextBytes.{TextBytes}
+use Rattle.tinyjson.proofs.Answering.{answered, answered-text, all-scalars}
+use Rattle.tinyjson.proofs.parser.parse_text.Goals as goal
+
+pub returns : goal.returns
+returns c =
+    let text = c.args.text.now in
+    let gives = sym (ap (λ (p : TextBytes). behind p.text.now p.at) c.new-2.ensures ∙ c.new.ensures.gives) in
+    let start = ap (λ (p : TextBytes). advance origin (before p.text.now p.at)) c.new-2.ensures ∙ c.new.ensures.start in
+    answered-text _ c.args.limit _ _ (chars text) c.text.result start
+    (answered _ c.args.limit _ _ c.text.result c.text.ensures.reads c.text.ensures.end c.text.ensures.memory (chars text) gives (all-scalars (chars text) (scalars-chars text c.utf8.text)))

@@ -1,0 +1,17 @@
+-- A place in a text, given by its bytes, and the characters on both sides of it. For private contracts.
+use Rattle.std.specs.Prelude.{◌≡◌, ℕ, ◌+◌, List, [], ◌++◌, take, drop, Option, MatchOption, encode_utf8}
+use Rattle.std.specs.Char.{len_utf8}
+use Rattle.std.specs.Str.{chars}
+pub mod Laws
+
+-- the characters before the place
+abbrev pub before : List ℕ → ℕ → List ℕ
+before text at = chars (take at text)
+
+-- the characters from the place on
+abbrev pub behind : List ℕ → ℕ → List ℕ
+behind text at = chars (drop at text)
+
+-- The character whose bytes begin at the place; or the text ends there.
+abbrev pub NextChar : List ℕ → ℕ → Option ℕ → Type 0
+NextChar text at o = MatchOption o (drop at text ≡ []) (λ c. drop at text ≡ encode_utf8 c ++ drop (at + len_utf8 c) text)

@@ -1,0 +1,84 @@
+//! The characters of a text in memory, read where they lie.
+ghost use Rattle.std.specs.Prelude.{◌≡◌, ◌-◌, length, slice_get};
+ghost use Rattle.std.specs.Str.{IsUtf8, IsCharBoundary, chars};
+ghost use Rattle.tinyjson.specs.Position.{advance, position_at, origin};
+ghost use Rattle.tinyjson.specs.Slice.{before, behind, NextChar};
+ghost use Rattle.tinyjson.specs.Slice.Laws.{line_bound, column_bound, shown_once, shown_first, nothing_left};
+
+use super::cursor::moved;
+use super::scan::white_end;
+use super::source::Source;
+
+/// A text, and how many of its bytes were consumed. Line and column are counted when they are asked for.
+#[derive(Drop)]
+pub(super) struct TextBytes<'a> {
+    pub(super) text: &'a str,
+    pub(super) at: usize,
+    ghost utf8: { ∥ IsUtf8 text.now ∥₁ },
+    ghost boundary: { IsCharBoundary text.now at },
+}
+
+impl<'a> TextBytes<'a> {
+    pub(super) fn new(text: &'a str) -> Self
+        ensures gives { behind result.text.now result.at ≡ chars text.now }
+        ensures start { advance origin (before result.text.now result.at) ≡ origin }
+    {
+        TextBytes { text, at: 0 }
+    }
+
+    /// The next character.
+    fn first(&self) -> Option<char>
+        ensures { NextChar self.now.text.now self.now.at result }
+    {
+        let bytes = self.text.as_bytes();
+        if self.at >= bytes.len() {
+            return None;
+        }
+        let byte = bytes[self.at];
+        if byte < 128 {
+            return Some(byte as char);
+        }
+        self.text[self.at..].chars().next()
+    }
+}
+
+impl<'a> Source for TextBytes<'a> {
+    ghost sight = { record {
+      gives = λ p zs. zs ≡ behind p.text.now p.at;
+      shows = λ p o. slice_get (behind p.text.now p.at) 0 ≡ o;
+      place = λ p. advance origin (before p.text.now p.at);
+      line_fits = λ p. line_bound (before p.text.now p.at);
+      column_fits = λ p. column_bound (before p.text.now p.at);
+      one = λ p. shown_once (behind p.text.now p.at);
+      first = λ p. shown_first (behind p.text.now p.at);
+      none = λ p. nothing_left (behind p.text.now p.at);
+    } };
+
+    ghost left = { λ p. length p.text.now - p.at };
+
+    fn peek(&mut self) -> Option<char> {
+        self.first()
+    }
+
+    fn bump(&mut self) -> Option<char> {
+        let next = self.first();
+        if let Some(c) = next {
+            self.at += c.len_utf8();
+        }
+        next
+    }
+
+    fn skip_white(&mut self) -> Option<char> {
+        self.at = white_end(self.text.as_bytes(), self.at);
+        self.first()
+    }
+
+    fn position(&self) -> (usize, usize) {
+        let mut line = 1;
+        let mut column = 0;
+        for c in self.text[..self.at].chars() {
+            (line, column) = moved(line, column, c);
+        }
+        (line, column)
+    }
+}
