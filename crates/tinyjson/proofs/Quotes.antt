@@ -6,7 +6,7 @@ use Rattle.std.proofs.Math.Utf8.{encode}
 use Rattle.std.specs.Char.{digit_char}
 use Rattle.std.specs.Bool.{nat_lt}
 use Rattle.std.proofs.lemmas.Str.{encodes-append, encode_ascii, encodes-chars, encodes-IsAscii, inside_one, IsAscii-append}
-use Rattle.std.proofs.lemmas.List.{take_all}
+use Rattle.std.proofs.lemmas.List.{take_all, drop_all}
 use Rattle.std.proofs.lemmas.Bool.Decides.{nat_tests}
 use Rattle.std.specs.List.{prefix_len}
 use Rattle.tinyjson.specs.Scan.{is_plain}
@@ -49,6 +49,9 @@ module _ (xs : List ℕ) (n : ℕ) (e : n ≡ 0 + prefix_len is_plain xs) where
 
   pub at_stop : escapes xs ≡ take n xs ++ escapes (drop n xs)
   at_stop = escapes_plain xs ∙ ap (λ k. take k xs ++ escapes (drop k xs)) (sym end_is)
+
+  pub all_plain : length xs ≤ n → escapes xs ≡ xs
+  all_plain h = at_stop ∙ ap (λ ys. take n xs ++ escapes ys) (drop_all n xs h) ∙ append-nil (take n xs) ∙ take_all n xs h
 
   rest_is : take (length xs - n) (drop n xs) ≡ drop n xs
   rest_is = take_all _ (drop n xs) (omega (arith, length-drop n xs))

@@ -10,6 +10,7 @@ mod encode;
 mod number;
 mod output;
 mod pending;
+mod quick;
 mod quote;
 mod sorted;
 

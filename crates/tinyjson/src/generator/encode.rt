@@ -13,6 +13,7 @@ ghost use Rattle.tinyjson.specs.declared.generator.pending.Frame.TheVariants.{It
 use super::number::write_number;
 use super::output::{Room, flush, write_bytes};
 use super::pending::{Frame, Stack};
+use super::quick::quick_value;
 use super::quote::quote;
 use super::sorted::{gather_sorted, next_member};
 use crate::value::JsonValue;
@@ -250,6 +251,7 @@ impl Encoder<'_> {
     }
 
     // What stands before an item or a member.
+    #[inline(always)]
     fn separate<W: Write>(
         &self,
         out: &mut W,
@@ -267,6 +269,7 @@ impl Encoder<'_> {
         self.newline(out, room, level)
     }
 
+    #[inline(always)]
     fn newline<W: Write>(&self, out: &mut W, room: &mut Room, level: usize) -> io::Result<()>
         ensures { SendsText
             (W.contents out.old, waiting room.old) (W.contents out.new, waiting room.new)
@@ -278,6 +281,7 @@ impl Encoder<'_> {
         }
     }
 
+    #[inline(always)]
     fn colon<W: Write>(&self, out: &mut W, room: &mut Room) -> io::Result<()>
         ensures { SendsText
             (W.contents out.old, waiting room.old) (W.contents out.new, waiting room.new)
@@ -292,7 +296,26 @@ impl Encoder<'_> {
 
 // Writes a value that holds no other. Of others it writes the opening bracket, and answers what they
 // owe then.
+#[inline(always)]
 fn begin<'a, W: Write>(
+    out: &mut W,
+    room: &mut Room,
+    gathered: &mut Vec<(&'a str, &'a JsonValue)>,
+    value: &'a JsonValue,
+) -> io::Result<Option<Frame<'a>>>
+    ensures { (w : Option (List ℕ)) (k : ℕ) → Begins w k
+        (W.contents out.old, waiting room.old) (W.contents out.new, waiting room.new)
+        (encode_utf8_all (text w k (view value.now))) (reverse gathered.old.items) result (reverse gathered.new.items) }
+{
+    if quick_value(room, value) {
+        return Ok(None);
+    }
+    begin_slowly(out, room, gathered, value)
+}
+
+// The same where the text is long, or holds other texts.
+#[inline(never)]
+fn begin_slowly<'a, W: Write>(
     out: &mut W,
     room: &mut Room,
     gathered: &mut Vec<(&'a str, &'a JsonValue)>,
@@ -363,6 +386,7 @@ fn begin_object<'a, W: Write>(
 }
 
 // A line feed, and the indent of the next line.
+#[inline(never)]
 fn write_line<W: Write>(out: &mut W, room: &mut Room, indent: &str, level: usize) -> io::Result<()>
     ensures { SendsText
         (W.contents out.old, waiting room.old) (W.contents out.new, waiting room.new)

@@ -1,5 +1,5 @@
 //! The bytes that wait, and the write loop.
-ghost use Rattle.std.specs.Prelude.{◌≡◌, [], OnOk};
+ghost use Rattle.std.specs.Prelude.{◌≡◌, ◌≤◌, ◌+◌, ◌++◌, [], length, IsTrue, OnOk};
 ghost use Rattle.tinyjson.specs.Room.{waiting, Sends};
 ghost use Rattle.tinyjson.specs.Written.{WritesPrefix};
 
@@ -24,6 +24,27 @@ impl Room {
             len: 0,
         }
     }
+
+    // Lets the bytes wait behind the others.
+    #[inline(always)]
+    pub(super) fn append(&mut self, bytes: &[u8])
+        requires { self.old.len + length bytes.now ≤ 4096 }
+        ensures waits { waiting self.new ≡ waiting self.old ++ bytes.now }
+        ensures len { self.new.len ≡ self.old.len + length bytes.now }
+    {
+        let len = self.len;
+        let end = len + bytes.len();
+        self.bytes[len..end].copy_from_slice(bytes);
+        self.len = end;
+    }
+
+    // Whether so many more bytes can wait.
+    #[inline(always)]
+    pub(super) fn has_room(&self, count: usize) -> bool
+        ensures { IsTrue result → self.now.len + count ≤ 4096 }
+    {
+        self.len.saturating_add(count) <= ROOM
+    }
 }
 
 // Writes the bytes behind those that wait, or lets them wait too. An error is that of `write_all`.
@@ -33,13 +54,10 @@ pub(super) fn write_bytes<W: Write>(out: &mut W, room: &mut Room, bytes: &[u8]) 
         (W.contents out.old, waiting room.old) (W.contents out.new, waiting room.new)
         bytes.now result }
 {
-    let len = room.len;
-    let end = len.saturating_add(bytes.len());
-    if end > ROOM {
+    if !room.has_room(bytes.len()) {
         return write_far(out, room, bytes);
     }
-    room.bytes[len..end].copy_from_slice(bytes);
-    room.len = end;
+    room.append(bytes);
     Ok(())
 }
 
