@@ -7,7 +7,8 @@
 //     FAILED_WRITE=N   the Nth write to standard output fails with ERRNO
 //     SHORT_WRITES=N   a write to standard output takes at most N bytes
 //
-// A call that fails, and a write behind one that failed, is told by a line on standard error.
+// A call that fails, a write behind one that failed, and memory that is not given back by the end of the
+// program, is told by a line on standard error.
 
 #define _GNU_SOURCE
 #include <dlfcn.h>
@@ -36,16 +37,36 @@ static int is_refused(void) {
     return 1;
 }
 
+// The blocks of memory that are not given back.
+static long kept;
+
+static void *counted(void *block) {
+    if (block != NULL) kept++;
+    return block;
+}
+
+__attribute__((destructor)) static void tell_of_kept(void) {
+    if (kept > 0) tell("(kept memory)\n", 14);
+}
+
 void *malloc(size_t size) {
     static void *(*next)(size_t);
     if (next == NULL) next = (void *(*)(size_t))dlsym(RTLD_NEXT, "malloc");
-    return is_refused() ? NULL : next(size);
+    return is_refused() ? NULL : counted(next(size));
+}
+
+void free(void *block) {
+    static void (*next)(void *);
+    if (next == NULL) next = (void (*)(void *))dlsym(RTLD_NEXT, "free");
+    if (block != NULL) kept--;
+    next(block);
 }
 
 void *realloc(void *block, size_t size) {
     static void *(*next)(void *, size_t);
     if (next == NULL) next = (void *(*)(void *, size_t))dlsym(RTLD_NEXT, "realloc");
-    return is_refused() ? NULL : next(block, size);
+    if (is_refused()) return NULL;
+    return block == NULL ? counted(next(block, size)) : next(block, size);
 }
 
 ssize_t read(int file, void *buffer, size_t length) {

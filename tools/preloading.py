@@ -6,8 +6,8 @@ import subprocess
 HERE = os.path.dirname(os.path.abspath(__file__))
 TOP = os.path.dirname(HERE)
 
-# The lines by which the preloaded library tells of failing calls.
-REFUSED, FAILED, WRITTEN_AGAIN = b"(refused)\n", b"(failed)\n", b"(written again)\n"
+# The lines by which the preloaded library tells of failing calls, and of memory that is not given back.
+REFUSED, FAILED, WRITTEN_AGAIN, KEPT = b"(refused)\n", b"(failed)\n", b"(written again)\n", b"(kept memory)\n"
 
 
 def built(folder):
@@ -24,7 +24,7 @@ class Ended:
     def __init__(self, process):
         self.status = process.returncode
         self.output = process.stdout
-        self.told = {line: process.stderr.count(line) for line in (REFUSED, FAILED, WRITTEN_AGAIN)}
+        self.told = {line: process.stderr.count(line) for line in (REFUSED, FAILED, WRITTEN_AGAIN, KEPT)}
         self.errors = process.stderr
         for line in self.told:
             self.errors = self.errors.replace(line, b"")

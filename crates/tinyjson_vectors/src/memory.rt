@@ -10,8 +10,8 @@ use std::io::ErrorKind;
 use std::process::Abort;
 use std::test::Fail;
 use tinyjson::{
-    JsonGenerator, JsonNumber, JsonNumberError, JsonParseError, JsonParseErrorKind as Kind,
-    JsonParser, JsonValue,
+    JsonGenerator, JsonKind, JsonNumber, JsonNumberError, JsonParseError,
+    JsonParseErrorKind as Kind, JsonParser, JsonValue,
 };
 
 const TEXTS: &[(&str, Answer)] = &[
@@ -21,6 +21,11 @@ const TEXTS: &[(&str, Answer)] = &[
     (
         r#"{"a":{"b":[1.5]},"c" 1}"#,
         Answer::Refusal(Kind::ExpectedColon('1'), 1, 22),
+    ),
+    (r#"{"a":[1,[2]],"a":3}"#, Answer::Text(r#"{"a":3}"#)),
+    (
+        r#"{[1,[2]]:3}"#,
+        Answer::Refusal(Kind::KeyNotString(JsonKind::Array), 1, 8),
     ),
 ];
 
@@ -128,6 +133,8 @@ fn a_refused_copy_changes_nothing(rt: HostRuntime) -> Result<(), Fail> {
     let copy = value.try_clone(alloc);
     assert!(rt; value == same);
     assert!(rt; copy? == value);
+    value.dismantle();
+    same.dismantle();
     Ok(())
 }
 
@@ -170,6 +177,17 @@ fn generates(
     }
     assert!(rt; text.starts_with(&bytes[..written]));
     answer.map_err(|fault| fault.kind())
+}
+
+#[test]
+fn sixty_four_containers_take_no_memory(rt: HostRuntime) -> Result<(), Fail> {
+    let alloc = rt.alloc();
+    let opened = "[".repeat(alloc, 64)?;
+    let closed = "]".repeat(alloc, 64)?;
+    let text = format!(in alloc; "{opened}null{closed}")?;
+    let value = JsonValue::from_str(alloc, text.as_str())?;
+    assert_eq!(rt; generates(&rt, alloc, &value, None, text.as_str()), Ok(()));
+    Ok(())
 }
 
 #[test]
