@@ -10,7 +10,7 @@ use std::alloc::Global;
 use std::collections::HashMap;
 use std::process::Abort;
 use std::test::Fail;
-use tinyjson::{JsonKind, JsonNumber, JsonValue, UnexpectedValue};
+use tinyjson::{JsonGenerator, JsonKind, JsonNumber, JsonParser, JsonValue, UnexpectedValue};
 
 /// Below, at and behind the first growths of vectors, strings and maps, and far behind them.
 const SIZES: [usize; 8] = [0, 1, 8, 9, 64, 65, 1_000, 300_000];
@@ -36,6 +36,19 @@ fn converted(value: JsonValue) -> Result<JsonValue, UnexpectedValue> {
     }
 }
 
+/// The value as a generator writes it, in the compact form.
+fn check_generated(rt: &impl Abort, alloc: Global, value: &JsonValue, expected: &str, name: &str) {
+    let mut generator = JsonGenerator::new(alloc, Vec::new(alloc));
+    assert!(rt;
+        generator.generate(value).is_ok(),
+        "{name} is not generated"
+    );
+    assert!(rt;
+        generator.into_inner().as_slice() == expected.as_bytes(),
+        "{name} is generated otherwise"
+    );
+}
+
 /// The value as a text, and as bytes, in the compact form.
 fn check_compact(
     rt: &impl Abort,
@@ -56,6 +69,7 @@ fn check_compact(
         bytes.as_slice() == expected.as_bytes(),
         "{name} is written as other bytes"
     );
+    check_generated(rt, alloc, value, expected, name);
     Ok(())
 }
 
@@ -82,6 +96,20 @@ fn check_indented(
     Ok(())
 }
 
+/// The value as parsers read it, one of them with a limit.
+fn check_parsers(rt: &impl Abort, alloc: Global, text: &str, value: &JsonValue, name: &str) {
+    let parsed = JsonParser::new(alloc, text.chars()).parse();
+    assert!(rt;
+        parsed.is_ok_and(|parsed| parsed == *value),
+        "{name} is not parsed"
+    );
+    let limited = JsonParser::with_depth_limit(alloc, text.chars(), usize::MAX).parse();
+    assert!(rt;
+        limited.is_ok_and(|limited| limited == *value),
+        "{name} is not parsed with a limit"
+    );
+}
+
 /// The value as it is read, copied and converted.
 fn check_value(
     rt: &impl Abort,
@@ -94,6 +122,7 @@ fn check_value(
     assert!(rt; parsed.is_ok(), "{name} is not read");
     let parsed = parsed?;
     assert!(rt; parsed == *value, "{name} is read otherwise");
+    check_parsers(rt, alloc, text, value, name);
     let copy = parsed.try_clone(alloc);
     assert!(rt; copy.is_ok(), "{name} is not copied");
     let copy = copy?;

@@ -98,6 +98,7 @@ fn each_kind_has_its_words(rt: HostRuntime) -> Result<(), Fail> {
 /// Characters as messages show them.
 const SHOWN: &[(char, &str)] = &[
     ('x', "x"),
+    ('~', "~"),
     ('\t', "U+0009"),
     ('\u{7f}', "U+007F"),
     ('\u{feff}', "U+FEFF"),

@@ -336,6 +336,7 @@ fn flushes_nothing(rt: HostRuntime) -> Result<(), Fail> {
     let mut generator = JsonGenerator::new(rt.alloc(), &mut writer).indent("");
     generator.generate(&value)?;
     generator.generate(&JsonValue::Null)?;
+    generator.generate(&string(rt.alloc(), "\n\n")?)?;
     assert_eq!(rt; (writer.empty_calls(), writer.flushes()), (0, 0));
     Ok(())
 }

@@ -2,6 +2,8 @@
 
 use super::{Case, SIZES, check};
 use std::alloc::Global;
+use std::process::Abort;
+use std::string::ToString;
 use std::test::Fail;
 use tinyjson::{JsonNumber, JsonValue};
 
@@ -60,15 +62,28 @@ fn in_the_exponent_of_zero(alloc: Global, size: usize) -> Result<Case, Fail> {
     case(alloc, text, "0".to_string(alloc)?, "0".to_string(alloc)?)
 }
 
+/// The number as it is read, written, copied, converted and shown.
+fn check_number(rt: &impl Abort, alloc: Global, case: &Case, name: &str) -> Result<(), Fail> {
+    check(rt, alloc, case, name)?;
+    let number = case.value.get::<JsonNumber>();
+    assert!(rt;
+        number
+            .and_then(|number| number.to_string(alloc).ok())
+            .is_some_and(|shown| shown == case.compact),
+        "{name} is not shown"
+    );
+    Ok(())
+}
+
 #[test]
 fn numbers_of_each_size(rt: HostRuntime) -> Result<(), Fail> {
     for size in SIZES {
         let name = format!(in rt.alloc(); "the number of {size} digits before the point")?;
         let case = before_the_point(rt.alloc(), size)?;
-        check(&rt, rt.alloc(), &case, name.as_str())?;
+        check_number(&rt, rt.alloc(), &case, name.as_str())?;
         let name = format!(in rt.alloc(); "the number of {size} digits behind the point")?;
         let case = behind_the_point(rt.alloc(), size)?;
-        check(&rt, rt.alloc(), &case, name.as_str())?;
+        check_number(&rt, rt.alloc(), &case, name.as_str())?;
     }
     Ok(())
 }
@@ -78,10 +93,10 @@ fn exponents_of_each_size(rt: HostRuntime) -> Result<(), Fail> {
     for size in SIZES {
         let name = format!(in rt.alloc(); "the number of {size} zeros in the exponent")?;
         let case = in_the_exponent(rt.alloc(), size)?;
-        check(&rt, rt.alloc(), &case, name.as_str())?;
+        check_number(&rt, rt.alloc(), &case, name.as_str())?;
         let name = format!(in rt.alloc(); "zero with {size} digits in the exponent")?;
         let case = in_the_exponent_of_zero(rt.alloc(), size)?;
-        check(&rt, rt.alloc(), &case, name.as_str())?;
+        check_number(&rt, rt.alloc(), &case, name.as_str())?;
     }
     Ok(())
 }
