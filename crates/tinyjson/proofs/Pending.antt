@@ -1,20 +1,24 @@
 -- What open containers owe, piece by piece.
-use Rattle.std.proofs.Common.{◌≡◌, ℕ, zero, suc, ◌+◌, ◌<◌, ◌≤◌, Bool, true, false, Option, None, Some, Result, Ok, Err, string_bytes, List, [], ◌∷◌, ◌++◌, length, drop, take, refl, sym, ◌∙◌, ap, append_assoc, append-nil, length-append, add-one, arith, subst}
+use Rattle.std.proofs.Common.{◌≡◌, ℕ, suc, ◌+◌, ◌<◌, Bool, true, false, not, Option, None, Some, Result, Ok, Err, string_bytes, List, [], ◌∷◌, ◌++◌, length, drop, take, refl, sym, ◌∙◌, ap, append_assoc, append-nil, length-append, add-one, arith, subst}
 use Rattle.std.specs.Borrow.{Bor}
-use Rattle.std.specs.Str.{chars}
+use Rattle.std.specs.Str.{chars, IsUtf8}
 use Rattle.std.proofs.lemmas.Str.{encodes-append}
 use Rattle.tinyjson.specs.declared.value.JsonValue.{JsonValue}
 use Rattle.tinyjson.specs.declared.generator.pending.Frame.{Frame}
 use Rattle.tinyjson.specs.declared.generator.pending.Frame.TheVariants.{Items, Member, Members}
 use Rattle.tinyjson.specs.declared.generator.pending.Stack.{Stack}
 use Rattle.tinyjson.specs.Room.{Output, Sent, SentPart, Sends}
-use Rattle.tinyjson.specs.Text.{text, items_text, members_text, before, newline, closing, has_no_items, has_no_members}
+use Rattle.std.specs.Bool.{IsTrue}
+use Rattle.std.specs.Option.{is_some}
+use Rattle.tinyjson.specs.Indent.{indent_of}
+use Rattle.tinyjson.specs.Text.{text, items_text, members_text, before, separator, newline, closing, quoted, escapes, after_colon, has_no_items, has_no_members}
 use Rattle.tinyjson.specs.Tree.{Members as Entries, array, object, member, no_members}
 use Rattle.tinyjson.specs.View.{view, items_view, members_view}
 use Rattle.tinyjson.specs.Sorted.{sorted_view}
-use Rattle.tinyjson.specs.Pending.{Gathered, frame_text, others, owed, frames, IsStack, Opened, Finished, Begins, Advanced, Advances}
+use Rattle.tinyjson.specs.Pending.{Gathered, frame_text, others, owed, frames, IsStack, Opened, Begins, Advanced, Advances}
 use Rattle.tinyjson.proofs.Sending.{goes, stop, stops, written_more, written_none}
-use Rattle.tinyjson.proofs.Encoded.{enc, enc_cons, closed}
+use Rattle.tinyjson.proofs.Encoded.{enc, enc_cons, closed, three}
+use Rattle.tinyjson.proofs.Quotes.{quoted_bytes}
 use Rattle.tinyjson.proofs.Sorted.{Entry}
 use Rattle.tinyjson.proofs.Texts.{member_text, some_members}
 
@@ -147,6 +151,30 @@ module _ (w : Option (List ℕ)) where
       let whole = closed_rest fs₁ gs₁ hs line bracket s ef eg h in
       record { stack = is; written = goes {piece = line ++ bracket ∷ []} rest k whole; less = shorter (line ++ bracket ∷ []) [] rest whole (omega (arith, length-append line (bracket ∷ []))) }
   closes old mid new fs fs₁ gs gs₁ hs line bracket s (Err e) is ef eg k h = stops {piece = line ++ bracket ∷ []} (enc (owed w (frames s) hs)) k (closed_rest fs₁ gs₁ hs line bracket s ef eg h)
+
+  -- ---- a member in compact text
+
+  pub is_compact : (o : Option (Bor (List ℕ))) (b : Bool) → is_some o ≡ not b → IsTrue b → indent_of o ≡ None
+  is_compact None b e t = refl
+  is_compact (Some i) true e t = absurd cc
+  is_compact (Some i) false e t = absurd cc
+
+  enc_separator : (first : Bool) → enc (separator first ++ []) ≡ separator first
+  enc_separator true = refl
+  enc_separator false = enc_cons 44 [] (omega arith)
+
+  pieces_joined : (a b c d : List ℕ) → a ++ (b ++ (c ++ d)) ≡ (a ++ (b ++ c)) ++ d
+  pieces_joined a b c d = simp append_assoc
+
+  pub compact_member : (level : ℕ) (first : Bool) (key v : List ℕ) → IsUtf8 key → w ≡ None
+      → enc (before w level first) ++ enc (quoted (chars key) ++ (58 ∷ (after_colon w ++ v))) ≡ (separator first ++ ((34 ∷ [] ++ (escapes key ++ 34 ∷ [])) ++ 58 ∷ [])) ++ enc v
+  compact_member level first key v u e =
+      ap (λ i. enc (before i level first) ++ enc (quoted (chars key) ++ (58 ∷ (after_colon i ++ v)))) e
+      ∙ ap (λ z. z ++ enc (quoted (chars key) ++ (58 ∷ v))) (enc_separator first)
+      ∙ ap (λ z. separator first ++ z) (three (quoted (chars key)) (58 ∷ []) v)
+      ∙ ap (λ q. separator first ++ (q ++ (enc (58 ∷ []) ++ enc v))) (quoted_bytes key u)
+      ∙ ap (λ c. separator first ++ ((34 ∷ [] ++ (escapes key ++ 34 ∷ [])) ++ (c ++ enc v))) (enc_cons 58 [] (omega arith))
+      ∙ pieces_joined (separator first) (34 ∷ [] ++ (escapes key ++ 34 ∷ [])) (58 ∷ []) (enc v)
 
   -- ---- what begins behind what was written
 

@@ -127,3 +127,7 @@ enc_escapes (c ∷ cs) = encodes-append (escape c) (escapes cs) ∙ ap (λ w. w 
 -- a quoted text: its bytes with escapes, between quotes
 pub quoted_bytes : (bs : List ℕ) → IsUtf8 bs → enc (quoted (chars bs)) ≡ 34 ∷ [] ++ (escapes bs ++ 34 ∷ [])
 quoted_bytes bs u = enclosed 34 34 (escapes (chars bs)) (omega arith) (omega arith) ∙ ap (λ w. 34 ∷ [] ++ (w ++ 34 ∷ [])) (enc_escapes (chars bs) ∙ ap escapes (encodes-chars bs u))
+
+-- a comma, a key and a colon
+pub key_joined : (p s bytes : List ℕ) → ((p ++ (s ++ 34 ∷ [])) ++ bytes) ++ 34 ∷ 58 ∷ [] ≡ p ++ (s ++ ((34 ∷ [] ++ (bytes ++ 34 ∷ [])) ++ 58 ∷ []))
+key_joined p s bytes = simp append_assoc

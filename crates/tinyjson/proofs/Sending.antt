@@ -1,5 +1,5 @@
 -- How pieces follow one another that are written or wait.
-use Rattle.std.proofs.Common.{◌≡◌, ℕ, Option, Some, Result, Ok, Err, List, [], ◌++◌, length, take, refl, sym, ◌∙◌, ap, subst, append_assoc, append-nil}
+use Rattle.std.proofs.Common.{◌≡◌, ℕ, Option, Result, Ok, Err, List, [], ◌++◌, length, take, refl, sym, ◌∙◌, ap, subst, append_assoc, append-nil}
 use Rattle.std.specs.Result.{IsErr}
 use Rattle.std.proofs.lemmas.Result.{MatchResult-from_err}
 use Rattle.std.proofs.lemmas.List.{take_at}
@@ -81,6 +81,10 @@ waits a p q bytes e = record { done = bytes; split = sym (append-nil bytes); wri
 
 pub in_front : (one over bytes : List ℕ) → one ≡ bytes → take (length bytes) (one ++ over) ≡ bytes
 in_front one over bytes e = ap (λ w. take (length bytes) (w ++ over)) e ∙ take_at bytes over (length bytes) refl
+
+-- a part of the bytes does
+pub waits_part : (a : Option (List ℕ)) (p q bytes done rest : List ℕ) → bytes ≡ done ++ rest → q ≡ p ++ done → Sent (a, p) (a, q) bytes rest
+waits_part a p q bytes done rest e h = record { done = done; split = e; written = written_now a (p ++ done) q (sym h) }
 
 -- what waited is written, and the bytes wait
 pub waits_alone : {a b : Option (List ℕ)} {p : List ℕ} (q bytes : List ℕ) → Written a b p [] → q ≡ bytes → Sent (a, p) (b, q) bytes []

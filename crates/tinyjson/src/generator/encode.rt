@@ -13,7 +13,7 @@ ghost use Rattle.tinyjson.specs.declared.generator.pending.Frame.TheVariants.{It
 use super::number::write_number;
 use super::output::{Room, flush, write_bytes};
 use super::pending::{Frame, Stack};
-use super::quick::quick_value;
+use super::quick::{quick_key, quick_value};
 use super::quote::quote;
 use super::sorted::{gather_sorted, next_member};
 use crate::value::JsonValue;
@@ -227,6 +227,9 @@ impl Encoder<'_> {
             ++ text (indent_of self.now.indent) level (view value.now)))))
             (reverse gathered.old.items) result (reverse gathered.new.items) }
     {
+        if quick_key(room, self.indent.is_none(), first, key) {
+            return begin(out, room, gathered, value);
+        }
         self.separate(out, room, level, first)?;
         quote(out, room, key)?;
         self.colon(out, room)?;

@@ -1,10 +1,10 @@
 //! Short texts, which wait as a whole, or not at all.
-ghost use Rattle.std.specs.Prelude.{◌≡◌, ◌++◌, ◌∷◌, [], ℕ, List, Option};
+ghost use Rattle.std.specs.Prelude.{◌≡◌, ◌≤◌, ◌++◌, ◌∷◌, [], ℕ, List, Option, IsTrue, length};
 ghost use Rattle.std.specs.Bool.{MatchBool};
 ghost use Rattle.std.specs.Str.{encode_utf8_all};
 ghost use Rattle.tinyjson_number.specs.Text.{decimal_text};
 ghost use Rattle.tinyjson.specs.Room.{waiting};
-ghost use Rattle.tinyjson.specs.Text.{escapes, text};
+ghost use Rattle.tinyjson.specs.Text.{escapes, separator, text};
 ghost use Rattle.tinyjson.specs.View.{view};
 
 use super::output::Room;
@@ -64,4 +64,35 @@ pub(super) fn quick_text(room: &mut Room, bytes: &[u8]) -> bool
     room.append(bytes);
     room.append(b"\"");
     true
+}
+
+// What stands before a member's value in compact text: a comma, the key and the colon.
+#[inline(always)]
+pub(super) fn quick_key(room: &mut Room, compact: bool, first: bool, key: &str) -> bool
+    ensures { MatchBool result
+        (IsTrue compact × (waiting room.new ≡ waiting room.old
+        ++ (separator first ++ ((34 ∷ [] ++ (escapes key.now ++ 34 ∷ [])) ++ 58 ∷ []))))
+        (waiting room.new ≡ waiting room.old) }
+{
+    let bytes = key.as_bytes();
+    let fits = room.has_room(bytes.len().saturating_add(4));
+    if !compact || !fits || plain_end(bytes, 0) < bytes.len() {
+        return false;
+    }
+    room.append(opening(first));
+    room.append(bytes);
+    room.append(b"\":");
+    true
+}
+
+#[inline(always)]
+fn opening(first: bool) -> &'static [u8]
+    ensures short { length result.now ≤ 2 }
+    ensures value { result.now ≡ separator first ++ 34 ∷ [] }
+{
+    if first {
+        b"\"".as_slice()
+    } else {
+        b",\"".as_slice()
+    }
 }

@@ -1,4 +1,4 @@
-use Rattle.std.proofs.Common.{◌≡◌, ℕ, rules, List, [], ◌++◌, Option, sym, ◌∙◌}
+use Rattle.std.proofs.Common.{◌≡◌, ℕ, rules, List, [], ◌++◌, sym, ◌∙◌}
 use Rattle.std.proofs.lemmas.Str.{encodes-IsAscii}
 use Rattle.std.proofs.lemmas.Int.{to_z-of_z}
 use Rattle.std.specs.Int.{w128}

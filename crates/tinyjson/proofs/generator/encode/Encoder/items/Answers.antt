@@ -1,9 +1,8 @@
-use Rattle.std.proofs.Common.{◌≡◌, ◌∷◌, ◌++◌, ◌+◌, ◌-◌, [], true, false, length, refl, sym, ◌∙◌, ap, subst, reverse, arith}
+use Rattle.std.proofs.Common.{◌≡◌, ◌∷◌, ◌-◌, false, length, refl, sym, ◌∙◌, ap, subst, reverse, arith}
 use Rattle.std.proofs.lemmas.Result.{MatchResult-from_err}
 use Rattle.tinyjson.specs.Indent.{indent_of}
-use Rattle.tinyjson.specs.Pending.{IsStack, frames, owed}
-use Rattle.tinyjson.specs.Text.{items_text, newline}
-use Rattle.tinyjson.specs.View.{items_view}
+use Rattle.tinyjson.specs.Pending.{IsStack, frames}
+use Rattle.tinyjson.specs.Text.{newline}
 use Rattle.tinyjson.specs.declared.generator.pending.Frame.TheVariants.{Items}
 use Rattle.tinyjson.proofs.Sending.{begins, stops, goes}
 use Rattle.tinyjson.proofs.Encoded.{enc}

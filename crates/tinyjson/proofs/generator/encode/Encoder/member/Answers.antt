@@ -4,10 +4,19 @@ use Rattle.std.proofs.lemmas.Result.{MatchResult-from_err}
 use Rattle.tinyjson.specs.Indent.{indent_of}
 use Rattle.tinyjson.specs.Text.{text, quoted, before, after_colon}
 use Rattle.tinyjson.specs.View.{view}
-use Rattle.tinyjson.proofs.Sending.{goes, stops, written_none}
+use Rattle.tinyjson.proofs.Sending.{goes, waits_part, stops, written_none}
 use Rattle.tinyjson.proofs.Encoded.{enc, three}
-use Rattle.tinyjson.proofs.Pending.{begins_behind}
+use Rattle.tinyjson.proofs.Pending.{begins_behind, compact_member, is_compact}
 use Rattle.tinyjson.proofs.generator.encode.Encoder.member.Goals as goal
+
+pub returns-then-quick_key : goal.returns-then-quick_key
+returns-then-quick_key g c =
+    let w = indent_of c.args.self.now.indent in
+    let key = c.args.key.now in
+    let v = text w c.args.level (view c.args.value.now) in
+    let quick = rw c.if-quick_key.true at c.quick_key.ensures in
+    let none = is_compact w c.args.self.now.indent c.is_none.result c.is_none.ensures quick.0 in
+    begins_behind w c.args.level _ _ _ _ (enc v) _ _ _ (waits_part _ _ _ _ _ (enc v) (compact_member w c.args.level c.args.first key v c.utf8.key none) quick.1) (c.begin.ensures w c.args.level)
 
 pub returns-in_err-separate : goal.returns-in_err-separate
 returns-in_err-separate g c =
@@ -15,7 +24,8 @@ returns-in_err-separate g c =
     let key = quoted (chars c.args.key.now) in
     let v = text w c.args.level (view c.args.value.now) in
     let start = enc (before w c.args.level c.args.first) in
-    MatchResult-from_err _ _ _ c.from_residual.ensures.0 (λ _. stops _ c.in_err-separate.ensures (written_none _ _ _ (ap (λ z. start ++ z) (three key (58 ∷ after_colon w) v))))
+    let same = rw c.if-quick_key.false at c.quick_key.ensures in
+    rw (← same) (MatchResult-from_err _ _ _ c.from_residual.ensures.0 (λ _. stops _ c.in_err-separate.ensures (written_none _ _ _ (ap (λ z. start ++ z) (three key (58 ∷ after_colon w) v)))))
 
 pub returns-in_err-quote : goal.returns-in_err-quote
 returns-in_err-quote g c =
@@ -25,7 +35,8 @@ returns-in_err-quote g c =
     let start = enc (before w c.args.level c.args.first) in
     let rest = enc (58 ∷ after_colon w) ++ enc v in
     let h = goes (enc key ++ rest) c.in_ok-separate.ensures (written_none _ _ _ (ap (λ z. start ++ z) (three key (58 ∷ after_colon w) v))) in
-    MatchResult-from_err _ _ _ c.from_residual-in_err-quote.ensures.0 (λ _. stops rest c.in_err-quote.ensures h)
+    let same = rw c.if-quick_key.false at c.quick_key.ensures in
+    rw (← same) (MatchResult-from_err _ _ _ c.from_residual-in_err-quote.ensures.0 (λ _. stops rest c.in_err-quote.ensures h))
 
 pub returns-in_err-colon : goal.returns-in_err-colon
 returns-in_err-colon g c =
@@ -36,7 +47,8 @@ returns-in_err-colon g c =
     let rest = enc (58 ∷ after_colon w) ++ enc v in
     let h = goes (enc key ++ rest) c.in_ok-separate.ensures (written_none _ _ _ (ap (λ z. start ++ z) (three key (58 ∷ after_colon w) v))) in
     let k = goes rest c.in_ok-quote.ensures h in
-    MatchResult-from_err _ _ _ c.from_residual-in_err-colon.ensures.0 (λ _. stops (enc v) c.in_err-colon.ensures k)
+    let same = rw c.if-quick_key.false at c.quick_key.ensures in
+    rw (← same) (MatchResult-from_err _ _ _ c.from_residual-in_err-colon.ensures.0 (λ _. stops (enc v) c.in_err-colon.ensures k))
 
 pub returns : goal.returns
 returns g c =
@@ -47,4 +59,5 @@ returns g c =
     let rest = enc (58 ∷ after_colon w) ++ enc v in
     let h = goes (enc key ++ rest) c.in_ok-separate.ensures (written_none _ _ _ (ap (λ z. start ++ z) (three key (58 ∷ after_colon w) v))) in
     let k = goes rest c.in_ok-quote.ensures h in
-    begins_behind w c.args.level _ _ _ _ (enc v) _ _ _ (goes (enc v) c.in_ok-colon.ensures k) (c.begin.ensures w c.args.level)
+    let same = rw c.if-quick_key.false at c.quick_key.ensures in
+    rw (← same) (begins_behind w c.args.level _ _ _ _ (enc v) _ _ _ (goes (enc v) c.in_ok-colon.ensures k) (c.begin-2.ensures w c.args.level))

@@ -1,7 +1,7 @@
-use Rattle.std.proofs.Common.{◌≡◌, ◌∷◌, ◌++◌, ◌+◌, ◌-◌, suc, [], true, false, length, refl, sym, ◌∙◌, ap, subst, reverse, arith}
+use Rattle.std.proofs.Common.{◌≡◌, ◌∷◌, ◌-◌, suc, false, length, refl, sym, ap, subst, reverse, arith}
 use Rattle.std.proofs.lemmas.Result.{MatchResult-from_err}
 use Rattle.tinyjson.specs.Indent.{indent_of}
-use Rattle.tinyjson.specs.Pending.{IsStack, frames, owed}
+use Rattle.tinyjson.specs.Pending.{IsStack, frames}
 use Rattle.tinyjson.specs.Text.{newline}
 use Rattle.tinyjson.specs.declared.generator.pending.Frame.TheVariants.{Members}
 use Rattle.tinyjson.proofs.Sending.{begins, stops, goes}

@@ -1,9 +1,7 @@
-use Rattle.std.proofs.Common.{sym, ap, append-nil, subst, reverse}
+use Rattle.std.proofs.Common.{append-nil, reverse}
 use Rattle.std.proofs.lemmas.Result.{MatchResult-from_err}
 use Rattle.tinyjson.specs.Indent.{indent_of}
-use Rattle.tinyjson.specs.Pending.{frame_text}
 use Rattle.tinyjson.proofs.Sending.{ends}
-use Rattle.tinyjson.proofs.Encoded.{enc}
 use Rattle.tinyjson.proofs.generator.encode.Encoder.value.Goals as goal
 
 pub returns-in_err-begin : goal.returns-in_err-begin
