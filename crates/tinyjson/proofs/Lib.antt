@@ -4,6 +4,7 @@ pub mod Entries
 pub mod Views
 pub mod Trees
 pub mod Callers
+pub mod Messages
 pub mod WholeNumbers
 pub mod JoinedMembers
 pub mod QuotedTrip

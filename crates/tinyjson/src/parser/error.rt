@@ -1,6 +1,7 @@
 //! Why a text was refused, and where.
-ghost use Rattle.std.specs.Prelude.{◌≡◌, ◌↔◌, IsTrue};
-ghost use Rattle.tinyjson.specs.Error.{error_kind, error_position};
+ghost use Rattle.std.specs.Int.{is_in_range};
+ghost use Rattle.std.specs.Prelude.{◌≡◌, ◌↔◌, IsTrue, Some};
+ghost use Rattle.tinyjson.specs.Error.{error_kind, error_position, error_words, kind_words, shown};
 
 use crate::value::JsonKind;
 use std::error::Error;
@@ -137,9 +138,11 @@ impl JsonParseError {
 struct Shown(char);
 
 impl fmt::Display for Shown {
+    ghost output = { λ s. Some (shown s.0) };
+
     fn fmt<W: fmt::Write>(&self, f: &mut fmt::Formatter<W>) -> fmt::Result {
         let c = self.0;
-        if (' '..='~').contains(&c) {
+        if is_printable(c) {
             write!(f, "{c}")
         } else {
             let code = c as u32;
@@ -148,97 +151,73 @@ impl fmt::Display for Shown {
     }
 }
 
-impl JsonParseErrorKind {
-    /// What stands before the character or the kind that the message ends with or quotes, and behind it.
-    fn words(self) -> (&'static str, &'static str) {
-        match self {
-            JsonParseErrorKind::UnexpectedEof => ("Unexpected EOF", ""),
-            JsonParseErrorKind::InvalidCharacter(_) => ("Invalid character: ", ""),
-            JsonParseErrorKind::ExpectedEof(_) => ("Expected EOF but got character '", "'"),
-            JsonParseErrorKind::KeyNotString(_) => ("Key of object must be string but found ", ""),
-            JsonParseErrorKind::ExpectedColon(_) => {
-                (
-                    "':' is expected after key of object but actually found '",
-                    "'",
-                )
-            }
-            JsonParseErrorKind::ExpectedCommaOrBrace(_) => {
-                (
-                    "',' or '}' is expected for object but actually found '",
-                    "'",
-                )
-            }
-            JsonParseErrorKind::ExpectedCommaOrBracket(_) => {
-                ("',' or ']' is expected for array but actually found '", "'")
-            }
-            JsonParseErrorKind::InvalidUtf16 => ("Invalid UTF-16 sequence", ""),
-            JsonParseErrorKind::InvalidHexDigit(_) => (
-                "Unicode character must be \\uXXXX (X is hex character) format but found character '",
-                "'",
-            ),
-            JsonParseErrorKind::InvalidEscape(_) => ("'\\", "' is invalid escaped character"),
-            JsonParseErrorKind::ControlCharacter(_) => {
-                ("String cannot contain control character ", "")
-            }
-            JsonParseErrorKind::UnexpectedInLiteral(_) => {
-                ("Unexpected character '", "' while parsing a literal")
-            }
-            JsonParseErrorKind::EmptyInteger => {
-                ("Integer part must not be empty in number literal", "")
-            }
-            JsonParseErrorKind::LeadingZero => {
-                (
-                    "Integer part of number must not start with 0 except for '0'",
-                    "",
-                )
-            }
-            JsonParseErrorKind::EmptyFraction => ("Fraction part of number must not be empty", ""),
-            JsonParseErrorKind::EmptyExponent => {
-                ("Exponent part must not be empty in number literal", "")
-            }
-            JsonParseErrorKind::NumberOutOfRange => {
-                ("Invalid number literal: power of ten out of range", "")
-            }
-            JsonParseErrorKind::OutOfMemory => ("Out of memory", ""),
-            JsonParseErrorKind::TooDeep(_) => ("Nesting is too deep at '", "'"),
-        }
-    }
-
-    /// The character that the message shows.
-    fn character(self) -> Option<char> {
-        match self {
-            JsonParseErrorKind::InvalidCharacter(c)
-            | JsonParseErrorKind::ExpectedEof(c)
-            | JsonParseErrorKind::ExpectedColon(c)
-            | JsonParseErrorKind::ExpectedCommaOrBrace(c)
-            | JsonParseErrorKind::ExpectedCommaOrBracket(c)
-            | JsonParseErrorKind::InvalidHexDigit(c)
-            | JsonParseErrorKind::InvalidEscape(c)
-            | JsonParseErrorKind::ControlCharacter(c)
-            | JsonParseErrorKind::UnexpectedInLiteral(c)
-            | JsonParseErrorKind::TooDeep(c) => Some(c),
-            _ => None,
-        }
-    }
+/// Whether messages show the character itself.
+fn is_printable(c: char) -> bool
+    ensures { result ≡ is_in_range 32 126 c }
+{
+    matches!(c, ' '..='~')
 }
 
 /// The words of the kind, without a position.
 impl fmt::Display for JsonParseErrorKind {
+    ghost output = { λ k. Some (kind_words k) };
+
     fn fmt<W: fmt::Write>(&self, f: &mut fmt::Formatter<W>) -> fmt::Result {
-        let (before, behind) = self.words();
-        f.write_str(before)?;
-        if let JsonParseErrorKind::KeyNotString(kind) = *self {
-            write!(f, "{kind}")?;
+        match *self {
+            Self::UnexpectedEof => f.write_str("Unexpected EOF"),
+            Self::InvalidCharacter(c) => write!(f, "Invalid character: {}", Shown(c)),
+            Self::ExpectedEof(c) => write!(f, "Expected EOF but got character '{}'", Shown(c)),
+            Self::KeyNotString(kind) => write!(f, "Key of object must be string but found {kind}"),
+            Self::ExpectedColon(c) => write!(
+                f,
+                "':' is expected after key of object but actually found '{}'",
+                Shown(c)
+            ),
+            Self::ExpectedCommaOrBrace(c) => write!(
+                f,
+                "',' or '}}' is expected for object but actually found '{}'",
+                Shown(c)
+            ),
+            Self::ExpectedCommaOrBracket(c) => write!(
+                f,
+                "',' or ']' is expected for array but actually found '{}'",
+                Shown(c)
+            ),
+            Self::InvalidUtf16 => f.write_str("Invalid UTF-16 sequence"),
+            Self::InvalidHexDigit(c) => {
+                f.write_str("Unicode character must be \\uXXXX (X is hex character) format")?;
+                write!(f, " but found character '{}'", Shown(c))
+            }
+            Self::InvalidEscape(c) => write!(f, "'\\{}' is invalid escaped character", Shown(c)),
+            Self::ControlCharacter(c) => {
+                write!(f, "String cannot contain control character {}", Shown(c))
+            }
+            Self::UnexpectedInLiteral(c) => {
+                write!(
+                    f,
+                    "Unexpected character '{}' while parsing a literal",
+                    Shown(c)
+                )
+            }
+            Self::EmptyInteger => f.write_str("Integer part must not be empty in number literal"),
+            Self::LeadingZero => {
+                f.write_str("Integer part of number must not start with 0 except for '0'")
+            }
+            Self::EmptyFraction => f.write_str("Fraction part of number must not be empty"),
+            Self::EmptyExponent => f.write_str("Exponent part must not be empty in number literal"),
+            Self::NumberOutOfRange => {
+                f.write_str("Invalid number literal: power of ten out of range")
+            }
+            Self::OutOfMemory => f.write_str("Out of memory"),
+            Self::TooDeep(c) => write!(f, "Nesting is too deep at '{}'", Shown(c)),
         }
-        if let Some(c) = self.character() {
-            write!(f, "{}", Shown(c))?;
-        }
-        f.write_str(behind)
     }
 }
 
 /// `Parse error at line:LINE, col:COLUMN: ` and the words of the kind.
 impl fmt::Display for JsonParseError {
+    ghost output = { λ e. Some (error_words e) };
+
     fn fmt<W: fmt::Write>(&self, f: &mut fmt::Formatter<W>) -> fmt::Result {
         let JsonParseError { kind, line, column } = *self;
         write!(f, "Parse error at line:{line}, col:{column}: {kind}")
