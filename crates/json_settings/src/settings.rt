@@ -1,8 +1,16 @@
 //! The settings of a JSON text.
-ghost use Rattle.std.specs.Prelude.{option_map};
+ghost use Rattle.std.specs.Prelude.{option_map, Some};
 ghost use Rattle.std.specs.Str.{chars};
 ghost use Rattle.tinyjson.specs.View.{view, text};
-ghost use Rattle.json_settings.specs.Settings.{AnswersText, AnswersTree, IsPort, IsHost, IsTls, GivesOnly};
+ghost use Rattle.json_settings.specs.Settings.{
+  AnswersText,
+  AnswersTree,
+  IsPort,
+  IsHost,
+  IsTls,
+  GivesOnly,
+  error_text,
+};
 
 use std::alloc::Global;
 use std::collections::HashMap;
@@ -107,6 +115,8 @@ fn host(member: Option<JsonValue>) -> Option<String>
 
 /// The words that the program writes behind its name.
 impl fmt::Display for SettingsError {
+    ghost output = { λ e. Some (error_text e) };
+
     fn fmt<W: fmt::Write>(&self, f: &mut fmt::Formatter<W>) -> fmt::Result {
         match self {
             SettingsError::Text(error) => write!(f, "{error}"),

@@ -1,5 +1,6 @@
 -- The faults of a run.
-use Rattle.std.specs.Prelude.{◌≡◌, ℕ, ◌⊎◌, List, Option, Some, None, codes}
+use Rattle.std.specs.Prelude.{◌≡◌, ℕ, ◌⊎◌, List, codes}
+use Rattle.tinyjson.specs.Error.{error_words}
 use Rattle.jsonnorm.specs.declared.fault.RunFault.{RunFault}
 use Rattle.jsonnorm.specs.declared.fault.RunFault.TheVariants.{Refused, NotUtf8, OutOfMemory, Reading, Writing}
 
@@ -10,13 +11,13 @@ status_of OutOfMemory = 4
 status_of Reading = 4
 status_of Writing = 4
 
--- the words of a fault; those of a refusal are the parser's, of which nothing is said here
-abbrev pub fault_words : RunFault → Option (List ℕ)
-fault_words (Refused e) = None
-fault_words NotUtf8 = Some (codes "input is not UTF-8")
-fault_words OutOfMemory = Some (codes "out of memory")
-fault_words Reading = Some (codes "reading failed")
-fault_words Writing = Some (codes "writing failed")
+-- the words of a fault; those of a refusal are the parser's
+abbrev pub fault_words : RunFault → List ℕ
+fault_words (Refused e) = error_words e
+fault_words NotUtf8 = codes "input is not UTF-8"
+fault_words OutOfMemory = codes "out of memory"
+fault_words Reading = codes "reading failed"
+fault_words Writing = codes "writing failed"
 
 -- the fault is out of memory where that was the cause, and otherwise the other one
 abbrev pub IsMemoryOr : Type 0 → RunFault → RunFault → Type 0

@@ -1,5 +1,5 @@
 //! Why a run gives no text.
-ghost use Rattle.std.specs.Prelude.{◌≡◌};
+ghost use Rattle.std.specs.Prelude.{◌≡◌, Some};
 ghost use Rattle.std.specs.IoError.{error_kind as io_kind};
 ghost use Rattle.tinyjson.specs.Error.{error_kind};
 ghost use Rattle.jsonnorm.specs.Fault.{status_of, fault_words, IsMemoryOr};
@@ -59,7 +59,7 @@ pub(crate) fn writing_fault(error: io::Error) -> RunFault
 
 /// The words that the program writes behind its name.
 impl fmt::Display for RunFault {
-    ghost output = { fault_words };
+    ghost output = { λ e. Some (fault_words e) };
 
     fn fmt<W: fmt::Write>(&self, f: &mut fmt::Formatter<W>) -> fmt::Result {
         match self {
