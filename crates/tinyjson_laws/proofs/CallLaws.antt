@@ -19,8 +19,7 @@ use Rattle.tinyjson.specs.declared.value.JsonKind.TheVariants as kind
 use Rattle.tinyjson.specs.declared.value.JsonValue as made
 use Rattle.tinyjson.specs.declared.value.JsonValue.{JsonValue}
 use Rattle.tinyjson.specs.declared.value.convert.UnexpectedValue.{UnexpectedValue}
-use Rattle.tinyjson.proofs.Entries.{text_eq}
-use Rattle.tinyjson.proofs.Trees.{view-IsTree}
+use Rattle.tinyjson.proofs.Callers.{text_eq, view-IsTree}
 use Rattle.tinyjson_laws.proofs.ReadingLaws.{one_tree}
 use Rattle.tinyjson_laws.proofs.WritingLaws.{compact_reads_back, indented_reads_back, same_compact}
 use Rattle.tinyjson_laws.specs.Calls.{TextAnswered, ReadsBack, EqualStrings, ConvertedBack}

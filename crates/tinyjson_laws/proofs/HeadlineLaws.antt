@@ -12,14 +12,14 @@ use Rattle.tinyjson.specs.declared.parser.error.JsonParseError.{JsonParseError}
 use Rattle.tinyjson.specs.declared.parser.error.JsonParseErrorKind.{JsonParseErrorKind}
 use Rattle.tinyjson.specs.declared.parser.error.JsonParseErrorKind.TheVariants as kind
 use Rattle.tinyjson.specs.declared.value.JsonValue.{JsonValue}
-use Rattle.tinyjson.proofs.Answering.{refused-text}
+use Rattle.tinyjson.proofs.Callers.{refused-text}
 use Rattle.tinyjson_laws.specs.Headline.{FollowsGrammar, StopsAt, IsTimely}
 use Rattle.tinyjson_laws.proofs.PrefixLaws.{viable-at-end, refused_not_too_soon, refused_not_too_late}
 use Rattle.tinyjson_laws.proofs.ReadingLaws.{one_tree}
 
 pub follows-grammar : (limit : Option ℕ) (xs : List ℕ) (r : Result JsonValue JsonParseError) → ParsesText limit xs r → FollowsGrammar limit xs r
 follows-grammar limit xs (Ok v) p = λ t. (λ h. one_tree limit xs t (view v) h p.answer.1, λ e. subst (IsText limit xs) (sym e) p.answer.1)
-follows-grammar limit xs (Err e) p = λ n. refused-text limit xs e n p
+follows-grammar limit xs (Err e) p = λ n. refused-text limit xs e p n
 
 other-kind : (limit : Option ℕ) (k : JsonParseErrorKind) (used rest : List ℕ) → ¬ (k ≡ kind.OutOfMemory) → RefusalSays limit k used rest → IsRefusal limit k used rest
 other-kind limit kind.OutOfMemory used rest n r = absurd (n refl)

@@ -7,7 +7,7 @@ use Rattle.std.proofs.lemmas.Slice.Eq.{bytes_eq-Decides}
 use Rattle.tinyjson.specs.Tree as tree
 use Rattle.tinyjson.specs.Tree.{Tree, Members, key_of, find}
 use Rattle.tinyjson.specs.Syntax.{Pairs, last_pair, pair, tree_of, pairs_members}
-use Rattle.tinyjson.proofs.Members.{find-put}
+use Rattle.tinyjson.proofs.Callers.{find-put}
 use Rattle.tinyjson_laws.specs.Members.{entries_of, HasNone, IsLast, LastPairStays}
 
 abbrev Entry : Type 0

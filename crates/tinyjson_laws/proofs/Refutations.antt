@@ -11,7 +11,7 @@ use Rattle.tinyjson.specs.Syntax.{AreWhite}
 use Rattle.tinyjson.specs.declared.parser.error.JsonParseErrorKind.{JsonParseErrorKind}
 use Rattle.tinyjson.specs.declared.parser.error.JsonParseErrorKind.TheVariants as error
 use Rattle.tinyjson.specs.declared.value.JsonKind.TheVariants as kind
-use Rattle.tinyjson.proofs.Answering.{all-scalars}
+use Rattle.tinyjson.proofs.Callers.{all-scalars}
 use Rattle.tinyjson_number.specs.Numeral.{power_fits, value}
 use Rattle.tinyjson_laws.proofs.Examples.Reading.{refusal-of}
 use Rattle.tinyjson_laws.proofs.RefusalLaws.{one_refusal}

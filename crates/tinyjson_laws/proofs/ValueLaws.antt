@@ -3,7 +3,7 @@ use Rattle.std.proofs.Common.{ap}
 use Rattle.tinyjson.specs.Equality.{tree_eq_decides}
 use Rattle.tinyjson.specs.Text.{compact}
 use Rattle.tinyjson.specs.View.{view}
-use Rattle.tinyjson.proofs.Trees.{view-IsTree}
+use Rattle.tinyjson.proofs.Callers.{view-IsTree}
 use Rattle.tinyjson_laws.specs.Values.{EqualTrees, EqualTexts}
 use Rattle.tinyjson_laws.proofs.WritingLaws.{same_compact}
 

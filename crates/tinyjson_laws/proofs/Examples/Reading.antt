@@ -7,7 +7,7 @@ use Rattle.tinyjson.specs.Refusal.{IsRefusal}
 use Rattle.tinyjson.specs.Tree as tree
 use Rattle.tinyjson.specs.Tree.{Tree, Members, no_members, member, items_of}
 use Rattle.tinyjson.specs.declared.parser.error.JsonParseErrorKind.{JsonParseErrorKind}
-use Rattle.tinyjson.proofs.Answering.{all-scalars}
+use Rattle.tinyjson.proofs.Callers.{all-scalars}
 use Rattle.tinyjson.proofs.Grammar.Theorem.{accepts, refuses}
 
 -- the characters are a text of the tree

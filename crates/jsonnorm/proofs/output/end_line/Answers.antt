@@ -1,4 +1,4 @@
-use Rattle.tinyjson.proofs.Writing.{begins, stop, written_same, written_take}
+use Rattle.tinyjson.proofs.Callers.{begins, stop, written_same, written_take}
 use Rattle.std.proofs.lemmas.Result.{MatchResult-from_err}
 use Rattle.jsonnorm.proofs.output.end_line.Goals as goal
 

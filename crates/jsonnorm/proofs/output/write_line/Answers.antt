@@ -1,5 +1,5 @@
 use Rattle.std.proofs.Common.{[], ◌∷◌}
-use Rattle.tinyjson.proofs.Writing.{begins, ends, fails, goes}
+use Rattle.tinyjson.proofs.Callers.{begins, ends, fails, goes}
 use Rattle.jsonnorm.proofs.output.write_line.Goals as goal
 
 pub returns-in_err-write_text : goal.returns-in_err-write_text

@@ -1,5 +1,5 @@
 use Rattle.std.proofs.Common.{None}
-use Rattle.tinyjson.proofs.Answering.{parses-text}
+use Rattle.tinyjson.proofs.Callers.{parses-text}
 use Rattle.tinyjson_laws.proofs.HeadlineLaws.{follows-grammar, timely}
 use Rattle.tinyjson_laws.proofs.headline.parsed_from.Goals as goal
 

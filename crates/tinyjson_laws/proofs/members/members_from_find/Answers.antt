@@ -1,4 +1,4 @@
-use Rattle.tinyjson.proofs.Members.{members_from_find}
+use Rattle.tinyjson.proofs.Callers.{members_from_find}
 use Rattle.tinyjson_laws.proofs.members.members_from_find.Goals as goal
 
 pub returns : goal.returns

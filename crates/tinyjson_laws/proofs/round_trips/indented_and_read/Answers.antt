@@ -2,8 +2,7 @@ use Rattle.std.proofs.Common.{◌≡◌, Some, sym, ap, ◌∙◌, subst, rules}
 use Rattle.std.specs.Str.{IsUtf8, chars}
 use Rattle.tinyjson.specs.Text.{indented}
 use Rattle.tinyjson.specs.View.{view}
-use Rattle.tinyjson.proofs.Scalars.{text-scalars, encoded_utf8, encoded_chars}
-use Rattle.tinyjson.proofs.Trees.{view-IsTree}
+use Rattle.tinyjson.proofs.Callers.{text-scalars, encoded_utf8, encoded_chars, view-IsTree}
 use Rattle.tinyjson_laws.proofs.CallLaws.{reads_back}
 use Rattle.tinyjson_laws.proofs.TextScalars.{white-scalars}
 use Rattle.tinyjson_laws.proofs.round_trips.indented_and_read.Goals as goal

@@ -1,5 +1,5 @@
 use Rattle.std.proofs.Common.{ap, ◌∙◌}
-use Rattle.tinyjson.proofs.Writing.{written_all}
+use Rattle.tinyjson.proofs.Callers.{written_all}
 use Rattle.tinyjson_laws.proofs.round_trips.indented_bytes.Goals as goal
 
 pub returns : goal.returns

@@ -1,4 +1,4 @@
-use Rattle.tinyjson.proofs.Trees.{view-IsTree}
+use Rattle.tinyjson.proofs.Callers.{view-IsTree}
 use Rattle.tinyjson_laws.proofs.values.values_are_sound.Goals as goal
 
 pub returns : goal.returns
