@@ -22,6 +22,7 @@ pub mod Growth
 pub mod Answering
 pub mod Equality
 pub mod Copies
+pub mod Comparing
 pub mod Index
 pub mod Writing
 pub mod Sending

@@ -16,7 +16,7 @@ key_total = on_total encode_utf8_all nat_list_cmp_total
 pub key_same : (k l : List ℕ) → key_cmp k l ≡ Equal → k ≡ l
 key_same k l h = encodes_same k l (exact_bytes _ _ h)
 
-same_key : (k : List ℕ) → bytes_eq k k ≡ true
+pub same_key : (k : List ℕ) → bytes_eq k k ≡ true
 same_key k = (bytes_eq-Decides k k).1 refl
 
 not_less : Less ≡ Equal → ⊥
@@ -37,7 +37,7 @@ apart k l o e differ = by (bytes_eq k l) refl
     by false h = refl
     by true h = absurd (differ (sym e ∙ (ap (λ x. key_cmp k x) (sym ((bytes_eq-Decides k l).0 h)) ∙ itself k)))
 
-flip : (k l : List ℕ) → key_cmp k l ≡ Greater → key_cmp l k ≡ Less
+pub flip : (k l : List ℕ) → key_cmp k l ≡ Greater → key_cmp l k ≡ Less
 flip k l e = key_total.antisymm l k ∙ ap ordering_reverse e
 
 cond_twice : {A : Type 0} (b : Bool) (x y z : A) → cond b x z ≡ cond b x (cond b y z)
@@ -128,10 +128,10 @@ sorted-remove k (member l u ms) s = by (bytes_eq k l) (sorted-remove k ms s.1)
     by true h = h
     by false h = (below-remove l k ms s.1 s.0, h)
 
-found_first : (k : List ℕ) (t : Tree) (ms : Members) → find k (member k t ms) ≡ Some t
+pub found_first : (k : List ℕ) (t : Tree) (ms : Members) → find k (member k t ms) ≡ Some t
 found_first k t ms = ap (λ b. cond b (Some t) (find k ms)) (same_key k)
 
-some_none : {A : Type 0} (x : A) → Some x ≡ None → ⊥
+pub some_none : {A : Type 0} (x : A) → Some x ≡ None → ⊥
 some_none x h = cc
 
 abbrev Same : Members → Members → Type 0

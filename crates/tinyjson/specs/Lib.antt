@@ -22,6 +22,7 @@ pub mod Indent
 pub mod Generator
 -- what private contracts alone say
 pub mod Copy
+pub mod Comparison
 pub mod Machine
 pub mod Source
 pub mod Slice
