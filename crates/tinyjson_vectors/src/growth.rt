@@ -2,6 +2,7 @@
 //! by hand, written, copied and converted.
 
 mod containers;
+mod deep;
 mod nesting;
 mod numbers;
 mod strings;

@@ -6,7 +6,7 @@ use std::collections::HashMap;
 use std::test::Fail;
 use tinyjson::{JsonParseErrorKind, JsonParser, JsonValue};
 
-/// The deepest containers that are closed: a value is compared, copied, written and dropped by recursion.
+/// The deepest containers that are closed here, where the language drops the values. `deep` has deeper ones.
 const DEEPEST: usize = 1_000;
 
 /// The deepest containers whose text is indented, since that text grows with the square of the depth.
