@@ -1,13 +1,17 @@
 -- Tokens that are indices.
-use Rattle.std.proofs.Common.{◌≡◌, ◌<◌, ◌≤◌, ◌^◌, ℕ, zero, suc, Bool, true, false, true≢false, ◌||◌, not, ◌==◌, cond, length, List, [], ◌∷◌, Option, Some, None, Result, Ok, Err, MatchOption, encode_utf8_all, refl, sym, ap, ◌∙◌, subst, rules, arith}
+use Rattle.std.proofs.Common.{◌≡◌, ◌<◌, get_or, String, Global, string_bytes, lit<, ◌∷◌, ◌≤◌, ◌^◌, ℕ, zero, suc, Bool, true, false, true≢false, OnOk, ◌&&◌, ◌||◌, not, ◌==◌, cond, length, List, [], Option, Some, None, Result, Ok, Err, MatchOption, encode_utf8_all, refl, sym, ap, ◌∙◌, subst, rules, arith}
 use Rattle.std.proofs.lemmas.Bool.{and_parts}
+use Rattle.std.proofs.lemmas.Bool.Decides.{nat_tests}
+use Rattle.std.proofs.lemmas.Fmt.{digits_decimal, digits_value-decimal, decimal_digit, decimal_nonempty, first_decimal, IsAscii-decimal}
 use Rattle.std.proofs.lemmas.Str.{chars-IsAscii, encodes-chars, IsUtf8-from_ascii}
 use Rattle.std.proofs.lemmas.Str.Parse.{IsNumeralModel, numerals_by_value, tells_all_ascii_digits, parse_digits}
 use Rattle.std.specs.Char.{is_ascii_digit}
 use Rattle.std.specs.Result.{result_ok, OkIff}
 use Rattle.std.specs.Str.{IsAscii, IsUtf8, chars, all_ascii_digits}
 use Rattle.std.specs.Str.Parse.{ParsesUnsigned, digits_value}
-use Rattle.json_pointer.specs.Index.{is_nil, is_index, index_of}
+use Rattle.std.specs.Fmt.{decimal}
+use Rattle.tinyjson.specs.View.{text}
+use Rattle.json_pointer.specs.Index.{HasIndexBefore, is_nil, is_index, index_of}
 
 own : IsNumeralModel (λ ds. all_ascii_digits ds ≡ true) (digits_value 10)
 own = numerals_by_value _ tells_all_ascii_digits
@@ -63,3 +67,31 @@ pub index_says : {E : Type 0} (bs : List ℕ) (r : Result ℕ E) (o : Option ℕ
     → MatchOption o ((i : ℕ) → index_of (chars bs) ≡ Some i → 2 ^ 64 ≤ i) (λ i. index_of (chars bs) ≡ Some i)
 index_says bs r o u e h is =
     subst (λ p. MatchOption p ((i : ℕ) → index_of (chars bs) ≡ Some i → 2 ^ 64 ≤ i) (λ i. index_of (chars bs) ≡ Some i)) (sym is) (from_result bs r u e (parse_digits own 64 bs r h (digits_in bs e)))
+
+-- ---- the token of an index
+
+or_true : (b : Bool) → (b || true) ≡ true
+or_true true = refl
+or_true false = refl
+
+isnt_zero : (c : ℕ) → 48 < c → (c == 48) ≡ false
+isnt_zero c h = grind (arith, nat_tests)
+
+index_token : (ds : List ℕ) (n : ℕ) → all_ascii_digits ds ≡ true → 0 < length ds → (0 < n → 48 < get_or ds 0 0) → (n ≡ 0 → ds ≡ 48 ∷ []) → is_index ds ≡ true
+index_token [] n h k f z = absurd (omega arith)
+index_token (c ∷ ds) zero h k f z = ap is_index (z refl)
+index_token (c ∷ ds) (suc n) h k f z =
+    ap (λ a. a && (is_nil ds || not (c == 48))) h ∙ (ap (λ e. is_nil ds || not e) (isnt_zero c (f (omega arith))) ∙ or_true (is_nil ds))
+
+decimal_zero : (n : ℕ) → n ≡ 0 → decimal n ≡ 48 ∷ []
+decimal_zero n e = ap decimal e ∙ decimal_digit 0 (lit< tt)
+
+pub decimal-index : (n : ℕ) → n < 2 ^ 64 → index_of (decimal n) ≡ Some n
+decimal-index n h =
+    ap (λ b. cond b (Some (digits_value 10 (decimal n))) None) (index_token (decimal n) n (digits_decimal own n h) (decimal_nonempty n h) (λ k. first_decimal n k h) (decimal_zero n))
+    ∙ ap Some (digits_value-decimal own n h)
+
+-- the text that is the decimal of an index
+pub prepended : {T E : Type 0} (r : Result T E) (s : String Global) (n : ℕ) (old new : List (List ℕ)) → n < 2 ^ 64 → string_bytes s ≡ decimal n → OnOk r (new ≡ text s ∷ old) → OnOk r (HasIndexBefore n old new)
+prepended (Ok x) s n old new h b e = record { token = text s; named = ap index_of (ap chars b ∙ chars-IsAscii (decimal n) (IsAscii-decimal n h)) ∙ decimal-index n h; joined = e }
+prepended (Err x) s n old new h b e = tt

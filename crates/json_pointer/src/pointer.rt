@@ -3,6 +3,7 @@ ghost use Rattle.std.specs.Prelude.{◌≡◌, ◌∷◌, [], Some, OnOk, codes,
 ghost use Rattle.std.specs.Fmt.{WritesOnOk};
 ghost use Rattle.std.specs.Str.{chars};
 ghost use Rattle.tinyjson.specs.View.{text};
+ghost use Rattle.json_pointer.specs.Index.{HasIndexBefore};
 ghost use Rattle.json_pointer.specs.Text.{escape_char, escape, pointer_text};
 ghost use Rattle.json_pointer.specs.Tokens.{tokens_of};
 ghost use Rattle.json_pointer.specs.declared.pointer.PointerError.{PointerError};
@@ -71,6 +72,13 @@ impl Pointer {
         ensures { OnOk result (tokens_of self.new ≡ text token ∷ tokens_of self.old) }
     {
         Ok(self.tokens.insert(0, token)?)
+    }
+
+    /// Puts the token of an index in front.
+    pub fn prepend_index(&mut self, alloc: Global, index: usize) -> Result<(), AllocError>
+        ensures { OnOk result (HasIndexBefore index (tokens_of self.old) (tokens_of self.new)) }
+    {
+        self.prepend(format!(in alloc; "{index}")?)
     }
 }
 
