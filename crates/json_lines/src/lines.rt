@@ -14,7 +14,7 @@ use tinyjson::{JsonParseError, JsonValue};
 pub struct Refusal {
     /// Which line it is, from 1.
     pub number: u64,
-    /// Why it is refused, and where in the line.
+    /// Why it is refused, and where: behind its line feed at line 2, column 0.
     pub error: JsonParseError,
 }
 
@@ -105,7 +105,7 @@ mod tests {
                 None,
             ),
             ("1\n[1,]\n2\n", "1\n", Some((2, 3))),
-            ("1\n\n", "1\n", Some((2, 1))),
+            ("1\n\n", "1\n", Some((2, 0))),
         ] {
             let (mut input, mut output) = (text.as_bytes(), Vec::new(alloc));
             let answer = write_lines(alloc, &mut input, &mut output)?;

@@ -15,7 +15,7 @@ fn main(rt: HostRuntime) -> ExitCode {
     match write_lines(&rt) {
         Ok(None) => ExitCode::SUCCESS,
         Ok(Some(Refusal { number, error })) => {
-            let _ = eprintln!(rt; "json_lines: line {number}: {error}");
+            let _ = eprintln!(rt; "json_lines: line {number}: {}", error.kind());
             ExitCode::from(1)
         }
         Err(error) => {
