@@ -1,15 +1,17 @@
 -- What stands before a place in a text, between two places, and behind a place.
-use Rattle.std.proofs.Common.{◌≡◌, ℕ, zero, suc, ◌+◌, ◌-◌, ◌<◌, ◌≤◌, Bool, true, false, cond, List, [], ◌∷◌, ◌++◌, length, take, drop, get_or, Option, Some, None, MatchOption, IfSome, refl, sym, ap, ◌∙◌, subst, arith, length-append, append-nil, add-zero}
+use Rattle.std.proofs.Common.{◌≡◌, ℕ, zero, suc, ◌+◌, ◌-◌, ◌<◌, ◌≤◌, Bool, true, false, cond, List, [], ◌∷◌, ◌++◌, length, take, drop, get_or, Option, Some, None, MatchOption, IfSome, refl, sym, ap, ◌∙◌, subst, arith, length-append, append-nil, add-zero, ⊎_elim, true≢false}
+use Rattle.std.proofs.lemmas.Bool.{cases_lt}
 use Rattle.std.specs.Prelude.{encode_utf8, slice_get}
 use Rattle.std.specs.Char.{len_utf8}
 use Rattle.std.specs.List.{AllByRecursion, prefix_len}
-use Rattle.std.specs.Str.{IsAscii, IsUtf8, IsCharBoundary, chars}
+use Rattle.std.specs.Str.{encode_utf8_all, IsAscii, IsUtf8, IsCharBoundary, chars}
 use Rattle.std.proofs.lemmas.List.{nil_from_length, take-append-drop, drop-drop, drop-take, take-take, length-drop, get_or-drop}
 use Rattle.std.proofs.lemmas.List.Sums.{prefix_len-le-length, prefix_len_passes, prefix_len_stops}
-use Rattle.std.proofs.lemmas.Str.{byte_from_char, chars-nil, chars-append, chars-IsAscii, chars_past_char, drop_past_char, IsUtf8-take, IsUtf8-drop, IsUtf8-between, IsCharBoundary-past_char, IsCharBoundary-after_ascii, length-encode, len_utf8_bounds}
+use Rattle.std.proofs.lemmas.Str.{byte_from_char, encode_ascii, encodes-chars, IsCharBoundary-before_ascii, IsCharBoundary-end, chars-nil, chars-append, chars-IsAscii, chars_past_char, drop_past_char, IsUtf8-take, IsUtf8-drop, IsUtf8-between, IsCharBoundary-past_char, IsCharBoundary-after_ascii, length-encode, len_utf8_bounds}
 use Rattle.std.proofs.Math.Seq.{take-append_seam}
 use Rattle.std.proofs.lemmas.Bool.Decides.{nat_tests}
 use Rattle.tinyjson.specs.Characters.{is_white}
+use Rattle.tinyjson.specs.Scan.{is_plain}
 use Rattle.tinyjson.specs.Position.{advance, origin}
 use Rattle.tinyjson.specs.Slice.{before, behind, NextChar}
 use Rattle.tinyjson.specs.Slice.Laws.{line_bound, column_bound}
@@ -78,6 +80,10 @@ module _ (text : List ℕ) (utf8 : IsUtf8 text) (at : ℕ) (first : IsCharBounda
 
 -- ---- runs
 
+AllByRecursion-right : (P : ℕ → Type 0) (xs ys : List ℕ) → AllByRecursion P (xs ++ ys) → AllByRecursion P ys
+AllByRecursion-right P [] ys a = a
+AllByRecursion-right P (x ∷ xs) ys a = AllByRecursion-right P xs ys a.1
+
 run_passes : (p : ℕ → Bool) (xs : List ℕ) → AllByRecursion (λ c. p c ≡ true) (take (prefix_len p xs) xs)
 run_passes p [] = tt
 run_passes p (x ∷ xs) = go (p x) refl (run_passes p xs)
@@ -141,3 +147,33 @@ module _ (p : ℕ → Bool) (ascii : (b : ℕ) → p b ≡ true → b < 128) whe
 
 pub white_small : (c : ℕ) → is_white c ≡ true → c < 128
 white_small c h = grind (arith, nat_tests)
+
+-- bytes among which are all those of longer characters, as those of plain characters are
+module _ (p : ℕ → Bool) (high : (b : ℕ) → 128 ≤ b → p b ≡ true) where
+  low : (b : ℕ) → p b ≡ false → b < 128
+  low b h = ⊎_elim (λ l. l) (λ k. absurd (true≢false (sym (high b k) ∙ h))) (cases_lt b 128)
+
+  -- a character passes if its bytes do
+  char_passes : (c : ℕ) (xs : List ℕ) → AllByRecursion (λ b. p b ≡ true) (encode_utf8 c ++ xs) → p c ≡ true
+  char_passes c xs a = ⊎_elim (λ l. (subst (λ bs. AllByRecursion (λ b. p b ≡ true) (bs ++ xs)) (encode_ascii c l) a).0) (λ k. high c k) (cases_lt c 128)
+
+  chars_pass : (cs : List ℕ) → AllByRecursion (λ b. p b ≡ true) (encode_utf8_all cs) → AllByRecursion (λ c. p c ≡ true) cs
+  chars_pass [] a = tt
+  chars_pass (c ∷ cs) a = (char_passes c (encode_utf8_all cs) a, chars_pass cs (AllByRecursion-right (λ b. p b ≡ true) (encode_utf8 c) (encode_utf8_all cs) a))
+
+  module _ (text : List ℕ) (utf8 : IsUtf8 text) (at : ℕ) (first : IsCharBoundary text at) (to : ℕ) (e : to ≡ run_end p text at) where
+    pub plain_boundary : IsCharBoundary text to
+    plain_boundary = ⊎_elim
+        (λ h. IsCharBoundary-before_ascii text to h (low (get_or text to 0) (ap (λ k. p (get_or text k 0)) e ∙ run_stops p text at (omega (arith, e, h)))))
+        (λ h. let k : length text ≡ to = omega (arith, h, e, run_within p text at first.0) in subst (IsCharBoundary text) k (IsCharBoundary-end text))
+        (cases_lt to (length text))
+
+    pub plain_between : AllByRecursion (λ c. p c ≡ true) (between text at to)
+    plain_between =
+        let n : prefix_len p (drop at text) ≡ to - at = omega (arith, e) in
+        let all : AllByRecursion (λ c. p c ≡ true) (take (to - at) (drop at text)) = subst (λ m. AllByRecursion (λ c. p c ≡ true) (take m (drop at text))) n (run_passes p (drop at text)) in
+        let same : take (to - at) (drop at text) ≡ encode_utf8_all (between text at to) = sym (encodes-chars (take (to - at) (drop at text)) (IsUtf8-between text at to utf8 (omega (arith, e)) first plain_boundary)) in
+        chars_pass (between text at to) (subst (AllByRecursion (λ c. p c ≡ true)) same all)
+
+pub plain_high : (c : ℕ) → 128 ≤ c → is_plain c ≡ true
+plain_high c h = grind (arith, nat_tests)

@@ -1,5 +1,6 @@
 -- Strings, as the machine reads them.
-use Rattle.std.proofs.Common.{◌≡◌, ℕ, ◌+◌, ◌*◌, ◌^◌, ◌<◌, ◌≤◌, Bool, true, false, not, cond, List, [], ◌∷◌, ◌++◌, length, suc, zero, Option, Some, None, Result, Ok, Err, MatchResult, String, Global, refl, sym, ap, ap₂, ◌∙◌, subst, arith, length-append, add-one, ⊎_elim}
+use Rattle.std.proofs.Common.{◌≡◌, ℕ, ◌+◌, ◌*◌, ◌^◌, ◌<◌, ◌≤◌, Bool, true, false, not, cond, List, [], ◌∷◌, ◌++◌, length, suc, zero, Option, Some, None, Result, Ok, Err, MatchResult, String, Global, refl, sym, ap, ap₂, ◌∙◌, subst, arith, length-append, add-one, ⊎_elim, append_assoc, append-nil, true≢false, is_err}
+use Rattle.std.specs.List.{AllByRecursion}
 use Rattle.std.proofs.Math.Nat.{pow-suc}
 use Rattle.std.specs.Prelude.{nat_lt}
 use Rattle.std.specs.Char.{digit_value}
@@ -9,11 +10,12 @@ use Rattle.tinyjson.specs.Tree.{string}
 use Rattle.tinyjson.specs.View.{text}
 use Rattle.tinyjson.specs.declared.parser.error.JsonParseError.{JsonParseError}
 use Rattle.tinyjson.specs.Characters.{is_hex, unit_of, paired, decode, short_escape}
-use Rattle.tinyjson.specs.Source.{Sight, Takes}
+use Rattle.tinyjson.specs.Scan.{is_plain}
+use Rattle.tinyjson.specs.Source.{Sight, Takes, TakesPlain}
 use Rattle.tinyjson.specs.Machine.{step, end, Frame, in_array, at_key, at_value, Next, next, stop, complete, plain, backslash, hex, quoted, refused}
 use Rattle.tinyjson.specs.declared.parser.error.JsonParseErrorKind.TheVariants.{InvalidUtf16, InvalidHexDigit, InvalidEscape, ControlCharacter, UnexpectedEof}
-use Rattle.tinyjson.specs.Reading.{onward, ending, within, Fails, IsNext, IsTaken, Leads, Halts, Refuses, Reads}
-use Rattle.tinyjson.proofs.Readings.{Leads-one, Halts-here, Halts-late, Refuses-as, Refuses-memory, taken_if}
+use Rattle.tinyjson.specs.Reading.{onward, ending, within, Fails, IsNext, IsTaken, Comes, Leads, Halts, Refuses, Reads}
+use Rattle.tinyjson.proofs.Readings.{Same-refl, Leads-one, Halts-here, Halts-late, Refuses-as, Refuses-memory, taken_if}
 
 module _ {S : Type 0} (sight : Sight S) (limit : Option ℕ) where
   -- the units before the character that was read, c, could not be added
@@ -107,6 +109,43 @@ pub plain_read : (limit : Option ℕ) (fs : List Frame) (cs us : List ℕ) (c : 
     → onward limit (next fs (quoted plain cs us)) c ≡ cond (not (paired us)) (stop InvalidUtf16 true) (next fs (quoted plain ((cs ++ decode us) ++ c ∷ []) []))
 unfolding step
 plain_read limit fs cs us c n m h = let b : nat_lt c 32 ≡ false = grind (arith, nat_tests) in rw (ne_eqb c 34 n, ne_eqb c 92 m, b) refl
+
+-- ---- a run of plain characters, before which no units stand
+
+plain_one : (limit : Option ℕ) (fs : List Frame) (cs : List ℕ) (c : ℕ) → is_plain c ≡ true → onward limit (next fs (quoted plain cs [])) c ≡ next fs (quoted plain (cs ++ c ∷ []) [])
+plain_one limit fs cs c h =
+    let printed : 32 ≤ c = grind (arith, nat_tests) in
+    plain_read limit fs cs [] c (λ e. true≢false (sym h ∙ ap is_plain e)) (λ e. true≢false (sym h ∙ ap is_plain e)) printed
+    ∙ ap (λ ys. next fs (quoted plain (ys ++ c ∷ []) [])) (append-nil cs)
+
+plain_comes : (limit : Option ℕ) (fs : List Frame) (cs xs rest : List ℕ) → AllByRecursion (λ c. is_plain c ≡ true) xs
+    → Comes limit (next fs (quoted plain cs [])) xs (next fs (quoted plain (cs ++ xs) [])) rest
+plain_comes limit fs cs [] rest a =
+    let n = next fs (quoted plain cs []) in
+    subst (λ ys. Comes limit n [] (next fs (quoted plain ys [])) rest) (sym (append-nil cs)) (Same-refl limit n rest, λ w. w)
+plain_comes limit fs cs (c ∷ xs) rest a =
+    let n = next fs (quoted plain (cs ++ c ∷ []) []) in
+    let m : List ℕ → Next = λ ys. next fs (quoted plain ys []) in
+    let e = sym (plain_one limit fs cs c a.0) in
+    (tt, subst IsTaken e tt, subst (λ z. Comes limit z xs (m (cs ++ c ∷ xs)) rest) e (subst (λ ys. Comes limit n xs (m ys) rest) (append_assoc cs (c ∷ []) xs) (plain_comes limit fs (cs ++ c ∷ []) xs rest a.1)))
+
+module _ {S : Type 0} (sight : Sight S) (limit : Option ℕ) {E : Type 0} (p q : S) (fs : List Frame) (old new us : List ℕ) where
+  Leads-plain : (r : Result (Unit {0}) E) (t : TakesPlain sight p old r new q) → Leads sight limit p (next fs (quoted plain old [])) q (next fs (quoted plain (old ++ t.taken) []))
+  Leads-plain r t = record {
+    taken = t.taken;
+    gives = λ zs g. let x = t.takes.gives zs g in (x.0, x.1, x.2, plain_comes limit fs old t.taken x.0 t.plain);
+    moves = t.takes.moves;
+  }
+
+  -- all of them were added, or there was no memory
+  pub plain_added : (r : Result (Unit {0}) E) → us ≡ [] → is_err r ≡ false → TakesPlain sight p old r new q → Leads sight limit p (next fs (quoted plain old us)) q (next fs (quoted plain new us))
+  plain_added (Ok v) n h t =
+      let m : List ℕ → List ℕ → Next = λ ys vs. next fs (quoted plain ys vs) in
+      subst (λ vs. Leads sight limit p (m old vs) q (m new vs)) (sym n) (subst (λ ys. Leads sight limit p (m old []) q (m ys [])) (sym t.added) (Leads-plain (Ok v) t))
+  plain_added (Err e) n h t = absurd (true≢false h)
+
+  pub plain_halts : (r : Result (Unit {0}) E) → us ≡ [] → TakesPlain sight p old r new q → Halts sight limit p (next fs (quoted plain old us)) q
+  plain_halts r n t = subst (λ vs. Halts sight limit p (next fs (quoted plain old vs)) q) (sym n) (Halts-here sight limit p q (Leads-plain r t) tt tt)
 
 pub short_read : (limit : Option ℕ) (fs : List Frame) (cs us : List ℕ) (c d : ℕ) → short_escape c ≡ Some d
     → onward limit (next fs (quoted backslash cs us)) c ≡ cond (not (paired us)) (stop InvalidUtf16 true) (next fs (quoted plain ((cs ++ decode us) ++ d ∷ []) []))

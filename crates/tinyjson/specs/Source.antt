@@ -1,7 +1,8 @@
 -- What a source of characters still gives, and what a call took from it. For private contracts.
-use Rattle.std.specs.Prelude.{◌≡◌, ℕ, ◌<◌, true, List, [], ◌∷◌, ◌++◌, Option, Some, None}
+use Rattle.std.specs.Prelude.{◌≡◌, ℕ, ◌<◌, true, List, [], ◌∷◌, ◌++◌, Option, Some, None, Result, OnOk}
 use Rattle.std.specs.List.{AllByRecursion}
 use Rattle.tinyjson.specs.Characters.{is_white}
+use Rattle.tinyjson.specs.Scan.{is_plain}
 use Rattle.tinyjson.specs.Position.{Position, advance}
 
 -- How a source is seen: the list that it still gives, the first character of that list, or none, and where it stands.
@@ -26,3 +27,10 @@ module _ {S : Type 0} (sight : Sight S) where
     pub taken : List ℕ
     pub white : AllByRecursion (λ c. is_white c ≡ true) taken
     pub takes : Takes p taken q
+
+  -- a call took plain characters of a string and added them to a text; or there was no memory for all of them
+  pub record TakesPlain {E : Type 0} (p : S) (old : List ℕ) (r : Result (Unit {0}) E) (new : List ℕ) (q : S) : Type 0 where
+    pub taken : List ℕ
+    pub plain : AllByRecursion (λ c. is_plain c ≡ true) taken
+    pub takes : Takes p taken q
+    pub added : OnOk r (new ≡ old ++ taken)

@@ -2,8 +2,13 @@
 ghost use Rattle.std.specs.Prelude.{◌≡◌, ℕ, ◌+◌, ◌≤◌, [], ◌∷◌, false, IfSome, MatchOption, Option, None};
 ghost use Rattle.std.specs.Option.{option_len};
 ghost use Rattle.tinyjson.specs.Characters.{is_white};
+ghost use Rattle.tinyjson.specs.Scan.{is_plain};
 ghost use Rattle.tinyjson.specs.Position.{position_at};
-ghost use Rattle.tinyjson.specs.Source.{Sight, Takes, Whites};
+ghost use Rattle.tinyjson.specs.Source.{Sight, Takes, TakesPlain, Whites};
+ghost use Rattle.tinyjson.specs.View.{text};
+
+use super::units::push;
+use std::alloc::AllocError;
 
 /// A source of characters, of which the next one can be looked at.
 ///
@@ -44,6 +49,24 @@ pub(super) trait Source: Drop {
         }
     }
 
+    /// Takes the plain characters of a string that come next, and adds them to it. Where memory runs out,
+    /// some of them may be taken.
+    fn plain(&mut self, string: &mut String) -> Result<(), AllocError>
+        ensures plain { TakesPlain sight self.old (text string.old) result
+            (text string.new) self.new }
+        ensures left { left self.new ≤ left self.old }
+    {
+        loop {
+            match self.peek() {
+                Some(c) if is_plain(c) => {
+                    push(string, c)?;
+                    self.bump();
+                }
+                _ => return Ok(()),
+            }
+        }
+    }
+
     /// The line and the column behind what was consumed.
     fn position(&self) -> (usize, usize)
         ensures { position_at result.0 result.1 ≡ sight.place self.now };
@@ -54,4 +77,11 @@ pub(super) fn is_white(c: char) -> bool
     ensures { result ≡ is_white c }
 {
     c == ' ' || c == '\n' || c == '\r' || c == '\t'
+}
+
+/// A character that a string shows as it is (RFC 8259, section 7).
+pub(super) fn is_plain(c: char) -> bool
+    ensures { result ≡ is_plain c }
+{
+    c != '"' && c != '\\' && c >= ' '
 }

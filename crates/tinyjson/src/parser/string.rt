@@ -21,10 +21,27 @@ impl<S: Source> Reader<S> {
         let mut string = String::new(self.alloc);
         let mut units = Vec::new(self.alloc);
         loop {
+            self.plain(&mut string, units.as_slice())?;
             if self.piece(&mut string, &mut units)? {
                 return Ok(Some(JsonValue::String(string)));
             }
         }
+    }
+
+    /// Reads the plain characters that come next, unless units stand before them.
+    fn plain(&mut self, string: &mut String, units: &[u16]) -> Result<(), JsonParseError>
+        ensures reads { (limit : Option ℕ) (fs : List Frame)
+            → Reads S.sight limit self.old.source (within fs string.old units.now false) result
+            (λ _. within fs string.new units.now false) self.new.source }
+        ensures left { S.left self.new.source ≤ S.left self.old.source }
+    {
+        if !units.is_empty() {
+            return Ok(());
+        }
+        if self.source.plain(string).is_err() {
+            return Err(self.refuse(JsonParseErrorKind::OutOfMemory));
+        }
+        Ok(())
     }
 
     /// Reads a part of a string; `true` at the quote that closes it.

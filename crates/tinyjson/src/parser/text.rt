@@ -8,6 +8,8 @@ ghost use Rattle.tinyjson.specs.Slice.Laws.{line_bound, column_bound, shown_once
 use super::cursor::moved;
 use super::scan::white_end;
 use super::source::Source;
+use crate::scan::plain_end;
+use std::alloc::AllocError;
 
 /// A text, and how many of its bytes were consumed. Line and column are counted when they are asked for.
 #[derive(Drop)]
@@ -71,6 +73,13 @@ impl<'a> Source for TextBytes<'a> {
     fn skip_white(&mut self) -> Option<char> {
         self.at = white_end(self.text.as_bytes(), self.at);
         self.first()
+    }
+
+    fn plain(&mut self, string: &mut String) -> Result<(), AllocError> {
+        let end = plain_end(self.text.as_bytes(), self.at);
+        string.push_str(&self.text[self.at..end])?;
+        self.at = end;
+        Ok(())
     }
 
     fn position(&self) -> (usize, usize) {
