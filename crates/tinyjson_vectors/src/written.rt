@@ -198,7 +198,8 @@ fn writes_a_document(rt: HostRuntime) -> Result<(), Fail> {
         &rt,
         rt.alloc(),
         &value,
-        "{\n  \"arr\": [\n    1,\n    null,\n    \"test\"\n  ],\n  \"bool\": true,\n  \"nested\": {\n    \"blah\": false,\n    \"blahblah\": 3.14\n  },\n  \"unicode\": \"\u{2764}\"\n}",
+        "{\n  \"arr\": [\n    1,\n    null,\n    \"test\"\n  ],\n  \"bool\": true,\n  \
+        \"nested\": {\n    \"blah\": false,\n    \"blahblah\": 3.14\n  },\n  \"unicode\": \"\u{2764}\"\n}",
     )
 }
 
