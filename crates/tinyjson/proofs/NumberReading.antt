@@ -1,5 +1,5 @@
 -- Numbers, as the machine reads them.
-use Rattle.std.proofs.Common.{◌≡◌, ℕ, ◌<◌, ◌≤◌, ◌==◌, ◌||◌, Bool, true, false, List, [], ◌∷◌, ◌++◌, length, drop, Option, Some, None, IfSome, MatchOption, MatchBool, Result, Ok, Err, OnOk, refl, sym, ap, ◌∙◌, subst, inr, ⊎_elim, true≢false, append_assoc, append-nil, arith}
+use Rattle.std.proofs.Common.{◌≡◌, ℕ, ◌<◌, ◌≤◌, ◌==◌, ◌||◌, Bool, true, false, List, [], ◌∷◌, ◌++◌, length, drop, Option, Some, None, IfSome, MatchOption, MatchBool, Result, Ok, Err, OnOk, refl, sym, ap, ◌∙◌, subst, inr, ⊎_elim, true≢false, append_assoc, append-nil, arith, is_err}
 use Rattle.std.specs.Char.{is_ascii_digit}
 use Rattle.std.specs.List.{AllByRecursion}
 use Rattle.std.proofs.lemmas.Bool.{ne_eqb}
@@ -8,14 +8,15 @@ use Rattle.tinyjson_number.specs.Decimal.{Decimal}
 use Rattle.tinyjson_number.specs.Numeral.{Numeral, AreDigits, has_leading_zero, is_exponent_letter, is_sign, minus_text, sign_text, fraction_text, value, in_range}
 use Rattle.tinyjson_number.specs.NumberText.{Spells}
 use Rattle.tinyjson.specs.Characters.{is_white}
-use Rattle.tinyjson.specs.Source.{Sight, Takes}
+use Rattle.tinyjson.specs.Source.{Sight, Stops, Takes, TakesRun}
 use Rattle.tinyjson.specs.Machine.{strictly, step, end, then_step, end_plain, Frame, in_array, at_key, at_value, Next, next, stop, awaited, digits, minus, whole, point, fraction, letter, sign, exponent, complete}
 use Rattle.tinyjson.specs.Numbers.{BeginsNumber, Still, is_any, numeral, Accepted, Declined, Digits}
 use Rattle.tinyjson.specs.Reading.{onward, ending, IsNext, IsTaken, Comes, Ends, Gathers, Leads, Refuses}
 use Rattle.tinyjson.specs.Tree.{number}
 use Rattle.tinyjson.specs.declared.parser.error.JsonParseError.{JsonParseError}
 use Rattle.tinyjson.specs.declared.parser.error.JsonParseErrorKind.{JsonParseErrorKind}
-use Rattle.tinyjson.specs.declared.parser.error.JsonParseErrorKind.TheVariants.{EmptyInteger, LeadingZero, EmptyFraction, EmptyExponent, NumberOutOfRange}
+use Rattle.tinyjson.specs.declared.parser.error.JsonParseErrorKind.TheVariants.{EmptyInteger, LeadingZero, EmptyFraction, EmptyExponent, NumberOutOfRange, OutOfMemory}
+use Rattle.tinyjson.specs.Error.{error_position}
 use Rattle.tinyjson.proofs.Sources.{Takes-append}
 use Rattle.tinyjson.proofs.Readings.{Same-refl, Leads-trans, Leads-peek, Leads-shown, Leads-end, Halts-here, Refuses-as, Refuses-memory}
 
@@ -103,6 +104,18 @@ spells_exponent b ds f l s xs old new h i j a n e = record {
 pub drop_front : (xs ys : List ℕ) (n : ℕ) → n ≡ length xs → drop n (xs ++ ys) ≡ ys
 drop_front [] ys n e = ap (λ k. drop k ys) e
 drop_front (x ∷ xs) ys n e = ap (λ k. drop k (x ∷ xs ++ ys)) e ∙ drop_front xs ys (length xs) refl
+
+-- ---- a run of digits
+
+module _ {S : Type 0} (sight : Sight S) {E : Type 0} (p : S) (old new : List ℕ) (q : S) where
+  -- all of them were added
+  pub gathered : (r : Result (Unit {0}) E) → TakesRun sight is_ascii_digit p old r new q → OnOk r (Stops sight is_ascii_digit q) → is_err r ≡ false → Gathers sight p old (Ok tt) new q × Ends sight q
+  gathered (Ok v) t s h = (record { ds = t.taken; digits = t.pass; takes = t.takes; result = t.added }, s)
+  gathered (Err e) t s h = absurd (true≢false h)
+
+  -- there was no memory for some of them
+  pub ungathered : (r : Result (Unit {0}) E) (e : JsonParseError) → TakesRun sight is_ascii_digit p old r new q → e.kind ≡ OutOfMemory → error_position e ≡ sight.place q → Gathers sight p old (Err e) new q
+  ungathered r e t k a = record { ds = t.taken; digits = t.pass; takes = t.takes; result = (k, a) }
 
 -- ---- the machine before a digit, with the digits of a part so far
 

@@ -2,7 +2,7 @@
 use Rattle.std.proofs.Common.{◌≡◌, ℕ, zero, suc, ◌+◌, ◌-◌, ◌<◌, ◌≤◌, Bool, true, false, cond, List, [], ◌∷◌, ◌++◌, length, take, drop, get_or, Option, Some, None, MatchOption, IfSome, refl, sym, ap, ◌∙◌, subst, arith, length-append, append-nil, add-zero, ⊎_elim, true≢false}
 use Rattle.std.proofs.lemmas.Bool.{cases_lt}
 use Rattle.std.specs.Prelude.{encode_utf8, slice_get}
-use Rattle.std.specs.Char.{len_utf8}
+use Rattle.std.specs.Char.{is_ascii_digit, len_utf8}
 use Rattle.std.specs.List.{AllByRecursion, prefix_len}
 use Rattle.std.specs.Str.{encode_utf8_all, IsAscii, IsUtf8, IsCharBoundary, chars}
 use Rattle.std.proofs.lemmas.List.{nil_from_length, take-append-drop, drop-drop, drop-take, take-take, length-drop, get_or-drop}
@@ -67,6 +67,14 @@ pub next_shown : (text : List ℕ) (utf8 : IsUtf8 text) (at : ℕ) → IsCharBou
 next_shown text utf8 at b None e = ap (λ bs. slice_get (chars bs) 0) e ∙ ap (λ cs. slice_get cs 0) chars-nil
 next_shown text utf8 at b (Some c) e = ap (λ cs. slice_get cs 0) (chars_past_char (drop at text) (drop (at + len_utf8 c) text) c (IsUtf8-drop text at utf8 b) e)
 
+-- the first of those that are left begins at the place
+next_of : (text : List ℕ) (utf8 : IsUtf8 text) (at : ℕ) → IsCharBoundary text at → NextChar text at (slice_get (behind text at) 0)
+next_of text utf8 at b = go (behind text at) (encodes-chars (drop at text) (IsUtf8-drop text at utf8 b))
+  where
+    go : (cs : List ℕ) → encode_utf8_all cs ≡ drop at text → NextChar text at (slice_get cs 0)
+    go [] e = sym e
+    go (c ∷ cs) e = sym e ∙ ap (λ bs. encode_utf8 c ++ bs) (sym (drop_past_char text (encode_utf8_all cs) at c (sym e)))
+
 module _ (text : List ℕ) (utf8 : IsUtf8 text) (at : ℕ) (first : IsCharBoundary text at) (c n : ℕ) (next : NextChar text at (Some c)) (len : n ≡ len_utf8 c) where
   pub char_boundary : IsCharBoundary text (at + n)
   char_boundary = subst (λ m. IsCharBoundary text (at + m)) (sym len) (IsCharBoundary-past_char text (drop (at + len_utf8 c) text) at c first.0 (IsUtf8-drop text at utf8 first) next)
@@ -124,13 +132,15 @@ module _ (p : ℕ → Bool) (ascii : (b : ℕ) → p b ≡ true → b < 128) whe
       pub ascii_boundary : IsCharBoundary text to
       ascii_boundary = subst (IsCharBoundary text) (sym e) (part_boundary (prefix_len p (drop at text)) (omega arith))
 
+      passes : AllByRecursion (λ c. p c ≡ true) (take (to - at) (drop at text))
+      passes = let n : prefix_len p (drop at text) ≡ to - at = omega (arith, e) in subst (λ m. AllByRecursion (λ c. p c ≡ true) (take m (drop at text))) n (run_passes p (drop at text))
+
+      -- its bytes are its characters
+      pub ascii_bytes : between text at to ≡ take (to - at) (drop at text)
+      ascii_bytes = chars-IsAscii (take (to - at) (drop at text)) (small (take (to - at) (drop at text)) passes)
+
       pub ascii_between : AllByRecursion (λ c. p c ≡ true) (between text at to)
-      ascii_between =
-          let n : to - at ≡ prefix_len p (drop at text) = omega (arith, e) in
-          let all = run_passes p (drop at text) in
-          let same : between text at to ≡ take (prefix_len p (drop at text)) (drop at text) =
-          ap (λ m. chars (take m (drop at text))) n ∙ chars-IsAscii (take (prefix_len p (drop at text)) (drop at text)) (small (take (prefix_len p (drop at text)) (drop at text)) all) in
-          subst (AllByRecursion (λ c. p c ≡ true)) (sym same) all
+      ascii_between = subst (AllByRecursion (λ c. p c ≡ true)) (sym ascii_bytes) passes
 
       -- the character behind the run does not pass
       pub ascii_stops : (o : Option ℕ) → NextChar text to o → IfSome o (λ c. p c ≡ false)
@@ -144,6 +154,12 @@ module _ (p : ℕ → Bool) (ascii : (b : ℕ) → p b ≡ true → b < 128) whe
               let some : 0 < length (drop to text) = omega (arith, ap length next, length-append (encode_utf8 c) (drop (to + len_utf8 c) text), length-encode c, (len_utf8_bounds c).0) in
               let at_end : get_or text to 0 ≡ c = ap (λ k. get_or text k 0) (sym (add-zero to)) ∙ sym (get_or-drop to text 0 0) ∙ byte in
               ap p (sym at_end) ∙ ap (λ k. p (get_or text k 0)) e ∙ run_stops p text at (omega (arith, some, length-drop to text, e))
+
+      pub ascii_ends : (o : Option ℕ) × (slice_get (behind text to) 0 ≡ o) × IfSome o (λ c. p c ≡ false)
+      ascii_ends = (slice_get (behind text to) 0, refl, ascii_stops (slice_get (behind text to) 0) (next_of text utf8 to ascii_boundary))
+
+pub digit_small : (c : ℕ) → is_ascii_digit c ≡ true → c < 128
+digit_small c h = grind (arith, nat_tests)
 
 pub white_small : (c : ℕ) → is_white c ≡ true → c < 128
 white_small c h = grind (arith, nat_tests)

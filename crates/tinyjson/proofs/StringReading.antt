@@ -11,7 +11,7 @@ use Rattle.tinyjson.specs.View.{text}
 use Rattle.tinyjson.specs.declared.parser.error.JsonParseError.{JsonParseError}
 use Rattle.tinyjson.specs.Characters.{is_hex, unit_of, paired, decode, short_escape}
 use Rattle.tinyjson.specs.Scan.{is_plain}
-use Rattle.tinyjson.specs.Source.{Sight, Takes, TakesPlain}
+use Rattle.tinyjson.specs.Source.{Sight, Takes, TakesRun}
 use Rattle.tinyjson.specs.Machine.{step, end, Frame, in_array, at_key, at_value, Next, next, stop, complete, plain, backslash, hex, quoted, refused}
 use Rattle.tinyjson.specs.declared.parser.error.JsonParseErrorKind.TheVariants.{InvalidUtf16, InvalidHexDigit, InvalidEscape, ControlCharacter, UnexpectedEof}
 use Rattle.tinyjson.specs.Reading.{onward, ending, within, Fails, IsNext, IsTaken, Comes, Leads, Halts, Refuses, Reads}
@@ -130,21 +130,21 @@ plain_comes limit fs cs (c ∷ xs) rest a =
     (tt, subst IsTaken e tt, subst (λ z. Comes limit z xs (m (cs ++ c ∷ xs)) rest) e (subst (λ ys. Comes limit n xs (m ys) rest) (append_assoc cs (c ∷ []) xs) (plain_comes limit fs (cs ++ c ∷ []) xs rest a.1)))
 
 module _ {S : Type 0} (sight : Sight S) (limit : Option ℕ) {E : Type 0} (p q : S) (fs : List Frame) (old new us : List ℕ) where
-  Leads-plain : (r : Result (Unit {0}) E) (t : TakesPlain sight p old r new q) → Leads sight limit p (next fs (quoted plain old [])) q (next fs (quoted plain (old ++ t.taken) []))
+  Leads-plain : (r : Result (Unit {0}) E) (t : TakesRun sight is_plain p old r new q) → Leads sight limit p (next fs (quoted plain old [])) q (next fs (quoted plain (old ++ t.taken) []))
   Leads-plain r t = record {
     taken = t.taken;
-    gives = λ zs g. let x = t.takes.gives zs g in (x.0, x.1, x.2, plain_comes limit fs old t.taken x.0 t.plain);
+    gives = λ zs g. let x = t.takes.gives zs g in (x.0, x.1, x.2, plain_comes limit fs old t.taken x.0 t.pass);
     moves = t.takes.moves;
   }
 
   -- all of them were added, or there was no memory
-  pub plain_added : (r : Result (Unit {0}) E) → us ≡ [] → is_err r ≡ false → TakesPlain sight p old r new q → Leads sight limit p (next fs (quoted plain old us)) q (next fs (quoted plain new us))
+  pub plain_added : (r : Result (Unit {0}) E) → us ≡ [] → is_err r ≡ false → TakesRun sight is_plain p old r new q → Leads sight limit p (next fs (quoted plain old us)) q (next fs (quoted plain new us))
   plain_added (Ok v) n h t =
       let m : List ℕ → List ℕ → Next = λ ys vs. next fs (quoted plain ys vs) in
       subst (λ vs. Leads sight limit p (m old vs) q (m new vs)) (sym n) (subst (λ ys. Leads sight limit p (m old []) q (m ys [])) (sym t.added) (Leads-plain (Ok v) t))
   plain_added (Err e) n h t = absurd (true≢false h)
 
-  pub plain_halts : (r : Result (Unit {0}) E) → us ≡ [] → TakesPlain sight p old r new q → Halts sight limit p (next fs (quoted plain old us)) q
+  pub plain_halts : (r : Result (Unit {0}) E) → us ≡ [] → TakesRun sight is_plain p old r new q → Halts sight limit p (next fs (quoted plain old us)) q
   plain_halts r n t = subst (λ vs. Halts sight limit p (next fs (quoted plain old vs)) q) (sym n) (Halts-here sight limit p q (Leads-plain r t) tt tt)
 
 pub short_read : (limit : Option ℕ) (fs : List Frame) (cs us : List ℕ) (c d : ℕ) → short_escape c ≡ Some d

@@ -1,8 +1,7 @@
 -- What a source of characters still gives, and what a call took from it. For private contracts.
-use Rattle.std.specs.Prelude.{◌≡◌, ℕ, ◌<◌, true, List, [], ◌∷◌, ◌++◌, Option, Some, None, Result, OnOk}
+use Rattle.std.specs.Prelude.{◌≡◌, ℕ, ◌<◌, Bool, true, false, List, [], ◌∷◌, ◌++◌, Option, Some, None, Result, OnOk, IfSome}
 use Rattle.std.specs.List.{AllByRecursion}
 use Rattle.tinyjson.specs.Characters.{is_white}
-use Rattle.tinyjson.specs.Scan.{is_plain}
 use Rattle.tinyjson.specs.Position.{Position, advance}
 
 -- How a source is seen: the list that it still gives, the first character of that list, or none, and where it stands.
@@ -28,9 +27,13 @@ module _ {S : Type 0} (sight : Sight S) where
     pub white : AllByRecursion (λ c. is_white c ≡ true) taken
     pub takes : Takes p taken q
 
-  -- a call took plain characters of a string and added them to a text; or there was no memory for all of them
-  pub record TakesPlain {E : Type 0} (p : S) (old : List ℕ) (r : Result (Unit {0}) E) (new : List ℕ) (q : S) : Type 0 where
+  -- A call took characters that pass a test, a run, and added them to a text; or there was no memory for all of them.
+  pub record TakesRun (test : ℕ → Bool) {E : Type 0} (p : S) (old : List ℕ) (r : Result (Unit {0}) E) (new : List ℕ) (q : S) : Type 0 where
     pub taken : List ℕ
-    pub plain : AllByRecursion (λ c. is_plain c ≡ true) taken
+    pub pass : AllByRecursion (λ c. test c ≡ true) taken
     pub takes : Takes p taken q
     pub added : OnOk r (new ≡ old ++ taken)
+
+  -- the next character does not pass, or there is none
+  abbrev pub Stops : (ℕ → Bool) → S → Type 0
+  Stops test q = (o : Option ℕ) × sight.shows q o × IfSome o (λ c. test c ≡ false)

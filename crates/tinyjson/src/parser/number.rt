@@ -98,12 +98,10 @@ impl<S: Source> Reader<S> {
         ensures ends { OnOk result (Ends S.sight self.new.source) }
         ensures left { OnOk result (S.left self.new.source ≤ S.left self.old.source) }
     {
-        loop {
-            match self.source.peek() {
-                Some(c) if c.is_ascii_digit() => self.keep(c)?,
-                _ => return Ok(()),
-            }
+        if self.source.digits(&mut self.literal).is_err() {
+            return Err(self.refuse(JsonParseErrorKind::OutOfMemory));
         }
+        Ok(())
     }
 
     /// Reads the next character if it is one of these, and says whether it is.

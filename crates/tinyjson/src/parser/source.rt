@@ -1,10 +1,11 @@
 //! Where the characters come from.
-ghost use Rattle.std.specs.Prelude.{◌≡◌, ℕ, ◌+◌, ◌≤◌, [], ◌∷◌, false, IfSome, MatchOption, Option, None};
+ghost use Rattle.std.specs.Prelude.{◌≡◌, ℕ, ◌+◌, ◌≤◌, [], ◌∷◌, false, IfSome, MatchOption, OnOk, Option, None, string_bytes};
+ghost use Rattle.std.specs.Char.{is_ascii_digit};
 ghost use Rattle.std.specs.Option.{option_len};
 ghost use Rattle.tinyjson.specs.Characters.{is_white};
 ghost use Rattle.tinyjson.specs.Scan.{is_plain};
 ghost use Rattle.tinyjson.specs.Position.{position_at};
-ghost use Rattle.tinyjson.specs.Source.{Sight, Takes, TakesPlain, Whites};
+ghost use Rattle.tinyjson.specs.Source.{Sight, Stops, Takes, TakesRun, Whites};
 ghost use Rattle.tinyjson.specs.View.{text};
 
 use super::units::push;
@@ -52,7 +53,7 @@ pub(super) trait Source: Drop {
     /// Takes the plain characters of a string that come next, and adds them to it. Where memory runs out,
     /// some of them may be taken.
     fn plain(&mut self, string: &mut String) -> Result<(), AllocError>
-        ensures plain { TakesPlain sight self.old (text string.old) result
+        ensures plain { TakesRun sight is_plain self.old (text string.old) result
             (text string.new) self.new }
         ensures left { left self.new ≤ left self.old }
     {
@@ -60,6 +61,25 @@ pub(super) trait Source: Drop {
             match self.peek() {
                 Some(c) if is_plain(c) => {
                     push(string, c)?;
+                    self.bump();
+                }
+                _ => return Ok(()),
+            }
+        }
+    }
+
+    /// Takes the digits that come next, and adds them to a text. Where memory runs out, some of them may be
+    /// taken.
+    fn digits(&mut self, literal: &mut String) -> Result<(), AllocError>
+        ensures digits { TakesRun sight is_ascii_digit self.old (string_bytes literal.old) result
+            (string_bytes literal.new) self.new }
+        ensures stops { OnOk result (Stops sight is_ascii_digit self.new) }
+        ensures left { left self.new ≤ left self.old }
+    {
+        loop {
+            match self.peek() {
+                Some(c) if c.is_ascii_digit() => {
+                    literal.push(c)?;
                     self.bump();
                 }
                 _ => return Ok(()),

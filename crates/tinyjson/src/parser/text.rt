@@ -6,7 +6,7 @@ ghost use Rattle.tinyjson.specs.Slice.{before, behind, NextChar};
 ghost use Rattle.tinyjson.specs.Slice.Laws.{line_bound, column_bound, shown_once, shown_first, nothing_left};
 
 use super::cursor::moved;
-use super::scan::white_end;
+use super::scan::{digits_end, white_end};
 use super::source::Source;
 use crate::scan::plain_end;
 use std::alloc::AllocError;
@@ -78,6 +78,13 @@ impl<'a> Source for TextBytes<'a> {
     fn plain(&mut self, string: &mut String) -> Result<(), AllocError> {
         let end = plain_end(self.text.as_bytes(), self.at);
         string.push_str(&self.text[self.at..end])?;
+        self.at = end;
+        Ok(())
+    }
+
+    fn digits(&mut self, literal: &mut String) -> Result<(), AllocError> {
+        let end = digits_end(self.text.as_bytes(), self.at);
+        literal.push_str(&self.text[self.at..end])?;
         self.at = end;
         Ok(())
     }

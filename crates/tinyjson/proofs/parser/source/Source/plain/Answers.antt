@@ -7,7 +7,7 @@ use Rattle.tinyjson.proofs.parser.source.Source.plain.Goals as goal
 
 pub loop-c-init : goal.loop-c-init
 loop-c-init g c = record {
-  plain = record { taken = []; plain = tt; takes = Takes-nil g.Self.Source.sight c.args.self.now; added = sym (append-nil (text c.args.string.now)) };
+  plain = record { taken = []; pass = tt; takes = Takes-nil g.Self.Source.sight c.args.self.now; added = sym (append-nil (text c.args.string.now)) };
   left = search rules;
 }
 
@@ -15,7 +15,7 @@ pub returns-in_err-push-in-Some-clause-plain : goal.returns-in_err-push-in-Some-
 returns-in_err-push-in-Some-clause-plain g c =
     let t = c.loop-c.invariant.plain in
     let p = err_from_is_err_and c.from_residual.result c.from_residual.ensures.1 in
-    record { taken = t.taken; plain = t.plain; takes = Takes-peek g.Self.Source.sight _ _ _ t.taken t.takes c.peek.ensures.takes; added = rw p.1 tt }
+    record { taken = t.taken; pass = t.pass; takes = Takes-peek g.Self.Source.sight _ _ _ t.taken t.takes c.peek.ensures.takes; added = rw p.1 tt }
 
 pub loop-c-preserved : goal.loop-c-preserved
 loop-c-preserved g c =
@@ -25,7 +25,7 @@ loop-c-preserved g c =
     record {
       plain = record {
         taken = t.taken ++ x ∷ [];
-        plain = AllByRecursion-push (λ d. is_plain d ≡ true) t.taken x t.plain (search rules);
+        pass = AllByRecursion-push (λ d. is_plain d ≡ true) t.taken x t.pass (search rules);
         takes = Takes-append sight _ _ _ t.taken (x ∷ []) (Takes-peek sight _ _ _ t.taken t.takes c.peek.ensures.takes)
             (Takes-shown sight _ _ x _ (c.bump.ensures.shown (Some x) c.in-Some.ensures.shows) c.bump.ensures.takes);
         added = c.in_ok-push-in-Some.ensures ∙ ap (λ cs. cs ++ x ∷ []) t.added ∙ append_assoc (text c.args.string.now) t.taken (x ∷ []);
@@ -36,9 +36,9 @@ loop-c-preserved g c =
 pub returns-in_default-clause-plain : goal.returns-in_default-clause-plain
 returns-in_default-clause-plain g c =
     let t = c.loop-c.invariant.plain in
-    record { taken = t.taken; plain = t.plain; takes = Takes-peek g.Self.Source.sight _ _ _ t.taken t.takes c.peek.ensures.takes; added = t.added }
+    record { taken = t.taken; pass = t.pass; takes = Takes-peek g.Self.Source.sight _ _ _ t.taken t.takes c.peek.ensures.takes; added = t.added }
 
 pub returns-in_default-2-clause-plain : goal.returns-in_default-2-clause-plain
 returns-in_default-2-clause-plain g c =
     let t = c.loop-c.invariant.plain in
-    record { taken = t.taken; plain = t.plain; takes = Takes-peek g.Self.Source.sight _ _ _ t.taken t.takes c.peek.ensures.takes; added = t.added }
+    record { taken = t.taken; pass = t.pass; takes = Takes-peek g.Self.Source.sight _ _ _ t.taken t.takes c.peek.ensures.takes; added = t.added }

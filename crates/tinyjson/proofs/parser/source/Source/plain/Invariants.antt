@@ -1,11 +1,12 @@
 use Rattle.std.proofs.Common.{◌≤◌, Ok, ℕ, Result}
-use Rattle.tinyjson.specs.Source.{TakesPlain}
+use Rattle.tinyjson.specs.Scan.{is_plain}
+use Rattle.tinyjson.specs.Source.{TakesRun}
 use Rattle.tinyjson.specs.View.{text}
 use Rattle.tinyjson.proofs.parser.source.Source.plain.Given as goal
 
 abbrev pub invariant-loop-c : goal.invariant-loop-c
 invariant-loop-c g l = record {
-  plain : TakesPlain g.Self.Source.sight {E = Unit {0}} l.initial.self (text l.initial.string) (Ok tt) (text l.string) l.self;
+  plain : TakesRun g.Self.Source.sight is_plain {E = Unit {0}} l.initial.self (text l.initial.string) (Ok tt) (text l.string) l.self;
   left : g.Self.Source.left l.self ≤ g.Self.Source.left l.initial.self;
 }
 

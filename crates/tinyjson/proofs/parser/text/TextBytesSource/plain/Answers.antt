@@ -21,7 +21,7 @@ returns-in_err-push_str-clause-plain c =
     let p = err_from_is_err_and c.from_residual.result c.from_residual.ensures.1 in
     record {
       taken = [];
-      plain = tt;
+      pass = tt;
       takes = record { gives = λ zs h. (zs, refl, h); moves = stay_moves (before self.text.now self.at) };
       added = rw p.1 tt;
     }
@@ -43,7 +43,7 @@ returns-clause-plain c =
     let bytes : string_bytes c.push_str.new.self ≡ string_bytes old ++ c.range.result.now = search rules in
     record {
       taken = between self.text.now self.at to;
-      plain = plain_between is_plain plain_high self.text.now utf8 self.at self.boundary to e;
+      pass = plain_between is_plain plain_high self.text.now utf8 self.at self.boundary to e;
       takes = record {
         gives = step_gives self.text.now utf8 self.at to (omega (arith, e)) self.boundary last _ refl;
         moves = step_moves self.text.now utf8 self.at to (omega (arith, e)) self.boundary last _ refl;

@@ -1,0 +1,48 @@
+use Rattle.std.proofs.Common.{rules, arith, sym, ap, true, ◌≡◌, ◌∙◌, ◌∷◌, ◌++◌, [], Some, append-nil, append_assoc, string_bytes}
+use Rattle.std.proofs.lemmas.Result.{err_from_is_err_and}
+use Rattle.std.specs.Char.{is_ascii_digit}
+use Rattle.std.proofs.lemmas.Str.{encode_ascii}
+use Rattle.tinyjson.proofs.Slices.{digit_small}
+use Rattle.tinyjson.proofs.Sources.{AllByRecursion-push, Takes-nil, Takes-peek, Takes-append, Takes-shown}
+use Rattle.tinyjson.proofs.parser.source.Source.digits.Goals as goal
+
+pub loop-c-init : goal.loop-c-init
+loop-c-init g c = record {
+  digits = record { taken = []; pass = tt; takes = Takes-nil g.Self.Source.sight c.args.self.now; added = sym (append-nil (string_bytes c.args.literal.now)) };
+  left = search rules;
+}
+
+pub returns-in_err-push-in-Some-clause-digits : goal.returns-in_err-push-in-Some-clause-digits
+returns-in_err-push-in-Some-clause-digits g c =
+    let t = c.loop-c.invariant.digits in
+    let p = err_from_is_err_and c.from_residual.result c.from_residual.ensures.1 in
+    record { taken = t.taken; pass = t.pass; takes = Takes-peek g.Self.Source.sight _ _ _ t.taken t.takes c.peek.ensures.takes; added = rw p.1 tt }
+
+pub loop-c-preserved : goal.loop-c-preserved
+loop-c-preserved g c =
+    let sight = g.Self.Source.sight in
+    let t = c.loop-c.invariant.digits in
+    let x = c.in-Some.c in
+    let digit : is_ascii_digit x ≡ true = search rules in
+    let small = digit_small x digit in
+    let bytes : string_bytes c.push.new.self ≡ string_bytes c.loop-c.literal ++ x ∷ [] = search (rules, encode_ascii) in
+    record {
+      digits = record {
+        taken = t.taken ++ x ∷ [];
+        pass = AllByRecursion-push (λ d. is_ascii_digit d ≡ true) t.taken x t.pass digit;
+        takes = Takes-append sight _ _ _ t.taken (x ∷ []) (Takes-peek sight _ _ _ t.taken t.takes c.peek.ensures.takes)
+            (Takes-shown sight _ _ x _ (c.bump.ensures.shown (Some x) c.in-Some.ensures.shows) c.bump.ensures.takes);
+        added = bytes ∙ ap (λ cs. cs ++ x ∷ []) t.added ∙ append_assoc (string_bytes c.args.literal.now) t.taken (x ∷ []);
+      };
+      left = omega (arith, c.bump.ensures.left, c.peek.ensures.left, c.loop-c.invariant.left);
+    }
+
+pub returns-in_default-clause-digits : goal.returns-in_default-clause-digits
+returns-in_default-clause-digits g c =
+    let t = c.loop-c.invariant.digits in
+    record { taken = t.taken; pass = t.pass; takes = Takes-peek g.Self.Source.sight _ _ _ t.taken t.takes c.peek.ensures.takes; added = t.added }
+
+pub returns-in_default-2-clause-digits : goal.returns-in_default-2-clause-digits
+returns-in_default-2-clause-digits g c =
+    let t = c.loop-c.invariant.digits in
+    record { taken = t.taken; pass = t.pass; takes = Takes-peek g.Self.Source.sight _ _ _ t.taken t.takes c.peek.ensures.takes; added = t.added }
