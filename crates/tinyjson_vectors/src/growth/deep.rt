@@ -1,4 +1,4 @@
-//! Containers nested deeper than any recursion goes: they are read, written, copied, given up and freed.
+//! Containers nested deeper than any recursion goes: they are read, written, copied, compared, given up and freed.
 
 use std::alloc::{AllocError, Global};
 use std::process::Abort;
@@ -108,6 +108,25 @@ fn deep_values_are_written_and_copied(rt: HostRuntime) -> Result<(), Fail> {
         value.dismantle();
         assert!(rt; copy.stringify(alloc)? == written);
         copy.dismantle();
+    }
+    Ok(())
+}
+
+#[test]
+fn deep_values_are_compared(rt: HostRuntime) -> Result<(), Fail> {
+    let alloc = rt.alloc();
+    for (shape, size) in ROWS {
+        let [open, _, close] = shape.text;
+        let text = nested(alloc, shape.text, size)?;
+        let one = JsonValue::from_str(alloc, text.as_str())?;
+        let same = JsonValue::from_str(alloc, text.as_str())?;
+        let text = nested(alloc, [open, "true", close], size)?;
+        let other = JsonValue::from_str(alloc, text.as_str())?;
+        assert!(rt; one == same);
+        assert!(rt; one != other);
+        one.dismantle();
+        same.dismantle();
+        other.dismantle();
     }
     Ok(())
 }
