@@ -1,0 +1,45 @@
+//! Prints the part of a JSON text that a JSON pointer names, as compact text.
+//!
+//! The pointer is the one word of the command line, and the text comes from standard input. The status
+//! is 0 for a part, 1 where the pointer names none, 2 for other words or no pointer, 3 for no JSON text,
+//! and 4 where memory, a read or a write failed.
+#![tactic(auto)]
+
+mod part;
+
+use part::{PartError, write_part};
+use std::env::{self, Env};
+use std::io::{self, BufWriter, ErrorKind, Write};
+use std::process::ExitCode;
+
+fn main(rt: HostRuntime) -> ExitCode {
+    match print_part(&rt) {
+        Ok(Ok(())) => ExitCode::SUCCESS,
+        Ok(Err(error)) => {
+            let _ = eprintln!(rt; "json_part: {error}");
+            ExitCode::from(error.status())
+        }
+        Err(error) => {
+            let _ = eprintln!(rt; "json_part: {error}");
+            match error.kind() {
+                ErrorKind::InvalidInput => ExitCode::from(2),
+                ErrorKind::InvalidData => ExitCode::from(3),
+                _ => ExitCode::from(4),
+            }
+        }
+    }
+}
+
+// From standard input to standard output. The outer error is one of the words, of reading or of writing.
+fn print_part(rt: &(impl Env + Input + Print + AllocGlobal)) -> io::Result<Result<(), PartError>> {
+    let alloc = rt.alloc();
+    let mut words = env::args(rt)?.skip(1);
+    let (Some(pointer), None) = (words.next(), words.next()) else {
+        return Err(io::Error::new(ErrorKind::InvalidInput, "usage: json_part POINTER"));
+    };
+    let text = io::read_to_string(alloc, rt.reader())?;
+    let mut output = BufWriter::new(alloc, io::writer(rt))?;
+    let answer = write_part(alloc, pointer.as_str(), text.as_str(), &mut output);
+    output.flush()?;
+    Ok(answer)
+}

@@ -1,0 +1,116 @@
+//! The part of a text that a pointer names.
+ghost use Rattle.std.specs.Prelude.{◌≡◌, OnOk, ◌∷◌, ◌++◌, [], encode_utf8_all};
+ghost use Rattle.std.specs.Io.KnownBytes.{Appends};
+ghost use Rattle.std.specs.Str.{chars};
+ghost use Rattle.tinyjson.specs.Text.{compact};
+ghost use Rattle.tinyjson.specs.View.{view};
+ghost use Rattle.json_pointer.specs.Tokens.{tokens_of};
+ghost use Rattle.json_part.specs.Part.{status_of, WritesFound, WritesPart};
+
+use json_pointer::{Pointer, PointerError};
+use std::alloc::Global;
+use std::io::{self, Write};
+use std::{fmt, mem};
+use tinyjson::{JsonParseError, JsonValue};
+
+/// Why no part is written.
+#[derive(Debug, Drop)]
+pub enum PartError {
+    /// The pointer's text is that of no pointer.
+    BadPointer(PointerError),
+    /// The text is no JSON text.
+    Refused(JsonParseError),
+    /// The pointer names no part.
+    NoPart,
+    /// A growth of memory was refused.
+    OutOfMemory,
+    /// A write failed.
+    Writing,
+}
+
+impl PartError {
+    /// The status with which the program ends.
+    pub fn status(&self) -> u8
+        ensures { result ≡ status_of self.now }
+    {
+        match self {
+            PartError::NoPart => 1,
+            PartError::BadPointer(_) => 2,
+            PartError::Refused(_) => 3,
+            PartError::OutOfMemory | PartError::Writing => 4,
+        }
+    }
+}
+
+impl fmt::Display for PartError {
+    fn fmt<W: fmt::Write>(&self, f: &mut fmt::Formatter<W>) -> fmt::Result {
+        match self {
+            PartError::BadPointer(error) => write!(f, "{error}"),
+            PartError::Refused(error) => write!(f, "{error}"),
+            PartError::NoPart => f.write_str("the pointer names no part"),
+            PartError::OutOfMemory => f.write_str("out of memory"),
+            PartError::Writing => f.write_str("writing failed"),
+        }
+    }
+}
+
+/// Writes the compact text of the part that the pointer names, and a line feed.
+///
+/// ```
+/// write_part(alloc, "/a/0", r#"{"a":[7]}"#, &mut output)?; // 7 and a line feed
+/// ```
+pub fn write_part<W: Write>(
+    alloc: Global,
+    pointer: &str,
+    text: &str,
+    output: &mut W,
+) -> Result<(), PartError>
+    ensures { WritesPart (chars pointer.now) (chars text.now)
+        (W.contents output.old) (W.contents output.new) result }
+{
+    let pointer = match Pointer::parse(alloc, pointer) {
+        Ok(pointer) => pointer,
+        Err(PointerError::OutOfMemory) => return Err(PartError::OutOfMemory),
+        Err(error) => return Err(PartError::BadPointer(error)),
+    };
+    match JsonValue::from_str(alloc, text) {
+        Ok(value) => {
+            let answer = write_found(alloc, &pointer, &value, output);
+            // The program ends soon, and the drop of a deep value would take stack.
+            mem::forget(value);
+            answer
+        }
+        Err(error) => {
+            if error.is_out_of_memory() {
+                return Err(PartError::OutOfMemory);
+            }
+            Err(PartError::Refused(error))
+        }
+    }
+}
+
+fn write_found<W: Write>(
+    alloc: Global,
+    pointer: &Pointer,
+    value: &JsonValue,
+    output: &mut W,
+) -> Result<(), PartError>
+    ensures { WritesFound (tokens_of pointer.now) (view value.now)
+        (W.contents output.old) (W.contents output.new) result }
+{
+    let Some(part) = pointer.find(value) else {
+        return Err(PartError::NoPart);
+    };
+    match write_line(alloc, part, output) {
+        Ok(()) => Ok(()),
+        Err(_) => Err(PartError::Writing),
+    }
+}
+
+fn write_line<W: Write>(alloc: Global, value: &JsonValue, output: &mut W) -> io::Result<()>
+    ensures { OnOk result (Appends (W.contents output.old) (W.contents output.new)
+        (encode_utf8_all (compact (view value.now)) ++ 10 ∷ [])) }
+{
+    value.write_to(alloc, output)?;
+    output.write_all(b"\n")
+}
