@@ -60,7 +60,9 @@ fn write_line<W: Write>(
 {
     match JsonValue::from_str(alloc, line) {
         Ok(value) => {
-            write_value(alloc, output, &value)?;
+            let written = write_value(alloc, output, &value);
+            value.dismantle();
+            written?;
             Ok(None)
         }
         Err(error) => {

@@ -10,7 +10,7 @@ ghost use Rattle.json_part.specs.Part.{status_of, WritesFound, WritesPart};
 use json_pointer::{Pointer, PointerError};
 use std::alloc::Global;
 use std::io::{self, Write};
-use std::{fmt, mem};
+use std::fmt;
 use tinyjson::{JsonParseError, JsonValue};
 
 /// Why no part is written.
@@ -76,8 +76,7 @@ pub fn write_part<W: Write>(
     match JsonValue::from_str(alloc, text) {
         Ok(value) => {
             let answer = write_found(alloc, &pointer, &value, output);
-            // The program ends soon, and the drop of a deep value would take stack.
-            mem::forget(value);
+            value.dismantle();
             answer
         }
         Err(error) => {
