@@ -9,8 +9,8 @@ ghost use Rattle.json_part.specs.Part.{status_of, WritesFound, WritesPart};
 
 use json_pointer::{Pointer, PointerError};
 use std::alloc::Global;
-use std::io::{self, Write};
 use std::fmt;
+use std::io::{self, Write};
 use tinyjson::{JsonParseError, JsonValue};
 
 /// Why no part is written.
