@@ -2,6 +2,7 @@
 
 mod again;
 mod ahead;
+mod borders;
 mod cuts;
 mod depth;
 mod long;
