@@ -142,9 +142,6 @@ one_more xs ys zs zs' c h e = h ∙ (ap (λ z. ys ++ z) e ∙ sym (append_assoc 
 pub escaped-more : (ys : List ℕ) (c : ℕ) → encode_utf8_all (escape ys) ++ encode_utf8_all (escape_char c) ≡ encode_utf8_all (escape (ys ++ c ∷ []))
 escaped-more ys c = sym (encodes-append (escape ys) (escape_char c)) ∙ ap encode_utf8_all (sym (escape-push ys c))
 
-pub other-encoded : (c : ℕ) → c ≢ 126 → c ≢ 47 → encode_utf8_all (escape_char c) ≡ encode_utf8 c
-other-encoded c h k = ap encode_utf8_all (escape_char-other c h k) ∙ append-nil (encode_utf8 c)
-
 pub pointer-more : (ts : List (List ℕ)) (t : List ℕ) → encode_utf8_all (pointer_text ts) ++ encode_utf8_all (47 ∷ escape t) ≡ encode_utf8_all (pointer_text (ts ++ t ∷ []))
 pointer-more ts t = sym (encodes-append (pointer_text ts) (47 ∷ escape t)) ∙ ap encode_utf8_all (sym (pointer_text-push ts t))
 

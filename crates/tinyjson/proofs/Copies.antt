@@ -18,16 +18,9 @@ pub filled_all_last : (ps : List Partial) (p : Partial) (t : Tree) → filled_al
 filled_all_last [] p t = refl
 filled_all_last (q ∷ ps) p t = ap (filled q) (filled_all_last ps p t)
 
-total_last : (ns : List ℕ) (n : ℕ) → total (ns ++ n ∷ []) ≡ n + total ns
-total_last [] n = refl
-total_last (m ∷ ns) n = omega (arith, total_last ns n)
-
 pub stack_weight_last : (ps : List Partial) (p : Partial) → stack_weight (ps ++ p ∷ []) ≡ partial_weight p + stack_weight ps
 stack_weight_last [] p = refl
 stack_weight_last (q ∷ ps) p = omega (arith, stack_weight_last ps p)
-
-pub weight-Array : (v : Vec JsonValue Global) → weight (is.Array v) ≡ 2 + items_weight v.items
-weight-Array v = search (rules, the_lemmas)
 
 pub weight-Object : (m : JsonMap) → weight (is.Object m) ≡ 2 + entries_weight m.entries
 weight-Object m = search (rules, the_lemmas)

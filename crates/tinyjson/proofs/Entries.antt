@@ -23,10 +23,6 @@ text_bytes s = encodes-chars (string_bytes s) (IsUtf8-string_bytes s)
 pub same_text : (s t : String Global) → text s ≡ text t → string_bytes s ≡ string_bytes t
 same_text s t h = sym (text_bytes s) ∙ (ap encode_utf8_all h ∙ text_bytes t)
 
--- the members' order is the order of the texts
-pub text_cmp : (s t : String Global) → key_cmp (text s) (text t) ≡ string_cmp s t
-text_cmp s t = λ i. slice_cmp nat_cmp (text_bytes s i) (text_bytes t i)
-
 pub text_eq : (s t : String Global) → bytes_eq (text s) (text t) ≡ string_eq s t
 text_eq s t =
     let both = bytes_eq-Decides (text s) (text t) in

@@ -19,9 +19,6 @@ key_same k l h = encodes_same k l (exact_bytes _ _ h)
 pub same_key : (k : List ℕ) → bytes_eq k k ≡ true
 same_key k = (bytes_eq-Decides k k).1 refl
 
-not_less : Less ≡ Equal → ⊥
-not_less h = cc
-
 itself : (k : List ℕ) → key_cmp k k ≡ Equal
 itself k = by (key_cmp k k) refl
   where

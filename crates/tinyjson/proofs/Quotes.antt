@@ -18,9 +18,6 @@ use Rattle.tinyjson.proofs.Encoded.{enc, enclosed}
 plain_escape : (b : ℕ) → is_plain b ≡ true → escape b ≡ b ∷ []
 plain_escape b h = grind (arith, nat_tests)
 
-stop_is : (b : ℕ) → is_plain b ≡ false → IsEscaped b
-stop_is b h = grind (arith, nat_tests)
-
 escapes_plain : (xs : List ℕ) → escapes xs ≡ take (prefix_len is_plain xs) xs ++ escapes (drop (prefix_len is_plain xs) xs)
 escapes_plain [] = refl
 escapes_plain (x ∷ xs) = go (is_plain x) refl (escapes_plain xs)
@@ -61,13 +58,6 @@ module _ (xs : List ℕ) (n : ℕ) (e : n ≡ 0 + prefix_len is_plain xs) where
 
   pub escapes_there : escapes (drop n xs) ≡ escapes (take (length xs - n) (drop n xs))
   escapes_there = ap escapes (sym rest_is)
-
-pub first_stops : (b : ℕ) (bs : List ℕ) → prefix_len is_plain (b ∷ bs) ≡ 0 → IsEscaped b
-first_stops b bs h = stop_is b (go (is_plain b) h)
-  where
-    go : (p : Bool) → cond p (1 + prefix_len is_plain bs) 0 ≡ 0 → p ≡ false
-    go true e = absurd (omega arith)
-    go false e = refl
 
 -- the escapes of a text's bytes are the bytes of its escapes
 pub high : (c : ℕ) → 128 ≤ c → escape c ≡ c ∷ []

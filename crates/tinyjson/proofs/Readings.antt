@@ -30,11 +30,6 @@ module _ (limit : Option ℕ) where
   Same-trans n m o [] a b = a ∙ b
   Same-trans n m o (c ∷ cs) a b = a ∙ b
 
-  -- a refusal takes nothing
-  next_from : (n : Next) (c : ℕ) → IsTaken (onward limit n c) → IsNext n
-  next_from (next fs p) c h = tt
-  next_from (stop k b) c h = h
-
   Comes-same : (n m o : Next) (xs rest : List ℕ) → Same limit n m (xs ++ rest) → (IsNext m → IsNext n) → Comes limit m xs o rest → Comes limit n xs o rest
   Comes-same n m o [] rest a k b = (Same-trans n m o rest a b.0, λ h. k (b.1 h))
   Comes-same n m o (c ∷ cs) rest a k b = (k b.0, subst IsTaken (sym a) b.1, subst (λ z. Comes limit z cs o rest) (sym a) b.2)
@@ -87,11 +82,6 @@ module _ (limit : Option ℕ) where
       came : (n m : Next) (cs rest : List ℕ) → IsNext m → Comes limit n cs m rest → IsNext n
       came n m [] rest k a = a.1 k
       came n m (c ∷ cs) rest k a = a.0
-
-  behind-next : (n : Next) (f : List ℕ) → IsNext (behind limit n f) → IsNext n
-  behind-next n [] h = h
-  behind-next (next fs p) (c ∷ cs) h = tt
-  behind-next (stop k b) (c ∷ cs) h = behind-next (stop k false) cs h
 
   IsHeld-same : (n m : Next) (ys rest : List ℕ) → (IsNext m → IsNext n) → Same limit n m (ys ++ rest) → IsHeld limit m ys → IsHeld limit n ys
   IsHeld-same n m ys rest h a k = record { front = k.front; late = k.late; whole = k.whole; goes = go k.front k.whole k.goes; ends = on k.front k.late k.whole k.ends }
@@ -254,9 +244,6 @@ module _ {S : Type 0} (sight : Sight S) (limit : Option ℕ) where
         moves = t.moves;
       } in
       Leads-trans p q r a l
-
-  pub Leads-at : (p q r : S) {n m : Next} → Leads sight limit p n q m → r ≡ q → Leads sight limit p n r m
-  Leads-at p q r {n} {m} l e = subst (λ s. Leads sight limit p n s m) (sym e) l
 
   -- the end is found
   pub Leads-none : (p q r : S) {n m o : Next} → Leads sight limit p n q m → Takes sight q [] r → sight.shows r None → ending limit m ≡ ending limit o → IsNext m → Leads sight limit p n r o

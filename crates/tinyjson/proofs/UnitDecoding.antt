@@ -17,21 +17,11 @@ text-push new old c h e =
     ap chars e ∙ chars-append (string_bytes old) (encode_utf8 c) (IsUtf8-string_bytes old)
     ∙ ap (λ bs. text old ++ chars bs) (sym (append-nil (encode_utf8 c))) ∙ ap (λ cs. text old ++ cs) (chars-encodes (c ∷ []) (rw h refl))
 
--- the unit at place i
-pub unit_at : (us : List ℕ) (i u : ℕ) → i < length us → u ≡ get_or us i u → drop i us ≡ u ∷ drop (i + 1) us
-unit_at us i u h e = drop-cons us i u h ∙ ap (λ y. y ∷ drop (suc i) us) (sym e) ∙ ap (λ j. u ∷ drop j us) (sym (add-one i))
-
 pub paired_pair : (h l : ℕ) (us : List ℕ) → is_high h ≡ true → is_low l ≡ true → paired (h ∷ l ∷ us) ≡ paired us
 paired_pair h l us a b = rw (a, b) refl
 
 pub decode_pair : (h l : ℕ) (us : List ℕ) → is_high h ≡ true → is_low l ≡ true → decode (h ∷ l ∷ us) ≡ pair_of h l ∷ decode us
 decode_pair h l us a b = rw (a, b) refl
-
-pub paired_alone : (h l : ℕ) (us : List ℕ) → is_high h ≡ true → is_low l ≡ false → paired (h ∷ l ∷ us) ≡ false
-paired_alone h l us a b = rw (a, b) refl
-
-pub paired_last : (h : ℕ) → is_high h ≡ true → paired (h ∷ []) ≡ false
-paired_last h a = rw a refl
 
 pub paired_low : (l : ℕ) (us : List ℕ) → is_surrogate l ≡ true → is_high l ≡ false → paired (l ∷ us) ≡ false
 paired_low l [] a b = rw a refl
@@ -83,14 +73,3 @@ not_scalar u h o = grind (arith, nat_tests)
 
 pub scalar_plain : (u : ℕ) → InScalarRange u → is_surrogate u ≡ false
 scalar_plain u h = grind (arith, nat_tests)
-
--- the first character is 0, and another may follow
-pub zero_from : {S : Type 0} (steps : S → Option ℕ → S → Type 0) (s t u : S) (p : Option ℕ) (l : List ℕ) → AlwaysYields steps (λ x. x) s l → steps s (Some 48) t → steps t p u → is_some p ≡ has_leading_zero l
-zero_from steps s t u p [] b g h = absurd (b 48 t g)
-zero_from steps s t u p (y ∷ ys) b g h = let w = b.1 48 t g in go p ys w.1 h
-  where
-    go : (p : Option ℕ) (ys : List ℕ) → AlwaysYields steps (λ x. x) t ys → steps t p u → is_some p ≡ has_leading_zero (y ∷ ys)
-    go None [] b h = refl
-    go None (z ∷ zs) b h = absurd (b.0 u h)
-    go (Some d) [] b h = absurd (b d u h)
-    go (Some d) (z ∷ zs) b2 h = sym (eq-eqb y 48 (sym (b.1 48 t g).0))

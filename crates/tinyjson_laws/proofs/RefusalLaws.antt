@@ -139,9 +139,6 @@ digit-left fs (part_letter b d ds f l) k e = end-left _ k 48 [] e
 digit-left fs (part_sign b d ds f l s) k e = end-left _ k 48 [] e
 digit-left fs (part_exponent b d ds f l s x xs) k e = end-left _ k 48 [] e
 
-other-end : (j : JsonParseErrorKind) (k : JsonKind) → refused j [] ≡ refused (kind.KeyNotString k) [] → j ≡ kind.KeyNotString k
-other-end j k e = cc
-
 no-end : (k : JsonKind) → refused kind.UnexpectedEof [] ≡ refused (kind.KeyNotString k) [] → ⊥
 no-end k e = cc
 

@@ -183,26 +183,6 @@ negative-whole b n some fits = ap (λ (d : Decimal). d.negative) (sym (whole_is 
 
 -- ---- whole numbers of 64 bits are told apart by their decimals
 
-same_magnitude : (b c : Bool) (m n : ℕ) → m < 2 ^ 64 → n < 2 ^ 64 → whole_decimal b m ≡ whole_decimal c n → m ≡ n
-same_magnitude b c m n hm hn e = sym (magnitude-whole b m hm) ∙ ap magnitude_of e ∙ magnitude-whole c n hn
-
-pub natural_decimal-injective : (m n : ℕ) → m < 2 ^ 64 → n < 2 ^ 64 → integer_decimal (pos m) ≡ integer_decimal (pos n) → m ≡ n
-natural_decimal-injective m n hm hn e = same_magnitude false false m n hm hn e
-
-signs_differ : (m n : ℕ) → m < 2 ^ 64 → suc n < 2 ^ 64 → ¬ (whole_decimal false m ≡ whole_decimal true (suc n))
-signs_differ m n hm hn e =
-    let same : m ≡ suc n = same_magnitude false true m (suc n) hm hn e in
-    false≢true (sym (negative-whole false m (omega (arith, same)) hm) ∙ ap (λ (d : Decimal). d.negative) e ∙ negative-whole true (suc n) (omega arith) hn)
-
-pub integer_decimal-injective : (y z : ℤ) → FitsSigned w64 y → FitsSigned w64 z → integer_decimal y ≡ integer_decimal z → y ≡ z
-integer_decimal-injective (pos m) (pos n) hy hz e = ap pos (same_magnitude false false m n (omega (arith, ints, hy)) (omega (arith, ints, hz)) e)
-integer_decimal-injective (pos m) (negsuc n) hy hz e = absurd (signs_differ m n (omega (arith, ints, hy)) (omega (arith, ints, hz)) e)
-integer_decimal-injective (negsuc m) (pos n) hy hz e = absurd (signs_differ n m (omega (arith, ints, hz)) (omega (arith, ints, hy)) (sym e))
-integer_decimal-injective (negsuc m) (negsuc n) hy hz e =
-    let same : suc m ≡ suc n = same_magnitude true true (suc m) (suc n) (omega (arith, ints, hy)) (omega (arith, ints, hz)) e in
-    let less : m ≡ n = omega (arith, same) in
-    ap negsuc less
-
 -- ---- no integer of the type
 
 pub no_integer : (d : Decimal) (b : Bool) (m : ℕ) → d ≡ whole_decimal b m → m < 2 ^ 64 → 2 ^ 63 < m → (z : ℤ) → FitsSigned w64 z → ¬ (d ≡ integer_decimal z)

@@ -53,12 +53,6 @@ placed (item_in p es w) s = tt
 placed (key_in p ps w) s = ⊎_elim (λ h. inl h) (λ h. inr (h, refl)) (key-or s)
 placed (value_in p ps a k b w) s = tt
 
-pub placed_key : (p : Path) (s : Syntax) (v : List ℕ) → IsKey s → IsPlaced p s v
-placed_key (outside w) s v h = tt
-placed_key (item_in p es w) s v h = tt
-placed_key (key_in p ps w) s v h = inl h
-placed_key (value_in p ps a k b w) s v h = tt
-
 abbrev pub item_value : (es : List Element) (w : List ℕ) (s : Syntax) (v : List ℕ) → AreElementsBefore es → AreWhite w → IsValue s → AreWhite v → IsValue (array (items_with es w s v))
 item_value es w s v h hw hs hv = record { spelled = items-spelled es w s v h hw hs.spelled hv; strict = items-strict es w s v h hs.strict }
 

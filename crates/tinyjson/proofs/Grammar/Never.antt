@@ -104,18 +104,6 @@ pub refused-key : (r : Rules) (ms : tree.Members) (fs : List Frame) (s : Syntax)
     run r (at_key ms ∷ fs) awaited (text s ++ ys) ≡ refused (KeyNotString (kind_of (tree_of s))) ys
 refused-key r ms fs s ys h v b m d = run-value s r (at_key ms ∷ fs) ys v.spelled (λ e. v.strict) m d ∙ rw (h, string-key s, b)
 
--- whatever comes behind it
-pub bad_key-never : (r : Rules) (ms : tree.Members) (fs : List Frame) (s : Syntax) (ys : List ℕ) (t : tree.Tree) → r.strict ≡ true → IsValue s → is_key s ≡ false → HasRoom r (at_key ms ∷ fs) (depth s) →
-    run r (at_key ms ∷ fs) awaited (text s ++ ys) ≡ accepted t → ⊥
-bad_key-never r ms fs null ys t h v b m e = refused-accepted _ _ t (sym (refused-key r ms fs null ys h v b m tt) ∙ e)
-bad_key-never r ms fs (boolean c) ys t h v b m e = refused-accepted _ _ t (sym (refused-key r ms fs (boolean c) ys h v b m tt) ∙ e)
-bad_key-never r ms fs (number n) ys t h v b m e = key-never ys r ms fs (last_stage n) n t h (sym (run-spelling r (at_key ms ∷ fs) n ys v.spelled (fine-zero r n.whole (λ _. v.strict.0))) ∙ e)
-bad_key-never r ms fs (string ps) ys t h v b m e = absurd (true≢false b)
-bad_key-never r ms fs (empty_array w) ys t h v b m e = refused-accepted _ _ t (sym (refused-key r ms fs (empty_array w) ys h v b m tt) ∙ e)
-bad_key-never r ms fs (array es) ys t h v b m e = refused-accepted _ _ t (sym (refused-key r ms fs (array es) ys h v b m tt) ∙ e)
-bad_key-never r ms fs (empty_object w) ys t h v b m e = refused-accepted _ _ t (sym (refused-key r ms fs (empty_object w) ys h v b m tt) ∙ e)
-bad_key-never r ms fs (object ps) ys t h v b m e = refused-accepted _ _ t (sym (refused-key r ms fs (object ps) ys h v b m tt) ∙ e)
-
 -- ---- texts that end with their first key that is no string
 
 pub cut_off-key : (limit : Option ℕ) (xs : List ℕ) (h : IsCutOffText limit xs) → BadKey (rules true limit) [] h.cut_off
@@ -133,7 +121,3 @@ cut_off-refused limit xs h ys d = let b = cut_off-key limit xs h in
 -- the end behind it
 pub cut_off-end : (limit : Option ℕ) (xs : List ℕ) → IsCutOffText limit xs → (t : tree.Tree) × (run (rules true limit) [] awaited xs ≡ refused (KeyNotString (kind_of t)) [])
 cut_off-end limit xs h = (_, rw (append-nil xs) at (cut_off-refused limit xs h [] (ends (cut_off-key limit xs h).key [] tt)))
-
-pub cut_off-never : (limit : Option ℕ) (xs : List ℕ) → IsCutOffText limit xs → (ys : List ℕ) (t : tree.Tree) → run (rules true limit) [] awaited (xs ++ ys) ≡ accepted t → ⊥
-cut_off-never limit xs h ys t e = let b = cut_off-key limit xs h in
-    bad_key-never (rules true limit) b.members b.frames b.key ys t refl b.value b.no_string b.room (sym (cut_off-reads limit xs h ys) ∙ e)

@@ -29,13 +29,6 @@ use Rattle.tinyjson_number.proofs.Naturals.{digits-append}
 
 -- ---- what a number that stops tells
 
-abbrev pub LastDigit : ℕ → List ℕ → Type 0
-LastDigit d ds = (front : List ℕ) × (e : ℕ) × IsTrue (is_ascii_digit e) × (d ∷ ds ≡ front ++ e ∷ [])
-
-pub last-digit : (d : ℕ) (ds : List ℕ) → AreDigits (d ∷ ds) → LastDigit d ds
-last-digit d [] h = ([], d, h.0, refl)
-last-digit d (e ∷ es) h = let r = last-digit e es h.1 in (d ∷ r.0, r.1, r.2, ap (λ xs. d ∷ xs) r.3)
-
 module _ (ranges : Ranges) (limit : Option ℕ) (p : Path) (hp : IsPath limit p) where
   pub minus-told : (rest : List ℕ) → BeginsWithNone is_ascii_digit rest → Told limit EmptyInteger (path_text p ++ 45 ∷ []) rest
   minus-told rest h = ((begins-at limit p hp _ _ refl, h), (faultless-minus ranges limit p hp, ends-loosely limit p hp _ (part-ending part_minus tt)))

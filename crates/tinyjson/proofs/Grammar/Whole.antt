@@ -50,9 +50,6 @@ white-after limit p s v h c hc = (h.0, h.1, h.2, h.3, are_white_append v (c ∷ 
 pub longer : (a b v : List ℕ) (c : ℕ) → (a ++ (b ++ v)) ++ c ∷ [] ≡ a ++ (b ++ (v ++ c ∷ []))
 longer a b v c = simp append_assoc
 
-pub then_one : (a b v : List ℕ) (n : ℕ) (z : List ℕ) → a ++ (b ++ (v ++ n ∷ z)) ≡ ((a ++ (b ++ v)) ++ n ∷ []) ++ z
-then_one a b v n z = simp append_assoc
-
 -- no quote follows a value in a container
 abbrev pub IsInside : Path → Type 0
 IsInside (outside w) = ⊥
