@@ -1,15 +1,15 @@
 -- For proofs of callers: values, parts, maps and texts beside the trees and the grammar that contracts speak of.
 pub use Rattle.std.proofs.lemmas.Str.{scalars-chars, IsUtf8-string_bytes}
-pub use Rattle.tinyjson.proofs.Answering.{all-scalars, parses-text}
-pub use Rattle.tinyjson.proofs.Entries.{same_text, text_eq}
-pub use Rattle.tinyjson.proofs.Equality.{view-Array, view-Object}
-pub use Rattle.tinyjson.proofs.Index.{items_view-set, tree-with_item, tree-with_member}
-pub use Rattle.tinyjson.proofs.Members.{find-put, find-remove, sorted-put, sorted-remove, members_from_find}
-pub use Rattle.tinyjson.proofs.Scalars.{encoded_chars, encoded_utf8, text-scalars}
-pub use Rattle.tinyjson.proofs.Trees.{view-IsTree, text_scalars}
-pub use Rattle.tinyjson.proofs.Views.{Entry, find-members_view, members_view_last}
-pub use Rattle.tinyjson.proofs.WholeNumbers.{integers_differ, naturals_differ}
-pub use Rattle.tinyjson.proofs.Writing.{Appends-trans, Appends-nothing, Appends-keeps, written_none, written_all, begins, goes, ends, written_take, written_same, written_then, stop, stops, stops_then, fails}
+pub use Rattle.tinyjson.proofs.Reading.Parse.{all-scalars, parses-text}
+pub use Rattle.tinyjson.proofs.Values.Entries.{same_text, text_eq}
+pub use Rattle.tinyjson.proofs.Values.Equality.{view-Array, view-Object}
+pub use Rattle.tinyjson.proofs.Values.Index.{items_view-set, tree-with_item, tree-with_member}
+pub use Rattle.tinyjson.proofs.Values.Members.{find-put, find-remove, sorted-put, sorted-remove, members_from_find}
+pub use Rattle.tinyjson.proofs.Writing.Scalars.{encoded_chars, encoded_utf8, text-scalars}
+pub use Rattle.tinyjson.proofs.Values.Trees.{view-IsTree, text_scalars}
+pub use Rattle.tinyjson.proofs.Values.Views.{Entry, find-members_view, members_view_last}
+pub use Rattle.tinyjson.proofs.Values.WholeNumbers.{integers_differ, naturals_differ}
+pub use Rattle.tinyjson.proofs.Writing.Written.{Appends-trans, Appends-nothing, Appends-keeps, written_none, written_all, begins, goes, ends, written_take, written_same, written_then, stop, stops, stops_then, fails}
 use Rattle.std.proofs.Common.{◌≡◌, ◌≢◌, ℕ, zero, suc, ◌<◌, Bool, true, false, ◌&&◌, cond, bytes_eq, nat_lt, List, [], ◌∷◌, ◌++◌, Option, Some, None, option_map, Result, Ok, Err, String, string_bytes, Vec, Global, Bor, refl, sym, ap, ◌∙◌, subst, rules, arith, append-nil}
 use Rattle.std.proofs.lemmas.Bool.{and_parts}
 use Rattle.std.proofs.lemmas.Bool.Decides.{nat_tests, same_from_decides}
@@ -22,10 +22,10 @@ use Rattle.std.specs.Map.{lookup, keys_of}
 use Rattle.std.specs.Prelude.{IsSome, slice_get, option_and_then}
 use Rattle.std.specs.Str.{IsAscii, IsUtf8, chars, encode_utf8_all}
 use Rattle.std.specs.String.{string_eq, string_eq_equiv}
-use Rattle.tinyjson.proofs.Entries.{find-members_of}
-use Rattle.tinyjson.proofs.Views.{view_lookup, view_of_ref, members_view-updates, members_view-removes, members_view-writes}
+use Rattle.tinyjson.proofs.Values.Entries.{find-members_of}
+use Rattle.tinyjson.proofs.Values.Views.{view_lookup, view_of_ref, members_view-updates, members_view-removes, members_view-writes}
 use Rattle.tinyjson.specs.Access.{JsonMap, number_in, boolean_in, string_in, null_in, array_in, object_in, number_part, boolean_part, string_part, null_part, array_part, object_part}
-use Rattle.tinyjson.proofs.WrittenTexts.{compact-text, one-compact}
+use Rattle.tinyjson.proofs.Writing.WrittenTexts.{compact-text, one-compact}
 use Rattle.tinyjson.specs.Equality.{same_tree, tree_eq_decides}
 use Rattle.tinyjson.specs.Error.{error_kind}
 use Rattle.tinyjson.specs.Grammar.{IsText, IsAccepted}

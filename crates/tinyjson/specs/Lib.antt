@@ -21,15 +21,4 @@ pub mod Written
 pub mod Indent
 pub mod Generator
 -- what private contracts alone say
-pub mod Copy
-pub mod Comparison
-pub mod Machine
-pub mod Source
-pub mod Slice
-pub mod Cursor
-pub mod Reading
-pub mod Numbers
-pub mod Sorted
-pub mod Scan
-pub mod Room
-pub mod Pending
+pub mod private

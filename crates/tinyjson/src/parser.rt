@@ -5,16 +5,16 @@ ghost use Rattle.std.specs.Str.{chars};
 ghost use Rattle.tinyjson.specs.Parser.{Provides, Remains, Parses, ParsesText};
 ghost use Rattle.tinyjson.specs.Position.{origin};
 
+mod containers;
 mod cursor;
 mod error;
 mod number;
 mod reader;
 mod scan;
 mod source;
-mod stack;
 mod string;
 mod text;
-mod units;
+mod utf16;
 
 use crate::value::JsonValue;
 use cursor::Characters;

@@ -2,7 +2,7 @@
 ghost use Rattle.std.specs.Prelude.{◌≡◌, ◌+◌, ◌≤◌, length, drop, map};
 ghost use Rattle.std.specs.List.{prefix_len};
 ghost use Rattle.std.specs.Simd.Lanes.{mask_l};
-ghost use Rattle.tinyjson.specs.Scan.{is_stop, is_plain};
+ghost use Rattle.tinyjson.specs.private.Scan.{is_stop, is_plain};
 
 use std::simd::prelude::*;
 

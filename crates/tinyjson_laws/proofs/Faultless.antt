@@ -4,9 +4,9 @@ use Rattle.tinyjson.specs.Syntax.{string, IsWithin}
 use Rattle.tinyjson.specs.Grammar.{IsLoose}
 use Rattle.tinyjson.specs.Prefix.{IsFaultless, IsCutOffText, CutOff, bad_key, in_key, in_member, in_item, cut_off_text, IsCutOff, cut_off_depth}
 use Rattle.tinyjson.specs.Prefix.{IsLooselyViable}
-use Rattle.tinyjson.proofs.Grammar.Paths.{Path, outside, item_in, key_in, value_in, path_text, level, IsPath, within_le, closes, closing}
-use Rattle.tinyjson.proofs.Grammar.Spelt.{loosely-from}
-use Rattle.tinyjson.proofs.Grammar.Faultless.{viable-before}
+use Rattle.tinyjson.proofs.Grammar.Trace.Paths.{Path, outside, item_in, key_in, value_in, path_text, level, IsPath, within_le, closes, closing}
+use Rattle.tinyjson.proofs.Grammar.Trace.State.{loosely-from}
+use Rattle.tinyjson.proofs.Grammar.Prefix.Faultless.{viable-before}
 
 cut_off-loosely : (limit : Option ℕ) (b : CutOff) (p : Path) → IsPath limit p → IsCutOff b → IsWithin limit (level p + cut_off_depth b) → IsLooselyViable limit (path_text p ++ cut_off_text b)
 cut_off-loosely limit (bad_key ps w s) p hp h hd =

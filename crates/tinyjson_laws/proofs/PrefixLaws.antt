@@ -13,7 +13,7 @@ use Rattle.tinyjson.specs.Prefix.{IsViable, IsFaultless, IsCutOffText, IsLoosely
 use Rattle.tinyjson.specs.Refusal.{begins_value, IsRefusal, RefusalSays}
 use Rattle.tinyjson.specs.declared.parser.error.JsonParseErrorKind.{JsonParseErrorKind}
 use Rattle.tinyjson.specs.declared.parser.error.JsonParseErrorKind.TheVariants as kind
-use Rattle.tinyjson.proofs.Grammar.Faultless.{viable-before}
+use Rattle.tinyjson.proofs.Grammar.Prefix.Faultless.{viable-before}
 use Rattle.tinyjson_laws.proofs.Faultless.{faultless-loosely}
 use Rattle.tinyjson_laws.specs.Prefixes.{AcceptedIsLoose, EmptyIsViable, ViableIsFaultless, FaultlessIsLooselyViable, UnviableStaysSo, ValuesBegin, UnviableAtFirst, IsShortest, ShortestInOrder, RefusedNotTooSoon, RefusedAtEnd, RefusedNotTooLate}
 

@@ -13,7 +13,7 @@ use Rattle.tinyjson.specs.Tree.{key_cmp}
 use Rattle.tinyjson.specs.Syntax.{Syntax, Elements, Pairs, null, boolean, number, string, empty_array, array, empty_object, object, last_element, element, last_pair, pair, Piece, plain, escape, unit, IsPiece, ArePieces, code, piece_codes, unit_value, IsSpelled, AreElements, ArePairs, IsStrictAt, ElementsAreStrictAt, PairsAreStrictAt, is_key, tree_of, elements_trees, pairs_members, depth, elements_depth, pairs_depth}
 use Rattle.tinyjson.specs.Soundness.{IsSorted, IsTreeAt, AreItemsAt, AreMembersAt, tree_depth, items_depth, members_depth}
 use Rattle.tinyjson.proofs.Callers.{sorted-put}
-use Rattle.tinyjson.proofs.Trees.{are_put}
+use Rattle.tinyjson.proofs.Values.Trees.{are_put}
 use Rattle.tinyjson_number.proofs.Canonicals.{value-canonical}
 
 -- ---- characters

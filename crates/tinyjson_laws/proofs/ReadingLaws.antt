@@ -7,10 +7,10 @@ use Rattle.tinyjson.specs.Syntax.{text, depth, IsWithin}
 use Rattle.tinyjson.specs.Grammar.{IsTextAt}
 use Rattle.tinyjson.specs.Text as written
 use Rattle.tinyjson.specs.Soundness.{IsTreeAt, tree_depth}
-use Rattle.tinyjson.proofs.Grammar.Texts.{one-tree}
+use Rattle.tinyjson.proofs.Grammar.Accepts.Text.{one-tree}
 use Rattle.tinyjson_laws.specs.Reading.{OneTree, TextsAreSound, TreesHaveTexts, WiderLimit, WiderRange}
-use Rattle.tinyjson.proofs.TreeTrip.{IsWhiteIndent}
-use Rattle.tinyjson.proofs.WrittenTexts.{written-text}
+use Rattle.tinyjson.proofs.Writing.TreeTrip.{IsWhiteIndent}
+use Rattle.tinyjson.proofs.Writing.WrittenTexts.{written-text}
 use Rattle.tinyjson_laws.proofs.ReadTrees.{tree-is, depth-is}
 use Rattle.tinyjson_laws.proofs.Wider.{wider-text}
 

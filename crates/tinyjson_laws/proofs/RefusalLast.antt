@@ -7,8 +7,8 @@ use Rattle.tinyjson.specs.Characters.{is_white, is_hex, short_escape, paired, de
 use Rattle.tinyjson.specs.Prefix.{IsFaultless, IsLooselyViable, IsCutOffText}
 use Rattle.tinyjson.specs.Grammar.{IsAccepted}
 use Rattle.tinyjson.specs.Kind.{kind_of}
-use Rattle.tinyjson.specs.Machine
-use Rattle.tinyjson.specs.Machine.{Rules, strictly, Frame, in_array, at_key, at_value, Phase, first, awaited, word, digits, quoted, colon, after, finished, Stage, Next, next, stop, Outcome, accepted, refused, rest_of, complete, finish, then_step, unless_ended, step_digits, step_escape, end_digits, end_plain, step, run, end}
+use Rattle.tinyjson.specs.private.Machine
+use Rattle.tinyjson.specs.private.Machine.{Rules, strictly, Frame, in_array, at_key, at_value, Phase, first, awaited, word, digits, quoted, colon, after, finished, Stage, Next, next, stop, Outcome, accepted, refused, rest_of, complete, finish, then_step, unless_ended, step_digits, step_escape, end_digits, end_plain, step, run, end}
 use Rattle.tinyjson.specs.Refusal.{AwaitsAt}
 use Rattle.tinyjson.specs.Syntax.{Syntax}
 use Rattle.tinyjson.specs.Tree as tree
@@ -17,13 +17,13 @@ use Rattle.tinyjson_number.specs.Numeral.{Numeral, has_leading_zero, is_exponent
 use Rattle.tinyjson.specs.declared.value.JsonKind.{JsonKind}
 use Rattle.tinyjson.specs.declared.parser.error.JsonParseErrorKind.{JsonParseErrorKind}
 use Rattle.tinyjson.specs.declared.parser.error.JsonParseErrorKind.TheVariants.{UnexpectedEof, ExpectedEof, KeyNotString, ExpectedColon, ExpectedCommaOrBrace, ExpectedCommaOrBracket, InvalidUtf16, NumberOutOfRange}
-use Rattle.tinyjson.proofs.Answering.{all-front, all-rest}
-use Rattle.tinyjson.proofs.Grammar.Never.{cut_off-end}
-use Rattle.tinyjson.proofs.Grammar.Paths.{Path, outside, item_in, key_in, value_in, path_frames}
-use Rattle.tinyjson.proofs.Grammar.Runs.{continues, continues-digit, continues-point, continues-letter}
-use Rattle.tinyjson.proofs.Grammar.Spelt.{Read, at_first, at_awaited, in_word, in_digits, in_quoted, at_after, Part, part_stage, part_numeral, read_frames, read_phase, IsRead, IsFresh, values}
-use Rattle.tinyjson.proofs.Grammar.Texts.{text-accepted}
-use Rattle.tinyjson.proofs.Grammar.Told.{Follows}
+use Rattle.tinyjson.proofs.Reading.Parse.{all-front, all-rest}
+use Rattle.tinyjson.proofs.Grammar.Prefix.Unviable.{cut_off-end}
+use Rattle.tinyjson.proofs.Grammar.Trace.Paths.{Path, outside, item_in, key_in, value_in, path_frames}
+use Rattle.tinyjson.proofs.Grammar.Accepts.Runs.{continues, continues-digit, continues-point, continues-letter}
+use Rattle.tinyjson.proofs.Grammar.Trace.State.{Read, at_first, at_awaited, in_word, in_digits, in_quoted, at_after, Part, part_stage, part_numeral, read_frames, read_phase, IsRead, IsFresh, values}
+use Rattle.tinyjson.proofs.Grammar.Accepts.Text.{text-accepted}
+use Rattle.tinyjson.proofs.Grammar.Step.Statement.{Follows}
 use Rattle.tinyjson_laws.proofs.RefusalPlaces.{Stands, Goes, Halts, goes-or-halts, halts-run, stands-viable, stands-next, stands-stop, stands-follows, IsNoLetter, word-lacks}
 
 pub accepted-refused : (t : Tree) (k : JsonParseErrorKind) (xs : List ℕ) → accepted t ≡ refused k xs → ⊥

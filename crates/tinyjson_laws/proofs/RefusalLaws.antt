@@ -8,8 +8,8 @@ use Rattle.tinyjson.specs.Characters.{is_white, paired}
 use Rattle.tinyjson.specs.Prefix.{IsFaultless, IsLooselyViable, IsValue}
 use Rattle.tinyjson.specs.Grammar.{IsLoose, IsAccepted}
 use Rattle.tinyjson.specs.Kind.{kind_of}
-use Rattle.tinyjson.specs.Machine
-use Rattle.tinyjson.specs.Machine.{Rules, strictly, Frame, at_key, Phase, first, awaited, digits, quoted, colon, finished, Stage, Next, next, stop, Outcome, accepted, refused, complete, finish, then_step, unless_ended, step_digits, end_digits, end_plain, fits, push_frame, start, step, run, end}
+use Rattle.tinyjson.specs.private.Machine
+use Rattle.tinyjson.specs.private.Machine.{Rules, strictly, Frame, at_key, Phase, first, awaited, digits, quoted, colon, finished, Stage, Next, next, stop, Outcome, accepted, refused, complete, finish, then_step, unless_ended, step_digits, end_digits, end_plain, fits, push_frame, start, step, run, end}
 use Rattle.tinyjson.specs.Refusal.{IsRefusal, KindSays, BeginsAt, InString, NeedsMore, EndsBefore, BeginsWithNone, IsLiteral, begins_value, RefusalSays}
 use Rattle.tinyjson.specs.Syntax.{Syntax, null, boolean, number, string, empty_array, array, empty_object, object, text, is_key, tree_of, Piece, pieces_text, piece_codes, IsSpelled, IsWithin}
 use Rattle.tinyjson.specs.Tree as tree
@@ -20,18 +20,18 @@ use Rattle.tinyjson_number.specs.Numeral.{Numeral, IsNumeral, has_leading_zero, 
 use Rattle.tinyjson.specs.declared.value.JsonKind.{JsonKind}
 use Rattle.tinyjson.specs.declared.parser.error.JsonParseErrorKind.{JsonParseErrorKind}
 use Rattle.tinyjson.specs.declared.parser.error.JsonParseErrorKind.TheVariants as kind
-use Rattle.tinyjson.proofs.Answering.{all-front}
-use Rattle.tinyjson.proofs.Grammar.Faultless.{faultless, placed}
-use Rattle.tinyjson.proofs.Grammar.Never.{refused-key}
-use Rattle.tinyjson.proofs.Grammar.Numerals.{run-spelling, last_stage, end-finishes}
-use Rattle.tinyjson.proofs.Grammar.Paths.{Path, outside, item_in, key_in, value_in, path_text, path_frames, level, IsPath}
-use Rattle.tinyjson.proofs.Grammar.Spelt.{Part, part_minus, part_whole, part_point, part_fraction, part_letter, part_sign, part_exponent, part_stage, part_numeral, Read, at_first, at_awaited, in_word, in_digits, in_quoted, at_after, read_frames, read_phase, IsFresh}
-use Rattle.tinyjson.proofs.Grammar.Runs.{settle}
-use Rattle.tinyjson.proofs.Grammar.Start.{fits_within, level-frames}
-use Rattle.tinyjson.proofs.Grammar.Texts.{rules, one-tree, loose-accepted}
-use Rattle.tinyjson.proofs.Grammar.Values.{Begins, begins-append, numeral-begins, text-begins, run-value, ends, Ends}
-use Rattle.tinyjson.proofs.Grammar.Viable.{faultless-place}
-use Rattle.tinyjson.proofs.Grammar.Whole.{no_text}
+use Rattle.tinyjson.proofs.Reading.Parse.{all-front}
+use Rattle.tinyjson.proofs.Grammar.Prefix.Faultless.{faultless, placed}
+use Rattle.tinyjson.proofs.Grammar.Prefix.Unviable.{refused-key}
+use Rattle.tinyjson.proofs.Grammar.Accepts.Number.{run-spelling, last_stage, end-finishes}
+use Rattle.tinyjson.proofs.Grammar.Trace.Paths.{Path, outside, item_in, key_in, value_in, path_text, path_frames, level, IsPath}
+use Rattle.tinyjson.proofs.Grammar.Trace.State.{Part, part_minus, part_whole, part_point, part_fraction, part_letter, part_sign, part_exponent, part_stage, part_numeral, Read, at_first, at_awaited, in_word, in_digits, in_quoted, at_after, read_frames, read_phase, IsFresh}
+use Rattle.tinyjson.proofs.Grammar.Accepts.Runs.{settle}
+use Rattle.tinyjson.proofs.Grammar.Step.First.{fits_within, level-frames}
+use Rattle.tinyjson.proofs.Grammar.Accepts.Text.{rules, one-tree, loose-accepted}
+use Rattle.tinyjson.proofs.Grammar.Accepts.Value.{Begins, begins-append, numeral-begins, text-begins, run-value, ends, Ends}
+use Rattle.tinyjson.proofs.Grammar.Prefix.Viable.{faultless-place}
+use Rattle.tinyjson.proofs.Grammar.Step.Value.{no_text}
 use Rattle.tinyjson_laws.proofs.RefusalPlaces.{Goes, EndsKey, faultless-stands, stands-stop, run-stop, wide-stop, wide-step, Ready, awaits-ready, ready-run, ready-free}
 use Rattle.tinyjson_laws.proofs.RefusalTokens.{word-stops, word-ends, string-opens, control-stops, escape-stops, hex-stops, escape-ends, run-stops, unpaired-behind, minus-stops, zero-stops, fraction-stops, exponent-stops, signed-stops, number-ends-or}
 use Rattle.tinyjson_laws.proofs.RefusalLast.{Exact, run-end, colon-exact, brace-exact, bracket-exact, behind-exact, needs-exact, closer-colon, closer-bracket, closer-brace}

@@ -7,8 +7,8 @@ use Rattle.tinyjson.specs.Characters.{is_white, short_escape}
 use Rattle.tinyjson.specs.Prefix.{IsFaultless, IsLooselyViable, IsCutOffText}
 use Rattle.tinyjson.specs.Grammar.{IsAccepted}
 use Rattle.tinyjson.specs.Kind.{kind_of}
-use Rattle.tinyjson.specs.Machine
-use Rattle.tinyjson.specs.Machine.{Rules, strictly, Frame, in_array, at_key, at_value, Phase, first, awaited, word, digits, quoted, colon, after, finished, Stage, Next, next, stop, accepted, refused, rest_of, fits, push_frame, start, step_first, step_plain, then_step, unless_ended, finish, step_digits, step, run}
+use Rattle.tinyjson.specs.private.Machine
+use Rattle.tinyjson.specs.private.Machine.{Rules, strictly, Frame, in_array, at_key, at_value, Phase, first, awaited, word, digits, quoted, colon, after, finished, Stage, Next, next, stop, accepted, refused, rest_of, fits, push_frame, start, step_first, step_plain, then_step, unless_ended, finish, step_digits, step, run}
 use Rattle.tinyjson.specs.Refusal.{AwaitsValue, IsLiteral}
 use Rattle.tinyjson.specs.Syntax.{Syntax, text, tree_of}
 use Rattle.tinyjson.specs.Tree.{Tree, Members}
@@ -16,16 +16,16 @@ use Rattle.tinyjson_number.specs.Numeral.{Numeral}
 use Rattle.tinyjson.specs.declared.value.JsonKind.{JsonKind}
 use Rattle.tinyjson.specs.declared.parser.error.JsonParseErrorKind.{JsonParseErrorKind}
 use Rattle.tinyjson.specs.declared.parser.error.JsonParseErrorKind.TheVariants.{KeyNotString, TooDeep}
-use Rattle.tinyjson.proofs.Grammar.InRange.{ranges}
-use Rattle.tinyjson.proofs.Grammar.Never.{cut_off-end}
-use Rattle.tinyjson.proofs.Grammar.Paths.{Path, outside, item_in, key_in, value_in, path_text, path_frames, IsPath}
-use Rattle.tinyjson.proofs.Grammar.Sim.{strict-key}
+use Rattle.tinyjson.proofs.Grammar.Prefix.InRange.{ranges}
+use Rattle.tinyjson.proofs.Grammar.Prefix.Unviable.{cut_off-end}
+use Rattle.tinyjson.proofs.Grammar.Trace.Paths.{Path, outside, item_in, key_in, value_in, path_text, path_frames, IsPath}
+use Rattle.tinyjson.proofs.Grammar.Prefix.Loose.{strict-key}
 use Rattle.tinyjson.proofs.Grammar.Sound.{Reached, reached-next, step-spells, spells-viable, start-spells}
-use Rattle.tinyjson.proofs.Grammar.Spelt.{Read, at_first, at_awaited, in_word, in_digits, in_quoted, at_after, Part, part_minus, part_whole, part_point, part_fraction, part_letter, part_sign, part_exponent, part_stage, part_numeral, read_text, read_frames, read_phase, IsRead, IsFresh, IsWord, Spells, numeral, exponent_with}
-use Rattle.tinyjson.proofs.Grammar.Texts.{rules, text-accepted, loose-accepted}
-use Rattle.tinyjson.proofs.Grammar.Told.{Follows, loosely}
-use Rattle.tinyjson.proofs.Grammar.Values.{Begins, first-array, first-object}
-use Rattle.tinyjson.proofs.Grammar.Whole.{no_text}
+use Rattle.tinyjson.proofs.Grammar.Trace.State.{Read, at_first, at_awaited, in_word, in_digits, in_quoted, at_after, Part, part_minus, part_whole, part_point, part_fraction, part_letter, part_sign, part_exponent, part_stage, part_numeral, read_text, read_frames, read_phase, IsRead, IsFresh, IsWord, Spells, numeral, exponent_with}
+use Rattle.tinyjson.proofs.Grammar.Accepts.Text.{rules, text-accepted, loose-accepted}
+use Rattle.tinyjson.proofs.Grammar.Step.Statement.{Follows, loosely}
+use Rattle.tinyjson.proofs.Grammar.Accepts.Value.{Begins, first-array, first-object}
+use Rattle.tinyjson.proofs.Grammar.Step.Value.{no_text}
 
 -- ---- with no limit the machine does the same, but where a container is one too many
 

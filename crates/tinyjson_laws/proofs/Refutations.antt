@@ -5,7 +5,7 @@ use Rattle.std.specs.Prelude.{codes}
 use Rattle.std.specs.Str.{all_scalars}
 use Rattle.std.proofs.lemmas.Bool.{false≢true}
 use Rattle.tinyjson.specs.Characters.{is_white}
-use Rattle.tinyjson.specs.Machine.{strictly, awaited, refused, run, step, end}
+use Rattle.tinyjson.specs.private.Machine.{strictly, awaited, refused, run, step, end}
 use Rattle.tinyjson.specs.Refusal.{IsRefusal, RefusalSays, MayGrow, begins_growth}
 use Rattle.tinyjson.specs.Syntax.{AreWhite}
 use Rattle.tinyjson.specs.declared.parser.error.JsonParseErrorKind.{JsonParseErrorKind}

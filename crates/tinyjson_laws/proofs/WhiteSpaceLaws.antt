@@ -8,10 +8,10 @@ use Rattle.tinyjson.specs.Syntax.{Syntax, Elements, Pairs, null, boolean, number
 use Rattle.tinyjson_laws.specs.WhiteSpace.{bare_value, bare_elements, bare_pairs}
 use Rattle.tinyjson_laws.specs.WhiteSpace.{outside, in_string, kept_from, without_white, WhiteRemoved, SameButWhite, WhiteChangesNothing}
 use Rattle.tinyjson.specs.Grammar.{IsLoose, IsText}
-use Rattle.tinyjson.proofs.Grammar.Texts.{one-tree}
+use Rattle.tinyjson.proofs.Grammar.Accepts.Text.{one-tree}
 use Rattle.tinyjson_laws.proofs.Bare.{bare-spelled, bare-depth, bare-tree, bare-strict}
 use Rattle.tinyjson_number.specs.Numeral.{power_width}
-use Rattle.tinyjson.proofs.Grammar.Values.{last_element-assoc, element-assoc, last_pair-assoc, pair-assoc}
+use Rattle.tinyjson.proofs.Grammar.Accepts.Value.{last_element-assoc, element-assoc, last_pair-assoc, pair-assoc}
 
 -- ---- white space goes, other characters outside strings stay
 

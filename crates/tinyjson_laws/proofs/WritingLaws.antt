@@ -5,12 +5,12 @@ use Rattle.tinyjson.specs.Tree.{Tree}
 use Rattle.tinyjson.specs.Syntax.{text}
 use Rattle.tinyjson.specs.Grammar.{IsText}
 use Rattle.tinyjson.specs.Text as written
-use Rattle.tinyjson.proofs.Grammar.Texts.{one-tree}
+use Rattle.tinyjson.proofs.Grammar.Accepts.Text.{one-tree}
 use Rattle.tinyjson_laws.specs.Writing.{CompactReadsBack, IndentedReadsBack, SameCompact, SameIndented, WrittenOnce, CompactWithin, IndentedWithin, LimitKept, TextsAreUtf8, CompactIsUtf8, IndentedIsUtf8}
 use Rattle.tinyjson_laws.proofs.ReadingLaws.{tree-within, rewritten}
-use Rattle.tinyjson.proofs.WrittenTexts.{written-text, compact-text, from-text, one-compact}
-use Rattle.tinyjson.proofs.Scalars as trees
-use Rattle.tinyjson.proofs.Scalars.{scalars-append, encoded_utf8}
+use Rattle.tinyjson.proofs.Writing.WrittenTexts.{written-text, compact-text, from-text, one-compact}
+use Rattle.tinyjson.proofs.Writing.Scalars as trees
+use Rattle.tinyjson.proofs.Writing.Scalars.{scalars-append, encoded_utf8}
 use Rattle.tinyjson_laws.proofs.TextScalars.{white-scalars, text-scalars}
 
 pub compact_reads_back : CompactReadsBack

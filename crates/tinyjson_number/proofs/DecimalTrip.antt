@@ -58,7 +58,7 @@ module _ (ds : List ℕ) (some : 0 < length ds) (first : get_or ds 0 0 ≢ 48) (
 -- ---- the four forms
 
 -- a numeral of the grammar that xs spells, with that value
-pub record IsSpelt (d : Decimal) (xs : List ℕ) : Type 0 where
+pub record SpellsDecimal (d : Decimal) (xs : List ℕ) : Type 0 where
   pub numeral : Numeral
   pub is : IsNumeral numeral
   pub plain : has_leading_zero numeral.whole ≡ false
@@ -124,8 +124,8 @@ module _ (g : Bool) (ds : List ℕ) (e : ℤ) (all : AreDigits ds) (some : 0 < l
   whole-parts : (n : ℕ) → take n ds ++ drop n ds ≡ replicate 0 48 ++ (ds ++ replicate 0 48)
   whole-parts n = take-append-drop n ds ∙ sym (append-nil ds)
 
-  spelt-far : IsSpelt d (minus_text g ++ scientific_text ds p)
-  spelt-far = record {
+  spelled-far : SpellsDecimal d (minus_text g ++ scientific_text ds p)
+  spelled-far = record {
     numeral = numeral g (take 1 ds) (drop 1 ds) (Some (scientific_exponent (p -ℤ pos 1)));
     is = record { whole = digits-take 1 ds all; some_digit = omega (arith, short-take); fraction = digits-drop 1 ds all; exponent = scientific-is (p -ℤ pos 1) };
     plain = no_leading (take 1 ds) (first-take 1 (omega arith));
@@ -134,8 +134,8 @@ module _ (g : Bool) (ds : List ℕ) (e : ℤ) (all : AreDigits ds) (some : 0 < l
     text = ap (λ z. minus_text g ++ (take 1 ds ++ (fraction_text (drop 1 ds) ++ z))) (scientific-text (p -ℤ pos 1));
   }
 
-  spelt-small : int_lt e (pos 0) ≡ true → int_lt p (pos 1) ≡ true → IsSpelt d (minus_text g ++ (48 ∷ 46 ∷ (replicate (unsigned_abs p) 48 ++ ds)))
-  spelt-small low small =
+  spelled-small : int_lt e (pos 0) ≡ true → int_lt p (pos 1) ≡ true → SpellsDecimal d (minus_text g ++ (48 ∷ 46 ∷ (replicate (unsigned_abs p) 48 ++ ds)))
+  spelled-small low small =
       let l : length (replicate (unsigned_abs p) 48 ++ ds) ≡ unsigned_abs p + length ds = omega (arith, length-append (replicate (unsigned_abs p) 48) ds, length-replicate {A = ℕ} (unsigned_abs p) 48) in
       record {
         numeral = numeral g (48 ∷ []) (replicate (unsigned_abs p) 48 ++ ds) None;
@@ -146,8 +146,8 @@ module _ (g : Bool) (ds : List ℕ) (e : ℤ) (all : AreDigits ds) (some : 0 < l
         text = ap (λ z. minus_text g ++ (48 ∷ z)) (append-nil _ ∙ fraction-some _ (omega (arith, l, some)));
       }
 
-  spelt-mid : int_lt e (pos 0) ≡ true → int_lt p (pos 1) ≡ false → IsSpelt d (minus_text g ++ (take (unsigned_abs p) ds ++ (46 ∷ drop (unsigned_abs p) ds)))
-  spelt-mid low big =
+  spelled-mid : int_lt e (pos 0) ≡ true → int_lt p (pos 1) ≡ false → SpellsDecimal d (minus_text g ++ (take (unsigned_abs p) ds ++ (46 ∷ drop (unsigned_abs p) ds)))
+  spelled-mid low big =
       let n : ℕ = unsigned_abs p in
       let is_pos : 0 < n = grind (arith, ints) in
       let below : n < length ds = grind (arith, ints) in
@@ -160,8 +160,8 @@ module _ (g : Bool) (ds : List ℕ) (e : ℤ) (all : AreDigits ds) (some : 0 < l
         text = ap (λ z. minus_text g ++ (take n ds ++ z)) (append-nil _ ∙ fraction-some (drop n ds) (omega (arith, length-drop n ds)));
       }
 
-  spelt-whole : int_lt e (pos 0) ≡ false → IsSpelt d (minus_text g ++ (ds ++ replicate (unsigned_abs e) 48))
-  spelt-whole high =
+  spelled-whole : int_lt e (pos 0) ≡ false → SpellsDecimal d (minus_text g ++ (ds ++ replicate (unsigned_abs e) 48))
+  spelled-whole high =
       let n : ℕ = unsigned_abs e in
       record {
         numeral = numeral g (ds ++ replicate n 48) [] None;
@@ -171,11 +171,11 @@ module _ (g : Bool) (ds : List ℕ) (e : ℤ) (all : AreDigits ds) (some : 0 < l
         text = ap (λ z. minus_text g ++ z) (append-nil _);
       }
 
-  pub spelt-some : IsSpelt d (minus_text g ++ magnitude_text ds e p)
-  spelt-some = cond_both (is_far p) (scientific_text ds p) (plain_text ds e p) (λ z. IsSpelt d (minus_text g ++ z)) (λ far. spelt-far)
-      (λ near. cond_both (int_lt e (pos 0)) _ _ (λ z. IsSpelt d (minus_text g ++ z))
-      (λ low. cond_both (int_lt p (pos 1)) _ _ (λ z. IsSpelt d (minus_text g ++ z)) (spelt-small low) (spelt-mid low))
-      spelt-whole)
+  pub spelled-some : SpellsDecimal d (minus_text g ++ magnitude_text ds e p)
+  spelled-some = cond_both (is_far p) (scientific_text ds p) (plain_text ds e p) (λ z. SpellsDecimal d (minus_text g ++ z)) (λ far. spelled-far)
+      (λ near. cond_both (int_lt e (pos 0)) _ _ (λ z. SpellsDecimal d (minus_text g ++ z))
+      (λ low. cond_both (int_lt p (pos 1)) _ _ (λ z. SpellsDecimal d (minus_text g ++ z)) (spelled-small low) (spelled-mid low))
+      spelled-whole)
 
 -- ---- any decimal
 
@@ -183,19 +183,19 @@ no-digits : (g : Bool) (ds : List ℕ) (e : ℤ) → ds ≡ [] → (g ≡ false)
 unfolding value
 no-digits g ds e h z = λ i. record { negative = sym z.0 i; digits = sym h i; power = sym z.1 i }
 
-spelt-digits : (width : Width) (g : Bool) (ds : List ℕ) (e : ℤ) → IsDecimalAt width (record { negative = g; digits = ds; power = e }) → IsSpelt (record { negative = g; digits = ds; power = e }) (decimal_text (record { negative = g; digits = ds; power = e }))
+spelled-digits : (width : Width) (g : Bool) (ds : List ℕ) (e : ℤ) → IsDecimalAt width (record { negative = g; digits = ds; power = e }) → SpellsDecimal (record { negative = g; digits = ds; power = e }) (decimal_text (record { negative = g; digits = ds; power = e }))
 unfolding decimal_text
-spelt-digits width g [] e h = record {
+spelled-digits width g [] e h = record {
   numeral = numeral false (48 ∷ []) [] None;
   is = record { whole = (refl, tt); some_digit = omega arith; fraction = tt; exponent = tt };
   plain = refl;
   value = no-digits g [] e refl (zero-form width g e h);
   text = refl;
 }
-spelt-digits width g (c ∷ cs) e h = let f = form width g c cs e h in rw (eqb-suc-zero (length cs)) (spelt-some g (c ∷ cs) e f.digits (omega arith) f.first f.last)
+spelled-digits width g (c ∷ cs) e h = let f = form width g c cs e h in rw (eqb-suc-zero (length cs)) (spelled-some g (c ∷ cs) e f.digits (omega arith) f.first f.last)
 
-pub decimal-spelt : (width : Width) (d : Decimal) → IsDecimalAt width d → IsSpelt d (decimal_text d)
-decimal-spelt width d h = spelt-digits width d.negative d.digits d.power h
+pub decimal-spelled : (width : Width) (d : Decimal) → IsDecimalAt width d → SpellsDecimal d (decimal_text d)
+decimal-spelled width d h = spelled-digits width d.negative d.digits d.power h
 
 -- 0 has the power 0
 zero-between : (m : ℕ) → 0 < m → (int_le (neg_ℤ (pos m)) (pos 0) && int_lt (pos 0) (pos m)) ≡ true

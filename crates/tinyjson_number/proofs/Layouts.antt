@@ -6,7 +6,7 @@ use Rattle.std.proofs.lemmas.Bool.Decides.{nat_tests}
 use Rattle.tinyjson_number.specs.Canonical.{is_canonical, IsDecimal}
 use Rattle.tinyjson_number.specs.Decimal.{Decimal}
 use Rattle.tinyjson_number.specs.Text.{decimal_text}
-use Rattle.tinyjson_number.proofs.DecimalTrip.{decimal-spelt}
+use Rattle.tinyjson_number.proofs.DecimalTrip.{decimal-spelled}
 use Rattle.tinyjson_number.specs.Number.{Canonical}
 use Rattle.tinyjson_number.specs.Numeral.{AreDigits, power_width, Numeral, Exponent, IsNumeral, IsExponent, minus_text, sign_text, fraction_text, exponent_text, spelling, is_sign}
 use Rattle.tinyjson_number.proofs.Forms.{digits_of_form}
@@ -55,4 +55,4 @@ spelling_ascii n h =
     (IsAscii-append (fraction_text n.fraction) _ (fraction_ascii n.fraction h.fraction) (exponent_ascii n.exponent h.exponent)))
 
 pub decimal_ascii : (d : Decimal) → IsDecimal d → IsAscii (decimal_text d)
-decimal_ascii d h = let s = decimal-spelt power_width d h in subst IsAscii s.text (spelling_ascii s.numeral s.is)
+decimal_ascii d h = let s = decimal-spelled power_width d h in subst IsAscii s.text (spelling_ascii s.numeral s.is)

@@ -7,5 +7,4 @@ pub mod Text
 pub mod Error
 pub mod Integer
 pub mod Reading
-pub mod Layout
 pub mod private

@@ -1,2 +1,3 @@
 -- What only private contracts cite.
 pub mod Scan
+pub mod Layout

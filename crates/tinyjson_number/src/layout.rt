@@ -1,6 +1,6 @@
 //! A number's text in parts.
 ghost use Rattle.std.specs.Prelude.{◌≡◌, ◌<◌, ◌≤◌, ◌++◌, length, take, drop, replicate, ◌∷◌, pos, neg_ℤ, ◌+ℤ◌, ◌≤ℤ◌, ◌^◌};
-ghost use Rattle.tinyjson_number.specs.Layout.{layout_text};
+ghost use Rattle.tinyjson_number.specs.private.Layout.{layout_text};
 ghost use Rattle.tinyjson_number.specs.Numeral.{AreDigits};
 ghost use Rattle.tinyjson_number.specs.Text.{decimal_text, magnitude_text, scientific_text};
 

@@ -1,7 +1,7 @@
 //! The text of a number.
 ghost use Rattle.std.specs.Prelude.{◌∷◌, Some};
 ghost use Rattle.std.specs.Fmt.{WritesOnOk};
-ghost use Rattle.tinyjson_number.specs.Layout.{layout_text};
+ghost use Rattle.tinyjson_number.specs.private.Layout.{layout_text};
 ghost use Rattle.tinyjson_number.specs.Text.{integer_text, decimal_text};
 
 use crate::layout::Layout;

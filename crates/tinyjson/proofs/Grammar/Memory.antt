@@ -2,13 +2,13 @@
 use Rattle.std.proofs.Common.{◌≡◌, ℕ, suc, true, List, [], ◌∷◌, ◌++◌, Option, Some, sym, subst, append_assoc, append-nil, arith}
 use Rattle.std.specs.Prelude.{All}
 use Rattle.std.specs.Char.{IsScalar}
-use Rattle.tinyjson.specs.Machine.{strictly}
-use Rattle.tinyjson.specs.Machine.{Frame, Phase, State, Next, next, stop, awaited, step, reach, reach_on}
+use Rattle.tinyjson.specs.private.Machine.{strictly}
+use Rattle.tinyjson.specs.private.Machine.{Frame, Phase, State, Next, next, stop, awaited, step, reach, reach_on}
 use Rattle.tinyjson.specs.Refusal.{IsPromptly, IsInterrupted}
 use Rattle.tinyjson.specs.declared.parser.error.JsonParseErrorKind.TheVariants.{InvalidUtf16}
-use Rattle.tinyjson.proofs.Grammar.Spelt.{Ranges, Spells}
-use Rattle.tinyjson.proofs.Grammar.Viable.{read-prompt}
-use Rattle.tinyjson.proofs.Grammar.Told.{Follows}
+use Rattle.tinyjson.proofs.Grammar.Trace.State.{Ranges, Spells}
+use Rattle.tinyjson.proofs.Grammar.Prefix.Viable.{read-prompt}
+use Rattle.tinyjson.proofs.Grammar.Step.Statement.{Follows}
 use Rattle.tinyjson.proofs.Grammar.Sound.{step-spells, start-spells, spells-viable}
 
 pub spells-prompt : Ranges → (limit : Option ℕ) (used : List ℕ) (fs : List Frame) (q : Phase) → Spells limit used fs q → IsPromptly limit used []

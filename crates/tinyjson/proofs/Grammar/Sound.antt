@@ -2,26 +2,26 @@
 use Rattle.std.proofs.Common.{suc, ◌≡◌, ℕ, Bool, true, false, List, [], ◌∷◌, ◌++◌, Option, refl, ap, sym, ◌∙◌, append_assoc, append-nil, arith, subst, ◌⊎◌, inl, inr}
 use Rattle.std.specs.Prelude.{All}
 use Rattle.std.specs.Char.{IsScalar}
-use Rattle.tinyjson.specs.Machine.{strictly}
+use Rattle.tinyjson.specs.private.Machine.{strictly}
 use Rattle.tinyjson.specs.Kind.{kind_of}
 use Rattle.tinyjson.specs.Tree.{Tree}
 use Rattle.tinyjson.specs.Syntax.{tree_of}
 use Rattle.tinyjson.specs.Grammar.{IsLoose, IsText, IsAccepted}
 use Rattle.tinyjson.specs.Prefix.{IsViable, IsFaultless, IsCutOffText}
-use Rattle.tinyjson.specs.Machine.{Rules, Frame, Phase, awaited, Next, next, stop, Outcome, accepted, refused, step, end, run, go_on}
+use Rattle.tinyjson.specs.private.Machine.{Rules, Frame, Phase, awaited, Next, next, stop, Outcome, accepted, refused, step, end, run, go_on}
 use Rattle.tinyjson.specs.declared.parser.error.JsonParseErrorKind.{JsonParseErrorKind}
 use Rattle.tinyjson.specs.declared.parser.error.JsonParseErrorKind.TheVariants.{UnexpectedEof, InvalidCharacter, ExpectedEof, KeyNotString, ExpectedColon, ExpectedCommaOrBrace, ExpectedCommaOrBracket, InvalidUtf16, InvalidHexDigit, InvalidEscape, ControlCharacter, UnexpectedInLiteral, EmptyInteger, LeadingZero, EmptyFraction, EmptyExponent, NumberOutOfRange, OutOfMemory, TooDeep}
 use Rattle.tinyjson.specs.Refusal.{PlaceSays, NoStringAt, AwaitsAt, IsNotTooLate, IsRefusal}
 use Rattle.tinyjson.specs.Prefix.{IsLooselyViable}
-use Rattle.tinyjson.proofs.Grammar.Paths.{outside}
-use Rattle.tinyjson.proofs.Grammar.Faultless.{viable-before}
-use Rattle.tinyjson.proofs.Grammar.Spelt.{Ranges, Spells, at_awaited}
-use Rattle.tinyjson.proofs.Grammar.Viable.{read-viable}
-use Rattle.tinyjson.proofs.Grammar.Told.{loosely, NoQuoteFrom, Cut, Place, Told, Comes, Follows}
-use Rattle.tinyjson.proofs.Grammar.Follows.{step-follows, end-follows, Ends}
-use Rattle.tinyjson.proofs.Grammar.Texts.{rules, text-accepted, loose-accepted}
-use Rattle.tinyjson.proofs.Grammar.Never.{cut_off-end}
-use Rattle.tinyjson.proofs.Grammar.Sim.{is_own, strict-next, strict-stop}
+use Rattle.tinyjson.proofs.Grammar.Trace.Paths.{outside}
+use Rattle.tinyjson.proofs.Grammar.Prefix.Faultless.{viable-before}
+use Rattle.tinyjson.proofs.Grammar.Trace.State.{Ranges, Spells, at_awaited}
+use Rattle.tinyjson.proofs.Grammar.Prefix.Viable.{read-viable}
+use Rattle.tinyjson.proofs.Grammar.Step.Statement.{loosely, NoQuoteFrom, Cut, Place, ErrorSays, Comes, Follows}
+use Rattle.tinyjson.proofs.Grammar.Step.Character.{step-follows, end-follows, Ends}
+use Rattle.tinyjson.proofs.Grammar.Accepts.Text.{rules, text-accepted, loose-accepted}
+use Rattle.tinyjson.proofs.Grammar.Prefix.Unviable.{cut_off-end}
+use Rattle.tinyjson.proofs.Grammar.Prefix.Loose.{is_own, strict-next, strict-stop}
 
 -- ---- one step of a run
 
@@ -183,7 +183,7 @@ refusal-left limit used fs q c k cs h a e f = record {
     same_head : (x y : ℕ) (xs ys : List ℕ) → x ∷ xs ≡ y ∷ ys → x ≡ y
     same_head x y xs ys g = cc
 
-refusal-end : (limit : Option ℕ) (used : List ℕ) (fs : List Frame) (q : Phase) (k : JsonParseErrorKind) → Reached limit used fs q → IsLooselyViable limit used → run (strictly limit) fs q [] ≡ refused k [] → Told limit k used [] → Cut limit k false fs q → IsRefusal limit k used []
+refusal-end : (limit : Option ℕ) (used : List ℕ) (fs : List Frame) (q : Phase) (k : JsonParseErrorKind) → Reached limit used fs q → IsLooselyViable limit used → run (strictly limit) fs q [] ≡ refused k [] → ErrorSays limit k used [] → Cut limit k false fs q → IsRefusal limit k used []
 refusal-end limit used fs q k h a e f x = record {
   says = f.0;
   place = place-left limit used fs q k h x f.1;

@@ -3,15 +3,15 @@ use Rattle.std.proofs.Common.{◌≡◌, ℕ, List, [], ◌++◌, Option, sym, s
 use Rattle.std.proofs.lemmas.List.{append_cancel_right}
 use Rattle.std.specs.Prelude.{All, ◌↔◌}
 use Rattle.std.specs.Char.{IsScalar}
-use Rattle.tinyjson.specs.Machine.{strictly}
+use Rattle.tinyjson.specs.private.Machine.{strictly}
 use Rattle.tinyjson.specs.Tree.{Tree}
 use Rattle.tinyjson.specs.Grammar.{IsText}
-use Rattle.tinyjson.specs.Machine.{awaited, accepted, refused, run}
+use Rattle.tinyjson.specs.private.Machine.{awaited, accepted, refused, run}
 use Rattle.tinyjson.specs.Refusal.{IsRefusal}
 use Rattle.tinyjson.specs.declared.parser.error.JsonParseErrorKind.{JsonParseErrorKind}
-use Rattle.tinyjson.proofs.Grammar.InRange.{ranges}
+use Rattle.tinyjson.proofs.Grammar.Prefix.InRange.{ranges}
 use Rattle.tinyjson.proofs.Grammar.Sound.{accepted-text, refused-so}
-use Rattle.tinyjson.proofs.Grammar.Texts.{text-accepted}
+use Rattle.tinyjson.proofs.Grammar.Accepts.Text.{text-accepted}
 
 pub accepts : (limit : Option ℕ) (xs : List ℕ) → All IsScalar xs → (t : Tree) → (run (strictly limit) [] awaited xs ≡ accepted t) ↔ IsText limit xs t
 accepts limit xs h t = (accepted-text ranges limit xs h t, text-accepted limit xs t)

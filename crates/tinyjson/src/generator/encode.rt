@@ -2,11 +2,11 @@
 ghost use Rattle.std.specs.Prelude.{◌≡◌, ◌++◌, ◌∷◌, ◌+◌, ◌-◌, ◌<◌, ℕ, [], List, Option, None, Some, true, length, reverse};
 ghost use Rattle.std.specs.Str.{chars, encode_utf8_all};
 ghost use Rattle.tinyjson.specs.Indent.{indent_of};
-ghost use Rattle.tinyjson.specs.Pending.{Gathered, IsStack, frames, owed, Advances, Begins};
+ghost use Rattle.tinyjson.specs.private.Pending.{Gathered, IsStack, frames, owed, Advances, Begins};
 ghost use Rattle.tinyjson.specs.Text.{text, quoted, before, newline, after_colon};
 ghost use Rattle.tinyjson.specs.Tree.{array, object, boolean as boolean_tree};
 ghost use Rattle.tinyjson.specs.View.{view, items_view, members_view};
-ghost use Rattle.tinyjson.specs.Room.{waiting, Sends, SendsText};
+ghost use Rattle.tinyjson.specs.private.Room.{waiting, Sends, SendsText};
 ghost use Rattle.tinyjson.specs.Written.{WritesText};
 ghost use Rattle.tinyjson.specs.declared.generator.pending.Frame.TheVariants.{Items, Member, Members};
 

@@ -1,7 +1,7 @@
 //! Numbers.
 ghost use Rattle.std.specs.Prelude.{◌∷◌};
 ghost use Rattle.tinyjson_number.specs.Text.{decimal_text, integer_text, natural_text};
-ghost use Rattle.tinyjson.specs.Room.{waiting, Sends, SendsText};
+ghost use Rattle.tinyjson.specs.private.Room.{waiting, Sends, SendsText};
 
 use super::output::{Room, write_bytes};
 use crate::number::JsonNumber;

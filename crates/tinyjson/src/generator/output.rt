@@ -1,6 +1,6 @@
 //! The bytes that wait, and the write loop.
 ghost use Rattle.std.specs.Prelude.{◌≡◌, ◌≤◌, ◌+◌, ◌++◌, [], length, IsTrue, OnOk};
-ghost use Rattle.tinyjson.specs.Room.{waiting, Sends};
+ghost use Rattle.tinyjson.specs.private.Room.{waiting, Sends};
 ghost use Rattle.tinyjson.specs.Written.{WritesPrefix};
 
 use std::io::{self, ErrorKind, Write};

@@ -3,7 +3,7 @@ ghost use Rattle.std.specs.Prelude.{◌≡◌, ◌≤◌, ◌++◌, ◌∷◌, [
 ghost use Rattle.std.specs.Bool.{MatchBool};
 ghost use Rattle.std.specs.Str.{encode_utf8_all};
 ghost use Rattle.tinyjson_number.specs.Text.{decimal_text};
-ghost use Rattle.tinyjson.specs.Room.{waiting};
+ghost use Rattle.tinyjson.specs.private.Room.{waiting};
 ghost use Rattle.tinyjson.specs.Text.{escapes, separator, text};
 ghost use Rattle.tinyjson.specs.View.{view};
 

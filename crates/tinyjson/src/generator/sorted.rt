@@ -2,7 +2,7 @@
 ghost use Rattle.std.specs.Prelude.{◌≡◌, ◌<◌, ◌∷◌, [], MatchOption, map, length, drop, reverse, take, OnOk};
 ghost use Rattle.std.specs.HashMap.{IsUnique};
 ghost use Rattle.std.specs.String.{string_eq};
-ghost use Rattle.tinyjson.specs.Sorted.{bytes_pair, now_pair, sorted_view};
+ghost use Rattle.tinyjson.specs.private.Sorted.{bytes_pair, now_pair, sorted_view};
 ghost use Rattle.tinyjson.specs.View.{members_view};
 
 use crate::value::JsonValue;

@@ -1,8 +1,8 @@
 //! The place among the characters of an iterator.
 ghost use Rattle.std.specs.Prelude.{◌≡◌, ◌<◌, ◌∷◌, [], List, ℕ};
 ghost use Rattle.std.specs.Iterator.{IsFinite};
-ghost use Rattle.tinyjson.specs.Cursor.{Ready, Begins, Gives, Shows, left, place};
-ghost use Rattle.tinyjson.specs.Cursor.Laws.{nothing_left, shown_first, shown_once};
+ghost use Rattle.tinyjson.specs.private.Cursor.{Ready, Begins, Gives, Shows, left, place};
+ghost use Rattle.tinyjson.specs.private.Cursor.Laws.{nothing_left, shown_first, shown_once};
 ghost use Rattle.tinyjson.specs.Position.{advance, position_at, origin};
 
 use super::source::Source;

@@ -1,9 +1,9 @@
 //! Numbers (RFC 8259, section 6).
 ghost use Rattle.std.specs.Prelude.{◌≡◌, ◌<◌, ◌≤◌, [], ℕ, List, Bool, OnOk, Option, Some, None, string_bytes};
 ghost use Rattle.std.specs.List.{AllByRecursion};
-ghost use Rattle.tinyjson.specs.Machine.{Frame, awaited, digits, whole, fraction, exponent, next};
-ghost use Rattle.tinyjson.specs.Numbers.{Digits, BeginsNumber, Keeps, Accepts, ReadsPart, numeral};
-ghost use Rattle.tinyjson.specs.Reading.{Ends, Gathers, Reads, at};
+ghost use Rattle.tinyjson.specs.private.Machine.{Frame, awaited, digits, whole, fraction, exponent, next};
+ghost use Rattle.tinyjson.specs.private.NumberSteps.{Digits, BeginsNumber, Keeps, Accepts, ReadsPart, numeral};
+ghost use Rattle.tinyjson.specs.private.Steps.{Ends, Gathers, Reads, at};
 ghost use Rattle.tinyjson_number.specs.Numeral.{Exponent, has_leading_zero};
 ghost use Rattle.tinyjson_number.specs.NumberText.{Spells};
 

@@ -4,9 +4,9 @@ ghost use Rattle.std.specs.Iterator.{IsFinite};
 ghost use Rattle.std.specs.Option.{option_len};
 ghost use Rattle.tinyjson.specs.Characters.{is_white};
 ghost use Rattle.tinyjson.specs.Error.{error_position};
-ghost use Rattle.tinyjson.specs.Machine.{Frame, complete};
+ghost use Rattle.tinyjson.specs.private.Machine.{Frame, complete};
 ghost use Rattle.tinyjson.specs.Position.{origin};
-ghost use Rattle.tinyjson.specs.Reading.{NeedsNone, Reads, at, wanting};
+ghost use Rattle.tinyjson.specs.private.Steps.{NeedsNone, Reads, at, wanting};
 ghost use Rattle.tinyjson.specs.Tree.{Tree};
 ghost use Rattle.tinyjson.specs.View.{view};
 

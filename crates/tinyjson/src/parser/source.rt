@@ -3,12 +3,12 @@ ghost use Rattle.std.specs.Prelude.{◌≡◌, ℕ, ◌+◌, ◌≤◌, [], ◌�
 ghost use Rattle.std.specs.Char.{is_ascii_digit};
 ghost use Rattle.std.specs.Option.{option_len};
 ghost use Rattle.tinyjson.specs.Characters.{is_white};
-ghost use Rattle.tinyjson.specs.Scan.{is_plain};
+ghost use Rattle.tinyjson.specs.private.Scan.{is_plain};
 ghost use Rattle.tinyjson.specs.Position.{position_at};
-ghost use Rattle.tinyjson.specs.Source.{Sight, Stops, Takes, TakesRun, Whites};
+ghost use Rattle.tinyjson.specs.private.Source.{Sight, Stops, Takes, TakesRun, Whites};
 ghost use Rattle.tinyjson.specs.View.{text};
 
-use super::units::push;
+use super::utf16::push;
 use std::alloc::AllocError;
 
 /// A source of characters, of which the next one can be looked at.

@@ -1,15 +1,15 @@
 //! Strings (RFC 8259, section 7).
 ghost use Rattle.std.specs.Prelude.{◌≡◌, ℕ, ◌<◌, ◌≤◌, List, [], ◌∷◌, ◌++◌, true, false, MatchResult, OnOk, Option, cond};
 ghost use Rattle.tinyjson.specs.Characters.{paired, decode};
-ghost use Rattle.tinyjson.specs.Machine.{Frame, plain, backslash, hex, quoted, next, complete};
-ghost use Rattle.tinyjson.specs.Reading.{Reads, Fails, at, within};
+ghost use Rattle.tinyjson.specs.private.Machine.{Frame, plain, backslash, hex, quoted, next, complete};
+ghost use Rattle.tinyjson.specs.private.Steps.{Reads, Fails, at, within};
 ghost use Rattle.tinyjson.specs.Tree.{string};
 ghost use Rattle.tinyjson.specs.View.{text};
 
 use super::error::{JsonParseError, JsonParseErrorKind};
 use super::reader::Reader;
 use super::source::Source;
-use super::units::{decode, push, short_escape};
+use super::utf16::{decode, push, short_escape};
 use crate::value::JsonValue;
 
 impl<S: Source> Reader<S> {

@@ -2,8 +2,8 @@
 ghost use Rattle.std.specs.Prelude.{◌≡◌, ◌-◌, length, slice_get};
 ghost use Rattle.std.specs.Str.{IsUtf8, IsCharBoundary, chars};
 ghost use Rattle.tinyjson.specs.Position.{advance, position_at, origin};
-ghost use Rattle.tinyjson.specs.Slice.{before, behind, NextChar};
-ghost use Rattle.tinyjson.specs.Slice.Laws.{line_bound, column_bound, shown_once, shown_first, nothing_left};
+ghost use Rattle.tinyjson.specs.private.Slice.{before, behind, NextChar};
+ghost use Rattle.tinyjson.specs.private.Slice.Laws.{line_bound, column_bound, shown_once, shown_first, nothing_left};
 
 use super::cursor::moved;
 use super::scan::{digits_end, white_end};

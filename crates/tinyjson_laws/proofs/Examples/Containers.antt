@@ -3,7 +3,7 @@ use Rattle.std.proofs.Common.{◌≡◌, true, [], ◌∷◌, None, refl}
 use Rattle.std.specs.Prelude.{codes}
 use lib.Utf8.{encode}
 use Rattle.tinyjson.specs.Grammar.{IsText}
-use Rattle.tinyjson.specs.Machine.{run, step, end}
+use Rattle.tinyjson.specs.private.Machine.{run, step, end}
 use Rattle.tinyjson.specs.Refusal.{IsRefusal}
 use Rattle.tinyjson.specs.Syntax.{Syntax, pair, last_pair, boolean, null, string, plain, pairs_members}
 use Rattle.tinyjson.specs.Tree as tree

@@ -3,7 +3,7 @@ use Rattle.std.proofs.Common.{◌≡◌, [], ◌∷◌, None, Some, refl, arith}
 use Rattle.std.specs.Prelude.{codes}
 use lib.Utf8.{encode}
 use Rattle.tinyjson.specs.Grammar.{IsText, IsLoose}
-use Rattle.tinyjson.specs.Machine.{run, step, end}
+use Rattle.tinyjson.specs.private.Machine.{run, step, end}
 use Rattle.tinyjson.specs.Refusal.{IsRefusal}
 use Rattle.tinyjson.specs.Syntax.{Syntax, null, empty_array, array, object, last_element, element, last_pair, text, depth, IsWithin}
 use Rattle.tinyjson.specs.declared.value.JsonKind.TheVariants as kind

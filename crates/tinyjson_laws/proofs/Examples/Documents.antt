@@ -3,7 +3,7 @@ use Rattle.std.proofs.Common.{◌≡◌, ℕ, true, false, List, [], ◌∷◌, 
 use Rattle.std.specs.Prelude.{codes}
 use lib.Utf8.{encode}
 use Rattle.tinyjson.specs.Grammar.{IsText}
-use Rattle.tinyjson.specs.Machine.{run, step, end}
+use Rattle.tinyjson.specs.private.Machine.{run, step, end}
 use Rattle.tinyjson.specs.Soundness.{IsTree, tree_depth}
 use Rattle.tinyjson.specs.Text.{compact, indented}
 use Rattle.tinyjson.specs.Tree as tree

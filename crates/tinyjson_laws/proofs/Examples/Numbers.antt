@@ -3,7 +3,7 @@ use Rattle.std.proofs.Common.{◌≡◌, true, false, [], ◌∷◌, ◌++◌, r
 use Rattle.std.specs.Prelude.{codes}
 use Rattle.std.specs.Int.{w32, w64}
 use Rattle.tinyjson.specs.Grammar.{IsText}
-use Rattle.tinyjson.specs.Machine.{run, step, end}
+use Rattle.tinyjson.specs.private.Machine.{run, step, end}
 use Rattle.tinyjson.specs.Refusal.{IsRefusal}
 use Rattle.tinyjson.specs.declared.parser.error.JsonParseErrorKind.TheVariants as error
 use Rattle.tinyjson_number.specs.Numeral.{power_fits, value}

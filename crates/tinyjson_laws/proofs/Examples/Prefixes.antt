@@ -4,7 +4,7 @@ use Rattle.std.specs.Prelude.{codes}
 use Rattle.tinyjson.specs.Characters.{is_white}
 use Rattle.tinyjson.specs.Prefix.{IsViable, IsFaultless, IsLooselyViable}
 use Rattle.tinyjson.specs.Grammar.{IsAccepted}
-use Rattle.tinyjson.specs.Machine.{run, step, end}
+use Rattle.tinyjson.specs.private.Machine.{run, step, end}
 use Rattle.tinyjson.specs.Refusal.{begins_value, IsRefusal}
 use Rattle.tinyjson.specs.declared.parser.error.JsonParseErrorKind.TheVariants.{InvalidCharacter}
 use Rattle.tinyjson_number.specs.Numeral.{power_fits, value}

@@ -2,7 +2,7 @@
 use Rattle.std.proofs.Common.{◌≡◌, ℕ, ℤ, Bool, true, false, List, [], ◌∷◌, ◌++◌, Option, pos}
 use Rattle.std.specs.Str.{all_scalars}
 use Rattle.tinyjson.specs.Grammar.{IsText}
-use Rattle.tinyjson.specs.Machine.{strictly, awaited, accepted, refused, run}
+use Rattle.tinyjson.specs.private.Machine.{strictly, awaited, accepted, refused, run}
 use Rattle.tinyjson.specs.Refusal.{IsRefusal}
 use Rattle.tinyjson.specs.Tree as tree
 use Rattle.tinyjson.specs.Tree.{Tree, Members, no_members, member, items_of}

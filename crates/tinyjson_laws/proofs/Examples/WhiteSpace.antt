@@ -3,7 +3,7 @@ use Rattle.std.proofs.Common.{◌≡◌, true, false, [], ◌∷◌, ◌++◌, N
 use Rattle.std.specs.Prelude.{codes}
 use Rattle.tinyjson.specs.Characters.{is_white}
 use Rattle.tinyjson.specs.Grammar.{IsText}
-use Rattle.tinyjson.specs.Machine.{run, step, end}
+use Rattle.tinyjson.specs.private.Machine.{run, step, end}
 use Rattle.tinyjson.specs.Refusal.{IsRefusal}
 use Rattle.tinyjson.specs.Tree.{null}
 use Rattle.tinyjson.specs.declared.parser.error.JsonParseErrorKind.TheVariants as error

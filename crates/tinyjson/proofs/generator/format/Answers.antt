@@ -1,5 +1,5 @@
 use Rattle.std.proofs.Common.{refl}
-use Rattle.tinyjson.proofs.Scalars.{two_spaces}
+use Rattle.tinyjson.proofs.Writing.Scalars.{two_spaces}
 use Rattle.tinyjson.proofs.generator.format.Goals as goal
 
 pub written-requires : goal.written-requires

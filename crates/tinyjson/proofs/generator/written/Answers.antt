@@ -3,10 +3,10 @@ use Rattle.std.specs.Str.{IsUtf8, chars}
 use Rattle.tinyjson.specs.Indent.{indent_of}
 use Rattle.tinyjson.specs.Text.{text}
 use Rattle.tinyjson.specs.View.{view}
-use Rattle.tinyjson.proofs.Trees.{view-IsTree}
-use Rattle.tinyjson.proofs.Scalars.{text-scalars, encoded_utf8, encoded_chars}
-use Rattle.tinyjson.proofs.Encoded.{enc}
-use Rattle.tinyjson.proofs.Writing.{written_all}
+use Rattle.tinyjson.proofs.Values.Trees.{view-IsTree}
+use Rattle.tinyjson.proofs.Writing.Scalars.{text-scalars, encoded_utf8, encoded_chars}
+use Rattle.tinyjson.proofs.Writing.Bytes.{enc}
+use Rattle.tinyjson.proofs.Writing.Written.{written_all}
 use Rattle.tinyjson.proofs.generator.written.Goals as goal
 
 pub unreachable-requires : goal.unreachable-requires

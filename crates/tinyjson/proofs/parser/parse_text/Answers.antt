@@ -2,9 +2,9 @@ use Rattle.std.proofs.Common.{sym, ap, ◌∙◌}
 use Rattle.std.proofs.lemmas.Str.{scalars-chars}
 use Rattle.std.specs.Str.{chars}
 use Rattle.tinyjson.specs.Position.{advance, origin}
-use Rattle.tinyjson.specs.Slice.{before, behind}
+use Rattle.tinyjson.specs.private.Slice.{before, behind}
 use Rattle.tinyjson.specs.declared.parser.text.TextBytes.{TextBytes}
-use Rattle.tinyjson.proofs.Answering.{answered, answered-text, all-scalars}
+use Rattle.tinyjson.proofs.Reading.Parse.{answered, answered-text, all-scalars}
 use Rattle.tinyjson.proofs.parser.parse_text.Goals as goal
 
 pub returns : goal.returns

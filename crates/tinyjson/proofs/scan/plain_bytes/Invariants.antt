@@ -1,6 +1,6 @@
 use Rattle.std.proofs.Common.{◌≡◌, ◌+◌, ◌-◌, ◌≤◌, length, drop}
 use Rattle.std.specs.List.{prefix_len}
-use Rattle.tinyjson.specs.Scan.{is_plain}
+use Rattle.tinyjson.specs.private.Scan.{is_plain}
 use Rattle.tinyjson.proofs.scan.plain_bytes.Given as goal
 
 abbrev pub invariant-loop-i : goal.invariant-loop-i

@@ -1,6 +1,6 @@
 use Rattle.std.proofs.Common.{refl, sym, ap, ◌∙◌, arith}
 use lib.Count.{count_trailing_zeros}
-use Rattle.tinyjson.specs.Scan.{is_stop, is_plain}
+use Rattle.tinyjson.specs.private.Scan.{is_stop, is_plain}
 use Rattle.tinyjson.proofs.Scans.{run_through, run_stops}
 use Rattle.tinyjson.proofs.scan.plain_tail.Goals as goal
 

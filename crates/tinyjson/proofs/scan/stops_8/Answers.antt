@@ -1,6 +1,6 @@
 use Rattle.std.proofs.Common.{arith}
 use Rattle.std.proofs.lemmas.Simd.{zip2_splat}
-use Rattle.tinyjson.specs.Scan.{is_stop}
+use Rattle.tinyjson.specs.private.Scan.{is_stop}
 use Rattle.tinyjson.proofs.Scans.{hit, below, either, masked}
 use Rattle.tinyjson.proofs.scan.stops_8.Goals as goal
 

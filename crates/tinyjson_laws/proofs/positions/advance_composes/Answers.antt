@@ -1,4 +1,4 @@
-use Rattle.tinyjson.proofs.Positions.{advance-append}
+use Rattle.tinyjson.proofs.Reading.Positions.{advance-append}
 use Rattle.tinyjson_laws.proofs.positions.advance_composes.Goals as goal
 
 pub returns : goal.returns

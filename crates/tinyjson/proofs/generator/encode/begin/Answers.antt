@@ -1,5 +1,5 @@
 use Rattle.std.proofs.Common.{refl}
-use Rattle.tinyjson.proofs.Sending.{waits}
+use Rattle.tinyjson.proofs.Writing.Sending.{waits}
 use Rattle.tinyjson.proofs.generator.encode.begin.Goals as goal
 
 pub returns-then-quick_value : goal.returns-then-quick_value

@@ -3,9 +3,9 @@ use Rattle.std.proofs.lemmas.Result.{MatchResult-from_err}
 use Rattle.tinyjson.specs.View.{items_view}
 use Rattle.tinyjson.specs.Text.{has_no_items}
 use Rattle.tinyjson.specs.declared.generator.pending.Frame.TheVariants.{Items}
-use Rattle.tinyjson.proofs.Sending.{stops, written_none}
-use Rattle.tinyjson.proofs.Texts.{no_items_is}
-use Rattle.tinyjson.proofs.Pending.{array_begins, opened}
+use Rattle.tinyjson.proofs.Writing.Sending.{stops, written_none}
+use Rattle.tinyjson.proofs.Writing.Text.{no_items_is}
+use Rattle.tinyjson.proofs.Writing.Pending.{array_begins, opened}
 use Rattle.std.proofs.Common.{true}
 use Rattle.tinyjson.proofs.generator.encode.begin_array.Goals as goal
 

@@ -1,6 +1,6 @@
 use Rattle.std.proofs.Common.{◌<◌, length, refl, sym, ◌∙◌, ap, arith}
 use Rattle.std.proofs.lemmas.Result.{MatchResult-from_err}
-use Rattle.tinyjson.proofs.Pending.{object_stops, object_ungathered, members_open, member_opens}
+use Rattle.tinyjson.proofs.Writing.Pending.{object_stops, object_ungathered, members_open, member_opens}
 use Rattle.tinyjson.proofs.generator.encode.begin_object.Goals as goal
 
 pub returns-in_err-write_bytes : goal.returns-in_err-write_bytes

@@ -1,8 +1,8 @@
 use Rattle.std.proofs.Common.{[], refl, sym, subst, reverse}
 use Rattle.std.proofs.lemmas.Result.{MatchResult-from_err}
-use Rattle.tinyjson.specs.Room.{waiting, Sent, SentPart}
-use Rattle.tinyjson.proofs.Encoded.{null_bytes}
-use Rattle.tinyjson.proofs.Containers.{view-Null, view-Boolean, view-Number, view-Array, view-String, view-Object}
+use Rattle.tinyjson.specs.private.Room.{waiting, Sent, SentPart}
+use Rattle.tinyjson.proofs.Writing.Bytes.{null_bytes}
+use Rattle.tinyjson.proofs.Reading.Containers.{view-Null, view-Boolean, view-Number, view-Array, view-String, view-Object}
 use Rattle.tinyjson.proofs.generator.encode.begin_slowly.Goals as goal
 use Rattle.tinyjson.proofs.generator.encode.begin_slowly.Goals.{in-Null+in_ok-write_bytes-in-Null, in-Boolean+in_ok-write_boolean-in-Boolean, in-Number+in_ok-write_number-in-Number, in-String+in_ok-quote-in-String}
 

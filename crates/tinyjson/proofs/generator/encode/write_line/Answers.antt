@@ -1,9 +1,9 @@
 use Rattle.std.proofs.Common.{◌+◌, ◌-◌, arith}
 use Rattle.std.specs.Str.{chars}
 use Rattle.tinyjson.specs.Text.{repeated}
-use Rattle.tinyjson.proofs.Sending.{goes, fails, written_none}
-use Rattle.tinyjson.proofs.Encoded.{enc, enc_cons}
-use Rattle.tinyjson.proofs.Texts.{line_here}
+use Rattle.tinyjson.proofs.Writing.Sending.{goes, fails, written_none}
+use Rattle.tinyjson.proofs.Writing.Bytes.{enc, enc_cons}
+use Rattle.tinyjson.proofs.Writing.Text.{line_here}
 use Rattle.tinyjson.proofs.generator.encode.write_line.Goals as goal
 
 pub returns-in_err-write_bytes : goal.returns-in_err-write_bytes

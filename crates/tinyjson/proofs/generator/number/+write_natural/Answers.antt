@@ -1,6 +1,6 @@
 use Rattle.std.proofs.Common.{◌+◌, ◌%◌, ◌∷◌, [], arith}
-use Rattle.tinyjson.proofs.Sending.{goes, ends, fails, written_none}
-use Rattle.tinyjson.proofs.NumberTexts.{natural_more, natural_one}
+use Rattle.tinyjson.proofs.Writing.Sending.{goes, ends, fails, written_none}
+use Rattle.tinyjson.proofs.Writing.Number.{natural_more, natural_one}
 use Rattle.tinyjson.proofs.generator.number.+write_natural.Goals as goal
 use Rattle.tinyjson.proofs.generator.number.+write_natural.Goals.{then-number-ge10+in_ok-write_natural, else-number-ge10}
 

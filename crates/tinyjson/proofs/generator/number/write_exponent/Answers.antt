@@ -3,8 +3,8 @@ use Rattle.std.specs.Int.{w128}
 use Rattle.std.specs.Prelude.{unsigned_abs}
 use Rattle.std.proofs.lemmas.Int.{to_z-of_z}
 use Rattle.tinyjson_number.specs.Text.{natural_text}
-use Rattle.tinyjson.proofs.Sending.{goes, ends, fails, written_none}
-use Rattle.tinyjson.proofs.NumberTexts.{negative_exponent, positive_exponent}
+use Rattle.tinyjson.proofs.Writing.Sending.{goes, ends, fails, written_none}
+use Rattle.tinyjson.proofs.Writing.Number.{negative_exponent, positive_exponent}
 use Rattle.tinyjson.proofs.generator.number.write_exponent.Goals as goal
 use Rattle.tinyjson.proofs.generator.number.write_exponent.Goals.{then-exponent-lt0+in_ok-write_bytes, else-exponent-lt0+in_ok-write_bytes-2}
 

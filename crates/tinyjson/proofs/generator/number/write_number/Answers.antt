@@ -3,14 +3,14 @@ use Rattle.std.proofs.lemmas.Str.{encodes-IsAscii}
 use Rattle.std.proofs.lemmas.Int.{to_z-of_z}
 use Rattle.std.specs.Int.{w128}
 use mir.Val.{SFits}
-use Rattle.tinyjson_number.specs.Layout.{power_text, layout_text}
+use Rattle.tinyjson_number.specs.private.Layout.{power_text, layout_text}
 use Rattle.tinyjson_number.specs.Number.{Canonical}
 use Rattle.tinyjson_number.specs.Text.{decimal_text}
 use Rattle.tinyjson_number.specs.declared.layout.Layout.{Layout}
 use Rattle.tinyjson_number.proofs.Layouts.{decimal_ascii}
-use Rattle.tinyjson.specs.Room.{Output, Sent}
-use Rattle.tinyjson.proofs.Sending.{goes, ends, fails, written_none}
-use Rattle.tinyjson.proofs.Encoded.{enc}
+use Rattle.tinyjson.specs.private.Room.{Output, Sent}
+use Rattle.tinyjson.proofs.Writing.Sending.{goes, ends, fails, written_none}
+use Rattle.tinyjson.proofs.Writing.Bytes.{enc}
 use Rattle.tinyjson.proofs.generator.number.write_number.Goals as goal
 
 module _ (n : Canonical) (l : Layout) (is : layout_text l ≡ decimal_text n.decimal) where

@@ -1,6 +1,6 @@
 use Rattle.std.proofs.Common.{arith}
 use Rattle.std.proofs.lemmas.Grind.{common_steps}
-use Rattle.tinyjson.proofs.Writing.{written_take}
+use Rattle.tinyjson.proofs.Writing.Written.{written_take}
 use Rattle.tinyjson.proofs.generator.output.write_all.Goals as goal
 
 pub loop-rest-preserved : goal.loop-rest-preserved

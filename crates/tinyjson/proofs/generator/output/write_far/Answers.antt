@@ -1,7 +1,7 @@
 use Rattle.std.proofs.Common.{length}
 use Rattle.std.proofs.lemmas.Result.{MatchResult-from_err}
 use borrow.Rule.Slice.PartMut.{post_of}
-use Rattle.tinyjson.proofs.Sending.{flush_fails, in_front, waits_alone, far}
+use Rattle.tinyjson.proofs.Writing.Sending.{flush_fails, in_front, waits_alone, far}
 use Rattle.tinyjson.proofs.generator.output.write_far.Goals as goal
 
 pub returns-in_err-flush : goal.returns-in_err-flush

@@ -1,7 +1,7 @@
 use Rattle.std.proofs.Common.{◌++◌, ◌∷◌, [], length, sym, ◌∙◌, ap, rules, arith}
-use Rattle.tinyjson.specs.Room.{waiting}
+use Rattle.tinyjson.specs.private.Room.{waiting}
 use Rattle.tinyjson.specs.Text.{separator}
-use Rattle.tinyjson.proofs.Quotes.{all_plain, key_joined}
+use Rattle.tinyjson.proofs.Writing.Quotes.{all_plain, key_joined}
 use Rattle.tinyjson.proofs.generator.quick.quick_key.Goals as goal
 
 pub returns : goal.returns

@@ -1,6 +1,6 @@
 use Rattle.std.proofs.Common.{◌++◌, ◌∷◌, [], sym, ◌∙◌, ap, append_assoc, arith}
-use Rattle.tinyjson.specs.Room.{waiting}
-use Rattle.tinyjson.proofs.Quotes.{all_plain}
+use Rattle.tinyjson.specs.private.Room.{waiting}
+use Rattle.tinyjson.proofs.Writing.Quotes.{all_plain}
 use Rattle.tinyjson.proofs.generator.quick.quick_text.Goals as goal
 
 pub returns : goal.returns

@@ -1,7 +1,7 @@
 use Rattle.std.proofs.Common.{◌++◌, ◌∷◌, []}
 use Rattle.tinyjson.specs.Text.{escapes}
-use Rattle.tinyjson.proofs.Sending.{goes, ends, fails, written_none}
-use Rattle.tinyjson.proofs.Quotes.{quoted_bytes}
+use Rattle.tinyjson.proofs.Writing.Sending.{goes, ends, fails, written_none}
+use Rattle.tinyjson.proofs.Writing.Quotes.{quoted_bytes}
 use Rattle.tinyjson.proofs.generator.quote.quote.Goals as goal
 
 pub returns-in_err-write_bytes : goal.returns-in_err-write_bytes

@@ -1,8 +1,8 @@
 use Rattle.std.proofs.Common.{◌≡◌, [], drop, arith}
 use Rattle.std.proofs.lemmas.List.{drop_all}
 use Rattle.tinyjson.specs.Text.{escapes}
-use Rattle.tinyjson.proofs.Sending.{goes, ends, fails, written_none}
-use Rattle.tinyjson.proofs.Quotes.{at_stop, stops_there, escapes_there}
+use Rattle.tinyjson.proofs.Writing.Sending.{goes, ends, fails, written_none}
+use Rattle.tinyjson.proofs.Writing.Quotes.{at_stop, stops_there, escapes_there}
 use Rattle.tinyjson.proofs.generator.quote.write_escaped.Goals as goal
 
 pub returns-in_err-write_bytes : goal.returns-in_err-write_bytes

@@ -1,8 +1,8 @@
 use Rattle.std.proofs.Common.{◌≡◌, length}
 use Rattle.std.specs.List.{prefix_len}
-use Rattle.tinyjson.specs.Scan.{is_plain}
+use Rattle.tinyjson.specs.private.Scan.{is_plain}
 use Rattle.tinyjson.specs.Text.{escapes}
-use Rattle.tinyjson.specs.Room.{waiting, Sent}
+use Rattle.tinyjson.specs.private.Room.{waiting, Sent}
 use Rattle.tinyjson.proofs.generator.quote.write_stopped.Given as goal
 
 abbrev pub invariant-loop-byte : goal.invariant-loop-byte

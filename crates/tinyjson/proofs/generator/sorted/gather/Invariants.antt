@@ -1,5 +1,5 @@
 use Rattle.std.proofs.Common.{◌≡◌, ◌++◌, map, take, drop, length}
-use Rattle.tinyjson.specs.Sorted.{now_pair, bytes_pair}
+use Rattle.tinyjson.specs.private.Sorted.{now_pair, bytes_pair}
 use Rattle.tinyjson.proofs.generator.sorted.gather.Given as goal
 
 abbrev pub invariant-loop-key : goal.invariant-loop-key

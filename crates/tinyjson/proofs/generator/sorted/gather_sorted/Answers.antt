@@ -4,7 +4,7 @@ use Rattle.std.specs.List.Sorted.{IsPermutation}
 use Rattle.std.proofs.lemmas.Cmp.{nat_list_cmp_total}
 use Rattle.std.proofs.lemmas.List.Sorted.{answers_always}
 use Rattle.std.proofs.lemmas.List.MinMax.{ranks_by, IsStrictWeakOrder-flip}
-use Rattle.tinyjson.proofs.Sorted.{regathered, regathered-IsPermutation, gathered_members, gathered_others, bytes_cmp, key}
+use Rattle.tinyjson.proofs.Writing.Sorted.{regathered, regathered-IsPermutation, gathered_members, gathered_others, bytes_cmp, key}
 use Rattle.tinyjson.proofs.generator.sorted.gather_sorted.Goals as goal
 
 start : (c : goal.After-gathered-1) → c.len-start.result ≡ length c.args.gathered.now.items

@@ -1,8 +1,8 @@
 use Rattle.std.proofs.Common.{subst}
 use Rattle.std.specs.Prelude.{All}
 use Rattle.std.specs.Char.{IsScalar}
-use Rattle.tinyjson.proofs.Answering.{answered, all-rest, refused-answer}
-use Rattle.tinyjson.proofs.Cursors.{follows-gives, gives-follows}
+use Rattle.tinyjson.proofs.Reading.Parse.{answered, all-rest, refused-answer}
+use Rattle.tinyjson.proofs.Reading.Cursors.{follows-gives, gives-follows}
 use Rattle.tinyjson.proofs.parser.JsonParser.parse.Goals as goal
 
 pub returns-clause-parses : goal.returns-clause-parses

@@ -1,4 +1,4 @@
-use Rattle.tinyjson.proofs.Scalars.{two_spaces}
+use Rattle.tinyjson.proofs.Writing.Scalars.{two_spaces}
 use Rattle.tinyjson.proofs.value.JsonValue.format_to.Goals as goal
 
 pub returns : goal.returns

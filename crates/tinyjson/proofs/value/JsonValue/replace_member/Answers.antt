@@ -2,7 +2,7 @@ use Rattle.std.proofs.Common.{refl, sym, ap, ◌∙◌, subst, Some}
 use Rattle.std.specs.HashMap.{get_by_text}
 use Rattle.std.specs.Prelude.{IsSome, option_and_then}
 use Rattle.std.specs.Str.{chars}
-use Rattle.tinyjson.proofs.Index.{is_member_at, tree-with_member}
+use Rattle.tinyjson.proofs.Values.Index.{is_member_at, tree-with_member}
 use Rattle.tinyjson.specs.Index.{with_tree_at_key}
 use Rattle.tinyjson.specs.View.{view}
 use Rattle.tinyjson.proofs.value.JsonValue.replace_member.Goals as goal

@@ -1,6 +1,6 @@
 use Rattle.std.proofs.Common.{◌≡◌, ◌+◌}
 use Rattle.tinyjson.proofs.value.copy.copy.Given as goal
-use Rattle.tinyjson.specs.Copy.{filled_all, step_view, step_weight, stack_weight}
+use Rattle.tinyjson.specs.private.Copy.{filled_all, step_view, step_weight, stack_weight}
 use Rattle.tinyjson.specs.View.{view}
 
 abbrev pub invariant-loop-step : goal.invariant-loop-step

@@ -1,6 +1,6 @@
 use Rattle.std.proofs.Common.{◌≡◌, ◌≤◌}
 use Rattle.tinyjson.proofs.value.copy.copy_leaf_members.Given as goal
-use Rattle.tinyjson.specs.Copy.{put_all, entries_weight}
+use Rattle.tinyjson.specs.private.Copy.{put_all, entries_weight}
 use Rattle.tinyjson.specs.View.{members_view}
 
 abbrev pub invariant-loop-key : goal.invariant-loop-key

@@ -1,7 +1,7 @@
 use Rattle.std.proofs.Common.{◌≡◌, ◌≤◌, ◌++◌, map}
 use Rattle.std.specs.Slice.Iter.{iter_rest}
 use Rattle.tinyjson.proofs.value.copy.copy_leaves.Given as goal
-use Rattle.tinyjson.specs.Copy.{items_weight}
+use Rattle.tinyjson.specs.private.Copy.{items_weight}
 use Rattle.tinyjson.specs.View.{view}
 
 abbrev pub invariant-loop-item : goal.invariant-loop-item

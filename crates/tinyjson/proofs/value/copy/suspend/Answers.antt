@@ -1,7 +1,7 @@
 use Rattle.std.proofs.Common.{◌∙◌, ◌+◌, ap}
-use Rattle.tinyjson.proofs.Copies.{filled_all_last, stack_weight_last}
+use Rattle.tinyjson.proofs.Values.Copies.{filled_all_last, stack_weight_last}
 use Rattle.tinyjson.proofs.value.copy.suspend.Goals as goal
-use Rattle.tinyjson.specs.Copy.{filled_all, stack_weight, step_view, step_weight}
+use Rattle.tinyjson.specs.private.Copy.{filled_all, stack_weight, step_view, step_weight}
 
 pub returns-in-Ok-clause-view : goal.returns-in-Ok-clause-view
 returns-in-Ok-clause-view c = ap (λ ps. filled_all ps (step_view c.args.step)) c.in-Ok.ensures.items ∙ filled_all_last _ _ _

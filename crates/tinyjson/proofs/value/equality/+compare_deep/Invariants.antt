@@ -1,5 +1,5 @@
 use Rattle.std.proofs.Common.{◌≡◌, ◌≤◌}
-use Rattle.tinyjson.specs.Comparison.{rest_eq, rest_weight}
+use Rattle.tinyjson.specs.private.Comparison.{rest_eq, rest_weight}
 use Rattle.tinyjson.proofs.value.equality.+compare_deep.Given as goal
 
 abbrev pub invariant-loop-same : goal.invariant-loop-same

@@ -1,4 +1,4 @@
-use Rattle.tinyjson.proofs.Equality.{same_strings}
+use Rattle.tinyjson.proofs.Values.Equality.{same_strings}
 use Rattle.tinyjson.proofs.value.equality.compare.Goals as goal
 
 pub returns-in-String-String-clause-same : goal.returns-in-String-String-clause-same

@@ -1,6 +1,6 @@
 use Rattle.std.proofs.Common.{◌&&◌, ◌∙◌, ap, arith}
-use Rattle.tinyjson.proofs.Comparing.{rests_eq_last, rests_weight_last, turn-deferred}
-use Rattle.tinyjson.specs.Comparison.{rest_eq, rests_eq, rests_weight}
+use Rattle.tinyjson.proofs.Values.Comparing.{rests_eq_last, rests_weight_last, turn-deferred}
+use Rattle.tinyjson.specs.private.Comparison.{rest_eq, rests_eq, rests_weight}
 use Rattle.tinyjson.proofs.value.equality.compare_all.Goals as goal
 
 pub loop-stack-smaller-in-Some : goal.loop-stack-smaller-in-Some

@@ -1,5 +1,5 @@
 use Rattle.std.proofs.Common.{◌≡◌, ◌+◌, ◌&&◌}
-use Rattle.tinyjson.specs.Comparison.{rest_eq, rests_eq, rest_weight, rests_weight}
+use Rattle.tinyjson.specs.private.Comparison.{rest_eq, rests_eq, rest_weight, rests_weight}
 use Rattle.tinyjson.proofs.value.equality.compare_all.Given as goal
 
 abbrev pub invariant-loop-stack : goal.invariant-loop-stack

@@ -1,6 +1,6 @@
 use Rattle.std.proofs.Common.{◌≡◌, ◌≤◌}
 use Rattle.std.specs.Slice.Iter.{iter_rest}
-use Rattle.tinyjson.specs.Copy.{items_weight}
+use Rattle.tinyjson.specs.private.Copy.{items_weight}
 use Rattle.tinyjson.specs.Equality.{items_eq}
 use Rattle.tinyjson.specs.View.{items_view}
 use Rattle.tinyjson.proofs.value.equality.next_items.Given as goal

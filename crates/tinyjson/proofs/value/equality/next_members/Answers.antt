@@ -1,7 +1,7 @@
 use Rattle.std.proofs.Common.{◌≡◌, ◌∷◌, ◌&&◌, ◌∙◌, ap, rules, arith, false, true, None, Some}
-use Rattle.tinyjson.proofs.Comparing.{entry-turn, turn-same, turn-differs}
-use Rattle.tinyjson.specs.Comparison.{has_entries}
-use Rattle.tinyjson.specs.Copy.{entries_weight}
+use Rattle.tinyjson.proofs.Values.Comparing.{entry-turn, turn-same, turn-differs}
+use Rattle.tinyjson.specs.private.Comparison.{has_entries}
+use Rattle.tinyjson.specs.private.Copy.{entries_weight}
 use Rattle.tinyjson.specs.Equality.{same_tree}
 use Rattle.tinyjson.specs.View.{members_view}
 use Rattle.tinyjson.proofs.value.equality.next_members.Goals as goal

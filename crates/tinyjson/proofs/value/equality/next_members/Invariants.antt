@@ -1,6 +1,6 @@
 use Rattle.std.proofs.Common.{◌≡◌, ◌≤◌}
-use Rattle.tinyjson.specs.Comparison.{has_entries}
-use Rattle.tinyjson.specs.Copy.{entries_weight}
+use Rattle.tinyjson.specs.private.Comparison.{has_entries}
+use Rattle.tinyjson.specs.private.Copy.{entries_weight}
 use Rattle.tinyjson.specs.View.{members_view}
 use Rattle.tinyjson.proofs.value.equality.next_members.Given as goal
 

@@ -1,4 +1,4 @@
-use Rattle.tinyjson.proofs.Sending.{begins, goes, ends, fails}
+use Rattle.tinyjson.proofs.Writing.Sending.{begins, goes, ends, fails}
 use Rattle.tinyjson.proofs.generator.encode.Encoder.close.Goals as goal
 
 pub returns-in_err-newline : goal.returns-in_err-newline

@@ -1,9 +1,9 @@
 use Rattle.std.proofs.Common.{◌∷◌, sym, ◌∙◌, ap, reverse}
 use Rattle.std.proofs.lemmas.Result.{MatchResult-from_err}
 use Rattle.tinyjson.specs.Indent.{indent_of}
-use Rattle.tinyjson.specs.Pending.{owed}
-use Rattle.tinyjson.proofs.Sending.{begins, stop, stops_then, written_none, written_then}
-use Rattle.tinyjson.proofs.Encoded.{enc}
+use Rattle.tinyjson.specs.private.Pending.{owed}
+use Rattle.tinyjson.proofs.Writing.Sending.{begins, stop, stops_then, written_none, written_then}
+use Rattle.tinyjson.proofs.Writing.Bytes.{enc}
 use Rattle.tinyjson.proofs.generator.encode.Encoder.finish.Goals as goal
 
 pub loop-frame-init : goal.loop-frame-init

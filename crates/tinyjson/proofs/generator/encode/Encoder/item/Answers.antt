@@ -2,9 +2,9 @@ use Rattle.std.proofs.lemmas.Result.{MatchResult-from_err}
 use Rattle.tinyjson.specs.Indent.{indent_of}
 use Rattle.tinyjson.specs.Text.{text}
 use Rattle.tinyjson.specs.View.{view}
-use Rattle.tinyjson.proofs.Sending.{begins, goes, stops}
-use Rattle.tinyjson.proofs.Encoded.{enc}
-use Rattle.tinyjson.proofs.Pending.{begins_behind}
+use Rattle.tinyjson.proofs.Writing.Sending.{begins, goes, stops}
+use Rattle.tinyjson.proofs.Writing.Bytes.{enc}
+use Rattle.tinyjson.proofs.Writing.Pending.{begins_behind}
 use Rattle.tinyjson.proofs.generator.encode.Encoder.item.Goals as goal
 
 pub returns-in_err-separate : goal.returns-in_err-separate

@@ -1,12 +1,12 @@
 use Rattle.std.proofs.Common.{◌≡◌, ◌∷◌, ◌-◌, false, length, refl, sym, ◌∙◌, ap, subst, reverse, arith}
 use Rattle.std.proofs.lemmas.Result.{MatchResult-from_err}
 use Rattle.tinyjson.specs.Indent.{indent_of}
-use Rattle.tinyjson.specs.Pending.{IsStack, frames}
+use Rattle.tinyjson.specs.private.Pending.{IsStack, frames}
 use Rattle.tinyjson.specs.Text.{newline}
 use Rattle.tinyjson.specs.declared.generator.pending.Frame.TheVariants.{Items}
-use Rattle.tinyjson.proofs.Sending.{begins, stops, goes}
-use Rattle.tinyjson.proofs.Encoded.{enc}
-use Rattle.tinyjson.proofs.Pending.{items_next, items_end, none_left, advanced_open, closes, stopped_open}
+use Rattle.tinyjson.proofs.Writing.Sending.{begins, stops, goes}
+use Rattle.tinyjson.proofs.Writing.Bytes.{enc}
+use Rattle.tinyjson.proofs.Writing.Pending.{items_next, items_end, none_left, advanced_open, closes, stopped_open}
 use Rattle.tinyjson.proofs.generator.encode.Encoder.items.Goals as goal
 
 pub loop-item-init : goal.loop-item-init

@@ -4,9 +4,9 @@ use Rattle.std.proofs.lemmas.Result.{MatchResult-from_err}
 use Rattle.tinyjson.specs.Indent.{indent_of}
 use Rattle.tinyjson.specs.Text.{text, quoted, before, after_colon}
 use Rattle.tinyjson.specs.View.{view}
-use Rattle.tinyjson.proofs.Sending.{goes, waits_part, stops, written_none}
-use Rattle.tinyjson.proofs.Encoded.{enc, three}
-use Rattle.tinyjson.proofs.Pending.{begins_behind, compact_member, is_compact}
+use Rattle.tinyjson.proofs.Writing.Sending.{goes, waits_part, stops, written_none}
+use Rattle.tinyjson.proofs.Writing.Bytes.{enc, three}
+use Rattle.tinyjson.proofs.Writing.Pending.{begins_behind, compact_member, is_compact}
 use Rattle.tinyjson.proofs.generator.encode.Encoder.member.Goals as goal
 
 pub returns-then-quick_key : goal.returns-then-quick_key

@@ -1,12 +1,12 @@
 use Rattle.std.proofs.Common.{◌≡◌, ◌∷◌, ◌-◌, false, length, refl, reverse, arith}
 use Rattle.std.proofs.lemmas.Result.{MatchResult-from_err}
 use Rattle.tinyjson.specs.Indent.{indent_of}
-use Rattle.tinyjson.specs.Pending.{frames, owed}
+use Rattle.tinyjson.specs.private.Pending.{frames, owed}
 use Rattle.tinyjson.specs.Text.{newline}
 use Rattle.tinyjson.specs.declared.generator.pending.Frame.TheVariants.{Member, Members}
-use Rattle.tinyjson.proofs.Sending.{stops, goes, written_none}
-use Rattle.tinyjson.proofs.Encoded.{enc}
-use Rattle.tinyjson.proofs.Pending.{member_next, members_end, advanced_open, closes, stopped_open}
+use Rattle.tinyjson.proofs.Writing.Sending.{stops, goes, written_none}
+use Rattle.tinyjson.proofs.Writing.Bytes.{enc}
+use Rattle.tinyjson.proofs.Writing.Pending.{member_next, members_end, advanced_open, closes, stopped_open}
 use Rattle.tinyjson.proofs.generator.encode.Encoder.only_member.Goals as goal
 
 pub returns-in_err-begun : goal.returns-in_err-begun

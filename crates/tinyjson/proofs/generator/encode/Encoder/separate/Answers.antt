@@ -1,8 +1,8 @@
 use Rattle.tinyjson.specs.Text.{newline}
 use Rattle.tinyjson.specs.Indent.{indent_of}
-use Rattle.tinyjson.proofs.Sending.{goes, ends, fails, written_none}
-use Rattle.tinyjson.proofs.Encoded.{enc}
-use Rattle.tinyjson.proofs.Texts.{comma_here, no_comma}
+use Rattle.tinyjson.proofs.Writing.Sending.{goes, ends, fails, written_none}
+use Rattle.tinyjson.proofs.Writing.Bytes.{enc}
+use Rattle.tinyjson.proofs.Writing.Text.{comma_here, no_comma}
 use Rattle.tinyjson.proofs.generator.encode.Encoder.separate.Goals as goal
 use Rattle.tinyjson.proofs.generator.encode.Encoder.separate.Goals.{then-not-first+in_ok-write_bytes, else-not-first}
 

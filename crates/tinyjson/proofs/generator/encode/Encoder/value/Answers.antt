@@ -1,7 +1,7 @@
 use Rattle.std.proofs.Common.{append-nil, reverse}
 use Rattle.std.proofs.lemmas.Result.{MatchResult-from_err}
 use Rattle.tinyjson.specs.Indent.{indent_of}
-use Rattle.tinyjson.proofs.Sending.{ends}
+use Rattle.tinyjson.proofs.Writing.Sending.{ends}
 use Rattle.tinyjson.proofs.generator.encode.Encoder.value.Goals as goal
 
 pub returns-in_err-begin : goal.returns-in_err-begin

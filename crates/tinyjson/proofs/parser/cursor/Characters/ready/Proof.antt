@@ -5,7 +5,7 @@ use base.Logic.{via, mono_r}
 use denote.Triple.Entry.{on_entry}
 use borrow.Fn.Kinds.{sig_of}
 use contract.Monad.{fact_mono}
-use Rattle.tinyjson.specs.Cursor.{Ready}
+use Rattle.tinyjson.specs.private.Cursor.{Ready}
 use Rattle.tinyjson.proofs.parser.cursor.Characters.ready.Statement.{statement}
 use Rattle.tinyjson.proofs.parser.cursor.Characters.ready.Lts as lts
 use Rattle.tinyjson.proofs.parser.cursor.Characters.ready.Reads as reads

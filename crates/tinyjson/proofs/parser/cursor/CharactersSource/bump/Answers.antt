@@ -1,6 +1,6 @@
 use Rattle.std.proofs.Common.{[], ◌∷◌}
-use Rattle.tinyjson.proofs.Cursors.{taken}
-use Rattle.tinyjson.proofs.Sources.{Takes-append}
+use Rattle.tinyjson.proofs.Reading.Cursors.{taken}
+use Rattle.tinyjson.proofs.Reading.Sources.{Takes-append}
 use Rattle.tinyjson.proofs.parser.cursor.CharactersSource.bump.Goals as goal
 
 pub returns-in-Some-clause-takes : goal.returns-in-Some-clause-takes

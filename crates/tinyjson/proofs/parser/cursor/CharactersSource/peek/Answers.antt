@@ -1,6 +1,6 @@
 use Rattle.std.proofs.Common.{◌≡◌, None, rules, refl, sym}
-use Rattle.tinyjson.proofs.Cursors.{filled, Ready-filled, none_from, not_shown}
-use Rattle.tinyjson.proofs.Positions.{advance-nil}
+use Rattle.tinyjson.proofs.Reading.Cursors.{filled, Ready-filled, none_from, not_shown}
+use Rattle.tinyjson.proofs.Reading.Positions.{advance-nil}
 use Rattle.tinyjson.proofs.parser.cursor.CharactersSource.peek.Goals as goal
 
 pub returns-then-self-clause-takes : goal.returns-then-self-clause-takes

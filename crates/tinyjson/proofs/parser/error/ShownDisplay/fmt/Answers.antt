@@ -1,5 +1,5 @@
 use Rattle.std.proofs.Common.{◌≡◌, cond, [], ◌∷◌, sym, ap, ◌∙◌}
-use Rattle.tinyjson.proofs.Messages.{code_point_text}
+use Rattle.tinyjson.proofs.Reading.Messages.{code_point_text}
 use Rattle.tinyjson.specs.Error.{shown, code_point}
 use Rattle.tinyjson.proofs.parser.error.ShownDisplay.fmt.Goals as goal
 

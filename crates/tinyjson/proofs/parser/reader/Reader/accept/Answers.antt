@@ -1,7 +1,7 @@
 use Rattle.std.proofs.Common.{rules, ◌∷◌, []}
 use Rattle.std.proofs.lemmas.Result.{err_from_is_err_and}
-use Rattle.tinyjson.proofs.Sources.{Takes-append}
-use Rattle.tinyjson.proofs.NumberReading.{any_small}
+use Rattle.tinyjson.proofs.Reading.Sources.{Takes-append}
+use Rattle.tinyjson.proofs.Reading.Number.{any_small}
 use Rattle.tinyjson.proofs.parser.reader.Reader.accept.Goals as goal
 
 pub keep-requires-clause-ascii : goal.keep-requires-clause-ascii

@@ -1,10 +1,10 @@
 use Rattle.std.proofs.Common.{rules, Some, ◌≡◌, ◌∙◌, sym, [], IfSome, false, true, length}
-use Rattle.tinyjson.specs.Machine.{fits}
-use Rattle.tinyjson.specs.Reading.{frames}
+use Rattle.tinyjson.specs.private.Machine.{fits}
+use Rattle.tinyjson.specs.private.Steps.{frames}
 use Rattle.tinyjson.specs.declared.parser.error.JsonParseErrorKind.TheVariants.{TooDeep}
-use Rattle.tinyjson.proofs.Sources.{Takes-shown}
-use Rattle.tinyjson.proofs.Readings.{Leads-trans, Leads-whites, Leads-one, Refuses-as, Reads-after, white_first, taken_complete}
-use Rattle.tinyjson.proofs.Containers.{length-frames, array_begins, array_too_deep, array_closes_first, array_goes_on}
+use Rattle.tinyjson.proofs.Reading.Sources.{Takes-shown}
+use Rattle.tinyjson.proofs.Reading.Steps.{Leads-trans, Leads-whites, Leads-one, Refuses-as, Reads-after, white_first, taken_complete}
+use Rattle.tinyjson.proofs.Reading.Containers.{length-frames, array_begins, array_too_deep, array_closes_first, array_goes_on}
 use Rattle.tinyjson.proofs.parser.reader.Reader.array.Goals as goal
 use Rattle.tinyjson.proofs.parser.reader.Reader.array.Goals.{in_default-via-in-Some+in_default, in_default-via-in_default}
 

@@ -1,8 +1,8 @@
 use Rattle.std.proofs.Common.{rules, sym, subst, ◌∙◌, false, IfSome, ◌≡◌}
 use Rattle.tinyjson.specs.Characters.{is_white}
 use Rattle.tinyjson.specs.declared.parser.error.JsonParseErrorKind.TheVariants.{UnexpectedEof, ExpectedColon}
-use Rattle.tinyjson.proofs.Readings.{end_colon, Leads-whites, Leads-one, Leads-none, Refuses-as, Reads-after, white_colon}
-use Rattle.tinyjson.proofs.Containers.{colon_read, colon_other}
+use Rattle.tinyjson.proofs.Reading.Steps.{end_colon, Leads-whites, Leads-one, Leads-none, Refuses-as, Reads-after, white_colon}
+use Rattle.tinyjson.proofs.Reading.Containers.{colon_read, colon_other}
 use Rattle.tinyjson.proofs.parser.reader.Reader.colon.Goals as goal
 
 pub returns-in-Some-eq58-clause-reads : goal.returns-in-Some-eq58-clause-reads

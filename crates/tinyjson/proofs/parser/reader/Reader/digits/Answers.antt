@@ -1,8 +1,8 @@
 use Rattle.std.proofs.Common.{rules, ◌≡◌, ◌∷◌, [], true, inr}
 use Rattle.std.proofs.lemmas.Result.{err_from_is_err_and}
 use Rattle.std.specs.Char.{is_ascii_digit}
-use Rattle.tinyjson.proofs.Sources.{Takes-append}
-use Rattle.tinyjson.proofs.NumberReading.{Digits-cons}
+use Rattle.tinyjson.proofs.Reading.Sources.{Takes-append}
+use Rattle.tinyjson.proofs.Reading.Number.{Digits-cons}
 use Rattle.tinyjson.proofs.parser.reader.Reader.digits.Goals as goal
 
 pub returns-in_err-keep-in-Some-clause-reads : goal.returns-in_err-keep-in-Some-clause-reads

@@ -1,7 +1,7 @@
 use Rattle.std.proofs.Common.{refl, sym, subst, ◌∙◌, false, IfSome, ◌≡◌}
 use Rattle.tinyjson.specs.Characters.{is_white}
 use Rattle.tinyjson.specs.declared.parser.error.JsonParseErrorKind.TheVariants.{ExpectedEof}
-use Rattle.tinyjson.proofs.Readings.{Leads-whites, Leads-one, Leads-none, Refuses-as, white_finished, no_end}
+use Rattle.tinyjson.proofs.Reading.Steps.{Leads-whites, Leads-one, Leads-none, Refuses-as, white_finished, no_end}
 use Rattle.tinyjson.proofs.parser.reader.Reader.end.Goals as goal
 
 pub returns-in-None-clause-reads : goal.returns-in-None-clause-reads

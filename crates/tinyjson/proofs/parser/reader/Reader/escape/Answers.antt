@@ -1,7 +1,7 @@
 use Rattle.std.proofs.Common.{◌∙◌, sym}
 use Rattle.tinyjson.specs.declared.parser.error.JsonParseErrorKind.TheVariants.{UnexpectedEof, InvalidEscape}
-use Rattle.tinyjson.proofs.Readings.{end_quoted, Leads-nil, Leads-one, Leads-none, Refuses-as, Reads-after}
-use Rattle.tinyjson.proofs.StringReading.{Reads-add, short_read, u_read, escape_other}
+use Rattle.tinyjson.proofs.Reading.Steps.{end_quoted, Leads-nil, Leads-one, Leads-none, Refuses-as, Reads-after}
+use Rattle.tinyjson.proofs.Reading.String.{Reads-add, short_read, u_read, escape_other}
 use Rattle.tinyjson.proofs.parser.reader.Reader.escape.Goals as goal
 
 pub returns-in_default-clause-reads : goal.returns-in_default-clause-reads

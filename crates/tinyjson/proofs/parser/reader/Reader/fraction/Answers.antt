@@ -1,6 +1,6 @@
 use Rattle.std.proofs.lemmas.Result.{err_from_is_err_and}
-use Rattle.tinyjson.proofs.NumberReading.{was_accepted, was_declined}
-use Rattle.tinyjson.proofs.NumberParts.{Refuses-first, Part-no-fraction, Reads-fraction}
+use Rattle.tinyjson.proofs.Reading.Number.{was_accepted, was_declined}
+use Rattle.tinyjson.proofs.Reading.NumberParts.{Refuses-first, Part-no-fraction, Reads-fraction}
 use Rattle.tinyjson.proofs.parser.reader.Reader.fraction.Goals as goal
 
 pub returns-in_err-accept-clause-reads : goal.returns-in_err-accept-clause-reads

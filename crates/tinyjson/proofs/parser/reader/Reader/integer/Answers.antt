@@ -1,8 +1,8 @@
 use Rattle.std.proofs.Common.{rules, ◌≡◌, true, false, drop, length, string_bytes, ap, sym, ◌∙◌}
 use Rattle.std.proofs.lemmas.Result.{err_from_is_err_and}
 use Rattle.tinyjson_number.specs.Numeral.{has_leading_zero}
-use Rattle.tinyjson.proofs.NumberReading.{drop_front}
-use Rattle.tinyjson.proofs.NumberParts.{Refuses-first, Refuses-whole, Refuses-zero, Part-whole}
+use Rattle.tinyjson.proofs.Reading.Number.{drop_front}
+use Rattle.tinyjson.proofs.Reading.NumberParts.{Refuses-first, Refuses-whole, Refuses-zero, Part-whole}
 use Rattle.tinyjson.proofs.parser.reader.Reader.integer.Goals as goal
 
 pub returns-in_err-accept-clause-reads : goal.returns-in_err-accept-clause-reads

@@ -2,8 +2,8 @@ use Rattle.std.proofs.Common.{ap, rules, sym, subst, ◌∙◌, false, IfSome, �
 use Rattle.tinyjson.specs.Characters.{is_white}
 use Rattle.tinyjson.specs.declared.parser.error.JsonParseErrorKind.TheVariants.{UnexpectedEof, ExpectedCommaOrBracket}
 use Rattle.tinyjson.specs.Tree.{array, items_of}
-use Rattle.tinyjson.proofs.Readings.{end_after, Leads-nil, Leads-whites, Leads-one, Leads-none, Halts-here, Refuses-as, Refuses-memory, Reads-after, white_after, taken_complete}
-use Rattle.tinyjson.proofs.Containers.{items-push, array_comma, array_closes, array_other}
+use Rattle.tinyjson.proofs.Reading.Steps.{end_after, Leads-nil, Leads-whites, Leads-one, Leads-none, Halts-here, Refuses-as, Refuses-memory, Reads-after, white_after, taken_complete}
+use Rattle.tinyjson.proofs.Reading.Containers.{items-push, array_comma, array_closes, array_other}
 use Rattle.tinyjson.proofs.parser.reader.Reader.item.Goals as goal
 
 pub returns-in-Err-clause-reads : goal.returns-in-Err-clause-reads

@@ -1,6 +1,6 @@
 use Rattle.std.proofs.Common.{rules, ◌≡◌, ◌++◌, ◌∷◌, [], Some, string_bytes}
 use Rattle.std.proofs.lemmas.Str.{encode_ascii}
-use Rattle.tinyjson.proofs.Sources.{Takes-nil, Takes-shown}
+use Rattle.tinyjson.proofs.Reading.Sources.{Takes-nil, Takes-shown}
 use Rattle.tinyjson.proofs.parser.reader.Reader.keep.Goals as goal
 
 pub returns-then-is_err-clause-keeps : goal.returns-then-is_err-clause-keeps

@@ -3,8 +3,8 @@ use Rattle.tinyjson.specs.Kind.{kind_of}
 use Rattle.tinyjson.specs.View.{view}
 use Rattle.tinyjson.specs.declared.parser.error.JsonParseErrorKind.TheVariants.{KeyNotString}
 use Rattle.tinyjson.specs.declared.parser.error.JsonParseErrorKind.TheVariants.{KeyNotString}
-use Rattle.tinyjson.proofs.Readings.{Leads-nil, Leads-to, Refuses-as}
-use Rattle.tinyjson.proofs.Containers.{view-String, no_key, no_string}
+use Rattle.tinyjson.proofs.Reading.Steps.{Leads-nil, Leads-to, Refuses-as}
+use Rattle.tinyjson.proofs.Reading.Containers.{view-String, no_key, no_string}
 use Rattle.tinyjson.proofs.parser.reader.Reader.key.Goals as goal
 
 pub returns-in_default-clause-reads : goal.returns-in_default-clause-reads

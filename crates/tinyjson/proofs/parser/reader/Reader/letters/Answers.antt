@@ -1,8 +1,8 @@
 use Rattle.std.proofs.Common.{rules, arith, ◌≡◌, [], drop, ap}
 use Rattle.std.proofs.lemmas.List.{drop_all}
 use Rattle.tinyjson.specs.declared.parser.error.JsonParseErrorKind.TheVariants.{UnexpectedEof, UnexpectedInLiteral}
-use Rattle.tinyjson.specs.Reading.{wanting}
-use Rattle.tinyjson.proofs.Readings.{Leads-to, Leads-nil, Leads-one, Leads-none, Refuses-as, taken_wanting, letter_next, letter_yes, letter_no, letter_end}
+use Rattle.tinyjson.specs.private.Steps.{wanting}
+use Rattle.tinyjson.proofs.Reading.Steps.{Leads-to, Leads-nil, Leads-one, Leads-none, Refuses-as, taken_wanting, letter_next, letter_yes, letter_no, letter_end}
 use Rattle.tinyjson.proofs.parser.reader.Reader.letters.Goals as goal
 
 pub loop-letter-init : goal.loop-letter-init

@@ -1,7 +1,7 @@
 use Rattle.std.proofs.Common.{Option, ℕ, ◌≤◌, List, drop}
 use Rattle.tinyjson.specs.Tree.{Tree}
-use Rattle.tinyjson.specs.Machine.{Frame}
-use Rattle.tinyjson.specs.Reading.{Leads, wanting}
+use Rattle.tinyjson.specs.private.Machine.{Frame}
+use Rattle.tinyjson.specs.private.Steps.{Leads, wanting}
 use Rattle.tinyjson.proofs.parser.reader.Reader.letters.Given as goal
 
 abbrev pub invariant-loop-letter : goal.invariant-loop-letter

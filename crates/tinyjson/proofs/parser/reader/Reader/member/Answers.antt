@@ -2,8 +2,8 @@ use Rattle.std.proofs.Common.{ap, rules, sym, subst, ◌∙◌, false, IfSome, �
 use Rattle.tinyjson.specs.Characters.{is_white}
 use Rattle.tinyjson.specs.declared.parser.error.JsonParseErrorKind.TheVariants.{UnexpectedEof, ExpectedCommaOrBrace}
 use Rattle.tinyjson.specs.Tree.{object}
-use Rattle.tinyjson.proofs.Readings.{end_after, Leads-nil, Leads-whites, Leads-one, Leads-none, Halts-here, Refuses-as, Refuses-memory, Reads-after, white_after, taken_complete}
-use Rattle.tinyjson.proofs.Containers.{object_comma, object_closes, object_other}
+use Rattle.tinyjson.proofs.Reading.Steps.{end_after, Leads-nil, Leads-whites, Leads-one, Leads-none, Halts-here, Refuses-as, Refuses-memory, Reads-after, white_after, taken_complete}
+use Rattle.tinyjson.proofs.Reading.Containers.{object_comma, object_closes, object_other}
 use Rattle.tinyjson.proofs.parser.reader.Reader.member.Goals as goal
 
 pub returns-then-is_err-clause-reads : goal.returns-then-is_err-clause-reads

@@ -1,5 +1,5 @@
 use Rattle.std.proofs.Common.{sym, ◌∙◌}
-use Rattle.tinyjson.proofs.NumberReading.{gathered, ungathered}
+use Rattle.tinyjson.proofs.Reading.Number.{gathered, ungathered}
 use Rattle.tinyjson.proofs.parser.reader.Reader.more_digits.Goals as goal
 
 pub returns-then-is_err-clause-gathers : goal.returns-then-is_err-clause-gathers

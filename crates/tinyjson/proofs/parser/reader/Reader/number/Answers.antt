@@ -3,8 +3,8 @@ use Rattle.std.proofs.lemmas.Result.{err_from_is_err_and}
 use Rattle.tinyjson_number.specs.NumberText.{Spells}
 use Rattle.tinyjson_number.specs.Reading.{ReadsNumeral}
 use Rattle.tinyjson_number.specs.declared.error.LiteralError.TheVariants.{OutOfRange}
-use Rattle.tinyjson.proofs.Readings.{Halts-here, Refuses-after, Refuses-memory}
-use Rattle.tinyjson.proofs.NumberParts.{Part-fraction, Part-number, Leads-number, Refuses-range}
+use Rattle.tinyjson.proofs.Reading.Steps.{Halts-here, Refuses-after, Refuses-memory}
+use Rattle.tinyjson.proofs.Reading.NumberParts.{Part-fraction, Part-number, Leads-number, Refuses-range}
 use Rattle.tinyjson.proofs.parser.reader.Reader.number.Goals as goal
 
 pub returns-in_err-fraction-clause-reads : goal.returns-in_err-fraction-clause-reads

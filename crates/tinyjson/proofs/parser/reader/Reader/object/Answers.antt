@@ -1,11 +1,11 @@
 use Rattle.std.proofs.Common.{rules, Some, ◌≡◌, ◌∙◌, sym, ap, [], IfSome, false, true, length}
-use Rattle.tinyjson.specs.Machine.{fits}
-use Rattle.tinyjson.specs.Reading.{frames}
+use Rattle.tinyjson.specs.private.Machine.{fits}
+use Rattle.tinyjson.specs.private.Steps.{frames}
 use Rattle.tinyjson.specs.View.{members_view}
 use Rattle.tinyjson.specs.declared.parser.error.JsonParseErrorKind.TheVariants.{TooDeep}
-use Rattle.tinyjson.proofs.Sources.{Takes-shown}
-use Rattle.tinyjson.proofs.Readings.{Leads-trans, Leads-whites, Leads-one, Refuses-as, Reads-after, white_first, taken_complete}
-use Rattle.tinyjson.proofs.Containers.{length-frames, object_begins, object_too_deep, object_closes_first, object_goes_on}
+use Rattle.tinyjson.proofs.Reading.Sources.{Takes-shown}
+use Rattle.tinyjson.proofs.Reading.Steps.{Leads-trans, Leads-whites, Leads-one, Refuses-as, Reads-after, white_first, taken_complete}
+use Rattle.tinyjson.proofs.Reading.Containers.{length-frames, object_begins, object_too_deep, object_closes_first, object_goes_on}
 use Rattle.tinyjson.proofs.parser.reader.Reader.object.Goals as goal
 use Rattle.tinyjson.proofs.parser.reader.Reader.object.Goals.{in_default-via-in-Some+in_default, in_default-via-in_default}
 

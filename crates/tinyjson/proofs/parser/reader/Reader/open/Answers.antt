@@ -1,8 +1,8 @@
 use Rattle.std.proofs.Common.{rules, sym, subst, ◌∷◌, [], ◌++◌, ◌≡◌, ◌∙◌, ap, List}
-use Rattle.tinyjson.specs.Machine.{Frame, awaited, next}
-use Rattle.tinyjson.specs.Reading.{Leads, frames, frame_view}
-use Rattle.tinyjson.proofs.Readings.{Leads-nil, Halts-here, Refuses-memory}
-use Rattle.tinyjson.proofs.Containers.{frames-push}
+use Rattle.tinyjson.specs.private.Machine.{Frame, awaited, next}
+use Rattle.tinyjson.specs.private.Steps.{Leads, frames, frame_view}
+use Rattle.tinyjson.proofs.Reading.Steps.{Leads-nil, Halts-here, Refuses-memory}
+use Rattle.tinyjson.proofs.Reading.Containers.{frames-push}
 use Rattle.tinyjson.proofs.parser.reader.Reader.open.Goals as goal
 
 pub returns-in-Err-clause-reads : goal.returns-in-Err-clause-reads

@@ -4,9 +4,9 @@ use Rattle.tinyjson.specs.Tree.{string}
 use Rattle.tinyjson.specs.View.{text}
 use Rattle.tinyjson.specs.Characters.{decode}
 use Rattle.tinyjson.specs.declared.parser.error.JsonParseErrorKind.TheVariants.{UnexpectedEof, ControlCharacter}
-use Rattle.tinyjson.specs.Machine.{complete}
-use Rattle.tinyjson.proofs.Readings.{end_quoted, Leads-nil, Leads-one, Leads-none, Refuses-as, Reads-after, taken_complete}
-use Rattle.tinyjson.proofs.StringReading.{Refuses-fails, Reads-add, quote_goes, quote_whole, quote_read, backslash_read, control_read, plain_read}
+use Rattle.tinyjson.specs.private.Machine.{complete}
+use Rattle.tinyjson.proofs.Reading.Steps.{end_quoted, Leads-nil, Leads-one, Leads-none, Refuses-as, Reads-after, taken_complete}
+use Rattle.tinyjson.proofs.Reading.String.{Refuses-fails, Reads-add, quote_goes, quote_whole, quote_read, backslash_read, control_read, plain_read}
 use Rattle.tinyjson.proofs.parser.reader.Reader.piece.Goals as goal
 
 pub returns-in_default-clause-reads : goal.returns-in_default-clause-reads

@@ -1,8 +1,8 @@
 use Rattle.std.proofs.Common.{rules, ◌∙◌, sym}
 use Rattle.std.proofs.lemmas.List.{nil_from_length}
 use Rattle.tinyjson.specs.View.{text}
-use Rattle.tinyjson.proofs.Readings.{Leads-nil, Refuses-memory}
-use Rattle.tinyjson.proofs.StringReading.{plain_added, plain_halts}
+use Rattle.tinyjson.proofs.Reading.Steps.{Leads-nil, Refuses-memory}
+use Rattle.tinyjson.proofs.Reading.String.{plain_added, plain_halts}
 use Rattle.tinyjson.proofs.parser.reader.Reader.plain.Goals as goal
 
 pub returns-then-not-is_empty-clause-reads : goal.returns-then-not-is_empty-clause-reads

@@ -2,10 +2,10 @@ use Rattle.std.proofs.Common.{rules, arith, ◌≡◌, ◌∙◌, sym, [], ap₂
 use Rattle.std.proofs.lemmas.Result.{err_from_is_err_and}
 use Rattle.std.proofs.lemmas.Str.{chars-nil}
 use Rattle.tinyjson.specs.View.{text}
-use Rattle.tinyjson.specs.Machine.{next, quoted, plain, complete}
-use Rattle.tinyjson.specs.Reading.{within}
-use Rattle.tinyjson.proofs.Containers.{view-String}
-use Rattle.tinyjson.proofs.Readings.{Leads-nil, Leads-to, Leads-trans, Refuses-after}
+use Rattle.tinyjson.specs.private.Machine.{next, quoted, plain, complete}
+use Rattle.tinyjson.specs.private.Steps.{within}
+use Rattle.tinyjson.proofs.Reading.Containers.{view-String}
+use Rattle.tinyjson.proofs.Reading.Steps.{Leads-nil, Leads-to, Leads-trans, Refuses-after}
 use Rattle.tinyjson.proofs.parser.reader.Reader.string.Goals as goal
 
 pub loop-units-init : goal.loop-units-init

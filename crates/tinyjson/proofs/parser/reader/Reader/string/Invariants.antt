@@ -1,6 +1,6 @@
 use Rattle.std.proofs.Common.{Option, ℕ, ◌≤◌, List, [], false}
-use Rattle.tinyjson.specs.Machine.{Frame, next, quoted, plain}
-use Rattle.tinyjson.specs.Reading.{Leads, within}
+use Rattle.tinyjson.specs.private.Machine.{Frame, next, quoted, plain}
+use Rattle.tinyjson.specs.private.Steps.{Leads, within}
 use Rattle.tinyjson.proofs.parser.reader.Reader.string.Given as goal
 
 abbrev pub invariant-loop-units : goal.invariant-loop-units

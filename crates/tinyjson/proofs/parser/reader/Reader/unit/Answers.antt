@@ -3,9 +3,9 @@ use Rattle.std.specs.Char.{digit_value}
 use Rattle.std.proofs.lemmas.Bool.Decides.{nat_tests}
 use Rattle.tinyjson.specs.Characters.{is_hex}
 use Rattle.tinyjson.specs.declared.parser.error.JsonParseErrorKind.TheVariants.{UnexpectedEof, InvalidHexDigit}
-use Rattle.tinyjson.specs.Machine.{next, quoted, plain}
-use Rattle.tinyjson.proofs.Readings.{Leads-nil, Leads-to, Leads-one, Leads-none, Halts-here, Refuses-as, Refuses-memory}
-use Rattle.tinyjson.proofs.StringReading.{unit_grows, sixteen_small, sixteen_next, hex_next, hex_step, hex_other, hex_done, hex_end, hex_taken}
+use Rattle.tinyjson.specs.private.Machine.{next, quoted, plain}
+use Rattle.tinyjson.proofs.Reading.Steps.{Leads-nil, Leads-to, Leads-one, Leads-none, Halts-here, Refuses-as, Refuses-memory}
+use Rattle.tinyjson.proofs.Reading.String.{unit_grows, sixteen_small, sixteen_next, hex_next, hex_step, hex_other, hex_done, hex_end, hex_taken}
 use Rattle.tinyjson.proofs.parser.reader.Reader.unit.Goals as goal
 
 pub loop-init : goal.loop-init

@@ -1,9 +1,9 @@
 use Rattle.std.proofs.Common.{rules, refl, Some}
 use Rattle.tinyjson.specs.declared.parser.error.JsonParseErrorKind.TheVariants.{UnexpectedEof, InvalidCharacter}
-use Rattle.tinyjson.proofs.Containers.{null_begins, true_begins, false_begins, string_begins}
-use Rattle.tinyjson.proofs.Sources.{Takes-shown}
-use Rattle.tinyjson.proofs.Growth.{grows-at, grows-for, grows-none, growth_of, digit-grows}
-use Rattle.tinyjson.proofs.Readings.{end_awaited, Leads-whites, Leads-one, Leads-end, Leads-shown, Refuses-as, Reads-after, white_awaited, invalid}
+use Rattle.tinyjson.proofs.Reading.Containers.{null_begins, true_begins, false_begins, string_begins}
+use Rattle.tinyjson.proofs.Reading.Sources.{Takes-shown}
+use Rattle.tinyjson.proofs.Reading.Memory.{grows-at, grows-for, grows-none, growth_of, digit-grows}
+use Rattle.tinyjson.proofs.Reading.Steps.{end_awaited, Leads-whites, Leads-one, Leads-end, Leads-shown, Refuses-as, Reads-after, white_awaited, invalid}
 use Rattle.tinyjson.proofs.parser.reader.Reader.value.Goals as goal
 
 pub returns-in_default-clause-reads : goal.returns-in_default-clause-reads

@@ -1,10 +1,10 @@
 use Rattle.std.proofs.Common.{rules, ◌≡◌, [], ap₂, ap, inl, inr, refl}
 use Rattle.std.proofs.lemmas.Result.{err_from_is_err_and}
 use Rattle.tinyjson.specs.View.{view}
-use Rattle.tinyjson.specs.Reading.{at, frames}
-use Rattle.tinyjson.proofs.Growth.{turn-grows, turn-value, turn-open}
-use Rattle.tinyjson.proofs.Readings.{Leads-nil, Leads-to, Leads-trans, Refuses-after}
-use Rattle.tinyjson.proofs.Containers.{frames-pop}
+use Rattle.tinyjson.specs.private.Steps.{at, frames}
+use Rattle.tinyjson.proofs.Reading.Memory.{turn-grows, turn-value, turn-open}
+use Rattle.tinyjson.proofs.Reading.Steps.{Leads-nil, Leads-to, Leads-trans, Refuses-after}
+use Rattle.tinyjson.proofs.Reading.Containers.{frames-pop}
 use Rattle.tinyjson.proofs.parser.reader.Reader.values.Goals as goal
 
 pub loop-whole-init : goal.loop-whole-init

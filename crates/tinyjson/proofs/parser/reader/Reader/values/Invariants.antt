@@ -1,7 +1,7 @@
 use Rattle.std.proofs.Common.{[]}
-use Rattle.tinyjson.specs.Machine.{awaited, next}
-use Rattle.tinyjson.specs.Reading.{Leads, at, frames}
-use Rattle.tinyjson.proofs.Growth.{Turn}
+use Rattle.tinyjson.specs.private.Machine.{awaited, next}
+use Rattle.tinyjson.specs.private.Steps.{Leads, at, frames}
+use Rattle.tinyjson.proofs.Reading.Memory.{Turn}
 use Rattle.tinyjson.proofs.parser.reader.Reader.values.Given as goal
 
 abbrev pub invariant-loop-whole : goal.invariant-loop-whole

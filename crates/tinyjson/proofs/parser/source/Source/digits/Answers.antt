@@ -2,8 +2,8 @@ use Rattle.std.proofs.Common.{rules, arith, sym, ap, true, ◌≡◌, ◌∙◌,
 use Rattle.std.proofs.lemmas.Result.{err_from_is_err_and}
 use Rattle.std.specs.Char.{is_ascii_digit}
 use Rattle.std.proofs.lemmas.Str.{encode_ascii}
-use Rattle.tinyjson.proofs.Slices.{digit_small}
-use Rattle.tinyjson.proofs.Sources.{AllByRecursion-push, Takes-nil, Takes-peek, Takes-append, Takes-shown}
+use Rattle.tinyjson.proofs.Reading.Slices.{digit_small}
+use Rattle.tinyjson.proofs.Reading.Sources.{AllByRecursion-push, Takes-nil, Takes-peek, Takes-append, Takes-shown}
 use Rattle.tinyjson.proofs.parser.source.Source.digits.Goals as goal
 
 pub loop-c-init : goal.loop-c-init

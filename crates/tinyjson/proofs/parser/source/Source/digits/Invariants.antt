@@ -1,6 +1,6 @@
 use Rattle.std.proofs.Common.{◌≤◌, Ok, string_bytes}
 use Rattle.std.specs.Char.{is_ascii_digit}
-use Rattle.tinyjson.specs.Source.{TakesRun}
+use Rattle.tinyjson.specs.private.Source.{TakesRun}
 use Rattle.tinyjson.proofs.parser.source.Source.digits.Given as goal
 
 abbrev pub invariant-loop-c : goal.invariant-loop-c

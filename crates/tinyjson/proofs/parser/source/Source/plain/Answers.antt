@@ -1,8 +1,8 @@
 use Rattle.std.proofs.Common.{rules, arith, sym, ap, true, ◌≡◌, ◌∙◌, ◌∷◌, ◌++◌, [], Some, append-nil, append_assoc}
 use Rattle.std.proofs.lemmas.Result.{err_from_is_err_and}
-use Rattle.tinyjson.specs.Scan.{is_plain}
+use Rattle.tinyjson.specs.private.Scan.{is_plain}
 use Rattle.tinyjson.specs.View.{text}
-use Rattle.tinyjson.proofs.Sources.{AllByRecursion-push, Takes-nil, Takes-peek, Takes-append, Takes-shown}
+use Rattle.tinyjson.proofs.Reading.Sources.{AllByRecursion-push, Takes-nil, Takes-peek, Takes-append, Takes-shown}
 use Rattle.tinyjson.proofs.parser.source.Source.plain.Goals as goal
 
 pub loop-c-init : goal.loop-c-init

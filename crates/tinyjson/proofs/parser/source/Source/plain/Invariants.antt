@@ -1,6 +1,6 @@
 use Rattle.std.proofs.Common.{◌≤◌, Ok, ℕ, Result}
-use Rattle.tinyjson.specs.Scan.{is_plain}
-use Rattle.tinyjson.specs.Source.{TakesRun}
+use Rattle.tinyjson.specs.private.Scan.{is_plain}
+use Rattle.tinyjson.specs.private.Source.{TakesRun}
 use Rattle.tinyjson.specs.View.{text}
 use Rattle.tinyjson.proofs.parser.source.Source.plain.Given as goal
 

@@ -1,5 +1,5 @@
 use Rattle.std.proofs.Common.{rules, arith, Some}
-use Rattle.tinyjson.proofs.Sources.{Whites-nil, Whites-peek, Whites-bump}
+use Rattle.tinyjson.proofs.Reading.Sources.{Whites-nil, Whites-peek, Whites-bump}
 use Rattle.tinyjson.proofs.parser.source.Source.skip_white.Goals as goal
 
 pub loop-c-init : goal.loop-c-init

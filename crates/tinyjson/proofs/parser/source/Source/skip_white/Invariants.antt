@@ -1,5 +1,5 @@
 use Rattle.std.proofs.Common.{◌≤◌}
-use Rattle.tinyjson.specs.Source.{Whites}
+use Rattle.tinyjson.specs.private.Source.{Whites}
 use Rattle.tinyjson.proofs.parser.source.Source.skip_white.Given as goal
 
 abbrev pub invariant-loop-c : goal.invariant-loop-c

@@ -1,5 +1,5 @@
 use Rattle.std.proofs.Common.{◌∙◌}
-use Rattle.tinyjson.proofs.Slices.{next_char}
+use Rattle.tinyjson.proofs.Reading.Slices.{next_char}
 use Rattle.tinyjson.proofs.parser.text.TextBytes.first.Goals as goal
 
 pub returns : goal.returns

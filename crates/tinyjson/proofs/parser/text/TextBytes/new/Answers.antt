@@ -1,7 +1,7 @@
 use Rattle.std.proofs.Common.{ap, ◌∙◌, arith}
 use Rattle.std.proofs.lemmas.Str.{chars-nil, IsCharBoundary-start}
 use Rattle.tinyjson.specs.Position.{advance, origin}
-use Rattle.tinyjson.proofs.Positions.{advance-nil}
+use Rattle.tinyjson.proofs.Reading.Positions.{advance-nil}
 use Rattle.tinyjson.proofs.parser.text.TextBytes.new.Goals as goal
 
 pub invariant_of-result : goal.invariant_of-result

@@ -1,7 +1,7 @@
 use Rattle.std.proofs.Common.{None, refl, sym, ◌∙◌, arith}
 use Rattle.std.proofs.lemmas.Str.{IsUtf8-had}
-use Rattle.tinyjson.specs.Slice.{before}
-use Rattle.tinyjson.proofs.Slices.{next_shown, char_boundary, char_between, step_gives, step_moves, stay_moves}
+use Rattle.tinyjson.specs.private.Slice.{before}
+use Rattle.tinyjson.proofs.Reading.Slices.{next_shown, char_boundary, char_between, step_gives, step_moves, stay_moves}
 use Rattle.tinyjson.proofs.parser.text.TextBytesSource.bump.Goals as goal
 
 pub invariant_of-self : goal.invariant_of-self

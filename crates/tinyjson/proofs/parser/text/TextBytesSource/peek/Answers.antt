@@ -1,7 +1,7 @@
 use Rattle.std.proofs.Common.{refl, sym, ◌∙◌}
 use Rattle.std.proofs.lemmas.Str.{IsUtf8-had}
-use Rattle.tinyjson.specs.Slice.{before}
-use Rattle.tinyjson.proofs.Slices.{next_shown, stay_moves}
+use Rattle.tinyjson.specs.private.Slice.{before}
+use Rattle.tinyjson.proofs.Reading.Slices.{next_shown, stay_moves}
 use Rattle.tinyjson.proofs.parser.text.TextBytesSource.peek.Goals as goal
 
 pub returns-clause-takes : goal.returns-clause-takes

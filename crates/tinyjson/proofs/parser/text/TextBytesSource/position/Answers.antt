@@ -4,8 +4,8 @@ use Rattle.std.proofs.lemmas.Iterator.Consumers.{YieldsList-at, YieldsList-end}
 use Rattle.std.proofs.lemmas.List.{map-id}
 use Rattle.std.specs.Str.{chars}
 use Rattle.tinyjson.specs.Position.{advance, origin}
-use Rattle.tinyjson.specs.Slice.{before}
-use Rattle.tinyjson.proofs.Positions.{advance-append, advance-nil}
+use Rattle.tinyjson.specs.private.Slice.{before}
+use Rattle.tinyjson.proofs.Reading.Positions.{advance-append, advance-nil}
 use Rattle.tinyjson.proofs.parser.text.TextBytesSource.position.Goals as goal
 
 pub loop-c-init : goal.loop-c-init

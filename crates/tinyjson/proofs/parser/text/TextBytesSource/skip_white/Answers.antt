@@ -2,7 +2,7 @@ use Rattle.std.proofs.Common.{◌≡◌, ◌+◌, ap, refl, drop, ◌∙◌, ari
 use Rattle.std.proofs.lemmas.Str.{IsUtf8-had}
 use Rattle.std.specs.List.{prefix_len}
 use Rattle.tinyjson.specs.Characters.{is_white}
-use Rattle.tinyjson.proofs.Slices.{between, run_end, next_shown, white_small, ascii_boundary, ascii_between, ascii_stops, step_gives, step_moves}
+use Rattle.tinyjson.proofs.Reading.Slices.{between, run_end, next_shown, white_small, ascii_boundary, ascii_between, ascii_stops, step_gives, step_moves}
 use Rattle.tinyjson.proofs.parser.text.TextBytesSource.skip_white.Goals as goal
 
 pub invariant_of-self : goal.invariant_of-self

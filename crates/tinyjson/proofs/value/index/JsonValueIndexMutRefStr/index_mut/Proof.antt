@@ -1,5 +1,5 @@
 -- The member of the object that the value holds is lent on, and the value follows it.
-use Rattle.tinyjson.proofs.Index.Steps.{ℕ, [], ◌∷◌, ◌≡◌, refl, sym, ap, ◌∙◌, lit<, MutBor, List, Val, proved, id⊢, ftrue, flft, named, vptr, fact, tables, ‵, raw, ◌⊛◌, some, later, ◌$◌, ◌∵◌, !, qed, done, move, keep, drop, use0, use1, use2, split, join, fsplit, fsplit3, fjoin3, feq_i, feq_l, pick, await, rewrite, suffices, frame, group, enter, addr, stop, no_more, and_then, returns, alloc_all, pass_all, free_all, look_at, get, through, sets, lands_as, yes, no, MutRef, mut_vals, mut_Tells, plain, mut_ref_to, nothing, heard, only, calls_at, lasts, triple_of, Stays, says, stay_dropped, Goes-dropped, Goes-spent_ref, ends_at, framed, follows, fact_i, emp}
+use Rattle.tinyjson.proofs.Values.Index.Steps.{ℕ, [], ◌∷◌, ◌≡◌, refl, sym, ap, ◌∙◌, lit<, MutBor, List, Val, proved, id⊢, ftrue, flft, named, vptr, fact, tables, ‵, raw, ◌⊛◌, some, later, ◌$◌, ◌∵◌, !, qed, done, move, keep, drop, use0, use1, use2, split, join, fsplit, fsplit3, fjoin3, feq_i, feq_l, pick, await, rewrite, suffices, frame, group, enter, addr, stop, no_more, and_then, returns, alloc_all, pass_all, free_all, look_at, get, through, sets, lands_as, yes, no, MutRef, mut_vals, mut_Tells, plain, mut_ref_to, nothing, heard, only, calls_at, lasts, triple_of, Stays, says, stay_dropped, Goes-dropped, Goes-spent_ref, ends_at, framed, follows, fact_i, emp}
 use mathlib.Core.Option as maybe
 use base.Fml.{feq, fsep}
 use denote.Triple.Clauses.{Lasts}
@@ -13,9 +13,9 @@ use Rattle.std.proofs.option.Made.{Some-of}
 use Rattle.std.specs.Prelude.{Option, Some, None, IsSome, OnSome, ⊤, option_map, option_and_then}
 use Rattle.std.specs.HashMap.{get_by_text}
 use Rattle.std.specs.Option.{IfSome, ghost_name_of}
-use Rattle.tinyjson.proofs.Index.{is_member_at}
-use Rattle.tinyjson.proofs.Index.Lending.{follows_so_then}
-use Rattle.tinyjson.proofs.Index.Places.{Place, place_val, place_out}
+use Rattle.tinyjson.proofs.Values.Index.{is_member_at}
+use Rattle.tinyjson.proofs.Values.Index.Lending.{follows_so_then}
+use Rattle.tinyjson.proofs.Values.Index.Places.{Place, place_val, place_out}
 use Rattle.tinyjson.specs.declared.value.JsonValue as made
 use Rattle.tinyjson.specs.Access.{JsonMap, object_part}
 use Rattle.tinyjson.specs.Index.{member_at, IsMapWith, IsWithMember}

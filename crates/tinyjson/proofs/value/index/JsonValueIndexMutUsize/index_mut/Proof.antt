@@ -1,6 +1,6 @@
 -- The item of the array that the value holds is lent on, and the value follows it.
-use Rattle.tinyjson.proofs.Index.Steps.{ℕ, [], ◌∷◌, ◌≡◌, refl, sym, ap, w64, MutBor, List, Val, proved, id⊢, ftrue, flft, named, vptr, fact, tables, ‵, raw, ◌⊛◌, some, later, ◌$◌, ◌∵◌, !, qed, done, move, keep, drop, use0, use1, use2, split, join, fsplit3, fjoin3, feq_i, feq_l, pick, await, rewrite, suffices, frame, group, enter, addr, stop, no_more, and_then, returns, alloc_all, pass_all, free_all, look_at, get, through, sets, lands_as, usize, yes, no, uint_Makes, uint_vals, uint_Tells, MutRef, mut_vals, mut_Tells, plain, mut_ref_to, nothing, owned, heard, only, calls_at, lasts, triple_of, Stays, says, stay_dropped, Goes-dropped, Goes-spent_ref, ends_at, framed, follows, follows_then, fact_i, emp}
-use Rattle.tinyjson.proofs.Index.{is_item_at, within_array}
+use Rattle.tinyjson.proofs.Values.Index.Steps.{ℕ, [], ◌∷◌, ◌≡◌, refl, sym, ap, w64, MutBor, List, Val, proved, id⊢, ftrue, flft, named, vptr, fact, tables, ‵, raw, ◌⊛◌, some, later, ◌$◌, ◌∵◌, !, qed, done, move, keep, drop, use0, use1, use2, split, join, fsplit3, fjoin3, feq_i, feq_l, pick, await, rewrite, suffices, frame, group, enter, addr, stop, no_more, and_then, returns, alloc_all, pass_all, free_all, look_at, get, through, sets, lands_as, usize, yes, no, uint_Makes, uint_vals, uint_Tells, MutRef, mut_vals, mut_Tells, plain, mut_ref_to, nothing, owned, heard, only, calls_at, lasts, triple_of, Stays, says, stay_dropped, Goes-dropped, Goes-spent_ref, ends_at, framed, follows, follows_then, fact_i, emp}
+use Rattle.tinyjson.proofs.Values.Index.{is_item_at, within_array}
 use Rattle.std.specs.Prelude.{Option, Some, None, IsSome, slice_get, length, ◌<◌, option_and_then}
 use Rattle.std.specs.Option.{option_map_or}
 use Rattle.std.specs.Vec.{with_item}

@@ -1,5 +1,5 @@
 use Rattle.std.proofs.Common.{rules}
-use Rattle.tinyjson.proofs.Index.{is_member_at}
+use Rattle.tinyjson.proofs.Values.Index.{is_member_at}
 use Rattle.tinyjson.proofs.value.index.JsonValueIndexRefStr.index.Goals as goal
 
 pub returns : goal.returns

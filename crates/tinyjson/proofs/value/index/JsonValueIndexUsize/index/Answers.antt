@@ -1,6 +1,6 @@
 use Rattle.std.proofs.Common.{◌≡◌, Some, rules, refl}
 use Rattle.std.proofs.lemmas.Option.{slice_get_read}
-use Rattle.tinyjson.proofs.Index.{is_item_at, within_array}
+use Rattle.tinyjson.proofs.Values.Index.{is_item_at, within_array}
 use Rattle.tinyjson.proofs.value.index.JsonValueIndexUsize.index.Goals as goal
 use Rattle.tinyjson.specs.Access.{array_part}
 

@@ -1,0 +1,7 @@
+-- Prefixes: what can still become a text, and what cannot.
+pub mod Faultless
+pub mod InRange
+pub mod Viable
+pub mod CutOff
+pub mod Unviable
+pub mod Loose

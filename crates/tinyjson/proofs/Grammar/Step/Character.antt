@@ -1,0 +1,215 @@
+-- What comes of each character, of the end, and of the whole.
+use Rattle.std.proofs.Common.{◌≡◌, ℕ, ◌<◌, Bool, true, false, List, [], ◌∷◌, ◌++◌, Option, refl, ap, sym, ◌∙◌, cond, append_assoc, append-nil, arith, length, subst, IsTrue, ◌==◌, not}
+use Rattle.std.specs.Char.{IsScalar}
+use Rattle.std.proofs.lemmas.Bool.{eqb-false, not-true, not-false}
+use Rattle.tinyjson.specs.private.Machine.{strictly}
+use Rattle.tinyjson.specs.Tree.{key_of, is_string, Tree, no_members, put, items_of}
+use Rattle.tinyjson.specs.Tree as tree
+use Rattle.tinyjson.specs.Syntax.{Syntax, text, tree_of}
+use Rattle.tinyjson_number.specs.Numeral.{has_leading_zero, value, in_range}
+use Rattle.tinyjson.specs.Grammar.{IsText}
+use Rattle.tinyjson.specs.declared.parser.error.JsonParseErrorKind.TheVariants.{UnexpectedEof, UnexpectedInLiteral}
+use Rattle.tinyjson.specs.private.Machine.{Next, complete, step_word, step, end, end_digits, end_plain, Outcome, accepted, refused, finish}
+use Rattle.std.proofs.Common.{length-append}
+use Rattle.tinyjson.proofs.Grammar.Trace.Paths.{Path, outside, item_in, key_in, value_in, path_text, path_frames, IsPath, within_le}
+use Rattle.tinyjson.proofs.Grammar.Trace.State.{Part, part_point, part_fraction, part_letter, part_sign, part_exponent, part_text, part_stage, part_numeral, IsPart, Ranges, Read, at_first, at_awaited, in_word, in_digits, in_quoted, at_after, part_minus, part_whole, read_text, read_frames, read_phase, IsRead, IsWord, flat_within}
+use Rattle.tinyjson.proofs.Grammar.Prefix.Viable.{faultless-value, read-viable, read-prompt}
+use Rattle.tinyjson.proofs.Grammar.Step.Statement.{ErrorSays, Follows, at_code, key-says}
+use Rattle.tinyjson.proofs.Grammar.Step.Awaits.{begins-at, awaits-value}
+use Rattle.tinyjson.proofs.Grammar.Step.Value.{complete-follows, after-follows}
+use Rattle.tinyjson.proofs.Grammar.Trace.State.{numeral}
+use Rattle.std.proofs.Common.{inl, inr, None}
+use Rattle.tinyjson.proofs.Grammar.Step.Statement.{NoQuoteFrom, Cut}
+use Rattle.std.specs.Prelude.{⊤}
+use Rattle.tinyjson.specs.Refusal.{IsLiteral, NeedsMore, BeginsEscape}
+use Rattle.tinyjson.specs.Prefix.{IsFaultless}
+use Rattle.tinyjson.specs.private.Machine.{Within}
+use Rattle.tinyjson.specs.private.Machine
+use Rattle.tinyjson.specs.private.Machine.{run, word, digits, Frame, Phase}
+use Rattle.tinyjson.proofs.Grammar.Prefix.Unviable.{key-unviable, zero-unviable}
+use Rattle.tinyjson.proofs.Grammar.Step.Value.{no_text, quote-after, after-follows, closed-array, closed-object, taken-key}
+use Rattle.tinyjson.proofs.Grammar.Trace.State.{quads, within_text, IsPartWithin}
+use Rattle.tinyjson.proofs.Grammar.Trace.Paths.{members_from}
+use Rattle.tinyjson.specs.Tree.{no_members}
+use Rattle.tinyjson.proofs.Grammar.Step.Number.{quote-digits, digits-follows, minus-says, zero-says, point-says, letter-says, sign-says, range-says, IsDone, done-value, whole-done, fraction-done, exponent-done}
+use Rattle.tinyjson.proofs.Grammar.Step.String.{quoted-follows, in-string}
+use Rattle.tinyjson.proofs.Grammar.Step.First.{at_first-follows, awaited-follows}
+use Rattle.std.specs.Prelude.{slice_index, take}
+
+take-front : (xs ys : List ℕ) → take (length xs) (xs ++ ys) ≡ xs
+take-front [] ys = refl
+take-front (x ∷ xs) ys = ap (λ zs. x ∷ zs) (take-front xs ys)
+
+index-front : (xs : List ℕ) (y : ℕ) (ys : List ℕ) → slice_index (xs ++ y ∷ ys) (length xs) ≡ y
+index-front [] y ys = refl
+index-front (x ∷ xs) y ys = index-front xs y ys
+
+shorter-front : (xs : List ℕ) (y : ℕ) (ys : List ℕ) → length xs < length (xs ++ y ∷ ys)
+shorter-front xs y ys = rw (length-append xs (y ∷ ys)) (omega arith)
+
+word-says : (limit : Option ℕ) (p : Path) → IsPath limit p → (s : Syntax) (done : List ℕ) (l : ℕ) (left : List ℕ) → IsWord s done (l ∷ left) → (c : ℕ) → (c == l) ≡ false → (more : List ℕ) →
+    ErrorSays limit (UnexpectedInLiteral c) ((path_text p ++ done) ++ c ∷ []) more
+word-says limit p hp s done l left h c hc more = (
+  (
+    text s,
+    length done,
+    h.literal,
+    h.begun,
+    rw h.whole (shorter-front done l left),
+    begins-at limit p hp _ _ (rw h.whole (rw (take-front done (l ∷ left)) (append_assoc (path_text p) done (c ∷ [])))),
+    (λ e. eqb-false c l hc (sym e ∙ rw h.whole (index-front done l left))),
+  ),
+  (path_text p ++ done, refl, faultless-value limit p hp s h.value h.flat done (l ∷ left) h.whole),
+)
+
+-- no letter of a literal is a quote
+abbrev NoQuotes : List ℕ → Type 0
+NoQuotes [] = ⊤
+NoQuotes (c ∷ cs) = ((34 == c) ≡ false) × NoQuotes cs
+
+no_quotes-after : (xs : List ℕ) (l : ℕ) (ls : List ℕ) → NoQuotes (xs ++ l ∷ ls) → (34 == l) ≡ false
+no_quotes-after [] l ls h = h.0
+no_quotes-after (x ∷ xs) l ls h = no_quotes-after xs l ls h.1
+
+literal-no_quotes : (l : List ℕ) → IsLiteral l → NoQuotes l
+literal-no_quotes l (inl e) = rw e (refl, (refl, (refl, (refl, tt))))
+literal-no_quotes l (inr (inl e)) = rw e (refl, (refl, (refl, (refl, tt))))
+literal-no_quotes l (inr (inr e)) = rw e (refl, (refl, (refl, (refl, (refl, tt)))))
+
+word-no_quote : (s : Syntax) (done : List ℕ) (l : ℕ) (left : List ℕ) → IsWord s done (l ∷ left) → (34 == l) ≡ false
+word-no_quote s done l left h = no_quotes-after done l left (subst NoQuotes h.whole (literal-no_quotes (text s) h.literal))
+
+quote-word : (limit : Option ℕ) (fs : List Frame) (l : ℕ) (ls : List ℕ) (t : Tree) → (34 == l) ≡ false → NoQuoteFrom limit fs (word (l ∷ ls) t)
+unfolding run step
+quote-word limit fs l [] t h ys u e = no_text _ _ u (rw h at e)
+quote-word limit fs l (m ∷ ls) t h ys u e = no_text _ _ u (rw h at e)
+
+word-follows : (limit : Option ℕ) (p : Path) → IsPath limit p → (s : Syntax) (done left : List ℕ) → IsWord s done left → (c : ℕ) → Follows limit (path_text p ++ done) (path_frames p) (word left (tree_of s)) c (step_word (strictly limit) (path_frames p) left (tree_of s) c)
+word-follows limit p hp s done [] h c = absurd (omega (arith, h.more))
+word-follows limit p hp s done (l ∷ []) h c =
+    at_code limit _ _ _ c l _ _ (λ e. complete-follows limit p hp s h.value (flat_within limit p s hp h.flat) h.no_number _ _ _ c (append_assoc (path_text p) done (c ∷ []) ∙ ap (λ xs. path_text p ++ xs) (ap (λ x. done ++ x ∷ []) e ∙ sym h.whole)))
+    (λ e. ((λ more. word-says limit p hp s done l [] h c e more), quote-word limit (path_frames p) l [] (tree_of s) (word-no_quote s done l [] h)))
+word-follows limit p hp s done (l ∷ m ∷ ls) h c =
+    at_code limit _ _ _ c l _ _
+    (λ e. record {
+      read = in_word p s (done ++ l ∷ []) (m ∷ ls);
+      is = (hp, record { value = h.value; flat = h.flat; literal = h.literal; whole = h.whole ∙ sym (append_assoc done (l ∷ []) (m ∷ ls)); no_number = h.no_number; begun = rw (length-append done (l ∷ [])) (omega arith); more = omega arith });
+      whole = append_assoc (path_text p) done (c ∷ []) ∙ ap (λ x. path_text p ++ (done ++ x ∷ [])) e;
+      frames = refl;
+      phase = refl;
+    })
+    (λ e. ((λ more. word-says limit p hp s done l (m ∷ ls) h c e more), quote-word limit (path_frames p) l (m ∷ ls) (tree_of s) (word-no_quote s done l (m ∷ ls) h)))
+
+-- each character is followed
+pub step-follows : Ranges → (limit : Option ℕ) (x : Read) → IsRead limit x → (c : ℕ) → IsScalar c → Follows limit (read_text x) (read_frames x) (read_phase x) c (step (strictly limit) (read_frames x) (read_phase x) c)
+unfolding step
+step-follows ranges limit (at_first p) h c hc = at_first-follows limit p h.0 h.1 c
+step-follows ranges limit (at_awaited p) h c hc = awaited-follows limit p h c
+step-follows ranges limit (in_word p s done left) h c hc = word-follows limit p h.0 s done left h.1 c
+step-follows ranges limit (in_digits p n) h c hc = digits-follows ranges limit p h.0 n h.1 c
+step-follows ranges limit (in_quoted p ps cs qs wi) h c hc = quoted-follows limit p ps cs qs (record { path = h.0; pieces = h.1; settled = h.2; run = h.3 }) wi h.4 c hc
+step-follows ranges limit (at_after (outside w) s v) h c hc = after-follows limit (outside w) s v h _ _ (quote-after limit (outside w) s) c
+step-follows ranges limit (at_after (item_in p es w) s v) h c hc = after-follows limit (item_in p es w) s v h _ _ (quote-after limit (item_in p es w) s) c
+step-follows ranges limit (at_after (key_in p ps w) s v) h c hc = after-follows limit (key_in p ps w) s v h _ _ (quote-after limit (key_in p ps w) s) c
+step-follows ranges limit (at_after (value_in p ps a k b w) s v) h c hc = after-follows limit (value_in p ps a k b w) s v h _ _ (quote-after limit (value_in p ps a k b w) s) c
+
+-- ---- the end
+
+abbrev pub Ends : Option ℕ → List ℕ → List Frame → Phase → Outcome → Type 0
+Ends limit used fs q (accepted t) = IsText limit used t
+Ends limit used fs q (refused k rest) = (rest ≡ []) × ErrorSays limit k used [] × Cut limit k false fs q
+
+-- what a state but a numeral needs
+abbrev Short : Read → Type 0
+Short (in_digits p n) = ⊥
+Short (at_after (outside w) s v) = ⊥
+Short x = ⊤
+
+begins-escape : (wi : Within) → IsPartWithin wi → BeginsEscape (within_text wi)
+begins-escape Machine.plain h = inl refl
+begins-escape Machine.backslash h = inr (inl refl)
+begins-escape (Machine.hex ds) h = inr (inr (ds, h.1, h.0, refl))
+
+word-needs : (limit : Option ℕ) (p : Path) → IsPath limit p → (s : Syntax) (done left : List ℕ) → IsWord s done left → NeedsMore limit (path_text p ++ done)
+word-needs limit p hp s done [] h = absurd (omega (arith, h.more))
+word-needs limit p hp s done (l ∷ left) h =
+    inr (inr (inl (text s, length done, h.literal, h.begun, rw h.whole (shorter-front done l left), begins-at limit p hp _ _ (rw h.whole (rw (take-front done (l ∷ left)) refl)))))
+
+needs : (limit : Option ℕ) (x : Read) → IsRead limit x → Short x → NeedsMore limit (read_text x)
+needs limit (at_first p) h i = inl (awaits-value limit p h.0)
+needs limit (at_awaited p) h i = inl (awaits-value limit p h)
+needs limit (in_word p s done left) h i = word-needs limit p h.0 s done left h.1
+needs limit (in_digits p n) h i = elim i [ ]
+needs limit (in_quoted p ps cs qs wi) h i = inr (inl (quads qs, within_text wi, begins-escape wi h.4, in-string limit p ps cs qs (record { path = h.0; pieces = h.1; settled = h.2; run = h.3 }) _ _ refl))
+needs limit (at_after (outside w) s v) h i = elim i [ ]
+needs limit (at_after (item_in p es w) s v) h i = inr (inr (inr (inr (inl (closed-array limit p es w s v h)))))
+needs limit (at_after (key_in p ps w) s v) h i = inr (inr (inr (inl (taken-key limit p ps w s v h))))
+needs limit (at_after (value_in p ps a k b w) s v) h i = inr (inr (inr (inr (inr (closed-object limit p ps a k b w s v h)))))
+
+eof-says : Ranges → (limit : Option ℕ) (x : Read) → IsRead limit x → NeedsMore limit (read_text x) → ErrorSays limit UnexpectedEof (read_text x) []
+eof-says ranges limit x h m = ((refl, m), (read-prompt ranges limit x h, read-viable limit x h))
+
+eof : Ranges → (limit : Option ℕ) (x : Read) → IsRead limit x → Short x → ErrorSays limit UnexpectedEof (read_text x) []
+eof ranges limit x h i = eof-says ranges limit x h (needs limit x h i)
+
+abbrev EndsPlain : Option ℕ → List ℕ → List Frame → Phase → Next → Type 0
+EndsPlain limit used fs q n = Ends limit used fs q (end_plain n)
+
+plain-either : (limit : Option ℕ) (used : List ℕ) (fs : List Frame) (q : Phase) (b : Bool) (x y : Next) → (b ≡ true → EndsPlain limit used fs q x) → (b ≡ false → EndsPlain limit used fs q y) → EndsPlain limit used fs q (cond b x y)
+plain-either limit used fs q true x y f g = f refl
+plain-either limit used fs q false x y f g = g refl
+
+ends-text : (limit : Option ℕ) (w : List ℕ) (s : Syntax) (v : List ℕ) → IsRead limit (at_after (outside w) s v) → IsText limit (w ++ (text s ++ v)) (tree_of s)
+ends-text limit w s v h = record {
+  loose = record { before = w; value = s; after = v; white_before = h.0; spelled = h.1.spelled; white_after = h.4; shallow = within_le limit _ _ h.3 (omega arith); whole = refl };
+  strict = h.1.strict;
+  tree = refl;
+}
+
+number-ends : Ranges → (limit : Option ℕ) (p : Path) → IsPath limit p → (n : Part) → IsPart n → IsDone n → IsTrue (in_range (value (part_numeral n))) →
+    EndsPlain limit (path_text p ++ part_text n) (path_frames p) (digits (part_stage n) (part_numeral n)) (complete true (path_frames p) (tree.number (value (part_numeral n))) false)
+number-ends ranges limit (outside w) hp n hn h e =
+    subst (λ xs. IsText limit (w ++ xs) (tree.number (value (part_numeral n)))) (append-nil _ ∙ sym h.whole) (ends-text limit w (Syntax.number (part_numeral n)) [] (hp, done-value n h e, tt, flat_within limit (outside w) (Syntax.number (part_numeral n)) hp refl, tt))
+number-ends ranges limit (item_in p es w) hp n hn h e =
+    let a : IsFaultless limit ((path_text (item_in p es w) ++ (text (Syntax.number (part_numeral n)) ++ [])) ++ 93 ∷ []) =
+    closed-array limit p es w (Syntax.number (part_numeral n)) [] (hp, done-value n h e, tt, flat_within limit (item_in p es w) (Syntax.number (part_numeral n)) hp refl, tt) in
+    let b : IsFaultless limit ((path_text (item_in p es w) ++ part_text n) ++ 93 ∷ []) = subst (λ xs. IsFaultless limit ((path_text (item_in p es w) ++ xs) ++ 93 ∷ [])) (append-nil _ ∙ sym h.whole) a in
+    (refl, eof-says ranges limit (in_digits (item_in p es w) n) (hp, hn) (inr (inr (inr (inr (inl b))))), tt)
+number-ends ranges limit (key_in p ps w) hp n hn h e =
+    (refl, key-says limit p ps w hp (Syntax.number (part_numeral n)) (done-value n h e) refl (flat_within limit (key_in p ps w) (Syntax.number (part_numeral n)) hp refl) _ (ap (λ xs. path_text (key_in p ps w) ++ xs) h.whole) [] tt, (λ ys t. key-unviable ys (strictly limit) (members_from no_members ps) (path_frames p) (part_stage n) (part_numeral n) t refl))
+number-ends ranges limit (value_in p ps a k b w) hp n hn h e =
+    let x : IsFaultless limit ((path_text (value_in p ps a k b w) ++ (text (Syntax.number (part_numeral n)) ++ [])) ++ 125 ∷ []) =
+    closed-object limit p ps a k b w (Syntax.number (part_numeral n)) [] (hp, done-value n h e, tt, flat_within limit (value_in p ps a k b w) (Syntax.number (part_numeral n)) hp refl, tt) in
+    let y : IsFaultless limit ((path_text (value_in p ps a k b w) ++ part_text n) ++ 125 ∷ []) = subst (λ xs. IsFaultless limit ((path_text (value_in p ps a k b w) ++ xs) ++ 125 ∷ [])) (append-nil _ ∙ sym h.whole) x in
+    (refl, eof-says ranges limit (in_digits (value_in p ps a k b w) n) (hp, hn) (inr (inr (inr (inr (inr y))))), tt)
+
+finish-ends : Ranges → (limit : Option ℕ) (p : Path) → IsPath limit p → (n : Part) → IsPart n → IsDone n → EndsPlain limit (path_text p ++ part_text n) (path_frames p) (digits (part_stage n) (part_numeral n)) (finish (strictly limit) (path_frames p) (part_numeral n))
+finish-ends ranges limit p hp n hn h =
+    plain-either limit _ _ _ (not (in_range (value (part_numeral n)))) _ _
+    (λ e. (refl, range-says ranges limit p hp n hn h.numeral h.no_zero h.whole (not-true _ e) [] tt, quote-digits limit p n)) (λ e. number-ends ranges limit p hp n hn h (not-false _ e))
+
+ends-either : (limit : Option ℕ) (used : List ℕ) (fs : List Frame) (q : Phase) (b : Bool) (x y : Outcome) → (b ≡ true → Ends limit used fs q x) → (b ≡ false → Ends limit used fs q y) → Ends limit used fs q (cond b x y)
+ends-either limit used fs q true x y f g = f refl
+ends-either limit used fs q false x y f g = g refl
+
+digits-end : Ranges → (limit : Option ℕ) (p : Path) → IsPath limit p → (n : Part) → IsPart n → Ends limit (path_text p ++ part_text n) (path_frames p) (digits (part_stage n) (part_numeral n)) (end_digits (strictly limit) (path_frames p) (part_stage n) (part_numeral n))
+digits-end ranges limit p hp part_minus h = (refl, minus-says ranges limit p hp [] tt, quote-digits limit p part_minus)
+digits-end ranges limit p hp (part_whole b d ds) h =
+    ends-either limit _ _ _ (has_leading_zero (d ∷ ds)) _ _ (λ e. (refl, zero-says ranges limit p hp b d ds h e [] tt, (quote-digits limit p (part_whole b d ds), (λ ys t. zero-unviable ys (strictly limit) (path_frames p) (numeral b (d ∷ ds) [] None) t refl e)))) (λ e. finish-ends ranges limit p hp (part_whole b d ds) h (whole-done b d ds (h, e)))
+digits-end ranges limit p hp (part_point b d ds) h = (refl, point-says ranges limit p hp b d ds h [] tt, quote-digits limit p (part_point b d ds))
+digits-end ranges limit p hp (part_fraction b d ds e es) h = finish-ends ranges limit p hp (part_fraction b d ds e es) h (fraction-done b d ds e es h)
+digits-end ranges limit p hp (part_letter b d ds f l) h = (refl, letter-says ranges limit p hp b d ds f l h [] tt, quote-digits limit p (part_letter b d ds f l))
+digits-end ranges limit p hp (part_sign b d ds f l s) h = (refl, sign-says ranges limit p hp b d ds f l s h [] tt, quote-digits limit p (part_sign b d ds f l s))
+digits-end ranges limit p hp (part_exponent b d ds f l s e es) h = finish-ends ranges limit p hp (part_exponent b d ds f l s e es) h (exponent-done b d ds f l s e es h)
+
+pub end-follows : Ranges → (limit : Option ℕ) (x : Read) → IsRead limit x → Ends limit (read_text x) (read_frames x) (read_phase x) (end (strictly limit) (read_frames x) (read_phase x))
+unfolding end
+end-follows ranges limit (at_first p) h = (refl, eof ranges limit (at_first p) h tt, tt)
+end-follows ranges limit (at_awaited p) h = (refl, eof ranges limit (at_awaited p) h tt, tt)
+end-follows ranges limit (in_word p s done left) h = (refl, eof ranges limit (in_word p s done left) h tt, tt)
+end-follows ranges limit (in_digits p n) h = digits-end ranges limit p h.0 n h.1
+end-follows ranges limit (in_quoted p ps cs qs wi) h = (refl, eof ranges limit (in_quoted p ps cs qs wi) h tt, tt)
+end-follows ranges limit (at_after (outside w) s v) h = ends-text limit w s v h
+end-follows ranges limit (at_after (item_in p es w) s v) h = (refl, eof ranges limit (at_after (item_in p es w) s v) h tt, tt)
+end-follows ranges limit (at_after (key_in p ps w) s v) h = (refl, eof ranges limit (at_after (key_in p ps w) s v) h tt, tt)
+end-follows ranges limit (at_after (value_in p ps a k b w) s v) h = (refl, eof ranges limit (at_after (value_in p ps a k b w) s v) h tt, tt)

@@ -1,0 +1,211 @@
+-- What comes of a character of a string.
+use Rattle.std.proofs.Common.{◌≡◌, ℕ, ◌<◌, true, false, List, [], ◌∷◌, ◌++◌, Option, Some, None, refl, ap, sym, ◌∙◌, append_assoc, append-nil, arith, length, nat_lt, subst, inl, inr, IsTrue, ◌==◌, not}
+use Rattle.std.specs.Char.{IsScalar}
+use Rattle.std.proofs.lemmas.Bool.{not-true, not-false, eqb-false, ltb-true, ltb-false}
+use Rattle.tinyjson.specs.private.Machine.{strictly}
+use Rattle.tinyjson.specs.Tree.{key_of, is_string, Tree, no_members, put, items_of}
+use Rattle.tinyjson.specs.Tree as tree
+use Rattle.tinyjson.specs.Characters.{is_hex, unit_of, decode, paired, short_escape}
+use Rattle.tinyjson.specs.Syntax.{Syntax, Piece, unit, IsPiece, ArePieces, code, piece_text, pieces_text}
+use Rattle.tinyjson.specs.declared.parser.error.JsonParseErrorKind.TheVariants.{InvalidUtf16, InvalidHexDigit}
+use Rattle.tinyjson.specs.private.Machine.{Frame, Phase, first, awaited, word, digits, quoted, colon, after, finished, Stage, Within, Next, next, stop, Rules, complete, complete_key, step_plain, step_awaited, step_first, step_word, step_quoted, step_escape, flush, start, push_frame, step_after, step_colon, fits}
+use Rattle.tinyjson.specs.private.Machine
+use Rattle.tinyjson.specs.Refusal.{IsHex, AreUnits, EndsRun}
+use Rattle.tinyjson.specs.Refusal as refusal
+use Rattle.tinyjson.proofs.Grammar.Trace.Paths.{Path, path_text, path_frames, IsPath}
+use Rattle.tinyjson.proofs.Grammar.Trace.State.{pieces-append, are_pieces_append, within_text, IsPartWithin, IsSettled, Quad, quads, values, in_quoted, Spells, flat_within, Ending, ends-loosely}
+use Rattle.tinyjson.proofs.Grammar.Prefix.Viable.{quoted-prompt, within-late, settled-strict}
+use Rattle.tinyjson.proofs.Grammar.Step.Statement.{ErrorSays, Follows, either, at_code}
+use Rattle.tinyjson.proofs.Grammar.Step.Awaits.{begins-at}
+use Rattle.tinyjson.proofs.Grammar.Step.Value.{complete-follows}
+use Rattle.tinyjson.proofs.Grammar.Step.Units.{codes-quads, settle-more, settle-end, settle-paired}
+use Rattle.tinyjson.proofs.Grammar.Accepts.String.{scalar-no_surrogate, escape-no_surrogate}
+use Rattle.tinyjson.specs.Characters.{is_surrogate}
+use Rattle.std.specs.Prelude.{unwrap_or}
+use Rattle.std.proofs.Common.{length-append}
+
+-- the state of a string, and what it rests on
+pub record InString (limit : Option ℕ) (p : Path) (ps : List Piece) (cs : List ℕ) (qs : List Quad) : Type 0 where
+  pub path : IsPath limit p
+  pub pieces : ArePieces ps
+  pub settled : IsSettled ps cs
+  pub run : ArePieces (quads qs)
+
+abbrev pub string_text : Path → List Piece → List Quad → List ℕ → List ℕ
+string_text p ps qs end = path_text p ++ 34 ∷ (pieces_text ps ++ (pieces_text (quads qs) ++ end))
+
+pub string-longer : (a ps qs wi : List ℕ) (c : ℕ) → (a ++ 34 ∷ (ps ++ (qs ++ wi))) ++ c ∷ [] ≡ a ++ 34 ∷ (ps ++ (qs ++ (wi ++ c ∷ [])))
+string-longer a ps qs wi c = simp append_assoc
+
+are_units : (xs : List Quad) → ArePieces (quads xs) → AreUnits (quads xs)
+are_units [] i = tt
+are_units (x ∷ xs) i = (i.0, are_units xs i.1)
+
+-- the list ends within a string
+pub in-string : (limit : Option ℕ) (p : Path) (ps : List Piece) (cs : List ℕ) (qs : List Quad) → InString limit p ps cs qs → (used end : List ℕ) → used ≡ string_text p ps qs end → refusal.InString limit used (quads qs) end
+in-string limit p ps cs qs h used end e = record { pieces = ps; are_pieces = h.pieces; are_paired = settled-strict ps cs h.settled; are_units = are_units qs h.run; begins = begins-at limit p h.path used _ e }
+
+-- the character is taken, and the string goes on
+pub string-goes : (limit : Option ℕ) (p : Path) (ps : List Piece) (cs : List ℕ) (qs : List Quad) → InString limit p ps cs qs → (w v : Within) (c : ℕ) → IsPartWithin v → within_text v ≡ within_text w ++ c ∷ [] →
+    Spells limit (string_text p ps qs (within_text w) ++ c ∷ []) (path_frames p) (quoted v cs (values qs))
+string-goes limit p ps cs qs h w v c hv e =
+    record { read = in_quoted p ps cs qs v; is = (h.path, h.pieces, h.settled, h.run, hv); whole = string-longer (path_text p) (pieces_text ps) (pieces_text (quads qs)) (within_text w) c ∙ ap (string_text p ps qs) (sym e); frames = refl; phase = refl }
+
+-- a piece that was read behind the run
+pub string-piece : (limit : Option ℕ) (p : Path) (ps : List Piece) (cs : List ℕ) (qs : List Quad) → InString limit p ps cs qs → IsTrue (paired (values qs)) → (w : List ℕ) (c : ℕ) (e : Piece) →
+    IsPiece e → w ++ c ∷ [] ≡ piece_text e → is_surrogate (code e) ≡ false →
+    Spells limit (string_text p ps qs w ++ c ∷ []) (path_frames p) (quoted Machine.plain ((cs ++ decode (values qs)) ++ code e ∷ []) [])
+string-piece limit p ps cs qs h hd w c e he ht hc =
+    record {
+      read = in_quoted p (ps ++ (quads qs ++ e ∷ [])) ((cs ++ decode (values qs)) ++ code e ∷ []) [] Machine.plain;
+      is = (h.path, are_pieces_append ps _ h.pieces (are_pieces_append (quads qs) _ h.run (he, tt)), settle-more ps cs h.settled qs hd e hc, tt, tt);
+      whole = string-longer (path_text p) (pieces_text ps) (pieces_text (quads qs)) w c ∙ (ap (string_text p ps qs) ht ∙ ap (λ xs. path_text p ++ 34 ∷ xs) (simp (pieces-append, append_assoc, append-nil)));
+      frames = refl;
+      phase = refl;
+    }
+
+pub flush-follows : (limit : Option ℕ) (used : List ℕ) (fs : List Frame) (q : Phase) (c : ℕ) (cs us : List ℕ) (go : List ℕ → Next) →
+    (IsTrue (paired us) → Follows limit used fs q c (go (cs ++ decode us))) → (paired us ≡ false → (more : List ℕ) → ErrorSays limit InvalidUtf16 (used ++ c ∷ []) more) → Follows limit used fs q c (flush true cs us go)
+flush-follows limit used fs q c cs us go f g = either limit used fs q c (not (paired us)) (stop InvalidUtf16 true) (go (cs ++ decode us)) (λ h. (g (not-true _ h), tt)) (λ h. f (not-false _ h))
+
+-- the run has a surrogate without its partner
+pub utf16-says : (limit : Option ℕ) (p : Path) (ps : List Piece) (cs : List ℕ) (qs : List Quad) → InString limit p ps cs qs → paired (values qs) ≡ false → (w : Within) (c : ℕ) → IsPartWithin w →
+    EndsRun (within_text w ++ c ∷ []) → Ending (34 ∷ (pieces_text ps ++ (pieces_text (quads qs) ++ (within_text w ++ c ∷ [])))) → (more : List ℕ) →
+    ErrorSays limit InvalidUtf16 (string_text p ps qs (within_text w) ++ c ∷ []) more
+utf16-says limit p ps cs qs h hd w c hw hr he more = (
+  (quads qs, within_text w ++ c ∷ [], ap paired (codes-quads qs) ∙ hd, hr, in-string limit p ps cs qs h _ _ (string-longer (path_text p) (pieces_text ps) (pieces_text (quads qs)) (within_text w) c)),
+  (
+    (c, rw (string-longer (path_text p) (pieces_text ps) (pieces_text (quads qs)) (within_text w) c) (quoted-prompt limit p h.path ps cs h.pieces h.settled qs h.run (within_text w) (within-late w hw) (c ∷ []))),
+    rw (string-longer (path_text p) (pieces_text ps) (pieces_text (quads qs)) (within_text w) c) (ends-loosely limit p h.path _ he),
+  ),
+)
+
+-- with a piece, or with the closing quote
+piece-ending : (ps : List Piece) (qs : List Quad) → ArePieces ps → ArePieces (quads qs) → (e : Piece) → IsPiece e → (end : List ℕ) → end ≡ piece_text e → Ending (34 ∷ (pieces_text ps ++ (pieces_text (quads qs) ++ end)))
+piece-ending ps qs h i e he end ht = subst (λ xs. Ending (34 ∷ (pieces_text ps ++ (pieces_text (quads qs) ++ xs)))) (sym ht) (record {
+  value = Syntax.string (ps ++ (quads qs ++ e ∷ []));
+  spelled = are_pieces_append ps _ h (are_pieces_append (quads qs) _ i (he, tt));
+  flat = refl;
+  rest = 34 ∷ [];
+  whole = ap (λ xs. 34 ∷ xs) (simp (pieces-append, append_assoc, append-nil));
+})
+
+quote-ending : (ps : List Piece) (qs : List Quad) → ArePieces ps → ArePieces (quads qs) → Ending (34 ∷ (pieces_text ps ++ (pieces_text (quads qs) ++ 34 ∷ [])))
+quote-ending ps qs h i =
+    record {
+      value = Syntax.string (ps ++ quads qs);
+      spelled = are_pieces_append ps _ h i;
+      flat = refl;
+      rest = [];
+      whole = ap (λ xs. 34 ∷ xs) (simp (pieces-append, append_assoc, append-nil));
+    }
+
+quote-follows : (limit : Option ℕ) (p : Path) (ps : List Piece) (cs : List ℕ) (qs : List Quad) → InString limit p ps cs qs → (c : ℕ) → c ≡ 34 → IsTrue (paired (values qs)) →
+    Follows limit (string_text p ps qs []) (path_frames p) (quoted Machine.plain cs (values qs)) c (complete true (path_frames p) (tree.string (cs ++ decode (values qs))) true)
+quote-follows limit p ps cs qs h c e hd =
+    let s : Syntax = Syntax.string (ps ++ quads qs) in
+    subst (λ xs. Follows limit (string_text p ps qs []) (path_frames p) (quoted Machine.plain cs (values qs)) c (complete true (path_frames p) (tree.string xs) true)) (settle-end ps cs h.settled qs)
+    (complete-follows limit p h.path s (record { spelled = are_pieces_append ps _ h.pieces h.run; strict = settle-paired ps cs h.settled qs ∙ hd }) (flat_within limit p s h.path refl) (λ rest. tt) _ _ _ c
+    (string-longer (path_text p) (pieces_text ps) (pieces_text (quads qs)) [] c ∙ ap (λ xs. path_text p ++ 34 ∷ xs) (rw e (simp (pieces-append, append_assoc)))))
+
+plain-piece : (c : ℕ) → IsScalar c → (c == 34) ≡ false → (c == 92) ≡ false → nat_lt c 32 ≡ false → IsPiece (Piece.plain c)
+plain-piece c h i j k = (h, ltb-false c 32 k, rw (i, j) refl)
+
+plain-follows : (limit : Option ℕ) (p : Path) (ps : List Piece) (cs : List ℕ) (qs : List Quad) → InString limit p ps cs qs → (c : ℕ) → IsScalar c →
+    Follows limit (string_text p ps qs []) (path_frames p) (quoted Machine.plain cs (values qs)) c (step_quoted (strictly limit) (path_frames p) Machine.plain cs (values qs) c)
+plain-follows limit p ps cs qs h c hc =
+    at_code limit _ _ _ c 34 _ _
+    (λ e. flush-follows limit _ _ _ c cs (values qs) (λ xs. complete true (path_frames p) (tree.string xs) true) (λ hd. quote-follows limit p ps cs qs h c e hd)
+    (λ hd more. utf16-says limit p ps cs qs h hd Machine.plain c tt (inl (ap (λ x. x ∷ []) e)) (rw e (quote-ending ps qs h.pieces h.run)) more)) (λ h0.
+    at_code limit _ _ _ c 92 _ _
+    (λ e. string-goes limit p ps cs qs h Machine.plain Machine.backslash c tt (ap (λ x. x ∷ []) (sym e))) (λ h1.
+    either limit _ _ _ c (nat_lt c 32) _ _
+    (λ e. (
+      (λ more. (
+        ((quads qs, in-string limit p ps cs qs h _ _ (string-longer (path_text p) (pieces_text ps) (pieces_text (quads qs)) [] c)), ltb-true c 32 e),
+        (
+          rw (string-longer (path_text p) (pieces_text ps) (pieces_text (quads qs)) [] c) (quoted-prompt limit p h.path ps cs h.pieces h.settled qs h.run [] tt (c ∷ [])),
+          (
+            string_text p ps qs [],
+            refl,
+            rw (string-longer (path_text p) (pieces_text ps) (pieces_text (quads qs)) [] 120)
+                (ends-loosely limit p h.path _ (piece-ending ps qs h.pieces h.run (Piece.plain 120) (refl, omega arith, refl) (120 ∷ []) refl)),
+          ),
+        ),
+      )),
+      tt,
+    )) (λ h2.
+    flush-follows limit _ _ _ c cs (values qs) (λ xs. next (path_frames p) (quoted Machine.plain (xs ++ c ∷ []) []))
+    (λ hd. string-piece limit p ps cs qs h hd [] c (Piece.plain c) (plain-piece c hc h0 h1 h2) refl (scalar-no_surrogate c hc))
+    (λ hd more. utf16-says limit p ps cs qs h hd Machine.plain c tt (inr (Piece.plain c, plain-piece c hc h0 h1 h2, refl, (λ n. n))) (piece-ending ps qs h.pieces h.run (Piece.plain c) (plain-piece c hc h0 h1 h2) _ refl) more))))
+
+escape-follows : (limit : Option ℕ) (p : Path) (ps : List Piece) (cs : List ℕ) (qs : List Quad) → InString limit p ps cs qs → (c : ℕ) → (o : Option ℕ) → short_escape c ≡ o →
+    Follows limit (string_text p ps qs (92 ∷ [])) (path_frames p) (quoted Machine.backslash cs (values qs)) c (step_escape (strictly limit) (path_frames p) cs (values qs) c o)
+escape-follows limit p ps cs qs h c None i =
+    at_code limit _ _ _ c 117 _ _
+    (λ e. string-goes limit p ps cs qs h Machine.backslash (Machine.hex []) c (tt, omega arith) (ap (λ x. 92 ∷ x ∷ []) (sym e)))
+    (λ hn. (
+      (λ more. (
+        ((quads qs, in-string limit p ps cs qs h _ _ (string-longer (path_text p) (pieces_text ps) (pieces_text (quads qs)) (92 ∷ []) c)), i, (λ e. eqb-false c 117 hn e)),
+        rw (string-longer (path_text p) (pieces_text ps) (pieces_text (quads qs)) (92 ∷ []) c) (quoted-prompt limit p h.path ps cs h.pieces h.settled qs h.run (92 ∷ []) (refl, tt) (c ∷ [])),
+      )),
+      tt,
+    ))
+escape-follows limit p ps cs qs h c (Some d) i =
+    flush-follows limit _ _ _ c cs (values qs) (λ xs. next (path_frames p) (quoted Machine.plain (xs ++ d ∷ []) []))
+    (λ hd. subst (λ o. Spells limit (string_text p ps qs (92 ∷ []) ++ c ∷ []) (path_frames p) (quoted Machine.plain ((cs ++ decode (values qs)) ++ unwrap_or o 0 ∷ []) [])) i
+    (string-piece limit p ps cs qs h hd (92 ∷ []) c (Piece.escape c) (rw i refl) refl (rw i (escape-no_surrogate c d i))))
+    (λ hd more. utf16-says limit p ps cs qs h hd Machine.backslash c tt (inr (Piece.escape c, rw i refl, refl, (λ n. n))) (piece-ending ps qs h.pieces h.run (Piece.escape c) (rw i refl) _ refl) more)
+
+-- ---- four digits
+
+pub quads-push : (qs : List Quad) (q : Quad) → quads (qs ++ q ∷ []) ≡ quads qs ++ unit q.a q.b q.c q.d ∷ []
+quads-push [] q = refl
+quads-push (s ∷ qs) q = ap (λ xs. unit s.a s.b s.c s.d ∷ xs) (quads-push qs q)
+
+pub values-push : (qs : List Quad) (q : Quad) → values (qs ++ q ∷ []) ≡ values qs ++ unit_of 0 (q.a ∷ q.b ∷ q.c ∷ q.d ∷ []) ∷ []
+values-push [] q = refl
+values-push (s ∷ qs) q = ap (λ xs. unit_of 0 (s.a ∷ s.b ∷ s.c ∷ s.d ∷ []) ∷ xs) (values-push qs q)
+
+pub hex-append : (ds : List ℕ) (c : ℕ) → IsHex ds → IsTrue (is_hex c) → IsHex (ds ++ c ∷ [])
+hex-append [] c h i = (i, tt)
+hex-append (d ∷ ds) c h i = (h.0, hex-append ds c h.1 i)
+
+hex-says : (limit : Option ℕ) (p : Path) (ps : List Piece) (cs : List ℕ) (qs : List Quad) → InString limit p ps cs qs → (ds : List ℕ) → IsPartWithin (Machine.hex ds) → (c : ℕ) → is_hex c ≡ false → (more : List ℕ) →
+    ErrorSays limit (InvalidHexDigit c) (string_text p ps qs (92 ∷ 117 ∷ ds) ++ c ∷ []) more
+hex-says limit p ps cs qs h ds hw c hc more = (
+  (ds, hw.1, hw.0, hc, (quads qs, in-string limit p ps cs qs h _ _ (string-longer (path_text p) (pieces_text ps) (pieces_text (quads qs)) (92 ∷ 117 ∷ ds) c))),
+  rw (string-longer (path_text p) (pieces_text ps) (pieces_text (quads qs)) (92 ∷ 117 ∷ ds) c) (quoted-prompt limit p h.path ps cs h.pieces h.settled qs h.run (92 ∷ 117 ∷ ds) (within-late (Machine.hex ds) hw) (c ∷ [])),
+)
+
+hex-goes : (limit : Option ℕ) (p : Path) (ps : List Piece) (cs : List ℕ) (qs : List Quad) → InString limit p ps cs qs → (ds : List ℕ) → IsPartWithin (Machine.hex ds) → length ds < 3 → (c : ℕ) → IsTrue (is_hex c) →
+    Spells limit (string_text p ps qs (92 ∷ 117 ∷ ds) ++ c ∷ []) (path_frames p) (quoted (Machine.hex (ds ++ c ∷ [])) cs (values qs))
+hex-goes limit p ps cs qs h ds hw hl c hc = string-goes limit p ps cs qs h (Machine.hex ds) (Machine.hex (ds ++ c ∷ [])) c (hex-append ds c hw.0 hc, rw (length-append ds (c ∷ [])) (omega arith)) refl
+
+unit-goes : (limit : Option ℕ) (p : Path) (ps : List Piece) (cs : List ℕ) (qs : List Quad) → InString limit p ps cs qs → (q : Quad) → IsPiece (unit q.a q.b q.c q.d) →
+    Spells limit (string_text p ps qs (92 ∷ 117 ∷ q.a ∷ q.b ∷ q.c ∷ []) ++ q.d ∷ []) (path_frames p) (quoted Machine.plain cs (values qs ++ unit_of 0 (q.a ∷ q.b ∷ q.c ∷ q.d ∷ []) ∷ []))
+unit-goes limit p ps cs qs h q hq =
+    record {
+      read = in_quoted p ps cs (qs ++ q ∷ []) Machine.plain;
+      is = (h.path, h.pieces, h.settled, rw (quads-push qs q) (are_pieces_append (quads qs) _ h.run (hq, tt)), tt);
+      whole = string-longer (path_text p) (pieces_text ps) (pieces_text (quads qs)) (92 ∷ 117 ∷ q.a ∷ q.b ∷ q.c ∷ []) q.d ∙ ap (λ xs. path_text p ++ 34 ∷ (pieces_text ps ++ xs)) (simp (quads-push, pieces-append, append_assoc, append-nil));
+      frames = refl;
+      phase = ap (quoted Machine.plain cs) (sym (values-push qs q));
+    }
+
+hex-follows : (limit : Option ℕ) (p : Path) (ps : List Piece) (cs : List ℕ) (qs : List Quad) → InString limit p ps cs qs → (ds : List ℕ) → IsPartWithin (Machine.hex ds) → (c : ℕ) →
+    Follows limit (string_text p ps qs (92 ∷ 117 ∷ ds)) (path_frames p) (quoted (Machine.hex ds) cs (values qs)) c (step_quoted (strictly limit) (path_frames p) (Machine.hex ds) cs (values qs) c)
+hex-follows limit p ps cs qs h [] hw c = either limit _ _ _ c (is_hex c) _ _ (λ e. hex-goes limit p ps cs qs h [] hw (omega arith) c e) (λ e. ((λ more. hex-says limit p ps cs qs h [] hw c e more), tt))
+hex-follows limit p ps cs qs h (x ∷ []) hw c = either limit _ _ _ c (is_hex c) _ _ (λ e. hex-goes limit p ps cs qs h (x ∷ []) hw (omega arith) c e) (λ e. ((λ more. hex-says limit p ps cs qs h (x ∷ []) hw c e more), tt))
+hex-follows limit p ps cs qs h (x ∷ y ∷ []) hw c = either limit _ _ _ c (is_hex c) _ _ (λ e. hex-goes limit p ps cs qs h (x ∷ y ∷ []) hw (omega arith) c e) (λ e. ((λ more. hex-says limit p ps cs qs h (x ∷ y ∷ []) hw c e more), tt))
+hex-follows limit p ps cs qs h (x ∷ y ∷ z ∷ []) hw c =
+    either limit _ _ _ c (is_hex c) _ _
+    (λ e. unit-goes limit p ps cs qs h (record { a = x; b = y; c = z; d = c }) (hw.0.0, hw.0.1.0, hw.0.1.1.0, e))
+    (λ e. ((λ more. hex-says limit p ps cs qs h (x ∷ y ∷ z ∷ []) hw c e more), tt))
+hex-follows limit p ps cs qs h (x ∷ y ∷ z ∷ u ∷ us) hw c = absurd (omega (arith, hw.1))
+
+pub quoted-follows : (limit : Option ℕ) (p : Path) (ps : List Piece) (cs : List ℕ) (qs : List Quad) → InString limit p ps cs qs → (w : Within) → IsPartWithin w → (c : ℕ) → IsScalar c →
+    Follows limit (string_text p ps qs (within_text w)) (path_frames p) (quoted w cs (values qs)) c (step_quoted (strictly limit) (path_frames p) w cs (values qs) c)
+quoted-follows limit p ps cs qs h Machine.plain hw c hc = plain-follows limit p ps cs qs h c hc
+quoted-follows limit p ps cs qs h Machine.backslash hw c hc = escape-follows limit p ps cs qs h c (short_escape c) refl
+quoted-follows limit p ps cs qs h (Machine.hex ds) hw c hc = hex-follows limit p ps cs qs h ds hw c

@@ -1,0 +1,14 @@
+-- The parser's functions, as steps of the machine.
+pub mod String
+pub mod Number
+pub mod Units
+pub mod NumberParts
+pub mod Containers
+pub mod Positions
+pub mod Parse
+pub mod Messages
+pub mod Steps
+pub mod Cursors
+pub mod Sources
+pub mod Slices
+pub mod Memory

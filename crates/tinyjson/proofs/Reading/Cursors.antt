@@ -1,0 +1,62 @@
+-- How a cursor over an iterator goes on.
+use Rattle.std.proofs.Common.{◌≡◌, ℕ, Bool, true, false, cond, not, is_some, List, [], ◌∷◌, ◌++◌, Option, Some, None, refl, sym, ap, ◌∙◌, true≢false}
+use Rattle.std.specs.Option.{option_to_list}
+use Rattle.std.specs.Iterator.{Count, MakesProgress}
+use Rattle.tinyjson.specs.declared.parser.cursor.Cursor.{Cursor}
+use Rattle.tinyjson.specs.private.Cursor.{Ready, Gives, Begins, Shows}
+use Rattle.tinyjson.specs.Parser.{Follows}
+
+-- what a call of the iterator leaves may be called, and ends
+pub Ready-filled : {S : Type 0} (can : S → Type 0) (remaining : S → Count) (p : Cursor S) (r : Option ℕ) (t : S) (d : Bool) → Ready can remaining p → p.done ≡ false → d ≡ not (is_some r)
+    → MakesProgress can remaining p.it r t → Ready can remaining (record { it = t; peeked = r; done = d; line = p.line; column = p.column })
+Ready-filled can remaining p None t d a f e m = λ h. absurd (true≢false (sym e ∙ h))
+Ready-filled can remaining p (Some x) t d a f e m = λ h. let k = m.on (a f).1 in (k.0, k.1)
+
+pub none_from : (o : Option ℕ) → is_some o ≡ false → o ≡ None
+none_from None h = refl
+none_from (Some x) h = absurd (true≢false h)
+
+module _ {S : Type 0} (steps : S → Option ℕ → S → Type 0) where
+  -- what the iterator answers goes into the one place that is looked at
+  pub filled : (p : Cursor S) (r : Option ℕ) (t : S) (d : Bool) (zs : List ℕ) → p.peeked ≡ None → p.done ≡ false → steps p.it r t → d ≡ not (is_some r) → Gives steps p zs
+      → Gives steps (record { it = t; peeked = r; done = d; line = p.line; column = p.column }) zs
+  filled p None t d zs n f s e g =
+      let k : zs ≡ g.later = g.is ∙ ap (λ o. option_to_list o ++ g.later) n in
+      let last : (l : List ℕ) → Begins steps p.it l → l ≡ [] = elim [ [] ↦ λ b. refl | y ∷ ys ↦ λ b. absurd (b.0 t s) ] in
+      record { later = []; is = k ∙ last g.later (g.source f); source = λ h. absurd (true≢false (sym e ∙ h)); ended = λ h. refl }
+  filled p (Some x) t d zs n f s e g =
+      let k : zs ≡ g.later = g.is ∙ ap (λ o. option_to_list o ++ g.later) n in
+      let more : (l : List ℕ) → Begins steps p.it l → (m : List ℕ) × (l ≡ x ∷ m) × Begins steps t m =
+      elim [ [] ↦ λ b. absurd (b x t s) | y ∷ ys ↦ λ b. let w = b.1 x t s in (ys, ap (λ c. c ∷ ys) (sym w.0), w.1) ] in
+      let w = more g.later (g.source f) in
+      record { later = w.0; is = k ∙ w.1; source = λ h. w.2; ended = λ h. absurd (true≢false (sym h ∙ e)) }
+
+  -- the character that is looked at is taken
+  pub taken : (p : Cursor S) (c l k : ℕ) (zs : List ℕ) → p.peeked ≡ Some c → Gives steps p zs → (rest : List ℕ) × (zs ≡ c ∷ rest) × Gives steps (record { it = p.it; peeked = None; done = p.done; line = l; column = k }) rest
+  taken p c l k zs e g = (g.later, g.is ∙ ap (λ o. option_to_list o ++ g.later) e, record { later = g.later; is = refl; source = g.source; ended = g.ended })
+
+  -- where nothing was looked at and the end did not come, nothing is known
+  pub not_shown : (p : Cursor S) (o r : Option ℕ) → p.peeked ≡ None → p.done ≡ false → Shows p o → r ≡ o
+  not_shown p None r n f s = absurd (true≢false (sym s.ended ∙ f))
+  not_shown p (Some x) r n f s = absurd (true≢false (ap is_some (sym s.peeked ∙ n)))
+
+-- ---- what a cursor gives is what a parser over it has left
+
+module _ {S : Type 0} (steps : S → Option ℕ → S → Type 0) where
+  pub gives-follows : (p : Cursor S) (xs : List ℕ) → Gives steps p xs → (later : List ℕ) × (xs ≡ option_to_list p.peeked ++ later) × Follows steps (cond p.done None (Some p.it)) later
+  gives-follows p xs g = (g.later, g.is, by p.done g.source g.ended)
+    where
+      by : (d : Bool) → (d ≡ false → Begins steps p.it g.later) → (d ≡ true → g.later ≡ []) → Follows steps (cond d None (Some p.it)) g.later
+      by true f e = e refl
+      by false f e = f refl
+
+  pub follows-gives : (p : Cursor S) (xs later : List ℕ) → xs ≡ option_to_list p.peeked ++ later → Follows steps (cond p.done None (Some p.it)) later → Gives steps p xs
+  follows-gives p xs later e f = record { later = later; is = e; source = λ h. on p.done h f; ended = λ h. off p.done h f }
+    where
+      on : (d : Bool) → d ≡ false → Follows steps (cond d None (Some p.it)) later → Begins steps p.it later
+      on true h f = absurd (true≢false h)
+      on false h f = f
+
+      off : (d : Bool) → d ≡ true → Follows steps (cond d None (Some p.it)) later → later ≡ []
+      off true h f = f
+      off false h f = absurd (true≢false (sym h))

@@ -1,0 +1,33 @@
+-- What `==` returns on texts, items and members, against the test of their trees.
+use Rattle.std.proofs.Common.{◌≡◌, Bool, List, [], ◌∷◌, Option, Some, None, ◌&&◌, String, Global, Vec, option_map, true≢false, refl, sym, ap, ◌∙◌, rules}
+use Rattle.std.proofs.lemmas.Bool.Decides.{Decides-like, same_from_decides}
+use Rattle.std.specs.Bool.{Decides}
+use Rattle.std.specs.Cmp.Lexicographic.{pointwise}
+use Rattle.std.specs.HashMap.{HashMap, hash_map_eq}
+use Rattle.std.specs.HashMap.Eq.{get_from_hash_map_eq, hash_map_eq_from_get}
+use Rattle.std.specs.Option.{option_eq}
+use Rattle.std.specs.String.{string_eq, string_eq_equiv}
+use Rattle.tinyjson.proofs.Values.Entries.{text_eq, members_from_lookups, lookups_from_members}
+use Rattle.tinyjson.proofs.Values.Views.{view_lookup}
+use Rattle.tinyjson.specs.Tree.{Tree, string, array, object}
+use Rattle.tinyjson.specs.Equality.{tree_eq, items_eq, members_eq, tree_eq_decides, members_eq-Decides, same_tree}
+use Rattle.tinyjson.specs.View.{text, view, items_view, seen_entries, members_view}
+use Rattle.tinyjson.specs.Access.{JsonMap}
+use Rattle.tinyjson.specs.declared.value.JsonValue.{JsonValue, the_lemmas}
+use Rattle.tinyjson.specs.declared.value.JsonValue.TheVariants as is
+
+view-String : (s : String Global) → view (is.String s) ≡ string (text s)
+view-String s = search (rules, the_lemmas)
+
+pub view-Array : (v : Vec JsonValue Global) → view (is.Array v) ≡ array (items_view v.items)
+view-Array v = search (rules, the_lemmas)
+
+pub view-Object : (m : JsonMap) → view (is.Object m) ≡ object (members_view m.entries)
+view-Object m = search (rules, the_lemmas)
+
+module _ (v w : JsonValue) (r : Bool) where
+  at_trees : (t u : Tree) → view v ≡ t → view w ≡ u → r ≡ tree_eq t u → r ≡ same_tree v w
+  at_trees t u p q e = e ∙ λ i. tree_eq (sym p i) (sym q i)
+
+  pub same_strings : (a b : String Global) → v ≡ is.String a → w ≡ is.String b → r ≡ string_eq a b → r ≡ same_tree v w
+  same_strings a b p q e = at_trees _ _ (ap view p ∙ view-String a) (ap view q ∙ view-String b) (e ∙ sym (text_eq a b))

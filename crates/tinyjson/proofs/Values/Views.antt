@@ -1,0 +1,141 @@
+-- A value, and a map's entries, beside the trees that they stand for.
+use Rattle.std.proofs.Common.{◌≡◌, Bool, true, false, ℕ, List, [], ◌∷◌, ◌++◌, Bor, bytes_eq, string_bytes, Option, Some, None, cond, option_map, String, Global, ◌⊎◌, inl, inr, true≢false, refl, sym, ap, ◌∙◌, subst}
+use Rattle.std.proofs.lemmas.Bool.Decides.{same_from_decides}
+use Rattle.std.proofs.lemmas.Slice.Eq.{bytes_eq-Decides}
+use Rattle.std.proofs.lemmas.Str.{encodes-chars, IsUtf8-string_bytes}
+use Rattle.std.specs.Str.{IsUtf8, chars, encode_utf8_all}
+use Rattle.std.specs.List.{AllByRecursion, IsDistinct}
+use Rattle.std.specs.Map.{lookup, keys_of}
+use Rattle.std.specs.Prelude.{IsSome}
+use Rattle.std.specs.String.{string_eq, string_eq_equiv}
+use Rattle.tinyjson.proofs.Values.Entries.{members_from_lookups, members_of-sorted, find-members_of, None-or_text}
+use Rattle.tinyjson.proofs.Values.Members.{cond_swap, find-put, find-remove, sorted-put, sorted-remove, members_from_find}
+use Rattle.tinyjson.specs.Soundness.{IsSorted}
+use Rattle.tinyjson.specs.Tree.{Tree, Members, put, find, remove}
+use Rattle.tinyjson.specs.View.{text, view, seen_entries, members_view}
+use Rattle.tinyjson.specs.declared.value.JsonValue.{JsonValue}
+
+abbrev pub Entry : Type 0
+Entry = String Global × JsonValue
+
+-- an entry's value at a key, as a tree
+seen_value : (b : Bool) (v : JsonValue) (p : Option Tree) (q : Option JsonValue) → p ≡ option_map view q → cond b (Some (view v)) p ≡ option_map view (cond b (Some v) q)
+seen_value true v p q e = refl
+seen_value false v p q e = e
+
+pub view_lookup : (k : String Global) (es : List Entry) → lookup (string_eq k) (seen_entries es) ≡ option_map view (lookup (string_eq k) es)
+view_lookup k [] = refl
+view_lookup k (e ∷ es) = seen_value (string_eq k e.0) e.1 _ _ (view_lookup k es)
+
+-- a map with v at k, and at other keys what it had
+pub members_view-updates : (old new : List Entry) (k : String Global) (v : JsonValue) → ((q : String Global) → lookup (string_eq q) new ≡ cond (string_eq k q) (Some v) (lookup (string_eq q) old))
+    → members_view new ≡ put (text k) (view v) (members_view old)
+members_view-updates old new k v h =
+    members_from_lookups (seen_entries new) ((k, view v) ∷ seen_entries old) (λ q.
+    let side : cond (string_eq k q) (Some v) (lookup (string_eq q) old) ≡ cond (string_eq q k) (Some v) (lookup (string_eq q) old)
+    = ap (λ b. cond b (Some v) (lookup (string_eq q) old)) (string_eq_equiv.symm k q) in
+    view_lookup q new ∙ (ap (λ r. option_map view r) (h q ∙ side) ∙ sym (seen_value (string_eq q k) v _ _ (view_lookup q old))))
+
+-- a map with the same values at all keys
+pub members_view-same : (old new : List Entry) → ((q : String Global) → lookup (string_eq q) new ≡ lookup (string_eq q) old) → members_view new ≡ members_view old
+members_view-same old new h = members_from_lookups (seen_entries new) (seen_entries old) (λ q. view_lookup q new ∙ (ap (λ r. option_map view r) (h q) ∙ sym (view_lookup q old)))
+
+differs_later : (d : String Global) (es : List Entry) (e : Entry) (more : List Entry) → AllByRecursion (λ y. string_eq d y ≡ false) (keys_of (es ++ e ∷ more)) → string_eq d e.0 ≡ false
+differs_later d [] e more h = h.0
+differs_later d (x ∷ es) e more h = differs_later d es e more h.1
+
+lookup_last : (q : String Global) (done : List Entry) (e : Entry) (more : List Entry) → IsDistinct string_eq (keys_of (done ++ e ∷ more))
+    → lookup (string_eq q) (done ++ e ∷ []) ≡ cond (string_eq q e.0) (Some e.1) (lookup (string_eq q) done)
+unfolding IsDistinct
+lookup_last q [] e more h = refl
+lookup_last q (d ∷ done) e more h =
+    let clash : string_eq q d.0 ≡ true → string_eq q e.0 ≡ true → ⊥
+    = λ a b. true≢false (sym b ∙ (string_eq_equiv.congr q d.0 e.0 a ∙ differs_later d.0 done e more h.0)) in
+    ap (cond (string_eq q d.0) (Some d.1)) (lookup_last q done e more h.1) ∙ cond_swap (string_eq q d.0) (string_eq q e.0) (Some d.1) (Some e.1) (lookup (string_eq q) done) clash
+
+-- one more entry, whose key is new
+pub members_view_last : (done : List Entry) (e : Entry) (more : List Entry) → IsDistinct string_eq (keys_of (done ++ e ∷ more)) → members_view (done ++ e ∷ []) ≡ put (text e.0) (view e.1) (members_view done)
+members_view_last done e more h =
+    members_view-updates done (done ++ e ∷ []) e.0 e.1 (λ q.
+    lookup_last q done e more h ∙ ap (λ b. cond b (Some e.1) (lookup (string_eq q) done)) (string_eq_equiv.symm q e.0))
+
+-- a borrowed key that is text is found where the map finds it
+key_eq : (bs : List ℕ) (k : String Global) → IsUtf8 bs → bytes_eq (chars bs) (text k) ≡ bytes_eq bs (string_bytes k)
+key_eq bs k u =
+    let both = bytes_eq-Decides (chars bs) (text k) in
+    let bytes = bytes_eq-Decides bs (string_bytes k) in
+    same_from_decides _ _ both (λ e. ap chars (bytes.0 e), λ e. bytes.1 (sym (encodes-chars bs u) ∙ (ap encode_utf8_all e ∙ encodes-chars (string_bytes k) (IsUtf8-string_bytes k))))
+
+pub find-members_view : (bs : List ℕ) → IsUtf8 bs → (es : List Entry) → find (chars bs) (members_view es) ≡ option_map view (lookup (λ k. bytes_eq bs (string_bytes k)) es)
+find-members_view bs u [] = refl
+find-members_view bs u (e ∷ es) =
+    find-put (chars bs) (text e.0) (view e.1) (members_view es)
+    ∙ (ap (λ b. cond b (Some (view e.1)) (find (chars bs) (members_view es))) (key_eq bs e.0 u) ∙ seen_value (bytes_eq bs (string_bytes e.0)) e.1 _ _ (find-members_view bs u es))
+
+option_map-cond : (b : Bool) (o p : Option JsonValue) → option_map view (cond b o p) ≡ cond b (option_map view o) (option_map view p)
+option_map-cond true o p = refl
+option_map-cond false o p = refl
+
+-- a map with `o` at the key whose bytes are bs, and at other keys what it had, is any sorted members with the same finds
+module _ (old new : List Entry) (bs : List ℕ) (o : Option JsonValue) (ms : Members) (u : IsUtf8 bs)
+    (updates : (q : String Global) → lookup (string_eq q) new ≡ cond (bytes_eq bs (string_bytes q)) o (lookup (string_eq q) old))
+    (finds : (q : List ℕ) → find q ms ≡ cond (bytes_eq q (chars bs)) (option_map view o) (find q (members_view old)))
+    (absent : find (chars bs) (members_view old) ≡ None → o ≡ None) where
+  key_eq-flip : (k : String Global) → bytes_eq bs (string_bytes k) ≡ bytes_eq (text k) (chars bs)
+  key_eq-flip k =
+      sym (key_eq bs k u) ∙ same_from_decides _ _ (bytes_eq-Decides (chars bs) (text k)) (λ e. sym ((bytes_eq-Decides (text k) (chars bs)).0 e), λ e. (bytes_eq-Decides (text k) (chars bs)).1 (sym e))
+
+  changed_key : (k : String Global) → find (text k) (members_view new) ≡ find (text k) ms
+  changed_key k =
+      find-members_of k (seen_entries new)
+      ∙ (view_lookup k new
+      ∙ (ap (λ r. option_map view r) (updates k)
+      ∙ (option_map-cond (bytes_eq bs (string_bytes k)) o (lookup (string_eq k) old)
+      ∙ ((λ i. cond (key_eq-flip k i) (option_map view o) (sym (find-members_of k (seen_entries old) ∙ view_lookup k old) i)) ∙ sym (finds (text k))))))
+
+  not_there : (q : List ℕ) → find q (members_view old) ≡ None → find q ms ≡ None
+  not_there q n = finds q ∙ by (bytes_eq q (chars bs)) refl
+    where
+      by : (b : Bool) → bytes_eq q (chars bs) ≡ b → cond b (option_map view o) (find q (members_view old)) ≡ None
+      by true e = ap (λ r. option_map view r) (absent (ap (λ k. find k (members_view old)) (sym ((bytes_eq-Decides q (chars bs)).0 e)) ∙ n))
+      by false e = n
+
+  members_view-changes : IsSorted ms → members_view new ≡ ms
+  members_view-changes sorted =
+      members_from_find (members_view new) ms (members_of-sorted (seen_entries new)) sorted (λ q. by q (None-or_text q (seen_entries old)) (None-or_text q (seen_entries new)))
+    where
+      at : (q : List ℕ) → (k : String Global) × (q ≡ text k) → find q (members_view new) ≡ find q ms
+      at q t = subst (λ x. find x (members_view new) ≡ find x ms) (sym t.1) (changed_key t.0)
+
+      by : (q : List ℕ) → (find q (members_view old) ≡ None) ⊎ ((k : String Global) × (q ≡ text k)) → (find q (members_view new) ≡ None) ⊎ ((k : String Global) × (q ≡ text k)) → find q (members_view new) ≡ find q ms
+      by q (inr t) r = at q t
+      by q (inl n) (inr t) = at q t
+      by q (inl n) (inl m) = m ∙ sym (not_there q n)
+
+none_there : (o : Option JsonValue) → IsSome o → option_map view o ≡ None → ⊥
+none_there (Some v) s h = cc
+none_there None s h = cc
+
+-- a map with v at a key that it has, and at other keys what it had
+pub members_view-writes : (old new : List Entry) (bs : List ℕ) (v : JsonValue) → IsUtf8 bs → IsSome (lookup (λ k. bytes_eq bs (string_bytes k)) old)
+    → ((q : String Global) → lookup (string_eq q) new ≡ cond (bytes_eq bs (string_bytes q)) (Some v) (lookup (string_eq q) old))
+    → members_view new ≡ put (chars bs) (view v) (members_view old)
+members_view-writes old new bs v u there updates =
+    members_view-changes old new bs (Some v) (put (chars bs) (view v) (members_view old)) u updates
+    (λ q. find-put q (chars bs) (view v) (members_view old))
+    (λ n. absurd (none_there _ there (sym (find-members_view bs u old) ∙ n)))
+    (sorted-put (chars bs) (view v) (members_view old) (members_of-sorted (seen_entries old)))
+
+-- a map without the entry at a key, and at other keys what it had
+pub members_view-removes : (old new : List Entry) (bs : List ℕ) → IsUtf8 bs
+    → ((q : String Global) → lookup (string_eq q) new ≡ cond (bytes_eq bs (string_bytes q)) None (lookup (string_eq q) old))
+    → members_view new ≡ remove (chars bs) (members_view old)
+members_view-removes old new bs u updates =
+    members_view-changes old new bs None (remove (chars bs) (members_view old)) u updates
+    (λ q. find-remove q (chars bs) (members_view old))
+    (λ n. refl)
+    (sorted-remove (chars bs) (members_view old) (members_of-sorted (seen_entries old)))
+
+pub view_of_ref : (r : Option (Bor JsonValue)) → option_map (λ x. view x.now) r ≡ option_map view (option_map (λ x. x.now) r)
+view_of_ref None = refl
+view_of_ref (Some x) = refl

@@ -1,0 +1,49 @@
+-- The texts of containers as bytes, piece by piece.
+use Rattle.std.proofs.Common.{◌≡◌, ℕ, suc, ◌+◌, Bool, true, false, Option, List, [], ◌∷◌, ◌++◌, length, get_or, drop, ◌-◌, refl, sym, ◌∙◌, ap, append_assoc, String, string_bytes, arith, subst, ◌<◌}
+use Rattle.std.specs.Borrow.{Bor}
+use Rattle.std.specs.declared.alloc.Global.{Global}
+use Rattle.std.specs.Str.{chars, IsUtf8}
+use Rattle.std.specs.Bool.{nat_eq}
+use Rattle.std.proofs.lemmas.Str.{encodes-append, encodes-chars}
+use Rattle.std.proofs.lemmas.List.{at_drop_more}
+use Rattle.std.proofs.lemmas.Bool.Decides.{nat_tests}
+use Rattle.tinyjson.specs.declared.value.JsonValue.{JsonValue}
+use Rattle.tinyjson.specs.Written.{Written}
+use Rattle.tinyjson.specs.Text.{text, repeated, items_text, members_text, before, separator, newline, closing, after_colon, quoted, has_no_items, has_no_members}
+use Rattle.std.specs.Ordering.{nat_cmp, match_ordering}
+use Rattle.std.specs.Cmp.Lexicographic.{slice_cmp}
+use Rattle.std.specs.declared.cmp.Ordering.TheVariants.{Less, Equal, Greater}
+use Rattle.tinyjson.specs.Tree.{Tree, array, object, Members, no_members, member, put}
+use Rattle.tinyjson.specs.View.{view, items_view, members_view}
+use Rattle.tinyjson.specs.private.Sorted.{sorted_view}
+use Rattle.tinyjson.proofs.Writing.Bytes.{enc, enc_cons}
+
+-- what stands before an item
+pub comma_here : (first : Bool) (n : List ℕ) → first ≡ false → enc (separator first ++ n) ≡ 44 ∷ [] ++ enc n
+comma_here first n e = ap (λ b. enc (separator b ++ n)) e ∙ enc_cons 44 n (omega arith)
+
+pub no_comma : (first : Bool) (n : List ℕ) → first ≡ true → enc (separator first ++ n) ≡ enc n
+no_comma first n e = ap (λ b. enc (separator b ++ n)) e
+
+-- a member's text: the key, the colon and the value
+abbrev pub member_text : Option (List ℕ) → ℕ → List ℕ → JsonValue → List ℕ
+member_text w k key v = quoted (chars key) ++ (58 ∷ (after_colon w ++ text w k (view v)))
+
+pub no_items_is : (xs : List JsonValue) → has_no_items (items_view xs) ≡ nat_eq (length xs) 0
+no_items_is [] = refl
+no_items_is (x ∷ xs) = grind (arith, nat_tests)
+
+put_some : (k : List ℕ) (t : Tree) (ms : Members) → has_no_members (put k t ms) ≡ false
+put_some k t no_members = refl
+put_some k t (member l u ms) = elim (slice_cmp nat_cmp (enc k) (enc l)) as (λ r. has_no_members (match_ordering r (member k t (member l u ms)) (member k t ms) (member l u (put k t ms))) ≡ false) [ Less ↦ refl | Equal ↦ refl | Greater ↦ refl ]
+
+-- one more indent of a line
+pub line_here : (level done : ℕ) (bs : List ℕ) → IsUtf8 bs → done < level → enc (repeated (level - done) (chars bs)) ≡ bs ++ enc (repeated (level - (done + 1)) (chars bs))
+line_here level done bs u h =
+    let r = repeated (level - (done + 1)) (chars bs) in
+    let e : level - done ≡ suc (level - (done + 1)) = omega arith in
+    ap (λ n. enc (repeated n (chars bs))) e ∙ encodes-append (chars bs) r ∙ ap (λ w. w ++ enc r) (encodes-chars bs u)
+
+pub some_members : (es : List (String Global × JsonValue)) (b : Bool) → (length es ≡ 0 → b ≡ true) → b ≡ false → has_no_members (members_view es) ≡ false
+some_members [] b h e = let t = h refl in cc
+some_members (x ∷ es) b h e = put_some (chars (string_bytes x.0)) (view x.1) (members_view es)

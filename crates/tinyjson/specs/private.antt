@@ -1,0 +1,13 @@
+-- What only private contracts and proofs cite.
+pub mod Comparison
+pub mod Machine
+pub mod Steps
+pub mod NumberSteps
+pub mod Pending
+pub mod Cursor
+pub mod Source
+pub mod Sorted
+pub mod Slice
+pub mod Copy
+pub mod Scan
+pub mod Room

@@ -1,0 +1,69 @@
+-- What is still to be written, by the open containers. For private contracts.
+use Rattle.std.specs.Prelude.{◌≡◌, ℕ, ◌+◌, ◌-◌, ◌<◌, true, List, [], ◌∷◌, ◌++◌, Option, Result, MatchResult, MatchOption, length, take, drop, reverse, encode_utf8_all}
+use Rattle.std.specs.Borrow.{Bor}
+use Rattle.std.specs.Str.{chars}
+use Rattle.tinyjson.specs.Tree.{member, no_members}
+use Rattle.tinyjson.specs.View.{view, items_view}
+use Rattle.tinyjson.specs.Text.{items_text, members_text, newline}
+use Rattle.tinyjson.specs.private.Sorted.{sorted_view}
+use Rattle.tinyjson.specs.private.Room.{Output, Sent, SentPart}
+use Rattle.tinyjson.specs.declared.value.JsonValue.{JsonValue}
+use Rattle.tinyjson.specs.declared.generator.pending.Frame.{Frame}
+use Rattle.tinyjson.specs.declared.generator.pending.Frame.TheVariants.{Items, Member, Members}
+use Rattle.tinyjson.specs.declared.generator.pending.Stack.{Stack}
+
+-- the frames that don't fit in place stand in the vector
+pub record IsStack (s : Stack) : Type 0 where
+  pub near : length s.near ≡ 64
+  pub far : length s.far.items ≡ s.depth - 64
+
+-- the frames, the innermost first
+abbrev pub frames : Stack → List Frame
+frames s = reverse s.far.items ++ reverse (take s.depth s.near)
+
+-- a gathered member
+abbrev pub Gathered : Type 0
+Gathered = Bor (List ℕ) × Bor JsonValue
+
+-- the gathered members of the containers around it
+abbrev pub others : Frame → List Gathered → List Gathered
+others (Items rest first) gs = gs
+others (Member key value) gs = gs
+others (Members left first) gs = drop left gs
+
+module _ (w : Option (List ℕ)) where
+  -- what a container at the level k still owes: the items or members that are left, and its closing bracket.
+  -- Its members are the first of those gathered.
+  abbrev pub frame_text : ℕ → Frame → List Gathered → List ℕ
+  frame_text k (Items rest first) gs = items_text w (k + 1) first (items_view rest.now) ++ (newline w k ++ 93 ∷ [])
+  frame_text k (Member key value) gs = members_text w (k + 1) true (member (chars key.now) (view value.now) no_members) ++ (newline w k ++ 125 ∷ [])
+  frame_text k (Members left first) gs = members_text w (k + 1) first (sorted_view (take left gs)) ++ (newline w k ++ 125 ∷ [])
+
+  -- what all open containers owe, the innermost first
+  abbrev pub owed : List Frame → List Gathered → List ℕ
+  owed [] gs = []
+  owed (f ∷ fs) gs = frame_text (length fs) f gs ++ owed fs (others f gs)
+
+-- a container is begun: its bracket and what stands before it are sent, and the frame is what it owes
+pub record Opened (w : Option (List ℕ)) (k : ℕ) (old new : Output) (bytes : List ℕ) (gs : List Gathered) (f : Frame) (hs : List Gathered) : Type 0 where
+  pub written : Sent old new bytes (encode_utf8_all (frame_text w k f hs))
+  pub outside : others f hs ≡ gs
+  pub less : length (encode_utf8_all (frame_text w k f hs)) < length bytes
+
+-- a value with no container that is left open is sent
+pub record Finished (old new : Output) (bytes : List ℕ) (gs hs : List Gathered) : Type 0 where
+  pub written : Sent old new bytes []
+  pub outside : hs ≡ gs
+
+-- of the bytes all is sent but what the frame at the level k owes, where there is one; or, on an error, a prefix
+abbrev pub Begins : {E : Type 0} → Option (List ℕ) → ℕ → Output → Output → List ℕ → List Gathered → Result (Option Frame) E → List Gathered → Type 0
+Begins w k old new bytes gs result hs = MatchResult result (λ o. MatchOption o (Finished old new bytes gs hs) (λ f. Opened w k old new bytes gs f hs)) (λ _. SentPart old new bytes)
+
+-- of what the frames owe all is sent but what the stack owes now, which is less
+pub record Advanced (w : Option (List ℕ)) (old new : Output) (fs : List Frame) (gs : List Gathered) (s : Stack) (hs : List Gathered) : Type 0 where
+  pub stack : IsStack s
+  pub written : Sent old new (encode_utf8_all (owed w fs gs)) (encode_utf8_all (owed w (frames s) hs))
+  pub less : length (encode_utf8_all (owed w (frames s) hs)) < length (encode_utf8_all (owed w fs gs))
+
+abbrev pub Advances : {T E : Type 0} → Option (List ℕ) → Output → Output → List Frame → List Gathered → Result T E → Stack → List Gathered → Type 0
+Advances w old new fs gs result s hs = MatchResult result (λ _. Advanced w old new fs gs s hs) (λ _. SentPart old new (encode_utf8_all (owed w fs gs)))
