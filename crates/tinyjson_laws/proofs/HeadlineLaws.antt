@@ -16,14 +16,11 @@ use Rattle.tinyjson.proofs.Callers.{refused-text}
 use Rattle.tinyjson_laws.specs.Headline.{FollowsGrammar, StopsAt, IsTimely}
 use Rattle.tinyjson_laws.proofs.PrefixLaws.{viable-at-end, refused_not_too_soon, refused_not_too_late}
 use Rattle.tinyjson_laws.proofs.ReadingLaws.{one_tree}
+use Rattle.tinyjson_laws.proofs.RefusalLaws.{is-refusal}
 
 pub follows-grammar : (limit : Option ℕ) (xs : List ℕ) (r : Result JsonValue JsonParseError) → ParsesText limit xs r → FollowsGrammar limit xs r
 follows-grammar limit xs (Ok v) p = λ t. (λ h. one_tree limit xs t (view v) h p.answer.1, λ e. subst (IsText limit xs) (sym e) p.answer.1)
 follows-grammar limit xs (Err e) p = λ n. refused-text limit xs e p n
-
-other-kind : (limit : Option ℕ) (k : JsonParseErrorKind) (used rest : List ℕ) → ¬ (k ≡ kind.OutOfMemory) → RefusalSays limit k used rest → IsRefusal limit k used rest
-other-kind limit kind.OutOfMemory used rest n r = absurd (n refl)
-other-kind limit k used rest n r = r
 
 memory-viable : (limit : Option ℕ) (k : JsonParseErrorKind) (used rest : List ℕ) → RefusalSays limit k used rest → k ≡ kind.OutOfMemory → IsLooselyViable limit used
 memory-viable limit k used rest r o = (subst (λ j. RefusalSays limit j used rest) o r).0.viable
@@ -35,8 +32,8 @@ stops-at : (limit : Option ℕ) (e : JsonParseError) (used rest : List ℕ) → 
 stops-at limit e used rest r p = record {
   within = let l = length-append used rest in omega (arith, l);
   position = p ∙ ap (advance origin) (sym (take-append_seam used rest));
-  not_too_soon = λ n. (refused_not_too_soon limit e.kind used rest (other-kind limit e.kind used rest n r)).1;
-  at_end = λ n h. length-whole used rest (viable-at-end limit e.kind used rest (other-kind limit e.kind used rest n r) h);
+  not_too_soon = λ n. (refused_not_too_soon limit e.kind used rest (is-refusal limit e.kind used rest n r)).1;
+  at_end = λ n h. length-whole used rest (viable-at-end limit e.kind used rest (is-refusal limit e.kind used rest n r) h);
   not_too_late = refused_not_too_late limit e.kind used rest r;
   viable = λ o. subst (IsLooselyViable limit) (sym (take-append_seam used rest)) (memory-viable limit e.kind used rest r o);
 }

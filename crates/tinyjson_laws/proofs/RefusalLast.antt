@@ -24,10 +24,7 @@ use Rattle.tinyjson.proofs.Grammar.Accepts.Runs.{continues, continues-digit, con
 use Rattle.tinyjson.proofs.Grammar.Trace.State.{Read, at_first, at_awaited, in_word, in_digits, in_quoted, at_after, Part, part_stage, part_numeral, read_frames, read_phase, IsRead, IsFresh, values}
 use Rattle.tinyjson.proofs.Grammar.Accepts.Text.{text-accepted}
 use Rattle.tinyjson.proofs.Grammar.Step.Statement.{Follows}
-use Rattle.tinyjson_laws.proofs.RefusalPlaces.{Stands, Goes, Halts, goes-or-halts, halts-run, stands-viable, stands-next, stands-stop, stands-follows, IsNoLetter, word-lacks}
-
-pub accepted-refused : (t : Tree) (k : JsonParseErrorKind) (xs : List ℕ) → accepted t ≡ refused k xs → ⊥
-accepted-refused t k xs e = cc
+use Rattle.tinyjson_laws.proofs.RefusalPlaces.{Stands, Goes, Halts, goes-or-halts, halts-run, stands-viable, stands-next, stands-stop, stands-follows, IsNoLetter, word-lacks, accepted-refused}
 
 -- ---- a character that may follow without a fault
 

@@ -389,7 +389,7 @@ one_refusal limit k j used rest others left a e r s =
     (h.0, append_cancel_right used others rest (e ∙ ap (λ xs. others ++ xs) (sym h.1)))
 
 -- a refusal for another cause than memory
-is-refusal : (limit : Option ℕ) (k : JsonParseErrorKind) (used rest : List ℕ) → ¬ (k ≡ kind.OutOfMemory) → RefusalSays limit k used rest → IsRefusal limit k used rest
+pub is-refusal : (limit : Option ℕ) (k : JsonParseErrorKind) (used rest : List ℕ) → ¬ (k ≡ kind.OutOfMemory) → RefusalSays limit k used rest → IsRefusal limit k used rest
 is-refusal limit kind.OutOfMemory used rest n r = absurd (n refl)
 is-refusal limit k used rest n r = r
 

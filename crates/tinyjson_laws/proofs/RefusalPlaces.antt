@@ -20,7 +20,7 @@ use Rattle.tinyjson.proofs.Grammar.Prefix.InRange.{ranges}
 use Rattle.tinyjson.proofs.Grammar.Prefix.Unviable.{cut_off-end}
 use Rattle.tinyjson.proofs.Grammar.Trace.Paths.{Path, outside, item_in, key_in, value_in, path_text, path_frames, IsPath}
 use Rattle.tinyjson.proofs.Grammar.Prefix.Loose.{strict-key}
-use Rattle.tinyjson.proofs.Grammar.Sound.{Reached, reached-next, step-spells, spells-viable, start-spells}
+use Rattle.tinyjson.proofs.Grammar.Sound.{Reached, reached-next, step-spells, spells-viable, start-spells, run-next}
 use Rattle.tinyjson.proofs.Grammar.Trace.State.{Read, at_first, at_awaited, in_word, in_digits, in_quoted, at_after, Part, part_minus, part_whole, part_point, part_fraction, part_letter, part_sign, part_exponent, part_stage, part_numeral, read_text, read_frames, read_phase, IsRead, IsFresh, IsWord, Spells, numeral, exponent_with}
 use Rattle.tinyjson.proofs.Grammar.Accepts.Text.{rules, text-accepted, loose-accepted}
 use Rattle.tinyjson.proofs.Grammar.Step.Statement.{Follows, loosely}
@@ -138,10 +138,6 @@ unfolding run
 run-stop r fs q c k true ys e = rw e
 run-stop r fs q c k false ys e = rw e
 
-pub run-next : (r : Rules) (fs gs : List Frame) (q p : Phase) (c : ℕ) (ys : List ℕ) → step r fs q c ≡ next gs p → run r fs q (c ∷ ys) ≡ run r gs p ys
-unfolding run
-run-next r fs gs q p c ys e = rw e
-
 pub stands-stop : (limit : Option ℕ) (used : List ℕ) (fs : List Frame) (q : Phase) → Stands limit used fs q → (c : ℕ) (k : JsonParseErrorKind) (b : Bool) → step (strictly limit) fs q c ≡ stop k b → (ys : List ℕ) →
     run (strictly limit) [] awaited (used ++ c ∷ ys) ≡ refused k (rest_of b c ys)
 stands-stop limit used fs q s c k b e ys = s.reached true (c ∷ ys) ∙ run-stop (strictly limit) fs q c k b ys e
@@ -181,7 +177,7 @@ EndsKey limit xs =
     (front : List ℕ) × (c : ℕ) × (xs ≡ front ++ c ∷ []) × (fs : List Frame) × (q : Phase) × Stands limit front fs q
     × (k : JsonKind) × (step (strictly limit) fs q c ≡ stop (KeyNotString k) true)
 
-accepted-refused : (t : Tree) (k : JsonParseErrorKind) (xs : List ℕ) → accepted t ≡ refused k xs → ⊥
+pub accepted-refused : (t : Tree) (k : JsonParseErrorKind) (xs : List ℕ) → accepted t ≡ refused k xs → ⊥
 accepted-refused t k xs e = cc
 
 ends-key : (limit : Option ℕ) (xs ys : List ℕ) (k : JsonKind) → (h : Halts limit xs) → refused h.7 (rest_of h.8 h.1 (h.2 ++ ys)) ≡ refused (KeyNotString k) [] → EndsKey limit xs

@@ -22,10 +22,11 @@ use Rattle.tinyjson.proofs.Grammar.Step.Character.{step-follows, end-follows, En
 use Rattle.tinyjson.proofs.Grammar.Accepts.Text.{rules, text-accepted, loose-accepted}
 use Rattle.tinyjson.proofs.Grammar.Prefix.Unviable.{cut_off-end}
 use Rattle.tinyjson.proofs.Grammar.Prefix.Loose.{is_own, strict-next, strict-stop}
+use Rattle.tinyjson.proofs.Grammar.Step.Value.{no_text}
 
 -- ---- one step of a run
 
-run-next : (r : Rules) (fs gs : List Frame) (q p : Phase) (c : ℕ) (ys : List ℕ) → step r fs q c ≡ next gs p → run r fs q (c ∷ ys) ≡ run r gs p ys
+pub run-next : (r : Rules) (fs gs : List Frame) (q p : Phase) (c : ℕ) (ys : List ℕ) → step r fs q c ≡ next gs p → run r fs q (c ∷ ys) ≡ run r gs p ys
 unfolding run
 run-next r fs gs q p c ys e = rw e
 
@@ -48,9 +49,6 @@ reached-next limit used fs gs q p c h e false ys =
 
 -- ---- what is unviable
 
-refused-accepted : (k : JsonParseErrorKind) (xs : List ℕ) (t : Tree) → refused k xs ≡ accepted t → ⊥
-refused-accepted k xs t e = cc
-
 unviable : (limit : Option ℕ) (used : List ℕ) → ((ys : List ℕ) (t : Tree) → run (strictly limit) [] awaited (used ++ ys) ≡ accepted t → ⊥) → ¬ IsViable (IsAccepted limit) used
 unviable limit used h a = h a.0 a.1.0 (text-accepted limit (used ++ a.0) a.1.0 a.1.1)
 
@@ -64,16 +62,16 @@ taken-run : (b : Bool) (limit : Option ℕ) (used : List ℕ) (fs : List Frame) 
 taken-run b limit used fs q c k h e ys = ap (run (rules b limit) [] awaited) (append_assoc used (c ∷ []) ys) ∙ (h b (c ∷ ys) ∙ run-taken (rules b limit) fs q c k ys e)
 
 taken-unviable : (limit : Option ℕ) (used : List ℕ) (fs : List Frame) (q : Phase) (c : ℕ) (k : JsonParseErrorKind) → Reached limit used fs q → step (strictly limit) fs q c ≡ stop k true → ¬ IsViable (IsAccepted limit) (used ++ c ∷ [])
-taken-unviable limit used fs q c k h e = unviable limit (used ++ c ∷ []) (λ ys t g. refused-accepted k ys t (sym (taken-run true limit used fs q c k h e ys) ∙ g))
+taken-unviable limit used fs q c k h e = unviable limit (used ++ c ∷ []) (λ ys t g. no_text k ys t (sym (taken-run true limit used fs q c k h e ys) ∙ g))
 
 dies : (limit : Option ℕ) (used : List ℕ) (fs : List Frame) (q : Phase) (c : ℕ) (k : JsonParseErrorKind) → Reached limit used fs q → is_own k ≡ false → step (strictly limit) fs q c ≡ stop k true → ¬ IsLooselyViable limit (used ++ c ∷ [])
-dies limit used fs q c k h o e = loosely-unviable limit (used ++ c ∷ []) (λ ys t g. refused-accepted k ys t (sym (taken-run false limit used fs q c k h (strict-stop limit fs q c k true o e) ys) ∙ g))
+dies limit used fs q c k h o e = loosely-unviable limit (used ++ c ∷ []) (λ ys t g. no_text k ys t (sym (taken-run false limit used fs q c k h (strict-stop limit fs q c k true o e) ys) ∙ g))
 
 -- the next character is too many: not even the first key that is no string is still to come
 no_middle : (limit : Option ℕ) (u : List ℕ) (d : ℕ) (k : JsonParseErrorKind) → ((ys : List ℕ) → run (strictly limit) [] awaited (u ++ d ∷ ys) ≡ refused k (d ∷ ys)) → (ys : List ℕ) →
     (IsAccepted limit ((u ++ d ∷ []) ++ ys) ⊎ IsCutOffText limit ((u ++ d ∷ []) ++ ys)) → ⊥
 no_middle limit u d k h ys (inl a) =
-    refused-accepted k (d ∷ ys) a.0 (sym (h ys) ∙ (sym (ap (run (strictly limit) [] awaited) (append_assoc u (d ∷ []) ys)) ∙ text-accepted limit ((u ++ d ∷ []) ++ ys) a.0 a.1))
+    no_text k (d ∷ ys) a.0 (sym (h ys) ∙ (sym (ap (run (strictly limit) [] awaited) (append_assoc u (d ∷ []) ys)) ∙ text-accepted limit ((u ++ d ∷ []) ++ ys) a.0 a.1))
 no_middle limit u d k h ys (inr b) =
     let i = cut_off-end limit ((u ++ d ∷ []) ++ ys) b in
     let e : refused k (d ∷ ys) ≡ refused (KeyNotString (kind_of i.0)) [] = sym (h ys) ∙ (sym (ap (run (strictly limit) [] awaited) (append_assoc u (d ∷ []) ys)) ∙ i.1) in
@@ -158,7 +156,7 @@ late-none limit used h front d e = viable-before (IsLoose limit) front (d ∷ []
 -- ---- the refusal
 
 refuses : (limit : Option ℕ) (xs rest : List ℕ) (k : JsonParseErrorKind) → run (strictly limit) [] awaited xs ≡ refused k rest → ¬ IsAccepted limit xs
-refuses limit xs rest k e a = refused-accepted k rest a.0 (sym e ∙ text-accepted limit xs a.0 a.1)
+refuses limit xs rest k e a = no_text k rest a.0 (sym e ∙ text-accepted limit xs a.0 a.1)
 
 refusal-taken : (limit : Option ℕ) (used : List ℕ) (fs : List Frame) (q : Phase) (c : ℕ) (k : JsonParseErrorKind) (rest : List ℕ) → Reached limit used fs q → IsLooselyViable limit used → step (strictly limit) fs q c ≡ stop k true → Follows limit used fs q c (stop k true) →
     IsRefusal limit k (used ++ c ∷ []) rest

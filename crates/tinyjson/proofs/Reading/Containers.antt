@@ -19,6 +19,7 @@ use Rattle.tinyjson.specs.declared.parser.error.JsonParseErrorKind.TheVariants.{
 use Rattle.tinyjson.specs.private.Source.{Sight, Takes}
 use Rattle.tinyjson.specs.private.Steps.{wanting, frames, frame_view, onward, Leads}
 use Rattle.tinyjson.proofs.Reading.Steps.{Leads-nil, Leads-one, Leads-shown, Leads-end, end_first, end_awaited}
+use Rattle.tinyjson.proofs.Values.Equality.{view-Array, view-Object}
 
 pub view-Null : view is.Null ≡ null
 view-Null = search (rules, the_lemmas)
@@ -28,9 +29,6 @@ view-Boolean b = search (rules, the_lemmas)
 
 pub view-Number : (n : Canonical) → view (is.Number n) ≡ number n.decimal
 view-Number n = search (rules, the_lemmas)
-
-pub view-Array : (v : Vec JsonValue Global) → view (is.Array v) ≡ array (items_view v.items)
-view-Array v = search (rules, the_lemmas)
 
 -- ---- the first character of a value
 
@@ -112,12 +110,6 @@ array_goes_on sight limit p q fs vs None h l s w k = Leads-end sight limit p q l
 array_goes_on sight limit p q fs vs (Some c) h l s w k = Leads-shown sight limit p q c l s (array_opens limit fs vs c h w k) tt
 
 -- ---- objects
-
-pub view-String : (s : String Global) → view (is.String s) ≡ string (text s)
-view-String s = search (rules, the_lemmas)
-
-pub view-Object : (m : JsonMap) → view (is.Object m) ≡ object (members_view m.entries)
-view-Object m = search (rules, the_lemmas)
 
 pub object_closes_first : (limit : Option ℕ) (fs : List Frame) (m : JsonMap) (c : ℕ) → m.entries ≡ [] → c ≡ 125 → onward limit (next (at_key no_members ∷ fs) first) c ≡ complete true fs (view (is.Object m)) true
 unfolding step

@@ -19,6 +19,7 @@ use Rattle.tinyjson.specs.declared.parser.error.JsonParseErrorKind.TheVariants.{
 use Rattle.tinyjson.specs.Error.{error_position}
 use Rattle.tinyjson.proofs.Reading.Sources.{Takes-append}
 use Rattle.tinyjson.proofs.Reading.Steps.{Same-refl, Leads-trans, Leads-peek, Leads-shown, Leads-end, Halts-here, Refuses-as, Refuses-memory}
+use Rattle.tinyjson.proofs.Grammar.Accepts.Runs.{digit-not_white}
 
 -- ---- characters
 
@@ -58,9 +59,6 @@ digit_low c d = grind (arith, nat_tests)
 
 digit_high : (c : ℕ) → is_ascii_digit c ≡ true → c ≤ 57
 digit_high c d = grind (arith, nat_tests)
-
-digit_no_white : (c : ℕ) → is_ascii_digit c ≡ true → is_white c ≡ false
-digit_no_white c d = grind (arith, nat_tests)
 
 -- ---- texts
 
@@ -169,7 +167,7 @@ module _ (limit : Option ℕ) where
   digit_begins fs c d =
       let a = digit_low c d in
       let z = digit_high c d in
-      let w = digit_no_white c d in
+      let w = digit-not_white c d in
       let e110 : c ≡ 110 → ⊥ = λ e. omega arith in
       let e116 : c ≡ 116 → ⊥ = λ e. omega arith in
       let e102 : c ≡ 102 → ⊥ = λ e. omega arith in

@@ -16,7 +16,7 @@ use Rattle.tinyjson.specs.Access.{JsonMap}
 use Rattle.tinyjson.specs.declared.value.JsonValue.{JsonValue, the_lemmas}
 use Rattle.tinyjson.specs.declared.value.JsonValue.TheVariants as is
 
-view-String : (s : String Global) → view (is.String s) ≡ string (text s)
+pub view-String : (s : String Global) → view (is.String s) ≡ string (text s)
 view-String s = search (rules, the_lemmas)
 
 pub view-Array : (v : Vec JsonValue Global) → view (is.Array v) ≡ array (items_view v.items)

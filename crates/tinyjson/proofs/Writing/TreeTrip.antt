@@ -13,6 +13,7 @@ use Rattle.tinyjson.specs.Text.{newline, repeated, after_colon, quoted, items_te
 use Rattle.tinyjson_number.proofs.DecimalTrip.{decimal-spelled, decimal-fits}
 use Rattle.tinyjson.proofs.Writing.QuotedTrip.{escapes-stand, decode-scalars, paired-scalars}
 use Rattle.tinyjson.proofs.Values.JoinedMembers.{join, IsAbove, put-above, join-join, above-join}
+use Rattle.tinyjson.proofs.Grammar.Trace.State.{are_white_append}
 
 -- ---- white space
 
@@ -21,13 +22,9 @@ abbrev pub IsWhiteIndent : Option (List ℕ) → Type 0
 IsWhiteIndent None = ⊤
 IsWhiteIndent (Some i) = AreWhite i
 
-pub white-join : (v w : List ℕ) → AreWhite v → AreWhite w → AreWhite (v ++ w)
-white-join [] w h k = k
-white-join (c ∷ cs) w h k = (h.0, white-join cs w h.1 k)
-
 white-repeated : (k : ℕ) (i : List ℕ) → AreWhite i → AreWhite (repeated k i)
 white-repeated zero i h = tt
-white-repeated (suc k) i h = white-join i (repeated k i) h (white-repeated k i h)
+white-repeated (suc k) i h = are_white_append i (repeated k i) h (white-repeated k i h)
 
 white-newline : (w : Option (List ℕ)) (k : ℕ) → IsWhiteIndent w → AreWhite (newline w k)
 white-newline None k h = tt

@@ -17,16 +17,7 @@ use Rattle.tinyjson.proofs.Grammar.Prefix.Faultless.{item_value, pair_value, fau
 use Rattle.tinyjson.proofs.Grammar.Trace.State.{at_awaited, at_after, after_frames, after_phase, IsRead, are_white_append}
 use Rattle.tinyjson.proofs.Grammar.Prefix.Viable.{faultless-after, faultless-place}
 use Rattle.tinyjson.proofs.Grammar.Step.Statement.{NoQuoteFrom, Follows, either, at_code, key-says}
-
-pub string-key : (s : Syntax) → is_string (tree_of s) ≡ is_key s
-string-key null = refl
-string-key (Syntax.boolean b) = refl
-string-key (Syntax.number n) = refl
-string-key (Syntax.string ps) = refl
-string-key (empty_array w) = refl
-string-key (array es) = refl
-string-key (empty_object w) = refl
-string-key (object ps) = refl
+use Rattle.tinyjson.proofs.Grammar.Accepts.Value.{string-key}
 
 -- the value is whole, and the character was its last
 pub complete-follows : (limit : Option ℕ) (p : Path) → IsPath limit p → (s : Syntax) → IsValue s → IsWithin limit (level p + depth s) → ((rest : List ℕ) → EndsBefore s rest) → (used : List ℕ) (fs : List Frame) (q : Phase) (c : ℕ) → used ++ c ∷ [] ≡ path_text p ++ text s →

@@ -2,9 +2,10 @@ use Rattle.std.proofs.Common.{[], refl, sym, subst, reverse}
 use Rattle.std.proofs.lemmas.Result.{MatchResult-from_err}
 use Rattle.tinyjson.specs.private.Room.{waiting, Sent, SentPart}
 use Rattle.tinyjson.proofs.Writing.Bytes.{null_bytes}
-use Rattle.tinyjson.proofs.Reading.Containers.{view-Null, view-Boolean, view-Number, view-Array, view-String, view-Object}
+use Rattle.tinyjson.proofs.Reading.Containers.{view-Null, view-Boolean, view-Number}
 use Rattle.tinyjson.proofs.generator.encode.begin_slowly.Goals as goal
 use Rattle.tinyjson.proofs.generator.encode.begin_slowly.Goals.{in-Null+in_ok-write_bytes-in-Null, in-Boolean+in_ok-write_boolean-in-Boolean, in-Number+in_ok-write_number-in-Number, in-String+in_ok-quote-in-String}
+use Rattle.tinyjson.proofs.Values.Equality.{view-Array, view-String, view-Object}
 
 pub returns-in_err-write_bytes-in-Null : goal.returns-in_err-write_bytes-in-Null
 returns-in_err-write_bytes-in-Null g c = λ w k. MatchResult-from_err _ _ _ c.from_residual.ensures.0 (λ _. rw (c.in-Null.is, view-Null) (subst (λ b. SentPart (g.W.Write.contents c.args.out.now, waiting c.args.room.now) (g.W.Write.contents c.write_bytes.new.out, waiting c.write_bytes.new.room) b) (sym null_bytes) c.in_err-write_bytes-in-Null.ensures))

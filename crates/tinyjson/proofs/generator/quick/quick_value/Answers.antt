@@ -2,9 +2,10 @@ use Rattle.std.proofs.lemmas.Str.{encodes-IsAscii, IsUtf8-string_bytes}
 use Rattle.std.proofs.Common.{string_bytes}
 use Rattle.tinyjson_number.specs.Text.{decimal_text}
 use Rattle.tinyjson_number.proofs.Layouts.{decimal_ascii}
-use Rattle.tinyjson.proofs.Reading.Containers.{view-Number, view-String}
+use Rattle.tinyjson.proofs.Reading.Containers.{view-Number}
 use Rattle.tinyjson.proofs.Writing.Quotes.{quoted_bytes}
 use Rattle.tinyjson.proofs.generator.quick.quick_value.Goals as goal
+use Rattle.tinyjson.proofs.Values.Equality.{view-String}
 
 pub returns-in-Number : goal.returns-in-Number
 returns-in-Number c =

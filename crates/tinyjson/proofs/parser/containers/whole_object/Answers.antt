@@ -1,8 +1,8 @@
 use Rattle.std.proofs.Common.{◌∙◌, ap}
 use Rattle.tinyjson.specs.Tree.{object}
-use Rattle.tinyjson.proofs.Reading.Containers.{view-Object}
 use Rattle.tinyjson.proofs.Values.Views.{members_view-same}
 use Rattle.tinyjson.proofs.parser.containers.whole_object.Goals as goal
+use Rattle.tinyjson.proofs.Values.Equality.{view-Object}
 
 pub returns : goal.returns
 returns c =

@@ -4,8 +4,9 @@ use Rattle.tinyjson.specs.View.{view}
 use Rattle.tinyjson.specs.declared.parser.error.JsonParseErrorKind.TheVariants.{KeyNotString}
 use Rattle.tinyjson.specs.declared.parser.error.JsonParseErrorKind.TheVariants.{KeyNotString}
 use Rattle.tinyjson.proofs.Reading.Steps.{Leads-nil, Leads-to, Refuses-as}
-use Rattle.tinyjson.proofs.Reading.Containers.{view-String, no_key, no_string}
+use Rattle.tinyjson.proofs.Reading.Containers.{no_key, no_string}
 use Rattle.tinyjson.proofs.parser.reader.Reader.key.Goals as goal
+use Rattle.tinyjson.proofs.Values.Equality.{view-String}
 
 pub returns-in_default-clause-reads : goal.returns-in_default-clause-reads
 returns-in_default-clause-reads g c = λ limit.

@@ -4,9 +4,9 @@ use Rattle.std.proofs.lemmas.Str.{chars-nil}
 use Rattle.tinyjson.specs.View.{text}
 use Rattle.tinyjson.specs.private.Machine.{next, quoted, plain, complete}
 use Rattle.tinyjson.specs.private.Steps.{within}
-use Rattle.tinyjson.proofs.Reading.Containers.{view-String}
 use Rattle.tinyjson.proofs.Reading.Steps.{Leads-nil, Leads-to, Leads-trans, Refuses-after}
 use Rattle.tinyjson.proofs.parser.reader.Reader.string.Goals as goal
+use Rattle.tinyjson.proofs.Values.Equality.{view-String}
 
 pub loop-units-init : goal.loop-units-init
 loop-units-init g c =
