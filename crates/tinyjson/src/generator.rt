@@ -15,7 +15,7 @@ mod quote;
 mod sorted;
 
 use crate::value::JsonValue;
-pub(crate) use encode::Encoder;
+use encode::Encoder;
 use std::alloc::Global;
 use std::error::Error;
 use std::fmt;
@@ -122,7 +122,7 @@ impl<'indent, W: Write> JsonGenerator<'indent, W> {
 }
 
 /// The indent of [`format`].
-pub(crate) const INDENT: &str = "  ";
+const INDENT: &str = "  ";
 
 /// The compact text of a value.
 ///
@@ -147,6 +147,67 @@ pub fn format(alloc: Global, value: &JsonValue) -> JsonGenerateResult
     ensures { IfOk result (λ s. chars (string_bytes s) ≡ indented (view value.now) (codes "  ") 0) }
 {
     written(alloc, Some(INDENT), value)
+}
+
+impl JsonValue {
+    /// The compact text.
+    ///
+    /// ```
+    /// let value = JsonValue::from_str(alloc, "[1.50e1, null]")?;
+    /// assert_eq!(rt; value.stringify(alloc)?.as_str(), "[15,null]");
+    /// ```
+    pub fn stringify(&self, alloc: Global) -> JsonGenerateResult
+        ensures { IfOk result (λ s. chars (string_bytes s) ≡ compact (view self.now)) }
+    {
+        stringify(alloc, self)
+    }
+
+    /// The text indented with two spaces.
+    ///
+    /// ```
+    /// let value = JsonValue::from_str(alloc, "[1.50e1, null]")?;
+    /// assert_eq!(rt; value.format(alloc)?.as_str(), "[\n  15,\n  null\n]");
+    /// ```
+    pub fn format(&self, alloc: Global) -> JsonGenerateResult
+        ensures { IfOk result (λ s. chars (string_bytes s) ≡ indented (view self.now) (codes "  ") 0) }
+    {
+        format(alloc, self)
+    }
+
+    /// Writes the compact text, with the errors of [`JsonGenerator::generate`].
+    ///
+    /// ```
+    /// let mut bytes = Vec::new(alloc);
+    /// JsonValue::Boolean(true).write_to(alloc, &mut bytes)?;
+    /// assert_eq!(rt; bytes.as_slice(), b"true".as_slice());
+    /// ```
+    pub fn write_to<W: Write>(&self, alloc: Global, w: &mut W) -> io::Result<()>
+        ensures { WritesText (W.contents w.old) (W.contents w.new) (compact (view self.now)) result }
+    {
+        let plain = Encoder {
+            alloc,
+            indent: None,
+        };
+        plain.encode(w, self)
+    }
+
+    /// Writes the text indented with two spaces, with the errors of [`JsonGenerator::generate`].
+    ///
+    /// ```
+    /// let value = JsonValue::from_str(alloc, "[true]")?;
+    /// let mut bytes = Vec::new(alloc);
+    /// value.format_to(alloc, &mut bytes)?;
+    /// assert_eq!(rt; bytes.as_slice(), b"[\n  true\n]".as_slice());
+    /// ```
+    pub fn format_to<W: Write>(&self, alloc: Global, w: &mut W) -> io::Result<()>
+        ensures { WritesText (W.contents w.old) (W.contents w.new) (indented (view self.now) (codes "  ") 0) result }
+    {
+        let encoder = Encoder {
+            alloc,
+            indent: Some(INDENT),
+        };
+        encoder.encode(w, self)
+    }
 }
 
 // The text, whose bytes are UTF-8, since a value's characters are scalar values.

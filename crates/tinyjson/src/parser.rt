@@ -133,8 +133,38 @@ impl<I: Iterator<Item = char>> JsonParser<I> {
     }
 }
 
+impl JsonValue {
+    /// The value of a text: what [`JsonParser::parse`] of a new parser answers on its characters.
+    ///
+    /// A value that is nested deeper than some ten thousand levels is freed by [`JsonValue::dismantle`]:
+    /// where it goes out of scope, the language's own recursion can overrun the stack. So read the texts
+    /// of strangers with [`JsonParser::with_depth_limit`], or give their values to `dismantle`.
+    ///
+    /// ```
+    /// let value = JsonValue::from_str(alloc, "{\"a\": 1.50e1}")?;
+    /// ```
+    pub fn from_str(alloc: Global, s: &str) -> JsonParseResult
+        ensures { ParsesText None (chars s.now) result }
+    {
+        parse_text(alloc, s, None)
+    }
+
+    /// The value of a text in which at most `limit` containers are open at once: what a parser made by
+    /// [`JsonParser::with_depth_limit`] answers on its characters.
+    ///
+    /// ```
+    /// let refusal = JsonValue::from_str_with_depth_limit(alloc, "[[1]]", 1);
+    /// assert!(rt; refusal.is_err_and(|error| error.kind() == JsonParseErrorKind::TooDeep('[')));
+    /// ```
+    pub fn from_str_with_depth_limit(alloc: Global, s: &str, limit: usize) -> JsonParseResult
+        ensures { ParsesText (Some limit) (chars s.now) result }
+    {
+        parse_text(alloc, s, Some(limit))
+    }
+}
+
 /// What [`JsonParser::parse`] of a new parser with this limit answers on the characters of a text.
-pub(crate) fn parse_text(alloc: Global, text: &str, limit: Option<usize>) -> JsonParseResult
+fn parse_text(alloc: Global, text: &str, limit: Option<usize>) -> JsonParseResult
     ensures { ParsesText limit (chars text.now) result }
 {
     Reader::new(alloc, TextBytes::new(text)).text(limit)
