@@ -1,5 +1,6 @@
 -- What is written for the lines of an input.
-use Rattle.std.specs.Prelude.{◌≡◌, ℕ, suc, ◌==◌, List, [], ◌∷◌, ◌++◌, length, cond, Option, None, Some, IfSome, Result, Ok, Err, ◌⊎◌, ⊤, encode_utf8_all}
+use Rattle.std.specs.Prelude.{◌≡◌, ℕ, suc, ◌==◌, List, [], ◌∷◌, ◌++◌, length, cond, Option, None, Some, IfSome, Result, Ok, Err, ◌⊎◌, ⊤}
+use Rattle.std.specs.Prelude.{encode_utf8_all}
 use Rattle.std.specs.Io.KnownBytes.{Appends, Keeps}
 use Rattle.std.specs.Str.{IsUtf8, chars}
 use Rattle.std.specs.declared.io.Error.{Error}

@@ -39,7 +39,8 @@ impl RunFault {
 
 /// The fault of a text that the parser refused.
 pub(crate) fn refusal(error: JsonParseError) -> RunFault
-    ensures { IsMemoryOr (error_kind error ≡ JsonParseErrorKind.OutOfMemory) (RunFault.Refused error) result }
+    ensures { IsMemoryOr (error_kind error ≡ JsonParseErrorKind.OutOfMemory)
+        (RunFault.Refused error) result }
 {
     if error.kind() == JsonParseErrorKind::OutOfMemory {
         return RunFault::OutOfMemory;

@@ -27,7 +27,8 @@ pub fn options(words: &[String]) -> Option<Options>
 
 /// Whether the word is this one.
 fn is_word(word: &String, expected: &str) -> bool
-    ensures { MatchBool result (string_bytes word.now ≡ expected.now) (string_bytes word.now ≢ expected.now) }
+    ensures { MatchBool result (string_bytes word.now ≡ expected.now)
+        (string_bytes word.now ≢ expected.now) }
 {
     word.as_str() == expected
 }

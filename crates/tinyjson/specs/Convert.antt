@@ -16,7 +16,9 @@ expected_kind e = e.expected
 
 -- the part that a value of that kind has, or a refusal that holds the whole value, where it has none
 abbrev pub GivesPart : {A : Type 0} → (JsonValue → Option A) → JsonKind → JsonValue → Result A UnexpectedValue → Type 0
-GivesPart part kind v r = MatchResult r (λ x. part v ≡ Some x) (λ e. (part v ≡ None) × ((unexpected_value e ≡ v) × (expected_kind e ≡ kind)))
+GivesPart part kind v r = MatchResult r (λ x. part v ≡ Some x)
+    (λ e. (part v ≡ None) × ((unexpected_value e ≡ v) × (expected_kind e ≡ kind)))
 
 abbrev pub unexpected_words : UnexpectedValue → List ℕ
-unexpected_words e = codes "Unexpected JSON value: " ++ kind_name (kind_of (view (unexpected_value e))) ++ codes ". Expected " ++ kind_name (expected_kind e) ++ codes " value"
+unexpected_words e = codes "Unexpected JSON value: " ++ kind_name (kind_of (view (unexpected_value e)))
+    ++ codes ". Expected " ++ kind_name (expected_kind e) ++ codes " value"

@@ -33,4 +33,5 @@ capped n = min n 18446744073709551615
 
 -- the position behind xs, from the position p on
 unfoldable pub advance : Position → List ℕ → Position
-advance p xs = position_at (capped (p.line + line_feeds xs)) (capped (cond (line_feeds xs == 0) (p.column + length xs) (after_line_feed xs)))
+advance p xs = position_at (capped (p.line + line_feeds xs))
+    (capped (cond (line_feeds xs == 0) (p.column + length xs) (after_line_feed xs)))

@@ -1,7 +1,8 @@
 -- What can still become a text (a viable prefix), and what has no fault so far.
 use Rattle.std.specs.Prelude.{◌≡◌, ℕ, ◌+◌, max, false, List, [], ◌∷◌, ◌++◌, Option, ⊤, ◌⊎◌, IsTrue}
 use Rattle.tinyjson.specs.Characters.{paired}
-use Rattle.tinyjson.specs.Syntax.{Syntax, text, AreWhite, IsSpelled, IsStrict, is_key, Piece, pieces_text, ArePieces, piece_codes, depth, IsWithin}
+use Rattle.tinyjson.specs.Syntax.{Syntax, text, AreWhite, IsSpelled, IsStrict, is_key, Piece, pieces_text, ArePieces, piece_codes, depth}
+use Rattle.tinyjson.specs.Syntax.{IsWithin}
 use Rattle.tinyjson.specs.Grammar.{IsLoose, IsAccepted}
 
 -- A viable prefix: some list, perhaps the empty one, completes it.

@@ -1,14 +1,22 @@
 -- What a refusal says of the characters (`says`), and where it comes.
-use Rattle.std.specs.Prelude.{◌≡◌, ℕ, ◌<◌, ◌≤◌, List, [], ◌∷◌, ◌++◌, Option, None, IsSome, ⊤, ◌⊎◌, IsTrue, length, take, slice_index, false, Bool, ◌||◌, ◌==◌, codes}
+use Rattle.std.specs.Prelude.{◌≡◌, ℕ, ◌<◌, ◌≤◌, List, [], ◌∷◌, ◌++◌, Option, None, IsSome, ⊤, ◌⊎◌, IsTrue, length, take, slice_index}
+use Rattle.std.specs.Prelude.{false, Bool, ◌||◌, ◌==◌, codes}
 use Rattle.std.specs.Char.{is_ascii_digit}
 use Rattle.tinyjson.specs.Characters.{is_white, is_hex, short_escape, paired}
-use Rattle.tinyjson_number.specs.Numeral.{is_sign, is_exponent_letter, Numeral, IsNumeral, spelling, value, in_range, has_leading_zero, AreDigits, minus_text, fraction_text}
-use Rattle.tinyjson.specs.Syntax.{Syntax, null, boolean, number, string, empty_array, array, empty_object, object, text, AreWhite, IsSpelled, IsStrict, is_key, Piece, unit, pieces_text, piece_codes, IsPiece, ArePieces, tree_of}
+use Rattle.tinyjson_number.specs.Numeral.{is_sign, is_exponent_letter, Numeral, IsNumeral, spelling, value, in_range, has_leading_zero}
+use Rattle.tinyjson_number.specs.Numeral.{AreDigits, minus_text, fraction_text}
+use Rattle.tinyjson.specs.Syntax.{Syntax, null, boolean, number, string, empty_array, array, empty_object, object, text, AreWhite}
+use Rattle.tinyjson.specs.Syntax.{IsSpelled, IsStrict, is_key, Piece, unit, pieces_text, piece_codes, IsPiece, ArePieces, tree_of}
 use Rattle.tinyjson.specs.Kind.{kind_of}
 use Rattle.tinyjson.specs.Grammar.{IsAccepted}
 use Rattle.tinyjson.specs.Prefix.{IsViable, IsFaultless, IsLooselyViable}
 use Rattle.tinyjson.specs.declared.parser.error.JsonParseErrorKind.{JsonParseErrorKind}
-use Rattle.tinyjson.specs.declared.parser.error.JsonParseErrorKind.TheVariants.{UnexpectedEof, InvalidCharacter, ExpectedEof, KeyNotString, ExpectedColon, ExpectedCommaOrBrace, ExpectedCommaOrBracket, InvalidUtf16, InvalidHexDigit, InvalidEscape, ControlCharacter, UnexpectedInLiteral, EmptyInteger, LeadingZero, EmptyFraction, EmptyExponent, NumberOutOfRange, OutOfMemory, TooDeep}
+use Rattle.tinyjson.specs.declared.parser.error.JsonParseErrorKind.TheVariants.{UnexpectedEof, InvalidCharacter, ExpectedEof}
+use Rattle.tinyjson.specs.declared.parser.error.JsonParseErrorKind.TheVariants.{KeyNotString, ExpectedColon, ExpectedCommaOrBrace}
+use Rattle.tinyjson.specs.declared.parser.error.JsonParseErrorKind.TheVariants.{ExpectedCommaOrBracket, InvalidUtf16, InvalidHexDigit}
+use Rattle.tinyjson.specs.declared.parser.error.JsonParseErrorKind.TheVariants.{InvalidEscape, ControlCharacter, UnexpectedInLiteral}
+use Rattle.tinyjson.specs.declared.parser.error.JsonParseErrorKind.TheVariants.{EmptyInteger, LeadingZero, EmptyFraction, EmptyExponent}
+use Rattle.tinyjson.specs.declared.parser.error.JsonParseErrorKind.TheVariants.{NumberOutOfRange, OutOfMemory, TooDeep}
 use Rattle.tinyjson.specs.declared.value.JsonKind.{JsonKind}
 
 -- what is left begins with no such character, or nothing is left

@@ -1,5 +1,6 @@
 -- A value as it is spelled, by the loose grammar.
-use Rattle.std.specs.Prelude.{ℕ, ◌+◌, max, ◌≤◌, Bool, true, false, ◌||◌, ◌==◌, not, List, [], ◌∷◌, ◌++◌, Option, Some, None, unwrap_or, ⊤, IsTrue, IsSome, codes}
+use Rattle.std.specs.Prelude.{ℕ, ◌+◌, max, ◌≤◌, Bool, true, false, ◌||◌, ◌==◌, not, List, [], ◌∷◌, ◌++◌, Option, Some, None, unwrap_or, ⊤}
+use Rattle.std.specs.Prelude.{IsTrue, IsSome, codes}
 use Rattle.std.specs.Char.{IsScalar}
 use Rattle.tinyjson_number.specs.Numeral.{power_width, Numeral, IsNumeral, has_leading_zero, spelling, value, fits_in}
 use Rattle.std.specs.Int.{Width}

@@ -1,5 +1,6 @@
 -- The text of a tree, without white space or with indents.
-use Rattle.std.specs.Prelude.{◌≡◌, ◌<◌, ◌⊎◌, ℕ, zero, suc, Option, None, Some, ◌+◌, ◌/◌, ◌%◌, ◌==◌, nat_lt, List, [], ◌∷◌, ◌++◌, Bool, true, false, cond, codes}
+use Rattle.std.specs.Prelude.{◌≡◌, ◌<◌, ◌⊎◌, ℕ, zero, suc, Option, None, Some, ◌+◌, ◌/◌, ◌%◌, ◌==◌, nat_lt, List, [], ◌∷◌, ◌++◌, Bool}
+use Rattle.std.specs.Prelude.{true, false, cond, codes}
 use Rattle.std.specs.Char.{digit_char}
 use Rattle.tinyjson.specs.Tree.{Tree, Items, Members, null, boolean, number, string, array, object, no_items, item, no_members, member}
 use Rattle.tinyjson_number.specs.Text.{decimal_text}
@@ -79,7 +80,8 @@ abbrev mutual
 
   pub members_text : Option (List ℕ) → ℕ → Bool → Members → List ℕ
   members_text w k first no_members = []
-  members_text w k first (member key t ms) = before w k first ++ ((quoted key ++ (58 ∷ (after_colon w ++ text w k t))) ++ members_text w k false ms)
+  members_text w k first (member key t ms) = before w k first
+      ++ ((quoted key ++ (58 ∷ (after_colon w ++ text w k t))) ++ members_text w k false ms)
 
 abbrev pub compact : Tree → List ℕ
 compact t = text None 0 t

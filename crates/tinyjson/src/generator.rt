@@ -96,7 +96,8 @@ impl<'indent, W: Write> JsonGenerator<'indent, W> {
     /// assert_eq!(rt; generator.into_inner().as_slice(), b"nulltrue".as_slice());
     /// ```
     pub fn generate(&mut self, value: &JsonValue) -> io::Result<()>
-        ensures written { WritesText (W.contents (generator_out self.old)) (W.contents (generator_out self.new))
+        ensures written { WritesText (W.contents (generator_out self.old))
+            (W.contents (generator_out self.new))
             (text (generator_indent self.old) 0 (view value.now)) result }
         ensures same { generator_indent self.new ≡ generator_indent self.old }
     {
@@ -169,7 +170,8 @@ impl JsonValue {
     /// assert_eq!(rt; value.format(alloc)?.as_str(), "[\n  15,\n  null\n]");
     /// ```
     pub fn format(&self, alloc: Global) -> JsonGenerateResult
-        ensures { IfOk result (λ s. chars (string_bytes s) ≡ indented (view self.now) (codes "  ") 0) }
+        ensures { IfOk result (λ s. chars (string_bytes s) ≡ indented (view self.now)
+            (codes "  ") 0) }
     {
         format(alloc, self)
     }
@@ -182,7 +184,8 @@ impl JsonValue {
     /// assert_eq!(rt; bytes.as_slice(), b"true".as_slice());
     /// ```
     pub fn write_to<W: Write>(&self, alloc: Global, w: &mut W) -> io::Result<()>
-        ensures { WritesText (W.contents w.old) (W.contents w.new) (compact (view self.now)) result }
+        ensures { WritesText (W.contents w.old) (W.contents w.new)
+            (compact (view self.now)) result }
     {
         let plain = Encoder {
             alloc,
@@ -200,7 +203,8 @@ impl JsonValue {
     /// assert_eq!(rt; bytes.as_slice(), b"[\n  true\n]".as_slice());
     /// ```
     pub fn format_to<W: Write>(&self, alloc: Global, w: &mut W) -> io::Result<()>
-        ensures { WritesText (W.contents w.old) (W.contents w.new) (indented (view self.now) (codes "  ") 0) result }
+        ensures { WritesText (W.contents w.old) (W.contents w.new)
+            (indented (view self.now) (codes "  ") 0) result }
     {
         let encoder = Encoder {
             alloc,

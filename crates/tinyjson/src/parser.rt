@@ -81,7 +81,8 @@ impl<I: Iterator<Item = char>> JsonParser<I> {
     pub fn new(alloc: Global, it: I) -> Self
         requires can { I.can_next it }
         requires finite { IsFinite (I.remaining it) }
-        ensures remains { (xs : List ℕ) → Provides I.next_gives it xs → Remains I.next_gives result xs }
+        ensures remains { (xs : List ℕ) → Provides I.next_gives it xs →
+            Remains I.next_gives result xs }
         ensures position { result.position ≡ origin }
         ensures limit { result.limit ≡ None }
     {
@@ -103,7 +104,8 @@ impl<I: Iterator<Item = char>> JsonParser<I> {
     pub fn with_depth_limit(alloc: Global, it: I, limit: usize) -> Self
         requires can { I.can_next it }
         requires finite { IsFinite (I.remaining it) }
-        ensures remains { (xs : List ℕ) → Provides I.next_gives it xs → Remains I.next_gives result xs }
+        ensures remains { (xs : List ℕ) → Provides I.next_gives it xs →
+            Remains I.next_gives result xs }
         ensures position { result.position ≡ origin }
         ensures limit { result.limit ≡ Some limit }
     {
@@ -126,7 +128,8 @@ impl<I: Iterator<Item = char>> JsonParser<I> {
     /// assert!(rt; parser.parse().is_ok_and(|value| value.is_number()));
     /// ```
     pub fn parse(&mut self) -> JsonParseResult
-        ensures parses { (xs : List ℕ) → Remains I.next_gives self.old xs → Parses I.next_gives self.old xs result self.new }
+        ensures parses { (xs : List ℕ) → Remains I.next_gives self.old xs →
+            Parses I.next_gives self.old xs result self.new }
         ensures limit { self.new.limit ≡ self.old.limit }
     {
         self.reader.text(self.limit)

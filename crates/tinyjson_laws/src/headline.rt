@@ -39,7 +39,8 @@ pub fn parsed_within<I: Iterator<Item = char> + Drop>(
 ) -> JsonParseResult
     requires can { I.can_next it }
     requires finite { IsFinite (I.remaining it) }
-    ensures grammar { (xs : List ℕ) → Provides I.next_gives it xs → FollowsGrammar (Some limit) xs result }
+    ensures grammar { (xs : List ℕ) → Provides I.next_gives it xs →
+        FollowsGrammar (Some limit) xs result }
     ensures timely { (xs : List ℕ) → Provides I.next_gives it xs → IsTimely (Some limit) xs result }
 {
     JsonParser::with_depth_limit(alloc, it, limit).parse()

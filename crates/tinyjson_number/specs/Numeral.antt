@@ -1,5 +1,6 @@
 -- A number as it is spelled (RFC 8259, section 6).
-use Rattle.std.specs.Prelude.{ℕ, ◌<◌, Bool, false, cond, ◌||◌, ◌==◌, List, [], ◌∷◌, ◌++◌, Option, Some, None, IfSome, ℤ, pos, ⊤, IsTrue, length, ◌&&◌}
+use Rattle.std.specs.Prelude.{ℕ, ◌<◌, Bool, false, cond, ◌||◌, ◌==◌, List, [], ◌∷◌, ◌++◌, Option, Some, None, IfSome, ℤ, pos, ⊤, IsTrue}
+use Rattle.std.specs.Prelude.{length, ◌&&◌}
 use Rattle.std.specs.Char.{is_ascii_digit}
 use Rattle.tinyjson_number.specs.Decimal.{Decimal, decimal_of, significant, trailing_zeros}
 use Rattle.std.specs.Str.Parse.{digits_value}

@@ -43,7 +43,8 @@ impl InnerAsRefMut for NullMark {
 /// assert!(rt; value == JsonValue::Boolean(true));
 /// ```
 pub fn swap_in<T: InnerAsRefMut>(v: &mut JsonValue, x: T) -> Result<T, T>
-    ensures seen { (old : T) → T.part v.old ≡ Some old → (result ≡ Ok old) × (v.new ≡ T.put v.old x) }
+    ensures seen { (old : T) → T.part v.old ≡ Some old →
+        (result ≡ Ok old) × (v.new ≡ T.put v.old x) }
     ensures unseen { T.part v.old ≡ None → (result ≡ Err x) × (v.new ≡ v.old) }
 {
     match v.get_mut::<T>() {

@@ -3,11 +3,13 @@ use Rattle.std.specs.Prelude.{◌≡◌, Bool, Some, Vec, String}
 use Rattle.std.proofs.Common.{ap, sym, ◌∙◌}
 use Rattle.std.specs.declared.alloc.Global.{Global}
 use Rattle.tinyjson_number.specs.declared.number.JsonNumber.{JsonNumber}
-use Rattle.tinyjson.specs.Access.{JsonMap, number_in, boolean_in, string_in, array_in, object_in, number_part, boolean_part, string_part, array_part, object_part}
+use Rattle.tinyjson.specs.Access.{JsonMap, number_in, boolean_in, string_in, array_in, object_in, number_part, boolean_part, string_part}
+use Rattle.tinyjson.specs.Access.{array_part, object_part}
 use Rattle.tinyjson.specs.declared.value.JsonValue as made
 use Rattle.tinyjson.specs.declared.value.JsonValue.{JsonValue, JsonValue-F, out-JsonValue, roll-JsonValue, roll-out-JsonValue}
 use Rattle.tinyjson.specs.declared.value.JsonValue.TheOpen.{Number, Boolean, String as Text, Array, Object}
-use Rattle.tinyjson.specs.declared.value.JsonValue.TheVariants.{outs-Number, outs-Boolean, outs-String, outs-Array, outs-Object, rolls-Number, rolls-Boolean, rolls-String, rolls-Array, rolls-Object}
+use Rattle.tinyjson.specs.declared.value.JsonValue.TheVariants.{outs-Number, outs-Boolean, outs-String, outs-Array, outs-Object}
+use Rattle.tinyjson.specs.declared.value.JsonValue.TheVariants.{rolls-Number, rolls-Boolean, rolls-String, rolls-Array, rolls-Object}
 
 pub number_of_put : (x : JsonNumber) → number_part (made.Number x) ≡ Some x
 number_of_put x = ap number_in (outs-Number x)

@@ -1,4 +1,5 @@
--- The parser as a machine over characters, for private contracts. `strict` refuses what the grammar refuses; otherwise the four conditions are off.
+-- The parser as a machine over characters, for private contracts. `strict` refuses what the grammar refuses;
+-- otherwise the four conditions are off.
 use Rattle.std.specs.Prelude.{ℕ, Bool, true, false, cond, ◌||◌, ◌&&◌, ◌==◌, not, List, [], ◌∷◌, ◌++◌, Option, Some, None, length, nat_lt}
 use Rattle.std.specs.Char.{is_ascii_digit}
 use Rattle.tinyjson_number.specs.Numeral.{is_exponent_letter, Numeral, Exponent, has_leading_zero, value, in_range}
@@ -6,7 +7,12 @@ use Rattle.tinyjson.specs.Tree.{Tree, null, boolean, number, string, array, obje
 use Rattle.tinyjson.specs.Characters.{is_white, is_hex, short_escape, unit_of, decode, paired}
 use Rattle.tinyjson.specs.Kind.{kind_of}
 use Rattle.tinyjson.specs.declared.parser.error.JsonParseErrorKind.{JsonParseErrorKind}
-use Rattle.tinyjson.specs.declared.parser.error.JsonParseErrorKind.TheVariants.{UnexpectedEof, InvalidCharacter, ExpectedEof, KeyNotString, ExpectedColon, ExpectedCommaOrBrace, ExpectedCommaOrBracket, InvalidUtf16, InvalidHexDigit, InvalidEscape, ControlCharacter, UnexpectedInLiteral, EmptyInteger, LeadingZero, EmptyFraction, EmptyExponent, NumberOutOfRange, TooDeep}
+use Rattle.tinyjson.specs.declared.parser.error.JsonParseErrorKind.TheVariants.{UnexpectedEof, InvalidCharacter, ExpectedEof}
+use Rattle.tinyjson.specs.declared.parser.error.JsonParseErrorKind.TheVariants.{KeyNotString, ExpectedColon, ExpectedCommaOrBrace}
+use Rattle.tinyjson.specs.declared.parser.error.JsonParseErrorKind.TheVariants.{ExpectedCommaOrBracket, InvalidUtf16, InvalidHexDigit}
+use Rattle.tinyjson.specs.declared.parser.error.JsonParseErrorKind.TheVariants.{InvalidEscape, ControlCharacter, UnexpectedInLiteral}
+use Rattle.tinyjson.specs.declared.parser.error.JsonParseErrorKind.TheVariants.{EmptyInteger, LeadingZero, EmptyFraction, EmptyExponent}
+use Rattle.tinyjson.specs.declared.parser.error.JsonParseErrorKind.TheVariants.{NumberOutOfRange, TooDeep}
 
 -- the rules that the machine is run by
 pub record Rules : Type 0 where
@@ -66,7 +72,8 @@ fits (Some limit) n = nat_lt n limit
 
 -- where a value is whole
 abbrev pub complete_key : Bool → List Frame → Members → Tree → Bool → Next
-complete_key strict fs ms t taken = cond (strict && not (is_string t)) (stop (KeyNotString (kind_of t)) taken) (next (at_key ms ∷ fs) (colon (key_of t)))
+complete_key strict fs ms t taken = cond (strict && not (is_string t)) (stop (KeyNotString (kind_of t)) taken)
+    (next (at_key ms ∷ fs) (colon (key_of t)))
 
 abbrev pub complete : Bool → List Frame → Tree → Bool → Next
 complete strict [] t taken = next [] (finished t)
@@ -103,9 +110,11 @@ step_first r (at_value ms k ∷ fs) c = start r (at_value ms k ∷ fs) c
 abbrev pub step_after : Rules → List Frame → ℕ → Next
 step_after r [] c = stop (ExpectedEof c) true
 step_after r (in_array ts ∷ fs) c =
-    cond (c == 44) (next (in_array ts ∷ fs) awaited) (cond (c == 93) (complete r.strict fs (array (items_of ts)) true) (stop (ExpectedCommaOrBracket c) true))
+    cond (c == 44) (next (in_array ts ∷ fs) awaited)
+        (cond (c == 93) (complete r.strict fs (array (items_of ts)) true) (stop (ExpectedCommaOrBracket c) true))
 step_after r (at_key ms ∷ fs) c =
-    cond (c == 44) (next (at_key ms ∷ fs) awaited) (cond (c == 125) (complete r.strict fs (object ms) true) (stop (ExpectedCommaOrBrace c) true))
+    cond (c == 44) (next (at_key ms ∷ fs) awaited)
+        (cond (c == 125) (complete r.strict fs (object ms) true) (stop (ExpectedCommaOrBrace c) true))
 step_after r (at_value ms k ∷ fs) c = stop (ExpectedCommaOrBrace c) true
 
 abbrev pub step_colon : List Frame → List ℕ → ℕ → Next
@@ -137,7 +146,8 @@ step_quoted r fs plain cs us c =
 step_quoted r fs backslash cs us c = step_escape r fs cs us c (short_escape c)
 step_quoted r fs (hex ds) cs us c =
     cond (is_hex c)
-    (cond (nat_lt (length ds) 3) (next fs (quoted (hex (ds ++ c ∷ [])) cs us)) (next fs (quoted plain cs (us ++ unit_of 0 (ds ++ c ∷ []) ∷ []))))
+    (cond (nat_lt (length ds) 3) (next fs (quoted (hex (ds ++ c ∷ [])) cs us))
+        (next fs (quoted plain cs (us ++ unit_of 0 (ds ++ c ∷ []) ∷ []))))
     (stop (InvalidHexDigit c) true)
 
 -- ---- numbers
@@ -153,7 +163,8 @@ abbrev pub with_sign : Numeral → ℕ → Numeral
 with_sign n c = record n { exponent = Some (record (exponent_or n.exponent) { sign = Some c }) }
 
 abbrev pub with_exponent_digit : Numeral → ℕ → Numeral
-with_exponent_digit n c = record n { exponent = Some (record (exponent_or n.exponent) { digits = (exponent_or n.exponent).digits ++ c ∷ [] }) }
+with_exponent_digit n c = record n { exponent = Some
+    (record (exponent_or n.exponent) { digits = (exponent_or n.exponent).digits ++ c ∷ [] }) }
 
 -- the numeral is whole: the power is tested
 abbrev pub finish : Rules → List Frame → Numeral → Next
@@ -163,13 +174,16 @@ finish r fs n = cond (r.strict && not (in_range (value n))) (stop NumberOutOfRan
 abbrev pub after_whole : Rules → List Frame → Numeral → ℕ → Option Next
 after_whole r fs n c =
     cond (r.strict && has_leading_zero n.whole) (Some (stop LeadingZero false))
-    (cond (c == 46) (Some (next fs (digits point n))) (cond (is_exponent_letter c) (Some (next fs (digits letter (with_exponent n c)))) None))
+    (cond (c == 46) (Some (next fs (digits point n)))
+        (cond (is_exponent_letter c) (Some (next fs (digits letter (with_exponent n c)))) None))
 
 -- None where the numeral ends before c
 abbrev pub step_digits : Rules → List Frame → Stage → Numeral → ℕ → Option Next
 step_digits r fs minus n c = Some (cond (is_ascii_digit c) (next fs (digits whole (record n { whole = c ∷ [] }))) (stop EmptyInteger false))
-step_digits r fs whole n c = cond (is_ascii_digit c) (Some (next fs (digits whole (record n { whole = n.whole ++ c ∷ [] })))) (after_whole r fs n c)
-step_digits r fs point n c = Some (cond (is_ascii_digit c) (next fs (digits fraction (record n { fraction = c ∷ [] }))) (stop EmptyFraction false))
+step_digits r fs whole n c = cond (is_ascii_digit c)
+    (Some (next fs (digits whole (record n { whole = n.whole ++ c ∷ [] })))) (after_whole r fs n c)
+step_digits r fs point n c = Some (cond (is_ascii_digit c) (next fs (digits fraction (record n { fraction = c ∷ [] })))
+    (stop EmptyFraction false))
 step_digits r fs fraction n c =
     cond (is_ascii_digit c) (Some (next fs (digits fraction (record n { fraction = n.fraction ++ c ∷ [] }))))
     (cond (is_exponent_letter c) (Some (next fs (digits letter (with_exponent n c)))) None)

@@ -1,5 +1,6 @@
 -- The parts of a number, as the parser reads them. For private contracts.
-use Rattle.std.specs.Prelude.{◌≡◌, ℕ, ◌<◌, Bool, true, false, List, [], ◌∷◌, ◌++◌, Option, Some, Result, MatchResult, MatchBool, IfSome, length, ◌⊎◌, nat_eq}
+use Rattle.std.specs.Prelude.{◌≡◌, ℕ, ◌<◌, Bool, true, false, List, [], ◌∷◌, ◌++◌, Option, Some, Result, MatchResult, MatchBool, IfSome}
+use Rattle.std.specs.Prelude.{length, ◌⊎◌, nat_eq}
 use Rattle.std.specs.Char.{is_ascii_digit}
 use Rattle.std.specs.List.{AllByRecursion, list_any}
 use Rattle.tinyjson_number.specs.Numeral.{Numeral, Exponent}
@@ -34,7 +35,8 @@ LacksMemory sight e q = (e.kind ≡ OutOfMemory) × (error_position e ≡ sight.
 module _ {S : Type 0} (sight : Sight S) where
   -- The character was taken and added to a text, or there was no memory for it.
   abbrev pub Keeps : ℕ → S → List ℕ → Result (Unit {0}) JsonParseError → List ℕ → S → Type 0
-  Keeps c p old r new q = MatchResult r (λ _. Takes sight p (c ∷ []) q × (new ≡ old ++ c ∷ [])) (λ e. Takes sight p [] q × LacksMemory sight e q)
+  Keeps c p old r new q = MatchResult r (λ _. Takes sight p (c ∷ []) q × (new ≡ old ++ c ∷ []))
+      (λ e. Takes sight p [] q × LacksMemory sight e q)
 
   -- one of these characters came next
   pub record Accepted (cs : List ℕ) (p : S) (old new : List ℕ) (q : S) : Type 0 where
@@ -54,21 +56,29 @@ module _ {S : Type 0} (sight : Sight S) where
 
   -- The next character was taken and added to a text if it is one of these; or there was no memory for it.
   abbrev pub Accepts : List ℕ → S → List ℕ → Result Bool JsonParseError → List ℕ → S → Type 0
-  Accepts cs p old r new q = MatchResult r (λ b. MatchBool b (Accepted cs p old new q) (Declined cs p old new q)) (λ e. Takes sight p [] q × LacksMemory sight e q)
+  Accepts cs p old r new q = MatchResult r (λ b. MatchBool b (Accepted cs p old new q) (Declined cs p old new q))
+      (λ e. Takes sight p [] q × LacksMemory sight e q)
 
-  -- Digits were taken and added to a text, until no digit came. There was one at least, or the refusal is of that kind; or there was no memory.
-  pub record Digits (empty : JsonParseErrorKind) (p : S) (old : List ℕ) (r : Result (Unit {0}) JsonParseError) (new : List ℕ) (q : S) : Type 0 where
+  -- Digits were taken and added to a text, until no digit came. There was one at least, or the refusal is of
+  -- that kind; or there was no memory.
+  pub record Digits (empty : JsonParseErrorKind) (p : S) (old : List ℕ) (r : Result (Unit {0}) JsonParseError)
+      (new : List ℕ) (q : S) : Type 0 where
     pub ds : List ℕ
     pub digits : AllByRecursion (λ c. is_ascii_digit c ≡ true) ds
     pub takes : Takes sight p ds q
-    pub result : MatchResult r (λ _. (new ≡ old ++ ds) × (0 < length ds) × Ends sight q) (λ e. (error_position e ≡ sight.place q) × (((e.kind ≡ empty) × (ds ≡ []) × Ends sight q × Still sight p q) ⊎ (e.kind ≡ OutOfMemory)))
+    pub result : MatchResult r (λ _. (new ≡ old ++ ds) × (0 < length ds) × Ends sight q)
+        (λ e. (error_position e ≡ sight.place q)
+        × (((e.kind ≡ empty) × (ds ≡ []) × Ends sight q × Still sight p q) ⊎ (e.kind ≡ OutOfMemory)))
 
   -- A part of a number was read. The text now spells a numeral of that form, the machine came to it in that stage, and no digit comes next.
-  pub record Part {A : Type 0} (form : A → Numeral) (stage : Stage) (p : S) (before : List Frame → Next) (new : List ℕ) (q : S) : Type 0 where
+  pub record Part {A : Type 0} (form : A → Numeral) (stage : Stage) (p : S) (before : List Frame → Next) (new : List ℕ)
+      (q : S) : Type 0 where
     pub part : A
     pub spells : Spells (form part) new
     pub ends : Ends sight q
     pub leads : (limit : Option ℕ) (fs : List Frame) → Leads sight limit p (before fs) q (next fs (digits stage (form part)))
 
-  abbrev pub ReadsPart : {A : Type 0} → (A → Numeral) → Stage → S → (List Frame → Next) → Result (Unit {0}) JsonParseError → List ℕ → S → Type 0
-  ReadsPart form stage p before r new q = MatchResult r (λ _. Part form stage p before new q) (λ e. (limit : Option ℕ) (fs : List Frame) → Refuses sight limit p (before fs) e q)
+  abbrev pub ReadsPart : {A : Type 0} → (A → Numeral) → Stage → S → (List Frame → Next) →
+      Result (Unit {0}) JsonParseError → List ℕ → S → Type 0
+  ReadsPart form stage p before r new q = MatchResult r (λ _. Part form stage p before new q)
+      (λ e. (limit : Option ℕ) (fs : List Frame) → Refuses sight limit p (before fs) e q)

@@ -1,5 +1,6 @@
 -- What is still to be written, by the open containers. For private contracts.
-use Rattle.std.specs.Prelude.{◌≡◌, ℕ, ◌+◌, ◌-◌, ◌<◌, true, List, [], ◌∷◌, ◌++◌, Option, Result, MatchResult, MatchOption, length, take, drop, reverse, encode_utf8_all}
+use Rattle.std.specs.Prelude.{◌≡◌, ℕ, ◌+◌, ◌-◌, ◌<◌, true, List, [], ◌∷◌, ◌++◌, Option, Result, MatchResult, MatchOption, length, take}
+use Rattle.std.specs.Prelude.{drop, reverse, encode_utf8_all}
 use Rattle.std.specs.Borrow.{Bor}
 use Rattle.std.specs.Str.{chars}
 use Rattle.tinyjson.specs.Tree.{member, no_members}
@@ -36,7 +37,8 @@ module _ (w : Option (List ℕ)) where
   -- Its members are the first of those gathered.
   abbrev pub frame_text : ℕ → Frame → List Gathered → List ℕ
   frame_text k (Items rest first) gs = items_text w (k + 1) first (items_view rest.now) ++ (newline w k ++ 93 ∷ [])
-  frame_text k (Member key value) gs = members_text w (k + 1) true (member (chars key.now) (view value.now) no_members) ++ (newline w k ++ 125 ∷ [])
+  frame_text k (Member key value) gs = members_text w (k + 1) true (member (chars key.now) (view value.now) no_members)
+      ++ (newline w k ++ 125 ∷ [])
   frame_text k (Members left first) gs = members_text w (k + 1) first (sorted_view (take left gs)) ++ (newline w k ++ 125 ∷ [])
 
   -- what all open containers owe, the innermost first
@@ -45,7 +47,8 @@ module _ (w : Option (List ℕ)) where
   owed (f ∷ fs) gs = frame_text (length fs) f gs ++ owed fs (others f gs)
 
 -- a container is begun: its bracket and what stands before it are sent, and the frame is what it owes
-pub record Opened (w : Option (List ℕ)) (k : ℕ) (old new : Output) (bytes : List ℕ) (gs : List Gathered) (f : Frame) (hs : List Gathered) : Type 0 where
+pub record Opened (w : Option (List ℕ)) (k : ℕ) (old new : Output) (bytes : List ℕ) (gs : List Gathered) (f : Frame)
+    (hs : List Gathered) : Type 0 where
   pub written : Sent old new bytes (encode_utf8_all (frame_text w k f hs))
   pub outside : others f hs ≡ gs
   pub less : length (encode_utf8_all (frame_text w k f hs)) < length bytes
@@ -56,14 +59,20 @@ pub record Finished (old new : Output) (bytes : List ℕ) (gs hs : List Gathered
   pub outside : hs ≡ gs
 
 -- of the bytes all is sent but what the frame at the level k owes, where there is one; or, on an error, a prefix
-abbrev pub Begins : {E : Type 0} → Option (List ℕ) → ℕ → Output → Output → List ℕ → List Gathered → Result (Option Frame) E → List Gathered → Type 0
-Begins w k old new bytes gs result hs = MatchResult result (λ o. MatchOption o (Finished old new bytes gs hs) (λ f. Opened w k old new bytes gs f hs)) (λ _. SentPart old new bytes)
+abbrev pub Begins : {E : Type 0} → Option (List ℕ) → ℕ → Output → Output → List ℕ → List Gathered →
+    Result (Option Frame) E → List Gathered → Type 0
+Begins w k old new bytes gs result hs = MatchResult result
+    (λ o. MatchOption o (Finished old new bytes gs hs) (λ f. Opened w k old new bytes gs f hs))
+    (λ _. SentPart old new bytes)
 
 -- of what the frames owe all is sent but what the stack owes now, which is less
-pub record Advanced (w : Option (List ℕ)) (old new : Output) (fs : List Frame) (gs : List Gathered) (s : Stack) (hs : List Gathered) : Type 0 where
+pub record Advanced (w : Option (List ℕ)) (old new : Output) (fs : List Frame) (gs : List Gathered) (s : Stack)
+    (hs : List Gathered) : Type 0 where
   pub stack : IsStack s
   pub written : Sent old new (encode_utf8_all (owed w fs gs)) (encode_utf8_all (owed w (frames s) hs))
   pub less : length (encode_utf8_all (owed w (frames s) hs)) < length (encode_utf8_all (owed w fs gs))
 
-abbrev pub Advances : {T E : Type 0} → Option (List ℕ) → Output → Output → List Frame → List Gathered → Result T E → Stack → List Gathered → Type 0
-Advances w old new fs gs result s hs = MatchResult result (λ _. Advanced w old new fs gs s hs) (λ _. SentPart old new (encode_utf8_all (owed w fs gs)))
+abbrev pub Advances : {T E : Type 0} → Option (List ℕ) → Output → Output → List Frame → List Gathered → Result T E →
+    Stack → List Gathered → Type 0
+Advances w old new fs gs result s hs = MatchResult result (λ _. Advanced w old new fs gs s hs)
+    (λ _. SentPart old new (encode_utf8_all (owed w fs gs)))

@@ -1,5 +1,6 @@
 -- What a part of the parser did, in the words of the machine. For private contracts.
-use Rattle.std.specs.Prelude.{◌≡◌, ℕ, ◌≤◌, Bool, true, false, List, [], ◌∷◌, ◌++◌, map, reverse, length, Option, Some, None, Result, Ok, Err, IfErr, MatchResult, IfSome, String, cond, ◌⊎◌, ⊤}
+use Rattle.std.specs.Prelude.{◌≡◌, ℕ, ◌≤◌, Bool, true, false, List, [], ◌∷◌, ◌++◌, map, reverse, length, Option, Some, None, Result, Ok}
+use Rattle.std.specs.Prelude.{Err, IfErr, MatchResult, IfSome, String, cond, ◌⊎◌, ⊤}
 use Rattle.std.specs.Char.{is_ascii_digit}
 use Rattle.std.specs.List.{AllByRecursion}
 use Rattle.std.specs.declared.alloc.Global.{Global}
@@ -9,7 +10,8 @@ use Rattle.tinyjson.specs.Position.{Position, advance}
 use Rattle.tinyjson.specs.Error.{error_position}
 use Rattle.tinyjson.specs.Refusal.{MayGrow}
 use Rattle.tinyjson.specs.private.Source.{Sight, Takes}
-use Rattle.tinyjson.specs.private.Machine.{Frame, in_array, at_key, at_value, awaited, word, plain, quoted, Next, next, stop, Outcome, refused, complete, step, end, run, strictly}
+use Rattle.tinyjson.specs.private.Machine.{Frame, in_array, at_key, at_value, awaited, word, plain, quoted, Next, next, stop, Outcome}
+use Rattle.tinyjson.specs.private.Machine.{refused, complete, step, end, run, strictly}
 use Rattle.tinyjson.specs.declared.parser.containers.Open.{Open}
 use Rattle.tinyjson.specs.declared.parser.containers.Open.TheVariants as container
 use Rattle.tinyjson.specs.declared.parser.error.JsonParseError.{JsonParseError}

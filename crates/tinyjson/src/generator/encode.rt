@@ -60,7 +60,8 @@ impl Encoder<'_> {
     ) -> io::Result<()>
         ensures { SendsText
             (W.contents out.old, waiting room.old) (W.contents out.new, waiting room.new)
-            (owed (indent_of self.now.indent) (frame.entry ∷ []) (reverse gathered.entry.items)) result }
+            (owed (indent_of self.now.indent) (frame.entry ∷ []) (reverse gathered.entry.items))
+            result }
     {
         let mut gathered = gathered;
         let mut stack = Stack::new(self.alloc);
@@ -85,7 +86,8 @@ impl Encoder<'_> {
         requires level { level ≡ length (frames stack.old) + 1 }
         ensures { Advances (indent_of self.now.indent)
             (W.contents out.old, waiting room.old) (W.contents out.new, waiting room.new)
-            (frame.entry ∷ frames stack.old) (reverse gathered.old.items) result stack.new (reverse gathered.new.items) }
+            (frame.entry ∷ frames stack.old) (reverse gathered.old.items) result stack.new
+            (reverse gathered.new.items) }
     {
         match frame {
             Frame::Items { rest, first } => self.items(
@@ -114,7 +116,8 @@ impl Encoder<'_> {
         requires level { level ≡ length (frames stack.old) + 1 }
         ensures { Advances (indent_of self.now.indent)
             (W.contents out.old, waiting room.old) (W.contents out.new, waiting room.new)
-            (Member key.entry value.entry ∷ frames stack.old) (reverse gathered.old.items) result stack.new (reverse gathered.new.items) }
+            (Member key.entry value.entry ∷ frames stack.old) (reverse gathered.old.items) result
+            stack.new (reverse gathered.new.items) }
     {
         let begun = self.member(out, room, gathered, key, value, level, true)?;
         match begun {
@@ -143,7 +146,8 @@ impl Encoder<'_> {
         requires level { level ≡ length (frames stack.old) + 1 }
         ensures { Advances (indent_of self.now.indent)
             (W.contents out.old, waiting room.old) (W.contents out.new, waiting room.new)
-            (Items items.entry first ∷ frames stack.old) (reverse gathered.old.items) result stack.new (reverse gathered.new.items) }
+            (Items items.entry first ∷ frames stack.old) (reverse gathered.old.items) result
+            stack.new (reverse gathered.new.items) }
     {
         let mut rest = items;
         let mut first = first;
@@ -173,7 +177,8 @@ impl Encoder<'_> {
         requires level { level ≡ length (frames stack.old) + 1 }
         ensures { Advances (indent_of self.now.indent)
             (W.contents out.old, waiting room.old) (W.contents out.new, waiting room.new)
-            (Members left first ∷ frames stack.old) (reverse gathered.old.items) result stack.new (reverse gathered.new.items) }
+            (Members left first ∷ frames stack.old) (reverse gathered.old.items) result stack.new
+            (reverse gathered.new.items) }
     {
         let mut left = left;
         let mut first = first;
@@ -223,7 +228,8 @@ impl Encoder<'_> {
         ensures { Begins (indent_of self.now.indent) level
             (W.contents out.old, waiting room.old) (W.contents out.new, waiting room.new)
             (encode_utf8_all (before (indent_of self.now.indent) level first)
-            ++ encode_utf8_all (quoted (chars key.now) ++ (58 ∷ (after_colon (indent_of self.now.indent)
+            ++ encode_utf8_all (quoted (chars key.now)
+            ++ (58 ∷ (after_colon (indent_of self.now.indent)
             ++ text (indent_of self.now.indent) level (view value.now)))))
             (reverse gathered.old.items) result (reverse gathered.new.items) }
     {
@@ -247,7 +253,8 @@ impl Encoder<'_> {
         requires { 0 < level }
         ensures { Sends
             (W.contents out.old, waiting room.old) (W.contents out.new, waiting room.new)
-            (encode_utf8_all (newline (indent_of self.now.indent) (level - 1)) ++ bracket.now) result }
+            (encode_utf8_all (newline (indent_of self.now.indent) (level - 1)) ++ bracket.now)
+            result }
     {
         self.newline(out, room, level - 1)?;
         write_bytes(out, room, bracket)
@@ -308,7 +315,8 @@ fn begin<'a, W: Write>(
 ) -> io::Result<Option<Frame<'a>>>
     ensures { (w : Option (List ℕ)) (k : ℕ) → Begins w k
         (W.contents out.old, waiting room.old) (W.contents out.new, waiting room.new)
-        (encode_utf8_all (text w k (view value.now))) (reverse gathered.old.items) result (reverse gathered.new.items) }
+        (encode_utf8_all (text w k (view value.now))) (reverse gathered.old.items) result
+        (reverse gathered.new.items) }
 {
     if quick_value(room, value) {
         return Ok(None);
@@ -326,7 +334,8 @@ fn begin_slowly<'a, W: Write>(
 ) -> io::Result<Option<Frame<'a>>>
     ensures { (w : Option (List ℕ)) (k : ℕ) → Begins w k
         (W.contents out.old, waiting room.old) (W.contents out.new, waiting room.new)
-        (encode_utf8_all (text w k (view value.now))) (reverse gathered.old.items) result (reverse gathered.new.items) }
+        (encode_utf8_all (text w k (view value.now))) (reverse gathered.old.items) result
+        (reverse gathered.new.items) }
 {
     match value {
         JsonValue::Null => write_bytes(out, room, b"null")?,

@@ -65,7 +65,8 @@ impl<'a> Stack<'a> {
     pub(super) fn enter(&mut self, outer: Frame<'a>, inner: Frame<'a>) -> Result<(), AllocError>
         requires { IsStack self.old }
         ensures stack { OnOk result (IsStack self.new) }
-        ensures frames { OnOk result (frames self.new ≡ inner.entry ∷ outer.entry ∷ frames self.old) }
+        ensures frames { OnOk result (frames self.new ≡ inner.entry ∷ outer.entry
+            ∷ frames self.old) }
     {
         self.push(outer)?;
         self.push(inner)
@@ -76,7 +77,8 @@ impl<'a> Stack<'a> {
         requires { IsStack self.old }
         ensures stack { IsStack self.new }
         ensures frames { MatchOption result (frames self.old ≡ [])
-            (λ p. (frames self.old ≡ p.0 ∷ frames self.new) × (p.1 ≡ length (frames self.new) + 1)) }
+            (λ p. (frames self.old ≡ p.0 ∷ frames self.new)
+            × (p.1 ≡ length (frames self.new) + 1)) }
     {
         let depth = self.depth;
         let last = depth.checked_sub(1)?;

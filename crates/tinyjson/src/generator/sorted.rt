@@ -18,7 +18,8 @@ pub(super) fn gather_sorted<'a>(
     ensures members { OnOk result (sorted_view (take (length members.now.entries)
         (reverse gathered.new.items)) ≡ members_view members.now.entries) }
     ensures before { OnOk result
-        (drop (length members.now.entries) (reverse gathered.new.items) ≡ reverse gathered.old.items) }
+        (drop (length members.now.entries) (reverse gathered.new.items) ≡ reverse
+        gathered.old.items) }
 {
     let start = gathered.len();
     gather(gathered, members)?;
@@ -33,8 +34,10 @@ fn gather<'a>(
     members: &'a HashMap<String, JsonValue>,
 ) -> Result<(), AllocError>
     ensures items { OnOk result
-        (map now_pair (drop (length gathered.old.items) gathered.new.items) ≡ map bytes_pair members.now.entries) }
-    ensures before { OnOk result (take (length gathered.old.items) gathered.new.items ≡ gathered.old.items) }
+        (map now_pair (drop (length gathered.old.items) gathered.new.items) ≡ map bytes_pair
+        members.now.entries) }
+    ensures before { OnOk result (take (length gathered.old.items)
+        gathered.new.items ≡ gathered.old.items) }
     ensures unique { OnOk result (IsUnique string_eq members.now) }
 {
     gathered.reserve(members.len())?;
@@ -50,7 +53,8 @@ pub(super) fn next_member<'a>(
     left: usize,
 ) -> Option<(&'a str, &'a JsonValue)>
     ensures { MatchOption result
-        ((take left (reverse gathered.old.items) ≡ []) × (drop left (reverse gathered.old.items) ≡ reverse gathered.new.items))
+        ((take left (reverse gathered.old.items) ≡ [])
+        × (drop left (reverse gathered.old.items) ≡ reverse gathered.new.items))
         (λ m. (0 < left) × (reverse gathered.old.items ≡ m ∷ reverse gathered.new.items)) }
 {
     if left == 0 { None } else { gathered.pop() }

@@ -75,7 +75,8 @@ impl<S: Source> Reader<S> {
         stack: &mut Vec<Open>,
     ) -> Result<Option<JsonValue>, JsonParseError>
         requires { S.sight.shows self.old.source (Some 91) }
-        ensures reads { Reads S.sight limit self.old.source (next (frames stack.old.items) awaited) result (at (frames stack.new.items)) self.new.source }
+        ensures reads { Reads S.sight limit self.old.source (next (frames stack.old.items) awaited)
+            result (at (frames stack.new.items)) self.new.source }
         ensures left { OnOk result (S.left self.new.source < S.left self.old.source) }
         ensures same { IfOk result (λ v. IfSome v (λ _. stack.new.items ≡ stack.old.items)) }
     {
@@ -100,7 +101,8 @@ impl<S: Source> Reader<S> {
         stack: &mut Vec<Open>,
     ) -> Result<Option<JsonValue>, JsonParseError>
         requires { S.sight.shows self.old.source (Some 123) }
-        ensures reads { Reads S.sight limit self.old.source (next (frames stack.old.items) awaited) result (at (frames stack.new.items)) self.new.source }
+        ensures reads { Reads S.sight limit self.old.source (next (frames stack.old.items) awaited)
+            result (at (frames stack.new.items)) self.new.source }
         ensures left { OnOk result (S.left self.new.source < S.left self.old.source) }
         ensures same { IfOk result (λ v. IfSome v (λ _. stack.new.items ≡ stack.old.items)) }
     {
@@ -124,7 +126,10 @@ impl<S: Source> Reader<S> {
         stack: &mut Vec<Open>,
         container: Open,
     ) -> Result<Option<JsonValue>, JsonParseError>
-        ensures reads { (limit : Option ℕ) → Reads S.sight limit self.old.source (next (frame_view container ∷ frames stack.old.items) awaited) result (at (frames stack.new.items)) self.new.source }
+        ensures reads { (limit : Option ℕ) →
+            Reads S.sight limit self.old.source
+            (next (frame_view container ∷ frames stack.old.items) awaited) result
+            (at (frames stack.new.items)) self.new.source }
         ensures same { self.new.source ≡ self.old.source }
         ensures opened { IfOk result (λ v. IsNone v) }
     {
@@ -141,7 +146,10 @@ impl<S: Source> Reader<S> {
         mut items: Vec<JsonValue>,
         value: JsonValue,
     ) -> Result<Option<JsonValue>, JsonParseError>
-        ensures reads { (limit : Option ℕ) → Reads S.sight limit self.old.source (next (in_array (map view items.items ++ view value ∷ []) ∷ frames stack.old.items) after) result (at (frames stack.new.items)) self.new.source }
+        ensures reads { (limit : Option ℕ) →
+            Reads S.sight limit self.old.source
+            (next (in_array (map view items.items ++ view value ∷ []) ∷ frames stack.old.items)
+            after) result (at (frames stack.new.items)) self.new.source }
         ensures left { OnOk result (S.left self.new.source < S.left self.old.source) }
     {
         if let Err(refused) = items.push(value) {
@@ -167,7 +175,10 @@ impl<S: Source> Reader<S> {
         members: HashMap<String, JsonValue>,
         value: JsonValue,
     ) -> Result<Option<JsonValue>, JsonParseError>
-        ensures reads { (limit : Option ℕ) → Reads S.sight limit self.old.source (complete true (at_key (members_view members.entries) ∷ frames stack.old.items) (view value) true) result (at (frames stack.new.items)) self.new.source }
+        ensures reads { (limit : Option ℕ) →
+            Reads S.sight limit self.old.source
+            (complete true (at_key (members_view members.entries) ∷ frames stack.old.items)
+            (view value) true) result (at (frames stack.new.items)) self.new.source }
         ensures left { OnOk result (S.left self.new.source < S.left self.old.source) }
     {
         match value {
@@ -187,7 +198,10 @@ impl<S: Source> Reader<S> {
         members: HashMap<String, JsonValue>,
         key: String,
     ) -> Result<Option<JsonValue>, JsonParseError>
-        ensures reads { (limit : Option ℕ) → Reads S.sight limit self.old.source (next (at_key (members_view members.entries) ∷ frames stack.old.items) (colon (text key))) result (at (frames stack.new.items)) self.new.source }
+        ensures reads { (limit : Option ℕ) →
+            Reads S.sight limit self.old.source
+            (next (at_key (members_view members.entries) ∷ frames stack.old.items)
+            (colon (text key))) result (at (frames stack.new.items)) self.new.source }
         ensures left { OnOk result (S.left self.new.source < S.left self.old.source) }
     {
         self.source.skip_white();
@@ -209,7 +223,10 @@ impl<S: Source> Reader<S> {
         key: String,
         value: JsonValue,
     ) -> Result<Option<JsonValue>, JsonParseError>
-        ensures reads { (limit : Option ℕ) → Reads S.sight limit self.old.source (next (at_key (put (text key) (view value) (members_view members.entries)) ∷ frames stack.old.items) after) result (at (frames stack.new.items)) self.new.source }
+        ensures reads { (limit : Option ℕ) →
+            Reads S.sight limit self.old.source
+            (next (at_key (put (text key) (view value) (members_view members.entries)) ∷ frames
+            stack.old.items) after) result (at (frames stack.new.items)) self.new.source }
         ensures left { OnOk result (S.left self.new.source < S.left self.old.source) }
     {
         if insert_member(&mut members, key, value).is_err() {
@@ -234,7 +251,10 @@ impl<S: Source> Reader<S> {
         container: Open,
         value: JsonValue,
     ) -> Result<Option<JsonValue>, JsonParseError>
-        ensures reads { (limit : Option ℕ) → Reads S.sight limit self.old.source (complete true (frame_view container ∷ frames stack.old.items) (view value) true) result (at (frames stack.new.items)) self.new.source }
+        ensures reads { (limit : Option ℕ) →
+            Reads S.sight limit self.old.source
+            (complete true (frame_view container ∷ frames stack.old.items) (view value) true) result
+            (at (frames stack.new.items)) self.new.source }
         ensures left { OnOk result (S.left self.new.source < S.left self.old.source) }
     {
         match container {
@@ -250,7 +270,8 @@ impl<S: Source> Reader<S> {
         limit: Option<usize>,
         stack: &mut Vec<Open>,
     ) -> Result<Option<JsonValue>, JsonParseError>
-        ensures reads { Reads S.sight limit self.old.source (next (frames stack.old.items) awaited) result (at (frames stack.new.items)) self.new.source }
+        ensures reads { Reads S.sight limit self.old.source (next (frames stack.old.items) awaited)
+            result (at (frames stack.new.items)) self.new.source }
         ensures left { OnOk result (S.left self.new.source < S.left self.old.source) }
         ensures same { IfOk result (λ v. IfSome v (λ _. stack.new.items ≡ stack.old.items)) }
         ensures memory { GrowsFor S.sight self.old.source result }
@@ -285,7 +306,9 @@ impl<S: Source> Reader<S> {
 
     /// The end of the text.
     fn end(&mut self) -> Result<(), JsonParseError>
-        ensures reads { (limit : Option ℕ) (t : Tree) → Reads S.sight limit self.old.source (next [] (finished t)) result (λ _. next [] (finished t)) self.new.source }
+        ensures reads { (limit : Option ℕ) (t : Tree) →
+            Reads S.sight limit self.old.source (next [] (finished t)) result
+            (λ _. next [] (finished t)) self.new.source }
         ensures end { OnOk result (S.sight.shows self.new.source None) }
         ensures memory { NeedsNone result }
     {
@@ -298,7 +321,8 @@ impl<S: Source> Reader<S> {
 
     /// Reads a whole text. What a refusal gives up is freed by a loop.
     pub(super) fn text(&mut self, limit: Option<usize>) -> Result<JsonValue, JsonParseError>
-        ensures reads { Reads S.sight limit self.old.source (next [] awaited) result (λ v. next [] (finished (view v))) self.new.source }
+        ensures reads { Reads S.sight limit self.old.source (next [] awaited) result
+            (λ v. next [] (finished (view v))) self.new.source }
         ensures end { OnOk result (S.sight.shows self.new.source None) }
         ensures memory { IfErr result (λ e. e.kind ≡ OutOfMemory → Grows S.sight self.old.source) }
     {
@@ -318,7 +342,8 @@ impl<S: Source> Reader<S> {
         stack: &mut Vec<Open>,
     ) -> Result<JsonValue, JsonParseError>
         requires { stack.old.items ≡ [] }
-        ensures reads { Reads S.sight limit self.old.source (next [] awaited) result (λ v. next [] (finished (view v))) self.new.source }
+        ensures reads { Reads S.sight limit self.old.source (next [] awaited) result
+            (λ v. next [] (finished (view v))) self.new.source }
         ensures end { OnOk result (S.sight.shows self.new.source None) }
         ensures memory { IfErr result (λ e. e.kind ≡ OutOfMemory → Grows S.sight self.old.source) }
     {

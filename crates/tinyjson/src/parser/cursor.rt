@@ -45,7 +45,8 @@ impl<I: Iterator<Item = char>> Characters<I> {
     pub(super) fn new(it: I) -> Self
         requires can { I.can_next it }
         requires finite { IsFinite (I.remaining it) }
-        ensures gives { (xs : List ℕ) → Begins I.next_gives it xs → Gives I.next_gives result.cursor xs }
+        ensures gives { (xs : List ℕ) → Begins I.next_gives it xs →
+            Gives I.next_gives result.cursor xs }
         ensures start { place result.cursor ≡ origin }
     {
         Characters {

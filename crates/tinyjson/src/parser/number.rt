@@ -27,7 +27,8 @@ impl<S: Source> Reader<S> {
     /// Reads the number whose first character, a minus sign or a digit, comes next.
     pub(super) fn number(&mut self) -> Result<Option<JsonValue>, JsonParseError>
         requires { BeginsNumber S.sight self.old.source }
-        ensures reads { (limit : Option ℕ) (fs : List Frame) → Reads S.sight limit self.old.source (next fs awaited) result (at fs) self.new.source }
+        ensures reads { (limit : Option ℕ) (fs : List Frame) →
+            Reads S.sight limit self.old.source (next fs awaited) result (at fs) self.new.source }
         ensures left { OnOk result (S.left self.new.source < S.left self.old.source) }
     {
         self.literal.clear();
@@ -45,7 +46,9 @@ impl<S: Source> Reader<S> {
     fn integer(&mut self) -> Result<(), JsonParseError>
         requires begins { BeginsNumber S.sight self.old.source }
         requires empty { string_bytes self.old.literal ≡ [] }
-        ensures reads { ReadsPart S.sight (λ (x : Bool × List ℕ). numeral x.0 x.1 [] None) whole self.old.source (λ fs. next fs awaited) result (string_bytes self.new.literal) self.new.source }
+        ensures reads { ReadsPart S.sight (λ (x : Bool × List ℕ). numeral x.0 x.1 [] None) whole
+            self.old.source (λ fs. next fs awaited) result (string_bytes self.new.literal)
+            self.new.source }
         ensures left { OnOk result (S.left self.new.source < S.left self.old.source) }
     {
         self.accept(&['-'])?;
@@ -59,7 +62,11 @@ impl<S: Source> Reader<S> {
 
     /// Reads the point and the digits behind it, if there is a point.
     fn fraction(&mut self) -> Result<(), JsonParseError>
-        ensures reads { (b : Bool) (ds : List ℕ) → Spells (numeral b ds [] None) (string_bytes self.old.literal) → Ends S.sight self.old.source → ReadsPart S.sight (λ f. numeral b ds f None) fraction self.old.source (λ fs. next fs (digits whole (numeral b ds [] None))) result (string_bytes self.new.literal) self.new.source }
+        ensures reads { (b : Bool) (ds : List ℕ) →
+            Spells (numeral b ds [] None) (string_bytes self.old.literal) →
+            Ends S.sight self.old.source → ReadsPart S.sight (λ f. numeral b ds f None) fraction
+            self.old.source (λ fs. next fs (digits whole (numeral b ds [] None))) result
+            (string_bytes self.new.literal) self.new.source }
         ensures left { OnOk result (S.left self.new.source ≤ S.left self.old.source) }
     {
         if !self.accept(&['.'])? {
@@ -70,7 +77,11 @@ impl<S: Source> Reader<S> {
 
     /// Reads the letter, the sign and the digits of the exponent, if there is one.
     fn exponent(&mut self) -> Result<(), JsonParseError>
-        ensures reads { (b : Bool) (ds f : List ℕ) → Spells (numeral b ds f None) (string_bytes self.old.literal) → Ends S.sight self.old.source → ReadsPart S.sight (numeral b ds f) exponent self.old.source (λ fs. next fs (digits fraction (numeral b ds f None))) result (string_bytes self.new.literal) self.new.source }
+        ensures reads { (b : Bool) (ds f : List ℕ) →
+            Spells (numeral b ds f None) (string_bytes self.old.literal) →
+            Ends S.sight self.old.source → ReadsPart S.sight (numeral b ds f) exponent
+            self.old.source (λ fs. next fs (digits fraction (numeral b ds f None))) result
+            (string_bytes self.new.literal) self.new.source }
         ensures left { OnOk result (S.left self.new.source ≤ S.left self.old.source) }
     {
         if !self.accept(&['e', 'E'])? {
@@ -82,7 +93,8 @@ impl<S: Source> Reader<S> {
 
     /// Reads digits; the error is of this kind where there is none.
     fn digits(&mut self, empty: JsonParseErrorKind) -> Result<(), JsonParseError>
-        ensures reads { Digits S.sight empty self.old.source (string_bytes self.old.literal) result (string_bytes self.new.literal) self.new.source }
+        ensures reads { Digits S.sight empty self.old.source (string_bytes self.old.literal) result
+            (string_bytes self.new.literal) self.new.source }
         ensures left { OnOk result (S.left self.new.source < S.left self.old.source) }
     {
         match self.source.peek() {
@@ -94,7 +106,8 @@ impl<S: Source> Reader<S> {
 
     /// Reads the digits that are left.
     fn more_digits(&mut self) -> Result<(), JsonParseError>
-        ensures gathers { Gathers S.sight self.old.source (string_bytes self.old.literal) result (string_bytes self.new.literal) self.new.source }
+        ensures gathers { Gathers S.sight self.old.source (string_bytes self.old.literal) result
+            (string_bytes self.new.literal) self.new.source }
         ensures ends { OnOk result (Ends S.sight self.new.source) }
         ensures left { OnOk result (S.left self.new.source ≤ S.left self.old.source) }
     {
@@ -107,7 +120,8 @@ impl<S: Source> Reader<S> {
     /// Reads the next character if it is one of these, and says whether it is.
     fn accept(&mut self, any: &[char]) -> Result<bool, JsonParseError>
         requires { AllByRecursion (λ c. c < 128) any.now }
-        ensures accepts { Accepts S.sight any.now self.old.source (string_bytes self.old.literal) result (string_bytes self.new.literal) self.new.source }
+        ensures accepts { Accepts S.sight any.now self.old.source (string_bytes self.old.literal)
+            result (string_bytes self.new.literal) self.new.source }
         ensures left { OnOk result (S.left self.new.source ≤ S.left self.old.source) }
     {
         match self.source.peek() {
@@ -123,7 +137,8 @@ impl<S: Source> Reader<S> {
     fn keep(&mut self, c: char) -> Result<(), JsonParseError>
         requires shown { S.sight.shows self.old.source (Some c) }
         requires ascii { c < 128 }
-        ensures keeps { Keeps S.sight c self.old.source (string_bytes self.old.literal) result (string_bytes self.new.literal) self.new.source }
+        ensures keeps { Keeps S.sight c self.old.source (string_bytes self.old.literal) result
+            (string_bytes self.new.literal) self.new.source }
         ensures left { OnOk result (S.left self.new.source < S.left self.old.source) }
     {
         if self.literal.push(c).is_err() {

@@ -49,7 +49,9 @@ impl<S: Source> Reader<S> {
 
     /// Reads these letters.
     fn letters(&mut self, letters: &[char]) -> Result<(), JsonParseError>
-        ensures reads { (limit : Option ℕ) (fs : List Frame) (t : Tree) → Reads S.sight limit self.old.source (wanting fs letters.now t) result (λ _. complete true fs t true) self.new.source }
+        ensures reads { (limit : Option ℕ) (fs : List Frame) (t : Tree) →
+            Reads S.sight limit self.old.source (wanting fs letters.now t) result
+            (λ _. complete true fs t true) self.new.source }
         ensures memory { NeedsNone result }
         ensures left { S.left self.new.source ≤ S.left self.old.source }
     {
@@ -70,7 +72,9 @@ impl<S: Source> Reader<S> {
         letters: &[char],
         value: JsonValue,
     ) -> Result<Option<JsonValue>, JsonParseError>
-        ensures reads { (limit : Option ℕ) (fs : List Frame) → Reads S.sight limit self.old.source (wanting fs letters.now (view value)) result (at fs) self.new.source }
+        ensures reads { (limit : Option ℕ) (fs : List Frame) →
+            Reads S.sight limit self.old.source (wanting fs letters.now (view value)) result (at fs)
+            self.new.source }
         ensures memory { NeedsNone result }
         ensures whole { IfOk result (λ v. IsSome v) }
         ensures left { S.left self.new.source ≤ S.left self.old.source }

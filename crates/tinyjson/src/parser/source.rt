@@ -28,7 +28,9 @@ pub(super) trait Source: Drop {
 
     /// The next character, which is consumed.
     fn bump(&mut self) -> Option<char>
-        ensures takes { MatchOption result (Takes sight self.old [] self.new × sight.shows self.new None) (λ c. Takes sight self.old (c ∷ []) self.new) }
+        ensures takes { MatchOption result
+            (Takes sight self.old [] self.new × sight.shows self.new None)
+            (λ c. Takes sight self.old (c ∷ []) self.new) }
         ensures shown { (o : Option ℕ) → sight.shows self.old o → result ≡ o }
         ensures left { left self.new + option_len result ≤ left self.old };
 

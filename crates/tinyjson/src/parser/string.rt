@@ -15,7 +15,9 @@ use crate::value::JsonValue;
 impl<S: Source> Reader<S> {
     /// Behind the quote that opens a string.
     pub(super) fn string(&mut self) -> Result<Option<JsonValue>, JsonParseError>
-        ensures reads { (limit : Option ℕ) (fs : List Frame) → Reads S.sight limit self.old.source (next fs (quoted plain [] [])) result (at fs) self.new.source }
+        ensures reads { (limit : Option ℕ) (fs : List Frame) →
+            Reads S.sight limit self.old.source (next fs (quoted plain [] [])) result (at fs)
+            self.new.source }
         ensures left { S.left self.new.source ≤ S.left self.old.source }
     {
         let mut string = String::new(self.alloc);
@@ -46,7 +48,9 @@ impl<S: Source> Reader<S> {
 
     /// Reads a part of a string; `true` at the quote that closes it.
     fn piece(&mut self, string: &mut String, units: &mut Vec<u16>) -> Result<bool, JsonParseError>
-        ensures reads { (limit : Option ℕ) (fs : List Frame) → Reads S.sight limit self.old.source (within fs string.old units.old.items false) result (within fs string.new units.new.items) self.new.source }
+        ensures reads { (limit : Option ℕ) (fs : List Frame) →
+            Reads S.sight limit self.old.source (within fs string.old units.old.items false) result
+            (within fs string.new units.new.items) self.new.source }
         ensures left { S.left self.new.source ≤ S.left self.old.source }
         ensures some { OnOk result (S.left self.new.source < S.left self.old.source) }
     {
@@ -66,7 +70,10 @@ impl<S: Source> Reader<S> {
 
     /// Behind a backslash.
     fn escape(&mut self, string: &mut String, units: &mut Vec<u16>) -> Result<bool, JsonParseError>
-        ensures reads { (limit : Option ℕ) (fs : List Frame) → Reads S.sight limit self.old.source (next fs (quoted backslash (text string.old) units.old.items)) result (within fs string.new units.new.items) self.new.source }
+        ensures reads { (limit : Option ℕ) (fs : List Frame) →
+            Reads S.sight limit self.old.source
+            (next fs (quoted backslash (text string.old) units.old.items)) result
+            (within fs string.new units.new.items) self.new.source }
         ensures left { S.left self.new.source ≤ S.left self.old.source }
     {
         let Some(c) = self.source.bump() else {
@@ -81,7 +88,10 @@ impl<S: Source> Reader<S> {
 
     /// Reads the four digits of a unit.
     fn unit(&mut self, units: &mut Vec<u16>) -> Result<bool, JsonParseError>
-        ensures reads { (limit : Option ℕ) (fs : List Frame) (cs : List ℕ) → Reads S.sight limit self.old.source (next fs (quoted (hex []) cs units.old.items)) result (λ done. cond done (complete true fs (string cs) true) (next fs (quoted plain cs units.new.items))) self.new.source }
+        ensures reads { (limit : Option ℕ) (fs : List Frame) (cs : List ℕ) →
+            Reads S.sight limit self.old.source (next fs (quoted (hex []) cs units.old.items))
+            result (λ done. cond done (complete true fs (string cs) true)
+            (next fs (quoted plain cs units.new.items))) self.new.source }
         ensures left { S.left self.new.source ≤ S.left self.old.source }
     {
         let mut unit: u16 = 0;
@@ -102,7 +112,10 @@ impl<S: Source> Reader<S> {
 
     /// Adds the characters that the units spell.
     fn flush(&self, string: &mut String, units: &mut Vec<u16>) -> Result<(), JsonParseError>
-        ensures { MatchResult result (λ _. (paired units.old.items ≡ true) × (text string.new ≡ text string.old ++ decode units.old.items) × (units.new.items ≡ [])) (λ e. Fails e (paired units.old.items) (S.sight.place self.now.source)) }
+        ensures { MatchResult result (λ _. (paired units.old.items ≡ true)
+            × (text string.new ≡ text string.old ++ decode units.old.items)
+            × (units.new.items ≡ [])) (λ e. Fails e (paired units.old.items)
+            (S.sight.place self.now.source)) }
     {
         match decode(units, string) {
             Ok(true) => {
@@ -121,7 +134,10 @@ impl<S: Source> Reader<S> {
         units: &mut Vec<u16>,
         c: char,
     ) -> Result<bool, JsonParseError>
-        ensures { MatchResult result (λ done. (done ≡ false) × (paired units.old.items ≡ true) × (text string.new ≡ (text string.old ++ decode units.old.items) ++ c ∷ []) × (units.new.items ≡ [])) (λ e. Fails e (paired units.old.items) (S.sight.place self.now.source)) }
+        ensures { MatchResult result (λ done. (done ≡ false) × (paired units.old.items ≡ true)
+            × (text string.new ≡ (text string.old ++ decode units.old.items) ++ c ∷ [])
+            × (units.new.items ≡ [])) (λ e. Fails e (paired units.old.items)
+            (S.sight.place self.now.source)) }
     {
         self.flush(string, units)?;
         if push(string, c).is_err() {

@@ -36,7 +36,8 @@ pub(super) fn push(string: &mut String, c: char) -> Result<(), AllocError>
 /// Appends the characters that units spell; `false` where a surrogate has no partner.
 pub(super) fn decode(units: &[u16], string: &mut String) -> Result<bool, AllocError>
     ensures whole { IfOk result (λ whole. whole ≡ paired units.now) }
-    ensures text { IfOk result (λ whole. whole ≡ true → text string.new ≡ text string.old ++ decode units.now) }
+    ensures text { IfOk result (λ whole. whole ≡ true →
+        text string.new ≡ text string.old ++ decode units.now) }
 {
     let mut high: Option<u16> = None;
     for unit in units {

@@ -12,7 +12,8 @@ line_bound xs = lt_of_le_of_lt (min-le_right (1 + line_feeds xs) 184467440737095
 pub column_bound : (xs : List ℕ) → (advance origin xs).column < 18446744073709551616
 unfolding advance
 column_bound xs =
-    lt_of_le_of_lt (min-le_right (cond (line_feeds xs == 0) (0 + length xs) (after_line_feed xs)) 18446744073709551615) (lt-suc_self 18446744073709551615)
+    lt_of_le_of_lt (min-le_right (cond (line_feeds xs == 0) (0 + length xs) (after_line_feed xs)) 18446744073709551615)
+        (lt-suc_self 18446744073709551615)
 
 module _ (cs : List ℕ) where
   -- one thing is shown
