@@ -1,11 +1,10 @@
-//! Containers, and the loop over those that are open.
-ghost use Rattle.std.specs.Prelude.{◌≡◌, ◌<◌, ◌≤◌, [], ◌∷◌, ◌++◌, true, OnOk, IfOk, IfErr, IsNone, IfSome, Option, Some, ℕ, map};
+//! Arrays and objects (RFC 8259, sections 4 and 5), and those that are open.
+ghost use Rattle.std.specs.Prelude.{◌≡◌, ◌<◌, [], ◌∷◌, ◌++◌, true, OnOk, IfOk, IsNone, IfSome, Option, Some, ℕ, map};
 ghost use Rattle.tinyjson.specs.Error.{error_position};
-ghost use Rattle.tinyjson.specs.private.Machine.{in_array, at_key, colon, awaited, after, finished, next, complete, fits};
-ghost use Rattle.tinyjson.specs.private.Steps.{Grows, GrowsFor, NeedsNone, Reads, at, frames, frame_view};
-ghost use Rattle.tinyjson.specs.Tree.{Tree, array, object, no_members, put};
+ghost use Rattle.tinyjson.specs.private.Machine.{in_array, at_key, colon, awaited, after, next, complete, fits};
+ghost use Rattle.tinyjson.specs.private.Steps.{Reads, at, frames, frame_view};
+ghost use Rattle.tinyjson.specs.Tree.{array, object, put};
 ghost use Rattle.tinyjson.specs.View.{view, items_view, members_view, text};
-ghost use Rattle.tinyjson.specs.declared.parser.error.JsonParseErrorKind.TheVariants.{OutOfMemory};
 
 use super::error::{JsonParseError, JsonParseErrorKind};
 use super::reader::Reader;
@@ -23,7 +22,7 @@ pub(super) enum Open {
 
 impl Open {
     /// Frees what was read of the container, by a loop.
-    fn abandon(self) {
+    pub(super) fn abandon(self) {
         match self {
             Open::Array(items) => JsonValue::Array(items).dismantle(),
             Open::Object(members) => JsonValue::Object(members).dismantle(),
@@ -69,7 +68,7 @@ impl<S: Source> Reader<S> {
     }
 
     /// Opens the array whose bracket comes next, or reads it whole if it is empty.
-    fn array(
+    pub(super) fn array(
         &mut self,
         limit: Option<usize>,
         stack: &mut Vec<Open>,
@@ -95,7 +94,7 @@ impl<S: Source> Reader<S> {
     }
 
     /// Opens the object whose brace comes next, or reads it whole if it is empty.
-    fn object(
+    pub(super) fn object(
         &mut self,
         limit: Option<usize>,
         stack: &mut Vec<Open>,
@@ -245,7 +244,7 @@ impl<S: Source> Reader<S> {
     }
 
     /// Puts a value into the container that it stands in, and reads what follows.
-    fn put(
+    pub(super) fn put(
         &mut self,
         stack: &mut Vec<Open>,
         container: Open,
@@ -261,109 +260,6 @@ impl<S: Source> Reader<S> {
             Open::Array(items) => self.item(stack, items, value),
             Open::Object(members) => self.key(stack, members, value),
             Open::Member(members, key) => self.member(stack, members, key, value),
-        }
-    }
-
-    /// Reads white space and a value, or opens a container.
-    fn value(
-        &mut self,
-        limit: Option<usize>,
-        stack: &mut Vec<Open>,
-    ) -> Result<Option<JsonValue>, JsonParseError>
-        ensures reads { Reads S.sight limit self.old.source (next (frames stack.old.items) awaited)
-            result (at (frames stack.new.items)) self.new.source }
-        ensures left { OnOk result (S.left self.new.source < S.left self.old.source) }
-        ensures same { IfOk result (λ v. IfSome v (λ _. stack.new.items ≡ stack.old.items)) }
-        ensures memory { GrowsFor S.sight self.old.source result }
-    {
-        let Some(first) = self.source.skip_white() else {
-            return Err(self.refuse(JsonParseErrorKind::UnexpectedEof));
-        };
-        match first {
-            'n' => {
-                self.source.bump();
-                self.literal(&['u', 'l', 'l'], JsonValue::Null)
-            }
-            't' => {
-                self.source.bump();
-                self.literal(&['r', 'u', 'e'], JsonValue::Boolean(true))
-            }
-            'f' => {
-                self.source.bump();
-                self.literal(&['a', 'l', 's', 'e'], JsonValue::Boolean(false))
-            }
-            '"' => {
-                self.source.bump();
-                self.string()
-            }
-            '[' => self.array(limit, stack),
-            '{' => self.object(limit, stack),
-            '-' => self.number(),
-            c if c.is_ascii_digit() => self.number(),
-            c => Err(self.refuse(JsonParseErrorKind::InvalidCharacter(c))),
-        }
-    }
-
-    /// The end of the text.
-    fn end(&mut self) -> Result<(), JsonParseError>
-        ensures reads { (limit : Option ℕ) (t : Tree) →
-            Reads S.sight limit self.old.source (next [] (finished t)) result
-            (λ _. next [] (finished t)) self.new.source }
-        ensures end { OnOk result (S.sight.shows self.new.source None) }
-        ensures memory { NeedsNone result }
-    {
-        self.source.skip_white();
-        match self.source.bump() {
-            None => Ok(()),
-            Some(c) => Err(self.refuse(JsonParseErrorKind::ExpectedEof(c))),
-        }
-    }
-
-    /// Reads a whole text. What a refusal gives up is freed by a loop.
-    pub(super) fn text(&mut self, limit: Option<usize>) -> Result<JsonValue, JsonParseError>
-        ensures reads { Reads S.sight limit self.old.source (next [] awaited) result
-            (λ v. next [] (finished (view v))) self.new.source }
-        ensures end { OnOk result (S.sight.shows self.new.source None) }
-        ensures memory { IfErr result (λ e. e.kind ≡ OutOfMemory → Grows S.sight self.old.source) }
-    {
-        let mut stack = Vec::new(self.alloc);
-        let read = self.values(limit, &mut stack);
-        for container in stack {
-            container.abandon();
-        }
-        read
-    }
-
-    /// One turn for each value that is read or container that is opened. After a refusal the stack
-    /// holds those that are open.
-    fn values(
-        &mut self,
-        limit: Option<usize>,
-        stack: &mut Vec<Open>,
-    ) -> Result<JsonValue, JsonParseError>
-        requires { stack.old.items ≡ [] }
-        ensures reads { Reads S.sight limit self.old.source (next [] awaited) result
-            (λ v. next [] (finished (view v))) self.new.source }
-        ensures end { OnOk result (S.sight.shows self.new.source None) }
-        ensures memory { IfErr result (λ e. e.kind ≡ OutOfMemory → Grows S.sight self.old.source) }
-    {
-        let mut whole: Option<JsonValue> = None;
-        loop {
-            whole = match whole {
-                None => self.value(limit, stack)?,
-                Some(value) => match stack.pop() {
-                    Some(container) => self.put(stack, container, value)?,
-                    None => {
-                        return match self.end() {
-                            Ok(()) => Ok(value),
-                            Err(refusal) => {
-                                value.dismantle();
-                                Err(refusal)
-                            }
-                        };
-                    }
-                },
-            };
         }
     }
 }

@@ -1,6 +1,6 @@
 //! Strings (RFC 8259, section 7).
 ghost use Rattle.std.specs.Prelude.{◌≡◌, ℕ, ◌<◌, ◌≤◌, List, [], ◌∷◌, ◌++◌, true, false, MatchResult, OnOk, Option, cond};
-ghost use Rattle.tinyjson.specs.Characters.{paired, decode};
+ghost use Rattle.tinyjson.specs.Characters.{paired, decode, short_escape};
 ghost use Rattle.tinyjson.specs.private.Machine.{Frame, plain, backslash, hex, quoted, next, complete};
 ghost use Rattle.tinyjson.specs.private.Steps.{Reads, Fails, at, within};
 ghost use Rattle.tinyjson.specs.Tree.{string};
@@ -9,8 +9,23 @@ ghost use Rattle.tinyjson.specs.View.{text};
 use super::error::{JsonParseError, JsonParseErrorKind};
 use super::reader::Reader;
 use super::source::Source;
-use super::utf16::{decode, push, short_escape};
+use super::utf16::{decode, push};
 use crate::value::JsonValue;
+
+/// What the letter behind a backslash stands for.
+fn short_escape(c: char) -> Option<char>
+    ensures { result ≡ short_escape c }
+{
+    match c {
+        '"' | '\\' | '/' => Some(c),
+        'b' => Some('\x08'),
+        'f' => Some('\x0c'),
+        'n' => Some('\n'),
+        'r' => Some('\r'),
+        't' => Some('\t'),
+        _ => None,
+    }
+}
 
 impl<S: Source> Reader<S> {
     /// Behind the quote that opens a string.

@@ -1,7 +1,7 @@
 //! Characters from UTF-16 units.
-ghost use Rattle.std.specs.Prelude.{◌≡◌, ◌++◌, ◌∷◌, [], IfOk, true, Some};
+ghost use Rattle.std.specs.Prelude.{◌≡◌, ◌++◌, ◌∷◌, [], IfOk, true};
 ghost use Rattle.tinyjson.specs.View.{text};
-ghost use Rattle.tinyjson.specs.Characters.{is_high, is_low, pair_of, paired, decode, short_escape};
+ghost use Rattle.tinyjson.specs.Characters.{is_high, is_low, pair_of, paired, decode};
 
 use std::alloc::AllocError;
 
@@ -59,19 +59,4 @@ pub(super) fn decode(units: &[u16], string: &mut String) -> Result<bool, AllocEr
         }
     }
     Ok(high.is_none())
-}
-
-/// What the letter behind a backslash stands for.
-pub(super) fn short_escape(c: char) -> Option<char>
-    ensures { result ≡ short_escape c }
-{
-    match c {
-        '"' | '\\' | '/' => Some(c),
-        'b' => Some('\x08'),
-        'f' => Some('\x0c'),
-        'n' => Some('\n'),
-        'r' => Some('\r'),
-        't' => Some('\t'),
-        _ => None,
-    }
 }
