@@ -52,7 +52,7 @@ mutual
   members_eq-Decides no_members no_members = (λ h. refl, λ e. refl)
   members_eq-Decides (member k t ms) (member l u ns) =
       Decides-like _ (λ p. (λ i. member (p.0 i) (p.1.0 i) (p.1.1 i))) (λ e. (cc, (cc, cc)))
-          (Decides-and _ _ (bytes_eq-Decides k l) (Decides-and _ _ (tree_eq_decides t u) (members_eq-Decides ms ns)))
+      (Decides-and _ _ (bytes_eq-Decides k l) (Decides-and _ _ (tree_eq_decides t u) (members_eq-Decides ms ns)))
   members_eq-Decides _ _ = (λ h. absurd (true≢false (sym h)), λ e. cc)
 
 -- what `==` of two values answers: whether their trees are equal

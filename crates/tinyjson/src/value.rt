@@ -4,7 +4,6 @@ ghost use Rattle.tinyjson.specs.Access.{number_part, boolean_part, string_part, 
 ghost use Rattle.tinyjson.specs.Kind.{kind_of};
 ghost use Rattle.tinyjson.specs.View.{view};
 
-
 use crate::number::JsonNumber;
 use std::collections::HashMap;
 use std::fmt;

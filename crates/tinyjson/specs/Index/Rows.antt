@@ -22,4 +22,4 @@ object_row =
     map.the_row (text.the_row global.the_row ghosts) the_row (builder.the_row fold.the_row) global.the_row fold.the_row
     (eq.ghosts global.the_row ghosts eq.no_dict eq.no_dict) (hash.ghosts global.the_row ghosts hash.no_dict hash.no_dict)
     (build.ghosts fold.the_row hasher.ghosts build.no_dict
-        (record { is_clone = λ x y. y ≡ x; is_infallible = λ _. Unit {0} }) build.no_dict) hasher.ghosts ghosts
+    (record { is_clone = λ x y. y ≡ x; is_infallible = λ _. Unit {0} }) build.no_dict) hasher.ghosts ghosts

@@ -111,10 +111,10 @@ abbrev pub step_after : Rules → List Frame → ℕ → Next
 step_after r [] c = stop (ExpectedEof c) true
 step_after r (in_array ts ∷ fs) c =
     cond (c == 44) (next (in_array ts ∷ fs) awaited)
-        (cond (c == 93) (complete r.strict fs (array (items_of ts)) true) (stop (ExpectedCommaOrBracket c) true))
+    (cond (c == 93) (complete r.strict fs (array (items_of ts)) true) (stop (ExpectedCommaOrBracket c) true))
 step_after r (at_key ms ∷ fs) c =
     cond (c == 44) (next (at_key ms ∷ fs) awaited)
-        (cond (c == 125) (complete r.strict fs (object ms) true) (stop (ExpectedCommaOrBrace c) true))
+    (cond (c == 125) (complete r.strict fs (object ms) true) (stop (ExpectedCommaOrBrace c) true))
 step_after r (at_value ms k ∷ fs) c = stop (ExpectedCommaOrBrace c) true
 
 abbrev pub step_colon : List Frame → List ℕ → ℕ → Next
@@ -147,7 +147,7 @@ step_quoted r fs backslash cs us c = step_escape r fs cs us c (short_escape c)
 step_quoted r fs (hex ds) cs us c =
     cond (is_hex c)
     (cond (nat_lt (length ds) 3) (next fs (quoted (hex (ds ++ c ∷ [])) cs us))
-        (next fs (quoted plain cs (us ++ unit_of 0 (ds ++ c ∷ []) ∷ []))))
+    (next fs (quoted plain cs (us ++ unit_of 0 (ds ++ c ∷ []) ∷ []))))
     (stop (InvalidHexDigit c) true)
 
 -- ---- numbers
@@ -163,8 +163,10 @@ abbrev pub with_sign : Numeral → ℕ → Numeral
 with_sign n c = record n { exponent = Some (record (exponent_or n.exponent) { sign = Some c }) }
 
 abbrev pub with_exponent_digit : Numeral → ℕ → Numeral
-with_exponent_digit n c = record n { exponent = Some
-    (record (exponent_or n.exponent) { digits = (exponent_or n.exponent).digits ++ c ∷ [] }) }
+with_exponent_digit n c = record n {
+  exponent = Some
+      (record (exponent_or n.exponent) { digits = (exponent_or n.exponent).digits ++ c ∷ [] });
+}
 
 -- the numeral is whole: the power is tested
 abbrev pub finish : Rules → List Frame → Numeral → Next
@@ -175,7 +177,7 @@ abbrev pub after_whole : Rules → List Frame → Numeral → ℕ → Option Nex
 after_whole r fs n c =
     cond (r.strict && has_leading_zero n.whole) (Some (stop LeadingZero false))
     (cond (c == 46) (Some (next fs (digits point n)))
-        (cond (is_exponent_letter c) (Some (next fs (digits letter (with_exponent n c)))) None))
+    (cond (is_exponent_letter c) (Some (next fs (digits letter (with_exponent n c)))) None))
 
 -- None where the numeral ends before c
 abbrev pub step_digits : Rules → List Frame → Stage → Numeral → ℕ → Option Next

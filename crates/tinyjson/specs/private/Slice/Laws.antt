@@ -13,7 +13,7 @@ pub column_bound : (xs : List ℕ) → (advance origin xs).column < 184467440737
 unfolding advance
 column_bound xs =
     lt_of_le_of_lt (min-le_right (cond (line_feeds xs == 0) (0 + length xs) (after_line_feed xs)) 18446744073709551615)
-        (lt-suc_self 18446744073709551615)
+    (lt-suc_self 18446744073709551615)
 
 module _ (cs : List ℕ) where
   -- one thing is shown
