@@ -1,12 +1,14 @@
 -- Which settings a text has.
 use Rattle.std.specs.Prelude.{◌≡◌, ℕ, ◌<◌, Bool, false, List, Option, Some, None, Result, Ok, Err, MatchOption, ◌⊎◌, codes, pos}
+use Rattle.std.specs.declared.alloc.AllocError.{AllocError}
 use Rattle.tinyjson.specs.Error.{error_words}
 use Rattle.tinyjson.specs.Grammar.{IsText}
-use Rattle.tinyjson.specs.Index.{tree_at_key}
+use Rattle.tinyjson.specs.Index.{tree_at_key, with_tree_at_key}
 use Rattle.tinyjson.specs.Number.{integer_decimal}
 use Rattle.tinyjson.specs.Parser.{ParsesText}
 use Rattle.tinyjson.specs.Tree.{Tree, boolean, number, string, object, Members}
-use Rattle.tinyjson.specs.View.{text}
+use Rattle.tinyjson.specs.View.{view, text}
+use Rattle.tinyjson.specs.declared.value.JsonValue.{JsonValue}
 use Rattle.json_settings.specs.declared.settings.Key.{Key}
 use Rattle.json_settings.specs.declared.settings.Key.TheVariants.{Port, Host, Tls}
 use Rattle.json_settings.specs.declared.settings.Settings.{Settings}
@@ -64,3 +66,20 @@ error_text (Lacks Tls) = codes "tls is neither true nor false"
 -- the one thing of which P holds, as it is seen, or nothing where there is none
 abbrev pub GivesOnly : {S T : Type 0} → (S → Type 0) → (T → S) → Option T → Type 0
 GivesOnly {S} P seen result = MatchOption result ((x : S) → ¬ P x) (λ y. P (seen y))
+
+-- the tree with n in place of the port
+abbrev pub with_port : Tree → ℕ → Tree
+with_port t n = with_tree_at_key t (codes "port") (number (integer_decimal (pos n)))
+
+-- w is v with the port n, and what v had at `port` comes back; or w is v
+abbrev pub SetsPort : JsonValue → ℕ → Result (Option JsonValue) AllocError → JsonValue → Type 0
+SetsPort v n (Ok (Some old)) w =
+    (tree_at_key (view v) (codes "port") ≡ Some (view old)) × (view w ≡ with_port (view v) n)
+SetsPort v n (Ok None) w = (tree_at_key (view v) (codes "port") ≡ None) × (w ≡ v)
+SetsPort v n (Err e) w = w ≡ v
+
+-- where t has settings, u has the same but for the port, which is n; 0 is no port
+abbrev pub KeepsSettings : Tree → ℕ → Tree → Type 0
+KeepsSettings t n u =
+    (s : Settings) → HasSettings t s → 0 < n
+    → HasSettings u (record { port = n; host = s.host; tls = s.tls })

@@ -1,5 +1,5 @@
 //! The settings of a JSON text.
-ghost use Rattle.std.specs.Prelude.{option_map, Some};
+ghost use Rattle.std.specs.Prelude.{option_map, Some, IfOk};
 ghost use Rattle.std.specs.Str.{chars};
 ghost use Rattle.tinyjson.specs.View.{view, text};
 ghost use Rattle.json_settings.specs.Settings.{
@@ -9,10 +9,12 @@ ghost use Rattle.json_settings.specs.Settings.{
   IsHost,
   IsTls,
   GivesOnly,
+  SetsPort,
+  KeepsSettings,
   error_text,
 };
 
-use std::alloc::Global;
+use std::alloc::{AllocError, Global};
 use std::collections::HashMap;
 use std::error::Error;
 use std::fmt;
@@ -113,6 +115,32 @@ fn host(member: Option<JsonValue>) -> Option<String>
     }
 }
 
+/// Puts the port in the place of the member `port` of an object, and returns the old member.
+///
+/// `None` where the value is no object or has no such member. Then it stays as it is, and also where
+/// memory runs out. Settings that a value has, it still has, but for the port; 0 is no port.
+///
+/// ```
+/// let old = settings::set_port(alloc, &mut value, 8443)?;
+/// ```
+pub fn set_port(
+    alloc: Global,
+    value: &mut JsonValue,
+    port: u16,
+) -> Result<Option<JsonValue>, AllocError>
+    ensures change { SetsPort value.old port result value.new }
+    ensures settings { IfOk result (λ o. KeepsSettings (view value.old) port (view value.new)) }
+{
+    let Some(members) = value.get::<HashMap<String, JsonValue>>() else {
+        return Ok(None);
+    };
+    if !members.contains_key("port") {
+        return Ok(None);
+    }
+    let number = JsonNumber::from_u64(alloc, u64::from(port))?;
+    Ok(Some(value.replace_member("port", JsonValue::from(number))))
+}
+
 /// The words that the program writes behind its name.
 impl fmt::Display for SettingsError {
     ghost output = { λ e. Some (error_text e) };
@@ -159,6 +187,29 @@ mod tests {
                 return Err(Fail::from("accepted"));
             };
             assert_eq!(rt; error.to_string(alloc)?.as_str(), words);
+        }
+        Ok(())
+    }
+
+    #[test]
+    fn port_is_set_in_place(rt: HostRuntime) -> Result<(), Fail> {
+        let alloc = rt.alloc();
+        let Ok(mut value) = JsonValue::from_str(alloc, r#"{"port": 80, "host": "a"}"#) else {
+            return Err(Fail::from("refused"));
+        };
+        let old = set_port(alloc, &mut value, 8443)?;
+        assert!(rt; old == Some(JsonValue::from(JsonNumber::from_u64(alloc, 80)?)));
+        assert_eq!(rt;
+            value.stringify(alloc)?.as_str(),
+            r#"{"host":"a","port":8443}"#
+        );
+
+        for text in [r#"{"host":"a"}"#, "[80]"] {
+            let Ok(mut value) = JsonValue::from_str(alloc, text) else {
+                return Err(Fail::from("refused"));
+            };
+            assert!(rt; set_port(alloc, &mut value, 8443)?.is_none());
+            assert_eq!(rt; value.stringify(alloc)?.as_str(), text);
         }
         Ok(())
     }
