@@ -66,11 +66,15 @@ key_present v s m bs e b =
     ap (λ x. is_some (get_by_text m x)) b
     ∙ (sym (some_view (get_by_text m (string_bytes s))) ∙ (ap is_some (sym (find-get m (string_bytes s) (IsUtf8-string_bytes s))) ∙ ap (λ x. is_present x (members_view m.entries)) (sym (ap view e ∙ view-String s))))
 
-pub not_typed : (a b c : Bool) → a ≡ false → b ≡ false → false ≡ (not a && (b && c))
-not_typed a b c e f = sym (ap (λ x. not x && (b && c)) e ∙ ap (λ x. x && c) f)
+-- what one keyword says, before the ones that come after it
+pub not_met : (b c : Bool) → b ≡ false → false ≡ (b && c)
+not_met b c e = ap (λ x. x && c) (sym e)
 
-pub typed : (a b c : Bool) → a ≡ false → b ≡ true → c ≡ (not a && (b && c))
-typed a b c e f = sym (ap (λ x. not x && (b && c)) e ∙ ap (λ x. x && c) f)
+pub met : (b c : Bool) → b ≡ true → c ≡ (b && c)
+met b c e = ap (λ x. x && c) (sym e)
+
+pub not_refused : (a c : Bool) → a ≡ false → c ≡ (not a && c)
+not_refused a c e = ap (λ x. not x && c) (sym e)
 
 -- the schema of a key, if there are any, and if there are none
 pub property_found : (s p : Tree) (k : List ℕ) (o : Option Tree) → Some p ≡ tree_at_key s (chars (codes "properties")) → o ≡ tree_at_key p k → o ≡ property s k

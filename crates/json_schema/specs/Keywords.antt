@@ -4,6 +4,7 @@ use Rattle.std.specs.Prelude.{pos, Bool, true, false, not, ◌&&◌, ◌||◌, O
 use Rattle.std.specs.Str.{bytes_eq}
 use Rattle.tinyjson.specs.Index.{tree_at_key}
 use Rattle.tinyjson.specs.Kind.{kind_of, kind_name}
+use Rattle.json_schema.specs.Order.{is_at_most}
 use Rattle.tinyjson.specs.Tree.{Tree, boolean, number, string, array, object, Items, no_items, item, Members, find}
 
 -- the schema `false` (Core, 4.3.2)
@@ -43,5 +44,20 @@ abbrev pub has_required : Option Tree → Tree → Bool
 has_required (Some (array keys)) (object ms) = are_present keys ms
 has_required _ t = true
 
+-- `minimum` (6.2.4) and `maximum` (6.2.2): no number beyond the limit, which itself is accepted
+abbrev pub meets_minimum : Option Tree → Tree → Bool
+meets_minimum (Some (number limit)) (number d) = is_at_most limit d
+meets_minimum _ t = true
+
+abbrev pub meets_maximum : Option Tree → Tree → Bool
+meets_maximum (Some (number limit)) (number d) = is_at_most d limit
+meets_maximum _ t = true
+
+abbrev pub is_in_range : Tree → Tree → Bool
+is_in_range s t = meets_minimum (tree_at_key s (codes "minimum")) t && meets_maximum (tree_at_key s (codes "maximum")) t
+
 abbrev pub meets_own : Tree → Tree → Bool
-meets_own s t = not (refuses_all s) && (has_type (tree_at_key s (codes "type")) t && has_required (tree_at_key s (codes "required")) t)
+meets_own s t =
+    not (refuses_all s)
+    && (has_type (tree_at_key s (codes "type")) t
+    && (has_required (tree_at_key s (codes "required")) t && is_in_range s t))

@@ -6,7 +6,9 @@ ghost use Rattle.tinyjson.specs.Kind.{kind_of, kind_name};
 ghost use Rattle.tinyjson.specs.View.{view, items_view, members_view};
 ghost use Rattle.json_schema.specs.Keywords.{refuses_all, is_whole, is_type, has_some_type, has_type};
 ghost use Rattle.json_schema.specs.Keywords.{is_present, are_present, has_required, meets_own};
+ghost use Rattle.json_schema.specs.Keywords.{is_in_range, meets_minimum, meets_maximum};
 
+use crate::order::is_at_most;
 use std::collections::HashMap;
 use tinyjson::JsonValue;
 
@@ -31,7 +33,10 @@ pub fn meets_own(value: &JsonValue, schema: &JsonValue) -> bool
     if !has_type(keyword(schema, "type"), value) {
         return false;
     }
-    has_required(keyword(schema, "required"), value)
+    if !has_required(keyword(schema, "required"), value) {
+        return false;
+    }
+    is_in_range(value, schema)
 }
 
 fn refuses_all(schema: &JsonValue) -> bool
@@ -127,6 +132,34 @@ fn is_present(key: &JsonValue, members: &HashMap<String, JsonValue>) -> bool
 {
     match key {
         JsonValue::String(key) => members.contains_key(key.as_str()),
+        _ => true,
+    }
+}
+
+/// Whether the value is within `minimum` and `maximum`, as far as the schema has them.
+fn is_in_range(value: &JsonValue, schema: &JsonValue) -> bool
+    ensures { result ≡ is_in_range (view schema.now) (view value.now) }
+{
+    if !meets_minimum(keyword(schema, "minimum"), value) {
+        return false;
+    }
+    meets_maximum(keyword(schema, "maximum"), value)
+}
+
+fn meets_minimum(limit: Option<&JsonValue>, value: &JsonValue) -> bool
+    ensures { result ≡ meets_minimum (option_map (λ x. view x.now) limit.entry) (view value.now) }
+{
+    match (limit, value) {
+        (Some(JsonValue::Number(limit)), JsonValue::Number(number)) => is_at_most(limit, number),
+        _ => true,
+    }
+}
+
+fn meets_maximum(limit: Option<&JsonValue>, value: &JsonValue) -> bool
+    ensures { result ≡ meets_maximum (option_map (λ x. view x.now) limit.entry) (view value.now) }
+{
+    match (limit, value) {
+        (Some(JsonValue::Number(limit)), JsonValue::Number(number)) => is_at_most(number, limit),
         _ => true,
     }
 }

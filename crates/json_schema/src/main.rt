@@ -6,6 +6,7 @@
 #![tactic(auto)]
 
 mod keywords;
+mod order;
 #[cfg(test)]
 mod tests;
 mod validate;

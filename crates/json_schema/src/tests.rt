@@ -52,3 +52,35 @@ fn takes_true_and_false_as_schemas(rt: HostRuntime) -> Result<(), Fail> {
     assert!(rt; invalid_place(&value, &JsonValue::Boolean(false), alloc)?.is_some());
     Ok(())
 }
+
+#[test]
+fn compares_exact_decimals(rt: HostRuntime) -> Result<(), Fail> {
+    let alloc = rt.alloc();
+    for (schema, text, is_valid) in [
+        (r#"{"minimum": 1}"#, "1.0", true),
+        (r#"{"maximum": 1}"#, "1.0", true),
+        (r#"{"minimum": 9.99}"#, "10", true),
+        (r#"{"maximum": 9.99}"#, "10", false),
+        (r#"{"minimum": -1}"#, "-2", false),
+        (r#"{"maximum": -1}"#, "-2", true),
+        (r#"{"maximum": 2e399}"#, "1e400", false),
+        (r#"{"minimum": 2e399}"#, "1e400", true),
+        (r#"{"minimum": 0, "maximum": 0}"#, "-0", true),
+        (r#"{"maximum": 0}"#, "1e-400", false),
+        (r#"{"minimum": 0}"#, "-1e-400", false),
+        (r#"{"minimum": 0.10000000000000000001}"#, "0.1", false),
+        (r#"{"maximum": 0.10000000000000000001}"#, "0.1", true),
+        (r#"{"minimum": 1, "maximum": 5}"#, "5e0", true),
+        (r#"{"minimum": 1, "maximum": 5}"#, "5.5", false),
+        (r#"{"minimum": 1, "maximum": 5}"#, "0.5", false),
+        (r#"{"minimum": 25e9223372036854775807}"#, "1", false),
+        (r#"{"minimum": 1}"#, r#""0""#, true),
+        (r#"{"minimum": "1"}"#, "0", true),
+    ] {
+        let schema = JsonValue::from_str(alloc, schema)?;
+        let value = JsonValue::from_str(alloc, text)?;
+        let place = invalid_place(&value, &schema, alloc)?;
+        assert!(rt; place.is_none() == is_valid);
+    }
+    Ok(())
+}
