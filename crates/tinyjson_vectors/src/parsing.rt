@@ -6,12 +6,13 @@ mod borders;
 mod cuts;
 mod depth;
 mod long;
+mod many;
 mod refusals;
 mod values;
 
 use std::alloc::Global;
 use std::test::Fail;
-use tinyjson::{JsonParseErrorKind, JsonParseResult};
+use tinyjson::{JsonParseErrorKind, JsonParseResult, JsonParser, JsonValue};
 
 /// What a call of `parse` answers.
 #[derive(Clone, Copy, Debug)]
@@ -35,6 +36,15 @@ pub(crate) fn agrees(
         }
         _ => Ok(false),
     }
+}
+
+/// Whether a text and its characters are both answered so.
+pub(crate) fn both_agree(alloc: Global, text: &str, expected: Answer) -> Result<bool, Fail> {
+    let characters = JsonParser::new(alloc, text.chars()).parse();
+    Ok(
+        agrees(alloc, JsonValue::from_str(alloc, text), expected)?
+            && agrees(alloc, characters, expected)?,
+    )
 }
 
 /// The line and column behind a character that is consumed at this place.

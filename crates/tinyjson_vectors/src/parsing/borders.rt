@@ -1,10 +1,10 @@
 //! Tokens that begin at each place from 0 to 33 of a text, and strings of up to 33 characters of one to four
 //! bytes, so that they lie across 8, 16, 24, 32 and 64 bytes. A text in memory and its characters are read.
 
-use super::{Answer, agrees};
+use super::{Answer, both_agree};
 use std::alloc::{AllocError, Global};
 use std::test::Fail;
-use tinyjson::{JsonParseErrorKind as Kind, JsonParser, JsonValue};
+use tinyjson::{JsonParseErrorKind as Kind, JsonValue};
 
 /// A token and its compact text.
 const TOKENS: &[(&str, &str)] = &[
@@ -46,15 +46,6 @@ fn padded(alloc: Global, count: usize, token: &str) -> Result<String, AllocError
     }
     text.push_str(token)?;
     Ok(text)
-}
-
-/// Whether a text and its characters are both answered so.
-fn both_agree(alloc: Global, text: &str, expected: Answer) -> Result<bool, Fail> {
-    let characters = JsonParser::new(alloc, text.chars()).parse();
-    Ok(
-        agrees(alloc, JsonValue::from_str(alloc, text), expected)?
-            && agrees(alloc, characters, expected)?,
-    )
 }
 
 #[test]
