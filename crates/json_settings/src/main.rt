@@ -3,6 +3,7 @@
 //! The status is 0 for settings, 1 where the text has none, and 2 where it could not be read.
 #![tactic(auto)]
 
+pub mod servers;
 pub mod settings;
 
 use std::io;
