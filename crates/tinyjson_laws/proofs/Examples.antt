@@ -8,3 +8,4 @@ pub mod Depths
 pub mod Positions
 pub mod Written
 pub mod Prefixes
+pub mod Callers
