@@ -1,12 +1,12 @@
 -- What a new parser returns, from what `parse` says.
-use Rattle.std.proofs.Common.{◌≡◌, ℕ, List, [], ◌++◌, Option, Result, Ok, Err, refl, ap, sym, ◌∙◌, subst, append-nil, arith, length, length-append}
+use Rattle.std.proofs.Common.{◌≡◌, ℕ, List, [], ◌++◌, Option, Result, Ok, Err, ap, sym, ◌∙◌, subst, append-nil, arith, length, length-append}
 use Rattle.std.proofs.Math.Seq.{take-append_seam}
 use Rattle.tinyjson.specs.Error.{error_position}
 use Rattle.tinyjson.specs.Grammar.{IsText}
 use Rattle.tinyjson.specs.Parser.{ParsesText}
 use Rattle.tinyjson.specs.Position.{origin, advance}
 use Rattle.tinyjson.specs.Prefix.{IsLooselyViable}
-use Rattle.tinyjson.specs.Refusal.{RefusalSays, IsRefusal}
+use Rattle.tinyjson.specs.Refusal.{RefusalSays}
 use Rattle.tinyjson.specs.View.{view}
 use Rattle.tinyjson.specs.declared.parser.error.JsonParseError.{JsonParseError}
 use Rattle.tinyjson.specs.declared.parser.error.JsonParseErrorKind.{JsonParseErrorKind}

@@ -1,9 +1,9 @@
 -- Texts and trees.
-use Rattle.std.proofs.Common.{◌≤◌, ℕ, List, [], Option, Some, None, sym, ap, ◌∙◌, subst, arith, append-nil}
+use Rattle.std.proofs.Common.{◌≤◌, ℕ, List, Option, Some, None, sym, ap, subst, arith}
 use Rattle.std.specs.Int.{Width, w32}
 use Rattle.tinyjson_number.specs.Numeral.{power_width}
 use Rattle.tinyjson.specs.Tree.{Tree}
-use Rattle.tinyjson.specs.Syntax.{text, depth, IsWithin}
+use Rattle.tinyjson.specs.Syntax.{depth, IsWithin}
 use Rattle.tinyjson.specs.Grammar.{IsTextAt}
 use Rattle.tinyjson.specs.Text as written
 use Rattle.tinyjson.specs.Soundness.{IsTreeAt, tree_depth}
