@@ -68,6 +68,9 @@ no_item v i h = callers.none_from_tree (item_at v i) (sym (callers.tree_at-view 
 pub one_more_entry : (done : List Entry) (e : Entry) → IsDistinct string_eq (keys_of (done ++ e ∷ [])) → members_view (done ++ e ∷ []) ≡ put (text e.0) (view e.1) (members_view done)
 one_more_entry done e h = callers.members_view_last done e [] h
 
+pub entry_at : (es : List Entry) (k : List ℕ) (t : Tree) → find k (members_view es) ≡ Some t → callers.HasEntry es k t
+entry_at es k t h = callers.entry_from_find es k t h
+
 -- ---- after a change
 
 pub inserted_is_found : (m n : JsonMap) (k : String Global) (v : JsonValue) → Updates string_eq m n k (Some v) → find (text k) (members_view n.entries) ≡ Some (view v)
@@ -125,6 +128,10 @@ three_appended old mid late new a b c h k l = callers.Appends-trans old late new
 -- nothing behind a text
 pub nothing_more : (old new : Option (List ℕ)) (a : List ℕ) → Written old new a [] → Appends old new (a ++ [])
 nothing_more old new a h = callers.Appends-trans old new new a [] (callers.Appends-written old new a h) (callers.Appends-nothing new)
+
+-- a text of which nothing is written
+pub not_begun : (old : Option (List ℕ)) (a b : List ℕ) → a ≡ b → Written old old a b
+not_begun old a b e = callers.written_none old a b e
 
 -- a text that ends in its first piece
 pub part_of_the_first : (old new : Option (List ℕ)) (piece rest : List ℕ) → WrittenPart old new piece → WrittenPart old new (piece ++ rest)
