@@ -13,11 +13,13 @@ pub fn reads_back()
 {}
 
 /// The strings that `stringify` returns for two values are equal exactly if the values are.
+#[tactic(auto, using(crate::proofs::CallLaws::equal_strings))]
 pub fn equal_strings()
     ensures { EqualStrings }
 {}
 
 /// What a value was made of is what `try_from` returns for it.
+#[tactic(auto, using(crate::proofs::CallLaws::converted_back))]
 pub fn converted_back()
     ensures { ConvertedBack }
 {}

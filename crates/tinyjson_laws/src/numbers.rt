@@ -34,23 +34,27 @@ pub fn same_decimal()
 {}
 
 /// Two numbers with one decimal are one.
+#[tactic(auto, using(crate::proofs::WholeNumbers::one_number))]
 pub fn one_number()
     ensures { OneNumber }
 {}
 
 /// The decimal of a whole number means that number: the value of its digits times ten to its power, with its
 /// sign.
+#[tactic(auto, using(crate::proofs::WholeNumbers::wholes_mean))]
 pub fn wholes_mean()
     ensures { WholesMean }
 {}
 
 /// Two integers of `i64` with one decimal are one, so what `to_i64` returns for the number of an integer is
 /// that integer.
+#[tactic(auto, using(crate::proofs::WholeNumbers::integers_differ))]
 pub fn integers_differ()
     ensures { IntegersDiffer }
 {}
 
 /// Two integers of `u64` with one decimal are one.
+#[tactic(auto, using(crate::proofs::WholeNumbers::naturals_differ))]
 pub fn naturals_differ()
     ensures { NaturalsDiffer }
 {}

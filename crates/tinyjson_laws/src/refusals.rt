@@ -3,6 +3,7 @@ ghost use Rattle.tinyjson_laws.specs.Refusals.{OneRefusal, OneAnswer};
 
 /// A refusal for another cause than memory is a function of the list and the limit: two of them have
 /// the same kind, with the character or the kind of value that it tells, and have consumed the same.
+#[tactic(auto, using(crate::proofs::RefusalLaws::one_refusal))]
 pub fn one_refusal()
     ensures { OneRefusal }
 {}

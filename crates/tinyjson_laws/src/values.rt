@@ -12,6 +12,7 @@ pub fn values_are_sound()
 {}
 
 /// Two values are equal exactly if their trees are one.
+#[tactic(auto, using(crate::proofs::ValueLaws::equal_trees))]
 pub fn equal_trees()
     ensures { EqualTrees }
 {}
@@ -24,6 +25,7 @@ pub fn equal_trees()
 /// ```text
 /// returns c = rw c.eq.ensures (c.equal_texts.ensures c.args.a.now c.args.b.now)
 /// ```
+#[tactic(auto, using(crate::proofs::ValueLaws::equal_texts))]
 pub fn equal_texts()
     ensures { EqualTexts }
 {}
