@@ -1,4 +1,4 @@
--- What a refusal says of the characters (`says`), and where it comes.
+-- What an error says of the characters that were consumed and of the rest, kind by kind.
 use Rattle.std.specs.Prelude.{◌≡◌, ℕ, ◌<◌, ◌≤◌, List, [], ◌∷◌, ◌++◌, Option, None, IsSome, ⊤, ◌⊎◌, IsTrue, length, take, slice_index}
 use Rattle.std.specs.Prelude.{false, Bool, ◌||◌, ◌==◌, codes}
 use Rattle.std.specs.Char.{is_ascii_digit}
@@ -177,37 +177,7 @@ EndsOutOfRange limit used rest =
     (n : Numeral) × IsNumeral n × (has_leading_zero n.whole ≡ false) × (in_range (value n) ≡ false)
     × BeginsAt limit used (spelling n) × BeginsWithNone is_ascii_digit rest
 
--- The fact that a kind tells, of what was consumed and of what is left. Out of memory is no error
--- of the text: IsInterrupted, below.
-abbrev pub KindSays : Option ℕ → JsonParseErrorKind → List ℕ → List ℕ → Type 0
-KindSays limit UnexpectedEof used rest = (rest ≡ []) × NeedsMore limit used
-KindSays limit (InvalidCharacter c) used rest =
-    BeginsWith c rest × (is_white c ≡ false) × (begins_value c ≡ false)
-KindSays limit (ExpectedEof c) used rest = EndsText limit c used
-KindSays limit (KeyNotString k) used rest = EndsBadKey limit k used rest
-KindSays limit (ExpectedColon c) used rest =
-    EndsWith (c ∷ []) used × (is_white c ≡ false) × (c ≡ 58 → ⊥)
-KindSays limit (ExpectedCommaOrBrace c) used rest =
-    EndsWith (c ∷ []) used × (is_white c ≡ false) × (c ≡ 44 → ⊥) × (c ≡ 125 → ⊥)
-KindSays limit (ExpectedCommaOrBracket c) used rest =
-    EndsWith (c ∷ []) used × (is_white c ≡ false) × (c ≡ 44 → ⊥) × (c ≡ 93 → ⊥)
-KindSays limit InvalidUtf16 used rest = EndsUnpaired limit used
-KindSays limit (InvalidHexDigit c) used rest = EndsBadUnit limit c used
-KindSays limit (InvalidEscape c) used rest =
-    EndsString limit used (92 ∷ c ∷ []) × (short_escape c ≡ None) × (c ≡ 117 → ⊥)
-KindSays limit (ControlCharacter c) used rest = EndsString limit used (c ∷ []) × (c < 32)
-KindSays limit (UnexpectedInLiteral c) used rest = EndsBadLiteral limit c used
-KindSays limit EmptyInteger used rest =
-    BeginsAt limit used (codes "-") × BeginsWithNone is_ascii_digit rest
-KindSays limit LeadingZero used rest = EndsLeadingZero limit used rest
-KindSays limit EmptyFraction used rest = EndsPoint limit used rest
-KindSays limit EmptyExponent used rest = EndsExponent limit used rest
-KindSays limit NumberOutOfRange used rest = EndsOutOfRange limit used rest
-KindSays limit OutOfMemory used rest = ⊥
-KindSays limit (TooDeep c) used rest =
-    BeginsWith c rest × ((c ≡ 91) ⊎ (c ≡ 123)) × IsSome limit
-
--- ---- where a refusal comes
+-- ---- the place: what may and what may not follow
 
 -- without its last character c the list has no fault, and a quote may not follow it
 pub record NoStringAt (limit : Option ℕ) (used : List ℕ) (c : ℕ) : Type 0 where
@@ -245,39 +215,66 @@ IsPromptlyBy limit used c = IsPromptly limit used (c ∷ [])
 abbrev pub NoQuoteFollows : Option ℕ → List ℕ → Type 0
 NoQuoteFollows limit used = IsLooselyViable limit used × ¬ IsLooselyViable limit (used ++ codes "\"")
 
--- What a kind says of the place.
-abbrev pub PlaceSays : Option ℕ → JsonParseErrorKind → List ℕ → Type 0
-PlaceSays limit UnexpectedEof used = IsPromptly limit used [] × IsLooselyViable limit used
-PlaceSays limit (InvalidCharacter c) used = AwaitsValue limit used
-PlaceSays limit (ExpectedEof c) used =
-    ((front : List ℕ) × (used ≡ front ++ c ∷ []) × IsFaultless limit front)
-    × ¬ IsLooselyViable limit used
-PlaceSays limit (KeyNotString k) used =
-    IsFaultless limit used × IsLooselyViable limit (used ++ codes ":")
-    × ¬ IsViable (IsAccepted limit) used
-PlaceSays limit (ExpectedColon c) used = AwaitsAt limit used c 58 × ¬ IsLooselyViable limit used
-PlaceSays limit (ExpectedCommaOrBrace c) used =
-    AwaitsAt limit used c 125 × ¬ IsLooselyViable limit used
-PlaceSays limit (ExpectedCommaOrBracket c) used =
-    AwaitsAt limit used c 93 × ¬ IsLooselyViable limit used
-PlaceSays limit InvalidUtf16 used =
-    ((c : ℕ) × IsPromptlyBy limit used c) × IsLooselyViable limit used
-    × ¬ IsViable (IsAccepted limit) used
-PlaceSays limit (InvalidHexDigit c) used = IsPromptlyBy limit used c × ¬ IsLooselyViable limit used
-PlaceSays limit (InvalidEscape c) used = IsPromptlyBy limit used c × ¬ IsLooselyViable limit used
-PlaceSays limit (ControlCharacter c) used =
-    IsPromptlyBy limit used c × ¬ IsLooselyViable limit used
-    × ((front : List ℕ) × (used ≡ front ++ c ∷ []) × IsLooselyViable limit (front ++ 120 ∷ []))
-PlaceSays limit (UnexpectedInLiteral c) used =
-    NoStringAt limit used c × ¬ IsLooselyViable limit used
-PlaceSays limit EmptyInteger used = IsFaultless limit used × NoQuoteFollows limit used
-PlaceSays limit LeadingZero used =
-    IsPromptly limit used [] × NoQuoteFollows limit used × ¬ IsViable (IsAccepted limit) used
-PlaceSays limit EmptyFraction used = IsFaultless limit used × NoQuoteFollows limit used
-PlaceSays limit EmptyExponent used = IsPromptly limit used [] × NoQuoteFollows limit used
-PlaceSays limit NumberOutOfRange used = IsPromptly limit used [] × NoQuoteFollows limit used
-PlaceSays limit OutOfMemory used = ⊥
-PlaceSays limit (TooDeep c) used = AwaitsValue limit used
+-- ---- what each kind says
+
+-- What an error of the kind says: of what was consumed and what is left, and then of what may and
+-- what may not follow. Out of memory is no error of the text: IsInterrupted, below.
+abbrev pub KindSays : Option ℕ → JsonParseErrorKind → List ℕ → List ℕ → Type 0
+KindSays limit UnexpectedEof used rest =
+    ((rest ≡ []) × NeedsMore limit used)
+    × (IsPromptly limit used [] × IsLooselyViable limit used)
+KindSays limit (InvalidCharacter c) used rest =
+    (BeginsWith c rest × (is_white c ≡ false) × (begins_value c ≡ false))
+    × AwaitsValue limit used
+KindSays limit (ExpectedEof c) used rest =
+    EndsText limit c used
+    × (((front : List ℕ) × (used ≡ front ++ c ∷ []) × IsFaultless limit front)
+    × ¬ IsLooselyViable limit used)
+KindSays limit (KeyNotString k) used rest =
+    EndsBadKey limit k used rest
+    × (IsFaultless limit used × IsLooselyViable limit (used ++ codes ":")
+    × ¬ IsViable (IsAccepted limit) used)
+KindSays limit (ExpectedColon c) used rest =
+    (EndsWith (c ∷ []) used × (is_white c ≡ false) × (c ≡ 58 → ⊥))
+    × (AwaitsAt limit used c 58 × ¬ IsLooselyViable limit used)
+KindSays limit (ExpectedCommaOrBrace c) used rest =
+    (EndsWith (c ∷ []) used × (is_white c ≡ false) × (c ≡ 44 → ⊥) × (c ≡ 125 → ⊥))
+    × (AwaitsAt limit used c 125 × ¬ IsLooselyViable limit used)
+KindSays limit (ExpectedCommaOrBracket c) used rest =
+    (EndsWith (c ∷ []) used × (is_white c ≡ false) × (c ≡ 44 → ⊥) × (c ≡ 93 → ⊥))
+    × (AwaitsAt limit used c 93 × ¬ IsLooselyViable limit used)
+KindSays limit InvalidUtf16 used rest =
+    EndsUnpaired limit used
+    × (((c : ℕ) × IsPromptlyBy limit used c) × IsLooselyViable limit used
+    × ¬ IsViable (IsAccepted limit) used)
+KindSays limit (InvalidHexDigit c) used rest =
+    EndsBadUnit limit c used × (IsPromptlyBy limit used c × ¬ IsLooselyViable limit used)
+KindSays limit (InvalidEscape c) used rest =
+    (EndsString limit used (92 ∷ c ∷ []) × (short_escape c ≡ None) × (c ≡ 117 → ⊥))
+    × (IsPromptlyBy limit used c × ¬ IsLooselyViable limit used)
+KindSays limit (ControlCharacter c) used rest =
+    (EndsString limit used (c ∷ []) × (c < 32))
+    × (IsPromptlyBy limit used c × ¬ IsLooselyViable limit used
+    × ((front : List ℕ) × (used ≡ front ++ c ∷ []) × IsLooselyViable limit (front ++ 120 ∷ [])))
+KindSays limit (UnexpectedInLiteral c) used rest =
+    EndsBadLiteral limit c used × (NoStringAt limit used c × ¬ IsLooselyViable limit used)
+KindSays limit EmptyInteger used rest =
+    (BeginsAt limit used (codes "-") × BeginsWithNone is_ascii_digit rest)
+    × (IsFaultless limit used × NoQuoteFollows limit used)
+KindSays limit LeadingZero used rest =
+    EndsLeadingZero limit used rest
+    × (IsPromptly limit used [] × NoQuoteFollows limit used × ¬ IsViable (IsAccepted limit) used)
+KindSays limit EmptyFraction used rest =
+    EndsPoint limit used rest × (IsFaultless limit used × NoQuoteFollows limit used)
+KindSays limit EmptyExponent used rest =
+    EndsExponent limit used rest × (IsPromptly limit used [] × NoQuoteFollows limit used)
+KindSays limit NumberOutOfRange used rest =
+    EndsOutOfRange limit used rest × (IsPromptly limit used [] × NoQuoteFollows limit used)
+KindSays limit OutOfMemory used rest = ⊥
+KindSays limit (TooDeep c) used rest =
+    (BeginsWith c rest × ((c ≡ 91) ⊎ (c ≡ 123)) × IsSome limit) × AwaitsValue limit used
+
+-- ---- the whole of an error
 
 -- without its last character the list is viable in the loose grammar
 abbrev pub IsNotTooLate : Option ℕ → List ℕ → Type 0
@@ -286,9 +283,8 @@ IsNotTooLate limit used =
 
 -- A refusal for another cause than memory.
 pub record IsRefusal (limit : Option ℕ) (kind : JsonParseErrorKind) (used rest : List ℕ) : Type 0 where
-  -- what the kind tells
+  -- the fact of its kind, and the place
   pub says : KindSays limit kind used rest
-  pub place : PlaceSays limit kind used
   -- the list has no tree
   pub refused : ¬ IsAccepted limit (used ++ rest)
   -- all was consumed, or the next character makes a fault

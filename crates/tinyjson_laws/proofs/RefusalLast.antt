@@ -23,6 +23,7 @@ use Rattle.tinyjson.proofs.Grammar.Trace.Paths.{Path, outside, item_in, key_in, 
 use Rattle.tinyjson.proofs.Grammar.Accepts.Runs.{continues, continues-digit, continues-point, continues-letter}
 use Rattle.tinyjson.proofs.Grammar.Trace.State.{Read, at_first, at_awaited, in_word, in_digits, in_quoted, at_after, Part, part_stage, part_numeral, read_frames, read_phase, IsRead, IsFresh, values}
 use Rattle.tinyjson.proofs.Grammar.Accepts.Text.{text-accepted}
+use Rattle.tinyjson.proofs.Grammar.Sound.{denies, is-dead}
 use Rattle.tinyjson.proofs.Grammar.Step.Statement.{Follows}
 use Rattle.tinyjson_laws.proofs.RefusalPlaces.{Stands, Goes, Halts, goes-or-halts, halts-run, stands-viable, stands-next, stands-stop, stands-follows, IsNoLetter, word-lacks, accepted-refused}
 
@@ -216,7 +217,7 @@ quote-string limit front p cs us s n = ⊎_elim
     (λ e. quote-next limit front (path_frames p) e.0 (quoted Machine.plain cs us) e.1 s e.2 n)
     (λ e. let f : Follows limit front (path_frames p) (quoted Machine.plain cs us) 34 (stop InvalidUtf16 true) =
     subst (Follows limit front (path_frames p) (quoted Machine.plain cs us) 34) e (stands-follows limit front (path_frames p) (quoted Machine.plain cs us) s 34 quote-scalar) in
-    n (f.0 []).1.1)
+    n (f [] (denies limit front (path_frames p) (quoted Machine.plain cs us) s.reached) (is-dead limit front (path_frames p) (quoted Machine.plain cs us) 34 InvalidUtf16 s.reached e)).1.1)
     (quote-closes limit p cs us)
 
 -- ---- the colon, the brace and the bracket

@@ -10,7 +10,7 @@ use Rattle.tinyjson.specs.Grammar.{IsLoose, IsAccepted}
 use Rattle.tinyjson.specs.Kind.{kind_of}
 use Rattle.tinyjson.specs.private.Machine
 use Rattle.tinyjson.specs.private.Machine.{Rules, strictly, Frame, at_key, Phase, first, awaited, digits, quoted, colon, finished, Stage, Next, next, stop, Outcome, accepted, refused, complete, finish, then_step, unless_ended, step_digits, end_digits, end_plain, fits, push_frame, start, step, run, end}
-use Rattle.tinyjson.specs.Refusal.{IsRefusal, KindSays, BeginsAt, InString, NeedsMore, EndsBefore, BeginsWithNone, IsLiteral, begins_value, RefusalSays}
+use Rattle.tinyjson.specs.Refusal.{IsRefusal, EndsBadKey, EndsExponent, BeginsAt, InString, NeedsMore, EndsBefore, BeginsWithNone, IsLiteral, begins_value, RefusalSays}
 use Rattle.tinyjson.specs.Syntax.{Syntax, null, boolean, number, string, empty_array, array, empty_object, object, text, is_key, tree_of, Piece, pieces_text, piece_codes, IsSpelled, IsWithin}
 use Rattle.tinyjson.specs.Tree as tree
 use Rattle.tinyjson.specs.Tree.{Tree, Members}
@@ -195,7 +195,7 @@ module _ (limit : Option ℕ) (front : List ℕ) (r : Ready limit front) (ms : M
 unlimited : (limit : Option ℕ) (xs : List ℕ) → IsLoose limit xs → IsLoose None xs
 unlimited limit xs h = record { before = h.before; value = h.value; after = h.after; white_before = h.white_before; spelled = h.spelled; white_after = h.white_after; shallow = tt; whole = h.whole }
 
-key-exact : (limit : Option ℕ) (used rest : List ℕ) (k : JsonKind) → All IsScalar used → KindSays limit (kind.KeyNotString k) used rest → IsFaultless limit used → IsLooselyViable limit (used ++ 58 ∷ []) →
+key-exact : (limit : Option ℕ) (used rest : List ℕ) (k : JsonKind) → All IsScalar used → EndsBadKey limit k used rest → IsFaultless limit used → IsLooselyViable limit (used ++ 58 ∷ []) →
     ((c : ℕ) (more : List ℕ) → rest ≡ c ∷ more → ¬ IsFaultless limit (used ++ c ∷ [])) → Exact limit (kind.KeyNotString k) used rest
 unfolding unlimited
 key-exact limit used rest k a (before, w, o, s, ho, hw, hs, hv, nk, kd, ud, aw, eb) f v soon =
@@ -338,42 +338,42 @@ ended limit used a (inr (inr (inr (inr (inr f))))) = needs-exact limit used 125 
 hex-assoc : (ds : List ℕ) (c : ℕ) (rest : List ℕ) → (92 ∷ 117 ∷ (ds ++ c ∷ [])) ++ rest ≡ 92 ∷ 117 ∷ (ds ++ c ∷ rest)
 hex-assoc ds c rest = simp append_assoc
 
-exponent-exact : (limit : Option ℕ) (used rest : List ℕ) → All IsScalar used → KindSays limit kind.EmptyExponent used rest → Exact limit kind.EmptyExponent used rest
+exponent-exact : (limit : Option ℕ) (used rest : List ℕ) → All IsScalar used → EndsExponent limit used rest → Exact limit kind.EmptyExponent used rest
 exponent-exact limit used rest a (b, ds, f, l, w, i, j, inl (t, d)) =
     token-exact limit kind.EmptyExponent used _ rest a t (numeral-begins b ds (fraction_text f ++ l ∷ []) w.1 w.0) (λ fs. exponent-stops limit fs b ds f l rest w.0 w.1 w.2 i j d)
 exponent-exact limit used rest a (b, ds, f, l, w, i, j, inr (s, m, t, d)) =
     token-exact limit kind.EmptyExponent used _ rest a t (numeral-begins b ds (fraction_text f ++ l ∷ s ∷ []) w.1 w.0) (λ fs. signed-stops limit fs b ds f l s rest w.0 w.1 w.2 i j m d)
 
 exact : (limit : Option ℕ) (k : JsonParseErrorKind) (used rest : List ℕ) → All IsScalar used → IsRefusal limit k used rest → Exact limit k used rest
-exact limit kind.UnexpectedEof used rest a r = subst (Exact limit kind.UnexpectedEof used) (sym r.says.0) (ended limit used a r.says.1)
+exact limit kind.UnexpectedEof used rest a r = subst (Exact limit kind.UnexpectedEof used) (sym r.says.0.0) (ended limit used a r.says.0.1)
 exact limit (kind.InvalidCharacter c) used rest a r =
-    invalid-exact limit used (awaits-ready limit used a r.place) c r.says.0.0 rest r.says.0.1 r.says.1 r.says.2 (r.not_too_soon c r.says.0.0 r.says.0.1)
-exact limit (kind.ExpectedEof c) used rest a r = behind-exact limit used rest r.says.1.0 c a r.says.0 r.says.1.1 r.says.1.2 r.place.1
-exact limit (kind.KeyNotString k) used rest a r = key-exact limit used rest k a r.says r.place.0 r.place.1 r.not_too_soon
-exact limit (kind.ExpectedColon c) used rest a r = colon-exact limit used rest c a r.says.1 r.says.2 r.place.0 r.place.1
-exact limit (kind.ExpectedCommaOrBrace c) used rest a r = brace-exact limit used rest c a r.says.1 r.says.2 r.says.3 r.place.0 r.place.1
-exact limit (kind.ExpectedCommaOrBracket c) used rest a r = bracket-exact limit used rest c a r.says.1 r.says.2 r.says.3 r.place.0 r.place.1
+    invalid-exact limit used (awaits-ready limit used a r.says.1) c r.says.0.0.0 rest r.says.0.0.1 r.says.0.1 r.says.0.2 (r.not_too_soon c r.says.0.0.0 r.says.0.0.1)
+exact limit (kind.ExpectedEof c) used rest a r = behind-exact limit used rest r.says.0.1.0 c a r.says.0.0 r.says.0.1.1 r.says.0.1.2 r.says.1.1
+exact limit (kind.KeyNotString k) used rest a r = key-exact limit used rest k a r.says.0 r.says.1.0 r.says.1.1 r.not_too_soon
+exact limit (kind.ExpectedColon c) used rest a r = colon-exact limit used rest c a r.says.0.1 r.says.0.2 r.says.1.0 r.says.1.1
+exact limit (kind.ExpectedCommaOrBrace c) used rest a r = brace-exact limit used rest c a r.says.0.1 r.says.0.2 r.says.0.3 r.says.1.0 r.says.1.1
+exact limit (kind.ExpectedCommaOrBracket c) used rest a r = bracket-exact limit used rest c a r.says.0.1 r.says.0.2 r.says.0.3 r.says.1.0 r.says.1.1
 exact limit kind.InvalidUtf16 used rest a r =
-    string-exact limit kind.InvalidUtf16 used r.says.0 r.says.1 rest a r.says.4 (λ fs cs vs i. run-stops limit fs cs (vs ++ piece_codes r.says.0) (unpaired-behind vs (piece_codes r.says.0) i r.says.2) r.says.1 rest r.says.3)
+    string-exact limit kind.InvalidUtf16 used r.says.0.0 r.says.0.1 rest a r.says.0.4 (λ fs cs vs i. run-stops limit fs cs (vs ++ piece_codes r.says.0.0) (unpaired-behind vs (piece_codes r.says.0.0) i r.says.0.2) r.says.0.1 rest r.says.0.3)
 exact limit (kind.InvalidHexDigit c) used rest a r =
-    string-exact limit (kind.InvalidHexDigit c) used r.says.4.0 _ rest a r.says.4.1
-    (λ fs cs vs i. ap (run (strictly limit) fs (quoted Machine.plain cs (vs ++ piece_codes r.says.4.0))) (hex-assoc r.says.0 c rest) ∙ hex-stops (strictly limit) fs cs (vs ++ piece_codes r.says.4.0) r.says.0 c rest r.says.1 r.says.2 r.says.3)
-exact limit (kind.InvalidEscape c) used rest a r = string-exact limit (kind.InvalidEscape c) used r.says.0.0 _ rest a r.says.0.1 (λ fs cs vs i. escape-stops (strictly limit) fs cs (vs ++ piece_codes r.says.0.0) c rest r.says.1 r.says.2)
-exact limit (kind.ControlCharacter c) used rest a r = string-exact limit (kind.ControlCharacter c) used r.says.0.0 _ rest a r.says.0.1 (λ fs cs vs i. control-stops (strictly limit) fs cs (vs ++ piece_codes r.says.0.0) c rest r.says.1)
+    string-exact limit (kind.InvalidHexDigit c) used r.says.0.4.0 _ rest a r.says.0.4.1
+    (λ fs cs vs i. ap (run (strictly limit) fs (quoted Machine.plain cs (vs ++ piece_codes r.says.0.4.0))) (hex-assoc r.says.0.0 c rest) ∙ hex-stops (strictly limit) fs cs (vs ++ piece_codes r.says.0.4.0) r.says.0.0 c rest r.says.0.1 r.says.0.2 r.says.0.3)
+exact limit (kind.InvalidEscape c) used rest a r = string-exact limit (kind.InvalidEscape c) used r.says.0.0.0 _ rest a r.says.0.0.1 (λ fs cs vs i. escape-stops (strictly limit) fs cs (vs ++ piece_codes r.says.0.0.0) c rest r.says.0.1 r.says.0.2)
+exact limit (kind.ControlCharacter c) used rest a r = string-exact limit (kind.ControlCharacter c) used r.says.0.0.0 _ rest a r.says.0.0.1 (λ fs cs vs i. control-stops (strictly limit) fs cs (vs ++ piece_codes r.says.0.0.0) c rest r.says.0.1)
 exact limit (kind.UnexpectedInLiteral c) used rest a r =
-    token-exact limit (kind.UnexpectedInLiteral c) used _ rest a r.says.5 (literal-begins r.says.0 r.says.1 (c ∷ []) r.says.2 r.says.3) (λ fs. word-stops (strictly limit) fs r.says.0 r.says.1 c rest r.says.2 r.says.3 r.says.4 r.says.6)
-exact limit kind.EmptyInteger used rest a r = token-exact limit kind.EmptyInteger used _ rest a r.says.0 (_, _, refl, (refl, refl, refl)) (λ fs. minus-stops (strictly limit) fs rest r.says.1)
+    token-exact limit (kind.UnexpectedInLiteral c) used _ rest a r.says.0.5 (literal-begins r.says.0.0 r.says.0.1 (c ∷ []) r.says.0.2 r.says.0.3) (λ fs. word-stops (strictly limit) fs r.says.0.0 r.says.0.1 c rest r.says.0.2 r.says.0.3 r.says.0.4 r.says.0.6)
+exact limit kind.EmptyInteger used rest a r = token-exact limit kind.EmptyInteger used _ rest a r.says.0.0 (_, _, refl, (refl, refl, refl)) (λ fs. minus-stops (strictly limit) fs rest r.says.0.1)
 exact limit kind.LeadingZero used rest a r =
-    token-exact limit kind.LeadingZero used _ rest a r.says.4 (subst (λ xs. Begins (minus_text r.says.0 ++ xs)) (append-nil r.says.1) (numeral-begins r.says.0 r.says.1 [] (some-digit r.says.1 r.says.2) r.says.3))
-    (λ fs. zero-stops limit fs r.says.0 r.says.1 rest r.says.2 r.says.3 r.says.5)
+    token-exact limit kind.LeadingZero used _ rest a r.says.0.4 (subst (λ xs. Begins (minus_text r.says.0.0 ++ xs)) (append-nil r.says.0.1) (numeral-begins r.says.0.0 r.says.0.1 [] (some-digit r.says.0.1 r.says.0.2) r.says.0.3))
+    (λ fs. zero-stops limit fs r.says.0.0 r.says.0.1 rest r.says.0.2 r.says.0.3 r.says.0.5)
 exact limit kind.EmptyFraction used rest a r =
-    token-exact limit kind.EmptyFraction used _ rest a r.says.3 (numeral-begins r.says.0 r.says.1 (46 ∷ []) r.says.2.1 r.says.2.0) (λ fs. fraction-stops limit fs r.says.0 r.says.1 rest r.says.2.0 r.says.2.1 r.says.2.2 r.says.4)
-exact limit kind.EmptyExponent used rest a r = exponent-exact limit used rest a r.says
+    token-exact limit kind.EmptyFraction used _ rest a r.says.0.3 (numeral-begins r.says.0.0 r.says.0.1 (46 ∷ []) r.says.0.2.1 r.says.0.2.0) (λ fs. fraction-stops limit fs r.says.0.0 r.says.0.1 rest r.says.0.2.0 r.says.0.2.1 r.says.0.2.2 r.says.0.4)
+exact limit kind.EmptyExponent used rest a r = exponent-exact limit used rest a r.says.0
 exact limit kind.NumberOutOfRange used rest a r =
-    number-exact limit r.says.4.front (begun limit used (spelling r.says.0) a r.says.4) r.says.0 r.says.1 r.says.2 used rest r.says.4.whole r.says.5 r.not_too_soon kind.NumberOutOfRange
-    (range-finish limit (path_frames (begun limit used (spelling r.says.0) a r.says.4).path) r.says.0 r.says.3)
+    number-exact limit r.says.0.4.front (begun limit used (spelling r.says.0.0) a r.says.0.4) r.says.0.0 r.says.0.1 r.says.0.2 used rest r.says.0.4.whole r.says.0.5 r.not_too_soon kind.NumberOutOfRange
+    (range-finish limit (path_frames (begun limit used (spelling r.says.0.0) a r.says.0.4).path) r.says.0.0 r.says.0.3)
 exact limit kind.OutOfMemory used rest a r = absurd r.says
-exact limit (kind.TooDeep c) used rest a r = deep-exact limit used (awaits-ready limit used a r.place) c r.says.0.0 rest r.says.0.1 r.says.1 (r.not_too_soon c r.says.0.0 r.says.0.1)
+exact limit (kind.TooDeep c) used rest a r = deep-exact limit used (awaits-ready limit used a r.says.1) c r.says.0.0.0 rest r.says.0.0.1 r.says.0.1 (r.not_too_soon c r.says.0.0.0 r.says.0.0.1)
 
 -- ---- the laws
 

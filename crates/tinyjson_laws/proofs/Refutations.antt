@@ -261,10 +261,10 @@ memory_behind_a_text : ¬ RefusalSays None error.OutOfMemory (codes "[1]x") []
 unfolding run step end value power_fits
 memory_behind_a_text r =
     let right : IsRefusal None (error.ExpectedEof 120) (codes "[1]x") [] = refusal-of refl refl in
-    right.place.1 r.0.viable
+    right.says.1.1 r.0.viable
 
 memory_at_a_wrong_bracket : ¬ RefusalSays None error.OutOfMemory (codes "[1}") (codes "]")
 unfolding run step end value power_fits
 memory_at_a_wrong_bracket r =
     let right : IsRefusal None (error.ExpectedCommaOrBracket 125) (codes "[1}") (codes "]") = refusal-of refl refl in
-    right.place.1 r.0.viable
+    right.says.1.1 r.0.viable

@@ -10,14 +10,14 @@ use Rattle.tinyjson.specs.Grammar.{IsLoose, IsText, IsAccepted}
 use Rattle.tinyjson.specs.Prefix.{IsViable, IsFaultless, IsCutOffText}
 use Rattle.tinyjson.specs.private.Machine.{Rules, Frame, Phase, awaited, Next, next, stop, Outcome, accepted, refused, step, end, run, go_on}
 use Rattle.tinyjson.specs.declared.parser.error.JsonParseErrorKind.{JsonParseErrorKind}
-use Rattle.tinyjson.specs.declared.parser.error.JsonParseErrorKind.TheVariants.{UnexpectedEof, InvalidCharacter, ExpectedEof, KeyNotString, ExpectedColon, ExpectedCommaOrBrace, ExpectedCommaOrBracket, InvalidUtf16, InvalidHexDigit, InvalidEscape, ControlCharacter, UnexpectedInLiteral, EmptyInteger, LeadingZero, EmptyFraction, EmptyExponent, NumberOutOfRange, OutOfMemory, TooDeep}
-use Rattle.tinyjson.specs.Refusal.{PlaceSays, NoStringAt, AwaitsAt, IsNotTooLate, IsRefusal}
+use Rattle.tinyjson.specs.declared.parser.error.JsonParseErrorKind.TheVariants.{KeyNotString}
+use Rattle.tinyjson.specs.Refusal.{KindSays, IsNotTooLate, IsRefusal}
 use Rattle.tinyjson.specs.Prefix.{IsLooselyViable}
 use Rattle.tinyjson.proofs.Grammar.Trace.Paths.{outside}
 use Rattle.tinyjson.proofs.Grammar.Prefix.Faultless.{viable-before}
 use Rattle.tinyjson.proofs.Grammar.Trace.State.{Ranges, Spells, at_awaited}
 use Rattle.tinyjson.proofs.Grammar.Prefix.Viable.{read-viable}
-use Rattle.tinyjson.proofs.Grammar.Step.Statement.{loosely, NoQuoteFrom, Cut, Place, ErrorSays, Comes, Follows}
+use Rattle.tinyjson.proofs.Grammar.Step.Statement.{loosely, NoQuoteFrom, Denies, IsDead, Follows}
 use Rattle.tinyjson.proofs.Grammar.Step.Character.{step-follows, end-follows, Ends}
 use Rattle.tinyjson.proofs.Grammar.Accepts.Text.{rules, text-accepted, loose-accepted}
 use Rattle.tinyjson.proofs.Grammar.Prefix.Unviable.{cut_off-end}
@@ -67,6 +67,13 @@ taken-unviable limit used fs q c k h e = unviable limit (used ++ c ∷ []) (λ y
 dies : (limit : Option ℕ) (used : List ℕ) (fs : List Frame) (q : Phase) (c : ℕ) (k : JsonParseErrorKind) → Reached limit used fs q → is_own k ≡ false → step (strictly limit) fs q c ≡ stop k true → ¬ IsLooselyViable limit (used ++ c ∷ [])
 dies limit used fs q c k h o e = loosely-unviable limit (used ++ c ∷ []) (λ ys t g. no_text k ys t (sym (taken-run false limit used fs q c k h (strict-stop limit fs q c k true o e) ys) ∙ g))
 
+-- what is denied where the machine stands so
+pub denies : (limit : Option ℕ) (used : List ℕ) (fs : List Frame) (q : Phase) → Reached limit used fs q → Denies limit used fs q
+denies limit used fs q h = record { no_quote = no-quote limit used fs q h; unviable = λ n. unviable limit used (λ ys t e. n ys t (sym (h true ys) ∙ e)) }
+
+pub is-dead : (limit : Option ℕ) (used : List ℕ) (fs : List Frame) (q : Phase) (c : ℕ) (k : JsonParseErrorKind) → Reached limit used fs q → step (strictly limit) fs q c ≡ stop k true → IsDead limit (used ++ c ∷ []) k
+is-dead limit used fs q c k h e = record { unviable = taken-unviable limit used fs q c k h e; loosely = λ o. dies limit used fs q c k h o e }
+
 -- the next character is too many: not even the first key that is no string is still to come
 no_middle : (limit : Option ℕ) (u : List ℕ) (d : ℕ) (k : JsonParseErrorKind) → ((ys : List ℕ) → run (strictly limit) [] awaited (u ++ d ∷ ys) ≡ refused k (d ∷ ys)) → (ys : List ℕ) →
     (IsAccepted limit ((u ++ d ∷ []) ++ ys) ⊎ IsCutOffText limit ((u ++ d ∷ []) ++ ys)) → ⊥
@@ -80,7 +87,7 @@ no_middle limit u d k h ys (inr b) =
 pub not-faultless : (limit : Option ℕ) (u : List ℕ) (d : ℕ) (k : JsonParseErrorKind) → ((ys : List ℕ) → run (strictly limit) [] awaited (u ++ d ∷ ys) ≡ refused k (d ∷ ys)) → ¬ IsFaultless limit (u ++ d ∷ [])
 not-faultless limit u d k h a = no_middle limit u d k h a.0 a.1
 
--- ---- the place
+-- ---- without its last character it is viable in the loose grammar
 
 abbrev init : List ℕ → List ℕ
 init [] = []
@@ -94,58 +101,6 @@ init-push (x ∷ y ∷ ys) c = ap (λ zs. x ∷ zs) (init-push (y ∷ ys) c)
 
 same_front : (front other : List ℕ) (c d : ℕ) → front ++ c ∷ [] ≡ other ++ d ∷ [] → front ≡ other
 same_front front other c d e = sym (init-push front c) ∙ (ap init e ∙ init-push other d)
-
-abbrev no-string-at : (limit : Option ℕ) (used front : List ℕ) (c d : ℕ) → used ++ c ∷ [] ≡ front ++ d ∷ [] → IsFaultless limit front → ¬ IsLooselyViable limit (used ++ 34 ∷ []) → NoStringAt limit (used ++ c ∷ []) d
-no-string-at limit used front c d e m n = record { front = front; ends = e; faultless = m; no_string = subst (λ xs. ¬ IsLooselyViable limit (xs ++ 34 ∷ [])) (same_front used front c d e) n }
-
-awaits-at : (limit : Option ℕ) (used : List ℕ) (c d n : ℕ) → Comes limit (used ++ c ∷ []) d n → ¬ IsLooselyViable limit (used ++ 34 ∷ []) → AwaitsAt limit (used ++ c ∷ []) d n
-awaits-at limit used c d n h q = record { place = no-string-at limit used h.0 c d h.1 h.2 q; without_fault = h.3 }
-
--- of a kind that takes its character
-place-taken : (limit : Option ℕ) (used : List ℕ) (fs : List Frame) (q : Phase) (c : ℕ) (k : JsonParseErrorKind) → Reached limit used fs q → step (strictly limit) fs q c ≡ stop k true → Cut limit k true fs q → Place limit k (used ++ c ∷ []) → PlaceSays limit k (used ++ c ∷ [])
-place-taken limit used fs q c (ExpectedEof d) h e x p = (p, dies limit used fs q c _ h refl e)
-place-taken limit used fs q c (KeyNotString j) h e x p = (p.0, p.1, taken-unviable limit used fs q c _ h e)
-place-taken limit used fs q c (ExpectedColon d) h e x p = (awaits-at limit used c d 58 p (no-quote limit used fs q h x), dies limit used fs q c _ h refl e)
-place-taken limit used fs q c (ExpectedCommaOrBrace d) h e x p = (awaits-at limit used c d 125 p (no-quote limit used fs q h x), dies limit used fs q c _ h refl e)
-place-taken limit used fs q c (ExpectedCommaOrBracket d) h e x p = (awaits-at limit used c d 93 p (no-quote limit used fs q h x), dies limit used fs q c _ h refl e)
-place-taken limit used fs q c InvalidUtf16 h e x p = (p.0, p.1, taken-unviable limit used fs q c _ h e)
-place-taken limit used fs q c (InvalidHexDigit d) h e x p = (p, dies limit used fs q c _ h refl e)
-place-taken limit used fs q c (InvalidEscape d) h e x p = (p, dies limit used fs q c _ h refl e)
-place-taken limit used fs q c (ControlCharacter d) h e x p = (p.0, dies limit used fs q c _ h refl e, p.1)
-place-taken limit used fs q c (UnexpectedInLiteral d) h e x p = (no-string-at limit used p.0 c d p.1 p.2 (no-quote limit used fs q h x), dies limit used fs q c _ h refl e)
-place-taken limit used fs q c UnexpectedEof h e x p = elim x [ ]
-place-taken limit used fs q c (InvalidCharacter d) h e x p = elim x [ ]
-place-taken limit used fs q c EmptyInteger h e x p = elim x [ ]
-place-taken limit used fs q c LeadingZero h e x p = elim x [ ]
-place-taken limit used fs q c EmptyFraction h e x p = elim x [ ]
-place-taken limit used fs q c EmptyExponent h e x p = elim x [ ]
-place-taken limit used fs q c NumberOutOfRange h e x p = elim x [ ]
-place-taken limit used fs q c OutOfMemory h e x p = elim x [ ]
-place-taken limit used fs q c (TooDeep d) h e x p = elim x [ ]
-
--- of a kind that leaves it, or that comes at the end
-place-left : (limit : Option ℕ) (used : List ℕ) (fs : List Frame) (q : Phase) (k : JsonParseErrorKind) → Reached limit used fs q → Cut limit k false fs q → Place limit k used → PlaceSays limit k used
-place-left limit used fs q UnexpectedEof h x p = p
-place-left limit used fs q (InvalidCharacter d) h x p = p
-place-left limit used fs q (KeyNotString j) h x p = (p.0, p.1, unviable limit used (λ ys u e. x ys u (sym (h true ys) ∙ e)))
-place-left limit used fs q EmptyInteger h x p = (p.0, (p.1, no-quote limit used fs q h x))
-place-left limit used fs q LeadingZero h x p = (p.0, (p.1, no-quote limit used fs q h x.0), unviable limit used (λ ys u e. x.1 ys u (sym (h true ys) ∙ e)))
-place-left limit used fs q EmptyFraction h x p = (p.0, (p.1, no-quote limit used fs q h x))
-place-left limit used fs q EmptyExponent h x p = (p.0, (p.1, no-quote limit used fs q h x))
-place-left limit used fs q NumberOutOfRange h x p = (p.0, (p.1, no-quote limit used fs q h x))
-place-left limit used fs q (TooDeep d) h x p = p
-place-left limit used fs q (ExpectedEof d) h x p = elim x [ ]
-place-left limit used fs q (ExpectedColon d) h x p = elim x [ ]
-place-left limit used fs q (ExpectedCommaOrBrace d) h x p = elim x [ ]
-place-left limit used fs q (ExpectedCommaOrBracket d) h x p = elim x [ ]
-place-left limit used fs q InvalidUtf16 h x p = elim x [ ]
-place-left limit used fs q (InvalidHexDigit d) h x p = elim x [ ]
-place-left limit used fs q (InvalidEscape d) h x p = elim x [ ]
-place-left limit used fs q (ControlCharacter d) h x p = elim x [ ]
-place-left limit used fs q (UnexpectedInLiteral d) h x p = elim x [ ]
-place-left limit used fs q OutOfMemory h x p = elim x [ ]
-
--- ---- without its last character it is viable in the loose grammar
 
 pub late-one : (limit : Option ℕ) (used : List ℕ) (c : ℕ) → IsLooselyViable limit used → IsNotTooLate limit (used ++ c ∷ [])
 late-one limit used c h front d e = subst (IsLooselyViable limit) (same_front used front c d e) h
@@ -161,8 +116,7 @@ refuses limit xs rest k e a = no_text k rest a.0 (sym e ∙ text-accepted limit 
 refusal-taken : (limit : Option ℕ) (used : List ℕ) (fs : List Frame) (q : Phase) (c : ℕ) (k : JsonParseErrorKind) (rest : List ℕ) → Reached limit used fs q → IsLooselyViable limit used → step (strictly limit) fs q c ≡ stop k true → Follows limit used fs q c (stop k true) →
     IsRefusal limit k (used ++ c ∷ []) rest
 refusal-taken limit used fs q c k rest h a e f = record {
-  says = (f.0 rest).0;
-  place = place-taken limit used fs q c k h e f.1 (f.0 rest).1;
+  says = f rest (denies limit used fs q h) (is-dead limit used fs q c k h e);
   refused = refuses limit ((used ++ c ∷ []) ++ rest) rest k (taken-run true limit used fs q c k h e rest);
   not_too_soon = λ d more g. not-faultless limit (used ++ c ∷ []) d k (λ ys. taken-run true limit used fs q c k h e (d ∷ ys));
   not_too_late = late-one limit used c a;
@@ -171,8 +125,7 @@ refusal-taken limit used fs q c k rest h a e f = record {
 refusal-left : (limit : Option ℕ) (used : List ℕ) (fs : List Frame) (q : Phase) (c : ℕ) (k : JsonParseErrorKind) (cs : List ℕ) → Reached limit used fs q → IsLooselyViable limit used → step (strictly limit) fs q c ≡ stop k false → Follows limit used fs q c (stop k false) →
     IsRefusal limit k used (c ∷ cs)
 refusal-left limit used fs q c k cs h a e f = record {
-  says = (f.0 cs).0;
-  place = place-left limit used fs q k h f.1 (f.0 cs).1;
+  says = f cs (denies limit used fs q h);
   refused = refuses limit (used ++ c ∷ cs) (c ∷ cs) k (h true (c ∷ cs) ∙ run-left (strictly limit) fs q c k cs e);
   not_too_soon = λ d more g. subst (λ x. ¬ IsFaultless limit (used ++ x ∷ [])) (same_head c d cs more g) (not-faultless limit used c k (λ ys. h true (c ∷ ys) ∙ run-left (strictly limit) fs q c k ys e));
   not_too_late = late-none limit used a;
@@ -181,10 +134,9 @@ refusal-left limit used fs q c k cs h a e f = record {
     same_head : (x y : ℕ) (xs ys : List ℕ) → x ∷ xs ≡ y ∷ ys → x ≡ y
     same_head x y xs ys g = cc
 
-refusal-end : (limit : Option ℕ) (used : List ℕ) (fs : List Frame) (q : Phase) (k : JsonParseErrorKind) → Reached limit used fs q → IsLooselyViable limit used → run (strictly limit) fs q [] ≡ refused k [] → ErrorSays limit k used [] → Cut limit k false fs q → IsRefusal limit k used []
-refusal-end limit used fs q k h a e f x = record {
-  says = f.0;
-  place = place-left limit used fs q k h x f.1;
+refusal-end : (limit : Option ℕ) (used : List ℕ) (fs : List Frame) (q : Phase) (k : JsonParseErrorKind) → Reached limit used fs q → IsLooselyViable limit used → run (strictly limit) fs q [] ≡ refused k [] → (Denies limit used fs q → KindSays limit k used []) → IsRefusal limit k used []
+refusal-end limit used fs q k h a e f = record {
+  says = f (denies limit used fs q h);
   refused = refuses limit (used ++ []) [] k (h true [] ∙ e);
   not_too_soon = λ d more g. absurd (no_more d more g);
   not_too_late = late-none limit used a;
@@ -211,7 +163,7 @@ go-results limit used fs q c cs more (stop k false) e r h a on = ([], refl, subs
 end-results : (limit : Option ℕ) (used : List ℕ) (fs : List Frame) (q : Phase) (o : Outcome) → run (strictly limit) fs q [] ≡ o → Reached limit used fs q → Ends limit used fs q o → IsLooselyViable limit used → Results limit used [] o
 end-results limit used fs q (accepted t) e r h a = subst (λ xs. IsText limit xs t) (sym (append-nil used)) h
 end-results limit used fs q (refused k rest) e r h a =
-    ([], sym h.0, rw h.0 (subst (λ xs. IsRefusal limit k xs []) (sym (append-nil used)) (refusal-end limit used fs q k r a (e ∙ ap (refused k) h.0) h.1 h.2)))
+    ([], sym h.0, rw h.0 (subst (λ xs. IsRefusal limit k xs []) (sym (append-nil used)) (refusal-end limit used fs q k r a (e ∙ ap (refused k) h.0) h.1)))
 
 pub step-spells : Ranges → (limit : Option ℕ) (used : List ℕ) (fs : List Frame) (q : Phase) → Spells limit used fs q → (c : ℕ) → IsScalar c → Follows limit used fs q c (step (strictly limit) fs q c)
 step-spells ranges limit used fs q s c hc = rw (s.whole, s.frames, s.phase) (step-follows ranges limit s.read s.is c hc)

@@ -9,19 +9,19 @@ use Rattle.tinyjson.specs.Syntax.{Syntax, text, tree_of}
 use Rattle.tinyjson_number.specs.Numeral.{has_leading_zero, value, in_range}
 use Rattle.tinyjson.specs.Grammar.{IsText}
 use Rattle.tinyjson.specs.declared.parser.error.JsonParseErrorKind.TheVariants.{UnexpectedEof, UnexpectedInLiteral}
-use Rattle.tinyjson.specs.private.Machine.{Next, complete, step_word, step, end, end_digits, end_plain, Outcome, accepted, refused, finish}
+use Rattle.tinyjson.specs.private.Machine.{Next, stop, complete, step_word, step, end, end_digits, end_plain, Outcome, accepted, refused, finish}
 use Rattle.std.proofs.Common.{length-append}
 use Rattle.tinyjson.proofs.Grammar.Trace.Paths.{Path, outside, item_in, key_in, value_in, path_text, path_frames, IsPath, within_le}
 use Rattle.tinyjson.proofs.Grammar.Trace.State.{Part, part_point, part_fraction, part_letter, part_sign, part_exponent, part_text, part_stage, part_numeral, IsPart, Ranges, Read, at_first, at_awaited, in_word, in_digits, in_quoted, at_after, part_minus, part_whole, read_text, read_frames, read_phase, IsRead, IsWord, flat_within}
 use Rattle.tinyjson.proofs.Grammar.Prefix.Viable.{faultless-value, read-viable, read-prompt}
-use Rattle.tinyjson.proofs.Grammar.Step.Statement.{ErrorSays, Follows, at_code, key-says}
+use Rattle.tinyjson.proofs.Grammar.Step.Statement.{Follows, at_code, key-says}
 use Rattle.tinyjson.proofs.Grammar.Step.Awaits.{begins-at, awaits-value}
 use Rattle.tinyjson.proofs.Grammar.Step.Value.{complete-follows, after-follows}
 use Rattle.tinyjson.proofs.Grammar.Trace.State.{numeral}
 use Rattle.std.proofs.Common.{inl, inr, None}
-use Rattle.tinyjson.proofs.Grammar.Step.Statement.{NoQuoteFrom, Cut}
+use Rattle.tinyjson.proofs.Grammar.Step.Statement.{NoQuoteFrom, Denies}
 use Rattle.std.specs.Prelude.{⊤}
-use Rattle.tinyjson.specs.Refusal.{IsLiteral, NeedsMore, BeginsEscape}
+use Rattle.tinyjson.specs.Refusal.{KindSays, IsLiteral, NeedsMore, BeginsEscape}
 use Rattle.tinyjson.specs.Prefix.{IsFaultless}
 use Rattle.tinyjson.specs.private.Machine.{Within}
 use Rattle.tinyjson.specs.private.Machine
@@ -47,21 +47,6 @@ index-front (x ∷ xs) y ys = index-front xs y ys
 shorter-front : (xs : List ℕ) (y : ℕ) (ys : List ℕ) → length xs < length (xs ++ y ∷ ys)
 shorter-front xs y ys = rw (length-append xs (y ∷ ys)) (omega arith)
 
-word-says : (limit : Option ℕ) (p : Path) → IsPath limit p → (s : Syntax) (done : List ℕ) (l : ℕ) (left : List ℕ) → IsWord s done (l ∷ left) → (c : ℕ) → (c == l) ≡ false → (more : List ℕ) →
-    ErrorSays limit (UnexpectedInLiteral c) ((path_text p ++ done) ++ c ∷ []) more
-word-says limit p hp s done l left h c hc more = (
-  (
-    text s,
-    length done,
-    h.literal,
-    h.begun,
-    rw h.whole (shorter-front done l left),
-    begins-at limit p hp _ _ (rw h.whole (rw (take-front done (l ∷ left)) (append_assoc (path_text p) done (c ∷ [])))),
-    (λ e. eqb-false c l hc (sym e ∙ rw h.whole (index-front done l left))),
-  ),
-  (path_text p ++ done, refl, faultless-value limit p hp s h.value h.flat done (l ∷ left) h.whole),
-)
-
 -- no letter of a literal is a quote
 abbrev NoQuotes : List ℕ → Type 0
 NoQuotes [] = ⊤
@@ -84,11 +69,34 @@ unfolding run step
 quote-word limit fs l [] t h ys u e = no_text _ _ u (rw h at e)
 quote-word limit fs l (m ∷ ls) t h ys u e = no_text _ _ u (rw h at e)
 
+word-says : (limit : Option ℕ) (p : Path) → IsPath limit p → (s : Syntax) (done : List ℕ) (l : ℕ) (left : List ℕ) → IsWord s done (l ∷ left) → (c : ℕ) → (c == l) ≡ false →
+    Follows limit (path_text p ++ done) (path_frames p) (word (l ∷ left) (tree_of s)) c (stop (UnexpectedInLiteral c) true)
+word-says limit p hp s done l left h c hc more d x = (
+  (
+    text s,
+    length done,
+    h.literal,
+    h.begun,
+    rw h.whole (shorter-front done l left),
+    begins-at limit p hp _ _ (rw h.whole (rw (take-front done (l ∷ left)) (append_assoc (path_text p) done (c ∷ [])))),
+    (λ e. eqb-false c l hc (sym e ∙ rw h.whole (index-front done l left))),
+  ),
+  (
+    record {
+      front = path_text p ++ done;
+      ends = refl;
+      faultless = faultless-value limit p hp s h.value h.flat done (l ∷ left) h.whole;
+      no_string = d.no_quote (quote-word limit (path_frames p) l left (tree_of s) (word-no_quote s done l left h));
+    },
+    x.loosely refl,
+  ),
+)
+
 word-follows : (limit : Option ℕ) (p : Path) → IsPath limit p → (s : Syntax) (done left : List ℕ) → IsWord s done left → (c : ℕ) → Follows limit (path_text p ++ done) (path_frames p) (word left (tree_of s)) c (step_word (strictly limit) (path_frames p) left (tree_of s) c)
 word-follows limit p hp s done [] h c = absurd (omega (arith, h.more))
 word-follows limit p hp s done (l ∷ []) h c =
     at_code limit _ _ _ c l _ _ (λ e. complete-follows limit p hp s h.value (flat_within limit p s hp h.flat) h.no_number _ _ _ c (append_assoc (path_text p) done (c ∷ []) ∙ ap (λ xs. path_text p ++ xs) (ap (λ x. done ++ x ∷ []) e ∙ sym h.whole)))
-    (λ e. ((λ more. word-says limit p hp s done l [] h c e more), quote-word limit (path_frames p) l [] (tree_of s) (word-no_quote s done l [] h)))
+    (λ e. word-says limit p hp s done l [] h c e)
 word-follows limit p hp s done (l ∷ m ∷ ls) h c =
     at_code limit _ _ _ c l _ _
     (λ e. record {
@@ -98,7 +106,7 @@ word-follows limit p hp s done (l ∷ m ∷ ls) h c =
       frames = refl;
       phase = refl;
     })
-    (λ e. ((λ more. word-says limit p hp s done l (m ∷ ls) h c e more), quote-word limit (path_frames p) l (m ∷ ls) (tree_of s) (word-no_quote s done l (m ∷ ls) h)))
+    (λ e. word-says limit p hp s done l (m ∷ ls) h c e)
 
 -- each character is followed
 pub step-follows : Ranges → (limit : Option ℕ) (x : Read) → IsRead limit x → (c : ℕ) → IsScalar c → Follows limit (read_text x) (read_frames x) (read_phase x) c (step (strictly limit) (read_frames x) (read_phase x) c)
@@ -117,7 +125,7 @@ step-follows ranges limit (at_after (value_in p ps a k b w) s v) h c hc = after-
 
 abbrev pub Ends : Option ℕ → List ℕ → List Frame → Phase → Outcome → Type 0
 Ends limit used fs q (accepted t) = IsText limit used t
-Ends limit used fs q (refused k rest) = (rest ≡ []) × ErrorSays limit k used [] × Cut limit k false fs q
+Ends limit used fs q (refused k rest) = (rest ≡ []) × (Denies limit used fs q → KindSays limit k used [])
 
 -- what a state but a numeral needs
 abbrev Short : Read → Type 0
@@ -146,10 +154,10 @@ needs limit (at_after (item_in p es w) s v) h i = inr (inr (inr (inr (inl (close
 needs limit (at_after (key_in p ps w) s v) h i = inr (inr (inr (inl (taken-key limit p ps w s v h))))
 needs limit (at_after (value_in p ps a k b w) s v) h i = inr (inr (inr (inr (inr (closed-object limit p ps a k b w s v h)))))
 
-eof-says : Ranges → (limit : Option ℕ) (x : Read) → IsRead limit x → NeedsMore limit (read_text x) → ErrorSays limit UnexpectedEof (read_text x) []
+eof-says : Ranges → (limit : Option ℕ) (x : Read) → IsRead limit x → NeedsMore limit (read_text x) → KindSays limit UnexpectedEof (read_text x) []
 eof-says ranges limit x h m = ((refl, m), (read-prompt ranges limit x h, read-viable limit x h))
 
-eof : Ranges → (limit : Option ℕ) (x : Read) → IsRead limit x → Short x → ErrorSays limit UnexpectedEof (read_text x) []
+eof : Ranges → (limit : Option ℕ) (x : Read) → IsRead limit x → Short x → KindSays limit UnexpectedEof (read_text x) []
 eof ranges limit x h i = eof-says ranges limit x h (needs limit x h i)
 
 abbrev EndsPlain : Option ℕ → List ℕ → List Frame → Phase → Next → Type 0
@@ -174,42 +182,45 @@ number-ends ranges limit (item_in p es w) hp n hn h e =
     let a : IsFaultless limit ((path_text (item_in p es w) ++ (text (Syntax.number (part_numeral n)) ++ [])) ++ 93 ∷ []) =
     closed-array limit p es w (Syntax.number (part_numeral n)) [] (hp, done-value n h e, tt, flat_within limit (item_in p es w) (Syntax.number (part_numeral n)) hp refl, tt) in
     let b : IsFaultless limit ((path_text (item_in p es w) ++ part_text n) ++ 93 ∷ []) = subst (λ xs. IsFaultless limit ((path_text (item_in p es w) ++ xs) ++ 93 ∷ [])) (append-nil _ ∙ sym h.whole) a in
-    (refl, eof-says ranges limit (in_digits (item_in p es w) n) (hp, hn) (inr (inr (inr (inr (inl b))))), tt)
-number-ends ranges limit (key_in p ps w) hp n hn h e =
-    (refl, key-says limit p ps w hp (Syntax.number (part_numeral n)) (done-value n h e) refl (flat_within limit (key_in p ps w) (Syntax.number (part_numeral n)) hp refl) _ (ap (λ xs. path_text (key_in p ps w) ++ xs) h.whole) [] tt, (λ ys t. key-unviable ys (strictly limit) (members_from no_members ps) (path_frames p) (part_stage n) (part_numeral n) t refl))
+    (refl, (λ x. eof-says ranges limit (in_digits (item_in p es w) n) (hp, hn) (inr (inr (inr (inr (inl b)))))))
+number-ends ranges limit (key_in p ps w) hp n hn h e = (
+  refl,
+  (λ x. key-says limit p ps w hp (Syntax.number (part_numeral n)) (done-value n h e) refl (flat_within limit (key_in p ps w) (Syntax.number (part_numeral n)) hp refl) _ (ap (λ xs. path_text (key_in p ps w) ++ xs) h.whole) [] tt
+      (x.unviable (λ ys t. key-unviable ys (strictly limit) (members_from no_members ps) (path_frames p) (part_stage n) (part_numeral n) t refl))),
+)
 number-ends ranges limit (value_in p ps a k b w) hp n hn h e =
     let x : IsFaultless limit ((path_text (value_in p ps a k b w) ++ (text (Syntax.number (part_numeral n)) ++ [])) ++ 125 ∷ []) =
     closed-object limit p ps a k b w (Syntax.number (part_numeral n)) [] (hp, done-value n h e, tt, flat_within limit (value_in p ps a k b w) (Syntax.number (part_numeral n)) hp refl, tt) in
     let y : IsFaultless limit ((path_text (value_in p ps a k b w) ++ part_text n) ++ 125 ∷ []) = subst (λ xs. IsFaultless limit ((path_text (value_in p ps a k b w) ++ xs) ++ 125 ∷ [])) (append-nil _ ∙ sym h.whole) x in
-    (refl, eof-says ranges limit (in_digits (value_in p ps a k b w) n) (hp, hn) (inr (inr (inr (inr (inr y))))), tt)
+    (refl, (λ u. eof-says ranges limit (in_digits (value_in p ps a k b w) n) (hp, hn) (inr (inr (inr (inr (inr y)))))))
 
 finish-ends : Ranges → (limit : Option ℕ) (p : Path) → IsPath limit p → (n : Part) → IsPart n → IsDone n → EndsPlain limit (path_text p ++ part_text n) (path_frames p) (digits (part_stage n) (part_numeral n)) (finish (strictly limit) (path_frames p) (part_numeral n))
 finish-ends ranges limit p hp n hn h =
     plain-either limit _ _ _ (not (in_range (value (part_numeral n)))) _ _
-    (λ e. (refl, range-says ranges limit p hp n hn h.numeral h.no_zero h.whole (not-true _ e) [] tt, quote-digits limit p n)) (λ e. number-ends ranges limit p hp n hn h (not-false _ e))
+    (λ e. (refl, (λ x. range-says ranges limit p hp n hn h.numeral h.no_zero h.whole (not-true _ e) [] tt x))) (λ e. number-ends ranges limit p hp n hn h (not-false _ e))
 
 ends-either : (limit : Option ℕ) (used : List ℕ) (fs : List Frame) (q : Phase) (b : Bool) (x y : Outcome) → (b ≡ true → Ends limit used fs q x) → (b ≡ false → Ends limit used fs q y) → Ends limit used fs q (cond b x y)
 ends-either limit used fs q true x y f g = f refl
 ends-either limit used fs q false x y f g = g refl
 
 digits-end : Ranges → (limit : Option ℕ) (p : Path) → IsPath limit p → (n : Part) → IsPart n → Ends limit (path_text p ++ part_text n) (path_frames p) (digits (part_stage n) (part_numeral n)) (end_digits (strictly limit) (path_frames p) (part_stage n) (part_numeral n))
-digits-end ranges limit p hp part_minus h = (refl, minus-says ranges limit p hp [] tt, quote-digits limit p part_minus)
+digits-end ranges limit p hp part_minus h = (refl, (λ x. minus-says ranges limit p hp [] tt x))
 digits-end ranges limit p hp (part_whole b d ds) h =
-    ends-either limit _ _ _ (has_leading_zero (d ∷ ds)) _ _ (λ e. (refl, zero-says ranges limit p hp b d ds h e [] tt, (quote-digits limit p (part_whole b d ds), (λ ys t. zero-unviable ys (strictly limit) (path_frames p) (numeral b (d ∷ ds) [] None) t refl e)))) (λ e. finish-ends ranges limit p hp (part_whole b d ds) h (whole-done b d ds (h, e)))
-digits-end ranges limit p hp (part_point b d ds) h = (refl, point-says ranges limit p hp b d ds h [] tt, quote-digits limit p (part_point b d ds))
+    ends-either limit _ _ _ (has_leading_zero (d ∷ ds)) _ _ (λ e. (refl, (λ x. zero-says ranges limit p hp b d ds h e [] tt x))) (λ e. finish-ends ranges limit p hp (part_whole b d ds) h (whole-done b d ds (h, e)))
+digits-end ranges limit p hp (part_point b d ds) h = (refl, (λ x. point-says ranges limit p hp b d ds h [] tt x))
 digits-end ranges limit p hp (part_fraction b d ds e es) h = finish-ends ranges limit p hp (part_fraction b d ds e es) h (fraction-done b d ds e es h)
-digits-end ranges limit p hp (part_letter b d ds f l) h = (refl, letter-says ranges limit p hp b d ds f l h [] tt, quote-digits limit p (part_letter b d ds f l))
-digits-end ranges limit p hp (part_sign b d ds f l s) h = (refl, sign-says ranges limit p hp b d ds f l s h [] tt, quote-digits limit p (part_sign b d ds f l s))
+digits-end ranges limit p hp (part_letter b d ds f l) h = (refl, (λ x. letter-says ranges limit p hp b d ds f l h [] tt x))
+digits-end ranges limit p hp (part_sign b d ds f l s) h = (refl, (λ x. sign-says ranges limit p hp b d ds f l s h [] tt x))
 digits-end ranges limit p hp (part_exponent b d ds f l s e es) h = finish-ends ranges limit p hp (part_exponent b d ds f l s e es) h (exponent-done b d ds f l s e es h)
 
 pub end-follows : Ranges → (limit : Option ℕ) (x : Read) → IsRead limit x → Ends limit (read_text x) (read_frames x) (read_phase x) (end (strictly limit) (read_frames x) (read_phase x))
 unfolding end
-end-follows ranges limit (at_first p) h = (refl, eof ranges limit (at_first p) h tt, tt)
-end-follows ranges limit (at_awaited p) h = (refl, eof ranges limit (at_awaited p) h tt, tt)
-end-follows ranges limit (in_word p s done left) h = (refl, eof ranges limit (in_word p s done left) h tt, tt)
+end-follows ranges limit (at_first p) h = (refl, (λ x. eof ranges limit (at_first p) h tt))
+end-follows ranges limit (at_awaited p) h = (refl, (λ x. eof ranges limit (at_awaited p) h tt))
+end-follows ranges limit (in_word p s done left) h = (refl, (λ x. eof ranges limit (in_word p s done left) h tt))
 end-follows ranges limit (in_digits p n) h = digits-end ranges limit p h.0 n h.1
-end-follows ranges limit (in_quoted p ps cs qs wi) h = (refl, eof ranges limit (in_quoted p ps cs qs wi) h tt, tt)
+end-follows ranges limit (in_quoted p ps cs qs wi) h = (refl, (λ x. eof ranges limit (in_quoted p ps cs qs wi) h tt))
 end-follows ranges limit (at_after (outside w) s v) h = ends-text limit w s v h
-end-follows ranges limit (at_after (item_in p es w) s v) h = (refl, eof ranges limit (at_after (item_in p es w) s v) h tt, tt)
-end-follows ranges limit (at_after (key_in p ps w) s v) h = (refl, eof ranges limit (at_after (key_in p ps w) s v) h tt, tt)
-end-follows ranges limit (at_after (value_in p ps a k b w) s v) h = (refl, eof ranges limit (at_after (value_in p ps a k b w) s v) h tt, tt)
+end-follows ranges limit (at_after (item_in p es w) s v) h = (refl, (λ x. eof ranges limit (at_after (item_in p es w) s v) h tt))
+end-follows ranges limit (at_after (key_in p ps w) s v) h = (refl, (λ x. eof ranges limit (at_after (key_in p ps w) s v) h tt))
+end-follows ranges limit (at_after (value_in p ps a k b w) s v) h = (refl, (λ x. eof ranges limit (at_after (value_in p ps a k b w) s v) h tt))

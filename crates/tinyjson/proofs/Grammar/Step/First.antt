@@ -55,7 +55,7 @@ pub push-follows : (limit : Option ℕ) (p q : Path) (f : Frame) (c : ℕ) → I
 push-follows limit p q f c hp hc hf ht hq h fs a =
     either limit (path_text p) fs a c (fits limit (length (path_frames p))) _ _
     (λ e. record { read = at_first q; is = (h (rw (← level-frames p) (fits_within limit (length (path_frames p)) e)), hq); whole = ht; frames = sym hf; phase = refl })
-    (λ e. ((λ more. (((more, refl), hc, limited limit (length (path_frames p)) e), awaits-value limit p hp)), tt))
+    (λ e more d. (((more, refl), hc, limited limit (length (path_frames p)) e), awaits-value limit p hp))
 
 pub start-follows : (limit : Option ℕ) (p : Path) → IsPath limit p → (c : ℕ) → is_white c ≡ false → (fs : List Frame) (a : Phase) → Follows limit (path_text p) fs a c (start (strictly limit) (path_frames p) c)
 start-follows limit p hp c hw fs a =
@@ -66,8 +66,8 @@ start-follows limit p hp c hw fs a =
     at_code limit _ _ _ c 91 _ _ (λ e. push-follows limit p (item_in p [] []) (Machine.in_array []) c hp (inl e) refl (ap (λ x. path_text p ++ x ∷ []) e) tt (λ i. (hp, tt, tt, i)) fs a) (λ h4.
     at_code limit _ _ _ c 123 _ _ (λ e. push-follows limit p (key_in p [] []) (Machine.at_key no_members) c hp (inr e) refl (ap (λ x. path_text p ++ x ∷ []) e) tt (λ i. (hp, tt, tt, i)) fs a) (λ h5.
     at_code limit _ _ _ c 45 _ _ (λ e. record { read = in_digits p part_minus; is = (hp, tt); whole = ap (λ x. path_text p ++ x ∷ []) e; frames = refl; phase = refl }) (λ h6.
-    either limit _ _ _ c (is_ascii_digit c) _ _ (λ e. record { read = in_digits p (part_whole false c []); is = (hp, (e, tt)); whole = refl; frames = refl; phase = refl }) (λ h7.
-    ((λ more. (((more, refl), hw, none_begins c h0 h1 h2 h3 h4 h5 h6 h7), awaits-value limit p hp)), tt)))))))))
+    either limit _ _ _ c (is_ascii_digit c) _ _ (λ e. record { read = in_digits p (part_whole false c []); is = (hp, (e, tt)); whole = refl; frames = refl; phase = refl }) (λ h7 more d.
+    (((more, refl), hw, none_begins c h0 h1 h2 h3 h4 h5 h6 h7), awaits-value limit p hp)))))))))
 
 pub white-follows : (limit : Option ℕ) (p : Path) → IsPath limit p → (c : ℕ) → IsTrue (is_white c) → Spells limit (path_text p ++ c ∷ []) (path_frames p) awaited
 white-follows limit p hp c hc = record { read = at_awaited (whiter p c); is = whiter-path limit p hp c hc; whole = whiter-text p c; frames = whiter-frames p c; phase = refl }

@@ -10,16 +10,16 @@ use Rattle.tinyjson_number.specs.Numeral.{Numeral, IsNumeral, AreDigits, has_lea
 use Rattle.tinyjson.specs.Prefix.{IsValue}
 use Rattle.tinyjson.specs.declared.parser.error.JsonParseErrorKind.TheVariants.{EmptyInteger, LeadingZero, EmptyFraction, EmptyExponent, NumberOutOfRange}
 use Rattle.tinyjson.specs.private.Machine.{Frame, digits, Next, complete, step_digits, finish, then_step, unless_ended}
-use Rattle.tinyjson.specs.Refusal.{BeginsWithNone}
+use Rattle.tinyjson.specs.Refusal.{KindSays, BeginsWithNone}
 use Rattle.tinyjson_number.specs.Numeral.{is_sign}
 use Rattle.tinyjson_number.specs.Numeral.{is_exponent_letter}
 use Rattle.tinyjson.proofs.Grammar.Trace.Paths.{Path, outside, item_in, key_in, value_in, path_text, path_frames, IsPath}
 use Rattle.tinyjson.proofs.Grammar.Trace.State.{Part, part_point, part_fraction, part_letter, part_sign, part_exponent, part_text, part_stage, part_numeral, IsPart, IsWholePart, Ranges, in_digits, part_minus, part_whole, Spells, flat_within, ends-loosely}
 use Rattle.tinyjson.proofs.Grammar.Prefix.Viable.{part-ending, part-prompt, faultless-minus, faultless-point}
-use Rattle.tinyjson.proofs.Grammar.Step.Statement.{ErrorSays, Follows, either, key-says}
+use Rattle.tinyjson.proofs.Grammar.Step.Statement.{Follows, either, key-says}
 use Rattle.tinyjson.proofs.Grammar.Step.Awaits.{begins-at}
 use Rattle.tinyjson.proofs.Grammar.Prefix.Unviable.{key-unviable, zero-unviable}
-use Rattle.tinyjson.proofs.Grammar.Step.Statement.{loosely, NoQuoteFrom}
+use Rattle.tinyjson.proofs.Grammar.Step.Statement.{loosely, NoQuoteFrom, Denies}
 use Rattle.tinyjson.specs.private.Machine.{run, step, go_on, accepted, Phase}
 use Rattle.tinyjson.proofs.Grammar.Trace.State.{numeral, exponent_with}
 use Rattle.tinyjson.proofs.Grammar.Trace.Paths.{members_from}
@@ -27,54 +27,8 @@ use Rattle.tinyjson.specs.Tree.{Tree, no_members}
 use Rattle.tinyjson.proofs.Grammar.Step.Value.{no_text, after-follows}
 use Rattle.tinyjson_number.proofs.Naturals.{digits-append}
 
--- ---- what a number that stops tells
+-- ---- no quote follows
 
-module _ (ranges : Ranges) (limit : Option ℕ) (p : Path) (hp : IsPath limit p) where
-  pub minus-says : (rest : List ℕ) → BeginsWithNone is_ascii_digit rest → ErrorSays limit EmptyInteger (path_text p ++ 45 ∷ []) rest
-  minus-says rest h = ((begins-at limit p hp _ _ refl, h), (faultless-minus ranges limit p hp, ends-loosely limit p hp _ (part-ending part_minus tt)))
-
-  pub zero-says : (b : Bool) (d : ℕ) (ds : List ℕ) → AreDigits (d ∷ ds) → IsTrue (has_leading_zero (d ∷ ds)) → (rest : List ℕ) → BeginsWithNone is_ascii_digit rest →
-      ErrorSays limit LeadingZero (path_text p ++ (minus_text b ++ d ∷ ds)) rest
-  zero-says b d ds h i rest e =
-      ((b, d ∷ ds, i, h, begins-at limit p hp _ _ refl, e), (part-prompt ranges limit p hp (part_whole b d ds) h, ends-loosely limit p hp _ (part-ending (part_whole b d ds) h)))
-
-  pub point-says : (b : Bool) (d : ℕ) (ds : List ℕ) → IsWholePart d ds → (rest : List ℕ) → BeginsWithNone is_ascii_digit rest → ErrorSays limit EmptyFraction (path_text p ++ (minus_text b ++ d ∷ (ds ++ 46 ∷ []))) rest
-  point-says b d ds h rest e =
-      ((b, d ∷ ds, (h.0, omega arith, h.1), begins-at limit p hp _ _ refl, e), (faultless-point ranges limit p hp b d ds h, ends-loosely limit p hp _ (part-ending (part_point b d ds) h)))
-
-  pub letter-says : (b : Bool) (d : ℕ) (ds f : List ℕ) (l : ℕ) → IsPart (part_letter b d ds f l) → (rest : List ℕ) → BeginsWithNone (λ c. is_ascii_digit c || is_sign c) rest →
-      ErrorSays limit EmptyExponent (path_text p ++ part_text (part_letter b d ds f l)) rest
-  letter-says b d ds f l h rest e = (
-    (b, d ∷ ds, f, l, (h.0.0, omega arith, h.0.1), h.1, h.2, inl (begins-at limit p hp _ _ refl, e)),
-    (part-prompt ranges limit p hp (part_letter b d ds f l) h, ends-loosely limit p hp _ (part-ending (part_letter b d ds f l) h)),
-  )
-
-  pub sign-says : (b : Bool) (d : ℕ) (ds f : List ℕ) (l s : ℕ) → IsPart (part_sign b d ds f l s) → (rest : List ℕ) → BeginsWithNone is_ascii_digit rest →
-      ErrorSays limit EmptyExponent (path_text p ++ part_text (part_sign b d ds f l s)) rest
-  sign-says b d ds f l s h rest e = (
-    (b, d ∷ ds, f, l, (h.0.0, omega arith, h.0.1), h.1, h.2, inr (s, h.3, begins-at limit p hp _ _ refl, e)),
-    (part-prompt ranges limit p hp (part_sign b d ds f l s) h, ends-loosely limit p hp _ (part-ending (part_sign b d ds f l s) h)),
-  )
-
-  pub range-says : (n : Part) → IsPart n → IsNumeral (part_numeral n) → has_leading_zero (part_numeral n).whole ≡ false → part_text n ≡ spelling (part_numeral n) → in_range (value (part_numeral n)) ≡ false → (rest : List ℕ) → BeginsWithNone is_ascii_digit rest →
-      ErrorSays limit NumberOutOfRange (path_text p ++ part_text n) rest
-  range-says n h i j t e rest nd = ((part_numeral n, i, j, e, begins-at limit p hp _ _ (ap (λ xs. path_text p ++ xs) t), nd), (part-prompt ranges limit p hp n h, ends-loosely limit p hp _ (part-ending n h)))
-
--- the number may end here
-pub record IsDone (n : Part) : Type 0 where
-  pub numeral : IsNumeral (part_numeral n)
-  pub no_zero : has_leading_zero (part_numeral n).whole ≡ false
-  pub whole : part_text n ≡ spelling (part_numeral n)
-
-pub done-value : (n : Part) → IsDone n → IsTrue (in_range (value (part_numeral n))) → IsValue (Syntax.number (part_numeral n))
-done-value n h e = record { spelled = h.numeral; strict = (rw h.no_zero refl, e) }
-
-then-either : (limit : Option ℕ) (used : List ℕ) (fs : List Frame) (q : Phase) (c : ℕ) (b : Bool) (x y : Next) → (b ≡ true → Follows limit used fs q c (then_step (strictly limit) x c)) → (b ≡ false → Follows limit used fs q c (then_step (strictly limit) y c)) →
-    Follows limit used fs q c (then_step (strictly limit) (cond b x y) c)
-then-either limit used fs q c true x y f g = f refl
-then-either limit used fs q c false x y f g = g refl
-
--- no quote follows
 quote-ends : (limit : Option ℕ) (p : Path) (n : Numeral) (ys : List ℕ) (t : Tree) → go_on (λ gs q. run (loosely limit) gs q ys) (then_step (loosely limit) (finish (loosely limit) (path_frames p) n) 34) (34 ∷ ys) ys ≡ accepted t → ⊥
 quote-ends limit (outside w) n ys t e = no_text _ _ t e
 quote-ends limit (item_in p es w) n ys t e = no_text _ _ t e
@@ -91,13 +45,65 @@ quote-digits limit p (part_letter b d ds f l) ys t e = no_text _ _ t e
 quote-digits limit p (part_sign b d ds f l s) ys t e = no_text _ _ t e
 quote-digits limit p (part_exponent b d ds f l s x xs) ys t e = quote-ends limit p (numeral b (d ∷ ds) f (Some (exponent_with l s (x ∷ xs)))) ys t e
 
+-- ---- what a number that stops tells
+
+-- what cannot follow the part of a number
+abbrev pub DeniesPart : Option ℕ → Path → Part → Type 0
+DeniesPart limit p n = Denies limit (path_text p ++ part_text n) (path_frames p) (digits (part_stage n) (part_numeral n))
+
+module _ (ranges : Ranges) (limit : Option ℕ) (p : Path) (hp : IsPath limit p) where
+  pub minus-says : (rest : List ℕ) → BeginsWithNone is_ascii_digit rest → DeniesPart limit p part_minus → KindSays limit EmptyInteger (path_text p ++ 45 ∷ []) rest
+  minus-says rest h x = ((begins-at limit p hp _ _ refl, h), (faultless-minus ranges limit p hp, (ends-loosely limit p hp _ (part-ending part_minus tt), x.no_quote (quote-digits limit p part_minus))))
+
+  pub zero-says : (b : Bool) (d : ℕ) (ds : List ℕ) → AreDigits (d ∷ ds) → IsTrue (has_leading_zero (d ∷ ds)) → (rest : List ℕ) → BeginsWithNone is_ascii_digit rest →
+      DeniesPart limit p (part_whole b d ds) → KindSays limit LeadingZero (path_text p ++ (minus_text b ++ d ∷ ds)) rest
+  zero-says b d ds h i rest e x =
+      ((b, d ∷ ds, i, h, begins-at limit p hp _ _ refl, e), (part-prompt ranges limit p hp (part_whole b d ds) h, (ends-loosely limit p hp _ (part-ending (part_whole b d ds) h), x.no_quote (quote-digits limit p (part_whole b d ds))), x.unviable (λ ys t. zero-unviable ys (strictly limit) (path_frames p) (numeral b (d ∷ ds) [] None) t refl i)))
+
+  pub point-says : (b : Bool) (d : ℕ) (ds : List ℕ) → IsWholePart d ds → (rest : List ℕ) → BeginsWithNone is_ascii_digit rest → DeniesPart limit p (part_point b d ds) → KindSays limit EmptyFraction (path_text p ++ (minus_text b ++ d ∷ (ds ++ 46 ∷ []))) rest
+  point-says b d ds h rest e x =
+      ((b, d ∷ ds, (h.0, omega arith, h.1), begins-at limit p hp _ _ refl, e), (faultless-point ranges limit p hp b d ds h, (ends-loosely limit p hp _ (part-ending (part_point b d ds) h), x.no_quote (quote-digits limit p (part_point b d ds)))))
+
+  pub letter-says : (b : Bool) (d : ℕ) (ds f : List ℕ) (l : ℕ) → IsPart (part_letter b d ds f l) → (rest : List ℕ) → BeginsWithNone (λ c. is_ascii_digit c || is_sign c) rest →
+      DeniesPart limit p (part_letter b d ds f l) → KindSays limit EmptyExponent (path_text p ++ part_text (part_letter b d ds f l)) rest
+  letter-says b d ds f l h rest e x = (
+    (b, d ∷ ds, f, l, (h.0.0, omega arith, h.0.1), h.1, h.2, inl (begins-at limit p hp _ _ refl, e)),
+    (part-prompt ranges limit p hp (part_letter b d ds f l) h, (ends-loosely limit p hp _ (part-ending (part_letter b d ds f l) h), x.no_quote (quote-digits limit p (part_letter b d ds f l)))),
+  )
+
+  pub sign-says : (b : Bool) (d : ℕ) (ds f : List ℕ) (l s : ℕ) → IsPart (part_sign b d ds f l s) → (rest : List ℕ) → BeginsWithNone is_ascii_digit rest →
+      DeniesPart limit p (part_sign b d ds f l s) → KindSays limit EmptyExponent (path_text p ++ part_text (part_sign b d ds f l s)) rest
+  sign-says b d ds f l s h rest e x = (
+    (b, d ∷ ds, f, l, (h.0.0, omega arith, h.0.1), h.1, h.2, inr (s, h.3, begins-at limit p hp _ _ refl, e)),
+    (part-prompt ranges limit p hp (part_sign b d ds f l s) h, (ends-loosely limit p hp _ (part-ending (part_sign b d ds f l s) h), x.no_quote (quote-digits limit p (part_sign b d ds f l s)))),
+  )
+
+  pub range-says : (n : Part) → IsPart n → IsNumeral (part_numeral n) → has_leading_zero (part_numeral n).whole ≡ false → part_text n ≡ spelling (part_numeral n) → in_range (value (part_numeral n)) ≡ false → (rest : List ℕ) → BeginsWithNone is_ascii_digit rest →
+      DeniesPart limit p n → KindSays limit NumberOutOfRange (path_text p ++ part_text n) rest
+  range-says n h i j t e rest nd x = ((part_numeral n, i, j, e, begins-at limit p hp _ _ (ap (λ xs. path_text p ++ xs) t), nd), (part-prompt ranges limit p hp n h, (ends-loosely limit p hp _ (part-ending n h), x.no_quote (quote-digits limit p n))))
+
+-- the number may end here
+pub record IsDone (n : Part) : Type 0 where
+  pub numeral : IsNumeral (part_numeral n)
+  pub no_zero : has_leading_zero (part_numeral n).whole ≡ false
+  pub whole : part_text n ≡ spelling (part_numeral n)
+
+pub done-value : (n : Part) → IsDone n → IsTrue (in_range (value (part_numeral n))) → IsValue (Syntax.number (part_numeral n))
+done-value n h e = record { spelled = h.numeral; strict = (rw h.no_zero refl, e) }
+
+then-either : (limit : Option ℕ) (used : List ℕ) (fs : List Frame) (q : Phase) (c : ℕ) (b : Bool) (x y : Next) → (b ≡ true → Follows limit used fs q c (then_step (strictly limit) x c)) → (b ≡ false → Follows limit used fs q c (then_step (strictly limit) y c)) →
+    Follows limit used fs q c (then_step (strictly limit) (cond b x y) c)
+then-either limit used fs q c true x y f g = f refl
+then-either limit used fs q c false x y f g = g refl
+
 -- it ends before c
 pub ends-before : (limit : Option ℕ) (p : Path) → IsPath limit p → (n : Part) → IsDone n → IsTrue (in_range (value (part_numeral n))) → (c : ℕ) → is_ascii_digit c ≡ false →
     Follows limit (path_text p ++ (text (Syntax.number (part_numeral n)) ++ [])) (path_frames p) (digits (part_stage n) (part_numeral n)) c (then_step (strictly limit) (complete true (path_frames p) (tree.number (value (part_numeral n))) false) c)
 ends-before limit (outside w) hp n h e c nd = after-follows limit (outside w) (Syntax.number (part_numeral n)) [] (hp, done-value n h e, tt, flat_within limit (outside w) (Syntax.number (part_numeral n)) hp refl, tt) _ _ (λ i. quote-digits limit (outside w) n) c
 ends-before limit (item_in p es w) hp n h e c nd = after-follows limit (item_in p es w) (Syntax.number (part_numeral n)) [] (hp, done-value n h e, tt, flat_within limit (item_in p es w) (Syntax.number (part_numeral n)) hp refl, tt) _ _ (λ i. quote-digits limit (item_in p es w) n) c
 ends-before limit (key_in p ps w) hp n h e c nd =
-    ((λ more. key-says limit p ps w hp (Syntax.number (part_numeral n)) (done-value n h e) refl (flat_within limit (key_in p ps w) (Syntax.number (part_numeral n)) hp refl) _ (ap (λ xs. path_text (key_in p ps w) ++ xs) (append-nil (spelling (part_numeral n)))) (c ∷ more) nd), (λ ys t. key-unviable ys (strictly limit) (members_from no_members ps) (path_frames p) (part_stage n) (part_numeral n) t refl))
+    λ more x. key-says limit p ps w hp (Syntax.number (part_numeral n)) (done-value n h e) refl (flat_within limit (key_in p ps w) (Syntax.number (part_numeral n)) hp refl) _ (ap (λ xs. path_text (key_in p ps w) ++ xs) (append-nil (spelling (part_numeral n)))) (c ∷ more) nd
+    (x.unviable (λ ys t. key-unviable ys (strictly limit) (members_from no_members ps) (path_frames p) (part_stage n) (part_numeral n) t refl))
 ends-before limit (value_in p ps a k b w) hp n h e c nd =
     after-follows limit (value_in p ps a k b w) (Syntax.number (part_numeral n)) [] (hp, done-value n h e, tt, flat_within limit (value_in p ps a k b w) (Syntax.number (part_numeral n)) hp refl, tt) _ _ (λ i. quote-digits limit (value_in p ps a k b w) n) c
 
@@ -105,7 +111,7 @@ pub finish-follows : Ranges → (limit : Option ℕ) (p : Path) → IsPath limit
     Follows limit (path_text p ++ part_text n) (path_frames p) (digits (part_stage n) (part_numeral n)) c (then_step (strictly limit) (finish (strictly limit) (path_frames p) (part_numeral n)) c)
 finish-follows ranges limit p hp n hn h c nd =
     then-either limit _ _ _ c (not (in_range (value (part_numeral n)))) _ _
-    (λ e. ((λ more. range-says ranges limit p hp n hn h.numeral h.no_zero h.whole (not-true _ e) (c ∷ more) nd), quote-digits limit p n))
+    (λ e more x. range-says ranges limit p hp n hn h.numeral h.no_zero h.whole (not-true _ e) (c ∷ more) nd x)
     (λ e. subst (λ xs. Follows limit (path_text p ++ xs) (path_frames p) (digits (part_stage n) (part_numeral n)) c (then_step (strictly limit) (complete true (path_frames p) (tree.number (value (part_numeral n))) false) c)) (append-nil _ ∙ sym h.whole)
     (ends-before limit p hp n h (not-false _ e) c nd))
 
@@ -133,16 +139,16 @@ exponent-done b d ds f l s e es h =
 pub digits-follows : Ranges → (limit : Option ℕ) (p : Path) → IsPath limit p → (n : Part) → IsPart n → (c : ℕ) →
     Follows limit (path_text p ++ part_text n) (path_frames p) (digits (part_stage n) (part_numeral n)) c (unless_ended (strictly limit) (path_frames p) (part_numeral n) c (step_digits (strictly limit) (path_frames p) (part_stage n) (part_numeral n) c))
 digits-follows ranges limit p hp part_minus h c =
-    either limit _ _ _ c (is_ascii_digit c) _ _ (λ e. goes limit p hp part_minus (part_whole true c []) (e, tt) c refl) (λ e. ((λ more. minus-says ranges limit p hp (c ∷ more) e), quote-digits limit p part_minus))
+    either limit _ _ _ c (is_ascii_digit c) _ _ (λ e. goes limit p hp part_minus (part_whole true c []) (e, tt) c refl) (λ e more x. minus-says ranges limit p hp (c ∷ more) e x)
 digits-follows ranges limit p hp (part_whole b d ds) h c =
     unless-either limit _ _ _ c _ _ (is_ascii_digit c) _ _
     (λ e. goes limit p hp (part_whole b d ds) (part_whole b d (ds ++ c ∷ [])) (h.0, digits-append ds c h.1 e) c (simp append_assoc))
-    (λ i. unless-either limit _ _ _ c _ _ (has_leading_zero (d ∷ ds)) _ _ (λ e. ((λ more. zero-says ranges limit p hp b d ds h e (c ∷ more) i), (quote-digits limit p (part_whole b d ds), (λ ys t. zero-unviable ys (strictly limit) (path_frames p) (numeral b (d ∷ ds) [] None) t refl e))))
+    (λ i. unless-either limit _ _ _ c _ _ (has_leading_zero (d ∷ ds)) _ _ (λ e more x. zero-says ranges limit p hp b d ds h e (c ∷ more) i x)
     (λ z. unless-either limit _ _ _ c _ _ (c == 46) _ _ (λ e. goes limit p hp (part_whole b d ds) (part_point b d ds) (h, z) c (rw (eqb-true c 46 e) (simp append_assoc)))
     (λ j. unless-either limit _ _ _ c _ _ (is_exponent_letter c) _ _ (λ e. goes limit p hp (part_whole b d ds) (part_letter b d ds [] c) ((h, z), tt, e) c (simp append_assoc))
     (λ k. finish-follows ranges limit p hp (part_whole b d ds) h (whole-done b d ds (h, z)) c i))))
 digits-follows ranges limit p hp (part_point b d ds) h c =
-    either limit _ _ _ c (is_ascii_digit c) _ _ (λ e. goes limit p hp (part_point b d ds) (part_fraction b d ds c []) (h, (e, tt)) c (simp append_assoc)) (λ e. ((λ more. point-says ranges limit p hp b d ds h (c ∷ more) e), quote-digits limit p (part_point b d ds)))
+    either limit _ _ _ c (is_ascii_digit c) _ _ (λ e. goes limit p hp (part_point b d ds) (part_fraction b d ds c []) (h, (e, tt)) c (simp append_assoc)) (λ e more x. point-says ranges limit p hp b d ds h (c ∷ more) e x)
 digits-follows ranges limit p hp (part_fraction b d ds x xs) h c =
     unless-either limit _ _ _ c _ _ (is_ascii_digit c) _ _
     (λ e. goes limit p hp (part_fraction b d ds x xs) (part_fraction b d ds x (xs ++ c ∷ [])) (h.0, (h.1.0, digits-append xs c h.1.1 e)) c (simp append_assoc))
@@ -151,10 +157,10 @@ digits-follows ranges limit p hp (part_fraction b d ds x xs) h c =
 digits-follows ranges limit p hp (part_letter b d ds f l) h c =
     either limit _ _ _ c (is_ascii_digit c) _ _ (λ e. goes limit p hp (part_letter b d ds f l) (part_exponent b d ds f l None c []) (h.0, h.1, h.2, tt, (e, tt)) c (simp append_assoc))
     (λ i. either limit _ _ _ c (is_sign c) _ _ (λ e. goes limit p hp (part_letter b d ds f l) (part_sign b d ds f l c) (h.0, h.1, h.2, e) c (simp append_assoc))
-    (λ j. ((λ more. letter-says ranges limit p hp b d ds f l h (c ∷ more) (or_from _ _ i j)), quote-digits limit p (part_letter b d ds f l))))
+    (λ j more x. letter-says ranges limit p hp b d ds f l h (c ∷ more) (or_from _ _ i j) x))
 digits-follows ranges limit p hp (part_sign b d ds f l s) h c =
     either limit _ _ _ c (is_ascii_digit c) _ _ (λ e. goes limit p hp (part_sign b d ds f l s) (part_exponent b d ds f l (Some s) c []) (h.0, h.1, h.2, h.3, (e, tt)) c (simp append_assoc))
-    (λ i. ((λ more. sign-says ranges limit p hp b d ds f l s h (c ∷ more) i), quote-digits limit p (part_sign b d ds f l s)))
+    (λ i more x. sign-says ranges limit p hp b d ds f l s h (c ∷ more) i x)
 digits-follows ranges limit p hp (part_exponent b d ds f l s x xs) h c =
     unless-either limit _ _ _ c _ _ (is_ascii_digit c) _ _
     (λ e. goes limit p hp (part_exponent b d ds f l s x xs) (part_exponent b d ds f l s x (xs ++ c ∷ [])) (h.0, h.1, h.2, h.3, (h.4.0, digits-append xs c h.4.1 e)) c (simp append_assoc))

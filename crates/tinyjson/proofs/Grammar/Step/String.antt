@@ -15,7 +15,7 @@ use Rattle.tinyjson.specs.Refusal as refusal
 use Rattle.tinyjson.proofs.Grammar.Trace.Paths.{Path, path_text, path_frames, IsPath}
 use Rattle.tinyjson.proofs.Grammar.Trace.State.{pieces-append, are_pieces_append, within_text, IsPartWithin, IsSettled, Quad, quads, values, in_quoted, Spells, flat_within, Ending, ends-loosely}
 use Rattle.tinyjson.proofs.Grammar.Prefix.Viable.{quoted-prompt, within-late, settled-strict}
-use Rattle.tinyjson.proofs.Grammar.Step.Statement.{ErrorSays, Follows, either, at_code}
+use Rattle.tinyjson.proofs.Grammar.Step.Statement.{Follows, either, at_code}
 use Rattle.tinyjson.proofs.Grammar.Step.Awaits.{begins-at}
 use Rattle.tinyjson.proofs.Grammar.Step.Value.{complete-follows}
 use Rattle.tinyjson.proofs.Grammar.Step.Units.{codes-quads, settle-more, settle-end, settle-paired}
@@ -65,18 +65,19 @@ string-piece limit p ps cs qs h hd w c e he ht hc =
     }
 
 pub flush-follows : (limit : Option ℕ) (used : List ℕ) (fs : List Frame) (q : Phase) (c : ℕ) (cs us : List ℕ) (go : List ℕ → Next) →
-    (IsTrue (paired us) → Follows limit used fs q c (go (cs ++ decode us))) → (paired us ≡ false → (more : List ℕ) → ErrorSays limit InvalidUtf16 (used ++ c ∷ []) more) → Follows limit used fs q c (flush true cs us go)
-flush-follows limit used fs q c cs us go f g = either limit used fs q c (not (paired us)) (stop InvalidUtf16 true) (go (cs ++ decode us)) (λ h. (g (not-true _ h), tt)) (λ h. f (not-false _ h))
+    (IsTrue (paired us) → Follows limit used fs q c (go (cs ++ decode us))) → (paired us ≡ false → Follows limit used fs q c (stop InvalidUtf16 true)) → Follows limit used fs q c (flush true cs us go)
+flush-follows limit used fs q c cs us go f g = either limit used fs q c (not (paired us)) (stop InvalidUtf16 true) (go (cs ++ decode us)) (λ h. g (not-true _ h)) (λ h. f (not-false _ h))
 
 -- the run has a surrogate without its partner
-pub utf16-says : (limit : Option ℕ) (p : Path) (ps : List Piece) (cs : List ℕ) (qs : List Quad) → InString limit p ps cs qs → paired (values qs) ≡ false → (w : Within) (c : ℕ) → IsPartWithin w →
-    EndsRun (within_text w ++ c ∷ []) → Ending (34 ∷ (pieces_text ps ++ (pieces_text (quads qs) ++ (within_text w ++ c ∷ [])))) → (more : List ℕ) →
-    ErrorSays limit InvalidUtf16 (string_text p ps qs (within_text w) ++ c ∷ []) more
-utf16-says limit p ps cs qs h hd w c hw hr he more = (
+pub utf16-says : (limit : Option ℕ) (p : Path) (ps : List Piece) (cs : List ℕ) (qs : List Quad) → InString limit p ps cs qs → paired (values qs) ≡ false → (w : Within) (c : ℕ) → IsPartWithin w → (fs : List Frame) (q : Phase) →
+    EndsRun (within_text w ++ c ∷ []) → Ending (34 ∷ (pieces_text ps ++ (pieces_text (quads qs) ++ (within_text w ++ c ∷ [])))) →
+    Follows limit (string_text p ps qs (within_text w)) fs q c (stop InvalidUtf16 true)
+utf16-says limit p ps cs qs h hd w c hw fs q hr he more d x = (
   (quads qs, within_text w ++ c ∷ [], ap paired (codes-quads qs) ∙ hd, hr, in-string limit p ps cs qs h _ _ (string-longer (path_text p) (pieces_text ps) (pieces_text (quads qs)) (within_text w) c)),
   (
     (c, rw (string-longer (path_text p) (pieces_text ps) (pieces_text (quads qs)) (within_text w) c) (quoted-prompt limit p h.path ps cs h.pieces h.settled qs h.run (within_text w) (within-late w hw) (c ∷ []))),
     rw (string-longer (path_text p) (pieces_text ps) (pieces_text (quads qs)) (within_text w) c) (ends-loosely limit p h.path _ he),
+    x.unviable,
   ),
 )
 
@@ -116,46 +117,41 @@ plain-follows : (limit : Option ℕ) (p : Path) (ps : List Piece) (cs : List ℕ
 plain-follows limit p ps cs qs h c hc =
     at_code limit _ _ _ c 34 _ _
     (λ e. flush-follows limit _ _ _ c cs (values qs) (λ xs. complete true (path_frames p) (tree.string xs) true) (λ hd. quote-follows limit p ps cs qs h c e hd)
-    (λ hd more. utf16-says limit p ps cs qs h hd Machine.plain c tt (inl (ap (λ x. x ∷ []) e)) (rw e (quote-ending ps qs h.pieces h.run)) more)) (λ h0.
+    (λ hd. utf16-says limit p ps cs qs h hd Machine.plain c tt _ _ (inl (ap (λ x. x ∷ []) e)) (rw e (quote-ending ps qs h.pieces h.run)))) (λ h0.
     at_code limit _ _ _ c 92 _ _
     (λ e. string-goes limit p ps cs qs h Machine.plain Machine.backslash c tt (ap (λ x. x ∷ []) (sym e))) (λ h1.
     either limit _ _ _ c (nat_lt c 32) _ _
-    (λ e. (
-      (λ more. (
-        ((quads qs, in-string limit p ps cs qs h _ _ (string-longer (path_text p) (pieces_text ps) (pieces_text (quads qs)) [] c)), ltb-true c 32 e),
+    (λ e more d x. (
+      ((quads qs, in-string limit p ps cs qs h _ _ (string-longer (path_text p) (pieces_text ps) (pieces_text (quads qs)) [] c)), ltb-true c 32 e),
+      (
+        rw (string-longer (path_text p) (pieces_text ps) (pieces_text (quads qs)) [] c) (quoted-prompt limit p h.path ps cs h.pieces h.settled qs h.run [] tt (c ∷ [])),
+        x.loosely refl,
         (
-          rw (string-longer (path_text p) (pieces_text ps) (pieces_text (quads qs)) [] c) (quoted-prompt limit p h.path ps cs h.pieces h.settled qs h.run [] tt (c ∷ [])),
-          (
-            string_text p ps qs [],
-            refl,
-            rw (string-longer (path_text p) (pieces_text ps) (pieces_text (quads qs)) [] 120)
-                (ends-loosely limit p h.path _ (piece-ending ps qs h.pieces h.run (Piece.plain 120) (refl, omega arith, refl) (120 ∷ []) refl)),
-          ),
+          string_text p ps qs [],
+          refl,
+          rw (string-longer (path_text p) (pieces_text ps) (pieces_text (quads qs)) [] 120)
+              (ends-loosely limit p h.path _ (piece-ending ps qs h.pieces h.run (Piece.plain 120) (refl, omega arith, refl) (120 ∷ []) refl)),
         ),
-      )),
-      tt,
+      ),
     )) (λ h2.
     flush-follows limit _ _ _ c cs (values qs) (λ xs. next (path_frames p) (quoted Machine.plain (xs ++ c ∷ []) []))
     (λ hd. string-piece limit p ps cs qs h hd [] c (Piece.plain c) (plain-piece c hc h0 h1 h2) refl (scalar-no_surrogate c hc))
-    (λ hd more. utf16-says limit p ps cs qs h hd Machine.plain c tt (inr (Piece.plain c, plain-piece c hc h0 h1 h2, refl, (λ n. n))) (piece-ending ps qs h.pieces h.run (Piece.plain c) (plain-piece c hc h0 h1 h2) _ refl) more))))
+    (λ hd. utf16-says limit p ps cs qs h hd Machine.plain c tt _ _ (inr (Piece.plain c, plain-piece c hc h0 h1 h2, refl, (λ n. n))) (piece-ending ps qs h.pieces h.run (Piece.plain c) (plain-piece c hc h0 h1 h2) _ refl)))))
 
 escape-follows : (limit : Option ℕ) (p : Path) (ps : List Piece) (cs : List ℕ) (qs : List Quad) → InString limit p ps cs qs → (c : ℕ) → (o : Option ℕ) → short_escape c ≡ o →
     Follows limit (string_text p ps qs (92 ∷ [])) (path_frames p) (quoted Machine.backslash cs (values qs)) c (step_escape (strictly limit) (path_frames p) cs (values qs) c o)
 escape-follows limit p ps cs qs h c None i =
     at_code limit _ _ _ c 117 _ _
     (λ e. string-goes limit p ps cs qs h Machine.backslash (Machine.hex []) c (tt, omega arith) (ap (λ x. 92 ∷ x ∷ []) (sym e)))
-    (λ hn. (
-      (λ more. (
-        ((quads qs, in-string limit p ps cs qs h _ _ (string-longer (path_text p) (pieces_text ps) (pieces_text (quads qs)) (92 ∷ []) c)), i, (λ e. eqb-false c 117 hn e)),
-        rw (string-longer (path_text p) (pieces_text ps) (pieces_text (quads qs)) (92 ∷ []) c) (quoted-prompt limit p h.path ps cs h.pieces h.settled qs h.run (92 ∷ []) (refl, tt) (c ∷ [])),
-      )),
-      tt,
+    (λ hn more d x. (
+      ((quads qs, in-string limit p ps cs qs h _ _ (string-longer (path_text p) (pieces_text ps) (pieces_text (quads qs)) (92 ∷ []) c)), i, (λ e. eqb-false c 117 hn e)),
+      (rw (string-longer (path_text p) (pieces_text ps) (pieces_text (quads qs)) (92 ∷ []) c) (quoted-prompt limit p h.path ps cs h.pieces h.settled qs h.run (92 ∷ []) (refl, tt) (c ∷ [])), x.loosely refl),
     ))
 escape-follows limit p ps cs qs h c (Some d) i =
     flush-follows limit _ _ _ c cs (values qs) (λ xs. next (path_frames p) (quoted Machine.plain (xs ++ d ∷ []) []))
     (λ hd. subst (λ o. Spells limit (string_text p ps qs (92 ∷ []) ++ c ∷ []) (path_frames p) (quoted Machine.plain ((cs ++ decode (values qs)) ++ unwrap_or o 0 ∷ []) [])) i
     (string-piece limit p ps cs qs h hd (92 ∷ []) c (Piece.escape c) (rw i refl) refl (rw i (escape-no_surrogate c d i))))
-    (λ hd more. utf16-says limit p ps cs qs h hd Machine.backslash c tt (inr (Piece.escape c, rw i refl, refl, (λ n. n))) (piece-ending ps qs h.pieces h.run (Piece.escape c) (rw i refl) _ refl) more)
+    (λ hd. utf16-says limit p ps cs qs h hd Machine.backslash c tt _ _ (inr (Piece.escape c, rw i refl, refl, (λ n. n))) (piece-ending ps qs h.pieces h.run (Piece.escape c) (rw i refl) _ refl))
 
 -- ---- four digits
 
@@ -171,11 +167,14 @@ pub hex-append : (ds : List ℕ) (c : ℕ) → IsHex ds → IsTrue (is_hex c) �
 hex-append [] c h i = (i, tt)
 hex-append (d ∷ ds) c h i = (h.0, hex-append ds c h.1 i)
 
-hex-says : (limit : Option ℕ) (p : Path) (ps : List Piece) (cs : List ℕ) (qs : List Quad) → InString limit p ps cs qs → (ds : List ℕ) → IsPartWithin (Machine.hex ds) → (c : ℕ) → is_hex c ≡ false → (more : List ℕ) →
-    ErrorSays limit (InvalidHexDigit c) (string_text p ps qs (92 ∷ 117 ∷ ds) ++ c ∷ []) more
-hex-says limit p ps cs qs h ds hw c hc more = (
+hex-says : (limit : Option ℕ) (p : Path) (ps : List Piece) (cs : List ℕ) (qs : List Quad) → InString limit p ps cs qs → (ds : List ℕ) → IsPartWithin (Machine.hex ds) → (fs : List Frame) (q : Phase) (c : ℕ) → is_hex c ≡ false →
+    Follows limit (string_text p ps qs (92 ∷ 117 ∷ ds)) fs q c (stop (InvalidHexDigit c) true)
+hex-says limit p ps cs qs h ds hw fs q c hc more d x = (
   (ds, hw.1, hw.0, hc, (quads qs, in-string limit p ps cs qs h _ _ (string-longer (path_text p) (pieces_text ps) (pieces_text (quads qs)) (92 ∷ 117 ∷ ds) c))),
-  rw (string-longer (path_text p) (pieces_text ps) (pieces_text (quads qs)) (92 ∷ 117 ∷ ds) c) (quoted-prompt limit p h.path ps cs h.pieces h.settled qs h.run (92 ∷ 117 ∷ ds) (within-late (Machine.hex ds) hw) (c ∷ [])),
+  (
+    rw (string-longer (path_text p) (pieces_text ps) (pieces_text (quads qs)) (92 ∷ 117 ∷ ds) c) (quoted-prompt limit p h.path ps cs h.pieces h.settled qs h.run (92 ∷ 117 ∷ ds) (within-late (Machine.hex ds) hw) (c ∷ [])),
+    x.loosely refl,
+  ),
 )
 
 hex-goes : (limit : Option ℕ) (p : Path) (ps : List Piece) (cs : List ℕ) (qs : List Quad) → InString limit p ps cs qs → (ds : List ℕ) → IsPartWithin (Machine.hex ds) → length ds < 3 → (c : ℕ) → IsTrue (is_hex c) →
@@ -195,13 +194,13 @@ unit-goes limit p ps cs qs h q hq =
 
 hex-follows : (limit : Option ℕ) (p : Path) (ps : List Piece) (cs : List ℕ) (qs : List Quad) → InString limit p ps cs qs → (ds : List ℕ) → IsPartWithin (Machine.hex ds) → (c : ℕ) →
     Follows limit (string_text p ps qs (92 ∷ 117 ∷ ds)) (path_frames p) (quoted (Machine.hex ds) cs (values qs)) c (step_quoted (strictly limit) (path_frames p) (Machine.hex ds) cs (values qs) c)
-hex-follows limit p ps cs qs h [] hw c = either limit _ _ _ c (is_hex c) _ _ (λ e. hex-goes limit p ps cs qs h [] hw (omega arith) c e) (λ e. ((λ more. hex-says limit p ps cs qs h [] hw c e more), tt))
-hex-follows limit p ps cs qs h (x ∷ []) hw c = either limit _ _ _ c (is_hex c) _ _ (λ e. hex-goes limit p ps cs qs h (x ∷ []) hw (omega arith) c e) (λ e. ((λ more. hex-says limit p ps cs qs h (x ∷ []) hw c e more), tt))
-hex-follows limit p ps cs qs h (x ∷ y ∷ []) hw c = either limit _ _ _ c (is_hex c) _ _ (λ e. hex-goes limit p ps cs qs h (x ∷ y ∷ []) hw (omega arith) c e) (λ e. ((λ more. hex-says limit p ps cs qs h (x ∷ y ∷ []) hw c e more), tt))
+hex-follows limit p ps cs qs h [] hw c = either limit _ _ _ c (is_hex c) _ _ (λ e. hex-goes limit p ps cs qs h [] hw (omega arith) c e) (λ e. hex-says limit p ps cs qs h [] hw _ _ c e)
+hex-follows limit p ps cs qs h (x ∷ []) hw c = either limit _ _ _ c (is_hex c) _ _ (λ e. hex-goes limit p ps cs qs h (x ∷ []) hw (omega arith) c e) (λ e. hex-says limit p ps cs qs h (x ∷ []) hw _ _ c e)
+hex-follows limit p ps cs qs h (x ∷ y ∷ []) hw c = either limit _ _ _ c (is_hex c) _ _ (λ e. hex-goes limit p ps cs qs h (x ∷ y ∷ []) hw (omega arith) c e) (λ e. hex-says limit p ps cs qs h (x ∷ y ∷ []) hw _ _ c e)
 hex-follows limit p ps cs qs h (x ∷ y ∷ z ∷ []) hw c =
     either limit _ _ _ c (is_hex c) _ _
     (λ e. unit-goes limit p ps cs qs h (record { a = x; b = y; c = z; d = c }) (hw.0.0, hw.0.1.0, hw.0.1.1.0, e))
-    (λ e. ((λ more. hex-says limit p ps cs qs h (x ∷ y ∷ z ∷ []) hw c e more), tt))
+    (λ e. hex-says limit p ps cs qs h (x ∷ y ∷ z ∷ []) hw _ _ c e)
 hex-follows limit p ps cs qs h (x ∷ y ∷ z ∷ u ∷ us) hw c = absurd (omega (arith, hw.1))
 
 pub quoted-follows : (limit : Option ℕ) (p : Path) (ps : List Piece) (cs : List ℕ) (qs : List Quad) → InString limit p ps cs qs → (w : Within) → IsPartWithin w → (c : ℕ) → IsScalar c →

@@ -30,7 +30,7 @@ complete-follows limit (value_in p ps a k b w) hp s hs hd nn used fs q c e =
     record { read = at_after (value_in p ps a k b w) s []; is = (hp, hs, tt, hd, tt); whole = e ∙ ap (λ xs. path_text (value_in p ps a k b w) ++ xs) (sym (append-nil (text s))); frames = refl; phase = refl }
 complete-follows limit (key_in p ps w) hp s hs hd nn used fs q c e =
     either limit used fs q c (not (is_string (tree_of s))) _ _
-    (λ h. ((λ more. key-says limit p ps w hp s hs (sym (string-key s) ∙ not-true _ h) hd _ e more (nn more)), tt))
+    (λ h more d x. key-says limit p ps w hp s hs (sym (string-key s) ∙ not-true _ h) hd _ e more (nn more) x.unviable)
     (λ h. record { read = at_after (key_in p ps w) s []; is = (hp, hs, sym (string-key s) ∙ not-false _ h, hd, tt); whole = e ∙ ap (λ ys. path_text (key_in p ps w) ++ ys) (sym (append-nil (text s))); frames = refl; phase = refl })
 
 -- ---- behind a value
@@ -78,26 +78,23 @@ pub after-follows : (limit : Option ℕ) (p : Path) (s : Syntax) (v : List ℕ) 
 after-follows limit (outside w) s v h fs q nq c =
     either limit _ _ _ c (is_white c) _ _
     (λ hc. record { read = at_after (outside w) s (v ++ c ∷ []); is = white-after limit (outside w) s v h c hc; whole = longer w (text s) v c; frames = refl; phase = refl })
-    (λ hc. (
-      (λ more. (
+    (λ hc more d x. (
+      (
+        hc,
         (
-          hc,
+          w ++ (text s ++ v),
+          refl,
           (
-            w ++ (text s ++ v),
-            refl,
-            (
-              tree_of s,
-              record {
-                loose = record { before = w; value = s; after = v; white_before = h.0; spelled = h.1.spelled; white_after = h.4; shallow = within_le limit _ _ h.3 (omega arith); whole = refl };
-                strict = h.1.strict;
-                tree = refl;
-              },
-            ),
+            tree_of s,
+            record {
+              loose = record { before = w; value = s; after = v; white_before = h.0; spelled = h.1.spelled; white_after = h.4; shallow = within_le limit _ _ h.3 (omega arith); whole = refl };
+              strict = h.1.strict;
+              tree = refl;
+            },
           ),
         ),
-        (w ++ (text s ++ v), refl, faultless-after limit (outside w) s v h),
-      )),
-      tt,
+      ),
+      ((w ++ (text s ++ v), refl, faultless-after limit (outside w) s v h), x.loosely refl),
     ))
 after-follows limit (item_in p es w) s v h fs q nq c =
     either limit _ _ _ c (is_white c) _ _
@@ -114,17 +111,15 @@ after-follows limit (item_in p es w) s v h fs q nq c =
     (λ hc. subst (λ ts. Follows limit (path_text (item_in p es w) ++ (text s ++ v)) fs q c (complete true (path_frames p) (tree.array (items_of ts)) true)) (items-trees es w s v)
     (complete-follows limit p h.0.0 (array (items_with es w s v)) (item_value es w s v h.0.1 h.0.2 h.1 h.4) (within_max limit _ _ _ h.0.3 h.3 (rw (items-depth es w s v) (omega arith))) (λ rest. tt)
     (path_text (item_in p es w) ++ (text s ++ v)) _ _ c (rw hc (simp (items-text, append_assoc)))))
-    (λ hm. (
-      (λ more. (
-        ((path_text (item_in p es w) ++ (text s ++ v), refl), hw, (λ e. eqb-false c 44 hn e), (λ e. eqb-false c 93 hm e)),
-        (
-          path_text (item_in p es w) ++ (text s ++ v),
-          refl,
-          faultless-after limit (item_in p es w) s v h,
-          closed-array limit p es w s v h,
-        ),
-      )),
-      nq tt,
+    (λ hm more d x. (
+      ((path_text (item_in p es w) ++ (text s ++ v), refl), hw, (λ e. eqb-false c 44 hn e), (λ e. eqb-false c 93 hm e)),
+      (
+        record {
+          place = record { front = path_text (item_in p es w) ++ (text s ++ v); ends = refl; faultless = faultless-after limit (item_in p es w) s v h; no_string = d.no_quote (nq tt) };
+          without_fault = closed-array limit p es w s v h;
+        },
+        x.loosely refl,
+      ),
     ))))
 after-follows limit (key_in p ps w) s v h fs q nq c =
     either limit _ _ _ c (is_white c) _ _
@@ -137,17 +132,15 @@ after-follows limit (key_in p ps w) s v h fs q nq c =
       frames = refl;
       phase = refl;
     })
-    (λ hm. (
-      (λ more. (
-        ((path_text (key_in p ps w) ++ (text s ++ v), refl), hw, (λ e. eqb-false c 58 hm e)),
-        (
-          path_text (key_in p ps w) ++ (text s ++ v),
-          refl,
-          faultless-after limit (key_in p ps w) s v h,
-          taken-key limit p ps w s v h,
-        ),
-      )),
-      nq tt,
+    (λ hm more d x. (
+      ((path_text (key_in p ps w) ++ (text s ++ v), refl), hw, (λ e. eqb-false c 58 hm e)),
+      (
+        record {
+          place = record { front = path_text (key_in p ps w) ++ (text s ++ v); ends = refl; faultless = faultless-after limit (key_in p ps w) s v h; no_string = d.no_quote (nq tt) };
+          without_fault = taken-key limit p ps w s v h;
+        },
+        x.loosely refl,
+      ),
     )))
 after-follows limit (value_in p ps a k b w) s v h fs q nq c =
     either limit _ _ _ c (is_white c) _ _
@@ -171,15 +164,13 @@ after-follows limit (value_in p ps a k b w) s v h fs q nq c =
     (complete-follows limit p h.0.0 (object (pairs_with ps a k b w s v)) (pair_value ps a k b w s v h.0.1 h.0.2 h.0.4 h.0.3 h.0.5 h.0.6 h.1 h.4)
     (within_max limit _ _ _ h.0.7 h.3 (rw (pairs-depth ps a k b w s v) (rw (key-depth k h.0.4) (omega arith)))) (λ rest. tt)
     (path_text (value_in p ps a k b w) ++ (text s ++ v)) _ _ c (rw hc (simp (pairs-text, append_assoc)))))
-    (λ hm. (
-      (λ more. (
-        ((path_text (value_in p ps a k b w) ++ (text s ++ v), refl), hw, (λ e. eqb-false c 44 hn e), (λ e. eqb-false c 125 hm e)),
-        (
-          path_text (value_in p ps a k b w) ++ (text s ++ v),
-          refl,
-          faultless-after limit (value_in p ps a k b w) s v h,
-          closed-object limit p ps a k b w s v h,
-        ),
-      )),
-      nq tt,
+    (λ hm more d x. (
+      ((path_text (value_in p ps a k b w) ++ (text s ++ v), refl), hw, (λ e. eqb-false c 44 hn e), (λ e. eqb-false c 125 hm e)),
+      (
+        record {
+          place = record { front = path_text (value_in p ps a k b w) ++ (text s ++ v); ends = refl; faultless = faultless-after limit (value_in p ps a k b w) s v h; no_string = d.no_quote (nq tt) };
+          without_fault = closed-object limit p ps a k b w s v h;
+        },
+        x.loosely refl,
+      ),
     ))))
