@@ -126,7 +126,7 @@ impl<'k> IndexMut<&'k str> for JsonValue {
 }
 
 /// The items of an array, for writing.
-fn array_mut(value: &mut JsonValue) -> &mut Vec<JsonValue>
+pub(super) fn array_mut(value: &mut JsonValue) -> &mut Vec<JsonValue>
     requires { IsSome (array_part value.old) }
     ensures* writes_back { sem 𝓛 (Lends the_row array_row value.entry result made.Array) }
     ensures value { array_part value.old ≡ Some result.now }
@@ -145,7 +145,7 @@ fn item_mut(items: &mut Vec<JsonValue>, index: usize) -> &mut JsonValue
 }
 
 /// The members of an object, for writing.
-fn object_mut(value: &mut JsonValue) -> &mut HashMap<String, JsonValue>
+pub(super) fn object_mut(value: &mut JsonValue) -> &mut HashMap<String, JsonValue>
     requires { IsSome (object_part value.old) }
     ensures* writes_back { sem 𝓛 (Lends the_row object_row value.entry result made.Object) }
     ensures value { object_part value.old ≡ Some result.now }

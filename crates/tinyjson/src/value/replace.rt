@@ -6,7 +6,7 @@ ghost use Rattle.tinyjson.specs.Index.{IsItemAt, IsMemberAt, IsWithMember};
 ghost use Rattle.tinyjson.specs.View.{view};
 
 use super::JsonValue;
-use std::collections::HashMap;
+use super::index::{array_mut, object_mut};
 use std::mem;
 
 impl JsonValue {
@@ -31,10 +31,7 @@ impl JsonValue {
         ensures new { self.new ≡ with_item_at self.old index value }
         ensures tree { view self.new ≡ with_tree_at (view self.old) index (view value) }
     {
-        let Some(items) = self.get_mut::<Vec<JsonValue>>() else {
-            unreachable!()
-        };
-        mem::replace(&mut items[index], value)
+        mem::replace(&mut array_mut(self)[index], value)
     }
 
     /// Puts `value` in the place of the member at the key of an object, and returns the old member.
@@ -60,12 +57,7 @@ impl JsonValue {
         ensures tree { view self.new
             ≡ with_tree_at_key (view self.old) (chars key.now) (view value) }
     {
-        let Some(members) = self.get_mut::<HashMap<String, JsonValue>>() else {
-            unreachable!()
-        };
-        let Some(member) = members.get_mut(key) else {
-            unreachable!()
-        };
+        let member = object_mut(self).get_mut(key).unwrap();
         mem::replace(member, value)
     }
 }
