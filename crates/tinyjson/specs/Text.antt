@@ -2,6 +2,8 @@
 use Rattle.std.specs.Prelude.{◌≡◌, ◌<◌, ◌⊎◌, ℕ, zero, suc, Option, None, Some, ◌+◌, ◌/◌, ◌%◌, ◌==◌, nat_lt, List, [], ◌∷◌, ◌++◌, Bool}
 use Rattle.std.specs.Prelude.{true, false, cond, codes}
 use Rattle.std.specs.Char.{digit_char}
+-- n times the text
+pub use Rattle.std.specs.List.{repeat as repeated}
 use Rattle.tinyjson.specs.Tree.{Tree, Items, Members, null, boolean, number, string, array, object, no_items, item, no_members, member}
 use Rattle.tinyjson_number.specs.Text.{decimal_text}
 
@@ -31,11 +33,6 @@ quoted cs = 34 ∷ (escapes cs ++ 34 ∷ [])
 -- the comma before an item, but none before the first
 abbrev pub separator : Bool → List ℕ
 separator first = cond first [] (44 ∷ [])
-
--- n times the text
-abbrev pub repeated : ℕ → List ℕ → List ℕ
-repeated zero cs = []
-repeated (suc n) cs = cs ++ repeated n cs
 
 -- a new line at a level, where the text is indented
 abbrev pub newline : Option (List ℕ) → ℕ → List ℕ
