@@ -10,7 +10,7 @@ pub use Rattle.tinyjson.proofs.Values.Trees.{view-IsTree, text_scalars}
 pub use Rattle.tinyjson.proofs.Values.Views.{Entry, find-members_view, members_view_last}
 pub use Rattle.tinyjson.proofs.Values.WholeNumbers.{integers_differ, naturals_differ}
 pub use Rattle.tinyjson.proofs.Writing.Written.{Appends-trans, Appends-nothing, Appends-keeps, written_none, written_all, begins, goes, ends, written_take, written_same, written_then, stop, stops, stops_then, fails}
-use Rattle.std.proofs.Common.{◌≡◌, ◌≢◌, ℕ, zero, suc, ◌<◌, Bool, true, false, ◌&&◌, cond, bytes_eq, nat_lt, List, [], ◌∷◌, ◌++◌, Option, Some, None, option_map, Result, Ok, Err, String, string_bytes, Vec, Global, Bor, refl, sym, ap, ◌∙◌, subst, rules, arith, append-nil}
+use Rattle.std.proofs.Common.{◌≡◌, ◌≢◌, ℕ, zero, suc, Bool, true, false, ◌&&◌, cond, bytes_eq, nat_lt, List, [], ◌∷◌, ◌++◌, Option, Some, None, option_map, Ok, Err, String, string_bytes, Vec, Global, Bor, refl, sym, ap, ◌∙◌, subst, rules, arith, append-nil}
 use Rattle.std.proofs.lemmas.Bool.{and_parts}
 use Rattle.std.proofs.lemmas.Bool.Decides.{nat_tests, same_from_decides}
 use Rattle.std.proofs.lemmas.Slice.Eq.{bytes_eq-Decides}
@@ -33,7 +33,7 @@ use Rattle.tinyjson.specs.Index.{item_at, member_at, nth, tree_at, tree_at_key, 
 use Rattle.tinyjson.specs.Parser.{ParsesText}
 use Rattle.tinyjson.specs.Soundness.{IsTree, IsSorted}
 use Rattle.tinyjson.specs.Text.{compact}
-use Rattle.tinyjson.specs.Tree.{Tree, null, boolean, number, string, array, object, Items, no_items, item, Members, no_members, member, put, find, remove}
+use Rattle.tinyjson.specs.Tree.{Tree, null, boolean, number, string, array, object, Items, no_items, item, Members, put, find, remove}
 use Rattle.tinyjson.specs.View.{text, view, view_step, items_view, members_view, seen_entries}
 use Rattle.tinyjson.specs.Written.{Written}
 use Rattle.tinyjson.specs.declared.parser.error.JsonParseError.{JsonParseError}

@@ -1,16 +1,16 @@
 -- Copies under way: what they stand for, and how much of them is left.
-use Rattle.std.proofs.Common.{◌≡◌, ℕ, ◌+◌, ◌<◌, ◌≤◌, List, [], ◌∷◌, ◌++◌, map, Vec, String, Global, Option, Some, None, arith, rules, refl, sym, ap, ◌∙◌, subst, append_assoc}
-use Rattle.std.proofs.lemmas.List.{append-nil, map-append}
+use Rattle.std.proofs.Common.{◌≡◌, ◌+◌, List, [], ◌∷◌, ◌++◌, arith, rules, refl, sym, ap, ◌∙◌, subst, append_assoc}
+use Rattle.std.proofs.lemmas.List.{append-nil}
 use Rattle.std.specs.List.{IsDistinct}
 use Rattle.std.specs.Map.{keys_of}
 use Rattle.std.specs.String.{string_eq}
 use Rattle.tinyjson.proofs.Values.Views.{Entry, members_view_last}
 use Rattle.tinyjson.specs.Access.{JsonMap}
-use Rattle.tinyjson.specs.private.Copy.{put_all, filled, filled_all, weight, total, items_weight, entries_weight, partial_weight, stack_weight}
+use Rattle.tinyjson.specs.private.Copy.{put_all, filled, filled_all, weight, entries_weight, partial_weight, stack_weight}
 use Rattle.tinyjson.specs.Tree.{Tree, no_members}
-use Rattle.tinyjson.specs.View.{view, members_view}
+use Rattle.tinyjson.specs.View.{members_view}
 use Rattle.tinyjson.specs.declared.value.copy.Partial.{Partial}
-use Rattle.tinyjson.specs.declared.value.JsonValue.{JsonValue, the_lemmas}
+use Rattle.tinyjson.specs.declared.value.JsonValue.{the_lemmas}
 use Rattle.tinyjson.specs.declared.value.JsonValue.TheVariants as is
 
 -- one more container, inside the last

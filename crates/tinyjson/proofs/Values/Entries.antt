@@ -5,11 +5,9 @@ use Rattle.std.proofs.lemmas.Slice.Eq.{bytes_eq-Decides}
 use Rattle.std.proofs.lemmas.Str.{encodes-chars, IsUtf8-string_bytes}
 use Rattle.std.specs.Map.{lookup}
 use Rattle.std.specs.Str.{encode_utf8_all, chars}
-use Rattle.std.specs.Cmp.Lexicographic.{slice_cmp}
-use Rattle.std.specs.Ordering.{nat_cmp}
-use Rattle.std.specs.String.{string_eq, string_cmp}
+use Rattle.std.specs.String.{string_eq}
 use Rattle.tinyjson.proofs.Values.Members.{find-put, sorted-put, members_from_find}
-use Rattle.tinyjson.specs.Tree.{Tree, key_cmp, put, find}
+use Rattle.tinyjson.specs.Tree.{Tree, put, find}
 use Rattle.tinyjson.specs.Soundness.{IsSorted}
 use Rattle.tinyjson.specs.View.{text, members_of}
 

@@ -1,17 +1,10 @@
 -- What `==` returns on texts, items and members, against the test of their trees.
-use Rattle.std.proofs.Common.{◌≡◌, Bool, List, [], ◌∷◌, Option, Some, None, ◌&&◌, String, Global, Vec, option_map, true≢false, refl, sym, ap, ◌∙◌, rules}
-use Rattle.std.proofs.lemmas.Bool.Decides.{Decides-like, same_from_decides}
-use Rattle.std.specs.Bool.{Decides}
-use Rattle.std.specs.Cmp.Lexicographic.{pointwise}
-use Rattle.std.specs.HashMap.{HashMap, hash_map_eq}
-use Rattle.std.specs.HashMap.Eq.{get_from_hash_map_eq, hash_map_eq_from_get}
-use Rattle.std.specs.Option.{option_eq}
-use Rattle.std.specs.String.{string_eq, string_eq_equiv}
-use Rattle.tinyjson.proofs.Values.Entries.{text_eq, members_from_lookups, lookups_from_members}
-use Rattle.tinyjson.proofs.Values.Views.{view_lookup}
+use Rattle.std.proofs.Common.{◌≡◌, Bool, String, Global, Vec, sym, ap, ◌∙◌, rules}
+use Rattle.std.specs.String.{string_eq}
+use Rattle.tinyjson.proofs.Values.Entries.{text_eq}
 use Rattle.tinyjson.specs.Tree.{Tree, string, array, object}
-use Rattle.tinyjson.specs.Equality.{tree_eq, items_eq, members_eq, tree_eq_decides, members_eq-Decides, same_tree}
-use Rattle.tinyjson.specs.View.{text, view, items_view, seen_entries, members_view}
+use Rattle.tinyjson.specs.Equality.{tree_eq, same_tree}
+use Rattle.tinyjson.specs.View.{text, view, items_view, members_view}
 use Rattle.tinyjson.specs.Access.{JsonMap}
 use Rattle.tinyjson.specs.declared.value.JsonValue.{JsonValue, the_lemmas}
 use Rattle.tinyjson.specs.declared.value.JsonValue.TheVariants as is

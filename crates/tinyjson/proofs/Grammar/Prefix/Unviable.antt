@@ -1,18 +1,17 @@
 -- Within a numeral that is a key, or that begins with a zero too many, the strict machine accepts nothing.
-use Rattle.std.proofs.Common.{◌≡◌, ℕ, Bool, true, false, List, [], ◌∷◌, ◌++◌, Option, Some, None, refl, ap, sym, ◌∙◌, cond, append_assoc, append-nil, arith, ◌&&◌, ◌||◌, ◌==◌, not}
-use Rattle.std.proofs.lemmas.Bool.{false≢true, true≢false}
+use Rattle.std.proofs.Common.{◌≡◌, ℕ, Bool, true, false, List, [], ◌∷◌, ◌++◌, Option, Some, None, refl, ap, ◌∙◌, cond, append_assoc, append-nil, arith, ◌&&◌, ◌||◌, ◌==◌, not}
+use Rattle.std.proofs.lemmas.Bool.{false≢true}
 use Rattle.std.specs.Char.{is_ascii_digit}
 use Rattle.tinyjson.specs.Kind.{kind_of}
 use Rattle.tinyjson.specs.Tree as tree
 use Rattle.tinyjson_number.specs.Numeral.{Numeral, has_leading_zero, in_range, value}
-use Rattle.tinyjson.specs.Syntax.{Syntax, null, boolean, number, string, empty_array, array, empty_object, object, text, is_key, tree_of, depth}
+use Rattle.tinyjson.specs.Syntax.{Syntax, text, is_key, tree_of, depth}
 use Rattle.tinyjson.specs.Prefix.{IsValue, IsCutOffText, cut_off_text}
 use Rattle.tinyjson.specs.private.Machine.{Rules, Frame, at_key, awaited, Next, next, stop, accepted, refused, complete, step, run, end, end_digits, step_digits, finish, unless_ended, go_on, digits, Stage, minus, whole, point, fraction, letter, sign, exponent}
 use Rattle.tinyjson.specs.declared.parser.error.JsonParseErrorKind.{JsonParseErrorKind}
 use Rattle.tinyjson.specs.declared.parser.error.JsonParseErrorKind.TheVariants.{KeyNotString, NumberOutOfRange, LeadingZero}
 use Rattle.tinyjson_number.specs.Numeral.{is_exponent_letter}
 use Rattle.tinyjson.proofs.Grammar.Accepts.Runs.{run-white}
-use Rattle.tinyjson.proofs.Grammar.Accepts.Number.{run-spelling, last_stage, fine-zero}
 use Rattle.tinyjson.proofs.Grammar.Accepts.Value.{run-value, less-within, HasRoom, Ends, ends, string-key}
 use Rattle.tinyjson.proofs.Grammar.Accepts.Text.{rules}
 use Rattle.tinyjson.proofs.Grammar.Prefix.CutOff.{BadKey, bad-key}

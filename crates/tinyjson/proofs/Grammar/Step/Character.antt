@@ -17,8 +17,7 @@ use Rattle.tinyjson.proofs.Grammar.Prefix.Viable.{faultless-value, read-viable, 
 use Rattle.tinyjson.proofs.Grammar.Step.Statement.{Follows, at_code, key-says}
 use Rattle.tinyjson.proofs.Grammar.Step.Awaits.{begins-at, awaits-value}
 use Rattle.tinyjson.proofs.Grammar.Step.Value.{complete-follows, after-follows}
-use Rattle.tinyjson.proofs.Grammar.Trace.State.{numeral}
-use Rattle.std.proofs.Common.{inl, inr, None}
+use Rattle.std.proofs.Common.{inl, inr}
 use Rattle.tinyjson.proofs.Grammar.Step.Statement.{NoQuoteFrom, Denies}
 use Rattle.std.specs.Prelude.{⊤}
 use Rattle.tinyjson.specs.Refusal.{KindSays, IsLiteral, NeedsMore, BeginsEscape}
@@ -26,12 +25,12 @@ use Rattle.tinyjson.specs.Prefix.{IsFaultless}
 use Rattle.tinyjson.specs.private.Machine.{Within}
 use Rattle.tinyjson.specs.private.Machine
 use Rattle.tinyjson.specs.private.Machine.{run, word, digits, Frame, Phase}
-use Rattle.tinyjson.proofs.Grammar.Prefix.Unviable.{key-unviable, zero-unviable}
+use Rattle.tinyjson.proofs.Grammar.Prefix.Unviable.{key-unviable}
 use Rattle.tinyjson.proofs.Grammar.Step.Value.{no_text, quote-after, after-follows, closed-array, closed-object, taken-key}
 use Rattle.tinyjson.proofs.Grammar.Trace.State.{quads, within_text, IsPartWithin}
 use Rattle.tinyjson.proofs.Grammar.Trace.Paths.{members_from}
 use Rattle.tinyjson.specs.Tree.{no_members}
-use Rattle.tinyjson.proofs.Grammar.Step.Number.{quote-digits, digits-follows, minus-says, zero-says, point-says, letter-says, sign-says, range-says, IsDone, done-value, whole-done, fraction-done, exponent-done}
+use Rattle.tinyjson.proofs.Grammar.Step.Number.{digits-follows, minus-says, zero-says, point-says, letter-says, sign-says, range-says, IsDone, done-value, whole-done, fraction-done, exponent-done}
 use Rattle.tinyjson.proofs.Grammar.Step.String.{quoted-follows, in-string}
 use Rattle.tinyjson.proofs.Grammar.Step.First.{at_first-follows, awaited-follows}
 use Rattle.std.specs.Prelude.{slice_index, take}

@@ -4,7 +4,7 @@ use Rattle.std.proofs.lemmas.Bool.{eqb-true}
 use Rattle.tinyjson.specs.private.Machine.{strictly}
 use Rattle.tinyjson.specs.Kind.{kind_of}
 use Rattle.tinyjson.specs.Syntax.{Syntax, text, is_key, depth, IsWithin, tree_of}
-use Rattle.tinyjson.specs.Prefix.{IsFaultless, IsValue, Pair, pairs_before, pair_text}
+use Rattle.tinyjson.specs.Prefix.{IsValue, Pair, pairs_before, pair_text}
 use Rattle.tinyjson.specs.Tree.{Tree}
 use Rattle.tinyjson.specs.private.Machine.{Frame, Phase, Rules, Next, next, stop, run, accepted}
 use Rattle.tinyjson.specs.declared.parser.error.JsonParseErrorKind.{JsonParseErrorKind}

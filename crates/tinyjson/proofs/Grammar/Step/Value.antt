@@ -6,7 +6,7 @@ use Rattle.tinyjson.specs.private.Machine.{strictly}
 use Rattle.tinyjson.specs.Tree.{key_of, is_string, Tree, no_members, put, items_of}
 use Rattle.tinyjson.specs.Tree as tree
 use Rattle.tinyjson.specs.Characters.{is_white}
-use Rattle.tinyjson.specs.Syntax.{Syntax, array, object, null, empty_array, empty_object, text, is_key, depth, IsWithin, tree_of}
+use Rattle.tinyjson.specs.Syntax.{Syntax, array, object, text, depth, IsWithin, tree_of}
 use Rattle.tinyjson.specs.Prefix.{IsValue, Pair, Element, IsFaultless}
 use Rattle.tinyjson.specs.Refusal.{EndsBefore}
 use Rattle.tinyjson.specs.private.Machine.{Frame, Phase, run, step, accepted, refused, Frame, Phase, first, awaited, word, digits, quoted, colon, after, finished, Stage, Within, Next, next, stop, Rules, complete, complete_key, step_plain, step_after, step_colon, fits}

@@ -1,4 +1,4 @@
-use Rattle.std.proofs.Common.{◌≡◌, ◌++◌, ◌∷◌, [], ◌∙◌, sym, ap, ap₂, arith}
+use Rattle.std.proofs.Common.{◌≡◌, ◌∙◌, sym, ap, ap₂, arith}
 use Rattle.tinyjson.proofs.Values.Copies.{filled_all_last, put_all-none, stack_weight_last}
 use Rattle.tinyjson.proofs.value.copy.copy.Goals as goal
 use Rattle.tinyjson.specs.private.Copy.{put_all, filled_all, step_view, stack_weight, step_weight}
