@@ -220,7 +220,7 @@ find-get_text m k = find-members_of k (seen_entries m.entries) ∙ view_lookup k
 pub find-get_literal : (m : JsonMap) (bs : List ℕ) → are_ascii bs ≡ true → find bs (members_view m.entries) ≡ option_map view (get_by_text m bs)
 find-get_literal m bs h = ap (λ k. find k (members_view m.entries)) (sym (chars-literal bs h)) ∙ find-get m bs (IsUtf8-from_ascii bs (IsAscii-literal bs h))
 
--- the tree behind a reference that may be there
+-- the tree of a reference that may be there
 pub view-ref : (r : Option (Bor JsonValue)) → option_map (λ x. view x.now) r ≡ option_map view (option_map (λ x. x.now) r)
 view-ref r = view_of_ref r
 

@@ -14,7 +14,7 @@ unexpected_value e = e.value
 abbrev pub expected_kind : UnexpectedValue → JsonKind
 expected_kind e = e.expected
 
--- the part that a value of that kind has, or a refusal that holds the whole value, where it has none
+-- the part that a value of that kind has, or an error that holds the whole value, where it has none
 abbrev pub GivesPart : {A : Type 0} → (JsonValue → Option A) → JsonKind → JsonValue → Result A UnexpectedValue → Type 0
 GivesPart part kind v r = MatchResult r (λ x. part v ≡ Some x)
     (λ e. (part v ≡ None) × ((unexpected_value e ≡ v) × (expected_kind e ≡ kind)))

@@ -1,4 +1,4 @@
--- What a contract sees of a refusal of the parser, and its words.
+-- What a contract sees of an error of the parser, and its words.
 use Rattle.std.specs.Prelude.{ℕ, ◌-◌, true, List, [], ◌∷◌, ◌++◌, length, replicate, cond, codes}
 use Rattle.std.specs.Fmt.{decimal, digits}
 use Rattle.std.specs.Int.{is_in_range}
@@ -45,7 +45,7 @@ kind_words kind.NumberOutOfRange = codes "Invalid number literal: power of ten o
 kind_words kind.OutOfMemory = codes "Out of memory"
 kind_words (kind.TooDeep c) = codes "Nesting is too deep at '" ++ (shown c ++ codes "'")
 
--- the words of a refusal: where it is, and those of its kind
+-- the words of an error: where it is, and those of its kind
 abbrev pub error_words : JsonParseError → List ℕ
 error_words e =
     codes "Parse error at line:" ++ (decimal (error_position e).line ++ (codes ", col:" ++

@@ -42,7 +42,7 @@ with_nth no_items i u = no_items
 with_nth (item t ts) zero u = item u ts
 with_nth (item t ts) (suc i) u = item t (with_nth ts i u)
 
--- the items with u behind the last
+-- the items with u after the last
 abbrev pub with_last : Items → Tree → Items
 with_last no_items u = item u no_items
 with_last (item t ts) u = item t (with_last ts u)

@@ -21,7 +21,7 @@ pub record Provides {S : Type 0} (steps : S → Option ℕ → S → Type 0) (so
 pub record Parser (S : Type 0) : Type 0 where
   -- how many containers may be open at once, if there is a limit
   pub limit : Option ℕ
-  -- the line and the column behind what was consumed
+  -- the line and the column after what was consumed
   pub position : Position
   -- the character that was looked at and is not consumed
   pub ahead : Option ℕ
@@ -29,7 +29,7 @@ pub record Parser (S : Type 0) : Type 0 where
   pub source : Option S
 
 module _ {S : Type 0} (steps : S → Option ℕ → S → Type 0) where
-  -- behind the character that was looked at
+  -- after the character that was looked at
   abbrev pub Follows : Option S → List ℕ → Type 0
   Follows None xs = xs ≡ []
   Follows (Some source) xs = AlwaysYields steps (λ x. x) source xs
@@ -51,11 +51,11 @@ pub record Parses
   pub whole : xs ≡ consumed ++ rest
   pub remains : Remains steps q rest
   pub position : q.position ≡ advance p.position consumed
-  -- all of a text, with its tree, or a refusal where the parser stands
+  -- all of a text, with its tree, or an error where the parser stands
   pub answer : MatchResult result
       (λ v. (rest ≡ []) × IsText p.limit xs (view v))
       (λ e. (error_position e ≡ q.position) × RefusalSays p.limit (error_kind e) consumed rest)
-  -- a refusal, unless memory ran out, means that the characters have no tree
+  -- an error, unless memory ran out, means that the characters have no tree
   pub refused : IfErr result (λ e. ¬ (error_kind e ≡ kind.OutOfMemory) → ¬ IsAccepted p.limit xs)
 
 -- What a new parser with this limit answers on a text of these characters.

@@ -2,7 +2,7 @@
 use Rattle.std.specs.Prelude.{ℕ, ◌+◌, min, Bool, cond, List, length, not, ◌==◌}
 use Rattle.std.specs.List.{count_by, suffix_len}
 
--- The line begins at 1. The column is the number of characters behind the last line feed.
+-- The line begins at 1. The column is the number of characters after the last line feed.
 pub record Position : Type 0 where
   pub line : ℕ
   pub column : ℕ
@@ -23,7 +23,7 @@ is_within_line c = not (is_line_feed c)
 abbrev pub line_feeds : List ℕ → ℕ
 line_feeds xs = count_by is_line_feed xs
 
--- how many characters stand behind the last line feed
+-- how many characters stand after the last line feed
 abbrev pub after_line_feed : List ℕ → ℕ
 after_line_feed xs = suffix_len is_within_line xs
 
@@ -31,7 +31,7 @@ after_line_feed xs = suffix_len is_within_line xs
 abbrev pub capped : ℕ → ℕ
 capped n = min n 18446744073709551615
 
--- the position behind xs, from the position p on
+-- the position after xs, from the position p on
 unfoldable pub advance : Position → List ℕ → Position
 advance p xs = position_at (capped (p.line + line_feeds xs))
     (capped (cond (line_feeds xs == 0) (p.column + length xs) (after_line_feed xs)))

@@ -36,7 +36,7 @@ abbrev pub pair_text : Pair → List ℕ
 pair_text p =
     p.before_key ++ (text p.key ++ (p.after_key ++ 58 ∷ (p.before ++ (text p.value ++ p.after))))
 
--- each with a comma behind it
+-- each with a comma after it
 abbrev pub elements_before : List Element → List ℕ
 elements_before [] = []
 elements_before (e ∷ es) = element_text e ++ 44 ∷ elements_before es
@@ -72,7 +72,7 @@ abbrev pub ArePairsBefore : List Pair → Type 0
 ArePairsBefore [] = ⊤
 ArePairsBefore (p ∷ ps) = IsPair p × ArePairsBefore ps
 
--- A container that is left open behind its first key that is no string.
+-- A container that is left open after its first key that is no string.
 pub data CutOff : Type 0 where
   bad_key : List Pair → List ℕ → Syntax → CutOff
   in_key : List Pair → List ℕ → CutOff → CutOff

@@ -76,7 +76,7 @@ pub record InString (limit : Option ℕ) (used : List ℕ) (units : List Piece) 
   pub are_units : AreUnits units
   pub begins : BeginsAt limit used (34 ∷ (pieces_text pieces ++ (pieces_text units ++ end)))
 
--- the list ends within a string, with the end behind `\u` escapes side by side, perhaps none
+-- the list ends within a string, with the end after `\u` escapes side by side, perhaps none
 abbrev pub EndsString : Option ℕ → List ℕ → List ℕ → Type 0
 EndsString limit used end = (units : List Piece) × InString limit used units end
 
@@ -123,7 +123,7 @@ abbrev pub EndsText : Option ℕ → ℕ → List ℕ → Type 0
 EndsText limit c used =
     (is_white c ≡ false) × ((text : List ℕ) × (used ≡ text ++ c ∷ []) × IsAccepted limit text)
 
--- behind a brace or a comma a value of this kind that is no string
+-- after a brace or a comma a value of this kind that is no string
 abbrev pub EndsBadKey : Option ℕ → JsonKind → List ℕ → List ℕ → Type 0
 EndsBadKey limit k used rest =
     (front w : List ℕ) × (o : ℕ) × (s : Syntax) × ((o ≡ 123) ⊎ (o ≡ 44)) × AreWhite w
@@ -136,7 +136,7 @@ EndsUnpaired limit used =
     (us : List Piece) × (e : List ℕ) × (paired (piece_codes us) ≡ false) × EndsRun e
     × InString limit used us e
 
--- fewer than four hexadecimal digits behind `\u`, and c, which is none
+-- fewer than four hexadecimal digits after `\u`, and c, which is none
 abbrev pub EndsBadUnit : Option ℕ → ℕ → List ℕ → Type 0
 EndsBadUnit limit c used =
     (ds : List ℕ) × (length ds ≤ 3) × IsHex ds × (is_hex c ≡ false)
@@ -154,13 +154,13 @@ EndsLeadingZero limit used rest =
     (b : Bool) × (ds : List ℕ) × IsTrue (has_leading_zero ds) × AreDigits ds
     × BeginsAt limit used (minus_text b ++ ds) × BeginsWithNone is_ascii_digit rest
 
--- a point with no digit behind it
+-- a point with no digit after it
 abbrev pub EndsPoint : Option ℕ → List ℕ → List ℕ → Type 0
 EndsPoint limit used rest =
     (b : Bool) × (ds : List ℕ) × AreWhole ds
     × BeginsAt limit used (minus_text b ++ (ds ++ codes ".")) × BeginsWithNone is_ascii_digit rest
 
--- the letter of an exponent, perhaps with a sign, and no digit behind it
+-- the letter of an exponent, perhaps with a sign, and no digit after it
 abbrev pub EndsExponent : Option ℕ → List ℕ → List ℕ → Type 0
 EndsExponent limit used rest =
     (b : Bool) × (ds f : List ℕ) × (l : ℕ) × AreWhole ds × AreDigits f
@@ -191,7 +191,7 @@ pub record AwaitsAt (limit : Option ℕ) (used : List ℕ) (c next : ℕ) : Type
   pub place : NoStringAt limit used c
   pub without_fault : IsFaultless limit (place.front ++ next ∷ [])
 
--- characters that may stand between the first fault and the refusal
+-- characters that may stand between the first fault and the error
 abbrev pub is_late : ℕ → Bool
 is_late c = is_hex c || ((c == 117) || ((c == 92) || is_sign c))
 
@@ -281,7 +281,7 @@ abbrev pub IsNotTooLate : Option ℕ → List ℕ → Type 0
 IsNotTooLate limit used =
     (front : List ℕ) (c : ℕ) → used ≡ front ++ c ∷ [] → IsLooselyViable limit front
 
--- A refusal for another cause than memory.
+-- An error for another cause than memory.
 pub record IsRefusal (limit : Option ℕ) (kind : JsonParseErrorKind) (used rest : List ℕ) : Type 0 where
   -- the fact of its kind, and the place
   pub says : KindSays limit kind used rest
@@ -313,7 +313,7 @@ pub record MayGrow (xs : List ℕ) : Type 0 where
   pub white : AreWhite before
   pub grows : IsTrue (begins_growth first)
 
--- What a refusal of the kind says, of what was consumed and of what is left.
+-- What an error of the kind says, of what was consumed and of what is left.
 abbrev pub RefusalSays : Option ℕ → JsonParseErrorKind → List ℕ → List ℕ → Type 0
 RefusalSays limit OutOfMemory used rest = IsInterrupted limit used × MayGrow (used ++ rest)
 RefusalSays limit kind used rest = IsRefusal limit kind used rest

@@ -47,7 +47,7 @@ before w k first = separator first ++ newline w k
 abbrev pub closing : Option (List ℕ) → ℕ → Bool → ℕ → List ℕ
 closing w k is_empty bracket = cond is_empty [] (newline w k) ++ bracket ∷ []
 
--- the white space behind a colon
+-- the white space after a colon
 abbrev pub after_colon : Option (List ℕ) → List ℕ
 after_colon None = []
 after_colon (Some i) = 32 ∷ []

@@ -14,7 +14,7 @@ commas-first : (x : List ℕ) (xs : List (List ℕ)) → with_commas (x ∷ xs) 
 commas-first x [] = sym (append-nil x)
 commas-first x (y ∷ ys) = ap (λ z. x ++ 44 ∷ z) (commas-first y ys)
 
--- an item's own text, and the rest behind commas
+-- an item's own text, and the rest after commas
 abbrev CompactItems : ℕ → Items → Type 0
 CompactItems k ts = items_text None k false ts ≡ commas (compact_items ts)
 

@@ -1,4 +1,4 @@
--- The last character of a refusal: what the machine does with it, since another one may stand in its place.
+-- The last character of an error: what the machine does with it, since another one may stand in its place.
 use Rattle.std.proofs.Common.{◌≡◌, ℕ, Bool, true, false, List, [], ◌∷◌, ◌++◌, Option, Some, None, refl, ap, sym, ◌∙◌, cond, append_assoc, append-nil, arith, subst, ◌⊎◌, inl, inr, ⊎_elim, ◌==◌, ◌||◌, not}
 use Rattle.std.proofs.lemmas.Bool.{ne_eqb}
 use Rattle.std.specs.Prelude.{All, ⊤}
@@ -29,7 +29,7 @@ use Rattle.tinyjson_laws.proofs.RefusalPlaces.{Stands, Goes, Halts, goes-or-halt
 
 -- ---- a character that may follow without a fault
 
--- the machine goes on, or stops behind a key that is no string
+-- the machine goes on, or stops after a key that is no string
 abbrev pub IsPassed : Next → Type 0
 IsPassed (next fs p) = ⊤
 IsPassed (stop (KeyNotString k) true) = ⊤
@@ -136,7 +136,7 @@ module _ (limit : Option ℕ) (fs : List Frame) where
   passed-zero true n e k o h g = absurd (h g)
   passed-zero false n e k o h g = refl
 
-  -- behind a number comes e, which could not continue it
+  -- after a number comes e, which could not continue it
   passed-lasts : (s : Stage) (n : Numeral) (e : ℕ) → continues e ≡ false → ((e == 43) || (e == 45)) ≡ false → IsPassed (unless_ended (strictly limit) fs n e (step_digits (strictly limit) fs s n e)) →
       Lasts s n × IsPassed (then_step (strictly limit) (finish (strictly limit) fs n) e)
   passed-lasts Machine.minus n e h m g = elim (rw (continues-digit e h) at g) [ ]
@@ -314,7 +314,7 @@ module _ (limit : Option ℕ) (front : List ℕ) (c : ℕ) (hc : IsScalar c) (d 
   bracket-at _ (value_ends (key_in p ps w) v u g) s a b = elim g [ ]
   bracket-at _ (value_ends (value_in p ps k j m w) v u g) s a b = elim g [ ]
 
--- ---- of a refusal
+-- ---- of an error
 
 -- the run stops so
 abbrev pub Exact : Option ℕ → JsonParseErrorKind → List ℕ → List ℕ → Type 0
@@ -347,7 +347,7 @@ brace-exact limit used rest c a w n m h d = awaits-exact limit used rest c 125 a
 pub bracket-exact : (limit : Option ℕ) (used rest : List ℕ) (c : ℕ) → All IsScalar used → is_white c ≡ false → (c ≡ 44 → ⊥) → (c ≡ 93 → ⊥) → AwaitsAt limit used c 93 → ¬ IsLooselyViable limit used → Exact limit (ExpectedCommaOrBracket c) used rest
 bracket-exact limit used rest c a w n m h d = awaits-exact limit used rest c 93 a closer-bracket h (ExpectedCommaOrBracket c) (λ hc x y s. bracket-at limit h.place.front c hc (not-viable limit used h.place.front c h.place.ends d) w x y s n m)
 
--- ---- behind a text
+-- ---- after a text
 
 pub run-end : (r : Rules) (fs : List Frame) (q : Phase) → run r fs q [] ≡ end r fs q
 unfolding run

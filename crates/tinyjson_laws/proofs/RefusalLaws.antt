@@ -1,4 +1,4 @@
--- A refusal is a function of the list: what its kind says forces the machine to stop just there.
+-- An error is a function of the list: what its kind says forces the machine to stop just there.
 use Rattle.std.proofs.Common.{zero, suc, ◌≡◌, ℕ, ◌+◌, ◌<◌, Bool, true, false, List, [], ◌∷◌, ◌++◌, Option, None, Ok, Err, refl, ap, sym, ◌∙◌, cond, append_assoc, append-nil, arith, length, take, subst, ◌⊎◌, inl, inr, ⊎_elim, IsTrue, ◌==◌, ◌||◌}
 use Rattle.std.proofs.lemmas.Bool.{cases_Bool, eqb-true, true≢false, false≢true, not-true}
 use Rattle.std.proofs.lemmas.List.{append_cancel_right}
@@ -388,7 +388,7 @@ one_refusal limit k j used rest others left a e r s =
     let h = same-refusal k j rest left (sym f ∙ (ap (run (strictly limit) [] awaited) e ∙ g)) in
     (h.0, append_cancel_right used others rest (e ∙ ap (λ xs. others ++ xs) (sym h.1)))
 
--- a refusal for another cause than memory
+-- an error for another cause than memory
 pub is-refusal : (limit : Option ℕ) (k : JsonParseErrorKind) (used rest : List ℕ) → ¬ (k ≡ kind.OutOfMemory) → RefusalSays limit k used rest → IsRefusal limit k used rest
 is-refusal limit kind.OutOfMemory used rest n r = absurd (n refl)
 is-refusal limit k used rest n r = r

@@ -89,7 +89,7 @@ word-ends r fs l n (inr (inr e)) h = rw e (λ k. end-false r fs n h k)
 
 -- ---- a string
 
--- what is paired takes no partner from what comes behind it
+-- what is paired takes no partner from what comes after it
 paired-front : (us vs : List ℕ) → IsTrue (paired us) → paired (us ++ vs) ≡ paired vs
 paired-front [] vs h = refl
 paired-front (u ∷ []) vs h = paired-cons u vs (not-true (is_surrogate u) h)
@@ -103,7 +103,7 @@ paired-front (u ∷ v ∷ us) vs h = split (is_high u && is_low v) h (λ g. pair
 paired-parts : (us : List ℕ) (c : ℕ) (vs : List ℕ) → is_surrogate c ≡ false → IsTrue (paired (us ++ c ∷ vs)) → IsTrue (paired us) × IsTrue (paired vs)
 paired-parts us c vs n h = and_parts (paired us) (paired vs) (sym (paired-append us c vs n) ∙ h)
 
--- the state behind pieces
+-- the state after pieces
 abbrev Opens : Rules → List Frame → List ℕ → List ℕ → List Piece → Type 0
 Opens r fs cs us ps = (ds vs : List ℕ) × IsTrue (paired vs) × ((xs : List ℕ) → run r fs (quoted Machine.plain cs us) (pieces_text ps ++ xs) ≡ run r fs (quoted Machine.plain ds vs) xs)
 
@@ -136,7 +136,7 @@ open-units r fs cs us (unit a b c d ∷ ps) h xs =
     let u = unit_value a b c d in
     rw (h.0.0, h.0.1, h.0.2, h.0.3) (open-units r fs cs (us ++ u ∷ []) ps h.1 xs ∙ ap (λ vs. run r fs (quoted Machine.plain cs vs) xs) (append_assoc us (u ∷ []) (piece_codes ps)))
 
--- the state behind a string that was begun
+-- the state after a string that was begun
 abbrev pub StringOpens : Option ℕ → List Frame → List Piece → List Piece → Type 0
 StringOpens limit fs ps qs =
     (ds vs : List ℕ) × IsTrue (paired vs) × ((xs : List ℕ) → run (strictly limit) fs awaited (34 ∷ (pieces_text ps ++ (pieces_text qs ++ xs))) ≡ run (strictly limit) fs (quoted Machine.plain ds (vs ++ piece_codes qs)) xs)
@@ -240,7 +240,7 @@ module _ (limit : Option ℕ) (fs : List Frame) where
       some-digit [] g = absurd cc
       some-digit (x ∷ xs) g = omega arith
 
-  -- the letter of an exponent behind a number without one
+  -- the letter of an exponent after a number without one
   letter-goes : (b : Bool) (ds f : List ℕ) (l : ℕ) (xs : List ℕ) → has_leading_zero ds ≡ false → IsTrue (is_exponent_letter l) →
       run (strictly limit) fs (digits (stage_of f None) (numeral b ds f None)) (l ∷ xs) ≡ run (strictly limit) fs (digits Machine.letter (with_exponent (numeral b ds f None) l)) xs
   unfolding run step

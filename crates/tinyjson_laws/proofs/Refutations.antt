@@ -1,5 +1,5 @@
--- Wrong refusals: the contract of `parse` refuses just these. Each names the wrong kind with what it says was consumed and left,
--- and is refuted by the right refusal of the list, of which there is one.
+-- Wrong errors: the contract of `parse` refuses just these. Each names the wrong kind with what it says was consumed and left,
+-- and is refuted by the right error of the list, of which there is one.
 use Rattle.std.proofs.Common.{◌≡◌, ℕ, true, false, List, [], ◌∷◌, ◌++◌, Option, None, Some, refl, subst, ap, sym, ◌∙◌, arith, length}
 use Rattle.std.specs.Prelude.{codes}
 use Rattle.std.specs.Str.{all_scalars}
@@ -16,7 +16,7 @@ use Rattle.tinyjson_number.specs.Numeral.{power_fits, value}
 use Rattle.tinyjson_laws.proofs.Examples.Reading.{refusal-of}
 use Rattle.tinyjson_laws.proofs.RefusalLaws.{one_refusal}
 
--- the right refusal k of the list, which has consumed `used`, rules out another one
+-- the right error k of the list, which has consumed `used`, rules out another one
 refuted : {limit : Option ℕ} {j : JsonParseErrorKind} {others left : List ℕ} (k : JsonParseErrorKind) (used rest : List ℕ) →
     all_scalars (used ++ rest) ≡ true → used ++ rest ≡ others ++ left →
     run (strictly limit) [] awaited (used ++ rest) ≡ refused k rest →
@@ -115,7 +115,7 @@ key_that_is_half_a_number : ¬ RefusalSays None (error.KeyNotString kind.Number)
 unfolding run step end value power_fits
 key_that_is_half_a_number = refuted error.LeadingZero (codes "{01") (codes ":2}") refl refl refl (λ e. cc)
 
--- ---- a token is told by where it begins
+-- ---- a token is determined by where it begins
 
 sign_of_an_exponent : ¬ RefusalSays None error.EmptyInteger (codes "[1e-") (codes "]")
 unfolding run step end value power_fits
@@ -150,7 +150,7 @@ minus_in_a_string : ¬ RefusalSays None error.EmptyInteger (codes "\"a-") []
 unfolding run step end value power_fits
 minus_in_a_string = refuted error.UnexpectedEof (codes "\"a-") [] refl refl refl (λ e. cc)
 
--- ---- an end in the middle of a number, or behind a wrong key
+-- ---- an end in the middle of a number, or after a wrong key
 
 end_behind_a_minus : ¬ RefusalSays None error.UnexpectedEof (codes "-") []
 unfolding run step end value power_fits
@@ -256,7 +256,7 @@ memory_for_true used rest e r = grows-not 116 (codes "rue") refl refl (subst May
 memory_for_a_wrong_character : (used rest : List ℕ) → used ++ rest ≡ codes "x" → ¬ RefusalSays None error.OutOfMemory used rest
 memory_for_a_wrong_character used rest e r = grows-not 120 [] refl refl (subst MayGrow e r.1)
 
--- no memory is needed behind a character that no text of the loose grammar has there
+-- no memory is needed after a character that no text of the loose grammar has there
 memory_behind_a_text : ¬ RefusalSays None error.OutOfMemory (codes "[1]x") []
 unfolding run step end value power_fits
 memory_behind_a_text r =

@@ -29,7 +29,7 @@ wholes_mean negative n fits =
       λ some. negative-whole negative n some fits,
     )
 
--- ---- integers are told apart by their decimals
+-- ---- two integers with one decimal are one
 
 pub integers_differ : IntegersDiffer
 integers_differ z w h k e = callers.integers_differ z w h k e

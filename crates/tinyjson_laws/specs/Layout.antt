@@ -35,7 +35,7 @@ abbrev mutual
 abbrev pub line : List ℕ → ℕ → List ℕ
 line indent k = 10 ∷ repeated k indent
 
--- the texts with commas between them and the last line behind them, or nothing where there are none
+-- the texts with commas between them and the last line after them, or nothing where there are none
 abbrev pub lines : List (List ℕ) → List ℕ → List ℕ
 lines [] last = []
 lines (x ∷ xs) last = with_commas (x ∷ xs) ++ last

@@ -1,4 +1,4 @@
--- Laws of objects: the last pair with a key counts, and members are told by what is found in them.
+-- Laws of objects: the last pair with a key counts, and members are determined by what is found in them.
 use Rattle.std.specs.Prelude.{◌≡◌, ◌≢◌, ◌↔◌, ℕ, List, [], ◌∷◌, ◌++◌, Some, None}
 use Rattle.std.specs.List.{AllByRecursion}
 use Rattle.tinyjson.specs.Tree as tree

@@ -1,4 +1,4 @@
--- Laws of refusals: what is refused, why and where follows from the list.
+-- Laws of errors: which error a list has, and where, follows from the list.
 use Rattle.std.specs.Prelude.{◌≡◌, ℕ, List, ◌++◌, Option, Result, Ok, Err, IfErr, All}
 use Rattle.std.specs.Char.{IsScalar}
 use Rattle.tinyjson.specs.Error.{error_kind, error_position}
@@ -10,7 +10,7 @@ use Rattle.tinyjson.specs.declared.parser.error.JsonParseErrorKind.{JsonParseErr
 use Rattle.tinyjson.specs.declared.parser.error.JsonParseErrorKind.TheVariants.{OutOfMemory}
 use Rattle.tinyjson.specs.declared.value.JsonValue.{JsonValue}
 
--- two refusals of one list have one kind, and have consumed the same
+-- two errors of one list have one kind, and have consumed the same
 abbrev pub OneRefusal : Type 0
 OneRefusal =
     (limit : Option ℕ) (kind other : JsonParseErrorKind) (used rest others left : List ℕ) →

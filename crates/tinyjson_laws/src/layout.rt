@@ -7,7 +7,7 @@ pub fn compact_layout()
     ensures { CompactLayout }
 {}
 
-/// The indented text of a tree: each item and member on a line of its own, behind its indent.
+/// The indented text of a tree: each item and member on a line of its own, after its indent.
 #[tactic(auto, using(crate::proofs::LayoutLaws::indented_layout))]
 pub fn indented_layout()
     ensures { IndentedLayout }

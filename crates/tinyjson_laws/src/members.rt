@@ -6,7 +6,7 @@ pub fn last_pair_stays()
     ensures { LastPairStays }
 {}
 
-/// An object is told by its members: two in which the same is found at every key are one, so the order of
+/// An object is determined by its members: two in which the same is found at every key are one, so the order of
 /// pairs with different keys does not count.
 #[tactic(auto, using(tinyjson::proofs::Callers::members_from_find))]
 pub fn members_from_find()

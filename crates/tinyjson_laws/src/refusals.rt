@@ -1,8 +1,8 @@
 //! Laws of errors: unless memory runs out, what is returned for a text follows from the text.
 ghost use Rattle.tinyjson_laws.specs.Refusals.{OneRefusal, OneAnswer};
 
-/// A refusal for another cause than memory is a function of the list and the limit: two of them have
-/// the same kind, with the character or the kind of value that it tells, and have consumed the same.
+/// An error for another cause than memory is a function of the list and the limit: two of them have
+/// the same kind, with the character or the kind of value that it names, and have consumed the same.
 #[tactic(auto, using(crate::proofs::RefusalLaws::one_refusal))]
 pub fn one_refusal()
     ensures { OneRefusal }

@@ -1,4 +1,4 @@
--- Memory runs out: wherever the machine stands, and behind the character that ends a run with an unpaired surrogate.
+-- Memory runs out: wherever the machine stands, and after the character that ends a run with an unpaired surrogate.
 use Rattle.std.proofs.Common.{◌≡◌, ℕ, suc, true, List, [], ◌∷◌, ◌++◌, Option, Some, refl, sym, subst, append_assoc, append-nil, arith}
 use Rattle.std.specs.Prelude.{All}
 use Rattle.std.specs.Char.{IsScalar}

@@ -1,4 +1,4 @@
--- What comes of a whole list: a text with its tree, or a refusal that says what it must.
+-- What comes of a whole list: a text with its tree, or an error that says what it must.
 use Rattle.std.proofs.Common.{suc, ◌≡◌, ℕ, Bool, true, false, List, [], ◌∷◌, ◌++◌, Option, refl, ap, sym, ◌∙◌, append_assoc, append-nil, arith, subst, ◌⊎◌, inl, inr}
 use Rattle.std.specs.Prelude.{All}
 use Rattle.std.specs.Char.{IsScalar}
@@ -38,7 +38,7 @@ run-left : (r : Rules) (fs : List Frame) (q : Phase) (c : ℕ) (k : JsonParseErr
 unfolding run
 run-left r fs q c k ys e = rw e
 
--- both machines stand so behind what was used
+-- both machines stand so after what was used
 abbrev pub Reached : Option ℕ → List ℕ → List Frame → Phase → Type 0
 Reached limit used fs q = (b : Bool) (ys : List ℕ) → run (rules b limit) [] awaited (used ++ ys) ≡ run (rules b limit) fs q ys
 
@@ -108,7 +108,7 @@ late-one limit used c h front d e = subst (IsLooselyViable limit) (same_front us
 pub late-none : (limit : Option ℕ) (used : List ℕ) → IsLooselyViable limit used → IsNotTooLate limit used
 late-none limit used h front d e = viable-before (IsLoose limit) front (d ∷ []) (subst (IsLooselyViable limit) e h)
 
--- ---- the refusal
+-- ---- the error
 
 refuses : (limit : Option ℕ) (xs rest : List ℕ) (k : JsonParseErrorKind) → run (strictly limit) [] awaited xs ≡ refused k rest → ¬ IsAccepted limit xs
 refuses limit xs rest k e a = no_text k rest a.0 (sym e ∙ text-accepted limit xs a.0 a.1)
@@ -145,7 +145,7 @@ refusal-end limit used fs q k h a e f = record {
     no_more : (d : ℕ) (more : List ℕ) → [] ≡ d ∷ more → ⊥
     no_more d more g = cc
 
--- What comes of the characters behind what was used.
+-- What comes of the characters after what was used.
 abbrev pub Results : Option ℕ → List ℕ → List ℕ → Outcome → Type 0
 Results limit used xs (accepted t) = IsText limit (used ++ xs) t
 Results limit used xs (refused k rest) = (taken : List ℕ) × (xs ≡ taken ++ rest) × IsRefusal limit k (used ++ taken) rest

@@ -1,4 +1,4 @@
--- The theorem: the machine accepts exactly the texts, each with its one tree, and its refusals say what they must.
+-- The theorem: the machine accepts exactly the texts, each with its one tree, and its errors say what they must.
 use Rattle.std.proofs.Common.{◌≡◌, ℕ, List, [], ◌++◌, Option, sym, subst}
 use Rattle.std.proofs.lemmas.List.{append_cancel_right}
 use Rattle.std.specs.Prelude.{All, ◌↔◌}

@@ -25,7 +25,7 @@ stack_weight_last (q ∷ ps) p = omega (arith, stack_weight_last ps p)
 pub weight-Object : (m : JsonMap) → weight (is.Object m) ≡ 2 + entries_weight m.entries
 weight-Object m = search (rules, the_lemmas)
 
--- entries whose keys are distinct, put behind others
+-- entries whose keys are distinct, put after others
 pub put_all-append : (done more : List Entry) → IsDistinct string_eq (keys_of (done ++ more)) → put_all more (members_view done) ≡ members_view (done ++ more)
 put_all-append done [] h = ap members_view (sym (append-nil done))
 put_all-append done (e ∷ more) h =

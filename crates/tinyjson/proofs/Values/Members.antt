@@ -144,7 +144,7 @@ same_rest k t ms ns s r h q = by (bytes_eq q k) refl
         subst (λ x. find x ms ≡ find x ns) (sym is) (find-below k ms s.0 s.1 ∙ sym (find-below k ns r.0 r.1))
     by false e = sym (ap (λ b. cond b (Some t) (find q ms)) e) ∙ (h q ∙ ap (λ b. cond b (Some t) (find q ns)) e)
 
--- sorted members are told by what is found in them
+-- sorted members are determined by what is found in them
 pub members_from_find : (ms ns : Members) → IsSorted ms → IsSorted ns → Same ms ns → ms ≡ ns
 members_from_find no_members no_members s r h = refl
 members_from_find no_members (member l u ns) s r h = absurd (some_none u (sym (found_first l u ns) ∙ sym (h l)))

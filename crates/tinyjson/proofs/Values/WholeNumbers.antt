@@ -1,4 +1,4 @@
--- Whole numbers are told apart by their decimals.
+-- Two whole numbers with one decimal are one.
 use Rattle.std.proofs.Common.{◌≡◌, ℕ, suc, ◌^◌, ◌<◌, Bool, true, false, ℤ, pos, negsuc, sym, ap, ◌∙◌, arith}
 use Rattle.std.specs.Int.{w64}
 use Rattle.std.specs.Prelude.{FitsSigned}

@@ -26,7 +26,7 @@ array_of_put x = ap array_in (outs-Array x)
 pub object_of_put : (x : JsonMap) → object_part (made.Object x) ≡ Some x
 object_of_put x = ap object_in (outs-Object x)
 
--- a value is told by its one level
+-- a value is determined by its one level
 abbrev same_level : (o : JsonValue-F JsonValue) (v : JsonValue) → out-JsonValue v ≡ o → v ≡ roll-JsonValue o
 same_level o v h = sym (roll-out-JsonValue v) ∙ ap roll-JsonValue h
 

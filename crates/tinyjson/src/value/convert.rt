@@ -62,7 +62,7 @@ impl fmt::Display for UnexpectedValue {
 
 impl Error for UnexpectedValue {}
 
-/// The value that the fault holds.
+/// The value that the error holds.
 impl From<UnexpectedValue> for JsonValue {
     ghost from_gives = { λ e v. v ≡ unexpected_value e };
 
@@ -152,7 +152,7 @@ impl From<HashMap<String, JsonValue>> for JsonValue {
     }
 }
 
-/// The number that the value is, or a fault that holds a value of another kind.
+/// The number that the value is, or an error that holds a value of another kind.
 ///
 /// ```
 /// assert!(rt; JsonNumber::try_from(JsonValue::Boolean(true)).is_err());
@@ -173,7 +173,7 @@ impl TryFrom<JsonValue> for JsonNumber {
     }
 }
 
-/// The truth value that the value is, or a fault that holds a value of another kind.
+/// The truth value that the value is, or an error that holds a value of another kind.
 ///
 /// ```
 /// assert!(rt; bool::try_from(JsonValue::Boolean(true)).is_ok_and(|b| b));
@@ -194,7 +194,7 @@ impl TryFrom<JsonValue> for bool {
     }
 }
 
-/// The text of the string that the value is, or a fault that holds a value of another kind.
+/// The text of the string that the value is, or an error that holds a value of another kind.
 ///
 /// ```
 /// let value = JsonValue::from("foo".to_string(alloc)?);
@@ -216,7 +216,7 @@ impl TryFrom<JsonValue> for String {
     }
 }
 
-/// `()` of the value null, or a fault that holds a value of another kind.
+/// `()` of the value null, or an error that holds a value of another kind.
 ///
 /// ```
 /// assert!(rt; <()>::try_from(JsonValue::Null).is_ok());
@@ -237,7 +237,7 @@ impl TryFrom<JsonValue> for () {
     }
 }
 
-/// The items of the array that the value is, or a fault that holds a value of another kind.
+/// The items of the array that the value is, or an error that holds a value of another kind.
 ///
 /// ```
 /// let value = JsonValue::from(vec![in alloc; JsonValue::Null]?);
@@ -259,7 +259,7 @@ impl TryFrom<JsonValue> for Vec<JsonValue> {
     }
 }
 
-/// The members of the object that the value is, or a fault that holds a value of another kind.
+/// The members of the object that the value is, or an error that holds a value of another kind.
 ///
 /// ```
 /// let value = JsonValue::from(HashMap::new(alloc));

@@ -34,7 +34,7 @@ impl JsonValue {
 }
 
 /// A container that is being copied: its first values in the copy, the key of the value that is being
-/// copied, and the values behind that one.
+/// copied, and the values after that one.
 #[derive(Drop)]
 enum Partial<'v> {
     Array(Vec<JsonValue>, slice::Iter<'v, JsonValue>),
@@ -59,7 +59,7 @@ enum Step<'v> {
     Copied(JsonValue),
 }
 
-/// Copies a value. After a refusal the stack holds what was copied.
+/// Copies a value. After an error the stack holds what was copied.
 fn copy<'v>(
     value: &'v JsonValue,
     alloc: Global,

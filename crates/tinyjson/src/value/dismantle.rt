@@ -26,7 +26,7 @@ impl JsonValue {
 }
 
 /// Puts a value's containers before a chain: each holds, in the place of its first value, the chain
-/// behind it. What was in that place is chained next.
+/// after it. What was in that place is chained next.
 fn chained(value: JsonValue, chain: JsonValue) -> JsonValue {
     let mut value = value;
     let mut chain = chain;

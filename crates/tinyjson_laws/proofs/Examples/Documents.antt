@@ -207,7 +207,7 @@ document_compact : unfold decimal_text natural_text in
 unfolding decimal_text natural_text
 document_compact = refl
 
--- without a line feed behind the last brace
+-- without a line feed after the last brace
 document_indented : unfold decimal_text natural_text in
     indented document (codes "  ") 0 ++ codes "\n" ≡
     lines

@@ -21,7 +21,7 @@ pub refusal-of : {limit : Option ℕ} {k : JsonParseErrorKind} {used rest : List
     IsRefusal limit k used rest
 refusal-of {limit} {k} {used} {rest} scalars e = refuses limit used rest (all-scalars (used ++ rest) scalars) k e
 
--- each line with a line feed behind it
+-- each line with a line feed after it
 abbrev pub lines : List (List ℕ) → List ℕ
 lines [] = []
 lines (l ∷ ls) = l ++ 10 ∷ lines ls

@@ -62,7 +62,7 @@ power-digits r fs g w f l (Some c) [] xs h p hs = absurd (omega arith)
 power-digits r fs g w f l None (d ∷ ds) xs h p hs = rw h.0 (exponent-digits r fs g w f l None (d ∷ []) ds xs h.1)
 power-digits r fs g w f l (Some c) (d ∷ ds) xs h p hs = rw (sign-no_digit c hs, hs, h.0) (exponent-digits r fs g w f l (Some c) (d ∷ []) ds xs h.1)
 
--- the stage behind the last character of a numeral
+-- the stage after the last character of a numeral
 abbrev pub stage_of : List ℕ → Option Exponent → Stage
 stage_of [] None = whole
 stage_of (d ∷ ds) None = fraction
@@ -109,7 +109,7 @@ from-first r fs g w f e xs hn h = run-whole r fs g w (fraction_text f ++ (expone
 spelling_assoc : (n : Numeral) (xs : List ℕ) → spelling n ++ xs ≡ minus_text n.negative ++ (n.whole ++ (fraction_text n.fraction ++ (exponent_text n.exponent ++ xs)))
 spelling_assoc n xs = simp append_assoc
 
--- the machine behind the last character of a numeral
+-- the machine after the last character of a numeral
 pub run-spelling : (r : Rules) (fs : List Frame) (n : Numeral) (xs : List ℕ) → IsNumeral n → (r.strict && has_leading_zero n.whole) ≡ false →
     run r fs awaited (spelling n ++ xs) ≡ run r fs (digits (last_stage n) n) xs
 run-spelling r fs n xs hn h = rw (spelling_assoc n xs) (from-first r fs n.negative n.whole n.fraction n.exponent xs hn h)

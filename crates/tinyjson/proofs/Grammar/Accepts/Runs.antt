@@ -34,7 +34,7 @@ settle-complete r b (in_array ts ∷ fs) t c xs = refl
 settle-complete r b (at_key ms ∷ fs) t c xs = settle-cond r (b && not (is_string t)) (KeyNotString (kind_of t)) (at_key ms ∷ fs) (colon (key_of t)) c xs
 settle-complete r b (at_value ms k ∷ fs) t c xs = refl
 
--- a character behind a whole numeral
+-- a character after a whole numeral
 ends-cond : (r : Rules) (b : Bool) (k : JsonParseErrorKind) (fs : List Frame) (l : List ℕ) (c : ℕ) (xs : List ℕ) →
     go_on (λ gs q. run r gs q xs) (then_step r (cond b (stop k false) (next fs (colon l))) c) (c ∷ xs) xs ≡ settle r (cond b (stop k true) (next fs (colon l))) (c ∷ xs)
 unfolding run step
@@ -49,7 +49,7 @@ ends-complete r b (in_array ts ∷ fs) t c xs = refl
 ends-complete r b (at_key ms ∷ fs) t c xs = ends-cond r (b && not (is_string t)) (KeyNotString (kind_of t)) (at_key ms ∷ fs) (key_of t) c xs
 ends-complete r b (at_value ms k ∷ fs) t c xs = refl
 
--- the end behind a whole numeral
+-- the end after a whole numeral
 end-cond : (r : Rules) (b : Bool) (k : JsonParseErrorKind) (fs : List Frame) (l : List ℕ) →
     end_plain (cond b (stop k false) (next fs (colon l))) ≡ settle r (cond b (stop k true) (next fs (colon l))) []
 unfolding run end
@@ -90,7 +90,7 @@ unfolding run step end
 finished-white r fs t [] h = refl
 finished-white r fs t (c ∷ cs) h = rw h.0 (finished-white r fs t cs h.1)
 
--- ---- what may stand behind a numeral
+-- ---- what may stand after a numeral
 
 abbrev pub continues : ℕ → Bool
 continues c = is_ascii_digit c || ((c == 46) || is_exponent_letter c)

@@ -93,7 +93,7 @@ less-within (Some l) k n h e = omega arith
 
 -- ---- values
 
--- what stands behind a value: nothing that could continue it
+-- what stands after a value: nothing that could continue it
 abbrev pub Ends : Syntax → List ℕ → Type 0
 Ends (number n) xs = Delimited xs
 Ends null xs = ⊤

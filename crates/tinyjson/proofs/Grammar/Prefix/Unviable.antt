@@ -117,6 +117,6 @@ pub cut_off-refused : (limit : Option ℕ) (xs : List ℕ) (h : IsCutOffText lim
 cut_off-refused limit xs h ys d = let b = cut_off-key limit xs h in
     cut_off-reads limit xs h ys ∙ refused-key (rules true limit) b.members b.frames b.key ys refl b.value b.no_string b.room d
 
--- the end behind it
+-- the end after it
 pub cut_off-end : (limit : Option ℕ) (xs : List ℕ) → IsCutOffText limit xs → (t : tree.Tree) × (run (rules true limit) [] awaited xs ≡ refused (KeyNotString (kind_of t)) [])
 cut_off-end limit xs h = (_, rw (append-nil xs) at (cut_off-refused limit xs h [] (ends (cut_off-key limit xs h).key [] tt)))

@@ -32,6 +32,6 @@ awaits-value limit p hp =
     let a : IsLooselyViable limit (path_text (whiter p 10) ++ 34 ∷ []) = ends-loosely limit (whiter p 10) (whiter-path limit p hp 10 refl) (34 ∷ []) (record { value = Syntax.string []; spelled = tt; flat = refl; rest = 34 ∷ []; whole = refl }) in
     (faultless-place limit p hp, subst (IsLooselyViable limit) (ap (λ xs. xs ++ 34 ∷ []) (sym (whiter-text p 10)) ∙ append_assoc (path_text p) (10 ∷ []) (34 ∷ [])) a)
 
--- what stands behind the place begins there
+-- what stands after the place begins there
 pub begins-at : (limit : Option ℕ) (p : Path) → IsPath limit p → (used token : List ℕ) → used ≡ path_text p ++ token → BeginsAt limit used token
 begins-at limit p hp used token e = record { front = path_text p; whole = e; awaited = awaits-value limit p hp }

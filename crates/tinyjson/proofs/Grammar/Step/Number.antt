@@ -45,7 +45,7 @@ quote-digits limit p (part_letter b d ds f l) ys t e = no_text _ _ t e
 quote-digits limit p (part_sign b d ds f l s) ys t e = no_text _ _ t e
 quote-digits limit p (part_exponent b d ds f l s x xs) ys t e = quote-ends limit p (numeral b (d ∷ ds) f (Some (exponent_with l s (x ∷ xs)))) ys t e
 
--- ---- what a number that stops tells
+-- ---- what a number that stops says
 
 -- what cannot follow the part of a number
 abbrev pub DeniesPart : Option ℕ → Path → Part → Type 0

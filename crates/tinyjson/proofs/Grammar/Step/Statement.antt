@@ -29,7 +29,7 @@ NoQuoteFrom limit fs q = (ys : List ℕ) (t : Tree) → run (loosely limit) fs q
 abbrev pub AcceptsNoneFrom : Option ℕ → List Frame → Phase → Type 0
 AcceptsNoneFrom limit fs q = (ys : List ℕ) (t : Tree) → run (strictly limit) fs q ys ≡ accepted t → ⊥
 
--- What cannot follow what was used, where the machine stands so behind it.
+-- What cannot follow what was used, where the machine stands so after it.
 pub record Denies (limit : Option ℕ) (used : List ℕ) (fs : List Frame) (q : Phase) : Type 0 where
   pub no_quote : NoQuoteFrom limit fs q → ¬ IsLooselyViable limit (used ++ 34 ∷ [])
   pub unviable : AcceptsNoneFrom limit fs q → ¬ IsViable (IsAccepted limit) used
@@ -39,7 +39,7 @@ pub record IsDead (limit : Option ℕ) (used : List ℕ) (k : JsonParseErrorKind
   pub unviable : ¬ IsViable (IsAccepted limit) used
   pub loosely : is_own k ≡ false → ¬ IsLooselyViable limit used
 
--- What comes of a character behind what was used.
+-- What comes of a character after what was used.
 abbrev pub Follows : Option ℕ → List ℕ → List Frame → Phase → ℕ → Next → Type 0
 Follows limit used fs q c (next gs p) = Spells limit (used ++ c ∷ []) gs p
 Follows limit used fs q c (stop k true) =

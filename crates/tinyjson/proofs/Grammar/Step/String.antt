@@ -51,7 +51,7 @@ pub string-goes : (limit : Option ℕ) (p : Path) (ps : List Piece) (cs : List �
 string-goes limit p ps cs qs h w v c hv e =
     record { read = in_quoted p ps cs qs v; is = (h.path, h.pieces, h.settled, h.run, hv); whole = string-longer (path_text p) (pieces_text ps) (pieces_text (quads qs)) (within_text w) c ∙ ap (string_text p ps qs) (sym e); frames = refl; phase = refl }
 
--- a piece that was read behind the run
+-- a piece that was read after the run
 pub string-piece : (limit : Option ℕ) (p : Path) (ps : List Piece) (cs : List ℕ) (qs : List Quad) → InString limit p ps cs qs → IsTrue (paired (values qs)) → (w : List ℕ) (c : ℕ) (e : Piece) →
     IsPiece e → w ++ c ∷ [] ≡ piece_text e → is_surrogate (code e) ≡ false →
     Spells limit (string_text p ps qs w ++ c ∷ []) (path_frames p) (quoted Machine.plain ((cs ++ decode (values qs)) ++ code e ∷ []) [])

@@ -1,4 +1,4 @@
--- What comes of a value that is whole, and of a character behind it.
+-- What comes of a value that is whole, and of a character after it.
 use Rattle.std.specs.Prelude.{⊤}
 use Rattle.std.proofs.Common.{◌≡◌, ℕ, ◌+◌, true, List, [], ◌∷◌, ◌++◌, Option, refl, ap, sym, ◌∙◌, append_assoc, append-nil, arith, subst, IsTrue, not}
 use Rattle.std.proofs.lemmas.Bool.{not-true, not-false, eqb-false}
@@ -33,7 +33,7 @@ complete-follows limit (key_in p ps w) hp s hs hd nn used fs q c e =
     (λ h more d x. key-says limit p ps w hp s hs (sym (string-key s) ∙ not-true _ h) hd _ e more (nn more) x.unviable)
     (λ h. record { read = at_after (key_in p ps w) s []; is = (hp, hs, sym (string-key s) ∙ not-false _ h, hd, tt); whole = e ∙ ap (λ ys. path_text (key_in p ps w) ++ ys) (sym (append-nil (text s))); frames = refl; phase = refl })
 
--- ---- behind a value
+-- ---- after a value
 
 pub white-after : (limit : Option ℕ) (p : Path) (s : Syntax) (v : List ℕ) → IsRead limit (at_after p s v) → (c : ℕ) → IsTrue (is_white c) → IsRead limit (at_after p s (v ++ c ∷ []))
 white-after limit p s v h c hc = (h.0, h.1, h.2, h.3, are_white_append v (c ∷ []) h.4 (hc, tt))
