@@ -22,8 +22,8 @@ use Rattle.std.specs.Map.{lookup, keys_of}
 use Rattle.std.specs.Prelude.{IsSome, slice_get, option_and_then}
 use Rattle.std.specs.Str.{IsAscii, IsUtf8, chars, encode_utf8_all}
 use Rattle.std.specs.String.{string_eq, string_eq_equiv}
-use Rattle.tinyjson.proofs.Values.Entries.{find-members_of}
-use Rattle.tinyjson.proofs.Values.Views.{view_lookup, view_of_ref, members_view-updates, members_view-removes, members_view-writes}
+use Rattle.tinyjson.proofs.Values.Entries.{find_members_of}
+use Rattle.tinyjson.proofs.Values.Views.{view_lookup, view_of_ref, members_view_updates, members_view_removes, members_view_writes}
 use Rattle.tinyjson.specs.Access.{JsonMap, number_in, boolean_in, string_in, null_in, array_in, object_in, number_part, boolean_part, string_part, null_part, array_part, object_part}
 use Rattle.tinyjson.proofs.Writing.WrittenTexts.{compact-text, one-compact}
 use Rattle.tinyjson.specs.Equality.{same_tree, tree_eq_decides}
@@ -63,8 +63,8 @@ view-String s = search (rules, the_lemmas)
 abbrev seen : JsonValue-F JsonValue → Tree
 seen o = view_step (map-JsonValue JsonValue Tree view o)
 
-view-seen : (v : JsonValue) → view v ≡ seen (out-JsonValue v)
-view-seen v = fold_out-JsonValue Tree view_step v
+view_seen : (v : JsonValue) → view v ≡ seen (out-JsonValue v)
+view_seen v = fold_out-JsonValue Tree view_step v
 
 null_seen : (o : JsonValue-F JsonValue) → null_in o ≡ Some tt → seen o ≡ null
 null_seen JsonValue-F.Null h = refl
@@ -92,27 +92,27 @@ object_seen _ m h = cc
 
 -- a value that is null
 pub null_tree : (v : JsonValue) → null_part v ≡ Some tt → view v ≡ null
-null_tree v h = view-seen v ∙ null_seen (out-JsonValue v) h
+null_tree v h = view_seen v ∙ null_seen (out-JsonValue v) h
 
 -- a value that holds a truth value
 pub boolean_tree : (v : JsonValue) (b : Bool) → boolean_part v ≡ Some b → view v ≡ boolean b
-boolean_tree v b h = view-seen v ∙ boolean_seen (out-JsonValue v) b h
+boolean_tree v b h = view_seen v ∙ boolean_seen (out-JsonValue v) b h
 
 -- a value that holds a number
 pub number_tree : (v : JsonValue) (n : JsonNumber) → number_part v ≡ Some n → view v ≡ number n.decimal
-number_tree v n h = view-seen v ∙ number_seen (out-JsonValue v) n h
+number_tree v n h = view_seen v ∙ number_seen (out-JsonValue v) n h
 
 -- a value that holds a text
 pub string_tree : (v : JsonValue) (s : String Global) → string_part v ≡ Some s → view v ≡ string (text s)
-string_tree v s h = view-seen v ∙ string_seen (out-JsonValue v) s h
+string_tree v s h = view_seen v ∙ string_seen (out-JsonValue v) s h
 
 -- a value that holds items
 pub array_tree : (v : JsonValue) (l : Vec JsonValue Global) → array_part v ≡ Some l → view v ≡ array (items_view l.items)
-array_tree v l h = view-seen v ∙ array_seen (out-JsonValue v) l h
+array_tree v l h = view_seen v ∙ array_seen (out-JsonValue v) l h
 
 -- a value that holds members
 pub object_tree : (v : JsonValue) (m : JsonMap) → object_part v ≡ Some m → view v ≡ object (members_view m.entries)
-object_tree v m h = view-seen v ∙ object_seen (out-JsonValue v) m h
+object_tree v m h = view_seen v ∙ object_seen (out-JsonValue v) m h
 
 -- ---- from the tree to the part
 
@@ -142,27 +142,27 @@ object_held _ ms h = cc
 
 -- a value whose tree is null
 pub null_from_tree : (v : JsonValue) → view v ≡ null → null_part v ≡ Some tt
-null_from_tree v h = null_held (out-JsonValue v) (sym (view-seen v) ∙ h)
+null_from_tree v h = null_held (out-JsonValue v) (sym (view_seen v) ∙ h)
 
 -- a value whose tree is a truth value
 pub boolean_from_tree : (v : JsonValue) (b : Bool) → view v ≡ boolean b → boolean_part v ≡ Some b
-boolean_from_tree v b h = boolean_held (out-JsonValue v) b (sym (view-seen v) ∙ h)
+boolean_from_tree v b h = boolean_held (out-JsonValue v) b (sym (view_seen v) ∙ h)
 
 -- a value whose tree is a number
 pub number_from_tree : (v : JsonValue) (d : Decimal) → view v ≡ number d → (n : JsonNumber) × (number_part v ≡ Some n) × (n.decimal ≡ d)
-number_from_tree v d h = number_held (out-JsonValue v) d (sym (view-seen v) ∙ h)
+number_from_tree v d h = number_held (out-JsonValue v) d (sym (view_seen v) ∙ h)
 
 -- a value whose tree is a string
 pub string_from_tree : (v : JsonValue) (cs : List ℕ) → view v ≡ string cs → (s : String Global) × (string_part v ≡ Some s) × (text s ≡ cs)
-string_from_tree v cs h = string_held (out-JsonValue v) cs (sym (view-seen v) ∙ h)
+string_from_tree v cs h = string_held (out-JsonValue v) cs (sym (view_seen v) ∙ h)
 
 -- a value whose tree is an array
 pub array_from_tree : (v : JsonValue) (ts : Items) → view v ≡ array ts → (l : Vec JsonValue Global) × (array_part v ≡ Some l) × (items_view l.items ≡ ts)
-array_from_tree v ts h = array_held (out-JsonValue v) ts (sym (view-seen v) ∙ h)
+array_from_tree v ts h = array_held (out-JsonValue v) ts (sym (view_seen v) ∙ h)
 
 -- a value whose tree is an object
 pub object_from_tree : (v : JsonValue) (ms : Members) → view v ≡ object ms → (m : JsonMap) × (object_part v ≡ Some m) × (members_view m.entries ≡ ms)
-object_from_tree v ms h = object_held (out-JsonValue v) ms (sym (view-seen v) ∙ h)
+object_from_tree v ms h = object_held (out-JsonValue v) ms (sym (view_seen v) ∙ h)
 
 -- ---- keys of ASCII characters
 
@@ -194,7 +194,7 @@ item_seen _ i = refl
 
 -- in any value
 pub tree_at-view : (v : JsonValue) (i : ℕ) → tree_at (view v) i ≡ option_map view (item_at v i)
-tree_at-view v i = ap (λ t. tree_at t i) (view-seen v) ∙ item_seen (out-JsonValue v) i
+tree_at-view v i = ap (λ t. tree_at t i) (view_seen v) ∙ item_seen (out-JsonValue v) i
 
 member_seen : (o : JsonValue-F JsonValue) (bs : List ℕ) → IsUtf8 bs → tree_at_key (seen o) (chars bs) ≡ option_map view (option_and_then (λ m. get_by_text m bs) (object_in o))
 member_seen (JsonValue-F.Object m) bs u = find-members_view bs u m.entries
@@ -202,7 +202,7 @@ member_seen _ bs u = refl
 
 -- in any value, by the bytes of a key
 pub tree_at_key-view : (v : JsonValue) (bs : List ℕ) → IsUtf8 bs → tree_at_key (view v) (chars bs) ≡ option_map view (member_at v bs)
-tree_at_key-view v bs u = ap (λ t. tree_at_key t (chars bs)) (view-seen v) ∙ member_seen (out-JsonValue v) bs u
+tree_at_key-view v bs u = ap (λ t. tree_at_key t (chars bs)) (view_seen v) ∙ member_seen (out-JsonValue v) bs u
 
 -- the same at a literal key, as `tree_at_literal v (codes "port") refl`
 pub tree_at_literal : (v : JsonValue) (bs : List ℕ) → are_ascii bs ≡ true → tree_at_key (view v) bs ≡ option_map view (member_at v bs)
@@ -214,7 +214,7 @@ find-get m bs u = find-members_view bs u m.entries
 
 -- by a key that is a `String`
 pub find-get_text : (m : JsonMap) (k : String Global) → find (text k) (members_view m.entries) ≡ option_map view (get string_eq m k)
-find-get_text m k = find-members_of k (seen_entries m.entries) ∙ view_lookup k m.entries
+find-get_text m k = find_members_of k (seen_entries m.entries) ∙ view_lookup k m.entries
 
 -- at a literal key
 pub find-get_literal : (m : JsonMap) (bs : List ℕ) → are_ascii bs ≡ true → find bs (members_view m.entries) ≡ option_map view (get_by_text m bs)
@@ -248,7 +248,7 @@ lookup_at (d ∷ done) more e h = ap (λ b. cond b (Some d.1) (lookup (string_eq
 -- each entry is found at its key
 pub find-entry : (done more : List Entry) (e : Entry) → IsDistinct string_eq (keys_of (done ++ e ∷ more)) → find (text e.0) (members_view (done ++ e ∷ more)) ≡ Some (view e.1)
 find-entry done more e h =
-    find-members_of e.0 (seen_entries (done ++ e ∷ more)) ∙ (view_lookup e.0 (done ++ e ∷ more) ∙ ap (λ o. option_map view o) (lookup_at done more e h))
+    find_members_of e.0 (seen_entries (done ++ e ∷ more)) ∙ (view_lookup e.0 (done ++ e ∷ more) ∙ ap (λ o. option_map view o) (lookup_at done more e h))
 
 -- An entry with this key and this tree stands among the entries.
 pub record HasEntry (es : List Entry) (k : List ℕ) (t : Tree) : Type 0 where
@@ -272,16 +272,16 @@ entry_from_find (e ∷ es) k t h = by (bytes_eq k (text e.0)) refl (sym (find-pu
 
 -- `insert` of a value at a key
 pub members_view-insert : (m n : JsonMap) (k : String Global) (v : JsonValue) → Updates string_eq m n k (Some v) → members_view n.entries ≡ put (text k) (view v) (members_view m.entries)
-members_view-insert m n k v h = members_view-updates m.entries n.entries k v h.0
+members_view-insert m n k v h = members_view_updates m.entries n.entries k v h.0
 
 -- `remove` of a key
 pub members_view-remove : (m n : JsonMap) (bs : List ℕ) → IsUtf8 bs → UpdatesBy string_eq (λ k. bytes_eq bs (string_bytes k)) m n None → members_view n.entries ≡ remove (chars bs) (members_view m.entries)
-members_view-remove m n bs u h = members_view-removes m.entries n.entries bs u h.0
+members_view-remove m n bs u h = members_view_removes m.entries n.entries bs u h.0
 
 -- a write through what `get_mut` of a map lent
 pub members_view-write : (m n : JsonMap) (bs : List ℕ) (w : JsonValue) → IsUtf8 bs → IsSome (get_by_text m bs) → UpdatesBy string_eq (λ k. bytes_eq bs (string_bytes k)) m n (Some w)
     → members_view n.entries ≡ put (chars bs) (view w) (members_view m.entries)
-members_view-write m n bs w u there h = members_view-writes m.entries n.entries bs w u there h.0
+members_view-write m n bs w u there h = members_view_writes m.entries n.entries bs w u there h.0
 
 -- the object that a value is, after a member was written through two calls of `get_mut`
 pub tree-write : (v : JsonValue) (m n : JsonMap) (bs : List ℕ) (w : JsonValue) → IsUtf8 bs → object_part v ≡ Some m → IsSome (get_by_text m bs) → UpdatesBy string_eq (λ k. bytes_eq bs (string_bytes k)) m n (Some w)

@@ -27,32 +27,32 @@ use Rattle.tinyjson_laws.specs.Calls.{TextAnswered, ReadsBack, EqualStrings, Con
 -- ---- texts
 
 -- a text is refused only where memory ran out
-only-memory : (limit : Option ℕ) (k : JsonParseErrorKind) (used rest : List ℕ) → IsAccepted limit (used ++ rest) → RefusalSays limit k used rest → k ≡ error.OutOfMemory
-only-memory limit error.OutOfMemory used rest a r = refl
-only-memory limit k used rest a r = absurd (r.refused a)
+only_memory : (limit : Option ℕ) (k : JsonParseErrorKind) (used rest : List ℕ) → IsAccepted limit (used ++ rest) → RefusalSays limit k used rest → k ≡ error.OutOfMemory
+only_memory limit error.OutOfMemory used rest a r = refl
+only_memory limit k used rest a r = absurd (r.refused a)
 
 pub text_answered : TextAnswered
 text_answered limit xs t (Ok v) h p = one_tree limit xs (view v) t p.answer.1 h
-text_answered limit xs t (Err e) h p = only-memory limit e.kind p.consumed p.rest (subst (IsAccepted limit) p.whole (t, h)) p.answer.1
+text_answered limit xs t (Err e) h p = only_memory limit e.kind p.consumed p.rest (subst (IsAccepted limit) p.whole (t, h)) p.answer.1
 
 -- ---- written texts
 
-written-of : (v : JsonValue) (indent : Option (List ℕ)) → IfSome indent AreWhite → IsText None (text indent 0 (view v)) (view v)
-written-of v None white = compact_reads_back (view v) (view-IsTree v)
-written-of v (Some i) white = indented_reads_back (view v) i white (view-IsTree v)
+written_of : (v : JsonValue) (indent : Option (List ℕ)) → IfSome indent AreWhite → IsText None (text indent 0 (view v)) (view v)
+written_of v None white = compact_reads_back (view v) (view-IsTree v)
+written_of v (Some i) white = indented_reads_back (view v) i white (view-IsTree v)
 
 pub reads_back : ReadsBack
-reads_back v indent xs r white e p = text_answered None xs (view v) r (subst (λ ys. IsText None ys (view v)) (sym e) (written-of v indent white)) p
+reads_back v indent xs r white e p = text_answered None xs (view v) r (subst (λ ys. IsText None ys (view v)) (sym e) (written_of v indent white)) p
 
 -- whether two strings are equal says whether their characters are
-texts-same : (s t : String Global) (xs ys : List ℕ) → chars (string_bytes s) ≡ xs → chars (string_bytes t) ≡ ys → {P : Type 0} → (xs ≡ ys) ↔ P → IsTrue (string_eq s t) ↔ P
-texts-same s t xs ys e f w =
+texts_same : (s t : String Global) (xs ys : List ℕ) → chars (string_bytes s) ≡ xs → chars (string_bytes t) ≡ ys → {P : Type 0} → (xs ≡ ys) ↔ P → IsTrue (string_eq s t) ↔ P
+texts_same s t xs ys e f w =
     let k : string_eq s t ≡ bytes_eq xs ys = sym (text_eq s t) ∙ (λ i. bytes_eq (e i) (f i)) in
     let d = bytes_eq-Decides xs ys in
     (λ x. w.0 (d.0 (subst IsTrue k x)), λ x. subst IsTrue (sym k) (d.1 (w.1 x)))
 
 pub equal_strings : EqualStrings
-equal_strings v w (Ok s) (Ok t) e f = texts-same s t _ _ e f (same_compact (view v) (view w) (view-IsTree v) (view-IsTree w))
+equal_strings v w (Ok s) (Ok t) e f = texts_same s t _ _ e f (same_compact (view v) (view w) (view-IsTree v) (view-IsTree w))
 equal_strings v w (Ok s) (Err b) e f = tt
 equal_strings v w (Err a) q e f = tt
 

@@ -14,31 +14,31 @@ use Rattle.tinyjson.specs.declared.parser.error.JsonParseErrorKind.TheVariants a
 use Rattle.tinyjson.specs.declared.value.JsonValue.{JsonValue}
 use Rattle.tinyjson.proofs.Callers.{refused-text}
 use Rattle.tinyjson_laws.specs.Headline.{FollowsGrammar, StopsAt, IsTimely}
-use Rattle.tinyjson_laws.proofs.PrefixLaws.{viable-at-end, refused_not_too_soon, refused_not_too_late}
+use Rattle.tinyjson_laws.proofs.PrefixLaws.{viable_at_end, refused_not_too_soon, refused_not_too_late}
 use Rattle.tinyjson_laws.proofs.ReadingLaws.{one_tree}
-use Rattle.tinyjson_laws.proofs.RefusalLaws.{is-refusal}
+use Rattle.tinyjson_laws.proofs.RefusalLaws.{is_refusal}
 
-pub follows-grammar : (limit : Option ℕ) (xs : List ℕ) (r : Result JsonValue JsonParseError) → ParsesText limit xs r → FollowsGrammar limit xs r
-follows-grammar limit xs (Ok v) p = λ t. (λ h. one_tree limit xs t (view v) h p.answer.1, λ e. subst (IsText limit xs) (sym e) p.answer.1)
-follows-grammar limit xs (Err e) p = λ n. refused-text limit xs e p n
+pub follows_grammar : (limit : Option ℕ) (xs : List ℕ) (r : Result JsonValue JsonParseError) → ParsesText limit xs r → FollowsGrammar limit xs r
+follows_grammar limit xs (Ok v) p = λ t. (λ h. one_tree limit xs t (view v) h p.answer.1, λ e. subst (IsText limit xs) (sym e) p.answer.1)
+follows_grammar limit xs (Err e) p = λ n. refused-text limit xs e p n
 
-memory-viable : (limit : Option ℕ) (k : JsonParseErrorKind) (used rest : List ℕ) → RefusalSays limit k used rest → k ≡ kind.OutOfMemory → IsLooselyViable limit used
-memory-viable limit k used rest r o = (subst (λ j. RefusalSays limit j used rest) o r).0.viable
+memory_viable : (limit : Option ℕ) (k : JsonParseErrorKind) (used rest : List ℕ) → RefusalSays limit k used rest → k ≡ kind.OutOfMemory → IsLooselyViable limit used
+memory_viable limit k used rest r o = (subst (λ j. RefusalSays limit j used rest) o r).0.viable
 
-length-whole : (used rest : List ℕ) → rest ≡ [] → length used ≡ length (used ++ rest)
-length-whole used rest e = ap length (sym (ap (λ ys. used ++ ys) e ∙ append-nil used))
+length_whole : (used rest : List ℕ) → rest ≡ [] → length used ≡ length (used ++ rest)
+length_whole used rest e = ap length (sym (ap (λ ys. used ++ ys) e ∙ append-nil used))
 
-stops-at : (limit : Option ℕ) (e : JsonParseError) (used rest : List ℕ) → RefusalSays limit e.kind used rest → error_position e ≡ advance origin used → StopsAt limit (used ++ rest) e (length used)
-stops-at limit e used rest r p = record {
+stops_at : (limit : Option ℕ) (e : JsonParseError) (used rest : List ℕ) → RefusalSays limit e.kind used rest → error_position e ≡ advance origin used → StopsAt limit (used ++ rest) e (length used)
+stops_at limit e used rest r p = record {
   within = let l = length-append used rest in omega (arith, l);
   position = p ∙ ap (advance origin) (sym (take-append_seam used rest));
-  not_too_soon = λ n. (refused_not_too_soon limit e.kind used rest (is-refusal limit e.kind used rest n r)).1;
-  at_end = λ n h. length-whole used rest (viable-at-end limit e.kind used rest (is-refusal limit e.kind used rest n r) h);
+  not_too_soon = λ n. (refused_not_too_soon limit e.kind used rest (is_refusal limit e.kind used rest n r)).1;
+  at_end = λ n h. length_whole used rest (viable_at_end limit e.kind used rest (is_refusal limit e.kind used rest n r) h);
   not_too_late = refused_not_too_late limit e.kind used rest r;
-  viable = λ o. subst (IsLooselyViable limit) (sym (take-append_seam used rest)) (memory-viable limit e.kind used rest r o);
+  viable = λ o. subst (IsLooselyViable limit) (sym (take-append_seam used rest)) (memory_viable limit e.kind used rest r o);
 }
 
 pub timely : (limit : Option ℕ) (xs : List ℕ) (r : Result JsonValue JsonParseError) → ParsesText limit xs r → IsTimely limit xs r
 timely limit xs (Ok v) p = tt
 timely limit xs (Err e) p =
-    (length p.consumed, subst (λ ys. StopsAt limit ys e (length p.consumed)) (sym p.whole) (stops-at limit e p.consumed p.rest p.answer.1 p.answer.0))
+    (length p.consumed, subst (λ ys. StopsAt limit ys e (length p.consumed)) (sym p.whole) (stops_at limit e p.consumed p.rest p.answer.1 p.answer.0))

@@ -10,9 +10,9 @@ abbrev commas : List (List ℕ) → List ℕ
 commas [] = []
 commas (x ∷ xs) = 44 ∷ (x ++ commas xs)
 
-commas-first : (x : List ℕ) (xs : List (List ℕ)) → with_commas (x ∷ xs) ≡ x ++ commas xs
-commas-first x [] = sym (append-nil x)
-commas-first x (y ∷ ys) = ap (λ z. x ++ 44 ∷ z) (commas-first y ys)
+commas_first : (x : List ℕ) (xs : List (List ℕ)) → with_commas (x ∷ xs) ≡ x ++ commas xs
+commas_first x [] = sym (append-nil x)
+commas_first x (y ∷ ys) = ap (λ z. x ++ 44 ∷ z) (commas_first y ys)
 
 -- an item's own text, and the rest after commas
 abbrev CompactItems : ℕ → Items → Type 0
@@ -21,36 +21,36 @@ CompactItems k ts = items_text None k false ts ≡ commas (compact_items ts)
 abbrev CompactMembers : ℕ → Members → Type 0
 CompactMembers k ms = members_text None k false ms ≡ commas (compact_members ms)
 
-compact-array : (k : ℕ) (t : Tree) (ts : Items) → text None (k + 1) t ≡ compact_text t → CompactItems (k + 1) ts → text None k (tree.array (tree.item t ts)) ≡ compact_text (tree.array (tree.item t ts))
-compact-array k t ts h hs = (λ i. 91 ∷ ((h i ++ hs i) ++ 93 ∷ [])) ∙ ap (λ z. 91 ∷ (z ++ 93 ∷ [])) (sym (commas-first (compact_text t) (compact_items ts)))
+compact_array : (k : ℕ) (t : Tree) (ts : Items) → text None (k + 1) t ≡ compact_text t → CompactItems (k + 1) ts → text None k (tree.array (tree.item t ts)) ≡ compact_text (tree.array (tree.item t ts))
+compact_array k t ts h hs = (λ i. 91 ∷ ((h i ++ hs i) ++ 93 ∷ [])) ∙ ap (λ z. 91 ∷ (z ++ 93 ∷ [])) (sym (commas_first (compact_text t) (compact_items ts)))
 
-compact-object : (k : ℕ) (l : List ℕ) (t : Tree) (ms : Members) → text None (k + 1) t ≡ compact_text t → CompactMembers (k + 1) ms → text None k (tree.object (tree.member l t ms)) ≡ compact_text (tree.object (tree.member l t ms))
-compact-object k l t ms h hs = (λ i. 123 ∷ (((quoted l ++ 58 ∷ h i) ++ hs i) ++ 125 ∷ [])) ∙ ap (λ z. 123 ∷ (z ++ 125 ∷ [])) (sym (commas-first (quoted l ++ 58 ∷ compact_text t) (compact_members ms)))
+compact_object : (k : ℕ) (l : List ℕ) (t : Tree) (ms : Members) → text None (k + 1) t ≡ compact_text t → CompactMembers (k + 1) ms → text None k (tree.object (tree.member l t ms)) ≡ compact_text (tree.object (tree.member l t ms))
+compact_object k l t ms h hs = (λ i. 123 ∷ (((quoted l ++ 58 ∷ h i) ++ hs i) ++ 125 ∷ [])) ∙ ap (λ z. 123 ∷ (z ++ 125 ∷ [])) (sym (commas_first (quoted l ++ 58 ∷ compact_text t) (compact_members ms)))
 
 mutual
-  compact-is : (t : Tree) (k : ℕ) → text None k t ≡ compact_text t
-  compact-is tree.null k = refl
-  compact-is (tree.boolean b) k = refl
-  compact-is (tree.number d) k = refl
-  compact-is (tree.string cs) k = refl
-  compact-is (tree.array ts) k = compact-in_array ts k
-  compact-is (tree.object ms) k = compact-in_object ms k
+  compact_is : (t : Tree) (k : ℕ) → text None k t ≡ compact_text t
+  compact_is tree.null k = refl
+  compact_is (tree.boolean b) k = refl
+  compact_is (tree.number d) k = refl
+  compact_is (tree.string cs) k = refl
+  compact_is (tree.array ts) k = compact_in_array ts k
+  compact_is (tree.object ms) k = compact_in_object ms k
 
-  compact-in_array : (ts : Items) (k : ℕ) → text None k (tree.array ts) ≡ compact_text (tree.array ts)
-  compact-in_array tree.no_items k = refl
-  compact-in_array (tree.item t ts) k = compact-array k t ts (compact-is t (k + 1)) (compact-items ts (k + 1))
+  compact_in_array : (ts : Items) (k : ℕ) → text None k (tree.array ts) ≡ compact_text (tree.array ts)
+  compact_in_array tree.no_items k = refl
+  compact_in_array (tree.item t ts) k = compact_array k t ts (compact_is t (k + 1)) (items_compact ts (k + 1))
 
-  compact-in_object : (ms : Members) (k : ℕ) → text None k (tree.object ms) ≡ compact_text (tree.object ms)
-  compact-in_object tree.no_members k = refl
-  compact-in_object (tree.member l t ms) k = compact-object k l t ms (compact-is t (k + 1)) (compact-members ms (k + 1))
+  compact_in_object : (ms : Members) (k : ℕ) → text None k (tree.object ms) ≡ compact_text (tree.object ms)
+  compact_in_object tree.no_members k = refl
+  compact_in_object (tree.member l t ms) k = compact_object k l t ms (compact_is t (k + 1)) (members_compact ms (k + 1))
 
-  compact-items : (ts : Items) (k : ℕ) → CompactItems k ts
-  compact-items tree.no_items k = refl
-  compact-items (tree.item t ts) k = λ i. 44 ∷ (compact-is t k i ++ compact-items ts k i)
+  items_compact : (ts : Items) (k : ℕ) → CompactItems k ts
+  items_compact tree.no_items k = refl
+  items_compact (tree.item t ts) k = λ i. 44 ∷ (compact_is t k i ++ items_compact ts k i)
 
-  compact-members : (ms : Members) (k : ℕ) → CompactMembers k ms
-  compact-members tree.no_members k = refl
-  compact-members (tree.member l t ms) k = λ i. 44 ∷ ((quoted l ++ 58 ∷ compact-is t k i) ++ compact-members ms k i)
+  members_compact : (ms : Members) (k : ℕ) → CompactMembers k ms
+  members_compact tree.no_members k = refl
+  members_compact (tree.member l t ms) k = λ i. 44 ∷ ((quoted l ++ 58 ∷ compact_is t k i) ++ members_compact ms k i)
 
 -- ---- with an indent
 
@@ -64,49 +64,49 @@ module _ (indent : List ℕ) where
   regroup : (a n t c w : List ℕ) (b : ℕ) → (n ++ (t ++ c)) ++ (w ++ b ∷ []) ≡ (((n ++ t) ++ c) ++ w) ++ b ∷ []
   regroup a n t c w b = simp append_assoc
 
-  indented-array : (k : ℕ) (t : Tree) (ts : Items) → text (Some indent) (k + 1) t ≡ indented_text indent (k + 1) t → IndentedItems (k + 1) ts → text (Some indent) k (tree.array (tree.item t ts)) ≡ indented_text indent k (tree.array (tree.item t ts))
-  indented-array k t ts h hs =
+  indented_array : (k : ℕ) (t : Tree) (ts : Items) → text (Some indent) (k + 1) t ≡ indented_text indent (k + 1) t → IndentedItems (k + 1) ts → text (Some indent) k (tree.array (tree.item t ts)) ≡ indented_text indent k (tree.array (tree.item t ts))
+  indented_array k t ts h hs =
       (λ i. 91 ∷ ((line indent (k + 1) ++ (h i ++ hs i)) ++ (line indent k ++ 93 ∷ [])))
       ∙ ap (λ z. 91 ∷ z) (regroup [] (line indent (k + 1)) (indented_text indent (k + 1) t) (commas (indented_items indent (k + 1) ts)) (line indent k) 93)
-      ∙ ap (λ z. 91 ∷ ((z ++ line indent k) ++ 93 ∷ [])) (sym (commas-first (line indent (k + 1) ++ indented_text indent (k + 1) t) (indented_items indent (k + 1) ts)))
+      ∙ ap (λ z. 91 ∷ ((z ++ line indent k) ++ 93 ∷ [])) (sym (commas_first (line indent (k + 1) ++ indented_text indent (k + 1) t) (indented_items indent (k + 1) ts)))
 
-  indented-object : (k : ℕ) (l : List ℕ) (t : Tree) (ms : Members) → text (Some indent) (k + 1) t ≡ indented_text indent (k + 1) t → IndentedMembers (k + 1) ms → text (Some indent) k (tree.object (tree.member l t ms)) ≡ indented_text indent k (tree.object (tree.member l t ms))
-  indented-object k l t ms h hs =
+  indented_object : (k : ℕ) (l : List ℕ) (t : Tree) (ms : Members) → text (Some indent) (k + 1) t ≡ indented_text indent (k + 1) t → IndentedMembers (k + 1) ms → text (Some indent) k (tree.object (tree.member l t ms)) ≡ indented_text indent k (tree.object (tree.member l t ms))
+  indented_object k l t ms h hs =
       (λ i. 123 ∷ ((line indent (k + 1) ++ ((quoted l ++ 58 ∷ 32 ∷ h i) ++ hs i)) ++ (line indent k ++ 125 ∷ [])))
       ∙ ap (λ z. 123 ∷ z) (regroup [] (line indent (k + 1)) (quoted l ++ 58 ∷ 32 ∷ indented_text indent (k + 1) t) (commas (indented_members indent (k + 1) ms)) (line indent k) 125)
-      ∙ ap (λ z. 123 ∷ ((z ++ line indent k) ++ 125 ∷ [])) (sym (commas-first (line indent (k + 1) ++ (quoted l ++ 58 ∷ 32 ∷ indented_text indent (k + 1) t)) (indented_members indent (k + 1) ms)))
+      ∙ ap (λ z. 123 ∷ ((z ++ line indent k) ++ 125 ∷ [])) (sym (commas_first (line indent (k + 1) ++ (quoted l ++ 58 ∷ 32 ∷ indented_text indent (k + 1) t)) (indented_members indent (k + 1) ms)))
 
-  item-behind : (k : ℕ) (t c : List ℕ) → ((44 ∷ []) ++ line indent k) ++ (t ++ c) ≡ 44 ∷ ((line indent k ++ t) ++ c)
-  item-behind k t c = simp append_assoc
+  item_behind : (k : ℕ) (t c : List ℕ) → ((44 ∷ []) ++ line indent k) ++ (t ++ c) ≡ 44 ∷ ((line indent k ++ t) ++ c)
+  item_behind k t c = simp append_assoc
 
   mutual
-    indented-is : (t : Tree) (k : ℕ) → text (Some indent) k t ≡ indented_text indent k t
-    indented-is tree.null k = refl
-    indented-is (tree.boolean b) k = refl
-    indented-is (tree.number d) k = refl
-    indented-is (tree.string cs) k = refl
-    indented-is (tree.array ts) k = indented-in_array ts k
-    indented-is (tree.object ms) k = indented-in_object ms k
+    indented_is : (t : Tree) (k : ℕ) → text (Some indent) k t ≡ indented_text indent k t
+    indented_is tree.null k = refl
+    indented_is (tree.boolean b) k = refl
+    indented_is (tree.number d) k = refl
+    indented_is (tree.string cs) k = refl
+    indented_is (tree.array ts) k = indented_in_array ts k
+    indented_is (tree.object ms) k = indented_in_object ms k
 
-    indented-in_array : (ts : Items) (k : ℕ) → text (Some indent) k (tree.array ts) ≡ indented_text indent k (tree.array ts)
-    indented-in_array tree.no_items k = refl
-    indented-in_array (tree.item t ts) k = indented-array k t ts (indented-is t (k + 1)) (indented-items ts (k + 1))
+    indented_in_array : (ts : Items) (k : ℕ) → text (Some indent) k (tree.array ts) ≡ indented_text indent k (tree.array ts)
+    indented_in_array tree.no_items k = refl
+    indented_in_array (tree.item t ts) k = indented_array k t ts (indented_is t (k + 1)) (items_indented ts (k + 1))
 
-    indented-in_object : (ms : Members) (k : ℕ) → text (Some indent) k (tree.object ms) ≡ indented_text indent k (tree.object ms)
-    indented-in_object tree.no_members k = refl
-    indented-in_object (tree.member l t ms) k = indented-object k l t ms (indented-is t (k + 1)) (indented-members ms (k + 1))
+    indented_in_object : (ms : Members) (k : ℕ) → text (Some indent) k (tree.object ms) ≡ indented_text indent k (tree.object ms)
+    indented_in_object tree.no_members k = refl
+    indented_in_object (tree.member l t ms) k = indented_object k l t ms (indented_is t (k + 1)) (members_indented ms (k + 1))
 
-    indented-items : (ts : Items) (k : ℕ) → IndentedItems k ts
-    indented-items tree.no_items k = refl
-    indented-items (tree.item t ts) k = (λ i. ((44 ∷ []) ++ line indent k) ++ (indented-is t k i ++ indented-items ts k i)) ∙ item-behind k (indented_text indent k t) (commas (indented_items indent k ts))
+    items_indented : (ts : Items) (k : ℕ) → IndentedItems k ts
+    items_indented tree.no_items k = refl
+    items_indented (tree.item t ts) k = (λ i. ((44 ∷ []) ++ line indent k) ++ (indented_is t k i ++ items_indented ts k i)) ∙ item_behind k (indented_text indent k t) (commas (indented_items indent k ts))
 
-    indented-members : (ms : Members) (k : ℕ) → IndentedMembers k ms
-    indented-members tree.no_members k = refl
-    indented-members (tree.member l t ms) k =
-        (λ i. ((44 ∷ []) ++ line indent k) ++ ((quoted l ++ 58 ∷ 32 ∷ indented-is t k i) ++ indented-members ms k i)) ∙ item-behind k (quoted l ++ 58 ∷ 32 ∷ indented_text indent k t) (commas (indented_members indent k ms))
+    members_indented : (ms : Members) (k : ℕ) → IndentedMembers k ms
+    members_indented tree.no_members k = refl
+    members_indented (tree.member l t ms) k =
+        (λ i. ((44 ∷ []) ++ line indent k) ++ ((quoted l ++ 58 ∷ 32 ∷ indented_is t k i) ++ members_indented ms k i)) ∙ item_behind k (quoted l ++ 58 ∷ 32 ∷ indented_text indent k t) (commas (indented_members indent k ms))
 
 pub compact_layout : CompactLayout
-compact_layout t = compact-is t 0
+compact_layout t = compact_is t 0
 
 pub indented_layout : IndentedLayout
-indented_layout t indent level = indented-is indent t level
+indented_layout t indent level = indented_is indent t level

@@ -13,8 +13,8 @@ use Rattle.tinyjson.specs.Prefix.{IsViable, IsFaultless, IsCutOffText, IsLoosely
 use Rattle.tinyjson.specs.Refusal.{begins_value, IsRefusal, RefusalSays}
 use Rattle.tinyjson.specs.declared.parser.error.JsonParseErrorKind.{JsonParseErrorKind}
 use Rattle.tinyjson.specs.declared.parser.error.JsonParseErrorKind.TheVariants as kind
-use Rattle.tinyjson.proofs.Grammar.Prefix.Faultless.{viable-before}
-use Rattle.tinyjson_laws.proofs.Faultless.{faultless-loosely}
+use Rattle.tinyjson.proofs.Grammar.Prefix.Faultless.{viable_before}
+use Rattle.tinyjson_laws.proofs.Faultless.{faultless_loosely}
 use Rattle.tinyjson_laws.specs.Prefixes.{AcceptedIsLoose, EmptyIsViable, ViableIsFaultless, FaultlessIsLooselyViable, UnviableStaysSo, ValuesBegin, UnviableAtFirst, IsShortest, ShortestInOrder, RefusedNotTooSoon, RefusedAtEnd, RefusedNotTooLate}
 
 pub accepted_is_loose : AcceptedIsLoose
@@ -25,68 +25,68 @@ accepted_is_loose limit xs h = h.1.loose
 abbrev null_text : List ℕ
 null_text = text null
 
-scalar-within : (limit : Option ℕ) → IsWithin limit 0
-scalar-within None = tt
-scalar-within (Some n) = omega arith
+scalar_within : (limit : Option ℕ) → IsWithin limit 0
+scalar_within None = tt
+scalar_within (Some n) = omega arith
 
-null-accepted : (limit : Option ℕ) → IsAccepted limit null_text
-null-accepted limit = (
+null_accepted : (limit : Option ℕ) → IsAccepted limit null_text
+null_accepted limit = (
   tree.null,
   record {
-    loose = record { before = []; value = null; after = []; white_before = tt; spelled = tt; white_after = tt; shallow = scalar-within limit; whole = refl };
+    loose = record { before = []; value = null; after = []; white_before = tt; spelled = tt; white_after = tt; shallow = scalar_within limit; whole = refl };
     strict = tt;
     tree = refl;
   },
 )
 
 pub empty_is_viable : EmptyIsViable
-empty_is_viable limit = let a = null-accepted limit in ((null_text, a), (null_text, accepted_is_loose limit null_text a))
+empty_is_viable limit = let a = null_accepted limit in ((null_text, a), (null_text, accepted_is_loose limit null_text a))
 
 pub viable_is_faultless : ViableIsFaultless
 viable_is_faultless limit xs h = (h.0, inl h.1)
 
 pub faultless_is_loosely_viable : FaultlessIsLooselyViable
-faultless_is_loosely_viable limit xs h = faultless-loosely limit xs h
+faultless_is_loosely_viable limit xs h = faultless_loosely limit xs h
 
 pub unviable_stays_so : UnviableStaysSo
 unviable_stays_so limit xs ys = (
-  λ h a. h (viable-before (IsAccepted limit) xs ys a),
-  λ h a. h (viable-before (IsLoose limit) xs ys a),
-  λ h a. h (viable-before (λ zs. IsAccepted limit zs ⊎ IsCutOffText limit zs) xs ys a),
+  λ h a. h (viable_before (IsAccepted limit) xs ys a),
+  λ h a. h (viable_before (IsLoose limit) xs ys a),
+  λ h a. h (viable_before (λ zs. IsAccepted limit zs ⊎ IsCutOffText limit zs) xs ys a),
 )
 
 -- ---- how a value begins
 
-digit-begins : (c : ℕ) → IsTrue (is_ascii_digit c) → IsTrue (begins_value c)
-digit-begins c h = or_right (c == 110) _ (or_right (c == 116) _ (or_right (c == 102) _ (or_right (c == 34) _ (or_right (c == 91) _ (or_right (c == 123) _ (or_right (c == 45) _ h))))))
+digit_begins : (c : ℕ) → IsTrue (is_ascii_digit c) → IsTrue (begins_value c)
+digit_begins c h = or_right (c == 110) _ (or_right (c == 116) _ (or_right (c == 102) _ (or_right (c == 34) _ (or_right (c == 91) _ (or_right (c == 123) _ (or_right (c == 45) _ h))))))
 
 abbrev FirstOf : List ℕ → Type 0
 FirstOf xs = (c : ℕ) × (more : List ℕ) × (xs ≡ c ∷ more) × IsTrue (begins_value c)
 
-numeral-first : (b : Bool) (w xs : List ℕ) → 0 < length w → AreDigits w → FirstOf (minus_text b ++ (w ++ xs))
-numeral-first b [] xs h d = absurd (omega (arith, h))
-numeral-first true (c ∷ cs) xs h d = (45, _, refl, refl)
-numeral-first false (c ∷ cs) xs h d = (c, _, refl, digit-begins c d.0)
+numeral_first : (b : Bool) (w xs : List ℕ) → 0 < length w → AreDigits w → FirstOf (minus_text b ++ (w ++ xs))
+numeral_first b [] xs h d = absurd (omega (arith, h))
+numeral_first true (c ∷ cs) xs h d = (45, _, refl, refl)
+numeral_first false (c ∷ cs) xs h d = (c, _, refl, digit_begins c d.0)
 
-first-of : (s : Syntax) → IsSpelled s → FirstOf (text s)
-first-of null h = (110, _, refl, refl)
-first-of (boolean true) h = (116, _, refl, refl)
-first-of (boolean false) h = (102, _, refl, refl)
-first-of (number n) h = numeral-first n.negative n.whole _ h.some_digit h.whole
-first-of (string ps) h = (34, _, refl, refl)
-first-of (empty_array w) h = (91, _, refl, refl)
-first-of (array es) h = (91, _, refl, refl)
-first-of (empty_object w) h = (123, _, refl, refl)
-first-of (object ps) h = (123, _, refl, refl)
+first_of : (s : Syntax) → IsSpelled s → FirstOf (text s)
+first_of null h = (110, _, refl, refl)
+first_of (boolean true) h = (116, _, refl, refl)
+first_of (boolean false) h = (102, _, refl, refl)
+first_of (number n) h = numeral_first n.negative n.whole _ h.some_digit h.whole
+first_of (string ps) h = (34, _, refl, refl)
+first_of (empty_array w) h = (91, _, refl, refl)
+first_of (array es) h = (91, _, refl, refl)
+first_of (empty_object w) h = (123, _, refl, refl)
+first_of (object ps) h = (123, _, refl, refl)
 
 abbrev Begun : ℕ → Type 0
 Begun c = (s : Syntax) × (more : List ℕ) × IsSpelled s × (text s ≡ c ∷ more)
 
-begun-by : (s : Syntax) (d : ℕ) (more : List ℕ) → IsSpelled s → text s ≡ d ∷ more → (c : ℕ) → (c == d) ≡ true → Begun c
-begun-by s d more i e c h = (s, more, i, e ∙ ap (λ k. k ∷ more) (sym (eqb-true c d h)))
+begun_by : (s : Syntax) (d : ℕ) (more : List ℕ) → IsSpelled s → text s ≡ d ∷ more → (c : ℕ) → (c == d) ≡ true → Begun c
+begun_by s d more i e c h = (s, more, i, e ∙ ap (λ k. k ∷ more) (sym (eqb-true c d h)))
 
-begun-digit : (c : ℕ) → IsTrue (is_ascii_digit c) → Begun c
-begun-digit c h = (number (record { negative = false; whole = c ∷ []; fraction = []; exponent = None }), [], record { whole = (h, tt); some_digit = omega arith; fraction = tt; exponent = tt }, refl)
+begun_digit : (c : ℕ) → IsTrue (is_ascii_digit c) → Begun c
+begun_digit c h = (number (record { negative = false; whole = c ∷ []; fraction = []; exponent = None }), [], record { whole = (h, tt); some_digit = omega arith; fraction = tt; exponent = tt }, refl)
 
 either : (b d : Bool) (P : Type 0) → (b || d) ≡ true → (b ≡ true → P) → (d ≡ true → P) → P
 either true d P h f g = f refl
@@ -94,44 +94,44 @@ either false d P h f g = g h
 
 begun : (c : ℕ) → IsTrue (begins_value c) → Begun c
 begun c h =
-    either (c == 110) _ (Begun c) h (begun-by null 110 _ tt refl c) (λ h.
-    either (c == 116) _ (Begun c) h (begun-by (boolean true) 116 _ tt refl c) (λ h.
-    either (c == 102) _ (Begun c) h (begun-by (boolean false) 102 _ tt refl c) (λ h.
-    either (c == 34) _ (Begun c) h (begun-by (string []) 34 _ tt refl c) (λ h.
-    either (c == 91) _ (Begun c) h (begun-by (empty_array []) 91 _ tt refl c) (λ h.
-    either (c == 123) _ (Begun c) h (begun-by (empty_object []) 123 _ tt refl c) (λ h.
-    either (c == 45) _ (Begun c) h (begun-by (number (record { negative = true; whole = 48 ∷ []; fraction = []; exponent = None })) 45 _ (record { whole = (refl, tt); some_digit = omega arith; fraction = tt; exponent = tt }) refl c) (begun-digit c)))))))
+    either (c == 110) _ (Begun c) h (begun_by null 110 _ tt refl c) (λ h.
+    either (c == 116) _ (Begun c) h (begun_by (boolean true) 116 _ tt refl c) (λ h.
+    either (c == 102) _ (Begun c) h (begun_by (boolean false) 102 _ tt refl c) (λ h.
+    either (c == 34) _ (Begun c) h (begun_by (string []) 34 _ tt refl c) (λ h.
+    either (c == 91) _ (Begun c) h (begun_by (empty_array []) 91 _ tt refl c) (λ h.
+    either (c == 123) _ (Begun c) h (begun_by (empty_object []) 123 _ tt refl c) (λ h.
+    either (c == 45) _ (Begun c) h (begun_by (number (record { negative = true; whole = 48 ∷ []; fraction = []; exponent = None })) 45 _ (record { whole = (refl, tt); some_digit = omega arith; fraction = tt; exponent = tt }) refl c) (begun_digit c)))))))
 
 same_first : (c d : ℕ) (xs ys : List ℕ) → c ∷ xs ≡ d ∷ ys → c ≡ d
 same_first c d xs ys e = cc
 
 pub values_begin : ValuesBegin
-values_begin c = (begun c, λ p. let f = first-of p.0 p.2 in subst (λ d. IsTrue (begins_value d)) (same_first f.0 c f.1 p.1 (sym f.2 ∙ p.3)) f.3)
+values_begin c = (begun c, λ p. let f = first_of p.0 p.2 in subst (λ d. IsTrue (begins_value d)) (same_first f.0 c f.1 p.1 (sym f.2 ∙ p.3)) f.3)
 
 -- no text of the loose grammar begins so
-no-first : (c : ℕ) (w : List ℕ) (s : Syntax) (v xs : List ℕ) → AreWhite w → IsSpelled s → is_white c ≡ false → begins_value c ≡ false → c ∷ xs ≡ w ++ (text s ++ v) → ⊥
-no-first c [] s v xs hw hs n b e =
-    let f = first-of s hs in
+no_first : (c : ℕ) (w : List ℕ) (s : Syntax) (v xs : List ℕ) → AreWhite w → IsSpelled s → is_white c ≡ false → begins_value c ≡ false → c ∷ xs ≡ w ++ (text s ++ v) → ⊥
+no_first c [] s v xs hw hs n b e =
+    let f = first_of s hs in
     let same : c ≡ f.0 = same_first c f.0 xs (f.1 ++ v) (e ∙ ap (λ ys. ys ++ v) f.2) in
     let begun : begins_value c ≡ true = subst (λ d. IsTrue (begins_value d)) (sym same) f.3 in
     false≢true (sym b ∙ begun)
-no-first c (d ∷ ds) s v xs hw hs n b e =
+no_first c (d ∷ ds) s v xs hw hs n b e =
     let white : is_white c ≡ true = subst (λ k. IsTrue (is_white k)) (sym (same_first c d xs (ds ++ (text s ++ v)) e)) hw.0 in
     false≢true (sym n ∙ white)
 
 pub unviable_at_first : UnviableAtFirst
-unviable_at_first limit c xs n b h = let l = h.1 in no-first c l.before l.value l.after (xs ++ h.0) l.white_before l.spelled n b l.whole
+unviable_at_first limit c xs n b h = let l = h.1 in no_first c l.before l.value l.after (xs ++ h.0) l.white_before l.spelled n b l.whole
 
 -- ---- lengths
 
 -- the shortest prefix without P is no longer than the shortest without Q, where P gives Q
-shortest-first : (P Q : List ℕ → Type 0) (xs : List ℕ) (m n : ℕ) → ((ys : List ℕ) → P ys → Q ys) → IsShortest P xs m → IsShortest Q xs n → m ≤ n
-shortest-first P Q xs m n f p q = ⊎_elim (λ l. absurd (p.least n l (λ h. q.fails (f (take n xs) h)))) (λ l. l) (cases_lt n m)
+shortest_first : (P Q : List ℕ → Type 0) (xs : List ℕ) (m n : ℕ) → ((ys : List ℕ) → P ys → Q ys) → IsShortest P xs m → IsShortest Q xs n → m ≤ n
+shortest_first P Q xs m n f p q = ⊎_elim (λ l. absurd (p.least n l (λ h. q.fails (f (take n xs) h)))) (λ l. l) (cases_lt n m)
 
 pub shortest_in_order : ShortestInOrder
 shortest_in_order limit xs = (
-  λ d m. shortest-first (IsViable (IsAccepted limit)) (IsFaultless limit) xs d m (viable_is_faultless limit),
-  λ m l. shortest-first (IsFaultless limit) (IsLooselyViable limit) xs m l (faultless_is_loosely_viable limit),
+  λ d m. shortest_first (IsViable (IsAccepted limit)) (IsFaultless limit) xs d m (viable_is_faultless limit),
+  λ m l. shortest_first (IsFaultless limit) (IsLooselyViable limit) xs m l (faultless_is_loosely_viable limit),
 )
 
 -- ---- errors
@@ -141,49 +141,49 @@ module _ (P : List ℕ → Type 0) (used : List ℕ) where
   abbrev FailsNext : List ℕ → Type 0
   FailsNext rest = (c : ℕ) (more : List ℕ) → rest ≡ c ∷ more → ¬ P (used ++ c ∷ [])
 
-  next-prefix : (c : ℕ) (more : List ℕ) → take (length (used ++ c ∷ [])) (used ++ c ∷ more) ≡ used ++ c ∷ []
-  next-prefix c more = ap (take (length (used ++ c ∷ []))) (sym (append_assoc used (c ∷ []) more)) ∙ take-append_seam (used ++ c ∷ []) more
+  next_prefix : (c : ℕ) (more : List ℕ) → take (length (used ++ c ∷ [])) (used ++ c ∷ more) ≡ used ++ c ∷ []
+  next_prefix c more = ap (take (length (used ++ c ∷ []))) (sym (append_assoc used (c ∷ []) more)) ∙ take-append_seam (used ++ c ∷ []) more
 
-  fails-next : (c : ℕ) (more : List ℕ) → FailsNext (c ∷ more) → ¬ P (take (length (used ++ c ∷ [])) (used ++ c ∷ more))
-  fails-next c more f h = f c more refl (subst P (next-prefix c more) h)
+  fails_next : (c : ℕ) (more : List ℕ) → FailsNext (c ∷ more) → ¬ P (take (length (used ++ c ∷ [])) (used ++ c ∷ more))
+  fails_next c more f h = f c more refl (subst P (next_prefix c more) h)
 
-  not-too-soon : (rest : List ℕ) → FailsNext rest → (n : ℕ) → IsShortest P (used ++ rest) n → n ≤ length used + 1
-  not-too-soon [] f n h = let l = length-append used [] in omega (arith, h.within, l)
-  not-too-soon (c ∷ more) f n h = ⊎_elim
-      (λ l. absurd (h.least (length (used ++ c ∷ [])) l (fails-next c more f)))
+  never_too_soon : (rest : List ℕ) → FailsNext rest → (n : ℕ) → IsShortest P (used ++ rest) n → n ≤ length used + 1
+  never_too_soon [] f n h = let l = length-append used [] in omega (arith, h.within, l)
+  never_too_soon (c ∷ more) f n h = ⊎_elim
+      (λ l. absurd (h.least (length (used ++ c ∷ [])) l (fails_next c more f)))
       (λ l. let e = length-append used (c ∷ []) in omega (arith, l, e)) (cases_lt (length (used ++ c ∷ [])) n)
 
-  at-end : (rest : List ℕ) → FailsNext rest → ((n : ℕ) → n ≤ length (used ++ rest) → ¬ ¬ P (take n (used ++ rest))) → rest ≡ []
-  at-end [] f h = refl
-  at-end (c ∷ more) f h =
+  at_end : (rest : List ℕ) → FailsNext rest → ((n : ℕ) → n ≤ length (used ++ rest) → ¬ ¬ P (take n (used ++ rest))) → rest ≡ []
+  at_end [] f h = refl
+  at_end (c ∷ more) f h =
       let l = length-append used (c ∷ more) in
       let m = length-append used (c ∷ []) in
-      absurd (h (length (used ++ c ∷ [])) (omega (arith, l, m)) (fails-next c more f))
+      absurd (h (length (used ++ c ∷ [])) (omega (arith, l, m)) (fails_next c more f))
 
 module _ (limit : Option ℕ) (k : JsonParseErrorKind) (used rest : List ℕ) (r : IsRefusal limit k used rest) where
-  pub next-unviable : FailsNext (IsViable (IsAccepted limit)) used rest
-  next-unviable c more e a = r.not_too_soon c more e (viable_is_faultless limit (used ++ c ∷ []) a)
+  pub next_unviable : FailsNext (IsViable (IsAccepted limit)) used rest
+  next_unviable c more e a = r.not_too_soon c more e (viable_is_faultless limit (used ++ c ∷ []) a)
 
-  pub viable-at-end : ((n : ℕ) → n ≤ length (used ++ rest) → ¬ ¬ IsViable (IsAccepted limit) (take n (used ++ rest))) → rest ≡ []
-  viable-at-end h = at-end (IsViable (IsAccepted limit)) used rest next-unviable h
+  pub viable_at_end : ((n : ℕ) → n ≤ length (used ++ rest) → ¬ ¬ IsViable (IsAccepted limit) (take n (used ++ rest))) → rest ≡ []
+  viable_at_end h = at_end (IsViable (IsAccepted limit)) used rest next_unviable h
 
 pub refused_not_too_soon : RefusedNotTooSoon
 refused_not_too_soon limit k used rest r = (
-  not-too-soon (IsFaultless limit) used rest r.not_too_soon,
-  not-too-soon (IsViable (IsAccepted limit)) used rest (next-unviable limit k used rest r),
+  never_too_soon (IsFaultless limit) used rest r.not_too_soon,
+  never_too_soon (IsViable (IsAccepted limit)) used rest (next_unviable limit k used rest r),
 )
 
 pub refused_at_end : RefusedAtEnd
-refused_at_end limit k used rest r h = at-end (IsFaultless limit) used rest r.not_too_soon h
+refused_at_end limit k used rest r h = at_end (IsFaultless limit) used rest r.not_too_soon h
 
 last_of : (xs : List ℕ) → (xs ≡ []) ⊎ ((front : List ℕ) × (c : ℕ) × (xs ≡ front ++ c ∷ []))
 last_of [] = inl refl
 last_of (x ∷ xs) = inr (⊎_elim (λ e. ([], x, ap (λ ys. x ∷ ys) e)) (λ f. (x ∷ f.0, f.1, ap (λ ys. x ∷ ys) f.2)) (last_of xs))
 
 -- without its last character the consumed list is viable in the loose grammar, whatever the kind
-one-before : (limit : Option ℕ) (k : JsonParseErrorKind) (used rest : List ℕ) → RefusalSays limit k used rest → (front : List ℕ) (c : ℕ) → used ≡ front ++ c ∷ [] → IsLooselyViable limit front
-one-before limit kind.OutOfMemory used rest r = λ front c e. viable-before (IsLoose limit) front (c ∷ []) (subst (IsLooselyViable limit) e r.0.viable)
-one-before limit k used rest r = r.not_too_late
+one_before : (limit : Option ℕ) (k : JsonParseErrorKind) (used rest : List ℕ) → RefusalSays limit k used rest → (front : List ℕ) (c : ℕ) → used ≡ front ++ c ∷ [] → IsLooselyViable limit front
+one_before limit kind.OutOfMemory used rest r = λ front c e. viable_before (IsLoose limit) front (c ∷ []) (subst (IsLooselyViable limit) e r.0.viable)
+one_before limit k used rest r = r.not_too_late
 
 pub refused_not_too_late : RefusedNotTooLate
 refused_not_too_late limit k used rest r l h = ⊎_elim (λ s. absurd (early s (last_of used))) (λ s. s) (cases_lt l (length used))
@@ -196,4 +196,4 @@ refused_not_too_late limit k used rest r l h = ⊎_elim (λ s. absurd (early s (
         let short : take l (used ++ rest) ≡ take l f.0 =
         ap (take l) (sym same ∙ append_assoc f.0 (f.1 ∷ []) rest) ∙ take-append-le l f.0 (f.1 ∷ rest) (omega (arith, s, ap length f.2, n)) in
         let whole : f.0 ≡ take l (used ++ rest) ++ drop l f.0 = sym (take-append-drop l f.0) ∙ ap (λ xs. xs ++ drop l f.0) (sym short) in
-        h.fails (viable-before (IsLoose limit) (take l (used ++ rest)) (drop l f.0) (subst (IsLooselyViable limit) whole (one-before limit k used rest r f.0 f.1 f.2)))
+        h.fails (viable_before (IsLoose limit) (take l (used ++ rest)) (drop l f.0) (subst (IsLooselyViable limit) whole (one_before limit k used rest r f.0 f.1 f.2)))

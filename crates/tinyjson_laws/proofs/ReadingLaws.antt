@@ -11,42 +11,42 @@ use Rattle.tinyjson.proofs.Grammar.Accepts.Text.{one-tree}
 use Rattle.tinyjson_laws.specs.Reading.{OneTree, TextsAreSound, TreesHaveTexts, WiderLimit, WiderRange}
 use Rattle.tinyjson.proofs.Writing.TreeTrip.{IsWhiteIndent}
 use Rattle.tinyjson.proofs.Writing.WrittenTexts.{written-text}
-use Rattle.tinyjson_laws.proofs.ReadTrees.{tree-is, depth-is}
-use Rattle.tinyjson_laws.proofs.Wider.{wider-text}
+use Rattle.tinyjson_laws.proofs.ReadTrees.{tree_is, depth_is}
+use Rattle.tinyjson_laws.proofs.Wider.{wider_text}
 
-sound-at : (width : Width) (limit : Option ℕ) (xs : List ℕ) (t : Tree) → IsTextAt width limit xs t → IsTreeAt width t
-sound-at width limit xs t h = subst (IsTreeAt width) (sym h.tree) (tree-is width h.loose.value h.loose.spelled h.strict)
+sound_at : (width : Width) (limit : Option ℕ) (xs : List ℕ) (t : Tree) → IsTextAt width limit xs t → IsTreeAt width t
+sound_at width limit xs t h = subst (IsTreeAt width) (sym h.tree) (tree_is width h.loose.value h.loose.spelled h.strict)
 
-within-tree : (limit : Option ℕ) (m n : ℕ) → m ≤ n → IsWithin limit n → IsWithin limit m
-within-tree None m n h j = tt
-within-tree (Some k) m n h j = omega arith
+within_tree : (limit : Option ℕ) (m n : ℕ) → m ≤ n → IsWithin limit n → IsWithin limit m
+within_tree None m n h j = tt
+within_tree (Some k) m n h j = omega arith
 
 -- the tree of a text keeps the limit of the text
-pub tree-within : (width : Width) (limit : Option ℕ) (xs : List ℕ) (t : Tree) → IsTextAt width limit xs t → IsWithin limit (tree_depth t)
-tree-within width limit xs t h = within-tree limit (tree_depth t) (depth h.loose.value) (subst (λ u. tree_depth u ≤ depth h.loose.value) (sym h.tree) (depth-is h.loose.value)) h.loose.shallow
+pub tree_within : (width : Width) (limit : Option ℕ) (xs : List ℕ) (t : Tree) → IsTextAt width limit xs t → IsWithin limit (tree_depth t)
+tree_within width limit xs t h = within_tree limit (tree_depth t) (depth h.loose.value) (subst (λ u. tree_depth u ≤ depth h.loose.value) (sym h.tree) (depth_is h.loose.value)) h.loose.shallow
 
 -- what a text has, written anew with any white indent
 pub rewritten : (width : Width) (limit : Option ℕ) (xs : List ℕ) (t : Tree) (w : Option (List ℕ)) → IsWhiteIndent w → IsTextAt width limit xs t → IsTextAt width limit (written.text w 0 t) t
-rewritten width limit xs t w i h = written-text width limit w 0 t i (sound-at width limit xs t h) (tree-within width limit xs t h)
+rewritten width limit xs t w i h = written-text width limit w 0 t i (sound_at width limit xs t h) (tree_within width limit xs t h)
 
 pub one_tree : OneTree
 one_tree limit xs t u h j = one-tree limit xs t u h j
 
 pub texts_are_sound : TextsAreSound
-texts_are_sound limit xs t h = sound-at power_width limit xs t h
+texts_are_sound limit xs t h = sound_at power_width limit xs t h
 
 pub trees_have_texts : TreesHaveTexts
 trees_have_texts t = (λ h. (written.compact t, written-text power_width None None 0 t tt h tt), λ p. texts_are_sound None p.0 t p.1)
 
-at-limit : (width : Width) (limit other : Option ℕ) (xs : List ℕ) (t : Tree) → ((n : ℕ) → IsWithin limit n → IsWithin other n) → IsTextAt width limit xs t → IsTextAt width other xs t
-at-limit width limit other xs t f h = let l = h.loose in record {
+at_limit : (width : Width) (limit other : Option ℕ) (xs : List ℕ) (t : Tree) → ((n : ℕ) → IsWithin limit n → IsWithin other n) → IsTextAt width limit xs t → IsTextAt width other xs t
+at_limit width limit other xs t f h = let l = h.loose in record {
   loose = record { before = l.before; value = l.value; after = l.after; white_before = l.white_before; spelled = l.spelled; white_after = l.white_after; shallow = f (depth l.value) l.shallow; whole = l.whole };
   strict = h.strict;
   tree = h.tree;
 }
 
 pub wider_limit : WiderLimit
-wider_limit m n xs t l h = (at-limit power_width (Some m) (Some n) xs t (λ k d. omega arith) h, at-limit power_width (Some m) None xs t (λ k d. tt) h)
+wider_limit m n xs t l h = (at_limit power_width (Some m) (Some n) xs t (λ k d. omega arith) h, at_limit power_width (Some m) None xs t (λ k d. tt) h)
 
 pub wider_range : WiderRange
-wider_range limit xs t h = let wide = wider-text limit xs t h in (wide, rewritten w32 limit xs t None tt h, λ u j. ap written.compact (one-tree limit xs u t j wide))
+wider_range limit xs t h = let wide = wider_text limit xs t h in (wide, rewritten w32 limit xs t None tt h, λ u j. ap written.compact (one-tree limit xs u t j wide))

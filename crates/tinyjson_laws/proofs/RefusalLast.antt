@@ -18,14 +18,14 @@ use Rattle.tinyjson.specs.declared.value.JsonKind.{JsonKind}
 use Rattle.tinyjson.specs.declared.parser.error.JsonParseErrorKind.{JsonParseErrorKind}
 use Rattle.tinyjson.specs.declared.parser.error.JsonParseErrorKind.TheVariants.{UnexpectedEof, ExpectedEof, KeyNotString, ExpectedColon, ExpectedCommaOrBrace, ExpectedCommaOrBracket, InvalidUtf16, NumberOutOfRange}
 use Rattle.tinyjson.proofs.Reading.Parse.{all-front, all-rest}
-use Rattle.tinyjson.proofs.Grammar.Prefix.Unviable.{cut_off-end}
+use Rattle.tinyjson.proofs.Grammar.Prefix.Unviable.{cut_off_end}
 use Rattle.tinyjson.proofs.Grammar.Trace.Paths.{Path, outside, item_in, key_in, value_in, path_frames}
-use Rattle.tinyjson.proofs.Grammar.Accepts.Runs.{continues, continues-digit, continues-point, continues-letter}
+use Rattle.tinyjson.proofs.Grammar.Accepts.Runs.{continues, continues_digit, continues_point, continues_letter}
 use Rattle.tinyjson.proofs.Grammar.Trace.State.{Read, at_first, at_awaited, in_word, in_digits, in_quoted, at_after, Part, part_stage, part_numeral, read_frames, read_phase, IsRead, IsFresh, values}
-use Rattle.tinyjson.proofs.Grammar.Accepts.Text.{text-accepted}
-use Rattle.tinyjson.proofs.Grammar.Sound.{denies, is-dead}
+use Rattle.tinyjson.proofs.Grammar.Accepts.Text.{text_accepted}
+use Rattle.tinyjson.proofs.Grammar.Sound.{denies, is_dead}
 use Rattle.tinyjson.proofs.Grammar.Step.Statement.{Follows}
-use Rattle.tinyjson_laws.proofs.RefusalPlaces.{Stands, Goes, Halts, goes-or-halts, halts-run, stands-viable, stands-next, stands-stop, stands-follows, IsNoLetter, word-lacks, accepted-refused}
+use Rattle.tinyjson_laws.proofs.RefusalPlaces.{Stands, Goes, Halts, goes_or_halts, halts_run, stands_viable, stands_next, stands_stop, stands_follows, IsNoLetter, word_lacks, accepted_refused}
 
 -- ---- a character that may follow without a fault
 
@@ -42,44 +42,44 @@ pub record Passes (limit : Option ℕ) (front : List ℕ) (c : ℕ) : Type 0 whe
   pub stands : Stands limit front (read_frames read) (read_phase read)
   pub passed : IsPassed (step (strictly limit) (read_frames read) (read_phase read) c)
 
-some-left : (b : Bool) (c : ℕ) (xs : List ℕ) (d : ℕ) (ys : List ℕ) → rest_of b c (xs ++ d ∷ ys) ≡ [] → ⊥
-some-left true c [] d ys e = cc
-some-left true c (x ∷ xs) d ys e = cc
-some-left false c xs d ys e = cc
+some_left : (b : Bool) (c : ℕ) (xs : List ℕ) (d : ℕ) (ys : List ℕ) → rest_of b c (xs ++ d ∷ ys) ≡ [] → ⊥
+some_left true c [] d ys e = cc
+some_left true c (x ∷ xs) d ys e = cc
+some_left false c xs d ys e = cc
 
-passed-stop : (n : Next) (k : JsonParseErrorKind) (b : Bool) (c : ℕ) (ys : List ℕ) (j : JsonKind) → n ≡ stop k b → refused k (rest_of b c ys) ≡ refused (KeyNotString j) [] → IsPassed n
-passed-stop n k false c ys j i e = absurd cc
-passed-stop n k true c ys j i e = let a : k ≡ KeyNotString j = cc in subst IsPassed (sym (i ∙ ap (λ x. stop x true) a)) tt
+passed_stop : (n : Next) (k : JsonParseErrorKind) (b : Bool) (c : ℕ) (ys : List ℕ) (j : JsonKind) → n ≡ stop k b → refused k (rest_of b c ys) ≡ refused (KeyNotString j) [] → IsPassed n
+passed_stop n k false c ys j i e = absurd cc
+passed_stop n k true c ys j i e = let a : k ≡ KeyNotString j = cc in subst IsPassed (sym (i ∙ ap (λ x. stop x true) a)) tt
 
-left-of : (k j : JsonParseErrorKind) (xs ys : List ℕ) → refused k xs ≡ refused j ys → xs ≡ ys
-left-of k j xs ys e = cc
+left_of : (k j : JsonParseErrorKind) (xs ys : List ℕ) → refused k xs ≡ refused j ys → xs ≡ ys
+left_of k j xs ys e = cc
 
 module _ (limit : Option ℕ) (front : List ℕ) (c : ℕ) (f : IsFaultless limit (front ++ c ∷ [])) where
-  same-list : (front ++ c ∷ []) ++ f.0 ≡ front ++ c ∷ f.0
-  same-list = append_assoc front (c ∷ []) f.0
+  same_list : (front ++ c ∷ []) ++ f.0 ≡ front ++ c ∷ f.0
+  same_list = append_assoc front (c ∷ []) f.0
 
-  no-halt : Halts limit front → (IsAccepted limit ((front ++ c ∷ []) ++ f.0) ⊎ IsCutOffText limit ((front ++ c ∷ []) ++ f.0)) → ⊥
-  no-halt h (inl t) = accepted-refused t.0 _ _ (sym (text-accepted limit ((front ++ c ∷ []) ++ f.0) t.0 t.1) ∙ (ap (run (strictly limit) [] awaited) same-list ∙ halts-run limit front h (c ∷ f.0)))
-  no-halt h (inr t) = let e = cut_off-end limit ((front ++ c ∷ []) ++ f.0) t in
-      some-left h.8 h.1 h.2 c f.0 (left-of _ _ _ _ (sym (halts-run limit front h (c ∷ f.0)) ∙ (sym (ap (run (strictly limit) [] awaited) same-list) ∙ e.1)))
+  no_halt : Halts limit front → (IsAccepted limit ((front ++ c ∷ []) ++ f.0) ⊎ IsCutOffText limit ((front ++ c ∷ []) ++ f.0)) → ⊥
+  no_halt h (inl t) = accepted_refused t.0 _ _ (sym (text_accepted limit ((front ++ c ∷ []) ++ f.0) t.0 t.1) ∙ (ap (run (strictly limit) [] awaited) same_list ∙ halts_run limit front h (c ∷ f.0)))
+  no_halt h (inr t) = let e = cut_off_end limit ((front ++ c ∷ []) ++ f.0) t in
+      some_left h.8 h.1 h.2 c f.0 (left_of _ _ _ _ (sym (halts_run limit front h (c ∷ f.0)) ∙ (sym (ap (run (strictly limit) [] awaited) same_list) ∙ e.1)))
 
-  passed-by : (fs : List Frame) (q : Phase) → Stands limit front fs q → (n : Next) → step (strictly limit) fs q c ≡ n → (IsAccepted limit ((front ++ c ∷ []) ++ f.0) ⊎ IsCutOffText limit ((front ++ c ∷ []) ++ f.0)) → IsPassed (step (strictly limit) fs q c)
-  passed-by fs q s (next gs p) i g = subst IsPassed (sym i) tt
-  passed-by fs q s (stop k b) i (inl t) =
-      absurd (accepted-refused t.0 _ _ (sym (text-accepted limit ((front ++ c ∷ []) ++ f.0) t.0 t.1) ∙ (ap (run (strictly limit) [] awaited) same-list ∙ stands-stop limit front fs q s c k b i f.0)))
-  passed-by fs q s (stop k b) i (inr t) =
-      let e = cut_off-end limit ((front ++ c ∷ []) ++ f.0) t in
-      passed-stop (step (strictly limit) fs q c) k b c f.0 (kind_of e.0) i (sym (stands-stop limit front fs q s c k b i f.0) ∙ (sym (ap (run (strictly limit) [] awaited) same-list) ∙ e.1))
+  passed_by : (fs : List Frame) (q : Phase) → Stands limit front fs q → (n : Next) → step (strictly limit) fs q c ≡ n → (IsAccepted limit ((front ++ c ∷ []) ++ f.0) ⊎ IsCutOffText limit ((front ++ c ∷ []) ++ f.0)) → IsPassed (step (strictly limit) fs q c)
+  passed_by fs q s (next gs p) i g = subst IsPassed (sym i) tt
+  passed_by fs q s (stop k b) i (inl t) =
+      absurd (accepted_refused t.0 _ _ (sym (text_accepted limit ((front ++ c ∷ []) ++ f.0) t.0 t.1) ∙ (ap (run (strictly limit) [] awaited) same_list ∙ stands_stop limit front fs q s c k b i f.0)))
+  passed_by fs q s (stop k b) i (inr t) =
+      let e = cut_off_end limit ((front ++ c ∷ []) ++ f.0) t in
+      passed_stop (step (strictly limit) fs q c) k b c f.0 (kind_of e.0) i (sym (stands_stop limit front fs q s c k b i f.0) ∙ (sym (ap (run (strictly limit) [] awaited) same_list) ∙ e.1))
 
   pub passes : All IsScalar front → Passes limit front c
-  passes a = ⊎_elim goes (λ h. absurd (no-halt h f.1)) (goes-or-halts limit front a)
+  passes a = ⊎_elim goes (λ h. absurd (no_halt h f.1)) (goes_or_halts limit front a)
     where
       goes : Goes limit front → Passes limit front c
       goes g = let s = g.2.spells in record {
         read = s.read;
         is = s.is;
         stands = rw (← s.frames, ← s.phase) g.2;
-        passed = rw (← s.frames, ← s.phase) (passed-by g.0 g.1 g.2 (step (strictly limit) g.0 g.1 c) refl f.1);
+        passed = rw (← s.frames, ← s.phase) (passed_by g.0 g.1 g.2 (step (strictly limit) g.0 g.1 c) refl f.1);
       }
 
 -- ---- a numeral that may end
@@ -97,69 +97,69 @@ module _ (limit : Option ℕ) (fs : List Frame) where
   abbrev Goes_on : Option Next → Type 0
   Goes_on o = (o ≡ None) ⊎ ((gs : List Frame) × (q : Phase) × (o ≡ Some (next gs q)))
 
-  on-cond : (b : Bool) (x y : Option Next) → Goes_on x → Goes_on y → Goes_on (cond b x y)
-  on-cond true x y h g = h
-  on-cond false x y h g = g
+  on_cond : (b : Bool) (x y : Option Next) → Goes_on x → Goes_on y → Goes_on (cond b x y)
+  on_cond true x y h g = h
+  on_cond false x y h g = g
 
-  lasts-step : (s : Stage) (n : Numeral) → Lasts s n → (c : ℕ) → Goes_on (step_digits (strictly limit) fs s n c)
-  lasts-step Machine.minus n h c = elim h [ ]
-  lasts-step Machine.whole n h c = on-cond (is_ascii_digit c) _ _ (inr (_, _, refl)) (rw h (on-cond (c == 46) _ _ (inr (_, _, refl)) (on-cond (is_exponent_letter c) _ _ (inr (_, _, refl)) (inl refl))))
-  lasts-step Machine.point n h c = elim h [ ]
-  lasts-step Machine.fraction n h c = on-cond (is_ascii_digit c) _ _ (inr (_, _, refl)) (on-cond (is_exponent_letter c) _ _ (inr (_, _, refl)) (inl refl))
-  lasts-step Machine.letter n h c = elim h [ ]
-  lasts-step Machine.sign n h c = elim h [ ]
-  lasts-step Machine.exponent n h c = on-cond (is_ascii_digit c) _ _ (inr (_, _, refl)) (inl refl)
+  lasts_step : (s : Stage) (n : Numeral) → Lasts s n → (c : ℕ) → Goes_on (step_digits (strictly limit) fs s n c)
+  lasts_step Machine.minus n h c = elim h [ ]
+  lasts_step Machine.whole n h c = on_cond (is_ascii_digit c) _ _ (inr (_, _, refl)) (rw h (on_cond (c == 46) _ _ (inr (_, _, refl)) (on_cond (is_exponent_letter c) _ _ (inr (_, _, refl)) (inl refl))))
+  lasts_step Machine.point n h c = elim h [ ]
+  lasts_step Machine.fraction n h c = on_cond (is_ascii_digit c) _ _ (inr (_, _, refl)) (on_cond (is_exponent_letter c) _ _ (inr (_, _, refl)) (inl refl))
+  lasts_step Machine.letter n h c = elim h [ ]
+  lasts_step Machine.sign n h c = elim h [ ]
+  lasts_step Machine.exponent n h c = on_cond (is_ascii_digit c) _ _ (inr (_, _, refl)) (inl refl)
 
-  lasts-end : (s : Stage) (n : Numeral) → Lasts s n → end_digits (strictly limit) fs s n ≡ end_plain (finish (strictly limit) fs n)
-  lasts-end Machine.minus n h = elim h [ ]
-  lasts-end Machine.whole n h = rw h refl
-  lasts-end Machine.point n h = elim h [ ]
-  lasts-end Machine.fraction n h = refl
-  lasts-end Machine.letter n h = elim h [ ]
-  lasts-end Machine.sign n h = elim h [ ]
-  lasts-end Machine.exponent n h = refl
+  lasts_end : (s : Stage) (n : Numeral) → Lasts s n → end_digits (strictly limit) fs s n ≡ end_plain (finish (strictly limit) fs n)
+  lasts_end Machine.minus n h = elim h [ ]
+  lasts_end Machine.whole n h = rw h refl
+  lasts_end Machine.point n h = elim h [ ]
+  lasts_end Machine.fraction n h = refl
+  lasts_end Machine.letter n h = elim h [ ]
+  lasts_end Machine.sign n h = elim h [ ]
+  lasts_end Machine.exponent n h = refl
 
-  accepted-zero : (b : Bool) (k : JsonParseErrorKind) (o : Outcome) (t : Tree) → cond b (refused k []) o ≡ accepted t → b ≡ false
-  accepted-zero true k o t e = absurd cc
-  accepted-zero false k o t e = refl
+  accepted_zero : (b : Bool) (k : JsonParseErrorKind) (o : Outcome) (t : Tree) → cond b (refused k []) o ≡ accepted t → b ≡ false
+  accepted_zero true k o t e = absurd cc
+  accepted_zero false k o t e = refl
 
-  accepted-lasts : (s : Stage) (n : Numeral) (t : Tree) → end_digits (strictly limit) fs s n ≡ accepted t → Lasts s n
-  accepted-lasts Machine.minus n t e = absurd cc
-  accepted-lasts Machine.whole n t e = accepted-zero (has_leading_zero n.whole) _ _ t e
-  accepted-lasts Machine.point n t e = absurd cc
-  accepted-lasts Machine.fraction n t e = tt
-  accepted-lasts Machine.letter n t e = absurd cc
-  accepted-lasts Machine.sign n t e = absurd cc
-  accepted-lasts Machine.exponent n t e = tt
+  accepted_lasts : (s : Stage) (n : Numeral) (t : Tree) → end_digits (strictly limit) fs s n ≡ accepted t → Lasts s n
+  accepted_lasts Machine.minus n t e = absurd cc
+  accepted_lasts Machine.whole n t e = accepted_zero (has_leading_zero n.whole) _ _ t e
+  accepted_lasts Machine.point n t e = absurd cc
+  accepted_lasts Machine.fraction n t e = tt
+  accepted_lasts Machine.letter n t e = absurd cc
+  accepted_lasts Machine.sign n t e = absurd cc
+  accepted_lasts Machine.exponent n t e = tt
 
-  passed-zero : (b : Bool) (n : Numeral) (e : ℕ) (k : JsonParseErrorKind) (o : Option Next) → (IsPassed (stop k false) → ⊥) → IsPassed (unless_ended (strictly limit) fs n e (cond b (Some (stop k false)) o)) → b ≡ false
-  passed-zero true n e k o h g = absurd (h g)
-  passed-zero false n e k o h g = refl
+  passed_zero : (b : Bool) (n : Numeral) (e : ℕ) (k : JsonParseErrorKind) (o : Option Next) → (IsPassed (stop k false) → ⊥) → IsPassed (unless_ended (strictly limit) fs n e (cond b (Some (stop k false)) o)) → b ≡ false
+  passed_zero true n e k o h g = absurd (h g)
+  passed_zero false n e k o h g = refl
 
   -- after a number comes e, which could not continue it
-  passed-lasts : (s : Stage) (n : Numeral) (e : ℕ) → continues e ≡ false → ((e == 43) || (e == 45)) ≡ false → IsPassed (unless_ended (strictly limit) fs n e (step_digits (strictly limit) fs s n e)) →
+  passed_lasts : (s : Stage) (n : Numeral) (e : ℕ) → continues e ≡ false → ((e == 43) || (e == 45)) ≡ false → IsPassed (unless_ended (strictly limit) fs n e (step_digits (strictly limit) fs s n e)) →
       Lasts s n × IsPassed (then_step (strictly limit) (finish (strictly limit) fs n) e)
-  passed-lasts Machine.minus n e h m g = elim (rw (continues-digit e h) at g) [ ]
-  passed-lasts Machine.whole n e h m g =
-      let i : IsPassed (unless_ended (strictly limit) fs n e (Machine.after_whole (strictly limit) fs n e)) = rw (continues-digit e h) at g in
-      let z : has_leading_zero n.whole ≡ false = passed-zero (has_leading_zero n.whole) n e _ _ (λ x. x) i in
-      (z, rw (z, continues-point e h, continues-letter e h) at i)
-  passed-lasts Machine.point n e h m g = elim (rw (continues-digit e h) at g) [ ]
-  passed-lasts Machine.fraction n e h m g = (tt, rw (continues-digit e h, continues-letter e h) at g)
-  passed-lasts Machine.letter n e h m g = elim (rw (continues-digit e h, m) at g) [ ]
-  passed-lasts Machine.sign n e h m g = elim (rw (continues-digit e h) at g) [ ]
-  passed-lasts Machine.exponent n e h m g = (tt, rw (continues-digit e h) at g)
+  passed_lasts Machine.minus n e h m g = elim (rw (continues_digit e h) at g) [ ]
+  passed_lasts Machine.whole n e h m g =
+      let i : IsPassed (unless_ended (strictly limit) fs n e (Machine.after_whole (strictly limit) fs n e)) = rw (continues_digit e h) at g in
+      let z : has_leading_zero n.whole ≡ false = passed_zero (has_leading_zero n.whole) n e _ _ (λ x. x) i in
+      (z, rw (z, continues_point e h, continues_letter e h) at i)
+  passed_lasts Machine.point n e h m g = elim (rw (continues_digit e h) at g) [ ]
+  passed_lasts Machine.fraction n e h m g = (tt, rw (continues_digit e h, continues_letter e h) at g)
+  passed_lasts Machine.letter n e h m g = elim (rw (continues_digit e h, m) at g) [ ]
+  passed_lasts Machine.sign n e h m g = elim (rw (continues_digit e h) at g) [ ]
+  passed_lasts Machine.exponent n e h m g = (tt, rw (continues_digit e h) at g)
 
-  finish-by : (n : Numeral) (e : ℕ) → IsPassed (then_step (strictly limit) (finish (strictly limit) fs n) e) → finish (strictly limit) fs n ≡ complete true fs (tree.number (value n)) false
-  finish-by n e h = split (in_range (value n)) h
+  finish_by : (n : Numeral) (e : ℕ) → IsPassed (then_step (strictly limit) (finish (strictly limit) fs n) e) → finish (strictly limit) fs n ≡ complete true fs (tree.number (value n)) false
+  finish_by n e h = split (in_range (value n)) h
     where
       split : (b : Bool) → IsPassed (then_step (strictly limit) (cond (not b) (stop NumberOutOfRange false) (complete true fs (tree.number (value n)) false)) e) →
           cond (not b) (stop NumberOutOfRange false) (complete true fs (tree.number (value n)) false) ≡ complete true fs (tree.number (value n)) false
       split true g = refl
       split false g = elim g [ ]
 
-  accepted-finish : (n : Numeral) (t : Tree) → end_plain (finish (strictly limit) fs n) ≡ accepted t → finish (strictly limit) fs n ≡ complete true fs (tree.number (value n)) false
-  accepted-finish n t h = split (in_range (value n)) h
+  accepted_finish : (n : Numeral) (t : Tree) → end_plain (finish (strictly limit) fs n) ≡ accepted t → finish (strictly limit) fs n ≡ complete true fs (tree.number (value n)) false
+  accepted_finish n t h = split (in_range (value n)) h
     where
       split : (b : Bool) → end_plain (cond (not b) (stop NumberOutOfRange false) (complete true fs (tree.number (value n)) false)) ≡ accepted t →
           cond (not b) (stop NumberOutOfRange false) (complete true fs (tree.number (value n)) false) ≡ complete true fs (tree.number (value n)) false
@@ -167,41 +167,41 @@ module _ (limit : Option ℕ) (fs : List Frame) where
       split false g = absurd cc
 
   -- with a character that completes no loose text
-  digits-step : (front : List ℕ) (s : Stage) (n : Numeral) → Stands limit front fs (digits s n) → Lasts s n → finish (strictly limit) fs n ≡ complete true fs (tree.number (value n)) false → (c : ℕ) → IsScalar c → ¬ IsLooselyViable limit (front ++ c ∷ []) →
+  digits_step : (front : List ℕ) (s : Stage) (n : Numeral) → Stands limit front fs (digits s n) → Lasts s n → finish (strictly limit) fs n ≡ complete true fs (tree.number (value n)) false → (c : ℕ) → IsScalar c → ¬ IsLooselyViable limit (front ++ c ∷ []) →
       step (strictly limit) fs (digits s n) c ≡ then_step (strictly limit) (complete true fs (tree.number (value n)) false) c
   unfolding step
-  digits-step front s n st h f c hc d = ⊎_elim
+  digits_step front s n st h f c hc d = ⊎_elim
       (λ e. ap (unless_ended (strictly limit) fs n c) e ∙ ap (λ m. then_step (strictly limit) m c) f)
-      (λ e. absurd (d (stands-viable limit (front ++ c ∷ []) e.0 e.1 (stands-next limit front fs e.0 (digits s n) e.1 c hc st (ap (unless_ended (strictly limit) fs n c) e.2)))))
-      (lasts-step s n h c)
+      (λ e. absurd (d (stands_viable limit (front ++ c ∷ []) e.0 e.1 (stands_next limit front fs e.0 (digits s n) e.1 c hc st (ap (unless_ended (strictly limit) fs n c) e.2)))))
+      (lasts_step s n h c)
 
 -- ---- a quote may follow
 
-quote-first : (limit : Option ℕ) (p : Path) → IsFresh p → step (strictly limit) (path_frames p) first 34 ≡ next (path_frames p) (quoted Machine.plain [] [])
+quote_first : (limit : Option ℕ) (p : Path) → IsFresh p → step (strictly limit) (path_frames p) first 34 ≡ next (path_frames p) (quoted Machine.plain [] [])
 unfolding step
-quote-first limit (outside w) h = elim h [ ]
-quote-first limit (item_in p [] w) h = refl
-quote-first limit (item_in p (e ∷ es) w) h = elim h [ ]
-quote-first limit (key_in p [] w) h = refl
-quote-first limit (key_in p (q ∷ qs) w) h = elim h [ ]
-quote-first limit (value_in p ps a k b w) h = elim h [ ]
+quote_first limit (outside w) h = elim h [ ]
+quote_first limit (item_in p [] w) h = refl
+quote_first limit (item_in p (e ∷ es) w) h = elim h [ ]
+quote_first limit (key_in p [] w) h = refl
+quote_first limit (key_in p (q ∷ qs) w) h = elim h [ ]
+quote_first limit (value_in p ps a k b w) h = elim h [ ]
 
-quote-awaited : (limit : Option ℕ) (fs : List Frame) → step (strictly limit) fs awaited 34 ≡ next fs (quoted Machine.plain [] [])
+quote_awaited : (limit : Option ℕ) (fs : List Frame) → step (strictly limit) fs awaited 34 ≡ next fs (quoted Machine.plain [] [])
 unfolding step
-quote-awaited limit fs = refl
+quote_awaited limit fs = refl
 
-quote-scalar : IsScalar 34
-quote-scalar = refl
+quote_scalar : IsScalar 34
+quote_scalar = refl
 
-quote-next : (limit : Option ℕ) (front : List ℕ) (fs gs : List Frame) (q p : Phase) → Stands limit front fs q → step (strictly limit) fs q 34 ≡ next gs p → ¬ IsLooselyViable limit (front ++ 34 ∷ []) → ⊥
-quote-next limit front fs gs q p s e n = n (stands-viable limit (front ++ 34 ∷ []) gs p (stands-next limit front fs gs q p 34 quote-scalar s e))
+quote_next : (limit : Option ℕ) (front : List ℕ) (fs gs : List Frame) (q p : Phase) → Stands limit front fs q → step (strictly limit) fs q 34 ≡ next gs p → ¬ IsLooselyViable limit (front ++ 34 ∷ []) → ⊥
+quote_next limit front fs gs q p s e n = n (stands_viable limit (front ++ 34 ∷ []) gs p (stands_next limit front fs gs q p 34 quote_scalar s e))
 
 abbrev Closes : Option ℕ → Path → List ℕ → List ℕ → Type 0
 Closes limit p cs us = ((gs : List Frame) × (q : Phase) × (step (strictly limit) (path_frames p) (quoted Machine.plain cs us) 34 ≡ next gs q)) ⊎ (step (strictly limit) (path_frames p) (quoted Machine.plain cs us) 34 ≡ stop InvalidUtf16 true)
 
-quote-closes : (limit : Option ℕ) (p : Path) (cs us : List ℕ) → Closes limit p cs us
+quote_closes : (limit : Option ℕ) (p : Path) (cs us : List ℕ) → Closes limit p cs us
 unfolding step
-quote-closes limit p cs us = split p (paired us)
+quote_closes limit p cs us = split p (paired us)
   where
     split : (p : Path) (b : Bool) →
         ((gs : List Frame) × (q : Phase) × (cond (not b) (stop InvalidUtf16 true) (complete true (path_frames p) (tree.string (cs ++ decode us)) true) ≡ next gs q))
@@ -212,20 +212,20 @@ quote-closes limit p cs us = split p (paired us)
     split (key_in p ps w) true = inl (_, _, refl)
     split (value_in p ps a k b w) true = inl (_, _, refl)
 
-quote-string : (limit : Option ℕ) (front : List ℕ) (p : Path) (cs us : List ℕ) → Stands limit front (path_frames p) (quoted Machine.plain cs us) → ¬ IsLooselyViable limit (front ++ 34 ∷ []) → ⊥
-quote-string limit front p cs us s n = ⊎_elim
-    (λ e. quote-next limit front (path_frames p) e.0 (quoted Machine.plain cs us) e.1 s e.2 n)
+quote_string : (limit : Option ℕ) (front : List ℕ) (p : Path) (cs us : List ℕ) → Stands limit front (path_frames p) (quoted Machine.plain cs us) → ¬ IsLooselyViable limit (front ++ 34 ∷ []) → ⊥
+quote_string limit front p cs us s n = ⊎_elim
+    (λ e. quote_next limit front (path_frames p) e.0 (quoted Machine.plain cs us) e.1 s e.2 n)
     (λ e. let f : Follows limit front (path_frames p) (quoted Machine.plain cs us) 34 (stop InvalidUtf16 true) =
-    subst (Follows limit front (path_frames p) (quoted Machine.plain cs us) 34) e (stands-follows limit front (path_frames p) (quoted Machine.plain cs us) s 34 quote-scalar) in
-    n (f [] (denies limit front (path_frames p) (quoted Machine.plain cs us) s.reached) (is-dead limit front (path_frames p) (quoted Machine.plain cs us) 34 InvalidUtf16 s.reached e)).1.1)
-    (quote-closes limit p cs us)
+    subst (Follows limit front (path_frames p) (quoted Machine.plain cs us) 34) e (stands_follows limit front (path_frames p) (quoted Machine.plain cs us) s 34 quote_scalar) in
+    n (f [] (denies limit front (path_frames p) (quoted Machine.plain cs us) s.reached) (is_dead limit front (path_frames p) (quoted Machine.plain cs us) 34 InvalidUtf16 s.reached e)).1.1)
+    (quote_closes limit p cs us)
 
 -- ---- the colon, the brace and the bracket
 
-word-no : (limit : Option ℕ) (fs : List Frame) (l : ℕ) (ls : List ℕ) (t : Tree) (e : ℕ) → (e == l) ≡ false → IsPassed (step (strictly limit) fs (word (l ∷ ls) t) e) → ⊥
+word_no : (limit : Option ℕ) (fs : List Frame) (l : ℕ) (ls : List ℕ) (t : Tree) (e : ℕ) → (e == l) ≡ false → IsPassed (step (strictly limit) fs (word (l ∷ ls) t) e) → ⊥
 unfolding step
-word-no limit fs l [] t e h g = rw h at g
-word-no limit fs l (m ∷ ls) t e h g = rw h at g
+word_no limit fs l [] t e h g = rw h at g
+word_no limit fs l (m ∷ ls) t e h g = rw h at g
 
 -- a colon, a bracket or a brace: nothing that goes on within a token
 pub record IsCloser (e : ℕ) : Type 0 where
@@ -237,22 +237,22 @@ pub record IsCloser (e : ℕ) : Type 0 where
   pub no_sign : ((e == 43) || (e == 45)) ≡ false
   pub no_letter : IsNoLetter e
 
-pub closer-colon : IsCloser 58
-closer-colon = record { no_escape = refl; no_unit = refl; no_hex = refl; no_white = refl; ends = refl; no_sign = refl; no_letter = (refl, refl, refl) }
+pub closer_colon : IsCloser 58
+closer_colon = record { no_escape = refl; no_unit = refl; no_hex = refl; no_white = refl; ends = refl; no_sign = refl; no_letter = (refl, refl, refl) }
 
-pub closer-bracket : IsCloser 93
-closer-bracket = record { no_escape = refl; no_unit = refl; no_hex = refl; no_white = refl; ends = refl; no_sign = refl; no_letter = (refl, refl, refl) }
+pub closer_bracket : IsCloser 93
+closer_bracket = record { no_escape = refl; no_unit = refl; no_hex = refl; no_white = refl; ends = refl; no_sign = refl; no_letter = (refl, refl, refl) }
 
-pub closer-brace : IsCloser 125
-closer-brace = record { no_escape = refl; no_unit = refl; no_hex = refl; no_white = refl; ends = refl; no_sign = refl; no_letter = (refl, refl, refl) }
+pub closer_brace : IsCloser 125
+closer_brace = record { no_escape = refl; no_unit = refl; no_hex = refl; no_white = refl; ends = refl; no_sign = refl; no_letter = (refl, refl, refl) }
 
-escape-no : (limit : Option ℕ) (fs : List Frame) (cs us : List ℕ) (e : ℕ) → IsCloser e → IsPassed (step (strictly limit) fs (quoted Machine.backslash cs us) e) → ⊥
+escape_no : (limit : Option ℕ) (fs : List Frame) (cs us : List ℕ) (e : ℕ) → IsCloser e → IsPassed (step (strictly limit) fs (quoted Machine.backslash cs us) e) → ⊥
 unfolding step
-escape-no limit fs cs us e h g = let i : IsPassed (step_escape (strictly limit) fs cs us e None) = subst (λ o. IsPassed (step_escape (strictly limit) fs cs us e o)) h.no_escape g in rw h.no_unit at i
+escape_no limit fs cs us e h g = let i : IsPassed (step_escape (strictly limit) fs cs us e None) = subst (λ o. IsPassed (step_escape (strictly limit) fs cs us e o)) h.no_escape g in rw h.no_unit at i
 
-hex-no : (limit : Option ℕ) (fs : List Frame) (ds cs us : List ℕ) (e : ℕ) → IsCloser e → IsPassed (step (strictly limit) fs (quoted (Machine.hex ds) cs us) e) → ⊥
+hex_no : (limit : Option ℕ) (fs : List Frame) (ds cs us : List ℕ) (e : ℕ) → IsCloser e → IsPassed (step (strictly limit) fs (quoted (Machine.hex ds) cs us) e) → ⊥
 unfolding step
-hex-no limit fs ds cs us e h g = rw h.no_hex at g
+hex_no limit fs ds cs us e h g = rw h.no_hex at g
 
 -- what the place is, where e may follow and no quote
 pub data Settled (limit : Option ℕ) (e : ℕ) : Read → Type 0 where
@@ -260,59 +260,59 @@ pub data Settled (limit : Option ℕ) (e : ℕ) : Read → Type 0 where
       IsPassed (then_step (strictly limit) (complete true (path_frames p) (tree.number (value (part_numeral n))) false) e) → Settled limit e (in_digits p n)
   value_ends : (p : Path) (s : Syntax) (v : List ℕ) → IsPassed (step (strictly limit) (read_frames (at_after p s v)) (read_phase (at_after p s v)) e) → Settled limit e (at_after p s v)
 
-digits-settled : (limit : Option ℕ) (e : ℕ) → IsCloser e → (p : Path) (n : Part) → IsPassed (step (strictly limit) (path_frames p) (digits (part_stage n) (part_numeral n)) e) → Settled limit e (in_digits p n)
+digits_settled : (limit : Option ℕ) (e : ℕ) → IsCloser e → (p : Path) (n : Part) → IsPassed (step (strictly limit) (path_frames p) (digits (part_stage n) (part_numeral n)) e) → Settled limit e (in_digits p n)
 unfolding step
-digits-settled limit e h p n g =
-    let l = passed-lasts limit (path_frames p) (part_stage n) (part_numeral n) e h.ends h.no_sign g in
-    let f = finish-by limit (path_frames p) (part_numeral n) e l.1 in
+digits_settled limit e h p n g =
+    let l = passed_lasts limit (path_frames p) (part_stage n) (part_numeral n) e h.ends h.no_sign g in
+    let f = finish_by limit (path_frames p) (part_numeral n) e l.1 in
     digits_end p n l.0 f (subst (λ m. IsPassed (then_step (strictly limit) m e)) f l.1)
 
 settled : (limit : Option ℕ) (front : List ℕ) (e : ℕ) → IsCloser e → (x : Read) → IsRead limit x → Stands limit front (read_frames x) (read_phase x) → ¬ IsLooselyViable limit (front ++ 34 ∷ []) → IsPassed (step (strictly limit) (read_frames x) (read_phase x) e) → Settled limit e x
-settled limit front e h (at_first p) i s n g = absurd (quote-next limit front (path_frames p) (path_frames p) first (quoted Machine.plain [] []) s (quote-first limit p i.1) n)
-settled limit front e h (at_awaited p) i s n g = absurd (quote-next limit front (path_frames p) (path_frames p) awaited (quoted Machine.plain [] []) s (quote-awaited limit (path_frames p)) n)
+settled limit front e h (at_first p) i s n g = absurd (quote_next limit front (path_frames p) (path_frames p) first (quoted Machine.plain [] []) s (quote_first limit p i.1) n)
+settled limit front e h (at_awaited p) i s n g = absurd (quote_next limit front (path_frames p) (path_frames p) awaited (quoted Machine.plain [] []) s (quote_awaited limit (path_frames p)) n)
 settled limit front e h (in_word p v done []) i s n g = absurd (omega (arith, i.1.more))
-settled limit front e h (in_word p v done (l ∷ left)) i s n g = absurd (word-no limit (path_frames p) l left _ e (word-lacks e h.no_letter v done l left i.1) g)
-settled limit front e h (in_digits p m) i s n g = digits-settled limit e h p m g
-settled limit front e h (in_quoted p ps cs qs Machine.plain) i s n g = absurd (quote-string limit front p cs (values qs) s n)
-settled limit front e h (in_quoted p ps cs qs Machine.backslash) i s n g = absurd (escape-no limit (path_frames p) cs (values qs) e h g)
-settled limit front e h (in_quoted p ps cs qs (Machine.hex ds)) i s n g = absurd (hex-no limit (path_frames p) ds cs (values qs) e h g)
+settled limit front e h (in_word p v done (l ∷ left)) i s n g = absurd (word_no limit (path_frames p) l left _ e (word_lacks e h.no_letter v done l left i.1) g)
+settled limit front e h (in_digits p m) i s n g = digits_settled limit e h p m g
+settled limit front e h (in_quoted p ps cs qs Machine.plain) i s n g = absurd (quote_string limit front p cs (values qs) s n)
+settled limit front e h (in_quoted p ps cs qs Machine.backslash) i s n g = absurd (escape_no limit (path_frames p) cs (values qs) e h g)
+settled limit front e h (in_quoted p ps cs qs (Machine.hex ds)) i s n g = absurd (hex_no limit (path_frames p) ds cs (values qs) e h g)
 settled limit front e h (at_after p v w) i s n g = value_ends p v w g
 
 module _ (limit : Option ℕ) (front : List ℕ) (c : ℕ) (hc : IsScalar c) (d : ¬ IsLooselyViable limit (front ++ c ∷ [])) (hw : is_white c ≡ false) where
-  colon-at : (x : Read) → Settled limit 58 x → Stands limit front (read_frames x) (read_phase x) → (c ≡ 58 → ⊥) → step (strictly limit) (read_frames x) (read_phase x) c ≡ stop (ExpectedColon c) true
+  colon_at : (x : Read) → Settled limit 58 x → Stands limit front (read_frames x) (read_phase x) → (c ≡ 58 → ⊥) → step (strictly limit) (read_frames x) (read_phase x) c ≡ stop (ExpectedColon c) true
   unfolding step
-  colon-at _ (digits_end (outside w) n l f g) s a = elim g [ ]
-  colon-at _ (digits_end (item_in p es w) n l f g) s a = elim g [ ]
-  colon-at _ (digits_end (key_in p ps w) n l f g) s a = elim g [ ]
-  colon-at _ (digits_end (value_in p ps k j b w) n l f g) s a = elim g [ ]
-  colon-at _ (value_ends (outside w) v u g) s a = elim g [ ]
-  colon-at _ (value_ends (item_in p es w) v u g) s a = elim g [ ]
-  colon-at _ (value_ends (key_in p ps w) v u g) s a = rw (hw, ne_eqb c 58 a) refl
-  colon-at _ (value_ends (value_in p ps k j b w) v u g) s a = elim g [ ]
+  colon_at _ (digits_end (outside w) n l f g) s a = elim g [ ]
+  colon_at _ (digits_end (item_in p es w) n l f g) s a = elim g [ ]
+  colon_at _ (digits_end (key_in p ps w) n l f g) s a = elim g [ ]
+  colon_at _ (digits_end (value_in p ps k j b w) n l f g) s a = elim g [ ]
+  colon_at _ (value_ends (outside w) v u g) s a = elim g [ ]
+  colon_at _ (value_ends (item_in p es w) v u g) s a = elim g [ ]
+  colon_at _ (value_ends (key_in p ps w) v u g) s a = rw (hw, ne_eqb c 58 a) refl
+  colon_at _ (value_ends (value_in p ps k j b w) v u g) s a = elim g [ ]
 
-  brace-at : (x : Read) → Settled limit 125 x → Stands limit front (read_frames x) (read_phase x) → (c ≡ 44 → ⊥) → (c ≡ 125 → ⊥) → step (strictly limit) (read_frames x) (read_phase x) c ≡ stop (ExpectedCommaOrBrace c) true
+  brace_at : (x : Read) → Settled limit 125 x → Stands limit front (read_frames x) (read_phase x) → (c ≡ 44 → ⊥) → (c ≡ 125 → ⊥) → step (strictly limit) (read_frames x) (read_phase x) c ≡ stop (ExpectedCommaOrBrace c) true
   unfolding step
-  brace-at _ (digits_end (outside w) n l f g) s a b = elim g [ ]
-  brace-at _ (digits_end (item_in p es w) n l f g) s a b = elim g [ ]
-  brace-at _ (digits_end (key_in p ps w) n l f g) s a b = elim g [ ]
-  brace-at _ (digits_end (value_in p ps k j m w) n l f g) s a b =
-      digits-step limit (path_frames (value_in p ps k j m w)) front (part_stage n) (part_numeral n) s l f c hc d ∙ rw (hw, ne_eqb c 44 a, ne_eqb c 125 b) refl
-  brace-at _ (value_ends (outside w) v u g) s a b = elim g [ ]
-  brace-at _ (value_ends (item_in p es w) v u g) s a b = elim g [ ]
-  brace-at _ (value_ends (key_in p ps w) v u g) s a b = elim g [ ]
-  brace-at _ (value_ends (value_in p ps k j m w) v u g) s a b = rw (hw, ne_eqb c 44 a, ne_eqb c 125 b) refl
+  brace_at _ (digits_end (outside w) n l f g) s a b = elim g [ ]
+  brace_at _ (digits_end (item_in p es w) n l f g) s a b = elim g [ ]
+  brace_at _ (digits_end (key_in p ps w) n l f g) s a b = elim g [ ]
+  brace_at _ (digits_end (value_in p ps k j m w) n l f g) s a b =
+      digits_step limit (path_frames (value_in p ps k j m w)) front (part_stage n) (part_numeral n) s l f c hc d ∙ rw (hw, ne_eqb c 44 a, ne_eqb c 125 b) refl
+  brace_at _ (value_ends (outside w) v u g) s a b = elim g [ ]
+  brace_at _ (value_ends (item_in p es w) v u g) s a b = elim g [ ]
+  brace_at _ (value_ends (key_in p ps w) v u g) s a b = elim g [ ]
+  brace_at _ (value_ends (value_in p ps k j m w) v u g) s a b = rw (hw, ne_eqb c 44 a, ne_eqb c 125 b) refl
 
-  bracket-at : (x : Read) → Settled limit 93 x → Stands limit front (read_frames x) (read_phase x) → (c ≡ 44 → ⊥) → (c ≡ 93 → ⊥) → step (strictly limit) (read_frames x) (read_phase x) c ≡ stop (ExpectedCommaOrBracket c) true
+  bracket_at : (x : Read) → Settled limit 93 x → Stands limit front (read_frames x) (read_phase x) → (c ≡ 44 → ⊥) → (c ≡ 93 → ⊥) → step (strictly limit) (read_frames x) (read_phase x) c ≡ stop (ExpectedCommaOrBracket c) true
   unfolding step
-  bracket-at _ (digits_end (outside w) n l f g) s a b = elim g [ ]
-  bracket-at _ (digits_end (item_in p es w) n l f g) s a b =
-      digits-step limit (path_frames (item_in p es w)) front (part_stage n) (part_numeral n) s l f c hc d ∙ rw (hw, ne_eqb c 44 a, ne_eqb c 93 b) refl
-  bracket-at _ (digits_end (key_in p ps w) n l f g) s a b = elim g [ ]
-  bracket-at _ (digits_end (value_in p ps k j m w) n l f g) s a b = elim g [ ]
-  bracket-at _ (value_ends (outside w) v u g) s a b = elim g [ ]
-  bracket-at _ (value_ends (item_in p es w) v u g) s a b = rw (hw, ne_eqb c 44 a, ne_eqb c 93 b) refl
-  bracket-at _ (value_ends (key_in p ps w) v u g) s a b = elim g [ ]
-  bracket-at _ (value_ends (value_in p ps k j m w) v u g) s a b = elim g [ ]
+  bracket_at _ (digits_end (outside w) n l f g) s a b = elim g [ ]
+  bracket_at _ (digits_end (item_in p es w) n l f g) s a b =
+      digits_step limit (path_frames (item_in p es w)) front (part_stage n) (part_numeral n) s l f c hc d ∙ rw (hw, ne_eqb c 44 a, ne_eqb c 93 b) refl
+  bracket_at _ (digits_end (key_in p ps w) n l f g) s a b = elim g [ ]
+  bracket_at _ (digits_end (value_in p ps k j m w) n l f g) s a b = elim g [ ]
+  bracket_at _ (value_ends (outside w) v u g) s a b = elim g [ ]
+  bracket_at _ (value_ends (item_in p es w) v u g) s a b = rw (hw, ne_eqb c 44 a, ne_eqb c 93 b) refl
+  bracket_at _ (value_ends (key_in p ps w) v u g) s a b = elim g [ ]
+  bracket_at _ (value_ends (value_in p ps k j m w) v u g) s a b = elim g [ ]
 
 -- ---- of an error
 
@@ -320,110 +320,110 @@ module _ (limit : Option ℕ) (front : List ℕ) (c : ℕ) (hc : IsScalar c) (d 
 abbrev pub Exact : Option ℕ → JsonParseErrorKind → List ℕ → List ℕ → Type 0
 Exact limit k used rest = run (strictly limit) [] awaited (used ++ rest) ≡ refused k rest
 
-all-front-of : (used front : List ℕ) (c : ℕ) → used ≡ front ++ c ∷ [] → All IsScalar used → All IsScalar front × IsScalar c
-all-front-of used front c e a = let b = subst (All IsScalar) e a in (all-front front (c ∷ []) b, all-rest front (c ∷ []) b 0 0 (omega arith))
+all_front_of : (used front : List ℕ) (c : ℕ) → used ≡ front ++ c ∷ [] → All IsScalar used → All IsScalar front × IsScalar c
+all_front_of used front c e a = let b = subst (All IsScalar) e a in (all-front front (c ∷ []) b, all-rest front (c ∷ []) b 0 0 (omega arith))
 
-taken-exact : (limit : Option ℕ) (front : List ℕ) (fs : List Frame) (q : Phase) → Stands limit front fs q → (c : ℕ) (k : JsonParseErrorKind) (used rest : List ℕ) → used ≡ front ++ c ∷ [] → step (strictly limit) fs q c ≡ stop k true → Exact limit k used rest
-taken-exact limit front fs q s c k used rest e i = rw e (rw (append_assoc front (c ∷ []) rest) (stands-stop limit front fs q s c k true i rest))
+taken_exact : (limit : Option ℕ) (front : List ℕ) (fs : List Frame) (q : Phase) → Stands limit front fs q → (c : ℕ) (k : JsonParseErrorKind) (used rest : List ℕ) → used ≡ front ++ c ∷ [] → step (strictly limit) fs q c ≡ stop k true → Exact limit k used rest
+taken_exact limit front fs q s c k used rest e i = rw e (rw (append_assoc front (c ∷ []) rest) (stands_stop limit front fs q s c k true i rest))
 
 -- the place of c, where another one may stand
-awaits-exact : (limit : Option ℕ) (used rest : List ℕ) (c e : ℕ) → All IsScalar used → IsCloser e → (h : AwaitsAt limit used c e) → (k : JsonParseErrorKind) →
+awaits_exact : (limit : Option ℕ) (used rest : List ℕ) (c e : ℕ) → All IsScalar used → IsCloser e → (h : AwaitsAt limit used c e) → (k : JsonParseErrorKind) →
     (IsScalar c → (x : Read) → Settled limit e x → Stands limit h.place.front (read_frames x) (read_phase x) → step (strictly limit) (read_frames x) (read_phase x) c ≡ stop k true) → Exact limit k used rest
-awaits-exact limit used rest c e a i h k g =
-    let b = all-front-of used h.place.front c h.place.ends a in
+awaits_exact limit used rest c e a i h k g =
+    let b = all_front_of used h.place.front c h.place.ends a in
     let p = passes limit h.place.front e h.without_fault b.0 in
-    taken-exact limit h.place.front (read_frames p.read) (read_phase p.read) p.stands c k used rest h.place.ends
+    taken_exact limit h.place.front (read_frames p.read) (read_phase p.read) p.stands c k used rest h.place.ends
     (g b.1 p.read (settled limit h.place.front e i p.read p.is p.stands h.place.no_string p.passed) p.stands)
 
-not-viable : (limit : Option ℕ) (used front : List ℕ) (c : ℕ) → used ≡ front ++ c ∷ [] → ¬ IsLooselyViable limit used → ¬ IsLooselyViable limit (front ++ c ∷ [])
-not-viable limit used front c e n = subst (λ xs. ¬ IsLooselyViable limit xs) e n
+not_viable : (limit : Option ℕ) (used front : List ℕ) (c : ℕ) → used ≡ front ++ c ∷ [] → ¬ IsLooselyViable limit used → ¬ IsLooselyViable limit (front ++ c ∷ [])
+not_viable limit used front c e n = subst (λ xs. ¬ IsLooselyViable limit xs) e n
 
-pub colon-exact : (limit : Option ℕ) (used rest : List ℕ) (c : ℕ) → All IsScalar used → is_white c ≡ false → (c ≡ 58 → ⊥) → AwaitsAt limit used c 58 → ¬ IsLooselyViable limit used → Exact limit (ExpectedColon c) used rest
-colon-exact limit used rest c a w n h d = awaits-exact limit used rest c 58 a closer-colon h (ExpectedColon c) (λ hc x y s. colon-at limit h.place.front c hc (not-viable limit used h.place.front c h.place.ends d) w x y s n)
+pub colon_exact : (limit : Option ℕ) (used rest : List ℕ) (c : ℕ) → All IsScalar used → is_white c ≡ false → (c ≡ 58 → ⊥) → AwaitsAt limit used c 58 → ¬ IsLooselyViable limit used → Exact limit (ExpectedColon c) used rest
+colon_exact limit used rest c a w n h d = awaits_exact limit used rest c 58 a closer_colon h (ExpectedColon c) (λ hc x y s. colon_at limit h.place.front c hc (not_viable limit used h.place.front c h.place.ends d) w x y s n)
 
-pub brace-exact : (limit : Option ℕ) (used rest : List ℕ) (c : ℕ) → All IsScalar used → is_white c ≡ false → (c ≡ 44 → ⊥) → (c ≡ 125 → ⊥) → AwaitsAt limit used c 125 → ¬ IsLooselyViable limit used → Exact limit (ExpectedCommaOrBrace c) used rest
-brace-exact limit used rest c a w n m h d = awaits-exact limit used rest c 125 a closer-brace h (ExpectedCommaOrBrace c) (λ hc x y s. brace-at limit h.place.front c hc (not-viable limit used h.place.front c h.place.ends d) w x y s n m)
+pub brace_exact : (limit : Option ℕ) (used rest : List ℕ) (c : ℕ) → All IsScalar used → is_white c ≡ false → (c ≡ 44 → ⊥) → (c ≡ 125 → ⊥) → AwaitsAt limit used c 125 → ¬ IsLooselyViable limit used → Exact limit (ExpectedCommaOrBrace c) used rest
+brace_exact limit used rest c a w n m h d = awaits_exact limit used rest c 125 a closer_brace h (ExpectedCommaOrBrace c) (λ hc x y s. brace_at limit h.place.front c hc (not_viable limit used h.place.front c h.place.ends d) w x y s n m)
 
-pub bracket-exact : (limit : Option ℕ) (used rest : List ℕ) (c : ℕ) → All IsScalar used → is_white c ≡ false → (c ≡ 44 → ⊥) → (c ≡ 93 → ⊥) → AwaitsAt limit used c 93 → ¬ IsLooselyViable limit used → Exact limit (ExpectedCommaOrBracket c) used rest
-bracket-exact limit used rest c a w n m h d = awaits-exact limit used rest c 93 a closer-bracket h (ExpectedCommaOrBracket c) (λ hc x y s. bracket-at limit h.place.front c hc (not-viable limit used h.place.front c h.place.ends d) w x y s n m)
+pub bracket_exact : (limit : Option ℕ) (used rest : List ℕ) (c : ℕ) → All IsScalar used → is_white c ≡ false → (c ≡ 44 → ⊥) → (c ≡ 93 → ⊥) → AwaitsAt limit used c 93 → ¬ IsLooselyViable limit used → Exact limit (ExpectedCommaOrBracket c) used rest
+bracket_exact limit used rest c a w n m h d = awaits_exact limit used rest c 93 a closer_bracket h (ExpectedCommaOrBracket c) (λ hc x y s. bracket_at limit h.place.front c hc (not_viable limit used h.place.front c h.place.ends d) w x y s n m)
 
 -- ---- after a text
 
-pub run-end : (r : Rules) (fs : List Frame) (q : Phase) → run r fs q [] ≡ end r fs q
+pub run_end : (r : Rules) (fs : List Frame) (q : Phase) → run r fs q [] ≡ end r fs q
 unfolding run
-run-end r fs q = refl
+run_end r fs q = refl
 
-number-text : (limit : Option ℕ) (front : List ℕ) (c : ℕ) → IsScalar c → ¬ IsLooselyViable limit (front ++ c ∷ []) → is_white c ≡ false → (p : Path) (n : Part) → Stands limit front (path_frames p) (digits (part_stage n) (part_numeral n)) → (t : Tree) →
+number_text : (limit : Option ℕ) (front : List ℕ) (c : ℕ) → IsScalar c → ¬ IsLooselyViable limit (front ++ c ∷ []) → is_white c ≡ false → (p : Path) (n : Part) → Stands limit front (path_frames p) (digits (part_stage n) (part_numeral n)) → (t : Tree) →
     end_digits (strictly limit) (path_frames p) (part_stage n) (part_numeral n) ≡ accepted t → step (strictly limit) (path_frames p) (digits (part_stage n) (part_numeral n)) c ≡ stop (ExpectedEof c) true
-number-text limit front c hc d hw p n s t e = at p s f (sym (ap end_plain f) ∙ g)
+number_text limit front c hc d hw p n s t e = at p s f (sym (ap end_plain f) ∙ g)
   where
     l : Lasts (part_stage n) (part_numeral n)
-    l = accepted-lasts limit (path_frames p) (part_stage n) (part_numeral n) t e
+    l = accepted_lasts limit (path_frames p) (part_stage n) (part_numeral n) t e
 
     g : end_plain (finish (strictly limit) (path_frames p) (part_numeral n)) ≡ accepted t
-    g = sym (lasts-end limit (path_frames p) (part_stage n) (part_numeral n) l) ∙ e
+    g = sym (lasts_end limit (path_frames p) (part_stage n) (part_numeral n) l) ∙ e
 
     f : finish (strictly limit) (path_frames p) (part_numeral n) ≡ complete true (path_frames p) (tree.number (value (part_numeral n))) false
-    f = accepted-finish limit (path_frames p) (part_numeral n) t g
+    f = accepted_finish limit (path_frames p) (part_numeral n) t g
 
     at : (p : Path) → Stands limit front (path_frames p) (digits (part_stage n) (part_numeral n)) → finish (strictly limit) (path_frames p) (part_numeral n) ≡ complete true (path_frames p) (tree.number (value (part_numeral n))) false →
         end_plain (complete true (path_frames p) (tree.number (value (part_numeral n))) false) ≡ accepted t → step (strictly limit) (path_frames p) (digits (part_stage n) (part_numeral n)) c ≡ stop (ExpectedEof c) true
-    at (outside w) s f e = digits-step limit [] front (part_stage n) (part_numeral n) s l f c hc d ∙ rw hw refl
+    at (outside w) s f e = digits_step limit [] front (part_stage n) (part_numeral n) s l f c hc d ∙ rw hw refl
     at (item_in p es w) s f e = absurd cc
     at (key_in p ps w) s f e = absurd cc
     at (value_in p ps a k b w) s f e = absurd cc
 
-text-ends : (limit : Option ℕ) (front : List ℕ) (c : ℕ) → IsScalar c → ¬ IsLooselyViable limit (front ++ c ∷ []) → is_white c ≡ false → (x : Read) → IsRead limit x → Stands limit front (read_frames x) (read_phase x) → (t : Tree) → end (strictly limit) (read_frames x) (read_phase x) ≡ accepted t →
+text_ends : (limit : Option ℕ) (front : List ℕ) (c : ℕ) → IsScalar c → ¬ IsLooselyViable limit (front ++ c ∷ []) → is_white c ≡ false → (x : Read) → IsRead limit x → Stands limit front (read_frames x) (read_phase x) → (t : Tree) → end (strictly limit) (read_frames x) (read_phase x) ≡ accepted t →
     step (strictly limit) (read_frames x) (read_phase x) c ≡ stop (ExpectedEof c) true
 unfolding step end
-text-ends limit front c hc d hw (at_first p) i s t e = absurd cc
-text-ends limit front c hc d hw (at_awaited p) i s t e = absurd cc
-text-ends limit front c hc d hw (in_word p v done left) i s t e = absurd cc
-text-ends limit front c hc d hw (in_digits p n) i s t e = number-text limit front c hc d hw p n s t e
-text-ends limit front c hc d hw (in_quoted p ps cs qs wi) i s t e = absurd cc
-text-ends limit front c hc d hw (at_after (outside w) v u) i s t e = rw hw refl
-text-ends limit front c hc d hw (at_after (item_in p es w) v u) i s t e = absurd cc
-text-ends limit front c hc d hw (at_after (key_in p ps w) v u) i s t e = absurd cc
-text-ends limit front c hc d hw (at_after (value_in p ps a k b w) v u) i s t e = absurd cc
+text_ends limit front c hc d hw (at_first p) i s t e = absurd cc
+text_ends limit front c hc d hw (at_awaited p) i s t e = absurd cc
+text_ends limit front c hc d hw (in_word p v done left) i s t e = absurd cc
+text_ends limit front c hc d hw (in_digits p n) i s t e = number_text limit front c hc d hw p n s t e
+text_ends limit front c hc d hw (in_quoted p ps cs qs wi) i s t e = absurd cc
+text_ends limit front c hc d hw (at_after (outside w) v u) i s t e = rw hw refl
+text_ends limit front c hc d hw (at_after (item_in p es w) v u) i s t e = absurd cc
+text_ends limit front c hc d hw (at_after (key_in p ps w) v u) i s t e = absurd cc
+text_ends limit front c hc d hw (at_after (value_in p ps a k b w) v u) i s t e = absurd cc
 
-pub behind-exact : (limit : Option ℕ) (used rest text : List ℕ) (c : ℕ) → All IsScalar used → is_white c ≡ false → used ≡ text ++ c ∷ [] → IsAccepted limit text → ¬ IsLooselyViable limit used → Exact limit (ExpectedEof c) used rest
-behind-exact limit used rest text c a w e t d = ⊎_elim goes halts (goes-or-halts limit text b.0)
+pub behind_exact : (limit : Option ℕ) (used rest text : List ℕ) (c : ℕ) → All IsScalar used → is_white c ≡ false → used ≡ text ++ c ∷ [] → IsAccepted limit text → ¬ IsLooselyViable limit used → Exact limit (ExpectedEof c) used rest
+behind_exact limit used rest text c a w e t d = ⊎_elim goes halts (goes_or_halts limit text b.0)
   where
     b : All IsScalar text × IsScalar c
-    b = all-front-of used text c e a
+    b = all_front_of used text c e a
 
     runs : run (strictly limit) [] awaited (text ++ []) ≡ accepted t.0
-    runs = ap (run (strictly limit) [] awaited) (append-nil text) ∙ text-accepted limit text t.0 t.1
+    runs = ap (run (strictly limit) [] awaited) (append-nil text) ∙ text_accepted limit text t.0 t.1
 
     goes : Goes limit text → Exact limit (ExpectedEof c) used rest
     goes g = let s = g.2.spells in
-        taken-exact limit text (read_frames s.read) (read_phase s.read) (rw (← s.frames, ← s.phase) g.2) c (ExpectedEof c) used rest e
-        (text-ends limit text c b.1 (not-viable limit used text c e d) w s.read s.is (rw (← s.frames, ← s.phase) g.2) t.0 (rw (← s.frames, ← s.phase) (sym (run-end (strictly limit) g.0 g.1) ∙ (sym (g.2.reached true []) ∙ runs))))
+        taken_exact limit text (read_frames s.read) (read_phase s.read) (rw (← s.frames, ← s.phase) g.2) c (ExpectedEof c) used rest e
+        (text_ends limit text c b.1 (not_viable limit used text c e d) w s.read s.is (rw (← s.frames, ← s.phase) g.2) t.0 (rw (← s.frames, ← s.phase) (sym (run_end (strictly limit) g.0 g.1) ∙ (sym (g.2.reached true []) ∙ runs))))
 
     halts : Halts limit text → Exact limit (ExpectedEof c) used rest
-    halts h = absurd (accepted-refused t.0 _ _ (sym runs ∙ halts-run limit text h []))
+    halts h = absurd (accepted_refused t.0 _ _ (sym runs ∙ halts_run limit text h []))
 
 -- ---- at the end
 
-number-needs : (limit : Option ℕ) (e : ℕ) → IsCloser e → (p : Path) (n : Part) → Settled limit e (in_digits p n) → end_digits (strictly limit) (path_frames p) (part_stage n) (part_numeral n) ≡ refused UnexpectedEof []
-number-needs limit e h _ _ (digits_end (outside w) n l f g) = elim (rw h.no_white at g) [ ]
-number-needs limit e h _ _ (digits_end (item_in p es w) n l f g) = lasts-end limit (path_frames (item_in p es w)) (part_stage n) (part_numeral n) l ∙ ap end_plain f
-number-needs limit e h _ _ (digits_end (key_in p ps w) n l f g) = elim g [ ]
-number-needs limit e h _ _ (digits_end (value_in p ps a k b w) n l f g) = lasts-end limit (path_frames (value_in p ps a k b w)) (part_stage n) (part_numeral n) l ∙ ap end_plain f
+number_needs : (limit : Option ℕ) (e : ℕ) → IsCloser e → (p : Path) (n : Part) → Settled limit e (in_digits p n) → end_digits (strictly limit) (path_frames p) (part_stage n) (part_numeral n) ≡ refused UnexpectedEof []
+number_needs limit e h _ _ (digits_end (outside w) n l f g) = elim (rw h.no_white at g) [ ]
+number_needs limit e h _ _ (digits_end (item_in p es w) n l f g) = lasts_end limit (path_frames (item_in p es w)) (part_stage n) (part_numeral n) l ∙ ap end_plain f
+number_needs limit e h _ _ (digits_end (key_in p ps w) n l f g) = elim g [ ]
+number_needs limit e h _ _ (digits_end (value_in p ps a k b w) n l f g) = lasts_end limit (path_frames (value_in p ps a k b w)) (part_stage n) (part_numeral n) l ∙ ap end_plain f
 
-needs-end : (limit : Option ℕ) (e : ℕ) → IsCloser e → (x : Read) → IsRead limit x → IsPassed (step (strictly limit) (read_frames x) (read_phase x) e) → end (strictly limit) (read_frames x) (read_phase x) ≡ refused UnexpectedEof []
+needs_end : (limit : Option ℕ) (e : ℕ) → IsCloser e → (x : Read) → IsRead limit x → IsPassed (step (strictly limit) (read_frames x) (read_phase x) e) → end (strictly limit) (read_frames x) (read_phase x) ≡ refused UnexpectedEof []
 unfolding step end
-needs-end limit e h (at_first p) i g = refl
-needs-end limit e h (at_awaited p) i g = refl
-needs-end limit e h (in_word p v done left) i g = refl
-needs-end limit e h (in_digits p n) i g = number-needs limit e h p n (digits-settled limit e h p n g)
-needs-end limit e h (in_quoted p ps cs qs wi) i g = refl
-needs-end limit e h (at_after (outside w) v u) i g = elim (rw h.no_white at g) [ ]
-needs-end limit e h (at_after (item_in p es w) v u) i g = refl
-needs-end limit e h (at_after (key_in p ps w) v u) i g = refl
-needs-end limit e h (at_after (value_in p ps a k b w) v u) i g = refl
+needs_end limit e h (at_first p) i g = refl
+needs_end limit e h (at_awaited p) i g = refl
+needs_end limit e h (in_word p v done left) i g = refl
+needs_end limit e h (in_digits p n) i g = number_needs limit e h p n (digits_settled limit e h p n g)
+needs_end limit e h (in_quoted p ps cs qs wi) i g = refl
+needs_end limit e h (at_after (outside w) v u) i g = elim (rw h.no_white at g) [ ]
+needs_end limit e h (at_after (item_in p es w) v u) i g = refl
+needs_end limit e h (at_after (key_in p ps w) v u) i g = refl
+needs_end limit e h (at_after (value_in p ps a k b w) v u) i g = refl
 
-pub needs-exact : (limit : Option ℕ) (used : List ℕ) (e : ℕ) → All IsScalar used → IsCloser e → IsFaultless limit (used ++ e ∷ []) → Exact limit UnexpectedEof used []
-needs-exact limit used e a h f =
+pub needs_exact : (limit : Option ℕ) (used : List ℕ) (e : ℕ) → All IsScalar used → IsCloser e → IsFaultless limit (used ++ e ∷ []) → Exact limit UnexpectedEof used []
+needs_exact limit used e a h f =
     let p = passes limit used e f a in
-    p.stands.reached true [] ∙ (run-end (strictly limit) (read_frames p.read) (read_phase p.read) ∙ needs-end limit e h p.read p.is p.passed)
+    p.stands.reached true [] ∙ (run_end (strictly limit) (read_frames p.read) (read_phase p.read) ∙ needs_end limit e h p.read p.is p.passed)

@@ -13,7 +13,7 @@ use Rattle.tinyjson.specs.declared.parser.error.JsonParseErrorKind.TheVariants a
 use Rattle.tinyjson.specs.declared.value.JsonKind.TheVariants as kind
 use Rattle.tinyjson.proofs.Callers.{all-scalars}
 use Rattle.tinyjson_number.specs.Numeral.{power_fits, value}
-use Rattle.tinyjson_laws.proofs.Examples.Reading.{refusal-of}
+use Rattle.tinyjson_laws.proofs.Examples.Reading.{refusal_of}
 use Rattle.tinyjson_laws.proofs.RefusalLaws.{one_refusal}
 
 -- the right error k of the list, which has consumed `used`, rules out another one
@@ -22,7 +22,7 @@ refuted : {limit : Option ℕ} {j : JsonParseErrorKind} {others left : List ℕ}
     run (strictly limit) [] awaited (used ++ rest) ≡ refused k rest →
     ((k ≡ j) × (used ≡ others) → ⊥) → ¬ IsRefusal limit j others left
 refuted {limit} {j} {others} {left} k used rest scalars e right differ wrong =
-    differ (one_refusal limit k j used rest others left (all-scalars (used ++ rest) scalars) e (refusal-of scalars right) wrong)
+    differ (one_refusal limit k j used rest others left (all-scalars (used ++ rest) scalars) e (refusal_of scalars right) wrong)
 
 -- ---- letters of a literal are no exponent
 
@@ -236,35 +236,35 @@ no_limit = refuted (error.ExpectedCommaOrBracket 120) (codes "[[]x") [] refl ref
 -- ---- memory
 
 -- no memory is needed before a character that begins no string, no number and no container
-grows-not : (c : ℕ) (xs : List ℕ) → is_white c ≡ false → begins_growth c ≡ false → ¬ MayGrow (c ∷ xs)
-grows-not c xs n g m = by m.before m.whole m.white
+grows_not : (c : ℕ) (xs : List ℕ) → is_white c ≡ false → begins_growth c ≡ false → ¬ MayGrow (c ∷ xs)
+grows_not c xs n g m = by m.before m.whole m.white
   where
-    same-first : (d : ℕ) (ys zs : List ℕ) → d ∷ ys ≡ c ∷ zs → d ≡ c
-    same-first d ys zs e = cc
+    same_first : (d : ℕ) (ys zs : List ℕ) → d ∷ ys ≡ c ∷ zs → d ≡ c
+    same_first d ys zs e = cc
 
     by : (w : List ℕ) → c ∷ xs ≡ w ++ m.first ∷ m.more → AreWhite w → ⊥
     by [] e w =
         let f : begins_growth m.first ≡ true = m.grows in
-        false≢true (sym g ∙ (ap begins_growth (sym (same-first m.first m.more xs (sym e))) ∙ f))
+        false≢true (sym g ∙ (ap begins_growth (sym (same_first m.first m.more xs (sym e))) ∙ f))
     by (d ∷ ds) e w =
         let f : is_white d ≡ true = w.0 in
-        false≢true (sym n ∙ (ap is_white (sym (same-first d (ds ++ m.first ∷ m.more) xs (sym e))) ∙ f))
+        false≢true (sym n ∙ (ap is_white (sym (same_first d (ds ++ m.first ∷ m.more) xs (sym e))) ∙ f))
 
 memory_for_true : (used rest : List ℕ) → used ++ rest ≡ codes "true" → ¬ RefusalSays None error.OutOfMemory used rest
-memory_for_true used rest e r = grows-not 116 (codes "rue") refl refl (subst MayGrow e r.1)
+memory_for_true used rest e r = grows_not 116 (codes "rue") refl refl (subst MayGrow e r.1)
 
 memory_for_a_wrong_character : (used rest : List ℕ) → used ++ rest ≡ codes "x" → ¬ RefusalSays None error.OutOfMemory used rest
-memory_for_a_wrong_character used rest e r = grows-not 120 [] refl refl (subst MayGrow e r.1)
+memory_for_a_wrong_character used rest e r = grows_not 120 [] refl refl (subst MayGrow e r.1)
 
 -- no memory is needed after a character that no text of the loose grammar has there
 memory_behind_a_text : ¬ RefusalSays None error.OutOfMemory (codes "[1]x") []
 unfolding run step end value power_fits
 memory_behind_a_text r =
-    let right : IsRefusal None (error.ExpectedEof 120) (codes "[1]x") [] = refusal-of refl refl in
+    let right : IsRefusal None (error.ExpectedEof 120) (codes "[1]x") [] = refusal_of refl refl in
     right.says.1.1 r.0.viable
 
 memory_at_a_wrong_bracket : ¬ RefusalSays None error.OutOfMemory (codes "[1}") (codes "]")
 unfolding run step end value power_fits
 memory_at_a_wrong_bracket r =
-    let right : IsRefusal None (error.ExpectedCommaOrBracket 125) (codes "[1}") (codes "]") = refusal-of refl refl in
+    let right : IsRefusal None (error.ExpectedCommaOrBracket 125) (codes "[1}") (codes "]") = refusal_of refl refl in
     right.says.1.1 r.0.viable

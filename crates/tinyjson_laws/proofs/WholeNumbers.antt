@@ -15,14 +15,14 @@ one_number x y e = same_canonical x y e
 
 -- ---- what the decimal means
 
-some-power : (negative : Bool) (ds : List ℕ) (z : ℕ) → (p : ℕ) × ((decimal_of negative ds (pos z)).power ≡ pos p)
-some-power negative [] z = (0, refl)
-some-power negative (d ∷ ds) z = (z, refl)
+some_power : (negative : Bool) (ds : List ℕ) (z : ℕ) → (p : ℕ) × ((decimal_of negative ds (pos z)).power ≡ pos p)
+some_power negative [] z = (0, refl)
+some_power negative (d ∷ ds) z = (z, refl)
 
 pub wholes_mean : WholesMean
 wholes_mean negative n fits =
     let d : Decimal = whole_decimal negative n in
-    let p = some-power negative (significant (natural_text n)) (trailing_zeros (natural_text n)) in (
+    let p = some_power negative (significant (natural_text n)) (trailing_zeros (natural_text n)) in (
       p.0,
       p.1,
       ap (λ z. digits_value 10 d.digits * 10 ^ unsigned_abs z) (sym p.1) ∙ magnitude-whole negative n fits,

@@ -5,11 +5,11 @@ use Rattle.tinyjson.specs.Syntax.{text}
 use Rattle.tinyjson.specs.Text as written
 use Rattle.tinyjson.proofs.Grammar.Accepts.Text.{one-tree}
 use Rattle.tinyjson_laws.specs.Writing.{CompactReadsBack, IndentedReadsBack, SameCompact, SameIndented, WrittenOnce, CompactWithin, IndentedWithin, LimitKept, TextsAreUtf8, CompactIsUtf8, IndentedIsUtf8}
-use Rattle.tinyjson_laws.proofs.ReadingLaws.{tree-within, rewritten}
+use Rattle.tinyjson_laws.proofs.ReadingLaws.{tree_within, rewritten}
 use Rattle.tinyjson.proofs.Writing.WrittenTexts.{written-text, compact-text, from-text, one-compact}
 use Rattle.tinyjson.proofs.Writing.Scalars as trees
 use Rattle.tinyjson.proofs.Writing.Scalars.{scalars-append, encoded_utf8}
-use Rattle.tinyjson_laws.proofs.TextScalars.{white-scalars, text-scalars}
+use Rattle.tinyjson_laws.proofs.TextScalars.{white_scalars, text-scalars}
 
 pub compact_reads_back : CompactReadsBack
 compact_reads_back t h = compact-text t h
@@ -32,15 +32,15 @@ written_once limit xs t h =
     (c, λ u j. ap written.compact (one-tree limit (written.compact t) u t j c))
 
 pub compact_within : CompactWithin
-compact_within t n h = (tree-within power_width (Some n) (written.compact t) t, written-text power_width (Some n) None 0 t tt h)
+compact_within t n h = (tree_within power_width (Some n) (written.compact t) t, written-text power_width (Some n) None 0 t tt h)
 
 pub indented_within : IndentedWithin
-indented_within t indent n i h = (tree-within power_width (Some n) (written.indented t indent 0) t, written-text power_width (Some n) (Some indent) 0 t i h)
+indented_within t indent n i h = (tree_within power_width (Some n) (written.indented t indent 0) t, written-text power_width (Some n) (Some indent) 0 t i h)
 
 pub texts_are_utf8 : TextsAreUtf8
 texts_are_utf8 limit xs t h =
     let l = h.loose in
-    let s : IsTrue _ = rw l.whole (scalars-append l.before _ (white-scalars l.before l.white_before) (scalars-append (text l.value) l.after (text-scalars l.value l.spelled) (white-scalars l.after l.white_after))) in
+    let s : IsTrue _ = rw l.whole (scalars-append l.before _ (white_scalars l.before l.white_before) (scalars-append (text l.value) l.after (text-scalars l.value l.spelled) (white_scalars l.after l.white_after))) in
     (s, (xs, (s, refl)))
 
 pub compact_is_utf8 : CompactIsUtf8

@@ -9,8 +9,8 @@ use Rattle.std.specs.Map.{keys_of, lookup}
 use Rattle.std.specs.Option.{option_eq, option_map}
 use Rattle.std.specs.Ordering.{match_ordering}
 use Rattle.std.specs.String.{string_eq, string_eq_equiv}
-use Rattle.tinyjson.proofs.Values.Entries.{find-members_of, members_of-sorted}
-use Rattle.tinyjson.proofs.Values.Members.{find-below, find-put, flip, found_first, key_same, members_from_find, same_key, some_none, sorted-put}
+use Rattle.tinyjson.proofs.Values.Entries.{find_members_of, members_of_sorted}
+use Rattle.tinyjson.proofs.Values.Members.{find_below, find-put, flip, found_first, key_same, members_from_find, same_key, some_none, sorted-put}
 use Rattle.tinyjson.proofs.Values.Views.{Entry, view_lookup}
 use Rattle.tinyjson.specs.private.Comparison.{has_entry, has_entries, rest_eq, rests_eq, rest_weight, rests_weight}
 use Rattle.tinyjson.specs.Equality.{tree_eq, tree_eq_decides, items_eq, members_eq, members_eq-Decides}
@@ -58,18 +58,18 @@ not_first k q t ms below sorted h = by (bytes_eq q k) refl
   where
     by : (b : Bool) → bytes_eq q k ≡ b → b ≡ false
     by false e = refl
-    by true e = absurd (some_none t (sym h ∙ (ap (λ x. find x ms) ((bytes_eq-Decides q k).0 e) ∙ find-below k ms below sorted)))
+    by true e = absurd (some_none t (sym h ∙ (ap (λ x. find x ms) ((bytes_eq-Decides q k).0 e) ∙ find_below k ms below sorted)))
 
 past_first : (k q : List ℕ) (u : Tree) (ms : Members) → bytes_eq q k ≡ false → find q (member k u ms) ≡ find q ms
 past_first k q u ms e = ap (λ b. cond b (Some u) (find q ms)) e
 
-Within-count : (ms ns : Members) → IsSorted ms → IsSorted ns → Within ms ns → count ms ≤ count ns
-Within-count no_members ns s r h = omega arith
-Within-count (member k t ms) no_members s r h = absurd (some_none t (sym (h k t (found_first k t ms))))
-Within-count (member k t ms) (member l u ns) s r h = by (key_cmp k l) refl (Within-count ms ns s.1 r.1) (Within-count (member k t ms) ns s r.1)
+Within_count : (ms ns : Members) → IsSorted ms → IsSorted ns → Within ms ns → count ms ≤ count ns
+Within_count no_members ns s r h = omega arith
+Within_count (member k t ms) no_members s r h = absurd (some_none t (sym (h k t (found_first k t ms))))
+Within_count (member k t ms) (member l u ns) s r h = by (key_cmp k l) refl (Within_count ms ns s.1 r.1) (Within_count (member k t ms) ns s r.1)
   where
     by : (o : Ordering) → key_cmp k l ≡ o → (Within ms ns → count ms ≤ count ns) → (Within (member k t ms) ns → 1 + count ms ≤ count ns) → 1 + count ms ≤ 1 + count ns
-    by Less e tails all = absurd (some_none t (sym (h k t (found_first k t ms)) ∙ find-below k (member l u ns) e r))
+    by Less e tails all = absurd (some_none t (sym (h k t (found_first k t ms)) ∙ find_below k (member l u ns) e r))
     by Equal e tails all =
         let le = tails (λ q x g.
         let apart = not_first k q x ms s.0 s.1 g in
@@ -79,18 +79,18 @@ Within-count (member k t ms) (member l u ns) s r h = by (key_cmp k l) refl (With
         let le = all (λ q x g. sym (past_first l q u ns (not_first l q x (member k t ms) (flip k l e) s g)) ∙ h q x g) in
         omega (arith, le)
 
-count-put_le : (k : List ℕ) (t : Tree) (ms : Members) → count (put k t ms) ≤ 1 + count ms
-count-put_le k t no_members = omega arith
-count-put_le k t (member l u ms) = by (key_cmp k l) (count-put_le k t ms)
+count_put_le : (k : List ℕ) (t : Tree) (ms : Members) → count (put k t ms) ≤ 1 + count ms
+count_put_le k t no_members = omega arith
+count_put_le k t (member l u ms) = by (key_cmp k l) (count_put_le k t ms)
   where
     by : (o : Ordering) → count (put k t ms) ≤ 1 + count ms → count (match_ordering o (member k t (member l u ms)) (member k t ms) (member l u (put k t ms))) ≤ 1 + (1 + count ms)
     by Less le = omega arith
     by Equal le = omega arith
     by Greater le = omega (arith, le)
 
-count-put_new : (k : List ℕ) (t : Tree) (ms : Members) → find k ms ≡ None → count (put k t ms) ≡ 1 + count ms
-count-put_new k t no_members h = omega arith
-count-put_new k t (member l u ms) h = by (key_cmp k l) refl (bytes_eq k l) refl (count-put_new k t ms)
+count_put_new : (k : List ℕ) (t : Tree) (ms : Members) → find k ms ≡ None → count (put k t ms) ≡ 1 + count ms
+count_put_new k t no_members h = omega arith
+count_put_new k t (member l u ms) h = by (key_cmp k l) refl (bytes_eq k l) refl (count_put_new k t ms)
   where
     by : (o : Ordering) → key_cmp k l ≡ o → (b : Bool) → bytes_eq k l ≡ b → (find k ms ≡ None → count (put k t ms) ≡ 1 + count ms)
         → count (match_ordering o (member k t (member l u ms)) (member k t ms) (member l u (put k t ms))) ≡ 1 + (1 + count ms)
@@ -100,8 +100,8 @@ count-put_new k t (member l u ms) h = by (key_cmp k l) refl (bytes_eq k l) refl 
     by Greater e true d rest = absurd (some_none u (sym (ap (λ x. cond x (Some u) (find k ms)) d) ∙ h))
     by Greater e false d rest = let here = rest (sym (past_first l k u ms d) ∙ h) in omega (arith, here)
 
-Within-same : (ms ns : Members) → IsSorted ms → IsSorted ns → Within ms ns → count ns ≤ count ms → ms ≡ ns
-Within-same ms ns s r h le = members_from_find ms ns s r (λ q. by q (find q ms) refl (find q ns) refl)
+Within_same : (ms ns : Members) → IsSorted ms → IsSorted ns → Within ms ns → count ns ≤ count ms → ms ≡ ns
+Within_same ms ns s r h le = members_from_find ms ns s r (λ q. by q (find q ms) refl (find q ns) refl)
   where
     more : (q : List ℕ) (u : Tree) → find q ns ≡ Some u → Within (put q u ms) ns
     more q u f x t g = at (bytes_eq x q) refl
@@ -114,8 +114,8 @@ Within-same ms ns s r h le = members_from_find ms ns s r (λ q. by q (find q ms)
     by q (Some t) e p f = e ∙ sym (h q t e)
     by q None e None f = e ∙ sym f
     by q None e (Some u) f =
-        let a = Within-count (put q u ms) ns (sorted-put q u ms s) r (more q u f) in
-        let b = count-put_new q u ms e in
+        let a = Within_count (put q u ms) ns (sorted-put q u ms s) r (more q u f) in
+        let b = count_put_new q u ms e in
         absurd (omega (arith, a, b, le))
 
 -- ---- entries among members
@@ -123,28 +123,28 @@ Within-same ms ns s r h le = members_from_find ms ns s r (λ q. by q (find q ms)
 -- the key of an entry is not among the later ones
 fresh : (e : Entry) (es : List Entry) → IsDistinct string_eq (keys_of (e ∷ es)) → find (text e.0) (members_view es) ≡ None
 fresh e es h =
-    find-members_of e.0 (seen_entries es)
+    find_members_of e.0 (seen_entries es)
     ∙ (view_lookup e.0 es ∙ ap (option_map view) (lookup-none (string_eq e.0) es (none_past_head string_eq_equiv e.0 e es h (string_eq_equiv.refl e.0))))
 
-count-entries_le : (es : List Entry) → count (members_view es) ≤ length es
-count-entries_le [] = omega arith
-count-entries_le (e ∷ es) = omega (arith, count-put_le (text e.0) (view e.1) (members_view es), count-entries_le es)
+count_entries_le : (es : List Entry) → count (members_view es) ≤ length es
+count_entries_le [] = omega arith
+count_entries_le (e ∷ es) = omega (arith, count_put_le (text e.0) (view e.1) (members_view es), count_entries_le es)
 
-count-entries : (es : List Entry) → IsDistinct string_eq (keys_of es) → count (members_view es) ≡ length es
+count_entries : (es : List Entry) → IsDistinct string_eq (keys_of es) → count (members_view es) ≡ length es
 unfolding IsDistinct
-count-entries [] h = refl
-count-entries (e ∷ es) h = omega (arith, count-put_new (text e.0) (view e.1) (members_view es) (fresh e es h), count-entries es h.1)
+count_entries [] h = refl
+count_entries (e ∷ es) h = omega (arith, count_put_new (text e.0) (view e.1) (members_view es) (fresh e es h), count_entries es h.1)
 
-has-found : (t : Tree) (o : Option Tree) → option_eq tree_eq (Some t) o ≡ true → o ≡ Some t
-has-found t None h = absurd (true≢false (sym h))
-has-found t (Some u) h = ap (λ (x : Tree). Some x) (sym ((tree_eq_decides t u).0 h))
+has_found : (t : Tree) (o : Option Tree) → option_eq tree_eq (Some t) o ≡ true → o ≡ Some t
+has_found t None h = absurd (true≢false (sym h))
+has_found t (Some u) h = ap (λ (x : Tree). Some x) (sym ((tree_eq_decides t u).0 h))
 
-found-has : (t : Tree) (o : Option Tree) → o ≡ Some t → option_eq tree_eq (Some t) o ≡ true
-found-has t o e = ap (option_eq tree_eq (Some t)) e ∙ (tree_eq_decides t t).1 refl
+found_has : (t : Tree) (o : Option Tree) → o ≡ Some t → option_eq tree_eq (Some t) o ≡ true
+found_has t o e = ap (option_eq tree_eq (Some t)) e ∙ (tree_eq_decides t t).1 refl
 
-Within-entries : (es : List Entry) (ns : Members) → has_entries ns es ≡ true → Within (members_view es) ns
-Within-entries [] ns h q t g = absurd (some_none t (sym g))
-Within-entries (e ∷ es) ns h q t g = by (bytes_eq q (text e.0)) refl (Within-entries es ns (second_true (has_entry ns e) _ h) q t)
+Within_entries : (es : List Entry) (ns : Members) → has_entries ns es ≡ true → Within (members_view es) ns
+Within_entries [] ns h q t g = absurd (some_none t (sym g))
+Within_entries (e ∷ es) ns h q t g = by (bytes_eq q (text e.0)) refl (Within_entries es ns (second_true (has_entry ns e) _ h) q t)
   where
     g' : cond (bytes_eq q (text e.0)) (Some (view e.1)) (find q (members_view es)) ≡ Some t
     g' = sym (find-put q (text e.0) (view e.1) (members_view es)) ∙ g
@@ -152,17 +152,17 @@ Within-entries (e ∷ es) ns h q t g = by (bytes_eq q (text e.0)) refl (Within-e
     by : (b : Bool) → bytes_eq q (text e.0) ≡ b → (find q (members_view es) ≡ Some t → find q ns ≡ Some t) → find q ns ≡ Some t
     by true d rest =
         ap (λ x. find x ns) ((bytes_eq-Decides q (text e.0)).0 d)
-        ∙ (has-found (view e.1) (find (text e.0) ns) (first_true (has_entry ns e) _ h) ∙ (sym (ap (λ b. cond b (Some (view e.1)) (find q (members_view es))) d) ∙ g'))
+        ∙ (has_found (view e.1) (find (text e.0) ns) (first_true (has_entry ns e) _ h) ∙ (sym (ap (λ b. cond b (Some (view e.1)) (find q (members_view es))) d) ∙ g'))
     by false d rest = rest (sym (ap (λ b. cond b (Some (view e.1)) (find q (members_view es))) d) ∙ g')
 
-entries-Within : (es : List Entry) (ns : Members) → IsDistinct string_eq (keys_of es) → Within (members_view es) ns → has_entries ns es ≡ true
+entries_Within : (es : List Entry) (ns : Members) → IsDistinct string_eq (keys_of es) → Within (members_view es) ns → has_entries ns es ≡ true
 unfolding IsDistinct
-entries-Within [] ns d w = refl
-entries-Within (e ∷ es) ns d w =
+entries_Within [] ns d w = refl
+entries_Within (e ∷ es) ns d w =
     let key = text e.0 in
     let more = members_view es in
     let here = w key (view e.1) (find-put key key (view e.1) more ∙ ap (λ b. cond b (Some (view e.1)) (find key more)) (same_key key)) in
-    both_true (has_entry ns e) _ (found-has (view e.1) (find key ns) here) (entries-Within es ns d.1 (λ q t g. w q t (onto q t g)))
+    both_true (has_entry ns e) _ (found_has (view e.1) (find key ns) here) (entries_Within es ns d.1 (λ q t g. w q t (onto q t g)))
   where
     onto : (q : List ℕ) (t : Tree) → find q (members_view es) ≡ Some t → find q (put (text e.0) (view e.1) (members_view es)) ≡ Some t
     onto q t g = find-put q (text e.0) (view e.1) (members_view es) ∙ (by (bytes_eq q (text e.0)) refl ∙ g)
@@ -174,10 +174,10 @@ entries-Within (e ∷ es) ns d w =
 module _ (es fs : List Entry) (d : IsDistinct string_eq (keys_of es)) where
   pub same_entries : length es ≡ length fs → has_entries (members_view fs) es ≡ members_eq (members_view es) (members_view fs)
   same_entries same =
-      let le : count (members_view fs) ≤ count (members_view es) = omega (arith, same, count-entries_le fs, count-entries es d) in
+      let le : count (members_view fs) ≤ count (members_view es) = omega (arith, same, count_entries_le fs, count_entries es d) in
       same_from_decides _ _ (
-        λ h. Within-same (members_view es) (members_view fs) (members_of-sorted (seen_entries es)) (members_of-sorted (seen_entries fs)) (Within-entries es (members_view fs) h) le,
-        λ e. entries-Within es (members_view fs) d (subst (λ ms. Within (members_view es) ms) e (λ q t g. g)),
+        λ h. Within_same (members_view es) (members_view fs) (members_of_sorted (seen_entries es)) (members_of_sorted (seen_entries fs)) (Within_entries es (members_view fs) h) le,
+        λ e. entries_Within es (members_view fs) d (subst (λ ms. Within (members_view es) ms) e (λ q t g. g)),
       )
       (members_eq-Decides (members_view es) (members_view fs))
 
@@ -187,7 +187,7 @@ module _ (es fs : List Entry) (d : IsDistinct string_eq (keys_of es)) where
     where
       by : (b : Bool) → members_eq (members_view es) (members_view fs) ≡ b → false ≡ b
       by false e = refl
-      by true e = absurd (differ (sym (count-entries es d) ∙ (ap count ((members_eq-Decides (members_view es) (members_view fs)).0 e) ∙ count-entries fs f)))
+      by true e = absurd (differ (sym (count_entries es d) ∙ (ap count ((members_eq-Decides (members_view es) (members_view fs)).0 e) ∙ count_entries fs f)))
 
 -- ---- what is left
 
@@ -214,19 +214,19 @@ rests_weight_last (s ∷ rs) r = omega (arith, rests_weight_last rs r)
 -- ---- one turn of the comparison: r is what was left, d what was deferred, w whether all of it is the same
 
 module _ (r d w : Bool) (all : r && d ≡ w) where
-  pub turn-same : true ≡ r → d ≡ w
-  turn-same e = ap (λ b. b && d) e ∙ all
+  pub turn_same : true ≡ r → d ≡ w
+  turn_same e = ap (λ b. b && d) e ∙ all
 
-  pub turn-differs : false ≡ r → false ≡ w
-  turn-differs e = ap (λ b. b && d) e ∙ all
+  pub turn_differs : false ≡ r → false ≡ w
+  turn_differs e = ap (λ b. b && d) e ∙ all
 
   -- what is inside is compared before what was deferred
-  pub turn-deferred : (i o : Bool) → i && o ≡ r → i && (o && d) ≡ w
-  turn-deferred i o inside = sym (and_assoc i o d) ∙ (ap (λ b. b && d) inside ∙ all)
+  pub turn_deferred : (i o : Bool) → i && o ≡ r → i && (o && d) ≡ w
+  turn_deferred i o inside = sym (and_assoc i o d) ∙ (ap (λ b. b && d) inside ∙ all)
 
 -- one entry of an object beside what the other object has at its key
-pub entry-turn : (fs es all : List Entry) (k : String Global) (v : JsonValue) (w : Bool) (o : Option JsonValue) → has_entries (members_view fs) all ≡ w → all ≡ (k, v) ∷ es → o ≡ lookup (string_eq k) fs
+pub entry_turn : (fs es all : List Entry) (k : String Global) (v : JsonValue) (w : Bool) (o : Option JsonValue) → has_entries (members_view fs) all ≡ w → all ≡ (k, v) ∷ es → o ≡ lookup (string_eq k) fs
     → option_eq tree_eq (Some (view v)) (option_map view o) && has_entries (members_view fs) es ≡ w
-entry-turn fs es all k v w o is step got =
-    let found : find (text k) (members_view fs) ≡ option_map view o = find-members_of k (seen_entries fs) ∙ (view_lookup k fs ∙ ap (option_map view) (sym got)) in
+entry_turn fs es all k v w o is step got =
+    let found : find (text k) (members_view fs) ≡ option_map view o = find_members_of k (seen_entries fs) ∙ (view_lookup k fs ∙ ap (option_map view) (sym got)) in
     ap (λ p. option_eq tree_eq (Some (view v)) p && has_entries (members_view fs) es) (sym found) ∙ (sym (ap (has_entries (members_view fs)) step) ∙ is)

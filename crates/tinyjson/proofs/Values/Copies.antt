@@ -22,15 +22,15 @@ pub stack_weight_last : (ps : List Partial) (p : Partial) → stack_weight (ps +
 stack_weight_last [] p = refl
 stack_weight_last (q ∷ ps) p = omega (arith, stack_weight_last ps p)
 
-pub weight-Object : (m : JsonMap) → weight (is.Object m) ≡ 2 + entries_weight m.entries
-weight-Object m = search (rules, the_lemmas)
+pub weight_Object : (m : JsonMap) → weight (is.Object m) ≡ 2 + entries_weight m.entries
+weight_Object m = search (rules, the_lemmas)
 
 -- entries whose keys are distinct, put after others
-pub put_all-append : (done more : List Entry) → IsDistinct string_eq (keys_of (done ++ more)) → put_all more (members_view done) ≡ members_view (done ++ more)
-put_all-append done [] h = ap members_view (sym (append-nil done))
-put_all-append done (e ∷ more) h =
-    ap (put_all more) (sym (members_view_last done e more h)) ∙ (put_all-append (done ++ e ∷ []) more (subst (λ es. IsDistinct string_eq (keys_of es)) (sym (append_assoc done (e ∷ []) more)) h)
+pub put_all_append : (done more : List Entry) → IsDistinct string_eq (keys_of (done ++ more)) → put_all more (members_view done) ≡ members_view (done ++ more)
+put_all_append done [] h = ap members_view (sym (append-nil done))
+put_all_append done (e ∷ more) h =
+    ap (put_all more) (sym (members_view_last done e more h)) ∙ (put_all_append (done ++ e ∷ []) more (subst (λ es. IsDistinct string_eq (keys_of es)) (sym (append_assoc done (e ∷ []) more)) h)
     ∙ ap members_view (append_assoc done (e ∷ []) more))
 
-pub put_all-none : (es : List Entry) → IsDistinct string_eq (keys_of es) → put_all es no_members ≡ members_view es
-put_all-none es h = put_all-append [] es h
+pub put_all_none : (es : List Entry) → IsDistinct string_eq (keys_of es) → put_all es no_members ≡ members_view es
+put_all_none es h = put_all_append [] es h

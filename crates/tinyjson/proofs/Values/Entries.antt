@@ -27,20 +27,20 @@ text_eq s t =
     let bytes = bytes_eq-Decides (string_bytes s) (string_bytes t) in
     same_from_decides _ _ both (λ e. ap chars (bytes.0 e), λ e. bytes.1 (same_text s t e))
 
-pub members_of-sorted : (es : List Seen) → IsSorted (members_of es)
-members_of-sorted [] = tt
-members_of-sorted (e ∷ es) = sorted-put (text e.0) e.1 (members_of es) (members_of-sorted es)
+pub members_of_sorted : (es : List Seen) → IsSorted (members_of es)
+members_of_sorted [] = tt
+members_of_sorted (e ∷ es) = sorted-put (text e.0) e.1 (members_of es) (members_of_sorted es)
 
 -- what is found among the members is what a look-up finds
-pub find-members_of : (k : String Global) (es : List Seen) → find (text k) (members_of es) ≡ lookup (string_eq k) es
-find-members_of k [] = refl
-find-members_of k (e ∷ es) =
-    find-put (text k) (text e.0) e.1 (members_of es) ∙ λ i. cond (text_eq k e.0 i) (Some e.1) (find-members_of k es i)
+pub find_members_of : (k : String Global) (es : List Seen) → find (text k) (members_of es) ≡ lookup (string_eq k) es
+find_members_of k [] = refl
+find_members_of k (e ∷ es) =
+    find-put (text k) (text e.0) e.1 (members_of es) ∙ λ i. cond (text_eq k e.0 i) (Some e.1) (find_members_of k es i)
 
 -- a key is found only if it is a text
-pub None-or_text : (q : List ℕ) (es : List Seen) → (find q (members_of es) ≡ None) ⊎ ((k : String Global) × (q ≡ text k))
-None-or_text q [] = inl refl
-None-or_text q (e ∷ es) = by (bytes_eq q (text e.0)) refl (None-or_text q es)
+pub None_or_text : (q : List ℕ) (es : List Seen) → (find q (members_of es) ≡ None) ⊎ ((k : String Global) × (q ≡ text k))
+None_or_text q [] = inl refl
+None_or_text q (e ∷ es) = by (bytes_eq q (text e.0)) refl (None_or_text q es)
   where
     by : (b : Bool) → bytes_eq q (text e.0) ≡ b → (find q (members_of es) ≡ None) ⊎ ((k : String Global) × (q ≡ text k))
         → (find q (put (text e.0) e.1 (members_of es)) ≡ None) ⊎ ((k : String Global) × (q ≡ text k))
@@ -53,10 +53,10 @@ SameLookups es fs = (k : String Global) → lookup (string_eq k) es ≡ lookup (
 
 -- entries with the same look-ups are the same members, in whatever order they stand
 pub members_from_lookups : (es fs : List Seen) → SameLookups es fs → members_of es ≡ members_of fs
-members_from_lookups es fs h = members_from_find (members_of es) (members_of fs) (members_of-sorted es) (members_of-sorted fs) (λ q. by q (None-or_text q es) (None-or_text q fs))
+members_from_lookups es fs h = members_from_find (members_of es) (members_of fs) (members_of_sorted es) (members_of_sorted fs) (λ q. by q (None_or_text q es) (None_or_text q fs))
   where
     at : (q : List ℕ) → (k : String Global) × (q ≡ text k) → find q (members_of es) ≡ find q (members_of fs)
-    at q t = subst (λ x. find x (members_of es) ≡ find x (members_of fs)) (sym t.1) (find-members_of t.0 es ∙ (h t.0 ∙ sym (find-members_of t.0 fs)))
+    at q t = subst (λ x. find x (members_of es) ≡ find x (members_of fs)) (sym t.1) (find_members_of t.0 es ∙ (h t.0 ∙ sym (find_members_of t.0 fs)))
 
     by : (q : List ℕ) → (find q (members_of es) ≡ None) ⊎ ((k : String Global) × (q ≡ text k)) → (find q (members_of fs) ≡ None) ⊎ ((k : String Global) × (q ≡ text k)) → find q (members_of es) ≡ find q (members_of fs)
     by q (inr t) r = at q t
@@ -64,4 +64,4 @@ members_from_lookups es fs h = members_from_find (members_of es) (members_of fs)
     by q (inl n) (inl m) = n ∙ sym m
 
 pub lookups_from_members : (es fs : List Seen) → members_of es ≡ members_of fs → SameLookups es fs
-lookups_from_members es fs h k = sym (find-members_of k es) ∙ (ap (find (text k)) h ∙ find-members_of k fs)
+lookups_from_members es fs h k = sym (find_members_of k es) ∙ (ap (find (text k)) h ∙ find_members_of k fs)

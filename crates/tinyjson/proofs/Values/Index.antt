@@ -11,7 +11,7 @@ use Rattle.std.specs.Str.{IsUtf8, chars}
 use Rattle.std.specs.String.{string_eq}
 use Rattle.std.specs.Vec.{with_item}
 use Rattle.tinyjson.proofs.Values.Equality.{view-Array, view-Object}
-use Rattle.tinyjson.proofs.Values.Views.{find-members_view, members_view-writes}
+use Rattle.tinyjson.proofs.Values.Views.{find-members_view, members_view_writes}
 use Rattle.tinyjson.specs.Access.{JsonMap, array_part, object_part}
 use Rattle.tinyjson.specs.Access.Laws.{put_of_array, put_of_object}
 use Rattle.tinyjson.specs.Index.{item_at, member_at, nth, tree_at, tree_at_key, with_nth, with_tree_at, with_tree_at_key, IsItemAt, IsMemberAt}
@@ -56,7 +56,7 @@ pub tree-with_member : (v : JsonValue) (m n : JsonMap) (bs : List ℕ) (w : Json
     → ((q : String Global) → lookup (string_eq q) n.entries ≡ cond (bytes_eq bs (string_bytes q)) (Some w) (lookup (string_eq q) m.entries))
     → view (made.Object n) ≡ with_tree_at_key (view v) (chars bs) (view w)
 tree-with_member v m n bs w u held there updates =
-    view-Object n ∙ (ap object (members_view-writes m.entries n.entries bs w u there updates) ∙ ap (λ t. with_tree_at_key t (chars bs) (view w)) (sym (ap view (sym (put_of_object v m held)) ∙ view-Object m)))
+    view-Object n ∙ (ap object (members_view_writes m.entries n.entries bs w u there updates) ∙ ap (λ t. with_tree_at_key t (chars bs) (view w)) (sym (ap view (sym (put_of_object v m held)) ∙ view-Object m)))
 
 pub is_member_at : (v : JsonValue) (bs : List ℕ) (x : JsonValue) → IsUtf8 bs → member_at v bs ≡ Some x → IsMemberAt v bs x
 is_member_at v bs x u h = by (object_part v) refl h

@@ -5,8 +5,8 @@ use Rattle.std.specs.Ordering.{ordering_reverse}
 use Rattle.tinyjson.specs.Tree.{Tree, Members, no_members, member, key_cmp, put}
 use Rattle.tinyjson.proofs.Values.Members.{key_total, flip}
 
-key-greater : (k l : List ℕ) → key_cmp k l ≡ Less → key_cmp l k ≡ Greater
-key-greater k l h = key_total.antisymm l k ∙ ap ordering_reverse h
+key_greater : (k l : List ℕ) → key_cmp k l ≡ Less → key_cmp l k ≡ Greater
+key_greater k l h = key_total.antisymm l k ∙ ap ordering_reverse h
 
 abbrev pub join : Members → Members → Members
 join no_members ns = ns
@@ -26,5 +26,5 @@ join-join no_members ns os = refl
 join-join (member k t ms) ns os = ap (member k t) (join-join ms ns os)
 
 pub above-join : (k l : List ℕ) (t : Tree) (ms : Members) → key_cmp k l ≡ Less → IsAbove k ms → IsAbove l (join ms (member k t no_members))
-above-join k l t no_members e h = (key-greater k l e, tt)
-above-join k l t (member m u ms) e h = (key-greater m l (key_total.trans m k l (flip k m h.0) e), above-join k l t ms e h.1)
+above-join k l t no_members e h = (key_greater k l e, tt)
+above-join k l t (member m u ms) e h = (key_greater m l (key_total.trans m k l (flip k m h.0) e), above-join k l t ms e h.1)

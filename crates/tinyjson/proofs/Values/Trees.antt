@@ -8,7 +8,7 @@ use Rattle.std.specs.Str.{all_scalars}
 use Rattle.tinyjson.specs.Tree.{Tree, items_of, Members, no_members, member, key_cmp, put}
 use Rattle.tinyjson.specs.Soundness.{IsTree, IsTreeAt, AreItemsAt, AreMembersAt}
 use Rattle.tinyjson.specs.View.{text, view, view_step, members_view, seen_entries}
-use Rattle.tinyjson.proofs.Values.Entries.{members_of-sorted}
+use Rattle.tinyjson.proofs.Values.Entries.{members_of_sorted}
 use Rattle.tinyjson.specs.declared.value.JsonValue.{JsonValue, roll-JsonValue, map-JsonValue, fold-roll-JsonValue, ind-JsonValue}
 use Rattle.tinyjson.specs.declared.value.JsonValue.TheOpen.{JsonValue-F}
 
@@ -49,7 +49,7 @@ layer_sound (JsonValue-F.Boolean b) = tt
 layer_sound (JsonValue-F.String s) = text_scalars s
 layer_sound JsonValue-F.Null = tt
 layer_sound (JsonValue-F.Array v) = items_sound v.items
-layer_sound (JsonValue-F.Object m) = (members_sound m.entries, members_of-sorted (seen_entries (map (λ (e : String Global × Sound). (e.0, e.1.0)) m.entries)))
+layer_sound (JsonValue-F.Object m) = (members_sound m.entries, members_of_sorted (seen_entries (map (λ (e : String Global × Sound). (e.0, e.1.0)) m.entries)))
 
 -- the tree of every value is sound
 pub view-IsTree : (v : JsonValue) → IsTree (view v)

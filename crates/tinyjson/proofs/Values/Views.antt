@@ -8,7 +8,7 @@ use Rattle.std.specs.List.{AllByRecursion, IsDistinct}
 use Rattle.std.specs.Map.{lookup, keys_of}
 use Rattle.std.specs.Prelude.{IsSome}
 use Rattle.std.specs.String.{string_eq, string_eq_equiv}
-use Rattle.tinyjson.proofs.Values.Entries.{members_from_lookups, members_of-sorted, find-members_of, None-or_text}
+use Rattle.tinyjson.proofs.Values.Entries.{members_from_lookups, members_of_sorted, find_members_of, None_or_text}
 use Rattle.tinyjson.proofs.Values.Members.{cond_swap, find-put, find-remove, sorted-put, sorted-remove, members_from_find}
 use Rattle.tinyjson.specs.Soundness.{IsSorted}
 use Rattle.tinyjson.specs.Tree.{Tree, Members, put, find, remove}
@@ -28,9 +28,9 @@ view_lookup k [] = refl
 view_lookup k (e ∷ es) = seen_value (string_eq k e.0) e.1 _ _ (view_lookup k es)
 
 -- a map with v at k, and at other keys what it had
-pub members_view-updates : (old new : List Entry) (k : String Global) (v : JsonValue) → ((q : String Global) → lookup (string_eq q) new ≡ cond (string_eq k q) (Some v) (lookup (string_eq q) old))
+pub members_view_updates : (old new : List Entry) (k : String Global) (v : JsonValue) → ((q : String Global) → lookup (string_eq q) new ≡ cond (string_eq k q) (Some v) (lookup (string_eq q) old))
     → members_view new ≡ put (text k) (view v) (members_view old)
-members_view-updates old new k v h =
+members_view_updates old new k v h =
     members_from_lookups (seen_entries new) ((k, view v) ∷ seen_entries old) (λ q.
     let side : cond (string_eq k q) (Some v) (lookup (string_eq q) old) ≡ cond (string_eq q k) (Some v) (lookup (string_eq q) old)
     = ap (λ b. cond b (Some v) (lookup (string_eq q) old)) (string_eq_equiv.symm k q) in
@@ -56,7 +56,7 @@ lookup_last q (d ∷ done) e more h =
 -- one more entry, whose key is new
 pub members_view_last : (done : List Entry) (e : Entry) (more : List Entry) → IsDistinct string_eq (keys_of (done ++ e ∷ more)) → members_view (done ++ e ∷ []) ≡ put (text e.0) (view e.1) (members_view done)
 members_view_last done e more h =
-    members_view-updates done (done ++ e ∷ []) e.0 e.1 (λ q.
+    members_view_updates done (done ++ e ∷ []) e.0 e.1 (λ q.
     lookup_last q done e more h ∙ ap (λ b. cond b (Some e.1) (lookup (string_eq q) done)) (string_eq_equiv.symm q e.0))
 
 -- a borrowed key that is text is found where the map finds it
@@ -72,26 +72,26 @@ find-members_view bs u (e ∷ es) =
     find-put (chars bs) (text e.0) (view e.1) (members_view es)
     ∙ (ap (λ b. cond b (Some (view e.1)) (find (chars bs) (members_view es))) (key_eq bs e.0 u) ∙ seen_value (bytes_eq bs (string_bytes e.0)) e.1 _ _ (find-members_view bs u es))
 
-option_map-cond : (b : Bool) (o p : Option JsonValue) → option_map view (cond b o p) ≡ cond b (option_map view o) (option_map view p)
-option_map-cond true o p = refl
-option_map-cond false o p = refl
+option_map_cond : (b : Bool) (o p : Option JsonValue) → option_map view (cond b o p) ≡ cond b (option_map view o) (option_map view p)
+option_map_cond true o p = refl
+option_map_cond false o p = refl
 
 -- a map with `o` at the key whose bytes are bs, and at other keys what it had, is any sorted members with the same finds
 module _ (old new : List Entry) (bs : List ℕ) (o : Option JsonValue) (ms : Members) (u : IsUtf8 bs)
     (updates : (q : String Global) → lookup (string_eq q) new ≡ cond (bytes_eq bs (string_bytes q)) o (lookup (string_eq q) old))
     (finds : (q : List ℕ) → find q ms ≡ cond (bytes_eq q (chars bs)) (option_map view o) (find q (members_view old)))
     (absent : find (chars bs) (members_view old) ≡ None → o ≡ None) where
-  key_eq-flip : (k : String Global) → bytes_eq bs (string_bytes k) ≡ bytes_eq (text k) (chars bs)
-  key_eq-flip k =
+  key_eq_flip : (k : String Global) → bytes_eq bs (string_bytes k) ≡ bytes_eq (text k) (chars bs)
+  key_eq_flip k =
       sym (key_eq bs k u) ∙ same_from_decides _ _ (bytes_eq-Decides (chars bs) (text k)) (λ e. sym ((bytes_eq-Decides (text k) (chars bs)).0 e), λ e. (bytes_eq-Decides (text k) (chars bs)).1 (sym e))
 
   changed_key : (k : String Global) → find (text k) (members_view new) ≡ find (text k) ms
   changed_key k =
-      find-members_of k (seen_entries new)
+      find_members_of k (seen_entries new)
       ∙ (view_lookup k new
       ∙ (ap (λ r. option_map view r) (updates k)
-      ∙ (option_map-cond (bytes_eq bs (string_bytes k)) o (lookup (string_eq k) old)
-      ∙ ((λ i. cond (key_eq-flip k i) (option_map view o) (sym (find-members_of k (seen_entries old) ∙ view_lookup k old) i)) ∙ sym (finds (text k))))))
+      ∙ (option_map_cond (bytes_eq bs (string_bytes k)) o (lookup (string_eq k) old)
+      ∙ ((λ i. cond (key_eq_flip k i) (option_map view o) (sym (find_members_of k (seen_entries old) ∙ view_lookup k old) i)) ∙ sym (finds (text k))))))
 
   not_there : (q : List ℕ) → find q (members_view old) ≡ None → find q ms ≡ None
   not_there q n = finds q ∙ by (bytes_eq q (chars bs)) refl
@@ -100,9 +100,9 @@ module _ (old new : List Entry) (bs : List ℕ) (o : Option JsonValue) (ms : Mem
       by true e = ap (λ r. option_map view r) (absent (ap (λ k. find k (members_view old)) (sym ((bytes_eq-Decides q (chars bs)).0 e)) ∙ n))
       by false e = n
 
-  members_view-changes : IsSorted ms → members_view new ≡ ms
-  members_view-changes sorted =
-      members_from_find (members_view new) ms (members_of-sorted (seen_entries new)) sorted (λ q. by q (None-or_text q (seen_entries old)) (None-or_text q (seen_entries new)))
+  members_view_changes : IsSorted ms → members_view new ≡ ms
+  members_view_changes sorted =
+      members_from_find (members_view new) ms (members_of_sorted (seen_entries new)) sorted (λ q. by q (None_or_text q (seen_entries old)) (None_or_text q (seen_entries new)))
     where
       at : (q : List ℕ) → (k : String Global) × (q ≡ text k) → find q (members_view new) ≡ find q ms
       at q t = subst (λ x. find x (members_view new) ≡ find x ms) (sym t.1) (changed_key t.0)
@@ -117,24 +117,24 @@ none_there (Some v) s h = cc
 none_there None s h = cc
 
 -- a map with v at a key that it has, and at other keys what it had
-pub members_view-writes : (old new : List Entry) (bs : List ℕ) (v : JsonValue) → IsUtf8 bs → IsSome (lookup (λ k. bytes_eq bs (string_bytes k)) old)
+pub members_view_writes : (old new : List Entry) (bs : List ℕ) (v : JsonValue) → IsUtf8 bs → IsSome (lookup (λ k. bytes_eq bs (string_bytes k)) old)
     → ((q : String Global) → lookup (string_eq q) new ≡ cond (bytes_eq bs (string_bytes q)) (Some v) (lookup (string_eq q) old))
     → members_view new ≡ put (chars bs) (view v) (members_view old)
-members_view-writes old new bs v u there updates =
-    members_view-changes old new bs (Some v) (put (chars bs) (view v) (members_view old)) u updates
+members_view_writes old new bs v u there updates =
+    members_view_changes old new bs (Some v) (put (chars bs) (view v) (members_view old)) u updates
     (λ q. find-put q (chars bs) (view v) (members_view old))
     (λ n. absurd (none_there _ there (sym (find-members_view bs u old) ∙ n)))
-    (sorted-put (chars bs) (view v) (members_view old) (members_of-sorted (seen_entries old)))
+    (sorted-put (chars bs) (view v) (members_view old) (members_of_sorted (seen_entries old)))
 
 -- a map without the entry at a key, and at other keys what it had
-pub members_view-removes : (old new : List Entry) (bs : List ℕ) → IsUtf8 bs
+pub members_view_removes : (old new : List Entry) (bs : List ℕ) → IsUtf8 bs
     → ((q : String Global) → lookup (string_eq q) new ≡ cond (bytes_eq bs (string_bytes q)) None (lookup (string_eq q) old))
     → members_view new ≡ remove (chars bs) (members_view old)
-members_view-removes old new bs u updates =
-    members_view-changes old new bs None (remove (chars bs) (members_view old)) u updates
+members_view_removes old new bs u updates =
+    members_view_changes old new bs None (remove (chars bs) (members_view old)) u updates
     (λ q. find-remove q (chars bs) (members_view old))
     (λ n. refl)
-    (sorted-remove (chars bs) (members_view old) (members_of-sorted (seen_entries old)))
+    (sorted-remove (chars bs) (members_view old) (members_of_sorted (seen_entries old)))
 
 pub view_of_ref : (r : Option (Bor JsonValue)) → option_map (λ x. view x.now) r ≡ option_map view (option_map (λ x. x.now) r)
 view_of_ref None = refl

@@ -10,40 +10,40 @@ use Rattle.tinyjson.specs.Tree as tree
 use Rattle.tinyjson.specs.declared.value.JsonKind.TheVariants as kind
 use Rattle.tinyjson.specs.declared.parser.error.JsonParseErrorKind.TheVariants as error
 use Rattle.tinyjson_number.specs.Numeral.{power_fits, value}
-use Rattle.tinyjson_laws.proofs.Examples.Reading.{text-of, refusal-of, whole, array, object, members}
+use Rattle.tinyjson_laws.proofs.Examples.Reading.{text_of, refusal_of, whole, array, object, members}
 
 empty_containers : IsText None (codes "[{},[],{\"k\":[null]}]")
     (array (object [] ∷ array [] ∷ object ((codes "k", array (tree.null ∷ [])) ∷ []) ∷ []))
 unfolding run step end value power_fits
-empty_containers = text-of refl refl
+empty_containers = text_of refl refl
 
 members_in_order : IsText None (codes "{\"b\":[1],\"a\":null}")
     (object ((codes "a", tree.null) ∷ (codes "b", array (whole (codes "1") ∷ [])) ∷ []))
 unfolding run step end value power_fits encode
-members_in_order = text-of refl refl
+members_in_order = text_of refl refl
 
 -- U+FF5E is written with fewer bytes than U+1F600, and stands first
 keys_by_their_bytes : IsText None (codes "{\"\\ud83d\\ude00\":1,\"\\uff5e\":2}")
     (object ((0xff5e ∷ [], whole (codes "2")) ∷ (0x1f600 ∷ [], whole (codes "1")) ∷ []))
 unfolding run step end value power_fits encode
-keys_by_their_bytes = text-of refl refl
+keys_by_their_bytes = text_of refl refl
 
 equal_keys : IsText None (codes "{\"a\":1,\"a\":2}") (object ((codes "a", whole (codes "2")) ∷ []))
 unfolding run step end value power_fits encode
-equal_keys = text-of refl refl
+equal_keys = text_of refl refl
 
 equal_keys_behind_their_escapes : IsText None (codes "{\"\\u0061\":1,\"a\":2}") (object ((codes "a", whole (codes "2")) ∷ []))
 unfolding run step end value power_fits encode
-equal_keys_behind_their_escapes = text-of refl refl
+equal_keys_behind_their_escapes = text_of refl refl
 
 three_equal_keys : IsText None (codes "{\"a\":1,\"b\":3,\"a\":[],\"a\":null}")
     (object ((codes "a", tree.null) ∷ (codes "b", whole (codes "3")) ∷ []))
 unfolding run step end value power_fits encode
-three_equal_keys = text-of refl refl
+three_equal_keys = text_of refl refl
 
 empty_key : IsText None (codes "{\"\":1}") (object (([], whole (codes "1")) ∷ []))
 unfolding run step end value power_fits
-empty_key = text-of refl refl
+empty_key = text_of refl refl
 
 abbrev key : Syntax
 key = string (plain 97 ∷ [])
@@ -58,92 +58,92 @@ last_of_equal_keys = refl
 
 no_text : IsRefusal None error.UnexpectedEof [] []
 unfolding run step end value power_fits
-no_text = refusal-of refl refl
+no_text = refusal_of refl refl
 
 no_bracket_at_the_end : IsRefusal None error.UnexpectedEof (codes "[1, 2, 3") []
 unfolding run step end value power_fits
-no_bracket_at_the_end = refusal-of refl refl
+no_bracket_at_the_end = refusal_of refl refl
 
 no_item : IsRefusal None error.UnexpectedEof (codes "[") []
 unfolding run step end value power_fits
-no_item = refusal-of refl refl
+no_item = refusal_of refl refl
 
 comma_before_a_bracket : IsRefusal None (error.InvalidCharacter 93) (codes "[1,") (codes "]")
 unfolding run step end value power_fits
-comma_before_a_bracket = refusal-of refl refl
+comma_before_a_bracket = refusal_of refl refl
 
 comma_before_a_brace : IsRefusal None (error.InvalidCharacter 125) (codes "{\"a\":1,") (codes "}")
 unfolding run step end value power_fits
-comma_before_a_brace = refusal-of refl refl
+comma_before_a_brace = refusal_of refl refl
 
 comma_in_place_of_a_key : IsRefusal None (error.InvalidCharacter 44) (codes "{") (codes ",")
 unfolding run step end value power_fits
-comma_in_place_of_a_key = refusal-of refl refl
+comma_in_place_of_a_key = refusal_of refl refl
 
 letter_on_a_new_line : IsRefusal None (error.InvalidCharacter 120) (codes "[\n") (codes "x")
 unfolding run step end value power_fits
-letter_on_a_new_line = refusal-of refl refl
+letter_on_a_new_line = refusal_of refl refl
 
 two_values : IsRefusal None (error.ExpectedEof 50) (codes "1 2") []
 unfolding run step end value power_fits
-two_values = refusal-of refl refl
+two_values = refusal_of refl refl
 
 two_items_without_a_comma : IsRefusal None (error.ExpectedCommaOrBracket 50) (codes "[1 2") (codes "]")
 unfolding run step end value power_fits
-two_items_without_a_comma = refusal-of refl refl
+two_items_without_a_comma = refusal_of refl refl
 
 letter_behind_an_item : IsRefusal None (error.ExpectedCommaOrBracket 120) (codes "[1 x") []
 unfolding run step end value power_fits
-letter_behind_an_item = refusal-of refl refl
+letter_behind_an_item = refusal_of refl refl
 
 brace_for_a_bracket : IsRefusal None (error.ExpectedCommaOrBracket 125) (codes "[1}") []
 unfolding run step end value power_fits
-brace_for_a_bracket = refusal-of refl refl
+brace_for_a_bracket = refusal_of refl refl
 
 bracket_for_a_brace : IsRefusal None (error.ExpectedCommaOrBrace 93) (codes "{\"a\":1]") []
 unfolding run step end value power_fits
-bracket_for_a_brace = refusal-of refl refl
+bracket_for_a_brace = refusal_of refl refl
 
 semicolon_behind_a_member : IsRefusal None (error.ExpectedCommaOrBrace 59) (codes "{\"a\":1;") []
 unfolding run step end value power_fits
-semicolon_behind_a_member = refusal-of refl refl
+semicolon_behind_a_member = refusal_of refl refl
 
 no_colon : IsRefusal None (error.ExpectedColon 49) (codes "{\"a\" 1") (codes "}")
 unfolding run step end value power_fits
-no_colon = refusal-of refl refl
+no_colon = refusal_of refl refl
 
 comma_for_a_colon : IsRefusal None (error.ExpectedColon 44) (codes "{\"a\",") []
 unfolding run step end value power_fits
-comma_for_a_colon = refusal-of refl refl
+comma_for_a_colon = refusal_of refl refl
 
 number_as_a_key : IsRefusal None (error.KeyNotString kind.Number) (codes "{1") (codes ":2}")
 unfolding run step end value power_fits
-number_as_a_key = refusal-of refl refl
+number_as_a_key = refusal_of refl refl
 
 number_as_a_key_before_a_space : IsRefusal None (error.KeyNotString kind.Number) (codes "{1") (codes " ")
 unfolding run step end value power_fits
-number_as_a_key_before_a_space = refusal-of refl refl
+number_as_a_key_before_a_space = refusal_of refl refl
 
 null_as_a_key : IsRefusal None (error.KeyNotString kind.Null) (codes "{null") (codes ":1}")
 unfolding run step end value power_fits
-null_as_a_key = refusal-of refl refl
+null_as_a_key = refusal_of refl refl
 
 boolean_as_a_key : IsRefusal None (error.KeyNotString kind.Boolean) (codes "{true") (codes ":1}")
 unfolding run step end value power_fits
-boolean_as_a_key = refusal-of refl refl
+boolean_as_a_key = refusal_of refl refl
 
 array_as_a_key : IsRefusal None (error.KeyNotString kind.Array) (codes "{[1]") (codes ":2}")
 unfolding run step end value power_fits
-array_as_a_key = refusal-of refl refl
+array_as_a_key = refusal_of refl refl
 
 object_as_a_key : IsRefusal None (error.KeyNotString kind.Object) (codes "{{}") (codes ":1}")
 unfolding run step end value power_fits
-object_as_a_key = refusal-of refl refl
+object_as_a_key = refusal_of refl refl
 
 second_key : IsRefusal None (error.KeyNotString kind.Number) (codes "{\"a\":1,2") (codes ":3}")
 unfolding run step end value power_fits
-second_key = refusal-of refl refl
+second_key = refusal_of refl refl
 
 fault_within_a_key : IsRefusal None error.LeadingZero (codes "{[01") []
 unfolding run step end value power_fits
-fault_within_a_key = refusal-of refl refl
+fault_within_a_key = refusal_of refl refl

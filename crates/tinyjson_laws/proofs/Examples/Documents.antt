@@ -10,7 +10,7 @@ use Rattle.tinyjson.specs.Tree as tree
 use Rattle.tinyjson.specs.Tree.{Tree}
 use Rattle.tinyjson_number.specs.Numeral.{power_fits, value}
 use Rattle.tinyjson_number.specs.Text.{natural_text, decimal_text}
-use Rattle.tinyjson_laws.proofs.Examples.Reading.{text-of, lines, decimal, whole, array, object}
+use Rattle.tinyjson_laws.proofs.Examples.Reading.{text_of, lines, decimal, whole, array, object}
 
 -- ---- the examples of RFC 8259, section 13
 
@@ -60,7 +60,7 @@ image =
 
 image_read : IsText None image_text image
 unfolding run step end value power_fits encode
-image_read = text-of refl refl
+image_read = text_of refl refl
 
 image_written : unfold decimal_text natural_text in
     compact image ≡ codes "{\"Image\":{\"Animated\":false,\"Height\":600,\"IDs\":[116,943,234,38793],\"Thumbnail\":{\"Height\":12"
@@ -128,7 +128,7 @@ places = array (san_francisco ∷ sunnyvale ∷ [])
 
 places_read : IsText None places_text places
 unfolding run step end value power_fits encode
-places_read = text-of refl refl
+places_read = text_of refl refl
 
 places_written : unfold decimal_text natural_text in
     compact places ≡ codes "[{\"Address\":\"\",\"City\":\"SAN FRANCISCO\",\"Country\":\"US\",\"Latitude\":37.7668,\"Longitude\":-122.3"
@@ -141,15 +141,15 @@ places_written = refl
 -- three texts that are a value alone
 only_a_string : IsText None (codes "\"Hello world!\"") (tree.string (codes "Hello world!"))
 unfolding run step end value power_fits
-only_a_string = text-of refl refl
+only_a_string = text_of refl refl
 
 only_a_number : IsText None (codes "42") (whole (codes "42"))
 unfolding run step end value power_fits
-only_a_number = text-of refl refl
+only_a_number = text_of refl refl
 
 only_a_literal : IsText None (codes "true") (tree.boolean true)
 unfolding run step end value power_fits
-only_a_literal = text-of refl refl
+only_a_literal = text_of refl refl
 
 -- ---- a document with each kind of value
 
@@ -183,7 +183,7 @@ document_text =
 
 document_read : IsText None document_text document
 unfolding run step end value power_fits encode
-document_read = text-of refl refl
+document_read = text_of refl refl
 
 -- with equal keys, in another order, and with other spellings
 abbrev free_text : List ℕ
@@ -199,7 +199,7 @@ free_text =
 
 spelled_freely : IsText None free_text document
 unfolding run step end value power_fits encode
-spelled_freely = text-of refl refl
+spelled_freely = text_of refl refl
 
 document_compact : unfold decimal_text natural_text in
     compact document ≡ codes "{\"arr\":[1,null,\"test\"],\"bool\":true,\"nested\":{\"blah\":false,\"blahblah\":3"

@@ -9,7 +9,7 @@ use Rattle.tinyjson.specs.Refusal.{begins_value, IsRefusal}
 use Rattle.tinyjson.specs.declared.parser.error.JsonParseErrorKind.TheVariants.{InvalidCharacter}
 use Rattle.tinyjson_number.specs.Numeral.{power_fits, value}
 use Rattle.tinyjson_laws.specs.Prefixes.{IsShortest}
-use Rattle.tinyjson_laws.proofs.Examples.Reading.{refusal-of}
+use Rattle.tinyjson_laws.proofs.Examples.Reading.{refusal_of}
 use Rattle.tinyjson_laws.proofs.PrefixLaws.{empty_is_viable, viable_is_faultless, faultless_is_loosely_viable, unviable_at_first}
 
 -- a list whose first character is at fault has shortest prefixes of all three kinds
@@ -23,20 +23,20 @@ unviable_from_the_first c xs n b =
       record {
         within = omega arith;
         fails = λ a. unviable (faultless_is_loosely_viable None (c ∷ []) (viable_is_faultless None (c ∷ []) a));
-        least = λ k l d. d (first-only k l (IsViable (IsAccepted None)) viable.0);
+        least = λ k l d. d (first_only k l (IsViable (IsAccepted None)) viable.0);
       },
       record {
         within = omega arith;
         fails = λ m. unviable (faultless_is_loosely_viable None (c ∷ []) m);
-        least = λ k l d. d (first-only k l (IsFaultless None) (viable_is_faultless None [] viable.0));
+        least = λ k l d. d (first_only k l (IsFaultless None) (viable_is_faultless None [] viable.0));
       },
-      record { within = omega arith; fails = unviable; least = λ k l d. d (first-only k l (IsLooselyViable None) viable.1) },
+      record { within = omega arith; fails = unviable; least = λ k l d. d (first_only k l (IsLooselyViable None) viable.1) },
     )
   where
-    first-only : (k : ℕ) → k < 1 → (P : List ℕ → Type 0) → P [] → P (take k (c ∷ xs))
-    first-only zero l P h = h
-    first-only (suc k) l P h = absurd (omega arith)
+    first_only : (k : ℕ) → k < 1 → (P : List ℕ → Type 0) → P [] → P (take k (c ∷ xs))
+    first_only zero l P h = h
+    first_only (suc k) l P h = absurd (omega arith)
 
 refused_at_once : IsRefusal None (InvalidCharacter 120) [] (codes "x")
 unfolding run step end value power_fits
-refused_at_once = refusal-of refl refl
+refused_at_once = refusal_of refl refl

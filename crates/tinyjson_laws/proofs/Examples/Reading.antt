@@ -11,15 +11,15 @@ use Rattle.tinyjson.proofs.Callers.{all-scalars}
 use Rattle.tinyjson.proofs.Grammar.Theorem.{accepts, refuses}
 
 -- the characters are a text of the tree
-pub text-of : {limit : Option ℕ} {xs : List ℕ} {t : Tree} →
+pub text_of : {limit : Option ℕ} {xs : List ℕ} {t : Tree} →
     all_scalars xs ≡ true → run (strictly limit) [] awaited xs ≡ accepted t → IsText limit xs t
-text-of {limit} {xs} {t} scalars e = (accepts limit xs (all-scalars xs scalars) t).0 e
+text_of {limit} {xs} {t} scalars e = (accepts limit xs (all-scalars xs scalars) t).0 e
 
 -- they are refused so
-pub refusal-of : {limit : Option ℕ} {k : JsonParseErrorKind} {used rest : List ℕ} →
+pub refusal_of : {limit : Option ℕ} {k : JsonParseErrorKind} {used rest : List ℕ} →
     all_scalars (used ++ rest) ≡ true → run (strictly limit) [] awaited (used ++ rest) ≡ refused k rest →
     IsRefusal limit k used rest
-refusal-of {limit} {k} {used} {rest} scalars e = refuses limit used rest (all-scalars (used ++ rest) scalars) k e
+refusal_of {limit} {k} {used} {rest} scalars e = refuses limit used rest (all-scalars (used ++ rest) scalars) k e
 
 -- each line with a line feed after it
 abbrev pub lines : List (List ℕ) → List ℕ

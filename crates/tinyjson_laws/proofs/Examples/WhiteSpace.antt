@@ -9,7 +9,7 @@ use Rattle.tinyjson.specs.Tree.{null}
 use Rattle.tinyjson.specs.declared.parser.error.JsonParseErrorKind.TheVariants as error
 use Rattle.tinyjson_number.specs.Numeral.{power_fits, value}
 use Rattle.tinyjson_laws.specs.WhiteSpace.{without_white}
-use Rattle.tinyjson_laws.proofs.Examples.Reading.{text-of, refusal-of, whole, zero, array}
+use Rattle.tinyjson_laws.proofs.Examples.Reading.{text_of, refusal_of, whole, zero, array}
 
 four_white : (is_white 0x20 ≡ true) × (is_white 0x09 ≡ true) × (is_white 0x0a ≡ true) × (is_white 0x0d ≡ true)
 four_white = (refl, refl, refl, refl)
@@ -25,55 +25,55 @@ no_other_white = (refl, refl, refl, refl, refl)
 
 spaces : IsText None (codes " [ 1 , 2 ] ") (array (whole (codes "1") ∷ whole (codes "2") ∷ []))
 unfolding run step end value power_fits
-spaces = text-of refl refl
+spaces = text_of refl refl
 
 tabs : IsText None (codes "\t[\t1\t,\t2\t]\t") (array (whole (codes "1") ∷ whole (codes "2") ∷ []))
 unfolding run step end value power_fits
-tabs = text-of refl refl
+tabs = text_of refl refl
 
 line_feeds : IsText None (codes "\n[\n1\n,\n2\n]\n") (array (whole (codes "1") ∷ whole (codes "2") ∷ []))
 unfolding run step end value power_fits
-line_feeds = text-of refl refl
+line_feeds = text_of refl refl
 
 carriage_returns : IsText None (codes "\r[\r1\r,\r2\r]\r") (array (whole (codes "1") ∷ whole (codes "2") ∷ []))
 unfolding run step end value power_fits
-carriage_returns = text-of refl refl
+carriage_returns = text_of refl refl
 
 all_around : IsText None (codes " \t\n\r0\r\n\t ") zero
 unfolding run step end value power_fits
-all_around = text-of refl refl
+all_around = text_of refl refl
 
 none_needed : IsText None (codes "null") null
 unfolding run step end value power_fits
-none_needed = text-of refl refl
+none_needed = text_of refl refl
 
 vertical_tab : IsRefusal None (error.InvalidCharacter 0x0b) [] (0x0b ∷ codes "0")
 unfolding run step end value power_fits
-vertical_tab = refusal-of refl refl
+vertical_tab = refusal_of refl refl
 
 form_feed : IsRefusal None (error.InvalidCharacter 0x0c) [] (0x0c ∷ codes "0")
 unfolding run step end value power_fits
-form_feed = refusal-of refl refl
+form_feed = refusal_of refl refl
 
 next_line : IsRefusal None (error.InvalidCharacter 0x85) [] (0x85 ∷ codes "0")
 unfolding run step end value power_fits
-next_line = refusal-of refl refl
+next_line = refusal_of refl refl
 
 no_break_space : IsRefusal None (error.InvalidCharacter 0xa0) [] (0xa0 ∷ codes "0")
 unfolding run step end value power_fits
-no_break_space = refusal-of refl refl
+no_break_space = refusal_of refl refl
 
 byte_order_mark : IsRefusal None (error.InvalidCharacter 0xfeff) [] (0xfeff ∷ codes "1")
 unfolding run step end value power_fits
-byte_order_mark = refusal-of refl refl
+byte_order_mark = refusal_of refl refl
 
 form_feed_in_an_array : IsRefusal None (error.ExpectedCommaOrBracket 0x0c) (codes "[1" ++ 0x0c ∷ []) (codes "]")
 unfolding run step end value power_fits
-form_feed_in_an_array = refusal-of refl refl
+form_feed_in_an_array = refusal_of refl refl
 
 no_break_space_at_the_end : IsRefusal None (error.ExpectedEof 0xa0) (codes "0" ++ 0xa0 ∷ []) []
 unfolding run step end value power_fits
-no_break_space_at_the_end = refusal-of refl refl
+no_break_space_at_the_end = refusal_of refl refl
 
 spaces_in_strings_stay : without_white (codes " [ 1 ,\n\t\" a\\\" \" ]") ≡ codes "[1,\" a\\\" \"]"
 spaces_in_strings_stay = refl

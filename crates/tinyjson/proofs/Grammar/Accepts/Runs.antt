@@ -12,83 +12,83 @@ use Rattle.tinyjson.specs.declared.parser.error.JsonParseErrorKind.{JsonParseErr
 use Rattle.tinyjson.specs.declared.parser.error.JsonParseErrorKind.TheVariants.{KeyNotString}
 use Rattle.tinyjson_number.specs.Numeral.{is_exponent_letter}
 
-pub and-false : (b c : Bool) → (b ≡ true → c ≡ false) → (b && c) ≡ false
-and-false true c h = h refl
-and-false false c h = refl
+pub and_false : (b c : Bool) → (b ≡ true → c ≡ false) → (b && c) ≡ false
+and_false true c h = h refl
+and_false false c h = refl
 
 -- what comes of the rest once a value is whole
 abbrev pub settle : Rules → Next → List ℕ → Outcome
 settle r (next fs p) rest = run r fs p rest
 settle r (stop k b) rest = refused k rest
 
-pub settle-cond : (r : Rules) (b : Bool) (k : JsonParseErrorKind) (fs : List Frame) (p : Phase) (c : ℕ) (xs : List ℕ) →
+pub settle_cond : (r : Rules) (b : Bool) (k : JsonParseErrorKind) (fs : List Frame) (p : Phase) (c : ℕ) (xs : List ℕ) →
     go_on (λ gs q. run r gs q xs) (cond b (stop k true) (next fs p)) (c ∷ xs) xs ≡ settle r (cond b (stop k true) (next fs p)) xs
-settle-cond r true k fs p c xs = refl
-settle-cond r false k fs p c xs = refl
+settle_cond r true k fs p c xs = refl
+settle_cond r false k fs p c xs = refl
 
 -- a character that makes a value whole
-pub settle-complete : (r : Rules) (b : Bool) (fs : List Frame) (t : Tree) (c : ℕ) (xs : List ℕ) →
+pub settle_complete : (r : Rules) (b : Bool) (fs : List Frame) (t : Tree) (c : ℕ) (xs : List ℕ) →
     go_on (λ gs q. run r gs q xs) (complete b fs t true) (c ∷ xs) xs ≡ settle r (complete b fs t true) xs
-settle-complete r b [] t c xs = refl
-settle-complete r b (in_array ts ∷ fs) t c xs = refl
-settle-complete r b (at_key ms ∷ fs) t c xs = settle-cond r (b && not (is_string t)) (KeyNotString (kind_of t)) (at_key ms ∷ fs) (colon (key_of t)) c xs
-settle-complete r b (at_value ms k ∷ fs) t c xs = refl
+settle_complete r b [] t c xs = refl
+settle_complete r b (in_array ts ∷ fs) t c xs = refl
+settle_complete r b (at_key ms ∷ fs) t c xs = settle_cond r (b && not (is_string t)) (KeyNotString (kind_of t)) (at_key ms ∷ fs) (colon (key_of t)) c xs
+settle_complete r b (at_value ms k ∷ fs) t c xs = refl
 
 -- a character after a whole numeral
-ends-cond : (r : Rules) (b : Bool) (k : JsonParseErrorKind) (fs : List Frame) (l : List ℕ) (c : ℕ) (xs : List ℕ) →
+ends_cond : (r : Rules) (b : Bool) (k : JsonParseErrorKind) (fs : List Frame) (l : List ℕ) (c : ℕ) (xs : List ℕ) →
     go_on (λ gs q. run r gs q xs) (then_step r (cond b (stop k false) (next fs (colon l))) c) (c ∷ xs) xs ≡ settle r (cond b (stop k true) (next fs (colon l))) (c ∷ xs)
 unfolding run step
-ends-cond r true k fs l c xs = refl
-ends-cond r false k fs l c xs = refl
+ends_cond r true k fs l c xs = refl
+ends_cond r false k fs l c xs = refl
 
-pub ends-complete : (r : Rules) (b : Bool) (fs : List Frame) (t : Tree) (c : ℕ) (xs : List ℕ) →
+pub ends_complete : (r : Rules) (b : Bool) (fs : List Frame) (t : Tree) (c : ℕ) (xs : List ℕ) →
     go_on (λ gs q. run r gs q xs) (then_step r (complete b fs t false) c) (c ∷ xs) xs ≡ settle r (complete b fs t true) (c ∷ xs)
 unfolding run step
-ends-complete r b [] t c xs = refl
-ends-complete r b (in_array ts ∷ fs) t c xs = refl
-ends-complete r b (at_key ms ∷ fs) t c xs = ends-cond r (b && not (is_string t)) (KeyNotString (kind_of t)) (at_key ms ∷ fs) (key_of t) c xs
-ends-complete r b (at_value ms k ∷ fs) t c xs = refl
+ends_complete r b [] t c xs = refl
+ends_complete r b (in_array ts ∷ fs) t c xs = refl
+ends_complete r b (at_key ms ∷ fs) t c xs = ends_cond r (b && not (is_string t)) (KeyNotString (kind_of t)) (at_key ms ∷ fs) (key_of t) c xs
+ends_complete r b (at_value ms k ∷ fs) t c xs = refl
 
 -- the end after a whole numeral
-end-cond : (r : Rules) (b : Bool) (k : JsonParseErrorKind) (fs : List Frame) (l : List ℕ) →
+end_cond : (r : Rules) (b : Bool) (k : JsonParseErrorKind) (fs : List Frame) (l : List ℕ) →
     end_plain (cond b (stop k false) (next fs (colon l))) ≡ settle r (cond b (stop k true) (next fs (colon l))) []
 unfolding run end
-end-cond r true k fs l = refl
-end-cond r false k fs l = refl
+end_cond r true k fs l = refl
+end_cond r false k fs l = refl
 
-pub end-complete : (r : Rules) (b : Bool) (fs : List Frame) (t : Tree) → end_plain (complete b fs t false) ≡ settle r (complete b fs t true) []
+pub end_complete : (r : Rules) (b : Bool) (fs : List Frame) (t : Tree) → end_plain (complete b fs t false) ≡ settle r (complete b fs t true) []
 unfolding run end
-end-complete r b [] t = refl
-end-complete r b (in_array ts ∷ fs) t = refl
-end-complete r b (at_key ms ∷ fs) t = end-cond r (b && not (is_string t)) (KeyNotString (kind_of t)) (at_key ms ∷ fs) (key_of t)
-end-complete r b (at_value ms k ∷ fs) t = refl
+end_complete r b [] t = refl
+end_complete r b (in_array ts ∷ fs) t = refl
+end_complete r b (at_key ms ∷ fs) t = end_cond r (b && not (is_string t)) (KeyNotString (kind_of t)) (at_key ms ∷ fs) (key_of t)
+end_complete r b (at_value ms k ∷ fs) t = refl
 
 -- ---- white space
 
-pub run-white : (r : Rules) (fs : List Frame) (w xs : List ℕ) → AreWhite w → run r fs awaited (w ++ xs) ≡ run r fs awaited xs
+pub run_white : (r : Rules) (fs : List Frame) (w xs : List ℕ) → AreWhite w → run r fs awaited (w ++ xs) ≡ run r fs awaited xs
 unfolding run step
-run-white r fs [] xs h = refl
-run-white r fs (c ∷ cs) xs h = rw h.0 (run-white r fs cs xs h.1)
+run_white r fs [] xs h = refl
+run_white r fs (c ∷ cs) xs h = rw h.0 (run_white r fs cs xs h.1)
 
-pub first-white : (r : Rules) (fs : List Frame) (w xs : List ℕ) → AreWhite w → run r fs first (w ++ xs) ≡ run r fs first xs
+pub first_white : (r : Rules) (fs : List Frame) (w xs : List ℕ) → AreWhite w → run r fs first (w ++ xs) ≡ run r fs first xs
 unfolding run step
-first-white r fs [] xs h = refl
-first-white r fs (c ∷ cs) xs h = rw h.0 (first-white r fs cs xs h.1)
+first_white r fs [] xs h = refl
+first_white r fs (c ∷ cs) xs h = rw h.0 (first_white r fs cs xs h.1)
 
-pub after-white : (r : Rules) (fs : List Frame) (w xs : List ℕ) → AreWhite w → run r fs after (w ++ xs) ≡ run r fs after xs
+pub after_white : (r : Rules) (fs : List Frame) (w xs : List ℕ) → AreWhite w → run r fs after (w ++ xs) ≡ run r fs after xs
 unfolding run step
-after-white r fs [] xs h = refl
-after-white r fs (c ∷ cs) xs h = rw h.0 (after-white r fs cs xs h.1)
+after_white r fs [] xs h = refl
+after_white r fs (c ∷ cs) xs h = rw h.0 (after_white r fs cs xs h.1)
 
-pub colon-white : (r : Rules) (fs : List Frame) (k w xs : List ℕ) → AreWhite w → run r fs (colon k) (w ++ xs) ≡ run r fs (colon k) xs
+pub colon_white : (r : Rules) (fs : List Frame) (k w xs : List ℕ) → AreWhite w → run r fs (colon k) (w ++ xs) ≡ run r fs (colon k) xs
 unfolding run step
-colon-white r fs k [] xs h = refl
-colon-white r fs k (c ∷ cs) xs h = rw h.0 (colon-white r fs k cs xs h.1)
+colon_white r fs k [] xs h = refl
+colon_white r fs k (c ∷ cs) xs h = rw h.0 (colon_white r fs k cs xs h.1)
 
-pub finished-white : (r : Rules) (fs : List Frame) (t : Tree) (w : List ℕ) → AreWhite w → run r fs (finished t) w ≡ Outcome.accepted t
+pub finished_white : (r : Rules) (fs : List Frame) (t : Tree) (w : List ℕ) → AreWhite w → run r fs (finished t) w ≡ Outcome.accepted t
 unfolding run step end
-finished-white r fs t [] h = refl
-finished-white r fs t (c ∷ cs) h = rw h.0 (finished-white r fs t cs h.1)
+finished_white r fs t [] h = refl
+finished_white r fs t (c ∷ cs) h = rw h.0 (finished_white r fs t cs h.1)
 
 -- ---- what may stand after a numeral
 
@@ -100,26 +100,26 @@ abbrev pub Delimited : List ℕ → Type 0
 Delimited [] = ⊤
 Delimited (c ∷ cs) = continues c ≡ false
 
-pub white-ends : (c : ℕ) → IsTrue (is_white c) → continues c ≡ false
-white-ends c h = grind arith
+pub white_ends : (c : ℕ) → IsTrue (is_white c) → continues c ≡ false
+white_ends c h = grind arith
 
-pub delimited-white : (w xs : List ℕ) → AreWhite w → Delimited xs → Delimited (w ++ xs)
-delimited-white [] xs h d = d
-delimited-white (c ∷ cs) xs h d = white-ends c h.0
+pub delimited_white : (w xs : List ℕ) → AreWhite w → Delimited xs → Delimited (w ++ xs)
+delimited_white [] xs h d = d
+delimited_white (c ∷ cs) xs h d = white_ends c h.0
 
-pub continues-digit : (c : ℕ) → continues c ≡ false → is_ascii_digit c ≡ false
-continues-digit c h = (or_parts (is_ascii_digit c) ((c == 46) || is_exponent_letter c) h).0
+pub continues_digit : (c : ℕ) → continues c ≡ false → is_ascii_digit c ≡ false
+continues_digit c h = (or_parts (is_ascii_digit c) ((c == 46) || is_exponent_letter c) h).0
 
-pub continues-point : (c : ℕ) → continues c ≡ false → (c == 46) ≡ false
-continues-point c h = (or_parts (c == 46) (is_exponent_letter c) (or_parts (is_ascii_digit c) ((c == 46) || is_exponent_letter c) h).1).0
+pub continues_point : (c : ℕ) → continues c ≡ false → (c == 46) ≡ false
+continues_point c h = (or_parts (c == 46) (is_exponent_letter c) (or_parts (is_ascii_digit c) ((c == 46) || is_exponent_letter c) h).1).0
 
-pub continues-letter : (c : ℕ) → continues c ≡ false → is_exponent_letter c ≡ false
-continues-letter c h = (or_parts (c == 46) (is_exponent_letter c) (or_parts (is_ascii_digit c) ((c == 46) || is_exponent_letter c) h).1).1
+pub continues_letter : (c : ℕ) → continues c ≡ false → is_exponent_letter c ≡ false
+continues_letter c h = (or_parts (c == 46) (is_exponent_letter c) (or_parts (is_ascii_digit c) ((c == 46) || is_exponent_letter c) h).1).1
 
 -- ---- a digit is none of the other characters
 
-pub digit-is_not : (c n : ℕ) → is_ascii_digit c ≡ true → (nat_lt n 48 || nat_lt 57 n) ≡ true → (c == n) ≡ false
-digit-is_not c n h k = grind arith
+pub digit_is_not : (c n : ℕ) → is_ascii_digit c ≡ true → (nat_lt n 48 || nat_lt 57 n) ≡ true → (c == n) ≡ false
+digit_is_not c n h k = grind arith
 
 pub digit-not_white : (c : ℕ) → is_ascii_digit c ≡ true → is_white c ≡ false
 digit-not_white c h = grind arith

@@ -7,113 +7,113 @@ use Rattle.tinyjson.specs.Tree.{Tree}
 use Rattle.tinyjson.specs.Characters.{short_escape, is_high, is_low, pair_of, is_surrogate, decode, paired}
 use Rattle.tinyjson.specs.Syntax.{Piece, pieces_text, ArePieces, piece_codes, unit_value}
 use Rattle.tinyjson.specs.private.Machine.{Rules, Frame, awaited, complete, step, run, go_on, quoted, plain, step_escape}
-use Rattle.tinyjson.proofs.Grammar.Accepts.Runs.{settle, settle-complete, and-false}
+use Rattle.tinyjson.proofs.Grammar.Accepts.Runs.{settle, settle_complete, and_false}
 
 -- ---- piece_codes
 
-cond-append : (b : Bool) (x y z : List ℕ) → (cond b x y) ++ z ≡ cond b (x ++ z) (y ++ z)
-cond-append true x y z = refl
-cond-append false x y z = refl
+cond_append : (b : Bool) (x y z : List ℕ) → (cond b x y) ++ z ≡ cond b (x ++ z) (y ++ z)
+cond_append true x y z = refl
+cond_append false x y z = refl
 
 pub decode-cons : (c : ℕ) (vs : List ℕ) → is_surrogate c ≡ false → decode (c ∷ vs) ≡ c ∷ decode vs
 decode-cons c [] h = refl
 decode-cons c (v ∷ vs) h = rw (or_parts (is_high c) (is_low c) h).0
 
-pub decode-append : (us : List ℕ) (c : ℕ) (vs : List ℕ) → is_surrogate c ≡ false → decode (us ++ c ∷ vs) ≡ decode us ++ c ∷ decode vs
-decode-append [] c vs h = decode-cons c vs h
-decode-append (u ∷ []) c vs h = rw (and_right (is_high u) (is_low c) (or_parts (is_high c) (is_low c) h).1) (ap (λ z. u ∷ z) (decode-cons c vs h))
-decode-append (u ∷ v ∷ us) c vs h =
-    ap (λ x. cond (is_high u && is_low v) (pair_of u v ∷ x) (u ∷ decode (v ∷ us ++ c ∷ vs))) (decode-append us c vs h)
-    ∙ ap (λ y. cond (is_high u && is_low v) (pair_of u v ∷ (decode us ++ c ∷ decode vs)) (u ∷ y)) (decode-append (v ∷ us) c vs h)
-    ∙ sym (cond-append (is_high u && is_low v) (pair_of u v ∷ decode us) (u ∷ decode (v ∷ us)) (c ∷ decode vs))
+pub decode_append : (us : List ℕ) (c : ℕ) (vs : List ℕ) → is_surrogate c ≡ false → decode (us ++ c ∷ vs) ≡ decode us ++ c ∷ decode vs
+decode_append [] c vs h = decode-cons c vs h
+decode_append (u ∷ []) c vs h = rw (and_right (is_high u) (is_low c) (or_parts (is_high c) (is_low c) h).1) (ap (λ z. u ∷ z) (decode-cons c vs h))
+decode_append (u ∷ v ∷ us) c vs h =
+    ap (λ x. cond (is_high u && is_low v) (pair_of u v ∷ x) (u ∷ decode (v ∷ us ++ c ∷ vs))) (decode_append us c vs h)
+    ∙ ap (λ y. cond (is_high u && is_low v) (pair_of u v ∷ (decode us ++ c ∷ decode vs)) (u ∷ y)) (decode_append (v ∷ us) c vs h)
+    ∙ sym (cond_append (is_high u && is_low v) (pair_of u v ∷ decode us) (u ∷ decode (v ∷ us)) (c ∷ decode vs))
 
 pub paired-cons : (c : ℕ) (vs : List ℕ) → is_surrogate c ≡ false → paired (c ∷ vs) ≡ paired vs
 paired-cons c [] h = rw h
 paired-cons c (v ∷ vs) h = rw (or_parts (is_high c) (is_low c) h).0 (rw (or_parts (is_high c) (is_low c) h).1)
 
-cond-pair : (b x n y z : Bool) → cond b (x && z) (n && (y && z)) ≡ (cond b x (n && y) && z)
-cond-pair true x n y z = refl
-cond-pair false x true y z = refl
-cond-pair false x false y z = refl
+cond_pair : (b x n y z : Bool) → cond b (x && z) (n && (y && z)) ≡ (cond b x (n && y) && z)
+cond_pair true x n y z = refl
+cond_pair false x true y z = refl
+cond_pair false x false y z = refl
 
-pub paired-append : (us : List ℕ) (c : ℕ) (vs : List ℕ) → is_surrogate c ≡ false → paired (us ++ c ∷ vs) ≡ (paired us && paired vs)
-paired-append [] c vs h = paired-cons c vs h
-paired-append (u ∷ []) c vs h = rw (and_right (is_high u) (is_low c) (or_parts (is_high c) (is_low c) h).1) (rw (paired-cons c vs h))
-paired-append (u ∷ v ∷ us) c vs h =
-    ap (λ x. cond (is_high u && is_low v) x (not (is_surrogate u) && paired (v ∷ us ++ c ∷ vs))) (paired-append us c vs h)
-    ∙ ap (λ y. cond (is_high u && is_low v) (paired us && paired vs) (not (is_surrogate u) && y)) (paired-append (v ∷ us) c vs h)
-    ∙ cond-pair (is_high u && is_low v) (paired us) (not (is_surrogate u)) (paired (v ∷ us)) (paired vs)
+pub paired_append : (us : List ℕ) (c : ℕ) (vs : List ℕ) → is_surrogate c ≡ false → paired (us ++ c ∷ vs) ≡ (paired us && paired vs)
+paired_append [] c vs h = paired-cons c vs h
+paired_append (u ∷ []) c vs h = rw (and_right (is_high u) (is_low c) (or_parts (is_high c) (is_low c) h).1) (rw (paired-cons c vs h))
+paired_append (u ∷ v ∷ us) c vs h =
+    ap (λ x. cond (is_high u && is_low v) x (not (is_surrogate u) && paired (v ∷ us ++ c ∷ vs))) (paired_append us c vs h)
+    ∙ ap (λ y. cond (is_high u && is_low v) (paired us && paired vs) (not (is_surrogate u) && y)) (paired_append (v ∷ us) c vs h)
+    ∙ cond_pair (is_high u && is_low v) (paired us) (not (is_surrogate u)) (paired (v ∷ us)) (paired vs)
 
 pub scalar-no_surrogate : (c : ℕ) → IsScalar c → is_surrogate c ≡ false
 scalar-no_surrogate c h = grind arith
 
-escape-cond : (b : Bool) (x d : ℕ) (o : Option ℕ) → (b ≡ true → is_surrogate x ≡ false) → (o ≡ Some d → is_surrogate d ≡ false) → cond b (Some x) o ≡ Some d → is_surrogate d ≡ false
-escape-cond true x d o hx ho h = let e : x ≡ d = cc in rw (← e) (hx refl)
-escape-cond false x d o hx ho h = ho h
+escape_cond : (b : Bool) (x d : ℕ) (o : Option ℕ) → (b ≡ true → is_surrogate x ≡ false) → (o ≡ Some d → is_surrogate d ≡ false) → cond b (Some x) o ≡ Some d → is_surrogate d ≡ false
+escape_cond true x d o hx ho h = let e : x ≡ d = cc in rw (← e) (hx refl)
+escape_cond false x d o hx ho h = ho h
 
-itself-no_surrogate : (c : ℕ) → ((c == 34) || ((c == 92) || (c == 47))) ≡ true → is_surrogate c ≡ false
-itself-no_surrogate c h = grind arith
+itself_no_surrogate : (c : ℕ) → ((c == 34) || ((c == 92) || (c == 47))) ≡ true → is_surrogate c ≡ false
+itself_no_surrogate c h = grind arith
 
-pub escape-no_surrogate : (c d : ℕ) → short_escape c ≡ Some d → is_surrogate d ≡ false
-escape-no_surrogate c d =
-    escape-cond ((c == 34) || ((c == 92) || (c == 47))) c d _ (itself-no_surrogate c) (escape-cond (c == 98) 8 d _ (λ e. refl) (escape-cond (c == 102) 12 d _ (λ e. refl)
-    (escape-cond (c == 110) 10 d _ (λ e. refl) (escape-cond (c == 114) 13 d _ (λ e. refl) (escape-cond (c == 116) 9 d None (λ e. refl) (λ e. absurd cc))))))
+pub escape_no_surrogate : (c d : ℕ) → short_escape c ≡ Some d → is_surrogate d ≡ false
+escape_no_surrogate c d =
+    escape_cond ((c == 34) || ((c == 92) || (c == 47))) c d _ (itself_no_surrogate c) (escape_cond (c == 98) 8 d _ (λ e. refl) (escape_cond (c == 102) 12 d _ (λ e. refl)
+    (escape_cond (c == 110) 10 d _ (λ e. refl) (escape_cond (c == 114) 13 d _ (λ e. refl) (escape_cond (c == 116) 9 d None (λ e. refl) (λ e. absurd cc))))))
 
-pub some-unwrap : (o : Option ℕ) → IsSome o → o ≡ Some (unwrap_or o 0)
-some-unwrap None h = absurd (false≢true h)
-some-unwrap (Some d) h = refl
+pub some_unwrap : (o : Option ℕ) → IsSome o → o ≡ Some (unwrap_or o 0)
+some_unwrap None h = absurd (false≢true h)
+some_unwrap (Some d) h = refl
 
 -- ---- what is gathered
 
-append-codes : (cs us : List ℕ) (c : ℕ) (vs : List ℕ) → is_surrogate c ≡ false → ((cs ++ decode us) ++ c ∷ []) ++ decode vs ≡ cs ++ decode (us ++ c ∷ vs)
-append-codes cs us c vs h = rw (decode-append us c vs h) (simp append_assoc)
+append_codes : (cs us : List ℕ) (c : ℕ) (vs : List ℕ) → is_surrogate c ≡ false → ((cs ++ decode us) ++ c ∷ []) ++ decode vs ≡ cs ++ decode (us ++ c ∷ vs)
+append_codes cs us c vs h = rw (decode_append us c vs h) (simp append_assoc)
 
-front-fine : (s a b : Bool) → (s && not (a && b)) ≡ false → (s && not a) ≡ false
-front-fine true true b h = refl
-front-fine true false b h = h
-front-fine false a b h = refl
+front_fine : (s a b : Bool) → (s && not (a && b)) ≡ false → (s && not a) ≡ false
+front_fine true true b h = refl
+front_fine true false b h = h
+front_fine false a b h = refl
 
-rest-fine : (s a b : Bool) → (s && not (a && b)) ≡ false → (s && not b) ≡ false
-rest-fine true true b h = h
-rest-fine true false b h = absurd (true≢false h)
-rest-fine false a b h = refl
+rest_fine : (s a b : Bool) → (s && not (a && b)) ≡ false → (s && not b) ≡ false
+rest_fine true true b h = h
+rest_fine true false b h = absurd (true≢false h)
+rest_fine false a b h = refl
 
-fine-parts : (s : Bool) (us : List ℕ) (c : ℕ) (vs : List ℕ) → is_surrogate c ≡ false → (s && not (paired (us ++ c ∷ vs))) ≡ false → ((s && not (paired us)) ≡ false) × ((s && not (paired vs)) ≡ false)
-fine-parts s us c vs h f = let g : (s && not (paired us && paired vs)) ≡ false = rw (← paired-append us c vs h) f in
-    (front-fine s (paired us) (paired vs) g, rest-fine s (paired us) (paired vs) g)
+fine_parts : (s : Bool) (us : List ℕ) (c : ℕ) (vs : List ℕ) → is_surrogate c ≡ false → (s && not (paired (us ++ c ∷ vs))) ≡ false → ((s && not (paired us)) ≡ false) × ((s && not (paired vs)) ≡ false)
+fine_parts s us c vs h f = let g : (s && not (paired us && paired vs)) ≡ false = rw (← paired_append us c vs h) f in
+    (front_fine s (paired us) (paired vs) g, rest_fine s (paired us) (paired vs) g)
 
-pub plain-no_quote : (c : ℕ) → IsTrue (not ((c == 34) || (c == 92))) → (c == 34) ≡ false
-plain-no_quote c h = grind arith
+pub plain_no_quote : (c : ℕ) → IsTrue (not ((c == 34) || (c == 92))) → (c == 34) ≡ false
+plain_no_quote c h = grind arith
 
-pub plain-no_backslash : (c : ℕ) → IsTrue (not ((c == 34) || (c == 92))) → (c == 92) ≡ false
-plain-no_backslash c h = grind arith
+pub plain_no_backslash : (c : ℕ) → IsTrue (not ((c == 34) || (c == 92))) → (c == 92) ≡ false
+plain_no_backslash c h = grind arith
 
-pub plain-no_control : (c : ℕ) → 32 ≤ c → nat_lt c 32 ≡ false
-plain-no_control c h = grind arith
+pub plain_no_control : (c : ℕ) → 32 ≤ c → nat_lt c 32 ≡ false
+plain_no_control c h = grind arith
 
-run-pieces : (r : Rules) (fs : List Frame) (cs us : List ℕ) (ps : List Piece) (xs : List ℕ) → ArePieces ps → (r.strict && not (paired (us ++ piece_codes ps))) ≡ false →
+run_pieces : (r : Rules) (fs : List Frame) (cs us : List ℕ) (ps : List Piece) (xs : List ℕ) → ArePieces ps → (r.strict && not (paired (us ++ piece_codes ps))) ≡ false →
     run r fs (quoted plain cs us) (pieces_text ps ++ 34 ∷ xs) ≡ settle r (complete r.strict fs (Tree.string (cs ++ decode (us ++ piece_codes ps))) true) xs
 unfolding run step
-run-pieces r fs cs us [] xs h f =
+run_pieces r fs cs us [] xs h f =
     let f' : (r.strict && not (paired us)) ≡ false = rw (append-nil us) at f in
-    rw (f', append-nil us) (settle-complete r r.strict fs (Tree.string (cs ++ decode us)) 34 xs)
-run-pieces r fs cs us (Piece.plain c ∷ ps) xs h f =
+    rw (f', append-nil us) (settle_complete r r.strict fs (Tree.string (cs ++ decode us)) 34 xs)
+run_pieces r fs cs us (Piece.plain c ∷ ps) xs h f =
     let n = scalar-no_surrogate c h.0.0 in
-    let g = fine-parts r.strict us c (piece_codes ps) n f in
-    rw (plain-no_quote c h.0.2, plain-no_backslash c h.0.2, plain-no_control c h.0.1, g.0, ← append-codes cs us c (piece_codes ps) n) (run-pieces r fs ((cs ++ decode us) ++ c ∷ []) [] ps xs h.1 g.1)
-run-pieces r fs cs us (Piece.escape c ∷ ps) xs h f =
-    let e = some-unwrap (short_escape c) h.0 in
+    let g = fine_parts r.strict us c (piece_codes ps) n f in
+    rw (plain_no_quote c h.0.2, plain_no_backslash c h.0.2, plain_no_control c h.0.1, g.0, ← append_codes cs us c (piece_codes ps) n) (run_pieces r fs ((cs ++ decode us) ++ c ∷ []) [] ps xs h.1 g.1)
+run_pieces r fs cs us (Piece.escape c ∷ ps) xs h f =
+    let e = some_unwrap (short_escape c) h.0 in
     let d = unwrap_or (short_escape c) 0 in
-    let n = escape-no_surrogate c d e in
-    let g = fine-parts r.strict us d (piece_codes ps) n f in
+    let n = escape_no_surrogate c d e in
+    let g = fine_parts r.strict us d (piece_codes ps) n f in
     ap (λ o. go_on (λ gs q. run r gs q (pieces_text ps ++ 34 ∷ xs)) (step_escape r fs cs us c o) (c ∷ (pieces_text ps ++ 34 ∷ xs)) (pieces_text ps ++ 34 ∷ xs)) e
-    ∙ rw (g.0, ← append-codes cs us d (piece_codes ps) n) (run-pieces r fs ((cs ++ decode us) ++ d ∷ []) [] ps xs h.1 g.1)
-run-pieces r fs cs us (Piece.unit a b c d ∷ ps) xs h f =
+    ∙ rw (g.0, ← append_codes cs us d (piece_codes ps) n) (run_pieces r fs ((cs ++ decode us) ++ d ∷ []) [] ps xs h.1 g.1)
+run_pieces r fs cs us (Piece.unit a b c d ∷ ps) xs h f =
     let u = unit_value a b c d in
     let f' : (r.strict && not (paired ((us ++ u ∷ []) ++ piece_codes ps))) ≡ false = rw (append_assoc us (u ∷ []) (piece_codes ps)) f in
-    rw (h.0.0, h.0.1, h.0.2, h.0.3) (rw (append_assoc us (u ∷ []) (piece_codes ps)) at (run-pieces r fs cs (us ++ u ∷ []) ps xs h.1 f'))
+    rw (h.0.0, h.0.1, h.0.2, h.0.3) (rw (append_assoc us (u ∷ []) (piece_codes ps)) at (run_pieces r fs cs (us ++ u ∷ []) ps xs h.1 f'))
 
-pub run-string : (r : Rules) (fs : List Frame) (ps : List Piece) (xs : List ℕ) → ArePieces ps → (r.strict ≡ true → IsTrue (paired (piece_codes ps))) →
+pub run_string : (r : Rules) (fs : List Frame) (ps : List Piece) (xs : List ℕ) → ArePieces ps → (r.strict ≡ true → IsTrue (paired (piece_codes ps))) →
     run r fs awaited ((34 ∷ (pieces_text ps ++ 34 ∷ [])) ++ xs) ≡ settle r (complete r.strict fs (Tree.string (decode (piece_codes ps))) true) xs
 unfolding run step
-run-string r fs ps xs h f = rw (append_assoc (pieces_text ps) (34 ∷ []) xs) (run-pieces r fs [] [] ps xs h (and-false r.strict _ (λ e. ap not (f e))))
+run_string r fs ps xs h f = rw (append_assoc (pieces_text ps) (34 ∷ []) xs) (run_pieces r fs [] [] ps xs h (and_false r.strict _ (λ e. ap not (f e))))

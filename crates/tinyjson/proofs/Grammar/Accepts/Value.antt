@@ -8,9 +8,9 @@ use Rattle.tinyjson.specs.Characters.{is_white}
 use Rattle.tinyjson_number.specs.Numeral.{minus_text, AreDigits}
 use Rattle.tinyjson.specs.Syntax.{Syntax, Elements, Pairs, null, boolean, number, string, empty_array, array, empty_object, object, last_element, element, last_pair, pair, text, elements_text, pairs_text, AreWhite, IsSpelled, AreElements, ArePairs, IsStrict, ElementsAreStrict, PairsAreStrict, is_key, tree_of, elements_trees, pairs_members, depth, elements_depth, pairs_depth, IsWithin}
 use Rattle.tinyjson.specs.private.Machine.{Rules, Frame, in_array, at_key, at_value, awaited, first, complete, step, run, fits}
-use Rattle.tinyjson.proofs.Grammar.Accepts.Runs.{settle, settle-complete, and-false, Delimited, delimited-white, run-white, first-white, after-white, colon-white, digit-is_not, digit-not_white}
-use Rattle.tinyjson.proofs.Grammar.Accepts.Number.{run-numeral}
-use Rattle.tinyjson.proofs.Grammar.Accepts.String.{run-string}
+use Rattle.tinyjson.proofs.Grammar.Accepts.Runs.{settle, settle_complete, and_false, Delimited, delimited_white, run_white, first_white, after_white, colon_white, digit_is_not, digit-not_white}
+use Rattle.tinyjson.proofs.Grammar.Accepts.Number.{run_numeral}
+use Rattle.tinyjson.proofs.Grammar.Accepts.String.{run_string}
 
 -- ---- how a value begins
 
@@ -20,76 +20,76 @@ NoClosing c = (is_white c ≡ false) × ((c == 93) ≡ false) × ((c == 125) ≡
 abbrev pub Begins : List ℕ → Type 0
 Begins xs = (c : ℕ) × (cs : List ℕ) × (xs ≡ c ∷ cs) × NoClosing c
 
-digit-begins : (c : ℕ) → IsTrue (is_ascii_digit c) → NoClosing c
-digit-begins c h = (digit-not_white c h, digit-is_not c 93 h refl, digit-is_not c 125 h refl)
+digit_begins : (c : ℕ) → IsTrue (is_ascii_digit c) → NoClosing c
+digit_begins c h = (digit-not_white c h, digit_is_not c 93 h refl, digit_is_not c 125 h refl)
 
-pub numeral-begins : (g : Bool) (w xs : List ℕ) → 0 < length w → AreDigits w → Begins (minus_text g ++ (w ++ xs))
-numeral-begins g [] xs h d = absurd (omega (arith, h))
-numeral-begins true (c ∷ cs) xs h d = (_, _, refl, (refl, refl, refl))
-numeral-begins false (c ∷ cs) xs h d = (_, _, refl, (digit-begins c d.0))
+pub numeral_begins : (g : Bool) (w xs : List ℕ) → 0 < length w → AreDigits w → Begins (minus_text g ++ (w ++ xs))
+numeral_begins g [] xs h d = absurd (omega (arith, h))
+numeral_begins true (c ∷ cs) xs h d = (_, _, refl, (refl, refl, refl))
+numeral_begins false (c ∷ cs) xs h d = (_, _, refl, (digit_begins c d.0))
 
-pub text-begins : (s : Syntax) → IsSpelled s → Begins (text s)
-text-begins null h = (_, _, refl, (refl, refl, refl))
-text-begins (boolean true) h = (_, _, refl, (refl, refl, refl))
-text-begins (boolean false) h = (_, _, refl, (refl, refl, refl))
-text-begins (number n) h = numeral-begins n.negative n.whole _ h.some_digit h.whole
-text-begins (string ps) h = (_, _, refl, (refl, refl, refl))
-text-begins (empty_array w) h = (_, _, refl, (refl, refl, refl))
-text-begins (array es) h = (_, _, refl, (refl, refl, refl))
-text-begins (empty_object w) h = (_, _, refl, (refl, refl, refl))
-text-begins (object ps) h = (_, _, refl, (refl, refl, refl))
+pub text_begins : (s : Syntax) → IsSpelled s → Begins (text s)
+text_begins null h = (_, _, refl, (refl, refl, refl))
+text_begins (boolean true) h = (_, _, refl, (refl, refl, refl))
+text_begins (boolean false) h = (_, _, refl, (refl, refl, refl))
+text_begins (number n) h = numeral_begins n.negative n.whole _ h.some_digit h.whole
+text_begins (string ps) h = (_, _, refl, (refl, refl, refl))
+text_begins (empty_array w) h = (_, _, refl, (refl, refl, refl))
+text_begins (array es) h = (_, _, refl, (refl, refl, refl))
+text_begins (empty_object w) h = (_, _, refl, (refl, refl, refl))
+text_begins (object ps) h = (_, _, refl, (refl, refl, refl))
 
-pub begins-append : (xs ys : List ℕ) → Begins xs → Begins (xs ++ ys)
-begins-append xs ys b = (b.0, b.1 ++ ys, rw b.2, b.3)
+pub begins_append : (xs ys : List ℕ) → Begins xs → Begins (xs ++ ys)
+begins_append xs ys b = (b.0, b.1 ++ ys, rw b.2, b.3)
 
 -- ---- a container that was just opened
 
-pub first-array : (r : Rules) (ts : List tree.Tree) (fs : List Frame) (w xs : List ℕ) → AreWhite w → Begins xs →
+pub first_array : (r : Rules) (ts : List tree.Tree) (fs : List Frame) (w xs : List ℕ) → AreWhite w → Begins xs →
     run r (in_array ts ∷ fs) first (w ++ xs) ≡ run r (in_array ts ∷ fs) awaited (w ++ xs)
 unfolding run step
-first-array r ts fs [] xs h b = rw b.2 (rw (b.3.0, b.3.1))
-first-array r ts fs (c ∷ cs) xs h b = rw h.0 (first-array r ts fs cs xs h.1 b)
+first_array r ts fs [] xs h b = rw b.2 (rw (b.3.0, b.3.1))
+first_array r ts fs (c ∷ cs) xs h b = rw h.0 (first_array r ts fs cs xs h.1 b)
 
-pub first-object : (r : Rules) (ms : tree.Members) (fs : List Frame) (w xs : List ℕ) → AreWhite w → Begins xs →
+pub first_object : (r : Rules) (ms : tree.Members) (fs : List Frame) (w xs : List ℕ) → AreWhite w → Begins xs →
     run r (at_key ms ∷ fs) first (w ++ xs) ≡ run r (at_key ms ∷ fs) awaited (w ++ xs)
 unfolding run step
-first-object r ms fs [] xs h b = rw b.2 (rw (b.3.0, b.3.2))
-first-object r ms fs (c ∷ cs) xs h b = rw h.0 (first-object r ms fs cs xs h.1 b)
+first_object r ms fs [] xs h b = rw b.2 (rw (b.3.0, b.3.2))
+first_object r ms fs (c ∷ cs) xs h b = rw h.0 (first_object r ms fs cs xs h.1 b)
 
-pub last_element-assoc : (v t w xs : List ℕ) → (v ++ (t ++ w)) ++ xs ≡ v ++ (t ++ (w ++ xs))
-last_element-assoc v t w xs = simp append_assoc
+pub last_element_assoc : (v t w xs : List ℕ) → (v ++ (t ++ w)) ++ xs ≡ v ++ (t ++ (w ++ xs))
+last_element_assoc v t w xs = simp append_assoc
 
-pub element-assoc : (v t w es xs : List ℕ) → (v ++ (t ++ (w ++ 44 ∷ es))) ++ xs ≡ v ++ (t ++ (w ++ 44 ∷ (es ++ xs)))
-element-assoc v t w es xs = simp append_assoc
+pub element_assoc : (v t w es xs : List ℕ) → (v ++ (t ++ (w ++ 44 ∷ es))) ++ xs ≡ v ++ (t ++ (w ++ 44 ∷ (es ++ xs)))
+element_assoc v t w es xs = simp append_assoc
 
-pub last_pair-assoc : (a k b c t d xs : List ℕ) → (a ++ (k ++ (b ++ 58 ∷ (c ++ (t ++ d))))) ++ xs ≡ a ++ (k ++ (b ++ 58 ∷ (c ++ (t ++ (d ++ xs)))))
-last_pair-assoc a k b c t d xs = simp append_assoc
+pub last_pair_assoc : (a k b c t d xs : List ℕ) → (a ++ (k ++ (b ++ 58 ∷ (c ++ (t ++ d))))) ++ xs ≡ a ++ (k ++ (b ++ 58 ∷ (c ++ (t ++ (d ++ xs)))))
+last_pair_assoc a k b c t d xs = simp append_assoc
 
-pub pair-assoc : (a k b c t d ps xs : List ℕ) → (a ++ (k ++ (b ++ 58 ∷ (c ++ (t ++ (d ++ 44 ∷ ps)))))) ++ xs ≡ a ++ (k ++ (b ++ 58 ∷ (c ++ (t ++ (d ++ 44 ∷ (ps ++ xs))))))
-pair-assoc a k b c t d ps xs = simp append_assoc
+pub pair_assoc : (a k b c t d ps xs : List ℕ) → (a ++ (k ++ (b ++ 58 ∷ (c ++ (t ++ (d ++ 44 ∷ ps)))))) ++ xs ≡ a ++ (k ++ (b ++ 58 ∷ (c ++ (t ++ (d ++ 44 ∷ (ps ++ xs))))))
+pair_assoc a k b c t d ps xs = simp append_assoc
 
-first-elements : (r : Rules) (ts : List tree.Tree) (fs : List Frame) (es : Elements) (xs : List ℕ) → AreElements es →
+first_elements : (r : Rules) (ts : List tree.Tree) (fs : List Frame) (es : Elements) (xs : List ℕ) → AreElements es →
     run r (in_array ts ∷ fs) first (elements_text es ++ xs) ≡ run r (in_array ts ∷ fs) awaited (elements_text es ++ xs)
-first-elements r ts fs (last_element v s w) xs h = rw (last_element-assoc v (text s) w xs) (first-array r ts fs v _ h.0 (begins-append (text s) _ (text-begins s h.1)))
-first-elements r ts fs (element v s w es) xs h = rw (element-assoc v (text s) w (elements_text es) xs) (first-array r ts fs v _ h.0 (begins-append (text s) _ (text-begins s h.1)))
+first_elements r ts fs (last_element v s w) xs h = rw (last_element_assoc v (text s) w xs) (first_array r ts fs v _ h.0 (begins_append (text s) _ (text_begins s h.1)))
+first_elements r ts fs (element v s w es) xs h = rw (element_assoc v (text s) w (elements_text es) xs) (first_array r ts fs v _ h.0 (begins_append (text s) _ (text_begins s h.1)))
 
-first-pairs : (r : Rules) (ms : tree.Members) (fs : List Frame) (ps : Pairs) (xs : List ℕ) → ArePairs ps →
+first_pairs : (r : Rules) (ms : tree.Members) (fs : List Frame) (ps : Pairs) (xs : List ℕ) → ArePairs ps →
     run r (at_key ms ∷ fs) first (pairs_text ps ++ xs) ≡ run r (at_key ms ∷ fs) awaited (pairs_text ps ++ xs)
-first-pairs r ms fs (last_pair a k b c s d) xs h = rw (last_pair-assoc a (text k) b c (text s) d xs) (first-object r ms fs a _ h.0 (begins-append (text k) _ (text-begins k h.1)))
-first-pairs r ms fs (pair a k b c s d ps) xs h = rw (pair-assoc a (text k) b c (text s) d (pairs_text ps) xs) (first-object r ms fs a _ h.0 (begins-append (text k) _ (text-begins k h.1)))
+first_pairs r ms fs (last_pair a k b c s d) xs h = rw (last_pair_assoc a (text k) b c (text s) d xs) (first_object r ms fs a _ h.0 (begins_append (text k) _ (text_begins k h.1)))
+first_pairs r ms fs (pair a k b c s d ps) xs h = rw (pair_assoc a (text k) b c (text s) d (pairs_text ps) xs) (first_object r ms fs a _ h.0 (begins_append (text k) _ (text_begins k h.1)))
 
 -- ---- room for the containers
 
 abbrev pub HasRoom : Rules → List Frame → ℕ → Type 0
 HasRoom r fs n = IsWithin r.limit (length fs + n)
 
-pub fits-within : (limit : Option ℕ) (k n : ℕ) → IsWithin limit (k + (1 + n)) → fits limit k ≡ true
-fits-within None k n h = refl
-fits-within (Some l) k n h = lt-ltb k l (omega arith)
+pub fits_within : (limit : Option ℕ) (k n : ℕ) → IsWithin limit (k + (1 + n)) → fits limit k ≡ true
+fits_within None k n h = refl
+fits_within (Some l) k n h = lt-ltb k l (omega arith)
 
-pub less-within : (limit : Option ℕ) (k n : ℕ) → IsWithin limit n → k ≤ n → IsWithin limit k
-less-within None k n h e = h
-less-within (Some l) k n h e = omega arith
+pub less_within : (limit : Option ℕ) (k n : ℕ) → IsWithin limit n → k ≤ n → IsWithin limit k
+less_within None k n h e = h
+less_within (Some l) k n h e = omega arith
 
 -- ---- values
 
@@ -114,72 +114,72 @@ ends (array es) xs d = tt
 ends (empty_object w) xs d = tt
 ends (object ps) xs d = tt
 
-pub string-key : (s : Syntax) → tree.is_string (tree_of s) ≡ is_key s
-string-key null = refl
-string-key (boolean b) = refl
-string-key (number n) = refl
-string-key (string ps) = refl
-string-key (empty_array w) = refl
-string-key (array es) = refl
-string-key (empty_object w) = refl
-string-key (object ps) = refl
+pub string_key : (s : Syntax) → tree.is_string (tree_of s) ≡ is_key s
+string_key null = refl
+string_key (boolean b) = refl
+string_key (number n) = refl
+string_key (string ps) = refl
+string_key (empty_array w) = refl
+string_key (array es) = refl
+string_key (empty_object w) = refl
+string_key (object ps) = refl
 
-fine-key : (r : Rules) (k : Syntax) → (r.strict ≡ true → IsTrue (is_key k)) → (r.strict && not (tree.is_string (tree_of k))) ≡ false
-fine-key r k h = rw (string-key k) (and-false r.strict (not (is_key k)) (λ e. ap not (h e)))
+fine_key : (r : Rules) (k : Syntax) → (r.strict ≡ true → IsTrue (is_key k)) → (r.strict && not (tree.is_string (tree_of k))) ≡ false
+fine_key r k h = rw (string_key k) (and_false r.strict (not (is_key k)) (λ e. ap not (h e)))
 
 -- a key, white space and the colon
-pub after-key : (r : Rules) (ms : tree.Members) (fs : List Frame) (k : Syntax) (b xs : List ℕ) → (r.strict ≡ true → IsTrue (is_key k)) → AreWhite b →
+pub key_and_colon : (r : Rules) (ms : tree.Members) (fs : List Frame) (k : Syntax) (b xs : List ℕ) → (r.strict ≡ true → IsTrue (is_key k)) → AreWhite b →
     settle r (complete r.strict (at_key ms ∷ fs) (tree_of k) true) (b ++ 58 ∷ xs) ≡ run r (at_value ms (tree.key_of (tree_of k)) ∷ fs) awaited xs
 unfolding run step
-after-key r ms fs k b xs f h = rw (fine-key r k f) (colon-white r (at_key ms ∷ fs) (tree.key_of (tree_of k)) b (58 ∷ xs) h)
+key_and_colon r ms fs k b xs f h = rw (fine_key r k f) (colon_white r (at_key ms ∷ fs) (tree.key_of (tree_of k)) b (58 ∷ xs) h)
 
 mutual
   unfolding run step
 
-  pub run-value : (s : Syntax) (r : Rules) (fs : List Frame) (xs : List ℕ) → IsSpelled s → (r.strict ≡ true → IsStrict s) → HasRoom r fs (depth s) → Ends s xs →
+  pub run_value : (s : Syntax) (r : Rules) (fs : List Frame) (xs : List ℕ) → IsSpelled s → (r.strict ≡ true → IsStrict s) → HasRoom r fs (depth s) → Ends s xs →
       run r fs awaited (text s ++ xs) ≡ settle r (complete r.strict fs (tree_of s) true) xs
-  run-value null r fs xs h f m d = settle-complete r r.strict fs tree.null 108 xs
-  run-value (boolean true) r fs xs h f m d = settle-complete r r.strict fs (tree.boolean true) 101 xs
-  run-value (boolean false) r fs xs h f m d = settle-complete r r.strict fs (tree.boolean false) 101 xs
-  run-value (number n) r fs xs h f m d = run-numeral r fs n xs h f d
-  run-value (string ps) r fs xs h f m d = run-string r fs ps xs h f
-  run-value (empty_array w) r fs xs h f m d = rw (append_assoc w (93 ∷ []) xs, fits-within r.limit (length fs) 0 m)
-      (first-white r (in_array [] ∷ fs) w (93 ∷ xs) h ∙ settle-complete r r.strict fs (tree.array tree.no_items) 93 xs)
-  run-value (array es) r fs xs h f m d = rw (append_assoc (elements_text es) (93 ∷ []) xs, fits-within r.limit (length fs) (elements_depth es) m)
-      (first-elements r [] fs es (93 ∷ xs) h ∙ run-elements es r [] fs xs h f (less-within r.limit _ _ m (omega arith)))
-  run-value (empty_object w) r fs xs h f m d = rw (append_assoc w (125 ∷ []) xs, fits-within r.limit (length fs) 0 m)
-      (first-white r (at_key tree.no_members ∷ fs) w (125 ∷ xs) h ∙ settle-complete r r.strict fs (tree.object tree.no_members) 125 xs)
-  run-value (object ps) r fs xs h f m d = rw (append_assoc (pairs_text ps) (125 ∷ []) xs, fits-within r.limit (length fs) (pairs_depth ps) m)
-      (first-pairs r tree.no_members fs ps (125 ∷ xs) h ∙ run-pairs ps r tree.no_members fs xs h f (less-within r.limit _ _ m (omega arith)))
+  run_value null r fs xs h f m d = settle_complete r r.strict fs tree.null 108 xs
+  run_value (boolean true) r fs xs h f m d = settle_complete r r.strict fs (tree.boolean true) 101 xs
+  run_value (boolean false) r fs xs h f m d = settle_complete r r.strict fs (tree.boolean false) 101 xs
+  run_value (number n) r fs xs h f m d = run_numeral r fs n xs h f d
+  run_value (string ps) r fs xs h f m d = run_string r fs ps xs h f
+  run_value (empty_array w) r fs xs h f m d = rw (append_assoc w (93 ∷ []) xs, fits_within r.limit (length fs) 0 m)
+      (first_white r (in_array [] ∷ fs) w (93 ∷ xs) h ∙ settle_complete r r.strict fs (tree.array tree.no_items) 93 xs)
+  run_value (array es) r fs xs h f m d = rw (append_assoc (elements_text es) (93 ∷ []) xs, fits_within r.limit (length fs) (elements_depth es) m)
+      (first_elements r [] fs es (93 ∷ xs) h ∙ run_elements es r [] fs xs h f (less_within r.limit _ _ m (omega arith)))
+  run_value (empty_object w) r fs xs h f m d = rw (append_assoc w (125 ∷ []) xs, fits_within r.limit (length fs) 0 m)
+      (first_white r (at_key tree.no_members ∷ fs) w (125 ∷ xs) h ∙ settle_complete r r.strict fs (tree.object tree.no_members) 125 xs)
+  run_value (object ps) r fs xs h f m d = rw (append_assoc (pairs_text ps) (125 ∷ []) xs, fits_within r.limit (length fs) (pairs_depth ps) m)
+      (first_pairs r tree.no_members fs ps (125 ∷ xs) h ∙ run_pairs ps r tree.no_members fs xs h f (less_within r.limit _ _ m (omega arith)))
 
-  run-elements : (es : Elements) (r : Rules) (ts : List tree.Tree) (fs : List Frame) (xs : List ℕ) → AreElements es → (r.strict ≡ true → ElementsAreStrict es) → HasRoom r (in_array ts ∷ fs) (elements_depth es) →
+  run_elements : (es : Elements) (r : Rules) (ts : List tree.Tree) (fs : List Frame) (xs : List ℕ) → AreElements es → (r.strict ≡ true → ElementsAreStrict es) → HasRoom r (in_array ts ∷ fs) (elements_depth es) →
       run r (in_array ts ∷ fs) awaited (elements_text es ++ 93 ∷ xs) ≡ settle r (complete r.strict fs (tree.array (tree.items_of (ts ++ elements_trees es))) true) xs
-  run-elements (last_element v s w) r ts fs xs h f m = rw (last_element-assoc v (text s) w (93 ∷ xs))
-      (run-white r (in_array ts ∷ fs) v _ h.0
-      ∙ run-value s r (in_array ts ∷ fs) (w ++ 93 ∷ xs) h.1 f m (ends s _ (delimited-white w (93 ∷ xs) h.2 refl))
-      ∙ after-white r (in_array (ts ++ tree_of s ∷ []) ∷ fs) w (93 ∷ xs) h.2
-      ∙ settle-complete r r.strict fs (tree.array (tree.items_of (ts ++ tree_of s ∷ []))) 93 xs)
-  run-elements (element v s w es) r ts fs xs h f m = rw (element-assoc v (text s) w (elements_text es) (93 ∷ xs))
-      (run-white r (in_array ts ∷ fs) v _ h.0
-      ∙ run-value s r (in_array ts ∷ fs) (w ++ 44 ∷ (elements_text es ++ 93 ∷ xs)) h.1 (λ e. (f e).0) (less-within r.limit _ _ m (omega arith)) (ends s _ (delimited-white w _ h.2 refl))
-      ∙ after-white r (in_array (ts ++ tree_of s ∷ []) ∷ fs) w (44 ∷ (elements_text es ++ 93 ∷ xs)) h.2
-      ∙ rw (append_assoc ts (tree_of s ∷ []) (elements_trees es)) at (run-elements es r (ts ++ tree_of s ∷ []) fs xs h.3 (λ e. (f e).1) (less-within r.limit _ _ m (omega arith))))
+  run_elements (last_element v s w) r ts fs xs h f m = rw (last_element_assoc v (text s) w (93 ∷ xs))
+      (run_white r (in_array ts ∷ fs) v _ h.0
+      ∙ run_value s r (in_array ts ∷ fs) (w ++ 93 ∷ xs) h.1 f m (ends s _ (delimited_white w (93 ∷ xs) h.2 refl))
+      ∙ after_white r (in_array (ts ++ tree_of s ∷ []) ∷ fs) w (93 ∷ xs) h.2
+      ∙ settle_complete r r.strict fs (tree.array (tree.items_of (ts ++ tree_of s ∷ []))) 93 xs)
+  run_elements (element v s w es) r ts fs xs h f m = rw (element_assoc v (text s) w (elements_text es) (93 ∷ xs))
+      (run_white r (in_array ts ∷ fs) v _ h.0
+      ∙ run_value s r (in_array ts ∷ fs) (w ++ 44 ∷ (elements_text es ++ 93 ∷ xs)) h.1 (λ e. (f e).0) (less_within r.limit _ _ m (omega arith)) (ends s _ (delimited_white w _ h.2 refl))
+      ∙ after_white r (in_array (ts ++ tree_of s ∷ []) ∷ fs) w (44 ∷ (elements_text es ++ 93 ∷ xs)) h.2
+      ∙ rw (append_assoc ts (tree_of s ∷ []) (elements_trees es)) at (run_elements es r (ts ++ tree_of s ∷ []) fs xs h.3 (λ e. (f e).1) (less_within r.limit _ _ m (omega arith))))
 
-  run-pairs : (ps : Pairs) (r : Rules) (ms : tree.Members) (fs : List Frame) (xs : List ℕ) → ArePairs ps → (r.strict ≡ true → PairsAreStrict ps) → HasRoom r (at_key ms ∷ fs) (pairs_depth ps) →
+  run_pairs : (ps : Pairs) (r : Rules) (ms : tree.Members) (fs : List Frame) (xs : List ℕ) → ArePairs ps → (r.strict ≡ true → PairsAreStrict ps) → HasRoom r (at_key ms ∷ fs) (pairs_depth ps) →
       run r (at_key ms ∷ fs) awaited (pairs_text ps ++ 125 ∷ xs) ≡ settle r (complete r.strict fs (tree.object (pairs_members ms ps)) true) xs
-  run-pairs (last_pair a k b c s d) r ms fs xs h f m = rw (last_pair-assoc a (text k) b c (text s) d (125 ∷ xs))
-      (run-white r (at_key ms ∷ fs) a _ h.0
-      ∙ run-value k r (at_key ms ∷ fs) _ h.1 (λ e. (f e).1) (less-within r.limit _ _ m (omega arith)) (ends k _ (delimited-white b (58 ∷ _) h.2 refl))
-      ∙ after-key r ms fs k b _ (λ e. (f e).0) h.2
-      ∙ run-white r (at_value ms (tree.key_of (tree_of k)) ∷ fs) c _ h.3
-      ∙ run-value s r (at_value ms (tree.key_of (tree_of k)) ∷ fs) (d ++ 125 ∷ xs) h.4 (λ e. (f e).2) (less-within r.limit _ _ m (omega arith)) (ends s _ (delimited-white d (125 ∷ xs) h.5 refl))
-      ∙ after-white r (at_key (tree.put (tree.key_of (tree_of k)) (tree_of s) ms) ∷ fs) d (125 ∷ xs) h.5
-      ∙ settle-complete r r.strict fs (tree.object (tree.put (tree.key_of (tree_of k)) (tree_of s) ms)) 125 xs)
-  run-pairs (pair a k b c s d ps) r ms fs xs h f m = rw (pair-assoc a (text k) b c (text s) d (pairs_text ps) (125 ∷ xs))
-      (run-white r (at_key ms ∷ fs) a _ h.0
-      ∙ run-value k r (at_key ms ∷ fs) _ h.1 (λ e. (f e).1) (less-within r.limit _ _ m (omega arith)) (ends k _ (delimited-white b (58 ∷ _) h.2 refl))
-      ∙ after-key r ms fs k b _ (λ e. (f e).0) h.2
-      ∙ run-white r (at_value ms (tree.key_of (tree_of k)) ∷ fs) c _ h.3
-      ∙ run-value s r (at_value ms (tree.key_of (tree_of k)) ∷ fs) (d ++ 44 ∷ (pairs_text ps ++ 125 ∷ xs)) h.4 (λ e. (f e).2) (less-within r.limit _ _ m (omega arith)) (ends s _ (delimited-white d _ h.5 refl))
-      ∙ after-white r (at_key (tree.put (tree.key_of (tree_of k)) (tree_of s) ms) ∷ fs) d (44 ∷ (pairs_text ps ++ 125 ∷ xs)) h.5
-      ∙ run-pairs ps r (tree.put (tree.key_of (tree_of k)) (tree_of s) ms) fs xs h.6 (λ e. (f e).3) (less-within r.limit _ _ m (omega arith)))
+  run_pairs (last_pair a k b c s d) r ms fs xs h f m = rw (last_pair_assoc a (text k) b c (text s) d (125 ∷ xs))
+      (run_white r (at_key ms ∷ fs) a _ h.0
+      ∙ run_value k r (at_key ms ∷ fs) _ h.1 (λ e. (f e).1) (less_within r.limit _ _ m (omega arith)) (ends k _ (delimited_white b (58 ∷ _) h.2 refl))
+      ∙ key_and_colon r ms fs k b _ (λ e. (f e).0) h.2
+      ∙ run_white r (at_value ms (tree.key_of (tree_of k)) ∷ fs) c _ h.3
+      ∙ run_value s r (at_value ms (tree.key_of (tree_of k)) ∷ fs) (d ++ 125 ∷ xs) h.4 (λ e. (f e).2) (less_within r.limit _ _ m (omega arith)) (ends s _ (delimited_white d (125 ∷ xs) h.5 refl))
+      ∙ after_white r (at_key (tree.put (tree.key_of (tree_of k)) (tree_of s) ms) ∷ fs) d (125 ∷ xs) h.5
+      ∙ settle_complete r r.strict fs (tree.object (tree.put (tree.key_of (tree_of k)) (tree_of s) ms)) 125 xs)
+  run_pairs (pair a k b c s d ps) r ms fs xs h f m = rw (pair_assoc a (text k) b c (text s) d (pairs_text ps) (125 ∷ xs))
+      (run_white r (at_key ms ∷ fs) a _ h.0
+      ∙ run_value k r (at_key ms ∷ fs) _ h.1 (λ e. (f e).1) (less_within r.limit _ _ m (omega arith)) (ends k _ (delimited_white b (58 ∷ _) h.2 refl))
+      ∙ key_and_colon r ms fs k b _ (λ e. (f e).0) h.2
+      ∙ run_white r (at_value ms (tree.key_of (tree_of k)) ∷ fs) c _ h.3
+      ∙ run_value s r (at_value ms (tree.key_of (tree_of k)) ∷ fs) (d ++ 44 ∷ (pairs_text ps ++ 125 ∷ xs)) h.4 (λ e. (f e).2) (less_within r.limit _ _ m (omega arith)) (ends s _ (delimited_white d _ h.5 refl))
+      ∙ after_white r (at_key (tree.put (tree.key_of (tree_of k)) (tree_of s) ms) ∷ fs) d (44 ∷ (pairs_text ps ++ 125 ∷ xs)) h.5
+      ∙ run_pairs ps r (tree.put (tree.key_of (tree_of k)) (tree_of s) ms) fs xs h.6 (λ e. (f e).3) (less_within r.limit _ _ m (omega arith)))

@@ -9,10 +9,10 @@ use Rattle.tinyjson_number.specs.Text.{natural_text}
 use Rattle.tinyjson_number.proofs.Naturals.{natural}
 use Rattle.tinyjson.proofs.Grammar.Trace.State.{Ranges, numeral, exponent_with}
 
-power-range : (b : Bool) (ds : List ℕ) (z : ℤ) → z ≡ pos 0 → IsTrue (in_range (decimal_of b ds z))
+power_range : (b : Bool) (ds : List ℕ) (z : ℤ) → z ≡ pos 0 → IsTrue (in_range (decimal_of b ds z))
 unfolding power_fits
-power-range b [] z h = refl
-power-range b (d ∷ ds) z h = rw h refl
+power_range b [] z h = refl
+power_range b (d ∷ ds) z h = rw h refl
 
 raised : (n l t : ℕ) → n ≡ l - t → t ≤ l → (pos n -ℤ pos l) +ℤ pos t ≡ pos 0
 raised n l t e h = omega (arith, ints)
@@ -28,12 +28,12 @@ ranges b w f hw hf = ⊎_elim low high (cases_lt (length f) (trailing_zeros (w +
     low h = let n = trailing_zeros (w ++ f) - length f in let d = natural n in (
       exponent_with 101 (Some 45) (natural_text n),
       record { letter = refl; sign = refl; digits = d.are; some_digit = d.some },
-      power-range b (significant (w ++ f)) _ (lowered (digits_value 10 (natural_text n)) (length f) (trailing_zeros (w ++ f)) d.value (omega arith)),
+      power_range b (significant (w ++ f)) _ (lowered (digits_value 10 (natural_text n)) (length f) (trailing_zeros (w ++ f)) d.value (omega arith)),
     )
 
     high : trailing_zeros (w ++ f) ≤ length f → (e : Exponent) × IsExponent e × IsTrue (in_range (value (numeral b w f (Some e))))
     high h = let n = length f - trailing_zeros (w ++ f) in let d = natural n in (
       exponent_with 101 None (natural_text n),
       record { letter = refl; sign = tt; digits = d.are; some_digit = d.some },
-      power-range b (significant (w ++ f)) _ (raised (digits_value 10 (natural_text n)) (length f) (trailing_zeros (w ++ f)) d.value (omega arith)),
+      power_range b (significant (w ++ f)) _ (raised (digits_value 10 (natural_text n)) (length f) (trailing_zeros (w ++ f)) d.value (omega arith)),
     )

@@ -30,58 +30,58 @@ pub data Same : Next → Next → Type 0 where
   same : (m : Next) → Same m m
   own : (k : JsonParseErrorKind) (b : Bool) (m : Next) → is_own k ≡ true → (b ≡ true → GoesOn k m) → Same (stop k b) m
 
-same-cond : (b : Bool) (x y x' y' : Next) → Same x x' → Same y y' → Same (cond b x y) (cond b x' y')
-same-cond true x y x' y' h g = h
-same-cond false x y x' y' h g = g
+same_cond : (b : Bool) (x y x' y' : Next) → Same x x' → Same y y' → Same (cond b x y) (cond b x' y')
+same_cond true x y x' y' h g = h
+same_cond false x y x' y' h g = g
 
 -- a condition of the strict machine alone
-same-own : (b : Bool) (k : JsonParseErrorKind) (t : Bool) (m m' : Next) → is_own k ≡ true → (t ≡ true → GoesOn k m') → Same m m' → Same (cond (true && b) (stop k t) m) (cond (false && b) (stop k t) m')
-same-own true k t m m' o g h = own k t m' o g
-same-own false k t m m' o g h = h
+same_own : (b : Bool) (k : JsonParseErrorKind) (t : Bool) (m m' : Next) → is_own k ≡ true → (t ≡ true → GoesOn k m') → Same m m' → Same (cond (true && b) (stop k t) m) (cond (false && b) (stop k t) m')
+same_own true k t m m' o g h = own k t m' o g
+same_own false k t m m' o g h = h
 
-same-complete : (fs : List Frame) (t : Tree) (b : Bool) → Same (complete true fs t b) (complete false fs t b)
-same-complete [] t b = same _
-same-complete (in_array ts ∷ fs) t b = same _
-same-complete (at_key ms ∷ fs) t b = same-own (not (is_string t)) _ b _ _ refl (λ e. (fs, ms, key_of t, refl)) (same _)
-same-complete (at_value ms k ∷ fs) t b = same _
+same_complete : (fs : List Frame) (t : Tree) (b : Bool) → Same (complete true fs t b) (complete false fs t b)
+same_complete [] t b = same _
+same_complete (in_array ts ∷ fs) t b = same _
+same_complete (at_key ms ∷ fs) t b = same_own (not (is_string t)) _ b _ _ refl (λ e. (fs, ms, key_of t, refl)) (same _)
+same_complete (at_value ms k ∷ fs) t b = same _
 
-same-first : (limit : Option ℕ) (fs : List Frame) (c : ℕ) → Same (step_first (rules true limit) fs c) (step_first (rules false limit) fs c)
-same-first limit [] c = same _
-same-first limit (in_array ts ∷ fs) c = same-cond (c == 93) _ _ _ _ (same-complete fs (array (items_of ts)) true) (same _)
-same-first limit (at_key ms ∷ fs) c = same-cond (c == 125) _ _ _ _ (same-complete fs (object ms) true) (same _)
-same-first limit (at_value ms k ∷ fs) c = same _
+same_first : (limit : Option ℕ) (fs : List Frame) (c : ℕ) → Same (step_first (rules true limit) fs c) (step_first (rules false limit) fs c)
+same_first limit [] c = same _
+same_first limit (in_array ts ∷ fs) c = same_cond (c == 93) _ _ _ _ (same_complete fs (array (items_of ts)) true) (same _)
+same_first limit (at_key ms ∷ fs) c = same_cond (c == 125) _ _ _ _ (same_complete fs (object ms) true) (same _)
+same_first limit (at_value ms k ∷ fs) c = same _
 
-same-after : (limit : Option ℕ) (fs : List Frame) (c : ℕ) → Same (step_after (rules true limit) fs c) (step_after (rules false limit) fs c)
-same-after limit [] c = same _
-same-after limit (in_array ts ∷ fs) c = same-cond (c == 44) _ _ _ _ (same _) (same-cond (c == 93) _ _ _ _ (same-complete fs (array (items_of ts)) true) (same _))
-same-after limit (at_key ms ∷ fs) c = same-cond (c == 44) _ _ _ _ (same _) (same-cond (c == 125) _ _ _ _ (same-complete fs (object ms) true) (same _))
-same-after limit (at_value ms k ∷ fs) c = same _
+same_after : (limit : Option ℕ) (fs : List Frame) (c : ℕ) → Same (step_after (rules true limit) fs c) (step_after (rules false limit) fs c)
+same_after limit [] c = same _
+same_after limit (in_array ts ∷ fs) c = same_cond (c == 44) _ _ _ _ (same _) (same_cond (c == 93) _ _ _ _ (same_complete fs (array (items_of ts)) true) (same _))
+same_after limit (at_key ms ∷ fs) c = same_cond (c == 44) _ _ _ _ (same _) (same_cond (c == 125) _ _ _ _ (same_complete fs (object ms) true) (same _))
+same_after limit (at_value ms k ∷ fs) c = same _
 
-same-word : (limit : Option ℕ) (fs : List Frame) (ls : List ℕ) (t : Tree) (c : ℕ) → Same (step_word (rules true limit) fs ls t c) (step_word (rules false limit) fs ls t c)
-same-word limit fs [] t c = same _
-same-word limit fs (l ∷ []) t c = same-cond (c == l) _ _ _ _ (same-complete fs t true) (same _)
-same-word limit fs (l ∷ m ∷ ls) t c = same _
+same_word : (limit : Option ℕ) (fs : List Frame) (ls : List ℕ) (t : Tree) (c : ℕ) → Same (step_word (rules true limit) fs ls t c) (step_word (rules false limit) fs ls t c)
+same_word limit fs [] t c = same _
+same_word limit fs (l ∷ []) t c = same_cond (c == l) _ _ _ _ (same_complete fs t true) (same _)
+same_word limit fs (l ∷ m ∷ ls) t c = same _
 
-same-escape : (limit : Option ℕ) (fs : List Frame) (cs us : List ℕ) (c : ℕ) (o : Option ℕ) → Same (step_escape (rules true limit) fs cs us c o) (step_escape (rules false limit) fs cs us c o)
-same-escape limit fs cs us c None = same _
-same-escape limit fs cs us c (Some d) = same-own (not (paired us)) InvalidUtf16 true _ _ refl (λ e. tt) (same _)
+same_escape : (limit : Option ℕ) (fs : List Frame) (cs us : List ℕ) (c : ℕ) (o : Option ℕ) → Same (step_escape (rules true limit) fs cs us c o) (step_escape (rules false limit) fs cs us c o)
+same_escape limit fs cs us c None = same _
+same_escape limit fs cs us c (Some d) = same_own (not (paired us)) InvalidUtf16 true _ _ refl (λ e. tt) (same _)
 
-same-quoted : (limit : Option ℕ) (fs : List Frame) (w : Within) (cs us : List ℕ) (c : ℕ) → Same (step_quoted (rules true limit) fs w cs us c) (step_quoted (rules false limit) fs w cs us c)
-same-quoted limit fs plain cs us c =
-    same-cond (c == 34) _ _ _ _ (same-own (not (paired us)) InvalidUtf16 true _ _ refl (λ e. tt) (same-complete fs (string (cs ++ decode us)) true))
-    (same-cond (c == 92) _ _ _ _ (same _) (same-cond (nat_lt c 32) _ _ _ _ (same _) (same-own (not (paired us)) InvalidUtf16 true _ _ refl (λ e. tt) (same _))))
-same-quoted limit fs backslash cs us c = same-escape limit fs cs us c (short_escape c)
-same-quoted limit fs (hex ds) cs us c = same _
+same_quoted : (limit : Option ℕ) (fs : List Frame) (w : Within) (cs us : List ℕ) (c : ℕ) → Same (step_quoted (rules true limit) fs w cs us c) (step_quoted (rules false limit) fs w cs us c)
+same_quoted limit fs plain cs us c =
+    same_cond (c == 34) _ _ _ _ (same_own (not (paired us)) InvalidUtf16 true _ _ refl (λ e. tt) (same_complete fs (string (cs ++ decode us)) true))
+    (same_cond (c == 92) _ _ _ _ (same _) (same_cond (nat_lt c 32) _ _ _ _ (same _) (same_own (not (paired us)) InvalidUtf16 true _ _ refl (λ e. tt) (same _))))
+same_quoted limit fs backslash cs us c = same_escape limit fs cs us c (short_escape c)
+same_quoted limit fs (hex ds) cs us c = same _
 
-same-plain : (limit : Option ℕ) (fs : List Frame) (p : Phase) (c : ℕ) → Same (step_plain (rules true limit) fs p c) (step_plain (rules false limit) fs p c)
-same-plain limit fs first c = same-cond (is_white c) _ _ _ _ (same _) (same-first limit fs c)
-same-plain limit fs awaited c = same _
-same-plain limit fs (word ls t) c = same-word limit fs ls t c
-same-plain limit fs (digits s n) c = same _
-same-plain limit fs (quoted w cs us) c = same-quoted limit fs w cs us c
-same-plain limit fs (colon k) c = same _
-same-plain limit fs after c = same-cond (is_white c) _ _ _ _ (same _) (same-after limit fs c)
-same-plain limit fs (finished t) c = same _
+same_plain : (limit : Option ℕ) (fs : List Frame) (p : Phase) (c : ℕ) → Same (step_plain (rules true limit) fs p c) (step_plain (rules false limit) fs p c)
+same_plain limit fs first c = same_cond (is_white c) _ _ _ _ (same _) (same_first limit fs c)
+same_plain limit fs awaited c = same _
+same_plain limit fs (word ls t) c = same_word limit fs ls t c
+same_plain limit fs (digits s n) c = same _
+same_plain limit fs (quoted w cs us) c = same_quoted limit fs w cs us c
+same_plain limit fs (colon k) c = same _
+same_plain limit fs after c = same_cond (is_white c) _ _ _ _ (same _) (same_after limit fs c)
+same_plain limit fs (finished t) c = same _
 
 -- a numeral that ends does not take the character after it
 abbrev IsLeft : Next → Type 0
@@ -89,86 +89,86 @@ IsLeft (next fs p) = ⊤
 IsLeft (stop k true) = ⊥
 IsLeft (stop k false) = ⊤
 
-left-cond : (b : Bool) (x y : Next) → IsLeft x → IsLeft y → IsLeft (cond b x y)
-left-cond true x y h g = h
-left-cond false x y h g = g
+left_cond : (b : Bool) (x y : Next) → IsLeft x → IsLeft y → IsLeft (cond b x y)
+left_cond true x y h g = h
+left_cond false x y h g = g
 
-left-complete : (fs : List Frame) (t : Tree) → IsLeft (complete true fs t false)
-left-complete [] t = tt
-left-complete (in_array ts ∷ fs) t = tt
-left-complete (at_key ms ∷ fs) t = left-cond (not (is_string t)) _ _ tt tt
-left-complete (at_value ms k ∷ fs) t = tt
+left_complete : (fs : List Frame) (t : Tree) → IsLeft (complete true fs t false)
+left_complete [] t = tt
+left_complete (in_array ts ∷ fs) t = tt
+left_complete (at_key ms ∷ fs) t = left_cond (not (is_string t)) _ _ tt tt
+left_complete (at_value ms k ∷ fs) t = tt
 
-left-finish : (limit : Option ℕ) (fs : List Frame) (n : Numeral) → IsLeft (finish (rules true limit) fs n)
-left-finish limit fs n = left-cond (not (in_range (value n))) _ _ tt (left-complete fs (number (value n)))
+left_finish : (limit : Option ℕ) (fs : List Frame) (n : Numeral) → IsLeft (finish (rules true limit) fs n)
+left_finish limit fs n = left_cond (not (in_range (value n))) _ _ tt (left_complete fs (number (value n)))
 
-same-then : (limit : Option ℕ) (m m' : Next) (c : ℕ) → IsLeft m → Same m m' → Same (then_step (rules true limit) m c) (then_step (rules false limit) m' c)
-same-then limit _ _ c i (same (next fs p)) = same-plain limit fs p c
-same-then limit _ _ c i (same (stop k b)) = same _
-same-then limit _ _ c i (own k true m o g) = elim i [ ]
-same-then limit _ _ c i (own k false m o g) = own k false _ o (λ e. absurd (false≢true e))
+same_then : (limit : Option ℕ) (m m' : Next) (c : ℕ) → IsLeft m → Same m m' → Same (then_step (rules true limit) m c) (then_step (rules false limit) m' c)
+same_then limit _ _ c i (same (next fs p)) = same_plain limit fs p c
+same_then limit _ _ c i (same (stop k b)) = same _
+same_then limit _ _ c i (own k true m o g) = elim i [ ]
+same_then limit _ _ c i (own k false m o g) = own k false _ o (λ e. absurd (false≢true e))
 
-same-finish : (limit : Option ℕ) (fs : List Frame) (n : Numeral) → Same (finish (rules true limit) fs n) (finish (rules false limit) fs n)
-same-finish limit fs n = same-own (not (in_range (value n))) NumberOutOfRange false _ _ refl (λ e. tt) (same-complete fs (number (value n)) false)
+same_finish : (limit : Option ℕ) (fs : List Frame) (n : Numeral) → Same (finish (rules true limit) fs n) (finish (rules false limit) fs n)
+same_finish limit fs n = same_own (not (in_range (value n))) NumberOutOfRange false _ _ refl (λ e. tt) (same_complete fs (number (value n)) false)
 
 data Same_moves : Option Next → Option Next → Type 0 where
   same_moves : (o : Option Next) → Same_moves o o
   own_move : (k : JsonParseErrorKind) (o : Option Next) → is_own k ≡ true → Same_moves (Some (stop k false)) o
 
-moves-cond : (b : Bool) (x y x' y' : Option Next) → Same_moves x x' → Same_moves y y' → Same_moves (cond b x y) (cond b x' y')
-moves-cond true x y x' y' h g = h
-moves-cond false x y x' y' h g = g
+moves_cond : (b : Bool) (x y x' y' : Option Next) → Same_moves x x' → Same_moves y y' → Same_moves (cond b x y) (cond b x' y')
+moves_cond true x y x' y' h g = h
+moves_cond false x y x' y' h g = g
 
-moves-own : (b : Bool) (k : JsonParseErrorKind) (o : Option Next) → is_own k ≡ true → Same_moves (cond (true && b) (Some (stop k false)) o) (cond (false && b) (Some (stop k false)) o)
-moves-own true k o h = own_move k o h
-moves-own false k o h = same_moves o
+moves_own : (b : Bool) (k : JsonParseErrorKind) (o : Option Next) → is_own k ≡ true → Same_moves (cond (true && b) (Some (stop k false)) o) (cond (false && b) (Some (stop k false)) o)
+moves_own true k o h = own_move k o h
+moves_own false k o h = same_moves o
 
-same-digits : (limit : Option ℕ) (fs : List Frame) (s : Stage) (n : Numeral) (c : ℕ) → Same_moves (step_digits (rules true limit) fs s n c) (step_digits (rules false limit) fs s n c)
-same-digits limit fs minus n c = same_moves _
-same-digits limit fs whole n c = moves-cond (is_ascii_digit c) _ _ _ _ (same_moves _) (moves-own (has_leading_zero n.whole) LeadingZero _ refl)
-same-digits limit fs point n c = same_moves _
-same-digits limit fs fraction n c = same_moves _
-same-digits limit fs letter n c = same_moves _
-same-digits limit fs sign n c = same_moves _
-same-digits limit fs exponent n c = same_moves _
+same_digits : (limit : Option ℕ) (fs : List Frame) (s : Stage) (n : Numeral) (c : ℕ) → Same_moves (step_digits (rules true limit) fs s n c) (step_digits (rules false limit) fs s n c)
+same_digits limit fs minus n c = same_moves _
+same_digits limit fs whole n c = moves_cond (is_ascii_digit c) _ _ _ _ (same_moves _) (moves_own (has_leading_zero n.whole) LeadingZero _ refl)
+same_digits limit fs point n c = same_moves _
+same_digits limit fs fraction n c = same_moves _
+same_digits limit fs letter n c = same_moves _
+same_digits limit fs sign n c = same_moves _
+same_digits limit fs exponent n c = same_moves _
 
-same-ended : (limit : Option ℕ) (fs : List Frame) (n : Numeral) (c : ℕ) (o o' : Option Next) → Same_moves o o' → Same (unless_ended (rules true limit) fs n c o) (unless_ended (rules false limit) fs n c o')
-same-ended limit fs n c _ _ (same_moves None) = same-then limit (finish (rules true limit) fs n) (finish (rules false limit) fs n) c (left-finish limit fs n) (same-finish limit fs n)
-same-ended limit fs n c _ _ (same_moves (Some m)) = same m
-same-ended limit fs n c _ _ (own_move k o h) = own k false _ h (λ e. absurd (false≢true e))
+same_ended : (limit : Option ℕ) (fs : List Frame) (n : Numeral) (c : ℕ) (o o' : Option Next) → Same_moves o o' → Same (unless_ended (rules true limit) fs n c o) (unless_ended (rules false limit) fs n c o')
+same_ended limit fs n c _ _ (same_moves None) = same_then limit (finish (rules true limit) fs n) (finish (rules false limit) fs n) c (left_finish limit fs n) (same_finish limit fs n)
+same_ended limit fs n c _ _ (same_moves (Some m)) = same m
+same_ended limit fs n c _ _ (own_move k o h) = own k false _ h (λ e. absurd (false≢true e))
 
-pub same-step : (limit : Option ℕ) (fs : List Frame) (p : Phase) (c : ℕ) → Same (step (rules true limit) fs p c) (step (rules false limit) fs p c)
+pub same_step : (limit : Option ℕ) (fs : List Frame) (p : Phase) (c : ℕ) → Same (step (rules true limit) fs p c) (step (rules false limit) fs p c)
 unfolding step
-same-step limit fs first c = same-plain limit fs first c
-same-step limit fs awaited c = same _
-same-step limit fs (word ls t) c = same-word limit fs ls t c
-same-step limit fs (digits s n) c = same-ended limit fs n c _ _ (same-digits limit fs s n c)
-same-step limit fs (quoted w cs us) c = same-quoted limit fs w cs us c
-same-step limit fs (colon k) c = same _
-same-step limit fs after c = same-plain limit fs after c
-same-step limit fs (finished t) c = same _
+same_step limit fs first c = same_plain limit fs first c
+same_step limit fs awaited c = same _
+same_step limit fs (word ls t) c = same_word limit fs ls t c
+same_step limit fs (digits s n) c = same_ended limit fs n c _ _ (same_digits limit fs s n c)
+same_step limit fs (quoted w cs us) c = same_quoted limit fs w cs us c
+same_step limit fs (colon k) c = same _
+same_step limit fs after c = same_plain limit fs after c
+same_step limit fs (finished t) c = same _
 
 -- ---- what follows of it
 
-same-next : (m m' : Next) (gs : List Frame) (q : Phase) → Same m m' → m ≡ next gs q → m' ≡ next gs q
-same-next _ _ gs q (same m) e = e
-same-next _ _ gs q (own k b m o g) e = absurd cc
+same_next : (m m' : Next) (gs : List Frame) (q : Phase) → Same m m' → m ≡ next gs q → m' ≡ next gs q
+same_next _ _ gs q (same m) e = e
+same_next _ _ gs q (own k b m o g) e = absurd cc
 
-same-stop : (m m' : Next) (k : JsonParseErrorKind) (b : Bool) → Same m m' → is_own k ≡ false → m ≡ stop k b → m' ≡ stop k b
-same-stop _ _ k b (same m) h e = e
-same-stop _ _ k b (own j d m o g) h e = let a : j ≡ k = cc in absurd (true≢false (sym (rw a at o) ∙ h))
+same_stop : (m m' : Next) (k : JsonParseErrorKind) (b : Bool) → Same m m' → is_own k ≡ false → m ≡ stop k b → m' ≡ stop k b
+same_stop _ _ k b (same m) h e = e
+same_stop _ _ k b (own j d m o g) h e = let a : j ≡ k = cc in absurd (true≢false (sym (rw a at o) ∙ h))
 
-pub strict-next : (limit : Option ℕ) (fs gs : List Frame) (p q : Phase) (c : ℕ) → step (rules true limit) fs p c ≡ next gs q → step (rules false limit) fs p c ≡ next gs q
-strict-next limit fs gs p q c e = same-next _ _ gs q (same-step limit fs p c) e
+pub strict_next : (limit : Option ℕ) (fs gs : List Frame) (p q : Phase) (c : ℕ) → step (rules true limit) fs p c ≡ next gs q → step (rules false limit) fs p c ≡ next gs q
+strict_next limit fs gs p q c e = same_next _ _ gs q (same_step limit fs p c) e
 
-pub strict-stop : (limit : Option ℕ) (fs : List Frame) (p : Phase) (c : ℕ) (k : JsonParseErrorKind) (b : Bool) → is_own k ≡ false → step (rules true limit) fs p c ≡ stop k b → step (rules false limit) fs p c ≡ stop k b
-strict-stop limit fs p c k b h e = same-stop _ _ k b (same-step limit fs p c) h e
+pub strict_stop : (limit : Option ℕ) (fs : List Frame) (p : Phase) (c : ℕ) (k : JsonParseErrorKind) (b : Bool) → is_own k ≡ false → step (rules true limit) fs p c ≡ stop k b → step (rules false limit) fs p c ≡ stop k b
+strict_stop limit fs p c k b h e = same_stop _ _ k b (same_step limit fs p c) h e
 
-same-key : (m m' : Next) (k : JsonKind) → Same m m' → m ≡ stop (KeyNotString k) true → (m' ≡ stop (KeyNotString k) true) ⊎ GoesOn (KeyNotString k) m'
-same-key _ _ k (same m) e = inl e
-same-key _ _ k (own j d m o g) e = let a : j ≡ KeyNotString k = cc in let b : d ≡ true = cc in inr (subst (λ x. GoesOn x m) a (g b))
+same_key : (m m' : Next) (k : JsonKind) → Same m m' → m ≡ stop (KeyNotString k) true → (m' ≡ stop (KeyNotString k) true) ⊎ GoesOn (KeyNotString k) m'
+same_key _ _ k (same m) e = inl e
+same_key _ _ k (own j d m o g) e = let a : j ≡ KeyNotString k = cc in let b : d ≡ true = cc in inr (subst (λ x. GoesOn x m) a (g b))
 
 -- where the strict machine stops at a key that is no string, the loose one awaits the colon
-pub strict-key : (limit : Option ℕ) (fs : List Frame) (p : Phase) (c : ℕ) (k : JsonKind) → step (rules true limit) fs p c ≡ stop (KeyNotString k) true →
+pub strict_key : (limit : Option ℕ) (fs : List Frame) (p : Phase) (c : ℕ) (k : JsonKind) → step (rules true limit) fs p c ≡ stop (KeyNotString k) true →
     (step (rules false limit) fs p c ≡ stop (KeyNotString k) true) ⊎ GoesOn (KeyNotString k) (step (rules false limit) fs p c)
-strict-key limit fs p c k e = same-key _ _ k (same-step limit fs p c) e
+strict_key limit fs p c k e = same_key _ _ k (same_step limit fs p c) e

@@ -15,8 +15,8 @@ use Rattle.tinyjson.specs.Prefix.{IsViable, IsLooselyViable}
 use Rattle.tinyjson.proofs.Grammar.Trace.Paths.{Path, key_in, path_text, level, IsPath, closes, closing}
 use Rattle.tinyjson.proofs.Grammar.Prefix.Faultless.{faultless}
 use Rattle.tinyjson.proofs.Grammar.Prefix.Loose.{is_own}
-use Rattle.tinyjson.proofs.Grammar.Step.Awaits.{awaits-value}
-use Rattle.tinyjson.proofs.Grammar.Trace.State.{Spells, loosely-from}
+use Rattle.tinyjson.proofs.Grammar.Step.Awaits.{awaits_value}
+use Rattle.tinyjson.proofs.Grammar.Trace.State.{Spells, loosely_from}
 
 -- ---- what cannot come
 
@@ -69,17 +69,17 @@ opener xs (p ∷ ps) = let r = last_comma ps p in (xs ++ 123 ∷ r.0, 44, inr re
 pub regroup : (a b c d : List ℕ) → (a ++ (b ++ c)) ++ d ≡ (a ++ b) ++ (c ++ d)
 regroup a b c d = simp append_assoc
 
-pub key-says : (limit : Option ℕ) (p : Path) (ps : List Pair) (w : List ℕ) → IsPath limit (key_in p ps w) → (s : Syntax) → IsValue s → is_key s ≡ false → IsWithin limit (suc (level p) + depth s) →
+pub key_says : (limit : Option ℕ) (p : Path) (ps : List Pair) (w : List ℕ) → IsPath limit (key_in p ps w) → (s : Syntax) → IsValue s → is_key s ≡ false → IsWithin limit (suc (level p) + depth s) →
     (used : List ℕ) → used ≡ path_text (key_in p ps w) ++ text s → (rest : List ℕ) → EndsBefore s rest →
     ¬ IsViable (IsAccepted limit) used → KindSays limit (KeyNotString (kind_of (tree_of s))) used rest
-key-says limit p ps w hp s hs hk hd used e rest b u =
+key_says limit p ps w hp s hs hk hd used e rest b u =
     let o : Opener (path_text p ++ 123 ∷ pairs_before ps) = opener (path_text p) ps in
     let used_is : used ≡ o.0 ++ o.1 ∷ (w ++ text s) = e ∙ (regroup (path_text p) (123 ∷ pairs_before ps) w (text s) ∙ (ap (λ xs. xs ++ (w ++ text s)) o.3 ∙ append_assoc o.0 (o.1 ∷ []) (w ++ text s))) in
     let place_is : path_text (key_in p ps w) ≡ o.0 ++ o.1 ∷ w = sym (append_assoc (path_text p) (123 ∷ pairs_before ps) w) ∙ (ap (λ xs. xs ++ w) o.3 ∙ append_assoc o.0 (o.1 ∷ []) w) in (
-      (o.0, w, o.1, s, o.2, hp.2, hs.spelled, hs.strict, hk, refl, used_is, subst (AwaitsValue limit) place_is (awaits-value limit (key_in p ps w) hp), b),
+      (o.0, w, o.1, s, o.2, hp.2, hs.spelled, hs.strict, hk, refl, used_is, subst (AwaitsValue limit) place_is (awaits_value limit (key_in p ps w) hp), b),
       (
         rw e (rw (sym (append-nil (text s))) (faultless limit (key_in p ps w) hp s hs hd [] tt (inr (hk, refl)))),
-        rw e (loosely-from limit _ (48 ∷ 125 ∷ closing p) (simp append_assoc) (closes limit (key_in p ps w) hp s hs.spelled hd [] tt)),
+        rw e (loosely_from limit _ (48 ∷ 125 ∷ closing p) (simp append_assoc) (closes limit (key_in p ps w) hp s hs.spelled hd [] tt)),
         u,
       ),
     )

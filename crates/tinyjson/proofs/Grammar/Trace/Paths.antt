@@ -86,13 +86,13 @@ pub pairs_deepest_push : (ps : List Pair) (p : Pair) → pairs_deepest (ps ++ p 
 pairs_deepest_push [] p = omega arith
 pairs_deepest_push (q ∷ ps) p = rw (pairs_deepest_push ps p) (omega arith)
 
-pub AreElements-push : (es : List Element) (e : Element) → AreElementsBefore es → IsElement e → AreElementsBefore (es ++ e ∷ [])
-AreElements-push [] e h i = (i, tt)
-AreElements-push (d ∷ es) e h i = (h.0, AreElements-push es e h.1 i)
+pub AreElements_push : (es : List Element) (e : Element) → AreElementsBefore es → IsElement e → AreElementsBefore (es ++ e ∷ [])
+AreElements_push [] e h i = (i, tt)
+AreElements_push (d ∷ es) e h i = (h.0, AreElements_push es e h.1 i)
 
-pub ArePairs-push : (ps : List Pair) (p : Pair) → ArePairsBefore ps → IsPair p → ArePairsBefore (ps ++ p ∷ [])
-ArePairs-push [] p h i = (i, tt)
-ArePairs-push (q ∷ ps) p h i = (h.0, ArePairs-push ps p h.1 i)
+pub ArePairs_push : (ps : List Pair) (p : Pair) → ArePairsBefore ps → IsPair p → ArePairsBefore (ps ++ p ∷ [])
+ArePairs_push [] p h i = (i, tt)
+ArePairs_push (q ∷ ps) p h i = (h.0, ArePairs_push ps p h.1 i)
 
 -- ---- the container whose last item or pair is given
 
@@ -104,64 +104,64 @@ abbrev pub pairs_with : List Pair → List ℕ → Syntax → List ℕ → List 
 pairs_with [] a k b c s d = last_pair a k b c s d
 pairs_with (p ∷ ps) a k b c s d = pair p.before_key p.key p.after_key p.before p.value p.after (pairs_with ps a k b c s d)
 
-pub items-text : (es : List Element) (w : List ℕ) (s : Syntax) (v : List ℕ) → elements_text (items_with es w s v) ≡ elements_before es ++ (w ++ (text s ++ v))
-items-text [] w s v = refl
-items-text (e ∷ es) w s v = simp (items-text es w s v, append_assoc)
+pub text_of_items : (es : List Element) (w : List ℕ) (s : Syntax) (v : List ℕ) → elements_text (items_with es w s v) ≡ elements_before es ++ (w ++ (text s ++ v))
+text_of_items [] w s v = refl
+text_of_items (e ∷ es) w s v = simp (text_of_items es w s v, append_assoc)
 
-pub pairs-text : (ps : List Pair) (a : List ℕ) (k : Syntax) (b c : List ℕ) (s : Syntax) (d : List ℕ) →
+pub text_of_pairs : (ps : List Pair) (a : List ℕ) (k : Syntax) (b c : List ℕ) (s : Syntax) (d : List ℕ) →
     pairs_text (pairs_with ps a k b c s d) ≡ pairs_before ps ++ (a ++ (text k ++ (b ++ 58 ∷ (c ++ (text s ++ d)))))
-pairs-text [] a k b c s d = refl
-pairs-text (p ∷ ps) a k b c s d = simp (pairs-text ps a k b c s d, append_assoc)
+text_of_pairs [] a k b c s d = refl
+text_of_pairs (p ∷ ps) a k b c s d = simp (text_of_pairs ps a k b c s d, append_assoc)
 
-pub items-trees : (es : List Element) (w : List ℕ) (s : Syntax) (v : List ℕ) → elements_trees (items_with es w s v) ≡ trees_of es ++ tree_of s ∷ []
-items-trees [] w s v = refl
-items-trees (e ∷ es) w s v = ap (λ ts. tree_of e.value ∷ ts) (items-trees es w s v)
+pub items_trees : (es : List Element) (w : List ℕ) (s : Syntax) (v : List ℕ) → elements_trees (items_with es w s v) ≡ trees_of es ++ tree_of s ∷ []
+items_trees [] w s v = refl
+items_trees (e ∷ es) w s v = ap (λ ts. tree_of e.value ∷ ts) (items_trees es w s v)
 
-pub pairs-members : (ms : Members) (ps : List Pair) (a : List ℕ) (k : Syntax) (b c : List ℕ) (s : Syntax) (d : List ℕ) →
+pub members_of_pairs : (ms : Members) (ps : List Pair) (a : List ℕ) (k : Syntax) (b c : List ℕ) (s : Syntax) (d : List ℕ) →
     pairs_members ms (pairs_with ps a k b c s d) ≡ put (key_of (tree_of k)) (tree_of s) (members_from ms ps)
-pairs-members ms [] a k b c s d = refl
-pairs-members ms (p ∷ ps) a k b c s d = pairs-members (put (key_of (tree_of p.key)) (tree_of p.value) ms) ps a k b c s d
+members_of_pairs ms [] a k b c s d = refl
+members_of_pairs ms (p ∷ ps) a k b c s d = members_of_pairs (put (key_of (tree_of p.key)) (tree_of p.value) ms) ps a k b c s d
 
-pub items-depth : (es : List Element) (w : List ℕ) (s : Syntax) (v : List ℕ) → elements_depth (items_with es w s v) ≡ max (elements_deepest es) (depth s)
-items-depth [] w s v = omega arith
-items-depth (e ∷ es) w s v = rw (items-depth es w s v) (omega arith)
+pub depth_of_items : (es : List Element) (w : List ℕ) (s : Syntax) (v : List ℕ) → elements_depth (items_with es w s v) ≡ max (elements_deepest es) (depth s)
+depth_of_items [] w s v = omega arith
+depth_of_items (e ∷ es) w s v = rw (depth_of_items es w s v) (omega arith)
 
-pub pairs-depth : (ps : List Pair) (a : List ℕ) (k : Syntax) (b c : List ℕ) (s : Syntax) (d : List ℕ) →
+pub depth_of_pairs : (ps : List Pair) (a : List ℕ) (k : Syntax) (b c : List ℕ) (s : Syntax) (d : List ℕ) →
     pairs_depth (pairs_with ps a k b c s d) ≡ max (pairs_deepest ps) (max (depth k) (depth s))
-pairs-depth [] a k b c s d = omega arith
-pairs-depth (p ∷ ps) a k b c s d = rw (pairs-depth ps a k b c s d) (omega arith)
+depth_of_pairs [] a k b c s d = omega arith
+depth_of_pairs (p ∷ ps) a k b c s d = rw (depth_of_pairs ps a k b c s d) (omega arith)
 
-pub items-spelled : (es : List Element) (w : List ℕ) (s : Syntax) (v : List ℕ) → AreElementsBefore es → AreWhite w → IsSpelled s → AreWhite v → AreElements (items_with es w s v)
-items-spelled [] w s v h hw hs hv = (hw, hs, hv)
-items-spelled (e ∷ es) w s v h hw hs hv = (h.0.before, h.0.value.spelled, h.0.after, items-spelled es w s v h.1 hw hs hv)
+pub items_spelled : (es : List Element) (w : List ℕ) (s : Syntax) (v : List ℕ) → AreElementsBefore es → AreWhite w → IsSpelled s → AreWhite v → AreElements (items_with es w s v)
+items_spelled [] w s v h hw hs hv = (hw, hs, hv)
+items_spelled (e ∷ es) w s v h hw hs hv = (h.0.before, h.0.value.spelled, h.0.after, items_spelled es w s v h.1 hw hs hv)
 
-pub items-strict : (es : List Element) (w : List ℕ) (s : Syntax) (v : List ℕ) → AreElementsBefore es → IsStrict s → ElementsAreStrict (items_with es w s v)
-items-strict [] w s v h hs = hs
-items-strict (e ∷ es) w s v h hs = (h.0.value.strict, items-strict es w s v h.1 hs)
+pub items_strict : (es : List Element) (w : List ℕ) (s : Syntax) (v : List ℕ) → AreElementsBefore es → IsStrict s → ElementsAreStrict (items_with es w s v)
+items_strict [] w s v h hs = hs
+items_strict (e ∷ es) w s v h hs = (h.0.value.strict, items_strict es w s v h.1 hs)
 
-pub pairs-spelled : (ps : List Pair) (a : List ℕ) (k : Syntax) (b c : List ℕ) (s : Syntax) (d : List ℕ) →
+pub pairs_spelled : (ps : List Pair) (a : List ℕ) (k : Syntax) (b c : List ℕ) (s : Syntax) (d : List ℕ) →
     ArePairsBefore ps → AreWhite a → IsSpelled k → AreWhite b → AreWhite c → IsSpelled s → AreWhite d → ArePairs (pairs_with ps a k b c s d)
-pairs-spelled [] a k b c s d h ha hk hb hc hs hd = (ha, hk, hb, hc, hs, hd)
-pairs-spelled (p ∷ ps) a k b c s d h ha hk hb hc hs hd =
-    (h.0.before_key, h.0.key.spelled, h.0.after_key, h.0.before, h.0.value.spelled, h.0.after, pairs-spelled ps a k b c s d h.1 ha hk hb hc hs hd)
+pairs_spelled [] a k b c s d h ha hk hb hc hs hd = (ha, hk, hb, hc, hs, hd)
+pairs_spelled (p ∷ ps) a k b c s d h ha hk hb hc hs hd =
+    (h.0.before_key, h.0.key.spelled, h.0.after_key, h.0.before, h.0.value.spelled, h.0.after, pairs_spelled ps a k b c s d h.1 ha hk hb hc hs hd)
 
-pub pairs-strict : (ps : List Pair) (a : List ℕ) (k : Syntax) (b c : List ℕ) (s : Syntax) (d : List ℕ) →
+pub pairs_strict : (ps : List Pair) (a : List ℕ) (k : Syntax) (b c : List ℕ) (s : Syntax) (d : List ℕ) →
     ArePairsBefore ps → IsKey k → IsStrict k → IsStrict s → PairsAreStrict (pairs_with ps a k b c s d)
-pairs-strict [] a k b c s d h hk ht hs = (hk, ht, hs)
-pairs-strict (p ∷ ps) a k b c s d h hk ht hs = (h.0.is_key, h.0.key.strict, h.0.value.strict, pairs-strict ps a k b c s d h.1 hk ht hs)
+pairs_strict [] a k b c s d h hk ht hs = (hk, ht, hs)
+pairs_strict (p ∷ ps) a k b c s d h hk ht hs = (h.0.is_key, h.0.key.strict, h.0.value.strict, pairs_strict ps a k b c s d h.1 hk ht hs)
 
-pub key-depth : (k : Syntax) → IsKey k → depth k ≡ 0
-key-depth null h = absurd (false≢true h)
-key-depth (Syntax.boolean b) h = absurd (false≢true h)
-key-depth (Syntax.number n) h = absurd (false≢true h)
-key-depth (Syntax.string ps) h = refl
-key-depth (Syntax.empty_array w) h = absurd (false≢true h)
-key-depth (array es) h = absurd (false≢true h)
-key-depth (Syntax.empty_object w) h = absurd (false≢true h)
-key-depth (object ps) h = absurd (false≢true h)
+pub key_depth : (k : Syntax) → IsKey k → depth k ≡ 0
+key_depth null h = absurd (false≢true h)
+key_depth (Syntax.boolean b) h = absurd (false≢true h)
+key_depth (Syntax.number n) h = absurd (false≢true h)
+key_depth (Syntax.string ps) h = refl
+key_depth (Syntax.empty_array w) h = absurd (false≢true h)
+key_depth (array es) h = absurd (false≢true h)
+key_depth (Syntax.empty_object w) h = absurd (false≢true h)
+key_depth (object ps) h = absurd (false≢true h)
 
-pub key-or : (k : Syntax) → IsKey k ⊎ (is_key k ≡ false)
-key-or k = cases_Bool (is_key k)
+pub key_or : (k : Syntax) → IsKey k ⊎ (is_key k ≡ false)
+key_or k = cases_Bool (is_key k)
 
 -- ---- the whole text round a place
 
@@ -176,15 +176,15 @@ pub closes : (limit : Option ℕ) (p : Path) → IsPath limit p → (s : Syntax)
 closes limit (outside w) hp s hs hd v hv =
     record { before = w; value = s; after = v; white_before = hp; spelled = hs; white_after = hv; shallow = within_le limit _ _ hd (omega arith); whole = simp append-nil }
 closes limit (item_in p es w) hp s hs hd v hv =
-    subst (IsLoose limit) (simp (items-text, append_assoc))
-    (closes limit p hp.0 (array (items_with es w s v)) (items-spelled es w s v hp.1 hp.2 hs hv)
-    (within_max limit _ _ _ hp.3 hd (rw (items-depth es w s v) (omega arith))) [] tt)
+    subst (IsLoose limit) (simp (text_of_items, append_assoc))
+    (closes limit p hp.0 (array (items_with es w s v)) (items_spelled es w s v hp.1 hp.2 hs hv)
+    (within_max limit _ _ _ hp.3 hd (rw (depth_of_items es w s v) (omega arith))) [] tt)
 closes limit (key_in p ps w) hp s hs hd v hv =
     let zero_numeral : Syntax = Syntax.number (record { negative = false; whole = 48 ∷ []; fraction = []; exponent = None }) in
-    subst (IsLoose limit) (simp (pairs-text, append_assoc))
-    (closes limit p hp.0 (object (pairs_with ps w s v [] zero_numeral [])) (pairs-spelled ps w s v [] zero_numeral [] hp.1 hp.2 hs hv tt (record { whole = (refl, tt); some_digit = omega arith; fraction = tt; exponent = tt }) tt)
-    (within_max limit _ _ _ hp.3 hd (rw (pairs-depth ps w s v [] zero_numeral []) (omega arith))) [] tt)
+    subst (IsLoose limit) (simp (text_of_pairs, append_assoc))
+    (closes limit p hp.0 (object (pairs_with ps w s v [] zero_numeral [])) (pairs_spelled ps w s v [] zero_numeral [] hp.1 hp.2 hs hv tt (record { whole = (refl, tt); some_digit = omega arith; fraction = tt; exponent = tt }) tt)
+    (within_max limit _ _ _ hp.3 hd (rw (depth_of_pairs ps w s v [] zero_numeral []) (omega arith))) [] tt)
 closes limit (value_in p ps a k b w) hp s hs hd v hv =
-    subst (IsLoose limit) (simp (pairs-text, append_assoc))
-    (closes limit p hp.0 (object (pairs_with ps a k b w s v)) (pairs-spelled ps a k b w s v hp.1 hp.2 hp.3.spelled hp.5 hp.6 hs hv)
-    (within_max limit _ _ _ hp.7 hd (rw (pairs-depth ps a k b w s v) (rw (key-depth k hp.4) (omega arith)))) [] tt)
+    subst (IsLoose limit) (simp (text_of_pairs, append_assoc))
+    (closes limit p hp.0 (object (pairs_with ps a k b w s v)) (pairs_spelled ps a k b w s v hp.1 hp.2 hp.3.spelled hp.5 hp.6 hs hv)
+    (within_max limit _ _ _ hp.7 hd (rw (depth_of_pairs ps a k b w s v) (rw (key_depth k hp.4) (omega arith)))) [] tt)

@@ -206,8 +206,8 @@ path_within (Some l) (value_in p ps a k b w) h = omega (arith, h.7)
 pub flat_within : (limit : Option ℕ) (p : Path) (s : Syntax) → IsPath limit p → depth s ≡ 0 → IsWithin limit (level p + depth s)
 flat_within limit p s h e = within_le limit _ _ (path_within limit p h) (rw e (omega arith))
 
-pub loosely-from : (limit : Option ℕ) (xs ys : List ℕ) {zs : List ℕ} → zs ≡ xs ++ ys → IsLoose limit zs → IsLooselyViable limit xs
-loosely-from limit xs ys e h = (ys, subst (IsLoose limit) e h)
+pub loosely_from : (limit : Option ℕ) (xs ys : List ℕ) {zs : List ℕ} → zs ≡ xs ++ ys → IsLoose limit zs → IsLooselyViable limit xs
+loosely_from limit xs ys e h = (ys, subst (IsLoose limit) e h)
 
 pub are_white_append : (v w : List ℕ) → AreWhite v → AreWhite w → AreWhite (v ++ w)
 are_white_append [] w h i = i
@@ -217,9 +217,9 @@ pub are_pieces_append : (ps qs : List Piece) → ArePieces ps → ArePieces qs �
 are_pieces_append [] qs h i = i
 are_pieces_append (p ∷ ps) qs h i = (h.0, are_pieces_append ps qs h.1 i)
 
-pub pieces-append : (ps qs : List Piece) → pieces_text (ps ++ qs) ≡ pieces_text ps ++ pieces_text qs
-pieces-append [] qs = refl
-pieces-append (p ∷ ps) qs = simp (pieces-append ps qs, append_assoc)
+pub pieces_append : (ps qs : List Piece) → pieces_text (ps ++ qs) ≡ pieces_text ps ++ pieces_text qs
+pieces_append [] qs = refl
+pieces_append (p ∷ ps) qs = simp (pieces_append ps qs, append_assoc)
 
 -- what a token that was begun may end as
 pub record Ending (front : List ℕ) : Type 0 where
@@ -229,9 +229,9 @@ pub record Ending (front : List ℕ) : Type 0 where
   pub rest : List ℕ
   pub whole : text value ≡ front ++ rest
 
-pub ends-loosely : (limit : Option ℕ) (p : Path) → IsPath limit p → (front : List ℕ) → Ending front → IsLooselyViable limit (path_text p ++ front)
-ends-loosely limit p hp front e =
-    loosely-from limit (path_text p ++ front) (e.rest ++ closing p) (rw e.whole (simp append_assoc)) (closes limit p hp e.value e.spelled (flat_within limit p e.value hp e.flat) [] tt)
+pub ends_loosely : (limit : Option ℕ) (p : Path) → IsPath limit p → (front : List ℕ) → Ending front → IsLooselyViable limit (path_text p ++ front)
+ends_loosely limit p hp front e =
+    loosely_from limit (path_text p ++ front) (e.rest ++ closing p) (rw e.whole (simp append_assoc)) (closes limit p hp e.value e.spelled (flat_within limit p e.value hp e.flat) [] tt)
 
-pub white-loosely : (limit : Option ℕ) (p : Path) → IsPath limit p → (s : Syntax) → IsSpelled s → IsWithin limit (level p + depth s) → (v : List ℕ) → AreWhite v → IsLooselyViable limit (path_text p ++ (text s ++ v))
-white-loosely limit p hp s hs hd v hv = loosely-from limit (path_text p ++ (text s ++ v)) (closing p) (simp append_assoc) (closes limit p hp s hs hd v hv)
+pub white_loosely : (limit : Option ℕ) (p : Path) → IsPath limit p → (s : Syntax) → IsSpelled s → IsWithin limit (level p + depth s) → (v : List ℕ) → AreWhite v → IsLooselyViable limit (path_text p ++ (text s ++ v))
+white_loosely limit p hp s hs hd v hv = loosely_from limit (path_text p ++ (text s ++ v)) (closing p) (simp append_assoc) (closes limit p hp s hs hd v hv)

@@ -1,5 +1,5 @@
 use Rattle.std.proofs.Common.{◌≡◌, ◌∙◌, sym, ap, ap₂, arith}
-use Rattle.tinyjson.proofs.Values.Copies.{filled_all_last, put_all-none, stack_weight_last}
+use Rattle.tinyjson.proofs.Values.Copies.{filled_all_last, put_all_none, stack_weight_last}
 use Rattle.tinyjson.proofs.value.copy.copy.Goals as goal
 use Rattle.tinyjson.specs.private.Copy.{put_all, filled_all, step_view, stack_weight, step_weight}
 use Rattle.tinyjson.specs.Tree.{object}
@@ -10,7 +10,7 @@ loop-step-preserved-in_ok-step-in-Object c =
     let stack = c.loop-step.stack.items in
     let entries = c.in-Object.members.now.entries in
     let all : put_all c.iter-in-Object.result (members_view c.in_ok-copies-in-Object.copies.entries) ≡ members_view entries
-    = (λ i. put_all (c.iter-in-Object.ensures.rest i) (members_view (c.in_ok-copies-in-Object.ensures.empty i))) ∙ put_all-none entries c.iter-in-Object.ensures.unique in
+    = (λ i. put_all (c.iter-in-Object.ensures.rest i) (members_view (c.in_ok-copies-in-Object.ensures.empty i))) ∙ put_all_none entries c.iter-in-Object.ensures.unique in
     c.in_ok-step-in-Object.ensures.view ∙ (ap (λ ms. filled_all stack (object ms)) all ∙ (ap (λ s. filled_all stack (step_view s)) (sym c.in-Object.is) ∙ c.loop-step.invariant))
 
 pub loop-step-smaller : goal.loop-step-smaller

@@ -1,5 +1,5 @@
 use Rattle.std.proofs.Common.{◌&&◌, ◌∙◌, ap, arith}
-use Rattle.tinyjson.proofs.Values.Comparing.{rests_eq_last, rests_weight_last, turn-deferred}
+use Rattle.tinyjson.proofs.Values.Comparing.{rests_eq_last, rests_weight_last, turn_deferred}
 use Rattle.tinyjson.specs.private.Comparison.{rest_eq, rests_eq, rests_weight}
 use Rattle.tinyjson.proofs.value.equality.compare_all.Goals as goal
 
@@ -19,4 +19,4 @@ loop-stack-preserved-in-Ok c =
     let deferred = rests_eq c.loop-stack.stack.items in
     ap (λ rs. inner && rests_eq rs) c.in-Ok.ensures.items
     ∙ (ap (λ b. inner && b) (rests_eq_last c.loop-stack.stack.items c.in-Inside.outer)
-    ∙ turn-deferred (rest_eq c.loop-stack.rest) deferred _ c.loop-stack.invariant inner (rest_eq c.in-Inside.outer) c.in-Inside.ensures.same)
+    ∙ turn_deferred (rest_eq c.loop-stack.rest) deferred _ c.loop-stack.invariant inner (rest_eq c.in-Inside.outer) c.in-Inside.ensures.same)
