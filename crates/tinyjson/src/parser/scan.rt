@@ -1,13 +1,46 @@
-//! Runs of bytes in a text.
-ghost use Rattle.std.specs.Prelude.{◌≡◌, ◌+◌, ◌≤◌, length, drop};
+//! Runs of white space and of digits in a text, found sixteen bytes at a time.
+ghost use Rattle.std.specs.Prelude.{◌≡◌, ◌+◌, ◌≤◌, length, drop, map};
 ghost use Rattle.std.specs.Char.{is_ascii_digit};
 ghost use Rattle.std.specs.List.{prefix_len};
+ghost use Rattle.std.specs.Simd.Lanes.{mask_l};
 ghost use Rattle.tinyjson.specs.Characters.{is_white};
+ghost use Rattle.tinyjson.specs.private.Scan.{is_no_digit, is_no_white};
 
 use super::source::is_white;
+use std::simd::prelude::*;
 
 /// The place of the first byte, at `from` or behind it, that is no white space; or the length.
+#[inline(always)]
 pub(super) fn white_end(bytes: &[u8], from: usize) -> usize
+    requires { from ≤ length bytes.now }
+    ensures { result ≡ from + prefix_len is_white (drop from bytes.now) }
+{
+    if from < bytes.len() && is_white(bytes[from] as char) {
+        return white_run(bytes, from + 1);
+    }
+    from
+}
+
+/// The same behind white space.
+#[inline(never)]
+fn white_run(bytes: &[u8], from: usize) -> usize
+    requires { from ≤ length bytes.now }
+    ensures { result ≡ from + prefix_len is_white (drop from bytes.now) }
+{
+    let mut i = from;
+    while bytes.len() - i >= 16 {
+        let found = no_whites(u8x16::from_slice(&bytes[i..]));
+        if found != 0 {
+            return i + found.trailing_zeros() as usize;
+        }
+        i += 16;
+    }
+    white_bytes(bytes, i)
+}
+
+/// The same byte by byte.
+#[inline(always)]
+fn white_bytes(bytes: &[u8], from: usize) -> usize
     requires { from ≤ length bytes.now }
     ensures { result ≡ from + prefix_len is_white (drop from bytes.now) }
 {
@@ -18,8 +51,36 @@ pub(super) fn white_end(bytes: &[u8], from: usize) -> usize
     end
 }
 
+#[inline(always)]
+fn no_whites(v: u8x16) -> u64
+    ensures { result ≡ mask_l (map is_no_white v) }
+{
+    (v.simd_ne(u8x16::splat(b' '))
+        & v.simd_ne(u8x16::splat(b'\n'))
+        & v.simd_ne(u8x16::splat(b'\r'))
+        & v.simd_ne(u8x16::splat(b'\t'))).to_bitmask()
+}
+
 /// The place of the first byte, at `from` or behind it, that is no digit; or the length.
+#[inline(always)]
 pub(super) fn digits_end(bytes: &[u8], from: usize) -> usize
+    requires { from ≤ length bytes.now }
+    ensures { result ≡ from + prefix_len is_ascii_digit (drop from bytes.now) }
+{
+    let mut i = from;
+    while bytes.len() - i >= 16 {
+        let found = no_digits(u8x16::from_slice(&bytes[i..]));
+        if found != 0 {
+            return i + found.trailing_zeros() as usize;
+        }
+        i += 16;
+    }
+    digits_bytes(bytes, i)
+}
+
+/// The same byte by byte.
+#[inline(always)]
+fn digits_bytes(bytes: &[u8], from: usize) -> usize
     requires { from ≤ length bytes.now }
     ensures { result ≡ from + prefix_len is_ascii_digit (drop from bytes.now) }
 {
@@ -28,4 +89,13 @@ pub(super) fn digits_end(bytes: &[u8], from: usize) -> usize
         end += 1;
     }
     end
+}
+
+#[inline(always)]
+fn no_digits(v: u8x16) -> u64
+    ensures { result ≡ mask_l (map is_no_digit v) }
+{
+    (v - u8x16::splat(b'0'))
+        .simd_ge(u8x16::splat(10))
+        .to_bitmask()
 }

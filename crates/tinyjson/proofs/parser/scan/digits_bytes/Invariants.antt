@@ -1,11 +1,11 @@
 use Rattle.std.proofs.Common.{◌≡◌, ◌+◌, ◌-◌, ◌≤◌, length, drop}
+use Rattle.std.specs.Char.{is_ascii_digit}
 use Rattle.std.specs.List.{prefix_len}
-use Rattle.tinyjson.specs.Characters.{is_white}
-use Rattle.tinyjson.proofs.parser.scan.white_end.Given as goal
+use Rattle.tinyjson.proofs.parser.scan.digits_bytes.Given as goal
 
 abbrev pub invariant-loop-end : goal.invariant-loop-end
 invariant-loop-end l = record {
-  run : l.from + prefix_len is_white (drop l.from l.bytes) ≡ l.end + prefix_len is_white (drop l.end l.bytes);
+  run : l.from + prefix_len is_ascii_digit (drop l.from l.bytes) ≡ l.end + prefix_len is_ascii_digit (drop l.end l.bytes);
   within : l.end ≤ length l.bytes;
 }
 
