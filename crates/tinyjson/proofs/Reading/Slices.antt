@@ -1,5 +1,5 @@
 -- What stands before a place in a text, between two places, and behind a place.
-use Rattle.std.proofs.Common.{◌≡◌, ℕ, zero, suc, ◌+◌, ◌-◌, ◌<◌, ◌≤◌, Bool, true, false, cond, List, [], ◌∷◌, ◌++◌, length, take, drop, get_or, Option, Some, None, MatchOption, IfSome, refl, sym, ap, ◌∙◌, subst, arith, length-append, append-nil, add-zero, ⊎_elim, true≢false}
+use Rattle.std.proofs.Common.{◌≡◌, ℕ, zero, suc, ◌+◌, ◌-◌, ◌<◌, ◌≤◌, Bool, true, false, cond, List, [], ◌∷◌, ◌++◌, length, take, drop, get_or, Option, Some, None, MatchOption, IfSome, refl, sym, ap, ◌∙◌, subst, arith, length-append, append-nil, add-zero, drop-cons, ⊎_elim, true≢false}
 use Rattle.std.proofs.lemmas.Bool.{cases_lt}
 use Rattle.std.specs.Prelude.{encode_utf8, slice_get}
 use Rattle.std.specs.Char.{is_ascii_digit, len_utf8}
@@ -40,6 +40,15 @@ module _ (text : List ℕ) (utf8 : IsUtf8 text) (i j : ℕ) (h : i ≤ j) (first
       let back : drop i (take j text) ≡ slice = ap (λ m. drop i (take m text)) (sym n) ∙ drop-take i (j - i) text in
       ap chars (sym (take-append-drop i (take j text))) ∙ ap (λ bs. chars (bs ++ drop i (take j text))) front ∙ ap (λ bs. chars (take i text ++ bs)) back
       ∙ chars-append (take i text) slice (IsUtf8-take text i utf8 first)
+
+  between-more : (k : ℕ) → j ≤ k → between text i k ≡ between text i j ++ between text j k
+  between-more k g =
+      let whole = take (k - i) (drop i text) in
+      let n : (j - i) + (k - j) ≡ k - i = omega arith in
+      let front : take (j - i) whole ≡ slice = take-take (j - i) (k - i) (drop i text) (omega arith) in
+      let back : drop (j - i) whole ≡ take (k - j) (drop j text) = ap (λ m. drop (j - i) (take m (drop i text))) (sym n) ∙ drop-take (j - i) (k - j) (drop i text) ∙ ap (take (k - j)) rest in
+      ap chars (sym (take-append-drop (j - i) whole)) ∙ ap (λ bs. chars (bs ++ drop (j - i) whole)) front ∙ ap (λ bs. chars (slice ++ bs)) back
+      ∙ chars-append slice (take (k - j) (drop j text)) (IsUtf8-between text i j utf8 h first last)
 
   -- what is taken on the way from i to j
   module _ (xs : List ℕ) (e : between text i j ≡ xs) where
@@ -85,6 +94,12 @@ module _ (text : List ℕ) (utf8 : IsUtf8 text) (at : ℕ) (first : IsCharBounda
       let one : take (at + n - at) (drop at text) ≡ encode_utf8 c = ap (λ k. take k (drop at text)) m ∙ ap (take (length (encode_utf8 c))) next ∙ take-append_seam (encode_utf8 c) (drop (at + len_utf8 c) text) in
       let u : IsUtf8 (encode_utf8 c) = subst IsUtf8 one (IsUtf8-between text at (at + n) utf8 (omega arith) first char_boundary) in
       ap chars one ∙ chars_past_char (encode_utf8 c) [] c u (sym (append-nil (encode_utf8 c))) ∙ ap (λ cs. c ∷ cs) chars-nil
+
+pub ascii_next : (text : List ℕ) (at c : ℕ) → at < length text → get_or text at 0 ≡ c → c < 128 → NextChar text at (Some c)
+ascii_next text at c h e low =
+    let one : len_utf8 c ≡ 1 = grind (arith, nat_tests) in
+    let next : suc at ≡ at + len_utf8 c = omega (arith, one) in
+    drop-cons text at 0 h ∙ ap (λ y. y ∷ drop (suc at) text) e ∙ ap (λ m. c ∷ drop m text) next ∙ ap (λ bs. bs ++ drop (at + len_utf8 c) text) (sym (encode_ascii c low))
 
 -- ---- runs
 
@@ -193,3 +208,17 @@ module _ (p : ℕ → Bool) (high : (b : ℕ) → 128 ≤ b → p b ≡ true) wh
 
 pub plain_high : (c : ℕ) → 128 ≤ c → is_plain c ≡ true
 plain_high c h = grind (arith, nat_tests)
+
+-- plain characters, and the quote behind them
+module _ (text : List ℕ) (utf8 : IsUtf8 text) (at : ℕ) (first : IsCharBoundary text at) (to : ℕ) (e : to ≡ run_end is_plain text at) (h : to < length text) (q : get_or text to 0 ≡ 34) where
+  quote_next : NextChar text to (Some 34)
+  quote_next = ascii_next text to 34 h q (omega arith)
+
+  quote_first : IsCharBoundary text to
+  quote_first = plain_boundary is_plain plain_high text utf8 at first to e
+
+  pub quote_boundary : IsCharBoundary text (to + 1)
+  quote_boundary = char_boundary text utf8 to quote_first 34 1 quote_next refl
+
+  pub quote_between : between text at (to + 1) ≡ between text at to ++ 34 ∷ []
+  quote_between = between-more text utf8 at to (omega (arith, e)) first quote_first (to + 1) (omega arith) ∙ ap (λ cs. between text at to ++ cs) (char_between text utf8 to quote_first 34 1 quote_next refl)

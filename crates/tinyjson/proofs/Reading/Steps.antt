@@ -1,5 +1,5 @@
 -- How one step leads to the next.
-use Rattle.std.proofs.Common.{◌≡◌, ℕ, ◌+◌, ◌<◌, ◌==◌, Bool, not, cond, true, false, List, [], ◌∷◌, ◌++◌, length, get_or, drop, suc, Result, Ok, Err, Option, Some, None, refl, sym, ap, ◌∙◌, subst, append_assoc, append-nil, drop-cons, add-one, arith, inl, inr, ⊎_elim}
+use Rattle.std.proofs.Common.{◌≡◌, ℕ, ◌+◌, ◌<◌, ◌==◌, Bool, not, cond, true, false, List, [], ◌∷◌, ◌++◌, length, get_or, drop, suc, Result, Ok, Err, Option, Some, None, refl, sym, ap, ◌∙◌, subst, append_assoc, append-nil, drop-cons, add-one, inl, inr, ⊎_elim}
 use Rattle.std.proofs.lemmas.Bool.{eq-eqb, ne_eqb}
 use Rattle.std.specs.List.{AllByRecursion}
 use Rattle.std.specs.Char.{is_ascii_digit}
@@ -34,7 +34,7 @@ module _ (limit : Option ℕ) where
   Comes-same n m o [] rest a k b = (Same-trans n m o rest a b.0, λ h. k (b.1 h))
   Comes-same n m o (c ∷ cs) rest a k b = (k b.0, subst IsTaken (sym a) b.1, subst (λ z. Comes limit z cs o rest) (sym a) b.2)
 
-  Comes-trans : (n m o : Next) (xs ys rest : List ℕ) → Comes limit n xs m (ys ++ rest) → Comes limit m ys o rest → Comes limit n (xs ++ ys) o rest
+  pub Comes-trans : (n m o : Next) (xs ys rest : List ℕ) → Comes limit n xs m (ys ++ rest) → Comes limit m ys o rest → Comes limit n (xs ++ ys) o rest
   Comes-trans n m o [] ys rest a b = Comes-same n m o ys rest a.0 a.1 b
   Comes-trans n m o (c ∷ cs) ys rest a b = (a.0, a.1, Comes-trans (onward limit n c) m o cs ys rest a.2 b)
 

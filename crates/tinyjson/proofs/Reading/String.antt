@@ -15,7 +15,7 @@ use Rattle.tinyjson.specs.private.Source.{Sight, Takes, TakesRun}
 use Rattle.tinyjson.specs.private.Machine.{step, end, Frame, in_array, at_key, at_value, Next, next, stop, complete, plain, backslash, hex, quoted, refused}
 use Rattle.tinyjson.specs.declared.parser.error.JsonParseErrorKind.TheVariants.{InvalidUtf16, InvalidHexDigit, InvalidEscape, ControlCharacter, UnexpectedEof}
 use Rattle.tinyjson.specs.private.Steps.{onward, ending, within, Fails, IsNext, IsTaken, Comes, Leads, Halts, Refuses, Reads}
-use Rattle.tinyjson.proofs.Reading.Steps.{Same-refl, Leads-one, Halts-here, Halts-late, Refuses-as, Refuses-memory, taken_if}
+use Rattle.tinyjson.proofs.Reading.Steps.{Comes-trans, Same-refl, taken_complete, Leads-one, Halts-here, Halts-late, Refuses-as, Refuses-memory, taken_if}
 
 module _ {S : Type 0} (sight : Sight S) (limit : Option ℕ) where
   -- the units before the character that was read, c, could not be added
@@ -173,3 +173,20 @@ hex_taken fs cs us ds = taken_if (nat_lt (length ds) 4) (next fs (quoted (hex ds
 
 pub sixteen_next : (n : ℕ) → 16 ^ (n + 1) ≡ 16 ^ n * 16
 sixteen_next n = ap (λ m. 16 ^ m) (add-one n) ∙ pow-suc 16 n
+
+-- plain characters, and the quote that ends the string
+pub Leads-quoted : {S : Type 0} (sight : Sight S) (limit : Option ℕ) (p q : S) (fs : List Frame) (xs : List ℕ) → AllByRecursion (λ c. is_plain c ≡ true) xs → Takes sight p (xs ++ 34 ∷ []) q
+    → Leads sight limit p (next fs (quoted plain [] [])) q (complete true fs (string xs) true)
+Leads-quoted sight limit p q fs xs a t =
+    let n = next fs (quoted plain [] []) in
+    let m = next fs (quoted plain xs []) in
+    let o = complete true fs (string xs) true in
+    let e : o ≡ onward limit m 34 = sym (quote_whole limit fs xs [] xs 34 refl refl (sym (append-nil xs))) in
+    record {
+      taken = xs ++ 34 ∷ [];
+      gives = λ zs g.
+          let x = t.gives zs g in
+          let ends : Comes limit m (34 ∷ []) o x.0 = (tt, subst IsTaken e (taken_complete fs (string xs)), subst (λ z. Comes limit z [] o x.0) e (Same-refl limit o x.0, λ w. w)) in
+          (x.0, x.1, x.2, Comes-trans limit n m o xs (34 ∷ []) x.0 (plain_comes limit fs [] xs (34 ∷ x.0) a) ends);
+      moves = t.moves;
+    }

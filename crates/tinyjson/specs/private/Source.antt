@@ -1,7 +1,9 @@
 -- What a source of characters still gives, and what a call took from it. For private contracts.
-use Rattle.std.specs.Prelude.{◌≡◌, ℕ, ◌<◌, Bool, true, false, List, [], ◌∷◌, ◌++◌, Option, Some, None, Result, OnOk, IfSome}
+use Rattle.std.specs.Prelude.{◌≡◌, ℕ, ◌<◌, Bool, true, false, List, [], ◌∷◌, ◌++◌, Option, Some, None, Result, OnOk, Ok, Err, IfSome, String}
 use Rattle.std.specs.List.{AllByRecursion}
+use Rattle.std.specs.declared.alloc.Global.{Global}
 use Rattle.tinyjson.specs.Characters.{is_white}
+use Rattle.tinyjson.specs.View.{text}
 use Rattle.tinyjson.specs.Position.{Position, advance}
 
 -- How a source is seen: the list that it still gives, the first character of that list, or none, and where it stands.
@@ -37,3 +39,9 @@ module _ {S : Type 0} (sight : Sight S) where
   -- the next character does not pass, or there is none
   abbrev pub Stops : (ℕ → Bool) → S → Type 0
   Stops test q = (o : Option ℕ) × sight.shows q o × IfSome o (λ c. test c ≡ false)
+
+  -- A call took a string of characters that pass a test, and the quote behind it; or a run of them, as above.
+  abbrev pub TakesQuoted : (test : ℕ → Bool) {E : Type 0} → S → List ℕ → Result (Option (String Global)) E → List ℕ → S → Type 0
+  TakesQuoted test p old (Ok (Some s)) new q = AllByRecursion (λ c. test c ≡ true) (text s) × Takes p (text s ++ 34 ∷ []) q
+  TakesQuoted test p old (Ok None) new q = TakesRun test {E = Unit {0}} p old (Ok tt) new q
+  TakesQuoted test p old (Err e) new q = TakesRun test p old (Err e) new q

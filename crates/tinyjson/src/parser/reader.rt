@@ -23,6 +23,9 @@ where
     pub(super) source: S,
     /// The literal of the number that is being read.
     pub(super) literal: String,
+    /// The characters of a string that is read piece by piece, and the units behind them.
+    pub(super) buffer: String,
+    pub(super) units: Vec<u16>,
 }
 
 impl<S: Source> Reader<S> {
@@ -33,6 +36,8 @@ impl<S: Source> Reader<S> {
             alloc,
             source,
             literal: String::new(alloc),
+            buffer: String::new(alloc),
+            units: Vec::new(alloc),
         }
     }
 
@@ -111,7 +116,7 @@ impl<S: Source> Reader<S> {
             }
             '"' => {
                 self.source.bump();
-                self.string()
+                Ok(Some(JsonValue::String(self.string()?)))
             }
             '[' => self.array(limit, stack),
             '{' => self.object(limit, stack),

@@ -5,11 +5,11 @@ ghost use Rattle.std.specs.Option.{option_len};
 ghost use Rattle.tinyjson.specs.Characters.{is_white};
 ghost use Rattle.tinyjson.specs.private.Scan.{is_plain};
 ghost use Rattle.tinyjson.specs.Position.{position_at};
-ghost use Rattle.tinyjson.specs.private.Source.{Sight, Stops, Takes, TakesRun, Whites};
+ghost use Rattle.tinyjson.specs.private.Source.{Sight, Stops, Takes, TakesQuoted, TakesRun, Whites};
 ghost use Rattle.tinyjson.specs.View.{text};
 
 use super::utf16::push;
-use std::alloc::AllocError;
+use std::alloc::{AllocError, Global};
 
 /// A source of characters, of which the next one can be looked at.
 ///
@@ -68,6 +68,17 @@ pub(super) trait Source: Drop {
                 _ => return Ok(()),
             }
         }
+    }
+
+    /// Behind the quote that opens a string: the string, if the source finds that no escape stands in it.
+    /// Otherwise takes the plain characters that come next, and adds them to the buffer.
+    fn quoted(&mut self, alloc: Global, buffer: &mut String) -> Result<Option<String>, AllocError>
+        ensures quoted { TakesQuoted sight is_plain self.old (text buffer.old) result
+            (text buffer.new) self.new }
+        ensures left { left self.new ≤ left self.old }
+    {
+        self.plain(buffer)?;
+        Ok(None)
     }
 
     /// Takes the digits that come next, and adds them to a text. Where memory runs out, some of them may be

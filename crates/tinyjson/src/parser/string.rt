@@ -2,7 +2,7 @@
 ghost use Rattle.std.specs.Prelude.{◌≡◌, ℕ, ◌<◌, ◌≤◌, List, [], ◌∷◌, ◌++◌, true, false, MatchResult, OnOk, Option, cond};
 ghost use Rattle.tinyjson.specs.Characters.{paired, decode, short_escape};
 ghost use Rattle.tinyjson.specs.private.Machine.{Frame, plain, backslash, hex, quoted, next, complete};
-ghost use Rattle.tinyjson.specs.private.Steps.{Reads, Fails, at, within};
+ghost use Rattle.tinyjson.specs.private.Steps.{Reads, Fails, within};
 ghost use Rattle.tinyjson.specs.Tree.{string};
 ghost use Rattle.tinyjson.specs.View.{text};
 
@@ -10,7 +10,7 @@ use super::error::{JsonParseError, JsonParseErrorKind};
 use super::reader::Reader;
 use super::source::Source;
 use super::utf16::{decode, push};
-use crate::value::JsonValue;
+use std::mem;
 
 /// What the letter behind a backslash stands for.
 fn short_escape(c: char) -> Option<char>
@@ -29,20 +29,40 @@ fn short_escape(c: char) -> Option<char>
 
 impl<S: Source> Reader<S> {
     /// Behind the quote that opens a string.
-    pub(super) fn string(&mut self) -> Result<Option<JsonValue>, JsonParseError>
+    pub(super) fn string(&mut self) -> Result<String, JsonParseError>
         ensures reads { (limit : Option ℕ) (fs : List Frame) →
-            Reads S.sight limit self.old.source (next fs (quoted plain [] [])) result (at fs)
-            self.new.source }
+            Reads S.sight limit self.old.source (next fs (quoted plain [] [])) result
+            (λ s. complete true fs (string (text s)) true) self.new.source }
         ensures left { S.left self.new.source ≤ S.left self.old.source }
     {
-        let mut string = String::new(self.alloc);
-        let mut units = Vec::new(self.alloc);
-        loop {
-            self.plain(&mut string, units.as_slice())?;
-            if self.piece(&mut string, &mut units)? {
-                return Ok(Some(JsonValue::String(string)));
-            }
+        self.buffer.clear();
+        match self.source.quoted(self.alloc, &mut self.buffer) {
+            Ok(Some(string)) => Ok(string),
+            Ok(None) => self.pieces(),
+            Err(_) => Err(self.refuse(JsonParseErrorKind::OutOfMemory)),
         }
+    }
+
+    /// Behind the plain characters in the buffer.
+    #[inline(never)]
+    fn pieces(&mut self) -> Result<String, JsonParseError>
+        ensures reads { (limit : Option ℕ) (fs : List Frame) →
+            Reads S.sight limit self.old.source (within fs self.old.buffer [] false) result
+            (λ s. complete true fs (string (text s)) true) self.new.source }
+        ensures left { S.left self.new.source ≤ S.left self.old.source }
+    {
+        let mut string = mem::replace(&mut self.buffer, String::new(self.alloc));
+        let mut units = mem::replace(&mut self.units, Vec::new(self.alloc));
+        units.clear();
+        while !self.piece(&mut string, &mut units)? {
+            self.plain(&mut string, units.as_slice())?;
+        }
+        let Ok(exact) = String::from_str(self.alloc, string.as_str()) else {
+            return Err(self.refuse(JsonParseErrorKind::OutOfMemory));
+        };
+        self.buffer = string;
+        self.units = units;
+        Ok(exact)
     }
 
     /// Reads the plain characters that come next, unless units stand before them.
@@ -154,7 +174,9 @@ impl<S: Source> Reader<S> {
             × (units.new.items ≡ [])) (λ e. Fails e (paired units.old.items)
             (S.sight.place self.now.source)) }
     {
-        self.flush(string, units)?;
+        if !units.is_empty() {
+            self.flush(string, units)?;
+        }
         if push(string, c).is_err() {
             return Err(self.refuse(JsonParseErrorKind::OutOfMemory));
         }

@@ -9,7 +9,7 @@ use super::cursor::moved;
 use super::scan::{digits_end, white_end};
 use super::source::Source;
 use crate::scan::plain_end;
-use std::alloc::AllocError;
+use std::alloc::{AllocError, Global};
 
 /// A text, and how many of its bytes were consumed. Line and column are counted when they are asked for.
 #[derive(Drop)]
@@ -80,6 +80,18 @@ impl<'a> Source for TextBytes<'a> {
         string.push_str(&self.text[self.at..end])?;
         self.at = end;
         Ok(())
+    }
+
+    fn quoted(&mut self, alloc: Global, buffer: &mut String) -> Result<Option<String>, AllocError> {
+        let bytes = self.text.as_bytes();
+        let end = plain_end(bytes, self.at);
+        if end == bytes.len() || bytes[end] != b'"' {
+            self.plain(buffer)?;
+            return Ok(None);
+        }
+        let string = String::from_str(alloc, &self.text[self.at..end])?;
+        self.at = end + 1;
+        Ok(Some(string))
     }
 
     fn digits(&mut self, literal: &mut String) -> Result<(), AllocError> {

@@ -1,9 +1,13 @@
-use Rattle.std.proofs.Common.{rules, refl, Some}
+use Rattle.std.proofs.Common.{rules, refl, sym, ap, true, Some}
+use Rattle.std.proofs.lemmas.Result.{err_from_is_err_and}
+use Rattle.tinyjson.specs.private.Machine.{complete}
+use Rattle.tinyjson.specs.private.Steps.{frames}
+use Rattle.tinyjson.proofs.Values.Equality.{view-String}
 use Rattle.tinyjson.specs.declared.parser.error.JsonParseErrorKind.TheVariants.{UnexpectedEof, InvalidCharacter}
 use Rattle.tinyjson.proofs.Reading.Containers.{null_begins, true_begins, false_begins, string_begins}
 use Rattle.tinyjson.proofs.Reading.Sources.{Takes-shown}
 use Rattle.tinyjson.proofs.Reading.Memory.{grows-at, grows-for, grows-none, growth_of, digit-grows}
-use Rattle.tinyjson.proofs.Reading.Steps.{end_awaited, Leads-whites, Leads-one, Leads-end, Leads-shown, Refuses-as, Reads-after, white_awaited, invalid}
+use Rattle.tinyjson.proofs.Reading.Steps.{end_awaited, Leads-whites, Leads-one, Leads-end, Leads-shown, Leads-to, Leads-trans, Refuses-after, Refuses-as, Reads-after, white_awaited, invalid}
 use Rattle.tinyjson.proofs.parser.reader.Reader.value.Goals as goal
 
 pub returns-in_default-clause-reads : goal.returns-in_default-clause-reads
@@ -43,15 +47,27 @@ returns-in-f-clause-reads g c =
     (false_begins limit _ c.in-Some.first (search rules)) tt)
     (c.literal-in-f.ensures.reads limit _)
 
-pub returns-in-34-clause-reads : goal.returns-in-34-clause-reads
-returns-in-34-clause-reads g c =
+pub returns-in_err-string-in-34-clause-reads : goal.returns-in_err-string-in-34-clause-reads
+returns-in_err-string-in-34-clause-reads g c =
     let sight = g.S.Source.sight in
     let limit = c.args.limit in
-    Reads-after sight limit _ _ _ _ _
+    let p = err_from_is_err_and c.from_residual.result c.from_residual.ensures.1 in
+    rw (p.1, p.2) (Refuses-after sight limit _ _ _ _
     (Leads-one sight limit _ _ _ c.in-Some.first (Leads-whites sight limit _ _ _ c.skip_white.ensures.white tt (white_awaited limit _))
     (Takes-shown sight _ _ _ _ (c.bump-in-34.ensures.shown (Some c.in-Some.first) c.in-Some.ensures.shows) c.bump-in-34.ensures.takes) tt
     (string_begins limit _ c.in-Some.first (search rules)) tt)
-    (c.string.ensures.reads limit _)
+    (c.in_err-string-in-34.ensures.reads limit _))
+
+pub returns-in_ok-string-in-34-clause-reads : goal.returns-in_ok-string-in-34-clause-reads
+returns-in_ok-string-in-34-clause-reads g c =
+    let sight = g.S.Source.sight in
+    let limit = c.args.limit in
+    Leads-trans sight limit _ _ _
+    (Leads-one sight limit _ _ _ c.in-Some.first (Leads-whites sight limit _ _ _ c.skip_white.ensures.white tt (white_awaited limit _))
+    (Takes-shown sight _ _ _ _ (c.bump-in-34.ensures.shown (Some c.in-Some.first) c.in-Some.ensures.shows) c.bump-in-34.ensures.takes) tt
+    (string_begins limit _ c.in-Some.first (search rules)) tt)
+    (Leads-to sight limit _ _ (c.in_ok-string-in-34.ensures.reads limit (frames c.args.stack.now.items))
+    (ap (λ t. complete true (frames c.args.stack.now.items) t true) (sym (view-String c.in_ok-string-in-34.field-0))))
 
 pub returns-in-91-clause-reads : goal.returns-in-91-clause-reads
 returns-in-91-clause-reads g c =
@@ -80,8 +96,8 @@ returns-in-t-clause-memory g c = grows-none g.S.Source.sight _ _ c.literal-in-t.
 pub returns-in-f-clause-memory : goal.returns-in-f-clause-memory
 returns-in-f-clause-memory g c = grows-none g.S.Source.sight _ _ c.literal-in-f.ensures.whole c.literal-in-f.ensures.memory
 
-pub returns-in-34-clause-memory : goal.returns-in-34-clause-memory
-returns-in-34-clause-memory g c =
+pub returns-in_err-string-in-34-clause-memory : goal.returns-in_err-string-in-34-clause-memory
+returns-in_err-string-in-34-clause-memory g c =
     let sight = g.S.Source.sight in
     grows-for sight _ _ (grows-at sight _ _ c.in-Some.first c.skip_white.ensures.white c.in-Some.ensures.shows (growth_of c.in-Some.first 34 (search rules) refl))
 
