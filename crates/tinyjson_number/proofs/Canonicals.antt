@@ -1,5 +1,5 @@
 -- The value of a numeral has the one form.
-use Rattle.std.proofs.Common.{◌≡◌, ◌≢◌, ℕ, ◌-◌, Bool, List, [], ◌∷◌, ◌++◌, length, get_or, refl, IsTrue, ℤ}
+use Rattle.std.proofs.Common.{◌≢◌, ℕ, ◌-◌, Bool, List, [], ◌∷◌, ◌++◌, length, get_or, refl, IsTrue, ℤ}
 use Rattle.std.specs.Int.{Width}
 use Rattle.tinyjson_number.specs.Decimal.{strip_leading, significant, decimal_of}
 use Rattle.tinyjson_number.specs.Numeral.{Numeral, IsNumeral, AreDigits, value, fits_in, power_of}

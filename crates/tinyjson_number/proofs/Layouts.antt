@@ -1,9 +1,9 @@
--- Digits and zeros as text that may be cut anywhere.
-use Rattle.std.proofs.Common.{ℕ, zero, suc, ◌<◌, ◌≤◌, Bool, true, false, List, [], ◌∷◌, Option, None, Some, IfSome, length, replicate, ℤ, subst, IsTrue, arith}
-use Rattle.std.specs.Str.{IsAscii, IsCharBoundary}
-use Rattle.std.proofs.lemmas.Str.{IsCharBoundary-from_ascii, IsAscii-append}
+-- A decimal's text is ASCII.
+use Rattle.std.proofs.Common.{ℕ, zero, suc, ◌<◌, Bool, true, false, List, [], ◌∷◌, ◌++◌, Option, None, Some, IfSome, subst, IsTrue, arith}
+use Rattle.std.specs.Str.{IsAscii}
+use Rattle.std.proofs.lemmas.Str.{IsAscii-append}
 use Rattle.std.proofs.lemmas.Bool.Decides.{nat_tests}
-use Rattle.tinyjson_number.specs.Canonical.{is_canonical, IsDecimal}
+use Rattle.tinyjson_number.specs.Canonical.{IsDecimal}
 use Rattle.tinyjson_number.specs.Decimal.{Decimal}
 use Rattle.tinyjson_number.specs.Text.{decimal_text}
 use Rattle.tinyjson_number.proofs.DecimalTrip.{decimal-spelled}
@@ -12,25 +12,24 @@ use Rattle.tinyjson_number.specs.Numeral.{AreDigits, power_width, Numeral, Expon
 use Rattle.tinyjson_number.proofs.Forms.{digits_of_form}
 use Rattle.tinyjson_number.proofs.Runs.{digits-ascii}
 
-pub zeros_ascii : (n : ℕ) → IsAscii (replicate n 48)
-zeros_ascii zero i = omega arith
-zeros_ascii (suc n) zero = omega arith
-zeros_ascii (suc n) (suc i) = zeros_ascii n i
-
 pub none_ascii : IsAscii []
 none_ascii i = omega arith
-
-pub boundary_in_digits : (ds : List ℕ) (i : ℕ) → AreDigits ds → i ≤ length ds → IsCharBoundary ds i
-boundary_in_digits ds i h within = IsCharBoundary-from_ascii ds i (digits-ascii ds h) within
 
 pub digits_are : (c : Canonical) → AreDigits c.decimal.digits
 digits_are c = digits_of_form power_width c.decimal.negative c.decimal.digits c.decimal.power c.canonical
 
--- ---- a decimal's text is ASCII
-
 pub more_ascii : (c : ℕ) (cs : List ℕ) → c < 128 → IsAscii cs → IsAscii (c ∷ cs)
 more_ascii c cs h k zero = h
 more_ascii c cs h k (suc i) = k i
+
+-- the two parts of ASCII
+pub ascii-front : (xs ys : List ℕ) → IsAscii (xs ++ ys) → IsAscii xs
+ascii-front [] ys h = none_ascii
+ascii-front (x ∷ xs) ys h = more_ascii x xs (h 0) (ascii-front xs ys (λ i. h (suc i)))
+
+pub ascii-back : (xs ys : List ℕ) → IsAscii (xs ++ ys) → IsAscii ys
+ascii-back [] ys h = h
+ascii-back (x ∷ xs) ys h = ascii-back xs ys (λ i. h (suc i))
 
 minus_ascii : (b : Bool) → IsAscii (minus_text b)
 minus_ascii true = more_ascii 45 [] (omega arith) none_ascii

@@ -1,5 +1,5 @@
 -- A numeral and the parts that a parser finds of it.
-use Rattle.std.proofs.Common.{◌≡◌, ℕ, List, [], ◌∷◌, Bool, true, false, cond, ◌==◌, IsTrue, ◌<◌, ◌+◌, ◌≤◌, ◌++◌, length, ℤ, pos, neg_ℤ, Option, Some, None, IfSome, Result, Ok, Err, refl, sym, ap, ◌∙◌, subst, arith, length-append}
+use Rattle.std.proofs.Common.{◌≡◌, ℕ, List, [], ◌∷◌, Bool, true, false, cond, ◌==◌, IsTrue, ◌+◌, ◌≤◌, ◌++◌, length, pos, neg_ℤ, Option, Some, None, IfSome, Result, Ok, Err, refl, sym, ap, ◌∙◌, subst, arith, length-append}
 use Rattle.std.specs.Prelude.{◌+ℤ◌, ◌-ℤ◌}
 use Rattle.tinyjson_number.specs.Decimal.{Decimal, decimal_of, significant, trailing_zeros}
 use Rattle.tinyjson_number.specs.Numeral.{Numeral, Exponent, IsNumeral, IsExponent, is_sign, signed, exponent_value, value, in_range, minus_text, fraction_text, exponent_text}

@@ -1,8 +1,5 @@
 //! A few digits in the number itself.
 ghost use Rattle.std.specs.Prelude.{◌≡◌, ◌+◌, ◌≤◌, ◌++◌, length, take};
-ghost use Rattle.tinyjson_number.specs.Numeral.{AreDigits};
-
-use std::str;
 
 /// So many digits are kept in the number itself.
 pub(crate) const ROOM: usize = 24;
@@ -31,18 +28,9 @@ impl Inline {
         }
     }
 
-    pub(crate) fn as_str(&self) -> &str
-        requires { AreDigits (take self.now.len self.now.bytes) }
+    pub(crate) fn as_bytes(&self) -> &[u8]
         ensures { result.now ≡ take self.now.len self.now.bytes }
     {
-        digits_str(&self.bytes[..self.len as usize])
+        &self.bytes[..self.len as usize]
     }
-}
-
-/// Digits as text.
-pub(crate) fn digits_str(digits: &[u8]) -> &str
-    requires { AreDigits digits.now }
-    ensures { result.now ≡ digits.now }
-{
-    str::from_utf8(digits).unwrap()
 }

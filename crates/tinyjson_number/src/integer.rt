@@ -86,12 +86,11 @@ impl JsonNumber {
             → ¬ (self.now.decimal ≡ whole_decimal self.now.decimal.negative n))
             (λ n. self.now.decimal ≡ whole_decimal self.now.decimal.negative n) }
     {
-        let digits = self.digits();
         let power = self.power();
         if power < 0 {
             return None;
         }
-        let Some(number) = digits_number(digits.as_bytes()) else {
+        let Some(number) = digits_number(self.digit_bytes()) else {
             return None;
         };
         times_ten(number, power as u64)

@@ -1,32 +1,31 @@
 //! A number's text in parts.
 ghost use Rattle.std.specs.Prelude.{◌≡◌, ◌<◌, ◌≤◌, ◌++◌, length, take, drop, replicate, ◌∷◌, pos, neg_ℤ, ◌+ℤ◌, ◌≤ℤ◌, ◌^◌};
 ghost use Rattle.tinyjson_number.specs.private.Layout.{layout_text};
-ghost use Rattle.tinyjson_number.specs.Numeral.{AreDigits};
 ghost use Rattle.tinyjson_number.specs.Text.{decimal_text, magnitude_text, scientific_text};
 
 use crate::number::JsonNumber;
 
-/// The text of a number in parts that stand one after another. None of them is copied.
+/// The text of a number in parts that stand one after another, as ASCII. None of them is copied.
 ///
 /// ```
 /// let layout = Layout {
-///     sign: "-",
-///     front: "1",
-///     middle: ".",
-///     back: "5",
+///     sign: b"-",
+///     front: b"1",
+///     middle: b".",
+///     back: b"5",
 ///     exponent: Some(400),
 /// };
 /// ```
 #[derive(Clone, Copy, Debug)]
 pub struct Layout<'a> {
     /// `-`, or nothing.
-    pub sign: &'a str,
+    pub sign: &'a [u8],
     /// The first digits, or `0.`.
-    pub front: &'a str,
+    pub front: &'a [u8],
     /// The point, or zeros, or nothing.
-    pub middle: &'a str,
+    pub middle: &'a [u8],
     /// The other digits, or nothing.
-    pub back: &'a str,
+    pub back: &'a [u8],
     /// What stands in decimal behind an `e`, where there is one.
     pub exponent: Option<i128>,
 }
@@ -42,26 +41,25 @@ impl JsonNumber {
     pub fn layout(&self) -> Layout<'_>
         ensures { layout_text result ≡ decimal_text self.now.decimal }
     {
-        decimal(self.is_negative(), self.digits(), self.power())
+        decimal(self.is_negative(), self.digit_bytes(), self.power())
     }
 }
 
 #[tactic(auto, unfolding(crate::specs::Text::decimal_text))]
-fn decimal(negative: bool, digits: &str, power: i64) -> Layout<'_>
-    requires { AreDigits digits.now }
+fn decimal(negative: bool, digits: &[u8], power: i64) -> Layout<'_>
     ensures { layout_text result
         ≡ decimal_text (record { negative = negative; digits = digits.now; power = power }) }
 {
     if digits.is_empty() {
-        return whole("", "0", 0);
+        return whole(b"", b"0", 0);
     }
-    magnitude(if negative { "-" } else { "" }, digits, power)
+    let sign = if negative { b"-".as_slice() } else { b"" };
+    magnitude(sign, digits, power)
 }
 
 // Digits that aren't zero.
-fn magnitude<'a>(sign: &'a str, digits: &'a str, power: i64) -> Layout<'a>
-    requires some { 0 < length digits.now }
-    requires ascii { AreDigits digits.now }
+fn magnitude<'a>(sign: &'a [u8], digits: &'a [u8], power: i64) -> Layout<'a>
+    requires { 0 < length digits.now }
     ensures { layout_text result
         ≡ sign.now ++ magnitude_text digits.now power (pos (length digits.now) +ℤ power) }
 {
@@ -77,25 +75,29 @@ fn magnitude<'a>(sign: &'a str, digits: &'a str, power: i64) -> Layout<'a>
     }
 }
 
-fn scientific<'a>(sign: &'a str, digits: &'a str, point: i128) -> Layout<'a>
+fn scientific<'a>(sign: &'a [u8], digits: &'a [u8], point: i128) -> Layout<'a>
     requires some { 0 < length digits.now }
-    requires ascii { AreDigits digits.now }
     requires high { point ≤ℤ pos (2 ^ 66) }
     requires low { neg_ℤ (pos (2 ^ 66)) ≤ℤ point }
     ensures { layout_text result ≡ sign.now ++ scientific_text digits.now point }
 {
     let (front, back) = digits.split_at(1);
+    let middle = if back.is_empty() {
+        b"".as_slice()
+    } else {
+        b"."
+    };
     Layout {
         sign,
         front,
-        middle: if back.is_empty() { "" } else { "." },
+        middle,
         back,
         exponent: Some(point - 1),
     }
 }
 
 // Digits and zeros before the point.
-fn whole<'a>(sign: &'a str, digits: &'a str, count: usize) -> Layout<'a>
+fn whole<'a>(sign: &'a [u8], digits: &'a [u8], count: usize) -> Layout<'a>
     requires { count ≤ 323 }
     ensures { layout_text result ≡ sign.now ++ (digits.now ++ replicate count 48) }
 {
@@ -103,19 +105,19 @@ fn whole<'a>(sign: &'a str, digits: &'a str, count: usize) -> Layout<'a>
         sign,
         front: digits,
         middle: zeros(count),
-        back: "",
+        back: b"",
         exponent: None,
     }
 }
 
 // Zeros and digits behind the point.
-fn fraction<'a>(sign: &'a str, count: usize, digits: &'a str) -> Layout<'a>
+fn fraction<'a>(sign: &'a [u8], count: usize, digits: &'a [u8]) -> Layout<'a>
     requires { count ≤ 323 }
     ensures { layout_text result ≡ sign.now ++ (48 ∷ 46 ∷ (replicate count 48 ++ digits.now)) }
 {
     Layout {
         sign,
-        front: "0.",
+        front: b"0.",
         middle: zeros(count),
         back: digits,
         exponent: None,
@@ -123,9 +125,8 @@ fn fraction<'a>(sign: &'a str, count: usize, digits: &'a str) -> Layout<'a>
 }
 
 // Digits on both sides of the point.
-fn mixed<'a>(sign: &'a str, digits: &'a str, point: usize) -> Layout<'a>
-    requires within { point ≤ length digits.now }
-    requires ascii { AreDigits digits.now }
+fn mixed<'a>(sign: &'a [u8], digits: &'a [u8], point: usize) -> Layout<'a>
+    requires { point ≤ length digits.now }
     ensures { layout_text result
         ≡ sign.now ++ (take point digits.now ++ (46 ∷ drop point digits.now)) }
 {
@@ -133,20 +134,16 @@ fn mixed<'a>(sign: &'a str, digits: &'a str, point: usize) -> Layout<'a>
     Layout {
         sign,
         front,
-        middle: ".",
+        middle: b".",
         back,
         exponent: None,
     }
 }
 
 // No text without an exponent has more zeros in a run.
-const ZEROS: &str = "\
-    000000000000000000000000000000000000000000000000000000000000000000000000000000000000000000\
-    000000000000000000000000000000000000000000000000000000000000000000000000000000000000000000\
-    000000000000000000000000000000000000000000000000000000000000000000000000000000000000000000\
-    00000000000000000000000000000000000000000000000000000";
+static ZEROS: [u8; 323] = [b'0'; 323];
 
-fn zeros(count: usize) -> &'static str
+fn zeros(count: usize) -> &'static [u8]
     requires { count ≤ 323 }
     ensures { result.now ≡ replicate count 48 }
 {

@@ -4,7 +4,7 @@ ghost use Rattle.tinyjson_number.specs.Decimal.{zero_decimal};
 ghost use Rattle.tinyjson_number.specs.Canonical.{is_canonical};
 ghost use Rattle.tinyjson_number.specs.Number.{digits_of};
 
-use crate::digits::Digits;
+use crate::digits::{Digits, ascii_str};
 use crate::inline::Inline;
 use std::alloc::{AllocError, Global};
 use std::marker::Model;
@@ -101,7 +101,7 @@ impl JsonNumber {
     pub fn is_zero(&self) -> bool
         ensures { IsTrue result ↔ (self.now.decimal ≡ zero_decimal) }
     {
-        self.digits().is_empty()
+        self.digit_bytes().is_empty()
     }
 
     /// Whether this is below zero.
@@ -123,7 +123,13 @@ impl JsonNumber {
     pub fn digits(&self) -> &str
         ensures { result.now ≡ self.now.decimal.digits }
     {
-        self.digits.as_str()
+        ascii_str(self.digits.as_bytes())
+    }
+
+    pub(crate) fn digit_bytes(&self) -> &[u8]
+        ensures { result.now ≡ self.now.decimal.digits }
+    {
+        self.digits.as_bytes()
     }
 
     /// The power of ten that the digits, read as a whole number, are multiplied by: 0 for zero.
@@ -149,7 +155,7 @@ impl JsonNumber {
         if self.is_zero() {
             return Ok(JsonNumber::zero());
         }
-        let digits = self.digits().as_bytes();
+        let digits = self.digit_bytes();
         JsonNumber::of_digits(alloc, self.is_negative(), digits, b"", self.power())
     }
 }
@@ -165,7 +171,7 @@ impl PartialEq for JsonNumber {
     fn eq(&self, other: &JsonNumber) -> bool {
         self.is_negative() == other.is_negative()
             && self.power() == other.power()
-            && self.digits() == other.digits()
+            && self.digit_bytes() == other.digit_bytes()
     }
 }
 

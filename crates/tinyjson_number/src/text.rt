@@ -1,9 +1,11 @@
 //! The text of a number.
 ghost use Rattle.std.specs.Prelude.{◌∷◌, Some};
 ghost use Rattle.std.specs.Fmt.{WritesOnOk};
+ghost use Rattle.std.specs.Str.{IsAscii};
 ghost use Rattle.tinyjson_number.specs.private.Layout.{layout_text};
 ghost use Rattle.tinyjson_number.specs.Text.{integer_text, decimal_text};
 
+use crate::digits::ascii_str;
 use crate::layout::Layout;
 use crate::number::JsonNumber;
 use std::fmt;
@@ -28,16 +30,24 @@ impl fmt::Debug for JsonNumber {
 }
 
 fn write_layout<W: fmt::Write>(f: &mut fmt::Formatter<W>, layout: Layout<'_>) -> fmt::Result
+    requires { IsAscii (layout_text layout) }
     ensures { WritesOnOk W.write_str_gives f.old result (layout_text layout.entry) f.new }
 {
-    f.write_str(layout.sign)?;
-    f.write_str(layout.front)?;
-    f.write_str(layout.middle)?;
-    f.write_str(layout.back)?;
+    write_ascii(f, layout.sign)?;
+    write_ascii(f, layout.front)?;
+    write_ascii(f, layout.middle)?;
+    write_ascii(f, layout.back)?;
     match layout.exponent {
         None => Ok(()),
         Some(exponent) => write_exponent(f, exponent),
     }
+}
+
+fn write_ascii<W: fmt::Write>(f: &mut fmt::Formatter<W>, bytes: &[u8]) -> fmt::Result
+    requires { IsAscii bytes.now }
+    ensures { WritesOnOk W.write_str_gives f.old result bytes.now f.new }
+{
+    f.write_str(ascii_str(bytes))
 }
 
 fn write_exponent<W: fmt::Write>(f: &mut fmt::Formatter<W>, exponent: i128) -> fmt::Result

@@ -17,10 +17,10 @@ pub(super) fn write_number<W: Write>(
         (decimal_text number.now.decimal) result }
 {
     let layout = number.layout();
-    write_bytes(out, room, layout.sign.as_bytes())?;
-    write_bytes(out, room, layout.front.as_bytes())?;
-    write_bytes(out, room, layout.middle.as_bytes())?;
-    write_bytes(out, room, layout.back.as_bytes())?;
+    write_bytes(out, room, layout.sign)?;
+    write_bytes(out, room, layout.front)?;
+    write_bytes(out, room, layout.middle)?;
+    write_bytes(out, room, layout.back)?;
     match layout.exponent {
         None => Ok(()),
         Some(exponent) => write_exponent(out, room, exponent),

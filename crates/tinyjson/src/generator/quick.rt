@@ -40,13 +40,13 @@ fn quick_number(room: &mut Room, number: &JsonNumber) -> bool
     if layout.exponent.is_some() || !room.has_room(count) {
         return false;
     }
-    room.append(layout.sign.as_bytes());
-    room.append(layout.front.as_bytes());
+    room.append(layout.sign);
+    room.append(layout.front);
     if layout.middle.is_empty() && layout.back.is_empty() {
         return true;
     }
-    room.append(layout.middle.as_bytes());
-    room.append(layout.back.as_bytes());
+    room.append(layout.middle);
+    room.append(layout.back);
     true
 }
 

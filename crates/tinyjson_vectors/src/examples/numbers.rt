@@ -53,10 +53,10 @@ fn numbers_and_integers(rt: HostRuntime) -> Result<(), Fail> {
 fn layouts(rt: HostRuntime) -> Result<(), Fail> {
     let alloc = rt.alloc();
     let layout = Layout {
-        sign: "-",
-        front: "1",
-        middle: ".",
-        back: "5",
+        sign: b"-",
+        front: b"1",
+        middle: b".",
+        back: b"5",
         exponent: Some(400),
     };
     let number = JsonNumber::from_text(alloc, "-15e399")?;

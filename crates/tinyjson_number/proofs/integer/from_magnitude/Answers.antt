@@ -4,9 +4,8 @@ use Rattle.std.specs.Int.{w64}
 use Rattle.std.proofs.lemmas.Int.{to_z_pos}
 use Rattle.std.proofs.lemmas.Fmt.{length-decimal-le}
 use Rattle.tinyjson_number.specs.Decimal.{Decimal, strip_trailing}
-use Rattle.tinyjson_number.specs.Numeral.{AreDigits}
 use Rattle.tinyjson_number.specs.Integer.{whole_decimal}
-use Rattle.tinyjson_number.proofs.Integers.{zero_is, whole_is, whole_fits, decimal-digits}
+use Rattle.tinyjson_number.proofs.Integers.{zero_is, whole_is, whole_fits}
 use Rattle.tinyjson_number.proofs.integer.from_magnitude.Goals as goal
 
 pub returns-then-value-eq0 : goal.returns-then-value-eq0

@@ -1,11 +1,10 @@
 use Rattle.std.proofs.Common.{◌≡◌, ◌<◌, ◌++◌, ℕ, [], List, length, sym, ap, ◌∙◌, arith, rules, length-append}
-use Rattle.std.specs.Prelude.{FitsSigned, ℤ}
+use Rattle.std.specs.Prelude.{FitsSigned}
 use Rattle.std.specs.Int.{w64, w128}
 use Rattle.std.proofs.lemmas.List.{nil_from_length}
 use Rattle.std.proofs.lemmas.Int.{to_z-of_z}
 use Rattle.tinyjson_number.specs.Decimal.{significant}
 use Rattle.tinyjson_number.specs.Numeral.{Numeral}
-use Rattle.tinyjson_number.specs.private.Scan.{capped}
 use Rattle.tinyjson_number.specs.Reading.{numeral_of}
 use Rattle.tinyjson_number.proofs.DecimalTrip.{digits-join}
 use Rattle.tinyjson_number.proofs.Readings.{kept_is, zero-value, zero-in_range, value_kept, value_in, value_out, memory_refused}

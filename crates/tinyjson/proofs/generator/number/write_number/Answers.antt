@@ -34,41 +34,27 @@ module _ (n : Canonical) (l : Layout) (is : layout_text l ≡ decimal_text n.dec
 
 pub returns-in_err-write_bytes : goal.returns-in_err-write_bytes
 returns-in_err-write_bytes g c =
-    fails _ _ c.from_residual.ensures.0 (rw c.as_bytes.ensures.value at c.in_err-write_bytes.ensures) (at_sign c.args.number.now c.layout-layout.result c.layout-layout.ensures _)
+    fails _ _ c.from_residual.ensures.0 c.in_err-write_bytes.ensures (at_sign c.args.number.now c.layout-layout.result c.layout-layout.ensures _)
 
 pub returns-in_err-write_bytes-2 : goal.returns-in_err-write_bytes-2
 returns-in_err-write_bytes-2 g c =
-    let sign = rw c.as_bytes.ensures.value at c.in_ok-write_bytes.ensures in
-    fails _ _ c.from_residual-in_err-write_bytes-2.ensures.0 (rw c.as_bytes-2.ensures.value at c.in_err-write_bytes-2.ensures) (at_front c.args.number.now c.layout-layout.result c.layout-layout.ensures sign)
+    fails _ _ c.from_residual-in_err-write_bytes-2.ensures.0 c.in_err-write_bytes-2.ensures (at_front c.args.number.now c.layout-layout.result c.layout-layout.ensures c.in_ok-write_bytes.ensures)
 
 pub returns-in_err-write_bytes-3 : goal.returns-in_err-write_bytes-3
 returns-in_err-write_bytes-3 g c =
-    let sign = rw c.as_bytes.ensures.value at c.in_ok-write_bytes.ensures in
-    let front = rw c.as_bytes-2.ensures.value at c.in_ok-write_bytes-2.ensures in
-    fails _ _ c.from_residual-in_err-write_bytes-3.ensures.0 (rw c.as_bytes-3.ensures.value at c.in_err-write_bytes-3.ensures) (at_middle c.args.number.now c.layout-layout.result c.layout-layout.ensures sign front)
+    fails _ _ c.from_residual-in_err-write_bytes-3.ensures.0 c.in_err-write_bytes-3.ensures (at_middle c.args.number.now c.layout-layout.result c.layout-layout.ensures c.in_ok-write_bytes.ensures c.in_ok-write_bytes-2.ensures)
 
 pub returns-in_err-write_bytes-4 : goal.returns-in_err-write_bytes-4
 returns-in_err-write_bytes-4 g c =
-    let sign = rw c.as_bytes.ensures.value at c.in_ok-write_bytes.ensures in
-    let front = rw c.as_bytes-2.ensures.value at c.in_ok-write_bytes-2.ensures in
-    let middle = rw c.as_bytes-3.ensures.value at c.in_ok-write_bytes-3.ensures in
-    fails _ _ c.from_residual-in_err-write_bytes-4.ensures.0 (rw c.as_bytes-4.ensures.value at c.in_err-write_bytes-4.ensures) (at_back c.args.number.now c.layout-layout.result c.layout-layout.ensures sign front middle)
+    fails _ _ c.from_residual-in_err-write_bytes-4.ensures.0 c.in_err-write_bytes-4.ensures (at_back c.args.number.now c.layout-layout.result c.layout-layout.ensures c.in_ok-write_bytes.ensures c.in_ok-write_bytes-2.ensures c.in_ok-write_bytes-3.ensures)
 
 pub returns-in-None : goal.returns-in-None
 returns-in-None g c =
-    let sign = rw c.as_bytes.ensures.value at c.in_ok-write_bytes.ensures in
-    let front = rw c.as_bytes-2.ensures.value at c.in_ok-write_bytes-2.ensures in
-    let middle = rw c.as_bytes-3.ensures.value at c.in_ok-write_bytes-3.ensures in
-    let back = rw c.as_bytes-4.ensures.value at c.in_ok-write_bytes-4.ensures in
-    let all = at_power c.args.number.now c.layout-layout.result c.layout-layout.ensures sign front middle back in
+    let all = at_power c.args.number.now c.layout-layout.result c.layout-layout.ensures c.in_ok-write_bytes.ensures c.in_ok-write_bytes-2.ensures c.in_ok-write_bytes-3.ensures c.in_ok-write_bytes-4.ensures in
     rw c.in-None.is at all
 
 pub returns-in-Some : goal.returns-in-Some
 returns-in-Some g c =
-    let sign = rw c.as_bytes.ensures.value at c.in_ok-write_bytes.ensures in
-    let front = rw c.as_bytes-2.ensures.value at c.in_ok-write_bytes-2.ensures in
-    let middle = rw c.as_bytes-3.ensures.value at c.in_ok-write_bytes-3.ensures in
-    let back = rw c.as_bytes-4.ensures.value at c.in_ok-write_bytes-4.ensures in
-    let all = at_power c.args.number.now c.layout-layout.result c.layout-layout.ensures sign front middle back in
+    let all = at_power c.args.number.now c.layout-layout.result c.layout-layout.ensures c.in_ok-write_bytes.ensures c.in_ok-write_bytes-2.ensures c.in_ok-write_bytes-3.ensures c.in_ok-write_bytes-4.ensures in
     let fits : SFits w128 c.in-Some.exponent = search rules in
     ends _ _ _ _ _ _ c.write_exponent.ensures (rw (to_z-of_z w128 c.in-Some.exponent fits) (rw c.in-Some.is at all))
