@@ -1,52 +1,27 @@
 -- Numbers, as the machine reads them.
-use Rattle.std.proofs.Common.{◌≡◌, ℕ, ◌<◌, ◌≤◌, ◌==◌, ◌||◌, Bool, true, false, List, [], ◌∷◌, ◌++◌, length, drop, Option, Some, None, IfSome, MatchOption, MatchBool, Result, Ok, Err, OnOk, refl, sym, ap, ◌∙◌, subst, inr, ⊎_elim, true≢false, append_assoc, append-nil, arith, is_err}
+use Rattle.std.proofs.Common.{◌≡◌, ℕ, ◌<◌, ◌≤◌, ◌==◌, Bool, true, false, List, [], ◌∷◌, ◌++◌, length, Option, Some, None, IfSome, MatchOption, Result, Ok, Err, OnOk, refl, sym, ap, ◌∙◌, subst, inr, ⊎_elim, true≢false, append_assoc, append-nil, arith, is_err, inl, length-append}
 use Rattle.std.specs.Char.{is_ascii_digit}
 use Rattle.std.specs.List.{AllByRecursion}
 use Rattle.std.proofs.lemmas.Bool.{ne_eqb}
 use Rattle.std.proofs.lemmas.Bool.Decides.{nat_tests}
 use Rattle.tinyjson_number.specs.Decimal.{Decimal}
-use Rattle.tinyjson_number.specs.Numeral.{Numeral, AreDigits, has_leading_zero, is_exponent_letter, is_sign, minus_text, sign_text, fraction_text, value, in_range}
-use Rattle.tinyjson_number.specs.NumberText.{Spells}
-use Rattle.tinyjson.specs.Characters.{is_white}
-use Rattle.tinyjson.specs.private.Source.{Sight, Stops, Takes, TakesRun}
+use Rattle.tinyjson_number.specs.Numeral.{Numeral, AreDigits, has_leading_zero, is_exponent_letter, is_sign, value, in_range}
+use Rattle.tinyjson.specs.private.Source.{Sight, Still, Stops, Takes, TakesRun}
 use Rattle.tinyjson.specs.private.Machine.{strictly, step, end, then_step, end_plain, Frame, in_array, at_key, at_value, Next, next, stop, awaited, digits, minus, whole, point, fraction, letter, sign, exponent, complete}
-use Rattle.tinyjson.specs.private.NumberSteps.{BeginsNumber, Still, is_any, numeral, Accepted, Declined, Digits}
-use Rattle.tinyjson.specs.private.Steps.{onward, ending, IsNext, IsTaken, Comes, Ends, Gathers, Leads, Refuses}
+use Rattle.tinyjson.specs.private.NumberSteps.{BeginsNumber, numeral, Gathered, Accepted, Declined, Accepts, Digits}
+use Rattle.tinyjson.specs.private.Steps.{onward, ending, IsNext, IsTaken, Comes, Ends, Leads, Refuses}
 use Rattle.tinyjson.specs.Tree.{number}
 use Rattle.tinyjson.specs.declared.parser.error.JsonParseError.{JsonParseError}
 use Rattle.tinyjson.specs.declared.parser.error.JsonParseErrorKind.{JsonParseErrorKind}
 use Rattle.tinyjson.specs.declared.parser.error.JsonParseErrorKind.TheVariants.{EmptyInteger, LeadingZero, EmptyFraction, EmptyExponent, NumberOutOfRange, OutOfMemory}
 use Rattle.tinyjson.specs.Error.{error_position}
-use Rattle.tinyjson.proofs.Reading.Sources.{Takes-append}
 use Rattle.tinyjson.proofs.Reading.Steps.{Same-refl, Leads-trans, Leads-peek, Leads-shown, Leads-end, Halts-here, Refuses-as, Refuses-memory}
 use Rattle.tinyjson.proofs.Grammar.Accepts.Runs.{digit-not_white}
 
 -- ---- characters
 
-small_or : (d c : ℕ) (b : Bool) → d < 128 → (d == c || b) ≡ true → (b ≡ true → c < 128) → c < 128
-small_or d c true a h k = k refl
-small_or d c false a h k = grind (arith, nat_tests)
-
--- one of these characters is as small as all of them
-pub any_small : (cs : List ℕ) (c : ℕ) → AllByRecursion (λ d. d < 128) cs → is_any cs c ≡ true → c < 128
-any_small [] c a h = absurd (cc)
-any_small (d ∷ ds) c a h = small_or d c (is_any ds c) a.0 h (any_small ds c a.1)
-
-pub any_one : (d c : ℕ) → is_any (d ∷ []) c ≡ true → c ≡ d
-any_one d c h = grind (arith, nat_tests)
-
-not_one : (d c : ℕ) → is_any (d ∷ []) c ≡ false → (c ≡ d → ⊥)
-not_one d c h = λ e. grind (arith, nat_tests)
-
-pub letter_any : (c : ℕ) → is_any (101 ∷ 69 ∷ []) c ≡ is_exponent_letter c
-letter_any c = grind (arith, nat_tests)
-
-pub sign_any : (c : ℕ) → is_any (43 ∷ 45 ∷ []) c ≡ is_sign c
-sign_any c = grind (arith, nat_tests)
-
-pub no_sign : (o : Option ℕ) → IfSome o (λ c. is_any (43 ∷ 45 ∷ []) c ≡ false) → IfSome o (λ c. is_sign c ≡ false)
-no_sign None h = tt
-no_sign (Some c) h = sym (sign_any c) ∙ h
+pub is_one : (d c : ℕ) → (c == d) ≡ true → c ≡ d
+is_one d c h = grind (arith, nat_tests)
 
 letter_no_digit : (c : ℕ) → is_exponent_letter c ≡ true → is_ascii_digit c ≡ false
 letter_no_digit c h = grind (arith, nat_tests)
@@ -66,54 +41,51 @@ pub are_digits : (ds : List ℕ) → AllByRecursion (λ c. is_ascii_digit c ≡ 
 are_digits [] a = tt
 are_digits (d ∷ ds) a = (a.0, are_digits ds a.1)
 
-pub spells_whole : (b : Bool) (ds text : List ℕ) → AreDigits ds → 0 < length ds → has_leading_zero ds ≡ false → text ≡ minus_text b ++ ds → Spells (numeral b ds [] None) text
-spells_whole b ds text a l z e = record {
+pub gathered_whole : (b : Bool) (ds text : List ℕ) → AreDigits ds → 0 < length ds → has_leading_zero ds ≡ false → text ≡ ds → Gathered (numeral b ds [] None) text
+gathered_whole b ds text a l z e = record {
   well_formed = record { whole = a; some_digit = l; fraction = tt; exponent = tt };
   no_leading_zero = z;
-  spelled = ap (λ x. minus_text b ++ x) (append-nil ds) ∙ sym e;
+  gathered = append-nil ds ∙ sym e;
 }
 
-behind_point : (m w x old new : List ℕ) → m ++ (w ++ []) ≡ old → new ≡ (old ++ 46 ∷ []) ++ x → m ++ (w ++ (46 ∷ x ++ [])) ≡ new
-behind_point m w x old new e k =
-    let g : ((m ++ (w ++ [])) ++ 46 ∷ []) ++ x ≡ m ++ (w ++ (46 ∷ x ++ [])) = simp (append_assoc, append-nil) in
-    sym (k ∙ ap (λ t. (t ++ 46 ∷ []) ++ x) (sym e) ∙ g)
-
-pub spells_fraction : (b : Bool) (ds f old new : List ℕ) → Spells (numeral b ds [] None) old → AreDigits f → 0 < length f → new ≡ (old ++ 46 ∷ []) ++ f → Spells (numeral b ds f None) new
-spells_fraction b ds [] old new s a l e = absurd (omega arith)
-spells_fraction b ds (x ∷ xs) old new s a l e = record {
+pub gathered_fraction : (b : Bool) (ds f old new : List ℕ) → Gathered (numeral b ds [] None) old → AreDigits f → new ≡ old ++ f → Gathered (numeral b ds f None) new
+gathered_fraction b ds f old new s a e = record {
   well_formed = record { whole = s.well_formed.whole; some_digit = s.well_formed.some_digit; fraction = a; exponent = tt };
   no_leading_zero = s.no_leading_zero;
-  spelled = behind_point (minus_text b) ds (x ∷ xs) old new s.spelled e;
+  gathered = ap (λ t. ds ++ t) (append-nil f) ∙ sym (e ∙ ap (λ t. t ++ f) (sym s.gathered ∙ append-nil ds));
 }
 
-behind_letter : (m w f s x old new : List ℕ) (l : ℕ) → m ++ (w ++ (f ++ [])) ≡ old → new ≡ ((old ++ l ∷ []) ++ s) ++ x → m ++ (w ++ (f ++ (l ∷ (s ++ x)))) ≡ new
-behind_letter m w f s x old new l e k =
-    let g : (((m ++ (w ++ (f ++ []))) ++ l ∷ []) ++ s) ++ x ≡ m ++ (w ++ (f ++ (l ∷ (s ++ x)))) = simp (append_assoc, append-nil) in
-    sym (k ∙ ap (λ t. ((t ++ l ∷ []) ++ s) ++ x) (sym e) ∙ g)
-
-pub spells_exponent : (b : Bool) (ds f : List ℕ) (l : ℕ) (s : Option ℕ) (xs old new : List ℕ) → Spells (numeral b ds f None) old → is_exponent_letter l ≡ true → IfSome s (λ c. is_sign c ≡ true) → AreDigits xs → 0 < length xs
-    → new ≡ ((old ++ l ∷ []) ++ sign_text s) ++ xs → Spells (numeral b ds f (Some (record { letter = l; sign = s; digits = xs }))) new
-spells_exponent b ds f l s xs old new h i j a n e = record {
+pub gathered_exponent : (b : Bool) (ds f : List ℕ) (l : ℕ) (s : Option ℕ) (xs old new : List ℕ) → Gathered (numeral b ds f None) old → is_exponent_letter l ≡ true → IfSome s (λ c. is_sign c ≡ true) → AreDigits xs → 0 < length xs
+    → new ≡ old ++ xs → Gathered (numeral b ds f (Some (record { letter = l; sign = s; digits = xs }))) new
+gathered_exponent b ds f l s xs old new h i j a n e = record {
   well_formed = record { whole = h.well_formed.whole; some_digit = h.well_formed.some_digit; fraction = h.well_formed.fraction; exponent = record { letter = i; sign = j; digits = a; some_digit = n } };
   no_leading_zero = h.no_leading_zero;
-  spelled = behind_letter (minus_text b) ds (fraction_text f) (sign_text s) xs old new l h.spelled e;
+  gathered = sym (e ∙ ap (λ t. t ++ xs) (sym h.gathered ∙ ap (λ t. ds ++ t) (append-nil f)) ∙ append_assoc ds f xs);
 }
-
-pub drop_front : (xs ys : List ℕ) (n : ℕ) → n ≡ length xs → drop n (xs ++ ys) ≡ ys
-drop_front [] ys n e = ap (λ k. drop k ys) e
-drop_front (x ∷ xs) ys n e = ap (λ k. drop k (x ∷ xs ++ ys)) e ∙ drop_front xs ys (length xs) refl
 
 -- ---- a run of digits
 
-module _ {S : Type 0} (sight : Sight S) {E : Type 0} (p : S) (old new : List ℕ) (q : S) where
-  -- all of them were added
-  pub gathered : (r : Result (Unit {0}) E) → TakesRun sight is_ascii_digit p old r new q → OnOk r (Stops sight is_ascii_digit q) → is_err r ≡ false → Gathers sight p old (Ok tt) new q × Ends sight q
-  gathered (Ok v) t s h = (record { ds = t.taken; digits = t.pass; takes = t.takes; result = t.added }, s)
-  gathered (Err e) t s h = absurd (true≢false h)
+same_length : (old new ds : List ℕ) → new ≡ old ++ ds → length new ≡ length old → ds ≡ []
+same_length old new [] e h = refl
+same_length old new (d ∷ ds) e h = absurd (omega (arith, ap length e, length-append old (d ∷ ds)))
 
+module _ {S : Type 0} (sight : Sight S) {E : Type 0} (empty : JsonParseErrorKind) (p : S) (old new : List ℕ) (q : S) where
   -- there was no memory for some of them
-  pub ungathered : (r : Result (Unit {0}) E) (e : JsonParseError) → TakesRun sight is_ascii_digit p old r new q → e.kind ≡ OutOfMemory → error_position e ≡ sight.place q → Gathers sight p old (Err e) new q
-  ungathered r e t k a = record { ds = t.taken; digits = t.pass; takes = t.takes; result = (k, a) }
+  pub digits_memory : (r : Result (Unit {0}) E) (e : JsonParseError) → TakesRun sight is_ascii_digit p old r new q → e.kind ≡ OutOfMemory → error_position e ≡ sight.place q → Digits sight empty p old (Err e) new q
+  digits_memory r e t k a = record { ds = t.taken; digits = t.pass; takes = t.takes; result = (a, inr k) }
+
+  -- there was none
+  pub digits_none : (r : Result (Unit {0}) E) (e : JsonParseError) → TakesRun sight is_ascii_digit p old r new q → OnOk r (Stops sight is_ascii_digit q) → OnOk r (new ≡ old → Still sight p q) → is_err r ≡ false → length new ≡ length old
+      → e.kind ≡ empty → error_position e ≡ sight.place q → Digits sight empty p old (Err e) new q
+  digits_none (Ok v) e t s w h l k a =
+      let n = same_length old new t.taken t.added l in
+      record { ds = []; digits = tt; takes = subst (λ xs. Takes sight p xs q) n t.takes; result = (a, inl (k, refl, s, w (t.added ∙ ap (λ xs. old ++ xs) n ∙ append-nil old))) }
+  digits_none (Err v) e t s w h l k a = absurd (true≢false h)
+
+  -- there were some
+  pub digits_some : (r : Result (Unit {0}) E) → TakesRun sight is_ascii_digit p old r new q → OnOk r (Stops sight is_ascii_digit q) → is_err r ≡ false → (length new ≡ length old → ⊥) → Digits sight empty p old (Ok tt) new q
+  digits_some (Ok v) t s h l = record { ds = t.taken; digits = t.pass; takes = t.takes; result = (t.added, omega (arith, l, ap length t.added, length-append old t.taken), s) }
+  digits_some (Err v) t s h l = absurd (true≢false h)
 
 -- ---- the machine before a digit, with the digits of a part so far
 
@@ -239,15 +211,15 @@ module _ (limit : Option ℕ) where
   zero_leads fs b ds None z d = rw z refl
   zero_leads fs b ds (Some c) z d = rw (d, z) refl
 
-  pub no_point : (fs : List Frame) (b : Bool) (ds : List ℕ) (o : Option ℕ) → has_leading_zero ds ≡ false → IfSome o (λ c. is_ascii_digit c ≡ false) → IfSome o (λ c. is_any (46 ∷ []) c ≡ false) → Alike (next fs (digits whole (numeral b ds [] None))) (next fs (digits fraction (numeral b ds [] None))) o
+  pub no_point : (fs : List Frame) (b : Bool) (ds : List ℕ) (o : Option ℕ) → has_leading_zero ds ≡ false → IfSome o (λ c. is_ascii_digit c ≡ false) → IfSome o (λ c. (c == 46) ≡ false) → Alike (next fs (digits whole (numeral b ds [] None))) (next fs (digits fraction (numeral b ds [] None))) o
   unfolding step end
   no_point fs b ds None z d h = rw z refl
-  no_point fs b ds (Some c) z d h = rw (d, z, ne_eqb c 46 (not_one 46 c h)) refl
+  no_point fs b ds (Some c) z d h = rw (d, z, h) refl
 
-  pub no_letter : (fs : List Frame) (n : Numeral) (o : Option ℕ) → IfSome o (λ c. is_ascii_digit c ≡ false) → IfSome o (λ c. is_any (101 ∷ 69 ∷ []) c ≡ false) → Alike (next fs (digits fraction n)) (next fs (digits exponent n)) o
+  pub no_letter : (fs : List Frame) (n : Numeral) (o : Option ℕ) → IfSome o (λ c. is_ascii_digit c ≡ false) → IfSome o (λ c. is_exponent_letter c ≡ false) → Alike (next fs (digits fraction n)) (next fs (digits exponent n)) o
   unfolding step end
   no_letter fs n None d h = refl
-  no_letter fs n (Some c) d h = let l : is_exponent_letter c ≡ false = sym (letter_any c) ∙ h in rw (d, l) refl
+  no_letter fs n (Some c) d h = rw (d, h) refl
 
   then_complete : (fs : List Frame) (d : Decimal) (c : ℕ) → then_step (strictly limit) (complete true fs (number d) false) c ≡ onward limit (complete true fs (number d) true) c
   unfolding step
@@ -286,48 +258,28 @@ module _ (limit : Option ℕ) where
 -- ---- the machine and the cursor
 
 module _ {S : Type 0} (sight : Sight S) where
-  -- a digit, and those that follow it
-  pub Digits-cons : (empty : JsonParseErrorKind) (p q r : S) (c : ℕ) (old mid new : List ℕ) (v : Result (Unit {0}) JsonParseError) → is_ascii_digit c ≡ true → Takes sight p (c ∷ []) q → mid ≡ old ++ c ∷ []
-      → Gathers sight q mid v new r → OnOk v (Ends sight r) → Digits sight empty p old v new r
-  Digits-cons empty p q r c old mid new (Ok u) d t e g h = record {
-    ds = c ∷ g.ds;
-    digits = (d, g.digits);
-    takes = Takes-append sight p q r (c ∷ []) g.ds t g.takes;
-    result = (g.result ∙ ap (λ x. x ++ g.ds) e ∙ append_assoc old (c ∷ []) g.ds, omega arith, h);
-  }
-  Digits-cons empty p q r c old mid new (Err e) d t m g h = record {
-    ds = c ∷ g.ds;
-    digits = (d, g.digits);
-    takes = Takes-append sight p q r (c ∷ []) g.ds t g.takes;
-    result = (g.result.1, inr g.result.0);
-  }
-
   -- what the answer says
-  pub was_accepted : (cs : List ℕ) (p q : S) (old new : List ℕ) (v : Bool) → MatchBool v (Accepted sight cs p old new q) (Declined sight cs p old new q) → v ≡ true → Accepted sight cs p old new q
-  was_accepted cs p q old new true a e = a
-  was_accepted cs p q old new false d e = absurd (true≢false (sym e))
+  pub was_accepted : (test : ℕ → Bool) (p q : S) (v : Bool) → Accepts sight test p v q → v ≡ true → Accepted sight test p q
+  was_accepted test p q true a e = a
+  was_accepted test p q false d e = absurd (true≢false (sym e))
 
-  pub was_declined : (cs : List ℕ) (p q : S) (old new : List ℕ) (v : Bool) → MatchBool v (Accepted sight cs p old new q) (Declined sight cs p old new q) → v ≡ false → Declined sight cs p old new q
-  was_declined cs p q old new true a e = absurd (true≢false e)
-  was_declined cs p q old new false d e = d
+  pub was_declined : (test : ℕ → Bool) (p q : S) (v : Bool) → Accepts sight test p v q → v ≡ false → Declined sight test p q
+  was_declined test p q true a e = absurd (true≢false e)
+  was_declined test p q false d e = d
 
-  -- none of these characters came next, and no digit
-  pub ends_declined : (cs : List ℕ) (p q : S) (old new : List ℕ) → Ends sight p → Declined sight cs p old new q → (o : Option ℕ) × sight.shows q o × IfSome o (λ c. is_ascii_digit c ≡ false) × IfSome o (λ c. is_any cs c ≡ false)
-  ends_declined cs p q old new e d =
+  -- neither a digit came next, nor what passes the test
+  pub ends_declined : (test : ℕ → Bool) (p q : S) → Ends sight p → Declined sight test p q → (o : Option ℕ) × sight.shows q o × IfSome o (λ c. is_ascii_digit c ≡ false) × IfSome o (λ c. test c ≡ false)
+  ends_declined test p q e d =
       let s : sight.shows q e.0 = d.still e.0 e.1 in
-      (e.0, s, e.2, subst (λ o. IfSome o (λ c. is_any cs c ≡ false)) (sight.one q d.o e.0 d.shows s) d.none)
+      (e.0, s, e.2, subst (λ o. IfSome o (λ c. test c ≡ false)) (sight.one q d.o e.0 d.shows s) d.none)
 
   -- where no minus sign came, a digit did
-  pub digit_comes : (p q r : S) (old new : List ℕ) (o : Option ℕ) → BeginsNumber sight p → Declined sight (45 ∷ []) p old new q → sight.shows r o → IfSome o (λ c. is_ascii_digit c ≡ false) → Still sight q r → ⊥
-  digit_comes p q r old new o b d t h k =
+  pub digit_comes : (p q r : S) (o : Option ℕ) → BeginsNumber sight p → Declined sight (λ c. c == 45) p q → sight.shows r o → IfSome o (λ c. is_ascii_digit c ≡ false) → Still sight q r → ⊥
+  digit_comes p q r o b d t h k =
       let s : sight.shows q (Some b.0) = d.still (Some b.0) b.1 in
-      let x : is_any (45 ∷ []) b.0 ≡ false = subst (λ o. IfSome o (λ c. is_any (45 ∷ []) c ≡ false)) (sight.one q d.o (Some b.0) d.shows s) d.none in
+      let x : (b.0 == 45) ≡ false = subst (λ o. IfSome o (λ c. (c == 45) ≡ false)) (sight.one q d.o (Some b.0) d.shows s) d.none in
       let y : is_ascii_digit b.0 ≡ false = subst (λ o. IfSome o (λ c. is_ascii_digit c ≡ false)) (sight.one r o (Some b.0) t (k (Some b.0) s)) h in
-      ⊎_elim (not_one 45 b.0 x) (λ w. true≢false (sym w ∙ y)) b.2
-
-  pub minus_written : (v : Bool) (p q : S) (old new : List ℕ) → old ≡ [] → MatchBool v (Accepted sight (45 ∷ []) p old new q) (Declined sight (45 ∷ []) p old new q) → new ≡ minus_text v
-  minus_written true p q old new e a = a.text ∙ ap (λ x. x ++ a.c ∷ []) e ∙ ap (λ c. c ∷ []) (any_one 45 a.c a.one)
-  minus_written false p q old new e d = d.text ∙ e
+      ⊎_elim (λ e. grind (arith, nat_tests)) (λ w. true≢false (sym w ∙ y)) b.2
 
   module _ (limit : Option ℕ) where
     -- what comes next tells no difference

@@ -1,12 +1,11 @@
 -- The parts of a number, as the parser reads them. For private contracts.
-use Rattle.std.specs.Prelude.{◌≡◌, ℕ, ◌<◌, Bool, true, false, List, [], ◌∷◌, ◌++◌, Option, Some, Result, MatchResult, MatchBool, IfSome}
-use Rattle.std.specs.Prelude.{length, ◌⊎◌, nat_eq}
+use Rattle.std.specs.Prelude.{◌≡◌, ℕ, ◌+◌, ◌<◌, Bool, true, false, List, [], ◌∷◌, ◌++◌, Option, Some, None, Result, MatchResult, MatchBool, IfSome}
+use Rattle.std.specs.Prelude.{length, ◌⊎◌, ◌==◌}
 use Rattle.std.specs.Char.{is_ascii_digit}
-use Rattle.std.specs.List.{AllByRecursion, list_any}
-use Rattle.tinyjson_number.specs.Numeral.{Numeral, Exponent}
-use Rattle.tinyjson_number.specs.NumberText.{Spells}
+use Rattle.std.specs.List.{AllByRecursion}
+use Rattle.tinyjson_number.specs.Numeral.{Numeral, Exponent, IsNumeral, has_leading_zero, is_sign, sign_text}
 use Rattle.tinyjson.specs.Error.{error_position}
-use Rattle.tinyjson.specs.private.Source.{Sight, Takes}
+use Rattle.tinyjson.specs.private.Source.{Sight, Still, Takes}
 use Rattle.tinyjson.specs.private.Machine.{Frame, Stage, Next, next, digits}
 use Rattle.tinyjson.specs.private.Steps.{Ends, Leads, Refuses}
 use Rattle.tinyjson.specs.declared.parser.error.JsonParseError.{JsonParseError}
@@ -17,47 +16,63 @@ use Rattle.tinyjson.specs.declared.parser.error.JsonParseErrorKind.TheVariants.{
 abbrev pub BeginsNumber : {S : Type 0} → Sight S → S → Type 0
 BeginsNumber sight p = (c : ℕ) × sight.shows p (Some c) × ((c ≡ 45) ⊎ (is_ascii_digit c ≡ true))
 
-abbrev pub is_any : List ℕ → ℕ → Bool
-is_any cs c = list_any (λ d. nat_eq d c) cs
-
 -- the numeral of these parts
 abbrev pub numeral : Bool → List ℕ → List ℕ → Option Exponent → Numeral
 numeral b ds f e = record { negative = b; whole = ds; fraction = f; exponent = e }
 
--- what was shown is still shown
-abbrev pub Still : {S : Type 0} → Sight S → S → S → Type 0
-Still sight p q = (o : Option ℕ) → sight.shows p o → sight.shows q o
+-- whether it is below zero, where there is one
+abbrev pub is_minus : Option ℕ → Bool
+is_minus None = false
+is_minus (Some c) = c == 45
 
--- there was no memory
-abbrev pub LacksMemory : {S : Type 0} → Sight S → JsonParseError → S → Type 0
-LacksMemory sight e q = (e.kind ≡ OutOfMemory) × (error_position e ≡ sight.place q)
+abbrev pub is_below_zero : Option Exponent → Option Bool
+is_below_zero None = None
+is_below_zero (Some e) = Some (is_minus e.sign)
+
+-- the digits of a number, those of one part behind those of the other
+abbrev pub exponent_digits : Option Exponent → List ℕ
+exponent_digits None = []
+exponent_digits (Some e) = e.digits
+
+abbrev pub all_digits : Numeral → List ℕ
+all_digits n = n.whole ++ (n.fraction ++ exponent_digits n.exponent)
+
+-- whether it is below zero, where its parts end among its digits, and whether its exponent is below zero
+abbrev pub marks : Numeral → Bool × (ℕ × (ℕ × Option Bool))
+marks n = (n.negative, (length n.whole, (length n.whole + length n.fraction, is_below_zero n.exponent)))
+
+-- the digits of that number of the grammar
+pub record Gathered (n : Numeral) (text : List ℕ) : Type 0 where
+  pub well_formed : IsNumeral n
+  pub no_leading_zero : has_leading_zero n.whole ≡ false
+  pub gathered : all_digits n ≡ text
 
 module _ {S : Type 0} (sight : Sight S) where
-  -- The character was taken and added to a text, or there was no memory for it.
-  abbrev pub Keeps : ℕ → S → List ℕ → Result (Unit {0}) JsonParseError → List ℕ → S → Type 0
-  Keeps c p old r new q = MatchResult r (λ _. Takes sight p (c ∷ []) q × (new ≡ old ++ c ∷ []))
-      (λ e. Takes sight p [] q × LacksMemory sight e q)
-
-  -- one of these characters came next
-  pub record Accepted (cs : List ℕ) (p : S) (old new : List ℕ) (q : S) : Type 0 where
+  -- a character came next that passes the test, and was taken
+  pub record Accepted (test : ℕ → Bool) (p q : S) : Type 0 where
     pub c : ℕ
-    pub one : is_any cs c ≡ true
+    pub one : test c ≡ true
     pub takes : Takes sight p (c ∷ []) q
-    pub text : new ≡ old ++ c ∷ []
 
-  -- none of these characters came next, or none at all
-  pub record Declined (cs : List ℕ) (p : S) (old new : List ℕ) (q : S) : Type 0 where
+  -- none came next that passes it
+  pub record Declined (test : ℕ → Bool) (p q : S) : Type 0 where
     pub o : Option ℕ
     pub shows : sight.shows q o
-    pub none : IfSome o (λ c. is_any cs c ≡ false)
+    pub none : IfSome o (λ c. test c ≡ false)
     pub still : Still sight p q
     pub takes : Takes sight p [] q
-    pub text : new ≡ old
 
-  -- The next character was taken and added to a text if it is one of these; or there was no memory for it.
-  abbrev pub Accepts : List ℕ → S → List ℕ → Result Bool JsonParseError → List ℕ → S → Type 0
-  Accepts cs p old r new q = MatchResult r (λ b. MatchBool b (Accepted cs p old new q) (Declined cs p old new q))
-      (λ e. Takes sight p [] q × LacksMemory sight e q)
+  -- The next character was taken if it passes the test.
+  abbrev pub Accepts : (ℕ → Bool) → S → Bool → S → Type 0
+  Accepts test p b q = MatchBool b (Accepted test p q) (Declined test p q)
+
+  -- the sign of an exponent was taken, if there was one
+  pub record Signs (p : S) (negative : Bool) (q : S) : Type 0 where
+    pub sign : Option ℕ
+    pub known : IfSome sign (λ c. is_sign c ≡ true)
+    pub minus : negative ≡ is_minus sign
+    pub takes : Takes sight p (sign_text sign) q
+    pub none : sign ≡ None → (o : Option ℕ) × sight.shows q o × IfSome o (λ c. is_sign c ≡ false)
 
   -- Digits were taken and added to a text, until no digit came. There was one at least, or the refusal is of
   -- that kind; or there was no memory.
@@ -70,15 +85,17 @@ module _ {S : Type 0} (sight : Sight S) where
         (λ e. (error_position e ≡ sight.place q)
         × (((e.kind ≡ empty) × (ds ≡ []) × Ends sight q × Still sight p q) ⊎ (e.kind ≡ OutOfMemory)))
 
-  -- A part of a number was read. The text now spells a numeral of that form, the machine came to it in that stage, and no digit comes next.
-  pub record Part {A : Type 0} (form : A → Numeral) (stage : Stage) (p : S) (before : List Frame → Next) (new : List ℕ)
-      (q : S) : Type 0 where
+  -- A part of a number was read. The text now has the digits of a numeral of that form, the machine came to it in that stage, and no
+  -- digit comes next.
+  pub record Part {A T : Type 0} (answer : Numeral → T) (form : A → Numeral) (stage : Stage) (p : S) (before : List Frame → Next) (v : T)
+      (new : List ℕ) (q : S) : Type 0 where
     pub part : A
-    pub spells : Spells (form part) new
+    pub has : Gathered (form part) new
+    pub answers : v ≡ answer (form part)
     pub ends : Ends sight q
     pub leads : (limit : Option ℕ) (fs : List Frame) → Leads sight limit p (before fs) q (next fs (digits stage (form part)))
 
-  abbrev pub ReadsPart : {A : Type 0} → (A → Numeral) → Stage → S → (List Frame → Next) →
-      Result (Unit {0}) JsonParseError → List ℕ → S → Type 0
-  ReadsPart form stage p before r new q = MatchResult r (λ _. Part form stage p before new q)
+  abbrev pub ReadsPart : {A T : Type 0} → (Numeral → T) → (A → Numeral) → Stage → S → (List Frame → Next) →
+      Result T JsonParseError → List ℕ → S → Type 0
+  ReadsPart answer form stage p before r new q = MatchResult r (λ v. Part answer form stage p before v new q)
       (λ e. (limit : Option ℕ) (fs : List Frame) → Refuses sight limit p (before fs) e q)

@@ -17,6 +17,10 @@ pub record Sight (S : Type 0) : Type 1 where
   pub first : (p : S) (zs : List ℕ) (c : ℕ) → shows p (Some c) → gives p zs → (cs : List ℕ) × (zs ≡ c ∷ cs)
   pub none : (p : S) (zs : List ℕ) → shows p None → gives p zs → zs ≡ []
 
+-- what was shown is still shown
+abbrev pub Still : {S : Type 0} → Sight S → S → S → Type 0
+Still sight p q = (o : Option ℕ) → sight.shows p o → sight.shows q o
+
 module _ {S : Type 0} (sight : Sight S) where
   -- a call took xs from p and left q: of any list that p gave, xs stands in front, and q gives the rest
   pub record Takes (p : S) (xs : List ℕ) (q : S) : Type 0 where

@@ -1,15 +1,14 @@
 -- What a part of the parser did, in the words of the machine. For private contracts.
-use Rattle.std.specs.Prelude.{◌≡◌, ℕ, ◌≤◌, Bool, true, false, List, [], ◌∷◌, ◌++◌, map, reverse, length, Option, Some, None, Result, Ok}
+use Rattle.std.specs.Prelude.{◌≡◌, ℕ, Bool, true, false, List, [], ◌∷◌, ◌++◌, map, reverse, Option, Some, None, Result, Ok}
 use Rattle.std.specs.Prelude.{Err, IfErr, MatchResult, IfSome, String, cond, ◌⊎◌, ⊤}
 use Rattle.std.specs.Char.{is_ascii_digit}
-use Rattle.std.specs.List.{AllByRecursion}
 use Rattle.std.specs.declared.alloc.Global.{Global}
 use Rattle.tinyjson.specs.Tree.{Tree, string}
 use Rattle.tinyjson.specs.View.{view, members_view, text}
 use Rattle.tinyjson.specs.Position.{Position, advance}
 use Rattle.tinyjson.specs.Error.{error_position}
 use Rattle.tinyjson.specs.Refusal.{MayGrow}
-use Rattle.tinyjson.specs.private.Source.{Sight, Takes}
+use Rattle.tinyjson.specs.private.Source.{Sight}
 use Rattle.tinyjson.specs.private.Machine.{Frame, in_array, at_key, at_value, awaited, word, plain, quoted, Next, next, stop, Outcome}
 use Rattle.tinyjson.specs.private.Machine.{refused, complete, step, end, run, strictly}
 use Rattle.tinyjson.specs.declared.parser.containers.Open.{Open}
@@ -127,13 +126,6 @@ module _ {S : Type 0} (sight : Sight S) (limit : Option ℕ) where
   Reads p n r m q = MatchResult r (λ v. Leads p n q (m v)) (λ e. Refuses p n e q)
 
 module _ {S : Type 0} (sight : Sight S) where
-  -- digits were taken and added to a text, or for some of them there was no memory
-  pub record Gathers (p : S) (old : List ℕ) (r : Result (Unit {0}) JsonParseError) (new : List ℕ) (q : S) : Type 0 where
-    pub ds : List ℕ
-    pub digits : AllByRecursion (λ c. is_ascii_digit c ≡ true) ds
-    pub takes : Takes sight p ds q
-    pub result : MatchResult r (λ _. new ≡ old ++ ds) (λ e. (e.kind ≡ OutOfMemory) × (error_position e ≡ sight.place q))
-
   -- what the cursor gives begins, behind white space, with a string, a number or a container
   abbrev pub Grows : S → Type 0
   Grows p = (zs : List ℕ) → sight.gives p zs → MayGrow zs

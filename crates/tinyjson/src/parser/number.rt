@@ -1,17 +1,18 @@
 //! Numbers (RFC 8259, section 6).
-ghost use Rattle.std.specs.Prelude.{◌≡◌, ◌<◌, ◌≤◌, [], ℕ, List, Bool, OnOk, Option, Some, None, string_bytes};
-ghost use Rattle.std.specs.List.{AllByRecursion};
-ghost use Rattle.tinyjson.specs.private.Machine.{Frame, awaited, digits, whole, fraction, exponent, next};
-ghost use Rattle.tinyjson.specs.private.NumberSteps.{Digits, BeginsNumber, Keeps, Accepts, ReadsPart, numeral};
-ghost use Rattle.tinyjson.specs.private.Steps.{Ends, Gathers, Reads, at};
-ghost use Rattle.tinyjson_number.specs.Numeral.{Exponent, has_leading_zero};
-ghost use Rattle.tinyjson_number.specs.NumberText.{Spells};
+ghost use Rattle.std.specs.Prelude.{◌≡◌, ◌==◌, ◌<◌, ◌≤◌, [], ℕ, List, Bool, true, OnOk, Option, Some, None};
+ghost use Rattle.std.specs.Prelude.{if◌then◌else◌, length, option_map, string_bytes};
+ghost use Rattle.tinyjson.specs.private.Machine.{Frame, awaited, complete, digits, whole, fraction, exponent, next};
+ghost use Rattle.tinyjson.specs.private.NumberSteps.{Digits, BeginsNumber, Accepts, Gathered, ReadsPart, Signs};
+ghost use Rattle.tinyjson.specs.private.NumberSteps.{is_below_zero, marks, numeral};
+ghost use Rattle.tinyjson.specs.private.Steps.{Ends, Reads};
+ghost use Rattle.tinyjson.specs.Tree.{number};
+ghost use Rattle.tinyjson_number.specs.Numeral.{Exponent, Numeral, has_leading_zero, is_exponent_letter};
+ghost use Rattle.tinyjson_number.specs.Reading.{ReadsNumeral, exponent_of};
 
 use super::error::{JsonParseError, JsonParseErrorKind};
 use super::reader::Reader;
 use super::source::Source;
-use crate::value::JsonValue;
-use tinyjson_number::{JsonNumber, LiteralError};
+use tinyjson_number::{ExponentParts, JsonNumber, LiteralError, NumberParts};
 
 /// Whether there are two or more digits, and the first is `0`.
 fn has_leading_zero(digits: &[u8]) -> bool
@@ -25,126 +26,176 @@ fn has_leading_zero(digits: &[u8]) -> bool
 
 impl<S: Source> Reader<S> {
     /// Reads the number whose first character, a minus sign or a digit, comes next.
-    pub(super) fn number(&mut self) -> Result<Option<JsonValue>, JsonParseError>
+    pub(super) fn number(&mut self) -> Result<JsonNumber, JsonParseError>
         requires { BeginsNumber S.sight self.old.source }
         ensures reads { (limit : Option ℕ) (fs : List Frame) →
-            Reads S.sight limit self.old.source (next fs awaited) result (at fs) self.new.source }
+            Reads S.sight limit self.old.source (next fs awaited) result
+            (λ n. complete true fs (number n.decimal) true) self.new.source }
         ensures left { OnOk result (S.left self.new.source < S.left self.old.source) }
     {
         self.literal.clear();
-        self.integer()?;
+        let negative = self.integer()?;
+        let whole = self.literal.len();
         self.fraction()?;
-        self.exponent()?;
-        match JsonNumber::from_literal(self.alloc, self.literal.as_str()) {
-            Ok(number) => Ok(Some(JsonValue::Number(number))),
+        let fraction = self.literal.len();
+        let exponent = self.exponent()?;
+        match self.gathered(negative, whole, fraction, exponent) {
+            Ok(number) => Ok(number),
             Err(LiteralError::OutOfRange) => Err(self.refuse(JsonParseErrorKind::NumberOutOfRange)),
             Err(LiteralError::OutOfMemory) => Err(self.refuse(JsonParseErrorKind::OutOfMemory)),
         }
     }
 
-    /// Reads the minus sign, if there is one, and the digits of the whole part.
-    fn integer(&mut self) -> Result<(), JsonParseError>
+    /// The number whose digits were gathered: those of its whole part end at `whole`, and those of its
+    /// fraction at `fraction`.
+    fn gathered(
+        &self,
+        negative: bool,
+        whole: usize,
+        fraction: usize,
+        exponent: Option<bool>,
+    ) -> Result<JsonNumber, LiteralError>
+        requires order { whole ≤ fraction }
+        requires within { fraction ≤ length (string_bytes self.now.literal) }
+        requires gathered { (n : Numeral) × Gathered n (string_bytes self.now.literal)
+            × ((negative, (whole, (fraction, exponent))) ≡ marks n) }
+        ensures { (n : Numeral) → Gathered n (string_bytes self.now.literal)
+            → (negative, (whole, (fraction, exponent))) ≡ marks n → ReadsNumeral n result }
+    {
+        let digits = self.literal.as_bytes();
+        let parts = NumberParts {
+            negative,
+            whole: &digits[..whole],
+            fraction: &digits[whole..fraction],
+            exponent: exponent_parts(exponent, &digits[fraction..]),
+        };
+        JsonNumber::from_parts(self.alloc, parts)
+    }
+
+    /// Reads the minus sign, if there is one, and the digits of the whole part; says whether there is a
+    /// minus sign.
+    fn integer(&mut self) -> Result<bool, JsonParseError>
         requires begins { BeginsNumber S.sight self.old.source }
         requires empty { string_bytes self.old.literal ≡ [] }
-        ensures reads { ReadsPart S.sight (λ (x : Bool × List ℕ). numeral x.0 x.1 [] None) whole
+        ensures reads { ReadsPart S.sight (λ n. n.negative)
+            (λ (x : Bool × List ℕ). numeral x.0 x.1 [] None) whole
             self.old.source (λ fs. next fs awaited) result (string_bytes self.new.literal)
             self.new.source }
         ensures left { OnOk result (S.left self.new.source < S.left self.old.source) }
     {
-        self.accept(&['-'])?;
-        let start = self.literal.len();
+        let negative = self.accept('-');
         self.digits(JsonParseErrorKind::EmptyInteger)?;
-        if has_leading_zero(&self.literal.as_bytes()[start..]) {
+        if has_leading_zero(self.literal.as_bytes()) {
             return Err(self.refuse(JsonParseErrorKind::LeadingZero));
         }
-        Ok(())
+        Ok(negative)
     }
 
     /// Reads the point and the digits behind it, if there is a point.
     fn fraction(&mut self) -> Result<(), JsonParseError>
         ensures reads { (b : Bool) (ds : List ℕ) →
-            Spells (numeral b ds [] None) (string_bytes self.old.literal) →
-            Ends S.sight self.old.source → ReadsPart S.sight (λ f. numeral b ds f None) fraction
+            Gathered (numeral b ds [] None) (string_bytes self.old.literal) →
+            Ends S.sight self.old.source → ReadsPart S.sight (λ _. tt)
+            (λ f. numeral b ds f None) fraction
             self.old.source (λ fs. next fs (digits whole (numeral b ds [] None))) result
             (string_bytes self.new.literal) self.new.source }
         ensures left { OnOk result (S.left self.new.source ≤ S.left self.old.source) }
     {
-        if !self.accept(&['.'])? {
+        if !self.accept('.') {
             return Ok(());
         }
         self.digits(JsonParseErrorKind::EmptyFraction)
     }
 
-    /// Reads the letter, the sign and the digits of the exponent, if there is one.
-    fn exponent(&mut self) -> Result<(), JsonParseError>
+    /// Reads the letter, the sign and the digits of the exponent, if there is one, and says whether it is
+    /// below zero.
+    fn exponent(&mut self) -> Result<Option<bool>, JsonParseError>
         ensures reads { (b : Bool) (ds f : List ℕ) →
-            Spells (numeral b ds f None) (string_bytes self.old.literal) →
-            Ends S.sight self.old.source → ReadsPart S.sight (numeral b ds f) exponent
+            Gathered (numeral b ds f None) (string_bytes self.old.literal) →
+            Ends S.sight self.old.source → ReadsPart S.sight (λ n. is_below_zero n.exponent)
+            (numeral b ds f) exponent
             self.old.source (λ fs. next fs (digits fraction (numeral b ds f None))) result
             (string_bytes self.new.literal) self.new.source }
         ensures left { OnOk result (S.left self.new.source ≤ S.left self.old.source) }
     {
-        if !self.accept(&['e', 'E'])? {
-            return Ok(());
+        if !self.letter() {
+            return Ok(None);
         }
-        self.accept(&['+', '-'])?;
-        self.digits(JsonParseErrorKind::EmptyExponent)
+        let negative = self.sign();
+        self.digits(JsonParseErrorKind::EmptyExponent)?;
+        Ok(Some(negative))
     }
 
-    /// Reads digits; the error is of this kind where there is none.
+    /// Reads digits, and adds them to the literal; the error is of this kind where there is none.
     fn digits(&mut self, empty: JsonParseErrorKind) -> Result<(), JsonParseError>
         ensures reads { Digits S.sight empty self.old.source (string_bytes self.old.literal) result
             (string_bytes self.new.literal) self.new.source }
         ensures left { OnOk result (S.left self.new.source < S.left self.old.source) }
     {
-        match self.source.peek() {
-            Some(c) if c.is_ascii_digit() => self.keep(c)?,
-            _ => return Err(self.refuse(empty)),
-        }
-        self.more_digits()
-    }
-
-    /// Reads the digits that are left.
-    fn more_digits(&mut self) -> Result<(), JsonParseError>
-        ensures gathers { Gathers S.sight self.old.source (string_bytes self.old.literal) result
-            (string_bytes self.new.literal) self.new.source }
-        ensures ends { OnOk result (Ends S.sight self.new.source) }
-        ensures left { OnOk result (S.left self.new.source ≤ S.left self.old.source) }
-    {
+        let before = self.literal.len();
         if self.source.digits(&mut self.literal).is_err() {
             return Err(self.refuse(JsonParseErrorKind::OutOfMemory));
         }
+        if self.literal.len() == before {
+            return Err(self.refuse(empty));
+        }
         Ok(())
     }
 
-    /// Reads the next character if it is one of these, and says whether it is.
-    fn accept(&mut self, any: &[char]) -> Result<bool, JsonParseError>
-        requires { AllByRecursion (λ c. c < 128) any.now }
-        ensures accepts { Accepts S.sight any.now self.old.source (string_bytes self.old.literal)
-            result (string_bytes self.new.literal) self.new.source }
-        ensures left { OnOk result (S.left self.new.source ≤ S.left self.old.source) }
+    /// Reads the letter of an exponent, if it comes next, and says whether it does.
+    fn letter(&mut self) -> bool
+        ensures accepts { Accepts S.sight is_exponent_letter self.old.source result self.new.source }
+        ensures literal { self.new.literal ≡ self.old.literal }
+        ensures left { S.left self.new.source ≤ S.left self.old.source }
     {
         match self.source.peek() {
-            Some(c) if any.contains(&c) => {
-                self.keep(c)?;
-                Ok(true)
+            Some(c) if c == 'e' || c == 'E' => {
+                self.source.bump();
+                true
             }
-            _ => Ok(false),
+            _ => false,
         }
     }
 
-    /// Adds the character that comes next to the literal, and takes it.
-    fn keep(&mut self, c: char) -> Result<(), JsonParseError>
-        requires shown { S.sight.shows self.old.source (Some c) }
-        requires ascii { c < 128 }
-        ensures keeps { Keeps S.sight c self.old.source (string_bytes self.old.literal) result
-            (string_bytes self.new.literal) self.new.source }
-        ensures left { OnOk result (S.left self.new.source < S.left self.old.source) }
+    /// Reads the sign of an exponent, if there is one, and says whether it is a minus sign.
+    fn sign(&mut self) -> bool
+        ensures signs { Signs S.sight self.old.source result self.new.source }
+        ensures literal { self.new.literal ≡ self.old.literal }
+        ensures left { S.left self.new.source ≤ S.left self.old.source }
     {
-        if self.literal.push(c).is_err() {
-            return Err(self.refuse(JsonParseErrorKind::OutOfMemory));
+        match self.source.peek() {
+            Some(c) if c == '+' || c == '-' => {
+                self.source.bump();
+                c == '-'
+            }
+            _ => false,
         }
-        self.source.bump();
-        Ok(())
     }
+
+    /// Reads this character if it comes next, and says whether it does.
+    fn accept(&mut self, wanted: char) -> bool
+        ensures accepts { Accepts S.sight (λ c. c == wanted) self.old.source result self.new.source }
+        ensures literal { self.new.literal ≡ self.old.literal }
+        ensures left { S.left self.new.source ≤ S.left self.old.source }
+    {
+        match self.source.peek() {
+            Some(c) if c == wanted => {
+                self.source.bump();
+                true
+            }
+            _ => false,
+        }
+    }
+}
+
+/// The exponent of these digits, with this sign, if there is one.
+fn exponent_parts(negative: Option<bool>, digits: &[u8]) -> Option<ExponentParts<'_>>
+    ensures { exponent_of result ≡ option_map (λ b. record {
+      letter = 101;
+      sign = if b then Some 45 else None;
+      digits = digits.now;
+    }) negative }
+{
+    let negative = negative?;
+    Some(ExponentParts { negative, digits })
 }

@@ -120,8 +120,8 @@ impl<S: Source> Reader<S> {
             }
             '[' => self.array(limit, stack),
             '{' => self.object(limit, stack),
-            '-' => self.number(),
-            c if c.is_ascii_digit() => self.number(),
+            '-' => Ok(Some(JsonValue::Number(self.number()?))),
+            c if c.is_ascii_digit() => Ok(Some(JsonValue::Number(self.number()?))),
             c => Err(self.refuse(JsonParseErrorKind::InvalidCharacter(c))),
         }
     }

@@ -1,11 +1,11 @@
 //! Where the characters come from.
-ghost use Rattle.std.specs.Prelude.{◌≡◌, ℕ, ◌+◌, ◌≤◌, [], ◌∷◌, false, IfSome, MatchOption, OnOk, Option, None, string_bytes};
+ghost use Rattle.std.specs.Prelude.{◌≡◌, ℕ, ◌+◌, ◌≤◌, [], ◌∷◌, false, IfSome, MatchOption, OnOk, Option, None, length, string_bytes};
 ghost use Rattle.std.specs.Char.{is_ascii_digit};
 ghost use Rattle.std.specs.Option.{option_len};
 ghost use Rattle.tinyjson.specs.Characters.{is_white};
 ghost use Rattle.tinyjson.specs.private.Scan.{is_plain};
 ghost use Rattle.tinyjson.specs.Position.{position_at};
-ghost use Rattle.tinyjson.specs.private.Source.{Sight, Stops, Takes, TakesQuoted, TakesRun, Whites};
+ghost use Rattle.tinyjson.specs.private.Source.{Sight, Still, Stops, Takes, TakesQuoted, TakesRun, Whites};
 ghost use Rattle.tinyjson.specs.View.{text};
 
 use super::utf16::push;
@@ -87,7 +87,10 @@ pub(super) trait Source: Drop {
         ensures digits { TakesRun sight is_ascii_digit self.old (string_bytes literal.old) result
             (string_bytes literal.new) self.new }
         ensures stops { OnOk result (Stops sight is_ascii_digit self.new) }
-        ensures left { left self.new ≤ left self.old }
+        ensures still { OnOk result (string_bytes literal.new ≡ string_bytes literal.old
+            → Still sight self.old self.new) }
+        ensures left { OnOk result (left self.new + length (string_bytes literal.new)
+            ≤ left self.old + length (string_bytes literal.old)) }
     {
         loop {
             match self.peek() {

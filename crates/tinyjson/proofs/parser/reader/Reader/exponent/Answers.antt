@@ -1,27 +1,25 @@
+use Rattle.std.proofs.Common.{None, string_bytes, sym, subst, ◌∙◌}
 use Rattle.std.proofs.lemmas.Result.{err_from_is_err_and}
+use Rattle.tinyjson_number.specs.Numeral.{is_exponent_letter}
+use Rattle.tinyjson.specs.private.NumberSteps.{numeral, Gathered}
 use Rattle.tinyjson.proofs.Reading.Number.{was_accepted, was_declined}
-use Rattle.tinyjson.proofs.Reading.NumberParts.{Refuses-first, Refuses-sign, Part-no-exponent, Reads-exponent}
+use Rattle.tinyjson.proofs.Reading.NumberParts.{Part-no-exponent, Part-exponent, Refuses-exponent}
 use Rattle.tinyjson.proofs.parser.reader.Reader.exponent.Goals as goal
 
-pub returns-in_err-accept-clause-reads : goal.returns-in_err-accept-clause-reads
-returns-in_err-accept-clause-reads g c = λ b ds f s e.
+pub returns-then-not-letter-clause-reads : goal.returns-then-not-letter-clause-reads
+returns-then-not-letter-clause-reads g c = λ b ds f s e.
+    let has = subst (λ l. Gathered (numeral b ds f None) (string_bytes l)) (sym c.letter.ensures.literal) s in
+    Part-no-exponent g.S.Source.sight _ _ b ds f _ has e (was_declined g.S.Source.sight is_exponent_letter _ _ c.letter.result c.letter.ensures.accepts c.if-not-letter.true)
+
+pub returns-in_err-digits-clause-reads : goal.returns-in_err-digits-clause-reads
+returns-in_err-digits-clause-reads g c = λ b ds f s e.
+    let has = subst (λ l. Gathered (numeral b ds f None) (string_bytes l)) (sym (c.sign-negative.ensures.literal ∙ c.letter.ensures.literal)) s in
+    let letter = was_accepted g.S.Source.sight is_exponent_letter _ _ c.letter.result c.letter.ensures.accepts c.if-not-letter.false in
     let p = err_from_is_err_and c.from_residual.result c.from_residual.ensures.1 in
-    let k = c.in_err-accept.ensures.accepts in
-    rw (p.1, p.2) (λ limit fs. Refuses-first g.S.Source.sight _ _ limit _ _ tt k.0 k.1)
-
-pub returns-then-not-branch-clause-reads : goal.returns-then-not-branch-clause-reads
-returns-then-not-branch-clause-reads g c = λ b ds f s e.
-    Part-no-exponent g.S.Source.sight _ _ b ds f _ _ s e (was_declined g.S.Source.sight _ _ _ _ _ c.in_ok-accept.field-0 c.in_ok-accept.ensures.accepts c.if-not-branch.true)
-
-pub returns-in_err-accept-2-clause-reads : goal.returns-in_err-accept-2-clause-reads
-returns-in_err-accept-2-clause-reads g c = λ b ds f s e.
-    let r = c.from_residual-in_err-accept-2 in
-    let p = err_from_is_err_and r.result r.ensures.1 in
-    let k = c.in_err-accept-2.ensures.accepts in
-    rw (p.1, p.2)
-    (Refuses-sign g.S.Source.sight _ _ b ds f _ _ s _ (was_accepted g.S.Source.sight _ _ _ _ _ c.in_ok-accept.field-0 c.in_ok-accept.ensures.accepts c.if-not-branch.false) _ k.0 k.1)
+    rw (p.1, p.2) (Refuses-exponent g.S.Source.sight _ _ b ds f _ has _ _ _ letter c.sign-negative.result c.sign-negative.ensures.signs _ c.in_err-digits.ensures.reads)
 
 pub returns-clause-reads : goal.returns-clause-reads
 returns-clause-reads g c = λ b ds f s e.
-    Reads-exponent g.S.Source.sight _ _ b ds f _ _ s _ (was_accepted g.S.Source.sight _ _ _ _ _ c.in_ok-accept.field-0 c.in_ok-accept.ensures.accepts c.if-not-branch.false)
-    _ _ _ c.in_ok-accept-2.field-0 c.in_ok-accept-2.ensures.accepts c.digits.result c.digits.ensures.reads
+    let has = subst (λ l. Gathered (numeral b ds f None) (string_bytes l)) (sym (c.sign-negative.ensures.literal ∙ c.letter.ensures.literal)) s in
+    let letter = was_accepted g.S.Source.sight is_exponent_letter _ _ c.letter.result c.letter.ensures.accepts c.if-not-letter.false in
+    Part-exponent g.S.Source.sight _ _ b ds f _ has _ _ _ letter c.sign-negative.result c.sign-negative.ensures.signs c.in_ok-digits.ensures.reads

@@ -4,7 +4,7 @@ use Rattle.tinyjson.specs.private.Machine.{complete}
 use Rattle.tinyjson.specs.private.Steps.{frames}
 use Rattle.tinyjson.proofs.Values.Equality.{view-String}
 use Rattle.tinyjson.specs.declared.parser.error.JsonParseErrorKind.TheVariants.{UnexpectedEof, InvalidCharacter}
-use Rattle.tinyjson.proofs.Reading.Containers.{null_begins, true_begins, false_begins, string_begins}
+use Rattle.tinyjson.proofs.Reading.Containers.{null_begins, true_begins, false_begins, string_begins, view-Number}
 use Rattle.tinyjson.proofs.Reading.Sources.{Takes-shown}
 use Rattle.tinyjson.proofs.Reading.Memory.{grows-at, grows-for, grows-none, growth_of, digit-grows}
 use Rattle.tinyjson.proofs.Reading.Steps.{end_awaited, Leads-whites, Leads-one, Leads-end, Leads-shown, Leads-to, Leads-trans, Refuses-after, Refuses-as, Reads-after, white_awaited, invalid}
@@ -81,12 +81,6 @@ returns-in-123-clause-reads g c =
     let limit = c.args.limit in
     Reads-after sight limit _ _ _ _ _ (Leads-whites sight limit _ _ _ c.skip_white.ensures.white tt (white_awaited limit _)) c.object.ensures.reads
 
-pub returns-in-45-clause-reads : goal.returns-in-45-clause-reads
-returns-in-45-clause-reads g c =
-    let sight = g.S.Source.sight in
-    let limit = c.args.limit in
-    Reads-after sight limit _ _ _ _ _ (Leads-whites sight limit _ _ _ c.skip_white.ensures.white tt (white_awaited limit _)) (c.number.ensures.reads limit _)
-
 pub returns-in-n-clause-memory : goal.returns-in-n-clause-memory
 returns-in-n-clause-memory g c = grows-none g.S.Source.sight _ _ c.literal.ensures.whole c.literal.ensures.memory
 
@@ -111,22 +105,6 @@ returns-in-123-clause-memory g c =
     let sight = g.S.Source.sight in
     grows-for sight _ _ (grows-at sight _ _ c.in-Some.first c.skip_white.ensures.white c.in-Some.ensures.shows (growth_of c.in-Some.first 123 (search rules) refl))
 
-pub returns-in-45-clause-memory : goal.returns-in-45-clause-memory
-returns-in-45-clause-memory g c =
-    let sight = g.S.Source.sight in
-    grows-for sight _ _ (grows-at sight _ _ c.in-Some.first c.skip_white.ensures.white c.in-Some.ensures.shows (growth_of c.in-Some.first 45 (search rules) refl))
-
-pub returns-in_default-first-clause-reads : goal.returns-in_default-first-clause-reads
-returns-in_default-first-clause-reads g c =
-    let sight = g.S.Source.sight in
-    let limit = c.args.limit in
-    Reads-after sight limit _ _ _ _ _ (Leads-whites sight limit _ _ _ c.skip_white.ensures.white tt (white_awaited limit _)) (c.number-in_default-first.ensures.reads limit _)
-
-pub returns-in_default-first-clause-memory : goal.returns-in_default-first-clause-memory
-returns-in_default-first-clause-memory g c =
-    let sight = g.S.Source.sight in
-    grows-for sight _ _ (grows-at sight _ _ c.in-Some.first c.skip_white.ensures.white c.in-Some.ensures.shows (digit-grows c.in-Some.first (search rules)))
-
 pub returns-in_default-2-clause-reads : goal.returns-in_default-2-clause-reads
 returns-in_default-2-clause-reads g c =
     let sight = g.S.Source.sight in
@@ -134,3 +112,45 @@ returns-in_default-2-clause-reads g c =
     Refuses-as sight limit _ _ c.refuse-in_default-2.result (InvalidCharacter c.in-Some.first) c.refuse-in_default-2.ensures.kind c.refuse-in_default-2.ensures.at
     (Leads-shown sight limit _ _ c.in-Some.first (Leads-whites sight limit _ _ _ c.skip_white.ensures.white tt (white_awaited limit _)) c.in-Some.ensures.shows
     (invalid limit _ c.in-Some.first c.in-Some.ensures.stops (search rules) (search rules) (search rules) (search rules) (search rules) (search rules) (search rules) (search rules)) tt)
+
+pub returns-in_ok-number-in-45-clause-reads : goal.returns-in_ok-number-in-45-clause-reads
+returns-in_ok-number-in-45-clause-reads g c =
+    let sight = g.S.Source.sight in
+    let limit = c.args.limit in
+    let n = c.in_ok-number-in-45 in
+    Leads-to sight limit _ _ (Leads-trans sight limit _ _ _ (Leads-whites sight limit _ _ _ c.skip_white.ensures.white tt (white_awaited limit _)) (n.ensures.reads limit _))
+    (ap (λ t. complete true (frames c.args.stack.now.items) t true) (sym (view-Number n.field-0)))
+
+pub returns-in_err-number-in-45-clause-reads : goal.returns-in_err-number-in-45-clause-reads
+returns-in_err-number-in-45-clause-reads g c =
+    let sight = g.S.Source.sight in
+    let limit = c.args.limit in
+    let r = c.from_residual in
+    let p = err_from_is_err_and r.result r.ensures.1 in
+    rw (p.1, p.2) (Refuses-after sight limit _ _ _ _ (Leads-whites sight limit _ _ _ c.skip_white.ensures.white tt (white_awaited limit _)) (c.in_err-number-in-45.ensures.reads limit _))
+
+pub returns-in_err-number-in-45-clause-memory : goal.returns-in_err-number-in-45-clause-memory
+returns-in_err-number-in-45-clause-memory g c =
+    let sight = g.S.Source.sight in
+    grows-for sight _ _ (grows-at sight _ _ c.in-Some.first c.skip_white.ensures.white c.in-Some.ensures.shows (growth_of c.in-Some.first 45 (search rules) refl))
+
+pub returns-in_ok-number-in_default-first-clause-reads : goal.returns-in_ok-number-in_default-first-clause-reads
+returns-in_ok-number-in_default-first-clause-reads g c =
+    let sight = g.S.Source.sight in
+    let limit = c.args.limit in
+    let n = c.in_ok-number-in_default-first in
+    Leads-to sight limit _ _ (Leads-trans sight limit _ _ _ (Leads-whites sight limit _ _ _ c.skip_white.ensures.white tt (white_awaited limit _)) (n.ensures.reads limit _))
+    (ap (λ t. complete true (frames c.args.stack.now.items) t true) (sym (view-Number n.field-0)))
+
+pub returns-in_err-number-in_default-first-clause-reads : goal.returns-in_err-number-in_default-first-clause-reads
+returns-in_err-number-in_default-first-clause-reads g c =
+    let sight = g.S.Source.sight in
+    let limit = c.args.limit in
+    let r = c.from_residual-in_err-number-in_default-first in
+    let p = err_from_is_err_and r.result r.ensures.1 in
+    rw (p.1, p.2) (Refuses-after sight limit _ _ _ _ (Leads-whites sight limit _ _ _ c.skip_white.ensures.white tt (white_awaited limit _)) (c.in_err-number-in_default-first.ensures.reads limit _))
+
+pub returns-in_err-number-in_default-first-clause-memory : goal.returns-in_err-number-in_default-first-clause-memory
+returns-in_err-number-in_default-first-clause-memory g c =
+    let sight = g.S.Source.sight in
+    grows-for sight _ _ (grows-at sight _ _ c.in-Some.first c.skip_white.ensures.white c.in-Some.ensures.shows (digit-grows c.in-Some.first (search rules)))

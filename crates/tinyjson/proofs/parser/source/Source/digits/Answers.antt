@@ -1,4 +1,5 @@
-use Rattle.std.proofs.Common.{rules, arith, sym, ap, true, ◌≡◌, ◌∙◌, ◌∷◌, ◌++◌, [], Some, append-nil, append_assoc, string_bytes}
+use Rattle.std.proofs.Common.{rules, arith, sym, ap, true, ◌≡◌, ◌∙◌, ◌∷◌, ◌++◌, [], Some, append-nil, append_assoc, length, length-append, string_bytes, subst}
+use Rattle.std.specs.Option.{option_len}
 use Rattle.std.proofs.lemmas.Result.{err_from_is_err_and}
 use Rattle.std.specs.Char.{is_ascii_digit}
 use Rattle.std.proofs.lemmas.Str.{encode_ascii}
@@ -9,7 +10,8 @@ use Rattle.tinyjson.proofs.parser.source.Source.digits.Goals as goal
 pub loop-c-init : goal.loop-c-init
 loop-c-init g c = record {
   digits = record { taken = []; pass = tt; takes = Takes-nil g.Self.Source.sight c.args.self.now; added = sym (append-nil (string_bytes c.args.literal.now)) };
-  left = search rules;
+  still = λ e o h. h;
+  left = omega arith;
 }
 
 pub returns-in_err-push-in-Some-clause-digits : goal.returns-in_err-push-in-Some-clause-digits
@@ -26,6 +28,7 @@ loop-c-preserved g c =
     let digit : is_ascii_digit x ≡ true = search rules in
     let small = digit_small x digit in
     let bytes : string_bytes c.push.new.self ≡ string_bytes c.loop-c.literal ++ x ∷ [] = search (rules, encode_ascii) in
+    let long = ap length bytes ∙ length-append (string_bytes c.loop-c.literal) (x ∷ []) in
     record {
       digits = record {
         taken = t.taken ++ x ∷ [];
@@ -34,7 +37,8 @@ loop-c-preserved g c =
             (Takes-shown sight _ _ x _ (c.bump.ensures.shown (Some x) c.in-Some.ensures.shows) c.bump.ensures.takes);
         added = bytes ∙ ap (λ cs. cs ++ x ∷ []) t.added ∙ append_assoc (string_bytes c.args.literal.now) t.taken (x ∷ []);
       };
-      left = omega (arith, c.bump.ensures.left, c.peek.ensures.left, c.loop-c.invariant.left);
+      still = λ e. absurd (omega (arith, ap length e, long, ap length t.added, length-append (string_bytes c.args.literal.now) t.taken));
+      left = omega (arith, ap option_len (c.bump.ensures.shown (Some x) c.in-Some.ensures.shows), c.bump.ensures.left, c.peek.ensures.left, c.loop-c.invariant.left, long);
     }
 
 pub returns-in_default-clause-digits : goal.returns-in_default-clause-digits
@@ -46,3 +50,9 @@ pub returns-in_default-2-clause-digits : goal.returns-in_default-2-clause-digits
 returns-in_default-2-clause-digits g c =
     let t = c.loop-c.invariant.digits in
     record { taken = t.taken; pass = t.pass; takes = Takes-peek g.Self.Source.sight _ _ _ t.taken t.takes c.peek.ensures.takes; added = t.added }
+
+pub returns-in_default-clause-still : goal.returns-in_default-clause-still
+returns-in_default-clause-still g c = λ e o h. subst (g.Self.Source.sight.shows c.peek.new.self) (c.peek.ensures.kept o (c.loop-c.invariant.still e o h)) c.peek.ensures.shows
+
+pub returns-in_default-2-clause-still : goal.returns-in_default-2-clause-still
+returns-in_default-2-clause-still g c = λ e o h. subst (g.Self.Source.sight.shows c.peek.new.self) (c.peek.ensures.kept o (c.loop-c.invariant.still e o h)) c.peek.ensures.shows

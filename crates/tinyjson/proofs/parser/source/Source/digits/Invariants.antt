@@ -1,12 +1,13 @@
-use Rattle.std.proofs.Common.{◌≤◌, Ok, string_bytes}
+use Rattle.std.proofs.Common.{◌≡◌, ◌+◌, ◌≤◌, Ok, length, string_bytes}
 use Rattle.std.specs.Char.{is_ascii_digit}
-use Rattle.tinyjson.specs.private.Source.{TakesRun}
+use Rattle.tinyjson.specs.private.Source.{Still, TakesRun}
 use Rattle.tinyjson.proofs.parser.source.Source.digits.Given as goal
 
 abbrev pub invariant-loop-c : goal.invariant-loop-c
 invariant-loop-c g l = record {
   digits : TakesRun g.Self.Source.sight is_ascii_digit {E = Unit {0}} l.initial.self (string_bytes l.initial.literal) (Ok tt) (string_bytes l.literal) l.self;
-  left : g.Self.Source.left l.self ≤ g.Self.Source.left l.initial.self;
+  still : string_bytes l.literal ≡ string_bytes l.initial.literal → Still g.Self.Source.sight l.initial.self l.self;
+  left : g.Self.Source.left l.self + length (string_bytes l.literal) ≤ g.Self.Source.left l.initial.self + length (string_bytes l.initial.literal);
 }
 
 abbrev pub decreases-loop-c : goal.decreases-loop-c

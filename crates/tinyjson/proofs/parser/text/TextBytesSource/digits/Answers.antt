@@ -1,9 +1,10 @@
-use Rattle.std.proofs.Common.{◌≡◌, ◌+◌, ◌++◌, [], ap, sym, refl, drop, ◌∙◌, arith, rules, string_bytes}
+use Rattle.std.proofs.Common.{◌≡◌, ◌+◌, ◌++◌, [], ap, sym, refl, drop, ◌∙◌, arith, rules, string_bytes, length, length-append, subst}
+use Rattle.std.specs.List.{slice_get}
 use Rattle.std.proofs.lemmas.Result.{err_from_is_err_and}
 use Rattle.std.proofs.lemmas.Str.{IsUtf8-had}
 use Rattle.std.specs.Char.{is_ascii_digit}
 use Rattle.std.specs.List.{prefix_len}
-use Rattle.tinyjson.specs.private.Slice.{before}
+use Rattle.tinyjson.specs.private.Slice.{before, behind}
 use Rattle.tinyjson.proofs.Reading.Slices.{between, run_end, digit_small, ascii_boundary, ascii_between, ascii_bytes, ascii_ends, stay_moves, step_gives, step_moves}
 use Rattle.tinyjson.proofs.parser.text.TextBytesSource.digits.Goals as goal
 
@@ -54,3 +55,13 @@ returns-clause-stops c =
     let self = c.args.self.now in
     let e : c.digits_end-end.result ≡ run_end is_ascii_digit self.text.now self.at = c.digits_end-end.ensures ∙ ap (λ bs. self.at + prefix_len is_ascii_digit (drop self.at bs)) c.as_bytes.ensures.value in
     ascii_ends is_ascii_digit digit_small self.text.now (IsUtf8-had self.text.now self.utf8) self.at self.boundary _ e
+
+pub returns-clause-still : goal.returns-clause-still
+returns-clause-still c = λ e o h.
+    let self = c.args.self.now in
+    let to = c.digits_end-end.result in
+    let is : to ≡ run_end is_ascii_digit self.text.now self.at = c.digits_end-end.ensures ∙ ap (λ bs. self.at + prefix_len is_ascii_digit (drop self.at bs)) c.as_bytes.ensures.value in
+    let bytes : string_bytes c.push_str.new.self ≡ string_bytes c.args.literal.now ++ c.range.result.now = search rules in
+    let none : length c.range.result.now ≡ 0 = omega (arith, ap length bytes, ap length e, length-append (string_bytes c.args.literal.now) c.range.result.now) in
+    let here : self.at ≡ to = omega (arith, none, c.range.ensures.len, is) in
+    subst (λ k. slice_get (behind self.text.now k) 0 ≡ o) here h
