@@ -8,6 +8,7 @@ pub mod Positions
 pub mod Parse
 pub mod Messages
 pub mod Steps
+pub mod Stack
 pub mod Cursors
 pub mod Sources
 pub mod Slices

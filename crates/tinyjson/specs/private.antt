@@ -2,6 +2,7 @@
 pub mod Comparison
 pub mod Machine
 pub mod Steps
+pub mod Stack
 pub mod NumberSteps
 pub mod Pending
 pub mod Cursor

@@ -12,6 +12,7 @@ mod number;
 mod reader;
 mod scan;
 mod source;
+mod stack;
 mod string;
 mod text;
 mod utf16;

@@ -1,23 +1,20 @@
 -- Values and open containers, as the machine sees them.
-use Rattle.std.proofs.Common.{◌≡◌, ℕ, Bool, true, false, List, [], ◌∷◌, ◌++◌, length, reverse, map, String, Global, Vec, Option, Some, None, IfSome, refl, sym, ap, ◌∙◌, rules}
+use Rattle.std.proofs.Common.{◌≡◌, ℕ, Bool, true, false, List, [], ◌∷◌, length, map, String, Global, Vec, Option, Some, None, IfSome, inl, inr, refl, sym, ap, ◌∙◌, rules}
 use Rattle.std.proofs.lemmas.Bool.{ne_eqb}
-use Rattle.std.proofs.lemmas.List.{reverse-append, map-append, length-map, length-reverse}
-use Rattle.std.specs.Option.{option_to_list}
 use Rattle.tinyjson.specs.Kind.{kind_of}
-use Rattle.tinyjson.specs.Tree.{Tree, items_of, Members, no_members, null, boolean, number, string, array, object}
+use Rattle.tinyjson.specs.Tree.{Tree, items_of, Members, no_members, null, boolean, number, array, object}
 use Rattle.tinyjson.specs.Access.{JsonMap}
-use Rattle.tinyjson.specs.View.{view, items_view, members_view, text}
+use Rattle.tinyjson.specs.View.{view}
 use Rattle.tinyjson_number.specs.Number.{Canonical}
 use Rattle.tinyjson.specs.declared.value.JsonValue.{JsonValue, out-JsonValue, roll-JsonValue, roll-out-JsonValue, the_lemmas}
 use Rattle.tinyjson.specs.declared.value.JsonValue.TheOpen.{JsonValue-F}
 use Rattle.tinyjson.specs.declared.value.JsonValue.TheVariants as is
-use Rattle.tinyjson.specs.declared.parser.containers.Open.{Open}
 use Rattle.tinyjson.specs.Characters.{is_white}
 use Rattle.tinyjson.specs.private.Machine.{step, fits, quoted, plain, Frame, in_array, at_key, at_value, colon, first, awaited, after, Next, next, stop, complete}
 use Rattle.tinyjson.specs.Tree.{is_string}
 use Rattle.tinyjson.specs.declared.parser.error.JsonParseErrorKind.TheVariants.{TooDeep, KeyNotString, ExpectedCommaOrBracket, ExpectedCommaOrBrace, ExpectedColon}
 use Rattle.tinyjson.specs.private.Source.{Sight, Takes}
-use Rattle.tinyjson.specs.private.Steps.{wanting, frames, frame_view, onward, Leads}
+use Rattle.tinyjson.specs.private.Steps.{BeginsLiteral, wanting, onward, Leads}
 use Rattle.tinyjson.proofs.Reading.Steps.{Leads-nil, Leads-one, Leads-shown, Leads-end, end_first, end_awaited}
 use Rattle.tinyjson.proofs.Values.Equality.{view-Array, view-Object}
 
@@ -44,23 +41,15 @@ pub false_begins : (limit : Option ℕ) (fs : List Frame) (c : ℕ) → c ≡ 10
 unfolding step
 false_begins limit fs c e = rw (view-Boolean false, e) refl
 
+-- the letter that is left
+pub literal_false : (c : ℕ) → BeginsLiteral c → (c ≡ 110 → ⊥) → (c ≡ 116 → ⊥) → c ≡ 102
+literal_false c (inl e) n t = absurd (n e)
+literal_false c (inr (inl e)) n t = absurd (t e)
+literal_false c (inr (inr e)) n t = e
+
 pub string_begins : (limit : Option ℕ) (fs : List Frame) (c : ℕ) → c ≡ 34 → onward limit (next fs awaited) c ≡ next fs (quoted plain [] [])
 unfolding step
 string_begins limit fs c e = rw e refl
-
--- ---- the stack
-
-pub frames-push : (os : List Open) (o : Open) → frames (os ++ o ∷ []) ≡ frame_view o ∷ frames os
-frames-push os o = ap (map frame_view) (reverse-append os (o ∷ []))
-
-pub frames-pop : (old new : List Open) (r : Option Open) (o : Open) → old ≡ new ++ option_to_list r → r ≡ Some o → frames old ≡ frame_view o ∷ frames new
-frames-pop old new r o e h = ap frames (e ∙ ap (λ x. new ++ option_to_list x) h) ∙ frames-push new o
-
-pub length-frames : (os : List Open) → length (frames os) ≡ length os
-length-frames os = length-map (reverse os) frame_view ∙ length-reverse os
-
-pub items-push : (new old : List JsonValue) (v : JsonValue) → new ≡ old ++ v ∷ [] → map view new ≡ map view old ++ view v ∷ []
-items-push new old v e = ap (map view) e ∙ map-append view old (v ∷ [])
 
 -- ---- the limit on depth
 

@@ -1,36 +1,19 @@
 -- What a part of the parser did, in the words of the machine. For private contracts.
-use Rattle.std.specs.Prelude.{◌≡◌, ℕ, Bool, true, false, List, [], ◌∷◌, ◌++◌, map, reverse, Option, Some, None, Result, Ok}
-use Rattle.std.specs.Prelude.{Err, IfErr, MatchResult, IfSome, String, cond, ◌⊎◌, ⊤}
+use Rattle.std.specs.Prelude.{◌≡◌, ℕ, Bool, true, false, List, [], ◌∷◌, ◌++◌, Option, Result}
+use Rattle.std.specs.Prelude.{IfErr, IsTrue, MatchResult, IfSome, String, cond, ◌⊎◌, ⊤}
 use Rattle.std.specs.Char.{is_ascii_digit}
 use Rattle.std.specs.declared.alloc.Global.{Global}
 use Rattle.tinyjson.specs.Tree.{Tree, string}
-use Rattle.tinyjson.specs.View.{view, members_view, text}
+use Rattle.tinyjson.specs.View.{text}
 use Rattle.tinyjson.specs.Position.{Position, advance}
 use Rattle.tinyjson.specs.Error.{error_position}
-use Rattle.tinyjson.specs.Refusal.{MayGrow}
+use Rattle.tinyjson.specs.Refusal.{MayGrow, begins_growth}
 use Rattle.tinyjson.specs.private.Source.{Sight}
-use Rattle.tinyjson.specs.private.Machine.{Frame, in_array, at_key, at_value, awaited, word, plain, quoted, Next, next, stop, Outcome}
+use Rattle.tinyjson.specs.private.Machine.{Frame, word, plain, quoted, Next, next, stop, Outcome}
 use Rattle.tinyjson.specs.private.Machine.{refused, complete, step, end, run, strictly}
-use Rattle.tinyjson.specs.declared.parser.containers.Open.{Open}
-use Rattle.tinyjson.specs.declared.parser.containers.Open.TheVariants as container
 use Rattle.tinyjson.specs.declared.parser.error.JsonParseError.{JsonParseError}
 use Rattle.tinyjson.specs.declared.parser.error.JsonParseErrorKind.{JsonParseErrorKind}
 use Rattle.tinyjson.specs.declared.parser.error.JsonParseErrorKind.TheVariants.{InvalidUtf16, OutOfMemory}
-use Rattle.tinyjson.specs.declared.value.JsonValue.{JsonValue}
-
--- an open container as a frame; the last of the stack is the innermost, and comes first
-abbrev pub frame_view : Open → Frame
-frame_view (container.Array v) = in_array (map view v.items)
-frame_view (container.Object m) = at_key (members_view m.entries)
-frame_view (container.Member m k) = at_value (members_view m.entries) (text k)
-
-abbrev pub frames : List Open → List Frame
-frames os = map frame_view (reverse os)
-
--- a value is awaited, or is whole
-abbrev pub at : List Frame → Option JsonValue → Next
-at fs None = next fs awaited
-at fs (Some v) = complete true fs (view v) true
 
 -- these letters, and then the value is whole
 abbrev pub wanting : List Frame → List ℕ → Tree → Next
@@ -130,11 +113,13 @@ module _ {S : Type 0} (sight : Sight S) where
   abbrev pub Grows : S → Type 0
   Grows p = (zs : List ℕ) → sight.gives p zs → MayGrow zs
 
-  -- a call that found no memory, or that opened a container, began with a string, a number or a container
-  abbrev pub GrowsFor : S → Result (Option JsonValue) JsonParseError → Type 0
-  GrowsFor p (Ok (Some v)) = ⊤
-  GrowsFor p (Ok None) = Grows p
-  GrowsFor p (Err e) = e.kind ≡ OutOfMemory → Grows p
+-- a call that succeeded, or found no memory, began with a character that begins a string, a number or a container
+abbrev pub GrowsFor : {T : Type 0} → ℕ → Result T JsonParseError → Type 0
+GrowsFor c r = MatchResult r (λ _. IsTrue (begins_growth c)) (λ e. e.kind ≡ OutOfMemory → IsTrue (begins_growth c))
+
+-- a letter that begins a literal
+abbrev pub BeginsLiteral : ℕ → Type 0
+BeginsLiteral c = (c ≡ 110) ⊎ (c ≡ 116) ⊎ (c ≡ 102)
 
 -- no out of memory
 abbrev pub NeedsNone : {T : Type 0} → Result T JsonParseError → Type 0

@@ -1,51 +1,17 @@
-//! Arrays and objects (RFC 8259, sections 4 and 5), and those that are open.
-ghost use Rattle.std.specs.Prelude.{◌≡◌, ◌<◌, [], ◌∷◌, ◌++◌, true, OnOk, IfOk, IsNone, IfSome, Option, Some, ℕ, map};
-ghost use Rattle.tinyjson.specs.Error.{error_position};
-ghost use Rattle.tinyjson.specs.private.Machine.{in_array, at_key, colon, awaited, after, next, complete, fits};
-ghost use Rattle.tinyjson.specs.private.Steps.{Reads, at, frames, frame_view};
-ghost use Rattle.tinyjson.specs.Tree.{array, object, put};
-ghost use Rattle.tinyjson.specs.View.{view, items_view, members_view, text};
+//! Arrays and objects (RFC 8259, sections 4 and 5).
+ghost use Rattle.std.specs.Prelude.{◌≡◌, ◌<◌, ◌≤◌, [], ◌∷◌, true, false, OnOk, IfOk, Option, Some, ℕ};
+ghost use Rattle.tinyjson.specs.private.Machine.{awaited, colon, next, complete, fits};
+ghost use Rattle.tinyjson.specs.private.Stack.{at, frames, AwaitsKey, Innermost, IsSound};
+ghost use Rattle.tinyjson.specs.private.Steps.{Reads};
+ghost use Rattle.tinyjson.specs.View.{view, text};
+ghost use Rattle.tinyjson.specs.declared.parser.stack.Open.TheVariants as container;
 
 use super::error::{JsonParseError, JsonParseErrorKind};
 use super::reader::Reader;
 use super::source::Source;
-use crate::value::{JsonValue, insert_member};
+use super::stack::{Open, Stack};
+use crate::value::JsonValue;
 use std::collections::HashMap;
-
-/// A container that was opened and not closed. An object awaits a key, or has a key and awaits its value.
-#[derive(Drop)]
-pub(super) enum Open {
-    Array(Vec<JsonValue>),
-    Object(HashMap<String, JsonValue>),
-    Member(HashMap<String, JsonValue>, String),
-}
-
-impl Open {
-    /// Frees what was read of the container, by a loop.
-    pub(super) fn abandon(self) {
-        match self {
-            Open::Array(items) => JsonValue::Array(items).dismantle(),
-            Open::Object(members) => JsonValue::Object(members).dismantle(),
-            Open::Member(members, _) => JsonValue::Object(members).dismantle(),
-        }
-    }
-}
-
-/// The value of an array that is read whole. It keeps no more memory than its items need.
-fn whole_array(mut items: Vec<JsonValue>) -> JsonValue
-    ensures { view result ≡ array (items_view items.items) }
-{
-    items.shrink_to_fit();
-    JsonValue::Array(items)
-}
-
-/// The value of an object that is read whole. It keeps no more memory than its members need.
-fn whole_object(mut members: HashMap<String, JsonValue>) -> JsonValue
-    ensures { view result ≡ object (members_view members.entries) }
-{
-    members.shrink_to_fit();
-    JsonValue::Object(members)
-}
 
 /// Whether one more container may be opened.
 fn fits(limit: Option<usize>, depth: usize) -> bool
@@ -57,39 +23,36 @@ fn fits(limit: Option<usize>, depth: usize) -> bool
     }
 }
 
+// Where a function answers `true`, a value is whole, and is the last on the stack; otherwise a value is awaited.
 impl<S: Source> Reader<S> {
-    /// A refusal at the position of the source, which gives up the container.
-    fn refuse_in(&self, container: Open, kind: JsonParseErrorKind) -> JsonParseError
-        ensures kind { result.kind ≡ kind }
-        ensures at { error_position result ≡ S.sight.place self.now.source }
-    {
-        container.abandon();
-        self.refuse(kind)
-    }
-
     /// Opens the array whose bracket comes next, or reads it whole if it is empty.
     pub(super) fn array(
         &mut self,
         limit: Option<usize>,
-        stack: &mut Vec<Open>,
-    ) -> Result<Option<JsonValue>, JsonParseError>
-        requires { S.sight.shows self.old.source (Some 91) }
-        ensures reads { Reads S.sight limit self.old.source (next (frames stack.old.items) awaited)
-            result (at (frames stack.new.items)) self.new.source }
+        stack: &mut Stack,
+    ) -> Result<bool, JsonParseError>
+        requires shown { S.sight.shows self.old.source (Some 91) }
+        requires sound { IsSound stack.old false }
+        ensures reads { Reads S.sight limit self.old.source (next (frames stack.old) awaited) result
+            (at stack.new) self.new.source }
+        ensures sound { IfOk result (IsSound stack.new) }
         ensures left { OnOk result (S.left self.new.source < S.left self.old.source) }
-        ensures same { IfOk result (λ v. IfSome v (λ _. stack.new.items ≡ stack.old.items)) }
     {
-        if !fits(limit, stack.len()) {
+        if !fits(limit, stack.depth()) {
             return Err(self.refuse(JsonParseErrorKind::TooDeep('[')));
         }
         self.source.bump();
-        let items = Vec::new(self.alloc);
         match self.source.skip_white() {
             Some(']') => {
                 self.source.bump();
-                Ok(Some(JsonValue::Array(items)))
+                self.put(stack, JsonValue::Array(Vec::new(self.alloc)))
             }
-            _ => self.open(stack, Open::Array(items)),
+            _ => {
+                if stack.open_array().is_err() {
+                    return Err(self.refuse(JsonParseErrorKind::OutOfMemory));
+                }
+                Ok(false)
+            }
         }
     }
 
@@ -97,169 +60,199 @@ impl<S: Source> Reader<S> {
     pub(super) fn object(
         &mut self,
         limit: Option<usize>,
-        stack: &mut Vec<Open>,
-    ) -> Result<Option<JsonValue>, JsonParseError>
-        requires { S.sight.shows self.old.source (Some 123) }
-        ensures reads { Reads S.sight limit self.old.source (next (frames stack.old.items) awaited)
-            result (at (frames stack.new.items)) self.new.source }
+        stack: &mut Stack,
+    ) -> Result<bool, JsonParseError>
+        requires shown { S.sight.shows self.old.source (Some 123) }
+        requires sound { IsSound stack.old false }
+        ensures reads { Reads S.sight limit self.old.source (next (frames stack.old) awaited) result
+            (at stack.new) self.new.source }
+        ensures sound { IfOk result (IsSound stack.new) }
         ensures left { OnOk result (S.left self.new.source < S.left self.old.source) }
-        ensures same { IfOk result (λ v. IfSome v (λ _. stack.new.items ≡ stack.old.items)) }
     {
-        if !fits(limit, stack.len()) {
+        if !fits(limit, stack.depth()) {
             return Err(self.refuse(JsonParseErrorKind::TooDeep('{')));
         }
         self.source.bump();
-        let members = HashMap::new(self.alloc);
         match self.source.skip_white() {
             Some('}') => {
                 self.source.bump();
-                Ok(Some(JsonValue::Object(members)))
+                self.put(stack, JsonValue::Object(HashMap::new(self.alloc)))
             }
-            _ => self.open(stack, Open::Object(members)),
+            _ => {
+                if stack.open_object().is_err() {
+                    return Err(self.refuse(JsonParseErrorKind::OutOfMemory));
+                }
+                self.key(stack)
+            }
         }
     }
 
-    /// Opens a container, or goes on in it.
-    fn open(
+    /// Puts a value that is whole into the container that it stands in. A string where a key is awaited is the key.
+    pub(super) fn put(
         &mut self,
-        stack: &mut Vec<Open>,
-        container: Open,
-    ) -> Result<Option<JsonValue>, JsonParseError>
-        ensures reads { (limit : Option ℕ) →
-            Reads S.sight limit self.old.source
-            (next (frame_view container ∷ frames stack.old.items) awaited) result
-            (at (frames stack.new.items)) self.new.source }
-        ensures same { self.new.source ≡ self.old.source }
-        ensures opened { IfOk result (λ v. IsNone v) }
-    {
-        if let Err(refused) = stack.push(container) {
-            return Err(self.refuse_in(refused.value, JsonParseErrorKind::OutOfMemory));
-        }
-        Ok(None)
-    }
-
-    /// Puts an item into its array, and reads a comma or the bracket that closes the array.
-    fn item(
-        &mut self,
-        stack: &mut Vec<Open>,
-        mut items: Vec<JsonValue>,
+        stack: &mut Stack,
         value: JsonValue,
-    ) -> Result<Option<JsonValue>, JsonParseError>
-        ensures reads { (limit : Option ℕ) →
-            Reads S.sight limit self.old.source
-            (next (in_array (map view items.items ++ view value ∷ []) ∷ frames stack.old.items)
-            after) result (at (frames stack.new.items)) self.new.source }
-        ensures left { OnOk result (S.left self.new.source < S.left self.old.source) }
+    ) -> Result<bool, JsonParseError>
+        requires sound { IsSound stack.old false }
+        ensures reads { (limit : Option ℕ) → Reads S.sight limit self.old.source
+            (complete true (frames stack.old) (view value) true) result (at stack.new)
+            self.new.source }
+        ensures sound { IfOk result (IsSound stack.new) }
+        ensures left { OnOk result (S.left self.new.source ≤ S.left self.old.source) }
     {
-        if let Err(refused) = items.push(value) {
-            refused.value.dismantle();
-            return Err(self.refuse_in(Open::Array(items), JsonParseErrorKind::OutOfMemory));
+        if let Some(Open::Object { .. }) = stack.innermost() {
+            return self.use_as_key(stack, value);
         }
-        self.source.skip_white();
-        match self.source.bump() {
-            Some(',') => self.open(stack, Open::Array(items)),
-            Some(']') => Ok(Some(whole_array(items))),
-            Some(c) => {
-                let kind = JsonParseErrorKind::ExpectedCommaOrBracket(c);
-                Err(self.refuse_in(Open::Array(items), kind))
-            }
-            None => Err(self.refuse_in(Open::Array(items), JsonParseErrorKind::UnexpectedEof)),
+        if stack.push(value).is_err() {
+            return Err(self.refuse(JsonParseErrorKind::OutOfMemory));
         }
+        Ok(true)
     }
 
     /// Makes a value the key of its object, and reads the colon.
-    fn key(
-        &mut self,
-        stack: &mut Vec<Open>,
-        members: HashMap<String, JsonValue>,
-        value: JsonValue,
-    ) -> Result<Option<JsonValue>, JsonParseError>
-        ensures reads { (limit : Option ℕ) →
-            Reads S.sight limit self.old.source
-            (complete true (at_key (members_view members.entries) ∷ frames stack.old.items)
-            (view value) true) result (at (frames stack.new.items)) self.new.source }
-        ensures left { OnOk result (S.left self.new.source < S.left self.old.source) }
+    fn use_as_key(&mut self, stack: &mut Stack, value: JsonValue) -> Result<bool, JsonParseError>
+        requires sound { IsSound stack.old false }
+        requires awaits { AwaitsKey stack.old }
+        ensures reads { (limit : Option ℕ) → Reads S.sight limit self.old.source
+            (complete true (frames stack.old) (view value) true) result (at stack.new)
+            self.new.source }
+        ensures sound { IfOk result (IsSound stack.new) }
+        ensures left { OnOk result (S.left self.new.source ≤ S.left self.old.source) }
     {
         match value {
-            JsonValue::String(key) => self.colon(stack, members, key),
+            JsonValue::String(key) => self.colon(stack, key),
             other => {
                 let kind = JsonParseErrorKind::KeyNotString(other.kind());
                 other.dismantle();
-                Err(self.refuse_in(Open::Object(members), kind))
+                Err(self.refuse(kind))
             }
+        }
+    }
+
+    /// Reads a string as the key of its object, and the colon, if a string comes next.
+    fn key(&mut self, stack: &mut Stack) -> Result<bool, JsonParseError>
+        requires sound { IsSound stack.old false }
+        requires awaits { AwaitsKey stack.old }
+        ensures reads { (limit : Option ℕ) → Reads S.sight limit self.old.source
+            (next (frames stack.old) awaited) result (at stack.new) self.new.source }
+        ensures sound { IfOk result (IsSound stack.new) }
+        ensures left { OnOk result (S.left self.new.source ≤ S.left self.old.source) }
+    {
+        match self.source.skip_white() {
+            Some('"') => {
+                self.source.bump();
+                let key = self.string()?;
+                self.colon(stack, key)
+            }
+            _ => Ok(false),
         }
     }
 
     /// Reads the colon behind a key.
-    fn colon(
-        &mut self,
-        stack: &mut Vec<Open>,
-        members: HashMap<String, JsonValue>,
-        key: String,
-    ) -> Result<Option<JsonValue>, JsonParseError>
-        ensures reads { (limit : Option ℕ) →
-            Reads S.sight limit self.old.source
-            (next (at_key (members_view members.entries) ∷ frames stack.old.items)
-            (colon (text key))) result (at (frames stack.new.items)) self.new.source }
-        ensures left { OnOk result (S.left self.new.source < S.left self.old.source) }
+    fn colon(&mut self, stack: &mut Stack, key: String) -> Result<bool, JsonParseError>
+        requires sound { IsSound stack.old false }
+        requires awaits { AwaitsKey stack.old }
+        ensures reads { (limit : Option ℕ) → Reads S.sight limit self.old.source
+            (next (frames stack.old) (colon (text key))) result (at stack.new) self.new.source }
+        ensures sound { IfOk result (IsSound stack.new) }
+        ensures left { OnOk result (S.left self.new.source ≤ S.left self.old.source) }
     {
         self.source.skip_white();
         match self.source.bump() {
-            Some(':') => self.open(stack, Open::Member(members, key)),
-            Some(c) => {
-                let kind = JsonParseErrorKind::ExpectedColon(c);
-                Err(self.refuse_in(Open::Object(members), kind))
+            Some(':') => {
+                if stack.begin_member(key).is_err() {
+                    return Err(self.refuse(JsonParseErrorKind::OutOfMemory));
+                }
+                Ok(false)
             }
-            None => Err(self.refuse_in(Open::Object(members), JsonParseErrorKind::UnexpectedEof)),
+            Some(c) => Err(self.refuse(JsonParseErrorKind::ExpectedColon(c))),
+            None => Err(self.refuse(JsonParseErrorKind::UnexpectedEof)),
         }
     }
 
-    /// Puts a member into its object, and reads a comma or the brace that closes the object.
-    fn member(
-        &mut self,
-        stack: &mut Vec<Open>,
-        mut members: HashMap<String, JsonValue>,
-        key: String,
-        value: JsonValue,
-    ) -> Result<Option<JsonValue>, JsonParseError>
-        ensures reads { (limit : Option ℕ) →
-            Reads S.sight limit self.old.source
-            (next (at_key (put (text key) (view value) (members_view members.entries)) ∷ frames
-            stack.old.items) after) result (at (frames stack.new.items)) self.new.source }
+    /// Reads a comma or the bracket that closes the array, behind an item.
+    fn after_item(&mut self, stack: &mut Stack, values: usize) -> Result<bool, JsonParseError>
+        requires sound { IsSound stack.old true }
+        requires array { Innermost stack.old (container.Array values) }
+        ensures reads { (limit : Option ℕ) → Reads S.sight limit self.old.source
+            (at stack.old true) result (at stack.new) self.new.source }
+        ensures sound { IfOk result (IsSound stack.new) }
         ensures left { OnOk result (S.left self.new.source < S.left self.old.source) }
     {
-        if insert_member(&mut members, key, value).is_err() {
-            return Err(self.refuse_in(Open::Object(members), JsonParseErrorKind::OutOfMemory));
-        }
-        self.source.skip_white();
-        match self.source.bump() {
-            Some(',') => self.open(stack, Open::Object(members)),
-            Some('}') => Ok(Some(whole_object(members))),
-            Some(c) => {
-                let kind = JsonParseErrorKind::ExpectedCommaOrBrace(c);
-                Err(self.refuse_in(Open::Object(members), kind))
+        match self.source.skip_white() {
+            Some(',') => {
+                self.source.bump();
+                Ok(false)
             }
-            None => Err(self.refuse_in(Open::Object(members), JsonParseErrorKind::UnexpectedEof)),
+            Some(']') => {
+                let Ok(array) = stack.close_array(values) else {
+                    return Err(self.refuse(JsonParseErrorKind::OutOfMemory));
+                };
+                self.source.bump();
+                self.put(stack, array)
+            }
+            Some(c) => {
+                self.source.bump();
+                Err(self.refuse(JsonParseErrorKind::ExpectedCommaOrBracket(c)))
+            }
+            None => Err(self.refuse(JsonParseErrorKind::UnexpectedEof)),
         }
     }
 
-    /// Puts a value into the container that it stands in, and reads what follows.
-    pub(super) fn put(
+    /// Reads a comma or the brace that closes the object, behind a member.
+    fn after_member(
         &mut self,
-        stack: &mut Vec<Open>,
+        stack: &mut Stack,
+        values: usize,
+        keys: usize,
+    ) -> Result<bool, JsonParseError>
+        requires sound { IsSound stack.old true }
+        requires member { Innermost stack.old (container.Member values keys) }
+        ensures reads { (limit : Option ℕ) → Reads S.sight limit self.old.source
+            (at stack.old true) result (at stack.new) self.new.source }
+        ensures sound { IfOk result (IsSound stack.new) }
+        ensures left { OnOk result (S.left self.new.source < S.left self.old.source) }
+    {
+        match self.source.skip_white() {
+            Some(',') => {
+                if stack.end_member(values, keys).is_err() {
+                    return Err(self.refuse(JsonParseErrorKind::OutOfMemory));
+                }
+                self.source.bump();
+                self.key(stack)
+            }
+            Some('}') => {
+                let Ok(object) = stack.close_object(values, keys) else {
+                    return Err(self.refuse(JsonParseErrorKind::OutOfMemory));
+                };
+                self.source.bump();
+                self.put(stack, object)
+            }
+            Some(c) => {
+                self.source.bump();
+                Err(self.refuse(JsonParseErrorKind::ExpectedCommaOrBrace(c)))
+            }
+            None => Err(self.refuse(JsonParseErrorKind::UnexpectedEof)),
+        }
+    }
+
+    /// Reads what follows a value in the innermost container.
+    pub(super) fn after(
+        &mut self,
+        stack: &mut Stack,
         container: Open,
-        value: JsonValue,
-    ) -> Result<Option<JsonValue>, JsonParseError>
-        ensures reads { (limit : Option ℕ) →
-            Reads S.sight limit self.old.source
-            (complete true (frame_view container ∷ frames stack.old.items) (view value) true) result
-            (at (frames stack.new.items)) self.new.source }
+    ) -> Result<bool, JsonParseError>
+        requires sound { IsSound stack.old true }
+        requires innermost { Innermost stack.old container }
+        ensures reads { (limit : Option ℕ) → Reads S.sight limit self.old.source
+            (at stack.old true) result (at stack.new) self.new.source }
+        ensures sound { IfOk result (IsSound stack.new) }
         ensures left { OnOk result (S.left self.new.source < S.left self.old.source) }
     {
         match container {
-            Open::Array(items) => self.item(stack, items, value),
-            Open::Object(members) => self.key(stack, members, value),
-            Open::Member(members, key) => self.member(stack, members, key, value),
+            Open::Array { values } => self.after_item(stack, values),
+            Open::Member { values, keys } => self.after_member(stack, values, keys),
+            Open::Object { .. } => unreachable!(),
         }
     }
 }

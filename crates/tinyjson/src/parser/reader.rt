@@ -1,15 +1,18 @@
 //! The reader: values by their first character, the loop over open containers, refusals, literals.
-ghost use Rattle.std.specs.Prelude.{◌≡◌, ℕ, ◌<◌, ◌≤◌, List, [], true, OnOk, IfOk, IfErr, IsSome, IfSome, Option, None};
+ghost use Rattle.std.specs.Prelude.{◌≡◌, ℕ, ◌<◌, ◌≤◌, List, [], true, false, OnOk, IfOk, IfErr, IsTrue, Option, Some, None};
+ghost use Rattle.tinyjson.specs.Characters.{is_white};
 ghost use Rattle.tinyjson.specs.Error.{error_position};
+ghost use Rattle.tinyjson.specs.Refusal.{begins_growth};
 ghost use Rattle.tinyjson.specs.private.Machine.{Frame, awaited, complete, finished, next};
-ghost use Rattle.tinyjson.specs.private.Steps.{Grows, GrowsFor, NeedsNone, Reads, at, frames, wanting};
+ghost use Rattle.tinyjson.specs.private.Stack.{IsSound, at, frames, open_of};
+ghost use Rattle.tinyjson.specs.private.Steps.{BeginsLiteral, Grows, GrowsFor, NeedsNone, Reads, wanting};
 ghost use Rattle.tinyjson.specs.Tree.{Tree};
 ghost use Rattle.tinyjson.specs.View.{view};
 ghost use Rattle.tinyjson.specs.declared.parser.error.JsonParseErrorKind.TheVariants.{OutOfMemory};
 
-use super::containers::Open;
 use super::error::{JsonParseError, JsonParseErrorKind};
 use super::source::Source;
+use super::stack::Stack;
 use crate::value::JsonValue;
 use std::alloc::Global;
 
@@ -69,60 +72,80 @@ impl<S: Source> Reader<S> {
         Ok(())
     }
 
-    /// Reads the letters that are left of the literal of a value.
-    pub(super) fn literal(
-        &mut self,
-        letters: &[char],
-        value: JsonValue,
-    ) -> Result<Option<JsonValue>, JsonParseError>
+    /// Reads the literal that begins with this letter, which comes next.
+    fn literal(&mut self, first: char) -> Result<JsonValue, JsonParseError>
+        requires shown { S.sight.shows self.old.source (Some first) }
+        requires begins { BeginsLiteral first }
         ensures reads { (limit : Option ℕ) (fs : List Frame) →
-            Reads S.sight limit self.old.source (wanting fs letters.now (view value)) result (at fs)
-            self.new.source }
+            Reads S.sight limit self.old.source (next fs awaited) result
+            (λ v. complete true fs (view v) true) self.new.source }
         ensures memory { NeedsNone result }
-        ensures whole { IfOk result (λ v. IsSome v) }
-        ensures left { S.left self.new.source ≤ S.left self.old.source }
+        ensures left { OnOk result (S.left self.new.source < S.left self.old.source) }
     {
-        self.letters(letters)?;
-        Ok(Some(value))
+        self.source.bump();
+        match first {
+            'n' => {
+                self.letters(&['u', 'l', 'l'])?;
+                Ok(JsonValue::Null)
+            }
+            't' => {
+                self.letters(&['r', 'u', 'e'])?;
+                Ok(JsonValue::Boolean(true))
+            }
+            _ => {
+                self.letters(&['a', 'l', 's', 'e'])?;
+                Ok(JsonValue::Boolean(false))
+            }
+        }
     }
 
-    /// Reads white space and a value, or opens a container.
+    /// Reads the value that begins with this character, or opens a container; `true` where a value is whole.
     fn value(
         &mut self,
         limit: Option<usize>,
-        stack: &mut Vec<Open>,
-    ) -> Result<Option<JsonValue>, JsonParseError>
-        ensures reads { Reads S.sight limit self.old.source (next (frames stack.old.items) awaited)
-            result (at (frames stack.new.items)) self.new.source }
+        stack: &mut Stack,
+        first: char,
+    ) -> Result<bool, JsonParseError>
+        requires shown { S.sight.shows self.old.source (Some first) }
+        requires no_white { is_white first ≡ false }
+        requires sound { IsSound stack.old false }
+        ensures reads { Reads S.sight limit self.old.source (next (frames stack.old) awaited) result
+            (at stack.new) self.new.source }
+        ensures sound { IfOk result (IsSound stack.new) }
         ensures left { OnOk result (S.left self.new.source < S.left self.old.source) }
-        ensures same { IfOk result (λ v. IfSome v (λ _. stack.new.items ≡ stack.old.items)) }
-        ensures memory { GrowsFor S.sight self.old.source result }
+        ensures memory { ¬ (BeginsLiteral first) → GrowsFor first result }
     {
-        let Some(first) = self.source.skip_white() else {
-            return Err(self.refuse(JsonParseErrorKind::UnexpectedEof));
-        };
         match first {
-            'n' => {
-                self.source.bump();
-                self.literal(&['u', 'l', 'l'], JsonValue::Null)
-            }
-            't' => {
-                self.source.bump();
-                self.literal(&['r', 'u', 'e'], JsonValue::Boolean(true))
-            }
-            'f' => {
-                self.source.bump();
-                self.literal(&['a', 'l', 's', 'e'], JsonValue::Boolean(false))
+            'n' | 't' | 'f' => {
+                let value = self.literal(first)?;
+                self.put(stack, value)
             }
             '"' => {
                 self.source.bump();
-                Ok(Some(JsonValue::String(self.string()?)))
+                let string = self.string()?;
+                self.put(stack, JsonValue::String(string))
             }
             '[' => self.array(limit, stack),
             '{' => self.object(limit, stack),
-            '-' => Ok(Some(JsonValue::Number(self.number()?))),
-            c if c.is_ascii_digit() => Ok(Some(JsonValue::Number(self.number()?))),
+            c if c == '-' || c.is_ascii_digit() => {
+                let number = self.number()?;
+                self.put(stack, JsonValue::Number(number))
+            }
             c => Err(self.refuse(JsonParseErrorKind::InvalidCharacter(c))),
+        }
+    }
+
+    /// Reads white space and a value, or opens a container.
+    fn next(&mut self, limit: Option<usize>, stack: &mut Stack) -> Result<bool, JsonParseError>
+        requires sound { IsSound stack.old false }
+        ensures reads { Reads S.sight limit self.old.source (next (frames stack.old) awaited) result
+            (at stack.new) self.new.source }
+        ensures sound { IfOk result (IsSound stack.new) }
+        ensures left { OnOk result (S.left self.new.source < S.left self.old.source) }
+    {
+        match self.source.skip_white() {
+            Some(first) => self.value(limit, stack, first),
+            None => Err(self.refuse(JsonParseErrorKind::UnexpectedEof)),
         }
     }
 
@@ -141,51 +164,82 @@ impl<S: Source> Reader<S> {
         }
     }
 
-    /// Reads a whole text. What a refusal gives up is freed by a loop.
+    /// Reads a whole text. What a refusal gives up is freed by a loop. A literal alone takes no memory.
     pub(super) fn text(&mut self, limit: Option<usize>) -> Result<JsonValue, JsonParseError>
         ensures reads { Reads S.sight limit self.old.source (next [] awaited) result
             (λ v. next [] (finished (view v))) self.new.source }
         ensures end { OnOk result (S.sight.shows self.new.source None) }
         ensures memory { IfErr result (λ e. e.kind ≡ OutOfMemory → Grows S.sight self.old.source) }
     {
-        let mut stack = Vec::new(self.alloc);
-        let read = self.values(limit, &mut stack);
-        for container in stack {
-            container.abandon();
+        match self.source.skip_white() {
+            Some(first @ ('n' | 't' | 'f')) => {
+                let value = self.literal(first)?;
+                self.end()?;
+                Ok(value)
+            }
+            Some(first) => {
+                let mut stack = Stack::new(self.alloc);
+                let read = self.values(limit, &mut stack, first);
+                stack.abandon();
+                read
+            }
+            None => Err(self.refuse(JsonParseErrorKind::UnexpectedEof)),
         }
-        read
     }
 
-    /// One turn for each value that is read or container that is opened. After a refusal the stack
-    /// holds those that are open.
+    /// Reads the text whose first value begins with this character. After a refusal the stack holds what was read.
     fn values(
         &mut self,
         limit: Option<usize>,
-        stack: &mut Vec<Open>,
+        stack: &mut Stack,
+        first: char,
     ) -> Result<JsonValue, JsonParseError>
-        requires { stack.old.items ≡ [] }
-        ensures reads { Reads S.sight limit self.old.source (next [] awaited) result
+        requires shown { S.sight.shows self.old.source (Some first) }
+        requires no_white { is_white first ≡ false }
+        requires no_literal { ¬ (BeginsLiteral first) }
+        requires sound { IsSound stack.old false }
+        ensures reads { Reads S.sight limit self.old.source (next (frames stack.old) awaited) result
             (λ v. next [] (finished (view v))) self.new.source }
         ensures end { OnOk result (S.sight.shows self.new.source None) }
-        ensures memory { IfErr result (λ e. e.kind ≡ OutOfMemory → Grows S.sight self.old.source) }
+        ensures memory { IfErr result (λ e. e.kind ≡ OutOfMemory → IsTrue (begins_growth first)) }
     {
-        let mut whole: Option<JsonValue> = None;
+        let whole = self.value(limit, stack, first)?;
+        self.rest(limit, stack, whole)
+    }
+
+    /// Reads what is left. One turn for each value that is read or container that is opened.
+    fn rest(
+        &mut self,
+        limit: Option<usize>,
+        stack: &mut Stack,
+        whole: bool,
+    ) -> Result<JsonValue, JsonParseError>
+        requires sound { IsSound stack.old whole }
+        ensures reads { Reads S.sight limit self.old.source (at stack.old whole) result
+            (λ v. next [] (finished (view v))) self.new.source }
+        ensures end { OnOk result (S.sight.shows self.new.source None) }
+    {
+        let mut whole = whole;
         loop {
             whole = match whole {
-                None => self.value(limit, stack)?,
-                Some(value) => match stack.pop() {
-                    Some(container) => self.put(stack, container, value)?,
-                    None => {
-                        return match self.end() {
-                            Ok(()) => Ok(value),
-                            Err(refusal) => {
-                                value.dismantle();
-                                Err(refusal)
-                            }
-                        };
-                    }
+                false => self.next(limit, stack)?,
+                true => match stack.innermost() {
+                    Some(container) => self.after(stack, container)?,
+                    None => return self.last(stack),
                 },
             };
         }
+    }
+
+    /// The end behind the value that is left on the stack.
+    fn last(&mut self, stack: &mut Stack) -> Result<JsonValue, JsonParseError>
+        requires sound { IsSound stack.old true }
+        requires none { open_of stack.old ≡ [] }
+        ensures reads { (limit : Option ℕ) → Reads S.sight limit self.old.source
+            (at stack.old true) result (λ v. next [] (finished (view v))) self.new.source }
+        ensures end { OnOk result (S.sight.shows self.new.source None) }
+    {
+        self.end()?;
+        Ok(stack.take_whole())
     }
 }

@@ -1,10 +1,10 @@
-use Rattle.std.proofs.Common.{rules, Some, ◌≡◌, ◌∙◌, sym, [], IfSome, false, true, length}
-use Rattle.tinyjson.specs.private.Machine.{fits}
-use Rattle.tinyjson.specs.private.Steps.{frames}
+use Rattle.std.proofs.Common.{rules, Some, ◌≡◌, ◌∷◌, sym, ap, refl, [], IfSome, false, true}
+use Rattle.tinyjson.specs.private.Machine.{fits, in_array, next, awaited}
+use Rattle.tinyjson.specs.private.Stack.{frames}
 use Rattle.tinyjson.specs.declared.parser.error.JsonParseErrorKind.TheVariants.{TooDeep}
 use Rattle.tinyjson.proofs.Reading.Sources.{Takes-shown}
-use Rattle.tinyjson.proofs.Reading.Steps.{Leads-trans, Leads-whites, Leads-one, Refuses-as, Reads-after, white_first, taken_complete}
-use Rattle.tinyjson.proofs.Reading.Containers.{length-frames, array_begins, array_too_deep, array_closes_first, array_goes_on}
+use Rattle.tinyjson.proofs.Reading.Steps.{Leads-to, Leads-trans, Leads-whites, Leads-one, Halts-here, Refuses-as, Refuses-memory, Reads-after, white_first, taken_complete}
+use Rattle.tinyjson.proofs.Reading.Containers.{array_begins, array_too_deep, array_closes_first, array_goes_on}
 use Rattle.tinyjson.proofs.parser.reader.Reader.array.Goals as goal
 use Rattle.tinyjson.proofs.parser.reader.Reader.array.Goals.{in_default-via-in-Some+in_default, in_default-via-in_default}
 
@@ -13,35 +13,46 @@ returns-then-not-fits-clause-reads g c =
     let sight = g.S.Source.sight in
     let limit = c.args.limit in
     let p = c.args.self.now in
-    let d : c.len.result ≡ length (frames c.args.stack.now.items) = (search rules) ∙ sym (length-frames c.args.stack.now.items) in
-    let h : fits limit c.len.result ≡ false = search rules in
+    let h : fits limit c.depth.result ≡ false = search rules in
     Refuses-as sight limit _ _ c.refuse.result (TooDeep 91) c.refuse.ensures.kind c.refuse.ensures.at
-    (array_too_deep sight limit p.source p.source _ _ d h c.requires)
+    (array_too_deep sight limit p.source p.source _ _ c.depth.ensures h c.requires.shown)
 
 pub returns-in-Some-eq93-clause-reads : goal.returns-in-Some-eq93-clause-reads
 returns-in-Some-eq93-clause-reads g c =
     let sight = g.S.Source.sight in
     let limit = c.args.limit in
     let p = c.args.self.now in
-    let d : c.len.result ≡ length (frames c.args.stack.now.items) = (search rules) ∙ sym (length-frames c.args.stack.now.items) in
-    let h : fits limit c.len.result ≡ true = search rules in
-    Leads-trans sight limit _ _ _
-    (array_begins sight limit p.source _ _ _ d h (Takes-shown sight _ _ _ _ (c.bump.ensures.shown (Some 91) c.requires) c.bump.ensures.takes))
-    (Leads-one sight limit _ _ _ c.in-Some-eq93.field-0 (Leads-whites sight limit _ _ _ c.skip_white.ensures.white tt (white_first limit _))
-    (Takes-shown sight _ _ _ _ (c.bump-in-Some-eq93.ensures.shown (Some c.in-Some-eq93.field-0) c.in-Some-eq93.ensures.shows) c.bump-in-Some-eq93.ensures.takes) tt
-    (array_closes_first limit _ c.new-items.result c.in-Some-eq93.field-0 (search rules) (search rules)) (taken_complete _ _))
+    let h : fits limit c.depth.result ≡ true = search rules in
+    let d = c.in-Some-eq93.field-0 in
+    Reads-after sight limit _ _ _ _ _
+    (Leads-trans sight limit _ _ _
+    (array_begins sight limit p.source _ _ _ c.depth.ensures h (Takes-shown sight _ _ _ _ (c.bump.ensures.shown (Some 91) c.requires.shown) c.bump.ensures.takes))
+    (Leads-one sight limit _ _ _ d (Leads-whites sight limit _ _ _ c.skip_white.ensures.white tt (white_first limit _))
+    (Takes-shown sight _ _ _ _ (c.bump-in-Some-eq93.ensures.shown (Some d) c.in-Some-eq93.ensures.shows) c.bump-in-Some-eq93.ensures.takes) tt
+    (array_closes_first limit _ c.new.result d (search rules) (search rules)) (taken_complete _ _)))
+    (c.put.ensures.reads limit)
 
-pub returns-in_default-clause-reads : goal.returns-in_default-clause-reads
-returns-in_default-clause-reads g c =
+pub returns-then-is_err-clause-reads : goal.returns-then-is_err-clause-reads
+returns-then-is_err-clause-reads g c =
     let sight = g.S.Source.sight in
     let limit = c.args.limit in
     let p = c.args.self.now in
-    let d : c.len.result ≡ length (frames c.args.stack.now.items) = (search rules) ∙ sym (length-frames c.args.stack.now.items) in
-    let h : fits limit c.len.result ≡ true = search rules in
-    let empty : c.new-items.result.items ≡ [] = search rules in
+    let h : fits limit c.depth.result ≡ true = search rules in
+    Refuses-memory sight limit _ _ c.refuse-then-is_err.result c.refuse-then-is_err.ensures.kind c.refuse-then-is_err.ensures.at
+    (Halts-here sight limit _ _ (Leads-trans sight limit _ _ _
+    (array_begins sight limit p.source _ _ _ c.depth.ensures h (Takes-shown sight _ _ _ _ (c.bump.ensures.shown (Some 91) c.requires.shown) c.bump.ensures.takes))
+    (Leads-whites sight limit _ _ _ c.skip_white.ensures.white tt (white_first limit _))) tt tt)
+
+pub returns-else-is_err-clause-reads : goal.returns-else-is_err-clause-reads
+returns-else-is_err-clause-reads g c =
+    let sight = g.S.Source.sight in
+    let limit = c.args.limit in
+    let p = c.args.self.now in
+    let h : fits limit c.depth.result ≡ true = search rules in
     let other : IfSome c.skip_white.result (λ d. d ≡ 93 → ⊥) = elim c.in_default.branch [ in_default-via-in-Some+in_default w ↦ rw w.in_default.is (search rules) | in_default-via-in_default w ↦ rw w.in_default.is tt ] in
-    Reads-after sight limit _ _ _ _ _
+    let e : frames c.open_array.new.self ≡ in_array [] ∷ frames c.args.stack.now = search rules in
+    Leads-to sight limit _ _
     (Leads-trans sight limit _ _ _
-    (array_begins sight limit p.source _ _ _ d h (Takes-shown sight _ _ _ _ (c.bump.ensures.shown (Some 91) c.requires) c.bump.ensures.takes))
-    (array_goes_on sight limit _ _ _ _ c.skip_white.result empty (Leads-whites sight limit _ _ _ c.skip_white.ensures.white tt (white_first limit _)) c.skip_white.ensures.shows c.skip_white.ensures.stops other))
-    (c.open.ensures.reads limit)
+    (array_begins sight limit p.source _ _ _ c.depth.ensures h (Takes-shown sight _ _ _ _ (c.bump.ensures.shown (Some 91) c.requires.shown) c.bump.ensures.takes))
+    (array_goes_on sight limit _ _ _ _ c.skip_white.result refl (Leads-whites sight limit _ _ _ c.skip_white.ensures.white tt (white_first limit _)) c.skip_white.ensures.shows c.skip_white.ensures.stops other))
+    (ap (λ fs. next fs awaited) (sym e))

@@ -1,29 +1,40 @@
 use Rattle.std.proofs.Common.{rules, sym, subst, ◌∙◌, false, IfSome, ◌≡◌}
 use Rattle.tinyjson.specs.Characters.{is_white}
+use Rattle.tinyjson.specs.View.{text}
 use Rattle.tinyjson.specs.declared.parser.error.JsonParseErrorKind.TheVariants.{UnexpectedEof, ExpectedColon}
-use Rattle.tinyjson.proofs.Reading.Steps.{end_colon, Leads-whites, Leads-one, Leads-none, Refuses-as, Reads-after, white_colon}
-use Rattle.tinyjson.proofs.Reading.Containers.{colon_read, colon_other}
+use Rattle.tinyjson.specs.private.Stack.{BeginsMember}
+use Rattle.tinyjson.proofs.Reading.Steps.{end_colon, Leads-whites, Leads-one, Leads-none, Halts-here, Refuses-as, Refuses-memory, white_colon}
+use Rattle.tinyjson.proofs.Reading.Stack.{key_colon, key_other, member_begins}
 use Rattle.tinyjson.proofs.parser.reader.Reader.colon.Goals as goal
 
-pub returns-in-Some-eq58-clause-reads : goal.returns-in-Some-eq58-clause-reads
-returns-in-Some-eq58-clause-reads g c = λ limit.
+pub returns-then-is_err-clause-reads : goal.returns-then-is_err-clause-reads
+returns-then-is_err-clause-reads g c = λ limit.
     let sight = g.S.Source.sight in
-    Reads-after sight limit _ _ _ _ _
-    (Leads-one sight limit _ _ _ c.in-Some-eq58.field-0 (Leads-whites sight limit _ _ _ c.skip_white.ensures.white tt (white_colon limit _ _)) c.in-Some-eq58.ensures.takes tt
-    (colon_read limit _ _ _ c.in-Some-eq58.field-0 (search rules)) tt)
-    (c.open.ensures.reads limit)
+    let d = c.in-Some-eq58.field-0 in
+    Refuses-memory sight limit _ _ c.refuse.result c.refuse.ensures.kind c.refuse.ensures.at
+    (Halts-here sight limit _ _
+    (Leads-one sight limit _ _ _ d (Leads-whites sight limit _ _ _ c.skip_white.ensures.white tt (white_colon limit _ _)) c.in-Some-eq58.ensures.takes tt
+    (key_colon c.args.stack.now c.requires.awaits limit (text c.args.key) d (search rules)) tt) tt tt)
+
+pub returns-else-is_err-clause-reads : goal.returns-else-is_err-clause-reads
+returns-else-is_err-clause-reads g c = λ limit.
+    let sight = g.S.Source.sight in
+    let d = c.in-Some-eq58.field-0 in
+    let b : BeginsMember c.args.stack.now c.begin_member.new.self (text c.args.key) = search rules in
+    Leads-one sight limit _ _ _ d (Leads-whites sight limit _ _ _ c.skip_white.ensures.white tt (white_colon limit _ _)) c.in-Some-eq58.ensures.takes tt
+    (member_begins limit c.args.stack.now c.begin_member.new.self (text c.args.key) d b (search rules)) tt
 
 pub returns-in-Some-clause-reads : goal.returns-in-Some-clause-reads
 returns-in-Some-clause-reads g c = λ limit.
     let sight = g.S.Source.sight in
     let e = sym (c.bump.ensures.shown c.skip_white.result c.skip_white.ensures.shows) ∙ c.in-Some.is in
     let w = subst (λ o. IfSome o (λ d. is_white d ≡ false)) e c.skip_white.ensures.stops in
-    Refuses-as sight limit _ _ c.refuse_in.result (ExpectedColon c.in-Some.c) c.refuse_in.ensures.kind c.refuse_in.ensures.at
+    Refuses-as sight limit _ _ c.refuse-in-Some.result (ExpectedColon c.in-Some.c) c.refuse-in-Some.ensures.kind c.refuse-in-Some.ensures.at
     (Leads-one sight limit _ _ _ c.in-Some.c (Leads-whites sight limit _ _ _ c.skip_white.ensures.white tt (white_colon limit _ _)) c.in-Some.ensures.takes tt
-    (colon_other limit _ _ _ c.in-Some.c w (search rules)) tt)
+    (key_other c.args.stack.now c.requires.awaits limit (text c.args.key) c.in-Some.c w (search rules)) tt)
 
 pub returns-in-None-clause-reads : goal.returns-in-None-clause-reads
 returns-in-None-clause-reads g c = λ limit.
     let sight = g.S.Source.sight in
-    Refuses-as sight limit _ _ c.refuse_in-in-None.result UnexpectedEof c.refuse_in-in-None.ensures.kind c.refuse_in-in-None.ensures.at
+    Refuses-as sight limit _ _ c.refuse-in-None.result UnexpectedEof c.refuse-in-None.ensures.kind c.refuse-in-None.ensures.at
     (Leads-none sight limit _ _ _ (Leads-whites sight limit _ _ _ c.skip_white.ensures.white tt (white_colon limit _ _)) c.in-None.ensures.takes.0 c.in-None.ensures.takes.1 (end_colon limit _ _) tt)

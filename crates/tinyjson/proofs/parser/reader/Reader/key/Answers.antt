@@ -1,18 +1,34 @@
-use Rattle.std.proofs.Common.{ap, sym, ◌∙◌}
-use Rattle.tinyjson.specs.Kind.{kind_of}
-use Rattle.tinyjson.specs.View.{view}
-use Rattle.tinyjson.specs.declared.parser.error.JsonParseErrorKind.TheVariants.{KeyNotString}
-use Rattle.tinyjson.specs.declared.parser.error.JsonParseErrorKind.TheVariants.{KeyNotString}
-use Rattle.tinyjson.proofs.Reading.Steps.{Leads-nil, Leads-to, Refuses-as}
-use Rattle.tinyjson.proofs.Reading.Containers.{no_key, no_string}
+use Rattle.std.proofs.Common.{rules, Some}
+use Rattle.std.proofs.lemmas.Result.{err_from_is_err_and}
+use Rattle.tinyjson.proofs.Reading.Sources.{Takes-shown}
+use Rattle.tinyjson.proofs.Reading.Containers.{string_begins}
+use Rattle.tinyjson.proofs.Reading.Stack.{key_string}
+use Rattle.tinyjson.proofs.Reading.Steps.{Leads-whites, Leads-one, Leads-to, Leads-trans, Refuses-after, Reads-after, white_awaited}
 use Rattle.tinyjson.proofs.parser.reader.Reader.key.Goals as goal
-use Rattle.tinyjson.proofs.Values.Equality.{view-String}
+
+pub returns-in_err-key-in-Some-eq34-clause-reads : goal.returns-in_err-key-in-Some-eq34-clause-reads
+returns-in_err-key-in-Some-eq34-clause-reads g c = λ limit.
+    let sight = g.S.Source.sight in
+    let d = c.in-Some-eq34.field-0 in
+    let p = err_from_is_err_and c.from_residual.result c.from_residual.ensures.1 in
+    let q = Leads-one sight limit _ _ _ d (Leads-whites sight limit _ _ _ c.skip_white.ensures.white tt (white_awaited limit _))
+    (Takes-shown sight _ _ _ _ (c.bump.ensures.shown (Some d) c.in-Some-eq34.ensures.shows) c.bump.ensures.takes) tt
+    (string_begins limit _ d (search rules)) tt in
+    rw (p.1, p.2) (Refuses-after sight limit _ _ _ _ q (c.in_err-key-in-Some-eq34.ensures.reads limit _))
+
+pub returns-in_ok-key-in-Some-eq34-clause-reads : goal.returns-in_ok-key-in-Some-eq34-clause-reads
+returns-in_ok-key-in-Some-eq34-clause-reads g c = λ limit.
+    let sight = g.S.Source.sight in
+    let d = c.in-Some-eq34.field-0 in
+    let q = Leads-one sight limit _ _ _ d (Leads-whites sight limit _ _ _ c.skip_white.ensures.white tt (white_awaited limit _))
+    (Takes-shown sight _ _ _ _ (c.bump.ensures.shown (Some d) c.in-Some-eq34.ensures.shows) c.bump.ensures.takes) tt
+    (string_begins limit _ d (search rules)) tt in
+    Reads-after sight limit _ _ _ _ _
+    (Leads-to sight limit _ _ (Leads-trans sight limit _ _ _ q (c.in_ok-key-in-Some-eq34.ensures.reads limit _)) (key_string c.args.stack.now c.requires.awaits _))
+    (c.colon.ensures.reads limit)
 
 pub returns-in_default-clause-reads : goal.returns-in_default-clause-reads
-returns-in_default-clause-reads g c = λ limit.
-    let sight = g.S.Source.sight in
-    Refuses-as sight limit _ _ c.refuse_in.result (KeyNotString (kind_of (view c.args.value))) (c.refuse_in.ensures.kind ∙ ap KeyNotString c.kind.ensures) c.refuse_in.ensures.at
-    (Leads-to sight limit _ _ (Leads-nil sight limit _ _) (sym (no_key _ _ (view c.args.value) (no_string c.args.value c.in_default.not-String))))
+returns-in_default-clause-reads g c = λ limit. Leads-whites g.S.Source.sight limit _ _ _ c.skip_white.ensures.white tt (white_awaited limit _)
 
-pub returns-in-String-clause-reads : goal.returns-in-String-clause-reads
-returns-in-String-clause-reads g c = λ limit. rw (c.in-String.is, view-String c.in-String.key) (c.colon.ensures.reads limit)
+pub returns-in_default-2-clause-reads : goal.returns-in_default-2-clause-reads
+returns-in_default-2-clause-reads g c = λ limit. Leads-whites g.S.Source.sight limit _ _ _ c.skip_white.ensures.white tt (white_awaited limit _)

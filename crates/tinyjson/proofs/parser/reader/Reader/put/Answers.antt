@@ -1,10 +1,20 @@
+use Rattle.std.proofs.Common.{rules, sym, ◌≡◌, true}
+use Rattle.tinyjson.specs.View.{view}
+use Rattle.tinyjson.specs.private.Machine.{complete}
+use Rattle.tinyjson.specs.private.Stack.{TakesValue, open_of, at, frames}
+use Rattle.tinyjson.proofs.Reading.Steps.{Leads-nil, Leads-to, Halts-here, Refuses-memory}
+use Rattle.tinyjson.proofs.Reading.Stack.{value_taken}
 use Rattle.tinyjson.proofs.parser.reader.Reader.put.Goals as goal
 
-pub returns-in-Array-clause-reads : goal.returns-in-Array-clause-reads
-returns-in-Array-clause-reads g c = λ limit. rw c.in-Array.is (c.item.ensures.reads limit)
+pub returns-then-is_err-clause-reads : goal.returns-then-is_err-clause-reads
+returns-then-is_err-clause-reads g c = λ limit.
+    let sight = g.S.Source.sight in
+    let place : TakesValue (open_of c.args.stack.now) = search rules in
+    let next = value_taken (open_of c.args.stack.now) _ _ (view c.args.value) place in
+    Refuses-memory sight limit _ _ c.refuse.result c.refuse.ensures.kind c.refuse.ensures.at (Halts-here sight limit _ _ (Leads-nil sight limit _ _) next next)
 
-pub returns-in-Object-clause-reads : goal.returns-in-Object-clause-reads
-returns-in-Object-clause-reads g c = λ limit. rw c.in-Object.is (c.key.ensures.reads limit)
-
-pub returns-in-Member-clause-reads : goal.returns-in-Member-clause-reads
-returns-in-Member-clause-reads g c = λ limit. rw c.in-Member.is (c.member.ensures.reads limit)
+pub returns-clause-reads : goal.returns-clause-reads
+returns-clause-reads g c = λ limit.
+    let sight = g.S.Source.sight in
+    let e : at c.push.new.self true ≡ complete true (frames c.args.stack.now) (view c.args.value) true = search rules in
+    Leads-to sight limit _ _ (Leads-nil sight limit _ _) (sym e)

@@ -1,0 +1,237 @@
+-- The containers that are open: what is pushed, and what closes.
+use Rattle.std.proofs.Common.{◌≡◌, ℕ, suc, ◌+◌, ◌-◌, ◌≤◌, true, false, List, [], ◌∷◌, ◌++◌, map, take, drop, reverse, length, String, Global, Option, refl, sym, ap, ap₂, ◌∙◌, subst, arith}
+use Rattle.std.proofs.Math.Seq.{drop-length, take-length, take-append_seam}
+use Rattle.std.proofs.lemmas.List.{reverse-append, reverse-reverse, map-append, length-drop, drop-append-le, take-append-le, length-take-le, length-append, length-reverse}
+use Rattle.tinyjson.specs.Tree.{Tree, Members, no_members, put, string, array, object, is_string}
+use Rattle.tinyjson.specs.View.{view, text, items_view}
+use Rattle.tinyjson.specs.private.Machine.{Frame, in_array, at_key, at_value, awaited, after, colon, Next, next, stop, complete}
+use Rattle.tinyjson.specs.private.Stack.{gather, waiting, frames_over, whole_over, Lies, open_of, frames, at, HasWhole, IsSound, AwaitsKey, TakesValue, BeginsMember, ClosesArray, ClosesObject}
+use Rattle.tinyjson.specs.private.Steps.{IsNext, onward, Leads, Halts}
+use Rattle.tinyjson.specs.private.Source.{Sight, Whites}
+use Rattle.tinyjson.specs.Characters.{is_white}
+use Rattle.tinyjson.specs.Kind.{kind_of}
+use Rattle.tinyjson.specs.declared.parser.error.JsonParseErrorKind.TheVariants.{KeyNotString, ExpectedColon}
+use Rattle.tinyjson.proofs.Reading.Containers.{no_key, colon_read, colon_other, object_comma}
+use Rattle.tinyjson.proofs.Reading.Steps.{Leads-whites, Halts-here, white_after}
+use Rattle.tinyjson.specs.declared.parser.stack.Open.{Open}
+use Rattle.tinyjson.specs.declared.parser.stack.Open.TheVariants as container
+use Rattle.tinyjson.specs.declared.parser.stack.Stack.{Stack}
+use Rattle.tinyjson.specs.declared.value.JsonValue.{JsonValue}
+
+abbrev Keys : Type 0
+Keys = List (String Global)
+
+-- ---- gathered members
+
+-- the value of the key that had none
+pub gather_value : (ms : Members) (ks : Keys) (vs : List JsonValue) (v : JsonValue) → length ks ≡ suc (length vs)
+    → gather ms ks (vs ++ v ∷ []) ≡ put (waiting ks vs) (view v) (gather ms ks vs)
+gather_value ms [] vs v h = absurd (omega (arith, h))
+gather_value ms (k ∷ ks) [] v h = none ks (omega (arith, h))
+  where
+    none : (js : Keys) → length js ≡ 0 → gather (put (text k) (view v) ms) js [] ≡ put (text k) (view v) ms
+    none [] e = refl
+    none (j ∷ js) e = absurd (omega (arith, e))
+gather_value ms (k ∷ ks) (w ∷ vs) v h = gather_value (put (text k) (view w) ms) ks vs v (omega (arith, h))
+
+-- a key that has no value yet counts for nothing, and waits
+pub gather_key : (ms : Members) (ks : Keys) (vs : List JsonValue) (k : String Global) → length ks ≡ length vs → gather ms (ks ++ k ∷ []) vs ≡ gather ms ks vs
+gather_key ms [] [] k h = refl
+gather_key ms [] (v ∷ vs) k h = absurd (omega (arith, h))
+gather_key ms (j ∷ ks) [] k h = refl
+gather_key ms (j ∷ ks) (v ∷ vs) k h = gather_key (put (text j) (view v) ms) ks vs k (omega (arith, h))
+
+pub waiting_key : (ks : Keys) (vs : List JsonValue) (k : String Global) → length ks ≡ length vs → waiting (ks ++ k ∷ []) vs ≡ text k
+waiting_key [] [] k h = refl
+waiting_key [] (v ∷ vs) k h = absurd (omega (arith, h))
+waiting_key (j ∷ ks) [] k h = absurd (omega (arith, h))
+waiting_key (j ∷ ks) (v ∷ vs) k h = waiting_key ks vs k (omega (arith, h))
+
+-- ---- a value that is whole
+
+pub whole-last : (os : List Open) (vs : List JsonValue) (v : JsonValue) (ks : Keys) → whole_over os (reverse (vs ++ v ∷ [])) ks ≡ complete true (frames_over os vs ks) (view v) true
+whole-last os vs v ks = ap (λ us. whole_over os us ks) (reverse-append vs (v ∷ [])) ∙ ap (λ us. complete true (frames_over os us ks) (view v) true) (reverse-reverse vs)
+
+-- an array has it as its last item
+pub whole-item : (n : ℕ) (os : List Open) (vs : List JsonValue) (v : JsonValue) (ks : Keys) → n ≤ length vs
+    → whole_over (container.Array n ∷ os) (reverse (vs ++ v ∷ [])) ks ≡ next (frames_over (container.Array n ∷ os) (vs ++ v ∷ []) ks) after
+whole-item n os vs v ks h =
+    whole-last (container.Array n ∷ os) vs v ks
+    ∙ ap₂ (λ ts us. next (in_array ts ∷ frames_over os us ks) after) (sym (ap (map view) (drop-append-le n vs (v ∷ []) h) ∙ map-append view (drop n vs) (v ∷ []))) (sym (take-append-le n vs (v ∷ []) h))
+
+-- an object has it as the value of its last key
+pub whole-member : (n m : ℕ) (os : List Open) (vs : List JsonValue) (v : JsonValue) (ks : Keys) → n ≤ length vs → m ≤ length ks → length ks + n ≡ suc (length vs + m)
+    → whole_over (container.Member n m ∷ os) (reverse (vs ++ v ∷ [])) ks ≡ next (frames_over (container.Object n m ∷ os) (vs ++ v ∷ []) ks) after
+whole-member n m os vs v ks h k e =
+    let more : length (drop m ks) ≡ suc (length (drop n vs)) = length-drop m ks ∙ omega (arith, h, k, e) ∙ ap suc (sym (length-drop n vs)) in
+    whole-last (container.Member n m ∷ os) vs v ks
+    ∙ ap₂ (λ ms us. next (at_key ms ∷ frames_over os us (take m ks)) after)
+    (sym (ap (gather no_members (drop m ks)) (drop-append-le n vs (v ∷ []) h) ∙ gather_value no_members (drop m ks) (drop n vs) v more)) (sym (take-append-le n vs (v ∷ []) h))
+
+-- ---- a container that begins
+
+pub frames-array : (os : List Open) (vs : List JsonValue) (ks : Keys) → frames_over (container.Array (length vs) ∷ os) vs ks ≡ in_array [] ∷ frames_over os vs ks
+frames-array os vs ks = ap₂ (λ ds us. in_array (map view ds) ∷ frames_over os us ks) (drop-length vs) (take-length vs)
+
+pub frames-object : (os : List Open) (vs : List JsonValue) (ks : Keys) → frames_over (container.Object (length vs) (length ks) ∷ os) vs ks ≡ at_key no_members ∷ frames_over os vs ks
+frames-object os vs ks =
+    ap₂ (λ ds es. at_key (gather no_members ds es) ∷ frames_over os (take (length vs) vs) (take (length ks) ks)) (drop-length ks) (drop-length vs)
+    ∙ ap₂ (λ us js. at_key no_members ∷ frames_over os us js) (take-length vs) (take-length ks)
+
+-- ---- a key that is read
+
+pub frames-key : (n m : ℕ) (os : List Open) (vs : List JsonValue) (ks : Keys) (k : String Global) → n ≤ length vs → m ≤ length ks → length ks + n ≡ length vs + m
+    → frames_over (container.Member n m ∷ os) vs (ks ++ k ∷ []) ≡ at_value (gather no_members (drop m ks) (drop n vs)) (text k) ∷ frames_over os (take n vs) (take m ks)
+frames-key n m os vs ks k h i e =
+    let same : length (drop m ks) ≡ length (drop n vs) = length-drop m ks ∙ omega (arith, h, i, e) ∙ sym (length-drop n vs) in
+    ap₂ (λ js is. at_value (gather no_members js (drop n vs)) (waiting js (drop n vs)) ∷ frames_over os (take n vs) is) (drop-append-le m ks (k ∷ []) i) (take-append-le m ks (k ∷ []) i)
+    ∙ ap₂ (λ ms j. at_value ms j ∷ frames_over os (take n vs) (take m ks)) (gather_key no_members (drop m ks) (drop n vs) k same) (waiting_key (drop m ks) (drop n vs) k same)
+
+-- ---- the innermost container
+
+pub length-frames_over : (os : List Open) (vs : List JsonValue) (ks : Keys) → length (frames_over os vs ks) ≡ length os
+length-frames_over [] vs ks = refl
+length-frames_over (container.Array n ∷ os) vs ks = ap suc (length-frames_over os (take n vs) ks)
+length-frames_over (container.Object n m ∷ os) vs ks = ap suc (length-frames_over os (take n vs) (take m ks))
+length-frames_over (container.Member n m ∷ os) vs ks = ap suc (length-frames_over os (take n vs) (take m ks))
+
+pub length-frames : (s : Stack) → length (frames s) ≡ length s.containers.items
+length-frames s = length-frames_over (open_of s) s.values.items s.keys.items ∙ length-reverse s.containers.items
+
+pub pushed : (xs : List Open) (o : Open) → reverse (xs ++ o ∷ []) ≡ o ∷ reverse xs
+pushed xs o = reverse-append xs (o ∷ [])
+
+pub popped : (old new : List Open) (o : Open) (os : List Open) → reverse old ≡ o ∷ os → new ≡ take (length old - 1) old → reverse new ≡ os
+popped old new o os e h =
+    let whole : old ≡ reverse os ++ o ∷ [] = sym (reverse-reverse old) ∙ ap reverse e ∙ reverse-append (o ∷ []) os in
+    let size : length old ≡ length (reverse os) + 1 = ap length whole ∙ length-append (reverse os) (o ∷ []) in
+    let n : length old - 1 ≡ length (reverse os) = omega (arith, size) in
+    ap reverse (h ∙ ap₂ take n whole ∙ take-append_seam (reverse os) (o ∷ [])) ∙ reverse-reverse os
+
+pub awaits-key : (s : Stack) → AwaitsKey s → (ms : Members) × (fs : List Frame) × (frames s ≡ at_key ms ∷ fs)
+awaits-key s a =
+    let n = a.0 in
+    let m = a.1 in
+    let os = a.2.0 in
+    (gather no_members (drop m s.keys.items) (drop n s.values.items), frames_over os (take n s.values.items) (take m s.keys.items), ap (λ ps. frames_over ps s.values.items s.keys.items) a.2.1)
+
+-- ---- an array behind an item
+
+module _ (s : Stack) (w : HasWhole s) (n : ℕ) (os : List Open) (i : open_of s ≡ container.Array n ∷ os) where
+  array_lies : Lies (container.Array n ∷ os) (length w.front) (length s.keys.items)
+  array_lies = subst (λ ps. Lies ps (length w.front) (length s.keys.items)) i w.lies
+
+  array_frames : frames s ≡ in_array (map view (drop n s.values.items)) ∷ frames_over os (take n s.values.items) s.keys.items
+  array_frames = ap (λ ps. frames_over ps s.values.items s.keys.items) i
+
+  array_size : length s.values.items ≡ length w.front + 1
+  array_size = ap length w.values ∙ length-append w.front (w.last ∷ [])
+
+  pub array_within : n ≤ length s.values.items
+  array_within = omega (arith, array_size, array_lies.0)
+
+  pub array_whole : at s true ≡ next (in_array (map view (drop n s.values.items)) ∷ frames_over os (take n s.values.items) s.keys.items) after
+  array_whole =
+      ap₂ (λ ps ws. whole_over ps (reverse ws) s.keys.items) i w.values
+      ∙ whole-item n os w.front w.last s.keys.items array_lies.0
+      ∙ ap (λ ws. next (frames_over (container.Array n ∷ os) ws s.keys.items) after) (sym w.values)
+
+  pub array_stays : next (frames s) awaited ≡ next (in_array (map view (drop n s.values.items)) ∷ frames_over os (take n s.values.items) s.keys.items) awaited
+  array_stays = ap (λ fs. next fs awaited) array_frames
+
+  pub array_sound : IsSound s false
+  array_sound = subst (λ ps. Lies ps (length s.values.items) (length s.keys.items)) (sym i) (array_within, array_lies.1)
+
+  pub closes_array : (new : Stack) (v : JsonValue) → open_of new ≡ os → new.values.items ≡ take n s.values.items → new.keys.items ≡ s.keys.items
+      → view v ≡ array (items_view (drop n s.values.items)) → ClosesArray s new v
+  closes_array new v o a k e = record {
+    items = map view (drop n s.values.items);
+    before = array_whole ∙ ap (λ fs. next (in_array (map view (drop n s.values.items)) ∷ fs) after) (sym ((λ j. frames_over (o j) (a j) (k j))));
+    value = e;
+    sound =
+        let size : length new.values.items ≡ n = ap length a ∙ length-take-le n s.values.items array_within in
+        subst (λ ps. Lies ps (length new.values.items) (length new.keys.items)) (sym o)
+        (subst (λ l. Lies os l (length new.keys.items)) (sym size) (subst (λ js. Lies os n (length js)) (sym k) array_lies.1));
+  }
+
+-- ---- an object behind a member
+
+module _ (s : Stack) (w : HasWhole s) (n m : ℕ) (os : List Open) (i : open_of s ≡ container.Member n m ∷ os) where
+  member_lies : Lies (container.Member n m ∷ os) (length w.front) (length s.keys.items)
+  member_lies = subst (λ ps. Lies ps (length w.front) (length s.keys.items)) i w.lies
+
+  member_size : length s.values.items ≡ length w.front + 1
+  member_size = ap length w.values ∙ length-append w.front (w.last ∷ [])
+
+  pub member_values : n ≤ length s.values.items
+  member_values = omega (arith, member_size, member_lies.0)
+
+  pub member_keys : m ≤ length s.keys.items
+  member_keys = member_lies.1
+
+  pub member_count : length s.keys.items + n ≡ length s.values.items + m
+  member_count = omega (arith, member_size, member_lies.2)
+
+  pub member_whole : at s true ≡ next (frames_over (container.Object n m ∷ os) s.values.items s.keys.items) after
+  member_whole =
+      ap₂ (λ ps ws. whole_over ps (reverse ws) s.keys.items) i w.values
+      ∙ whole-member n m os w.front w.last s.keys.items member_lies.0 member_lies.1 member_lies.2
+      ∙ ap (λ ws. next (frames_over (container.Object n m ∷ os) ws s.keys.items) after) (sym w.values)
+
+  pub closes_object : (new : Stack) (v : JsonValue) → open_of new ≡ os → new.values.items ≡ take n s.values.items → new.keys.items ≡ take m s.keys.items
+      → view v ≡ object (gather no_members (drop m s.keys.items) (drop n s.values.items)) → ClosesObject s new v
+  closes_object new v o a k e = record {
+    members = gather no_members (drop m s.keys.items) (drop n s.values.items);
+    before = member_whole ∙ ap (λ fs. next (at_key (gather no_members (drop m s.keys.items) (drop n s.values.items)) ∷ fs) after) (sym ((λ j. frames_over (o j) (a j) (k j))));
+    value = e;
+    sound =
+        let size : length new.values.items ≡ n = ap length a ∙ length-take-le n s.values.items member_values in
+        let count : length new.keys.items ≡ m = ap length k ∙ length-take-le m s.keys.items member_keys in
+        subst (λ ps. Lies ps (length new.values.items) (length new.keys.items)) (sym o)
+        (subst (λ l. Lies os l (length new.keys.items)) (sym size) (subst (λ l. Lies os n l) (sym count) member_lies.3));
+  }
+
+-- ---- where a key is awaited
+
+module _ (s : Stack) (a : AwaitsKey s) where
+  key_frames : frames s ≡ at_key (awaits-key s a).0 ∷ (awaits-key s a).1
+  key_frames = (awaits-key s a).2
+
+  -- a string is the key, and nothing else is
+  pub key_string : (k : List ℕ) → complete true (frames s) (string k) true ≡ next (frames s) (colon k)
+  key_string k = ap (λ fs. complete true fs (string k) true) key_frames ∙ ap (λ fs. next fs (colon k)) (sym key_frames)
+
+  pub key_refused : (t : Tree) → is_string t ≡ false → complete true (frames s) t true ≡ stop (KeyNotString (kind_of t)) true
+  key_refused t h = ap (λ fs. complete true fs t true) key_frames ∙ sym (no_key _ _ t h)
+
+  module _ (limit : Option ℕ) (k : List ℕ) (c : ℕ) where
+    pub key_colon : c ≡ 58 → onward limit (next (frames s) (colon k)) c ≡ next (at_value (awaits-key s a).0 k ∷ (awaits-key s a).1) awaited
+    key_colon e = ap (λ fs. onward limit (next fs (colon k)) c) key_frames ∙ colon_read limit _ _ k c e
+
+    pub key_other : is_white c ≡ false → (c ≡ 58 → ⊥) → onward limit (next (frames s) (colon k)) c ≡ stop (ExpectedColon c) true
+    key_other w n = ap (λ fs. onward limit (next fs (colon k)) c) key_frames ∙ colon_other limit _ _ k c w n
+
+pub member_begins : (limit : Option ℕ) (old new : Stack) (k : List ℕ) (c : ℕ) → BeginsMember old new k → c ≡ 58 → onward limit (next (frames old) (colon k)) c ≡ next (frames new) awaited
+member_begins limit old new k c b e = ap (λ fs. onward limit (next fs (colon k)) c) b.before ∙ colon_read limit b.outer b.members k c e ∙ ap (λ fs. next fs awaited) (sym b.behind)
+
+-- a value that is no key is whole without a refusal
+pub value_taken : (os : List Open) (vs : List JsonValue) (ks : Keys) (t : Tree) → TakesValue os → IsNext (complete true (frames_over os vs ks) t true)
+value_taken [] vs ks t h = tt
+value_taken (container.Array n ∷ os) vs ks t h = tt
+value_taken (container.Object n m ∷ os) vs ks t h = absurd h
+value_taken (container.Member n m ∷ os) vs ks t h = tt
+
+-- ---- white space behind a value
+
+module _ {S : Type 0} (sight : Sight S) (limit : Option ℕ) (p q : S) {n : Next} (fs : List Frame) (e : n ≡ next fs after) (w : Whites sight p q) where
+  pub after_white : Leads sight limit p n q (next fs after)
+  after_white = subst (λ m. Leads sight limit p m q (next fs after)) (sym e) (Leads-whites sight limit p q _ w tt (white_after limit fs))
+
+  pub after_halts : Halts sight limit p n q
+  after_halts = Halts-here sight limit p q after_white (subst IsNext (sym e) tt) tt
+
+-- a comma behind a member, where a key is awaited next
+pub comma_read : (limit : Option ℕ) (s : Stack) → AwaitsKey s → (c : ℕ) → c ≡ 44 → onward limit (next (frames s) after) c ≡ next (frames s) awaited
+comma_read limit s a c e =
+    let k = awaits-key s a in
+    ap (λ fs. onward limit (next fs after) c) k.2 ∙ object_comma limit k.1 k.0 k.0 c refl e ∙ ap (λ fs. next fs awaited) (sym k.2)

@@ -1,0 +1,101 @@
+-- The containers that are open, in the words of the machine. For private contracts.
+use Rattle.std.specs.Prelude.{◌≡◌, ℕ, suc, ◌+◌, ◌≤◌, Bool, true, false, List, [], ◌∷◌, ◌++◌, map, take, drop, reverse, length, String, ⊤}
+use Rattle.std.specs.declared.alloc.Global.{Global}
+use Rattle.tinyjson.specs.Tree.{Tree, array, object, items_of, Members, no_members, put}
+use Rattle.tinyjson.specs.View.{view, text}
+use Rattle.tinyjson.specs.private.Machine.{Frame, in_array, at_key, at_value, awaited, after, Next, next, complete}
+use Rattle.tinyjson.specs.declared.parser.stack.Open.{Open}
+use Rattle.tinyjson.specs.declared.parser.stack.Open.TheVariants as container
+use Rattle.tinyjson.specs.declared.parser.stack.Stack.{Stack}
+use Rattle.tinyjson.specs.declared.value.JsonValue.{JsonValue}
+
+-- the values at their keys, after the members that were there: of equal keys the last stays
+abbrev pub gather : Members → List (String Global) → List JsonValue → Members
+gather ms [] vs = ms
+gather ms (k ∷ ks) [] = ms
+gather ms (k ∷ ks) (v ∷ vs) = gather (put (text k) (view v) ms) ks vs
+
+-- the key that has no value yet
+abbrev pub waiting : List (String Global) → List JsonValue → List ℕ
+waiting [] vs = []
+waiting (k ∷ ks) [] = text k
+waiting (k ∷ ks) (v ∷ vs) = waiting ks vs
+
+-- open containers as frames, the innermost first: each has the values and keys from its places on
+abbrev pub frames_over : List Open → List JsonValue → List (String Global) → List Frame
+frames_over [] vs ks = []
+frames_over (container.Array n ∷ os) vs ks = in_array (map view (drop n vs)) ∷ frames_over os (take n vs) ks
+frames_over (container.Object n m ∷ os) vs ks = at_key (gather no_members (drop m ks) (drop n vs)) ∷ frames_over os (take n vs) (take m ks)
+frames_over (container.Member n m ∷ os) vs ks =
+    at_value (gather no_members (drop m ks) (drop n vs)) (waiting (drop m ks) (drop n vs)) ∷ frames_over os (take n vs) (take m ks)
+
+-- the last value is whole, and not yet part of its container
+abbrev pub whole_over : List Open → List JsonValue → List (String Global) → Next
+whole_over os [] ks = next [] awaited
+whole_over os (v ∷ vs) ks = complete true (frames_over os (reverse vs) ks) (view v) true
+
+-- so many values and keys: each container begins within what those around it leave; an object that awaits a
+-- key has a key for each of its values, and one that awaits a value has one more
+abbrev pub Lies : List Open → ℕ → ℕ → Type 0
+Lies [] v k = ⊤
+Lies (container.Array n ∷ os) v k = (n ≤ v) × Lies os n k
+Lies (container.Object n m ∷ os) v k = (n ≤ v) × (m ≤ k) × (k + n ≡ v + m) × Lies os n m
+Lies (container.Member n m ∷ os) v k = (n ≤ v) × (m ≤ k) × (k + n ≡ suc (v + m)) × Lies os n m
+
+-- no object awaits a key
+abbrev pub TakesValue : List Open → Type 0
+TakesValue [] = ⊤
+TakesValue (container.Array n ∷ os) = ⊤
+TakesValue (container.Object n m ∷ os) = ⊥
+TakesValue (container.Member n m ∷ os) = ⊤
+
+-- the innermost first
+abbrev pub open_of : Stack → List Open
+open_of s = reverse s.containers.items
+
+abbrev pub frames : Stack → List Frame
+frames s = frames_over (open_of s) s.values.items s.keys.items
+
+-- a value is awaited, or is whole
+abbrev pub at : Stack → Bool → Next
+at s false = next (frames s) awaited
+at s true = whole_over (open_of s) (reverse s.values.items) s.keys.items
+
+-- the last value is whole, behind values that the open containers have
+pub record HasWhole (s : Stack) : Type 0 where
+  pub front : List JsonValue
+  pub last : JsonValue
+  pub values : s.values.items ≡ front ++ last ∷ []
+  pub place : TakesValue (open_of s)
+  pub lies : Lies (open_of s) (length front) (length s.keys.items)
+
+abbrev pub IsSound : Stack → Bool → Type 0
+IsSound s false = Lies (open_of s) (length s.values.items) (length s.keys.items)
+IsSound s true = HasWhole s
+
+-- the container that was opened last
+abbrev pub Innermost : Stack → Open → Type 0
+Innermost s o = (os : List Open) × (open_of s ≡ o ∷ os)
+
+abbrev pub AwaitsKey : Stack → Type 0
+AwaitsKey s = (n : ℕ) × (m : ℕ) × Innermost s (container.Object n m)
+
+-- the innermost object was given a key
+pub record BeginsMember (old new : Stack) (key : List ℕ) : Type 0 where
+  pub members : Members
+  pub outer : List Frame
+  pub before : frames old ≡ at_key members ∷ outer
+  pub behind : frames new ≡ at_value members key ∷ outer
+
+-- the innermost container, behind its last value, was closed, and this is its value
+pub record ClosesArray (old new : Stack) (v : JsonValue) : Type 0 where
+  pub items : List Tree
+  pub before : at old true ≡ next (in_array items ∷ frames new) after
+  pub value : view v ≡ array (items_of items)
+  pub sound : IsSound new false
+
+pub record ClosesObject (old new : Stack) (v : JsonValue) : Type 0 where
+  pub members : Members
+  pub before : at old true ≡ next (at_key members ∷ frames new) after
+  pub value : view v ≡ object members
+  pub sound : IsSound new false

@@ -1,0 +1,225 @@
+//! The containers that are open, and what they hold so far.
+ghost use Rattle.std.specs.Prelude.{◌≡◌, ◌+◌, ◌≤◌, [], ◌∷◌, length, take, drop, true, false, OnOk, IfOk, MatchOption};
+ghost use Rattle.tinyjson.specs.private.Machine.{in_array, at_key, after, next, complete, finished};
+ghost use Rattle.tinyjson.specs.private.Stack.{frames, at, open_of, IsSound, Innermost, AwaitsKey, TakesValue, BeginsMember, ClosesArray, ClosesObject, gather};
+ghost use Rattle.tinyjson.specs.Tree.{no_members};
+ghost use Rattle.tinyjson.specs.View.{view, text, members_view};
+ghost use Rattle.tinyjson.specs.declared.parser.stack.Open.TheVariants as container;
+
+use crate::value::{JsonValue, insert_member};
+use std::alloc::{AllocError, Global};
+use std::collections::HashMap;
+use std::mem;
+
+/// A container that was opened and not closed: where its values and its keys begin on the stack.
+#[derive(Clone, Copy)]
+pub(super) enum Open {
+    Array { values: usize },
+    /// An object that awaits a key.
+    Object { values: usize, keys: usize },
+    /// An object that awaits the value of its last key.
+    Member { values: usize, keys: usize },
+}
+
+/// The containers that are open, the innermost last, and the values and keys that were read in them.
+#[derive(Drop)]
+pub(super) struct Stack {
+    alloc: Global,
+    containers: Vec<Open>,
+    values: Vec<JsonValue>,
+    keys: Vec<String>,
+}
+
+impl Stack {
+    pub(super) fn new(alloc: Global) -> Self
+        ensures frames { frames result ≡ [] }
+        ensures sound { IsSound result false }
+    {
+        Stack {
+            alloc,
+            containers: Vec::new(alloc),
+            values: Vec::new(alloc),
+            keys: Vec::new(alloc),
+        }
+    }
+
+    /// How many containers are open.
+    pub(super) fn depth(&self) -> usize
+        ensures { result ≡ length (frames self.now) }
+    {
+        self.containers.len()
+    }
+
+    /// The container that was opened last.
+    pub(super) fn innermost(&self) -> Option<Open>
+        ensures { MatchOption result (open_of self.now ≡ []) (Innermost self.now) }
+    {
+        self.containers.last().copied()
+    }
+
+    /// Puts a value on the stack.
+    pub(super) fn push(&mut self, value: JsonValue) -> Result<(), AllocError>
+        requires sound { IsSound self.old false }
+        requires place { TakesValue (open_of self.old) }
+        ensures at { OnOk result (at self.new true ≡ complete true (frames self.old) (view value) true) }
+        ensures sound { OnOk result (IsSound self.new true) }
+    {
+        if let Err(refused) = self.values.push(value) {
+            refused.value.dismantle();
+            return Err(AllocError);
+        }
+        Ok(())
+    }
+
+    /// Takes the value that is whole, where no container is open.
+    pub(super) fn take_whole(&mut self) -> JsonValue
+        requires sound { IsSound self.old true }
+        requires none { open_of self.old ≡ [] }
+        ensures { at self.old true ≡ next [] (finished (view result)) }
+    {
+        match self.values.pop() {
+            Some(value) => value,
+            None => unreachable!(),
+        }
+    }
+
+    /// Opens an array.
+    pub(super) fn open_array(&mut self) -> Result<(), AllocError>
+        requires sound { IsSound self.old false }
+        ensures frames { OnOk result (frames self.new ≡ in_array [] ∷ frames self.old) }
+        ensures sound { OnOk result (IsSound self.new false) }
+    {
+        let values = self.values.len();
+        if self.containers.push(Open::Array { values }).is_err() {
+            return Err(AllocError);
+        }
+        Ok(())
+    }
+
+    /// Opens an object.
+    pub(super) fn open_object(&mut self) -> Result<(), AllocError>
+        requires sound { IsSound self.old false }
+        ensures frames { OnOk result (frames self.new ≡ at_key no_members ∷ frames self.old) }
+        ensures sound { OnOk result (IsSound self.new false) }
+        ensures awaits { OnOk result (AwaitsKey self.new) }
+    {
+        let (values, keys) = (self.values.len(), self.keys.len());
+        if self.containers.push(Open::Object { values, keys }).is_err() {
+            return Err(AllocError);
+        }
+        Ok(())
+    }
+
+    /// Gives the innermost object, which awaits a key, this key.
+    pub(super) fn begin_member(&mut self, key: String) -> Result<(), AllocError>
+        requires sound { IsSound self.old false }
+        requires awaits { AwaitsKey self.old }
+        ensures begins { OnOk result (BeginsMember self.old self.new (text key)) }
+        ensures sound { OnOk result (IsSound self.new false) }
+    {
+        let Some(Open::Object { values, keys }) = self.containers.pop() else {
+            unreachable!()
+        };
+        if self.keys.push(key).is_err() {
+            return Err(AllocError);
+        }
+        if self.containers.push(Open::Member { values, keys }).is_err() {
+            return Err(AllocError);
+        }
+        Ok(())
+    }
+
+    /// Gives the last key of the innermost object the value that is whole.
+    pub(super) fn end_member(&mut self, values: usize, keys: usize) -> Result<(), AllocError>
+        requires sound { IsSound self.old true }
+        requires member { Innermost self.old (container.Member values keys) }
+        ensures at { OnOk result (at self.old true ≡ next (frames self.new) after) }
+        ensures sound { OnOk result (IsSound self.new false) }
+        ensures awaits { OnOk result (AwaitsKey self.new) }
+    {
+        self.containers.pop();
+        if self.containers.push(Open::Object { values, keys }).is_err() {
+            return Err(AllocError);
+        }
+        Ok(())
+    }
+
+    /// Closes the innermost array behind its last item. It keeps no more memory than its items need.
+    pub(super) fn close_array(&mut self, values: usize) -> Result<JsonValue, AllocError>
+        requires sound { IsSound self.old true }
+        requires array { Innermost self.old (container.Array values) }
+        ensures { IfOk result (ClosesArray self.old self.new) }
+    {
+        self.containers.pop();
+        Ok(JsonValue::Array(self.take_items(values)?))
+    }
+
+    /// Takes the values from this place on.
+    fn take_items(&mut self, values: usize) -> Result<Vec<JsonValue>, AllocError>
+        requires { values ≤ length self.old.values.items }
+        ensures items { IfOk result (λ v. v.items ≡ drop values self.old.values.items) }
+        ensures values { OnOk result (self.new.values.items ≡ take values self.old.values.items) }
+        ensures containers { self.new.containers ≡ self.old.containers }
+        ensures keys { self.new.keys ≡ self.old.keys }
+    {
+        if values > 0 {
+            return self.values.split_off(values);
+        }
+        let mut items = mem::replace(&mut self.values, Vec::new(self.alloc));
+        items.shrink_to_fit();
+        Ok(items)
+    }
+
+    /// Closes the innermost object behind its last member. Of equal keys the last member stays.
+    pub(super) fn close_object(
+        &mut self,
+        values: usize,
+        keys: usize,
+    ) -> Result<JsonValue, AllocError>
+        requires sound { IsSound self.old true }
+        requires member { Innermost self.old (container.Member values keys) }
+        ensures { IfOk result (ClosesObject self.old self.new) }
+    {
+        self.containers.pop();
+        let count = self.values.len() - values;
+        let mut members = HashMap::with_capacity(self.alloc, count)?;
+        members.shrink_to(count);
+        if self.fill(&mut members, values, keys, count).is_err() {
+            JsonValue::Object(members).dismantle();
+            return Err(AllocError);
+        }
+        self.keys.truncate(keys);
+        self.values.truncate(values);
+        Ok(JsonValue::Object(members))
+    }
+
+    /// Moves so many members into a map, the values and the keys from these places on.
+    fn fill(
+        &mut self,
+        members: &mut HashMap<String, JsonValue>,
+        values: usize,
+        keys: usize,
+        count: usize,
+    ) -> Result<(), AllocError>
+        requires values { values + count ≡ length self.old.values.items }
+        requires keys { keys + count ≡ length self.old.keys.items }
+        ensures members { OnOk result (members_view members.new.entries
+            ≡ gather (members_view members.old.entries) (drop keys self.old.keys.items)
+            (drop values self.old.values.items)) }
+        ensures containers { self.new.containers ≡ self.old.containers }
+        ensures values { take values self.new.values.items ≡ take values self.old.values.items }
+        ensures keys { take keys self.new.keys.items ≡ take keys self.old.keys.items }
+    {
+        for i in 0..count {
+            let key = mem::replace(&mut self.keys[keys + i], String::new(self.alloc));
+            let value = mem::replace(&mut self.values[values + i], JsonValue::Null);
+            insert_member(members, key, value)?;
+        }
+        Ok(())
+    }
+
+    /// Frees what was read, by a loop.
+    pub(super) fn abandon(self) {
+        JsonValue::Array(self.values).dismantle();
+    }
+}
