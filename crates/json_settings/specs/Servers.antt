@@ -7,7 +7,9 @@ use Rattle.tinyjson.specs.declared.value.JsonValue.{JsonValue}
 
 -- the old item comes back, and the new one stands in its place; or there is none, and nothing is changed
 abbrev pub ReplacesServer : Tree → ℕ → JsonValue → Result JsonValue JsonValue → Tree → Type 0
-ReplacesServer t i server (Ok old) u = (tree_at t i ≡ Some (view old)) × (tree_at u i ≡ Some (view server)) × (u ≡ with_tree_at t i (view server))
+ReplacesServer t i server (Ok old) u =
+    (tree_at t i ≡ Some (view old)) × (tree_at u i ≡ Some (view server))
+    × (u ≡ with_tree_at t i (view server))
 ReplacesServer t i server (Err given) u = (tree_at t i ≡ None) × (given ≡ server) × (u ≡ t)
 
 -- the trees have the same at each other index
