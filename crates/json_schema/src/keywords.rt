@@ -147,7 +147,8 @@ fn is_in_range(value: &JsonValue, schema: &JsonValue) -> bool
 }
 
 fn meets_minimum(limit: Option<&JsonValue>, value: &JsonValue) -> bool
-    ensures { result ≡ meets_minimum (option_map (λ x. view x.now) limit.entry) (view value.now) }
+    ensures { result
+        ≡ meets_minimum (option_map (λ x. view x.now) limit.entry) (view value.now) }
 {
     match (limit, value) {
         (Some(JsonValue::Number(limit)), JsonValue::Number(number)) => is_at_most(limit, number),
@@ -156,7 +157,8 @@ fn meets_minimum(limit: Option<&JsonValue>, value: &JsonValue) -> bool
 }
 
 fn meets_maximum(limit: Option<&JsonValue>, value: &JsonValue) -> bool
-    ensures { result ≡ meets_maximum (option_map (λ x. view x.now) limit.entry) (view value.now) }
+    ensures { result
+        ≡ meets_maximum (option_map (λ x. view x.now) limit.entry) (view value.now) }
 {
     match (limit, value) {
         (Some(JsonValue::Number(limit)), JsonValue::Number(number)) => is_at_most(number, limit),

@@ -25,7 +25,8 @@ pub fn parsed(alloc: Global, text: &str) -> JsonParseResult
 pub fn parsed_from<I: Iterator<Item = char> + Drop>(alloc: Global, it: I) -> JsonParseResult
     requires can { I.can_next it }
     requires finite { IsFinite (I.remaining it) }
-    ensures grammar { (xs : List ℕ) → Provides I.next_gives it xs → FollowsGrammar None xs result }
+    ensures grammar { (xs : List ℕ) → Provides I.next_gives it xs →
+        FollowsGrammar None xs result }
     ensures timely { (xs : List ℕ) → Provides I.next_gives it xs → IsTimely None xs result }
 {
     JsonParser::new(alloc, it).parse()
@@ -41,7 +42,8 @@ pub fn parsed_within<I: Iterator<Item = char> + Drop>(
     requires finite { IsFinite (I.remaining it) }
     ensures grammar { (xs : List ℕ) → Provides I.next_gives it xs →
         FollowsGrammar (Some limit) xs result }
-    ensures timely { (xs : List ℕ) → Provides I.next_gives it xs → IsTimely (Some limit) xs result }
+    ensures timely { (xs : List ℕ) → Provides I.next_gives it xs →
+        IsTimely (Some limit) xs result }
 {
     JsonParser::with_depth_limit(alloc, it, limit).parse()
 }

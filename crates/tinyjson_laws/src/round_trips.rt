@@ -38,7 +38,8 @@ pub fn reads_back(alloc: Global, value: &JsonValue) -> Result<bool, JsonParseErr
 /// The bytes of a value's text with this indent, by a generator that gives its writer back.
 pub fn indented_bytes(alloc: Global, value: &JsonValue, indent: &str) -> io::Result<Vec<u8>>
     ensures { IfOk result
-        (λ bytes. bytes.items ≡ encode_utf8_all (indented (view value.now) (chars indent.now) 0)) }
+        (λ bytes. bytes.items
+        ≡ encode_utf8_all (indented (view value.now) (chars indent.now) 0)) }
 {
     let mut generator = JsonGenerator::new(alloc, Vec::new(alloc)).indent(indent);
     generator.generate(value)?;

@@ -57,7 +57,8 @@ pub trait InnerAsRefMut {
             (put v.old) v.old) }
         ensures value { option_map (λ x. x.now) result ≡ part v.old };
 
-    ghost part_of_put: { (v : JsonValue) (x : Self) → IsSome (part v) → part (put v x) ≡ Some x };
+    ghost part_of_put: { (v : JsonValue) (x : Self) → IsSome (part v) →
+        part (put v x) ≡ Some x };
 
     ghost put_of_part: { (v : JsonValue) (x : Self) → part v ≡ Some x → put v x ≡ v };
 }
