@@ -13,7 +13,7 @@ use Rattle.tinyjson.specs.Grammar.{IsText}
 use Rattle.tinyjson.specs.Tree.{Tree}
 use Rattle.tinyjson.specs.Written.{Written, WrittenPart}
 use Rattle.tinyjson.specs.declared.parser.error.JsonParseError.{JsonParseError}
-use Rattle.json_lines.specs.Lines.{lines, onto_first, LinesRead, normal_line, normal_lines, AreTexts, IsRefused, AnswersLines, StopsAmongLines, WritesLine, WritesLines}
+use Rattle.json_lines.specs.Lines.{lines, onto_first, LinesRead, normal_line, normal_lines, AreTexts, AnswersLines, StopsAmongLines, WritesLine, WritesLines}
 use Rattle.json_lines.specs.declared.lines.Refusal.{Refusal}
 
 -- ---- lines of known bytes
