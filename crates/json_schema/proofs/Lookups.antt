@@ -5,7 +5,7 @@ use Rattle.std.proofs.lemmas.Str.{encodes-chars, encodes-IsAscii, IsUtf8-string_
 use Rattle.std.specs.HashMap.{get_by_text}
 use Rattle.std.specs.Prelude.{option_and_then}
 use Rattle.std.specs.Str.{IsUtf8, chars}
-use Rattle.tinyjson.proofs.Callers.{view-Object, view-String, view-ref, find-get, chars-literal, IsAscii-literal, are_ascii}
+use Rattle.tinyjson.proofs.Callers.{view-Object, view-String, view_ref, find-get, chars-literal, IsAscii-literal, are_ascii}
 use Rattle.tinyjson.specs.Access.{JsonMap}
 use Rattle.tinyjson.specs.Index.{tree_at_key}
 use Rattle.tinyjson.specs.Kind.{kind_of, kind_name}
@@ -21,7 +21,7 @@ use Rattle.json_schema.specs.Valid.{property}
 pub keyword_found : (v : JsonValue) (m : JsonMap) (bs : List ℕ) (r : Option (Bor JsonValue)) → v ≡ is.Object m → IsUtf8 bs → option_map (λ x. x.now) r ≡ get_by_text m bs
     → option_map (λ x. view x.now) r ≡ tree_at_key (view v) (chars bs)
 keyword_found v m bs r e u g =
-    view-ref r ∙ (ap (option_map view) g ∙ (sym (find-get m bs u) ∙ ap (λ t. tree_at_key t (chars bs)) (sym (ap view e ∙ view-Object m))))
+    view_ref r ∙ (ap (option_map view) g ∙ (sym (find-get m bs u) ∙ ap (λ t. tree_at_key t (chars bs)) (sym (ap view e ∙ view-Object m))))
 
 pub at_literal : (o : Option Tree) (t : Tree) (name : List ℕ) → are_ascii name ≡ true → o ≡ tree_at_key t (chars name) → o ≡ tree_at_key t name
 at_literal o t name a h = h ∙ ap (tree_at_key t) (chars-literal name a)

@@ -7,10 +7,10 @@ pub use Rattle.tinyjson.proofs.Values.Index.{items_view-set, tree-with_item, tre
 pub use Rattle.tinyjson.proofs.Values.Members.{find-put, find-remove, sorted-put, sorted-remove, members_from_find}
 pub use Rattle.tinyjson.proofs.Writing.Scalars.{encoded_chars, encoded_utf8, text-scalars}
 pub use Rattle.tinyjson.proofs.Values.Trees.{view-IsTree, text_scalars}
-pub use Rattle.tinyjson.proofs.Values.Views.{Entry, find-members_view, members_view_last}
+pub use Rattle.tinyjson.proofs.Values.Views.{Entry, find-members_view, members_view_last, view_ref}
 pub use Rattle.tinyjson.proofs.Values.WholeNumbers.{integers_differ, naturals_differ}
 pub use Rattle.tinyjson.proofs.Writing.Written.{Appends-trans, Appends-nothing, Appends-keeps, written_none, written_all, begins, goes, ends, written_take, written_same, written_then, stop, stops, stops_then, fails}
-use Rattle.std.proofs.Common.{◌≡◌, ◌≢◌, ℕ, zero, suc, Bool, true, false, ◌&&◌, cond, bytes_eq, nat_lt, List, [], ◌∷◌, ◌++◌, Option, Some, None, option_map, Ok, Err, String, string_bytes, Vec, Global, Bor, refl, sym, ap, ◌∙◌, subst, rules, arith, append-nil}
+use Rattle.std.proofs.Common.{◌≡◌, ◌≢◌, ℕ, zero, suc, Bool, true, false, ◌&&◌, cond, bytes_eq, nat_lt, List, [], ◌∷◌, ◌++◌, Option, Some, None, option_map, Ok, Err, String, string_bytes, Vec, Global, refl, sym, ap, ◌∙◌, subst, rules, arith, append-nil}
 use Rattle.std.proofs.lemmas.Bool.{and_parts}
 use Rattle.std.proofs.lemmas.Bool.Decides.{nat_tests, same_from_decides}
 use Rattle.std.proofs.lemmas.Slice.Eq.{bytes_eq-Decides}
@@ -23,7 +23,7 @@ use Rattle.std.specs.Prelude.{IsSome, slice_get, option_and_then}
 use Rattle.std.specs.Str.{IsAscii, IsUtf8, chars, encode_utf8_all}
 use Rattle.std.specs.String.{string_eq, string_eq_equiv}
 use Rattle.tinyjson.proofs.Values.Entries.{find_members_of}
-use Rattle.tinyjson.proofs.Values.Views.{view_lookup, view_of_ref, members_view_updates, members_view_removes, members_view_writes}
+use Rattle.tinyjson.proofs.Values.Views.{view_lookup, members_view_updates, members_view_removes, members_view_writes}
 use Rattle.tinyjson.specs.Access.{JsonMap, number_in, boolean_in, string_in, null_in, array_in, object_in, number_part, boolean_part, string_part, null_part, array_part, object_part}
 use Rattle.tinyjson.proofs.Writing.WrittenTexts.{compact-text, one-compact}
 use Rattle.tinyjson.specs.Equality.{same_tree, tree_eq_decides}
@@ -219,10 +219,6 @@ find-get_text m k = find_members_of k (seen_entries m.entries) ∙ view_lookup k
 -- at a literal key
 pub find-get_literal : (m : JsonMap) (bs : List ℕ) → are_ascii bs ≡ true → find bs (members_view m.entries) ≡ option_map view (get_by_text m bs)
 find-get_literal m bs h = ap (λ k. find k (members_view m.entries)) (sym (chars-literal bs h)) ∙ find-get m bs (IsUtf8-from_ascii bs (IsAscii-literal bs h))
-
--- the tree of a reference that may be there
-pub view-ref : (r : Option (Bor JsonValue)) → option_map (λ x. view x.now) r ≡ option_map view (option_map (λ x. x.now) r)
-view-ref r = view_of_ref r
 
 -- a tree that is there is one of a value
 pub value_from_tree : (o : Option JsonValue) (t : Tree) → option_map view o ≡ Some t → (v : JsonValue) × (o ≡ Some v) × (view v ≡ t)

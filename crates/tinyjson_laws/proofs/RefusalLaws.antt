@@ -33,7 +33,7 @@ use Rattle.tinyjson.proofs.Grammar.Accepts.Value.{Begins, begins_append, numeral
 use Rattle.tinyjson.proofs.Grammar.Prefix.Viable.{faultless_place}
 use Rattle.tinyjson.proofs.Grammar.Step.Value.{no_text}
 use Rattle.tinyjson_laws.proofs.RefusalPlaces.{Goes, EndsKey, faultless_stands, stands_stop, run_stop, wide_stop, wide_step, Ready, awaits_ready, ready_run, ready_free}
-use Rattle.tinyjson_laws.proofs.RefusalTokens.{word_stops, word_ends, string_opens, control_stops, escape_stops, hex_stops, escape_ends, run_stops, unpaired_behind, minus_stops, zero_stops, fraction_stops, exponent_stops, signed_stops, number_ends_or}
+use Rattle.tinyjson_laws.proofs.RefusalTokens.{has_some_digit, word_stops, word_ends, string_opens, control_stops, escape_stops, hex_stops, escape_ends, run_stops, unpaired_behind, minus_stops, zero_stops, fraction_stops, exponent_stops, signed_stops, number_ends_or}
 use Rattle.tinyjson_laws.proofs.RefusalLast.{Exact, run_end, colon_exact, brace_exact, bracket_exact, behind_exact, needs_exact, closer_colon, closer_bracket, closer_brace}
 use Rattle.tinyjson_laws.specs.Refusals.{OneRefusal, OneAnswer}
 
@@ -66,10 +66,6 @@ literal_begins l zero xs h k = absurd (omega arith)
 literal_begins l (suc n) xs (inl e) k = rw e (_, _, refl, (refl, refl, refl))
 literal_begins l (suc n) xs (inr (inl e)) k = rw e (_, _, refl, (refl, refl, refl))
 literal_begins l (suc n) xs (inr (inr e)) k = rw e (_, _, refl, (refl, refl, refl))
-
-has_some_digit : (xs : List ℕ) → IsTrue (has_leading_zero xs) → 0 < length xs
-has_some_digit [] g = absurd cc
-has_some_digit (x ∷ xs) g = omega arith
 
 -- ---- a number that ends, and what its end is refused for
 

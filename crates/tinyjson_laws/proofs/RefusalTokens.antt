@@ -223,6 +223,10 @@ module _ (r : Rules) (fs : List Frame) where
   unfolding run step
   letter_signed n s rest h = rw (sign_no_digit s h, h) refl
 
+pub has_some_digit : (xs : List ℕ) → IsTrue (has_leading_zero xs) → 0 < length xs
+has_some_digit [] g = absurd cc
+has_some_digit (x ∷ xs) g = omega arith
+
 module _ (limit : Option ℕ) (fs : List Frame) where
   zero_behind : (b : Bool) (ds rest : List ℕ) → IsTrue (has_leading_zero ds) → BeginsWithNone is_ascii_digit rest → run (strictly limit) fs (digits Machine.whole (numeral b ds [] None)) rest ≡ refused LeadingZero rest
   unfolding run step end
@@ -235,10 +239,6 @@ module _ (limit : Option ℕ) (fs : List Frame) where
 
   pub zero_stops : (b : Bool) (ds rest : List ℕ) → IsTrue (has_leading_zero ds) → AreDigits ds → BeginsWithNone is_ascii_digit rest → run (strictly limit) fs awaited ((minus_text b ++ ds) ++ rest) ≡ refused LeadingZero rest
   zero_stops b ds rest h i e = rw (append_assoc (minus_text b) ds rest) (run_whole (strictly limit) fs b ds rest i (has_some_digit ds h) ∙ zero_behind b ds rest h e)
-    where
-      has_some_digit : (xs : List ℕ) → IsTrue (has_leading_zero xs) → 0 < length xs
-      has_some_digit [] g = absurd cc
-      has_some_digit (x ∷ xs) g = omega arith
 
   -- the letter of an exponent after a number without one
   letter_goes : (b : Bool) (ds f : List ℕ) (l : ℕ) (xs : List ℕ) → has_leading_zero ds ≡ false → IsTrue (is_exponent_letter l) →

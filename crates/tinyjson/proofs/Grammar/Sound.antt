@@ -55,7 +55,7 @@ unviable limit used h a = h a.0 a.1.0 (text_accepted limit (used ++ a.0) a.1.0 a
 loosely_unviable : (limit : Option ℕ) (used : List ℕ) → ((ys : List ℕ) (t : Tree) → run (loosely limit) [] awaited (used ++ ys) ≡ accepted t → ⊥) → ¬ IsLooselyViable limit used
 loosely_unviable limit used h a = h a.0 (tree_of a.1.value) (loose_accepted limit (used ++ a.0) a.1)
 
-pub no_quote_follows : (limit : Option ℕ) (used : List ℕ) (fs : List Frame) (q : Phase) → Reached limit used fs q → NoQuoteFrom limit fs q → ¬ IsLooselyViable limit (used ++ 34 ∷ [])
+no_quote_follows : (limit : Option ℕ) (used : List ℕ) (fs : List Frame) (q : Phase) → Reached limit used fs q → NoQuoteFrom limit fs q → ¬ IsLooselyViable limit (used ++ 34 ∷ [])
 no_quote_follows limit used fs q h n = loosely_unviable limit (used ++ 34 ∷ []) (λ ys t e. n ys t (sym (ap (run (loosely limit) [] awaited) (append_assoc used (34 ∷ []) ys) ∙ h false (34 ∷ ys)) ∙ e))
 
 taken_run : (b : Bool) (limit : Option ℕ) (used : List ℕ) (fs : List Frame) (q : Phase) (c : ℕ) (k : JsonParseErrorKind) → Reached limit used fs q → step (rules b limit) fs q c ≡ stop k true → (ys : List ℕ) → run (rules b limit) [] awaited ((used ++ c ∷ []) ++ ys) ≡ refused k ys

@@ -136,6 +136,7 @@ members_view_removes old new bs u updates =
     (λ n. refl)
     (sorted-remove (chars bs) (members_view old) (members_of_sorted (seen_entries old)))
 
-pub view_of_ref : (r : Option (Bor JsonValue)) → option_map (λ x. view x.now) r ≡ option_map view (option_map (λ x. x.now) r)
-view_of_ref None = refl
-view_of_ref (Some x) = refl
+-- the tree of a reference that may be there
+pub view_ref : (r : Option (Bor JsonValue)) → option_map (λ x. view x.now) r ≡ option_map view (option_map (λ x. x.now) r)
+view_ref None = refl
+view_ref (Some x) = refl

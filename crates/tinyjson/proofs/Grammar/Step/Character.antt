@@ -1,5 +1,6 @@
 -- What comes of each character, of the end, and of the whole.
 use Rattle.std.proofs.Common.{◌≡◌, ℕ, ◌<◌, Bool, true, false, List, [], ◌∷◌, ◌++◌, Option, refl, ap, sym, ◌∙◌, cond, append_assoc, append-nil, arith, length, subst, IsTrue, ◌==◌, not}
+use Rattle.std.proofs.Math.Seq.{take-append_seam, get_or-append_seam}
 use Rattle.std.specs.Char.{IsScalar}
 use Rattle.std.proofs.lemmas.Bool.{eqb-false, not-true, not-false}
 use Rattle.tinyjson.specs.private.Machine.{strictly}
@@ -33,15 +34,6 @@ use Rattle.tinyjson.specs.Tree.{no_members}
 use Rattle.tinyjson.proofs.Grammar.Step.Number.{digits_follows, minus_says, zero_says, point_says, letter_says, sign_says, range_says, IsDone, done_value, whole_done, fraction_done, exponent_done}
 use Rattle.tinyjson.proofs.Grammar.Step.String.{quoted_follows, in_string}
 use Rattle.tinyjson.proofs.Grammar.Step.First.{at_first_follows, awaited_follows}
-use Rattle.std.specs.Prelude.{slice_index, take}
-
-take_front : (xs ys : List ℕ) → take (length xs) (xs ++ ys) ≡ xs
-take_front [] ys = refl
-take_front (x ∷ xs) ys = ap (λ zs. x ∷ zs) (take_front xs ys)
-
-index_front : (xs : List ℕ) (y : ℕ) (ys : List ℕ) → slice_index (xs ++ y ∷ ys) (length xs) ≡ y
-index_front [] y ys = refl
-index_front (x ∷ xs) y ys = index_front xs y ys
 
 shorter_front : (xs : List ℕ) (y : ℕ) (ys : List ℕ) → length xs < length (xs ++ y ∷ ys)
 shorter_front xs y ys = rw (length-append xs (y ∷ ys)) (omega arith)
@@ -77,8 +69,8 @@ word_says limit p hp s done l left h c hc more d x = (
     h.literal,
     h.begun,
     rw h.whole (shorter_front done l left),
-    begins_at limit p hp _ _ (rw h.whole (rw (take_front done (l ∷ left)) (append_assoc (path_text p) done (c ∷ [])))),
-    (λ e. eqb-false c l hc (sym e ∙ rw h.whole (index_front done l left))),
+    begins_at limit p hp _ _ (rw h.whole (rw (take-append_seam done (l ∷ left)) (append_assoc (path_text p) done (c ∷ [])))),
+    (λ e. eqb-false c l hc (sym e ∙ rw h.whole (get_or-append_seam done l left 0))),
   ),
   (
     record {
@@ -140,7 +132,7 @@ begins_escape (Machine.hex ds) h = inr (inr (ds, h.1, h.0, refl))
 word_needs : (limit : Option ℕ) (p : Path) → IsPath limit p → (s : Syntax) (done left : List ℕ) → IsWord s done left → NeedsMore limit (path_text p ++ done)
 word_needs limit p hp s done [] h = absurd (omega (arith, h.more))
 word_needs limit p hp s done (l ∷ left) h =
-    inr (inr (inl (text s, length done, h.literal, h.begun, rw h.whole (shorter_front done l left), begins_at limit p hp _ _ (rw h.whole (rw (take_front done (l ∷ left)) refl)))))
+    inr (inr (inl (text s, length done, h.literal, h.begun, rw h.whole (shorter_front done l left), begins_at limit p hp _ _ (rw h.whole (rw (take-append_seam done (l ∷ left)) refl)))))
 
 needs : (limit : Option ℕ) (x : Read) → IsRead limit x → Short x → NeedsMore limit (read_text x)
 needs limit (at_first p) h i = inl (awaits_value limit p h.0)
