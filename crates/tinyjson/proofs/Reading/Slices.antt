@@ -13,7 +13,7 @@ use Rattle.std.proofs.lemmas.Bool.Decides.{nat_tests}
 use Rattle.tinyjson.specs.Characters.{is_white}
 use Rattle.tinyjson.specs.private.Scan.{is_plain}
 use Rattle.tinyjson.specs.Position.{advance, origin}
-use Rattle.tinyjson.specs.private.Slice.{before, behind, NextChar}
+use Rattle.tinyjson.specs.private.Slice.{before, behind, run_end, NextChar}
 use Rattle.tinyjson.specs.private.Slice.Laws.{line_bound, column_bound}
 use Rattle.tinyjson.proofs.Reading.Positions.{advance-append, advance-nil}
 
@@ -95,6 +95,7 @@ module _ (text : List ℕ) (utf8 : IsUtf8 text) (at : ℕ) (first : IsCharBounda
       let u : IsUtf8 (encode_utf8 c) = subst IsUtf8 one (IsUtf8-between text at (at + n) utf8 (omega arith) first char_boundary) in
       ap chars one ∙ chars_past_char (encode_utf8 c) [] c u (sym (append-nil (encode_utf8 c))) ∙ ap (λ cs. c ∷ cs) chars-nil
 
+-- a byte below 128
 pub ascii_next : (text : List ℕ) (at c : ℕ) → at < length text → get_or text at 0 ≡ c → c < 128 → NextChar text at (Some c)
 ascii_next text at c h e low =
     let one : len_utf8 c ≡ 1 = grind (arith, nat_tests) in
@@ -116,16 +117,13 @@ run_passes p (x ∷ xs) = go (p x) refl (run_passes p xs)
     go false e a = tt
 
 module _ (p : ℕ → Bool) (text : List ℕ) (at : ℕ) where
-  abbrev pub run_end : ℕ
-  run_end = at + prefix_len p (drop at text)
-
-  pub run_within : at ≤ length text → run_end ≤ length text
+  pub run_within : at ≤ length text → run_end p text at ≤ length text
   run_within h = omega (arith, prefix_len-le-length p (drop at text), length-drop at text)
 
   run_byte : (k : ℕ) → get_or (drop at text) k 0 ≡ get_or text (at + k) 0
   run_byte k = get_or-drop at text k 0
 
-  run_stops : run_end < length text → p (get_or text run_end 0) ≡ false
+  run_stops : run_end p text at < length text → p (get_or text (run_end p text at) 0) ≡ false
   run_stops h = ap p (sym (run_byte (prefix_len p (drop at text)))) ∙ prefix_len_stops p (drop at text) 0 (omega (arith, length-drop at text))
 
 -- bytes that are ASCII, as white space and digits are

@@ -112,11 +112,25 @@ plain_read limit fs cs us c n m h = let b : nat_lt c 32 ≡ false = grind (arith
 
 -- ---- a run of plain characters, before which no units stand
 
-plain_one : (limit : Option ℕ) (fs : List Frame) (cs : List ℕ) (c : ℕ) → is_plain c ≡ true → onward limit (next fs (quoted plain cs [])) c ≡ next fs (quoted plain (cs ++ c ∷ []) [])
-plain_one limit fs cs c h =
+plain_follows : (limit : Option ℕ) (fs : List Frame) (cs us : List ℕ) (c : ℕ) → is_plain c ≡ true
+    → onward limit (next fs (quoted plain cs us)) c ≡ cond (not (paired us)) (stop InvalidUtf16 true) (next fs (quoted plain ((cs ++ decode us) ++ c ∷ []) []))
+plain_follows limit fs cs us c h =
     let printed : 32 ≤ c = grind (arith, nat_tests) in
-    plain_read limit fs cs [] c (λ e. true≢false (sym h ∙ ap is_plain e)) (λ e. true≢false (sym h ∙ ap is_plain e)) printed
-    ∙ ap (λ ys. next fs (quoted plain (ys ++ c ∷ []) [])) (append-nil cs)
+    plain_read limit fs cs us c (λ e. true≢false (sym h ∙ ap is_plain e)) (λ e. true≢false (sym h ∙ ap is_plain e)) printed
+
+plain_one : (limit : Option ℕ) (fs : List Frame) (cs : List ℕ) (c : ℕ) → is_plain c ≡ true → onward limit (next fs (quoted plain cs [])) c ≡ next fs (quoted plain (cs ++ c ∷ []) [])
+plain_one limit fs cs c h = plain_follows limit fs cs [] c h ∙ ap (λ ys. next fs (quoted plain (ys ++ c ∷ []) [])) (append-nil cs)
+
+-- at a plain character the units end: each has its partner, or it is refused
+pub units_added : (limit : Option ℕ) (fs : List Frame) (cs us xs : List ℕ) (c : ℕ) → is_plain c ≡ true → paired us ≡ true → xs ≡ cs ++ decode us
+    → onward limit (next fs (quoted plain cs us)) c ≡ onward limit (next fs (quoted plain xs [])) c
+units_added limit fs cs us xs c h p x =
+    let m : List ℕ → Next = λ ys. next fs (quoted plain (ys ++ c ∷ []) []) in
+    plain_follows limit fs cs us c h ∙ ap (λ b. cond (not b) (stop InvalidUtf16 true) (m (cs ++ decode us))) p ∙ ap m (sym x) ∙ sym (plain_one limit fs xs c h)
+
+pub units_refused : (limit : Option ℕ) (fs : List Frame) (cs us : List ℕ) (c : ℕ) → is_plain c ≡ true → paired us ≡ false → onward limit (next fs (quoted plain cs us)) c ≡ stop InvalidUtf16 true
+units_refused limit fs cs us c h p =
+    plain_follows limit fs cs us c h ∙ ap (λ b. cond (not b) (stop InvalidUtf16 true) (next fs (quoted plain ((cs ++ decode us) ++ c ∷ []) []))) p
 
 plain_comes : (limit : Option ℕ) (fs : List Frame) (cs xs rest : List ℕ) → AllByRecursion (λ c. is_plain c ≡ true) xs
     → Comes limit (next fs (quoted plain cs [])) xs (next fs (quoted plain (cs ++ xs) [])) rest

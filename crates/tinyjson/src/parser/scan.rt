@@ -10,20 +10,7 @@ use super::source::is_white;
 use std::simd::prelude::*;
 
 /// The place of the first byte, at `from` or behind it, that is no white space; or the length.
-#[inline(always)]
 pub(super) fn white_end(bytes: &[u8], from: usize) -> usize
-    requires { from ≤ length bytes.now }
-    ensures { result ≡ from + prefix_len is_white (drop from bytes.now) }
-{
-    if from < bytes.len() && is_white(bytes[from] as char) {
-        return white_run(bytes, from + 1);
-    }
-    from
-}
-
-/// The same behind white space.
-#[inline(never)]
-fn white_run(bytes: &[u8], from: usize) -> usize
     requires { from ≤ length bytes.now }
     ensures { result ≡ from + prefix_len is_white (drop from bytes.now) }
 {

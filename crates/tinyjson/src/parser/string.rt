@@ -8,7 +8,7 @@ ghost use Rattle.tinyjson.specs.View.{text};
 
 use super::error::{JsonParseError, JsonParseErrorKind};
 use super::reader::Reader;
-use super::source::Source;
+use super::source::{Source, is_plain};
 use super::utf16::{decode, push};
 use std::mem;
 
@@ -55,6 +55,7 @@ impl<S: Source> Reader<S> {
         let mut units = mem::replace(&mut self.units, Vec::new(self.alloc));
         units.clear();
         while !self.piece(&mut string, &mut units)? {
+            self.settle(&mut string, &mut units)?;
             self.plain(&mut string, units.as_slice())?;
         }
         let Ok(exact) = String::from_str(self.alloc, string.as_str()) else {
@@ -63,6 +64,32 @@ impl<S: Source> Reader<S> {
         self.buffer = string;
         self.units = units;
         Ok(exact)
+    }
+
+    /// Adds the characters that the units spell, if a plain character comes next.
+    fn settle(&mut self, string: &mut String, units: &mut Vec<u16>) -> Result<(), JsonParseError>
+        ensures reads { (limit : Option ℕ) (fs : List Frame) →
+            Reads S.sight limit self.old.source (within fs string.old units.old.items false) result
+            (λ _. within fs string.new units.new.items false) self.new.source }
+        ensures left { S.left self.new.source ≤ S.left self.old.source }
+    {
+        if units.is_empty() {
+            return Ok(());
+        }
+        match self.source.peek() {
+            Some(c) if is_plain(c) => match decode(units, string) {
+                Ok(true) => {
+                    units.clear();
+                    Ok(())
+                }
+                Ok(false) => {
+                    self.source.bump();
+                    Err(self.refuse(JsonParseErrorKind::InvalidUtf16))
+                }
+                Err(_) => Err(self.refuse(JsonParseErrorKind::OutOfMemory)),
+            },
+            _ => Ok(()),
+        }
     }
 
     /// Reads the plain characters that come next, unless units stand before them.

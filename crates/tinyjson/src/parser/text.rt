@@ -1,8 +1,9 @@
 //! The characters of a text in memory, read where they lie.
 ghost use Rattle.std.specs.Prelude.{◌≡◌, ◌-◌, length, slice_get};
 ghost use Rattle.std.specs.Str.{IsUtf8, IsCharBoundary, chars};
+ghost use Rattle.tinyjson.specs.Characters.{is_white};
 ghost use Rattle.tinyjson.specs.Position.{advance, position_at, origin};
-ghost use Rattle.tinyjson.specs.private.Slice.{before, behind, NextChar};
+ghost use Rattle.tinyjson.specs.private.Slice.{before, behind, run_end, NextChar};
 ghost use Rattle.tinyjson.specs.private.Slice.Laws.{line_bound, column_bound, shown_once, shown_first, nothing_left};
 
 use super::cursor::moved;
@@ -26,6 +27,17 @@ impl<'a> TextBytes<'a> {
         ensures start { advance origin (before result.text.now result.at) ≡ origin }
     {
         TextBytes { text, at: 0 }
+    }
+
+    /// Passes over white space, and shows what follows it.
+    #[inline(never)]
+    fn behind_white(&mut self) -> Option<char>
+        ensures text { self.new.text.now ≡ self.old.text.now }
+        ensures at { self.new.at ≡ run_end is_white self.old.text.now self.old.at }
+        ensures next { NextChar self.new.text.now self.new.at result }
+    {
+        self.at = white_end(self.text.as_bytes(), self.at);
+        self.first()
     }
 
     /// The next character.
@@ -71,8 +83,11 @@ impl<'a> Source for TextBytes<'a> {
     }
 
     fn skip_white(&mut self) -> Option<char> {
-        self.at = white_end(self.text.as_bytes(), self.at);
-        self.first()
+        let bytes = self.text.as_bytes();
+        if self.at < bytes.len() && bytes[self.at] > b' ' && bytes[self.at] < 128 {
+            return Some(bytes[self.at] as char);
+        }
+        self.behind_white()
     }
 
     fn plain(&mut self, string: &mut String) -> Result<(), AllocError> {

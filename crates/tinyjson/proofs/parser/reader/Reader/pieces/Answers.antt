@@ -24,14 +24,23 @@ returns-in_err-piece-clause-reads g c = λ limit fs.
     let p = err_from_is_err_and c.from_residual.result c.from_residual.ensures.1 in
     rw (p.1, p.2) (Refuses-after sight limit _ _ _ _ (c.loop-units.invariant.reads limit fs) (c.in_err-piece.ensures.reads limit fs))
 
+pub returns-in_err-settle-clause-reads : goal.returns-in_err-settle-clause-reads
+returns-in_err-settle-clause-reads g c = λ limit fs.
+    let sight = g.S.Source.sight in
+    let p = err_from_is_err_and c.from_residual-in_err-settle.result c.from_residual-in_err-settle.ensures.1 in
+    let a = ap (within fs c.piece.new.string c.piece.new.units.items) c.if-not-branch.true in
+    let l = Leads-trans sight limit _ _ _ (c.loop-units.invariant.reads limit fs) (Leads-to sight limit _ _ (c.in_ok-piece.ensures.reads limit fs) a) in
+    rw (p.1, p.2) (Refuses-after sight limit _ _ _ _ l (c.in_err-settle.ensures.reads limit fs))
+
 pub returns-in_err-plain-clause-reads : goal.returns-in_err-plain-clause-reads
 returns-in_err-plain-clause-reads g c = λ limit fs.
     let sight = g.S.Source.sight in
     let p = err_from_is_err_and c.from_residual-in_err-plain.result c.from_residual-in_err-plain.ensures.1 in
     let a = ap (within fs c.piece.new.string c.piece.new.units.items) c.if-not-branch.true in
-    let b = ap (λ us. next fs (quoted plain (text c.piece.new.string) us)) (sym c.as_slice.ensures.value) in
-    let l = Leads-trans sight limit _ _ _ (c.loop-units.invariant.reads limit fs) (Leads-to sight limit _ _ (c.in_ok-piece.ensures.reads limit fs) (a ∙ b)) in
-    rw (p.1, p.2) (Refuses-after sight limit _ _ _ _ l (c.in_err-plain.ensures.reads limit fs))
+    let b = ap (λ us. next fs (quoted plain (text c.settle.new.string) us)) (sym c.as_slice.ensures.value) in
+    let l = Leads-trans sight limit _ _ _ (c.loop-units.invariant.reads limit fs) (Leads-to sight limit _ _ (c.in_ok-piece.ensures.reads limit fs) a) in
+    let m = Leads-trans sight limit _ _ _ l (Leads-to sight limit _ _ (c.in_ok-settle.ensures.reads limit fs) b) in
+    rw (p.1, p.2) (Refuses-after sight limit _ _ _ _ m (c.in_err-plain.ensures.reads limit fs))
 
 pub loop-units-preserved : goal.loop-units-preserved
 loop-units-preserved g c =
@@ -39,11 +48,12 @@ loop-units-preserved g c =
     record {
       reads = λ limit fs.
           let a = ap (within fs c.piece.new.string c.piece.new.units.items) c.if-not-branch.true in
-          let b = ap (λ us. next fs (quoted plain (text c.piece.new.string) us)) (sym c.as_slice.ensures.value) in
+          let b = ap (λ us. next fs (quoted plain (text c.settle.new.string) us)) (sym c.as_slice.ensures.value) in
           let d = ap (λ us. next fs (quoted plain (text c.plain.new.string) us)) c.as_slice.ensures.value in
-          let l = Leads-trans sight limit _ _ _ (c.loop-units.invariant.reads limit fs) (Leads-to sight limit _ _ (c.in_ok-piece.ensures.reads limit fs) (a ∙ b)) in
-          Leads-trans sight limit _ _ _ l (Leads-to sight limit _ _ (c.in_ok-plain.ensures.reads limit fs) d);
-      left = omega (arith, c.piece.ensures.left, c.plain.ensures.left, c.loop-units.invariant.left);
+          let l = Leads-trans sight limit _ _ _ (c.loop-units.invariant.reads limit fs) (Leads-to sight limit _ _ (c.in_ok-piece.ensures.reads limit fs) a) in
+          let m = Leads-trans sight limit _ _ _ l (Leads-to sight limit _ _ (c.in_ok-settle.ensures.reads limit fs) b) in
+          Leads-trans sight limit _ _ _ m (Leads-to sight limit _ _ (c.in_ok-plain.ensures.reads limit fs) d);
+      left = omega (arith, c.piece.ensures.left, c.settle.ensures.left, c.plain.ensures.left, c.loop-units.invariant.left);
     }
 
 pub returns-in_default-clause-reads : goal.returns-in_default-clause-reads

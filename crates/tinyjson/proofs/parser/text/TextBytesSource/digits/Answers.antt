@@ -4,8 +4,8 @@ use Rattle.std.proofs.lemmas.Result.{err_from_is_err_and}
 use Rattle.std.proofs.lemmas.Str.{IsUtf8-had}
 use Rattle.std.specs.Char.{is_ascii_digit}
 use Rattle.std.specs.List.{prefix_len}
-use Rattle.tinyjson.specs.private.Slice.{before, behind}
-use Rattle.tinyjson.proofs.Reading.Slices.{between, run_end, digit_small, ascii_boundary, ascii_between, ascii_bytes, ascii_ends, stay_moves, step_gives, step_moves}
+use Rattle.tinyjson.specs.private.Slice.{before, behind, run_end}
+use Rattle.tinyjson.proofs.Reading.Slices.{between, digit_small, ascii_boundary, ascii_between, ascii_bytes, ascii_ends, stay_moves, step_gives, step_moves}
 use Rattle.tinyjson.proofs.parser.text.TextBytesSource.digits.Goals as goal
 
 pub range-requires-clause-end_boundary : goal.range-requires-clause-end_boundary

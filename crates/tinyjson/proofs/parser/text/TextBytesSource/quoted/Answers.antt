@@ -4,9 +4,9 @@ use Rattle.std.proofs.lemmas.Str.{IsUtf8-had}
 use Rattle.std.specs.List.{prefix_len}
 use Rattle.std.specs.Str.{chars}
 use Rattle.tinyjson.specs.private.Scan.{is_plain}
-use Rattle.tinyjson.specs.private.Slice.{before}
+use Rattle.tinyjson.specs.private.Slice.{before, run_end}
 use Rattle.tinyjson.specs.View.{text}
-use Rattle.tinyjson.proofs.Reading.Slices.{between, run_end, plain_high, plain_between, quote_boundary, quote_between, stay_moves, step_gives, step_moves}
+use Rattle.tinyjson.proofs.Reading.Slices.{between, plain_high, plain_between, quote_boundary, quote_between, stay_moves, step_gives, step_moves}
 use Rattle.tinyjson.proofs.parser.text.TextBytesSource.quoted.Goals as goal
 
 pub returns-in_err-string-clause-quoted : goal.returns-in_err-string-clause-quoted

@@ -3,7 +3,7 @@ use lib.Count.{count_trailing_zeros}
 use Rattle.tinyjson.specs.Characters.{is_white}
 use Rattle.tinyjson.specs.private.Scan.{is_no_white}
 use Rattle.tinyjson.proofs.Scans.{opposite, run_through, run_stops}
-use Rattle.tinyjson.proofs.parser.scan.white_run.Goals as goal
+use Rattle.tinyjson.proofs.parser.scan.white_end.Goals as goal
 
 pub returns-then-found-ne0 : goal.returns-then-found-ne0
 returns-then-found-ne0 c =
