@@ -20,3 +20,4 @@ pub mod HeadlineLaws
 pub mod ValueLaws
 pub mod CallLaws
 pub mod Refutations
+pub mod StringLaws

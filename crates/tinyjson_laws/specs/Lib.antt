@@ -10,3 +10,4 @@ pub mod Refusals
 pub mod Positions
 pub mod Values
 pub mod Calls
+pub mod Strings

@@ -16,6 +16,7 @@ pub mod prefixes;
 pub mod reading;
 pub mod refusals;
 pub mod round_trips;
+pub mod strings;
 pub mod values;
 pub mod white_space;
 pub mod writing;
