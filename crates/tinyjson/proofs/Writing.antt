@@ -9,5 +9,6 @@ pub mod Bytes
 pub mod Pending
 pub mod Scalars
 pub mod Quotes
+pub mod Runs
 pub mod Sorted
 pub mod Text

@@ -20,7 +20,7 @@ use Rattle.tinyjson.proofs.Writing.Sending.{goes, stop, stops, written_more, wri
 use Rattle.tinyjson.proofs.Writing.Bytes.{enc, enc_cons, closed, three}
 use Rattle.tinyjson.proofs.Writing.Quotes.{quoted_bytes}
 use Rattle.tinyjson.proofs.Writing.Sorted.{Entry}
-use Rattle.tinyjson.proofs.Writing.Text.{member_text, some_members}
+use Rattle.tinyjson.proofs.Writing.Text.{member_text, some_members, enc_separator}
 
 -- ---- lists
 
@@ -158,10 +158,6 @@ module _ (w : Option (List ℕ)) where
   is_compact None b e t = refl
   is_compact (Some i) true e t = absurd cc
   is_compact (Some i) false e t = absurd cc
-
-  enc_separator : (first : Bool) → enc (separator first ++ []) ≡ separator first
-  enc_separator true = refl
-  enc_separator false = enc_cons 44 [] (omega arith)
 
   pieces_joined : (a b c d : List ℕ) → a ++ (b ++ (c ++ d)) ≡ (a ++ (b ++ c)) ++ d
   pieces_joined a b c d = simp append_assoc

@@ -1,21 +1,17 @@
 -- The texts of containers as bytes, piece by piece.
-use Rattle.std.proofs.Common.{◌≡◌, ℕ, suc, ◌+◌, Bool, true, false, Option, List, [], ◌∷◌, ◌++◌, length, get_or, drop, ◌-◌, refl, sym, ◌∙◌, ap, append_assoc, String, string_bytes, arith, subst, ◌<◌}
-use Rattle.std.specs.Borrow.{Bor}
+use Rattle.std.proofs.Common.{◌≡◌, ℕ, suc, ◌+◌, Bool, true, false, Option, List, [], ◌∷◌, ◌++◌, length, ◌-◌, refl, ◌∙◌, ap, String, string_bytes, arith, ◌<◌}
 use Rattle.std.specs.declared.alloc.Global.{Global}
 use Rattle.std.specs.Str.{chars, IsUtf8}
 use Rattle.std.specs.Bool.{nat_eq}
 use Rattle.std.proofs.lemmas.Str.{encodes-append, encodes-chars}
-use Rattle.std.proofs.lemmas.List.{at_drop_more}
 use Rattle.std.proofs.lemmas.Bool.Decides.{nat_tests}
 use Rattle.tinyjson.specs.declared.value.JsonValue.{JsonValue}
-use Rattle.tinyjson.specs.Written.{Written}
-use Rattle.tinyjson.specs.Text.{text, repeated, items_text, members_text, before, separator, newline, closing, after_colon, quoted, has_no_items, has_no_members}
+use Rattle.tinyjson.specs.Text.{text, repeated, separator, after_colon, quoted, has_no_items, has_no_members}
 use Rattle.std.specs.Ordering.{nat_cmp, match_ordering}
 use Rattle.std.specs.Cmp.Lexicographic.{slice_cmp}
 use Rattle.std.specs.declared.cmp.Ordering.TheVariants.{Less, Equal, Greater}
-use Rattle.tinyjson.specs.Tree.{Tree, array, object, Members, no_members, member, put}
+use Rattle.tinyjson.specs.Tree.{Tree, Members, no_members, member, put}
 use Rattle.tinyjson.specs.View.{view, items_view, members_view}
-use Rattle.tinyjson.specs.private.Sorted.{sorted_view}
 use Rattle.tinyjson.proofs.Writing.Bytes.{enc, enc_cons}
 
 -- what stands before an item
@@ -24,6 +20,10 @@ comma_here first n e = ap (λ b. enc (separator b ++ n)) e ∙ enc_cons 44 n (om
 
 pub no_comma : (first : Bool) (n : List ℕ) → first ≡ true → enc (separator first ++ n) ≡ enc n
 no_comma first n e = ap (λ b. enc (separator b ++ n)) e
+
+pub enc_separator : (first : Bool) → enc (separator first ++ []) ≡ separator first
+enc_separator true = refl
+enc_separator false = enc_cons 44 [] (omega arith)
 
 -- a member's text: the key, the colon and the value
 abbrev pub member_text : Option (List ℕ) → ℕ → List ℕ → JsonValue → List ℕ

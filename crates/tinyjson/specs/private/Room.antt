@@ -17,6 +17,10 @@ pub record Sent (old new : Output) (bytes rest : List ℕ) : Type 0 where
   pub split : bytes ≡ done ++ rest
   pub written : Written old.0 new.0 (old.1 ++ done) new.1
 
+-- all but the rest of the bytes waits behind what waited, and none is written
+abbrev pub Waits : List ℕ → List ℕ → List ℕ → List ℕ → Type 0
+Waits old new bytes rest = (held : Option (List ℕ)) → Sent (held, old) (held, new) bytes rest
+
 -- a beginning of what waited and of the bytes is written
 pub record SentPart (old new : Output) (bytes : List ℕ) : Type 0 where
   pub part : WrittenPart old.0 new.0 (old.1 ++ bytes)

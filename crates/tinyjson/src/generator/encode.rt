@@ -1,19 +1,20 @@
 //! Values, compact and indented.
-ghost use Rattle.std.specs.Prelude.{◌≡◌, ◌++◌, ◌∷◌, ◌+◌, ◌-◌, ◌<◌, ℕ, [], List, Option, None, Some, true, length, reverse};
+ghost use Rattle.std.specs.Prelude.{◌≡◌, ◌++◌, ◌∷◌, ◌+◌, ◌-◌, ◌<◌, ◌≤◌, ℕ, [], List, None, Some, length, reverse, take, drop};
 ghost use Rattle.std.specs.Str.{chars, encode_utf8_all};
 ghost use Rattle.tinyjson.specs.Indent.{indent_of};
 ghost use Rattle.tinyjson.specs.private.Pending.{Gathered, IsStack, frames, owed, Advances, Begins};
-ghost use Rattle.tinyjson.specs.Text.{text, quoted, before, newline, after_colon};
+ghost use Rattle.tinyjson.specs.Text.{text, items_text, members_text, quoted, before, newline, after_colon};
 ghost use Rattle.tinyjson.specs.Tree.{array, object, boolean as boolean_tree};
 ghost use Rattle.tinyjson.specs.View.{view, items_view, members_view};
-ghost use Rattle.tinyjson.specs.private.Room.{waiting, Sends, SendsText};
+ghost use Rattle.tinyjson.specs.private.Room.{waiting, Waits, Sends, SendsText};
+ghost use Rattle.tinyjson.specs.private.Sorted.{sorted_view};
 ghost use Rattle.tinyjson.specs.Written.{WritesText};
 ghost use Rattle.tinyjson.specs.declared.generator.pending.Frame.TheVariants.{Items, Member, Members};
 
 use super::number::write_number;
 use super::output::{Room, flush, write_bytes};
 use super::pending::{Frame, Stack};
-use super::quick::{quick_key, quick_value};
+use super::quick::{quick_items, quick_key, quick_member, quick_members, quick_value};
 use super::quote::quote;
 use super::sorted::{gather_sorted, next_member};
 use crate::value::JsonValue;
@@ -45,7 +46,7 @@ impl Encoder<'_> {
             (text (indent_of self.now.indent) 0 (view value.now)) result }
     {
         let mut gathered = Vec::new(self.alloc);
-        match begin(out, room, &mut gathered, value)? {
+        match self.begin(out, room, &mut gathered, value)? {
             None => Ok(()),
             Some(frame) => self.finish(out, room, gathered, frame),
         }
@@ -149,8 +150,7 @@ impl Encoder<'_> {
             (Items items.entry first ∷ frames stack.old) (reverse gathered.old.items) result
             stack.new (reverse gathered.new.items) }
     {
-        let mut rest = items;
-        let mut first = first;
+        let (mut rest, mut first) = self.run_of_items(room, items, first);
         while let Some((item, others)) = rest.split_first() {
             let begun = self.item(out, room, gathered, item, level, first)?;
             rest = others;
@@ -159,6 +159,7 @@ impl Encoder<'_> {
                 Some(inner) => return Ok(stack.enter(Frame::Items { rest, first }, inner)?),
                 None => {}
             }
+            (rest, first) = self.run_of_items(room, rest, first);
         }
         self.close(out, room, level, b"]")
     }
@@ -180,8 +181,7 @@ impl Encoder<'_> {
             (Members left first ∷ frames stack.old) (reverse gathered.old.items) result stack.new
             (reverse gathered.new.items) }
     {
-        let mut left = left;
-        let mut first = first;
+        let (mut left, mut first) = self.run_of_members(room, gathered, left, first);
         while let Some((key, value)) = next_member(gathered, left) {
             let begun = self.member(out, room, gathered, key, value, level, first)?;
             left -= 1;
@@ -190,6 +190,7 @@ impl Encoder<'_> {
                 Some(inner) => return Ok(stack.enter(Frame::Members { left, first }, inner)?),
                 None => {}
             }
+            (left, first) = self.run_of_members(room, gathered, left, first);
         }
         self.close(out, room, level, b"}")
     }
@@ -211,7 +212,7 @@ impl Encoder<'_> {
             (reverse gathered.old.items) result (reverse gathered.new.items) }
     {
         self.separate(out, room, level, first)?;
-        begin(out, room, gathered, value)
+        self.begin(out, room, gathered, value)
     }
 
     // The same of a member.
@@ -234,12 +235,12 @@ impl Encoder<'_> {
             (reverse gathered.old.items) result (reverse gathered.new.items) }
     {
         if quick_key(room, self.indent.is_none(), first, key) {
-            return begin(out, room, gathered, value);
+            return self.begin(out, room, gathered, value);
         }
         self.separate(out, room, level, first)?;
         quote(out, room, key)?;
         self.colon(out, room)?;
-        begin(out, room, gathered, value)
+        self.begin(out, room, gathered, value)
     }
 
     // Writes the bracket of a container whose items stand at the level.
@@ -258,6 +259,159 @@ impl Encoder<'_> {
     {
         self.newline(out, room, level - 1)?;
         write_bytes(out, room, bracket)
+    }
+
+    // Writes a value that holds no other. Of others it writes the opening bracket and what fits at
+    // once, and answers what they owe then.
+    #[inline(always)]
+    fn begin<'a, W: Write>(
+        &self,
+        out: &mut W,
+        room: &mut Room,
+        gathered: &mut Vec<(&'a str, &'a JsonValue)>,
+        value: &'a JsonValue,
+    ) -> io::Result<Option<Frame<'a>>>
+        ensures { (k : ℕ) → Begins (indent_of self.now.indent) k
+            (W.contents out.old, waiting room.old) (W.contents out.new, waiting room.new)
+            (encode_utf8_all (text (indent_of self.now.indent) k (view value.now)))
+            (reverse gathered.old.items) result (reverse gathered.new.items) }
+    {
+        if quick_value(room, value) {
+            return Ok(None);
+        }
+        self.begin_slowly(out, room, gathered, value)
+    }
+
+    // The same where the text is long, or holds other texts.
+    #[inline(never)]
+    fn begin_slowly<'a, W: Write>(
+        &self,
+        out: &mut W,
+        room: &mut Room,
+        gathered: &mut Vec<(&'a str, &'a JsonValue)>,
+        value: &'a JsonValue,
+    ) -> io::Result<Option<Frame<'a>>>
+        ensures { (k : ℕ) → Begins (indent_of self.now.indent) k
+            (W.contents out.old, waiting room.old) (W.contents out.new, waiting room.new)
+            (encode_utf8_all (text (indent_of self.now.indent) k (view value.now)))
+            (reverse gathered.old.items) result (reverse gathered.new.items) }
+    {
+        match value {
+            JsonValue::Null => write_bytes(out, room, b"null")?,
+            JsonValue::Boolean(value) => write_boolean(out, room, *value)?,
+            JsonValue::Number(number) => write_number(out, room, number)?,
+            JsonValue::String(text) => quote(out, room, text)?,
+            JsonValue::Array(items) => return self.begin_array(out, room, items),
+            JsonValue::Object(members) => return self.begin_object(out, room, gathered, members),
+        }
+        Ok(None)
+    }
+
+    fn begin_array<'a, W: Write>(
+        &self,
+        out: &mut W,
+        room: &mut Room,
+        items: &'a [JsonValue],
+    ) -> io::Result<Option<Frame<'a>>>
+        ensures { (k : ℕ) (gs : List Gathered) → Begins (indent_of self.now.indent) k
+            (W.contents out.old, waiting room.old) (W.contents out.new, waiting room.new)
+            (encode_utf8_all (text (indent_of self.now.indent) k (array (items_view items.now))))
+            gs result gs }
+    {
+        if items.is_empty() {
+            write_bytes(out, room, b"[]")?;
+            return Ok(None);
+        }
+        write_bytes(out, room, b"[")?;
+        let (rest, first) = self.run_of_items(room, items, true);
+        if rest.is_empty() && self.indent.is_none() {
+            write_bytes(out, room, b"]")?;
+            return Ok(None);
+        }
+        Ok(Some(Frame::Items { rest, first }))
+    }
+
+    // One member alone needs no order, and so no memory.
+    fn begin_object<'a, W: Write>(
+        &self,
+        out: &mut W,
+        room: &mut Room,
+        gathered: &mut Vec<(&'a str, &'a JsonValue)>,
+        members: &'a HashMap<String, JsonValue>,
+    ) -> io::Result<Option<Frame<'a>>>
+        ensures { (k : ℕ) → Begins (indent_of self.now.indent) k
+            (W.contents out.old, waiting room.old) (W.contents out.new, waiting room.new)
+            (encode_utf8_all (text (indent_of self.now.indent) k
+            (object (members_view members.now.entries))))
+            (reverse gathered.old.items) result (reverse gathered.new.items) }
+    {
+        if members.len() > 1 {
+            write_bytes(out, room, b"{")?;
+            gather_sorted(gathered, members)?;
+            let (left, first) = self.run_of_members(room, gathered, members.len(), true);
+            if left == 0 && self.indent.is_none() {
+                write_bytes(out, room, b"}")?;
+                return Ok(None);
+            }
+            return Ok(Some(Frame::Members { left, first }));
+        }
+        let Some((key, value)) = members.iter().next() else {
+            write_bytes(out, room, b"{}")?;
+            return Ok(None);
+        };
+        write_bytes(out, room, b"{")?;
+        let key = key.as_str();
+        if quick_member(room, self.indent.is_none(), true, key, value) {
+            write_bytes(out, room, b"}")?;
+            return Ok(None);
+        }
+        Ok(Some(Frame::Member { key, value }))
+    }
+
+    // In compact text, the items at the front that hold no others, as far as they fit. Gives the items
+    // that are left, and whether none stands before them.
+    #[inline(always)]
+    fn run_of_items<'a>(
+        &self,
+        room: &mut Room,
+        items: &'a [JsonValue],
+        first: bool,
+    ) -> (&'a [JsonValue], bool)
+        ensures waits { (k : ℕ) → Waits (waiting room.old) (waiting room.new)
+            (encode_utf8_all (items_text (indent_of self.now.indent) k first
+            (items_view items.now)))
+            (encode_utf8_all (items_text (indent_of self.now.indent) k result.1
+            (items_view result.0.now))) }
+        ensures less { length result.0.now ≤ length items.now }
+    {
+        match self.indent {
+            None => quick_items(room, items, first),
+            Some(_) => (items, first),
+        }
+    }
+
+    // The same of so many gathered members.
+    #[inline(always)]
+    fn run_of_members<'a>(
+        &self,
+        room: &mut Room,
+        gathered: &mut Vec<(&'a str, &'a JsonValue)>,
+        left: usize,
+        first: bool,
+    ) -> (usize, bool)
+        ensures waits { (k : ℕ) → Waits (waiting room.old) (waiting room.new)
+            (encode_utf8_all (members_text (indent_of self.now.indent) k first
+            (sorted_view (take left (reverse gathered.old.items)))))
+            (encode_utf8_all (members_text (indent_of self.now.indent) k result.1
+            (sorted_view (take result.0 (reverse gathered.new.items))))) }
+        ensures others { drop result.0 (reverse gathered.new.items)
+            ≡ drop left (reverse gathered.old.items) }
+        ensures less { result.0 ≤ left }
+    {
+        match self.indent {
+            None => quick_members(room, gathered, left, first),
+            Some(_) => (left, first),
+        }
     }
 
     // What stands before an item or a member.
@@ -302,99 +456,6 @@ impl Encoder<'_> {
             Some(_) => write_bytes(out, room, b": "),
         }
     }
-}
-
-// Writes a value that holds no other. Of others it writes the opening bracket, and answers what they
-// owe then.
-#[inline(always)]
-fn begin<'a, W: Write>(
-    out: &mut W,
-    room: &mut Room,
-    gathered: &mut Vec<(&'a str, &'a JsonValue)>,
-    value: &'a JsonValue,
-) -> io::Result<Option<Frame<'a>>>
-    ensures { (w : Option (List ℕ)) (k : ℕ) → Begins w k
-        (W.contents out.old, waiting room.old) (W.contents out.new, waiting room.new)
-        (encode_utf8_all (text w k (view value.now))) (reverse gathered.old.items) result
-        (reverse gathered.new.items) }
-{
-    if quick_value(room, value) {
-        return Ok(None);
-    }
-    begin_slowly(out, room, gathered, value)
-}
-
-// The same where the text is long, or holds other texts.
-#[inline(never)]
-fn begin_slowly<'a, W: Write>(
-    out: &mut W,
-    room: &mut Room,
-    gathered: &mut Vec<(&'a str, &'a JsonValue)>,
-    value: &'a JsonValue,
-) -> io::Result<Option<Frame<'a>>>
-    ensures { (w : Option (List ℕ)) (k : ℕ) → Begins w k
-        (W.contents out.old, waiting room.old) (W.contents out.new, waiting room.new)
-        (encode_utf8_all (text w k (view value.now))) (reverse gathered.old.items) result
-        (reverse gathered.new.items) }
-{
-    match value {
-        JsonValue::Null => write_bytes(out, room, b"null")?,
-        JsonValue::Boolean(value) => write_boolean(out, room, *value)?,
-        JsonValue::Number(number) => write_number(out, room, number)?,
-        JsonValue::String(text) => quote(out, room, text)?,
-        JsonValue::Array(items) => return begin_array(out, room, items),
-        JsonValue::Object(members) => return begin_object(out, room, gathered, members),
-    }
-    Ok(None)
-}
-
-fn begin_array<'a, W: Write>(
-    out: &mut W,
-    room: &mut Room,
-    items: &'a [JsonValue],
-) -> io::Result<Option<Frame<'a>>>
-    ensures { (w : Option (List ℕ)) (k : ℕ) (gs : List Gathered) → Begins w k
-        (W.contents out.old, waiting room.old) (W.contents out.new, waiting room.new)
-        (encode_utf8_all (text w k (array (items_view items.now)))) gs result gs }
-{
-    if items.is_empty() {
-        write_bytes(out, room, b"[]")?;
-        return Ok(None);
-    }
-    write_bytes(out, room, b"[")?;
-    Ok(Some(Frame::Items {
-        rest: items,
-        first: true,
-    }))
-}
-
-// One member alone needs no order, and so no memory.
-fn begin_object<'a, W: Write>(
-    out: &mut W,
-    room: &mut Room,
-    gathered: &mut Vec<(&'a str, &'a JsonValue)>,
-    members: &'a HashMap<String, JsonValue>,
-) -> io::Result<Option<Frame<'a>>>
-    ensures { (w : Option (List ℕ)) (k : ℕ) → Begins w k
-        (W.contents out.old, waiting room.old) (W.contents out.new, waiting room.new)
-        (encode_utf8_all (text w k (object (members_view members.now.entries))))
-        (reverse gathered.old.items) result (reverse gathered.new.items) }
-{
-    if members.len() > 1 {
-        write_bytes(out, room, b"{")?;
-        gather_sorted(gathered, members)?;
-        return Ok(Some(Frame::Members {
-            left: members.len(),
-            first: true,
-        }));
-    }
-    let Some((key, value)) = members.iter().next() else {
-        write_bytes(out, room, b"{}")?;
-        return Ok(None);
-    };
-    write_bytes(out, room, b"{")?;
-    let key = key.as_str();
-    Ok(Some(Frame::Member { key, value }))
 }
 
 // A line feed, and the indent of the next line.

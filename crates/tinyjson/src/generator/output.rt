@@ -1,5 +1,5 @@
 //! The bytes that wait, and the write loop.
-ghost use Rattle.std.specs.Prelude.{◌≡◌, ◌≤◌, ◌+◌, ◌++◌, [], length, IsTrue, OnOk};
+ghost use Rattle.std.specs.Prelude.{◌≡◌, ◌≤◌, ◌+◌, ◌++◌, [], length, take, IsTrue, OnOk};
 ghost use Rattle.tinyjson.specs.private.Room.{waiting, Sends};
 ghost use Rattle.tinyjson.specs.Written.{WritesPrefix};
 
@@ -36,6 +36,22 @@ impl Room {
         let end = len + bytes.len();
         self.bytes[len..end].copy_from_slice(bytes);
         self.len = end;
+    }
+
+    // How many bytes wait.
+    #[inline(always)]
+    pub(super) fn len(&self) -> usize
+        ensures { result ≡ length (waiting self.now) }
+    {
+        self.len.min(ROOM)
+    }
+
+    // Lets only so many bytes wait, the first of them.
+    #[inline(always)]
+    pub(super) fn truncate(&mut self, len: usize)
+        ensures { waiting self.new ≡ take len (waiting self.old) }
+    {
+        self.len = self.len.min(len);
     }
 
     // Whether so many more bytes can wait.

@@ -1,13 +1,15 @@
 //! Short texts, which wait as a whole, or not at all.
-ghost use Rattle.std.specs.Prelude.{◌≡◌, ◌≤◌, ◌++◌, ◌∷◌, [], ℕ, List, Option, IsTrue, length};
+ghost use Rattle.std.specs.Prelude.{◌≡◌, ◌≤◌, ◌++◌, ◌∷◌, [], ℕ, List, Option, None, IsTrue, length, take, drop, reverse};
 ghost use Rattle.std.specs.Bool.{MatchBool};
-ghost use Rattle.std.specs.Str.{encode_utf8_all};
+ghost use Rattle.std.specs.Str.{chars, encode_utf8_all};
 ghost use Rattle.tinyjson_number.specs.Text.{decimal_text};
-ghost use Rattle.tinyjson.specs.private.Room.{waiting};
-ghost use Rattle.tinyjson.specs.Text.{escapes, separator, text};
-ghost use Rattle.tinyjson.specs.View.{view};
+ghost use Rattle.tinyjson.specs.private.Room.{waiting, Waits};
+ghost use Rattle.tinyjson.specs.private.Sorted.{sorted_view};
+ghost use Rattle.tinyjson.specs.Text.{escapes, items_text, members_text, quoted, separator, text};
+ghost use Rattle.tinyjson.specs.View.{view, items_view};
 
 use super::output::Room;
+use super::sorted::{first_member, next_member};
 use crate::number::JsonNumber;
 use crate::scan::plain_end;
 use crate::value::JsonValue;
@@ -22,8 +24,129 @@ pub(super) fn quick_value(room: &mut Room, value: &JsonValue) -> bool
     match value {
         JsonValue::Number(number) => quick_number(room, number),
         JsonValue::String(text) => quick_text(room, text.as_bytes()),
+        JsonValue::Boolean(true) => quick_word(room, b"true"),
+        JsonValue::Boolean(false) => quick_word(room, b"false"),
+        JsonValue::Null => quick_word(room, b"null"),
         _ => false,
     }
+}
+
+#[inline(always)]
+fn quick_word(room: &mut Room, word: &[u8]) -> bool
+    ensures { MatchBool result
+        (waiting room.new ≡ waiting room.old ++ word.now)
+        (waiting room.new ≡ waiting room.old) }
+{
+    let fits = room.has_room(word.len());
+    if fits {
+        room.append(word);
+    }
+    fits
+}
+
+// The items at the front that hold no others, in compact text, as far as they fit. Gives the items
+// that are left, and whether none stands before them.
+#[inline(always)]
+pub(super) fn quick_items<'a>(
+    room: &mut Room,
+    items: &'a [JsonValue],
+    first: bool,
+) -> (&'a [JsonValue], bool)
+    ensures waits { (k : ℕ) → Waits (waiting room.old) (waiting room.new)
+        (encode_utf8_all (items_text None k first (items_view items.now)))
+        (encode_utf8_all (items_text None k result.1 (items_view result.0.now))) }
+    ensures less { length result.0.now ≤ length items.now }
+{
+    let mut rest = items;
+    let mut first = first;
+    while let Some((item, others)) = rest.split_first() {
+        if !quick_item(room, first, item) {
+            return (rest, first);
+        }
+        rest = others;
+        first = false;
+    }
+    (rest, first)
+}
+
+// A comma, but not before the first item, and the item.
+#[inline(always)]
+fn quick_item(room: &mut Room, first: bool, item: &JsonValue) -> bool
+    ensures { (k : ℕ) → MatchBool result
+        (waiting room.new ≡ waiting room.old
+        ++ (separator first ++ encode_utf8_all (text None k (view item.now))))
+        (waiting room.new ≡ waiting room.old) }
+{
+    if !room.has_room(1) {
+        return false;
+    }
+    let len = room.len();
+    if !first {
+        room.append(b",");
+    }
+    if quick_value(room, item) {
+        return true;
+    }
+    room.truncate(len);
+    false
+}
+
+// The same of the members that are left to an object.
+#[inline(always)]
+pub(super) fn quick_members<'a>(
+    room: &mut Room,
+    gathered: &mut Vec<(&'a str, &'a JsonValue)>,
+    count: usize,
+    first: bool,
+) -> (usize, bool)
+    ensures waits { (k : ℕ) → Waits (waiting room.old) (waiting room.new)
+        (encode_utf8_all (members_text None k first
+        (sorted_view (take count (reverse gathered.old.items)))))
+        (encode_utf8_all (members_text None k result.1
+        (sorted_view (take result.0 (reverse gathered.new.items))))) }
+    ensures others { drop result.0 (reverse gathered.new.items)
+        ≡ drop count (reverse gathered.old.items) }
+    ensures less { result.0 ≤ count }
+{
+    let mut left = count;
+    let mut first = first;
+    while let Some((key, value)) = first_member(gathered, left) {
+        if !quick_member(room, true, first, key, value) {
+            return (left, first);
+        }
+        let _written = next_member(gathered, left);
+        left -= 1;
+        first = false;
+    }
+    (left, first)
+}
+
+// A member whose value holds no other, and a comma before it, but not before the first.
+#[inline(always)]
+pub(super) fn quick_member(
+    room: &mut Room,
+    compact: bool,
+    first: bool,
+    key: &str,
+    value: &JsonValue,
+) -> bool
+    ensures { (k : ℕ) → MatchBool result
+        (IsTrue compact × (waiting room.new ≡ waiting room.old ++ (separator first
+        ++ encode_utf8_all (quoted (chars key.now) ++ (58 ∷ text None k (view value.now))))))
+        (waiting room.new ≡ waiting room.old) }
+{
+    if matches!(value, JsonValue::Array(_) | JsonValue::Object(_)) {
+        return false;
+    }
+    let len = room.len();
+    if !quick_key(room, compact, first, key) {
+        return false;
+    }
+    if quick_value(room, value) {
+        return true;
+    }
+    room.truncate(len);
+    false
 }
 
 #[inline(always)]

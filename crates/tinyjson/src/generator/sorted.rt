@@ -1,5 +1,5 @@
 //! The members of a map in the order of their keys.
-ghost use Rattle.std.specs.Prelude.{◌≡◌, ◌<◌, ◌∷◌, [], MatchOption, map, length, drop, reverse, take, OnOk};
+ghost use Rattle.std.specs.Prelude.{◌≡◌, ◌<◌, ◌∷◌, [], ⊤, MatchOption, map, length, drop, reverse, take, OnOk};
 ghost use Rattle.std.specs.HashMap.{IsUnique};
 ghost use Rattle.std.specs.String.{string_eq};
 ghost use Rattle.tinyjson.specs.private.Sorted.{bytes_pair, now_pair, sorted_view};
@@ -45,6 +45,21 @@ fn gather<'a>(
         gathered.push((key.as_str(), value))?;
     }
     Ok(())
+}
+
+// The next of that many members that are left to an object. It stays with them.
+#[inline(always)]
+pub(super) fn first_member<'a>(
+    gathered: &[(&'a str, &'a JsonValue)],
+    left: usize,
+) -> Option<(&'a str, &'a JsonValue)>
+    ensures { MatchOption result ⊤ (λ m. (0 < left)
+        × (reverse gathered.now ≡ m ∷ drop 1 (reverse gathered.now))) }
+{
+    if left == 0 || gathered.is_empty() {
+        return None;
+    }
+    Some(gathered[gathered.len() - 1])
 }
 
 // The next of that many members that are left to an object.

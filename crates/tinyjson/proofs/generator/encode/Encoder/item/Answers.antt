@@ -14,4 +14,4 @@ pub returns : goal.returns
 returns g c =
     let w = indent_of c.args.self.now.indent in
     let piece = enc (text w c.args.level (view c.args.value.now)) in
-    begins_behind w c.args.level _ _ _ _ piece _ _ _ (goes piece c.in_ok-separate.ensures begins) (c.begin.ensures w c.args.level)
+    begins_behind w c.args.level _ _ _ _ piece _ _ _ (goes piece c.in_ok-separate.ensures begins) (c.begin.ensures c.args.level)

@@ -16,7 +16,7 @@ returns-then-quick_key g c =
     let v = text w c.args.level (view c.args.value.now) in
     let quick = rw c.if-quick_key.true at c.quick_key.ensures in
     let none = is_compact w c.args.self.now.indent c.is_none.result c.is_none.ensures quick.0 in
-    begins_behind w c.args.level _ _ _ _ (enc v) _ _ _ (waits_part _ _ _ _ _ (enc v) (compact_member w c.args.level c.args.first key v c.utf8.key none) quick.1) (c.begin.ensures w c.args.level)
+    begins_behind w c.args.level _ _ _ _ (enc v) _ _ _ (waits_part _ _ _ _ _ (enc v) (compact_member w c.args.level c.args.first key v c.utf8.key none) quick.1) (c.begin.ensures c.args.level)
 
 pub returns-in_err-separate : goal.returns-in_err-separate
 returns-in_err-separate g c =
@@ -60,4 +60,4 @@ returns g c =
     let h = goes (enc key ++ rest) c.in_ok-separate.ensures (written_none _ _ _ (ap (λ z. start ++ z) (three key (58 ∷ after_colon w) v))) in
     let k = goes rest c.in_ok-quote.ensures h in
     let same = rw c.if-quick_key.false at c.quick_key.ensures in
-    rw (← same) (begins_behind w c.args.level _ _ _ _ (enc v) _ _ _ (goes (enc v) c.in_ok-colon.ensures k) (c.begin-2.ensures w c.args.level))
+    rw (← same) (begins_behind w c.args.level _ _ _ _ (enc v) _ _ _ (goes (enc v) c.in_ok-colon.ensures k) (c.begin-2.ensures c.args.level))

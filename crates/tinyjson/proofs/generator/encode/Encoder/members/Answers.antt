@@ -1,4 +1,4 @@
-use Rattle.std.proofs.Common.{◌≡◌, ◌∷◌, ◌-◌, suc, false, length, refl, sym, ap, subst, reverse, arith}
+use Rattle.std.proofs.Common.{◌≡◌, ◌∷◌, ◌+◌, ◌-◌, suc, false, length, refl, sym, ap, subst, reverse, arith}
 use Rattle.std.proofs.lemmas.Result.{MatchResult-from_err}
 use Rattle.tinyjson.specs.Indent.{indent_of}
 use Rattle.tinyjson.specs.private.Pending.{IsStack, frames}
@@ -6,11 +6,16 @@ use Rattle.tinyjson.specs.Text.{newline}
 use Rattle.tinyjson.specs.declared.generator.pending.Frame.TheVariants.{Members}
 use Rattle.tinyjson.proofs.Writing.Sending.{begins, stops, goes}
 use Rattle.tinyjson.proofs.Writing.Bytes.{enc}
+use Rattle.tinyjson.proofs.Writing.Runs.{members_on}
 use Rattle.tinyjson.proofs.Writing.Pending.{members_next, members_end, advanced_open, closes, stopped_open}
 use Rattle.tinyjson.proofs.generator.encode.Encoder.members.Goals as goal
 
 pub loop-key-init : goal.loop-key-init
-loop-key-init g c = (refl, begins)
+loop-key-init g c =
+    let w = indent_of c.args.self.now.indent in
+    let fs = frames c.args.stack.now in
+    let run = c.run_of_members-left.ensures.waits (length fs + 1) (g.W.Write.contents c.args.out.now) in
+    (refl, members_on w fs c.args.left c.run_of_members-left.result.0 c.args.first c.run_of_members-left.result.1 _ _ c.run_of_members-left.ensures.others run begins)
 
 pub enter-requires : goal.enter-requires
 enter-requires g c = subst IsStack (sym c.loop-key.invariant.0) c.requires.stack
@@ -48,10 +53,12 @@ pub loop-key-preserved : goal.loop-key-preserved
 loop-key-preserved g c =
     let w = indent_of c.args.self.now.indent in
     let l = c.loop-key in
+    let fs = frames c.args.stack.now in
     let n : l.left ≡ suc (l.left - 1) = omega (arith, c.in-Some.ensures.0) in
-    let h = rw (members_next w (frames c.args.stack.now) (reverse l.gathered.items) (reverse c.next_member.new.gathered.items) c.args.level l.left (l.left - 1) l.first (c.in-Some.key, c.in-Some.value) c.in-Some.ensures.1 n c.requires.level) at l.invariant.1 in
+    let h = rw (members_next w fs (reverse l.gathered.items) (reverse c.next_member.new.gathered.items) c.args.level l.left (l.left - 1) l.first (c.in-Some.key, c.in-Some.value) c.in-Some.ensures.1 n c.requires.level) at l.invariant.1 in
     let done = rw c.in-None.is at c.in_ok-begun.ensures in
-    (l.invariant.0, rw done.outside (goes _ done.written h))
+    let run = c.run_of_members.ensures.waits (length fs + 1) (g.W.Write.contents c.member.new.out) in
+    (l.invariant.0, members_on w fs (l.left - 1) c.run_of_members.result.0 false c.run_of_members.result.1 _ _ c.run_of_members.ensures.others run (rw done.outside (goes _ done.written h)))
 
 pub returns : goal.returns
 returns g c =

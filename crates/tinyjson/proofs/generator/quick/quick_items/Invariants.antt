@@ -1,0 +1,14 @@
+use Rattle.std.proofs.Common.{ℕ, None, ◌≤◌, length}
+use Rattle.std.specs.Str.{encode_utf8_all}
+use Rattle.tinyjson.specs.private.Room.{waiting, Waits}
+use Rattle.tinyjson.specs.Text.{items_text}
+use Rattle.tinyjson.specs.View.{items_view}
+use Rattle.tinyjson.proofs.generator.quick.quick_items.Given as goal
+
+abbrev pub invariant-loop-item : goal.invariant-loop-item
+invariant-loop-item l =
+    ((k : ℕ) → Waits (waiting l.fn.room) (waiting l.room) (encode_utf8_all (items_text None k l.fn.first (items_view l.fn.items))) (encode_utf8_all (items_text None k l.first (items_view l.rest))))
+    × (length l.rest ≤ length l.fn.items)
+
+abbrev pub decreases-loop-item : goal.decreases-loop-item
+decreases-loop-item l = length l.rest
