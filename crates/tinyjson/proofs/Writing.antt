@@ -6,6 +6,7 @@ pub mod QuotedTrip
 pub mod TreeTrip
 pub mod Sending
 pub mod Bytes
+pub mod Copies
 pub mod Pending
 pub mod Scalars
 pub mod Quotes

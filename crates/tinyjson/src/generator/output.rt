@@ -4,6 +4,7 @@ ghost use Rattle.tinyjson.specs.private.Room.{waiting, Sends};
 ghost use Rattle.tinyjson.specs.Written.{WritesPrefix};
 
 use std::io::{self, ErrorKind, Write};
+use std::simd::prelude::*;
 
 // How many bytes wait at most.
 const ROOM: usize = 4096;
@@ -32,10 +33,8 @@ impl Room {
         ensures waits { waiting self.new ≡ waiting self.old ++ bytes.now }
         ensures len { self.new.len ≡ self.old.len + length bytes.now }
     {
-        let len = self.len;
-        let end = len + bytes.len();
-        self.bytes[len..end].copy_from_slice(bytes);
-        self.len = end;
+        copy(&mut self.bytes[..], self.len, bytes);
+        self.len += bytes.len();
     }
 
     // How many bytes wait.
@@ -61,6 +60,77 @@ impl Room {
     {
         self.len.saturating_add(count) <= ROOM
     }
+}
+
+// Puts the bytes at the place. Few are put by two vectors, which may overlap.
+#[inline(always)]
+fn copy(target: &mut [u8], at: usize, bytes: &[u8])
+    requires { at + length bytes.now ≤ length target.old }
+    ensures copied { take (at + length bytes.now) target.new ≡ take at target.old ++ bytes.now }
+    ensures len { length target.new ≡ length target.old }
+{
+    let count = bytes.len();
+    if count > 32 {
+        target[at..at + count].copy_from_slice(bytes);
+    } else if count >= 16 {
+        copy_16(target, at, bytes);
+    } else if count >= 8 {
+        copy_8(target, at, bytes);
+    } else if count >= 4 {
+        copy_4(target, at, bytes);
+    } else if count >= 2 {
+        copy_2(target, at, bytes);
+    } else if count == 1 {
+        target[at] = bytes[0];
+    }
+}
+
+#[inline(always)]
+fn copy_16(target: &mut [u8], at: usize, bytes: &[u8])
+    requires count { (16 ≤ length bytes.now) × (length bytes.now ≤ 32) }
+    requires room { at + length bytes.now ≤ length target.old }
+    ensures copied { take (at + length bytes.now) target.new ≡ take at target.old ++ bytes.now }
+    ensures len { length target.new ≡ length target.old }
+{
+    let last = bytes.len() - 16;
+    u8x16::from_slice(bytes).copy_to_slice(&mut target[at..]);
+    u8x16::from_slice(&bytes[last..]).copy_to_slice(&mut target[at + last..]);
+}
+
+#[inline(always)]
+fn copy_8(target: &mut [u8], at: usize, bytes: &[u8])
+    requires count { (8 ≤ length bytes.now) × (length bytes.now ≤ 16) }
+    requires room { at + length bytes.now ≤ length target.old }
+    ensures copied { take (at + length bytes.now) target.new ≡ take at target.old ++ bytes.now }
+    ensures len { length target.new ≡ length target.old }
+{
+    let last = bytes.len() - 8;
+    u8x8::from_slice(bytes).copy_to_slice(&mut target[at..]);
+    u8x8::from_slice(&bytes[last..]).copy_to_slice(&mut target[at + last..]);
+}
+
+#[inline(always)]
+fn copy_4(target: &mut [u8], at: usize, bytes: &[u8])
+    requires count { (4 ≤ length bytes.now) × (length bytes.now ≤ 8) }
+    requires room { at + length bytes.now ≤ length target.old }
+    ensures copied { take (at + length bytes.now) target.new ≡ take at target.old ++ bytes.now }
+    ensures len { length target.new ≡ length target.old }
+{
+    let last = bytes.len() - 4;
+    u8x4::from_slice(bytes).copy_to_slice(&mut target[at..]);
+    u8x4::from_slice(&bytes[last..]).copy_to_slice(&mut target[at + last..]);
+}
+
+#[inline(always)]
+fn copy_2(target: &mut [u8], at: usize, bytes: &[u8])
+    requires count { (2 ≤ length bytes.now) × (length bytes.now ≤ 4) }
+    requires room { at + length bytes.now ≤ length target.old }
+    ensures copied { take (at + length bytes.now) target.new ≡ take at target.old ++ bytes.now }
+    ensures len { length target.new ≡ length target.old }
+{
+    let last = bytes.len() - 2;
+    u8x2::from_slice(bytes).copy_to_slice(&mut target[at..]);
+    u8x2::from_slice(&bytes[last..]).copy_to_slice(&mut target[at + last..]);
 }
 
 // Writes the bytes behind those that wait, or lets them wait too. An error is that of `write_all`.
