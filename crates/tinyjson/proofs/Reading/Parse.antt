@@ -74,24 +74,7 @@ module _ (limit : Option ℕ) where
 
   refusal-says : (k : JsonParseErrorKind) (used rest : List ℕ) → IsRefusal limit k used rest → RefusalSays limit k used rest
   refusal-says kind.OutOfMemory used rest r = absurd r.says
-  refusal-says kind.UnexpectedEof used rest r = r
-  refusal-says (kind.InvalidCharacter c) used rest r = r
-  refusal-says (kind.ExpectedEof c) used rest r = r
-  refusal-says (kind.KeyNotString k) used rest r = r
-  refusal-says (kind.ExpectedColon c) used rest r = r
-  refusal-says (kind.ExpectedCommaOrBrace c) used rest r = r
-  refusal-says (kind.ExpectedCommaOrBracket c) used rest r = r
-  refusal-says kind.InvalidUtf16 used rest r = r
-  refusal-says (kind.InvalidHexDigit c) used rest r = r
-  refusal-says (kind.InvalidEscape c) used rest r = r
-  refusal-says (kind.ControlCharacter c) used rest r = r
-  refusal-says (kind.UnexpectedInLiteral c) used rest r = r
-  refusal-says kind.EmptyInteger used rest r = r
-  refusal-says kind.LeadingZero used rest r = r
-  refusal-says kind.EmptyFraction used rest r = r
-  refusal-says kind.EmptyExponent used rest r = r
-  refusal-says kind.NumberOutOfRange used rest r = r
-  refusal-says (kind.TooDeep c) used rest r = r
+  refusal-says k used rest r = r
 
   refused-list : (k : JsonParseErrorKind) (used rest : List ℕ) → ¬ (k ≡ kind.OutOfMemory) → RefusalSays limit k used rest → ¬ IsAccepted limit (used ++ rest)
   refused-list kind.OutOfMemory used rest n r = absurd (n refl)
