@@ -88,6 +88,7 @@ impl<S: Source> Reader<S> {
     }
 
     /// Puts a value that is whole into the container that it stands in. A string where a key is awaited is the key.
+    #[inline(always)]
     pub(super) fn put(
         &mut self,
         stack: &mut Stack,
@@ -110,6 +111,7 @@ impl<S: Source> Reader<S> {
     }
 
     /// Makes a value the key of its object, and reads the colon.
+    #[inline(never)]
     fn use_as_key(&mut self, stack: &mut Stack, value: JsonValue) -> Result<bool, JsonParseError>
         requires sound { IsSound stack.old false }
         requires awaits { AwaitsKey stack.old }

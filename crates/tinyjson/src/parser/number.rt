@@ -26,6 +26,7 @@ fn has_leading_zero(digits: &[u8]) -> bool
 
 impl<S: Source> Reader<S> {
     /// Reads the number whose first character, a minus sign or a digit, comes next.
+    #[inline(always)]
     pub(super) fn number(&mut self) -> Result<JsonNumber, JsonParseError>
         requires { BeginsNumber S.sight self.old.source }
         ensures reads { (limit : Option ℕ) (fs : List Frame) →

@@ -58,6 +58,7 @@ impl Stack {
     }
 
     /// Puts a value on the stack.
+    #[inline(always)]
     pub(super) fn push(&mut self, value: JsonValue) -> Result<(), AllocError>
         requires sound { IsSound self.old false }
         requires place { TakesValue (open_of self.old) }
