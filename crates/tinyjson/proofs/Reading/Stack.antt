@@ -3,9 +3,10 @@ use Rattle.std.proofs.Common.{◌≡◌, ℕ, suc, ◌+◌, ◌-◌, ◌≤◌, 
 use Rattle.std.proofs.Math.Seq.{drop-length, take-length, take-append_seam}
 use Rattle.std.proofs.lemmas.List.{reverse-append, reverse-reverse, map-append, length-drop, drop-append-le, take-append-le, length-take-le, length-append, length-reverse}
 use Rattle.tinyjson.specs.Tree.{Tree, Members, no_members, put, string, array, object, is_string}
-use Rattle.tinyjson.specs.View.{view, text, items_view}
+use Rattle.tinyjson.specs.View.{view, text, items_view, members_view}
+use Rattle.tinyjson.specs.Access.{JsonMap}
 use Rattle.tinyjson.specs.private.Machine.{Frame, in_array, at_key, at_value, awaited, after, colon, Next, next, stop, complete}
-use Rattle.tinyjson.specs.private.Stack.{gather, waiting, frames_over, whole_over, Lies, open_of, frames, at, HasWhole, IsSound, AwaitsKey, TakesValue, BeginsMember, ClosesArray, ClosesObject}
+use Rattle.tinyjson.specs.private.Stack.{gather, waiting, frames_over, whole_over, own_members, other_maps, Lies, open_of, maps_of, frames, at, HasWhole, AwaitsKey, TakesValue, BeginsMember, ClosesArray, ClosesObject}
 use Rattle.tinyjson.specs.private.Steps.{IsNext, onward, Leads, Halts}
 use Rattle.tinyjson.specs.private.Source.{Sight, Whites}
 use Rattle.tinyjson.specs.Characters.{is_white}
@@ -49,56 +50,56 @@ waiting_key (j ∷ ks) (v ∷ vs) k h = waiting_key ks vs k (omega (arith, h))
 
 -- ---- a value that is whole
 
-pub whole-last : (os : List Open) (vs : List JsonValue) (v : JsonValue) (ks : Keys) → whole_over os (reverse (vs ++ v ∷ [])) ks ≡ complete true (frames_over os vs ks) (view v) true
-whole-last os vs v ks = ap (λ us. whole_over os us ks) (reverse-append vs (v ∷ [])) ∙ ap (λ us. complete true (frames_over os us ks) (view v) true) (reverse-reverse vs)
+pub whole-last : (os : List Open) (vs : List JsonValue) (v : JsonValue) (ks : Keys) (ms : List JsonMap) → whole_over os (reverse (vs ++ v ∷ [])) ks ms ≡ complete true (frames_over os vs ks ms) (view v) true
+whole-last os vs v ks ms = ap (λ us. whole_over os us ks ms) (reverse-append vs (v ∷ [])) ∙ ap (λ us. complete true (frames_over os us ks ms) (view v) true) (reverse-reverse vs)
 
 -- an array has it as its last item
-pub whole-item : (n : ℕ) (os : List Open) (vs : List JsonValue) (v : JsonValue) (ks : Keys) → n ≤ length vs
-    → whole_over (container.Array n ∷ os) (reverse (vs ++ v ∷ [])) ks ≡ next (frames_over (container.Array n ∷ os) (vs ++ v ∷ []) ks) after
-whole-item n os vs v ks h =
-    whole-last (container.Array n ∷ os) vs v ks
-    ∙ ap₂ (λ ts us. next (in_array ts ∷ frames_over os us ks) after) (sym (ap (map view) (drop-append-le n vs (v ∷ []) h) ∙ map-append view (drop n vs) (v ∷ []))) (sym (take-append-le n vs (v ∷ []) h))
+pub whole-item : (n : ℕ) (os : List Open) (vs : List JsonValue) (v : JsonValue) (ks : Keys) (ms : List JsonMap) → n ≤ length vs
+    → whole_over (container.Array n ∷ os) (reverse (vs ++ v ∷ [])) ks ms ≡ next (frames_over (container.Array n ∷ os) (vs ++ v ∷ []) ks ms) after
+whole-item n os vs v ks ms h =
+    whole-last (container.Array n ∷ os) vs v ks ms
+    ∙ ap₂ (λ ts us. next (in_array ts ∷ frames_over os us ks ms) after) (sym (ap (map view) (drop-append-le n vs (v ∷ []) h) ∙ map-append view (drop n vs) (v ∷ []))) (sym (take-append-le n vs (v ∷ []) h))
 
 -- an object has it as the value of its last key
-pub whole-member : (n m : ℕ) (os : List Open) (vs : List JsonValue) (v : JsonValue) (ks : Keys) → n ≤ length vs → m ≤ length ks → length ks + n ≡ suc (length vs + m)
-    → whole_over (container.Member n m ∷ os) (reverse (vs ++ v ∷ [])) ks ≡ next (frames_over (container.Object n m ∷ os) (vs ++ v ∷ []) ks) after
-whole-member n m os vs v ks h k e =
+pub whole-member : (n m : ℕ) (os : List Open) (vs : List JsonValue) (v : JsonValue) (ks : Keys) (ms : List JsonMap) → n ≤ length vs → m ≤ length ks → length ks + n ≡ suc (length vs + m)
+    → whole_over (container.Member n m ∷ os) (reverse (vs ++ v ∷ [])) ks ms ≡ next (frames_over (container.Object n m ∷ os) (vs ++ v ∷ []) ks ms) after
+whole-member n m os vs v ks ms h k e =
     let more : length (drop m ks) ≡ suc (length (drop n vs)) = length-drop m ks ∙ omega (arith, h, k, e) ∙ ap suc (sym (length-drop n vs)) in
-    whole-last (container.Member n m ∷ os) vs v ks
-    ∙ ap₂ (λ ms us. next (at_key ms ∷ frames_over os us (take m ks)) after)
-    (sym (ap (gather no_members (drop m ks)) (drop-append-le n vs (v ∷ []) h) ∙ gather_value no_members (drop m ks) (drop n vs) v more)) (sym (take-append-le n vs (v ∷ []) h))
+    whole-last (container.Member n m ∷ os) vs v ks ms
+    ∙ ap₂ (λ ns us. next (at_key ns ∷ frames_over os us (take m ks) (other_maps ms)) after)
+    (sym (ap (gather (own_members ms) (drop m ks)) (drop-append-le n vs (v ∷ []) h) ∙ gather_value (own_members ms) (drop m ks) (drop n vs) v more)) (sym (take-append-le n vs (v ∷ []) h))
 
 -- ---- a container that begins
 
-pub frames-array : (os : List Open) (vs : List JsonValue) (ks : Keys) → frames_over (container.Array (length vs) ∷ os) vs ks ≡ in_array [] ∷ frames_over os vs ks
-frames-array os vs ks = ap₂ (λ ds us. in_array (map view ds) ∷ frames_over os us ks) (drop-length vs) (take-length vs)
-
-pub frames-object : (os : List Open) (vs : List JsonValue) (ks : Keys) → frames_over (container.Object (length vs) (length ks) ∷ os) vs ks ≡ at_key no_members ∷ frames_over os vs ks
-frames-object os vs ks =
-    ap₂ (λ ds es. at_key (gather no_members ds es) ∷ frames_over os (take (length vs) vs) (take (length ks) ks)) (drop-length ks) (drop-length vs)
-    ∙ ap₂ (λ us js. at_key no_members ∷ frames_over os us js) (take-length vs) (take-length ks)
+pub frames-object : (os : List Open) (vs : List JsonValue) (ks : Keys) (m : JsonMap) (ms : List JsonMap) → m.entries ≡ []
+    → frames_over (container.Object (length vs) (length ks) ∷ os) vs ks (m ∷ ms) ≡ at_key no_members ∷ frames_over os vs ks ms
+frames-object os vs ks m ms e =
+    ap₂ (λ ds es. at_key (gather (members_view m.entries) ds es) ∷ frames_over os (take (length vs) vs) (take (length ks) ks) ms) (drop-length ks) (drop-length vs)
+    ∙ ap (λ es. at_key (members_view es) ∷ frames_over os (take (length vs) vs) (take (length ks) ks) ms) e
+    ∙ ap₂ (λ us js. at_key no_members ∷ frames_over os us js ms) (take-length vs) (take-length ks)
 
 -- ---- a key that is read
 
-pub frames-key : (n m : ℕ) (os : List Open) (vs : List JsonValue) (ks : Keys) (k : String Global) → n ≤ length vs → m ≤ length ks → length ks + n ≡ length vs + m
-    → frames_over (container.Member n m ∷ os) vs (ks ++ k ∷ []) ≡ at_value (gather no_members (drop m ks) (drop n vs)) (text k) ∷ frames_over os (take n vs) (take m ks)
-frames-key n m os vs ks k h i e =
+pub frames-key : (n m : ℕ) (os : List Open) (vs : List JsonValue) (ks : Keys) (ms : List JsonMap) (k : String Global) → n ≤ length vs → m ≤ length ks → length ks + n ≡ length vs + m
+    → frames_over (container.Member n m ∷ os) vs (ks ++ k ∷ []) ms
+    ≡ at_value (gather (own_members ms) (drop m ks) (drop n vs)) (text k) ∷ frames_over os (take n vs) (take m ks) (other_maps ms)
+frames-key n m os vs ks ms k h i e =
     let same : length (drop m ks) ≡ length (drop n vs) = length-drop m ks ∙ omega (arith, h, i, e) ∙ sym (length-drop n vs) in
-    ap₂ (λ js is. at_value (gather no_members js (drop n vs)) (waiting js (drop n vs)) ∷ frames_over os (take n vs) is) (drop-append-le m ks (k ∷ []) i) (take-append-le m ks (k ∷ []) i)
-    ∙ ap₂ (λ ms j. at_value ms j ∷ frames_over os (take n vs) (take m ks)) (gather_key no_members (drop m ks) (drop n vs) k same) (waiting_key (drop m ks) (drop n vs) k same)
+    ap₂ (λ js is. at_value (gather (own_members ms) js (drop n vs)) (waiting js (drop n vs)) ∷ frames_over os (take n vs) is (other_maps ms)) (drop-append-le m ks (k ∷ []) i) (take-append-le m ks (k ∷ []) i)
+    ∙ ap₂ (λ ns j. at_value ns j ∷ frames_over os (take n vs) (take m ks) (other_maps ms)) (gather_key (own_members ms) (drop m ks) (drop n vs) k same) (waiting_key (drop m ks) (drop n vs) k same)
 
 -- ---- the innermost container
 
-pub length-frames_over : (os : List Open) (vs : List JsonValue) (ks : Keys) → length (frames_over os vs ks) ≡ length os
-length-frames_over [] vs ks = refl
-length-frames_over (container.Array n ∷ os) vs ks = ap suc (length-frames_over os (take n vs) ks)
-length-frames_over (container.Object n m ∷ os) vs ks = ap suc (length-frames_over os (take n vs) (take m ks))
-length-frames_over (container.Member n m ∷ os) vs ks = ap suc (length-frames_over os (take n vs) (take m ks))
+pub length-frames_over : (os : List Open) (vs : List JsonValue) (ks : Keys) (ms : List JsonMap) → length (frames_over os vs ks ms) ≡ length os
+length-frames_over [] vs ks ms = refl
+length-frames_over (container.Array n ∷ os) vs ks ms = ap suc (length-frames_over os (take n vs) ks ms)
+length-frames_over (container.Object n m ∷ os) vs ks ms = ap suc (length-frames_over os (take n vs) (take m ks) (other_maps ms))
+length-frames_over (container.Member n m ∷ os) vs ks ms = ap suc (length-frames_over os (take n vs) (take m ks) (other_maps ms))
 
 pub length-frames : (s : Stack) → length (frames s) ≡ length s.containers.items
-length-frames s = length-frames_over (open_of s) s.values.items s.keys.items ∙ length-reverse s.containers.items
+length-frames s = length-frames_over (open_of s) s.values.items s.keys.items (maps_of s) ∙ length-reverse s.containers.items
 
-pub pushed : (xs : List Open) (o : Open) → reverse (xs ++ o ∷ []) ≡ o ∷ reverse xs
+pub pushed : {T : Type 0} (xs : List T) (o : T) → reverse (xs ++ o ∷ []) ≡ o ∷ reverse xs
 pushed xs o = reverse-append xs (o ∷ [])
 
 pub popped : (old new : List Open) (o : Open) (os : List Open) → reverse old ≡ o ∷ os → new ≡ take (length old - 1) old → reverse new ≡ os
@@ -113,7 +114,7 @@ awaits-key s a =
     let n = a.0 in
     let m = a.1 in
     let os = a.2.0 in
-    (gather no_members (drop m s.keys.items) (drop n s.values.items), frames_over os (take n s.values.items) (take m s.keys.items), ap (λ ps. frames_over ps s.values.items s.keys.items) a.2.1)
+    (gather (own_members (maps_of s)) (drop m s.keys.items) (drop n s.values.items), frames_over os (take n s.values.items) (take m s.keys.items) (other_maps (maps_of s)), ap (λ ps. frames_over ps s.values.items s.keys.items (maps_of s)) a.2.1)
 
 -- ---- an array behind an item
 
@@ -121,8 +122,8 @@ module _ (s : Stack) (w : HasWhole s) (n : ℕ) (os : List Open) (i : open_of s 
   array_lies : Lies (container.Array n ∷ os) (length w.front) (length s.keys.items)
   array_lies = subst (λ ps. Lies ps (length w.front) (length s.keys.items)) i w.lies
 
-  array_frames : frames s ≡ in_array (map view (drop n s.values.items)) ∷ frames_over os (take n s.values.items) s.keys.items
-  array_frames = ap (λ ps. frames_over ps s.values.items s.keys.items) i
+  array_frames : frames s ≡ in_array (map view (drop n s.values.items)) ∷ frames_over os (take n s.values.items) s.keys.items (maps_of s)
+  array_frames = ap (λ ps. frames_over ps s.values.items s.keys.items (maps_of s)) i
 
   array_size : length s.values.items ≡ length w.front + 1
   array_size = ap length w.values ∙ length-append w.front (w.last ∷ [])
@@ -130,23 +131,20 @@ module _ (s : Stack) (w : HasWhole s) (n : ℕ) (os : List Open) (i : open_of s 
   pub array_within : n ≤ length s.values.items
   array_within = omega (arith, array_size, array_lies.0)
 
-  pub array_whole : at s true ≡ next (in_array (map view (drop n s.values.items)) ∷ frames_over os (take n s.values.items) s.keys.items) after
+  pub array_whole : at s true ≡ next (in_array (map view (drop n s.values.items)) ∷ frames_over os (take n s.values.items) s.keys.items (maps_of s)) after
   array_whole =
-      ap₂ (λ ps ws. whole_over ps (reverse ws) s.keys.items) i w.values
-      ∙ whole-item n os w.front w.last s.keys.items array_lies.0
-      ∙ ap (λ ws. next (frames_over (container.Array n ∷ os) ws s.keys.items) after) (sym w.values)
+      ap₂ (λ ps ws. whole_over ps (reverse ws) s.keys.items (maps_of s)) i w.values
+      ∙ whole-item n os w.front w.last s.keys.items (maps_of s) array_lies.0
+      ∙ ap (λ ws. next (frames_over (container.Array n ∷ os) ws s.keys.items (maps_of s)) after) (sym w.values)
 
-  pub array_stays : next (frames s) awaited ≡ next (in_array (map view (drop n s.values.items)) ∷ frames_over os (take n s.values.items) s.keys.items) awaited
+  pub array_stays : next (frames s) awaited ≡ next (in_array (map view (drop n s.values.items)) ∷ frames_over os (take n s.values.items) s.keys.items (maps_of s)) awaited
   array_stays = ap (λ fs. next fs awaited) array_frames
 
-  pub array_sound : IsSound s false
-  array_sound = subst (λ ps. Lies ps (length s.values.items) (length s.keys.items)) (sym i) (array_within, array_lies.1)
-
-  pub closes_array : (new : Stack) (v : JsonValue) → open_of new ≡ os → new.values.items ≡ take n s.values.items → new.keys.items ≡ s.keys.items
+  pub closes_array : (new : Stack) (v : JsonValue) → open_of new ≡ os → new.values.items ≡ take n s.values.items → new.keys.items ≡ s.keys.items → maps_of new ≡ maps_of s
       → view v ≡ array (items_view (drop n s.values.items)) → ClosesArray s new v
-  closes_array new v o a k e = record {
+  closes_array new v o a k t e = record {
     items = map view (drop n s.values.items);
-    before = array_whole ∙ ap (λ fs. next (in_array (map view (drop n s.values.items)) ∷ fs) after) (sym ((λ j. frames_over (o j) (a j) (k j))));
+    before = array_whole ∙ ap (λ fs. next (in_array (map view (drop n s.values.items)) ∷ fs) after) (sym ((λ j. frames_over (o j) (a j) (k j) (t j))));
     value = e;
     sound =
         let size : length new.values.items ≡ n = ap length a ∙ length-take-le n s.values.items array_within in
@@ -169,20 +167,17 @@ module _ (s : Stack) (w : HasWhole s) (n m : ℕ) (os : List Open) (i : open_of 
   pub member_keys : m ≤ length s.keys.items
   member_keys = member_lies.1
 
-  pub member_count : length s.keys.items + n ≡ length s.values.items + m
-  member_count = omega (arith, member_size, member_lies.2)
-
-  pub member_whole : at s true ≡ next (frames_over (container.Object n m ∷ os) s.values.items s.keys.items) after
+  pub member_whole : at s true ≡ next (frames_over (container.Object n m ∷ os) s.values.items s.keys.items (maps_of s)) after
   member_whole =
-      ap₂ (λ ps ws. whole_over ps (reverse ws) s.keys.items) i w.values
-      ∙ whole-member n m os w.front w.last s.keys.items member_lies.0 member_lies.1 member_lies.2
-      ∙ ap (λ ws. next (frames_over (container.Object n m ∷ os) ws s.keys.items) after) (sym w.values)
+      ap₂ (λ ps ws. whole_over ps (reverse ws) s.keys.items (maps_of s)) i w.values
+      ∙ whole-member n m os w.front w.last s.keys.items (maps_of s) member_lies.0 member_lies.1 member_lies.2
+      ∙ ap (λ ws. next (frames_over (container.Object n m ∷ os) ws s.keys.items (maps_of s)) after) (sym w.values)
 
-  pub closes_object : (new : Stack) (v : JsonValue) → open_of new ≡ os → new.values.items ≡ take n s.values.items → new.keys.items ≡ take m s.keys.items
-      → view v ≡ object (gather no_members (drop m s.keys.items) (drop n s.values.items)) → ClosesObject s new v
-  closes_object new v o a k e = record {
-    members = gather no_members (drop m s.keys.items) (drop n s.values.items);
-    before = member_whole ∙ ap (λ fs. next (at_key (gather no_members (drop m s.keys.items) (drop n s.values.items)) ∷ fs) after) (sym ((λ j. frames_over (o j) (a j) (k j))));
+  pub closes_object : (new : Stack) (v : JsonValue) → open_of new ≡ os → new.values.items ≡ take n s.values.items → new.keys.items ≡ take m s.keys.items → maps_of new ≡ other_maps (maps_of s)
+      → view v ≡ object (gather (own_members (maps_of s)) (drop m s.keys.items) (drop n s.values.items)) → ClosesObject s new v
+  closes_object new v o a k t e = record {
+    members = gather (own_members (maps_of s)) (drop m s.keys.items) (drop n s.values.items);
+    before = member_whole ∙ ap (λ fs. next (at_key (gather (own_members (maps_of s)) (drop m s.keys.items) (drop n s.values.items)) ∷ fs) after) (sym ((λ j. frames_over (o j) (a j) (k j) (t j))));
     value = e;
     sound =
         let size : length new.values.items ≡ n = ap length a ∙ length-take-le n s.values.items member_values in
@@ -215,11 +210,11 @@ pub member_begins : (limit : Option ℕ) (old new : Stack) (k : List ℕ) (c : �
 member_begins limit old new k c b e = ap (λ fs. onward limit (next fs (colon k)) c) b.before ∙ colon_read limit b.outer b.members k c e ∙ ap (λ fs. next fs awaited) (sym b.behind)
 
 -- a value that is no key is whole without a refusal
-pub value_taken : (os : List Open) (vs : List JsonValue) (ks : Keys) (t : Tree) → TakesValue os → IsNext (complete true (frames_over os vs ks) t true)
-value_taken [] vs ks t h = tt
-value_taken (container.Array n ∷ os) vs ks t h = tt
-value_taken (container.Object n m ∷ os) vs ks t h = absurd h
-value_taken (container.Member n m ∷ os) vs ks t h = tt
+pub value_taken : (os : List Open) (vs : List JsonValue) (ks : Keys) (ms : List JsonMap) (t : Tree) → TakesValue os → IsNext (complete true (frames_over os vs ks ms) t true)
+value_taken [] vs ks ms t h = tt
+value_taken (container.Array n ∷ os) vs ks ms t h = tt
+value_taken (container.Object n m ∷ os) vs ks ms t h = absurd h
+value_taken (container.Member n m ∷ os) vs ks ms t h = tt
 
 -- ---- white space behind a value
 

@@ -2,7 +2,8 @@
 use Rattle.std.specs.Prelude.{◌≡◌, ℕ, suc, ◌+◌, ◌≤◌, Bool, true, false, List, [], ◌∷◌, ◌++◌, map, take, drop, reverse, length, String, ⊤}
 use Rattle.std.specs.declared.alloc.Global.{Global}
 use Rattle.tinyjson.specs.Tree.{Tree, array, object, items_of, Members, no_members, put}
-use Rattle.tinyjson.specs.View.{view, text}
+use Rattle.tinyjson.specs.Access.{JsonMap}
+use Rattle.tinyjson.specs.View.{view, text, members_view}
 use Rattle.tinyjson.specs.private.Machine.{Frame, in_array, at_key, at_value, awaited, after, Next, next, complete}
 use Rattle.tinyjson.specs.declared.parser.stack.Open.{Open}
 use Rattle.tinyjson.specs.declared.parser.stack.Open.TheVariants as container
@@ -21,18 +22,28 @@ waiting [] vs = []
 waiting (k ∷ ks) [] = text k
 waiting (k ∷ ks) (v ∷ vs) = waiting ks vs
 
--- open containers as frames, the innermost first: each has the values and keys from its places on
-abbrev pub frames_over : List Open → List JsonValue → List (String Global) → List Frame
-frames_over [] vs ks = []
-frames_over (container.Array n ∷ os) vs ks = in_array (map view (drop n vs)) ∷ frames_over os (take n vs) ks
-frames_over (container.Object n m ∷ os) vs ks = at_key (gather no_members (drop m ks) (drop n vs)) ∷ frames_over os (take n vs) (take m ks)
-frames_over (container.Member n m ∷ os) vs ks =
-    at_value (gather no_members (drop m ks) (drop n vs)) (waiting (drop m ks) (drop n vs)) ∷ frames_over os (take n vs) (take m ks)
+-- the maps of the open objects, the innermost first: what the innermost has, and those of the others
+abbrev pub own_members : List JsonMap → Members
+own_members [] = no_members
+own_members (m ∷ ms) = members_view m.entries
+
+abbrev pub other_maps : List JsonMap → List JsonMap
+other_maps [] = []
+other_maps (m ∷ ms) = ms
+
+-- open containers as frames, the innermost first: each has the values and keys from its places on, and an
+-- object the members of its map before them
+abbrev pub frames_over : List Open → List JsonValue → List (String Global) → List JsonMap → List Frame
+frames_over [] vs ks ms = []
+frames_over (container.Array n ∷ os) vs ks ms = in_array (map view (drop n vs)) ∷ frames_over os (take n vs) ks ms
+frames_over (container.Object n m ∷ os) vs ks ms = at_key (gather (own_members ms) (drop m ks) (drop n vs)) ∷ frames_over os (take n vs) (take m ks) (other_maps ms)
+frames_over (container.Member n m ∷ os) vs ks ms =
+    at_value (gather (own_members ms) (drop m ks) (drop n vs)) (waiting (drop m ks) (drop n vs)) ∷ frames_over os (take n vs) (take m ks) (other_maps ms)
 
 -- the last value is whole, and not yet part of its container
-abbrev pub whole_over : List Open → List JsonValue → List (String Global) → Next
-whole_over os [] ks = next [] awaited
-whole_over os (v ∷ vs) ks = complete true (frames_over os (reverse vs) ks) (view v) true
+abbrev pub whole_over : List Open → List JsonValue → List (String Global) → List JsonMap → Next
+whole_over os [] ks ms = next [] awaited
+whole_over os (v ∷ vs) ks ms = complete true (frames_over os (reverse vs) ks ms) (view v) true
 
 -- so many values and keys: each container begins within what those around it leave; an object that awaits a
 -- key has a key for each of its values, and one that awaits a value has one more
@@ -53,13 +64,16 @@ TakesValue (container.Member n m ∷ os) = ⊤
 abbrev pub open_of : Stack → List Open
 open_of s = reverse s.containers.items
 
+abbrev pub maps_of : Stack → List JsonMap
+maps_of s = reverse s.maps.items
+
 abbrev pub frames : Stack → List Frame
-frames s = frames_over (open_of s) s.values.items s.keys.items
+frames s = frames_over (open_of s) s.values.items s.keys.items (maps_of s)
 
 -- a value is awaited, or is whole
 abbrev pub at : Stack → Bool → Next
 at s false = next (frames s) awaited
-at s true = whole_over (open_of s) (reverse s.values.items) s.keys.items
+at s true = whole_over (open_of s) (reverse s.values.items) s.keys.items (maps_of s)
 
 -- the last value is whole, behind values that the open containers have
 pub record HasWhole (s : Stack) : Type 0 where

@@ -1,7 +1,7 @@
 //! The containers that are open, and what they hold so far.
-ghost use Rattle.std.specs.Prelude.{◌≡◌, ◌+◌, ◌≤◌, [], ◌∷◌, length, take, drop, true, false, OnOk, IfOk, MatchOption};
+ghost use Rattle.std.specs.Prelude.{◌≡◌, ◌+◌, ◌≤◌, List, [], ◌∷◌, length, take, drop, true, false, OnOk, IfOk, MatchOption};
 ghost use Rattle.tinyjson.specs.private.Machine.{in_array, at_key, after, next, complete, finished};
-ghost use Rattle.tinyjson.specs.private.Stack.{frames, at, open_of, IsSound, Innermost, AwaitsKey, TakesValue, BeginsMember, ClosesArray, ClosesObject, gather};
+ghost use Rattle.tinyjson.specs.private.Stack.{frames, at, open_of, IsSound, Innermost, AwaitsKey, TakesValue, BeginsMember, ClosesArray, ClosesObject, frames_over, gather, maps_of, other_maps, own_members, Lies};
 ghost use Rattle.tinyjson.specs.Tree.{no_members};
 ghost use Rattle.tinyjson.specs.View.{view, text, members_view};
 ghost use Rattle.tinyjson.specs.declared.parser.stack.Open.TheVariants as container;
@@ -21,6 +21,9 @@ pub(super) enum Open {
     Member { values: usize, keys: usize },
 }
 
+/// So many members of an object that goes on wait on the stack at most, before they are put into its map.
+const MANY: usize = 64;
+
 /// The containers that are open, the innermost last, and the values and keys that were read in them.
 #[derive(Drop)]
 pub(super) struct Stack {
@@ -28,6 +31,8 @@ pub(super) struct Stack {
     containers: Vec<Open>,
     values: Vec<JsonValue>,
     keys: Vec<String>,
+    /// A map for each object, with its first members if it has many.
+    maps: Vec<HashMap<String, JsonValue>>,
 }
 
 impl Stack {
@@ -40,6 +45,7 @@ impl Stack {
             containers: Vec::new(alloc),
             values: Vec::new(alloc),
             keys: Vec::new(alloc),
+            maps: Vec::new(alloc),
         }
     }
 
@@ -105,6 +111,9 @@ impl Stack {
         ensures awaits { OnOk result (AwaitsKey self.new) }
     {
         let (values, keys) = (self.values.len(), self.keys.len());
+        if self.maps.push(HashMap::new(self.alloc)).is_err() {
+            return Err(AllocError);
+        }
         if self.containers.push(Open::Object { values, keys }).is_err() {
             return Err(AllocError);
         }
@@ -139,7 +148,35 @@ impl Stack {
         ensures awaits { OnOk result (AwaitsKey self.new) }
     {
         self.containers.pop();
+        self.settle(values, keys)?;
         if self.containers.push(Open::Object { values, keys }).is_err() {
+            return Err(AllocError);
+        }
+        Ok(())
+    }
+
+    /// Puts the members of the innermost object that wait into its map, where they are many. Its values and
+    /// its keys begin at these places.
+    fn settle(&mut self, values: usize, keys: usize) -> Result<(), AllocError>
+        requires values { values ≤ length self.old.values.items }
+        requires keys { keys ≤ length self.old.keys.items }
+        requires count { length self.old.keys.items + values ≡ length self.old.values.items + keys }
+        ensures frames { (os : List container.the_data) →
+            OnOk result (frames_over (container.Object values keys ∷ os) self.new.values.items
+            self.new.keys.items (maps_of self.new)
+            ≡ frames_over (container.Object values keys ∷ os) self.old.values.items
+            self.old.keys.items (maps_of self.old)) }
+        ensures lies { (os : List container.the_data) → Lies os values keys →
+            OnOk result (Lies (container.Object values keys ∷ os) (length self.new.values.items)
+            (length self.new.keys.items)) }
+        ensures containers { self.new.containers ≡ self.old.containers }
+    {
+        if self.values.len() - values < MANY {
+            return Ok(());
+        }
+        let members = self.take_members(values, keys)?;
+        if let Err(refused) = self.maps.push(members) {
+            JsonValue::Object(refused.value).dismantle();
             return Err(AllocError);
         }
         Ok(())
@@ -162,6 +199,7 @@ impl Stack {
         ensures values { OnOk result (self.new.values.items ≡ take values self.old.values.items) }
         ensures containers { self.new.containers ≡ self.old.containers }
         ensures keys { self.new.keys ≡ self.old.keys }
+        ensures maps { self.new.maps ≡ self.old.maps }
     {
         if values > 0 {
             return self.values.split_off(values);
@@ -182,16 +220,53 @@ impl Stack {
         ensures { IfOk result (ClosesObject self.old self.new) }
     {
         self.containers.pop();
+        let mut members = self.take_members(values, keys)?;
+        trim(&mut members);
+        Ok(JsonValue::Object(members))
+    }
+
+    /// Takes the map of the innermost object, with the members that wait put into it.
+    fn take_members(
+        &mut self,
+        values: usize,
+        keys: usize,
+    ) -> Result<HashMap<String, JsonValue>, AllocError>
+        requires values { values ≤ length self.old.values.items }
+        requires keys { keys ≤ length self.old.keys.items }
+        requires count { length self.old.keys.items + values ≡ length self.old.values.items + keys }
+        ensures members { IfOk result (λ m. members_view m.entries
+            ≡ gather (own_members (maps_of self.old)) (drop keys self.old.keys.items)
+            (drop values self.old.values.items)) }
+        ensures maps { maps_of self.new ≡ other_maps (maps_of self.old) }
+        ensures containers { self.new.containers ≡ self.old.containers }
+        ensures values { OnOk result (self.new.values.items ≡ take values self.old.values.items) }
+        ensures keys { OnOk result (self.new.keys.items ≡ take keys self.old.keys.items) }
+    {
+        let mut members = self.take_map();
         let count = self.values.len() - values;
-        let mut members = HashMap::with_capacity(self.alloc, count)?;
-        members.shrink_to(count);
-        if self.fill(&mut members, values, keys, count).is_err() {
+        if make_room(&mut members, count).is_err()
+            || self.fill(&mut members, values, keys, count).is_err()
+        {
             JsonValue::Object(members).dismantle();
             return Err(AllocError);
         }
         self.keys.truncate(keys);
         self.values.truncate(values);
-        Ok(JsonValue::Object(members))
+        Ok(members)
+    }
+
+    /// Takes the map of the innermost object.
+    fn take_map(&mut self) -> HashMap<String, JsonValue>
+        ensures members { members_view result.entries ≡ own_members (maps_of self.old) }
+        ensures maps { maps_of self.new ≡ other_maps (maps_of self.old) }
+        ensures containers { self.new.containers ≡ self.old.containers }
+        ensures values { self.new.values ≡ self.old.values }
+        ensures keys { self.new.keys ≡ self.old.keys }
+    {
+        match self.maps.pop() {
+            Some(members) => members,
+            None => HashMap::new(self.alloc),
+        }
     }
 
     /// Moves so many members into a map, the values and the keys from these places on.
@@ -208,6 +283,7 @@ impl Stack {
             ≡ gather (members_view members.old.entries) (drop keys self.old.keys.items)
             (drop values self.old.values.items)) }
         ensures containers { self.new.containers ≡ self.old.containers }
+        ensures maps { self.new.maps ≡ self.old.maps }
         ensures values { take values self.new.values.items ≡ take values self.old.values.items }
         ensures keys { take keys self.new.keys.items ≡ take keys self.old.keys.items }
     {
@@ -222,5 +298,28 @@ impl Stack {
     /// Frees what was read, by a loop.
     pub(super) fn abandon(self) {
         JsonValue::Array(self.values).dismantle();
+        for members in self.maps {
+            JsonValue::Object(members).dismantle();
+        }
+    }
+}
+
+/// Makes room in a map for so many members more, and for no others where it has none.
+fn make_room(members: &mut HashMap<String, JsonValue>, count: usize) -> Result<(), AllocError>
+    ensures { members_view members.new.entries ≡ members_view members.old.entries }
+{
+    members.reserve(count)?;
+    if members.is_empty() {
+        members.shrink_to(count);
+    }
+    Ok(())
+}
+
+/// Gives back the room of a map that its members do not need.
+fn trim(members: &mut HashMap<String, JsonValue>)
+    ensures { members_view members.new.entries ≡ members_view members.old.entries }
+{
+    if members.capacity() > members.len() {
+        members.shrink_to_fit();
     }
 }

@@ -1,6 +1,5 @@
 use Rattle.std.proofs.Common.{rules, ◌≡◌, ◌∷◌, ◌++◌, [], ◌∙◌, ap, ap₂, subst, reverse, take, drop, length}
-use Rattle.tinyjson.specs.Tree.{no_members}
-use Rattle.tinyjson.specs.private.Stack.{Lies, frames_over, gather, open_of}
+use Rattle.tinyjson.specs.private.Stack.{Lies, frames_over, gather, maps_of, open_of, other_maps, own_members}
 use Rattle.tinyjson.specs.declared.parser.stack.Open.TheVariants as container
 use Rattle.tinyjson.proofs.Reading.Stack.{pushed, frames-key}
 use Rattle.tinyjson.proofs.parser.stack.Stack.begin_member.Goals as goal
@@ -10,6 +9,7 @@ returns-clause-begins c =
     let s = c.args.self.now in
     let vs = s.values.items in
     let ks = s.keys.items in
+    let ms = maps_of s in
     let n = c.in-Some-Object.values in
     let m = c.in-Some-Object.keys in
     let rest = c.pop.new.self.items in
@@ -19,8 +19,8 @@ returns-clause-begins c =
     let new : c.push-2.new.self.items ≡ rest ++ container.Member n m ∷ [] = search rules in
     let keys : c.push.new.self.items ≡ ks ++ c.args.key ∷ [] = search rules in
     record {
-      members = gather no_members (drop m ks) (drop n vs);
-      outer = frames_over (reverse rest) (take n vs) (take m ks);
-      before = ap (λ os. frames_over os vs ks) opened;
-      behind = ap₂ (λ os js. frames_over os vs js) (ap reverse new ∙ pushed rest (container.Member n m)) keys ∙ frames-key n m (reverse rest) vs ks c.args.key lies.0 lies.1 lies.2;
+      members = gather (own_members ms) (drop m ks) (drop n vs);
+      outer = frames_over (reverse rest) (take n vs) (take m ks) (other_maps ms);
+      before = ap (λ os. frames_over os vs ks ms) opened;
+      behind = ap₂ (λ os js. frames_over os vs js ms) (ap reverse new ∙ pushed rest (container.Member n m)) keys ∙ frames-key n m (reverse rest) vs ks ms c.args.key lies.0 lies.1 lies.2;
     }

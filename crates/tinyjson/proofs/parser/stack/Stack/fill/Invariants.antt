@@ -16,4 +16,5 @@ invariant-loop-i l =
       keys_count : length l.self.keys.items ≡ length old.keys.items;
       values_count : length l.self.values.items ≡ length old.values.items;
       containers : l.self.containers ≡ old.containers;
+      maps : l.self.maps ≡ old.maps;
     }
