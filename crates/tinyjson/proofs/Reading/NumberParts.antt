@@ -11,9 +11,10 @@ use Rattle.tinyjson_number.specs.declared.parse.NumberParts.{NumberParts}
 use Rattle.tinyjson.specs.private.Source.{Sight, Still, Takes}
 use Rattle.tinyjson.specs.Error.{error_position}
 use Rattle.tinyjson.specs.private.Machine.{Frame, next, stop, awaited, digits, whole, fraction, exponent, complete}
-use Rattle.tinyjson.specs.private.NumberSteps.{BeginsNumber, numeral, is_minus, is_below_zero, exponent_digits, all_digits, marks, Gathered, Accepted, Declined, Accepts, Signs, Digits, Part, ReadsPart}
+use Rattle.tinyjson.specs.private.NumberSteps.{BeginsNumber, numeral, is_minus, is_below_zero, exponent_digits, all_digits, marks_of, Gathered, Accepted, Declined, Accepts, Signs, Digits, Part, ReadsPart}
 use Rattle.tinyjson.specs.private.Steps.{Ends, Leads, Refuses}
 use Rattle.tinyjson.specs.declared.parser.error.JsonParseError.{JsonParseError}
+use Rattle.tinyjson.specs.declared.parser.number.Marks.{Marks}
 use Rattle.tinyjson.specs.declared.parser.error.JsonParseErrorKind.TheVariants.{EmptyInteger, LeadingZero, EmptyFraction, EmptyExponent, NumberOutOfRange}
 use Rattle.tinyjson.specs.Tree.{number}
 use Rattle.tinyjson.proofs.Reading.Steps.{Leads-nil, Leads-to, Leads-trans, Leads-peek, Leads-one, Refuses-as}
@@ -147,43 +148,51 @@ front_marks n = (n.negative, length n.whole)
 module _ {S : Type 0} (sight : Sight S) (p q r : S) (mid new : List ℕ) where
   -- a part, and the next
   pub Part-fraction : {v : Bool} → Part sight (λ n. n.negative) (λ (x : Bool × List ℕ). numeral x.0 x.1 [] None) whole p (λ fs. next fs awaited) v mid q
+      → (k : ℕ) → k ≡ length mid
       → ((b : Bool) (ds : List ℕ) → Gathered (numeral b ds [] None) mid → Ends sight q → Part sight (λ _. tt {0}) (λ f. numeral b ds f None) fraction q (λ fs. next fs (digits whole (numeral b ds [] None))) tt new r)
-      → Part sight front_marks (λ (x : Bool × List ℕ × List ℕ). numeral x.0 x.1 x.2 None) fraction p (λ fs. next fs awaited) (v, length mid) new r
-  Part-fraction i f =
+      → Part sight front_marks (λ (x : Bool × List ℕ × List ℕ). numeral x.0 x.1 x.2 None) fraction p (λ fs. next fs awaited) (v, k) new r
+  Part-fraction i k w f =
       let x = f i.part.0 i.part.1 i.has i.ends in
-      let n : length mid ≡ length i.part.1 = ap length (sym i.has.gathered ∙ append-nil i.part.1) in
-      record { part = (i.part.0, i.part.1, x.part); has = x.has; answers = λ k. (i.answers k, n k); ends = x.ends; leads = λ limit fs. Leads-trans sight limit p q r (i.leads limit fs) (x.leads limit fs) }
+      let n : k ≡ length i.part.1 = w ∙ ap length (sym i.has.gathered ∙ append-nil i.part.1) in
+      record { part = (i.part.0, i.part.1, x.part); has = x.has; answers = λ x. (i.answers x, n x); ends = x.ends; leads = λ limit fs. Leads-trans sight limit p q r (i.leads limit fs) (x.leads limit fs) }
 
-  pub Part-number : {v : Bool} {n : ℕ} {w : Option Bool} → Part sight front_marks (λ (x : Bool × List ℕ × List ℕ). numeral x.0 x.1 x.2 None) fraction p (λ fs. next fs awaited) (v, n) mid q
+  pub Part-number : {v : Bool} {m : ℕ} {w : Option Bool} → Part sight front_marks (λ (x : Bool × List ℕ × List ℕ). numeral x.0 x.1 x.2 None) fraction p (λ fs. next fs awaited) (v, m) mid q
+      → (k : ℕ) → k ≡ length mid
       → ((b : Bool) (ds f : List ℕ) → Gathered (numeral b ds f None) mid → Ends sight q → Part sight (λ n. is_below_zero n.exponent) (numeral b ds f) exponent q (λ fs. next fs (digits fraction (numeral b ds f None))) w new r)
-      → Part sight marks (λ n. n) exponent p (λ fs. next fs awaited) (v, (n, (length mid, w))) new r
-  Part-number i e =
+      → Part sight marks_of (λ n. n) exponent p (λ fs. next fs awaited) (record { negative = v; whole = m; fraction = k; exponent = w }) new r
+  Part-number i k l e =
       let x = e i.part.0 i.part.1 i.part.2 i.has i.ends in
-      let n : length mid ≡ length i.part.1 + length i.part.2 = ap length (sym i.has.gathered ∙ ap (λ t. i.part.1 ++ t) (append-nil i.part.2)) ∙ length-append i.part.1 i.part.2 in
+      let n : k ≡ length i.part.1 + length i.part.2 = l ∙ ap length (sym i.has.gathered ∙ ap (λ t. i.part.1 ++ t) (append-nil i.part.2)) ∙ length-append i.part.1 i.part.2 in
       record {
         part = numeral i.part.0 i.part.1 i.part.2 x.part;
         has = x.has;
-        answers = λ k. ((i.answers k).0, ((i.answers k).1, (n k, x.answers k)));
+        answers = λ y. record { negative = (i.answers y).0; whole = (i.answers y).1; fraction = n y; exponent = x.answers y };
         ends = x.ends;
         leads = λ limit fs. Leads-trans sight limit p q r (i.leads limit fs) (x.leads limit fs);
       }
 
--- the parts that end at these places of a text, wherever they lie in memory
-abbrev pub parts_of : List ℕ → Bool → ℕ → ℕ → Option ExponentParts → NumberParts
-parts_of text negative i j e = record {
-  negative = negative;
-  whole = record { ref_ptr = (0, 0); now = take i text };
-  fraction = record { ref_ptr = (0, 0); now = take (j - i) (drop i text) };
+-- the parts that end at these marks of a text, wherever they lie in memory
+abbrev pub parts_of : List ℕ → Marks → Option ExponentParts → NumberParts
+parts_of text m e = record {
+  negative = m.negative;
+  whole = record { ref_ptr = (0, 0); now = take m.whole text };
+  fraction = record { ref_ptr = (0, 0); now = take (m.fraction - m.whole) (drop m.whole text) };
   exponent = e;
 }
 
 -- those that end at the marks of a numeral are its parts
-module _ (n : Numeral) (text : List ℕ) (negative : Bool) (i j : ℕ) (w : Option Bool) (has : Gathered n text) (at : (negative, (i, (j, w))) ≡ marks n) where
+module _ (n : Numeral) (text : List ℕ) (m : Marks) (has : Gathered n text) (at : m ≡ marks_of n) where
+  abbrev i : ℕ
+  i = m.whole
+
+  abbrev j : ℕ
+  j = m.fraction
+
   to_whole : i ≡ length n.whole
-  to_whole = ap (λ x. x.1.0) at
+  to_whole = ap (λ (x : Marks). x.whole) at
 
   to_fraction : j ≡ length n.whole + length n.fraction
-  to_fraction = ap (λ x. x.1.1.0) at
+  to_fraction = ap (λ (x : Marks). x.fraction) at
 
   whole_at : take i text ≡ n.whole
   whole_at = ap (take i) (sym has.gathered) ∙ take_at n.whole (n.fraction ++ exponent_digits n.exponent) i (sym to_whole)
@@ -199,7 +208,7 @@ module _ (n : Numeral) (text : List ℕ) (negative : Bool) (i j : ℕ) (w : Opti
       let both : all_digits n ≡ (n.whole ++ n.fraction) ++ exponent_digits n.exponent = sym (append_assoc n.whole n.fraction (exponent_digits n.exponent)) in
       ap (drop j) (sym has.gathered ∙ both) ∙ drop_at (n.whole ++ n.fraction) (exponent_digits n.exponent) j (length-append n.whole n.fraction ∙ sym to_fraction)
 
-  plain_at : (e : Option Exponent) → w ≡ is_below_zero e → (t : List ℕ) → t ≡ exponent_digits e → written t w ≡ plain_exponent e
+  plain_at : (e : Option Exponent) → m.exponent ≡ is_below_zero e → (t : List ℕ) → t ≡ exponent_digits e → written t m.exponent ≡ plain_exponent e
   plain_at None h t k = ap (written t) h
   plain_at (Some e) h t k = ap (written t) h ∙ ap (λ x. Some (record { letter = 101; sign = if is_minus e.sign then Some 45 else None; digits = x })) k ∙ ap (λ x. Some (record { letter = 101; sign = x; digits = e.digits })) (plain_minus e.sign)
 
@@ -207,10 +216,10 @@ module _ (n : Numeral) (text : List ℕ) (negative : Bool) (i j : ℕ) (w : Opti
   marks_within =
       (omega (arith, to_whole, to_fraction), omega (arith, to_fraction, ap length has.gathered, length-append n.whole (n.fraction ++ exponent_digits n.exponent), length-append n.fraction (exponent_digits n.exponent)))
 
-  pub parts_plain : (e : Option ExponentParts) → exponent_of e ≡ written (take (length text - j) (drop j text)) w → numeral_of (parts_of text negative i j e) ≡ plain n
+  pub parts_plain : (e : Option ExponentParts) → exponent_of e ≡ written (take (length text - j) (drop j text)) m.exponent → numeral_of (parts_of text m e) ≡ plain n
   parts_plain e h =
-      let u = h ∙ plain_at n.exponent (ap (λ x. x.1.1.1) at) (take (length text - j) (drop j text)) (take_all _ _ (omega (arith, length-drop j text)) ∙ exponent_at) in
-      λ k. record { negative = (at k).0; whole = whole_at k; fraction = fraction_at k; exponent = u k }
+      let u = h ∙ plain_at n.exponent (ap (λ (x : Marks). x.exponent) at) (take (length text - j) (drop j text)) (take_all _ _ (omega (arith, length-drop j text)) ∙ exponent_at) in
+      λ k. record { negative = (at k).negative; whole = whole_at k; fraction = fraction_at k; exponent = u k }
 
 -- the number ends here
 module _ {S : Type 0} (sight : Sight S) (limit : Option ℕ) (fs : List Frame) (p q : S) {T : Type 0} {answer : Numeral → T} {v : T} (text : List ℕ) (n : Part sight answer (λ n. n) exponent p (λ fs. next fs awaited) v text q) where

@@ -9,6 +9,7 @@ use Rattle.tinyjson.specs.private.Source.{Sight, Still, Takes}
 use Rattle.tinyjson.specs.private.Machine.{Frame, Stage, Next, next, digits}
 use Rattle.tinyjson.specs.private.Steps.{Ends, Leads, Refuses}
 use Rattle.tinyjson.specs.declared.parser.error.JsonParseError.{JsonParseError}
+use Rattle.tinyjson.specs.declared.parser.number.Marks.{Marks}
 use Rattle.tinyjson.specs.declared.parser.error.JsonParseErrorKind.{JsonParseErrorKind}
 use Rattle.tinyjson.specs.declared.parser.error.JsonParseErrorKind.TheVariants.{OutOfMemory}
 
@@ -37,9 +38,14 @@ exponent_digits (Some e) = e.digits
 abbrev pub all_digits : Numeral → List ℕ
 all_digits n = n.whole ++ (n.fraction ++ exponent_digits n.exponent)
 
--- whether it is below zero, where its parts end among its digits, and whether its exponent is below zero
-abbrev pub marks : Numeral → Bool × (ℕ × (ℕ × Option Bool))
-marks n = (n.negative, (length n.whole, (length n.whole + length n.fraction, is_below_zero n.exponent)))
+-- what a number has besides its digits
+abbrev pub marks_of : Numeral → Marks
+marks_of n = record {
+  negative = n.negative;
+  whole = length n.whole;
+  fraction = length n.whole + length n.fraction;
+  exponent = is_below_zero n.exponent;
+}
 
 -- the digits of that number of the grammar
 pub record Gathered (n : Numeral) (text : List ℕ) : Type 0 where

@@ -3,7 +3,7 @@ ghost use Rattle.std.specs.Prelude.{◌≡◌, ◌==◌, ◌<◌, ◌≤◌, [],
 ghost use Rattle.std.specs.Prelude.{if◌then◌else◌, length, option_map, string_bytes};
 ghost use Rattle.tinyjson.specs.private.Machine.{Frame, awaited, complete, digits, whole, fraction, exponent, next};
 ghost use Rattle.tinyjson.specs.private.NumberSteps.{Digits, BeginsNumber, Accepts, Gathered, ReadsPart, Signs};
-ghost use Rattle.tinyjson.specs.private.NumberSteps.{is_below_zero, marks, numeral};
+ghost use Rattle.tinyjson.specs.private.NumberSteps.{is_below_zero, marks_of, numeral};
 ghost use Rattle.tinyjson.specs.private.Steps.{Ends, Reads};
 ghost use Rattle.tinyjson.specs.Tree.{number};
 ghost use Rattle.tinyjson_number.specs.Numeral.{Exponent, Numeral, has_leading_zero, is_exponent_letter};
@@ -13,6 +13,19 @@ use super::error::{JsonParseError, JsonParseErrorKind};
 use super::reader::Reader;
 use super::source::Source;
 use tinyjson_number::{ExponentParts, JsonNumber, LiteralError, NumberParts};
+
+/// What a number has besides its digits, which are gathered without anything between them.
+#[derive(Clone, Copy)]
+struct Marks {
+    /// Whether a `-` stands in front.
+    negative: bool,
+    /// Where the digits of the whole part end.
+    whole: usize,
+    /// Where those of the fraction end.
+    fraction: usize,
+    /// Whether the exponent is below zero, if there is one.
+    exponent: Option<bool>,
+}
 
 /// Whether there are two or more digits, and the first is `0`.
 fn has_leading_zero(digits: &[u8]) -> bool
@@ -34,41 +47,51 @@ impl<S: Source> Reader<S> {
             (λ n. complete true fs (number n.decimal) true) self.new.source }
         ensures left { OnOk result (S.left self.new.source < S.left self.old.source) }
     {
-        self.literal.clear();
-        let negative = self.integer()?;
-        let whole = self.literal.len();
-        self.fraction()?;
-        let fraction = self.literal.len();
-        let exponent = self.exponent()?;
-        match self.gathered(negative, whole, fraction, exponent) {
+        let marks = self.parts()?;
+        match self.gathered(marks) {
             Ok(number) => Ok(number),
             Err(LiteralError::OutOfRange) => Err(self.refuse(JsonParseErrorKind::NumberOutOfRange)),
             Err(LiteralError::OutOfMemory) => Err(self.refuse(JsonParseErrorKind::OutOfMemory)),
         }
     }
 
-    /// The number whose digits were gathered: those of its whole part end at `whole`, and those of its
-    /// fraction at `fraction`.
-    fn gathered(
-        &self,
-        negative: bool,
-        whole: usize,
-        fraction: usize,
-        exponent: Option<bool>,
-    ) -> Result<JsonNumber, LiteralError>
-        requires order { whole ≤ fraction }
-        requires within { fraction ≤ length (string_bytes self.now.literal) }
+    /// Reads the digits of a number's parts into the literal.
+    fn parts(&mut self) -> Result<Marks, JsonParseError>
+        requires { BeginsNumber S.sight self.old.source }
+        ensures reads { ReadsPart S.sight marks_of (λ n. n) exponent
+            self.old.source (λ fs. next fs awaited) result (string_bytes self.new.literal)
+            self.new.source }
+        ensures left { OnOk result (S.left self.new.source < S.left self.old.source) }
+    {
+        self.literal.clear();
+        let negative = self.integer()?;
+        let whole = self.literal.len();
+        self.fraction()?;
+        let fraction = self.literal.len();
+        let exponent = self.exponent()?;
+        Ok(Marks {
+            negative,
+            whole,
+            fraction,
+            exponent,
+        })
+    }
+
+    /// The number whose digits were gathered.
+    fn gathered(&self, marks: Marks) -> Result<JsonNumber, LiteralError>
+        requires order { marks.whole ≤ marks.fraction }
+        requires within { marks.fraction ≤ length (string_bytes self.now.literal) }
         requires gathered { (n : Numeral) × Gathered n (string_bytes self.now.literal)
-            × ((negative, (whole, (fraction, exponent))) ≡ marks n) }
+            × (marks ≡ marks_of n) }
         ensures { (n : Numeral) → Gathered n (string_bytes self.now.literal)
-            → (negative, (whole, (fraction, exponent))) ≡ marks n → ReadsNumeral n result }
+            → marks ≡ marks_of n → ReadsNumeral n result }
     {
         let digits = self.literal.as_bytes();
         let parts = NumberParts {
-            negative,
-            whole: &digits[..whole],
-            fraction: &digits[whole..fraction],
-            exponent: exponent_parts(exponent, &digits[fraction..]),
+            negative: marks.negative,
+            whole: &digits[..marks.whole],
+            fraction: &digits[marks.whole..marks.fraction],
+            exponent: exponent_parts(marks.exponent, &digits[marks.fraction..]),
         };
         JsonNumber::from_parts(self.alloc, parts)
     }

@@ -6,15 +6,13 @@ use Rattle.tinyjson.proofs.parser.reader.Reader.gathered.Goals as goal
 
 pub from_parts-requires-clause-numeral : goal.from_parts-requires-clause-numeral
 from_parts-requires-clause-numeral g c =
-    let a = c.args in
     let n = c.requires.gathered.0 in
     let has = subst (Gathered n) (sym c.as_bytes-digits.ensures.value) c.requires.gathered.1 in
-    parts-numeral n (parts_of c.as_bytes-digits.result.now a.negative a.whole a.fraction c.exponent_parts.result)
-    (parts_plain n _ a.negative a.whole a.fraction a.exponent has c.requires.gathered.2 c.exponent_parts.result c.exponent_parts.ensures) has.well_formed
+    parts-numeral n (parts_of c.as_bytes-digits.result.now c.args.marks c.exponent_parts.result)
+    (parts_plain n _ c.args.marks has c.requires.gathered.2 c.exponent_parts.result c.exponent_parts.ensures) has.well_formed
 
 pub returns : goal.returns
 returns g c = λ n s at.
-    let a = c.args in
     let has = subst (Gathered n) (sym c.as_bytes-digits.ensures.value) s in
-    parts-read n (parts_of c.as_bytes-digits.result.now a.negative a.whole a.fraction c.exponent_parts.result)
-    (parts_plain n _ a.negative a.whole a.fraction a.exponent has at c.exponent_parts.result c.exponent_parts.ensures) c.from_parts.result c.from_parts.ensures
+    parts-read n (parts_of c.as_bytes-digits.result.now c.args.marks c.exponent_parts.result)
+    (parts_plain n _ c.args.marks has at c.exponent_parts.result c.exponent_parts.ensures) c.from_parts.result c.from_parts.ensures
