@@ -127,12 +127,26 @@ fn short(negative: bool, whole: &[u8], fraction: &[u8]) -> JsonNumber
     ensures decimal { result.decimal ≡ value (plain_numeral negative whole.now fraction.now) }
     ensures fits { IsTrue (in_range (value (plain_numeral negative whole.now fraction.now))) }
 {
+    if fraction.is_empty() && is_bare(whole) {
+        return JsonNumber::of_few(negative, whole, b"", 0);
+    }
     let kept = strip(whole, fraction);
     if kept.whole.len() + kept.fraction.len() == 0 {
         return JsonNumber::zero();
     }
     let power = kept.zeros as i64 - fraction.len() as i64;
     JsonNumber::of_few(negative, kept.whole, kept.fraction, power)
+}
+
+// Whether there are digits that neither begin nor end with `0`.
+fn is_bare(digits: &[u8]) -> bool
+    ensures { IsTrue result → (0 < length digits.now)
+        × (strip_leading digits.now ≡ digits.now) × (strip_trailing digits.now ≡ digits.now) }
+{
+    if digits.is_empty() || digits[0] == b'0' {
+        return false;
+    }
+    digits[digits.len() - 1] != b'0'
 }
 
 // The number of any digits and any exponent.
