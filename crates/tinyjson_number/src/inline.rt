@@ -21,7 +21,9 @@ impl Inline {
         let len = front.len() + back.len();
         let mut bytes = [0; ROOM];
         bytes[..front.len()].copy_from_slice(front);
-        bytes[front.len()..len].copy_from_slice(back);
+        if !back.is_empty() {
+            bytes[front.len()..len].copy_from_slice(back);
+        }
         Inline {
             bytes,
             len: len as u8,

@@ -127,8 +127,8 @@ fn short(negative: bool, whole: &[u8], fraction: &[u8]) -> JsonNumber
     ensures decimal { result.decimal ≡ value (plain_numeral negative whole.now fraction.now) }
     ensures fits { IsTrue (in_range (value (plain_numeral negative whole.now fraction.now))) }
 {
-    if fraction.is_empty() && is_bare(whole) {
-        return JsonNumber::of_few(negative, whole, b"", 0);
+    if is_bare(whole, fraction) {
+        return JsonNumber::of_few(negative, whole, fraction, -(fraction.len() as i64));
     }
     let kept = strip(whole, fraction);
     if kept.whole.len() + kept.fraction.len() == 0 {
@@ -138,15 +138,19 @@ fn short(negative: bool, whole: &[u8], fraction: &[u8]) -> JsonNumber
     JsonNumber::of_few(negative, kept.whole, kept.fraction, power)
 }
 
-// Whether there are digits that neither begin nor end with `0`.
-fn is_bare(digits: &[u8]) -> bool
-    ensures { IsTrue result → (0 < length digits.now)
-        × (strip_leading digits.now ≡ digits.now) × (strip_trailing digits.now ≡ digits.now) }
+// Whether the digits of both parts neither begin nor end with `0`.
+fn is_bare(whole: &[u8], fraction: &[u8]) -> bool
+    ensures { IsTrue result → (0 < length whole.now)
+        × (strip_leading (whole.now ++ fraction.now) ≡ whole.now ++ fraction.now)
+        × (strip_trailing (whole.now ++ fraction.now) ≡ whole.now ++ fraction.now) }
 {
-    if digits.is_empty() || digits[0] == b'0' {
+    if whole.is_empty() || whole[0] == b'0' {
         return false;
     }
-    digits[digits.len() - 1] != b'0'
+    if fraction.is_empty() {
+        return whole[whole.len() - 1] != b'0';
+    }
+    fraction[fraction.len() - 1] != b'0'
 }
 
 // The number of any digits and any exponent.

@@ -24,7 +24,7 @@ where
 {
     pub(super) alloc: Global,
     pub(super) source: S,
-    /// The literal of the number that is being read.
+    /// The digits of the number that is being read.
     pub(super) literal: String,
     /// The characters of a string that is read piece by piece, and the units behind them.
     pub(super) buffer: String,
