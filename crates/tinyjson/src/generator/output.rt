@@ -62,75 +62,35 @@ impl Room {
     }
 }
 
-// Puts the bytes at the place. Few are put by two vectors, which may overlap.
+// Puts the bytes at the place, a few of them by two vectors, which may overlap.
 #[inline(always)]
 fn copy(target: &mut [u8], at: usize, bytes: &[u8])
     requires { at + length bytes.now ≤ length target.old }
     ensures copied { take (at + length bytes.now) target.new ≡ take at target.old ++ bytes.now }
     ensures len { length target.new ≡ length target.old }
 {
-    let count = bytes.len();
-    if count > 32 {
-        target[at..at + count].copy_from_slice(bytes);
-    } else if count >= 16 {
-        copy_16(target, at, bytes);
-    } else if count >= 8 {
-        copy_8(target, at, bytes);
-    } else if count >= 4 {
-        copy_4(target, at, bytes);
-    } else if count >= 2 {
-        copy_2(target, at, bytes);
-    } else if count == 1 {
-        target[at] = bytes[0];
+    match bytes.len() {
+        0 => {}
+        1 => target[at] = bytes[0],
+        2..=3 => copy_ends::<2>(target, at, bytes),
+        4..=7 => copy_ends::<4>(target, at, bytes),
+        8..=15 => copy_ends::<8>(target, at, bytes),
+        16..=32 => copy_ends::<16>(target, at, bytes),
+        count => target[at..at + count].copy_from_slice(bytes),
     }
 }
 
+// The first N bytes and the last N, which are all.
 #[inline(always)]
-fn copy_16(target: &mut [u8], at: usize, bytes: &[u8])
-    requires count { (16 ≤ length bytes.now) × (length bytes.now ≤ 32) }
+fn copy_ends<const N: usize>(target: &mut [u8], at: usize, bytes: &[u8])
+    requires count { (N ≤ length bytes.now) × (length bytes.now ≤ N + N) }
     requires room { at + length bytes.now ≤ length target.old }
     ensures copied { take (at + length bytes.now) target.new ≡ take at target.old ++ bytes.now }
     ensures len { length target.new ≡ length target.old }
 {
-    let last = bytes.len() - 16;
-    u8x16::from_slice(bytes).copy_to_slice(&mut target[at..]);
-    u8x16::from_slice(&bytes[last..]).copy_to_slice(&mut target[at + last..]);
-}
-
-#[inline(always)]
-fn copy_8(target: &mut [u8], at: usize, bytes: &[u8])
-    requires count { (8 ≤ length bytes.now) × (length bytes.now ≤ 16) }
-    requires room { at + length bytes.now ≤ length target.old }
-    ensures copied { take (at + length bytes.now) target.new ≡ take at target.old ++ bytes.now }
-    ensures len { length target.new ≡ length target.old }
-{
-    let last = bytes.len() - 8;
-    u8x8::from_slice(bytes).copy_to_slice(&mut target[at..]);
-    u8x8::from_slice(&bytes[last..]).copy_to_slice(&mut target[at + last..]);
-}
-
-#[inline(always)]
-fn copy_4(target: &mut [u8], at: usize, bytes: &[u8])
-    requires count { (4 ≤ length bytes.now) × (length bytes.now ≤ 8) }
-    requires room { at + length bytes.now ≤ length target.old }
-    ensures copied { take (at + length bytes.now) target.new ≡ take at target.old ++ bytes.now }
-    ensures len { length target.new ≡ length target.old }
-{
-    let last = bytes.len() - 4;
-    u8x4::from_slice(bytes).copy_to_slice(&mut target[at..]);
-    u8x4::from_slice(&bytes[last..]).copy_to_slice(&mut target[at + last..]);
-}
-
-#[inline(always)]
-fn copy_2(target: &mut [u8], at: usize, bytes: &[u8])
-    requires count { (2 ≤ length bytes.now) × (length bytes.now ≤ 4) }
-    requires room { at + length bytes.now ≤ length target.old }
-    ensures copied { take (at + length bytes.now) target.new ≡ take at target.old ++ bytes.now }
-    ensures len { length target.new ≡ length target.old }
-{
-    let last = bytes.len() - 2;
-    u8x2::from_slice(bytes).copy_to_slice(&mut target[at..]);
-    u8x2::from_slice(&bytes[last..]).copy_to_slice(&mut target[at + last..]);
+    let last = bytes.len() - N;
+    Simd::<u8, N>::from_slice(bytes).copy_to_slice(&mut target[at..]);
+    Simd::<u8, N>::from_slice(&bytes[last..]).copy_to_slice(&mut target[at + last..]);
 }
 
 // Writes the bytes behind those that wait, or lets them wait too. An error is that of `write_all`.
