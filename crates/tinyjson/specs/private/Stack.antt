@@ -36,9 +36,11 @@ other_maps (m ∷ ms) = ms
 abbrev pub frames_over : List Open → List JsonValue → List (String Global) → List JsonMap → List Frame
 frames_over [] vs ks ms = []
 frames_over (container.Array n ∷ os) vs ks ms = in_array (map view (drop n vs)) ∷ frames_over os (take n vs) ks ms
-frames_over (container.Object n m ∷ os) vs ks ms = at_key (gather (own_members ms) (drop m ks) (drop n vs)) ∷ frames_over os (take n vs) (take m ks) (other_maps ms)
+frames_over (container.Object n m ∷ os) vs ks ms =
+    at_key (gather (own_members ms) (drop m ks) (drop n vs)) ∷ frames_over os (take n vs) (take m ks) (other_maps ms)
 frames_over (container.Member n m ∷ os) vs ks ms =
-    at_value (gather (own_members ms) (drop m ks) (drop n vs)) (waiting (drop m ks) (drop n vs)) ∷ frames_over os (take n vs) (take m ks) (other_maps ms)
+    at_value (gather (own_members ms) (drop m ks) (drop n vs)) (waiting (drop m ks) (drop n vs))
+    ∷ frames_over os (take n vs) (take m ks) (other_maps ms)
 
 -- the last value is whole, and not yet part of its container
 abbrev pub whole_over : List Open → List JsonValue → List (String Global) → List JsonMap → Next

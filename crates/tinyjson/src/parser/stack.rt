@@ -1,7 +1,8 @@
 //! The containers that are open, and what they hold so far.
 ghost use Rattle.std.specs.Prelude.{◌≡◌, ◌+◌, ◌≤◌, List, [], ◌∷◌, length, take, drop, true, false, OnOk, IfOk, MatchOption};
 ghost use Rattle.tinyjson.specs.private.Machine.{in_array, at_key, after, next, complete, finished};
-ghost use Rattle.tinyjson.specs.private.Stack.{frames, at, open_of, IsSound, Innermost, AwaitsKey, TakesValue, BeginsMember, ClosesArray, ClosesObject, frames_over, gather, maps_of, other_maps, own_members, Lies};
+ghost use Rattle.tinyjson.specs.private.Stack.{at, frames, frames_over, gather, maps_of, open_of, other_maps, own_members};
+ghost use Rattle.tinyjson.specs.private.Stack.{AwaitsKey, BeginsMember, ClosesArray, ClosesObject, Innermost, IsSound, Lies, TakesValue};
 ghost use Rattle.tinyjson.specs.Tree.{no_members};
 ghost use Rattle.tinyjson.specs.View.{view, text, members_view};
 ghost use Rattle.tinyjson.specs.declared.parser.stack.Open.TheVariants as container;
@@ -21,7 +22,7 @@ pub(super) enum Open {
     Member { values: usize, keys: usize },
 }
 
-/// So many members of an object that goes on wait on the stack at most, before they are put into its map.
+/// So many members of an object wait on the stack at most, before they are put into its map.
 const MANY: usize = 64;
 
 /// The containers that are open, the innermost last, and the values and keys that were read in them.
@@ -68,7 +69,8 @@ impl Stack {
     pub(super) fn push(&mut self, value: JsonValue) -> Result<(), AllocError>
         requires sound { IsSound self.old false }
         requires place { TakesValue (open_of self.old) }
-        ensures at { OnOk result (at self.new true ≡ complete true (frames self.old) (view value) true) }
+        ensures at { OnOk result (at self.new true
+            ≡ complete true (frames self.old) (view value) true) }
         ensures sound { OnOk result (IsSound self.new true) }
     {
         if let Err(refused) = self.values.push(value) {
