@@ -8,7 +8,7 @@ use Rattle.std.specs.Prelude.{if◌then◌else◌}
 use Rattle.std.specs.Str.{IsUtf8, chars}
 use Rattle.std.specs.Result.{IsErr}
 use Rattle.std.specs.declared.io.Error.{Error}
-use Rattle.tinyjson.proofs.Callers.{Appends-keeps, stop, stops_then, written_same}
+use Rattle.tinyjson.proofs.Callers.{Appends_keeps, stop, stops_then, written_same}
 use Rattle.tinyjson.specs.Grammar.{IsText}
 use Rattle.tinyjson.specs.Tree.{Tree}
 use Rattle.tinyjson.specs.Written.{Written, WrittenPart}
@@ -28,11 +28,11 @@ first_line [] h = absurd (omega (arith, h))
 first_line (x ∷ xs) h = first_by (x == 10) x xs
 
 -- one more line is read
-lines_read-next : (unread left after : Option (List ℕ)) (read : List (List ℕ)) (line : List ℕ) → LinesRead unread left read → IfSome left (λ xs. line ≡ take_through 10 xs) → DropsThrough left after 10 → 0 < length line
+lines_read_next : (unread left after : Option (List ℕ)) (read : List (List ℕ)) (line : List ℕ) → LinesRead unread left read → IfSome left (λ xs. line ≡ take_through 10 xs) → DropsThrough left after 10 → 0 < length line
     → LinesRead unread after (read ++ line ∷ [])
-lines_read-next None left after read line h is rest some = tt
-lines_read-next (Some xs) None after read line h is rest some = absurd h
-lines_read-next (Some xs) (Some ys) after read line h is rest some =
+lines_read_next None left after read line h is rest some = tt
+lines_read_next (Some xs) None after read line h is rest some = absurd h
+lines_read_next (Some xs) (Some ys) after read line h is rest some =
     subst (λ o. LinesRead (Some xs) o (read ++ line ∷ [])) (sym rest)
     (h ∙ ap (λ ls. read ++ ls) (first_line ys (subst (λ l. 0 < length l) is some) ∙ ap (λ l. l ∷ lines (drop_through 10 ys)) (sym is)) ∙ sym (append_assoc read (line ∷ []) (lines (drop_through 10 ys))))
 
@@ -49,15 +49,15 @@ first_lines (Some xs) (Some ys) read h = (lines ys, h)
 
 -- ---- their trees
 
-texts-next : (read : List (List ℕ)) (trees : List Tree) (line : List ℕ) (t : Tree) → AreTexts read trees → IsUtf8 line → IsText None (chars line) t → AreTexts (read ++ line ∷ []) (trees ++ t ∷ [])
-texts-next [] [] line t h utf8 is = ((utf8, is), tt)
-texts-next [] (u ∷ us) line t h utf8 is = absurd h
-texts-next (l ∷ ls) [] line t h utf8 is = absurd h
-texts-next (l ∷ ls) (u ∷ us) line t h utf8 is = (h.0, texts-next ls us line t h.1 utf8 is)
+texts_next : (read : List (List ℕ)) (trees : List Tree) (line : List ℕ) (t : Tree) → AreTexts read trees → IsUtf8 line → IsText None (chars line) t → AreTexts (read ++ line ∷ []) (trees ++ t ∷ [])
+texts_next [] [] line t h utf8 is = ((utf8, is), tt)
+texts_next [] (u ∷ us) line t h utf8 is = absurd h
+texts_next (l ∷ ls) [] line t h utf8 is = absurd h
+texts_next (l ∷ ls) (u ∷ us) line t h utf8 is = (h.0, texts_next ls us line t h.1 utf8 is)
 
-normal-next : (trees : List Tree) (t : Tree) → normal_lines (trees ++ t ∷ []) ≡ normal_lines trees ++ normal_line t
-normal-next [] t = append-nil (normal_line t)
-normal-next (u ∷ us) t = ap (λ l. normal_line u ++ l) (normal-next us t) ∙ sym (append_assoc (normal_line u) (normal_lines us) (normal_line t))
+normal_next : (trees : List Tree) (t : Tree) → normal_lines (trees ++ t ∷ []) ≡ normal_lines trees ++ normal_line t
+normal_next [] t = append-nil (normal_line t)
+normal_next (u ∷ us) t = ap (λ l. normal_line u ++ l) (normal_next us t) ∙ sym (append_assoc (normal_line u) (normal_lines us) (normal_line t))
 
 -- ---- the loop
 
@@ -95,12 +95,12 @@ module _ (unread left held holds : Option (List ℕ)) where
   module _ (n : ℕ) (p : Progress unread left held holds n) (after new : Option (List ℕ)) (cleared filled line : List ℕ) (empty : cleared ≡ []) (is : line ≡ filled) (utf8 : IsUtf8 line)
       (taken : IfSome left (λ xs. filled ≡ cleared ++ take_through 10 xs)) (rest : DropsThrough left after 10) (some : 0 < length line) where
     one_more : LinesRead unread after (p.read ++ line ∷ [])
-    one_more = lines_read-next unread left after p.read line p.lines_read (line_is left cleared filled line empty is taken) rest some
+    one_more = lines_read_next unread left after p.read line p.lines_read (line_is left cleared filled line empty is taken) rest some
 
     pub refused : (o : Option JsonParseError) (e : JsonParseError) → o ≡ Some e → WritesLine (chars line) holds new (Ok o) → AnswersLines unread after held new (Some record { number = n; error = e })
     refused o e there h =
         let w : WritesLine (chars line) holds new (Ok (Some e)) = subst (λ q. WritesLine (chars line) holds new (Ok q)) there h in
-        record { read = p.read; trees = p.trees; texts = p.texts; written = Appends-keeps held holds new (normal_lines p.trees) p.written w.1; says = (line, one_more, p.count, utf8, w.0) }
+        record { read = p.read; trees = p.trees; texts = p.texts; written = Appends_keeps held holds new (normal_lines p.trees) p.written w.1; says = (line, one_more, p.count, utf8, w.0) }
 
     pub next : (o : Option JsonParseError) → o ≡ None → WritesLine (chars line) holds new (Ok o) → Progress unread after held new (n + 1)
     next o nothing h =
@@ -108,9 +108,9 @@ module _ (unread left held holds : Option (List ℕ)) where
         record {
           read = p.read ++ line ∷ [];
           trees = p.trees ++ w.0 ∷ [];
-          texts = texts-next p.read p.trees line w.0 p.texts utf8 w.1;
+          texts = texts_next p.read p.trees line w.0 p.texts utf8 w.1;
           lines_read = one_more;
-          written = subst (Appends held new) (sym (normal-next p.trees w.0)) (Appends-trans held holds new (normal_lines p.trees) (normal_line w.0) p.written w.2);
+          written = subst (Appends held new) (sym (normal_next p.trees w.0)) (Appends-trans held holds new (normal_lines p.trees) (normal_line w.0) p.written w.2);
           count = omega (arith, p.count, length-append p.read (line ∷ []));
         }
 
@@ -118,9 +118,9 @@ module _ (unread left held holds : Option (List ℕ)) where
     cut t h w = record {
       read = p.read ++ line ∷ [];
       trees = p.trees ++ t ∷ [];
-      texts = texts-next p.read p.trees line t p.texts utf8 h;
+      texts = texts_next p.read p.trees line t p.texts utf8 h;
       first = first_lines unread after (p.read ++ line ∷ []) one_more;
-      written = stops_then (normal_line t) (record { done = normal_lines p.trees; split = normal-next p.trees t; appended = p.written }) w;
+      written = stops_then (normal_line t) (record { done = normal_lines p.trees; split = normal_next p.trees t; appended = p.written }) w;
     }
 
     kept : Keeps holds new → StopsAmongLines unread held new

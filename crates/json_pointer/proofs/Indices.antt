@@ -86,12 +86,12 @@ index_token (c ∷ ds) (suc n) h k f z =
 decimal_zero : (n : ℕ) → n ≡ 0 → decimal n ≡ 48 ∷ []
 decimal_zero n e = ap decimal e ∙ decimal_digit 0 (lit< tt)
 
-pub decimal-index : (n : ℕ) → n < 2 ^ 64 → index_of (decimal n) ≡ Some n
-decimal-index n h =
+pub decimal_index : (n : ℕ) → n < 2 ^ 64 → index_of (decimal n) ≡ Some n
+decimal_index n h =
     ap (λ b. cond b (Some (digits_value 10 (decimal n))) None) (index_token (decimal n) n (digits_decimal own n h) (decimal_nonempty n h) (λ k. first_decimal n k h) (decimal_zero n))
     ∙ ap Some (digits_value-decimal own n h)
 
 -- the text that is the decimal of an index
 pub prepended : {T E : Type 0} (r : Result T E) (s : String Global) (n : ℕ) (old new : List (List ℕ)) → n < 2 ^ 64 → string_bytes s ≡ decimal n → OnOk r (new ≡ text s ∷ old) → OnOk r (HasIndexBefore n old new)
-prepended (Ok x) s n old new h b e = record { token = text s; named = ap index_of (ap chars b ∙ chars-IsAscii (decimal n) (IsAscii-decimal n h)) ∙ decimal-index n h; joined = e }
+prepended (Ok x) s n old new h b e = record { token = text s; named = ap index_of (ap chars b ∙ chars-IsAscii (decimal n) (IsAscii-decimal n h)) ∙ decimal_index n h; joined = e }
 prepended (Err x) s n old new h b e = tt

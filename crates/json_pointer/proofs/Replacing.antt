@@ -6,7 +6,7 @@ use Rattle.std.specs.Option.{option_map_or}
 use Rattle.std.specs.Prelude.{slice_get, option_and_then}
 use Rattle.std.specs.String.{string_eq}
 use Rattle.std.specs.Vec.{with_item}
-use Rattle.tinyjson.proofs.Callers.{object_tree, array_tree, find-get, nth-items_view, items_view-set, members_view-write, put-back, with_nth-back, view-Object, view-Array}
+use Rattle.tinyjson.proofs.Callers.{object_tree, array_tree, find_get, nth_items_view, items_view_set, members_view_write, put_back, with_nth_back, view_Object, view_Array}
 use Rattle.tinyjson.specs.Access.{JsonMap, object_part, array_part}
 use Rattle.tinyjson.specs.Soundness.{IsTree}
 use Rattle.tinyjson.specs.Tree.{Tree, array, object, Items}
@@ -19,11 +19,11 @@ use Rattle.json_pointer.specs.Walk.{step, item_of, with_item_of, with_step, with
 
 item_back : (ts : Items) (o : Option ℕ) (u : Tree) → item_of ts o ≡ Some u → with_item_of ts o u ≡ ts
 item_back ts None u h = refl
-item_back ts (Some i) u h = with_nth-back ts i u h
+item_back ts (Some i) u h = with_nth_back ts i u h
 
 -- putting a part where it stands changes nothing
 step_back : (t : Tree) (k : List ℕ) (u : Tree) → IsTree t → step t k ≡ Some u → with_step t k u ≡ t
-step_back (object ms) k u s h = ap object (put-back k u ms s.1 h)
+step_back (object ms) k u s h = ap object (put_back k u ms s.1 h)
 step_back (array ts) k u s h = ap array (item_back ts (index_of k) u h)
 step_back _ k u s h = refl
 
@@ -46,19 +46,19 @@ pub member_step : (v : JsonValue) (m : JsonMap) (key : String Global) (bs : List
     → step (view v) (text key) ≡ option_map view o
 member_step v m key bs o b h g =
     ap (λ t. step t (text key)) (object_tree v m (sym h))
-    ∙ (find-get m (string_bytes key) (IsUtf8-string_bytes key) ∙ ap (option_map view) (ap (get_by_text m) (sym b) ∙ sym g))
+    ∙ (find_get m (string_bytes key) (IsUtf8-string_bytes key) ∙ ap (option_map view) (ap (get_by_text m) (sym b) ∙ sym g))
 
 pub member_replaced : (v : JsonValue) (m n : JsonMap) (key : String Global) (bs : List ℕ) (w : JsonValue) → bs ≡ string_bytes key → Some m ≡ object_part v → IsSome (get_by_text m bs)
     → UpdatesBy string_eq (λ k. bytes_eq bs (string_bytes k)) m n (Some w) → view (is.Object n) ≡ with_step (view v) (text key) (view w)
 member_replaced v m n key bs w b h there upd =
-    view-Object n
-    ∙ (ap object (members_view-write m n (string_bytes key) w (IsUtf8-string_bytes key) (subst (λ x. IsSome (get_by_text m x)) b there) (subst (λ x. UpdatesBy string_eq (λ k. bytes_eq x (string_bytes k)) m n (Some w)) b upd))
+    view_Object n
+    ∙ (ap object (members_view_write m n (string_bytes key) w (IsUtf8-string_bytes key) (subst (λ x. IsSome (get_by_text m x)) b there) (subst (λ x. UpdatesBy string_eq (λ k. bytes_eq x (string_bytes k)) m n (Some w)) b upd))
     ∙ ap (λ t. with_step t (text key) (view w)) (sym (object_tree v m (sym h))))
 
 pub item_step : (v : JsonValue) (l : Vec JsonValue Global) (k : List ℕ) (i : ℕ) (o : Option JsonValue) → Some l ≡ array_part v → index_of k ≡ Some i → slice_get l.items i ≡ o
     → step (view v) k ≡ option_map view o
 item_step v l k i o h at g =
-    ap (λ t. step t k) (array_tree v l (sym h)) ∙ (ap (item_of (items_view l.items)) at ∙ (nth-items_view l.items i ∙ ap (option_map view) g))
+    ap (λ t. step t k) (array_tree v l (sym h)) ∙ (ap (item_of (items_view l.items)) at ∙ (nth_items_view l.items i ∙ ap (option_map view) g))
 
 pub item_past : (v : JsonValue) (l : Vec JsonValue Global) (k : List ℕ) → Some l ≡ array_part v → ((i : ℕ) → index_of k ≡ Some i → length l.items ≤ i) → step (view v) k ≡ None
 item_past v l k h past = ap (λ t. step t k) (array_tree v l (sym h)) ∙ sym (no_item l (index_of k) past)
@@ -66,6 +66,6 @@ item_past v l k h past = ap (λ t. step t k) (array_tree v l (sym h)) ∙ sym (n
 pub item_replaced : (v : JsonValue) (l : Vec JsonValue Global) (k : List ℕ) (i : ℕ) (w : JsonValue) → Some l ≡ array_part v → index_of k ≡ Some i
     → view (is.Array (with_item l i w)) ≡ with_step (view v) k (view w)
 item_replaced v l k i w h at =
-    view-Array (with_item l i w)
-    ∙ (ap array (items_view-set l.items i w ∙ ap (λ o. with_item_of (items_view l.items) o (view w)) (sym at))
+    view_Array (with_item l i w)
+    ∙ (ap array (items_view_set l.items i w ∙ ap (λ o. with_item_of (items_view l.items) o (view w)) (sym at))
     ∙ ap (λ t. with_step t k (view w)) (sym (array_tree v l (sym h))))

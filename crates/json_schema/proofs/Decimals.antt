@@ -21,9 +21,9 @@ abbrev AreDigits : List ℕ → Type 0
 AreDigits [] = ⊤
 AreDigits (d ∷ ds) = IsTrue (is_ascii_digit d) × AreDigits ds
 
-digits-from : (ds : List ℕ) → IsTrue (all_ascii_digits ds) → AreDigits ds
-digits-from [] h = tt
-digits-from (c ∷ cs) h = let k = and_parts (is_ascii_digit c) (all_ascii_digits cs) h in (k.0, digits-from cs k.1)
+digits_from : (ds : List ℕ) → IsTrue (all_ascii_digits ds) → AreDigits ds
+digits_from [] h = tt
+digits_from (c ∷ cs) h = let k = and_parts (is_ascii_digit c) (all_ascii_digits cs) h in (k.0, digits_from cs k.1)
 
 -- the last of c and what follows it is not 0
 abbrev ends_nonzero : ℕ → List ℕ → Bool
@@ -49,19 +49,19 @@ ten_more n c x y p e = rw e (omega arith)
 none_more : (n x y : ℕ) → x ≡ y → n * x ≡ n * y + 0
 none_more n x y e = rw e (omega arith)
 
-padded-after : (n : ℕ) (cs : List ℕ) (i : ℕ) → digits_value_after 10 n cs * 10 ^ i ≡ n * 10 ^ (length cs + i) + padded (length cs + i) cs
-padded-after n [] i = none_more n (10 ^ i) (10 ^ (length {A = ℕ} [] + i)) (ap (λ j. 10 ^ j) (omega arith))
-padded-after n (c ∷ cs) i =
+padded_after : (n : ℕ) (cs : List ℕ) (i : ℕ) → digits_value_after 10 n cs * 10 ^ i ≡ n * 10 ^ (length cs + i) + padded (length cs + i) cs
+padded_after n [] i = none_more n (10 ^ i) (10 ^ (length {A = ℕ} [] + i)) (ap (λ j. 10 ^ j) (omega arith))
+padded_after n (c ∷ cs) i =
     let next : suc (length cs + i) ≡ length (c ∷ cs) + i = omega arith in
     subst (λ j. digits_value_after 10 n (c ∷ cs) * 10 ^ i ≡ n * 10 ^ j + padded j (c ∷ cs)) next
-    (padded-after (n * 10 + digit_value c) cs i
+    (padded_after (n * 10 + digit_value c) cs i
     ∙ ten_more n (digit_value c) (10 ^ (length cs + i)) (10 ^ suc (length cs + i)) (padded (length cs + i) cs) (pow-suc 10 (length cs + i)))
 
-padded-is : (cs : List ℕ) (i : ℕ) → digits_value 10 cs * 10 ^ i ≡ padded (length cs + i) cs
-padded-is cs i = padded-after 0 cs i ∙ omega arith
+padded_is : (cs : List ℕ) (i : ℕ) → digits_value 10 cs * 10 ^ i ≡ padded (length cs + i) cs
+padded_is cs i = padded_after 0 cs i ∙ omega arith
 
-digit-is : (c : ℕ) → IsTrue (is_ascii_digit c) → (digit_value c + 48 ≡ c) × (digit_value c ≤ 9)
-digit-is c h = let r = range_from_digit c h in (omega (arith, digit_value_digit c r, r), omega (arith, digit_value_digit c r, r))
+digit_is : (c : ℕ) → IsTrue (is_ascii_digit c) → (digit_value c + 48 ≡ c) × (digit_value c ≤ 9)
+digit_is c h = let r = range_from_digit c h in (omega (arith, digit_value_digit c r, r), omega (arith, digit_value_digit c r, r))
 
 -- ---- bounds
 
@@ -72,26 +72,26 @@ some_power k = one-le-pow k 10 (omega arith)
 front_below : (c d x p : ℕ) → c < d → p < x → c * x + p < d * x
 front_below c d x p h lt = omega (arith, mul-le-mul_right {m = suc c} {n = d} x (omega arith))
 
-padded-below : (k : ℕ) (cs : List ℕ) → AreDigits cs → padded k cs < 10 ^ k
-padded-below k [] h = omega (arith, some_power k)
-padded-below zero (c ∷ cs) h = omega (arith, some_power 0)
-padded-below (suc k) (c ∷ cs) h =
-    let d = digit-is c h.0 in
-    omega (arith, front_below (digit_value c) 10 (10 ^ k) (padded k cs) (omega (arith, d.1)) (padded-below k cs h.1), pow-suc 10 k)
+padded_below : (k : ℕ) (cs : List ℕ) → AreDigits cs → padded k cs < 10 ^ k
+padded_below k [] h = omega (arith, some_power k)
+padded_below zero (c ∷ cs) h = omega (arith, some_power 0)
+padded_below (suc k) (c ∷ cs) h =
+    let d = digit_is c h.0 in
+    omega (arith, front_below (digit_value c) 10 (10 ^ k) (padded k cs) (omega (arith, d.1)) (padded_below k cs h.1), pow-suc 10 k)
 
 first_some : (d x p : ℕ) → 1 ≤ d → x ≤ d * x + p
 first_some d x p h = omega (arith, mul-le-mul_right {m = 1} {n = d} x h)
 
-padded-above : (k c : ℕ) (cs : List ℕ) → IsTrue (is_ascii_digit c) → c ≢ 48 → 10 ^ k ≤ padded (suc k) (c ∷ cs)
-padded-above k c cs h some = first_some (digit_value c) (10 ^ k) (padded k cs) (let d = digit-is c h in omega (arith, d.0, some))
+padded_above : (k c : ℕ) (cs : List ℕ) → IsTrue (is_ascii_digit c) → c ≢ 48 → 10 ^ k ≤ padded (suc k) (c ∷ cs)
+padded_above k c cs h some = first_some (digit_value c) (10 ^ k) (padded k cs) (let d = digit_is c h in omega (arith, d.0, some))
 
 end_some : (c : ℕ) → IsTrue (not (c == 48)) → c ≢ 48
 end_some c h = λ e. grind (arith, nat_tests)
 
-padded-some : (k c : ℕ) (cs : List ℕ) → AreDigits (c ∷ cs) → IsTrue (ends_nonzero c cs) → length (c ∷ cs) ≤ k → 0 < padded k (c ∷ cs)
-padded-some zero c cs h ends room = absurd (omega arith)
-padded-some (suc k) c [] h ends room = omega (arith, padded-above k c [] h.0 (end_some c ends), some_power k)
-padded-some (suc k) c (d ∷ ds) h ends room = omega (arith, padded-some k d ds h.1 ends (omega (arith, room)))
+padded_some : (k c : ℕ) (cs : List ℕ) → AreDigits (c ∷ cs) → IsTrue (ends_nonzero c cs) → length (c ∷ cs) ≤ k → 0 < padded k (c ∷ cs)
+padded_some zero c cs h ends room = absurd (omega arith)
+padded_some (suc k) c [] h ends room = omega (arith, padded_above k c [] h.0 (end_some c ends), some_power k)
+padded_some (suc k) c (d ∷ ds) h ends room = omega (arith, padded_some k d ds h.1 ends (omega (arith, room)))
 
 -- ---- the same place: by the digits
 
@@ -100,9 +100,9 @@ record IsPart (k : ℕ) (cs : List ℕ) : Type 0 where
   ends : IsTrue (ends_without_zero cs)
   room : length cs ≤ k
 
-part-tail : (k c : ℕ) (cs : List ℕ) → IsPart (suc k) (c ∷ cs) → IsPart k cs
-part-tail k c [] h = record { are = tt; ends = refl; room = omega arith }
-part-tail k c (d ∷ ds) h = record { are = h.are.1; ends = h.ends; room = omega (arith, h.room) }
+part_tail : (k c : ℕ) (cs : List ℕ) → IsPart (suc k) (c ∷ cs) → IsPart k cs
+part_tail k c [] h = record { are = tt; ends = refl; room = omega arith }
+part_tail k c (d ∷ ds) h = record { are = h.are.1; ends = h.ends; room = omega (arith, h.room) }
 
 same_test : (a b x : ℕ) → nat_le a b ≡ nat_le (x + a) (x + b)
 same_test a b x = grind (arith, nat_tests)
@@ -110,23 +110,23 @@ same_test a b x = grind (arith, nat_tests)
 by_digits : (k : ℕ) (xs ys : List ℕ) → IsPart k xs → IsPart k ys → is_le (slice_cmp nat_cmp xs ys) ≡ nat_le (padded k xs) (padded k ys)
 by_digits k [] [] h g = sym (le-leb 0 0 (omega arith))
 by_digits k [] (b ∷ ys) h g = sym (le-leb 0 (padded k (b ∷ ys)) (omega arith))
-by_digits k (a ∷ xs) [] h g = sym (lt-leb (padded k (a ∷ xs)) 0 (padded-some k a xs h.are h.ends h.room))
+by_digits k (a ∷ xs) [] h g = sym (lt-leb (padded k (a ∷ xs)) 0 (padded_some k a xs h.are h.ends h.room))
 by_digits zero (a ∷ xs) (b ∷ ys) h g = let room = h.room in absurd (omega (arith, room))
-by_digits (suc k) (a ∷ xs) (b ∷ ys) h g = by (nat_cmp a b) (ranks a b) (by_digits k xs ys (part-tail k a xs h) (part-tail k b ys g))
+by_digits (suc k) (a ∷ xs) (b ∷ ys) h g = by (nat_cmp a b) (ranks a b) (by_digits k xs ys (part_tail k a xs h) (part_tail k b ys g))
   where
     p : padded k xs < 10 ^ k
-    p = padded-below k xs h.are.1
+    p = padded_below k xs h.are.1
 
     q : padded k ys < 10 ^ k
-    q = padded-below k ys g.are.1
+    q = padded_below k ys g.are.1
 
     by : (o : Ordering) → MatchOrdering o (a < b) (a ≡ b) (b < a) → is_le (slice_cmp nat_cmp xs ys) ≡ nat_le (padded k xs) (padded k ys)
         → is_le (ordering_then o (slice_cmp nat_cmp xs ys)) ≡ nat_le (padded (suc k) (a ∷ xs)) (padded (suc k) (b ∷ ys))
-    by Less lt later = sym (le-leb _ _ (omega (arith, front_below (digit_value a) (digit_value b) (10 ^ k) (padded k xs) (omega (arith, (digit-is a h.are.0).0, (digit-is b g.are.0).0)) p)))
+    by Less lt later = sym (le-leb _ _ (omega (arith, front_below (digit_value a) (digit_value b) (10 ^ k) (padded k xs) (omega (arith, (digit_is a h.are.0).0, (digit_is b g.are.0).0)) p)))
     by Equal e later =
         later
         ∙ (same_test (padded k xs) (padded k ys) (digit_value a * 10 ^ k) ∙ ap (λ c. nat_le (digit_value a * 10 ^ k + padded k xs) (digit_value c * 10 ^ k + padded k ys)) e)
-    by Greater gt later = sym (lt-leb _ _ (omega (arith, front_below (digit_value b) (digit_value a) (10 ^ k) (padded k ys) (omega (arith, (digit-is a h.are.0).0, (digit-is b g.are.0).0)) q)))
+    by Greater gt later = sym (lt-leb _ _ (omega (arith, front_below (digit_value b) (digit_value a) (10 ^ k) (padded k ys) (omega (arith, (digit_is a h.are.0).0, (digit_is b g.are.0).0)) q)))
 
 -- ---- other places: by the places
 
@@ -134,7 +134,7 @@ lower_place : (k l b : ℕ) (xs ys : List ℕ) → AreDigits xs → IsTrue (is_a
 lower_place k zero b xs ys h d some lt = absurd (omega arith)
 lower_place k (suc l) b xs ys h d some lt =
     let more : 10 ^ k ≤ 10 ^ l = pow-le-pow_right {n = 10} (omega arith) {i = k} {j = l} (omega arith) in
-    omega (arith, more, padded-below k xs h, padded-above l b ys d some)
+    omega (arith, more, padded_below k xs h, padded_above l b ys d some)
 
 -- ---- decimals
 
@@ -155,7 +155,7 @@ in_parts w f one more c cs h =
     let k = and_parts w (all_ascii_digits (c ∷ cs) && (not (c == 48) && f c cs)) h in
     let d = and_parts (all_ascii_digits (c ∷ cs)) (not (c == 48) && f c cs) k.1 in
     let e = and_parts (not (c == 48)) (f c cs) d.1 in
-    record { are = digits-from (c ∷ cs) d.0; first = end_some c e.0; ends = sym (same_end f one more c cs) ∙ e.1 }
+    record { are = digits_from (c ∷ cs) d.0; first = end_some c e.0; ends = sym (same_end f one more c cs) ∙ e.1 }
 
 in_form : (g : Bool) (p : ℤ) (c : ℕ) (cs : List ℕ) → IsDecimal (record { negative = g; digits = c ∷ cs; power = p }) → HasDigits (c ∷ cs)
 in_form g p = in_parts _ _ (λ _. refl) (λ _ _ _. refl)
@@ -182,21 +182,21 @@ lower_digits k l xs (b ∷ ys) h g some lt = lower_place k l b xs ys h g.are.0 g
 
 digits_some : (k : ℕ) (cs : List ℕ) → HasDigits cs → 0 < length cs → length cs ≤ k → 0 < padded k cs
 digits_some k [] h some room = absurd (omega arith)
-digits_some k (c ∷ cs) h some room = padded-some k c cs h.are h.ends room
+digits_some k (c ∷ cs) h some room = padded_some k c cs h.are h.ends room
 
 -- how many places there are down to the unit
 abbrev places : Decimal → Decimal → ℕ
 places d e = length d.digits + int_gap e.power d.power
 
-units-is : (d e : Decimal) → units d e ≡ padded (places d e) d.digits
+units_is : (d e : Decimal) → units d e ≡ padded (places d e) d.digits
 unfolding units
-units-is d e = padded-is d.digits (int_gap e.power d.power)
+units_is d e = padded_is d.digits (int_gap e.power d.power)
 
-pub zero-units : (d e : Decimal) → d ≡ zero_decimal → units d e ≡ 0
-zero-units d e h = units-is d e ∙ ap (λ (z : Decimal). padded (places z e) z.digits) h
+pub zero_units : (d e : Decimal) → d ≡ zero_decimal → units d e ≡ 0
+zero_units d e h = units_is d e ∙ ap (λ (z : Decimal). padded (places z e) z.digits) h
 
 pub some_units : (d e : Decimal) → IsDecimal d → ¬ (d ≡ zero_decimal) → 0 < units d e
-some_units d e h some = omega (arith, units-is d e, digits_some (places d e) d.digits (has_digits d h) (some_digits d h some) (omega arith))
+some_units d e h some = omega (arith, units_is d e, digits_some (places d e) d.digits (has_digits d h) (some_digits d h some) (omega arith))
 
 gap : (p q : ℤ) → pos (int_gap q p) +ℤ q ≡ pos (int_gap p q) +ℤ p
 gap (pos a) (pos b) = omega (arith, ints)
@@ -209,14 +209,14 @@ same_places d e = omega (arith, ints, gap d.power e.power)
 
 lower_units : (d e : Decimal) → IsDecimal d → IsDecimal e → ¬ (e ≡ zero_decimal) → places d e < places e d → units d e < units e d
 lower_units d e h g some lt =
-    omega (arith, units-is d e, units-is e d, lower_digits (places d e) (places e d) d.digits e.digits (has_digits d h).are (has_digits e g) (some_digits e g some) lt)
+    omega (arith, units_is d e, units_is e d, lower_digits (places d e) (places e d) d.digits e.digits (has_digits d h).are (has_digits e g) (some_digits e g some) lt)
 
 module _ (d e : Decimal) (h : IsDecimal d) (g : IsDecimal e) where
   pub zero_least : d ≡ zero_decimal → true ≡ is_magnitude_at_most d e
-  zero_least is = sym (le-leb (units d e) (units e d) (omega (arith, zero-units d e is)))
+  zero_least is = sym (le-leb (units d e) (units e d) (omega (arith, zero_units d e is)))
 
   pub not_under_zero : ¬ (d ≡ zero_decimal) → e ≡ zero_decimal → false ≡ is_magnitude_at_most d e
-  not_under_zero some is = sym (lt-leb (units d e) (units e d) (omega (arith, some_units d e h some, zero-units e d is)))
+  not_under_zero some is = sym (lt-leb (units d e) (units e d) (omega (arith, some_units d e h some, zero_units e d is)))
 
   pub by_place : ¬ (d ≡ zero_decimal) → ¬ (e ≡ zero_decimal) → (y z : ℤ) → y ≡ first_place d → z ≡ first_place e → ¬ (y ≡ z) → lt_z y z ≡ is_magnitude_at_most d e
   by_place some other y z ey ez differ =
@@ -236,7 +236,7 @@ module _ (d e : Decimal) (h : IsDecimal d) (g : IsDecimal e) where
       let a = has_digits d h in
       let b = has_digits e g in
       by_digits k d.digits e.digits (record { are = a.are; ends = a.ends; room = omega arith }) (record { are = b.are; ends = b.ends; room = omega arith })
-      ∙ (λ i. nat_le (sym (units-is d e) i) ((ap (λ j. padded j e.digits) (sym is) ∙ sym (units-is e d)) i))
+      ∙ (λ i. nat_le (sym (units_is d e) i) ((ap (λ j. padded j e.digits) (sym is) ∙ sym (units_is e d)) i))
 
 -- ---- signs
 

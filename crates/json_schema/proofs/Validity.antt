@@ -5,7 +5,7 @@ use Rattle.std.specs.List.{IsDistinct}
 use Rattle.std.specs.Map.{keys_of}
 use Rattle.std.specs.Prelude.{slice_get, option_and_then}
 use Rattle.std.specs.String.{string_eq}
-use Rattle.tinyjson.proofs.Callers.{Entry, entry_from_find, find-entry, nth-items_view, value_from_tree, object_from_tree, array_from_tree}
+use Rattle.tinyjson.proofs.Callers.{Entry, entry_from_find, find_entry, nth_items_view, value_from_tree, object_from_tree, array_from_tree}
 use Rattle.tinyjson.specs.Access.{JsonMap}
 use Rattle.tinyjson.specs.Access.Laws.{put_of_object, put_of_array}
 use Rattle.tinyjson.specs.declared.value.JsonValue.TheVariants as is
@@ -37,13 +37,13 @@ abbrev pub EntriesAreValid : Tree → List Entry → Type 0
 EntriesAreValid s [] = Unit {0}
 EntriesAreValid s (e ∷ es) = EntryIsValid s e × EntriesAreValid s es
 
-pub entries-push : (s : Tree) (es : List Entry) (e : Entry) → EntriesAreValid s es → EntryIsValid s e → EntriesAreValid s (es ++ e ∷ [])
-entries-push s [] e h k = (k, tt)
-entries-push s (d ∷ es) e h k = (h.0, entries-push s es e h.1 k)
+pub entries_push : (s : Tree) (es : List Entry) (e : Entry) → EntriesAreValid s es → EntryIsValid s e → EntriesAreValid s (es ++ e ∷ [])
+entries_push s [] e h k = (k, tt)
+entries_push s (d ∷ es) e h k = (h.0, entries_push s es e h.1 k)
 
-entry-valid : (s : Tree) (done more : List Entry) (e : Entry) → EntriesAreValid s (done ++ e ∷ more) → EntryIsValid s e
-entry-valid s [] more e h = h.0
-entry-valid s (d ∷ done) more e h = entry-valid s done more e h.1
+entry_valid : (s : Tree) (done more : List Entry) (e : Entry) → EntriesAreValid s (done ++ e ∷ more) → EntryIsValid s e
+entry_valid s [] more e h = h.0
+entry_valid s (d ∷ done) more e h = entry_valid s done more e h.1
 
 pub object_valid : (s t : Tree) (es : List Entry) → t ≡ object (members_view es) → meets_own s t ≡ true → EntriesAreValid s es → IsValid s t
 object_valid s t es is m h = subst (IsValid s) (sym is) (valid (subst (λ x. meets_own s x ≡ true) is m) parts)
@@ -51,13 +51,13 @@ object_valid s t es is m h = subst (IsValid s) (sym is) (valid (subst (λ x. mee
     parts : (k : List ℕ) (r u : Tree) → property s k ≡ Some r → find k (members_view es) ≡ Some u → IsValid r u
     parts k r u a b =
         let e = entry_from_find es k u b in
-        subst (IsValid r) e.tree (entry-valid s e.done e.more e.entry (subst (EntriesAreValid s) e.split h) r (ap (property s) (sym e.key) ∙ a))
+        subst (IsValid r) e.tree (entry_valid s e.done e.more e.entry (subst (EntriesAreValid s) e.split h) r (ap (property s) (sym e.key) ∙ a))
 
 pub member_invalid : (s t r : Tree) (es done more : List Entry) (e : Entry) (ks : List (List ℕ)) → t ≡ object (members_view es) → es ≡ done ++ e ∷ more → IsDistinct string_eq (keys_of es) → property s (text e.0) ≡ Some r
     → IsInvalidAt r (view e.1) ks → IsInvalidAt s t (text e.0 ∷ ks)
 member_invalid s t r es done more e ks is split d a h =
     subst (λ x. IsInvalidAt s x (text e.0 ∷ ks)) (sym is)
-    (in_part a (ap (λ x. find (text e.0) (members_view x)) split ∙ find-entry done more e (subst (λ x. IsDistinct string_eq (keys_of x)) split d)) h)
+    (in_part a (ap (λ x. find (text e.0) (members_view x)) split ∙ find_entry done more e (subst (λ x. IsDistinct string_eq (keys_of x)) split d)) h)
 
 -- The entries before the rest are valid.
 pub record AreChecked (s : Tree) (es rest : List Entry) : Type 0 where
@@ -69,7 +69,7 @@ pub one_checked : (s : Tree) (es rest more : List Entry) (e : Entry) → AreChec
 one_checked s es rest more e c f h = record {
   done = c.done ++ e ∷ [];
   split = c.split ∙ (ap (λ x. c.done ++ x) f ∙ sym (append_assoc c.done (e ∷ []) more));
-  checked = entries-push s c.done e c.checked h;
+  checked = entries_push s c.done e c.checked h;
 }
 
 pub all_checked : (s : Tree) (es rest : List Entry) → AreChecked s es rest → rest ≡ [] → EntriesAreValid s es
@@ -94,15 +94,15 @@ at_index [] i x h e = absurd (omega arith)
 at_index (v ∷ vs) zero x h e = ap Some (sym e)
 at_index (v ∷ vs) (suc i) x h e = at_index vs i x (omega arith) e
 
-pub items-more : (r : Tree) (vs : List JsonValue) (i : ℕ) (v : JsonValue) → ItemsAreValid r vs i → slice_get vs i ≡ Some v → IsValid r (view v) → ItemsAreValid r vs (i + 1)
-items-more r vs i v h g k = below_more (λ j. (w : JsonValue) → slice_get vs j ≡ Some w → IsValid r (view w)) i h (λ w e. let same : v ≡ w = cc in subst (λ x. IsValid r (view x)) same k)
+pub items_more : (r : Tree) (vs : List JsonValue) (i : ℕ) (v : JsonValue) → ItemsAreValid r vs i → slice_get vs i ≡ Some v → IsValid r (view v) → ItemsAreValid r vs (i + 1)
+items_more r vs i v h g k = below_more (λ j. (w : JsonValue) → slice_get vs j ≡ Some w → IsValid r (view w)) i h (λ w e. let same : v ≡ w = cc in subst (λ x. IsValid r (view x)) same k)
 
-pub items-all : (r : Tree) (vs : List JsonValue) (n : ℕ) → ItemsAreValid r vs n → length vs ≤ n → ItemsAreValid r vs (length vs)
-items-all r vs n h g i l = h i (omega arith)
+pub items_all : (r : Tree) (vs : List JsonValue) (n : ℕ) → ItemsAreValid r vs n → length vs ≤ n → ItemsAreValid r vs (length vs)
+items_all r vs n h g i l = h i (omega arith)
 
 item_named : (vs : List JsonValue) (o : Option ℕ) (u : Tree) → item_of (items_view vs) o ≡ Some u → (i : ℕ) × (v : JsonValue) × (slice_get vs i ≡ Some v) × (view v ≡ u)
 item_named vs None u h = cc
-item_named vs (Some i) u h = let found = value_from_tree (slice_get vs i) u (sym (nth-items_view vs i) ∙ h) in (i, found.0, found.1, found.2)
+item_named vs (Some i) u h = let found = value_from_tree (slice_get vs i) u (sym (nth_items_view vs i) ∙ h) in (i, found.0, found.1, found.2)
 
 pub array_valid : (s t r : Tree) (vs : List JsonValue) → t ≡ array (items_view vs) → meets_own s t ≡ true → Some r ≡ tree_at_key s (codes "items") → ItemsAreValid r vs (length vs) → IsValid s t
 array_valid s t r vs is m a h = subst (IsValid s) (sym is) (valid (subst (λ x. meets_own s x ≡ true) is m) parts)
@@ -116,7 +116,7 @@ array_valid s t r vs is m a h = subst (IsValid s) (sym is) (valid (subst (λ x. 
 pub item_invalid : (s t r : Tree) (vs : List JsonValue) (v : JsonValue) (i : ℕ) (k : List ℕ) (ks : List (List ℕ)) → t ≡ array (items_view vs) → Some r ≡ tree_at_key s (codes "items") → index_of k ≡ Some i → slice_get vs i ≡ Some v
     → IsInvalidAt r (view v) ks → IsInvalidAt s t (k ∷ ks)
 item_invalid s t r vs v i k ks is a n g h =
-    subst (λ x. IsInvalidAt s x (k ∷ ks)) (sym is) (in_part (sym a) (ap (item_of (items_view vs)) n ∙ (nth-items_view vs i ∙ ap (option_map view) g)) h)
+    subst (λ x. IsInvalidAt s x (k ∷ ks)) (sym is) (in_part (sym a) (ap (item_of (items_view vs)) n ∙ (nth_items_view vs i ∙ ap (option_map view) g)) h)
 
 -- ---- values with no parts that a schema speaks of
 

@@ -3,7 +3,7 @@ use Rattle.std.proofs.Common.{◌≡◌, ℕ, pos, ◌<◌, false, Option, Some,
 use Rattle.std.specs.HashMap.{get_by_text}
 use Rattle.std.specs.Option.{is_some}
 use Rattle.std.specs.Str.{chars}
-use Rattle.tinyjson.proofs.Callers.{view-Number, chars-literal, find-put_same, find-put_other}
+use Rattle.tinyjson.proofs.Callers.{view_Number, chars_literal, find_put_same, find_put_other}
 use Rattle.tinyjson.specs.Access.{JsonMap, object_part}
 use Rattle.tinyjson.specs.Index.{tree_at_key, with_tree_at_key}
 use Rattle.tinyjson.specs.Number.{integer_decimal, JsonNumber}
@@ -29,21 +29,21 @@ no_settings t u n h s (o, p, host, tls) low = let port = p.0 in cc
 -- what `replace_member` says of a literal key
 module _ (v part : JsonValue) where
   pub was_there : tree_at_key (view v) (chars (codes "port")) ≡ Some (view part) → tree_at_key (view v) (codes "port") ≡ Some (view part)
-  was_there h = ap (tree_at_key (view v)) (sym (chars-literal (codes "port") refl)) ∙ h
+  was_there h = ap (tree_at_key (view v)) (sym (chars_literal (codes "port") refl)) ∙ h
 
   pub port_is_put : (w : JsonValue) (x : JsonNumber) (n : ℕ) → view w ≡ with_tree_at_key (view v) (chars (codes "port")) (view part) → part ≡ made.Number x → x.decimal ≡ integer_decimal (pos n)
       → view w ≡ with_port (view v) n
   port_is_put w x n h is whole =
       h
-      ∙ (ap (λ k. with_tree_at_key (view v) k (view part)) (chars-literal (codes "port") refl)
-      ∙ ap (with_tree_at_key (view v) (codes "port")) (ap view is ∙ (view-Number x ∙ ap number whole)))
+      ∙ (ap (λ k. with_tree_at_key (view v) k (view part)) (chars_literal (codes "port") refl)
+      ∙ ap (with_tree_at_key (view v) (codes "port")) (ap view is ∙ (view_Number x ∙ ap number whole)))
 
 keeps_members : (ms : Members) (n : ℕ) → n < 65536 → KeepsSettings (object ms) n (with_port (object ms) n)
 keeps_members ms n fits s (o, p, h, l) low = (
   (_, refl),
-  (find-put_same (codes "port") _ ms, low, fits),
-  find-put_other (codes "host") (codes "port") _ ms (λ e. cc) ∙ h,
-  subst (λ m. IsTls m s.tls) (sym (find-put_other (codes "tls") (codes "port") _ ms (λ e. cc))) l,
+  (find_put_same (codes "port") _ ms, low, fits),
+  find_put_other (codes "host") (codes "port") _ ms (λ e. cc) ∙ h,
+  subst (λ m. IsTls m s.tls) (sym (find_put_other (codes "tls") (codes "port") _ ms (λ e. cc))) l,
 )
 
 -- the other settings stay where the port is put

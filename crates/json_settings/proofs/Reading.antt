@@ -1,7 +1,7 @@
 -- Members of a map beside the members of its tree, and numbers that are no port.
 use Rattle.std.proofs.Common.{◌≡◌, ◌<◌, ◌^◌, ℕ, pos, true, List, Option, Some, option_map, Bor, sym, ap, ◌∙◌, arith}
 use Rattle.std.specs.HashMap.{get_by_text}
-use Rattle.tinyjson.proofs.Callers.{are_ascii, find-get_literal, object_tree, view_ref, number_tree, naturals_differ}
+use Rattle.tinyjson.proofs.Callers.{are_ascii, find_get_literal, object_tree, view_ref, number_tree, naturals_differ}
 use Rattle.tinyjson.specs.Access.{JsonMap, object_part, number_part}
 use Rattle.tinyjson.specs.Index.{tree_at_key}
 use Rattle.tinyjson.specs.Number.{integer_decimal, JsonNumber}
@@ -25,7 +25,7 @@ is_object v m held = (members_view m.entries, object_tree v m held)
 -- what a map gives at a literal key is the member of the tree
 module _ (v : JsonValue) (m : JsonMap) (key : List ℕ) (held : object_part v ≡ Some m) (ascii : are_ascii key ≡ true) where
   pub member_is : (o : Option JsonValue) → o ≡ get_by_text m key → option_map view o ≡ tree_at_key (view v) key
-  member_is o got = ap (option_map view) got ∙ (sym (find-get_literal m key ascii) ∙ ap (λ t. tree_at_key t key) (sym (object_tree v m held)))
+  member_is o got = ap (option_map view) got ∙ (sym (find_get_literal m key ascii) ∙ ap (λ t. tree_at_key t key) (sym (object_tree v m held)))
 
   pub lent_is : (r : Option (Bor JsonValue)) → option_map (λ x. x.now) r ≡ get_by_text m key → option_map (λ x. view x.now) r ≡ tree_at_key (view v) key
   lent_is r got = view_ref r ∙ member_is (option_map (λ x. x.now) r) got

@@ -4,7 +4,7 @@ use Rattle.std.proofs.lemmas.Map.Text.{hash_map_updates_text}
 use Rattle.std.specs.HashMap.{HashMap, get_by_text, Updates}
 use Rattle.std.specs.Option.{unwrap_or}
 use Rattle.std.specs.String.{string_eq}
-use Rattle.tinyjson.proofs.Callers.{equal-compact}
+use Rattle.tinyjson.proofs.Callers.{equal_compact}
 use Rattle.tinyjson.specs.Equality.{same_tree}
 use Rattle.tinyjson.specs.declared.value.JsonValue.{JsonValue}
 use Rattle.json_store.specs.Store.{key_of}
@@ -19,4 +19,4 @@ pub counted : {S : Type 0} (m n : HashMap (String Global) ℕ S) (key : String G
 counted m n key v w k is upd =
     ap (λ o. unwrap_or o 0) (hash_map_updates_text (string_bytes key) m n (Some k) upd (key_of w))
     ∙ (pick (bytes_eq (string_bytes key) (key_of w)) k (get_by_text m (key_of w))
-    ∙ ap (λ b. cond b k (unwrap_or (get_by_text m (key_of w)) 0)) (ap (λ bs. bytes_eq bs (key_of w)) is ∙ equal-compact v w))
+    ∙ ap (λ b. cond b k (unwrap_or (get_by_text m (key_of w)) 0)) (ap (λ bs. bytes_eq bs (key_of w)) is ∙ equal_compact v w))

@@ -7,7 +7,7 @@ use Rattle.tinyjson.specs.Error.{error_kind}
 use Rattle.tinyjson.specs.Parser.{ParsesText}
 use Rattle.tinyjson.specs.declared.parser.error.JsonParseError.{JsonParseError}
 use Rattle.tinyjson.specs.declared.parser.error.JsonParseErrorKind.TheVariants as kind
-use Rattle.tinyjson.proofs.Callers.{refused-text}
+use Rattle.tinyjson.proofs.Callers.{refused_text}
 use Rattle.jsonnorm.specs.Fault.{IsMemoryOr}
 use Rattle.jsonnorm.specs.Run.{Runs}
 use Rattle.jsonnorm.specs.declared.fault.RunFault.{RunFault}
@@ -19,7 +19,7 @@ pub refused : (limit : Option ℕ) (is_indented : Bool) (unread left held : Opti
 refused limit is_indented unread left held bytes e f taken end utf8 parsed why =
     ⊎_elim
     (λ w. subst P (sym w.1) (record { read = bytes; taken = taken; says = inl (Keeps-refl held) }))
-    (λ w. subst P (sym w.1) (record { read = bytes; taken = taken; says = (end, Keeps-refl held, utf8, refused-text limit (chars bytes) e parsed w.0, w.0, parsed) }))
+    (λ w. subst P (sym w.1) (record { read = bytes; taken = taken; says = (end, Keeps-refl held, utf8, refused_text limit (chars bytes) e parsed w.0, w.0, parsed) }))
     why
   where
     P : RunFault → Type 0

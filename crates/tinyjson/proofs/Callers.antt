@@ -1,15 +1,15 @@
 -- For proofs of callers: values, parts, maps and texts beside the trees and the grammar that contracts speak of.
 pub use Rattle.std.proofs.lemmas.Str.{scalars-chars, IsUtf8-string_bytes}
-pub use Rattle.tinyjson.proofs.Reading.Parse.{all-scalars, parses-text}
+pub use Rattle.tinyjson.proofs.Reading.Parse.{all_are_scalars, parses_text}
 pub use Rattle.tinyjson.proofs.Values.Entries.{same_text, text_eq}
-pub use Rattle.tinyjson.proofs.Values.Equality.{view-Array, view-Object}
-pub use Rattle.tinyjson.proofs.Values.Index.{items_view-set, tree-with_item, tree-with_member}
-pub use Rattle.tinyjson.proofs.Values.Members.{find-put, find-remove, sorted-put, sorted-remove, members_from_find}
-pub use Rattle.tinyjson.proofs.Writing.Scalars.{encoded_chars, encoded_utf8, text-scalars}
-pub use Rattle.tinyjson.proofs.Values.Trees.{view-IsTree, text_scalars}
-pub use Rattle.tinyjson.proofs.Values.Views.{Entry, find-members_view, members_view_last, view_ref}
+pub use Rattle.tinyjson.proofs.Values.Equality.{view_Array, view_Object}
+pub use Rattle.tinyjson.proofs.Values.Index.{items_view_set, tree_with_item, tree_with_member}
+pub use Rattle.tinyjson.proofs.Values.Members.{find_put, find_remove, sorted_put, sorted_remove, members_from_find}
+pub use Rattle.tinyjson.proofs.Writing.Scalars.{encoded_chars, encoded_utf8, text_of_scalars}
+pub use Rattle.tinyjson.proofs.Values.Trees.{view_IsTree, text_scalars}
+pub use Rattle.tinyjson.proofs.Values.Views.{Entry, find_members_view, members_view_last, view_ref}
 pub use Rattle.tinyjson.proofs.Values.WholeNumbers.{integers_differ, naturals_differ}
-pub use Rattle.tinyjson.proofs.Writing.Written.{Appends-trans, Appends-nothing, Appends-keeps, written_none, written_all, begins, goes, ends, written_take, written_same, written_then, stop, stops, stops_then, fails}
+pub use Rattle.tinyjson.proofs.Writing.Written.{Appends-trans, Appends_nothing, Appends_keeps, written_none, written_all, begins, goes, ends, written_take, written_same, written_then, stop, stops, stops_then, fails}
 use Rattle.std.proofs.Common.{◌≡◌, ◌≢◌, ℕ, zero, suc, Bool, true, false, ◌&&◌, cond, bytes_eq, nat_lt, List, [], ◌∷◌, ◌++◌, Option, Some, None, option_map, Ok, Err, String, string_bytes, Vec, Global, refl, sym, ap, ◌∙◌, subst, rules, arith, append-nil}
 use Rattle.std.proofs.lemmas.Bool.{and_parts}
 use Rattle.std.proofs.lemmas.Bool.Decides.{nat_tests, same_from_decides}
@@ -25,7 +25,7 @@ use Rattle.std.specs.String.{string_eq, string_eq_equiv}
 use Rattle.tinyjson.proofs.Values.Entries.{find_members_of}
 use Rattle.tinyjson.proofs.Values.Views.{view_lookup, members_view_updates, members_view_removes, members_view_writes}
 use Rattle.tinyjson.specs.Access.{JsonMap, number_in, boolean_in, string_in, null_in, array_in, object_in, number_part, boolean_part, string_part, null_part, array_part, object_part}
-use Rattle.tinyjson.proofs.Writing.WrittenTexts.{compact-text, one-compact}
+use Rattle.tinyjson.proofs.Writing.WrittenTexts.{compact_text, one_compact}
 use Rattle.tinyjson.specs.Equality.{same_tree, tree_eq_decides}
 use Rattle.tinyjson.specs.Error.{error_kind}
 use Rattle.tinyjson.specs.Grammar.{IsText, IsAccepted}
@@ -45,17 +45,17 @@ use Rattle.tinyjson_number.specs.declared.number.JsonNumber.{JsonNumber}
 
 -- ---- the tree of each variant
 
-pub view-Null : view made.Null ≡ null
-view-Null = search (rules, the_lemmas)
+pub view_Null : view made.Null ≡ null
+view_Null = search (rules, the_lemmas)
 
-pub view-Boolean : (b : Bool) → view (made.Boolean b) ≡ boolean b
-view-Boolean b = search (rules, the_lemmas)
+pub view_Boolean : (b : Bool) → view (made.Boolean b) ≡ boolean b
+view_Boolean b = search (rules, the_lemmas)
 
-pub view-Number : (n : JsonNumber) → view (made.Number n) ≡ number n.decimal
-view-Number n = search (rules, the_lemmas)
+pub view_Number : (n : JsonNumber) → view (made.Number n) ≡ number n.decimal
+view_Number n = search (rules, the_lemmas)
 
-pub view-String : (s : String Global) → view (made.String s) ≡ string (text s)
-view-String s = search (rules, the_lemmas)
+pub view_String : (s : String Global) → view (made.String s) ≡ string (text s)
+view_String s = search (rules, the_lemmas)
 
 -- ---- from a part to the tree
 
@@ -170,55 +170,55 @@ abbrev pub are_ascii : List ℕ → Bool
 are_ascii [] = true
 are_ascii (c ∷ cs) = nat_lt c 128 && are_ascii cs
 
--- a literal key, as `IsAscii-literal (codes "port") refl`
-pub IsAscii-literal : (bs : List ℕ) → are_ascii bs ≡ true → IsAscii bs
-IsAscii-literal [] h i = omega arith
-IsAscii-literal (c ∷ cs) h zero = let p = and_parts (nat_lt c 128) (are_ascii cs) h in grind (arith, nat_tests)
-IsAscii-literal (c ∷ cs) h (suc i) = IsAscii-literal cs (and_parts (nat_lt c 128) (are_ascii cs) h).1 i
+-- a literal key, as `IsAscii_literal (codes "port") refl`
+pub IsAscii_literal : (bs : List ℕ) → are_ascii bs ≡ true → IsAscii bs
+IsAscii_literal [] h i = omega arith
+IsAscii_literal (c ∷ cs) h zero = let p = and_parts (nat_lt c 128) (are_ascii cs) h in grind (arith, nat_tests)
+IsAscii_literal (c ∷ cs) h (suc i) = IsAscii_literal cs (and_parts (nat_lt c 128) (are_ascii cs) h).1 i
 
 -- its characters are its bytes
-pub chars-literal : (bs : List ℕ) → are_ascii bs ≡ true → chars bs ≡ bs
-chars-literal bs h = chars-IsAscii bs (IsAscii-literal bs h)
+pub chars_literal : (bs : List ℕ) → are_ascii bs ≡ true → chars bs ≡ bs
+chars_literal bs h = chars-IsAscii bs (IsAscii_literal bs h)
 
 -- ---- an item by its index, a member by its key
 
 -- among the items of a vector: there or not
-pub nth-items_view : (vs : List JsonValue) (i : ℕ) → nth (items_view vs) i ≡ option_map view (slice_get vs i)
-nth-items_view [] i = refl
-nth-items_view (v ∷ vs) zero = refl
-nth-items_view (v ∷ vs) (suc i) = nth-items_view vs i
+pub nth_items_view : (vs : List JsonValue) (i : ℕ) → nth (items_view vs) i ≡ option_map view (slice_get vs i)
+nth_items_view [] i = refl
+nth_items_view (v ∷ vs) zero = refl
+nth_items_view (v ∷ vs) (suc i) = nth_items_view vs i
 
 item_seen : (o : JsonValue-F JsonValue) (i : ℕ) → tree_at (seen o) i ≡ option_map view (option_and_then (λ l. slice_get l.items i) (array_in o))
-item_seen (JsonValue-F.Array l) i = nth-items_view l.items i
+item_seen (JsonValue-F.Array l) i = nth_items_view l.items i
 item_seen _ i = refl
 
 -- in any value
-pub tree_at-view : (v : JsonValue) (i : ℕ) → tree_at (view v) i ≡ option_map view (item_at v i)
-tree_at-view v i = ap (λ t. tree_at t i) (view_seen v) ∙ item_seen (out-JsonValue v) i
+pub tree_at_view : (v : JsonValue) (i : ℕ) → tree_at (view v) i ≡ option_map view (item_at v i)
+tree_at_view v i = ap (λ t. tree_at t i) (view_seen v) ∙ item_seen (out-JsonValue v) i
 
 member_seen : (o : JsonValue-F JsonValue) (bs : List ℕ) → IsUtf8 bs → tree_at_key (seen o) (chars bs) ≡ option_map view (option_and_then (λ m. get_by_text m bs) (object_in o))
-member_seen (JsonValue-F.Object m) bs u = find-members_view bs u m.entries
+member_seen (JsonValue-F.Object m) bs u = find_members_view bs u m.entries
 member_seen _ bs u = refl
 
 -- in any value, by the bytes of a key
-pub tree_at_key-view : (v : JsonValue) (bs : List ℕ) → IsUtf8 bs → tree_at_key (view v) (chars bs) ≡ option_map view (member_at v bs)
-tree_at_key-view v bs u = ap (λ t. tree_at_key t (chars bs)) (view_seen v) ∙ member_seen (out-JsonValue v) bs u
+pub tree_at_key_view : (v : JsonValue) (bs : List ℕ) → IsUtf8 bs → tree_at_key (view v) (chars bs) ≡ option_map view (member_at v bs)
+tree_at_key_view v bs u = ap (λ t. tree_at_key t (chars bs)) (view_seen v) ∙ member_seen (out-JsonValue v) bs u
 
 -- the same at a literal key, as `tree_at_literal v (codes "port") refl`
 pub tree_at_literal : (v : JsonValue) (bs : List ℕ) → are_ascii bs ≡ true → tree_at_key (view v) bs ≡ option_map view (member_at v bs)
-tree_at_literal v bs h = ap (tree_at_key (view v)) (sym (chars-literal bs h)) ∙ tree_at_key-view v bs (IsUtf8-from_ascii bs (IsAscii-literal bs h))
+tree_at_literal v bs h = ap (tree_at_key (view v)) (sym (chars_literal bs h)) ∙ tree_at_key_view v bs (IsUtf8-from_ascii bs (IsAscii_literal bs h))
 
 -- among the members of a map, by the bytes of a key
-pub find-get : (m : JsonMap) (bs : List ℕ) → IsUtf8 bs → find (chars bs) (members_view m.entries) ≡ option_map view (get_by_text m bs)
-find-get m bs u = find-members_view bs u m.entries
+pub find_get : (m : JsonMap) (bs : List ℕ) → IsUtf8 bs → find (chars bs) (members_view m.entries) ≡ option_map view (get_by_text m bs)
+find_get m bs u = find_members_view bs u m.entries
 
 -- by a key that is a `String`
-pub find-get_text : (m : JsonMap) (k : String Global) → find (text k) (members_view m.entries) ≡ option_map view (get string_eq m k)
-find-get_text m k = find_members_of k (seen_entries m.entries) ∙ view_lookup k m.entries
+pub find_get_text : (m : JsonMap) (k : String Global) → find (text k) (members_view m.entries) ≡ option_map view (get string_eq m k)
+find_get_text m k = find_members_of k (seen_entries m.entries) ∙ view_lookup k m.entries
 
 -- at a literal key
-pub find-get_literal : (m : JsonMap) (bs : List ℕ) → are_ascii bs ≡ true → find bs (members_view m.entries) ≡ option_map view (get_by_text m bs)
-find-get_literal m bs h = ap (λ k. find k (members_view m.entries)) (sym (chars-literal bs h)) ∙ find-get m bs (IsUtf8-from_ascii bs (IsAscii-literal bs h))
+pub find_get_literal : (m : JsonMap) (bs : List ℕ) → are_ascii bs ≡ true → find bs (members_view m.entries) ≡ option_map view (get_by_text m bs)
+find_get_literal m bs h = ap (λ k. find k (members_view m.entries)) (sym (chars_literal bs h)) ∙ find_get m bs (IsUtf8-from_ascii bs (IsAscii_literal bs h))
 
 -- a tree that is there is one of a value
 pub value_from_tree : (o : Option JsonValue) (t : Tree) → option_map view o ≡ Some t → (v : JsonValue) × (o ≡ Some v) × (view v ≡ t)
@@ -242,8 +242,8 @@ lookup_at (d ∷ done) more e h = ap (λ b. cond b (Some d.1) (lookup (string_eq
     apart (x ∷ es) a = apart es a.1
 
 -- each entry is found at its key
-pub find-entry : (done more : List Entry) (e : Entry) → IsDistinct string_eq (keys_of (done ++ e ∷ more)) → find (text e.0) (members_view (done ++ e ∷ more)) ≡ Some (view e.1)
-find-entry done more e h =
+pub find_entry : (done more : List Entry) (e : Entry) → IsDistinct string_eq (keys_of (done ++ e ∷ more)) → find (text e.0) (members_view (done ++ e ∷ more)) ≡ Some (view e.1)
+find_entry done more e h =
     find_members_of e.0 (seen_entries (done ++ e ∷ more)) ∙ (view_lookup e.0 (done ++ e ∷ more) ∙ ap (λ o. option_map view o) (lookup_at done more e h))
 
 -- An entry with this key and this tree stands among the entries.
@@ -258,7 +258,7 @@ pub record HasEntry (es : List Entry) (k : List ℕ) (t : Tree) : Type 0 where
 -- whatever is found is an entry
 pub entry_from_find : (es : List Entry) (k : List ℕ) (t : Tree) → find k (members_view es) ≡ Some t → HasEntry es k t
 entry_from_find [] k t h = cc
-entry_from_find (e ∷ es) k t h = by (bytes_eq k (text e.0)) refl (sym (find-put k (text e.0) (view e.1) (members_view es)) ∙ h) (entry_from_find es k t)
+entry_from_find (e ∷ es) k t h = by (bytes_eq k (text e.0)) refl (sym (find_put k (text e.0) (view e.1) (members_view es)) ∙ h) (entry_from_find es k t)
   where
     by : (b : Bool) → bytes_eq k (text e.0) ≡ b → cond b (Some (view e.1)) (find k (members_view es)) ≡ Some t → (find k (members_view es) ≡ Some t → HasEntry es k t) → HasEntry (e ∷ es) k t
     by true is g later = record { done = []; entry = e; more = es; split = refl; key = (bytes_eq-Decides k (text e.0)).0 is; tree = cc }
@@ -267,122 +267,122 @@ entry_from_find (e ∷ es) k t h = by (bytes_eq k (text e.0)) refl (sym (find-pu
 -- ---- after a change
 
 -- `insert` of a value at a key
-pub members_view-insert : (m n : JsonMap) (k : String Global) (v : JsonValue) → Updates string_eq m n k (Some v) → members_view n.entries ≡ put (text k) (view v) (members_view m.entries)
-members_view-insert m n k v h = members_view_updates m.entries n.entries k v h.0
+pub members_view_insert : (m n : JsonMap) (k : String Global) (v : JsonValue) → Updates string_eq m n k (Some v) → members_view n.entries ≡ put (text k) (view v) (members_view m.entries)
+members_view_insert m n k v h = members_view_updates m.entries n.entries k v h.0
 
 -- `remove` of a key
-pub members_view-remove : (m n : JsonMap) (bs : List ℕ) → IsUtf8 bs → UpdatesBy string_eq (λ k. bytes_eq bs (string_bytes k)) m n None → members_view n.entries ≡ remove (chars bs) (members_view m.entries)
-members_view-remove m n bs u h = members_view_removes m.entries n.entries bs u h.0
+pub members_view_remove : (m n : JsonMap) (bs : List ℕ) → IsUtf8 bs → UpdatesBy string_eq (λ k. bytes_eq bs (string_bytes k)) m n None → members_view n.entries ≡ remove (chars bs) (members_view m.entries)
+members_view_remove m n bs u h = members_view_removes m.entries n.entries bs u h.0
 
 -- a write through what `get_mut` of a map lent
-pub members_view-write : (m n : JsonMap) (bs : List ℕ) (w : JsonValue) → IsUtf8 bs → IsSome (get_by_text m bs) → UpdatesBy string_eq (λ k. bytes_eq bs (string_bytes k)) m n (Some w)
+pub members_view_write : (m n : JsonMap) (bs : List ℕ) (w : JsonValue) → IsUtf8 bs → IsSome (get_by_text m bs) → UpdatesBy string_eq (λ k. bytes_eq bs (string_bytes k)) m n (Some w)
     → members_view n.entries ≡ put (chars bs) (view w) (members_view m.entries)
-members_view-write m n bs w u there h = members_view_writes m.entries n.entries bs w u there h.0
+members_view_write m n bs w u there h = members_view_writes m.entries n.entries bs w u there h.0
 
 -- the object that a value is, after a member was written through two calls of `get_mut`
-pub tree-write : (v : JsonValue) (m n : JsonMap) (bs : List ℕ) (w : JsonValue) → IsUtf8 bs → object_part v ≡ Some m → IsSome (get_by_text m bs) → UpdatesBy string_eq (λ k. bytes_eq bs (string_bytes k)) m n (Some w)
+pub tree_write : (v : JsonValue) (m n : JsonMap) (bs : List ℕ) (w : JsonValue) → IsUtf8 bs → object_part v ≡ Some m → IsSome (get_by_text m bs) → UpdatesBy string_eq (λ k. bytes_eq bs (string_bytes k)) m n (Some w)
     → view (made.Object n) ≡ with_tree_at_key (view v) (chars bs) (view w)
-tree-write v m n bs w u held there h = tree-with_member v m n bs w u held there h.0
+tree_write v m n bs w u held there h = tree_with_member v m n bs w u held there h.0
 
 -- `push` of a value
-pub items_view-push : (vs : List JsonValue) (v : JsonValue) → items_view (vs ++ v ∷ []) ≡ with_last (items_view vs) (view v)
-items_view-push [] v = refl
-items_view-push (w ∷ vs) v = ap (item (view w)) (items_view-push vs v)
+pub items_view_push : (vs : List JsonValue) (v : JsonValue) → items_view (vs ++ v ∷ []) ≡ with_last (items_view vs) (view v)
+items_view_push [] v = refl
+items_view_push (w ∷ vs) v = ap (item (view w)) (items_view_push vs v)
 
 -- ---- what is found after a change of a tree
 
 -- the item that was set
-pub nth-with_nth : (ts : Items) (i : ℕ) (u t : Tree) → nth ts i ≡ Some t → nth (with_nth ts i u) i ≡ Some u
-nth-with_nth no_items i u t h = cc
-nth-with_nth (item t ts) zero u x h = refl
-nth-with_nth (item t ts) (suc i) u x h = nth-with_nth ts i u x h
+pub nth_with_nth : (ts : Items) (i : ℕ) (u t : Tree) → nth ts i ≡ Some t → nth (with_nth ts i u) i ≡ Some u
+nth_with_nth no_items i u t h = cc
+nth_with_nth (item t ts) zero u x h = refl
+nth_with_nth (item t ts) (suc i) u x h = nth_with_nth ts i u x h
 
 -- another item
-pub nth-with_nth_other : (ts : Items) (i j : ℕ) (u : Tree) → i ≢ j → nth (with_nth ts i u) j ≡ nth ts j
-nth-with_nth_other no_items i j u h = refl
-nth-with_nth_other (item t ts) zero zero u h = absurd (h refl)
-nth-with_nth_other (item t ts) zero (suc j) u h = refl
-nth-with_nth_other (item t ts) (suc i) zero u h = refl
-nth-with_nth_other (item t ts) (suc i) (suc j) u h = nth-with_nth_other ts i j u (λ e. h (ap suc e))
+pub nth_with_nth_other : (ts : Items) (i j : ℕ) (u : Tree) → i ≢ j → nth (with_nth ts i u) j ≡ nth ts j
+nth_with_nth_other no_items i j u h = refl
+nth_with_nth_other (item t ts) zero zero u h = absurd (h refl)
+nth_with_nth_other (item t ts) zero (suc j) u h = refl
+nth_with_nth_other (item t ts) (suc i) zero u h = refl
+nth_with_nth_other (item t ts) (suc i) (suc j) u h = nth_with_nth_other ts i j u (λ e. h (ap suc e))
 
 -- the member that was put
-pub find-put_same : (k : List ℕ) (t : Tree) (ms : Members) → find k (put k t ms) ≡ Some t
-find-put_same k t ms = find-put k k t ms ∙ ap (λ b. cond b (Some t) (find k ms)) ((bytes_eq-Decides k k).1 refl)
+pub find_put_same : (k : List ℕ) (t : Tree) (ms : Members) → find k (put k t ms) ≡ Some t
+find_put_same k t ms = find_put k k t ms ∙ ap (λ b. cond b (Some t) (find k ms)) ((bytes_eq-Decides k k).1 refl)
 
 bytes_differ : (k l : List ℕ) (b : Bool) → bytes_eq k l ≡ b → k ≢ l → b ≡ false
 bytes_differ k l true e h = absurd (h ((bytes_eq-Decides k l).0 e))
 bytes_differ k l false e h = refl
 
 -- another member after `put`
-pub find-put_other : (q k : List ℕ) (t : Tree) (ms : Members) → q ≢ k → find q (put k t ms) ≡ find q ms
-find-put_other q k t ms h = find-put q k t ms ∙ ap (λ b. cond b (Some t) (find q ms)) (bytes_differ q k (bytes_eq q k) refl h)
+pub find_put_other : (q k : List ℕ) (t : Tree) (ms : Members) → q ≢ k → find q (put k t ms) ≡ find q ms
+find_put_other q k t ms h = find_put q k t ms ∙ ap (λ b. cond b (Some t) (find q ms)) (bytes_differ q k (bytes_eq q k) refl h)
 
 -- the member that was removed
-pub find-remove_same : (k : List ℕ) (ms : Members) → find k (remove k ms) ≡ None
-find-remove_same k ms = find-remove k k ms ∙ ap (λ b. cond b None (find k ms)) ((bytes_eq-Decides k k).1 refl)
+pub find_remove_same : (k : List ℕ) (ms : Members) → find k (remove k ms) ≡ None
+find_remove_same k ms = find_remove k k ms ∙ ap (λ b. cond b None (find k ms)) ((bytes_eq-Decides k k).1 refl)
 
 -- another member after `remove`
-pub find-remove_other : (q k : List ℕ) (ms : Members) → q ≢ k → find q (remove k ms) ≡ find q ms
-find-remove_other q k ms h = find-remove q k ms ∙ ap (λ b. cond b None (find q ms)) (bytes_differ q k (bytes_eq q k) refl h)
+pub find_remove_other : (q k : List ℕ) (ms : Members) → q ≢ k → find q (remove k ms) ≡ find q ms
+find_remove_other q k ms h = find_remove q k ms ∙ ap (λ b. cond b None (find q ms)) (bytes_differ q k (bytes_eq q k) refl h)
 
 -- ---- a part that is put back where it was found
 
-pub with_nth-back : (ts : Items) (i : ℕ) (u : Tree) → nth ts i ≡ Some u → with_nth ts i u ≡ ts
-with_nth-back no_items i u h = refl
-with_nth-back (item t ts) zero u h = let e : t ≡ u = cc in ap (λ x. item x ts) (sym e)
-with_nth-back (item t ts) (suc i) u h = ap (item t) (with_nth-back ts i u h)
+pub with_nth_back : (ts : Items) (i : ℕ) (u : Tree) → nth ts i ≡ Some u → with_nth ts i u ≡ ts
+with_nth_back no_items i u h = refl
+with_nth_back (item t ts) zero u h = let e : t ≡ u = cc in ap (λ x. item x ts) (sym e)
+with_nth_back (item t ts) (suc i) u h = ap (item t) (with_nth_back ts i u h)
 
-pub put-back : (k : List ℕ) (u : Tree) (ms : Members) → IsSorted ms → find k ms ≡ Some u → put k u ms ≡ ms
-put-back k u ms s h = members_from_find (put k u ms) ms (sorted-put k u ms s) s (λ q. find-put q k u ms ∙ by q (bytes_eq q k) refl)
+pub put_back : (k : List ℕ) (u : Tree) (ms : Members) → IsSorted ms → find k ms ≡ Some u → put k u ms ≡ ms
+put_back k u ms s h = members_from_find (put k u ms) ms (sorted_put k u ms s) s (λ q. find_put q k u ms ∙ by q (bytes_eq q k) refl)
   where
     by : (q : List ℕ) (b : Bool) → bytes_eq q k ≡ b → cond b (Some u) (find q ms) ≡ find q ms
     by q true e = sym (ap (λ x. find x ms) ((bytes_eq-Decides q k).0 e) ∙ h)
     by q false e = refl
 
-pub with_tree_at-back : (t : Tree) (i : ℕ) (u : Tree) → tree_at t i ≡ Some u → with_tree_at t i u ≡ t
-with_tree_at-back (array ts) i u h = ap array (with_nth-back ts i u h)
-with_tree_at-back _ i u h = refl
+pub with_tree_at_back : (t : Tree) (i : ℕ) (u : Tree) → tree_at t i ≡ Some u → with_tree_at t i u ≡ t
+with_tree_at_back (array ts) i u h = ap array (with_nth_back ts i u h)
+with_tree_at_back _ i u h = refl
 
-pub with_tree_at_key-back : (t : Tree) (k : List ℕ) (u : Tree) → IsTree t → tree_at_key t k ≡ Some u → with_tree_at_key t k u ≡ t
-with_tree_at_key-back (object ms) k u s h = ap object (put-back k u ms s.1 h)
-with_tree_at_key-back _ k u s h = refl
+pub with_tree_at_key_back : (t : Tree) (k : List ℕ) (u : Tree) → IsTree t → tree_at_key t k ≡ Some u → with_tree_at_key t k u ≡ t
+with_tree_at_key_back (object ms) k u s h = ap object (put_back k u ms s.1 h)
+with_tree_at_key_back _ k u s h = refl
 
 -- ---- texts that are read and written
 
 -- a text that gave a value is accepted, with the value's tree
-pub accepted-text : (limit : Option ℕ) (xs : List ℕ) (v : JsonValue) → ParsesText limit xs (Ok v) → IsText limit xs (view v)
-accepted-text limit xs v p = p.answer.1
+pub accepted_text : (limit : Option ℕ) (xs : List ℕ) (v : JsonValue) → ParsesText limit xs (Ok v) → IsText limit xs (view v)
+accepted_text limit xs v p = p.answer.1
 
 -- a text that was refused, and not because memory ran out, is not accepted
-pub refused-text : (limit : Option ℕ) (xs : List ℕ) (e : JsonParseError) → ParsesText limit xs (Err e) → ¬ (error_kind e ≡ refusal.OutOfMemory) → ¬ IsAccepted limit xs
-refused-text limit xs e p n = p.refused n
+pub refused_text : (limit : Option ℕ) (xs : List ℕ) (e : JsonParseError) → ParsesText limit xs (Err e) → ¬ (error_kind e ≡ refusal.OutOfMemory) → ¬ IsAccepted limit xs
+refused_text limit xs e p n = p.refused n
 
 -- the compact text of a value is a text of its tree
-pub compact-reads_back : (v : JsonValue) → IsText None (compact (view v)) (view v)
-compact-reads_back v = compact-text (view v) (view-IsTree v)
+pub compact_read_back : (v : JsonValue) → IsText None (compact (view v)) (view v)
+compact_read_back v = compact_text (view v) (view_IsTree v)
 
 -- its bytes in UTF-8 have the text's characters
-pub chars-compact : (v : JsonValue) → chars (encode_utf8_all (compact (view v))) ≡ compact (view v)
-chars-compact v = encoded_chars (compact (view v)) (text-scalars None tt 0 (view v) (view-IsTree v))
+pub chars_compact : (v : JsonValue) → chars (encode_utf8_all (compact (view v))) ≡ compact (view v)
+chars_compact v = encoded_chars (compact (view v)) (text_of_scalars None tt 0 (view v) (view_IsTree v))
 
 -- a string with the characters of the compact text has its bytes
-pub bytes-compact : (s : String Global) (v : JsonValue) → text s ≡ compact (view v) → string_bytes s ≡ encode_utf8_all (compact (view v))
-bytes-compact s v h = sym (encodes-chars (string_bytes s) (IsUtf8-string_bytes s)) ∙ ap encode_utf8_all h
+pub bytes_compact : (s : String Global) (v : JsonValue) → text s ≡ compact (view v) → string_bytes s ≡ encode_utf8_all (compact (view v))
+bytes_compact s v h = sym (encodes-chars (string_bytes s) (IsUtf8-string_bytes s)) ∙ ap encode_utf8_all h
 
 -- two values are equal (`==`) exactly if the bytes of their compact texts are
-pub equal-compact : (v w : JsonValue) → bytes_eq (encode_utf8_all (compact (view v))) (encode_utf8_all (compact (view w))) ≡ same_tree v w
-equal-compact v w =
+pub equal_compact : (v w : JsonValue) → bytes_eq (encode_utf8_all (compact (view v))) (encode_utf8_all (compact (view w))) ≡ same_tree v w
+equal_compact v w =
     let trees = tree_eq_decides (view v) (view w) in
     let bytes = bytes_eq-Decides (encode_utf8_all (compact (view v))) (encode_utf8_all (compact (view w))) in
     sym (same_from_decides _ _ trees (
-      λ e. one-compact (view v) (view w) (view-IsTree v) (view-IsTree w) (sym (chars-compact v) ∙ (ap chars (bytes.0 e) ∙ chars-compact w)),
+      λ e. one_compact (view v) (view w) (view_IsTree v) (view_IsTree w) (sym (chars_compact v) ∙ (ap chars (bytes.0 e) ∙ chars_compact w)),
       λ e. bytes.1 (ap (λ t. encode_utf8_all (compact t)) e),
     ))
 
 -- a text that is written as a whole is appended
-pub Appends-written : (old new : Option (List ℕ)) (bytes : List ℕ) → Written old new bytes [] → Appends old new bytes
-Appends-written old new bytes h = subst (Appends old new) (sym (h.split ∙ append-nil h.done)) h.appended
+pub Appends_written : (old new : Option (List ℕ)) (bytes : List ℕ) → Written old new bytes [] → Appends old new bytes
+Appends_written old new bytes h = subst (Appends old new) (sym (h.split ∙ append-nil h.done)) h.appended
 
 -- two texts, one after the other
-pub Appends-both : (old mid new : Option (List ℕ)) (a b : List ℕ) → Written old mid a [] → Written mid new b [] → Appends old new (a ++ b)
-Appends-both old mid new a b h k = Appends-trans old mid new a b (Appends-written old mid a h) (Appends-written mid new b k)
+pub Appends_both : (old mid new : Option (List ℕ)) (a b : List ℕ) → Written old mid a [] → Written mid new b [] → Appends old new (a ++ b)
+Appends_both old mid new a b h k = Appends-trans old mid new a b (Appends_written old mid a h) (Appends_written mid new b k)

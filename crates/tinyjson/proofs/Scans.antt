@@ -52,15 +52,15 @@ other a b = cond (not (eqb a b)) 255 0
 abbrev pub at_most : ℕ → ℕ → ℕ
 at_most a b = cond (leb a b) 255 0
 
-zip2-map : (h : ℕ → ℕ → ℕ) (f g : ℕ → ℕ) (xs : List ℕ) → zip2 h (map f xs) (map g xs) ≡ map (λ x. h (f x) (g x)) xs
-zip2-map h f g [] = refl
-zip2-map h f g (x ∷ xs) = ap (λ r. h (f x) (g x) ∷ r) (zip2-map h f g xs)
+zip2_map : (h : ℕ → ℕ → ℕ) (f g : ℕ → ℕ) (xs : List ℕ) → zip2 h (map f xs) (map g xs) ≡ map (λ x. h (f x) (g x)) xs
+zip2_map h f g [] = refl
+zip2_map h f g (x ∷ xs) = ap (λ r. h (f x) (g x) ∷ r) (zip2_map h f g xs)
 
 pub either : (f g : ℕ → ℕ) (v : List ℕ) {a b : List ℕ} → a ≡ map f v → b ≡ map g v → zip2 bit_or a b ≡ map (λ x. bit_or (f x) (g x)) v
-either f g v p q = ap₂ (zip2 bit_or) p q ∙ zip2-map bit_or f g v
+either f g v p q = ap₂ (zip2 bit_or) p q ∙ zip2_map bit_or f g v
 
 pub each_of : (f g : ℕ → ℕ) (v : List ℕ) {a b : List ℕ} → a ≡ map f v → b ≡ map g v → zip2 bit_and a b ≡ map (λ x. bit_and (f x) (g x)) v
-each_of f g v p q = ap₂ (zip2 bit_and) p q ∙ zip2-map bit_and f g v
+each_of f g v p q = ap₂ (zip2 bit_and) p q ∙ zip2_map bit_and f g v
 
 -- `simd_ge` is `simd_le` with its sides changed
 pub from_splat : (h : ℕ → ℕ → ℕ) (f : ℕ → ℕ) (y n : ℕ) (v : List ℕ) {a : List ℕ} → length v ≡ n → a ≡ map f v → zip2 h (replicate n y) a ≡ map (λ x. h y (f x)) v

@@ -7,7 +7,7 @@ use Rattle.std.proofs.Common.{ap, sym, true≢false, refl}
 use Rattle.std.proofs.lemmas.Bool.Decides.{Decides-and, Decides-like}
 use Rattle.std.proofs.lemmas.Cmp.{on_equiv}
 use Rattle.std.proofs.lemmas.Slice.Eq.{bytes_eq-Decides}
-use Rattle.tinyjson_number.specs.Number.{decimal_eq, decimal_eq-Decides}
+use Rattle.tinyjson_number.specs.Number.{decimal_eq, decimal_eq_Decides}
 use Rattle.tinyjson.specs.Tree.{Tree, null, boolean, number, string, array, object, Items, no_items, item, Members, no_members, member}
 use Rattle.tinyjson.specs.View.{view}
 use Rattle.tinyjson.specs.declared.value.JsonValue.{JsonValue}
@@ -36,24 +36,24 @@ mutual
   pub tree_eq_decides : (t u : Tree) → Decides (tree_eq t u) (t ≡ u)
   tree_eq_decides null null = (λ h. refl, λ e. refl)
   tree_eq_decides (boolean a) (boolean b) = Decides-like _ (λ e. ap boolean e) (λ e. cc) (booleans_Decides a b)
-  tree_eq_decides (number a) (number b) = Decides-like _ (λ e. ap number e) (λ e. cc) (decimal_eq-Decides a b)
+  tree_eq_decides (number a) (number b) = Decides-like _ (λ e. ap number e) (λ e. cc) (decimal_eq_Decides a b)
   tree_eq_decides (string a) (string b) = Decides-like _ (λ e. ap string e) (λ e. cc) (bytes_eq-Decides a b)
-  tree_eq_decides (array a) (array b) = Decides-like _ (λ e. ap array e) (λ e. cc) (items_eq-Decides a b)
-  tree_eq_decides (object a) (object b) = Decides-like _ (λ e. ap object e) (λ e. cc) (members_eq-Decides a b)
+  tree_eq_decides (array a) (array b) = Decides-like _ (λ e. ap array e) (λ e. cc) (items_eq_Decides a b)
+  tree_eq_decides (object a) (object b) = Decides-like _ (λ e. ap object e) (λ e. cc) (members_eq_Decides a b)
   tree_eq_decides _ _ = (λ h. absurd (true≢false (sym h)), λ e. cc)
 
-  pub items_eq-Decides : (ts us : Items) → Decides (items_eq ts us) (ts ≡ us)
-  items_eq-Decides no_items no_items = (λ h. refl, λ e. refl)
-  items_eq-Decides (item t ts) (item u us) = Decides-like _ (λ p. (λ i. item (p.0 i) (p.1 i))) (λ e. (cc, cc))
-      (Decides-and _ _ (tree_eq_decides t u) (items_eq-Decides ts us))
-  items_eq-Decides _ _ = (λ h. absurd (true≢false (sym h)), λ e. cc)
+  pub items_eq_Decides : (ts us : Items) → Decides (items_eq ts us) (ts ≡ us)
+  items_eq_Decides no_items no_items = (λ h. refl, λ e. refl)
+  items_eq_Decides (item t ts) (item u us) = Decides-like _ (λ p. (λ i. item (p.0 i) (p.1 i))) (λ e. (cc, cc))
+      (Decides-and _ _ (tree_eq_decides t u) (items_eq_Decides ts us))
+  items_eq_Decides _ _ = (λ h. absurd (true≢false (sym h)), λ e. cc)
 
-  pub members_eq-Decides : (ms ns : Members) → Decides (members_eq ms ns) (ms ≡ ns)
-  members_eq-Decides no_members no_members = (λ h. refl, λ e. refl)
-  members_eq-Decides (member k t ms) (member l u ns) =
+  pub members_eq_Decides : (ms ns : Members) → Decides (members_eq ms ns) (ms ≡ ns)
+  members_eq_Decides no_members no_members = (λ h. refl, λ e. refl)
+  members_eq_Decides (member k t ms) (member l u ns) =
       Decides-like _ (λ p. (λ i. member (p.0 i) (p.1.0 i) (p.1.1 i))) (λ e. (cc, (cc, cc)))
-      (Decides-and _ _ (bytes_eq-Decides k l) (Decides-and _ _ (tree_eq_decides t u) (members_eq-Decides ms ns)))
-  members_eq-Decides _ _ = (λ h. absurd (true≢false (sym h)), λ e. cc)
+      (Decides-and _ _ (bytes_eq-Decides k l) (Decides-and _ _ (tree_eq_decides t u) (members_eq_Decides ms ns)))
+  members_eq_Decides _ _ = (λ h. absurd (true≢false (sym h)), λ e. cc)
 
 -- what `==` of two values answers: whether their trees are equal
 abbrev pub same_tree : JsonValue → JsonValue → Bool

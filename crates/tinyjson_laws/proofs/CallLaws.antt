@@ -19,7 +19,7 @@ use Rattle.tinyjson.specs.declared.value.JsonKind.TheVariants as kind
 use Rattle.tinyjson.specs.declared.value.JsonValue as made
 use Rattle.tinyjson.specs.declared.value.JsonValue.{JsonValue}
 use Rattle.tinyjson.specs.declared.value.convert.UnexpectedValue.{UnexpectedValue}
-use Rattle.tinyjson.proofs.Callers.{text_eq, view-IsTree}
+use Rattle.tinyjson.proofs.Callers.{text_eq, view_IsTree}
 use Rattle.tinyjson_laws.proofs.ReadingLaws.{one_tree}
 use Rattle.tinyjson_laws.proofs.WritingLaws.{compact_reads_back, indented_reads_back, same_compact}
 use Rattle.tinyjson_laws.specs.Calls.{TextAnswered, ReadsBack, EqualStrings, ConvertedBack}
@@ -38,8 +38,8 @@ text_answered limit xs t (Err e) h p = only_memory limit e.kind p.consumed p.res
 -- ---- written texts
 
 written_of : (v : JsonValue) (indent : Option (List ℕ)) → IfSome indent AreWhite → IsText None (text indent 0 (view v)) (view v)
-written_of v None white = compact_reads_back (view v) (view-IsTree v)
-written_of v (Some i) white = indented_reads_back (view v) i white (view-IsTree v)
+written_of v None white = compact_reads_back (view v) (view_IsTree v)
+written_of v (Some i) white = indented_reads_back (view v) i white (view_IsTree v)
 
 pub reads_back : ReadsBack
 reads_back v indent xs r white e p = text_answered None xs (view v) r (subst (λ ys. IsText None ys (view v)) (sym e) (written_of v indent white)) p
@@ -52,7 +52,7 @@ texts_same s t xs ys e f w =
     (λ x. w.0 (d.0 (subst IsTrue k x)), λ x. subst IsTrue (sym k) (d.1 (w.1 x)))
 
 pub equal_strings : EqualStrings
-equal_strings v w (Ok s) (Ok t) e f = texts_same s t _ _ e f (same_compact (view v) (view w) (view-IsTree v) (view-IsTree w))
+equal_strings v w (Ok s) (Ok t) e f = texts_same s t _ _ e f (same_compact (view v) (view w) (view_IsTree v) (view_IsTree w))
 equal_strings v w (Ok s) (Err b) e f = tt
 equal_strings v w (Err a) q e f = tt
 

@@ -12,7 +12,7 @@ use Rattle.tinyjson.specs.declared.parser.error.JsonParseError.{JsonParseError}
 use Rattle.tinyjson.specs.declared.parser.error.JsonParseErrorKind.{JsonParseErrorKind}
 use Rattle.tinyjson.specs.declared.parser.error.JsonParseErrorKind.TheVariants as kind
 use Rattle.tinyjson.specs.declared.value.JsonValue.{JsonValue}
-use Rattle.tinyjson.proofs.Callers.{refused-text}
+use Rattle.tinyjson.proofs.Callers.{refused_text}
 use Rattle.tinyjson_laws.specs.Headline.{FollowsGrammar, StopsAt, IsTimely}
 use Rattle.tinyjson_laws.proofs.PrefixLaws.{viable_at_end, refused_not_too_soon, refused_not_too_late}
 use Rattle.tinyjson_laws.proofs.ReadingLaws.{one_tree}
@@ -20,7 +20,7 @@ use Rattle.tinyjson_laws.proofs.RefusalLaws.{is_refusal}
 
 pub follows_grammar : (limit : Option ℕ) (xs : List ℕ) (r : Result JsonValue JsonParseError) → ParsesText limit xs r → FollowsGrammar limit xs r
 follows_grammar limit xs (Ok v) p = λ t. (λ h. one_tree limit xs t (view v) h p.answer.1, λ e. subst (IsText limit xs) (sym e) p.answer.1)
-follows_grammar limit xs (Err e) p = λ n. refused-text limit xs e p n
+follows_grammar limit xs (Err e) p = λ n. refused_text limit xs e p n
 
 memory_viable : (limit : Option ℕ) (k : JsonParseErrorKind) (used rest : List ℕ) → RefusalSays limit k used rest → k ≡ kind.OutOfMemory → IsLooselyViable limit used
 memory_viable limit k used rest r o = (subst (λ j. RefusalSays limit j used rest) o r).0.viable

@@ -7,7 +7,7 @@ use Rattle.std.proofs.lemmas.Slice.Eq.{bytes_eq-Decides}
 use Rattle.tinyjson.specs.Tree as tree
 use Rattle.tinyjson.specs.Tree.{Tree, Members, key_of, find}
 use Rattle.tinyjson.specs.Syntax.{Pairs, last_pair, pair, tree_of, pairs_members}
-use Rattle.tinyjson.proofs.Callers.{find-put}
+use Rattle.tinyjson.proofs.Callers.{find_put}
 use Rattle.tinyjson_laws.specs.Members.{entries_of, HasNone, IsLast, LastPairStays}
 
 abbrev Entry : Type 0
@@ -37,7 +37,7 @@ option_or_none None = refl
 option_or_none (Some t) = refl
 
 found_put : (k l : List ℕ) (t : Tree) (ms : Members) → find k (tree.put l t ms) ≡ option_or (value_at k (l, t)) (find k ms)
-found_put k l t ms = find-put k l t ms ∙ first (bytes_eq k l) t (find k ms)
+found_put k l t ms = find_put k l t ms ∙ first (bytes_eq k l) t (find k ms)
 
 found : (k : List ℕ) (ps : Pairs) (ms : Members) → find k (pairs_members ms ps) ≡ option_or (last_value k (entries_of ps)) (find k ms)
 found k (last_pair a l b c s d) ms = found_put k (key_of (tree_of l)) (tree_of s) ms

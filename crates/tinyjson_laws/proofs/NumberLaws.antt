@@ -6,7 +6,7 @@ use Rattle.tinyjson_number.specs.Numeral.{power_width, fits_in}
 use Rattle.tinyjson_number.specs.Canonical.{IsDecimal, IsDecimalAt}
 use Rattle.tinyjson_number.specs.NumberText.{IsNumberText}
 use Rattle.tinyjson_number.specs.Text.{decimal_text}
-use Rattle.tinyjson_number.proofs.Canonicals.{value-canonical}
+use Rattle.tinyjson_number.proofs.Canonicals.{value_canonical}
 use Rattle.tinyjson_number.proofs.Laws as number_laws
 use Rattle.tinyjson_laws.specs.Numbers.{OneDecimal, DecimalsHaveTexts, DecimalReadsBack, SameDecimal}
 
@@ -17,7 +17,7 @@ pub decimal_reads_back : DecimalReadsBack
 decimal_reads_back d h = number_laws.text_is_number power_width d h
 
 spelled_canonical : (text : List ℕ) (d : Decimal) → IsNumberText text d → IsDecimal d
-spelled_canonical text d h = subst (IsDecimalAt power_width) h.2 (value-canonical power_width h.0 h.1.well_formed (subst (λ e. IsTrue (fits_in power_width e)) (sym h.2) h.3))
+spelled_canonical text d h = subst (IsDecimalAt power_width) h.2 (value_canonical power_width h.0 h.1.well_formed (subst (λ e. IsTrue (fits_in power_width e)) (sym h.2) h.3))
 
 pub decimals_have_texts : DecimalsHaveTexts
 decimals_have_texts d = (λ h. (decimal_text d, decimal_reads_back d h), λ p. spelled_canonical p.0 d p.1)

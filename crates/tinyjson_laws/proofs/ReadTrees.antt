@@ -12,9 +12,9 @@ use Rattle.tinyjson.specs.Tree as tree
 use Rattle.tinyjson.specs.Tree.{key_cmp}
 use Rattle.tinyjson.specs.Syntax.{Syntax, Elements, Pairs, null, boolean, number, string, empty_array, array, empty_object, object, last_element, element, last_pair, pair, Piece, plain, escape, unit, IsPiece, ArePieces, code, piece_codes, unit_value, IsSpelled, AreElements, ArePairs, IsStrictAt, ElementsAreStrictAt, PairsAreStrictAt, is_key, tree_of, elements_trees, pairs_members, depth, elements_depth, pairs_depth}
 use Rattle.tinyjson.specs.Soundness.{IsSorted, IsTreeAt, AreItemsAt, AreMembersAt, tree_depth, items_depth, members_depth}
-use Rattle.tinyjson.proofs.Callers.{sorted-put}
+use Rattle.tinyjson.proofs.Callers.{sorted_put}
 use Rattle.tinyjson.proofs.Values.Trees.{are_put}
-use Rattle.tinyjson_number.proofs.Canonicals.{value-canonical}
+use Rattle.tinyjson_number.proofs.Canonicals.{value_canonical}
 
 -- ---- characters
 
@@ -87,7 +87,7 @@ mutual
   pub tree_is : (width : Width) (s : Syntax) → IsSpelled s → IsStrictAt width s → IsTreeAt width (tree_of s)
   tree_is width null h s = tt
   tree_is width (boolean b) h s = tt
-  tree_is width (number n) h s = value-canonical width n h s.1
+  tree_is width (number n) h s = value_canonical width n h s.1
   tree_is width (string ps) h s = string_scalars ps h s
   tree_is width (empty_array w) h s = tt
   tree_is width (array es) h s = items_are width es h s
@@ -99,9 +99,9 @@ mutual
   items_are width (element v s w es) h k = (tree_is width s h.1 k.0, items_are width es h.3 k.1)
 
   members_are : (width : Width) (ps : Pairs) (ms : tree.Members) → ArePairs ps → PairsAreStrictAt width ps → IsSorted ms → AreMembersAt width ms → AreMembersAt width (pairs_members ms ps) × IsSorted (pairs_members ms ps)
-  members_are width (last_pair a k b c s d) ms h j r m = (are_put width _ _ ms (key_scalars width k h.1 j.0 j.1) (tree_is width s h.4 j.2) m, sorted-put _ _ ms r)
+  members_are width (last_pair a k b c s d) ms h j r m = (are_put width _ _ ms (key_scalars width k h.1 j.0 j.1) (tree_is width s h.4 j.2) m, sorted_put _ _ ms r)
   members_are width (pair a k b c s d ps) ms h j r m =
-      members_are width ps (tree.put (tree.key_of (tree_of k)) (tree_of s) ms) h.6 j.3 (sorted-put _ _ ms r) (are_put width _ _ ms (key_scalars width k h.1 j.0 j.1) (tree_is width s h.4 j.2) m)
+      members_are width ps (tree.put (tree.key_of (tree_of k)) (tree_of s) ms) h.6 j.3 (sorted_put _ _ ms r) (are_put width _ _ ms (key_scalars width k h.1 j.0 j.1) (tree_is width s h.4 j.2) m)
 
 -- ---- depth
 

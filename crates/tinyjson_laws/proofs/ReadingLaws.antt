@@ -7,10 +7,10 @@ use Rattle.tinyjson.specs.Syntax.{depth, IsWithin}
 use Rattle.tinyjson.specs.Grammar.{IsTextAt}
 use Rattle.tinyjson.specs.Text as written
 use Rattle.tinyjson.specs.Soundness.{IsTreeAt, tree_depth}
-use Rattle.tinyjson.proofs.Grammar.Accepts.Text.{one-tree}
+use Rattle.tinyjson.proofs.Grammar.Accepts.Text.{only_tree}
 use Rattle.tinyjson_laws.specs.Reading.{OneTree, TextsAreSound, TreesHaveTexts, WiderLimit, WiderRange}
 use Rattle.tinyjson.proofs.Writing.TreeTrip.{IsWhiteIndent}
-use Rattle.tinyjson.proofs.Writing.WrittenTexts.{written-text}
+use Rattle.tinyjson.proofs.Writing.WrittenTexts.{written_text}
 use Rattle.tinyjson_laws.proofs.ReadTrees.{tree_is, depth_is}
 use Rattle.tinyjson_laws.proofs.Wider.{wider_text}
 
@@ -27,16 +27,16 @@ tree_within width limit xs t h = within_tree limit (tree_depth t) (depth h.loose
 
 -- what a text has, written anew with any white indent
 pub rewritten : (width : Width) (limit : Option ℕ) (xs : List ℕ) (t : Tree) (w : Option (List ℕ)) → IsWhiteIndent w → IsTextAt width limit xs t → IsTextAt width limit (written.text w 0 t) t
-rewritten width limit xs t w i h = written-text width limit w 0 t i (sound_at width limit xs t h) (tree_within width limit xs t h)
+rewritten width limit xs t w i h = written_text width limit w 0 t i (sound_at width limit xs t h) (tree_within width limit xs t h)
 
 pub one_tree : OneTree
-one_tree limit xs t u h j = one-tree limit xs t u h j
+one_tree limit xs t u h j = only_tree limit xs t u h j
 
 pub texts_are_sound : TextsAreSound
 texts_are_sound limit xs t h = sound_at power_width limit xs t h
 
 pub trees_have_texts : TreesHaveTexts
-trees_have_texts t = (λ h. (written.compact t, written-text power_width None None 0 t tt h tt), λ p. texts_are_sound None p.0 t p.1)
+trees_have_texts t = (λ h. (written.compact t, written_text power_width None None 0 t tt h tt), λ p. texts_are_sound None p.0 t p.1)
 
 at_limit : (width : Width) (limit other : Option ℕ) (xs : List ℕ) (t : Tree) → ((n : ℕ) → IsWithin limit n → IsWithin other n) → IsTextAt width limit xs t → IsTextAt width other xs t
 at_limit width limit other xs t f h = let l = h.loose in record {
@@ -49,4 +49,4 @@ pub wider_limit : WiderLimit
 wider_limit m n xs t l h = (at_limit power_width (Some m) (Some n) xs t (λ k d. omega arith) h, at_limit power_width (Some m) None xs t (λ k d. tt) h)
 
 pub wider_range : WiderRange
-wider_range limit xs t h = let wide = wider_text limit xs t h in (wide, rewritten w32 limit xs t None tt h, λ u j. ap written.compact (one-tree limit xs u t j wide))
+wider_range limit xs t h = let wide = wider_text limit xs t h in (wide, rewritten w32 limit xs t None tt h, λ u j. ap written.compact (only_tree limit xs u t j wide))

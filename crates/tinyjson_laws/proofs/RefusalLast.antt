@@ -17,7 +17,7 @@ use Rattle.tinyjson_number.specs.Numeral.{Numeral, has_leading_zero, is_exponent
 use Rattle.tinyjson.specs.declared.value.JsonKind.{JsonKind}
 use Rattle.tinyjson.specs.declared.parser.error.JsonParseErrorKind.{JsonParseErrorKind}
 use Rattle.tinyjson.specs.declared.parser.error.JsonParseErrorKind.TheVariants.{UnexpectedEof, ExpectedEof, KeyNotString, ExpectedColon, ExpectedCommaOrBrace, ExpectedCommaOrBracket, InvalidUtf16, NumberOutOfRange}
-use Rattle.tinyjson.proofs.Reading.Parse.{all-front, all-rest}
+use Rattle.tinyjson.proofs.Reading.Parse.{all_front, all_rest}
 use Rattle.tinyjson.proofs.Grammar.Prefix.Unviable.{cut_off_end}
 use Rattle.tinyjson.proofs.Grammar.Trace.Paths.{Path, outside, item_in, key_in, value_in, path_frames}
 use Rattle.tinyjson.proofs.Grammar.Accepts.Runs.{continues, continues_digit, continues_point, continues_letter}
@@ -321,7 +321,7 @@ abbrev pub Exact : Option ℕ → JsonParseErrorKind → List ℕ → List ℕ �
 Exact limit k used rest = run (strictly limit) [] awaited (used ++ rest) ≡ refused k rest
 
 all_front_of : (used front : List ℕ) (c : ℕ) → used ≡ front ++ c ∷ [] → All IsScalar used → All IsScalar front × IsScalar c
-all_front_of used front c e a = let b = subst (All IsScalar) e a in (all-front front (c ∷ []) b, all-rest front (c ∷ []) b 0 0 (omega arith))
+all_front_of used front c e a = let b = subst (All IsScalar) e a in (all_front front (c ∷ []) b, all_rest front (c ∷ []) b 0 0 (omega arith))
 
 taken_exact : (limit : Option ℕ) (front : List ℕ) (fs : List Frame) (q : Phase) → Stands limit front fs q → (c : ℕ) (k : JsonParseErrorKind) (used rest : List ℕ) → used ≡ front ++ c ∷ [] → step (strictly limit) fs q c ≡ stop k true → Exact limit k used rest
 taken_exact limit front fs q s c k used rest e i = rw e (rw (append_assoc front (c ∷ []) rest) (stands_stop limit front fs q s c k true i rest))

@@ -20,7 +20,7 @@ use Rattle.tinyjson_number.specs.Numeral.{Numeral, IsNumeral, has_leading_zero, 
 use Rattle.tinyjson.specs.declared.value.JsonKind.{JsonKind}
 use Rattle.tinyjson.specs.declared.parser.error.JsonParseErrorKind.{JsonParseErrorKind}
 use Rattle.tinyjson.specs.declared.parser.error.JsonParseErrorKind.TheVariants as kind
-use Rattle.tinyjson.proofs.Reading.Parse.{all-front}
+use Rattle.tinyjson.proofs.Reading.Parse.{all_front}
 use Rattle.tinyjson.proofs.Grammar.Prefix.Faultless.{faultless, placed}
 use Rattle.tinyjson.proofs.Grammar.Prefix.Unviable.{refused_key}
 use Rattle.tinyjson.proofs.Grammar.Accepts.Number.{run_spelling, last_stage, end_finishes}
@@ -28,7 +28,7 @@ use Rattle.tinyjson.proofs.Grammar.Trace.Paths.{Path, outside, item_in, key_in, 
 use Rattle.tinyjson.proofs.Grammar.Trace.State.{Part, part_minus, part_whole, part_point, part_fraction, part_letter, part_sign, part_exponent, part_stage, part_numeral, Read, at_first, at_awaited, in_word, in_digits, in_quoted, at_after, read_frames, read_phase, IsFresh}
 use Rattle.tinyjson.proofs.Grammar.Accepts.Runs.{settle}
 use Rattle.tinyjson.proofs.Grammar.Step.First.{fits_within, level_frames}
-use Rattle.tinyjson.proofs.Grammar.Accepts.Text.{rules, one-tree, loose_accepted}
+use Rattle.tinyjson.proofs.Grammar.Accepts.Text.{rules, only_tree, loose_accepted}
 use Rattle.tinyjson.proofs.Grammar.Accepts.Value.{Begins, begins_append, numeral_begins, text_begins, run_value, ends, Ends}
 use Rattle.tinyjson.proofs.Grammar.Prefix.Viable.{faultless_place}
 use Rattle.tinyjson.proofs.Grammar.Step.Value.{no_text}
@@ -40,7 +40,7 @@ use Rattle.tinyjson_laws.specs.Refusals.{OneRefusal, OneAnswer}
 -- ---- a token that was begun where a value is awaited
 
 begun : (limit : Option ℕ) (used token : List ℕ) → All IsScalar used → (h : BeginsAt limit used token) → Ready limit h.front
-begun limit used token a h = awaits_ready limit h.front (all-front h.front token (subst (All IsScalar) h.whole a)) h.awaited
+begun limit used token a h = awaits_ready limit h.front (all_front h.front token (subst (All IsScalar) h.whole a)) h.awaited
 
 begun_run : (limit : Option ℕ) (used token rest : List ℕ) (a : All IsScalar used) (h : BeginsAt limit used token) → Begins token →
     run (strictly limit) [] awaited (used ++ rest) ≡ run (strictly limit) (path_frames (begun limit used token a h).path) awaited (token ++ rest)
@@ -204,7 +204,7 @@ key_exact limit used rest k a (before, w, o, s, ho, hw, hs, hv, nk, kd, ud, aw, 
     e = ud ∙ sym (append_assoc before (o ∷ w) (text s))
 
     r : Ready limit front
-    r = awaits_ready limit front (all-front front (text s) (subst (All IsScalar) e a)) aw
+    r = awaits_ready limit front (all_front front (text s) (subst (All IsScalar) e a)) aw
 
     l : run (rules false None) [] awaited ((used ++ 58 ∷ []) ++ v.0) ≡ accepted (tree_of v.1.value)
     l = loose_accepted None ((used ++ 58 ∷ []) ++ v.0) (unlimited limit ((used ++ 58 ∷ []) ++ v.0) v.1)
@@ -379,8 +379,8 @@ same_refusal k j xs ys e = (cc, cc)
 pub one_refusal : OneRefusal
 one_refusal limit k j used rest others left a e r s =
     let b : All IsScalar (others ++ left) = subst (All IsScalar) e a in
-    let f = exact limit k used rest (all-front used rest a) r in
-    let g = exact limit j others left (all-front others left b) s in
+    let f = exact limit k used rest (all_front used rest a) r in
+    let g = exact limit j others left (all_front others left b) s in
     let h = same_refusal k j rest left (sym f ∙ (ap (run (strictly limit) [] awaited) e ∙ g)) in
     (h.0, append_cancel_right used others rest (e ∙ ap (λ xs. others ++ xs) (sym h.1)))
 
@@ -390,7 +390,7 @@ is_refusal limit kind.OutOfMemory used rest n r = absurd (n refl)
 is_refusal limit k used rest n r = r
 
 pub one_answer : OneAnswer
-one_answer limit xs (Ok v) (Ok w) a p q m n = one-tree limit xs (view v) (view w) p.answer.1 q.answer.1
+one_answer limit xs (Ok v) (Ok w) a p q m n = only_tree limit xs (view v) (view w) p.answer.1 q.answer.1
 one_answer limit xs (Ok v) (Err e) a p q m n = (is_refusal limit e.kind q.consumed q.rest n q.answer.1).refused (subst (IsAccepted limit) q.whole (view v, p.answer.1))
 one_answer limit xs (Err e) (Ok w) a p q m n = (is_refusal limit e.kind p.consumed p.rest m p.answer.1).refused (subst (IsAccepted limit) p.whole (view w, q.answer.1))
 one_answer limit xs (Err e) (Err d) a p q m n =

@@ -303,16 +303,16 @@ awaits_ready limit xs a h = ⊎_elim goes bad (faultless_stands limit xs a h.0)
         (strict_key limit b.3 b.4 b.1 b.6 b.7))
 
 -- a value that begins there is awaited
-from-first : (r : Rules) (p : Path) (ys : List ℕ) → IsFresh p → Begins ys → run r (path_frames p) first ys ≡ run r (path_frames p) awaited ys
-from-first r (outside w) ys f b = elim f [ ]
-from-first r (item_in p [] w) ys f b = first_array r [] (path_frames p) [] ys tt b
-from-first r (item_in p (e ∷ es) w) ys f b = elim f [ ]
-from-first r (key_in p [] w) ys f b = first_object r _ (path_frames p) [] ys tt b
-from-first r (key_in p (q ∷ qs) w) ys f b = elim f [ ]
-from-first r (value_in p ps a k c w) ys f b = elim f [ ]
+from_first : (r : Rules) (p : Path) (ys : List ℕ) → IsFresh p → Begins ys → run r (path_frames p) first ys ≡ run r (path_frames p) awaited ys
+from_first r (outside w) ys f b = elim f [ ]
+from_first r (item_in p [] w) ys f b = first_array r [] (path_frames p) [] ys tt b
+from_first r (item_in p (e ∷ es) w) ys f b = elim f [ ]
+from_first r (key_in p [] w) ys f b = first_object r _ (path_frames p) [] ys tt b
+from_first r (key_in p (q ∷ qs) w) ys f b = elim f [ ]
+from_first r (value_in p ps a k c w) ys f b = elim f [ ]
 
 pub from_ready : (limit : Option ℕ) (xs : List ℕ) (h : Ready limit xs) (r : Rules) (ys : List ℕ) → Begins ys → run r (path_frames h.path) h.phase ys ≡ run r (path_frames h.path) awaited ys
-from_ready limit xs h r ys b = ⊎_elim (λ e. ap (λ q. run r (path_frames h.path) q ys) e) (λ e. ap (λ q. run r (path_frames h.path) q ys) e.0 ∙ from-first r h.path ys e.1 b) h.ready
+from_ready limit xs h r ys b = ⊎_elim (λ e. ap (λ q. run r (path_frames h.path) q ys) e) (λ e. ap (λ q. run r (path_frames h.path) q ys) e.0 ∙ from_first r h.path ys e.1 b) h.ready
 
 pub ready_run : (limit : Option ℕ) (xs : List ℕ) (h : Ready limit xs) (ys : List ℕ) → Begins ys → run (strictly limit) [] awaited (xs ++ ys) ≡ run (strictly limit) (path_frames h.path) awaited ys
 ready_run limit xs h ys b = h.stands.reached true ys ∙ from_ready limit xs h (strictly limit) ys b

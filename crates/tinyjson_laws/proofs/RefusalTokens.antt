@@ -15,7 +15,7 @@ use Rattle.tinyjson.proofs.Grammar.Prefix.InRange.{ranges}
 use Rattle.tinyjson.proofs.Grammar.Accepts.Number.{run_whole, run_spelling, last_stage, stage_of, letter_no_digit, letter_no_point, sign_no_digit}
 use Rattle.tinyjson.proofs.Grammar.Trace.Paths.{Path, path_text, path_frames, IsPath}
 use Rattle.tinyjson.proofs.Grammar.Trace.State.{numeral}
-use Rattle.tinyjson.proofs.Grammar.Accepts.String.{paired-cons, paired_append, scalar-no_surrogate, escape_no_surrogate, some_unwrap, plain_no_quote, plain_no_backslash, plain_no_control}
+use Rattle.tinyjson.proofs.Grammar.Accepts.String.{paired_cons, paired_append, scalar_no_surrogate, escape_no_surrogate, some_unwrap, plain_no_quote, plain_no_backslash, plain_no_control}
 use Rattle.tinyjson.proofs.Grammar.Prefix.Viable.{faultless_point, faultless_letter}
 
 differs : (c n : ℕ) → (n ≡ c → ⊥) → (c == n) ≡ false
@@ -92,7 +92,7 @@ word_ends r fs l n (inr (inr e)) h = rw e (λ k. end_false r fs n h k)
 -- what is paired takes no partner from what comes after it
 paired_front : (us vs : List ℕ) → IsTrue (paired us) → paired (us ++ vs) ≡ paired vs
 paired_front [] vs h = refl
-paired_front (u ∷ []) vs h = paired-cons u vs (not-true (is_surrogate u) h)
+paired_front (u ∷ []) vs h = paired_cons u vs (not-true (is_surrogate u) h)
 paired_front (u ∷ v ∷ us) vs h = split (is_high u && is_low v) h (λ g. paired_front us vs g) (λ g. paired_front (v ∷ us) vs g)
   where
     split : (b : Bool) → IsTrue (cond b (paired us) (not (is_surrogate u) && paired (v ∷ us))) → (IsTrue (paired us) → paired (us ++ vs) ≡ paired vs) → (IsTrue (paired (v ∷ us)) → paired (v ∷ us ++ vs) ≡ paired vs) →
@@ -111,7 +111,7 @@ open_pieces : (limit : Option ℕ) (fs : List Frame) (cs us : List ℕ) (ps : Li
 unfolding run step
 open_pieces limit fs cs us [] h i = (cs, us, subst (λ vs. IsTrue (paired vs)) (append-nil us) i, λ xs. refl)
 open_pieces limit fs cs us (plain c ∷ ps) h i =
-    let n = scalar-no_surrogate c h.0.0 in
+    let n = scalar_no_surrogate c h.0.0 in
     let g = paired_parts us c (piece_codes ps) n i in
     let o = open_pieces limit fs ((cs ++ decode us) ++ c ∷ []) [] ps h.1 g.1 in
     (o.0, o.1, o.2, λ xs. rw (plain_no_quote c h.0.2, plain_no_backslash c h.0.2, plain_no_control c h.0.1, g.0) (o.3 xs))

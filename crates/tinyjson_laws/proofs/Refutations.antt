@@ -11,7 +11,7 @@ use Rattle.tinyjson.specs.Syntax.{AreWhite}
 use Rattle.tinyjson.specs.declared.parser.error.JsonParseErrorKind.{JsonParseErrorKind}
 use Rattle.tinyjson.specs.declared.parser.error.JsonParseErrorKind.TheVariants as error
 use Rattle.tinyjson.specs.declared.value.JsonKind.TheVariants as kind
-use Rattle.tinyjson.proofs.Callers.{all-scalars}
+use Rattle.tinyjson.proofs.Callers.{all_are_scalars}
 use Rattle.tinyjson_number.specs.Numeral.{power_fits, value}
 use Rattle.tinyjson_laws.proofs.Examples.Reading.{refusal_of}
 use Rattle.tinyjson_laws.proofs.RefusalLaws.{one_refusal}
@@ -22,7 +22,7 @@ refuted : {limit : Option ℕ} {j : JsonParseErrorKind} {others left : List ℕ}
     run (strictly limit) [] awaited (used ++ rest) ≡ refused k rest →
     ((k ≡ j) × (used ≡ others) → ⊥) → ¬ IsRefusal limit j others left
 refuted {limit} {j} {others} {left} k used rest scalars e right differ wrong =
-    differ (one_refusal limit k j used rest others left (all-scalars (used ++ rest) scalars) e (refusal_of scalars right) wrong)
+    differ (one_refusal limit k j used rest others left (all_are_scalars (used ++ rest) scalars) e (refusal_of scalars right) wrong)
 
 -- ---- letters of a literal are no exponent
 

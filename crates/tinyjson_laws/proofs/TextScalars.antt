@@ -7,7 +7,7 @@ use Rattle.std.proofs.lemmas.Bool.{and_from}
 use Rattle.tinyjson_number.specs.Numeral.{Numeral, Exponent, IsNumeral, IsExponent, AreDigits, minus_text, sign_text, fraction_text, exponent_text, spelling}
 use Rattle.tinyjson.specs.Characters.{is_white, is_hex, short_escape}
 use Rattle.tinyjson.specs.Syntax.{Syntax, Elements, Pairs, null, boolean, number, string, empty_array, array, empty_object, object, last_element, element, last_pair, pair, Piece, plain, escape, unit, piece_text, pieces_text, IsPiece, ArePieces, text, elements_text, pairs_text, AreWhite, IsSpelled, AreElements, ArePairs}
-use Rattle.tinyjson.proofs.Writing.Scalars.{scalars-append}
+use Rattle.tinyjson.proofs.Writing.Scalars.{scalars_append}
 
 digit_scalar : (c : ℕ) → IsTrue (is_ascii_digit c) → IsScalar c
 digit_scalar c h = grind arith
@@ -49,11 +49,11 @@ sign_scalars (Some c) h = and_from _ _ (sign_scalar c h) refl
 
 exponent_scalars : (e : Option Exponent) → IfSome e IsExponent → IsTrue (all_scalars (exponent_text e))
 exponent_scalars None h = refl
-exponent_scalars (Some e) h = and_from _ _ (letter_scalar e.letter h.letter) (scalars-append (sign_text e.sign) e.digits (sign_scalars e.sign h.sign) (digits_scalars e.digits h.digits))
+exponent_scalars (Some e) h = and_from _ _ (letter_scalar e.letter h.letter) (scalars_append (sign_text e.sign) e.digits (sign_scalars e.sign h.sign) (digits_scalars e.digits h.digits))
 
 numeral_scalars : (n : Numeral) → IsNumeral n → IsTrue (all_scalars (spelling n))
-numeral_scalars n h = scalars-append (minus_text n.negative) _ (minus_scalars n.negative)
-    (scalars-append n.whole _ (digits_scalars n.whole h.whole) (scalars-append (fraction_text n.fraction) _ (fraction_scalars n.fraction h.fraction) (exponent_scalars n.exponent h.exponent)))
+numeral_scalars n h = scalars_append (minus_text n.negative) _ (minus_scalars n.negative)
+    (scalars_append n.whole _ (digits_scalars n.whole h.whole) (scalars_append (fraction_text n.fraction) _ (fraction_scalars n.fraction h.fraction) (exponent_scalars n.exponent h.exponent)))
 
 piece_scalars : (p : Piece) → IsPiece p → IsTrue (all_scalars (piece_text p))
 piece_scalars (plain c) h = and_from _ _ h.0 refl
@@ -62,26 +62,26 @@ piece_scalars (unit a b c d) h = and_from _ _ (hex_scalar a h.0) (and_from _ _ (
 
 pieces_scalars : (ps : List Piece) → ArePieces ps → IsTrue (all_scalars (pieces_text ps))
 pieces_scalars [] h = refl
-pieces_scalars (p ∷ ps) h = scalars-append (piece_text p) (pieces_text ps) (piece_scalars p h.0) (pieces_scalars ps h.1)
+pieces_scalars (p ∷ ps) h = scalars_append (piece_text p) (pieces_text ps) (piece_scalars p h.0) (pieces_scalars ps h.1)
 
 mutual
-  pub text-scalars : (s : Syntax) → IsSpelled s → IsTrue (all_scalars (text s))
-  text-scalars null h = refl
-  text-scalars (boolean true) h = refl
-  text-scalars (boolean false) h = refl
-  text-scalars (number n) h = numeral_scalars n h
-  text-scalars (string ps) h = scalars-append (pieces_text ps) (34 ∷ []) (pieces_scalars ps h) refl
-  text-scalars (empty_array w) h = scalars-append w (93 ∷ []) (white_scalars w h) refl
-  text-scalars (array es) h = scalars-append (elements_text es) (93 ∷ []) (elements_scalars es h) refl
-  text-scalars (empty_object w) h = scalars-append w (125 ∷ []) (white_scalars w h) refl
-  text-scalars (object ps) h = scalars-append (pairs_text ps) (125 ∷ []) (pairs_scalars ps h) refl
+  pub text_of_scalars : (s : Syntax) → IsSpelled s → IsTrue (all_scalars (text s))
+  text_of_scalars null h = refl
+  text_of_scalars (boolean true) h = refl
+  text_of_scalars (boolean false) h = refl
+  text_of_scalars (number n) h = numeral_scalars n h
+  text_of_scalars (string ps) h = scalars_append (pieces_text ps) (34 ∷ []) (pieces_scalars ps h) refl
+  text_of_scalars (empty_array w) h = scalars_append w (93 ∷ []) (white_scalars w h) refl
+  text_of_scalars (array es) h = scalars_append (elements_text es) (93 ∷ []) (elements_scalars es h) refl
+  text_of_scalars (empty_object w) h = scalars_append w (125 ∷ []) (white_scalars w h) refl
+  text_of_scalars (object ps) h = scalars_append (pairs_text ps) (125 ∷ []) (pairs_scalars ps h) refl
 
   elements_scalars : (es : Elements) → AreElements es → IsTrue (all_scalars (elements_text es))
-  elements_scalars (last_element v s w) h = scalars-append v _ (white_scalars v h.0) (scalars-append (text s) w (text-scalars s h.1) (white_scalars w h.2))
-  elements_scalars (element v s w es) h = scalars-append v _ (white_scalars v h.0) (scalars-append (text s) _ (text-scalars s h.1) (scalars-append w _ (white_scalars w h.2) (elements_scalars es h.3)))
+  elements_scalars (last_element v s w) h = scalars_append v _ (white_scalars v h.0) (scalars_append (text s) w (text_of_scalars s h.1) (white_scalars w h.2))
+  elements_scalars (element v s w es) h = scalars_append v _ (white_scalars v h.0) (scalars_append (text s) _ (text_of_scalars s h.1) (scalars_append w _ (white_scalars w h.2) (elements_scalars es h.3)))
 
   pairs_scalars : (ps : Pairs) → ArePairs ps → IsTrue (all_scalars (pairs_text ps))
-  pairs_scalars (last_pair a k b c s d) h = scalars-append a _ (white_scalars a h.0) (scalars-append (text k) _ (text-scalars k h.1) (scalars-append b _ (white_scalars b h.2)
-      (scalars-append c _ (white_scalars c h.3) (scalars-append (text s) d (text-scalars s h.4) (white_scalars d h.5)))))
-  pairs_scalars (pair a k b c s d ps) h = scalars-append a _ (white_scalars a h.0) (scalars-append (text k) _ (text-scalars k h.1) (scalars-append b _ (white_scalars b h.2)
-      (scalars-append c _ (white_scalars c h.3) (scalars-append (text s) _ (text-scalars s h.4) (scalars-append d _ (white_scalars d h.5) (pairs_scalars ps h.6))))))
+  pairs_scalars (last_pair a k b c s d) h = scalars_append a _ (white_scalars a h.0) (scalars_append (text k) _ (text_of_scalars k h.1) (scalars_append b _ (white_scalars b h.2)
+      (scalars_append c _ (white_scalars c h.3) (scalars_append (text s) d (text_of_scalars s h.4) (white_scalars d h.5)))))
+  pairs_scalars (pair a k b c s d ps) h = scalars_append a _ (white_scalars a h.0) (scalars_append (text k) _ (text_of_scalars k h.1) (scalars_append b _ (white_scalars b h.2)
+      (scalars_append c _ (white_scalars c h.3) (scalars_append (text s) _ (text_of_scalars s h.4) (scalars_append d _ (white_scalars d h.5) (pairs_scalars ps h.6))))))

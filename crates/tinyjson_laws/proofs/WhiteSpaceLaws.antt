@@ -8,7 +8,7 @@ use Rattle.tinyjson.specs.Syntax.{Syntax, Elements, Pairs, null, boolean, number
 use Rattle.tinyjson_laws.specs.WhiteSpace.{bare_value, bare_elements, bare_pairs}
 use Rattle.tinyjson_laws.specs.WhiteSpace.{outside, in_string, kept_from, without_white, WhiteRemoved, SameButWhite, WhiteChangesNothing}
 use Rattle.tinyjson.specs.Grammar.{IsLoose, IsText}
-use Rattle.tinyjson.proofs.Grammar.Accepts.Text.{one-tree}
+use Rattle.tinyjson.proofs.Grammar.Accepts.Text.{only_tree}
 use Rattle.tinyjson_laws.proofs.Bare.{bare_spelled, bare_depth, bare_tree, bare_strict}
 use Rattle.tinyjson_number.specs.Numeral.{power_width}
 use Rattle.tinyjson.proofs.Grammar.Accepts.Value.{last_element_assoc, element_assoc, last_pair_assoc, pair_assoc}
@@ -152,7 +152,7 @@ white_removed limit xs t h =
     }
 
 pub same_but_white : SameButWhite
-same_but_white limit xs ys t u h j e = one-tree limit (without_white ys) t u (subst (λ z. IsText limit z t) e (white_removed limit xs t h)) (white_removed limit ys u j)
+same_but_white limit xs ys t u h j e = only_tree limit (without_white ys) t u (subst (λ z. IsText limit z t) e (white_removed limit xs t h)) (white_removed limit ys u j)
 
 pub white_changes_nothing : WhiteChangesNothing
 white_changes_nothing limit xs ys t h m e = record {

@@ -6,7 +6,7 @@ use Rattle.tinyjson_number.specs.Decimal.{Decimal, decimal_of, significant, trai
 use Rattle.tinyjson_number.specs.Integer.{whole_decimal}
 use Rattle.tinyjson_number.specs.Number.{same_canonical}
 use Rattle.tinyjson_number.specs.Text.{natural_text}
-use Rattle.tinyjson_number.proofs.Integers.{magnitude-whole, negative-whole}
+use Rattle.tinyjson_number.proofs.Integers.{magnitude_whole, negative_whole}
 use Rattle.tinyjson.proofs.Callers as callers
 use Rattle.tinyjson_laws.specs.Numbers.{OneNumber, WholesMean, IntegersDiffer, NaturalsDiffer}
 
@@ -25,8 +25,8 @@ wholes_mean negative n fits =
     let p = some_power negative (significant (natural_text n)) (trailing_zeros (natural_text n)) in (
       p.0,
       p.1,
-      ap (λ z. digits_value 10 d.digits * 10 ^ unsigned_abs z) (sym p.1) ∙ magnitude-whole negative n fits,
-      λ some. negative-whole negative n some fits,
+      ap (λ z. digits_value 10 d.digits * 10 ^ unsigned_abs z) (sym p.1) ∙ magnitude_whole negative n fits,
+      λ some. negative_whole negative n some fits,
     )
 
 -- ---- two integers with one decimal are one

@@ -4,17 +4,17 @@ use Rattle.std.specs.Int.{Width}
 use Rattle.tinyjson_number.specs.Decimal.{strip_leading, significant, decimal_of}
 use Rattle.tinyjson_number.specs.Numeral.{Numeral, IsNumeral, AreDigits, value, fits_in, power_of}
 use Rattle.tinyjson_number.specs.Canonical.{IsDecimalAt}
-use Rattle.tinyjson_number.proofs.Strips.{first_leading, first_trailing, last_trailing, digits-leading, digits-trailing}
-use Rattle.tinyjson_number.proofs.DecimalTrip.{digits-join}
+use Rattle.tinyjson_number.proofs.Strips.{first_leading, first_trailing, last_trailing, digits_leading, digits_trailing}
+use Rattle.tinyjson_number.proofs.DecimalTrip.{digits_join}
 use Rattle.tinyjson_number.proofs.Forms.{formed}
 
 canonical : (width : Width) (g : Bool) (s : List ℕ) (p : ℤ) → AreDigits s → get_or s 0 0 ≢ 48 → get_or s (length s - 1) 0 ≢ 48 → IsTrue (fits_in width (decimal_of g s p)) → IsDecimalAt width (decimal_of g s p)
 canonical width g [] p d f l fits = refl
 canonical width g (c ∷ cs) p d f l fits = formed width g c cs p (record { digits = d; first = f; last = l; fits = fits })
 
-pub value-canonical : (width : Width) (n : Numeral) → IsNumeral n → IsTrue (fits_in width (value n)) → IsDecimalAt width (value n)
+pub value_canonical : (width : Width) (n : Numeral) → IsNumeral n → IsTrue (fits_in width (value n)) → IsDecimalAt width (value n)
 unfolding value
-value-canonical width n h fits =
+value_canonical width n h fits =
     let ws = n.whole ++ n.fraction in
-    canonical width n.negative (significant ws) (power_of n) (digits-trailing _ (digits-leading ws (digits-join n.whole n.fraction h.whole h.fraction)))
+    canonical width n.negative (significant ws) (power_of n) (digits_trailing _ (digits_leading ws (digits_join n.whole n.fraction h.whole h.fraction)))
     (first_trailing (strip_leading ws) (first_leading ws)) (last_trailing (strip_leading ws)) fits

@@ -13,9 +13,9 @@ use Rattle.tinyjson_number.specs.Decimal.{Decimal, strip_leading, strip_trailing
 use Rattle.tinyjson_number.specs.Numeral.{Numeral, Exponent, IsNumeral, IsExponent, AreDigits, minus_text, fraction_text, exponent_text, spelling, has_leading_zero, exponent_value, value, fits_in, power_fits}
 use Rattle.tinyjson_number.specs.Text.{natural_text, integer_text, plain_text, scientific_text, is_far, magnitude_text, decimal_text}
 use Rattle.tinyjson_number.specs.Canonical.{IsDecimalAt, is_canonical_at}
-use Rattle.tinyjson_number.proofs.Strips.{strip_leading_none, strip_trailing-append_none, strip_trailing-append_some, strip_zeros, strip_trailing_none}
+use Rattle.tinyjson_number.proofs.Strips.{strip_leading_none, strip_trailing_append_none, strip_trailing_append_some, strip_zeros, strip_trailing_none}
 use Rattle.tinyjson_number.proofs.Naturals.{natural}
-use Rattle.tinyjson_number.proofs.Forms.{form, zero-form}
+use Rattle.tinyjson_number.proofs.Forms.{form, zero_form}
 
 -- ---- zeros round digits
 
@@ -23,16 +23,16 @@ strip_leading_zeros : (a : ℕ) (xs : List ℕ) → strip_leading (replicate a 4
 strip_leading_zeros zero xs = refl
 strip_leading_zeros (suc a) xs = strip_leading_zeros a xs
 
-pub decimal-of_some : (g : Bool) (ds : List ℕ) (p : ℤ) → 0 < length ds → decimal_of g ds p ≡ record { negative = g; digits = ds; power = p }
-decimal-of_some g [] p h = absurd (omega arith)
-decimal-of_some g (d ∷ ds) p h = refl
+pub decimal_of_some : (g : Bool) (ds : List ℕ) (p : ℤ) → 0 < length ds → decimal_of g ds p ≡ record { negative = g; digits = ds; power = p }
+decimal_of_some g [] p h = absurd (omega arith)
+decimal_of_some g (d ∷ ds) p h = refl
 
 abbrev numeral : Bool → List ℕ → List ℕ → Option Exponent → Numeral
 numeral g w f e = record { negative = g; whole = w; fraction = f; exponent = e }
 
 module _ (ds : List ℕ) (some : 0 < length ds) (first : get_or ds 0 0 ≢ 48) (last : get_or ds (length ds - 1) 0 ≢ 48) where
   kept : (b : ℕ) → strip_trailing (ds ++ replicate b 48) ≡ ds
-  kept b = strip_trailing-append_none ds (replicate b 48) (strip_zeros b) ∙ strip_trailing_none ds last
+  kept b = strip_trailing_append_none ds (replicate b 48) (strip_zeros b) ∙ strip_trailing_none ds last
 
   padded : (a b : ℕ) → significant (replicate a 48 ++ (ds ++ replicate b 48)) ≡ ds
   padded a b =
@@ -42,7 +42,7 @@ module _ (ds : List ℕ) (some : 0 < length ds) (first : get_or ds 0 0 ≢ 48) (
   padding : (a b : ℕ) → trailing_zeros (replicate a 48 ++ (ds ++ replicate b 48)) ≡ b
   padding a b =
       let e : strip_trailing (replicate a 48 ++ (ds ++ replicate b 48)) ≡ replicate a 48 ++ ds =
-      strip_trailing-append_some (replicate a 48) (ds ++ replicate b 48) (omega (arith, ap length (kept b))) ∙ ap (λ t. replicate a 48 ++ t) (kept b) in
+      strip_trailing_append_some (replicate a 48) (ds ++ replicate b 48) (omega (arith, ap length (kept b))) ∙ ap (λ t. replicate a 48 ++ t) (kept b) in
       omega (arith, ap length e, length-append (replicate a 48) ds, length-append (replicate a 48) (ds ++ replicate b 48), length-append ds (replicate b 48), length-replicate {A = ℕ} b 48)
 
   valued : (g : Bool) (w f : List ℕ) (x : Option Exponent) (a b : ℕ) (p : ℤ) → w ++ f ≡ replicate a 48 ++ (ds ++ replicate b 48) → p ≡ (exponent_value x -ℤ pos (length f)) +ℤ pos b →
@@ -53,7 +53,7 @@ module _ (ds : List ℕ) (some : 0 < length ds) (first : get_or ds 0 0 ≢ 48) (
       ∙ ap (λ z. decimal_of g z ((exponent_value x -ℤ pos (length f)) +ℤ pos (trailing_zeros (replicate a 48 ++ (ds ++ replicate b 48))))) (padded a b)
       ∙ ap (λ z. decimal_of g ds ((exponent_value x -ℤ pos (length f)) +ℤ pos z)) (padding a b)
       ∙ ap (decimal_of g ds) (sym ep)
-      ∙ decimal-of_some g ds p some
+      ∙ decimal_of_some g ds p some
 
 -- ---- the four forms
 
@@ -65,48 +65,48 @@ pub record SpellsDecimal (d : Decimal) (xs : List ℕ) : Type 0 where
   pub value : value numeral ≡ d
   pub text : spelling numeral ≡ xs
 
-pub digits-replicate : (k : ℕ) → AreDigits (replicate k 48)
-digits-replicate zero = tt
-digits-replicate (suc k) = (refl, digits-replicate k)
+pub digits_replicate : (k : ℕ) → AreDigits (replicate k 48)
+digits_replicate zero = tt
+digits_replicate (suc k) = (refl, digits_replicate k)
 
-pub digits-join : (xs ys : List ℕ) → AreDigits xs → AreDigits ys → AreDigits (xs ++ ys)
-digits-join [] ys h k = k
-digits-join (d ∷ xs) ys h k = (h.0, digits-join xs ys h.1 k)
+pub digits_join : (xs ys : List ℕ) → AreDigits xs → AreDigits ys → AreDigits (xs ++ ys)
+digits_join [] ys h k = k
+digits_join (d ∷ xs) ys h k = (h.0, digits_join xs ys h.1 k)
 
-digits-take : (n : ℕ) (xs : List ℕ) → AreDigits xs → AreDigits (take n xs)
-digits-take zero xs h = tt
-digits-take (suc n) [] h = tt
-digits-take (suc n) (d ∷ xs) h = (h.0, digits-take n xs h.1)
+digits_take : (n : ℕ) (xs : List ℕ) → AreDigits xs → AreDigits (take n xs)
+digits_take zero xs h = tt
+digits_take (suc n) [] h = tt
+digits_take (suc n) (d ∷ xs) h = (h.0, digits_take n xs h.1)
 
-digits-drop : (n : ℕ) (xs : List ℕ) → AreDigits xs → AreDigits (drop n xs)
-digits-drop zero xs h = h
-digits-drop (suc n) [] h = tt
-digits-drop (suc n) (d ∷ xs) h = digits-drop n xs h.1
+digits_drop : (n : ℕ) (xs : List ℕ) → AreDigits xs → AreDigits (drop n xs)
+digits_drop zero xs h = h
+digits_drop (suc n) [] h = tt
+digits_drop (suc n) (d ∷ xs) h = digits_drop n xs h.1
 
 no_leading : (xs : List ℕ) → get_or xs 0 0 ≢ 48 → has_leading_zero xs ≡ false
 no_leading [] h = refl
 no_leading (d ∷ []) h = refl
 no_leading (d ∷ e ∷ ds) h = grind (arith, nat_tests)
 
-pub fraction-some : (xs : List ℕ) → 0 < length xs → fraction_text xs ≡ 46 ∷ xs
-fraction-some [] h = absurd (omega arith)
-fraction-some (d ∷ xs) h = refl
+pub fraction_some : (xs : List ℕ) → 0 < length xs → fraction_text xs ≡ 46 ∷ xs
+fraction_some [] h = absurd (omega arith)
+fraction_some (d ∷ xs) h = refl
 
 abbrev scientific_exponent : ℤ → Exponent
 scientific_exponent (pos n) = record { letter = 101; sign = None; digits = natural_text n }
 scientific_exponent (negsuc n) = record { letter = 101; sign = Some 45; digits = natural_text (suc n) }
 
-scientific-is : (z : ℤ) → IsExponent (scientific_exponent z)
-scientific-is (pos n) = record { letter = refl; sign = tt; digits = (natural n).are; some_digit = (natural n).some }
-scientific-is (negsuc n) = record { letter = refl; sign = refl; digits = (natural (suc n)).are; some_digit = (natural (suc n)).some }
+scientific_is : (z : ℤ) → IsExponent (scientific_exponent z)
+scientific_is (pos n) = record { letter = refl; sign = tt; digits = (natural n).are; some_digit = (natural n).some }
+scientific_is (negsuc n) = record { letter = refl; sign = refl; digits = (natural (suc n)).are; some_digit = (natural (suc n)).some }
 
-scientific-value : (z : ℤ) → exponent_value (Some (scientific_exponent z)) ≡ z
-scientific-value (pos n) = ap pos (natural n).value
-scientific-value (negsuc n) = ap (λ k. neg_ℤ (pos k)) (natural (suc n)).value
+scientific_value : (z : ℤ) → exponent_value (Some (scientific_exponent z)) ≡ z
+scientific_value (pos n) = ap pos (natural n).value
+scientific_value (negsuc n) = ap (λ k. neg_ℤ (pos k)) (natural (suc n)).value
 
-scientific-text : (z : ℤ) → exponent_text (Some (scientific_exponent z)) ≡ 101 ∷ integer_text z
-scientific-text (pos n) = refl
-scientific-text (negsuc n) = refl
+text_of_scientific : (z : ℤ) → exponent_text (Some (scientific_exponent z)) ≡ 101 ∷ integer_text z
+text_of_scientific (pos n) = refl
+text_of_scientific (negsuc n) = refl
 
 module _ (g : Bool) (ds : List ℕ) (e : ℤ) (all : AreDigits ds) (some : 0 < length ds) (first : get_or ds 0 0 ≢ 48) (last : get_or ds (length ds - 1) 0 ≢ 48) where
   abbrev d : Decimal
@@ -115,99 +115,99 @@ module _ (g : Bool) (ds : List ℕ) (e : ℤ) (all : AreDigits ds) (some : 0 < l
   abbrev p : ℤ
   p = pos (length ds) +ℤ e
 
-  short-take : length (take 1 ds) ≡ 1
-  short-take = length-take-le 1 ds some
+  short_take : length (take 1 ds) ≡ 1
+  short_take = length-take-le 1 ds some
 
-  first-take : (n : ℕ) → 0 < n → get_or (take n ds) 0 0 ≢ 48
-  first-take n h k = first (sym (get_or-take n ds 0 0 h) ∙ k)
+  first_take : (n : ℕ) → 0 < n → get_or (take n ds) 0 0 ≢ 48
+  first_take n h k = first (sym (get_or-take n ds 0 0 h) ∙ k)
 
-  whole-parts : (n : ℕ) → take n ds ++ drop n ds ≡ replicate 0 48 ++ (ds ++ replicate 0 48)
-  whole-parts n = take-append-drop n ds ∙ sym (append-nil ds)
+  whole_parts : (n : ℕ) → take n ds ++ drop n ds ≡ replicate 0 48 ++ (ds ++ replicate 0 48)
+  whole_parts n = take-append-drop n ds ∙ sym (append-nil ds)
 
-  spelled-far : SpellsDecimal d (minus_text g ++ scientific_text ds p)
-  spelled-far = record {
+  spelled_far : SpellsDecimal d (minus_text g ++ scientific_text ds p)
+  spelled_far = record {
     numeral = numeral g (take 1 ds) (drop 1 ds) (Some (scientific_exponent (p -ℤ pos 1)));
-    is = record { whole = digits-take 1 ds all; some_digit = omega (arith, short-take); fraction = digits-drop 1 ds all; exponent = scientific-is (p -ℤ pos 1) };
-    plain = no_leading (take 1 ds) (first-take 1 (omega arith));
-    value = valued ds some first last g (take 1 ds) (drop 1 ds) (Some (scientific_exponent (p -ℤ pos 1))) 0 0 e (whole-parts 1)
-        (rw (scientific-value (p -ℤ pos 1)) (omega (arith, ints, length-drop 1 ds)));
-    text = ap (λ z. minus_text g ++ (take 1 ds ++ (fraction_text (drop 1 ds) ++ z))) (scientific-text (p -ℤ pos 1));
+    is = record { whole = digits_take 1 ds all; some_digit = omega (arith, short_take); fraction = digits_drop 1 ds all; exponent = scientific_is (p -ℤ pos 1) };
+    plain = no_leading (take 1 ds) (first_take 1 (omega arith));
+    value = valued ds some first last g (take 1 ds) (drop 1 ds) (Some (scientific_exponent (p -ℤ pos 1))) 0 0 e (whole_parts 1)
+        (rw (scientific_value (p -ℤ pos 1)) (omega (arith, ints, length-drop 1 ds)));
+    text = ap (λ z. minus_text g ++ (take 1 ds ++ (fraction_text (drop 1 ds) ++ z))) (text_of_scientific (p -ℤ pos 1));
   }
 
-  spelled-small : int_lt e (pos 0) ≡ true → int_lt p (pos 1) ≡ true → SpellsDecimal d (minus_text g ++ (48 ∷ 46 ∷ (replicate (unsigned_abs p) 48 ++ ds)))
-  spelled-small low small =
+  spelled_small : int_lt e (pos 0) ≡ true → int_lt p (pos 1) ≡ true → SpellsDecimal d (minus_text g ++ (48 ∷ 46 ∷ (replicate (unsigned_abs p) 48 ++ ds)))
+  spelled_small low small =
       let l : length (replicate (unsigned_abs p) 48 ++ ds) ≡ unsigned_abs p + length ds = omega (arith, length-append (replicate (unsigned_abs p) 48) ds, length-replicate {A = ℕ} (unsigned_abs p) 48) in
       record {
         numeral = numeral g (48 ∷ []) (replicate (unsigned_abs p) 48 ++ ds) None;
-        is = record { whole = (refl, tt); some_digit = omega arith; fraction = digits-join _ _ (digits-replicate (unsigned_abs p)) all; exponent = tt };
+        is = record { whole = (refl, tt); some_digit = omega arith; fraction = digits_join _ _ (digits_replicate (unsigned_abs p)) all; exponent = tt };
         plain = refl;
         value = valued ds some first last g (48 ∷ []) (replicate (unsigned_abs p) 48 ++ ds) None (suc (unsigned_abs p)) 0 e (ap (λ z. 48 ∷ (replicate (unsigned_abs p) 48 ++ z)) (sym (append-nil ds)))
             (grind (arith, ints, l));
-        text = ap (λ z. minus_text g ++ (48 ∷ z)) (append-nil _ ∙ fraction-some _ (omega (arith, l, some)));
+        text = ap (λ z. minus_text g ++ (48 ∷ z)) (append-nil _ ∙ fraction_some _ (omega (arith, l, some)));
       }
 
-  spelled-mid : int_lt e (pos 0) ≡ true → int_lt p (pos 1) ≡ false → SpellsDecimal d (minus_text g ++ (take (unsigned_abs p) ds ++ (46 ∷ drop (unsigned_abs p) ds)))
-  spelled-mid low big =
+  spelled_mid : int_lt e (pos 0) ≡ true → int_lt p (pos 1) ≡ false → SpellsDecimal d (minus_text g ++ (take (unsigned_abs p) ds ++ (46 ∷ drop (unsigned_abs p) ds)))
+  spelled_mid low big =
       let n : ℕ = unsigned_abs p in
       let is_pos : 0 < n = grind (arith, ints) in
       let below : n < length ds = grind (arith, ints) in
       let split : e ≡ (pos 0 -ℤ pos (length ds - n)) +ℤ pos 0 = grind (arith, ints) in
       record {
         numeral = numeral g (take n ds) (drop n ds) None;
-        is = record { whole = digits-take n ds all; some_digit = omega (arith, length-take-le n ds (omega arith)); fraction = digits-drop n ds all; exponent = tt };
-        plain = no_leading (take n ds) (first-take n is_pos);
-        value = valued ds some first last g (take n ds) (drop n ds) None 0 0 e (whole-parts n) (rw (length-drop n ds) split);
-        text = ap (λ z. minus_text g ++ (take n ds ++ z)) (append-nil _ ∙ fraction-some (drop n ds) (omega (arith, length-drop n ds)));
+        is = record { whole = digits_take n ds all; some_digit = omega (arith, length-take-le n ds (omega arith)); fraction = digits_drop n ds all; exponent = tt };
+        plain = no_leading (take n ds) (first_take n is_pos);
+        value = valued ds some first last g (take n ds) (drop n ds) None 0 0 e (whole_parts n) (rw (length-drop n ds) split);
+        text = ap (λ z. minus_text g ++ (take n ds ++ z)) (append-nil _ ∙ fraction_some (drop n ds) (omega (arith, length-drop n ds)));
       }
 
-  spelled-whole : int_lt e (pos 0) ≡ false → SpellsDecimal d (minus_text g ++ (ds ++ replicate (unsigned_abs e) 48))
-  spelled-whole high =
+  spelled_whole : int_lt e (pos 0) ≡ false → SpellsDecimal d (minus_text g ++ (ds ++ replicate (unsigned_abs e) 48))
+  spelled_whole high =
       let n : ℕ = unsigned_abs e in
       record {
         numeral = numeral g (ds ++ replicate n 48) [] None;
-        is = record { whole = digits-join ds _ all (digits-replicate n); some_digit = omega (arith, length-append ds (replicate n 48)); fraction = tt; exponent = tt };
+        is = record { whole = digits_join ds _ all (digits_replicate n); some_digit = omega (arith, length-append ds (replicate n 48)); fraction = tt; exponent = tt };
         plain = no_leading (ds ++ replicate n 48) (λ k. first (sym (get_or_append_left ds (replicate n 48) 0 0 some) ∙ k));
         value = valued ds some first last g (ds ++ replicate n 48) [] None 0 n e (append-nil _) (grind (arith, ints));
         text = ap (λ z. minus_text g ++ z) (append-nil _);
       }
 
-  pub spelled-some : SpellsDecimal d (minus_text g ++ magnitude_text ds e p)
-  spelled-some = cond_both (is_far p) (scientific_text ds p) (plain_text ds e p) (λ z. SpellsDecimal d (minus_text g ++ z)) (λ far. spelled-far)
+  pub spelled_some : SpellsDecimal d (minus_text g ++ magnitude_text ds e p)
+  spelled_some = cond_both (is_far p) (scientific_text ds p) (plain_text ds e p) (λ z. SpellsDecimal d (minus_text g ++ z)) (λ far. spelled_far)
       (λ near. cond_both (int_lt e (pos 0)) _ _ (λ z. SpellsDecimal d (minus_text g ++ z))
-      (λ low. cond_both (int_lt p (pos 1)) _ _ (λ z. SpellsDecimal d (minus_text g ++ z)) (spelled-small low) (spelled-mid low))
-      spelled-whole)
+      (λ low. cond_both (int_lt p (pos 1)) _ _ (λ z. SpellsDecimal d (minus_text g ++ z)) (spelled_small low) (spelled_mid low))
+      spelled_whole)
 
 -- ---- any decimal
 
-no-digits : (g : Bool) (ds : List ℕ) (e : ℤ) → ds ≡ [] → (g ≡ false) × (e ≡ pos 0) → value (numeral false (48 ∷ []) [] None) ≡ record { negative = g; digits = ds; power = e }
+no_digits : (g : Bool) (ds : List ℕ) (e : ℤ) → ds ≡ [] → (g ≡ false) × (e ≡ pos 0) → value (numeral false (48 ∷ []) [] None) ≡ record { negative = g; digits = ds; power = e }
 unfolding value
-no-digits g ds e h z = λ i. record { negative = sym z.0 i; digits = sym h i; power = sym z.1 i }
+no_digits g ds e h z = λ i. record { negative = sym z.0 i; digits = sym h i; power = sym z.1 i }
 
-spelled-digits : (width : Width) (g : Bool) (ds : List ℕ) (e : ℤ) → IsDecimalAt width (record { negative = g; digits = ds; power = e }) → SpellsDecimal (record { negative = g; digits = ds; power = e }) (decimal_text (record { negative = g; digits = ds; power = e }))
+spelled_digits : (width : Width) (g : Bool) (ds : List ℕ) (e : ℤ) → IsDecimalAt width (record { negative = g; digits = ds; power = e }) → SpellsDecimal (record { negative = g; digits = ds; power = e }) (decimal_text (record { negative = g; digits = ds; power = e }))
 unfolding decimal_text
-spelled-digits width g [] e h = record {
+spelled_digits width g [] e h = record {
   numeral = numeral false (48 ∷ []) [] None;
   is = record { whole = (refl, tt); some_digit = omega arith; fraction = tt; exponent = tt };
   plain = refl;
-  value = no-digits g [] e refl (zero-form width g e h);
+  value = no_digits g [] e refl (zero_form width g e h);
   text = refl;
 }
-spelled-digits width g (c ∷ cs) e h = let f = form width g c cs e h in rw (eqb-suc-zero (length cs)) (spelled-some g (c ∷ cs) e f.digits (omega arith) f.first f.last)
+spelled_digits width g (c ∷ cs) e h = let f = form width g c cs e h in rw (eqb-suc-zero (length cs)) (spelled_some g (c ∷ cs) e f.digits (omega arith) f.first f.last)
 
-pub decimal-spelled : (width : Width) (d : Decimal) → IsDecimalAt width d → SpellsDecimal d (decimal_text d)
-decimal-spelled width d h = spelled-digits width d.negative d.digits d.power h
+pub decimal_spelled : (width : Width) (d : Decimal) → IsDecimalAt width d → SpellsDecimal d (decimal_text d)
+decimal_spelled width d h = spelled_digits width d.negative d.digits d.power h
 
 -- 0 has the power 0
-zero-between : (m : ℕ) → 0 < m → (int_le (neg_ℤ (pos m)) (pos 0) && int_lt (pos 0) (pos m)) ≡ true
-zero-between m h = grind (arith, ints)
+zero_between : (m : ℕ) → 0 < m → (int_le (neg_ℤ (pos m)) (pos 0) && int_lt (pos 0) (pos m)) ≡ true
+zero_between m h = grind (arith, ints)
 
-zero-fits : (width : Width) → IsTrue (power_fits width (pos 0))
+zero_fits : (width : Width) → IsTrue (power_fits width (pos 0))
 unfolding power_fits
-zero-fits width = zero-between (2 ^ hbits width) (pow_pos (hbits width))
+zero_fits width = zero_between (2 ^ hbits width) (pow_pos (hbits width))
 
-digits-fit : (width : Width) (g : Bool) (ds : List ℕ) (e : ℤ) → IsTrue (is_canonical_at width g ds e) → IsTrue (power_fits width e)
-digits-fit width g [] e h = rw (zero-form width g e h).1 (zero-fits width)
-digits-fit width g (c ∷ cs) e h = (form width g c cs e h).fits
+digits_fit : (width : Width) (g : Bool) (ds : List ℕ) (e : ℤ) → IsTrue (is_canonical_at width g ds e) → IsTrue (power_fits width e)
+digits_fit width g [] e h = rw (zero_form width g e h).1 (zero_fits width)
+digits_fit width g (c ∷ cs) e h = (form width g c cs e h).fits
 
-pub decimal-fits : (width : Width) (d : Decimal) → IsDecimalAt width d → IsTrue (fits_in width d)
-decimal-fits width d h = digits-fit width d.negative d.digits d.power h
+pub decimal_fits : (width : Width) (d : Decimal) → IsDecimalAt width d → IsTrue (fits_in width d)
+decimal_fits width d h = digits_fit width d.negative d.digits d.power h

@@ -17,41 +17,41 @@ pub record HasForm (width : Width) (ds : List ℕ) (p : ℤ) : Type 0 where
   pub last : get_or ds (length ds - 1) 0 ≢ 48
   pub fits : IsTrue (power_fits width p)
 
-digits-from : (ds : List ℕ) → IsTrue (all_ascii_digits ds) → AreDigits ds
-digits-from [] h = tt
-digits-from (c ∷ cs) h = let k = and_parts (is_ascii_digit c) (all_ascii_digits cs) h in (k.0, digits-from cs k.1)
+digits_from : (ds : List ℕ) → IsTrue (all_ascii_digits ds) → AreDigits ds
+digits_from [] h = tt
+digits_from (c ∷ cs) h = let k = and_parts (is_ascii_digit c) (all_ascii_digits cs) h in (k.0, digits_from cs k.1)
 
-from-digits : (ds : List ℕ) → AreDigits ds → IsTrue (all_ascii_digits ds)
-from-digits [] h = refl
-from-digits (c ∷ cs) h = and_from (is_ascii_digit c) (all_ascii_digits cs) h.0 (from-digits cs h.1)
+from_digits : (ds : List ℕ) → AreDigits ds → IsTrue (all_ascii_digits ds)
+from_digits [] h = refl
+from_digits (c ∷ cs) h = and_from (is_ascii_digit c) (all_ascii_digits cs) h.0 (from_digits cs h.1)
 
-last-from : (c : ℕ) (cs : List ℕ) → IsTrue (ends_nonzero c cs) → get_or (c ∷ cs) (length (c ∷ cs) - 1) 0 ≢ 48
-last-from c [] h = λ e. grind (arith, nat_tests)
-last-from c (d ∷ ds) h = λ e. last-from d ds h (sym (last_cons c d ds) ∙ e)
+last_from : (c : ℕ) (cs : List ℕ) → IsTrue (ends_nonzero c cs) → get_or (c ∷ cs) (length (c ∷ cs) - 1) 0 ≢ 48
+last_from c [] h = λ e. grind (arith, nat_tests)
+last_from c (d ∷ ds) h = λ e. last_from d ds h (sym (last_cons c d ds) ∙ e)
 
-from-last : (c : ℕ) (cs : List ℕ) → get_or (c ∷ cs) (length (c ∷ cs) - 1) 0 ≢ 48 → IsTrue (ends_nonzero c cs)
-from-last c [] h = grind (arith, nat_tests)
-from-last c (d ∷ ds) h = from-last d ds (λ e. h (last_cons c d ds ∙ e))
+from_last : (c : ℕ) (cs : List ℕ) → get_or (c ∷ cs) (length (c ∷ cs) - 1) 0 ≢ 48 → IsTrue (ends_nonzero c cs)
+from_last c [] h = grind (arith, nat_tests)
+from_last c (d ∷ ds) h = from_last d ds (λ e. h (last_cons c d ds ∙ e))
 
-first-from : (c : ℕ) → IsTrue (not (c == 48)) → c ≢ 48
-first-from c h = λ e. grind (arith, nat_tests)
+first_from : (c : ℕ) → IsTrue (not (c == 48)) → c ≢ 48
+first_from c h = λ e. grind (arith, nat_tests)
 
-from-first : (c : ℕ) → c ≢ 48 → IsTrue (not (c == 48))
-from-first c h = grind (arith, nat_tests)
+from_first : (c : ℕ) → c ≢ 48 → IsTrue (not (c == 48))
+from_first c h = grind (arith, nat_tests)
 
 pub form : (width : Width) (g : Bool) (c : ℕ) (cs : List ℕ) (p : ℤ) → IsTrue (is_canonical_at width g (c ∷ cs) p) → HasForm width (c ∷ cs) p
 form width g c cs p h =
     let k = and_parts (power_fits width p) _ h in
     let d = and_parts (all_ascii_digits (c ∷ cs)) _ k.1 in
     let f = and_parts (starts_without_zero (c ∷ cs)) (ends_without_zero (c ∷ cs)) d.1 in
-    record { digits = digits-from (c ∷ cs) d.0; first = first-from c f.0; last = last-from c cs f.1; fits = k.0 }
+    record { digits = digits_from (c ∷ cs) d.0; first = first_from c f.0; last = last_from c cs f.1; fits = k.0 }
 
 pub formed : (width : Width) (g : Bool) (c : ℕ) (cs : List ℕ) (p : ℤ) → HasForm width (c ∷ cs) p → IsTrue (is_canonical_at width g (c ∷ cs) p)
 formed width g c cs p h =
-    and_from (power_fits width p) _ h.fits (and_from (all_ascii_digits (c ∷ cs)) _ (from-digits (c ∷ cs) h.digits) (and_from (starts_without_zero (c ∷ cs)) (ends_without_zero (c ∷ cs)) (from-first c h.first) (from-last c cs h.last)))
+    and_from (power_fits width p) _ h.fits (and_from (all_ascii_digits (c ∷ cs)) _ (from_digits (c ∷ cs) h.digits) (and_from (starts_without_zero (c ∷ cs)) (ends_without_zero (c ∷ cs)) (from_first c h.first) (from_last c cs h.last)))
 
-pub zero-form : (width : Width) (g : Bool) (p : ℤ) → IsTrue (is_canonical_at width g [] p) → (g ≡ false) × (p ≡ pos 0)
-zero-form width g p h = let k = and_parts (not g) (int_eq p (pos 0)) h in (not-true g k.0, (Decides-int_eq p (pos 0)).0 k.1)
+pub zero_form : (width : Width) (g : Bool) (p : ℤ) → IsTrue (is_canonical_at width g [] p) → (g ≡ false) × (p ≡ pos 0)
+zero_form width g p h = let k = and_parts (not g) (int_eq p (pos 0)) h in (not-true g k.0, (Decides-int_eq p (pos 0)).0 k.1)
 
 pub digits_of_form : (width : Width) (g : Bool) (ds : List ℕ) (p : ℤ) → IsTrue (is_canonical_at width g ds p) → AreDigits ds
 digits_of_form width g [] p h = tt

@@ -17,11 +17,11 @@ use Rattle.tinyjson_number.specs.Decimal.{Decimal, zero_decimal, decimal_of, str
 use Rattle.tinyjson_number.specs.Numeral.{AreDigits, power_width}
 use Rattle.tinyjson_number.specs.Canonical.{IsDecimal, is_canonical}
 use Rattle.tinyjson_number.specs.Integer.{whole_decimal, integer_decimal}
-use Rattle.tinyjson_number.proofs.Naturals.{natural-decimal}
-use Rattle.tinyjson_number.proofs.Forms.{HasForm, form, zero-form}
-use Rattle.tinyjson_number.proofs.Runs.{digit_at, range_from_digit, digits-list_all, list_all-digits}
-use Rattle.tinyjson_number.proofs.Strips.{strip_trailing-append_none, strip_leading_none, strip_trailing_none, strip_trailing_some, strip_zeros, tail_is}
-use Rattle.tinyjson_number.proofs.DecimalTrip.{decimal-of_some, digits-join, digits-replicate}
+use Rattle.tinyjson_number.proofs.Naturals.{natural_decimal}
+use Rattle.tinyjson_number.proofs.Forms.{HasForm, form, zero_form}
+use Rattle.tinyjson_number.proofs.Runs.{digit_at, range_from_digit, digits_list_all, list_all_digits}
+use Rattle.tinyjson_number.proofs.Strips.{strip_trailing_append_none, strip_leading_none, strip_trailing_none, strip_trailing_some, strip_zeros, tail_is}
+use Rattle.tinyjson_number.proofs.DecimalTrip.{decimal_of_some, digits_join, digits_replicate}
 use Rattle.tinyjson_number.proofs.Readings.{kept_is}
 
 -- the whole number that a decimal is, where its power is not negative
@@ -34,14 +34,14 @@ digits_test = search rules
 own : IsNumeralModel (λ ds. list_all is_ascii_digit ds ≡ true) (digits_value 10)
 own = numerals_by_value _ digits_test
 
-pub decimal-digits : (n : ℕ) → n < 2 ^ 64 → AreDigits (decimal n)
-decimal-digits n fits = digits-list_all (decimal n) (digits_decimal own n fits)
+pub decimal_digits : (n : ℕ) → n < 2 ^ 64 → AreDigits (decimal n)
+decimal_digits n fits = digits_list_all (decimal n) (digits_decimal own n fits)
 
 -- ---- from a whole number
 
 -- by std's text, which has all digits below 10 ^ 64
 whole_by_decimal : (negative : Bool) (n : ℕ) → n < 10 ^ 64 → decimal_of negative (significant (decimal n)) (pos (trailing_zeros (decimal n))) ≡ whole_decimal negative n
-whole_by_decimal negative n small = ap (λ t. decimal_of negative (significant t) (pos (trailing_zeros t))) (sym (natural-decimal n small))
+whole_by_decimal negative n small = ap (λ t. decimal_of negative (significant t) (pos (trailing_zeros t))) (sym (natural_decimal n small))
 
 pub zero_is : (negative : Bool) → zero_decimal ≡ whole_decimal negative 0
 zero_is negative = ap (λ t. decimal_of negative (significant t) (pos (trailing_zeros t))) (sym (decimal_digit 0 (omega arith))) ∙ whole_by_decimal negative 0 (omega arith)
@@ -60,13 +60,13 @@ module _ (n : ℕ) (some : 0 < n) (fits : n < 2 ^ 64) where
   whole_is negative s z is zeros =
       let sig : s ≡ significant (decimal n) = is ∙ sym significant_is in
       let power : z ≡ trailing_zeros (decimal n) = zeros ∙ ap (λ t. length (decimal n) - length t) is in
-      sym (decimal-of_some negative s (pos z) (omega (arith, ap length is, kept_some)))
+      sym (decimal_of_some negative s (pos z) (omega (arith, ap length is, kept_some)))
       ∙ (λ i. decimal_of negative (sig i) (pos (power i)))
       ∙ whole_by_decimal negative n (omega (arith, fits))
 
   pub whole_fits : (negative : Bool) (s : List ℕ) (z : ℕ) → s ≡ strip_trailing (decimal n) → z ≤ length (decimal n) → IsTrue (is_canonical negative s (pos z))
   whole_fits negative s z is few =
-      kept_is negative s (pos z) (omega (arith, ap length is, kept_some)) (decimal n) (is ∙ sym significant_is) (decimal-digits n fits) (record { sfits = omega (arith, few, length-decimal-le 20 n (omega arith) (omega arith) fits) })
+      kept_is negative s (pos z) (omega (arith, ap length is, kept_some)) (decimal n) (is ∙ sym significant_is) (decimal_digits n fits) (record { sfits = omega (arith, few, length-decimal-le 20 n (omega arith) (omega arith) fits) })
 
 -- ---- digits with zeros behind them
 
@@ -82,8 +82,8 @@ zeros_push ds (suc k) =
 
 -- ---- the whole number is found again
 
-pub magnitude-whole : (negative : Bool) (n : ℕ) → n < 2 ^ 64 → magnitude_of (whole_decimal negative n) ≡ n
-magnitude-whole negative n fits =
+pub magnitude_whole : (negative : Bool) (n : ℕ) → n < 2 ^ 64 → magnitude_of (whole_decimal negative n) ≡ n
+magnitude_whole negative n fits =
     ⊎_elim
     (λ some.
     let s = strip_trailing (decimal n) in
@@ -97,7 +97,7 @@ some_form g [] p h some = absurd (omega arith)
 some_form g (c ∷ cs) p h some = form power_width g c cs p h
 
 none_form : (g : Bool) (ds : List ℕ) (p : ℤ) → IsTrue (is_canonical g ds p) → ds ≡ [] → record { negative = g; digits = ds; power = p } ≡ zero_decimal
-none_form g [] p h e = let z = zero-form power_width g p h in λ i. record { negative = z.0 i; digits = []; power = z.1 i }
+none_form g [] p h e = let z = zero_form power_width g p h in λ i. record { negative = z.0 i; digits = []; power = z.1 i }
 none_form g (c ∷ cs) p h e = absurd (cc)
 
 pub zero_from_none : (d : Decimal) → IsDecimal d → length d.digits ≡ 0 → d ≡ zero_decimal
@@ -113,16 +113,16 @@ module _ (d : Decimal) (valid : IsDecimal d) (p : ℕ) (power : d.power ≡ pos 
       let m : ℕ = magnitude_of d in
       let value : digits_value 10 all ≡ m = zeros_push ds p ∙ ap (λ z. digits_value 10 ds * 10 ^ unsigned_abs z) (sym power) in
       let first : get_or all 0 0 ≢ 48 = λ e. has.first (sym (get_or_append_left ds (replicate p 48) 0 0 some) ∙ e) in
-      let digits : list_all is_ascii_digit all ≡ true = list_all-digits all (digits-join ds (replicate p 48) has.digits (digits-replicate p)) in
+      let digits : list_all is_ascii_digit all ≡ true = list_all_digits all (digits_join ds (replicate p 48) has.digits (digits_replicate p)) in
       let long : 0 < length all = omega (arith, length-append ds (replicate p 48), some) in
       let text : decimal m ≡ all = ap decimal (sym value) ∙ decimal-digits_value own all digits long (λ e. absurd (first e)) (omega (arith, value, fits)) in
       let positive : 0 < m = ⊎_elim (λ h. h) (λ h. let is : m ≡ 0 = omega arith in absurd (first (ap (λ l. get_or l 0 0) (sym text ∙ ap decimal is ∙ decimal_digit 0 (omega arith))))) (cases_lt 0 m) in
-      let kept : ds ≡ strip_trailing (decimal m) = sym (strip_trailing_none ds has.last) ∙ sym (strip_trailing-append_none ds (replicate p 48) (strip_zeros p)) ∙ ap strip_trailing (sym text) in
+      let kept : ds ≡ strip_trailing (decimal m) = sym (strip_trailing_none ds has.last) ∙ sym (strip_trailing_append_none ds (replicate p 48) (strip_zeros p)) ∙ ap strip_trailing (sym text) in
       let zeros : p ≡ length (decimal m) - length ds = omega (arith, ap length text, length-append ds (replicate p 48), length-replicate {A = ℕ} p 48) in
       (λ i. record { negative = d.negative; digits = ds; power = power i }) ∙ whole_is m positive fits d.negative ds p kept zeros
 
-  pub whole-magnitude : d ≡ whole_decimal d.negative (magnitude_of d)
-  whole-magnitude =
+  pub whole_magnitude : d ≡ whole_decimal d.negative (magnitude_of d)
+  whole_magnitude =
       ⊎_elim from_some
       (λ none.
       let is = zero_from_none d valid (omega arith) in
@@ -133,13 +133,13 @@ module _ (d : Decimal) (valid : IsDecimal d) (p : ℕ) (power : d.power ≡ pos 
 
 -- no whole number past the type
 none_past : (d : Decimal) (k : ℕ) → magnitude_of d ≡ k → ¬ (k < 2 ^ 64) → (n : ℕ) → n < 2 ^ 64 → ¬ (d ≡ whole_decimal d.negative n)
-none_past d k is past n fits same = let e : magnitude_of d ≡ n = ap magnitude_of same ∙ magnitude-whole d.negative n fits in past (omega (arith, e, is, fits))
+none_past d k is past n fits same = let e : magnitude_of d ≡ n = ap magnitude_of same ∙ magnitude_whole d.negative n fits in past (omega (arith, e, is, fits))
 
 pub answer_is : (d : Decimal) → IsDecimal d → (p : ℕ) → d.power ≡ pos p → (r : Option ℕ) → SomeIff r (digits_value 10 d.digits * 10 ^ p < 2 ^ 64) (digits_value 10 d.digits * 10 ^ p) → MatchOption r ((n : ℕ) → n < 2 ^ 64 → ¬ (d ≡ whole_decimal d.negative n)) (λ n. d ≡ whole_decimal d.negative n)
 answer_is d valid p power None h = none_past d (digits_value 10 d.digits * 10 ^ p) (ap (λ z. digits_value 10 d.digits * 10 ^ unsigned_abs z) power) h
 answer_is d valid p power (Some x) h =
     let same : magnitude_of d ≡ x = ap (λ z. digits_value 10 d.digits * 10 ^ unsigned_abs z) power ∙ sym h.1 in
-    whole-magnitude d valid p power (omega (arith, h.0, same, h.1)) ∙ ap (whole_decimal d.negative) same
+    whole_magnitude d valid p power (omega (arith, h.0, same, h.1)) ∙ ap (whole_decimal d.negative) same
 
 -- one more digit is within the whole
 pub step_within : (ds : List ℕ) (i : ℕ) → AreDigits ds → i < length ds → (digits_value 10 (take (i + 1) ds) ≡ digits_value 10 (take i ds) * 10 + (get_or ds i 0 - 48)) × (digits_value 10 (take (i + 1) ds) ≤ digits_value 10 ds)
@@ -174,12 +174,12 @@ none_under d p power past =
     none_past d (x * 10 ^ p) (ap (λ z. digits_value 10 d.digits * 10 ^ unsigned_abs z) power) (λ fits. past (omega (arith, fits, grown)))
 
 -- the whole number of an integer
-magnitude-integer : (z : ℤ) → FitsSigned w64 z → magnitude_of (integer_decimal z) ≡ unsigned_abs z
-magnitude-integer (pos n) h = magnitude-whole false n (omega (arith, ints, h))
-magnitude-integer (negsuc n) h = magnitude-whole true (suc n) (omega (arith, ints, h))
+magnitude_integer : (z : ℤ) → FitsSigned w64 z → magnitude_of (integer_decimal z) ≡ unsigned_abs z
+magnitude_integer (pos n) h = magnitude_whole false n (omega (arith, ints, h))
+magnitude_integer (negsuc n) h = magnitude_whole true (suc n) (omega (arith, ints, h))
 
-pub negative-whole : (b : Bool) (n : ℕ) → 0 < n → n < 2 ^ 64 → (whole_decimal b n).negative ≡ b
-negative-whole b n some fits = ap (λ (d : Decimal). d.negative) (sym (whole_is n some fits b (strip_trailing (decimal n)) (trailing_zeros (decimal n)) refl refl))
+pub negative_whole : (b : Bool) (n : ℕ) → 0 < n → n < 2 ^ 64 → (whole_decimal b n).negative ≡ b
+negative_whole b n some fits = ap (λ (d : Decimal). d.negative) (sym (whole_is n some fits b (strip_trailing (decimal n)) (trailing_zeros (decimal n)) refl refl))
 
 -- ---- whole numbers of 64 bits are told apart by their decimals
 
@@ -187,15 +187,15 @@ negative-whole b n some fits = ap (λ (d : Decimal). d.negative) (sym (whole_is 
 
 pub no_integer : (d : Decimal) (b : Bool) (m : ℕ) → d ≡ whole_decimal b m → m < 2 ^ 64 → 2 ^ 63 < m → (z : ℤ) → FitsSigned w64 z → ¬ (d ≡ integer_decimal z)
 no_integer d b m is fits past z small same =
-    let e : m ≡ unsigned_abs z = sym (magnitude-whole b m fits) ∙ ap magnitude_of (sym is ∙ same) ∙ magnitude-integer z small in
+    let e : m ≡ unsigned_abs z = sym (magnitude_whole b m fits) ∙ ap magnitude_of (sym is ∙ same) ∙ magnitude_integer z small in
     omega (arith, ints, e, small, past)
 
 pub no_positive : (d : Decimal) (m : ℕ) → d ≡ whole_decimal false m → m < 2 ^ 64 → 2 ^ 63 ≤ m → (z : ℤ) → FitsSigned w64 z → ¬ (d ≡ integer_decimal z)
 no_positive d m is fits past (pos n) small same =
-    let e : m ≡ n = sym (magnitude-whole false m fits) ∙ ap magnitude_of (sym is ∙ same) ∙ magnitude-integer (pos n) small in
+    let e : m ≡ n = sym (magnitude_whole false m fits) ∙ ap magnitude_of (sym is ∙ same) ∙ magnitude_integer (pos n) small in
     omega (arith, ints, e, small, past)
 no_positive d m is fits past (negsuc n) small same =
-    let sign : true ≡ false = sym (negative-whole true (suc n) (omega arith) (omega (arith, ints, small))) ∙ ap (λ (d : Decimal). d.negative) (sym same ∙ is) ∙ negative-whole false m (omega (arith, past)) fits in
+    let sign : true ≡ false = sym (negative_whole true (suc n) (omega arith) (omega (arith, ints, small))) ∙ ap (λ (d : Decimal). d.negative) (sym same ∙ is) ∙ negative_whole false m (omega (arith, past)) fits in
     false≢true (sym sign)
 
 pub negated : (d : Decimal) (m : ℕ) → d ≡ whole_decimal true m → d.negative ≡ true → d ≡ integer_decimal (neg_ℤ (pos m))

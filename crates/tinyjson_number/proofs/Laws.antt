@@ -9,7 +9,7 @@ use Rattle.tinyjson_number.specs.Canonical.{IsDecimalAt}
 use Rattle.tinyjson_number.specs.NumberText.{IsNumberTextAt}
 use Rattle.tinyjson_number.specs.Text.{decimal_text}
 use Rattle.tinyjson_number.proofs.Literals.{one_numeral}
-use Rattle.tinyjson_number.proofs.DecimalTrip.{decimal-spelled, decimal-fits}
+use Rattle.tinyjson_number.proofs.DecimalTrip.{decimal_spelled, decimal_fits}
 
 -- a text is a number of at most one decimal
 pub one_decimal : (v w : Width) (text : List ℕ) (d e : Decimal) → IsNumberTextAt v text d → IsNumberTextAt w text e → d ≡ e
@@ -17,7 +17,7 @@ one_decimal v w text d e p q = sym p.2 ∙ ap value (one_numeral text p.0 q.0 p.
 
 -- the text of a decimal is a number of that decimal
 pub text_is_number : (width : Width) (d : Decimal) → IsDecimalAt width d → IsNumberTextAt width (decimal_text d) d
-text_is_number width d h = let s = decimal-spelled width d h in (s.numeral, record { well_formed = s.is; no_leading_zero = s.plain; spelled = s.text }, s.value, decimal-fits width d h)
+text_is_number width d h = let s = decimal_spelled width d h in (s.numeral, record { well_formed = s.is; no_leading_zero = s.plain; spelled = s.text }, s.value, decimal_fits width d h)
 
 wider_bounds : (z : ℤ) → (int_le (neg_ℤ (pos (2 ^ 31))) z && int_lt z (pos (2 ^ 31))) ≡ true → (int_le (neg_ℤ (pos (2 ^ 63))) z && int_lt z (pos (2 ^ 63))) ≡ true
 wider_bounds z h = grind (arith, ints)

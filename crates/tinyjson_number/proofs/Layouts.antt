@@ -6,11 +6,11 @@ use Rattle.std.proofs.lemmas.Bool.Decides.{nat_tests}
 use Rattle.tinyjson_number.specs.Canonical.{IsDecimal}
 use Rattle.tinyjson_number.specs.Decimal.{Decimal}
 use Rattle.tinyjson_number.specs.Text.{decimal_text}
-use Rattle.tinyjson_number.proofs.DecimalTrip.{decimal-spelled}
+use Rattle.tinyjson_number.proofs.DecimalTrip.{decimal_spelled}
 use Rattle.tinyjson_number.specs.Number.{Canonical}
 use Rattle.tinyjson_number.specs.Numeral.{AreDigits, power_width, Numeral, Exponent, IsNumeral, IsExponent, minus_text, sign_text, fraction_text, exponent_text, spelling, is_sign}
 use Rattle.tinyjson_number.proofs.Forms.{digits_of_form}
-use Rattle.tinyjson_number.proofs.Runs.{digits-ascii}
+use Rattle.tinyjson_number.proofs.Runs.{digits_ascii}
 
 pub none_ascii : IsAscii []
 none_ascii i = omega arith
@@ -23,13 +23,13 @@ more_ascii c cs h k zero = h
 more_ascii c cs h k (suc i) = k i
 
 -- the two parts of ASCII
-pub ascii-front : (xs ys : List ℕ) → IsAscii (xs ++ ys) → IsAscii xs
-ascii-front [] ys h = none_ascii
-ascii-front (x ∷ xs) ys h = more_ascii x xs (h 0) (ascii-front xs ys (λ i. h (suc i)))
+pub ascii_front : (xs ys : List ℕ) → IsAscii (xs ++ ys) → IsAscii xs
+ascii_front [] ys h = none_ascii
+ascii_front (x ∷ xs) ys h = more_ascii x xs (h 0) (ascii_front xs ys (λ i. h (suc i)))
 
-pub ascii-back : (xs ys : List ℕ) → IsAscii (xs ++ ys) → IsAscii ys
-ascii-back [] ys h = h
-ascii-back (x ∷ xs) ys h = ascii-back xs ys (λ i. h (suc i))
+pub ascii_back : (xs ys : List ℕ) → IsAscii (xs ++ ys) → IsAscii ys
+ascii_back [] ys h = h
+ascii_back (x ∷ xs) ys h = ascii_back xs ys (λ i. h (suc i))
 
 minus_ascii : (b : Bool) → IsAscii (minus_text b)
 minus_ascii true = more_ascii 45 [] (omega arith) none_ascii
@@ -37,7 +37,7 @@ minus_ascii false = none_ascii
 
 fraction_ascii : (ds : List ℕ) → AreDigits ds → IsAscii (fraction_text ds)
 fraction_ascii [] h = none_ascii
-fraction_ascii (d ∷ ds) h = more_ascii 46 (d ∷ ds) (omega arith) (digits-ascii (d ∷ ds) h)
+fraction_ascii (d ∷ ds) h = more_ascii 46 (d ∷ ds) (omega arith) (digits_ascii (d ∷ ds) h)
 
 sign_ascii : (s : Option ℕ) → IfSome s (λ c. IsTrue (is_sign c)) → IsAscii (sign_text s)
 sign_ascii None h = none_ascii
@@ -46,12 +46,12 @@ sign_ascii (Some c) h = more_ascii c [] (grind (arith, nat_tests)) none_ascii
 exponent_ascii : (e : Option Exponent) → IfSome e IsExponent → IsAscii (exponent_text e)
 exponent_ascii None h = none_ascii
 exponent_ascii (Some e) h =
-    more_ascii e.letter _ (let l = h.letter in grind (arith, nat_tests)) (IsAscii-append (sign_text e.sign) e.digits (sign_ascii e.sign h.sign) (digits-ascii e.digits h.digits))
+    more_ascii e.letter _ (let l = h.letter in grind (arith, nat_tests)) (IsAscii-append (sign_text e.sign) e.digits (sign_ascii e.sign h.sign) (digits_ascii e.digits h.digits))
 
 spelling_ascii : (n : Numeral) → IsNumeral n → IsAscii (spelling n)
 spelling_ascii n h =
-    IsAscii-append (minus_text n.negative) _ (minus_ascii n.negative) (IsAscii-append n.whole _ (digits-ascii n.whole h.whole)
+    IsAscii-append (minus_text n.negative) _ (minus_ascii n.negative) (IsAscii-append n.whole _ (digits_ascii n.whole h.whole)
     (IsAscii-append (fraction_text n.fraction) _ (fraction_ascii n.fraction h.fraction) (exponent_ascii n.exponent h.exponent)))
 
 pub decimal_ascii : (d : Decimal) → IsDecimal d → IsAscii (decimal_text d)
-decimal_ascii d h = let s = decimal-spelled power_width d h in subst IsAscii s.text (spelling_ascii s.numeral s.is)
+decimal_ascii d h = let s = decimal_spelled power_width d h in subst IsAscii s.text (spelling_ascii s.numeral s.is)

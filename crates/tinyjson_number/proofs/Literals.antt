@@ -7,7 +7,7 @@ use Rattle.std.proofs.Math.Dec.{eqb-suc-zero}
 use Rattle.std.proofs.lemmas.Bool.{eqb-true, or_parts}
 use Rattle.std.proofs.lemmas.List.Sums.{prefix_len_is}
 use Rattle.std.proofs.lemmas.List.{get_or_append_left, get_or-append_right, take_at, drop_at}
-use Rattle.tinyjson_number.proofs.DecimalTrip.{fraction-some}
+use Rattle.tinyjson_number.proofs.DecimalTrip.{fraction_some}
 use Rattle.tinyjson_number.proofs.Runs.{all_from_prefix, digit_at, front_digits}
 use Rattle.tinyjson_number.specs.Numeral.{Exponent, Numeral, AreDigits, IsExponent, IsNumeral, sign_text, minus_text, fraction_text, exponent_text, spelling, is_exponent_letter, is_sign, has_leading_zero}
 use Rattle.tinyjson_number.specs.NumberText.{Spells}
@@ -59,7 +59,7 @@ fraction_cases true x xs p is_point h =
     let c = chosen_some (eqb (length fr) 0) (fr, digits_rest xs) p h in
     let some : 0 < length fr = grind (arith, nat_tests, c.0) in
     subst (FractionRead (x ∷ xs)) c.1
-    (front_digits xs, ap (λ t. t ++ digits_rest xs) (fraction-some fr some) ∙ (λ i. sym (is_point refl) i ∷ take-append-drop (prefix_len is_ascii_digit xs) xs i))
+    (front_digits xs, ap (λ t. t ++ digits_rest xs) (fraction_some fr some) ∙ (λ i. sym (is_point refl) i ∷ take-append-drop (prefix_len is_ascii_digit xs) xs i))
 fraction_cases false x xs p is_point h = let e : ◌≡◌ {A = List ℕ × List ℕ} ([], x ∷ xs) p = cc in subst (FractionRead (x ∷ xs)) e (tt, refl)
 
 fraction_sound : (text : List ℕ) (p : List ℕ × List ℕ) → fraction_at text ≡ Some p → FractionRead text p

@@ -9,55 +9,55 @@ use Rattle.std.proofs.lemmas.Bool.{ltb-true, ltb-false, and_from, le-leb, le-ltb
 use Rattle.tinyjson_number.specs.Numeral.{AreDigits}
 use Rattle.tinyjson_number.specs.Text.{digits_within, natural_text, integer_text}
 
-pub digits-append : (ds : List ℕ) (c : ℕ) → AreDigits ds → IsTrue (is_ascii_digit c) → AreDigits (ds ++ c ∷ [])
-digits-append [] c h i = (i, tt)
-digits-append (d ∷ ds) c h i = (h.0, digits-append ds c h.1 i)
+pub digits_append : (ds : List ℕ) (c : ℕ) → AreDigits ds → IsTrue (is_ascii_digit c) → AreDigits (ds ++ c ∷ [])
+digits_append [] c h i = (i, tt)
+digits_append (d ∷ ds) c h i = (h.0, digits_append ds c h.1 i)
 
-pub digit-value : (d : ℕ) → d < 10 → digit_value (48 + d) ≡ d
-digit-value d h = rw (le-ltb (48 + d) 48 (omega arith)) (rw (lt-ltb (48 + d) 58 (omega arith)) (omega arith))
+pub value_of_digit : (d : ℕ) → d < 10 → digit_value (48 + d) ≡ d
+value_of_digit d h = rw (le-ltb (48 + d) 48 (omega arith)) (rw (lt-ltb (48 + d) 58 (omega arith)) (omega arith))
 
-pub digit-is : (d : ℕ) → d < 10 → IsTrue (is_ascii_digit (48 + d))
-digit-is d h = and_from _ _ (le-leb 48 (48 + d) (omega arith)) (le-leb (48 + d) 57 (omega arith))
+pub digit_is : (d : ℕ) → d < 10 → IsTrue (is_ascii_digit (48 + d))
+digit_is d h = and_from _ _ (le-leb 48 (48 + d) (omega arith)) (le-leb (48 + d) 57 (omega arith))
 
-pub after-append : (n : ℕ) (xs ys : List ℕ) → digits_value_after 10 n (xs ++ ys) ≡ digits_value_after 10 (digits_value_after 10 n xs) ys
-after-append n [] ys = refl
-after-append n (x ∷ xs) ys = after-append (n * 10 + digit_value x) xs ys
+pub after_append : (n : ℕ) (xs ys : List ℕ) → digits_value_after 10 n (xs ++ ys) ≡ digits_value_after 10 (digits_value_after 10 n xs) ys
+after_append n [] ys = refl
+after_append n (x ∷ xs) ys = after_append (n * 10 + digit_value x) xs ys
 
 pub record IsNatural (n : ℕ) (ds : List ℕ) : Type 0 where
   pub are : AreDigits ds
   pub some : 0 < length ds
   pub value : digits_value 10 ds ≡ n
 
-natural-one : (n : ℕ) → n < 10 → IsNatural n ((48 + n) ∷ [])
-natural-one n h = record { are = (digit-is n h, tt); some = omega arith; value = omega (arith, digit-value n h) }
+natural_one : (n : ℕ) → n < 10 → IsNatural n ((48 + n) ∷ [])
+natural_one n h = record { are = (digit_is n h, tt); some = omega arith; value = omega (arith, value_of_digit n h) }
 
-natural-more : (n : ℕ) (ds : List ℕ) → IsNatural (n / 10) ds → IsNatural n (ds ++ (48 + n % 10) ∷ [])
-natural-more n ds h = record {
-  are = digits-append ds (48 + n % 10) h.are (digit-is (n % 10) (omega arith));
+natural_more : (n : ℕ) (ds : List ℕ) → IsNatural (n / 10) ds → IsNatural n (ds ++ (48 + n % 10) ∷ [])
+natural_more n ds h = record {
+  are = digits_append ds (48 + n % 10) h.are (digit_is (n % 10) (omega arith));
   some = omega (arith, length-append ds ((48 + n % 10) ∷ []));
-  value = after-append 0 ds ((48 + n % 10) ∷ []) ∙ omega (arith, h.value, digit-value (n % 10) (omega arith));
+  value = after_append 0 ds ((48 + n % 10) ∷ []) ∙ omega (arith, h.value, value_of_digit (n % 10) (omega arith));
 }
 
-natural-within : (b : Bool) (k n : ℕ) → nat_lt n 10 ≡ b → n ≤ k → IsNatural n (digits_within b k n)
-natural-within true k n e h = natural-one n (ltb-true n 10 e)
-natural-within false zero n e h = absurd (omega (arith, ltb-false n 10 e))
-natural-within false (suc k) n e h = natural-more n (digits_within (nat_lt (n / 10) 10) k (n / 10)) (natural-within (nat_lt (n / 10) 10) k (n / 10) refl (omega (arith, ltb-false n 10 e)))
+natural_within : (b : Bool) (k n : ℕ) → nat_lt n 10 ≡ b → n ≤ k → IsNatural n (digits_within b k n)
+natural_within true k n e h = natural_one n (ltb-true n 10 e)
+natural_within false zero n e h = absurd (omega (arith, ltb-false n 10 e))
+natural_within false (suc k) n e h = natural_more n (digits_within (nat_lt (n / 10) 10) k (n / 10)) (natural_within (nat_lt (n / 10) 10) k (n / 10) refl (omega (arith, ltb-false n 10 e)))
 
 pub natural : (n : ℕ) → IsNatural n (natural_text n)
 unfolding natural_text
-natural n = natural-within (nat_lt n 10) n n refl (omega arith)
+natural n = natural_within (nat_lt n 10) n n refl (omega arith)
 
 -- ---- the same as std's text, where that has all digits
 
-within-decimal : (b : Bool) (k n : ℕ) → nat_lt n 10 ≡ b → n ≤ k → n < 10 ^ 64 → digits_within b k n ≡ decimal n
-within-decimal true k n e h s = sym (decimal_digit n (ltb-true n 10 e))
-within-decimal false zero n e h s = absurd (omega (arith, ltb-false n 10 e))
-within-decimal false (suc k) n e h s = ap (λ z. z ++ (48 + n % 10) ∷ []) (within-decimal (nat_lt (n / 10) 10) k (n / 10) refl (omega (arith, ltb-false n 10 e)) (omega arith)) ∙ sym (decimal_step_wide n (ltb-false n 10 e) s)
+within_decimal : (b : Bool) (k n : ℕ) → nat_lt n 10 ≡ b → n ≤ k → n < 10 ^ 64 → digits_within b k n ≡ decimal n
+within_decimal true k n e h s = sym (decimal_digit n (ltb-true n 10 e))
+within_decimal false zero n e h s = absurd (omega (arith, ltb-false n 10 e))
+within_decimal false (suc k) n e h s = ap (λ z. z ++ (48 + n % 10) ∷ []) (within_decimal (nat_lt (n / 10) 10) k (n / 10) refl (omega (arith, ltb-false n 10 e)) (omega arith)) ∙ sym (decimal_step_wide n (ltb-false n 10 e) s)
 
-pub natural-decimal : (n : ℕ) → n < 10 ^ 64 → natural_text n ≡ decimal n
+pub natural_decimal : (n : ℕ) → n < 10 ^ 64 → natural_text n ≡ decimal n
 unfolding natural_text
-natural-decimal n s = within-decimal (nat_lt n 10) n n refl (omega arith) s
+natural_decimal n s = within_decimal (nat_lt n 10) n n refl (omega arith) s
 
-pub integer-decimal : (z : ℤ) → mag z + 1 < 10 ^ 64 → integer_text z ≡ signed_decimal z
-integer-decimal (pos n) s = natural-decimal n (omega arith)
-integer-decimal (negsuc n) s = ap (λ t. 45 ∷ t) (natural-decimal (suc n) (omega arith))
+pub integer_decimal : (z : ℤ) → mag z + 1 < 10 ^ 64 → integer_text z ≡ signed_decimal z
+integer_decimal (pos n) s = natural_decimal n (omega arith)
+integer_decimal (negsuc n) s = ap (λ t. 45 ∷ t) (natural_decimal (suc n) (omega arith))

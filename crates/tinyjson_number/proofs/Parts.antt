@@ -16,33 +16,33 @@ minus_cases : (b : Bool) (n : ℕ) → signed (cond b (Some 45) None) n ≡ cond
 minus_cases true n = refl
 minus_cases false n = refl
 
-signed-plain : (s : Option ℕ) (n : ℕ) → signed (plain_sign s) n ≡ signed s n
-signed-plain None n = refl
-signed-plain (Some c) n = minus_cases (c == 45) n
+signed_plain : (s : Option ℕ) (n : ℕ) → signed (plain_sign s) n ≡ signed s n
+signed_plain None n = refl
+signed_plain (Some c) n = minus_cases (c == 45) n
 
-exponent-plain : (e : Option Exponent) → exponent_value (plain_exponent e) ≡ exponent_value e
-exponent-plain None = refl
-exponent-plain (Some e) = signed-plain e.sign _
+exponent_plain : (e : Option Exponent) → exponent_value (plain_exponent e) ≡ exponent_value e
+exponent_plain None = refl
+exponent_plain (Some e) = signed_plain e.sign _
 
-pub value-plain : (n : Numeral) → value (plain n) ≡ value n
+pub value_plain : (n : Numeral) → value (plain n) ≡ value n
 unfolding value
-value-plain n =
-    ap (λ z. decimal_of n.negative (significant (n.whole ++ n.fraction)) ((z -ℤ pos (length n.fraction)) +ℤ pos (trailing_zeros (n.whole ++ n.fraction)))) (exponent-plain n.exponent)
+value_plain n =
+    ap (λ z. decimal_of n.negative (significant (n.whole ++ n.fraction)) ((z -ℤ pos (length n.fraction)) +ℤ pos (trailing_zeros (n.whole ++ n.fraction)))) (exponent_plain n.exponent)
 
 sign_cases : (b : Bool) → IfSome (cond b (Some 45) None) (λ c. IsTrue (is_sign c))
 sign_cases true = refl
 sign_cases false = tt
 
-sign-plain : (s : Option ℕ) → IfSome (plain_sign s) (λ c. IsTrue (is_sign c))
-sign-plain None = tt
-sign-plain (Some c) = sign_cases (c == 45)
+sign_plain : (s : Option ℕ) → IfSome (plain_sign s) (λ c. IsTrue (is_sign c))
+sign_plain None = tt
+sign_plain (Some c) = sign_cases (c == 45)
 
-is_exponent-plain : (e : Option Exponent) → IfSome e IsExponent → IfSome (plain_exponent e) IsExponent
-is_exponent-plain None h = tt
-is_exponent-plain (Some e) h = record { letter = refl; sign = sign-plain e.sign; digits = h.digits; some_digit = h.some_digit }
+is_exponent_plain : (e : Option Exponent) → IfSome e IsExponent → IfSome (plain_exponent e) IsExponent
+is_exponent_plain None h = tt
+is_exponent_plain (Some e) h = record { letter = refl; sign = sign_plain e.sign; digits = h.digits; some_digit = h.some_digit }
 
-is_numeral-plain : (n : Numeral) → IsNumeral n → IsNumeral (plain n)
-is_numeral-plain n h = record { whole = h.whole; some_digit = h.some_digit; fraction = h.fraction; exponent = is_exponent-plain n.exponent h.exponent }
+is_numeral_plain : (n : Numeral) → IsNumeral n → IsNumeral (plain n)
+is_numeral_plain n h = record { whole = h.whole; some_digit = h.some_digit; fraction = h.fraction; exponent = is_exponent_plain n.exponent h.exponent }
 
 -- ---- a text is as long as the digits that it spells
 
@@ -58,14 +58,14 @@ spelled_room n text h =
 -- ---- for a caller of `from_parts` that knows the numeral
 
 -- the parts of a numeral may be passed
-pub parts-numeral : (n : Numeral) (p : NumberParts) → numeral_of p ≡ plain n → IsNumeral n → IsNumeral (numeral_of p)
-parts-numeral n p same h = subst IsNumeral (sym same) (is_numeral-plain n h)
+pub parts_numeral : (n : Numeral) (p : NumberParts) → numeral_of p ≡ plain n → IsNumeral n → IsNumeral (numeral_of p)
+parts_numeral n p same h = subst IsNumeral (sym same) (is_numeral_plain n h)
 
 reads_plain : (n : Numeral) (r : Result Canonical LiteralError) → ReadsNumeral (plain n) r → ReadsNumeral n r
-reads_plain n (Ok x) h = (h.0 ∙ value-plain n, subst (λ (d : Decimal). IsTrue (in_range d)) (value-plain n) h.1)
-reads_plain n (Err OutOfRange) h = subst (λ (d : Decimal). in_range d ≡ false) (value-plain n) h
-reads_plain n (Err OutOfMemory) h = subst (λ (d : Decimal). IsTrue (in_range d)) (value-plain n) h
+reads_plain n (Ok x) h = (h.0 ∙ value_plain n, subst (λ (d : Decimal). IsTrue (in_range d)) (value_plain n) h.1)
+reads_plain n (Err OutOfRange) h = subst (λ (d : Decimal). in_range d ≡ false) (value_plain n) h
+reads_plain n (Err OutOfMemory) h = subst (λ (d : Decimal). IsTrue (in_range d)) (value_plain n) h
 
 -- and the answer is that of the numeral
-pub parts-read : (n : Numeral) (p : NumberParts) → numeral_of p ≡ plain n → (r : Result Canonical LiteralError) → ReadsNumeral (numeral_of p) r → ReadsNumeral n r
-parts-read n p same r h = reads_plain n r (subst (λ (m : Numeral). ReadsNumeral m r) same h)
+pub parts_read : (n : Numeral) (p : NumberParts) → numeral_of p ≡ plain n → (r : Result Canonical LiteralError) → ReadsNumeral (numeral_of p) r → ReadsNumeral n r
+parts_read n p same r h = reads_plain n r (subst (λ (m : Numeral). ReadsNumeral m r) same h)

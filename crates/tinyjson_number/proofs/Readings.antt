@@ -19,25 +19,25 @@ use Rattle.tinyjson_number.specs.Error.{of_literal}
 use Rattle.tinyjson_number.specs.declared.error.JsonNumberError.{JsonNumberError}
 use Rattle.tinyjson_number.specs.declared.error.LiteralError.{LiteralError}
 use Rattle.tinyjson_number.specs.declared.error.LiteralError.TheVariants.{OutOfRange, OutOfMemory}
-use Rattle.tinyjson_number.proofs.Strips.{digits-leading, digits-trailing, first_leading, first_trailing, last_trailing}
+use Rattle.tinyjson_number.proofs.Strips.{digits_leading, digits_trailing, first_leading, first_trailing, last_trailing}
 use Rattle.tinyjson_number.proofs.Forms.{formed}
-use Rattle.tinyjson_number.proofs.DecimalTrip.{decimal-of_some}
+use Rattle.tinyjson_number.proofs.DecimalTrip.{decimal_of_some}
 
 -- ---- the range of powers
 
 fits_cases : (z : ℤ) → FitsSigned w64 z → (int_le (neg_ℤ (pos (2 ^ 63))) z && int_lt z (pos (2 ^ 63))) ≡ true
 fits_cases z h = grind (arith, ints)
 
-pub power-fits : (z : ℤ) → FitsSigned w64 z → IsTrue (power_fits power_width z)
+pub fitting_power : (z : ℤ) → FitsSigned w64 z → IsTrue (power_fits power_width z)
 unfolding power_fits
-power-fits z h = fits_cases z h
+fitting_power z h = fits_cases z h
 
 within_cases : (z : ℤ) → (int_le (neg_ℤ (pos (2 ^ 63))) z && int_lt z (pos (2 ^ 63))) ≡ true → FitsSigned w64 z
 within_cases z h = record { sfits = grind (arith, ints) }
 
-pub power-within : (z : ℤ) → IsTrue (power_fits power_width z) → FitsSigned w64 z
+pub power_within : (z : ℤ) → IsTrue (power_fits power_width z) → FitsSigned w64 z
 unfolding power_fits
-power-within z h = within_cases z h
+power_within z h = within_cases z h
 
 refuted : (b : Bool) → ¬ IsTrue b → b ≡ false
 refuted true h = absurd (h refl)
@@ -73,18 +73,18 @@ cap_harmless (Some e) f t hf ht fits = cap_signed e.sign (digits_value 10 e.digi
 pub kept_is : (negative : Bool) (s : List ℕ) (power : ℤ) → 0 < length s → (ds : List ℕ) → s ≡ significant ds → AreDigits ds → FitsSigned w64 power → IsTrue (is_canonical negative s power)
 kept_is negative [] power some ds is all fits = absurd (omega arith)
 kept_is negative (c ∷ cs) power some ds is all fits = formed power_width negative c cs power (record {
-  digits = subst AreDigits (sym is) (digits-trailing (strip_leading ds) (digits-leading ds all));
+  digits = subst AreDigits (sym is) (digits_trailing (strip_leading ds) (digits_leading ds all));
   first = subst (λ t. get_or t 0 0 ≢ 48) (sym is) (first_trailing (strip_leading ds) (first_leading ds));
   last = subst (λ t. get_or t (length t - 1) 0 ≢ 48) (sym is) (last_trailing (strip_leading ds));
-  fits = power-fits power fits;
+  fits = fitting_power power fits;
 })
 
-pub zero-value : (n : Numeral) → significant (n.whole ++ n.fraction) ≡ [] → value n ≡ zero_decimal
+pub zero_value : (n : Numeral) → significant (n.whole ++ n.fraction) ≡ [] → value n ≡ zero_decimal
 unfolding value
-zero-value n h = ap (λ t. decimal_of n.negative t (power_of n)) h
+zero_value n h = ap (λ t. decimal_of n.negative t (power_of n)) h
 
-pub zero-in_range : (n : Numeral) → significant (n.whole ++ n.fraction) ≡ [] → IsTrue (in_range (value n))
-zero-in_range n h = subst (λ (d : Decimal). IsTrue (in_range d)) (sym (zero-value n h)) (power-fits (pos 0) (record { sfits = omega arith }))
+pub zero_in_range : (n : Numeral) → significant (n.whole ++ n.fraction) ≡ [] → IsTrue (in_range (value n))
+zero_in_range n h = subst (λ (d : Decimal). IsTrue (in_range d)) (sym (zero_value n h)) (fitting_power (pos 0) (record { sfits = omega arith }))
 
 -- from the digits that are left of the numeral
 module _ (n : Numeral) (s : List ℕ) (zeros : ℕ) (is : s ≡ significant (n.whole ++ n.fraction)) (some : 0 < length s) (zeros_are : zeros ≡ trailing_zeros (n.whole ++ n.fraction)) where
@@ -96,13 +96,13 @@ module _ (n : Numeral) (s : List ℕ) (zeros : ℕ) (is : s ≡ significant (n.w
 
   value_is : record { negative = n.negative; digits = s; power = power_of n } ≡ value n
   unfolding value
-  value_is = sym (decimal-of_some n.negative s (power_of n) some) ∙ ap (λ t. decimal_of n.negative t (power_of n)) is
+  value_is = sym (decimal_of_some n.negative s (power_of n) some) ∙ ap (λ t. decimal_of n.negative t (power_of n)) is
 
   pub value_exact : (p : ℤ) → p ≡ shifted_by (exponent_value n.exponent) → record { negative = n.negative; digits = s; power = p } ≡ value n
   value_exact p p_is = ap (λ q. record { negative = n.negative; digits = s; power = q }) (p_is ∙ sym power_is) ∙ value_is
 
   pub value_fits : (p : ℤ) → p ≡ shifted_by (exponent_value n.exponent) → FitsSigned w64 p → IsTrue (in_range (value n))
-  value_fits p p_is fits = subst (λ q. IsTrue (power_fits power_width q)) (ap (λ (d : Decimal). d.power) (value_exact p p_is)) (power-fits p fits)
+  value_fits p p_is fits = subst (λ q. IsTrue (power_fits power_width q)) (ap (λ (d : Decimal). d.power) (value_exact p p_is)) (fitting_power p fits)
 
   -- by the exponent that is cut to the cap
   module _ (short : length n.fraction < 2 ^ 64) (few : zeros < 2 ^ 64) where
@@ -120,19 +120,19 @@ module _ (n : Numeral) (s : List ℕ) (zeros : ℕ) (is : s ≡ significant (n.w
 
     pub value_out : ¬ FitsSigned w64 (shifted_by (capped n.exponent)) → in_range (value n) ≡ false
     value_out out = refuted (in_range (value n)) (λ fits.
-        let real : FitsSigned w64 (shifted_by (exponent_value n.exponent)) = subst (FitsSigned w64) (sym (ap (λ (d : Decimal). d.power) value_is) ∙ power_is) (power-within (value n).power fits) in
+        let real : FitsSigned w64 (shifted_by (exponent_value n.exponent)) = subst (FitsSigned w64) (sym (ap (λ (d : Decimal). d.power) value_is) ∙ power_is) (power_within (value n).power fits) in
         out (subst (λ e. FitsSigned w64 (shifted_by e)) (sym (harmless (inr real))) real))
 
 -- the power of few digits without an exponent, as the code computes it
 pub power_few : (zeros fraction : ℕ) → zeros ≤ 24 → fraction ≤ 24 → to_z w64 (of_z w64 (to_z w64 zeros -ℤ to_z w64 fraction)) ≡ shifted (pos 0) fraction zeros
 power_few zeros fraction h k = omega (arith, ints, h, k)
 
-few-fits : (z : ℤ) (zeros fraction : ℕ) → z ≡ (pos 0 -ℤ pos fraction) +ℤ pos zeros → zeros ≤ 24 → fraction ≤ 24 → FitsSigned w64 z
-few-fits (pos n) zeros fraction e h k = record { sfits = omega (arith, ints, e, h, k) }
-few-fits (negsuc n) zeros fraction e h k = record { sfits = omega (arith, ints, e, h, k) }
+few_fits : (z : ℤ) (zeros fraction : ℕ) → z ≡ (pos 0 -ℤ pos fraction) +ℤ pos zeros → zeros ≤ 24 → fraction ≤ 24 → FitsSigned w64 z
+few_fits (pos n) zeros fraction e h k = record { sfits = omega (arith, ints, e, h, k) }
+few_fits (negsuc n) zeros fraction e h k = record { sfits = omega (arith, ints, e, h, k) }
 
-pub power_few-fits : (zeros fraction : ℕ) → zeros ≤ 24 → fraction ≤ 24 → FitsSigned w64 (shifted (pos 0) fraction zeros)
-power_few-fits zeros fraction h k = few-fits (shifted (pos 0) fraction zeros) zeros fraction refl h k
+pub power_few_fits : (zeros fraction : ℕ) → zeros ≤ 24 → fraction ≤ 24 → FitsSigned w64 (shifted (pos 0) fraction zeros)
+power_few_fits zeros fraction h k = few_fits (shifted (pos 0) fraction zeros) zeros fraction refl h k
 
 -- ---- from what was read to the numeral
 

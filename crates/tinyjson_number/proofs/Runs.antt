@@ -16,13 +16,13 @@ use Rattle.tinyjson_number.specs.Numeral.{AreDigits}
 use Rattle.tinyjson_number.specs.private.Scan.{digits_front}
 
 -- the same by std's word
-pub digits-list_all : (xs : List ℕ) → list_all is_ascii_digit xs ≡ true → AreDigits xs
-digits-list_all [] h = tt
-digits-list_all (d ∷ xs) h = let p = and_parts (is_ascii_digit d) (list_all is_ascii_digit xs) h in (p.0, digits-list_all xs p.1)
+pub digits_list_all : (xs : List ℕ) → list_all is_ascii_digit xs ≡ true → AreDigits xs
+digits_list_all [] h = tt
+digits_list_all (d ∷ xs) h = let p = and_parts (is_ascii_digit d) (list_all is_ascii_digit xs) h in (p.0, digits_list_all xs p.1)
 
-pub list_all-digits : (xs : List ℕ) → AreDigits xs → list_all is_ascii_digit xs ≡ true
-list_all-digits [] h = refl
-list_all-digits (d ∷ xs) h = and_from (is_ascii_digit d) (list_all is_ascii_digit xs) h.0 (list_all-digits xs h.1)
+pub list_all_digits : (xs : List ℕ) → AreDigits xs → list_all is_ascii_digit xs ≡ true
+list_all_digits [] h = refl
+list_all_digits (d ∷ xs) h = and_from (is_ascii_digit d) (list_all is_ascii_digit xs) h.0 (list_all_digits xs h.1)
 
 pub digit_at : (xs : List ℕ) (i : ℕ) → AreDigits xs → i < length xs → IsTrue (is_ascii_digit (get_or xs i 0))
 digit_at [] i h lt = absurd (omega arith)
@@ -36,29 +36,29 @@ ascii_from_digit : (c : ℕ) → IsTrue (is_ascii_digit c) → c < 128
 ascii_from_digit c h = grind (arith, nat_tests)
 
 -- the two parts of digits
-pub digits-front : (xs ys : List ℕ) → AreDigits (xs ++ ys) → AreDigits xs
-digits-front [] ys h = tt
-digits-front (d ∷ xs) ys h = (h.0, digits-front xs ys h.1)
+pub digits_of_front : (xs ys : List ℕ) → AreDigits (xs ++ ys) → AreDigits xs
+digits_of_front [] ys h = tt
+digits_of_front (d ∷ xs) ys h = (h.0, digits_of_front xs ys h.1)
 
-pub digits-back : (xs ys : List ℕ) → AreDigits (xs ++ ys) → AreDigits ys
-digits-back [] ys h = h
-digits-back (d ∷ xs) ys h = digits-back xs ys h.1
+pub digits_back : (xs ys : List ℕ) → AreDigits (xs ++ ys) → AreDigits ys
+digits_back [] ys h = h
+digits_back (d ∷ xs) ys h = digits_back xs ys h.1
 
 -- a text whose digits in front are all of it is all digits
 pub all_from_prefix : (xs : List ℕ) → length xs ≤ prefix_len is_ascii_digit xs → AreDigits xs
-all_from_prefix xs h = digits-list_all xs (list_all-from_AllPass is_ascii_digit xs (All-from_get_or (λ x. IsTrue (is_ascii_digit x)) xs 0 (λ i lt. prefix_len_passes is_ascii_digit xs i 0 (omega (arith, lt, h)))))
+all_from_prefix xs h = digits_list_all xs (list_all-from_AllPass is_ascii_digit xs (All-from_get_or (λ x. IsTrue (is_ascii_digit x)) xs 0 (λ i lt. prefix_len_passes is_ascii_digit xs i 0 (omega (arith, lt, h)))))
 
 -- the digits in front are digits
 pub front_digits : (xs : List ℕ) → AreDigits (digits_front xs)
 front_digits xs =
-    digits-list_all _ (list_all-from_AllPass is_ascii_digit _ (All-from_get_or (λ x. IsTrue (is_ascii_digit x)) (digits_front xs) 0 (λ i lt.
+    digits_list_all _ (list_all-from_AllPass is_ascii_digit _ (All-from_get_or (λ x. IsTrue (is_ascii_digit x)) (digits_front xs) 0 (λ i lt.
     let within : i < prefix_len is_ascii_digit xs = omega (arith, lt, length-prefix_len is_ascii_digit xs) in
     rw (get_or-take (prefix_len is_ascii_digit xs) xs i 0 within) (prefix_len_passes is_ascii_digit xs i 0 within))))
 
 -- digits are ASCII
-pub digits-ascii : (xs : List ℕ) → AreDigits xs → IsAscii xs
-digits-ascii [] h = IsAscii-nil
-digits-ascii (d ∷ xs) h = IsAscii-cons d xs (ascii_from_digit d h.0) (digits-ascii xs h.1)
+pub digits_ascii : (xs : List ℕ) → AreDigits xs → IsAscii xs
+digits_ascii [] h = IsAscii-nil
+digits_ascii (d ∷ xs) h = IsAscii-cons d xs (ascii_from_digit d h.0) (digits_ascii xs h.1)
 
 -- a result that is no error
 pub ok_of : {A E : Type 0} (r : Result A E) (P : A → Type 0) (Q : E → Type 0) → MatchResult r P Q → ((e : E) → ¬ Q e) → IsOk r

@@ -13,30 +13,30 @@ leading_cases : (b : Bool) (d : ℕ) (w f : List ℕ) → (strip_leading w ≡ [
 leading_cases true d w f more h = more h
 leading_cases false d w f more h = absurd (cc)
 
-strip_leading-append_none : (w f : List ℕ) → strip_leading w ≡ [] → strip_leading (w ++ f) ≡ strip_leading f
-strip_leading-append_none [] f h = refl
-strip_leading-append_none (d ∷ w) f h = leading_cases (eqb d 48) d w f (strip_leading-append_none w f) h
+strip_leading_append_none : (w f : List ℕ) → strip_leading w ≡ [] → strip_leading (w ++ f) ≡ strip_leading f
+strip_leading_append_none [] f h = refl
+strip_leading_append_none (d ∷ w) f h = leading_cases (eqb d 48) d w f (strip_leading_append_none w f) h
 
 leading_some_cases : (b : Bool) (d : ℕ) (w f : List ℕ) → (0 < length (strip_leading w) → strip_leading (w ++ f) ≡ strip_leading w ++ f) → 0 < length (cond b (strip_leading w) (d ∷ w)) → cond b (strip_leading (w ++ f)) (d ∷ (w ++ f)) ≡ cond b (strip_leading w) (d ∷ w) ++ f
 leading_some_cases true d w f more h = more h
 leading_some_cases false d w f more h = refl
 
-strip_leading-append_some : (w f : List ℕ) → 0 < length (strip_leading w) → strip_leading (w ++ f) ≡ strip_leading w ++ f
-strip_leading-append_some [] f h = absurd (omega arith)
-strip_leading-append_some (d ∷ w) f h = leading_some_cases (eqb d 48) d w f (strip_leading-append_some w f) h
+strip_leading_append_some : (w f : List ℕ) → 0 < length (strip_leading w) → strip_leading (w ++ f) ≡ strip_leading w ++ f
+strip_leading_append_some [] f h = absurd (omega arith)
+strip_leading_append_some (d ∷ w) f h = leading_some_cases (eqb d 48) d w f (strip_leading_append_some w f) h
 
-pub strip_trailing-append_none : (w f : List ℕ) → strip_trailing f ≡ [] → strip_trailing (w ++ f) ≡ strip_trailing w
-strip_trailing-append_none [] f h = h
-strip_trailing-append_none (d ∷ w) f h = ap (before_stripped d) (strip_trailing-append_none w f h)
+pub strip_trailing_append_none : (w f : List ℕ) → strip_trailing f ≡ [] → strip_trailing (w ++ f) ≡ strip_trailing w
+strip_trailing_append_none [] f h = h
+strip_trailing_append_none (d ∷ w) f h = ap (before_stripped d) (strip_trailing_append_none w f h)
 
 before_some : (d : ℕ) (xs : List ℕ) → 0 < length xs → before_stripped d xs ≡ d ∷ xs
 before_some d [] h = absurd (omega arith)
 before_some d (x ∷ xs) h = refl
 
-pub strip_trailing-append_some : (w f : List ℕ) → 0 < length (strip_trailing f) → strip_trailing (w ++ f) ≡ w ++ strip_trailing f
-strip_trailing-append_some [] f h = refl
-strip_trailing-append_some (d ∷ w) f h =
-    ap (before_stripped d) (strip_trailing-append_some w f h) ∙ before_some d (w ++ strip_trailing f) (omega (arith, h, length-append w (strip_trailing f)))
+pub strip_trailing_append_some : (w f : List ℕ) → 0 < length (strip_trailing f) → strip_trailing (w ++ f) ≡ w ++ strip_trailing f
+strip_trailing_append_some [] f h = refl
+strip_trailing_append_some (d ∷ w) f h =
+    ap (before_stripped d) (strip_trailing_append_some w f h) ∙ before_some d (w ++ strip_trailing f) (omega (arith, h, length-append w (strip_trailing f)))
 
 first_cases : (b : Bool) (d : ℕ) (xs : List ℕ) → eqb d 48 ≡ b → get_or (strip_leading xs) 0 0 ≢ 48 → get_or (cond b (strip_leading xs) (d ∷ xs)) 0 0 ≢ 48
 first_cases true d xs e more = more
@@ -134,12 +134,12 @@ last_kept true d h = absurd (false≢true (sym h))
 last_kept false d h = refl
 
 pub strip_trailing_push_zero : (xs : List ℕ) (d : ℕ) → d ≡ 48 → strip_trailing (xs ++ d ∷ []) ≡ strip_trailing xs
-strip_trailing_push_zero xs d h = strip_trailing-append_none xs (d ∷ []) (last_zero (eqb d 48) d (grind (arith, nat_tests)))
+strip_trailing_push_zero xs d h = strip_trailing_append_none xs (d ∷ []) (last_zero (eqb d 48) d (grind (arith, nat_tests)))
 
 pub strip_trailing_push_other : (xs : List ℕ) (d : ℕ) → d ≢ 48 → strip_trailing (xs ++ d ∷ []) ≡ xs ++ d ∷ []
 strip_trailing_push_other xs d h =
     let kept = last_kept (eqb d 48) d (grind (arith, nat_tests)) in
-    strip_trailing-append_some xs (d ∷ []) (omega (arith, ap length kept)) ∙ ap (λ t. xs ++ t) kept
+    strip_trailing_append_some xs (d ∷ []) (omega (arith, ap length kept)) ∙ ap (λ t. xs ++ t) kept
 
 some_cases : (d : ℕ) (xs : List ℕ) → d ≢ 48 → 0 < length (before_stripped d xs)
 some_cases d [] h = omega (arith, ap length (last_kept (eqb d 48) d (grind (arith, nat_tests))))
@@ -152,17 +152,17 @@ strip_trailing_some (d ∷ xs) some h = some_cases d (strip_trailing xs) h
 
 -- ---- what is stripped of digits are digits
 
-pub digits-leading : (xs : List ℕ) → AreDigits xs → AreDigits (strip_leading xs)
-digits-leading [] h = tt
-digits-leading (d ∷ xs) h = cond_both (eqb d 48) _ _ AreDigits (λ _. digits-leading xs h.1) (λ _. h)
+pub digits_leading : (xs : List ℕ) → AreDigits xs → AreDigits (strip_leading xs)
+digits_leading [] h = tt
+digits_leading (d ∷ xs) h = cond_both (eqb d 48) _ _ AreDigits (λ _. digits_leading xs h.1) (λ _. h)
 
-digits-before : (d : ℕ) (xs : List ℕ) → IsTrue (is_ascii_digit d) → AreDigits xs → AreDigits (before_stripped d xs)
-digits-before d [] h k = cond_both (eqb d 48) _ _ AreDigits (λ _. tt) (λ _. (h, tt))
-digits-before d (e ∷ es) h k = (h, k)
+digits_before : (d : ℕ) (xs : List ℕ) → IsTrue (is_ascii_digit d) → AreDigits xs → AreDigits (before_stripped d xs)
+digits_before d [] h k = cond_both (eqb d 48) _ _ AreDigits (λ _. tt) (λ _. (h, tt))
+digits_before d (e ∷ es) h k = (h, k)
 
-pub digits-trailing : (xs : List ℕ) → AreDigits xs → AreDigits (strip_trailing xs)
-digits-trailing [] h = tt
-digits-trailing (d ∷ xs) h = digits-before d (strip_trailing xs) h.0 (digits-trailing xs h.1)
+pub digits_trailing : (xs : List ℕ) → AreDigits xs → AreDigits (strip_trailing xs)
+digits_trailing [] h = tt
+digits_trailing (d ∷ xs) h = digits_before d (strip_trailing xs) h.0 (digits_trailing xs h.1)
 
 -- ---- how many zeros the digits end with
 
@@ -205,17 +205,17 @@ trailing_zeros_is xs h = omega (arith, zeros_same xs h, length_leading xs, lengt
 module _ (w f : List ℕ) where
   pub strip_fraction_alone : strip_leading w ≡ [] → (strip_trailing (strip_leading f) ≡ significant (w ++ f)) × (0 < length (significant (w ++ f)) → length (strip_leading f) - length (strip_trailing (strip_leading f)) ≡ trailing_zeros (w ++ f))
   strip_fraction_alone h =
-      let e = strip_leading-append_none w f h in
+      let e = strip_leading_append_none w f h in
       (ap strip_trailing (sym e), λ some. ap (λ t. length t - length (strip_trailing t)) (sym e) ∙ trailing_zeros_is (w ++ f) some)
 
   pub strip_whole_alone : 0 < length (strip_leading w) → strip_trailing f ≡ [] → (strip_trailing (strip_leading w) ++ [] ≡ significant (w ++ f)) × (0 < length (significant (w ++ f)) → (length (strip_leading w) - length (strip_trailing (strip_leading w))) + length f ≡ trailing_zeros (w ++ f))
   strip_whole_alone some none =
-      let e = strip_leading-append_some w f some in
-      let s : significant (w ++ f) ≡ strip_trailing (strip_leading w) = ap strip_trailing e ∙ strip_trailing-append_none (strip_leading w) f none in
+      let e = strip_leading_append_some w f some in
+      let s : significant (w ++ f) ≡ strip_trailing (strip_leading w) = ap strip_trailing e ∙ strip_trailing_append_none (strip_leading w) f none in
       (append-nil _ ∙ sym s, λ h. omega (arith, ap length s, ap length e, length-append (strip_leading w) f, trailing_zeros_is (w ++ f) h, length_trailing (strip_leading w)))
 
   pub strip_both : 0 < length (strip_leading w) → 0 < length (strip_trailing f) → (strip_leading w ++ strip_trailing f ≡ significant (w ++ f)) × (0 < length (significant (w ++ f)) → length f - length (strip_trailing f) ≡ trailing_zeros (w ++ f))
   strip_both some kept =
-      let e = strip_leading-append_some w f some in
-      let s : significant (w ++ f) ≡ strip_leading w ++ strip_trailing f = ap strip_trailing e ∙ strip_trailing-append_some (strip_leading w) f kept in
+      let e = strip_leading_append_some w f some in
+      let s : significant (w ++ f) ≡ strip_leading w ++ strip_trailing f = ap strip_trailing e ∙ strip_trailing_append_some (strip_leading w) f kept in
       (sym s, λ h. omega (arith, ap length s, ap length e, length-append (strip_leading w) f, length-append (strip_leading w) (strip_trailing f), trailing_zeros_is (w ++ f) h))

@@ -50,8 +50,8 @@ canonical_code = record { code = λ a. parts_code.code (decimal_parts a.decimal)
 abbrev pub decimal_eq : Decimal → Decimal → Bool
 decimal_eq a b = beq a.negative b.negative && (bytes_eq a.digits b.digits && int_eq a.power b.power)
 
-pub decimal_eq-Decides : (a b : Decimal) → Decides (decimal_eq a b) (a ≡ b)
-decimal_eq-Decides a b =
+pub decimal_eq_Decides : (a b : Decimal) → Decides (decimal_eq a b) (a ≡ b)
+decimal_eq_Decides a b =
     let digits_power = Decides-and _ _ (bytes_eq-Decides a.digits b.digits) (Decides-int_eq a.power b.power) in
     let parts = Decides-and _ _ (booleans_Decides a.negative b.negative) digits_power in
     Decides-like _ (λ p. (λ i. record { negative = p.0 i; digits = p.1.0 i; power = p.1.1 i }))
@@ -61,5 +61,5 @@ decimal_eq-Decides a b =
 abbrev pub number_eq : Canonical → Canonical → Bool
 number_eq a b = decimal_eq a.decimal b.decimal
 
-pub number_eq-equiv : IsEquivalence number_eq
-number_eq-equiv = on_equiv (λ (a : Canonical). a.decimal) (decided decimal_eq decimal_eq-Decides)
+pub number_eq_equiv : IsEquivalence number_eq
+number_eq_equiv = on_equiv (λ (a : Canonical). a.decimal) (decided decimal_eq decimal_eq_Decides)

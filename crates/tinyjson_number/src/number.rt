@@ -161,12 +161,12 @@ impl JsonNumber {
 }
 
 impl PartialEq for JsonNumber {
-    ghost use Rattle.tinyjson_number.specs.Number.{number_eq, number_eq-equiv};
+    ghost use Rattle.tinyjson_number.specs.Number.{number_eq, number_eq_equiv};
     ghost use Rattle.std.specs.Cmp.{partial_equiv_from_equiv};
 
     ghost eq = { number_eq };
 
-    ghost laws = { partial_equiv_from_equiv number_eq-equiv };
+    ghost laws = { partial_equiv_from_equiv number_eq_equiv };
 
     fn eq(&self, other: &JsonNumber) -> bool {
         self.is_negative() == other.is_negative()
@@ -176,7 +176,7 @@ impl PartialEq for JsonNumber {
 }
 
 impl Eq for JsonNumber {
-    ghost use Rattle.tinyjson_number.specs.Number.{number_eq-equiv};
+    ghost use Rattle.tinyjson_number.specs.Number.{number_eq_equiv};
 
-    ghost laws = { number_eq-equiv };
+    ghost laws = { number_eq_equiv };
 }

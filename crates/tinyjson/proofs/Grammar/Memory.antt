@@ -47,9 +47,9 @@ interrupted ranges limit used h s e =
     let i : Spells limit used s.frames s.phase = reach_spells ranges limit used h [] [] awaited (start_spells limit) s e in
     record { last = []; short = omega arith; place = spells_prompt ranges limit used s.frames s.phase i; viable = spells_viable limit used s.frames s.phase i }
 
-pub interrupted-late : Ranges → (limit : Option ℕ) (used : List ℕ) → All IsScalar used → (s : State) → reach (strictly limit) [] awaited used ≡ Some s
+pub interrupted_late : Ranges → (limit : Option ℕ) (used : List ℕ) → All IsScalar used → (s : State) → reach (strictly limit) [] awaited used ≡ Some s
     → (c : ℕ) → IsScalar c → step (strictly limit) s.frames s.phase c ≡ stop InvalidUtf16 true → IsInterrupted limit (used ++ c ∷ [])
-interrupted-late ranges limit used h s e c hc k =
+interrupted_late ranges limit used h s e c hc k =
     let i : Spells limit used s.frames s.phase = reach_spells ranges limit used h [] [] awaited (start_spells limit) s e in
     let r : Reached limit used s.frames s.phase = reach_reached limit used [] [] awaited (λ b ys. refl) s e in
     let f : Follows limit used s.frames s.phase c (stop InvalidUtf16 true) = subst (Follows limit used s.frames s.phase c) k (step_spells ranges limit used s.frames s.phase i c hc) in

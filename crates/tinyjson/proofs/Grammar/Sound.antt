@@ -189,8 +189,8 @@ start_spells limit = record { read = at_awaited (outside []); is = tt; whole = r
 pub run_sound : Ranges → (limit : Option ℕ) (xs : List ℕ) → All IsScalar xs → Results limit [] xs (run (strictly limit) [] awaited xs)
 run_sound ranges limit xs h = run_results ranges limit xs h [] [] awaited (start_spells limit) (λ b ys. refl)
 
-pub accepted-text : Ranges → (limit : Option ℕ) (xs : List ℕ) → All IsScalar xs → (t : Tree) → run (strictly limit) [] awaited xs ≡ accepted t → IsText limit xs t
-accepted-text ranges limit xs h t e = subst (Results limit [] xs) e (run_sound ranges limit xs h)
+pub accepted_text : Ranges → (limit : Option ℕ) (xs : List ℕ) → All IsScalar xs → (t : Tree) → run (strictly limit) [] awaited xs ≡ accepted t → IsText limit xs t
+accepted_text ranges limit xs h t e = subst (Results limit [] xs) e (run_sound ranges limit xs h)
 
 pub refused_so : Ranges → (limit : Option ℕ) (xs : List ℕ) → All IsScalar xs → (k : JsonParseErrorKind) (rest : List ℕ) → run (strictly limit) [] awaited xs ≡ refused k rest → (used : List ℕ) × (xs ≡ used ++ rest) × IsRefusal limit k used rest
 refused_so ranges limit xs h k rest e = subst (Results limit [] xs) e (run_sound ranges limit xs h)

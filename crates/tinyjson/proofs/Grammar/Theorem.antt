@@ -10,11 +10,11 @@ use Rattle.tinyjson.specs.private.Machine.{awaited, accepted, refused, run}
 use Rattle.tinyjson.specs.Refusal.{IsRefusal}
 use Rattle.tinyjson.specs.declared.parser.error.JsonParseErrorKind.{JsonParseErrorKind}
 use Rattle.tinyjson.proofs.Grammar.Prefix.InRange.{ranges}
-use Rattle.tinyjson.proofs.Grammar.Sound.{accepted-text, refused_so}
+use Rattle.tinyjson.proofs.Grammar.Sound.{accepted_text, refused_so}
 use Rattle.tinyjson.proofs.Grammar.Accepts.Text.{text_accepted}
 
 pub accepts : (limit : Option ℕ) (xs : List ℕ) → All IsScalar xs → (t : Tree) → (run (strictly limit) [] awaited xs ≡ accepted t) ↔ IsText limit xs t
-accepts limit xs h t = (accepted-text ranges limit xs h t, text_accepted limit xs t)
+accepts limit xs h t = (accepted_text ranges limit xs h t, text_accepted limit xs t)
 
 pub refuses : (limit : Option ℕ) (used rest : List ℕ) → All IsScalar (used ++ rest) → (k : JsonParseErrorKind) → run (strictly limit) [] awaited (used ++ rest) ≡ refused k rest → IsRefusal limit k used rest
 refuses limit used rest h k e =

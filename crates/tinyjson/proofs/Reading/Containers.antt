@@ -15,31 +15,31 @@ use Rattle.tinyjson.specs.Tree.{is_string}
 use Rattle.tinyjson.specs.declared.parser.error.JsonParseErrorKind.TheVariants.{TooDeep, KeyNotString, ExpectedCommaOrBracket, ExpectedCommaOrBrace, ExpectedColon}
 use Rattle.tinyjson.specs.private.Source.{Sight, Takes}
 use Rattle.tinyjson.specs.private.Steps.{BeginsLiteral, wanting, onward, Leads}
-use Rattle.tinyjson.proofs.Reading.Steps.{Leads-nil, Leads-one, Leads-shown, Leads-end, end_first, end_awaited}
-use Rattle.tinyjson.proofs.Values.Equality.{view-Array, view-Object}
+use Rattle.tinyjson.proofs.Reading.Steps.{Leads_nil, Leads_one, Leads_shown, Leads_end, end_first, end_awaited}
+use Rattle.tinyjson.proofs.Values.Equality.{view_Array, view_Object}
 
-pub view-Null : view is.Null ≡ null
-view-Null = search (rules, the_lemmas)
+pub view_Null : view is.Null ≡ null
+view_Null = search (rules, the_lemmas)
 
-pub view-Boolean : (b : Bool) → view (is.Boolean b) ≡ boolean b
-view-Boolean b = search (rules, the_lemmas)
+pub view_Boolean : (b : Bool) → view (is.Boolean b) ≡ boolean b
+view_Boolean b = search (rules, the_lemmas)
 
-pub view-Number : (n : Canonical) → view (is.Number n) ≡ number n.decimal
-view-Number n = search (rules, the_lemmas)
+pub view_Number : (n : Canonical) → view (is.Number n) ≡ number n.decimal
+view_Number n = search (rules, the_lemmas)
 
 -- ---- the first character of a value
 
 pub null_begins : (limit : Option ℕ) (fs : List Frame) (c : ℕ) → c ≡ 110 → onward limit (next fs awaited) c ≡ wanting fs (117 ∷ 108 ∷ 108 ∷ []) (view is.Null)
 unfolding step
-null_begins limit fs c e = rw (view-Null, e) refl
+null_begins limit fs c e = rw (view_Null, e) refl
 
 pub true_begins : (limit : Option ℕ) (fs : List Frame) (c : ℕ) → c ≡ 116 → onward limit (next fs awaited) c ≡ wanting fs (114 ∷ 117 ∷ 101 ∷ []) (view (is.Boolean true))
 unfolding step
-true_begins limit fs c e = rw (view-Boolean true, e) refl
+true_begins limit fs c e = rw (view_Boolean true, e) refl
 
 pub false_begins : (limit : Option ℕ) (fs : List Frame) (c : ℕ) → c ≡ 102 → onward limit (next fs awaited) c ≡ wanting fs (97 ∷ 108 ∷ 115 ∷ 101 ∷ []) (view (is.Boolean false))
 unfolding step
-false_begins limit fs c e = rw (view-Boolean false, e) refl
+false_begins limit fs c e = rw (view_Boolean false, e) refl
 
 -- the letter that is left
 pub literal_false : (c : ℕ) → BeginsLiteral c → (c ≡ 110 → ⊥) → (c ≡ 116 → ⊥) → c ≡ 102
@@ -74,7 +74,7 @@ brace_too_deep limit fs h = rw h refl
 -- the bracket that closes an array; what follows one that was opened
 pub array_closes_first : (limit : Option ℕ) (fs : List Frame) (v : Vec JsonValue Global) (c : ℕ) → v.items ≡ [] → c ≡ 93 → onward limit (next (in_array [] ∷ fs) first) c ≡ complete true fs (view (is.Array v)) true
 unfolding step
-array_closes_first limit fs v c h e = rw (view-Array v, h, e) refl
+array_closes_first limit fs v c h e = rw (view_Array v, h, e) refl
 
 pub array_opens : (limit : Option ℕ) (fs : List Frame) (vs : List JsonValue) (c : ℕ) → vs ≡ [] → is_white c ≡ false → (c ≡ 93 → ⊥) → onward limit (next (in_array [] ∷ fs) first) c ≡ onward limit (next (in_array (map view vs) ∷ fs) awaited) c
 unfolding step
@@ -95,14 +95,14 @@ array_other limit fs ts c w n m = rw (w, ne_eqb c 44 n, ne_eqb c 93 m) refl
 -- no bracket closes the array that was just opened
 pub array_goes_on : {S : Type 0} (sight : Sight S) (limit : Option ℕ) (p q : S) {n : Next} (fs : List Frame) (vs : List JsonValue) (o : Option ℕ) → vs ≡ []
     → Leads sight limit p n q (next (in_array [] ∷ fs) first) → sight.shows q o → IfSome o (λ c. is_white c ≡ false) → IfSome o (λ c. c ≡ 93 → ⊥) → Leads sight limit p n q (next (in_array (map view vs) ∷ fs) awaited)
-array_goes_on sight limit p q fs vs None h l s w k = Leads-end sight limit p q l s (end_first limit _ ∙ sym (end_awaited limit _)) tt
-array_goes_on sight limit p q fs vs (Some c) h l s w k = Leads-shown sight limit p q c l s (array_opens limit fs vs c h w k) tt
+array_goes_on sight limit p q fs vs None h l s w k = Leads_end sight limit p q l s (end_first limit _ ∙ sym (end_awaited limit _)) tt
+array_goes_on sight limit p q fs vs (Some c) h l s w k = Leads_shown sight limit p q c l s (array_opens limit fs vs c h w k) tt
 
 -- ---- objects
 
 pub object_closes_first : (limit : Option ℕ) (fs : List Frame) (m : JsonMap) (c : ℕ) → m.entries ≡ [] → c ≡ 125 → onward limit (next (at_key no_members ∷ fs) first) c ≡ complete true fs (view (is.Object m)) true
 unfolding step
-object_closes_first limit fs m c h e = rw (view-Object m, h, e) refl
+object_closes_first limit fs m c h e = rw (view_Object m, h, e) refl
 
 pub object_opens : (limit : Option ℕ) (fs : List Frame) (ms : Members) (c : ℕ) → ms ≡ no_members → is_white c ≡ false → (c ≡ 125 → ⊥) → onward limit (next (at_key no_members ∷ fs) first) c ≡ onward limit (next (at_key ms ∷ fs) awaited) c
 unfolding step
@@ -131,8 +131,8 @@ colon_other limit fs ms k c w n = rw (w, ne_eqb c 58 n) refl
 -- no brace closes the object that was just opened
 pub object_goes_on : {S : Type 0} (sight : Sight S) (limit : Option ℕ) (p q : S) {n : Next} (fs : List Frame) (ms : Members) (o : Option ℕ) → ms ≡ no_members
     → Leads sight limit p n q (next (at_key no_members ∷ fs) first) → sight.shows q o → IfSome o (λ c. is_white c ≡ false) → IfSome o (λ c. c ≡ 125 → ⊥) → Leads sight limit p n q (next (at_key ms ∷ fs) awaited)
-object_goes_on sight limit p q fs ms None h l s w k = Leads-end sight limit p q l s (end_first limit _ ∙ sym (end_awaited limit _)) tt
-object_goes_on sight limit p q fs ms (Some c) h l s w k = Leads-shown sight limit p q c l s (object_opens limit fs ms c h w k) tt
+object_goes_on sight limit p q fs ms None h l s w k = Leads_end sight limit p q l s (end_first limit _ ∙ sym (end_awaited limit _)) tt
+object_goes_on sight limit p q fs ms (Some c) h l s w k = Leads_shown sight limit p q c l s (object_opens limit fs ms c h w k) tt
 
 -- what is no string is no key
 pub no_key : (fs : List Frame) (ms : Members) (t : Tree) → is_string t ≡ false → stop (KeyNotString (kind_of t)) true ≡ complete true (at_key ms ∷ fs) t true
@@ -143,24 +143,24 @@ unfolding roll-JsonValue denote.Hole.Carrier.roll
 no_string v h = ap (λ z. is_string (view z)) (sym (roll-out-JsonValue v)) ∙ go (out-JsonValue v) (λ x e. h x (sym (roll-out-JsonValue v) ∙ e))
   where
     go : (x : JsonValue-F JsonValue) → ((s : String Global) → roll-JsonValue x ≡ is.String s → ⊥) → is_string (view (roll-JsonValue x)) ≡ false
-    go (JsonValue-F.Number n) k = ap is_string (view-Number n)
-    go (JsonValue-F.Boolean b) k = ap is_string (view-Boolean b)
+    go (JsonValue-F.Number n) k = ap is_string (view_Number n)
+    go (JsonValue-F.Boolean b) k = ap is_string (view_Boolean b)
     go (JsonValue-F.String s) k = absurd (k s refl)
-    go JsonValue-F.Null k = ap is_string view-Null
-    go (JsonValue-F.Array v) k = ap is_string (view-Array v)
-    go (JsonValue-F.Object m) k = ap is_string (view-Object m)
+    go JsonValue-F.Null k = ap is_string view_Null
+    go (JsonValue-F.Array v) k = ap is_string (view_Array v)
+    go (JsonValue-F.Object m) k = ap is_string (view_Object m)
 
 -- ---- a container that begins
 
 module _ {S : Type 0} (sight : Sight S) (limit : Option ℕ) (p q : S) (fs : List Frame) (n : ℕ) (d : n ≡ length fs) where
   pub array_begins : fits limit n ≡ true → Takes sight p (91 ∷ []) q → Leads sight limit p (next fs awaited) q (next (in_array [] ∷ fs) first)
-  array_begins h t = Leads-one sight limit p p q 91 (Leads-nil sight limit p (next fs awaited)) t tt (bracket_opens limit fs (ap (fits limit) (sym d) ∙ h)) tt
+  array_begins h t = Leads_one sight limit p p q 91 (Leads_nil sight limit p (next fs awaited)) t tt (bracket_opens limit fs (ap (fits limit) (sym d) ∙ h)) tt
 
   pub object_begins : fits limit n ≡ true → Takes sight p (123 ∷ []) q → Leads sight limit p (next fs awaited) q (next (at_key no_members ∷ fs) first)
-  object_begins h t = Leads-one sight limit p p q 123 (Leads-nil sight limit p (next fs awaited)) t tt (brace_opens limit fs (ap (fits limit) (sym d) ∙ h)) tt
+  object_begins h t = Leads_one sight limit p p q 123 (Leads_nil sight limit p (next fs awaited)) t tt (brace_opens limit fs (ap (fits limit) (sym d) ∙ h)) tt
 
   pub array_too_deep : fits limit n ≡ false → sight.shows p (Some 91) → Leads sight limit p (next fs awaited) p (stop (TooDeep 91) true)
-  array_too_deep h s = Leads-shown sight limit p p 91 (Leads-nil sight limit p (next fs awaited)) s (bracket_too_deep limit fs (ap (fits limit) (sym d) ∙ h)) tt
+  array_too_deep h s = Leads_shown sight limit p p 91 (Leads_nil sight limit p (next fs awaited)) s (bracket_too_deep limit fs (ap (fits limit) (sym d) ∙ h)) tt
 
   pub object_too_deep : fits limit n ≡ false → sight.shows p (Some 123) → Leads sight limit p (next fs awaited) p (stop (TooDeep 123) true)
-  object_too_deep h s = Leads-shown sight limit p p 123 (Leads-nil sight limit p (next fs awaited)) s (brace_too_deep limit fs (ap (fits limit) (sym d) ∙ h)) tt
+  object_too_deep h s = Leads_shown sight limit p p 123 (Leads_nil sight limit p (next fs awaited)) s (brace_too_deep limit fs (ap (fits limit) (sym d) ∙ h)) tt

@@ -7,10 +7,10 @@ use Rattle.tinyjson.specs.private.Cursor.{Ready, Gives, Begins, Shows}
 use Rattle.tinyjson.specs.Parser.{Follows}
 
 -- what a call of the iterator leaves may be called, and ends
-pub Ready-filled : {S : Type 0} (can : S → Type 0) (remaining : S → Count) (p : Cursor S) (r : Option ℕ) (t : S) (d : Bool) → Ready can remaining p → p.done ≡ false → d ≡ not (is_some r)
+pub Ready_filled : {S : Type 0} (can : S → Type 0) (remaining : S → Count) (p : Cursor S) (r : Option ℕ) (t : S) (d : Bool) → Ready can remaining p → p.done ≡ false → d ≡ not (is_some r)
     → MakesProgress can remaining p.it r t → Ready can remaining (record { it = t; peeked = r; done = d; line = p.line; column = p.column })
-Ready-filled can remaining p None t d a f e m = λ h. absurd (true≢false (sym e ∙ h))
-Ready-filled can remaining p (Some x) t d a f e m = λ h. let k = m.on (a f).1 in (k.0, k.1)
+Ready_filled can remaining p None t d a f e m = λ h. absurd (true≢false (sym e ∙ h))
+Ready_filled can remaining p (Some x) t d a f e m = λ h. let k = m.on (a f).1 in (k.0, k.1)
 
 pub none_from : (o : Option ℕ) → is_some o ≡ false → o ≡ None
 none_from None h = refl
@@ -43,15 +43,15 @@ module _ {S : Type 0} (steps : S → Option ℕ → S → Type 0) where
 -- ---- what a cursor gives is what a parser over it has left
 
 module _ {S : Type 0} (steps : S → Option ℕ → S → Type 0) where
-  pub gives-follows : (p : Cursor S) (xs : List ℕ) → Gives steps p xs → (later : List ℕ) × (xs ≡ option_to_list p.peeked ++ later) × Follows steps (cond p.done None (Some p.it)) later
-  gives-follows p xs g = (g.later, g.is, by p.done g.source g.ended)
+  pub gives_follows : (p : Cursor S) (xs : List ℕ) → Gives steps p xs → (later : List ℕ) × (xs ≡ option_to_list p.peeked ++ later) × Follows steps (cond p.done None (Some p.it)) later
+  gives_follows p xs g = (g.later, g.is, by p.done g.source g.ended)
     where
       by : (d : Bool) → (d ≡ false → Begins steps p.it g.later) → (d ≡ true → g.later ≡ []) → Follows steps (cond d None (Some p.it)) g.later
       by true f e = e refl
       by false f e = f refl
 
-  pub follows-gives : (p : Cursor S) (xs later : List ℕ) → xs ≡ option_to_list p.peeked ++ later → Follows steps (cond p.done None (Some p.it)) later → Gives steps p xs
-  follows-gives p xs later e f = record { later = later; is = e; source = λ h. on p.done h f; ended = λ h. off p.done h f }
+  pub follows_gives : (p : Cursor S) (xs later : List ℕ) → xs ≡ option_to_list p.peeked ++ later → Follows steps (cond p.done None (Some p.it)) later → Gives steps p xs
+  follows_gives p xs later e f = record { later = later; is = e; source = λ h. on p.done h f; ended = λ h. off p.done h f }
     where
       on : (d : Bool) → d ≡ false → Follows steps (cond d None (Some p.it)) later → Begins steps p.it later
       on true h f = absurd (true≢false h)

@@ -9,19 +9,19 @@ use Rattle.tinyjson.specs.Syntax.{AreWhite}
 use Rattle.tinyjson.specs.declared.parser.error.JsonParseError.{JsonParseError}
 use Rattle.tinyjson.specs.declared.parser.error.JsonParseErrorKind.TheVariants.{OutOfMemory}
 
-white-list : (ws : List ℕ) → AllByRecursion (λ c. is_white c ≡ true) ws → AreWhite ws
-white-list [] h = tt
-white-list (w ∷ ws) h = (h.0, white-list ws h.1)
+white_list : (ws : List ℕ) → AllByRecursion (λ c. is_white c ≡ true) ws → AreWhite ws
+white_list [] h = tt
+white_list (w ∷ ws) h = (h.0, white_list ws h.1)
 
 module _ {S : Type 0} (sight : Sight S) where
   -- behind white space is a character that begins a string, a number or a container
-  pub grows-at : (p q : S) (c : ℕ) → Whites sight p q → sight.shows q (Some c) → IsTrue (begins_growth c) → Grows sight p
-  grows-at p q c w s h = λ zs g.
+  pub grows_at : (p q : S) (c : ℕ) → Whites sight p q → sight.shows q (Some c) → IsTrue (begins_growth c) → Grows sight p
+  grows_at p q c w s h = λ zs g.
       let x = w.takes.gives zs g in
       let f = sight.first q x.0 c s x.2 in
-      record { before = w.taken; first = c; more = f.0; whole = x.1 ∙ ap (λ ys. w.taken ++ ys) f.1; white = white-list w.taken w.white; grows = h }
+      record { before = w.taken; first = c; more = f.0; whole = x.1 ∙ ap (λ ys. w.taken ++ ys) f.1; white = white_list w.taken w.white; grows = h }
 
-  pub grows-text : {T : Type 0} (p q : S) (c : ℕ) (r : Result T JsonParseError) → Whites sight p q → sight.shows q (Some c)
+  pub grows_text : {T : Type 0} (p q : S) (c : ℕ) (r : Result T JsonParseError) → Whites sight p q → sight.shows q (Some c)
       → IfErr r (λ e. e.kind ≡ OutOfMemory → IsTrue (begins_growth c)) → IfErr r (λ e. e.kind ≡ OutOfMemory → Grows sight p)
-  grows-text p q c (Ok v) w s h = tt
-  grows-text p q c (Err e) w s h = λ m. grows-at p q c w s (h m)
+  grows_text p q c (Ok v) w s h = tt
+  grows_text p q c (Err e) w s h = λ m. grows_at p q c w s (h m)

@@ -15,8 +15,8 @@ use Rattle.tinyjson.specs.declared.parser.error.JsonParseError.{JsonParseError}
 use Rattle.tinyjson.specs.declared.parser.error.JsonParseErrorKind.{JsonParseErrorKind}
 use Rattle.tinyjson.specs.declared.parser.error.JsonParseErrorKind.TheVariants.{EmptyInteger, LeadingZero, EmptyFraction, EmptyExponent, NumberOutOfRange, OutOfMemory}
 use Rattle.tinyjson.specs.Error.{error_position}
-use Rattle.tinyjson.proofs.Reading.Steps.{Same-refl, Leads-trans, Leads-peek, Leads-shown, Leads-end, Halts-here, Refuses-as, Refuses-memory}
-use Rattle.tinyjson.proofs.Grammar.Accepts.Runs.{digit-not_white}
+use Rattle.tinyjson.proofs.Reading.Steps.{Same_refl, Leads_trans, Leads_peek, Leads_shown, Leads_end, Halts_here, Refuses_as, Refuses_memory}
+use Rattle.tinyjson.proofs.Grammar.Accepts.Runs.{digit_not_white}
 
 -- ---- characters
 
@@ -139,7 +139,7 @@ module _ (limit : Option ℕ) where
   digit_begins fs c d =
       let a = digit_low c d in
       let z = digit_high c d in
-      let w = digit-not_white c d in
+      let w = digit_not_white c d in
       let e110 : c ≡ 110 → ⊥ = λ e. omega arith in
       let e116 : c ≡ 116 → ⊥ = λ e. omega arith in
       let e102 : c ≡ 102 → ⊥ = λ e. omega arith in
@@ -248,7 +248,7 @@ module _ (limit : Option ℕ) where
   -- digits that are taken one by one, in a state K that gathers them
   module _ (K : List ℕ → Next) (h : (xs : List ℕ) → IsNext (K xs)) (k : (xs : List ℕ) (c : ℕ) → is_ascii_digit c ≡ true → onward limit (K xs) c ≡ K (xs ++ c ∷ [])) where
     digits_come : (xs ds rest : List ℕ) → AllByRecursion (λ c. is_ascii_digit c ≡ true) ds → Comes limit (K xs) ds (K (xs ++ ds)) rest
-    digits_come xs [] rest a = subst (λ ys. Comes limit (K xs) [] (K ys) rest) (sym (append-nil xs)) (Same-refl limit (K xs) rest, λ w. w)
+    digits_come xs [] rest a = subst (λ ys. Comes limit (K xs) [] (K ys) rest) (sym (append-nil xs)) (Same_refl limit (K xs) rest, λ w. w)
     digits_come xs (c ∷ cs) rest a =
         let e = k xs c a.0 in
         let held : (o : Next) → IsNext o → IsTaken o = elim [ next fs p ↦ λ w. tt | stop j b ↦ λ w. absurd w ] in
@@ -283,24 +283,24 @@ module _ {S : Type 0} (sight : Sight S) where
 
   module _ (limit : Option ℕ) where
     -- what comes next tells no difference
-    pub Leads-rest : (p q : S) {n m : Next} (u : Next) (o : Option ℕ) → Leads sight limit p n q m → sight.shows q o → IsNext m → Alike limit m u o → Leads sight limit p n q u
-    Leads-rest p q u None l s h a = Leads-end sight limit p q l s a h
-    Leads-rest p q u (Some c) l s h a = Leads-shown sight limit p q c l s a h
+    pub Leads_rest : (p q : S) {n m : Next} (u : Next) (o : Option ℕ) → Leads sight limit p n q m → sight.shows q o → IsNext m → Alike limit m u o → Leads sight limit p n q u
+    Leads_rest p q u None l s h a = Leads_end sight limit p q l s a h
+    Leads_rest p q u (Some c) l s h a = Leads_shown sight limit p q c l s a h
 
     -- digits are taken in a state K that gathers them, or refused
     module _ (K : List ℕ → Next) (h : (xs : List ℕ) → IsNext (K xs)) (k : (xs : List ℕ) (c : ℕ) → is_ascii_digit c ≡ true → onward limit (K xs) c ≡ K (xs ++ c ∷ [])) (p q r : S) {n : Next} (l : Leads sight limit p n q (K [])) where
-      pub Leads-digits : (ds : List ℕ) → AllByRecursion (λ c. is_ascii_digit c ≡ true) ds → Takes sight q ds r → Leads sight limit p n r (K ds)
-      Leads-digits ds a t =
+      pub Leads_digits : (ds : List ℕ) → AllByRecursion (λ c. is_ascii_digit c ≡ true) ds → Takes sight q ds r → Leads sight limit p n r (K ds)
+      Leads_digits ds a t =
           let m : Leads sight limit q (K []) r (K ds) = record {
             taken = ds;
             gives = λ zs g. let x = t.gives zs g in (x.0, x.1, x.2, digits_come limit K h k [] ds x.0 a);
             moves = t.moves;
           } in
-          Leads-trans sight limit p q r l m
+          Leads_trans sight limit p q r l m
 
-      pub Refuses-digits : (empty : JsonParseErrorKind) (old new : List ℕ) (e : JsonParseError) → IsNext n → Digits sight empty q old (Err e) new r
+      pub Refuses_digits : (empty : JsonParseErrorKind) (old new : List ℕ) (e : JsonParseError) → IsNext n → Digits sight empty q old (Err e) new r
           → ((o : Option ℕ) → sight.shows r o → IfSome o (λ c. is_ascii_digit c ≡ false) → Still sight q r → Alike limit (K []) (stop empty true) o) → Refuses sight limit p n e r
-      Refuses-digits empty old new e i g f = ⊎_elim
-          (λ w. Refuses-as sight limit p r e empty w.0 g.result.0 (Leads-rest p r (stop empty true) w.2.0 (Leads-peek sight limit p q r l (subst (λ ds. Takes sight q ds r) w.1 g.takes)) w.2.1 (h []) (f w.2.0 w.2.1 w.2.2 w.3)))
-          (λ w. Refuses-memory sight limit p r e w g.result.0 (Halts-here sight limit p r (Leads-digits g.ds g.digits g.takes) i (h g.ds)))
+      Refuses_digits empty old new e i g f = ⊎_elim
+          (λ w. Refuses_as sight limit p r e empty w.0 g.result.0 (Leads_rest p r (stop empty true) w.2.0 (Leads_peek sight limit p q r l (subst (λ ds. Takes sight q ds r) w.1 g.takes)) w.2.1 (h []) (f w.2.0 w.2.1 w.2.2 w.3)))
+          (λ w. Refuses_memory sight limit p r e w g.result.0 (Halts_here sight limit p r (Leads_digits g.ds g.digits g.takes) i (h g.ds)))
           g.result.1

@@ -20,71 +20,71 @@ use Rattle.tinyjson.specs.declared.parser.error.JsonParseErrorKind.{JsonParseErr
 use Rattle.tinyjson.specs.declared.parser.error.JsonParseErrorKind.TheVariants as kind
 use Rattle.tinyjson.specs.declared.value.JsonValue.{JsonValue}
 use Rattle.tinyjson.proofs.Grammar.Prefix.InRange.{ranges}
-use Rattle.tinyjson.proofs.Grammar.Memory.{interrupted, interrupted-late}
+use Rattle.tinyjson.proofs.Grammar.Memory.{interrupted, interrupted_late}
 use Rattle.tinyjson.proofs.Grammar.Theorem.{accepts, refuses}
-use Rattle.tinyjson.proofs.Reading.Steps.{Comes-outcome}
+use Rattle.tinyjson.proofs.Reading.Steps.{Comes_outcome}
 
-end-finished : (limit : Option ℕ) (t : Tree) → outcome limit (next [] (finished t)) [] ≡ accepted t
+end_finished : (limit : Option ℕ) (t : Tree) → outcome limit (next [] (finished t)) [] ≡ accepted t
 unfolding run end
-end-finished limit t = refl
+end_finished limit t = refl
 
 -- ---- out of memory
 
 module _ (limit : Option ℕ) where
-  behind-stop : (k : JsonParseErrorKind) (b : Bool) (xs : List ℕ) → IsNext (behind limit (stop k b) xs) → ⊥
-  behind-stop k b [] h = h
-  behind-stop k b (c ∷ cs) h = behind-stop k false cs h
+  behind_stop : (k : JsonParseErrorKind) (b : Bool) (xs : List ℕ) → IsNext (behind limit (stop k b) xs) → ⊥
+  behind_stop k b [] h = h
+  behind_stop k b (c ∷ cs) h = behind_stop k false cs h
 
-  behind-reach : (fs : List Frame) (p : Phase) (xs : List ℕ) → IsNext (behind limit (next fs p) xs)
+  behind_reach : (fs : List Frame) (p : Phase) (xs : List ℕ) → IsNext (behind limit (next fs p) xs)
       → (s : State) × (reach (strictly limit) fs p xs ≡ Some s) × (behind limit (next fs p) xs ≡ next s.frames s.phase)
   unfolding reach
-  behind-reach fs p [] h = (record { frames = fs; phase = p }, refl, refl)
-  behind-reach fs p (c ∷ cs) h = go (step (strictly limit) fs p c) h (λ gs q. behind-reach gs q cs)
+  behind_reach fs p [] h = (record { frames = fs; phase = p }, refl, refl)
+  behind_reach fs p (c ∷ cs) h = go (step (strictly limit) fs p c) h (λ gs q. behind_reach gs q cs)
     where
       go : (n : Next) → IsNext (behind limit n cs)
           → ((gs : List Frame) (q : Phase) → IsNext (behind limit (next gs q) cs) → (s : State) × (reach (strictly limit) gs q cs ≡ Some s) × (behind limit (next gs q) cs ≡ next s.frames s.phase))
           → (s : State) × (reach_on (λ gs q. reach (strictly limit) gs q cs) n ≡ Some s) × (behind limit n cs ≡ next s.frames s.phase)
       go (next gs q) h more = more gs q h
-      go (stop k b) h more = absurd (behind-stop k b cs h)
+      go (stop k b) h more = absurd (behind_stop k b cs h)
 
-pub all-front : (xs ys : List ℕ) → All IsScalar (xs ++ ys) → All IsScalar xs
-all-front [] ys h k d l = absurd (omega (arith, l))
-all-front (x ∷ xs) ys h zero d l = h 0 d (omega arith)
-all-front (x ∷ xs) ys h (suc k) d l = all-front xs ys (λ j e m. h (suc j) e (omega (arith, m))) k d (omega (arith, l))
+pub all_front : (xs ys : List ℕ) → All IsScalar (xs ++ ys) → All IsScalar xs
+all_front [] ys h k d l = absurd (omega (arith, l))
+all_front (x ∷ xs) ys h zero d l = h 0 d (omega arith)
+all_front (x ∷ xs) ys h (suc k) d l = all_front xs ys (λ j e m. h (suc j) e (omega (arith, m))) k d (omega (arith, l))
 
-pub all-rest : (xs ys : List ℕ) → All IsScalar (xs ++ ys) → All IsScalar ys
-all-rest [] ys h = h
-all-rest (x ∷ xs) ys h = all-rest xs ys (λ j e m. h (suc j) e (omega (arith, m)))
+pub all_rest : (xs ys : List ℕ) → All IsScalar (xs ++ ys) → All IsScalar ys
+all_rest [] ys h = h
+all_rest (x ∷ xs) ys h = all_rest xs ys (λ j e m. h (suc j) e (omega (arith, m)))
 
 module _ (limit : Option ℕ) where
-  held-interrupted : (xs : List ℕ) → All IsScalar xs → IsHeld limit (next [] awaited) xs → IsInterrupted limit xs
-  held-interrupted xs a h = go h.late h.whole h.ends
+  held_interrupted : (xs : List ℕ) → All IsScalar xs → IsHeld limit (next [] awaited) xs → IsInterrupted limit xs
+  held_interrupted xs a h = go h.late h.whole h.ends
     where
       go : (late : List ℕ) → xs ≡ h.front ++ late → IsLate limit (behind limit (next [] awaited) h.front) late → IsInterrupted limit xs
       go [] e s =
           let same : xs ≡ h.front = e ∙ append-nil h.front in
-          let r = behind-reach limit [] awaited h.front h.goes in
+          let r = behind_reach limit [] awaited h.front h.goes in
           subst (IsInterrupted limit) (sym same) (interrupted ranges limit h.front (subst (All IsScalar) same a) r.0 r.1)
       go (c ∷ []) e s =
-          let r = behind-reach limit [] awaited h.front h.goes in
+          let r = behind_reach limit [] awaited h.front h.goes in
           let b = subst (All IsScalar) e a in
           let stops = sym (ap (λ z. onward limit z c) r.2) ∙ s in
-          subst (IsInterrupted limit) (sym e) (interrupted-late ranges limit h.front (all-front h.front (c ∷ []) b) r.0 r.1 c (all-rest h.front (c ∷ []) b 0 0 (omega arith)) stops)
+          subst (IsInterrupted limit) (sym e) (interrupted_late ranges limit h.front (all_front h.front (c ∷ []) b) r.0 r.1 c (all_rest h.front (c ∷ []) b 0 0 (omega arith)) stops)
       go (c ∷ d ∷ ds) e s = absurd s
 
-  refusal-says : (k : JsonParseErrorKind) (used rest : List ℕ) → IsRefusal limit k used rest → RefusalSays limit k used rest
-  refusal-says kind.OutOfMemory used rest r = absurd r.says
-  refusal-says k used rest r = r
+  refusal_says : (k : JsonParseErrorKind) (used rest : List ℕ) → IsRefusal limit k used rest → RefusalSays limit k used rest
+  refusal_says kind.OutOfMemory used rest r = absurd r.says
+  refusal_says k used rest r = r
 
-  refused-list : (k : JsonParseErrorKind) (used rest : List ℕ) → ¬ (k ≡ kind.OutOfMemory) → RefusalSays limit k used rest → ¬ IsAccepted limit (used ++ rest)
-  refused-list kind.OutOfMemory used rest n r = absurd (n refl)
-  refused-list k used rest n r = r.refused
+  refused_list : (k : JsonParseErrorKind) (used rest : List ℕ) → ¬ (k ≡ kind.OutOfMemory) → RefusalSays limit k used rest → ¬ IsAccepted limit (used ++ rest)
+  refused_list kind.OutOfMemory used rest n r = absurd (n refl)
+  refused_list k used rest n r = r.refused
 
 -- a refusal that does not say that memory ran out: the characters have no tree
-pub refused-answer : (limit : Option ℕ) (xs used rest : List ℕ) (P : JsonValue → Type 0) (Q : JsonParseError → Type 0) (r : Result JsonValue JsonParseError) → xs ≡ used ++ rest
+pub refused_answer : (limit : Option ℕ) (xs used rest : List ℕ) (P : JsonValue → Type 0) (Q : JsonParseError → Type 0) (r : Result JsonValue JsonParseError) → xs ≡ used ++ rest
     → MatchResult r P (λ e. Q e × RefusalSays limit e.kind used rest) → IfErr r (λ e. ¬ (e.kind ≡ kind.OutOfMemory) → ¬ IsAccepted limit xs)
-refused-answer limit xs used rest P Q (Ok v) whole a = tt
-refused-answer limit xs used rest P Q (Err e) whole a = λ n. subst (λ ys. ¬ IsAccepted limit ys) (sym whole) (refused-list limit e.kind used rest n a.1)
+refused_answer limit xs used rest P Q (Ok v) whole a = tt
+refused_answer limit xs used rest P Q (Err e) whole a = λ n. subst (λ ys. ¬ IsAccepted limit ys) (sym whole) (refused_list limit e.kind used rest n a.1)
 
 -- ---- the whole call
 
@@ -100,13 +100,13 @@ module _ {S : Type 0} (sight : Sight S) (limit : Option ℕ) where
         (λ v. (rest ≡ []) × IsText limit xs (view v))
         (λ e. (error_position e ≡ sight.place q) × RefusalSays limit e.kind consumed rest)
 
-  answered-error : (p q : S) (e : JsonParseError) (xs : List ℕ) → sight.gives p xs → All IsScalar xs → Refuses sight limit p (next [] awaited) e q → (e.kind ≡ kind.OutOfMemory → Grows sight p) → Answered p xs (Err e) q
-  answered-error p q e xs g a r m = ⊎_elim told wanted r.why
+  answered_error : (p q : S) (e : JsonParseError) (xs : List ℕ) → sight.gives p xs → All IsScalar xs → Refuses sight limit p (next [] awaited) e q → (e.kind ≡ kind.OutOfMemory → Grows sight p) → Answered p xs (Err e) q
+  answered_error p q e xs g a r m = ⊎_elim told wanted r.why
     where
       told : (k : JsonParseErrorKind) × (e.kind ≡ k) × Leads sight limit p (next [] awaited) q (stop k true) → Answered p xs (Err e) q
       told w =
           let x = w.2.gives xs g in
-          let ran : run (strictly limit) [] awaited (w.2.taken ++ x.0) ≡ refused w.0 x.0 = Comes-outcome limit (next [] awaited) (stop w.0 true) w.2.taken x.0 x.3 in
+          let ran : run (strictly limit) [] awaited (w.2.taken ++ x.0) ≡ refused w.0 x.0 = Comes_outcome limit (next [] awaited) (stop w.0 true) w.2.taken x.0 x.3 in
           let s = refuses limit w.2.taken x.0 (subst (All IsScalar) x.1 a) w.0 ran in
           record {
             consumed = w.2.taken;
@@ -114,13 +114,13 @@ module _ {S : Type 0} (sight : Sight S) (limit : Option ℕ) where
             whole = x.1;
             gives = x.2;
             moves = w.2.moves;
-            answer = (r.place, subst (λ k. RefusalSays limit k w.2.taken x.0) (sym w.1) (refusal-says limit w.0 w.2.taken x.0 s));
+            answer = (r.place, subst (λ k. RefusalSays limit k w.2.taken x.0) (sym w.1) (refusal_says limit w.0 w.2.taken x.0 s));
           }
 
       wanted : (e.kind ≡ kind.OutOfMemory) × Halts sight limit p (next [] awaited) q → Answered p xs (Err e) q
       wanted w =
           let x = w.1.gives xs g in
-          let i = held-interrupted limit w.1.taken (all-front w.1.taken x.0 (subst (All IsScalar) x.1 a)) x.3 in
+          let i = held_interrupted limit w.1.taken (all_front w.1.taken x.0 (subst (All IsScalar) x.1 a)) x.3 in
           let n = subst MayGrow x.1 (m w.0 xs g) in
           record {
             consumed = w.1.taken;
@@ -137,31 +137,31 @@ module _ {S : Type 0} (sight : Sight S) (limit : Option ℕ) where
       let x = l.gives xs g in
       let n = sight.none q x.0 s x.2 in
       let w = next [] (finished (view v)) in
-      let ran : run (strictly limit) [] awaited xs ≡ accepted (view v) = ap (outcome limit (next [] awaited)) x.1 ∙ Comes-outcome limit (next [] awaited) w l.taken x.0 x.3 ∙ ap (outcome limit w) n ∙ end-finished limit (view v) in
+      let ran : run (strictly limit) [] awaited xs ≡ accepted (view v) = ap (outcome limit (next [] awaited)) x.1 ∙ Comes_outcome limit (next [] awaited) w l.taken x.0 x.3 ∙ ap (outcome limit w) n ∙ end_finished limit (view v) in
       record { consumed = l.taken; rest = x.0; whole = x.1; gives = x.2; moves = l.moves; answer = (n, (accepts limit xs a (view v)).0 ran) }
-  answered p q (Err e) l s m xs g a = answered-error p q e xs g a l m
+  answered p q (Err e) l s m xs g a = answered_error p q e xs g a l m
 
   -- of a source that stands at the origin
-  pub answered-text : (p q : S) (xs : List ℕ) (r : Result JsonValue JsonParseError) → sight.place p ≡ origin → Answered p xs r q → ParsesText limit xs r
-  answered-text p q xs (Ok v) h a = record { consumed = a.consumed; rest = a.rest; whole = a.whole; answer = a.answer; refused = tt }
-  answered-text p q xs (Err e) h a = record {
+  pub answered_text : (p q : S) (xs : List ℕ) (r : Result JsonValue JsonParseError) → sight.place p ≡ origin → Answered p xs r q → ParsesText limit xs r
+  answered_text p q xs (Ok v) h a = record { consumed = a.consumed; rest = a.rest; whole = a.whole; answer = a.answer; refused = tt }
+  answered_text p q xs (Err e) h a = record {
     consumed = a.consumed;
     rest = a.rest;
     whole = a.whole;
     answer = (a.answer.0 ∙ a.moves ∙ ap (λ x. advance x a.consumed) h, a.answer.1);
-    refused = refused-answer limit xs a.consumed a.rest (λ v. (a.rest ≡ []) × IsText limit xs (view v)) (λ e. error_position e ≡ sight.place q) (Err e) a.whole a.answer;
+    refused = refused_answer limit xs a.consumed a.rest (λ v. (a.rest ≡ []) × IsText limit xs (view v)) (λ e. error_position e ≡ sight.place q) (Err e) a.whole a.answer;
   }
 
-pub all-scalars : (xs : List ℕ) → IsTrue (all_scalars xs) → All IsScalar xs
-all-scalars [] h k d l = absurd (omega (arith, l))
-all-scalars (x ∷ xs) h zero d l = (and_parts (is_scalar x) (all_scalars xs) h).0
-all-scalars (x ∷ xs) h (suc k) d l = all-scalars xs (and_parts (is_scalar x) (all_scalars xs) h).1 k d (omega (arith, l))
+pub all_are_scalars : (xs : List ℕ) → IsTrue (all_scalars xs) → All IsScalar xs
+all_are_scalars [] h k d l = absurd (omega (arith, l))
+all_are_scalars (x ∷ xs) h zero d l = (and_parts (is_scalar x) (all_scalars xs) h).0
+all_are_scalars (x ∷ xs) h (suc k) d l = all_are_scalars xs (and_parts (is_scalar x) (all_scalars xs) h).1 k d (omega (arith, l))
 
 -- a new parser over a text
-pub parses-text : {S : Type 0} {steps : S → Option ℕ → S → Type 0} (limit : Option ℕ) (xs : List ℕ) (p q : Parser S) (r : Result JsonValue JsonParseError)
+pub parses_text : {S : Type 0} {steps : S → Option ℕ → S → Type 0} (limit : Option ℕ) (xs : List ℕ) (p q : Parser S) (r : Result JsonValue JsonParseError)
     → p.position ≡ origin → p.limit ≡ limit → Parses steps p xs r q → ParsesText limit xs r
-parses-text limit xs p q (Ok v) h n a = record { consumed = a.consumed; rest = a.rest; whole = a.whole; answer = subst (λ l. (a.rest ≡ []) × IsText l xs (view v)) n a.answer; refused = tt }
-parses-text limit xs p q (Err e) h n a = record {
+parses_text limit xs p q (Ok v) h n a = record { consumed = a.consumed; rest = a.rest; whole = a.whole; answer = subst (λ l. (a.rest ≡ []) × IsText l xs (view v)) n a.answer; refused = tt }
+parses_text limit xs p q (Err e) h n a = record {
   consumed = a.consumed;
   rest = a.rest;
   whole = a.whole;
@@ -170,5 +170,5 @@ parses-text limit xs p q (Err e) h n a = record {
 }
 
 -- a refusal that is not because memory ran out: the characters have no tree
-pub refused-text : (limit : Option ℕ) (xs : List ℕ) (e : JsonParseError) → ¬ (e.kind ≡ kind.OutOfMemory) → ParsesText limit xs (Err e) → ¬ IsAccepted limit xs
-refused-text limit xs e n a = a.refused n
+pub refused_text : (limit : Option ℕ) (xs : List ℕ) (e : JsonParseError) → ¬ (e.kind ≡ kind.OutOfMemory) → ParsesText limit xs (Err e) → ¬ IsAccepted limit xs
+refused_text limit xs e n a = a.refused n

@@ -15,7 +15,7 @@ use Rattle.tinyjson.specs.private.Scan.{is_plain}
 use Rattle.tinyjson.specs.Position.{advance, origin}
 use Rattle.tinyjson.specs.private.Slice.{before, behind, run_end, NextChar}
 use Rattle.tinyjson.specs.private.Slice.Laws.{line_bound, column_bound}
-use Rattle.tinyjson.proofs.Reading.Positions.{advance-append, advance-nil}
+use Rattle.tinyjson.proofs.Reading.Positions.{advance_append, advance_nil}
 
 -- the characters from i on, up to j
 abbrev pub between : List ℕ → ℕ → ℕ → List ℕ
@@ -28,21 +28,21 @@ module _ (text : List ℕ) (utf8 : IsUtf8 text) (i j : ℕ) (h : i ≤ j) (first
   rest : drop (j - i) (drop i text) ≡ drop j text
   rest = drop-drop (j - i) i text ∙ ap (λ n. drop n text) (omega arith)
 
-  behind-between : behind text i ≡ between text i j ++ behind text j
-  behind-between =
+  behind_between : behind text i ≡ between text i j ++ behind text j
+  behind_between =
       ap chars (sym (take-append-drop (j - i) (drop i text))) ∙ chars-append slice (drop (j - i) (drop i text)) (IsUtf8-between text i j utf8 h first last)
       ∙ ap (λ bs. chars slice ++ chars bs) rest
 
-  before-between : before text j ≡ before text i ++ between text i j
-  before-between =
+  before_between : before text j ≡ before text i ++ between text i j
+  before_between =
       let n : i + (j - i) ≡ j = omega arith in
       let front : take i (take j text) ≡ take i text = take-take i j text h in
       let back : drop i (take j text) ≡ slice = ap (λ m. drop i (take m text)) (sym n) ∙ drop-take i (j - i) text in
       ap chars (sym (take-append-drop i (take j text))) ∙ ap (λ bs. chars (bs ++ drop i (take j text))) front ∙ ap (λ bs. chars (take i text ++ bs)) back
       ∙ chars-append (take i text) slice (IsUtf8-take text i utf8 first)
 
-  between-more : (k : ℕ) → j ≤ k → between text i k ≡ between text i j ++ between text j k
-  between-more k g =
+  between_more : (k : ℕ) → j ≤ k → between text i k ≡ between text i j ++ between text j k
+  between_more k g =
       let whole = take (k - i) (drop i text) in
       let n : (j - i) + (k - j) ≡ k - i = omega arith in
       let front : take (j - i) whole ≡ slice = take-take (j - i) (k - i) (drop i text) (omega arith) in
@@ -53,14 +53,14 @@ module _ (text : List ℕ) (utf8 : IsUtf8 text) (i j : ℕ) (h : i ≤ j) (first
   -- what is taken on the way from i to j
   module _ (xs : List ℕ) (e : between text i j ≡ xs) where
     pub step_gives : (zs : List ℕ) → zs ≡ behind text i → (more : List ℕ) × (zs ≡ xs ++ more) × (more ≡ behind text j)
-    step_gives zs g = (behind text j, g ∙ behind-between ∙ ap (λ ys. ys ++ behind text j) e, refl)
+    step_gives zs g = (behind text j, g ∙ behind_between ∙ ap (λ ys. ys ++ behind text j) e, refl)
 
     pub step_moves : advance origin (before text j) ≡ advance (advance origin (before text i)) xs
-    step_moves = ap (advance origin) before-between ∙ sym (advance-append origin (before text i) (between text i j)) ∙ ap (advance (advance origin (before text i))) e
+    step_moves = ap (advance origin) before_between ∙ sym (advance_append origin (before text i) (between text i j)) ∙ ap (advance (advance origin (before text i))) e
 
 -- nothing is taken
 pub stay_moves : (xs : List ℕ) → advance origin xs ≡ advance (advance origin xs) []
-stay_moves xs = sym (advance-nil (advance origin xs).line (advance origin xs).column (line_bound xs) (column_bound xs))
+stay_moves xs = sym (advance_nil (advance origin xs).line (advance origin xs).column (line_bound xs) (column_bound xs))
 
 -- ---- one character
 
@@ -104,9 +104,9 @@ ascii_next text at c h e low =
 
 -- ---- runs
 
-AllByRecursion-right : (P : ℕ → Type 0) (xs ys : List ℕ) → AllByRecursion P (xs ++ ys) → AllByRecursion P ys
-AllByRecursion-right P [] ys a = a
-AllByRecursion-right P (x ∷ xs) ys a = AllByRecursion-right P xs ys a.1
+AllByRecursion_right : (P : ℕ → Type 0) (xs ys : List ℕ) → AllByRecursion P (xs ++ ys) → AllByRecursion P ys
+AllByRecursion_right P [] ys a = a
+AllByRecursion_right P (x ∷ xs) ys a = AllByRecursion_right P xs ys a.1
 
 run_passes : (p : ℕ → Bool) (xs : List ℕ) → AllByRecursion (λ c. p c ≡ true) (take (prefix_len p xs) xs)
 run_passes p [] = tt
@@ -188,7 +188,7 @@ module _ (p : ℕ → Bool) (high : (b : ℕ) → 128 ≤ b → p b ≡ true) wh
 
   chars_pass : (cs : List ℕ) → AllByRecursion (λ b. p b ≡ true) (encode_utf8_all cs) → AllByRecursion (λ c. p c ≡ true) cs
   chars_pass [] a = tt
-  chars_pass (c ∷ cs) a = (char_passes c (encode_utf8_all cs) a, chars_pass cs (AllByRecursion-right (λ b. p b ≡ true) (encode_utf8 c) (encode_utf8_all cs) a))
+  chars_pass (c ∷ cs) a = (char_passes c (encode_utf8_all cs) a, chars_pass cs (AllByRecursion_right (λ b. p b ≡ true) (encode_utf8 c) (encode_utf8_all cs) a))
 
   module _ (text : List ℕ) (utf8 : IsUtf8 text) (at : ℕ) (first : IsCharBoundary text at) (to : ℕ) (e : to ≡ run_end p text at) where
     pub plain_boundary : IsCharBoundary text to
@@ -219,4 +219,4 @@ module _ (text : List ℕ) (utf8 : IsUtf8 text) (at : ℕ) (first : IsCharBounda
   quote_boundary = char_boundary text utf8 to quote_first 34 1 quote_next refl
 
   pub quote_between : between text at (to + 1) ≡ between text at to ++ 34 ∷ []
-  quote_between = between-more text utf8 at to (omega (arith, e)) first quote_first (to + 1) (omega arith) ∙ ap (λ cs. between text at to ++ cs) (char_between text utf8 to quote_first 34 1 quote_next refl)
+  quote_between = between_more text utf8 at to (omega (arith, e)) first quote_first (to + 1) (omega arith) ∙ ap (λ cs. between text at to ++ cs) (char_between text utf8 to quote_first 34 1 quote_next refl)

@@ -13,7 +13,7 @@ use Rattle.tinyjson.specs.Characters.{is_white}
 use Rattle.tinyjson.specs.Kind.{kind_of}
 use Rattle.tinyjson.specs.declared.parser.error.JsonParseErrorKind.TheVariants.{KeyNotString, ExpectedColon}
 use Rattle.tinyjson.proofs.Reading.Containers.{no_key, colon_read, colon_other, object_comma}
-use Rattle.tinyjson.proofs.Reading.Steps.{Leads-whites, Halts-here, white_after}
+use Rattle.tinyjson.proofs.Reading.Steps.{Leads_whites, Halts_here, white_after}
 use Rattle.tinyjson.specs.declared.parser.stack.Open.{Open}
 use Rattle.tinyjson.specs.declared.parser.stack.Open.TheVariants as container
 use Rattle.tinyjson.specs.declared.parser.stack.Stack.{Stack}
@@ -50,54 +50,54 @@ waiting_key (j ∷ ks) (v ∷ vs) k h = waiting_key ks vs k (omega (arith, h))
 
 -- ---- a value that is whole
 
-pub whole-last : (os : List Open) (vs : List JsonValue) (v : JsonValue) (ks : Keys) (ms : List JsonMap) → whole_over os (reverse (vs ++ v ∷ [])) ks ms ≡ complete true (frames_over os vs ks ms) (view v) true
-whole-last os vs v ks ms = ap (λ us. whole_over os us ks ms) (reverse-append vs (v ∷ [])) ∙ ap (λ us. complete true (frames_over os us ks ms) (view v) true) (reverse-reverse vs)
+pub whole_last : (os : List Open) (vs : List JsonValue) (v : JsonValue) (ks : Keys) (ms : List JsonMap) → whole_over os (reverse (vs ++ v ∷ [])) ks ms ≡ complete true (frames_over os vs ks ms) (view v) true
+whole_last os vs v ks ms = ap (λ us. whole_over os us ks ms) (reverse-append vs (v ∷ [])) ∙ ap (λ us. complete true (frames_over os us ks ms) (view v) true) (reverse-reverse vs)
 
 -- an array has it as its last item
-pub whole-item : (n : ℕ) (os : List Open) (vs : List JsonValue) (v : JsonValue) (ks : Keys) (ms : List JsonMap) → n ≤ length vs
+pub whole_item : (n : ℕ) (os : List Open) (vs : List JsonValue) (v : JsonValue) (ks : Keys) (ms : List JsonMap) → n ≤ length vs
     → whole_over (container.Array n ∷ os) (reverse (vs ++ v ∷ [])) ks ms ≡ next (frames_over (container.Array n ∷ os) (vs ++ v ∷ []) ks ms) after
-whole-item n os vs v ks ms h =
-    whole-last (container.Array n ∷ os) vs v ks ms
+whole_item n os vs v ks ms h =
+    whole_last (container.Array n ∷ os) vs v ks ms
     ∙ ap₂ (λ ts us. next (in_array ts ∷ frames_over os us ks ms) after) (sym (ap (map view) (drop-append-le n vs (v ∷ []) h) ∙ map-append view (drop n vs) (v ∷ []))) (sym (take-append-le n vs (v ∷ []) h))
 
 -- an object has it as the value of its last key
-pub whole-member : (n m : ℕ) (os : List Open) (vs : List JsonValue) (v : JsonValue) (ks : Keys) (ms : List JsonMap) → n ≤ length vs → m ≤ length ks → length ks + n ≡ suc (length vs + m)
+pub whole_member : (n m : ℕ) (os : List Open) (vs : List JsonValue) (v : JsonValue) (ks : Keys) (ms : List JsonMap) → n ≤ length vs → m ≤ length ks → length ks + n ≡ suc (length vs + m)
     → whole_over (container.Member n m ∷ os) (reverse (vs ++ v ∷ [])) ks ms ≡ next (frames_over (container.Object n m ∷ os) (vs ++ v ∷ []) ks ms) after
-whole-member n m os vs v ks ms h k e =
+whole_member n m os vs v ks ms h k e =
     let more : length (drop m ks) ≡ suc (length (drop n vs)) = length-drop m ks ∙ omega (arith, h, k, e) ∙ ap suc (sym (length-drop n vs)) in
-    whole-last (container.Member n m ∷ os) vs v ks ms
+    whole_last (container.Member n m ∷ os) vs v ks ms
     ∙ ap₂ (λ ns us. next (at_key ns ∷ frames_over os us (take m ks) (other_maps ms)) after)
     (sym (ap (gather (own_members ms) (drop m ks)) (drop-append-le n vs (v ∷ []) h) ∙ gather_value (own_members ms) (drop m ks) (drop n vs) v more)) (sym (take-append-le n vs (v ∷ []) h))
 
 -- ---- a container that begins
 
-pub frames-object : (os : List Open) (vs : List JsonValue) (ks : Keys) (m : JsonMap) (ms : List JsonMap) → m.entries ≡ []
+pub frames_object : (os : List Open) (vs : List JsonValue) (ks : Keys) (m : JsonMap) (ms : List JsonMap) → m.entries ≡ []
     → frames_over (container.Object (length vs) (length ks) ∷ os) vs ks (m ∷ ms) ≡ at_key no_members ∷ frames_over os vs ks ms
-frames-object os vs ks m ms e =
+frames_object os vs ks m ms e =
     ap₂ (λ ds es. at_key (gather (members_view m.entries) ds es) ∷ frames_over os (take (length vs) vs) (take (length ks) ks) ms) (drop-length ks) (drop-length vs)
     ∙ ap (λ es. at_key (members_view es) ∷ frames_over os (take (length vs) vs) (take (length ks) ks) ms) e
     ∙ ap₂ (λ us js. at_key no_members ∷ frames_over os us js ms) (take-length vs) (take-length ks)
 
 -- ---- a key that is read
 
-pub frames-key : (n m : ℕ) (os : List Open) (vs : List JsonValue) (ks : Keys) (ms : List JsonMap) (k : String Global) → n ≤ length vs → m ≤ length ks → length ks + n ≡ length vs + m
+pub frames_key : (n m : ℕ) (os : List Open) (vs : List JsonValue) (ks : Keys) (ms : List JsonMap) (k : String Global) → n ≤ length vs → m ≤ length ks → length ks + n ≡ length vs + m
     → frames_over (container.Member n m ∷ os) vs (ks ++ k ∷ []) ms
     ≡ at_value (gather (own_members ms) (drop m ks) (drop n vs)) (text k) ∷ frames_over os (take n vs) (take m ks) (other_maps ms)
-frames-key n m os vs ks ms k h i e =
+frames_key n m os vs ks ms k h i e =
     let same : length (drop m ks) ≡ length (drop n vs) = length-drop m ks ∙ omega (arith, h, i, e) ∙ sym (length-drop n vs) in
     ap₂ (λ js is. at_value (gather (own_members ms) js (drop n vs)) (waiting js (drop n vs)) ∷ frames_over os (take n vs) is (other_maps ms)) (drop-append-le m ks (k ∷ []) i) (take-append-le m ks (k ∷ []) i)
     ∙ ap₂ (λ ns j. at_value ns j ∷ frames_over os (take n vs) (take m ks) (other_maps ms)) (gather_key (own_members ms) (drop m ks) (drop n vs) k same) (waiting_key (drop m ks) (drop n vs) k same)
 
 -- ---- the innermost container
 
-pub length-frames_over : (os : List Open) (vs : List JsonValue) (ks : Keys) (ms : List JsonMap) → length (frames_over os vs ks ms) ≡ length os
-length-frames_over [] vs ks ms = refl
-length-frames_over (container.Array n ∷ os) vs ks ms = ap suc (length-frames_over os (take n vs) ks ms)
-length-frames_over (container.Object n m ∷ os) vs ks ms = ap suc (length-frames_over os (take n vs) (take m ks) (other_maps ms))
-length-frames_over (container.Member n m ∷ os) vs ks ms = ap suc (length-frames_over os (take n vs) (take m ks) (other_maps ms))
+pub length_frames_over : (os : List Open) (vs : List JsonValue) (ks : Keys) (ms : List JsonMap) → length (frames_over os vs ks ms) ≡ length os
+length_frames_over [] vs ks ms = refl
+length_frames_over (container.Array n ∷ os) vs ks ms = ap suc (length_frames_over os (take n vs) ks ms)
+length_frames_over (container.Object n m ∷ os) vs ks ms = ap suc (length_frames_over os (take n vs) (take m ks) (other_maps ms))
+length_frames_over (container.Member n m ∷ os) vs ks ms = ap suc (length_frames_over os (take n vs) (take m ks) (other_maps ms))
 
-pub length-frames : (s : Stack) → length (frames s) ≡ length s.containers.items
-length-frames s = length-frames_over (open_of s) s.values.items s.keys.items (maps_of s) ∙ length-reverse s.containers.items
+pub length_frames : (s : Stack) → length (frames s) ≡ length s.containers.items
+length_frames s = length_frames_over (open_of s) s.values.items s.keys.items (maps_of s) ∙ length-reverse s.containers.items
 
 pub pushed : {T : Type 0} (xs : List T) (o : T) → reverse (xs ++ o ∷ []) ≡ o ∷ reverse xs
 pushed xs o = reverse-append xs (o ∷ [])
@@ -109,8 +109,8 @@ popped old new o os e h =
     let n : length old - 1 ≡ length (reverse os) = omega (arith, size) in
     ap reverse (h ∙ ap₂ take n whole ∙ take-append_seam (reverse os) (o ∷ [])) ∙ reverse-reverse os
 
-pub awaits-key : (s : Stack) → AwaitsKey s → (ms : Members) × (fs : List Frame) × (frames s ≡ at_key ms ∷ fs)
-awaits-key s a =
+pub awaits_key : (s : Stack) → AwaitsKey s → (ms : Members) × (fs : List Frame) × (frames s ≡ at_key ms ∷ fs)
+awaits_key s a =
     let n = a.0 in
     let m = a.1 in
     let os = a.2.0 in
@@ -134,7 +134,7 @@ module _ (s : Stack) (w : HasWhole s) (n : ℕ) (os : List Open) (i : open_of s 
   pub array_whole : at s true ≡ next (in_array (map view (drop n s.values.items)) ∷ frames_over os (take n s.values.items) s.keys.items (maps_of s)) after
   array_whole =
       ap₂ (λ ps ws. whole_over ps (reverse ws) s.keys.items (maps_of s)) i w.values
-      ∙ whole-item n os w.front w.last s.keys.items (maps_of s) array_lies.0
+      ∙ whole_item n os w.front w.last s.keys.items (maps_of s) array_lies.0
       ∙ ap (λ ws. next (frames_over (container.Array n ∷ os) ws s.keys.items (maps_of s)) after) (sym w.values)
 
   pub array_stays : next (frames s) awaited ≡ next (in_array (map view (drop n s.values.items)) ∷ frames_over os (take n s.values.items) s.keys.items (maps_of s)) awaited
@@ -170,7 +170,7 @@ module _ (s : Stack) (w : HasWhole s) (n m : ℕ) (os : List Open) (i : open_of 
   pub member_whole : at s true ≡ next (frames_over (container.Object n m ∷ os) s.values.items s.keys.items (maps_of s)) after
   member_whole =
       ap₂ (λ ps ws. whole_over ps (reverse ws) s.keys.items (maps_of s)) i w.values
-      ∙ whole-member n m os w.front w.last s.keys.items (maps_of s) member_lies.0 member_lies.1 member_lies.2
+      ∙ whole_member n m os w.front w.last s.keys.items (maps_of s) member_lies.0 member_lies.1 member_lies.2
       ∙ ap (λ ws. next (frames_over (container.Object n m ∷ os) ws s.keys.items (maps_of s)) after) (sym w.values)
 
   pub closes_object : (new : Stack) (v : JsonValue) → open_of new ≡ os → new.values.items ≡ take n s.values.items → new.keys.items ≡ take m s.keys.items → maps_of new ≡ other_maps (maps_of s)
@@ -189,8 +189,8 @@ module _ (s : Stack) (w : HasWhole s) (n m : ℕ) (os : List Open) (i : open_of 
 -- ---- where a key is awaited
 
 module _ (s : Stack) (a : AwaitsKey s) where
-  key_frames : frames s ≡ at_key (awaits-key s a).0 ∷ (awaits-key s a).1
-  key_frames = (awaits-key s a).2
+  key_frames : frames s ≡ at_key (awaits_key s a).0 ∷ (awaits_key s a).1
+  key_frames = (awaits_key s a).2
 
   -- a string is the key, and nothing else is
   pub key_string : (k : List ℕ) → complete true (frames s) (string k) true ≡ next (frames s) (colon k)
@@ -200,7 +200,7 @@ module _ (s : Stack) (a : AwaitsKey s) where
   key_refused t h = ap (λ fs. complete true fs t true) key_frames ∙ sym (no_key _ _ t h)
 
   module _ (limit : Option ℕ) (k : List ℕ) (c : ℕ) where
-    pub key_colon : c ≡ 58 → onward limit (next (frames s) (colon k)) c ≡ next (at_value (awaits-key s a).0 k ∷ (awaits-key s a).1) awaited
+    pub key_colon : c ≡ 58 → onward limit (next (frames s) (colon k)) c ≡ next (at_value (awaits_key s a).0 k ∷ (awaits_key s a).1) awaited
     key_colon e = ap (λ fs. onward limit (next fs (colon k)) c) key_frames ∙ colon_read limit _ _ k c e
 
     pub key_other : is_white c ≡ false → (c ≡ 58 → ⊥) → onward limit (next (frames s) (colon k)) c ≡ stop (ExpectedColon c) true
@@ -220,13 +220,13 @@ value_taken (container.Member n m ∷ os) vs ks ms t h = tt
 
 module _ {S : Type 0} (sight : Sight S) (limit : Option ℕ) (p q : S) {n : Next} (fs : List Frame) (e : n ≡ next fs after) (w : Whites sight p q) where
   pub after_white : Leads sight limit p n q (next fs after)
-  after_white = subst (λ m. Leads sight limit p m q (next fs after)) (sym e) (Leads-whites sight limit p q _ w tt (white_after limit fs))
+  after_white = subst (λ m. Leads sight limit p m q (next fs after)) (sym e) (Leads_whites sight limit p q _ w tt (white_after limit fs))
 
   pub after_halts : Halts sight limit p n q
-  after_halts = Halts-here sight limit p q after_white (subst IsNext (sym e) tt) tt
+  after_halts = Halts_here sight limit p q after_white (subst IsNext (sym e) tt) tt
 
 -- a comma behind a member, where a key is awaited next
 pub comma_read : (limit : Option ℕ) (s : Stack) → AwaitsKey s → (c : ℕ) → c ≡ 44 → onward limit (next (frames s) after) c ≡ next (frames s) awaited
 comma_read limit s a c e =
-    let k = awaits-key s a in
+    let k = awaits_key s a in
     ap (λ fs. onward limit (next fs after) c) k.2 ∙ object_comma limit k.1 k.0 k.0 c refl e ∙ ap (λ fs. next fs awaited) (sym k.2)

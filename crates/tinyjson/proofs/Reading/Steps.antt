@@ -16,75 +16,75 @@ use Rattle.tinyjson.specs.private.Machine.{strictly, Within, quoted, end, colon,
 use Rattle.tinyjson.specs.Tree.{is_string, key_of}
 use Rattle.tinyjson.specs.Error.{error_position}
 use Rattle.tinyjson.specs.private.Steps.{onward, ending, outcome, IsNext, IsTaken, behind, wanting, Same, Comes, IsLate, IsHeld, Leads, Halts, Refuses, Reads}
-use Rattle.tinyjson.proofs.Reading.Sources.{Takes-nil}
-use Rattle.tinyjson.proofs.Reading.Positions.{advance-append}
+use Rattle.tinyjson.proofs.Reading.Sources.{Takes_nil}
+use Rattle.tinyjson.proofs.Reading.Positions.{advance_append}
 
 -- ---- the machine alone
 
 module _ (limit : Option ℕ) where
-  pub Same-refl : (n : Next) (zs : List ℕ) → Same limit n n zs
-  Same-refl n [] = refl
-  Same-refl n (c ∷ cs) = refl
+  pub Same_refl : (n : Next) (zs : List ℕ) → Same limit n n zs
+  Same_refl n [] = refl
+  Same_refl n (c ∷ cs) = refl
 
-  Same-trans : (n m o : Next) (zs : List ℕ) → Same limit n m zs → Same limit m o zs → Same limit n o zs
-  Same-trans n m o [] a b = a ∙ b
-  Same-trans n m o (c ∷ cs) a b = a ∙ b
+  Same_trans : (n m o : Next) (zs : List ℕ) → Same limit n m zs → Same limit m o zs → Same limit n o zs
+  Same_trans n m o [] a b = a ∙ b
+  Same_trans n m o (c ∷ cs) a b = a ∙ b
 
-  Comes-same : (n m o : Next) (xs rest : List ℕ) → Same limit n m (xs ++ rest) → (IsNext m → IsNext n) → Comes limit m xs o rest → Comes limit n xs o rest
-  Comes-same n m o [] rest a k b = (Same-trans n m o rest a b.0, λ h. k (b.1 h))
-  Comes-same n m o (c ∷ cs) rest a k b = (k b.0, subst IsTaken (sym a) b.1, subst (λ z. Comes limit z cs o rest) (sym a) b.2)
+  Comes_same : (n m o : Next) (xs rest : List ℕ) → Same limit n m (xs ++ rest) → (IsNext m → IsNext n) → Comes limit m xs o rest → Comes limit n xs o rest
+  Comes_same n m o [] rest a k b = (Same_trans n m o rest a b.0, λ h. k (b.1 h))
+  Comes_same n m o (c ∷ cs) rest a k b = (k b.0, subst IsTaken (sym a) b.1, subst (λ z. Comes limit z cs o rest) (sym a) b.2)
 
-  pub Comes-trans : (n m o : Next) (xs ys rest : List ℕ) → Comes limit n xs m (ys ++ rest) → Comes limit m ys o rest → Comes limit n (xs ++ ys) o rest
-  Comes-trans n m o [] ys rest a b = Comes-same n m o ys rest a.0 a.1 b
-  Comes-trans n m o (c ∷ cs) ys rest a b = (a.0, a.1, Comes-trans (onward limit n c) m o cs ys rest a.2 b)
+  pub Comes_trans : (n m o : Next) (xs ys rest : List ℕ) → Comes limit n xs m (ys ++ rest) → Comes limit m ys o rest → Comes limit n (xs ++ ys) o rest
+  Comes_trans n m o [] ys rest a b = Comes_same n m o ys rest a.0 a.1 b
+  Comes_trans n m o (c ∷ cs) ys rest a b = (a.0, a.1, Comes_trans (onward limit n c) m o cs ys rest a.2 b)
 
-  outcome-step : (n : Next) (c : ℕ) (cs : List ℕ) → IsNext n → IsTaken (onward limit n c) → outcome limit n (c ∷ cs) ≡ outcome limit (onward limit n c) cs
+  outcome_step : (n : Next) (c : ℕ) (cs : List ℕ) → IsNext n → IsTaken (onward limit n c) → outcome limit n (c ∷ cs) ≡ outcome limit (onward limit n c) cs
   unfolding run
-  outcome-step (next fs p) c cs h t = go (step (strictly limit) fs p c) t
+  outcome_step (next fs p) c cs h t = go (step (strictly limit) fs p c) t
     where
       go : (n : Next) → IsTaken n → go_on (λ gs q. run (strictly limit) gs q cs) n (c ∷ cs) cs ≡ outcome limit n cs
       go (next gs q) t = refl
       go (stop k true) t = refl
       go (stop k false) t = absurd t
-  outcome-step (stop k b) c cs h t = absurd h
+  outcome_step (stop k b) c cs h t = absurd h
 
-  outcome-end : (n : Next) → outcome limit n [] ≡ ending limit n
+  outcome_end : (n : Next) → outcome limit n [] ≡ ending limit n
   unfolding run
-  outcome-end (next fs p) = refl
-  outcome-end (stop k b) = refl
+  outcome_end (next fs p) = refl
+  outcome_end (stop k b) = refl
 
-  outcome-on : (n : Next) (c : ℕ) (cs : List ℕ) → outcome limit n (c ∷ cs) ≡ go_on (λ gs q. run (strictly limit) gs q cs) (onward limit n c) (c ∷ cs) cs
+  outcome_on : (n : Next) (c : ℕ) (cs : List ℕ) → outcome limit n (c ∷ cs) ≡ go_on (λ gs q. run (strictly limit) gs q cs) (onward limit n c) (c ∷ cs) cs
   unfolding run
-  outcome-on (next fs p) c cs = refl
-  outcome-on (stop k b) c cs = refl
+  outcome_on (next fs p) c cs = refl
+  outcome_on (stop k b) c cs = refl
 
-  outcome-same : (n m : Next) (zs : List ℕ) → Same limit n m zs → outcome limit n zs ≡ outcome limit m zs
-  outcome-same n m [] a = outcome-end n ∙ a ∙ sym (outcome-end m)
-  outcome-same n m (c ∷ cs) a = outcome-on n c cs ∙ ap (λ z. go_on (λ gs q. run (strictly limit) gs q cs) z (c ∷ cs) cs) a ∙ sym (outcome-on m c cs)
+  outcome_same : (n m : Next) (zs : List ℕ) → Same limit n m zs → outcome limit n zs ≡ outcome limit m zs
+  outcome_same n m [] a = outcome_end n ∙ a ∙ sym (outcome_end m)
+  outcome_same n m (c ∷ cs) a = outcome_on n c cs ∙ ap (λ z. go_on (λ gs q. run (strictly limit) gs q cs) z (c ∷ cs) cs) a ∙ sym (outcome_on m c cs)
 
   -- what the machine says of the list, it says of the rest
-  pub Comes-outcome : (n m : Next) (xs rest : List ℕ) → Comes limit n xs m rest → outcome limit n (xs ++ rest) ≡ outcome limit m rest
-  Comes-outcome n m [] rest a = outcome-same n m rest a.0
-  Comes-outcome n m (c ∷ cs) rest a = outcome-step n c (cs ++ rest) a.0 a.1 ∙ Comes-outcome (onward limit n c) m cs rest a.2
+  pub Comes_outcome : (n m : Next) (xs rest : List ℕ) → Comes limit n xs m rest → outcome limit n (xs ++ rest) ≡ outcome limit m rest
+  Comes_outcome n m [] rest a = outcome_same n m rest a.0
+  Comes_outcome n m (c ∷ cs) rest a = outcome_step n c (cs ++ rest) a.0 a.1 ∙ Comes_outcome (onward limit n c) m cs rest a.2
 
   -- the character that was read by then is the last
-  IsHeld-late : (n : Next) (c : ℕ) → IsNext n → onward limit n c ≡ stop InvalidUtf16 true → IsHeld limit n (c ∷ [])
-  IsHeld-late n c h e = record { front = []; late = c ∷ []; whole = refl; goes = h; ends = e }
+  IsHeld_late : (n : Next) (c : ℕ) → IsNext n → onward limit n c ≡ stop InvalidUtf16 true → IsHeld limit n (c ∷ [])
+  IsHeld_late n c h e = record { front = []; late = c ∷ []; whole = refl; goes = h; ends = e }
 
-  IsHeld-cons : (n : Next) (c : ℕ) (cs : List ℕ) → IsHeld limit (onward limit n c) cs → IsHeld limit n (c ∷ cs)
-  IsHeld-cons n c cs k = record { front = c ∷ k.front; late = k.late; whole = ap (λ z. c ∷ z) k.whole; goes = k.goes; ends = k.ends }
+  IsHeld_cons : (n : Next) (c : ℕ) (cs : List ℕ) → IsHeld limit (onward limit n c) cs → IsHeld limit n (c ∷ cs)
+  IsHeld_cons n c cs k = record { front = c ∷ k.front; late = k.late; whole = ap (λ z. c ∷ z) k.whole; goes = k.goes; ends = k.ends }
 
   -- what was taken was held
-  pub Comes-held : (n m : Next) (xs rest : List ℕ) → IsNext n → IsNext m → Comes limit n xs m rest → IsHeld limit n xs
-  Comes-held n m [] rest h k a = record { front = []; late = []; whole = refl; goes = h; ends = tt }
-  Comes-held n m (c ∷ cs) rest h k a = IsHeld-cons n c cs (Comes-held (onward limit n c) m cs rest (came (onward limit n c) m cs rest k a.2) k a.2)
+  pub Comes_held : (n m : Next) (xs rest : List ℕ) → IsNext n → IsNext m → Comes limit n xs m rest → IsHeld limit n xs
+  Comes_held n m [] rest h k a = record { front = []; late = []; whole = refl; goes = h; ends = tt }
+  Comes_held n m (c ∷ cs) rest h k a = IsHeld_cons n c cs (Comes_held (onward limit n c) m cs rest (came (onward limit n c) m cs rest k a.2) k a.2)
     where
       came : (n m : Next) (cs rest : List ℕ) → IsNext m → Comes limit n cs m rest → IsNext n
       came n m [] rest k a = a.1 k
       came n m (c ∷ cs) rest k a = a.0
 
-  IsHeld-same : (n m : Next) (ys rest : List ℕ) → (IsNext m → IsNext n) → Same limit n m (ys ++ rest) → IsHeld limit m ys → IsHeld limit n ys
-  IsHeld-same n m ys rest h a k = record { front = k.front; late = k.late; whole = k.whole; goes = go k.front k.whole k.goes; ends = on k.front k.late k.whole k.ends }
+  IsHeld_same : (n m : Next) (ys rest : List ℕ) → (IsNext m → IsNext n) → Same limit n m (ys ++ rest) → IsHeld limit m ys → IsHeld limit n ys
+  IsHeld_same n m ys rest h a k = record { front = k.front; late = k.late; whole = k.whole; goes = go k.front k.whole k.goes; ends = on k.front k.late k.whole k.ends }
     where
       go : (f : List ℕ) → ys ≡ f ++ k.late → IsNext (behind limit m f) → IsNext (behind limit n f)
       go [] e g = h g
@@ -100,9 +100,9 @@ module _ (limit : Option ℕ) where
           let s : onward limit n c ≡ onward limit m c = subst (λ z. Same limit n m (z ++ rest)) e a in
           subst (λ z. IsLate limit (behind limit z cs) l) (sym s) g
 
-  pub Comes-halts : (n m : Next) (xs ys rest : List ℕ) → Comes limit n xs m (ys ++ rest) → IsHeld limit m ys → IsHeld limit n (xs ++ ys)
-  Comes-halts n m [] ys rest a k = IsHeld-same n m ys rest a.1 a.0 k
-  Comes-halts n m (c ∷ cs) ys rest a k = IsHeld-cons n c (cs ++ ys) (Comes-halts (onward limit n c) m cs ys rest a.2 k)
+  pub Comes_halts : (n m : Next) (xs ys rest : List ℕ) → Comes limit n xs m (ys ++ rest) → IsHeld limit m ys → IsHeld limit n (xs ++ ys)
+  Comes_halts n m [] ys rest a k = IsHeld_same n m ys rest a.1 a.0 k
+  Comes_halts n m (c ∷ cs) ys rest a k = IsHeld_cons n c (cs ++ ys) (Comes_halts (onward limit n c) m cs ys rest a.2 k)
 
 pub taken_if : (b : Bool) (n m : Next) → IsTaken n → IsTaken m → IsTaken (cond b n m)
 taken_if true n m h k = h
@@ -149,73 +149,73 @@ module _ (limit : Option ℕ) where
 -- ---- the machine and the cursor
 
 module _ {S : Type 0} (sight : Sight S) (limit : Option ℕ) where
-  pub Leads-nil : (p : S) (n : Next) → Leads sight limit p n p n
-  Leads-nil p n = let t = Takes-nil sight p in record {
+  pub Leads_nil : (p : S) (n : Next) → Leads sight limit p n p n
+  Leads_nil p n = let t = Takes_nil sight p in record {
     taken = [];
-    gives = λ zs g. let x = t.gives zs g in (x.0, x.1, x.2, (Same-refl limit n x.0, λ w. w));
+    gives = λ zs g. let x = t.gives zs g in (x.0, x.1, x.2, (Same_refl limit n x.0, λ w. w));
     moves = t.moves;
   }
 
   -- the same state by another name
-  pub Leads-to : (p q : S) {n m o : Next} → Leads sight limit p n q m → m ≡ o → Leads sight limit p n q o
-  Leads-to p q {n} l e = subst (Leads sight limit p n q) e l
+  pub Leads_to : (p q : S) {n m o : Next} → Leads sight limit p n q m → m ≡ o → Leads sight limit p n q o
+  Leads_to p q {n} l e = subst (Leads sight limit p n q) e l
 
-  pub Leads-trans : (p q r : S) {n m o : Next} → Leads sight limit p n q m → Leads sight limit q m r o → Leads sight limit p n r o
-  Leads-trans p q r {n} {m} {o} a b = record {
+  pub Leads_trans : (p q r : S) {n m o : Next} → Leads sight limit p n q m → Leads sight limit q m r o → Leads sight limit p n r o
+  Leads_trans p q r {n} {m} {o} a b = record {
     taken = a.taken ++ b.taken;
     gives = λ zs g.
         let x = a.gives zs g in
         let y = b.gives x.0 x.2 in
-        (y.0, x.1 ∙ ap (λ t. a.taken ++ t) y.1 ∙ sym (append_assoc a.taken b.taken y.0), y.2, Comes-trans limit n m o a.taken b.taken y.0 (subst (λ z. Comes limit n a.taken m z) y.1 x.3) y.3);
-    moves = b.moves ∙ ap (λ t. advance t b.taken) a.moves ∙ advance-append (sight.place p) a.taken b.taken;
+        (y.0, x.1 ∙ ap (λ t. a.taken ++ t) y.1 ∙ sym (append_assoc a.taken b.taken y.0), y.2, Comes_trans limit n m o a.taken b.taken y.0 (subst (λ z. Comes limit n a.taken m z) y.1 x.3) y.3);
+    moves = b.moves ∙ ap (λ t. advance t b.taken) a.moves ∙ advance_append (sight.place p) a.taken b.taken;
   }
 
-  pub Halts-trans : (p q r : S) {n m : Next} → Leads sight limit p n q m → Halts sight limit q m r → Halts sight limit p n r
-  Halts-trans p q r {n} {m} a b = record {
+  pub Halts_trans : (p q r : S) {n m : Next} → Leads sight limit p n q m → Halts sight limit q m r → Halts sight limit p n r
+  Halts_trans p q r {n} {m} a b = record {
     taken = a.taken ++ b.taken;
     gives = λ zs g.
         let x = a.gives zs g in
         let y = b.gives x.0 x.2 in
-        (y.0, x.1 ∙ ap (λ t. a.taken ++ t) y.1 ∙ sym (append_assoc a.taken b.taken y.0), y.2, Comes-halts limit n m a.taken b.taken y.0 (subst (λ z. Comes limit n a.taken m z) y.1 x.3) y.3);
-    moves = b.moves ∙ ap (λ t. advance t b.taken) a.moves ∙ advance-append (sight.place p) a.taken b.taken;
+        (y.0, x.1 ∙ ap (λ t. a.taken ++ t) y.1 ∙ sym (append_assoc a.taken b.taken y.0), y.2, Comes_halts limit n m a.taken b.taken y.0 (subst (λ z. Comes limit n a.taken m z) y.1 x.3) y.3);
+    moves = b.moves ∙ ap (λ t. advance t b.taken) a.moves ∙ advance_append (sight.place p) a.taken b.taken;
   }
 
   -- no memory here
-  pub Halts-here : (p q : S) {n m : Next} → Leads sight limit p n q m → IsNext n → IsNext m → Halts sight limit p n q
-  Halts-here p q {n} {m} a h k = record {
+  pub Halts_here : (p q : S) {n m : Next} → Leads sight limit p n q m → IsNext n → IsNext m → Halts sight limit p n q
+  Halts_here p q {n} {m} a h k = record {
     taken = a.taken;
-    gives = λ zs g. let x = a.gives zs g in (x.0, x.1, x.2, Comes-held limit n m a.taken x.0 h k x.3);
+    gives = λ zs g. let x = a.gives zs g in (x.0, x.1, x.2, Comes_held limit n m a.taken x.0 h k x.3);
     moves = a.moves;
   }
 
   -- no memory behind the character that ends a run with an unpaired surrogate
-  pub Halts-late : (p q r : S) {n m : Next} (c : ℕ) → Leads sight limit p n q m → Takes sight q (c ∷ []) r → IsNext m → onward limit m c ≡ stop InvalidUtf16 true → Halts sight limit p n r
-  Halts-late p q r {n} {m} c a t h e = Halts-trans p q r a (record {
+  pub Halts_late : (p q r : S) {n m : Next} (c : ℕ) → Leads sight limit p n q m → Takes sight q (c ∷ []) r → IsNext m → onward limit m c ≡ stop InvalidUtf16 true → Halts sight limit p n r
+  Halts_late p q r {n} {m} c a t h e = Halts_trans p q r a (record {
     taken = c ∷ [];
-    gives = λ zs g. let x = t.gives zs g in (x.0, x.1, x.2, IsHeld-late limit m c h e);
+    gives = λ zs g. let x = t.gives zs g in (x.0, x.1, x.2, IsHeld_late limit m c h e);
     moves = t.moves;
   })
 
   stays : (n : Next) → IsNext n → ((c : ℕ) → is_white c ≡ true → onward limit n c ≡ n) → (ws rest : List ℕ) → AllByRecursion (λ c. is_white c ≡ true) ws → Comes limit n ws n rest
-  stays n h k [] rest a = (Same-refl limit n rest, λ w. w)
+  stays n h k [] rest a = (Same_refl limit n rest, λ w. w)
   stays n h k (w ∷ ws) rest a =
       let e = sym (k w a.0) in
       let held : (o : Next) → IsNext o → IsTaken o = elim [ next fs p ↦ λ w. tt | stop j b ↦ λ w. absurd w ] in
       (h, subst IsTaken e (held n h), subst (λ z. Comes limit z ws n rest) e (stays n h k ws rest a.1))
 
   -- white space changes nothing
-  pub Leads-whites : (p q : S) (n : Next) → Whites sight p q → IsNext n → ((c : ℕ) → is_white c ≡ true → onward limit n c ≡ n) → Leads sight limit p n q n
-  Leads-whites p q n w h k = record {
+  pub Leads_whites : (p q : S) (n : Next) → Whites sight p q → IsNext n → ((c : ℕ) → is_white c ≡ true → onward limit n c ≡ n) → Leads sight limit p n q n
+  Leads_whites p q n w h k = record {
     taken = w.taken;
     gives = λ zs g. let x = w.takes.gives zs g in (x.0, x.1, x.2, stays n h k w.taken x.0 w.white);
     moves = w.takes.moves;
   }
 
   -- the next character is taken
-  pub Leads-one : (p q r : S) {n m o : Next} (c : ℕ) → Leads sight limit p n q m → Takes sight q (c ∷ []) r → IsNext m → onward limit m c ≡ o → IsTaken o → Leads sight limit p n r o
-  Leads-one p q r {n} {m} {o} c a t h e k = Leads-trans p q r a (record {
+  pub Leads_one : (p q r : S) {n m o : Next} (c : ℕ) → Leads sight limit p n q m → Takes sight q (c ∷ []) r → IsNext m → onward limit m c ≡ o → IsTaken o → Leads sight limit p n r o
+  Leads_one p q r {n} {m} {o} c a t h e k = Leads_trans p q r a (record {
     taken = c ∷ [];
-    gives = λ zs g. let x = t.gives zs g in (x.0, x.1, x.2, (h, subst IsTaken (sym e) k, subst (λ z. Comes limit z [] o x.0) (sym e) (Same-refl limit o x.0, λ w. w)));
+    gives = λ zs g. let x = t.gives zs g in (x.0, x.1, x.2, (h, subst IsTaken (sym e) k, subst (λ z. Comes limit z [] o x.0) (sym e) (Same_refl limit o x.0, λ w. w)));
     moves = t.moves;
   })
 
@@ -224,48 +224,48 @@ module _ {S : Type 0} (sight : Sight S) (limit : Option ℕ) where
     taken = a.taken;
     gives = λ zs g.
         let x = a.gives zs g in
-        (x.0, x.1, x.2, subst (λ ys. Comes limit n ys o x.0) (append-nil a.taken) (Comes-trans limit n m o a.taken [] x.0 x.3 (h x.0 x.2, λ w. k)));
+        (x.0, x.1, x.2, subst (λ ys. Comes limit n ys o x.0) (append-nil a.taken) (Comes_trans limit n m o a.taken [] x.0 x.3 (h x.0 x.2, λ w. k)));
     moves = a.moves;
   }
 
   -- at a character that is shown, and at the end
-  pub Leads-shown : (p q : S) {n m o : Next} (c : ℕ) → Leads sight limit p n q m → sight.shows q (Some c) → onward limit m c ≡ onward limit o c → IsNext m → Leads sight limit p n q o
-  Leads-shown p q {n} {m} {o} c a s e k = then p q a (λ rest g. let f = sight.first q rest c s g in subst (Same limit m o) (sym f.1) e) k
+  pub Leads_shown : (p q : S) {n m o : Next} (c : ℕ) → Leads sight limit p n q m → sight.shows q (Some c) → onward limit m c ≡ onward limit o c → IsNext m → Leads sight limit p n q o
+  Leads_shown p q {n} {m} {o} c a s e k = then p q a (λ rest g. let f = sight.first q rest c s g in subst (Same limit m o) (sym f.1) e) k
 
-  pub Leads-end : (p q : S) {n m o : Next} → Leads sight limit p n q m → sight.shows q None → ending limit m ≡ ending limit o → IsNext m → Leads sight limit p n q o
-  Leads-end p q {n} {m} {o} a s e k = then p q a (λ rest g. subst (Same limit m o) (sym (sight.none q rest s g)) e) k
+  pub Leads_end : (p q : S) {n m o : Next} → Leads sight limit p n q m → sight.shows q None → ending limit m ≡ ending limit o → IsNext m → Leads sight limit p n q o
+  Leads_end p q {n} {m} {o} a s e k = then p q a (λ rest g. subst (Same limit m o) (sym (sight.none q rest s g)) e) k
 
   -- a look ahead
-  pub Leads-peek : (p q r : S) {n m : Next} → Leads sight limit p n q m → Takes sight q [] r → Leads sight limit p n r m
-  Leads-peek p q r {n} {m} a t =
+  pub Leads_peek : (p q r : S) {n m : Next} → Leads sight limit p n q m → Takes sight q [] r → Leads sight limit p n r m
+  Leads_peek p q r {n} {m} a t =
       let l : Leads sight limit q m r m = record {
         taken = [];
-        gives = λ zs g. let x = t.gives zs g in (x.0, x.1, x.2, (Same-refl limit m x.0, λ w. w));
+        gives = λ zs g. let x = t.gives zs g in (x.0, x.1, x.2, (Same_refl limit m x.0, λ w. w));
         moves = t.moves;
       } in
-      Leads-trans p q r a l
+      Leads_trans p q r a l
 
   -- the end is found
-  pub Leads-none : (p q r : S) {n m o : Next} → Leads sight limit p n q m → Takes sight q [] r → sight.shows r None → ending limit m ≡ ending limit o → IsNext m → Leads sight limit p n r o
-  Leads-none p q r {n} {m} {o} a t s e k = Leads-end p r (Leads-peek p q r a t) s e k
+  pub Leads_none : (p q r : S) {n m o : Next} → Leads sight limit p n q m → Takes sight q [] r → sight.shows r None → ending limit m ≡ ending limit o → IsNext m → Leads sight limit p n r o
+  Leads_none p q r {n} {m} {o} a t s e k = Leads_end p r (Leads_peek p q r a t) s e k
 
   -- an error of the kind that the machine says, and because memory ran out
-  pub Refuses-as : (p q : S) {n : Next} (e : JsonParseError) (k : JsonParseErrorKind) → e.kind ≡ k → error_position e ≡ sight.place q → Leads sight limit p n q (stop k true) → Refuses sight limit p n e q
-  Refuses-as p q e k s a l = record { place = a; why = inl (k, s, l) }
+  pub Refuses_as : (p q : S) {n : Next} (e : JsonParseError) (k : JsonParseErrorKind) → e.kind ≡ k → error_position e ≡ sight.place q → Leads sight limit p n q (stop k true) → Refuses sight limit p n e q
+  Refuses_as p q e k s a l = record { place = a; why = inl (k, s, l) }
 
-  pub Refuses-memory : (p q : S) {n : Next} (e : JsonParseError) → e.kind ≡ OutOfMemory → error_position e ≡ sight.place q → Halts sight limit p n q → Refuses sight limit p n e q
-  Refuses-memory p q e s a l = record { place = a; why = inr (s, l) }
+  pub Refuses_memory : (p q : S) {n : Next} (e : JsonParseError) → e.kind ≡ OutOfMemory → error_position e ≡ sight.place q → Halts sight limit p n q → Refuses sight limit p n e q
+  Refuses_memory p q e s a l = record { place = a; why = inr (s, l) }
 
-  pub Refuses-after : (p q r : S) {n m : Next} (e : JsonParseError) → Leads sight limit p n q m → Refuses sight limit q m e r → Refuses sight limit p n e r
-  Refuses-after p q r {n} {m} e a b = record {
+  pub Refuses_after : (p q r : S) {n m : Next} (e : JsonParseError) → Leads sight limit p n q m → Refuses sight limit q m e r → Refuses sight limit p n e r
+  Refuses_after p q r {n} {m} e a b = record {
     place = b.place;
-    why = ⊎_elim (λ w. inl (w.0, w.1, Leads-trans p q r a w.2)) (λ w. inr (w.0, Halts-trans p q r a w.1)) b.why;
+    why = ⊎_elim (λ w. inl (w.0, w.1, Leads_trans p q r a w.2)) (λ w. inr (w.0, Halts_trans p q r a w.1)) b.why;
   }
 
   -- what was read before, and what was read then
-  pub Reads-after : {T : Type 0} (p q s : S) {n m : Next} (r : Result T JsonParseError) (K : T → Next) → Leads sight limit p n q m → Reads sight limit q m r K s → Reads sight limit p n r K s
-  Reads-after p q s (Ok v) K a b = Leads-trans p q s a b
-  Reads-after p q s (Err e) K a b = Refuses-after p q s e a b
+  pub Reads_after : {T : Type 0} (p q s : S) {n m : Next} (r : Result T JsonParseError) (K : T → Next) → Leads sight limit p n q m → Reads sight limit q m r K s → Reads sight limit p n r K s
+  Reads_after p q s (Ok v) K a b = Leads_trans p q s a b
+  Reads_after p q s (Err e) K a b = Refuses_after p q s e a b
 
 -- ---- white space
 

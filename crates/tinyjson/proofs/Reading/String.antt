@@ -15,15 +15,15 @@ use Rattle.tinyjson.specs.private.Source.{Sight, Takes, TakesRun}
 use Rattle.tinyjson.specs.private.Machine.{step, end, Frame, in_array, at_key, at_value, Next, next, stop, complete, plain, backslash, hex, quoted, refused}
 use Rattle.tinyjson.specs.declared.parser.error.JsonParseErrorKind.TheVariants.{InvalidUtf16, InvalidHexDigit, InvalidEscape, ControlCharacter, UnexpectedEof}
 use Rattle.tinyjson.specs.private.Steps.{onward, ending, within, Fails, IsNext, IsTaken, Comes, Leads, Halts, Refuses, Reads}
-use Rattle.tinyjson.proofs.Reading.Steps.{Comes-trans, Same-refl, taken_complete, Leads-one, Halts-here, Halts-late, Refuses-as, Refuses-memory, taken_if}
+use Rattle.tinyjson.proofs.Reading.Steps.{Comes_trans, Same_refl, taken_complete, Leads_one, Halts_here, Halts_late, Refuses_as, Refuses_memory, taken_if}
 
 module _ {S : Type 0} (sight : Sight S) (limit : Option ℕ) where
   -- the units before the character that was read, c, could not be added
-  pub Refuses-fails : (p q r : S) {n m : Next} (o : Next) (e : JsonParseError) (b : Bool) (c : ℕ) → Leads sight limit p n q m → Takes sight q (c ∷ []) r → IsNext n → IsNext m
+  pub Refuses_fails : (p q r : S) {n m : Next} (o : Next) (e : JsonParseError) (b : Bool) (c : ℕ) → Leads sight limit p n q m → Takes sight q (c ∷ []) r → IsNext n → IsNext m
       → IsNext o → onward limit m c ≡ cond (not b) (stop InvalidUtf16 true) o → Fails e b (sight.place r) → Refuses sight limit p n e r
-  Refuses-fails p q r {n} {m} o e b c l t i h j s f = ⊎_elim
-      (λ w. Refuses-as sight limit p r e InvalidUtf16 w.1 f.place (Leads-one sight limit p q r c l t h (s ∙ ap (λ x. cond (not x) (stop InvalidUtf16 true) o) w.0) tt))
-      (λ w. Refuses-memory sight limit p r e w f.place (halts b s))
+  Refuses_fails p q r {n} {m} o e b c l t i h j s f = ⊎_elim
+      (λ w. Refuses_as sight limit p r e InvalidUtf16 w.1 f.place (Leads_one sight limit p q r c l t h (s ∙ ap (λ x. cond (not x) (stop InvalidUtf16 true) o) w.0) tt))
+      (λ w. Refuses_memory sight limit p r e w f.place (halts b s))
       f.why
     where
       taken : (z : Next) → IsNext z → IsTaken z
@@ -31,31 +31,31 @@ module _ {S : Type 0} (sight : Sight S) (limit : Option ℕ) where
       taken (stop x d) k = absurd k
 
       halts : (x : Bool) → onward limit m c ≡ cond (not x) (stop InvalidUtf16 true) o → Halts sight limit p n r
-      halts true g = Halts-here sight limit p r (Leads-one sight limit p q r c l t h g (taken o j)) i j
-      halts false g = Halts-late sight limit p q r c l t h g
+      halts true g = Halts_here sight limit p r (Leads_one sight limit p q r c l t h g (taken o j)) i j
+      halts false g = Halts_late sight limit p q r c l t h g
 
   -- they were added, and a character d
-  pub Reads-add : (p q r : S) {n m : Next} (fs : List Frame) (v : Result Bool JsonParseError) (old new : String Global) (us vs : List ℕ) (c d : ℕ) → Leads sight limit p n q m → Takes sight q (c ∷ []) r → IsNext n → IsNext m
+  pub Reads_add : (p q r : S) {n m : Next} (fs : List Frame) (v : Result Bool JsonParseError) (old new : String Global) (us vs : List ℕ) (c d : ℕ) → Leads sight limit p n q m → Takes sight q (c ∷ []) r → IsNext n → IsNext m
       → onward limit m c ≡ cond (not (paired us)) (stop InvalidUtf16 true) (next fs (quoted plain ((text old ++ decode us) ++ d ∷ []) []))
       → MatchResult v (λ done. (done ≡ false) × (paired us ≡ true) × (text new ≡ (text old ++ decode us) ++ d ∷ []) × (vs ≡ [])) (λ e. Fails e (paired us) (sight.place r))
       → Reads sight limit p n v (within fs new vs) r
-  Reads-add p q r {n} {m} fs (Ok done) old new us vs c d l t i h s f =
+  Reads_add p q r {n} {m} fs (Ok done) old new us vs c d l t i h s f =
       let o : Next = next fs (quoted plain ((text old ++ decode us) ++ d ∷ []) []) in
       let e : within fs new vs done ≡ o = ap (within fs new vs) f.0 ∙ ap₂ (λ x y. next fs (quoted plain x y)) f.2 f.3 in
-      Leads-one sight limit p q r c l t h (s ∙ ap (λ x. cond (not x) (stop InvalidUtf16 true) o) f.1 ∙ sym e) (subst IsTaken (sym e) tt)
-  Reads-add p q r fs (Err e) old new us vs c d l t i h s f = Refuses-fails p q r (next fs (quoted plain ((text old ++ decode us) ++ d ∷ []) [])) e (paired us) c l t i h tt s f
+      Leads_one sight limit p q r c l t h (s ∙ ap (λ x. cond (not x) (stop InvalidUtf16 true) o) f.1 ∙ sym e) (subst IsTaken (sym e) tt)
+  Reads_add p q r fs (Err e) old new us vs c d l t i h s f = Refuses_fails p q r (next fs (quoted plain ((text old ++ decode us) ++ d ∷ []) [])) e (paired us) c l t i h tt s f
 
 -- ---- hexadecimal digits
 
 abbrev pub hexing : List Frame → List ℕ → List ℕ → List ℕ → Next
 hexing fs cs us ds = cond (nat_lt (length ds) 4) (next fs (quoted (hex ds) cs us)) (next fs (quoted plain cs (us ++ unit_of 0 ds ∷ [])))
 
-unit_of-push : (n : ℕ) (ds : List ℕ) (c : ℕ) → unit_of n (ds ++ c ∷ []) ≡ unit_of n ds * 16 + digit_value c
-unit_of-push n [] c = refl
-unit_of-push n (d ∷ ds) c = unit_of-push (n * 16 + digit_value d) ds c
+unit_of_push : (n : ℕ) (ds : List ℕ) (c : ℕ) → unit_of n (ds ++ c ∷ []) ≡ unit_of n ds * 16 + digit_value c
+unit_of_push n [] c = refl
+unit_of_push n (d ∷ ds) c = unit_of_push (n * 16 + digit_value d) ds c
 
 pub unit_grows : (ds : List ℕ) (c u d v : ℕ) → u ≡ unit_of 0 ds → d ≡ digit_value c → v ≡ u * 16 + d → v ≡ unit_of 0 (ds ++ c ∷ [])
-unit_grows ds c u d v a b e = e ∙ ap₂ (λ x y. x * 16 + y) a b ∙ sym (unit_of-push 0 ds c)
+unit_grows ds c u d v a b e = e ∙ ap₂ (λ x y. x * 16 + y) a b ∙ sym (unit_of_push 0 ds c)
 
 pub sixteen_small : (n : ℕ) → n < 4 → 16 ^ n ≤ 4096
 sixteen_small zero h = omega arith
@@ -136,7 +136,7 @@ plain_comes : (limit : Option ℕ) (fs : List Frame) (cs xs rest : List ℕ) →
     → Comes limit (next fs (quoted plain cs [])) xs (next fs (quoted plain (cs ++ xs) [])) rest
 plain_comes limit fs cs [] rest a =
     let n = next fs (quoted plain cs []) in
-    subst (λ ys. Comes limit n [] (next fs (quoted plain ys [])) rest) (sym (append-nil cs)) (Same-refl limit n rest, λ w. w)
+    subst (λ ys. Comes limit n [] (next fs (quoted plain ys [])) rest) (sym (append-nil cs)) (Same_refl limit n rest, λ w. w)
 plain_comes limit fs cs (c ∷ xs) rest a =
     let n = next fs (quoted plain (cs ++ c ∷ []) []) in
     let m : List ℕ → Next = λ ys. next fs (quoted plain ys []) in
@@ -144,8 +144,8 @@ plain_comes limit fs cs (c ∷ xs) rest a =
     (tt, subst IsTaken e tt, subst (λ z. Comes limit z xs (m (cs ++ c ∷ xs)) rest) e (subst (λ ys. Comes limit n xs (m ys) rest) (append_assoc cs (c ∷ []) xs) (plain_comes limit fs (cs ++ c ∷ []) xs rest a.1)))
 
 module _ {S : Type 0} (sight : Sight S) (limit : Option ℕ) {E : Type 0} (p q : S) (fs : List Frame) (old new us : List ℕ) where
-  Leads-plain : (r : Result (Unit {0}) E) (t : TakesRun sight is_plain p old r new q) → Leads sight limit p (next fs (quoted plain old [])) q (next fs (quoted plain (old ++ t.taken) []))
-  Leads-plain r t = record {
+  Leads_plain : (r : Result (Unit {0}) E) (t : TakesRun sight is_plain p old r new q) → Leads sight limit p (next fs (quoted plain old [])) q (next fs (quoted plain (old ++ t.taken) []))
+  Leads_plain r t = record {
     taken = t.taken;
     gives = λ zs g. let x = t.takes.gives zs g in (x.0, x.1, x.2, plain_comes limit fs old t.taken x.0 t.pass);
     moves = t.takes.moves;
@@ -155,11 +155,11 @@ module _ {S : Type 0} (sight : Sight S) (limit : Option ℕ) {E : Type 0} (p q :
   pub plain_added : (r : Result (Unit {0}) E) → us ≡ [] → is_err r ≡ false → TakesRun sight is_plain p old r new q → Leads sight limit p (next fs (quoted plain old us)) q (next fs (quoted plain new us))
   plain_added (Ok v) n h t =
       let m : List ℕ → List ℕ → Next = λ ys vs. next fs (quoted plain ys vs) in
-      subst (λ vs. Leads sight limit p (m old vs) q (m new vs)) (sym n) (subst (λ ys. Leads sight limit p (m old []) q (m ys [])) (sym t.added) (Leads-plain (Ok v) t))
+      subst (λ vs. Leads sight limit p (m old vs) q (m new vs)) (sym n) (subst (λ ys. Leads sight limit p (m old []) q (m ys [])) (sym t.added) (Leads_plain (Ok v) t))
   plain_added (Err e) n h t = absurd (true≢false h)
 
   pub plain_halts : (r : Result (Unit {0}) E) → us ≡ [] → TakesRun sight is_plain p old r new q → Halts sight limit p (next fs (quoted plain old us)) q
-  plain_halts r n t = subst (λ vs. Halts sight limit p (next fs (quoted plain old vs)) q) (sym n) (Halts-here sight limit p q (Leads-plain r t) tt tt)
+  plain_halts r n t = subst (λ vs. Halts sight limit p (next fs (quoted plain old vs)) q) (sym n) (Halts_here sight limit p q (Leads_plain r t) tt tt)
 
 pub short_read : (limit : Option ℕ) (fs : List Frame) (cs us : List ℕ) (c d : ℕ) → short_escape c ≡ Some d
     → onward limit (next fs (quoted backslash cs us)) c ≡ cond (not (paired us)) (stop InvalidUtf16 true) (next fs (quoted plain ((cs ++ decode us) ++ d ∷ []) []))
@@ -189,9 +189,9 @@ pub sixteen_next : (n : ℕ) → 16 ^ (n + 1) ≡ 16 ^ n * 16
 sixteen_next n = ap (λ m. 16 ^ m) (add-one n) ∙ pow-suc 16 n
 
 -- plain characters, and the quote that ends the string
-pub Leads-quoted : {S : Type 0} (sight : Sight S) (limit : Option ℕ) (p q : S) (fs : List Frame) (xs : List ℕ) → AllByRecursion (λ c. is_plain c ≡ true) xs → Takes sight p (xs ++ 34 ∷ []) q
+pub Leads_quoted : {S : Type 0} (sight : Sight S) (limit : Option ℕ) (p q : S) (fs : List Frame) (xs : List ℕ) → AllByRecursion (λ c. is_plain c ≡ true) xs → Takes sight p (xs ++ 34 ∷ []) q
     → Leads sight limit p (next fs (quoted plain [] [])) q (complete true fs (string xs) true)
-Leads-quoted sight limit p q fs xs a t =
+Leads_quoted sight limit p q fs xs a t =
     let n = next fs (quoted plain [] []) in
     let m = next fs (quoted plain xs []) in
     let o = complete true fs (string xs) true in
@@ -200,7 +200,7 @@ Leads-quoted sight limit p q fs xs a t =
       taken = xs ++ 34 ∷ [];
       gives = λ zs g.
           let x = t.gives zs g in
-          let ends : Comes limit m (34 ∷ []) o x.0 = (tt, subst IsTaken e (taken_complete fs (string xs)), subst (λ z. Comes limit z [] o x.0) e (Same-refl limit o x.0, λ w. w)) in
-          (x.0, x.1, x.2, Comes-trans limit n m o xs (34 ∷ []) x.0 (plain_comes limit fs [] xs (34 ∷ x.0) a) ends);
+          let ends : Comes limit m (34 ∷ []) o x.0 = (tt, subst IsTaken e (taken_complete fs (string xs)), subst (λ z. Comes limit z [] o x.0) e (Same_refl limit o x.0, λ w. w)) in
+          (x.0, x.1, x.2, Comes_trans limit n m o xs (34 ∷ []) x.0 (plain_comes limit fs [] xs (34 ∷ x.0) a) ends);
       moves = t.moves;
     }

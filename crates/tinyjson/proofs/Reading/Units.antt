@@ -12,8 +12,8 @@ use Rattle.std.specs.Iterator.{AlwaysYields}
 use Rattle.tinyjson_number.specs.Numeral.{has_leading_zero}
 use Rattle.tinyjson.specs.Characters.{is_high, is_low, is_surrogate, pair_of, paired, decode}
 
-pub text-push : (new old : String Global) (c : ℕ) → IsScalar c → string_bytes new ≡ string_bytes old ++ encode_utf8 c → text new ≡ text old ++ c ∷ []
-text-push new old c h e =
+pub text_push : (new old : String Global) (c : ℕ) → IsScalar c → string_bytes new ≡ string_bytes old ++ encode_utf8 c → text new ≡ text old ++ c ∷ []
+text_push new old c h e =
     ap chars e ∙ chars-append (string_bytes old) (encode_utf8 c) (IsUtf8-string_bytes old)
     ∙ ap (λ bs. text old ++ chars bs) (sym (append-nil (encode_utf8 c))) ∙ ap (λ cs. text old ++ cs) (chars-encodes (c ∷ []) (rw h refl))
 

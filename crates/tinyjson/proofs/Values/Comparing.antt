@@ -10,10 +10,10 @@ use Rattle.std.specs.Option.{option_eq, option_map}
 use Rattle.std.specs.Ordering.{match_ordering}
 use Rattle.std.specs.String.{string_eq, string_eq_equiv}
 use Rattle.tinyjson.proofs.Values.Entries.{find_members_of, members_of_sorted}
-use Rattle.tinyjson.proofs.Values.Members.{find_below, find-put, flip, found_first, key_same, members_from_find, same_key, some_none, sorted-put}
+use Rattle.tinyjson.proofs.Values.Members.{find_below, find_put, flip, found_first, key_same, members_from_find, same_key, some_none, sorted_put}
 use Rattle.tinyjson.proofs.Values.Views.{Entry, view_lookup}
 use Rattle.tinyjson.specs.private.Comparison.{has_entry, has_entries, rest_eq, rests_eq, rest_weight, rests_weight}
-use Rattle.tinyjson.specs.Equality.{tree_eq, tree_eq_decides, items_eq, members_eq, members_eq-Decides}
+use Rattle.tinyjson.specs.Equality.{tree_eq, tree_eq_decides, items_eq, members_eq, members_eq_Decides}
 use Rattle.tinyjson.specs.Soundness.{IsBelow, IsSorted}
 use Rattle.tinyjson.specs.Tree.{Tree, Members, no_members, member, key_cmp, put, find}
 use Rattle.tinyjson.specs.View.{text, view, seen_entries, items_view, members_view}
@@ -107,14 +107,14 @@ Within_same ms ns s r h le = members_from_find ms ns s r (λ q. by q (find q ms)
     more q u f x t g = at (bytes_eq x q) refl
       where
         at : (b : Bool) → bytes_eq x q ≡ b → find x ns ≡ Some t
-        at true e = ap (λ y. find y ns) ((bytes_eq-Decides x q).0 e) ∙ (f ∙ (sym (ap (λ b. cond b (Some u) (find x ms)) e) ∙ (sym (find-put x q u ms) ∙ g)))
-        at false e = h x t (sym (ap (λ b. cond b (Some u) (find x ms)) e) ∙ (sym (find-put x q u ms) ∙ g))
+        at true e = ap (λ y. find y ns) ((bytes_eq-Decides x q).0 e) ∙ (f ∙ (sym (ap (λ b. cond b (Some u) (find x ms)) e) ∙ (sym (find_put x q u ms) ∙ g)))
+        at false e = h x t (sym (ap (λ b. cond b (Some u) (find x ms)) e) ∙ (sym (find_put x q u ms) ∙ g))
 
     by : (q : List ℕ) (o : Option Tree) → find q ms ≡ o → (p : Option Tree) → find q ns ≡ p → find q ms ≡ find q ns
     by q (Some t) e p f = e ∙ sym (h q t e)
     by q None e None f = e ∙ sym f
     by q None e (Some u) f =
-        let a = Within_count (put q u ms) ns (sorted-put q u ms s) r (more q u f) in
+        let a = Within_count (put q u ms) ns (sorted_put q u ms s) r (more q u f) in
         let b = count_put_new q u ms e in
         absurd (omega (arith, a, b, le))
 
@@ -147,7 +147,7 @@ Within_entries [] ns h q t g = absurd (some_none t (sym g))
 Within_entries (e ∷ es) ns h q t g = by (bytes_eq q (text e.0)) refl (Within_entries es ns (second_true (has_entry ns e) _ h) q t)
   where
     g' : cond (bytes_eq q (text e.0)) (Some (view e.1)) (find q (members_view es)) ≡ Some t
-    g' = sym (find-put q (text e.0) (view e.1) (members_view es)) ∙ g
+    g' = sym (find_put q (text e.0) (view e.1) (members_view es)) ∙ g
 
     by : (b : Bool) → bytes_eq q (text e.0) ≡ b → (find q (members_view es) ≡ Some t → find q ns ≡ Some t) → find q ns ≡ Some t
     by true d rest =
@@ -161,11 +161,11 @@ entries_Within [] ns d w = refl
 entries_Within (e ∷ es) ns d w =
     let key = text e.0 in
     let more = members_view es in
-    let here = w key (view e.1) (find-put key key (view e.1) more ∙ ap (λ b. cond b (Some (view e.1)) (find key more)) (same_key key)) in
+    let here = w key (view e.1) (find_put key key (view e.1) more ∙ ap (λ b. cond b (Some (view e.1)) (find key more)) (same_key key)) in
     both_true (has_entry ns e) _ (found_has (view e.1) (find key ns) here) (entries_Within es ns d.1 (λ q t g. w q t (onto q t g)))
   where
     onto : (q : List ℕ) (t : Tree) → find q (members_view es) ≡ Some t → find q (put (text e.0) (view e.1) (members_view es)) ≡ Some t
-    onto q t g = find-put q (text e.0) (view e.1) (members_view es) ∙ (by (bytes_eq q (text e.0)) refl ∙ g)
+    onto q t g = find_put q (text e.0) (view e.1) (members_view es) ∙ (by (bytes_eq q (text e.0)) refl ∙ g)
       where
         by : (b : Bool) → bytes_eq q (text e.0) ≡ b → cond b (Some (view e.1)) (find q (members_view es)) ≡ find q (members_view es)
         by false x = refl
@@ -179,7 +179,7 @@ module _ (es fs : List Entry) (d : IsDistinct string_eq (keys_of es)) where
         λ h. Within_same (members_view es) (members_view fs) (members_of_sorted (seen_entries es)) (members_of_sorted (seen_entries fs)) (Within_entries es (members_view fs) h) le,
         λ e. entries_Within es (members_view fs) d (subst (λ ms. Within (members_view es) ms) e (λ q t g. g)),
       )
-      (members_eq-Decides (members_view es) (members_view fs))
+      (members_eq_Decides (members_view es) (members_view fs))
 
   -- objects of two lengths differ
   pub apart_entries : IsDistinct string_eq (keys_of fs) → (length es ≡ length fs → ⊥) → false ≡ members_eq (members_view es) (members_view fs)
@@ -187,7 +187,7 @@ module _ (es fs : List Entry) (d : IsDistinct string_eq (keys_of es)) where
     where
       by : (b : Bool) → members_eq (members_view es) (members_view fs) ≡ b → false ≡ b
       by false e = refl
-      by true e = absurd (differ (sym (count_entries es d) ∙ (ap count ((members_eq-Decides (members_view es) (members_view fs)).0 e) ∙ count_entries fs f)))
+      by true e = absurd (differ (sym (count_entries es d) ∙ (ap count ((members_eq_Decides (members_view es) (members_view fs)).0 e) ∙ count_entries fs f)))
 
 -- ---- what is left
 

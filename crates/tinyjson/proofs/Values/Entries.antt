@@ -6,7 +6,7 @@ use Rattle.std.proofs.lemmas.Str.{encodes-chars, IsUtf8-string_bytes}
 use Rattle.std.specs.Map.{lookup}
 use Rattle.std.specs.Str.{encode_utf8_all, chars}
 use Rattle.std.specs.String.{string_eq}
-use Rattle.tinyjson.proofs.Values.Members.{find-put, sorted-put, members_from_find}
+use Rattle.tinyjson.proofs.Values.Members.{find_put, sorted_put, members_from_find}
 use Rattle.tinyjson.specs.Tree.{Tree, put, find}
 use Rattle.tinyjson.specs.Soundness.{IsSorted}
 use Rattle.tinyjson.specs.View.{text, members_of}
@@ -29,13 +29,13 @@ text_eq s t =
 
 pub members_of_sorted : (es : List Seen) → IsSorted (members_of es)
 members_of_sorted [] = tt
-members_of_sorted (e ∷ es) = sorted-put (text e.0) e.1 (members_of es) (members_of_sorted es)
+members_of_sorted (e ∷ es) = sorted_put (text e.0) e.1 (members_of es) (members_of_sorted es)
 
 -- what is found among the members is what a look-up finds
 pub find_members_of : (k : String Global) (es : List Seen) → find (text k) (members_of es) ≡ lookup (string_eq k) es
 find_members_of k [] = refl
 find_members_of k (e ∷ es) =
-    find-put (text k) (text e.0) e.1 (members_of es) ∙ λ i. cond (text_eq k e.0 i) (Some e.1) (find_members_of k es i)
+    find_put (text k) (text e.0) e.1 (members_of es) ∙ λ i. cond (text_eq k e.0 i) (Some e.1) (find_members_of k es i)
 
 -- a key is found only if it is a text
 pub None_or_text : (q : List ℕ) (es : List Seen) → (find q (members_of es) ≡ None) ⊎ ((k : String Global) × (q ≡ text k))
@@ -45,7 +45,7 @@ None_or_text q (e ∷ es) = by (bytes_eq q (text e.0)) refl (None_or_text q es)
     by : (b : Bool) → bytes_eq q (text e.0) ≡ b → (find q (members_of es) ≡ None) ⊎ ((k : String Global) × (q ≡ text k))
         → (find q (put (text e.0) e.1 (members_of es)) ≡ None) ⊎ ((k : String Global) × (q ≡ text k))
     by true h r = inr (e.0, (bytes_eq-Decides q (text e.0)).0 h)
-    by false h (inl n) = inl (find-put q (text e.0) e.1 (members_of es) ∙ (ap (λ b. cond b (Some e.1) (find q (members_of es))) h ∙ n))
+    by false h (inl n) = inl (find_put q (text e.0) e.1 (members_of es) ∙ (ap (λ b. cond b (Some e.1) (find q (members_of es))) h ∙ n))
     by false h (inr t) = inr t
 
 abbrev pub SameLookups : List Seen → List Seen → Type 0

@@ -17,14 +17,14 @@ abbrev pub IsAbove : List ℕ → Members → Type 0
 IsAbove k no_members = ⊤
 IsAbove k (member l u ms) = (key_cmp k l ≡ Greater) × IsAbove k ms
 
-pub put-above : (k : List ℕ) (t : Tree) (ms : Members) → IsAbove k ms → put k t ms ≡ join ms (member k t no_members)
-put-above k t no_members h = refl
-put-above k t (member l u ms) h = rw h.0 (ap (member l u) (put-above k t ms h.1))
+pub put_above : (k : List ℕ) (t : Tree) (ms : Members) → IsAbove k ms → put k t ms ≡ join ms (member k t no_members)
+put_above k t no_members h = refl
+put_above k t (member l u ms) h = rw h.0 (ap (member l u) (put_above k t ms h.1))
 
-pub join-join : (ms ns os : Members) → join (join ms ns) os ≡ join ms (join ns os)
-join-join no_members ns os = refl
-join-join (member k t ms) ns os = ap (member k t) (join-join ms ns os)
+pub join_join : (ms ns os : Members) → join (join ms ns) os ≡ join ms (join ns os)
+join_join no_members ns os = refl
+join_join (member k t ms) ns os = ap (member k t) (join_join ms ns os)
 
-pub above-join : (k l : List ℕ) (t : Tree) (ms : Members) → key_cmp k l ≡ Less → IsAbove k ms → IsAbove l (join ms (member k t no_members))
-above-join k l t no_members e h = (key_greater k l e, tt)
-above-join k l t (member m u ms) e h = (key_greater m l (key_total.trans m k l (flip k m h.0) e), above-join k l t ms e h.1)
+pub above_join : (k l : List ℕ) (t : Tree) (ms : Members) → key_cmp k l ≡ Less → IsAbove k ms → IsAbove l (join ms (member k t no_members))
+above_join k l t no_members e h = (key_greater k l e, tt)
+above_join k l t (member m u ms) e h = (key_greater m l (key_total.trans m k l (flip k m h.0) e), above_join k l t ms e h.1)

@@ -57,9 +57,9 @@ find_put_at Greater q k l t u ms e later =
     ap (cond (bytes_eq q l) (Some u)) later ∙ cond_swap (bytes_eq q l) (bytes_eq q k) (Some u) (Some t) (find q ms) clash
 
 -- what was put at k is found there, and the rest as before
-pub find-put : (q k : List ℕ) (t : Tree) (ms : Members) → find q (put k t ms) ≡ cond (bytes_eq q k) (Some t) (find q ms)
-find-put q k t no_members = refl
-find-put q k t (member l u ms) = find_put_at (key_cmp k l) q k l t u ms refl (find-put q k t ms)
+pub find_put : (q k : List ℕ) (t : Tree) (ms : Members) → find q (put k t ms) ≡ cond (bytes_eq q k) (Some t) (find q ms)
+find_put q k t no_members = refl
+find_put q k t (member l u ms) = find_put_at (key_cmp k l) q k l t u ms refl (find_put q k t ms)
 
 below_trans : (k l : List ℕ) (ms : Members) → key_cmp k l ≡ Less → IsBelow l ms → IsBelow k ms
 below_trans k l no_members e b = tt
@@ -87,9 +87,9 @@ sorted_put_at Less k l t u ms e s later = (e, s)
 sorted_put_at Equal k l t u ms e s later = (subst (λ x. IsBelow x ms) (sym (key_same k l e)) s.0, s.1)
 sorted_put_at Greater k l t u ms e s later = (below_put l k t ms (flip k l e) s.0, later)
 
-pub sorted-put : (k : List ℕ) (t : Tree) (ms : Members) → IsSorted ms → IsSorted (put k t ms)
-sorted-put k t no_members s = (tt, tt)
-sorted-put k t (member l u ms) s = sorted_put_at (key_cmp k l) k l t u ms refl s (sorted-put k t ms s.1)
+pub sorted_put : (k : List ℕ) (t : Tree) (ms : Members) → IsSorted ms → IsSorted (put k t ms)
+sorted_put k t no_members s = (tt, tt)
+sorted_put k t (member l u ms) s = sorted_put_at (key_cmp k l) k l t u ms refl s (sorted_put k t ms s.1)
 
 cond_itself : {A : Type 0} (b : Bool) (x : A) → x ≡ cond b x x
 cond_itself true x = refl
@@ -105,9 +105,9 @@ find_remove_at false q k l u ms e later =
     ap (cond (bytes_eq q l) (Some u)) later ∙ cond_swap (bytes_eq q l) (bytes_eq q k) (Some u) None (find q ms) clash
 
 -- the removed key is not found, and the rest as before
-pub find-remove : (q k : List ℕ) (ms : Members) → find q (remove k ms) ≡ cond (bytes_eq q k) None (find q ms)
-find-remove q k no_members = cond_itself (bytes_eq q k) None
-find-remove q k (member l u ms) = find_remove_at (bytes_eq k l) q k l u ms refl (find-remove q k ms)
+pub find_remove : (q k : List ℕ) (ms : Members) → find q (remove k ms) ≡ cond (bytes_eq q k) None (find q ms)
+find_remove q k no_members = cond_itself (bytes_eq q k) None
+find_remove q k (member l u ms) = find_remove_at (bytes_eq k l) q k l u ms refl (find_remove q k ms)
 
 below_remove : (j k : List ℕ) (ms : Members) → IsSorted ms → IsBelow j ms → IsBelow j (remove k ms)
 below_remove j k no_members s h = tt
@@ -117,9 +117,9 @@ below_remove j k (member l u ms) s h = by (bytes_eq k l) (below_remove j k ms s.
     by true later = later
     by false later = h
 
-pub sorted-remove : (k : List ℕ) (ms : Members) → IsSorted ms → IsSorted (remove k ms)
-sorted-remove k no_members s = tt
-sorted-remove k (member l u ms) s = by (bytes_eq k l) (sorted-remove k ms s.1)
+pub sorted_remove : (k : List ℕ) (ms : Members) → IsSorted ms → IsSorted (remove k ms)
+sorted_remove k no_members s = tt
+sorted_remove k (member l u ms) s = by (bytes_eq k l) (sorted_remove k ms s.1)
   where
     by : (b : Bool) → IsSorted (remove k ms) → IsSorted (cond b (remove k ms) (member l u (remove k ms)))
     by true h = h

@@ -52,5 +52,5 @@ layer_sound (JsonValue-F.Array v) = items_sound v.items
 layer_sound (JsonValue-F.Object m) = (members_sound m.entries, members_of_sorted (seen_entries (map (λ (e : String Global × Sound). (e.0, e.1.0)) m.entries)))
 
 -- the tree of every value is sound
-pub view-IsTree : (v : JsonValue) → IsTree (view v)
-view-IsTree = ind-JsonValue Seen (λ x y e. subst (λ z. Seen (roll-JsonValue z)) e (subst IsTree (sym (fold-roll-JsonValue Tree view_step (held y))) (layer_sound y)))
+pub view_IsTree : (v : JsonValue) → IsTree (view v)
+view_IsTree = ind-JsonValue Seen (λ x y e. subst (λ z. Seen (roll-JsonValue z)) e (subst IsTree (sym (fold-roll-JsonValue Tree view_step (held y))) (layer_sound y)))

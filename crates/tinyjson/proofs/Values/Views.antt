@@ -9,7 +9,7 @@ use Rattle.std.specs.Map.{lookup, keys_of}
 use Rattle.std.specs.Prelude.{IsSome}
 use Rattle.std.specs.String.{string_eq, string_eq_equiv}
 use Rattle.tinyjson.proofs.Values.Entries.{members_from_lookups, members_of_sorted, find_members_of, None_or_text}
-use Rattle.tinyjson.proofs.Values.Members.{cond_swap, find-put, find-remove, sorted-put, sorted-remove, members_from_find}
+use Rattle.tinyjson.proofs.Values.Members.{cond_swap, find_put, find_remove, sorted_put, sorted_remove, members_from_find}
 use Rattle.tinyjson.specs.Soundness.{IsSorted}
 use Rattle.tinyjson.specs.Tree.{Tree, Members, put, find, remove}
 use Rattle.tinyjson.specs.View.{text, view, seen_entries, members_view}
@@ -37,8 +37,8 @@ members_view_updates old new k v h =
     view_lookup q new ∙ (ap (λ r. option_map view r) (h q ∙ side) ∙ sym (seen_value (string_eq q k) v _ _ (view_lookup q old))))
 
 -- a map with the same values at all keys
-pub members_view-same : (old new : List Entry) → ((q : String Global) → lookup (string_eq q) new ≡ lookup (string_eq q) old) → members_view new ≡ members_view old
-members_view-same old new h = members_from_lookups (seen_entries new) (seen_entries old) (λ q. view_lookup q new ∙ (ap (λ r. option_map view r) (h q) ∙ sym (view_lookup q old)))
+pub members_view_same : (old new : List Entry) → ((q : String Global) → lookup (string_eq q) new ≡ lookup (string_eq q) old) → members_view new ≡ members_view old
+members_view_same old new h = members_from_lookups (seen_entries new) (seen_entries old) (λ q. view_lookup q new ∙ (ap (λ r. option_map view r) (h q) ∙ sym (view_lookup q old)))
 
 differs_later : (d : String Global) (es : List Entry) (e : Entry) (more : List Entry) → AllByRecursion (λ y. string_eq d y ≡ false) (keys_of (es ++ e ∷ more)) → string_eq d e.0 ≡ false
 differs_later d [] e more h = h.0
@@ -66,11 +66,11 @@ key_eq bs k u =
     let bytes = bytes_eq-Decides bs (string_bytes k) in
     same_from_decides _ _ both (λ e. ap chars (bytes.0 e), λ e. bytes.1 (sym (encodes-chars bs u) ∙ (ap encode_utf8_all e ∙ encodes-chars (string_bytes k) (IsUtf8-string_bytes k))))
 
-pub find-members_view : (bs : List ℕ) → IsUtf8 bs → (es : List Entry) → find (chars bs) (members_view es) ≡ option_map view (lookup (λ k. bytes_eq bs (string_bytes k)) es)
-find-members_view bs u [] = refl
-find-members_view bs u (e ∷ es) =
-    find-put (chars bs) (text e.0) (view e.1) (members_view es)
-    ∙ (ap (λ b. cond b (Some (view e.1)) (find (chars bs) (members_view es))) (key_eq bs e.0 u) ∙ seen_value (bytes_eq bs (string_bytes e.0)) e.1 _ _ (find-members_view bs u es))
+pub find_members_view : (bs : List ℕ) → IsUtf8 bs → (es : List Entry) → find (chars bs) (members_view es) ≡ option_map view (lookup (λ k. bytes_eq bs (string_bytes k)) es)
+find_members_view bs u [] = refl
+find_members_view bs u (e ∷ es) =
+    find_put (chars bs) (text e.0) (view e.1) (members_view es)
+    ∙ (ap (λ b. cond b (Some (view e.1)) (find (chars bs) (members_view es))) (key_eq bs e.0 u) ∙ seen_value (bytes_eq bs (string_bytes e.0)) e.1 _ _ (find_members_view bs u es))
 
 option_map_cond : (b : Bool) (o p : Option JsonValue) → option_map view (cond b o p) ≡ cond b (option_map view o) (option_map view p)
 option_map_cond true o p = refl
@@ -122,9 +122,9 @@ pub members_view_writes : (old new : List Entry) (bs : List ℕ) (v : JsonValue)
     → members_view new ≡ put (chars bs) (view v) (members_view old)
 members_view_writes old new bs v u there updates =
     members_view_changes old new bs (Some v) (put (chars bs) (view v) (members_view old)) u updates
-    (λ q. find-put q (chars bs) (view v) (members_view old))
-    (λ n. absurd (none_there _ there (sym (find-members_view bs u old) ∙ n)))
-    (sorted-put (chars bs) (view v) (members_view old) (members_of_sorted (seen_entries old)))
+    (λ q. find_put q (chars bs) (view v) (members_view old))
+    (λ n. absurd (none_there _ there (sym (find_members_view bs u old) ∙ n)))
+    (sorted_put (chars bs) (view v) (members_view old) (members_of_sorted (seen_entries old)))
 
 -- a map without the entry at a key, and at other keys what it had
 pub members_view_removes : (old new : List Entry) (bs : List ℕ) → IsUtf8 bs
@@ -132,9 +132,9 @@ pub members_view_removes : (old new : List Entry) (bs : List ℕ) → IsUtf8 bs
     → members_view new ≡ remove (chars bs) (members_view old)
 members_view_removes old new bs u updates =
     members_view_changes old new bs None (remove (chars bs) (members_view old)) u updates
-    (λ q. find-remove q (chars bs) (members_view old))
+    (λ q. find_remove q (chars bs) (members_view old))
     (λ n. refl)
-    (sorted-remove (chars bs) (members_view old) (members_of_sorted (seen_entries old)))
+    (sorted_remove (chars bs) (members_view old) (members_of_sorted (seen_entries old)))
 
 -- the tree of a reference that may be there
 pub view_ref : (r : Option (Bor JsonValue)) → option_map (λ x. view x.now) r ≡ option_map view (option_map (λ x. x.now) r)

@@ -8,20 +8,20 @@ use Rattle.std.proofs.lemmas.Str.{digit_value-digit_char}
 use Rattle.tinyjson.specs.Characters.{decode, paired, is_hex}
 use Rattle.tinyjson.specs.Syntax.{Piece, plain, escape, unit, piece_text, pieces_text, IsPiece, ArePieces, code, piece_codes}
 use Rattle.tinyjson.specs.Text as written
-use Rattle.tinyjson.proofs.Grammar.Accepts.String.{decode-cons, paired-cons, scalar-no_surrogate}
+use Rattle.tinyjson.proofs.Grammar.Accepts.String.{decode_cons, paired_cons, scalar_no_surrogate}
 
 -- ---- characters
 
-pub scalar-parts : (c : ℕ) (cs : List ℕ) → IsTrue (all_scalars (c ∷ cs)) → IsScalar c × IsTrue (all_scalars cs)
-scalar-parts c cs h = and_parts _ (all_scalars cs) h
+pub scalar_parts : (c : ℕ) (cs : List ℕ) → IsTrue (all_scalars (c ∷ cs)) → IsScalar c × IsTrue (all_scalars cs)
+scalar_parts c cs h = and_parts _ (all_scalars cs) h
 
-pub decode-scalars : (cs : List ℕ) → IsTrue (all_scalars cs) → decode cs ≡ cs
-decode-scalars [] h = refl
-decode-scalars (c ∷ cs) h = let k = scalar-parts c cs h in decode-cons c cs (scalar-no_surrogate c k.0) ∙ ap (λ z. c ∷ z) (decode-scalars cs k.1)
+pub decode_scalars : (cs : List ℕ) → IsTrue (all_scalars cs) → decode cs ≡ cs
+decode_scalars [] h = refl
+decode_scalars (c ∷ cs) h = let k = scalar_parts c cs h in decode_cons c cs (scalar_no_surrogate c k.0) ∙ ap (λ z. c ∷ z) (decode_scalars cs k.1)
 
-pub paired-scalars : (cs : List ℕ) → IsTrue (all_scalars cs) → IsTrue (paired cs)
-paired-scalars [] h = refl
-paired-scalars (c ∷ cs) h = let k = scalar-parts c cs h in paired-cons c cs (scalar-no_surrogate c k.0) ∙ paired-scalars cs k.1
+pub paired_scalars : (cs : List ℕ) → IsTrue (all_scalars cs) → IsTrue (paired cs)
+paired_scalars [] h = refl
+paired_scalars (c ∷ cs) h = let k = scalar_parts c cs h in paired_cons c cs (scalar_no_surrogate c k.0) ∙ paired_scalars cs k.1
 
 -- ---- pieces
 
@@ -35,14 +35,14 @@ record StandsFor (c : ℕ) (xs : List ℕ) : Type 0 where
 short : (c d n : ℕ) → IsPiece (escape d) → code (escape d) ≡ n → (c == n) ≡ true → StandsFor c (92 ∷ d ∷ [])
 short c d n h e k = let same : n ≡ c = grind (arith, nat_tests) in record { piece = escape d; is = h; code = e ∙ same; text = refl }
 
-hex-char : (d : ℕ) → d < 16 → IsTrue (is_hex (digit_char d))
-hex-char d h = let e = digit_value-digit_char d (omega arith) in lt-ltb (digit_value (digit_char d)) 16 (omega arith)
+hex_char : (d : ℕ) → d < 16 → IsTrue (is_hex (digit_char d))
+hex_char d h = let e = digit_value-digit_char d (omega arith) in lt-ltb (digit_value (digit_char d)) 16 (omega arith)
 
 control : (c : ℕ) → nat_lt c 32 ≡ true → StandsFor c (92 ∷ 117 ∷ 48 ∷ 48 ∷ digit_char (c / 16) ∷ digit_char (c % 16) ∷ [])
 control c h =
     let l = ltb-true c 32 h in record {
       piece = unit 48 48 (digit_char (c / 16)) (digit_char (c % 16));
-      is = (refl, refl, hex-char (c / 16) (omega arith), hex-char (c % 16) (omega arith));
+      is = (refl, refl, hex_char (c / 16) (omega arith), hex_char (c % 16) (omega arith));
       code = omega (arith, digit_value-digit_char (c / 16) (omega arith), digit_value-digit_char (c % 16) (omega arith));
       text = refl;
     }
@@ -70,12 +70,12 @@ pub record StandFor (cs xs : List ℕ) : Type 0 where
   pub codes : piece_codes pieces ≡ cs
   pub text : pieces_text pieces ≡ xs
 
-pub escapes-stand : (cs : List ℕ) → IsTrue (all_scalars cs) → StandFor cs (written.escapes cs)
-escapes-stand [] h = record { pieces = []; are = tt; codes = refl; text = refl }
-escapes-stand (c ∷ cs) h =
-    let k = scalar-parts c cs h in
+pub escapes_stand : (cs : List ℕ) → IsTrue (all_scalars cs) → StandFor cs (written.escapes cs)
+escapes_stand [] h = record { pieces = []; are = tt; codes = refl; text = refl }
+escapes_stand (c ∷ cs) h =
+    let k = scalar_parts c cs h in
     let one = escaped c k.0 in
-    let more = escapes-stand cs k.1 in record {
+    let more = escapes_stand cs k.1 in record {
       pieces = one.piece ∷ more.pieces;
       are = (one.is, more.are);
       codes = λ i. one.code i ∷ more.codes i;

@@ -63,17 +63,17 @@ module _ (xs : List ℕ) (n : ℕ) (e : n ≡ 0 + prefix_len is_plain xs) where
 pub high : (c : ℕ) → 128 ≤ c → escape c ≡ c ∷ []
 high c h = grind (arith, nat_tests)
 
-escapes-append : (xs ys : List ℕ) → escapes (xs ++ ys) ≡ escapes xs ++ escapes ys
-escapes-append [] ys = refl
-escapes-append (x ∷ xs) ys = ap (λ w. escape x ++ w) (escapes-append xs ys) ∙ sym (append_assoc (escape x) (escapes xs) (escapes ys))
+escapes_append : (xs ys : List ℕ) → escapes (xs ++ ys) ≡ escapes xs ++ escapes ys
+escapes_append [] ys = refl
+escapes_append (x ∷ xs) ys = ap (λ w. escape x ++ w) (escapes_append xs ys) ∙ sym (append_assoc (escape x) (escapes xs) (escapes ys))
 
 escapes_high : (bs : List ℕ) → ((k : ℕ) → k < length bs → 128 ≤ get_or bs k 0) → escapes bs ≡ bs
 escapes_high [] h = refl
 escapes_high (b ∷ bs) h = ap (λ w. w ++ escapes bs) (high b (h 0 (omega arith))) ∙ ap (λ w. b ∷ w) (escapes_high bs (λ k l. h (suc k) (omega arith)))
 
-ascii-cond : (b : Bool) (xs ys : List ℕ) → IsAscii xs → IsAscii ys → IsAscii (cond b xs ys)
-ascii-cond true xs ys h k = h
-ascii-cond false xs ys h k = k
+ascii_cond : (b : Bool) (xs ys : List ℕ) → IsAscii xs → IsAscii ys → IsAscii (cond b xs ys)
+ascii_cond true xs ys h k = h
+ascii_cond false xs ys h k = k
 
 digit_ascii : (d : ℕ) → d < 16 → digit_char d < 128
 digit_ascii d h = elim (nat_lt d 10) as (λ b. cond b (48 + d) (87 + d) < 128) [ true ↦ omega arith | false ↦ omega arith ]
@@ -89,9 +89,9 @@ pub escape_ascii : (c : ℕ) → c < 128 → IsAscii (escape c)
 escape_ascii c h =
     let short : (d : ℕ) → d < 128 → IsAscii (92 ∷ d ∷ []) = λ d l. two_ascii 92 d (lit< tt) l in
     let hex = hex_ascii (digit_char (c / 16)) (digit_char (c % 16)) (digit_ascii (c / 16) (omega arith)) (digit_ascii (c % 16) (omega arith)) in
-    ascii-cond (c == 8) _ _ (short 98 (lit< tt)) (ascii-cond (c == 9) _ _ (short 116 (lit< tt)) (ascii-cond (c == 10) _ _ (short 110 (lit< tt))
-    (ascii-cond (c == 12) _ _ (short 102 (lit< tt)) (ascii-cond (c == 13) _ _ (short 114 (lit< tt)) (ascii-cond (c == 34) _ _ (short 34 (lit< tt))
-    (ascii-cond (c == 92) _ _ (short 92 (lit< tt)) (ascii-cond (nat_lt c 32) _ _ hex (more_ascii c [] h none_ascii))))))))
+    ascii_cond (c == 8) _ _ (short 98 (lit< tt)) (ascii_cond (c == 9) _ _ (short 116 (lit< tt)) (ascii_cond (c == 10) _ _ (short 110 (lit< tt))
+    (ascii_cond (c == 12) _ _ (short 102 (lit< tt)) (ascii_cond (c == 13) _ _ (short 114 (lit< tt)) (ascii_cond (c == 34) _ _ (short 34 (lit< tt))
+    (ascii_cond (c == 92) _ _ (short 92 (lit< tt)) (ascii_cond (nat_lt c 32) _ _ hex (more_ascii c [] h none_ascii))))))))
 
 pub le_or_lt : (a b : ℕ) → (a ≤ b) ⊎ (b < a)
 le_or_lt zero b = inl (omega arith)
@@ -112,7 +112,7 @@ enc_escape c = elim (le_or_lt 128 c) [
 
 enc_escapes : (cs : List ℕ) → enc (escapes cs) ≡ escapes (enc cs)
 enc_escapes [] = refl
-enc_escapes (c ∷ cs) = encodes-append (escape c) (escapes cs) ∙ ap (λ w. w ++ enc (escapes cs)) (enc_escape c) ∙ ap (λ w. escapes (encode c) ++ w) (enc_escapes cs) ∙ sym (escapes-append (encode c) (enc cs))
+enc_escapes (c ∷ cs) = encodes-append (escape c) (escapes cs) ∙ ap (λ w. w ++ enc (escapes cs)) (enc_escape c) ∙ ap (λ w. escapes (encode c) ++ w) (enc_escapes cs) ∙ sym (escapes_append (encode c) (enc cs))
 
 -- a quoted text: its bytes with escapes, between quotes
 pub quoted_bytes : (bs : List ℕ) → IsUtf8 bs → enc (quoted (chars bs)) ≡ 34 ∷ [] ++ (escapes bs ++ 34 ∷ [])

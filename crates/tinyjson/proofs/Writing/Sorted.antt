@@ -28,7 +28,7 @@ use Rattle.tinyjson.specs.Soundness.{IsBelow, IsSorted}
 use Rattle.tinyjson.specs.View.{text, view, members_view}
 use Rattle.tinyjson.specs.private.Sorted.{sorted_view, bytes_pair, now_pair}
 use Rattle.tinyjson.specs.declared.value.JsonValue.{JsonValue}
-use Rattle.tinyjson.proofs.Values.Members.{find-put, sorted-put, members_from_find}
+use Rattle.tinyjson.proofs.Values.Members.{find_put, sorted_put, members_from_find}
 use Rattle.tinyjson.proofs.Values.Entries.{text_eq}
 
 abbrev pub Entry : Type 0
@@ -64,13 +64,13 @@ abbrev put_all : List Seen → Members
 put_all [] = no_members
 put_all (e ∷ es) = put e.0 e.1 (put_all es)
 
-sorted-put_all : (es : List Seen) → IsSorted (put_all es)
-sorted-put_all [] = tt
-sorted-put_all (e ∷ es) = sorted-put e.0 e.1 (put_all es) (sorted-put_all es)
+sorted_put_all : (es : List Seen) → IsSorted (put_all es)
+sorted_put_all [] = tt
+sorted_put_all (e ∷ es) = sorted_put e.0 e.1 (put_all es) (sorted_put_all es)
 
-find-put_all : (q : List ℕ) (es : List Seen) → find q (put_all es) ≡ lookup (bytes_eq q) es
-find-put_all q [] = refl
-find-put_all q (e ∷ es) = find-put q e.0 e.1 (put_all es) ∙ ap (cond (bytes_eq q e.0) (Some e.1)) (find-put_all q es)
+find_put_all : (q : List ℕ) (es : List Seen) → find q (put_all es) ≡ lookup (bytes_eq q) es
+find_put_all q [] = refl
+find_put_all q (e ∷ es) = find_put q e.0 e.1 (put_all es) ∙ ap (cond (bytes_eq q e.0) (Some e.1)) (find_put_all q es)
 
 same_option : {X : Type 0} (a b : Option X) → ((x : X) → a ≡ Some x → b ≡ Some x) → ((x : X) → b ≡ Some x → a ≡ Some x) → a ≡ b
 same_option None None f g = refl
@@ -82,15 +82,15 @@ carried es fs d p q t h =
     lookup-from_Contains nat_list_eq_equiv q t fs d (Contains-permutation es fs (q, t) p (Contains-from_lookup (λ x y. (bytes_eq-Decides x y).0) q t es h))
 
 -- members whose keys differ may be put in any order
-put_all-permutation : (es fs : List Seen) → IsDistinct bytes_eq (keys_of es) → IsPermutation es fs → put_all es ≡ put_all fs
-put_all-permutation es fs d p =
+put_all_permutation : (es fs : List Seen) → IsDistinct bytes_eq (keys_of es) → IsPermutation es fs → put_all es ≡ put_all fs
+put_all_permutation es fs d p =
     let c = IsDistinct-IsPermutation bytes_eq nat_list_eq_equiv.symm (keys_of es) (keys_of fs) (IsPermutation-map (λ e. e.0) es fs p) d in
-    members_from_find (put_all es) (put_all fs) (sorted-put_all es) (sorted-put_all fs) (λ q.
-    find-put_all q es ∙ same_option _ _ (carried es fs c p q) (carried fs es d (IsPermutation-sym es fs p) q) ∙ sym (find-put_all q fs))
+    members_from_find (put_all es) (put_all fs) (sorted_put_all es) (sorted_put_all fs) (λ q.
+    find_put_all q es ∙ same_option _ _ (carried es fs c p q) (carried fs es d (IsPermutation-sym es fs p) q) ∙ sym (find_put_all q fs))
 
-put-below : (k : List ℕ) (t : Tree) (ms : Members) → IsBelow k ms → put k t ms ≡ member k t ms
-put-below k t no_members h = refl
-put-below k t (member l u ms) h = ap (λ o. match_ordering o (member k t (member l u ms)) (member k t ms) (member l u (put k t ms))) h
+put_below : (k : List ℕ) (t : Tree) (ms : Members) → IsBelow k ms → put k t ms ≡ member k t ms
+put_below k t no_members h = refl
+put_below k t (member l u ms) h = ap (λ o. match_ordering o (member k t (member l u ms)) (member k t ms) (member l u (put k t ms))) h
 
 -- ---- the pairs that were sorted
 
@@ -101,13 +101,13 @@ seen_bytes : (es : List Entry) → map seen (map bytes_pair es) ≡ map (λ (e :
 seen_bytes [] = refl
 seen_bytes (e ∷ es) = ap (λ w. (text e.0, view e.1) ∷ w) (seen_bytes es)
 
-put_all-entries : (es : List Entry) → put_all (map seen (map bytes_pair es)) ≡ members_view es
-put_all-entries [] = refl
-put_all-entries (e ∷ es) = ap (put (text e.0) (view e.1)) (put_all-entries es)
+put_all_entries : (es : List Entry) → put_all (map seen (map bytes_pair es)) ≡ members_view es
+put_all_entries [] = refl
+put_all_entries (e ∷ es) = ap (put (text e.0) (view e.1)) (put_all_entries es)
 
-put_all-pairs : (ps : List Pair) → IsSorted (sorted_view ps) → put_all (map seen (map now_pair ps)) ≡ sorted_view ps
-put_all-pairs [] s = refl
-put_all-pairs (p ∷ ps) s = ap (put (chars p.0.now) (view p.1.now)) (put_all-pairs ps s.1) ∙ put-below (chars p.0.now) (view p.1.now) (sorted_view ps) s.0
+put_all_pairs : (ps : List Pair) → IsSorted (sorted_view ps) → put_all (map seen (map now_pair ps)) ≡ sorted_view ps
+put_all_pairs [] s = refl
+put_all_pairs (p ∷ ps) s = ap (put (chars p.0.now) (view p.1.now)) (put_all_pairs ps s.1) ∙ put_below (chars p.0.now) (view p.1.now) (sorted_view ps) s.0
 
 abbrev pub key : Pair → List ℕ
 key p = p.0.now
@@ -165,9 +165,9 @@ sorted_members_view es ps d p s =
     let distinct = IsDistinct-IsPermutation (eq_by_cmp bytes_cmp) (eq_by_cmp_equiv nat_list_cmp_total).symm (keys_of (map bytes_pair es)) (map key ps) q bytes in
     let utf8 = all_shuffled IsUtf8 (keys_of (map bytes_pair es)) (map key ps) q (keys_utf8 es) in
     let seen_distinct = subst (λ w. IsDistinct bytes_eq (keys_of w)) (sym (seen_bytes es)) (distinct_read bytes_eq text view text_eq es d) in
-    sym (put_all-pairs ps (in_order ps utf8 (rises ps distinct s)))
-    ∙ sym (put_all-permutation (map seen (map bytes_pair es)) (map seen (map now_pair ps)) seen_distinct (IsPermutation-map seen (map bytes_pair es) (map now_pair ps) p))
-    ∙ put_all-entries es
+    sym (put_all_pairs ps (in_order ps utf8 (rises ps distinct s)))
+    ∙ sym (put_all_permutation (map seen (map bytes_pair es)) (map seen (map now_pair ps)) seen_distinct (IsPermutation-map seen (map bytes_pair es) (map now_pair ps) p))
+    ∙ put_all_entries es
 
 -- ---- members gathered behind others
 
@@ -189,8 +189,8 @@ regathered len s old xs ds ys e f l b n =
     subst (λ z. take len (put_mid s (length z - s) z ys ++ drop (length (put_mid s (length z - s) z ys)) xs) ≡ old ++ ys) (sym e)
     (rebuilt len s xs ys l fits m ∙ ap (λ w. w ++ ys) (ap (λ k. take k xs) f ∙ b))
 
-pub regathered-IsPermutation : (s : ℕ) (old xs ds ys : List Pair) → ds ≡ xs → s ≡ length old → IsPermutation (take (length ds - s) (drop s ds)) ys → IsPermutation (drop (length old) xs) ys
-regathered-IsPermutation s old xs ds ys e f p =
+pub regathered_IsPermutation : (s : ℕ) (old xs ds ys : List Pair) → ds ≡ xs → s ≡ length old → IsPermutation (take (length ds - s) (drop s ds)) ys → IsPermutation (drop (length old) xs) ys
+regathered_IsPermutation s old xs ds ys e f p =
     subst (λ w. IsPermutation w ys) (take_all (length ds - s) (drop s ds) (omega (arith, length-drop s ds)) ∙ ap (λ z. drop s z) e ∙ ap (λ k. drop k xs) f) p
 
 module _ (es : List Entry) (old added ys : List Pair) (same : map now_pair added ≡ map bytes_pair es) (p : IsPermutation added ys) where

@@ -11,19 +11,19 @@ Appends-trans (Some xs) None new a b h k = absurd h
 Appends-trans (Some xs) (Some ys) None a b h k = absurd k
 Appends-trans (Some xs) (Some ys) (Some zs) a b h k = k ∙ ap (λ w. w ++ b) h ∙ append_assoc xs a b
 
-pub Appends-nothing : (old : Option (List ℕ)) → Appends old old []
-Appends-nothing None = tt
-Appends-nothing (Some xs) = sym (append-nil xs)
+pub Appends_nothing : (old : Option (List ℕ)) → Appends old old []
+Appends_nothing None = tt
+Appends_nothing (Some xs) = sym (append-nil xs)
 
-pub Appends-keeps : (old mid new : Option (List ℕ)) (a : List ℕ) → Appends old mid a → Keeps mid new → Appends old new a
-Appends-keeps None mid new a h k = tt
-Appends-keeps (Some xs) None new a h k = absurd h
-Appends-keeps (Some xs) (Some ys) None a h k = absurd k
-Appends-keeps (Some xs) (Some ys) (Some zs) a h k = k ∙ h
+pub Appends_keeps : (old mid new : Option (List ℕ)) (a : List ℕ) → Appends old mid a → Keeps mid new → Appends old new a
+Appends_keeps None mid new a h k = tt
+Appends_keeps (Some xs) None new a h k = absurd h
+Appends_keeps (Some xs) (Some ys) None a h k = absurd k
+Appends_keeps (Some xs) (Some ys) (Some zs) a h k = k ∙ h
 
 -- before the first write
 pub written_none : (old : Option (List ℕ)) (bytes rest : List ℕ) → bytes ≡ rest → Written old old bytes rest
-written_none old bytes rest e = record { done = []; split = e; appended = Appends-nothing old }
+written_none old bytes rest e = record { done = []; split = e; appended = Appends_nothing old }
 
 -- a piece is written, or the part of it before `left`
 pub written_more : {old mid new : Option (List ℕ)} {bytes piece left : List ℕ} (rest : List ℕ) → Written old mid bytes (piece ++ rest) → Written mid new piece left → Written old new bytes (left ++ rest)
@@ -43,7 +43,7 @@ written_take {old} {mid} {new} {bytes} {rest} n h k = record {
 
 -- a call of `write` failed
 pub written_same : {old mid new : Option (List ℕ)} {bytes rest : List ℕ} → Written old mid bytes rest → Keeps mid new → Written old new bytes rest
-written_same {old} {mid} {new} {bytes} {rest} h k = record { done = h.done; split = h.split; appended = Appends-keeps old mid new h.done h.appended k }
+written_same {old} {mid} {new} {bytes} {rest} h k = record { done = h.done; split = h.split; appended = Appends_keeps old mid new h.done h.appended k }
 
 -- a piece is written
 pub goes : {old mid new : Option (List ℕ)} {bytes piece : List ℕ} (rest : List ℕ) → Written mid new piece [] → Written old mid bytes (piece ++ rest) → Written old new bytes rest

@@ -26,10 +26,10 @@ use Rattle.tinyjson.specs.declared.value.JsonValue.TheVariants as made
 -- ---- the tree of a variant
 
 pub null_has_no_item : (i : ℕ) → tree_at (view made.Null) i ≡ None
-null_has_no_item i = ap (λ t. tree_at t i) callers.view-Null
+null_has_no_item i = ap (λ t. tree_at t i) callers.view_Null
 
 pub true_is_seen : view (made.Boolean true) ≡ boolean true
-true_is_seen = callers.view-Boolean true
+true_is_seen = callers.view_Boolean true
 
 -- ---- of two values with one tree the other has the same part
 
@@ -54,16 +54,16 @@ pub port_is_there : (v x : JsonValue) → member_at v (codes "port") ≡ Some x 
 port_is_there v x h = callers.tree_at_literal v (codes "port") refl ∙ ap (option_map view) h
 
 pub member_is_there : (v x : JsonValue) (k : String Global) → member_at v (string_bytes k) ≡ Some x → tree_at_key (view v) (text k) ≡ Some (view x)
-member_is_there v x k h = callers.tree_at_key-view v (string_bytes k) (callers.IsUtf8-string_bytes k) ∙ ap (option_map view) h
+member_is_there v x k h = callers.tree_at_key_view v (string_bytes k) (callers.IsUtf8-string_bytes k) ∙ ap (option_map view) h
 
 pub got_is_there : (m : JsonMap) (x : JsonValue) (k : String Global) → get string_eq m k ≡ Some x → find (text k) (members_view m.entries) ≡ Some (view x)
-got_is_there m x k h = callers.find-get_text m k ∙ ap (option_map view) h
+got_is_there m x k h = callers.find_get_text m k ∙ ap (option_map view) h
 
 pub none_is_found : (es : List Entry) (k : String Global) → lookup (λ q. bytes_eq (string_bytes k) (string_bytes q)) es ≡ None → find (text k) (members_view es) ≡ None
-none_is_found es k h = callers.find-members_view (string_bytes k) (callers.IsUtf8-string_bytes k) es ∙ ap (option_map view) h
+none_is_found es k h = callers.find_members_view (string_bytes k) (callers.IsUtf8-string_bytes k) es ∙ ap (option_map view) h
 
 pub no_item : (v : JsonValue) (i : ℕ) → tree_at (view v) i ≡ None → item_at v i ≡ None
-no_item v i h = callers.none_from_tree (item_at v i) (sym (callers.tree_at-view v i) ∙ h)
+no_item v i h = callers.none_from_tree (item_at v i) (sym (callers.tree_at_view v i) ∙ h)
 
 pub one_more_entry : (done : List Entry) (e : Entry) → IsDistinct string_eq (keys_of (done ++ e ∷ [])) → members_view (done ++ e ∷ []) ≡ put (text e.0) (view e.1) (members_view done)
 one_more_entry done e h = callers.members_view_last done e [] h
@@ -74,60 +74,60 @@ entry_at es k t h = callers.entry_from_find es k t h
 -- ---- after a change
 
 pub inserted_is_found : (m n : JsonMap) (k : String Global) (v : JsonValue) → Updates string_eq m n k (Some v) → find (text k) (members_view n.entries) ≡ Some (view v)
-inserted_is_found m n k v h = ap (find (text k)) (callers.members_view-insert m n k v h) ∙ callers.find-put_same (text k) (view v) (members_view m.entries)
+inserted_is_found m n k v h = ap (find (text k)) (callers.members_view_insert m n k v h) ∙ callers.find_put_same (text k) (view v) (members_view m.entries)
 
 module _ (m n : JsonMap) (k : String Global) (change : UpdatesBy string_eq (λ q. bytes_eq (string_bytes k) (string_bytes q)) m n None) where
   left : members_view n.entries ≡ remove (text k) (members_view m.entries)
-  left = callers.members_view-remove m n (string_bytes k) (callers.IsUtf8-string_bytes k) change
+  left = callers.members_view_remove m n (string_bytes k) (callers.IsUtf8-string_bytes k) change
 
   pub removed_is_gone : find (text k) (members_view n.entries) ≡ None
-  removed_is_gone = ap (find (text k)) left ∙ callers.find-remove_same (text k) (members_view m.entries)
+  removed_is_gone = ap (find (text k)) left ∙ callers.find_remove_same (text k) (members_view m.entries)
 
   pub others_stay : (q : List ℕ) → q ≢ text k → find q (members_view n.entries) ≡ find q (members_view m.entries)
-  others_stay q apart = ap (find q) left ∙ callers.find-remove_other q (text k) (members_view m.entries) apart
+  others_stay q apart = ap (find q) left ∙ callers.find_remove_other q (text k) (members_view m.entries) apart
 
 -- a member that is removed and put again
 pub put_again : (k : List ℕ) (u : Tree) (ms : Members) → IsSorted ms → find k ms ≡ Some u → put k u (remove k ms) ≡ ms
 put_again k u ms s h =
-    callers.members_from_find (put k u (remove k ms)) ms (callers.sorted-put k u (remove k ms) (callers.sorted-remove k ms s)) s (λ q. callers.find-put q k u (remove k ms) ∙ by q (bytes_eq q k) refl)
+    callers.members_from_find (put k u (remove k ms)) ms (callers.sorted_put k u (remove k ms) (callers.sorted_remove k ms s)) s (λ q. callers.find_put q k u (remove k ms) ∙ by q (bytes_eq q k) refl)
   where
     by : (q : List ℕ) (b : Bool) → bytes_eq q k ≡ b → cond b (Some u) (find q (remove k ms)) ≡ find q ms
     by q true e = sym (ap (λ x. find x ms) ((bytes_eq-Decides q k).0 e) ∙ h)
-    by q false e = callers.find-remove q k ms ∙ ap (λ b. cond b None (find q ms)) e
+    by q false e = callers.find_remove q k ms ∙ ap (λ b. cond b None (find q ms)) e
 
 pub pushed_is_last : (vs : List JsonValue) (v : JsonValue) → array (items_view (vs ++ v ∷ [])) ≡ array (with_last (items_view vs) (view v))
-pushed_is_last vs v = ap array (callers.items_view-push vs v)
+pushed_is_last vs v = ap array (callers.items_view_push vs v)
 
 pub item_written : (v : JsonValue) (l : Vec JsonValue Global) (i j : ℕ) (w : JsonValue) → array_part v ≡ Some l → tree_at (view (made.Array (with_item l i w))) j ≡ tree_at (with_tree_at (view v) i (view w)) j
-item_written v l i j w held = ap (λ t. tree_at t j) (callers.tree-with_item v l i w held)
+item_written v l i j w held = ap (λ t. tree_at t j) (callers.tree_with_item v l i w held)
 
 pub member_written : (v : JsonValue) (m n : JsonMap) (k : String Global) (w : JsonValue) → object_part v ≡ Some m → IsSome (get_by_text m (string_bytes k))
     → UpdatesBy string_eq (λ q. bytes_eq (string_bytes k) (string_bytes q)) m n (Some w) → view (made.Object n) ≡ with_tree_at_key (view v) (text k) (view w)
-member_written v m n k w held there h = callers.tree-with_member v m n (string_bytes k) w (callers.IsUtf8-string_bytes k) held there h.0
+member_written v m n k w held there h = callers.tree_with_member v m n (string_bytes k) w (callers.IsUtf8-string_bytes k) held there h.0
 
 -- ---- a found part put back
 
 pub item_put_back : (v x : JsonValue) (i : ℕ) → item_at v i ≡ Some x → with_tree_at (view v) i (view x) ≡ view v
-item_put_back v x i h = callers.with_tree_at-back (view v) i (view x) (callers.tree_at-view v i ∙ ap (option_map view) h)
+item_put_back v x i h = callers.with_tree_at_back (view v) i (view x) (callers.tree_at_view v i ∙ ap (option_map view) h)
 
 pub member_put_back : (v x : JsonValue) (k : String Global) → member_at v (string_bytes k) ≡ Some x → with_tree_at_key (view v) (text k) (view x) ≡ view v
-member_put_back v x k h = callers.with_tree_at_key-back (view v) (text k) (view x) (callers.view-IsTree v) (member_is_there v x k h)
+member_put_back v x k h = callers.with_tree_at_key_back (view v) (text k) (view x) (callers.view_IsTree v) (member_is_there v x k h)
 
 -- ---- texts
 
 pub compact_is_accepted : (v : JsonValue) → IsAccepted None (compact (view v))
-compact_is_accepted v = (view v, callers.compact-reads_back v)
+compact_is_accepted v = (view v, callers.compact_read_back v)
 
 pub one_compact : (v w : JsonValue) → encode_utf8_all (compact (view v)) ≡ encode_utf8_all (compact (view w)) → compact (view v) ≡ compact (view w)
-one_compact v w h = sym (callers.chars-compact v) ∙ (ap chars h ∙ callers.chars-compact w)
+one_compact v w h = sym (callers.chars_compact v) ∙ (ap chars h ∙ callers.chars_compact w)
 
 -- three texts, one after the other
 pub three_appended : (old mid late new : Option (List ℕ)) (a b c : List ℕ) → Written old mid a [] → Written mid late b [] → Written late new c [] → Appends old new ((a ++ b) ++ c)
-three_appended old mid late new a b c h k l = callers.Appends-trans old late new (a ++ b) c (callers.Appends-both old mid late a b h k) (callers.Appends-written late new c l)
+three_appended old mid late new a b c h k l = callers.Appends-trans old late new (a ++ b) c (callers.Appends_both old mid late a b h k) (callers.Appends_written late new c l)
 
 -- nothing behind a text
 pub nothing_more : (old new : Option (List ℕ)) (a : List ℕ) → Written old new a [] → Appends old new (a ++ [])
-nothing_more old new a h = callers.Appends-trans old new new a [] (callers.Appends-written old new a h) (callers.Appends-nothing new)
+nothing_more old new a h = callers.Appends-trans old new new a [] (callers.Appends_written old new a h) (callers.Appends_nothing new)
 
 -- a text of which nothing is written
 pub not_begun : (old : Option (List ℕ)) (a b : List ℕ) → a ≡ b → Written old old a b
@@ -142,7 +142,7 @@ pub in_two_steps : (old mid new : Option (List ℕ)) (bytes rest : List ℕ) →
 in_two_steps old mid new bytes rest h k = callers.written_then rest [] h k
 
 pub string_is_scalars : (s : String Global) → All IsScalar (text s)
-string_is_scalars s = callers.all-scalars (text s) (callers.text_scalars s)
+string_is_scalars s = callers.all_are_scalars (text s) (callers.text_scalars s)
 
 pub slice_is_scalars : (bs : List ℕ) → IsUtf8 bs → All IsScalar (chars bs)
-slice_is_scalars bs u = callers.all-scalars (chars bs) (callers.scalars-chars bs u)
+slice_is_scalars bs u = callers.all_are_scalars (chars bs) (callers.scalars-chars bs u)

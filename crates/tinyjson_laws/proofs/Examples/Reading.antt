@@ -7,19 +7,19 @@ use Rattle.tinyjson.specs.Refusal.{IsRefusal}
 use Rattle.tinyjson.specs.Tree as tree
 use Rattle.tinyjson.specs.Tree.{Tree, Members, no_members, member, items_of}
 use Rattle.tinyjson.specs.declared.parser.error.JsonParseErrorKind.{JsonParseErrorKind}
-use Rattle.tinyjson.proofs.Callers.{all-scalars}
+use Rattle.tinyjson.proofs.Callers.{all_are_scalars}
 use Rattle.tinyjson.proofs.Grammar.Theorem.{accepts, refuses}
 
 -- the characters are a text of the tree
 pub text_of : {limit : Option ℕ} {xs : List ℕ} {t : Tree} →
     all_scalars xs ≡ true → run (strictly limit) [] awaited xs ≡ accepted t → IsText limit xs t
-text_of {limit} {xs} {t} scalars e = (accepts limit xs (all-scalars xs scalars) t).0 e
+text_of {limit} {xs} {t} scalars e = (accepts limit xs (all_are_scalars xs scalars) t).0 e
 
 -- they are refused so
 pub refusal_of : {limit : Option ℕ} {k : JsonParseErrorKind} {used rest : List ℕ} →
     all_scalars (used ++ rest) ≡ true → run (strictly limit) [] awaited (used ++ rest) ≡ refused k rest →
     IsRefusal limit k used rest
-refusal_of {limit} {k} {used} {rest} scalars e = refuses limit used rest (all-scalars (used ++ rest) scalars) k e
+refusal_of {limit} {k} {used} {rest} scalars e = refuses limit used rest (all_are_scalars (used ++ rest) scalars) k e
 
 -- each line with a line feed after it
 abbrev pub lines : List (List ℕ) → List ℕ

@@ -1,6 +1,6 @@
 use Rattle.std.proofs.Common.{None, refl}
 use Rattle.std.specs.Str.{chars}
-use Rattle.tinyjson.proofs.Callers.{accepted-text}
+use Rattle.tinyjson.proofs.Callers.{accepted_text}
 use Rattle.tinyjson.specs.View.{view}
 use Rattle.json_pointer.specs.Tokens.{tokens_of}
 use Rattle.json_part.proofs.Finding.{found}
@@ -12,4 +12,4 @@ returns-in-Ok-from_str g c =
     let ks = tokens_of c.in-Ok.pointer in
     let v = c.in-Ok-from_str.value in
     found (chars c.args.pointer.now) text ks (view v) (g.W.Write.contents c.args.output.now) (g.W.Write.contents c.write_found-answer.new.output) c.write_found-answer.result
-    ((c.in-Ok.ensures ks).1 refl) (accepted-text None text v c.in-Ok-from_str.ensures) c.write_found-answer.ensures
+    ((c.in-Ok.ensures ks).1 refl) (accepted_text None text v c.in-Ok-from_str.ensures) c.write_found-answer.ensures

@@ -4,7 +4,7 @@ use Rattle.std.proofs.lemmas.Str.{IsUtf8-past_char, chars_past_char}
 use Rattle.std.specs.Fmt.{HasWritten}
 use Rattle.std.specs.Str.Iter.{chars_rest}
 use Rattle.json_pointer.specs.Text.{escape}
-use Rattle.json_pointer.proofs.Tokens.{one_more, no_chars, escaped-more}
+use Rattle.json_pointer.proofs.Tokens.{one_more, no_chars, escaped_more}
 use Rattle.json_pointer.proofs.pointer.write_escaped.Goals as goal
 
 pub loop-c-preserved : goal.loop-c-preserved
@@ -16,7 +16,7 @@ loop-c-preserved g c =
       IsUtf8-past_char _ _ x held.0 parts,
       one_more (chars c.args.token.now) ys _ _ x held.1 (chars_past_char _ _ x held.0 parts),
       λ plain. let before = held.2 plain in
-          put_two g.W.Write.write_str_gives _ _ _ _ _ _ before (c.in_ok-write_escaped_char.ensures before.plain refl) (escaped-more ys x),
+          put_two g.W.Write.write_str_gives _ _ _ _ _ _ before (c.in_ok-write_escaped_char.ensures before.plain refl) (escaped_more ys x),
     )
 
 pub returns : goal.returns

@@ -4,7 +4,7 @@ use Rattle.std.proofs.lemmas.Option.{slice_get_cases}
 use Rattle.std.specs.Prelude.{slice_get}
 use Rattle.std.specs.Str.{chars}
 use Rattle.std.specs.Vec.{with_item}
-use Rattle.tinyjson.proofs.Callers.{view-IsTree}
+use Rattle.tinyjson.proofs.Callers.{view_IsTree}
 use Rattle.tinyjson.specs.Access.Laws.{put_of_object, put_of_array}
 use Rattle.tinyjson.specs.View.{view, text}
 use Rattle.tinyjson.specs.declared.value.JsonValue.TheVariants as is
@@ -25,7 +25,7 @@ returns-in-Some-get_mut-2 t c =
     let updates = (c.get_mut-in-Some-get_mut.follows.holds w).3 there in
     let split : map text c.args.tokens.now ≡ text key ∷ map text c.in-Some.rest.now = ap (map text) c.in-Some.ensures.cases.0 in
     subst (λ ks. Replaces (view v) ks c.args.part c.replace_at.result (view (is.Object n))) (sym split)
-    (replaces_step (view v) (view c.in-Some-get_mut-2.member.now) (view w) _ (text key) (map text c.in-Some.rest.now) c.args.part c.replace_at.result (view-IsTree v)
+    (replaces_step (view v) (view c.in-Some-get_mut-2.member.now) (view w) _ (text key) (map text c.in-Some.rest.now) c.args.part c.replace_at.result (view_IsTree v)
     (member_step v m key c.as_str.result.now (Some c.in-Some-get_mut-2.member.now) c.as_str.ensures.value c.in-Some-get_mut.ensures.value got)
     c.replace_at.ensures (member_replaced v m n key c.as_str.result.now w c.as_str.ensures.value c.in-Some-get_mut.ensures.value there updates))
 
@@ -63,7 +63,7 @@ returns-in-Some-get_mut-4 t c =
     let there : slice_get l.items i ≡ Some c.in-Some-get_mut-4.item.now = grind (arith, common_steps, slice_get_cases l.items i) in
     let split : map text c.args.tokens.now ≡ text key ∷ map text c.in-Some.rest.now = ap (map text) c.in-Some.ensures.cases.0 in
     subst (λ ks. Replaces (view v) ks c.args.part c.replace_at-in-Some-get_mut-4.result (view (is.Array (with_item l i w)))) (sym split)
-    (replaces_step (view v) (view c.in-Some-get_mut-4.item.now) (view w) _ (text key) (map text c.in-Some.rest.now) c.args.part c.replace_at-in-Some-get_mut-4.result (view-IsTree v)
+    (replaces_step (view v) (view c.in-Some-get_mut-4.item.now) (view w) _ (text key) (map text c.in-Some.rest.now) c.args.part c.replace_at-in-Some-get_mut-4.result (view_IsTree v)
     (item_step v l (text key) i (Some c.in-Some-get_mut-4.item.now) held at there)
     c.replace_at-in-Some-get_mut-4.ensures (item_replaced v l (text key) i w held at))
 

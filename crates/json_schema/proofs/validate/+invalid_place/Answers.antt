@@ -1,12 +1,12 @@
 use Rattle.std.proofs.Common.{◌≡◌, ◌∙◌, ◌∷◌, [], ◌++◌, codes, Ok, Some, None, length, sym, ap, refl, subst, arith}
 use Rattle.std.specs.Prelude.{slice_get}
 use Rattle.std.specs.Str.{chars}
-use Rattle.tinyjson.proofs.Callers.{view-Object, view-Array}
+use Rattle.tinyjson.proofs.Callers.{view_Object, view_Array}
 use Rattle.tinyjson.specs.View.{view, text}
 use Rattle.json_pointer.specs.Tokens.{tokens_of}
 use Rattle.json_schema.specs.Valid.{property, Validates, IsInvalidAt, here}
 use Rattle.json_schema.proofs.Lookups.{at_literal}
-use Rattle.json_schema.proofs.Validity.{EntriesAreValid, one_checked, all_checked, by_schema, by_none, object_valid, member_invalid, ItemsAreValid, at_index, items-more, items-all, array_valid, item_invalid, no_items_schema, leaf_valid, told}
+use Rattle.json_schema.proofs.Validity.{EntriesAreValid, one_checked, all_checked, by_schema, by_none, object_valid, member_invalid, ItemsAreValid, at_index, items_more, items_all, array_valid, item_invalid, no_items_schema, leaf_valid, told}
 use Rattle.json_schema.proofs.validate.+invalid_place.Goals as goal
 
 pub returns-then-not-meets_own : goal.returns-then-not-meets_own
@@ -34,7 +34,7 @@ returns-in-Some-2 t c =
     = c.in_ok-prepend-in-Object.ensures ∙ ap (λ bs. chars bs ∷ tokens_of c.in-Some-2.place) (c.in_ok-from_str-in-Object.ensures.ok ∙ c.as_str-in-Some-2.ensures.value) in
     told s v c.prepend.new.self
     (subst (IsInvalidAt s v) (sym tokens)
-    (member_invalid s v r m.entries done c.next.new.self (key, c.in-Some.member.now) (tokens_of c.in-Some-2.place) (ap view c.in-Object.is ∙ view-Object m) split gives.4 schema inner.0))
+    (member_invalid s v r m.entries done c.next.new.self (key, c.in-Some.member.now) (tokens_of c.in-Some-2.place) (ap view c.in-Object.is ∙ view_Object m) split gives.4 schema inner.0))
 
 pub loop-key-preserved-in_default-2 : goal.loop-key-preserved-in_default-2
 loop-key-preserved-in_default-2 t c =
@@ -56,13 +56,13 @@ pub returns-in-None : goal.returns-in-None
 returns-in-None t c =
     let s = view c.args.schema.now in
     let m = c.in-Object.members in
-    object_valid s (view c.args.value.now) m.entries (ap view c.in-Object.is ∙ view-Object m) (sym c.if-not-meets_own.ensures)
+    object_valid s (view c.args.value.now) m.entries (ap view c.in-Object.is ∙ view_Object m) (sym c.if-not-meets_own.ensures)
     (subst (EntriesAreValid s) c.into_iter-key-iterator.ensures.into_iter_gives.0 (all_checked s _ _ c.loop-key.invariant c.in-None.ensures.steps.0))
 
 pub returns-in_default-keyword : goal.returns-in_default-keyword
 returns-in_default-keyword t c =
     let s = view c.args.schema.now in
-    no_items_schema s (view c.args.value.now) c.in-Array.items.items (ap view c.in-Array.is ∙ view-Array c.in-Array.items) (sym c.if-not-meets_own.ensures)
+    no_items_schema s (view c.args.value.now) c.in-Array.items.items (ap view c.in-Array.is ∙ view_Array c.in-Array.items) (sym c.if-not-meets_own.ensures)
     (at_literal None s (codes "items") refl c.in_default-keyword.ensures)
 
 pub loop-index-init : goal.loop-index-init
@@ -82,7 +82,7 @@ returns-in-Some-3 t c =
     let before = c.in_ok-prepend_index-in-Array.ensures in
     told s v c.prepend_index.new.self
     (subst (IsInvalidAt s v) (sym before.joined)
-    (item_invalid s v r vs x i before.token (tokens_of c.in-Some-3.place) (ap view c.in-Array.is ∙ view-Array c.in-Array.items) (at_literal (Some r) s (codes "items") refl c.in-Some-keyword.ensures) before.named got inner.0))
+    (item_invalid s v r vs x i before.token (tokens_of c.in-Some-3.place) (ap view c.in-Array.is ∙ view_Array c.in-Array.items) (at_literal (Some r) s (codes "items") refl c.in-Some-keyword.ensures) before.named got inner.0))
 
 pub loop-index-preserved : goal.loop-index-preserved
 loop-index-preserved t c =
@@ -90,16 +90,16 @@ loop-index-preserved t c =
     let i = c.loop-index.index in
     let x = c.item-item.result in
     let r = view c.in-Some-keyword.part.now in
-    items-more r vs i x c.loop-index.invariant (at_index vs i x c.loop-index-test.true c.item-item.is) (subst (λ o. Validates r (view x) (Ok o)) c.in_default-3.is c.in_ok-place-in-Array.ensures)
+    items_more r vs i x c.loop-index.invariant (at_index vs i x c.loop-index-test.true c.item-item.is) (subst (λ o. Validates r (view x) (Ok o)) c.in_default-3.is c.in_ok-place-in-Array.ensures)
 
 pub returns-after-loop-index : goal.returns-after-loop-index
 returns-after-loop-index t c =
     let s = view c.args.schema.now in
     let vs = c.deref-item-items.result.now in
     let r = view c.in-Some-keyword.part.now in
-    array_valid s (view c.args.value.now) r c.in-Array.items.items (ap view c.in-Array.is ∙ view-Array c.in-Array.items) (sym c.if-not-meets_own.ensures)
+    array_valid s (view c.args.value.now) r c.in-Array.items.items (ap view c.in-Array.is ∙ view_Array c.in-Array.items) (sym c.if-not-meets_own.ensures)
     (at_literal (Some r) s (codes "items") refl c.in-Some-keyword.ensures)
-    (subst (λ ys. ItemsAreValid r ys (length ys)) c.deref-item-items.ensures.value (items-all r vs c.loop-index.index c.loop-index.invariant c.loop-index-test.false))
+    (subst (λ ys. ItemsAreValid r ys (length ys)) c.deref-item-items.ensures.value (items_all r vs c.loop-index.index c.loop-index.invariant c.loop-index-test.false))
 
 pub returns-in_default : goal.returns-in_default
 returns-in_default t c = leaf_valid (view c.args.schema.now) c.args.value.now (sym c.if-not-meets_own.ensures) c.in_default.not-Object c.in_default.not-Array

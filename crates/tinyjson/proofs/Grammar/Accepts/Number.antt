@@ -6,7 +6,7 @@ use Rattle.tinyjson.specs.Tree.{Tree}
 use Rattle.tinyjson_number.specs.Numeral.{Numeral, Exponent, IsNumeral, IsExponent, AreDigits, sign_text, minus_text, fraction_text, exponent_text, spelling, has_leading_zero, value, in_range}
 use Rattle.tinyjson.specs.private.Machine.{Rules, Frame, awaited, complete, step, run, end, end_plain, end_digits, step_digits, finish, digits, Stage, whole, fraction, letter, exponent}
 use Rattle.tinyjson_number.specs.Numeral.{is_exponent_letter}
-use Rattle.tinyjson.proofs.Grammar.Accepts.Runs.{settle, ends_complete, end_complete, continues, Delimited, continues_digit, continues_point, continues_letter, digit_is_not, digit-not_white, and_false}
+use Rattle.tinyjson.proofs.Grammar.Accepts.Runs.{settle, ends_complete, end_complete, continues, Delimited, continues_digit, continues_point, continues_letter, digit_is_not, digit_not_white, and_false}
 
 abbrev numeral : Bool → List ℕ → List ℕ → Option Exponent → Numeral
 numeral g w f e = record { negative = g; whole = w; fraction = f; exponent = e }
@@ -98,13 +98,13 @@ run_whole r fs true [] xs h p = absurd (omega (arith, p))
 run_whole r fs false [] xs h p = absurd (omega (arith, p))
 run_whole r fs true (c ∷ cs) xs h p = rw h.0 (whole_digits r fs true (c ∷ []) cs xs h.1)
 run_whole r fs false (c ∷ cs) xs h p =
-    rw (digit-not_white c h.0, digit_is_not c 110 h.0 refl, digit_is_not c 116 h.0 refl, digit_is_not c 102 h.0 refl, digit_is_not c 34 h.0 refl, digit_is_not c 91 h.0 refl, digit_is_not c 123 h.0 refl, digit_is_not c 45 h.0 refl, h.0)
+    rw (digit_not_white c h.0, digit_is_not c 110 h.0 refl, digit_is_not c 116 h.0 refl, digit_is_not c 102 h.0 refl, digit_is_not c 34 h.0 refl, digit_is_not c 91 h.0 refl, digit_is_not c 123 h.0 refl, digit_is_not c 45 h.0 refl, h.0)
     (whole_digits r fs false (c ∷ []) cs xs h.1)
 
-from-first : (r : Rules) (fs : List Frame) (g : Bool) (w f : List ℕ) (e : Option Exponent) (xs : List ℕ) →
+from_first : (r : Rules) (fs : List Frame) (g : Bool) (w f : List ℕ) (e : Option Exponent) (xs : List ℕ) →
     IsNumeral (numeral g w f e) → (r.strict && has_leading_zero w) ≡ false →
     run r fs awaited (minus_text g ++ (w ++ (fraction_text f ++ (exponent_text e ++ xs)))) ≡ run r fs (digits (stage_of f e) (numeral g w f e)) xs
-from-first r fs g w f e xs hn h = run_whole r fs g w (fraction_text f ++ (exponent_text e ++ xs)) hn.whole hn.some_digit ∙ from_whole r fs g w f e xs hn.fraction hn.exponent h
+from_first r fs g w f e xs hn h = run_whole r fs g w (fraction_text f ++ (exponent_text e ++ xs)) hn.whole hn.some_digit ∙ from_whole r fs g w f e xs hn.fraction hn.exponent h
 
 spelling_assoc : (n : Numeral) (xs : List ℕ) → spelling n ++ xs ≡ minus_text n.negative ++ (n.whole ++ (fraction_text n.fraction ++ (exponent_text n.exponent ++ xs)))
 spelling_assoc n xs = simp append_assoc
@@ -112,7 +112,7 @@ spelling_assoc n xs = simp append_assoc
 -- the machine after the last character of a numeral
 pub run_spelling : (r : Rules) (fs : List Frame) (n : Numeral) (xs : List ℕ) → IsNumeral n → (r.strict && has_leading_zero n.whole) ≡ false →
     run r fs awaited (spelling n ++ xs) ≡ run r fs (digits (last_stage n) n) xs
-run_spelling r fs n xs hn h = rw (spelling_assoc n xs) (from-first r fs n.negative n.whole n.fraction n.exponent xs hn h)
+run_spelling r fs n xs hn h = rw (spelling_assoc n xs) (from_first r fs n.negative n.whole n.fraction n.exponent xs hn h)
 
 -- ---- the end of a numeral
 

@@ -121,5 +121,5 @@ continues_letter c h = (or_parts (c == 46) (is_exponent_letter c) (or_parts (is_
 pub digit_is_not : (c n : ℕ) → is_ascii_digit c ≡ true → (nat_lt n 48 || nat_lt 57 n) ≡ true → (c == n) ≡ false
 digit_is_not c n h k = grind arith
 
-pub digit-not_white : (c : ℕ) → is_ascii_digit c ≡ true → is_white c ≡ false
-digit-not_white c h = grind arith
+pub digit_not_white : (c : ℕ) → is_ascii_digit c ≡ true → is_white c ≡ false
+digit_not_white c h = grind arith

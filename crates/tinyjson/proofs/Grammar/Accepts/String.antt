@@ -15,21 +15,21 @@ cond_append : (b : Bool) (x y z : List ℕ) → (cond b x y) ++ z ≡ cond b (x 
 cond_append true x y z = refl
 cond_append false x y z = refl
 
-pub decode-cons : (c : ℕ) (vs : List ℕ) → is_surrogate c ≡ false → decode (c ∷ vs) ≡ c ∷ decode vs
-decode-cons c [] h = refl
-decode-cons c (v ∷ vs) h = rw (or_parts (is_high c) (is_low c) h).0
+pub decode_cons : (c : ℕ) (vs : List ℕ) → is_surrogate c ≡ false → decode (c ∷ vs) ≡ c ∷ decode vs
+decode_cons c [] h = refl
+decode_cons c (v ∷ vs) h = rw (or_parts (is_high c) (is_low c) h).0
 
 pub decode_append : (us : List ℕ) (c : ℕ) (vs : List ℕ) → is_surrogate c ≡ false → decode (us ++ c ∷ vs) ≡ decode us ++ c ∷ decode vs
-decode_append [] c vs h = decode-cons c vs h
-decode_append (u ∷ []) c vs h = rw (and_right (is_high u) (is_low c) (or_parts (is_high c) (is_low c) h).1) (ap (λ z. u ∷ z) (decode-cons c vs h))
+decode_append [] c vs h = decode_cons c vs h
+decode_append (u ∷ []) c vs h = rw (and_right (is_high u) (is_low c) (or_parts (is_high c) (is_low c) h).1) (ap (λ z. u ∷ z) (decode_cons c vs h))
 decode_append (u ∷ v ∷ us) c vs h =
     ap (λ x. cond (is_high u && is_low v) (pair_of u v ∷ x) (u ∷ decode (v ∷ us ++ c ∷ vs))) (decode_append us c vs h)
     ∙ ap (λ y. cond (is_high u && is_low v) (pair_of u v ∷ (decode us ++ c ∷ decode vs)) (u ∷ y)) (decode_append (v ∷ us) c vs h)
     ∙ sym (cond_append (is_high u && is_low v) (pair_of u v ∷ decode us) (u ∷ decode (v ∷ us)) (c ∷ decode vs))
 
-pub paired-cons : (c : ℕ) (vs : List ℕ) → is_surrogate c ≡ false → paired (c ∷ vs) ≡ paired vs
-paired-cons c [] h = rw h
-paired-cons c (v ∷ vs) h = rw (or_parts (is_high c) (is_low c) h).0 (rw (or_parts (is_high c) (is_low c) h).1)
+pub paired_cons : (c : ℕ) (vs : List ℕ) → is_surrogate c ≡ false → paired (c ∷ vs) ≡ paired vs
+paired_cons c [] h = rw h
+paired_cons c (v ∷ vs) h = rw (or_parts (is_high c) (is_low c) h).0 (rw (or_parts (is_high c) (is_low c) h).1)
 
 cond_pair : (b x n y z : Bool) → cond b (x && z) (n && (y && z)) ≡ (cond b x (n && y) && z)
 cond_pair true x n y z = refl
@@ -37,15 +37,15 @@ cond_pair false x true y z = refl
 cond_pair false x false y z = refl
 
 pub paired_append : (us : List ℕ) (c : ℕ) (vs : List ℕ) → is_surrogate c ≡ false → paired (us ++ c ∷ vs) ≡ (paired us && paired vs)
-paired_append [] c vs h = paired-cons c vs h
-paired_append (u ∷ []) c vs h = rw (and_right (is_high u) (is_low c) (or_parts (is_high c) (is_low c) h).1) (rw (paired-cons c vs h))
+paired_append [] c vs h = paired_cons c vs h
+paired_append (u ∷ []) c vs h = rw (and_right (is_high u) (is_low c) (or_parts (is_high c) (is_low c) h).1) (rw (paired_cons c vs h))
 paired_append (u ∷ v ∷ us) c vs h =
     ap (λ x. cond (is_high u && is_low v) x (not (is_surrogate u) && paired (v ∷ us ++ c ∷ vs))) (paired_append us c vs h)
     ∙ ap (λ y. cond (is_high u && is_low v) (paired us && paired vs) (not (is_surrogate u) && y)) (paired_append (v ∷ us) c vs h)
     ∙ cond_pair (is_high u && is_low v) (paired us) (not (is_surrogate u)) (paired (v ∷ us)) (paired vs)
 
-pub scalar-no_surrogate : (c : ℕ) → IsScalar c → is_surrogate c ≡ false
-scalar-no_surrogate c h = grind arith
+pub scalar_no_surrogate : (c : ℕ) → IsScalar c → is_surrogate c ≡ false
+scalar_no_surrogate c h = grind arith
 
 escape_cond : (b : Bool) (x d : ℕ) (o : Option ℕ) → (b ≡ true → is_surrogate x ≡ false) → (o ≡ Some d → is_surrogate d ≡ false) → cond b (Some x) o ≡ Some d → is_surrogate d ≡ false
 escape_cond true x d o hx ho h = let e : x ≡ d = cc in rw (← e) (hx refl)
@@ -98,7 +98,7 @@ run_pieces r fs cs us [] xs h f =
     let f' : (r.strict && not (paired us)) ≡ false = rw (append-nil us) at f in
     rw (f', append-nil us) (settle_complete r r.strict fs (Tree.string (cs ++ decode us)) 34 xs)
 run_pieces r fs cs us (Piece.plain c ∷ ps) xs h f =
-    let n = scalar-no_surrogate c h.0.0 in
+    let n = scalar_no_surrogate c h.0.0 in
     let g = fine_parts r.strict us c (piece_codes ps) n f in
     rw (plain_no_quote c h.0.2, plain_no_backslash c h.0.2, plain_no_control c h.0.1, g.0, ← append_codes cs us c (piece_codes ps) n) (run_pieces r fs ((cs ++ decode us) ++ c ∷ []) [] ps xs h.1 g.1)
 run_pieces r fs cs us (Piece.escape c ∷ ps) xs h f =

@@ -23,8 +23,8 @@ run_text b limit xs l h = rw l.whole
 pub text_accepted : (limit : Option ℕ) (xs : List ℕ) (t : Tree) → IsText limit xs t → run (rules true limit) [] awaited xs ≡ accepted t
 text_accepted limit xs t h = rw h.tree (run_text true limit xs h.loose (λ e. h.strict))
 
-pub one-tree : (limit : Option ℕ) (xs : List ℕ) (t u : Tree) → IsText limit xs t → IsText limit xs u → t ≡ u
-one-tree limit xs t u h k = let e : accepted t ≡ accepted u = sym (text_accepted limit xs t h) ∙ text_accepted limit xs u k in cc
+pub only_tree : (limit : Option ℕ) (xs : List ℕ) (t u : Tree) → IsText limit xs t → IsText limit xs u → t ≡ u
+only_tree limit xs t u h k = let e : accepted t ≡ accepted u = sym (text_accepted limit xs t h) ∙ text_accepted limit xs u k in cc
 
 pub loose_accepted : (limit : Option ℕ) (xs : List ℕ) (l : IsLoose limit xs) → run (rules false limit) [] awaited xs ≡ accepted (tree_of l.value)
 loose_accepted limit xs l = run_text false limit xs l (λ e. absurd (false≢true e))

@@ -8,7 +8,7 @@ use Rattle.tinyjson.specs.Characters.{is_white}
 use Rattle.tinyjson_number.specs.Numeral.{minus_text, AreDigits}
 use Rattle.tinyjson.specs.Syntax.{Syntax, Elements, Pairs, null, boolean, number, string, empty_array, array, empty_object, object, last_element, element, last_pair, pair, text, elements_text, pairs_text, AreWhite, IsSpelled, AreElements, ArePairs, IsStrict, ElementsAreStrict, PairsAreStrict, is_key, tree_of, elements_trees, pairs_members, depth, elements_depth, pairs_depth, IsWithin}
 use Rattle.tinyjson.specs.private.Machine.{Rules, Frame, in_array, at_key, at_value, awaited, first, complete, step, run, fits}
-use Rattle.tinyjson.proofs.Grammar.Accepts.Runs.{settle, settle_complete, and_false, Delimited, delimited_white, run_white, first_white, after_white, colon_white, digit_is_not, digit-not_white}
+use Rattle.tinyjson.proofs.Grammar.Accepts.Runs.{settle, settle_complete, and_false, Delimited, delimited_white, run_white, first_white, after_white, colon_white, digit_is_not, digit_not_white}
 use Rattle.tinyjson.proofs.Grammar.Accepts.Number.{run_numeral}
 use Rattle.tinyjson.proofs.Grammar.Accepts.String.{run_string}
 
@@ -21,7 +21,7 @@ abbrev pub Begins : List ℕ → Type 0
 Begins xs = (c : ℕ) × (cs : List ℕ) × (xs ≡ c ∷ cs) × NoClosing c
 
 digit_begins : (c : ℕ) → IsTrue (is_ascii_digit c) → NoClosing c
-digit_begins c h = (digit-not_white c h, digit_is_not c 93 h refl, digit_is_not c 125 h refl)
+digit_begins c h = (digit_not_white c h, digit_is_not c 93 h refl, digit_is_not c 125 h refl)
 
 pub numeral_begins : (g : Bool) (w xs : List ℕ) → 0 < length w → AreDigits w → Begins (minus_text g ++ (w ++ xs))
 numeral_begins g [] xs h d = absurd (omega (arith, h))

@@ -88,8 +88,8 @@ pub record BadKey (r : Rules) (fs : List Frame) (b : CutOff) : Type 0 where
 two_assoc : (ps w t ys : List ℕ) → (ps ++ (w ++ t)) ++ ys ≡ ps ++ (w ++ (t ++ ys))
 two_assoc ps w t ys = simp append_assoc
 
-member-assoc : (ps w k v u t ys : List ℕ) → (ps ++ (w ++ 34 ∷ (k ++ 34 ∷ (v ++ 58 ∷ (u ++ t))))) ++ ys ≡ ps ++ (w ++ ((34 ∷ (k ++ 34 ∷ [])) ++ (v ++ 58 ∷ (u ++ (t ++ ys)))))
-member-assoc ps w k v u t ys = simp append_assoc
+member_assoc : (ps w k v u t ys : List ℕ) → (ps ++ (w ++ 34 ∷ (k ++ 34 ∷ (v ++ 58 ∷ (u ++ t))))) ++ ys ≡ ps ++ (w ++ ((34 ∷ (k ++ 34 ∷ [])) ++ (v ++ 58 ∷ (u ++ (t ++ ys)))))
+member_assoc ps w k v u t ys = simp append_assoc
 
 cut_off_begins : (b : CutOff) → Begins (cut_off_text b)
 cut_off_begins (bad_key ps w s) = (_, _, refl, (refl, refl, refl))
@@ -136,7 +136,7 @@ with_bad_key (in_member ps w k v u b) r fs h m =
       value = i.value;
       no_string = i.no_string;
       room = i.room;
-      reads = λ ys. rw (member-assoc (pairs_before ps) w (pieces_text k) v u (cut_off_text b) ys)
+      reads = λ ys. rw (member_assoc (pairs_before ps) w (pieces_text k) v u (cut_off_text b) ys)
           (open_object ps w r fs _ h.0 h.1 (_, _, refl, (refl, refl, refl)) (cut_off_depth b) m
           ∙ run_value (string k) r (at_key ms ∷ fs) (v ++ 58 ∷ (u ++ (cut_off_text b ++ ys))) h.2 (λ e. h.3) (less_within r.limit _ _ m (omega arith)) tt
           ∙ key_and_colon r ms fs (string k) v _ (λ e. refl) h.4

@@ -25,7 +25,7 @@ use Rattle.tinyjson.proofs.Grammar.Trace.State.{numeral, exponent_with}
 use Rattle.tinyjson.proofs.Grammar.Trace.Paths.{members_from}
 use Rattle.tinyjson.specs.Tree.{Tree, no_members}
 use Rattle.tinyjson.proofs.Grammar.Step.Value.{no_text, after_follows}
-use Rattle.tinyjson_number.proofs.Naturals.{digits-append}
+use Rattle.tinyjson_number.proofs.Naturals.{digits_append}
 
 -- ---- no quote follows
 
@@ -142,7 +142,7 @@ digits_follows ranges limit p hp part_minus h c =
     either limit _ _ _ c (is_ascii_digit c) _ _ (λ e. goes limit p hp part_minus (part_whole true c []) (e, tt) c refl) (λ e more x. minus_says ranges limit p hp (c ∷ more) e x)
 digits_follows ranges limit p hp (part_whole b d ds) h c =
     unless_either limit _ _ _ c _ _ (is_ascii_digit c) _ _
-    (λ e. goes limit p hp (part_whole b d ds) (part_whole b d (ds ++ c ∷ [])) (h.0, digits-append ds c h.1 e) c (simp append_assoc))
+    (λ e. goes limit p hp (part_whole b d ds) (part_whole b d (ds ++ c ∷ [])) (h.0, digits_append ds c h.1 e) c (simp append_assoc))
     (λ i. unless_either limit _ _ _ c _ _ (has_leading_zero (d ∷ ds)) _ _ (λ e more x. zero_says ranges limit p hp b d ds h e (c ∷ more) i x)
     (λ z. unless_either limit _ _ _ c _ _ (c == 46) _ _ (λ e. goes limit p hp (part_whole b d ds) (part_point b d ds) (h, z) c (rw (eqb-true c 46 e) (simp append_assoc)))
     (λ j. unless_either limit _ _ _ c _ _ (is_exponent_letter c) _ _ (λ e. goes limit p hp (part_whole b d ds) (part_letter b d ds [] c) ((h, z), tt, e) c (simp append_assoc))
@@ -151,7 +151,7 @@ digits_follows ranges limit p hp (part_point b d ds) h c =
     either limit _ _ _ c (is_ascii_digit c) _ _ (λ e. goes limit p hp (part_point b d ds) (part_fraction b d ds c []) (h, (e, tt)) c (simp append_assoc)) (λ e more x. point_says ranges limit p hp b d ds h (c ∷ more) e x)
 digits_follows ranges limit p hp (part_fraction b d ds x xs) h c =
     unless_either limit _ _ _ c _ _ (is_ascii_digit c) _ _
-    (λ e. goes limit p hp (part_fraction b d ds x xs) (part_fraction b d ds x (xs ++ c ∷ [])) (h.0, (h.1.0, digits-append xs c h.1.1 e)) c (simp append_assoc))
+    (λ e. goes limit p hp (part_fraction b d ds x xs) (part_fraction b d ds x (xs ++ c ∷ [])) (h.0, (h.1.0, digits_append xs c h.1.1 e)) c (simp append_assoc))
     (λ i. unless_either limit _ _ _ c _ _ (is_exponent_letter c) _ _ (λ e. goes limit p hp (part_fraction b d ds x xs) (part_letter b d ds (x ∷ xs) c) (h.0, h.1, e) c (simp append_assoc))
     (λ k. finish_follows ranges limit p hp (part_fraction b d ds x xs) h (fraction_done b d ds x xs h) c i))
 digits_follows ranges limit p hp (part_letter b d ds f l) h c =
@@ -163,5 +163,5 @@ digits_follows ranges limit p hp (part_sign b d ds f l s) h c =
     (λ i more x. sign_says ranges limit p hp b d ds f l s h (c ∷ more) i x)
 digits_follows ranges limit p hp (part_exponent b d ds f l s x xs) h c =
     unless_either limit _ _ _ c _ _ (is_ascii_digit c) _ _
-    (λ e. goes limit p hp (part_exponent b d ds f l s x xs) (part_exponent b d ds f l s x (xs ++ c ∷ [])) (h.0, h.1, h.2, h.3, (h.4.0, digits-append xs c h.4.1 e)) c (simp append_assoc))
+    (λ e. goes limit p hp (part_exponent b d ds f l s x xs) (part_exponent b d ds f l s x (xs ++ c ∷ [])) (h.0, h.1, h.2, h.3, (h.4.0, digits_append xs c h.4.1 e)) c (simp append_assoc))
     (λ i. finish_follows ranges limit p hp (part_exponent b d ds f l s x xs) h (exponent_done b d ds f l s x xs h) c i)

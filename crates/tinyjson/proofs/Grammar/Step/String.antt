@@ -19,7 +19,7 @@ use Rattle.tinyjson.proofs.Grammar.Step.Statement.{Follows, either, at_code}
 use Rattle.tinyjson.proofs.Grammar.Step.Awaits.{begins_at}
 use Rattle.tinyjson.proofs.Grammar.Step.Value.{complete_follows}
 use Rattle.tinyjson.proofs.Grammar.Step.Units.{codes_quads, settle_more, settle_end, settle_paired}
-use Rattle.tinyjson.proofs.Grammar.Accepts.String.{scalar-no_surrogate, escape_no_surrogate}
+use Rattle.tinyjson.proofs.Grammar.Accepts.String.{scalar_no_surrogate, escape_no_surrogate}
 use Rattle.tinyjson.specs.Characters.{is_surrogate}
 use Rattle.std.specs.Prelude.{unwrap_or}
 use Rattle.std.proofs.Common.{length-append}
@@ -135,7 +135,7 @@ plain_follows limit p ps cs qs h c hc =
       ),
     )) (λ h2.
     flush_follows limit _ _ _ c cs (values qs) (λ xs. next (path_frames p) (quoted Machine.plain (xs ++ c ∷ []) []))
-    (λ hd. string_piece limit p ps cs qs h hd [] c (Piece.plain c) (plain_piece c hc h0 h1 h2) refl (scalar-no_surrogate c hc))
+    (λ hd. string_piece limit p ps cs qs h hd [] c (Piece.plain c) (plain_piece c hc h0 h1 h2) refl (scalar_no_surrogate c hc))
     (λ hd. utf16_says limit p ps cs qs h hd Machine.plain c tt _ _ (inr (Piece.plain c, plain_piece c hc h0 h1 h2, refl, (λ n. n))) (piece_ending ps qs h.pieces h.run (Piece.plain c) (plain_piece c hc h0 h1 h2) _ refl)))))
 
 escape_follows : (limit : Option ℕ) (p : Path) (ps : List Piece) (cs : List ℕ) (qs : List Quad) → InString limit p ps cs qs → (c : ℕ) → (o : Option ℕ) → short_escape c ≡ o →

@@ -4,7 +4,7 @@ use Rattle.std.specs.Str.{chars}
 use Rattle.tinyjson.specs.Position.{advance, origin}
 use Rattle.tinyjson.specs.private.Slice.{before, behind}
 use Rattle.tinyjson.specs.declared.parser.text.TextBytes.{TextBytes}
-use Rattle.tinyjson.proofs.Reading.Parse.{answered, answered-text, all-scalars}
+use Rattle.tinyjson.proofs.Reading.Parse.{answered, answered_text, all_are_scalars}
 use Rattle.tinyjson.proofs.parser.parse_text.Goals as goal
 
 pub returns : goal.returns
@@ -12,5 +12,5 @@ returns c =
     let text = c.args.text.now in
     let gives = sym (ap (λ (p : TextBytes). behind p.text.now p.at) c.new-2.ensures ∙ c.new.ensures.gives) in
     let start = ap (λ (p : TextBytes). advance origin (before p.text.now p.at)) c.new-2.ensures ∙ c.new.ensures.start in
-    answered-text _ c.args.limit _ _ (chars text) c.text.result start
-    (answered _ c.args.limit _ _ c.text.result c.text.ensures.reads c.text.ensures.end c.text.ensures.memory (chars text) gives (all-scalars (chars text) (scalars-chars text c.utf8.text)))
+    answered_text _ c.args.limit _ _ (chars text) c.text.result start
+    (answered _ c.args.limit _ _ c.text.result c.text.ensures.reads c.text.ensures.end c.text.ensures.memory (chars text) gives (all_are_scalars (chars text) (scalars-chars text c.utf8.text)))

@@ -1,5 +1,5 @@
-use Rattle.tinyjson.proofs.Reading.Positions.{advance-append}
+use Rattle.tinyjson.proofs.Reading.Positions.{advance_append}
 use Rattle.tinyjson_laws.proofs.positions.advance_composes.Goals as goal
 
 pub returns : goal.returns
-returns c = advance-append
+returns c = advance_append

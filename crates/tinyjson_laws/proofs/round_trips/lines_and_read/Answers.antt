@@ -1,8 +1,8 @@
 use Rattle.std.proofs.Common.{refl, subst, sym}
 use Rattle.std.specs.Prelude.{codes}
 use Rattle.tinyjson.specs.Syntax.{AreWhite}
-use Rattle.tinyjson.proofs.Callers.{chars-literal}
+use Rattle.tinyjson.proofs.Callers.{chars_literal}
 use Rattle.tinyjson_laws.proofs.round_trips.lines_and_read.Goals as goal
 
 pub indented_and_read-requires : goal.indented_and_read-requires
-indented_and_read-requires c = subst AreWhite (sym (chars-literal (codes "") refl)) tt
+indented_and_read-requires c = subst AreWhite (sym (chars_literal (codes "") refl)) tt

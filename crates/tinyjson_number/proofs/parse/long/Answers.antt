@@ -6,8 +6,8 @@ use Rattle.std.proofs.lemmas.Int.{to_z-of_z}
 use Rattle.tinyjson_number.specs.Decimal.{significant}
 use Rattle.tinyjson_number.specs.Numeral.{Numeral}
 use Rattle.tinyjson_number.specs.Reading.{numeral_of}
-use Rattle.tinyjson_number.proofs.DecimalTrip.{digits-join}
-use Rattle.tinyjson_number.proofs.Readings.{kept_is, zero-value, zero-in_range, value_kept, value_in, value_out, memory_refused}
+use Rattle.tinyjson_number.proofs.DecimalTrip.{digits_join}
+use Rattle.tinyjson_number.proofs.Readings.{kept_is, zero_value, zero_in_range, value_kept, value_in, value_out, memory_refused}
 use Rattle.tinyjson_number.proofs.parse.long.Goals as goal
 
 pub returns-then-kept-eq0 : goal.returns-then-kept-eq0
@@ -15,7 +15,7 @@ returns-then-kept-eq0 c =
     let n : Numeral = numeral_of c.args.parts in
     let empty : length (significant (n.whole ++ n.fraction)) ≡ 0 = omega (arith, ap length c.strip-kept.ensures.digits, length-append {A = ℕ}) in
     let none : significant (n.whole ++ n.fraction) ≡ [] = nil_from_length _ empty in
-    (c.zero.ensures ∙ sym (zero-value n none), zero-in_range n none)
+    (c.zero.ensures ∙ sym (zero_value n none), zero_in_range n none)
 
 pub returns-in_default : goal.returns-in_default
 returns-in_default c =
@@ -33,7 +33,7 @@ of_digits-requires-clause-canonical c =
     let s : List ℕ = c.strip-kept.result.whole.now ++ c.strip-kept.result.fraction.now in
     let p = c.in-Some.power in
     let fits : FitsSigned w64 p = search rules in
-    rw (to_z-of_z w64 p fits) (kept_is n.negative s p (omega (arith, length-append {A = ℕ})) (n.whole ++ n.fraction) c.strip-kept.ensures.digits (digits-join n.whole n.fraction c.requires.numeral.whole c.requires.numeral.fraction) fits)
+    rw (to_z-of_z w64 p fits) (kept_is n.negative s p (omega (arith, length-append {A = ℕ})) (n.whole ++ n.fraction) c.strip-kept.ensures.digits (digits_join n.whole n.fraction c.requires.numeral.whole c.requires.numeral.fraction) fits)
 
 pub returns-in_err-of_digits : goal.returns-in_err-of_digits
 returns-in_err-of_digits c =

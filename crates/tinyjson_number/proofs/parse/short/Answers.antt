@@ -3,8 +3,8 @@ use Rattle.std.proofs.lemmas.List.{nil_from_length}
 use Rattle.tinyjson_number.specs.Decimal.{significant, strip_leading, strip_trailing, trailing_zeros}
 use Rattle.tinyjson_number.specs.Numeral.{Numeral}
 use Rattle.tinyjson_number.specs.Reading.{plain_numeral}
-use Rattle.tinyjson_number.proofs.DecimalTrip.{digits-join}
-use Rattle.tinyjson_number.proofs.Readings.{kept_is, zero-value, zero-in_range, value_exact, value_fits, power_few, power_few-fits}
+use Rattle.tinyjson_number.proofs.DecimalTrip.{digits_join}
+use Rattle.tinyjson_number.proofs.Readings.{kept_is, zero_value, zero_in_range, value_exact, value_fits, power_few, power_few_fits}
 use Rattle.tinyjson_number.proofs.parse.short.Goals as goal
 
 pub returns-then-kept-eq0-clause-decimal : goal.returns-then-kept-eq0-clause-decimal
@@ -12,14 +12,14 @@ returns-then-kept-eq0-clause-decimal c =
     let n : Numeral = plain_numeral c.args.negative c.args.whole.now c.args.fraction.now in
     let empty : length (significant (n.whole ++ n.fraction)) ≡ 0 = omega (arith, ap length c.strip-kept.ensures.digits, length-append {A = ℕ}) in
     let none : significant (n.whole ++ n.fraction) ≡ [] = nil_from_length _ empty in
-    c.zero.ensures ∙ sym (zero-value n none)
+    c.zero.ensures ∙ sym (zero_value n none)
 
 pub returns-then-kept-eq0-clause-fits : goal.returns-then-kept-eq0-clause-fits
 returns-then-kept-eq0-clause-fits c =
     let n : Numeral = plain_numeral c.args.negative c.args.whole.now c.args.fraction.now in
     let empty : length (significant (n.whole ++ n.fraction)) ≡ 0 = omega (arith, ap length c.strip-kept.ensures.digits, length-append {A = ℕ}) in
     let none : significant (n.whole ++ n.fraction) ≡ [] = nil_from_length _ empty in
-    zero-in_range n none
+    zero_in_range n none
 
 pub of_few-requires-2-clause-canonical : goal.of_few-requires-2-clause-canonical
 of_few-requires-2-clause-canonical c =
@@ -30,7 +30,7 @@ of_few-requires-2-clause-canonical c =
     let zeros = c.strip-kept.ensures.zeros found in
     let few : c.strip-kept.result.zeros ≤ 24 = omega (arith, zeros, length-append n.whole n.fraction, c.requires.few) in
     let power = power_few c.strip-kept.result.zeros (length n.fraction) few (omega (arith, c.requires.few)) in
-    rw power (kept_is n.negative s _ some (n.whole ++ n.fraction) c.strip-kept.ensures.digits (digits-join n.whole n.fraction c.requires.whole c.requires.fraction) (power_few-fits c.strip-kept.result.zeros (length n.fraction) few (omega (arith, c.requires.few))))
+    rw power (kept_is n.negative s _ some (n.whole ++ n.fraction) c.strip-kept.ensures.digits (digits_join n.whole n.fraction c.requires.whole c.requires.fraction) (power_few_fits c.strip-kept.result.zeros (length n.fraction) few (omega (arith, c.requires.few))))
 
 pub returns-clause-decimal : goal.returns-clause-decimal
 returns-clause-decimal c =
@@ -52,7 +52,7 @@ returns-clause-fits c =
     let zeros = c.strip-kept.ensures.zeros found in
     let few : c.strip-kept.result.zeros ≤ 24 = omega (arith, zeros, length-append n.whole n.fraction, c.requires.few) in
     let power = power_few c.strip-kept.result.zeros (length n.fraction) few (omega (arith, c.requires.few)) in
-    value_fits n s c.strip-kept.result.zeros c.strip-kept.ensures.digits some zeros _ refl (power_few-fits c.strip-kept.result.zeros (length n.fraction) few (omega (arith, c.requires.few)))
+    value_fits n s c.strip-kept.result.zeros c.strip-kept.ensures.digits some zeros _ refl (power_few_fits c.strip-kept.result.zeros (length n.fraction) few (omega (arith, c.requires.few)))
 
 -- digits from which nothing is stripped
 bare_significant : (ds : List ℕ) → strip_leading ds ≡ ds → strip_trailing ds ≡ ds → ds ≡ significant ds
@@ -68,7 +68,7 @@ of_few-requires-clause-canonical c =
     let few : length n.fraction ≤ 24 = omega (arith, c.requires.few) in
     let some : 0 < length (n.whole ++ n.fraction) = omega (arith, b.0, length-append n.whole n.fraction) in
     let power = power_few 0 (length n.fraction) (omega arith) few in
-    rw power (kept_is n.negative (n.whole ++ n.fraction) _ some (n.whole ++ n.fraction) (bare_significant _ b.1 b.2) (digits-join n.whole n.fraction c.requires.whole c.requires.fraction) (power_few-fits 0 (length n.fraction) (omega arith) few))
+    rw power (kept_is n.negative (n.whole ++ n.fraction) _ some (n.whole ++ n.fraction) (bare_significant _ b.1 b.2) (digits_join n.whole n.fraction c.requires.whole c.requires.fraction) (power_few_fits 0 (length n.fraction) (omega arith) few))
 
 pub returns-then-is_bare-clause-decimal : goal.returns-then-is_bare-clause-decimal
 returns-then-is_bare-clause-decimal c =
@@ -85,4 +85,4 @@ returns-then-is_bare-clause-fits c =
     let b = c.is_bare.ensures c.if-is_bare.true in
     let few : length n.fraction ≤ 24 = omega (arith, c.requires.few) in
     let some : 0 < length (n.whole ++ n.fraction) = omega (arith, b.0, length-append n.whole n.fraction) in
-    value_fits n (n.whole ++ n.fraction) 0 (bare_significant _ b.1 b.2) some (bare_zeros _ b.2) _ refl (power_few-fits 0 (length n.fraction) (omega arith) few)
+    value_fits n (n.whole ++ n.fraction) 0 (bare_significant _ b.1 b.2) some (bare_zeros _ b.2) _ refl (power_few_fits 0 (length n.fraction) (omega arith) few)

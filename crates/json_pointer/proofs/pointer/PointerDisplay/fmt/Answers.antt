@@ -5,7 +5,7 @@ use Rattle.std.specs.Str.{chars}
 use Rattle.std.proofs.Math.Utf8.{encode}
 use Rattle.tinyjson.specs.View.{text}
 use Rattle.json_pointer.specs.Text.{escape, pointer_text}
-use Rattle.json_pointer.proofs.Tokens.{pointer-more}
+use Rattle.json_pointer.proofs.Tokens.{pointer_more}
 use Rattle.json_pointer.proofs.pointer.PointerDisplay.fmt.Goals as goal
 
 pub loop-token-preserved : goal.loop-token-preserved
@@ -21,4 +21,4 @@ loop-token-preserved g c = λ plain.
     = map_more text items i c.token-item.result within ∙ ap (λ s. map text (take i items) ++ text s ∷ []) (sym c.token-item.is) in
     put_three g.W.Write.write_str_gives _ _ _ _ _ _ _ _ before slash escaped
     (ap (λ bs. encode_utf8_all (pointer_text (map text (take i items))) ++ encode_utf8_all (47 ∷ escape (chars bs))) c.as_str.ensures.value
-    ∙ (pointer-more (map text (take i items)) (text c.token-item.result) ∙ ap (λ ts. encode_utf8_all (pointer_text ts)) (sym more)))
+    ∙ (pointer_more (map text (take i items)) (text c.token-item.result) ∙ ap (λ ts. encode_utf8_all (pointer_text ts)) (sym more)))

@@ -1,7 +1,7 @@
 use Rattle.std.proofs.Common.{◌≡◌, ap, cond, ◌∙◌}
 use Rattle.std.specs.HashMap.{get_by_text}
 use Rattle.std.specs.Option.{unwrap_or}
-use Rattle.tinyjson.proofs.Callers.{bytes-compact}
+use Rattle.tinyjson.proofs.Callers.{bytes_compact}
 use Rattle.tinyjson.specs.Equality.{same_tree}
 use Rattle.json_store.specs.Store.{key_of, count_of, next_count}
 use Rattle.json_store.proofs.Counting.{counted}
@@ -11,7 +11,7 @@ pub returns-clause-ok : goal.returns-clause-ok
 returns-clause-ok c = λ w.
     let v = c.args.value.now in
     let m = c.args.self.now.counts in
-    let is = bytes-compact c.in-Ok.key v c.in-Ok.ensures in
+    let is = bytes_compact c.in-Ok.key v c.in-Ok.ensures in
     let at : c.as_str.result.now ≡ key_of v = c.as_str.ensures.value ∙ is in
     let read : c.unwrap_or-count.result ≡ unwrap_or (get_by_text m c.as_str.result.now) 0 = cc in
     counted m c.insert.new.self c.in-Ok.key v w c.saturating_add.result is c.in-Ok-insert.ensures.updates

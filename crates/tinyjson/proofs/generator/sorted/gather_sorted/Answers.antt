@@ -4,7 +4,7 @@ use Rattle.std.specs.List.Sorted.{IsPermutation}
 use Rattle.std.proofs.lemmas.Cmp.{nat_list_cmp_total}
 use Rattle.std.proofs.lemmas.List.Sorted.{answers_always}
 use Rattle.std.proofs.lemmas.List.MinMax.{ranks_by, IsStrictWeakOrder-flip}
-use Rattle.tinyjson.proofs.Writing.Sorted.{regathered, regathered-IsPermutation, gathered_members, gathered_others, bytes_cmp, key}
+use Rattle.tinyjson.proofs.Writing.Sorted.{regathered, regathered_IsPermutation, gathered_members, gathered_others, bytes_cmp, key}
 use Rattle.tinyjson.proofs.generator.sorted.gather_sorted.Goals as goal
 
 start : (c : goal.After-gathered-1) → c.len-start.result ≡ length c.args.gathered.now.items
@@ -12,7 +12,7 @@ start c = omega (arith, c.len-start.ensures, c.args.gathered.now.ok.0)
 
 permuted : (c : goal.After-gathered-1) → IsPermutation (drop (length c.args.gathered.now.items) c.gather.new.gathered.items) c.sort_unstable_by.new.self
 permuted c =
-    regathered-IsPermutation c.len-start.result c.args.gathered.now.items c.gather.new.gathered.items c.deref_mut.result.now c.sort_unstable_by.new.self c.deref_mut.ensures.value (start c) c.sort_unstable_by.ensures.permutation
+    regathered_IsPermutation c.len-start.result c.args.gathered.now.items c.gather.new.gathered.items c.deref_mut.result.now c.sort_unstable_by.new.self c.deref_mut.ensures.value (start c) c.sort_unstable_by.ensures.permutation
 
 pub returns-clause-members : goal.returns-clause-members
 returns-clause-members c =

@@ -1,23 +1,23 @@
 use Rattle.std.proofs.Common.{subst}
 use Rattle.std.specs.Prelude.{All}
 use Rattle.std.specs.Char.{IsScalar}
-use Rattle.tinyjson.proofs.Reading.Parse.{answered, all-rest, refused-answer}
-use Rattle.tinyjson.proofs.Reading.Cursors.{follows-gives, gives-follows}
+use Rattle.tinyjson.proofs.Reading.Parse.{answered, all_rest, refused_answer}
+use Rattle.tinyjson.proofs.Reading.Cursors.{follows_gives, gives_follows}
 use Rattle.tinyjson.proofs.parser.JsonParser.parse.Goals as goal
 
 pub returns-clause-parses : goal.returns-clause-parses
 returns-clause-parses g c = rw (← c.self.view_is) (λ xs r.
     let limit = c.self.inside.limit in
     let steps = g.I.Iterator.next_gives in
-    let gives = follows-gives steps c.self.inside.reader.source.cursor xs r.later r.whole r.follows in
+    let gives = follows_gives steps c.self.inside.reader.source.cursor xs r.later r.whole r.follows in
     let a = answered _ limit _ _ c.text.result c.text.ensures.reads c.text.ensures.end c.text.ensures.memory xs gives r.scalars in
-    let l = gives-follows steps c.text.new.self.source.cursor a.rest a.gives in
+    let l = gives_follows steps c.text.new.self.source.cursor a.rest a.gives in
     record {
       consumed = a.consumed;
       rest = a.rest;
       whole = a.whole;
-      remains = record { later = l.0; whole = l.1; follows = l.2; scalars = all-rest a.consumed a.rest (subst (All IsScalar) a.whole r.scalars) };
+      remains = record { later = l.0; whole = l.1; follows = l.2; scalars = all_rest a.consumed a.rest (subst (All IsScalar) a.whole r.scalars) };
       position = a.moves;
       answer = a.answer;
-      refused = refused-answer limit xs a.consumed a.rest _ _ c.text.result a.whole a.answer;
+      refused = refused_answer limit xs a.consumed a.rest _ _ c.text.result a.whole a.answer;
     })

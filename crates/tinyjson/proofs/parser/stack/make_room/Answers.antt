@@ -1,5 +1,5 @@
-use Rattle.tinyjson.proofs.Values.Views.{members_view-same}
+use Rattle.tinyjson.proofs.Values.Views.{members_view_same}
 use Rattle.tinyjson.proofs.parser.stack.make_room.Goals as goal
 
 pub returns-else-is_empty : goal.returns-else-is_empty
-returns-else-is_empty c = members_view-same _ _ c.reserve.ensures.entries.2
+returns-else-is_empty c = members_view_same _ _ c.reserve.ensures.entries.2

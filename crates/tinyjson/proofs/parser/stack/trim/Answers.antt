@@ -1,5 +1,5 @@
-use Rattle.tinyjson.proofs.Values.Views.{members_view-same}
+use Rattle.tinyjson.proofs.Values.Views.{members_view_same}
 use Rattle.tinyjson.proofs.parser.stack.trim.Goals as goal
 
 pub returns-then-capacity-len : goal.returns-then-capacity-len
-returns-then-capacity-len c = members_view-same _ _ c.shrink_to_fit.ensures.entries.2
+returns-then-capacity-len c = members_view_same _ _ c.shrink_to_fit.ensures.entries.2

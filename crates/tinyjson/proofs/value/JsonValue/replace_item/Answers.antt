@@ -2,7 +2,7 @@ use Rattle.std.proofs.Common.{Some, refl, ap, sym, ◌∙◌}
 use Rattle.std.proofs.lemmas.Option.{slice_get_read}
 use Rattle.std.specs.Option.{option_map_or}
 use Rattle.std.specs.Vec.{with_item}
-use Rattle.tinyjson.proofs.Values.Index.{is_item_at, tree-with_item, within_array}
+use Rattle.tinyjson.proofs.Values.Index.{is_item_at, tree_with_item, within_array}
 use Rattle.tinyjson.specs.View.{view}
 use Rattle.tinyjson.specs.declared.value.JsonValue as made
 use Rattle.tinyjson.proofs.value.JsonValue.replace_item.Goals as goal
@@ -23,4 +23,4 @@ returns-clause-new c =
 pub returns-clause-tree : goal.returns-clause-tree
 returns-clause-tree c =
     ap (λ w. view (made.Array (with_item c.array_mut.result.now c.args.index w))) c.replace.ensures.after
-    ∙ tree-with_item c.args.self.now c.array_mut.result.now c.args.index c.args.value c.array_mut.ensures.value
+    ∙ tree_with_item c.args.self.now c.array_mut.result.now c.args.index c.args.value c.array_mut.ensures.value

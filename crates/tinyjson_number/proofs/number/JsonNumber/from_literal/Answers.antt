@@ -5,14 +5,14 @@ use Rattle.tinyjson_number.specs.NumberText.{Spells}
 use Rattle.tinyjson_number.specs.Reading.{ReadsNumeral, numeral_of}
 use Rattle.tinyjson_number.proofs.Literals.{scan_sound, none_spells, one_numeral}
 use Rattle.tinyjson_number.proofs.Readings.{plain_of, none_of}
-use Rattle.tinyjson_number.proofs.Parts.{spelled_room, parts-numeral, parts-read}
+use Rattle.tinyjson_number.proofs.Parts.{spelled_room, parts_numeral, parts_read}
 use Rattle.tinyjson_number.proofs.number.JsonNumber.from_literal.Goals as goal
 
 pub from_parts-requires-clause-numeral : goal.from_parts-requires-clause-numeral
 from_parts-requires-clause-numeral c =
     let t = c.as_bytes.result.now in
     let k = plain_of (scan t) (numeral_of c.in-Some.parts) c.in-Some.ensures in
-    parts-numeral k.0 c.in-Some.parts k.2 (scan_sound t k.0 k.1).well_formed
+    parts_numeral k.0 c.in-Some.parts k.2 (scan_sound t k.0 k.1).well_formed
 
 pub from_parts-requires-clause-room : goal.from_parts-requires-clause-room
 from_parts-requires-clause-room c =
@@ -28,5 +28,5 @@ returns c = λ n s.
     let t = c.as_bytes.result.now in
     let k = plain_of (scan t) (numeral_of c.in-Some.parts) c.in-Some.ensures in
     let spelled = subst (Spells k.0) c.as_bytes.ensures.value (scan_sound t k.0 k.1) in
-    let read = parts-read k.0 c.in-Some.parts k.2 c.from_parts.result c.from_parts.ensures in
+    let read = parts_read k.0 c.in-Some.parts k.2 c.from_parts.result c.from_parts.ensures in
     subst (λ (m : Numeral). ReadsNumeral m c.from_parts.result) (one_numeral c.args.literal.now k.0 n spelled s) read

@@ -5,14 +5,14 @@ use Rattle.tinyjson_number.specs.NumberText.{Spells}
 use Rattle.tinyjson_number.specs.Reading.{ReadsNumeral, numeral_of}
 use Rattle.tinyjson_number.proofs.Literals.{scan_sound, none_spells}
 use Rattle.tinyjson_number.proofs.Readings.{plain_of, none_of, reads_number, refused_so}
-use Rattle.tinyjson_number.proofs.Parts.{spelled_room, parts-numeral, parts-read}
+use Rattle.tinyjson_number.proofs.Parts.{spelled_room, parts_numeral, parts_read}
 use Rattle.tinyjson_number.proofs.number.JsonNumber.from_text.Goals as goal
 
 pub from_parts-requires-clause-numeral : goal.from_parts-requires-clause-numeral
 from_parts-requires-clause-numeral c =
     let t = c.as_bytes.result.now in
     let k = plain_of (scan t) (numeral_of c.in-Some.parts) c.in-Some.ensures in
-    parts-numeral k.0 c.in-Some.parts k.2 (scan_sound t k.0 k.1).well_formed
+    parts_numeral k.0 c.in-Some.parts k.2 (scan_sound t k.0 k.1).well_formed
 
 pub from_parts-requires-clause-room : goal.from_parts-requires-clause-room
 from_parts-requires-clause-room c =
@@ -28,7 +28,7 @@ returns-in_ok-from_parts-in-Some c =
     let t = c.as_bytes.result.now in
     let k = plain_of (scan t) (numeral_of c.in-Some.parts) c.in-Some.ensures in
     let spelled = subst (Spells k.0) c.as_bytes.ensures.value (scan_sound t k.0 k.1) in
-    let read = parts-read k.0 c.in-Some.parts k.2 c.from_parts.result c.from_parts.ensures in
+    let read = parts_read k.0 c.in-Some.parts k.2 c.from_parts.result c.from_parts.ensures in
     reads_number c.args.text.now k.0 c.in_ok-from_parts-in-Some.field-0 spelled (subst (ReadsNumeral k.0) c.in_ok-from_parts-in-Some.was read)
 
 pub returns-in_err-from_parts-in-Some : goal.returns-in_err-from_parts-in-Some
@@ -36,5 +36,5 @@ returns-in_err-from_parts-in-Some c =
     let t = c.as_bytes.result.now in
     let k = plain_of (scan t) (numeral_of c.in-Some.parts) c.in-Some.ensures in
     let spelled = subst (Spells k.0) c.as_bytes.ensures.value (scan_sound t k.0 k.1) in
-    let read = parts-read k.0 c.in-Some.parts k.2 c.from_parts.result c.from_parts.ensures in
+    let read = parts_read k.0 c.in-Some.parts k.2 c.from_parts.result c.from_parts.ensures in
     refused_so c.args.text.now k.0 c.in_err-from_parts-in-Some.field-0.0 c.from_residual.result c.from_residual.ensures.1 spelled (subst (ReadsNumeral k.0) c.in_err-from_parts-in-Some.was read)

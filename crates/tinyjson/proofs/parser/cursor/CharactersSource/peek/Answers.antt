@@ -1,14 +1,14 @@
 use Rattle.std.proofs.Common.{◌≡◌, None, rules, refl, sym}
-use Rattle.tinyjson.proofs.Reading.Cursors.{filled, Ready-filled, none_from, not_shown}
-use Rattle.tinyjson.proofs.Reading.Positions.{advance-nil}
+use Rattle.tinyjson.proofs.Reading.Cursors.{filled, Ready_filled, none_from, not_shown}
+use Rattle.tinyjson.proofs.Reading.Positions.{advance_nil}
 use Rattle.tinyjson.proofs.parser.cursor.CharactersSource.peek.Goals as goal
 
 pub returns-then-self-clause-takes : goal.returns-then-self-clause-takes
-returns-then-self-clause-takes g c = let p = c.args.self.now in record { gives = λ zs h. (zs, refl, h); moves = sym (advance-nil p.cursor.line p.cursor.column p.line_fits p.column_fits) }
+returns-then-self-clause-takes g c = let p = c.args.self.now in record { gives = λ zs h. (zs, refl, h); moves = sym (advance_nil p.cursor.line p.cursor.column p.line_fits p.column_fits) }
 
 pub invariant_of-self-clause-ready : goal.invariant_of-self-clause-ready
 invariant_of-self-clause-ready g c =
-    ∣ Ready-filled g.I.Iterator.can_next g.I.Iterator.remaining c.args.self.now.cursor _ _ _ c.ready.ensures (search rules) (search rules) c.next-next.ensures.goes ∣₁
+    ∣ Ready_filled g.I.Iterator.can_next g.I.Iterator.remaining c.args.self.now.cursor _ _ _ c.ready.ensures (search rules) (search rules) c.next-next.ensures.goes ∣₁
 
 pub returns-clause-takes : goal.returns-clause-takes
 returns-clause-takes g c =
@@ -16,7 +16,7 @@ returns-clause-takes g c =
     let n : p.cursor.peeked ≡ None = search (rules, none_from) in
     record {
       gives = λ zs h. (zs, refl, filled g.I.Iterator.next_gives p.cursor _ _ _ zs n (search rules) c.next-next.ensures.steps (search rules) h);
-      moves = sym (advance-nil p.cursor.line p.cursor.column p.line_fits p.column_fits);
+      moves = sym (advance_nil p.cursor.line p.cursor.column p.line_fits p.column_fits);
     }
 
 pub returns-clause-kept : goal.returns-clause-kept

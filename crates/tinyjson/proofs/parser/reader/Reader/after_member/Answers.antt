@@ -2,8 +2,8 @@ use Rattle.std.proofs.Common.{rules, true, Some, ◌≡◌}
 use Rattle.tinyjson.specs.private.Machine.{after, next}
 use Rattle.tinyjson.specs.private.Stack.{ClosesObject, at, frames}
 use Rattle.tinyjson.specs.declared.parser.error.JsonParseErrorKind.TheVariants.{UnexpectedEof, ExpectedCommaOrBrace}
-use Rattle.tinyjson.proofs.Reading.Sources.{Takes-shown}
-use Rattle.tinyjson.proofs.Reading.Steps.{end_after, Leads-one, Leads-end, Refuses-as, Refuses-memory, Reads-after, taken_complete}
+use Rattle.tinyjson.proofs.Reading.Sources.{Takes_shown}
+use Rattle.tinyjson.proofs.Reading.Steps.{end_after, Leads_one, Leads_end, Refuses_as, Refuses_memory, Reads_after, taken_complete}
 use Rattle.tinyjson.proofs.Reading.Containers.{object_closes, object_other}
 use Rattle.tinyjson.proofs.Reading.Stack.{member_whole, comma_read, after_white, after_halts}
 use Rattle.tinyjson.proofs.parser.reader.Reader.after_member.Goals as goal
@@ -12,22 +12,22 @@ pub returns-then-is_err-clause-reads : goal.returns-then-is_err-clause-reads
 returns-then-is_err-clause-reads g c = λ limit.
     let sight = g.S.Source.sight in
     let whole = member_whole c.args.stack.now c.requires.sound c.args.values c.args.keys _ c.requires.member.1 in
-    Refuses-memory sight limit _ _ c.refuse.result c.refuse.ensures.kind c.refuse.ensures.at (after_halts sight limit _ _ _ whole c.skip_white.ensures.white)
+    Refuses_memory sight limit _ _ c.refuse.result c.refuse.ensures.kind c.refuse.ensures.at (after_halts sight limit _ _ _ whole c.skip_white.ensures.white)
 
 pub returns-in_default-clause-reads : goal.returns-in_default-clause-reads
 returns-in_default-clause-reads g c = λ limit.
     let sight = g.S.Source.sight in
     let whole = member_whole c.args.stack.now c.requires.sound c.args.values c.args.keys _ c.requires.member.1 in
-    Refuses-memory sight limit _ _ c.refuse-in_default.result c.refuse-in_default.ensures.kind c.refuse-in_default.ensures.at (after_halts sight limit _ _ _ whole c.skip_white.ensures.white)
+    Refuses_memory sight limit _ _ c.refuse-in_default.result c.refuse-in_default.ensures.kind c.refuse-in_default.ensures.at (after_halts sight limit _ _ _ whole c.skip_white.ensures.white)
 
 pub returns-else-is_err-clause-reads : goal.returns-else-is_err-clause-reads
 returns-else-is_err-clause-reads g c = λ limit.
     let sight = g.S.Source.sight in
     let d = c.in-Some-eq44.field-0 in
     let whole : at c.args.stack.now true ≡ next (frames c.end_member.new.self) after = search rules in
-    Reads-after sight limit _ _ _ _ _
-    (Leads-one sight limit _ _ _ d (after_white sight limit _ _ _ whole c.skip_white.ensures.white)
-    (Takes-shown sight _ _ _ _ (c.bump.ensures.shown (Some d) c.in-Some-eq44.ensures.shows) c.bump.ensures.takes) tt
+    Reads_after sight limit _ _ _ _ _
+    (Leads_one sight limit _ _ _ d (after_white sight limit _ _ _ whole c.skip_white.ensures.white)
+    (Takes_shown sight _ _ _ _ (c.bump.ensures.shown (Some d) c.in-Some-eq44.ensures.shows) c.bump.ensures.takes) tt
     (comma_read limit c.end_member.new.self (search rules) d (search rules)) tt)
     (c.key.ensures.reads limit)
 
@@ -36,9 +36,9 @@ returns-in-Ok-clause-reads g c = λ limit.
     let sight = g.S.Source.sight in
     let d = c.in-Some-eq125.field-0 in
     let closed : ClosesObject c.args.stack.now c.close_object.new.self c.in-Ok.object = search rules in
-    Reads-after sight limit _ _ _ _ _
-    (Leads-one sight limit _ _ _ d (after_white sight limit _ _ _ closed.before c.skip_white.ensures.white)
-    (Takes-shown sight _ _ _ _ (c.bump-in-Some-eq125.ensures.shown (Some d) c.in-Some-eq125.ensures.shows) c.bump-in-Some-eq125.ensures.takes) tt
+    Reads_after sight limit _ _ _ _ _
+    (Leads_one sight limit _ _ _ d (after_white sight limit _ _ _ closed.before c.skip_white.ensures.white)
+    (Takes_shown sight _ _ _ _ (c.bump-in-Some-eq125.ensures.shown (Some d) c.in-Some-eq125.ensures.shows) c.bump-in-Some-eq125.ensures.takes) tt
     (object_closes limit _ _ _ d closed.value (search rules)) (taken_complete _ _))
     (c.put.ensures.reads limit)
 
@@ -47,14 +47,14 @@ returns-in-Some-clause-reads g c = λ limit.
     let sight = g.S.Source.sight in
     let d = c.in-Some.c in
     let whole = member_whole c.args.stack.now c.requires.sound c.args.values c.args.keys _ c.requires.member.1 in
-    Refuses-as sight limit _ _ c.refuse-in-Some.result (ExpectedCommaOrBrace d) c.refuse-in-Some.ensures.kind c.refuse-in-Some.ensures.at
-    (Leads-one sight limit _ _ _ d (after_white sight limit _ _ _ whole c.skip_white.ensures.white)
-    (Takes-shown sight _ _ _ _ (c.bump-in-Some.ensures.shown (Some d) c.in-Some.ensures.shows) c.bump-in-Some.ensures.takes) tt
+    Refuses_as sight limit _ _ c.refuse-in-Some.result (ExpectedCommaOrBrace d) c.refuse-in-Some.ensures.kind c.refuse-in-Some.ensures.at
+    (Leads_one sight limit _ _ _ d (after_white sight limit _ _ _ whole c.skip_white.ensures.white)
+    (Takes_shown sight _ _ _ _ (c.bump-in-Some.ensures.shown (Some d) c.in-Some.ensures.shows) c.bump-in-Some.ensures.takes) tt
     (object_other limit _ _ d c.in-Some.ensures.stops (search rules) (search rules)) tt)
 
 pub returns-in-None-clause-reads : goal.returns-in-None-clause-reads
 returns-in-None-clause-reads g c = λ limit.
     let sight = g.S.Source.sight in
     let whole = member_whole c.args.stack.now c.requires.sound c.args.values c.args.keys _ c.requires.member.1 in
-    Refuses-as sight limit _ _ c.refuse-in-None.result UnexpectedEof c.refuse-in-None.ensures.kind c.refuse-in-None.ensures.at
-    (Leads-end sight limit _ _ (after_white sight limit _ _ _ whole c.skip_white.ensures.white) c.in-None.ensures.shows (end_after limit _) tt)
+    Refuses_as sight limit _ _ c.refuse-in-None.result UnexpectedEof c.refuse-in-None.ensures.kind c.refuse-in-None.ensures.at
+    (Leads_end sight limit _ _ (after_white sight limit _ _ _ whole c.skip_white.ensures.white) c.in-None.ensures.shows (end_after limit _) tt)

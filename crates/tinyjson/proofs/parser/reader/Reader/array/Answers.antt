@@ -2,8 +2,8 @@ use Rattle.std.proofs.Common.{rules, Some, ◌≡◌, ◌∷◌, sym, ap, refl, 
 use Rattle.tinyjson.specs.private.Machine.{fits, in_array, next, awaited}
 use Rattle.tinyjson.specs.private.Stack.{frames}
 use Rattle.tinyjson.specs.declared.parser.error.JsonParseErrorKind.TheVariants.{TooDeep}
-use Rattle.tinyjson.proofs.Reading.Sources.{Takes-shown}
-use Rattle.tinyjson.proofs.Reading.Steps.{Leads-to, Leads-trans, Leads-whites, Leads-one, Halts-here, Refuses-as, Refuses-memory, Reads-after, white_first, taken_complete}
+use Rattle.tinyjson.proofs.Reading.Sources.{Takes_shown}
+use Rattle.tinyjson.proofs.Reading.Steps.{Leads_to, Leads_trans, Leads_whites, Leads_one, Halts_here, Refuses_as, Refuses_memory, Reads_after, white_first, taken_complete}
 use Rattle.tinyjson.proofs.Reading.Containers.{array_begins, array_too_deep, array_closes_first, array_goes_on}
 use Rattle.tinyjson.proofs.parser.reader.Reader.array.Goals as goal
 use Rattle.tinyjson.proofs.parser.reader.Reader.array.Goals.{in_default-via-in-Some+in_default, in_default-via-in_default}
@@ -14,7 +14,7 @@ returns-then-not-fits-clause-reads g c =
     let limit = c.args.limit in
     let p = c.args.self.now in
     let h : fits limit c.depth.result ≡ false = search rules in
-    Refuses-as sight limit _ _ c.refuse.result (TooDeep 91) c.refuse.ensures.kind c.refuse.ensures.at
+    Refuses_as sight limit _ _ c.refuse.result (TooDeep 91) c.refuse.ensures.kind c.refuse.ensures.at
     (array_too_deep sight limit p.source p.source _ _ c.depth.ensures h c.requires.shown)
 
 pub returns-in-Some-eq93-clause-reads : goal.returns-in-Some-eq93-clause-reads
@@ -24,11 +24,11 @@ returns-in-Some-eq93-clause-reads g c =
     let p = c.args.self.now in
     let h : fits limit c.depth.result ≡ true = search rules in
     let d = c.in-Some-eq93.field-0 in
-    Reads-after sight limit _ _ _ _ _
-    (Leads-trans sight limit _ _ _
-    (array_begins sight limit p.source _ _ _ c.depth.ensures h (Takes-shown sight _ _ _ _ (c.bump.ensures.shown (Some 91) c.requires.shown) c.bump.ensures.takes))
-    (Leads-one sight limit _ _ _ d (Leads-whites sight limit _ _ _ c.skip_white.ensures.white tt (white_first limit _))
-    (Takes-shown sight _ _ _ _ (c.bump-in-Some-eq93.ensures.shown (Some d) c.in-Some-eq93.ensures.shows) c.bump-in-Some-eq93.ensures.takes) tt
+    Reads_after sight limit _ _ _ _ _
+    (Leads_trans sight limit _ _ _
+    (array_begins sight limit p.source _ _ _ c.depth.ensures h (Takes_shown sight _ _ _ _ (c.bump.ensures.shown (Some 91) c.requires.shown) c.bump.ensures.takes))
+    (Leads_one sight limit _ _ _ d (Leads_whites sight limit _ _ _ c.skip_white.ensures.white tt (white_first limit _))
+    (Takes_shown sight _ _ _ _ (c.bump-in-Some-eq93.ensures.shown (Some d) c.in-Some-eq93.ensures.shows) c.bump-in-Some-eq93.ensures.takes) tt
     (array_closes_first limit _ c.new.result d (search rules) (search rules)) (taken_complete _ _)))
     (c.put.ensures.reads limit)
 
@@ -38,10 +38,10 @@ returns-then-is_err-clause-reads g c =
     let limit = c.args.limit in
     let p = c.args.self.now in
     let h : fits limit c.depth.result ≡ true = search rules in
-    Refuses-memory sight limit _ _ c.refuse-then-is_err.result c.refuse-then-is_err.ensures.kind c.refuse-then-is_err.ensures.at
-    (Halts-here sight limit _ _ (Leads-trans sight limit _ _ _
-    (array_begins sight limit p.source _ _ _ c.depth.ensures h (Takes-shown sight _ _ _ _ (c.bump.ensures.shown (Some 91) c.requires.shown) c.bump.ensures.takes))
-    (Leads-whites sight limit _ _ _ c.skip_white.ensures.white tt (white_first limit _))) tt tt)
+    Refuses_memory sight limit _ _ c.refuse-then-is_err.result c.refuse-then-is_err.ensures.kind c.refuse-then-is_err.ensures.at
+    (Halts_here sight limit _ _ (Leads_trans sight limit _ _ _
+    (array_begins sight limit p.source _ _ _ c.depth.ensures h (Takes_shown sight _ _ _ _ (c.bump.ensures.shown (Some 91) c.requires.shown) c.bump.ensures.takes))
+    (Leads_whites sight limit _ _ _ c.skip_white.ensures.white tt (white_first limit _))) tt tt)
 
 pub returns-else-is_err-clause-reads : goal.returns-else-is_err-clause-reads
 returns-else-is_err-clause-reads g c =
@@ -51,8 +51,8 @@ returns-else-is_err-clause-reads g c =
     let h : fits limit c.depth.result ≡ true = search rules in
     let other : IfSome c.skip_white.result (λ d. d ≡ 93 → ⊥) = elim c.in_default.branch [ in_default-via-in-Some+in_default w ↦ rw w.in_default.is (search rules) | in_default-via-in_default w ↦ rw w.in_default.is tt ] in
     let e : frames c.open_array.new.self ≡ in_array [] ∷ frames c.args.stack.now = search rules in
-    Leads-to sight limit _ _
-    (Leads-trans sight limit _ _ _
-    (array_begins sight limit p.source _ _ _ c.depth.ensures h (Takes-shown sight _ _ _ _ (c.bump.ensures.shown (Some 91) c.requires.shown) c.bump.ensures.takes))
-    (array_goes_on sight limit _ _ _ _ c.skip_white.result refl (Leads-whites sight limit _ _ _ c.skip_white.ensures.white tt (white_first limit _)) c.skip_white.ensures.shows c.skip_white.ensures.stops other))
+    Leads_to sight limit _ _
+    (Leads_trans sight limit _ _ _
+    (array_begins sight limit p.source _ _ _ c.depth.ensures h (Takes_shown sight _ _ _ _ (c.bump.ensures.shown (Some 91) c.requires.shown) c.bump.ensures.takes))
+    (array_goes_on sight limit _ _ _ _ c.skip_white.result refl (Leads_whites sight limit _ _ _ c.skip_white.ensures.white tt (white_first limit _)) c.skip_white.ensures.shows c.skip_white.ensures.stops other))
     (ap (λ fs. next fs awaited) (sym e))

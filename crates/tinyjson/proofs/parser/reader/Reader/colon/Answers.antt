@@ -3,7 +3,7 @@ use Rattle.tinyjson.specs.Characters.{is_white}
 use Rattle.tinyjson.specs.View.{text}
 use Rattle.tinyjson.specs.declared.parser.error.JsonParseErrorKind.TheVariants.{UnexpectedEof, ExpectedColon}
 use Rattle.tinyjson.specs.private.Stack.{BeginsMember}
-use Rattle.tinyjson.proofs.Reading.Steps.{end_colon, Leads-whites, Leads-one, Leads-none, Halts-here, Refuses-as, Refuses-memory, white_colon}
+use Rattle.tinyjson.proofs.Reading.Steps.{end_colon, Leads_whites, Leads_one, Leads_none, Halts_here, Refuses_as, Refuses_memory, white_colon}
 use Rattle.tinyjson.proofs.Reading.Stack.{key_colon, key_other, member_begins}
 use Rattle.tinyjson.proofs.parser.reader.Reader.colon.Goals as goal
 
@@ -11,9 +11,9 @@ pub returns-then-is_err-clause-reads : goal.returns-then-is_err-clause-reads
 returns-then-is_err-clause-reads g c = λ limit.
     let sight = g.S.Source.sight in
     let d = c.in-Some-eq58.field-0 in
-    Refuses-memory sight limit _ _ c.refuse.result c.refuse.ensures.kind c.refuse.ensures.at
-    (Halts-here sight limit _ _
-    (Leads-one sight limit _ _ _ d (Leads-whites sight limit _ _ _ c.skip_white.ensures.white tt (white_colon limit _ _)) c.in-Some-eq58.ensures.takes tt
+    Refuses_memory sight limit _ _ c.refuse.result c.refuse.ensures.kind c.refuse.ensures.at
+    (Halts_here sight limit _ _
+    (Leads_one sight limit _ _ _ d (Leads_whites sight limit _ _ _ c.skip_white.ensures.white tt (white_colon limit _ _)) c.in-Some-eq58.ensures.takes tt
     (key_colon c.args.stack.now c.requires.awaits limit (text c.args.key) d (search rules)) tt) tt tt)
 
 pub returns-else-is_err-clause-reads : goal.returns-else-is_err-clause-reads
@@ -21,7 +21,7 @@ returns-else-is_err-clause-reads g c = λ limit.
     let sight = g.S.Source.sight in
     let d = c.in-Some-eq58.field-0 in
     let b : BeginsMember c.args.stack.now c.begin_member.new.self (text c.args.key) = search rules in
-    Leads-one sight limit _ _ _ d (Leads-whites sight limit _ _ _ c.skip_white.ensures.white tt (white_colon limit _ _)) c.in-Some-eq58.ensures.takes tt
+    Leads_one sight limit _ _ _ d (Leads_whites sight limit _ _ _ c.skip_white.ensures.white tt (white_colon limit _ _)) c.in-Some-eq58.ensures.takes tt
     (member_begins limit c.args.stack.now c.begin_member.new.self (text c.args.key) d b (search rules)) tt
 
 pub returns-in-Some-clause-reads : goal.returns-in-Some-clause-reads
@@ -29,12 +29,12 @@ returns-in-Some-clause-reads g c = λ limit.
     let sight = g.S.Source.sight in
     let e = sym (c.bump.ensures.shown c.skip_white.result c.skip_white.ensures.shows) ∙ c.in-Some.is in
     let w = subst (λ o. IfSome o (λ d. is_white d ≡ false)) e c.skip_white.ensures.stops in
-    Refuses-as sight limit _ _ c.refuse-in-Some.result (ExpectedColon c.in-Some.c) c.refuse-in-Some.ensures.kind c.refuse-in-Some.ensures.at
-    (Leads-one sight limit _ _ _ c.in-Some.c (Leads-whites sight limit _ _ _ c.skip_white.ensures.white tt (white_colon limit _ _)) c.in-Some.ensures.takes tt
+    Refuses_as sight limit _ _ c.refuse-in-Some.result (ExpectedColon c.in-Some.c) c.refuse-in-Some.ensures.kind c.refuse-in-Some.ensures.at
+    (Leads_one sight limit _ _ _ c.in-Some.c (Leads_whites sight limit _ _ _ c.skip_white.ensures.white tt (white_colon limit _ _)) c.in-Some.ensures.takes tt
     (key_other c.args.stack.now c.requires.awaits limit (text c.args.key) c.in-Some.c w (search rules)) tt)
 
 pub returns-in-None-clause-reads : goal.returns-in-None-clause-reads
 returns-in-None-clause-reads g c = λ limit.
     let sight = g.S.Source.sight in
-    Refuses-as sight limit _ _ c.refuse-in-None.result UnexpectedEof c.refuse-in-None.ensures.kind c.refuse-in-None.ensures.at
-    (Leads-none sight limit _ _ _ (Leads-whites sight limit _ _ _ c.skip_white.ensures.white tt (white_colon limit _ _)) c.in-None.ensures.takes.0 c.in-None.ensures.takes.1 (end_colon limit _ _) tt)
+    Refuses_as sight limit _ _ c.refuse-in-None.result UnexpectedEof c.refuse-in-None.ensures.kind c.refuse-in-None.ensures.at
+    (Leads_none sight limit _ _ _ (Leads_whites sight limit _ _ _ c.skip_white.ensures.white tt (white_colon limit _ _)) c.in-None.ensures.takes.0 c.in-None.ensures.takes.1 (end_colon limit _ _) tt)

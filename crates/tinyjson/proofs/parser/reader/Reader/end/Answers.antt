@@ -1,18 +1,18 @@
 use Rattle.std.proofs.Common.{refl, sym, subst, ◌∙◌, false, IfSome, ◌≡◌}
 use Rattle.tinyjson.specs.Characters.{is_white}
 use Rattle.tinyjson.specs.declared.parser.error.JsonParseErrorKind.TheVariants.{ExpectedEof}
-use Rattle.tinyjson.proofs.Reading.Steps.{Leads-whites, Leads-one, Leads-none, Refuses-as, white_finished, no_end}
+use Rattle.tinyjson.proofs.Reading.Steps.{Leads_whites, Leads_one, Leads_none, Refuses_as, white_finished, no_end}
 use Rattle.tinyjson.proofs.parser.reader.Reader.end.Goals as goal
 
 pub returns-in-None-clause-reads : goal.returns-in-None-clause-reads
 returns-in-None-clause-reads g c = λ limit t.
     let sight = g.S.Source.sight in
-    Leads-none sight limit _ _ _ (Leads-whites sight limit _ _ _ c.skip_white.ensures.white tt (white_finished limit t)) c.in-None.ensures.takes.0 c.in-None.ensures.takes.1 refl tt
+    Leads_none sight limit _ _ _ (Leads_whites sight limit _ _ _ c.skip_white.ensures.white tt (white_finished limit t)) c.in-None.ensures.takes.0 c.in-None.ensures.takes.1 refl tt
 
 pub returns-in-Some-clause-reads : goal.returns-in-Some-clause-reads
 returns-in-Some-clause-reads g c = λ limit t.
     let sight = g.S.Source.sight in
     let e = sym (c.bump.ensures.shown c.skip_white.result c.skip_white.ensures.shows) ∙ c.in-Some.is in
     let w = subst (λ o. IfSome o (λ d. is_white d ≡ false)) e c.skip_white.ensures.stops in
-    Refuses-as sight limit _ _ c.refuse.result (ExpectedEof c.in-Some.c) c.refuse.ensures.kind c.refuse.ensures.at
-    (Leads-one sight limit _ _ _ c.in-Some.c (Leads-whites sight limit _ _ _ c.skip_white.ensures.white tt (white_finished limit t)) c.in-Some.ensures.takes tt (no_end limit t c.in-Some.c w) tt)
+    Refuses_as sight limit _ _ c.refuse.result (ExpectedEof c.in-Some.c) c.refuse.ensures.kind c.refuse.ensures.at
+    (Leads_one sight limit _ _ _ c.in-Some.c (Leads_whites sight limit _ _ _ c.skip_white.ensures.white tt (white_finished limit t)) c.in-Some.ensures.takes tt (no_end limit t c.in-Some.c w) tt)

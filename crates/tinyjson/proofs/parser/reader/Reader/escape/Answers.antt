@@ -1,32 +1,32 @@
 use Rattle.std.proofs.Common.{◌∙◌, sym}
 use Rattle.tinyjson.specs.declared.parser.error.JsonParseErrorKind.TheVariants.{UnexpectedEof, InvalidEscape}
-use Rattle.tinyjson.proofs.Reading.Steps.{end_quoted, Leads-nil, Leads-one, Leads-none, Refuses-as, Reads-after}
-use Rattle.tinyjson.proofs.Reading.String.{Reads-add, short_read, u_read, escape_other}
+use Rattle.tinyjson.proofs.Reading.Steps.{end_quoted, Leads_nil, Leads_one, Leads_none, Refuses_as, Reads_after}
+use Rattle.tinyjson.proofs.Reading.String.{Reads_add, short_read, u_read, escape_other}
 use Rattle.tinyjson.proofs.parser.reader.Reader.escape.Goals as goal
 
 pub returns-in_default-clause-reads : goal.returns-in_default-clause-reads
 returns-in_default-clause-reads g c = λ limit fs.
     let sight = g.S.Source.sight in
-    Refuses-as sight limit _ _ c.refuse.result UnexpectedEof c.refuse.ensures.kind c.refuse.ensures.at
-    (Leads-none sight limit _ _ _ (Leads-nil sight limit _ _) c.in_default.ensures.takes.0 c.in_default.ensures.takes.1 (end_quoted limit fs _ _ _) tt)
+    Refuses_as sight limit _ _ c.refuse.result UnexpectedEof c.refuse.ensures.kind c.refuse.ensures.at
+    (Leads_none sight limit _ _ _ (Leads_nil sight limit _ _) c.in_default.ensures.takes.0 c.in_default.ensures.takes.1 (end_quoted limit fs _ _ _) tt)
 
 pub returns-in-Some-short_escape-clause-reads : goal.returns-in-Some-short_escape-clause-reads
 returns-in-Some-short_escape-clause-reads g c = λ limit fs.
     let sight = g.S.Source.sight in
-    Reads-add sight limit _ _ _ fs c.add.result c.args.string.now c.add.new.string c.args.units.now.items c.add.new.units.items c.in-Some.c c.in-Some-short_escape.d
-    (Leads-nil sight limit _ _) c.in-Some.ensures.takes tt tt
+    Reads_add sight limit _ _ _ fs c.add.result c.args.string.now c.add.new.string c.args.units.now.items c.add.new.units.items c.in-Some.c c.in-Some-short_escape.d
+    (Leads_nil sight limit _ _) c.in-Some.ensures.takes tt tt
     (short_read limit fs _ _ c.in-Some.c c.in-Some-short_escape.d (sym c.short_escape.ensures ∙ c.in-Some-short_escape.is)) c.add.ensures
 
 pub returns-in-None-clause-reads : goal.returns-in-None-clause-reads
 returns-in-None-clause-reads g c = λ limit fs.
     let sight = g.S.Source.sight in
-    Reads-after sight limit _ _ _ _ _
-    (Leads-one sight limit _ _ _ c.in-Some.c (Leads-nil sight limit _ _) c.in-Some.ensures.takes tt (u_read limit fs _ _ c.in-Some.c c.if-c-eq117.true) tt)
+    Reads_after sight limit _ _ _ _ _
+    (Leads_one sight limit _ _ _ c.in-Some.c (Leads_nil sight limit _ _) c.in-Some.ensures.takes tt (u_read limit fs _ _ c.in-Some.c c.if-c-eq117.true) tt)
     (c.unit.ensures.reads limit fs _)
 
 pub returns-in-None-2-clause-reads : goal.returns-in-None-2-clause-reads
 returns-in-None-2-clause-reads g c = λ limit fs.
     let sight = g.S.Source.sight in
-    Refuses-as sight limit _ _ c.refuse-in-None-2.result (InvalidEscape c.in-Some.c) c.refuse-in-None-2.ensures.kind c.refuse-in-None-2.ensures.at
-    (Leads-one sight limit _ _ _ c.in-Some.c (Leads-nil sight limit _ _) c.in-Some.ensures.takes tt
+    Refuses_as sight limit _ _ c.refuse-in-None-2.result (InvalidEscape c.in-Some.c) c.refuse-in-None-2.ensures.kind c.refuse-in-None-2.ensures.at
+    (Leads_one sight limit _ _ _ c.in-Some.c (Leads_nil sight limit _ _) c.in-Some.ensures.takes tt
     (escape_other limit fs _ _ c.in-Some.c (sym c.short_escape.ensures ∙ c.in-None-2.is) c.if-c-eq117.false) tt)

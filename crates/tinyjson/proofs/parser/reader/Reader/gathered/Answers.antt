@@ -1,5 +1,5 @@
 use Rattle.std.proofs.Common.{sym, subst}
-use Rattle.tinyjson_number.proofs.Parts.{parts-numeral, parts-read}
+use Rattle.tinyjson_number.proofs.Parts.{parts_numeral, parts_read}
 use Rattle.tinyjson.specs.private.NumberSteps.{Gathered}
 use Rattle.tinyjson.proofs.Reading.NumberParts.{parts_of, parts_plain}
 use Rattle.tinyjson.proofs.parser.reader.Reader.gathered.Goals as goal
@@ -8,11 +8,11 @@ pub from_parts-requires-clause-numeral : goal.from_parts-requires-clause-numeral
 from_parts-requires-clause-numeral g c =
     let n = c.requires.gathered.0 in
     let has = subst (Gathered n) (sym c.as_bytes-digits.ensures.value) c.requires.gathered.1 in
-    parts-numeral n (parts_of c.as_bytes-digits.result.now c.args.marks c.exponent_parts.result)
+    parts_numeral n (parts_of c.as_bytes-digits.result.now c.args.marks c.exponent_parts.result)
     (parts_plain n _ c.args.marks has c.requires.gathered.2 c.exponent_parts.result c.exponent_parts.ensures) has.well_formed
 
 pub returns : goal.returns
 returns g c = λ n s at.
     let has = subst (Gathered n) (sym c.as_bytes-digits.ensures.value) s in
-    parts-read n (parts_of c.as_bytes-digits.result.now c.args.marks c.exponent_parts.result)
+    parts_read n (parts_of c.as_bytes-digits.result.now c.args.marks c.exponent_parts.result)
     (parts_plain n _ c.args.marks has at c.exponent_parts.result c.exponent_parts.ensures) c.from_parts.result c.from_parts.ensures

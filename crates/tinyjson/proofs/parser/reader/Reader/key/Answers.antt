@@ -1,9 +1,9 @@
 use Rattle.std.proofs.Common.{rules, Some}
 use Rattle.std.proofs.lemmas.Result.{err_from_is_err_and}
-use Rattle.tinyjson.proofs.Reading.Sources.{Takes-shown}
+use Rattle.tinyjson.proofs.Reading.Sources.{Takes_shown}
 use Rattle.tinyjson.proofs.Reading.Containers.{string_begins}
 use Rattle.tinyjson.proofs.Reading.Stack.{key_string}
-use Rattle.tinyjson.proofs.Reading.Steps.{Leads-whites, Leads-one, Leads-to, Leads-trans, Refuses-after, Reads-after, white_awaited}
+use Rattle.tinyjson.proofs.Reading.Steps.{Leads_whites, Leads_one, Leads_to, Leads_trans, Refuses_after, Reads_after, white_awaited}
 use Rattle.tinyjson.proofs.parser.reader.Reader.key.Goals as goal
 
 pub returns-in_err-key-in-Some-eq34-clause-reads : goal.returns-in_err-key-in-Some-eq34-clause-reads
@@ -11,24 +11,24 @@ returns-in_err-key-in-Some-eq34-clause-reads g c = λ limit.
     let sight = g.S.Source.sight in
     let d = c.in-Some-eq34.field-0 in
     let p = err_from_is_err_and c.from_residual.result c.from_residual.ensures.1 in
-    let q = Leads-one sight limit _ _ _ d (Leads-whites sight limit _ _ _ c.skip_white.ensures.white tt (white_awaited limit _))
-    (Takes-shown sight _ _ _ _ (c.bump.ensures.shown (Some d) c.in-Some-eq34.ensures.shows) c.bump.ensures.takes) tt
+    let q = Leads_one sight limit _ _ _ d (Leads_whites sight limit _ _ _ c.skip_white.ensures.white tt (white_awaited limit _))
+    (Takes_shown sight _ _ _ _ (c.bump.ensures.shown (Some d) c.in-Some-eq34.ensures.shows) c.bump.ensures.takes) tt
     (string_begins limit _ d (search rules)) tt in
-    rw (p.1, p.2) (Refuses-after sight limit _ _ _ _ q (c.in_err-key-in-Some-eq34.ensures.reads limit _))
+    rw (p.1, p.2) (Refuses_after sight limit _ _ _ _ q (c.in_err-key-in-Some-eq34.ensures.reads limit _))
 
 pub returns-in_ok-key-in-Some-eq34-clause-reads : goal.returns-in_ok-key-in-Some-eq34-clause-reads
 returns-in_ok-key-in-Some-eq34-clause-reads g c = λ limit.
     let sight = g.S.Source.sight in
     let d = c.in-Some-eq34.field-0 in
-    let q = Leads-one sight limit _ _ _ d (Leads-whites sight limit _ _ _ c.skip_white.ensures.white tt (white_awaited limit _))
-    (Takes-shown sight _ _ _ _ (c.bump.ensures.shown (Some d) c.in-Some-eq34.ensures.shows) c.bump.ensures.takes) tt
+    let q = Leads_one sight limit _ _ _ d (Leads_whites sight limit _ _ _ c.skip_white.ensures.white tt (white_awaited limit _))
+    (Takes_shown sight _ _ _ _ (c.bump.ensures.shown (Some d) c.in-Some-eq34.ensures.shows) c.bump.ensures.takes) tt
     (string_begins limit _ d (search rules)) tt in
-    Reads-after sight limit _ _ _ _ _
-    (Leads-to sight limit _ _ (Leads-trans sight limit _ _ _ q (c.in_ok-key-in-Some-eq34.ensures.reads limit _)) (key_string c.args.stack.now c.requires.awaits _))
+    Reads_after sight limit _ _ _ _ _
+    (Leads_to sight limit _ _ (Leads_trans sight limit _ _ _ q (c.in_ok-key-in-Some-eq34.ensures.reads limit _)) (key_string c.args.stack.now c.requires.awaits _))
     (c.colon.ensures.reads limit)
 
 pub returns-in_default-clause-reads : goal.returns-in_default-clause-reads
-returns-in_default-clause-reads g c = λ limit. Leads-whites g.S.Source.sight limit _ _ _ c.skip_white.ensures.white tt (white_awaited limit _)
+returns-in_default-clause-reads g c = λ limit. Leads_whites g.S.Source.sight limit _ _ _ c.skip_white.ensures.white tt (white_awaited limit _)
 
 pub returns-in_default-2-clause-reads : goal.returns-in_default-2-clause-reads
-returns-in_default-2-clause-reads g c = λ limit. Leads-whites g.S.Source.sight limit _ _ _ c.skip_white.ensures.white tt (white_awaited limit _)
+returns-in_default-2-clause-reads g c = λ limit. Leads_whites g.S.Source.sight limit _ _ _ c.skip_white.ensures.white tt (white_awaited limit _)

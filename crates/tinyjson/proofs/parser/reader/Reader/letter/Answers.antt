@@ -1,5 +1,5 @@
 use Rattle.std.proofs.Common.{rules, ◌∷◌, [], Some}
-use Rattle.tinyjson.proofs.Reading.Sources.{Takes-append, Takes-shown}
+use Rattle.tinyjson.proofs.Reading.Sources.{Takes_append, Takes_shown}
 use Rattle.tinyjson.proofs.parser.reader.Reader.letter.Goals as goal
 
 pub returns-in-Some-clause-accepts : goal.returns-in-Some-clause-accepts
@@ -9,5 +9,5 @@ returns-in-Some-clause-accepts g c =
     record {
       c = x;
       one = search rules;
-      takes = Takes-append sight _ _ _ [] (x ∷ []) c.peek.ensures.takes (Takes-shown sight _ _ x _ (c.bump.ensures.shown (Some x) c.in-Some.ensures.shows) c.bump.ensures.takes);
+      takes = Takes_append sight _ _ _ [] (x ∷ []) c.peek.ensures.takes (Takes_shown sight _ _ x _ (c.bump.ensures.shown (Some x) c.in-Some.ensures.shows) c.bump.ensures.takes);
     }

@@ -3,57 +3,57 @@ use Rattle.std.proofs.lemmas.Result.{err_from_is_err_and}
 use Rattle.tinyjson.specs.View.{view}
 use Rattle.tinyjson.specs.declared.value.JsonValue.TheVariants as is
 use Rattle.tinyjson.proofs.Reading.Containers.{null_begins, true_begins, false_begins, literal_false}
-use Rattle.tinyjson.proofs.Reading.Sources.{Takes-shown}
-use Rattle.tinyjson.proofs.Reading.Steps.{Leads-nil, Leads-one, Leads-trans, Refuses-after}
+use Rattle.tinyjson.proofs.Reading.Sources.{Takes_shown}
+use Rattle.tinyjson.proofs.Reading.Steps.{Leads_nil, Leads_one, Leads_trans, Refuses_after}
 use Rattle.tinyjson.proofs.parser.reader.Reader.literal.Goals as goal
 
 pub returns-in_err-letters-in-n-clause-reads : goal.returns-in_err-letters-in-n-clause-reads
 returns-in_err-letters-in-n-clause-reads g c = λ limit fs.
     let sight = g.S.Source.sight in
-    let l = Leads-one sight limit _ _ _ c.args.first (Leads-nil sight limit _ _)
-    (Takes-shown sight _ _ _ _ (c.bump.ensures.shown (Some c.args.first) c.requires.shown) c.bump.ensures.takes) tt
+    let l = Leads_one sight limit _ _ _ c.args.first (Leads_nil sight limit _ _)
+    (Takes_shown sight _ _ _ _ (c.bump.ensures.shown (Some c.args.first) c.requires.shown) c.bump.ensures.takes) tt
     (null_begins limit fs c.args.first c.in-n.is) tt in
     let p = err_from_is_err_and c.from_residual.result c.from_residual.ensures.1 in
-    rw (p.1, p.2) (Refuses-after sight limit _ _ _ _ l (c.in_err-letters-in-n.ensures.reads limit fs (view is.Null)))
+    rw (p.1, p.2) (Refuses_after sight limit _ _ _ _ l (c.in_err-letters-in-n.ensures.reads limit fs (view is.Null)))
 
 pub returns-in_err-letters-in-t-clause-reads : goal.returns-in_err-letters-in-t-clause-reads
 returns-in_err-letters-in-t-clause-reads g c = λ limit fs.
     let sight = g.S.Source.sight in
-    let l = Leads-one sight limit _ _ _ c.args.first (Leads-nil sight limit _ _)
-    (Takes-shown sight _ _ _ _ (c.bump.ensures.shown (Some c.args.first) c.requires.shown) c.bump.ensures.takes) tt
+    let l = Leads_one sight limit _ _ _ c.args.first (Leads_nil sight limit _ _)
+    (Takes_shown sight _ _ _ _ (c.bump.ensures.shown (Some c.args.first) c.requires.shown) c.bump.ensures.takes) tt
     (true_begins limit fs c.args.first c.in-t.is) tt in
     let p = err_from_is_err_and c.from_residual-in_err-letters-in-t.result c.from_residual-in_err-letters-in-t.ensures.1 in
-    rw (p.1, p.2) (Refuses-after sight limit _ _ _ _ l (c.in_err-letters-in-t.ensures.reads limit fs (view (is.Boolean true))))
+    rw (p.1, p.2) (Refuses_after sight limit _ _ _ _ l (c.in_err-letters-in-t.ensures.reads limit fs (view (is.Boolean true))))
 
 pub returns-in_err-letters-in_default-clause-reads : goal.returns-in_err-letters-in_default-clause-reads
 returns-in_err-letters-in_default-clause-reads g c = λ limit fs.
     let sight = g.S.Source.sight in
-    let l = Leads-one sight limit _ _ _ c.args.first (Leads-nil sight limit _ _)
-    (Takes-shown sight _ _ _ _ (c.bump.ensures.shown (Some c.args.first) c.requires.shown) c.bump.ensures.takes) tt
+    let l = Leads_one sight limit _ _ _ c.args.first (Leads_nil sight limit _ _)
+    (Takes_shown sight _ _ _ _ (c.bump.ensures.shown (Some c.args.first) c.requires.shown) c.bump.ensures.takes) tt
     (false_begins limit fs c.args.first (literal_false c.args.first c.requires.begins (search rules) (search rules))) tt in
     let p = err_from_is_err_and c.from_residual-in_err-letters-in_default.result c.from_residual-in_err-letters-in_default.ensures.1 in
-    rw (p.1, p.2) (Refuses-after sight limit _ _ _ _ l (c.in_err-letters-in_default.ensures.reads limit fs (view (is.Boolean false))))
+    rw (p.1, p.2) (Refuses_after sight limit _ _ _ _ l (c.in_err-letters-in_default.ensures.reads limit fs (view (is.Boolean false))))
 
 pub returns-in_ok-letters-in-n-clause-reads : goal.returns-in_ok-letters-in-n-clause-reads
 returns-in_ok-letters-in-n-clause-reads g c = λ limit fs.
     let sight = g.S.Source.sight in
-    let l = Leads-one sight limit _ _ _ c.args.first (Leads-nil sight limit _ _)
-    (Takes-shown sight _ _ _ _ (c.bump.ensures.shown (Some c.args.first) c.requires.shown) c.bump.ensures.takes) tt
+    let l = Leads_one sight limit _ _ _ c.args.first (Leads_nil sight limit _ _)
+    (Takes_shown sight _ _ _ _ (c.bump.ensures.shown (Some c.args.first) c.requires.shown) c.bump.ensures.takes) tt
     (null_begins limit fs c.args.first c.in-n.is) tt in
-    Leads-trans sight limit _ _ _ l (c.in_ok-letters-in-n.ensures.reads limit fs (view is.Null))
+    Leads_trans sight limit _ _ _ l (c.in_ok-letters-in-n.ensures.reads limit fs (view is.Null))
 
 pub returns-in_ok-letters-in-t-clause-reads : goal.returns-in_ok-letters-in-t-clause-reads
 returns-in_ok-letters-in-t-clause-reads g c = λ limit fs.
     let sight = g.S.Source.sight in
-    let l = Leads-one sight limit _ _ _ c.args.first (Leads-nil sight limit _ _)
-    (Takes-shown sight _ _ _ _ (c.bump.ensures.shown (Some c.args.first) c.requires.shown) c.bump.ensures.takes) tt
+    let l = Leads_one sight limit _ _ _ c.args.first (Leads_nil sight limit _ _)
+    (Takes_shown sight _ _ _ _ (c.bump.ensures.shown (Some c.args.first) c.requires.shown) c.bump.ensures.takes) tt
     (true_begins limit fs c.args.first c.in-t.is) tt in
-    Leads-trans sight limit _ _ _ l (c.in_ok-letters-in-t.ensures.reads limit fs (view (is.Boolean true)))
+    Leads_trans sight limit _ _ _ l (c.in_ok-letters-in-t.ensures.reads limit fs (view (is.Boolean true)))
 
 pub returns-in_ok-letters-in_default-clause-reads : goal.returns-in_ok-letters-in_default-clause-reads
 returns-in_ok-letters-in_default-clause-reads g c = λ limit fs.
     let sight = g.S.Source.sight in
-    let l = Leads-one sight limit _ _ _ c.args.first (Leads-nil sight limit _ _)
-    (Takes-shown sight _ _ _ _ (c.bump.ensures.shown (Some c.args.first) c.requires.shown) c.bump.ensures.takes) tt
+    let l = Leads_one sight limit _ _ _ c.args.first (Leads_nil sight limit _ _)
+    (Takes_shown sight _ _ _ _ (c.bump.ensures.shown (Some c.args.first) c.requires.shown) c.bump.ensures.takes) tt
     (false_begins limit fs c.args.first (literal_false c.args.first c.requires.begins (search rules) (search rules))) tt in
-    Leads-trans sight limit _ _ _ l (c.in_ok-letters-in_default.ensures.reads limit fs (view (is.Boolean false)))
+    Leads_trans sight limit _ _ _ l (c.in_ok-letters-in_default.ensures.reads limit fs (view (is.Boolean false)))

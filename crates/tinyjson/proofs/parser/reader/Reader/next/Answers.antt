@@ -1,16 +1,16 @@
 use Rattle.tinyjson.specs.declared.parser.error.JsonParseErrorKind.TheVariants.{UnexpectedEof}
-use Rattle.tinyjson.proofs.Reading.Steps.{end_awaited, Leads-whites, Leads-end, Refuses-as, Reads-after, white_awaited}
+use Rattle.tinyjson.proofs.Reading.Steps.{end_awaited, Leads_whites, Leads_end, Refuses_as, Reads_after, white_awaited}
 use Rattle.tinyjson.proofs.parser.reader.Reader.next.Goals as goal
 
 pub returns-in-Some-clause-reads : goal.returns-in-Some-clause-reads
 returns-in-Some-clause-reads g c =
     let sight = g.S.Source.sight in
     let limit = c.args.limit in
-    Reads-after sight limit _ _ _ _ _ (Leads-whites sight limit _ _ _ c.skip_white.ensures.white tt (white_awaited limit _)) c.value.ensures.reads
+    Reads_after sight limit _ _ _ _ _ (Leads_whites sight limit _ _ _ c.skip_white.ensures.white tt (white_awaited limit _)) c.value.ensures.reads
 
 pub returns-in-None-clause-reads : goal.returns-in-None-clause-reads
 returns-in-None-clause-reads g c =
     let sight = g.S.Source.sight in
     let limit = c.args.limit in
-    Refuses-as sight limit _ _ c.refuse.result UnexpectedEof c.refuse.ensures.kind c.refuse.ensures.at
-    (Leads-end sight limit _ _ (Leads-whites sight limit _ _ _ c.skip_white.ensures.white tt (white_awaited limit _)) c.in-None.ensures.shows (end_awaited limit _) tt)
+    Refuses_as sight limit _ _ c.refuse.result UnexpectedEof c.refuse.ensures.kind c.refuse.ensures.at
+    (Leads_end sight limit _ _ (Leads_whites sight limit _ _ _ c.skip_white.ensures.white tt (white_awaited limit _)) c.in-None.ensures.shows (end_awaited limit _) tt)

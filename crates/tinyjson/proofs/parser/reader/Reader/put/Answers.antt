@@ -2,7 +2,7 @@ use Rattle.std.proofs.Common.{rules, sym, ◌≡◌, true}
 use Rattle.tinyjson.specs.View.{view}
 use Rattle.tinyjson.specs.private.Machine.{complete}
 use Rattle.tinyjson.specs.private.Stack.{TakesValue, open_of, at, frames}
-use Rattle.tinyjson.proofs.Reading.Steps.{Leads-nil, Leads-to, Halts-here, Refuses-memory}
+use Rattle.tinyjson.proofs.Reading.Steps.{Leads_nil, Leads_to, Halts_here, Refuses_memory}
 use Rattle.tinyjson.proofs.Reading.Stack.{value_taken}
 use Rattle.tinyjson.proofs.parser.reader.Reader.put.Goals as goal
 
@@ -11,10 +11,10 @@ returns-then-is_err-clause-reads g c = λ limit.
     let sight = g.S.Source.sight in
     let place : TakesValue (open_of c.args.stack.now) = search rules in
     let next = value_taken (open_of c.args.stack.now) _ _ _ (view c.args.value) place in
-    Refuses-memory sight limit _ _ c.refuse.result c.refuse.ensures.kind c.refuse.ensures.at (Halts-here sight limit _ _ (Leads-nil sight limit _ _) next next)
+    Refuses_memory sight limit _ _ c.refuse.result c.refuse.ensures.kind c.refuse.ensures.at (Halts_here sight limit _ _ (Leads_nil sight limit _ _) next next)
 
 pub returns-clause-reads : goal.returns-clause-reads
 returns-clause-reads g c = λ limit.
     let sight = g.S.Source.sight in
     let e : at c.push.new.self true ≡ complete true (frames c.args.stack.now) (view c.args.value) true = search rules in
-    Leads-to sight limit _ _ (Leads-nil sight limit _ _) (sym e)
+    Leads_to sight limit _ _ (Leads_nil sight limit _ _) (sym e)

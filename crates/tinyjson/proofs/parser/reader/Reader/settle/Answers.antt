@@ -4,13 +4,13 @@ use Rattle.tinyjson.specs.View.{text}
 use Rattle.tinyjson.specs.private.Machine.{next, quoted, plain}
 use Rattle.tinyjson.specs.private.Scan.{is_plain}
 use Rattle.tinyjson.specs.declared.parser.error.JsonParseErrorKind.TheVariants.{InvalidUtf16}
-use Rattle.tinyjson.proofs.Reading.Sources.{Takes-shown}
-use Rattle.tinyjson.proofs.Reading.Steps.{Leads-nil, Leads-one, Leads-peek, Leads-shown, Leads-to, Refuses-as}
+use Rattle.tinyjson.proofs.Reading.Sources.{Takes_shown}
+use Rattle.tinyjson.proofs.Reading.Steps.{Leads_nil, Leads_one, Leads_peek, Leads_shown, Leads_to, Refuses_as}
 use Rattle.tinyjson.proofs.Reading.String.{units_added, units_refused}
 use Rattle.tinyjson.proofs.parser.reader.Reader.settle.Goals as goal
 
 pub returns-then-is_empty-clause-reads : goal.returns-then-is_empty-clause-reads
-returns-then-is_empty-clause-reads g c = λ limit fs. Leads-nil g.S.Source.sight limit _ _
+returns-then-is_empty-clause-reads g c = λ limit fs. Leads_nil g.S.Source.sight limit _ _
 
 pub returns-in-Ok-true-clause-reads : goal.returns-in-Ok-true-clause-reads
 returns-in-Ok-true-clause-reads g c = λ limit fs.
@@ -22,8 +22,8 @@ returns-in-Ok-true-clause-reads g c = λ limit fs.
     let whole : paired us ≡ true = ap paired (sym c.deref.ensures.value) ∙ sym c.in-Ok-true.ensures.whole ∙ c.in-Ok-true.field-0-test in
     let added : now ≡ old ++ decode us = c.in-Ok-true.ensures.text c.in-Ok-true.field-0-test ∙ ap (λ vs. old ++ decode vs) c.deref.ensures.value in
     let none : c.clear.new.self.items ≡ [] = search rules in
-    Leads-to sight limit _ _
-    (Leads-shown sight limit _ _ c.in-Some.c (Leads-peek sight limit _ _ _ (Leads-nil sight limit _ _) c.in-Some.ensures.takes) c.in-Some.ensures.shows (units_added limit fs old us now c.in-Some.c plainly whole added) tt)
+    Leads_to sight limit _ _
+    (Leads_shown sight limit _ _ c.in-Some.c (Leads_peek sight limit _ _ _ (Leads_nil sight limit _ _) c.in-Some.ensures.takes) c.in-Some.ensures.shows (units_added limit fs old us now c.in-Some.c plainly whole added) tt)
     (ap (λ vs. next fs (quoted plain now vs)) (sym none))
 
 pub returns-in-Ok-false-clause-reads : goal.returns-in-Ok-false-clause-reads
@@ -32,7 +32,7 @@ returns-in-Ok-false-clause-reads g c = λ limit fs.
     let us = c.args.units.now.items in
     let plainly : is_plain c.in-Some.c ≡ true = sym c.is_plain.ensures ∙ c.if-is_plain.true in
     let unpaired : paired us ≡ false = ap paired (sym c.deref.ensures.value) ∙ sym c.in-Ok-false.ensures.whole ∙ c.in-Ok-false.field-0-test in
-    Refuses-as sight limit _ _ c.refuse.result InvalidUtf16 c.refuse.ensures.kind c.refuse.ensures.at
-    (Leads-one sight limit _ _ _ c.in-Some.c (Leads-peek sight limit _ _ _ (Leads-nil sight limit _ _) c.in-Some.ensures.takes)
-    (Takes-shown sight _ _ _ _ (c.bump.ensures.shown (Some c.in-Some.c) c.in-Some.ensures.shows) c.bump.ensures.takes) tt
+    Refuses_as sight limit _ _ c.refuse.result InvalidUtf16 c.refuse.ensures.kind c.refuse.ensures.at
+    (Leads_one sight limit _ _ _ c.in-Some.c (Leads_peek sight limit _ _ _ (Leads_nil sight limit _ _) c.in-Some.ensures.takes)
+    (Takes_shown sight _ _ _ _ (c.bump.ensures.shown (Some c.in-Some.c) c.in-Some.ensures.shows) c.bump.ensures.takes) tt
     (units_refused limit fs (text c.args.string.now) us c.in-Some.c plainly unpaired) tt)

@@ -4,7 +4,7 @@ use Rattle.std.proofs.lemmas.Bool.Decides.{nat_tests}
 use Rattle.tinyjson.specs.Characters.{is_hex}
 use Rattle.tinyjson.specs.declared.parser.error.JsonParseErrorKind.TheVariants.{UnexpectedEof, InvalidHexDigit}
 use Rattle.tinyjson.specs.private.Machine.{next, quoted, plain}
-use Rattle.tinyjson.proofs.Reading.Steps.{Leads-nil, Leads-to, Leads-one, Leads-none, Halts-here, Refuses-as, Refuses-memory}
+use Rattle.tinyjson.proofs.Reading.Steps.{Leads_nil, Leads_to, Leads_one, Leads_none, Halts_here, Refuses_as, Refuses_memory}
 use Rattle.tinyjson.proofs.Reading.String.{unit_grows, sixteen_small, sixteen_next, hex_next, hex_step, hex_other, hex_done, hex_end, hex_taken}
 use Rattle.tinyjson.proofs.parser.reader.Reader.unit.Goals as goal
 
@@ -13,7 +13,7 @@ loop-init g c = record {
   small = omega arith;
   items = refl;
   left = omega arith;
-  reads = ([], refl, refl, λ limit fs cs. Leads-nil g.S.Source.sight limit _ _);
+  reads = ([], refl, refl, λ limit fs cs. Leads_nil g.S.Source.sight limit _ _);
 }
 
 pub returns-in_default-clause-reads : goal.returns-in_default-clause-reads
@@ -21,8 +21,8 @@ returns-in_default-clause-reads g c = λ limit fs cs.
     let sight = g.S.Source.sight in
     let v = c.loop.invariant.reads in
     let h : length v.0 < 4 = omega (arith, v.1, c.loop-test.true) in
-    Refuses-as sight limit _ _ c.refuse.result UnexpectedEof c.refuse.ensures.kind c.refuse.ensures.at
-    (Leads-none sight limit _ _ _ (v.3 limit fs cs) c.in_default.ensures.takes.0 c.in_default.ensures.takes.1 (hex_end limit fs cs _ v.0 h) (hex_next fs cs _ v.0 h))
+    Refuses_as sight limit _ _ c.refuse.result UnexpectedEof c.refuse.ensures.kind c.refuse.ensures.at
+    (Leads_none sight limit _ _ _ (v.3 limit fs cs) c.in_default.ensures.takes.0 c.in_default.ensures.takes.1 (hex_end limit fs cs _ v.0 h) (hex_next fs cs _ v.0 h))
 
 pub returns-in_default-to_digit-clause-reads : goal.returns-in_default-to_digit-clause-reads
 returns-in_default-to_digit-clause-reads g c = λ limit fs cs.
@@ -31,8 +31,8 @@ returns-in_default-to_digit-clause-reads g c = λ limit fs cs.
     let h : length v.0 < 4 = omega (arith, v.1, c.loop-test.true) in
     let a : 16 ≤ digit_value c.in-Some.c = search rules in
     let b : is_hex c.in-Some.c ≡ false = grind (arith, nat_tests, a) in
-    Refuses-as sight limit _ _ c.refuse-in_default-to_digit.result (InvalidHexDigit c.in-Some.c) c.refuse-in_default-to_digit.ensures.kind c.refuse-in_default-to_digit.ensures.at
-    (Leads-one sight limit _ _ _ c.in-Some.c (v.3 limit fs cs) c.in-Some.ensures.takes (hex_next fs cs _ v.0 h) (hex_other limit fs cs _ v.0 c.in-Some.c h b) tt)
+    Refuses_as sight limit _ _ c.refuse-in_default-to_digit.result (InvalidHexDigit c.in-Some.c) c.refuse-in_default-to_digit.ensures.kind c.refuse-in_default-to_digit.ensures.at
+    (Leads_one sight limit _ _ _ c.in-Some.c (v.3 limit fs cs) c.in-Some.ensures.takes (hex_next fs cs _ v.0 h) (hex_other limit fs cs _ v.0 c.in-Some.c h b) tt)
 
 pub overflow_mul-unit : goal.overflow_mul-unit
 overflow_mul-unit g c =
@@ -63,7 +63,7 @@ loop-preserved g c =
         v.0 ++ c.in-Some.c ∷ [],
         length-append v.0 (c.in-Some.c ∷ []) ∙ ap (λ n. n + 1) v.1,
         unit_grows v.0 c.in-Some.c c.loop.unit c.in-Some-to_digit.digit _ v.2 e refl,
-        λ limit fs cs. Leads-one sight limit _ _ _ c.in-Some.c (v.3 limit fs cs) c.in-Some.ensures.takes (hex_next fs cs _ v.0 h) (hex_step limit fs cs _ v.0 c.in-Some.c h b) (hex_taken fs cs _ (v.0 ++ c.in-Some.c ∷ [])),
+        λ limit fs cs. Leads_one sight limit _ _ _ c.in-Some.c (v.3 limit fs cs) c.in-Some.ensures.takes (hex_next fs cs _ v.0 h) (hex_step limit fs cs _ v.0 c.in-Some.c h b) (hex_taken fs cs _ (v.0 ++ c.in-Some.c ∷ [])),
       );
     }
 
@@ -72,8 +72,8 @@ returns-then-is_err-clause-reads g c = λ limit fs cs.
     let sight = g.S.Source.sight in
     let v = c.loop.invariant.reads in
     let l : length v.0 ≡ 4 = search (rules, arith) in
-    Refuses-memory sight limit _ _ c.refuse-then-is_err.result c.refuse-then-is_err.ensures.kind c.refuse-then-is_err.ensures.at
-    (Halts-here sight limit _ _ (Leads-to sight limit _ _ (v.3 limit fs cs) (hex_done fs cs _ v.0 _ l v.2)) tt tt)
+    Refuses_memory sight limit _ _ c.refuse-then-is_err.result c.refuse-then-is_err.ensures.kind c.refuse-then-is_err.ensures.at
+    (Halts_here sight limit _ _ (Leads_to sight limit _ _ (v.3 limit fs cs) (hex_done fs cs _ v.0 _ l v.2)) tt tt)
 
 pub returns-clause-reads : goal.returns-clause-reads
 returns-clause-reads g c = λ limit fs cs.
@@ -81,4 +81,4 @@ returns-clause-reads g c = λ limit fs cs.
     let v = c.loop.invariant.reads in
     let l : length v.0 ≡ 4 = search (rules, arith) in
     let e : c.push.new.self.items ≡ c.args.units.now.items ++ c.loop.unit ∷ [] = search rules in
-    Leads-to sight limit _ _ (v.3 limit fs cs) (hex_done fs cs _ v.0 _ l v.2 ∙ ap (λ us. next fs (quoted plain cs us)) (sym e))
+    Leads_to sight limit _ _ (v.3 limit fs cs) (hex_done fs cs _ v.0 _ l v.2 ∙ ap (λ us. next fs (quoted plain cs us)) (sym e))

@@ -2,17 +2,17 @@ use Rattle.std.proofs.Common.{ap, ◌∙◌}
 use Rattle.tinyjson.specs.Kind.{kind_of}
 use Rattle.tinyjson.specs.View.{view, text}
 use Rattle.tinyjson.specs.declared.parser.error.JsonParseErrorKind.TheVariants.{KeyNotString}
-use Rattle.tinyjson.proofs.Reading.Steps.{Leads-nil, Leads-to, Refuses-as, Reads-after}
+use Rattle.tinyjson.proofs.Reading.Steps.{Leads_nil, Leads_to, Refuses_as, Reads_after}
 use Rattle.tinyjson.proofs.Reading.Containers.{no_string}
 use Rattle.tinyjson.proofs.Reading.Stack.{key_string, key_refused}
-use Rattle.tinyjson.proofs.Values.Equality.{view-String}
+use Rattle.tinyjson.proofs.Values.Equality.{view_String}
 use Rattle.tinyjson.proofs.parser.reader.Reader.use_as_key.Goals as goal
 
 pub returns-in-String-clause-reads : goal.returns-in-String-clause-reads
 returns-in-String-clause-reads g c = λ limit.
     let sight = g.S.Source.sight in
-    rw (c.in-String.is, view-String c.in-String.key)
-    (Reads-after sight limit _ _ _ _ _ (Leads-to sight limit _ _ (Leads-nil sight limit _ _) (key_string c.args.stack.now c.requires.awaits (text c.in-String.key))) (c.colon.ensures.reads limit))
+    rw (c.in-String.is, view_String c.in-String.key)
+    (Reads_after sight limit _ _ _ _ _ (Leads_to sight limit _ _ (Leads_nil sight limit _ _) (key_string c.args.stack.now c.requires.awaits (text c.in-String.key))) (c.colon.ensures.reads limit))
 
 pub returns-in_default : goal.returns-in_default
 returns-in_default g c =
@@ -20,8 +20,8 @@ returns-in_default g c =
     let t = view c.args.value in
     record {
       reads = λ limit.
-          Refuses-as sight limit _ _ c.refuse.result (KeyNotString (kind_of t)) (c.refuse.ensures.kind ∙ ap KeyNotString c.kind.ensures) c.refuse.ensures.at
-          (Leads-to sight limit _ _ (Leads-nil sight limit _ _) (key_refused c.args.stack.now c.requires.awaits t (no_string c.args.value c.in_default.not-String)));
+          Refuses_as sight limit _ _ c.refuse.result (KeyNotString (kind_of t)) (c.refuse.ensures.kind ∙ ap KeyNotString c.kind.ensures) c.refuse.ensures.at
+          (Leads_to sight limit _ _ (Leads_nil sight limit _ _) (key_refused c.args.stack.now c.requires.awaits t (no_string c.args.value c.in_default.not-String)));
       sound = tt;
       left = tt;
     }

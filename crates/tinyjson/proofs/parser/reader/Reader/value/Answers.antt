@@ -3,10 +3,10 @@ use Rattle.std.proofs.lemmas.Result.{err_from_is_err_and}
 use Rattle.tinyjson.specs.private.Machine.{complete}
 use Rattle.tinyjson.specs.private.Stack.{frames}
 use Rattle.tinyjson.specs.declared.parser.error.JsonParseErrorKind.TheVariants.{InvalidCharacter}
-use Rattle.tinyjson.proofs.Reading.Containers.{string_begins, view-Number}
-use Rattle.tinyjson.proofs.Reading.Sources.{Takes-shown}
-use Rattle.tinyjson.proofs.Reading.Steps.{Leads-nil, Leads-one, Leads-shown, Leads-to, Leads-trans, Refuses-after, Refuses-as, Reads-after, invalid}
-use Rattle.tinyjson.proofs.Values.Equality.{view-String}
+use Rattle.tinyjson.proofs.Reading.Containers.{string_begins, view_Number}
+use Rattle.tinyjson.proofs.Reading.Sources.{Takes_shown}
+use Rattle.tinyjson.proofs.Reading.Steps.{Leads_nil, Leads_one, Leads_shown, Leads_to, Leads_trans, Refuses_after, Refuses_as, Reads_after, invalid}
+use Rattle.tinyjson.proofs.Values.Equality.{view_String}
 use Rattle.tinyjson.proofs.parser.reader.Reader.value.Goals as goal
 
 pub returns-in_err-string-in-34-clause-reads : goal.returns-in_err-string-in-34-clause-reads
@@ -16,28 +16,28 @@ returns-in_err-string-in-34-clause-reads g c =
     let d = c.args.first in
     let r = c.from_residual-in_err-string-in-34 in
     let p = err_from_is_err_and r.result r.ensures.1 in
-    let l = Leads-one sight limit _ _ _ d (Leads-nil sight limit _ _)
-    (Takes-shown sight _ _ _ _ (c.bump.ensures.shown (Some d) c.requires.shown) c.bump.ensures.takes) tt
+    let l = Leads_one sight limit _ _ _ d (Leads_nil sight limit _ _)
+    (Takes_shown sight _ _ _ _ (c.bump.ensures.shown (Some d) c.requires.shown) c.bump.ensures.takes) tt
     (string_begins limit _ d c.in-34.is) tt in
-    rw (p.1, p.2) (Refuses-after sight limit _ _ _ _ l (c.in_err-string-in-34.ensures.reads limit _))
+    rw (p.1, p.2) (Refuses_after sight limit _ _ _ _ l (c.in_err-string-in-34.ensures.reads limit _))
 
 pub returns-in_ok-value-in-n-clause-reads : goal.returns-in_ok-value-in-n-clause-reads
 returns-in_ok-value-in-n-clause-reads g c =
     let sight = g.S.Source.sight in
     let limit = c.args.limit in
-    Reads-after sight limit _ _ _ _ _ (c.in_ok-value-in-n.ensures.reads limit _) (c.put.ensures.reads limit)
+    Reads_after sight limit _ _ _ _ _ (c.in_ok-value-in-n.ensures.reads limit _) (c.put.ensures.reads limit)
 
 pub returns-in_ok-string-in-34-clause-reads : goal.returns-in_ok-string-in-34-clause-reads
 returns-in_ok-string-in-34-clause-reads g c =
     let sight = g.S.Source.sight in
     let limit = c.args.limit in
     let d = c.args.first in
-    let l = Leads-one sight limit _ _ _ d (Leads-nil sight limit _ _)
-    (Takes-shown sight _ _ _ _ (c.bump.ensures.shown (Some d) c.requires.shown) c.bump.ensures.takes) tt
+    let l = Leads_one sight limit _ _ _ d (Leads_nil sight limit _ _)
+    (Takes_shown sight _ _ _ _ (c.bump.ensures.shown (Some d) c.requires.shown) c.bump.ensures.takes) tt
     (string_begins limit _ d c.in-34.is) tt in
-    Reads-after sight limit _ _ _ _ _
-    (Leads-to sight limit _ _ (Leads-trans sight limit _ _ _ l (c.in_ok-string-in-34.ensures.reads limit _))
-    (ap (λ t. complete true (frames c.args.stack.now) t true) (sym (view-String c.in_ok-string-in-34.string))))
+    Reads_after sight limit _ _ _ _ _
+    (Leads_to sight limit _ _ (Leads_trans sight limit _ _ _ l (c.in_ok-string-in-34.ensures.reads limit _))
+    (ap (λ t. complete true (frames c.args.stack.now) t true) (sym (view_String c.in_ok-string-in-34.string))))
     (c.put-in-34.ensures.reads limit)
 
 pub returns-in_ok-number-in_default-clause-reads : goal.returns-in_ok-number-in_default-clause-reads
@@ -45,8 +45,8 @@ returns-in_ok-number-in_default-clause-reads g c =
     let sight = g.S.Source.sight in
     let limit = c.args.limit in
     let w = c.in_ok-number-in_default in
-    Reads-after sight limit _ _ _ _ _
-    (Leads-to sight limit _ _ (w.ensures.reads limit _) (ap (λ t. complete true (frames c.args.stack.now) t true) (sym (view-Number w.number))))
+    Reads_after sight limit _ _ _ _ _
+    (Leads_to sight limit _ _ (w.ensures.reads limit _) (ap (λ t. complete true (frames c.args.stack.now) t true) (sym (view_Number w.number))))
     (c.put-in_default.ensures.reads limit)
 
 pub returns-in_default-2-clause-reads : goal.returns-in_default-2-clause-reads
@@ -54,6 +54,6 @@ returns-in_default-2-clause-reads g c =
     let sight = g.S.Source.sight in
     let limit = c.args.limit in
     let d = c.args.first in
-    Refuses-as sight limit _ _ c.refuse.result (InvalidCharacter d) c.refuse.ensures.kind c.refuse.ensures.at
-    (Leads-shown sight limit _ _ d (Leads-nil sight limit _ _) c.requires.shown
+    Refuses_as sight limit _ _ c.refuse.result (InvalidCharacter d) c.refuse.ensures.kind c.refuse.ensures.at
+    (Leads_shown sight limit _ _ d (Leads_nil sight limit _ _) c.requires.shown
     (invalid limit _ d c.requires.no_white (search rules) (search rules) (search rules) (search rules) (search rules) (search rules) (search rules) (search rules)) tt)

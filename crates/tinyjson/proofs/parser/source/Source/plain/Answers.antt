@@ -2,12 +2,12 @@ use Rattle.std.proofs.Common.{rules, arith, sym, ap, true, ◌≡◌, ◌∙◌,
 use Rattle.std.proofs.lemmas.Result.{err_from_is_err_and}
 use Rattle.tinyjson.specs.private.Scan.{is_plain}
 use Rattle.tinyjson.specs.View.{text}
-use Rattle.tinyjson.proofs.Reading.Sources.{AllByRecursion-push, Takes-nil, Takes-peek, Takes-append, Takes-shown}
+use Rattle.tinyjson.proofs.Reading.Sources.{AllByRecursion_push, Takes_nil, Takes_peek, Takes_append, Takes_shown}
 use Rattle.tinyjson.proofs.parser.source.Source.plain.Goals as goal
 
 pub loop-c-init : goal.loop-c-init
 loop-c-init g c = record {
-  plain = record { taken = []; pass = tt; takes = Takes-nil g.Self.Source.sight c.args.self.now; added = sym (append-nil (text c.args.string.now)) };
+  plain = record { taken = []; pass = tt; takes = Takes_nil g.Self.Source.sight c.args.self.now; added = sym (append-nil (text c.args.string.now)) };
   left = search rules;
 }
 
@@ -15,7 +15,7 @@ pub returns-in_err-push-in-Some-clause-plain : goal.returns-in_err-push-in-Some-
 returns-in_err-push-in-Some-clause-plain g c =
     let t = c.loop-c.invariant.plain in
     let p = err_from_is_err_and c.from_residual.result c.from_residual.ensures.1 in
-    record { taken = t.taken; pass = t.pass; takes = Takes-peek g.Self.Source.sight _ _ _ t.taken t.takes c.peek.ensures.takes; added = rw p.1 tt }
+    record { taken = t.taken; pass = t.pass; takes = Takes_peek g.Self.Source.sight _ _ _ t.taken t.takes c.peek.ensures.takes; added = rw p.1 tt }
 
 pub loop-c-preserved : goal.loop-c-preserved
 loop-c-preserved g c =
@@ -25,9 +25,9 @@ loop-c-preserved g c =
     record {
       plain = record {
         taken = t.taken ++ x ∷ [];
-        pass = AllByRecursion-push (λ d. is_plain d ≡ true) t.taken x t.pass (search rules);
-        takes = Takes-append sight _ _ _ t.taken (x ∷ []) (Takes-peek sight _ _ _ t.taken t.takes c.peek.ensures.takes)
-            (Takes-shown sight _ _ x _ (c.bump.ensures.shown (Some x) c.in-Some.ensures.shows) c.bump.ensures.takes);
+        pass = AllByRecursion_push (λ d. is_plain d ≡ true) t.taken x t.pass (search rules);
+        takes = Takes_append sight _ _ _ t.taken (x ∷ []) (Takes_peek sight _ _ _ t.taken t.takes c.peek.ensures.takes)
+            (Takes_shown sight _ _ x _ (c.bump.ensures.shown (Some x) c.in-Some.ensures.shows) c.bump.ensures.takes);
         added = c.in_ok-push-in-Some.ensures ∙ ap (λ cs. cs ++ x ∷ []) t.added ∙ append_assoc (text c.args.string.now) t.taken (x ∷ []);
       };
       left = omega (arith, c.bump.ensures.left, c.peek.ensures.left, c.loop-c.invariant.left);
@@ -36,9 +36,9 @@ loop-c-preserved g c =
 pub returns-in_default-clause-plain : goal.returns-in_default-clause-plain
 returns-in_default-clause-plain g c =
     let t = c.loop-c.invariant.plain in
-    record { taken = t.taken; pass = t.pass; takes = Takes-peek g.Self.Source.sight _ _ _ t.taken t.takes c.peek.ensures.takes; added = t.added }
+    record { taken = t.taken; pass = t.pass; takes = Takes_peek g.Self.Source.sight _ _ _ t.taken t.takes c.peek.ensures.takes; added = t.added }
 
 pub returns-in_default-2-clause-plain : goal.returns-in_default-2-clause-plain
 returns-in_default-2-clause-plain g c =
     let t = c.loop-c.invariant.plain in
-    record { taken = t.taken; pass = t.pass; takes = Takes-peek g.Self.Source.sight _ _ _ t.taken t.takes c.peek.ensures.takes; added = t.added }
+    record { taken = t.taken; pass = t.pass; takes = Takes_peek g.Self.Source.sight _ _ _ t.taken t.takes c.peek.ensures.takes; added = t.added }

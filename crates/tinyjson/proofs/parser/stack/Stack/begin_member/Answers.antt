@@ -1,7 +1,7 @@
 use Rattle.std.proofs.Common.{rules, ◌≡◌, ◌∷◌, ◌++◌, [], ◌∙◌, ap, ap₂, subst, reverse, take, drop, length}
 use Rattle.tinyjson.specs.private.Stack.{Lies, frames_over, gather, maps_of, open_of, other_maps, own_members}
 use Rattle.tinyjson.specs.declared.parser.stack.Open.TheVariants as container
-use Rattle.tinyjson.proofs.Reading.Stack.{pushed, frames-key}
+use Rattle.tinyjson.proofs.Reading.Stack.{pushed, frames_key}
 use Rattle.tinyjson.proofs.parser.stack.Stack.begin_member.Goals as goal
 
 pub returns-clause-begins : goal.returns-clause-begins
@@ -22,5 +22,5 @@ returns-clause-begins c =
       members = gather (own_members ms) (drop m ks) (drop n vs);
       outer = frames_over (reverse rest) (take n vs) (take m ks) (other_maps ms);
       before = ap (λ os. frames_over os vs ks ms) opened;
-      behind = ap₂ (λ os js. frames_over os vs js ms) (ap reverse new ∙ pushed rest (container.Member n m)) keys ∙ frames-key n m (reverse rest) vs ks ms c.args.key lies.0 lies.1 lies.2;
+      behind = ap₂ (λ os js. frames_over os vs js ms) (ap reverse new ∙ pushed rest (container.Member n m)) keys ∙ frames_key n m (reverse rest) vs ks ms c.args.key lies.0 lies.1 lies.2;
     }

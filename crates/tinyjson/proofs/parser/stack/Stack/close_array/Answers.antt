@@ -2,7 +2,7 @@ use Rattle.std.proofs.Common.{rules, ◌≡◌, ◌-◌, ◌∙◌, ap, reverse,
 use Rattle.tinyjson.specs.Tree.{array}
 use Rattle.tinyjson.specs.View.{items_view}
 use Rattle.tinyjson.proofs.Reading.Stack.{popped, closes_array}
-use Rattle.tinyjson.proofs.Values.Equality.{view-Array}
+use Rattle.tinyjson.proofs.Values.Equality.{view_Array}
 use Rattle.tinyjson.proofs.parser.stack.Stack.close_array.Goals as goal
 
 pub returns : goal.returns
@@ -12,4 +12,4 @@ returns c =
     let was : c.pop.new.self.items ≡ take (length s.containers.items - 1) s.containers.items = search rules in
     closes_array s c.requires.sound c.args.values _ c.requires.array.1 c.take_items.new.self _
     (ap (λ v. reverse v.items) w.ensures.containers ∙ popped _ _ _ _ c.requires.array.1 was) w.ensures.values (ap (λ v. v.items) w.ensures.keys) (ap (λ v. reverse v.items) w.ensures.maps)
-    (view-Array w.field-0 ∙ ap (λ ws. array (items_view ws)) w.ensures.items)
+    (view_Array w.field-0 ∙ ap (λ ws. array (items_view ws)) w.ensures.items)

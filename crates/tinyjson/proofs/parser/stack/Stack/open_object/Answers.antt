@@ -1,7 +1,7 @@
 use Rattle.std.proofs.Common.{rules, ◌≡◌, ◌∷◌, ◌++◌, [], ◌∙◌, ap, ap₂, reverse, length}
 use Rattle.tinyjson.specs.private.Stack.{frames_over, maps_of, open_of}
 use Rattle.tinyjson.specs.declared.parser.stack.Open.TheVariants as container
-use Rattle.tinyjson.proofs.Reading.Stack.{pushed, frames-object}
+use Rattle.tinyjson.proofs.Reading.Stack.{pushed, frames_object}
 use Rattle.tinyjson.proofs.parser.stack.Stack.open_object.Goals as goal
 
 pub returns-clause-frames : goal.returns-clause-frames
@@ -14,7 +14,7 @@ returns-clause-frames c =
     let mapped : c.push.new.self.items ≡ s.maps.items ++ c.new.result ∷ [] = search rules in
     let empty : c.new.result.entries ≡ [] = search rules in
     ap₂ (λ os ms. frames_over os vs ks ms) (ap reverse opened ∙ pushed s.containers.items o) (ap reverse mapped ∙ pushed s.maps.items c.new.result)
-    ∙ frames-object (open_of s) vs ks c.new.result (maps_of s) empty
+    ∙ frames_object (open_of s) vs ks c.new.result (maps_of s) empty
 
 pub returns-clause-awaits : goal.returns-clause-awaits
 returns-clause-awaits c =

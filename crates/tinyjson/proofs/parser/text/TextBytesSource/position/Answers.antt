@@ -5,14 +5,14 @@ use Rattle.std.proofs.lemmas.List.{map-id}
 use Rattle.std.specs.Str.{chars}
 use Rattle.tinyjson.specs.Position.{advance, origin}
 use Rattle.tinyjson.specs.private.Slice.{before}
-use Rattle.tinyjson.proofs.Reading.Positions.{advance-append, advance-nil}
+use Rattle.tinyjson.proofs.Reading.Positions.{advance_append, advance_nil}
 use Rattle.tinyjson.proofs.parser.text.TextBytesSource.position.Goals as goal
 
 pub loop-c-init : goal.loop-c-init
-loop-c-init c = sym (advance-nil 1 0 (omega arith) (omega arith))
+loop-c-init c = sym (advance_nil 1 0 (omega arith) (omega arith))
 
 pub loop-c-preserved : goal.loop-c-preserved
-loop-c-preserved c = c.moved.ensures ∙ ap (λ p. advance p (c.in-Some.c ∷ [])) c.loop-c.invariant ∙ advance-append origin c.loop-c.yielded (c.in-Some.c ∷ [])
+loop-c-preserved c = c.moved.ensures ∙ ap (λ p. advance p (c.in-Some.c ∷ [])) c.loop-c.invariant ∙ advance_append origin c.loop-c.yielded (c.in-Some.c ∷ [])
 
 pub returns : goal.returns
 returns c =
