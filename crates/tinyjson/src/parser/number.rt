@@ -55,19 +55,19 @@ impl<S: Source> Reader<S> {
         }
     }
 
-    /// Reads the digits of a number's parts into the literal.
+    /// Reads the digits of a number's parts into the buffer.
     fn parts(&mut self) -> Result<Marks, JsonParseError>
         requires { BeginsNumber S.sight self.old.source }
         ensures reads { ReadsPart S.sight marks_of (λ n. n) exponent
-            self.old.source (λ fs. next fs awaited) result (string_bytes self.new.literal)
+            self.old.source (λ fs. next fs awaited) result (string_bytes self.new.digit_buffer)
             self.new.source }
         ensures left { OnOk result (S.left self.new.source < S.left self.old.source) }
     {
-        self.literal.clear();
+        self.digit_buffer.clear();
         let negative = self.integer()?;
-        let whole = self.literal.len();
+        let whole = self.digit_buffer.len();
         self.fraction()?;
-        let fraction = self.literal.len();
+        let fraction = self.digit_buffer.len();
         let exponent = self.exponent()?;
         Ok(Marks {
             negative,
@@ -80,13 +80,13 @@ impl<S: Source> Reader<S> {
     /// The number whose digits were gathered.
     fn gathered(&self, marks: Marks) -> Result<JsonNumber, LiteralError>
         requires order { marks.whole ≤ marks.fraction }
-        requires within { marks.fraction ≤ length (string_bytes self.now.literal) }
-        requires gathered { (n : Numeral) × Gathered n (string_bytes self.now.literal)
+        requires within { marks.fraction ≤ length (string_bytes self.now.digit_buffer) }
+        requires gathered { (n : Numeral) × Gathered n (string_bytes self.now.digit_buffer)
             × (marks ≡ marks_of n) }
-        ensures { (n : Numeral) → Gathered n (string_bytes self.now.literal)
+        ensures { (n : Numeral) → Gathered n (string_bytes self.now.digit_buffer)
             → marks ≡ marks_of n → ReadsNumeral n result }
     {
-        let digits = self.literal.as_bytes();
+        let digits = self.digit_buffer.as_bytes();
         let parts = NumberParts {
             negative: marks.negative,
             whole: &digits[..marks.whole],
@@ -100,16 +100,16 @@ impl<S: Source> Reader<S> {
     /// minus sign.
     fn integer(&mut self) -> Result<bool, JsonParseError>
         requires begins { BeginsNumber S.sight self.old.source }
-        requires empty { string_bytes self.old.literal ≡ [] }
+        requires empty { string_bytes self.old.digit_buffer ≡ [] }
         ensures reads { ReadsPart S.sight (λ n. n.negative)
             (λ (x : Bool × List ℕ). numeral x.0 x.1 [] None) whole
-            self.old.source (λ fs. next fs awaited) result (string_bytes self.new.literal)
+            self.old.source (λ fs. next fs awaited) result (string_bytes self.new.digit_buffer)
             self.new.source }
         ensures left { OnOk result (S.left self.new.source < S.left self.old.source) }
     {
         let negative = self.accept('-');
         self.digits(JsonParseErrorKind::EmptyInteger)?;
-        if has_leading_zero(self.literal.as_bytes()) {
+        if has_leading_zero(self.digit_buffer.as_bytes()) {
             return Err(self.refuse(JsonParseErrorKind::LeadingZero));
         }
         Ok(negative)
@@ -118,11 +118,11 @@ impl<S: Source> Reader<S> {
     /// Reads the point and the digits behind it, if there is a point.
     fn fraction(&mut self) -> Result<(), JsonParseError>
         ensures reads { (b : Bool) (ds : List ℕ) →
-            Gathered (numeral b ds [] None) (string_bytes self.old.literal) →
+            Gathered (numeral b ds [] None) (string_bytes self.old.digit_buffer) →
             Ends S.sight self.old.source → ReadsPart S.sight (λ _. tt)
             (λ f. numeral b ds f None) fraction
             self.old.source (λ fs. next fs (digits whole (numeral b ds [] None))) result
-            (string_bytes self.new.literal) self.new.source }
+            (string_bytes self.new.digit_buffer) self.new.source }
         ensures left { OnOk result (S.left self.new.source ≤ S.left self.old.source) }
     {
         if !self.accept('.') {
@@ -135,11 +135,11 @@ impl<S: Source> Reader<S> {
     /// below zero.
     fn exponent(&mut self) -> Result<Option<bool>, JsonParseError>
         ensures reads { (b : Bool) (ds f : List ℕ) →
-            Gathered (numeral b ds f None) (string_bytes self.old.literal) →
+            Gathered (numeral b ds f None) (string_bytes self.old.digit_buffer) →
             Ends S.sight self.old.source → ReadsPart S.sight (λ n. is_below_zero n.exponent)
             (numeral b ds f) exponent
             self.old.source (λ fs. next fs (digits fraction (numeral b ds f None))) result
-            (string_bytes self.new.literal) self.new.source }
+            (string_bytes self.new.digit_buffer) self.new.source }
         ensures left { OnOk result (S.left self.new.source ≤ S.left self.old.source) }
     {
         if !self.letter() {
@@ -150,17 +150,17 @@ impl<S: Source> Reader<S> {
         Ok(Some(negative))
     }
 
-    /// Reads digits, and adds them to the literal; the error is of this kind where there is none.
+    /// Reads digits, and adds them to the buffer; the error is of this kind where there is none.
     fn digits(&mut self, empty: JsonParseErrorKind) -> Result<(), JsonParseError>
-        ensures reads { Digits S.sight empty self.old.source (string_bytes self.old.literal) result
-            (string_bytes self.new.literal) self.new.source }
+        ensures reads { Digits S.sight empty self.old.source (string_bytes self.old.digit_buffer) result
+            (string_bytes self.new.digit_buffer) self.new.source }
         ensures left { OnOk result (S.left self.new.source < S.left self.old.source) }
     {
-        let before = self.literal.len();
-        if self.source.digits(&mut self.literal).is_err() {
+        let before = self.digit_buffer.len();
+        if self.source.digits(&mut self.digit_buffer).is_err() {
             return Err(self.refuse(JsonParseErrorKind::OutOfMemory));
         }
-        if self.literal.len() == before {
+        if self.digit_buffer.len() == before {
             return Err(self.refuse(empty));
         }
         Ok(())
@@ -169,7 +169,7 @@ impl<S: Source> Reader<S> {
     /// Reads the letter of an exponent, if it comes next, and says whether it does.
     fn letter(&mut self) -> bool
         ensures accepts { Accepts S.sight is_exponent_letter self.old.source result self.new.source }
-        ensures literal { self.new.literal ≡ self.old.literal }
+        ensures kept { self.new.digit_buffer ≡ self.old.digit_buffer }
         ensures left { S.left self.new.source ≤ S.left self.old.source }
     {
         match self.source.peek() {
@@ -184,7 +184,7 @@ impl<S: Source> Reader<S> {
     /// Reads the sign of an exponent, if there is one, and says whether it is a minus sign.
     fn sign(&mut self) -> bool
         ensures signs { Signs S.sight self.old.source result self.new.source }
-        ensures literal { self.new.literal ≡ self.old.literal }
+        ensures kept { self.new.digit_buffer ≡ self.old.digit_buffer }
         ensures left { S.left self.new.source ≤ S.left self.old.source }
     {
         match self.source.peek() {
@@ -199,7 +199,7 @@ impl<S: Source> Reader<S> {
     /// Reads this character if it comes next, and says whether it does.
     fn accept(&mut self, wanted: char) -> bool
         ensures accepts { Accepts S.sight (λ c. c == wanted) self.old.source result self.new.source }
-        ensures literal { self.new.literal ≡ self.old.literal }
+        ensures kept { self.new.digit_buffer ≡ self.old.digit_buffer }
         ensures left { S.left self.new.source ≤ S.left self.old.source }
     {
         match self.source.peek() {

@@ -25,7 +25,7 @@ where
     pub(super) alloc: Global,
     pub(super) source: S,
     /// The digits of the number that is being read.
-    pub(super) literal: String,
+    pub(super) digit_buffer: String,
     /// The characters of a string that is read piece by piece, and the units behind them.
     pub(super) buffer: String,
     pub(super) units: Vec<u16>,
@@ -38,7 +38,7 @@ impl<S: Source> Reader<S> {
         Reader {
             alloc,
             source,
-            literal: String::new(alloc),
+            digit_buffer: String::new(alloc),
             buffer: String::new(alloc),
             units: Vec::new(alloc),
         }

@@ -83,19 +83,19 @@ pub(super) trait Source: Drop {
 
     /// Takes the digits that come next, and adds them to a text. Where memory runs out, some of them may be
     /// taken.
-    fn digits(&mut self, literal: &mut String) -> Result<(), AllocError>
-        ensures digits { TakesRun sight is_ascii_digit self.old (string_bytes literal.old) result
-            (string_bytes literal.new) self.new }
+    fn digits(&mut self, buffer: &mut String) -> Result<(), AllocError>
+        ensures digits { TakesRun sight is_ascii_digit self.old (string_bytes buffer.old) result
+            (string_bytes buffer.new) self.new }
         ensures stops { OnOk result (Stops sight is_ascii_digit self.new) }
-        ensures still { OnOk result (string_bytes literal.new ≡ string_bytes literal.old
+        ensures still { OnOk result (string_bytes buffer.new ≡ string_bytes buffer.old
             → Still sight self.old self.new) }
-        ensures left { OnOk result (left self.new + length (string_bytes literal.new)
-            ≤ left self.old + length (string_bytes literal.old)) }
+        ensures left { OnOk result (left self.new + length (string_bytes buffer.new)
+            ≤ left self.old + length (string_bytes buffer.old)) }
     {
         loop {
             match self.peek() {
                 Some(c) if c.is_ascii_digit() => {
-                    literal.push(c)?;
+                    buffer.push(c)?;
                     self.bump();
                 }
                 _ => return Ok(()),

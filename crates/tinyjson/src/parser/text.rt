@@ -109,9 +109,9 @@ impl<'a> Source for TextBytes<'a> {
         Ok(Some(string))
     }
 
-    fn digits(&mut self, literal: &mut String) -> Result<(), AllocError> {
+    fn digits(&mut self, buffer: &mut String) -> Result<(), AllocError> {
         let end = digits_end(self.text.as_bytes(), self.at);
-        literal.push_str(&self.text[self.at..end])?;
+        buffer.push_str(&self.text[self.at..end])?;
         self.at = end;
         Ok(())
     }

@@ -11,12 +11,12 @@ returns-in_err-digits-clause-reads g c =
 
 pub returns-then-has_leading_zero-clause-reads : goal.returns-then-has_leading_zero-clause-reads
 returns-then-has_leading_zero-clause-reads g c =
-    let empty : string_bytes c.accept-negative.new.self.literal ≡ [] = ap string_bytes c.accept-negative.ensures.literal ∙ c.requires.empty in
-    let zero : has_leading_zero (string_bytes c.digits.new.self.literal) ≡ true = ap has_leading_zero (sym c.as_bytes.ensures.value) ∙ sym c.has_leading_zero.ensures ∙ c.if-has_leading_zero.true in
+    let empty : string_bytes c.accept-negative.new.self.digit_buffer ≡ [] = ap string_bytes c.accept-negative.ensures.kept ∙ c.requires.empty in
+    let zero : has_leading_zero (string_bytes c.digits.new.self.digit_buffer) ≡ true = ap has_leading_zero (sym c.as_bytes.ensures.value) ∙ sym c.has_leading_zero.ensures ∙ c.if-has_leading_zero.true in
     Refuses_zero g.S.Source.sight _ _ _ c.accept-negative.result _ _ c.requires.begins c.accept-negative.ensures.accepts c.in_ok-digits.ensures.reads empty _ zero c.refuse.ensures.kind c.refuse.ensures.at
 
 pub returns-clause-reads : goal.returns-clause-reads
 returns-clause-reads g c =
-    let empty : string_bytes c.accept-negative.new.self.literal ≡ [] = ap string_bytes c.accept-negative.ensures.literal ∙ c.requires.empty in
-    let zero : has_leading_zero (string_bytes c.digits.new.self.literal) ≡ false = ap has_leading_zero (sym c.as_bytes.ensures.value) ∙ sym c.has_leading_zero.ensures ∙ c.if-has_leading_zero.false in
+    let empty : string_bytes c.accept-negative.new.self.digit_buffer ≡ [] = ap string_bytes c.accept-negative.ensures.kept ∙ c.requires.empty in
+    let zero : has_leading_zero (string_bytes c.digits.new.self.digit_buffer) ≡ false = ap has_leading_zero (sym c.as_bytes.ensures.value) ∙ sym c.has_leading_zero.ensures ∙ c.if-has_leading_zero.false in
     Part_whole g.S.Source.sight _ _ _ c.accept-negative.result _ _ c.requires.begins c.accept-negative.ensures.accepts c.in_ok-digits.ensures.reads empty zero

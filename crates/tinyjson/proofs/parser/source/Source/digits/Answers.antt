@@ -9,7 +9,7 @@ use Rattle.tinyjson.proofs.parser.source.Source.digits.Goals as goal
 
 pub loop-c-init : goal.loop-c-init
 loop-c-init g c = record {
-  digits = record { taken = []; pass = tt; takes = Takes_nil g.Self.Source.sight c.args.self.now; added = sym (append-nil (string_bytes c.args.literal.now)) };
+  digits = record { taken = []; pass = tt; takes = Takes_nil g.Self.Source.sight c.args.self.now; added = sym (append-nil (string_bytes c.args.buffer.now)) };
   still = λ e o h. h;
   left = omega arith;
 }
@@ -27,17 +27,17 @@ loop-c-preserved g c =
     let x = c.in-Some.c in
     let digit : is_ascii_digit x ≡ true = search rules in
     let small = digit_small x digit in
-    let bytes : string_bytes c.push.new.self ≡ string_bytes c.loop-c.literal ++ x ∷ [] = search (rules, encode_ascii) in
-    let long = ap length bytes ∙ length-append (string_bytes c.loop-c.literal) (x ∷ []) in
+    let bytes : string_bytes c.push.new.self ≡ string_bytes c.loop-c.buffer ++ x ∷ [] = search (rules, encode_ascii) in
+    let long = ap length bytes ∙ length-append (string_bytes c.loop-c.buffer) (x ∷ []) in
     record {
       digits = record {
         taken = t.taken ++ x ∷ [];
         pass = AllByRecursion_push (λ d. is_ascii_digit d ≡ true) t.taken x t.pass digit;
         takes = Takes_append sight _ _ _ t.taken (x ∷ []) (Takes_peek sight _ _ _ t.taken t.takes c.peek.ensures.takes)
             (Takes_shown sight _ _ x _ (c.bump.ensures.shown (Some x) c.in-Some.ensures.shows) c.bump.ensures.takes);
-        added = bytes ∙ ap (λ cs. cs ++ x ∷ []) t.added ∙ append_assoc (string_bytes c.args.literal.now) t.taken (x ∷ []);
+        added = bytes ∙ ap (λ cs. cs ++ x ∷ []) t.added ∙ append_assoc (string_bytes c.args.buffer.now) t.taken (x ∷ []);
       };
-      still = λ e. absurd (omega (arith, ap length e, long, ap length t.added, length-append (string_bytes c.args.literal.now) t.taken));
+      still = λ e. absurd (omega (arith, ap length e, long, ap length t.added, length-append (string_bytes c.args.buffer.now) t.taken));
       left = omega (arith, ap option_len (c.bump.ensures.shown (Some x) c.in-Some.ensures.shows), c.bump.ensures.left, c.peek.ensures.left, c.loop-c.invariant.left, long);
     }
 

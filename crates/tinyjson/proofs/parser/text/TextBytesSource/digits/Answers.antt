@@ -38,7 +38,7 @@ returns-clause-digits c =
     let to = c.digits_end-end.result in
     let e : to ≡ run_end is_ascii_digit self.text.now self.at = c.digits_end-end.ensures ∙ ap (λ bs. self.at + prefix_len is_ascii_digit (drop self.at bs)) c.as_bytes.ensures.value in
     let last = ascii_boundary is_ascii_digit digit_small self.text.now utf8 self.at self.boundary to e in
-    let bytes : string_bytes c.push_str.new.self ≡ string_bytes c.args.literal.now ++ c.range.result.now = search rules in
+    let bytes : string_bytes c.push_str.new.self ≡ string_bytes c.args.buffer.now ++ c.range.result.now = search rules in
     let same = ascii_bytes is_ascii_digit digit_small self.text.now utf8 self.at self.boundary to e in
     record {
       taken = between self.text.now self.at to;
@@ -47,7 +47,7 @@ returns-clause-digits c =
         gives = step_gives self.text.now utf8 self.at to (omega (arith, e)) self.boundary last _ refl;
         moves = step_moves self.text.now utf8 self.at to (omega (arith, e)) self.boundary last _ refl;
       };
-      added = bytes ∙ ap (λ bs. string_bytes c.args.literal.now ++ bs) (c.range.ensures.value ∙ sym same);
+      added = bytes ∙ ap (λ bs. string_bytes c.args.buffer.now ++ bs) (c.range.ensures.value ∙ sym same);
     }
 
 pub returns-clause-stops : goal.returns-clause-stops
@@ -61,7 +61,7 @@ returns-clause-still c = λ e o h.
     let self = c.args.self.now in
     let to = c.digits_end-end.result in
     let is : to ≡ run_end is_ascii_digit self.text.now self.at = c.digits_end-end.ensures ∙ ap (λ bs. self.at + prefix_len is_ascii_digit (drop self.at bs)) c.as_bytes.ensures.value in
-    let bytes : string_bytes c.push_str.new.self ≡ string_bytes c.args.literal.now ++ c.range.result.now = search rules in
-    let none : length c.range.result.now ≡ 0 = omega (arith, ap length bytes, ap length e, length-append (string_bytes c.args.literal.now) c.range.result.now) in
+    let bytes : string_bytes c.push_str.new.self ≡ string_bytes c.args.buffer.now ++ c.range.result.now = search rules in
+    let none : length c.range.result.now ≡ 0 = omega (arith, ap length bytes, ap length e, length-append (string_bytes c.args.buffer.now) c.range.result.now) in
     let here : self.at ≡ to = omega (arith, none, c.range.ensures.len, is) in
     subst (λ k. slice_get (behind self.text.now k) 0 ≡ o) here h
