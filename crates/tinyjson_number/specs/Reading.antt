@@ -1,5 +1,5 @@
 -- What reading a number answers.
-use Rattle.std.specs.Prelude.{◌≡◌, ◌==◌, ℕ, Bool, List, false, IsTrue, Option, Some, None, Result, Ok, Err, if◌then◌else◌, option_map}
+use Rattle.std.specs.Prelude.{◌≡◌, ◌==◌, ℕ, Bool, List, false, IsTrue, Option, Some, None, Result, Ok, Err, if◌then◌else◌}
 use Rattle.tinyjson_number.specs.Decimal.{Decimal}
 use Rattle.tinyjson_number.specs.Numeral.{Numeral, Exponent, value, in_range}
 use Rattle.tinyjson_number.specs.NumberText.{Spells, IsNumberText}

@@ -1,5 +1,5 @@
 -- Characters from units, one unit at a time.
-use Rattle.std.proofs.Common.{◌≡◌, ℕ, ◌+◌, ◌<◌, true, false, List, [], ◌∷◌, ◌++◌, length, get_or, drop, suc, Option, Some, None, is_some, String, Global, string_bytes, refl, sym, ap, ◌∙◌, append_assoc, append-nil, drop-cons, add-one, arith}
+use Rattle.std.proofs.Common.{◌≡◌, ℕ, ◌+◌, ◌<◌, true, false, List, [], ◌∷◌, ◌++◌, length, drop, Option, Some, None, String, Global, string_bytes, refl, sym, ap, ◌∙◌, append_assoc, append-nil, drop-cons, add-one, arith}
 use Rattle.std.specs.Char.{IsScalar, InScalarRange, OutOfScalarRange, encode_utf8}
 use Rattle.std.specs.Prelude.{slice_index}
 use Rattle.std.specs.Option.{option_to_list}
@@ -7,9 +7,6 @@ use Rattle.std.proofs.lemmas.Bool.Decides.{nat_tests}
 use Rattle.std.specs.Str.{chars}
 use Rattle.std.proofs.lemmas.Str.{chars-append, chars-encodes, IsUtf8-string_bytes}
 use Rattle.tinyjson.specs.View.{text}
-use Rattle.std.proofs.lemmas.Bool.{eq-eqb}
-use Rattle.std.specs.Iterator.{AlwaysYields}
-use Rattle.tinyjson_number.specs.Numeral.{has_leading_zero}
 use Rattle.tinyjson.specs.Characters.{is_high, is_low, is_surrogate, pair_of, paired, decode}
 
 pub text_push : (new old : String Global) (c : ℕ) → IsScalar c → string_bytes new ≡ string_bytes old ++ encode_utf8 c → text new ≡ text old ++ c ∷ []

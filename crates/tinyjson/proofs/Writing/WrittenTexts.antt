@@ -1,5 +1,5 @@
 -- A written text is a text of its tree, so a tree is told by its text.
-use Rattle.std.proofs.Common.{◌≡◌, ℕ, List, [], Option, None, refl, sym, ap, ◌∙◌, subst, append-nil}
+use Rattle.std.proofs.Common.{◌≡◌, ℕ, List, [], Option, None, sym, ◌∙◌, subst, append-nil}
 use Rattle.std.specs.Int.{Width}
 use Rattle.tinyjson_number.specs.Numeral.{power_width}
 use Rattle.tinyjson.specs.Tree.{Tree}

@@ -1,4 +1,4 @@
-use Rattle.std.proofs.Common.{◌≤◌, Ok, ℕ, Result}
+use Rattle.std.proofs.Common.{◌≤◌, Ok}
 use Rattle.tinyjson.specs.private.Scan.{is_plain}
 use Rattle.tinyjson.specs.private.Source.{TakesRun}
 use Rattle.tinyjson.specs.View.{text}

@@ -1,4 +1,4 @@
-use Rattle.std.proofs.Common.{◌≡◌, ◌+◌, ◌++◌, [], ap, sym, refl, drop, ◌∙◌, arith, rules, string_bytes}
+use Rattle.std.proofs.Common.{◌≡◌, ◌+◌, ◌++◌, [], ap, refl, drop, ◌∙◌, arith, rules, string_bytes}
 use Rattle.std.proofs.lemmas.Result.{err_from_is_err_and}
 use Rattle.std.proofs.lemmas.Str.{chars-append, IsUtf8-had, IsUtf8-string_bytes}
 use Rattle.std.specs.List.{prefix_len}
