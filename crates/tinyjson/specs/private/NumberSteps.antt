@@ -1,6 +1,6 @@
 -- The parts of a number, as the parser reads them. For private contracts.
-use Rattle.std.specs.Prelude.{◌≡◌, ℕ, ◌+◌, ◌<◌, Bool, true, false, List, [], ◌∷◌, ◌++◌, Option, Some, None, Result, MatchResult, MatchBool, IfSome}
-use Rattle.std.specs.Prelude.{length, ◌⊎◌, ◌==◌}
+use Rattle.std.specs.Prelude.{◌≡◌, ℕ, ◌+◌, ◌<◌, ◌⊎◌, ◌==◌, Bool, true, false, List, [], ◌∷◌, ◌++◌, length}
+use Rattle.std.specs.Prelude.{Option, Some, None, Result, MatchResult, MatchBool, IfSome}
 use Rattle.std.specs.Char.{is_ascii_digit}
 use Rattle.std.specs.List.{AllByRecursion}
 use Rattle.tinyjson_number.specs.Numeral.{Numeral, Exponent, IsNumeral, has_leading_zero, is_sign, sign_text}

@@ -152,7 +152,8 @@ impl<S: Source> Reader<S> {
 
     /// Reads digits, and adds them to the buffer; the error is of this kind where there is none.
     fn digits(&mut self, empty: JsonParseErrorKind) -> Result<(), JsonParseError>
-        ensures reads { Digits S.sight empty self.old.source (string_bytes self.old.digit_buffer) result
+        ensures reads { Digits S.sight empty self.old.source
+            (string_bytes self.old.digit_buffer) result
             (string_bytes self.new.digit_buffer) self.new.source }
         ensures left { OnOk result (S.left self.new.source < S.left self.old.source) }
     {
@@ -168,7 +169,8 @@ impl<S: Source> Reader<S> {
 
     /// Reads the letter of an exponent, if it comes next, and says whether it does.
     fn letter(&mut self) -> bool
-        ensures accepts { Accepts S.sight is_exponent_letter self.old.source result self.new.source }
+        ensures accepts { Accepts S.sight is_exponent_letter self.old.source result
+            self.new.source }
         ensures kept { self.new.digit_buffer ≡ self.old.digit_buffer }
         ensures left { S.left self.new.source ≤ S.left self.old.source }
     {
@@ -198,7 +200,8 @@ impl<S: Source> Reader<S> {
 
     /// Reads this character if it comes next, and says whether it does.
     fn accept(&mut self, wanted: char) -> bool
-        ensures accepts { Accepts S.sight (λ c. c == wanted) self.old.source result self.new.source }
+        ensures accepts { Accepts S.sight (λ c. c == wanted) self.old.source result
+            self.new.source }
         ensures kept { self.new.digit_buffer ≡ self.old.digit_buffer }
         ensures left { S.left self.new.source ≤ S.left self.old.source }
     {
