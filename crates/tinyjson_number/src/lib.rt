@@ -8,15 +8,14 @@ mod digits;
 mod error;
 mod inline;
 mod integer;
-mod layout;
 mod number;
 mod parse;
 mod text;
 
 pub use error::{JsonNumberError, LiteralError};
-pub use layout::Layout;
 pub use number::JsonNumber;
 pub use parse::{ExponentParts, NumberParts};
+pub use text::Layout;
 
 #[cfg(test)]
 mod tests;

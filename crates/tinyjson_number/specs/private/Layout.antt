@@ -1,7 +1,7 @@
 -- The text of a number in parts.
 use Rattle.std.specs.Prelude.{ℕ, List, [], ◌∷◌, ◌++◌, Option, None, Some, ℤ}
 use Rattle.tinyjson_number.specs.Text.{integer_text}
-use Rattle.tinyjson_number.specs.declared.layout.Layout.{Layout}
+use Rattle.tinyjson_number.specs.declared.text.Layout.{Layout}
 
 -- what stands behind the digits
 abbrev pub power_text : Option ℤ → List ℕ
