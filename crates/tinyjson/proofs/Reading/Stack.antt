@@ -14,8 +14,8 @@ use Rattle.tinyjson.specs.Kind.{kind_of}
 use Rattle.tinyjson.specs.declared.parser.error.JsonParseErrorKind.TheVariants.{KeyNotString, ExpectedColon}
 use Rattle.tinyjson.proofs.Reading.Containers.{no_key, colon_read, colon_other, object_comma}
 use Rattle.tinyjson.proofs.Reading.Steps.{Leads_whites, Halts_here, white_after}
-use Rattle.tinyjson.specs.declared.parser.stack.Open.{Open}
-use Rattle.tinyjson.specs.declared.parser.stack.Open.TheVariants as container
+use Rattle.tinyjson.specs.declared.parser.stack.Frame.{Frame as Open}
+use Rattle.tinyjson.specs.declared.parser.stack.Frame.TheVariants as container
 use Rattle.tinyjson.specs.declared.parser.stack.Stack.{Stack}
 use Rattle.tinyjson.specs.declared.value.JsonValue.{JsonValue}
 

@@ -5,8 +5,8 @@ use Rattle.tinyjson.specs.Tree.{Tree, array, object, items_of, Members, no_membe
 use Rattle.tinyjson.specs.Access.{JsonMap}
 use Rattle.tinyjson.specs.View.{view, text, members_view}
 use Rattle.tinyjson.specs.private.Machine.{Frame, in_array, at_key, at_value, awaited, after, Next, next, complete}
-use Rattle.tinyjson.specs.declared.parser.stack.Open.{Open}
-use Rattle.tinyjson.specs.declared.parser.stack.Open.TheVariants as container
+use Rattle.tinyjson.specs.declared.parser.stack.Frame.{Frame as Open}
+use Rattle.tinyjson.specs.declared.parser.stack.Frame.TheVariants as container
 use Rattle.tinyjson.specs.declared.parser.stack.Stack.{Stack}
 use Rattle.tinyjson.specs.declared.value.JsonValue.{JsonValue}
 

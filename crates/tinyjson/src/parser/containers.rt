@@ -4,12 +4,12 @@ ghost use Rattle.tinyjson.specs.private.Machine.{awaited, colon, next, complete,
 ghost use Rattle.tinyjson.specs.private.Stack.{at, frames, AwaitsKey, Innermost, IsSound};
 ghost use Rattle.tinyjson.specs.private.Steps.{Reads};
 ghost use Rattle.tinyjson.specs.View.{view, text};
-ghost use Rattle.tinyjson.specs.declared.parser.stack.Open.TheVariants as container;
+ghost use Rattle.tinyjson.specs.declared.parser.stack.Frame.TheVariants as container;
 
 use super::error::{JsonParseError, JsonParseErrorKind};
 use super::reader::Reader;
 use super::source::Source;
-use super::stack::{Open, Stack};
+use super::stack::{Frame, Stack};
 use crate::value::JsonValue;
 use std::collections::HashMap;
 
@@ -101,7 +101,7 @@ impl<S: Source> Reader<S> {
         ensures sound { IfOk result (IsSound stack.new) }
         ensures left { OnOk result (S.left self.new.source ≤ S.left self.old.source) }
     {
-        if let Some(Open::Object { .. }) = stack.innermost() {
+        if let Some(Frame::Object { .. }) = stack.innermost() {
             return self.use_as_key(stack, value);
         }
         if stack.push(value).is_err() {
@@ -242,7 +242,7 @@ impl<S: Source> Reader<S> {
     pub(super) fn after(
         &mut self,
         stack: &mut Stack,
-        container: Open,
+        container: Frame,
     ) -> Result<bool, JsonParseError>
         requires sound { IsSound stack.old true }
         requires innermost { Innermost stack.old container }
@@ -252,9 +252,9 @@ impl<S: Source> Reader<S> {
         ensures left { OnOk result (S.left self.new.source < S.left self.old.source) }
     {
         match container {
-            Open::Array { values } => self.after_item(stack, values),
-            Open::Member { values, keys } => self.after_member(stack, values, keys),
-            Open::Object { .. } => unreachable!(),
+            Frame::Array { values } => self.after_item(stack, values),
+            Frame::Member { values, keys } => self.after_member(stack, values, keys),
+            Frame::Object { .. } => unreachable!(),
         }
     }
 }

@@ -5,7 +5,7 @@ ghost use Rattle.tinyjson.specs.private.Stack.{at, frames, frames_over, gather, 
 ghost use Rattle.tinyjson.specs.private.Stack.{AwaitsKey, BeginsMember, ClosesArray, ClosesObject, Innermost, IsSound, Lies, TakesValue};
 ghost use Rattle.tinyjson.specs.Tree.{no_members};
 ghost use Rattle.tinyjson.specs.View.{view, text, members_view};
-ghost use Rattle.tinyjson.specs.declared.parser.stack.Open.TheVariants as container;
+ghost use Rattle.tinyjson.specs.declared.parser.stack.Frame.TheVariants as container;
 
 use crate::value::{JsonValue, insert_member};
 use std::alloc::{AllocError, Global};
@@ -14,7 +14,7 @@ use std::mem;
 
 /// A container that was opened and not closed: where its values and its keys begin on the stack.
 #[derive(Clone, Copy)]
-pub(super) enum Open {
+pub(super) enum Frame {
     Array { values: usize },
     /// An object that awaits a key.
     Object { values: usize, keys: usize },
@@ -29,7 +29,7 @@ const MANY: usize = 64;
 #[derive(Drop)]
 pub(super) struct Stack {
     alloc: Global,
-    containers: Vec<Open>,
+    containers: Vec<Frame>,
     values: Vec<JsonValue>,
     keys: Vec<String>,
     /// A map for each object, with its first members if it has many.
@@ -58,7 +58,7 @@ impl Stack {
     }
 
     /// The container that was opened last.
-    pub(super) fn innermost(&self) -> Option<Open>
+    pub(super) fn innermost(&self) -> Option<Frame>
         ensures { MatchOption result (open_of self.now ≡ []) (Innermost self.now) }
     {
         self.containers.last().copied()
@@ -99,7 +99,7 @@ impl Stack {
         ensures sound { OnOk result (IsSound self.new false) }
     {
         let values = self.values.len();
-        if self.containers.push(Open::Array { values }).is_err() {
+        if self.containers.push(Frame::Array { values }).is_err() {
             return Err(AllocError);
         }
         Ok(())
@@ -116,7 +116,11 @@ impl Stack {
         if self.maps.push(HashMap::new(self.alloc)).is_err() {
             return Err(AllocError);
         }
-        if self.containers.push(Open::Object { values, keys }).is_err() {
+        if self
+            .containers
+            .push(Frame::Object { values, keys })
+            .is_err()
+        {
             return Err(AllocError);
         }
         Ok(())
@@ -129,13 +133,17 @@ impl Stack {
         ensures begins { OnOk result (BeginsMember self.old self.new (text key)) }
         ensures sound { OnOk result (IsSound self.new false) }
     {
-        let Some(Open::Object { values, keys }) = self.containers.pop() else {
+        let Some(Frame::Object { values, keys }) = self.containers.pop() else {
             unreachable!()
         };
         if self.keys.push(key).is_err() {
             return Err(AllocError);
         }
-        if self.containers.push(Open::Member { values, keys }).is_err() {
+        if self
+            .containers
+            .push(Frame::Member { values, keys })
+            .is_err()
+        {
             return Err(AllocError);
         }
         Ok(())
@@ -151,7 +159,11 @@ impl Stack {
     {
         self.containers.pop();
         self.settle(values, keys)?;
-        if self.containers.push(Open::Object { values, keys }).is_err() {
+        if self
+            .containers
+            .push(Frame::Object { values, keys })
+            .is_err()
+        {
             return Err(AllocError);
         }
         Ok(())
