@@ -4,7 +4,8 @@ ghost use Rattle.std.specs.Str.{chars};
 ghost use Rattle.tinyjson.specs.Index.{tree_at_key};
 ghost use Rattle.tinyjson.specs.Kind.{kind_of, kind_name};
 ghost use Rattle.tinyjson.specs.View.{view, items_view, members_view};
-ghost use Rattle.json_schema.specs.Keywords.{refuses_all, is_whole, is_type, has_some_type, has_type};
+ghost use Rattle.json_schema.specs.Keywords.{refuses_all, is_whole, is_type, has_some_type};
+ghost use Rattle.json_schema.specs.Keywords.{has_type};
 ghost use Rattle.json_schema.specs.Keywords.{is_present, are_present, has_required, meets_own};
 ghost use Rattle.json_schema.specs.Keywords.{is_in_range, meets_minimum, meets_maximum};
 

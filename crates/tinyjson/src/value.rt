@@ -1,6 +1,7 @@
 //! JSON values.
 ghost use Rattle.std.specs.Prelude.{◌≡◌, is_some};
-ghost use Rattle.tinyjson.specs.Access.{number_part, boolean_part, string_part, null_part, array_part, object_part};
+ghost use Rattle.tinyjson.specs.Access.{number_part, boolean_part, string_part, null_part};
+ghost use Rattle.tinyjson.specs.Access.{array_part, object_part};
 ghost use Rattle.tinyjson.specs.Kind.{kind_of};
 ghost use Rattle.tinyjson.specs.View.{view};
 

@@ -6,8 +6,8 @@ use Rattle.tinyjson_number.specs.Numeral.{power_width, fits_in}
 use Rattle.tinyjson_number.specs.Canonical.{IsDecimal, IsDecimalAt}
 use Rattle.tinyjson_number.specs.NumberText.{IsNumberText}
 use Rattle.tinyjson_number.specs.Text.{decimal_text}
-use Rattle.tinyjson_number.proofs.Canonicals.{value_canonical}
-use Rattle.tinyjson_number.proofs.Laws as number_laws
+use Rattle.tinyjson_number.proofs.Callers.{value_canonical}
+use Rattle.tinyjson_number.proofs.Callers as number_laws
 use Rattle.tinyjson_laws.specs.Numbers.{OneDecimal, DecimalsHaveTexts, DecimalReadsBack, SameDecimal}
 
 pub one_decimal : OneDecimal

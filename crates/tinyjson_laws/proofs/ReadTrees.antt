@@ -14,7 +14,7 @@ use Rattle.tinyjson.specs.Syntax.{Syntax, Elements, Pairs, null, boolean, number
 use Rattle.tinyjson.specs.Soundness.{IsSorted, IsTreeAt, AreItemsAt, AreMembersAt, tree_depth, items_depth, members_depth}
 use Rattle.tinyjson.proofs.Callers.{sorted_put}
 use Rattle.tinyjson.proofs.Values.Trees.{are_put}
-use Rattle.tinyjson_number.proofs.Canonicals.{value_canonical}
+use Rattle.tinyjson_number.proofs.Callers.{value_canonical}
 
 -- ---- characters
 

@@ -6,7 +6,7 @@ use Rattle.tinyjson_number.specs.Decimal.{Decimal, decimal_of, significant, trai
 use Rattle.tinyjson_number.specs.Integer.{whole_decimal}
 use Rattle.tinyjson_number.specs.Number.{same_canonical}
 use Rattle.tinyjson_number.specs.Text.{natural_text}
-use Rattle.tinyjson_number.proofs.Integers.{magnitude_whole, negative_whole}
+use Rattle.tinyjson_number.proofs.Callers.{magnitude_whole, negative_whole}
 use Rattle.tinyjson.proofs.Callers as callers
 use Rattle.tinyjson_laws.specs.Numbers.{OneNumber, WholesMean, IntegersDiffer, NaturalsDiffer}
 

@@ -1,5 +1,6 @@
 //! Laws of reading: texts, and the trees that they have.
-ghost use Rattle.tinyjson_laws.specs.Reading.{OneTree, TextsAreSound, TreesHaveTexts, WiderLimit, WiderRange};
+ghost use Rattle.tinyjson_laws.specs.Reading.{OneTree, TextsAreSound, TreesHaveTexts, WiderLimit};
+ghost use Rattle.tinyjson_laws.specs.Reading.{WiderRange};
 
 /// A list of characters has at most one tree.
 pub fn one_tree()

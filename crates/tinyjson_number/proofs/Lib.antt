@@ -10,3 +10,4 @@ pub mod Parts
 pub mod Integers
 pub mod Laws
 pub mod Layouts
+pub mod Callers

@@ -1,16 +1,22 @@
 //! The number that a text spells (RFC 8259, section 6).
-ghost use Rattle.std.specs.Prelude.{◌≡◌, ℕ, ◌+◌, ◌<◌, ◌≤◌, ◌^◌, ◌++◌, length, take, drop, min, pos, neg_ℤ, ◌≤ℤ◌};
+ghost use Rattle.std.specs.Prelude.{◌≡◌, ℕ, ◌+◌, ◌<◌, ◌≤◌, ◌^◌, ◌++◌, length, take, drop, min, pos};
+ghost use Rattle.std.specs.Prelude.{neg_ℤ, ◌≤ℤ◌};
 ghost use Rattle.std.specs.Prelude.{option_map, IfSome, MatchOption, FitsSigned, IsTrue};
 ghost use Rattle.std.specs.Int.{w64};
 ghost use Rattle.std.specs.List.{prefix_len};
 ghost use Rattle.std.specs.Char.{is_ascii_digit};
 ghost use Rattle.std.specs.Str.Parse.{digits_value};
-ghost use Rattle.tinyjson_number.specs.Decimal.{strip_leading, strip_trailing, significant, trailing_zeros};
-ghost use Rattle.tinyjson_number.specs.Numeral.{Numeral, IsNumeral, AreDigits, has_leading_zero, value, in_range};
+ghost use Rattle.tinyjson_number.specs.Decimal.{strip_leading, strip_trailing, significant};
+ghost use Rattle.tinyjson_number.specs.Decimal.{trailing_zeros};
+ghost use Rattle.tinyjson_number.specs.Numeral.{Numeral, IsNumeral, AreDigits, has_leading_zero};
+ghost use Rattle.tinyjson_number.specs.Numeral.{value, in_range};
 ghost use Rattle.tinyjson_number.specs.NumberText.{Spells};
-ghost use Rattle.tinyjson_number.specs.private.Scan.{begins, digits_front, digits_rest, after_minus, whole_at, fraction_at};
-ghost use Rattle.tinyjson_number.specs.private.Scan.{exponent_at, exponent_digits_at, exponent_cap, capped, scan, shifted};
-ghost use Rattle.tinyjson_number.specs.Reading.{Reads, ReadsNumeral, numeral_of, exponent_of, plain, plain_exponent, plain_numeral};
+ghost use Rattle.tinyjson_number.specs.private.Scan.{begins, digits_front, digits_rest};
+ghost use Rattle.tinyjson_number.specs.private.Scan.{after_minus, whole_at, fraction_at};
+ghost use Rattle.tinyjson_number.specs.private.Scan.{exponent_at, exponent_digits_at, exponent_cap};
+ghost use Rattle.tinyjson_number.specs.private.Scan.{capped, scan, shifted};
+ghost use Rattle.tinyjson_number.specs.Reading.{Reads, ReadsNumeral, numeral_of, exponent_of};
+ghost use Rattle.tinyjson_number.specs.Reading.{plain, plain_exponent, plain_numeral};
 
 use crate::error::{JsonNumberError, LiteralError};
 use crate::inline::ROOM;

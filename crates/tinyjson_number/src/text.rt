@@ -1,9 +1,11 @@
 //! The text of a number, whole and in parts.
-ghost use Rattle.std.specs.Prelude.{◌≡◌, ◌<◌, ◌≤◌, ◌++◌, ◌∷◌, ◌+ℤ◌, ◌≤ℤ◌, ◌^◌, length, take, drop, replicate, pos, neg_ℤ, Some};
+ghost use Rattle.std.specs.Prelude.{◌≡◌, ◌<◌, ◌≤◌, ◌++◌, ◌∷◌, ◌+ℤ◌, ◌≤ℤ◌, ◌^◌, length, take, drop};
+ghost use Rattle.std.specs.Prelude.{replicate, pos, neg_ℤ, Some};
 ghost use Rattle.std.specs.Fmt.{WritesOnOk};
 ghost use Rattle.std.specs.Str.{IsAscii};
 ghost use Rattle.tinyjson_number.specs.private.Layout.{layout_text};
-ghost use Rattle.tinyjson_number.specs.Text.{decimal_text, integer_text, magnitude_text, scientific_text};
+ghost use Rattle.tinyjson_number.specs.Text.{decimal_text, integer_text, magnitude_text};
+ghost use Rattle.tinyjson_number.specs.Text.{scientific_text};
 
 use crate::digits::ascii_str;
 use crate::number::JsonNumber;

@@ -6,7 +6,7 @@ use Rattle.std.proofs.lemmas.Bool.{false≢true}
 use Rattle.std.proofs.lemmas.Int.{ints}
 use Rattle.tinyjson_number.specs.Decimal.{Decimal}
 use Rattle.tinyjson_number.specs.Integer.{whole_decimal, integer_decimal}
-use Rattle.tinyjson_number.proofs.Integers.{magnitude_whole, magnitude_of, negative_whole}
+use Rattle.tinyjson_number.proofs.Callers.{magnitude_whole, magnitude_of, negative_whole}
 
 same_magnitude : (b c : Bool) (m n : ℕ) → m < 2 ^ 64 → n < 2 ^ 64 → whole_decimal b m ≡ whole_decimal c n → m ≡ n
 same_magnitude b c m n fm fn e = sym (magnitude_whole b m fm) ∙ ap magnitude_of e ∙ magnitude_whole c n fn

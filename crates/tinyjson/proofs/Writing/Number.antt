@@ -1,7 +1,7 @@
 -- The digits of a number, one more at a time.
 use Rattle.std.proofs.Common.{◌≡◌, ℕ, ◌+◌, ◌/◌, ◌%◌, true, false, [], ◌∷◌, ◌++◌, ◌≤◌, ◌<◌, ◌^◌, ℤ, pos, negsuc, sym, ◌∙◌, ap, arith}
 use Rattle.tinyjson_number.specs.Text.{natural_text, integer_text}
-use Rattle.tinyjson_number.proofs.Naturals.{natural_decimal}
+use Rattle.tinyjson_number.proofs.Callers.{natural_decimal}
 use Rattle.std.proofs.lemmas.Fmt.{decimal_digit, decimal_step_wide}
 use Rattle.std.specs.Prelude.{unsigned_abs, int_lt}
 use Rattle.std.proofs.lemmas.Int.{ints}

@@ -4,7 +4,7 @@ use Rattle.std.specs.Str.{all_scalars, IsUtf8, IsAscii, encode_utf8_all, chars}
 use Rattle.std.proofs.lemmas.Bool.{and_from, and_parts}
 use Rattle.std.proofs.lemmas.Bool.Decides.{nat_tests}
 use Rattle.std.proofs.lemmas.Str.{chars_from_encodes, chars-IsAscii}
-use Rattle.tinyjson_number.proofs.Layouts.{decimal_ascii}
+use Rattle.tinyjson_number.proofs.Callers.{decimal_ascii}
 use Rattle.tinyjson.specs.Tree.{Tree, null, boolean, number, string, array, object, Items, no_items, item, Members, no_members, member}
 use Rattle.tinyjson.specs.Soundness.{IsTree, AreItemsAt, AreMembersAt}
 use Rattle.tinyjson_number.specs.Numeral.{power_width}

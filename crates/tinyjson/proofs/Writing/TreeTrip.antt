@@ -10,7 +10,7 @@ use Rattle.tinyjson_number.specs.Canonical.{IsDecimalAt}
 use Rattle.tinyjson.specs.Soundness.{IsSorted, IsTreeAt, AreItemsAt, AreMembersAt, tree_depth, items_depth, members_depth}
 use Rattle.tinyjson.specs.Text as written
 use Rattle.tinyjson.specs.Text.{newline, repeated, after_colon, quoted, items_text, members_text}
-use Rattle.tinyjson_number.proofs.DecimalTrip.{decimal_spelled, decimal_fits}
+use Rattle.tinyjson_number.proofs.Callers.{decimal_spelled, decimal_fits}
 use Rattle.tinyjson.proofs.Writing.QuotedTrip.{escapes_stand, decode_scalars, paired_scalars}
 use Rattle.tinyjson.proofs.Values.JoinedMembers.{join, IsAbove, put_above, join_join, above_join}
 use Rattle.tinyjson.proofs.Grammar.Trace.State.{are_white_append}

@@ -1,15 +1,18 @@
 //! Values, compact and indented.
-ghost use Rattle.std.specs.Prelude.{◌≡◌, ◌++◌, ◌∷◌, ◌+◌, ◌-◌, ◌<◌, ◌≤◌, ℕ, [], List, None, Some, length, reverse, take, drop};
+ghost use Rattle.std.specs.Prelude.{◌≡◌, ◌++◌, ◌∷◌, ◌+◌, ◌-◌, ◌<◌, ◌≤◌, ℕ, [], List, None, Some};
+ghost use Rattle.std.specs.Prelude.{length, reverse, take, drop};
 ghost use Rattle.std.specs.Str.{chars, encode_utf8_all};
 ghost use Rattle.tinyjson.specs.Indent.{indent_of};
 ghost use Rattle.tinyjson.specs.private.Pending.{Gathered, IsStack, frames, owed, Advances, Begins};
-ghost use Rattle.tinyjson.specs.Text.{text, items_text, members_text, quoted, before, newline, after_colon};
+ghost use Rattle.tinyjson.specs.Text.{text, items_text, members_text, quoted, before, newline};
+ghost use Rattle.tinyjson.specs.Text.{after_colon};
 ghost use Rattle.tinyjson.specs.Tree.{array, object, boolean as boolean_tree};
 ghost use Rattle.tinyjson.specs.View.{view, items_view, members_view};
 ghost use Rattle.tinyjson.specs.private.Room.{waiting, Waits, Sends, SendsText};
 ghost use Rattle.tinyjson.specs.private.Sorted.{sorted_view};
 ghost use Rattle.tinyjson.specs.Written.{WritesText};
-ghost use Rattle.tinyjson.specs.declared.generator.pending.Frame.TheVariants.{Items, Member, Members};
+ghost use Rattle.tinyjson.specs.declared.generator.pending.Frame.TheVariants.{Items, Member};
+ghost use Rattle.tinyjson.specs.declared.generator.pending.Frame.TheVariants.{Members};
 
 use super::number::write_number;
 use super::output::{Room, flush, write_bytes};

@@ -1,12 +1,16 @@
 //! Numbers (RFC 8259, section 6).
-ghost use Rattle.std.specs.Prelude.{◌≡◌, ◌==◌, ◌<◌, ◌≤◌, [], ℕ, List, Bool, true, OnOk, Option, Some, None};
+ghost use Rattle.std.specs.Prelude.{◌≡◌, ◌==◌, ◌<◌, ◌≤◌, [], ℕ, List, Bool, true, OnOk, Option};
+ghost use Rattle.std.specs.Prelude.{Some, None};
 ghost use Rattle.std.specs.Prelude.{if◌then◌else◌, length, option_map, string_bytes};
-ghost use Rattle.tinyjson.specs.private.Machine.{Frame, awaited, complete, digits, whole, fraction, exponent, next};
-ghost use Rattle.tinyjson.specs.private.NumberSteps.{Digits, BeginsNumber, Accepts, Gathered, ReadsPart, Signs};
+ghost use Rattle.tinyjson.specs.private.Machine.{Frame, awaited, complete, digits, whole, fraction};
+ghost use Rattle.tinyjson.specs.private.Machine.{exponent, next};
+ghost use Rattle.tinyjson.specs.private.NumberSteps.{Digits, BeginsNumber, Accepts, Gathered};
+ghost use Rattle.tinyjson.specs.private.NumberSteps.{ReadsPart, Signs};
 ghost use Rattle.tinyjson.specs.private.NumberSteps.{is_below_zero, marks_of, numeral};
 ghost use Rattle.tinyjson.specs.private.Steps.{Ends, Reads};
 ghost use Rattle.tinyjson.specs.Tree.{number};
-ghost use Rattle.tinyjson_number.specs.Numeral.{Exponent, Numeral, has_leading_zero, is_exponent_letter};
+ghost use Rattle.tinyjson_number.specs.Numeral.{Exponent, Numeral, has_leading_zero};
+ghost use Rattle.tinyjson_number.specs.Numeral.{is_exponent_letter};
 ghost use Rattle.tinyjson_number.specs.Reading.{ReadsNumeral, exponent_of};
 
 use super::error::{JsonParseError, JsonParseErrorKind};

@@ -1,11 +1,13 @@
 //! Where the characters come from.
-ghost use Rattle.std.specs.Prelude.{◌≡◌, ℕ, ◌+◌, ◌≤◌, [], ◌∷◌, false, IfSome, MatchOption, OnOk, Option, None, length, string_bytes};
+ghost use Rattle.std.specs.Prelude.{◌≡◌, ℕ, ◌+◌, ◌≤◌, [], ◌∷◌, false, IfSome, MatchOption, OnOk};
+ghost use Rattle.std.specs.Prelude.{Option, None, length, string_bytes};
 ghost use Rattle.std.specs.Char.{is_ascii_digit};
 ghost use Rattle.std.specs.Option.{option_len};
 ghost use Rattle.tinyjson.specs.Characters.{is_white};
 ghost use Rattle.tinyjson.specs.private.Scan.{is_plain};
 ghost use Rattle.tinyjson.specs.Position.{position_at};
-ghost use Rattle.tinyjson.specs.private.Source.{Sight, Still, Stops, Takes, TakesQuoted, TakesRun, Whites};
+ghost use Rattle.tinyjson.specs.private.Source.{Sight, Still, Stops, Takes, TakesQuoted, TakesRun};
+ghost use Rattle.tinyjson.specs.private.Source.{Whites};
 ghost use Rattle.tinyjson.specs.View.{text};
 
 use super::utf16::push;

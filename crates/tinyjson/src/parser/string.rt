@@ -1,7 +1,9 @@
 //! Strings (RFC 8259, section 7).
-ghost use Rattle.std.specs.Prelude.{◌≡◌, ℕ, ◌<◌, ◌≤◌, List, [], ◌∷◌, ◌++◌, true, false, MatchResult, OnOk, Option, cond};
+ghost use Rattle.std.specs.Prelude.{◌≡◌, ℕ, ◌<◌, ◌≤◌, List, [], ◌∷◌, ◌++◌, true, false};
+ghost use Rattle.std.specs.Prelude.{MatchResult, OnOk, Option, cond};
 ghost use Rattle.tinyjson.specs.Characters.{paired, decode, short_escape};
-ghost use Rattle.tinyjson.specs.private.Machine.{Frame, plain, backslash, hex, quoted, next, complete};
+ghost use Rattle.tinyjson.specs.private.Machine.{Frame, plain, backslash, hex, quoted, next};
+ghost use Rattle.tinyjson.specs.private.Machine.{complete};
 ghost use Rattle.tinyjson.specs.private.Steps.{Reads, Fails, within};
 ghost use Rattle.tinyjson.specs.Tree.{string};
 ghost use Rattle.tinyjson.specs.View.{text};

@@ -4,7 +4,8 @@ ghost use Rattle.std.specs.Str.{IsUtf8, IsCharBoundary, chars};
 ghost use Rattle.tinyjson.specs.Characters.{is_white};
 ghost use Rattle.tinyjson.specs.Position.{advance, position_at, origin};
 ghost use Rattle.tinyjson.specs.private.Slice.{before, behind, run_end, NextChar};
-ghost use Rattle.tinyjson.specs.private.Slice.Laws.{line_bound, column_bound, shown_once, shown_first, nothing_left};
+ghost use Rattle.tinyjson.specs.private.Slice.Laws.{line_bound, column_bound, shown_once};
+ghost use Rattle.tinyjson.specs.private.Slice.Laws.{shown_first, nothing_left};
 
 use super::cursor::moved;
 use super::scan::{digits_end, white_end};

@@ -1,9 +1,12 @@
 //! Typed access to the content of a value.
 ghost use Rattle.std.specs.Prelude.{◌≡◌, Option, IsSome, Some, None, option_map, refl};
 ghost use Rattle.tinyjson.specs.declared.value.JsonValue as made;
-ghost use Rattle.tinyjson.specs.Access.{number_part, boolean_part, string_part, null_part, array_part, object_part};
-ghost use Rattle.tinyjson.specs.Access.Laws.{number_of_put, boolean_of_put, string_of_put, array_of_put, object_of_put};
-ghost use Rattle.tinyjson.specs.Access.Laws.{put_of_number, put_of_boolean, put_of_string, put_of_array, put_of_object};
+ghost use Rattle.tinyjson.specs.Access.{number_part, boolean_part, string_part, null_part};
+ghost use Rattle.tinyjson.specs.Access.{array_part, object_part};
+ghost use Rattle.tinyjson.specs.Access.Laws.{number_of_put, boolean_of_put, string_of_put};
+ghost use Rattle.tinyjson.specs.Access.Laws.{array_of_put, object_of_put};
+ghost use Rattle.tinyjson.specs.Access.Laws.{put_of_number, put_of_boolean, put_of_string};
+ghost use Rattle.tinyjson.specs.Access.Laws.{put_of_array, put_of_object};
 
 use super::JsonValue;
 use crate::number::JsonNumber;

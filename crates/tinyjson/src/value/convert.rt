@@ -1,6 +1,7 @@
 //! Values from their content, and the content of values.
 ghost use Rattle.std.specs.Prelude.{◌≡◌};
-ghost use Rattle.tinyjson.specs.Access.{number_part, boolean_part, string_part, null_part, array_part, object_part};
+ghost use Rattle.tinyjson.specs.Access.{number_part, boolean_part, string_part, null_part};
+ghost use Rattle.tinyjson.specs.Access.{array_part, object_part};
 ghost use Rattle.tinyjson.specs.Convert.{unexpected_value, GivesPart};
 ghost use Rattle.tinyjson.specs.declared.value.JsonKind.TheVariants as kind;
 ghost use Rattle.tinyjson.specs.declared.value.JsonValue as made;

@@ -1,7 +1,8 @@
 //! Equality of values.
 ghost use Rattle.std.specs.Prelude.{◌≡◌, ◌<◌, ◌≤◌, ◌+◌};
 ghost use Rattle.std.specs.Slice.Iter.{iter_rest};
-ghost use Rattle.tinyjson.specs.private.Comparison.{has_entries, rest_eq, compared_eq, compared_weight};
+ghost use Rattle.tinyjson.specs.private.Comparison.{has_entries, rest_eq, compared_eq};
+ghost use Rattle.tinyjson.specs.private.Comparison.{compared_weight};
 ghost use Rattle.tinyjson.specs.private.Comparison.{step_eq, step_weight, rest_weight};
 ghost use Rattle.tinyjson.specs.private.Copy.{weight, items_weight, entries_weight};
 ghost use Rattle.tinyjson.specs.Equality.{same_tree, items_eq, members_eq};

@@ -1,10 +1,12 @@
 //! Values by an index of an array and by a key of an object.
 ghost use Rattle.std.specs.Borrow.{Lends, LendsSo, sem};
 ghost use Rattle.std.specs.HashMap.{get_by_text};
-ghost use Rattle.std.specs.Prelude.{◌≡◌, ◌<◌, ⊤, IsSome, Some, OnSome, option_map, length, slice_get};
+ghost use Rattle.std.specs.Prelude.{◌≡◌, ◌<◌, ⊤, IsSome, Some, OnSome, option_map, length};
+ghost use Rattle.std.specs.Prelude.{slice_get};
 ghost use Rattle.std.specs.Vec.{with_item};
 ghost use Rattle.tinyjson.specs.Access.{array_part, object_part};
-ghost use Rattle.tinyjson.specs.Index.{item_at, member_at, with_item_at, IsItemAt, IsMemberAt, IsMapWith, IsWithMember};
+ghost use Rattle.tinyjson.specs.Index.{item_at, member_at, with_item_at, IsItemAt, IsMemberAt};
+ghost use Rattle.tinyjson.specs.Index.{IsMapWith, IsWithMember};
 ghost use Rattle.tinyjson.specs.Index.Rows.{array_row, object_row};
 ghost use Rattle.tinyjson.specs.contracts.value.JsonValue.{the_row};
 ghost use Rattle.tinyjson.specs.declared.value.JsonValue as made;

@@ -1,7 +1,8 @@
 //! A part of a value is replaced, and the old part given back.
 ghost use Rattle.std.specs.Prelude.{◌≡◌, IsSome};
 ghost use Rattle.std.specs.Str.{chars};
-ghost use Rattle.tinyjson.specs.Index.{item_at, member_at, with_item_at, with_tree_at, with_tree_at_key};
+ghost use Rattle.tinyjson.specs.Index.{item_at, member_at, with_item_at, with_tree_at};
+ghost use Rattle.tinyjson.specs.Index.{with_tree_at_key};
 ghost use Rattle.tinyjson.specs.Index.{IsItemAt, IsMemberAt, IsWithMember};
 ghost use Rattle.tinyjson.specs.View.{view};
 

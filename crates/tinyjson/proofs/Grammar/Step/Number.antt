@@ -25,7 +25,7 @@ use Rattle.tinyjson.proofs.Grammar.Trace.State.{numeral, exponent_with}
 use Rattle.tinyjson.proofs.Grammar.Trace.Paths.{members_from}
 use Rattle.tinyjson.specs.Tree.{Tree, no_members}
 use Rattle.tinyjson.proofs.Grammar.Step.Value.{no_text, after_follows}
-use Rattle.tinyjson_number.proofs.Naturals.{digits_append}
+use Rattle.tinyjson_number.proofs.Callers.{digits_append}
 
 -- ---- no quote follows
 

@@ -7,7 +7,7 @@ use Rattle.tinyjson_number.specs.private.Layout.{power_text, layout_text}
 use Rattle.tinyjson_number.specs.Number.{Canonical}
 use Rattle.tinyjson_number.specs.Text.{decimal_text}
 use Rattle.tinyjson_number.specs.declared.text.Layout.{Layout}
-use Rattle.tinyjson_number.proofs.Layouts.{decimal_ascii}
+use Rattle.tinyjson_number.proofs.Callers.{decimal_ascii}
 use Rattle.tinyjson.specs.private.Room.{Output, Sent}
 use Rattle.tinyjson.proofs.Writing.Sending.{goes, ends, fails, written_none}
 use Rattle.tinyjson.proofs.Writing.Bytes.{enc}

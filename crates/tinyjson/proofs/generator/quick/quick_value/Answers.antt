@@ -1,7 +1,7 @@
 use Rattle.std.proofs.lemmas.Str.{encodes-IsAscii, IsUtf8-string_bytes}
 use Rattle.std.proofs.Common.{string_bytes}
 use Rattle.tinyjson_number.specs.Text.{decimal_text}
-use Rattle.tinyjson_number.proofs.Layouts.{decimal_ascii}
+use Rattle.tinyjson_number.proofs.Callers.{decimal_ascii}
 use Rattle.tinyjson.proofs.Reading.Containers.{view_Number}
 use Rattle.tinyjson.proofs.Writing.Quotes.{quoted_bytes}
 use Rattle.tinyjson.proofs.generator.quick.quick_value.Goals as goal

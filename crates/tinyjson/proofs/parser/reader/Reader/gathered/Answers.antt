@@ -1,5 +1,5 @@
 use Rattle.std.proofs.Common.{sym, subst}
-use Rattle.tinyjson_number.proofs.Parts.{parts_numeral, parts_read}
+use Rattle.tinyjson_number.proofs.Callers.{parts_numeral, parts_read}
 use Rattle.tinyjson.specs.private.NumberSteps.{Gathered}
 use Rattle.tinyjson.proofs.Reading.NumberParts.{parts_of, parts_plain}
 use Rattle.tinyjson.proofs.parser.reader.Reader.gathered.Goals as goal
