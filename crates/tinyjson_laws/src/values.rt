@@ -7,6 +7,7 @@ ghost use Rattle.tinyjson_laws.specs.Values.{ValuesAreSound, EqualTrees, EqualTe
 use tinyjson::JsonValue;
 
 /// Every value has a sound tree.
+#[tactic(auto, using(tinyjson::proofs::Callers::view_IsTree))]
 pub fn values_are_sound()
     ensures { ValuesAreSound }
 {}
