@@ -3,6 +3,7 @@ pub mod String
 pub mod Number
 pub mod Units
 pub mod NumberParts
+pub mod Numerals
 pub mod Containers
 pub mod Positions
 pub mod Parse

@@ -4,6 +4,7 @@ pub mod Machine
 pub mod Steps
 pub mod Stack
 pub mod NumberSteps
+pub mod Numerals
 pub mod Pending
 pub mod Cursor
 pub mod Source

@@ -247,7 +247,7 @@ module _ (limit : Option ℕ) where
 
   -- digits that are taken one by one, in a state K that gathers them
   module _ (K : List ℕ → Next) (h : (xs : List ℕ) → IsNext (K xs)) (k : (xs : List ℕ) (c : ℕ) → is_ascii_digit c ≡ true → onward limit (K xs) c ≡ K (xs ++ c ∷ [])) where
-    digits_come : (xs ds rest : List ℕ) → AllByRecursion (λ c. is_ascii_digit c ≡ true) ds → Comes limit (K xs) ds (K (xs ++ ds)) rest
+    pub digits_come : (xs ds rest : List ℕ) → AllByRecursion (λ c. is_ascii_digit c ≡ true) ds → Comes limit (K xs) ds (K (xs ++ ds)) rest
     digits_come xs [] rest a = subst (λ ys. Comes limit (K xs) [] (K ys) rest) (sym (append-nil xs)) (Same_refl limit (K xs) rest, λ w. w)
     digits_come xs (c ∷ cs) rest a =
         let e = k xs c a.0 in

@@ -77,7 +77,7 @@ next_shown text utf8 at b None e = ap (λ bs. slice_get (chars bs) 0) e ∙ ap (
 next_shown text utf8 at b (Some c) e = ap (λ cs. slice_get cs 0) (chars_past_char (drop at text) (drop (at + len_utf8 c) text) c (IsUtf8-drop text at utf8 b) e)
 
 -- the first of those that are left begins at the place
-next_of : (text : List ℕ) (utf8 : IsUtf8 text) (at : ℕ) → IsCharBoundary text at → NextChar text at (slice_get (behind text at) 0)
+pub next_of : (text : List ℕ) (utf8 : IsUtf8 text) (at : ℕ) → IsCharBoundary text at → NextChar text at (slice_get (behind text at) 0)
 next_of text utf8 at b = go (behind text at) (encodes-chars (drop at text) (IsUtf8-drop text at utf8 b))
   where
     go : (cs : List ℕ) → encode_utf8_all cs ≡ drop at text → NextChar text at (slice_get cs 0)
@@ -108,7 +108,7 @@ AllByRecursion_right : (P : ℕ → Type 0) (xs ys : List ℕ) → AllByRecursio
 AllByRecursion_right P [] ys a = a
 AllByRecursion_right P (x ∷ xs) ys a = AllByRecursion_right P xs ys a.1
 
-run_passes : (p : ℕ → Bool) (xs : List ℕ) → AllByRecursion (λ c. p c ≡ true) (take (prefix_len p xs) xs)
+pub run_passes : (p : ℕ → Bool) (xs : List ℕ) → AllByRecursion (λ c. p c ≡ true) (take (prefix_len p xs) xs)
 run_passes p [] = tt
 run_passes p (x ∷ xs) = go (p x) refl (run_passes p xs)
   where
@@ -123,12 +123,12 @@ module _ (p : ℕ → Bool) (text : List ℕ) (at : ℕ) where
   run_byte : (k : ℕ) → get_or (drop at text) k 0 ≡ get_or text (at + k) 0
   run_byte k = get_or-drop at text k 0
 
-  run_stops : run_end p text at < length text → p (get_or text (run_end p text at) 0) ≡ false
+  pub run_stops : run_end p text at < length text → p (get_or text (run_end p text at) 0) ≡ false
   run_stops h = ap p (sym (run_byte (prefix_len p (drop at text)))) ∙ prefix_len_stops p (drop at text) 0 (omega (arith, length-drop at text))
 
 -- bytes that are ASCII, as white space and digits are
 module _ (p : ℕ → Bool) (ascii : (b : ℕ) → p b ≡ true → b < 128) where
-  small : (xs : List ℕ) → AllByRecursion (λ c. p c ≡ true) xs → IsAscii xs
+  pub small : (xs : List ℕ) → AllByRecursion (λ c. p c ≡ true) xs → IsAscii xs
   small [] a i = search arith
   small (x ∷ xs) a zero = ascii x a.0
   small (x ∷ xs) a (suc i) = small xs a.1 i

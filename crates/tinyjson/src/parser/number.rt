@@ -1,21 +1,27 @@
 //! Numbers (RFC 8259, section 6).
-ghost use Rattle.std.specs.Prelude.{◌≡◌, ◌==◌, ◌<◌, ◌≤◌, [], ℕ, List, Bool, true, OnOk, Option};
-ghost use Rattle.std.specs.Prelude.{Some, None};
-ghost use Rattle.std.specs.Prelude.{if◌then◌else◌, length, option_map, string_bytes};
+ghost use Rattle.std.specs.Prelude.{◌≡◌, ◌==◌, ◌+◌, ◌<◌, ◌≤◌, [], ◌++◌, ℕ, List, Bool, true, false};
+ghost use Rattle.std.specs.Prelude.{OnOk, IfOk, IfSome, Option, Some, None, drop, length, slice_get};
+ghost use Rattle.std.specs.Prelude.{if◌then◌else◌, option_map, string_bytes};
+ghost use Rattle.std.specs.Char.{is_ascii_digit};
 ghost use Rattle.tinyjson.specs.private.Machine.{Frame, awaited, complete, digits, whole, fraction};
 ghost use Rattle.tinyjson.specs.private.Machine.{exponent, next};
 ghost use Rattle.tinyjson.specs.private.NumberSteps.{Digits, BeginsNumber, Accepts, Gathered};
 ghost use Rattle.tinyjson.specs.private.NumberSteps.{ReadsPart, Signs};
 ghost use Rattle.tinyjson.specs.private.NumberSteps.{is_below_zero, marks_of, numeral};
+ghost use Rattle.tinyjson.specs.private.Numerals.{FractionAt, NumeralAt};
+ghost use Rattle.tinyjson.specs.private.Stack.{at, frames, IsSound};
 ghost use Rattle.tinyjson.specs.private.Steps.{Ends, Reads};
 ghost use Rattle.tinyjson.specs.Tree.{number};
-ghost use Rattle.tinyjson_number.specs.Numeral.{Exponent, Numeral, has_leading_zero};
-ghost use Rattle.tinyjson_number.specs.Numeral.{is_exponent_letter};
-ghost use Rattle.tinyjson_number.specs.Reading.{ReadsNumeral, exponent_of};
+ghost use Rattle.tinyjson_number.specs.Numeral.{AreDigits, Exponent, Numeral, has_leading_zero};
+ghost use Rattle.tinyjson_number.specs.Numeral.{is_exponent_letter, minus_text};
+ghost use Rattle.tinyjson_number.specs.Reading.{ReadsNumeral, exponent_of, numeral_of};
 
 use super::error::{JsonParseError, JsonParseErrorKind};
 use super::reader::Reader;
+use super::scan::digits_end;
 use super::source::Source;
+use super::stack::Stack;
+use crate::value::JsonValue;
 use tinyjson_number::{ExponentParts, JsonNumber, LiteralError, NumberParts};
 
 /// What a number has besides its digits, which are gathered without anything between them.
@@ -41,10 +47,126 @@ fn has_leading_zero(digits: &[u8]) -> bool
     }
 }
 
+/// The digits at a place of a text, and the place behind them.
+#[inline(always)]
+fn digits_at(bytes: &[u8], from: usize) -> (&[u8], usize)
+    requires { from ≤ length bytes.now }
+    ensures digits { AreDigits result.0.now }
+    ensures text { drop from bytes.now ≡ result.0.now ++ drop result.1 bytes.now }
+    ensures within { result.1 ≤ length bytes.now }
+    ensures stops { IfSome (slice_get bytes.now result.1) (λ b. is_ascii_digit b ≡ false) }
+{
+    let end = digits_end(bytes, from);
+    (&bytes[from..end], end)
+}
+
+/// The parts of the number at a place of a text, and the place behind it, if it has no exponent, and
+/// nothing follows that a number goes on with.
+#[inline(always)]
+pub(super) fn parts_at(bytes: &[u8], at: usize) -> Option<(NumberParts<'_>, usize)>
+    requires { at ≤ length bytes.now }
+    ensures { IfSome result (λ r. NumeralAt bytes.now at (numeral_of r.0) r.1) }
+{
+    let (negative, from) = minus_at(bytes, at);
+    let (whole, point) = digits_at(bytes, from);
+    if whole.is_empty() || has_leading_zero(whole) {
+        return None;
+    }
+    let (fraction, end) = fraction_at(bytes, point)?;
+    Some((
+        NumberParts {
+            negative,
+            whole,
+            fraction,
+            exponent: None,
+        },
+        end,
+    ))
+}
+
+/// Whether a minus sign stands at a place of a text, and the place behind it.
+#[inline(always)]
+fn minus_at(bytes: &[u8], at: usize) -> (bool, usize)
+    requires { at ≤ length bytes.now }
+    ensures text { drop at bytes.now ≡ minus_text result.0 ++ drop result.1 bytes.now }
+    ensures within { result.1 ≤ length bytes.now }
+{
+    if at < bytes.len() && bytes[at] == b'-' {
+        (true, at + 1)
+    } else {
+        (false, at)
+    }
+}
+
+/// The digits behind the point at a place of a text, if there is a point, and the place behind them, if
+/// nothing follows that a number goes on with.
+#[inline(always)]
+fn fraction_at(bytes: &[u8], point: usize) -> Option<(&[u8], usize)>
+    requires within { point ≤ length bytes.now }
+    requires stops { IfSome (slice_get bytes.now point) (λ b. is_ascii_digit b ≡ false) }
+    ensures { IfSome result (λ r. FractionAt bytes.now point r.0.now r.1) }
+{
+    if point >= bytes.len() || bytes[point] != b'.' {
+        return if goes_on(bytes, point) {
+            None
+        } else {
+            Some((b"", point))
+        };
+    }
+    let (digits, end) = digits_at(bytes, point + 1);
+    if digits.is_empty() || goes_on(bytes, end) {
+        return None;
+    }
+    Some((digits, end))
+}
+
+/// Whether a point or the letter of an exponent stands at a place of a text.
+#[inline(always)]
+fn goes_on(bytes: &[u8], end: usize) -> bool
+    ensures { result ≡ false → IfSome (slice_get bytes.now end)
+        (λ b. ((b == 46) ≡ false) × (is_exponent_letter b ≡ false)) }
+{
+    end < bytes.len() && matches!(bytes[end], b'.' | b'e' | b'E')
+}
+
 impl<S: Source> Reader<S> {
-    /// Reads the number whose first character, a minus sign or a digit, comes next.
+    /// Reads the number whose first character, a minus sign or a digit, comes next, and puts it where it
+    /// belongs.
     #[inline(always)]
-    pub(super) fn number(&mut self) -> Result<JsonNumber, JsonParseError>
+    pub(super) fn number(&mut self, stack: &mut Stack) -> Result<bool, JsonParseError>
+        requires begins { BeginsNumber S.sight self.old.source }
+        requires sound { IsSound stack.old false }
+        ensures reads { (limit : Option ℕ) → Reads S.sight limit self.old.source
+            (next (frames stack.old) awaited) result (at stack.new) self.new.source }
+        ensures sound { IfOk result (IsSound stack.new) }
+        ensures left { OnOk result (S.left self.new.source < S.left self.old.source) }
+    {
+        if let Some((parts, behind)) = self.source.numeral() {
+            if let Ok(number) = JsonNumber::from_parts(self.alloc, parts) {
+                self.source = behind;
+                return self.put(stack, JsonValue::Number(number));
+            }
+        }
+        self.number_in_pieces(stack)
+    }
+
+    /// Reads the number piece by piece.
+    #[inline(never)]
+    fn number_in_pieces(&mut self, stack: &mut Stack) -> Result<bool, JsonParseError>
+        requires begins { BeginsNumber S.sight self.old.source }
+        requires sound { IsSound stack.old false }
+        ensures reads { (limit : Option ℕ) → Reads S.sight limit self.old.source
+            (next (frames stack.old) awaited) result (at stack.new) self.new.source }
+        ensures sound { IfOk result (IsSound stack.new) }
+        ensures left { OnOk result (S.left self.new.source < S.left self.old.source) }
+    {
+        let number = self.gathered_number()?;
+        self.put(stack, JsonValue::Number(number))
+    }
+
+    /// Reads the number by its parts, whose digits are gathered.
+    #[inline(always)]
+    fn gathered_number(&mut self) -> Result<JsonNumber, JsonParseError>
         requires { BeginsNumber S.sight self.old.source }
         ensures reads { (limit : Option ℕ) (fs : List Frame) →
             Reads S.sight limit self.old.source (next fs awaited) result

@@ -129,10 +129,7 @@ impl<S: Source> Reader<S> {
             }
             '[' => self.array(limit, stack),
             '{' => self.object(limit, stack),
-            c if c == '-' || c.is_ascii_digit() => {
-                let number = self.number()?;
-                self.put(stack, JsonValue::Number(number))
-            }
+            c if c == '-' || c.is_ascii_digit() => self.number(stack),
             c => Err(self.refuse(JsonParseErrorKind::InvalidCharacter(c))),
         }
     }

@@ -1,5 +1,5 @@
 //! Where the characters come from.
-ghost use Rattle.std.specs.Prelude.{◌≡◌, ℕ, ◌+◌, ◌≤◌, [], ◌∷◌, false, IfSome, MatchOption, OnOk};
+ghost use Rattle.std.specs.Prelude.{◌≡◌, ℕ, ◌+◌, ◌^◌, ◌<◌, ◌≤◌, [], ◌∷◌, false, IfSome, MatchOption, OnOk};
 ghost use Rattle.std.specs.Prelude.{Option, None, length, string_bytes};
 ghost use Rattle.std.specs.Char.{is_ascii_digit};
 ghost use Rattle.std.specs.Option.{option_len};
@@ -8,10 +8,13 @@ ghost use Rattle.tinyjson.specs.private.Scan.{is_plain};
 ghost use Rattle.tinyjson.specs.Position.{position_at};
 ghost use Rattle.tinyjson.specs.private.Source.{Sight, Still, Stops, Takes, TakesQuoted, TakesRun};
 ghost use Rattle.tinyjson.specs.private.Source.{Whites};
+ghost use Rattle.tinyjson.specs.private.Numerals.{TakesNumeral};
 ghost use Rattle.tinyjson.specs.View.{text};
+ghost use Rattle.tinyjson_number.specs.Reading.{numeral_of};
 
 use super::utf16::push;
 use std::alloc::{AllocError, Global};
+use tinyjson_number::NumberParts;
 
 /// A source of characters, of which the next one can be looked at.
 ///
@@ -103,6 +106,17 @@ pub(super) trait Source: Drop {
                 _ => return Ok(()),
             }
         }
+    }
+
+    /// The parts of the number that comes next, and the source behind it, if this source finds the number
+    /// whole. It may find none.
+    fn numeral(&self) -> Option<(NumberParts<'_>, Self)>
+        ensures takes { IfSome result (λ r. TakesNumeral sight self.now (numeral_of r.0) r.1) }
+        ensures room { IfSome result (λ r.
+            length r.0.whole.now + length r.0.fraction.now < 2 ^ 64) }
+        ensures left { IfSome result (λ r. left r.1 < left self.now) }
+    {
+        None
     }
 
     /// The line and the column behind what was consumed.

@@ -8,10 +8,12 @@ ghost use Rattle.tinyjson.specs.private.Slice.Laws.{line_bound, column_bound, sh
 ghost use Rattle.tinyjson.specs.private.Slice.Laws.{shown_first, nothing_left};
 
 use super::cursor::moved;
+use super::number::parts_at;
 use super::scan::{digits_end, white_end};
 use super::source::Source;
 use crate::scan::plain_end;
 use std::alloc::{AllocError, Global};
+use tinyjson_number::NumberParts;
 
 /// A text, and how many of its bytes were consumed. Line and column are counted when they are asked for.
 #[derive(Drop)]
@@ -115,6 +117,15 @@ impl<'a> Source for TextBytes<'a> {
         buffer.push_str(&self.text[self.at..end])?;
         self.at = end;
         Ok(())
+    }
+
+    fn numeral(&self) -> Option<(NumberParts<'_>, Self)> {
+        let (parts, end) = parts_at(self.text.as_bytes(), self.at)?;
+        let behind = TextBytes {
+            text: self.text,
+            at: end,
+        };
+        Some((parts, behind))
     }
 
     fn position(&self) -> (usize, usize) {

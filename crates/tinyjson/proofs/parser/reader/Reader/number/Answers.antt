@@ -1,33 +1,25 @@
-use Rattle.std.proofs.Common.{◌≡◌, Err, subst, rules}
-use Rattle.tinyjson_number.specs.Reading.{ReadsNumeral}
-use Rattle.tinyjson_number.specs.declared.error.LiteralError.TheVariants.{OutOfRange}
-use Rattle.tinyjson.proofs.Reading.Steps.{Halts_here, Refuses_memory}
-use Rattle.tinyjson.proofs.Reading.NumberParts.{Leads_number, Refuses_range, marks_within}
+use Rattle.std.proofs.Common.{true, ap, sym}
+use Rattle.tinyjson.specs.private.Machine.{complete}
+use Rattle.tinyjson.specs.private.Stack.{frames}
+use Rattle.tinyjson_number.specs.Reading.{numeral_of}
+use Rattle.tinyjson.proofs.Reading.Containers.{view_Number}
+use Rattle.tinyjson.proofs.Reading.Numerals.{Leads_plain}
+use Rattle.tinyjson.proofs.Reading.Steps.{Leads_to, Reads_after}
 use Rattle.tinyjson.proofs.parser.reader.Reader.number.Goals as goal
 
-pub gathered-requires-clause-order : goal.gathered-requires-clause-order
-gathered-requires-clause-order g c = let n = c.in_ok-marks.ensures.reads in (marks_within n.part _ _ n.has n.answers).0
+pub from_parts-requires-clause-numeral : goal.from_parts-requires-clause-numeral
+from_parts-requires-clause-numeral g c = c.in-Some.ensures.takes.plain.well_formed
 
-pub gathered-requires-clause-within : goal.gathered-requires-clause-within
-gathered-requires-clause-within g c = let n = c.in_ok-marks.ensures.reads in (marks_within n.part _ _ n.has n.answers).1
-
-pub gathered-requires-clause-gathered : goal.gathered-requires-clause-gathered
-gathered-requires-clause-gathered g c = let n = c.in_ok-marks.ensures.reads in (n.part, n.has, n.answers)
+pub from_parts-requires-clause-room : goal.from_parts-requires-clause-room
+from_parts-requires-clause-room g c = c.in-Some.ensures.room
 
 pub returns-in-Ok-clause-reads : goal.returns-in-Ok-clause-reads
-returns-in-Ok-clause-reads g c = λ limit fs.
-    let n = c.in_ok-marks.ensures.reads in
-    Leads_number g.S.Source.sight limit fs _ _ _ n c.in-Ok.number (c.in-Ok.ensures n.part n.has n.answers)
-
-pub returns-in-Err-OutOfRange-clause-reads : goal.returns-in-Err-OutOfRange-clause-reads
-returns-in-Err-OutOfRange-clause-reads g c = λ limit fs.
-    let n = c.in_ok-marks.ensures.reads in
-    let e : c.in-Err-OutOfRange.field-0 ≡ OutOfRange = search rules in
-    let r = subst (λ x. ReadsNumeral n.part (Err x)) e (c.in-Err-OutOfRange.ensures n.part n.has n.answers) in
-    Refuses_range g.S.Source.sight limit fs _ _ _ n c.refuse.result r c.refuse.ensures.kind c.refuse.ensures.at
-
-pub returns-in-Err-OutOfMemory-clause-reads : goal.returns-in-Err-OutOfMemory-clause-reads
-returns-in-Err-OutOfMemory-clause-reads g c = λ limit fs.
+returns-in-Ok-clause-reads g c = λ limit.
     let sight = g.S.Source.sight in
-    let n = c.in_ok-marks.ensures.reads in
-    Refuses_memory sight limit _ _ _ c.refuse-in-Err-OutOfMemory.ensures.kind c.refuse-in-Err-OutOfMemory.ensures.at (Halts_here sight limit _ _ (n.leads limit fs) tt tt)
+    let n = numeral_of c.in-Some.parts in
+    let fs = frames c.args.stack.now in
+    let p = c.args.self.now.source in
+    let q = c.in-Some.behind in
+    let x = c.in-Ok.number in
+    let l = Leads_plain sight p q n c.in-Some.ensures.takes limit fs x c.in-Ok.ensures in
+    Reads_after sight limit _ _ _ _ _ (Leads_to sight limit _ _ l (ap (λ t. complete true fs t true) (sym (view_Number x)))) (c.put.ensures.reads limit)

@@ -3,7 +3,7 @@ use Rattle.std.proofs.lemmas.Result.{err_from_is_err_and}
 use Rattle.tinyjson.specs.private.Machine.{complete}
 use Rattle.tinyjson.specs.private.Stack.{frames}
 use Rattle.tinyjson.specs.declared.parser.error.JsonParseErrorKind.TheVariants.{InvalidCharacter}
-use Rattle.tinyjson.proofs.Reading.Containers.{string_begins, view_Number}
+use Rattle.tinyjson.proofs.Reading.Containers.{string_begins}
 use Rattle.tinyjson.proofs.Reading.Sources.{Takes_shown}
 use Rattle.tinyjson.proofs.Reading.Steps.{Leads_nil, Leads_one, Leads_shown, Leads_to, Leads_trans, Refuses_after, Refuses_as, Reads_after, invalid}
 use Rattle.tinyjson.proofs.Values.Equality.{view_String}
@@ -40,14 +40,8 @@ returns-in_ok-string-in-34-clause-reads g c =
     (ap (λ t. complete true (frames c.args.stack.now) t true) (sym (view_String c.in_ok-string-in-34.string))))
     (c.put-in-34.ensures.reads limit)
 
-pub returns-in_ok-number-in_default-clause-reads : goal.returns-in_ok-number-in_default-clause-reads
-returns-in_ok-number-in_default-clause-reads g c =
-    let sight = g.S.Source.sight in
-    let limit = c.args.limit in
-    let w = c.in_ok-number-in_default in
-    Reads_after sight limit _ _ _ _ _
-    (Leads_to sight limit _ _ (w.ensures.reads limit _) (ap (λ t. complete true (frames c.args.stack.now) t true) (sym (view_Number w.number))))
-    (c.put-in_default.ensures.reads limit)
+pub returns-in_default-clause-reads : goal.returns-in_default-clause-reads
+returns-in_default-clause-reads g c = c.number.ensures.reads c.args.limit
 
 pub returns-in_default-2-clause-reads : goal.returns-in_default-2-clause-reads
 returns-in_default-2-clause-reads g c =
