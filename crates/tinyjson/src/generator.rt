@@ -10,6 +10,7 @@ mod encode;
 mod number;
 mod output;
 mod pending;
+mod presort;
 mod quick;
 mod quote;
 mod sorted;

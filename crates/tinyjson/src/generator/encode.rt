@@ -350,7 +350,7 @@ impl Encoder<'_> {
     {
         if members.len() > 1 {
             write_bytes(out, room, b"{")?;
-            gather_sorted(gathered, members)?;
+            gather_sorted(self.alloc, gathered, members)?;
             let (left, first) = self.run_of_members(room, gathered, members.len(), true);
             if left == 0 && self.indent.is_none() {
                 write_bytes(out, room, b"}")?;

@@ -6,13 +6,15 @@ ghost use Rattle.std.specs.String.{string_eq};
 ghost use Rattle.tinyjson.specs.private.Sorted.{bytes_pair, now_pair, sorted_view};
 ghost use Rattle.tinyjson.specs.View.{members_view};
 
+use super::presort::presort;
 use crate::value::JsonValue;
-use std::alloc::AllocError;
+use std::alloc::{AllocError, Global};
 use std::collections::HashMap;
 
 // Puts the members behind those that were gathered before, the last key's member first, so that they
 // are popped in the order of their keys' bytes.
 pub(super) fn gather_sorted<'a>(
+    alloc: Global,
     gathered: &mut Vec<(&'a str, &'a JsonValue)>,
     members: &'a HashMap<String, JsonValue>,
 ) -> Result<(), AllocError>
@@ -25,6 +27,7 @@ pub(super) fn gather_sorted<'a>(
     let start = gathered.len();
     gather(gathered, members)?;
     let added = &mut gathered[start..];
+    presort(alloc, added);
     added.sort_unstable_by(|a, b| b.0.cmp(a.0));
     Ok(())
 }

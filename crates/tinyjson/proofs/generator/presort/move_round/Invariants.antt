@@ -1,0 +1,8 @@
+use Rattle.std.proofs.Common.{◌≡◌, ◌<◌, length}
+use Rattle.std.specs.List.Sorted.{IsPermutation}
+use Rattle.tinyjson.proofs.generator.presort.move_round.Given as goal
+
+abbrev pub invariant-loop-step : goal.invariant-loop-step
+invariant-loop-step l =
+    (l.at < length l.members) × (length l.words ≡ length l.fn.words) × (length l.members ≡ length l.fn.members)
+    × IsPermutation l.fn.members l.members

@@ -1,0 +1,120 @@
+//! Many members, put near their order before they are sorted.
+ghost use Rattle.std.specs.Prelude.{◌≡◌, ◌<◌, length, IfOk};
+ghost use Rattle.std.specs.List.Sorted.{IsPermutation};
+
+use crate::value::JsonValue;
+use std::alloc::{AllocError, Global};
+
+// So few members are sorted as fast as they are presorted.
+const FEW: usize = 16;
+
+// Orders many members by the first bytes of their keys behind those that all share, the last key's
+// member first. Where memory is wanting, or there are few, they stay as they are.
+#[inline(always)]
+pub(super) fn presort(alloc: Global, members: &mut [(&str, &JsonValue)])
+    ensures { IsPermutation members.old members.new }
+{
+    if members.len() > FEW {
+        presort_many(alloc, members);
+    }
+}
+
+#[inline(never)]
+fn presort_many(alloc: Global, members: &mut [(&str, &JsonValue)])
+    ensures { IsPermutation members.old members.new }
+{
+    let mask = index_mask(members.len());
+    let Ok(mut words) = key_words(alloc, members, mask) else {
+        return;
+    };
+    words.sort_unstable();
+    place(&mut words, mask, members);
+}
+
+// The bits that hold each index below that count.
+fn index_mask(count: usize) -> u64 {
+    u64::MAX.wrapping_shr((count as u64).leading_zeros())
+}
+
+// For each member a word that falls where the key rises, and in its low bits the member's index.
+fn key_words(
+    alloc: Global,
+    members: &[(&str, &JsonValue)],
+    mask: u64,
+) -> Result<Vec<u64>, AllocError>
+    ensures { IfOk result (λ v. length v.items ≡ length members.now) }
+{
+    let shared = shared_len(members);
+    let mut words = Vec::with_capacity(alloc, members.len())?;
+    for (index, (key, _value)) in members.iter().enumerate() {
+        let rank = rank(key.as_bytes(), shared);
+        words.push((!rank & !mask) | (index as u64 & mask))?;
+    }
+    Ok(words)
+}
+
+// Moves each member to the place where the word with its index stands.
+fn place(words: &mut [u64], mask: u64, members: &mut [(&str, &JsonValue)])
+    requires { length words.old ≡ length members.old }
+    ensures { IsPermutation members.old members.new }
+{
+    for start in 0..members.len() {
+        move_round(words, mask, members, start);
+    }
+}
+
+// Moves the members of one round trip, each to the place where the word with its index stands.
+fn move_round(words: &mut [u64], mask: u64, members: &mut [(&str, &JsonValue)], start: usize)
+    requires same_len { length words.old ≡ length members.old }
+    requires start { start < length members.old }
+    ensures words { length words.new ≡ length words.old }
+    ensures members { IsPermutation members.old members.new }
+{
+    let mut at = start;
+    for _step in 0..members.len() {
+        let next = (words[at] & mask) as usize;
+        words[at] = at as u64;
+        if next == start || next >= members.len() {
+            return;
+        }
+        members.swap(at, next);
+        at = next;
+    }
+}
+
+// How many bytes the keys have in common at their front.
+fn shared_len(members: &[(&str, &JsonValue)]) -> usize {
+    let Some((first, _value)) = members.first() else {
+        return 0;
+    };
+    let first = first.as_bytes();
+    let mut len = first.len();
+    for (key, _value) in members {
+        len = common_len(first, key.as_bytes(), len);
+    }
+    len
+}
+
+// The same of two keys, but no more than so many.
+#[inline(always)]
+fn common_len(a: &[u8], b: &[u8], most: usize) -> usize {
+    let mut len = 0;
+    while len < most && len < a.len() && len < b.len() && a[len] == b[len] {
+        len += 1;
+    }
+    len
+}
+
+// The eight bytes from there on as a number, the first the greatest, with zeros behind the last.
+#[inline(always)]
+fn rank(bytes: &[u8], from: usize) -> u64 {
+    let mut word = [0u8; 8];
+    let from = from.min(bytes.len());
+    let rest = &bytes[from..];
+    for i in 0..8 {
+        if i < rest.len() {
+            word[i] = rest[i];
+        }
+    }
+    u64::from_be_bytes(word)
+}
