@@ -6,17 +6,23 @@ use crate::value::JsonValue;
 use std::alloc::{AllocError, Global};
 
 // So few members are sorted as fast as they are presorted.
-const FEW: usize = 16;
+const FEW: usize = 32;
 
 // Orders many members by the first bytes of their keys behind those that all share, the last key's
-// member first. Where memory is wanting, or there are few, they stay as they are.
+// member first. Where memory is wanting, or there are few, or the first of them rise or fall already,
+// they stay as they are.
 #[inline(always)]
 pub(super) fn presort(alloc: Global, members: &mut [(&str, &JsonValue)])
     ensures { IsPermutation members.old members.new }
 {
-    if members.len() > FEW {
+    if members.len() > FEW && !is_run(&members[..FEW]) {
         presort_many(alloc, members);
     }
+}
+
+// Whether the keys rise, or fall.
+fn is_run(members: &[(&str, &JsonValue)]) -> bool {
+    members.is_sorted_by(|a, b| a.0 <= b.0) || members.is_sorted_by(|a, b| a.0 >= b.0)
 }
 
 #[inline(never)]
@@ -88,29 +94,54 @@ fn shared_len(members: &[(&str, &JsonValue)]) -> usize {
         return 0;
     };
     let first = first.as_bytes();
-    let mut len = first.len();
-    for (key, _value) in members {
-        len = common_len(first, key.as_bytes(), len);
+    let mut len = 0;
+    while len < first.len() {
+        let unequal = differences(members, len, rank(first, len));
+        if unequal != 0 {
+            return len.saturating_add((unequal.leading_zeros() / 8) as usize);
+        }
+        len = len.saturating_add(8);
     }
-    len
+    first.len()
 }
 
-// The same of two keys, but no more than so many.
-#[inline(always)]
-fn common_len(a: &[u8], b: &[u8], most: usize) -> usize {
-    let mut len = 0;
-    while len < most && len < a.len() && len < b.len() && a[len] == b[len] {
-        len += 1;
+// The bits in which the keys' ranks from there on differ from the word.
+fn differences(members: &[(&str, &JsonValue)], from: usize, word: u64) -> u64 {
+    let mut bits = 0;
+    for (key, _value) in members {
+        bits |= rank(key.as_bytes(), from) ^ word;
     }
-    len
+    bits
 }
 
 // The eight bytes from there on as a number, the first the greatest, with zeros behind the last.
 #[inline(always)]
 fn rank(bytes: &[u8], from: usize) -> u64 {
+    if bytes.len() < 8 {
+        return short_rank(bytes, from);
+    }
+    let at = from.min(bytes.len() - 8);
+    let word = u64::from_be_bytes([
+        bytes[at],
+        bytes[at + 1],
+        bytes[at + 2],
+        bytes[at + 3],
+        bytes[at + 4],
+        bytes[at + 5],
+        bytes[at + 6],
+        bytes[at + 7],
+    ]);
+    if from - at < 8 {
+        word << (8 * (from - at))
+    } else {
+        0
+    }
+}
+
+#[inline(never)]
+fn short_rank(bytes: &[u8], from: usize) -> u64 {
     let mut word = [0u8; 8];
-    let from = from.min(bytes.len());
-    let rest = &bytes[from..];
+    let rest = &bytes[from.min(bytes.len())..];
     for i in 0..8 {
         if i < rest.len() {
             word[i] = rest[i];
