@@ -1,7 +1,7 @@
 -- The containers that are open: what is pushed, and what closes.
 use Rattle.std.proofs.Common.{◌≡◌, ℕ, suc, ◌+◌, ◌-◌, ◌≤◌, true, false, List, [], ◌∷◌, ◌++◌, map, take, drop, reverse, length, String, Global, Option, refl, sym, ap, ap₂, ◌∙◌, subst, arith}
-use Rattle.std.proofs.Math.Seq.{drop-length, take-length, take-append_seam}
-use Rattle.std.proofs.lemmas.List.{reverse-append, reverse-reverse, map-append, length-drop, drop-append-le, take-append-le, length-take-le, length-append, length-reverse}
+use Rattle.std.proofs.Math.Seq.{drop-length, take-length, take-append_seam, drop-append_seam}
+use Rattle.std.proofs.lemmas.List.{reverse-append, reverse-reverse, map-append, length-drop, drop-append-le, take-append-le, length-take-le, length-append, length-reverse, take-append-drop, drop_all}
 use Rattle.tinyjson.specs.Tree.{Tree, Members, no_members, put, string, array, object, is_string}
 use Rattle.tinyjson.specs.View.{view, text, items_view, members_view}
 use Rattle.tinyjson.specs.Access.{JsonMap}
@@ -47,6 +47,28 @@ waiting_key [] [] k h = refl
 waiting_key [] (v ∷ vs) k h = absurd (omega (arith, h))
 waiting_key (j ∷ ks) [] k h = absurd (omega (arith, h))
 waiting_key (j ∷ ks) (v ∷ vs) k h = waiting_key ks vs k (omega (arith, h))
+
+-- no value is left, so no member is put
+pub none_left : (ms : Members) (n : ℕ) (vs : List JsonValue) (ks : Keys) → length vs ≤ n → ms ≡ gather ms ks (reverse (drop n vs))
+none_left ms n vs ks h = none ks ∙ ap (λ us. gather ms ks (reverse us)) (sym (drop_all n vs h))
+  where
+    none : (js : Keys) → ms ≡ gather ms js []
+    none [] = refl
+    none (j ∷ js) = refl
+
+-- a list whose elements from a place on were put in the opposite order
+module _ {T : Type 0} (n : ℕ) (xs ys : List T) (h : n ≤ length xs) (e : ys ≡ take n xs ++ reverse (drop n xs)) where
+  pub turned_front : take n ys ≡ take n xs
+  turned_front = ap (take n) e ∙ ap (λ k. take k (take n xs ++ reverse (drop n xs))) (sym (length-take-le n xs h)) ∙ take-append_seam (take n xs) (reverse (drop n xs))
+
+  pub turned_back : reverse (drop n ys) ≡ drop n xs
+  turned_back =
+      ap (λ zs. reverse (drop n zs)) e
+      ∙ ap reverse (ap (λ k. drop k (take n xs ++ reverse (drop n xs))) (sym (length-take-le n xs h)) ∙ drop-append_seam (take n xs) (reverse (drop n xs)))
+      ∙ reverse-reverse (drop n xs)
+
+  pub turned_length : length ys ≡ length xs
+  turned_length = ap length e ∙ length-append (take n xs) (reverse (drop n xs)) ∙ ap (λ k. length (take n xs) + k) (length-reverse (drop n xs)) ∙ sym (length-append (take n xs) (drop n xs)) ∙ ap length (take-append-drop n xs)
 
 -- ---- a value that is whole
 

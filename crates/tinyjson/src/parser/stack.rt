@@ -1,5 +1,6 @@
 //! The containers that are open, and what they hold so far.
-ghost use Rattle.std.specs.Prelude.{◌≡◌, ◌+◌, ◌≤◌, List, [], ◌∷◌, length, take, drop, true, false};
+ghost use Rattle.std.specs.Prelude.{◌≡◌, ◌+◌, ◌≤◌, List, [], ◌∷◌, ◌++◌, true, false};
+ghost use Rattle.std.specs.Prelude.{length, take, drop, reverse};
 ghost use Rattle.std.specs.Prelude.{OnOk, IfOk, MatchOption};
 ghost use Rattle.tinyjson.specs.private.Machine.{in_array, at_key, after, next, complete, finished};
 ghost use Rattle.tinyjson.specs.private.Stack.{at, frames, frames_over, gather, maps_of, open_of};
@@ -262,13 +263,11 @@ impl Stack {
         let mut members = self.take_map();
         let count = self.values.len() - values;
         if make_room(&mut members, count).is_err()
-            || self.fill(&mut members, values, keys, count).is_err()
+            || self.fill(&mut members, values, keys).is_err()
         {
             JsonValue::Object(members).dismantle();
             return Err(AllocError);
         }
-        self.keys.truncate(keys);
-        self.values.truncate(values);
         Ok(members)
     }
 
@@ -286,27 +285,30 @@ impl Stack {
         }
     }
 
-    /// Moves so many members into a map, the values and the keys from these places on.
+    /// Moves the values and the keys from these places on into a map, the first member first.
     fn fill(
         &mut self,
         members: &mut HashMap<String, JsonValue>,
         values: usize,
         keys: usize,
-        count: usize,
     ) -> Result<(), AllocError>
-        requires values { values + count ≡ length self.old.values.items }
-        requires keys { keys + count ≡ length self.old.keys.items }
+        requires values { values ≤ length self.old.values.items }
+        requires keys { keys ≤ length self.old.keys.items }
+        requires count { length self.old.keys.items + values ≡ length self.old.values.items + keys }
         ensures members { OnOk result (members_view members.new.entries
             ≡ gather (members_view members.old.entries) (drop keys self.old.keys.items)
             (drop values self.old.values.items)) }
         ensures containers { self.new.containers ≡ self.old.containers }
         ensures maps { self.new.maps ≡ self.old.maps }
-        ensures values { take values self.new.values.items ≡ take values self.old.values.items }
-        ensures keys { take keys self.new.keys.items ≡ take keys self.old.keys.items }
+        ensures values { OnOk result (self.new.values.items ≡ take values self.old.values.items) }
+        ensures keys { OnOk result (self.new.keys.items ≡ take keys self.old.keys.items) }
     {
-        for i in 0..count {
-            let key = mem::replace(&mut self.keys[keys + i], String::new(self.alloc));
-            let value = mem::replace(&mut self.values[values + i], JsonValue::Null);
+        turn_around(&mut self.keys, keys);
+        turn_around(&mut self.values, values);
+        while self.values.len() > values {
+            let (Some(key), Some(value)) = (self.keys.pop(), self.values.pop()) else {
+                unreachable!()
+            };
             insert_member(members, key, value)?;
         }
         Ok(())
@@ -319,6 +321,15 @@ impl Stack {
             JsonValue::Object(members).dismantle();
         }
     }
+}
+
+/// Puts the elements from this place on in the opposite order.
+fn turn_around<T>(elements: &mut Vec<T>, from: usize)
+    requires { from ≤ length elements.old.items }
+    ensures { elements.new.items
+        ≡ take from elements.old.items ++ reverse (drop from elements.old.items) }
+{
+    elements[from..].reverse();
 }
 
 /// Makes room in a map for so many members more, and for no others where it has none.

@@ -1,20 +1,22 @@
-use Rattle.std.proofs.Common.{◌≡◌, ◌+◌, take, drop, length}
+use Rattle.std.proofs.Common.{◌≡◌, ◌+◌, ◌≤◌, take, drop, length, reverse}
 use Rattle.tinyjson.specs.View.{members_view}
 use Rattle.tinyjson.specs.private.Stack.{gather}
 use Rattle.tinyjson.proofs.parser.stack.Stack.fill.Given as goal
 
-abbrev pub invariant-loop-i : goal.invariant-loop-i
-invariant-loop-i l =
+abbrev pub invariant-loop-self : goal.invariant-loop-self
+invariant-loop-self l =
     let old = l.initial.self in
     record {
-      members : gather (members_view l.members.entries) (drop (l.keys + l.i) old.keys.items) (drop (l.values + l.i) old.values.items)
-          ≡ gather (members_view l.initial.members.entries) (drop l.keys old.keys.items) (drop l.values old.values.items);
+      members : gather (members_view l.members.entries) (reverse (drop l.keys l.self.keys.items)) (reverse (drop l.values l.self.values.items))
+          ≡ gather (members_view l.initial.members.entries) (reverse (drop l.keys old.keys.items)) (reverse (drop l.values old.values.items));
       keys : take l.keys l.self.keys.items ≡ take l.keys old.keys.items;
       values : take l.values l.self.values.items ≡ take l.values old.values.items;
-      keys_left : drop (l.keys + l.i) l.self.keys.items ≡ drop (l.keys + l.i) old.keys.items;
-      values_left : drop (l.values + l.i) l.self.values.items ≡ drop (l.values + l.i) old.values.items;
-      keys_count : length l.self.keys.items ≡ length old.keys.items;
-      values_count : length l.self.values.items ≡ length old.values.items;
+      keys_least : l.keys ≤ length l.self.keys.items;
+      values_least : l.values ≤ length l.self.values.items;
+      count : length l.self.keys.items + l.values ≡ length l.self.values.items + l.keys;
       containers : l.self.containers ≡ old.containers;
       maps : l.self.maps ≡ old.maps;
     }
+
+abbrev pub decreases-loop-self : goal.decreases-loop-self
+decreases-loop-self l = length l.self.values.items
