@@ -14,6 +14,7 @@ pub(crate) struct Inline {
 
 impl Inline {
     /// The digits of two slices together.
+    #[inline(always)]
     pub(crate) fn joined(front: &[u8], back: &[u8]) -> Inline
         requires { length front.now + length back.now ≤ 24 }
         ensures { take result.len result.bytes ≡ front.now ++ back.now }

@@ -112,17 +112,48 @@ impl JsonNumber {
     /// let number = JsonNumber::from_parts(alloc, parts)?;
     /// assert_eq!(rt; number.to_string(alloc)?.as_str(), "-1.23");
     /// ```
-    #[inline]
+    #[inline(always)]
     pub fn from_parts(alloc: Global, parts: NumberParts<'_>) -> Result<JsonNumber, LiteralError>
         requires numeral { IsNumeral (numeral_of parts) }
         requires room { length parts.whole.now + length parts.fraction.now < 2 ^ 64 }
         ensures { ReadsNumeral (numeral_of parts.entry) result }
     {
-        if parts.exponent.is_none() && parts.whole.len() + parts.fraction.len() <= ROOM {
-            return Ok(short(parts.negative, parts.whole, parts.fraction));
+        if parts.exponent.is_none()
+            && parts.whole.len() + parts.fraction.len() <= ROOM
+            && is_bare(parts.whole, parts.fraction)
+        {
+            return Ok(bare(parts.negative, parts.whole, parts.fraction));
         }
-        long(alloc, parts)
+        uneven(alloc, parts)
     }
+}
+
+// The number of few digits that neither begin nor end with `0`.
+#[inline(always)]
+fn bare(negative: bool, whole: &[u8], fraction: &[u8]) -> JsonNumber
+    requires whole { AreDigits whole.now }
+    requires fraction { AreDigits fraction.now }
+    requires few { length whole.now + length fraction.now ≤ 24 }
+    requires some { 0 < length whole.now }
+    requires lead { strip_leading (whole.now ++ fraction.now) ≡ whole.now ++ fraction.now }
+    requires trail { strip_trailing (whole.now ++ fraction.now) ≡ whole.now ++ fraction.now }
+    ensures decimal { result.decimal ≡ value (plain_numeral negative whole.now fraction.now) }
+    ensures fits { IsTrue (in_range (value (plain_numeral negative whole.now fraction.now))) }
+{
+    JsonNumber::of_few(negative, whole, fraction, -(fraction.len() as i64))
+}
+
+// The number of these parts, whose zeros at both ends are stripped.
+#[inline(never)]
+fn uneven(alloc: Global, parts: NumberParts<'_>) -> Result<JsonNumber, LiteralError>
+    requires numeral { IsNumeral (numeral_of parts) }
+    requires room { length parts.whole.now + length parts.fraction.now < 2 ^ 64 }
+    ensures { ReadsNumeral (numeral_of parts.entry) result }
+{
+    if parts.exponent.is_none() && parts.whole.len() + parts.fraction.len() <= ROOM {
+        return Ok(short(parts.negative, parts.whole, parts.fraction));
+    }
+    long(alloc, parts)
 }
 
 // The number of few digits and no exponent.
@@ -133,9 +164,6 @@ fn short(negative: bool, whole: &[u8], fraction: &[u8]) -> JsonNumber
     ensures decimal { result.decimal ≡ value (plain_numeral negative whole.now fraction.now) }
     ensures fits { IsTrue (in_range (value (plain_numeral negative whole.now fraction.now))) }
 {
-    if is_bare(whole, fraction) {
-        return JsonNumber::of_few(negative, whole, fraction, -(fraction.len() as i64));
-    }
     let kept = strip(whole, fraction);
     if kept.whole.len() + kept.fraction.len() == 0 {
         return JsonNumber::zero();
@@ -145,6 +173,7 @@ fn short(negative: bool, whole: &[u8], fraction: &[u8]) -> JsonNumber
 }
 
 // Whether the digits of both parts neither begin nor end with `0`.
+#[inline(always)]
 fn is_bare(whole: &[u8], fraction: &[u8]) -> bool
     ensures { IsTrue result → (0 < length whole.now)
         × (strip_leading (whole.now ++ fraction.now) ≡ whole.now ++ fraction.now)

@@ -77,10 +77,11 @@ impl Stack {
             ≡ complete true (frames self.old) (view value) true) }
         ensures sound { OnOk result (IsSound self.new true) }
     {
-        if let Err(refused) = self.values.push(value) {
-            refused.value.dismantle();
+        if self.values.reserve(1).is_err() {
+            value.dismantle();
             return Err(AllocError);
         }
+        self.values.push_reserved(value);
         Ok(())
     }
 

@@ -1,6 +1,6 @@
 use Rattle.std.proofs.Common.{◌≡◌, ◌<◌, ◌≤◌, ◌++◌, ℕ, [], List, length, refl, sym, ap, ◌∙◌, arith, length-append}
 use Rattle.std.proofs.lemmas.List.{nil_from_length}
-use Rattle.tinyjson_number.specs.Decimal.{significant, strip_leading, strip_trailing, trailing_zeros}
+use Rattle.tinyjson_number.specs.Decimal.{significant}
 use Rattle.tinyjson_number.specs.Numeral.{Numeral}
 use Rattle.tinyjson_number.specs.Reading.{plain_numeral}
 use Rattle.tinyjson_number.proofs.DecimalTrip.{digits_join}
@@ -21,8 +21,8 @@ returns-then-kept-eq0-clause-fits c =
     let none : significant (n.whole ++ n.fraction) ≡ [] = nil_from_length _ empty in
     zero_in_range n none
 
-pub of_few-requires-2-clause-canonical : goal.of_few-requires-2-clause-canonical
-of_few-requires-2-clause-canonical c =
+pub of_few-requires-clause-canonical : goal.of_few-requires-clause-canonical
+of_few-requires-clause-canonical c =
     let n : Numeral = plain_numeral c.args.negative c.args.whole.now c.args.fraction.now in
     let s : List ℕ = c.strip-kept.result.whole.now ++ c.strip-kept.result.fraction.now in
     let some : 0 < length s = omega (arith, length-append {A = ℕ}) in
@@ -41,7 +41,7 @@ returns-clause-decimal c =
     let zeros = c.strip-kept.ensures.zeros found in
     let few : c.strip-kept.result.zeros ≤ 24 = omega (arith, zeros, length-append n.whole n.fraction, c.requires.few) in
     let power = power_few c.strip-kept.result.zeros (length n.fraction) few (omega (arith, c.requires.few)) in
-    (rw power at c.of_few-2.ensures) ∙ value_exact n s c.strip-kept.result.zeros c.strip-kept.ensures.digits some zeros _ refl
+    (rw power at c.of_few.ensures) ∙ value_exact n s c.strip-kept.result.zeros c.strip-kept.ensures.digits some zeros _ refl
 
 pub returns-clause-fits : goal.returns-clause-fits
 returns-clause-fits c =
@@ -53,36 +53,3 @@ returns-clause-fits c =
     let few : c.strip-kept.result.zeros ≤ 24 = omega (arith, zeros, length-append n.whole n.fraction, c.requires.few) in
     let power = power_few c.strip-kept.result.zeros (length n.fraction) few (omega (arith, c.requires.few)) in
     value_fits n s c.strip-kept.result.zeros c.strip-kept.ensures.digits some zeros _ refl (power_few_fits c.strip-kept.result.zeros (length n.fraction) few (omega (arith, c.requires.few)))
-
--- digits from which nothing is stripped
-bare_significant : (ds : List ℕ) → strip_leading ds ≡ ds → strip_trailing ds ≡ ds → ds ≡ significant ds
-bare_significant ds lead trail = sym (ap strip_trailing lead ∙ trail)
-
-bare_zeros : (ds : List ℕ) → strip_trailing ds ≡ ds → 0 ≡ trailing_zeros ds
-bare_zeros ds trail = omega (arith, ap length trail)
-
-pub of_few-requires-clause-canonical : goal.of_few-requires-clause-canonical
-of_few-requires-clause-canonical c =
-    let n : Numeral = plain_numeral c.args.negative c.args.whole.now c.args.fraction.now in
-    let b = c.is_bare.ensures c.if-is_bare.true in
-    let few : length n.fraction ≤ 24 = omega (arith, c.requires.few) in
-    let some : 0 < length (n.whole ++ n.fraction) = omega (arith, b.0, length-append n.whole n.fraction) in
-    let power = power_few 0 (length n.fraction) (omega arith) few in
-    rw power (kept_is n.negative (n.whole ++ n.fraction) _ some (n.whole ++ n.fraction) (bare_significant _ b.1 b.2) (digits_join n.whole n.fraction c.requires.whole c.requires.fraction) (power_few_fits 0 (length n.fraction) (omega arith) few))
-
-pub returns-then-is_bare-clause-decimal : goal.returns-then-is_bare-clause-decimal
-returns-then-is_bare-clause-decimal c =
-    let n : Numeral = plain_numeral c.args.negative c.args.whole.now c.args.fraction.now in
-    let b = c.is_bare.ensures c.if-is_bare.true in
-    let few : length n.fraction ≤ 24 = omega (arith, c.requires.few) in
-    let some : 0 < length (n.whole ++ n.fraction) = omega (arith, b.0, length-append n.whole n.fraction) in
-    let power = power_few 0 (length n.fraction) (omega arith) few in
-    (rw power at c.of_few.ensures) ∙ value_exact n (n.whole ++ n.fraction) 0 (bare_significant _ b.1 b.2) some (bare_zeros _ b.2) _ refl
-
-pub returns-then-is_bare-clause-fits : goal.returns-then-is_bare-clause-fits
-returns-then-is_bare-clause-fits c =
-    let n : Numeral = plain_numeral c.args.negative c.args.whole.now c.args.fraction.now in
-    let b = c.is_bare.ensures c.if-is_bare.true in
-    let few : length n.fraction ≤ 24 = omega (arith, c.requires.few) in
-    let some : 0 < length (n.whole ++ n.fraction) = omega (arith, b.0, length-append n.whole n.fraction) in
-    value_fits n (n.whole ++ n.fraction) 0 (bare_significant _ b.1 b.2) some (bare_zeros _ b.2) _ refl (power_few_fits 0 (length n.fraction) (omega arith) few)
