@@ -14,3 +14,4 @@ pub mod Cursors
 pub mod Sources
 pub mod Slices
 pub mod Memory
+pub mod Escapes

@@ -13,3 +13,4 @@ pub mod Slice
 pub mod Copy
 pub mod Scan
 pub mod Room
+pub mod Escape

@@ -8,6 +8,7 @@ ghost use Rattle.tinyjson.specs.Position.{origin};
 mod containers;
 mod cursor;
 mod error;
+mod escape;
 mod number;
 mod reader;
 mod scan;

@@ -161,6 +161,12 @@ module _ {S : Type 0} (sight : Sight S) (limit : Option ℕ) {E : Type 0} (p q :
   pub plain_halts : (r : Result (Unit {0}) E) → us ≡ [] → TakesRun sight is_plain p old r new q → Halts sight limit p (next fs (quoted plain old us)) q
   plain_halts r n t = subst (λ vs. Halts sight limit p (next fs (quoted plain old vs)) q) (sym n) (Halts_here sight limit p q (Leads_plain r t) tt tt)
 
+-- the same, where no unit waits
+pub plain_reads : {S : Type 0} (sight : Sight S) (limit : Option ℕ) {E : Type 0} (p q : S) (fs : List Frame) (old new : List ℕ) (r : Result (Unit {0}) E) → TakesRun sight is_plain p old r new q
+    → MatchResult r (λ _. Leads sight limit p (next fs (quoted plain old [])) q (next fs (quoted plain new []))) (λ _. Halts sight limit p (next fs (quoted plain old [])) q)
+plain_reads sight limit p q fs old new (Ok v) t = plain_added sight limit p q fs old new [] (Ok v) refl refl t
+plain_reads sight limit p q fs old new (Err e) t = plain_halts sight limit p q fs old new [] (Err e) refl t
+
 pub short_read : (limit : Option ℕ) (fs : List Frame) (cs us : List ℕ) (c d : ℕ) → short_escape c ≡ Some d
     → onward limit (next fs (quoted backslash cs us)) c ≡ cond (not (paired us)) (stop InvalidUtf16 true) (next fs (quoted plain ((cs ++ decode us) ++ d ∷ []) []))
 unfolding step

@@ -1,14 +1,17 @@
 //! Where the characters come from.
-ghost use Rattle.std.specs.Prelude.{◌≡◌, ℕ, ◌+◌, ◌^◌, ◌<◌, ◌≤◌, [], ◌∷◌, false, IfSome, MatchOption, OnOk};
-ghost use Rattle.std.specs.Prelude.{Option, None, length, string_bytes};
+ghost use Rattle.std.specs.Prelude.{◌≡◌, ℕ, ◌+◌, ◌^◌, ◌<◌, ◌≤◌, List, [], ◌∷◌, false, IfSome};
+ghost use Rattle.std.specs.Prelude.{MatchOption, MatchResult, OnOk, Option, None, length};
+ghost use Rattle.std.specs.Prelude.{string_bytes};
 ghost use Rattle.std.specs.Char.{is_ascii_digit};
 ghost use Rattle.std.specs.Option.{option_len};
 ghost use Rattle.tinyjson.specs.Characters.{is_white};
+ghost use Rattle.tinyjson.specs.private.Machine.{Frame};
 ghost use Rattle.tinyjson.specs.private.Scan.{is_plain};
 ghost use Rattle.tinyjson.specs.Position.{position_at};
 ghost use Rattle.tinyjson.specs.private.Source.{Sight, Still, Stops, Takes, TakesQuoted, TakesRun};
 ghost use Rattle.tinyjson.specs.private.Source.{Whites};
 ghost use Rattle.tinyjson.specs.private.Numerals.{TakesNumeral};
+ghost use Rattle.tinyjson.specs.private.Steps.{Halts, Leads, within};
 ghost use Rattle.tinyjson.specs.View.{text};
 ghost use Rattle.tinyjson_number.specs.Reading.{numeral_of};
 
@@ -73,6 +76,18 @@ pub(super) trait Source: Drop {
                 _ => return Ok(()),
             }
         }
+    }
+
+    /// Within a string, with no unit waiting: takes plain characters, and escapes that spell a character
+    /// at once, and adds what they stand for. Where memory runs out, some of them may be taken.
+    fn escaped(&mut self, string: &mut String) -> Result<(), AllocError>
+        ensures reads { (limit : Option ℕ) (fs : List Frame) → MatchResult result
+            (λ _. Leads sight limit self.old (within fs string.old [] false)
+            self.new (within fs string.new [] false))
+            (λ _. Halts sight limit self.old (within fs string.old [] false) self.new) }
+        ensures left { left self.new ≤ left self.old }
+    {
+        self.plain(string)
     }
 
     /// Behind the quote that opens a string: the string, if the source finds that no escape stands in it.

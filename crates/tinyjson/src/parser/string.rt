@@ -1,7 +1,7 @@
 //! Strings (RFC 8259, section 7).
 ghost use Rattle.std.specs.Prelude.{◌≡◌, ℕ, ◌<◌, ◌≤◌, List, [], ◌∷◌, ◌++◌, true, false};
 ghost use Rattle.std.specs.Prelude.{MatchResult, OnOk, Option, cond};
-ghost use Rattle.tinyjson.specs.Characters.{paired, decode, short_escape};
+ghost use Rattle.tinyjson.specs.Characters.{paired, decode};
 ghost use Rattle.tinyjson.specs.private.Machine.{Frame, plain, backslash, hex, quoted, next};
 ghost use Rattle.tinyjson.specs.private.Machine.{complete};
 ghost use Rattle.tinyjson.specs.private.Steps.{Reads, Fails, within};
@@ -9,25 +9,11 @@ ghost use Rattle.tinyjson.specs.Tree.{string};
 ghost use Rattle.tinyjson.specs.View.{text};
 
 use super::error::{JsonParseError, JsonParseErrorKind};
+use super::escape::short_escape;
 use super::reader::Reader;
 use super::source::{Source, is_plain};
 use super::utf16::{decode, push};
 use std::mem;
-
-/// What the letter behind a backslash stands for.
-fn short_escape(c: char) -> Option<char>
-    ensures { result ≡ short_escape c }
-{
-    match c {
-        '"' | '\\' | '/' => Some(c),
-        'b' => Some('\x08'),
-        'f' => Some('\x0c'),
-        'n' => Some('\n'),
-        'r' => Some('\r'),
-        't' => Some('\t'),
-        _ => None,
-    }
-}
 
 impl<S: Source> Reader<S> {
     /// Behind the quote that opens a string.
@@ -40,13 +26,26 @@ impl<S: Source> Reader<S> {
         self.buffer.clear();
         match self.source.quoted(self.alloc, &mut self.buffer) {
             Ok(Some(string)) => Ok(string),
-            Ok(None) => self.pieces(),
+            Ok(None) => self.escaped(),
             Err(_) => Err(self.refuse(JsonParseErrorKind::OutOfMemory)),
         }
     }
 
     /// Behind the plain characters in the buffer.
     #[inline(never)]
+    fn escaped(&mut self) -> Result<String, JsonParseError>
+        ensures reads { (limit : Option ℕ) (fs : List Frame) →
+            Reads S.sight limit self.old.source (within fs self.old.buffer [] false) result
+            (λ s. complete true fs (string (text s)) true) self.new.source }
+        ensures left { S.left self.new.source ≤ S.left self.old.source }
+    {
+        match self.source.escaped(&mut self.buffer) {
+            Ok(_) => self.pieces(),
+            Err(_) => Err(self.refuse(JsonParseErrorKind::OutOfMemory)),
+        }
+    }
+
+    /// Behind the characters in the buffer.
     fn pieces(&mut self) -> Result<String, JsonParseError>
         ensures reads { (limit : Option ℕ) (fs : List Frame) →
             Reads S.sight limit self.old.source (within fs self.old.buffer [] false) result
@@ -94,7 +93,7 @@ impl<S: Source> Reader<S> {
         }
     }
 
-    /// Reads the plain characters that come next, unless units stand before them.
+    /// Reads the plain characters and the escapes that the source takes at once, unless units wait.
     fn plain(&mut self, string: &mut String, units: &[u16]) -> Result<(), JsonParseError>
         ensures reads { (limit : Option ℕ) (fs : List Frame)
             → Reads S.sight limit self.old.source (within fs string.old units.now false) result
@@ -104,10 +103,10 @@ impl<S: Source> Reader<S> {
         if !units.is_empty() {
             return Ok(());
         }
-        if self.source.plain(string).is_err() {
-            return Err(self.refuse(JsonParseErrorKind::OutOfMemory));
+        match self.source.escaped(string) {
+            Ok(_) => Ok(()),
+            Err(_) => Err(self.refuse(JsonParseErrorKind::OutOfMemory)),
         }
-        Ok(())
     }
 
     /// Reads a part of a string; `true` at the quote that closes it.

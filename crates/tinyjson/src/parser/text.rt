@@ -8,9 +8,11 @@ ghost use Rattle.tinyjson.specs.private.Slice.Laws.{line_bound, column_bound, sh
 ghost use Rattle.tinyjson.specs.private.Slice.Laws.{shown_first, nothing_left};
 
 use super::cursor::moved;
+use super::escape::escape_at;
 use super::number::parts_at;
 use super::scan::{digits_end, white_end};
 use super::source::Source;
+use super::utf16::push;
 use crate::scan::plain_end;
 use std::alloc::{AllocError, Global};
 use tinyjson_number::NumberParts;
@@ -97,6 +99,16 @@ impl<'a> Source for TextBytes<'a> {
         let end = plain_end(self.text.as_bytes(), self.at);
         string.push_str(&self.text[self.at..end])?;
         self.at = end;
+        Ok(())
+    }
+
+    fn escaped(&mut self, string: &mut String) -> Result<(), AllocError> {
+        self.plain(string)?;
+        while let Some((c, end)) = escape_at(self.text.as_bytes(), self.at) {
+            push(string, c)?;
+            self.at = end;
+            self.plain(string)?;
+        }
         Ok(())
     }
 

@@ -5,20 +5,20 @@ ghost use Rattle.tinyjson.specs.Characters.{is_high, is_low, pair_of, paired, de
 
 use std::alloc::AllocError;
 
-fn is_high(unit: u16) -> bool
+pub(super) fn is_high(unit: u16) -> bool
     ensures { result ≡ is_high unit }
 {
     unit >= 0xd800 && unit < 0xdc00
 }
 
-fn is_low(unit: u16) -> bool
+pub(super) fn is_low(unit: u16) -> bool
     ensures { result ≡ is_low unit }
 {
     unit >= 0xdc00 && unit < 0xe000
 }
 
 /// The character that a pair of surrogates stands for.
-fn pair(high: u16, low: u16) -> char
+pub(super) fn pair(high: u16, low: u16) -> char
     requires high { is_high high ≡ true }
     requires low { is_low low ≡ true }
     ensures { result ≡ pair_of high low }

@@ -17,7 +17,7 @@ returns-in-Ok-None-clause-reads g c = λ limit fs.
     let none : text c.clear.new.self ≡ [] = ap chars c.clear.ensures.bytes ∙ chars-nil in
     let h = rw c.in-Ok-None.field-0-is at c.in-Ok-None.ensures in
     let t = rw none at h.quoted in
-    Reads_after sight limit _ _ _ _ _ (plain_added sight limit _ _ fs [] _ [] _ refl refl t) (c.pieces.ensures.reads limit fs)
+    Reads_after sight limit _ _ _ _ _ (plain_added sight limit _ _ fs [] _ [] _ refl refl t) (c.escaped.ensures.reads limit fs)
 
 pub returns-in-Err-clause-reads : goal.returns-in-Err-clause-reads
 returns-in-Err-clause-reads g c = λ limit fs.
