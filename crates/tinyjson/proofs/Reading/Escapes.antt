@@ -1,6 +1,6 @@
 -- Escapes among the bytes of a text.
-use Rattle.std.proofs.Common.{◌≡◌, ℕ, suc, ◌+◌, ◌*◌, ◌-◌, ◌<◌, ◌≤◌, true, false, not, List, [], ◌∷◌, ◌++◌, length, take, drop, get_or, Option, Some, Result, is_err, refl, sym, ap, ap₂, ◌∙◌, subst, arith, length-append, append-nil, append_assoc, drop-cons, add-zero}
-use Rattle.std.specs.Prelude.{slice_get}
+use Rattle.std.proofs.Common.{◌≡◌, ℕ, suc, ◌+◌, ◌*◌, ◌-◌, ◌<◌, ◌≤◌, true, false, not, List, [], ◌∷◌, ◌++◌, length, take, drop, get_or, Option, Some, Result, Ok, Err, OnOk, is_err, refl, sym, ap, ap₂, ◌∙◌, subst, arith, length-append, append-nil, append_assoc, drop-cons, add-zero}
+use Rattle.std.specs.Prelude.{nat_lt, slice_get}
 use Rattle.std.specs.Char.{is_ascii, digit_value, len_utf8}
 use Rattle.std.specs.List.{AllByRecursion}
 use Rattle.std.specs.Str.{IsUtf8, IsCharBoundary, chars}
@@ -14,12 +14,13 @@ use Rattle.tinyjson.specs.private.Escape.{Stands, UnitAt, NoBackslash, EscapeAt}
 use Rattle.tinyjson.specs.private.Slice.{before, behind, NextChar}
 use Rattle.tinyjson.specs.private.Slice.Laws.{line_bound, column_bound, shown_once, shown_first, nothing_left}
 use Rattle.tinyjson.specs.private.Scan.{is_plain}
-use Rattle.tinyjson.specs.private.Source.{Sight, TakesRun}
+use Rattle.tinyjson.specs.private.Source.{Sight, Takes, TakesRun}
 use Rattle.tinyjson.specs.Position.{advance, origin}
 use Rattle.tinyjson.specs.declared.parser.text.TextBytes.{TextBytes}
 use Rattle.tinyjson.specs.private.Machine.{step, Frame, Next, next, plain, backslash, hex, quoted}
 use Rattle.tinyjson.specs.private.Steps.{onward, IsNext, IsTaken, Same, Comes, Leads, Halts}
-use Rattle.tinyjson.proofs.Reading.Slices.{between, next_of, small, step_gives, step_moves}
+use Rattle.tinyjson.proofs.Reading.Slices.{ascii_next, between, char_between, char_boundary, next_of, small, step_gives, step_moves}
+use Rattle.tinyjson.proofs.Reading.Sources.{Takes_append}
 use Rattle.tinyjson.proofs.Reading.Steps.{Same_refl, Comes_trans, Leads_to, Leads_trans, Halts_trans, end_quoted}
 use Rattle.tinyjson.proofs.Reading.String.{hexing, hex_next, hex_step, hex_taken, hex_done, backslash_read, u_read, short_read, plain_added, plain_halts}
 
@@ -253,6 +254,48 @@ Leads_escape limit fs cs p q c e same =
           (x.0, x.1, x.2 ∙ ap (λ t. behind t q.at) (sym same), subst (Comes limit n e.taken m) (sym x.2) (escape_comes text utf8 p.at p.boundary c q.at e limit fs cs));
       moves = ap (λ t. advance origin (before t q.at)) same ∙ step_moves text utf8 p.at q.at h p.boundary last e.taken one;
     }
+
+-- a byte below 128 is taken
+pub Takes_ascii : (p q : TextBytes) (b : ℕ) → p.at < length p.text.now → get_or p.text.now p.at 0 ≡ b → b < 128 → q.text.now ≡ p.text.now → q.at ≡ p.at + 1 → Takes text_sight p (b ∷ []) q
+Takes_ascii p q b h e low same at =
+    let text = p.text.now in
+    let utf8 = IsUtf8-had text p.utf8 in
+    let next = ascii_next text p.at b h e low in
+    let len : 1 ≡ len_utf8 b = grind (arith, nat_tests, low) in
+    let last = subst (IsCharBoundary text) (sym at) (char_boundary text utf8 p.at p.boundary b 1 next len) in
+    let one : between text p.at q.at ≡ b ∷ [] = ap (between text p.at) at ∙ char_between text utf8 p.at p.boundary b 1 next len in
+    let on : p.at ≤ q.at = omega (arith, at) in
+    record {
+      gives = λ zs g. let x = step_gives text utf8 p.at q.at on p.boundary last (b ∷ []) one zs g in (x.0, x.1, x.2 ∙ ap (λ t. behind t q.at) (sym same));
+      moves = ap (λ t. advance origin (before t q.at)) same ∙ step_moves text utf8 p.at q.at on p.boundary last (b ∷ []) one;
+    }
+
+-- a run goes on by a plain byte below 128, and by another run
+pub run_ascii : {E : Type 0} (o p q : TextBytes) (old new more : List ℕ) (b : ℕ) → TakesRun text_sight is_plain {E = Unit {0}} o old (Ok tt) new p
+    → p.at < length p.text.now → get_or p.text.now p.at 0 ≡ b → b < 128 → q.text.now ≡ p.text.now → q.at ≡ p.at + 1 → is_plain b ≡ true → more ≡ new ++ b ∷ []
+    → TakesRun text_sight is_plain {E = E} o old (Ok tt) more q
+run_ascii o p q old new more b t h e low same at printed added = record {
+  taken = t.taken ++ b ∷ [];
+  pass = All_append (λ c. is_plain c ≡ true) t.taken (b ∷ []) t.pass (printed, tt);
+  takes = Takes_append text_sight o p q t.taken (b ∷ []) t.takes (Takes_ascii p q b h e low same at);
+  added = added ∙ ap (λ cs. cs ++ b ∷ []) t.added ∙ append_assoc old t.taken (b ∷ []);
+}
+
+pub printed_plain : (b : ℕ) → (b ≡ 34 → ⊥) → (b ≡ 92 → ⊥) → 32 ≤ b → is_plain b ≡ true
+printed_plain b n m h = let l : nat_lt b 32 ≡ false = grind (arith, nat_tests) in rw (ne_eqb b 34 n, ne_eqb b 92 m, l) refl
+
+pub run_run : {E : Type 0} (o p q : TextBytes) (old new more : List ℕ) (r : Result (Unit {0}) E) → TakesRun text_sight is_plain {E = Unit {0}} o old (Ok tt) new p → TakesRun text_sight is_plain p new r more q
+    → TakesRun text_sight is_plain o old r more q
+run_run {E = E} o p q old new more r t u = record {
+  taken = t.taken ++ u.taken;
+  pass = All_append (λ c. is_plain c ≡ true) t.taken u.taken t.pass u.pass;
+  takes = Takes_append text_sight o p q t.taken u.taken t.takes u.takes;
+  added = on r u.added;
+}
+  where
+    on : (r : Result (Unit {0}) E) → OnOk r (more ≡ new ++ u.taken) → OnOk r (more ≡ old ++ (t.taken ++ u.taken))
+    on (Ok v) e = e ∙ ap (λ cs. cs ++ u.taken) t.added ∙ append_assoc old t.taken u.taken
+    on (Err x) e = e
 
 -- an escape is taken, and the plain characters behind it
 module _ {E : Type 0} (limit : Option ℕ) (fs : List Frame) (o p q r : TextBytes) (n : Next) (cs ds es : List ℕ) (c to : ℕ) (v : Result (Unit {0}) E)

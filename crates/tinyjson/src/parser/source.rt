@@ -78,6 +78,15 @@ pub(super) trait Source: Drop {
         }
     }
 
+    /// The same, where few of them are awaited.
+    fn letters(&mut self, string: &mut String) -> Result<(), AllocError>
+        ensures plain { TakesRun sight is_plain self.old (text string.old) result
+            (text string.new) self.new }
+        ensures left { left self.new ≤ left self.old }
+    {
+        self.plain(string)
+    }
+
     /// Within a string, with no unit waiting: takes plain characters, and escapes that spell a character
     /// at once, and adds what they stand for. Where memory runs out, some of them may be taken.
     fn escaped(&mut self, string: &mut String) -> Result<(), AllocError>

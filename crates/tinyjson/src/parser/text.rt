@@ -102,12 +102,32 @@ impl<'a> Source for TextBytes<'a> {
         Ok(())
     }
 
+    #[inline(always)]
+    fn letters(&mut self, string: &mut String) -> Result<(), AllocError> {
+        for _ in 0..4_usize {
+            let bytes = self.text.as_bytes();
+            if self.at >= bytes.len() {
+                return Ok(());
+            }
+            let byte = bytes[self.at];
+            if byte == b'"' || byte == b'\\' {
+                return Ok(());
+            }
+            if byte < b' ' || byte >= 128 {
+                return self.plain(string);
+            }
+            push(string, byte as char)?;
+            self.at += 1;
+        }
+        self.plain(string)
+    }
+
     fn escaped(&mut self, string: &mut String) -> Result<(), AllocError> {
         self.plain(string)?;
         while let Some((c, end)) = escape_at(self.text.as_bytes(), self.at) {
             push(string, c)?;
             self.at = end;
-            self.plain(string)?;
+            self.letters(string)?;
         }
         Ok(())
     }
