@@ -34,9 +34,27 @@ impl<'a> TextBytes<'a> {
         TextBytes { text, at: 0 }
     }
 
-    /// Passes over white space, and shows what follows it.
-    #[inline(never)]
+    /// Passes over white space, and shows what follows it. One space alone needs no search.
+    #[inline(always)]
     fn behind_white(&mut self) -> Option<char>
+        ensures text { self.new.text.now ≡ self.old.text.now }
+        ensures at { self.new.at ≡ run_end is_white self.old.text.now self.old.at }
+        ensures next { NextChar self.new.text.now self.new.at result }
+    {
+        let bytes = self.text.as_bytes();
+        if bytes.len() - self.at > 1 && bytes[self.at] == b' ' {
+            let byte = bytes[self.at + 1];
+            if byte > b' ' && byte < 128 {
+                self.at += 1;
+                return Some(byte as char);
+            }
+        }
+        self.behind_run()
+    }
+
+    /// The same for a run of any length.
+    #[inline(never)]
+    fn behind_run(&mut self) -> Option<char>
         ensures text { self.new.text.now ≡ self.old.text.now }
         ensures at { self.new.at ≡ run_end is_white self.old.text.now self.old.at }
         ensures next { NextChar self.new.text.now self.new.at result }

@@ -4,7 +4,7 @@ use Rattle.std.specs.List.{prefix_len}
 use Rattle.tinyjson.specs.Characters.{is_white}
 use Rattle.tinyjson.specs.private.Slice.{run_end}
 use Rattle.tinyjson.proofs.Reading.Slices.{white_small, ascii_boundary}
-use Rattle.tinyjson.proofs.parser.text.TextBytes.behind_white.Goals as goal
+use Rattle.tinyjson.proofs.parser.text.TextBytes.behind_run.Goals as goal
 
 pub invariant_of-self : goal.invariant_of-self
 invariant_of-self c =
