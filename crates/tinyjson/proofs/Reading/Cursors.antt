@@ -1,9 +1,13 @@
 -- How a cursor over an iterator goes on.
-use Rattle.std.proofs.Common.{◌≡◌, ℕ, Bool, true, false, cond, not, is_some, List, [], ◌∷◌, ◌++◌, Option, Some, None, refl, sym, ap, ◌∙◌, true≢false}
+use Rattle.std.proofs.Common.{◌≡◌, ℕ, Bool, true, false, cond, not, is_some, List, [], ◌∷◌, ◌++◌, Option, Some, None, refl, sym, ap, ◌∙◌, ◌<◌, ◌+◌, arith, true≢false, append_assoc, subst, Result, Ok, Err, OnOk}
 use Rattle.std.specs.Option.{option_to_list}
 use Rattle.std.specs.Iterator.{Count, MakesProgress}
+use Rattle.std.proofs.lemmas.Bool.Decides.{nat_tests}
+use Rattle.tinyjson.specs.private.Scan.{is_plain}
 use Rattle.tinyjson.specs.declared.parser.cursor.Cursor.{Cursor}
-use Rattle.tinyjson.specs.private.Cursor.{Ready, Gives, Begins, Shows}
+use Rattle.tinyjson.specs.private.Cursor.{Ready, Gives, Begins, Shows, Goes, place}
+use Rattle.tinyjson.specs.Position.{advance, capped, position_at}
+use Rattle.tinyjson.proofs.Reading.Positions.{advance_nil, advance_append}
 use Rattle.tinyjson.specs.Parser.{Follows}
 
 -- what a call of the iterator leaves may be called, and ends
@@ -39,6 +43,45 @@ module _ {S : Type 0} (steps : S → Option ℕ → S → Type 0) where
   pub not_shown : (p : Cursor S) (o r : Option ℕ) → p.peeked ≡ None → p.done ≡ false → Shows p o → r ≡ o
   not_shown p None r n f s = absurd (true≢false (sym s.ended ∙ f))
   not_shown p (Some x) r n f s = absurd (true≢false (ap is_some (sym s.peeked ∙ n)))
+
+-- ---- what calls took
+
+-- what was added to a text that grew before
+pub OnOk_append : {E : Type 0} (r : Result (Unit {0}) E) (new ys old xs mid : List ℕ) → mid ≡ old ++ xs → OnOk r (new ≡ mid ++ ys) → OnOk r (new ≡ old ++ (xs ++ ys))
+OnOk_append (Ok u) new ys old xs mid m h = h ∙ ap (λ t. t ++ ys) m ∙ append_assoc old xs ys
+OnOk_append (Err e) new ys old xs mid m h = tt
+
+-- a plain character is no line feed
+pub plain_column : (l k c n : ℕ) → l < 18446744073709551616 → is_plain c ≡ true → n ≡ capped (k + 1) → position_at l n ≡ advance (position_at l k) (c ∷ [])
+unfolding advance
+plain_column l k c n h p e = grind (arith, nat_tests)
+
+module _ {S : Type 0} (steps : S → Option ℕ → S → Type 0) where
+  pub Goes_nil : (p : Cursor S) → p.line < 18446744073709551616 → p.column < 18446744073709551616 → Goes steps p [] p
+  Goes_nil p l k = record { gives = λ zs g. (zs, refl, g); moves = sym (advance_nil p.line p.column l k) }
+
+  pub Goes_append : (p q r : Cursor S) (xs ys : List ℕ) → Goes steps p xs q → Goes steps q ys r → Goes steps p (xs ++ ys) r
+  Goes_append p q r xs ys a b = record {
+    gives = λ zs g.
+        let x = a.gives zs g in
+        let y = b.gives x.0 x.2 in
+        (y.0, x.1 ∙ ap (λ t. xs ++ t) y.1 ∙ sym (append_assoc xs ys y.0), y.2);
+    moves = b.moves ∙ ap (λ t. advance t ys) a.moves ∙ advance_append (place p) xs ys;
+  }
+
+  -- the iterator's next answer is looked at
+  pub Goes_filled : (p q : Cursor S) (xs : List ℕ) (r : Option ℕ) (t : S) (d : Bool) → Goes steps p xs q → q.peeked ≡ None → q.done ≡ false → steps q.it r t → d ≡ not (is_some r)
+      → Goes steps p xs (record { it = t; peeked = r; done = d; line = q.line; column = q.column })
+  Goes_filled p q xs r t d a n f s e = record { gives = λ zs g. let x = a.gives zs g in (x.0, x.1, filled steps q r t d x.0 n f s e x.2); moves = a.moves }
+
+  -- the iterator's next character is taken at once
+  pub Goes_drawn : (p q : Cursor S) (xs : List ℕ) (c : ℕ) (t : S) (l k : ℕ) → Goes steps p xs q → q.peeked ≡ None → q.done ≡ false → steps q.it (Some c) t → position_at l k ≡ advance (place q) (c ∷ [])
+      → Goes steps p (xs ++ c ∷ []) (record { it = t; peeked = q.peeked; done = q.done; line = l; column = k })
+  Goes_drawn p q xs c t l k a n f s m =
+      let r : Cursor S = record { it = t; peeked = Some c; done = q.done; line = q.line; column = q.column } in
+      let after : Option ℕ → Cursor S = λ o. record { it = t; peeked = o; done = q.done; line = l; column = k } in
+      subst (λ o. Goes steps p (xs ++ c ∷ []) (after o)) (sym n)
+      (Goes_append p r (after None) xs (c ∷ []) (Goes_filled p q xs (Some c) t q.done a n f s f) (record { gives = λ zs g. taken steps r c l k zs refl g; moves = m }))
 
 -- ---- what a cursor gives is what a parser over it has left
 

@@ -1,11 +1,17 @@
 //! The place among the characters of an iterator.
-ghost use Rattle.std.specs.Prelude.{◌≡◌, ◌<◌, ◌∷◌, [], List, ℕ};
+ghost use Rattle.std.specs.Prelude.{◌≡◌, ◌<◌, ◌≤◌, ◌∷◌, [], List, ℕ, false, None, IfSome};
 ghost use Rattle.std.specs.Iterator.{IsFinite};
-ghost use Rattle.tinyjson.specs.private.Cursor.{Ready, Begins, Gives, Shows, left, place};
+ghost use Rattle.tinyjson.specs.private.Cursor.{Ready, Begins, Gives, Goes, HasPlace, Runs, Skips};
+ghost use Rattle.tinyjson.specs.private.Cursor.{Shows, left, place};
 ghost use Rattle.tinyjson.specs.private.Cursor.Laws.{nothing_left, shown_first, shown_once};
+ghost use Rattle.tinyjson.specs.Characters.{is_white};
+ghost use Rattle.tinyjson.specs.private.Scan.{is_plain};
+ghost use Rattle.tinyjson.specs.View.{text};
 ghost use Rattle.tinyjson.specs.Position.{advance, position_at, origin};
 
-use super::source::Source;
+use super::source::{Source, is_plain, is_white};
+use super::utf16::push;
+use std::alloc::AllocError;
 
 /// The characters that are left, one of which may have been looked at, and the position.
 #[derive(Drop)]
@@ -41,6 +47,72 @@ pub(super) fn moved(line: usize, column: usize, c: char) -> (usize, usize)
     }
 }
 
+impl<I: Iterator<Item = char>> Cursor<I> {
+    /// Takes plain characters straight from the iterator, and looks at the character behind them.
+    fn draw_plain(&mut self, string: &mut String) -> Result<(), AllocError>
+        requires ready { Ready I.can_next I.remaining self.old }
+        requires place { HasPlace self.old }
+        requires none { self.old.peeked ≡ None }
+        requires more { self.old.done ≡ false }
+        ensures ready { Ready I.can_next I.remaining self.new }
+        ensures place { HasPlace self.new }
+        ensures run { Runs I.next_gives is_plain self.old (text string.old) result
+            (text string.new) self.new }
+        ensures left { left I.remaining self.new ≤ left I.remaining self.old }
+    {
+        let mut column = self.column;
+        loop {
+            let next = self.it.next();
+            match next {
+                Some(c) if is_plain(c) => {
+                    if push(string, c).is_err() {
+                        self.peeked = next;
+                        self.column = column;
+                        return Err(AllocError);
+                    }
+                    column = column.saturating_add(1);
+                }
+                _ => {
+                    self.peeked = next;
+                    self.done = next.is_none();
+                    self.column = column;
+                    return Ok(());
+                }
+            }
+        }
+    }
+
+    /// Takes white space straight from the iterator, and shows what follows it.
+    fn draw_white(&mut self) -> Option<char>
+        requires ready { Ready I.can_next I.remaining self.old }
+        requires place { HasPlace self.old }
+        requires none { self.old.peeked ≡ None }
+        requires more { self.old.done ≡ false }
+        ensures ready { Ready I.can_next I.remaining self.new }
+        ensures place { HasPlace self.new }
+        ensures white { Skips I.next_gives is_white self.old self.new }
+        ensures shows { Shows self.new result }
+        ensures stops { IfSome result (λ c. is_white c ≡ false) }
+        ensures left { left I.remaining self.new ≤ left I.remaining self.old }
+    {
+        loop {
+            let next = self.it.next();
+            match next {
+                Some(c) if is_white(c) => {
+                    let (line, column) = moved(self.line, self.column, c);
+                    self.line = line;
+                    self.column = column;
+                }
+                _ => {
+                    self.peeked = next;
+                    self.done = next.is_none();
+                    return next;
+                }
+            }
+        }
+    }
+}
+
 impl<I: Iterator<Item = char>> Characters<I> {
     pub(super) fn new(it: I) -> Self
         requires can { I.can_next it }
@@ -64,6 +136,49 @@ impl<I: Iterator<Item = char>> Characters<I> {
     fn ready(&self)
         ensures { Ready I.can_next I.remaining self.now.cursor }
     {}
+
+    /// Takes the character that was looked at.
+    #[inline(always)]
+    fn pass(&mut self, c: char)
+        requires { self.old.cursor.peeked ≡ Some c }
+        ensures takes { Goes I.next_gives self.old.cursor (c ∷ []) self.new.cursor }
+        ensures none { self.new.cursor.peeked ≡ None }
+        ensures left { left I.remaining self.new.cursor < left I.remaining self.old.cursor }
+    {
+        let (line, column) = moved(self.cursor.line, self.cursor.column, c);
+        self.cursor.peeked = None;
+        self.cursor.line = line;
+        self.cursor.column = column;
+    }
+
+    /// Takes the plain characters that come next, none of which was looked at.
+    fn take_plain(&mut self, string: &mut String) -> Result<(), AllocError>
+        requires { self.old.cursor.peeked ≡ None }
+        ensures run { Runs I.next_gives is_plain self.old.cursor (text string.old) result
+            (text string.new) self.new.cursor }
+        ensures left { left I.remaining self.new.cursor ≤ left I.remaining self.old.cursor }
+    {
+        self.ready();
+        if self.cursor.done {
+            return Ok(());
+        }
+        self.cursor.draw_plain(string)
+    }
+
+    /// Passes over the white space that comes next, none of which was looked at, and shows what follows it.
+    fn take_white(&mut self) -> Option<char>
+        requires { self.old.cursor.peeked ≡ None }
+        ensures white { Skips I.next_gives is_white self.old.cursor self.new.cursor }
+        ensures shows { Shows self.new.cursor result }
+        ensures stops { IfSome result (λ c. is_white c ≡ false) }
+        ensures left { left I.remaining self.new.cursor ≤ left I.remaining self.old.cursor }
+    {
+        self.ready();
+        if self.cursor.done {
+            return None;
+        }
+        self.cursor.draw_white()
+    }
 }
 
 impl<I: Iterator<Item = char>> Source for Characters<I> {
@@ -94,12 +209,32 @@ impl<I: Iterator<Item = char>> Source for Characters<I> {
     fn bump(&mut self) -> Option<char> {
         let next = self.peek();
         if let Some(c) = next {
-            let (line, column) = moved(self.cursor.line, self.cursor.column, c);
-            self.cursor.peeked = None;
-            self.cursor.line = line;
-            self.cursor.column = column;
+            self.pass(c);
         }
         next
+    }
+
+    fn skip_white(&mut self) -> Option<char> {
+        let next = self.peek();
+        match next {
+            Some(c) if is_white(c) => {
+                self.pass(c);
+                self.take_white()
+            }
+            _ => next,
+        }
+    }
+
+    fn plain(&mut self, string: &mut String) -> Result<(), AllocError> {
+        let Some(c) = self.cursor.peeked else {
+            return self.take_plain(string);
+        };
+        if !is_plain(c) {
+            return Ok(());
+        }
+        push(string, c)?;
+        self.pass(c);
+        self.take_plain(string)
     }
 
     fn position(&self) -> (usize, usize) {
