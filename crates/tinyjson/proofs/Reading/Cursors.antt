@@ -1,5 +1,6 @@
 -- How a cursor over an iterator goes on.
 use Rattle.std.proofs.Common.{◌≡◌, ℕ, Bool, true, false, cond, not, is_some, List, [], ◌∷◌, ◌++◌, Option, Some, None, refl, sym, ap, ◌∙◌, ◌<◌, ◌+◌, arith, true≢false, append_assoc, subst, Result, Ok, Err, OnOk}
+use Rattle.std.specs.Char.{is_ascii_digit}
 use Rattle.std.specs.Option.{option_to_list}
 use Rattle.std.specs.Iterator.{Count, MakesProgress}
 use Rattle.std.proofs.lemmas.Bool.Decides.{nat_tests}
@@ -19,6 +20,10 @@ Ready_filled can remaining p (Some x) t d a f e m = λ h. let k = m.on (a f).1 i
 pub none_from : (o : Option ℕ) → is_some o ≡ false → o ≡ None
 none_from None h = refl
 none_from (Some x) h = absurd (true≢false h)
+
+pub none_shown : {S : Type 0} (p : Cursor S) (o : Option ℕ) → p.peeked ≡ None → p.done ≡ false → Shows p o → ⊥
+none_shown p None n f s = true≢false (sym s.ended ∙ f)
+none_shown p (Some x) n f s = true≢false (ap is_some (sym s.peeked ∙ n))
 
 module _ {S : Type 0} (steps : S → Option ℕ → S → Type 0) where
   -- what the iterator answers goes into the one place that is looked at
@@ -41,10 +46,14 @@ module _ {S : Type 0} (steps : S → Option ℕ → S → Type 0) where
 
   -- where nothing was looked at and the end did not come, nothing is known
   pub not_shown : (p : Cursor S) (o r : Option ℕ) → p.peeked ≡ None → p.done ≡ false → Shows p o → r ≡ o
-  not_shown p None r n f s = absurd (true≢false (sym s.ended ∙ f))
-  not_shown p (Some x) r n f s = absurd (true≢false (ap is_some (sym s.peeked ∙ n)))
+  not_shown p o r n f s = absurd (none_shown p o n f s)
 
 -- ---- what calls took
+
+-- nor is a digit
+pub digit_column : (l k c n : ℕ) → l < 18446744073709551616 → is_ascii_digit c ≡ true → n ≡ capped (k + 1) → position_at l n ≡ advance (position_at l k) (c ∷ [])
+unfolding advance
+digit_column l k c n h p e = grind (arith, nat_tests)
 
 -- what was added to a text that grew before
 pub OnOk_append : {E : Type 0} (r : Result (Unit {0}) E) (new ys old xs mid : List ℕ) → mid ≡ old ++ xs → OnOk r (new ≡ mid ++ ys) → OnOk r (new ≡ old ++ (xs ++ ys))

@@ -1,5 +1,5 @@
 -- What a cursor over an iterator still gives. For private contracts.
-use Rattle.std.specs.Prelude.{◌≡◌, ℕ, ◌+◌, ◌<◌, Bool, true, false, cond, List, [], ◌++◌, Option, IfNone, Result, OnOk}
+use Rattle.std.specs.Prelude.{◌≡◌, ℕ, ◌+◌, ◌<◌, Bool, true, false, cond, List, [], ◌++◌, Option, IfNone, IfSome, Result, OnOk}
 use Rattle.std.specs.List.{AllByRecursion}
 use Rattle.std.specs.Option.{option_len, option_to_list}
 use Rattle.std.specs.Iterator.{AlwaysYields, Count, IsFinite, size}
@@ -27,6 +27,10 @@ HasPlace p = (p.line < 18446744073709551616) × (p.column < 18446744073709551616
 pub record Shows {S : Type 0} (p : Cursor S) (c : Option ℕ) : Type 0 where
   pub peeked : p.peeked ≡ c
   pub ended : IfNone c (p.done ≡ true)
+
+-- the first character that is left does not pass a test, or there is none
+abbrev pub EndsRun : {S : Type 0} → (ℕ → Bool) → Cursor S → Type 0
+EndsRun test p = (o : Option ℕ) × Shows p o × IfSome o (λ c. test c ≡ false)
 
 module _ {S : Type 0} (steps : S → Option ℕ → S → Type 0) where
   -- whichever way the calls on an iterator go, they give this list, and then the end

@@ -1,8 +1,10 @@
 //! The place among the characters of an iterator.
-ghost use Rattle.std.specs.Prelude.{◌≡◌, ◌<◌, ◌≤◌, ◌∷◌, [], List, ℕ, false, None, IfSome};
+ghost use Rattle.std.specs.Prelude.{◌≡◌, ◌+◌, ◌<◌, ◌≤◌, ◌∷◌, [], List, ℕ, false, None, IfSome};
+ghost use Rattle.std.specs.Prelude.{OnOk, Option, length, string_bytes};
+ghost use Rattle.std.specs.Char.{is_ascii_digit};
 ghost use Rattle.std.specs.Iterator.{IsFinite};
 ghost use Rattle.tinyjson.specs.private.Cursor.{Ready, Begins, Gives, Goes, HasPlace, Runs, Skips};
-ghost use Rattle.tinyjson.specs.private.Cursor.{Shows, left, place};
+ghost use Rattle.tinyjson.specs.private.Cursor.{EndsRun, Shows, left, place};
 ghost use Rattle.tinyjson.specs.private.Cursor.Laws.{nothing_left, shown_first, shown_once};
 ghost use Rattle.tinyjson.specs.Characters.{is_white};
 ghost use Rattle.tinyjson.specs.private.Scan.{is_plain};
@@ -66,6 +68,42 @@ impl<I: Iterator<Item = char>> Cursor<I> {
             match next {
                 Some(c) if is_plain(c) => {
                     if push(string, c).is_err() {
+                        self.peeked = next;
+                        self.column = column;
+                        return Err(AllocError);
+                    }
+                    column = column.saturating_add(1);
+                }
+                _ => {
+                    self.peeked = next;
+                    self.done = next.is_none();
+                    self.column = column;
+                    return Ok(());
+                }
+            }
+        }
+    }
+
+    /// Takes digits straight from the iterator, and looks at the character behind them.
+    fn draw_digits(&mut self, buffer: &mut String) -> Result<(), AllocError>
+        requires ready { Ready I.can_next I.remaining self.old }
+        requires place { HasPlace self.old }
+        requires none { self.old.peeked ≡ None }
+        requires more { self.old.done ≡ false }
+        ensures ready { Ready I.can_next I.remaining self.new }
+        ensures place { HasPlace self.new }
+        ensures run { Runs I.next_gives is_ascii_digit self.old (string_bytes buffer.old) result
+            (string_bytes buffer.new) self.new }
+        ensures stops { OnOk result (EndsRun is_ascii_digit self.new) }
+        ensures left { OnOk result (left I.remaining self.new + length (string_bytes buffer.new)
+            ≤ left I.remaining self.old + length (string_bytes buffer.old)) }
+    {
+        let mut column = self.column;
+        loop {
+            let next = self.it.next();
+            match next {
+                Some(c) if c.is_ascii_digit() => {
+                    if buffer.push(c).is_err() {
                         self.peeked = next;
                         self.column = column;
                         return Err(AllocError);
@@ -165,6 +203,24 @@ impl<I: Iterator<Item = char>> Characters<I> {
         self.cursor.draw_plain(string)
     }
 
+    /// Takes the digits that come next, none of which was looked at.
+    fn take_digits(&mut self, buffer: &mut String) -> Result<(), AllocError>
+        requires { self.old.cursor.peeked ≡ None }
+        ensures run { Runs I.next_gives is_ascii_digit self.old.cursor (string_bytes buffer.old)
+            result (string_bytes buffer.new) self.new.cursor }
+        ensures stops { OnOk result (EndsRun is_ascii_digit self.new.cursor) }
+        ensures still { (o : Option ℕ) → Shows self.old.cursor o → Shows self.new.cursor o }
+        ensures left { OnOk result
+            (left I.remaining self.new.cursor + length (string_bytes buffer.new)
+            ≤ left I.remaining self.old.cursor + length (string_bytes buffer.old)) }
+    {
+        self.ready();
+        if self.cursor.done {
+            return Ok(());
+        }
+        self.cursor.draw_digits(buffer)
+    }
+
     /// Passes over the white space that comes next, none of which was looked at, and shows what follows it.
     fn take_white(&mut self) -> Option<char>
         requires { self.old.cursor.peeked ≡ None }
@@ -235,6 +291,18 @@ impl<I: Iterator<Item = char>> Source for Characters<I> {
         push(string, c)?;
         self.pass(c);
         self.take_plain(string)
+    }
+
+    fn digits(&mut self, buffer: &mut String) -> Result<(), AllocError> {
+        let Some(c) = self.cursor.peeked else {
+            return self.take_digits(buffer);
+        };
+        if !c.is_ascii_digit() {
+            return Ok(());
+        }
+        buffer.push(c)?;
+        self.pass(c);
+        self.take_digits(buffer)
     }
 
     fn position(&self) -> (usize, usize) {
