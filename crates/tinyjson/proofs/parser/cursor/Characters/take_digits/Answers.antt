@@ -1,4 +1,4 @@
-use Rattle.std.proofs.Common.{rules, [], sym, append-nil, string_bytes}
+use Rattle.std.proofs.Common.{[], sym, append-nil, string_bytes}
 use Rattle.tinyjson.proofs.Reading.Cursors.{Goes_nil, none_shown}
 use Rattle.tinyjson.proofs.parser.cursor.Characters.take_digits.Goals as goal
 

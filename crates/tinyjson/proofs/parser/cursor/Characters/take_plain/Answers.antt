@@ -1,4 +1,4 @@
-use Rattle.std.proofs.Common.{rules, [], sym, append-nil}
+use Rattle.std.proofs.Common.{[], sym, append-nil}
 use Rattle.tinyjson.specs.View.{text}
 use Rattle.tinyjson.proofs.Reading.Cursors.{Goes_nil}
 use Rattle.tinyjson.proofs.parser.cursor.Characters.take_plain.Goals as goal

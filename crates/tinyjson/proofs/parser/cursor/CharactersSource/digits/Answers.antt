@@ -1,4 +1,4 @@
-use Rattle.std.proofs.Common.{rules, arith, ◌≡◌, ◌∙◌, ◌∷◌, ◌++◌, [], true, refl, sym, ap, append-nil, append_assoc, string_bytes}
+use Rattle.std.proofs.Common.{rules, ◌≡◌, ◌∷◌, ◌++◌, [], true, sym, append-nil, string_bytes}
 use Rattle.std.specs.Char.{is_ascii_digit}
 use Rattle.std.proofs.lemmas.Str.{encode_ascii}
 use Rattle.tinyjson.proofs.Reading.Slices.{digit_small}

@@ -1,4 +1,4 @@
-use Rattle.std.proofs.Common.{rules, arith, ◌≡◌, ◌∙◌, ◌∷◌, ◌++◌, [], true, refl, sym, ap, append-nil, append_assoc}
+use Rattle.std.proofs.Common.{rules, ◌≡◌, ◌∷◌, ◌++◌, [], true, sym, append-nil}
 use Rattle.tinyjson.specs.private.Scan.{is_plain}
 use Rattle.tinyjson.specs.View.{text}
 use Rattle.tinyjson.proofs.Reading.Cursors.{Goes_nil, Goes_append, OnOk_append}

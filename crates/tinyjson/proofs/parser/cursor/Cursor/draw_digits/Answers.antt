@@ -1,4 +1,4 @@
-use Rattle.std.proofs.Common.{rules, arith, ◌≡◌, ◌∙◌, ◌∷◌, ◌++◌, [], true, refl, sym, ap, append-nil, append_assoc, not, is_some, length, length-append, string_bytes, ◌<◌}
+use Rattle.std.proofs.Common.{rules, arith, ◌≡◌, ◌∙◌, ◌∷◌, ◌++◌, [], true, sym, ap, append-nil, append_assoc, not, is_some, length, length-append, string_bytes, ◌<◌}
 use Rattle.tinyjson.specs.Position.{advance, position_at}
 use Rattle.std.specs.Char.{is_ascii_digit}
 use Rattle.std.proofs.lemmas.Str.{encode_ascii}

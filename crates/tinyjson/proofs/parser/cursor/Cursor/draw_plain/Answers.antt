@@ -1,4 +1,4 @@
-use Rattle.std.proofs.Common.{rules, arith, ◌≡◌, ◌∙◌, ◌∷◌, ◌++◌, [], true, refl, sym, ap, append-nil, append_assoc, subst}
+use Rattle.std.proofs.Common.{rules, ◌≡◌, ◌∙◌, ◌∷◌, ◌++◌, [], true, sym, ap, append-nil, append_assoc, subst}
 use Rattle.tinyjson.specs.Position.{advance, position_at}
 use Rattle.tinyjson.specs.private.Scan.{is_plain}
 use Rattle.tinyjson.specs.View.{text}

@@ -1,4 +1,4 @@
-use Rattle.std.proofs.Common.{rules, arith, ◌≡◌, ◌∙◌, ◌∷◌, ◌++◌, [], true, refl, sym, ap, append-nil, append_assoc, subst}
+use Rattle.std.proofs.Common.{rules, ◌≡◌, ◌∙◌, ◌∷◌, ◌++◌, [], true, sym, subst}
 use Rattle.tinyjson.specs.Characters.{is_white}
 use Rattle.tinyjson.proofs.Reading.Cursors.{Goes_nil, Goes_filled, Goes_drawn, Ready_filled}
 use Rattle.tinyjson.proofs.Reading.Sources.{AllByRecursion_push}
