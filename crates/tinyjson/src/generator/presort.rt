@@ -5,12 +5,12 @@ ghost use Rattle.std.specs.List.Sorted.{IsPermutation};
 use crate::value::JsonValue;
 use std::alloc::{AllocError, Global};
 
-// So few members are sorted as fast as they are presorted.
+/// So few members are sorted as fast as they are presorted.
 const FEW: usize = 32;
 
-// Orders many members by the first bytes of their keys behind those that all share, the last key's
-// member first. Where memory is wanting, or there are few, or the first of them rise or fall already,
-// they stay as they are.
+/// Orders many members by the first bytes of their keys behind those that all share, the last key's
+/// member first. Where memory is wanting, or there are few, or the first of them rise or fall already,
+/// they stay as they are.
 #[inline(always)]
 pub(super) fn presort(alloc: Global, members: &mut [(&str, &JsonValue)])
     ensures { IsPermutation members.old members.new }
@@ -20,7 +20,7 @@ pub(super) fn presort(alloc: Global, members: &mut [(&str, &JsonValue)])
     }
 }
 
-// Whether the keys rise, or fall.
+/// Whether the keys rise, or fall.
 fn is_run(members: &[(&str, &JsonValue)]) -> bool {
     members.is_sorted_by(|a, b| a.0 <= b.0) || members.is_sorted_by(|a, b| a.0 >= b.0)
 }
@@ -37,12 +37,12 @@ fn presort_many(alloc: Global, members: &mut [(&str, &JsonValue)])
     place(&mut words, mask, members);
 }
 
-// The bits that hold each index below that count.
+/// The bits that hold each index below that count.
 fn index_mask(count: usize) -> u64 {
     u64::MAX.wrapping_shr((count as u64).leading_zeros())
 }
 
-// For each member a word that falls where the key rises, and in its low bits the member's index.
+/// For each member a word that falls where the key rises, and in its low bits the member's index.
 fn key_words(
     alloc: Global,
     members: &[(&str, &JsonValue)],
@@ -59,7 +59,7 @@ fn key_words(
     Ok(words)
 }
 
-// Moves each member to the place where the word with its index stands.
+/// Moves each member to the place where the word with its index stands.
 fn place(words: &mut [u64], mask: u64, members: &mut [(&str, &JsonValue)])
     requires { length words.old ≡ length members.old }
     ensures { IsPermutation members.old members.new }
@@ -69,7 +69,7 @@ fn place(words: &mut [u64], mask: u64, members: &mut [(&str, &JsonValue)])
     }
 }
 
-// Moves the members of one round trip, each to the place where the word with its index stands.
+/// Moves the members of one round trip, each to the place where the word with its index stands.
 fn move_round(words: &mut [u64], mask: u64, members: &mut [(&str, &JsonValue)], start: usize)
     requires same_len { length words.old ≡ length members.old }
     requires start { start < length members.old }
@@ -88,7 +88,7 @@ fn move_round(words: &mut [u64], mask: u64, members: &mut [(&str, &JsonValue)], 
     }
 }
 
-// How many bytes the keys have in common at their front.
+/// How many bytes the keys have in common at their front.
 fn shared_len(members: &[(&str, &JsonValue)]) -> usize {
     let Some((first, _value)) = members.first() else {
         return 0;
@@ -105,7 +105,7 @@ fn shared_len(members: &[(&str, &JsonValue)]) -> usize {
     first.len()
 }
 
-// The bits in which the keys' ranks from there on differ from the word.
+/// The bits in which the keys' ranks from there on differ from the word.
 fn differences(members: &[(&str, &JsonValue)], from: usize, word: u64) -> u64 {
     let mut bits = 0;
     for (key, _value) in members {
@@ -114,7 +114,7 @@ fn differences(members: &[(&str, &JsonValue)], from: usize, word: u64) -> u64 {
     bits
 }
 
-// The eight bytes from there on as a number, the first the greatest, with zeros behind the last.
+/// The eight bytes from there on as a number, the first the greatest, with zeros behind the last.
 #[inline(always)]
 fn rank(bytes: &[u8], from: usize) -> u64 {
     if bytes.len() < 8 {
