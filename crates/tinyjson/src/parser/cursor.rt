@@ -253,7 +253,7 @@ impl<I: Iterator<Item = char>> Source for Characters<I> {
 
     fn peek(&mut self) -> Option<char> {
         self.ready();
-        if self.cursor.done || self.cursor.peeked.is_some() {
+        if self.cursor.peeked.is_some() || self.cursor.done {
             return self.cursor.peeked;
         }
         let next = self.cursor.it.next();
@@ -262,6 +262,7 @@ impl<I: Iterator<Item = char>> Source for Characters<I> {
         next
     }
 
+    #[inline(always)]
     fn bump(&mut self) -> Option<char> {
         let next = self.peek();
         if let Some(c) = next {

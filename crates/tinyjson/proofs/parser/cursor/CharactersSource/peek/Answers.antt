@@ -3,8 +3,8 @@ use Rattle.tinyjson.proofs.Reading.Cursors.{filled, Ready_filled, none_from, not
 use Rattle.tinyjson.proofs.Reading.Positions.{advance_nil}
 use Rattle.tinyjson.proofs.parser.cursor.CharactersSource.peek.Goals as goal
 
-pub returns-then-self-clause-takes : goal.returns-then-self-clause-takes
-returns-then-self-clause-takes g c = let p = c.args.self.now in record { gives = λ zs h. (zs, refl, h); moves = sym (advance_nil p.cursor.line p.cursor.column p.line_fits p.column_fits) }
+pub returns-then-is_some-clause-takes : goal.returns-then-is_some-clause-takes
+returns-then-is_some-clause-takes g c = let p = c.args.self.now in record { gives = λ zs h. (zs, refl, h); moves = sym (advance_nil p.cursor.line p.cursor.column p.line_fits p.column_fits) }
 
 pub invariant_of-self-clause-ready : goal.invariant_of-self-clause-ready
 invariant_of-self-clause-ready g c =
