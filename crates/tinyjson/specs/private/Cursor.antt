@@ -56,6 +56,7 @@ module _ {S : Type 0} (steps : S → Option ℕ → S → Type 0) where
     pub goes : Goes p taken q
 
   -- Calls took such characters, and added them to a text; or there was no memory for all of them.
-  pub record Runs (test : ℕ → Bool) {E : Type 0} (p : Cursor S) (old : List ℕ) (r : Result (Unit {0}) E) (new : List ℕ) (q : Cursor S) : Type 0 where
+  pub record Runs (test : ℕ → Bool) {E : Type 0} (p : Cursor S) (old : List ℕ) (r : Result (Unit {0}) E)
+      (new : List ℕ) (q : Cursor S) : Type 0 where
     pub skips : Skips test p q
     pub added : OnOk r (new ≡ old ++ skips.taken)
