@@ -4,7 +4,7 @@ pub use Rattle.tinyjson.proofs.Reading.Parse.{all_are_scalars, parses_text}
 pub use Rattle.tinyjson.proofs.Values.Entries.{same_text, text_eq}
 pub use Rattle.tinyjson.proofs.Values.Equality.{view_Array, view_Object}
 pub use Rattle.tinyjson.proofs.Values.Index.{items_view_set, tree_with_item, tree_with_member}
-pub use Rattle.tinyjson.proofs.Values.Members.{find_put, find_remove, sorted_put, sorted_remove, members_from_find}
+pub use Rattle.tinyjson_grammar.proofs.Callers.{find_put, find_remove, sorted_put, sorted_remove, members_from_find}
 pub use Rattle.tinyjson.proofs.Writing.Scalars.{encoded_chars, encoded_utf8, text_of_scalars}
 pub use Rattle.tinyjson.proofs.Values.Trees.{view_IsTree, text_scalars}
 pub use Rattle.tinyjson.proofs.Values.Views.{Entry, find_members_view, members_view_last, view_ref}
@@ -25,19 +25,19 @@ use Rattle.std.specs.String.{string_eq, string_eq_equiv}
 use Rattle.tinyjson.proofs.Values.Entries.{find_members_of}
 use Rattle.tinyjson.proofs.Values.Views.{view_lookup, members_view_updates, members_view_removes, members_view_writes}
 use Rattle.tinyjson.specs.Access.{JsonMap, number_in, boolean_in, string_in, null_in, array_in, object_in, number_part, boolean_part, string_part, null_part, array_part, object_part}
-use Rattle.tinyjson.proofs.Writing.WrittenTexts.{compact_text, one_compact}
+use Rattle.tinyjson_grammar.proofs.Callers.{compact_text, one_compact}
 use Rattle.tinyjson.specs.Equality.{same_tree, tree_eq_decides}
 use Rattle.tinyjson.specs.Error.{error_kind}
-use Rattle.tinyjson.specs.Grammar.{IsText, IsAccepted}
+use Rattle.tinyjson_grammar.specs.Grammar.{IsText, IsAccepted}
 use Rattle.tinyjson.specs.Index.{item_at, member_at, nth, tree_at, tree_at_key, with_nth, with_last, with_tree_at, with_tree_at_key}
 use Rattle.tinyjson.specs.Parser.{ParsesText}
-use Rattle.tinyjson.specs.Soundness.{IsTree, IsSorted}
-use Rattle.tinyjson.specs.Text.{compact}
-use Rattle.tinyjson.specs.Tree.{Tree, null, boolean, number, string, array, object, Items, no_items, item, Members, put, find, remove}
+use Rattle.tinyjson_grammar.specs.Soundness.{IsTree, IsSorted}
+use Rattle.tinyjson_grammar.specs.Text.{compact}
+use Rattle.tinyjson_grammar.specs.Tree.{Tree, null, boolean, number, string, array, object, Items, no_items, item, Members, put, find, remove}
 use Rattle.tinyjson.specs.View.{text, view, view_step, items_view, members_view, seen_entries}
 use Rattle.tinyjson.specs.Written.{Written}
 use Rattle.tinyjson.specs.declared.parser.error.JsonParseError.{JsonParseError}
-use Rattle.tinyjson.specs.declared.parser.error.JsonParseErrorKind.TheVariants as refusal
+use Rattle.tinyjson_grammar.specs.declared.error.JsonParseErrorKind.TheVariants as refusal
 use Rattle.tinyjson.specs.declared.value.JsonValue.{JsonValue, JsonValue-F, out-JsonValue, map-JsonValue, fold_out-JsonValue, the_lemmas}
 use Rattle.tinyjson.specs.declared.value.JsonValue.TheVariants as made
 use Rattle.tinyjson_number.specs.Decimal.{Decimal}

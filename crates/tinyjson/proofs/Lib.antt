@@ -1,4 +1,3 @@
-pub mod Grammar
 pub mod Callers
 pub mod Scans
 pub mod Writing

@@ -7,7 +7,6 @@ pub mod Numerals
 pub mod Containers
 pub mod Positions
 pub mod Parse
-pub mod Messages
 pub mod Steps
 pub mod Stack
 pub mod Cursors

@@ -1,9 +1,7 @@
 -- Values, their parts and their trees.
-pub mod JoinedMembers
 pub mod WholeNumbers
 pub mod Comparing
 pub mod Equality
-pub mod Members
 pub mod Entries
 pub mod Copies
 pub mod Views

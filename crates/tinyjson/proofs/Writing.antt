@@ -1,9 +1,6 @@
 -- The generator's functions, and the bytes that they write.
 pub mod Written
-pub mod WrittenTexts
 pub mod Number
-pub mod QuotedTrip
-pub mod TreeTrip
 pub mod Sending
 pub mod Bytes
 pub mod Copies

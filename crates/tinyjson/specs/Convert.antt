@@ -1,8 +1,8 @@
 -- Conversions of values, and what a refused one holds.
 use Rattle.std.specs.Prelude.{◌≡◌, ℕ, List, ◌++◌, Option, Some, None, Result, MatchResult, codes}
-use Rattle.tinyjson.specs.Kind.{kind_of, kind_name}
+use Rattle.tinyjson_grammar.specs.Kind.{kind_of, kind_name}
 use Rattle.tinyjson.specs.View.{view}
-use Rattle.tinyjson.specs.declared.value.JsonKind.{JsonKind}
+use Rattle.tinyjson_grammar.specs.declared.kind.JsonKind.{JsonKind}
 use Rattle.tinyjson.specs.declared.value.JsonValue.{JsonValue}
 use Rattle.tinyjson.specs.declared.value.convert.UnexpectedValue.{UnexpectedValue}
 

@@ -1,49 +1,17 @@
 -- What a contract sees of an error of the parser, and its words.
-use Rattle.std.specs.Prelude.{ℕ, ◌-◌, true, List, [], ◌∷◌, ◌++◌, length, replicate, cond, codes}
-use Rattle.std.specs.Fmt.{decimal, digits}
-use Rattle.std.specs.Int.{is_in_range}
-use Rattle.tinyjson.specs.Kind.{kind_name}
+use Rattle.std.specs.Prelude.{ℕ, List, ◌++◌, codes}
+use Rattle.std.specs.Fmt.{decimal}
 use Rattle.tinyjson.specs.Position.{Position, position_at}
 use Rattle.tinyjson.specs.declared.parser.error.JsonParseError.{JsonParseError}
-use Rattle.tinyjson.specs.declared.parser.error.JsonParseErrorKind.{JsonParseErrorKind}
-use Rattle.tinyjson.specs.declared.parser.error.JsonParseErrorKind.TheVariants as kind
+pub use Rattle.tinyjson_grammar.specs.Words.{code_point, shown, kind_words}
+pub use Rattle.tinyjson_grammar.specs.declared.error.JsonParseErrorKind
+pub use Rattle.tinyjson_grammar.specs.declared.error.JsonParseErrorKind.{JsonParseErrorKind}
 
 abbrev pub error_kind : JsonParseError → JsonParseErrorKind
 error_kind e = e.kind
 
 abbrev pub error_position : JsonParseError → Position
 error_position e = position_at e.line e.column
-
--- a code point in upper hexadecimal digits, at least four
-abbrev pub code_point : ℕ → List ℕ
-code_point c = codes "U+" ++ (replicate (4 - length (digits 16 true c)) 48 ++ digits 16 true c)
-
--- a character as messages show it: itself if it is printable ASCII, and otherwise its code point
-abbrev pub shown : ℕ → List ℕ
-shown c = cond (is_in_range 32 126 c) (c ∷ []) (code_point c)
-
--- the words of a kind
-abbrev pub kind_words : JsonParseErrorKind → List ℕ
-kind_words kind.UnexpectedEof = codes "Unexpected EOF"
-kind_words (kind.InvalidCharacter c) = codes "Invalid character: " ++ shown c
-kind_words (kind.ExpectedEof c) = codes "Expected EOF but got character '" ++ (shown c ++ codes "'")
-kind_words (kind.KeyNotString k) = codes "Key of object must be string but found " ++ kind_name k
-kind_words (kind.ExpectedColon c) = codes "':' is expected after key of object but actually found '" ++ (shown c ++ codes "'")
-kind_words (kind.ExpectedCommaOrBrace c) = codes "',' or '}' is expected for object but actually found '" ++ (shown c ++ codes "'")
-kind_words (kind.ExpectedCommaOrBracket c) = codes "',' or ']' is expected for array but actually found '" ++ (shown c ++ codes "'")
-kind_words kind.InvalidUtf16 = codes "Invalid UTF-16 sequence"
-kind_words (kind.InvalidHexDigit c) =
-    codes "Unicode character must be \\uXXXX (X is hex character) format but found character '" ++ (shown c ++ codes "'")
-kind_words (kind.InvalidEscape c) = codes "'\\" ++ (shown c ++ codes "' is invalid escaped character")
-kind_words (kind.ControlCharacter c) = codes "String cannot contain control character " ++ shown c
-kind_words (kind.UnexpectedInLiteral c) = codes "Unexpected character '" ++ (shown c ++ codes "' while parsing a literal")
-kind_words kind.EmptyInteger = codes "Integer part must not be empty in number literal"
-kind_words kind.LeadingZero = codes "Integer part of number must not start with 0 except for '0'"
-kind_words kind.EmptyFraction = codes "Fraction part of number must not be empty"
-kind_words kind.EmptyExponent = codes "Exponent part must not be empty in number literal"
-kind_words kind.NumberOutOfRange = codes "Invalid number literal: power of ten out of range"
-kind_words kind.OutOfMemory = codes "Out of memory"
-kind_words (kind.TooDeep c) = codes "Nesting is too deep at '" ++ (shown c ++ codes "'")
 
 -- the words of an error: where it is, and those of its kind
 abbrev pub error_words : JsonParseError → List ℕ

@@ -1,24 +1,25 @@
 -- what public contracts say
-pub mod Tree
-pub mod Kind
 pub mod View
 pub mod Equality
 pub mod Access
 pub mod Convert
 pub mod Index
-pub mod Soundness
 pub mod Number
-pub mod Characters
-pub mod Syntax
-pub mod Grammar
-pub mod Prefix
 pub mod Position
 pub mod Error
-pub mod Refusal
 pub mod Parser
-pub mod Text
 pub mod Written
 pub mod Indent
 pub mod Generator
+-- what they say of texts and trees, by the names of the crate `tinyjson_grammar`, so that callers name one crate
+pub use Rattle.tinyjson_grammar.specs.Tree
+pub use Rattle.tinyjson_grammar.specs.Kind
+pub use Rattle.tinyjson_grammar.specs.Soundness
+pub use Rattle.tinyjson_grammar.specs.Characters
+pub use Rattle.tinyjson_grammar.specs.Syntax
+pub use Rattle.tinyjson_grammar.specs.Grammar
+pub use Rattle.tinyjson_grammar.specs.Prefix
+pub use Rattle.tinyjson_grammar.specs.Refusal
+pub use Rattle.tinyjson_grammar.specs.Text
 -- what private contracts alone say
 pub mod private

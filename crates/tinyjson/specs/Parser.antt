@@ -4,12 +4,12 @@ use Rattle.std.specs.Char.{IsScalar}
 use Rattle.std.specs.Iterator.{AlwaysYields}
 use Rattle.std.specs.Option.{option_to_list}
 use Rattle.tinyjson.specs.Error.{error_kind, error_position}
-use Rattle.tinyjson.specs.Grammar.{IsText, IsAccepted}
+use Rattle.tinyjson_grammar.specs.Grammar.{IsText, IsAccepted}
 use Rattle.tinyjson.specs.Position.{Position, origin, advance}
-use Rattle.tinyjson.specs.Refusal.{RefusalSays}
+use Rattle.tinyjson_grammar.specs.Refusal.{RefusalSays}
 use Rattle.tinyjson.specs.View.{view}
 use Rattle.tinyjson.specs.declared.parser.error.JsonParseError.{JsonParseError}
-use Rattle.tinyjson.specs.declared.parser.error.JsonParseErrorKind.TheVariants as kind
+use Rattle.tinyjson_grammar.specs.declared.error.JsonParseErrorKind.TheVariants as kind
 use Rattle.tinyjson.specs.declared.value.JsonValue.{JsonValue}
 
 -- Whichever way the calls on a source go, they give these characters, which are scalar values, and then the end.

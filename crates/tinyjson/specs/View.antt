@@ -2,7 +2,7 @@
 use Rattle.std.specs.Prelude.{ℕ, List, [], ◌∷◌, map, String, string_bytes}
 use Rattle.std.specs.Str.{chars}
 use Rattle.std.specs.declared.alloc.Global.{Global}
-use Rattle.tinyjson.specs.Tree.{Tree, null, boolean, number, string, array, object, Items, items_of, Members, no_members, put}
+use Rattle.tinyjson_grammar.specs.Tree.{Tree, null, boolean, number, string, array, object, Items, items_of, Members, no_members, put}
 use Rattle.tinyjson.specs.declared.value.JsonValue.{JsonValue, fold-JsonValue}
 use Rattle.tinyjson.specs.declared.value.JsonValue.TheOpen.{JsonValue-F}
 

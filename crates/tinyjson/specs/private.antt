@@ -1,6 +1,5 @@
 -- What only private contracts and proofs cite.
 pub mod Comparison
-pub mod Machine
 pub mod Steps
 pub mod Stack
 pub mod NumberSteps

@@ -2,7 +2,7 @@
 ghost use Rattle.std.specs.Prelude.{◌≡◌, Some, None, IfSome, IfOk, IsTrue, string_bytes, codes};
 ghost use Rattle.std.specs.Str.{all_scalars, chars};
 ghost use Rattle.tinyjson.specs.Indent.{indent_of};
-ghost use Rattle.tinyjson.specs.Text.{compact, indented, text};
+ghost use Rattle.tinyjson_grammar.specs.Text.{compact, indented, text};
 ghost use Rattle.tinyjson.specs.View.{view};
 ghost use Rattle.tinyjson.specs.Written.{WritesText};
 

@@ -2,12 +2,11 @@
 ghost use Rattle.std.specs.Prelude.{◌≡◌, is_some};
 ghost use Rattle.tinyjson.specs.Access.{number_part, boolean_part, string_part, null_part};
 ghost use Rattle.tinyjson.specs.Access.{array_part, object_part};
-ghost use Rattle.tinyjson.specs.Kind.{kind_of};
+ghost use Rattle.tinyjson_grammar.specs.Kind.{kind_of};
 ghost use Rattle.tinyjson.specs.View.{view};
 
 use crate::number::JsonNumber;
 use std::collections::HashMap;
-use std::fmt;
 
 mod access;
 mod convert;
@@ -21,6 +20,7 @@ mod replace;
 pub use access::{InnerAsRef, InnerAsRefMut};
 pub use convert::UnexpectedValue;
 pub use members::{insert_member, remove_member};
+pub use tinyjson_grammar::JsonKind;
 
 /// A JSON value (RFC 8259, section 3), in plain containers.
 ///
@@ -41,41 +41,6 @@ pub enum JsonValue {
     Null,
     Array(Vec<JsonValue>),
     Object(HashMap<String, JsonValue>),
-}
-
-/// Which of the six variants a value is.
-///
-/// ```
-/// assert!(rt; JsonValue::Boolean(true).kind() == JsonKind::Boolean);
-/// assert_eq!(rt; JsonKind::Boolean.to_string(alloc)?.as_str(), "boolean");
-/// ```
-#[derive(Clone, Copy, PartialEq, Eq, Debug)]
-pub enum JsonKind {
-    Null,
-    Boolean,
-    Number,
-    String,
-    Array,
-    Object,
-}
-
-/// The kind's name in lower case, as `number`.
-impl fmt::Display for JsonKind {
-    ghost use Rattle.std.specs.Prelude.{Some};
-    ghost use Rattle.tinyjson.specs.Kind.{kind_name};
-
-    ghost output = { λ k. Some (kind_name k) };
-
-    fn fmt<W: fmt::Write>(&self, f: &mut fmt::Formatter<W>) -> fmt::Result {
-        match self {
-            JsonKind::Null => f.write_str("null"),
-            JsonKind::Boolean => f.write_str("boolean"),
-            JsonKind::Number => f.write_str("number"),
-            JsonKind::String => f.write_str("string"),
-            JsonKind::Array => f.write_str("array"),
-            JsonKind::Object => f.write_str("object"),
-        }
-    }
 }
 
 impl JsonValue {

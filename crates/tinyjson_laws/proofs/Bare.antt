@@ -1,8 +1,8 @@
 -- The bare value is spelled, as deep, as strict, and has the same tree.
 use Rattle.std.proofs.Common.{◌≡◌, ◌+◌, max, ◌∷◌, [], refl, ap, ◌∙◌, IsTrue}
 use Rattle.std.specs.Int.{Width}
-use Rattle.tinyjson.specs.Tree as tree
-use Rattle.tinyjson.specs.Syntax.{Syntax, Elements, Pairs, null, boolean, number, string, empty_array, array, empty_object, object, last_element, element, last_pair, pair, is_key, tree_of, elements_trees, pairs_members, IsStrictAt, ElementsAreStrictAt, PairsAreStrictAt, IsSpelled, AreElements, ArePairs, depth, elements_depth, pairs_depth}
+use Rattle.tinyjson_grammar.specs.Tree as tree
+use Rattle.tinyjson_grammar.specs.Syntax.{Syntax, Elements, Pairs, null, boolean, number, string, empty_array, array, empty_object, object, last_element, element, last_pair, pair, is_key, tree_of, elements_trees, pairs_members, IsStrictAt, ElementsAreStrictAt, PairsAreStrictAt, IsSpelled, AreElements, ArePairs, depth, elements_depth, pairs_depth}
 use Rattle.tinyjson_laws.specs.WhiteSpace.{bare_value, bare_elements, bare_pairs}
 
 mutual

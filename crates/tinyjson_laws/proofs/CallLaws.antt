@@ -7,15 +7,15 @@ use Rattle.std.proofs.lemmas.Slice.Eq.{bytes_eq-Decides}
 use Rattle.tinyjson.specs.Access.Laws.{number_of_put, boolean_of_put, string_of_put, array_of_put, object_of_put}
 use Rattle.tinyjson.specs.Access.{number_part, boolean_part, string_part, array_part, object_part}
 use Rattle.tinyjson.specs.Convert.{GivesPart}
-use Rattle.tinyjson.specs.Grammar.{IsText, IsAccepted}
-use Rattle.tinyjson.specs.Refusal.{RefusalSays}
-use Rattle.tinyjson.specs.Syntax.{AreWhite}
-use Rattle.tinyjson.specs.Text.{text}
+use Rattle.tinyjson_grammar.specs.Grammar.{IsText, IsAccepted}
+use Rattle.tinyjson_grammar.specs.Refusal.{RefusalSays}
+use Rattle.tinyjson_grammar.specs.Syntax.{AreWhite}
+use Rattle.tinyjson_grammar.specs.Text.{text}
 use Rattle.tinyjson.specs.View.{view}
-use Rattle.tinyjson.specs.declared.parser.error.JsonParseErrorKind.{JsonParseErrorKind}
-use Rattle.tinyjson.specs.declared.parser.error.JsonParseErrorKind.TheVariants as error
-use Rattle.tinyjson.specs.declared.value.JsonKind.{JsonKind}
-use Rattle.tinyjson.specs.declared.value.JsonKind.TheVariants as kind
+use Rattle.tinyjson_grammar.specs.declared.error.JsonParseErrorKind.{JsonParseErrorKind}
+use Rattle.tinyjson_grammar.specs.declared.error.JsonParseErrorKind.TheVariants as error
+use Rattle.tinyjson_grammar.specs.declared.kind.JsonKind.{JsonKind}
+use Rattle.tinyjson_grammar.specs.declared.kind.JsonKind.TheVariants as kind
 use Rattle.tinyjson.specs.declared.value.JsonValue as made
 use Rattle.tinyjson.specs.declared.value.JsonValue.{JsonValue}
 use Rattle.tinyjson.specs.declared.value.convert.UnexpectedValue.{UnexpectedValue}

@@ -2,15 +2,15 @@
 use Rattle.std.proofs.Common.{◌≡◌, ℕ, List, [], ◌++◌, Option, Result, Ok, Err, ap, sym, ◌∙◌, subst, append-nil, arith, length, length-append}
 use Rattle.std.proofs.Math.Seq.{take-append_seam}
 use Rattle.tinyjson.specs.Error.{error_position}
-use Rattle.tinyjson.specs.Grammar.{IsText}
+use Rattle.tinyjson_grammar.specs.Grammar.{IsText}
 use Rattle.tinyjson.specs.Parser.{ParsesText}
 use Rattle.tinyjson.specs.Position.{origin, advance}
-use Rattle.tinyjson.specs.Prefix.{IsLooselyViable}
-use Rattle.tinyjson.specs.Refusal.{RefusalSays}
+use Rattle.tinyjson_grammar.specs.Prefix.{IsLooselyViable}
+use Rattle.tinyjson_grammar.specs.Refusal.{RefusalSays}
 use Rattle.tinyjson.specs.View.{view}
 use Rattle.tinyjson.specs.declared.parser.error.JsonParseError.{JsonParseError}
-use Rattle.tinyjson.specs.declared.parser.error.JsonParseErrorKind.{JsonParseErrorKind}
-use Rattle.tinyjson.specs.declared.parser.error.JsonParseErrorKind.TheVariants as kind
+use Rattle.tinyjson_grammar.specs.declared.error.JsonParseErrorKind.{JsonParseErrorKind}
+use Rattle.tinyjson_grammar.specs.declared.error.JsonParseErrorKind.TheVariants as kind
 use Rattle.tinyjson.specs.declared.value.JsonValue.{JsonValue}
 use Rattle.tinyjson.proofs.Callers.{refused_text}
 use Rattle.tinyjson_laws.specs.Headline.{FollowsGrammar, StopsAt, IsTimely}

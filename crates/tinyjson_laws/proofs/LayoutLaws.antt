@@ -1,8 +1,8 @@
 -- The written texts are laid out as the two definitions say.
 use Rattle.std.proofs.Common.{◌≡◌, ℕ, ◌+◌, List, [], ◌∷◌, ◌++◌, Some, None, false, refl, sym, ap, ◌∙◌, append_assoc, append-nil}
-use Rattle.tinyjson.specs.Tree as tree
-use Rattle.tinyjson.specs.Tree.{Tree, Items, Members}
-use Rattle.tinyjson.specs.Text.{text, items_text, members_text, quoted}
+use Rattle.tinyjson_grammar.specs.Tree as tree
+use Rattle.tinyjson_grammar.specs.Tree.{Tree, Items, Members}
+use Rattle.tinyjson_grammar.specs.Text.{text, items_text, members_text, quoted}
 use Rattle.tinyjson_laws.specs.Layout.{with_commas, compact_text, compact_items, compact_members, line, indented_text, indented_items, indented_members, CompactLayout, IndentedLayout}
 
 -- each with a comma before it

@@ -4,9 +4,9 @@ use Rattle.std.specs.Str.{bytes_eq}
 use Rattle.std.specs.Option.{option_or}
 use Rattle.std.specs.Prelude.{◌↔◌}
 use Rattle.std.proofs.lemmas.Slice.Eq.{bytes_eq-Decides}
-use Rattle.tinyjson.specs.Tree as tree
-use Rattle.tinyjson.specs.Tree.{Tree, Members, key_of, find}
-use Rattle.tinyjson.specs.Syntax.{Pairs, last_pair, pair, tree_of, pairs_members}
+use Rattle.tinyjson_grammar.specs.Tree as tree
+use Rattle.tinyjson_grammar.specs.Tree.{Tree, Members, key_of, find}
+use Rattle.tinyjson_grammar.specs.Syntax.{Pairs, last_pair, pair, tree_of, pairs_members}
 use Rattle.tinyjson.proofs.Callers.{find_put}
 use Rattle.tinyjson_laws.specs.Members.{entries_of, HasNone, IsLast, LastPairStays}
 

@@ -5,15 +5,15 @@ use Rattle.std.proofs.Math.Seq.{take-append_seam}
 use Rattle.std.proofs.lemmas.Bool.{false≢true, cases_lt, or_right, eqb-true}
 use Rattle.std.proofs.lemmas.List.{take-append-le, take-append-drop}
 use Rattle.tinyjson_number.specs.Numeral.{AreDigits, minus_text}
-use Rattle.tinyjson.specs.Tree as tree
-use Rattle.tinyjson.specs.Characters.{is_white}
-use Rattle.tinyjson.specs.Syntax.{Syntax, null, boolean, number, string, empty_array, array, empty_object, object, text, AreWhite, IsSpelled, IsWithin}
-use Rattle.tinyjson.specs.Grammar.{IsLoose, IsAccepted}
-use Rattle.tinyjson.specs.Prefix.{IsViable, IsFaultless, IsCutOffText, IsLooselyViable}
-use Rattle.tinyjson.specs.Refusal.{begins_value, IsRefusal, RefusalSays}
-use Rattle.tinyjson.specs.declared.parser.error.JsonParseErrorKind.{JsonParseErrorKind}
-use Rattle.tinyjson.specs.declared.parser.error.JsonParseErrorKind.TheVariants as kind
-use Rattle.tinyjson.proofs.Grammar.Prefix.Faultless.{viable_before}
+use Rattle.tinyjson_grammar.specs.Tree as tree
+use Rattle.tinyjson_grammar.specs.Characters.{is_white}
+use Rattle.tinyjson_grammar.specs.Syntax.{Syntax, null, boolean, number, string, empty_array, array, empty_object, object, text, AreWhite, IsSpelled, IsWithin}
+use Rattle.tinyjson_grammar.specs.Grammar.{IsLoose, IsAccepted}
+use Rattle.tinyjson_grammar.specs.Prefix.{IsViable, IsFaultless, IsCutOffText, IsLooselyViable}
+use Rattle.tinyjson_grammar.specs.Refusal.{begins_value, IsRefusal, RefusalSays}
+use Rattle.tinyjson_grammar.specs.declared.error.JsonParseErrorKind.{JsonParseErrorKind}
+use Rattle.tinyjson_grammar.specs.declared.error.JsonParseErrorKind.TheVariants as kind
+use Rattle.tinyjson_grammar.proofs.Prefix.Faultless.{viable_before}
 use Rattle.tinyjson_laws.proofs.Faultless.{faultless_loosely}
 use Rattle.tinyjson_laws.specs.Prefixes.{AcceptedIsLoose, EmptyIsViable, ViableIsFaultless, FaultlessIsLooselyViable, UnviableStaysSo, ValuesBegin, UnviableAtFirst, IsShortest, ShortestInOrder, RefusedNotTooSoon, RefusedAtEnd, RefusedNotTooLate}
 

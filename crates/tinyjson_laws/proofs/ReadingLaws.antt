@@ -2,15 +2,15 @@
 use Rattle.std.proofs.Common.{◌≤◌, ℕ, List, Option, Some, None, sym, ap, subst, arith}
 use Rattle.std.specs.Int.{Width, w32}
 use Rattle.tinyjson_number.specs.Numeral.{power_width}
-use Rattle.tinyjson.specs.Tree.{Tree}
-use Rattle.tinyjson.specs.Syntax.{depth, IsWithin}
-use Rattle.tinyjson.specs.Grammar.{IsTextAt}
-use Rattle.tinyjson.specs.Text as written
-use Rattle.tinyjson.specs.Soundness.{IsTreeAt, tree_depth}
-use Rattle.tinyjson.proofs.Grammar.Accepts.Text.{only_tree}
+use Rattle.tinyjson_grammar.specs.Tree.{Tree}
+use Rattle.tinyjson_grammar.specs.Syntax.{depth, IsWithin}
+use Rattle.tinyjson_grammar.specs.Grammar.{IsTextAt}
+use Rattle.tinyjson_grammar.specs.Text as written
+use Rattle.tinyjson_grammar.specs.Soundness.{IsTreeAt, tree_depth}
+use Rattle.tinyjson_grammar.proofs.Accepts.Text.{only_tree}
 use Rattle.tinyjson_laws.specs.Reading.{OneTree, TextsAreSound, TreesHaveTexts, WiderLimit, WiderRange}
-use Rattle.tinyjson.proofs.Writing.TreeTrip.{IsWhiteIndent}
-use Rattle.tinyjson.proofs.Writing.WrittenTexts.{written_text}
+use Rattle.tinyjson_grammar.proofs.Texts.TreeTrip.{IsWhiteIndent}
+use Rattle.tinyjson_grammar.proofs.Texts.WrittenTexts.{written_text}
 use Rattle.tinyjson_laws.proofs.ReadTrees.{tree_is, depth_is}
 use Rattle.tinyjson_laws.proofs.Wider.{wider_text}
 

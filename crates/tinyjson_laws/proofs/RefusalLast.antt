@@ -3,28 +3,28 @@ use Rattle.std.proofs.Common.{◌≡◌, ℕ, Bool, true, false, List, [], ◌�
 use Rattle.std.proofs.lemmas.Bool.{ne_eqb}
 use Rattle.std.specs.Prelude.{All, ⊤}
 use Rattle.std.specs.Char.{IsScalar, is_ascii_digit}
-use Rattle.tinyjson.specs.Characters.{is_white, is_hex, short_escape, paired, decode}
-use Rattle.tinyjson.specs.Prefix.{IsFaultless, IsLooselyViable, IsCutOffText}
-use Rattle.tinyjson.specs.Grammar.{IsAccepted}
-use Rattle.tinyjson.specs.Kind.{kind_of}
-use Rattle.tinyjson.specs.private.Machine
-use Rattle.tinyjson.specs.private.Machine.{Rules, strictly, Frame, in_array, at_key, at_value, Phase, first, awaited, word, digits, quoted, colon, after, finished, Stage, Next, next, stop, Outcome, accepted, refused, rest_of, complete, finish, then_step, unless_ended, step_digits, step_escape, end_digits, end_plain, step, run, end}
-use Rattle.tinyjson.specs.Refusal.{AwaitsAt}
-use Rattle.tinyjson.specs.Syntax.{Syntax}
-use Rattle.tinyjson.specs.Tree as tree
-use Rattle.tinyjson.specs.Tree.{Tree}
+use Rattle.tinyjson_grammar.specs.Characters.{is_white, is_hex, short_escape, paired, decode}
+use Rattle.tinyjson_grammar.specs.Prefix.{IsFaultless, IsLooselyViable, IsCutOffText}
+use Rattle.tinyjson_grammar.specs.Grammar.{IsAccepted}
+use Rattle.tinyjson_grammar.specs.Kind.{kind_of}
+use Rattle.tinyjson_grammar.specs.Machine
+use Rattle.tinyjson_grammar.specs.Machine.{Rules, strictly, Frame, in_array, at_key, at_value, Phase, first, awaited, word, digits, quoted, colon, after, finished, Stage, Next, next, stop, Outcome, accepted, refused, rest_of, complete, finish, then_step, unless_ended, step_digits, step_escape, end_digits, end_plain, step, run, end}
+use Rattle.tinyjson_grammar.specs.Refusal.{AwaitsAt}
+use Rattle.tinyjson_grammar.specs.Syntax.{Syntax}
+use Rattle.tinyjson_grammar.specs.Tree as tree
+use Rattle.tinyjson_grammar.specs.Tree.{Tree}
 use Rattle.tinyjson_number.specs.Numeral.{Numeral, has_leading_zero, is_exponent_letter, value, in_range}
-use Rattle.tinyjson.specs.declared.value.JsonKind.{JsonKind}
-use Rattle.tinyjson.specs.declared.parser.error.JsonParseErrorKind.{JsonParseErrorKind}
-use Rattle.tinyjson.specs.declared.parser.error.JsonParseErrorKind.TheVariants.{UnexpectedEof, ExpectedEof, KeyNotString, ExpectedColon, ExpectedCommaOrBrace, ExpectedCommaOrBracket, InvalidUtf16, NumberOutOfRange}
+use Rattle.tinyjson_grammar.specs.declared.kind.JsonKind.{JsonKind}
+use Rattle.tinyjson_grammar.specs.declared.error.JsonParseErrorKind.{JsonParseErrorKind}
+use Rattle.tinyjson_grammar.specs.declared.error.JsonParseErrorKind.TheVariants.{UnexpectedEof, ExpectedEof, KeyNotString, ExpectedColon, ExpectedCommaOrBrace, ExpectedCommaOrBracket, InvalidUtf16, NumberOutOfRange}
 use Rattle.tinyjson.proofs.Reading.Parse.{all_front, all_rest}
-use Rattle.tinyjson.proofs.Grammar.Prefix.Unviable.{cut_off_end}
-use Rattle.tinyjson.proofs.Grammar.Trace.Paths.{Path, outside, item_in, key_in, value_in, path_frames}
-use Rattle.tinyjson.proofs.Grammar.Accepts.Runs.{continues, continues_digit, continues_point, continues_letter}
-use Rattle.tinyjson.proofs.Grammar.Trace.State.{Read, at_first, at_awaited, in_word, in_digits, in_quoted, at_after, Part, part_stage, part_numeral, read_frames, read_phase, IsRead, IsFresh, values}
-use Rattle.tinyjson.proofs.Grammar.Accepts.Text.{text_accepted}
-use Rattle.tinyjson.proofs.Grammar.Sound.{denies, is_dead}
-use Rattle.tinyjson.proofs.Grammar.Step.Statement.{Follows}
+use Rattle.tinyjson_grammar.proofs.Prefix.Unviable.{cut_off_end}
+use Rattle.tinyjson_grammar.proofs.Trace.Paths.{Path, outside, item_in, key_in, value_in, path_frames}
+use Rattle.tinyjson_grammar.proofs.Accepts.Runs.{continues, continues_digit, continues_point, continues_letter}
+use Rattle.tinyjson_grammar.proofs.Trace.State.{Read, at_first, at_awaited, in_word, in_digits, in_quoted, at_after, Part, part_stage, part_numeral, read_frames, read_phase, IsRead, IsFresh, values}
+use Rattle.tinyjson_grammar.proofs.Accepts.Text.{text_accepted}
+use Rattle.tinyjson_grammar.proofs.Sound.{denies, is_dead}
+use Rattle.tinyjson_grammar.proofs.Step.Statement.{Follows}
 use Rattle.tinyjson_laws.proofs.RefusalPlaces.{Stands, Goes, Halts, goes_or_halts, halts_run, stands_viable, stands_next, stands_stop, stands_follows, IsNoLetter, word_lacks, accepted_refused}
 
 -- ---- a character that may follow without a fault

@@ -4,34 +4,34 @@ use Rattle.std.proofs.lemmas.Bool.{cases_Bool, eqb-true, true≢false, false≢t
 use Rattle.std.proofs.lemmas.List.{append_cancel_right}
 use Rattle.std.specs.Prelude.{All}
 use Rattle.std.specs.Char.{IsScalar, is_ascii_digit}
-use Rattle.tinyjson.specs.Characters.{is_white, paired}
-use Rattle.tinyjson.specs.Prefix.{IsFaultless, IsLooselyViable, IsValue}
-use Rattle.tinyjson.specs.Grammar.{IsLoose, IsAccepted}
-use Rattle.tinyjson.specs.Kind.{kind_of}
-use Rattle.tinyjson.specs.private.Machine
-use Rattle.tinyjson.specs.private.Machine.{Rules, strictly, Frame, at_key, Phase, first, awaited, digits, quoted, colon, finished, Stage, Next, next, stop, Outcome, accepted, refused, complete, finish, then_step, unless_ended, step_digits, end_digits, end_plain, fits, push_frame, start, step, run, end}
-use Rattle.tinyjson.specs.Refusal.{IsRefusal, EndsBadKey, EndsExponent, BeginsAt, InString, NeedsMore, EndsBefore, BeginsWithNone, IsLiteral, begins_value, RefusalSays}
-use Rattle.tinyjson.specs.Syntax.{Syntax, null, boolean, number, string, empty_array, array, empty_object, object, text, is_key, tree_of, Piece, pieces_text, piece_codes, IsSpelled, IsWithin}
-use Rattle.tinyjson.specs.Tree as tree
-use Rattle.tinyjson.specs.Tree.{Tree, Members}
+use Rattle.tinyjson_grammar.specs.Characters.{is_white, paired}
+use Rattle.tinyjson_grammar.specs.Prefix.{IsFaultless, IsLooselyViable, IsValue}
+use Rattle.tinyjson_grammar.specs.Grammar.{IsLoose, IsAccepted}
+use Rattle.tinyjson_grammar.specs.Kind.{kind_of}
+use Rattle.tinyjson_grammar.specs.Machine
+use Rattle.tinyjson_grammar.specs.Machine.{Rules, strictly, Frame, at_key, Phase, first, awaited, digits, quoted, colon, finished, Stage, Next, next, stop, Outcome, accepted, refused, complete, finish, then_step, unless_ended, step_digits, end_digits, end_plain, fits, push_frame, start, step, run, end}
+use Rattle.tinyjson_grammar.specs.Refusal.{IsRefusal, EndsBadKey, EndsExponent, BeginsAt, InString, NeedsMore, EndsBefore, BeginsWithNone, IsLiteral, begins_value, RefusalSays}
+use Rattle.tinyjson_grammar.specs.Syntax.{Syntax, null, boolean, number, string, empty_array, array, empty_object, object, text, is_key, tree_of, Piece, pieces_text, piece_codes, IsSpelled, IsWithin}
+use Rattle.tinyjson_grammar.specs.Tree as tree
+use Rattle.tinyjson_grammar.specs.Tree.{Tree, Members}
 use Rattle.tinyjson.specs.View.{view}
 use Rattle.tinyjson.specs.Position.{advance, origin}
 use Rattle.tinyjson_number.specs.Numeral.{Numeral, IsNumeral, has_leading_zero, spelling, minus_text, fraction_text, value, in_range}
-use Rattle.tinyjson.specs.declared.value.JsonKind.{JsonKind}
-use Rattle.tinyjson.specs.declared.parser.error.JsonParseErrorKind.{JsonParseErrorKind}
-use Rattle.tinyjson.specs.declared.parser.error.JsonParseErrorKind.TheVariants as kind
+use Rattle.tinyjson_grammar.specs.declared.kind.JsonKind.{JsonKind}
+use Rattle.tinyjson_grammar.specs.declared.error.JsonParseErrorKind.{JsonParseErrorKind}
+use Rattle.tinyjson_grammar.specs.declared.error.JsonParseErrorKind.TheVariants as kind
 use Rattle.tinyjson.proofs.Reading.Parse.{all_front}
-use Rattle.tinyjson.proofs.Grammar.Prefix.Faultless.{faultless, placed}
-use Rattle.tinyjson.proofs.Grammar.Prefix.Unviable.{refused_key}
-use Rattle.tinyjson.proofs.Grammar.Accepts.Number.{run_spelling, last_stage, end_finishes}
-use Rattle.tinyjson.proofs.Grammar.Trace.Paths.{Path, outside, item_in, key_in, value_in, path_text, path_frames, level, IsPath}
-use Rattle.tinyjson.proofs.Grammar.Trace.State.{Part, part_minus, part_whole, part_point, part_fraction, part_letter, part_sign, part_exponent, part_stage, part_numeral, Read, at_first, at_awaited, in_word, in_digits, in_quoted, at_after, read_frames, read_phase, IsFresh}
-use Rattle.tinyjson.proofs.Grammar.Accepts.Runs.{settle}
-use Rattle.tinyjson.proofs.Grammar.Step.First.{fits_within, level_frames}
-use Rattle.tinyjson.proofs.Grammar.Accepts.Text.{rules, only_tree, loose_accepted}
-use Rattle.tinyjson.proofs.Grammar.Accepts.Value.{Begins, begins_append, numeral_begins, text_begins, run_value, ends, Ends}
-use Rattle.tinyjson.proofs.Grammar.Prefix.Viable.{faultless_place}
-use Rattle.tinyjson.proofs.Grammar.Step.Value.{no_text}
+use Rattle.tinyjson_grammar.proofs.Prefix.Faultless.{faultless, placed}
+use Rattle.tinyjson_grammar.proofs.Prefix.Unviable.{refused_key}
+use Rattle.tinyjson_grammar.proofs.Accepts.Number.{run_spelling, last_stage, end_finishes}
+use Rattle.tinyjson_grammar.proofs.Trace.Paths.{Path, outside, item_in, key_in, value_in, path_text, path_frames, level, IsPath}
+use Rattle.tinyjson_grammar.proofs.Trace.State.{Part, part_minus, part_whole, part_point, part_fraction, part_letter, part_sign, part_exponent, part_stage, part_numeral, Read, at_first, at_awaited, in_word, in_digits, in_quoted, at_after, read_frames, read_phase, IsFresh}
+use Rattle.tinyjson_grammar.proofs.Accepts.Runs.{settle}
+use Rattle.tinyjson_grammar.proofs.Step.First.{fits_within, level_frames}
+use Rattle.tinyjson_grammar.proofs.Accepts.Text.{rules, only_tree, loose_accepted}
+use Rattle.tinyjson_grammar.proofs.Accepts.Value.{Begins, begins_append, numeral_begins, text_begins, run_value, ends, Ends}
+use Rattle.tinyjson_grammar.proofs.Prefix.Viable.{faultless_place}
+use Rattle.tinyjson_grammar.proofs.Step.Value.{no_text}
 use Rattle.tinyjson_laws.proofs.RefusalPlaces.{Goes, EndsKey, faultless_stands, stands_stop, run_stop, wide_stop, wide_step, Ready, awaits_ready, ready_run, ready_free}
 use Rattle.tinyjson_laws.proofs.RefusalTokens.{has_some_digit, word_stops, word_ends, string_opens, control_stops, escape_stops, hex_stops, escape_ends, run_stops, unpaired_behind, minus_stops, zero_stops, fraction_stops, exponent_stops, signed_stops, number_ends_or}
 use Rattle.tinyjson_laws.proofs.RefusalLast.{Exact, run_end, colon_exact, brace_exact, bracket_exact, behind_exact, needs_exact, closer_colon, closer_bracket, closer_brace}

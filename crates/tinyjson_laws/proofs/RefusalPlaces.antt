@@ -3,29 +3,29 @@ use Rattle.std.proofs.Common.{suc, ◌≡◌, ℕ, Bool, true, false, List, [], 
 use Rattle.std.proofs.lemmas.Bool.{and_parts, not-true}
 use Rattle.std.specs.Prelude.{All}
 use Rattle.std.specs.Char.{IsScalar}
-use Rattle.tinyjson.specs.Characters.{is_white, short_escape}
-use Rattle.tinyjson.specs.Prefix.{IsFaultless, IsLooselyViable, IsCutOffText}
-use Rattle.tinyjson.specs.Grammar.{IsAccepted}
-use Rattle.tinyjson.specs.Kind.{kind_of}
-use Rattle.tinyjson.specs.private.Machine
-use Rattle.tinyjson.specs.private.Machine.{Rules, strictly, Frame, in_array, at_key, at_value, Phase, first, awaited, word, digits, quoted, colon, after, finished, Stage, Next, next, stop, accepted, refused, rest_of, fits, push_frame, start, step_first, step_plain, then_step, unless_ended, finish, step_digits, step, run}
-use Rattle.tinyjson.specs.Refusal.{AwaitsValue, IsLiteral}
-use Rattle.tinyjson.specs.Syntax.{Syntax, text, tree_of}
-use Rattle.tinyjson.specs.Tree.{Tree, Members}
+use Rattle.tinyjson_grammar.specs.Characters.{is_white, short_escape}
+use Rattle.tinyjson_grammar.specs.Prefix.{IsFaultless, IsLooselyViable, IsCutOffText}
+use Rattle.tinyjson_grammar.specs.Grammar.{IsAccepted}
+use Rattle.tinyjson_grammar.specs.Kind.{kind_of}
+use Rattle.tinyjson_grammar.specs.Machine
+use Rattle.tinyjson_grammar.specs.Machine.{Rules, strictly, Frame, in_array, at_key, at_value, Phase, first, awaited, word, digits, quoted, colon, after, finished, Stage, Next, next, stop, accepted, refused, rest_of, fits, push_frame, start, step_first, step_plain, then_step, unless_ended, finish, step_digits, step, run}
+use Rattle.tinyjson_grammar.specs.Refusal.{AwaitsValue, IsLiteral}
+use Rattle.tinyjson_grammar.specs.Syntax.{Syntax, text, tree_of}
+use Rattle.tinyjson_grammar.specs.Tree.{Tree, Members}
 use Rattle.tinyjson_number.specs.Numeral.{Numeral}
-use Rattle.tinyjson.specs.declared.value.JsonKind.{JsonKind}
-use Rattle.tinyjson.specs.declared.parser.error.JsonParseErrorKind.{JsonParseErrorKind}
-use Rattle.tinyjson.specs.declared.parser.error.JsonParseErrorKind.TheVariants.{KeyNotString, TooDeep}
-use Rattle.tinyjson.proofs.Grammar.Prefix.InRange.{ranges}
-use Rattle.tinyjson.proofs.Grammar.Prefix.Unviable.{cut_off_end}
-use Rattle.tinyjson.proofs.Grammar.Trace.Paths.{Path, outside, item_in, key_in, value_in, path_text, path_frames, IsPath}
-use Rattle.tinyjson.proofs.Grammar.Prefix.Loose.{strict_key}
-use Rattle.tinyjson.proofs.Grammar.Sound.{Reached, reached_next, step_spells, spells_viable, start_spells, run_next}
-use Rattle.tinyjson.proofs.Grammar.Trace.State.{Read, at_first, at_awaited, in_word, in_digits, in_quoted, at_after, Part, part_minus, part_whole, part_point, part_fraction, part_letter, part_sign, part_exponent, part_stage, part_numeral, read_text, read_frames, read_phase, IsRead, IsFresh, IsWord, Spells, numeral, exponent_with}
-use Rattle.tinyjson.proofs.Grammar.Accepts.Text.{rules, text_accepted, loose_accepted}
-use Rattle.tinyjson.proofs.Grammar.Step.Statement.{Follows, loosely}
-use Rattle.tinyjson.proofs.Grammar.Accepts.Value.{Begins, first_array, first_object}
-use Rattle.tinyjson.proofs.Grammar.Step.Value.{no_text}
+use Rattle.tinyjson_grammar.specs.declared.kind.JsonKind.{JsonKind}
+use Rattle.tinyjson_grammar.specs.declared.error.JsonParseErrorKind.{JsonParseErrorKind}
+use Rattle.tinyjson_grammar.specs.declared.error.JsonParseErrorKind.TheVariants.{KeyNotString, TooDeep}
+use Rattle.tinyjson_grammar.proofs.Prefix.InRange.{ranges}
+use Rattle.tinyjson_grammar.proofs.Prefix.Unviable.{cut_off_end}
+use Rattle.tinyjson_grammar.proofs.Trace.Paths.{Path, outside, item_in, key_in, value_in, path_text, path_frames, IsPath}
+use Rattle.tinyjson_grammar.proofs.Prefix.Loose.{strict_key}
+use Rattle.tinyjson_grammar.proofs.Sound.{Reached, reached_next, step_spells, spells_viable, start_spells, run_next}
+use Rattle.tinyjson_grammar.proofs.Trace.State.{Read, at_first, at_awaited, in_word, in_digits, in_quoted, at_after, Part, part_minus, part_whole, part_point, part_fraction, part_letter, part_sign, part_exponent, part_stage, part_numeral, read_text, read_frames, read_phase, IsRead, IsFresh, IsWord, Spells, numeral, exponent_with}
+use Rattle.tinyjson_grammar.proofs.Accepts.Text.{rules, text_accepted, loose_accepted}
+use Rattle.tinyjson_grammar.proofs.Step.Statement.{Follows, loosely}
+use Rattle.tinyjson_grammar.proofs.Accepts.Value.{Begins, first_array, first_object}
+use Rattle.tinyjson_grammar.proofs.Step.Value.{no_text}
 
 -- ---- with no limit the machine does the same, but where a container is one too many
 

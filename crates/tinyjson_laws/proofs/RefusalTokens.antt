@@ -3,20 +3,20 @@ use Rattle.std.proofs.Common.{zero, suc, ◌≡◌, ℕ, ◌<◌, ◌≤◌, Boo
 use Rattle.std.specs.Prelude.{slice_index, unwrap_or}
 use Rattle.std.specs.Char.{is_ascii_digit}
 use Rattle.std.proofs.lemmas.Bool.{and_parts, or_parts, not-true, cases_Bool, eqb-true, ne_eqb, lt-ltb}
-use Rattle.tinyjson.specs.Characters.{is_hex, short_escape, decode, paired, is_surrogate, is_high, is_low}
-use Rattle.tinyjson.specs.Prefix.{IsFaultless}
-use Rattle.tinyjson.specs.private.Machine
-use Rattle.tinyjson.specs.private.Machine.{Rules, strictly, Frame, awaited, word, digits, quoted, refused, step_escape, step_digits, go_on, step, run, end, with_exponent, with_sign, Stage}
-use Rattle.tinyjson.specs.Refusal.{IsLiteral, IsHex, AreUnits, EndsRun, BeginsEscape, BeginsWithNone}
-use Rattle.tinyjson.specs.Syntax.{Syntax, text, Piece, plain, escape, unit, IsPiece, ArePieces, pieces_text, piece_codes, unit_value}
+use Rattle.tinyjson_grammar.specs.Characters.{is_hex, short_escape, decode, paired, is_surrogate, is_high, is_low}
+use Rattle.tinyjson_grammar.specs.Prefix.{IsFaultless}
+use Rattle.tinyjson_grammar.specs.Machine
+use Rattle.tinyjson_grammar.specs.Machine.{Rules, strictly, Frame, awaited, word, digits, quoted, refused, step_escape, step_digits, go_on, step, run, end, with_exponent, with_sign, Stage}
+use Rattle.tinyjson_grammar.specs.Refusal.{IsLiteral, IsHex, AreUnits, EndsRun, BeginsEscape, BeginsWithNone}
+use Rattle.tinyjson_grammar.specs.Syntax.{Syntax, text, Piece, plain, escape, unit, IsPiece, ArePieces, pieces_text, piece_codes, unit_value}
 use Rattle.tinyjson_number.specs.Numeral.{Numeral, Exponent, IsNumeral, AreDigits, is_exponent_letter, is_sign, has_leading_zero, minus_text, fraction_text, spelling}
-use Rattle.tinyjson.specs.declared.parser.error.JsonParseErrorKind.TheVariants.{UnexpectedEof, InvalidUtf16, InvalidHexDigit, InvalidEscape, ControlCharacter, UnexpectedInLiteral, EmptyInteger, LeadingZero, EmptyFraction, EmptyExponent}
-use Rattle.tinyjson.proofs.Grammar.Prefix.InRange.{ranges}
-use Rattle.tinyjson.proofs.Grammar.Accepts.Number.{run_whole, run_spelling, last_stage, stage_of, letter_no_digit, letter_no_point, sign_no_digit}
-use Rattle.tinyjson.proofs.Grammar.Trace.Paths.{Path, path_text, path_frames, IsPath}
-use Rattle.tinyjson.proofs.Grammar.Trace.State.{numeral}
-use Rattle.tinyjson.proofs.Grammar.Accepts.String.{paired_cons, paired_append, scalar_no_surrogate, escape_no_surrogate, some_unwrap, plain_no_quote, plain_no_backslash, plain_no_control}
-use Rattle.tinyjson.proofs.Grammar.Prefix.Viable.{faultless_point, faultless_letter}
+use Rattle.tinyjson_grammar.specs.declared.error.JsonParseErrorKind.TheVariants.{UnexpectedEof, InvalidUtf16, InvalidHexDigit, InvalidEscape, ControlCharacter, UnexpectedInLiteral, EmptyInteger, LeadingZero, EmptyFraction, EmptyExponent}
+use Rattle.tinyjson_grammar.proofs.Prefix.InRange.{ranges}
+use Rattle.tinyjson_grammar.proofs.Accepts.Number.{run_whole, run_spelling, last_stage, stage_of, letter_no_digit, letter_no_point, sign_no_digit}
+use Rattle.tinyjson_grammar.proofs.Trace.Paths.{Path, path_text, path_frames, IsPath}
+use Rattle.tinyjson_grammar.proofs.Trace.State.{numeral}
+use Rattle.tinyjson_grammar.proofs.Accepts.String.{paired_cons, paired_append, scalar_no_surrogate, escape_no_surrogate, some_unwrap, plain_no_quote, plain_no_backslash, plain_no_control}
+use Rattle.tinyjson_grammar.proofs.Prefix.Viable.{faultless_point, faultless_letter}
 
 differs : (c n : ℕ) → (n ≡ c → ⊥) → (c == n) ≡ false
 differs c n h = ne_eqb c n (λ e. h (sym e))

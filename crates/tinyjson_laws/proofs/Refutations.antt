@@ -4,13 +4,13 @@ use Rattle.std.proofs.Common.{◌≡◌, ℕ, true, false, List, [], ◌∷◌, 
 use Rattle.std.specs.Prelude.{codes}
 use Rattle.std.specs.Str.{all_scalars}
 use Rattle.std.proofs.lemmas.Bool.{false≢true}
-use Rattle.tinyjson.specs.Characters.{is_white}
-use Rattle.tinyjson.specs.private.Machine.{strictly, awaited, refused, run, step, end}
-use Rattle.tinyjson.specs.Refusal.{IsRefusal, RefusalSays, MayGrow, begins_growth}
-use Rattle.tinyjson.specs.Syntax.{AreWhite}
-use Rattle.tinyjson.specs.declared.parser.error.JsonParseErrorKind.{JsonParseErrorKind}
-use Rattle.tinyjson.specs.declared.parser.error.JsonParseErrorKind.TheVariants as error
-use Rattle.tinyjson.specs.declared.value.JsonKind.TheVariants as kind
+use Rattle.tinyjson_grammar.specs.Characters.{is_white}
+use Rattle.tinyjson_grammar.specs.Machine.{strictly, awaited, refused, run, step, end}
+use Rattle.tinyjson_grammar.specs.Refusal.{IsRefusal, RefusalSays, MayGrow, begins_growth}
+use Rattle.tinyjson_grammar.specs.Syntax.{AreWhite}
+use Rattle.tinyjson_grammar.specs.declared.error.JsonParseErrorKind.{JsonParseErrorKind}
+use Rattle.tinyjson_grammar.specs.declared.error.JsonParseErrorKind.TheVariants as error
+use Rattle.tinyjson_grammar.specs.declared.kind.JsonKind.TheVariants as kind
 use Rattle.tinyjson.proofs.Callers.{all_are_scalars}
 use Rattle.tinyjson_number.specs.Numeral.{power_fits, value}
 use Rattle.tinyjson_laws.proofs.Examples.Reading.{refusal_of}

@@ -4,7 +4,7 @@ use Rattle.std.specs.Char.Utf16.{lone_unit_char, utf16_chars}
 use Rattle.std.specs.List.{list_any}
 use Rattle.std.specs.Prelude.{is_some}
 use Rattle.std.proofs.lemmas.Bool.{and_parts, not-true, true≢false}
-use Rattle.tinyjson.specs.Characters.{is_high, is_low, pair_of, is_surrogate, paired, decode}
+use Rattle.tinyjson_grammar.specs.Characters.{is_high, is_low, pair_of, is_surrogate, paired, decode}
 use Rattle.tinyjson_laws.specs.Strings.{PairsAsInStd}
 
 abbrev is_lone : Option ℕ → Bool

@@ -1,7 +1,7 @@
 -- Values, their trees and their texts.
 use Rattle.std.proofs.Common.{ap}
 use Rattle.tinyjson.specs.Equality.{tree_eq_decides}
-use Rattle.tinyjson.specs.Text.{compact}
+use Rattle.tinyjson_grammar.specs.Text.{compact}
 use Rattle.tinyjson.specs.View.{view}
 use Rattle.tinyjson.proofs.Callers.{view_IsTree}
 use Rattle.tinyjson_laws.specs.Values.{EqualTrees, EqualTexts}

@@ -24,16 +24,16 @@ use Rattle.tinyjson_number.specs.declared.number.JsonNumber.{JsonNumber}
 use Rattle.tinyjson.specs.Access.{JsonMap, number_part, boolean_part, string_part, array_part, object_part}
 use Rattle.tinyjson.specs.Convert.{GivesPart}
 use Rattle.tinyjson.specs.Error.{error_kind}
-use Rattle.tinyjson.specs.Grammar.{IsText}
+use Rattle.tinyjson_grammar.specs.Grammar.{IsText}
 use Rattle.tinyjson.specs.Parser.{ParsesText}
-use Rattle.tinyjson.specs.Syntax.{AreWhite}
-use Rattle.tinyjson.specs.Text.{text, compact}
-use Rattle.tinyjson.specs.Tree.{Tree}
+use Rattle.tinyjson_grammar.specs.Syntax.{AreWhite}
+use Rattle.tinyjson_grammar.specs.Text.{text, compact}
+use Rattle.tinyjson_grammar.specs.Tree.{Tree}
 use Rattle.tinyjson.specs.View.{view}
 use Rattle.tinyjson.specs.declared.generator.JsonGenerateError.{JsonGenerateError}
 use Rattle.tinyjson.specs.declared.parser.error.JsonParseError.{JsonParseError}
-use Rattle.tinyjson.specs.declared.parser.error.JsonParseErrorKind.TheVariants.{OutOfMemory}
-use Rattle.tinyjson.specs.declared.value.JsonKind.TheVariants as kind
+use Rattle.tinyjson_grammar.specs.declared.error.JsonParseErrorKind.TheVariants.{OutOfMemory}
+use Rattle.tinyjson_grammar.specs.declared.kind.JsonKind.TheVariants as kind
 use Rattle.tinyjson.specs.declared.value.JsonValue as made
 use Rattle.tinyjson.specs.declared.value.JsonValue.{JsonValue}
 use Rattle.tinyjson.specs.declared.value.convert.UnexpectedValue.{UnexpectedValue}

@@ -1,13 +1,13 @@
 -- What a new parser returns for a text, in two sentences.
 use Rattle.std.specs.Prelude.{◌≡◌, ◌↔◌, ℕ, ◌+◌, ◌≤◌, List, Option, Result, MatchResult, ⊤, length, take}
-use Rattle.tinyjson.specs.Prefix.{IsViable, IsLooselyViable}
+use Rattle.tinyjson_grammar.specs.Prefix.{IsViable, IsLooselyViable}
 use Rattle.tinyjson.specs.Error.{error_kind, error_position}
-use Rattle.tinyjson.specs.Grammar.{IsText, IsAccepted}
+use Rattle.tinyjson_grammar.specs.Grammar.{IsText, IsAccepted}
 use Rattle.tinyjson.specs.Position.{origin, advance}
-use Rattle.tinyjson.specs.Tree.{Tree}
+use Rattle.tinyjson_grammar.specs.Tree.{Tree}
 use Rattle.tinyjson.specs.View.{view}
 use Rattle.tinyjson.specs.declared.parser.error.JsonParseError.{JsonParseError}
-use Rattle.tinyjson.specs.declared.parser.error.JsonParseErrorKind.TheVariants.{OutOfMemory}
+use Rattle.tinyjson_grammar.specs.declared.error.JsonParseErrorKind.TheVariants.{OutOfMemory}
 use Rattle.tinyjson.specs.declared.value.JsonValue.{JsonValue}
 use Rattle.tinyjson_laws.specs.Prefixes.{IsShortest}
 

@@ -1,10 +1,10 @@
 -- Laws of objects: the last pair with a key counts, and members are determined by what is found in them.
 use Rattle.std.specs.Prelude.{◌≡◌, ◌≢◌, ◌↔◌, ℕ, List, [], ◌∷◌, ◌++◌, Some, None}
 use Rattle.std.specs.List.{AllByRecursion}
-use Rattle.tinyjson.specs.Tree as tree
-use Rattle.tinyjson.specs.Tree.{Tree, Members, key_of, find}
-use Rattle.tinyjson.specs.Soundness.{IsSorted}
-use Rattle.tinyjson.specs.Syntax.{Pairs, object, last_pair, pair, tree_of}
+use Rattle.tinyjson_grammar.specs.Tree as tree
+use Rattle.tinyjson_grammar.specs.Tree.{Tree, Members, key_of, find}
+use Rattle.tinyjson_grammar.specs.Soundness.{IsSorted}
+use Rattle.tinyjson_grammar.specs.Syntax.{Pairs, object, last_pair, pair, tree_of}
 
 -- the pairs of an object, each as its key and its tree
 abbrev pub entries_of : Pairs → List (List ℕ × Tree)

@@ -16,12 +16,12 @@ use Rattle.std.specs.Prelude.{
   length,
   take,
 }
-use Rattle.tinyjson.specs.Characters.{is_white}
-use Rattle.tinyjson.specs.Syntax.{Syntax, text, IsSpelled}
-use Rattle.tinyjson.specs.Grammar.{IsLoose, IsAccepted}
-use Rattle.tinyjson.specs.Prefix.{IsViable, IsLooselyViable, IsFaultless}
-use Rattle.tinyjson.specs.Refusal.{begins_value, IsRefusal, RefusalSays}
-use Rattle.tinyjson.specs.declared.parser.error.JsonParseErrorKind.{JsonParseErrorKind}
+use Rattle.tinyjson_grammar.specs.Characters.{is_white}
+use Rattle.tinyjson_grammar.specs.Syntax.{Syntax, text, IsSpelled}
+use Rattle.tinyjson_grammar.specs.Grammar.{IsLoose, IsAccepted}
+use Rattle.tinyjson_grammar.specs.Prefix.{IsViable, IsLooselyViable, IsFaultless}
+use Rattle.tinyjson_grammar.specs.Refusal.{begins_value, IsRefusal, RefusalSays}
+use Rattle.tinyjson_grammar.specs.declared.error.JsonParseErrorKind.{JsonParseErrorKind}
 
 -- an accepted list is one of the loose grammar
 abbrev pub AcceptedIsLoose : Type 0

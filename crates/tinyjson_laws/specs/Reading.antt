@@ -1,10 +1,10 @@
 -- Laws of reading: texts and the trees that they have.
 use Rattle.std.specs.Prelude.{◌≡◌, ◌≤◌, ◌↔◌, ℕ, List, Option, Some, None}
 use Rattle.std.specs.Int.{w32, w64}
-use Rattle.tinyjson.specs.Tree.{Tree}
-use Rattle.tinyjson.specs.Grammar.{IsText, IsTextAt}
-use Rattle.tinyjson.specs.Soundness.{IsTree}
-use Rattle.tinyjson.specs.Text.{compact}
+use Rattle.tinyjson_grammar.specs.Tree.{Tree}
+use Rattle.tinyjson_grammar.specs.Grammar.{IsText, IsTextAt}
+use Rattle.tinyjson_grammar.specs.Soundness.{IsTree}
+use Rattle.tinyjson_grammar.specs.Text.{compact}
 
 -- a list has at most one tree
 abbrev pub OneTree : Type 0

@@ -1,7 +1,7 @@
 -- Laws of strings: what a list of UTF-16 units stands for, as the library says it.
 use Rattle.std.specs.Prelude.{◌≡◌, ℕ, List, IsTrue, Some, map, not}
 use Rattle.std.specs.Char.Utf16.{utf16_chars, has_unpaired_surrogate}
-use Rattle.tinyjson.specs.Characters.{paired, decode}
+use Rattle.tinyjson_grammar.specs.Characters.{paired, decode}
 
 -- units are in pairs exactly if the library finds none alone, and they stand for the characters that it finds
 abbrev pub PairsAsInStd : Type 0

@@ -1,8 +1,8 @@
 -- Laws of values.
 use Rattle.std.specs.Prelude.{◌≡◌, ◌↔◌, IsTrue}
 use Rattle.tinyjson.specs.Equality.{same_tree}
-use Rattle.tinyjson.specs.Soundness.{IsTree}
-use Rattle.tinyjson.specs.Text.{compact}
+use Rattle.tinyjson_grammar.specs.Soundness.{IsTree}
+use Rattle.tinyjson_grammar.specs.Text.{compact}
 use Rattle.tinyjson.specs.View.{view}
 use Rattle.tinyjson.specs.declared.value.JsonValue.{JsonValue}
 

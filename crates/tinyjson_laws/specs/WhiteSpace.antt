@@ -1,8 +1,8 @@
 -- Laws of the white space between tokens.
 use Rattle.std.specs.Prelude.{◌≡◌, ℕ, cond, ◌==◌, List, [], ◌∷◌, ◌++◌, Option}
-use Rattle.tinyjson.specs.Characters.{is_white}
-use Rattle.tinyjson.specs.Tree.{Tree}
-use Rattle.tinyjson.specs.Syntax.{
+use Rattle.tinyjson_grammar.specs.Characters.{is_white}
+use Rattle.tinyjson_grammar.specs.Tree.{Tree}
+use Rattle.tinyjson_grammar.specs.Syntax.{
   Syntax,
   Elements,
   Pairs,
@@ -19,7 +19,7 @@ use Rattle.tinyjson.specs.Syntax.{
   last_pair,
   pair,
 }
-use Rattle.tinyjson.specs.Grammar.{IsLoose, IsText}
+use Rattle.tinyjson_grammar.specs.Grammar.{IsLoose, IsText}
 
 -- ---- on a list of characters
 

@@ -3,10 +3,10 @@
 //! What they ensure could be met without those calls. The laws that hold of the calls themselves stand in `calls`.
 ghost use Rattle.std.specs.Prelude.{◌≡◌, ◌↔◌, IsTrue, IfOk, MatchResult, encode_utf8_all};
 ghost use Rattle.std.specs.Str.{chars};
-ghost use Rattle.tinyjson.specs.Syntax.{AreWhite};
-ghost use Rattle.tinyjson.specs.Text.{indented};
+ghost use Rattle.tinyjson_grammar.specs.Syntax.{AreWhite};
+ghost use Rattle.tinyjson_grammar.specs.Text.{indented};
 ghost use Rattle.tinyjson.specs.View.{view};
-ghost use Rattle.tinyjson.specs.declared.parser.error.JsonParseErrorKind.TheVariants.{OutOfMemory};
+ghost use Rattle.tinyjson_grammar.specs.declared.error.JsonParseErrorKind.TheVariants.{OutOfMemory};
 ghost use Rattle.tinyjson_laws.specs.Calls.{IsValueOf};
 
 use std::alloc::Global;

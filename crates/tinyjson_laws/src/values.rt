@@ -1,6 +1,6 @@
 //! Laws of values.
 ghost use Rattle.std.specs.Prelude.{◌≡◌, ◌↔◌, IsTrue};
-ghost use Rattle.tinyjson.specs.Text.{compact};
+ghost use Rattle.tinyjson_grammar.specs.Text.{compact};
 ghost use Rattle.tinyjson.specs.View.{view};
 ghost use Rattle.tinyjson_laws.specs.Values.{ValuesAreSound, EqualTrees, EqualTexts};
 

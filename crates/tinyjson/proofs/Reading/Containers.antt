@@ -1,18 +1,18 @@
 -- Values and open containers, as the machine sees them.
 use Rattle.std.proofs.Common.{◌≡◌, ℕ, Bool, true, false, List, [], ◌∷◌, length, map, String, Global, Vec, Option, Some, None, IfSome, inl, inr, refl, sym, ap, ◌∙◌, rules}
 use Rattle.std.proofs.lemmas.Bool.{ne_eqb}
-use Rattle.tinyjson.specs.Kind.{kind_of}
-use Rattle.tinyjson.specs.Tree.{Tree, items_of, Members, no_members, null, boolean, number, array, object}
+use Rattle.tinyjson_grammar.specs.Kind.{kind_of}
+use Rattle.tinyjson_grammar.specs.Tree.{Tree, items_of, Members, no_members, null, boolean, number, array, object}
 use Rattle.tinyjson.specs.Access.{JsonMap}
 use Rattle.tinyjson.specs.View.{view}
 use Rattle.tinyjson_number.specs.Number.{Canonical}
 use Rattle.tinyjson.specs.declared.value.JsonValue.{JsonValue, out-JsonValue, roll-JsonValue, roll-out-JsonValue, the_lemmas}
 use Rattle.tinyjson.specs.declared.value.JsonValue.TheOpen.{JsonValue-F}
 use Rattle.tinyjson.specs.declared.value.JsonValue.TheVariants as is
-use Rattle.tinyjson.specs.Characters.{is_white}
-use Rattle.tinyjson.specs.private.Machine.{step, fits, quoted, plain, Frame, in_array, at_key, at_value, colon, first, awaited, after, Next, next, stop, complete}
-use Rattle.tinyjson.specs.Tree.{is_string}
-use Rattle.tinyjson.specs.declared.parser.error.JsonParseErrorKind.TheVariants.{TooDeep, KeyNotString, ExpectedCommaOrBracket, ExpectedCommaOrBrace, ExpectedColon}
+use Rattle.tinyjson_grammar.specs.Characters.{is_white}
+use Rattle.tinyjson_grammar.specs.Machine.{step, fits, quoted, plain, Frame, in_array, at_key, at_value, colon, first, awaited, after, Next, next, stop, complete}
+use Rattle.tinyjson_grammar.specs.Tree.{is_string}
+use Rattle.tinyjson_grammar.specs.declared.error.JsonParseErrorKind.TheVariants.{TooDeep, KeyNotString, ExpectedCommaOrBracket, ExpectedCommaOrBrace, ExpectedColon}
 use Rattle.tinyjson.specs.private.Source.{Sight, Takes}
 use Rattle.tinyjson.specs.private.Steps.{BeginsLiteral, wanting, onward, Leads}
 use Rattle.tinyjson.proofs.Reading.Steps.{Leads_nil, Leads_one, Leads_shown, Leads_end, end_first, end_awaited}

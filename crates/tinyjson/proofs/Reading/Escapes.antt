@@ -9,7 +9,7 @@ use Rattle.std.proofs.lemmas.Bool.Decides.{nat_tests}
 use Rattle.std.proofs.lemmas.List.{drop-drop, get_or-drop}
 use Rattle.std.proofs.lemmas.Str.{IsCharBoundary-after_ascii, chars-IsAscii, encode_ascii, IsUtf8-had}
 use Rattle.std.proofs.Math.Seq.{take-append_seam}
-use Rattle.tinyjson.specs.Characters.{is_hex, is_high, is_low, is_surrogate, pair_of, unit_of, paired, decode, short_escape}
+use Rattle.tinyjson_grammar.specs.Characters.{is_hex, is_high, is_low, is_surrogate, pair_of, unit_of, paired, decode, short_escape}
 use Rattle.tinyjson.specs.private.Escape.{Stands, UnitAt, NoBackslash, EscapeAt}
 use Rattle.tinyjson.specs.private.Slice.{before, behind, NextChar}
 use Rattle.tinyjson.specs.private.Slice.Laws.{line_bound, column_bound, shown_once, shown_first, nothing_left}
@@ -17,7 +17,7 @@ use Rattle.tinyjson.specs.private.Scan.{is_plain}
 use Rattle.tinyjson.specs.private.Source.{Sight, Takes, TakesRun}
 use Rattle.tinyjson.specs.Position.{advance, origin}
 use Rattle.tinyjson.specs.declared.parser.text.TextBytes.{TextBytes}
-use Rattle.tinyjson.specs.private.Machine.{step, Frame, Next, next, plain, backslash, hex, quoted}
+use Rattle.tinyjson_grammar.specs.Machine.{step, Frame, Next, next, plain, backslash, hex, quoted}
 use Rattle.tinyjson.specs.private.Steps.{onward, IsNext, IsTaken, Same, Comes, Leads, Halts}
 use Rattle.tinyjson.proofs.Reading.Slices.{ascii_next, between, char_between, char_boundary, next_of, small, step_gives, step_moves}
 use Rattle.tinyjson.proofs.Reading.Sources.{Takes_append}

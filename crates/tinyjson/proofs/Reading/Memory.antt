@@ -1,13 +1,13 @@
 -- Where out of memory may be answered.
 use Rattle.std.proofs.Common.{◌≡◌, ℕ, List, [], ◌∷◌, ◌++◌, true, Result, Ok, Err, Some, IfErr, IsTrue, ap, ◌∙◌}
 use Rattle.std.specs.List.{AllByRecursion}
-use Rattle.tinyjson.specs.Characters.{is_white}
+use Rattle.tinyjson_grammar.specs.Characters.{is_white}
 use Rattle.tinyjson.specs.private.Source.{Sight, Whites}
 use Rattle.tinyjson.specs.private.Steps.{Grows}
-use Rattle.tinyjson.specs.Refusal.{begins_growth}
-use Rattle.tinyjson.specs.Syntax.{AreWhite}
+use Rattle.tinyjson_grammar.specs.Refusal.{begins_growth}
+use Rattle.tinyjson_grammar.specs.Syntax.{AreWhite}
 use Rattle.tinyjson.specs.declared.parser.error.JsonParseError.{JsonParseError}
-use Rattle.tinyjson.specs.declared.parser.error.JsonParseErrorKind.TheVariants.{OutOfMemory}
+use Rattle.tinyjson_grammar.specs.declared.error.JsonParseErrorKind.TheVariants.{OutOfMemory}
 
 white_list : (ws : List ℕ) → AllByRecursion (λ c. is_white c ≡ true) ws → AreWhite ws
 white_list [] h = tt

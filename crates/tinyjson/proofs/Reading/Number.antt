@@ -7,16 +7,16 @@ use Rattle.std.proofs.lemmas.Bool.Decides.{nat_tests}
 use Rattle.tinyjson_number.specs.Decimal.{Decimal}
 use Rattle.tinyjson_number.specs.Numeral.{Numeral, AreDigits, has_leading_zero, is_exponent_letter, is_sign, value, in_range}
 use Rattle.tinyjson.specs.private.Source.{Sight, Still, Stops, Takes, TakesRun}
-use Rattle.tinyjson.specs.private.Machine.{strictly, step, end, then_step, end_plain, Frame, in_array, at_key, at_value, Next, next, stop, awaited, digits, minus, whole, point, fraction, letter, sign, exponent, complete}
+use Rattle.tinyjson_grammar.specs.Machine.{strictly, step, end, then_step, end_plain, Frame, in_array, at_key, at_value, Next, next, stop, awaited, digits, minus, whole, point, fraction, letter, sign, exponent, complete}
 use Rattle.tinyjson.specs.private.NumberSteps.{BeginsNumber, numeral, Gathered, Accepted, Declined, Accepts, Digits}
 use Rattle.tinyjson.specs.private.Steps.{onward, ending, IsNext, IsTaken, Comes, Ends, Leads, Refuses}
-use Rattle.tinyjson.specs.Tree.{number}
+use Rattle.tinyjson_grammar.specs.Tree.{number}
 use Rattle.tinyjson.specs.declared.parser.error.JsonParseError.{JsonParseError}
-use Rattle.tinyjson.specs.declared.parser.error.JsonParseErrorKind.{JsonParseErrorKind}
-use Rattle.tinyjson.specs.declared.parser.error.JsonParseErrorKind.TheVariants.{EmptyInteger, LeadingZero, EmptyFraction, EmptyExponent, NumberOutOfRange, OutOfMemory}
+use Rattle.tinyjson_grammar.specs.declared.error.JsonParseErrorKind.{JsonParseErrorKind}
+use Rattle.tinyjson_grammar.specs.declared.error.JsonParseErrorKind.TheVariants.{EmptyInteger, LeadingZero, EmptyFraction, EmptyExponent, NumberOutOfRange, OutOfMemory}
 use Rattle.tinyjson.specs.Error.{error_position}
 use Rattle.tinyjson.proofs.Reading.Steps.{Same_refl, Leads_trans, Leads_peek, Leads_shown, Leads_end, Halts_here, Refuses_as, Refuses_memory}
-use Rattle.tinyjson.proofs.Grammar.Accepts.Runs.{digit_not_white}
+use Rattle.tinyjson_grammar.proofs.Callers.{digit_not_white}
 
 -- ---- characters
 

@@ -10,13 +10,13 @@ use Rattle.tinyjson_number.specs.declared.parse.ExponentParts.{ExponentParts}
 use Rattle.tinyjson_number.specs.declared.parse.NumberParts.{NumberParts}
 use Rattle.tinyjson.specs.private.Source.{Sight, Still, Takes}
 use Rattle.tinyjson.specs.Error.{error_position}
-use Rattle.tinyjson.specs.private.Machine.{Frame, next, stop, awaited, digits, whole, fraction, exponent, complete}
+use Rattle.tinyjson_grammar.specs.Machine.{Frame, next, stop, awaited, digits, whole, fraction, exponent, complete}
 use Rattle.tinyjson.specs.private.NumberSteps.{BeginsNumber, numeral, is_minus, is_below_zero, exponent_digits, all_digits, marks_of, Gathered, Accepted, Declined, Accepts, Signs, Digits, Part, ReadsPart}
 use Rattle.tinyjson.specs.private.Steps.{Ends, Leads, Refuses}
 use Rattle.tinyjson.specs.declared.parser.error.JsonParseError.{JsonParseError}
 use Rattle.tinyjson.specs.declared.parser.number.Marks.{Marks}
-use Rattle.tinyjson.specs.declared.parser.error.JsonParseErrorKind.TheVariants.{EmptyInteger, LeadingZero, EmptyFraction, EmptyExponent, NumberOutOfRange}
-use Rattle.tinyjson.specs.Tree.{number}
+use Rattle.tinyjson_grammar.specs.declared.error.JsonParseErrorKind.TheVariants.{EmptyInteger, LeadingZero, EmptyFraction, EmptyExponent, NumberOutOfRange}
+use Rattle.tinyjson_grammar.specs.Tree.{number}
 use Rattle.tinyjson.proofs.Reading.Steps.{Leads_nil, Leads_to, Leads_trans, Leads_peek, Leads_one, Refuses_as}
 use Rattle.tinyjson.proofs.Reading.Number.{is_one, are_digits, gathered_whole, gathered_fraction, gathered_exponent, begun, begun_next, begun_digit, begun_whole, pointed, pointed_next, pointed_digit, pointed_whole, powered, powered_next, powered_digit, powered_whole, minus_begins, point_read, letter_read, sign_read, Alike, no_whole, no_fraction, no_exponent, zero_leads, no_point, no_letter, number_ends, range_ends, ends_declined, digit_comes, Leads_rest, Leads_digits, Refuses_digits}
 

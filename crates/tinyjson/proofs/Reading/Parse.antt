@@ -8,20 +8,20 @@ use lib.Utf8.{scalar as is_scalar}
 use Rattle.tinyjson.specs.Parser.{Parser, Parses, ParsesText}
 use Rattle.tinyjson.specs.private.Source.{Sight}
 use Rattle.tinyjson.specs.Error.{error_position}
-use Rattle.tinyjson.specs.Grammar.{IsText, IsAccepted}
-use Rattle.tinyjson.specs.private.Machine.{Frame, Phase, State, Next, next, stop, awaited, finished, accepted, refused, step, end, run, reach, reach_on, strictly}
+use Rattle.tinyjson_grammar.specs.Grammar.{IsText, IsAccepted}
+use Rattle.tinyjson_grammar.specs.Machine.{Frame, Phase, State, Next, next, stop, awaited, finished, accepted, refused, step, end, run, reach, reach_on, strictly}
 use Rattle.tinyjson.specs.Position.{advance, origin}
 use Rattle.tinyjson.specs.private.Steps.{IsNext, IsLate, IsHeld, Leads, Halts, Refuses, Reads, Grows, behind, onward, outcome}
-use Rattle.tinyjson.specs.Refusal.{IsInterrupted, IsRefusal, MayGrow, RefusalSays}
-use Rattle.tinyjson.specs.Tree.{Tree}
+use Rattle.tinyjson_grammar.specs.Refusal.{IsInterrupted, IsRefusal, MayGrow, RefusalSays}
+use Rattle.tinyjson_grammar.specs.Tree.{Tree}
 use Rattle.tinyjson.specs.View.{view}
 use Rattle.tinyjson.specs.declared.parser.error.JsonParseError.{JsonParseError}
-use Rattle.tinyjson.specs.declared.parser.error.JsonParseErrorKind.{JsonParseErrorKind}
-use Rattle.tinyjson.specs.declared.parser.error.JsonParseErrorKind.TheVariants as kind
+use Rattle.tinyjson_grammar.specs.declared.error.JsonParseErrorKind.{JsonParseErrorKind}
+use Rattle.tinyjson_grammar.specs.declared.error.JsonParseErrorKind.TheVariants as kind
 use Rattle.tinyjson.specs.declared.value.JsonValue.{JsonValue}
-use Rattle.tinyjson.proofs.Grammar.Prefix.InRange.{ranges}
-use Rattle.tinyjson.proofs.Grammar.Memory.{interrupted, interrupted_late}
-use Rattle.tinyjson.proofs.Grammar.Theorem.{accepts, refuses}
+use Rattle.tinyjson_grammar.proofs.Callers.{ranges}
+use Rattle.tinyjson_grammar.proofs.Callers.{interrupted, interrupted_late}
+use Rattle.tinyjson_grammar.proofs.Callers.{accepts, refuses}
 use Rattle.tinyjson.proofs.Reading.Steps.{Comes_outcome}
 
 end_finished : (limit : Option ℕ) (t : Tree) → outcome limit (next [] (finished t)) [] ≡ accepted t

@@ -10,7 +10,7 @@ use Rattle.std.proofs.lemmas.List.Sums.{prefix_len-le-length, prefix_len_passes,
 use Rattle.std.proofs.lemmas.Str.{byte_from_char, encode_ascii, encodes-chars, IsCharBoundary-before_ascii, IsCharBoundary-end, chars-nil, chars-append, chars-IsAscii, chars_past_char, drop_past_char, IsUtf8-take, IsUtf8-drop, IsUtf8-between, IsCharBoundary-past_char, IsCharBoundary-after_ascii, length-encode, len_utf8_bounds}
 use Rattle.std.proofs.Math.Seq.{take-append_seam}
 use Rattle.std.proofs.lemmas.Bool.Decides.{nat_tests}
-use Rattle.tinyjson.specs.Characters.{is_white}
+use Rattle.tinyjson_grammar.specs.Characters.{is_white}
 use Rattle.tinyjson.specs.private.Scan.{is_plain}
 use Rattle.tinyjson.specs.Position.{advance, origin}
 use Rattle.tinyjson.specs.private.Slice.{before, behind, run_end, NextChar}

@@ -1,7 +1,7 @@
 -- How a source goes on.
 use Rattle.std.proofs.Common.{◌≡◌, ℕ, true, List, [], ◌∷◌, ◌++◌, Option, Some, None, MatchOption, refl, sym, ap, ◌∙◌, subst, append_assoc, append-nil}
 use Rattle.std.specs.List.{AllByRecursion}
-use Rattle.tinyjson.specs.Characters.{is_white}
+use Rattle.tinyjson_grammar.specs.Characters.{is_white}
 use Rattle.tinyjson.specs.Position.{advance}
 use Rattle.tinyjson.specs.private.Source.{Sight, Takes, Whites}
 use Rattle.tinyjson.proofs.Reading.Positions.{advance_append, advance_nil}

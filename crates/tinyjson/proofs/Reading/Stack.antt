@@ -2,16 +2,16 @@
 use Rattle.std.proofs.Common.{◌≡◌, ℕ, suc, ◌+◌, ◌-◌, ◌≤◌, true, false, List, [], ◌∷◌, ◌++◌, map, take, drop, reverse, length, String, Global, Option, refl, sym, ap, ap₂, ◌∙◌, subst, arith}
 use Rattle.std.proofs.Math.Seq.{drop-length, take-length, take-append_seam, drop-append_seam}
 use Rattle.std.proofs.lemmas.List.{reverse-append, reverse-reverse, map-append, length-drop, drop-append-le, take-append-le, length-take-le, length-append, length-reverse, take-append-drop, drop_all}
-use Rattle.tinyjson.specs.Tree.{Tree, Members, no_members, put, string, array, object, is_string}
+use Rattle.tinyjson_grammar.specs.Tree.{Tree, Members, no_members, put, string, array, object, is_string}
 use Rattle.tinyjson.specs.View.{view, text, items_view, members_view}
 use Rattle.tinyjson.specs.Access.{JsonMap}
-use Rattle.tinyjson.specs.private.Machine.{Frame, in_array, at_key, at_value, awaited, after, colon, Next, next, stop, complete}
+use Rattle.tinyjson_grammar.specs.Machine.{Frame, in_array, at_key, at_value, awaited, after, colon, Next, next, stop, complete}
 use Rattle.tinyjson.specs.private.Stack.{gather, waiting, frames_over, whole_over, own_members, other_maps, Lies, open_of, maps_of, frames, at, HasWhole, AwaitsKey, TakesValue, BeginsMember, ClosesArray, ClosesObject}
 use Rattle.tinyjson.specs.private.Steps.{IsNext, onward, Leads, Halts}
 use Rattle.tinyjson.specs.private.Source.{Sight, Whites}
-use Rattle.tinyjson.specs.Characters.{is_white}
-use Rattle.tinyjson.specs.Kind.{kind_of}
-use Rattle.tinyjson.specs.declared.parser.error.JsonParseErrorKind.TheVariants.{KeyNotString, ExpectedColon}
+use Rattle.tinyjson_grammar.specs.Characters.{is_white}
+use Rattle.tinyjson_grammar.specs.Kind.{kind_of}
+use Rattle.tinyjson_grammar.specs.declared.error.JsonParseErrorKind.TheVariants.{KeyNotString, ExpectedColon}
 use Rattle.tinyjson.proofs.Reading.Containers.{no_key, colon_read, colon_other, object_comma}
 use Rattle.tinyjson.proofs.Reading.Steps.{Leads_whites, Halts_here, white_after}
 use Rattle.tinyjson.specs.declared.parser.stack.Frame.{Frame as Open}

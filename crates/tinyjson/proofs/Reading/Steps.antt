@@ -3,17 +3,17 @@ use Rattle.std.proofs.Common.{◌≡◌, ℕ, ◌+◌, ◌<◌, ◌==◌, Bool, 
 use Rattle.std.proofs.lemmas.Bool.{eq-eqb, ne_eqb}
 use Rattle.std.specs.List.{AllByRecursion}
 use Rattle.std.specs.Char.{is_ascii_digit}
-use Rattle.tinyjson.specs.Kind.{kind_of}
-use Rattle.tinyjson.specs.Tree.{Tree}
-use Rattle.tinyjson.specs.declared.parser.error.JsonParseErrorKind.{JsonParseErrorKind}
+use Rattle.tinyjson_grammar.specs.Kind.{kind_of}
+use Rattle.tinyjson_grammar.specs.Tree.{Tree}
+use Rattle.tinyjson_grammar.specs.declared.error.JsonParseErrorKind.{JsonParseErrorKind}
 use Rattle.tinyjson.specs.declared.parser.error.JsonParseError.{JsonParseError}
-use Rattle.tinyjson.specs.declared.parser.error.JsonParseErrorKind.TheVariants.{OutOfMemory}
+use Rattle.tinyjson_grammar.specs.declared.error.JsonParseErrorKind.TheVariants.{OutOfMemory}
 use Rattle.tinyjson.specs.Position.{advance}
-use Rattle.tinyjson.specs.Characters.{is_white}
+use Rattle.tinyjson_grammar.specs.Characters.{is_white}
 use Rattle.tinyjson.specs.private.Source.{Sight, Takes, Whites}
-use Rattle.tinyjson.specs.declared.parser.error.JsonParseErrorKind.TheVariants.{UnexpectedEof, ExpectedEof, InvalidCharacter, InvalidUtf16, KeyNotString, UnexpectedInLiteral}
-use Rattle.tinyjson.specs.private.Machine.{strictly, Within, quoted, end, colon, Frame, in_array, at_key, at_value, first, awaited, after, finished, Next, next, stop, refused, complete, step, run, go_on}
-use Rattle.tinyjson.specs.Tree.{is_string, key_of}
+use Rattle.tinyjson_grammar.specs.declared.error.JsonParseErrorKind.TheVariants.{UnexpectedEof, ExpectedEof, InvalidCharacter, InvalidUtf16, KeyNotString, UnexpectedInLiteral}
+use Rattle.tinyjson_grammar.specs.Machine.{strictly, Within, quoted, end, colon, Frame, in_array, at_key, at_value, first, awaited, after, finished, Next, next, stop, refused, complete, step, run, go_on}
+use Rattle.tinyjson_grammar.specs.Tree.{is_string, key_of}
 use Rattle.tinyjson.specs.Error.{error_position}
 use Rattle.tinyjson.specs.private.Steps.{onward, ending, outcome, IsNext, IsTaken, behind, wanting, Same, Comes, IsLate, IsHeld, Leads, Halts, Refuses, Reads}
 use Rattle.tinyjson.proofs.Reading.Sources.{Takes_nil}

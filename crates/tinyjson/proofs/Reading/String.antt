@@ -6,14 +6,14 @@ use Rattle.std.specs.Prelude.{nat_lt}
 use Rattle.std.specs.Char.{digit_value}
 use Rattle.std.proofs.lemmas.Bool.{ne_eqb}
 use Rattle.std.proofs.lemmas.Bool.Decides.{nat_tests}
-use Rattle.tinyjson.specs.Tree.{string}
+use Rattle.tinyjson_grammar.specs.Tree.{string}
 use Rattle.tinyjson.specs.View.{text}
 use Rattle.tinyjson.specs.declared.parser.error.JsonParseError.{JsonParseError}
-use Rattle.tinyjson.specs.Characters.{is_hex, unit_of, paired, decode, short_escape}
+use Rattle.tinyjson_grammar.specs.Characters.{is_hex, unit_of, paired, decode, short_escape}
 use Rattle.tinyjson.specs.private.Scan.{is_plain}
 use Rattle.tinyjson.specs.private.Source.{Sight, Takes, TakesRun}
-use Rattle.tinyjson.specs.private.Machine.{step, end, Frame, in_array, at_key, at_value, Next, next, stop, complete, plain, backslash, hex, quoted, refused}
-use Rattle.tinyjson.specs.declared.parser.error.JsonParseErrorKind.TheVariants.{InvalidUtf16, InvalidHexDigit, InvalidEscape, ControlCharacter, UnexpectedEof}
+use Rattle.tinyjson_grammar.specs.Machine.{step, end, Frame, in_array, at_key, at_value, Next, next, stop, complete, plain, backslash, hex, quoted, refused}
+use Rattle.tinyjson_grammar.specs.declared.error.JsonParseErrorKind.TheVariants.{InvalidUtf16, InvalidHexDigit, InvalidEscape, ControlCharacter, UnexpectedEof}
 use Rattle.tinyjson.specs.private.Steps.{onward, ending, within, Fails, IsNext, IsTaken, Comes, Leads, Halts, Refuses, Reads}
 use Rattle.tinyjson.proofs.Reading.Steps.{Comes_trans, Same_refl, taken_complete, Leads_one, Halts_here, Halts_late, Refuses_as, Refuses_memory, taken_if}
 

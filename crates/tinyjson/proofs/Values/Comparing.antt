@@ -10,12 +10,12 @@ use Rattle.std.specs.Option.{option_eq, option_map}
 use Rattle.std.specs.Ordering.{match_ordering}
 use Rattle.std.specs.String.{string_eq, string_eq_equiv}
 use Rattle.tinyjson.proofs.Values.Entries.{find_members_of, members_of_sorted}
-use Rattle.tinyjson.proofs.Values.Members.{find_below, find_put, flip, found_first, key_same, members_from_find, same_key, some_none, sorted_put}
+use Rattle.tinyjson_grammar.proofs.Callers.{find_below, find_put, flip, found_first, key_same, members_from_find, same_key, some_none, sorted_put}
 use Rattle.tinyjson.proofs.Values.Views.{Entry, view_lookup}
 use Rattle.tinyjson.specs.private.Comparison.{has_entry, has_entries, rest_eq, rests_eq, rest_weight, rests_weight}
 use Rattle.tinyjson.specs.Equality.{tree_eq, tree_eq_decides, items_eq, members_eq, members_eq_Decides}
-use Rattle.tinyjson.specs.Soundness.{IsBelow, IsSorted}
-use Rattle.tinyjson.specs.Tree.{Tree, Members, no_members, member, key_cmp, put, find}
+use Rattle.tinyjson_grammar.specs.Soundness.{IsBelow, IsSorted}
+use Rattle.tinyjson_grammar.specs.Tree.{Tree, Members, no_members, member, key_cmp, put, find}
 use Rattle.tinyjson.specs.View.{text, view, seen_entries, items_view, members_view}
 use Rattle.tinyjson.specs.declared.value.JsonValue.{JsonValue}
 use Rattle.tinyjson.specs.declared.value.equality.Rest.{Rest}

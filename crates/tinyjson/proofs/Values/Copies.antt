@@ -7,7 +7,7 @@ use Rattle.std.specs.String.{string_eq}
 use Rattle.tinyjson.proofs.Values.Views.{Entry, members_view_last}
 use Rattle.tinyjson.specs.Access.{JsonMap}
 use Rattle.tinyjson.specs.private.Copy.{put_all, filled, filled_all, weight, entries_weight, partial_weight, stack_weight}
-use Rattle.tinyjson.specs.Tree.{Tree, no_members}
+use Rattle.tinyjson_grammar.specs.Tree.{Tree, no_members}
 use Rattle.tinyjson.specs.View.{members_view}
 use Rattle.tinyjson.specs.declared.value.copy.Partial.{Partial}
 use Rattle.tinyjson.specs.declared.value.JsonValue.{the_lemmas}

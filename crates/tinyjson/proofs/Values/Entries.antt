@@ -6,9 +6,9 @@ use Rattle.std.proofs.lemmas.Str.{encodes-chars, IsUtf8-string_bytes}
 use Rattle.std.specs.Map.{lookup}
 use Rattle.std.specs.Str.{encode_utf8_all, chars}
 use Rattle.std.specs.String.{string_eq}
-use Rattle.tinyjson.proofs.Values.Members.{find_put, sorted_put, members_from_find}
-use Rattle.tinyjson.specs.Tree.{Tree, put, find}
-use Rattle.tinyjson.specs.Soundness.{IsSorted}
+use Rattle.tinyjson_grammar.proofs.Callers.{find_put, sorted_put, members_from_find}
+use Rattle.tinyjson_grammar.specs.Tree.{Tree, put, find}
+use Rattle.tinyjson_grammar.specs.Soundness.{IsSorted}
 use Rattle.tinyjson.specs.View.{text, members_of}
 
 abbrev pub Seen : Type 0

@@ -2,7 +2,7 @@
 use Rattle.std.proofs.Common.{◌≡◌, Bool, String, Global, Vec, sym, ap, ◌∙◌, rules}
 use Rattle.std.specs.String.{string_eq}
 use Rattle.tinyjson.proofs.Values.Entries.{text_eq}
-use Rattle.tinyjson.specs.Tree.{Tree, string, array, object}
+use Rattle.tinyjson_grammar.specs.Tree.{Tree, string, array, object}
 use Rattle.tinyjson.specs.Equality.{tree_eq, same_tree}
 use Rattle.tinyjson.specs.View.{text, view, items_view, members_view}
 use Rattle.tinyjson.specs.Access.{JsonMap}

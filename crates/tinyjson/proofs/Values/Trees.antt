@@ -5,8 +5,8 @@ use Rattle.std.specs.Ordering.{match_ordering}
 use Rattle.tinyjson_number.specs.Numeral.{power_width}
 use Rattle.std.specs.Int.{Width}
 use Rattle.std.specs.Str.{all_scalars}
-use Rattle.tinyjson.specs.Tree.{Tree, items_of, Members, no_members, member, key_cmp, put}
-use Rattle.tinyjson.specs.Soundness.{IsTree, IsTreeAt, AreItemsAt, AreMembersAt}
+use Rattle.tinyjson_grammar.specs.Tree.{Tree, items_of, Members, no_members, member, key_cmp, put}
+use Rattle.tinyjson_grammar.specs.Soundness.{IsTree, IsTreeAt, AreItemsAt, AreMembersAt}
 use Rattle.tinyjson.specs.View.{text, view, view_step, members_view, seen_entries}
 use Rattle.tinyjson.proofs.Values.Entries.{members_of_sorted}
 use Rattle.tinyjson.specs.declared.value.JsonValue.{JsonValue, roll-JsonValue, map-JsonValue, fold-roll-JsonValue, ind-JsonValue}

@@ -9,9 +9,9 @@ use Rattle.std.specs.Map.{lookup, keys_of}
 use Rattle.std.specs.Prelude.{IsSome}
 use Rattle.std.specs.String.{string_eq, string_eq_equiv}
 use Rattle.tinyjson.proofs.Values.Entries.{members_from_lookups, members_of_sorted, find_members_of, None_or_text}
-use Rattle.tinyjson.proofs.Values.Members.{cond_swap, find_put, find_remove, sorted_put, sorted_remove, members_from_find}
-use Rattle.tinyjson.specs.Soundness.{IsSorted}
-use Rattle.tinyjson.specs.Tree.{Tree, Members, put, find, remove}
+use Rattle.tinyjson_grammar.proofs.Callers.{cond_swap, find_put, find_remove, sorted_put, sorted_remove, members_from_find}
+use Rattle.tinyjson_grammar.specs.Soundness.{IsSorted}
+use Rattle.tinyjson_grammar.specs.Tree.{Tree, Members, put, find, remove}
 use Rattle.tinyjson.specs.View.{text, view, seen_entries, members_view}
 use Rattle.tinyjson.specs.declared.value.JsonValue.{JsonValue}
 

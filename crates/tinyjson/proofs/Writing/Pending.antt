@@ -11,8 +11,8 @@ use Rattle.tinyjson.specs.private.Room.{Output, Sent, SentPart, Sends}
 use Rattle.std.specs.Bool.{IsTrue}
 use Rattle.std.specs.Option.{is_some}
 use Rattle.tinyjson.specs.Indent.{indent_of}
-use Rattle.tinyjson.specs.Text.{text, items_text, members_text, before, separator, newline, closing, quoted, escapes, after_colon, has_no_items, has_no_members}
-use Rattle.tinyjson.specs.Tree.{Members as Entries, array, object, member, no_members}
+use Rattle.tinyjson_grammar.specs.Text.{text, items_text, members_text, before, separator, newline, closing, quoted, escapes, after_colon, has_no_items, has_no_members}
+use Rattle.tinyjson_grammar.specs.Tree.{Members as Entries, array, object, member, no_members}
 use Rattle.tinyjson.specs.View.{view, items_view, members_view}
 use Rattle.tinyjson.specs.private.Sorted.{sorted_view}
 use Rattle.tinyjson.specs.private.Pending.{Gathered, frame_text, others, owed, frames, IsStack, Opened, Begins, Advanced, Advances}

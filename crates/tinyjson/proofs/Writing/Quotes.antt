@@ -10,7 +10,7 @@ use Rattle.std.proofs.lemmas.List.{take_all, drop_all}
 use Rattle.std.proofs.lemmas.Bool.Decides.{nat_tests}
 use Rattle.std.specs.List.{prefix_len}
 use Rattle.tinyjson.specs.private.Scan.{is_plain}
-use Rattle.tinyjson.specs.Text.{quoted, escape, escapes}
+use Rattle.tinyjson_grammar.specs.Text.{quoted, escape, escapes}
 use Rattle.tinyjson.proofs.Writing.Bytes.{enc, enclosed}
 
 -- ---- bytes that stand as they are, and what follows them

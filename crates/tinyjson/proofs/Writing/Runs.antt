@@ -10,8 +10,8 @@ use Rattle.tinyjson.specs.declared.generator.pending.Frame.TheVariants.{Items, M
 use Rattle.tinyjson.specs.private.Pending.{Gathered, frame_text, others, owed, Opened, Finished}
 use Rattle.tinyjson.specs.private.Room.{Output, Sent, SentPart}
 use Rattle.tinyjson.specs.private.Sorted.{sorted_view}
-use Rattle.tinyjson.specs.Text.{text, items_text, members_text, separator, quoted, escapes, newline, has_no_items}
-use Rattle.tinyjson.specs.Tree.{array, member, no_members}
+use Rattle.tinyjson_grammar.specs.Text.{text, items_text, members_text, separator, quoted, escapes, newline, has_no_items}
+use Rattle.tinyjson_grammar.specs.Tree.{array, member, no_members}
 use Rattle.tinyjson.specs.View.{view, items_view}
 use Rattle.tinyjson.proofs.Writing.Bytes.{enc, enc_cons, three}
 use Rattle.tinyjson.proofs.Writing.Pending.{compact_member, opened, array_begins}

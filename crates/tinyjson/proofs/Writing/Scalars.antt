@@ -5,10 +5,10 @@ use Rattle.std.proofs.lemmas.Bool.{and_from, and_parts}
 use Rattle.std.proofs.lemmas.Bool.Decides.{nat_tests}
 use Rattle.std.proofs.lemmas.Str.{chars_from_encodes, chars-IsAscii}
 use Rattle.tinyjson_number.proofs.Callers.{decimal_ascii}
-use Rattle.tinyjson.specs.Tree.{Tree, null, boolean, number, string, array, object, Items, no_items, item, Members, no_members, member}
-use Rattle.tinyjson.specs.Soundness.{IsTree, AreItemsAt, AreMembersAt}
+use Rattle.tinyjson_grammar.specs.Tree.{Tree, null, boolean, number, string, array, object, Items, no_items, item, Members, no_members, member}
+use Rattle.tinyjson_grammar.specs.Soundness.{IsTree, AreItemsAt, AreMembersAt}
 use Rattle.tinyjson_number.specs.Numeral.{power_width}
-use Rattle.tinyjson.specs.Text.{text, items_text, members_text, escape, escapes, quoted, newline, repeated, before, closing, after_colon, has_no_items, has_no_members}
+use Rattle.tinyjson_grammar.specs.Text.{text, items_text, members_text, escape, escapes, quoted, newline, repeated, before, closing, after_colon, has_no_items, has_no_members}
 use Rattle.tinyjson.proofs.Writing.Quotes.{escape_ascii, high, le_or_lt, two_ascii}
 
 abbrev pub AreScalars : List ℕ → Type 0

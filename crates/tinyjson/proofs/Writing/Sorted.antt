@@ -23,12 +23,12 @@ use Rattle.std.proofs.lemmas.Map.Views.{Contains-from_lookup, lookup-from_Contai
 use Rattle.std.proofs.lemmas.Slice.Eq.{bytes_eq-Decides}
 use Rattle.std.proofs.lemmas.Str.{encodes-chars, IsUtf8-string_bytes}
 use Rattle.std.proofs.Math.ListN.{get_or-map}
-use Rattle.tinyjson.specs.Tree.{Tree, Members, member, no_members, put, find}
-use Rattle.tinyjson.specs.Soundness.{IsBelow, IsSorted}
+use Rattle.tinyjson_grammar.specs.Tree.{Tree, Members, member, no_members, put, find}
+use Rattle.tinyjson_grammar.specs.Soundness.{IsBelow, IsSorted}
 use Rattle.tinyjson.specs.View.{text, view, members_view}
 use Rattle.tinyjson.specs.private.Sorted.{sorted_view, bytes_pair, now_pair}
 use Rattle.tinyjson.specs.declared.value.JsonValue.{JsonValue}
-use Rattle.tinyjson.proofs.Values.Members.{find_put, sorted_put, members_from_find}
+use Rattle.tinyjson_grammar.proofs.Callers.{find_put, sorted_put, members_from_find}
 use Rattle.tinyjson.proofs.Values.Entries.{text_eq}
 
 abbrev pub Entry : Type 0

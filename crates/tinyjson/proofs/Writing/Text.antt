@@ -6,11 +6,11 @@ use Rattle.std.specs.Bool.{nat_eq}
 use Rattle.std.proofs.lemmas.Str.{encodes-append, encodes-chars}
 use Rattle.std.proofs.lemmas.Bool.Decides.{nat_tests}
 use Rattle.tinyjson.specs.declared.value.JsonValue.{JsonValue}
-use Rattle.tinyjson.specs.Text.{text, repeated, separator, after_colon, quoted, has_no_items, has_no_members}
+use Rattle.tinyjson_grammar.specs.Text.{text, repeated, separator, after_colon, quoted, has_no_items, has_no_members}
 use Rattle.std.specs.Ordering.{nat_cmp, match_ordering}
 use Rattle.std.specs.Cmp.Lexicographic.{slice_cmp}
 use Rattle.std.specs.declared.cmp.Ordering.TheVariants.{Less, Equal, Greater}
-use Rattle.tinyjson.specs.Tree.{Tree, Members, no_members, member, put}
+use Rattle.tinyjson_grammar.specs.Tree.{Tree, Members, no_members, member, put}
 use Rattle.tinyjson.specs.View.{view, items_view, members_view}
 use Rattle.tinyjson.proofs.Writing.Bytes.{enc, enc_cons}
 

@@ -6,7 +6,7 @@ use Rattle.std.specs.Slice.Iter.{iter_rest}
 use Rattle.std.specs.declared.alloc.Global.{Global}
 use Rattle.tinyjson.specs.private.Copy.{total, items_weight, entries_weight}
 use Rattle.tinyjson.specs.Equality.{tree_eq, items_eq}
-use Rattle.tinyjson.specs.Tree.{Members, find}
+use Rattle.tinyjson_grammar.specs.Tree.{Members, find}
 use Rattle.tinyjson.specs.View.{view, items_view, members_view, text}
 use Rattle.tinyjson.specs.declared.value.JsonValue.{JsonValue}
 use Rattle.tinyjson.specs.declared.value.equality.Compared.{Compared}

@@ -2,7 +2,7 @@
 use Rattle.std.specs.Prelude.{ℕ, ◌+◌, List, [], ◌∷◌, ◌++◌, map, String}
 use Rattle.std.specs.Slice.Iter.{iter_rest}
 use Rattle.std.specs.declared.alloc.Global.{Global}
-use Rattle.tinyjson.specs.Tree.{Tree, array, object, items_of, Members, put}
+use Rattle.tinyjson_grammar.specs.Tree.{Tree, array, object, items_of, Members, put}
 use Rattle.tinyjson.specs.View.{view, items_view, members_view, text}
 use Rattle.tinyjson.specs.declared.value.JsonValue.{JsonValue, fold-JsonValue}
 use Rattle.tinyjson.specs.declared.value.JsonValue.TheOpen.{JsonValue-F}

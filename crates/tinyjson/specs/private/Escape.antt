@@ -2,8 +2,8 @@
 use Rattle.std.specs.Prelude.{◌≡◌, ℕ, ◌+◌, ◌<◌, ◌≤◌, true, List, [], ◌∷◌, ◌++◌, length, drop, slice_get, Option, Some}
 use Rattle.std.specs.Char.{is_ascii}
 use Rattle.std.specs.List.{AllByRecursion}
-use Rattle.tinyjson.specs.Characters.{is_hex, unit_of}
-use Rattle.tinyjson.specs.private.Machine.{Frame, next, plain, quoted}
+use Rattle.tinyjson_grammar.specs.Characters.{is_hex, unit_of}
+use Rattle.tinyjson_grammar.specs.Machine.{Frame, next, plain, quoted}
 use Rattle.tinyjson.specs.private.Steps.{Comes}
 
 -- from a place to another one stand these bytes, which are ASCII

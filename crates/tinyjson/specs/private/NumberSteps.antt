@@ -6,12 +6,12 @@ use Rattle.std.specs.List.{AllByRecursion}
 use Rattle.tinyjson_number.specs.Numeral.{Numeral, Exponent, IsNumeral, has_leading_zero, is_sign, sign_text}
 use Rattle.tinyjson.specs.Error.{error_position}
 use Rattle.tinyjson.specs.private.Source.{Sight, Still, Takes}
-use Rattle.tinyjson.specs.private.Machine.{Frame, Stage, Next, next, digits}
+use Rattle.tinyjson_grammar.specs.Machine.{Frame, Stage, Next, next, digits}
 use Rattle.tinyjson.specs.private.Steps.{Ends, Leads, Refuses}
 use Rattle.tinyjson.specs.declared.parser.error.JsonParseError.{JsonParseError}
 use Rattle.tinyjson.specs.declared.parser.number.Marks.{Marks}
-use Rattle.tinyjson.specs.declared.parser.error.JsonParseErrorKind.{JsonParseErrorKind}
-use Rattle.tinyjson.specs.declared.parser.error.JsonParseErrorKind.TheVariants.{OutOfMemory}
+use Rattle.tinyjson_grammar.specs.declared.error.JsonParseErrorKind.{JsonParseErrorKind}
+use Rattle.tinyjson_grammar.specs.declared.error.JsonParseErrorKind.TheVariants.{OutOfMemory}
 
 -- a minus sign or a digit comes next
 abbrev pub BeginsNumber : {S : Type 0} → Sight S → S → Type 0

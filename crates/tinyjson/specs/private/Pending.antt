@@ -3,9 +3,9 @@ use Rattle.std.specs.Prelude.{◌≡◌, ℕ, ◌+◌, ◌-◌, ◌<◌, true, L
 use Rattle.std.specs.Prelude.{drop, reverse, encode_utf8_all}
 use Rattle.std.specs.Borrow.{Bor}
 use Rattle.std.specs.Str.{chars}
-use Rattle.tinyjson.specs.Tree.{member, no_members}
+use Rattle.tinyjson_grammar.specs.Tree.{member, no_members}
 use Rattle.tinyjson.specs.View.{view, items_view}
-use Rattle.tinyjson.specs.Text.{items_text, members_text, newline}
+use Rattle.tinyjson_grammar.specs.Text.{items_text, members_text, newline}
 use Rattle.tinyjson.specs.private.Sorted.{sorted_view}
 use Rattle.tinyjson.specs.private.Room.{Output, Sent, SentPart}
 use Rattle.tinyjson.specs.declared.value.JsonValue.{JsonValue}

@@ -1,7 +1,7 @@
 -- Bytes that end a run. For private contracts.
 use Rattle.std.specs.Prelude.{ℕ, Bool, not, ◌||◌, ◌==◌, nat_lt}
 use Rattle.std.specs.Char.{is_ascii_digit}
-use Rattle.tinyjson.specs.Characters.{is_white}
+use Rattle.tinyjson_grammar.specs.Characters.{is_white}
 
 -- a quotation mark, a backslash or a control character
 abbrev pub is_stop : ℕ → Bool

@@ -1,10 +1,10 @@
 -- The containers that are open, in the words of the machine. For private contracts.
 use Rattle.std.specs.Prelude.{◌≡◌, ℕ, suc, ◌+◌, ◌≤◌, Bool, true, false, List, [], ◌∷◌, ◌++◌, map, take, drop, reverse, length, String, ⊤}
 use Rattle.std.specs.declared.alloc.Global.{Global}
-use Rattle.tinyjson.specs.Tree.{Tree, array, object, items_of, Members, no_members, put}
+use Rattle.tinyjson_grammar.specs.Tree.{Tree, array, object, items_of, Members, no_members, put}
 use Rattle.tinyjson.specs.Access.{JsonMap}
 use Rattle.tinyjson.specs.View.{view, text, members_view}
-use Rattle.tinyjson.specs.private.Machine.{Frame, in_array, at_key, at_value, awaited, after, Next, next, complete}
+use Rattle.tinyjson_grammar.specs.Machine.{Frame, in_array, at_key, at_value, awaited, after, Next, next, complete}
 use Rattle.tinyjson.specs.declared.parser.stack.Frame.{Frame as Open}
 use Rattle.tinyjson.specs.declared.parser.stack.Frame.TheVariants as container
 use Rattle.tinyjson.specs.declared.parser.stack.Stack.{Stack}

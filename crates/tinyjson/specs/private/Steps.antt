@@ -3,17 +3,17 @@ use Rattle.std.specs.Prelude.{◌≡◌, ℕ, Bool, true, false, List, [], ◌�
 use Rattle.std.specs.Prelude.{IfErr, IsTrue, MatchResult, IfSome, String, cond, ◌⊎◌, ⊤}
 use Rattle.std.specs.Char.{is_ascii_digit}
 use Rattle.std.specs.declared.alloc.Global.{Global}
-use Rattle.tinyjson.specs.Tree.{Tree, string}
+use Rattle.tinyjson_grammar.specs.Tree.{Tree, string}
 use Rattle.tinyjson.specs.View.{text}
 use Rattle.tinyjson.specs.Position.{Position, advance}
 use Rattle.tinyjson.specs.Error.{error_position}
-use Rattle.tinyjson.specs.Refusal.{MayGrow, begins_growth}
+use Rattle.tinyjson_grammar.specs.Refusal.{MayGrow, begins_growth}
 use Rattle.tinyjson.specs.private.Source.{Sight}
-use Rattle.tinyjson.specs.private.Machine.{Frame, word, plain, quoted, Next, next, stop, Outcome}
-use Rattle.tinyjson.specs.private.Machine.{refused, complete, step, end, run, strictly}
+use Rattle.tinyjson_grammar.specs.Machine.{Frame, word, plain, quoted, Next, next, stop, Outcome}
+use Rattle.tinyjson_grammar.specs.Machine.{refused, complete, step, end, run, strictly}
 use Rattle.tinyjson.specs.declared.parser.error.JsonParseError.{JsonParseError}
-use Rattle.tinyjson.specs.declared.parser.error.JsonParseErrorKind.{JsonParseErrorKind}
-use Rattle.tinyjson.specs.declared.parser.error.JsonParseErrorKind.TheVariants.{InvalidUtf16, OutOfMemory}
+use Rattle.tinyjson_grammar.specs.declared.error.JsonParseErrorKind.{JsonParseErrorKind}
+use Rattle.tinyjson_grammar.specs.declared.error.JsonParseErrorKind.TheVariants.{InvalidUtf16, OutOfMemory}
 
 -- these letters, and then the value is whole
 abbrev pub wanting : List Frame → List ℕ → Tree → Next

@@ -6,7 +6,7 @@ ghost use Rattle.std.specs.Str.{chars, encode_utf8_all};
 ghost use Rattle.tinyjson_number.specs.Text.{decimal_text};
 ghost use Rattle.tinyjson.specs.private.Room.{waiting, Waits};
 ghost use Rattle.tinyjson.specs.private.Sorted.{sorted_view};
-ghost use Rattle.tinyjson.specs.Text.{escapes, items_text, members_text, quoted, separator, text};
+ghost use Rattle.tinyjson_grammar.specs.Text.{escapes, items_text, members_text, quoted, separator, text};
 ghost use Rattle.tinyjson.specs.View.{view, items_view};
 
 use super::output::Room;

@@ -4,7 +4,7 @@ ghost use Rattle.std.specs.Char.{digit_char};
 ghost use Rattle.std.specs.List.{prefix_len};
 ghost use Rattle.std.specs.Str.{chars};
 ghost use Rattle.tinyjson.specs.private.Scan.{is_plain};
-ghost use Rattle.tinyjson.specs.Text.{escape, escapes, quoted, IsEscaped};
+ghost use Rattle.tinyjson_grammar.specs.Text.{escape, escapes, quoted, IsEscaped};
 ghost use Rattle.tinyjson.specs.private.Room.{waiting, Sends, SendsText};
 
 use super::output::{Room, write_bytes};

@@ -6,7 +6,7 @@ ghost use Rattle.std.specs.Iterator.{IsFinite};
 ghost use Rattle.tinyjson.specs.private.Cursor.{Ready, Begins, Gives, Goes, HasPlace, Runs, Skips};
 ghost use Rattle.tinyjson.specs.private.Cursor.{EndsRun, Shows, left, place};
 ghost use Rattle.tinyjson.specs.private.Cursor.Laws.{nothing_left, shown_first, shown_once};
-ghost use Rattle.tinyjson.specs.Characters.{is_white};
+ghost use Rattle.tinyjson_grammar.specs.Characters.{is_white};
 ghost use Rattle.tinyjson.specs.private.Scan.{is_plain};
 ghost use Rattle.tinyjson.specs.View.{text};
 ghost use Rattle.tinyjson.specs.Position.{advance, position_at, origin};

@@ -1,6 +1,6 @@
 //! Escapes among the bytes of a text (RFC 8259, section 7).
 ghost use Rattle.std.specs.Prelude.{◌≡◌, ◌≤◌, IfSome, true, false, length};
-ghost use Rattle.tinyjson.specs.Characters.{short_escape, is_high};
+ghost use Rattle.tinyjson_grammar.specs.Characters.{short_escape, is_high};
 ghost use Rattle.tinyjson.specs.private.Escape.{EscapeAt, NoBackslash, UnitAt};
 
 use super::utf16::{is_high, is_low, pair};

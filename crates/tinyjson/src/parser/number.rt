@@ -3,15 +3,15 @@ ghost use Rattle.std.specs.Prelude.{◌≡◌, ◌==◌, ◌+◌, ◌<◌, ◌�
 ghost use Rattle.std.specs.Prelude.{OnOk, IfOk, IfSome, Option, Some, None, drop, length, slice_get};
 ghost use Rattle.std.specs.Prelude.{if◌then◌else◌, option_map, string_bytes};
 ghost use Rattle.std.specs.Char.{is_ascii_digit};
-ghost use Rattle.tinyjson.specs.private.Machine.{Frame, awaited, complete, digits, whole, fraction};
-ghost use Rattle.tinyjson.specs.private.Machine.{exponent, next};
+ghost use Rattle.tinyjson_grammar.specs.Machine.{Frame, awaited, complete, digits, whole, fraction};
+ghost use Rattle.tinyjson_grammar.specs.Machine.{exponent, next};
 ghost use Rattle.tinyjson.specs.private.NumberSteps.{Digits, BeginsNumber, Accepts, Gathered};
 ghost use Rattle.tinyjson.specs.private.NumberSteps.{ReadsPart, Signs};
 ghost use Rattle.tinyjson.specs.private.NumberSteps.{is_below_zero, marks_of, numeral};
 ghost use Rattle.tinyjson.specs.private.Numerals.{FractionAt, NumeralAt};
 ghost use Rattle.tinyjson.specs.private.Stack.{at, frames, IsSound};
 ghost use Rattle.tinyjson.specs.private.Steps.{Ends, Reads};
-ghost use Rattle.tinyjson.specs.Tree.{number};
+ghost use Rattle.tinyjson_grammar.specs.Tree.{number};
 ghost use Rattle.tinyjson_number.specs.Numeral.{AreDigits, Exponent, Numeral, has_leading_zero};
 ghost use Rattle.tinyjson_number.specs.Numeral.{is_exponent_letter, minus_text};
 ghost use Rattle.tinyjson_number.specs.Reading.{ReadsNumeral, exponent_of, numeral_of};

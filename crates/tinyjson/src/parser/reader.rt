@@ -1,16 +1,16 @@
 //! The reader: values by their first character, the loop over open containers, refusals, literals.
 ghost use Rattle.std.specs.Prelude.{◌≡◌, ℕ, ◌<◌, ◌≤◌, List, [], true, false, OnOk, IfOk, IfErr};
 ghost use Rattle.std.specs.Prelude.{IsTrue, Option, Some, None};
-ghost use Rattle.tinyjson.specs.Characters.{is_white};
+ghost use Rattle.tinyjson_grammar.specs.Characters.{is_white};
 ghost use Rattle.tinyjson.specs.Error.{error_position};
-ghost use Rattle.tinyjson.specs.Refusal.{begins_growth};
-ghost use Rattle.tinyjson.specs.private.Machine.{Frame, awaited, complete, finished, next};
+ghost use Rattle.tinyjson_grammar.specs.Refusal.{begins_growth};
+ghost use Rattle.tinyjson_grammar.specs.Machine.{Frame, awaited, complete, finished, next};
 ghost use Rattle.tinyjson.specs.private.Stack.{IsSound, at, frames, open_of};
 ghost use Rattle.tinyjson.specs.private.Steps.{BeginsLiteral, Grows, GrowsFor, NeedsNone, Reads};
 ghost use Rattle.tinyjson.specs.private.Steps.{wanting};
-ghost use Rattle.tinyjson.specs.Tree.{Tree};
+ghost use Rattle.tinyjson_grammar.specs.Tree.{Tree};
 ghost use Rattle.tinyjson.specs.View.{view};
-ghost use Rattle.tinyjson.specs.declared.parser.error.JsonParseErrorKind.TheVariants.{OutOfMemory};
+ghost use Rattle.tinyjson_grammar.specs.declared.error.JsonParseErrorKind.TheVariants.{OutOfMemory};
 
 use super::error::{JsonParseError, JsonParseErrorKind};
 use super::source::Source;

@@ -3,7 +3,7 @@ ghost use Rattle.std.specs.Prelude.{◌≡◌, ◌+◌, ◌≤◌, length, drop,
 ghost use Rattle.std.specs.Char.{is_ascii_digit};
 ghost use Rattle.std.specs.List.{prefix_len};
 ghost use Rattle.std.specs.Simd.Lanes.{mask_l};
-ghost use Rattle.tinyjson.specs.Characters.{is_white};
+ghost use Rattle.tinyjson_grammar.specs.Characters.{is_white};
 ghost use Rattle.tinyjson.specs.private.Scan.{is_no_digit, is_no_white};
 
 use super::source::is_white;

@@ -4,8 +4,8 @@ ghost use Rattle.std.specs.Prelude.{MatchOption, MatchResult, OnOk, Option, None
 ghost use Rattle.std.specs.Prelude.{string_bytes};
 ghost use Rattle.std.specs.Char.{is_ascii_digit};
 ghost use Rattle.std.specs.Option.{option_len};
-ghost use Rattle.tinyjson.specs.Characters.{is_white};
-ghost use Rattle.tinyjson.specs.private.Machine.{Frame};
+ghost use Rattle.tinyjson_grammar.specs.Characters.{is_white};
+ghost use Rattle.tinyjson_grammar.specs.Machine.{Frame};
 ghost use Rattle.tinyjson.specs.private.Scan.{is_plain};
 ghost use Rattle.tinyjson.specs.Position.{position_at};
 ghost use Rattle.tinyjson.specs.private.Source.{Sight, Still, Stops, Takes, TakesQuoted, TakesRun};

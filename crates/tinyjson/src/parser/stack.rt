@@ -2,12 +2,12 @@
 ghost use Rattle.std.specs.Prelude.{◌≡◌, ◌+◌, ◌≤◌, List, [], ◌∷◌, ◌++◌, true, false};
 ghost use Rattle.std.specs.Prelude.{length, take, drop, reverse};
 ghost use Rattle.std.specs.Prelude.{OnOk, IfOk, MatchOption};
-ghost use Rattle.tinyjson.specs.private.Machine.{in_array, at_key, after, next, complete, finished};
+ghost use Rattle.tinyjson_grammar.specs.Machine.{in_array, at_key, after, next, complete, finished};
 ghost use Rattle.tinyjson.specs.private.Stack.{at, frames, frames_over, gather, maps_of, open_of};
 ghost use Rattle.tinyjson.specs.private.Stack.{other_maps, own_members};
 ghost use Rattle.tinyjson.specs.private.Stack.{AwaitsKey, BeginsMember, ClosesArray, ClosesObject};
 ghost use Rattle.tinyjson.specs.private.Stack.{Innermost, IsSound, Lies, TakesValue};
-ghost use Rattle.tinyjson.specs.Tree.{no_members};
+ghost use Rattle.tinyjson_grammar.specs.Tree.{no_members};
 ghost use Rattle.tinyjson.specs.View.{view, text, members_view};
 ghost use Rattle.tinyjson.specs.declared.parser.stack.Frame.TheVariants as container;
 

@@ -1,11 +1,11 @@
 //! Strings (RFC 8259, section 7).
 ghost use Rattle.std.specs.Prelude.{◌≡◌, ℕ, ◌<◌, ◌≤◌, List, [], ◌∷◌, ◌++◌, true, false};
 ghost use Rattle.std.specs.Prelude.{MatchResult, OnOk, Option, cond};
-ghost use Rattle.tinyjson.specs.Characters.{paired, decode};
-ghost use Rattle.tinyjson.specs.private.Machine.{Frame, plain, backslash, hex, quoted, next};
-ghost use Rattle.tinyjson.specs.private.Machine.{complete};
+ghost use Rattle.tinyjson_grammar.specs.Characters.{paired, decode};
+ghost use Rattle.tinyjson_grammar.specs.Machine.{Frame, plain, backslash, hex, quoted, next};
+ghost use Rattle.tinyjson_grammar.specs.Machine.{complete};
 ghost use Rattle.tinyjson.specs.private.Steps.{Reads, Fails, within};
-ghost use Rattle.tinyjson.specs.Tree.{string};
+ghost use Rattle.tinyjson_grammar.specs.Tree.{string};
 ghost use Rattle.tinyjson.specs.View.{text};
 
 use super::error::{JsonParseError, JsonParseErrorKind};

@@ -1,7 +1,7 @@
 //! The characters of a text in memory, read where they lie.
 ghost use Rattle.std.specs.Prelude.{◌≡◌, ◌-◌, length, slice_get};
 ghost use Rattle.std.specs.Str.{IsUtf8, IsCharBoundary, chars};
-ghost use Rattle.tinyjson.specs.Characters.{is_white};
+ghost use Rattle.tinyjson_grammar.specs.Characters.{is_white};
 ghost use Rattle.tinyjson.specs.Position.{advance, position_at, origin};
 ghost use Rattle.tinyjson.specs.private.Slice.{before, behind, run_end, NextChar};
 ghost use Rattle.tinyjson.specs.private.Slice.Laws.{line_bound, column_bound, shown_once};

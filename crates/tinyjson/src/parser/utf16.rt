@@ -1,7 +1,7 @@
 //! Characters from UTF-16 units.
 ghost use Rattle.std.specs.Prelude.{◌≡◌, ◌++◌, ◌∷◌, [], IfOk, true};
 ghost use Rattle.tinyjson.specs.View.{text};
-ghost use Rattle.tinyjson.specs.Characters.{is_high, is_low, pair_of, paired, decode};
+ghost use Rattle.tinyjson_grammar.specs.Characters.{is_high, is_low, pair_of, paired, decode};
 
 use std::alloc::AllocError;
 

@@ -3,7 +3,7 @@ ghost use Rattle.std.specs.Prelude.{◌≡◌};
 ghost use Rattle.tinyjson.specs.Access.{number_part, boolean_part, string_part, null_part};
 ghost use Rattle.tinyjson.specs.Access.{array_part, object_part};
 ghost use Rattle.tinyjson.specs.Convert.{unexpected_value, GivesPart};
-ghost use Rattle.tinyjson.specs.declared.value.JsonKind.TheVariants as kind;
+ghost use Rattle.tinyjson_grammar.specs.declared.kind.JsonKind.TheVariants as kind;
 ghost use Rattle.tinyjson.specs.declared.value.JsonValue as made;
 
 use super::{JsonKind, JsonValue};

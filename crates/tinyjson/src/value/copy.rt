@@ -5,7 +5,7 @@ ghost use Rattle.std.specs.Slice.Iter.{iter_rest};
 ghost use Rattle.tinyjson.specs.private.Copy.{put_all, filled, filled_all, step_view};
 ghost use Rattle.tinyjson.specs.private.Copy.{weight, items_weight, entries_weight};
 ghost use Rattle.tinyjson.specs.private.Copy.{partial_weight, stack_weight, step_weight};
-ghost use Rattle.tinyjson.specs.Tree.{array, object, items_of, put};
+ghost use Rattle.tinyjson_grammar.specs.Tree.{array, object, items_of, put};
 ghost use Rattle.tinyjson.specs.View.{view, text, members_view};
 
 use super::JsonValue;

@@ -2,7 +2,7 @@
 ghost use Rattle.std.specs.HashMap.{get_by_text};
 ghost use Rattle.std.specs.Prelude.{◌≡◌, OnOk, OnErr, option_map};
 ghost use Rattle.std.specs.Str.{chars};
-ghost use Rattle.tinyjson.specs.Tree.{put, find, remove};
+ghost use Rattle.tinyjson_grammar.specs.Tree.{put, find, remove};
 ghost use Rattle.tinyjson.specs.View.{view, text, members_view};
 
 use super::JsonValue;

@@ -12,12 +12,12 @@ use Rattle.std.specs.Vec.{with_item}
 use Rattle.tinyjson.proofs.Callers as callers
 use Rattle.tinyjson.proofs.Callers.{Entry, begins}
 use Rattle.tinyjson.specs.Access.{JsonMap, number_part, boolean_part, string_part, null_part, array_part, object_part}
-use Rattle.tinyjson.specs.Grammar.{IsAccepted}
+use Rattle.tinyjson_grammar.specs.Grammar.{IsAccepted}
 use Rattle.tinyjson.specs.Index.{item_at, member_at, tree_at, tree_at_key, with_last, with_tree_at, with_tree_at_key}
 use Rattle.tinyjson.specs.Number.{JsonNumber}
-use Rattle.tinyjson.specs.Soundness.{IsSorted}
-use Rattle.tinyjson.specs.Text.{compact}
-use Rattle.tinyjson.specs.Tree.{Tree, boolean, array, Members, put, find, remove}
+use Rattle.tinyjson_grammar.specs.Soundness.{IsSorted}
+use Rattle.tinyjson_grammar.specs.Text.{compact}
+use Rattle.tinyjson_grammar.specs.Tree.{Tree, boolean, array, Members, put, find, remove}
 use Rattle.tinyjson.specs.View.{view, text, items_view, members_view}
 use Rattle.tinyjson.specs.Written.{Written, WrittenPart}
 use Rattle.tinyjson.specs.declared.value.JsonValue.{JsonValue}

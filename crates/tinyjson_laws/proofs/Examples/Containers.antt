@@ -2,13 +2,13 @@
 use Rattle.std.proofs.Common.{◌≡◌, true, [], ◌∷◌, None, refl}
 use Rattle.std.specs.Prelude.{codes}
 use lib.Utf8.{encode}
-use Rattle.tinyjson.specs.Grammar.{IsText}
-use Rattle.tinyjson.specs.private.Machine.{run, step, end}
-use Rattle.tinyjson.specs.Refusal.{IsRefusal}
-use Rattle.tinyjson.specs.Syntax.{Syntax, pair, last_pair, boolean, null, string, plain, pairs_members}
-use Rattle.tinyjson.specs.Tree as tree
-use Rattle.tinyjson.specs.declared.value.JsonKind.TheVariants as kind
-use Rattle.tinyjson.specs.declared.parser.error.JsonParseErrorKind.TheVariants as error
+use Rattle.tinyjson_grammar.specs.Grammar.{IsText}
+use Rattle.tinyjson_grammar.specs.Machine.{run, step, end}
+use Rattle.tinyjson_grammar.specs.Refusal.{IsRefusal}
+use Rattle.tinyjson_grammar.specs.Syntax.{Syntax, pair, last_pair, boolean, null, string, plain, pairs_members}
+use Rattle.tinyjson_grammar.specs.Tree as tree
+use Rattle.tinyjson_grammar.specs.declared.kind.JsonKind.TheVariants as kind
+use Rattle.tinyjson_grammar.specs.declared.error.JsonParseErrorKind.TheVariants as error
 use Rattle.tinyjson_number.specs.Numeral.{power_fits, value}
 use Rattle.tinyjson_laws.proofs.Examples.Reading.{text_of, refusal_of, whole, array, object, members}
 

@@ -2,12 +2,12 @@
 use Rattle.std.proofs.Common.{◌≡◌, [], ◌∷◌, None, Some, refl, arith}
 use Rattle.std.specs.Prelude.{codes}
 use lib.Utf8.{encode}
-use Rattle.tinyjson.specs.Grammar.{IsText, IsLoose}
-use Rattle.tinyjson.specs.private.Machine.{run, step, end}
-use Rattle.tinyjson.specs.Refusal.{IsRefusal}
-use Rattle.tinyjson.specs.Syntax.{Syntax, null, empty_array, array, object, last_element, element, last_pair, text, depth, IsWithin}
-use Rattle.tinyjson.specs.declared.value.JsonKind.TheVariants as kind
-use Rattle.tinyjson.specs.declared.parser.error.JsonParseErrorKind.TheVariants as error
+use Rattle.tinyjson_grammar.specs.Grammar.{IsText, IsLoose}
+use Rattle.tinyjson_grammar.specs.Machine.{run, step, end}
+use Rattle.tinyjson_grammar.specs.Refusal.{IsRefusal}
+use Rattle.tinyjson_grammar.specs.Syntax.{Syntax, null, empty_array, array, object, last_element, element, last_pair, text, depth, IsWithin}
+use Rattle.tinyjson_grammar.specs.declared.kind.JsonKind.TheVariants as kind
+use Rattle.tinyjson_grammar.specs.declared.error.JsonParseErrorKind.TheVariants as error
 use Rattle.tinyjson_number.specs.Numeral.{power_fits, value}
 use Rattle.tinyjson_laws.proofs.Examples.Reading as trees
 use Rattle.tinyjson_laws.proofs.Examples.Reading.{text_of, refusal_of, whole}

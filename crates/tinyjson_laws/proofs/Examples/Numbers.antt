@@ -2,10 +2,10 @@
 use Rattle.std.proofs.Common.{◌≡◌, true, false, [], ◌∷◌, ◌++◌, replicate, None, pos, negsuc, refl}
 use Rattle.std.specs.Prelude.{codes}
 use Rattle.std.specs.Int.{w32, w64}
-use Rattle.tinyjson.specs.Grammar.{IsText}
-use Rattle.tinyjson.specs.private.Machine.{run, step, end}
-use Rattle.tinyjson.specs.Refusal.{IsRefusal}
-use Rattle.tinyjson.specs.declared.parser.error.JsonParseErrorKind.TheVariants as error
+use Rattle.tinyjson_grammar.specs.Grammar.{IsText}
+use Rattle.tinyjson_grammar.specs.Machine.{run, step, end}
+use Rattle.tinyjson_grammar.specs.Refusal.{IsRefusal}
+use Rattle.tinyjson_grammar.specs.declared.error.JsonParseErrorKind.TheVariants as error
 use Rattle.tinyjson_number.specs.Numeral.{power_fits, value}
 use Rattle.tinyjson_laws.proofs.Examples.Reading.{text_of, refusal_of, decimal, whole, zero, array}
 

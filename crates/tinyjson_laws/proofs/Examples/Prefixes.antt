@@ -1,12 +1,12 @@
 -- Shortest prefixes, and errors at them.
 use Rattle.std.proofs.Common.{zero, suc, take, ◌<◌, ◌≡◌, ℕ, false, List, [], ◌∷◌, None, refl, arith}
 use Rattle.std.specs.Prelude.{codes}
-use Rattle.tinyjson.specs.Characters.{is_white}
-use Rattle.tinyjson.specs.Prefix.{IsViable, IsFaultless, IsLooselyViable}
-use Rattle.tinyjson.specs.Grammar.{IsAccepted}
-use Rattle.tinyjson.specs.private.Machine.{run, step, end}
-use Rattle.tinyjson.specs.Refusal.{begins_value, IsRefusal}
-use Rattle.tinyjson.specs.declared.parser.error.JsonParseErrorKind.TheVariants.{InvalidCharacter}
+use Rattle.tinyjson_grammar.specs.Characters.{is_white}
+use Rattle.tinyjson_grammar.specs.Prefix.{IsViable, IsFaultless, IsLooselyViable}
+use Rattle.tinyjson_grammar.specs.Grammar.{IsAccepted}
+use Rattle.tinyjson_grammar.specs.Machine.{run, step, end}
+use Rattle.tinyjson_grammar.specs.Refusal.{begins_value, IsRefusal}
+use Rattle.tinyjson_grammar.specs.declared.error.JsonParseErrorKind.TheVariants.{InvalidCharacter}
 use Rattle.tinyjson_number.specs.Numeral.{power_fits, value}
 use Rattle.tinyjson_laws.specs.Prefixes.{IsShortest}
 use Rattle.tinyjson_laws.proofs.Examples.Reading.{refusal_of}

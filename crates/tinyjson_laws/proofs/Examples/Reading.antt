@@ -1,14 +1,14 @@
 -- How an example is computed: the machine is run, and the theorem turns its outcome into the grammar's words.
 use Rattle.std.proofs.Common.{◌≡◌, ℕ, ℤ, Bool, true, false, List, [], ◌∷◌, ◌++◌, Option, pos}
 use Rattle.std.specs.Str.{all_scalars}
-use Rattle.tinyjson.specs.Grammar.{IsText}
-use Rattle.tinyjson.specs.private.Machine.{strictly, awaited, accepted, refused, run}
-use Rattle.tinyjson.specs.Refusal.{IsRefusal}
-use Rattle.tinyjson.specs.Tree as tree
-use Rattle.tinyjson.specs.Tree.{Tree, Members, no_members, member, items_of}
-use Rattle.tinyjson.specs.declared.parser.error.JsonParseErrorKind.{JsonParseErrorKind}
+use Rattle.tinyjson_grammar.specs.Grammar.{IsText}
+use Rattle.tinyjson_grammar.specs.Machine.{strictly, awaited, accepted, refused, run}
+use Rattle.tinyjson_grammar.specs.Refusal.{IsRefusal}
+use Rattle.tinyjson_grammar.specs.Tree as tree
+use Rattle.tinyjson_grammar.specs.Tree.{Tree, Members, no_members, member, items_of}
+use Rattle.tinyjson_grammar.specs.declared.error.JsonParseErrorKind.{JsonParseErrorKind}
 use Rattle.tinyjson.proofs.Callers.{all_are_scalars}
-use Rattle.tinyjson.proofs.Grammar.Theorem.{accepts, refuses}
+use Rattle.tinyjson_grammar.proofs.Theorem.{accepts, refuses}
 
 -- the characters are a text of the tree
 pub text_of : {limit : Option ℕ} {xs : List ℕ} {t : Tree} →

@@ -1,12 +1,12 @@
 -- Strings: escapes, surrogate pairs, and characters that stand for themselves (RFC 8259, section 7).
 use Rattle.std.proofs.Common.{◌≡◌, true, false, [], ◌∷◌, None, refl}
 use Rattle.std.specs.Prelude.{codes}
-use Rattle.tinyjson.specs.Characters.{is_hex, short_escape, pair_of, is_high, is_low, decode, paired}
-use Rattle.tinyjson.specs.Grammar.{IsText}
-use Rattle.tinyjson.specs.private.Machine.{run, step, end}
-use Rattle.tinyjson.specs.Refusal.{IsRefusal}
-use Rattle.tinyjson.specs.Tree.{string}
-use Rattle.tinyjson.specs.declared.parser.error.JsonParseErrorKind.TheVariants as error
+use Rattle.tinyjson_grammar.specs.Characters.{is_hex, short_escape, pair_of, is_high, is_low, decode, paired}
+use Rattle.tinyjson_grammar.specs.Grammar.{IsText}
+use Rattle.tinyjson_grammar.specs.Machine.{run, step, end}
+use Rattle.tinyjson_grammar.specs.Refusal.{IsRefusal}
+use Rattle.tinyjson_grammar.specs.Tree.{string}
+use Rattle.tinyjson_grammar.specs.declared.error.JsonParseErrorKind.TheVariants as error
 use Rattle.tinyjson_number.specs.Numeral.{power_fits, value}
 use Rattle.tinyjson_laws.proofs.Examples.Reading.{text_of, refusal_of}
 

@@ -1,12 +1,12 @@
 -- White space: space, tab, line feed and carriage return (RFC 8259, section 2), and no other character.
 use Rattle.std.proofs.Common.{◌≡◌, true, false, [], ◌∷◌, ◌++◌, None, refl}
 use Rattle.std.specs.Prelude.{codes}
-use Rattle.tinyjson.specs.Characters.{is_white}
-use Rattle.tinyjson.specs.Grammar.{IsText}
-use Rattle.tinyjson.specs.private.Machine.{run, step, end}
-use Rattle.tinyjson.specs.Refusal.{IsRefusal}
-use Rattle.tinyjson.specs.Tree.{null}
-use Rattle.tinyjson.specs.declared.parser.error.JsonParseErrorKind.TheVariants as error
+use Rattle.tinyjson_grammar.specs.Characters.{is_white}
+use Rattle.tinyjson_grammar.specs.Grammar.{IsText}
+use Rattle.tinyjson_grammar.specs.Machine.{run, step, end}
+use Rattle.tinyjson_grammar.specs.Refusal.{IsRefusal}
+use Rattle.tinyjson_grammar.specs.Tree.{null}
+use Rattle.tinyjson_grammar.specs.declared.error.JsonParseErrorKind.TheVariants as error
 use Rattle.tinyjson_number.specs.Numeral.{power_fits, value}
 use Rattle.tinyjson_laws.specs.WhiteSpace.{without_white}
 use Rattle.tinyjson_laws.proofs.Examples.Reading.{text_of, refusal_of, whole, zero, array}

@@ -1,9 +1,9 @@
 -- What is written of trees: quoted strings, decimals, indents.
 use Rattle.std.proofs.Common.{◌≡◌, ℕ, ℤ, true, false, List, [], ◌∷◌, ◌++◌, replicate, pos, negsuc, refl}
 use Rattle.std.specs.Prelude.{codes}
-use Rattle.tinyjson.specs.Text.{compact, indented, quoted}
-use Rattle.tinyjson.specs.Tree as tree
-use Rattle.tinyjson.specs.Tree.{Tree}
+use Rattle.tinyjson_grammar.specs.Text.{compact, indented, quoted}
+use Rattle.tinyjson_grammar.specs.Tree as tree
+use Rattle.tinyjson_grammar.specs.Tree.{Tree}
 use Rattle.tinyjson_number.specs.Text.{natural_text, decimal_text}
 use Rattle.tinyjson_laws.proofs.Examples.Reading.{decimal, whole, zero, array, object}
 

@@ -1,7 +1,7 @@
 use Rattle.std.proofs.Common.{sym, ◌∙◌, ap, subst}
 use Rattle.std.specs.Str.{IsUtf8, chars}
 use Rattle.tinyjson.specs.Indent.{indent_of}
-use Rattle.tinyjson.specs.Text.{text}
+use Rattle.tinyjson_grammar.specs.Text.{text}
 use Rattle.tinyjson.specs.View.{view}
 use Rattle.tinyjson.proofs.Values.Trees.{view_IsTree}
 use Rattle.tinyjson.proofs.Writing.Scalars.{text_of_scalars, encoded_utf8, encoded_chars}

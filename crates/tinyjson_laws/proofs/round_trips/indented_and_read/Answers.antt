@@ -1,6 +1,6 @@
 use Rattle.std.proofs.Common.{◌≡◌, Some, sym, ap, ◌∙◌, subst, rules}
 use Rattle.std.specs.Str.{IsUtf8, chars}
-use Rattle.tinyjson.specs.Text.{indented}
+use Rattle.tinyjson_grammar.specs.Text.{indented}
 use Rattle.tinyjson.specs.View.{view}
 use Rattle.tinyjson.proofs.Callers.{text_of_scalars, encoded_utf8, encoded_chars, view_IsTree}
 use Rattle.tinyjson_laws.proofs.CallLaws.{reads_back}

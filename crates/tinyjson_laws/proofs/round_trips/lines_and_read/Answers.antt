@@ -1,6 +1,6 @@
 use Rattle.std.proofs.Common.{refl, subst, sym}
 use Rattle.std.specs.Prelude.{codes}
-use Rattle.tinyjson.specs.Syntax.{AreWhite}
+use Rattle.tinyjson_grammar.specs.Syntax.{AreWhite}
 use Rattle.tinyjson.proofs.Callers.{chars_literal}
 use Rattle.tinyjson_laws.proofs.round_trips.lines_and_read.Goals as goal
 

@@ -2,7 +2,7 @@ use Rattle.std.proofs.Common.{rules, ◌≡◌, sym, subst, ◌∙◌, None, Ok,
 use Rattle.std.specs.Prelude.{IsTrue}
 use Rattle.std.specs.Str.{chars}
 use Rattle.tinyjson.specs.Equality.{tree_eq_decides}
-use Rattle.tinyjson.specs.Text.{compact}
+use Rattle.tinyjson_grammar.specs.Text.{compact}
 use Rattle.tinyjson.specs.View.{view}
 use Rattle.tinyjson_laws.proofs.CallLaws as laws
 use Rattle.tinyjson_laws.proofs.round_trips.reads_back.Goals as goal

@@ -1,6 +1,6 @@
 use Rattle.std.proofs.Common.{◌+◌, ◌-◌, arith}
 use Rattle.std.specs.Str.{chars}
-use Rattle.tinyjson.specs.Text.{repeated}
+use Rattle.tinyjson_grammar.specs.Text.{repeated}
 use Rattle.tinyjson.proofs.Writing.Sending.{goes, fails, written_none}
 use Rattle.tinyjson.proofs.Writing.Bytes.{enc, enc_cons}
 use Rattle.tinyjson.proofs.Writing.Text.{line_here}

@@ -1,6 +1,6 @@
 use Rattle.std.proofs.Common.{◌++◌, ◌∷◌, [], length, sym, ◌∙◌, ap, rules, arith}
 use Rattle.tinyjson.specs.private.Room.{waiting}
-use Rattle.tinyjson.specs.Text.{separator}
+use Rattle.tinyjson_grammar.specs.Text.{separator}
 use Rattle.tinyjson.proofs.Writing.Quotes.{all_plain, key_joined}
 use Rattle.tinyjson.proofs.generator.quick.quick_key.Goals as goal
 

@@ -1,5 +1,5 @@
 use Rattle.std.proofs.Common.{None}
-use Rattle.tinyjson.specs.Text.{text}
+use Rattle.tinyjson_grammar.specs.Text.{text}
 use Rattle.tinyjson.specs.View.{view}
 use Rattle.tinyjson.specs.private.Room.{waiting}
 use Rattle.tinyjson.proofs.Writing.Runs.{taken_back, member_waits}

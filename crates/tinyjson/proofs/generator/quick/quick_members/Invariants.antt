@@ -2,7 +2,7 @@ use Rattle.std.proofs.Common.{◌≡◌, ℕ, None, ◌≤◌, take, drop, rever
 use Rattle.std.specs.Str.{encode_utf8_all}
 use Rattle.tinyjson.specs.private.Room.{waiting, Waits}
 use Rattle.tinyjson.specs.private.Sorted.{sorted_view}
-use Rattle.tinyjson.specs.Text.{members_text}
+use Rattle.tinyjson_grammar.specs.Text.{members_text}
 use Rattle.tinyjson.proofs.generator.quick.quick_members.Given as goal
 
 abbrev pub invariant-loop-key : goal.invariant-loop-key

@@ -1,5 +1,5 @@
 use Rattle.std.proofs.Common.{◌++◌, ◌∷◌, []}
-use Rattle.tinyjson.specs.Text.{escapes}
+use Rattle.tinyjson_grammar.specs.Text.{escapes}
 use Rattle.tinyjson.proofs.Writing.Sending.{goes, ends, fails, written_none}
 use Rattle.tinyjson.proofs.Writing.Quotes.{quoted_bytes}
 use Rattle.tinyjson.proofs.generator.quote.quote.Goals as goal

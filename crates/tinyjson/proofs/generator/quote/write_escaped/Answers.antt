@@ -1,6 +1,6 @@
 use Rattle.std.proofs.Common.{◌≡◌, [], drop, arith}
 use Rattle.std.proofs.lemmas.List.{drop_all}
-use Rattle.tinyjson.specs.Text.{escapes}
+use Rattle.tinyjson_grammar.specs.Text.{escapes}
 use Rattle.tinyjson.proofs.Writing.Sending.{goes, ends, fails, written_none}
 use Rattle.tinyjson.proofs.Writing.Quotes.{at_stop, stops_there, escapes_there}
 use Rattle.tinyjson.proofs.generator.quote.write_escaped.Goals as goal

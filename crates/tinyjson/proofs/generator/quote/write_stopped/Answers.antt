@@ -1,5 +1,5 @@
 use Rattle.std.proofs.Common.{drop}
-use Rattle.tinyjson.specs.Text.{escapes}
+use Rattle.tinyjson_grammar.specs.Text.{escapes}
 use Rattle.tinyjson.proofs.Writing.Sending.{goes, fails}
 use Rattle.tinyjson.proofs.Writing.Quotes.{at_stop, stops_there, escapes_there}
 use Rattle.tinyjson.proofs.generator.quote.write_stopped.Goals as goal

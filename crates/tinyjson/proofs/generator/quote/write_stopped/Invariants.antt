@@ -1,7 +1,7 @@
 use Rattle.std.proofs.Common.{◌≡◌, length}
 use Rattle.std.specs.List.{prefix_len}
 use Rattle.tinyjson.specs.private.Scan.{is_plain}
-use Rattle.tinyjson.specs.Text.{escapes}
+use Rattle.tinyjson_grammar.specs.Text.{escapes}
 use Rattle.tinyjson.specs.private.Room.{waiting, Sent}
 use Rattle.tinyjson.proofs.generator.quote.write_stopped.Given as goal
 

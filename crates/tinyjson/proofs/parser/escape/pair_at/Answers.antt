@@ -1,5 +1,5 @@
 use Rattle.std.proofs.Common.{rules, ◌≡◌, true, refl}
-use Rattle.tinyjson.specs.Characters.{is_low}
+use Rattle.tinyjson_grammar.specs.Characters.{is_low}
 use Rattle.tinyjson.proofs.Reading.Escapes.{pair_escape}
 use Rattle.tinyjson.proofs.parser.escape.pair_at.Goals as goal
 

@@ -1,6 +1,6 @@
 use Rattle.std.proofs.Common.{sym, ap, ◌∙◌, arith}
 use lib.Count.{count_trailing_zeros}
-use Rattle.tinyjson.specs.Characters.{is_white}
+use Rattle.tinyjson_grammar.specs.Characters.{is_white}
 use Rattle.tinyjson.specs.private.Scan.{is_no_white}
 use Rattle.tinyjson.proofs.Scans.{opposite, run_through, run_stops}
 use Rattle.tinyjson.proofs.parser.scan.white_end.Goals as goal

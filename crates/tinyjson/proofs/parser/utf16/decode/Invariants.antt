@@ -1,7 +1,7 @@
 use Rattle.std.proofs.Common.{◌≡◌, ◌++◌, IfSome, true, drop}
 use Rattle.std.specs.Option.{option_to_list}
 use Rattle.tinyjson.specs.View.{text}
-use Rattle.tinyjson.specs.Characters.{paired, decode, is_high}
+use Rattle.tinyjson_grammar.specs.Characters.{paired, decode, is_high}
 use Rattle.tinyjson.proofs.parser.utf16.decode.Given as goal
 
 abbrev pub invariant-loop-unit : goal.invariant-loop-unit

@@ -2,7 +2,7 @@ use Rattle.std.proofs.Common.{◌≡◌, ◌∙◌, sym, ap, ap₂, arith}
 use Rattle.tinyjson.proofs.Values.Copies.{filled_all_last, put_all_none, stack_weight_last}
 use Rattle.tinyjson.proofs.value.copy.copy.Goals as goal
 use Rattle.tinyjson.specs.private.Copy.{put_all, filled_all, step_view, stack_weight, step_weight}
-use Rattle.tinyjson.specs.Tree.{object}
+use Rattle.tinyjson_grammar.specs.Tree.{object}
 use Rattle.tinyjson.specs.View.{members_view}
 
 pub loop-step-preserved-in_ok-step-in-Object : goal.loop-step-preserved-in_ok-step-in-Object

@@ -2,7 +2,7 @@ use Rattle.std.proofs.Common.{◌≡◌, ◌+◌, None, true, false, refl, sym, 
 use Rattle.std.proofs.lemmas.Result.{MatchResult-from_err}
 use Rattle.tinyjson.specs.Indent.{indent_of}
 use Rattle.tinyjson.specs.View.{items_view}
-use Rattle.tinyjson.specs.Text.{has_no_items}
+use Rattle.tinyjson_grammar.specs.Text.{has_no_items}
 use Rattle.tinyjson.specs.declared.generator.pending.Frame.TheVariants.{Items}
 use Rattle.tinyjson.proofs.Writing.Sending.{stops, written_none}
 use Rattle.tinyjson.proofs.Writing.Text.{no_items_is}

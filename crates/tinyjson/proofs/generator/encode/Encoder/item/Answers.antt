@@ -1,6 +1,6 @@
 use Rattle.std.proofs.lemmas.Result.{MatchResult-from_err}
 use Rattle.tinyjson.specs.Indent.{indent_of}
-use Rattle.tinyjson.specs.Text.{text}
+use Rattle.tinyjson_grammar.specs.Text.{text}
 use Rattle.tinyjson.specs.View.{view}
 use Rattle.tinyjson.proofs.Writing.Sending.{begins, goes, stops}
 use Rattle.tinyjson.proofs.Writing.Bytes.{enc}

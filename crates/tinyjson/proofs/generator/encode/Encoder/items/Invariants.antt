@@ -2,7 +2,7 @@ use Rattle.std.proofs.Common.{◌≡◌, ◌+◌, ◌++◌, ◌∷◌, [], lengt
 use Rattle.std.specs.Str.{encode_utf8_all}
 use Rattle.tinyjson.specs.Indent.{indent_of}
 use Rattle.tinyjson.specs.private.Pending.{frames, owed}
-use Rattle.tinyjson.specs.Text.{items_text, newline}
+use Rattle.tinyjson_grammar.specs.Text.{items_text, newline}
 use Rattle.tinyjson.specs.View.{items_view}
 use Rattle.tinyjson.specs.private.Room.{waiting, Sent}
 use Rattle.tinyjson.proofs.generator.encode.Encoder.items.Given as goal

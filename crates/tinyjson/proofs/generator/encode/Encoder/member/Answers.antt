@@ -2,7 +2,7 @@ use Rattle.std.proofs.Common.{◌∷◌, ◌++◌, ap}
 use Rattle.std.specs.Str.{chars}
 use Rattle.std.proofs.lemmas.Result.{MatchResult-from_err}
 use Rattle.tinyjson.specs.Indent.{indent_of}
-use Rattle.tinyjson.specs.Text.{text, quoted, before, after_colon}
+use Rattle.tinyjson_grammar.specs.Text.{text, quoted, before, after_colon}
 use Rattle.tinyjson.specs.View.{view}
 use Rattle.tinyjson.proofs.Writing.Sending.{goes, waits_part, stops, written_none}
 use Rattle.tinyjson.proofs.Writing.Bytes.{enc, three}

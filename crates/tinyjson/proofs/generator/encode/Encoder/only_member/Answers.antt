@@ -2,7 +2,7 @@ use Rattle.std.proofs.Common.{◌≡◌, ◌∷◌, ◌-◌, false, length, refl
 use Rattle.std.proofs.lemmas.Result.{MatchResult-from_err}
 use Rattle.tinyjson.specs.Indent.{indent_of}
 use Rattle.tinyjson.specs.private.Pending.{frames, owed}
-use Rattle.tinyjson.specs.Text.{newline}
+use Rattle.tinyjson_grammar.specs.Text.{newline}
 use Rattle.tinyjson.specs.declared.generator.pending.Frame.TheVariants.{Member, Members}
 use Rattle.tinyjson.proofs.Writing.Sending.{stops, goes, written_none}
 use Rattle.tinyjson.proofs.Writing.Bytes.{enc}

@@ -1,4 +1,4 @@
-use Rattle.tinyjson.specs.Text.{newline}
+use Rattle.tinyjson_grammar.specs.Text.{newline}
 use Rattle.tinyjson.specs.Indent.{indent_of}
 use Rattle.tinyjson.proofs.Writing.Sending.{goes, ends, fails, written_none}
 use Rattle.tinyjson.proofs.Writing.Bytes.{enc}

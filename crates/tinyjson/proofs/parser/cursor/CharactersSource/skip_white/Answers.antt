@@ -1,5 +1,5 @@
 use Rattle.std.proofs.Common.{rules, ◌≡◌, ◌∷◌, [], true}
-use Rattle.tinyjson.specs.Characters.{is_white}
+use Rattle.tinyjson_grammar.specs.Characters.{is_white}
 use Rattle.tinyjson.proofs.Reading.Cursors.{Goes_append}
 use Rattle.tinyjson.proofs.Reading.Sources.{Takes_append}
 use Rattle.tinyjson.proofs.parser.cursor.CharactersSource.skip_white.Goals as goal

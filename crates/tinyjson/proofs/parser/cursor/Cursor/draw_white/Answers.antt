@@ -1,5 +1,5 @@
 use Rattle.std.proofs.Common.{rules, ◌≡◌, ◌∙◌, ◌∷◌, ◌++◌, [], true, sym, subst}
-use Rattle.tinyjson.specs.Characters.{is_white}
+use Rattle.tinyjson_grammar.specs.Characters.{is_white}
 use Rattle.tinyjson.proofs.Reading.Cursors.{Goes_nil, Goes_filled, Goes_drawn, Ready_filled}
 use Rattle.tinyjson.proofs.Reading.Sources.{AllByRecursion_push}
 use Rattle.tinyjson.proofs.parser.cursor.Cursor.draw_white.Goals as goal

@@ -1,5 +1,5 @@
 use Rattle.std.proofs.Common.{◌≡◌, ◌<◌, ◌≤◌, false, None}
-use Rattle.tinyjson.specs.Characters.{is_white}
+use Rattle.tinyjson_grammar.specs.Characters.{is_white}
 use Rattle.tinyjson.specs.private.Cursor.{Ready, Skips, left}
 use Rattle.tinyjson.proofs.parser.cursor.Cursor.draw_white.Given as goal
 

@@ -1,7 +1,7 @@
 use Rattle.std.proofs.Common.{rules, sym, subst, ◌∙◌, false, IfSome, ◌≡◌}
-use Rattle.tinyjson.specs.Characters.{is_white}
+use Rattle.tinyjson_grammar.specs.Characters.{is_white}
 use Rattle.tinyjson.specs.View.{text}
-use Rattle.tinyjson.specs.declared.parser.error.JsonParseErrorKind.TheVariants.{UnexpectedEof, ExpectedColon}
+use Rattle.tinyjson_grammar.specs.declared.error.JsonParseErrorKind.TheVariants.{UnexpectedEof, ExpectedColon}
 use Rattle.tinyjson.specs.private.Stack.{BeginsMember}
 use Rattle.tinyjson.proofs.Reading.Steps.{end_colon, Leads_whites, Leads_one, Leads_none, Halts_here, Refuses_as, Refuses_memory, white_colon}
 use Rattle.tinyjson.proofs.Reading.Stack.{key_colon, key_other, member_begins}

@@ -1,6 +1,6 @@
 use Rattle.std.proofs.Common.{refl, sym, subst, ◌∙◌, false, IfSome, ◌≡◌}
-use Rattle.tinyjson.specs.Characters.{is_white}
-use Rattle.tinyjson.specs.declared.parser.error.JsonParseErrorKind.TheVariants.{ExpectedEof}
+use Rattle.tinyjson_grammar.specs.Characters.{is_white}
+use Rattle.tinyjson_grammar.specs.declared.error.JsonParseErrorKind.TheVariants.{ExpectedEof}
 use Rattle.tinyjson.proofs.Reading.Steps.{Leads_whites, Leads_one, Leads_none, Refuses_as, white_finished, no_end}
 use Rattle.tinyjson.proofs.parser.reader.Reader.end.Goals as goal
 

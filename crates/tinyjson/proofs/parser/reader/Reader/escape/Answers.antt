@@ -1,5 +1,5 @@
 use Rattle.std.proofs.Common.{◌∙◌, sym}
-use Rattle.tinyjson.specs.declared.parser.error.JsonParseErrorKind.TheVariants.{UnexpectedEof, InvalidEscape}
+use Rattle.tinyjson_grammar.specs.declared.error.JsonParseErrorKind.TheVariants.{UnexpectedEof, InvalidEscape}
 use Rattle.tinyjson.proofs.Reading.Steps.{end_quoted, Leads_nil, Leads_one, Leads_none, Refuses_as, Reads_after}
 use Rattle.tinyjson.proofs.Reading.String.{Reads_add, short_read, u_read, escape_other}
 use Rattle.tinyjson.proofs.parser.reader.Reader.escape.Goals as goal

@@ -1,6 +1,6 @@
 use Rattle.std.proofs.Common.{rules, arith, ◌≡◌, [], drop, ap}
 use Rattle.std.proofs.lemmas.List.{drop_all}
-use Rattle.tinyjson.specs.declared.parser.error.JsonParseErrorKind.TheVariants.{UnexpectedEof, UnexpectedInLiteral}
+use Rattle.tinyjson_grammar.specs.declared.error.JsonParseErrorKind.TheVariants.{UnexpectedEof, UnexpectedInLiteral}
 use Rattle.tinyjson.specs.private.Steps.{wanting}
 use Rattle.tinyjson.proofs.Reading.Steps.{Leads_to, Leads_nil, Leads_one, Leads_none, Refuses_as, taken_wanting, letter_next, letter_yes, letter_no, letter_end}
 use Rattle.tinyjson.proofs.parser.reader.Reader.letters.Goals as goal

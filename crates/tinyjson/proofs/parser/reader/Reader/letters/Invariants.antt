@@ -1,6 +1,6 @@
 use Rattle.std.proofs.Common.{Option, ℕ, ◌≤◌, List, drop}
-use Rattle.tinyjson.specs.Tree.{Tree}
-use Rattle.tinyjson.specs.private.Machine.{Frame}
+use Rattle.tinyjson_grammar.specs.Tree.{Tree}
+use Rattle.tinyjson_grammar.specs.Machine.{Frame}
 use Rattle.tinyjson.specs.private.Steps.{Leads, wanting}
 use Rattle.tinyjson.proofs.parser.reader.Reader.letters.Given as goal
 

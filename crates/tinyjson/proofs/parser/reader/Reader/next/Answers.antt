@@ -1,4 +1,4 @@
-use Rattle.tinyjson.specs.declared.parser.error.JsonParseErrorKind.TheVariants.{UnexpectedEof}
+use Rattle.tinyjson_grammar.specs.declared.error.JsonParseErrorKind.TheVariants.{UnexpectedEof}
 use Rattle.tinyjson.proofs.Reading.Steps.{end_awaited, Leads_whites, Leads_end, Refuses_as, Reads_after, white_awaited}
 use Rattle.tinyjson.proofs.parser.reader.Reader.next.Goals as goal
 

@@ -1,5 +1,5 @@
 use Rattle.std.proofs.Common.{true, ap, sym}
-use Rattle.tinyjson.specs.private.Machine.{complete}
+use Rattle.tinyjson_grammar.specs.Machine.{complete}
 use Rattle.tinyjson.specs.private.Stack.{frames}
 use Rattle.tinyjson.proofs.Reading.Containers.{view_Number}
 use Rattle.tinyjson.proofs.Reading.Steps.{Leads_to, Reads_after}

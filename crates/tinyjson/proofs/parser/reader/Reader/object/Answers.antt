@@ -1,8 +1,8 @@
 use Rattle.std.proofs.Common.{rules, Some, ◌≡◌, ◌∷◌, sym, ap, refl, IfSome, false, true}
-use Rattle.tinyjson.specs.private.Machine.{fits, at_key, next, awaited}
+use Rattle.tinyjson_grammar.specs.Machine.{fits, at_key, next, awaited}
 use Rattle.tinyjson.specs.private.Stack.{frames}
-use Rattle.tinyjson.specs.Tree.{no_members}
-use Rattle.tinyjson.specs.declared.parser.error.JsonParseErrorKind.TheVariants.{TooDeep}
+use Rattle.tinyjson_grammar.specs.Tree.{no_members}
+use Rattle.tinyjson_grammar.specs.declared.error.JsonParseErrorKind.TheVariants.{TooDeep}
 use Rattle.tinyjson.proofs.Reading.Sources.{Takes_shown}
 use Rattle.tinyjson.proofs.Reading.Steps.{Leads_to, Leads_trans, Leads_whites, Leads_one, Halts_here, Refuses_as, Refuses_memory, Reads_after, white_first, taken_complete}
 use Rattle.tinyjson.proofs.Reading.Containers.{object_begins, object_too_deep, object_closes_first, object_goes_on}

@@ -1,10 +1,10 @@
 use Rattle.std.proofs.Common.{rules, true, ◌++◌}
 use Rattle.std.proofs.lemmas.Result.{err_from_is_err_and}
-use Rattle.tinyjson.specs.Tree.{string}
+use Rattle.tinyjson_grammar.specs.Tree.{string}
 use Rattle.tinyjson.specs.View.{text}
-use Rattle.tinyjson.specs.Characters.{decode}
-use Rattle.tinyjson.specs.declared.parser.error.JsonParseErrorKind.TheVariants.{UnexpectedEof, ControlCharacter}
-use Rattle.tinyjson.specs.private.Machine.{complete}
+use Rattle.tinyjson_grammar.specs.Characters.{decode}
+use Rattle.tinyjson_grammar.specs.declared.error.JsonParseErrorKind.TheVariants.{UnexpectedEof, ControlCharacter}
+use Rattle.tinyjson_grammar.specs.Machine.{complete}
 use Rattle.tinyjson.proofs.Reading.Steps.{end_quoted, Leads_nil, Leads_one, Leads_none, Refuses_as, Reads_after, taken_complete}
 use Rattle.tinyjson.proofs.Reading.String.{Refuses_fails, Reads_add, quote_goes, quote_whole, quote_read, backslash_read, control_read, plain_read}
 use Rattle.tinyjson.proofs.parser.reader.Reader.piece.Goals as goal

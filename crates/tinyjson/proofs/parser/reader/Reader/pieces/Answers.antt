@@ -2,8 +2,8 @@ use Rattle.std.proofs.Common.{rules, arith, ◌≡◌, ◌∙◌, sym, [], ap, a
 use Rattle.std.proofs.lemmas.Result.{err_from_is_err_and}
 use Rattle.std.specs.Str.{chars}
 use Rattle.tinyjson.specs.View.{text}
-use Rattle.tinyjson.specs.Tree.{string}
-use Rattle.tinyjson.specs.private.Machine.{next, quoted, plain, complete}
+use Rattle.tinyjson_grammar.specs.Tree.{string}
+use Rattle.tinyjson_grammar.specs.Machine.{next, quoted, plain, complete}
 use Rattle.tinyjson.specs.private.Steps.{within}
 use Rattle.tinyjson.proofs.Reading.Steps.{Halts_here, Leads_nil, Leads_to, Leads_trans, Refuses_after, Refuses_memory}
 use Rattle.tinyjson.proofs.Reading.String.{quote_goes}

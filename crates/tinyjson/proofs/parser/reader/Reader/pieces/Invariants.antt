@@ -1,5 +1,5 @@
 use Rattle.std.proofs.Common.{Option, ℕ, ◌≤◌, List, [], false}
-use Rattle.tinyjson.specs.private.Machine.{Frame}
+use Rattle.tinyjson_grammar.specs.Machine.{Frame}
 use Rattle.tinyjson.specs.private.Steps.{Leads, within}
 use Rattle.tinyjson.proofs.parser.reader.Reader.pieces.Given as goal
 

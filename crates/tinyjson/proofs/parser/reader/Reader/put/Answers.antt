@@ -1,6 +1,6 @@
 use Rattle.std.proofs.Common.{rules, sym, ◌≡◌, true}
 use Rattle.tinyjson.specs.View.{view}
-use Rattle.tinyjson.specs.private.Machine.{complete}
+use Rattle.tinyjson_grammar.specs.Machine.{complete}
 use Rattle.tinyjson.specs.private.Stack.{TakesValue, open_of, at, frames}
 use Rattle.tinyjson.proofs.Reading.Steps.{Leads_nil, Leads_to, Halts_here, Refuses_memory}
 use Rattle.tinyjson.proofs.Reading.Stack.{value_taken}

@@ -1,8 +1,8 @@
 use Rattle.std.proofs.Common.{[], ap, sym}
 use Rattle.std.proofs.lemmas.Result.{err_from_is_err_and}
 use Rattle.tinyjson.specs.View.{view}
-use Rattle.tinyjson.specs.private.Machine.{next, awaited}
-use Rattle.tinyjson.specs.declared.parser.error.JsonParseErrorKind.TheVariants.{UnexpectedEof}
+use Rattle.tinyjson_grammar.specs.Machine.{next, awaited}
+use Rattle.tinyjson_grammar.specs.declared.error.JsonParseErrorKind.TheVariants.{UnexpectedEof}
 use Rattle.tinyjson.proofs.Reading.Memory.{grows_text}
 use Rattle.tinyjson.proofs.Reading.Steps.{end_awaited, Leads_end, Leads_to, Leads_trans, Leads_whites, Refuses_after, Refuses_as, Reads_after, white_awaited}
 use Rattle.tinyjson.proofs.parser.reader.Reader.text.Goals as goal

@@ -1,9 +1,9 @@
 use Rattle.std.proofs.Common.{rules, arith, refl, ◌≡◌, ◌<◌, ◌≤◌, ◌+◌, ◌++◌, ◌∷◌, [], length, true, false, ◌∙◌, sym, ap, length-append}
 use Rattle.std.specs.Char.{digit_value}
 use Rattle.std.proofs.lemmas.Bool.Decides.{nat_tests}
-use Rattle.tinyjson.specs.Characters.{is_hex}
-use Rattle.tinyjson.specs.declared.parser.error.JsonParseErrorKind.TheVariants.{UnexpectedEof, InvalidHexDigit}
-use Rattle.tinyjson.specs.private.Machine.{next, quoted, plain}
+use Rattle.tinyjson_grammar.specs.Characters.{is_hex}
+use Rattle.tinyjson_grammar.specs.declared.error.JsonParseErrorKind.TheVariants.{UnexpectedEof, InvalidHexDigit}
+use Rattle.tinyjson_grammar.specs.Machine.{next, quoted, plain}
 use Rattle.tinyjson.proofs.Reading.Steps.{Leads_nil, Leads_to, Leads_one, Leads_none, Halts_here, Refuses_as, Refuses_memory}
 use Rattle.tinyjson.proofs.Reading.String.{unit_grows, sixteen_small, sixteen_next, hex_next, hex_step, hex_other, hex_done, hex_end, hex_taken}
 use Rattle.tinyjson.proofs.parser.reader.Reader.unit.Goals as goal

@@ -1,6 +1,6 @@
 use Rattle.std.proofs.Common.{Option, ℕ, ◌≡◌, ◌≤◌, ◌<◌, ◌^◌, List, [], length}
-use Rattle.tinyjson.specs.Characters.{unit_of}
-use Rattle.tinyjson.specs.private.Machine.{Frame, next, quoted, hex}
+use Rattle.tinyjson_grammar.specs.Characters.{unit_of}
+use Rattle.tinyjson_grammar.specs.Machine.{Frame, next, quoted, hex}
 use Rattle.tinyjson.specs.private.Steps.{Leads}
 use Rattle.tinyjson.proofs.Reading.String.{hexing}
 use Rattle.tinyjson.proofs.parser.reader.Reader.unit.Given as goal

@@ -1,5 +1,5 @@
 use Rattle.std.proofs.Common.{rules, ◌≡◌, ◌-◌, ◌∙◌, ap, reverse, take, length}
-use Rattle.tinyjson.specs.Tree.{array}
+use Rattle.tinyjson_grammar.specs.Tree.{array}
 use Rattle.tinyjson.specs.View.{items_view}
 use Rattle.tinyjson.proofs.Reading.Stack.{popped, closes_array}
 use Rattle.tinyjson.proofs.Values.Equality.{view_Array}

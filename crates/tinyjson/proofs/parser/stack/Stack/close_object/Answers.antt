@@ -1,5 +1,5 @@
 use Rattle.std.proofs.Common.{rules, ◌≡◌, ◌-◌, ◌∙◌, ap, reverse, take, length}
-use Rattle.tinyjson.specs.Tree.{object}
+use Rattle.tinyjson_grammar.specs.Tree.{object}
 use Rattle.tinyjson.proofs.Reading.Stack.{popped, closes_object}
 use Rattle.tinyjson.proofs.Values.Equality.{view_Object}
 use Rattle.tinyjson.proofs.parser.stack.Stack.close_object.Goals as goal

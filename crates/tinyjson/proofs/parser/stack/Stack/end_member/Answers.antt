@@ -1,5 +1,5 @@
 use Rattle.std.proofs.Common.{rules, ◌≡◌, ◌∷◌, ◌++◌, [], ◌-◌, ◌∙◌, ap, sym, reverse, take, length}
-use Rattle.tinyjson.specs.private.Machine.{next, after}
+use Rattle.tinyjson_grammar.specs.Machine.{next, after}
 use Rattle.tinyjson.specs.private.Stack.{frames_over, maps_of}
 use Rattle.tinyjson.specs.declared.parser.stack.Frame.TheVariants as container
 use Rattle.tinyjson.proofs.Reading.Stack.{pushed, popped, member_whole}

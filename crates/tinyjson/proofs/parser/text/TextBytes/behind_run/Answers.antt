@@ -1,7 +1,7 @@
 use Rattle.std.proofs.Common.{◌≡◌, ◌+◌, ap, ◌∙◌, drop}
 use Rattle.std.proofs.lemmas.Str.{IsUtf8-had}
 use Rattle.std.specs.List.{prefix_len}
-use Rattle.tinyjson.specs.Characters.{is_white}
+use Rattle.tinyjson_grammar.specs.Characters.{is_white}
 use Rattle.tinyjson.specs.private.Slice.{run_end}
 use Rattle.tinyjson.proofs.Reading.Slices.{white_small, ascii_boundary}
 use Rattle.tinyjson.proofs.parser.text.TextBytes.behind_run.Goals as goal

@@ -1,5 +1,5 @@
 use Rattle.std.proofs.Common.{◌-◌, ◌≤◌, ℕ, Option, List, [], false, length}
-use Rattle.tinyjson.specs.private.Machine.{Frame}
+use Rattle.tinyjson_grammar.specs.Machine.{Frame}
 use Rattle.tinyjson.proofs.Reading.Escapes.{text_sight}
 use Rattle.tinyjson.specs.private.Steps.{Leads, within}
 use Rattle.tinyjson.proofs.parser.text.TextBytesSource.escaped.Given as goal

@@ -1,6 +1,6 @@
 use Rattle.std.proofs.Common.{◌≡◌, ◌∙◌, ◌<◌, [], length, get_or, refl, sym, ap, arith}
 use Rattle.std.proofs.lemmas.Str.{IsUtf8-had}
-use Rattle.tinyjson.specs.Characters.{is_white}
+use Rattle.tinyjson_grammar.specs.Characters.{is_white}
 use Rattle.tinyjson.specs.Position.{advance, origin}
 use Rattle.tinyjson.specs.private.Slice.{before, behind}
 use Rattle.tinyjson.proofs.Reading.Slices.{between, next_shown, ascii_next, white_small, ascii_boundary, ascii_between, ascii_stops, stay_moves, step_gives, step_moves}

@@ -1,0 +1,141 @@
+//! Why a text was refused.
+ghost use Rattle.std.specs.Int.{is_in_range};
+ghost use Rattle.std.specs.Prelude.{◌≡◌, Some};
+ghost use Rattle.tinyjson_grammar.specs.Words.{kind_words, shown};
+
+use crate::kind::JsonKind;
+use std::fmt;
+
+/// Why a text was refused.
+///
+/// "Consumed" is what the call took from the characters before it refused.
+///
+/// ```
+/// if let Err(error) = JsonValue::from_str(alloc, "[1 2]") {
+///     assert!(rt; error.kind() == JsonParseErrorKind::ExpectedCommaOrBracket('2'));
+/// }
+/// ```
+#[derive(Clone, Copy, Debug, PartialEq, Eq)]
+pub enum JsonParseErrorKind {
+    /// The characters end where one was needed.
+    UnexpectedEof,
+    /// A value was needed, and this character begins none. It isn't consumed.
+    InvalidCharacter(char),
+    /// After the whole value there is a character that is not white space. It is consumed.
+    ExpectedEof(char),
+    /// A key was needed, and a value of this other kind was wholly read.
+    KeyNotString(JsonKind),
+    /// After a key there is no colon. The character is consumed.
+    ExpectedColon(char),
+    /// After the value of a member there is neither a comma nor a brace. The character is consumed.
+    ExpectedCommaOrBrace(char),
+    /// After an item there is neither a comma nor a bracket. The character is consumed.
+    ExpectedCommaOrBracket(char),
+    /// A run of `\u` escapes has a surrogate without its partner (RFC 8259, section 8.2). What ends the
+    /// run, the closing quote or another item, is consumed.
+    InvalidUtf16,
+    /// Among the four digits after `\u` is a character that is no hexadecimal digit. It is consumed.
+    InvalidHexDigit(char),
+    /// After a backslash is a character that begins no escape. It is consumed.
+    InvalidEscape(char),
+    /// A string holds a character below U+0020. It is consumed.
+    ControlCharacter(char),
+    /// Within `null`, `true` or `false` is another letter than the next. It is consumed.
+    UnexpectedInLiteral(char),
+    /// After a minus sign is no digit.
+    EmptyInteger,
+    /// The digits before the point begin with 0, and are two or more.
+    LeadingZero,
+    /// After the point is no digit.
+    EmptyFraction,
+    /// After `e` or `E` and the sign, if there is one, is no digit.
+    EmptyExponent,
+    /// A number was wholly read, and its power of ten is outside the range of `i64`.
+    NumberOutOfRange,
+    /// A growth of memory was refused.
+    OutOfMemory,
+    /// This bracket would open one container more than the limit allows. It isn't consumed.
+    TooDeep(char),
+}
+
+/// A character as messages show it: itself if it is printable ASCII, and otherwise its code point, as
+/// `U+FEFF`.
+#[derive(Clone, Copy)]
+struct Shown(char);
+
+impl fmt::Display for Shown {
+    ghost output = { λ s. Some (shown s.0) };
+
+    fn fmt<W: fmt::Write>(&self, f: &mut fmt::Formatter<W>) -> fmt::Result {
+        let c = self.0;
+        if is_printable(c) {
+            write!(f, "{c}")
+        } else {
+            let code = c as u32;
+            write!(f, "U+{code:04X}")
+        }
+    }
+}
+
+/// Whether messages show the character itself.
+fn is_printable(c: char) -> bool
+    ensures { result ≡ is_in_range 32 126 c }
+{
+    matches!(c, ' '..='~')
+}
+
+/// The words of the kind, without a position.
+impl fmt::Display for JsonParseErrorKind {
+    ghost output = { λ k. Some (kind_words k) };
+
+    fn fmt<W: fmt::Write>(&self, f: &mut fmt::Formatter<W>) -> fmt::Result {
+        match *self {
+            Self::UnexpectedEof => f.write_str("Unexpected EOF"),
+            Self::InvalidCharacter(c) => write!(f, "Invalid character: {}", Shown(c)),
+            Self::ExpectedEof(c) => write!(f, "Expected EOF but got character '{}'", Shown(c)),
+            Self::KeyNotString(kind) => write!(f, "Key of object must be string but found {kind}"),
+            Self::ExpectedColon(c) => write!(
+                f,
+                "':' is expected after key of object but actually found '{}'",
+                Shown(c)
+            ),
+            Self::ExpectedCommaOrBrace(c) => write!(
+                f,
+                "',' or '}}' is expected for object but actually found '{}'",
+                Shown(c)
+            ),
+            Self::ExpectedCommaOrBracket(c) => write!(
+                f,
+                "',' or ']' is expected for array but actually found '{}'",
+                Shown(c)
+            ),
+            Self::InvalidUtf16 => f.write_str("Invalid UTF-16 sequence"),
+            Self::InvalidHexDigit(c) => {
+                f.write_str("Unicode character must be \\uXXXX (X is hex character) format")?;
+                write!(f, " but found character '{}'", Shown(c))
+            }
+            Self::InvalidEscape(c) => write!(f, "'\\{}' is invalid escaped character", Shown(c)),
+            Self::ControlCharacter(c) => {
+                write!(f, "String cannot contain control character {}", Shown(c))
+            }
+            Self::UnexpectedInLiteral(c) => {
+                write!(
+                    f,
+                    "Unexpected character '{}' while parsing a literal",
+                    Shown(c)
+                )
+            }
+            Self::EmptyInteger => f.write_str("Integer part must not be empty in number literal"),
+            Self::LeadingZero => {
+                f.write_str("Integer part of number must not start with 0 except for '0'")
+            }
+            Self::EmptyFraction => f.write_str("Fraction part of number must not be empty"),
+            Self::EmptyExponent => f.write_str("Exponent part must not be empty in number literal"),
+            Self::NumberOutOfRange => {
+                f.write_str("Invalid number literal: power of ten out of range")
+            }
+            Self::OutOfMemory => f.write_str("Out of memory"),
+            Self::TooDeep(c) => write!(f, "Nesting is too deep at '{}'", Shown(c)),
+        }
+    }
+}
