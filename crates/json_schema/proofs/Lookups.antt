@@ -11,8 +11,8 @@ use Rattle.tinyjson.specs.Index.{tree_at_key}
 use Rattle.tinyjson.specs.Kind.{kind_of, kind_name}
 use Rattle.tinyjson.specs.Tree.{Tree}
 use Rattle.tinyjson.specs.View.{view, text, members_view}
-use Rattle.tinyjson.specs.Kind.JsonKind.{JsonKind}
-use Rattle.tinyjson.specs.Kind.JsonKind.TheVariants as kind
+use Rattle.tinyjson.specs.JsonKind.{JsonKind}
+use Rattle.tinyjson.specs.JsonKind.TheVariants as kind
 use Rattle.tinyjson.specs.declared.value.JsonValue.{JsonValue}
 use Rattle.tinyjson.specs.declared.value.JsonValue.TheVariants as is
 use Rattle.json_schema.specs.Keywords.{is_whole, is_type, is_present}

@@ -6,7 +6,7 @@ use Rattle.std.specs.Str.{IsUtf8, chars}
 use Rattle.tinyjson.specs.Error.{error_kind}
 use Rattle.tinyjson.specs.Parser.{ParsesText}
 use Rattle.tinyjson.specs.declared.parser.error.JsonParseError.{JsonParseError}
-use Rattle.tinyjson.specs.Error.JsonParseErrorKind.TheVariants as kind
+use Rattle.tinyjson.specs.JsonParseErrorKind.TheVariants as kind
 use Rattle.tinyjson.proofs.Callers.{refused_text}
 use Rattle.jsonnorm.specs.Fault.{IsMemoryOr}
 use Rattle.jsonnorm.specs.Run.{Runs}

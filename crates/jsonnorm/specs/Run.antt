@@ -9,7 +9,7 @@ use Rattle.tinyjson.specs.Parser.{ParsesText}
 use Rattle.tinyjson.specs.Text.{compact, indented}
 use Rattle.tinyjson.specs.Tree.{Tree}
 use Rattle.tinyjson.specs.Written.{Written, WrittenPart}
-use Rattle.tinyjson.specs.Error.JsonParseErrorKind.TheVariants as kind
+use Rattle.tinyjson.specs.JsonParseErrorKind.TheVariants as kind
 use Rattle.jsonnorm.specs.declared.fault.RunFault.{RunFault}
 use Rattle.jsonnorm.specs.declared.fault.RunFault.TheVariants.{Refused, NotUtf8, OutOfMemory, Reading, Writing}
 

@@ -9,7 +9,7 @@ pub use Rattle.tinyjson.proofs.Writing.Scalars.{encoded_chars, encoded_utf8, tex
 pub use Rattle.tinyjson.proofs.Values.Trees.{view_IsTree, text_scalars}
 pub use Rattle.tinyjson.proofs.Values.Views.{Entry, find_members_view, members_view_last, view_ref}
 pub use Rattle.tinyjson.proofs.Values.WholeNumbers.{integers_differ, naturals_differ}
-pub use Rattle.tinyjson.proofs.Writing.Written.{Appends-trans, Appends_nothing, Appends_keeps, written_none, written_all, begins, goes, ends, written_take, written_same, written_then, stop, stops, stops_then, fails}
+pub use Rattle.tinyjson_output.proofs.Callers.{Appends-trans, Appends_nothing, Appends_keeps, written_none, written_all, begins, goes, ends, written_take, written_same, written_then, stop, stops, stops_then, fails}
 use Rattle.std.proofs.Common.{◌≡◌, ◌≢◌, ℕ, zero, suc, Bool, true, false, ◌&&◌, cond, bytes_eq, nat_lt, List, [], ◌∷◌, ◌++◌, Option, Some, None, option_map, Ok, Err, String, string_bytes, Vec, Global, refl, sym, ap, ◌∙◌, subst, rules, arith, append-nil}
 use Rattle.std.proofs.lemmas.Bool.{and_parts}
 use Rattle.std.proofs.lemmas.Bool.Decides.{nat_tests, same_from_decides}
@@ -35,7 +35,7 @@ use Rattle.tinyjson_grammar.specs.Soundness.{IsTree, IsSorted}
 use Rattle.tinyjson_grammar.specs.Text.{compact}
 use Rattle.tinyjson_grammar.specs.Tree.{Tree, null, boolean, number, string, array, object, Items, no_items, item, Members, put, find, remove}
 use Rattle.tinyjson.specs.View.{text, view, view_step, items_view, members_view, seen_entries}
-use Rattle.tinyjson.specs.Written.{Written}
+use Rattle.tinyjson_output.specs.Written.{Written}
 use Rattle.tinyjson.specs.declared.parser.error.JsonParseError.{JsonParseError}
 use Rattle.tinyjson_grammar.specs.declared.error.JsonParseErrorKind.TheVariants as refusal
 use Rattle.tinyjson.specs.declared.value.JsonValue.{JsonValue, JsonValue-F, out-JsonValue, map-JsonValue, fold_out-JsonValue, the_lemmas}

@@ -1,16 +1,12 @@
 -- The parser's functions, as steps of the machine.
 pub mod String
 pub mod Number
-pub mod Units
 pub mod NumberParts
 pub mod Numerals
 pub mod Containers
-pub mod Positions
 pub mod Parse
 pub mod Steps
 pub mod Stack
 pub mod Cursors
-pub mod Sources
-pub mod Slices
 pub mod Memory
 pub mod Escapes

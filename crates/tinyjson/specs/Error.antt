@@ -1,10 +1,9 @@
 -- What a contract sees of an error of the parser, and its words.
 use Rattle.std.specs.Prelude.{ℕ, List, ◌++◌, codes}
 use Rattle.std.specs.Fmt.{decimal}
-use Rattle.tinyjson.specs.Position.{Position, position_at}
+use Rattle.tinyjson_grammar.specs.Position.{Position, position_at}
 use Rattle.tinyjson.specs.declared.parser.error.JsonParseError.{JsonParseError}
 pub use Rattle.tinyjson_grammar.specs.Words.{code_point, shown, kind_words}
-pub use Rattle.tinyjson_grammar.specs.declared.error.JsonParseErrorKind
 pub use Rattle.tinyjson_grammar.specs.declared.error.JsonParseErrorKind.{JsonParseErrorKind}
 
 abbrev pub error_kind : JsonParseError → JsonParseErrorKind

@@ -5,10 +5,8 @@ pub mod Access
 pub mod Convert
 pub mod Index
 pub mod Number
-pub mod Position
 pub mod Error
 pub mod Parser
-pub mod Written
 pub mod Indent
 pub mod Generator
 -- what they say of texts and trees, by the names of the crate `tinyjson_grammar`, so that callers name one crate
@@ -20,6 +18,11 @@ pub use Rattle.tinyjson_grammar.specs.Syntax
 pub use Rattle.tinyjson_grammar.specs.Grammar
 pub use Rattle.tinyjson_grammar.specs.Prefix
 pub use Rattle.tinyjson_grammar.specs.Refusal
+pub use Rattle.tinyjson_grammar.specs.Position
 pub use Rattle.tinyjson_grammar.specs.Text
+pub use Rattle.tinyjson_grammar.specs.declared.kind.JsonKind
+pub use Rattle.tinyjson_grammar.specs.declared.error.JsonParseErrorKind
+-- what they say of a writer
+pub use Rattle.tinyjson_output.specs.Written
 -- what private contracts alone say
 pub mod private

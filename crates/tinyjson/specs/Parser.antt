@@ -5,7 +5,7 @@ use Rattle.std.specs.Iterator.{AlwaysYields}
 use Rattle.std.specs.Option.{option_to_list}
 use Rattle.tinyjson.specs.Error.{error_kind, error_position}
 use Rattle.tinyjson_grammar.specs.Grammar.{IsText, IsAccepted}
-use Rattle.tinyjson.specs.Position.{Position, origin, advance}
+use Rattle.tinyjson_grammar.specs.Position.{Position, origin, advance}
 use Rattle.tinyjson_grammar.specs.Refusal.{RefusalSays}
 use Rattle.tinyjson.specs.View.{view}
 use Rattle.tinyjson.specs.declared.parser.error.JsonParseError.{JsonParseError}

@@ -1,14 +1,10 @@
 -- The tree that a `JsonValue` is seen as.
-use Rattle.std.specs.Prelude.{ℕ, List, [], ◌∷◌, map, String, string_bytes}
-use Rattle.std.specs.Str.{chars}
+use Rattle.std.specs.Prelude.{List, [], ◌∷◌, map, String}
+pub use Rattle.tinyjson_grammar.specs.Characters.{text}
 use Rattle.std.specs.declared.alloc.Global.{Global}
 use Rattle.tinyjson_grammar.specs.Tree.{Tree, null, boolean, number, string, array, object, Items, items_of, Members, no_members, put}
 use Rattle.tinyjson.specs.declared.value.JsonValue.{JsonValue, fold-JsonValue}
 use Rattle.tinyjson.specs.declared.value.JsonValue.TheOpen.{JsonValue-F}
-
--- the characters of a text
-abbrev pub text : String Global → List ℕ
-text s = chars (string_bytes s)
 
 -- each entry put at its key. Of two entries with one key the first counts; a map has no such two
 abbrev pub members_of : List (String Global × Tree) → Members

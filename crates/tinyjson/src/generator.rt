@@ -4,15 +4,12 @@ ghost use Rattle.std.specs.Str.{all_scalars, chars};
 ghost use Rattle.tinyjson.specs.Indent.{indent_of};
 ghost use Rattle.tinyjson_grammar.specs.Text.{compact, indented, text};
 ghost use Rattle.tinyjson.specs.View.{view};
-ghost use Rattle.tinyjson.specs.Written.{WritesText};
+ghost use Rattle.tinyjson_output.specs.Written.{WritesText};
 
 mod encode;
-mod number;
-mod output;
 mod pending;
 mod presort;
 mod quick;
-mod quote;
 mod sorted;
 
 use crate::value::JsonValue;

@@ -17,7 +17,6 @@
 pub mod generator;
 pub mod number;
 pub mod parser;
-mod scan;
 pub mod value;
 
 pub use generator::{JsonGenerateError, JsonGenerateResult, JsonGenerator, format, stringify};

@@ -3,28 +3,23 @@ ghost use Rattle.std.specs.Prelude.{◌≡◌, ℕ, List, Option, None, Some};
 ghost use Rattle.std.specs.Iterator.{IsFinite};
 ghost use Rattle.std.specs.Str.{chars};
 ghost use Rattle.tinyjson.specs.Parser.{Provides, Remains, Parses, ParsesText};
-ghost use Rattle.tinyjson.specs.Position.{origin};
+ghost use Rattle.tinyjson_grammar.specs.Position.{origin};
 
 mod containers;
-mod cursor;
 mod error;
 mod escape;
 mod number;
 mod reader;
-mod scan;
-mod source;
 mod stack;
 mod string;
-mod text;
-mod utf16;
+mod tokens;
 
 use crate::value::JsonValue;
-use cursor::Characters;
 pub use error::{JsonParseError, JsonParseErrorKind};
 use reader::Reader;
 use std::alloc::Global;
 use std::marker::Model;
-use text::TextBytes;
+use tinyjson_source::{Characters, TextBytes};
 
 /// What [`JsonParser::parse`] answers.
 ///
@@ -57,7 +52,7 @@ where
 impl<I: Iterator<Item = char>> Model for JsonParser<I> {
     ghost use Rattle.std.specs.Prelude.{Some, None, cond};
     ghost use Rattle.tinyjson.specs.Parser.{Parser};
-    ghost use Rattle.tinyjson.specs.Position.{position_at};
+    ghost use Rattle.tinyjson_grammar.specs.Position.{position_at};
 
     ghost Value = { Parser I };
 

@@ -1,4 +1,4 @@
--- For proofs of callers: what the theorem says, that a written text is read back, and finite maps of members.
+-- For proofs of callers: what the theorem says, that a written text is read back, positions, and finite maps of members.
 pub use Rattle.tinyjson_grammar.proofs.Theorem.{accepts, refuses}
 pub use Rattle.tinyjson_grammar.proofs.Memory.{interrupted, interrupted_late}
 pub use Rattle.tinyjson_grammar.proofs.Prefix.InRange.{ranges}
@@ -6,3 +6,4 @@ pub use Rattle.tinyjson_grammar.proofs.Accepts.Runs.{digit_not_white}
 pub use Rattle.tinyjson_grammar.proofs.Texts.WrittenTexts.{compact_text, one_compact}
 pub use Rattle.tinyjson_grammar.proofs.Members.{cond_swap, find_below, find_put, find_remove, flip, found_first, key_same}
 pub use Rattle.tinyjson_grammar.proofs.Members.{members_from_find, same_key, some_none, sorted_put, sorted_remove}
+pub use Rattle.tinyjson_grammar.proofs.Positions.{advance_append, advance_nil}

@@ -13,5 +13,6 @@ pub mod Members
 pub mod JoinedMembers
 -- For proofs of callers.
 pub mod Callers
--- The words of errors.
+-- Positions, and the words of errors.
+pub mod Positions
 pub mod Messages

@@ -1,8 +1,7 @@
 -- The variant of a tree, and its name.
 use Rattle.std.specs.Prelude.{ℕ, List, codes}
 use Rattle.tinyjson_grammar.specs.Tree.{Tree, null, boolean, number, string, array, object}
-pub use Rattle.tinyjson_grammar.specs.declared.kind.JsonKind
-pub use Rattle.tinyjson_grammar.specs.declared.kind.JsonKind.{JsonKind}
+use Rattle.tinyjson_grammar.specs.declared.kind.JsonKind.{JsonKind}
 use Rattle.tinyjson_grammar.specs.declared.kind.JsonKind.TheVariants as kind
 
 abbrev pub kind_of : Tree → JsonKind

@@ -6,6 +6,7 @@ pub mod Characters
 pub mod Syntax
 pub mod Grammar
 pub mod Prefix
+pub mod Position
 pub mod Refusal
 pub mod Words
 pub mod Text

@@ -4,7 +4,7 @@ use Rattle.std.proofs.Math.Seq.{take-append_seam}
 use Rattle.tinyjson.specs.Error.{error_position}
 use Rattle.tinyjson_grammar.specs.Grammar.{IsText}
 use Rattle.tinyjson.specs.Parser.{ParsesText}
-use Rattle.tinyjson.specs.Position.{origin, advance}
+use Rattle.tinyjson_grammar.specs.Position.{origin, advance}
 use Rattle.tinyjson_grammar.specs.Prefix.{IsLooselyViable}
 use Rattle.tinyjson_grammar.specs.Refusal.{RefusalSays}
 use Rattle.tinyjson.specs.View.{view}

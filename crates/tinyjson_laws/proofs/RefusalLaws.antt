@@ -15,7 +15,7 @@ use Rattle.tinyjson_grammar.specs.Syntax.{Syntax, null, boolean, number, string,
 use Rattle.tinyjson_grammar.specs.Tree as tree
 use Rattle.tinyjson_grammar.specs.Tree.{Tree, Members}
 use Rattle.tinyjson.specs.View.{view}
-use Rattle.tinyjson.specs.Position.{advance, origin}
+use Rattle.tinyjson_grammar.specs.Position.{advance, origin}
 use Rattle.tinyjson_number.specs.Numeral.{Numeral, IsNumeral, has_leading_zero, spelling, minus_text, fraction_text, value, in_range}
 use Rattle.tinyjson_grammar.specs.declared.kind.JsonKind.{JsonKind}
 use Rattle.tinyjson_grammar.specs.declared.error.JsonParseErrorKind.{JsonParseErrorKind}

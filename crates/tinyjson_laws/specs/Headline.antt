@@ -3,7 +3,7 @@ use Rattle.std.specs.Prelude.{◌≡◌, ◌↔◌, ℕ, ◌+◌, ◌≤◌, Lis
 use Rattle.tinyjson_grammar.specs.Prefix.{IsViable, IsLooselyViable}
 use Rattle.tinyjson.specs.Error.{error_kind, error_position}
 use Rattle.tinyjson_grammar.specs.Grammar.{IsText, IsAccepted}
-use Rattle.tinyjson.specs.Position.{origin, advance}
+use Rattle.tinyjson_grammar.specs.Position.{origin, advance}
 use Rattle.tinyjson_grammar.specs.Tree.{Tree}
 use Rattle.tinyjson.specs.View.{view}
 use Rattle.tinyjson.specs.declared.parser.error.JsonParseError.{JsonParseError}

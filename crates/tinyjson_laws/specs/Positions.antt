@@ -1,6 +1,6 @@
 -- Laws of positions.
 use Rattle.std.specs.Prelude.{◌≡◌, ℕ, List, ◌++◌}
-use Rattle.tinyjson.specs.Position.{Position, advance}
+use Rattle.tinyjson_grammar.specs.Position.{Position, advance}
 
 -- what is consumed in two parts leads where the whole leads
 abbrev pub AdvanceComposes : Type 0

@@ -13,7 +13,7 @@ use Rattle.tinyjson_grammar.specs.Characters.{is_white}
 use Rattle.tinyjson_grammar.specs.Machine.{step, fits, quoted, plain, Frame, in_array, at_key, at_value, colon, first, awaited, after, Next, next, stop, complete}
 use Rattle.tinyjson_grammar.specs.Tree.{is_string}
 use Rattle.tinyjson_grammar.specs.declared.error.JsonParseErrorKind.TheVariants.{TooDeep, KeyNotString, ExpectedCommaOrBracket, ExpectedCommaOrBrace, ExpectedColon}
-use Rattle.tinyjson.specs.private.Source.{Sight, Takes}
+use Rattle.tinyjson_source.specs.Source.{Sight, Takes}
 use Rattle.tinyjson.specs.private.Steps.{BeginsLiteral, wanting, onward, Leads}
 use Rattle.tinyjson.proofs.Reading.Steps.{Leads_nil, Leads_one, Leads_shown, Leads_end, end_first, end_awaited}
 use Rattle.tinyjson.proofs.Values.Equality.{view_Array, view_Object}

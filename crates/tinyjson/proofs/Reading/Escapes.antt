@@ -11,16 +11,17 @@ use Rattle.std.proofs.lemmas.Str.{IsCharBoundary-after_ascii, chars-IsAscii, enc
 use Rattle.std.proofs.Math.Seq.{take-append_seam}
 use Rattle.tinyjson_grammar.specs.Characters.{is_hex, is_high, is_low, is_surrogate, pair_of, unit_of, paired, decode, short_escape}
 use Rattle.tinyjson.specs.private.Escape.{Stands, UnitAt, NoBackslash, EscapeAt}
-use Rattle.tinyjson.specs.private.Slice.{before, behind, NextChar}
-use Rattle.tinyjson.specs.private.Slice.Laws.{line_bound, column_bound, shown_once, shown_first, nothing_left}
-use Rattle.tinyjson.specs.private.Scan.{is_plain}
-use Rattle.tinyjson.specs.private.Source.{Sight, Takes, TakesRun}
-use Rattle.tinyjson.specs.Position.{advance, origin}
-use Rattle.tinyjson.specs.declared.parser.text.TextBytes.{TextBytes}
+use Rattle.tinyjson_source.specs.Slice.{before, behind, NextChar}
+use Rattle.tinyjson_source.specs.Slice.Laws.{line_bound, column_bound, shown_once, shown_first, nothing_left}
+use Rattle.tinyjson_source.specs.Scan.{is_plain}
+use Rattle.tinyjson_source.specs.Source.{Sight, Takes, TakesRun}
+use Rattle.tinyjson_grammar.specs.Position.{advance, origin}
+use Rattle.tinyjson_source.specs.declared.text.TextBytes.{TextBytes}
 use Rattle.tinyjson_grammar.specs.Machine.{step, Frame, Next, next, plain, backslash, hex, quoted}
 use Rattle.tinyjson.specs.private.Steps.{onward, IsNext, IsTaken, Same, Comes, Leads, Halts}
-use Rattle.tinyjson.proofs.Reading.Slices.{ascii_next, between, char_between, char_boundary, next_of, small, step_gives, step_moves}
-use Rattle.tinyjson.proofs.Reading.Sources.{Takes_append}
+use Rattle.tinyjson_source.proofs.Callers.{All_append, text_sight}
+use Rattle.tinyjson_source.proofs.Callers.{between, char_between, char_boundary, next_of, small, step_gives, step_moves}
+use Rattle.tinyjson_source.proofs.Callers.{Takes_append}
 use Rattle.tinyjson.proofs.Reading.Steps.{Same_refl, Comes_trans, Leads_to, Leads_trans, Halts_trans, end_quoted}
 use Rattle.tinyjson.proofs.Reading.String.{hexing, hex_next, hex_step, hex_taken, hex_done, backslash_read, u_read, short_read, plain_added, plain_halts}
 
@@ -86,10 +87,6 @@ module _ (limit : Option ℕ) (fs : List Frame) where
       subst (λ ys. Comes limit n ys o rest) (append-nil taken) (Comes_trans limit n m o taken [] rest a (units_known cs us xs rest p e k, λ w. tt))
 
 -- ---- where bytes stand
-
-All_append : (P : ℕ → Type 0) (xs ys : List ℕ) → AllByRecursion P xs → AllByRecursion P ys → AllByRecursion P (xs ++ ys)
-All_append P [] ys a b = b
-All_append P (x ∷ xs) ys a b = (a.0, All_append P xs ys a.1 b)
 
 stands_append : (text : List ℕ) (at mid to : ℕ) (xs ys : List ℕ) → Stands text at mid xs → Stands text mid to ys → Stands text at to (xs ++ ys)
 stands_append text at mid to xs ys a b = record {
@@ -223,19 +220,6 @@ module _ (text : List ℕ) (utf8 : IsUtf8 text) (at : ℕ) (first : IsCharBounda
       let n = subst (NextChar text to) w (next_of text utf8 to escape_boundary) in
       ap (λ bs. slice_get bs 0) (n ∙ ap (λ bs. bs ++ drop (to + len_utf8 92) text) (encode_ascii 92 (omega arith))))
 
--- what a text in memory still gives
-abbrev pub text_sight : Sight TextBytes
-text_sight = record {
-  gives = λ p zs. zs ≡ behind p.text.now p.at;
-  shows = λ p o. slice_get (behind p.text.now p.at) 0 ≡ o;
-  place = λ p. advance origin (before p.text.now p.at);
-  line_fits = λ p. line_bound (before p.text.now p.at);
-  column_fits = λ p. column_bound (before p.text.now p.at);
-  one = λ p. shown_once (behind p.text.now p.at);
-  first = λ p. shown_first (behind p.text.now p.at);
-  none = λ p. nothing_left (behind p.text.now p.at);
-}
-
 -- the escape at the place of a text is taken
 pub Leads_escape : (limit : Option ℕ) (fs : List Frame) (cs : List ℕ) (p q : TextBytes) (c : ℕ) → EscapeAt p.text.now p.at c q.at → q.text.now ≡ p.text.now
     → Leads text_sight limit p (next fs (quoted plain cs [])) q (next fs (quoted plain (cs ++ c ∷ []) []))
@@ -254,48 +238,6 @@ Leads_escape limit fs cs p q c e same =
           (x.0, x.1, x.2 ∙ ap (λ t. behind t q.at) (sym same), subst (Comes limit n e.taken m) (sym x.2) (escape_comes text utf8 p.at p.boundary c q.at e limit fs cs));
       moves = ap (λ t. advance origin (before t q.at)) same ∙ step_moves text utf8 p.at q.at h p.boundary last e.taken one;
     }
-
--- a byte below 128 is taken
-pub Takes_ascii : (p q : TextBytes) (b : ℕ) → p.at < length p.text.now → get_or p.text.now p.at 0 ≡ b → b < 128 → q.text.now ≡ p.text.now → q.at ≡ p.at + 1 → Takes text_sight p (b ∷ []) q
-Takes_ascii p q b h e low same at =
-    let text = p.text.now in
-    let utf8 = IsUtf8-had text p.utf8 in
-    let next = ascii_next text p.at b h e low in
-    let len : 1 ≡ len_utf8 b = grind (arith, nat_tests, low) in
-    let last = subst (IsCharBoundary text) (sym at) (char_boundary text utf8 p.at p.boundary b 1 next len) in
-    let one : between text p.at q.at ≡ b ∷ [] = ap (between text p.at) at ∙ char_between text utf8 p.at p.boundary b 1 next len in
-    let on : p.at ≤ q.at = omega (arith, at) in
-    record {
-      gives = λ zs g. let x = step_gives text utf8 p.at q.at on p.boundary last (b ∷ []) one zs g in (x.0, x.1, x.2 ∙ ap (λ t. behind t q.at) (sym same));
-      moves = ap (λ t. advance origin (before t q.at)) same ∙ step_moves text utf8 p.at q.at on p.boundary last (b ∷ []) one;
-    }
-
--- a run goes on by a plain byte below 128, and by another run
-pub run_ascii : {E : Type 0} (o p q : TextBytes) (old new more : List ℕ) (b : ℕ) → TakesRun text_sight is_plain {E = Unit {0}} o old (Ok tt) new p
-    → p.at < length p.text.now → get_or p.text.now p.at 0 ≡ b → b < 128 → q.text.now ≡ p.text.now → q.at ≡ p.at + 1 → is_plain b ≡ true → more ≡ new ++ b ∷ []
-    → TakesRun text_sight is_plain {E = E} o old (Ok tt) more q
-run_ascii o p q old new more b t h e low same at printed added = record {
-  taken = t.taken ++ b ∷ [];
-  pass = All_append (λ c. is_plain c ≡ true) t.taken (b ∷ []) t.pass (printed, tt);
-  takes = Takes_append text_sight o p q t.taken (b ∷ []) t.takes (Takes_ascii p q b h e low same at);
-  added = added ∙ ap (λ cs. cs ++ b ∷ []) t.added ∙ append_assoc old t.taken (b ∷ []);
-}
-
-pub printed_plain : (b : ℕ) → (b ≡ 34 → ⊥) → (b ≡ 92 → ⊥) → 32 ≤ b → is_plain b ≡ true
-printed_plain b n m h = let l : nat_lt b 32 ≡ false = grind (arith, nat_tests) in rw (ne_eqb b 34 n, ne_eqb b 92 m, l) refl
-
-pub run_run : {E : Type 0} (o p q : TextBytes) (old new more : List ℕ) (r : Result (Unit {0}) E) → TakesRun text_sight is_plain {E = Unit {0}} o old (Ok tt) new p → TakesRun text_sight is_plain p new r more q
-    → TakesRun text_sight is_plain o old r more q
-run_run {E = E} o p q old new more r t u = record {
-  taken = t.taken ++ u.taken;
-  pass = All_append (λ c. is_plain c ≡ true) t.taken u.taken t.pass u.pass;
-  takes = Takes_append text_sight o p q t.taken u.taken t.takes u.takes;
-  added = on r u.added;
-}
-  where
-    on : (r : Result (Unit {0}) E) → OnOk r (more ≡ new ++ u.taken) → OnOk r (more ≡ old ++ (t.taken ++ u.taken))
-    on (Ok v) e = e ∙ ap (λ cs. cs ++ u.taken) t.added ∙ append_assoc old t.taken u.taken
-    on (Err x) e = e
 
 -- an escape is taken, and the plain characters behind it
 module _ {E : Type 0} (limit : Option ℕ) (fs : List Frame) (o p q r : TextBytes) (n : Next) (cs ds es : List ℕ) (c to : ℕ) (v : Result (Unit {0}) E)

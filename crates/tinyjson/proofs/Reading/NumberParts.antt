@@ -8,7 +8,7 @@ use Rattle.tinyjson_number.specs.Number.{Canonical}
 use Rattle.tinyjson_number.specs.Reading.{exponent_of, numeral_of, plain, plain_sign, plain_exponent}
 use Rattle.tinyjson_number.specs.declared.parse.ExponentParts.{ExponentParts}
 use Rattle.tinyjson_number.specs.declared.parse.NumberParts.{NumberParts}
-use Rattle.tinyjson.specs.private.Source.{Sight, Still, Takes}
+use Rattle.tinyjson_source.specs.Source.{Sight, Still, Takes}
 use Rattle.tinyjson.specs.Error.{error_position}
 use Rattle.tinyjson_grammar.specs.Machine.{Frame, next, stop, awaited, digits, whole, fraction, exponent, complete}
 use Rattle.tinyjson.specs.private.NumberSteps.{BeginsNumber, numeral, is_minus, is_below_zero, exponent_digits, all_digits, marks_of, Gathered, Accepted, Declined, Accepts, Signs, Digits, Part, ReadsPart}

@@ -11,17 +11,17 @@ use Rattle.std.proofs.lemmas.Option.{slice_get-get_or, slice_get_past}
 use Rattle.std.proofs.lemmas.Str.{byte_from_char, chars-IsAscii, IsAscii-append, IsCharBoundary-after_ascii, length-encode, len_utf8_bounds}
 use Rattle.tinyjson_number.specs.Number.{Canonical}
 use Rattle.tinyjson_number.specs.Numeral.{Numeral, AreDigits, value, in_range, has_leading_zero, is_exponent_letter, minus_text, fraction_text, spelling}
-use Rattle.tinyjson.specs.Position.{advance, origin}
+use Rattle.tinyjson_grammar.specs.Position.{advance, origin}
 use Rattle.tinyjson_grammar.specs.Machine.{Frame, Next, next, stop, awaited, digits, whole, fraction, exponent, complete}
 use Rattle.tinyjson.specs.private.NumberSteps.{numeral, all_digits, Part}
 use Rattle.tinyjson.specs.private.Numerals.{EndsNumber, FractionAt, IsPlain, NumeralAt, TakesNumeral}
-use Rattle.tinyjson.specs.private.Slice.{before, behind, run_end, NextChar}
-use Rattle.tinyjson.specs.private.Source.{Sight}
+use Rattle.tinyjson_source.specs.Slice.{before, behind, run_end, NextChar}
+use Rattle.tinyjson_source.specs.Source.{Sight}
 use Rattle.tinyjson.specs.private.Steps.{Comes, IsNext, IsTaken, Leads, onward}
 use Rattle.tinyjson.proofs.Reading.Number.{are_digits, begun, begun_next, begun_digit, begun_whole, pointed, pointed_next, pointed_digit, minus_begins, point_read, no_point, no_letter, digits_come, Leads_rest}
 use Rattle.tinyjson.proofs.Reading.NumberParts.{Leads_number}
 use Rattle.tinyjson_grammar.specs.Tree.{number}
-use Rattle.tinyjson.proofs.Reading.Slices.{between, digit_small, next_of, run_passes, run_stops, small, step_gives, step_moves}
+use Rattle.tinyjson_source.proofs.Callers.{between, digit_small, next_of, run_passes, run_stops, small, step_gives, step_moves}
 use Rattle.tinyjson.proofs.Reading.Steps.{Comes_trans, Leads_to, Same_refl}
 
 -- ---- places in a text

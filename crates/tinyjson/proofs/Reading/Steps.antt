@@ -8,16 +8,16 @@ use Rattle.tinyjson_grammar.specs.Tree.{Tree}
 use Rattle.tinyjson_grammar.specs.declared.error.JsonParseErrorKind.{JsonParseErrorKind}
 use Rattle.tinyjson.specs.declared.parser.error.JsonParseError.{JsonParseError}
 use Rattle.tinyjson_grammar.specs.declared.error.JsonParseErrorKind.TheVariants.{OutOfMemory}
-use Rattle.tinyjson.specs.Position.{advance}
+use Rattle.tinyjson_grammar.specs.Position.{advance}
 use Rattle.tinyjson_grammar.specs.Characters.{is_white}
-use Rattle.tinyjson.specs.private.Source.{Sight, Takes, Whites}
+use Rattle.tinyjson_source.specs.Source.{Sight, Takes, Whites}
 use Rattle.tinyjson_grammar.specs.declared.error.JsonParseErrorKind.TheVariants.{UnexpectedEof, ExpectedEof, InvalidCharacter, InvalidUtf16, KeyNotString, UnexpectedInLiteral}
 use Rattle.tinyjson_grammar.specs.Machine.{strictly, Within, quoted, end, colon, Frame, in_array, at_key, at_value, first, awaited, after, finished, Next, next, stop, refused, complete, step, run, go_on}
 use Rattle.tinyjson_grammar.specs.Tree.{is_string, key_of}
 use Rattle.tinyjson.specs.Error.{error_position}
 use Rattle.tinyjson.specs.private.Steps.{onward, ending, outcome, IsNext, IsTaken, behind, wanting, Same, Comes, IsLate, IsHeld, Leads, Halts, Refuses, Reads}
-use Rattle.tinyjson.proofs.Reading.Sources.{Takes_nil}
-use Rattle.tinyjson.proofs.Reading.Positions.{advance_append}
+use Rattle.tinyjson_source.proofs.Callers.{Takes_nil}
+use Rattle.tinyjson_grammar.proofs.Callers.{advance_append}
 
 -- ---- the machine alone
 

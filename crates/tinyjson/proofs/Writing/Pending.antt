@@ -7,7 +7,7 @@ use Rattle.tinyjson.specs.declared.value.JsonValue.{JsonValue}
 use Rattle.tinyjson.specs.declared.generator.pending.Frame.{Frame}
 use Rattle.tinyjson.specs.declared.generator.pending.Frame.TheVariants.{Items, Member, Members}
 use Rattle.tinyjson.specs.declared.generator.pending.Stack.{Stack}
-use Rattle.tinyjson.specs.private.Room.{Output, Sent, SentPart, Sends}
+use Rattle.tinyjson_output.specs.Room.{Output, Sent, SentPart, Sends}
 use Rattle.std.specs.Bool.{IsTrue}
 use Rattle.std.specs.Option.{is_some}
 use Rattle.tinyjson.specs.Indent.{indent_of}
@@ -16,9 +16,9 @@ use Rattle.tinyjson_grammar.specs.Tree.{Members as Entries, array, object, membe
 use Rattle.tinyjson.specs.View.{view, items_view, members_view}
 use Rattle.tinyjson.specs.private.Sorted.{sorted_view}
 use Rattle.tinyjson.specs.private.Pending.{Gathered, frame_text, others, owed, frames, IsStack, Opened, Begins, Advanced, Advances}
-use Rattle.tinyjson.proofs.Writing.Sending.{goes, stop, stops, written_more, written_none}
-use Rattle.tinyjson.proofs.Writing.Bytes.{enc, enc_cons, closed, three}
-use Rattle.tinyjson.proofs.Writing.Quotes.{quoted_bytes}
+use Rattle.tinyjson_output.proofs.Callers.{sent_goes as goes, sent_stop as stop, sent_stops as stops, sent_written_more as written_more, sent_written_none as written_none}
+use Rattle.tinyjson_output.proofs.Callers.{enc, enc_cons, closed, three}
+use Rattle.tinyjson_output.proofs.Callers.{quoted_bytes}
 use Rattle.tinyjson.proofs.Writing.Sorted.{Entry}
 use Rattle.tinyjson.proofs.Writing.Text.{member_text, some_members, enc_separator}
 

@@ -8,14 +8,14 @@ use Rattle.tinyjson.specs.declared.value.JsonValue.{JsonValue}
 use Rattle.tinyjson.specs.declared.generator.pending.Frame.{Frame}
 use Rattle.tinyjson.specs.declared.generator.pending.Frame.TheVariants.{Items, Member, Members}
 use Rattle.tinyjson.specs.private.Pending.{Gathered, frame_text, others, owed, Opened, Finished}
-use Rattle.tinyjson.specs.private.Room.{Output, Sent, SentPart}
+use Rattle.tinyjson_output.specs.Room.{Output, Sent, SentPart}
 use Rattle.tinyjson.specs.private.Sorted.{sorted_view}
 use Rattle.tinyjson_grammar.specs.Text.{text, items_text, members_text, separator, quoted, escapes, newline, has_no_items}
 use Rattle.tinyjson_grammar.specs.Tree.{array, member, no_members}
 use Rattle.tinyjson.specs.View.{view, items_view}
-use Rattle.tinyjson.proofs.Writing.Bytes.{enc, enc_cons, three}
+use Rattle.tinyjson_output.proofs.Callers.{enc, enc_cons, three}
 use Rattle.tinyjson.proofs.Writing.Pending.{compact_member, opened, array_begins}
-use Rattle.tinyjson.proofs.Writing.Sending.{begins, goes, stops, waits, written_more}
+use Rattle.tinyjson_output.proofs.Callers.{sent_begins as begins, sent_goes as goes, sent_stops as stops, sent_waits as waits, sent_written_more as written_more}
 use Rattle.tinyjson.proofs.Writing.Text.{member_text, enc_separator}
 
 -- what was appended to the bytes that wait is taken back

@@ -9,7 +9,7 @@ use Rattle.tinyjson_grammar.specs.Tree.{Tree, null, boolean, number, string, arr
 use Rattle.tinyjson_grammar.specs.Soundness.{IsTree, AreItemsAt, AreMembersAt}
 use Rattle.tinyjson_number.specs.Numeral.{power_width}
 use Rattle.tinyjson_grammar.specs.Text.{text, items_text, members_text, escape, escapes, quoted, newline, repeated, before, closing, after_colon, has_no_items, has_no_members}
-use Rattle.tinyjson.proofs.Writing.Quotes.{escape_ascii, high, le_or_lt, two_ascii}
+use Rattle.tinyjson_output.proofs.Callers.{escape_ascii, high, le_or_lt, two_ascii}
 
 abbrev pub AreScalars : List ℕ → Type 0
 AreScalars cs = IsTrue (all_scalars cs)

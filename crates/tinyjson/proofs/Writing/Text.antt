@@ -12,7 +12,7 @@ use Rattle.std.specs.Cmp.Lexicographic.{slice_cmp}
 use Rattle.std.specs.declared.cmp.Ordering.TheVariants.{Less, Equal, Greater}
 use Rattle.tinyjson_grammar.specs.Tree.{Tree, Members, no_members, member, put}
 use Rattle.tinyjson.specs.View.{view, items_view, members_view}
-use Rattle.tinyjson.proofs.Writing.Bytes.{enc, enc_cons}
+use Rattle.tinyjson_output.proofs.Callers.{enc, enc_cons}
 
 -- what stands before an item
 pub comma_here : (first : Bool) (n : List ℕ) → first ≡ false → enc (separator first ++ n) ≡ 44 ∷ [] ++ enc n

@@ -2,7 +2,7 @@
 use Rattle.std.specs.Prelude.{◌≡◌, ℕ, ◌≤◌, ◌==◌, false, List, ◌++◌, drop, length, slice_get, Option, None, IfSome}
 use Rattle.std.specs.Char.{is_ascii_digit}
 use Rattle.tinyjson_number.specs.Numeral.{Numeral, IsNumeral, AreDigits, has_leading_zero, is_exponent_letter, spelling, fraction_text}
-use Rattle.tinyjson.specs.private.Source.{Sight, Takes}
+use Rattle.tinyjson_source.specs.Source.{Sight, Takes}
 
 -- a number does not go on with this character
 pub record EndsNumber (c : ℕ) : Type 0 where

@@ -7,7 +7,7 @@ use Rattle.tinyjson_grammar.specs.Tree.{member, no_members}
 use Rattle.tinyjson.specs.View.{view, items_view}
 use Rattle.tinyjson_grammar.specs.Text.{items_text, members_text, newline}
 use Rattle.tinyjson.specs.private.Sorted.{sorted_view}
-use Rattle.tinyjson.specs.private.Room.{Output, Sent, SentPart}
+use Rattle.tinyjson_output.specs.Room.{Output, Sent, SentPart}
 use Rattle.tinyjson.specs.declared.value.JsonValue.{JsonValue}
 use Rattle.tinyjson.specs.declared.generator.pending.Frame.{Frame}
 use Rattle.tinyjson.specs.declared.generator.pending.Frame.TheVariants.{Items, Member, Members}

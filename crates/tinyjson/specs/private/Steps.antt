@@ -5,10 +5,10 @@ use Rattle.std.specs.Char.{is_ascii_digit}
 use Rattle.std.specs.declared.alloc.Global.{Global}
 use Rattle.tinyjson_grammar.specs.Tree.{Tree, string}
 use Rattle.tinyjson.specs.View.{text}
-use Rattle.tinyjson.specs.Position.{Position, advance}
+use Rattle.tinyjson_grammar.specs.Position.{Position, advance}
 use Rattle.tinyjson.specs.Error.{error_position}
 use Rattle.tinyjson_grammar.specs.Refusal.{MayGrow, begins_growth}
-use Rattle.tinyjson.specs.private.Source.{Sight}
+use Rattle.tinyjson_source.specs.Source.{Sight}
 use Rattle.tinyjson_grammar.specs.Machine.{Frame, word, plain, quoted, Next, next, stop, Outcome}
 use Rattle.tinyjson_grammar.specs.Machine.{refused, complete, step, end, run, strictly}
 use Rattle.tinyjson.specs.declared.parser.error.JsonParseError.{JsonParseError}

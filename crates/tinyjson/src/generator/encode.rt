@@ -8,22 +8,24 @@ ghost use Rattle.tinyjson_grammar.specs.Text.{text, items_text, members_text, qu
 ghost use Rattle.tinyjson_grammar.specs.Text.{after_colon};
 ghost use Rattle.tinyjson_grammar.specs.Tree.{array, object, boolean as boolean_tree};
 ghost use Rattle.tinyjson.specs.View.{view, items_view, members_view};
-ghost use Rattle.tinyjson.specs.private.Room.{waiting, Waits, Sends, SendsText};
+ghost use Rattle.tinyjson_output.specs.Room.{waiting, Waits, Sends, SendsText};
 ghost use Rattle.tinyjson.specs.private.Sorted.{sorted_view};
-ghost use Rattle.tinyjson.specs.Written.{WritesText};
+ghost use Rattle.tinyjson_output.specs.Written.{WritesText};
 ghost use Rattle.tinyjson.specs.declared.generator.pending.Frame.TheVariants.{Items, Member};
 ghost use Rattle.tinyjson.specs.declared.generator.pending.Frame.TheVariants.{Members};
 
-use super::number::write_number;
-use super::output::{Room, flush, write_bytes};
 use super::pending::{Frame, Stack};
-use super::quick::{quick_items, quick_key, quick_member, quick_members, quick_value};
-use super::quote::quote;
+use super::quick::{quick_items, quick_member, quick_members, quick_value};
 use super::sorted::{gather_sorted, next_member};
 use crate::value::JsonValue;
 use std::alloc::Global;
 use std::collections::HashMap;
 use std::io::{self, Write};
+use tinyjson_output::Room;
+use tinyjson_output::number::write_number;
+use tinyjson_output::quick::quick_key;
+use tinyjson_output::quote::quote;
+use tinyjson_output::room::{flush, write_bytes};
 
 // How values are written: compact, or indented by a text.
 #[derive(Drop)]

@@ -9,7 +9,7 @@ ghost use Rattle.tinyjson.specs.declared.parser.stack.Frame.TheVariants as conta
 
 use super::error::{JsonParseError, JsonParseErrorKind};
 use super::reader::Reader;
-use super::source::Source;
+use super::tokens::Tokens;
 use super::stack::{Frame, Stack};
 use crate::value::JsonValue;
 use std::collections::HashMap;
@@ -25,7 +25,7 @@ fn fits(limit: Option<usize>, depth: usize) -> bool
 }
 
 // Where a function answers `true`, a value is whole, and is the last on the stack; otherwise a value is awaited.
-impl<S: Source> Reader<S> {
+impl<S: Tokens> Reader<S> {
     /// Opens the array whose bracket comes next, or reads it whole if it is empty.
     pub(super) fn array(
         &mut self,

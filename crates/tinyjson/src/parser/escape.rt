@@ -3,7 +3,7 @@ ghost use Rattle.std.specs.Prelude.{◌≡◌, ◌≤◌, IfSome, true, false, l
 ghost use Rattle.tinyjson_grammar.specs.Characters.{short_escape, is_high};
 ghost use Rattle.tinyjson.specs.private.Escape.{EscapeAt, NoBackslash, UnitAt};
 
-use super::utf16::{is_high, is_low, pair};
+use tinyjson_source::utf16::{is_high, is_low, pair};
 
 /// What the letter behind a backslash stands for.
 pub(super) fn short_escape(c: char) -> Option<char>

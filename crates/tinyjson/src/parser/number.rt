@@ -18,8 +18,8 @@ ghost use Rattle.tinyjson_number.specs.Reading.{ReadsNumeral, exponent_of, numer
 
 use super::error::{JsonParseError, JsonParseErrorKind};
 use super::reader::Reader;
-use super::scan::digits_end;
-use super::source::Source;
+use tinyjson_source::scan::digits_end;
+use super::tokens::Tokens;
 use super::stack::Stack;
 use crate::value::JsonValue;
 use tinyjson_number::{ExponentParts, JsonNumber, LiteralError, NumberParts};
@@ -129,7 +129,7 @@ fn goes_on(bytes: &[u8], end: usize) -> bool
     end < bytes.len() && matches!(bytes[end], b'.' | b'e' | b'E')
 }
 
-impl<S: Source> Reader<S> {
+impl<S: Tokens> Reader<S> {
     /// Reads the number whose first character, a minus sign or a digit, comes next, and puts it where it
     /// belongs.
     #[inline(always)]

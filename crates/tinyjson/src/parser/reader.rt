@@ -13,7 +13,7 @@ ghost use Rattle.tinyjson.specs.View.{view};
 ghost use Rattle.tinyjson_grammar.specs.declared.error.JsonParseErrorKind.TheVariants.{OutOfMemory};
 
 use super::error::{JsonParseError, JsonParseErrorKind};
-use super::source::Source;
+use super::tokens::Tokens;
 use super::stack::Stack;
 use crate::value::JsonValue;
 use std::alloc::Global;
@@ -22,7 +22,7 @@ use std::alloc::Global;
 #[derive(Drop)]
 pub(super) struct Reader<S>
 where
-    S: Source,
+    S: Tokens,
 {
     pub(super) alloc: Global,
     pub(super) source: S,
@@ -33,7 +33,7 @@ where
     pub(super) units: Vec<u16>,
 }
 
-impl<S: Source> Reader<S> {
+impl<S: Tokens> Reader<S> {
     pub(super) fn new(alloc: Global, source: S) -> Self
         ensures { result.source ≡ source }
     {

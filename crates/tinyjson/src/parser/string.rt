@@ -11,11 +11,12 @@ ghost use Rattle.tinyjson.specs.View.{text};
 use super::error::{JsonParseError, JsonParseErrorKind};
 use super::escape::short_escape;
 use super::reader::Reader;
-use super::source::{Source, is_plain};
-use super::utf16::{decode, push};
+use super::tokens::Tokens;
+use tinyjson_source::source::is_plain;
+use tinyjson_source::utf16::{decode, push};
 use std::mem;
 
-impl<S: Source> Reader<S> {
+impl<S: Tokens> Reader<S> {
     /// Behind the quote that opens a string.
     pub(super) fn string(&mut self) -> Result<String, JsonParseError>
         ensures reads { (limit : Option ℕ) (fs : List Frame) →

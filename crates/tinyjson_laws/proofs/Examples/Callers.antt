@@ -19,7 +19,7 @@ use Rattle.tinyjson_grammar.specs.Soundness.{IsSorted}
 use Rattle.tinyjson_grammar.specs.Text.{compact}
 use Rattle.tinyjson_grammar.specs.Tree.{Tree, boolean, array, Members, put, find, remove}
 use Rattle.tinyjson.specs.View.{view, text, items_view, members_view}
-use Rattle.tinyjson.specs.Written.{Written, WrittenPart}
+use Rattle.tinyjson_output.specs.Written.{Written, WrittenPart}
 use Rattle.tinyjson.specs.declared.value.JsonValue.{JsonValue}
 use Rattle.tinyjson.specs.declared.value.JsonValue.TheVariants as made
 

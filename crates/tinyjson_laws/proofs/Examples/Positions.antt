@@ -1,7 +1,7 @@
 -- Lines and columns.
 use Rattle.std.proofs.Common.{◌≡◌, [], refl}
 use Rattle.std.specs.Prelude.{codes}
-use Rattle.tinyjson.specs.Position.{advance, origin, position_at}
+use Rattle.tinyjson_grammar.specs.Position.{advance, origin, position_at}
 
 nothing : unfold advance in advance origin [] ≡ position_at 1 0
 unfolding advance

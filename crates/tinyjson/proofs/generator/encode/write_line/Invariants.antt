@@ -1,6 +1,6 @@
 use Rattle.std.proofs.Common.{◌-◌, Some}
 use Rattle.std.specs.Str.{encode_utf8_all, chars}
-use Rattle.tinyjson.specs.private.Room.{waiting, Sent}
+use Rattle.tinyjson_output.specs.Room.{waiting, Sent}
 use Rattle.tinyjson_grammar.specs.Text.{newline, repeated}
 use Rattle.tinyjson.proofs.generator.encode.write_line.Given as goal
 

@@ -1,5 +1,5 @@
 use Rattle.std.proofs.Common.{[], ◌∷◌, None, sym, append-nil}
-use Rattle.tinyjson.specs.private.Room.{waiting}
+use Rattle.tinyjson_output.specs.Room.{waiting}
 use Rattle.tinyjson.proofs.Writing.Runs.{taken_back}
 use Rattle.tinyjson.proofs.generator.quick.quick_item.Goals as goal
 use Rattle.tinyjson.proofs.generator.quick.quick_item.Goals.{then-not-first, else-not-first}

@@ -1,5 +1,5 @@
 use Rattle.std.proofs.Common.{ap, length, arith}
-use Rattle.tinyjson.proofs.Writing.Sending.{begins}
+use Rattle.tinyjson_output.proofs.Callers.{sent_begins as begins}
 use Rattle.tinyjson.proofs.Writing.Runs.{item_on}
 use Rattle.tinyjson.proofs.generator.quick.quick_items.Goals as goal
 

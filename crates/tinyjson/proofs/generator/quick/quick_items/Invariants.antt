@@ -1,6 +1,6 @@
 use Rattle.std.proofs.Common.{ℕ, None, ◌≤◌, length}
 use Rattle.std.specs.Str.{encode_utf8_all}
-use Rattle.tinyjson.specs.private.Room.{waiting, Waits}
+use Rattle.tinyjson_output.specs.Room.{waiting, Waits}
 use Rattle.tinyjson_grammar.specs.Text.{items_text}
 use Rattle.tinyjson.specs.View.{items_view}
 use Rattle.tinyjson.proofs.generator.quick.quick_items.Given as goal

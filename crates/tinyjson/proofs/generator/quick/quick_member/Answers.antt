@@ -1,7 +1,7 @@
 use Rattle.std.proofs.Common.{None}
 use Rattle.tinyjson_grammar.specs.Text.{text}
 use Rattle.tinyjson.specs.View.{view}
-use Rattle.tinyjson.specs.private.Room.{waiting}
+use Rattle.tinyjson_output.specs.Room.{waiting}
 use Rattle.tinyjson.proofs.Writing.Runs.{taken_back, member_waits}
 use Rattle.tinyjson.proofs.generator.quick.quick_member.Goals as goal
 

@@ -1,6 +1,6 @@
 use Rattle.std.proofs.Common.{◌≡◌, ◌∷◌, ◌-◌, suc, drop, reverse, arith, refl, ◌∙◌}
 use Rattle.tinyjson.specs.private.Pending.{Gathered}
-use Rattle.tinyjson.proofs.Writing.Sending.{begins}
+use Rattle.tinyjson_output.proofs.Callers.{sent_begins as begins}
 use Rattle.tinyjson.proofs.Writing.Runs.{member_on, skipped, left_behind}
 use Rattle.tinyjson.proofs.generator.quick.quick_members.Goals as goal
 

@@ -1,6 +1,6 @@
 use Rattle.std.proofs.Common.{◌≡◌, ℕ, None, ◌≤◌, take, drop, reverse}
 use Rattle.std.specs.Str.{encode_utf8_all}
-use Rattle.tinyjson.specs.private.Room.{waiting, Waits}
+use Rattle.tinyjson_output.specs.Room.{waiting, Waits}
 use Rattle.tinyjson.specs.private.Sorted.{sorted_view}
 use Rattle.tinyjson_grammar.specs.Text.{members_text}
 use Rattle.tinyjson.proofs.generator.quick.quick_members.Given as goal

@@ -3,7 +3,7 @@ use Rattle.std.proofs.Common.{string_bytes}
 use Rattle.tinyjson_number.specs.Text.{decimal_text}
 use Rattle.tinyjson_number.proofs.Callers.{decimal_ascii}
 use Rattle.tinyjson.proofs.Reading.Containers.{view_Number}
-use Rattle.tinyjson.proofs.Writing.Quotes.{quoted_bytes}
+use Rattle.tinyjson_output.proofs.Callers.{quoted_bytes}
 use Rattle.tinyjson.proofs.generator.quick.quick_value.Goals as goal
 use Rattle.tinyjson.proofs.Values.Equality.{view_String}
 

@@ -1,5 +1,5 @@
 use Rattle.std.proofs.Common.{rules, ◌≡◌, refl}
-use Rattle.tinyjson.proofs.Reading.Units.{scalar_plain}
+use Rattle.tinyjson_source.proofs.Callers.{scalar_plain}
 use Rattle.tinyjson.proofs.Reading.Escapes.{unit_escape}
 use Rattle.tinyjson.proofs.parser.escape.units_at.Goals as goal
 

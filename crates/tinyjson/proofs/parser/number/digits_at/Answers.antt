@@ -1,6 +1,6 @@
 use Rattle.std.proofs.Common.{arith}
 use Rattle.tinyjson.proofs.Reading.Numerals.{digits_pass, digits_split, digits_stop}
-use Rattle.tinyjson.proofs.Reading.Slices.{run_within}
+use Rattle.tinyjson_source.proofs.Callers.{run_within}
 use Rattle.tinyjson.proofs.parser.number.digits_at.Goals as goal
 use Rattle.std.specs.Char.{is_ascii_digit}
 

@@ -1,6 +1,6 @@
 use Rattle.std.proofs.Common.{refl}
 use Rattle.tinyjson.specs.Indent.{indent_of}
-use Rattle.tinyjson.proofs.Writing.Sending.{waits}
+use Rattle.tinyjson_output.proofs.Callers.{sent_waits as waits}
 use Rattle.tinyjson.proofs.generator.encode.Encoder.begin.Goals as goal
 
 pub returns-then-quick_value : goal.returns-then-quick_value

@@ -4,7 +4,7 @@ use Rattle.tinyjson.specs.Indent.{indent_of}
 use Rattle.tinyjson.specs.View.{items_view}
 use Rattle.tinyjson_grammar.specs.Text.{has_no_items}
 use Rattle.tinyjson.specs.declared.generator.pending.Frame.TheVariants.{Items}
-use Rattle.tinyjson.proofs.Writing.Sending.{stops, written_none}
+use Rattle.tinyjson_output.proofs.Callers.{sent_stops as stops, sent_written_none as written_none}
 use Rattle.tinyjson.proofs.Writing.Text.{no_items_is}
 use Rattle.tinyjson.proofs.Writing.Pending.{array_begins, is_compact}
 use Rattle.tinyjson.proofs.Writing.Runs.{array_run, array_end, closed_at_once, stopped_at_once}

@@ -1,7 +1,7 @@
 use Rattle.std.proofs.Common.{[], refl, sym, subst, reverse}
 use Rattle.std.proofs.lemmas.Result.{MatchResult-from_err}
-use Rattle.tinyjson.specs.private.Room.{waiting, Sent, SentPart}
-use Rattle.tinyjson.proofs.Writing.Bytes.{null_bytes}
+use Rattle.tinyjson_output.specs.Room.{waiting, Sent, SentPart}
+use Rattle.tinyjson_output.proofs.Callers.{null_bytes}
 use Rattle.tinyjson.proofs.Reading.Containers.{view_Null, view_Boolean, view_Number}
 use Rattle.tinyjson.proofs.generator.encode.Encoder.begin_slowly.Goals as goal
 use Rattle.tinyjson.proofs.generator.encode.Encoder.begin_slowly.Goals.{in-Null+in_ok-write_bytes-in-Null, in-Boolean+in_ok-write_boolean-in-Boolean, in-Number+in_ok-write_number-in-Number, in-String+in_ok-quote-in-String}

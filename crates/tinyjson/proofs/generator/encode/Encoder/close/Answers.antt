@@ -1,4 +1,4 @@
-use Rattle.tinyjson.proofs.Writing.Sending.{begins, goes, ends, fails}
+use Rattle.tinyjson_output.proofs.Callers.{sent_begins as begins, sent_goes as goes, sent_ends as ends, sent_fails as fails}
 use Rattle.tinyjson.proofs.generator.encode.Encoder.close.Goals as goal
 
 pub returns-in_err-newline : goal.returns-in_err-newline

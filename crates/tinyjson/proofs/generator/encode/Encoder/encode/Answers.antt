@@ -1,5 +1,5 @@
 use Rattle.std.proofs.lemmas.Result.{MatchResult-from_err}
-use Rattle.tinyjson.proofs.Writing.Sending.{flushes}
+use Rattle.tinyjson_output.proofs.Callers.{sent_flushes as flushes}
 use Rattle.tinyjson.proofs.generator.encode.Encoder.encode.Goals as goal
 
 pub returns-in_err-value : goal.returns-in_err-value

@@ -2,7 +2,7 @@ use Rattle.std.proofs.Common.{◌∷◌, [], length, reverse}
 use Rattle.std.specs.Str.{encode_utf8_all}
 use Rattle.tinyjson.specs.Indent.{indent_of}
 use Rattle.tinyjson.specs.private.Pending.{IsStack, frames, owed}
-use Rattle.tinyjson.specs.private.Room.{waiting, Sent}
+use Rattle.tinyjson_output.specs.Room.{waiting, Sent}
 use Rattle.tinyjson.proofs.generator.encode.Encoder.finish.Given as goal
 
 abbrev pub invariant-loop-frame : goal.invariant-loop-frame

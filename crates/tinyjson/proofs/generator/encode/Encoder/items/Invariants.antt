@@ -4,7 +4,7 @@ use Rattle.tinyjson.specs.Indent.{indent_of}
 use Rattle.tinyjson.specs.private.Pending.{frames, owed}
 use Rattle.tinyjson_grammar.specs.Text.{items_text, newline}
 use Rattle.tinyjson.specs.View.{items_view}
-use Rattle.tinyjson.specs.private.Room.{waiting, Sent}
+use Rattle.tinyjson_output.specs.Room.{waiting, Sent}
 use Rattle.tinyjson.proofs.generator.encode.Encoder.items.Given as goal
 
 abbrev pub invariant-loop-item : goal.invariant-loop-item

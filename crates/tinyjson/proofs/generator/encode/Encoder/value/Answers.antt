@@ -1,6 +1,6 @@
 use Rattle.std.proofs.Common.{append-nil, reverse}
 use Rattle.std.proofs.lemmas.Result.{MatchResult-from_err}
-use Rattle.tinyjson.proofs.Writing.Sending.{ends}
+use Rattle.tinyjson_output.proofs.Callers.{sent_ends as ends}
 use Rattle.tinyjson.proofs.generator.encode.Encoder.value.Goals as goal
 
 pub returns-in_err-begin : goal.returns-in_err-begin

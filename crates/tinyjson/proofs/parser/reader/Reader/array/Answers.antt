@@ -2,7 +2,7 @@ use Rattle.std.proofs.Common.{rules, Some, ◌≡◌, ◌∷◌, sym, ap, refl, 
 use Rattle.tinyjson_grammar.specs.Machine.{fits, in_array, next, awaited}
 use Rattle.tinyjson.specs.private.Stack.{frames}
 use Rattle.tinyjson_grammar.specs.declared.error.JsonParseErrorKind.TheVariants.{TooDeep}
-use Rattle.tinyjson.proofs.Reading.Sources.{Takes_shown}
+use Rattle.tinyjson_source.proofs.Callers.{Takes_shown}
 use Rattle.tinyjson.proofs.Reading.Steps.{Leads_to, Leads_trans, Leads_whites, Leads_one, Halts_here, Refuses_as, Refuses_memory, Reads_after, white_first, taken_complete}
 use Rattle.tinyjson.proofs.Reading.Containers.{array_begins, array_too_deep, array_closes_first, array_goes_on}
 use Rattle.tinyjson.proofs.parser.reader.Reader.array.Goals as goal

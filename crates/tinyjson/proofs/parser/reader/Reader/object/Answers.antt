@@ -3,7 +3,7 @@ use Rattle.tinyjson_grammar.specs.Machine.{fits, at_key, next, awaited}
 use Rattle.tinyjson.specs.private.Stack.{frames}
 use Rattle.tinyjson_grammar.specs.Tree.{no_members}
 use Rattle.tinyjson_grammar.specs.declared.error.JsonParseErrorKind.TheVariants.{TooDeep}
-use Rattle.tinyjson.proofs.Reading.Sources.{Takes_shown}
+use Rattle.tinyjson_source.proofs.Callers.{Takes_shown}
 use Rattle.tinyjson.proofs.Reading.Steps.{Leads_to, Leads_trans, Leads_whites, Leads_one, Halts_here, Refuses_as, Refuses_memory, Reads_after, white_first, taken_complete}
 use Rattle.tinyjson.proofs.Reading.Containers.{object_begins, object_too_deep, object_closes_first, object_goes_on}
 use Rattle.tinyjson.proofs.parser.reader.Reader.object.Goals as goal

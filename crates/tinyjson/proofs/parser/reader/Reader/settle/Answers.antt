@@ -2,9 +2,9 @@ use Rattle.std.proofs.Common.{rules, ◌≡◌, ◌∙◌, ◌++◌, [], Some, t
 use Rattle.tinyjson_grammar.specs.Characters.{paired, decode}
 use Rattle.tinyjson.specs.View.{text}
 use Rattle.tinyjson_grammar.specs.Machine.{next, quoted, plain}
-use Rattle.tinyjson.specs.private.Scan.{is_plain}
+use Rattle.tinyjson_source.specs.Scan.{is_plain}
 use Rattle.tinyjson_grammar.specs.declared.error.JsonParseErrorKind.TheVariants.{InvalidUtf16}
-use Rattle.tinyjson.proofs.Reading.Sources.{Takes_shown}
+use Rattle.tinyjson_source.proofs.Callers.{Takes_shown}
 use Rattle.tinyjson.proofs.Reading.Steps.{Leads_nil, Leads_one, Leads_peek, Leads_shown, Leads_to, Refuses_as}
 use Rattle.tinyjson.proofs.Reading.String.{units_added, units_refused}
 use Rattle.tinyjson.proofs.parser.reader.Reader.settle.Goals as goal

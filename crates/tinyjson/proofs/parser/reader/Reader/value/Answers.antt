@@ -4,7 +4,7 @@ use Rattle.tinyjson_grammar.specs.Machine.{complete}
 use Rattle.tinyjson.specs.private.Stack.{frames}
 use Rattle.tinyjson_grammar.specs.declared.error.JsonParseErrorKind.TheVariants.{InvalidCharacter}
 use Rattle.tinyjson.proofs.Reading.Containers.{string_begins}
-use Rattle.tinyjson.proofs.Reading.Sources.{Takes_shown}
+use Rattle.tinyjson_source.proofs.Callers.{Takes_shown}
 use Rattle.tinyjson.proofs.Reading.Steps.{Leads_nil, Leads_one, Leads_shown, Leads_to, Leads_trans, Refuses_after, Refuses_as, Reads_after, invalid}
 use Rattle.tinyjson.proofs.Values.Equality.{view_String}
 use Rattle.tinyjson.proofs.parser.reader.Reader.value.Goals as goal

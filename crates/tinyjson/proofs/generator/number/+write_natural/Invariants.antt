@@ -1,4 +1,0 @@
-use Rattle.tinyjson.proofs.generator.number.+write_natural.Given as goal
-
-abbrev pub decreases-write_natural : goal.decreases-write_natural
-decreases-write_natural g l = l.number

@@ -1,0 +1,63 @@
+//! What a source reads whole, if it has its characters in memory: escapes and numbers.
+ghost use Rattle.std.specs.Prelude.{◌≡◌, ℕ, ◌+◌, ◌^◌, ◌<◌, ◌≤◌, List, [], false, IfSome};
+ghost use Rattle.std.specs.Prelude.{MatchResult, Option, length};
+ghost use Rattle.tinyjson_grammar.specs.Machine.{Frame};
+ghost use Rattle.tinyjson.specs.private.Numerals.{TakesNumeral};
+ghost use Rattle.tinyjson.specs.private.Steps.{Halts, Leads, within};
+ghost use Rattle.tinyjson_number.specs.Reading.{numeral_of};
+
+use super::escape::escape_at;
+use super::number::parts_at;
+use std::alloc::AllocError;
+use tinyjson_number::NumberParts;
+use tinyjson_source::utf16::push;
+use tinyjson_source::{Characters, Source, TextBytes};
+
+/// A source of which the parser reads.
+pub(super) trait Tokens: Source {
+    /// Within a string, with no unit waiting: takes plain characters, and escapes that spell a character
+    /// at once, and adds what they stand for. Where memory runs out, some of them may be taken.
+    fn escaped(&mut self, string: &mut String) -> Result<(), AllocError>
+        ensures reads { (limit : Option ℕ) (fs : List Frame) → MatchResult result
+            (λ _. Leads Self.sight limit self.old (within fs string.old [] false)
+            self.new (within fs string.new [] false))
+            (λ _. Halts Self.sight limit self.old (within fs string.old [] false) self.new) }
+        ensures left { Self.left self.new ≤ Self.left self.old }
+    {
+        self.plain(string)
+    }
+
+    /// The parts of the number that comes next, and the source behind it, if this source finds the number
+    /// whole. It may find none.
+    fn numeral(&self) -> Option<(NumberParts<'_>, Self)>
+        ensures takes { IfSome result (λ r. TakesNumeral Self.sight self.now (numeral_of r.0) r.1) }
+        ensures room { IfSome result (λ r.
+            length r.0.whole.now + length r.0.fraction.now < 2 ^ 64) }
+        ensures left { IfSome result (λ r. Self.left r.1 < Self.left self.now) }
+    {
+        None
+    }
+}
+
+impl<I: Iterator<Item = char>> Tokens for Characters<I> {}
+
+impl<'a> Tokens for TextBytes<'a> {
+    fn escaped(&mut self, string: &mut String) -> Result<(), AllocError> {
+        self.plain(string)?;
+        while let Some((c, end)) = escape_at(self.text.as_bytes(), self.at) {
+            push(string, c)?;
+            self.at = end;
+            self.letters(string)?;
+        }
+        Ok(())
+    }
+
+    fn numeral(&self) -> Option<(NumberParts<'_>, Self)> {
+        let (parts, end) = parts_at(self.text.as_bytes(), self.at)?;
+        let behind = TextBytes {
+            text: self.text,
+            at: end,
+        };
+        Some((parts, behind))
+    }
+}

@@ -1,0 +1,10 @@
+-- What is written, and what waits.
+pub mod Written
+pub mod Sending
+pub mod Copies
+-- The bytes of quoted strings and of numbers.
+pub mod Bytes
+pub mod Digits
+pub mod Quotes
+-- For proofs of callers.
+pub mod Callers

@@ -1,0 +1,95 @@
+//! Quoted strings.
+ghost use Rattle.std.specs.Prelude.{◌≡◌, ◌<◌};
+ghost use Rattle.std.specs.Char.{digit_char};
+ghost use Rattle.std.specs.List.{prefix_len};
+ghost use Rattle.std.specs.Str.{chars};
+ghost use Rattle.tinyjson_source.specs.Scan.{is_plain};
+ghost use Rattle.tinyjson_grammar.specs.Text.{escape, escapes, quoted, IsEscaped};
+ghost use Rattle.tinyjson_output.specs.Room.{waiting, Sends, SendsText};
+
+use crate::room::{Room, write_bytes};
+use tinyjson_source::plain::plain_end;
+use std::io::{self, Write};
+
+/// Writes the text between quotes.
+pub fn quote<W: Write>(out: &mut W, room: &mut Room, text: &str) -> io::Result<()>
+    ensures { SendsText
+        (W.contents out.old, waiting room.old) (W.contents out.new, waiting room.new)
+        (quoted (chars text.now)) result }
+{
+    write_bytes(out, room, b"\"")?;
+    write_escaped(out, room, text.as_bytes())?;
+    write_bytes(out, room, b"\"")
+}
+
+#[inline(always)]
+fn write_escaped<W: Write>(out: &mut W, room: &mut Room, bytes: &[u8]) -> io::Result<()>
+    ensures { Sends
+        (W.contents out.old, waiting room.old) (W.contents out.new, waiting room.new)
+        (escapes bytes.now) result }
+{
+    let stop = plain_end(bytes, 0);
+    write_bytes(out, room, &bytes[..stop])?;
+    if stop == bytes.len() {
+        return Ok(());
+    }
+    write_stopped(out, room, &bytes[stop..])
+}
+
+// Writes an escape, and the bytes up to the next one in one piece.
+#[inline(never)]
+fn write_stopped<W: Write>(out: &mut W, room: &mut Room, bytes: &[u8]) -> io::Result<()>
+    requires { prefix_len is_plain bytes.now ≡ 0 }
+    ensures { Sends
+        (W.contents out.old, waiting room.old) (W.contents out.new, waiting room.new)
+        (escapes bytes.now) result }
+{
+    let mut rest = bytes;
+    while let Some((byte, behind)) = rest.split_first() {
+        write_escape(out, room, *byte)?;
+        let stop = plain_end(behind, 0);
+        write_bytes(out, room, &behind[..stop])?;
+        rest = &behind[stop..];
+    }
+    Ok(())
+}
+
+fn write_escape<W: Write>(out: &mut W, room: &mut Room, byte: u8) -> io::Result<()>
+    requires { IsEscaped byte }
+    ensures { Sends
+        (W.contents out.old, waiting room.old) (W.contents out.new, waiting room.new)
+        (escape byte) result }
+{
+    match byte {
+        0x08 => write_bytes(out, room, b"\\b"),
+        b'\t' => write_bytes(out, room, b"\\t"),
+        b'\n' => write_bytes(out, room, b"\\n"),
+        0x0c => write_bytes(out, room, b"\\f"),
+        b'\r' => write_bytes(out, room, b"\\r"),
+        b'"' => write_bytes(out, room, b"\\\""),
+        b'\\' => write_bytes(out, room, b"\\\\"),
+        _ => write_bytes(
+            out,
+            room,
+            &[
+                b'\\',
+                b'u',
+                b'0',
+                b'0',
+                hex_digit(byte / 16),
+                hex_digit(byte % 16),
+            ],
+        ),
+    }
+}
+
+fn hex_digit(value: u8) -> u8
+    requires { value < 16 }
+    ensures { result ≡ digit_char value }
+{
+    if value < 10 {
+        b'0' + value
+    } else {
+        b'a' + (value - 10)
+    }
+}

@@ -1,0 +1,5 @@
+-- What contracts say of sources.
+pub mod Source
+pub mod Cursor
+pub mod Slice
+pub mod Scan
