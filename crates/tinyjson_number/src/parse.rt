@@ -1,7 +1,7 @@
 //! The number that a text spells (RFC 8259, section 6).
 ghost use Rattle.std.specs.Prelude.{◌≡◌, ℕ, ◌+◌, ◌<◌, ◌≤◌, ◌^◌, ◌++◌, length, take, drop, min, pos};
-ghost use Rattle.std.specs.Prelude.{neg_ℤ, ◌≤ℤ◌};
-ghost use Rattle.std.specs.Prelude.{option_map, IfSome, MatchOption, FitsSigned, IsTrue};
+ghost use Rattle.std.specs.Prelude.{neg_ℤ, ◌≤ℤ◌, None};
+ghost use Rattle.std.specs.Prelude.{option_map, IfSome, IsOk, MatchOption, FitsSigned, IsTrue};
 ghost use Rattle.std.specs.Int.{w64};
 ghost use Rattle.std.specs.List.{prefix_len};
 ghost use Rattle.std.specs.Char.{is_ascii_digit};
@@ -116,7 +116,9 @@ impl JsonNumber {
     pub fn from_parts(alloc: Global, parts: NumberParts<'_>) -> Result<JsonNumber, LiteralError>
         requires numeral { IsNumeral (numeral_of parts) }
         requires room { length parts.whole.now + length parts.fraction.now < 2 ^ 64 }
-        ensures { ReadsNumeral (numeral_of parts.entry) result }
+        ensures reads { ReadsNumeral (numeral_of parts.entry) result }
+        ensures few { parts.entry.exponent ≡ None
+            → length parts.entry.whole.now + length parts.entry.fraction.now ≤ 24 → IsOk result }
     {
         if parts.exponent.is_none()
             && parts.whole.len() + parts.fraction.len() <= ROOM
@@ -148,7 +150,9 @@ fn bare(negative: bool, whole: &[u8], fraction: &[u8]) -> JsonNumber
 fn uneven(alloc: Global, parts: NumberParts<'_>) -> Result<JsonNumber, LiteralError>
     requires numeral { IsNumeral (numeral_of parts) }
     requires room { length parts.whole.now + length parts.fraction.now < 2 ^ 64 }
-    ensures { ReadsNumeral (numeral_of parts.entry) result }
+    ensures reads { ReadsNumeral (numeral_of parts.entry) result }
+    ensures few { parts.entry.exponent ≡ None
+        → length parts.entry.whole.now + length parts.entry.fraction.now ≤ 24 → IsOk result }
 {
     if parts.exponent.is_none() && parts.whole.len() + parts.fraction.len() <= ROOM {
         return Ok(short(parts.negative, parts.whole, parts.fraction));

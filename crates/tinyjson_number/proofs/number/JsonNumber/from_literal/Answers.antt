@@ -28,5 +28,5 @@ returns c = λ n s.
     let t = c.as_bytes.result.now in
     let k = plain_of (scan t) (numeral_of c.in-Some.parts) c.in-Some.ensures in
     let spelled = subst (Spells k.0) c.as_bytes.ensures.value (scan_sound t k.0 k.1) in
-    let read = parts_read k.0 c.in-Some.parts k.2 c.from_parts.result c.from_parts.ensures in
+    let read = parts_read k.0 c.in-Some.parts k.2 c.from_parts.result c.from_parts.ensures.reads in
     subst (λ (m : Numeral). ReadsNumeral m c.from_parts.result) (one_numeral c.args.literal.now k.0 n spelled s) read

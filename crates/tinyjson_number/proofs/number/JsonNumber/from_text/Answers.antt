@@ -28,7 +28,7 @@ returns-in_ok-from_parts-in-Some c =
     let t = c.as_bytes.result.now in
     let k = plain_of (scan t) (numeral_of c.in-Some.parts) c.in-Some.ensures in
     let spelled = subst (Spells k.0) c.as_bytes.ensures.value (scan_sound t k.0 k.1) in
-    let read = parts_read k.0 c.in-Some.parts k.2 c.from_parts.result c.from_parts.ensures in
+    let read = parts_read k.0 c.in-Some.parts k.2 c.from_parts.result c.from_parts.ensures.reads in
     reads_number c.args.text.now k.0 c.in_ok-from_parts-in-Some.field-0 spelled (subst (ReadsNumeral k.0) c.in_ok-from_parts-in-Some.was read)
 
 pub returns-in_err-from_parts-in-Some : goal.returns-in_err-from_parts-in-Some
@@ -36,5 +36,5 @@ returns-in_err-from_parts-in-Some c =
     let t = c.as_bytes.result.now in
     let k = plain_of (scan t) (numeral_of c.in-Some.parts) c.in-Some.ensures in
     let spelled = subst (Spells k.0) c.as_bytes.ensures.value (scan_sound t k.0 k.1) in
-    let read = parts_read k.0 c.in-Some.parts k.2 c.from_parts.result c.from_parts.ensures in
+    let read = parts_read k.0 c.in-Some.parts k.2 c.from_parts.result c.from_parts.ensures.reads in
     refused_so c.args.text.now k.0 c.in_err-from_parts-in-Some.field-0.0 c.from_residual.result c.from_residual.ensures.1 spelled (subst (ReadsNumeral k.0) c.in_err-from_parts-in-Some.was read)

@@ -15,4 +15,4 @@ pub returns : goal.returns
 returns g c = λ n s at.
     let has = subst (Gathered n) (sym c.as_bytes-digits.ensures.value) s in
     parts_read n (parts_of c.as_bytes-digits.result.now c.args.marks c.exponent_parts.result)
-    (parts_plain n _ c.args.marks has at c.exponent_parts.result c.exponent_parts.ensures) c.from_parts.result c.from_parts.ensures
+    (parts_plain n _ c.args.marks has at c.exponent_parts.result c.exponent_parts.ensures) c.from_parts.result c.from_parts.ensures.reads

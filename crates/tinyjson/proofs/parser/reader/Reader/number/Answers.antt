@@ -21,5 +21,5 @@ returns-in-Ok-clause-reads g c = λ limit.
     let p = c.args.self.now.source in
     let q = c.in-Some.behind in
     let x = c.in-Ok.number in
-    let l = Leads_plain sight p q n c.in-Some.ensures.takes limit fs x c.in-Ok.ensures in
+    let l = Leads_plain sight p q n c.in-Some.ensures.takes limit fs x c.in-Ok.ensures.reads in
     Reads_after sight limit _ _ _ _ _ (Leads_to sight limit _ _ l (ap (λ t. complete true fs t true) (sym (view_Number x)))) (c.put.ensures.reads limit)
