@@ -1,5 +1,5 @@
 //! How a number keeps its digits.
-ghost use Rattle.std.specs.Prelude.{◌≡◌, ◌+◌, ◌<◌, ◌^◌, [], ◌++◌, length, IfOk};
+ghost use Rattle.std.specs.Prelude.{◌≡◌, ◌+◌, ◌<◌, ◌≤◌, ◌^◌, [], ◌++◌, length, IfOk, IsOk};
 ghost use Rattle.std.specs.Str.{IsAscii};
 ghost use Rattle.tinyjson_number.specs.Number.{digits_of};
 
@@ -28,7 +28,8 @@ impl Digits {
         requires front { IsAscii front.now }
         requires back { IsAscii back.now }
         requires room { length front.now + length back.now < 2 ^ 64 }
-        ensures { IfOk result (λ d. digits_of d ≡ front.now ++ back.now) }
+        ensures digits { IfOk result (λ d. digits_of d ≡ front.now ++ back.now) }
+        ensures few { length front.now + length back.now ≤ 24 → IsOk result }
     {
         if front.len() + back.len() <= ROOM {
             return Ok(Digits::Short(Inline::joined(front, back)));

@@ -1,6 +1,6 @@
 //! Whole numbers as decimals, and back.
 ghost use Rattle.std.specs.Prelude.{◌≡◌, ℕ, ℤ, pos, ◌*◌, ◌<◌, ◌^◌, drop};
-ghost use Rattle.std.specs.Prelude.{IfOk, IfSome, MatchOption, SomeIff, FitsSigned};
+ghost use Rattle.std.specs.Prelude.{IfOk, IsOk, IfSome, MatchOption, SomeIff, FitsSigned};
 ghost use Rattle.std.specs.Fmt.{decimal};
 ghost use Rattle.std.specs.Int.{w64};
 ghost use Rattle.std.specs.Str.Parse.{digits_value};
@@ -12,26 +12,28 @@ use crate::parse::strip_trailing;
 use std::alloc::{AllocError, Global};
 
 impl JsonNumber {
-    /// The decimal of a whole number.
+    /// The decimal of a whole number. There is never an error.
     ///
     /// ```
     /// let number = JsonNumber::from_u64(alloc, 1200)?;
     /// assert_eq!(rt; number.to_string(alloc)?.as_str(), "1200");
     /// ```
     pub fn from_u64(alloc: Global, value: u64) -> Result<JsonNumber, AllocError>
-        ensures { IfOk result (λ n. n.decimal ≡ integer_decimal (pos value)) }
+        ensures decimal { IfOk result (λ n. n.decimal ≡ integer_decimal (pos value)) }
+        ensures ok { IsOk result }
     {
         from_magnitude(alloc, false, value)
     }
 
-    /// The decimal of a whole number.
+    /// The decimal of a whole number. There is never an error.
     ///
     /// ```
     /// let number = JsonNumber::from_i64(alloc, -5)?;
     /// assert_eq!(rt; number.to_string(alloc)?.as_str(), "-5");
     /// ```
     pub fn from_i64(alloc: Global, value: i64) -> Result<JsonNumber, AllocError>
-        ensures { IfOk result (λ n. n.decimal ≡ integer_decimal value) }
+        ensures decimal { IfOk result (λ n. n.decimal ≡ integer_decimal value) }
+        ensures ok { IsOk result }
     {
         from_magnitude(alloc, value < 0, value.unsigned_abs())
     }
@@ -131,7 +133,8 @@ fn times_ten(number: u64, times: u64) -> Option<u64>
 
 // The decimal of a whole number and a sign.
 fn from_magnitude(alloc: Global, negative: bool, value: u64) -> Result<JsonNumber, AllocError>
-    ensures { IfOk result (λ n. n.decimal ≡ whole_decimal negative value) }
+    ensures decimal { IfOk result (λ n. n.decimal ≡ whole_decimal negative value) }
+    ensures ok { IsOk result }
 {
     if value == 0 {
         return Ok(JsonNumber::zero());

@@ -1,5 +1,5 @@
 //! The number itself.
-ghost use Rattle.std.specs.Prelude.{◌≡◌, ◌↔◌, ◌+◌, ◌<◌, ◌≤◌, ◌^◌, ◌++◌, length, IsTrue, IfOk};
+ghost use Rattle.std.specs.Prelude.{◌≡◌, ◌↔◌, ◌+◌, ◌<◌, ◌≤◌, ◌^◌, ◌++◌, length, IsTrue, IfOk, IsOk};
 ghost use Rattle.tinyjson_number.specs.Decimal.{zero_decimal};
 ghost use Rattle.tinyjson_number.specs.Canonical.{is_canonical};
 ghost use Rattle.tinyjson_number.specs.Number.{digits_of};
@@ -68,8 +68,9 @@ impl JsonNumber {
     ) -> Result<JsonNumber, AllocError>
         requires room { length front.now + length back.now < 2 ^ 64 }
         requires canonical { IsTrue (is_canonical negative (front.now ++ back.now) power) }
-        ensures { IfOk result (λ n. n.decimal
+        ensures decimal { IfOk result (λ n. n.decimal
             ≡ record { negative = negative; digits = front.now ++ back.now; power = power }) }
+        ensures few { length front.now + length back.now ≤ 24 → IsOk result }
     {
         let digits = Digits::joined(alloc, front, back)?;
         Ok(JsonNumber {
@@ -144,14 +145,15 @@ impl JsonNumber {
         self.power
     }
 
-    /// An equal number, with memory of its own where it needs any. `self` stays as it is.
+    /// An equal number, with memory of its own where it has more than 24 digits. `self` stays as it is.
     ///
     /// ```
     /// let number = JsonNumber::from_text(alloc, "-0.5")?;
     /// assert!(rt; number.try_clone(alloc)? == number);
     /// ```
     pub fn try_clone(&self, alloc: Global) -> Result<JsonNumber, AllocError>
-        ensures { IfOk result (λ n. n.decimal ≡ self.now.decimal) }
+        ensures decimal { IfOk result (λ n. n.decimal ≡ self.now.decimal) }
+        ensures few { length self.now.decimal.digits ≤ 24 → IsOk result }
     {
         if self.is_zero() {
             return Ok(JsonNumber::zero());

@@ -57,7 +57,7 @@ returns c =
     let p = c.in-Some.power in
     let fits : FitsSigned w64 p = search rules in
     let power = rw (to_z-of_z w128 c.capped_exponent-exponent.result wide, c.capped_exponent-exponent.ensures.value) at c.in-Some.ensures in
-    let decimal = rw (to_z-of_z w64 p fits) at c.in_ok-of_digits.ensures in (
+    let decimal = rw (to_z-of_z w64 p fits) at c.in_ok-of_digits.ensures.decimal in (
       decimal ∙ value_kept n s c.strip-kept.result.zeros c.strip-kept.ensures.digits some (c.strip-kept.ensures.zeros found) (omega (arith, c.requires.room)) (omega arith) p power fits,
       value_in n s c.strip-kept.result.zeros c.strip-kept.ensures.digits some (c.strip-kept.ensures.zeros found) (omega (arith, c.requires.room)) (omega arith) p power fits,
     )
