@@ -4,15 +4,11 @@ ghost use Rattle.tinyjson_number.specs.Text.{decimal_text, integer_text, natural
 ghost use Rattle.tinyjson_output.specs.Room.{waiting, Sends, SendsText};
 
 use crate::room::{Room, write_bytes};
-use tinyjson_number::JsonNumber;
 use std::io::{self, Write};
+use tinyjson_number::JsonNumber;
 
 /// Writes the text of a number.
-pub fn write_number<W: Write>(
-    out: &mut W,
-    room: &mut Room,
-    number: &JsonNumber,
-) -> io::Result<()>
+pub fn write_number<W: Write>(out: &mut W, room: &mut Room, number: &JsonNumber) -> io::Result<()>
     ensures { SendsText
         (W.contents out.old, waiting room.old) (W.contents out.new, waiting room.new)
         (decimal_text number.now.decimal) result }

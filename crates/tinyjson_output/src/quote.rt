@@ -8,8 +8,8 @@ ghost use Rattle.tinyjson_grammar.specs.Text.{escape, escapes, quoted, IsEscaped
 ghost use Rattle.tinyjson_output.specs.Room.{waiting, Sends, SendsText};
 
 use crate::room::{Room, write_bytes};
-use tinyjson_source::plain::plain_end;
 use std::io::{self, Write};
+use tinyjson_source::plain::plain_end;
 
 /// Writes the text between quotes.
 pub fn quote<W: Write>(out: &mut W, room: &mut Room, text: &str) -> io::Result<()>

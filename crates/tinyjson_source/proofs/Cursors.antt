@@ -1,5 +1,5 @@
 -- How a cursor over an iterator goes on.
-use Rattle.std.proofs.Common.{◌≡◌, ℕ, Bool, true, false, cond, not, is_some, List, [], ◌∷◌, ◌++◌, Option, Some, None, refl, sym, ap, ◌∙◌, ◌<◌, ◌+◌, arith, true≢false, append_assoc, subst, Result, Ok, Err, OnOk}
+use Rattle.std.proofs.Common.{◌≡◌, ℕ, Bool, true, false, not, is_some, List, [], ◌∷◌, ◌++◌, Option, Some, None, refl, sym, ap, ◌∙◌, ◌<◌, ◌+◌, arith, true≢false, append_assoc, subst, Result, Ok, Err, OnOk}
 use Rattle.std.specs.Char.{is_ascii_digit}
 use Rattle.std.specs.Option.{option_to_list}
 use Rattle.std.specs.Iterator.{Count, MakesProgress}

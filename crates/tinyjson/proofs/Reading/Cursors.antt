@@ -1,5 +1,5 @@
 -- What a cursor gives is what a parser over it has left.
-use Rattle.std.proofs.Common.{◌≡◌, ℕ, Bool, true, false, List, [], ◌++◌, Option, Some, None, cond, refl, sym, ◌∙◌, true≢false}
+use Rattle.std.proofs.Common.{◌≡◌, ℕ, Bool, true, false, List, [], ◌++◌, Option, Some, None, cond, refl, sym, true≢false}
 use Rattle.std.specs.Option.{option_to_list}
 use Rattle.tinyjson_source.specs.Cursor.{Gives, Begins}
 use Rattle.tinyjson_source.specs.declared.cursor.Cursor.{Cursor}

@@ -1,6 +1,6 @@
 -- Escapes among the bytes of a text.
-use Rattle.std.proofs.Common.{◌≡◌, ℕ, suc, ◌+◌, ◌*◌, ◌-◌, ◌<◌, ◌≤◌, true, false, not, List, [], ◌∷◌, ◌++◌, length, take, drop, get_or, Option, Some, Result, Ok, Err, OnOk, is_err, refl, sym, ap, ap₂, ◌∙◌, subst, arith, length-append, append-nil, append_assoc, drop-cons, add-zero}
-use Rattle.std.specs.Prelude.{nat_lt, slice_get}
+use Rattle.std.proofs.Common.{◌≡◌, ℕ, suc, ◌+◌, ◌*◌, ◌-◌, ◌<◌, ◌≤◌, true, false, not, List, [], ◌∷◌, ◌++◌, length, take, drop, get_or, Option, Some, Result, is_err, refl, sym, ap, ap₂, ◌∙◌, subst, arith, length-append, append-nil, append_assoc, drop-cons, add-zero}
+use Rattle.std.specs.Prelude.{slice_get}
 use Rattle.std.specs.Char.{is_ascii, digit_value, len_utf8}
 use Rattle.std.specs.List.{AllByRecursion}
 use Rattle.std.specs.Str.{IsUtf8, IsCharBoundary, chars}
@@ -12,16 +12,14 @@ use Rattle.std.proofs.Math.Seq.{take-append_seam}
 use Rattle.tinyjson_grammar.specs.Characters.{is_hex, is_high, is_low, is_surrogate, pair_of, unit_of, paired, decode, short_escape}
 use Rattle.tinyjson.specs.private.Escape.{Stands, UnitAt, NoBackslash, EscapeAt}
 use Rattle.tinyjson_source.specs.Slice.{before, behind, NextChar}
-use Rattle.tinyjson_source.specs.Slice.Laws.{line_bound, column_bound, shown_once, shown_first, nothing_left}
 use Rattle.tinyjson_source.specs.Scan.{is_plain}
-use Rattle.tinyjson_source.specs.Source.{Sight, Takes, TakesRun}
+use Rattle.tinyjson_source.specs.Source.{TakesRun}
 use Rattle.tinyjson_grammar.specs.Position.{advance, origin}
 use Rattle.tinyjson_source.specs.declared.text.TextBytes.{TextBytes}
 use Rattle.tinyjson_grammar.specs.Machine.{step, Frame, Next, next, plain, backslash, hex, quoted}
 use Rattle.tinyjson.specs.private.Steps.{onward, IsNext, IsTaken, Same, Comes, Leads, Halts}
 use Rattle.tinyjson_source.proofs.Callers.{All_append, text_sight}
-use Rattle.tinyjson_source.proofs.Callers.{between, char_between, char_boundary, next_of, small, step_gives, step_moves}
-use Rattle.tinyjson_source.proofs.Callers.{Takes_append}
+use Rattle.tinyjson_source.proofs.Callers.{between, next_of, small, step_gives, step_moves}
 use Rattle.tinyjson.proofs.Reading.Steps.{Same_refl, Comes_trans, Leads_to, Leads_trans, Halts_trans, end_quoted}
 use Rattle.tinyjson.proofs.Reading.String.{hexing, hex_next, hex_step, hex_taken, hex_done, backslash_read, u_read, short_read, plain_added, plain_halts}
 

@@ -1,5 +1,5 @@
 //! Values that hold no other, which wait as a whole, or not at all.
-ghost use Rattle.std.specs.Prelude.{◌≡◌, ◌≤◌, ◌++◌, ◌∷◌, [], ℕ, List, Option, None, IsTrue, length};
+ghost use Rattle.std.specs.Prelude.{◌≡◌, ◌≤◌, ◌++◌, ◌∷◌, ℕ, List, Option, None, IsTrue, length};
 ghost use Rattle.std.specs.Prelude.{take, drop, reverse};
 ghost use Rattle.std.specs.Bool.{MatchBool};
 ghost use Rattle.std.specs.Str.{chars, encode_utf8_all};

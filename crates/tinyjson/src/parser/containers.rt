@@ -9,8 +9,8 @@ ghost use Rattle.tinyjson.specs.declared.parser.stack.Frame.TheVariants as conta
 
 use super::error::{JsonParseError, JsonParseErrorKind};
 use super::reader::Reader;
-use super::tokens::Tokens;
 use super::stack::{Frame, Stack};
+use super::tokens::Tokens;
 use crate::value::JsonValue;
 use std::collections::HashMap;
 

@@ -18,11 +18,11 @@ ghost use Rattle.tinyjson_number.specs.Reading.{ReadsNumeral, exponent_of, numer
 
 use super::error::{JsonParseError, JsonParseErrorKind};
 use super::reader::Reader;
-use tinyjson_source::scan::digits_end;
-use super::tokens::Tokens;
 use super::stack::Stack;
+use super::tokens::Tokens;
 use crate::value::JsonValue;
 use tinyjson_number::{ExponentParts, JsonNumber, LiteralError, NumberParts};
+use tinyjson_source::scan::digits_end;
 
 /// What a number has besides its digits, which are gathered without anything between them.
 #[derive(Clone, Copy)]

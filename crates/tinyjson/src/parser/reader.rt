@@ -13,8 +13,8 @@ ghost use Rattle.tinyjson.specs.View.{view};
 ghost use Rattle.tinyjson_grammar.specs.declared.error.JsonParseErrorKind.TheVariants.{OutOfMemory};
 
 use super::error::{JsonParseError, JsonParseErrorKind};
-use super::tokens::Tokens;
 use super::stack::Stack;
+use super::tokens::Tokens;
 use crate::value::JsonValue;
 use std::alloc::Global;
 

@@ -12,9 +12,9 @@ use super::error::{JsonParseError, JsonParseErrorKind};
 use super::escape::short_escape;
 use super::reader::Reader;
 use super::tokens::Tokens;
+use std::mem;
 use tinyjson_source::source::is_plain;
 use tinyjson_source::utf16::{decode, push};
-use std::mem;
 
 impl<S: Tokens> Reader<S> {
     /// Behind the quote that opens a string.

@@ -1,5 +1,5 @@
 //! What a source reads whole, if it has its characters in memory: escapes and numbers.
-ghost use Rattle.std.specs.Prelude.{◌≡◌, ℕ, ◌+◌, ◌^◌, ◌<◌, ◌≤◌, List, [], false, IfSome};
+ghost use Rattle.std.specs.Prelude.{ℕ, ◌+◌, ◌^◌, ◌<◌, ◌≤◌, List, [], false, IfSome};
 ghost use Rattle.std.specs.Prelude.{MatchResult, Option, length};
 ghost use Rattle.tinyjson_grammar.specs.Machine.{Frame};
 ghost use Rattle.tinyjson.specs.private.Numerals.{TakesNumeral};

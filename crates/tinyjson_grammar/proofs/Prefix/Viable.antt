@@ -7,7 +7,7 @@ use Rattle.tinyjson_grammar.specs.Characters.{is_hex, paired}
 use Rattle.tinyjson_number.specs.Numeral.{Exponent, IsNumeral, AreDigits, minus_text, fraction_text, sign_text, exponent_text, value}
 use Rattle.tinyjson_grammar.specs.Syntax.{Syntax, null, text, depth, Piece, unit, ArePieces, piece_codes, pieces_text}
 use Rattle.tinyjson_grammar.specs.Prefix.{IsFaultless, IsValue}
-use Rattle.tinyjson_grammar.specs.Machine.{Frame, Phase, Stage, Within}
+use Rattle.tinyjson_grammar.specs.Machine.{Within}
 use Rattle.tinyjson_grammar.specs.Machine
 use Rattle.tinyjson_grammar.specs.Prefix.{IsLooselyViable}
 use Rattle.tinyjson_grammar.specs.Refusal.{IsPromptly, AreLate, is_late, IsHex}

@@ -4,7 +4,7 @@ use Rattle.std.proofs.Math.Seq.{take-append_seam, get_or-append_seam}
 use Rattle.std.specs.Char.{IsScalar}
 use Rattle.std.proofs.lemmas.Bool.{eqb-false, not-true, not-false}
 use Rattle.tinyjson_grammar.specs.Machine.{strictly}
-use Rattle.tinyjson_grammar.specs.Tree.{key_of, is_string, Tree, no_members, put, items_of}
+use Rattle.tinyjson_grammar.specs.Tree.{Tree, no_members}
 use Rattle.tinyjson_grammar.specs.Tree as tree
 use Rattle.tinyjson_grammar.specs.Syntax.{Syntax, text, tree_of}
 use Rattle.tinyjson_number.specs.Numeral.{has_leading_zero, value, in_range}

@@ -6,7 +6,7 @@ use Rattle.tinyjson_grammar.specs.Machine.{strictly}
 use Rattle.tinyjson_grammar.specs.Tree.{no_members}
 use Rattle.tinyjson_grammar.specs.Characters.{is_white}
 use Rattle.tinyjson_grammar.specs.Syntax.{Syntax, null, empty_array, empty_object, IsWithin, tree_of}
-use Rattle.tinyjson_grammar.specs.Machine.{Frame, Phase, first, awaited, word, digits, quoted, colon, after, finished, Stage, Within, Next, next, stop, Rules, complete, complete_key, step_plain, step_awaited, step_first, step_word, start, push_frame, step_after, step_colon, fits}
+use Rattle.tinyjson_grammar.specs.Machine.{Frame, Phase, first, awaited, word, step_plain, step_awaited, step_first, start, push_frame, fits}
 use Rattle.tinyjson_grammar.specs.Machine
 use Rattle.tinyjson_grammar.specs.Refusal.{begins_value}
 use Rattle.tinyjson_grammar.proofs.Trace.Paths.{Path, outside, item_in, key_in, value_in, path_text, path_frames, level, IsPath}

@@ -3,7 +3,7 @@ use Rattle.std.proofs.Common.{◌≡◌, ℕ, Bool, true, false, List, [], ◌�
 use Rattle.std.specs.Char.{is_ascii_digit}
 use Rattle.std.proofs.lemmas.Bool.{eqb-true, not-true, not-false, or_from}
 use Rattle.tinyjson_grammar.specs.Machine.{strictly}
-use Rattle.tinyjson_grammar.specs.Tree.{key_of, is_string, Tree, no_members, put, items_of}
+use Rattle.tinyjson_grammar.specs.Tree.{Tree, no_members}
 use Rattle.tinyjson_grammar.specs.Tree as tree
 use Rattle.tinyjson_grammar.specs.Syntax.{Syntax, text}
 use Rattle.tinyjson_number.specs.Numeral.{Numeral, IsNumeral, AreDigits, has_leading_zero, minus_text, spelling, value, in_range}

@@ -3,12 +3,11 @@ use Rattle.std.proofs.Common.{◌≡◌, ℕ, ◌<◌, true, false, List, [], �
 use Rattle.std.specs.Char.{IsScalar}
 use Rattle.std.proofs.lemmas.Bool.{not-true, not-false, eqb-false, ltb-true, ltb-false}
 use Rattle.tinyjson_grammar.specs.Machine.{strictly}
-use Rattle.tinyjson_grammar.specs.Tree.{key_of, is_string, Tree, no_members, put, items_of}
 use Rattle.tinyjson_grammar.specs.Tree as tree
 use Rattle.tinyjson_grammar.specs.Characters.{is_hex, unit_of, decode, paired, short_escape}
 use Rattle.tinyjson_grammar.specs.Syntax.{Syntax, Piece, unit, IsPiece, ArePieces, code, piece_text, pieces_text}
 use Rattle.tinyjson_grammar.specs.declared.error.JsonParseErrorKind.TheVariants.{InvalidUtf16, InvalidHexDigit}
-use Rattle.tinyjson_grammar.specs.Machine.{Frame, Phase, first, awaited, word, digits, quoted, colon, after, finished, Stage, Within, Next, next, stop, Rules, complete, complete_key, step_plain, step_awaited, step_first, step_word, step_quoted, step_escape, flush, start, push_frame, step_after, step_colon, fits}
+use Rattle.tinyjson_grammar.specs.Machine.{Frame, Phase, digits, quoted, after, Within, Next, next, stop, complete, step_quoted, step_escape, flush}
 use Rattle.tinyjson_grammar.specs.Machine
 use Rattle.tinyjson_grammar.specs.Refusal.{IsHex, AreUnits, EndsRun}
 use Rattle.tinyjson_grammar.specs.Refusal as refusal

@@ -7,7 +7,7 @@ use Rattle.tinyjson_number.specs.Numeral.{Numeral, Exponent, IsExponent, AreDigi
 use Rattle.tinyjson_grammar.specs.Syntax.{Syntax, text, AreWhite, IsSpelled, depth, IsWithin, tree_of, Piece, unit, ArePieces, piece_codes, pieces_text}
 use Rattle.tinyjson_grammar.specs.Grammar.{IsLoose}
 use Rattle.tinyjson_grammar.specs.Prefix.{IsValue}
-use Rattle.tinyjson_grammar.specs.Machine.{Frame, Phase, first, awaited, word, digits, quoted, colon, after, finished, Stage, Within, Next, next, stop, Rules}
+use Rattle.tinyjson_grammar.specs.Machine.{Frame, Phase, first, awaited, word, digits, quoted, colon, after, finished, Stage, Within}
 use Rattle.tinyjson_grammar.specs.Machine
 use Rattle.tinyjson_grammar.specs.Prefix.{IsLooselyViable}
 use Rattle.tinyjson_grammar.specs.Refusal.{IsLiteral, IsHex, EndsBefore}
