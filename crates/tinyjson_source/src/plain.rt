@@ -31,13 +31,29 @@ fn plain_tail(bytes: &[u8], from: usize) -> usize
     ensures { result ≡ from + prefix_len is_plain (drop from bytes.now) }
 {
     if bytes.len() - from < 8 {
-        return plain_bytes(bytes, from);
+        return plain_few(bytes, from);
     }
     let found = stops_8(u8x8::from_slice(&bytes[from..]));
     if found != 0 {
         return from + found.trailing_zeros() as usize;
     }
-    plain_bytes(bytes, from + 8)
+    plain_few(bytes, from + 8)
+}
+
+// The same where fewer than eight bytes are left.
+#[inline(always)]
+fn plain_few(bytes: &[u8], from: usize) -> usize
+    requires { from ≤ length bytes.now }
+    ensures { result ≡ from + prefix_len is_plain (drop from bytes.now) }
+{
+    if bytes.len() - from < 4 {
+        return plain_bytes(bytes, from);
+    }
+    let found = stops_4(u8x4::from_slice(&bytes[from..]));
+    if found != 0 {
+        return from + found.trailing_zeros() as usize;
+    }
+    plain_bytes(bytes, from + 4)
 }
 
 // The same byte by byte.
@@ -69,4 +85,13 @@ fn stops_8(v: u8x8) -> u64
     (v.simd_eq(u8x8::splat(b'"'))
         | v.simd_eq(u8x8::splat(b'\\'))
         | v.simd_lt(u8x8::splat(0x20))).to_bitmask()
+}
+
+#[inline(always)]
+fn stops_4(v: u8x4) -> u64
+    ensures { result ≡ mask_l (map is_stop v) }
+{
+    (v.simd_eq(u8x4::splat(b'"'))
+        | v.simd_eq(u8x4::splat(b'\\'))
+        | v.simd_lt(u8x4::splat(0x20))).to_bitmask()
 }
