@@ -1,5 +1,6 @@
 //! The characters of a text in memory, read where they lie.
 ghost use Rattle.std.specs.Prelude.{◌≡◌, ◌-◌, length, slice_get};
+ghost use Rattle.std.specs.Char.{len_utf8};
 ghost use Rattle.std.specs.Str.{IsUtf8, IsCharBoundary, chars};
 ghost use Rattle.tinyjson_grammar.specs.Characters.{is_white};
 ghost use Rattle.tinyjson_grammar.specs.Position.{advance, position_at, origin};
@@ -98,7 +99,7 @@ impl<'a> Source for TextBytes<'a> {
     fn bump(&mut self) -> Option<char> {
         let next = self.first();
         if let Some(c) = next {
-            self.at += c.len_utf8();
+            self.at += width(c);
         }
         next
     }
@@ -165,4 +166,12 @@ impl<'a> Source for TextBytes<'a> {
         }
         (line, column)
     }
+}
+
+/// How many bytes the character takes.
+#[inline(always)]
+fn width(c: char) -> usize
+    ensures { result ≡ len_utf8 c }
+{
+    if c < '\u{80}' { 1 } else { c.len_utf8() }
 }

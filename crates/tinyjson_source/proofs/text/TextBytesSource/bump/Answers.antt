@@ -9,15 +9,15 @@ invariant_of-self c =
     let self = c.args.self.now in
     record {
       utf8 = self.utf8;
-      boundary = char_boundary self.text.now (IsUtf8-had self.text.now self.utf8) self.at self.boundary c.in-Some.c _ c.in-Some.ensures c.len_utf8.ensures.value;
+      boundary = char_boundary self.text.now (IsUtf8-had self.text.now self.utf8) self.at self.boundary c.in-Some.c _ c.in-Some.ensures c.width.ensures;
     }
 
 pub returns-in-Some-clause-takes : goal.returns-in-Some-clause-takes
 returns-in-Some-clause-takes c =
     let self = c.args.self.now in
     let utf8 = IsUtf8-had self.text.now self.utf8 in
-    let last = char_boundary self.text.now utf8 self.at self.boundary c.in-Some.c _ c.in-Some.ensures c.len_utf8.ensures.value in
-    let one = char_between self.text.now utf8 self.at self.boundary c.in-Some.c _ c.in-Some.ensures c.len_utf8.ensures.value in
+    let last = char_boundary self.text.now utf8 self.at self.boundary c.in-Some.c _ c.in-Some.ensures c.width.ensures in
+    let one = char_between self.text.now utf8 self.at self.boundary c.in-Some.c _ c.in-Some.ensures c.width.ensures in
     record {
       gives = step_gives self.text.now utf8 self.at _ (omega arith) self.boundary last _ one;
       moves = step_moves self.text.now utf8 self.at _ (omega arith) self.boundary last _ one;
