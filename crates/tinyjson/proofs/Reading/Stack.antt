@@ -3,7 +3,7 @@ use Rattle.std.proofs.Common.{◌≡◌, ℕ, suc, ◌+◌, ◌-◌, ◌≤◌, 
 use Rattle.std.proofs.Math.Seq.{drop-length, take-length, take-append_seam, drop-append_seam}
 use Rattle.std.proofs.lemmas.List.{reverse-append, reverse-reverse, map-append, length-drop, drop-append-le, take-append-le, length-take-le, length-append, length-reverse, take-append-drop, drop_all}
 use Rattle.tinyjson_grammar.specs.Tree.{Tree, Members, no_members, put, string, array, object, is_string}
-use Rattle.tinyjson.specs.View.{view, text, items_view, members_view}
+use Rattle.tinyjson.specs.View.{view, text, items_view}
 use Rattle.tinyjson.specs.Access.{JsonMap}
 use Rattle.tinyjson_grammar.specs.Machine.{Frame, in_array, at_key, at_value, awaited, after, colon, Next, next, stop, complete}
 use Rattle.tinyjson.specs.private.Stack.{gather, waiting, frames_over, whole_over, own_members, other_maps, Lies, open_of, maps_of, frames, at, HasWhole, AwaitsKey, TakesValue, BeginsMember, ClosesArray, ClosesObject}
@@ -93,11 +93,11 @@ whole_member n m os vs v ks ms h k e =
 
 -- ---- a container that begins
 
-pub frames_object : (os : List Open) (vs : List JsonValue) (ks : Keys) (m : JsonMap) (ms : List JsonMap) → m.entries ≡ []
-    → frames_over (container.Object (length vs) (length ks) ∷ os) vs ks (m ∷ ms) ≡ at_key no_members ∷ frames_over os vs ks ms
-frames_object os vs ks m ms e =
-    ap₂ (λ ds es. at_key (gather (members_view m.entries) ds es) ∷ frames_over os (take (length vs) vs) (take (length ks) ks) ms) (drop-length ks) (drop-length vs)
-    ∙ ap (λ es. at_key (members_view es) ∷ frames_over os (take (length vs) vs) (take (length ks) ks) ms) e
+pub frames_object : (os : List Open) (vs : List JsonValue) (ks : Keys) (ms ns : List JsonMap) → own_members ns ≡ no_members → other_maps ns ≡ ms
+    → frames_over (container.Object (length vs) (length ks) ∷ os) vs ks ns ≡ at_key no_members ∷ frames_over os vs ks ms
+frames_object os vs ks ms ns own others =
+    ap₂ (λ ds es. at_key (gather (own_members ns) ds es) ∷ frames_over os (take (length vs) vs) (take (length ks) ks) (other_maps ns)) (drop-length ks) (drop-length vs)
+    ∙ ap₂ (λ is js. at_key is ∷ frames_over os (take (length vs) vs) (take (length ks) ks) js) own others
     ∙ ap₂ (λ us js. at_key no_members ∷ frames_over os us js ms) (take-length vs) (take-length ks)
 
 -- ---- a key that is read

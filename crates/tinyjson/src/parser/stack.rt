@@ -36,7 +36,7 @@ pub(super) struct Stack {
     containers: Vec<Frame>,
     values: Vec<JsonValue>,
     keys: Vec<String>,
-    /// A map for each object, with its first members if it has many.
+    /// A map for each object, with its first members if it has many. The outermost objects may lack theirs.
     maps: Vec<HashMap<String, JsonValue>>,
 }
 
@@ -118,14 +118,29 @@ impl Stack {
         ensures awaits { OnOk result (AwaitsKey self.new) }
     {
         let (values, keys) = (self.values.len(), self.keys.len());
-        if self.maps.push(HashMap::new(self.alloc)).is_err() {
-            return Err(AllocError);
-        }
+        self.open_map()?;
         if self
             .containers
             .push(Frame::Object { values, keys })
             .is_err()
         {
+            return Err(AllocError);
+        }
+        Ok(())
+    }
+
+    /// Gives an object that is opened an empty map, if an object around it has one.
+    fn open_map(&mut self) -> Result<(), AllocError>
+        ensures members { OnOk result (own_members (maps_of self.new) ≡ no_members) }
+        ensures maps { OnOk result (other_maps (maps_of self.new) ≡ maps_of self.old) }
+        ensures containers { self.new.containers ≡ self.old.containers }
+        ensures values { self.new.values ≡ self.old.values }
+        ensures keys { self.new.keys ≡ self.old.keys }
+    {
+        if self.maps.is_empty() {
+            return Ok(());
+        }
+        if self.maps.push(HashMap::new(self.alloc)).is_err() {
             return Err(AllocError);
         }
         Ok(())
@@ -193,6 +208,25 @@ impl Stack {
         if self.values.len() - values < MANY {
             return Ok(());
         }
+        self.settle_many(values, keys)
+    }
+
+    /// The same where they are many.
+    #[inline(never)]
+    fn settle_many(&mut self, values: usize, keys: usize) -> Result<(), AllocError>
+        requires values { values ≤ length self.old.values.items }
+        requires keys { keys ≤ length self.old.keys.items }
+        requires count { length self.old.keys.items + values ≡ length self.old.values.items + keys }
+        ensures frames { (os : List container.the_data) →
+            OnOk result (frames_over (container.Object values keys ∷ os) self.new.values.items
+            self.new.keys.items (maps_of self.new)
+            ≡ frames_over (container.Object values keys ∷ os) self.old.values.items
+            self.old.keys.items (maps_of self.old)) }
+        ensures lies { (os : List container.the_data) → Lies os values keys →
+            OnOk result (Lies (container.Object values keys ∷ os) (length self.new.values.items)
+            (length self.new.keys.items)) }
+        ensures containers { self.new.containers ≡ self.old.containers }
+    {
         let members = self.take_members(values, keys)?;
         if let Err(refused) = self.maps.push(members) {
             JsonValue::Object(refused.value).dismantle();
