@@ -6,5 +6,6 @@ pub mod NumberSteps
 pub mod Numerals
 pub mod Pending
 pub mod Sorted
+pub mod Members
 pub mod Copy
 pub mod Escape

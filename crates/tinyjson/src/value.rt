@@ -19,6 +19,7 @@ mod replace;
 
 pub use access::{InnerAsRef, InnerAsRefMut};
 pub use convert::UnexpectedValue;
+pub(crate) use members::add_member;
 pub use members::{insert_member, remove_member};
 pub use tinyjson_grammar::JsonKind;
 

@@ -1,5 +1,5 @@
 -- A value, and a map's entries, beside the trees that they stand for.
-use Rattle.std.proofs.Common.{◌≡◌, Bool, true, false, ℕ, List, [], ◌∷◌, ◌++◌, Bor, bytes_eq, string_bytes, Option, Some, None, cond, option_map, String, Global, ◌⊎◌, inl, inr, true≢false, refl, sym, ap, ◌∙◌, subst}
+use Rattle.std.proofs.Common.{◌≡◌, Bool, true, false, ℕ, List, [], ◌∷◌, ◌++◌, Bor, bytes_eq, string_bytes, Option, Some, None, cond, is_some, option_map, String, Global, ◌⊎◌, inl, inr, true≢false, refl, sym, ap, ◌∙◌, subst}
 use Rattle.std.proofs.lemmas.Bool.Decides.{same_from_decides}
 use Rattle.std.proofs.lemmas.Slice.Eq.{bytes_eq-Decides}
 use Rattle.std.proofs.lemmas.Str.{encodes-chars, IsUtf8-string_bytes}
@@ -13,6 +13,7 @@ use Rattle.tinyjson_grammar.proofs.Callers.{cond_swap, find_put, find_remove, so
 use Rattle.tinyjson_grammar.specs.Soundness.{IsSorted}
 use Rattle.tinyjson_grammar.specs.Tree.{Tree, Members, put, find, remove}
 use Rattle.tinyjson.specs.View.{text, view, seen_entries, members_view}
+use Rattle.tinyjson.specs.private.Members.{add}
 use Rattle.tinyjson.specs.declared.value.JsonValue.{JsonValue}
 
 abbrev pub Entry : Type 0
@@ -140,3 +141,28 @@ members_view_removes old new bs u updates =
 pub view_ref : (r : Option (Bor JsonValue)) → option_map (λ x. view x.now) r ≡ option_map view (option_map (λ x. x.now) r)
 view_ref None = refl
 view_ref (Some x) = refl
+
+find_text : (k : String Global) (es : List Entry) → find (text k) (members_view es) ≡ option_map view (lookup (string_eq k) es)
+find_text k es = find_members_view (string_bytes k) (IsUtf8-string_bytes k) es
+
+-- a map with v at k, which it lacked
+pub members_view_added : (old new : List Entry) (k : String Global) (v : JsonValue) → lookup (string_eq k) old ≡ None
+    → ((q : String Global) → lookup (string_eq q) new ≡ cond (string_eq k q) (Some v) (lookup (string_eq q) old)) → members_view new ≡ add (text k) (view v) (members_view old)
+members_view_added old new k v none h =
+    members_view_updates old new k v h
+    ∙ ap (λ o. cond (is_some o) (members_view old) (put (text k) (view v) (members_view old))) (sym (find_text k old ∙ ap (option_map view) none))
+
+-- a map with v at k, which it had there
+pub members_view_kept : (old new : List Entry) (k : String Global) (w v : JsonValue) → lookup (string_eq k) old ≡ Some v
+    → ((q : String Global) → lookup (string_eq q) new ≡ cond (string_eq k q) (Some v) (lookup (string_eq q) old)) → members_view new ≡ add (text k) (view w) (members_view old)
+members_view_kept old new k w v some h =
+    let ms = members_view old in
+    let found : find (text k) ms ≡ Some (view v) = find_text k old ∙ ap (option_map view) some in
+    let sorted = members_of_sorted (seen_entries old) in
+    members_view_updates old new k v h
+    ∙ members_from_find _ _ (sorted_put (text k) (view v) ms sorted) sorted (λ q. find_put q (text k) (view v) ms ∙ at q (bytes_eq q (text k)) refl found)
+    ∙ ap (λ o. cond (is_some o) ms (put (text k) (view w) ms)) (sym found)
+  where
+    at : (q : List ℕ) (b : Bool) → bytes_eq q (text k) ≡ b → find (text k) (members_view old) ≡ Some (view v) → cond b (Some (view v)) (find q (members_view old)) ≡ find q (members_view old)
+    at q true e found = sym (ap (λ x. find x (members_view old)) ((bytes_eq-Decides q (text k)).0 e) ∙ found)
+    at q false e found = refl

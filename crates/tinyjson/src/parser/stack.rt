@@ -11,7 +11,7 @@ ghost use Rattle.tinyjson_grammar.specs.Tree.{no_members};
 ghost use Rattle.tinyjson.specs.View.{view, text, members_view};
 ghost use Rattle.tinyjson.specs.declared.parser.stack.Frame.TheVariants as container;
 
-use crate::value::{JsonValue, insert_member};
+use crate::value::{JsonValue, add_member, insert_member};
 use std::alloc::{AllocError, Global};
 use std::collections::HashMap;
 use std::mem;
@@ -320,8 +320,61 @@ impl Stack {
         }
     }
 
-    /// Moves the values and the keys from these places on into a map, the first member first.
+    /// Moves the values and the keys from these places on into a map.
     fn fill(
+        &mut self,
+        members: &mut HashMap<String, JsonValue>,
+        values: usize,
+        keys: usize,
+    ) -> Result<(), AllocError>
+        requires values { values ≤ length self.old.values.items }
+        requires keys { keys ≤ length self.old.keys.items }
+        requires count { length self.old.keys.items + values ≡ length self.old.values.items + keys }
+        ensures members { OnOk result (members_view members.new.entries
+            ≡ gather (members_view members.old.entries) (drop keys self.old.keys.items)
+            (drop values self.old.values.items)) }
+        ensures containers { self.new.containers ≡ self.old.containers }
+        ensures maps { self.new.maps ≡ self.old.maps }
+        ensures values { OnOk result (self.new.values.items ≡ take values self.old.values.items) }
+        ensures keys { OnOk result (self.new.keys.items ≡ take keys self.old.keys.items) }
+    {
+        if members.is_empty() && self.values.len() - values < MANY {
+            return self.fill_empty(members, values, keys);
+        }
+        self.fill_behind(members, values, keys)
+    }
+
+    /// The same where the map has no members, the last member first, which is the last on the stack too.
+    fn fill_empty(
+        &mut self,
+        members: &mut HashMap<String, JsonValue>,
+        values: usize,
+        keys: usize,
+    ) -> Result<(), AllocError>
+        requires empty { members_view members.old.entries ≡ no_members }
+        requires values { values ≤ length self.old.values.items }
+        requires keys { keys ≤ length self.old.keys.items }
+        requires count { length self.old.keys.items + values ≡ length self.old.values.items + keys }
+        ensures members { OnOk result (members_view members.new.entries
+            ≡ gather (members_view members.old.entries) (drop keys self.old.keys.items)
+            (drop values self.old.values.items)) }
+        ensures containers { self.new.containers ≡ self.old.containers }
+        ensures maps { self.new.maps ≡ self.old.maps }
+        ensures values { OnOk result (self.new.values.items ≡ take values self.old.values.items) }
+        ensures keys { OnOk result (self.new.keys.items ≡ take keys self.old.keys.items) }
+    {
+        while self.values.len() > values {
+            let (Some(key), Some(value)) = (self.keys.pop(), self.values.pop()) else {
+                unreachable!()
+            };
+            add_member(members, key, value)?;
+        }
+        Ok(())
+    }
+
+    /// The same behind the members that the map has, the first member first.
+    #[inline(never)]
+    fn fill_behind(
         &mut self,
         members: &mut HashMap<String, JsonValue>,
         values: usize,

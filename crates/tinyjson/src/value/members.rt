@@ -4,10 +4,12 @@ ghost use Rattle.std.specs.Prelude.{◌≡◌, OnOk, OnErr, option_map};
 ghost use Rattle.std.specs.Str.{chars};
 ghost use Rattle.tinyjson_grammar.specs.Tree.{put, find, remove};
 ghost use Rattle.tinyjson.specs.View.{view, text, members_view};
+ghost use Rattle.tinyjson.specs.private.Members.{add};
 
 use super::JsonValue;
 use std::alloc::AllocError;
 use std::collections::HashMap;
+use std::collections::hash_map::Entry;
 
 /// Puts the value at the key of an object's members, in the place of what they had there.
 ///
@@ -37,6 +39,33 @@ pub fn insert_member(
         }
         Err(refused) => {
             refused.value.1.dismantle();
+            Err(AllocError)
+        }
+    }
+}
+
+/// Puts the value at the key of an object's members, if they have none there. A value that is dropped is freed
+/// by a loop.
+pub(crate) fn add_member(
+    members: &mut HashMap<String, JsonValue>,
+    key: String,
+    value: JsonValue,
+) -> Result<(), AllocError>
+    ensures { OnOk result (members_view members.new.entries
+        ≡ add (text key) (view value) (members_view members.old.entries)) }
+{
+    match members.entry(key) {
+        Ok(Entry::Vacant(place)) => {
+            place.insert(value);
+            Ok(())
+        }
+        Ok(Entry::Occupied(place)) => {
+            place.into_mut();
+            value.dismantle();
+            Ok(())
+        }
+        Err(_) => {
+            value.dismantle();
             Err(AllocError)
         }
     }
