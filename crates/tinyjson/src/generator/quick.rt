@@ -121,7 +121,7 @@ pub(super) fn quick_member(
         ++ encode_utf8_all (quoted (chars key.now) ++ (58 ∷ text None k (view value.now))))))
         (waiting room.new ≡ waiting room.old) }
 {
-    if matches!(value, JsonValue::Array(_) | JsonValue::Object(_)) {
+    if holds_others(value) {
         return false;
     }
     let len = room.len();
@@ -131,6 +131,33 @@ pub(super) fn quick_member(
     if quick_value(room, value) {
         return true;
     }
+    if quick_empty(room, value) {
+        return true;
+    }
     room.truncate(len);
     false
+}
+
+// The text of an array or object that is empty.
+#[inline(never)]
+fn quick_empty(room: &mut Room, value: &JsonValue) -> bool
+    ensures { (w : Option (List ℕ)) (k : ℕ) → MatchBool result
+        (waiting room.new ≡ waiting room.old ++ encode_utf8_all (text w k (view value.now)))
+        (waiting room.new ≡ waiting room.old) }
+{
+    match value {
+        JsonValue::Array(items) => items.is_empty() && quick_word(room, b"[]"),
+        JsonValue::Object(members) => members.is_empty() && quick_word(room, b"{}"),
+        _ => false,
+    }
+}
+
+// Whether the value is an array or object that isn't empty: only a hint, that saves the key.
+#[inline(always)]
+fn holds_others(value: &JsonValue) -> bool {
+    match value {
+        JsonValue::Array(items) => !items.is_empty(),
+        JsonValue::Object(members) => !members.is_empty(),
+        _ => false,
+    }
 }
