@@ -3,7 +3,8 @@
 use Rattle.std.specs.Prelude.{ℕ, Bool, true, false, cond, ◌||◌, ◌&&◌, ◌==◌, not, List, [], ◌∷◌, ◌++◌, Option, Some, None, length, nat_lt}
 use Rattle.std.specs.Char.{is_ascii_digit}
 use Rattle.tinyjson_number.specs.Numeral.{is_exponent_letter, Numeral, Exponent, has_leading_zero, value, in_range}
-use Rattle.tinyjson_grammar.specs.Tree.{Tree, null, boolean, number, string, array, object, Members, no_members, put, items_of, is_string, key_of}
+use Rattle.tinyjson_grammar.specs.Tree.{Tree, null, boolean, number, string, array, object}
+use Rattle.tinyjson_grammar.specs.Tree.{Members, no_members, put, items_of, is_string, key_of}
 use Rattle.tinyjson_grammar.specs.Characters.{is_white, is_hex, short_escape, unit_of, decode, paired}
 use Rattle.tinyjson_grammar.specs.Kind.{kind_of}
 use Rattle.tinyjson_grammar.specs.declared.error.JsonParseErrorKind.{JsonParseErrorKind}

@@ -1,7 +1,8 @@
 -- What can still become a text (a viable prefix), and what has no fault so far.
 use Rattle.std.specs.Prelude.{◌≡◌, ℕ, ◌+◌, max, false, List, [], ◌∷◌, ◌++◌, Option, ⊤, ◌⊎◌, IsTrue}
 use Rattle.tinyjson_grammar.specs.Characters.{paired}
-use Rattle.tinyjson_grammar.specs.Syntax.{Syntax, text, AreWhite, IsSpelled, IsStrict, is_key, Piece, pieces_text, ArePieces, piece_codes, depth}
+use Rattle.tinyjson_grammar.specs.Syntax.{Syntax, text, AreWhite, IsSpelled, IsStrict, is_key}
+use Rattle.tinyjson_grammar.specs.Syntax.{Piece, pieces_text, ArePieces, piece_codes, depth}
 use Rattle.tinyjson_grammar.specs.Syntax.{IsWithin}
 use Rattle.tinyjson_grammar.specs.Grammar.{IsLoose, IsAccepted}
 

@@ -5,7 +5,8 @@ use Rattle.std.specs.Str.{all_scalars}
 use Rattle.std.specs.declared.cmp.Ordering.TheVariants.{Less}
 use Rattle.tinyjson_number.specs.Canonical.{IsDecimalAt}
 use Rattle.tinyjson_number.specs.Numeral.{power_width}
-use Rattle.tinyjson_grammar.specs.Tree.{Tree, Items, Members, null, boolean, number, string, array, object, no_items, item, no_members, member}
+use Rattle.tinyjson_grammar.specs.Tree.{Tree, Items, Members, null, boolean, number, string}
+use Rattle.tinyjson_grammar.specs.Tree.{array, object, no_items, item, no_members, member}
 use Rattle.tinyjson_grammar.specs.Tree.{key_cmp}
 
 -- the key is below the first of the members

@@ -4,7 +4,8 @@ use Rattle.std.specs.Prelude.{true, false, cond, codes}
 use Rattle.std.specs.Char.{digit_char}
 -- n times the text
 pub use Rattle.std.specs.List.{repeat as repeated}
-use Rattle.tinyjson_grammar.specs.Tree.{Tree, Items, Members, null, boolean, number, string, array, object, no_items, item, no_members, member}
+use Rattle.tinyjson_grammar.specs.Tree.{Tree, Items, Members, null, boolean, number, string}
+use Rattle.tinyjson_grammar.specs.Tree.{array, object, no_items, item, no_members, member}
 use Rattle.tinyjson_number.specs.Text.{decimal_text}
 
 -- how a character stands inside a string

@@ -1,6 +1,7 @@
 -- The texts of a tree without and with an indent, each said by itself.
 use Rattle.std.specs.Prelude.{◌≡◌, ℕ, ◌+◌, List, [], ◌∷◌, ◌++◌, cond, codes}
-use Rattle.tinyjson_grammar.specs.Tree.{Tree, Items, Members, null, boolean, number, string, array, object, no_items, item, no_members, member}
+use Rattle.tinyjson_grammar.specs.Tree.{Tree, Items, Members, null, boolean, number, string}
+use Rattle.tinyjson_grammar.specs.Tree.{array, object, no_items, item, no_members, member}
 use Rattle.tinyjson_number.specs.Text.{decimal_text}
 use Rattle.tinyjson_grammar.specs.Text.{quoted, repeated, compact, indented}
 
