@@ -90,30 +90,3 @@ fn end_line<W: Write>(output: &mut W) -> io::Result<()>
     }
     Ok(())
 }
-
-#[cfg(test)]
-mod tests {
-    use super::*;
-    use std::test::Fail;
-
-    #[test]
-    fn lines_up_to_the_first_that_is_refused(rt: HostRuntime) -> Result<(), Fail> {
-        let alloc = rt.alloc();
-        for (text, written, refused) in [
-            ("", "", None),
-            (
-                "{\"b\":1, \"a\":[1.0]}\r\n\"x\"",
-                "{\"a\":[1],\"b\":1}\n\"x\"\n",
-                None,
-            ),
-            ("1\n[1,]\n2\n", "1\n", Some((2, 3))),
-            ("1\n\n", "1\n", Some((2, 0))),
-        ] {
-            let (mut input, mut output) = (text.as_bytes(), Vec::new(alloc));
-            let answer = write_lines(alloc, &mut input, &mut output)?;
-            assert_eq!(rt; output.as_slice(), written.as_bytes());
-            assert!(rt; answer.map(|r| (r.number, r.error.column())) == refused);
-        }
-        Ok(())
-    }
-}

@@ -9,8 +9,6 @@
 mod index;
 mod parse;
 mod pointer;
-#[cfg(test)]
-mod tests;
 mod walk;
 
 pub use pointer::{Pointer, PointerError};

@@ -7,13 +7,11 @@
 
 mod keywords;
 mod order;
-#[cfg(test)]
-mod tests;
 mod validate;
 
 use std::io::{self, ErrorKind};
 use std::process::ExitCode;
-use tinyjson::{JsonParser, JsonValue};
+use tinyjson::{JsonParseError, JsonValue};
 use validate::invalid_place;
 
 /// How many containers may be open at once: the check takes stack as the value is deep.
@@ -21,8 +19,12 @@ const DEPTH_LIMIT: usize = 1_000;
 
 fn main(rt: HostRuntime) -> ExitCode {
     match check(&rt) {
-        Ok(true) => ExitCode::SUCCESS,
-        Ok(false) => ExitCode::from(1),
+        Ok(Ok(true)) => ExitCode::SUCCESS,
+        Ok(Ok(false)) => ExitCode::from(1),
+        Ok(Err(error)) => {
+            let _ = eprintln!(rt; "json_schema: {error}");
+            ExitCode::from(2)
+        }
         Err(error) => {
             let _ = eprintln!(rt; "json_schema: {error}");
             let is_input = matches!(
@@ -34,10 +36,24 @@ fn main(rt: HostRuntime) -> ExitCode {
     }
 }
 
-fn check(rt: &(impl Input + Print + AllocGlobal)) -> io::Result<bool> {
+// From standard input to standard output. The inner error is one of the text.
+fn check(rt: &(impl Input + Print + AllocGlobal)) -> io::Result<Result<bool, JsonParseError>> {
     let alloc = rt.alloc();
     let text = io::read_to_string(alloc, rt.reader())?;
-    let input = JsonParser::with_depth_limit(alloc, text.as_str().chars(), DEPTH_LIMIT).parse()?;
+    let input = match JsonValue::from_str_with_depth_limit(alloc, text.as_str(), DEPTH_LIMIT) {
+        Ok(input) => input,
+        Err(error) if error.is_out_of_memory() => return Err(error.into()),
+        Err(error) => return Ok(Err(error)),
+    };
+    print_judgment(rt, &input)
+}
+
+// Whether the input's value is valid by its schema.
+fn print_judgment(
+    rt: &(impl Print + AllocGlobal),
+    input: &JsonValue,
+) -> io::Result<Result<bool, JsonParseError>> {
+    let alloc = rt.alloc();
     let items = input.get::<Vec<JsonValue>>();
     let Some([schema, value]) = items.map(|items| items.as_slice()) else {
         let message = "the input is no array of a schema and a value";
@@ -46,11 +62,11 @@ fn check(rt: &(impl Input + Print + AllocGlobal)) -> io::Result<bool> {
     match invalid_place(value, schema, alloc)? {
         None => {
             println!(rt; "valid")?;
-            Ok(true)
+            Ok(Ok(true))
         }
         Some(place) => {
             println!(rt; "{place}")?;
-            Ok(false)
+            Ok(Ok(false))
         }
     }
 }

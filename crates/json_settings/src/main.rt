@@ -1,29 +1,82 @@
-//! Reads settings from standard input, an object with `port`, `host` and `tls`, and prints them.
+//! Reads settings from standard input, an object with `port`, `host` and `tls`, and prints them. With a
+//! port as its one word it prints the object instead, with that port in the place of its own.
 //!
-//! The status is 0 for settings, 1 where the text has none, and 2 where it could not be read.
+//! The status is 0 after success, 1 where the text has no settings or no port, and 2 for other words, or
+//! where memory, a read or a write failed.
 #![tactic(auto)]
 
 pub mod servers;
 pub mod settings;
 
-use std::io;
+use settings::{Key, SettingsError};
+use std::env::{self, Env};
+use std::io::{self, ErrorKind};
 use std::process::ExitCode;
+use tinyjson::JsonValue;
 
 fn main(rt: HostRuntime) -> ExitCode {
-    let alloc = rt.alloc();
-    let Ok(text) = io::read_to_string(alloc, rt.reader()) else {
-        let _ = eprintln!(rt; "json_settings: the input is not UTF-8, or could not be read");
-        return ExitCode::from(2);
-    };
-    match settings::read(alloc, text.as_str()) {
-        Ok(settings) => {
-            let scheme = if settings.tls { "https" } else { "http" };
-            let _ = println!(rt; "{scheme}://{}:{}", settings.host, settings.port);
-            ExitCode::SUCCESS
-        }
-        Err(error) => {
+    match answer(&rt) {
+        Ok(Ok(())) => ExitCode::SUCCESS,
+        Ok(Err(error)) => {
             let _ = eprintln!(rt; "json_settings: {error}");
             ExitCode::from(1)
         }
+        Err(error) => {
+            let _ = eprintln!(rt; "json_settings: {error}");
+            ExitCode::from(2)
+        }
     }
+}
+
+// From standard input to standard output. The outer error is one of the words, of reading or of writing.
+fn answer(rt: &(impl Env + Input + Print + AllocGlobal)) -> io::Result<Result<(), SettingsError>> {
+    let port = port_asked(rt)?;
+    let text = io::read_to_string(rt.alloc(), rt.reader())?;
+    match port {
+        None => print_settings(rt, text.as_str()),
+        Some(port) => print_with_port(rt, text.as_str(), port),
+    }
+}
+
+// The port that the words of the command line ask for.
+fn port_asked(rt: &(impl Env + AllocGlobal)) -> io::Result<Option<u16>> {
+    let mut words = env::args(rt)?.skip(1);
+    let Some(word) = words.next() else {
+        return Ok(None);
+    };
+    match word.as_str().parse() {
+        Ok(port) if port > 0 && words.next().is_none() => Ok(Some(port)),
+        _ => Err(io::Error::new(ErrorKind::InvalidInput, "usage: json_settings [PORT]")),
+    }
+}
+
+fn print_settings(
+    rt: &(impl Print + AllocGlobal),
+    text: &str,
+) -> io::Result<Result<(), SettingsError>> {
+    match settings::read(rt.alloc(), text) {
+        Ok(settings) => {
+            let scheme = if settings.tls { "https" } else { "http" };
+            println!(rt; "{scheme}://{}:{}", settings.host, settings.port)?;
+            Ok(Ok(()))
+        }
+        Err(error) => Ok(Err(error)),
+    }
+}
+
+fn print_with_port(
+    rt: &(impl Print + AllocGlobal),
+    text: &str,
+    port: u16,
+) -> io::Result<Result<(), SettingsError>> {
+    let alloc = rt.alloc();
+    let mut value = match JsonValue::from_str(alloc, text) {
+        Ok(value) => value,
+        Err(error) => return Ok(Err(SettingsError::Text(error))),
+    };
+    if settings::set_port(alloc, &mut value, port)?.is_none() {
+        return Ok(Err(SettingsError::Lacks(Key::Port)));
+    }
+    println!(rt; "{}", value.stringify(alloc)?)?;
+    Ok(Ok(()))
 }

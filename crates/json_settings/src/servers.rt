@@ -28,27 +28,3 @@ pub fn replace_server(
     }
     Ok(servers.replace_item(index, server))
 }
-
-#[cfg(test)]
-mod tests {
-    use super::*;
-    use std::test::Fail;
-
-    #[test]
-    fn server_is_replaced_in_place(rt: HostRuntime) -> Result<(), Fail> {
-        let alloc = rt.alloc();
-        let Ok(mut servers) = JsonValue::from_str(alloc, r#"[{"port":80},true]"#) else {
-            return Err(Fail::from("refused"));
-        };
-        let Ok(server) = JsonValue::from_str(alloc, r#"{"port":8443}"#) else {
-            return Err(Fail::from("refused"));
-        };
-        assert!(rt; replace_server(&mut servers, 1, server) == Ok(JsonValue::from(true)));
-        assert!(rt; replace_server(&mut servers, 2, JsonValue::Null) == Err(JsonValue::Null));
-        assert_eq!(rt;
-            servers.stringify(alloc)?.as_str(),
-            r#"[{"port":80},{"port":8443}]"#
-        );
-        Ok(())
-    }
-}

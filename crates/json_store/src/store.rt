@@ -58,22 +58,3 @@ impl Store {
         Ok(())
     }
 }
-
-#[cfg(test)]
-mod tests {
-    use super::*;
-    use std::test::Fail;
-
-    #[test]
-    fn equal_values_share_a_count(rt: HostRuntime) -> Result<(), Fail> {
-        let alloc = rt.alloc();
-        let mut store = Store::new(alloc);
-        for text in [r#"{"a": 1, "b": [2.0]}"#, r#"{"b": [20e-1], "a": 1}"#, "[]"] {
-            store.add(alloc, &JsonValue::from_str(alloc, text)?)?;
-        }
-        let value = JsonValue::from_str(alloc, r#"{"b":[2],"a":1}"#)?;
-        assert_eq!(rt; store.count(alloc, &value)?, 2);
-        assert_eq!(rt; store.count(alloc, &JsonValue::Null)?, 0);
-        Ok(())
-    }
-}
