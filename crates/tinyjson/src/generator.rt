@@ -8,7 +8,6 @@ ghost use Rattle.tinyjson_output.specs.Written.{WritesText};
 
 mod encode;
 mod pending;
-mod presort;
 mod quick;
 mod sorted;
 

@@ -6,10 +6,10 @@ ghost use Rattle.std.specs.String.{string_eq};
 ghost use Rattle.tinyjson.specs.private.Sorted.{bytes_pair, now_pair, sorted_view};
 ghost use Rattle.tinyjson.specs.View.{members_view};
 
-use super::presort::presort;
 use crate::value::JsonValue;
 use std::alloc::{AllocError, Global};
 use std::collections::HashMap;
+use tinyjson_output::presort::presort;
 
 // Puts the members behind those that were gathered before, the last key's member first, so that they
 // are popped in the order of their keys' bytes.

@@ -2,7 +2,6 @@
 ghost use Rattle.std.specs.Prelude.{◌≡◌, ◌<◌, length, IfOk};
 ghost use Rattle.std.specs.List.Sorted.{IsPermutation};
 
-use crate::value::JsonValue;
 use std::alloc::{AllocError, Global};
 
 /// So few members are sorted as fast as they are presorted.
@@ -12,7 +11,7 @@ const FEW: usize = 32;
 /// member first. Where memory is wanting, or there are few, or the first of them rise or fall already,
 /// they stay as they are.
 #[inline(always)]
-pub(super) fn presort(alloc: Global, members: &mut [(&str, &JsonValue)])
+pub fn presort<T>(alloc: Global, members: &mut [(&str, &T)])
     ensures { IsPermutation members.old members.new }
 {
     if members.len() > FEW && !is_run(&members[..FEW]) {
@@ -21,12 +20,12 @@ pub(super) fn presort(alloc: Global, members: &mut [(&str, &JsonValue)])
 }
 
 /// Whether the keys rise, or fall.
-fn is_run(members: &[(&str, &JsonValue)]) -> bool {
+fn is_run<T>(members: &[(&str, &T)]) -> bool {
     members.is_sorted_by(|a, b| a.0 <= b.0) || members.is_sorted_by(|a, b| a.0 >= b.0)
 }
 
 #[inline(never)]
-fn presort_many(alloc: Global, members: &mut [(&str, &JsonValue)])
+fn presort_many<T>(alloc: Global, members: &mut [(&str, &T)])
     ensures { IsPermutation members.old members.new }
 {
     let mask = index_mask(members.len());
@@ -43,11 +42,7 @@ fn index_mask(count: usize) -> u64 {
 }
 
 /// For each member a word that falls where the key rises, and in its low bits the member's index.
-fn key_words(
-    alloc: Global,
-    members: &[(&str, &JsonValue)],
-    mask: u64,
-) -> Result<Vec<u64>, AllocError>
+fn key_words<T>(alloc: Global, members: &[(&str, &T)], mask: u64) -> Result<Vec<u64>, AllocError>
     ensures { IfOk result (λ v. length v.items ≡ length members.now) }
 {
     let shared = shared_len(members);
@@ -60,7 +55,7 @@ fn key_words(
 }
 
 /// Moves each member to the place where the word with its index stands.
-fn place(words: &mut [u64], mask: u64, members: &mut [(&str, &JsonValue)])
+fn place<T>(words: &mut [u64], mask: u64, members: &mut [(&str, &T)])
     requires { length words.old ≡ length members.old }
     ensures { IsPermutation members.old members.new }
 {
@@ -70,7 +65,7 @@ fn place(words: &mut [u64], mask: u64, members: &mut [(&str, &JsonValue)])
 }
 
 /// Moves the members of one round trip, each to the place where the word with its index stands.
-fn move_round(words: &mut [u64], mask: u64, members: &mut [(&str, &JsonValue)], start: usize)
+fn move_round<T>(words: &mut [u64], mask: u64, members: &mut [(&str, &T)], start: usize)
     requires same_len { length words.old ≡ length members.old }
     requires start { start < length members.old }
     ensures words { length words.new ≡ length words.old }
@@ -89,7 +84,7 @@ fn move_round(words: &mut [u64], mask: u64, members: &mut [(&str, &JsonValue)], 
 }
 
 /// How many bytes the keys have in common at their front.
-fn shared_len(members: &[(&str, &JsonValue)]) -> usize {
+fn shared_len<T>(members: &[(&str, &T)]) -> usize {
     let Some((first, _value)) = members.first() else {
         return 0;
     };
@@ -106,7 +101,7 @@ fn shared_len(members: &[(&str, &JsonValue)]) -> usize {
 }
 
 /// The bits in which the keys' ranks from there on differ from the word.
-fn differences(members: &[(&str, &JsonValue)], from: usize, word: u64) -> u64 {
+fn differences<T>(members: &[(&str, &T)], from: usize, word: u64) -> u64 {
     let mut bits = 0;
     for (key, _value) in members {
         bits |= rank(key.as_bytes(), from) ^ word;
