@@ -4,3 +4,4 @@ pub mod Scalars
 pub mod Runs
 pub mod Sorted
 pub mod Text
+pub mod Words

@@ -1,9 +1,10 @@
 use Rattle.std.proofs.lemmas.Str.{encodes-IsAscii, IsUtf8-string_bytes}
-use Rattle.std.proofs.Common.{string_bytes}
+use Rattle.std.proofs.Common.{string_bytes, ◌≡◌, true, false, refl, rules}
 use Rattle.tinyjson_number.specs.Text.{decimal_text}
 use Rattle.tinyjson_number.proofs.Callers.{decimal_ascii}
-use Rattle.tinyjson.proofs.Reading.Containers.{view_Number}
-use Rattle.tinyjson_output.proofs.Callers.{quoted_bytes}
+use Rattle.tinyjson.proofs.Reading.Containers.{view_Null, view_Number}
+use Rattle.tinyjson.proofs.Writing.Words.{true_is, false_is}
+use Rattle.tinyjson_output.proofs.Callers.{quoted_bytes, null_bytes}
 use Rattle.tinyjson.proofs.generator.quick.quick_value.Goals as goal
 use Rattle.tinyjson.proofs.Values.Equality.{view_String}
 
@@ -16,3 +17,19 @@ pub returns-in-String : goal.returns-in-String
 returns-in-String c =
     let s = c.in-String.text in
     λ w k. rw (c.in-String.is, view_String s, quoted_bytes (string_bytes s) (IsUtf8-string_bytes s)) (rw c.as_bytes.ensures.value at c.quick_text.ensures)
+
+pub returns-in-Boolean-true : goal.returns-in-Boolean-true
+returns-in-Boolean-true c =
+    let e : c.in-Boolean-true.field-0 ≡ true = search rules in
+    λ w k. rw (true_is w k _ _ c.in-Boolean-true.is e) c.quick_word.ensures
+
+pub returns-in-Boolean-false : goal.returns-in-Boolean-false
+returns-in-Boolean-false c =
+    let e : c.in-Boolean-false.field-0 ≡ false = search rules in
+    λ w k. rw (false_is w k _ _ c.in-Boolean-false.is e) c.quick_word-in-Boolean-false.ensures
+
+pub returns-in-Null : goal.returns-in-Null
+returns-in-Null c = λ w k. rw (c.in-Null.is, view_Null, null_bytes) c.quick_word-in-Null.ensures
+
+pub returns-in_default : goal.returns-in_default
+returns-in_default c = λ w k. refl

@@ -6,6 +6,7 @@ use Rattle.tinyjson_grammar.specs.Text.{has_no_items}
 use Rattle.tinyjson.specs.declared.generator.pending.Frame.TheVariants.{Items}
 use Rattle.tinyjson_output.proofs.Callers.{sent_stops as stops, sent_written_none as written_none}
 use Rattle.tinyjson.proofs.Writing.Text.{no_items_is}
+use Rattle.tinyjson.proofs.Writing.Words.{empty_array, part_same, sent_same}
 use Rattle.tinyjson.proofs.Writing.Pending.{array_begins, is_compact}
 use Rattle.tinyjson.proofs.Writing.Runs.{array_run, array_end, closed_at_once, stopped_at_once}
 use Rattle.tinyjson.proofs.generator.encode.Encoder.begin_array.Goals as goal
@@ -42,3 +43,15 @@ returns g c =
     let some : has_no_items (items_view c.args.items.now) ≡ false = no_items_is c.args.items.now ∙ sym c.is_empty.ensures ∙ c.if-is_empty.false in
     λ k gs. array_run (indent_of c.args.self.now.indent) k c.args.items c.run_of_items-first.result.0 c.run_of_items-first.result.1 gs some c.in_ok-write_bytes-2.ensures
     (c.run_of_items-first.ensures.waits (k + 1) (g.W.Write.contents c.write_bytes-2.new.out))
+
+pub returns-in_err-write_bytes : goal.returns-in_err-write_bytes
+returns-in_err-write_bytes g c =
+    let ts = items_view c.args.items.now in
+    let none : has_no_items ts ≡ true = no_items_is c.args.items.now ∙ sym c.is_empty.ensures ∙ c.if-is_empty.true in
+    λ k gs. MatchResult-from_err _ _ _ c.from_residual.ensures.0 (λ _. part_same (empty_array (indent_of c.args.self.now.indent) k ts none) c.in_err-write_bytes.ensures)
+
+pub returns-then-is_empty : goal.returns-then-is_empty
+returns-then-is_empty g c =
+    let ts = items_view c.args.items.now in
+    let none : has_no_items ts ≡ true = no_items_is c.args.items.now ∙ sym c.is_empty.ensures ∙ c.if-is_empty.true in
+    λ k gs. record { written = sent_same (empty_array (indent_of c.args.self.now.indent) k ts none) c.in_ok-write_bytes.ensures; outside = refl }

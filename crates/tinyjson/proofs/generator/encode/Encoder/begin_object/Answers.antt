@@ -2,6 +2,7 @@ use Rattle.std.proofs.Common.{◌≡◌, ◌+◌, None, false, drop, reverse, �
 use Rattle.std.proofs.lemmas.Result.{MatchResult-from_err}
 use Rattle.tinyjson.specs.Indent.{indent_of}
 use Rattle.tinyjson.proofs.Writing.Pending.{object_stops, object_ungathered, members_open, member_opens, is_compact}
+use Rattle.tinyjson.proofs.Writing.Words.{empty_object, part_same, sent_same}
 use Rattle.tinyjson.proofs.Writing.Runs.{members_run, member_run, only_member_waits, object_end, closed_at_once, stopped_at_once}
 use Rattle.tinyjson.specs.declared.generator.pending.Frame.TheVariants.{Members}
 use Rattle.tinyjson.proofs.generator.encode.Encoder.begin_object.Goals as goal
@@ -107,3 +108,13 @@ returns g c = λ k.
     rw same
     (member_opens w k c.args.members.now.entries c.next.new.self (c.in-Some.key.now, value.now) gs key value (sym c.iter.ensures.rest ∙ c.in-Some.ensures.steps) few c.as_str-key.ensures.value refl
     c.in_ok-write_bytes-4.ensures)
+
+pub returns-in_err-write_bytes-3 : goal.returns-in_err-write_bytes-3
+returns-in_err-write_bytes-3 g c =
+    let none : length c.args.members.now.entries ≡ 0 = ap length (sym c.iter.ensures.rest ∙ c.in_default.ensures.steps.0) in
+    λ k. MatchResult-from_err _ _ _ c.from_residual-in_err-write_bytes-3.ensures.0 (λ _. part_same (empty_object (indent_of c.args.self.now.indent) k c.args.members.now.entries none) c.in_err-write_bytes-3.ensures)
+
+pub returns-in_default : goal.returns-in_default
+returns-in_default g c =
+    let none : length c.args.members.now.entries ≡ 0 = ap length (sym c.iter.ensures.rest ∙ c.in_default.ensures.steps.0) in
+    λ k. record { written = sent_same (empty_object (indent_of c.args.self.now.indent) k c.args.members.now.entries none) c.in_ok-write_bytes-3.ensures; outside = refl }

@@ -24,3 +24,12 @@ returns g c = λ k.
       | in-Number+in_ok-write_number-in-Number v ↦ rw (v.in-Number.is, v.out-is, v.room-is, view_Number v.in-Number.number) (record { written = v.in_ok-write_number-in-Number.ensures; outside = refl })
       | in-String+in_ok-quote-in-String v ↦ rw (v.in-String.is, v.out-is, v.room-is, view_String v.in-String.text) (record { written = rw v.deref.ensures at v.in_ok-quote-in-String.ensures; outside = refl })
     ]
+
+pub returns-in_err-write_boolean-in-Boolean : goal.returns-in_err-write_boolean-in-Boolean
+returns-in_err-write_boolean-in-Boolean g c = λ k. MatchResult-from_err _ _ _ c.from_residual-in_err-write_boolean-in-Boolean.ensures.0 (λ _. rw (c.in-Boolean.is, view_Boolean c.in-Boolean.value) c.in_err-write_boolean-in-Boolean.ensures)
+
+pub returns-in_err-write_number-in-Number : goal.returns-in_err-write_number-in-Number
+returns-in_err-write_number-in-Number g c = λ k. MatchResult-from_err _ _ _ c.from_residual-in_err-write_number-in-Number.ensures.0 (λ _. rw (c.in-Number.is, view_Number c.in-Number.number) c.in_err-write_number-in-Number.ensures)
+
+pub returns-in_err-quote-in-String : goal.returns-in_err-quote-in-String
+returns-in_err-quote-in-String g c = λ k. MatchResult-from_err _ _ _ c.from_residual-in_err-quote-in-String.ensures.0 (λ _. rw (c.in-String.is, view_String c.in-String.text) (rw c.deref.ensures at c.in_err-quote-in-String.ensures))
