@@ -1,11 +1,11 @@
-use Rattle.std.proofs.Common.{rules, ◌≡◌, ◌∙◌, ◌++◌, [], Some, true, false, sym, ap}
+use Rattle.std.proofs.Common.{rules, arith, ◌≡◌, ◌∙◌, ◌++◌, [], Some, true, false, sym, ap}
 use Rattle.tinyjson_grammar.specs.Characters.{paired, decode}
 use Rattle.tinyjson.specs.View.{text}
 use Rattle.tinyjson_grammar.specs.Machine.{next, quoted, plain}
 use Rattle.tinyjson_source.specs.Scan.{is_plain}
 use Rattle.tinyjson_grammar.specs.declared.error.JsonParseErrorKind.TheVariants.{InvalidUtf16}
 use Rattle.tinyjson_source.proofs.Callers.{Takes_shown}
-use Rattle.tinyjson.proofs.Reading.Steps.{Leads_nil, Leads_one, Leads_peek, Leads_shown, Leads_to, Refuses_as}
+use Rattle.tinyjson.proofs.Reading.Steps.{Leads_nil, Leads_one, Leads_peek, Leads_shown, Leads_to, Halts_here, Refuses_as, Refuses_memory}
 use Rattle.tinyjson.proofs.Reading.String.{units_added, units_refused}
 use Rattle.tinyjson.proofs.parser.reader.Reader.settle.Goals as goal
 
@@ -36,3 +36,26 @@ returns-in-Ok-false-clause-reads g c = λ limit fs.
     (Leads_one sight limit _ _ _ c.in-Some.c (Leads_peek sight limit _ _ _ (Leads_nil sight limit _ _) c.in-Some.ensures.takes)
     (Takes_shown sight _ _ _ _ (c.bump.ensures.shown (Some c.in-Some.c) c.in-Some.ensures.shows) c.bump.ensures.takes) tt
     (units_refused limit fs (text c.args.string.now) us c.in-Some.c plainly unpaired) tt)
+
+pub returns-in-Err-clause-reads : goal.returns-in-Err-clause-reads
+returns-in-Err-clause-reads g c = λ limit fs.
+    Refuses_memory g.S.Source.sight limit _ _ c.refuse-in-Err.result c.refuse-in-Err.ensures.kind c.refuse-in-Err.ensures.at
+    (Halts_here g.S.Source.sight limit _ _ (Leads_peek g.S.Source.sight limit _ _ _ (Leads_nil g.S.Source.sight limit _ _) c.in-Some.ensures.takes) tt tt)
+
+pub returns-in_default-clause-reads : goal.returns-in_default-clause-reads
+returns-in_default-clause-reads g c = λ limit fs. Leads_peek g.S.Source.sight limit _ _ _ (Leads_nil g.S.Source.sight limit _ _) c.in-Some.ensures.takes
+
+pub returns-in_default-2-clause-reads : goal.returns-in_default-2-clause-reads
+returns-in_default-2-clause-reads g c = λ limit fs. Leads_peek g.S.Source.sight limit _ _ _ (Leads_nil g.S.Source.sight limit _ _) c.in_default.ensures.takes
+
+pub returns-then-is_empty-clause-left : goal.returns-then-is_empty-clause-left
+returns-then-is_empty-clause-left g c = omega arith
+
+pub returns-in-Ok-true-clause-left : goal.returns-in-Ok-true-clause-left
+returns-in-Ok-true-clause-left g c = omega (arith, c.in-Some.ensures.left)
+
+pub returns-in-Ok-false-clause-left : goal.returns-in-Ok-false-clause-left
+returns-in-Ok-false-clause-left g c = omega (arith, c.in-Some.ensures.left, c.bump.ensures.left)
+
+pub returns-in_default-clause-left : goal.returns-in_default-clause-left
+returns-in_default-clause-left g c = omega (arith, c.in-Some.ensures.left)
