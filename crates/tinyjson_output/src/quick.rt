@@ -7,7 +7,7 @@ ghost use Rattle.tinyjson_output.specs.Room.{waiting};
 
 use crate::room::Room;
 use tinyjson_number::JsonNumber;
-use tinyjson_source::plain::plain_end;
+use tinyjson_scan::plain_end;
 
 /// Lets the bytes of a word wait, if they fit.
 #[inline(always)]

@@ -3,13 +3,13 @@ ghost use Rattle.std.specs.Prelude.{◌≡◌, ◌<◌};
 ghost use Rattle.std.specs.Char.{digit_char};
 ghost use Rattle.std.specs.List.{prefix_len};
 ghost use Rattle.std.specs.Str.{chars};
-ghost use Rattle.tinyjson_source.specs.Scan.{is_plain};
+ghost use Rattle.tinyjson_scan.specs.Scan.{is_plain};
 ghost use Rattle.tinyjson_grammar.specs.Text.{escape, escapes, quoted, IsEscaped};
 ghost use Rattle.tinyjson_output.specs.Room.{waiting, Sends, SendsText};
 
 use crate::room::{Room, write_bytes};
 use std::io::{self, Write};
-use tinyjson_source::plain::plain_end;
+use tinyjson_scan::plain_end;
 
 /// Writes the text between quotes.
 pub fn quote<W: Write>(out: &mut W, room: &mut Room, text: &str) -> io::Result<()>

@@ -4,7 +4,7 @@ use Rattle.std.specs.Char.{is_ascii_digit}
 use Rattle.std.specs.Option.{option_to_list}
 use Rattle.std.specs.Iterator.{Count, MakesProgress}
 use Rattle.std.proofs.lemmas.Bool.Decides.{nat_tests}
-use Rattle.tinyjson_source.specs.Scan.{is_plain}
+use Rattle.tinyjson_scan.specs.Scan.{is_plain}
 use Rattle.tinyjson_source.specs.declared.cursor.Cursor.{Cursor}
 use Rattle.tinyjson_source.specs.Cursor.{Ready, Gives, Begins, Shows, Goes, place}
 use Rattle.tinyjson_grammar.specs.Position.{advance, capped, position_at}

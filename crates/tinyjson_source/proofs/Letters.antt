@@ -10,7 +10,7 @@ use Rattle.std.proofs.lemmas.Str.{IsUtf8-had}
 use Rattle.tinyjson_grammar.specs.Position.{advance, origin}
 use Rattle.tinyjson_source.specs.Slice.{before, behind}
 use Rattle.tinyjson_source.specs.Slice.Laws.{line_bound, column_bound, shown_once, shown_first, nothing_left}
-use Rattle.tinyjson_source.specs.Scan.{is_plain}
+use Rattle.tinyjson_scan.specs.Scan.{is_plain}
 use Rattle.tinyjson_source.specs.Source.{Sight, Takes, TakesRun}
 use Rattle.tinyjson_source.specs.declared.text.TextBytes.{TextBytes}
 use Rattle.tinyjson_source.proofs.Slices.{ascii_next, between, char_between, char_boundary, step_gives, step_moves}

@@ -1,7 +1,6 @@
 -- Sources: an iterator, and a text in memory.
 pub mod Cursors
 pub mod Letters
-pub mod Scans
 pub mod Slices
 pub mod Sources
 pub mod Units

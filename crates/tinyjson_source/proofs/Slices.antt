@@ -11,7 +11,7 @@ use Rattle.std.proofs.lemmas.Str.{byte_from_char, encode_ascii, encodes-chars, I
 use Rattle.std.proofs.Math.Seq.{take-append_seam}
 use Rattle.std.proofs.lemmas.Bool.Decides.{nat_tests}
 use Rattle.tinyjson_grammar.specs.Characters.{is_white}
-use Rattle.tinyjson_source.specs.Scan.{is_plain}
+use Rattle.tinyjson_scan.specs.Scan.{is_plain}
 use Rattle.tinyjson_grammar.specs.Position.{advance, origin}
 use Rattle.tinyjson_source.specs.Slice.{before, behind, run_end, NextChar}
 use Rattle.tinyjson_source.specs.Slice.Laws.{line_bound, column_bound}

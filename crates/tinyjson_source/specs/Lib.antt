@@ -2,4 +2,3 @@
 pub mod Source
 pub mod Cursor
 pub mod Slice
-pub mod Scan

@@ -7,13 +7,14 @@ ghost use Rattle.tinyjson_source.specs.Cursor.{Ready, Begins, Gives, Goes, HasPl
 ghost use Rattle.tinyjson_source.specs.Cursor.{EndsRun, Shows, left, place};
 ghost use Rattle.tinyjson_source.specs.Cursor.Laws.{nothing_left, shown_first, shown_once};
 ghost use Rattle.tinyjson_grammar.specs.Characters.{is_white};
-ghost use Rattle.tinyjson_source.specs.Scan.{is_plain};
+ghost use Rattle.tinyjson_scan.specs.Scan.{is_plain};
 ghost use Rattle.tinyjson_grammar.specs.Characters.{text};
 ghost use Rattle.tinyjson_grammar.specs.Position.{advance, position_at, origin};
 
-use crate::source::{Source, is_plain, is_white};
+use crate::source::Source;
 use crate::utf16::push;
 use std::alloc::AllocError;
+use tinyjson_scan::{is_plain, is_white};
 
 /// The characters that are left, one of which may have been looked at, and the position.
 #[derive(Drop)]

@@ -1,13 +1,10 @@
-//! Where the characters of a text come from: any iterator, or the bytes of a text in memory, whose runs of white space, of plain
-//! characters and of digits are found sixteen at a time.
+//! Where the characters of a text come from: any iterator, or the bytes of a text in memory.
 //!
 //! The parser of `tinyjson` stands on the trait [`Source`]. Its contracts say which characters a call consumed and which are
 //! left; they know nothing of the grammar but its classes of characters.
 #![tactic(auto)]
 
 pub mod cursor;
-pub mod plain;
-pub mod scan;
 pub mod source;
 pub mod text;
 pub mod utf16;

@@ -5,7 +5,7 @@ ghost use Rattle.std.specs.Prelude.{string_bytes};
 ghost use Rattle.std.specs.Char.{is_ascii_digit};
 ghost use Rattle.std.specs.Option.{option_len};
 ghost use Rattle.tinyjson_grammar.specs.Characters.{is_white};
-ghost use Rattle.tinyjson_source.specs.Scan.{is_plain};
+ghost use Rattle.tinyjson_scan.specs.Scan.{is_plain};
 ghost use Rattle.tinyjson_grammar.specs.Position.{position_at};
 ghost use Rattle.tinyjson_source.specs.Source.{Sight, Still, Stops, Takes, TakesQuoted, TakesRun};
 ghost use Rattle.tinyjson_source.specs.Source.{Whites};
@@ -13,6 +13,7 @@ ghost use Rattle.tinyjson_grammar.specs.Characters.{text};
 
 use crate::utf16::push;
 use std::alloc::{AllocError, Global};
+use tinyjson_scan::{is_plain, is_white};
 
 /// A source of characters, of which the next one can be looked at.
 ///
@@ -118,18 +119,4 @@ pub trait Source: Drop {
     /// The line and the column behind what was consumed.
     fn position(&self) -> (usize, usize)
         ensures { position_at result.0 result.1 ≡ sight.place self.now };
-}
-
-/// White space of JSON (RFC 8259, section 2).
-pub fn is_white(c: char) -> bool
-    ensures { result ≡ is_white c }
-{
-    c == ' ' || c == '\n' || c == '\r' || c == '\t'
-}
-
-/// A character that a string shows as it is (RFC 8259, section 7).
-pub fn is_plain(c: char) -> bool
-    ensures { result ≡ is_plain c }
-{
-    c != '"' && c != '\\' && c >= ' '
 }

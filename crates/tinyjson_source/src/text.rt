@@ -9,11 +9,10 @@ ghost use Rattle.tinyjson_source.specs.Slice.Laws.{line_bound, column_bound, sho
 ghost use Rattle.tinyjson_source.specs.Slice.Laws.{shown_first, nothing_left};
 
 use crate::cursor::moved;
-use crate::plain::plain_end;
-use crate::scan::{digits_end, white_end};
 use crate::source::Source;
 use crate::utf16::push;
 use std::alloc::{AllocError, Global};
+use tinyjson_scan::{digits_end, plain_end, white_end};
 
 /// A text, and how many of its bytes were consumed. Line and column are counted when they are asked for.
 #[derive(Drop)]

@@ -12,7 +12,7 @@ use Rattle.std.proofs.Math.Seq.{take-append_seam}
 use Rattle.tinyjson_grammar.specs.Characters.{is_hex, is_high, is_low, is_surrogate, pair_of, unit_of, paired, decode, short_escape}
 use Rattle.tinyjson.specs.private.Escape.{Stands, UnitAt, NoBackslash, EscapeAt}
 use Rattle.tinyjson_source.specs.Slice.{before, behind, NextChar}
-use Rattle.tinyjson_source.specs.Scan.{is_plain}
+use Rattle.tinyjson_scan.specs.Scan.{is_plain}
 use Rattle.tinyjson_source.specs.Source.{TakesRun}
 use Rattle.tinyjson_grammar.specs.Position.{advance, origin}
 use Rattle.tinyjson_source.specs.declared.text.TextBytes.{TextBytes}

@@ -10,7 +10,7 @@ use Rattle.tinyjson_grammar.specs.Tree.{string}
 use Rattle.tinyjson.specs.View.{text}
 use Rattle.tinyjson.specs.declared.parser.error.JsonParseError.{JsonParseError}
 use Rattle.tinyjson_grammar.specs.Characters.{is_hex, unit_of, paired, decode, short_escape}
-use Rattle.tinyjson_source.specs.Scan.{is_plain}
+use Rattle.tinyjson_scan.specs.Scan.{is_plain}
 use Rattle.tinyjson_source.specs.Source.{Sight, Takes, TakesRun}
 use Rattle.tinyjson_grammar.specs.Machine.{step, end, Frame, in_array, at_key, at_value, Next, next, stop, complete, plain, backslash, hex, quoted, refused}
 use Rattle.tinyjson_grammar.specs.declared.error.JsonParseErrorKind.TheVariants.{InvalidUtf16, InvalidHexDigit, InvalidEscape, ControlCharacter, UnexpectedEof}

@@ -22,7 +22,7 @@ use super::stack::Stack;
 use super::tokens::Tokens;
 use crate::value::JsonValue;
 use tinyjson_number::{ExponentParts, JsonNumber, LiteralError, NumberParts};
-use tinyjson_source::scan::digits_end;
+use tinyjson_scan::digits_end;
 
 /// What a number has besides its digits, which are gathered without anything between them.
 #[derive(Clone, Copy)]

@@ -13,7 +13,7 @@ use super::escape::short_escape;
 use super::reader::Reader;
 use super::tokens::Tokens;
 use std::mem;
-use tinyjson_source::source::is_plain;
+use tinyjson_scan::is_plain;
 use tinyjson_source::utf16::{decode, push};
 
 impl<S: Tokens> Reader<S> {

@@ -1,6 +1,6 @@
 use Rattle.std.proofs.Common.{◌≡◌, length}
 use Rattle.std.specs.List.{prefix_len}
-use Rattle.tinyjson_source.specs.Scan.{is_plain}
+use Rattle.tinyjson_scan.specs.Scan.{is_plain}
 use Rattle.tinyjson_grammar.specs.Text.{escapes}
 use Rattle.tinyjson_output.specs.Room.{waiting, Sent}
 use Rattle.tinyjson_output.proofs.quote.write_stopped.Given as goal

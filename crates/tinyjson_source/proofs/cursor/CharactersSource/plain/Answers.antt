@@ -1,5 +1,5 @@
 use Rattle.std.proofs.Common.{rules, ◌≡◌, ◌∷◌, ◌++◌, [], true, sym, append-nil}
-use Rattle.tinyjson_source.specs.Scan.{is_plain}
+use Rattle.tinyjson_scan.specs.Scan.{is_plain}
 use Rattle.tinyjson_grammar.specs.Characters.{text}
 use Rattle.tinyjson_source.proofs.Cursors.{Goes_nil, Goes_append, OnOk_append}
 use Rattle.std.proofs.lemmas.Result.{err_from_is_err_and}

@@ -1,6 +1,6 @@
 use Rattle.std.proofs.Common.{rules, ◌≡◌, ◌∙◌, ◌∷◌, ◌++◌, [], true, sym, ap, append-nil, append_assoc, subst}
 use Rattle.tinyjson_grammar.specs.Position.{advance, position_at}
-use Rattle.tinyjson_source.specs.Scan.{is_plain}
+use Rattle.tinyjson_scan.specs.Scan.{is_plain}
 use Rattle.tinyjson_grammar.specs.Characters.{text}
 use Rattle.tinyjson_source.proofs.Cursors.{Goes_nil, Goes_filled, Goes_drawn, Ready_filled, plain_column}
 use Rattle.tinyjson_source.proofs.Sources.{AllByRecursion_push}

@@ -1,6 +1,6 @@
 use Rattle.std.proofs.Common.{◌≡◌, ◌<◌, ◌≤◌, false, None, Ok}
 use Rattle.tinyjson_source.specs.Cursor.{Ready, Runs, left}
-use Rattle.tinyjson_source.specs.Scan.{is_plain}
+use Rattle.tinyjson_scan.specs.Scan.{is_plain}
 use Rattle.tinyjson_grammar.specs.Characters.{text}
 use Rattle.tinyjson_source.proofs.cursor.Cursor.draw_plain.Given as goal
 

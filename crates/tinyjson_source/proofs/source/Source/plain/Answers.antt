@@ -1,6 +1,6 @@
 use Rattle.std.proofs.Common.{rules, arith, sym, ap, true, ◌≡◌, ◌∙◌, ◌∷◌, ◌++◌, [], Some, append-nil, append_assoc}
 use Rattle.std.proofs.lemmas.Result.{err_from_is_err_and}
-use Rattle.tinyjson_source.specs.Scan.{is_plain}
+use Rattle.tinyjson_scan.specs.Scan.{is_plain}
 use Rattle.tinyjson_grammar.specs.Characters.{text}
 use Rattle.tinyjson_source.proofs.Sources.{AllByRecursion_push, Takes_nil, Takes_peek, Takes_append, Takes_shown}
 use Rattle.tinyjson_source.proofs.source.Source.plain.Goals as goal

@@ -1,5 +1,5 @@
 use Rattle.std.proofs.Common.{◌≤◌, Ok}
-use Rattle.tinyjson_source.specs.Scan.{is_plain}
+use Rattle.tinyjson_scan.specs.Scan.{is_plain}
 use Rattle.tinyjson_source.specs.Source.{TakesRun}
 use Rattle.tinyjson_grammar.specs.Characters.{text}
 use Rattle.tinyjson_source.proofs.source.Source.plain.Given as goal

@@ -3,7 +3,7 @@ use Rattle.std.proofs.lemmas.Bool.Decides.{nat_tests}
 use Rattle.std.specs.Char.{len_utf8}
 use Rattle.std.proofs.lemmas.Str.{IsUtf8-had}
 use Rattle.tinyjson_grammar.specs.Characters.{text}
-use Rattle.tinyjson_source.specs.Scan.{is_plain}
+use Rattle.tinyjson_scan.specs.Scan.{is_plain}
 use Rattle.tinyjson_source.proofs.Letters.{text_sight, printed_plain, run_ascii, run_run}
 use Rattle.tinyjson_source.proofs.Slices.{ascii_next, char_boundary}
 use Rattle.tinyjson_source.proofs.Sources.{Takes_nil}

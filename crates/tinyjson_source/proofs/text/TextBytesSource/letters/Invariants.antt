@@ -1,6 +1,6 @@
 use Rattle.std.proofs.Common.{◌-◌, ◌≤◌, Ok, length}
 use Rattle.tinyjson_grammar.specs.Characters.{text}
-use Rattle.tinyjson_source.specs.Scan.{is_plain}
+use Rattle.tinyjson_scan.specs.Scan.{is_plain}
 use Rattle.tinyjson_source.specs.Source.{TakesRun}
 use Rattle.tinyjson_source.proofs.Letters.{text_sight}
 use Rattle.tinyjson_source.proofs.text.TextBytesSource.letters.Given as goal

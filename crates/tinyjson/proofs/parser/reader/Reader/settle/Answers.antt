@@ -2,7 +2,7 @@ use Rattle.std.proofs.Common.{rules, arith, ◌≡◌, ◌∙◌, ◌++◌, [], 
 use Rattle.tinyjson_grammar.specs.Characters.{paired, decode}
 use Rattle.tinyjson.specs.View.{text}
 use Rattle.tinyjson_grammar.specs.Machine.{next, quoted, plain}
-use Rattle.tinyjson_source.specs.Scan.{is_plain}
+use Rattle.tinyjson_scan.specs.Scan.{is_plain}
 use Rattle.tinyjson_grammar.specs.declared.error.JsonParseErrorKind.TheVariants.{InvalidUtf16}
 use Rattle.tinyjson_source.proofs.Callers.{Takes_shown}
 use Rattle.tinyjson.proofs.Reading.Steps.{Leads_nil, Leads_one, Leads_peek, Leads_shown, Leads_to, Halts_here, Refuses_as, Refuses_memory}

@@ -1,0 +1,2 @@
+-- Runs of bytes, seen a vector at a time.
+pub mod Scans

@@ -1,0 +1,2 @@
+-- What ends a run.
+pub mod Scan

@@ -1,0 +1,10 @@
+//! Runs of bytes that pass a test, found sixteen at a time: plain characters, white space, digits.
+//!
+//! The sources of the parser and the writer of strings stand on it.
+#![tactic(auto)]
+
+mod plain;
+mod runs;
+
+pub use plain::{is_plain, plain_end};
+pub use runs::{digits_end, is_white, white_end};
