@@ -1,4 +1,4 @@
-use Rattle.std.proofs.Common.{rules, sym, ◌≡◌, true}
+use Rattle.std.proofs.Common.{rules, arith, sym, ◌≡◌, true}
 use Rattle.tinyjson.specs.View.{view}
 use Rattle.tinyjson_grammar.specs.Machine.{complete}
 use Rattle.tinyjson.specs.private.Stack.{TakesValue, open_of, at, frames}
@@ -18,3 +18,15 @@ returns-clause-reads g c = λ limit.
     let sight = g.S.Source.sight in
     let e : at c.push.new.self true ≡ complete true (frames c.args.stack.now) (view c.args.value) true = search rules in
     Leads_to sight limit _ _ (Leads_nil sight limit _ _) (sym e)
+
+pub returns-in-Some-Object-clause-reads : goal.returns-in-Some-Object-clause-reads
+returns-in-Some-Object-clause-reads g c = c.use_as_key.ensures.reads
+
+pub returns-in-Some-Object-clause-sound : goal.returns-in-Some-Object-clause-sound
+returns-in-Some-Object-clause-sound g c = c.use_as_key.ensures.sound
+
+pub returns-clause-left : goal.returns-clause-left
+returns-clause-left g c = omega arith
+
+pub use_as_key-requires-clause-sound : goal.use_as_key-requires-clause-sound
+use_as_key-requires-clause-sound g c = c.requires.sound

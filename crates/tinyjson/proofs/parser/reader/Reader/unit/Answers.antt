@@ -82,3 +82,9 @@ returns-clause-reads g c = λ limit fs cs.
     let l : length v.0 ≡ 4 = search (rules, arith) in
     let e : c.push.new.self.items ≡ c.args.units.now.items ++ c.loop.unit ∷ [] = search rules in
     Leads_to sight limit _ _ (v.3 limit fs cs) (hex_done fs cs _ v.0 _ l v.2 ∙ ap (λ us. next fs (quoted plain cs us)) (sym e))
+
+pub returns-in_default-clause-left : goal.returns-in_default-clause-left
+returns-in_default-clause-left g c = omega (arith, c.loop.invariant.left, c.in_default.ensures.left)
+
+pub returns-clause-left : goal.returns-clause-left
+returns-clause-left g c = omega (arith, c.loop.invariant.left)
