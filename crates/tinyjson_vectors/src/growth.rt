@@ -7,11 +7,11 @@ mod nesting;
 mod numbers;
 mod strings;
 
+use crate::common::{is_indented, is_taken, is_text, is_value, is_written, parsed, parsed_within};
 use std::alloc::Global;
 use std::collections::HashMap;
-use std::process::Abort;
 use std::test::Fail;
-use tinyjson::{JsonGenerator, JsonKind, JsonNumber, JsonParser, JsonValue, UnexpectedValue};
+use tinyjson::{JsonGenerator, JsonKind, JsonNumber, JsonValue, UnexpectedValue};
 
 /// Below, at and behind the first growths of vectors, strings and maps, and far behind them.
 const SIZES: [usize; 8] = [0, 1, 8, 9, 64, 65, 1_000, 300_000];
@@ -23,6 +23,17 @@ struct Case {
     value: JsonValue,
     compact: String,
     indented: String,
+}
+
+/// A text so many times between two others.
+fn repeated(
+    alloc: Global,
+    before: &str,
+    (part, size): (&str, usize),
+    behind: &str,
+) -> Result<String, Fail> {
+    let parts = part.repeat(alloc, size)?;
+    Ok(format!(in alloc; "{before}{parts}{behind}")?)
 }
 
 /// What a conversion to the type of the value's kind gives, as a value again.
@@ -37,108 +48,86 @@ fn converted(value: JsonValue) -> Result<JsonValue, UnexpectedValue> {
     }
 }
 
-/// The value as a generator writes it, in the compact form.
-fn check_generated(rt: &impl Abort, alloc: Global, value: &JsonValue, expected: &str, name: &str) {
+/// Whether the value is generated so, in the compact form.
+fn is_generated(alloc: Global, value: &JsonValue, expected: &str) -> bool {
     let mut generator = JsonGenerator::new(alloc, Vec::new(alloc));
-    assert!(rt;
-        generator.generate(value).is_ok(),
-        "{name} is not generated"
-    );
-    assert!(rt;
-        generator.into_inner().as_slice() == expected.as_bytes(),
-        "{name} is generated otherwise"
-    );
+    let answer = generator.generate(value);
+    is_taken(answer, generator.into_inner().as_slice(), expected)
 }
 
-/// The value as a text, and as bytes, in the compact form.
-fn check_compact(
-    rt: &impl Abort,
-    alloc: Global,
-    value: &JsonValue,
-    expected: &str,
-    name: &str,
-) -> Result<(), Fail> {
-    let text = value.stringify(alloc);
-    assert!(rt; text.is_ok(), "{name} is not written");
-    assert!(rt; text?.as_str() == expected, "{name} is written otherwise");
-    let mut bytes = Vec::new(alloc);
-    assert!(rt;
-        value.write_to(alloc, &mut bytes).is_ok(),
-        "{name} is not written as bytes"
-    );
-    assert!(rt;
-        bytes.as_slice() == expected.as_bytes(),
-        "{name} is written as other bytes"
-    );
-    check_generated(rt, alloc, value, expected, name);
-    Ok(())
+/// What is wrong with the value as a text, and as bytes, in the compact form.
+fn compact_fault(alloc: Global, value: &JsonValue, expected: &str) -> Option<&'static str> {
+    if !is_text(value.stringify(alloc), expected) {
+        Some("is written otherwise")
+    } else if !is_written(alloc, value, expected) {
+        Some("is written as other bytes")
+    } else if !is_generated(alloc, value, expected) {
+        Some("is generated otherwise")
+    } else {
+        None
+    }
 }
 
-/// The value as a text, and as bytes, in the form that is indented with two spaces.
-fn check_indented(
-    rt: &impl Abort,
-    alloc: Global,
-    value: &JsonValue,
-    expected: &str,
-    name: &str,
-) -> Result<(), Fail> {
-    let text = value.format(alloc);
-    assert!(rt; text.is_ok(), "{name} is not indented");
-    assert!(rt; text?.as_str() == expected, "{name} is indented otherwise");
-    let mut bytes = Vec::new(alloc);
-    assert!(rt;
-        value.format_to(alloc, &mut bytes).is_ok(),
-        "{name} is not indented as bytes"
-    );
-    assert!(rt;
-        bytes.as_slice() == expected.as_bytes(),
-        "{name} is indented as other bytes"
-    );
-    Ok(())
+/// What is wrong with the value as a text, and as bytes, in the form that is indented with two spaces.
+fn indented_fault(alloc: Global, value: &JsonValue, expected: &str) -> Option<&'static str> {
+    if !is_text(value.format(alloc), expected) {
+        Some("is indented otherwise")
+    } else if !is_indented(alloc, value, expected) {
+        Some("is indented as other bytes")
+    } else {
+        None
+    }
 }
 
-/// The value as parsers read it, one of them with a limit.
-fn check_parsers(rt: &impl Abort, alloc: Global, text: &str, value: &JsonValue, name: &str) {
-    let parsed = JsonParser::new(alloc, text.chars()).parse();
-    assert!(rt;
-        parsed.is_ok_and(|parsed| parsed == *value),
-        "{name} is not parsed"
-    );
-    let limited = JsonParser::with_depth_limit(alloc, text.chars(), usize::MAX).parse();
-    assert!(rt;
-        limited.is_ok_and(|limited| limited == *value),
-        "{name} is not parsed with a limit"
-    );
+/// Whether the value came back.
+fn is_back(answer: Result<JsonValue, UnexpectedValue>, value: &JsonValue) -> bool {
+    match answer {
+        Ok(back) => back == *value,
+        Err(_) => false,
+    }
 }
 
-/// The value as it is read, copied and converted.
-fn check_value(
-    rt: &impl Abort,
-    alloc: Global,
-    text: &str,
-    value: &JsonValue,
-    name: &str,
-) -> Result<(), Fail> {
-    let parsed = JsonValue::from_str(alloc, text);
-    assert!(rt; parsed.is_ok(), "{name} is not read");
-    let parsed = parsed?;
-    assert!(rt; parsed == *value, "{name} is read otherwise");
-    check_parsers(rt, alloc, text, value, name);
-    let copy = parsed.try_clone(alloc);
-    assert!(rt; copy.is_ok(), "{name} is not copied");
-    let copy = copy?;
-    assert!(rt; copy == *value, "{name} is copied otherwise");
-    let back = converted(copy);
-    assert!(rt;
-        back.is_ok_and(|back| back == *value),
-        "{name} is not converted"
-    );
-    Ok(())
+/// What is wrong with a copy of the value.
+fn copy_fault(copy: JsonValue, value: &JsonValue) -> Option<&'static str> {
+    if copy != *value {
+        return Some("is copied otherwise");
+    }
+    if !is_back(converted(copy), value) {
+        return Some("is not converted");
+    }
+    None
 }
 
-/// All of it.
-fn check(rt: &impl Abort, alloc: Global, case: &Case, name: &str) -> Result<(), Fail> {
-    check_value(rt, alloc, case.text.as_str(), &case.value, name)?;
-    check_compact(rt, alloc, &case.value, case.compact.as_str(), name)?;
-    check_indented(rt, alloc, &case.value, case.indented.as_str(), name)
+/// What is wrong with the value that was read, and with its copy.
+fn read_fault(alloc: Global, read: JsonValue, value: &JsonValue) -> Option<&'static str> {
+    if read != *value {
+        return Some("is read otherwise");
+    }
+    match read.try_clone(alloc) {
+        Ok(copy) => copy_fault(copy, value),
+        Err(_) => Some("is not copied"),
+    }
+}
+
+/// Whether parsers read the value, one of them with a limit.
+fn is_parsed(alloc: Global, text: &str, value: &JsonValue) -> bool {
+    is_value(parsed(alloc, text), value) && is_value(parsed_within(alloc, text, usize::MAX), value)
+}
+
+/// What is wrong with the value as it is read, copied and converted.
+fn value_fault(alloc: Global, text: &str, value: &JsonValue) -> Option<&'static str> {
+    if !is_parsed(alloc, text, value) {
+        return Some("is not parsed");
+    }
+    match JsonValue::from_str(alloc, text) {
+        Ok(read) => read_fault(alloc, read, value),
+        Err(_) => Some("is not read"),
+    }
+}
+
+/// What is wrong with any of it.
+fn fault(alloc: Global, case: &Case) -> Option<&'static str> {
+    value_fault(alloc, case.text.as_str(), &case.value)
+        .or(compact_fault(alloc, &case.value, case.compact.as_str()))
+        .or(indented_fault(alloc, &case.value, case.indented.as_str()))
 }

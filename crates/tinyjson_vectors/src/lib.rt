@@ -2,6 +2,8 @@
 #![tactic(auto)]
 
 pub mod access;
+#[cfg(test)]
+mod common;
 pub mod conversions;
 #[cfg(test)]
 mod documentation;

@@ -1,131 +1,189 @@
 //! Arrays and objects by the number of their items and members.
 
-use super::{Case, SIZES, check};
-use std::alloc::Global;
+use super::{Case, SIZES, fault};
+use crate::common::{put, single, whole};
+use std::alloc::{AllocError, Global};
 use std::collections::HashMap;
-use std::process::Abort;
 use std::test::Fail;
-use tinyjson::{JsonNumber, JsonValue};
+use tinyjson::JsonValue;
 
-/// The pieces between brackets, with this text between two of them.
-fn bracketed(
+/// How an item or a member is spelled.
+#[derive(Clone, Copy)]
+enum Piece {
+    Item,
+    /// A member with a key of its own.
+    Member,
+    /// The same with a space behind the colon.
+    SpacedMember,
+    /// A member with the same key as the others.
+    EqualMember,
+}
+
+/// What stands before, between and behind the pieces.
+type Brackets = [&'static str; 3];
+
+/// The key of the member with this number, in the order of the numbers.
+fn key(alloc: Global, i: usize) -> Result<String, Fail> {
+    Ok(format!(in alloc; "k{}", i.saturating_add(1_000_000))?)
+}
+
+fn spelled(alloc: Global, piece: Piece, i: usize) -> Result<String, Fail> {
+    let place = i.saturating_add(1_000_000);
+    Ok(match piece {
+        Piece::Item => format!(in alloc; "{i}")?,
+        Piece::Member => format!(in alloc; "\"k{place}\":{i}")?,
+        Piece::SpacedMember => format!(in alloc; "\"k{place}\": {i}")?,
+        Piece::EqualMember => format!(in alloc; "\"k\":{i}")?,
+    })
+}
+
+/// The pieces with the numbers below `size` in rising order.
+fn rising(
     alloc: Global,
-    (open, close): (&str, &str),
-    pieces: &[String],
-    between: &str,
+    form: Piece,
+    [open, between, close]: Brackets,
+    size: usize,
 ) -> Result<String, Fail> {
-    let pieces = pieces.join(alloc, between)?;
-    Ok(format!(in alloc; "{open}{pieces}{close}")?)
+    let mut text = String::from_str(alloc, open)?;
+    for i in 0..size {
+        text.push_str(if i == 0 { "" } else { between })?;
+        text.push_str(spelled(alloc, form, i)?.as_str())?;
+    }
+    text.push_str(close)?;
+    Ok(text)
+}
+
+/// The members with the numbers below `size` in falling order.
+fn falling(alloc: Global, size: usize) -> Result<String, Fail> {
+    let mut text = "{ ".to_string(alloc)?;
+    for i in (0..size).rev() {
+        text.push_str(spelled(alloc, Piece::Member, i)?.as_str())?;
+        text.push_str(if i == 0 { "" } else { " ," })?;
+    }
+    text.push_str(" }")?;
+    Ok(text)
 }
 
 /// Brackets on lines of their own, but for an empty container.
-fn lines<'a>(
-    empty: (&'a str, &'a str),
-    full: (&'a str, &'a str),
-    size: usize,
-) -> (&'a str, &'a str) {
+fn lines(empty: Brackets, full: Brackets, size: usize) -> Brackets {
     if size == 0 { empty } else { full }
 }
 
-fn number(alloc: Global, number: usize) -> Result<JsonValue, Fail> {
-    Ok(JsonValue::from(JsonNumber::from_u64(alloc, number as u64)?))
+fn number(alloc: Global, number: usize) -> Result<JsonValue, AllocError> {
+    whole(alloc, number as u64)
 }
 
 /// An array of the numbers below `size`.
-fn items(alloc: Global, size: usize) -> Result<Case, Fail> {
+fn numbers(alloc: Global, size: usize) -> Result<JsonValue, AllocError> {
     let mut items = Vec::new(alloc);
-    let mut pieces = Vec::new(alloc);
     for i in 0..size {
         items.push(number(alloc, i)?)?;
-        pieces.push(format!(in alloc; "{i}")?)?;
     }
-    let pieces = pieces.as_slice();
-    let brackets = lines(("[", "]"), ("[\n  ", "\n]"), size);
+    Ok(JsonValue::from(items))
+}
+
+fn items(alloc: Global, size: usize) -> Result<Case, Fail> {
+    let brackets = lines(["[", "", "]"], ["[\n  ", ",\n  ", "\n]"], size);
     Ok(Case {
-        text: bracketed(alloc, ("\t[ ", " ]\r\n"), pieces, " , ")?,
-        value: JsonValue::from(items),
-        compact: bracketed(alloc, ("[", "]"), pieces, ",")?,
-        indented: bracketed(alloc, brackets, pieces, ",\n  ")?,
+        text: rising(alloc, Piece::Item, ["\t[ ", " , ", " ]\r\n"], size)?,
+        compact: rising(alloc, Piece::Item, ["[", ",", "]"], size)?,
+        indented: rising(alloc, Piece::Item, brackets, size)?,
+        value: numbers(alloc, size)?,
     })
 }
 
 #[test]
 fn arrays_of_each_size(rt: HostRuntime) -> Result<(), Fail> {
     for size in SIZES {
-        let name = format!(in rt.alloc(); "the array of {size} items")?;
-        check(&rt, rt.alloc(), &items(rt.alloc(), size)?, name.as_str())?;
+        let case = items(rt.alloc(), size)?;
+        assert_eq!(rt; fault(rt.alloc(), &case), None, "the array of {size} items");
     }
     Ok(())
 }
 
-/// An object with `size` members, which the text has in the falling order of their keys.
-fn members(alloc: Global, size: usize) -> Result<Case, Fail> {
+/// An object with `size` members.
+fn object(alloc: Global, size: usize) -> Result<JsonValue, Fail> {
     let mut members = HashMap::new(alloc);
-    let mut rising = Vec::new(alloc);
-    let mut spaced = Vec::new(alloc);
     for i in 0..size {
-        let key = format!(in alloc; "k{}", i.saturating_add(1_000_000))?;
-        rising.push(format!(in alloc; "\"{key}\":{i}")?)?;
-        spaced.push(format!(in alloc; "\"{key}\": {i}")?)?;
-        drop(members.insert(key, number(alloc, i)?)?);
+        put_number(alloc, &mut members, key(alloc, i)?, i)?;
     }
-    let compact = bracketed(alloc, ("{", "}"), rising.as_slice(), ",")?;
-    let brackets = lines(("{", "}"), ("{\n  ", "\n}"), size);
-    let indented = bracketed(alloc, brackets, spaced.as_slice(), ",\n  ")?;
-    rising.reverse();
+    Ok(JsonValue::from(members))
+}
+
+fn put_number(
+    alloc: Global,
+    members: &mut HashMap<String, JsonValue>,
+    key: String,
+    i: usize,
+) -> Result<(), AllocError> {
+    put(members, key, number(alloc, i)?)
+}
+
+/// An object whose members the text has in the falling order of their keys.
+fn members(alloc: Global, size: usize) -> Result<Case, Fail> {
+    let brackets = lines(["{", "", "}"], ["{\n  ", ",\n  ", "\n}"], size);
     Ok(Case {
-        text: bracketed(alloc, ("{ ", " }"), rising.as_slice(), " ,")?,
-        value: JsonValue::from(members),
-        compact,
-        indented,
+        text: falling(alloc, size)?,
+        compact: rising(alloc, Piece::Member, ["{", ",", "}"], size)?,
+        indented: rising(alloc, Piece::SpacedMember, brackets, size)?,
+        value: object(alloc, size)?,
     })
 }
 
 #[test]
 fn objects_of_each_size(rt: HostRuntime) -> Result<(), Fail> {
     for size in SIZES {
-        let name = format!(in rt.alloc(); "the object of {size} members")?;
-        check(&rt, rt.alloc(), &members(rt.alloc(), size)?, name.as_str())?;
+        let case = members(rt.alloc(), size)?;
+        assert_eq!(rt;
+            fault(rt.alloc(), &case),
+            None,
+            "the object of {size} members"
+        );
     }
     Ok(())
 }
 
-/// A text with the same key `size` times.
-fn equal_keys(alloc: Global, size: usize) -> Result<Case, Fail> {
-    let mut pieces = Vec::new(alloc);
-    for i in 0..size {
-        pieces.push(format!(in alloc; "\"k\":{i}")?)?;
-    }
-    let text = bracketed(alloc, ("{", "}"), pieces.as_slice(), ",")?;
-    let mut members = HashMap::new(alloc);
-    if size == 0 {
-        return Ok(Case {
-            text,
-            value: JsonValue::from(members),
-            compact: "{}".to_string(alloc)?,
-            indented: "{}".to_string(alloc)?,
-        });
-    }
-    let last = size - 1;
-    drop(members.insert("k".to_string(alloc)?, number(alloc, last)?)?);
+/// The object with the last of the members, and its texts.
+fn last_member(alloc: Global, text: String, last: usize) -> Result<Case, Fail> {
+    let compact = format!(in alloc; "{{\"k\":{last}}}")?;
+    let indented = format!(in alloc; "{{\n  \"k\": {last}\n}}")?;
+    let value = single(alloc, "k", number(alloc, last)?)?;
     Ok(Case {
         text,
-        value: JsonValue::from(members),
-        compact: format!(in alloc; "{{\"k\":{last}}}")?,
-        indented: format!(in alloc; "{{\n  \"k\": {last}\n}}")?,
+        value,
+        compact,
+        indented,
     })
+}
+
+/// The empty object, with no white space.
+fn empty(alloc: Global) -> Result<Case, Fail> {
+    Ok(Case {
+        text: "{}".to_string(alloc)?,
+        compact: "{}".to_string(alloc)?,
+        indented: "{}".to_string(alloc)?,
+        value: JsonValue::from(HashMap::new(alloc)),
+    })
+}
+
+/// A text with the same key `size` times.
+fn equal_keys(alloc: Global, size: usize) -> Result<Case, Fail> {
+    if size == 0 {
+        return empty(alloc);
+    }
+    let text = rising(alloc, Piece::EqualMember, ["{", ",", "}"], size)?;
+    last_member(alloc, text, size - 1)
 }
 
 #[test]
 fn equal_keys_of_each_number(rt: HostRuntime) -> Result<(), Fail> {
     for size in SIZES {
-        let name = format!(in rt.alloc(); "the object of {size} equal keys")?;
-        check(
-            &rt,
-            rt.alloc(),
-            &equal_keys(rt.alloc(), size)?,
-            name.as_str(),
-        )?;
+        let case = equal_keys(rt.alloc(), size)?;
+        assert_eq!(rt;
+            fault(rt.alloc(), &case),
+            None,
+            "the object of {size} equal keys"
+        );
     }
     Ok(())
 }

@@ -1,9 +1,12 @@
 //! Containers nested deeper than any recursion goes: they are read, written, copied, compared, given up and freed.
 
+use crate::common::{is_refusal, is_text, parsed, parsed_within};
 use std::alloc::{AllocError, Global};
-use std::process::Abort;
 use std::test::Fail;
-use tinyjson::{JsonKind, JsonParseErrorKind as Kind, JsonParser, JsonValue};
+use tinyjson::{JsonKind, JsonParseErrorKind as Kind, JsonValue};
+
+/// The kind of a refusal and its column.
+type Refusal = (Kind, usize);
 
 /// What is nested: how each level begins, what stands inside the last, and how each level ends.
 type Nested = [&'static str; 3];
@@ -79,21 +82,30 @@ fn between(alloc: Global, before: &str, text: &str, after: &str) -> Result<Strin
     Ok(whole)
 }
 
-/// Reads a text that is refused at this column of the first line.
-fn check_refused(
-    rt: &impl Abort,
-    alloc: Global,
-    text: &str,
-    limit: Option<usize>,
-    (kind, column): (Kind, usize),
-) {
-    let mut parser = match limit {
-        None => JsonParser::new(alloc, text.chars()),
-        Some(limit) => JsonParser::with_depth_limit(alloc, text.chars(), limit),
+/// Whether the text is refused so, at this column of the first line.
+fn is_refused(alloc: Global, text: &str, limit: Option<usize>, (kind, column): Refusal) -> bool {
+    let answer = match limit {
+        None => parsed(alloc, text),
+        Some(limit) => parsed_within(alloc, text, limit),
     };
-    let fault = parser.parse().expect_err(rt, "the text is refused");
-    assert_eq!(rt; fault.kind(), kind);
-    assert_eq!(rt; (fault.line(), fault.column()), (1, column));
+    is_refusal(answer, kind, (1, column))
+}
+
+/// Whether the value is written so. It is given up.
+fn is_written(alloc: Global, value: JsonValue, written: &str) -> bool {
+    let same = is_text(value.stringify(alloc), written);
+    value.dismantle();
+    same
+}
+
+/// Whether the value's copy is written so, when the value is given up.
+fn is_copied(alloc: Global, value: JsonValue, written: &str) -> bool {
+    let copy = value.try_clone(alloc);
+    value.dismantle();
+    match copy {
+        Ok(copy) => is_written(alloc, copy, written),
+        Err(_) => false,
+    }
 }
 
 #[test]
@@ -102,14 +114,25 @@ fn deep_values_are_written_and_copied(rt: HostRuntime) -> Result<(), Fail> {
     for (shape, size) in ROWS {
         let text = nested(alloc, shape.text, size)?;
         let written = nested(alloc, shape.written, size)?;
-        let value = JsonParser::with_depth_limit(alloc, text.chars(), size).parse()?;
-        assert!(rt; value.stringify(alloc)? == written);
-        let copy = value.try_clone(alloc)?;
-        value.dismantle();
-        assert!(rt; copy.stringify(alloc)? == written);
-        copy.dismantle();
+        let value = parsed_within(alloc, text.as_str(), size)?;
+        assert!(rt; is_text(value.stringify(alloc), written.as_str()));
+        assert!(rt; is_copied(alloc, value, written.as_str()));
     }
     Ok(())
+}
+
+/// Whether the values are equal. They are given up.
+fn are_equal(one: JsonValue, other: JsonValue) -> bool {
+    let equal = one == other;
+    one.dismantle();
+    other.dismantle();
+    equal
+}
+
+/// Whether the texts spell equal values.
+fn spell_equal(alloc: Global, one: &str, other: &str) -> Result<bool, Fail> {
+    let one = JsonValue::from_str(alloc, one)?;
+    Ok(are_equal(one, JsonValue::from_str(alloc, other)?))
 }
 
 #[test]
@@ -118,17 +141,41 @@ fn deep_values_are_compared(rt: HostRuntime) -> Result<(), Fail> {
     for (shape, size) in ROWS {
         let [open, _, close] = shape.text;
         let text = nested(alloc, shape.text, size)?;
-        let one = JsonValue::from_str(alloc, text.as_str())?;
-        let same = JsonValue::from_str(alloc, text.as_str())?;
-        let text = nested(alloc, [open, "true", close], size)?;
-        let other = JsonValue::from_str(alloc, text.as_str())?;
-        assert!(rt; one == same);
-        assert!(rt; one != other);
-        one.dismantle();
-        same.dismantle();
-        other.dismantle();
+        assert!(rt; spell_equal(alloc, text.as_str(), text.as_str())?);
+        let other = nested(alloc, [open, "true", close], size)?;
+        assert!(rt; !spell_equal(alloc, text.as_str(), other.as_str())?);
     }
     Ok(())
+}
+
+/// Whether the text between two others is refused so.
+fn is_refused_between(
+    alloc: Global,
+    before: &str,
+    text: &str,
+    after: &str,
+    refusal: Refusal,
+) -> Result<bool, AllocError> {
+    let whole = between(alloc, before, text, after)?;
+    Ok(is_refused(alloc, whole.as_str(), None, refusal))
+}
+
+/// Whether the value of a member is given up for that of a later member with the same key.
+fn is_replaced(alloc: Global, text: &str) -> Result<bool, Fail> {
+    let equal = between(alloc, "{\"a\":", text, ",\"a\":1}")?;
+    let value = JsonValue::from_str(alloc, equal.as_str())?;
+    Ok(is_text(value.stringify(alloc), "{\"a\":1}"))
+}
+
+/// Whether the text without its last character is refused, also at a limit of one level less.
+fn is_cut_refused(alloc: Global, text: String, shape: Shape, size: usize) -> bool {
+    let mut cut = text;
+    drop(cut.pop());
+    let level = shape.text[0].len();
+    let limit = size.saturating_sub(1);
+    let too_deep = (Kind::TooDeep(shape.bracket), level.saturating_mul(limit));
+    is_refused(alloc, cut.as_str(), None, (Kind::UnexpectedEof, cut.len()))
+        && is_refused(alloc, cut.as_str(), Some(limit), too_deep)
 }
 
 #[test]
@@ -136,24 +183,13 @@ fn deep_values_are_given_up(rt: HostRuntime) -> Result<(), Fail> {
     let alloc = rt.alloc();
     for (shape, size) in ROWS {
         let text = nested(alloc, shape.text, size)?;
-        let end = text.len();
-        let followed = between(alloc, "", text.as_str(), "x")?;
-        let refusal = (Kind::ExpectedEof('x'), end.saturating_add(1));
-        check_refused(&rt, alloc, followed.as_str(), None, refusal);
-        let key = between(alloc, "{", text.as_str(), ":1}")?;
-        let refusal = (Kind::KeyNotString(shape.kind), end.saturating_add(1));
-        check_refused(&rt, alloc, key.as_str(), None, refusal);
-        let equal = between(alloc, "{\"a\":", text.as_str(), ",\"a\":1}")?;
-        let value = JsonValue::from_str(alloc, equal.as_str())?;
-        assert_eq!(rt; value.stringify(alloc)?.as_str(), "{\"a\":1}");
-        let mut cut = text;
-        drop(cut.pop());
-        let refusal = (Kind::UnexpectedEof, cut.len());
-        check_refused(&rt, alloc, cut.as_str(), None, refusal);
-        let level = shape.text[0].len();
-        let limit = size.saturating_sub(1);
-        let refusal = (Kind::TooDeep(shape.bracket), level.saturating_mul(limit));
-        check_refused(&rt, alloc, cut.as_str(), Some(limit), refusal);
+        let end = text.len().saturating_add(1);
+        let followed = (Kind::ExpectedEof('x'), end);
+        assert!(rt; is_refused_between(alloc, "", text.as_str(), "x", followed)?);
+        let key = (Kind::KeyNotString(shape.kind), end);
+        assert!(rt; is_refused_between(alloc, "{", text.as_str(), ":1}", key)?);
+        assert!(rt; is_replaced(alloc, text.as_str())?);
+        assert!(rt; is_cut_refused(alloc, text, shape, size));
     }
     Ok(())
 }

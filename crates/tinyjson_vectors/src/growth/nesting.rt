@@ -1,16 +1,14 @@
 //! Containers in one another, by their number.
 
-use super::{SIZES, check_compact, check_indented, check_value};
+use super::{Case, SIZES, fault};
+use crate::common::{is_refusal, parsed, single};
 use std::alloc::{AllocError, Global};
-use std::collections::HashMap;
 use std::test::Fail;
-use tinyjson::{JsonParseErrorKind, JsonParser, JsonValue};
+use tinyjson::{JsonParseErrorKind, JsonValue};
 
-/// The deepest containers that are closed here, where the language drops the values. `deep` has deeper ones.
+/// The deepest containers that are closed here, where the language drops the values, and where the
+/// indented text grows with the square of the depth. `deep` has deeper ones.
 const DEEPEST: usize = 1_000;
-
-/// The deepest containers whose text is indented, since that text grows with the square of the depth.
-const DEEPEST_INDENTED: usize = 1_000;
 
 /// Which containers stand in one another.
 #[derive(Clone, Copy, Debug)]
@@ -74,34 +72,41 @@ fn indented(alloc: Global, nest: Nest, size: usize) -> Result<String, AllocError
     Ok(text)
 }
 
+/// The array or the object with this value alone.
+fn container(alloc: Global, is_array: bool, value: JsonValue) -> Result<JsonValue, AllocError> {
+    if is_array {
+        Ok(JsonValue::from(vec![in alloc; value]?))
+    } else {
+        single(alloc, "a", value)
+    }
+}
+
 /// The value, made from the inside outwards.
 fn nested(alloc: Global, nest: Nest, size: usize) -> Result<JsonValue, AllocError> {
     let mut value = JsonValue::Null;
     for depth in (0..size).rev() {
-        value = if is_array(nest, depth) {
-            JsonValue::from(vec![in alloc; value]?)
-        } else {
-            let mut members = HashMap::new(alloc);
-            drop(members.insert("a".to_string(alloc)?, value)?);
-            JsonValue::from(members)
-        };
+        value = container(alloc, is_array(nest, depth), value)?;
     }
     Ok(value)
 }
 
+/// So many containers in one another, and their texts.
+fn case(alloc: Global, nest: Nest, size: usize) -> Result<Case, AllocError> {
+    Ok(Case {
+        text: compact(alloc, nest, size)?,
+        compact: compact(alloc, nest, size)?,
+        indented: indented(alloc, nest, size)?,
+        value: nested(alloc, nest, size)?,
+    })
+}
+
 #[test]
 fn closed_containers_of_each_depth(rt: HostRuntime) -> Result<(), Fail> {
-    let alloc = rt.alloc();
     for nest in NESTS {
-        for size in SIZES.iter().copied().filter(|size| *size <= DEEPEST) {
-            let name = format!(in alloc; "{size} {nest:?}")?;
-            let text = compact(alloc, nest, size)?;
-            let value = nested(alloc, nest, size)?;
-            check_value(&rt, alloc, text.as_str(), &value, name.as_str())?;
-            check_compact(&rt, alloc, &value, text.as_str(), name.as_str())?;
-            if size <= DEEPEST_INDENTED {
-                let text = indented(alloc, nest, size)?;
-                check_indented(&rt, alloc, &value, text.as_str(), name.as_str())?;
+        for size in SIZES {
+            if size <= DEEPEST {
+                let case = case(rt.alloc(), nest, size)?;
+                assert_eq!(rt; fault(rt.alloc(), &case), None, "{size} {nest:?}");
             }
         }
     }
@@ -113,17 +118,9 @@ fn open_containers_of_each_depth(rt: HostRuntime) -> Result<(), Fail> {
     for nest in NESTS {
         for size in SIZES {
             let text = opened(rt.alloc(), nest, size)?;
-            let fault = JsonParser::new(rt.alloc(), text.as_str().chars())
-                .parse()
-                .expect_err(&rt, "the containers are open");
-            assert_eq!(rt;
-                fault.kind(),
-                JsonParseErrorKind::UnexpectedEof,
-                "{size} {nest:?}"
-            );
-            assert_eq!(rt;
-                (fault.line(), fault.column()),
-                (1, text.len()),
+            let answer = parsed(rt.alloc(), text.as_str());
+            assert!(rt;
+                is_refusal(answer, JsonParseErrorKind::UnexpectedEof, (1, text.len())),
                 "{size} {nest:?}"
             );
         }

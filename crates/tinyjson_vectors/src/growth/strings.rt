@@ -1,8 +1,8 @@
 //! Strings and keys by the number of their characters.
 
-use super::{Case, SIZES, check};
+use super::{Case, SIZES, fault, repeated};
+use crate::common::single;
 use std::alloc::Global;
-use std::collections::HashMap;
 use std::test::Fail;
 use tinyjson::JsonValue;
 
@@ -58,27 +58,27 @@ const PARTS: [Part; 8] = [
 
 /// A string of `size` parts.
 fn string(alloc: Global, part: &Part, size: usize) -> Result<Case, Fail> {
-    let spelled = part.spelled.repeat(alloc, size)?;
-    let written = part.written.repeat(alloc, size)?;
     Ok(Case {
-        text: format!(in alloc; "\"{spelled}\"")?,
+        text: repeated(alloc, "\"", (part.spelled, size), "\"")?,
+        compact: repeated(alloc, "\"", (part.written, size), "\"")?,
+        indented: repeated(alloc, "\"", (part.written, size), "\"")?,
         value: JsonValue::from(part.meant.repeat(alloc, size)?),
-        compact: format!(in alloc; "\"{written}\"")?,
-        indented: format!(in alloc; "\"{written}\"")?,
     })
+}
+
+/// An object with a null at a key of `size` parts.
+fn with_key(alloc: Global, part: &Part, size: usize) -> Result<JsonValue, Fail> {
+    let key = part.meant.repeat(alloc, size)?;
+    Ok(single(alloc, key.as_str(), JsonValue::Null)?)
 }
 
 /// An object whose key has `size` parts.
 fn key(alloc: Global, part: &Part, size: usize) -> Result<Case, Fail> {
-    let spelled = part.spelled.repeat(alloc, size)?;
-    let written = part.written.repeat(alloc, size)?;
-    let mut members = HashMap::new(alloc);
-    drop(members.insert(part.meant.repeat(alloc, size)?, JsonValue::Null)?);
     Ok(Case {
-        text: format!(in alloc; "{{\"{spelled}\":null}}")?,
-        value: JsonValue::from(members),
-        compact: format!(in alloc; "{{\"{written}\":null}}")?,
-        indented: format!(in alloc; "{{\n  \"{written}\": null\n}}")?,
+        text: repeated(alloc, "{\"", (part.spelled, size), "\":null}")?,
+        compact: repeated(alloc, "{\"", (part.written, size), "\":null}")?,
+        indented: repeated(alloc, "{\n  \"", (part.written, size), "\": null\n}")?,
+        value: with_key(alloc, part, size)?,
     })
 }
 
@@ -86,13 +86,13 @@ fn key(alloc: Global, part: &Part, size: usize) -> Result<Case, Fail> {
 fn strings_of_each_size(rt: HostRuntime) -> Result<(), Fail> {
     for part in PARTS.iter() {
         for size in SIZES {
-            let name = format!(in rt.alloc(); "the string of {size} times {}", part.spelled)?;
-            check(
-                &rt,
-                rt.alloc(),
-                &string(rt.alloc(), part, size)?,
-                name.as_str(),
-            )?;
+            let case = string(rt.alloc(), part, size)?;
+            assert_eq!(rt;
+                fault(rt.alloc(), &case),
+                None,
+                "the string of {size} times {}",
+                part.spelled
+            );
         }
     }
     Ok(())
@@ -102,13 +102,13 @@ fn strings_of_each_size(rt: HostRuntime) -> Result<(), Fail> {
 fn keys_of_each_size(rt: HostRuntime) -> Result<(), Fail> {
     for part in PARTS.iter() {
         for size in SIZES {
-            let name = format!(in rt.alloc(); "the key of {size} times {}", part.spelled)?;
-            check(
-                &rt,
-                rt.alloc(),
-                &key(rt.alloc(), part, size)?,
-                name.as_str(),
-            )?;
+            let case = key(rt.alloc(), part, size)?;
+            assert_eq!(rt;
+                fault(rt.alloc(), &case),
+                None,
+                "the key of {size} times {}",
+                part.spelled
+            );
         }
     }
     Ok(())
