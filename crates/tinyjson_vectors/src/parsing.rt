@@ -10,9 +10,10 @@ mod many;
 mod refusals;
 mod values;
 
+use crate::common::{is_refusal, is_written_so, parsed};
 use std::alloc::Global;
 use std::test::Fail;
-use tinyjson::{JsonParseErrorKind, JsonParseResult, JsonParser, JsonValue};
+use tinyjson::{JsonParseErrorKind, JsonParseResult, JsonValue};
 
 /// What a call of `parse` answers.
 #[derive(Clone, Copy, Debug)]
@@ -29,22 +30,32 @@ pub(crate) fn agrees(
     answer: JsonParseResult,
     expected: Answer,
 ) -> Result<bool, Fail> {
-    match (answer, expected) {
-        (Ok(value), Answer::Text(text)) => Ok(value.stringify(alloc)?.as_str() == text),
-        (Err(fault), Answer::Refusal(kind, line, column)) => {
-            Ok((fault.kind(), fault.line(), fault.column()) == (kind, line, column))
-        }
-        _ => Ok(false),
+    match expected {
+        Answer::Text(text) => match answer {
+            Ok(value) => Ok(value.stringify(alloc)?.as_str() == text),
+            Err(_) => Ok(false),
+        },
+        Answer::Refusal(kind, line, column) => Ok(is_refusal(answer, kind, (line, column))),
+    }
+}
+
+/// The same where memory is ample.
+fn is_answer(alloc: Global, answer: JsonParseResult, expected: Answer) -> bool {
+    match expected {
+        Answer::Text(text) => is_written_so(alloc, answer, text),
+        Answer::Refusal(kind, line, column) => is_refusal(answer, kind, (line, column)),
     }
 }
 
 /// Whether a text and its characters are both answered so.
-pub(crate) fn both_agree(alloc: Global, text: &str, expected: Answer) -> Result<bool, Fail> {
-    let characters = JsonParser::new(alloc, text.chars()).parse();
-    Ok(
-        agrees(alloc, JsonValue::from_str(alloc, text), expected)?
-            && agrees(alloc, characters, expected)?,
-    )
+fn both_agree(alloc: Global, text: &str, expected: Answer) -> bool {
+    is_answer(alloc, JsonValue::from_str(alloc, text), expected)
+        && is_answer(alloc, parsed(alloc, text), expected)
+}
+
+/// Whether the first text is read, and its value is written as the second.
+fn is_read_so(alloc: Global, text: &str, written: &str) -> bool {
+    is_written_so(alloc, JsonValue::from_str(alloc, text), written)
 }
 
 /// The line and column behind a character that is consumed at this place.

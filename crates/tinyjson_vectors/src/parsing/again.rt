@@ -1,7 +1,6 @@
 //! `parse` called again, after a refusal and after a value.
 
-use super::{Answer, agrees};
-use std::test::Fail;
+use super::{Answer, is_answer};
 use tinyjson::{JsonKind, JsonParseErrorKind as Kind, JsonParser};
 
 /// A text, and what one call after another answers.
@@ -96,16 +95,14 @@ const ROWS: &[(&str, &[Answer])] = &[
 ];
 
 #[test]
-fn a_parser_goes_on(rt: HostRuntime) -> Result<(), Fail> {
+fn a_parser_goes_on(rt: HostRuntime) {
     for &(text, answers) in ROWS {
         let mut parser = JsonParser::new(rt.alloc(), text.chars());
         for expected in answers {
-            let answer = parser.parse();
             assert!(rt;
-                agrees(rt.alloc(), answer, *expected)?,
+                is_answer(rt.alloc(), parser.parse(), *expected),
                 "{text}: {expected:?}"
             );
         }
     }
-    Ok(())
 }

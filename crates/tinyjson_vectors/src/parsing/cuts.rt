@@ -1,8 +1,9 @@
 //! Texts cut off at each place.
 
 use super::{moved, values};
-use std::process::Abort;
-use tinyjson::{JsonParseErrorKind as Kind, JsonParser};
+use crate::common::is_refusal;
+use std::alloc::Global;
+use tinyjson::{JsonParseErrorKind as Kind, JsonParseResult, JsonParser};
 
 /// Texts beside those of the table of values.
 const TEXTS: &[&str] = &[
@@ -14,22 +15,22 @@ const TEXTS: &[&str] = &[
     "[1,{\"a\":[null,\"x\"],\"b\":2}]",
 ];
 
-/// A beginning of a text is accepted, or it is refused where it ends.
-fn ends(rt: &(impl Abort + AllocGlobal), text: &str, length: usize, place: (usize, usize)) {
-    let mut parser = JsonParser::new(rt.alloc(), text.chars().take(length));
-    if let Err(fault) = parser.parse() {
-        assert!(rt;
-            matches!(
-                fault.kind(),
-                Kind::UnexpectedEof | Kind::EmptyInteger | Kind::EmptyFraction | Kind::EmptyExponent
-            ),
-            "{fault}"
-        );
-        assert_eq!(rt; (fault.line(), fault.column()), place, "{text}");
-    }
-    let rest = parser.parse().expect_err(rt, "nothing is left");
-    assert_eq!(rt; rest.kind(), Kind::UnexpectedEof, "{text}");
-    assert_eq!(rt; (rest.line(), rest.column()), place, "{text}");
+/// Whether a text was accepted, or refused as one that goes on, at this place.
+fn is_beginning(answer: JsonParseResult, place: (usize, usize)) -> bool {
+    let Err(fault) = answer else {
+        return true;
+    };
+    let goes_on = matches!(
+        fault.kind(),
+        Kind::UnexpectedEof | Kind::EmptyInteger | Kind::EmptyFraction | Kind::EmptyExponent
+    );
+    goes_on && (fault.line(), fault.column()) == place
+}
+
+/// A beginning of a text is accepted, or it is refused where it ends, and then nothing is left.
+fn ends(alloc: Global, text: &str, length: usize, place: (usize, usize)) -> bool {
+    let mut parser = JsonParser::new(alloc, text.chars().take(length));
+    is_beginning(parser.parse(), place) && is_refusal(parser.parse(), Kind::UnexpectedEof, place)
 }
 
 #[test]
@@ -38,7 +39,7 @@ fn each_beginning_ends_well(rt: HostRuntime) {
     for text in texts.chain(TEXTS.iter().copied()) {
         let mut place = (1, 0);
         for (length, c) in text.chars().enumerate() {
-            ends(&rt, text, length, place);
+            assert!(rt; ends(rt.alloc(), text, length, place), "{length} of {text}");
             place = moved(place, c);
         }
     }

@@ -1,8 +1,8 @@
 //! Parsers with a limit on open containers.
 
-use super::{Answer, agrees};
+use super::{Answer, is_answer};
+use crate::common::{is_refusal, parsed_within};
 use std::iter;
-use std::test::Fail;
 use tinyjson::{JsonKind, JsonParseErrorKind as Kind, JsonParser};
 
 /// A text, a limit and the answer.
@@ -32,24 +32,24 @@ const ROWS: &[(&str, usize, Answer)] = &[
 ];
 
 #[test]
-fn the_limit_decides(rt: HostRuntime) -> Result<(), Fail> {
+fn the_limit_decides(rt: HostRuntime) {
     for &(text, limit, expected) in ROWS {
-        let answer = JsonParser::with_depth_limit(rt.alloc(), text.chars(), limit).parse();
+        let answer = parsed_within(rt.alloc(), text, limit);
         assert!(rt;
-            agrees(rt.alloc(), answer, expected)?,
+            is_answer(rt.alloc(), answer, expected),
             "{text} with limit {limit}: {expected:?}"
         );
     }
-    Ok(())
 }
 
 #[test]
-fn each_call_begins_with_nothing_open(rt: HostRuntime) -> Result<(), Fail> {
+fn each_call_begins_with_nothing_open(rt: HostRuntime) {
     let mut parser = JsonParser::with_depth_limit(rt.alloc(), iter::repeat_n('[', 1000), 10);
     for column in [10, 20] {
-        let fault = parser.parse().expect_err(&rt, "ten brackets are open");
-        assert_eq!(rt; fault.kind(), Kind::TooDeep('['));
-        assert_eq!(rt; (fault.line(), fault.column()), (1, column));
+        let answer = parser.parse();
+        assert!(rt;
+            is_refusal(answer, Kind::TooDeep('['), (1, column)),
+            "{column}"
+        );
     }
-    Ok(())
 }

@@ -1,8 +1,10 @@
 //! Long texts.
 
+use super::is_read_so;
+use crate::common::{is_refusal, parsed};
 use std::alloc::{AllocError, Global};
 use std::test::Fail;
-use tinyjson::{JsonParseErrorKind as Kind, JsonParser, JsonValue};
+use tinyjson::{JsonParseErrorKind as Kind, JsonParser};
 
 /// A text that has `unit` many times between `head` and `tail`.
 type Repeated = (&'static str, &'static str, usize, &'static str);
@@ -32,11 +34,11 @@ const REFUSED: &[(Repeated, Kind, usize)] = &[
 fn deep_texts_are_refused(rt: HostRuntime) -> Result<(), Fail> {
     for &(text, kind, column) in REFUSED {
         let text = written(rt.alloc(), text)?;
-        let fault = JsonParser::new(rt.alloc(), text.chars())
-            .parse()
-            .expect_err(&rt, "the text is not whole");
-        assert_eq!(rt; fault.kind(), kind);
-        assert_eq!(rt; (fault.line(), fault.column()), (1, column));
+        let answer = parsed(rt.alloc(), text.as_str());
+        assert!(rt;
+            is_refusal(answer, kind, (1, column)),
+            "{kind:?} at {column}"
+        );
     }
     Ok(())
 }
@@ -55,10 +57,8 @@ fn long_numbers_are_written(rt: HostRuntime) -> Result<(), Fail> {
     for &(text, compact) in NUMBERS {
         let text = written(rt.alloc(), text)?;
         let compact = written(rt.alloc(), compact)?;
-        let value = JsonValue::from_str(rt.alloc(), text.as_str())?;
-        assert!(rt; value.stringify(rt.alloc())? == compact);
-        let again = JsonValue::from_str(rt.alloc(), compact.as_str())?;
-        assert!(rt; again.stringify(rt.alloc())? == compact);
+        assert!(rt; is_read_so(rt.alloc(), text.as_str(), compact.as_str()));
+        assert!(rt; is_read_so(rt.alloc(), compact.as_str(), compact.as_str()));
     }
     Ok(())
 }
@@ -67,8 +67,7 @@ fn long_numbers_are_written(rt: HostRuntime) -> Result<(), Fail> {
 fn a_thousand_arrays(rt: HostRuntime) -> Result<(), Fail> {
     let mut text = written(rt.alloc(), ("", "[", 1000, ""))?;
     text.push_str(written(rt.alloc(), ("", "]", 1000, ""))?.as_str())?;
-    let value = JsonValue::from_str(rt.alloc(), text.as_str())?;
-    assert!(rt; value.stringify(rt.alloc())? == text);
+    assert!(rt; is_read_so(rt.alloc(), text.as_str(), text.as_str()));
     Ok(())
 }
 
@@ -84,19 +83,23 @@ fn broken(alloc: Global, left_out: usize, end: &str) -> Result<String, AllocErro
     Ok(text)
 }
 
+/// Whether the string is refused, and then the rest, at this column.
+fn is_refused_twice(alloc: Global, text: &str, column: usize) -> bool {
+    let mut parser = JsonParser::new(alloc, text.chars());
+    is_refusal(parser.parse(), Kind::InvalidUtf16, (1, 32))
+        && is_refusal(parser.parse(), Kind::UnexpectedEof, (1, column))
+}
+
 #[test]
 fn a_surrogate_is_left_out(rt: HostRuntime) -> Result<(), Fail> {
     for left_out in 0..6 {
         // The column of the second refusal shows whether the quote was left.
         for (end, column) in [("\"", 32), ("x\"", 33)] {
             let text = broken(rt.alloc(), left_out, end)?;
-            let mut parser = JsonParser::new(rt.alloc(), text.chars());
-            let fault = parser.parse().expect_err(&rt, "a surrogate is alone");
-            assert_eq!(rt; fault.kind(), Kind::InvalidUtf16);
-            assert_eq!(rt; fault.column(), 32);
-            let rest = parser.parse().expect_err(&rt, "no value is left");
-            assert_eq!(rt; rest.kind(), Kind::UnexpectedEof);
-            assert_eq!(rt; rest.column(), column);
+            assert!(rt;
+                is_refused_twice(rt.alloc(), text.as_str(), column),
+                "{left_out}"
+            );
         }
     }
     Ok(())

@@ -2,10 +2,11 @@
 //! what is refused behind the last. A text in memory and its characters are read.
 
 use super::{Answer, both_agree};
+use crate::common::{is_value, parsed, put, whole};
 use std::alloc::{AllocError, Global};
 use std::collections::HashMap;
 use std::test::Fail;
-use tinyjson::{JsonKind, JsonNumber, JsonParseErrorKind as Kind, JsonParser, JsonValue};
+use tinyjson::{JsonKind, JsonParseErrorKind as Kind, JsonValue};
 
 const COUNTS: [usize; 5] = [63, 64, 65, 128, 1_000];
 
@@ -19,21 +20,35 @@ fn members(alloc: Global, count: usize) -> Result<String, AllocError> {
     Ok(text)
 }
 
-/// The object that these texts of members spell.
-fn object(alloc: Global, members: &[(usize, usize)]) -> Result<JsonValue, Fail> {
-    let mut object = HashMap::new(alloc);
-    for &(key, value) in members {
-        let number = JsonNumber::from_u64(alloc, value as u64)?;
-        drop(object.insert(key.to_string(alloc)?, JsonValue::from(number))?);
+/// The same with one of these keys again.
+fn members_and_again(alloc: Global, count: usize, again: usize) -> Result<String, Fail> {
+    let members = members(alloc, count)?;
+    Ok(format!(in alloc; "{members},\"{again}\":5000}}")?)
+}
+
+fn put_number(
+    alloc: Global,
+    members: &mut HashMap<String, JsonValue>,
+    key: usize,
+    number: usize,
+) -> Result<(), Fail> {
+    let key = key.to_string(alloc)?;
+    Ok(put(members, key, whole(alloc, number as u64)?)?)
+}
+
+/// The object that `members_and_again` spells.
+fn object(alloc: Global, count: usize, again: usize) -> Result<JsonValue, Fail> {
+    let mut members = HashMap::new(alloc);
+    for i in 0..count {
+        put_number(alloc, &mut members, i, i)?;
     }
-    Ok(JsonValue::from(object))
+    put_number(alloc, &mut members, again, 5000)?;
+    Ok(JsonValue::from(members))
 }
 
 /// Whether a text and its characters both spell this value.
 fn both_spell(alloc: Global, text: &str, value: &JsonValue) -> bool {
-    let characters = JsonParser::new(alloc, text.chars()).parse();
-    JsonValue::from_str(alloc, text).is_ok_and(|read| read == *value)
-        && characters.is_ok_and(|read| read == *value)
+    is_value(JsonValue::from_str(alloc, text), value) && is_value(parsed(alloc, text), value)
 }
 
 #[test]
@@ -41,14 +56,8 @@ fn the_last_of_equal_keys_stays(rt: HostRuntime) -> Result<(), Fail> {
     let alloc = rt.alloc();
     for count in COUNTS {
         for again in [0, 1, 62, count / 2, count - 1] {
-            let mut text = members(alloc, count)?;
-            text.push_str(format!(in alloc; ",\"{again}\":5000}}")?.as_str())?;
-            let mut expected = Vec::new(alloc);
-            for i in 0..count {
-                expected.push((i, i))?;
-            }
-            expected.push((again, 5000))?;
-            let value = object(alloc, expected.as_slice())?;
+            let text = members_and_again(alloc, count, again)?;
+            let value = object(alloc, count, again)?;
             assert!(rt;
                 both_spell(alloc, text.as_str(), &value),
                 "{again} of {count}"
@@ -92,7 +101,7 @@ fn all_refused(alloc: Global, text: &str, behind: &[(&str, Kind, usize)]) -> Res
     for &(end, kind, taken) in behind {
         let text_and_end = format!(in alloc; "{text}{end}")?;
         let refusal = Answer::Refusal(kind, 1, text.len().saturating_add(taken));
-        if !both_agree(alloc, text_and_end.as_str(), refusal)? {
+        if !both_agree(alloc, text_and_end.as_str(), refusal) {
             return Ok(false);
         }
     }

@@ -1,7 +1,7 @@
 //! Texts that are refused, each with its kind, line and column.
 
-use std::test::Fail;
-use tinyjson::{JsonKind, JsonParseErrorKind as Kind, JsonParser};
+use crate::common::{is_refusal, parsed};
+use tinyjson::{JsonKind, JsonParseErrorKind as Kind};
 
 const ROWS: &[(&str, Kind, usize, usize)] = &[
     // Literals, and what stands before and after a value.
@@ -73,13 +73,9 @@ const ROWS: &[(&str, Kind, usize, usize)] = &[
 ];
 
 #[test]
-fn each_text_is_refused(rt: HostRuntime) -> Result<(), Fail> {
+fn each_text_is_refused(rt: HostRuntime) {
     for &(text, kind, line, column) in ROWS {
-        let fault = JsonParser::new(rt.alloc(), text.chars())
-            .parse()
-            .expect_err(&rt, text);
-        assert_eq!(rt; fault.kind(), kind, "{text}");
-        assert_eq!(rt; (fault.line(), fault.column()), (line, column), "{text}");
+        let answer = parsed(rt.alloc(), text);
+        assert!(rt; is_refusal(answer, kind, (line, column)), "{text}");
     }
-    Ok(())
 }

@@ -1,8 +1,11 @@
 //! Texts that are read, each with the compact text of its value.
 
+use super::is_read_so;
+use crate::common::{is_value, is_written_so, parsed};
 use crate::documentation::{COMPACT, DOCUMENT};
+use std::alloc::Global;
 use std::test::Fail;
-use tinyjson::{JsonParseErrorKind, JsonParser, JsonValue};
+use tinyjson::{JsonParseErrorKind, JsonParseResult, JsonParser, JsonValue};
 
 /// A text and the compact text of its value.
 pub(super) const ROWS: &[(&str, &str)] = &[
@@ -69,26 +72,39 @@ pub(super) const ROWS: &[(&str, &str)] = &[
     (DOCUMENT, COMPACT),
 ];
 
+/// Whether nothing was left to be read.
+fn is_end(answer: JsonParseResult) -> bool {
+    match answer {
+        Ok(_) => false,
+        Err(fault) => fault.kind() == JsonParseErrorKind::UnexpectedEof,
+    }
+}
+
+/// Whether the text is read as a value that is written so, and nothing is left.
+fn is_read_to_its_end(alloc: Global, text: &str, compact: &str) -> bool {
+    let mut parser = JsonParser::new(alloc, text.chars());
+    is_written_so(alloc, parser.parse(), compact) && is_end(parser.parse())
+}
+
+/// Whether the texts spell equal values.
+fn are_equal(alloc: Global, one: &str, other: &str) -> Result<bool, Fail> {
+    let value = JsonValue::from_str(alloc, one)?;
+    Ok(is_value(parsed(alloc, other), &value))
+}
+
 #[test]
 fn each_value_is_written(rt: HostRuntime) -> Result<(), Fail> {
     let alloc = rt.alloc();
     for &(text, compact) in ROWS {
-        let mut parser = JsonParser::new(alloc, text.chars());
-        let value = parser.parse()?;
-        assert_eq!(rt; value.stringify(alloc)?.as_str(), compact, "{text}");
-        let end = parser.parse().expect_err(&rt, text);
-        assert_eq!(rt; end.kind(), JsonParseErrorKind::UnexpectedEof, "{text}");
-        let again = JsonValue::from_str(alloc, compact)?;
-        assert!(rt; again == value, "{text}");
-        assert_eq!(rt; again.stringify(alloc)?.as_str(), compact, "{text}");
+        assert!(rt; is_read_to_its_end(alloc, text, compact), "{text}");
+        assert!(rt; are_equal(alloc, compact, text)?, "{text}");
+        assert!(rt; is_read_so(alloc, compact, compact), "{text}");
     }
     Ok(())
 }
 
 #[test]
 fn a_number_is_no_string(rt: HostRuntime) -> Result<(), Fail> {
-    let number = JsonValue::from_str(rt.alloc(), "[1]")?;
-    let string = JsonValue::from_str(rt.alloc(), r#"["1"]"#)?;
-    assert!(rt; number != string);
+    assert!(rt; !are_equal(rt.alloc(), "[1]", r#"["1"]"#)?);
     Ok(())
 }
