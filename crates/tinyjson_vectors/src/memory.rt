@@ -3,15 +3,16 @@
 //! With ample memory these tests pass as any do. `tools/refuse-allocations` runs each of them with requests
 //! for memory refused: then a test passes too, or it ends with the out of memory that a call answered.
 
+use crate::common::{parsed, parsed_within};
 use crate::documentation::{COMPACT, DOCUMENT, INDENTED};
 use crate::parsing::{Answer, agrees, moved};
-use std::alloc::Global;
+use std::alloc::{AllocError, Global};
 use std::io::ErrorKind;
 use std::process::Abort;
 use std::test::Fail;
 use tinyjson::{
-    JsonGenerator, JsonKind, JsonNumber, JsonNumberError, JsonParseError,
-    JsonParseErrorKind as Kind, JsonParser, JsonValue,
+    JsonGenerateResult, JsonGenerator, JsonKind, JsonNumber, JsonNumberError, JsonParseError,
+    JsonParseErrorKind as Kind, JsonParseResult, JsonParser, JsonValue,
 };
 
 const TEXTS: &[(&str, Answer)] = &[
@@ -44,6 +45,19 @@ fn consumed(text: &str, fault: &JsonParseError) -> usize {
     text.chars().count()
 }
 
+/// Whether the answers are equal values, or refusals of one kind.
+fn are_alike(one: JsonParseResult, other: JsonParseResult) -> bool {
+    one.map_err(|e| e.kind()) == other.map_err(|e| e.kind())
+}
+
+/// Whether the answer is the expected one. A want of memory is passed on.
+fn is_answer(alloc: Global, answer: JsonParseResult, expected: Answer) -> Result<bool, Fail> {
+    match answer {
+        Err(fault) if fault.kind() == Kind::OutOfMemory => Err(Fail::from(fault)),
+        answer => agrees(alloc, answer, expected),
+    }
+}
+
 #[test]
 fn parse_goes_on(rt: HostRuntime) -> Result<(), Fail> {
     let alloc = rt.alloc();
@@ -53,11 +67,7 @@ fn parse_goes_on(rt: HostRuntime) -> Result<(), Fail> {
             Err(fault) if fault.kind() == Kind::OutOfMemory => {
                 let rest = text.chars().skip(consumed(text, &fault));
                 let fresh = JsonParser::new(alloc, rest).parse();
-                let again = parser.parse();
-                assert!(rt;
-                    again.map_err(|e| e.kind()) == fresh.map_err(|e| e.kind()),
-                    "{fault}"
-                );
+                assert!(rt; are_alike(parser.parse(), fresh), "{fault}");
                 return Err(Fail::from(fault));
             }
             answer => assert!(rt; agrees(alloc, answer, expected)?, "{text}"),
@@ -70,10 +80,8 @@ fn parse_goes_on(rt: HostRuntime) -> Result<(), Fail> {
 fn from_str_answers_no_other_fault(rt: HostRuntime) -> Result<(), Fail> {
     let alloc = rt.alloc();
     for &(text, expected) in TEXTS {
-        match JsonValue::from_str(alloc, text) {
-            Err(fault) if fault.kind() == Kind::OutOfMemory => return Err(Fail::from(fault)),
-            answer => assert!(rt; agrees(alloc, answer, expected)?, "{text}"),
-        }
+        let answer = JsonValue::from_str(alloc, text);
+        assert!(rt; is_answer(alloc, answer, expected)?, "{text}");
     }
     Ok(())
 }
@@ -83,10 +91,8 @@ fn a_limited_parser_answers_no_other_fault(rt: HostRuntime) -> Result<(), Fail> 
     let alloc = rt.alloc();
     let too_deep = Answer::Refusal(Kind::TooDeep('['), 4, 15);
     for (limit, expected) in [(2, Answer::Text(COMPACT)), (1, too_deep)] {
-        match JsonParser::with_depth_limit(alloc, DOCUMENT.chars(), limit).parse() {
-            Err(fault) if fault.kind() == Kind::OutOfMemory => return Err(Fail::from(fault)),
-            answer => assert!(rt; agrees(alloc, answer, expected)?, "limit {limit}"),
-        }
+        let answer = parsed_within(alloc, DOCUMENT, limit);
+        assert!(rt; is_answer(alloc, answer, expected)?, "limit {limit}");
     }
     Ok(())
 }
@@ -99,10 +105,20 @@ fn some_texts_take_no_memory(rt: HostRuntime) -> Result<(), Fail> {
         ("x", Answer::Refusal(Kind::InvalidCharacter('x'), 1, 0)),
         ("", Answer::Refusal(Kind::UnexpectedEof, 1, 0)),
     ] {
-        let answer = JsonParser::new(alloc, text.chars()).parse();
-        assert!(rt; agrees(alloc, answer, expected)?, "{text}");
+        assert!(rt; agrees(alloc, parsed(alloc, text), expected)?, "{text}");
     }
     Ok(())
+}
+
+fn is_short_read(alloc: Global) -> Result<bool, Fail> {
+    let number = JsonNumber::from_text(alloc, "-12.30e-1")?;
+    Ok(number.is_negative() && (number.digits(), number.power()) == ("123", -2))
+}
+
+fn is_long_read(alloc: Global) -> Result<bool, Fail> {
+    let long = JsonNumber::from_text(alloc, LONG)?;
+    let same = (long.digits(), long.power()) == (LONG, 0);
+    Ok(same && long.try_clone(alloc)? == long)
 }
 
 #[test]
@@ -112,17 +128,22 @@ fn numbers_keep_their_faults(rt: HostRuntime) -> Result<(), Fail> {
     assert!(rt; matches!(fault, JsonNumberError::NotANumber));
     let fault = JsonNumber::from_text(alloc, "1e9223372036854775808").expect_err(&rt, "too large");
     assert!(rt; matches!(fault, JsonNumberError::OutOfRange));
-    let number = JsonNumber::from_text(alloc, "-12.30e-1")?;
-    assert!(rt; number.is_negative());
-    assert_eq!(rt; (number.digits(), number.power()), ("123", -2));
-    let long = JsonNumber::from_text(alloc, LONG)?;
-    assert_eq!(rt; (long.digits(), long.power()), (LONG, 0));
-    assert!(rt; long.try_clone(alloc)? == long);
-    let least = JsonNumber::from_i64(alloc, i64::MIN)?;
-    assert_eq!(rt; least.to_i64(), Some(i64::MIN));
-    let greatest = JsonNumber::from_u64(alloc, u64::MAX)?;
-    assert_eq!(rt; greatest.to_u64(), Some(u64::MAX));
+    assert!(rt; is_short_read(alloc)?);
+    assert!(rt; is_long_read(alloc)?);
+    let least = JsonNumber::from_i64(alloc, i64::MIN)?.to_i64();
+    assert_eq!(rt; least, Some(i64::MIN));
+    let greatest = JsonNumber::from_u64(alloc, u64::MAX)?.to_u64();
+    assert_eq!(rt; greatest, Some(u64::MAX));
     Ok(())
+}
+
+/// Whether the value stays equal to the other where it is copied, and its copy is equal to it.
+fn is_copied(alloc: Global, value: &JsonValue, same: &JsonValue) -> Result<bool, AllocError> {
+    let copy = value.try_clone(alloc);
+    if *value != *same {
+        return Ok(false);
+    }
+    Ok(copy? == *value)
 }
 
 #[test]
@@ -130,27 +151,28 @@ fn a_refused_copy_changes_nothing(rt: HostRuntime) -> Result<(), Fail> {
     let alloc = rt.alloc();
     let value = JsonValue::from_str(alloc, DOCUMENT)?;
     let same = JsonValue::from_str(alloc, DOCUMENT)?;
-    let copy = value.try_clone(alloc);
-    assert!(rt; value == same);
-    assert!(rt; copy? == value);
+    assert!(rt; is_copied(alloc, &value, &same)?);
     value.dismantle();
     same.dismantle();
     Ok(())
+}
+
+/// Whether this text was made, or the refusal has its words, and is then passed on.
+fn is_made(answer: JsonGenerateResult, expected: &str) -> Result<bool, Fail> {
+    if let Err(fault) = &answer {
+        if fault.message() != "out of memory" {
+            return Ok(false);
+        }
+    }
+    Ok(answer?.as_str() == expected)
 }
 
 #[test]
 fn texts_are_made(rt: HostRuntime) -> Result<(), Fail> {
     let alloc = rt.alloc();
     let value = JsonValue::from_str(alloc, DOCUMENT)?;
-    for (made, expected) in [
-        (value.stringify(alloc), COMPACT),
-        (value.format(alloc), INDENTED),
-    ] {
-        if let Err(fault) = &made {
-            assert_eq!(rt; fault.message(), "out of memory");
-        }
-        assert_eq!(rt; made?.as_str(), expected);
-    }
+    assert!(rt; is_made(value.stringify(alloc), COMPACT)?);
+    assert!(rt; is_made(value.format(alloc), INDENTED)?);
     Ok(())
 }
 
@@ -179,12 +201,17 @@ fn generates(
     answer.map_err(|fault| fault.kind())
 }
 
+/// A null in 64 arrays.
+fn sixty_four(alloc: Global) -> Result<String, Fail> {
+    let opened = "[".repeat(alloc, 64)?;
+    let closed = "]".repeat(alloc, 64)?;
+    Ok(format!(in alloc; "{opened}null{closed}")?)
+}
+
 #[test]
 fn sixty_four_containers_take_no_memory(rt: HostRuntime) -> Result<(), Fail> {
     let alloc = rt.alloc();
-    let opened = "[".repeat(alloc, 64)?;
-    let closed = "]".repeat(alloc, 64)?;
-    let text = format!(in alloc; "{opened}null{closed}")?;
+    let text = sixty_four(alloc)?;
     let value = JsonValue::from_str(alloc, text.as_str())?;
     assert_eq!(rt; generates(&rt, alloc, &value, None, text.as_str()), Ok(()));
     Ok(())

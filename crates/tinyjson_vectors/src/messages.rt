@@ -1,8 +1,9 @@
 //! The words of refusals.
 
-use std::iter;
+use crate::common::{parsed, parsed_within};
+use std::alloc::Global;
 use std::test::Fail;
-use tinyjson::{JsonParseErrorKind, JsonParser, JsonValue};
+use tinyjson::{JsonParseErrorKind, JsonParseResult, JsonValue};
 
 /// Texts and the messages of their refusals, but for those that show a character.
 const PLAIN: &[(&str, &str)] = &[
@@ -65,29 +66,36 @@ const PLAIN: &[(&str, &str)] = &[
     ),
 ];
 
+/// The same with a limit of one open container.
+const DEEP: &[(&str, &str)] = &[
+    (
+        "[[",
+        "Parse error at line:1, col:1: Nesting is too deep at '['",
+    ),
+    (
+        "[{",
+        "Parse error at line:1, col:1: Nesting is too deep at '{'",
+    ),
+];
+
+/// Whether the text was refused with this message.
+fn is_told(alloc: Global, answer: JsonParseResult, message: &str) -> Result<bool, Fail> {
+    let Err(fault) = answer else {
+        return Ok(false);
+    };
+    Ok(format!(in alloc; "{fault}")?.as_str() == message)
+}
+
 #[test]
 fn each_kind_has_its_words(rt: HostRuntime) -> Result<(), Fail> {
     let alloc = rt.alloc();
     for &(text, message) in PLAIN {
-        let fault = JsonValue::from_str(alloc, text).expect_err(&rt, text);
-        let shown = format!(in alloc; "{fault}")?;
-        assert_eq!(rt; shown.as_str(), message);
+        let answer = JsonValue::from_str(alloc, text);
+        assert!(rt; is_told(alloc, answer, message)?, "{text}");
     }
-    for (text, message) in [
-        (
-            "[[",
-            "Parse error at line:1, col:1: Nesting is too deep at '['",
-        ),
-        (
-            "[{",
-            "Parse error at line:1, col:1: Nesting is too deep at '{'",
-        ),
-    ] {
-        let fault = JsonParser::with_depth_limit(alloc, text.chars(), 1)
-            .parse()
-            .expect_err(&rt, text);
-        let shown = format!(in alloc; "{fault}")?;
-        assert_eq!(rt; shown.as_str(), message);
+    for &(text, message) in DEEP {
+        let answer = parsed_within(alloc, text, 1);
+        assert!(rt; is_told(alloc, answer, message)?, "{text}");
     }
     let memory = JsonParseErrorKind::OutOfMemory;
     let shown = format!(in alloc; "{memory}")?;
@@ -161,15 +169,12 @@ fn each_character_is_shown(rt: HostRuntime) -> Result<(), Fail> {
     for &(c, shown) in SHOWN {
         let rest = if c == '\t' { CONTROL } else { VISIBLE };
         for &(text, column, before, behind) in EACH.iter().chain(rest) {
-            let characters = text.chars().chain(iter::once(c));
-            let fault = JsonParser::new(alloc, characters)
-                .parse()
-                .expect_err(&rt, text);
-            let message = format!(in alloc; "{fault}")?;
-            let expected = format!(in alloc;
+            let whole = format!(in alloc; "{text}{c}")?;
+            let answer = parsed(alloc, whole.as_str());
+            let message = format!(in alloc;
                 "Parse error at line:1, col:{column}: {before}{shown}{behind}"
             )?;
-            assert!(rt; message == expected, "{message}");
+            assert!(rt; is_told(alloc, answer, message.as_str())?, "{message}");
         }
     }
     Ok(())

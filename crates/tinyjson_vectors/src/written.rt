@@ -1,45 +1,17 @@
 //! Written texts, to good writers and to bad ones.
 
+use crate::common::{
+    is_indented, is_taken, is_text, is_written, number, pair, single, string, with_item,
+    with_member,
+};
 use crate::writers::{Fault, FaultyWriter, MESSAGE};
 use std::alloc::Global;
 use std::collections::HashMap;
-use std::io::ErrorKind;
+use std::io::{self, ErrorKind};
 use std::process::Abort;
 use std::string::ToString;
 use std::test::Fail;
-use tinyjson::{JsonGenerateError, JsonGenerator, JsonNumber, JsonValue, format, stringify};
-
-fn number(alloc: Global, literal: &str) -> Result<JsonValue, Fail> {
-    Ok(JsonValue::Number(JsonNumber::from_text(alloc, literal)?))
-}
-
-fn string(alloc: Global, text: &str) -> Result<JsonValue, Fail> {
-    Ok(JsonValue::String(String::from_str(alloc, text)?))
-}
-
-fn put(
-    members: &mut HashMap<String, JsonValue>,
-    key: String,
-    value: JsonValue,
-) -> Result<(), Fail> {
-    drop(members.insert(key, value)?);
-    Ok(())
-}
-
-// The object with one member.
-fn single(alloc: Global, key: &str, value: JsonValue) -> Result<JsonValue, Fail> {
-    let mut members = HashMap::new(alloc);
-    put(&mut members, String::from_str(alloc, key)?, value)?;
-    Ok(JsonValue::Object(members))
-}
-
-// The object with two members.
-fn pair(alloc: Global, a: (&str, JsonValue), b: (&str, JsonValue)) -> Result<JsonValue, Fail> {
-    let mut members = HashMap::new(alloc);
-    put(&mut members, String::from_str(alloc, a.0)?, a.1)?;
-    put(&mut members, String::from_str(alloc, b.0)?, b.1)?;
-    Ok(JsonValue::Object(members))
-}
+use tinyjson::{JsonGenerateError, JsonGenerator, JsonValue, format, stringify};
 
 fn numbers(alloc: Global, literals: &[&str]) -> Result<JsonValue, Fail> {
     let mut items = Vec::new(alloc);
@@ -49,77 +21,66 @@ fn numbers(alloc: Global, literals: &[&str]) -> Result<JsonValue, Fail> {
     Ok(JsonValue::Array(items))
 }
 
-fn check_compact(
-    rt: &impl Abort,
-    alloc: Global,
-    value: &JsonValue,
-    text: &str,
-) -> Result<(), Fail> {
-    assert_eq!(rt; stringify(alloc, value)?.as_str(), text);
-    assert_eq!(rt; value.stringify(alloc)?.as_str(), text);
-    let mut bytes = Vec::new(alloc);
-    value.write_to(alloc, &mut bytes)?;
-    assert_eq!(rt; bytes.as_slice(), text.as_bytes());
-    Ok(())
+fn check_compact(rt: &impl Abort, alloc: Global, value: &JsonValue, text: &str) {
+    assert!(rt; is_text(stringify(alloc, value), text), "{text}");
+    assert!(rt; is_text(value.stringify(alloc), text), "{text}");
+    assert!(rt; is_written(alloc, value, text), "{text}");
 }
 
-fn check_format(rt: &impl Abort, alloc: Global, value: &JsonValue, text: &str) -> Result<(), Fail> {
-    assert_eq!(rt; format(alloc, value)?.as_str(), text);
-    assert_eq!(rt; value.format(alloc)?.as_str(), text);
-    let mut bytes = Vec::new(alloc);
-    value.format_to(alloc, &mut bytes)?;
-    assert_eq!(rt; bytes.as_slice(), text.as_bytes());
-    Ok(())
+fn check_format(rt: &impl Abort, alloc: Global, value: &JsonValue, text: &str) {
+    assert!(rt; is_text(format(alloc, value), text), "{text}");
+    assert!(rt; is_text(value.format(alloc), text), "{text}");
+    assert!(rt; is_indented(alloc, value, text), "{text}");
 }
 
-fn check_indent(
-    rt: &impl Abort,
-    alloc: Global,
-    value: &JsonValue,
-    indent: &str,
-    text: &str,
-) -> Result<(), Fail> {
+fn check_indent(rt: &impl Abort, alloc: Global, value: &JsonValue, indent: &str, text: &str) {
     let mut bytes = Vec::new(alloc);
     let generator = JsonGenerator::new(alloc, &mut bytes);
-    generator.indent("-").indent(indent).generate(value)?;
-    assert_eq!(rt; bytes.as_slice(), text.as_bytes());
-    Ok(())
+    let answer = generator.indent("-").indent(indent).generate(value);
+    assert!(rt; is_taken(answer, bytes.as_slice(), text), "{text}");
 }
+
+const NUMBERS: &[(&str, &str)] = &[
+    ("-0", "0"),
+    ("0e99999999999", "0"),
+    ("0.15E+2", "15"),
+    ("1200", "1200"),
+    ("3.14", "3.14"),
+    ("-12.30e-1", "-1.23"),
+    ("0.00120", "0.0012"),
+    ("0.5", "0.5"),
+    ("100e-2", "1"),
+    ("1e309", "1e309"),
+    ("12e308", "1.2e309"),
+    ("-25e400", "-2.5e401"),
+    ("12e-400", "1.2e-399"),
+    ("5e-325", "5e-325"),
+    ("10e-9223372036854775809", "1e-9223372036854775808"),
+    ("12e9223372036854775807", "1.2e9223372036854775808"),
+];
 
 #[test]
 fn writes_numbers(rt: HostRuntime) -> Result<(), Fail> {
-    for (literal, text) in [
-        ("-0", "0"),
-        ("0e99999999999", "0"),
-        ("0.15E+2", "15"),
-        ("1200", "1200"),
-        ("3.14", "3.14"),
-        ("-12.30e-1", "-1.23"),
-        ("0.00120", "0.0012"),
-        ("0.5", "0.5"),
-        ("100e-2", "1"),
-        ("1e309", "1e309"),
-        ("12e308", "1.2e309"),
-        ("-25e400", "-2.5e401"),
-        ("12e-400", "1.2e-399"),
-        ("5e-325", "5e-325"),
-        ("10e-9223372036854775809", "1e-9223372036854775808"),
-        ("12e9223372036854775807", "1.2e9223372036854775808"),
-    ] {
-        let written = stringify(rt.alloc(), &number(rt.alloc(), literal)?)?;
-        assert_eq!(rt; written.as_str(), text);
+    for &(literal, text) in NUMBERS {
+        let value = number(rt.alloc(), literal)?;
+        assert!(rt; is_text(stringify(rt.alloc(), &value), text), "{text}");
     }
     Ok(())
+}
+
+fn written_number(alloc: Global, literal: &str) -> Result<String, Fail> {
+    let value = number(alloc, literal)?;
+    Ok(stringify(alloc, &value)?)
 }
 
 // 1 and 308 zeros, and 323 zeros between `0.` and 5.
 #[test]
 fn writes_many_zeros(rt: HostRuntime) -> Result<(), Fail> {
-    let large = stringify(rt.alloc(), &number(rt.alloc(), "1e308")?)?;
+    let large = written_number(rt.alloc(), "1e308")?;
     assert_eq!(rt; large.len(), 309);
     assert!(rt; large.as_str().starts_with('1'));
     assert!(rt; large.as_bytes().iter().skip(1).all(|b| *b == b'0'));
-    let small = stringify(rt.alloc(), &number(rt.alloc(), "5e-324")?)?;
+    let small = written_number(rt.alloc(), "5e-324")?;
     assert_eq!(rt; small.len(), 326);
     assert!(rt; small.as_str().starts_with("0.") && small.as_str().ends_with('5'));
     assert!(rt;
@@ -133,193 +94,184 @@ fn writes_many_zeros(rt: HostRuntime) -> Result<(), Fail> {
     Ok(())
 }
 
+const STRINGS: &[(&str, &str)] = &[
+    ("\u{8}\u{b}\u{7f}/\"\\", "\"\\b\\u000b\u{7f}/\\\"\\\\\""),
+    ("\u{2764}", "\"\u{2764}\""),
+    ("/\u{b}", "\"/\\u000b\""),
+    ("\t\n\u{c}\r\0\u{1f}", "\"\\t\\n\\f\\r\\u0000\\u001f\""),
+    ("\u{7}\u{e}a\u{10}", "\"\\u0007\\u000ea\\u0010\""),
+    ("\u{1f600} \u{80}", "\"\u{1f600} \u{80}\""),
+    ("hello, world", "\"hello, world\""),
+    ("", "\"\""),
+];
+
 #[test]
 fn writes_strings(rt: HostRuntime) -> Result<(), Fail> {
-    for (characters, text) in [
-        ("\u{8}\u{b}\u{7f}/\"\\", "\"\\b\\u000b\u{7f}/\\\"\\\\\""),
-        ("\u{2764}", "\"\u{2764}\""),
-        ("/\u{b}", "\"/\\u000b\""),
-        ("\t\n\u{c}\r\0\u{1f}", "\"\\t\\n\\f\\r\\u0000\\u001f\""),
-        ("\u{7}\u{e}a\u{10}", "\"\\u0007\\u000ea\\u0010\""),
-        ("\u{1f600} \u{80}", "\"\u{1f600} \u{80}\""),
-        ("hello, world", "\"hello, world\""),
-        ("", "\"\""),
-    ] {
-        let written = stringify(rt.alloc(), &string(rt.alloc(), characters)?)?;
-        assert_eq!(rt; written.as_str(), text);
+    for &(characters, text) in STRINGS {
+        let value = string(rt.alloc(), characters)?;
+        assert!(rt; is_text(stringify(rt.alloc(), &value), text), "{text}");
     }
     Ok(())
 }
 
 fn mixed_array(alloc: Global) -> Result<JsonValue, Fail> {
-    let mut items = Vec::new(alloc);
-    items.push(number(alloc, "1")?)?;
-    items.push(JsonValue::Null)?;
-    items.push(string(alloc, "test")?)?;
-    Ok(JsonValue::Array(items))
+    let items = with_item(Vec::new(alloc), number(alloc, "1")?)?;
+    let items = with_item(items, JsonValue::Null)?;
+    Ok(JsonValue::Array(with_item(items, string(alloc, "test")?)?))
 }
 
-fn document(alloc: Global) -> Result<HashMap<String, JsonValue>, Fail> {
-    let nested = pair(
-        alloc,
-        ("blah", JsonValue::Boolean(false)),
-        ("blahblah", number(alloc, "3.14")?),
-    )?;
-    let mut members = HashMap::new(alloc);
-    put(
-        &mut members,
-        String::from_str(alloc, "bool")?,
-        JsonValue::Boolean(true),
-    )?;
-    put(&mut members, String::from_str(alloc, "nested")?, nested)?;
-    put(
-        &mut members,
-        String::from_str(alloc, "arr")?,
-        mixed_array(alloc)?,
-    )?;
-    put(
-        &mut members,
-        String::from_str(alloc, "unicode")?,
-        string(alloc, "\u{2764}")?,
-    )?;
-    Ok(members)
+fn small_object(alloc: Global) -> Result<JsonValue, Fail> {
+    let number = number(alloc, "3.14")?;
+    let members = ("blah", JsonValue::Boolean(false));
+    Ok(pair(alloc, members, ("blahblah", number))?)
+}
+
+fn document(alloc: Global) -> Result<JsonValue, Fail> {
+    let members = HashMap::new(alloc);
+    let members = with_member(alloc, members, "bool", JsonValue::Boolean(true))?;
+    let members = with_member(alloc, members, "nested", small_object(alloc)?)?;
+    let members = with_member(alloc, members, "arr", mixed_array(alloc)?)?;
+    let heart = string(alloc, "\u{2764}")?;
+    Ok(JsonValue::Object(with_member(alloc, members, "unicode", heart)?))
 }
 
 #[test]
 fn writes_a_document(rt: HostRuntime) -> Result<(), Fail> {
-    let value = JsonValue::Object(document(rt.alloc())?);
+    let value = document(rt.alloc())?;
     check_compact(
         &rt,
         rt.alloc(),
         &value,
         "{\"arr\":[1,null,\"test\"],\"bool\":true,\"nested\":{\"blah\":false,\"blahblah\":3.14},\"unicode\":\"\u{2764}\"}",
-    )?;
+    );
     check_format(
         &rt,
         rt.alloc(),
         &value,
         "{\n  \"arr\": [\n    1,\n    null,\n    \"test\"\n  ],\n  \"bool\": true,\n  \
         \"nested\": {\n    \"blah\": false,\n    \"blahblah\": 3.14\n  },\n  \"unicode\": \"\u{2764}\"\n}",
-    )
+    );
+    Ok(())
+}
+
+// An emoji's key before one whose character is smaller.
+fn rising_keys(alloc: Global) -> Result<JsonValue, Fail> {
+    let one = number(alloc, "1")?;
+    let two = number(alloc, "2")?;
+    Ok(pair(alloc, ("\u{1f600}", one), ("\u{ff5e}", two))?)
 }
 
 #[test]
 fn sorts_keys_by_their_bytes(rt: HostRuntime) -> Result<(), Fail> {
-    let alloc = rt.alloc();
-    let value = pair(
-        alloc,
-        ("\u{1f600}", number(alloc, "1")?),
-        ("\u{ff5e}", number(alloc, "2")?),
-    )?;
-    check_compact(&rt, rt.alloc(), &value, "{\"\u{ff5e}\":2,\"\u{1f600}\":1}")
+    let value = rising_keys(rt.alloc())?;
+    check_compact(&rt, rt.alloc(), &value, "{\"\u{ff5e}\":2,\"\u{1f600}\":1}");
+    Ok(())
+}
+
+// The object with this array alone.
+fn array_member(alloc: Global, items: Vec<JsonValue>) -> Result<JsonValue, Fail> {
+    Ok(single(alloc, "k", JsonValue::Array(items))?)
 }
 
 // [{},[],{"k":[null]}]
 fn containers(alloc: Global) -> Result<JsonValue, Fail> {
-    let inner = JsonValue::Array(vec![in alloc; JsonValue::Null]?);
-    let mut items = Vec::new(alloc);
-    items.push(JsonValue::Object(HashMap::new(alloc)))?;
-    items.push(JsonValue::Array(Vec::new(alloc)))?;
-    items.push(single(alloc, "k", inner)?)?;
-    Ok(JsonValue::Array(items))
+    let items = with_item(Vec::new(alloc), JsonValue::Object(HashMap::new(alloc)))?;
+    let items = with_item(items, JsonValue::Array(Vec::new(alloc)))?;
+    let inner = with_item(Vec::new(alloc), JsonValue::Null)?;
+    Ok(JsonValue::Array(with_item(items, array_member(alloc, inner)?)?))
 }
 
 #[test]
 fn indents_containers(rt: HostRuntime) -> Result<(), Fail> {
     let value = containers(rt.alloc())?;
-    check_indent(
-        &rt,
-        rt.alloc(),
-        &value,
-        "",
-        "[\n{},\n[],\n{\n\"k\": [\nnull\n]\n}\n]",
-    )?;
-    let empty = JsonValue::Array(Vec::new(rt.alloc()));
-    let value = single(rt.alloc(), "k", empty)?;
-    check_format(&rt, rt.alloc(), &value, "{\n  \"k\": []\n}")
+    let text = "[\n{},\n[],\n{\n\"k\": [\nnull\n]\n}\n]";
+    check_indent(&rt, rt.alloc(), &value, "", text);
+    let value = array_member(rt.alloc(), Vec::new(rt.alloc()))?;
+    check_format(&rt, rt.alloc(), &value, "{\n  \"k\": []\n}");
+    Ok(())
 }
 
 #[test]
 fn indents_members(rt: HostRuntime) -> Result<(), Fail> {
-    let one = numbers(rt.alloc(), &["1"])?;
-    check_indent(&rt, rt.alloc(), &one, "--", "[\n--1\n]")?;
-    check_indent(&rt, rt.alloc(), &one, " ", "[\n 1\n]")?;
-    let value = pair(rt.alloc(), ("b", one), ("a", JsonValue::Null))?;
-    check_format(
-        &rt,
-        rt.alloc(),
-        &value,
-        "{\n  \"a\": null,\n  \"b\": [\n    1\n  ]\n}",
-    )
+    let alloc = rt.alloc();
+    let one = numbers(alloc, &["1"])?;
+    check_indent(&rt, alloc, &one, "--", "[\n--1\n]");
+    check_indent(&rt, alloc, &one, " ", "[\n 1\n]");
+    let value = pair(alloc, ("b", one), ("a", JsonValue::Null))?;
+    let text = "{\n  \"a\": null,\n  \"b\": [\n    1\n  ]\n}";
+    check_format(&rt, alloc, &value, text);
+    Ok(())
 }
 
 #[test]
 fn indents_items(rt: HostRuntime) -> Result<(), Fail> {
     let value = numbers(rt.alloc(), &["1", "2", "3"])?;
-    check_compact(&rt, rt.alloc(), &value, "[1,2,3]")?;
-    check_format(&rt, rt.alloc(), &value, "[\n  1,\n  2,\n  3\n]")?;
+    check_compact(&rt, rt.alloc(), &value, "[1,2,3]");
+    check_format(&rt, rt.alloc(), &value, "[\n  1,\n  2,\n  3\n]");
     let text = "[\n        1,\n        2,\n        3\n]";
-    check_indent(&rt, rt.alloc(), &value, "        ", text)
+    check_indent(&rt, rt.alloc(), &value, "        ", text);
+    Ok(())
+}
+
+fn three_kinds(alloc: Global) -> Result<JsonValue, Fail> {
+    let items = with_item(Vec::new(alloc), number(alloc, "1")?)?;
+    let items = with_item(items, JsonValue::from(true))?;
+    Ok(JsonValue::from(with_item(items, string(alloc, "str")?)?))
 }
 
 #[test]
 fn writes_an_array_of_three_kinds(rt: HostRuntime) -> Result<(), Fail> {
-    let alloc = rt.alloc();
-    let items = vec![in alloc;
-        number(alloc, "1")?,
-        JsonValue::from(true),
-        string(alloc, "str")?,
-    ]?;
-    let value = JsonValue::from(items);
-    check_compact(&rt, alloc, &value, "[1,true,\"str\"]")?;
-    check_format(&rt, alloc, &value, "[\n  1,\n  true,\n  \"str\"\n]")
+    let value = three_kinds(rt.alloc())?;
+    check_compact(&rt, rt.alloc(), &value, "[1,true,\"str\"]");
+    check_format(&rt, rt.alloc(), &value, "[\n  1,\n  true,\n  \"str\"\n]");
+    Ok(())
 }
 
 #[test]
-fn indents_no_empty_container(rt: HostRuntime) -> Result<(), Fail> {
+fn indents_no_empty_container(rt: HostRuntime) {
     let array = JsonValue::Array(Vec::new(rt.alloc()));
     let object = JsonValue::Object(HashMap::new(rt.alloc()));
     for indent in ["", " ", "  ", "\t", "--"] {
-        check_indent(&rt, rt.alloc(), &array, indent, "[]")?;
-        check_indent(&rt, rt.alloc(), &object, indent, "{}")?;
+        check_indent(&rt, rt.alloc(), &array, indent, "[]");
+        check_indent(&rt, rt.alloc(), &object, indent, "{}");
     }
-    Ok(())
 }
 
 #[test]
 fn generates_a_string(rt: HostRuntime) -> Result<(), Fail> {
     let value = string(rt.alloc(), "hello, world")?;
     let mut bytes = Vec::new(rt.alloc());
-    JsonGenerator::new(rt.alloc(), &mut bytes).generate(&value)?;
-    assert_eq!(rt; bytes.as_slice(), b"\"hello, world\"".as_slice());
+    let answer = JsonGenerator::new(rt.alloc(), &mut bytes).generate(&value);
+    assert!(rt; is_taken(answer, bytes.as_slice(), "\"hello, world\""));
     Ok(())
+}
+
+// [null,"x"]
+fn inner(alloc: Global) -> Result<JsonValue, Fail> {
+    let items = with_item(Vec::new(alloc), JsonValue::Null)?;
+    Ok(JsonValue::Array(with_item(items, string(alloc, "x")?)?))
+}
+
+// {"b":2,"a":[null,"x"]}
+fn falling_keys(alloc: Global) -> Result<JsonValue, Fail> {
+    let two = number(alloc, "2")?;
+    Ok(pair(alloc, ("b", two), ("a", inner(alloc)?))?)
 }
 
 // [1,{"b":2,"a":[null,"x"]}]
 fn nested(alloc: Global) -> Result<JsonValue, Fail> {
-    let mut inner = Vec::new(alloc);
-    inner.push(JsonValue::Null)?;
-    inner.push(string(alloc, "x")?)?;
-    let members = pair(
-        alloc,
-        ("b", number(alloc, "2")?),
-        ("a", JsonValue::Array(inner)),
-    )?;
-    let mut items = Vec::new(alloc);
-    items.push(number(alloc, "1")?)?;
-    items.push(members)?;
-    Ok(JsonValue::Array(items))
+    let items = with_item(Vec::new(alloc), number(alloc, "1")?)?;
+    Ok(JsonValue::Array(with_item(items, falling_keys(alloc)?)?))
 }
+
+const NESTED: &str = "[1,{\"a\":[null,\"x\"],\"b\":2}]";
 
 #[test]
 fn writes_byte_by_byte(rt: HostRuntime) -> Result<(), Fail> {
     let value = nested(rt.alloc())?;
     let mut writer = FaultyWriter::good(rt.alloc(), 1);
-    value.write_to(rt.alloc(), &mut writer)?;
-    assert_eq!(rt;
-        writer.bytes(),
-        b"[1,{\"a\":[null,\"x\"],\"b\":2}]".as_slice()
-    );
+    let answer = value.write_to(rt.alloc(), &mut writer);
+    assert!(rt; is_taken(answer, writer.bytes(), NESTED));
     assert_eq!(rt;
         (writer.calls(), writer.empty_calls(), writer.flushes()),
         (26, 0, 0)
@@ -327,19 +279,37 @@ fn writes_byte_by_byte(rt: HostRuntime) -> Result<(), Fail> {
     Ok(())
 }
 
+// A generator of indented texts writes a value three times.
+fn generate_three(alloc: Global, writer: &mut FaultyWriter, value: &JsonValue) -> io::Result<()> {
+    let text = string(alloc, "\n\n")?;
+    let mut generator = JsonGenerator::new(alloc, writer).indent("");
+    generator.generate(value)?;
+    generator.generate(&JsonValue::Null)?;
+    generator.generate(&text)
+}
+
 #[test]
 fn flushes_nothing(rt: HostRuntime) -> Result<(), Fail> {
     let value = nested(rt.alloc())?;
     let mut writer = FaultyWriter::good(rt.alloc(), 3);
-    value.format_to(rt.alloc(), &mut writer)?;
+    assert!(rt; value.format_to(rt.alloc(), &mut writer).is_ok());
     assert_eq!(rt; (writer.empty_calls(), writer.flushes()), (0, 0));
     let mut writer = FaultyWriter::good(rt.alloc(), usize::MAX);
-    let mut generator = JsonGenerator::new(rt.alloc(), &mut writer).indent("");
-    generator.generate(&value)?;
-    generator.generate(&JsonValue::Null)?;
-    generator.generate(&string(rt.alloc(), "\n\n")?)?;
+    assert!(rt; generate_three(rt.alloc(), &mut writer, &value).is_ok());
     assert_eq!(rt; (writer.empty_calls(), writer.flushes()), (0, 0));
     Ok(())
+}
+
+// Whether an error of this kind was answered, which is shown so.
+fn is_fault(alloc: Global, answer: io::Result<()>, kind: ErrorKind, message: &str) -> bool {
+    let Err(error) = answer else {
+        return false;
+    };
+    error.kind() == kind
+        && match error.to_string(alloc) {
+            Ok(shown) => shown.as_str() == message,
+            Err(_) => false,
+        }
 }
 
 // The writer fails at each place in turn.
@@ -349,24 +319,20 @@ fn check_fault(
     value: &JsonValue,
     fault: Fault,
     (kind, message): (ErrorKind, &str),
-) -> Result<(), Fail> {
-    let text = b"[1,{\"a\":[null,\"x\"],\"b\":2}]";
+) {
     for room in 0..26 {
         let mut writer = FaultyWriter::failing(alloc, 1, room, fault);
-        match JsonGenerator::new(alloc, &mut writer).generate(value) {
-            Ok(()) => panic!(rt; "the fault was lost"),
-            Err(error) => {
-                assert_eq!(rt; error.kind(), kind);
-                assert_eq!(rt; error.to_string(alloc)?.as_str(), message);
-            }
-        }
-        assert_eq!(rt; writer.bytes(), &text[..room]);
+        let answer = JsonGenerator::new(alloc, &mut writer).generate(value);
+        assert!(rt; is_fault(alloc, answer, kind, message), "{room}");
+        assert!(rt;
+            NESTED.as_bytes().get(..room) == Some(writer.bytes()),
+            "{room}"
+        );
         assert_eq!(rt;
             (writer.calls(), writer.empty_calls(), writer.flushes()),
             (room + 1, 0, 0)
         );
     }
-    Ok(())
 }
 
 #[test]
@@ -378,21 +344,28 @@ fn ends_with_the_first_fault(rt: HostRuntime) -> Result<(), Fail> {
         ErrorKind::Interrupted,
         ErrorKind::Other,
     ] {
-        check_fault(&rt, alloc, &value, Fault::Error(kind), (kind, MESSAGE))?;
+        check_fault(&rt, alloc, &value, Fault::Error(kind), (kind, MESSAGE));
     }
     let nothing = (ErrorKind::WriteZero, "the writer took no byte");
-    check_fault(&rt, alloc, &value, Fault::TakesNothing, nothing)
+    check_fault(&rt, alloc, &value, Fault::TakesNothing, nothing);
+    Ok(())
+}
+
+// [true,null]
+fn two_items(alloc: Global) -> Result<JsonValue, Fail> {
+    let items = with_item(Vec::new(alloc), JsonValue::Boolean(true))?;
+    Ok(JsonValue::Array(with_item(items, JsonValue::Null)?))
 }
 
 #[test]
 fn writes_again_after_a_fault(rt: HostRuntime) -> Result<(), Fail> {
-    let value = JsonValue::Array(vec![in rt.alloc(); JsonValue::Boolean(true), JsonValue::Null]?);
+    let value = two_items(rt.alloc())?;
     let fault = Fault::Error(ErrorKind::BrokenPipe);
     let mut writer = FaultyWriter::failing(rt.alloc(), usize::MAX, 3, fault);
     let mut generator = JsonGenerator::new(rt.alloc(), &mut writer);
     assert!(rt; generator.generate(&value).is_err());
-    generator.generate(&value)?;
-    assert_eq!(rt; writer.bytes(), b"[tr[true,null]".as_slice());
+    let answer = generator.generate(&value);
+    assert!(rt; is_taken(answer, writer.bytes(), "[tr[true,null]"));
     Ok(())
 }
 
