@@ -56,9 +56,10 @@ pub fn swap_in<T: InnerAsRefMut>(v: &mut JsonValue, x: T) -> Result<T, T>
 #[cfg(test)]
 mod tests {
     use super::*;
-    use std::collections::HashMap;
+    use crate::common::{of_kind, string, with_item};
+    use std::alloc::{AllocError, Global};
     use std::test::Fail;
-    use tinyjson::JsonNumber;
+    use tinyjson::{JsonKind, JsonNumber};
 
     #[test]
     fn the_mark_sees_null(rt: HostRuntime) {
@@ -78,15 +79,18 @@ mod tests {
         assert!(rt; swap_in(&mut null, NullMark).is_err());
     }
 
+    fn is_seen(value: &JsonValue, text: &str) -> bool {
+        match value.get::<String>() {
+            Some(seen) => seen.as_str() == text,
+            None => false,
+        }
+    }
+
     #[test]
     fn a_string_is_seen_as_a_string(rt: HostRuntime) -> Result<(), Fail> {
-        let value = JsonValue::from("this is string".to_string(rt.alloc())?);
+        let value = string(rt.alloc(), "this is string")?;
         assert!(rt; value.get::<JsonNumber>().is_none());
-        assert!(rt;
-            value
-                .get::<String>()
-                .is_some_and(|s| s.as_str() == "this is string")
-        );
+        assert!(rt; is_seen(&value, "this is string"));
         assert!(rt; matches!(value, JsonValue::String(_)));
         assert!(rt; value.is_string());
         let text = String::try_from(value)?;
@@ -94,51 +98,70 @@ mod tests {
         Ok(())
     }
 
+    /// This item and two zeros.
+    fn three(alloc: Global, first: JsonValue) -> Result<JsonValue, AllocError> {
+        let items = with_item(Vec::new(alloc), first)?;
+        let items = with_item(items, JsonValue::from(JsonNumber::zero()))?;
+        let items = with_item(items, JsonValue::from(JsonNumber::zero()))?;
+        Ok(JsonValue::Array(items))
+    }
+
+    fn is_first_zero(value: &JsonValue) -> bool {
+        let zero = JsonValue::from(JsonNumber::zero());
+        match value.get::<Vec<JsonValue>>() {
+            Some(items) => items.first() == Some(&zero),
+            None => false,
+        }
+    }
+
+    fn put_first(value: &mut JsonValue, item: JsonValue) {
+        if let Some(items) = value.get_mut::<Vec<JsonValue>>() {
+            if let Some(first) = items.first_mut() {
+                *first = item;
+            }
+        }
+    }
+
     #[test]
     fn an_array_is_seen_and_written(rt: HostRuntime) -> Result<(), Fail> {
         let alloc = rt.alloc();
-        let zero = || JsonValue::from(JsonNumber::zero());
-        let mut value = JsonValue::from(vec![in alloc; zero(), zero(), zero()]?);
-        assert!(rt;
-            value
-                .get::<Vec<JsonValue>>()
-                .is_some_and(|items| items.first() == Some(&zero()))
-        );
+        let mut value = three(alloc, JsonValue::from(JsonNumber::zero()))?;
+        let expected = three(alloc, JsonValue::Boolean(false))?;
+        assert!(rt; is_first_zero(&value));
         assert!(rt; value.get::<JsonNumber>().is_none());
         assert!(rt; value.get_mut::<JsonNumber>().is_none());
-        if let Some(first) = value
-            .get_mut::<Vec<JsonValue>>()
-            .and_then(|items| items.first_mut())
-        {
-            *first = JsonValue::from(false);
-        }
-        let expected = vec![in alloc; JsonValue::Boolean(false), zero(), zero()]?;
-        assert!(rt; value == JsonValue::Array(expected));
+        put_first(&mut value, JsonValue::from(false));
+        assert!(rt; value == expected);
         Ok(())
+    }
+
+    /// The kinds in the order of the tests in `told`.
+    const KINDS: [JsonKind; 6] = [
+        JsonKind::Boolean,
+        JsonKind::Number,
+        JsonKind::String,
+        JsonKind::Null,
+        JsonKind::Array,
+        JsonKind::Object,
+    ];
+
+    fn told(value: &JsonValue) -> [bool; 6] {
+        [
+            value.is_bool(),
+            value.is_number(),
+            value.is_string(),
+            value.is_null(),
+            value.is_array(),
+            value.is_object(),
+        ]
     }
 
     #[test]
     fn each_kind_is_told(rt: HostRuntime) -> Result<(), Fail> {
-        let alloc = rt.alloc();
-        let values = vec![in alloc;
-            JsonValue::from(true),
-            JsonValue::from(JsonNumber::zero()),
-            JsonValue::from("foo".to_string(alloc)?),
-            JsonValue::from(()),
-            JsonValue::from(Vec::new(alloc)),
-            JsonValue::from(HashMap::new(alloc)),
-        ]?;
-        for (place, value) in values.iter().enumerate() {
-            let told = [
-                value.is_bool(),
-                value.is_number(),
-                value.is_string(),
-                value.is_null(),
-                value.is_array(),
-                value.is_object(),
-            ];
-            for (kind, is) in told.iter().enumerate() {
-                assert_eq!(rt; *is, kind == place, "value {place} at test {kind}");
+        for (place, kind) in KINDS.iter().copied().enumerate() {
+            let answers = told(&of_kind(rt.alloc(), kind)?);
+            for (kind, is) in answers.iter().copied().enumerate() {
+                assert_eq!(rt; is, kind == place, "value {place} at test {kind}");
             }
         }
         Ok(())

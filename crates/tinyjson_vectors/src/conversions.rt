@@ -61,131 +61,132 @@ pub fn refused_and_back(x: JsonValue) -> JsonValue
 #[cfg(test)]
 mod tests {
     use super::*;
-    use std::alloc::{AllocError, Global};
-    use std::process::Abort;
+    use crate::common::{array, of_kind, string, whole};
+    use std::alloc::Global;
     use std::test::Fail;
+    use tinyjson::JsonKind;
 
-    fn number(alloc: Global, number: u64) -> Result<JsonValue, AllocError> {
-        Ok(JsonValue::from(JsonNumber::from_u64(alloc, number)?))
+    fn is_number_held(alloc: Global) -> Result<bool, Fail> {
+        let number = JsonNumber::try_from(whole(alloc, 1)?)?;
+        Ok(number == JsonNumber::from_u64(alloc, 1)?)
     }
 
-    fn one(alloc: Global) -> Result<JsonValue, AllocError> {
-        number(alloc, 1)
+    fn is_string_held(alloc: Global) -> Result<bool, Fail> {
+        let text = String::try_from(string(alloc, "foo")?)?;
+        Ok(text.as_str() == "foo")
     }
 
-    fn object(alloc: Global) -> Result<JsonValue, AllocError> {
-        let mut members = HashMap::new(alloc);
-        members.insert("foo".to_string(alloc)?, number(alloc, 42)?)?;
-        Ok(JsonValue::from(members))
+    fn is_array_held(alloc: Global) -> Result<bool, Fail> {
+        let items = Vec::<JsonValue>::try_from(array(alloc, JsonValue::from(true))?)?;
+        Ok(items.as_slice() == [JsonValue::Boolean(true)].as_slice())
+    }
+
+    fn is_object_held(alloc: Global) -> Result<bool, Fail> {
+        let member = whole(alloc, 42)?;
+        let members = HashMap::<String, JsonValue>::try_from(of_kind(alloc, JsonKind::Object)?)?;
+        Ok(members.len() == 1 && members.get("foo") == Some(&member))
     }
 
     #[test]
     fn the_content_of_each_kind(rt: HostRuntime) -> Result<(), Fail> {
         let alloc = rt.alloc();
-        assert!(rt; JsonNumber::try_from(one(alloc)?)? == JsonNumber::from_u64(alloc, 1)?);
+        assert!(rt; is_number_held(alloc)?);
         assert!(rt; bool::try_from(JsonValue::from(true))?);
         <()>::try_from(JsonValue::Null)?;
-        let text = String::try_from(JsonValue::from("foo".to_string(alloc)?))?;
-        assert_eq!(rt; text.as_str(), "foo");
-        let items = Vec::try_from(JsonValue::from(vec![in alloc; JsonValue::from(true)]?))?;
-        assert!(rt; items.as_slice() == [JsonValue::Boolean(true)].as_slice());
-        let members = HashMap::try_from(object(alloc)?)?;
-        assert_eq!(rt; members.len(), 1);
-        assert!(rt; members.get("foo") == Some(&number(alloc, 42)?));
+        assert!(rt; is_string_held(alloc)?);
+        assert!(rt; is_array_held(alloc)?);
+        assert!(rt; is_object_held(alloc)?);
         Ok(())
     }
 
-    fn refused<T: Drop>(
-        rt: &impl Abort,
-        alloc: Global,
-        answer: Result<T, UnexpectedValue>,
-        held: JsonValue,
-        words: &str,
-    ) -> Result<(), AllocError> {
-        let fault = answer.err().expect(rt, "the conversion is refused");
-        assert!(rt; *fault.value() == held);
-        let shown = format!(in alloc; "{fault}")?;
-        assert_eq!(rt; shown.as_str(), words);
-        assert!(rt; JsonValue::from(fault) == held);
-        Ok(())
+    /// The refusal of a conversion to the type of this kind.
+    fn refusal(value: JsonValue, wanted: JsonKind) -> Option<UnexpectedValue> {
+        match wanted {
+            JsonKind::Null => <()>::try_from(value).err(),
+            JsonKind::Boolean => bool::try_from(value).err(),
+            JsonKind::Number => JsonNumber::try_from(value).err(),
+            JsonKind::String => String::try_from(value).err(),
+            JsonKind::Array => Vec::<JsonValue>::try_from(value).err(),
+            JsonKind::Object => HashMap::<String, JsonValue>::try_from(value).err(),
+        }
     }
+
+    /// Whether the conversion was refused with these words, and the refusal holds this value.
+    fn is_refused(
+        alloc: Global,
+        fault: Option<UnexpectedValue>,
+        held: &JsonValue,
+        words: &str,
+    ) -> Result<bool, Fail> {
+        let Some(fault) = fault else {
+            return Ok(false);
+        };
+        let told = format!(in alloc; "{fault}")?.as_str() == words && *fault.value() == *held;
+        Ok(told && JsonValue::from(fault) == *held)
+    }
+
+    /// The kind of a value, the kind that is wanted, and the words of the refusal.
+    const REFUSALS: &[(JsonKind, JsonKind, &str)] = &[
+        (
+            JsonKind::Number,
+            JsonKind::String,
+            "Unexpected JSON value: number. Expected string value",
+        ),
+        (
+            JsonKind::Number,
+            JsonKind::Boolean,
+            "Unexpected JSON value: number. Expected boolean value",
+        ),
+        (
+            JsonKind::Number,
+            JsonKind::Null,
+            "Unexpected JSON value: number. Expected null value",
+        ),
+        (
+            JsonKind::Number,
+            JsonKind::Array,
+            "Unexpected JSON value: number. Expected array value",
+        ),
+        (
+            JsonKind::Number,
+            JsonKind::Object,
+            "Unexpected JSON value: number. Expected object value",
+        ),
+        (
+            JsonKind::Boolean,
+            JsonKind::Number,
+            "Unexpected JSON value: boolean. Expected number value",
+        ),
+        (
+            JsonKind::Null,
+            JsonKind::Boolean,
+            "Unexpected JSON value: null. Expected boolean value",
+        ),
+        (
+            JsonKind::Object,
+            JsonKind::Boolean,
+            "Unexpected JSON value: object. Expected boolean value",
+        ),
+        (
+            JsonKind::Array,
+            JsonKind::Boolean,
+            "Unexpected JSON value: array. Expected boolean value",
+        ),
+        (
+            JsonKind::String,
+            JsonKind::Boolean,
+            "Unexpected JSON value: string. Expected boolean value",
+        ),
+    ];
 
     #[test]
     fn a_refusal_holds_the_value(rt: HostRuntime) -> Result<(), Fail> {
         let alloc = rt.alloc();
-        refused(
-            &rt,
-            alloc,
-            String::try_from(one(alloc)?),
-            one(alloc)?,
-            "Unexpected JSON value: number. Expected string value",
-        )?;
-        refused(
-            &rt,
-            alloc,
-            bool::try_from(one(alloc)?),
-            one(alloc)?,
-            "Unexpected JSON value: number. Expected boolean value",
-        )?;
-        refused(
-            &rt,
-            alloc,
-            <()>::try_from(one(alloc)?),
-            one(alloc)?,
-            "Unexpected JSON value: number. Expected null value",
-        )?;
-        refused(
-            &rt,
-            alloc,
-            Vec::try_from(one(alloc)?),
-            one(alloc)?,
-            "Unexpected JSON value: number. Expected array value",
-        )?;
-        refused(
-            &rt,
-            alloc,
-            HashMap::try_from(one(alloc)?),
-            one(alloc)?,
-            "Unexpected JSON value: number. Expected object value",
-        )?;
-        refused(
-            &rt,
-            alloc,
-            JsonNumber::try_from(JsonValue::from(true)),
-            JsonValue::Boolean(true),
-            "Unexpected JSON value: boolean. Expected number value",
-        )?;
-        refused(
-            &rt,
-            alloc,
-            bool::try_from(JsonValue::from(())),
-            JsonValue::Null,
-            "Unexpected JSON value: null. Expected boolean value",
-        )?;
-        refused(
-            &rt,
-            alloc,
-            bool::try_from(object(alloc)?),
-            object(alloc)?,
-            "Unexpected JSON value: object. Expected boolean value",
-        )?;
-        let items = vec![in alloc; one(alloc)?]?;
-        let held = vec![in alloc; one(alloc)?]?;
-        refused(
-            &rt,
-            alloc,
-            bool::try_from(JsonValue::from(items)),
-            JsonValue::from(held),
-            "Unexpected JSON value: array. Expected boolean value",
-        )?;
-        let text = JsonValue::from("foo".to_string(alloc)?);
-        refused(
-            &rt,
-            alloc,
-            bool::try_from(text),
-            JsonValue::from("foo".to_string(alloc)?),
-            "Unexpected JSON value: string. Expected boolean value",
-        )?;
+        for &(kind, wanted, words) in REFUSALS {
+            let held = of_kind(alloc, kind)?;
+            let fault = refusal(of_kind(alloc, kind)?, wanted);
+            assert!(rt; is_refused(alloc, fault, &held, words)?, "{words}");
+        }
         Ok(())
     }
 }

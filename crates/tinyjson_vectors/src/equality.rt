@@ -15,49 +15,62 @@ pub fn trees_are_equal(a: &JsonValue, b: &JsonValue) -> bool
 #[cfg(test)]
 mod tests {
     use super::*;
+    use crate::common::{pair, string, with_item};
     use std::alloc::{AllocError, Global};
-    use std::collections::HashMap;
     use std::test::Fail;
     use tinyjson::JsonNumber;
 
-    /// An object of two members, put in this order.
-    fn pair(
+    /// Whether the value is equal to the object of two members, put in this order.
+    fn is_pair(
         alloc: Global,
+        value: &JsonValue,
         first: (&str, JsonValue),
         second: (&str, JsonValue),
-    ) -> Result<JsonValue, AllocError> {
-        let mut members = HashMap::new(alloc);
-        members.insert(first.0.to_string(alloc)?, first.1)?;
-        members.insert(second.0.to_string(alloc)?, second.1)?;
-        Ok(JsonValue::from(members))
+    ) -> Result<bool, AllocError> {
+        Ok(*value == pair(alloc, first, second)?)
     }
 
     #[test]
     fn the_order_of_members_does_not_count(rt: HostRuntime) -> Result<(), Fail> {
         let alloc = rt.alloc();
         let one = pair(alloc, ("a", JsonValue::Null), ("b", JsonValue::from(true)))?;
-        let other = pair(alloc, ("b", JsonValue::from(true)), ("a", JsonValue::Null))?;
-        assert!(rt; one == other);
-        let crossed = pair(alloc, ("b", JsonValue::Null), ("a", JsonValue::from(true)))?;
-        assert!(rt; one != crossed);
+        assert!(rt;
+            is_pair(
+                alloc,
+                &one,
+                ("b", JsonValue::from(true)),
+                ("a", JsonValue::Null)
+            )?
+        );
+        assert!(rt;
+            !is_pair(
+                alloc,
+                &one,
+                ("b", JsonValue::Null),
+                ("a", JsonValue::from(true))
+            )?
+        );
         Ok(())
+    }
+
+    fn object(alloc: Global) -> Result<JsonValue, AllocError> {
+        let empty = JsonValue::from(Vec::new(alloc));
+        pair(alloc, ("a", JsonValue::Null), ("b", empty))
+    }
+
+    /// An array with a value of each kind.
+    fn array(alloc: Global) -> Result<JsonValue, AllocError> {
+        let items = with_item(Vec::new(alloc), JsonValue::Null)?;
+        let items = with_item(items, JsonValue::from(false))?;
+        let items = with_item(items, JsonValue::from(JsonNumber::zero()))?;
+        let items = with_item(items, string(alloc, "foo")?)?;
+        Ok(JsonValue::from(with_item(items, object(alloc)?)?))
     }
 
     #[test]
     fn a_copy_is_equal(rt: HostRuntime) -> Result<(), Fail> {
         let alloc = rt.alloc();
-        let items = vec![in alloc;
-            JsonValue::Null,
-            JsonValue::from(false),
-            JsonValue::from(JsonNumber::zero()),
-            JsonValue::from("foo".to_string(alloc)?),
-            pair(
-                alloc,
-                ("a", JsonValue::Null),
-                ("b", JsonValue::from(Vec::new(alloc)))
-            )?,
-        ]?;
-        let value = JsonValue::from(items);
+        let value = array(alloc)?;
         let copy = value.try_clone(alloc)?;
         assert!(rt; copy == value);
         Ok(())
