@@ -13,7 +13,12 @@ fn content_goes_in_and_comes_back(rt: HostRuntime) -> Result<(), Fail> {
     assert!(rt; JsonNumber::try_from(JsonValue::Boolean(true)).is_err());
     assert!(rt; bool::try_from(JsonValue::Boolean(true)).is_ok_and(|b| b));
     assert!(rt; <()>::try_from(JsonValue::Null).is_ok());
+    Ok(())
+}
 
+#[test]
+fn content_that_goes_in(rt: HostRuntime) -> Result<(), Fail> {
+    let alloc = rt.alloc();
     let value = JsonValue::from("foo".to_string(alloc)?);
     assert!(rt; value.is_string());
 
@@ -22,16 +27,31 @@ fn content_goes_in_and_comes_back(rt: HostRuntime) -> Result<(), Fail> {
 
     let value = JsonValue::from(HashMap::new(alloc));
     assert!(rt; value.is_object());
+    Ok(())
+}
 
+#[test]
+fn text_that_comes_back(rt: HostRuntime) -> Result<(), Fail> {
+    let alloc = rt.alloc();
     let value = JsonValue::from("foo".to_string(alloc)?);
     assert!(rt; String::try_from(value).is_ok_and(|text| text.as_str() == "foo"));
+    Ok(())
+}
 
+#[test]
+fn items_that_come_back(rt: HostRuntime) -> Result<(), Fail> {
+    let alloc = rt.alloc();
     let value = JsonValue::from(vec![in alloc; JsonValue::Null]?);
     assert!(rt; Vec::<JsonValue>::try_from(value).is_ok_and(|items| items.len() == 1));
 
     let value = JsonValue::from(HashMap::new(alloc));
     assert!(rt; HashMap::<String, JsonValue>::try_from(value).is_ok());
+    Ok(())
+}
 
+#[test]
+fn values_that_come_back(rt: HostRuntime) -> Result<(), Fail> {
+    let alloc = rt.alloc();
     if let Err(fault) = String::try_from(JsonValue::from(true)) {
         assert!(rt; *fault.value() == JsonValue::Boolean(true));
         assert!(rt; JsonValue::from(fault) == JsonValue::Boolean(true));

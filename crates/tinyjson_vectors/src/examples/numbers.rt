@@ -13,7 +13,12 @@ fn numbers_from_texts(rt: HostRuntime) -> Result<(), Fail> {
 
     let error = JsonNumberError::from(LiteralError::OutOfRange);
     assert!(rt; matches!(error, JsonNumberError::OutOfRange));
+    Ok(())
+}
 
+#[test]
+fn digits_and_powers(rt: HostRuntime) -> Result<(), Fail> {
+    let alloc = rt.alloc();
     let number = JsonNumber::from_text(alloc, "1200")?;
     assert_eq!(rt; number.digits(), "12");
     assert_eq!(rt; number.power(), 2);
@@ -21,12 +26,28 @@ fn numbers_from_texts(rt: HostRuntime) -> Result<(), Fail> {
     assert_eq!(rt; JsonNumber::zero().digits(), "");
     assert!(rt; JsonNumber::from_text(alloc, "-0.0e7")?.is_zero());
     assert!(rt; JsonNumber::from_i64(alloc, -1)?.is_negative());
+    Ok(())
+}
+
+#[test]
+fn digits_of_fractions(rt: HostRuntime) -> Result<(), Fail> {
+    let alloc = rt.alloc();
     assert_eq!(rt; JsonNumber::from_text(alloc, "0.0120")?.digits(), "12");
     assert_eq!(rt; JsonNumber::from_text(alloc, "0.0120")?.power(), -3);
+    Ok(())
+}
 
+#[test]
+fn copies_of_numbers(rt: HostRuntime) -> Result<(), Fail> {
+    let alloc = rt.alloc();
     let number = JsonNumber::from_text(alloc, "-0.5")?;
     assert!(rt; number.try_clone(alloc)? == number);
+    Ok(())
+}
 
+#[test]
+fn numbers_by_their_spelling(rt: HostRuntime) -> Result<(), Fail> {
+    let alloc = rt.alloc();
     assert_eq!(rt; JsonNumber::from_text(alloc, "1.50e1")?.to_u64(), Some(15));
     assert!(rt; JsonNumber::from_text(alloc, "01").is_err());
     Ok(())
@@ -37,13 +58,28 @@ fn numbers_and_integers(rt: HostRuntime) -> Result<(), Fail> {
     let alloc = rt.alloc();
     let number = JsonNumber::from_u64(alloc, 1200)?;
     assert_eq!(rt; number.to_string(alloc)?.as_str(), "1200");
+    Ok(())
+}
 
+#[test]
+fn numbers_and_signed_integers(rt: HostRuntime) -> Result<(), Fail> {
+    let alloc = rt.alloc();
     let number = JsonNumber::from_i64(alloc, -5)?;
     assert_eq!(rt; number.to_string(alloc)?.as_str(), "-5");
+    Ok(())
+}
 
+#[test]
+fn numbers_as_integers(rt: HostRuntime) -> Result<(), Fail> {
+    let alloc = rt.alloc();
     assert_eq!(rt; JsonNumber::from_text(alloc, "1.2e3")?.to_u64(), Some(1200));
     assert_eq!(rt; JsonNumber::from_text(alloc, "-1")?.to_u64(), None);
+    Ok(())
+}
 
+#[test]
+fn numbers_as_signed_integers(rt: HostRuntime) -> Result<(), Fail> {
+    let alloc = rt.alloc();
     assert_eq!(rt; JsonNumber::from_text(alloc, "-1.0")?.to_i64(), Some(-1));
     assert_eq!(rt; JsonNumber::from_text(alloc, "1.5")?.to_i64(), None);
     Ok(())

@@ -15,28 +15,63 @@ fn texts(rt: HostRuntime) -> Result<(), Fail> {
     let alloc = rt.alloc();
     let read: JsonParseResult = JsonParser::new(alloc, "null".chars()).parse();
     assert!(rt; read.is_ok_and(|value| value.is_null()));
+    Ok(())
+}
 
+#[test]
+fn values_of_texts(rt: HostRuntime) -> Result<(), Fail> {
+    let alloc = rt.alloc();
     let mut parser = JsonParser::new(alloc, "[1, true]".chars());
     let value = parser.parse()?;
     assert_eq!(rt; value.stringify(alloc)?.as_str(), "[1,true]");
+    Ok(())
+}
 
+#[test]
+fn kinds_of_texts(rt: HostRuntime) -> Result<(), Fail> {
+    let alloc = rt.alloc();
     let mut parser = JsonParser::new(alloc, "[1, true]".chars());
     assert!(rt; parser.parse().is_ok_and(|value| value.is_array()));
+    Ok(())
+}
 
+#[test]
+fn limits(rt: HostRuntime) -> Result<(), Fail> {
+    let alloc = rt.alloc();
     let refusal = JsonParser::with_depth_limit(alloc, "[[1]]".chars(), 1).parse();
     assert!(rt; refusal.is_err_and(|error| error.kind() == JsonParseErrorKind::TooDeep('[')));
+    Ok(())
+}
 
+#[test]
+fn limits_on_texts(rt: HostRuntime) -> Result<(), Fail> {
+    let alloc = rt.alloc();
     let refusal = JsonValue::from_str_with_depth_limit(alloc, "[[1]]", 1);
     assert!(rt; refusal.is_err_and(|error| error.kind() == JsonParseErrorKind::TooDeep('[')));
+    Ok(())
+}
 
+#[test]
+fn texts_behind_refusals(rt: HostRuntime) -> Result<(), Fail> {
+    let alloc = rt.alloc();
     let mut parser = JsonParser::new(alloc, "nul 1".chars());
     assert!(rt; parser.parse().is_err());
     assert!(rt; parser.parse().is_ok_and(|value| value.is_number()));
+    Ok(())
+}
 
+#[test]
+fn texts_of_nested_values(rt: HostRuntime) -> Result<(), Fail> {
+    let alloc = rt.alloc();
     let text = "[[[null]], []]";
     let value = JsonValue::from_str(alloc, text)?;
     value.dismantle();
+    Ok(())
+}
 
+#[test]
+fn texts_of_objects(rt: HostRuntime) -> Result<(), Fail> {
+    let alloc = rt.alloc();
     let value = JsonValue::from_str(alloc, "{\"a\": 1.50e1}")?;
     assert_eq!(rt; value.stringify(alloc)?.as_str(), r#"{"a":15}"#);
     Ok(())
@@ -48,6 +83,12 @@ fn refusals(rt: HostRuntime) -> Result<(), Fail> {
     if let Err(error) = JsonValue::from_str(alloc, "[1 2]") {
         assert!(rt; error.kind() == JsonParseErrorKind::ExpectedCommaOrBracket('2'));
     }
+    Ok(())
+}
+
+#[test]
+fn words_of_refusals(rt: HostRuntime) -> Result<(), Fail> {
+    let alloc = rt.alloc();
     if let Err(error) = JsonValue::from_str(alloc, "{\n\"a\" 1}") {
         let words = error.to_string(alloc)?;
         assert_eq!(rt;
@@ -55,18 +96,36 @@ fn refusals(rt: HostRuntime) -> Result<(), Fail> {
             "Parse error at line:2, col:5: ':' is expected after key of object but actually found '1'"
         );
     }
+    Ok(())
+}
+
+#[test]
+fn kinds_of_refusals(rt: HostRuntime) -> Result<(), Fail> {
+    let alloc = rt.alloc();
     if let Err(error) = JsonValue::from_str(alloc, "01") {
         assert!(rt; error.kind() == JsonParseErrorKind::LeadingZero);
     }
     if let Err(error) = JsonValue::from_str(alloc, "[") {
         assert!(rt; !error.is_out_of_memory());
     }
+    Ok(())
+}
+
+#[test]
+fn lines_of_refusals(rt: HostRuntime) -> Result<(), Fail> {
+    let alloc = rt.alloc();
     if let Err(error) = JsonValue::from_str(alloc, "[\n\n]]") {
         assert!(rt; error.line() == 3);
     }
     if let Err(error) = JsonValue::from_str(alloc, "[\n\n]]") {
         assert!(rt; error.column() == 2);
     }
+    Ok(())
+}
+
+#[test]
+fn refusals_of_reading(rt: HostRuntime) -> Result<(), Fail> {
+    let alloc = rt.alloc();
     assert!(rt; read(alloc, "[").is_err_and(|error| error.kind() == ErrorKind::InvalidData));
     Ok(())
 }

@@ -26,7 +26,13 @@ fn items(rt: HostRuntime) -> Result<(), Fail> {
     {
         assert!(rt; value[1] == JsonValue::Boolean(true));
     }
+    Ok(())
+}
 
+#[test]
+fn members(rt: HostRuntime) -> Result<(), Fail> {
+    let alloc = rt.alloc();
+    let value = JsonValue::from(vec![in alloc; JsonValue::Null, JsonValue::Boolean(true)]?);
     let members = one_member(alloc, "arr", value)?;
     let value = JsonValue::from(members);
     if value
@@ -55,7 +61,13 @@ fn items_for_writing(rt: HostRuntime) -> Result<(), Fail> {
         value[0] = JsonValue::from(true);
     }
     assert_eq!(rt; value.stringify(alloc)?.as_str(), "[true]");
+    Ok(())
+}
 
+#[test]
+fn items_that_are_replaced(rt: HostRuntime) -> Result<(), Fail> {
+    let alloc = rt.alloc();
+    let value = JsonValue::from(vec![in alloc; JsonValue::from(true)]?);
     let mut array = JsonValue::from(vec![in alloc; JsonValue::Null]?);
     if array
         .get::<Vec<JsonValue>>()
@@ -80,7 +92,13 @@ fn members_for_writing(rt: HostRuntime) -> Result<(), Fail> {
         value["foo"] = JsonValue::from(true);
     }
     assert_eq!(rt; value.stringify(alloc)?.as_str(), r#"{"foo":true}"#);
+    Ok(())
+}
 
+#[test]
+fn members_that_are_replaced(rt: HostRuntime) -> Result<(), Fail> {
+    let alloc = rt.alloc();
+    let value = JsonValue::from(one_member(alloc, "foo", JsonValue::from(true))?);
     let members = one_member(alloc, "foo", JsonValue::Null)?;
     let mut object = JsonValue::from(members);
     if object
