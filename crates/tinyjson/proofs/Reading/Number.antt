@@ -23,7 +23,7 @@ use Rattle.tinyjson_grammar.proofs.Callers.{digit_not_white}
 pub is_one : (d c : ℕ) → (c == d) ≡ true → c ≡ d
 is_one d c h = grind (arith, nat_tests)
 
-letter_no_digit : (c : ℕ) → is_exponent_letter c ≡ true → is_ascii_digit c ≡ false
+pub letter_no_digit : (c : ℕ) → is_exponent_letter c ≡ true → is_ascii_digit c ≡ false
 letter_no_digit c h = grind (arith, nat_tests)
 
 sign_no_digit : (c : ℕ) → is_sign c ≡ true → is_ascii_digit c ≡ false

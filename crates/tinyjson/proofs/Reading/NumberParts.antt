@@ -24,7 +24,7 @@ use Rattle.tinyjson.proofs.Reading.Number.{is_one, are_digits, gathered_whole, g
 abbrev pub written : List ℕ → Option Bool → Option Exponent
 written t w = option_map (λ b. record { letter = 101; sign = if b then Some 45 else None; digits = t }) w
 
-plain_minus : (s : Option ℕ) → (if is_minus s then Some 45 else None) ≡ plain_sign s
+pub plain_minus : (s : Option ℕ) → (if is_minus s then Some 45 else None) ≡ plain_sign s
 plain_minus None = refl
 plain_minus (Some c) = refl
 

@@ -8,13 +8,14 @@ ghost use Rattle.tinyjson_grammar.specs.Machine.{exponent, next};
 ghost use Rattle.tinyjson.specs.private.NumberSteps.{Digits, BeginsNumber, Accepts, Gathered};
 ghost use Rattle.tinyjson.specs.private.NumberSteps.{ReadsPart, Signs};
 ghost use Rattle.tinyjson.specs.private.NumberSteps.{is_below_zero, marks_of, numeral};
-ghost use Rattle.tinyjson.specs.private.Numerals.{FractionAt, NumeralAt};
+ghost use Rattle.tinyjson.specs.private.Numerals.{ExponentAt, FractionAt, MantissaAt, PartsAt, ShowsAt};
+ghost use Rattle.tinyjson.specs.private.Numerals.{SignAt};
 ghost use Rattle.tinyjson.specs.private.Stack.{at, frames, IsSound};
 ghost use Rattle.tinyjson.specs.private.Steps.{Ends, Reads};
 ghost use Rattle.tinyjson_grammar.specs.Tree.{number};
-ghost use Rattle.tinyjson_number.specs.Numeral.{AreDigits, Exponent, Numeral, has_leading_zero};
-ghost use Rattle.tinyjson_number.specs.Numeral.{is_exponent_letter, minus_text};
-ghost use Rattle.tinyjson_number.specs.Reading.{ReadsNumeral, exponent_of, numeral_of};
+ghost use Rattle.tinyjson_number.specs.Numeral.{AreDigits, Numeral, has_leading_zero};
+ghost use Rattle.tinyjson_number.specs.Numeral.{is_exponent_letter, is_sign, minus_text};
+ghost use Rattle.tinyjson_number.specs.Reading.{ReadsNumeral, exponent_of};
 
 use super::error::{JsonParseError, JsonParseErrorKind};
 use super::reader::Reader;
@@ -60,12 +61,69 @@ fn digits_at(bytes: &[u8], from: usize) -> (&[u8], usize)
     (&bytes[from..end], end)
 }
 
-/// The parts of the number at a place of a text, and the place behind it, if it has no exponent, and
-/// nothing follows that a number goes on with.
+/// The parts of the number at a place of a text, and the place behind it, if it has no exponent and lacks
+/// no digits.
 #[inline(always)]
 pub(super) fn parts_at(bytes: &[u8], at: usize) -> Option<(NumberParts<'_>, usize)>
     requires { at ≤ length bytes.now }
-    ensures { IfSome result (λ r. NumeralAt bytes.now at (numeral_of r.0) r.1) }
+    ensures { IfSome result (λ r. PartsAt bytes.now at r.0 r.1) }
+{
+    let (front, end) = mantissa_at(bytes, at)?;
+    if has_letter(bytes, end) {
+        return None;
+    }
+    Some((front.with_exponent(None), end))
+}
+
+/// The parts of the number with an exponent at a place of a text, and the place behind it, if it lacks no
+/// digits.
+#[inline(never)]
+pub(super) fn scientific_at(bytes: &[u8], at: usize) -> Option<(NumberParts<'_>, usize)>
+    requires { at ≤ length bytes.now }
+    ensures { IfSome result (λ r. PartsAt bytes.now at r.0 r.1) }
+{
+    let (front, letter) = mantissa_at(bytes, at)?;
+    if !has_letter(bytes, letter) {
+        return None;
+    }
+    let (exponent, end) = exponent_at(bytes, letter + 1)?;
+    Some((front.with_exponent(Some(exponent)), end))
+}
+
+/// The parts of a number before its exponent.
+#[derive(Clone, Copy)]
+struct Mantissa<'a> {
+    negative: bool,
+    whole: &'a [u8],
+    fraction: &'a [u8],
+}
+
+impl<'a> Mantissa<'a> {
+    /// The parts of the number with this exponent.
+    #[inline(always)]
+    fn with_exponent(self, exponent: Option<ExponentParts<'a>>) -> NumberParts<'a>
+        ensures { result ≡ record {
+          negative = self.entry.negative;
+          whole = self.entry.whole;
+          fraction = self.entry.fraction;
+          exponent = exponent.entry;
+        } }
+    {
+        NumberParts {
+            negative: self.negative,
+            whole: self.whole,
+            fraction: self.fraction,
+            exponent,
+        }
+    }
+}
+
+/// What stands before the exponent of the number at a place of a text, and the place behind it, if it lacks
+/// no digits.
+#[inline(always)]
+fn mantissa_at(bytes: &[u8], at: usize) -> Option<(Mantissa<'_>, usize)>
+    requires { at ≤ length bytes.now }
+    ensures { IfSome result (λ r. MantissaAt bytes.now at r.0 r.1) }
 {
     let (negative, from) = minus_at(bytes, at);
     let (whole, point) = digits_at(bytes, from);
@@ -73,15 +131,12 @@ pub(super) fn parts_at(bytes: &[u8], at: usize) -> Option<(NumberParts<'_>, usiz
         return None;
     }
     let (fraction, end) = fraction_at(bytes, point)?;
-    Some((
-        NumberParts {
-            negative,
-            whole,
-            fraction,
-            exponent: None,
-        },
-        end,
-    ))
+    let front = Mantissa {
+        negative,
+        whole,
+        fraction,
+    };
+    Some((front, end))
 }
 
 /// Whether a minus sign stands at a place of a text, and the place behind it.
@@ -98,35 +153,71 @@ fn minus_at(bytes: &[u8], at: usize) -> (bool, usize)
     }
 }
 
-/// The digits behind the point at a place of a text, if there is a point, and the place behind them, if
-/// nothing follows that a number goes on with.
+/// The digits behind the point at a place of a text, none if there is no point, and the place behind them.
+/// None where a point has no digits.
 #[inline(always)]
 fn fraction_at(bytes: &[u8], point: usize) -> Option<(&[u8], usize)>
     requires within { point ≤ length bytes.now }
     requires stops { IfSome (slice_get bytes.now point) (λ b. is_ascii_digit b ≡ false) }
     ensures { IfSome result (λ r. FractionAt bytes.now point r.0.now r.1) }
 {
-    if point >= bytes.len() || bytes[point] != b'.' {
-        return if goes_on(bytes, point) {
-            None
-        } else {
-            Some((b"", point))
-        };
+    if !has_point(bytes, point) {
+        return Some((b"", point));
     }
     let (digits, end) = digits_at(bytes, point + 1);
-    if digits.is_empty() || goes_on(bytes, end) {
+    if digits.is_empty() {
         return None;
     }
     Some((digits, end))
 }
 
-/// Whether a point or the letter of an exponent stands at a place of a text.
+/// Whether a point stands at a place of a text.
 #[inline(always)]
-fn goes_on(bytes: &[u8], end: usize) -> bool
-    ensures { result ≡ false → IfSome (slice_get bytes.now end)
-        (λ b. ((b == 46) ≡ false) × (is_exponent_letter b ≡ false)) }
+fn has_point(bytes: &[u8], at: usize) -> bool
+    ensures { ShowsAt (λ b. b == 46) bytes.now at result }
 {
-    end < bytes.len() && matches!(bytes[end], b'.' | b'e' | b'E')
+    at < bytes.len() && bytes[at] == b'.'
+}
+
+/// Whether the letter of an exponent stands at a place of a text.
+#[inline(always)]
+fn has_letter(bytes: &[u8], at: usize) -> bool
+    ensures { ShowsAt is_exponent_letter bytes.now at result }
+{
+    at < bytes.len() && matches!(bytes[at], b'e' | b'E')
+}
+
+/// The sign and the digits of the exponent whose letter stands before a place of a text, and the place
+/// behind them. None where there are no digits.
+fn exponent_at(bytes: &[u8], at: usize) -> Option<(ExponentParts<'_>, usize)>
+    requires { at ≤ length bytes.now }
+    ensures { IfSome result (λ r. ExponentAt bytes.now at r.0 r.1) }
+{
+    let (negative, from) = sign_at(bytes, at);
+    let (digits, end) = digits_at(bytes, from);
+    if digits.is_empty() {
+        return None;
+    }
+    Some((ExponentParts { negative, digits }, end))
+}
+
+/// Whether a minus sign stands at a place of a text, and the place behind it or behind a plus sign.
+fn sign_at(bytes: &[u8], at: usize) -> (bool, usize)
+    requires { at ≤ length bytes.now }
+    ensures { SignAt bytes.now at result.0 result.1 }
+{
+    if has_sign(bytes, at) {
+        (bytes[at] == b'-', at + 1)
+    } else {
+        (false, at)
+    }
+}
+
+/// Whether a sign stands at a place of a text.
+fn has_sign(bytes: &[u8], at: usize) -> bool
+    ensures { ShowsAt is_sign bytes.now at result }
+{
+    at < bytes.len() && matches!(bytes[at], b'+' | b'-')
 }
 
 impl<S: Tokens> Reader<S> {
@@ -147,12 +238,12 @@ impl<S: Tokens> Reader<S> {
                 return self.put(stack, JsonValue::Number(number));
             }
         }
-        self.number_in_pieces(stack)
+        self.long_number(stack)
     }
 
-    /// Reads the number piece by piece.
+    /// Reads the number by its exponent, or piece by piece.
     #[inline(never)]
-    fn number_in_pieces(&mut self, stack: &mut Stack) -> Result<bool, JsonParseError>
+    fn long_number(&mut self, stack: &mut Stack) -> Result<bool, JsonParseError>
         requires begins { BeginsNumber S.sight self.old.source }
         requires sound { IsSound stack.old false }
         ensures reads { (limit : Option ℕ) → Reads S.sight limit self.old.source
@@ -160,6 +251,10 @@ impl<S: Tokens> Reader<S> {
         ensures sound { IfOk result (IsSound stack.new) }
         ensures left { OnOk result (S.left self.new.source < S.left self.old.source) }
     {
+        if let Some((number, behind)) = self.source.scientific(self.alloc) {
+            self.source = behind;
+            return self.put(stack, JsonValue::Number(number));
+        }
         let number = self.gathered_number()?;
         self.put(stack, JsonValue::Number(number))
     }

@@ -2,14 +2,13 @@
 ghost use Rattle.std.specs.Prelude.{ℕ, ◌+◌, ◌^◌, ◌<◌, ◌≤◌, List, [], false, IfSome};
 ghost use Rattle.std.specs.Prelude.{MatchResult, Option, length};
 ghost use Rattle.tinyjson_grammar.specs.Machine.{Frame};
-ghost use Rattle.tinyjson.specs.private.Numerals.{TakesNumeral};
+ghost use Rattle.tinyjson.specs.private.Numerals.{TakesNumber, TakesParts};
 ghost use Rattle.tinyjson.specs.private.Steps.{Halts, Leads, within};
-ghost use Rattle.tinyjson_number.specs.Reading.{numeral_of};
 
 use super::escape::escape_at;
-use super::number::parts_at;
-use std::alloc::AllocError;
-use tinyjson_number::NumberParts;
+use super::number::{parts_at, scientific_at};
+use std::alloc::{AllocError, Global};
+use tinyjson_number::{JsonNumber, NumberParts};
 use tinyjson_source::utf16::push;
 use tinyjson_source::{Characters, Source, TextBytes};
 
@@ -27,12 +26,21 @@ pub(super) trait Tokens: Source {
         self.plain(string)
     }
 
-    /// The parts of the number that comes next, and the source behind it, if this source finds the number
-    /// whole. It may find none.
+    /// The parts of the number that comes next, and the source behind it, if this source finds it whole, and
+    /// it has no exponent. It may find none.
     fn numeral(&self) -> Option<(NumberParts<'_>, Self)>
-        ensures takes { IfSome result (λ r. TakesNumeral Self.sight self.now (numeral_of r.0) r.1) }
+        ensures takes { IfSome result (λ r. TakesParts Self.sight self.now r.0 r.1) }
         ensures room { IfSome result (λ r.
             length r.0.whole.now + length r.0.fraction.now < 2 ^ 64) }
+        ensures left { IfSome result (λ r. Self.left r.1 < Self.left self.now) }
+    {
+        None
+    }
+
+    /// The number with an exponent that comes next, and the source behind it, if this source finds it whole,
+    /// it is in range, and there is memory. It may find none.
+    fn scientific(&self, alloc: Global) -> Option<(JsonNumber, Self)>
+        ensures takes { IfSome result (λ r. TakesNumber Self.sight self.now r.0 r.1) }
         ensures left { IfSome result (λ r. Self.left r.1 < Self.left self.now) }
     {
         None
@@ -59,5 +67,17 @@ impl<'a> Tokens for TextBytes<'a> {
             at: end,
         };
         Some((parts, behind))
+    }
+
+    fn scientific(&self, alloc: Global) -> Option<(JsonNumber, Self)> {
+        let (parts, end) = scientific_at(self.text.as_bytes(), self.at)?;
+        let behind = TextBytes {
+            text: self.text,
+            at: end,
+        };
+        match JsonNumber::from_parts(alloc, parts) {
+            Ok(number) => Some((number, behind)),
+            Err(_) => None,
+        }
     }
 }
