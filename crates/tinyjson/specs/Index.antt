@@ -1,5 +1,4 @@
 -- The places in a value: an item of an array, a member of an object.
-pub mod Rows
 use Rattle.std.specs.Prelude.{◌≡◌, ℕ, zero, suc, List, Option, Some, None, slice_get, option_and_then}
 use Rattle.std.specs.HashMap.{get_by_text}
 use Rattle.std.specs.Option.{IfSome, option_map_or}

@@ -9,3 +9,4 @@ pub mod Sorted
 pub mod Members
 pub mod Copy
 pub mod Escape
+pub mod Rows

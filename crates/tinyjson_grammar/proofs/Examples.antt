@@ -1,5 +1,6 @@
--- Worked rows, run by the machine.
+-- Computed examples of the machine: the kind of a refusal and what is left of the text, or that it is accepted.
 use Rattle.std.proofs.Common.{◌≡◌, [], ◌∷◌, None, refl}
+use Rattle.std.specs.Prelude.{codes}
 use Rattle.tinyjson_grammar.specs.Machine.{strictly}
 use Rattle.tinyjson_grammar.specs.Tree.{null}
 use Rattle.tinyjson_grammar.specs.declared.kind.JsonKind.TheVariants as kind
@@ -8,134 +9,135 @@ use Rattle.tinyjson_grammar.specs.Machine.{awaited, Outcome, accepted, refused, 
 use Rattle.tinyjson_number.specs.Numeral.{value, power_fits}
 use Rattle.tinyjson_grammar.specs.Tree.{put}
 
-abbrev kind_is : Outcome → Outcome → Type 0
-kind_is (accepted t) (accepted u) = Unit {0}
-kind_is o p = o ≡ p
+-- the outcome, or any tree in place of that of the second
+abbrev Alike : Outcome → Outcome → Type 0
+Alike (accepted t) (accepted u) = Unit {0}
+Alike o p = o ≡ p
 
-row0 : unfold run step end value power_fits put in kind_is (run (strictly None) [] awaited (91 ∷ 49 ∷ 46 ∷ 93 ∷ [])) (refused EmptyFraction (93 ∷ []))
+no_digit_behind_the_point : unfold run step end value power_fits put in Alike (run (strictly None) [] awaited (codes "[1.]")) (refused EmptyFraction (codes "]"))
 unfolding run step end value power_fits put
-row0 = refl
+no_digit_behind_the_point = refl
 
-row1 : unfold run step end value power_fits put in kind_is (run (strictly None) [] awaited (48 ∷ 49 ∷ 46 ∷ 53 ∷ [])) (refused LeadingZero (46 ∷ 53 ∷ []))
+zero_before_a_digit_and_a_point : unfold run step end value power_fits put in Alike (run (strictly None) [] awaited (codes "01.5")) (refused LeadingZero (codes ".5"))
 unfolding run step end value power_fits put
-row1 = refl
+zero_before_a_digit_and_a_point = refl
 
-row2 : unfold run step end value power_fits put in kind_is (run (strictly None) [] awaited (91 ∷ 48 ∷ 49 ∷ 44 ∷ 120 ∷ [])) (refused LeadingZero (44 ∷ 120 ∷ []))
+zero_before_a_digit : unfold run step end value power_fits put in Alike (run (strictly None) [] awaited (codes "[01,x")) (refused LeadingZero (codes ",x"))
 unfolding run step end value power_fits put
-row2 = refl
+zero_before_a_digit = refl
 
-row3 : unfold run step end value power_fits put in kind_is (run (strictly None) [] awaited (45 ∷ 32 ∷ 49 ∷ [])) (refused EmptyInteger (32 ∷ 49 ∷ []))
+blank_behind_the_minus_sign : unfold run step end value power_fits put in Alike (run (strictly None) [] awaited (codes "- 1")) (refused EmptyInteger (codes " 1"))
 unfolding run step end value power_fits put
-row3 = refl
+blank_behind_the_minus_sign = refl
 
-row4 : unfold run step end value power_fits put in kind_is (run (strictly None) [] awaited (49 ∷ 101 ∷ 43 ∷ 120 ∷ [])) (refused EmptyExponent (120 ∷ []))
+letter_behind_the_sign_of_an_exponent : unfold run step end value power_fits put in Alike (run (strictly None) [] awaited (codes "1e+x")) (refused EmptyExponent (codes "x"))
 unfolding run step end value power_fits put
-row4 = refl
+letter_behind_the_sign_of_an_exponent = refl
 
-row5 : unfold run step end value power_fits put in kind_is (run (strictly None) [] awaited (123 ∷ 49 ∷ 32 ∷ [])) (refused (KeyNotString kind.Number) (32 ∷ []))
+number_as_a_key : unfold run step end value power_fits put in Alike (run (strictly None) [] awaited (codes "{1 ")) (refused (KeyNotString kind.Number) (codes " "))
 unfolding run step end value power_fits put
-row5 = refl
+number_as_a_key = refl
 
-row6 : unfold run step end value power_fits put in kind_is (run (strictly None) [] awaited (123 ∷ 49 ∷ 58 ∷ 48 ∷ 49 ∷ 125 ∷ [])) (refused (KeyNotString kind.Number) (58 ∷ 48 ∷ 49 ∷ 125 ∷ []))
+number_as_a_key_before_a_fault : unfold run step end value power_fits put in Alike (run (strictly None) [] awaited (codes "{1:01}")) (refused (KeyNotString kind.Number) (codes ":01}"))
 unfolding run step end value power_fits put
-row6 = refl
+number_as_a_key_before_a_fault = refl
 
-row7 : unfold run step end value power_fits put in kind_is (run (strictly None) [] awaited (123 ∷ 91 ∷ 48 ∷ 49 ∷ [])) (refused LeadingZero ([]))
+array_as_a_key_before_a_fault : unfold run step end value power_fits put in Alike (run (strictly None) [] awaited (codes "{[01")) (refused LeadingZero [])
 unfolding run step end value power_fits put
-row7 = refl
+array_as_a_key_before_a_fault = refl
 
-row8 : unfold run step end value power_fits put in kind_is (run (strictly None) [] awaited (34 ∷ 92 ∷ 117 ∷ 100 ∷ 56 ∷ 48 ∷ 48 ∷ 120 ∷ [])) (refused InvalidUtf16 ([]))
+high_surrogate_before_a_letter : unfold run step end value power_fits put in Alike (run (strictly None) [] awaited (codes "\"\\ud800x")) (refused InvalidUtf16 [])
 unfolding run step end value power_fits put
-row8 = refl
+high_surrogate_before_a_letter = refl
 
-row9 : unfold run step end value power_fits put in kind_is (run (strictly None) [] awaited (34 ∷ 92 ∷ 117 ∷ 100 ∷ 99 ∷ 48 ∷ 48 ∷ 92 ∷ 117 ∷ 48 ∷ 48 ∷ 52 ∷ 49 ∷ 34 ∷ [])) (refused InvalidUtf16 ([]))
+low_surrogate_before_another_unit : unfold run step end value power_fits put in Alike (run (strictly None) [] awaited (codes "\"\\udc00\\u0041\"")) (refused InvalidUtf16 [])
 unfolding run step end value power_fits put
-row9 = refl
+low_surrogate_before_another_unit = refl
 
-row10 : unfold run step end value power_fits put in kind_is (run (strictly None) [] awaited (34 ∷ 92 ∷ 117 ∷ 100 ∷ 99 ∷ 48 ∷ 48 ∷ 92 ∷ 113 ∷ [])) (refused (InvalidEscape 113) ([]))
+low_surrogate_before_a_fault : unfold run step end value power_fits put in Alike (run (strictly None) [] awaited (codes "\"\\udc00\\q")) (refused (InvalidEscape 113) [])
 unfolding run step end value power_fits put
-row10 = refl
+low_surrogate_before_a_fault = refl
 
-row11 : unfold run step end value power_fits put in kind_is (run (strictly None) [] awaited (91 ∷ 49 ∷ 101 ∷ 45 ∷ 57 ∷ 50 ∷ 50 ∷ 51 ∷ 51 ∷ 55 ∷ 50 ∷ 48 ∷ 51 ∷ 54 ∷ 56 ∷ 53 ∷ 52 ∷ 55 ∷ 55 ∷ 53 ∷ 56 ∷ 48 ∷ 57 ∷ 93 ∷ [])) (refused NumberOutOfRange (93 ∷ []))
+exponent_below_the_range : unfold run step end value power_fits put in Alike (run (strictly None) [] awaited (codes "[1e-9223372036854775809]")) (refused NumberOutOfRange (codes "]"))
 unfolding run step end value power_fits put
-row11 = refl
+exponent_below_the_range = refl
 
-row12 : unfold run step end value power_fits put in kind_is (run (strictly None) [] awaited (91 ∷ 49 ∷ 32 ∷ 50 ∷ 93 ∷ [])) (refused (ExpectedCommaOrBracket 50) (93 ∷ []))
+two_items_without_a_comma : unfold run step end value power_fits put in Alike (run (strictly None) [] awaited (codes "[1 2]")) (refused (ExpectedCommaOrBracket 50) (codes "]"))
 unfolding run step end value power_fits put
-row12 = refl
+two_items_without_a_comma = refl
 
-row13 : unfold run step end value power_fits put in kind_is (run (strictly None) [] awaited (91 ∷ 49 ∷ 32 ∷ 120 ∷ [])) (refused (ExpectedCommaOrBracket 120) ([]))
+letter_behind_an_item : unfold run step end value power_fits put in Alike (run (strictly None) [] awaited (codes "[1 x")) (refused (ExpectedCommaOrBracket 120) [])
 unfolding run step end value power_fits put
-row13 = refl
+letter_behind_an_item = refl
 
-row14 : unfold run step end value power_fits put in kind_is (run (strictly None) [] awaited (34 ∷ 116 ∷ 1 ∷ [])) (refused (ControlCharacter 1) ([]))
+control_character_in_a_string : unfold run step end value power_fits put in Alike (run (strictly None) [] awaited (34 ∷ 116 ∷ 1 ∷ [])) (refused (ControlCharacter 1) [])
 unfolding run step end value power_fits put
-row14 = refl
+control_character_in_a_string = refl
 
-row15 : unfold run step end value power_fits put in kind_is (run (strictly None) [] awaited (123 ∷ 34 ∷ 97 ∷ 34 ∷ 32 ∷ 49 ∷ 125 ∷ [])) (refused (ExpectedColon 49) (125 ∷ []))
+no_colon : unfold run step end value power_fits put in Alike (run (strictly None) [] awaited (codes "{\"a\" 1}")) (refused (ExpectedColon 49) (codes "}"))
 unfolding run step end value power_fits put
-row15 = refl
+no_colon = refl
 
-row16 : unfold run step end value power_fits put in kind_is (run (strictly None) [] awaited (91 ∷ 49 ∷ 44 ∷ 93 ∷ [])) (refused (InvalidCharacter 93) (93 ∷ []))
+no_item_behind_a_comma : unfold run step end value power_fits put in Alike (run (strictly None) [] awaited (codes "[1,]")) (refused (InvalidCharacter 93) (codes "]"))
 unfolding run step end value power_fits put
-row16 = refl
+no_item_behind_a_comma = refl
 
-row17 : unfold run step end value power_fits put in kind_is (run (strictly None) [] awaited (49 ∷ 32 ∷ 50 ∷ [])) (refused (ExpectedEof 50) ([]))
+two_values : unfold run step end value power_fits put in Alike (run (strictly None) [] awaited (codes "1 2")) (refused (ExpectedEof 50) [])
 unfolding run step end value power_fits put
-row17 = refl
+two_values = refl
 
-row18 : unfold run step end value power_fits put in kind_is (run (strictly None) [] awaited (91 ∷ 49 ∷ 44 ∷ 32 ∷ 50 ∷ 44 ∷ 32 ∷ 51 ∷ [])) (refused UnexpectedEof ([]))
+array_without_an_end : unfold run step end value power_fits put in Alike (run (strictly None) [] awaited (codes "[1, 2, 3")) (refused UnexpectedEof [])
 unfolding run step end value power_fits put
-row18 = refl
+array_without_an_end = refl
 
-row19 : unfold run step end value power_fits put in kind_is (run (strictly None) [] awaited (49 ∷ 48 ∷ 101 ∷ 45 ∷ 57 ∷ 50 ∷ 50 ∷ 51 ∷ 51 ∷ 55 ∷ 50 ∷ 48 ∷ 51 ∷ 54 ∷ 56 ∷ 53 ∷ 52 ∷ 55 ∷ 55 ∷ 53 ∷ 56 ∷ 48 ∷ 57 ∷ [])) (accepted null)
+zeros_at_the_end_bring_the_power_into_range : unfold run step end value power_fits put in Alike (run (strictly None) [] awaited (codes "10e-9223372036854775809")) (accepted null)
 unfolding run step end value power_fits put
-row19 = tt
+zeros_at_the_end_bring_the_power_into_range = tt
 
-row20 : unfold run step end value power_fits put in kind_is (run (strictly None) [] awaited (49 ∷ 101 ∷ 45 ∷ 57 ∷ 50 ∷ 50 ∷ 51 ∷ 51 ∷ 55 ∷ 50 ∷ 48 ∷ 51 ∷ 54 ∷ 56 ∷ 53 ∷ 52 ∷ 55 ∷ 55 ∷ 53 ∷ 56 ∷ 48 ∷ 57 ∷ [])) (refused NumberOutOfRange ([]))
+power_out_of_range : unfold run step end value power_fits put in Alike (run (strictly None) [] awaited (codes "1e-9223372036854775809")) (refused NumberOutOfRange [])
 unfolding run step end value power_fits put
-row20 = refl
+power_out_of_range = refl
 
-row21 : unfold run step end value power_fits put in kind_is (run (strictly None) [] awaited (116 ∷ 114 ∷ 117 ∷ 10 ∷ [])) (refused (UnexpectedInLiteral 10) ([]))
+line_feed_in_a_literal : unfold run step end value power_fits put in Alike (run (strictly None) [] awaited (codes "tru\n")) (refused (UnexpectedInLiteral 10) [])
 unfolding run step end value power_fits put
-row21 = refl
+line_feed_in_a_literal = refl
 
-row22 : unfold run step end value power_fits put in kind_is (run (strictly None) [] awaited (116 ∷ 114 ∷ 117 ∷ 120 ∷ [])) (refused (UnexpectedInLiteral 120) ([]))
+letter_in_a_literal : unfold run step end value power_fits put in Alike (run (strictly None) [] awaited (codes "trux")) (refused (UnexpectedInLiteral 120) [])
 unfolding run step end value power_fits put
-row22 = refl
+letter_in_a_literal = refl
 
-row23 : unfold run step end value power_fits put in kind_is (run (strictly None) [] awaited (123 ∷ 44 ∷ [])) (refused (InvalidCharacter 44) (44 ∷ []))
+comma_in_place_of_a_key : unfold run step end value power_fits put in Alike (run (strictly None) [] awaited (codes "{,")) (refused (InvalidCharacter 44) (codes ","))
 unfolding run step end value power_fits put
-row23 = refl
+comma_in_place_of_a_key = refl
 
-row24 : unfold run step end value power_fits put in kind_is (run (strictly None) [] awaited (49 ∷ 46 ∷ 101 ∷ 53 ∷ [])) (refused EmptyFraction (101 ∷ 53 ∷ []))
+no_digit_between_point_and_exponent : unfold run step end value power_fits put in Alike (run (strictly None) [] awaited (codes "1.e5")) (refused EmptyFraction (codes "e5"))
 unfolding run step end value power_fits put
-row24 = refl
+no_digit_between_point_and_exponent = refl
 
-row25 : unfold run step end value power_fits put in kind_is (run (strictly None) [] awaited (48 ∷ 49 ∷ 46 ∷ [])) (refused LeadingZero (46 ∷ []))
+zero_before_a_digit_and_no_fraction : unfold run step end value power_fits put in Alike (run (strictly None) [] awaited (codes "01.")) (refused LeadingZero (codes "."))
 unfolding run step end value power_fits put
-row25 = refl
+zero_before_a_digit_and_no_fraction = refl
 
-row26 : unfold run step end value power_fits put in kind_is (run (strictly None) [] awaited (123 ∷ 91 ∷ 91 ∷ 93 ∷ 93 ∷ [])) (refused (KeyNotString kind.Array) ([]))
+array_as_a_key : unfold run step end value power_fits put in Alike (run (strictly None) [] awaited (codes "{[[]]")) (refused (KeyNotString kind.Array) [])
 unfolding run step end value power_fits put
-row26 = refl
+array_as_a_key = refl
 
-row27 : unfold run step end value power_fits put in kind_is (run (strictly None) [] awaited (45 ∷ [])) (refused EmptyInteger ([]))
+minus_sign_alone : unfold run step end value power_fits put in Alike (run (strictly None) [] awaited (codes "-")) (refused EmptyInteger [])
 unfolding run step end value power_fits put
-row27 = refl
+minus_sign_alone = refl
 
-row28 : unfold run step end value power_fits put in kind_is (run (strictly None) [] awaited (91 ∷ 34 ∷ 92 ∷ 117 ∷ 100 ∷ 56 ∷ 51 ∷ 100 ∷ 92 ∷ 117 ∷ 100 ∷ 101 ∷ 48 ∷ 48 ∷ 34 ∷ 93 ∷ [])) (accepted null)
+surrogate_pair : unfold run step end value power_fits put in Alike (run (strictly None) [] awaited (codes "[\"\\ud83d\\ude00\"]")) (accepted null)
 unfolding run step end value power_fits put
-row28 = tt
+surrogate_pair = tt
 
-row29 : unfold run step end value power_fits put in kind_is (run (strictly None) [] awaited (123 ∷ 34 ∷ 97 ∷ 34 ∷ 58 ∷ 49 ∷ 44 ∷ 125 ∷ [])) (refused (InvalidCharacter 125) (125 ∷ []))
+no_member_behind_a_comma : unfold run step end value power_fits put in Alike (run (strictly None) [] awaited (codes "{\"a\":1,}")) (refused (InvalidCharacter 125) (codes "}"))
 unfolding run step end value power_fits put
-row29 = refl
+no_member_behind_a_comma = refl
 
-row30 : unfold run step end value power_fits put in kind_is (run (strictly None) [] awaited ([])) (refused UnexpectedEof ([]))
+empty_text : unfold run step end value power_fits put in Alike (run (strictly None) [] awaited []) (refused UnexpectedEof [])
 unfolding run step end value power_fits put
-row30 = refl
+empty_text = refl
 
-row31 : unfold run step end value power_fits put in kind_is (run (strictly None) [] awaited (48 ∷ 101 ∷ 57 ∷ 57 ∷ 57 ∷ 57 ∷ 57 ∷ 57 ∷ 57 ∷ 57 ∷ 57 ∷ 57 ∷ 57 ∷ [])) (accepted null)
+zero_with_a_large_exponent : unfold run step end value power_fits put in Alike (run (strictly None) [] awaited (codes "0e99999999999")) (accepted null)
 unfolding run step end value power_fits put
-row31 = tt
+zero_with_a_large_exponent = tt

@@ -4,6 +4,7 @@ pub mod Canonical
 pub mod Number
 pub mod NumberText
 pub mod Text
+pub mod Layout
 pub mod Error
 pub mod Integer
 pub mod Reading

@@ -1,3 +1,2 @@
 -- What only private contracts cite.
 pub mod Scan
-pub mod Layout

@@ -3,7 +3,7 @@ ghost use Rattle.std.specs.Prelude.{◌≡◌, ◌<◌, ◌≤◌, ◌++◌, ◌
 ghost use Rattle.std.specs.Prelude.{replicate, pos, neg_ℤ, Some};
 ghost use Rattle.std.specs.Fmt.{WritesOnOk};
 ghost use Rattle.std.specs.Str.{IsAscii};
-ghost use Rattle.tinyjson_number.specs.private.Layout.{layout_text};
+ghost use Rattle.tinyjson_number.specs.Layout.{layout_text};
 ghost use Rattle.tinyjson_number.specs.Text.{decimal_text, integer_text, magnitude_text};
 ghost use Rattle.tinyjson_number.specs.Text.{scientific_text};
 

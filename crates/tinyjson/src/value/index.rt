@@ -7,7 +7,7 @@ ghost use Rattle.std.specs.Vec.{with_item};
 ghost use Rattle.tinyjson.specs.Access.{array_part, object_part};
 ghost use Rattle.tinyjson.specs.Index.{item_at, member_at, with_item_at, IsItemAt, IsMemberAt};
 ghost use Rattle.tinyjson.specs.Index.{IsMapWith, IsWithMember};
-ghost use Rattle.tinyjson.specs.Index.Rows.{array_row, object_row};
+ghost use Rattle.tinyjson.specs.private.Rows.{array_row, object_row};
 ghost use Rattle.tinyjson.specs.contracts.value.JsonValue.{the_row};
 ghost use Rattle.tinyjson.specs.declared.value.JsonValue as made;
 

@@ -3,7 +3,7 @@ use Rattle.std.proofs.lemmas.Str.{encodes-IsAscii}
 use Rattle.std.proofs.lemmas.Int.{to_z-of_z}
 use Rattle.std.specs.Int.{w128}
 use mir.Val.{SFits}
-use Rattle.tinyjson_number.specs.private.Layout.{power_text, layout_text}
+use Rattle.tinyjson_number.specs.Layout.{power_text, layout_text}
 use Rattle.tinyjson_number.specs.Number.{Canonical}
 use Rattle.tinyjson_number.specs.Text.{decimal_text}
 use Rattle.tinyjson_number.specs.declared.text.Layout.{Layout}

@@ -19,7 +19,7 @@ use Rattle.tinyjson.proofs.Values.Index.Places.{Place, place_val, place_out}
 use Rattle.tinyjson.specs.declared.value.JsonValue as made
 use Rattle.tinyjson.specs.Access.{JsonMap, object_part}
 use Rattle.tinyjson.specs.Index.{member_at, IsMapWith, IsWithMember}
-use Rattle.tinyjson.specs.Index.Rows.{object_row}
+use Rattle.tinyjson.specs.private.Rows.{object_row}
 use Rattle.tinyjson.specs.contracts.value.JsonValue.{the_row}
 use Rattle.tinyjson.specs.contracts.value.index.JsonValueIndexMutRefStr.index_mut as f
 use Rattle.tinyjson.proofs.value.index.JsonValueIndexMutRefStr.index_mut.Statement.{statement}

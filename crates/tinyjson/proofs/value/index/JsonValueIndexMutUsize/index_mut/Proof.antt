@@ -7,7 +7,7 @@ use Rattle.std.specs.Vec.{with_item}
 use Rattle.tinyjson.specs.declared.value.JsonValue as made
 use Rattle.tinyjson.specs.Access.{array_part}
 use Rattle.tinyjson.specs.Index.{item_at}
-use Rattle.tinyjson.specs.Index.Rows.{array_row}
+use Rattle.tinyjson.specs.private.Rows.{array_row}
 use Rattle.tinyjson.specs.contracts.value.JsonValue.{the_row}
 use Rattle.tinyjson.specs.contracts.value.index.JsonValueIndexMutUsize.index_mut as f
 use Rattle.tinyjson.proofs.value.index.JsonValueIndexMutUsize.index_mut.Statement.{statement}
