@@ -10,4 +10,5 @@ pub mod Parts
 pub mod Integers
 pub mod Laws
 pub mod Layouts
+pub mod Buffers
 pub mod Callers

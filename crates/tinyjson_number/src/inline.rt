@@ -31,6 +31,24 @@ impl Inline {
         }
     }
 
+    /// How many there are.
+    #[inline(always)]
+    pub(crate) fn len(&self) -> usize
+        ensures value { result ≡ self.now.len }
+        ensures within { result ≤ 24 }
+    {
+        self.len as usize
+    }
+
+    /// The bytes, and what stands behind them.
+    #[inline(always)]
+    pub(crate) fn room(&self) -> &[u8]
+        ensures value { result.now ≡ self.now.bytes }
+        ensures len { length result.now ≡ 24 }
+    {
+        &self.bytes
+    }
+
     pub(crate) fn as_bytes(&self) -> &[u8]
         ensures { result.now ≡ take self.now.len self.now.bytes }
     {

@@ -4,6 +4,7 @@
 //! in the range of `i64`. Each number has one such form, so equal numbers have equal texts.
 #![tactic(auto)]
 
+mod buffer;
 mod digits;
 mod error;
 mod inline;

@@ -1,5 +1,6 @@
 //! The number itself.
-ghost use Rattle.std.specs.Prelude.{◌≡◌, ◌↔◌, ◌+◌, ◌<◌, ◌≤◌, ◌^◌, ◌++◌, length, IsTrue, IfOk, IsOk};
+ghost use Rattle.std.specs.Prelude.{◌≡◌, ◌↔◌, ◌+◌, ◌<◌, ◌≤◌, ◌^◌, ◌++◌, length, take, IsTrue, IfOk, IsOk};
+ghost use Rattle.std.specs.Prelude.{IfSome};
 ghost use Rattle.tinyjson_number.specs.Decimal.{zero_decimal};
 ghost use Rattle.tinyjson_number.specs.Canonical.{is_canonical};
 ghost use Rattle.tinyjson_number.specs.Number.{digits_of};
@@ -132,6 +133,18 @@ impl JsonNumber {
         ensures { result.now ≡ self.now.decimal.digits }
     {
         self.digits.as_bytes()
+    }
+
+    // The digits and how many they are, if they are kept in the number itself.
+    #[inline(always)]
+    pub(crate) fn few_digits(&self) -> Option<(&[u8], usize)>
+        ensures { IfSome result (λ r. (take r.1 r.0.now ≡ self.now.decimal.digits)
+            × (r.1 ≤ 24) × (24 ≤ length r.0.now)) }
+    {
+        match &self.digits {
+            Digits::Short(digits) => Some((digits.room(), digits.len())),
+            Digits::Long(_) => None,
+        }
     }
 
     /// The power of ten that the digits, read as a whole number, are multiplied by: 0 for zero.

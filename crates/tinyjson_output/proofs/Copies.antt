@@ -1,16 +1,9 @@
 -- Bytes that are put by two vectors.
-use Rattle.std.proofs.Common.{◌≡◌, ℕ, ◌+◌, ◌-◌, ◌≤◌, List, ◌++◌, length, take, drop, sym, ◌∙◌, ap, append_assoc, take-append-drop, length-drop, arith}
-use Rattle.std.proofs.Math.Seq.{take-append-add}
-use Rattle.std.proofs.lemmas.List.{take_all, take-take, length-take-le}
+use Rattle.std.proofs.Common.{◌≡◌, ℕ, ◌+◌, ◌-◌, ◌≤◌, List, ◌++◌, length, take, drop, ◌∙◌, ap, append_assoc, take-append-drop, length-drop, arith}
+use Rattle.std.proofs.lemmas.List.{take_all}
 use Rattle.std.proofs.lemmas.Simd.{take_more_put_chunk, length-chunk, length-put_chunk}
 use Rattle.std.specs.Simd.Lanes.{chunk, put_chunk}
-
--- of what was put at the place only the beginning stays
-front_stays : (old new run : List ℕ) (at k n : ℕ) → n ≤ k → at ≤ length old → take (at + k) new ≡ take at old ++ take k run → take (at + n) new ≡ take at old ++ take n run
-front_stays old new run at k n le within e =
-    let long = length-take-le at old within in
-    sym (take-take (at + n) (at + k) new (omega arith)) ∙ ap (take (at + n)) e ∙ ap (λ j. take (j + n) (take at old ++ take k run)) (sym long)
-    ∙ take-append-add (take at old) (take k run) n ∙ ap (λ x. take at old ++ x) (take-take n k run le)
+use Rattle.tinyjson_number.proofs.Callers.{front_stays}
 
 -- the first n bytes and the last n bytes are all
 pub both_ends : (n at : ℕ) (old bytes : List ℕ) → n ≤ length bytes → length bytes ≤ n + n → at + length bytes ≤ length old

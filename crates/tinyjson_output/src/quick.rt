@@ -30,6 +30,16 @@ pub fn quick_number(room: &mut Room, number: &JsonNumber) -> bool
         (waiting room.new ≡ waiting room.old ++ decimal_text number.now.decimal)
         (waiting room.new ≡ waiting room.old) }
 {
+    room.append_short(number) || append_layout(room, number)
+}
+
+// The same by the parts of the number's text.
+#[inline(never)]
+fn append_layout(room: &mut Room, number: &JsonNumber) -> bool
+    ensures { MatchBool result
+        (waiting room.new ≡ waiting room.old ++ decimal_text number.now.decimal)
+        (waiting room.new ≡ waiting room.old) }
+{
     let layout = number.layout();
     let sides = layout.front.len().saturating_add(layout.back.len());
     let count = sides

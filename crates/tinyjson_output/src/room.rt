@@ -1,10 +1,13 @@
 //! The bytes that wait, and the write loop.
 ghost use Rattle.std.specs.Prelude.{◌≡◌, ◌≤◌, ◌+◌, ◌++◌, [], length, take, IsTrue, OnOk};
+ghost use Rattle.std.specs.Bool.{MatchBool};
+ghost use Rattle.tinyjson_number.specs.Text.{decimal_text};
 ghost use Rattle.tinyjson_output.specs.Room.{waiting, Sends};
 ghost use Rattle.tinyjson_output.specs.Written.{WritesPrefix};
 
 use std::io::{self, ErrorKind, Write};
 use std::simd::prelude::*;
+use tinyjson_number::JsonNumber;
 
 // How many bytes wait at most.
 const ROOM: usize = 4096;
@@ -36,6 +39,25 @@ impl Room {
     {
         copy(&mut self.bytes[..], self.len, bytes);
         self.len += bytes.len();
+    }
+
+    /// Lets the text of a number wait behind the others, if it is short and fits.
+    #[inline(always)]
+    pub fn append_short(&mut self, number: &JsonNumber) -> bool
+        ensures { MatchBool result
+            (waiting self.new ≡ waiting self.old ++ decimal_text number.now.decimal)
+            (waiting self.new ≡ waiting self.old) }
+    {
+        if self.len > ROOM {
+            return false;
+        }
+        match number.write_short(&mut self.bytes[self.len..]) {
+            Some(count) => {
+                self.len += count;
+                true
+            }
+            None => false,
+        }
     }
 
     /// How many bytes wait.

@@ -38,6 +38,16 @@ fn digits_of_fractions(rt: HostRuntime) -> Result<(), Fail> {
 }
 
 #[test]
+fn short_texts_of_numbers(rt: HostRuntime) -> Result<(), Fail> {
+    let alloc = rt.alloc();
+    let mut buffer = [0; 32];
+    let count = JsonNumber::from_text(alloc, "-1.50")?.write_short(&mut buffer);
+    assert_eq!(rt; count, Some(4));
+    assert_eq!(rt; &buffer[..4], b"-1.5".as_slice());
+    Ok(())
+}
+
+#[test]
 fn copies_of_numbers(rt: HostRuntime) -> Result<(), Fail> {
     let alloc = rt.alloc();
     let number = JsonNumber::from_text(alloc, "-0.5")?;
