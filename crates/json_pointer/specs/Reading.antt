@@ -1,5 +1,5 @@
 -- What the reading of a pointer's text answers.
-use Rattle.std.specs.Prelude.{◌≡◌, ◌≢◌, ◌↔◌, ◌⊎◌, ℕ, List, [], ◌∷◌, ◌++◌, Result, Ok, Err, MatchResult, String, Vec, map}
+use Rattle.std.specs.Prelude.{◌≡◌, ◌≢◌, ◌↔◌, ◌⊎◌, ℕ, List, [], ◌∷◌, ◌++◌, Result, Ok, Err, MatchResult, String, Vec, map, codes}
 use Rattle.std.specs.declared.alloc.Global.{Global}
 use Rattle.tinyjson.specs.View.{text}
 use Rattle.json_pointer.specs.Text.{escape_char, pointer_text}
@@ -49,3 +49,9 @@ ReadsTokens cs (Err OutOfMemory) = Unit {0}
 -- The character that is escaped with c behind a `~`, or a refusal, where none is.
 abbrev pub Unescapes : ℕ → Result ℕ PointerError → Type 0
 Unescapes c result = MatchResult result (λ d. escape_char d ≡ 126 ∷ c ∷ []) (λ e. (e ≡ BadEscape) × ¬ BeginsEscape (c ∷ []))
+
+-- the words of a refusal
+abbrev pub pointer_error_text : PointerError → List ℕ
+pointer_error_text NoSlash = codes "the pointer begins with no '/'"
+pointer_error_text BadEscape = codes "a '~' is followed by neither '0' nor '1'"
+pointer_error_text OutOfMemory = codes "out of memory"

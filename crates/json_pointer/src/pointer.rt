@@ -1,9 +1,10 @@
 //! A pointer: the tokens of its text.
-ghost use Rattle.std.specs.Prelude.{◌≡◌, ◌∷◌, [], Some, OnOk, codes, encode_utf8_all};
+ghost use Rattle.std.specs.Prelude.{◌≡◌, ◌∷◌, [], Some, OnOk, OnErr, encode_utf8_all};
 ghost use Rattle.std.specs.Fmt.{WritesOnOk};
 ghost use Rattle.std.specs.Str.{chars};
 ghost use Rattle.tinyjson.specs.View.{text};
 ghost use Rattle.json_pointer.specs.Index.{HasIndexBefore};
+ghost use Rattle.json_pointer.specs.Reading.{pointer_error_text};
 ghost use Rattle.json_pointer.specs.Text.{escape_char, escape, pointer_text};
 ghost use Rattle.json_pointer.specs.Tokens.{tokens_of};
 ghost use Rattle.json_pointer.specs.declared.pointer.PointerError.{PointerError};
@@ -40,12 +41,14 @@ impl<T: Drop> From<AllocFailed<T>> for PointerError {
 }
 
 impl fmt::Display for PointerError {
+    ghost output = { λ e. Some (pointer_error_text e) };
+
     fn fmt<W: fmt::Write>(&self, f: &mut fmt::Formatter<W>) -> fmt::Result {
-        f.write_str(match self {
-            PointerError::NoSlash => "the pointer begins with no '/'",
-            PointerError::BadEscape => "a '~' is followed by neither '0' nor '1'",
-            PointerError::OutOfMemory => "out of memory",
-        })
+        match self {
+            PointerError::NoSlash => f.write_str("the pointer begins with no '/'"),
+            PointerError::BadEscape => f.write_str("a '~' is followed by neither '0' nor '1'"),
+            PointerError::OutOfMemory => f.write_str("out of memory"),
+        }
     }
 }
 
@@ -67,16 +70,19 @@ impl Pointer {
         }
     }
 
-    /// Puts a token in front: what this names in a value, it then names in the value's container.
+    /// Puts a token in front: what this names in a value, it then names in the value's container. If
+    /// memory runs out, the tokens are as they were.
     pub fn prepend(&mut self, token: String) -> Result<(), AllocError>
-        ensures { OnOk result (tokens_of self.new ≡ text token ∷ tokens_of self.old) }
+        ensures ok { OnOk result (tokens_of self.new ≡ text token ∷ tokens_of self.old) }
+        ensures err { OnErr result (tokens_of self.new ≡ tokens_of self.old) }
     {
         Ok(self.tokens.insert(0, token)?)
     }
 
-    /// Puts the token of an index in front.
+    /// Puts the token of an index in front. If memory runs out, the tokens are as they were.
     pub fn prepend_index(&mut self, alloc: Global, index: usize) -> Result<(), AllocError>
-        ensures { OnOk result (HasIndexBefore index (tokens_of self.old) (tokens_of self.new)) }
+        ensures ok { OnOk result (HasIndexBefore index (tokens_of self.old) (tokens_of self.new)) }
+        ensures err { OnErr result (tokens_of self.new ≡ tokens_of self.old) }
     {
         self.prepend(format!(in alloc; "{index}")?)
     }

@@ -31,7 +31,7 @@ returns-in-Some-2 t c =
     let schema : property s (text key) ≡ Some r = sym (c.in-Some-property.ensures ∙ ap (λ bs. property s (chars bs)) c.as_str.ensures.value) in
     let inner = subst (λ o. Validates r (view c.in-Some.member.now) (Ok o)) c.in-Some-2.is c.in_ok-place-in-Object.ensures in
     let tokens : tokens_of c.prepend.new.self ≡ text key ∷ tokens_of c.in-Some-2.place
-    = c.in_ok-prepend-in-Object.ensures ∙ ap (λ bs. chars bs ∷ tokens_of c.in-Some-2.place) (c.in_ok-from_str-in-Object.ensures.ok ∙ c.as_str-in-Some-2.ensures.value) in
+    = c.in_ok-prepend-in-Object.ensures.ok ∙ ap (λ bs. chars bs ∷ tokens_of c.in-Some-2.place) (c.in_ok-from_str-in-Object.ensures.ok ∙ c.as_str-in-Some-2.ensures.value) in
     told s v c.prepend.new.self
     (subst (IsInvalidAt s v) (sym tokens)
     (member_invalid s v r m.entries done c.next.new.self (key, c.in-Some.member.now) (tokens_of c.in-Some-2.place) (ap view c.in-Object.is ∙ view_Object m) split gives.4 schema inner.0))
@@ -79,7 +79,7 @@ returns-in-Some-3 t c =
     let same = c.deref-item-items.ensures.value in
     let got : slice_get vs i ≡ Some x = ap (λ ys. slice_get ys i) (sym same) ∙ at_index c.deref-item-items.result.now i x c.loop-index-test.true c.item-item.is in
     let inner = subst (λ o. Validates r (view x) (Ok o)) c.in-Some-3.is c.in_ok-place-in-Array.ensures in
-    let before = c.in_ok-prepend_index-in-Array.ensures in
+    let before = c.in_ok-prepend_index-in-Array.ensures.ok in
     told s v c.prepend_index.new.self
     (subst (IsInvalidAt s v) (sym before.joined)
     (item_invalid s v r vs x i before.token (tokens_of c.in-Some-3.place) (ap view c.in-Array.is ∙ view_Array c.in-Array.items) (at_literal (Some r) s (codes "items") refl c.in-Some-keyword.ensures) before.named got inner.0))
