@@ -1,5 +1,5 @@
 -- What is written of a tree is what is written of its text.
-use Rattle.std.proofs.Common.{◌≡◌, ℕ, List, Option, None, Result, Ok, Err}
+use Rattle.std.proofs.Common.{◌≡◌, ℕ, List, Option, None, Result, Ok, Err, inr}
 use Rattle.tinyjson.specs.Grammar.{IsText}
 use Rattle.tinyjson.specs.Tree.{Tree}
 use Rattle.json_pointer.specs.Text.{pointer_text}
@@ -11,6 +11,6 @@ pub found : (pointer text : List ℕ) (ks : List (List ℕ)) (t : Tree) (old new
 found pointer text ks t old new (Ok x) p s w = record { tokens = ks; tree = t; is_pointer = p; is_text = s; writes = w }
 found pointer text ks t old new (Err NoPart) p s w = record { tokens = ks; tree = t; is_pointer = p; is_text = s; writes = w }
 found pointer text ks t old new (Err Writing) p s w = record { tokens = ks; tree = t; is_pointer = p; is_text = s; writes = w }
-found pointer text ks t old new (Err OutOfMemory) p s w = tt
+found pointer text ks t old new (Err OutOfMemory) p s w = inr (record { tokens = ks; tree = t; is_pointer = p; is_text = s; writes = w })
 found pointer text ks t old new (Err (BadPointer e)) p s w = absurd w
 found pointer text ks t old new (Err (Refused e)) p s w = absurd w

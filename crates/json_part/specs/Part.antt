@@ -1,12 +1,17 @@
 -- What is written of a text.
-use Rattle.std.specs.Prelude.{◌≡◌, ℕ, List, [], ◌∷◌, ◌++◌, Option, Some, None, Result, Ok, Err, encode_utf8_all}
+use Rattle.std.specs.Prelude.{◌≡◌, ℕ, List, [], ◌∷◌, ◌++◌, Option, Some, None, Result, Ok, Err, ◌⊎◌, codes, encode_utf8_all}
 use Rattle.std.specs.Io.KnownBytes.{Appends}
+use Rattle.tinyjson.specs.Error.{error_kind, error_words}
 use Rattle.tinyjson.specs.Grammar.{IsText, IsAccepted}
+use Rattle.tinyjson.specs.JsonParseErrorKind.TheVariants as kind
+use Rattle.tinyjson.specs.Parser.{ParsesText}
 use Rattle.tinyjson.specs.Text.{compact}
 use Rattle.tinyjson.specs.Tree.{Tree}
-use Rattle.json_pointer.specs.Reading.{IsNoPointer}
+use Rattle.tinyjson.specs.Written.{WrittenPart}
+use Rattle.json_pointer.specs.Reading.{IsNoPointer, Reads, pointer_error_text}
 use Rattle.json_pointer.specs.Text.{pointer_text}
 use Rattle.json_pointer.specs.Walk.{part_at}
+use Rattle.json_pointer.specs.declared.pointer.PointerError.TheVariants as refusal
 use Rattle.json_part.specs.declared.part.PartError.{PartError}
 use Rattle.json_part.specs.declared.part.PartError.TheVariants.{BadPointer, Refused, NoPart, OutOfMemory, Writing}
 
@@ -17,12 +22,33 @@ status_of (Refused e) = 3
 status_of OutOfMemory = 4
 status_of Writing = 4
 
--- Of a tree the compact text of the part that the tokens name is written, and a line feed; or they name none.
+-- the words of an error; those of a text that is no pointer and of a refused one are told as they are
+abbrev pub error_text : PartError → List ℕ
+error_text (BadPointer e) = pointer_error_text e
+error_text (Refused e) = error_words e
+error_text NoPart = codes "the pointer names no part"
+error_text OutOfMemory = codes "out of memory"
+error_text Writing = codes "writing failed"
+
+-- the compact text in UTF-8, and a line feed
+abbrev pub line_of : Tree → List ℕ
+line_of t = encode_utf8_all (compact t) ++ 10 ∷ []
+
+-- the tokens name a part, and a beginning of its line is written
+abbrev pub WritesBeginning : List (List ℕ) → Tree → Option (List ℕ) → Option (List ℕ) → Type 0
+WritesBeginning ks t old new = (u : Tree) × (part_at t ks ≡ Some u) × WrittenPart old new (line_of u)
+
+-- Of a tree the line of the part that the tokens name is written, or a beginning of it where that failed; or they name none.
 abbrev pub WritesFound : List (List ℕ) → Tree → Option (List ℕ) → Option (List ℕ) → Result (Unit {0}) PartError → Type 0
-WritesFound ks t old new (Ok _) = (u : Tree) × (part_at t ks ≡ Some u) × Appends old new (encode_utf8_all (compact u) ++ 10 ∷ [])
+WritesFound ks t old new (Ok _) = (u : Tree) × (part_at t ks ≡ Some u) × Appends old new (line_of u)
 WritesFound ks t old new (Err NoPart) = (part_at t ks ≡ None) × (new ≡ old)
-WritesFound ks t old new (Err Writing) = Unit {0}
+WritesFound ks t old new (Err Writing) = WritesBeginning ks t old new
+WritesFound ks t old new (Err OutOfMemory) = WritesBeginning ks t old new
 WritesFound ks t old new (Err _) = ⊥
+
+-- a write failed; the error is out of memory where that was wanted
+abbrev pub IsFailedWrite : Type 0 → PartError → Type 0
+IsFailedWrite wanted error = (wanted × (error ≡ OutOfMemory)) ⊎ (¬ wanted × (error ≡ Writing))
 
 -- A pointer's tokens, a text's tree, and what is written of them.
 pub record Finds (pointer text : List ℕ) (old new : Option (List ℕ)) (result : Result (Unit {0}) PartError) : Type 0 where
@@ -32,9 +58,11 @@ pub record Finds (pointer text : List ℕ) (old new : Option (List ℕ)) (result
   pub is_text : IsText None text tree
   pub writes : WritesFound tokens tree old new result
 
--- The two are a pointer and a JSON text, and the part is written; or one of them is none, and nothing is written.
+-- The two are a pointer and a JSON text, and the part is written; or one of them is none, as its reader says, and nothing is written.
 abbrev pub WritesPart : List ℕ → List ℕ → Option (List ℕ) → Option (List ℕ) → Result (Unit {0}) PartError → Type 0
-WritesPart pointer text old new (Err (BadPointer e)) = IsNoPointer pointer × (new ≡ old)
-WritesPart pointer text old new (Err (Refused e)) = ¬ IsAccepted None text × (new ≡ old)
-WritesPart pointer text old new (Err OutOfMemory) = Unit {0}
+WritesPart pointer text old new (Err (BadPointer e)) =
+    Reads pointer (Err e) × ¬ (e ≡ refusal.OutOfMemory) × IsNoPointer pointer × (new ≡ old)
+WritesPart pointer text old new (Err (Refused e)) =
+    ParsesText None text (Err e) × ¬ (error_kind e ≡ kind.OutOfMemory) × ¬ IsAccepted None text × (new ≡ old)
+WritesPart pointer text old new (Err OutOfMemory) = (new ≡ old) ⊎ Finds pointer text old new (Err OutOfMemory)
 WritesPart pointer text old new result = Finds pointer text old new result

@@ -1,16 +1,17 @@
 //! The part of a text that a pointer names.
-ghost use Rattle.std.specs.Prelude.{◌≡◌, OnOk, ◌∷◌, ◌++◌, [], encode_utf8_all};
-ghost use Rattle.std.specs.Io.KnownBytes.{Appends};
+ghost use Rattle.std.specs.IoError.{error_kind};
+ghost use Rattle.std.specs.Prelude.{◌≡◌, ◌∷◌, [], Some};
 ghost use Rattle.std.specs.Str.{chars};
-ghost use Rattle.tinyjson.specs.Text.{compact};
 ghost use Rattle.tinyjson.specs.View.{view};
+ghost use Rattle.tinyjson.specs.Written.{WritesPrefix};
 ghost use Rattle.json_pointer.specs.Tokens.{tokens_of};
-ghost use Rattle.json_part.specs.Part.{status_of, WritesFound, WritesPart};
+ghost use Rattle.json_part.specs.Part.{status_of, error_text, line_of};
+ghost use Rattle.json_part.specs.Part.{IsFailedWrite, WritesFound, WritesPart};
 
 use json_pointer::{Pointer, PointerError};
 use std::alloc::Global;
 use std::fmt;
-use std::io::{self, Write};
+use std::io::{self, ErrorKind, Write};
 use tinyjson::{JsonParseError, JsonValue};
 
 /// Why no part is written.
@@ -42,7 +43,10 @@ impl PartError {
     }
 }
 
+/// The words that the program writes behind its name.
 impl fmt::Display for PartError {
+    ghost output = { λ e. Some (error_text e) };
+
     fn fmt<W: fmt::Write>(&self, f: &mut fmt::Formatter<W>) -> fmt::Result {
         match self {
             PartError::BadPointer(error) => write!(f, "{error}"),
@@ -55,6 +59,9 @@ impl fmt::Display for PartError {
 }
 
 /// Writes the compact text of the part that the pointer names, and a line feed.
+///
+/// Both texts are read before anything is written. After `Writing`, and where memory ran out, a beginning
+/// of the line may stand written.
 ///
 /// ```
 /// write_part(alloc, "/a/0", r#"{"a":[7]}"#, &mut output)?; // 7 and a line feed
@@ -102,14 +109,33 @@ fn write_found<W: Write>(
     };
     match write_line(alloc, part, output) {
         Ok(()) => Ok(()),
-        Err(_) => Err(PartError::Writing),
+        Err(error) => Err(writing_error(error)),
     }
 }
 
+/// The error of a write that failed.
+fn writing_error(error: io::Error) -> PartError
+    ensures { IsFailedWrite (error_kind error ≡ ErrorKind.OutOfMemory) result }
+{
+    if error.kind() == ErrorKind::OutOfMemory {
+        return PartError::OutOfMemory;
+    }
+    PartError::Writing
+}
+
 fn write_line<W: Write>(alloc: Global, value: &JsonValue, output: &mut W) -> io::Result<()>
-    ensures { OnOk result (Appends (W.contents output.old) (W.contents output.new)
-        (encode_utf8_all (compact (view value.now)) ++ 10 ∷ [])) }
+    ensures { WritesPrefix (W.contents output.old) (W.contents output.new)
+        (line_of (view value.now)) result }
 {
     value.write_to(alloc, output)?;
-    output.write_all(b"\n")
+    end_line(output)
+}
+
+fn end_line<W: Write>(output: &mut W) -> io::Result<()>
+    ensures { WritesPrefix (W.contents output.old) (W.contents output.new) (10 ∷ []) result }
+{
+    if output.write(b"\n")? == 0 {
+        return Err(io::Error::new(ErrorKind::WriteZero, "the writer took no byte"));
+    }
+    Ok(())
 }
