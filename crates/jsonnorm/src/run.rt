@@ -1,5 +1,5 @@
 //! From the bytes of a reader to a value's normal text in a writer.
-ghost use Rattle.std.specs.Prelude.{◌≡◌, None, Some};
+ghost use Rattle.std.specs.Prelude.{None, Some};
 ghost use Rattle.std.specs.Str.{chars};
 ghost use Rattle.tinyjson.specs.Parser.{ParsesText};
 ghost use Rattle.jsonnorm.specs.Run.{Runs};
@@ -26,6 +26,8 @@ pub struct Options {
 ///
 /// All is read and parsed before anything is written. After a fault of writing a beginning of the
 /// line is written, and nothing is flushed.
+///
+/// The memory of the value is not given back: the program ends soon after.
 ///
 /// ```
 /// let mut output = Vec::new(alloc);
