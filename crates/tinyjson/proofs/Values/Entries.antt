@@ -62,6 +62,3 @@ members_from_lookups es fs h = members_from_find (members_of es) (members_of fs)
     by q (inr t) r = at q t
     by q (inl n) (inr t) = at q t
     by q (inl n) (inl m) = n ∙ sym m
-
-pub lookups_from_members : (es fs : List Seen) → members_of es ≡ members_of fs → SameLookups es fs
-lookups_from_members es fs h k = sym (find_members_of k es) ∙ (ap (find (text k)) h ∙ find_members_of k fs)

@@ -52,15 +52,6 @@ member_waits k first key v p q r u a b =
     b ∙ ap (λ z. z ++ enc v) a ∙ append_assoc p (separator first ++ ((34 ∷ [] ++ (escapes key ++ 34 ∷ [])) ++ 58 ∷ [])) (enc v)
     ∙ ap (λ z. p ++ z) (sym (compact_member None k first key v u refl) ∙ ap (λ z. z ++ t) (enc_separator first))
 
--- the last of a list is the first from its end
-first_is : {X : Type 0} (ys : List X) (d : X) → 0 < length ys → ys ≡ get_or ys 0 d ∷ drop 1 ys
-first_is [] d h = absurd (omega arith)
-first_is (y ∷ ys) d h = refl
-
-pub last_first : {X : Type 0} (xs : List X) (m : X) → 0 < length xs → m ≡ get_or xs (length xs - 1) m → reverse xs ≡ m ∷ drop 1 (reverse xs)
-last_first xs m h e =
-    first_is (reverse xs) m (omega (arith, length-reverse xs)) ∙ ap (λ z. z ∷ drop 1 (reverse xs)) (get_or-reverse xs 0 m h ∙ ap (λ i. get_or xs i m) (omega arith) ∙ sym e)
-
 -- the member that was looked at is gone
 pub skipped : (r : Option Gathered) (left : ℕ) (gs hs : List Gathered) (m : Gathered) → 0 < left → gs ≡ m ∷ drop 1 gs
     → MatchOption r ((take left gs ≡ []) × (drop left gs ≡ hs)) (λ x. (0 < left) × (gs ≡ x ∷ hs)) → gs ≡ m ∷ hs
