@@ -36,11 +36,17 @@ pub use tinyjson_grammar::JsonKind;
 /// ```
 #[derive(Debug, Drop)]
 pub enum JsonValue {
+    /// An exact decimal number.
     Number(JsonNumber),
+    /// A truth value.
     Boolean(bool),
+    /// A string of Unicode scalar values.
     String(String),
+    /// Null.
     Null,
+    /// An array, its items in order.
     Array(Vec<JsonValue>),
+    /// An object, its members by their keys.
     Object(HashMap<String, JsonValue>),
 }
 

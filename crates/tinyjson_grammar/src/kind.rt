@@ -10,11 +10,17 @@ use std::fmt;
 /// ```
 #[derive(Clone, Copy, PartialEq, Eq, Debug)]
 pub enum JsonKind {
+    /// Null.
     Null,
+    /// A truth value.
     Boolean,
+    /// An exact decimal number.
     Number,
+    /// A string of Unicode scalar values.
     String,
+    /// An array, its items in order.
     Array,
+    /// An object, its members by their keys.
     Object,
 }
 
