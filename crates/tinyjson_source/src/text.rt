@@ -3,7 +3,7 @@ ghost use Rattle.std.specs.Prelude.{◌≡◌, ◌-◌, length, slice_get};
 ghost use Rattle.std.specs.Char.{len_utf8};
 ghost use Rattle.std.specs.Str.{IsUtf8, IsCharBoundary, chars};
 ghost use Rattle.tinyjson_grammar.specs.Characters.{is_white};
-ghost use Rattle.tinyjson_grammar.specs.Position.{advance, position_at, origin};
+ghost use Rattle.tinyjson_grammar.specs.Position.{advance, origin};
 ghost use Rattle.tinyjson_source.specs.Slice.{before, behind, run_end, NextChar};
 ghost use Rattle.tinyjson_source.specs.Slice.Laws.{line_bound, column_bound, shown_once};
 ghost use Rattle.tinyjson_source.specs.Slice.Laws.{shown_first, nothing_left};

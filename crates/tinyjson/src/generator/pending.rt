@@ -22,7 +22,7 @@ const NEAR: usize = 64;
 // The open containers, the innermost last. The first 64 take no memory.
 #[derive(Drop)]
 pub(super) struct Stack<'a> {
-    near: [Frame<'a>; 64],
+    near: [Frame<'a>; NEAR],
     far: Vec<Frame<'a>>,
     depth: usize,
 }
@@ -37,7 +37,7 @@ impl<'a> Stack<'a> {
             first: true,
         };
         Stack {
-            near: [none; 64],
+            near: [none; NEAR],
             far: Vec::new(alloc),
             depth: 0,
         }

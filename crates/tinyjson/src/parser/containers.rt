@@ -1,5 +1,5 @@
 //! Arrays and objects (RFC 8259, sections 4 and 5).
-ghost use Rattle.std.specs.Prelude.{◌≡◌, ◌<◌, ◌≤◌, [], ◌∷◌, true, false, OnOk, IfOk, Option, Some};
+ghost use Rattle.std.specs.Prelude.{◌≡◌, ◌<◌, ◌≤◌, true, false, OnOk, IfOk, Option, Some};
 ghost use Rattle.std.specs.Prelude.{ℕ};
 ghost use Rattle.tinyjson_grammar.specs.Machine.{awaited, colon, next, complete, fits};
 ghost use Rattle.tinyjson.specs.private.Stack.{at, frames, AwaitsKey, Innermost, IsSound};

@@ -1,5 +1,5 @@
 //! Typed access to the content of a value.
-ghost use Rattle.std.specs.Prelude.{◌≡◌, Option, IsSome, Some, None, option_map, refl};
+ghost use Rattle.std.specs.Prelude.{◌≡◌, Option, IsSome, Some, None, option_map};
 ghost use Rattle.tinyjson.specs.declared.value.JsonValue as made;
 ghost use Rattle.tinyjson.specs.Access.{number_part, boolean_part, string_part, null_part};
 ghost use Rattle.tinyjson.specs.Access.{array_part, object_part};
