@@ -25,7 +25,7 @@ pub fn pair(high: u16, low: u16) -> char
     requires low { is_low low ≡ true }
     ensures { result ≡ pair_of high low }
 {
-    char::from_u32(0x10000 + (high as u32 - 0xd800) * 1024 + (low as u32 - 0xdc00)).unwrap_or(' ')
+    char::from_u32(0x10000 + (high as u32 - 0xd800) * 1024 + (low as u32 - 0xdc00)).unwrap()
 }
 
 /// Appends a character, unless memory runs out.
