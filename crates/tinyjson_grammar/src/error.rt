@@ -1,10 +1,10 @@
 //! Why a text was refused.
 ghost use Rattle.std.specs.Int.{is_in_range};
-ghost use Rattle.std.specs.Prelude.{◌≡◌, Some};
+ghost use Rattle.std.specs.Prelude.{◌≡◌, ◌++◌, Some, codes};
 ghost use Rattle.tinyjson_grammar.specs.Words.{kind_words, shown};
 
 use crate::kind::JsonKind;
-use std::fmt;
+use std::fmt::{self, Display};
 
 /// Why a text was refused.
 ///
@@ -77,6 +77,19 @@ impl fmt::Display for Shown {
     }
 }
 
+// What was expected, and the character found in its place.
+#[derive(Clone, Copy)]
+struct Instead(&'static str, char);
+
+impl fmt::Display for Instead {
+    ghost output = { λ i. Some (i.0.now ++ (codes " but actually found '"
+        ++ (shown i.1 ++ codes "'"))) };
+
+    fn fmt<W: fmt::Write>(&self, f: &mut fmt::Formatter<W>) -> fmt::Result {
+        write!(f, "{} but actually found '{}'", self.0, Shown(self.1))
+    }
+}
+
 /// Whether messages show the character itself.
 fn is_printable(c: char) -> bool
     ensures { result ≡ is_in_range 32 126 c }
@@ -94,21 +107,11 @@ impl fmt::Display for JsonParseErrorKind {
             Self::InvalidCharacter(c) => write!(f, "Invalid character: {}", Shown(c)),
             Self::ExpectedEof(c) => write!(f, "Expected EOF but got character '{}'", Shown(c)),
             Self::KeyNotString(kind) => write!(f, "Key of object must be string but found {kind}"),
-            Self::ExpectedColon(c) => write!(
-                f,
-                "':' is expected after key of object but actually found '{}'",
-                Shown(c)
-            ),
-            Self::ExpectedCommaOrBrace(c) => write!(
-                f,
-                "',' or '}}' is expected for object but actually found '{}'",
-                Shown(c)
-            ),
-            Self::ExpectedCommaOrBracket(c) => write!(
-                f,
-                "',' or ']' is expected for array but actually found '{}'",
-                Shown(c)
-            ),
+            Self::ExpectedColon(c) => Instead("':' is expected after key of object", c).fmt(f),
+            Self::ExpectedCommaOrBrace(c) => Instead("',' or '}' is expected for object", c).fmt(f),
+            Self::ExpectedCommaOrBracket(c) => {
+                Instead("',' or ']' is expected for array", c).fmt(f)
+            }
             Self::InvalidUtf16 => f.write_str("Invalid UTF-16 sequence"),
             Self::InvalidHexDigit(c) => {
                 f.write_str("Unicode character must be \\uXXXX (X is hex character) format")?;
@@ -119,11 +122,8 @@ impl fmt::Display for JsonParseErrorKind {
                 write!(f, "String cannot contain control character {}", Shown(c))
             }
             Self::UnexpectedInLiteral(c) => {
-                write!(
-                    f,
-                    "Unexpected character '{}' while parsing a literal",
-                    Shown(c)
-                )
+                let c = Shown(c);
+                write!(f, "Unexpected character '{c}' while parsing a literal")
             }
             Self::EmptyInteger => f.write_str("Integer part must not be empty in number literal"),
             Self::LeadingZero => {
