@@ -17,6 +17,7 @@ use Rattle.tinyjson_number.specs.private.Scan.{exponent_cap, capped, shifted}
 use Rattle.tinyjson_number.specs.Reading.{Reads, ReadsNumeral, plain}
 use Rattle.tinyjson_number.specs.Error.{of_literal}
 use Rattle.tinyjson_number.specs.declared.error.JsonNumberError.{JsonNumberError}
+use Rattle.tinyjson_number.specs.declared.error.JsonNumberError.TheVariants as number
 use Rattle.tinyjson_number.specs.declared.error.LiteralError.{LiteralError}
 use Rattle.tinyjson_number.specs.declared.error.LiteralError.TheVariants.{OutOfRange, OutOfMemory}
 use Rattle.tinyjson_number.proofs.Strips.{digits_leading, digits_trailing, first_leading, first_trailing, last_trailing}
@@ -159,3 +160,9 @@ reads_error text n OutOfMemory s r = (value n, (n, s, refl, r))
 pub refused_so : (text : List ℕ) (n : Numeral) (l : LiteralError) (r : Result Canonical JsonNumberError) → IsErrAnd r (λ e. e ≡ of_literal l) → Spells n text → ReadsNumeral n (Err l) → Reads text r
 refused_so text n l (Ok x) h s k = absurd h
 refused_so text n l (Err e) h s k = subst (λ (x : JsonNumberError). Reads text (Err x)) (sym h) (reads_error text n l s k)
+
+-- no want of memory is passed on where there is none
+pub refused_short : (l : LiteralError) (r : Result Canonical JsonNumberError) → IsErrAnd r (λ e. e ≡ of_literal l) → ¬ (l ≡ OutOfMemory) → ¬ (r ≡ Err number.OutOfMemory)
+refused_short l (Ok x) h never is = absurd h
+refused_short OutOfMemory (Err e) h never is = never refl
+refused_short OutOfRange (Err e) h never is = absurd (cc)

@@ -1,7 +1,7 @@
 //! The number that a text spells (RFC 8259, section 6).
 ghost use Rattle.std.specs.Prelude.{◌≡◌, ℕ, ◌+◌, ◌<◌, ◌≤◌, ◌^◌, ◌++◌, length, take, drop, min, pos};
 ghost use Rattle.std.specs.Prelude.{neg_ℤ, ◌≤ℤ◌, None};
-ghost use Rattle.std.specs.Prelude.{option_map, IfSome, IsOk, MatchOption, FitsSigned, IsTrue};
+ghost use Rattle.std.specs.Prelude.{option_map, IfSome, IsOk, MatchOption, FitsSigned, IsTrue, Err};
 ghost use Rattle.std.specs.Int.{w64};
 ghost use Rattle.std.specs.List.{prefix_len};
 ghost use Rattle.std.specs.Char.{is_ascii_digit};
@@ -17,6 +17,8 @@ ghost use Rattle.tinyjson_number.specs.private.Scan.{exponent_at, exponent_digit
 ghost use Rattle.tinyjson_number.specs.private.Scan.{capped, scan, shifted};
 ghost use Rattle.tinyjson_number.specs.Reading.{Reads, ReadsNumeral, numeral_of, exponent_of};
 ghost use Rattle.tinyjson_number.specs.Reading.{plain, plain_exponent, plain_numeral};
+ghost use Rattle.tinyjson_number.specs.declared.error.LiteralError.TheVariants as literal_error;
+ghost use Rattle.tinyjson_number.specs.declared.error.JsonNumberError.TheVariants as number_error;
 
 use crate::error::{JsonNumberError, LiteralError};
 use crate::inline::ROOM;
@@ -67,7 +69,8 @@ impl JsonNumber {
     ///
     /// It answers `NotANumber` exactly where the text is no number of the grammar (RFC 8259, section 6),
     /// `OutOfRange` exactly where it is one whose power of ten, behind its last digit that is not `0`, is
-    /// out of the range of `i64`, and `OutOfMemory` only of a text that has a decimal.
+    /// out of the range of `i64`, and `OutOfMemory` only of a text of more than 24 bytes that has a
+    /// decimal.
     ///
     /// `1.50e1` is 15, `-0` is zero, and ` 1`, `01` and `1.` are no numbers.
     ///
@@ -76,7 +79,8 @@ impl JsonNumber {
     /// assert!(rt; JsonNumber::from_text(alloc, "01").is_err());
     /// ```
     pub fn from_text(alloc: Global, text: &str) -> Result<JsonNumber, JsonNumberError>
-        ensures { Reads text.now result }
+        ensures reads { Reads text.now result }
+        ensures short { length text.now ≤ 24 → ¬ (result ≡ Err number_error.OutOfMemory) }
     {
         match read(text.as_bytes()) {
             None => Err(JsonNumberError::NotANumber),
@@ -93,7 +97,8 @@ impl JsonNumber {
     /// ```
     pub fn from_literal(alloc: Global, literal: &str) -> Result<JsonNumber, LiteralError>
         requires { (n : Numeral) × Spells n literal.now }
-        ensures { (n : Numeral) → Spells n literal.now → ReadsNumeral n result }
+        ensures reads { (n : Numeral) → Spells n literal.now → ReadsNumeral n result }
+        ensures short { length literal.now ≤ 24 → ¬ (result ≡ Err literal_error.OutOfMemory) }
     {
         match read(literal.as_bytes()) {
             None => unreachable!(),
@@ -105,8 +110,8 @@ impl JsonNumber {
     /// themselves, as a parser, so that its digits are looked at no second time but to strip zeros.
     ///
     /// It answers `OutOfRange` exactly where the power of ten behind the last digit that is not `0` is out
-    /// of the range of `i64`, and `OutOfMemory` only of a number that has a decimal. At most 24 digits
-    /// without an exponent need no memory.
+    /// of the range of `i64`, and `OutOfMemory` only of a number that has a decimal. At most 24 digits,
+    /// beside those of the exponent, need no memory, and without an exponent always give a number.
     ///
     /// ```
     /// let number = JsonNumber::from_parts(alloc, parts)?;
@@ -119,6 +124,8 @@ impl JsonNumber {
         ensures reads { ReadsNumeral (numeral_of parts.entry) result }
         ensures few { parts.entry.exponent ≡ None
             → length parts.entry.whole.now + length parts.entry.fraction.now ≤ 24 → IsOk result }
+        ensures short { length parts.entry.whole.now + length parts.entry.fraction.now ≤ 24
+            → ¬ (result ≡ Err literal_error.OutOfMemory) }
     {
         if parts.exponent.is_none()
             && parts.whole.len() + parts.fraction.len() <= ROOM
@@ -153,6 +160,8 @@ fn uneven(alloc: Global, parts: NumberParts<'_>) -> Result<JsonNumber, LiteralEr
     ensures reads { ReadsNumeral (numeral_of parts.entry) result }
     ensures few { parts.entry.exponent ≡ None
         → length parts.entry.whole.now + length parts.entry.fraction.now ≤ 24 → IsOk result }
+    ensures short { length parts.entry.whole.now + length parts.entry.fraction.now ≤ 24
+        → ¬ (result ≡ Err literal_error.OutOfMemory) }
 {
     if parts.exponent.is_none() && parts.whole.len() + parts.fraction.len() <= ROOM {
         return Ok(short(parts.negative, parts.whole, parts.fraction));
@@ -196,7 +205,9 @@ fn is_bare(whole: &[u8], fraction: &[u8]) -> bool
 fn long(alloc: Global, parts: NumberParts<'_>) -> Result<JsonNumber, LiteralError>
     requires numeral { IsNumeral (numeral_of parts) }
     requires room { length parts.whole.now + length parts.fraction.now < 2 ^ 64 }
-    ensures { ReadsNumeral (numeral_of parts.entry) result }
+    ensures reads { ReadsNumeral (numeral_of parts.entry) result }
+    ensures short { length parts.entry.whole.now + length parts.entry.fraction.now ≤ 24
+        → ¬ (result ≡ Err literal_error.OutOfMemory) }
 {
     let kept = strip(parts.whole, parts.fraction);
     if kept.whole.len() + kept.fraction.len() == 0 {

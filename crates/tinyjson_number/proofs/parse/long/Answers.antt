@@ -10,15 +10,15 @@ use Rattle.tinyjson_number.proofs.DecimalTrip.{digits_join}
 use Rattle.tinyjson_number.proofs.Readings.{kept_is, zero_value, zero_in_range, value_kept, value_in, value_out, memory_refused}
 use Rattle.tinyjson_number.proofs.parse.long.Goals as goal
 
-pub returns-then-kept-eq0 : goal.returns-then-kept-eq0
-returns-then-kept-eq0 c =
+pub returns-then-kept-eq0-clause-reads : goal.returns-then-kept-eq0-clause-reads
+returns-then-kept-eq0-clause-reads c =
     let n : Numeral = numeral_of c.args.parts in
     let empty : length (significant (n.whole ++ n.fraction)) ≡ 0 = omega (arith, ap length c.strip-kept.ensures.digits, length-append {A = ℕ}) in
     let none : significant (n.whole ++ n.fraction) ≡ [] = nil_from_length _ empty in
     (c.zero.ensures ∙ sym (zero_value n none), zero_in_range n none)
 
-pub returns-in_default : goal.returns-in_default
-returns-in_default c =
+pub returns-in_default-clause-reads : goal.returns-in_default-clause-reads
+returns-in_default-clause-reads c =
     let n : Numeral = numeral_of c.args.parts in
     let s : List ℕ = c.strip-kept.result.whole.now ++ c.strip-kept.result.fraction.now in
     let some : 0 < length s = omega (arith, length-append {A = ℕ}) in
@@ -35,8 +35,8 @@ of_digits-requires-clause-canonical c =
     let fits : FitsSigned w64 p = search rules in
     rw (to_z-of_z w64 p fits) (kept_is n.negative s p (omega (arith, length-append {A = ℕ})) (n.whole ++ n.fraction) c.strip-kept.ensures.digits (digits_join n.whole n.fraction c.requires.numeral.whole c.requires.numeral.fraction) fits)
 
-pub returns-in_err-of_digits : goal.returns-in_err-of_digits
-returns-in_err-of_digits c =
+pub returns-in_err-of_digits-clause-reads : goal.returns-in_err-of_digits-clause-reads
+returns-in_err-of_digits-clause-reads c =
     let n : Numeral = numeral_of c.args.parts in
     let s : List ℕ = c.strip-kept.result.whole.now ++ c.strip-kept.result.fraction.now in
     let some : 0 < length s = omega (arith, length-append {A = ℕ}) in
@@ -47,8 +47,8 @@ returns-in_err-of_digits c =
     let power = rw (to_z-of_z w128 c.capped_exponent-exponent.result wide, c.capped_exponent-exponent.ensures.value) at c.in-Some.ensures in
     memory_refused n c.from_residual.result c.from_residual.ensures.1 (value_in n s c.strip-kept.result.zeros c.strip-kept.ensures.digits some (c.strip-kept.ensures.zeros found) (omega (arith, c.requires.room)) (omega arith) p power fits)
 
-pub returns : goal.returns
-returns c =
+pub returns-clause-reads : goal.returns-clause-reads
+returns-clause-reads c =
     let n : Numeral = numeral_of c.args.parts in
     let s : List ℕ = c.strip-kept.result.whole.now ++ c.strip-kept.result.fraction.now in
     let some : 0 < length s = omega (arith, length-append {A = ℕ}) in

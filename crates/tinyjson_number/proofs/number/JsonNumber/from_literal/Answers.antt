@@ -23,10 +23,17 @@ from_parts-requires-clause-room c =
 pub unreachable-requires : goal.unreachable-requires
 unreachable-requires c = none_spells c.as_bytes.result.now (none_of (scan c.as_bytes.result.now) c.in-None.ensures) c.requires.0 (subst (Spells c.requires.0) (sym c.as_bytes.ensures.value) c.requires.1)
 
-pub returns : goal.returns
-returns c = λ n s.
+pub returns-clause-reads : goal.returns-clause-reads
+returns-clause-reads c = λ n s.
     let t = c.as_bytes.result.now in
     let k = plain_of (scan t) (numeral_of c.in-Some.parts) c.in-Some.ensures in
     let spelled = subst (Spells k.0) c.as_bytes.ensures.value (scan_sound t k.0 k.1) in
     let read = parts_read k.0 c.in-Some.parts k.2 c.from_parts.result c.from_parts.ensures.reads in
     subst (λ (m : Numeral). ReadsNumeral m c.from_parts.result) (one_numeral c.args.literal.now k.0 n spelled s) read
+
+pub returns-clause-short : goal.returns-clause-short
+returns-clause-short c = λ few is.
+    let t = c.as_bytes.result.now in
+    let k = plain_of (scan t) (numeral_of c.in-Some.parts) c.in-Some.ensures in
+    let room = spelled_room k.0 t (scan_sound t k.0 k.1) in
+    c.from_parts.ensures.short (omega (arith, few, ap (λ (n : Numeral). length n.whole + length n.fraction) k.2, room, ap length c.as_bytes.ensures.value)) is
