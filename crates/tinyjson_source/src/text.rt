@@ -138,6 +138,7 @@ impl<'a> Source for TextBytes<'a> {
         self.plain(string)
     }
 
+    #[inline(always)]
     fn quoted(&mut self, alloc: Global, buffer: &mut String) -> Result<Option<String>, AllocError> {
         let bytes = self.text.as_bytes();
         let end = plain_end(bytes, self.at);

@@ -133,6 +133,7 @@ impl<S: Tokens> Reader<S> {
     }
 
     /// Reads a string as the key of its object, and the colon, if a string comes next.
+    #[inline(always)]
     fn key(&mut self, stack: &mut Stack) -> Result<bool, JsonParseError>
         requires sound { IsSound stack.old false }
         requires awaits { AwaitsKey stack.old }
@@ -152,6 +153,7 @@ impl<S: Tokens> Reader<S> {
     }
 
     /// Reads the colon behind a key.
+    #[inline(always)]
     fn colon(&mut self, stack: &mut Stack, key: String) -> Result<bool, JsonParseError>
         requires sound { IsSound stack.old false }
         requires awaits { AwaitsKey stack.old }

@@ -101,6 +101,36 @@ impl<S: Tokens> Reader<S> {
         }
     }
 
+    /// Reads the literal that begins with this letter, and puts it where it belongs.
+    #[inline(always)]
+    fn literal_value(&mut self, stack: &mut Stack, first: char) -> Result<bool, JsonParseError>
+        requires shown { S.sight.shows self.old.source (Some first) }
+        requires begins { BeginsLiteral first }
+        requires sound { IsSound stack.old false }
+        ensures reads { (limit : Option ℕ) → Reads S.sight limit self.old.source
+            (next (frames stack.old) awaited) result (at stack.new) self.new.source }
+        ensures sound { IfOk result (IsSound stack.new) }
+        ensures left { OnOk result (S.left self.new.source < S.left self.old.source) }
+    {
+        let value = self.literal(first)?;
+        self.put(stack, value)
+    }
+
+    /// Reads the string whose quote comes next, and puts it where it belongs.
+    #[inline(always)]
+    fn string_value(&mut self, stack: &mut Stack) -> Result<bool, JsonParseError>
+        requires shown { S.sight.shows self.old.source (Some 34) }
+        requires sound { IsSound stack.old false }
+        ensures reads { (limit : Option ℕ) → Reads S.sight limit self.old.source
+            (next (frames stack.old) awaited) result (at stack.new) self.new.source }
+        ensures sound { IfOk result (IsSound stack.new) }
+        ensures left { OnOk result (S.left self.new.source < S.left self.old.source) }
+    {
+        self.source.bump();
+        let string = self.string()?;
+        self.put(stack, JsonValue::String(string))
+    }
+
     /// Reads the value that begins with this character, or opens a container; `true` where a value is whole.
     fn value(
         &mut self,
@@ -118,15 +148,8 @@ impl<S: Tokens> Reader<S> {
         ensures memory { ¬ (BeginsLiteral first) → GrowsFor first result }
     {
         match first {
-            'n' | 't' | 'f' => {
-                let value = self.literal(first)?;
-                self.put(stack, value)
-            }
-            '"' => {
-                self.source.bump();
-                let string = self.string()?;
-                self.put(stack, JsonValue::String(string))
-            }
+            'n' | 't' | 'f' => self.literal_value(stack, first),
+            '"' => self.string_value(stack),
             '[' => self.array(limit, stack),
             '{' => self.object(limit, stack),
             c if c == '-' || c.is_ascii_digit() => self.number(stack),

@@ -147,6 +147,7 @@ impl Stack {
     }
 
     /// Gives the innermost object, which awaits a key, this key.
+    #[inline(always)]
     pub(super) fn begin_member(&mut self, key: String) -> Result<(), AllocError>
         requires sound { IsSound self.old false }
         requires awaits { AwaitsKey self.old }

@@ -18,6 +18,7 @@ use tinyjson_source::utf16::{decode, push};
 
 impl<S: Tokens> Reader<S> {
     /// Behind the quote that opens a string.
+    #[inline(always)]
     pub(super) fn string(&mut self) -> Result<String, JsonParseError>
         ensures reads { (limit : Option ℕ) (fs : List Frame) →
             Reads S.sight limit self.old.source (next fs (quoted plain [] [])) result
