@@ -1,6 +1,6 @@
 //! What a source of characters is.
-ghost use Rattle.std.specs.Prelude.{◌≡◌, ℕ, ◌+◌, ◌≤◌, [], ◌∷◌, false, IfSome};
-ghost use Rattle.std.specs.Prelude.{MatchOption, OnOk, Option, None, length};
+ghost use Rattle.std.specs.Prelude.{◌≡◌, ℕ, ◌+◌, ◌<◌, ◌≤◌, [], ◌∷◌, false, IfSome};
+ghost use Rattle.std.specs.Prelude.{MatchOption, OnOk, Option, Some, None, length};
 ghost use Rattle.std.specs.Prelude.{string_bytes};
 ghost use Rattle.std.specs.Char.{is_ascii_digit};
 ghost use Rattle.std.specs.Option.{option_len};
@@ -37,6 +37,15 @@ pub trait Source: Drop {
             (λ c. Takes sight self.old (c ∷ []) self.new) }
         ensures shown { (o : Option ℕ) → sight.shows self.old o → result ≡ o }
         ensures left { left self.new + option_len result ≤ left self.old };
+
+    /// Consumes the next character, which was shown.
+    fn consume(&mut self, c: char)
+        requires shown { sight.shows self.old (Some c) }
+        ensures takes { Takes sight self.old (c ∷ []) self.new }
+        ensures left { left self.new < left self.old }
+    {
+        self.bump();
+    }
 
     /// Passes over white space, and shows what follows it.
     fn skip_white(&mut self) -> Option<char>

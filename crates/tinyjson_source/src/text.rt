@@ -103,6 +103,11 @@ impl<'a> Source for TextBytes<'a> {
         next
     }
 
+    #[inline(always)]
+    fn consume(&mut self, c: char) {
+        self.at += width(c);
+    }
+
     fn skip_white(&mut self) -> Option<char> {
         let bytes = self.text.as_bytes();
         if self.at < bytes.len() && bytes[self.at] > b' ' && bytes[self.at] < 128 {

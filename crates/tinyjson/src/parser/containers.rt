@@ -42,10 +42,10 @@ impl<S: Tokens> Reader<S> {
         if !fits(limit, stack.depth()) {
             return Err(self.refuse(JsonParseErrorKind::TooDeep('[')));
         }
-        self.source.bump();
+        self.source.consume('[');
         match self.source.skip_white() {
             Some(']') => {
-                self.source.bump();
+                self.source.consume(']');
                 self.put(stack, JsonValue::Array(Vec::new(self.alloc)))
             }
             _ => {
@@ -73,10 +73,10 @@ impl<S: Tokens> Reader<S> {
         if !fits(limit, stack.depth()) {
             return Err(self.refuse(JsonParseErrorKind::TooDeep('{')));
         }
-        self.source.bump();
+        self.source.consume('{');
         match self.source.skip_white() {
             Some('}') => {
-                self.source.bump();
+                self.source.consume('}');
                 self.put(stack, JsonValue::Object(HashMap::new(self.alloc)))
             }
             _ => {
@@ -144,7 +144,7 @@ impl<S: Tokens> Reader<S> {
     {
         match self.source.skip_white() {
             Some('"') => {
-                self.source.bump();
+                self.source.consume('"');
                 let key = self.string()?;
                 self.colon(stack, key)
             }
@@ -162,15 +162,18 @@ impl<S: Tokens> Reader<S> {
         ensures sound { IfOk result (IsSound stack.new) }
         ensures left { OnOk result (S.left self.new.source ≤ S.left self.old.source) }
     {
-        self.source.skip_white();
-        match self.source.bump() {
+        match self.source.skip_white() {
             Some(':') => {
+                self.source.consume(':');
                 if stack.begin_member(key).is_err() {
                     return Err(self.refuse(JsonParseErrorKind::OutOfMemory));
                 }
                 Ok(false)
             }
-            Some(c) => Err(self.refuse(JsonParseErrorKind::ExpectedColon(c))),
+            Some(c) => {
+                self.source.consume(c);
+                Err(self.refuse(JsonParseErrorKind::ExpectedColon(c)))
+            }
             None => Err(self.refuse(JsonParseErrorKind::UnexpectedEof)),
         }
     }
@@ -186,18 +189,18 @@ impl<S: Tokens> Reader<S> {
     {
         match self.source.skip_white() {
             Some(',') => {
-                self.source.bump();
+                self.source.consume(',');
                 Ok(false)
             }
             Some(']') => {
                 let Ok(array) = stack.close_array(values) else {
                     return Err(self.refuse(JsonParseErrorKind::OutOfMemory));
                 };
-                self.source.bump();
+                self.source.consume(']');
                 self.put(stack, array)
             }
             Some(c) => {
-                self.source.bump();
+                self.source.consume(c);
                 Err(self.refuse(JsonParseErrorKind::ExpectedCommaOrBracket(c)))
             }
             None => Err(self.refuse(JsonParseErrorKind::UnexpectedEof)),
@@ -223,18 +226,18 @@ impl<S: Tokens> Reader<S> {
                 if stack.end_member(values, keys).is_err() {
                     return Err(self.refuse(JsonParseErrorKind::OutOfMemory));
                 }
-                self.source.bump();
+                self.source.consume(',');
                 self.key(stack)
             }
             Some('}') => {
                 let Ok(object) = stack.close_object(values, keys) else {
                     return Err(self.refuse(JsonParseErrorKind::OutOfMemory));
                 };
-                self.source.bump();
+                self.source.consume('}');
                 self.put(stack, object)
             }
             Some(c) => {
-                self.source.bump();
+                self.source.consume(c);
                 Err(self.refuse(JsonParseErrorKind::ExpectedCommaOrBrace(c)))
             }
             None => Err(self.refuse(JsonParseErrorKind::UnexpectedEof)),

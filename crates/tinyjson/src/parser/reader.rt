@@ -84,7 +84,7 @@ impl<S: Tokens> Reader<S> {
         ensures memory { NeedsNone result }
         ensures left { OnOk result (S.left self.new.source < S.left self.old.source) }
     {
-        self.source.bump();
+        self.source.consume(first);
         match first {
             'n' => {
                 self.letters(&['u', 'l', 'l'])?;
@@ -126,7 +126,7 @@ impl<S: Tokens> Reader<S> {
         ensures sound { IfOk result (IsSound stack.new) }
         ensures left { OnOk result (S.left self.new.source < S.left self.old.source) }
     {
-        self.source.bump();
+        self.source.consume('"');
         let string = self.string()?;
         self.put(stack, JsonValue::String(string))
     }

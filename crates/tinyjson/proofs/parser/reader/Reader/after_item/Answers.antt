@@ -1,7 +1,6 @@
-use Rattle.std.proofs.Common.{rules, sym, ◌∙◌, refl, Some}
+use Rattle.std.proofs.Common.{rules, sym, ◌∙◌, refl}
 use Rattle.tinyjson.specs.private.Stack.{ClosesArray}
 use Rattle.tinyjson_grammar.specs.declared.error.JsonParseErrorKind.TheVariants.{UnexpectedEof, ExpectedCommaOrBracket}
-use Rattle.tinyjson_source.proofs.Callers.{Takes_shown}
 use Rattle.tinyjson.proofs.Reading.Steps.{end_after, Leads_one, Leads_end, Refuses_as, Refuses_memory, Reads_after, taken_complete}
 use Rattle.tinyjson.proofs.Reading.Containers.{array_comma, array_closes, array_other}
 use Rattle.tinyjson.proofs.Reading.Stack.{array_whole, array_stays, after_white, after_halts}
@@ -16,22 +15,20 @@ returns-in_default-clause-reads g c = λ limit.
 pub returns-in-Some-eq44-clause-reads : goal.returns-in-Some-eq44-clause-reads
 returns-in-Some-eq44-clause-reads g c = λ limit.
     let sight = g.S.Source.sight in
-    let d = c.in-Some-eq44.field-0 in
     let s = c.args.stack.now in
     let whole = array_whole s c.requires.sound c.args.values _ c.requires.array.1 in
-    Leads_one sight limit _ _ _ d (after_white sight limit _ _ _ whole c.skip_white.ensures.white)
-    (Takes_shown sight _ _ _ _ (c.bump.ensures.shown (Some d) c.in-Some-eq44.ensures.shows) c.bump.ensures.takes) tt
-    (array_comma limit _ _ _ d refl (search rules) ∙ sym (array_stays s c.requires.sound c.args.values _ c.requires.array.1)) tt
+    Leads_one sight limit _ _ _ 44 (after_white sight limit _ _ _ whole c.skip_white.ensures.white)
+    c.consume.ensures.takes tt
+    (array_comma limit _ _ _ 44 refl (search rules) ∙ sym (array_stays s c.requires.sound c.args.values _ c.requires.array.1)) tt
 
 pub returns-in-Ok-clause-reads : goal.returns-in-Ok-clause-reads
 returns-in-Ok-clause-reads g c = λ limit.
     let sight = g.S.Source.sight in
-    let d = c.in-Some-eq93.field-0 in
     let closed : ClosesArray c.args.stack.now c.close_array.new.self c.in-Ok.array = search rules in
     Reads_after sight limit _ _ _ _ _
-    (Leads_one sight limit _ _ _ d (after_white sight limit _ _ _ closed.before c.skip_white.ensures.white)
-    (Takes_shown sight _ _ _ _ (c.bump-in-Some-eq93.ensures.shown (Some d) c.in-Some-eq93.ensures.shows) c.bump-in-Some-eq93.ensures.takes) tt
-    (array_closes limit _ _ _ d closed.value (search rules)) (taken_complete _ _))
+    (Leads_one sight limit _ _ _ 93 (after_white sight limit _ _ _ closed.before c.skip_white.ensures.white)
+    c.consume-in-Some-eq93.ensures.takes tt
+    (array_closes limit _ _ _ 93 closed.value (search rules)) (taken_complete _ _))
     (c.put.ensures.reads limit)
 
 pub returns-in-Some-clause-reads : goal.returns-in-Some-clause-reads
@@ -41,7 +38,7 @@ returns-in-Some-clause-reads g c = λ limit.
     let whole = array_whole c.args.stack.now c.requires.sound c.args.values _ c.requires.array.1 in
     Refuses_as sight limit _ _ c.refuse-in-Some.result (ExpectedCommaOrBracket d) c.refuse-in-Some.ensures.kind c.refuse-in-Some.ensures.at
     (Leads_one sight limit _ _ _ d (after_white sight limit _ _ _ whole c.skip_white.ensures.white)
-    (Takes_shown sight _ _ _ _ (c.bump-in-Some.ensures.shown (Some d) c.in-Some.ensures.shows) c.bump-in-Some.ensures.takes) tt
+    c.consume-in-Some.ensures.takes tt
     (array_other limit _ _ d c.in-Some.ensures.stops (search rules) (search rules)) tt)
 
 pub returns-in-None-clause-reads : goal.returns-in-None-clause-reads

@@ -1,8 +1,7 @@
-use Rattle.std.proofs.Common.{rules, true, Some, ◌≡◌}
+use Rattle.std.proofs.Common.{rules, true, ◌≡◌}
 use Rattle.tinyjson_grammar.specs.Machine.{after, next}
 use Rattle.tinyjson.specs.private.Stack.{ClosesObject, at, frames}
 use Rattle.tinyjson_grammar.specs.declared.error.JsonParseErrorKind.TheVariants.{UnexpectedEof, ExpectedCommaOrBrace}
-use Rattle.tinyjson_source.proofs.Callers.{Takes_shown}
 use Rattle.tinyjson.proofs.Reading.Steps.{end_after, Leads_one, Leads_end, Refuses_as, Refuses_memory, Reads_after, taken_complete}
 use Rattle.tinyjson.proofs.Reading.Containers.{object_closes, object_other}
 use Rattle.tinyjson.proofs.Reading.Stack.{member_whole, comma_read, after_white, after_halts}
@@ -23,23 +22,21 @@ returns-in_default-clause-reads g c = λ limit.
 pub returns-else-is_err-clause-reads : goal.returns-else-is_err-clause-reads
 returns-else-is_err-clause-reads g c = λ limit.
     let sight = g.S.Source.sight in
-    let d = c.in-Some-eq44.field-0 in
     let whole : at c.args.stack.now true ≡ next (frames c.end_member.new.self) after = search rules in
     Reads_after sight limit _ _ _ _ _
-    (Leads_one sight limit _ _ _ d (after_white sight limit _ _ _ whole c.skip_white.ensures.white)
-    (Takes_shown sight _ _ _ _ (c.bump.ensures.shown (Some d) c.in-Some-eq44.ensures.shows) c.bump.ensures.takes) tt
-    (comma_read limit c.end_member.new.self (search rules) d (search rules)) tt)
+    (Leads_one sight limit _ _ _ 44 (after_white sight limit _ _ _ whole c.skip_white.ensures.white)
+    c.consume.ensures.takes tt
+    (comma_read limit c.end_member.new.self (search rules) 44 (search rules)) tt)
     (c.key.ensures.reads limit)
 
 pub returns-in-Ok-clause-reads : goal.returns-in-Ok-clause-reads
 returns-in-Ok-clause-reads g c = λ limit.
     let sight = g.S.Source.sight in
-    let d = c.in-Some-eq125.field-0 in
     let closed : ClosesObject c.args.stack.now c.close_object.new.self c.in-Ok.object = search rules in
     Reads_after sight limit _ _ _ _ _
-    (Leads_one sight limit _ _ _ d (after_white sight limit _ _ _ closed.before c.skip_white.ensures.white)
-    (Takes_shown sight _ _ _ _ (c.bump-in-Some-eq125.ensures.shown (Some d) c.in-Some-eq125.ensures.shows) c.bump-in-Some-eq125.ensures.takes) tt
-    (object_closes limit _ _ _ d closed.value (search rules)) (taken_complete _ _))
+    (Leads_one sight limit _ _ _ 125 (after_white sight limit _ _ _ closed.before c.skip_white.ensures.white)
+    c.consume-in-Some-eq125.ensures.takes tt
+    (object_closes limit _ _ _ 125 closed.value (search rules)) (taken_complete _ _))
     (c.put.ensures.reads limit)
 
 pub returns-in-Some-clause-reads : goal.returns-in-Some-clause-reads
@@ -49,7 +46,7 @@ returns-in-Some-clause-reads g c = λ limit.
     let whole = member_whole c.args.stack.now c.requires.sound c.args.values c.args.keys _ c.requires.member.1 in
     Refuses_as sight limit _ _ c.refuse-in-Some.result (ExpectedCommaOrBrace d) c.refuse-in-Some.ensures.kind c.refuse-in-Some.ensures.at
     (Leads_one sight limit _ _ _ d (after_white sight limit _ _ _ whole c.skip_white.ensures.white)
-    (Takes_shown sight _ _ _ _ (c.bump-in-Some.ensures.shown (Some d) c.in-Some.ensures.shows) c.bump-in-Some.ensures.takes) tt
+    c.consume-in-Some.ensures.takes tt
     (object_other limit _ _ d c.in-Some.ensures.stops (search rules) (search rules)) tt)
 
 pub returns-in-None-clause-reads : goal.returns-in-None-clause-reads

@@ -1,6 +1,5 @@
-use Rattle.std.proofs.Common.{rules, Some}
+use Rattle.std.proofs.Common.{rules}
 use Rattle.std.proofs.lemmas.Result.{err_from_is_err_and}
-use Rattle.tinyjson_source.proofs.Callers.{Takes_shown}
 use Rattle.tinyjson.proofs.Reading.Containers.{string_begins}
 use Rattle.tinyjson.proofs.Reading.Stack.{key_string}
 use Rattle.tinyjson.proofs.Reading.Steps.{Leads_whites, Leads_one, Leads_to, Leads_trans, Refuses_after, Reads_after, white_awaited}
@@ -9,20 +8,18 @@ use Rattle.tinyjson.proofs.parser.reader.Reader.key.Goals as goal
 pub returns-in_err-key-in-Some-eq34-clause-reads : goal.returns-in_err-key-in-Some-eq34-clause-reads
 returns-in_err-key-in-Some-eq34-clause-reads g c = λ limit.
     let sight = g.S.Source.sight in
-    let d = c.in-Some-eq34.field-0 in
     let p = err_from_is_err_and c.from_residual.result c.from_residual.ensures.1 in
-    let q = Leads_one sight limit _ _ _ d (Leads_whites sight limit _ _ _ c.skip_white.ensures.white tt (white_awaited limit _))
-    (Takes_shown sight _ _ _ _ (c.bump.ensures.shown (Some d) c.in-Some-eq34.ensures.shows) c.bump.ensures.takes) tt
-    (string_begins limit _ d (search rules)) tt in
+    let q = Leads_one sight limit _ _ _ 34 (Leads_whites sight limit _ _ _ c.skip_white.ensures.white tt (white_awaited limit _))
+    c.consume.ensures.takes tt
+    (string_begins limit _ 34 (search rules)) tt in
     rw (p.1, p.2) (Refuses_after sight limit _ _ _ _ q (c.in_err-key-in-Some-eq34.ensures.reads limit _))
 
 pub returns-in_ok-key-in-Some-eq34-clause-reads : goal.returns-in_ok-key-in-Some-eq34-clause-reads
 returns-in_ok-key-in-Some-eq34-clause-reads g c = λ limit.
     let sight = g.S.Source.sight in
-    let d = c.in-Some-eq34.field-0 in
-    let q = Leads_one sight limit _ _ _ d (Leads_whites sight limit _ _ _ c.skip_white.ensures.white tt (white_awaited limit _))
-    (Takes_shown sight _ _ _ _ (c.bump.ensures.shown (Some d) c.in-Some-eq34.ensures.shows) c.bump.ensures.takes) tt
-    (string_begins limit _ d (search rules)) tt in
+    let q = Leads_one sight limit _ _ _ 34 (Leads_whites sight limit _ _ _ c.skip_white.ensures.white tt (white_awaited limit _))
+    c.consume.ensures.takes tt
+    (string_begins limit _ 34 (search rules)) tt in
     Reads_after sight limit _ _ _ _ _
     (Leads_to sight limit _ _ (Leads_trans sight limit _ _ _ q (c.in_ok-key-in-Some-eq34.ensures.reads limit _)) (key_string c.args.stack.now c.requires.awaits _))
     (c.colon.ensures.reads limit)

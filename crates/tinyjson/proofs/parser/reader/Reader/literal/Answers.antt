@@ -1,9 +1,8 @@
-use Rattle.std.proofs.Common.{rules, Some, true, false}
+use Rattle.std.proofs.Common.{rules, true, false}
 use Rattle.std.proofs.lemmas.Result.{err_from_is_err_and}
 use Rattle.tinyjson.specs.View.{view}
 use Rattle.tinyjson.specs.declared.value.JsonValue.TheVariants as is
 use Rattle.tinyjson.proofs.Reading.Containers.{null_begins, true_begins, false_begins, literal_false}
-use Rattle.tinyjson_source.proofs.Callers.{Takes_shown}
 use Rattle.tinyjson.proofs.Reading.Steps.{Leads_nil, Leads_one, Leads_trans, Refuses_after}
 use Rattle.tinyjson.proofs.parser.reader.Reader.literal.Goals as goal
 
@@ -11,7 +10,7 @@ pub returns-in_err-letters-in-n-clause-reads : goal.returns-in_err-letters-in-n-
 returns-in_err-letters-in-n-clause-reads g c = λ limit fs.
     let sight = g.S.Source.sight in
     let l = Leads_one sight limit _ _ _ c.args.first (Leads_nil sight limit _ _)
-    (Takes_shown sight _ _ _ _ (c.bump.ensures.shown (Some c.args.first) c.requires.shown) c.bump.ensures.takes) tt
+    c.consume.ensures.takes tt
     (null_begins limit fs c.args.first c.in-n.is) tt in
     let p = err_from_is_err_and c.from_residual.result c.from_residual.ensures.1 in
     rw (p.1, p.2) (Refuses_after sight limit _ _ _ _ l (c.in_err-letters-in-n.ensures.reads limit fs (view is.Null)))
@@ -20,7 +19,7 @@ pub returns-in_err-letters-in-t-clause-reads : goal.returns-in_err-letters-in-t-
 returns-in_err-letters-in-t-clause-reads g c = λ limit fs.
     let sight = g.S.Source.sight in
     let l = Leads_one sight limit _ _ _ c.args.first (Leads_nil sight limit _ _)
-    (Takes_shown sight _ _ _ _ (c.bump.ensures.shown (Some c.args.first) c.requires.shown) c.bump.ensures.takes) tt
+    c.consume.ensures.takes tt
     (true_begins limit fs c.args.first c.in-t.is) tt in
     let p = err_from_is_err_and c.from_residual-in_err-letters-in-t.result c.from_residual-in_err-letters-in-t.ensures.1 in
     rw (p.1, p.2) (Refuses_after sight limit _ _ _ _ l (c.in_err-letters-in-t.ensures.reads limit fs (view (is.Boolean true))))
@@ -29,7 +28,7 @@ pub returns-in_err-letters-in_default-clause-reads : goal.returns-in_err-letters
 returns-in_err-letters-in_default-clause-reads g c = λ limit fs.
     let sight = g.S.Source.sight in
     let l = Leads_one sight limit _ _ _ c.args.first (Leads_nil sight limit _ _)
-    (Takes_shown sight _ _ _ _ (c.bump.ensures.shown (Some c.args.first) c.requires.shown) c.bump.ensures.takes) tt
+    c.consume.ensures.takes tt
     (false_begins limit fs c.args.first (literal_false c.args.first c.requires.begins (search rules) (search rules))) tt in
     let p = err_from_is_err_and c.from_residual-in_err-letters-in_default.result c.from_residual-in_err-letters-in_default.ensures.1 in
     rw (p.1, p.2) (Refuses_after sight limit _ _ _ _ l (c.in_err-letters-in_default.ensures.reads limit fs (view (is.Boolean false))))
@@ -38,7 +37,7 @@ pub returns-in_ok-letters-in-n-clause-reads : goal.returns-in_ok-letters-in-n-cl
 returns-in_ok-letters-in-n-clause-reads g c = λ limit fs.
     let sight = g.S.Source.sight in
     let l = Leads_one sight limit _ _ _ c.args.first (Leads_nil sight limit _ _)
-    (Takes_shown sight _ _ _ _ (c.bump.ensures.shown (Some c.args.first) c.requires.shown) c.bump.ensures.takes) tt
+    c.consume.ensures.takes tt
     (null_begins limit fs c.args.first c.in-n.is) tt in
     Leads_trans sight limit _ _ _ l (c.in_ok-letters-in-n.ensures.reads limit fs (view is.Null))
 
@@ -46,7 +45,7 @@ pub returns-in_ok-letters-in-t-clause-reads : goal.returns-in_ok-letters-in-t-cl
 returns-in_ok-letters-in-t-clause-reads g c = λ limit fs.
     let sight = g.S.Source.sight in
     let l = Leads_one sight limit _ _ _ c.args.first (Leads_nil sight limit _ _)
-    (Takes_shown sight _ _ _ _ (c.bump.ensures.shown (Some c.args.first) c.requires.shown) c.bump.ensures.takes) tt
+    c.consume.ensures.takes tt
     (true_begins limit fs c.args.first c.in-t.is) tt in
     Leads_trans sight limit _ _ _ l (c.in_ok-letters-in-t.ensures.reads limit fs (view (is.Boolean true)))
 
@@ -54,6 +53,6 @@ pub returns-in_ok-letters-in_default-clause-reads : goal.returns-in_ok-letters-i
 returns-in_ok-letters-in_default-clause-reads g c = λ limit fs.
     let sight = g.S.Source.sight in
     let l = Leads_one sight limit _ _ _ c.args.first (Leads_nil sight limit _ _)
-    (Takes_shown sight _ _ _ _ (c.bump.ensures.shown (Some c.args.first) c.requires.shown) c.bump.ensures.takes) tt
+    c.consume.ensures.takes tt
     (false_begins limit fs c.args.first (literal_false c.args.first c.requires.begins (search rules) (search rules))) tt in
     Leads_trans sight limit _ _ _ l (c.in_ok-letters-in_default.ensures.reads limit fs (view (is.Boolean false)))
