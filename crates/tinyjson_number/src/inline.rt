@@ -8,7 +8,7 @@ pub(crate) const ROOM: usize = 24;
 #[derive(Clone, Copy)]
 pub(crate) struct Inline {
     bytes: [u8; ROOM],
-    len: u8,
+    len: usize,
     ghost within: { len ≤ 24 },
 }
 
@@ -25,10 +25,7 @@ impl Inline {
         if !back.is_empty() {
             bytes[front.len()..len].copy_from_slice(back);
         }
-        Inline {
-            bytes,
-            len: len as u8,
-        }
+        Inline { bytes, len }
     }
 
     /// How many there are.
@@ -37,7 +34,7 @@ impl Inline {
         ensures value { result ≡ self.now.len }
         ensures within { result ≤ 24 }
     {
-        self.len as usize
+        self.len
     }
 
     /// The bytes, and what stands behind them.
@@ -52,6 +49,6 @@ impl Inline {
     pub(crate) fn as_bytes(&self) -> &[u8]
         ensures { result.now ≡ take self.now.len self.now.bytes }
     {
-        &self.bytes[..self.len as usize]
+        &self.bytes[..self.len]
     }
 }
