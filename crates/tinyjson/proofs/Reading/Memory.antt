@@ -6,7 +6,7 @@ use Rattle.tinyjson_source.specs.Source.{Sight, Whites}
 use Rattle.tinyjson.specs.private.Steps.{Grows}
 use Rattle.tinyjson_grammar.specs.Refusal.{begins_growth}
 use Rattle.tinyjson_grammar.specs.Syntax.{AreWhite}
-use Rattle.tinyjson.specs.declared.parser.error.JsonParseError.{JsonParseError}
+use Rattle.tinyjson_grammar.specs.declared.error.JsonParseErrorKind.{JsonParseErrorKind}
 use Rattle.tinyjson_grammar.specs.declared.error.JsonParseErrorKind.TheVariants.{OutOfMemory}
 
 white_list : (ws : List ℕ) → AllByRecursion (λ c. is_white c ≡ true) ws → AreWhite ws
@@ -21,7 +21,7 @@ module _ {S : Type 0} (sight : Sight S) where
       let f = sight.first q x.0 c s x.2 in
       record { before = w.taken; first = c; more = f.0; whole = x.1 ∙ ap (λ ys. w.taken ++ ys) f.1; white = white_list w.taken w.white; grows = h }
 
-  pub grows_text : {T : Type 0} (p q : S) (c : ℕ) (r : Result T JsonParseError) → Whites sight p q → sight.shows q (Some c)
-      → IfErr r (λ e. e.kind ≡ OutOfMemory → IsTrue (begins_growth c)) → IfErr r (λ e. e.kind ≡ OutOfMemory → Grows sight p)
+  pub grows_text : {T : Type 0} (p q : S) (c : ℕ) (r : Result T JsonParseErrorKind) → Whites sight p q → sight.shows q (Some c)
+      → IfErr r (λ k. k ≡ OutOfMemory → IsTrue (begins_growth c)) → IfErr r (λ k. k ≡ OutOfMemory → Grows sight p)
   grows_text p q c (Ok v) w s h = tt
-  grows_text p q c (Err e) w s h = λ m. grows_at p q c w s (h m)
+  grows_text p q c (Err k) w s h = λ m. grows_at p q c w s (h m)

@@ -11,10 +11,8 @@ use Rattle.tinyjson_grammar.specs.Machine.{strictly, step, end, then_step, end_p
 use Rattle.tinyjson.specs.private.NumberSteps.{BeginsNumber, numeral, Gathered, Accepted, Declined, Accepts, Digits}
 use Rattle.tinyjson.specs.private.Steps.{onward, ending, IsNext, IsTaken, Comes, Ends, Leads, Refuses}
 use Rattle.tinyjson_grammar.specs.Tree.{number}
-use Rattle.tinyjson.specs.declared.parser.error.JsonParseError.{JsonParseError}
 use Rattle.tinyjson_grammar.specs.declared.error.JsonParseErrorKind.{JsonParseErrorKind}
 use Rattle.tinyjson_grammar.specs.declared.error.JsonParseErrorKind.TheVariants.{EmptyInteger, LeadingZero, EmptyFraction, EmptyExponent, NumberOutOfRange, OutOfMemory}
-use Rattle.tinyjson.specs.Error.{error_position}
 use Rattle.tinyjson.proofs.Reading.Steps.{Same_refl, Leads_trans, Leads_peek, Leads_shown, Leads_end, Halts_here, Refuses_as, Refuses_memory}
 use Rattle.tinyjson_grammar.proofs.Callers.{digit_not_white}
 
@@ -71,16 +69,16 @@ same_length old new (d ∷ ds) e h = absurd (omega (arith, ap length e, length-a
 
 module _ {S : Type 0} (sight : Sight S) {E : Type 0} (empty : JsonParseErrorKind) (p : S) (old new : List ℕ) (q : S) where
   -- there was no memory for some of them
-  pub digits_memory : (r : Result (Unit {0}) E) (e : JsonParseError) → TakesRun sight is_ascii_digit p old r new q → e.kind ≡ OutOfMemory → error_position e ≡ sight.place q → Digits sight empty p old (Err e) new q
-  digits_memory r e t k a = record { ds = t.taken; digits = t.pass; takes = t.takes; result = (a, inr k) }
+  pub digits_memory : (r : Result (Unit {0}) E) → TakesRun sight is_ascii_digit p old r new q → Digits sight empty p old (Err OutOfMemory) new q
+  digits_memory r t = record { ds = t.taken; digits = t.pass; takes = t.takes; result = inr refl }
 
   -- there was none
-  pub digits_none : (r : Result (Unit {0}) E) (e : JsonParseError) → TakesRun sight is_ascii_digit p old r new q → OnOk r (Stops sight is_ascii_digit q) → OnOk r (new ≡ old → Still sight p q) → is_err r ≡ false → length new ≡ length old
-      → e.kind ≡ empty → error_position e ≡ sight.place q → Digits sight empty p old (Err e) new q
-  digits_none (Ok v) e t s w h l k a =
+  pub digits_none : (r : Result (Unit {0}) E) → TakesRun sight is_ascii_digit p old r new q → OnOk r (Stops sight is_ascii_digit q) → OnOk r (new ≡ old → Still sight p q) → is_err r ≡ false → length new ≡ length old
+      → Digits sight empty p old (Err empty) new q
+  digits_none (Ok v) t s w h l =
       let n = same_length old new t.taken t.added l in
-      record { ds = []; digits = tt; takes = subst (λ xs. Takes sight p xs q) n t.takes; result = (a, inl (k, refl, s, w (t.added ∙ ap (λ xs. old ++ xs) n ∙ append-nil old))) }
-  digits_none (Err v) e t s w h l k a = absurd (true≢false h)
+      record { ds = []; digits = tt; takes = subst (λ xs. Takes sight p xs q) n t.takes; result = inl (refl, refl, s, w (t.added ∙ ap (λ xs. old ++ xs) n ∙ append-nil old)) }
+  digits_none (Err v) t s w h l = absurd (true≢false h)
 
   -- there were some
   pub digits_some : (r : Result (Unit {0}) E) → TakesRun sight is_ascii_digit p old r new q → OnOk r (Stops sight is_ascii_digit q) → is_err r ≡ false → (length new ≡ length old → ⊥) → Digits sight empty p old (Ok tt) new q
@@ -298,9 +296,9 @@ module _ {S : Type 0} (sight : Sight S) where
           } in
           Leads_trans sight limit p q r l m
 
-      pub Refuses_digits : (empty : JsonParseErrorKind) (old new : List ℕ) (e : JsonParseError) → IsNext n → Digits sight empty q old (Err e) new r
-          → ((o : Option ℕ) → sight.shows r o → IfSome o (λ c. is_ascii_digit c ≡ false) → Still sight q r → Alike limit (K []) (stop empty true) o) → Refuses sight limit p n e r
-      Refuses_digits empty old new e i g f = ⊎_elim
-          (λ w. Refuses_as sight limit p r e empty w.0 g.result.0 (Leads_rest p r (stop empty true) w.2.0 (Leads_peek sight limit p q r l (subst (λ ds. Takes sight q ds r) w.1 g.takes)) w.2.1 (h []) (f w.2.0 w.2.1 w.2.2 w.3)))
-          (λ w. Refuses_memory sight limit p r e w g.result.0 (Halts_here sight limit p r (Leads_digits g.ds g.digits g.takes) i (h g.ds)))
-          g.result.1
+      pub Refuses_digits : (empty : JsonParseErrorKind) (old new : List ℕ) (k : JsonParseErrorKind) → IsNext n → Digits sight empty q old (Err k) new r
+          → ((o : Option ℕ) → sight.shows r o → IfSome o (λ c. is_ascii_digit c ≡ false) → Still sight q r → Alike limit (K []) (stop empty true) o) → Refuses sight limit p n k r
+      Refuses_digits empty old new k i g f = ⊎_elim
+          (λ w. rw w.0 (Refuses_as sight limit p r empty (Leads_rest p r (stop empty true) w.2.0 (Leads_peek sight limit p q r l (subst (λ ds. Takes sight q ds r) w.1 g.takes)) w.2.1 (h []) (f w.2.0 w.2.1 w.2.2 w.3))))
+          (λ w. rw w (Refuses_memory sight limit p r (Halts_here sight limit p r (Leads_digits g.ds g.digits g.takes) i (h g.ds))))
+          g.result

@@ -9,11 +9,10 @@ use Rattle.tinyjson_number.specs.Reading.{exponent_of, numeral_of, plain, plain_
 use Rattle.tinyjson_number.specs.declared.parse.ExponentParts.{ExponentParts}
 use Rattle.tinyjson_number.specs.declared.parse.NumberParts.{NumberParts}
 use Rattle.tinyjson_source.specs.Source.{Sight, Still, Takes}
-use Rattle.tinyjson.specs.Error.{error_position}
 use Rattle.tinyjson_grammar.specs.Machine.{Frame, next, stop, awaited, digits, whole, fraction, exponent, complete}
 use Rattle.tinyjson.specs.private.NumberSteps.{BeginsNumber, numeral, is_minus, is_below_zero, exponent_digits, all_digits, marks_of, Gathered, Accepted, Declined, Accepts, Signs, Digits, Part, ReadsPart}
 use Rattle.tinyjson.specs.private.Steps.{Ends, Leads, Refuses}
-use Rattle.tinyjson.specs.declared.parser.error.JsonParseError.{JsonParseError}
+use Rattle.tinyjson_grammar.specs.declared.error.JsonParseErrorKind.{JsonParseErrorKind}
 use Rattle.tinyjson.specs.declared.parser.number.Marks.{Marks}
 use Rattle.tinyjson_grammar.specs.declared.error.JsonParseErrorKind.TheVariants.{EmptyInteger, LeadingZero, EmptyFraction, EmptyExponent, NumberOutOfRange}
 use Rattle.tinyjson_grammar.specs.Tree.{number}
@@ -39,8 +38,8 @@ module _ {S : Type 0} (sight : Sight S) (p q : S) where
         go true a = Leads_one sight limit p p q a.c (Leads_nil sight limit p (next fs awaited)) a.takes tt (minus_begins limit fs a.c (is_one 45 a.c a.one)) tt
         go false d = Leads_peek sight limit p p q (Leads_nil sight limit p (next fs awaited)) d.takes
 
-    pub Refuses_whole : (e : JsonParseError) → Digits sight EmptyInteger q old (Err e) new r → (limit : Option ℕ) (fs : List Frame) → Refuses sight limit p (next fs awaited) e r
-    Refuses_whole e g limit fs = Refuses_digits sight limit (begun fs v) (begun_next fs v) (begun_digit limit fs v) p q r (minus_leads limit fs) EmptyInteger old new e tt g (go v a)
+    pub Refuses_whole : (k : JsonParseErrorKind) → Digits sight EmptyInteger q old (Err k) new r → (limit : Option ℕ) (fs : List Frame) → Refuses sight limit p (next fs awaited) k r
+    Refuses_whole k g limit fs = Refuses_digits sight limit (begun fs v) (begun_next fs v) (begun_digit limit fs v) p q r (minus_leads limit fs) EmptyInteger old new k tt g (go v a)
       where
         go : (v : Bool) → Accepts sight (λ c. c == 45) p v q → (o : Option ℕ) → sight.shows r o → IfSome o (λ c. is_ascii_digit c ≡ false) → Still sight q r → Alike limit (begun fs v []) (stop EmptyInteger true) o
         go true a o s h t = no_whole limit fs o h
@@ -54,9 +53,9 @@ module _ {S : Type 0} (sight : Sight S) (p q : S) where
         all : new ≡ g.ds
         all = g.result.0 ∙ ap (λ x. x ++ g.ds) first
 
-        pub Refuses_zero : (e : JsonParseError) → has_leading_zero new ≡ true → e.kind ≡ LeadingZero → error_position e ≡ sight.place r → (limit : Option ℕ) (fs : List Frame) → Refuses sight limit p (next fs awaited) e r
-        Refuses_zero e z i j limit fs = let x = g.result.2 in
-            Refuses_as sight limit p r e LeadingZero i j (Leads_rest sight limit p r (stop LeadingZero true) x.0 (whole_leads limit fs) x.1 tt (zero_leads limit fs v g.ds x.0 (ap has_leading_zero (sym all) ∙ z) x.2))
+        pub Refuses_zero : has_leading_zero new ≡ true → (limit : Option ℕ) (fs : List Frame) → Refuses sight limit p (next fs awaited) LeadingZero r
+        Refuses_zero z limit fs = let x = g.result.2 in
+            Refuses_as sight limit p r LeadingZero (Leads_rest sight limit p r (stop LeadingZero true) x.0 (whole_leads limit fs) x.1 tt (zero_leads limit fs v g.ds x.0 (ap has_leading_zero (sym all) ∙ z) x.2))
 
         pub Part_whole : has_leading_zero new ≡ false → Part sight (λ n. n.negative) (λ (x : Bool × List ℕ). numeral x.0 x.1 [] None) whole p (λ fs. next fs awaited) v new r
         Part_whole z = record {
@@ -85,7 +84,7 @@ module _ {S : Type 0} (sight : Sight S) (p q : S) where
       point_leads : (limit : Option ℕ) (fs : List Frame) → Leads sight limit p (next fs (digits whole (numeral b ds [] None))) q (pointed fs b ds [])
       point_leads limit fs = Leads_one sight limit p p q a.c (Leads_nil sight limit p (next fs (digits whole (numeral b ds [] None)))) a.takes tt (point_read limit fs b ds a.c s.no_leading_zero (is_one 46 a.c a.one)) tt
 
-      pub Reads_fraction : (v : Result (Unit {0}) JsonParseError) → Digits sight EmptyFraction q old v new r → ReadsPart sight (λ _. tt {0}) (λ f. numeral b ds f None) fraction p (λ fs. next fs (digits whole (numeral b ds [] None))) v new r
+      pub Reads_fraction : (v : Result (Unit {0}) JsonParseErrorKind) → Digits sight EmptyFraction q old v new r → ReadsPart sight (λ _. tt {0}) (λ f. numeral b ds f None) fraction p (λ fs. next fs (digits whole (numeral b ds [] None))) v new r
       Reads_fraction (Ok u) g = record {
         part = g.ds;
         has = gathered_fraction b ds g.ds old new s (are_digits g.ds g.digits) g.result.0;
@@ -93,8 +92,8 @@ module _ {S : Type 0} (sight : Sight S) (p q : S) where
         ends = g.result.2;
         leads = λ limit fs. Leads_to sight limit p r (Leads_digits sight limit (pointed fs b ds) (pointed_next fs b ds) (pointed_digit limit fs b ds) p q r (point_leads limit fs) g.ds g.digits g.takes) (pointed_whole fs b ds g.ds g.result.1);
       }
-      Reads_fraction (Err e) g = λ limit fs.
-          Refuses_digits sight limit (pointed fs b ds) (pointed_next fs b ds) (pointed_digit limit fs b ds) p q r (point_leads limit fs) EmptyFraction old new e tt g (λ o t h i. no_fraction limit fs b ds o h)
+      Reads_fraction (Err k) g = λ limit fs.
+          Refuses_digits sight limit (pointed fs b ds) (pointed_next fs b ds) (pointed_digit limit fs b ds) p q r (point_leads limit fs) EmptyFraction old new k tt g (λ o t h i. no_fraction limit fs b ds o h)
 
   -- ---- the exponent
 
@@ -135,9 +134,9 @@ module _ {S : Type 0} (sight : Sight S) (p q : S) where
             Leads_to sight limit p t (Leads_digits sight limit (powered fs b ds f a.c x.sign) (powered_next fs b ds f a.c x.sign) (powered_digit limit fs b ds f a.c x.sign) p r t (sign_leads limit fs) g.ds g.digits g.takes) (powered_whole fs b ds f a.c x.sign g.ds g.result.1);
       }
 
-      pub Refuses_exponent : (e : JsonParseError) → Digits sight EmptyExponent r old (Err e) new t → (limit : Option ℕ) (fs : List Frame) → Refuses sight limit p (next fs (digits fraction (numeral b ds f None))) e t
-      Refuses_exponent e g limit fs =
-          Refuses_digits sight limit (powered fs b ds f a.c x.sign) (powered_next fs b ds f a.c x.sign) (powered_digit limit fs b ds f a.c x.sign) p r t (sign_leads limit fs) EmptyExponent old new e tt g (λ o h d i. no_exponent limit fs b ds f a.c x.sign o d (unsigned h i))
+      pub Refuses_exponent : (k : JsonParseErrorKind) → Digits sight EmptyExponent r old (Err k) new t → (limit : Option ℕ) (fs : List Frame) → Refuses sight limit p (next fs (digits fraction (numeral b ds f None))) k t
+      Refuses_exponent k g limit fs =
+          Refuses_digits sight limit (powered fs b ds f a.c x.sign) (powered_next fs b ds f a.c x.sign) (powered_digit limit fs b ds f a.c x.sign) p r t (sign_leads limit fs) EmptyExponent old new k tt g (λ o h d i. no_exponent limit fs b ds f a.c x.sign o d (unsigned h i))
 
 -- ---- the whole number
 
@@ -228,6 +227,6 @@ module _ {S : Type 0} (sight : Sight S) (limit : Option ℕ) (fs : List Frame) (
       Leads_to sight limit p q (Leads_rest sight limit p q (complete true fs (number (value n.part)) true) e.0 (n.leads limit fs) e.1 tt (number_ends limit fs n.part e.0 r.1 e.2))
       (ap (λ d. complete true fs (number d) true) (sym r.0))
 
-  pub Refuses_range : (err : JsonParseError) → in_range (value n.part) ≡ false → err.kind ≡ NumberOutOfRange → error_position err ≡ sight.place q → Refuses sight limit p (next fs awaited) err q
-  Refuses_range err r i j = let e = n.ends in
-      Refuses_as sight limit p q err NumberOutOfRange i j (Leads_rest sight limit p q (stop NumberOutOfRange true) e.0 (n.leads limit fs) e.1 tt (range_ends limit fs n.part e.0 r e.2))
+  pub Refuses_range : in_range (value n.part) ≡ false → Refuses sight limit p (next fs awaited) NumberOutOfRange q
+  Refuses_range r = let e = n.ends in
+      Refuses_as sight limit p q NumberOutOfRange (Leads_rest sight limit p q (stop NumberOutOfRange true) e.0 (n.leads limit fs) e.1 tt (range_ends limit fs n.part e.0 r e.2))

@@ -11,7 +11,7 @@ use Rattle.tinyjson.specs.Error.{error_position}
 use Rattle.tinyjson_grammar.specs.Grammar.{IsText, IsAccepted}
 use Rattle.tinyjson_grammar.specs.Machine.{Frame, Phase, State, Next, next, stop, awaited, finished, accepted, refused, step, end, run, reach, reach_on, strictly}
 use Rattle.tinyjson_grammar.specs.Position.{advance, origin}
-use Rattle.tinyjson.specs.private.Steps.{IsNext, IsLate, IsHeld, Leads, Halts, Refuses, Reads, Grows, behind, onward, outcome}
+use Rattle.tinyjson.specs.private.Steps.{IsNext, IsLate, IsHeld, Leads, Halts, Refuses, ReadsText, Grows, behind, onward, outcome}
 use Rattle.tinyjson_grammar.specs.Refusal.{IsInterrupted, IsRefusal, MayGrow, RefusalSays}
 use Rattle.tinyjson_grammar.specs.Tree.{Tree}
 use Rattle.tinyjson.specs.View.{view}
@@ -100,21 +100,22 @@ module _ {S : Type 0} (sight : Sight S) (limit : Option ℕ) where
         (λ v. (rest ≡ []) × IsText limit xs (view v))
         (λ e. (error_position e ≡ sight.place q) × RefusalSays limit e.kind consumed rest)
 
-  answered_error : (p q : S) (e : JsonParseError) (xs : List ℕ) → sight.gives p xs → All IsScalar xs → Refuses sight limit p (next [] awaited) e q → (e.kind ≡ kind.OutOfMemory → Grows sight p) → Answered p xs (Err e) q
-  answered_error p q e xs g a r m = ⊎_elim told wanted r.why
+  answered_error : (p q : S) (e : JsonParseError) (xs : List ℕ) → sight.gives p xs → All IsScalar xs → error_position e ≡ sight.place q → Refuses sight limit p (next [] awaited) e.kind q
+      → (e.kind ≡ kind.OutOfMemory → Grows sight p) → Answered p xs (Err e) q
+  answered_error p q e xs g a h r m = ⊎_elim told wanted r
     where
-      told : (k : JsonParseErrorKind) × (e.kind ≡ k) × Leads sight limit p (next [] awaited) q (stop k true) → Answered p xs (Err e) q
-      told w =
-          let x = w.2.gives xs g in
-          let ran : run (strictly limit) [] awaited (w.2.taken ++ x.0) ≡ refused w.0 x.0 = Comes_outcome limit (next [] awaited) (stop w.0 true) w.2.taken x.0 x.3 in
-          let s = refuses limit w.2.taken x.0 (subst (All IsScalar) x.1 a) w.0 ran in
+      told : Leads sight limit p (next [] awaited) q (stop e.kind true) → Answered p xs (Err e) q
+      told l =
+          let x = l.gives xs g in
+          let ran : run (strictly limit) [] awaited (l.taken ++ x.0) ≡ refused e.kind x.0 = Comes_outcome limit (next [] awaited) (stop e.kind true) l.taken x.0 x.3 in
+          let s = refuses limit l.taken x.0 (subst (All IsScalar) x.1 a) e.kind ran in
           record {
-            consumed = w.2.taken;
+            consumed = l.taken;
             rest = x.0;
             whole = x.1;
             gives = x.2;
-            moves = w.2.moves;
-            answer = (r.place, subst (λ k. RefusalSays limit k w.2.taken x.0) (sym w.1) (refusal_says limit w.0 w.2.taken x.0 s));
+            moves = l.moves;
+            answer = (h, refusal_says limit e.kind l.taken x.0 s);
           }
 
       wanted : (e.kind ≡ kind.OutOfMemory) × Halts sight limit p (next [] awaited) q → Answered p xs (Err e) q
@@ -128,18 +129,18 @@ module _ {S : Type 0} (sight : Sight S) (limit : Option ℕ) where
             whole = x.1;
             gives = x.2;
             moves = w.1.moves;
-            answer = (r.place, subst (λ k. RefusalSays limit k w.1.taken x.0) (sym w.0) (i, n));
+            answer = (h, subst (λ k. RefusalSays limit k w.1.taken x.0) (sym w.0) (i, n));
           }
 
-  pub answered : (p q : S) (r : Result JsonValue JsonParseError) → Reads sight limit p (next [] awaited) r (λ v. next [] (finished (view v))) q → OnOk r (sight.shows q None)
-      → IfErr r (λ e. e.kind ≡ kind.OutOfMemory → Grows sight p) → (xs : List ℕ) → sight.gives p xs → All IsScalar xs → Answered p xs r q
+  pub answered : (p q : S) (r : Result JsonValue JsonParseError) → ReadsText sight limit p r q → OnOk r (sight.shows q None) → IfErr r (λ e. e.kind ≡ kind.OutOfMemory → Grows sight p)
+      → (xs : List ℕ) → sight.gives p xs → All IsScalar xs → Answered p xs r q
   answered p q (Ok v) l s m xs g a =
       let x = l.gives xs g in
       let n = sight.none q x.0 s x.2 in
       let w = next [] (finished (view v)) in
       let ran : run (strictly limit) [] awaited xs ≡ accepted (view v) = ap (outcome limit (next [] awaited)) x.1 ∙ Comes_outcome limit (next [] awaited) w l.taken x.0 x.3 ∙ ap (outcome limit w) n ∙ end_finished limit (view v) in
       record { consumed = l.taken; rest = x.0; whole = x.1; gives = x.2; moves = l.moves; answer = (n, (accepts limit xs a (view v)).0 ran) }
-  answered p q (Err e) l s m xs g a = answered_error p q e xs g a l m
+  answered p q (Err e) l s m xs g a = answered_error p q e xs g a l.0 l.1 m
 
   -- of a source that stands at the origin
   pub answered_text : (p q : S) (xs : List ℕ) (r : Result JsonValue JsonParseError) → sight.place p ≡ origin → Answered p xs r q → ParsesText limit xs r

@@ -6,7 +6,6 @@ use Rattle.std.specs.Char.{is_ascii_digit}
 use Rattle.tinyjson_grammar.specs.Kind.{kind_of}
 use Rattle.tinyjson_grammar.specs.Tree.{Tree}
 use Rattle.tinyjson_grammar.specs.declared.error.JsonParseErrorKind.{JsonParseErrorKind}
-use Rattle.tinyjson.specs.declared.parser.error.JsonParseError.{JsonParseError}
 use Rattle.tinyjson_grammar.specs.declared.error.JsonParseErrorKind.TheVariants.{OutOfMemory}
 use Rattle.tinyjson_grammar.specs.Position.{advance}
 use Rattle.tinyjson_grammar.specs.Characters.{is_white}
@@ -14,7 +13,6 @@ use Rattle.tinyjson_source.specs.Source.{Sight, Takes, Whites}
 use Rattle.tinyjson_grammar.specs.declared.error.JsonParseErrorKind.TheVariants.{UnexpectedEof, ExpectedEof, InvalidCharacter, InvalidUtf16, KeyNotString, UnexpectedInLiteral}
 use Rattle.tinyjson_grammar.specs.Machine.{strictly, Within, quoted, end, colon, Frame, in_array, at_key, at_value, first, awaited, after, finished, Next, next, stop, refused, complete, step, run, go_on}
 use Rattle.tinyjson_grammar.specs.Tree.{is_string, key_of}
-use Rattle.tinyjson.specs.Error.{error_position}
 use Rattle.tinyjson.specs.private.Steps.{onward, ending, outcome, IsNext, IsTaken, behind, wanting, Same, Comes, IsLate, IsHeld, Leads, Halts, Refuses, Reads}
 use Rattle.tinyjson_source.proofs.Callers.{Takes_nil}
 use Rattle.tinyjson_grammar.proofs.Callers.{advance_append}
@@ -250,20 +248,17 @@ module _ {S : Type 0} (sight : Sight S) (limit : Option ℕ) where
   Leads_none p q r {n} {m} {o} a t s e k = Leads_end p r (Leads_peek p q r a t) s e k
 
   -- an error of the kind that the machine says, and because memory ran out
-  pub Refuses_as : (p q : S) {n : Next} (e : JsonParseError) (k : JsonParseErrorKind) → e.kind ≡ k → error_position e ≡ sight.place q → Leads sight limit p n q (stop k true) → Refuses sight limit p n e q
-  Refuses_as p q e k s a l = record { place = a; why = inl (k, s, l) }
+  pub Refuses_as : (p q : S) {n : Next} (k : JsonParseErrorKind) → Leads sight limit p n q (stop k true) → Refuses sight limit p n k q
+  Refuses_as p q k l = inl l
 
-  pub Refuses_memory : (p q : S) {n : Next} (e : JsonParseError) → e.kind ≡ OutOfMemory → error_position e ≡ sight.place q → Halts sight limit p n q → Refuses sight limit p n e q
-  Refuses_memory p q e s a l = record { place = a; why = inr (s, l) }
+  pub Refuses_memory : (p q : S) {n : Next} → Halts sight limit p n q → Refuses sight limit p n OutOfMemory q
+  Refuses_memory p q l = inr (refl, l)
 
-  pub Refuses_after : (p q r : S) {n m : Next} (e : JsonParseError) → Leads sight limit p n q m → Refuses sight limit q m e r → Refuses sight limit p n e r
-  Refuses_after p q r {n} {m} e a b = record {
-    place = b.place;
-    why = ⊎_elim (λ w. inl (w.0, w.1, Leads_trans p q r a w.2)) (λ w. inr (w.0, Halts_trans p q r a w.1)) b.why;
-  }
+  pub Refuses_after : (p q r : S) {n m : Next} (k : JsonParseErrorKind) → Leads sight limit p n q m → Refuses sight limit q m k r → Refuses sight limit p n k r
+  Refuses_after p q r k a b = ⊎_elim (λ w. inl (Leads_trans p q r a w)) (λ w. inr (w.0, Halts_trans p q r a w.1)) b
 
   -- what was read before, and what was read then
-  pub Reads_after : {T : Type 0} (p q s : S) {n m : Next} (r : Result T JsonParseError) (K : T → Next) → Leads sight limit p n q m → Reads sight limit q m r K s → Reads sight limit p n r K s
+  pub Reads_after : {T : Type 0} (p q s : S) {n m : Next} (r : Result T JsonParseErrorKind) (K : T → Next) → Leads sight limit p n q m → Reads sight limit q m r K s → Reads sight limit p n r K s
   Reads_after p q s (Ok v) K a b = Leads_trans p q s a b
   Reads_after p q s (Err e) K a b = Refuses_after p q s e a b
 

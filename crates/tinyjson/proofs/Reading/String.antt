@@ -8,7 +8,7 @@ use Rattle.std.proofs.lemmas.Bool.{ne_eqb}
 use Rattle.std.proofs.lemmas.Bool.Decides.{nat_tests}
 use Rattle.tinyjson_grammar.specs.Tree.{string}
 use Rattle.tinyjson.specs.View.{text}
-use Rattle.tinyjson.specs.declared.parser.error.JsonParseError.{JsonParseError}
+use Rattle.tinyjson_grammar.specs.declared.error.JsonParseErrorKind.{JsonParseErrorKind}
 use Rattle.tinyjson_grammar.specs.Characters.{is_hex, unit_of, paired, decode, short_escape}
 use Rattle.tinyjson_scan.specs.Scan.{is_plain}
 use Rattle.tinyjson_source.specs.Source.{Sight, Takes, TakesRun}
@@ -19,12 +19,12 @@ use Rattle.tinyjson.proofs.Reading.Steps.{Comes_trans, Same_refl, taken_complete
 
 module _ {S : Type 0} (sight : Sight S) (limit : Option ℕ) where
   -- the units before the character that was read, c, could not be added
-  pub Refuses_fails : (p q r : S) {n m : Next} (o : Next) (e : JsonParseError) (b : Bool) (c : ℕ) → Leads sight limit p n q m → Takes sight q (c ∷ []) r → IsNext n → IsNext m
-      → IsNext o → onward limit m c ≡ cond (not b) (stop InvalidUtf16 true) o → Fails e b (sight.place r) → Refuses sight limit p n e r
-  Refuses_fails p q r {n} {m} o e b c l t i h j s f = ⊎_elim
-      (λ w. Refuses_as sight limit p r e InvalidUtf16 w.1 f.place (Leads_one sight limit p q r c l t h (s ∙ ap (λ x. cond (not x) (stop InvalidUtf16 true) o) w.0) tt))
-      (λ w. Refuses_memory sight limit p r e w f.place (halts b s))
-      f.why
+  pub Refuses_fails : (p q r : S) {n m : Next} (o : Next) (k : JsonParseErrorKind) (b : Bool) (c : ℕ) → Leads sight limit p n q m → Takes sight q (c ∷ []) r → IsNext n → IsNext m
+      → IsNext o → onward limit m c ≡ cond (not b) (stop InvalidUtf16 true) o → Fails b k → Refuses sight limit p n k r
+  Refuses_fails p q r {n} {m} o k b c l t i h j s f = ⊎_elim
+      (λ w. rw w.1 (Refuses_as sight limit p r InvalidUtf16 (Leads_one sight limit p q r c l t h (s ∙ ap (λ x. cond (not x) (stop InvalidUtf16 true) o) w.0) tt)))
+      (λ w. rw w (Refuses_memory sight limit p r (halts b s)))
+      f
     where
       taken : (z : Next) → IsNext z → IsTaken z
       taken (next gs x) k = tt
@@ -35,15 +35,15 @@ module _ {S : Type 0} (sight : Sight S) (limit : Option ℕ) where
       halts false g = Halts_late sight limit p q r c l t h g
 
   -- they were added, and a character d
-  pub Reads_add : (p q r : S) {n m : Next} (fs : List Frame) (v : Result Bool JsonParseError) (old new : String Global) (us vs : List ℕ) (c d : ℕ) → Leads sight limit p n q m → Takes sight q (c ∷ []) r → IsNext n → IsNext m
+  pub Reads_add : (p q r : S) {n m : Next} (fs : List Frame) (v : Result Bool JsonParseErrorKind) (old new : String Global) (us vs : List ℕ) (c d : ℕ) → Leads sight limit p n q m → Takes sight q (c ∷ []) r → IsNext n → IsNext m
       → onward limit m c ≡ cond (not (paired us)) (stop InvalidUtf16 true) (next fs (quoted plain ((text old ++ decode us) ++ d ∷ []) []))
-      → MatchResult v (λ done. (done ≡ false) × (paired us ≡ true) × (text new ≡ (text old ++ decode us) ++ d ∷ []) × (vs ≡ [])) (λ e. Fails e (paired us) (sight.place r))
+      → MatchResult v (λ done. (done ≡ false) × (paired us ≡ true) × (text new ≡ (text old ++ decode us) ++ d ∷ []) × (vs ≡ [])) (Fails (paired us))
       → Reads sight limit p n v (within fs new vs) r
   Reads_add p q r {n} {m} fs (Ok done) old new us vs c d l t i h s f =
       let o : Next = next fs (quoted plain ((text old ++ decode us) ++ d ∷ []) []) in
       let e : within fs new vs done ≡ o = ap (within fs new vs) f.0 ∙ ap₂ (λ x y. next fs (quoted plain x y)) f.2 f.3 in
       Leads_one sight limit p q r c l t h (s ∙ ap (λ x. cond (not x) (stop InvalidUtf16 true) o) f.1 ∙ sym e) (subst IsTaken (sym e) tt)
-  Reads_add p q r fs (Err e) old new us vs c d l t i h s f = Refuses_fails p q r (next fs (quoted plain ((text old ++ decode us) ++ d ∷ []) [])) e (paired us) c l t i h tt s f
+  Reads_add p q r fs (Err k) old new us vs c d l t i h s f = Refuses_fails p q r (next fs (quoted plain ((text old ++ decode us) ++ d ∷ []) [])) k (paired us) c l t i h tt s f
 
 -- ---- hexadecimal digits
 

@@ -4,11 +4,9 @@ use Rattle.std.specs.Prelude.{Option, Some, None, Result, MatchResult, MatchBool
 use Rattle.std.specs.Char.{is_ascii_digit}
 use Rattle.std.specs.List.{AllByRecursion}
 use Rattle.tinyjson_number.specs.Numeral.{Numeral, Exponent, IsNumeral, has_leading_zero, is_sign, sign_text}
-use Rattle.tinyjson.specs.Error.{error_position}
 use Rattle.tinyjson_source.specs.Source.{Sight, Still, Takes}
 use Rattle.tinyjson_grammar.specs.Machine.{Frame, Stage, Next, next, digits}
 use Rattle.tinyjson.specs.private.Steps.{Ends, Leads, Refuses}
-use Rattle.tinyjson.specs.declared.parser.error.JsonParseError.{JsonParseError}
 use Rattle.tinyjson.specs.declared.parser.number.Marks.{Marks}
 use Rattle.tinyjson_grammar.specs.declared.error.JsonParseErrorKind.{JsonParseErrorKind}
 use Rattle.tinyjson_grammar.specs.declared.error.JsonParseErrorKind.TheVariants.{OutOfMemory}
@@ -82,14 +80,13 @@ module _ {S : Type 0} (sight : Sight S) where
 
   -- Digits were taken and added to a text, until no digit came. There was one at least, or the refusal is of
   -- that kind; or there was no memory.
-  pub record Digits (empty : JsonParseErrorKind) (p : S) (old : List ℕ) (r : Result (Unit {0}) JsonParseError)
+  pub record Digits (empty : JsonParseErrorKind) (p : S) (old : List ℕ) (r : Result (Unit {0}) JsonParseErrorKind)
       (new : List ℕ) (q : S) : Type 0 where
     pub ds : List ℕ
     pub digits : AllByRecursion (λ c. is_ascii_digit c ≡ true) ds
     pub takes : Takes sight p ds q
     pub result : MatchResult r (λ _. (new ≡ old ++ ds) × (0 < length ds) × Ends sight q)
-        (λ e. (error_position e ≡ sight.place q)
-        × (((e.kind ≡ empty) × (ds ≡ []) × Ends sight q × Still sight p q) ⊎ (e.kind ≡ OutOfMemory)))
+        (λ k. ((k ≡ empty) × (ds ≡ []) × Ends sight q × Still sight p q) ⊎ (k ≡ OutOfMemory))
 
   -- A part of a number was read. The text now has the digits of a numeral of that form, the machine came to it in that stage, and no
   -- digit comes next.
@@ -102,6 +99,6 @@ module _ {S : Type 0} (sight : Sight S) where
     pub leads : (limit : Option ℕ) (fs : List Frame) → Leads sight limit p (before fs) q (next fs (digits stage (form part)))
 
   abbrev pub ReadsPart : {A T : Type 0} → (Numeral → T) → (A → Numeral) → Stage → S → (List Frame → Next) →
-      Result T JsonParseError → List ℕ → S → Type 0
+      Result T JsonParseErrorKind → List ℕ → S → Type 0
   ReadsPart answer form stage p before r new q = MatchResult r (λ v. Part answer form stage p before v new q)
-      (λ e. (limit : Option ℕ) (fs : List Frame) → Refuses sight limit p (before fs) e q)
+      (λ k. (limit : Option ℕ) (fs : List Frame) → Refuses sight limit p (before fs) k q)

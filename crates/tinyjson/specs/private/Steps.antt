@@ -4,14 +4,15 @@ use Rattle.std.specs.Prelude.{IfErr, IsTrue, MatchResult, IfSome, String, cond, 
 use Rattle.std.specs.Char.{is_ascii_digit}
 use Rattle.std.specs.declared.alloc.Global.{Global}
 use Rattle.tinyjson_grammar.specs.Tree.{Tree, string}
-use Rattle.tinyjson.specs.View.{text}
-use Rattle.tinyjson_grammar.specs.Position.{Position, advance}
+use Rattle.tinyjson.specs.View.{text, view}
+use Rattle.tinyjson_grammar.specs.Position.{advance}
 use Rattle.tinyjson.specs.Error.{error_position}
 use Rattle.tinyjson_grammar.specs.Refusal.{MayGrow, begins_growth}
 use Rattle.tinyjson_source.specs.Source.{Sight}
-use Rattle.tinyjson_grammar.specs.Machine.{Frame, word, plain, quoted, Next, next, stop, Outcome}
+use Rattle.tinyjson_grammar.specs.Machine.{Frame, awaited, finished, word, plain, quoted, Next, next, stop, Outcome}
 use Rattle.tinyjson_grammar.specs.Machine.{refused, complete, step, end, run, strictly}
 use Rattle.tinyjson.specs.declared.parser.error.JsonParseError.{JsonParseError}
+use Rattle.tinyjson.specs.declared.value.JsonValue.{JsonValue}
 use Rattle.tinyjson_grammar.specs.declared.error.JsonParseErrorKind.{JsonParseErrorKind}
 use Rattle.tinyjson_grammar.specs.declared.error.JsonParseErrorKind.TheVariants.{InvalidUtf16, OutOfMemory}
 
@@ -25,9 +26,8 @@ abbrev pub within : List Frame → String Global → List ℕ → Bool → Next
 within fs s us done = cond done (complete true fs (string (text s)) true) (next fs (quoted plain (text s) us))
 
 -- why characters could not be added to a string: a unit had no partner, or there was no memory
-pub record Fails (e : JsonParseError) (whole : Bool) (p : Position) : Type 0 where
-  pub place : error_position e ≡ p
-  pub why : ((whole ≡ false) × (e.kind ≡ InvalidUtf16)) ⊎ (e.kind ≡ OutOfMemory)
+abbrev pub Fails : Bool → JsonParseErrorKind → Type 0
+Fails whole k = ((whole ≡ false) × (k ≡ InvalidUtf16)) ⊎ (k ≡ OutOfMemory)
 
 -- no digit comes
 abbrev pub Ends : {S : Type 0} → Sight S → S → Type 0
@@ -100,13 +100,17 @@ module _ {S : Type 0} (sight : Sight S) (limit : Option ℕ) where
     pub moves : sight.place q ≡ advance (sight.place p) taken
 
   -- the machine refuses, or there was no memory
-  pub record Refuses (p : S) (n : Next) (e : JsonParseError) (q : S) : Type 0 where
-    pub place : error_position e ≡ sight.place q
-    pub why : ((k : JsonParseErrorKind) × (e.kind ≡ k) × Leads p n q (stop k true)) ⊎ ((e.kind ≡ OutOfMemory) × Halts p n q)
+  abbrev pub Refuses : S → Next → JsonParseErrorKind → S → Type 0
+  Refuses p n k q = Leads p n q (stop k true) ⊎ ((k ≡ OutOfMemory) × Halts p n q)
 
   -- a part of the parser, in which the machine went from n to the state of the result
-  abbrev pub Reads : {T : Type 0} → S → Next → Result T JsonParseError → (T → Next) → S → Type 0
-  Reads p n r m q = MatchResult r (λ v. Leads p n q (m v)) (λ e. Refuses p n e q)
+  abbrev pub Reads : {T : Type 0} → S → Next → Result T JsonParseErrorKind → (T → Next) → S → Type 0
+  Reads p n r m q = MatchResult r (λ v. Leads p n q (m v)) (λ k. Refuses p n k q)
+
+  -- a whole text: its value, or an error where the source stands
+  abbrev pub ReadsText : S → Result JsonValue JsonParseError → S → Type 0
+  ReadsText p r q = MatchResult r (λ v. Leads p (next [] awaited) q (next [] (finished (view v))))
+      (λ e. (error_position e ≡ sight.place q) × Refuses p (next [] awaited) e.kind q)
 
 module _ {S : Type 0} (sight : Sight S) where
   -- what the cursor gives begins, behind white space, with a string, a number or a container
@@ -114,13 +118,13 @@ module _ {S : Type 0} (sight : Sight S) where
   Grows p = (zs : List ℕ) → sight.gives p zs → MayGrow zs
 
 -- a call that succeeded, or found no memory, began with a character that begins a string, a number or a container
-abbrev pub GrowsFor : {T : Type 0} → ℕ → Result T JsonParseError → Type 0
-GrowsFor c r = MatchResult r (λ _. IsTrue (begins_growth c)) (λ e. e.kind ≡ OutOfMemory → IsTrue (begins_growth c))
+abbrev pub GrowsFor : {T : Type 0} → ℕ → Result T JsonParseErrorKind → Type 0
+GrowsFor c r = MatchResult r (λ _. IsTrue (begins_growth c)) (λ k. k ≡ OutOfMemory → IsTrue (begins_growth c))
 
 -- a letter that begins a literal
 abbrev pub BeginsLiteral : ℕ → Type 0
 BeginsLiteral c = (c ≡ 110) ⊎ (c ≡ 116) ⊎ (c ≡ 102)
 
 -- no out of memory
-abbrev pub NeedsNone : {T : Type 0} → Result T JsonParseError → Type 0
-NeedsNone r = IfErr r (λ e. e.kind ≡ OutOfMemory → ⊥)
+abbrev pub NeedsNone : {T : Type 0} → Result T JsonParseErrorKind → Type 0
+NeedsNone r = IfErr r (λ k. k ≡ OutOfMemory → ⊥)

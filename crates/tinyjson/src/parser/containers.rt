@@ -7,7 +7,7 @@ ghost use Rattle.tinyjson.specs.private.Steps.{Reads};
 ghost use Rattle.tinyjson.specs.View.{view, text};
 ghost use Rattle.tinyjson.specs.declared.parser.stack.Frame.TheVariants as container;
 
-use super::error::{JsonParseError, JsonParseErrorKind};
+use super::error::JsonParseErrorKind;
 use super::reader::Reader;
 use super::stack::{Frame, Stack};
 use super::tokens::Tokens;
@@ -31,7 +31,7 @@ impl<S: Tokens> Reader<S> {
         &mut self,
         limit: Option<usize>,
         stack: &mut Stack,
-    ) -> Result<bool, JsonParseError>
+    ) -> Result<bool, JsonParseErrorKind>
         requires shown { S.sight.shows self.old.source (Some 91) }
         requires sound { IsSound stack.old false }
         ensures reads { Reads S.sight limit self.old.source (next (frames stack.old) awaited) result
@@ -40,7 +40,7 @@ impl<S: Tokens> Reader<S> {
         ensures left { OnOk result (S.left self.new.source < S.left self.old.source) }
     {
         if !fits(limit, stack.depth()) {
-            return Err(self.refuse(JsonParseErrorKind::TooDeep('[')));
+            return Err(JsonParseErrorKind::TooDeep('['));
         }
         self.source.consume('[');
         match self.source.skip_white() {
@@ -50,7 +50,7 @@ impl<S: Tokens> Reader<S> {
             }
             _ => {
                 if stack.open_array().is_err() {
-                    return Err(self.refuse(JsonParseErrorKind::OutOfMemory));
+                    return Err(JsonParseErrorKind::OutOfMemory);
                 }
                 Ok(false)
             }
@@ -62,7 +62,7 @@ impl<S: Tokens> Reader<S> {
         &mut self,
         limit: Option<usize>,
         stack: &mut Stack,
-    ) -> Result<bool, JsonParseError>
+    ) -> Result<bool, JsonParseErrorKind>
         requires shown { S.sight.shows self.old.source (Some 123) }
         requires sound { IsSound stack.old false }
         ensures reads { Reads S.sight limit self.old.source (next (frames stack.old) awaited) result
@@ -71,7 +71,7 @@ impl<S: Tokens> Reader<S> {
         ensures left { OnOk result (S.left self.new.source < S.left self.old.source) }
     {
         if !fits(limit, stack.depth()) {
-            return Err(self.refuse(JsonParseErrorKind::TooDeep('{')));
+            return Err(JsonParseErrorKind::TooDeep('{'));
         }
         self.source.consume('{');
         match self.source.skip_white() {
@@ -81,7 +81,7 @@ impl<S: Tokens> Reader<S> {
             }
             _ => {
                 if stack.open_object().is_err() {
-                    return Err(self.refuse(JsonParseErrorKind::OutOfMemory));
+                    return Err(JsonParseErrorKind::OutOfMemory);
                 }
                 self.key(stack)
             }
@@ -94,7 +94,7 @@ impl<S: Tokens> Reader<S> {
         &mut self,
         stack: &mut Stack,
         value: JsonValue,
-    ) -> Result<bool, JsonParseError>
+    ) -> Result<bool, JsonParseErrorKind>
         requires sound { IsSound stack.old false }
         ensures reads { (limit : Option ℕ) → Reads S.sight limit self.old.source
             (complete true (frames stack.old) (view value) true) result (at stack.new)
@@ -106,14 +106,18 @@ impl<S: Tokens> Reader<S> {
             return self.use_as_key(stack, value);
         }
         if stack.push(value).is_err() {
-            return Err(self.refuse(JsonParseErrorKind::OutOfMemory));
+            return Err(JsonParseErrorKind::OutOfMemory);
         }
         Ok(true)
     }
 
     /// Makes a value the key of its object, and reads the colon.
     #[inline(never)]
-    fn use_as_key(&mut self, stack: &mut Stack, value: JsonValue) -> Result<bool, JsonParseError>
+    fn use_as_key(
+        &mut self,
+        stack: &mut Stack,
+        value: JsonValue,
+    ) -> Result<bool, JsonParseErrorKind>
         requires sound { IsSound stack.old false }
         requires awaits { AwaitsKey stack.old }
         ensures reads { (limit : Option ℕ) → Reads S.sight limit self.old.source
@@ -127,14 +131,14 @@ impl<S: Tokens> Reader<S> {
             other => {
                 let kind = JsonParseErrorKind::KeyNotString(other.kind());
                 other.dismantle();
-                Err(self.refuse(kind))
+                Err(kind)
             }
         }
     }
 
     /// Reads a string as the key of its object, and the colon, if a string comes next.
     #[inline(always)]
-    fn key(&mut self, stack: &mut Stack) -> Result<bool, JsonParseError>
+    fn key(&mut self, stack: &mut Stack) -> Result<bool, JsonParseErrorKind>
         requires sound { IsSound stack.old false }
         requires awaits { AwaitsKey stack.old }
         ensures reads { (limit : Option ℕ) → Reads S.sight limit self.old.source
@@ -154,7 +158,7 @@ impl<S: Tokens> Reader<S> {
 
     /// Reads the colon behind a key.
     #[inline(always)]
-    fn colon(&mut self, stack: &mut Stack, key: String) -> Result<bool, JsonParseError>
+    fn colon(&mut self, stack: &mut Stack, key: String) -> Result<bool, JsonParseErrorKind>
         requires sound { IsSound stack.old false }
         requires awaits { AwaitsKey stack.old }
         ensures reads { (limit : Option ℕ) → Reads S.sight limit self.old.source
@@ -166,20 +170,20 @@ impl<S: Tokens> Reader<S> {
             Some(':') => {
                 self.source.consume(':');
                 if stack.begin_member(key).is_err() {
-                    return Err(self.refuse(JsonParseErrorKind::OutOfMemory));
+                    return Err(JsonParseErrorKind::OutOfMemory);
                 }
                 Ok(false)
             }
             Some(c) => {
                 self.source.consume(c);
-                Err(self.refuse(JsonParseErrorKind::ExpectedColon(c)))
+                Err(JsonParseErrorKind::ExpectedColon(c))
             }
-            None => Err(self.refuse(JsonParseErrorKind::UnexpectedEof)),
+            None => Err(JsonParseErrorKind::UnexpectedEof),
         }
     }
 
     /// Reads a comma or the bracket that closes the array, behind an item.
-    fn after_item(&mut self, stack: &mut Stack, values: usize) -> Result<bool, JsonParseError>
+    fn after_item(&mut self, stack: &mut Stack, values: usize) -> Result<bool, JsonParseErrorKind>
         requires sound { IsSound stack.old true }
         requires array { Innermost stack.old (container.Array values) }
         ensures reads { (limit : Option ℕ) → Reads S.sight limit self.old.source
@@ -194,16 +198,16 @@ impl<S: Tokens> Reader<S> {
             }
             Some(']') => {
                 let Ok(array) = stack.close_array(values) else {
-                    return Err(self.refuse(JsonParseErrorKind::OutOfMemory));
+                    return Err(JsonParseErrorKind::OutOfMemory);
                 };
                 self.source.consume(']');
                 self.put(stack, array)
             }
             Some(c) => {
                 self.source.consume(c);
-                Err(self.refuse(JsonParseErrorKind::ExpectedCommaOrBracket(c)))
+                Err(JsonParseErrorKind::ExpectedCommaOrBracket(c))
             }
-            None => Err(self.refuse(JsonParseErrorKind::UnexpectedEof)),
+            None => Err(JsonParseErrorKind::UnexpectedEof),
         }
     }
 
@@ -213,7 +217,7 @@ impl<S: Tokens> Reader<S> {
         stack: &mut Stack,
         values: usize,
         keys: usize,
-    ) -> Result<bool, JsonParseError>
+    ) -> Result<bool, JsonParseErrorKind>
         requires sound { IsSound stack.old true }
         requires member { Innermost stack.old (container.Member values keys) }
         ensures reads { (limit : Option ℕ) → Reads S.sight limit self.old.source
@@ -224,23 +228,23 @@ impl<S: Tokens> Reader<S> {
         match self.source.skip_white() {
             Some(',') => {
                 if stack.end_member(values, keys).is_err() {
-                    return Err(self.refuse(JsonParseErrorKind::OutOfMemory));
+                    return Err(JsonParseErrorKind::OutOfMemory);
                 }
                 self.source.consume(',');
                 self.key(stack)
             }
             Some('}') => {
                 let Ok(object) = stack.close_object(values, keys) else {
-                    return Err(self.refuse(JsonParseErrorKind::OutOfMemory));
+                    return Err(JsonParseErrorKind::OutOfMemory);
                 };
                 self.source.consume('}');
                 self.put(stack, object)
             }
             Some(c) => {
                 self.source.consume(c);
-                Err(self.refuse(JsonParseErrorKind::ExpectedCommaOrBrace(c)))
+                Err(JsonParseErrorKind::ExpectedCommaOrBrace(c))
             }
-            None => Err(self.refuse(JsonParseErrorKind::UnexpectedEof)),
+            None => Err(JsonParseErrorKind::UnexpectedEof),
         }
     }
 
@@ -249,7 +253,7 @@ impl<S: Tokens> Reader<S> {
         &mut self,
         stack: &mut Stack,
         container: Frame,
-    ) -> Result<bool, JsonParseError>
+    ) -> Result<bool, JsonParseErrorKind>
         requires sound { IsSound stack.old true }
         requires innermost { Innermost stack.old container }
         ensures reads { (limit : Option ℕ) → Reads S.sight limit self.old.source

@@ -17,7 +17,7 @@ ghost use Rattle.tinyjson_number.specs.Numeral.{AreDigits, Numeral, has_leading_
 ghost use Rattle.tinyjson_number.specs.Numeral.{is_exponent_letter, is_sign, minus_text};
 ghost use Rattle.tinyjson_number.specs.Reading.{ReadsNumeral, exponent_of};
 
-use super::error::{JsonParseError, JsonParseErrorKind};
+use super::error::JsonParseErrorKind;
 use super::reader::Reader;
 use super::stack::Stack;
 use super::tokens::Tokens;
@@ -224,7 +224,7 @@ impl<S: Tokens> Reader<S> {
     /// Reads the number whose first character, a minus sign or a digit, comes next, and puts it where it
     /// belongs.
     #[inline(always)]
-    pub(super) fn number(&mut self, stack: &mut Stack) -> Result<bool, JsonParseError>
+    pub(super) fn number(&mut self, stack: &mut Stack) -> Result<bool, JsonParseErrorKind>
         requires begins { BeginsNumber S.sight self.old.source }
         requires sound { IsSound stack.old false }
         ensures reads { (limit : Option ℕ) → Reads S.sight limit self.old.source
@@ -243,7 +243,7 @@ impl<S: Tokens> Reader<S> {
 
     /// Reads the number by its exponent, or piece by piece.
     #[inline(never)]
-    fn long_number(&mut self, stack: &mut Stack) -> Result<bool, JsonParseError>
+    fn long_number(&mut self, stack: &mut Stack) -> Result<bool, JsonParseErrorKind>
         requires begins { BeginsNumber S.sight self.old.source }
         requires sound { IsSound stack.old false }
         ensures reads { (limit : Option ℕ) → Reads S.sight limit self.old.source
@@ -261,7 +261,7 @@ impl<S: Tokens> Reader<S> {
 
     /// Reads the number by its parts, whose digits are gathered.
     #[inline(always)]
-    fn gathered_number(&mut self) -> Result<JsonNumber, JsonParseError>
+    fn gathered_number(&mut self) -> Result<JsonNumber, JsonParseErrorKind>
         requires { BeginsNumber S.sight self.old.source }
         ensures reads { (limit : Option ℕ) (fs : List Frame) →
             Reads S.sight limit self.old.source (next fs awaited) result
@@ -271,13 +271,13 @@ impl<S: Tokens> Reader<S> {
         let marks = self.parts()?;
         match self.gathered(marks) {
             Ok(number) => Ok(number),
-            Err(LiteralError::OutOfRange) => Err(self.refuse(JsonParseErrorKind::NumberOutOfRange)),
-            Err(LiteralError::OutOfMemory) => Err(self.refuse(JsonParseErrorKind::OutOfMemory)),
+            Err(LiteralError::OutOfRange) => Err(JsonParseErrorKind::NumberOutOfRange),
+            Err(LiteralError::OutOfMemory) => Err(JsonParseErrorKind::OutOfMemory),
         }
     }
 
     /// Reads the digits of a number's parts into the buffer.
-    fn parts(&mut self) -> Result<Marks, JsonParseError>
+    fn parts(&mut self) -> Result<Marks, JsonParseErrorKind>
         requires { BeginsNumber S.sight self.old.source }
         ensures reads { ReadsPart S.sight marks_of (λ n. n) exponent
             self.old.source (λ fs. next fs awaited) result (string_bytes self.new.digit_buffer)
@@ -319,7 +319,7 @@ impl<S: Tokens> Reader<S> {
 
     /// Reads the minus sign, if there is one, and the digits of the whole part; says whether there is a
     /// minus sign.
-    fn integer(&mut self) -> Result<bool, JsonParseError>
+    fn integer(&mut self) -> Result<bool, JsonParseErrorKind>
         requires begins { BeginsNumber S.sight self.old.source }
         requires empty { string_bytes self.old.digit_buffer ≡ [] }
         ensures reads { ReadsPart S.sight (λ n. n.negative)
@@ -331,13 +331,13 @@ impl<S: Tokens> Reader<S> {
         let negative = self.accept('-');
         self.digits(JsonParseErrorKind::EmptyInteger)?;
         if has_leading_zero(self.digit_buffer.as_bytes()) {
-            return Err(self.refuse(JsonParseErrorKind::LeadingZero));
+            return Err(JsonParseErrorKind::LeadingZero);
         }
         Ok(negative)
     }
 
     /// Reads the point and the digits behind it, if there is a point.
-    fn fraction(&mut self) -> Result<(), JsonParseError>
+    fn fraction(&mut self) -> Result<(), JsonParseErrorKind>
         ensures reads { (b : Bool) (ds : List ℕ) →
             Gathered (numeral b ds [] None) (string_bytes self.old.digit_buffer) →
             Ends S.sight self.old.source → ReadsPart S.sight (λ _. tt)
@@ -354,7 +354,7 @@ impl<S: Tokens> Reader<S> {
 
     /// Reads the letter, the sign and the digits of the exponent, if there is one, and says whether it is
     /// below zero.
-    fn exponent(&mut self) -> Result<Option<bool>, JsonParseError>
+    fn exponent(&mut self) -> Result<Option<bool>, JsonParseErrorKind>
         ensures reads { (b : Bool) (ds f : List ℕ) →
             Gathered (numeral b ds f None) (string_bytes self.old.digit_buffer) →
             Ends S.sight self.old.source → ReadsPart S.sight (λ n. is_below_zero n.exponent)
@@ -372,7 +372,7 @@ impl<S: Tokens> Reader<S> {
     }
 
     /// Reads digits, and adds them to the buffer; the error is of this kind where there is none.
-    fn digits(&mut self, empty: JsonParseErrorKind) -> Result<(), JsonParseError>
+    fn digits(&mut self, empty: JsonParseErrorKind) -> Result<(), JsonParseErrorKind>
         ensures reads { Digits S.sight empty self.old.source
             (string_bytes self.old.digit_buffer) result
             (string_bytes self.new.digit_buffer) self.new.source }
@@ -380,10 +380,10 @@ impl<S: Tokens> Reader<S> {
     {
         let before = self.digit_buffer.len();
         if self.source.digits(&mut self.digit_buffer).is_err() {
-            return Err(self.refuse(JsonParseErrorKind::OutOfMemory));
+            return Err(JsonParseErrorKind::OutOfMemory);
         }
         if self.digit_buffer.len() == before {
-            return Err(self.refuse(empty));
+            return Err(empty);
         }
         Ok(())
     }

@@ -1,13 +1,12 @@
-//! The reader: values by their first character, the loop over open containers, refusals, literals.
+//! The reader: values by their first character, the loop over open containers, literals.
 ghost use Rattle.std.specs.Prelude.{◌≡◌, ℕ, ◌<◌, ◌≤◌, List, [], true, false, OnOk, IfOk, IfErr};
 ghost use Rattle.std.specs.Prelude.{IsTrue, Option, Some, None};
 ghost use Rattle.tinyjson_grammar.specs.Characters.{is_white};
-ghost use Rattle.tinyjson.specs.Error.{error_position};
 ghost use Rattle.tinyjson_grammar.specs.Refusal.{begins_growth};
 ghost use Rattle.tinyjson_grammar.specs.Machine.{Frame, awaited, complete, finished, next};
 ghost use Rattle.tinyjson.specs.private.Stack.{IsSound, at, frames, open_of};
 ghost use Rattle.tinyjson.specs.private.Steps.{BeginsLiteral, Grows, GrowsFor, NeedsNone, Reads};
-ghost use Rattle.tinyjson.specs.private.Steps.{wanting};
+ghost use Rattle.tinyjson.specs.private.Steps.{ReadsText, wanting};
 ghost use Rattle.tinyjson_grammar.specs.Tree.{Tree};
 ghost use Rattle.tinyjson.specs.View.{view};
 ghost use Rattle.tinyjson_grammar.specs.declared.error.JsonParseErrorKind.TheVariants.{OutOfMemory};
@@ -46,17 +45,8 @@ impl<S: Tokens> Reader<S> {
         }
     }
 
-    /// A refusal at the position of the source.
-    pub(super) fn refuse(&self, kind: JsonParseErrorKind) -> JsonParseError
-        ensures kind { result.kind ≡ kind }
-        ensures at { error_position result ≡ S.sight.place self.now.source }
-    {
-        let (line, column) = self.source.position();
-        JsonParseError { kind, line, column }
-    }
-
     /// Reads these letters.
-    fn letters(&mut self, letters: &[char]) -> Result<(), JsonParseError>
+    fn letters(&mut self, letters: &[char]) -> Result<(), JsonParseErrorKind>
         ensures reads { (limit : Option ℕ) (fs : List Frame) (t : Tree) →
             Reads S.sight limit self.old.source (wanting fs letters.now t) result
             (λ _. complete true fs t true) self.new.source }
@@ -65,17 +55,17 @@ impl<S: Tokens> Reader<S> {
     {
         for letter in letters {
             let Some(c) = self.source.bump() else {
-                return Err(self.refuse(JsonParseErrorKind::UnexpectedEof));
+                return Err(JsonParseErrorKind::UnexpectedEof);
             };
             if c != *letter {
-                return Err(self.refuse(JsonParseErrorKind::UnexpectedInLiteral(c)));
+                return Err(JsonParseErrorKind::UnexpectedInLiteral(c));
             }
         }
         Ok(())
     }
 
     /// Reads the literal that begins with this letter, which comes next.
-    fn literal(&mut self, first: char) -> Result<JsonValue, JsonParseError>
+    fn literal(&mut self, first: char) -> Result<JsonValue, JsonParseErrorKind>
         requires shown { S.sight.shows self.old.source (Some first) }
         requires begins { BeginsLiteral first }
         ensures reads { (limit : Option ℕ) (fs : List Frame) →
@@ -103,7 +93,7 @@ impl<S: Tokens> Reader<S> {
 
     /// Reads the literal that begins with this letter, and puts it where it belongs.
     #[inline(always)]
-    fn literal_value(&mut self, stack: &mut Stack, first: char) -> Result<bool, JsonParseError>
+    fn literal_value(&mut self, stack: &mut Stack, first: char) -> Result<bool, JsonParseErrorKind>
         requires shown { S.sight.shows self.old.source (Some first) }
         requires begins { BeginsLiteral first }
         requires sound { IsSound stack.old false }
@@ -118,7 +108,7 @@ impl<S: Tokens> Reader<S> {
 
     /// Reads the string whose quote comes next, and puts it where it belongs.
     #[inline(always)]
-    fn string_value(&mut self, stack: &mut Stack) -> Result<bool, JsonParseError>
+    fn string_value(&mut self, stack: &mut Stack) -> Result<bool, JsonParseErrorKind>
         requires shown { S.sight.shows self.old.source (Some 34) }
         requires sound { IsSound stack.old false }
         ensures reads { (limit : Option ℕ) → Reads S.sight limit self.old.source
@@ -137,7 +127,7 @@ impl<S: Tokens> Reader<S> {
         limit: Option<usize>,
         stack: &mut Stack,
         first: char,
-    ) -> Result<bool, JsonParseError>
+    ) -> Result<bool, JsonParseErrorKind>
         requires shown { S.sight.shows self.old.source (Some first) }
         requires no_white { is_white first ≡ false }
         requires sound { IsSound stack.old false }
@@ -153,12 +143,12 @@ impl<S: Tokens> Reader<S> {
             '[' => self.array(limit, stack),
             '{' => self.object(limit, stack),
             c if c == '-' || c.is_ascii_digit() => self.number(stack),
-            c => Err(self.refuse(JsonParseErrorKind::InvalidCharacter(c))),
+            c => Err(JsonParseErrorKind::InvalidCharacter(c)),
         }
     }
 
     /// Reads white space and a value, or opens a container.
-    fn next(&mut self, limit: Option<usize>, stack: &mut Stack) -> Result<bool, JsonParseError>
+    fn next(&mut self, limit: Option<usize>, stack: &mut Stack) -> Result<bool, JsonParseErrorKind>
         requires sound { IsSound stack.old false }
         ensures reads { Reads S.sight limit self.old.source (next (frames stack.old) awaited) result
             (at stack.new) self.new.source }
@@ -167,12 +157,12 @@ impl<S: Tokens> Reader<S> {
     {
         match self.source.skip_white() {
             Some(first) => self.value(limit, stack, first),
-            None => Err(self.refuse(JsonParseErrorKind::UnexpectedEof)),
+            None => Err(JsonParseErrorKind::UnexpectedEof),
         }
     }
 
     /// The end of the text.
-    fn end(&mut self) -> Result<(), JsonParseError>
+    fn end(&mut self) -> Result<(), JsonParseErrorKind>
         ensures reads { (limit : Option ℕ) (t : Tree) →
             Reads S.sight limit self.old.source (next [] (finished t)) result
             (λ _. next [] (finished t)) self.new.source }
@@ -182,16 +172,32 @@ impl<S: Tokens> Reader<S> {
         self.source.skip_white();
         match self.source.bump() {
             None => Ok(()),
-            Some(c) => Err(self.refuse(JsonParseErrorKind::ExpectedEof(c))),
+            Some(c) => Err(JsonParseErrorKind::ExpectedEof(c)),
         }
     }
 
-    /// Reads a whole text. What a refusal gives up is freed by a loop. A literal alone takes no memory.
+    /// Reads a whole text; a refusal tells where the source stands. What it gives up is freed by a loop. A
+    /// literal alone takes no memory.
     pub(super) fn text(&mut self, limit: Option<usize>) -> Result<JsonValue, JsonParseError>
+        ensures reads { ReadsText S.sight limit self.old.source result self.new.source }
+        ensures end { OnOk result (S.sight.shows self.new.source None) }
+        ensures memory { IfErr result (λ e. e.kind ≡ OutOfMemory → Grows S.sight self.old.source) }
+    {
+        match self.text_value(limit) {
+            Ok(value) => Ok(value),
+            Err(kind) => {
+                let (line, column) = self.source.position();
+                Err(JsonParseError { kind, line, column })
+            }
+        }
+    }
+
+    /// The value of a whole text.
+    fn text_value(&mut self, limit: Option<usize>) -> Result<JsonValue, JsonParseErrorKind>
         ensures reads { Reads S.sight limit self.old.source (next [] awaited) result
             (λ v. next [] (finished (view v))) self.new.source }
         ensures end { OnOk result (S.sight.shows self.new.source None) }
-        ensures memory { IfErr result (λ e. e.kind ≡ OutOfMemory → Grows S.sight self.old.source) }
+        ensures memory { IfErr result (λ kind. kind ≡ OutOfMemory → Grows S.sight self.old.source) }
     {
         match self.source.skip_white() {
             Some(first @ ('n' | 't' | 'f')) => {
@@ -205,7 +211,7 @@ impl<S: Tokens> Reader<S> {
                 stack.abandon();
                 read
             }
-            None => Err(self.refuse(JsonParseErrorKind::UnexpectedEof)),
+            None => Err(JsonParseErrorKind::UnexpectedEof),
         }
     }
 
@@ -215,7 +221,7 @@ impl<S: Tokens> Reader<S> {
         limit: Option<usize>,
         stack: &mut Stack,
         first: char,
-    ) -> Result<JsonValue, JsonParseError>
+    ) -> Result<JsonValue, JsonParseErrorKind>
         requires shown { S.sight.shows self.old.source (Some first) }
         requires no_white { is_white first ≡ false }
         requires no_literal { ¬ (BeginsLiteral first) }
@@ -223,7 +229,7 @@ impl<S: Tokens> Reader<S> {
         ensures reads { Reads S.sight limit self.old.source (next (frames stack.old) awaited) result
             (λ v. next [] (finished (view v))) self.new.source }
         ensures end { OnOk result (S.sight.shows self.new.source None) }
-        ensures memory { IfErr result (λ e. e.kind ≡ OutOfMemory → IsTrue (begins_growth first)) }
+        ensures memory { IfErr result (λ kind. kind ≡ OutOfMemory → IsTrue (begins_growth first)) }
     {
         let whole = self.value(limit, stack, first)?;
         self.rest(limit, stack, whole)
@@ -235,7 +241,7 @@ impl<S: Tokens> Reader<S> {
         limit: Option<usize>,
         stack: &mut Stack,
         whole: bool,
-    ) -> Result<JsonValue, JsonParseError>
+    ) -> Result<JsonValue, JsonParseErrorKind>
         requires sound { IsSound stack.old whole }
         ensures reads { Reads S.sight limit self.old.source (at stack.old whole) result
             (λ v. next [] (finished (view v))) self.new.source }
@@ -254,7 +260,7 @@ impl<S: Tokens> Reader<S> {
     }
 
     /// The end behind the value that is left on the stack.
-    fn last(&mut self, stack: &mut Stack) -> Result<JsonValue, JsonParseError>
+    fn last(&mut self, stack: &mut Stack) -> Result<JsonValue, JsonParseErrorKind>
         requires sound { IsSound stack.old true }
         requires none { open_of stack.old ≡ [] }
         ensures reads { (limit : Option ℕ) → Reads S.sight limit self.old.source

@@ -8,7 +8,7 @@ ghost use Rattle.tinyjson.specs.private.Steps.{Reads, Fails, within};
 ghost use Rattle.tinyjson_grammar.specs.Tree.{string};
 ghost use Rattle.tinyjson.specs.View.{text};
 
-use super::error::{JsonParseError, JsonParseErrorKind};
+use super::error::JsonParseErrorKind;
 use super::escape::short_escape;
 use super::reader::Reader;
 use super::tokens::Tokens;
@@ -19,7 +19,7 @@ use tinyjson_source::utf16::{decode, push};
 impl<S: Tokens> Reader<S> {
     /// Behind the quote that opens a string.
     #[inline(always)]
-    pub(super) fn string(&mut self) -> Result<String, JsonParseError>
+    pub(super) fn string(&mut self) -> Result<String, JsonParseErrorKind>
         ensures reads { (limit : Option ℕ) (fs : List Frame) →
             Reads S.sight limit self.old.source (next fs (quoted plain [] [])) result
             (λ s. complete true fs (string (text s)) true) self.new.source }
@@ -29,13 +29,13 @@ impl<S: Tokens> Reader<S> {
         match self.source.quoted(self.alloc, &mut self.buffer) {
             Ok(Some(string)) => Ok(string),
             Ok(None) => self.escaped(),
-            Err(_) => Err(self.refuse(JsonParseErrorKind::OutOfMemory)),
+            Err(_) => Err(JsonParseErrorKind::OutOfMemory),
         }
     }
 
     /// Behind the plain characters in the buffer.
     #[inline(never)]
-    fn escaped(&mut self) -> Result<String, JsonParseError>
+    fn escaped(&mut self) -> Result<String, JsonParseErrorKind>
         ensures reads { (limit : Option ℕ) (fs : List Frame) →
             Reads S.sight limit self.old.source (within fs self.old.buffer [] false) result
             (λ s. complete true fs (string (text s)) true) self.new.source }
@@ -43,12 +43,12 @@ impl<S: Tokens> Reader<S> {
     {
         match self.source.escaped(&mut self.buffer) {
             Ok(_) => self.pieces(),
-            Err(_) => Err(self.refuse(JsonParseErrorKind::OutOfMemory)),
+            Err(_) => Err(JsonParseErrorKind::OutOfMemory),
         }
     }
 
     /// Behind the characters in the buffer.
-    fn pieces(&mut self) -> Result<String, JsonParseError>
+    fn pieces(&mut self) -> Result<String, JsonParseErrorKind>
         ensures reads { (limit : Option ℕ) (fs : List Frame) →
             Reads S.sight limit self.old.source (within fs self.old.buffer [] false) result
             (λ s. complete true fs (string (text s)) true) self.new.source }
@@ -62,7 +62,7 @@ impl<S: Tokens> Reader<S> {
             self.plain(&mut string, units.as_slice())?;
         }
         let Ok(exact) = String::from_str(self.alloc, string.as_str()) else {
-            return Err(self.refuse(JsonParseErrorKind::OutOfMemory));
+            return Err(JsonParseErrorKind::OutOfMemory);
         };
         self.buffer = string;
         self.units = units;
@@ -70,7 +70,11 @@ impl<S: Tokens> Reader<S> {
     }
 
     /// Adds the characters that the units spell, if a plain character comes next.
-    fn settle(&mut self, string: &mut String, units: &mut Vec<u16>) -> Result<(), JsonParseError>
+    fn settle(
+        &mut self,
+        string: &mut String,
+        units: &mut Vec<u16>,
+    ) -> Result<(), JsonParseErrorKind>
         ensures reads { (limit : Option ℕ) (fs : List Frame) →
             Reads S.sight limit self.old.source (within fs string.old units.old.items false) result
             (λ _. within fs string.new units.new.items false) self.new.source }
@@ -87,16 +91,16 @@ impl<S: Tokens> Reader<S> {
                 }
                 Ok(false) => {
                     self.source.bump();
-                    Err(self.refuse(JsonParseErrorKind::InvalidUtf16))
+                    Err(JsonParseErrorKind::InvalidUtf16)
                 }
-                Err(_) => Err(self.refuse(JsonParseErrorKind::OutOfMemory)),
+                Err(_) => Err(JsonParseErrorKind::OutOfMemory),
             },
             _ => Ok(()),
         }
     }
 
     /// Reads the plain characters and the escapes that the source takes at once, unless units wait.
-    fn plain(&mut self, string: &mut String, units: &[u16]) -> Result<(), JsonParseError>
+    fn plain(&mut self, string: &mut String, units: &[u16]) -> Result<(), JsonParseErrorKind>
         ensures reads { (limit : Option ℕ) (fs : List Frame)
             → Reads S.sight limit self.old.source (within fs string.old units.now false) result
             (λ _. within fs string.new units.now false) self.new.source }
@@ -107,12 +111,16 @@ impl<S: Tokens> Reader<S> {
         }
         match self.source.escaped(string) {
             Ok(_) => Ok(()),
-            Err(_) => Err(self.refuse(JsonParseErrorKind::OutOfMemory)),
+            Err(_) => Err(JsonParseErrorKind::OutOfMemory),
         }
     }
 
     /// Reads a part of a string; `true` at the quote that closes it.
-    fn piece(&mut self, string: &mut String, units: &mut Vec<u16>) -> Result<bool, JsonParseError>
+    fn piece(
+        &mut self,
+        string: &mut String,
+        units: &mut Vec<u16>,
+    ) -> Result<bool, JsonParseErrorKind>
         ensures reads { (limit : Option ℕ) (fs : List Frame) →
             Reads S.sight limit self.old.source (within fs string.old units.old.items false) result
             (within fs string.new units.new.items) self.new.source }
@@ -120,21 +128,25 @@ impl<S: Tokens> Reader<S> {
         ensures some { OnOk result (S.left self.new.source < S.left self.old.source) }
     {
         let Some(c) = self.source.bump() else {
-            return Err(self.refuse(JsonParseErrorKind::UnexpectedEof));
+            return Err(JsonParseErrorKind::UnexpectedEof);
         };
         match c {
             '"' => {
-                self.flush(string, units)?;
+                flush(string, units)?;
                 Ok(true)
             }
             '\\' => self.escape(string, units),
-            c if c < ' ' => Err(self.refuse(JsonParseErrorKind::ControlCharacter(c))),
-            c => self.add(string, units, c),
+            c if c < ' ' => Err(JsonParseErrorKind::ControlCharacter(c)),
+            c => add(string, units, c),
         }
     }
 
     /// Behind a backslash.
-    fn escape(&mut self, string: &mut String, units: &mut Vec<u16>) -> Result<bool, JsonParseError>
+    fn escape(
+        &mut self,
+        string: &mut String,
+        units: &mut Vec<u16>,
+    ) -> Result<bool, JsonParseErrorKind>
         ensures reads { (limit : Option ℕ) (fs : List Frame) →
             Reads S.sight limit self.old.source
             (next fs (quoted backslash (text string.old) units.old.items)) result
@@ -142,17 +154,17 @@ impl<S: Tokens> Reader<S> {
         ensures left { S.left self.new.source ≤ S.left self.old.source }
     {
         let Some(c) = self.source.bump() else {
-            return Err(self.refuse(JsonParseErrorKind::UnexpectedEof));
+            return Err(JsonParseErrorKind::UnexpectedEof);
         };
         match short_escape(c) {
-            Some(d) => self.add(string, units, d),
+            Some(d) => add(string, units, d),
             None if c == 'u' => self.unit(units),
-            None => Err(self.refuse(JsonParseErrorKind::InvalidEscape(c))),
+            None => Err(JsonParseErrorKind::InvalidEscape(c)),
         }
     }
 
     /// Reads the four digits of a unit.
-    fn unit(&mut self, units: &mut Vec<u16>) -> Result<bool, JsonParseError>
+    fn unit(&mut self, units: &mut Vec<u16>) -> Result<bool, JsonParseErrorKind>
         ensures reads { (limit : Option ℕ) (fs : List Frame) (cs : List ℕ) →
             Reads S.sight limit self.old.source (next fs (quoted (hex []) cs units.old.items))
             result (λ done. cond done (complete true fs (string cs) true)
@@ -162,54 +174,47 @@ impl<S: Tokens> Reader<S> {
         let mut unit: u16 = 0;
         for _ in 0..4_usize {
             let Some(c) = self.source.bump() else {
-                return Err(self.refuse(JsonParseErrorKind::UnexpectedEof));
+                return Err(JsonParseErrorKind::UnexpectedEof);
             };
             let Some(digit) = c.to_digit(16) else {
-                return Err(self.refuse(JsonParseErrorKind::InvalidHexDigit(c)));
+                return Err(JsonParseErrorKind::InvalidHexDigit(c));
             };
             unit = unit * 16 + digit as u16;
         }
         if units.push(unit).is_err() {
-            return Err(self.refuse(JsonParseErrorKind::OutOfMemory));
+            return Err(JsonParseErrorKind::OutOfMemory);
         }
         Ok(false)
     }
+}
 
-    /// Adds the characters that the units spell.
-    fn flush(&self, string: &mut String, units: &mut Vec<u16>) -> Result<(), JsonParseError>
-        ensures { MatchResult result (λ _. (paired units.old.items ≡ true)
-            × (text string.new ≡ text string.old ++ decode units.old.items)
-            × (units.new.items ≡ [])) (λ e. Fails e (paired units.old.items)
-            (S.sight.place self.now.source)) }
-    {
-        match decode(units, string) {
-            Ok(true) => {
-                units.clear();
-                Ok(())
-            }
-            Ok(false) => Err(self.refuse(JsonParseErrorKind::InvalidUtf16)),
-            Err(_) => Err(self.refuse(JsonParseErrorKind::OutOfMemory)),
+/// Adds the characters that the units spell.
+fn flush(string: &mut String, units: &mut Vec<u16>) -> Result<(), JsonParseErrorKind>
+    ensures { MatchResult result (λ _. (paired units.old.items ≡ true)
+        × (text string.new ≡ text string.old ++ decode units.old.items)
+        × (units.new.items ≡ [])) (Fails (paired units.old.items)) }
+{
+    match decode(units, string) {
+        Ok(true) => {
+            units.clear();
+            Ok(())
         }
+        Ok(false) => Err(JsonParseErrorKind::InvalidUtf16),
+        Err(_) => Err(JsonParseErrorKind::OutOfMemory),
     }
+}
 
-    /// Adds these, and then a character.
-    fn add(
-        &self,
-        string: &mut String,
-        units: &mut Vec<u16>,
-        c: char,
-    ) -> Result<bool, JsonParseError>
-        ensures { MatchResult result (λ done. (done ≡ false) × (paired units.old.items ≡ true)
-            × (text string.new ≡ (text string.old ++ decode units.old.items) ++ c ∷ [])
-            × (units.new.items ≡ [])) (λ e. Fails e (paired units.old.items)
-            (S.sight.place self.now.source)) }
-    {
-        if !units.is_empty() {
-            self.flush(string, units)?;
-        }
-        if push(string, c).is_err() {
-            return Err(self.refuse(JsonParseErrorKind::OutOfMemory));
-        }
-        Ok(false)
+/// Adds these, and then a character.
+fn add(string: &mut String, units: &mut Vec<u16>, c: char) -> Result<bool, JsonParseErrorKind>
+    ensures { MatchResult result (λ done. (done ≡ false) × (paired units.old.items ≡ true)
+        × (text string.new ≡ (text string.old ++ decode units.old.items) ++ c ∷ [])
+        × (units.new.items ≡ [])) (Fails (paired units.old.items)) }
+{
+    if !units.is_empty() {
+        flush(string, units)?;
     }
+    if push(string, c).is_err() {
+        return Err(JsonParseErrorKind::OutOfMemory);
+    }
+    Ok(false)
 }

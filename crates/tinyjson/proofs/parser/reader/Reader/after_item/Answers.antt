@@ -10,7 +10,7 @@ pub returns-in_default-clause-reads : goal.returns-in_default-clause-reads
 returns-in_default-clause-reads g c = λ limit.
     let sight = g.S.Source.sight in
     let whole = array_whole c.args.stack.now c.requires.sound c.args.values _ c.requires.array.1 in
-    Refuses_memory sight limit _ _ c.refuse.result c.refuse.ensures.kind c.refuse.ensures.at (after_halts sight limit _ _ _ whole c.skip_white.ensures.white)
+    Refuses_memory sight limit _ _ (after_halts sight limit _ _ _ whole c.skip_white.ensures.white)
 
 pub returns-in-Some-eq44-clause-reads : goal.returns-in-Some-eq44-clause-reads
 returns-in-Some-eq44-clause-reads g c = λ limit.
@@ -36,7 +36,7 @@ returns-in-Some-clause-reads g c = λ limit.
     let sight = g.S.Source.sight in
     let d = c.in-Some.c in
     let whole = array_whole c.args.stack.now c.requires.sound c.args.values _ c.requires.array.1 in
-    Refuses_as sight limit _ _ c.refuse-in-Some.result (ExpectedCommaOrBracket d) c.refuse-in-Some.ensures.kind c.refuse-in-Some.ensures.at
+    Refuses_as sight limit _ _ (ExpectedCommaOrBracket d)
     (Leads_one sight limit _ _ _ d (after_white sight limit _ _ _ whole c.skip_white.ensures.white)
     c.consume-in-Some.ensures.takes tt
     (array_other limit _ _ d c.in-Some.ensures.stops (search rules) (search rules)) tt)
@@ -45,5 +45,5 @@ pub returns-in-None-clause-reads : goal.returns-in-None-clause-reads
 returns-in-None-clause-reads g c = λ limit.
     let sight = g.S.Source.sight in
     let whole = array_whole c.args.stack.now c.requires.sound c.args.values _ c.requires.array.1 in
-    Refuses_as sight limit _ _ c.refuse-in-None.result UnexpectedEof c.refuse-in-None.ensures.kind c.refuse-in-None.ensures.at
+    Refuses_as sight limit _ _ UnexpectedEof
     (Leads_end sight limit _ _ (after_white sight limit _ _ _ whole c.skip_white.ensures.white) c.in-None.ensures.shows (end_after limit _) tt)

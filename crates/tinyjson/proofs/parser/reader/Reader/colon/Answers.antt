@@ -9,7 +9,7 @@ use Rattle.tinyjson.proofs.parser.reader.Reader.colon.Goals as goal
 pub returns-then-is_err-clause-reads : goal.returns-then-is_err-clause-reads
 returns-then-is_err-clause-reads g c = λ limit.
     let sight = g.S.Source.sight in
-    Refuses_memory sight limit _ _ c.refuse.result c.refuse.ensures.kind c.refuse.ensures.at
+    Refuses_memory sight limit _ _
     (Halts_here sight limit _ _
     (Leads_one sight limit _ _ _ 58 (Leads_whites sight limit _ _ _ c.skip_white.ensures.white tt (white_colon limit _ _)) c.consume.ensures.takes tt
     (key_colon c.args.stack.now c.requires.awaits limit (text c.args.key) 58 (search rules)) tt) tt tt)
@@ -24,12 +24,12 @@ returns-else-is_err-clause-reads g c = λ limit.
 pub returns-in-Some-clause-reads : goal.returns-in-Some-clause-reads
 returns-in-Some-clause-reads g c = λ limit.
     let sight = g.S.Source.sight in
-    Refuses_as sight limit _ _ c.refuse-in-Some.result (ExpectedColon c.in-Some.c) c.refuse-in-Some.ensures.kind c.refuse-in-Some.ensures.at
+    Refuses_as sight limit _ _ (ExpectedColon c.in-Some.c)
     (Leads_one sight limit _ _ _ c.in-Some.c (Leads_whites sight limit _ _ _ c.skip_white.ensures.white tt (white_colon limit _ _)) c.consume-in-Some.ensures.takes tt
     (key_other c.args.stack.now c.requires.awaits limit (text c.args.key) c.in-Some.c c.in-Some.ensures.stops (search rules)) tt)
 
 pub returns-in-None-clause-reads : goal.returns-in-None-clause-reads
 returns-in-None-clause-reads g c = λ limit.
     let sight = g.S.Source.sight in
-    Refuses_as sight limit _ _ c.refuse-in-None.result UnexpectedEof c.refuse-in-None.ensures.kind c.refuse-in-None.ensures.at
+    Refuses_as sight limit _ _ UnexpectedEof
     (Leads_end sight limit _ _ (Leads_whites sight limit _ _ _ c.skip_white.ensures.white tt (white_colon limit _ _)) c.in-None.ensures.shows (end_colon limit _ _) tt)

@@ -11,12 +11,11 @@ returns-clause-reads g c =
 
 pub returns-then-is_err-clause-reads : goal.returns-then-is_err-clause-reads
 returns-then-is_err-clause-reads g c =
-    digits_memory g.S.Source.sight c.args.empty _ _ _ _ c.digits.result c.refuse.result c.digits.ensures.digits c.refuse.ensures.kind c.refuse.ensures.at
+    digits_memory g.S.Source.sight c.args.empty _ _ _ _ c.digits.result c.digits.ensures.digits
 
 pub returns-then-len-before-clause-reads : goal.returns-then-len-before-clause-reads
 returns-then-len-before-clause-reads g c =
-    let e = c.refuse-then-len-before in
     let before : c.len-before.result ≡ length (string_bytes c.args.self.now.digit_buffer) = search rules in
     let behind : c.len.result ≡ length (string_bytes c.digits.new.buffer) = search rules in
-    digits_none g.S.Source.sight c.args.empty _ _ _ _ c.digits.result e.result c.digits.ensures.digits c.digits.ensures.stops c.digits.ensures.still
-    (sym c.is_err.ensures.value ∙ c.if-is_err.false) (sym behind ∙ c.if-len-before.true ∙ before) e.ensures.kind e.ensures.at
+    digits_none g.S.Source.sight c.args.empty _ _ _ _ c.digits.result c.digits.ensures.digits c.digits.ensures.stops c.digits.ensures.still
+    (sym c.is_err.ensures.value ∙ c.if-is_err.false) (sym behind ∙ c.if-len-before.true ∙ before)

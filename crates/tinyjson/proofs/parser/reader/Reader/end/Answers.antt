@@ -14,5 +14,5 @@ returns-in-Some-clause-reads g c = λ limit t.
     let sight = g.S.Source.sight in
     let e = sym (c.bump.ensures.shown c.skip_white.result c.skip_white.ensures.shows) ∙ c.in-Some.is in
     let w = subst (λ o. IfSome o (λ d. is_white d ≡ false)) e c.skip_white.ensures.stops in
-    Refuses_as sight limit _ _ c.refuse.result (ExpectedEof c.in-Some.c) c.refuse.ensures.kind c.refuse.ensures.at
+    Refuses_as sight limit _ _ (ExpectedEof c.in-Some.c)
     (Leads_one sight limit _ _ _ c.in-Some.c (Leads_whites sight limit _ _ _ c.skip_white.ensures.white tt (white_finished limit t)) c.in-Some.ensures.takes tt (no_end limit t c.in-Some.c w) tt)

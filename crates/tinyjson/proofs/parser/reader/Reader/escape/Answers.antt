@@ -7,7 +7,7 @@ use Rattle.tinyjson.proofs.parser.reader.Reader.escape.Goals as goal
 pub returns-in_default-clause-reads : goal.returns-in_default-clause-reads
 returns-in_default-clause-reads g c = λ limit fs.
     let sight = g.S.Source.sight in
-    Refuses_as sight limit _ _ c.refuse.result UnexpectedEof c.refuse.ensures.kind c.refuse.ensures.at
+    Refuses_as sight limit _ _ UnexpectedEof
     (Leads_none sight limit _ _ _ (Leads_nil sight limit _ _) c.in_default.ensures.takes.0 c.in_default.ensures.takes.1 (end_quoted limit fs _ _ _) tt)
 
 pub returns-in-Some-short_escape-clause-reads : goal.returns-in-Some-short_escape-clause-reads
@@ -27,6 +27,6 @@ returns-in-None-clause-reads g c = λ limit fs.
 pub returns-in-None-2-clause-reads : goal.returns-in-None-2-clause-reads
 returns-in-None-2-clause-reads g c = λ limit fs.
     let sight = g.S.Source.sight in
-    Refuses_as sight limit _ _ c.refuse-in-None-2.result (InvalidEscape c.in-Some.c) c.refuse-in-None-2.ensures.kind c.refuse-in-None-2.ensures.at
+    Refuses_as sight limit _ _ (InvalidEscape c.in-Some.c)
     (Leads_one sight limit _ _ _ c.in-Some.c (Leads_nil sight limit _ _) c.in-Some.ensures.takes tt
     (escape_other limit fs _ _ c.in-Some.c (sym c.short_escape.ensures ∙ c.in-None-2.is) c.if-c-eq117.false) tt)

@@ -24,10 +24,10 @@ returns-in-Err-OutOfRange-clause-reads g c = λ limit fs.
     let n = c.in_ok-marks.ensures.reads in
     let e : c.in-Err-OutOfRange.field-0 ≡ OutOfRange = search rules in
     let r = subst (λ x. ReadsNumeral n.part (Err x)) e (c.in-Err-OutOfRange.ensures n.part n.has n.answers) in
-    Refuses_range g.S.Source.sight limit fs _ _ _ n c.refuse.result r c.refuse.ensures.kind c.refuse.ensures.at
+    Refuses_range g.S.Source.sight limit fs _ _ _ n r
 
 pub returns-in-Err-OutOfMemory-clause-reads : goal.returns-in-Err-OutOfMemory-clause-reads
 returns-in-Err-OutOfMemory-clause-reads g c = λ limit fs.
     let sight = g.S.Source.sight in
     let n = c.in_ok-marks.ensures.reads in
-    Refuses_memory sight limit _ _ _ c.refuse-in-Err-OutOfMemory.ensures.kind c.refuse-in-Err-OutOfMemory.ensures.at (Halts_here sight limit _ _ (n.leads limit fs) tt tt)
+    Refuses_memory sight limit _ _ (Halts_here sight limit _ _ (n.leads limit fs) tt tt)

@@ -13,7 +13,7 @@ pub returns-then-has_leading_zero-clause-reads : goal.returns-then-has_leading_z
 returns-then-has_leading_zero-clause-reads g c =
     let empty : string_bytes c.accept-negative.new.self.digit_buffer ≡ [] = ap string_bytes c.accept-negative.ensures.kept ∙ c.requires.empty in
     let zero : has_leading_zero (string_bytes c.digits.new.self.digit_buffer) ≡ true = ap has_leading_zero (sym c.as_bytes.ensures.value) ∙ sym c.has_leading_zero.ensures ∙ c.if-has_leading_zero.true in
-    Refuses_zero g.S.Source.sight _ _ _ c.accept-negative.result _ _ c.requires.begins c.accept-negative.ensures.accepts c.in_ok-digits.ensures.reads empty _ zero c.refuse.ensures.kind c.refuse.ensures.at
+    Refuses_zero g.S.Source.sight _ _ _ c.accept-negative.result _ _ c.requires.begins c.accept-negative.ensures.accepts c.in_ok-digits.ensures.reads empty zero
 
 pub returns-clause-reads : goal.returns-clause-reads
 returns-clause-reads g c =

@@ -13,13 +13,13 @@ loop-letter-init g c = record {
 
 pub returns-in_default-clause-reads : goal.returns-in_default-clause-reads
 returns-in_default-clause-reads g c = λ limit fs t.
-    Refuses_as g.S.Source.sight limit _ _ c.refuse.result UnexpectedEof c.refuse.ensures.kind c.refuse.ensures.at
+    Refuses_as g.S.Source.sight limit _ _ UnexpectedEof
     (Leads_none g.S.Source.sight limit _ _ _ (c.loop-letter.invariant.reads limit fs t) c.in_default.ensures.takes.0 c.in_default.ensures.takes.1
     (letter_end limit fs t _ _ _ c.loop-letter-test.true c.letter-item.is) (letter_next limit fs t _ _ _ c.loop-letter-test.true c.letter-item.is))
 
 pub returns-then-c-letter-clause-reads : goal.returns-then-c-letter-clause-reads
 returns-then-c-letter-clause-reads g c = λ limit fs t.
-    Refuses_as g.S.Source.sight limit _ _ c.refuse-then-c-letter.result (UnexpectedInLiteral c.in-Some.c) c.refuse-then-c-letter.ensures.kind c.refuse-then-c-letter.ensures.at
+    Refuses_as g.S.Source.sight limit _ _ (UnexpectedInLiteral c.in-Some.c)
     (Leads_one g.S.Source.sight limit _ _ _ c.in-Some.c (c.loop-letter.invariant.reads limit fs t) c.in-Some.ensures.takes
     (letter_next limit fs t _ _ _ c.loop-letter-test.true c.letter-item.is) (letter_no limit fs t _ _ _ c.loop-letter-test.true c.letter-item.is c.in-Some.c (search rules)) tt)
 

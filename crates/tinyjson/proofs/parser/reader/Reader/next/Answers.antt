@@ -12,5 +12,5 @@ pub returns-in-None-clause-reads : goal.returns-in-None-clause-reads
 returns-in-None-clause-reads g c =
     let sight = g.S.Source.sight in
     let limit = c.args.limit in
-    Refuses_as sight limit _ _ c.refuse.result UnexpectedEof c.refuse.ensures.kind c.refuse.ensures.at
+    Refuses_as sight limit _ _ UnexpectedEof
     (Leads_end sight limit _ _ (Leads_whites sight limit _ _ _ c.skip_white.ensures.white tt (white_awaited limit _)) c.in-None.ensures.shows (end_awaited limit _) tt)

@@ -14,7 +14,7 @@ returns-then-not-fits-clause-reads g c =
     let limit = c.args.limit in
     let p = c.args.self.now in
     let h : fits limit c.depth.result ≡ false = search rules in
-    Refuses_as sight limit _ _ c.refuse.result (TooDeep 123) c.refuse.ensures.kind c.refuse.ensures.at
+    Refuses_as sight limit _ _ (TooDeep 123)
     (object_too_deep sight limit p.source p.source _ _ c.depth.ensures h c.requires.shown)
 
 pub returns-in-Some-eq125-clause-reads : goal.returns-in-Some-eq125-clause-reads
@@ -37,7 +37,7 @@ returns-then-is_err-clause-reads g c =
     let limit = c.args.limit in
     let p = c.args.self.now in
     let h : fits limit c.depth.result ≡ true = search rules in
-    Refuses_memory sight limit _ _ c.refuse-then-is_err.result c.refuse-then-is_err.ensures.kind c.refuse-then-is_err.ensures.at
+    Refuses_memory sight limit _ _
     (Halts_here sight limit _ _ (Leads_trans sight limit _ _ _
     (object_begins sight limit p.source _ _ _ c.depth.ensures h c.consume.ensures.takes)
     (Leads_whites sight limit _ _ _ c.skip_white.ensures.white tt (white_first limit _))) tt tt)

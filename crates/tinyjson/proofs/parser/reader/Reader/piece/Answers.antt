@@ -12,7 +12,7 @@ use Rattle.tinyjson.proofs.parser.reader.Reader.piece.Goals as goal
 pub returns-in_default-clause-reads : goal.returns-in_default-clause-reads
 returns-in_default-clause-reads g c = λ limit fs.
     let sight = g.S.Source.sight in
-    Refuses_as sight limit _ _ c.refuse.result UnexpectedEof c.refuse.ensures.kind c.refuse.ensures.at
+    Refuses_as sight limit _ _ UnexpectedEof
     (Leads_none sight limit _ _ _ (Leads_nil sight limit _ _) c.in_default.ensures.takes.0 c.in_default.ensures.takes.1 (end_quoted limit fs _ _ _) tt)
 
 pub returns-in_err-flush-in-34-clause-reads : goal.returns-in_err-flush-in-34-clause-reads
@@ -39,7 +39,7 @@ returns-in-92-clause-reads g c = λ limit fs.
 pub returns-in_default-c-clause-reads : goal.returns-in_default-c-clause-reads
 returns-in_default-c-clause-reads g c = λ limit fs.
     let sight = g.S.Source.sight in
-    Refuses_as sight limit _ _ c.refuse-in_default-c.result (ControlCharacter c.in-Some.c) c.refuse-in_default-c.ensures.kind c.refuse-in_default-c.ensures.at
+    Refuses_as sight limit _ _ (ControlCharacter c.in-Some.c)
     (Leads_one sight limit _ _ _ c.in-Some.c (Leads_nil sight limit _ _) c.in-Some.ensures.takes tt
     (control_read limit fs (text c.args.string.now) c.args.units.now.items c.in-Some.c (search rules) (search rules) c.if-c-lt32.true) tt)
 

@@ -61,7 +61,7 @@ returns-in_default-clause-reads g c = λ limit fs.
     let sight = g.S.Source.sight in
     let a = ap (within fs c.piece.new.string c.piece.new.units.items) c.if-not-branch.false in
     let l = Leads_trans sight limit _ _ _ (c.loop-units.invariant.reads limit fs) (Leads_to sight limit _ _ (c.in_ok-piece.ensures.reads limit fs) a) in
-    Refuses_memory sight limit _ _ c.refuse.result c.refuse.ensures.kind c.refuse.ensures.at (Halts_here sight limit _ _ l tt (quote_goes fs _))
+    Refuses_memory sight limit _ _ (Halts_here sight limit _ _ l tt (quote_goes fs _))
 
 pub returns-clause-reads : goal.returns-clause-reads
 returns-clause-reads g c = λ limit fs.

@@ -16,4 +16,4 @@ pub returns-in-Err-clause-reads : goal.returns-in-Err-clause-reads
 returns-in-Err-clause-reads g c = λ limit fs.
     let sight = g.S.Source.sight in
     let none : c.args.units.now ≡ [] = nil_from_length c.args.units.now (search rules) in
-    Refuses_memory sight limit _ _ c.refuse.result c.refuse.ensures.kind c.refuse.ensures.at (rw none (c.in-Err.ensures.reads limit fs))
+    Refuses_memory sight limit _ _ (rw none (c.in-Err.ensures.reads limit fs))

@@ -11,7 +11,7 @@ returns-then-is_err-clause-reads g c = λ limit.
     let sight = g.S.Source.sight in
     let place : TakesValue (open_of c.args.stack.now) = search rules in
     let next = value_taken (open_of c.args.stack.now) _ _ _ (view c.args.value) place in
-    Refuses_memory sight limit _ _ c.refuse.result c.refuse.ensures.kind c.refuse.ensures.at (Halts_here sight limit _ _ (Leads_nil sight limit _ _) next next)
+    Refuses_memory sight limit _ _ (Halts_here sight limit _ _ (Leads_nil sight limit _ _) next next)
 
 pub returns-clause-reads : goal.returns-clause-reads
 returns-clause-reads g c = λ limit.

@@ -32,14 +32,14 @@ returns-in-Ok-false-clause-reads g c = λ limit fs.
     let us = c.args.units.now.items in
     let plainly : is_plain c.in-Some.c ≡ true = sym c.is_plain.ensures ∙ c.if-is_plain.true in
     let unpaired : paired us ≡ false = ap paired (sym c.deref.ensures.value) ∙ sym c.in-Ok-false.ensures.whole ∙ c.in-Ok-false.field-0-test in
-    Refuses_as sight limit _ _ c.refuse.result InvalidUtf16 c.refuse.ensures.kind c.refuse.ensures.at
+    Refuses_as sight limit _ _ InvalidUtf16
     (Leads_one sight limit _ _ _ c.in-Some.c (Leads_peek sight limit _ _ _ (Leads_nil sight limit _ _) c.in-Some.ensures.takes)
     (Takes_shown sight _ _ _ _ (c.bump.ensures.shown (Some c.in-Some.c) c.in-Some.ensures.shows) c.bump.ensures.takes) tt
     (units_refused limit fs (text c.args.string.now) us c.in-Some.c plainly unpaired) tt)
 
 pub returns-in-Err-clause-reads : goal.returns-in-Err-clause-reads
 returns-in-Err-clause-reads g c = λ limit fs.
-    Refuses_memory g.S.Source.sight limit _ _ c.refuse-in-Err.result c.refuse-in-Err.ensures.kind c.refuse-in-Err.ensures.at
+    Refuses_memory g.S.Source.sight limit _ _
     (Halts_here g.S.Source.sight limit _ _ (Leads_peek g.S.Source.sight limit _ _ _ (Leads_nil g.S.Source.sight limit _ _) c.in-Some.ensures.takes) tt tt)
 
 pub returns-in_default-clause-reads : goal.returns-in_default-clause-reads

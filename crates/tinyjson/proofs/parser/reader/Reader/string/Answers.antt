@@ -24,4 +24,4 @@ returns-in-Err-clause-reads g c = λ limit fs.
     let sight = g.S.Source.sight in
     let none : text c.clear.new.self ≡ [] = ap chars c.clear.ensures.bytes ∙ chars-nil in
     let t = rw none at c.in-Err.ensures.quoted in
-    Refuses_memory sight limit _ _ c.refuse.result c.refuse.ensures.kind c.refuse.ensures.at (plain_halts sight limit _ _ fs [] _ [] _ refl t)
+    Refuses_memory sight limit _ _ (plain_halts sight limit _ _ fs [] _ [] _ refl t)

@@ -21,7 +21,7 @@ returns-in_default-clause-reads g c = λ limit fs cs.
     let sight = g.S.Source.sight in
     let v = c.loop.invariant.reads in
     let h : length v.0 < 4 = omega (arith, v.1, c.loop-test.true) in
-    Refuses_as sight limit _ _ c.refuse.result UnexpectedEof c.refuse.ensures.kind c.refuse.ensures.at
+    Refuses_as sight limit _ _ UnexpectedEof
     (Leads_none sight limit _ _ _ (v.3 limit fs cs) c.in_default.ensures.takes.0 c.in_default.ensures.takes.1 (hex_end limit fs cs _ v.0 h) (hex_next fs cs _ v.0 h))
 
 pub returns-in_default-to_digit-clause-reads : goal.returns-in_default-to_digit-clause-reads
@@ -31,7 +31,7 @@ returns-in_default-to_digit-clause-reads g c = λ limit fs cs.
     let h : length v.0 < 4 = omega (arith, v.1, c.loop-test.true) in
     let a : 16 ≤ digit_value c.in-Some.c = search rules in
     let b : is_hex c.in-Some.c ≡ false = grind (arith, nat_tests, a) in
-    Refuses_as sight limit _ _ c.refuse-in_default-to_digit.result (InvalidHexDigit c.in-Some.c) c.refuse-in_default-to_digit.ensures.kind c.refuse-in_default-to_digit.ensures.at
+    Refuses_as sight limit _ _ (InvalidHexDigit c.in-Some.c)
     (Leads_one sight limit _ _ _ c.in-Some.c (v.3 limit fs cs) c.in-Some.ensures.takes (hex_next fs cs _ v.0 h) (hex_other limit fs cs _ v.0 c.in-Some.c h b) tt)
 
 pub overflow_mul-unit : goal.overflow_mul-unit
@@ -72,7 +72,7 @@ returns-then-is_err-clause-reads g c = λ limit fs cs.
     let sight = g.S.Source.sight in
     let v = c.loop.invariant.reads in
     let l : length v.0 ≡ 4 = search (rules, arith) in
-    Refuses_memory sight limit _ _ c.refuse-then-is_err.result c.refuse-then-is_err.ensures.kind c.refuse-then-is_err.ensures.at
+    Refuses_memory sight limit _ _
     (Halts_here sight limit _ _ (Leads_to sight limit _ _ (v.3 limit fs cs) (hex_done fs cs _ v.0 _ l v.2)) tt tt)
 
 pub returns-clause-reads : goal.returns-clause-reads

@@ -1,4 +1,3 @@
-use Rattle.std.proofs.Common.{ap, ◌∙◌}
 use Rattle.tinyjson_grammar.specs.Kind.{kind_of}
 use Rattle.tinyjson.specs.View.{view, text}
 use Rattle.tinyjson_grammar.specs.declared.error.JsonParseErrorKind.TheVariants.{KeyNotString}
@@ -20,8 +19,8 @@ returns-in_default g c =
     let t = view c.args.value in
     record {
       reads = λ limit.
-          Refuses_as sight limit _ _ c.refuse.result (KeyNotString (kind_of t)) (c.refuse.ensures.kind ∙ ap KeyNotString c.kind.ensures) c.refuse.ensures.at
-          (Leads_to sight limit _ _ (Leads_nil sight limit _ _) (key_refused c.args.stack.now c.requires.awaits t (no_string c.args.value c.in_default.not-String)));
+          rw c.kind.ensures (Refuses_as sight limit _ _ (KeyNotString (kind_of t))
+          (Leads_to sight limit _ _ (Leads_nil sight limit _ _) (key_refused c.args.stack.now c.requires.awaits t (no_string c.args.value c.in_default.not-String))));
       sound = tt;
       left = tt;
     }

@@ -1,14 +1,14 @@
 use Rattle.std.proofs.Common.{rules, ℕ, Ok, Err, Result, IsTrue, refl}
 use Rattle.tinyjson.specs.private.Steps.{GrowsFor}
 use Rattle.tinyjson_grammar.specs.Refusal.{begins_growth}
-use Rattle.tinyjson.specs.declared.parser.error.JsonParseError.{JsonParseError}
+use Rattle.tinyjson_grammar.specs.declared.error.JsonParseErrorKind.{JsonParseErrorKind}
 use Rattle.tinyjson_grammar.specs.declared.error.JsonParseErrorKind.TheVariants.{InvalidCharacter}
 use Rattle.tinyjson.proofs.Reading.Steps.{Leads_nil, Leads_shown, Refuses_as, invalid}
 use Rattle.tinyjson.proofs.parser.reader.Reader.value.Goals as goal
 
-grows_for : {T : Type 0} (c : ℕ) (r : Result T JsonParseError) → IsTrue (begins_growth c) → GrowsFor c r
+grows_for : {T : Type 0} (c : ℕ) (r : Result T JsonParseErrorKind) → IsTrue (begins_growth c) → GrowsFor c r
 grows_for c (Ok v) h = h
-grows_for c (Err e) h = λ _. h
+grows_for c (Err k) h = λ _. h
 
 pub returns-in-n-clause-reads : goal.returns-in-n-clause-reads
 returns-in-n-clause-reads g c = c.literal_value.ensures.reads c.args.limit
@@ -27,7 +27,7 @@ returns-in_default-2-clause-reads g c =
     let sight = g.S.Source.sight in
     let limit = c.args.limit in
     let d = c.args.first in
-    Refuses_as sight limit _ _ c.refuse.result (InvalidCharacter d) c.refuse.ensures.kind c.refuse.ensures.at
+    Refuses_as sight limit _ _ (InvalidCharacter d)
     (Leads_shown sight limit _ _ d (Leads_nil sight limit _ _) c.requires.shown
     (invalid limit _ d c.requires.no_white (search rules) (search rules) (search rules) (search rules) (search rules) (search rules) (search rules) (search rules)) tt)
 
@@ -35,7 +35,7 @@ pub returns-in-91-clause-memory : goal.returns-in-91-clause-memory
 returns-in-91-clause-memory g c = λ _. grows_for c.args.first c.array.result (rw c.in-91.is refl)
 
 pub returns-in_default-2-clause-memory : goal.returns-in_default-2-clause-memory
-returns-in_default-2-clause-memory g c = λ _ e. let k = c.refuse.ensures.kind in absurd cc
+returns-in_default-2-clause-memory g c = λ _ e. absurd cc
 
 pub returns-in-123-clause-memory : goal.returns-in-123-clause-memory
 returns-in-123-clause-memory g c = λ _. grows_for c.args.first c.object.result (rw c.in-123.is refl)

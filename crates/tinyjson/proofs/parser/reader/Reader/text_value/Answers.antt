@@ -5,7 +5,7 @@ use Rattle.tinyjson_grammar.specs.Machine.{next, awaited}
 use Rattle.tinyjson_grammar.specs.declared.error.JsonParseErrorKind.TheVariants.{UnexpectedEof}
 use Rattle.tinyjson.proofs.Reading.Memory.{grows_text}
 use Rattle.tinyjson.proofs.Reading.Steps.{end_awaited, Leads_end, Leads_to, Leads_trans, Leads_whites, Refuses_after, Refuses_as, Reads_after, white_awaited}
-use Rattle.tinyjson.proofs.parser.reader.Reader.text.Goals as goal
+use Rattle.tinyjson.proofs.parser.reader.Reader.text_value.Goals as goal
 
 pub returns-in_err-value-in-Some-n-clause-reads : goal.returns-in_err-value-in-Some-n-clause-reads
 returns-in_err-value-in-Some-n-clause-reads g c =
@@ -47,5 +47,5 @@ pub returns-in-None-clause-reads : goal.returns-in-None-clause-reads
 returns-in-None-clause-reads g c =
     let sight = g.S.Source.sight in
     let limit = c.args.limit in
-    Refuses_as sight limit _ _ c.refuse.result UnexpectedEof c.refuse.ensures.kind c.refuse.ensures.at
+    Refuses_as sight limit _ _ UnexpectedEof
     (Leads_end sight limit _ _ (Leads_whites sight limit _ _ _ c.skip_white.ensures.white tt (white_awaited limit [])) c.in-None.ensures.shows (end_awaited limit _) tt)
