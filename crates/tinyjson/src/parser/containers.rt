@@ -4,6 +4,7 @@ ghost use Rattle.std.specs.Prelude.{ℕ};
 ghost use Rattle.tinyjson_grammar.specs.Machine.{awaited, colon, next, complete, fits};
 ghost use Rattle.tinyjson.specs.private.Stack.{at, frames, AwaitsKey, Innermost, IsSound};
 ghost use Rattle.tinyjson.specs.private.Steps.{Reads};
+ghost use Rattle.tinyjson_grammar.specs.Tree.{number};
 ghost use Rattle.tinyjson.specs.View.{view, text};
 ghost use Rattle.tinyjson.specs.declared.parser.stack.Frame.TheVariants as container;
 
@@ -11,8 +12,9 @@ use super::error::JsonParseErrorKind;
 use super::reader::Reader;
 use super::stack::{Frame, Stack};
 use super::tokens::Tokens;
-use crate::value::JsonValue;
+use crate::value::{JsonKind, JsonValue};
 use std::collections::HashMap;
+use tinyjson_number::JsonNumber;
 
 /// Whether one more container may be opened.
 fn fits(limit: Option<usize>, depth: usize) -> bool
@@ -106,6 +108,29 @@ impl<S: Tokens> Reader<S> {
             return self.use_as_key(stack, value);
         }
         if stack.push(value).is_err() {
+            return Err(JsonParseErrorKind::OutOfMemory);
+        }
+        Ok(true)
+    }
+
+    /// The same for a number, which is made a value where it belongs.
+    #[inline(always)]
+    pub(super) fn put_number(
+        &mut self,
+        stack: &mut Stack,
+        decimal: JsonNumber,
+    ) -> Result<bool, JsonParseErrorKind>
+        requires sound { IsSound stack.old false }
+        ensures reads { (limit : Option ℕ) → Reads S.sight limit self.old.source
+            (complete true (frames stack.old) (number decimal.decimal) true) result
+            (at stack.new) self.new.source }
+        ensures sound { IfOk result (IsSound stack.new) }
+        ensures left { OnOk result (S.left self.new.source ≤ S.left self.old.source) }
+    {
+        if let Some(Frame::Object { .. }) = stack.innermost() {
+            return Err(JsonParseErrorKind::KeyNotString(JsonKind::Number));
+        }
+        if stack.push_number(decimal).is_err() {
             return Err(JsonParseErrorKind::OutOfMemory);
         }
         Ok(true)

@@ -21,7 +21,6 @@ use super::error::JsonParseErrorKind;
 use super::reader::Reader;
 use super::stack::Stack;
 use super::tokens::Tokens;
-use crate::value::JsonValue;
 use tinyjson_number::{ExponentParts, JsonNumber, LiteralError, NumberParts};
 use tinyjson_scan::digits_end;
 
@@ -235,7 +234,7 @@ impl<S: Tokens> Reader<S> {
         if let Some((parts, behind)) = self.source.numeral() {
             if let Ok(number) = JsonNumber::from_parts(self.alloc, parts) {
                 self.source = behind;
-                return self.put(stack, JsonValue::Number(number));
+                return self.put_number(stack, number);
             }
         }
         self.long_number(stack)
@@ -253,10 +252,10 @@ impl<S: Tokens> Reader<S> {
     {
         if let Some((number, behind)) = self.source.scientific(self.alloc) {
             self.source = behind;
-            return self.put(stack, JsonValue::Number(number));
+            return self.put_number(stack, number);
         }
         let number = self.gathered_number()?;
-        self.put(stack, JsonValue::Number(number))
+        self.put_number(stack, number)
     }
 
     /// Reads the number by its parts, whose digits are gathered.

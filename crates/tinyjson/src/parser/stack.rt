@@ -7,7 +7,7 @@ ghost use Rattle.tinyjson.specs.private.Stack.{at, frames, frames_over, gather, 
 ghost use Rattle.tinyjson.specs.private.Stack.{other_maps, own_members};
 ghost use Rattle.tinyjson.specs.private.Stack.{AwaitsKey, BeginsMember, ClosesArray, ClosesObject};
 ghost use Rattle.tinyjson.specs.private.Stack.{Innermost, IsSound, Lies, TakesValue};
-ghost use Rattle.tinyjson_grammar.specs.Tree.{no_members};
+ghost use Rattle.tinyjson_grammar.specs.Tree.{no_members, number};
 ghost use Rattle.tinyjson.specs.View.{view, text, members_view};
 ghost use Rattle.tinyjson.specs.declared.parser.stack.Frame.TheVariants as container;
 
@@ -15,6 +15,7 @@ use crate::value::{JsonValue, add_member, insert_member};
 use std::alloc::{AllocError, Global};
 use std::collections::HashMap;
 use std::mem;
+use tinyjson_number::JsonNumber;
 
 /// A container that was opened and not closed: where its values and its keys begin on the stack.
 #[derive(Clone, Copy)]
@@ -82,6 +83,20 @@ impl Stack {
             return Err(AllocError);
         }
         self.values.push_reserved(value);
+        Ok(())
+    }
+
+    /// Puts a number on the stack.
+    #[inline(always)]
+    pub(super) fn push_number(&mut self, decimal: JsonNumber) -> Result<(), AllocError>
+        requires sound { IsSound self.old false }
+        requires place { TakesValue (open_of self.old) }
+        ensures at { OnOk result (at self.new true
+            ≡ complete true (frames self.old) (number decimal.decimal) true) }
+        ensures sound { OnOk result (IsSound self.new true) }
+    {
+        self.values.reserve(1)?;
+        self.values.push_reserved(JsonValue::Number(decimal));
         Ok(())
     }
 

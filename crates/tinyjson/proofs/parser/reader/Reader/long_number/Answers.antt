@@ -1,9 +1,6 @@
-use Rattle.std.proofs.Common.{true, ap, sym}
-use Rattle.tinyjson_grammar.specs.Machine.{complete}
 use Rattle.tinyjson.specs.private.Stack.{frames}
-use Rattle.tinyjson.proofs.Reading.Containers.{view_Number}
 use Rattle.tinyjson.proofs.Reading.Numerals.{Leads_numeral}
-use Rattle.tinyjson.proofs.Reading.Steps.{Leads_to, Reads_after}
+use Rattle.tinyjson.proofs.Reading.Steps.{Reads_after}
 use Rattle.tinyjson.proofs.parser.reader.Reader.long_number.Goals as goal
 
 pub returns-in-Some-clause-reads : goal.returns-in-Some-clause-reads
@@ -13,12 +10,9 @@ returns-in-Some-clause-reads g c = λ limit.
     let fs = frames c.args.stack.now in
     let x = c.in-Some.number in
     let l = Leads_numeral sight c.args.self.now.source c.in-Some.behind n.0 n.2 limit fs x n.1 in
-    Reads_after sight limit _ _ _ _ _ (Leads_to sight limit _ _ l (ap (λ t. complete true fs t true) (sym (view_Number x)))) (c.put.ensures.reads limit)
+    Reads_after sight limit _ _ _ _ _ l (c.put_number.ensures.reads limit)
 
 pub returns-clause-reads : goal.returns-clause-reads
 returns-clause-reads g c = λ limit.
     let sight = g.S.Source.sight in
-    let w = c.in_ok-number in
-    Reads_after sight limit _ _ _ _ _
-    (Leads_to sight limit _ _ (w.ensures.reads limit _) (ap (λ t. complete true (frames c.args.stack.now) t true) (sym (view_Number w.number))))
-    (c.put-2.ensures.reads limit)
+    Reads_after sight limit _ _ _ _ _ (c.in_ok-number.ensures.reads limit _) (c.put_number-2.ensures.reads limit)

@@ -1,10 +1,8 @@
-use Rattle.std.proofs.Common.{true, ap, sym, Ok}
+use Rattle.std.proofs.Common.{Ok}
 use Rattle.tinyjson_number.proofs.Callers.{parts_numeral, parts_read}
-use Rattle.tinyjson_grammar.specs.Machine.{complete}
 use Rattle.tinyjson.specs.private.Stack.{frames}
-use Rattle.tinyjson.proofs.Reading.Containers.{view_Number}
 use Rattle.tinyjson.proofs.Reading.Numerals.{Leads_numeral}
-use Rattle.tinyjson.proofs.Reading.Steps.{Leads_to, Reads_after}
+use Rattle.tinyjson.proofs.Reading.Steps.{Reads_after}
 use Rattle.tinyjson.proofs.parser.reader.Reader.number.Goals as goal
 
 pub from_parts-requires-clause-numeral : goal.from_parts-requires-clause-numeral
@@ -22,4 +20,4 @@ returns-in-Ok-clause-reads g c = λ limit.
     let q = c.in-Some.behind in
     let x = c.in-Ok.number in
     let l = Leads_numeral sight p q n.0 n.2 limit fs x (parts_read n.0 c.in-Some.parts n.1 (Ok x) c.in-Ok.ensures.reads) in
-    Reads_after sight limit _ _ _ _ _ (Leads_to sight limit _ _ l (ap (λ t. complete true fs t true) (sym (view_Number x)))) (c.put.ensures.reads limit)
+    Reads_after sight limit _ _ _ _ _ l (c.put_number.ensures.reads limit)
