@@ -133,7 +133,11 @@ impl JsonNumber {
         {
             return Ok(bare(parts.negative, parts.whole, parts.fraction));
         }
-        uneven(alloc, parts)
+        // Taken apart, so that the number above needs no place in memory.
+        match uneven(alloc, parts) {
+            Ok(number) => Ok(number),
+            Err(error) => Err(error),
+        }
     }
 }
 

@@ -186,7 +186,7 @@ impl Encoder<'_> {
             (Members left first ∷ frames stack.old) (reverse gathered.old.items) result stack.new
             (reverse gathered.new.items) }
     {
-        let (mut left, mut first) = self.run_of_members(room, gathered, left, first);
+        let (mut left, mut first) = self.run_of_members(room, gathered, left, first, false);
         while let Some((key, value)) = next_member(gathered, left) {
             let begun = self.member(out, room, gathered, key, value, level, first)?;
             left -= 1;
@@ -195,7 +195,7 @@ impl Encoder<'_> {
                 Some(inner) => return Ok(stack.enter(Frame::Members { left, first }, inner)?),
                 None => {}
             }
-            (left, first) = self.run_of_members(room, gathered, left, first);
+            (left, first) = self.run_of_members(room, gathered, left, first, false);
         }
         self.close(out, room, level, b"}")
     }
@@ -352,8 +352,8 @@ impl Encoder<'_> {
     {
         if members.len() > 1 {
             write_bytes(out, room, b"{")?;
-            gather_sorted(self.alloc, gathered, members)?;
-            let (left, first) = self.run_of_members(room, gathered, members.len(), true);
+            let flat = gather_sorted(self.alloc, gathered, members)?;
+            let (left, first) = self.run_of_members(room, gathered, members.len(), true, flat);
             if left == 0 && self.indent.is_none() {
                 write_bytes(out, room, b"}")?;
                 return Ok(None);
@@ -366,7 +366,7 @@ impl Encoder<'_> {
         };
         write_bytes(out, room, b"{")?;
         let key = key.as_str();
-        if quick_member(room, self.indent.is_none(), true, key, value) {
+        if quick_member(room, self.indent.is_none(), true, false, key, value) {
             write_bytes(out, room, b"}")?;
             return Ok(None);
         }
@@ -403,6 +403,7 @@ impl Encoder<'_> {
         gathered: &mut Vec<(&'a str, &'a JsonValue)>,
         left: usize,
         first: bool,
+        flat: bool,
     ) -> (usize, bool)
         ensures waits { (k : ℕ) → Waits (waiting room.old) (waiting room.new)
             (encode_utf8_all (members_text (indent_of self.now.indent) k first
@@ -414,7 +415,7 @@ impl Encoder<'_> {
         ensures less { result.0 ≤ left }
     {
         match self.indent {
-            None => quick_members(room, gathered, left, first),
+            None => quick_members(room, gathered, left, first, flat),
             Some(_) => (left, first),
         }
     }

@@ -77,13 +77,14 @@ fn quick_item(room: &mut Room, first: bool, item: &JsonValue) -> bool
     false
 }
 
-// The same of the members that are left to an object.
+// The same of the members that are left to an object; their values may be known to hold no others.
 #[inline(always)]
 pub(super) fn quick_members<'a>(
     room: &mut Room,
     gathered: &mut Vec<(&'a str, &'a JsonValue)>,
     count: usize,
     first: bool,
+    flat: bool,
 ) -> (usize, bool)
     ensures waits { (k : ℕ) → Waits (waiting room.old) (waiting room.new)
         (encode_utf8_all (members_text None k first
@@ -97,7 +98,7 @@ pub(super) fn quick_members<'a>(
     let mut left = count;
     let mut first = first;
     while let Some((key, value)) = first_member(gathered, left) {
-        if !quick_member(room, true, first, key, value) {
+        if !quick_member(room, true, first, flat, key, value) {
             return (left, first);
         }
         let _written = next_member(gathered, left);
@@ -113,6 +114,7 @@ pub(super) fn quick_member(
     room: &mut Room,
     compact: bool,
     first: bool,
+    flat: bool,
     key: &str,
     value: &JsonValue,
 ) -> bool
@@ -121,7 +123,7 @@ pub(super) fn quick_member(
         ++ encode_utf8_all (quoted (chars key.now) ++ (58 ∷ text None k (view value.now))))))
         (waiting room.new ≡ waiting room.old) }
 {
-    if holds_others(value) {
+    if !flat && holds_others(value) {
         return false;
     }
     let len = room.len();
@@ -154,7 +156,7 @@ fn quick_empty(room: &mut Room, value: &JsonValue) -> bool
 
 // Whether the value is an array or object that isn't empty: only a hint, that saves the key.
 #[inline(always)]
-fn holds_others(value: &JsonValue) -> bool {
+pub(super) fn holds_others(value: &JsonValue) -> bool {
     match value {
         JsonValue::Array(items) => !items.is_empty(),
         JsonValue::Object(members) => !members.is_empty(),

@@ -6,18 +6,19 @@ ghost use Rattle.std.specs.String.{string_eq};
 ghost use Rattle.tinyjson.specs.private.Sorted.{bytes_pair, now_pair, sorted_view};
 ghost use Rattle.tinyjson.specs.View.{members_view};
 
+use super::quick::holds_others;
 use crate::value::JsonValue;
 use std::alloc::{AllocError, Global};
 use std::collections::HashMap;
 use tinyjson_output::presort::presort;
 
 // Puts the members behind those that were gathered before, the last key's member first, so that they
-// are popped in the order of their keys' bytes.
+// are popped in the order of their keys' bytes. Says whether no value of them holds another.
 pub(super) fn gather_sorted<'a>(
     alloc: Global,
     gathered: &mut Vec<(&'a str, &'a JsonValue)>,
     members: &'a HashMap<String, JsonValue>,
-) -> Result<(), AllocError>
+) -> Result<bool, AllocError>
     ensures members { OnOk result (sorted_view (take (length members.now.entries)
         (reverse gathered.new.items)) ≡ members_view members.now.entries) }
     ensures before { OnOk result
@@ -25,18 +26,19 @@ pub(super) fn gather_sorted<'a>(
         gathered.old.items) }
 {
     let start = gathered.len();
-    gather(gathered, members)?;
+    let flat = gather(gathered, members)?;
     let added = &mut gathered[start..];
     presort(alloc, added);
     added.sort_unstable_by(|a, b| b.0.cmp(a.0));
-    Ok(())
+    Ok(flat)
 }
 
-// The members in the map's own order.
+// The members in the map's own order. All values are looked at here, side by side, so that the memory
+// of each is near when it is written.
 fn gather<'a>(
     gathered: &mut Vec<(&'a str, &'a JsonValue)>,
     members: &'a HashMap<String, JsonValue>,
-) -> Result<(), AllocError>
+) -> Result<bool, AllocError>
     ensures items { OnOk result
         (map now_pair (drop (length gathered.old.items) gathered.new.items) ≡ map bytes_pair
         members.now.entries) }
@@ -45,10 +47,12 @@ fn gather<'a>(
     ensures unique { OnOk result (IsUnique string_eq members.now) }
 {
     gathered.reserve(members.len())?;
+    let mut flat = true;
     for (key, value) in members {
+        flat &= !holds_others(value);
         gathered.push((key.as_str(), value))?;
     }
-    Ok(())
+    Ok(flat)
 }
 
 // The next of that many members that are left to an object. It stays with them.

@@ -23,13 +23,13 @@ returns-clause-members c =
     let xs = c.gather.new.gathered.items in
     let ys = c.sort_unstable_by.new.self in
     let s = c.sort_unstable_by.ensures.sorted (λ a b. is_lt (bytes_cmp (key b) (key a))) (IsStrictWeakOrder-flip (λ a b. is_lt (bytes_cmp (key a) (key b))) (ranks_by nat_list_cmp_total key)) (answers_always _ _ _ (λ f a r q k. search rules)) in
-    rw (regathered c.gather.new.gathered.len c.len-start.result old xs c.deref_mut.result.now ys c.deref_mut.ensures.value (start c) c.gather.new.gathered.ok.0 c.in_ok-gather.ensures.before (length_permutation _ _ (permuted_part c)))
-    (gathered_members c.args.members.now.entries old (drop (length old) xs) ys c.in_ok-gather.ensures.items (permuted c) c.in_ok-gather.ensures.unique s)
+    rw (regathered c.gather.new.gathered.len c.len-start.result old xs c.deref_mut.result.now ys c.deref_mut.ensures.value (start c) c.gather.new.gathered.ok.0 c.in_ok-flat.ensures.before (length_permutation _ _ (permuted_part c)))
+    (gathered_members c.args.members.now.entries old (drop (length old) xs) ys c.in_ok-flat.ensures.items (permuted c) c.in_ok-flat.ensures.unique s)
 
 pub returns-clause-before : goal.returns-clause-before
 returns-clause-before c =
     let old = c.args.gathered.now.items in
     let xs = c.gather.new.gathered.items in
     let ys = c.sort_unstable_by.new.self in
-    rw (regathered c.gather.new.gathered.len c.len-start.result old xs c.deref_mut.result.now ys c.deref_mut.ensures.value (start c) c.gather.new.gathered.ok.0 c.in_ok-gather.ensures.before (length_permutation _ _ (permuted_part c)))
-    (gathered_others c.args.members.now.entries old (drop (length old) xs) ys c.in_ok-gather.ensures.items (permuted c))
+    rw (regathered c.gather.new.gathered.len c.len-start.result old xs c.deref_mut.result.now ys c.deref_mut.ensures.value (start c) c.gather.new.gathered.ok.0 c.in_ok-flat.ensures.before (length_permutation _ _ (permuted_part c)))
+    (gathered_others c.args.members.now.entries old (drop (length old) xs) ys c.in_ok-flat.ensures.items (permuted c))

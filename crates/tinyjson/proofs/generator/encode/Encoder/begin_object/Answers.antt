@@ -12,10 +12,10 @@ returns-in_err-write_bytes g c =
     let some : 0 < length c.args.members.now.entries = omega (arith, c.len.ensures.len, c.if-len-gt1.true) in
     λ k. MatchResult-from_err _ _ _ c.from_residual.ensures.0 (λ _. object_stops (indent_of c.args.self.now.indent) k c.args.members.now.entries some c.in_err-write_bytes.ensures)
 
-pub returns-in_err-gather_sorted : goal.returns-in_err-gather_sorted
-returns-in_err-gather_sorted g c =
+pub returns-in_err-flat : goal.returns-in_err-flat
+returns-in_err-flat g c =
     let some : 0 < length c.args.members.now.entries = omega (arith, c.len.ensures.len, c.if-len-gt1.true) in
-    λ k. MatchResult-from_err _ _ _ c.from_residual-in_err-gather_sorted.ensures.0 (λ _. object_ungathered (indent_of c.args.self.now.indent) k c.args.members.now.entries some c.in_ok-write_bytes.ensures)
+    λ k. MatchResult-from_err _ _ _ c.from_residual-in_err-flat.ensures.0 (λ _. object_ungathered (indent_of c.args.self.now.indent) k c.args.members.now.entries some c.in_ok-write_bytes.ensures)
 
 pub returns-in_err-write_bytes-2 : goal.returns-in_err-write_bytes-2
 returns-in_err-write_bytes-2 g c = λ k.
@@ -31,7 +31,7 @@ returns-in_err-write_bytes-2 g c = λ k.
     let none : w ≡ None = is_compact w c.args.self.now.indent c.is_none.result c.is_none.ensures c.if-is_none.true in
     MatchResult-from_err _ _ _ c.from_residual-in_err-write_bytes-2.ensures.0 (λ _. stopped_at_once w k 125 gs is (Members left first) (object_end w k left first is zero none) c.in_err-write_bytes-2.ensures
     (members_run w k c.len-then-len-gt1.result left first gs hs is c.run_of_members-left.ensures.others (c.run_of_members-left.ensures.waits (k + 1) out)
-    (members_open w k c.len-then-len-gt1.result c.args.members.now.entries gs hs some c.len-then-len-gt1.ensures.len c.in_ok-gather_sorted.ensures.members c.in_ok-gather_sorted.ensures.before c.in_ok-write_bytes.ensures)))
+    (members_open w k c.len-then-len-gt1.result c.args.members.now.entries gs hs some c.len-then-len-gt1.ensures.len c.in_ok-flat.ensures.members c.in_ok-flat.ensures.before c.in_ok-write_bytes.ensures)))
 
 pub returns-then-is_none : goal.returns-then-is_none
 returns-then-is_none g c = λ k.
@@ -47,7 +47,7 @@ returns-then-is_none g c = λ k.
     let none : w ≡ None = is_compact w c.args.self.now.indent c.is_none.result c.is_none.ensures c.if-is_none.true in
     closed_at_once w k 125 gs is (Members left first) (object_end w k left first is zero none) (ap (λ i. drop i is) zero) c.in_ok-write_bytes-2.ensures
     (members_run w k c.len-then-len-gt1.result left first gs hs is c.run_of_members-left.ensures.others (c.run_of_members-left.ensures.waits (k + 1) out)
-    (members_open w k c.len-then-len-gt1.result c.args.members.now.entries gs hs some c.len-then-len-gt1.ensures.len c.in_ok-gather_sorted.ensures.members c.in_ok-gather_sorted.ensures.before c.in_ok-write_bytes.ensures))
+    (members_open w k c.len-then-len-gt1.result c.args.members.now.entries gs hs some c.len-then-len-gt1.ensures.len c.in_ok-flat.ensures.members c.in_ok-flat.ensures.before c.in_ok-write_bytes.ensures))
 
 pub returns-then-len-gt1 : goal.returns-then-len-gt1
 returns-then-len-gt1 g c = λ k.
@@ -60,7 +60,7 @@ returns-then-len-gt1 g c = λ k.
     let out = g.W.Write.contents c.write_bytes.new.out in
     let some : 0 < length c.args.members.now.entries = omega (arith, c.len.ensures.len, c.if-len-gt1.true) in
     members_run w k c.len-then-len-gt1.result left first gs hs is c.run_of_members-left.ensures.others (c.run_of_members-left.ensures.waits (k + 1) out)
-    (members_open w k c.len-then-len-gt1.result c.args.members.now.entries gs hs some c.len-then-len-gt1.ensures.len c.in_ok-gather_sorted.ensures.members c.in_ok-gather_sorted.ensures.before c.in_ok-write_bytes.ensures)
+    (members_open w k c.len-then-len-gt1.result c.args.members.now.entries gs hs some c.len-then-len-gt1.ensures.len c.in_ok-flat.ensures.members c.in_ok-flat.ensures.before c.in_ok-write_bytes.ensures)
 
 pub returns-in_err-write_bytes-4 : goal.returns-in_err-write_bytes-4
 returns-in_err-write_bytes-4 g c =
