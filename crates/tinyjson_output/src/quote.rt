@@ -1,5 +1,5 @@
 //! Quoted strings.
-ghost use Rattle.std.specs.Prelude.{◌≡◌, ◌<◌};
+ghost use Rattle.std.specs.Prelude.{◌≡◌, ◌<◌, ◌/◌, ◌%◌, ◌++◌, ◌∷◌, [], MatchOption, codes};
 ghost use Rattle.std.specs.Char.{digit_char};
 ghost use Rattle.std.specs.List.{prefix_len};
 ghost use Rattle.std.specs.Str.{chars};
@@ -60,15 +60,9 @@ fn write_escape<W: Write>(out: &mut W, room: &mut Room, byte: u8) -> io::Result<
         (W.contents out.old, waiting room.old) (W.contents out.new, waiting room.new)
         (escape byte) result }
 {
-    match byte {
-        0x08 => write_bytes(out, room, b"\\b"),
-        b'\t' => write_bytes(out, room, b"\\t"),
-        b'\n' => write_bytes(out, room, b"\\n"),
-        0x0c => write_bytes(out, room, b"\\f"),
-        b'\r' => write_bytes(out, room, b"\\r"),
-        b'"' => write_bytes(out, room, b"\\\""),
-        b'\\' => write_bytes(out, room, b"\\\\"),
-        _ => write_bytes(
+    match escape_letter(byte) {
+        Some(letter) => write_bytes(out, room, &[b'\\', letter]),
+        None => write_bytes(
             out,
             room,
             &[
@@ -80,6 +74,27 @@ fn write_escape<W: Write>(out: &mut W, room: &mut Room, byte: u8) -> io::Result<
                 hex_digit(byte % 16),
             ],
         ),
+    }
+}
+
+// The letter behind the backslash of a short escape. Those of control characters are looked up in a
+// small table, so that no jump has to be guessed for them.
+fn escape_letter(byte: u8) -> Option<u8>
+    requires { IsEscaped byte }
+    ensures { MatchOption result
+        (escape byte ≡ codes "\\u00" ++ digit_char (byte / 16) ∷ digit_char (byte % 16) ∷ [])
+        (λ letter. escape byte ≡ 92 ∷ letter ∷ []) }
+{
+    if byte >= b' ' {
+        return Some(byte);
+    }
+    match byte {
+        0x08 => Some(b'b'),
+        b'\t' => Some(b't'),
+        b'\n' => Some(b'n'),
+        0x0c => Some(b'f'),
+        b'\r' => Some(b'r'),
+        _ => None,
     }
 }
 

@@ -1,16 +1,23 @@
 //! Escapes among the bytes of a text (RFC 8259, section 7).
-ghost use Rattle.std.specs.Prelude.{◌≡◌, ◌≤◌, IfSome, true, false, length};
+ghost use Rattle.std.specs.Prelude.{◌≡◌, ◌<◌, ◌≤◌, IfSome, true, false, length};
+ghost use Rattle.std.specs.Char.{digit_value};
 ghost use Rattle.tinyjson_grammar.specs.Characters.{short_escape, is_high};
 ghost use Rattle.tinyjson.specs.private.Escape.{EscapeAt, NoBackslash, UnitAt};
 
 use tinyjson_source::utf16::{is_high, is_low, pair};
 
-/// What the letter behind a backslash stands for.
+/// What the letter behind a backslash stands for. Letters from `b` on are looked up in a small table, so
+/// that no jump has to be guessed for them.
 pub(super) fn short_escape(c: char) -> Option<char>
     ensures { result ≡ short_escape c }
 {
+    if c < 'b' {
+        return match c {
+            '"' | '\\' | '/' => Some(c),
+            _ => None,
+        };
+    }
     match c {
-        '"' | '\\' | '/' => Some(c),
         'b' => Some('\x08'),
         'f' => Some('\x0c'),
         'n' => Some('\n'),
@@ -95,17 +102,33 @@ fn unit_at(bytes: &[u8], at: usize) -> Option<u16>
     if bytes.len() - at < 6 || bytes[at] != b'\\' || bytes[at + 1] != b'u' {
         return None;
     }
-    let Some(first) = (bytes[at + 2] as char).to_digit(16) else {
+    let Some(first) = hex_value(bytes[at + 2]) else {
         return None;
     };
-    let Some(second) = (bytes[at + 3] as char).to_digit(16) else {
+    let Some(second) = hex_value(bytes[at + 3]) else {
         return None;
     };
-    let Some(third) = (bytes[at + 4] as char).to_digit(16) else {
+    let Some(third) = hex_value(bytes[at + 4]) else {
         return None;
     };
-    let Some(fourth) = (bytes[at + 5] as char).to_digit(16) else {
+    let Some(fourth) = hex_value(bytes[at + 5]) else {
         return None;
     };
     Some((((first * 16 + second) * 16 + third) * 16 + fourth) as u16)
+}
+
+/// The value of a hexadecimal digit.
+#[inline(always)]
+fn hex_value(byte: u8) -> Option<u32>
+    ensures { IfSome result (λ value. (value ≡ digit_value byte) × (value < 16)) }
+{
+    if !byte.is_ascii_hexdigit() {
+        return None;
+    }
+    let zero = match byte {
+        b'0'..=b'9' => b'0',
+        b'A'..=b'F' => b'A' - 10,
+        _ => b'a' - 10,
+    };
+    Some((byte - zero) as u32)
 }
