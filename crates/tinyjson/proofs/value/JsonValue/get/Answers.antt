@@ -1,0 +1,5 @@
+use Rattle.std.proofs.Common.{rules}
+use Rattle.tinyjson.proofs.value.JsonValue.get.Goals as goal
+
+pub returns : goal.returns
+returns g c = search rules
