@@ -1,19 +1,12 @@
-//! Values by index and by key.
+//! Values by index and by key. `documentation` has a place further in.
 ghost use Rattle.std.specs.Prelude.{IsTrue, IsSome, ◌↔◌};
 ghost use Rattle.tinyjson.specs.Index.{item_at, member_at};
 
-use crate::common::{array, number, single, string, with_item};
-use std::alloc::{AllocError, Global};
+use crate::common::{number, single, with_item};
+use std::alloc::Global;
 use std::collections::HashMap;
 use std::test::Fail;
 use tinyjson::JsonValue;
-
-/// `{"foo": {"bar": [{"target": 42}]}}`
-fn document(alloc: Global) -> Result<JsonValue, Fail> {
-    let target = single(alloc, "target", number(alloc, "42")?)?;
-    let bar = single(alloc, "bar", array(alloc, target)?)?;
-    Ok(single(alloc, "foo", bar)?)
-}
 
 pub(crate) fn has_member(value: &JsonValue, key: &str) -> bool
     ensures { IsTrue result ↔ IsSome (member_at value.now key.now) }
@@ -31,29 +24,8 @@ pub(crate) fn has_item(value: &JsonValue, index: usize) -> bool
         .is_some_and(|items| index < items.len())
 }
 
-/// Whether the value is the object with this string alone.
-fn is_string_member(
-    alloc: Global,
-    value: &JsonValue,
-    key: &str,
-    text: &str,
-) -> Result<bool, AllocError> {
-    Ok(*value == single(alloc, key, string(alloc, text)?)?)
-}
-
 fn is_number(alloc: Global, value: &JsonValue, literal: &str) -> Result<bool, Fail> {
     Ok(*value == number(alloc, literal)?)
-}
-
-#[test]
-fn a_member_by_its_key(rt: HostRuntime) -> Result<(), Fail> {
-    let alloc = rt.alloc();
-    let mut value = single(alloc, "foo", JsonValue::from(true))?;
-    assert!(rt; has_member(&value, "foo"));
-    assert!(rt; value["foo"] == JsonValue::Boolean(true));
-    value["foo"] = string(alloc, "hello")?;
-    assert!(rt; is_string_member(alloc, &value, "foo", "hello")?);
-    Ok(())
 }
 
 #[test]
@@ -82,24 +54,5 @@ fn an_item_by_its_index(rt: HostRuntime) -> Result<(), Fail> {
     assert!(rt; value[1] == JsonValue::Boolean(true));
     value[1] = JsonValue::from(());
     assert!(rt; value == one_and(alloc, JsonValue::Null)?);
-    Ok(())
-}
-
-#[test]
-fn a_place_further_in(rt: HostRuntime) -> Result<(), Fail> {
-    let alloc = rt.alloc();
-    let mut json = document(alloc)?;
-    assert!(rt; has_member(&json, "foo"));
-    assert!(rt; has_member(&json["foo"], "bar"));
-    assert!(rt; has_item(&json["foo"]["bar"], 0));
-    assert!(rt; has_member(&json["foo"]["bar"][0], "target"));
-    assert!(rt; is_number(alloc, &json["foo"]["bar"][0]["target"], "42")?);
-    json["foo"]["bar"][0]["target"] = JsonValue::Boolean(false);
-    assert!(rt; json != document(alloc)?);
-    assert!(rt; has_member(&json, "foo"));
-    assert!(rt; has_member(&json["foo"], "bar"));
-    assert!(rt; has_item(&json["foo"]["bar"], 0));
-    assert!(rt; has_member(&json["foo"]["bar"][0], "target"));
-    assert!(rt; json["foo"]["bar"][0]["target"] == JsonValue::Boolean(false));
     Ok(())
 }
