@@ -49,7 +49,7 @@ const LAST_MEMBERS: Shape = Shape {
 };
 
 /// A million levels of each shape take a second and some 400 MB, so one shape has them here.
-const ROWS: [(Shape, usize); 9] = [
+const ROWS: &[(Shape, usize)] = &[
     (ARRAYS, 1_000),
     (ARRAYS, 100_000),
     (ARRAYS, 1_000_000),
@@ -111,7 +111,7 @@ fn is_copied(alloc: Global, value: JsonValue, written: &str) -> bool {
 #[test]
 fn deep_values_are_written_and_copied(rt: HostRuntime) -> Result<(), Fail> {
     let alloc = rt.alloc();
-    for (shape, size) in ROWS {
+    for &(shape, size) in ROWS {
         let text = nested(alloc, shape.text, size)?;
         let written = nested(alloc, shape.written, size)?;
         let value = parsed_within(alloc, text.as_str(), size)?;
@@ -138,7 +138,7 @@ fn spell_equal(alloc: Global, one: &str, other: &str) -> Result<bool, Fail> {
 #[test]
 fn deep_values_are_compared(rt: HostRuntime) -> Result<(), Fail> {
     let alloc = rt.alloc();
-    for (shape, size) in ROWS {
+    for &(shape, size) in ROWS {
         let [open, _, close] = shape.text;
         let text = nested(alloc, shape.text, size)?;
         assert!(rt; spell_equal(alloc, text.as_str(), text.as_str())?);
@@ -181,7 +181,7 @@ fn is_cut_refused(alloc: Global, text: String, shape: Shape, size: usize) -> boo
 #[test]
 fn deep_values_are_given_up(rt: HostRuntime) -> Result<(), Fail> {
     let alloc = rt.alloc();
-    for (shape, size) in ROWS {
+    for &(shape, size) in ROWS {
         let text = nested(alloc, shape.text, size)?;
         let end = text.len().saturating_add(1);
         let followed = (Kind::ExpectedEof('x'), end);
