@@ -1,4 +1,5 @@
 -- For proofs of callers: values, parts, maps and texts beside the trees and the grammar that contracts speak of.
+pub mod Laws
 pub use Rattle.std.proofs.lemmas.Str.{scalars-chars, IsUtf8-string_bytes}
 pub use Rattle.tinyjson.proofs.Reading.Parse.{all_are_scalars, parses_text}
 pub use Rattle.tinyjson.proofs.Values.Entries.{same_text, text_eq}

@@ -1,4 +1,5 @@
 -- For proofs of callers: what the theorem says, that a written text is read back, positions, and finite maps of members.
+pub mod Laws
 pub use Rattle.tinyjson_grammar.proofs.Theorem.{accepts, refuses}
 pub use Rattle.tinyjson_grammar.proofs.Memory.{interrupted, interrupted_late}
 pub use Rattle.tinyjson_grammar.proofs.Prefix.InRange.{ranges}

@@ -13,7 +13,7 @@ use Rattle.tinyjson_grammar.specs.Prefix.{IsViable, IsFaultless, IsCutOffText, I
 use Rattle.tinyjson_grammar.specs.Refusal.{begins_value, IsRefusal, RefusalSays}
 use Rattle.tinyjson_grammar.specs.declared.error.JsonParseErrorKind.{JsonParseErrorKind}
 use Rattle.tinyjson_grammar.specs.declared.error.JsonParseErrorKind.TheVariants as kind
-use Rattle.tinyjson_grammar.proofs.Prefix.Faultless.{viable_before}
+use Rattle.tinyjson_grammar.proofs.Callers.Laws.{viable_before}
 use Rattle.tinyjson_laws.proofs.Faultless.{faultless_loosely}
 use Rattle.tinyjson_laws.specs.Prefixes.{AcceptedIsLoose, EmptyIsViable, ViableIsFaultless, FaultlessIsLooselyViable, UnviableStaysSo, ValuesBegin, UnviableAtFirst, IsShortest, ShortestInOrder, RefusedNotTooSoon, RefusedAtEnd, RefusedNotTooLate}
 

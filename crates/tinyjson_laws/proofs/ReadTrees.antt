@@ -13,7 +13,7 @@ use Rattle.tinyjson_grammar.specs.Tree.{key_cmp}
 use Rattle.tinyjson_grammar.specs.Syntax.{Syntax, Elements, Pairs, null, boolean, number, string, empty_array, array, empty_object, object, last_element, element, last_pair, pair, Piece, plain, escape, unit, IsPiece, ArePieces, code, piece_codes, unit_value, IsSpelled, AreElements, ArePairs, IsStrictAt, ElementsAreStrictAt, PairsAreStrictAt, is_key, tree_of, elements_trees, pairs_members, depth, elements_depth, pairs_depth}
 use Rattle.tinyjson_grammar.specs.Soundness.{IsSorted, IsTreeAt, AreItemsAt, AreMembersAt, tree_depth, items_depth, members_depth}
 use Rattle.tinyjson.proofs.Callers.{sorted_put}
-use Rattle.tinyjson.proofs.Values.Trees.{are_put}
+use Rattle.tinyjson.proofs.Callers.Laws.{are_put}
 use Rattle.tinyjson_number.proofs.Callers.{value_canonical}
 
 -- ---- characters

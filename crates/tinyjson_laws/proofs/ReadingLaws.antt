@@ -7,10 +7,8 @@ use Rattle.tinyjson_grammar.specs.Syntax.{depth, IsWithin}
 use Rattle.tinyjson_grammar.specs.Grammar.{IsTextAt}
 use Rattle.tinyjson_grammar.specs.Text as written
 use Rattle.tinyjson_grammar.specs.Soundness.{IsTreeAt, tree_depth}
-use Rattle.tinyjson_grammar.proofs.Accepts.Text.{only_tree}
+use Rattle.tinyjson_grammar.proofs.Callers.Laws.{only_tree, IsWhiteIndent, written_text}
 use Rattle.tinyjson_laws.specs.Reading.{OneTree, TextsAreSound, TreesHaveTexts, WiderLimit, WiderRange}
-use Rattle.tinyjson_grammar.proofs.Texts.TreeTrip.{IsWhiteIndent}
-use Rattle.tinyjson_grammar.proofs.Texts.WrittenTexts.{written_text}
 use Rattle.tinyjson_laws.proofs.ReadTrees.{tree_is, depth_is}
 use Rattle.tinyjson_laws.proofs.Wider.{wider_text}
 

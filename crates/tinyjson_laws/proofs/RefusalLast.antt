@@ -17,14 +17,8 @@ use Rattle.tinyjson_number.specs.Numeral.{Numeral, has_leading_zero, is_exponent
 use Rattle.tinyjson_grammar.specs.declared.kind.JsonKind.{JsonKind}
 use Rattle.tinyjson_grammar.specs.declared.error.JsonParseErrorKind.{JsonParseErrorKind}
 use Rattle.tinyjson_grammar.specs.declared.error.JsonParseErrorKind.TheVariants.{UnexpectedEof, ExpectedEof, KeyNotString, ExpectedColon, ExpectedCommaOrBrace, ExpectedCommaOrBracket, InvalidUtf16, NumberOutOfRange}
-use Rattle.tinyjson.proofs.Reading.Parse.{all_front, all_rest}
-use Rattle.tinyjson_grammar.proofs.Prefix.Unviable.{cut_off_end}
-use Rattle.tinyjson_grammar.proofs.Trace.Paths.{Path, outside, item_in, key_in, value_in, path_frames}
-use Rattle.tinyjson_grammar.proofs.Accepts.Runs.{continues, continues_digit, continues_point, continues_letter}
-use Rattle.tinyjson_grammar.proofs.Trace.State.{Read, at_first, at_awaited, in_word, in_digits, in_quoted, at_after, Part, part_stage, part_numeral, read_frames, read_phase, IsRead, IsFresh, values}
-use Rattle.tinyjson_grammar.proofs.Accepts.Text.{text_accepted}
-use Rattle.tinyjson_grammar.proofs.Sound.{denies, is_dead}
-use Rattle.tinyjson_grammar.proofs.Step.Statement.{Follows}
+use Rattle.tinyjson.proofs.Callers.Laws.{all_front, all_rest}
+use Rattle.tinyjson_grammar.proofs.Callers.Laws.{cut_off_end, Path, outside, item_in, key_in, value_in, path_frames, continues, continues_digit, continues_point, continues_letter, Read, at_first, at_awaited, in_word, in_digits, in_quoted, at_after, Part, part_stage, part_numeral, read_frames, read_phase, IsRead, IsFresh, values, text_accepted, denies, is_dead, Follows}
 use Rattle.tinyjson_laws.proofs.RefusalPlaces.{Stands, Goes, Halts, goes_or_halts, halts_run, stands_viable, stands_next, stands_stop, stands_follows, IsNoLetter, word_lacks, accepted_refused}
 
 -- ---- a character that may follow without a fault

@@ -20,18 +20,8 @@ use Rattle.tinyjson_number.specs.Numeral.{Numeral, IsNumeral, has_leading_zero, 
 use Rattle.tinyjson_grammar.specs.declared.kind.JsonKind.{JsonKind}
 use Rattle.tinyjson_grammar.specs.declared.error.JsonParseErrorKind.{JsonParseErrorKind}
 use Rattle.tinyjson_grammar.specs.declared.error.JsonParseErrorKind.TheVariants as kind
-use Rattle.tinyjson.proofs.Reading.Parse.{all_front}
-use Rattle.tinyjson_grammar.proofs.Prefix.Faultless.{faultless, placed}
-use Rattle.tinyjson_grammar.proofs.Prefix.Unviable.{refused_key}
-use Rattle.tinyjson_grammar.proofs.Accepts.Number.{run_spelling, last_stage, end_finishes}
-use Rattle.tinyjson_grammar.proofs.Trace.Paths.{Path, outside, item_in, key_in, value_in, path_text, path_frames, level, IsPath}
-use Rattle.tinyjson_grammar.proofs.Trace.State.{Part, part_minus, part_whole, part_point, part_fraction, part_letter, part_sign, part_exponent, part_stage, part_numeral, Read, at_first, at_awaited, in_word, in_digits, in_quoted, at_after, read_frames, read_phase, IsFresh}
-use Rattle.tinyjson_grammar.proofs.Accepts.Runs.{settle}
-use Rattle.tinyjson_grammar.proofs.Step.First.{fits_within, level_frames}
-use Rattle.tinyjson_grammar.proofs.Accepts.Text.{rules, only_tree, loose_accepted}
-use Rattle.tinyjson_grammar.proofs.Accepts.Value.{Begins, begins_append, numeral_begins, text_begins, run_value, ends, Ends}
-use Rattle.tinyjson_grammar.proofs.Prefix.Viable.{faultless_place}
-use Rattle.tinyjson_grammar.proofs.Step.Value.{no_text}
+use Rattle.tinyjson.proofs.Callers.Laws.{all_front}
+use Rattle.tinyjson_grammar.proofs.Callers.Laws.{faultless, placed, refused_key, run_spelling, last_stage, end_finishes, Path, outside, item_in, key_in, value_in, path_text, path_frames, level, IsPath, Part, part_minus, part_whole, part_point, part_fraction, part_letter, part_sign, part_exponent, part_stage, part_numeral, Read, at_first, at_awaited, in_word, in_digits, in_quoted, at_after, read_frames, read_phase, IsFresh, settle, fits_within, level_frames, rules, only_tree, loose_accepted, Begins, begins_append, numeral_begins, text_begins, run_value, ends, Ends, faultless_place, no_text}
 use Rattle.tinyjson_laws.proofs.RefusalPlaces.{Goes, EndsKey, faultless_stands, stands_stop, run_stop, wide_stop, wide_step, Ready, awaits_ready, ready_run, ready_free}
 use Rattle.tinyjson_laws.proofs.RefusalTokens.{has_some_digit, word_stops, word_ends, string_opens, control_stops, escape_stops, hex_stops, escape_ends, run_stops, unpaired_behind, minus_stops, zero_stops, fraction_stops, exponent_stops, signed_stops, number_ends_or}
 use Rattle.tinyjson_laws.proofs.RefusalLast.{Exact, run_end, colon_exact, brace_exact, bracket_exact, behind_exact, needs_exact, closer_colon, closer_bracket, closer_brace}

@@ -16,16 +16,8 @@ use Rattle.tinyjson_number.specs.Numeral.{Numeral}
 use Rattle.tinyjson_grammar.specs.declared.kind.JsonKind.{JsonKind}
 use Rattle.tinyjson_grammar.specs.declared.error.JsonParseErrorKind.{JsonParseErrorKind}
 use Rattle.tinyjson_grammar.specs.declared.error.JsonParseErrorKind.TheVariants.{KeyNotString, TooDeep}
-use Rattle.tinyjson_grammar.proofs.Prefix.InRange.{ranges}
-use Rattle.tinyjson_grammar.proofs.Prefix.Unviable.{cut_off_end}
-use Rattle.tinyjson_grammar.proofs.Trace.Paths.{Path, outside, item_in, key_in, value_in, path_text, path_frames, IsPath}
-use Rattle.tinyjson_grammar.proofs.Prefix.Loose.{strict_key}
-use Rattle.tinyjson_grammar.proofs.Sound.{Reached, reached_next, step_spells, spells_viable, start_spells, run_next}
-use Rattle.tinyjson_grammar.proofs.Trace.State.{Read, at_first, at_awaited, in_word, in_digits, in_quoted, at_after, Part, part_minus, part_whole, part_point, part_fraction, part_letter, part_sign, part_exponent, part_stage, part_numeral, read_text, read_frames, read_phase, IsRead, IsFresh, IsWord, Spells, numeral, exponent_with}
-use Rattle.tinyjson_grammar.proofs.Accepts.Text.{rules, text_accepted, loose_accepted}
-use Rattle.tinyjson_grammar.proofs.Step.Statement.{Follows, loosely}
-use Rattle.tinyjson_grammar.proofs.Accepts.Value.{Begins, first_array, first_object}
-use Rattle.tinyjson_grammar.proofs.Step.Value.{no_text}
+use Rattle.tinyjson_grammar.proofs.Callers.{ranges}
+use Rattle.tinyjson_grammar.proofs.Callers.Laws.{cut_off_end, Path, outside, item_in, key_in, value_in, path_text, path_frames, IsPath, strict_key, Reached, reached_next, step_spells, spells_viable, start_spells, run_next, Read, at_first, at_awaited, in_word, in_digits, in_quoted, at_after, Part, part_minus, part_whole, part_point, part_fraction, part_letter, part_sign, part_exponent, part_stage, part_numeral, read_text, read_frames, read_phase, IsRead, IsFresh, IsWord, Spells, numeral, exponent_with, rules, text_accepted, loose_accepted, Follows, loosely, Begins, first_array, first_object, no_text}
 
 -- ---- with no limit the machine does the same, but where a container is one too many
 

@@ -7,7 +7,7 @@ use Rattle.std.proofs.lemmas.Bool.{and_from}
 use Rattle.tinyjson_number.specs.Numeral.{Numeral, Exponent, IsNumeral, IsExponent, AreDigits, minus_text, sign_text, fraction_text, exponent_text, spelling}
 use Rattle.tinyjson_grammar.specs.Characters.{is_white, is_hex, short_escape}
 use Rattle.tinyjson_grammar.specs.Syntax.{Syntax, Elements, Pairs, null, boolean, number, string, empty_array, array, empty_object, object, last_element, element, last_pair, pair, Piece, plain, escape, unit, piece_text, pieces_text, IsPiece, ArePieces, text, elements_text, pairs_text, AreWhite, IsSpelled, AreElements, ArePairs}
-use Rattle.tinyjson.proofs.Writing.Scalars.{scalars_append}
+use Rattle.tinyjson.proofs.Callers.Laws.{scalars_append}
 
 digit_scalar : (c : ℕ) → IsTrue (is_ascii_digit c) → IsScalar c
 digit_scalar c h = grind arith

@@ -8,10 +8,9 @@ use Rattle.tinyjson_grammar.specs.Syntax.{Syntax, Elements, Pairs, null, boolean
 use Rattle.tinyjson_laws.specs.WhiteSpace.{bare_value, bare_elements, bare_pairs}
 use Rattle.tinyjson_laws.specs.WhiteSpace.{outside, in_string, kept_from, without_white, WhiteRemoved, SameButWhite, WhiteChangesNothing}
 use Rattle.tinyjson_grammar.specs.Grammar.{IsLoose, IsText}
-use Rattle.tinyjson_grammar.proofs.Accepts.Text.{only_tree}
+use Rattle.tinyjson_grammar.proofs.Callers.Laws.{only_tree, last_element_assoc, element_assoc, last_pair_assoc, pair_assoc}
 use Rattle.tinyjson_laws.proofs.Bare.{bare_spelled, bare_depth, bare_tree, bare_strict}
 use Rattle.tinyjson_number.specs.Numeral.{power_width}
-use Rattle.tinyjson_grammar.proofs.Accepts.Value.{last_element_assoc, element_assoc, last_pair_assoc, pair_assoc}
 
 -- ---- white space goes, other characters outside strings stay
 

@@ -3,12 +3,13 @@ use Rattle.std.proofs.Common.{Some, None, refl, ap, IsTrue}
 use Rattle.tinyjson_number.specs.Numeral.{power_width}
 use Rattle.tinyjson_grammar.specs.Syntax.{text}
 use Rattle.tinyjson_grammar.specs.Text as written
-use Rattle.tinyjson_grammar.proofs.Accepts.Text.{only_tree}
+use Rattle.tinyjson_grammar.proofs.Callers.Laws.{only_tree, written_text, from_text}
 use Rattle.tinyjson_laws.specs.Writing.{CompactReadsBack, IndentedReadsBack, SameCompact, SameIndented, WrittenOnce, CompactWithin, IndentedWithin, LimitKept, TextsAreUtf8, CompactIsUtf8, IndentedIsUtf8}
 use Rattle.tinyjson_laws.proofs.ReadingLaws.{tree_within, rewritten}
-use Rattle.tinyjson_grammar.proofs.Texts.WrittenTexts.{written_text, compact_text, from_text, one_compact}
-use Rattle.tinyjson.proofs.Writing.Scalars as trees
-use Rattle.tinyjson.proofs.Writing.Scalars.{scalars_append, encoded_utf8}
+use Rattle.tinyjson_grammar.proofs.Callers.{compact_text, one_compact}
+use Rattle.tinyjson.proofs.Callers as trees
+use Rattle.tinyjson.proofs.Callers.{encoded_utf8}
+use Rattle.tinyjson.proofs.Callers.Laws.{scalars_append}
 use Rattle.tinyjson_laws.proofs.TextScalars.{white_scalars, text_of_scalars}
 
 pub compact_reads_back : CompactReadsBack

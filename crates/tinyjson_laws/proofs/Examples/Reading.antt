@@ -8,7 +8,7 @@ use Rattle.tinyjson_grammar.specs.Tree as tree
 use Rattle.tinyjson_grammar.specs.Tree.{Tree, Members, no_members, member, items_of}
 use Rattle.tinyjson_grammar.specs.declared.error.JsonParseErrorKind.{JsonParseErrorKind}
 use Rattle.tinyjson.proofs.Callers.{all_are_scalars}
-use Rattle.tinyjson_grammar.proofs.Theorem.{accepts, refuses}
+use Rattle.tinyjson_grammar.proofs.Callers.{accepts, refuses}
 
 -- the characters are a text of the tree
 pub text_of : {limit : Option ℕ} {xs : List ℕ} {t : Tree} →
