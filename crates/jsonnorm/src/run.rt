@@ -74,7 +74,10 @@ fn normalize<R: Read, W: Write>(
     let Ok(text) = str::from_utf8(bytes.as_slice()) else {
         return Err(RunFault::NotUtf8);
     };
-    match parse(alloc, text, options.limit) {
+    let parsed = parse(alloc, text, options.limit);
+    // The value alone is needed from here on.
+    drop(bytes);
+    match parsed {
         Err(error) => Err(refusal(error)),
         Ok(value) => {
             let written = write_line(alloc, output, &value, options.indented);
