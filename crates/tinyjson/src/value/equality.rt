@@ -35,7 +35,7 @@ impl PartialEq for JsonValue {
         match compare(self, other) {
             Compared::Known(same) => same,
             Compared::Inside(rest) => match allocator(self) {
-                Some(alloc) => compare_near(rest, NEAR, alloc),
+                Some(alloc) => compare_near(rest, NEAR - 1, alloc),
                 None => compare_deep(rest),
             },
         }
