@@ -1,9 +1,8 @@
 -- The text of a pointer, taken in character by character.
-use Rattle.std.proofs.Common.{◌≡◌, ◌≢◌, ◌↔◌, inl, inr, ℕ, Bool, true, false, cond, Result, Ok, Err, map, ◌==◌, List, [], ◌∷◌, ◌++◌, Err, length, refl, sym, ap, ◌∙◌, append_assoc, append-nil, subst, arith, String, Global, string_bytes, encode_utf8, encode_utf8_all}
+use Rattle.std.proofs.Common.{◌≡◌, ◌≢◌, ◌↔◌, inl, inr, ℕ, Bool, true, false, cond, Result, Ok, Err, map, ◌==◌, List, [], ◌∷◌, ◌++◌, Err, length, refl, sym, ap, ◌∙◌, append_assoc, append-nil, subst, arith, String, Global, encode_utf8_all}
 use Rattle.std.proofs.lemmas.Bool.Decides.{nat_tests}
 use Rattle.std.proofs.lemmas.List.{map-append}
-use Rattle.std.proofs.lemmas.Str.{chars-nil, chars-append, chars-encodes, encodes-append, IsUtf8-string_bytes}
-use Rattle.std.specs.Char.{IsScalar}
+use Rattle.std.proofs.lemmas.Str.{chars-nil, encodes-append}
 use Rattle.std.specs.Result.{IsErrAnd}
 use Rattle.std.specs.Str.{chars}
 use Rattle.tinyjson.specs.View.{text}
@@ -129,11 +128,6 @@ pub bad_no_pointer : (cs : List ℕ) → HasBadEscape cs → IsNoPointer cs
 bad_no_pointer cs b ts e = b.bad (at_tilde b.front b.rest (subst AreEscapes (sym e ∙ b.split) (pointer_escapes ts)))
 
 -- ---- texts, character by character
-
-pub text_push : (new old : String Global) (c : ℕ) → IsScalar c → string_bytes new ≡ string_bytes old ++ encode_utf8 c → text new ≡ text old ++ c ∷ []
-text_push new old c h e =
-    ap chars e ∙ chars-append (string_bytes old) (encode_utf8 c) (IsUtf8-string_bytes old)
-    ∙ ap (λ bs. text old ++ chars bs) (sym (append-nil (encode_utf8 c))) ∙ ap (λ cs. text old ++ cs) (chars-encodes (c ∷ []) (rw h refl))
 
 -- one character more was taken of a text
 pub one_more : (xs ys zs zs' : List ℕ) (c : ℕ) → xs ≡ ys ++ zs → zs ≡ c ∷ zs' → xs ≡ (ys ++ c ∷ []) ++ zs'

@@ -8,8 +8,9 @@ pub use Rattle.tinyjson.proofs.Values.Index.{items_view_set, tree_with_item, tre
 pub use Rattle.tinyjson_grammar.proofs.Callers.{find_put, find_remove, sorted_put, sorted_remove, members_from_find}
 pub use Rattle.tinyjson.proofs.Writing.Scalars.{encoded_chars, encoded_utf8, text_of_scalars}
 pub use Rattle.tinyjson.proofs.Values.Trees.{view_IsTree, text_scalars}
-pub use Rattle.tinyjson.proofs.Values.Views.{Entry, find_members_view, members_view_last, view_ref}
+pub use Rattle.tinyjson.proofs.Values.View.{Entry, find_members_view, members_view_last, view_ref}
 pub use Rattle.tinyjson.proofs.Values.WholeNumbers.{integers_differ, naturals_differ}
+pub use Rattle.tinyjson_source.proofs.Callers.{text_push}
 pub use Rattle.tinyjson_output.proofs.Callers.{Appends-trans, Appends_nothing, Appends_keeps, written_none, written_all, begins, goes, ends, written_take, written_same, written_then, stop, stops, stops_then, fails}
 use Rattle.std.proofs.Common.{◌≡◌, ◌≢◌, ℕ, zero, suc, Bool, true, false, ◌&&◌, cond, bytes_eq, nat_lt, List, [], ◌∷◌, ◌++◌, Option, Some, None, option_map, Ok, Err, String, string_bytes, Vec, Global, refl, sym, ap, ◌∙◌, subst, rules, arith, append-nil}
 use Rattle.std.proofs.lemmas.Bool.{and_parts}
@@ -24,10 +25,10 @@ use Rattle.std.specs.Prelude.{IsSome, slice_get, option_and_then}
 use Rattle.std.specs.Str.{IsAscii, IsUtf8, chars, encode_utf8_all}
 use Rattle.std.specs.String.{string_eq, string_eq_equiv}
 use Rattle.tinyjson.proofs.Values.Entries.{find_members_of}
-use Rattle.tinyjson.proofs.Values.Views.{view_lookup, members_view_updates, members_view_removes, members_view_writes}
+use Rattle.tinyjson.proofs.Values.View.{view_lookup, members_view_updates, members_view_removes, members_view_writes}
 use Rattle.tinyjson.specs.Access.{JsonMap, number_in, boolean_in, string_in, null_in, array_in, object_in, number_part, boolean_part, string_part, null_part, array_part, object_part}
 use Rattle.tinyjson_grammar.proofs.Callers.{compact_text, one_compact}
-use Rattle.tinyjson.specs.Equality.{same_tree, tree_eq_decides}
+use Rattle.tinyjson.specs.Equality.{same_tree, tree_eq_Decides}
 use Rattle.tinyjson.specs.Error.{error_kind}
 use Rattle.tinyjson_grammar.specs.Grammar.{IsText, IsAccepted}
 use Rattle.tinyjson.specs.Index.{item_at, member_at, nth, tree_at, tree_at_key, with_nth, with_last, with_tree_at, with_tree_at_key}
@@ -373,7 +374,7 @@ bytes_compact s v h = sym (encodes-chars (string_bytes s) (IsUtf8-string_bytes s
 -- two values are equal (`==`) exactly if the bytes of their compact texts are
 pub equal_compact : (v w : JsonValue) → bytes_eq (encode_utf8_all (compact (view v))) (encode_utf8_all (compact (view w))) ≡ same_tree v w
 equal_compact v w =
-    let trees = tree_eq_decides (view v) (view w) in
+    let trees = tree_eq_Decides (view v) (view w) in
     let bytes = bytes_eq-Decides (encode_utf8_all (compact (view v))) (encode_utf8_all (compact (view w))) in
     sym (same_from_decides _ _ trees (
       λ e. one_compact (view v) (view w) (view_IsTree v) (view_IsTree w) (sym (chars_compact v) ∙ (ap chars (bytes.0 e) ∙ chars_compact w)),

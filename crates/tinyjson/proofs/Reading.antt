@@ -7,7 +7,7 @@ pub mod Containers
 pub mod Parse
 pub mod Steps
 pub mod Stack
-pub mod Gathered
+pub mod Members
 pub mod Cursors
 pub mod Memory
-pub mod Escapes
+pub mod Escape

@@ -1,9 +1,9 @@
 -- Values, their parts and their trees.
 pub mod WholeNumbers
-pub mod Comparing
+pub mod Comparison
 pub mod Equality
 pub mod Entries
-pub mod Copies
-pub mod Views
+pub mod Copy
+pub mod View
 pub mod Trees
 pub mod Index

@@ -34,26 +34,26 @@ abbrev mutual
   members_eq _ _ = false
 
 mutual
-  pub tree_eq_decides : (t u : Tree) → Decides (tree_eq t u) (t ≡ u)
-  tree_eq_decides null null = (λ h. refl, λ e. refl)
-  tree_eq_decides (boolean a) (boolean b) = Decides-like _ (λ e. ap boolean e) (λ e. cc) (booleans_Decides a b)
-  tree_eq_decides (number a) (number b) = Decides-like _ (λ e. ap number e) (λ e. cc) (decimal_eq_Decides a b)
-  tree_eq_decides (string a) (string b) = Decides-like _ (λ e. ap string e) (λ e. cc) (bytes_eq-Decides a b)
-  tree_eq_decides (array a) (array b) = Decides-like _ (λ e. ap array e) (λ e. cc) (items_eq_Decides a b)
-  tree_eq_decides (object a) (object b) = Decides-like _ (λ e. ap object e) (λ e. cc) (members_eq_Decides a b)
-  tree_eq_decides _ _ = (λ h. absurd (true≢false (sym h)), λ e. cc)
+  pub tree_eq_Decides : (t u : Tree) → Decides (tree_eq t u) (t ≡ u)
+  tree_eq_Decides null null = (λ h. refl, λ e. refl)
+  tree_eq_Decides (boolean a) (boolean b) = Decides-like _ (λ e. ap boolean e) (λ e. cc) (booleans_Decides a b)
+  tree_eq_Decides (number a) (number b) = Decides-like _ (λ e. ap number e) (λ e. cc) (decimal_eq_Decides a b)
+  tree_eq_Decides (string a) (string b) = Decides-like _ (λ e. ap string e) (λ e. cc) (bytes_eq-Decides a b)
+  tree_eq_Decides (array a) (array b) = Decides-like _ (λ e. ap array e) (λ e. cc) (items_eq_Decides a b)
+  tree_eq_Decides (object a) (object b) = Decides-like _ (λ e. ap object e) (λ e. cc) (members_eq_Decides a b)
+  tree_eq_Decides _ _ = (λ h. absurd (true≢false (sym h)), λ e. cc)
 
   pub items_eq_Decides : (ts us : Items) → Decides (items_eq ts us) (ts ≡ us)
   items_eq_Decides no_items no_items = (λ h. refl, λ e. refl)
   items_eq_Decides (item t ts) (item u us) = Decides-like _ (λ p. (λ i. item (p.0 i) (p.1 i))) (λ e. (cc, cc))
-      (Decides-and _ _ (tree_eq_decides t u) (items_eq_Decides ts us))
+      (Decides-and _ _ (tree_eq_Decides t u) (items_eq_Decides ts us))
   items_eq_Decides _ _ = (λ h. absurd (true≢false (sym h)), λ e. cc)
 
   pub members_eq_Decides : (ms ns : Members) → Decides (members_eq ms ns) (ms ≡ ns)
   members_eq_Decides no_members no_members = (λ h. refl, λ e. refl)
   members_eq_Decides (member k t ms) (member l u ns) =
       Decides-like _ (λ p. (λ i. member (p.0 i) (p.1.0 i) (p.1.1 i))) (λ e. (cc, (cc, cc)))
-      (Decides-and _ _ (bytes_eq-Decides k l) (Decides-and _ _ (tree_eq_decides t u) (members_eq_Decides ms ns)))
+      (Decides-and _ _ (bytes_eq-Decides k l) (Decides-and _ _ (tree_eq_Decides t u) (members_eq_Decides ms ns)))
   members_eq_Decides _ _ = (λ h. absurd (true≢false (sym h)), λ e. cc)
 
 -- what `==` of two values answers: whether their trees are equal
@@ -61,4 +61,4 @@ abbrev pub same_tree : JsonValue → JsonValue → Bool
 same_tree v w = tree_eq (view v) (view w)
 
 pub same_tree_equiv : IsEquivalence same_tree
-same_tree_equiv = on_equiv view (decided tree_eq tree_eq_decides)
+same_tree_equiv = on_equiv view (decided tree_eq tree_eq_Decides)

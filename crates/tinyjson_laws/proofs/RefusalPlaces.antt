@@ -12,12 +12,12 @@ use Rattle.tinyjson_grammar.specs.Machine.{Rules, strictly, Frame, in_array, at_
 use Rattle.tinyjson_grammar.specs.Refusal.{AwaitsValue, IsLiteral}
 use Rattle.tinyjson_grammar.specs.Syntax.{Syntax, text, tree_of}
 use Rattle.tinyjson_grammar.specs.Tree.{Tree, Members}
-use Rattle.tinyjson_number.specs.Numeral.{Numeral}
+use Rattle.tinyjson_number.specs.Numeral.{numeral, Numeral}
 use Rattle.tinyjson_grammar.specs.declared.kind.JsonKind.{JsonKind}
 use Rattle.tinyjson_grammar.specs.declared.error.JsonParseErrorKind.{JsonParseErrorKind}
 use Rattle.tinyjson_grammar.specs.declared.error.JsonParseErrorKind.TheVariants.{KeyNotString, TooDeep}
 use Rattle.tinyjson_grammar.proofs.Callers.{ranges}
-use Rattle.tinyjson_grammar.proofs.Callers.Laws.{cut_off_end, Path, outside, item_in, key_in, value_in, path_text, path_frames, IsPath, strict_key, Reached, reached_next, step_spells, spells_viable, start_spells, run_next, Read, at_first, at_awaited, in_word, in_digits, in_quoted, at_after, Part, part_minus, part_whole, part_point, part_fraction, part_letter, part_sign, part_exponent, part_stage, part_numeral, read_text, read_frames, read_phase, IsRead, IsFresh, IsWord, Spells, numeral, exponent_with, rules, text_accepted, loose_accepted, Follows, loosely, Begins, first_array, first_object, no_text}
+use Rattle.tinyjson_grammar.proofs.Callers.Laws.{cut_off_end, Path, outside, item_in, key_in, value_in, path_text, path_frames, IsPath, strict_key, Reached, reached_next, step_spells, spells_viable, start_spells, run_next, Read, at_first, at_awaited, in_word, in_digits, in_quoted, at_after, Part, part_minus, part_whole, part_point, part_fraction, part_letter, part_sign, part_exponent, part_stage, part_numeral, read_text, read_frames, read_phase, IsRead, IsFresh, IsWord, Spells, exponent_with, rules, text_accepted, loose_accepted, Follows, loosely, Begins, first_array, first_object, no_text}
 
 -- ---- with no limit the machine does the same, but where a container is one too many
 

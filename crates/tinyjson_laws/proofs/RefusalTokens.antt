@@ -9,10 +9,10 @@ use Rattle.tinyjson_grammar.specs.Machine
 use Rattle.tinyjson_grammar.specs.Machine.{Rules, strictly, Frame, awaited, word, digits, quoted, refused, step_escape, step_digits, go_on, step, run, end, with_exponent, with_sign, Stage}
 use Rattle.tinyjson_grammar.specs.Refusal.{IsLiteral, IsHex, AreUnits, EndsRun, BeginsEscape, BeginsWithNone}
 use Rattle.tinyjson_grammar.specs.Syntax.{Syntax, text, Piece, plain, escape, unit, IsPiece, ArePieces, pieces_text, piece_codes, unit_value}
-use Rattle.tinyjson_number.specs.Numeral.{Numeral, Exponent, IsNumeral, AreDigits, is_exponent_letter, is_sign, has_leading_zero, minus_text, fraction_text, spelling}
+use Rattle.tinyjson_number.specs.Numeral.{numeral, Numeral, Exponent, IsNumeral, AreDigits, is_exponent_letter, is_sign, has_leading_zero, minus_text, fraction_text, spelling}
 use Rattle.tinyjson_grammar.specs.declared.error.JsonParseErrorKind.TheVariants.{UnexpectedEof, InvalidUtf16, InvalidHexDigit, InvalidEscape, ControlCharacter, UnexpectedInLiteral, EmptyInteger, LeadingZero, EmptyFraction, EmptyExponent}
 use Rattle.tinyjson_grammar.proofs.Callers.{ranges}
-use Rattle.tinyjson_grammar.proofs.Callers.Laws.{run_whole, run_spelling, last_stage, stage_of, letter_no_digit, letter_no_point, sign_no_digit, Path, path_text, path_frames, IsPath, numeral, paired_cons, paired_append, scalar_no_surrogate, escape_no_surrogate, some_unwrap, plain_no_quote, plain_no_backslash, plain_no_control, faultless_point, faultless_letter}
+use Rattle.tinyjson_grammar.proofs.Callers.Laws.{run_whole, run_spelling, last_stage, stage_of, letter_no_digit, letter_no_point, sign_no_digit, Path, path_text, path_frames, IsPath, paired_cons, paired_append, scalar_no_surrogate, escape_no_surrogate, some_unwrap, plain_no_quote, plain_no_backslash, plain_no_control, faultless_point, faultless_letter}
 
 differs : (c n : ℕ) → (n ≡ c → ⊥) → (c == n) ≡ false
 differs c n h = ne_eqb c n (λ e. h (sym e))

@@ -10,7 +10,7 @@ use Rattle.std.proofs.lemmas.Bool.Decides.{nat_tests}
 use Rattle.std.proofs.lemmas.Int.{ints}
 use Rattle.std.proofs.lemmas.List.{get_or_append_left, length-replicate, take-append-drop, length-drop, length-take-le, get_or-take}
 use Rattle.tinyjson_number.specs.Decimal.{Decimal, strip_leading, strip_trailing, significant, trailing_zeros, decimal_of}
-use Rattle.tinyjson_number.specs.Numeral.{Numeral, Exponent, IsNumeral, IsExponent, AreDigits, minus_text, fraction_text, exponent_text, spelling, has_leading_zero, exponent_value, value, fits_in, power_fits}
+use Rattle.tinyjson_number.specs.Numeral.{numeral, Numeral, Exponent, IsNumeral, IsExponent, AreDigits, minus_text, fraction_text, exponent_text, spelling, has_leading_zero, exponent_value, value, fits_in, power_fits}
 use Rattle.tinyjson_number.specs.Text.{natural_text, integer_text, plain_text, scientific_text, is_far, magnitude_text, decimal_text}
 use Rattle.tinyjson_number.specs.Canonical.{IsDecimalAt, is_canonical_at}
 use Rattle.tinyjson_number.proofs.Strips.{strip_leading_none, strip_trailing_append_none, strip_trailing_append_some, strip_zeros, strip_trailing_none}
@@ -26,9 +26,6 @@ strip_leading_zeros (suc a) xs = strip_leading_zeros a xs
 pub decimal_of_some : (g : Bool) (ds : List ℕ) (p : ℤ) → 0 < length ds → decimal_of g ds p ≡ record { negative = g; digits = ds; power = p }
 decimal_of_some g [] p h = absurd (omega arith)
 decimal_of_some g (d ∷ ds) p h = refl
-
-abbrev numeral : Bool → List ℕ → List ℕ → Option Exponent → Numeral
-numeral g w f e = record { negative = g; whole = w; fraction = f; exponent = e }
 
 module _ (ds : List ℕ) (some : 0 < length ds) (first : get_or ds 0 0 ≢ 48) (last : get_or ds (length ds - 1) 0 ≢ 48) where
   kept : (b : ℕ) → strip_trailing (ds ++ replicate b 48) ≡ ds

@@ -21,6 +21,10 @@ pub record Numeral : Type 0 where
   pub fraction : List ℕ
   pub exponent : Option Exponent
 
+-- the numeral of these parts
+abbrev pub numeral : Bool → List ℕ → List ℕ → Option Exponent → Numeral
+numeral b ds f e = record { negative = b; whole = ds; fraction = f; exponent = e }
+
 abbrev pub sign_text : Option ℕ → List ℕ
 sign_text None = []
 sign_text (Some c) = c ∷ []

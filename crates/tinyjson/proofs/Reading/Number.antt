@@ -5,10 +5,10 @@ use Rattle.std.specs.List.{AllByRecursion}
 use Rattle.std.proofs.lemmas.Bool.{ne_eqb}
 use Rattle.std.proofs.lemmas.Bool.Decides.{nat_tests}
 use Rattle.tinyjson_number.specs.Decimal.{Decimal}
-use Rattle.tinyjson_number.specs.Numeral.{Numeral, AreDigits, has_leading_zero, is_exponent_letter, is_sign, value, in_range}
+use Rattle.tinyjson_number.specs.Numeral.{numeral, Numeral, AreDigits, has_leading_zero, is_exponent_letter, is_sign, value, in_range}
 use Rattle.tinyjson_source.specs.Source.{Sight, Still, Stops, Takes, TakesRun}
 use Rattle.tinyjson_grammar.specs.Machine.{strictly, step, end, then_step, end_plain, Frame, in_array, at_key, at_value, Next, next, stop, awaited, digits, minus, whole, point, fraction, letter, sign, exponent, complete}
-use Rattle.tinyjson.specs.private.NumberSteps.{BeginsNumber, numeral, Gathered, Accepted, Declined, Accepts, Digits}
+use Rattle.tinyjson.specs.private.NumberSteps.{BeginsNumber, Gathered, Accepted, Declined, Accepts, Digits}
 use Rattle.tinyjson.specs.private.Steps.{onward, ending, IsNext, IsTaken, Comes, Ends, Leads, Refuses}
 use Rattle.tinyjson_grammar.specs.Tree.{number}
 use Rattle.tinyjson_grammar.specs.declared.error.JsonParseErrorKind.{JsonParseErrorKind}

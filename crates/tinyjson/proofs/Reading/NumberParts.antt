@@ -3,14 +3,14 @@ use Rattle.std.proofs.Common.{◌≡◌, ◌==◌, ℕ, ◌+◌, ◌-◌, ◌≤
 use Rattle.std.specs.Prelude.{if◌then◌else◌, option_map}
 use Rattle.std.specs.Char.{is_ascii_digit}
 use Rattle.std.proofs.lemmas.List.{take_at, drop_at, take_all, length-drop}
-use Rattle.tinyjson_number.specs.Numeral.{Numeral, Exponent, value, in_range, has_leading_zero, is_exponent_letter, is_sign, sign_text}
+use Rattle.tinyjson_number.specs.Numeral.{numeral, Numeral, Exponent, value, in_range, has_leading_zero, is_exponent_letter, is_sign, sign_text}
 use Rattle.tinyjson_number.specs.Number.{Canonical}
 use Rattle.tinyjson_number.specs.Reading.{exponent_of, numeral_of, plain, plain_sign, plain_exponent}
 use Rattle.tinyjson_number.specs.declared.parse.ExponentParts.{ExponentParts}
 use Rattle.tinyjson_number.specs.declared.parse.NumberParts.{NumberParts}
 use Rattle.tinyjson_source.specs.Source.{Sight, Still, Takes}
 use Rattle.tinyjson_grammar.specs.Machine.{Frame, next, stop, awaited, digits, whole, fraction, exponent, complete}
-use Rattle.tinyjson.specs.private.NumberSteps.{BeginsNumber, numeral, is_minus, is_below_zero, exponent_digits, all_digits, marks_of, Gathered, Accepted, Declined, Accepts, Signs, Digits, Part, ReadsPart}
+use Rattle.tinyjson.specs.private.NumberSteps.{BeginsNumber, is_minus, is_below_zero, exponent_digits, all_digits, marks_of, Gathered, Accepted, Declined, Accepts, Signs, Digits, Part, ReadsPart}
 use Rattle.tinyjson.specs.private.Steps.{Ends, Leads, Refuses}
 use Rattle.tinyjson_grammar.specs.declared.error.JsonParseErrorKind.{JsonParseErrorKind}
 use Rattle.tinyjson.specs.declared.parser.number.Marks.{Marks}

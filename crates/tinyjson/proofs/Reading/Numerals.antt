@@ -10,12 +10,12 @@ use Rattle.std.proofs.lemmas.List.{take-append-drop, drop-drop, take_at, length-
 use Rattle.std.proofs.lemmas.Option.{slice_get-get_or, slice_get_past}
 use Rattle.std.proofs.lemmas.Str.{IsUtf8-had, byte_from_char, chars-IsAscii, IsAscii-append, IsCharBoundary-after_ascii, length-encode, len_utf8_bounds}
 use Rattle.tinyjson_number.specs.Number.{Canonical}
-use Rattle.tinyjson_number.specs.Numeral.{Numeral, Exponent, AreDigits, IsNumeral, IsExponent, value, in_range, has_leading_zero, is_exponent_letter, is_sign, minus_text, sign_text, fraction_text, exponent_text, spelling}
+use Rattle.tinyjson_number.specs.Numeral.{numeral, Numeral, Exponent, AreDigits, IsNumeral, IsExponent, value, in_range, has_leading_zero, is_exponent_letter, is_sign, minus_text, sign_text, fraction_text, exponent_text, spelling}
 use Rattle.tinyjson_number.specs.declared.parse.ExponentParts.{ExponentParts}
 use Rattle.tinyjson_number.specs.declared.parse.NumberParts.{NumberParts}
 use Rattle.tinyjson_grammar.specs.Position.{advance, origin}
 use Rattle.tinyjson_grammar.specs.Machine.{Frame, Next, next, stop, awaited, digits, whole, fraction, exponent, complete}
-use Rattle.tinyjson.specs.private.NumberSteps.{numeral, all_digits, Part}
+use Rattle.tinyjson.specs.private.NumberSteps.{all_digits, Part}
 use Rattle.tinyjson.specs.private.Numerals.{ShowsAt, EndsAt, EndsNumber, FractionAt, SignAt, ExponentAt, MantissaAt, IsGrammatical, NumeralAt, PartsAt, TakesNumeral}
 use Rattle.tinyjson.specs.declared.parser.number.Mantissa.{Mantissa}
 use Rattle.tinyjson_source.specs.Slice.{before, behind, run_end, NextChar}

@@ -41,10 +41,8 @@ pub(super) fn escape_at(bytes: &[u8], at: usize) -> Option<(char, usize)>
     if letter == b'u' {
         return units_at(bytes, at);
     }
-    match short_escape(letter as char) {
-        Some(c) => Some((c, at + 2)),
-        None => None,
-    }
+    let c = short_escape(letter as char)?;
+    Some((c, at + 2))
 }
 
 /// The same for a unit or two that spell a character, and no unit behind them.
@@ -52,15 +50,11 @@ fn units_at(bytes: &[u8], at: usize) -> Option<(char, usize)>
     requires { at ≤ length bytes.now }
     ensures { IfSome result (λ r. EscapeAt bytes.now at r.0 r.1) }
 {
-    let Some(unit) = unit_at(bytes, at) else {
-        return None;
-    };
+    let unit = unit_at(bytes, at)?;
     if is_high(unit) {
         return pair_at(bytes, at, unit);
     }
-    let Some(c) = char::from_u32(unit as u32) else {
-        return None;
-    };
+    let c = char::from_u32(unit as u32)?;
     if is_backslash(bytes, at + 6) {
         return None;
     }
@@ -73,9 +67,7 @@ fn pair_at(bytes: &[u8], at: usize, high: u16) -> Option<(char, usize)>
     requires unit { UnitAt bytes.now at high }
     ensures { IfSome result (λ r. EscapeAt bytes.now at r.0 r.1) }
 {
-    let Some(low) = unit_at(bytes, at + 6) else {
-        return None;
-    };
+    let low = unit_at(bytes, at + 6)?;
     if !is_low(low) {
         return None;
     }
@@ -102,18 +94,10 @@ fn unit_at(bytes: &[u8], at: usize) -> Option<u16>
     if bytes.len() - at < 6 || bytes[at] != b'\\' || bytes[at + 1] != b'u' {
         return None;
     }
-    let Some(first) = hex_value(bytes[at + 2]) else {
-        return None;
-    };
-    let Some(second) = hex_value(bytes[at + 3]) else {
-        return None;
-    };
-    let Some(third) = hex_value(bytes[at + 4]) else {
-        return None;
-    };
-    let Some(fourth) = hex_value(bytes[at + 5]) else {
-        return None;
-    };
+    let first = hex_value(bytes[at + 2])?;
+    let second = hex_value(bytes[at + 3])?;
+    let third = hex_value(bytes[at + 4])?;
+    let fourth = hex_value(bytes[at + 5])?;
     Some((((first * 16 + second) * 16 + third) * 16 + fourth) as u16)
 }
 

@@ -7,13 +7,13 @@ ghost use Rattle.tinyjson_grammar.specs.Machine.{Frame, awaited, complete, digit
 ghost use Rattle.tinyjson_grammar.specs.Machine.{exponent, next};
 ghost use Rattle.tinyjson.specs.private.NumberSteps.{Digits, BeginsNumber, Accepts, Gathered};
 ghost use Rattle.tinyjson.specs.private.NumberSteps.{ReadsPart, Signs};
-ghost use Rattle.tinyjson.specs.private.NumberSteps.{is_below_zero, marks_of, numeral};
+ghost use Rattle.tinyjson.specs.private.NumberSteps.{is_below_zero, marks_of};
 ghost use Rattle.tinyjson.specs.private.Numerals.{ExponentAt, FractionAt, MantissaAt, PartsAt};
 ghost use Rattle.tinyjson.specs.private.Numerals.{ShowsAt, SignAt};
 ghost use Rattle.tinyjson.specs.private.Stack.{at, frames, IsSound};
 ghost use Rattle.tinyjson.specs.private.Steps.{Ends, Reads};
 ghost use Rattle.tinyjson_grammar.specs.Tree.{number};
-ghost use Rattle.tinyjson_number.specs.Numeral.{AreDigits, Numeral, has_leading_zero};
+ghost use Rattle.tinyjson_number.specs.Numeral.{numeral, AreDigits, Numeral, has_leading_zero};
 ghost use Rattle.tinyjson_number.specs.Numeral.{is_exponent_letter, is_sign, minus_text};
 ghost use Rattle.tinyjson_number.specs.Reading.{ReadsNumeral, exponent_of};
 

@@ -119,9 +119,7 @@ impl Stack {
         ensures sound { OnOk result (IsSound self.new false) }
     {
         let values = self.values.len();
-        if self.containers.push(Frame::Array { values }).is_err() {
-            return Err(AllocError);
-        }
+        self.containers.push(Frame::Array { values })?;
         Ok(())
     }
 
@@ -134,13 +132,7 @@ impl Stack {
     {
         let (values, keys) = (self.values.len(), self.keys.len());
         self.open_map()?;
-        if self
-            .containers
-            .push(Frame::Object { values, keys })
-            .is_err()
-        {
-            return Err(AllocError);
-        }
+        self.containers.push(Frame::Object { values, keys })?;
         Ok(())
     }
 
@@ -155,9 +147,7 @@ impl Stack {
         if self.maps.is_empty() {
             return Ok(());
         }
-        if self.maps.push(HashMap::new(self.alloc)).is_err() {
-            return Err(AllocError);
-        }
+        self.maps.push(HashMap::new(self.alloc))?;
         Ok(())
     }
 
@@ -172,16 +162,8 @@ impl Stack {
         let Some(Frame::Object { values, keys }) = self.containers.pop() else {
             unreachable!()
         };
-        if self.keys.push(key).is_err() {
-            return Err(AllocError);
-        }
-        if self
-            .containers
-            .push(Frame::Member { values, keys })
-            .is_err()
-        {
-            return Err(AllocError);
-        }
+        self.keys.push(key)?;
+        self.containers.push(Frame::Member { values, keys })?;
         Ok(())
     }
 
@@ -195,13 +177,7 @@ impl Stack {
     {
         self.containers.pop();
         self.settle(values, keys)?;
-        if self
-            .containers
-            .push(Frame::Object { values, keys })
-            .is_err()
-        {
-            return Err(AllocError);
-        }
+        self.containers.push(Frame::Object { values, keys })?;
         Ok(())
     }
 

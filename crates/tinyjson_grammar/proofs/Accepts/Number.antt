@@ -3,13 +3,10 @@ use Rattle.std.proofs.Common.{◌≡◌, ℕ, ◌<◌, Bool, true, false, List, 
 use Rattle.std.specs.Prelude.{IsTrue, IfSome}
 use Rattle.std.specs.Char.{is_ascii_digit}
 use Rattle.tinyjson_grammar.specs.Tree.{Tree}
-use Rattle.tinyjson_number.specs.Numeral.{Numeral, Exponent, IsNumeral, IsExponent, AreDigits, sign_text, minus_text, fraction_text, exponent_text, spelling, has_leading_zero, value, in_range}
+use Rattle.tinyjson_number.specs.Numeral.{numeral, Numeral, Exponent, IsNumeral, IsExponent, AreDigits, sign_text, minus_text, fraction_text, exponent_text, spelling, has_leading_zero, value, in_range}
 use Rattle.tinyjson_grammar.specs.Machine.{Rules, Frame, awaited, complete, step, run, end, end_plain, end_digits, step_digits, finish, digits, Stage, whole, fraction, letter, exponent}
 use Rattle.tinyjson_number.specs.Numeral.{is_exponent_letter}
 use Rattle.tinyjson_grammar.proofs.Accepts.Runs.{settle, ends_complete, end_complete, continues, Delimited, continues_digit, continues_point, continues_letter, digit_is_not, digit_not_white, and_false}
-
-abbrev numeral : Bool → List ℕ → List ℕ → Option Exponent → Numeral
-numeral g w f e = record { negative = g; whole = w; fraction = f; exponent = e }
 
 abbrev power : ℕ → Option ℕ → List ℕ → Option Exponent
 power l s ds = Some (record { letter = l; sign = s; digits = ds })

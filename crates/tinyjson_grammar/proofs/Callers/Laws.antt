@@ -15,4 +15,4 @@ pub use Rattle.tinyjson_grammar.proofs.Step.Value.{no_text}
 pub use Rattle.tinyjson_grammar.proofs.Texts.TreeTrip.{IsWhiteIndent}
 pub use Rattle.tinyjson_grammar.proofs.Texts.WrittenTexts.{written_text, from_text}
 pub use Rattle.tinyjson_grammar.proofs.Trace.Paths.{Path, outside, item_in, key_in, value_in, path_text, level, IsPath, within_le, closes, closing, path_frames}
-pub use Rattle.tinyjson_grammar.proofs.Trace.State.{loosely_from, Read, at_first, at_awaited, in_word, in_digits, in_quoted, at_after, Part, part_stage, part_numeral, read_frames, read_phase, IsRead, IsFresh, values, part_minus, part_whole, part_point, part_fraction, part_letter, part_sign, part_exponent, read_text, IsWord, Spells, numeral, exponent_with}
+pub use Rattle.tinyjson_grammar.proofs.Trace.State.{loosely_from, Read, at_first, at_awaited, in_word, in_digits, in_quoted, at_after, Part, part_stage, part_numeral, read_frames, read_phase, IsRead, IsFresh, values, part_minus, part_whole, part_point, part_fraction, part_letter, part_sign, part_exponent, read_text, IsWord, Spells, exponent_with}

@@ -4,10 +4,10 @@ use Rattle.std.specs.Str.Parse.{digits_value}
 use Rattle.std.proofs.lemmas.Bool.{cases_lt}
 use Rattle.std.proofs.lemmas.Int.{ints}
 use Rattle.tinyjson_number.specs.Decimal.{decimal_of, significant, trailing_zeros}
-use Rattle.tinyjson_number.specs.Numeral.{Exponent, IsExponent, value, in_range, power_fits}
+use Rattle.tinyjson_number.specs.Numeral.{numeral, Exponent, IsExponent, value, in_range, power_fits}
 use Rattle.tinyjson_number.specs.Text.{natural_text}
 use Rattle.tinyjson_number.proofs.Callers.{natural}
-use Rattle.tinyjson_grammar.proofs.Trace.State.{Ranges, numeral, exponent_with}
+use Rattle.tinyjson_grammar.proofs.Trace.State.{Ranges, exponent_with}
 
 power_range : (b : Bool) (ds : List ℕ) (z : ℤ) → z ≡ pos 0 → IsTrue (in_range (decimal_of b ds z))
 unfolding power_fits

@@ -4,7 +4,7 @@ use Rattle.std.specs.Prelude.{IfSome}
 use Rattle.std.specs.Char.{is_ascii_digit}
 use Rattle.std.proofs.lemmas.Bool.{eqb-true, le-ltb, lt-ltb, leb-true, and_parts, or_left, or_right, or_cases}
 use Rattle.tinyjson_grammar.specs.Characters.{is_hex, paired}
-use Rattle.tinyjson_number.specs.Numeral.{Exponent, IsNumeral, AreDigits, minus_text, fraction_text, sign_text, exponent_text, value}
+use Rattle.tinyjson_number.specs.Numeral.{numeral, Exponent, IsNumeral, AreDigits, minus_text, fraction_text, sign_text, exponent_text, value}
 use Rattle.tinyjson_grammar.specs.Syntax.{Syntax, null, text, depth, Piece, unit, ArePieces, piece_codes, pieces_text}
 use Rattle.tinyjson_grammar.specs.Prefix.{IsFaultless, IsValue}
 use Rattle.tinyjson_grammar.specs.Machine.{Within}
@@ -15,7 +15,7 @@ use Rattle.tinyjson_number.specs.Numeral.{is_sign}
 use Rattle.tinyjson_number.specs.Numeral.{is_exponent_letter}
 use Rattle.tinyjson_grammar.proofs.Trace.Paths.{Path, outside, item_in, key_in, value_in, path_text, IsPath}
 use Rattle.tinyjson_grammar.proofs.Prefix.Faultless.{faultless, faultless_from, placed, IsPlaced}
-use Rattle.tinyjson_grammar.proofs.Trace.State.{Part, part_minus, part_whole, part_point, part_fraction, part_letter, part_sign, part_exponent, numeral, exponent_with, part_text, IsPart, IsWholePart, Ranges, Quad, quads, IsSettled, within_text, IsPartWithin, Read, at_first, at_awaited, in_word, in_digits, in_quoted, at_after, read_text, IsRead, IsKeyed, flat_within, Ending, ends_loosely, white_loosely, are_pieces_append, pieces_append}
+use Rattle.tinyjson_grammar.proofs.Trace.State.{Part, part_minus, part_whole, part_point, part_fraction, part_letter, part_sign, part_exponent, exponent_with, part_text, IsPart, IsWholePart, Ranges, Quad, quads, IsSettled, within_text, IsPartWithin, Read, at_first, at_awaited, in_word, in_digits, in_quoted, at_after, read_text, IsRead, IsKeyed, flat_within, Ending, ends_loosely, white_loosely, are_pieces_append, pieces_append}
 
 pub part_ending : (n : Part) → IsPart n → Ending (part_text n)
 part_ending part_minus h =

@@ -6,7 +6,7 @@ use Rattle.tinyjson_grammar.specs.Machine.{strictly}
 use Rattle.tinyjson_grammar.specs.Tree.{Tree, no_members}
 use Rattle.tinyjson_grammar.specs.Tree as tree
 use Rattle.tinyjson_grammar.specs.Syntax.{Syntax, text}
-use Rattle.tinyjson_number.specs.Numeral.{Numeral, IsNumeral, AreDigits, has_leading_zero, minus_text, spelling, value, in_range}
+use Rattle.tinyjson_number.specs.Numeral.{numeral, Numeral, IsNumeral, AreDigits, has_leading_zero, minus_text, spelling, value, in_range}
 use Rattle.tinyjson_grammar.specs.Prefix.{IsValue}
 use Rattle.tinyjson_grammar.specs.declared.error.JsonParseErrorKind.TheVariants.{EmptyInteger, LeadingZero, EmptyFraction, EmptyExponent, NumberOutOfRange}
 use Rattle.tinyjson_grammar.specs.Machine.{Frame, digits, Next, complete, step_digits, finish, then_step, unless_ended}
@@ -21,7 +21,7 @@ use Rattle.tinyjson_grammar.proofs.Step.Awaits.{begins_at}
 use Rattle.tinyjson_grammar.proofs.Prefix.Unviable.{key_unviable, zero_unviable}
 use Rattle.tinyjson_grammar.proofs.Step.Statement.{loosely, NoQuoteFrom, Denies}
 use Rattle.tinyjson_grammar.specs.Machine.{run, step, go_on, accepted, Phase}
-use Rattle.tinyjson_grammar.proofs.Trace.State.{numeral, exponent_with}
+use Rattle.tinyjson_grammar.proofs.Trace.State.{exponent_with}
 use Rattle.tinyjson_grammar.proofs.Trace.Paths.{members_from}
 use Rattle.tinyjson_grammar.specs.Tree.{Tree, no_members}
 use Rattle.tinyjson_grammar.proofs.Step.Value.{no_text, after_follows}

@@ -3,7 +3,7 @@ use Rattle.std.proofs.Common.{◌≡◌, ℕ, ◌+◌, ◌<◌, ◌≤◌, Bool,
 use Rattle.std.specs.Prelude.{⊤, IfSome}
 use Rattle.tinyjson_grammar.specs.Tree.{key_of}
 use Rattle.tinyjson_grammar.specs.Characters.{unit_of, decode, paired}
-use Rattle.tinyjson_number.specs.Numeral.{Numeral, Exponent, IsExponent, AreDigits, has_leading_zero, minus_text, fraction_text, sign_text, value, in_range}
+use Rattle.tinyjson_number.specs.Numeral.{numeral, Numeral, Exponent, IsExponent, AreDigits, has_leading_zero, minus_text, fraction_text, sign_text, value, in_range}
 use Rattle.tinyjson_grammar.specs.Syntax.{Syntax, text, AreWhite, IsSpelled, depth, IsWithin, tree_of, Piece, unit, ArePieces, piece_codes, pieces_text}
 use Rattle.tinyjson_grammar.specs.Grammar.{IsLoose}
 use Rattle.tinyjson_grammar.specs.Prefix.{IsValue}
@@ -26,9 +26,6 @@ pub data Part : Type 0 where
   part_letter : Bool → ℕ → List ℕ → List ℕ → ℕ → Part
   part_sign : Bool → ℕ → List ℕ → List ℕ → ℕ → ℕ → Part
   part_exponent : Bool → ℕ → List ℕ → List ℕ → ℕ → Option ℕ → ℕ → List ℕ → Part
-
-abbrev pub numeral : Bool → List ℕ → List ℕ → Option Exponent → Numeral
-numeral b w f e = record { negative = b; whole = w; fraction = f; exponent = e }
 
 abbrev pub exponent_with : ℕ → Option ℕ → List ℕ → Exponent
 exponent_with l s ds = record { letter = l; sign = s; digits = ds }

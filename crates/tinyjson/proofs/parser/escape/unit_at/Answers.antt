@@ -1,16 +1,16 @@
 use Rattle.std.proofs.Common.{rules, arith, ◌≡◌, ◌+◌, ◌<◌, ◌≤◌, get_or, length, refl}
 use Rattle.std.specs.Char.{digit_value}
-use Rattle.tinyjson.proofs.Reading.Escapes.{six_bytes, four_digits}
+use Rattle.tinyjson.proofs.Reading.Escape.{six_bytes, four_digits}
 use Rattle.tinyjson.proofs.parser.escape.unit_at.Goals as goal
 
 pub returns : goal.returns
 returns c =
     let bytes = c.args.bytes.now in
     let at = c.args.at in
-    let e1 : c.in-Some.first ≡ digit_value (get_or bytes (at + 2) 0) = search rules in
-    let e2 : c.in-Some-hex_value.second ≡ digit_value (get_or bytes (at + 3) 0) = search rules in
-    let e3 : c.in-Some-hex_value-2.third ≡ digit_value (get_or bytes (at + 4) 0) = search rules in
-    let e4 : c.in-Some-hex_value-3.fourth ≡ digit_value (get_or bytes (at + 5) 0) = search rules in
+    let e1 : c.in_ok-first.first ≡ digit_value (get_or bytes (at + 2) 0) = search rules in
+    let e2 : c.in_ok-second.second ≡ digit_value (get_or bytes (at + 3) 0) = search rules in
+    let e3 : c.in_ok-third.third ≡ digit_value (get_or bytes (at + 4) 0) = search rules in
+    let e4 : c.in_ok-fourth.fourth ≡ digit_value (get_or bytes (at + 5) 0) = search rules in
     let a1 : digit_value (get_or bytes (at + 2) 0) < 16 = search rules in
     let a2 : digit_value (get_or bytes (at + 3) 0) < 16 = search rules in
     let a3 : digit_value (get_or bytes (at + 4) 0) < 16 = search rules in

@@ -1,4 +1,4 @@
-use Rattle.tinyjson.proofs.Values.Views.{members_view_same}
+use Rattle.tinyjson.proofs.Values.View.{members_view_same}
 use Rattle.tinyjson.proofs.parser.stack.make_room.Goals as goal
 
 pub returns-else-is_empty : goal.returns-else-is_empty

@@ -1,4 +1,4 @@
-use Rattle.tinyjson.proofs.Values.Views.{members_view_same}
+use Rattle.tinyjson.proofs.Values.View.{members_view_same}
 use Rattle.tinyjson.proofs.parser.stack.trim.Goals as goal
 
 pub returns-then-capacity-len : goal.returns-then-capacity-len

@@ -1,5 +1,5 @@
 use Rattle.std.proofs.Common.{◌∙◌, sym, ap, arith}
-use Rattle.tinyjson.proofs.Values.Copies.{weight_Object}
+use Rattle.tinyjson.proofs.Values.Copy.{weight_Object}
 use Rattle.tinyjson.proofs.value.copy.begin.Goals as goal
 use Rattle.tinyjson.specs.private.Copy.{weight}
 use Rattle.tinyjson.specs.View.{view}

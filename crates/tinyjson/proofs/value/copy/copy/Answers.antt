@@ -1,5 +1,5 @@
 use Rattle.std.proofs.Common.{◌≡◌, ◌++◌, map, ◌∙◌, sym, ap, ap₂, arith}
-use Rattle.tinyjson.proofs.Values.Copies.{filled_all_last, put_all_none, stack_weight_last}
+use Rattle.tinyjson.proofs.Values.Copy.{filled_all_last, put_all_none, stack_weight_last}
 use Rattle.tinyjson.proofs.value.copy.copy.Goals as goal
 use Rattle.tinyjson.specs.private.Copy.{put_all, filled_all, step_view, stack_weight, step_weight, items_weight, entries_weight}
 use Rattle.tinyjson_grammar.specs.Tree.{array, object, items_of}

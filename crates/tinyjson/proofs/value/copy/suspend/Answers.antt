@@ -1,5 +1,5 @@
 use Rattle.std.proofs.Common.{◌∙◌, ◌+◌, ap}
-use Rattle.tinyjson.proofs.Values.Copies.{filled_all_last, stack_weight_last}
+use Rattle.tinyjson.proofs.Values.Copy.{filled_all_last, stack_weight_last}
 use Rattle.tinyjson.proofs.value.copy.suspend.Goals as goal
 use Rattle.tinyjson.specs.private.Copy.{filled_all, stack_weight, step_view, step_weight}
 

@@ -1,5 +1,5 @@
 use Rattle.std.proofs.Common.{◌&&◌, ◌∙◌, ap, arith}
-use Rattle.tinyjson.proofs.Values.Comparing.{rests_eq_last, rests_weight_last, turn_deferred}
+use Rattle.tinyjson.proofs.Values.Comparison.{rests_eq_last, rests_weight_last, turn_deferred}
 use Rattle.tinyjson.specs.private.Comparison.{rest_eq, rests_eq, rests_weight}
 use Rattle.tinyjson.proofs.value.equality.compare_all.Goals as goal
 

@@ -1,4 +1,4 @@
-use Rattle.tinyjson.proofs.Values.Comparing.{apart_items}
+use Rattle.tinyjson.proofs.Values.Comparison.{apart_items}
 use Rattle.std.proofs.Common.{rules}
 use Rattle.tinyjson.proofs.value.equality.compare_arrays.Goals as goal
 

@@ -1,5 +1,5 @@
 use Rattle.std.proofs.Common.{◌∙◌, ap, rules}
-use Rattle.tinyjson.proofs.Values.Comparing.{same_entries, apart_entries}
+use Rattle.tinyjson.proofs.Values.Comparison.{same_entries, apart_entries}
 use Rattle.tinyjson.specs.private.Comparison.{has_entries}
 use Rattle.tinyjson.specs.View.{members_view}
 use Rattle.tinyjson.proofs.value.equality.compare_objects.Goals as goal

@@ -1,5 +1,5 @@
 use Rattle.std.proofs.Common.{◌≡◌, ◌∷◌, ◌&&◌, ◌∙◌, ap, rules, arith, false, true, None, Some}
-use Rattle.tinyjson.proofs.Values.Comparing.{entry_turn, turn_same, turn_differs}
+use Rattle.tinyjson.proofs.Values.Comparison.{entry_turn, turn_same, turn_differs}
 use Rattle.tinyjson.specs.private.Comparison.{has_entries}
 use Rattle.tinyjson.specs.private.Copy.{entries_weight}
 use Rattle.tinyjson.specs.Equality.{same_tree}

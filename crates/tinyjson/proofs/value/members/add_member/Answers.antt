@@ -3,7 +3,7 @@ use Rattle.std.specs.Map.{lookup}
 use Rattle.std.specs.String.{string_eq}
 use Rattle.tinyjson.specs.View.{view, text, members_view}
 use Rattle.tinyjson.specs.private.Members.{add}
-use Rattle.tinyjson.proofs.Values.Views.{members_view_added, members_view_kept}
+use Rattle.tinyjson.proofs.Values.View.{members_view_added, members_view_kept}
 use Rattle.tinyjson.proofs.value.members.add_member.Goals as goal
 
 pub returns-in-Ok-Vacant : goal.returns-in-Ok-Vacant

@@ -1,4 +1,4 @@
-use Rattle.tinyjson.proofs.Values.Views.{members_view_updates}
+use Rattle.tinyjson.proofs.Values.View.{members_view_updates}
 use Rattle.tinyjson.proofs.value.members.insert_member.Goals as goal
 
 pub returns-in-Ok-None-clause-ok : goal.returns-in-Ok-None-clause-ok

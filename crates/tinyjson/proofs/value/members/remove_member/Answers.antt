@@ -1,5 +1,5 @@
 use Rattle.std.proofs.Common.{sym, ap, ◌∙◌, option_map}
-use Rattle.tinyjson.proofs.Values.Views.{find_members_view, members_view_removes}
+use Rattle.tinyjson.proofs.Values.View.{find_members_view, members_view_removes}
 use Rattle.tinyjson.specs.View.{view}
 use Rattle.tinyjson.proofs.value.members.remove_member.Goals as goal
 

@@ -1,7 +1,7 @@
 use Rattle.std.proofs.Common.{None, string_bytes, sym, subst, ◌∙◌}
 use Rattle.std.proofs.lemmas.Result.{err_from_is_err_and}
-use Rattle.tinyjson_number.specs.Numeral.{is_exponent_letter}
-use Rattle.tinyjson.specs.private.NumberSteps.{numeral, Gathered}
+use Rattle.tinyjson_number.specs.Numeral.{numeral, is_exponent_letter}
+use Rattle.tinyjson.specs.private.NumberSteps.{Gathered}
 use Rattle.tinyjson.proofs.Reading.Number.{was_accepted, was_declined}
 use Rattle.tinyjson.proofs.Reading.NumberParts.{Part_no_exponent, Part_exponent, Refuses_exponent}
 use Rattle.tinyjson.proofs.parser.reader.Reader.exponent.Goals as goal

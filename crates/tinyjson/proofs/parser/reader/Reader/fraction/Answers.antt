@@ -1,5 +1,6 @@
 use Rattle.std.proofs.Common.{◌==◌, [], None, string_bytes, sym, subst}
-use Rattle.tinyjson.specs.private.NumberSteps.{numeral, Gathered}
+use Rattle.tinyjson_number.specs.Numeral.{numeral}
+use Rattle.tinyjson.specs.private.NumberSteps.{Gathered}
 use Rattle.tinyjson.proofs.Reading.Number.{was_accepted, was_declined}
 use Rattle.tinyjson.proofs.Reading.NumberParts.{Part_no_fraction, Reads_fraction}
 use Rattle.tinyjson.proofs.parser.reader.Reader.fraction.Goals as goal

@@ -5,7 +5,7 @@ use Rattle.tinyjson_grammar.specs.Tree.{no_members}
 use Rattle.tinyjson.specs.View.{view, text}
 use Rattle.tinyjson.specs.private.Members.{add}
 use Rattle.tinyjson.specs.private.Stack.{gather}
-use Rattle.tinyjson.proofs.Reading.Gathered.{gather_add, taken_front, taken_back}
+use Rattle.tinyjson.proofs.Reading.Members.{gather_add, taken_front, taken_back}
 use Rattle.tinyjson.proofs.parser.stack.Stack.fill_empty.Goals as goal
 
 pub loop-self-init : goal.loop-self-init

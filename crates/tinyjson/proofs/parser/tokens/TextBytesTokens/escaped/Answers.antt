@@ -2,7 +2,7 @@ use Rattle.std.proofs.Common.{rules, arith, [], refl, ap, is_err}
 use Rattle.std.proofs.lemmas.Result.{err_from_is_err_and}
 use Rattle.std.proofs.lemmas.Str.{IsUtf8-had}
 use Rattle.tinyjson.specs.private.Escape.{EscapeAt}
-use Rattle.tinyjson.proofs.Reading.Escapes.{escape_boundary, escape_added, escape_halts}
+use Rattle.tinyjson.proofs.Reading.Escape.{escape_boundary, escape_added, escape_halts}
 use Rattle.tinyjson_source.proofs.Callers.{text_sight}
 use Rattle.tinyjson.proofs.Reading.Steps.{Halts_here}
 use Rattle.tinyjson.proofs.Reading.String.{plain_added, plain_halts}

@@ -4,7 +4,7 @@ use Rattle.std.proofs.lemmas.List.{append-nil}
 use Rattle.std.specs.List.{IsDistinct}
 use Rattle.std.specs.Map.{keys_of}
 use Rattle.std.specs.String.{string_eq}
-use Rattle.tinyjson.proofs.Values.Views.{Entry, members_view_last}
+use Rattle.tinyjson.proofs.Values.View.{Entry, members_view_last}
 use Rattle.tinyjson.specs.Access.{JsonMap}
 use Rattle.tinyjson.specs.private.Copy.{put_all, filled, filled_all, weight, entries_weight, partial_weight, stack_weight}
 use Rattle.tinyjson_grammar.specs.Tree.{Tree, no_members}

@@ -11,9 +11,9 @@ use Rattle.std.specs.Ordering.{match_ordering}
 use Rattle.std.specs.String.{string_eq, string_eq_equiv}
 use Rattle.tinyjson.proofs.Values.Entries.{find_members_of, members_of_sorted}
 use Rattle.tinyjson_grammar.proofs.Callers.{find_below, find_put, flip, found_first, key_same, members_from_find, same_key, some_none, sorted_put}
-use Rattle.tinyjson.proofs.Values.Views.{Entry, view_lookup}
+use Rattle.tinyjson.proofs.Values.View.{Entry, view_lookup}
 use Rattle.tinyjson.specs.private.Comparison.{has_entry, has_entries, rest_eq, rests_eq, rest_weight, rests_weight}
-use Rattle.tinyjson.specs.Equality.{tree_eq, tree_eq_decides, items_eq, members_eq, members_eq_Decides}
+use Rattle.tinyjson.specs.Equality.{tree_eq, tree_eq_Decides, items_eq, members_eq, members_eq_Decides}
 use Rattle.tinyjson_grammar.specs.Soundness.{IsBelow, IsSorted}
 use Rattle.tinyjson_grammar.specs.Tree.{Tree, Members, no_members, member, key_cmp, put, find}
 use Rattle.tinyjson.specs.View.{text, view, seen_entries, items_view, members_view}
@@ -137,10 +137,10 @@ count_entries (e ∷ es) h = omega (arith, count_put_new (text e.0) (view e.1) (
 
 has_found : (t : Tree) (o : Option Tree) → option_eq tree_eq (Some t) o ≡ true → o ≡ Some t
 has_found t None h = absurd (true≢false (sym h))
-has_found t (Some u) h = ap (λ (x : Tree). Some x) (sym ((tree_eq_decides t u).0 h))
+has_found t (Some u) h = ap (λ (x : Tree). Some x) (sym ((tree_eq_Decides t u).0 h))
 
 found_has : (t : Tree) (o : Option Tree) → o ≡ Some t → option_eq tree_eq (Some t) o ≡ true
-found_has t o e = ap (option_eq tree_eq (Some t)) e ∙ (tree_eq_decides t t).1 refl
+found_has t o e = ap (option_eq tree_eq (Some t)) e ∙ (tree_eq_Decides t t).1 refl
 
 Within_entries : (es : List Entry) (ns : Members) → has_entries ns es ≡ true → Within (members_view es) ns
 Within_entries [] ns h q t g = absurd (some_none t (sym g))
