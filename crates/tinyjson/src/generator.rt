@@ -258,6 +258,7 @@ impl JsonGenerateError {
     }
 }
 
+/// The words of the error.
 impl fmt::Display for JsonGenerateError {
     ghost use Rattle.std.specs.Prelude.{Some, codes};
 

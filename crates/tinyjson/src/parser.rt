@@ -136,9 +136,8 @@ impl<I: Iterator<Item = char>> JsonParser<I> {
 impl JsonValue {
     /// The value of a text: what [`JsonParser::parse`] of a new parser answers on its characters.
     ///
-    /// A value that is nested deeper than some ten thousand levels is freed by [`JsonValue::dismantle`]:
-    /// where it goes out of scope, the language's own recursion can overrun the stack. So read the texts
-    /// of strangers with [`JsonParser::with_depth_limit`], or give their values to `dismantle`.
+    /// A deeply nested value is freed as [`JsonParser::new`] says: read the texts of strangers with
+    /// [`JsonValue::from_str_with_depth_limit`], or give their values to [`JsonValue::dismantle`].
     ///
     /// ```
     /// let value = JsonValue::from_str(alloc, "{\"a\": 1.50e1}")?;

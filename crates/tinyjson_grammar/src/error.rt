@@ -32,7 +32,7 @@ pub enum JsonParseErrorKind {
     /// After an item there is neither a comma nor a bracket. The character is consumed.
     ExpectedCommaOrBracket(char),
     /// A run of `\u` escapes has a surrogate without its partner (RFC 8259, section 8.2). What ends the
-    /// run, the closing quote or another item, is consumed.
+    /// run, the closing quote, a character or another escape, is consumed.
     InvalidUtf16,
     /// Among the four digits after `\u` is a character that is no hexadecimal digit. It is consumed.
     InvalidHexDigit(char),
@@ -42,17 +42,18 @@ pub enum JsonParseErrorKind {
     ControlCharacter(char),
     /// Within `null`, `true` or `false` is another letter than the next. It is consumed.
     UnexpectedInLiteral(char),
-    /// After a minus sign is no digit.
+    /// After a minus sign is no digit. What follows isn't consumed.
     EmptyInteger,
-    /// The digits before the point begin with 0, and are two or more.
+    /// The digits before the point begin with 0, and are two or more. What follows them isn't consumed.
     LeadingZero,
-    /// After the point is no digit.
+    /// After the point is no digit. What follows isn't consumed.
     EmptyFraction,
-    /// After `e` or `E` and the sign, if there is one, is no digit.
+    /// After `e` or `E` and the sign, if there is one, is no digit. What follows isn't consumed.
     EmptyExponent,
-    /// A number was wholly read, and its power of ten is outside the range of `i64`.
+    /// A number was wholly read, and its power of ten is outside the range of `i64`. What follows it isn't
+    /// consumed.
     NumberOutOfRange,
-    /// A growth of memory was refused.
+    /// A growth of memory was refused. The position tells what was consumed by then; the rest is left.
     OutOfMemory,
     /// This bracket would open one container more than the limit allows. It isn't consumed.
     TooDeep(char),

@@ -2,8 +2,8 @@
 //! and the trees that values are seen as.
 //!
 //! Each law is the contract of a public function. Most of them do nothing, and their statements stand in
-//! `specs/` under the name of the function's module; those of `headline`, `values` and `round_trips`
-//! compare, write and read.
+//! `specs/` under the name of the function's module; those of `headline` and `round_trips`, and
+//! `values::have_one_text`, read, write and compare.
 #![tactic(auto)]
 
 pub mod calls;

@@ -12,9 +12,11 @@ use std::simd::prelude::*;
 const BUFFER: usize = 32;
 
 impl JsonNumber {
-    /// Puts the text of this number at the front of a buffer, if that takes few steps, and gives its length:
-    /// of a number of at most 16 digits, at most 8 of them before the point, and few zeros, in a buffer of 32
-    /// bytes or more. In other cases it may give `None`; [`JsonNumber::layout`] has the text of each number.
+    /// Puts the text of this number at the front of a buffer of 32 bytes or more, if that takes few steps, and
+    /// gives its length: of zero; of at most 16 digits with up to 8 zeros behind them and no point; and of at
+    /// most 16 digits with a power of ten of -16 or more, where at most 8 digits stand before the point, or at
+    /// most 6 zeros between the point and the digits. In other cases it may give `None`;
+    /// [`JsonNumber::layout`] has the text of each number.
     ///
     /// Bytes of the buffer that don't belong to the text may be changed too.
     ///

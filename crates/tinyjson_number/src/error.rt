@@ -23,6 +23,7 @@ pub enum JsonNumberError {
     OutOfMemory,
 }
 
+/// The words of the error.
 impl fmt::Display for JsonNumberError {
     ghost output = { λ e. Some (number_error_text e) };
 
@@ -37,6 +38,7 @@ impl fmt::Display for JsonNumberError {
 
 impl Error for JsonNumberError {}
 
+/// The same cause.
 impl From<LiteralError> for JsonNumberError {
     ghost from_gives = { λ l e. e ≡ of_literal l };
 
@@ -62,6 +64,7 @@ pub enum LiteralError {
     OutOfMemory,
 }
 
+/// The words of the error.
 impl fmt::Display for LiteralError {
     ghost output = { λ e. Some (literal_error_text e) };
 
@@ -75,6 +78,7 @@ impl fmt::Display for LiteralError {
 
 impl Error for LiteralError {}
 
+/// Out of memory.
 impl From<AllocError> for LiteralError {
     ghost from_gives = { λ _ e. e ≡ OutOfMemory };
 

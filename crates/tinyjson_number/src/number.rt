@@ -176,6 +176,7 @@ impl JsonNumber {
     }
 }
 
+/// Two numbers are equal exactly if their decimals are.
 impl PartialEq for JsonNumber {
     ghost use Rattle.tinyjson_number.specs.Number.{number_eq, number_eq_equiv};
     ghost use Rattle.std.specs.Cmp.{partial_equiv_from_equiv};

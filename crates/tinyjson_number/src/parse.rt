@@ -109,6 +109,9 @@ impl JsonNumber {
     /// The decimal of a number whose parts are known. This is for callers that have read the number
     /// themselves, as a parser, so that its digits are looked at no second time but to strip zeros.
     ///
+    /// All bytes are ASCII digits, at least one before the point, and one in the exponent if there is one;
+    /// those before and behind the point are fewer than 2^64. The whole part may begin with zeros.
+    ///
     /// It answers `OutOfRange` exactly where the power of ten behind the last digit that is not `0` is out
     /// of the range of `i64`, and `OutOfMemory` only of a number that has a decimal. At most 24 digits,
     /// beside those of the exponent, need no memory, and without an exponent always give a number.

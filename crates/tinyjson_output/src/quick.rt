@@ -9,7 +9,7 @@ use crate::room::Room;
 use tinyjson_number::JsonNumber;
 use tinyjson_scan::plain_end;
 
-/// Lets the bytes of a word wait, if they fit.
+/// Lets the bytes of a word wait, if they fit, and says whether they do.
 #[inline(always)]
 pub fn quick_word(room: &mut Room, word: &[u8]) -> bool
     ensures { MatchBool result
@@ -23,7 +23,7 @@ pub fn quick_word(room: &mut Room, word: &[u8]) -> bool
     fits
 }
 
-/// Lets a number wait, if it fits and has no exponent.
+/// Lets a number wait, if it fits and has no exponent, and says whether it does.
 #[inline(always)]
 pub fn quick_number(room: &mut Room, number: &JsonNumber) -> bool
     ensures { MatchBool result
@@ -58,7 +58,7 @@ fn append_layout(room: &mut Room, number: &JsonNumber) -> bool
     true
 }
 
-/// The bytes between quotes, where none of them is escaped.
+/// Lets the bytes wait between quotes, if they fit and none of them is escaped, and says whether they do.
 #[inline(always)]
 pub fn quick_text(room: &mut Room, bytes: &[u8]) -> bool
     ensures { MatchBool result
@@ -74,7 +74,8 @@ pub fn quick_text(room: &mut Room, bytes: &[u8]) -> bool
     true
 }
 
-/// What stands before a member's value in compact text: a comma, the key and the colon.
+/// Lets wait what stands before a member's value in compact text, a comma, the key and the colon, if it fits
+/// and nothing of the key is escaped, and says whether it does.
 #[inline(always)]
 pub fn quick_key(room: &mut Room, compact: bool, first: bool, key: &str) -> bool
     ensures { MatchBool result

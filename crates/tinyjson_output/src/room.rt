@@ -41,7 +41,7 @@ impl Room {
         self.len += bytes.len();
     }
 
-    /// Lets the text of a number wait behind the others, if it is short and fits.
+    /// Lets the text of a number wait behind the others, if it is short and fits, and says whether it does.
     #[inline(always)]
     pub fn append_short(&mut self, number: &JsonNumber) -> bool
         ensures { MatchBool result
@@ -116,7 +116,8 @@ fn copy_ends<const N: usize>(target: &mut [u8], at: usize, bytes: &[u8])
     Simd::<u8, N>::from_slice(&bytes[last..]).copy_to_slice(&mut target[at + last..]);
 }
 
-/// Writes the bytes behind those that wait, or lets them wait too. An error is that of `write_all`.
+/// Writes the bytes behind those that wait, or lets them wait too. An error is the writer's own, an
+/// interruption too, or `WriteZero` where it takes nothing.
 #[inline(always)]
 pub fn write_bytes<W: Write>(out: &mut W, room: &mut Room, bytes: &[u8]) -> io::Result<()>
     ensures { Sends

@@ -96,7 +96,7 @@ fn stops_4(v: u8x4) -> u64
         | v.simd_lt(u8x4::splat(0x20))).to_bitmask()
 }
 
-/// A character that a string shows as it is (RFC 8259, section 7).
+/// Whether a string shows the character as it is (RFC 8259, section 7).
 pub fn is_plain(c: char) -> bool
     ensures { result ≡ is_plain c }
 {

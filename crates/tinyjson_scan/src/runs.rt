@@ -86,7 +86,7 @@ fn no_digits(v: u8x16) -> u64
         .to_bitmask()
 }
 
-/// White space of JSON (RFC 8259, section 2).
+/// Whether this is white space of JSON (RFC 8259, section 2).
 pub fn is_white(c: char) -> bool
     ensures { result ≡ is_white c }
 {

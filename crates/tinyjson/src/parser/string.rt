@@ -204,7 +204,7 @@ fn flush(string: &mut String, units: &mut Vec<u16>) -> Result<(), JsonParseError
     }
 }
 
-/// Adds these, and then a character.
+/// Adds the characters that the units spell, and then `c`.
 fn add(string: &mut String, units: &mut Vec<u16>, c: char) -> Result<bool, JsonParseErrorKind>
     ensures { MatchResult result (λ done. (done ≡ false) × (paired units.old.items ≡ true)
         × (text string.new ≡ (text string.old ++ decode units.old.items) ++ c ∷ [])
