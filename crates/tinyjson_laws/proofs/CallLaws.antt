@@ -5,7 +5,7 @@ use Rattle.std.specs.Str.{chars, bytes_eq}
 use Rattle.std.specs.String.{string_eq}
 use Rattle.std.proofs.lemmas.Slice.Eq.{bytes_eq-Decides}
 use Rattle.tinyjson.specs.Access.Laws.{number_of_put, boolean_of_put, string_of_put, array_of_put, object_of_put}
-use Rattle.tinyjson.specs.Access.{number_part, boolean_part, string_part, array_part, object_part}
+use Rattle.tinyjson.specs.Access.{number_part, boolean_part, string_part, null_part, array_part, object_part}
 use Rattle.tinyjson.specs.Convert.{GivesPart}
 use Rattle.tinyjson_grammar.specs.Grammar.{IsText, IsAccepted}
 use Rattle.tinyjson_grammar.specs.Refusal.{RefusalSays}
@@ -19,7 +19,7 @@ use Rattle.tinyjson_grammar.specs.declared.kind.JsonKind.TheVariants as kind
 use Rattle.tinyjson.specs.declared.value.JsonValue as made
 use Rattle.tinyjson.specs.declared.value.JsonValue.{JsonValue}
 use Rattle.tinyjson.specs.declared.value.convert.UnexpectedValue.{UnexpectedValue}
-use Rattle.tinyjson.proofs.Callers.{text_eq, view_IsTree}
+use Rattle.tinyjson.proofs.Callers.{text_eq, view_IsTree, view_Null, null_from_tree}
 use Rattle.tinyjson_laws.proofs.ReadingLaws.{one_tree}
 use Rattle.tinyjson_laws.proofs.WritingLaws.{compact_reads_back, indented_reads_back, same_compact}
 use Rattle.tinyjson_laws.specs.Calls.{TextAnswered, ReadsBack, EqualStrings, ConvertedBack}
@@ -62,11 +62,15 @@ back : {A : Type 0} (part : JsonValue → Option A) (k : JsonKind) (v : JsonValu
 back part k v x h (Ok y) g = let e : Some y ≡ Some x = sym g ∙ h in cc
 back part k v x h (Err f) g = let e : None ≡ Some x = sym g.0 ∙ h in cc
 
+null_of_put : null_part made.Null ≡ Some tt
+null_of_put = null_from_tree made.Null view_Null
+
 pub converted_back : ConvertedBack
 converted_back = (
   λ x r g. back number_part kind.Number (made.Number x) x (number_of_put x) r g,
   λ x r g. back boolean_part kind.Boolean (made.Boolean x) x (boolean_of_put x) r g,
   λ x r g. back string_part kind.String (made.String x) x (string_of_put x) r g,
+  λ r g. back null_part kind.Null made.Null tt null_of_put r g,
   λ x r g. back array_part kind.Array (made.Array x) x (array_of_put x) r g,
   λ x r g. back object_part kind.Object (made.Object x) x (object_of_put x) r g,
 )

@@ -21,7 +21,7 @@ use Rattle.std.specs.Str.{chars}
 use Rattle.std.specs.String.{string_eq}
 use Rattle.std.specs.declared.alloc.Global.{Global}
 use Rattle.tinyjson_number.specs.declared.number.JsonNumber.{JsonNumber}
-use Rattle.tinyjson.specs.Access.{JsonMap, number_part, boolean_part, string_part, array_part, object_part}
+use Rattle.tinyjson.specs.Access.{JsonMap, number_part, boolean_part, string_part, null_part, array_part, object_part}
 use Rattle.tinyjson.specs.Convert.{GivesPart}
 use Rattle.tinyjson.specs.Error.{error_kind}
 use Rattle.tinyjson_grammar.specs.Grammar.{IsText}
@@ -64,7 +64,7 @@ EqualStrings =
     (v w : JsonValue) (r q : Result (String Global) JsonGenerateError) → Stringifies v r → Stringifies w q →
     IfOk r (λ s. IfOk q (λ t. IsTrue (string_eq s t) ↔ (view v ≡ view w)))
 
--- whatever a conversion may return for the value that was made of x is x
+-- whatever a conversion may return for the value that was made of x is x; null was made of ()
 abbrev pub ConvertedBack : Type 0
 ConvertedBack =
     ((x : JsonNumber) (r : Result JsonNumber UnexpectedValue) →
@@ -73,6 +73,8 @@ ConvertedBack =
     GivesPart boolean_part kind.Boolean (made.Boolean x) r → r ≡ Ok x)
     × ((x : String Global) (r : Result (String Global) UnexpectedValue) →
     GivesPart string_part kind.String (made.String x) r → r ≡ Ok x)
+    × ((r : Result (Unit {0}) UnexpectedValue) →
+    GivesPart null_part kind.Null made.Null r → r ≡ Ok tt)
     × ((x : Vec JsonValue Global) (r : Result (Vec JsonValue Global) UnexpectedValue) →
     GivesPart array_part kind.Array (made.Array x) r → r ≡ Ok x)
     × ((x : JsonMap) (r : Result JsonMap UnexpectedValue) →

@@ -18,7 +18,7 @@ pub fn equal_strings()
     ensures { EqualStrings }
 {}
 
-/// What a value was made of is what `try_from` returns for it.
+/// What a value was made of, of any of the six types, is what `try_from` returns for it.
 #[tactic(auto, using(crate::proofs::CallLaws::converted_back))]
 pub fn converted_back()
     ensures { ConvertedBack }
