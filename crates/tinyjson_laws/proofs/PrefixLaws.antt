@@ -4,18 +4,18 @@ use Rattle.std.specs.Char.{is_ascii_digit}
 use Rattle.std.proofs.Math.Seq.{take-append_seam}
 use Rattle.std.proofs.lemmas.Bool.{false≢true, cases_lt, or_right, eqb-true}
 use Rattle.std.proofs.lemmas.List.{take-append-le, take-append-drop}
-use Rattle.tinyjson_number.specs.Numeral.{AreDigits, minus_text}
+use Rattle.tinyjson_number.specs.Numeral.{AreDigits, minus_text, Numeral, value, power_fits, in_range}
 use Rattle.tinyjson_grammar.specs.Tree as tree
 use Rattle.tinyjson_grammar.specs.Characters.{is_white}
-use Rattle.tinyjson_grammar.specs.Syntax.{Syntax, null, boolean, number, string, empty_array, array, empty_object, object, text, AreWhite, IsSpelled, IsWithin}
+use Rattle.tinyjson_grammar.specs.Syntax.{Syntax, null, boolean, number, string, empty_array, array, empty_object, object, text, AreWhite, IsSpelled, IsStrict, IsWithin}
 use Rattle.tinyjson_grammar.specs.Grammar.{IsLoose, IsAccepted}
 use Rattle.tinyjson_grammar.specs.Prefix.{IsViable, IsFaultless, IsCutOffText, IsLooselyViable}
-use Rattle.tinyjson_grammar.specs.Refusal.{begins_value, IsRefusal, RefusalSays}
+use Rattle.tinyjson_grammar.specs.Refusal.{begins_value, begins_growth, IsLiteral, IsRefusal, RefusalSays}
 use Rattle.tinyjson_grammar.specs.declared.error.JsonParseErrorKind.{JsonParseErrorKind}
 use Rattle.tinyjson_grammar.specs.declared.error.JsonParseErrorKind.TheVariants as kind
 use Rattle.tinyjson_grammar.proofs.Callers.Laws.{viable_before}
 use Rattle.tinyjson_laws.proofs.Faultless.{faultless_loosely}
-use Rattle.tinyjson_laws.specs.Prefixes.{AcceptedIsLoose, EmptyIsViable, ViableIsFaultless, FaultlessIsLooselyViable, UnviableStaysSo, ValuesBegin, UnviableAtFirst, IsShortest, ShortestInOrder, RefusedNotTooSoon, RefusedAtEnd, RefusedNotTooLate}
+use Rattle.tinyjson_laws.specs.Prefixes.{AcceptedIsLoose, EmptyIsViable, ViableIsFaultless, FaultlessIsLooselyViable, UnviableStaysSo, BeginsStrictly, ValuesBegin, GrowthBegins, UnviableAtFirst, IsShortest, ShortestInOrder, RefusedNotTooSoon, RefusedAtEnd, RefusedNotTooLate}
 
 pub accepted_is_loose : AcceptedIsLoose
 accepted_is_loose limit xs h = h.1.loose
@@ -57,56 +57,97 @@ unviable_stays_so limit xs ys = (
 
 -- ---- how a value begins
 
-digit_begins : (c : ℕ) → IsTrue (is_ascii_digit c) → IsTrue (begins_value c)
-digit_begins c h = or_right (c == 110) _ (or_right (c == 116) _ (or_right (c == 102) _ (or_right (c == 34) _ (or_right (c == 91) _ (or_right (c == 123) _ (or_right (c == 45) _ h))))))
+digit_grows : (c : ℕ) → IsTrue (is_ascii_digit c) → IsTrue (begins_growth c)
+digit_grows c h = or_right (c == 34) _ (or_right (c == 91) _ (or_right (c == 123) _ (or_right (c == 45) _ h)))
 
-abbrev FirstOf : List ℕ → Type 0
-FirstOf xs = (c : ℕ) × (more : List ℕ) × (xs ≡ c ∷ more) × IsTrue (begins_value c)
+growth_begins_value : (c : ℕ) → IsTrue (begins_growth c) → IsTrue (begins_value c)
+growth_begins_value c h = or_right (c == 110) _ (or_right (c == 116) _ (or_right (c == 102) _ h))
 
-numeral_first : (b : Bool) (w xs : List ℕ) → 0 < length w → AreDigits w → FirstOf (minus_text b ++ (w ++ xs))
+-- the first character, of which p says so
+abbrev FirstOf : (ℕ → Bool) → List ℕ → Type 0
+FirstOf p xs = (c : ℕ) × (more : List ℕ) × (xs ≡ c ∷ more) × IsTrue (p c)
+
+numeral_first : (b : Bool) (w xs : List ℕ) → 0 < length w → AreDigits w → FirstOf begins_growth (minus_text b ++ (w ++ xs))
 numeral_first b [] xs h d = absurd (omega (arith, h))
 numeral_first true (c ∷ cs) xs h d = (45, _, refl, refl)
-numeral_first false (c ∷ cs) xs h d = (c, _, refl, digit_begins c d.0)
+numeral_first false (c ∷ cs) xs h d = (c, _, refl, digit_grows c d.0)
 
-first_of : (s : Syntax) → IsSpelled s → FirstOf (text s)
-first_of null h = (110, _, refl, refl)
-first_of (boolean true) h = (116, _, refl, refl)
-first_of (boolean false) h = (102, _, refl, refl)
-first_of (number n) h = numeral_first n.negative n.whole _ h.some_digit h.whole
-first_of (string ps) h = (34, _, refl, refl)
-first_of (empty_array w) h = (91, _, refl, refl)
-first_of (array es) h = (91, _, refl, refl)
-first_of (empty_object w) h = (123, _, refl, refl)
-first_of (object ps) h = (123, _, refl, refl)
+literal_or_growth : (s : Syntax) → IsSpelled s → IsLiteral (text s) ⊎ FirstOf begins_growth (text s)
+literal_or_growth null h = inl (inl refl)
+literal_or_growth (boolean true) h = inl (inr (inl refl))
+literal_or_growth (boolean false) h = inl (inr (inr refl))
+literal_or_growth (number n) h = inr (numeral_first n.negative n.whole _ h.some_digit h.whole)
+literal_or_growth (string ps) h = inr (34, _, refl, refl)
+literal_or_growth (empty_array w) h = inr (91, _, refl, refl)
+literal_or_growth (array es) h = inr (91, _, refl, refl)
+literal_or_growth (empty_object w) h = inr (123, _, refl, refl)
+literal_or_growth (object ps) h = inr (123, _, refl, refl)
 
-abbrev Begun : ℕ → Type 0
-Begun c = (s : Syntax) × (more : List ℕ) × IsSpelled s × (text s ≡ c ∷ more)
+literal_first : (xs : List ℕ) → IsLiteral xs → FirstOf begins_value xs
+literal_first xs (inl e) = (110, _, e, refl)
+literal_first xs (inr (inl e)) = (116, _, e, refl)
+literal_first xs (inr (inr e)) = (102, _, e, refl)
 
-begun_by : (s : Syntax) (d : ℕ) (more : List ℕ) → IsSpelled s → text s ≡ d ∷ more → (c : ℕ) → (c == d) ≡ true → Begun c
-begun_by s d more i e c h = (s, more, i, e ∙ ap (λ k. k ∷ more) (sym (eqb-true c d h)))
+first_of : (s : Syntax) → IsSpelled s → FirstOf begins_value (text s)
+first_of s h = ⊎_elim (literal_first (text s)) (λ f. (f.0, f.1, f.2, growth_begins_value f.0 f.3)) (literal_or_growth s h)
 
-begun_digit : (c : ℕ) → IsTrue (is_ascii_digit c) → Begun c
-begun_digit c h = (number (record { negative = false; whole = c ∷ []; fraction = []; exponent = None }), [], record { whole = (h, tt); some_digit = omega arith; fraction = tt; exponent = tt }, refl)
+begun_by : (s : Syntax) (d : ℕ) (more : List ℕ) → IsSpelled s → IsStrict s → text s ≡ d ∷ more → (c : ℕ) → (c == d) ≡ true → BeginsStrictly c
+begun_by s d more i j e c h = (s, more, i, j, e ∙ ap (λ k. k ∷ more) (sym (eqb-true c d h)))
+
+abbrev digit : ℕ → Numeral
+digit c = record { negative = false; whole = c ∷ []; fraction = []; exponent = None }
+
+digit_fits : (c : ℕ) (b : Bool) → (c == 48) ≡ b → IsTrue (in_range (value (digit c)))
+unfolding value power_fits
+digit_fits c true e = rw e refl
+digit_fits c false e = rw e (rw e refl)
+
+begun_digit : (c : ℕ) → IsTrue (is_ascii_digit c) → BeginsStrictly c
+begun_digit c h = (number (digit c), [], record { whole = (h, tt); some_digit = omega arith; fraction = tt; exponent = tt }, (refl, digit_fits c (c == 48) refl), refl)
+
+begun_minus : (c : ℕ) → (c == 45) ≡ true → BeginsStrictly c
+unfolding value power_fits
+begun_minus = begun_by (number (record { negative = true; whole = 48 ∷ []; fraction = []; exponent = None })) 45 _ (record { whole = (refl, tt); some_digit = omega arith; fraction = tt; exponent = tt }) (refl, refl) refl
 
 either : (b d : Bool) (P : Type 0) → (b || d) ≡ true → (b ≡ true → P) → (d ≡ true → P) → P
 either true d P h f g = f refl
 either false d P h f g = g h
 
-begun : (c : ℕ) → IsTrue (begins_value c) → Begun c
+begun_growth : (c : ℕ) → IsTrue (begins_growth c) → BeginsStrictly c
+begun_growth c h =
+    either (c == 34) _ (BeginsStrictly c) h (begun_by (string []) 34 _ tt refl refl c) (λ h.
+    either (c == 91) _ (BeginsStrictly c) h (begun_by (empty_array []) 91 _ tt tt refl c) (λ h.
+    either (c == 123) _ (BeginsStrictly c) h (begun_by (empty_object []) 123 _ tt tt refl c) (λ h.
+    either (c == 45) _ (BeginsStrictly c) h (begun_minus c) (begun_digit c))))
+
+begun : (c : ℕ) → IsTrue (begins_value c) → BeginsStrictly c
 begun c h =
-    either (c == 110) _ (Begun c) h (begun_by null 110 _ tt refl c) (λ h.
-    either (c == 116) _ (Begun c) h (begun_by (boolean true) 116 _ tt refl c) (λ h.
-    either (c == 102) _ (Begun c) h (begun_by (boolean false) 102 _ tt refl c) (λ h.
-    either (c == 34) _ (Begun c) h (begun_by (string []) 34 _ tt refl c) (λ h.
-    either (c == 91) _ (Begun c) h (begun_by (empty_array []) 91 _ tt refl c) (λ h.
-    either (c == 123) _ (Begun c) h (begun_by (empty_object []) 123 _ tt refl c) (λ h.
-    either (c == 45) _ (Begun c) h (begun_by (number (record { negative = true; whole = 48 ∷ []; fraction = []; exponent = None })) 45 _ (record { whole = (refl, tt); some_digit = omega arith; fraction = tt; exponent = tt }) refl c) (begun_digit c)))))))
+    either (c == 110) _ (BeginsStrictly c) h (begun_by null 110 _ tt tt refl c) (λ h.
+    either (c == 116) _ (BeginsStrictly c) h (begun_by (boolean true) 116 _ tt tt refl c) (λ h.
+    either (c == 102) _ (BeginsStrictly c) h (begun_by (boolean false) 102 _ tt tt refl c) (begun_growth c)))
 
 same_first : (c d : ℕ) (xs ys : List ℕ) → c ∷ xs ≡ d ∷ ys → c ≡ d
 same_first c d xs ys e = cc
 
+first_is : (p : ℕ → Bool) (xs : List ℕ) (c : ℕ) (more : List ℕ) → xs ≡ c ∷ more → FirstOf p xs → IsTrue (p c)
+first_is p xs c more e f = subst (λ d. IsTrue (p d)) (same_first f.0 c f.1 more (sym f.2 ∙ e)) f.3
+
 pub values_begin : ValuesBegin
-values_begin c = (begun c, λ p. let f = first_of p.0 p.2 in subst (λ d. IsTrue (begins_value d)) (same_first f.0 c f.1 p.1 (sym f.2 ∙ p.3)) f.3)
+values_begin c = (begun c, λ s more h e. first_is begins_value (text s) c more e (first_of s h))
+
+no_literal : (c : ℕ) (more xs : List ℕ) → IsTrue (begins_growth c) → xs ≡ c ∷ more → ¬ IsLiteral xs
+no_literal c more xs g e (inl l) = let d : c ≡ 110 = same_first c 110 more _ (sym e ∙ l) in false≢true (subst (λ d. IsTrue (begins_growth d)) d g)
+no_literal c more xs g e (inr (inl l)) = let d : c ≡ 116 = same_first c 116 more _ (sym e ∙ l) in false≢true (subst (λ d. IsTrue (begins_growth d)) d g)
+no_literal c more xs g e (inr (inr l)) = let d : c ≡ 102 = same_first c 102 more _ (sym e ∙ l) in false≢true (subst (λ d. IsTrue (begins_growth d)) d g)
+
+pub growth_begins : GrowthBegins
+growth_begins c = (
+  begun_growth c,
+  λ s more h e. (
+    λ g. no_literal c more (text s) g e,
+    λ n. ⊎_elim (λ l. absurd (n l)) (λ f. first_is begins_growth (text s) c more e f) (literal_or_growth s h),
+  ),
+)
 
 -- no text of the loose grammar begins so
 no_first : (c : ℕ) (w : List ℕ) (s : Syntax) (v xs : List ℕ) → AreWhite w → IsSpelled s → is_white c ≡ false → begins_value c ≡ false → c ∷ xs ≡ w ++ (text s ++ v) → ⊥

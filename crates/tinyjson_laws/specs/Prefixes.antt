@@ -17,10 +17,10 @@ use Rattle.std.specs.Prelude.{
   take,
 }
 use Rattle.tinyjson_grammar.specs.Characters.{is_white}
-use Rattle.tinyjson_grammar.specs.Syntax.{Syntax, text, IsSpelled}
+use Rattle.tinyjson_grammar.specs.Syntax.{Syntax, text, IsSpelled, IsStrict}
 use Rattle.tinyjson_grammar.specs.Grammar.{IsLoose, IsAccepted}
 use Rattle.tinyjson_grammar.specs.Prefix.{IsViable, IsLooselyViable, IsFaultless}
-use Rattle.tinyjson_grammar.specs.Refusal.{begins_value, IsRefusal, RefusalSays}
+use Rattle.tinyjson_grammar.specs.Refusal.{begins_value, begins_growth, IsLiteral, IsRefusal, RefusalSays}
 use Rattle.tinyjson_grammar.specs.declared.error.JsonParseErrorKind.{JsonParseErrorKind}
 
 -- an accepted list is one of the loose grammar
@@ -47,11 +47,22 @@ UnviableStaysSo =
     × (¬ IsLooselyViable limit xs → ¬ IsLooselyViable limit (xs ++ ys))
     × (¬ IsFaultless limit xs → ¬ IsFaultless limit (xs ++ ys))
 
--- a character begins a value of the loose grammar exactly if `begins_value` says so
+-- a value of the grammar that begins with c
+abbrev pub BeginsStrictly : ℕ → Type 0
+BeginsStrictly c = (s : Syntax) × (more : List ℕ) × IsSpelled s × IsStrict s × (text s ≡ c ∷ more)
+
+-- where `begins_value` says so, a character begins a value of the grammar, and where not, none of the loose grammar
 abbrev pub ValuesBegin : Type 0
 ValuesBegin =
-    (c : ℕ) →
-    IsTrue (begins_value c) ↔ ((s : Syntax) × (more : List ℕ) × IsSpelled s × (text s ≡ c ∷ more))
+    (c : ℕ) → (IsTrue (begins_value c) → BeginsStrictly c)
+    × ((s : Syntax) (more : List ℕ) → IsSpelled s → text s ≡ c ∷ more → IsTrue (begins_value c))
+
+-- where `begins_growth` says so, a character begins a value of the grammar and no literal, and where not, at most a literal
+abbrev pub GrowthBegins : Type 0
+GrowthBegins =
+    (c : ℕ) → (IsTrue (begins_growth c) → BeginsStrictly c)
+    × ((s : Syntax) (more : List ℕ) → IsSpelled s → text s ≡ c ∷ more →
+    IsTrue (begins_growth c) ↔ ¬ IsLiteral (text s))
 
 -- a list whose first character is not white space and begins no value is not viable, in the loose grammar too
 abbrev pub UnviableAtFirst : Type 0

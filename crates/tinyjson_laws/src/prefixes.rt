@@ -11,6 +11,7 @@ ghost use Rattle.tinyjson_laws.specs.Prefixes.{
   FaultlessIsLooselyViable,
   UnviableStaysSo,
   ValuesBegin,
+  GrowthBegins,
   UnviableAtFirst,
   ShortestInOrder,
   RefusedNotTooSoon,
@@ -48,10 +49,17 @@ pub fn unviable_stays_so()
     ensures { UnviableStaysSo }
 {}
 
-/// With which characters a value begins, and with which none does.
+/// With which characters a value of the grammar begins, and with which none does, not even of the loose one.
 #[tactic(auto, using(crate::proofs::PrefixLaws::values_begin))]
 pub fn values_begin()
     ensures { ValuesBegin }
+{}
+
+/// With which characters a value begins that is no literal: memory runs out only of a list whose first
+/// character, after white space, is such a one.
+#[tactic(auto, using(crate::proofs::PrefixLaws::growth_begins))]
+pub fn growth_begins()
+    ensures { GrowthBegins }
 {}
 
 /// A list whose first character is not white space and begins no value cannot be completed, not even
