@@ -1,5 +1,5 @@
 -- Prefixes of texts, and where an error comes.
-use Rattle.std.proofs.Common.{◌≡◌, ℕ, ◌+◌, ◌<◌, ◌≤◌, Bool, true, false, List, [], ◌∷◌, ◌++◌, Option, Some, None, refl, ap, sym, ◌∙◌, subst, append_assoc, arith, length, take, drop, ◌⊎◌, inl, inr, ⊎_elim, IsTrue, ◌==◌, ◌||◌, length-append}
+use Rattle.std.proofs.Common.{◌≡◌, ℕ, zero, suc, ◌+◌, ◌<◌, ◌≤◌, Bool, true, false, List, [], ◌∷◌, ◌++◌, Option, Some, None, refl, ap, sym, ◌∙◌, subst, append_assoc, arith, length, take, drop, ◌⊎◌, inl, inr, ⊎_elim, IsTrue, ◌==◌, ◌||◌, length-append}
 use Rattle.std.specs.Char.{is_ascii_digit}
 use Rattle.std.proofs.Math.Seq.{take-append_seam}
 use Rattle.std.proofs.lemmas.Bool.{false≢true, cases_lt, or_right, eqb-true}
@@ -169,10 +169,23 @@ unviable_at_first limit c xs n b h = let l = h.1 in no_first c l.before l.value 
 shortest_first : (P Q : List ℕ → Type 0) (xs : List ℕ) (m n : ℕ) → ((ys : List ℕ) → P ys → Q ys) → IsShortest P xs m → IsShortest Q xs n → m ≤ n
 shortest_first P Q xs m n f p q = ⊎_elim (λ l. absurd (p.least n l (λ h. q.fails (f (take n xs) h)))) (λ l. l) (cases_lt n m)
 
+-- where no prefix is the shortest without P, none is without it
+module _ (P : List ℕ → Type 0) (xs : List ℕ) (none : ¬ ((n : ℕ) × IsShortest P xs n)) where
+  none_fails : (bound n : ℕ) → n < bound → n ≤ length xs → ¬ ¬ P (take n xs)
+  none_fails zero n b w f = absurd (omega (arith, b))
+  none_fails (suc bound) n b w f =
+      none (n, record { within = w; fails = f; least = λ k s. none_fails bound k (omega (arith, s, b)) (omega (arith, s, w)) })
+
+-- where there is a shortest prefix without Q, there is one without P, where P gives Q
+shortest_before : (P Q : List ℕ → Type 0) (xs : List ℕ) (n : ℕ) → ((ys : List ℕ) → P ys → Q ys) → IsShortest Q xs n → ¬ ¬ ((m : ℕ) × IsShortest P xs m)
+shortest_before P Q xs n f q none = none_fails P xs none (suc n) n (omega arith) q.within (λ h. q.fails (f (take n xs) h))
+
 pub shortest_in_order : ShortestInOrder
 shortest_in_order limit xs = (
   λ d m. shortest_first (IsViable (IsAccepted limit)) (IsFaultless limit) xs d m (viable_is_faultless limit),
   λ m l. shortest_first (IsFaultless limit) (IsLooselyViable limit) xs m l (faultless_is_loosely_viable limit),
+  λ m. shortest_before (IsViable (IsAccepted limit)) (IsFaultless limit) xs m (viable_is_faultless limit),
+  λ l. shortest_before (IsFaultless limit) (IsLooselyViable limit) xs l (faultless_is_loosely_viable limit),
 )
 
 -- ---- errors

@@ -79,12 +79,16 @@ pub record IsShortest (P : List ℕ → Type 0) (xs : List ℕ) (n : ℕ) : Type
   pub least : (k : ℕ) → k < n → ¬ ¬ P (take k xs)
 
 -- The shortest prefix that is not viable is no longer than the shortest with a fault, and that is no longer than the shortest
--- that is not viable in the loose grammar.
+-- that is not viable in the loose grammar. Where there is a later one of these, no earlier one is missing.
 abbrev pub ShortestInOrder : Type 0
 ShortestInOrder =
     (limit : Option ℕ) (xs : List ℕ) →
     ((d m : ℕ) → IsShortest (IsViable (IsAccepted limit)) xs d → IsShortest (IsFaultless limit) xs m → d ≤ m)
     × ((m l : ℕ) → IsShortest (IsFaultless limit) xs m → IsShortest (IsLooselyViable limit) xs l → m ≤ l)
+    × ((m : ℕ) → IsShortest (IsFaultless limit) xs m →
+    ¬ ¬ ((d : ℕ) × IsShortest (IsViable (IsAccepted limit)) xs d))
+    × ((l : ℕ) → IsShortest (IsLooselyViable limit) xs l →
+    ¬ ¬ ((m : ℕ) × IsShortest (IsFaultless limit) xs m))
 
 -- An error for another cause than memory has consumed at least all but the last character of the shortest prefix with a fault,
 -- and so of the shortest prefix that is not viable.

@@ -69,7 +69,8 @@ pub fn unviable_at_first()
 {}
 
 /// The shortest prefix that cannot be completed is no longer than the shortest with a fault, and that is
-/// no longer than the shortest that cannot be completed in the loose grammar.
+/// no longer than the shortest that cannot be completed in the loose grammar. Where a list has a later one of
+/// these, no earlier one is missing.
 pub fn shortest_in_order()
     ensures { ShortestInOrder }
 {}
