@@ -30,8 +30,10 @@ fn is_numeral(bytes: &[u8]) -> bool
 fn are_digits(bytes: &[u8]) -> bool
     ensures { result ≡ all_ascii_digits bytes.now }
 {
-    match bytes {
-        [] => true,
-        [first, rest @ ..] => first.is_ascii_digit() && are_digits(rest),
+    for byte in bytes {
+        if !byte.is_ascii_digit() {
+            return false;
+        }
     }
+    true
 }
