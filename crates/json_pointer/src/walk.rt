@@ -30,7 +30,7 @@ impl Pointer {
     }
 
     /// Puts `part` in the place of the part that this names, and gives the old one; or gives `part`
-    /// back where this names none, and the value stays as it is.
+    /// back where this names none, and the value stays as it is. It recurses once for each token.
     ///
     /// ```
     /// let pointer = Pointer::parse(alloc, "/0")?;
@@ -49,10 +49,7 @@ fn child<'v>(value: &'v JsonValue, token: &str) -> Option<&'v JsonValue>
 {
     match value {
         JsonValue::Object(members) => members.get(token),
-        JsonValue::Array(items) => match index(token) {
-            Some(at) => items.get(at),
-            None => None,
-        },
+        JsonValue::Array(items) => items.get(index(token)?),
         _ => None,
     }
 }
