@@ -60,6 +60,7 @@ fn print_settings(
             println!(rt; "{scheme}://{}:{}", settings.host, settings.port)?;
             Ok(Ok(()))
         }
+        Err(SettingsError::Text(error)) if error.is_out_of_memory() => Err(error.into()),
         Err(error) => Ok(Err(error)),
     }
 }
@@ -72,6 +73,7 @@ fn print_with_port(
     let alloc = rt.alloc();
     let mut value = match JsonValue::from_str(alloc, text) {
         Ok(value) => value,
+        Err(error) if error.is_out_of_memory() => return Err(error.into()),
         Err(error) => return Ok(Err(SettingsError::Text(error))),
     };
     if settings::set_port(alloc, &mut value, port)?.is_none() {
