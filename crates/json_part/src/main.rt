@@ -12,6 +12,8 @@ use std::env::{self, Env};
 use std::io::{self, BufWriter, ErrorKind, Write};
 use std::process::ExitCode;
 
+const USAGE: &str = "usage: json_part POINTER";
+
 fn main(rt: HostRuntime) -> ExitCode {
     match print_part(&rt) {
         Ok(Ok(())) => ExitCode::SUCCESS,
@@ -33,13 +35,23 @@ fn main(rt: HostRuntime) -> ExitCode {
 // From standard input to standard output. The outer error is one of the words, of reading or of writing.
 fn print_part(rt: &(impl Env + Input + Print + AllocGlobal)) -> io::Result<Result<(), PartError>> {
     let alloc = rt.alloc();
-    let mut words = env::args(rt)?.skip(1);
-    let (Some(pointer), None) = (words.next(), words.next()) else {
-        return Err(io::Error::new(ErrorKind::InvalidInput, "usage: json_part POINTER"));
-    };
+    let pointer = pointer_asked(rt)?;
     let text = io::read_to_string(alloc, rt.reader())?;
     let mut output = BufWriter::new(alloc, io::writer(rt))?;
     let answer = write_part(alloc, pointer.as_str(), text.as_str(), &mut output);
     output.flush()?;
     Ok(answer)
+}
+
+// The one word of the command line.
+fn pointer_asked(rt: &(impl Env + AllocGlobal)) -> io::Result<String> {
+    let mut words = match env::args(rt) {
+        Ok(words) => words.skip(1),
+        Err(error) if error.kind() == ErrorKind::OutOfMemory => return Err(error),
+        Err(_) => return Err(io::Error::new(ErrorKind::InvalidInput, USAGE)),
+    };
+    match (words.next(), words.next()) {
+        (Some(pointer), None) => Ok(pointer),
+        _ => Err(io::Error::new(ErrorKind::InvalidInput, USAGE)),
+    }
 }

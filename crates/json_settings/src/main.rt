@@ -1,8 +1,8 @@
 //! Reads settings from standard input, an object with `port`, `host` and `tls`, and prints them. With a
 //! port as its one word it prints the object instead, with that port in the place of its own.
 //!
-//! The status is 0 after success, 1 where the text has no settings or no port, and 2 for other words, or
-//! where memory, a read or a write failed.
+//! The status is 0 after success, 1 where the text has no settings or no port, and 2 for other words, for
+//! input that isn't UTF-8, or where memory, a read or a write failed.
 #![tactic(auto)]
 
 pub mod servers;
@@ -13,6 +13,8 @@ use std::env::{self, Env};
 use std::io::{self, ErrorKind};
 use std::process::ExitCode;
 use tinyjson::JsonValue;
+
+const USAGE: &str = "usage: json_settings [PORT]";
 
 fn main(rt: HostRuntime) -> ExitCode {
     match answer(&rt) {
@@ -40,13 +42,17 @@ fn answer(rt: &(impl Env + Input + Print + AllocGlobal)) -> io::Result<Result<()
 
 // The port that the words of the command line ask for.
 fn port_asked(rt: &(impl Env + AllocGlobal)) -> io::Result<Option<u16>> {
-    let mut words = env::args(rt)?.skip(1);
+    let mut words = match env::args(rt) {
+        Ok(words) => words.skip(1),
+        Err(error) if error.kind() == ErrorKind::OutOfMemory => return Err(error),
+        Err(_) => return Err(io::Error::new(ErrorKind::InvalidInput, USAGE)),
+    };
     let Some(word) = words.next() else {
         return Ok(None);
     };
     match word.as_str().parse() {
         Ok(port) if port > 0 && words.next().is_none() => Ok(Some(port)),
-        _ => Err(io::Error::new(ErrorKind::InvalidInput, "usage: json_settings [PORT]")),
+        _ => Err(io::Error::new(ErrorKind::InvalidInput, USAGE)),
     }
 }
 
