@@ -76,15 +76,26 @@ fn print_with_port(
     text: &str,
     port: u16,
 ) -> io::Result<Result<(), SettingsError>> {
-    let alloc = rt.alloc();
-    let mut value = match JsonValue::from_str(alloc, text) {
+    let mut value = match JsonValue::from_str(rt.alloc(), text) {
         Ok(value) => value,
         Err(error) if error.is_out_of_memory() => return Err(error.into()),
         Err(error) => return Ok(Err(SettingsError::Text(error))),
     };
-    if settings::set_port(alloc, &mut value, port)?.is_none() {
+    let answer = change_port(rt, &mut value, port);
+    value.dismantle();
+    answer
+}
+
+fn change_port(
+    rt: &(impl Print + AllocGlobal),
+    value: &mut JsonValue,
+    port: u16,
+) -> io::Result<Result<(), SettingsError>> {
+    let alloc = rt.alloc();
+    let Some(old) = settings::set_port(alloc, value, port)? else {
         return Ok(Err(SettingsError::Lacks(Key::Port)));
-    }
+    };
+    old.dismantle();
     println!(rt; "{}", value.stringify(alloc)?)?;
     Ok(Ok(()))
 }

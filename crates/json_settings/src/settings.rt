@@ -69,16 +69,24 @@ pub fn read(alloc: Global, text: &str) -> Result<Settings, SettingsError>
 fn from_value(value: JsonValue) -> Result<Settings, SettingsError>
     ensures { AnswersTree (view value) result }
 {
-    let Ok(mut members) = HashMap::<String, JsonValue>::try_from(value) else {
-        return Err(SettingsError::NotAnObject);
+    let mut members = match HashMap::<String, JsonValue>::try_from(value) {
+        Ok(members) => members,
+        Err(fault) => {
+            JsonValue::from(fault).dismantle();
+            return Err(SettingsError::NotAnObject);
+        }
     };
-    let Some(port) = port(members.get("port")) else {
+    let port = port(members.get("port"));
+    let tls = tls(members.get("tls"));
+    let host = host(members.remove("host"));
+    JsonValue::Object(members).dismantle();
+    let Some(port) = port else {
         return Err(SettingsError::Lacks(Key::Port));
     };
-    let Some(tls) = tls(members.get("tls")) else {
+    let Some(tls) = tls else {
         return Err(SettingsError::Lacks(Key::Tls));
     };
-    let Some(host) = host(members.remove("host")) else {
+    let Some(host) = host else {
         return Err(SettingsError::Lacks(Key::Host));
     };
     Ok(Settings { port, host, tls })
@@ -87,9 +95,7 @@ fn from_value(value: JsonValue) -> Result<Settings, SettingsError>
 fn port(member: Option<&JsonValue>) -> Option<u16>
     ensures { GivesOnly (IsPort (option_map (λ x. view x.now) member.entry)) (λ n. n) result }
 {
-    let Some(value) = member else {
-        return None;
-    };
+    let value = member?;
     match value.get::<JsonNumber>()?.to_u64() {
         Some(n) if n > 0 && n < 65_536 => Some(n as u16),
         _ => None,
@@ -109,16 +115,20 @@ fn tls(member: Option<&JsonValue>) -> Option<bool>
 fn host(member: Option<JsonValue>) -> Option<String>
     ensures { GivesOnly (IsHost (option_map view member)) text result }
 {
-    match member {
-        Some(JsonValue::String(text)) => Some(text),
-        _ => None,
+    match member? {
+        JsonValue::String(text) => Some(text),
+        other => {
+            other.dismantle();
+            None
+        }
     }
 }
 
 /// Puts the port in the place of the member `port` of an object, and returns the old member.
 ///
-/// `None` where the value is no object or has no such member. Then it stays as it is, and also where
-/// memory runs out. Settings that a value has, it still has, but for the port; 0 is no port.
+/// `None` where the value is no object or has no such member. Then it stays as it is. Settings that a
+/// value has, it still has, but for the port; 0 is no port. There is never an error: the number of a
+/// port takes no memory.
 ///
 /// ```
 /// let old = settings::set_port(alloc, &mut value, 8443)?;

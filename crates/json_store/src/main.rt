@@ -1,7 +1,8 @@
-//! Reads an array from standard input, and prints of each item how many equal ones it is by now.
+//! Reads an array from standard input, and prints for each item how many equal items have come so far,
+//! with itself, and its text.
 //!
-//! The status is 0 after success, 1 where the input is no array, and 2 where memory, a read or a
-//! write failed.
+//! The status is 0 after success, 1 where the input is no array, and 2 where it isn't UTF-8, or memory,
+//! a read or a write failed.
 #![tactic(auto)]
 
 pub mod store;
@@ -34,6 +35,14 @@ fn count_items(rt: &(impl Input + Print + AllocGlobal)) -> io::Result<bool> {
         Err(error) if error.is_out_of_memory() => return Err(error.into()),
         Err(_) => return Ok(false),
     };
+    let answer = print_counts(rt, &value);
+    value.dismantle();
+    answer
+}
+
+// Whether the value is an array; then a line is printed for each item.
+fn print_counts(rt: &(impl Print + AllocGlobal), value: &JsonValue) -> io::Result<bool> {
+    let alloc = rt.alloc();
     let Some(items) = value.get::<Vec<JsonValue>>() else {
         return Ok(false);
     };

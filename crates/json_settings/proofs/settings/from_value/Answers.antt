@@ -4,12 +4,12 @@ use Rattle.json_settings.proofs.Reading.{is_object, member_is, lent_is}
 use Rattle.json_settings.specs.Settings.{IsPort, IsHost, IsTls}
 use Rattle.json_settings.proofs.settings.from_value.Goals as goal
 
-pub returns-in_default-port : goal.returns-in_default-port
-returns-in_default-port c =
+pub returns-in_default : goal.returns-in_default
+returns-in_default c =
     let v = c.args.value in
     let m = c.in-Ok.members in
     let held = c.in-Ok.ensures in
-    (is_object v m held, subst (λ o. (n : ℕ) → ¬ IsPort o n) (lent_is v m (codes "port") held refl c.get.result c.get.ensures.value) c.in_default-port.ensures)
+    (is_object v m held, subst (λ o. (n : ℕ) → ¬ IsPort o n) (lent_is v m (codes "port") held refl c.get.result c.get.ensures.value) c.in_default.ensures)
 
 pub returns-in_default-tls : goal.returns-in_default-tls
 returns-in_default-tls c =
