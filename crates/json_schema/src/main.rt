@@ -14,7 +14,7 @@ use std::process::ExitCode;
 use tinyjson::{JsonParseError, JsonValue};
 use validate::invalid_place;
 
-/// How many containers may be open at once: the check takes stack as the value is deep.
+/// How many containers may be open at once: the check and the drop of the value take stack as it is deep.
 const DEPTH_LIMIT: usize = 1_000;
 
 fn main(rt: HostRuntime) -> ExitCode {

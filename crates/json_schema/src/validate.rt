@@ -59,8 +59,5 @@ pub fn invalid_place(
 fn property<'s>(schema: &'s JsonValue, key: &str) -> Option<&'s JsonValue>
     ensures { option_map (λ x. view x.now) result ≡ property (view schema.now) (chars key.now) }
 {
-    match keyword(schema, "properties") {
-        Some(schemas) => keyword(schemas, key),
-        None => None,
-    }
+    keyword(keyword(schema, "properties")?, key)
 }

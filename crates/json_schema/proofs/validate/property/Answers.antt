@@ -1,10 +1,11 @@
+use Rattle.std.proofs.Common.{option_map, ap, ◌∙◌}
 use Rattle.std.specs.Str.{chars}
 use Rattle.tinyjson.specs.View.{view}
 use Rattle.json_schema.proofs.Lookups.{property_found, property_missing}
 use Rattle.json_schema.proofs.validate.property.Goals as goal
 
-pub returns-in-Some : goal.returns-in-Some
-returns-in-Some c = property_found (view c.args.schema.now) (view c.in-Some.schemas.now) (chars c.args.key.now) _ c.in-Some.ensures c.keyword-in-Some.ensures
+pub returns : goal.returns
+returns c = property_found (view c.args.schema.now) (view c.in_ok-keyword.field-0.now) (chars c.args.key.now) _ c.in_ok-keyword.ensures c.keyword-2.ensures
 
-pub returns-in-None : goal.returns-in-None
-returns-in-None c = property_missing (view c.args.schema.now) (chars c.args.key.now) c.in-None.ensures
+pub returns-in_err-keyword : goal.returns-in_err-keyword
+returns-in_err-keyword c = ap (option_map (λ x. view x.now)) c.from_residual.ensures ∙ property_missing (view c.args.schema.now) (chars c.args.key.now) c.in_err-keyword.ensures
