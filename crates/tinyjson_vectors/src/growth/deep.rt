@@ -2,8 +2,9 @@
 
 use crate::common::{is_refusal, is_text, parsed, parsed_within};
 use std::alloc::{AllocError, Global};
+use std::collections::HashMap;
 use std::test::Fail;
-use tinyjson::{JsonKind, JsonParseErrorKind as Kind, JsonValue};
+use tinyjson::{JsonKind, JsonParseErrorKind as Kind, JsonValue, insert_member};
 
 /// The kind of a refusal and its column.
 type Refusal = (Kind, usize);
@@ -191,5 +192,27 @@ fn deep_values_are_given_up(rt: HostRuntime) -> Result<(), Fail> {
         assert!(rt; is_replaced(alloc, text.as_str())?);
         assert!(rt; is_cut_refused(alloc, text, shape, size));
     }
+    Ok(())
+}
+
+/// Puts the value that the text spells at the key "a".
+fn put_read(
+    alloc: Global,
+    members: &mut HashMap<String, JsonValue>,
+    text: &str,
+) -> Result<(), Fail> {
+    let key = String::from_str(alloc, "a")?;
+    insert_member(members, key, JsonValue::from_str(alloc, text)?)?;
+    Ok(())
+}
+
+#[test]
+fn a_deep_member_is_replaced(rt: HostRuntime) -> Result<(), Fail> {
+    let alloc = rt.alloc();
+    let text = nested(alloc, ARRAYS.text, 100_000)?;
+    let mut members = HashMap::new(alloc);
+    put_read(alloc, &mut members, text.as_str())?;
+    put_read(alloc, &mut members, "null")?;
+    assert!(rt; members.get("a") == Some(&JsonValue::Null));
     Ok(())
 }
