@@ -3,16 +3,17 @@
 //! With ample memory these tests pass as any do. `tools/refuse-allocations` runs each of them with requests
 //! for memory refused: then a test passes too, or it ends with the out of memory that a call answered.
 
-use crate::common::{parsed, parsed_within};
+use crate::common::{parsed, parsed_within, string};
 use crate::documentation::{COMPACT, DOCUMENT, INDENTED};
 use crate::parsing::{Answer, agrees, moved};
 use std::alloc::{AllocError, Global};
+use std::collections::HashMap;
 use std::io::ErrorKind;
 use std::process::Abort;
 use std::test::Fail;
 use tinyjson::{
     JsonGenerateResult, JsonGenerator, JsonKind, JsonNumber, JsonNumberError, JsonParseError,
-    JsonParseErrorKind as Kind, JsonParseResult, JsonParser, JsonValue,
+    JsonParseErrorKind as Kind, JsonParseResult, JsonParser, JsonValue, insert_member,
 };
 
 const TEXTS: &[(&str, Answer)] = &[
@@ -201,19 +202,68 @@ fn generates(
     answer.map_err(|fault| fault.kind())
 }
 
-/// A null in 64 arrays.
-fn sixty_four(alloc: Global) -> Result<String, Fail> {
-    let opened = "[".repeat(alloc, 64)?;
-    let closed = "]".repeat(alloc, 64)?;
-    Ok(format!(in alloc; "{opened}null{closed}")?)
+/// A text in so many arrays.
+fn in_arrays(alloc: Global, count: usize, inside: &str) -> Result<String, Fail> {
+    let opened = "[".repeat(alloc, count)?;
+    let closed = "]".repeat(alloc, count)?;
+    Ok(format!(in alloc; "{opened}{inside}{closed}")?)
 }
 
 #[test]
 fn sixty_four_containers_take_no_memory(rt: HostRuntime) -> Result<(), Fail> {
     let alloc = rt.alloc();
-    let text = sixty_four(alloc)?;
+    let text = in_arrays(alloc, 64, "null")?;
     let value = JsonValue::from_str(alloc, text.as_str())?;
     assert_eq!(rt; generates(&rt, alloc, &value, None, text.as_str()), Ok(()));
+    Ok(())
+}
+
+/// The 64th container, which holds two others.
+const INNER: [&str; 3] = ["[[[null]]]", r#"{"a":[[null]]}"#, r#"{"a":1,"b":[[null]]}"#];
+
+#[test]
+fn more_containers_take_memory(rt: HostRuntime) -> Result<(), Fail> {
+    let alloc = rt.alloc();
+    for inner in INNER {
+        let text = in_arrays(alloc, 63, inner)?;
+        let value = JsonValue::from_str(alloc, text.as_str())?;
+        generates(&rt, alloc, &value, None, text.as_str())?;
+    }
+    Ok(())
+}
+
+/// An object of 131 members, with its keys in order.
+fn wide(alloc: Global) -> Result<String, AllocError> {
+    let mut text = String::from_str(alloc, r#"{"":0"#)?;
+    for first in "abcdefghijklm".chars() {
+        for second in "0123456789".chars() {
+            text.push_str(",\"")?;
+            text.push(first)?;
+            text.push(second)?;
+            text.push_str("\":0")?;
+        }
+    }
+    text.push('}')?;
+    Ok(text)
+}
+
+#[test]
+fn many_members_are_read_and_written(rt: HostRuntime) -> Result<(), Fail> {
+    let alloc = rt.alloc();
+    let text = wide(alloc)?;
+    let value = JsonValue::from_str(alloc, text.as_str())?;
+    assert!(rt; is_made(value.stringify(alloc), text.as_str())?);
+    Ok(())
+}
+
+#[test]
+fn a_refused_member_is_dropped(rt: HostRuntime) -> Result<(), Fail> {
+    let alloc = rt.alloc();
+    let key = String::from_str(alloc, "a")?;
+    let value = string(alloc, "b")?;
+    let mut members = HashMap::new(alloc);
+    insert_member(&mut members, key, value)?;
+    assert_eq!(rt; members.len(), 1);
     Ok(())
 }
 
