@@ -14,6 +14,14 @@ const ROWS: &[(&str, &str)] = &[
     ("trux true", " true"),
     ("\"\\q\" 1", "\" 1"),
     ("\"\\ud800x\"", "\""),
+    ("1 23", "3"),
+    ("{\"a\":1 2}", "}"),
+    ("\"\\u1x1", "1"),
+    ("\"\u{1}1", "1"),
+    ("-x1", "1"),
+    ("01x1", "1"),
+    ("1ex1", "1"),
+    ("1e9223372036854775808x1", "1"),
 ];
 
 #[test]
@@ -26,6 +34,16 @@ fn asks_for_what_it_needs(rt: HostRuntime) {
         assert!(rt; refused, "{text}");
         assert_eq!(rt; characters.as_str(), unasked, "{text}");
     }
+}
+
+#[test]
+fn asks_for_nothing_behind_what_is_too_deep(rt: HostRuntime) {
+    let mut characters = "[[1".chars();
+    let refused = JsonParser::with_depth_limit(rt.alloc(), &mut characters, 1)
+        .parse()
+        .is_err();
+    assert!(rt; refused);
+    assert_eq!(rt; characters.as_str(), "1");
 }
 
 #[test]
