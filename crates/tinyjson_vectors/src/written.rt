@@ -296,7 +296,10 @@ fn flushes_nothing(rt: HostRuntime) -> Result<(), Fail> {
     assert_eq!(rt; (writer.empty_calls(), writer.flushes()), (0, 0));
     let mut writer = FaultyWriter::good(rt.alloc(), usize::MAX);
     assert!(rt; generate_three(rt.alloc(), &mut writer, &value).is_ok());
-    assert_eq!(rt; (writer.empty_calls(), writer.flushes()), (0, 0));
+    assert_eq!(rt;
+        (writer.calls(), writer.empty_calls(), writer.flushes()),
+        (3, 0, 0)
+    );
     Ok(())
 }
 
@@ -312,21 +315,59 @@ fn is_fault(alloc: Global, answer: io::Result<()>, kind: ErrorKind, message: &st
         }
 }
 
-// The writer fails at each place in turn.
+// How a value is written.
+#[derive(Clone, Copy, Debug)]
+enum Call {
+    Generate,
+    GenerateIndented,
+    WriteTo,
+    FormatTo,
+}
+
+// The calls, and what each writes of the nested value.
+const CALLS: [(Call, &str); 4] = [
+    (Call::Generate, NESTED),
+    (
+        Call::GenerateIndented,
+        "[\n1,\n{\n\"a\": [\nnull,\n\"x\"\n],\n\"b\": 2\n}\n]",
+    ),
+    (Call::WriteTo, NESTED),
+    (
+        Call::FormatTo,
+        "[\n  1,\n  {\n    \"a\": [\n      null,\n      \"x\"\n    ],\n    \"b\": 2\n  }\n]",
+    ),
+];
+
+impl Call {
+    fn write(self, alloc: Global, writer: &mut FaultyWriter, value: &JsonValue) -> io::Result<()> {
+        match self {
+            Call::Generate => JsonGenerator::new(alloc, writer).generate(value),
+            Call::GenerateIndented => JsonGenerator::new(alloc, writer).indent("").generate(value),
+            Call::WriteTo => value.write_to(alloc, writer),
+            Call::FormatTo => value.format_to(alloc, writer),
+        }
+    }
+}
+
+// The error where a writer takes nothing.
+const NOTHING_TAKEN: (ErrorKind, &str) = (ErrorKind::WriteZero, "the writer took no byte");
+
+// The writer fails at each place of the text in turn.
 fn check_fault(
     rt: &impl Abort,
     alloc: Global,
     value: &JsonValue,
+    (call, text): (Call, &str),
     fault: Fault,
     (kind, message): (ErrorKind, &str),
 ) {
-    for room in 0..26 {
+    for room in 0..text.len() {
         let mut writer = FaultyWriter::failing(alloc, 1, room, fault);
-        let answer = JsonGenerator::new(alloc, &mut writer).generate(value);
-        assert!(rt; is_fault(alloc, answer, kind, message), "{room}");
+        let answer = call.write(alloc, &mut writer, value);
+        assert!(rt; is_fault(alloc, answer, kind, message), "{call:?} {room}");
         assert!(rt;
-            NESTED.as_bytes().get(..room) == Some(writer.bytes()),
-            "{room}"
+            text.as_bytes().get(..room) == Some(writer.bytes()),
+            "{call:?} {room}"
         );
         assert_eq!(rt;
             (writer.calls(), writer.empty_calls(), writer.flushes()),
@@ -339,15 +380,23 @@ fn check_fault(
 fn ends_with_the_first_fault(rt: HostRuntime) -> Result<(), Fail> {
     let alloc = rt.alloc();
     let value = nested(alloc)?;
-    for kind in [
-        ErrorKind::BrokenPipe,
-        ErrorKind::Interrupted,
-        ErrorKind::Other,
-    ] {
-        check_fault(&rt, alloc, &value, Fault::Error(kind), (kind, MESSAGE));
+    for call in CALLS {
+        for kind in [
+            ErrorKind::BrokenPipe,
+            ErrorKind::Interrupted,
+            ErrorKind::Other,
+        ] {
+            check_fault(
+                &rt,
+                alloc,
+                &value,
+                call,
+                Fault::Error(kind),
+                (kind, MESSAGE),
+            );
+        }
+        check_fault(&rt, alloc, &value, call, Fault::TakesNothing, NOTHING_TAKEN);
     }
-    let nothing = (ErrorKind::WriteZero, "the writer took no byte");
-    check_fault(&rt, alloc, &value, Fault::TakesNothing, nothing);
     Ok(())
 }
 
@@ -363,9 +412,24 @@ fn writes_again_after_a_fault(rt: HostRuntime) -> Result<(), Fail> {
     let fault = Fault::Error(ErrorKind::BrokenPipe);
     let mut writer = FaultyWriter::failing(rt.alloc(), usize::MAX, 3, fault);
     let mut generator = JsonGenerator::new(rt.alloc(), &mut writer);
-    assert!(rt; generator.generate(&value).is_err());
+    let answer = generator.generate(&value);
+    assert!(rt; is_fault(rt.alloc(), answer, ErrorKind::BrokenPipe, MESSAGE));
     let answer = generator.generate(&value);
     assert!(rt; is_taken(answer, writer.bytes(), "[tr[true,null]"));
+    Ok(())
+}
+
+#[test]
+fn writes_two_items_byte_by_byte(rt: HostRuntime) -> Result<(), Fail> {
+    let alloc = rt.alloc();
+    let value = two_items(alloc)?;
+    let mut writer = FaultyWriter::good(alloc, 1);
+    let answer = value.write_to(alloc, &mut writer);
+    assert!(rt; is_taken(answer, writer.bytes(), "[true,null]"));
+    let (kind, message) = NOTHING_TAKEN;
+    let mut writer = FaultyWriter::failing(alloc, 1, 0, Fault::TakesNothing);
+    let answer = value.write_to(alloc, &mut writer);
+    assert!(rt; is_fault(alloc, answer, kind, message));
     Ok(())
 }
 
