@@ -5,7 +5,7 @@ use std::test::*;
 /// A number's text, whether it is negative, its digits, its power and its own text.
 type Row = (&'static str, bool, &'static str, i64, &'static str);
 
-const ROWS: [Row; 29] = [
+const ROWS: [Row; 30] = [
     ("0", false, "", 0, "0"),
     ("-0", false, "", 0, "0"),
     ("0.000", false, "", 0, "0"),
@@ -49,6 +49,7 @@ const ROWS: [Row; 29] = [
     ("10e-2147483649", false, "1", -2147483648, "1e-2147483648"),
     ("1e-2147483649", false, "1", -2147483649, "1e-2147483649"),
     ("10e2147483647", false, "1", 2147483648, "1e2147483648"),
+    ("1e2147483648", false, "1", 2147483648, "1e2147483648"),
     ("12e2147483647", false, "12", 2147483647, "1.2e2147483648"),
     (
         "10e-9223372036854775809",
@@ -111,6 +112,31 @@ fn longest_plain_texts(rt: HostRuntime) -> Result<(), Fail> {
         number(&rt, "5e-324")?.to_string(rt.alloc())?.as_str(),
         small.as_str()
     );
+    Ok(())
+}
+
+/// Texts of numbers, and what is put into a buffer for them.
+const SHORT: [(&str, Option<&str>); 7] = [
+    ("0", Some("0")),
+    ("12345678", Some("12345678")),
+    ("1234567890123456", Some("1234567890123456")),
+    ("1e8", Some("100000000")),
+    ("12345678.9", Some("12345678.9")),
+    ("0.0000001", Some("0.0000001")),
+    ("0.01234567890123456", None),
+];
+
+#[test]
+fn short_texts(rt: HostRuntime) -> Result<(), Fail> {
+    for (text, expected) in SHORT {
+        let mut buffer = [0; 32];
+        let written = match number(&rt, text)?.write_short(&mut buffer) {
+            Some(count) => buffer.get(..count),
+            None => None,
+        };
+        assert_eq!(rt; written, expected.map(str::as_bytes), "{text}");
+    }
+    assert_eq!(rt; JsonNumber::zero().write_short(&mut [0; 31]), None);
     Ok(())
 }
 
