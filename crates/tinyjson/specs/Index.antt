@@ -7,7 +7,7 @@ use Rattle.std.specs.Str.{bytes_eq, chars}
 use Rattle.std.specs.String.{string_bytes}
 use Rattle.std.specs.Vec.{with_item}
 use Rattle.tinyjson.specs.Access.{JsonMap, array_part, object_part}
-use Rattle.tinyjson_grammar.specs.Tree.{Tree, null, boolean, number, string, array, object, Items, no_items, item, find, put}
+use Rattle.tinyjson_grammar.specs.Tree.{Tree, array, object, Items, no_items, item, find, put}
 use Rattle.tinyjson.specs.View.{view}
 use Rattle.tinyjson.specs.declared.value.JsonValue as made
 use Rattle.tinyjson.specs.declared.value.JsonValue.{JsonValue}

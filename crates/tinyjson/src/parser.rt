@@ -7,12 +7,8 @@ ghost use Rattle.tinyjson_grammar.specs.Position.{origin};
 
 mod containers;
 mod error;
-mod escape;
-mod number;
 mod reader;
 mod stack;
-mod string;
-mod tokens;
 
 use crate::value::JsonValue;
 pub use error::{JsonParseError, JsonParseErrorKind};
@@ -58,9 +54,9 @@ impl<I: Iterator<Item = char>> Model for JsonParser<I> {
 
     ghost view = { λ p. record {
       limit = p.limit;
-      position = position_at p.reader.source.cursor.line p.reader.source.cursor.column;
-      ahead = p.reader.source.cursor.peeked;
-      source = cond p.reader.source.cursor.done None (Some p.reader.source.cursor.it);
+      position = position_at p.reader.tokens.source.cursor.line p.reader.tokens.source.cursor.column;
+      ahead = p.reader.tokens.source.cursor.peeked;
+      source = cond p.reader.tokens.source.cursor.done None (Some p.reader.tokens.source.cursor.it);
     } };
 }
 

@@ -14,8 +14,9 @@ use Rattle.tinyjson_grammar.specs.Machine.{step, fits, quoted, plain, Frame, in_
 use Rattle.tinyjson_grammar.specs.Tree.{is_string}
 use Rattle.tinyjson_grammar.specs.declared.error.JsonParseErrorKind.TheVariants.{TooDeep, KeyNotString, ExpectedCommaOrBracket, ExpectedCommaOrBrace, ExpectedColon}
 use Rattle.tinyjson_source.specs.Source.{Sight, Takes}
-use Rattle.tinyjson.specs.private.Steps.{BeginsLiteral, wanting, onward, Leads}
-use Rattle.tinyjson.proofs.Reading.Steps.{Leads_nil, Leads_one, Leads_shown, Leads_end, end_first, end_awaited}
+use Rattle.tinyjson_tokens.specs.Steps.{wanting, onward, Leads}
+use Rattle.tinyjson.specs.private.Steps.{BeginsLiteral}
+use Rattle.tinyjson_tokens.proofs.Callers.{Leads_nil, Leads_one, Leads_shown, Leads_end, end_first, end_awaited}
 use Rattle.tinyjson.proofs.Values.Equality.{view_Array, view_Object}
 
 pub view_Null : view is.Null ≡ null

@@ -11,7 +11,8 @@ use Rattle.tinyjson.specs.Error.{error_position}
 use Rattle.tinyjson_grammar.specs.Grammar.{IsText, IsAccepted}
 use Rattle.tinyjson_grammar.specs.Machine.{Frame, Phase, State, Next, next, stop, awaited, finished, accepted, refused, step, end, run, reach, reach_on, strictly}
 use Rattle.tinyjson_grammar.specs.Position.{advance, origin}
-use Rattle.tinyjson.specs.private.Steps.{IsNext, IsLate, IsHeld, Leads, Halts, Refuses, ReadsText, Grows, behind, onward, outcome}
+use Rattle.tinyjson_tokens.specs.Steps.{IsNext, IsLate, IsHeld, Leads, Halts, Refuses, behind, onward, outcome}
+use Rattle.tinyjson.specs.private.Steps.{ReadsText, Grows}
 use Rattle.tinyjson_grammar.specs.Refusal.{IsInterrupted, IsRefusal, MayGrow, RefusalSays}
 use Rattle.tinyjson_grammar.specs.Tree.{Tree}
 use Rattle.tinyjson.specs.View.{view}
@@ -22,7 +23,7 @@ use Rattle.tinyjson.specs.declared.value.JsonValue.{JsonValue}
 use Rattle.tinyjson_grammar.proofs.Callers.{ranges}
 use Rattle.tinyjson_grammar.proofs.Callers.{interrupted, interrupted_late}
 use Rattle.tinyjson_grammar.proofs.Callers.{accepts, refuses}
-use Rattle.tinyjson.proofs.Reading.Steps.{Comes_outcome}
+use Rattle.tinyjson_tokens.proofs.Callers.{Comes_outcome}
 
 end_finished : (limit : Option ℕ) (t : Tree) → outcome limit (next [] (finished t)) [] ≡ accepted t
 unfolding run end

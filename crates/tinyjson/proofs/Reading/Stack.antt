@@ -7,13 +7,13 @@ use Rattle.tinyjson.specs.View.{view, text, items_view}
 use Rattle.tinyjson.specs.Access.{JsonMap}
 use Rattle.tinyjson_grammar.specs.Machine.{Frame, in_array, at_key, at_value, awaited, after, colon, Next, next, stop, complete}
 use Rattle.tinyjson.specs.private.Stack.{gather, waiting, frames_over, whole_over, own_members, other_maps, Lies, open_of, maps_of, frames, at, HasWhole, AwaitsKey, TakesValue, BeginsMember, ClosesArray, ClosesObject}
-use Rattle.tinyjson.specs.private.Steps.{IsNext, onward, Leads, Halts}
+use Rattle.tinyjson_tokens.specs.Steps.{IsNext, onward, Leads, Halts}
 use Rattle.tinyjson_source.specs.Source.{Sight, Whites}
 use Rattle.tinyjson_grammar.specs.Characters.{is_white}
 use Rattle.tinyjson_grammar.specs.Kind.{kind_of}
 use Rattle.tinyjson_grammar.specs.declared.error.JsonParseErrorKind.TheVariants.{KeyNotString, ExpectedColon}
 use Rattle.tinyjson.proofs.Reading.Containers.{no_key, colon_read, colon_other, object_comma}
-use Rattle.tinyjson.proofs.Reading.Steps.{Leads_whites, Halts_here, white_after}
+use Rattle.tinyjson_tokens.proofs.Callers.{Leads_whites, Halts_here, white_after}
 use Rattle.tinyjson.specs.declared.parser.stack.Frame.{Frame as Open}
 use Rattle.tinyjson.specs.declared.parser.stack.Frame.TheVariants as container
 use Rattle.tinyjson.specs.declared.parser.stack.Stack.{Stack}

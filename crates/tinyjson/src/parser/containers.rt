@@ -3,7 +3,7 @@ ghost use Rattle.std.specs.Prelude.{◌≡◌, ◌<◌, ◌≤◌, true, false, 
 ghost use Rattle.std.specs.Prelude.{ℕ};
 ghost use Rattle.tinyjson_grammar.specs.Machine.{awaited, colon, next, complete, fits};
 ghost use Rattle.tinyjson.specs.private.Stack.{at, frames, AwaitsKey, Innermost, IsSound};
-ghost use Rattle.tinyjson.specs.private.Steps.{Reads};
+ghost use Rattle.tinyjson_tokens.specs.Steps.{Reads};
 ghost use Rattle.tinyjson_grammar.specs.Tree.{number};
 ghost use Rattle.tinyjson.specs.View.{view, text};
 ghost use Rattle.tinyjson.specs.declared.parser.stack.Frame.TheVariants as container;
@@ -11,10 +11,10 @@ ghost use Rattle.tinyjson.specs.declared.parser.stack.Frame.TheVariants as conta
 use super::error::JsonParseErrorKind;
 use super::reader::Reader;
 use super::stack::{Frame, Stack};
-use super::tokens::Tokens;
 use crate::value::{JsonKind, JsonValue};
 use std::collections::HashMap;
 use tinyjson_number::JsonNumber;
+use tinyjson_tokens::Tokens;
 
 /// Whether one more container may be opened.
 fn fits(limit: Option<usize>, depth: usize) -> bool
@@ -34,21 +34,21 @@ impl<S: Tokens> Reader<S> {
         limit: Option<usize>,
         stack: &mut Stack,
     ) -> Result<bool, JsonParseErrorKind>
-        requires shown { S.sight.shows self.old.source (Some 91) }
+        requires shown { S.sight.shows self.old.tokens.source (Some 91) }
         requires sound { IsSound stack.old false }
-        ensures reads { Reads S.sight limit self.old.source (next (frames stack.old) awaited) result
-            (at stack.new) self.new.source }
+        ensures reads { Reads S.sight limit self.old.tokens.source
+            (next (frames stack.old) awaited) result (at stack.new) self.new.tokens.source }
         ensures sound { IfOk result (IsSound stack.new) }
-        ensures left { OnOk result (S.left self.new.source < S.left self.old.source) }
+        ensures left { OnOk result (S.left self.new.tokens.source < S.left self.old.tokens.source) }
     {
         if !fits(limit, stack.depth()) {
             return Err(JsonParseErrorKind::TooDeep('['));
         }
-        self.source.consume('[');
-        match self.source.skip_white() {
+        self.tokens.source.consume('[');
+        match self.tokens.source.skip_white() {
             Some(']') => {
-                self.source.consume(']');
-                self.put(stack, JsonValue::Array(Vec::new(self.alloc)))
+                self.tokens.source.consume(']');
+                self.put(stack, JsonValue::Array(Vec::new(self.tokens.alloc)))
             }
             _ => {
                 if stack.open_array().is_err() {
@@ -65,21 +65,21 @@ impl<S: Tokens> Reader<S> {
         limit: Option<usize>,
         stack: &mut Stack,
     ) -> Result<bool, JsonParseErrorKind>
-        requires shown { S.sight.shows self.old.source (Some 123) }
+        requires shown { S.sight.shows self.old.tokens.source (Some 123) }
         requires sound { IsSound stack.old false }
-        ensures reads { Reads S.sight limit self.old.source (next (frames stack.old) awaited) result
-            (at stack.new) self.new.source }
+        ensures reads { Reads S.sight limit self.old.tokens.source
+            (next (frames stack.old) awaited) result (at stack.new) self.new.tokens.source }
         ensures sound { IfOk result (IsSound stack.new) }
-        ensures left { OnOk result (S.left self.new.source < S.left self.old.source) }
+        ensures left { OnOk result (S.left self.new.tokens.source < S.left self.old.tokens.source) }
     {
         if !fits(limit, stack.depth()) {
             return Err(JsonParseErrorKind::TooDeep('{'));
         }
-        self.source.consume('{');
-        match self.source.skip_white() {
+        self.tokens.source.consume('{');
+        match self.tokens.source.skip_white() {
             Some('}') => {
-                self.source.consume('}');
-                self.put(stack, JsonValue::Object(HashMap::new(self.alloc)))
+                self.tokens.source.consume('}');
+                self.put(stack, JsonValue::Object(HashMap::new(self.tokens.alloc)))
             }
             _ => {
                 if stack.open_object().is_err() {
@@ -98,11 +98,11 @@ impl<S: Tokens> Reader<S> {
         value: JsonValue,
     ) -> Result<bool, JsonParseErrorKind>
         requires sound { IsSound stack.old false }
-        ensures reads { (limit : Option ℕ) → Reads S.sight limit self.old.source
+        ensures reads { (limit : Option ℕ) → Reads S.sight limit self.old.tokens.source
             (complete true (frames stack.old) (view value) true) result (at stack.new)
-            self.new.source }
+            self.new.tokens.source }
         ensures sound { IfOk result (IsSound stack.new) }
-        ensures left { OnOk result (S.left self.new.source ≤ S.left self.old.source) }
+        ensures left { OnOk result (S.left self.new.tokens.source ≤ S.left self.old.tokens.source) }
     {
         if let Some(Frame::Object { .. }) = stack.innermost() {
             return self.use_as_key(stack, value);
@@ -121,11 +121,11 @@ impl<S: Tokens> Reader<S> {
         decimal: JsonNumber,
     ) -> Result<bool, JsonParseErrorKind>
         requires sound { IsSound stack.old false }
-        ensures reads { (limit : Option ℕ) → Reads S.sight limit self.old.source
+        ensures reads { (limit : Option ℕ) → Reads S.sight limit self.old.tokens.source
             (complete true (frames stack.old) (number decimal.decimal) true) result
-            (at stack.new) self.new.source }
+            (at stack.new) self.new.tokens.source }
         ensures sound { IfOk result (IsSound stack.new) }
-        ensures left { OnOk result (S.left self.new.source ≤ S.left self.old.source) }
+        ensures left { OnOk result (S.left self.new.tokens.source ≤ S.left self.old.tokens.source) }
     {
         if let Some(Frame::Object { .. }) = stack.innermost() {
             return Err(JsonParseErrorKind::KeyNotString(JsonKind::Number));
@@ -145,11 +145,11 @@ impl<S: Tokens> Reader<S> {
     ) -> Result<bool, JsonParseErrorKind>
         requires sound { IsSound stack.old false }
         requires awaits { AwaitsKey stack.old }
-        ensures reads { (limit : Option ℕ) → Reads S.sight limit self.old.source
+        ensures reads { (limit : Option ℕ) → Reads S.sight limit self.old.tokens.source
             (complete true (frames stack.old) (view value) true) result (at stack.new)
-            self.new.source }
+            self.new.tokens.source }
         ensures sound { IfOk result (IsSound stack.new) }
-        ensures left { OnOk result (S.left self.new.source ≤ S.left self.old.source) }
+        ensures left { OnOk result (S.left self.new.tokens.source ≤ S.left self.old.tokens.source) }
     {
         match value {
             JsonValue::String(key) => self.colon(stack, key),
@@ -166,15 +166,15 @@ impl<S: Tokens> Reader<S> {
     fn key(&mut self, stack: &mut Stack) -> Result<bool, JsonParseErrorKind>
         requires sound { IsSound stack.old false }
         requires awaits { AwaitsKey stack.old }
-        ensures reads { (limit : Option ℕ) → Reads S.sight limit self.old.source
-            (next (frames stack.old) awaited) result (at stack.new) self.new.source }
+        ensures reads { (limit : Option ℕ) → Reads S.sight limit self.old.tokens.source
+            (next (frames stack.old) awaited) result (at stack.new) self.new.tokens.source }
         ensures sound { IfOk result (IsSound stack.new) }
-        ensures left { OnOk result (S.left self.new.source ≤ S.left self.old.source) }
+        ensures left { OnOk result (S.left self.new.tokens.source ≤ S.left self.old.tokens.source) }
     {
-        match self.source.skip_white() {
+        match self.tokens.source.skip_white() {
             Some('"') => {
-                self.source.consume('"');
-                let key = self.string()?;
+                self.tokens.source.consume('"');
+                let key = self.tokens.string()?;
                 self.colon(stack, key)
             }
             _ => Ok(false),
@@ -186,21 +186,22 @@ impl<S: Tokens> Reader<S> {
     fn colon(&mut self, stack: &mut Stack, key: String) -> Result<bool, JsonParseErrorKind>
         requires sound { IsSound stack.old false }
         requires awaits { AwaitsKey stack.old }
-        ensures reads { (limit : Option ℕ) → Reads S.sight limit self.old.source
-            (next (frames stack.old) (colon (text key))) result (at stack.new) self.new.source }
+        ensures reads { (limit : Option ℕ) → Reads S.sight limit self.old.tokens.source
+            (next (frames stack.old) (colon (text key))) result (at stack.new)
+            self.new.tokens.source }
         ensures sound { IfOk result (IsSound stack.new) }
-        ensures left { OnOk result (S.left self.new.source ≤ S.left self.old.source) }
+        ensures left { OnOk result (S.left self.new.tokens.source ≤ S.left self.old.tokens.source) }
     {
-        match self.source.skip_white() {
+        match self.tokens.source.skip_white() {
             Some(':') => {
-                self.source.consume(':');
+                self.tokens.source.consume(':');
                 if stack.begin_member(key).is_err() {
                     return Err(JsonParseErrorKind::OutOfMemory);
                 }
                 Ok(false)
             }
             Some(c) => {
-                self.source.consume(c);
+                self.tokens.source.consume(c);
                 Err(JsonParseErrorKind::ExpectedColon(c))
             }
             None => Err(JsonParseErrorKind::UnexpectedEof),
@@ -211,25 +212,25 @@ impl<S: Tokens> Reader<S> {
     fn after_item(&mut self, stack: &mut Stack, values: usize) -> Result<bool, JsonParseErrorKind>
         requires sound { IsSound stack.old true }
         requires array { Innermost stack.old (container.Array values) }
-        ensures reads { (limit : Option ℕ) → Reads S.sight limit self.old.source
-            (at stack.old true) result (at stack.new) self.new.source }
+        ensures reads { (limit : Option ℕ) → Reads S.sight limit self.old.tokens.source
+            (at stack.old true) result (at stack.new) self.new.tokens.source }
         ensures sound { IfOk result (IsSound stack.new) }
-        ensures left { OnOk result (S.left self.new.source < S.left self.old.source) }
+        ensures left { OnOk result (S.left self.new.tokens.source < S.left self.old.tokens.source) }
     {
-        match self.source.skip_white() {
+        match self.tokens.source.skip_white() {
             Some(',') => {
-                self.source.consume(',');
+                self.tokens.source.consume(',');
                 Ok(false)
             }
             Some(']') => {
                 let Ok(array) = stack.close_array(values) else {
                     return Err(JsonParseErrorKind::OutOfMemory);
                 };
-                self.source.consume(']');
+                self.tokens.source.consume(']');
                 self.put(stack, array)
             }
             Some(c) => {
-                self.source.consume(c);
+                self.tokens.source.consume(c);
                 Err(JsonParseErrorKind::ExpectedCommaOrBracket(c))
             }
             None => Err(JsonParseErrorKind::UnexpectedEof),
@@ -245,28 +246,28 @@ impl<S: Tokens> Reader<S> {
     ) -> Result<bool, JsonParseErrorKind>
         requires sound { IsSound stack.old true }
         requires member { Innermost stack.old (container.Member values keys) }
-        ensures reads { (limit : Option ℕ) → Reads S.sight limit self.old.source
-            (at stack.old true) result (at stack.new) self.new.source }
+        ensures reads { (limit : Option ℕ) → Reads S.sight limit self.old.tokens.source
+            (at stack.old true) result (at stack.new) self.new.tokens.source }
         ensures sound { IfOk result (IsSound stack.new) }
-        ensures left { OnOk result (S.left self.new.source < S.left self.old.source) }
+        ensures left { OnOk result (S.left self.new.tokens.source < S.left self.old.tokens.source) }
     {
-        match self.source.skip_white() {
+        match self.tokens.source.skip_white() {
             Some(',') => {
                 if stack.end_member(values, keys).is_err() {
                     return Err(JsonParseErrorKind::OutOfMemory);
                 }
-                self.source.consume(',');
+                self.tokens.source.consume(',');
                 self.key(stack)
             }
             Some('}') => {
                 let Ok(object) = stack.close_object(values, keys) else {
                     return Err(JsonParseErrorKind::OutOfMemory);
                 };
-                self.source.consume('}');
+                self.tokens.source.consume('}');
                 self.put(stack, object)
             }
             Some(c) => {
-                self.source.consume(c);
+                self.tokens.source.consume(c);
                 Err(JsonParseErrorKind::ExpectedCommaOrBrace(c))
             }
             None => Err(JsonParseErrorKind::UnexpectedEof),
@@ -281,10 +282,10 @@ impl<S: Tokens> Reader<S> {
     ) -> Result<bool, JsonParseErrorKind>
         requires sound { IsSound stack.old true }
         requires innermost { Innermost stack.old container }
-        ensures reads { (limit : Option ℕ) → Reads S.sight limit self.old.source
-            (at stack.old true) result (at stack.new) self.new.source }
+        ensures reads { (limit : Option ℕ) → Reads S.sight limit self.old.tokens.source
+            (at stack.old true) result (at stack.new) self.new.tokens.source }
         ensures sound { IfOk result (IsSound stack.new) }
-        ensures left { OnOk result (S.left self.new.source < S.left self.old.source) }
+        ensures left { OnOk result (S.left self.new.tokens.source < S.left self.old.tokens.source) }
     {
         match container {
             Frame::Array { values } => self.after_item(stack, values),

@@ -1,21 +1,23 @@
 //! The reader: values by their first character, the loop over open containers, literals.
-ghost use Rattle.std.specs.Prelude.{◌≡◌, ℕ, ◌<◌, ◌≤◌, List, [], true, false, OnOk, IfOk, IfErr};
+ghost use Rattle.std.specs.Prelude.{◌≡◌, ℕ, ◌<◌, List, [], true, false, OnOk, IfOk, IfErr};
 ghost use Rattle.std.specs.Prelude.{IsTrue, Option, Some, None};
 ghost use Rattle.tinyjson_grammar.specs.Characters.{is_white};
 ghost use Rattle.tinyjson_grammar.specs.Refusal.{begins_growth};
 ghost use Rattle.tinyjson_grammar.specs.Machine.{Frame, awaited, complete, finished, next};
 ghost use Rattle.tinyjson.specs.private.Stack.{IsSound, at, frames, open_of};
-ghost use Rattle.tinyjson.specs.private.Steps.{BeginsLiteral, Grows, GrowsFor, NeedsNone, Reads};
-ghost use Rattle.tinyjson.specs.private.Steps.{ReadsText, wanting};
+ghost use Rattle.tinyjson.specs.private.Steps.{BeginsLiteral, Grows, GrowsFor, ReadsText};
+ghost use Rattle.tinyjson_tokens.specs.NumberSteps.{BeginsNumber};
+ghost use Rattle.tinyjson_tokens.specs.Steps.{NeedsNone, Reads};
 ghost use Rattle.tinyjson_grammar.specs.Tree.{Tree};
 ghost use Rattle.tinyjson.specs.View.{view};
 ghost use Rattle.tinyjson_grammar.specs.declared.error.JsonParseErrorKind.TheVariants.{OutOfMemory};
 
 use super::error::{JsonParseError, JsonParseErrorKind};
 use super::stack::Stack;
-use super::tokens::Tokens;
 use crate::value::JsonValue;
 use std::alloc::Global;
+use tinyjson_number::JsonNumber;
+use tinyjson_tokens::{TokenReader, Tokens};
 
 /// Reads tokens and values from a source of characters.
 #[derive(Drop)]
@@ -23,69 +25,40 @@ pub(super) struct Reader<S>
 where
     S: Tokens,
 {
-    pub(super) alloc: Global,
-    pub(super) source: S,
-    /// The digits of the number that is being read.
-    pub(super) digit_buffer: String,
-    /// The characters of a string that is read piece by piece, and the units behind them.
-    pub(super) buffer: String,
-    pub(super) units: Vec<u16>,
+    pub(super) tokens: TokenReader<S>,
 }
 
 impl<S: Tokens> Reader<S> {
     pub(super) fn new(alloc: Global, source: S) -> Self
-        ensures { result.source ≡ source }
+        ensures { result.tokens.source ≡ source }
     {
         Reader {
-            alloc,
-            source,
-            digit_buffer: String::new(alloc),
-            buffer: String::new(alloc),
-            units: Vec::new(alloc),
+            tokens: TokenReader::new(alloc, source),
         }
-    }
-
-    /// Reads these letters.
-    fn letters(&mut self, letters: &[char]) -> Result<(), JsonParseErrorKind>
-        ensures reads { (limit : Option ℕ) (fs : List Frame) (t : Tree) →
-            Reads S.sight limit self.old.source (wanting fs letters.now t) result
-            (λ _. complete true fs t true) self.new.source }
-        ensures memory { NeedsNone result }
-        ensures left { S.left self.new.source ≤ S.left self.old.source }
-    {
-        for letter in letters {
-            let Some(c) = self.source.bump() else {
-                return Err(JsonParseErrorKind::UnexpectedEof);
-            };
-            if c != *letter {
-                return Err(JsonParseErrorKind::UnexpectedInLiteral(c));
-            }
-        }
-        Ok(())
     }
 
     /// Reads the literal that begins with this letter, which comes next.
     fn literal(&mut self, first: char) -> Result<JsonValue, JsonParseErrorKind>
-        requires shown { S.sight.shows self.old.source (Some first) }
+        requires shown { S.sight.shows self.old.tokens.source (Some first) }
         requires begins { BeginsLiteral first }
         ensures reads { (limit : Option ℕ) (fs : List Frame) →
-            Reads S.sight limit self.old.source (next fs awaited) result
-            (λ v. complete true fs (view v) true) self.new.source }
+            Reads S.sight limit self.old.tokens.source (next fs awaited) result
+            (λ v. complete true fs (view v) true) self.new.tokens.source }
         ensures memory { NeedsNone result }
-        ensures left { OnOk result (S.left self.new.source < S.left self.old.source) }
+        ensures left { OnOk result (S.left self.new.tokens.source < S.left self.old.tokens.source) }
     {
-        self.source.consume(first);
+        self.tokens.source.consume(first);
         match first {
             'n' => {
-                self.letters(&['u', 'l', 'l'])?;
+                self.tokens.letters(&['u', 'l', 'l'])?;
                 Ok(JsonValue::Null)
             }
             't' => {
-                self.letters(&['r', 'u', 'e'])?;
+                self.tokens.letters(&['r', 'u', 'e'])?;
                 Ok(JsonValue::Boolean(true))
             }
             _ => {
-                self.letters(&['a', 'l', 's', 'e'])?;
+                self.tokens.letters(&['a', 'l', 's', 'e'])?;
                 Ok(JsonValue::Boolean(false))
             }
         }
@@ -94,13 +67,13 @@ impl<S: Tokens> Reader<S> {
     /// Reads the literal that begins with this letter, and puts it where it belongs.
     #[inline(always)]
     fn literal_value(&mut self, stack: &mut Stack, first: char) -> Result<bool, JsonParseErrorKind>
-        requires shown { S.sight.shows self.old.source (Some first) }
+        requires shown { S.sight.shows self.old.tokens.source (Some first) }
         requires begins { BeginsLiteral first }
         requires sound { IsSound stack.old false }
-        ensures reads { (limit : Option ℕ) → Reads S.sight limit self.old.source
-            (next (frames stack.old) awaited) result (at stack.new) self.new.source }
+        ensures reads { (limit : Option ℕ) → Reads S.sight limit self.old.tokens.source
+            (next (frames stack.old) awaited) result (at stack.new) self.new.tokens.source }
         ensures sound { IfOk result (IsSound stack.new) }
-        ensures left { OnOk result (S.left self.new.source < S.left self.old.source) }
+        ensures left { OnOk result (S.left self.new.tokens.source < S.left self.old.tokens.source) }
     {
         let value = self.literal(first)?;
         self.put(stack, value)
@@ -109,16 +82,54 @@ impl<S: Tokens> Reader<S> {
     /// Reads the string whose quote comes next, and puts it where it belongs.
     #[inline(always)]
     fn string_value(&mut self, stack: &mut Stack) -> Result<bool, JsonParseErrorKind>
-        requires shown { S.sight.shows self.old.source (Some 34) }
+        requires shown { S.sight.shows self.old.tokens.source (Some 34) }
         requires sound { IsSound stack.old false }
-        ensures reads { (limit : Option ℕ) → Reads S.sight limit self.old.source
-            (next (frames stack.old) awaited) result (at stack.new) self.new.source }
+        ensures reads { (limit : Option ℕ) → Reads S.sight limit self.old.tokens.source
+            (next (frames stack.old) awaited) result (at stack.new) self.new.tokens.source }
         ensures sound { IfOk result (IsSound stack.new) }
-        ensures left { OnOk result (S.left self.new.source < S.left self.old.source) }
+        ensures left { OnOk result (S.left self.new.tokens.source < S.left self.old.tokens.source) }
     {
-        self.source.consume('"');
-        let string = self.string()?;
+        self.tokens.source.consume('"');
+        let string = self.tokens.string()?;
         self.put(stack, JsonValue::String(string))
+    }
+
+    /// Reads the number whose first character, a minus sign or a digit, comes next, and puts it where it
+    /// belongs.
+    #[inline(always)]
+    fn number(&mut self, stack: &mut Stack) -> Result<bool, JsonParseErrorKind>
+        requires begins { BeginsNumber S.sight self.old.tokens.source }
+        requires sound { IsSound stack.old false }
+        ensures reads { (limit : Option ℕ) → Reads S.sight limit self.old.tokens.source
+            (next (frames stack.old) awaited) result (at stack.new) self.new.tokens.source }
+        ensures sound { IfOk result (IsSound stack.new) }
+        ensures left { OnOk result (S.left self.new.tokens.source < S.left self.old.tokens.source) }
+    {
+        if let Some((parts, behind)) = self.tokens.source.numeral() {
+            if let Ok(number) = JsonNumber::from_parts(self.tokens.alloc, parts) {
+                self.tokens.source = behind;
+                return self.put_number(stack, number);
+            }
+        }
+        self.long_number(stack)
+    }
+
+    /// Reads the number by its exponent, or piece by piece.
+    #[inline(never)]
+    fn long_number(&mut self, stack: &mut Stack) -> Result<bool, JsonParseErrorKind>
+        requires begins { BeginsNumber S.sight self.old.tokens.source }
+        requires sound { IsSound stack.old false }
+        ensures reads { (limit : Option ℕ) → Reads S.sight limit self.old.tokens.source
+            (next (frames stack.old) awaited) result (at stack.new) self.new.tokens.source }
+        ensures sound { IfOk result (IsSound stack.new) }
+        ensures left { OnOk result (S.left self.new.tokens.source < S.left self.old.tokens.source) }
+    {
+        if let Some((number, behind)) = self.tokens.source.scientific(self.tokens.alloc) {
+            self.tokens.source = behind;
+            return self.put_number(stack, number);
+        }
+        let number = self.tokens.gathered_number()?;
+        self.put_number(stack, number)
     }
 
     /// Reads the value that begins with this character, or opens a container; `true` where a value is whole.
@@ -128,13 +139,13 @@ impl<S: Tokens> Reader<S> {
         stack: &mut Stack,
         first: char,
     ) -> Result<bool, JsonParseErrorKind>
-        requires shown { S.sight.shows self.old.source (Some first) }
+        requires shown { S.sight.shows self.old.tokens.source (Some first) }
         requires no_white { is_white first ≡ false }
         requires sound { IsSound stack.old false }
-        ensures reads { Reads S.sight limit self.old.source (next (frames stack.old) awaited) result
-            (at stack.new) self.new.source }
+        ensures reads { Reads S.sight limit self.old.tokens.source
+            (next (frames stack.old) awaited) result (at stack.new) self.new.tokens.source }
         ensures sound { IfOk result (IsSound stack.new) }
-        ensures left { OnOk result (S.left self.new.source < S.left self.old.source) }
+        ensures left { OnOk result (S.left self.new.tokens.source < S.left self.old.tokens.source) }
         ensures memory { ¬ (BeginsLiteral first) → GrowsFor first result }
     {
         match first {
@@ -150,12 +161,12 @@ impl<S: Tokens> Reader<S> {
     /// Reads white space and a value, or opens a container.
     fn next(&mut self, limit: Option<usize>, stack: &mut Stack) -> Result<bool, JsonParseErrorKind>
         requires sound { IsSound stack.old false }
-        ensures reads { Reads S.sight limit self.old.source (next (frames stack.old) awaited) result
-            (at stack.new) self.new.source }
+        ensures reads { Reads S.sight limit self.old.tokens.source
+            (next (frames stack.old) awaited) result (at stack.new) self.new.tokens.source }
         ensures sound { IfOk result (IsSound stack.new) }
-        ensures left { OnOk result (S.left self.new.source < S.left self.old.source) }
+        ensures left { OnOk result (S.left self.new.tokens.source < S.left self.old.tokens.source) }
     {
-        match self.source.skip_white() {
+        match self.tokens.source.skip_white() {
             Some(first) => self.value(limit, stack, first),
             None => Err(JsonParseErrorKind::UnexpectedEof),
         }
@@ -164,13 +175,13 @@ impl<S: Tokens> Reader<S> {
     /// The end of the text.
     fn end(&mut self) -> Result<(), JsonParseErrorKind>
         ensures reads { (limit : Option ℕ) (t : Tree) →
-            Reads S.sight limit self.old.source (next [] (finished t)) result
-            (λ _. next [] (finished t)) self.new.source }
-        ensures end { OnOk result (S.sight.shows self.new.source None) }
+            Reads S.sight limit self.old.tokens.source (next [] (finished t)) result
+            (λ _. next [] (finished t)) self.new.tokens.source }
+        ensures end { OnOk result (S.sight.shows self.new.tokens.source None) }
         ensures memory { NeedsNone result }
     {
-        self.source.skip_white();
-        match self.source.bump() {
+        self.tokens.source.skip_white();
+        match self.tokens.source.bump() {
             None => Ok(()),
             Some(c) => Err(JsonParseErrorKind::ExpectedEof(c)),
         }
@@ -179,14 +190,16 @@ impl<S: Tokens> Reader<S> {
     /// Reads a whole text; a refusal tells where the source stands. What it gives up is freed by a loop. A
     /// literal alone takes no memory.
     pub(super) fn text(&mut self, limit: Option<usize>) -> Result<JsonValue, JsonParseError>
-        ensures reads { ReadsText S.sight limit self.old.source result self.new.source }
-        ensures end { OnOk result (S.sight.shows self.new.source None) }
-        ensures memory { IfErr result (λ e. e.kind ≡ OutOfMemory → Grows S.sight self.old.source) }
+        ensures reads { ReadsText S.sight limit self.old.tokens.source result
+            self.new.tokens.source }
+        ensures end { OnOk result (S.sight.shows self.new.tokens.source None) }
+        ensures memory { IfErr result (λ e.
+            e.kind ≡ OutOfMemory → Grows S.sight self.old.tokens.source) }
     {
         match self.text_value(limit) {
             Ok(value) => Ok(value),
             Err(kind) => {
-                let (line, column) = self.source.position();
+                let (line, column) = self.tokens.source.position();
                 Err(JsonParseError { kind, line, column })
             }
         }
@@ -194,19 +207,20 @@ impl<S: Tokens> Reader<S> {
 
     /// The value of a whole text.
     fn text_value(&mut self, limit: Option<usize>) -> Result<JsonValue, JsonParseErrorKind>
-        ensures reads { Reads S.sight limit self.old.source (next [] awaited) result
-            (λ v. next [] (finished (view v))) self.new.source }
-        ensures end { OnOk result (S.sight.shows self.new.source None) }
-        ensures memory { IfErr result (λ kind. kind ≡ OutOfMemory → Grows S.sight self.old.source) }
+        ensures reads { Reads S.sight limit self.old.tokens.source (next [] awaited) result
+            (λ v. next [] (finished (view v))) self.new.tokens.source }
+        ensures end { OnOk result (S.sight.shows self.new.tokens.source None) }
+        ensures memory { IfErr result (λ kind.
+            kind ≡ OutOfMemory → Grows S.sight self.old.tokens.source) }
     {
-        match self.source.skip_white() {
+        match self.tokens.source.skip_white() {
             Some(first @ ('n' | 't' | 'f')) => {
                 let value = self.literal(first)?;
                 self.end()?;
                 Ok(value)
             }
             Some(first) => {
-                let mut stack = Stack::new(self.alloc);
+                let mut stack = Stack::new(self.tokens.alloc);
                 let read = self.values(limit, &mut stack, first);
                 stack.abandon();
                 read
@@ -222,13 +236,14 @@ impl<S: Tokens> Reader<S> {
         stack: &mut Stack,
         first: char,
     ) -> Result<JsonValue, JsonParseErrorKind>
-        requires shown { S.sight.shows self.old.source (Some first) }
+        requires shown { S.sight.shows self.old.tokens.source (Some first) }
         requires no_white { is_white first ≡ false }
         requires no_literal { ¬ (BeginsLiteral first) }
         requires sound { IsSound stack.old false }
-        ensures reads { Reads S.sight limit self.old.source (next (frames stack.old) awaited) result
-            (λ v. next [] (finished (view v))) self.new.source }
-        ensures end { OnOk result (S.sight.shows self.new.source None) }
+        ensures reads { Reads S.sight limit self.old.tokens.source
+            (next (frames stack.old) awaited) result (λ v. next [] (finished (view v)))
+            self.new.tokens.source }
+        ensures end { OnOk result (S.sight.shows self.new.tokens.source None) }
         ensures memory { IfErr result (λ kind. kind ≡ OutOfMemory → IsTrue (begins_growth first)) }
     {
         let whole = self.value(limit, stack, first)?;
@@ -243,9 +258,9 @@ impl<S: Tokens> Reader<S> {
         whole: bool,
     ) -> Result<JsonValue, JsonParseErrorKind>
         requires sound { IsSound stack.old whole }
-        ensures reads { Reads S.sight limit self.old.source (at stack.old whole) result
-            (λ v. next [] (finished (view v))) self.new.source }
-        ensures end { OnOk result (S.sight.shows self.new.source None) }
+        ensures reads { Reads S.sight limit self.old.tokens.source (at stack.old whole) result
+            (λ v. next [] (finished (view v))) self.new.tokens.source }
+        ensures end { OnOk result (S.sight.shows self.new.tokens.source None) }
     {
         let mut whole = whole;
         loop {
@@ -263,9 +278,9 @@ impl<S: Tokens> Reader<S> {
     fn last(&mut self, stack: &mut Stack) -> Result<JsonValue, JsonParseErrorKind>
         requires sound { IsSound stack.old true }
         requires none { open_of stack.old ≡ [] }
-        ensures reads { (limit : Option ℕ) → Reads S.sight limit self.old.source
-            (at stack.old true) result (λ v. next [] (finished (view v))) self.new.source }
-        ensures end { OnOk result (S.sight.shows self.new.source None) }
+        ensures reads { (limit : Option ℕ) → Reads S.sight limit self.old.tokens.source
+            (at stack.old true) result (λ v. next [] (finished (view v))) self.new.tokens.source }
+        ensures end { OnOk result (S.sight.shows self.new.tokens.source None) }
     {
         self.end()?;
         Ok(stack.take_whole())

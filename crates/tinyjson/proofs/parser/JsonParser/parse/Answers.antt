@@ -9,9 +9,9 @@ pub returns-clause-parses : goal.returns-clause-parses
 returns-clause-parses g c = rw (← c.self.view_is) (λ xs r.
     let limit = c.self.inside.limit in
     let steps = g.I.Iterator.next_gives in
-    let gives = follows_gives steps c.self.inside.reader.source.cursor xs r.later r.whole r.follows in
+    let gives = follows_gives steps c.self.inside.reader.tokens.source.cursor xs r.later r.whole r.follows in
     let a = answered _ limit _ _ c.text.result c.text.ensures.reads c.text.ensures.end c.text.ensures.memory xs gives r.scalars in
-    let l = gives_follows steps c.text.new.self.source.cursor a.rest a.gives in
+    let l = gives_follows steps c.text.new.self.tokens.source.cursor a.rest a.gives in
     record {
       consumed = a.consumed;
       rest = a.rest;

@@ -1,7 +1,7 @@
 use Rattle.std.proofs.Common.{rules, sym, ◌∙◌, refl}
 use Rattle.tinyjson.specs.private.Stack.{ClosesArray}
 use Rattle.tinyjson_grammar.specs.declared.error.JsonParseErrorKind.TheVariants.{UnexpectedEof, ExpectedCommaOrBracket}
-use Rattle.tinyjson.proofs.Reading.Steps.{end_after, Leads_one, Leads_end, Refuses_as, Refuses_memory, Reads_after, taken_complete}
+use Rattle.tinyjson_tokens.proofs.Callers.{end_after, Leads_one, Leads_end, Refuses_as, Refuses_memory, Reads_after, taken_complete}
 use Rattle.tinyjson.proofs.Reading.Containers.{array_comma, array_closes, array_other}
 use Rattle.tinyjson.proofs.Reading.Stack.{array_whole, array_stays, after_white, after_halts}
 use Rattle.tinyjson.proofs.parser.reader.Reader.after_item.Goals as goal

@@ -2,7 +2,7 @@ use Rattle.std.proofs.Common.{rules, true, ◌≡◌}
 use Rattle.tinyjson_grammar.specs.Machine.{after, next}
 use Rattle.tinyjson.specs.private.Stack.{ClosesObject, at, frames}
 use Rattle.tinyjson_grammar.specs.declared.error.JsonParseErrorKind.TheVariants.{UnexpectedEof, ExpectedCommaOrBrace}
-use Rattle.tinyjson.proofs.Reading.Steps.{end_after, Leads_one, Leads_end, Refuses_as, Refuses_memory, Reads_after, taken_complete}
+use Rattle.tinyjson_tokens.proofs.Callers.{end_after, Leads_one, Leads_end, Refuses_as, Refuses_memory, Reads_after, taken_complete}
 use Rattle.tinyjson.proofs.Reading.Containers.{object_closes, object_other}
 use Rattle.tinyjson.proofs.Reading.Stack.{member_whole, comma_read, after_white, after_halts}
 use Rattle.tinyjson.proofs.parser.reader.Reader.after_member.Goals as goal

@@ -2,7 +2,7 @@ use Rattle.std.proofs.Common.{rules, ◌≡◌, ◌∷◌, sym, ap, refl, [], If
 use Rattle.tinyjson_grammar.specs.Machine.{fits, in_array, next, awaited}
 use Rattle.tinyjson.specs.private.Stack.{frames}
 use Rattle.tinyjson_grammar.specs.declared.error.JsonParseErrorKind.TheVariants.{TooDeep}
-use Rattle.tinyjson.proofs.Reading.Steps.{Leads_to, Leads_trans, Leads_whites, Leads_one, Halts_here, Refuses_as, Refuses_memory, Reads_after, white_first, taken_complete}
+use Rattle.tinyjson_tokens.proofs.Callers.{Leads_to, Leads_trans, Leads_whites, Leads_one, Halts_here, Refuses_as, Refuses_memory, Reads_after, white_first, taken_complete}
 use Rattle.tinyjson.proofs.Reading.Containers.{array_begins, array_too_deep, array_closes_first, array_goes_on}
 use Rattle.tinyjson.proofs.parser.reader.Reader.array.Goals as goal
 use Rattle.tinyjson.proofs.parser.reader.Reader.array.Goals.{in_default-via-in-Some+in_default, in_default-via-in_default}
@@ -14,7 +14,7 @@ returns-then-not-fits-clause-reads g c =
     let p = c.args.self.now in
     let h : fits limit c.depth.result ≡ false = search rules in
     Refuses_as sight limit _ _ (TooDeep 91)
-    (array_too_deep sight limit p.source p.source _ _ c.depth.ensures h c.requires.shown)
+    (array_too_deep sight limit p.tokens.source p.tokens.source _ _ c.depth.ensures h c.requires.shown)
 
 pub returns-in-Some-eq93-clause-reads : goal.returns-in-Some-eq93-clause-reads
 returns-in-Some-eq93-clause-reads g c =
@@ -24,7 +24,7 @@ returns-in-Some-eq93-clause-reads g c =
     let h : fits limit c.depth.result ≡ true = search rules in
     Reads_after sight limit _ _ _ _ _
     (Leads_trans sight limit _ _ _
-    (array_begins sight limit p.source _ _ _ c.depth.ensures h c.consume.ensures.takes)
+    (array_begins sight limit p.tokens.source _ _ _ c.depth.ensures h c.consume.ensures.takes)
     (Leads_one sight limit _ _ _ 93 (Leads_whites sight limit _ _ _ c.skip_white.ensures.white tt (white_first limit _))
     c.consume-in-Some-eq93.ensures.takes tt
     (array_closes_first limit _ c.new.result 93 (search rules) (search rules)) (taken_complete _ _)))
@@ -38,7 +38,7 @@ returns-then-is_err-clause-reads g c =
     let h : fits limit c.depth.result ≡ true = search rules in
     Refuses_memory sight limit _ _
     (Halts_here sight limit _ _ (Leads_trans sight limit _ _ _
-    (array_begins sight limit p.source _ _ _ c.depth.ensures h c.consume.ensures.takes)
+    (array_begins sight limit p.tokens.source _ _ _ c.depth.ensures h c.consume.ensures.takes)
     (Leads_whites sight limit _ _ _ c.skip_white.ensures.white tt (white_first limit _))) tt tt)
 
 pub returns-else-is_err-clause-reads : goal.returns-else-is_err-clause-reads
@@ -51,6 +51,6 @@ returns-else-is_err-clause-reads g c =
     let e : frames c.open_array.new.self ≡ in_array [] ∷ frames c.args.stack.now = search rules in
     Leads_to sight limit _ _
     (Leads_trans sight limit _ _ _
-    (array_begins sight limit p.source _ _ _ c.depth.ensures h c.consume.ensures.takes)
+    (array_begins sight limit p.tokens.source _ _ _ c.depth.ensures h c.consume.ensures.takes)
     (array_goes_on sight limit _ _ _ _ c.skip_white.result refl (Leads_whites sight limit _ _ _ c.skip_white.ensures.white tt (white_first limit _)) c.skip_white.ensures.shows c.skip_white.ensures.stops other))
     (ap (λ fs. next fs awaited) (sym e))

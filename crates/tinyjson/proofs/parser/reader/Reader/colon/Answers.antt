@@ -2,7 +2,7 @@ use Rattle.std.proofs.Common.{rules}
 use Rattle.tinyjson.specs.View.{text}
 use Rattle.tinyjson_grammar.specs.declared.error.JsonParseErrorKind.TheVariants.{UnexpectedEof, ExpectedColon}
 use Rattle.tinyjson.specs.private.Stack.{BeginsMember}
-use Rattle.tinyjson.proofs.Reading.Steps.{end_colon, Leads_whites, Leads_one, Leads_end, Halts_here, Refuses_as, Refuses_memory, white_colon}
+use Rattle.tinyjson_tokens.proofs.Callers.{end_colon, Leads_whites, Leads_one, Leads_end, Halts_here, Refuses_as, Refuses_memory, white_colon}
 use Rattle.tinyjson.proofs.Reading.Stack.{key_colon, key_other, member_begins}
 use Rattle.tinyjson.proofs.parser.reader.Reader.colon.Goals as goal
 

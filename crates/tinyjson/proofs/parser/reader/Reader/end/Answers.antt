@@ -1,7 +1,7 @@
 use Rattle.std.proofs.Common.{refl, sym, subst, ◌∙◌, false, IfSome, ◌≡◌}
 use Rattle.tinyjson_grammar.specs.Characters.{is_white}
 use Rattle.tinyjson_grammar.specs.declared.error.JsonParseErrorKind.TheVariants.{ExpectedEof}
-use Rattle.tinyjson.proofs.Reading.Steps.{Leads_whites, Leads_one, Leads_none, Refuses_as, white_finished, no_end}
+use Rattle.tinyjson_tokens.proofs.Callers.{Leads_whites, Leads_one, Leads_none, Refuses_as, white_finished, no_end}
 use Rattle.tinyjson.proofs.parser.reader.Reader.end.Goals as goal
 
 pub returns-in-None-clause-reads : goal.returns-in-None-clause-reads

@@ -2,7 +2,7 @@ use Rattle.std.proofs.Common.{rules}
 use Rattle.std.proofs.lemmas.Result.{err_from_is_err_and}
 use Rattle.tinyjson.proofs.Reading.Containers.{string_begins}
 use Rattle.tinyjson.proofs.Reading.Stack.{key_string}
-use Rattle.tinyjson.proofs.Reading.Steps.{Leads_whites, Leads_one, Leads_to, Leads_trans, Refuses_after, Reads_after, white_awaited}
+use Rattle.tinyjson_tokens.proofs.Callers.{Leads_whites, Leads_one, Leads_to, Leads_trans, Refuses_after, Reads_after, white_awaited}
 use Rattle.tinyjson.proofs.parser.reader.Reader.key.Goals as goal
 
 pub returns-in_err-key-in-Some-eq34-clause-reads : goal.returns-in_err-key-in-Some-eq34-clause-reads

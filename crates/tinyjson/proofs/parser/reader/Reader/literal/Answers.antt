@@ -3,7 +3,7 @@ use Rattle.std.proofs.lemmas.Result.{err_from_is_err_and}
 use Rattle.tinyjson.specs.View.{view}
 use Rattle.tinyjson.specs.declared.value.JsonValue.TheVariants as is
 use Rattle.tinyjson.proofs.Reading.Containers.{null_begins, true_begins, false_begins, literal_false}
-use Rattle.tinyjson.proofs.Reading.Steps.{Leads_nil, Leads_one, Leads_trans, Refuses_after}
+use Rattle.tinyjson_tokens.proofs.Callers.{Leads_nil, Leads_one, Leads_trans, Refuses_after}
 use Rattle.tinyjson.proofs.parser.reader.Reader.literal.Goals as goal
 
 pub returns-in_err-letters-in-n-clause-reads : goal.returns-in_err-letters-in-n-clause-reads

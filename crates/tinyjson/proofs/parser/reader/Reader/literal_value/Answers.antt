@@ -1,5 +1,5 @@
 use Rattle.std.proofs.lemmas.Result.{err_from_is_err_and}
-use Rattle.tinyjson.proofs.Reading.Steps.{Reads_after}
+use Rattle.tinyjson_tokens.proofs.Callers.{Reads_after}
 use Rattle.tinyjson.proofs.parser.reader.Reader.literal_value.Goals as goal
 
 pub returns-in_err-value-clause-reads : goal.returns-in_err-value-clause-reads

@@ -1,6 +1,5 @@
 use Rattle.tinyjson.specs.private.Stack.{frames}
-use Rattle.tinyjson.proofs.Reading.Numerals.{Leads_numeral}
-use Rattle.tinyjson.proofs.Reading.Steps.{Reads_after}
+use Rattle.tinyjson_tokens.proofs.Callers.{Leads_numeral, Reads_after}
 use Rattle.tinyjson.proofs.parser.reader.Reader.long_number.Goals as goal
 
 pub returns-in-Some-clause-reads : goal.returns-in-Some-clause-reads
@@ -9,7 +8,7 @@ returns-in-Some-clause-reads g c = λ limit.
     let n = c.in-Some.ensures.takes in
     let fs = frames c.args.stack.now in
     let x = c.in-Some.number in
-    let l = Leads_numeral sight c.args.self.now.source c.in-Some.behind n.0 n.2 limit fs x n.1 in
+    let l = Leads_numeral sight c.args.self.now.tokens.source c.in-Some.behind n.0 n.2 limit fs x n.1 in
     Reads_after sight limit _ _ _ _ _ l (c.put_number.ensures.reads limit)
 
 pub returns-clause-reads : goal.returns-clause-reads

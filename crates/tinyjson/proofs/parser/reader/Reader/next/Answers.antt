@@ -1,5 +1,5 @@
 use Rattle.tinyjson_grammar.specs.declared.error.JsonParseErrorKind.TheVariants.{UnexpectedEof}
-use Rattle.tinyjson.proofs.Reading.Steps.{end_awaited, Leads_whites, Leads_end, Refuses_as, Reads_after, white_awaited}
+use Rattle.tinyjson_tokens.proofs.Callers.{end_awaited, Leads_whites, Leads_end, Refuses_as, Reads_after, white_awaited}
 use Rattle.tinyjson.proofs.parser.reader.Reader.next.Goals as goal
 
 pub returns-in-Some-clause-reads : goal.returns-in-Some-clause-reads

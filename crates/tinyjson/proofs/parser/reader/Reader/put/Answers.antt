@@ -2,7 +2,7 @@ use Rattle.std.proofs.Common.{rules, arith, sym, ◌≡◌, true}
 use Rattle.tinyjson.specs.View.{view}
 use Rattle.tinyjson_grammar.specs.Machine.{complete}
 use Rattle.tinyjson.specs.private.Stack.{TakesValue, open_of, at, frames}
-use Rattle.tinyjson.proofs.Reading.Steps.{Leads_nil, Leads_to, Halts_here, Refuses_memory}
+use Rattle.tinyjson_tokens.proofs.Callers.{Leads_nil, Leads_to, Halts_here, Refuses_memory}
 use Rattle.tinyjson.proofs.Reading.Stack.{value_taken}
 use Rattle.tinyjson.proofs.parser.reader.Reader.put.Goals as goal
 

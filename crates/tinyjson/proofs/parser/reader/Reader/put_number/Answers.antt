@@ -2,7 +2,7 @@ use Rattle.std.proofs.Common.{rules, arith, refl, sym, ◌≡◌, true}
 use Rattle.tinyjson_grammar.specs.Machine.{complete}
 use Rattle.tinyjson_grammar.specs.Tree.{number}
 use Rattle.tinyjson.specs.private.Stack.{AwaitsKey, TakesValue, open_of, at, frames}
-use Rattle.tinyjson.proofs.Reading.Steps.{Leads_nil, Leads_to, Halts_here, Refuses_as, Refuses_memory}
+use Rattle.tinyjson_tokens.proofs.Callers.{Leads_nil, Leads_to, Halts_here, Refuses_as, Refuses_memory}
 use Rattle.tinyjson.proofs.Reading.Stack.{key_refused, value_taken}
 use Rattle.tinyjson.proofs.parser.reader.Reader.put_number.Goals as goal
 

@@ -1,7 +1,7 @@
 use Rattle.std.proofs.Common.{ap}
 use Rattle.std.proofs.lemmas.Result.{err_from_is_err_and}
 use Rattle.tinyjson.specs.private.Stack.{at}
-use Rattle.tinyjson.proofs.Reading.Steps.{Leads_nil, Leads_to, Leads_trans, Refuses_after, Reads_after}
+use Rattle.tinyjson_tokens.proofs.Callers.{Leads_nil, Leads_to, Leads_trans, Refuses_after, Reads_after}
 use Rattle.tinyjson.proofs.parser.reader.Reader.rest.Goals as goal
 
 pub loop-whole-init : goal.loop-whole-init

@@ -4,7 +4,7 @@ use Rattle.tinyjson.specs.View.{view}
 use Rattle.tinyjson_grammar.specs.Machine.{next, awaited}
 use Rattle.tinyjson_grammar.specs.declared.error.JsonParseErrorKind.TheVariants.{UnexpectedEof}
 use Rattle.tinyjson.proofs.Reading.Memory.{grows_text}
-use Rattle.tinyjson.proofs.Reading.Steps.{end_awaited, Leads_end, Leads_to, Leads_trans, Leads_whites, Refuses_after, Refuses_as, Reads_after, white_awaited}
+use Rattle.tinyjson_tokens.proofs.Callers.{end_awaited, Leads_end, Leads_to, Leads_trans, Leads_whites, Refuses_after, Refuses_as, Reads_after, white_awaited}
 use Rattle.tinyjson.proofs.parser.reader.Reader.text_value.Goals as goal
 
 pub returns-in_err-value-in-Some-n-clause-reads : goal.returns-in_err-value-in-Some-n-clause-reads

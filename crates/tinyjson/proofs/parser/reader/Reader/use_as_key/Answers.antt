@@ -1,7 +1,7 @@
 use Rattle.tinyjson_grammar.specs.Kind.{kind_of}
 use Rattle.tinyjson.specs.View.{view, text}
 use Rattle.tinyjson_grammar.specs.declared.error.JsonParseErrorKind.TheVariants.{KeyNotString}
-use Rattle.tinyjson.proofs.Reading.Steps.{Leads_nil, Leads_to, Refuses_as, Reads_after}
+use Rattle.tinyjson_tokens.proofs.Callers.{Leads_nil, Leads_to, Refuses_as, Reads_after}
 use Rattle.tinyjson.proofs.Reading.Containers.{no_string}
 use Rattle.tinyjson.proofs.Reading.Stack.{key_string, key_refused}
 use Rattle.tinyjson.proofs.Values.Equality.{view_String}

@@ -3,7 +3,7 @@ use Rattle.tinyjson.specs.private.Steps.{GrowsFor}
 use Rattle.tinyjson_grammar.specs.Refusal.{begins_growth}
 use Rattle.tinyjson_grammar.specs.declared.error.JsonParseErrorKind.{JsonParseErrorKind}
 use Rattle.tinyjson_grammar.specs.declared.error.JsonParseErrorKind.TheVariants.{InvalidCharacter}
-use Rattle.tinyjson.proofs.Reading.Steps.{Leads_nil, Leads_shown, Refuses_as, invalid}
+use Rattle.tinyjson_tokens.proofs.Callers.{Leads_nil, Leads_shown, Refuses_as, invalid}
 use Rattle.tinyjson.proofs.parser.reader.Reader.value.Goals as goal
 
 grows_for : {T : Type 0} (c : ℕ) (r : Result T JsonParseErrorKind) → IsTrue (begins_growth c) → GrowsFor c r

@@ -1,4 +1,4 @@
-use Rattle.tinyjson.proofs.Reading.Steps.{Reads_after}
+use Rattle.tinyjson_tokens.proofs.Callers.{Reads_after}
 use Rattle.tinyjson.proofs.parser.reader.Reader.values.Goals as goal
 
 pub returns-clause-reads : goal.returns-clause-reads

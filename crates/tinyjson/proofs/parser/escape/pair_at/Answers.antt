@@ -1,9 +1,0 @@
-use Rattle.std.proofs.Common.{rules, ◌≡◌, true, refl}
-use Rattle.tinyjson_grammar.specs.Characters.{is_low}
-use Rattle.tinyjson.proofs.Reading.Escape.{pair_escape}
-use Rattle.tinyjson.proofs.parser.escape.pair_at.Goals as goal
-
-pub returns : goal.returns
-returns c =
-    let low : is_low c.in_ok-low.low ≡ true = search rules in
-    rw c.pair.ensures (pair_escape c.args.bytes.now c.args.at _ (c.is_backslash.ensures c.if-is_backslash.false) c.args.high c.in_ok-low.low c.requires.unit c.in_ok-low.ensures refl c.requires.high low)

@@ -1,0 +1,3 @@
+pub mod Callers
+-- Tokens, as steps of the machine.
+pub mod Reading

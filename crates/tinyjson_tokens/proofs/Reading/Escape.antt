@@ -1,0 +1,252 @@
+-- Escapes among the bytes of a text.
+use Rattle.std.proofs.Common.{◌≡◌, ℕ, suc, ◌+◌, ◌*◌, ◌-◌, ◌<◌, ◌≤◌, true, false, not, List, [], ◌∷◌, ◌++◌, length, take, drop, get_or, Option, Some, Result, is_err, refl, sym, ap, ap₂, ◌∙◌, subst, arith, length-append, append-nil, append_assoc, drop-cons, add-zero}
+use Rattle.std.specs.Prelude.{slice_get}
+use Rattle.std.specs.Char.{is_ascii, digit_value, len_utf8}
+use Rattle.std.specs.List.{AllByRecursion}
+use Rattle.std.specs.Str.{IsUtf8, IsCharBoundary, chars}
+use Rattle.std.proofs.lemmas.Bool.{ne_eqb}
+use Rattle.std.proofs.lemmas.Bool.Decides.{nat_tests}
+use Rattle.std.proofs.lemmas.List.{drop-drop, get_or-drop}
+use Rattle.std.proofs.lemmas.Str.{IsCharBoundary-after_ascii, chars-IsAscii, encode_ascii, IsUtf8-had}
+use Rattle.std.proofs.Math.Seq.{take-append_seam}
+use Rattle.tinyjson_grammar.specs.Characters.{is_hex, is_high, is_low, is_surrogate, pair_of, unit_of, paired, decode, short_escape}
+use Rattle.tinyjson_tokens.specs.Escape.{Stands, UnitAt, NoBackslash, EscapeAt}
+use Rattle.tinyjson_source.specs.Slice.{before, behind, NextChar}
+use Rattle.tinyjson_scan.specs.Scan.{is_plain}
+use Rattle.tinyjson_source.specs.Source.{TakesRun}
+use Rattle.tinyjson_grammar.specs.Position.{advance, origin}
+use Rattle.tinyjson_source.specs.declared.text.TextBytes.{TextBytes}
+use Rattle.tinyjson_grammar.specs.Machine.{step, Frame, Next, next, plain, backslash, hex, quoted}
+use Rattle.tinyjson_tokens.specs.Steps.{onward, IsNext, IsTaken, Same, Comes, Leads, Halts}
+use Rattle.tinyjson_source.proofs.Callers.{All_append, text_sight}
+use Rattle.tinyjson_source.proofs.Callers.{between, next_of, small, step_gives, step_moves}
+use Rattle.tinyjson_tokens.proofs.Reading.Steps.{Same_refl, Comes_trans, Leads_to, Leads_trans, Halts_trans, end_quoted}
+use Rattle.tinyjson_tokens.proofs.Reading.String.{hexing, hex_next, hex_step, hex_taken, hex_done, backslash_read, u_read, short_read, plain_added, plain_halts}
+
+-- ---- the machine
+
+module _ (limit : Option ℕ) (fs : List Frame) where
+  Comes_one : (n m : Next) (c : ℕ) (rest : List ℕ) → IsNext n → onward limit n c ≡ m → IsTaken m → Comes limit n (c ∷ []) m rest
+  Comes_one n m c rest h e k = (h, subst IsTaken (sym e) k, subst (λ z. Comes limit z [] m rest) (sym e) (Same_refl limit m rest, λ w. w))
+
+  hex_comes : (cs us ds es rest : List ℕ) → length ds + length es ≡ 4 → AllByRecursion (λ d. is_hex d ≡ true) es → Comes limit (hexing fs cs us ds) es (hexing fs cs us (ds ++ es)) rest
+  hex_comes cs us ds [] rest l a =
+      let n = hexing fs cs us ds in
+      subst (λ xs. Comes limit n [] (hexing fs cs us xs) rest) (sym (append-nil ds)) (Same_refl limit n rest, λ w. w)
+  hex_comes cs us ds (e ∷ es) rest l a =
+      let h : length ds < 4 = omega (arith, l) in
+      let k : length (ds ++ e ∷ []) + length es ≡ 4 = omega (arith, l, length-append ds (e ∷ [])) in
+      let n = hexing fs cs us (ds ++ e ∷ []) in
+      let s = sym (hex_step limit fs cs us ds e h a.0) in (
+        hex_next fs cs us ds h,
+        subst IsTaken s (hex_taken fs cs us (ds ++ e ∷ [])),
+        subst (λ z. Comes limit z es (hexing fs cs us (ds ++ e ∷ es)) rest) s
+            (subst (λ xs. Comes limit n es (hexing fs cs us xs) rest) (append_assoc ds (e ∷ []) es) (hex_comes cs us (ds ++ e ∷ []) es rest k a.1)),
+      )
+
+  -- the escape of a unit
+  pub unit_comes : (cs us ds rest : List ℕ) (u : ℕ) → length ds ≡ 4 → AllByRecursion (λ d. is_hex d ≡ true) ds → u ≡ unit_of 0 ds
+      → Comes limit (next fs (quoted plain cs us)) (92 ∷ 117 ∷ ds) (next fs (quoted plain cs (us ++ u ∷ []))) rest
+  unit_comes cs us ds rest u l a e =
+      let n = next fs (quoted plain cs us) in
+      let m = next fs (quoted backslash cs us) in
+      let o = next fs (quoted (hex []) cs us) in
+      let p = hexing fs cs us ds in
+      Comes_trans limit n m (next fs (quoted plain cs (us ++ u ∷ []))) (92 ∷ []) (117 ∷ ds) rest (Comes_one n m 92 (117 ∷ ds ++ rest) tt (backslash_read limit fs cs us 92 refl) tt)
+      (Comes_trans limit m o (next fs (quoted plain cs (us ++ u ∷ []))) (117 ∷ []) ds rest (Comes_one m o 117 (ds ++ rest) tt (u_read limit fs cs us 117 refl) tt)
+      (subst (λ z. Comes limit o ds z rest) (hex_done fs cs us ds u l e) (hex_comes cs us [] ds rest (omega (arith, l)) a)))
+
+  -- the short escape of a character
+  pub short_comes : (cs rest : List ℕ) (c d : ℕ) → short_escape c ≡ Some d
+      → Comes limit (next fs (quoted plain cs [])) (92 ∷ c ∷ []) (next fs (quoted plain (cs ++ d ∷ []) [])) rest
+  short_comes cs rest c d e =
+      let n = next fs (quoted plain cs []) in
+      let m = next fs (quoted backslash cs []) in
+      let o = next fs (quoted plain (cs ++ d ∷ []) []) in
+      Comes_trans limit n m o (92 ∷ []) (c ∷ []) rest (Comes_one n m 92 (c ∷ rest) tt (backslash_read limit fs cs [] 92 refl) tt)
+      (Comes_one m o c rest tt (short_read limit fs cs [] c d e ∙ ap (λ ys. next fs (quoted plain (ys ++ d ∷ []) [])) (append-nil cs)) tt)
+
+  units_same : (cs us xs : List ℕ) (c : ℕ) → (c ≡ 92 → ⊥) → paired us ≡ true → xs ≡ cs ++ decode us
+      → onward limit (next fs (quoted plain cs us)) c ≡ onward limit (next fs (quoted plain xs [])) c
+  unfolding step
+  units_same cs us xs c n p e = rw (ne_eqb c 92 n, p, e, append-nil (cs ++ decode us)) refl
+
+  -- units whose surrogates are paired are judged and added at once where no further one follows
+  pub units_known : (cs us xs rest : List ℕ) → paired us ≡ true → xs ≡ cs ++ decode us → (slice_get rest 0 ≡ Some 92 → ⊥)
+      → Same limit (next fs (quoted plain cs us)) (next fs (quoted plain xs [])) rest
+  units_known cs us xs [] p e n = end_quoted limit fs plain cs us ∙ sym (end_quoted limit fs plain xs [])
+  units_known cs us xs (c ∷ rest) p e n = units_same cs us xs c (λ k. n (ap Some k)) p e
+
+  pub Comes_known : (n : Next) (cs us xs taken rest : List ℕ) → Comes limit n taken (next fs (quoted plain cs us)) rest → paired us ≡ true → xs ≡ cs ++ decode us → (slice_get rest 0 ≡ Some 92 → ⊥)
+      → Comes limit n taken (next fs (quoted plain xs [])) rest
+  Comes_known n cs us xs taken rest a p e k =
+      let m = next fs (quoted plain cs us) in
+      let o = next fs (quoted plain xs []) in
+      subst (λ ys. Comes limit n ys o rest) (append-nil taken) (Comes_trans limit n m o taken [] rest a (units_known cs us xs rest p e k, λ w. tt))
+
+-- ---- where bytes stand
+
+stands_append : (text : List ℕ) (at mid to : ℕ) (xs ys : List ℕ) → Stands text at mid xs → Stands text mid to ys → Stands text at to (xs ++ ys)
+stands_append text at mid to xs ys a b = record {
+  ascii = All_append (λ c. is_ascii c ≡ true) xs ys a.ascii b.ascii;
+  here = a.here ∙ ap (λ bs. xs ++ bs) b.here ∙ sym (append_assoc xs ys (drop to text));
+  long = omega (arith, a.long, b.long, length-append xs ys);
+  fits = b.fits;
+}
+
+pub stands_nil : (text : List ℕ) (at : ℕ) → at ≤ length text → Stands text at at []
+stands_nil text at h = record { ascii = tt; here = refl; long = omega arith; fits = h }
+
+ascii_small : (b : ℕ) → is_ascii b ≡ true → b < 128
+ascii_small b h = grind (arith, nat_tests, h)
+
+-- one byte more in front
+pub stands_cons : (text : List ℕ) (at after to b : ℕ) (xs : List ℕ) → at < length text → after ≡ at + 1 → get_or text at 0 ≡ b → is_ascii b ≡ true → Stands text after to xs → Stands text at to (b ∷ xs)
+stands_cons text at after to b xs h n e a s =
+    let m : suc at ≡ after = omega (arith, n) in
+    record {
+      ascii = (a, s.ascii);
+      here = drop-cons text at 0 h ∙ ap₂ (λ y k. y ∷ drop k text) e m ∙ ap (λ bs. b ∷ bs) s.here;
+      long = omega (arith, n, s.long);
+      fits = s.fits;
+    }
+
+pub hex_ascii : (c : ℕ) → digit_value c < 16 → is_ascii c ≡ true
+hex_ascii c h = grind (arith, nat_tests)
+
+pub hex_digit : (c : ℕ) → digit_value c < 16 → is_hex c ≡ true
+hex_digit c h = grind (arith, nat_tests)
+
+-- the value of four digits
+pub four_digits : (a b c d p q r s : ℕ) → p ≡ digit_value a → q ≡ digit_value b → r ≡ digit_value c → s ≡ digit_value d
+    → ((p * 16 + q) * 16 + r) * 16 + s ≡ unit_of 0 (a ∷ b ∷ c ∷ d ∷ [])
+four_digits a b c d p q r s i j k l =
+    let e : ((p * 16 + q) * 16 + r) * 16 + s ≡ (((0 * 16 + p) * 16 + q) * 16 + r) * 16 + s = omega arith in
+    e ∙ ap₂ (λ x y. (((0 * 16 + x) * 16 + y) * 16 + r) * 16 + s) i j ∙ ap₂ (λ x y. (((0 * 16 + digit_value a) * 16 + digit_value b) * 16 + x) * 16 + y) k l
+
+-- the six bytes of a unit
+module _ (text : List ℕ) (at u a b c d : ℕ) (h : at + 6 ≤ length text) where
+  pub six_bytes : get_or text at 0 ≡ 92 → get_or text (at + 1) 0 ≡ 117 → get_or text (at + 2) 0 ≡ a → get_or text (at + 3) 0 ≡ b → get_or text (at + 4) 0 ≡ c → get_or text (at + 5) 0 ≡ d
+      → digit_value a < 16 → digit_value b < 16 → digit_value c < 16 → digit_value d < 16 → u ≡ unit_of 0 (a ∷ b ∷ c ∷ d ∷ []) → UnitAt text at u
+  six_bytes p q r s t v i j k l e = record {
+    digits = a ∷ b ∷ c ∷ d ∷ [];
+    four = refl;
+    hex = (hex_digit a i, (hex_digit b j, (hex_digit c k, (hex_digit d l, tt))));
+    value = e;
+    stands =
+        stands_cons text at (at + 1) (at + 6) 92 (117 ∷ a ∷ b ∷ c ∷ d ∷ []) (omega (arith, h)) refl p refl
+        (stands_cons text (at + 1) (at + 2) (at + 6) 117 (a ∷ b ∷ c ∷ d ∷ []) (omega (arith, h)) (omega arith) q refl
+        (stands_cons text (at + 2) (at + 3) (at + 6) a (b ∷ c ∷ d ∷ []) (omega (arith, h)) (omega arith) r (hex_ascii a i)
+        (stands_cons text (at + 3) (at + 4) (at + 6) b (c ∷ d ∷ []) (omega (arith, h)) (omega arith) s (hex_ascii b j)
+        (stands_cons text (at + 4) (at + 5) (at + 6) c (d ∷ []) (omega (arith, h)) (omega arith) t (hex_ascii c k)
+        (stands_cons text (at + 5) (at + 6) (at + 6) d [] (omega (arith, h)) (omega arith) v (hex_ascii d l)
+        (stands_nil text (at + 6) h))))));
+  }
+
+-- a backslash and the letter of a short escape
+pub short_at : (text : List ℕ) (at c d : ℕ) → at + 2 ≤ length text → get_or text at 0 ≡ 92 → get_or text (at + 1) 0 ≡ c → short_escape c ≡ Some d → EscapeAt text at d (at + 2)
+short_at text at c d h p q e = record {
+  taken = 92 ∷ c ∷ [];
+  stands =
+      stands_cons text at (at + 1) (at + 2) 92 (c ∷ []) (omega (arith, h)) refl p refl
+      (stands_cons text (at + 1) (at + 2) (at + 2) c [] (omega (arith, h)) (omega arith) q (short_ascii c d e)
+      (stands_nil text (at + 2) h));
+  some = omega arith;
+  comes = λ limit fs cs rest k. short_comes limit fs cs rest c d e;
+}
+  where
+    short_ascii : (c d : ℕ) → short_escape c ≡ Some d → is_ascii c ≡ true
+    short_ascii c d e = grind (arith, nat_tests, e)
+
+-- ---- a unit, and a pair
+
+module _ (text : List ℕ) (at to : ℕ) (none : NoBackslash text to) where
+  pub unit_escape : (u : ℕ) → UnitAt text at u → to ≡ at + 6 → is_surrogate u ≡ false → EscapeAt text at u to
+  unit_escape u a e s = record {
+    taken = 92 ∷ 117 ∷ a.digits;
+    stands = subst (λ t. Stands text at t (92 ∷ 117 ∷ a.digits)) (sym e) a.stands;
+    some = omega (arith, e);
+    comes = λ limit fs cs rest k. Comes_known limit fs (next fs (quoted plain cs [])) cs (u ∷ []) (cs ++ u ∷ []) (92 ∷ 117 ∷ a.digits) rest
+        (unit_comes limit fs cs [] a.digits rest u a.four a.hex a.value) (ap not s) refl (λ w. none (k w));
+  }
+
+  pub pair_escape : (high low : ℕ) → UnitAt text at high → UnitAt text (at + 6) low → to ≡ at + 12 → is_high high ≡ true → is_low low ≡ true → EscapeAt text at (pair_of high low) to
+  pair_escape high low a b e h l =
+      let first = 92 ∷ 117 ∷ a.digits in
+      let second = 92 ∷ 117 ∷ b.digits in
+      let n : at + 6 + 6 ≡ to = omega (arith, e) in
+      record {
+        taken = first ++ second;
+        stands = stands_append text at (at + 6) to first second a.stands (subst (λ t. Stands text (at + 6) t second) n b.stands);
+        some = omega (arith, e);
+        comes = λ limit fs cs rest k.
+            let n = next fs (quoted plain cs []) in
+            let m = next fs (quoted plain cs (high ∷ [])) in
+            let o = next fs (quoted plain cs (high ∷ low ∷ [])) in
+            Comes_known limit fs n cs (high ∷ low ∷ []) (cs ++ pair_of high low ∷ []) (first ++ second) rest
+            (Comes_trans limit n m o first second rest (unit_comes limit fs cs [] a.digits (second ++ rest) high a.four a.hex a.value)
+            (unit_comes limit fs cs (high ∷ []) b.digits rest low b.four b.hex b.value))
+            (rw (h, l) refl) (rw (h, l) refl) (λ w. none (k w));
+      }
+
+-- ---- what is taken
+
+Stands_boundary : (text : List ℕ) → IsUtf8 text → (at to : ℕ) (xs : List ℕ) → IsCharBoundary text at → Stands text at to xs → IsCharBoundary text to
+Stands_boundary text utf8 at to [] b s = let e : at ≡ to = omega (arith, s.long) in subst (IsCharBoundary text) e b
+Stands_boundary text utf8 at to (x ∷ xs) b s =
+    let h : at < length text = omega (arith, s.long, s.fits) in
+    let byte : get_or text at 0 ≡ x = ap (λ i. get_or text i 0) (sym (add-zero at)) ∙ sym (get_or-drop at text 0 0) ∙ ap (λ bs. get_or bs 0 0) s.here in
+    let more : Stands text (at + 1) to xs = record {
+      ascii = s.ascii.1;
+      here = ap (λ i. drop i text) (omega arith) ∙ sym (drop-drop 1 at text) ∙ ap (drop 1) s.here;
+      long = omega (arith, s.long);
+      fits = s.fits;
+    } in
+    Stands_boundary text utf8 (at + 1) to xs (IsCharBoundary-after_ascii text at utf8 h (subst (λ y. y < 128) (sym byte) (ascii_small x s.ascii.0))) more
+
+module _ (text : List ℕ) (utf8 : IsUtf8 text) (at : ℕ) (first : IsCharBoundary text at) (c to : ℕ) (e : EscapeAt text at c to) where
+  pub escape_boundary : IsCharBoundary text to
+  escape_boundary = Stands_boundary text utf8 at to e.taken first e.stands
+
+  pub escape_between : between text at to ≡ e.taken
+  escape_between =
+      let n : to - at ≡ length e.taken = omega (arith, e.stands.long) in
+      ap chars (ap₂ (λ k bs. take k bs) n e.stands.here ∙ take-append_seam e.taken (drop to text)) ∙ chars-IsAscii e.taken (small is_ascii ascii_small e.taken e.stands.ascii)
+
+  pub escape_comes : (limit : Option ℕ) (fs : List Frame) (cs : List ℕ) → Comes limit (next fs (quoted plain cs [])) e.taken (next fs (quoted plain (cs ++ c ∷ []) [])) (behind text to)
+  escape_comes limit fs cs = e.comes limit fs cs (behind text to) (λ w.
+      let n = subst (NextChar text to) w (next_of text utf8 to escape_boundary) in
+      ap (λ bs. slice_get bs 0) (n ∙ ap (λ bs. bs ++ drop (to + len_utf8 92) text) (encode_ascii 92 (omega arith))))
+
+-- the escape at the place of a text is taken
+pub Leads_escape : (limit : Option ℕ) (fs : List Frame) (cs : List ℕ) (p q : TextBytes) (c : ℕ) → EscapeAt p.text.now p.at c q.at → q.text.now ≡ p.text.now
+    → Leads text_sight limit p (next fs (quoted plain cs [])) q (next fs (quoted plain (cs ++ c ∷ []) []))
+Leads_escape limit fs cs p q c e same =
+    let text = p.text.now in
+    let utf8 = IsUtf8-had text p.utf8 in
+    let last = escape_boundary text utf8 p.at p.boundary c q.at e in
+    let one = escape_between text utf8 p.at p.boundary c q.at e in
+    let h : p.at ≤ q.at = omega (arith, e.some) in
+    record {
+      taken = e.taken;
+      gives = λ zs g.
+          let x = step_gives text utf8 p.at q.at h p.boundary last e.taken one zs g in
+          let n = next fs (quoted plain cs []) in
+          let m = next fs (quoted plain (cs ++ c ∷ []) []) in
+          (x.0, x.1, x.2 ∙ ap (λ t. behind t q.at) (sym same), subst (Comes limit n e.taken m) (sym x.2) (escape_comes text utf8 p.at p.boundary c q.at e limit fs cs));
+      moves = ap (λ t. advance origin (before t q.at)) same ∙ step_moves text utf8 p.at q.at h p.boundary last e.taken one;
+    }
+
+-- an escape is taken, and the plain characters behind it
+module _ {E : Type 0} (limit : Option ℕ) (fs : List Frame) (o p q r : TextBytes) (n : Next) (cs ds es : List ℕ) (c to : ℕ) (v : Result (Unit {0}) E)
+    (run : TakesRun text_sight is_plain q ds v es r) (l : Leads text_sight limit o n p (next fs (quoted plain cs []))) (e : EscapeAt p.text.now p.at c to) (same : q.text.now ≡ p.text.now) (at : q.at ≡ to) (added : ds ≡ cs ++ c ∷ []) where
+  escape_goes : Leads text_sight limit o n q (next fs (quoted plain ds []))
+  escape_goes =
+      let m : List ℕ → Next = λ ys. next fs (quoted plain ys []) in
+      Leads_trans text_sight limit o p q l (Leads_to text_sight limit p q (Leads_escape limit fs cs p q c (subst (EscapeAt p.text.now p.at c) (sym at) e) same) (ap m (sym added)))
+
+  pub escape_added : is_err v ≡ false → Leads text_sight limit o n r (next fs (quoted plain es []))
+  escape_added h = Leads_trans text_sight limit o q r escape_goes (plain_added text_sight limit q r fs ds es [] v refl h run)
+
+  pub escape_halts : Halts text_sight limit o n r
+  escape_halts = Halts_trans text_sight limit o q r escape_goes (plain_halts text_sight limit q r fs ds es [] v refl run)

@@ -1,0 +1,426 @@
+-- Numbers that a text in memory shows whole.
+use Rattle.std.proofs.Common.{◌≡◌, ◌==◌, ℕ, ◌+◌, ◌-◌, ◌<◌, ◌≤◌, Bool, true, false, List, [], ◌∷◌, ◌++◌, length, take, drop, get_or, Option, Some, None, IfSome, refl, sym, ap, ◌∙◌, subst, suc, arith, drop-cons, add-one, append_assoc, length-append, ⊎_elim}
+use Rattle.std.specs.Prelude.{slice_get, encode_utf8, if◌then◌else◌}
+use Rattle.std.specs.Char.{is_ascii_digit, len_utf8}
+use Rattle.std.specs.List.{AllByRecursion, prefix_len}
+use Rattle.std.specs.Str.{IsAscii, IsUtf8, IsCharBoundary, chars}
+use Rattle.std.proofs.lemmas.Bool.{cases_lt}
+use Rattle.std.proofs.lemmas.Bool.Decides.{nat_tests}
+use Rattle.std.proofs.lemmas.List.{take-append-drop, drop-drop, take_at, length-drop, get_or-drop, get_or_append_left}
+use Rattle.std.proofs.lemmas.Option.{slice_get-get_or, slice_get_past}
+use Rattle.std.proofs.lemmas.Str.{IsUtf8-had, byte_from_char, chars-IsAscii, IsAscii-append, IsCharBoundary-after_ascii, length-encode, len_utf8_bounds}
+use Rattle.tinyjson_number.specs.Number.{Canonical}
+use Rattle.tinyjson_number.specs.Numeral.{numeral, Numeral, Exponent, AreDigits, IsNumeral, IsExponent, value, in_range, has_leading_zero, is_exponent_letter, is_sign, minus_text, sign_text, fraction_text, exponent_text, spelling}
+use Rattle.tinyjson_number.specs.declared.parse.ExponentParts.{ExponentParts}
+use Rattle.tinyjson_number.specs.declared.parse.NumberParts.{NumberParts}
+use Rattle.tinyjson_grammar.specs.Position.{advance, origin}
+use Rattle.tinyjson_grammar.specs.Machine.{Frame, Next, next, stop, awaited, digits, whole, fraction, exponent, complete}
+use Rattle.tinyjson_tokens.specs.NumberSteps.{all_digits, Part}
+use Rattle.tinyjson_tokens.specs.Numerals.{ShowsAt, EndsAt, EndsNumber, FractionAt, SignAt, ExponentAt, MantissaAt, IsGrammatical, NumeralAt, PartsAt, TakesNumeral}
+use Rattle.tinyjson_tokens.specs.declared.number.Mantissa.{Mantissa}
+use Rattle.tinyjson_source.specs.Slice.{before, behind, run_end, NextChar}
+use Rattle.tinyjson_source.specs.Source.{Sight}
+use Rattle.tinyjson_tokens.specs.Steps.{Comes, IsNext, IsTaken, Leads, onward}
+use Rattle.tinyjson_tokens.proofs.Reading.Number.{is_one, are_digits, letter_no_digit, begun, begun_next, begun_digit, begun_whole, pointed, pointed_next, pointed_digit, powered, powered_next, powered_digit, powered_whole, minus_begins, point_read, letter_read, sign_read, no_point, no_letter, digits_come, Leads_rest}
+use Rattle.tinyjson_tokens.proofs.Reading.NumberParts.{Leads_number, plain_minus}
+use Rattle.tinyjson_grammar.specs.Tree.{number}
+use Rattle.tinyjson_source.specs.declared.text.TextBytes.{TextBytes}
+use Rattle.tinyjson_source.proofs.Callers.{between, digit_small, next_of, run_passes, run_stops, small, step_gives, step_moves, text_sight}
+use Rattle.tinyjson_grammar.proofs.Callers.{some_none}
+use Rattle.tinyjson_tokens.proofs.Reading.Steps.{Comes_trans, Same_refl}
+
+-- ---- places in a text
+
+module _ (text : List ℕ) (from to : ℕ) (e : to ≡ run_end is_ascii_digit text from) where
+  abbrev run : List ℕ
+  run = take (to - from) (drop from text)
+
+  pub digits_pass : AreDigits run
+  digits_pass =
+      let n : prefix_len is_ascii_digit (drop from text) ≡ to - from = omega (arith, e) in
+      are_digits run (subst (λ m. AllByRecursion (λ c. is_ascii_digit c ≡ true) (take m (drop from text))) n (run_passes is_ascii_digit (drop from text)))
+
+  pub digits_split : drop from text ≡ run ++ drop to text
+  digits_split =
+      let n : (to - from) + from ≡ to = omega (arith, e) in
+      sym (take-append-drop (to - from) (drop from text)) ∙ ap (λ bs. run ++ bs) (drop-drop (to - from) from text ∙ ap (λ k. drop k text) (omega (arith, n)))
+
+  pub digits_stop : IfSome (slice_get text to) (λ b. is_ascii_digit b ≡ false)
+  digits_stop = ⊎_elim
+      (λ h. subst (λ o. IfSome o (λ b. is_ascii_digit b ≡ false)) (sym (slice_get-get_or text to 0 h)) (ap (λ k. is_ascii_digit (get_or text k 0)) e ∙ run_stops is_ascii_digit text from (omega (arith, e, h))))
+      (λ h. subst (λ o. IfSome o (λ b. is_ascii_digit b ≡ false)) (sym (slice_get_past text to h)) tt)
+      (cases_lt to (length text))
+
+point_spelled : (ds : List ℕ) → 0 < length ds → fraction_text ds ≡ 46 ∷ ds
+point_spelled [] h = absurd (omega arith)
+point_spelled (d ∷ ds) h = refl
+
+pub some_from_test : (b : Bool) (n : ℕ) → b ≡ (n == 0) → b ≡ false → 0 < n
+some_from_test b n e h = grind (arith, nat_tests)
+
+shown_first : (text : List ℕ) (at c : ℕ) → at < length text → get_or text at 0 ≡ c → drop at text ≡ c ∷ drop (at + 1) text
+shown_first text at c h e = drop-cons text at 0 h ∙ ap (λ y. y ∷ drop (suc at) text) e ∙ ap (λ k. c ∷ drop k text) (sym (add-one at))
+
+empty_none : (ds : List ℕ) → 0 < length ds → ds ≡ [] → ⊥
+empty_none ds l e = absurd (omega (arith, l, ap length e))
+
+pub no_fraction_at : (text : List ℕ) (at : ℕ) → at ≤ length text → EndsAt text at → ShowsAt (λ c. c == 46) text at false → FractionAt text at [] at
+no_fraction_at text at w d s = record { digits = tt; spelled = refl; within = w; ends = d; no_point = λ e. s }
+
+pub fraction_between : (text : List ℕ) (at : ℕ) (ds : List ℕ) (end : ℕ) → ShowsAt (λ c. c == 46) text at true → AreDigits ds → 0 < length ds → drop (at + 1) text ≡ ds ++ drop end text → end ≤ length text → EndsAt text end
+    → FractionAt text at ds end
+fraction_between text at ds end h a l s w x = record {
+  digits = a;
+  spelled = shown_first text at 46 h.0 (is_one 46 (get_or text at 0) h.1) ∙ ap (λ bs. 46 ∷ bs) s ∙ ap (λ bs. bs ++ drop end text) (sym (point_spelled ds l));
+  within = w;
+  ends = x;
+  no_point = λ e. absurd (empty_none ds l e);
+}
+
+pub sign_between : (text : List ℕ) (at : ℕ) (negative : Bool) → ShowsAt is_sign text at true → negative ≡ (get_or text at 0 == 45) → SignAt text at negative (at + 1)
+sign_between text at negative h e = record { sign = Some (get_or text at 0); known = h.1; minus = e; spelled = shown_first text at (get_or text at 0) h.0 refl; within = omega (arith, h.0) }
+
+pub no_sign_at : (text : List ℕ) (at : ℕ) → at ≤ length text → SignAt text at false at
+no_sign_at text at w = record { sign = None; known = tt; minus = refl; spelled = refl; within = w }
+
+pub exponent_between : (text : List ℕ) (at from : ℕ) (parts : ExponentParts) (end : ℕ) → SignAt text at parts.negative from → AreDigits parts.digits.now → 0 < length parts.digits.now → drop from text ≡ parts.digits.now ++ drop end text
+    → end ≤ length text → EndsAt text end → ExponentAt text at parts end
+exponent_between text at from parts end x a l s w e = record {
+  sign = x.sign;
+  known = x.known;
+  minus = x.minus;
+  digits = a;
+  some_digit = l;
+  spelled = x.spelled ∙ ap (λ bs. sign_text x.sign ++ bs) s ∙ sym (append_assoc (sign_text x.sign) parts.digits.now (drop end text));
+  within = w;
+  ends = e;
+}
+
+-- what follows ends the number
+no_exponent_ends : (b : Bool) (ds f : List ℕ) (o : Option ℕ) → IfSome o (λ c. is_ascii_digit c ≡ false) → (f ≡ [] → IfSome o (λ c. (c == 46) ≡ false)) → IfSome o (λ c. is_exponent_letter c ≡ false) → IfSome o (EndsNumber (numeral b ds f None))
+no_exponent_ends b ds f None d p l = tt
+no_exponent_ends b ds f (Some c) d p l = record { digit = d; point = λ e i. p e; letter = λ i. l }
+
+exponent_ends : (b : Bool) (ds f : List ℕ) (e : Exponent) (o : Option ℕ) → IfSome o (λ c. is_ascii_digit c ≡ false) → IfSome o (EndsNumber (numeral b ds f (Some e)))
+exponent_ends b ds f e None d = tt
+exponent_ends b ds f e (Some c) d = record { digit = d; point = λ i j. absurd (some_none e j); letter = λ j. absurd (some_none e j) }
+
+module _ (text : List ℕ) (at : ℕ) (m : Mantissa) (end : ℕ) (x : MantissaAt text at m end) where
+  parts_spelled : (e : Option Exponent) (last : ℕ) → drop end text ≡ exponent_text e ++ drop last text → drop at text ≡ spelling (numeral m.negative m.whole.now m.fraction.now e) ++ drop last text
+  parts_spelled e last h =
+      let b = m.negative in
+      let ds = m.whole.now in
+      let f = m.fraction.now in
+      let more = drop last text in
+      let tail : drop x.point text ≡ (fraction_text f ++ exponent_text e) ++ more = x.fraction.spelled ∙ ap (λ t. fraction_text f ++ t) h ∙ sym (append_assoc (fraction_text f) (exponent_text e) more) in
+      let digits : ds ++ drop x.point text ≡ (ds ++ (fraction_text f ++ exponent_text e)) ++ more = ap (λ t. ds ++ t) tail ∙ sym (append_assoc ds (fraction_text f ++ exponent_text e) more) in
+      x.spelled ∙ ap (λ t. minus_text b ++ t) digits ∙ sym (append_assoc (minus_text b) (ds ++ (fraction_text f ++ exponent_text e)) more)
+
+  grammatical : (e : Option Exponent) → IfSome e IsExponent → IsGrammatical (numeral m.negative m.whole.now m.fraction.now e)
+  grammatical e h = record { well_formed = record { whole = x.whole; some_digit = x.some_digit; fraction = x.fraction.digits; exponent = h }; no_leading_zero = x.no_leading_zero }
+
+  -- the parts with this exponent
+  abbrev with_exponent : Option ExponentParts → NumberParts
+  with_exponent e = record { negative = m.negative; whole = m.whole; fraction = m.fraction; exponent = e }
+
+  pub plain_between : ShowsAt is_exponent_letter text end false → PartsAt text at (with_exponent None) end
+  plain_between h =
+      let f = m.fraction.now in (
+        numeral m.negative m.whole.now f None,
+        refl,
+        record {
+          grammatical = grammatical None tt;
+          spelled = parts_spelled None end refl;
+          within = x.fraction.within;
+          ends = no_exponent_ends m.negative m.whole.now f (slice_get text end) x.fraction.ends x.fraction.no_point h;
+        },
+      )
+
+  pub scientific_between : (parts : ExponentParts) (last : ℕ) → ShowsAt is_exponent_letter text end true → ExponentAt text (end + 1) parts last → PartsAt text at (with_exponent (Some parts)) last
+  scientific_between parts last h e =
+      let letter = get_or text end 0 in
+      let f = m.fraction.now in
+      let exponent : Exponent = record { letter = letter; sign = e.sign; digits = parts.digits.now } in
+      let same = ap (λ s. Some (record { letter = 101; sign = s; digits = parts.digits.now })) (ap (λ b. if b then Some 45 else None) e.minus ∙ plain_minus e.sign) in (
+        numeral m.negative m.whole.now f (Some exponent),
+        ap (numeral m.negative m.whole.now f) same,
+        record {
+          grammatical = grammatical (Some exponent) (record { letter = h.1; sign = e.known; digits = e.digits; some_digit = e.some_digit });
+          spelled = parts_spelled (Some exponent) last (shown_first text end letter h.0 refl ∙ ap (λ bs. letter ∷ bs) e.spelled);
+          within = e.within;
+          ends = exponent_ends m.negative m.whole.now f exponent (slice_get text last) e.ends;
+        },
+      )
+
+-- ---- a number between two places
+
+all_pass : (ds : List ℕ) → AreDigits ds → AllByRecursion (λ c. is_ascii_digit c ≡ true) ds
+all_pass [] a = tt
+all_pass (d ∷ ds) a = (a.0, all_pass ds a.1)
+
+digits_ascii : (ds : List ℕ) → AreDigits ds → IsAscii ds
+digits_ascii ds a = small is_ascii_digit digit_small ds (all_pass ds a)
+
+minus_ascii : (b : Bool) → IsAscii (minus_text b)
+minus_ascii true = search arith
+minus_ascii false = search arith
+
+fraction_ascii : (ds : List ℕ) → AreDigits ds → IsAscii (fraction_text ds)
+fraction_ascii [] a = search arith
+fraction_ascii (d ∷ ds) a = IsAscii-append (46 ∷ []) (d ∷ ds) (search arith) (digits_ascii (d ∷ ds) a)
+
+more_fraction : (ds : List ℕ) → length ds ≤ length (fraction_text ds)
+more_fraction [] = omega arith
+more_fraction (d ∷ ds) = omega arith
+
+letter_small : (c : ℕ) → is_exponent_letter c ≡ true → c < 128
+letter_small c h = grind (arith, nat_tests)
+
+sign_small : (c : ℕ) → is_sign c ≡ true → c < 128
+sign_small c h = grind (arith, nat_tests)
+
+letter_no_point : (c : ℕ) → is_exponent_letter c ≡ true → (c == 46) ≡ false
+letter_no_point c h = grind (arith, nat_tests)
+
+sign_ascii : (s : Option ℕ) → IfSome s (λ c. is_sign c ≡ true) → IsAscii (sign_text s)
+sign_ascii None h = search arith
+sign_ascii (Some c) h = small is_sign sign_small (c ∷ []) (h, tt)
+
+exponent_ascii : (e : Option Exponent) → IfSome e IsExponent → IsAscii (exponent_text e)
+exponent_ascii None h = search arith
+exponent_ascii (Some e) h = IsAscii-append (e.letter ∷ []) (sign_text e.sign ++ e.digits) (small is_exponent_letter letter_small (e.letter ∷ []) (h.letter, tt)) (IsAscii-append (sign_text e.sign) e.digits (sign_ascii e.sign h.sign) (digits_ascii e.digits h.digits))
+
+spelling_ascii : (n : Numeral) → IsNumeral n → IsAscii (spelling n)
+spelling_ascii n x =
+    IsAscii-append (minus_text n.negative) (n.whole ++ (fraction_text n.fraction ++ exponent_text n.exponent)) (minus_ascii n.negative)
+    (IsAscii-append n.whole (fraction_text n.fraction ++ exponent_text n.exponent) (digits_ascii n.whole x.whole)
+    (IsAscii-append (fraction_text n.fraction) (exponent_text n.exponent) (fraction_ascii n.fraction x.fraction) (exponent_ascii n.exponent x.exponent)))
+
+-- at least the digits of whole part and fraction
+spelling_length : (n : Numeral) → length n.whole + length n.fraction ≤ length (spelling n)
+spelling_length n =
+    omega (
+      arith,
+      length-append (minus_text n.negative) (n.whole ++ (fraction_text n.fraction ++ exponent_text n.exponent)),
+      length-append n.whole (fraction_text n.fraction ++ exponent_text n.exponent),
+      length-append (fraction_text n.fraction) (exponent_text n.exponent),
+      more_fraction n.fraction,
+    )
+
+high_ends : (n : Numeral) (c : ℕ) → 128 ≤ c → EndsNumber n c
+high_ends n c h =
+    let digit : is_ascii_digit c ≡ false = grind (arith, nat_tests) in
+    let point : (c == 46) ≡ false = grind (arith, nat_tests) in
+    let letter : is_exponent_letter c ≡ false = grind (arith, nat_tests) in
+    record { digit = digit; point = λ e i. point; letter = λ e. letter }
+
+module _ (text : List ℕ) (at : ℕ) (first : at ≤ length text) (n : Numeral) (end : ℕ) (x : NumeralAt text at n end) where
+  numeral_count : end ≡ at + length (spelling n)
+  numeral_count = omega (arith, ap length x.spelled, length-append (spelling n) (drop end text), length-drop at text, length-drop end text, x.within, first)
+
+  pub numeral_some : at < end
+  numeral_some = omega (arith, numeral_count, spelling_length n, x.grammatical.well_formed.some_digit)
+
+  numeral_room : length n.whole + length n.fraction ≤ length text
+  numeral_room = omega (arith, numeral_count, x.within, spelling_length n)
+
+module _ (text : List ℕ) (utf8 : IsUtf8 text) (at : ℕ) (first : IsCharBoundary text at) (n : Numeral) (end : ℕ) (x : NumeralAt text at n end) where
+  abbrev long : ℕ
+  long = length (spelling n)
+
+  count : end ≡ at + long
+  count = numeral_count text at first.0 n end x
+
+  some : at < end
+  some = numeral_some text at first.0 n end x
+
+  numeral_bytes : take (end - at) (drop at text) ≡ spelling n
+  numeral_bytes = ap (take (end - at)) x.spelled ∙ take_at (spelling n) (drop end text) (end - at) (omega (arith, count))
+
+  numeral_between : between text at end ≡ spelling n
+  numeral_between = ap chars numeral_bytes ∙ chars-IsAscii (spelling n) (spelling_ascii n x.grammatical.well_formed)
+
+  last_byte : get_or text (at + (long - 1)) 0 < 128
+  last_byte =
+      let positive : 0 < long = omega (arith, some, count) in
+      let same : get_or text (at + (long - 1)) 0 ≡ get_or (spelling n) (long - 1) 0 =
+      sym (get_or-drop at text (long - 1) 0) ∙ ap (λ bs. get_or bs (long - 1) 0) x.spelled ∙ get_or_append_left (spelling n) (drop end text) 0 (long - 1) (omega (arith, some)) in
+      subst (λ b. b < 128) (sym same) (spelling_ascii n x.grammatical.well_formed (long - 1))
+
+  pub numeral_boundary : IsCharBoundary text end
+  numeral_boundary =
+      let positive : 0 < long = omega (arith, some, count) in
+      subst (IsCharBoundary text) (omega (arith, count, positive)) (IsCharBoundary-after_ascii text (at + (long - 1)) utf8 (omega (arith, count, positive, x.within)) last_byte)
+
+  numeral_ends : (o : Option ℕ) → NextChar text end o → IfSome o (EndsNumber n)
+  numeral_ends None h = tt
+  numeral_ends (Some c) k = ⊎_elim
+      (λ l.
+      let some : 0 < length (drop end text) = omega (arith, ap length k, length-append (encode_utf8 c) (drop (end + len_utf8 c) text), length-encode c, (len_utf8_bounds c).0) in
+      let byte : get_or (drop end text) 0 0 ≡ c = byte_from_char (drop end text) (drop (end + len_utf8 c) text) c k l in
+      let at_end : get_or text end 0 ≡ c = ap (λ k. get_or text k 0) (omega arith) ∙ sym (get_or-drop end text 0 0) ∙ byte in
+      subst (λ o. IfSome o (EndsNumber n)) (slice_get-get_or text end 0 (omega (arith, some, length-drop end text)) ∙ ap Some at_end) x.ends)
+      (λ h. high_ends n c h)
+      (cases_lt c 128)
+
+  numeral_follows : (o : Option ℕ) × (slice_get (behind text end) 0 ≡ o) × IfSome o (EndsNumber n)
+  numeral_follows = let o = slice_get (behind text end) 0 in (o, refl, numeral_ends o (next_of text utf8 end numeral_boundary))
+
+  numeral_gives : (zs : List ℕ) → zs ≡ behind text at → (more : List ℕ) × (zs ≡ spelling n ++ more) × (more ≡ behind text end)
+  numeral_gives = step_gives text utf8 at end (omega (arith, some)) first numeral_boundary (spelling n) numeral_between
+
+  numeral_moves : advance origin (before text end) ≡ advance (advance origin (before text at)) (spelling n)
+  numeral_moves = step_moves text utf8 at end (omega (arith, some)) first numeral_boundary (spelling n) numeral_between
+
+-- the number at the place of a text is taken
+pub numeral_taken : (p q : TextBytes) (n : Numeral) → NumeralAt p.text.now p.at n q.at → q.text.now ≡ p.text.now → TakesNumeral text_sight p n q
+numeral_taken p q n x same =
+    let text = p.text.now in
+    let utf8 = IsUtf8-had text p.utf8 in
+    let end = q.at in
+    let f = numeral_follows text utf8 p.at p.boundary n end x in
+    record {
+      grammatical = x.grammatical;
+      takes = record {
+        gives = λ zs g. let y = numeral_gives text utf8 p.at p.boundary n end x zs g in (y.0, y.1, y.2 ∙ ap (λ t. behind t end) (sym same));
+        moves = ap (λ t. advance origin (before t end)) same ∙ numeral_moves text utf8 p.at p.boundary n end x;
+      };
+      ends = (f.0, ap (λ t. slice_get (behind t end) 0) same ∙ f.1, f.2);
+    }
+
+pub parts_room : (text : List ℕ) (at : ℕ) (first : at ≤ length text) (parts : NumberParts) (end : ℕ) → PartsAt text at parts end → length parts.whole.now + length parts.fraction.now ≤ length text
+parts_room text at first parts end x =
+    let whole = ap (λ (m : Numeral). length m.whole) x.1 in
+    let fraction = ap (λ (m : Numeral). length m.fraction) x.1 in
+    omega (arith, whole, fraction, numeral_room text at first x.0 end x.2)
+
+-- ---- the machine takes it
+
+module _ (limit : Option ℕ) (fs : List Frame) where
+  held : (o : Next) → IsNext o → IsTaken o
+  held (next gs p) h = tt
+  held (stop k b) h = absurd h
+
+  -- one character, that leads to a state
+  one_comes : (n m : Next) (c : ℕ) (rest : List ℕ) → IsNext n → IsNext m → onward limit n c ≡ m → Comes limit n (c ∷ []) m rest
+  one_comes n m c rest h k e = (h, subst IsTaken (sym e) (held m k), subst (λ z. Comes limit z [] m rest) (sym e) (Same_refl limit m rest, λ w. w))
+
+  minus_comes : (b : Bool) (rest : List ℕ) → Comes limit (next fs awaited) (minus_text b) (begun fs b []) rest
+  minus_comes true rest = one_comes (next fs awaited) (begun fs true []) 45 rest tt tt (minus_begins limit fs 45 refl)
+  minus_comes false rest = (Same_refl limit (next fs awaited) rest, λ w. w)
+
+  -- the state behind the fraction, or where there is none behind the whole part
+  abbrev reached : Bool → List ℕ → List ℕ → Next
+  reached b ds [] = next fs (digits whole (numeral b ds [] None))
+  reached b ds (x ∷ xs) = next fs (digits fraction (numeral b ds (x ∷ xs) None))
+
+  reached_next : (b : Bool) (ds f : List ℕ) → IsNext (reached b ds f)
+  reached_next b ds [] = tt
+  reached_next b ds (x ∷ xs) = tt
+
+  whole_comes : (b : Bool) (ds rest : List ℕ) → AreDigits ds → 0 < length ds → Comes limit (next fs awaited) (minus_text b ++ ds) (next fs (digits whole (numeral b ds [] None))) rest
+  whole_comes b ds rest a l =
+      Comes_trans limit (next fs awaited) (begun fs b []) (next fs (digits whole (numeral b ds [] None))) (minus_text b) ds rest (minus_comes b (ds ++ rest))
+      (subst (λ z. Comes limit (begun fs b []) ds z rest) (begun_whole fs b ds l) (digits_come limit (begun fs b) (begun_next fs b) (begun_digit limit fs b) [] ds rest (all_pass ds a)))
+
+  fraction_comes : (b : Bool) (ds f rest : List ℕ) → has_leading_zero ds ≡ false → AreDigits f → Comes limit (next fs (digits whole (numeral b ds [] None))) (fraction_text f) (reached b ds f) rest
+  fraction_comes b ds [] rest z a = (Same_refl limit (next fs (digits whole (numeral b ds [] None))) rest, λ w. w)
+  fraction_comes b ds (x ∷ xs) rest z a =
+      Comes_trans limit (next fs (digits whole (numeral b ds [] None))) (pointed fs b ds []) (reached b ds (x ∷ xs)) (46 ∷ []) (x ∷ xs) rest
+      (one_comes (next fs (digits whole (numeral b ds [] None))) (pointed fs b ds []) 46 (x ∷ xs ++ rest) tt tt (point_read limit fs b ds 46 z refl))
+      (digits_come limit (pointed fs b ds) (pointed_next fs b ds) (pointed_digit limit fs b ds) [] (x ∷ xs) rest (all_pass (x ∷ xs) a))
+
+  -- the state behind the exponent, or where there is none behind the fraction
+  abbrev arrived : Bool → List ℕ → List ℕ → Option Exponent → Next
+  arrived b ds f None = reached b ds f
+  arrived b ds f (Some e) = next fs (digits exponent (numeral b ds f (Some e)))
+
+  letter_comes : (b : Bool) (ds f : List ℕ) (l : ℕ) → has_leading_zero ds ≡ false → is_exponent_letter l ≡ true → onward limit (reached b ds f) l ≡ powered fs b ds f l None []
+  letter_comes b ds [] l z h = no_point limit fs b ds (Some l) z (letter_no_digit l h) (letter_no_point l h) ∙ letter_read limit fs b ds [] l h
+  letter_comes b ds (x ∷ xs) l z h = letter_read limit fs b ds (x ∷ xs) l h
+
+  sign_comes : (b : Bool) (ds f : List ℕ) (l : ℕ) (s : Option ℕ) (rest : List ℕ) → IfSome s (λ c. is_sign c ≡ true) → Comes limit (powered fs b ds f l None []) (sign_text s) (powered fs b ds f l s []) rest
+  sign_comes b ds f l None rest h = (Same_refl limit (powered fs b ds f l None []) rest, λ w. w)
+  sign_comes b ds f l (Some c) rest h = one_comes (powered fs b ds f l None []) (powered fs b ds f l (Some c) []) c rest tt tt (sign_read limit fs b ds f l c h)
+
+  exponent_comes : (b : Bool) (ds f : List ℕ) (e : Option Exponent) (rest : List ℕ) → has_leading_zero ds ≡ false → IfSome e IsExponent → Comes limit (reached b ds f) (exponent_text e) (arrived b ds f e) rest
+  exponent_comes b ds f None rest z h = (Same_refl limit (reached b ds f) rest, λ w. w)
+  exponent_comes b ds f (Some e) rest z h =
+      let l = e.letter in
+      let s = e.sign in
+      Comes_trans limit (reached b ds f) (powered fs b ds f l None []) (arrived b ds f (Some e)) (l ∷ []) (sign_text s ++ e.digits) rest
+      (one_comes (reached b ds f) (powered fs b ds f l None []) l ((sign_text s ++ e.digits) ++ rest) (reached_next b ds f) tt (letter_comes b ds f l z h.letter))
+      (Comes_trans limit (powered fs b ds f l None []) (powered fs b ds f l s []) (arrived b ds f (Some e)) (sign_text s) e.digits rest
+      (sign_comes b ds f l s (e.digits ++ rest) h.sign)
+      (subst (λ z. Comes limit (powered fs b ds f l s []) e.digits z rest) (powered_whole fs b ds f l s e.digits h.some_digit)
+      (digits_come limit (powered fs b ds f l s) (powered_next fs b ds f l s) (powered_digit limit fs b ds f l s) [] e.digits rest (all_pass e.digits h.digits))))
+
+  numeral_comes : (n : Numeral) (rest : List ℕ) → IsGrammatical n → Comes limit (next fs awaited) (spelling n) (arrived n.negative n.whole n.fraction n.exponent) rest
+  numeral_comes n rest x =
+      let b = n.negative in
+      let ds = n.whole in
+      let f = n.fraction in
+      let e = n.exponent in
+      let to = arrived b ds f e in
+      let parts : spelling n ≡ (minus_text b ++ ds) ++ (fraction_text f ++ exponent_text e) = sym (append_assoc (minus_text b) ds (fraction_text f ++ exponent_text e)) in
+      subst (λ t. Comes limit (next fs awaited) t to rest) (sym parts)
+      (Comes_trans limit (next fs awaited) (next fs (digits whole (numeral b ds [] None))) to (minus_text b ++ ds) (fraction_text f ++ exponent_text e) rest
+      (whole_comes b ds ((fraction_text f ++ exponent_text e) ++ rest) x.well_formed.whole x.well_formed.some_digit)
+      (Comes_trans limit (next fs (digits whole (numeral b ds [] None))) (reached b ds f) to (fraction_text f) (exponent_text e) rest
+      (fraction_comes b ds f (exponent_text e ++ rest) x.no_leading_zero x.well_formed.fraction)
+      (exponent_comes b ds f e rest x.no_leading_zero x.well_formed.exponent)))
+
+module _ {S : Type 0} (sight : Sight S) (p q : S) (n : Numeral) (x : TakesNumeral sight p n q) where
+  numeral_leads : (limit : Option ℕ) (fs : List Frame) → Leads sight limit p (next fs awaited) q (next fs (digits exponent n))
+  numeral_leads limit fs =
+      let l : Leads sight limit p (next fs awaited) q (arrived limit fs n.negative n.whole n.fraction n.exponent) = record {
+        taken = spelling n;
+        gives = λ zs g. let y = x.takes.gives zs g in (y.0, y.1, y.2, numeral_comes limit fs n y.0 x.grammatical);
+        moves = x.takes.moves;
+      } in
+      behind_fraction limit fs n.exponent refl l
+    where
+      no_digit : (o : Option ℕ) → IfSome o (EndsNumber n) → IfSome o (λ c. is_ascii_digit c ≡ false)
+      no_digit None h = tt
+      no_digit (Some c) h = h.digit
+
+      no_dot : (o : Option ℕ) → n.fraction ≡ [] → n.exponent ≡ None → IfSome o (EndsNumber n) → IfSome o (λ c. (c == 46) ≡ false)
+      no_dot None i j h = tt
+      no_dot (Some c) i j h = h.point i j
+
+      no_exponent_letter : (o : Option ℕ) → n.exponent ≡ None → IfSome o (EndsNumber n) → IfSome o (λ c. is_exponent_letter c ≡ false)
+      no_exponent_letter None j h = tt
+      no_exponent_letter (Some c) j h = h.letter j
+
+      behind_point : (limit : Option ℕ) (fs : List Frame) (f : List ℕ) → n.fraction ≡ f → n.exponent ≡ None → Leads sight limit p (next fs awaited) q (reached limit fs n.negative n.whole f)
+          → Leads sight limit p (next fs awaited) q (next fs (digits fraction (numeral n.negative n.whole f None)))
+      behind_point limit fs [] i j l = let e = x.ends in
+          Leads_rest sight limit p q (next fs (digits fraction (numeral n.negative n.whole [] None))) e.0 l e.1 tt
+          (no_point limit fs n.negative n.whole e.0 x.grammatical.no_leading_zero (no_digit e.0 e.2) (no_dot e.0 i j e.2))
+      behind_point limit fs (y ∷ ys) i j l = l
+
+      behind_fraction : (limit : Option ℕ) (fs : List Frame) (o : Option Exponent) → n.exponent ≡ o → Leads sight limit p (next fs awaited) q (arrived limit fs n.negative n.whole n.fraction o)
+          → Leads sight limit p (next fs awaited) q (next fs (digits exponent (numeral n.negative n.whole n.fraction o)))
+      behind_fraction limit fs None j l = let e = x.ends in
+          Leads_rest sight limit p q (next fs (digits exponent (numeral n.negative n.whole n.fraction None))) e.0
+          (behind_point limit fs n.fraction refl j l) e.1 tt
+          (no_letter limit fs (numeral n.negative n.whole n.fraction None) e.0 (no_digit e.0 e.2) (no_exponent_letter e.0 j e.2))
+      behind_fraction limit fs (Some y) j l = l
+
+  no_digit_next : (o : Option ℕ) → IfSome o (EndsNumber n) → IfSome o (λ c. is_ascii_digit c ≡ false)
+  no_digit_next None h = tt
+  no_digit_next (Some c) h = h.digit
+
+  part_whole : Part sight (λ (m : Numeral). tt {0}) (λ m. m) exponent p (λ fs. next fs awaited) tt (all_digits n) q
+  part_whole = record {
+    part = n;
+    has = record { well_formed = x.grammatical.well_formed; no_leading_zero = x.grammatical.no_leading_zero; gathered = refl };
+    answers = refl;
+    ends = (x.ends.0, x.ends.1, no_digit_next x.ends.0 x.ends.2);
+    leads = numeral_leads;
+  }
+
+  -- the whole number was read
+  pub Leads_numeral : (limit : Option ℕ) (fs : List Frame) (y : Canonical) → (y.decimal ≡ value n) × (in_range (value n) ≡ true) → Leads sight limit p (next fs awaited) q (complete true fs (number y.decimal) true)
+  unfolding part_whole
+  Leads_numeral limit fs y r = Leads_number sight limit fs p q (all_digits n) part_whole y r

@@ -1,0 +1,36 @@
+-- Escapes among the bytes of a text, as the machine reads them. For contracts inside the parser.
+use Rattle.std.specs.Prelude.{◌≡◌, ℕ, ◌+◌, ◌<◌, ◌≤◌, true, List, [], ◌∷◌, ◌++◌, length, drop, slice_get, Option, Some}
+use Rattle.std.specs.Char.{is_ascii}
+use Rattle.std.specs.List.{AllByRecursion}
+use Rattle.tinyjson_grammar.specs.Characters.{is_hex, unit_of}
+use Rattle.tinyjson_grammar.specs.Machine.{Frame, next, plain, quoted}
+use Rattle.tinyjson_tokens.specs.Steps.{Comes}
+
+-- from a place to another one stand these bytes, which are ASCII
+pub record Stands (text : List ℕ) (at to : ℕ) (xs : List ℕ) : Type 0 where
+  pub ascii : AllByRecursion (λ b. is_ascii b ≡ true) xs
+  pub here : drop at text ≡ xs ++ drop to text
+  pub long : to ≡ at + length xs
+  pub fits : to ≤ length text
+
+-- at a place stands the escape of a unit
+pub record UnitAt (text : List ℕ) (at unit : ℕ) : Type 0 where
+  pub digits : List ℕ
+  pub four : length digits ≡ 4
+  pub hex : AllByRecursion (λ d. is_hex d ≡ true) digits
+  pub value : unit ≡ unit_of 0 digits
+  pub stands : Stands text at (at + 6) (92 ∷ 117 ∷ digits)
+
+-- at a place stands no backslash
+abbrev pub NoBackslash : List ℕ → ℕ → Type 0
+NoBackslash text at = slice_get (drop at text) 0 ≡ Some 92 → ⊥
+
+-- Between two places stand escapes that spell a character. The next character may tell of it: units are
+-- judged where they end.
+pub record EscapeAt (text : List ℕ) (at c to : ℕ) : Type 0 where
+  pub taken : List ℕ
+  pub stands : Stands text at to taken
+  pub some : at < to
+  pub comes : (limit : Option ℕ) (fs : List Frame) (cs rest : List ℕ)
+      → (slice_get rest 0 ≡ Some 92 → slice_get (drop to text) 0 ≡ Some 92)
+      → Comes limit (next fs (quoted plain cs [])) taken (next fs (quoted plain (cs ++ c ∷ []) [])) rest

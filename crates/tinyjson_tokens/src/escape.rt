@@ -1,0 +1,118 @@
+//! Escapes among the bytes of a text (RFC 8259, section 7).
+ghost use Rattle.std.specs.Prelude.{◌≡◌, ◌<◌, ◌≤◌, IfSome, true, false, length};
+ghost use Rattle.std.specs.Char.{digit_value};
+ghost use Rattle.tinyjson_grammar.specs.Characters.{short_escape, is_high};
+ghost use Rattle.tinyjson_tokens.specs.Escape.{EscapeAt, NoBackslash, UnitAt};
+
+use tinyjson_source::utf16::{is_high, is_low, pair};
+
+/// What the letter behind a backslash stands for. Letters from `b` on are looked up in a small table, so
+/// that no jump has to be guessed for them.
+pub(crate) fn short_escape(c: char) -> Option<char>
+    ensures { result ≡ short_escape c }
+{
+    if c < 'b' {
+        return match c {
+            '"' | '\\' | '/' => Some(c),
+            _ => None,
+        };
+    }
+    match c {
+        'b' => Some('\x08'),
+        'f' => Some('\x0c'),
+        'n' => Some('\n'),
+        'r' => Some('\r'),
+        't' => Some('\t'),
+        _ => None,
+    }
+}
+
+/// The character that is spelled by escapes from a place on, and where they end. None where no escape
+/// stands, and where a longer run of units or a fault may stand.
+#[inline(always)]
+pub(crate) fn escape_at(bytes: &[u8], at: usize) -> Option<(char, usize)>
+    requires { at ≤ length bytes.now }
+    ensures { IfSome result (λ r. EscapeAt bytes.now at r.0 r.1) }
+{
+    if bytes.len() - at < 2 || bytes[at] != b'\\' {
+        return None;
+    }
+    let letter = bytes[at + 1];
+    if letter == b'u' {
+        return units_at(bytes, at);
+    }
+    let c = short_escape(letter as char)?;
+    Some((c, at + 2))
+}
+
+/// The same for a unit or two that spell a character, and no unit behind them.
+fn units_at(bytes: &[u8], at: usize) -> Option<(char, usize)>
+    requires { at ≤ length bytes.now }
+    ensures { IfSome result (λ r. EscapeAt bytes.now at r.0 r.1) }
+{
+    let unit = unit_at(bytes, at)?;
+    if is_high(unit) {
+        return pair_at(bytes, at, unit);
+    }
+    let c = char::from_u32(unit as u32)?;
+    if is_backslash(bytes, at + 6) {
+        return None;
+    }
+    Some((c, at + 6))
+}
+
+/// The same for a pair, of which the first unit is known.
+fn pair_at(bytes: &[u8], at: usize, high: u16) -> Option<(char, usize)>
+    requires high { is_high high ≡ true }
+    requires unit { UnitAt bytes.now at high }
+    ensures { IfSome result (λ r. EscapeAt bytes.now at r.0 r.1) }
+{
+    let low = unit_at(bytes, at + 6)?;
+    if !is_low(low) {
+        return None;
+    }
+    if is_backslash(bytes, at + 12) {
+        return None;
+    }
+    Some((pair(high, low), at + 12))
+}
+
+/// Whether a backslash stands at a place.
+fn is_backslash(bytes: &[u8], at: usize) -> bool
+    requires { at ≤ length bytes.now }
+    ensures { result ≡ false → NoBackslash bytes.now at }
+{
+    at < bytes.len() && bytes[at] == b'\\'
+}
+
+/// The unit that an escape spells at a place.
+#[inline(always)]
+fn unit_at(bytes: &[u8], at: usize) -> Option<u16>
+    requires { at ≤ length bytes.now }
+    ensures { IfSome result (λ unit. UnitAt bytes.now at unit) }
+{
+    if bytes.len() - at < 6 || bytes[at] != b'\\' || bytes[at + 1] != b'u' {
+        return None;
+    }
+    let first = hex_value(bytes[at + 2])?;
+    let second = hex_value(bytes[at + 3])?;
+    let third = hex_value(bytes[at + 4])?;
+    let fourth = hex_value(bytes[at + 5])?;
+    Some((((first * 16 + second) * 16 + third) * 16 + fourth) as u16)
+}
+
+/// The value of a hexadecimal digit.
+#[inline(always)]
+fn hex_value(byte: u8) -> Option<u32>
+    ensures { IfSome result (λ value. (value ≡ digit_value byte) × (value < 16)) }
+{
+    if !byte.is_ascii_hexdigit() {
+        return None;
+    }
+    let zero = match byte {
+        b'0'..=b'9' => b'0',
+        b'A'..=b'F' => b'A' - 10,
+        _ => b'a' - 10,
+    };
+    Some((byte - zero) as u32)
+}

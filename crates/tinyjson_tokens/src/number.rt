@@ -1,0 +1,408 @@
+//! Numbers (RFC 8259, section 6).
+ghost use Rattle.std.specs.Prelude.{◌≡◌, ◌==◌, ◌+◌, ◌<◌, ◌≤◌, [], ◌++◌, ℕ, List, Bool, true, false};
+ghost use Rattle.std.specs.Prelude.{OnOk, IfOk, IfSome, Option, Some, None, drop, length, slice_get};
+ghost use Rattle.std.specs.Prelude.{if◌then◌else◌, option_map, string_bytes};
+ghost use Rattle.std.specs.Char.{is_ascii_digit};
+ghost use Rattle.tinyjson_grammar.specs.Machine.{Frame, awaited, complete, digits, whole, fraction};
+ghost use Rattle.tinyjson_grammar.specs.Machine.{exponent, next};
+ghost use Rattle.tinyjson_tokens.specs.NumberSteps.{Digits, BeginsNumber, Accepts, Gathered};
+ghost use Rattle.tinyjson_tokens.specs.NumberSteps.{ReadsPart, Signs};
+ghost use Rattle.tinyjson_tokens.specs.NumberSteps.{is_below_zero, marks_of};
+ghost use Rattle.tinyjson_tokens.specs.Numerals.{ExponentAt, FractionAt, MantissaAt, PartsAt};
+ghost use Rattle.tinyjson_tokens.specs.Numerals.{ShowsAt, SignAt};
+ghost use Rattle.tinyjson_tokens.specs.Steps.{Ends, Reads};
+ghost use Rattle.tinyjson_grammar.specs.Tree.{number};
+ghost use Rattle.tinyjson_number.specs.Numeral.{numeral, AreDigits, Numeral, has_leading_zero};
+ghost use Rattle.tinyjson_number.specs.Numeral.{is_exponent_letter, is_sign, minus_text};
+ghost use Rattle.tinyjson_number.specs.Reading.{ReadsNumeral, exponent_of};
+
+use crate::reader::TokenReader;
+use crate::tokens::Tokens;
+use tinyjson_grammar::JsonParseErrorKind;
+use tinyjson_number::{ExponentParts, JsonNumber, LiteralError, NumberParts};
+use tinyjson_scan::digits_end;
+
+/// What a number has besides its digits, which are gathered without anything between them.
+#[derive(Clone, Copy)]
+struct Marks {
+    /// Whether a `-` stands in front.
+    negative: bool,
+    /// Where the digits of the whole part end.
+    whole: usize,
+    /// Where those of the fraction end.
+    fraction: usize,
+    /// Whether the exponent is below zero, if there is one.
+    exponent: Option<bool>,
+}
+
+/// Whether there are two or more digits, and the first is `0`.
+fn has_leading_zero(digits: &[u8]) -> bool
+    ensures { result ≡ has_leading_zero digits.now }
+{
+    match digits {
+        [first, _, ..] => *first == b'0',
+        _ => false,
+    }
+}
+
+/// The digits at a place of a text, and the place behind them.
+#[inline(always)]
+fn digits_at(bytes: &[u8], from: usize) -> (&[u8], usize)
+    requires { from ≤ length bytes.now }
+    ensures digits { AreDigits result.0.now }
+    ensures text { drop from bytes.now ≡ result.0.now ++ drop result.1 bytes.now }
+    ensures within { result.1 ≤ length bytes.now }
+    ensures stops { IfSome (slice_get bytes.now result.1) (λ b. is_ascii_digit b ≡ false) }
+{
+    let end = digits_end(bytes, from);
+    (&bytes[from..end], end)
+}
+
+/// The parts of the number at a place of a text, and the place behind it, if it has no exponent and lacks
+/// no digits.
+#[inline(always)]
+pub(crate) fn parts_at(bytes: &[u8], at: usize) -> Option<(NumberParts<'_>, usize)>
+    requires { at ≤ length bytes.now }
+    ensures { IfSome result (λ r. PartsAt bytes.now at r.0 r.1) }
+{
+    let (front, end) = mantissa_at(bytes, at)?;
+    if has_letter(bytes, end) {
+        return None;
+    }
+    Some((front.with_exponent(None), end))
+}
+
+/// The parts of the number with an exponent at a place of a text, and the place behind it, if it lacks no
+/// digits.
+#[inline(never)]
+pub(crate) fn scientific_at(bytes: &[u8], at: usize) -> Option<(NumberParts<'_>, usize)>
+    requires { at ≤ length bytes.now }
+    ensures { IfSome result (λ r. PartsAt bytes.now at r.0 r.1) }
+{
+    let (front, letter) = mantissa_at(bytes, at)?;
+    if !has_letter(bytes, letter) {
+        return None;
+    }
+    let (exponent, end) = exponent_at(bytes, letter + 1)?;
+    Some((front.with_exponent(Some(exponent)), end))
+}
+
+/// The parts of a number before its exponent.
+#[derive(Clone, Copy)]
+struct Mantissa<'a> {
+    negative: bool,
+    whole: &'a [u8],
+    fraction: &'a [u8],
+}
+
+impl<'a> Mantissa<'a> {
+    /// The parts of the number with this exponent.
+    #[inline(always)]
+    fn with_exponent(self, exponent: Option<ExponentParts<'a>>) -> NumberParts<'a>
+        ensures { result ≡ record {
+          negative = self.entry.negative;
+          whole = self.entry.whole;
+          fraction = self.entry.fraction;
+          exponent = exponent.entry;
+        } }
+    {
+        NumberParts {
+            negative: self.negative,
+            whole: self.whole,
+            fraction: self.fraction,
+            exponent,
+        }
+    }
+}
+
+/// What stands before the exponent of the number at a place of a text, and the place behind it, if it lacks
+/// no digits.
+#[inline(always)]
+fn mantissa_at(bytes: &[u8], at: usize) -> Option<(Mantissa<'_>, usize)>
+    requires { at ≤ length bytes.now }
+    ensures { IfSome result (λ r. MantissaAt bytes.now at r.0 r.1) }
+{
+    let (negative, from) = minus_at(bytes, at);
+    let (whole, point) = digits_at(bytes, from);
+    if whole.is_empty() || has_leading_zero(whole) {
+        return None;
+    }
+    let (fraction, end) = fraction_at(bytes, point)?;
+    let front = Mantissa {
+        negative,
+        whole,
+        fraction,
+    };
+    Some((front, end))
+}
+
+/// Whether a minus sign stands at a place of a text, and the place behind it.
+#[inline(always)]
+fn minus_at(bytes: &[u8], at: usize) -> (bool, usize)
+    requires { at ≤ length bytes.now }
+    ensures text { drop at bytes.now ≡ minus_text result.0 ++ drop result.1 bytes.now }
+    ensures within { result.1 ≤ length bytes.now }
+{
+    if at < bytes.len() && bytes[at] == b'-' {
+        (true, at + 1)
+    } else {
+        (false, at)
+    }
+}
+
+/// The digits behind the point at a place of a text, none if there is no point, and the place behind them.
+/// None where a point has no digits.
+#[inline(always)]
+fn fraction_at(bytes: &[u8], point: usize) -> Option<(&[u8], usize)>
+    requires within { point ≤ length bytes.now }
+    requires stops { IfSome (slice_get bytes.now point) (λ b. is_ascii_digit b ≡ false) }
+    ensures { IfSome result (λ r. FractionAt bytes.now point r.0.now r.1) }
+{
+    if !has_point(bytes, point) {
+        return Some((b"", point));
+    }
+    let (digits, end) = digits_at(bytes, point + 1);
+    if digits.is_empty() {
+        return None;
+    }
+    Some((digits, end))
+}
+
+/// Whether a point stands at a place of a text.
+#[inline(always)]
+fn has_point(bytes: &[u8], at: usize) -> bool
+    ensures { ShowsAt (λ b. b == 46) bytes.now at result }
+{
+    at < bytes.len() && bytes[at] == b'.'
+}
+
+/// Whether the letter of an exponent stands at a place of a text.
+#[inline(always)]
+fn has_letter(bytes: &[u8], at: usize) -> bool
+    ensures { ShowsAt is_exponent_letter bytes.now at result }
+{
+    at < bytes.len() && matches!(bytes[at], b'e' | b'E')
+}
+
+/// The sign and the digits of the exponent whose letter stands before a place of a text, and the place
+/// behind them. None where there are no digits.
+fn exponent_at(bytes: &[u8], at: usize) -> Option<(ExponentParts<'_>, usize)>
+    requires { at ≤ length bytes.now }
+    ensures { IfSome result (λ r. ExponentAt bytes.now at r.0 r.1) }
+{
+    let (negative, from) = sign_at(bytes, at);
+    let (digits, end) = digits_at(bytes, from);
+    if digits.is_empty() {
+        return None;
+    }
+    Some((ExponentParts { negative, digits }, end))
+}
+
+/// Whether a minus sign stands at a place of a text, and the place behind it or behind a plus sign.
+fn sign_at(bytes: &[u8], at: usize) -> (bool, usize)
+    requires { at ≤ length bytes.now }
+    ensures { SignAt bytes.now at result.0 result.1 }
+{
+    if has_sign(bytes, at) {
+        (bytes[at] == b'-', at + 1)
+    } else {
+        (false, at)
+    }
+}
+
+/// Whether a sign stands at a place of a text.
+fn has_sign(bytes: &[u8], at: usize) -> bool
+    ensures { ShowsAt is_sign bytes.now at result }
+{
+    at < bytes.len() && matches!(bytes[at], b'+' | b'-')
+}
+
+impl<S: Tokens> TokenReader<S> {
+    /// Reads the number by its parts, whose digits are gathered.
+    #[inline(always)]
+    pub fn gathered_number(&mut self) -> Result<JsonNumber, JsonParseErrorKind>
+        requires { BeginsNumber S.sight self.old.source }
+        ensures reads { (limit : Option ℕ) (fs : List Frame) →
+            Reads S.sight limit self.old.source (next fs awaited) result
+            (λ n. complete true fs (number n.decimal) true) self.new.source }
+        ensures left { OnOk result (S.left self.new.source < S.left self.old.source) }
+    {
+        let marks = self.parts()?;
+        match self.gathered(marks) {
+            Ok(number) => Ok(number),
+            Err(LiteralError::OutOfRange) => Err(JsonParseErrorKind::NumberOutOfRange),
+            Err(LiteralError::OutOfMemory) => Err(JsonParseErrorKind::OutOfMemory),
+        }
+    }
+
+    /// Reads the digits of a number's parts into the buffer.
+    fn parts(&mut self) -> Result<Marks, JsonParseErrorKind>
+        requires { BeginsNumber S.sight self.old.source }
+        ensures reads { ReadsPart S.sight marks_of (λ n. n) exponent
+            self.old.source (λ fs. next fs awaited) result (string_bytes self.new.digit_buffer)
+            self.new.source }
+        ensures left { OnOk result (S.left self.new.source < S.left self.old.source) }
+    {
+        self.digit_buffer.clear();
+        let negative = self.integer()?;
+        let whole = self.digit_buffer.len();
+        self.fraction()?;
+        let fraction = self.digit_buffer.len();
+        let exponent = self.exponent()?;
+        Ok(Marks {
+            negative,
+            whole,
+            fraction,
+            exponent,
+        })
+    }
+
+    /// The number whose digits were gathered.
+    fn gathered(&self, marks: Marks) -> Result<JsonNumber, LiteralError>
+        requires order { marks.whole ≤ marks.fraction }
+        requires within { marks.fraction ≤ length (string_bytes self.now.digit_buffer) }
+        requires gathered { (n : Numeral) × Gathered n (string_bytes self.now.digit_buffer)
+            × (marks ≡ marks_of n) }
+        ensures { (n : Numeral) → Gathered n (string_bytes self.now.digit_buffer)
+            → marks ≡ marks_of n → ReadsNumeral n result }
+    {
+        let digits = self.digit_buffer.as_bytes();
+        let parts = NumberParts {
+            negative: marks.negative,
+            whole: &digits[..marks.whole],
+            fraction: &digits[marks.whole..marks.fraction],
+            exponent: exponent_parts(marks.exponent, &digits[marks.fraction..]),
+        };
+        JsonNumber::from_parts(self.alloc, parts)
+    }
+
+    /// Reads the minus sign, if there is one, and the digits of the whole part; says whether there is a
+    /// minus sign.
+    fn integer(&mut self) -> Result<bool, JsonParseErrorKind>
+        requires begins { BeginsNumber S.sight self.old.source }
+        requires empty { string_bytes self.old.digit_buffer ≡ [] }
+        ensures reads { ReadsPart S.sight (λ n. n.negative)
+            (λ (x : Bool × List ℕ). numeral x.0 x.1 [] None) whole
+            self.old.source (λ fs. next fs awaited) result (string_bytes self.new.digit_buffer)
+            self.new.source }
+        ensures left { OnOk result (S.left self.new.source < S.left self.old.source) }
+    {
+        let negative = self.accept('-');
+        self.digits(JsonParseErrorKind::EmptyInteger)?;
+        if has_leading_zero(self.digit_buffer.as_bytes()) {
+            return Err(JsonParseErrorKind::LeadingZero);
+        }
+        Ok(negative)
+    }
+
+    /// Reads the point and the digits behind it, if there is a point.
+    fn fraction(&mut self) -> Result<(), JsonParseErrorKind>
+        ensures reads { (b : Bool) (ds : List ℕ) →
+            Gathered (numeral b ds [] None) (string_bytes self.old.digit_buffer) →
+            Ends S.sight self.old.source → ReadsPart S.sight (λ _. tt)
+            (λ f. numeral b ds f None) fraction
+            self.old.source (λ fs. next fs (digits whole (numeral b ds [] None))) result
+            (string_bytes self.new.digit_buffer) self.new.source }
+        ensures left { OnOk result (S.left self.new.source ≤ S.left self.old.source) }
+    {
+        if !self.accept('.') {
+            return Ok(());
+        }
+        self.digits(JsonParseErrorKind::EmptyFraction)
+    }
+
+    /// Reads the letter, the sign and the digits of the exponent, if there is one, and says whether it is
+    /// below zero.
+    fn exponent(&mut self) -> Result<Option<bool>, JsonParseErrorKind>
+        ensures reads { (b : Bool) (ds f : List ℕ) →
+            Gathered (numeral b ds f None) (string_bytes self.old.digit_buffer) →
+            Ends S.sight self.old.source → ReadsPart S.sight (λ n. is_below_zero n.exponent)
+            (numeral b ds f) exponent
+            self.old.source (λ fs. next fs (digits fraction (numeral b ds f None))) result
+            (string_bytes self.new.digit_buffer) self.new.source }
+        ensures left { OnOk result (S.left self.new.source ≤ S.left self.old.source) }
+    {
+        if !self.letter() {
+            return Ok(None);
+        }
+        let negative = self.sign();
+        self.digits(JsonParseErrorKind::EmptyExponent)?;
+        Ok(Some(negative))
+    }
+
+    /// Reads digits, and adds them to the buffer; the error is of this kind where there is none.
+    fn digits(&mut self, empty: JsonParseErrorKind) -> Result<(), JsonParseErrorKind>
+        ensures reads { Digits S.sight empty self.old.source
+            (string_bytes self.old.digit_buffer) result
+            (string_bytes self.new.digit_buffer) self.new.source }
+        ensures left { OnOk result (S.left self.new.source < S.left self.old.source) }
+    {
+        let before = self.digit_buffer.len();
+        if self.source.digits(&mut self.digit_buffer).is_err() {
+            return Err(JsonParseErrorKind::OutOfMemory);
+        }
+        if self.digit_buffer.len() == before {
+            return Err(empty);
+        }
+        Ok(())
+    }
+
+    /// Reads the letter of an exponent, if it comes next, and says whether it does.
+    fn letter(&mut self) -> bool
+        ensures accepts { Accepts S.sight is_exponent_letter self.old.source result
+            self.new.source }
+        ensures kept { self.new.digit_buffer ≡ self.old.digit_buffer }
+        ensures left { S.left self.new.source ≤ S.left self.old.source }
+    {
+        match self.source.peek() {
+            Some(c) if c == 'e' || c == 'E' => {
+                self.source.bump();
+                true
+            }
+            _ => false,
+        }
+    }
+
+    /// Reads the sign of an exponent, if there is one, and says whether it is a minus sign.
+    fn sign(&mut self) -> bool
+        ensures signs { Signs S.sight self.old.source result self.new.source }
+        ensures kept { self.new.digit_buffer ≡ self.old.digit_buffer }
+        ensures left { S.left self.new.source ≤ S.left self.old.source }
+    {
+        match self.source.peek() {
+            Some(c) if c == '+' || c == '-' => {
+                self.source.bump();
+                c == '-'
+            }
+            _ => false,
+        }
+    }
+
+    /// Reads this character if it comes next, and says whether it does.
+    fn accept(&mut self, wanted: char) -> bool
+        ensures accepts { Accepts S.sight (λ c. c == wanted) self.old.source result
+            self.new.source }
+        ensures kept { self.new.digit_buffer ≡ self.old.digit_buffer }
+        ensures left { S.left self.new.source ≤ S.left self.old.source }
+    {
+        match self.source.peek() {
+            Some(c) if c == wanted => {
+                self.source.bump();
+                true
+            }
+            _ => false,
+        }
+    }
+}
+
+/// The exponent of these digits, with this sign, if there is one.
+fn exponent_parts(negative: Option<bool>, digits: &[u8]) -> Option<ExponentParts<'_>>
+    ensures { exponent_of result ≡ option_map (λ b. record {
+      letter = 101;
+      sign = if b then Some 45 else None;
+      digits = digits.now;
+    }) negative }
+{
+    let negative = negative?;
+    Some(ExponentParts { negative, digits })
+}

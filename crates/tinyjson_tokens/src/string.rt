@@ -1,0 +1,220 @@
+//! Strings (RFC 8259, section 7).
+ghost use Rattle.std.specs.Prelude.{◌≡◌, ℕ, ◌<◌, ◌≤◌, List, [], ◌∷◌, ◌++◌, true, false};
+ghost use Rattle.std.specs.Prelude.{MatchResult, OnOk, Option, cond};
+ghost use Rattle.tinyjson_grammar.specs.Characters.{paired, decode};
+ghost use Rattle.tinyjson_grammar.specs.Machine.{Frame, plain, backslash, hex, quoted, next};
+ghost use Rattle.tinyjson_grammar.specs.Machine.{complete};
+ghost use Rattle.tinyjson_tokens.specs.Steps.{Reads, Fails, within};
+ghost use Rattle.tinyjson_grammar.specs.Tree.{string};
+ghost use Rattle.tinyjson_grammar.specs.Characters.{text};
+
+use crate::escape::short_escape;
+use crate::reader::TokenReader;
+use crate::tokens::Tokens;
+use std::mem;
+use tinyjson_grammar::JsonParseErrorKind;
+use tinyjson_scan::is_plain;
+use tinyjson_source::utf16::{decode, push};
+
+impl<S: Tokens> TokenReader<S> {
+    /// Behind the quote that opens a string.
+    #[inline(always)]
+    pub fn string(&mut self) -> Result<String, JsonParseErrorKind>
+        ensures reads { (limit : Option ℕ) (fs : List Frame) →
+            Reads S.sight limit self.old.source (next fs (quoted plain [] [])) result
+            (λ s. complete true fs (string (text s)) true) self.new.source }
+        ensures left { S.left self.new.source ≤ S.left self.old.source }
+    {
+        self.buffer.clear();
+        match self.source.quoted(self.alloc, &mut self.buffer) {
+            Ok(Some(string)) => Ok(string),
+            Ok(None) => self.escaped(),
+            Err(_) => Err(JsonParseErrorKind::OutOfMemory),
+        }
+    }
+
+    /// Behind the plain characters in the buffer.
+    #[inline(never)]
+    fn escaped(&mut self) -> Result<String, JsonParseErrorKind>
+        ensures reads { (limit : Option ℕ) (fs : List Frame) →
+            Reads S.sight limit self.old.source (within fs self.old.buffer [] false) result
+            (λ s. complete true fs (string (text s)) true) self.new.source }
+        ensures left { S.left self.new.source ≤ S.left self.old.source }
+    {
+        match self.source.escaped(&mut self.buffer) {
+            Ok(_) => self.pieces(),
+            Err(_) => Err(JsonParseErrorKind::OutOfMemory),
+        }
+    }
+
+    /// Behind the characters in the buffer.
+    fn pieces(&mut self) -> Result<String, JsonParseErrorKind>
+        ensures reads { (limit : Option ℕ) (fs : List Frame) →
+            Reads S.sight limit self.old.source (within fs self.old.buffer [] false) result
+            (λ s. complete true fs (string (text s)) true) self.new.source }
+        ensures left { S.left self.new.source ≤ S.left self.old.source }
+    {
+        let mut string = mem::replace(&mut self.buffer, String::new(self.alloc));
+        let mut units = mem::replace(&mut self.units, Vec::new(self.alloc));
+        units.clear();
+        while !self.piece(&mut string, &mut units)? {
+            self.settle(&mut string, &mut units)?;
+            self.plain(&mut string, units.as_slice())?;
+        }
+        let Ok(exact) = String::from_str(self.alloc, string.as_str()) else {
+            return Err(JsonParseErrorKind::OutOfMemory);
+        };
+        self.buffer = string;
+        self.units = units;
+        Ok(exact)
+    }
+
+    /// Adds the characters that the units spell, if a plain character comes next.
+    fn settle(
+        &mut self,
+        string: &mut String,
+        units: &mut Vec<u16>,
+    ) -> Result<(), JsonParseErrorKind>
+        ensures reads { (limit : Option ℕ) (fs : List Frame) →
+            Reads S.sight limit self.old.source (within fs string.old units.old.items false) result
+            (λ _. within fs string.new units.new.items false) self.new.source }
+        ensures left { S.left self.new.source ≤ S.left self.old.source }
+    {
+        if units.is_empty() {
+            return Ok(());
+        }
+        match self.source.peek() {
+            Some(c) if is_plain(c) => match decode(units, string) {
+                Ok(true) => {
+                    units.clear();
+                    Ok(())
+                }
+                Ok(false) => {
+                    self.source.bump();
+                    Err(JsonParseErrorKind::InvalidUtf16)
+                }
+                Err(_) => Err(JsonParseErrorKind::OutOfMemory),
+            },
+            _ => Ok(()),
+        }
+    }
+
+    /// Reads the plain characters and the escapes that the source takes at once, unless units wait.
+    fn plain(&mut self, string: &mut String, units: &[u16]) -> Result<(), JsonParseErrorKind>
+        ensures reads { (limit : Option ℕ) (fs : List Frame)
+            → Reads S.sight limit self.old.source (within fs string.old units.now false) result
+            (λ _. within fs string.new units.now false) self.new.source }
+        ensures left { S.left self.new.source ≤ S.left self.old.source }
+    {
+        if !units.is_empty() {
+            return Ok(());
+        }
+        match self.source.escaped(string) {
+            Ok(_) => Ok(()),
+            Err(_) => Err(JsonParseErrorKind::OutOfMemory),
+        }
+    }
+
+    /// Reads a part of a string; `true` at the quote that closes it.
+    fn piece(
+        &mut self,
+        string: &mut String,
+        units: &mut Vec<u16>,
+    ) -> Result<bool, JsonParseErrorKind>
+        ensures reads { (limit : Option ℕ) (fs : List Frame) →
+            Reads S.sight limit self.old.source (within fs string.old units.old.items false) result
+            (within fs string.new units.new.items) self.new.source }
+        ensures left { S.left self.new.source ≤ S.left self.old.source }
+        ensures some { OnOk result (S.left self.new.source < S.left self.old.source) }
+    {
+        let Some(c) = self.source.bump() else {
+            return Err(JsonParseErrorKind::UnexpectedEof);
+        };
+        match c {
+            '"' => {
+                flush(string, units)?;
+                Ok(true)
+            }
+            '\\' => self.escape(string, units),
+            c if c < ' ' => Err(JsonParseErrorKind::ControlCharacter(c)),
+            c => add(string, units, c),
+        }
+    }
+
+    /// Behind a backslash.
+    fn escape(
+        &mut self,
+        string: &mut String,
+        units: &mut Vec<u16>,
+    ) -> Result<bool, JsonParseErrorKind>
+        ensures reads { (limit : Option ℕ) (fs : List Frame) →
+            Reads S.sight limit self.old.source
+            (next fs (quoted backslash (text string.old) units.old.items)) result
+            (within fs string.new units.new.items) self.new.source }
+        ensures left { S.left self.new.source ≤ S.left self.old.source }
+    {
+        let Some(c) = self.source.bump() else {
+            return Err(JsonParseErrorKind::UnexpectedEof);
+        };
+        match short_escape(c) {
+            Some(d) => add(string, units, d),
+            None if c == 'u' => self.unit(units),
+            None => Err(JsonParseErrorKind::InvalidEscape(c)),
+        }
+    }
+
+    /// Reads the four digits of a unit.
+    fn unit(&mut self, units: &mut Vec<u16>) -> Result<bool, JsonParseErrorKind>
+        ensures reads { (limit : Option ℕ) (fs : List Frame) (cs : List ℕ) →
+            Reads S.sight limit self.old.source (next fs (quoted (hex []) cs units.old.items))
+            result (λ done. cond done (complete true fs (string cs) true)
+            (next fs (quoted plain cs units.new.items))) self.new.source }
+        ensures left { S.left self.new.source ≤ S.left self.old.source }
+    {
+        let mut unit: u16 = 0;
+        for _ in 0..4_usize {
+            let Some(c) = self.source.bump() else {
+                return Err(JsonParseErrorKind::UnexpectedEof);
+            };
+            let Some(digit) = c.to_digit(16) else {
+                return Err(JsonParseErrorKind::InvalidHexDigit(c));
+            };
+            unit = unit * 16 + digit as u16;
+        }
+        if units.push(unit).is_err() {
+            return Err(JsonParseErrorKind::OutOfMemory);
+        }
+        Ok(false)
+    }
+}
+
+/// Adds the characters that the units spell.
+fn flush(string: &mut String, units: &mut Vec<u16>) -> Result<(), JsonParseErrorKind>
+    ensures { MatchResult result (λ _. (paired units.old.items ≡ true)
+        × (text string.new ≡ text string.old ++ decode units.old.items)
+        × (units.new.items ≡ [])) (Fails (paired units.old.items)) }
+{
+    match decode(units, string) {
+        Ok(true) => {
+            units.clear();
+            Ok(())
+        }
+        Ok(false) => Err(JsonParseErrorKind::InvalidUtf16),
+        Err(_) => Err(JsonParseErrorKind::OutOfMemory),
+    }
+}
+
+/// Adds the characters that the units spell, and then `c`.
+fn add(string: &mut String, units: &mut Vec<u16>, c: char) -> Result<bool, JsonParseErrorKind>
+    ensures { MatchResult result (λ done. (done ≡ false) × (paired units.old.items ≡ true)
+        × (text string.new ≡ (text string.old ++ decode units.old.items) ++ c ∷ [])
+        × (units.new.items ≡ [])) (Fails (paired units.old.items)) }
+{
+    if !units.is_empty() {
+        flush(string, units)?;
+    }
+    if push(string, c).is_err() {
+        return Err(JsonParseErrorKind::OutOfMemory);
+    }
+    Ok(false)
+}

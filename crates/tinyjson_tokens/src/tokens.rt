@@ -1,0 +1,83 @@
+//! What a source reads whole, if it has its characters in memory: escapes and numbers.
+ghost use Rattle.std.specs.Prelude.{ℕ, ◌+◌, ◌^◌, ◌<◌, ◌≤◌, List, [], false, IfSome};
+ghost use Rattle.std.specs.Prelude.{MatchResult, Option, length};
+ghost use Rattle.tinyjson_grammar.specs.Machine.{Frame};
+ghost use Rattle.tinyjson_tokens.specs.Numerals.{TakesNumber, TakesParts};
+ghost use Rattle.tinyjson_tokens.specs.Steps.{Halts, Leads, within};
+
+use crate::escape::escape_at;
+use crate::number::{parts_at, scientific_at};
+use std::alloc::{AllocError, Global};
+use tinyjson_number::{JsonNumber, NumberParts};
+use tinyjson_source::utf16::push;
+use tinyjson_source::{Characters, Source, TextBytes};
+
+/// A source of which the parser reads.
+pub trait Tokens: Source {
+    /// Within a string, with no unit waiting: takes plain characters, and escapes that spell a character
+    /// at once, and adds what they stand for. Where memory runs out, some of them may be taken.
+    fn escaped(&mut self, string: &mut String) -> Result<(), AllocError>
+        ensures reads { (limit : Option ℕ) (fs : List Frame) → MatchResult result
+            (λ _. Leads Self.sight limit self.old (within fs string.old [] false)
+            self.new (within fs string.new [] false))
+            (λ _. Halts Self.sight limit self.old (within fs string.old [] false) self.new) }
+        ensures left { Self.left self.new ≤ Self.left self.old }
+    {
+        self.plain(string)
+    }
+
+    /// The parts of the number that comes next, and the source behind it, if this source finds it whole, and
+    /// it has no exponent. It may find none.
+    fn numeral(&self) -> Option<(NumberParts<'_>, Self)>
+        ensures takes { IfSome result (λ r. TakesParts Self.sight self.now r.0 r.1) }
+        ensures room { IfSome result (λ r.
+            length r.0.whole.now + length r.0.fraction.now < 2 ^ 64) }
+        ensures left { IfSome result (λ r. Self.left r.1 < Self.left self.now) }
+    {
+        None
+    }
+
+    /// The number with an exponent that comes next, and the source behind it, if this source finds it whole,
+    /// it is in range, and there is memory. It may find none.
+    fn scientific(&self, alloc: Global) -> Option<(JsonNumber, Self)>
+        ensures takes { IfSome result (λ r. TakesNumber Self.sight self.now r.0 r.1) }
+        ensures left { IfSome result (λ r. Self.left r.1 < Self.left self.now) }
+    {
+        None
+    }
+}
+
+impl<I: Iterator<Item = char>> Tokens for Characters<I> {}
+
+impl<'a> Tokens for TextBytes<'a> {
+    fn escaped(&mut self, string: &mut String) -> Result<(), AllocError> {
+        self.plain(string)?;
+        while let Some((c, end)) = escape_at(self.text.as_bytes(), self.at) {
+            push(string, c)?;
+            self.at = end;
+            self.letters(string)?;
+        }
+        Ok(())
+    }
+
+    fn numeral(&self) -> Option<(NumberParts<'_>, Self)> {
+        let (parts, end) = parts_at(self.text.as_bytes(), self.at)?;
+        let behind = TextBytes {
+            text: self.text,
+            at: end,
+        };
+        Some((parts, behind))
+    }
+
+    fn scientific(&self, alloc: Global) -> Option<(JsonNumber, Self)> {
+        let (parts, end) = scientific_at(self.text.as_bytes(), self.at)?;
+        let behind = TextBytes {
+            text: self.text,
+            at: end,
+        };
+        match JsonNumber::from_parts(alloc, parts) {
+            Ok(number) => Some((number, behind)),
+            Err(_) => None,
+        }
+    }
+}
