@@ -17,6 +17,3 @@ pub use error::{JsonNumberError, LiteralError};
 pub use number::JsonNumber;
 pub use parse::{ExponentParts, NumberParts};
 pub use text::Layout;
-
-#[cfg(test)]
-mod tests;

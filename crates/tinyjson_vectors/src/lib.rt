@@ -17,6 +17,8 @@ mod memory;
 #[cfg(test)]
 mod messages;
 #[cfg(test)]
+mod numbers;
+#[cfg(test)]
 mod parsing;
 #[cfg(test)]
 mod places;

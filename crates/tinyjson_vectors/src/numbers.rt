@@ -1,6 +1,9 @@
-use super::*;
+//! Numbers: what is read, their parts and their texts.
+
 use std::string::ToString;
-use std::test::*;
+use std::test::Fail;
+use tinyjson::number::{ExponentParts, LiteralError, NumberParts};
+use tinyjson::{JsonNumber, JsonNumberError};
 
 /// A number's text, whether it is negative, its digits, its power and its own text.
 type Row = (&'static str, bool, &'static str, i64, &'static str);
