@@ -1,4 +1,4 @@
-//! Users of the crate `tinyjson`, and the tests that need more than one of its modules.
+//! Users of the crate `tinyjson`, and the tests of it and of the crates below it.
 #![tactic(auto)]
 
 pub mod access;

@@ -1,4 +1,4 @@
--- What a cursor shows stands in front of what it gives.
+-- What a cursor shows stands in front of what it gives. For private contracts.
 use Rattle.std.specs.Prelude.{◌≡◌, ℕ, List, [], ◌∷◌, ◌++◌, Option, Some, None}
 use Rattle.std.specs.Option.{option_to_list}
 use Rattle.std.proofs.Common.{ap, sym, ◌∙◌}

@@ -1,4 +1,4 @@
--- Lines and columns are bounded, and what is shown stands in front.
+-- Lines and columns are bounded, and what is shown stands in front. For private contracts.
 use Rattle.std.specs.Prelude.{◌≡◌, ℕ, ◌+◌, ◌<◌, ◌==◌, cond, List, [], ◌∷◌, length, Option, Some, None, slice_get}
 use Rattle.std.specs.Option.{unwrap_or}
 use Rattle.std.proofs.Common.{ap, sym, ◌∙◌}
