@@ -2,7 +2,7 @@
 
 use std::string::ToString;
 use std::test::Fail;
-use tinyjson::number::{ExponentParts, LiteralError, NumberParts};
+use tinyjson::number::LiteralError;
 use tinyjson::{JsonNumber, JsonNumberError};
 
 /// A number's text, whether it is negative, its digits, its power and its own text.
@@ -177,29 +177,6 @@ fn whole_numbers(rt: HostRuntime) -> Result<(), Fail> {
     let greatest = JsonNumber::from_u64(rt.alloc(), u64::MAX)?;
     assert_eq!(rt; greatest.to_u64(), Some(u64::MAX));
     assert!(rt; JsonNumber::from_u64(rt.alloc(), 0)? == JsonNumber::zero());
-    Ok(())
-}
-
-#[test]
-fn known_literal(rt: HostRuntime) -> Result<(), Fail> {
-    let number = JsonNumber::from_literal(rt.alloc(), "15")?;
-    assert_eq!(rt; number.to_u64(), Some(15));
-    Ok(())
-}
-
-#[test]
-fn known_parts(rt: HostRuntime) -> Result<(), Fail> {
-    let parts = NumberParts {
-        negative: true,
-        whole: b"12",
-        fraction: b"30",
-        exponent: Some(ExponentParts {
-            negative: true,
-            digits: b"1",
-        }),
-    };
-    let number = JsonNumber::from_parts(rt.alloc(), parts)?;
-    assert_eq!(rt; number.to_string(rt.alloc())?.as_str(), "-1.23");
     Ok(())
 }
 

@@ -1,8 +1,0 @@
-use Rattle.std.proofs.Common.{[], ◌∷◌, false, refl, arith, None}
-use Rattle.tinyjson_vectors.proofs.numbers.known_literal.Goals as goal
-
-pub from_literal-requires : goal.from_literal-requires
-from_literal-requires g c = (
-  record { negative = false; whole = 49 ∷ 53 ∷ []; fraction = []; exponent = None },
-  record { well_formed = record { whole = (refl, (refl, tt)); some_digit = omega arith; fraction = tt; exponent = tt }; no_leading_zero = refl; spelled = refl },
-)
