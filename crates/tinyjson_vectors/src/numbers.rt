@@ -81,21 +81,30 @@ fn number(rt: &HostRuntime, text: &str) -> Result<JsonNumber, Fail> {
     Ok(JsonNumber::from_text(rt.alloc(), text)?)
 }
 
+/// Whether a number is zero, whether it is negative, its digits and its power.
+fn parts(number: &JsonNumber) -> (bool, bool, &str, i64) {
+    (
+        number.is_zero(),
+        number.is_negative(),
+        number.digits(),
+        number.power(),
+    )
+}
+
 #[test]
 fn decimals(rt: HostRuntime) -> Result<(), Fail> {
     for (text, negative, digits, power, shown) in ROWS {
         let number = number(&rt, text)?;
-        assert_eq!(rt; number.is_zero(), digits.is_empty(), "{text}");
-        assert_eq!(rt; number.is_negative(), negative, "{text}");
-        assert_eq!(rt; number.digits(), digits, "{text}");
-        assert_eq!(rt; number.power(), power, "{text}");
-        let own = number.to_string(rt.alloc())?;
-        assert_eq!(rt; own.as_str(), shown, "{text}");
-        assert!(rt;
-            JsonNumber::from_text(rt.alloc(), own.as_str())? == number,
+        let is_zero = digits.is_empty();
+        assert_eq!(rt;
+            parts(&number),
+            (is_zero, negative, digits, power),
             "{text}"
         );
-        assert!(rt; number.try_clone(rt.alloc())? == number, "{text}");
+        let own = number.to_string(rt.alloc())?;
+        assert_eq!(rt; own.as_str(), shown, "{text}");
+        assert_eq!(rt; JsonNumber::from_text(rt.alloc(), own.as_str())?, number);
+        assert_eq!(rt; number.try_clone(rt.alloc())?, number);
     }
     Ok(())
 }
@@ -168,10 +177,13 @@ fn whole_numbers(rt: HostRuntime) -> Result<(), Fail> {
         assert_eq!(rt; number.to_i64(), signed, "{text}");
         assert_eq!(rt; number.to_u64(), unsigned, "{text}");
     }
+    Ok(())
+}
+
+#[test]
+fn from_whole_numbers(rt: HostRuntime) -> Result<(), Fail> {
     let number = JsonNumber::from_i64(rt.alloc(), -1200)?;
-    assert!(rt; number.is_negative());
-    assert_eq!(rt; number.digits(), "12");
-    assert_eq!(rt; number.power(), 2);
+    assert_eq!(rt; parts(&number), (false, true, "12", 2));
     let least = JsonNumber::from_i64(rt.alloc(), i64::MIN)?;
     assert_eq!(rt; least.to_i64(), Some(i64::MIN));
     let greatest = JsonNumber::from_u64(rt.alloc(), u64::MAX)?;
