@@ -56,7 +56,7 @@ mutual
       (Decides-and _ _ (bytes_eq-Decides k l) (Decides-and _ _ (tree_eq_Decides t u) (members_eq_Decides ms ns)))
   members_eq_Decides _ _ = (λ h. absurd (true≢false (sym h)), λ e. cc)
 
--- what `==` of two values answers: whether their trees are equal
+-- what `==` of two values returns: whether their trees are equal
 abbrev pub same_tree : JsonValue → JsonValue → Bool
 same_tree v w = tree_eq (view v) (view w)
 

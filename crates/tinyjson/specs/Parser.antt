@@ -1,4 +1,4 @@
--- What a contract sees of a parser, and what a call of `parse` answers.
+-- What a contract sees of a parser, and what a call of `parse` returns.
 use Rattle.std.specs.Prelude.{◌≡◌, ℕ, List, [], ◌++◌, Option, Some, None, Result, MatchResult, IfErr, All}
 use Rattle.std.specs.Char.{IsScalar}
 use Rattle.std.specs.Iterator.{AlwaysYields}
@@ -41,7 +41,7 @@ module _ {S : Type 0} (steps : S → Option ℕ → S → Type 0) where
     pub follows : Follows p.source later
     pub scalars : All IsScalar xs
 
--- What `parse` answers on the characters xs that p had left, of which q has the rest left.
+-- What `parse` returns for the characters xs that p had left, of which q has the rest left.
 pub record Parses
     {S : Type 0} (steps : S → Option ℕ → S → Type 0)
     (p : Parser S) (xs : List ℕ) (result : Result JsonValue JsonParseError) (q : Parser S)
@@ -58,7 +58,7 @@ pub record Parses
   -- an error, unless memory ran out, means that the characters have no tree
   pub refused : IfErr result (λ e. ¬ (error_kind e ≡ kind.OutOfMemory) → ¬ IsAccepted p.limit xs)
 
--- What a new parser with this limit answers on a text of these characters.
+-- What a new parser with this limit returns for a text of these characters.
 pub record ParsesText (limit : Option ℕ) (xs : List ℕ) (result : Result JsonValue JsonParseError) : Type 0 where
   pub consumed : List ℕ
   pub rest : List ℕ

@@ -54,7 +54,7 @@ impl<'indent, W: Write> JsonGenerator<'indent, W> {
         }
     }
 
-    /// Writes indented text from now on: each item and each key on a line of its own, behind `indent`
+    /// Writes indented text from now on: each item and each key on a line of its own, after `indent`
     /// once for each container around it. Only text that is indented by white space, or by the empty
     /// text, is JSON. The last call decides.
     ///
@@ -211,7 +211,7 @@ impl JsonValue {
     }
 }
 
-// The text, whose bytes are UTF-8, since a value's characters are scalar values.
+/// The text, whose bytes are UTF-8, since a value's characters are scalar values.
 fn written(alloc: Global, indent: Option<&str>, value: &JsonValue) -> JsonGenerateResult
     requires { IfSome (indent_of indent) (λ i. IsTrue (all_scalars i)) }
     ensures { IfOk result

@@ -1,4 +1,5 @@
-//! JSON with one normal form: a parser and a generator whose every answer, and every refusal, is proved.
+//! A JSON parser and generator: every value read, every error with its kind and position, and every byte
+//! written is covered by a proved contract.
 //!
 //! Text by the grammar of RFC 8259, sections 2 to 8, is read from any iterator of characters into a
 //! [`JsonValue`] of plain containers. A value goes back to text over any writer, with its keys in the

@@ -17,7 +17,7 @@ use std::alloc::Global;
 use std::marker::Model;
 use tinyjson_source::{Characters, TextBytes};
 
-/// What [`JsonParser::parse`] answers.
+/// What [`JsonParser::parse`] returns.
 ///
 /// ```
 /// let read: JsonParseResult = JsonParser::new(alloc, "null".chars()).parse();
@@ -27,7 +27,7 @@ pub type JsonParseResult = Result<JsonValue, JsonParseError>;
 
 /// A parser of JSON texts (RFC 8259), over any iterator of characters.
 ///
-/// It looks one character ahead, and asks for it no earlier than it needs it. After a refusal the
+/// It looks one character ahead, and asks for it no earlier than it needs it. After an error the
 /// characters that were not consumed, the line and the column stay, and another call of
 /// [`JsonParser::parse`] reads a text from there.
 ///
@@ -91,8 +91,8 @@ impl<I: Iterator<Item = char>> JsonParser<I> {
     /// With the limit 1, `[1]` is accepted and `[[1]]` is refused at its second bracket.
     ///
     /// ```
-    /// let refusal = JsonParser::with_depth_limit(alloc, "[[1]]".chars(), 1).parse();
-    /// assert!(rt; refusal.is_err_and(|error| error.kind() == JsonParseErrorKind::TooDeep('[')));
+    /// let result = JsonParser::with_depth_limit(alloc, "[[1]]".chars(), 1).parse();
+    /// assert!(rt; result.is_err_and(|error| error.kind() == JsonParseErrorKind::TooDeep('[')));
     /// ```
     pub fn with_depth_limit(alloc: Global, it: I, limit: usize) -> Self
         requires can { I.can_next it }
@@ -108,12 +108,12 @@ impl<I: Iterator<Item = char>> JsonParser<I> {
         }
     }
 
-    /// Reads all characters that are left as one text (RFC 8259, section 2), and gives its value.
+    /// Reads all characters that are left as one text (RFC 8259, section 2), and returns its value.
     ///
-    /// Of equal keys in an object the last member stays. A refusal tells its kind, and the line and
-    /// the column behind what was consumed; it gives back no part of a value. After a value nothing is
-    /// left, and a further call is refused as `UnexpectedEof`. What is read and not returned, as of a
-    /// text that is refused, is freed by a loop, however deep it is nested.
+    /// Of equal keys in an object the last member stays. An error has a kind, and the line and the
+    /// column after what was consumed; it holds no part of a value. After a value nothing is left, and a
+    /// further call returns `UnexpectedEof`. What is read and not returned, as of a text that is refused,
+    /// is freed by a loop, however deep it is nested.
     ///
     /// ```
     /// let mut parser = JsonParser::new(alloc, "nul 1".chars());
@@ -130,7 +130,7 @@ impl<I: Iterator<Item = char>> JsonParser<I> {
 }
 
 impl JsonValue {
-    /// The value of a text: what [`JsonParser::parse`] of a new parser answers on its characters.
+    /// The value of a text: what [`JsonParser::parse`] of a new parser returns for its characters.
     ///
     /// A deeply nested value is freed as [`JsonParser::new`] says: read the texts of strangers with
     /// [`JsonValue::from_str_with_depth_limit`], or give their values to [`JsonValue::dismantle`].
@@ -145,11 +145,11 @@ impl JsonValue {
     }
 
     /// The value of a text in which at most `limit` containers are open at once: what a parser made by
-    /// [`JsonParser::with_depth_limit`] answers on its characters.
+    /// [`JsonParser::with_depth_limit`] returns for its characters.
     ///
     /// ```
-    /// let refusal = JsonValue::from_str_with_depth_limit(alloc, "[[1]]", 1);
-    /// assert!(rt; refusal.is_err_and(|error| error.kind() == JsonParseErrorKind::TooDeep('[')));
+    /// let result = JsonValue::from_str_with_depth_limit(alloc, "[[1]]", 1);
+    /// assert!(rt; result.is_err_and(|error| error.kind() == JsonParseErrorKind::TooDeep('[')));
     /// ```
     pub fn from_str_with_depth_limit(alloc: Global, s: &str, limit: usize) -> JsonParseResult
         ensures { ParsesText (Some limit) (chars s.now) result }
@@ -158,7 +158,7 @@ impl JsonValue {
     }
 }
 
-/// What [`JsonParser::parse`] of a new parser with this limit answers on the characters of a text.
+/// What [`JsonParser::parse`] of a new parser with this limit returns for the characters of a text.
 fn parse_text(alloc: Global, text: &str, limit: Option<usize>) -> JsonParseResult
     ensures { ParsesText limit (chars text.now) result }
 {

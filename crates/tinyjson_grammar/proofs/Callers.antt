@@ -3,6 +3,7 @@ pub mod Laws
 pub use Rattle.tinyjson_grammar.proofs.Theorem.{accepts, refuses}
 pub use Rattle.tinyjson_grammar.proofs.Memory.{interrupted, interrupted_late}
 pub use Rattle.tinyjson_grammar.proofs.Prefix.InRange.{ranges}
+pub use Rattle.tinyjson_grammar.proofs.Accepts.Number.{letter_no_digit, letter_no_point, sign_no_digit}
 pub use Rattle.tinyjson_grammar.proofs.Accepts.Runs.{digit_not_white}
 pub use Rattle.tinyjson_grammar.proofs.Texts.WrittenTexts.{compact_text, one_compact}
 pub use Rattle.tinyjson_grammar.proofs.Members.{cond_swap, find_below, find_put, find_remove, flip, found_first, key_same}

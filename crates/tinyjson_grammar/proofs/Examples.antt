@@ -1,13 +1,11 @@
--- Computed examples of the machine: the kind of a refusal and what is left of the text, or that it is accepted.
+-- Computed examples of the machine: the kind of an error and what is left of the text, or that it is accepted.
 use Rattle.std.proofs.Common.{◌≡◌, [], ◌∷◌, None, refl}
 use Rattle.std.specs.Prelude.{codes}
-use Rattle.tinyjson_grammar.specs.Machine.{strictly}
-use Rattle.tinyjson_grammar.specs.Tree.{null}
+use Rattle.tinyjson_grammar.specs.Machine.{strictly, awaited, Outcome, accepted, refused, run, step, end}
+use Rattle.tinyjson_grammar.specs.Tree.{null, put}
 use Rattle.tinyjson_grammar.specs.declared.kind.JsonKind.TheVariants as kind
 use Rattle.tinyjson_grammar.specs.declared.error.JsonParseErrorKind.TheVariants.{UnexpectedEof, InvalidCharacter, ExpectedEof, KeyNotString, ExpectedColon, ExpectedCommaOrBracket, InvalidUtf16, InvalidEscape, ControlCharacter, UnexpectedInLiteral, EmptyInteger, LeadingZero, EmptyFraction, EmptyExponent, NumberOutOfRange}
-use Rattle.tinyjson_grammar.specs.Machine.{awaited, Outcome, accepted, refused, run, step, end}
 use Rattle.tinyjson_number.specs.Numeral.{value, power_fits}
-use Rattle.tinyjson_grammar.specs.Tree.{put}
 
 -- the outcome, or any tree in place of that of the second
 abbrev Alike : Outcome → Outcome → Type 0

@@ -2,8 +2,7 @@
 use Rattle.std.proofs.Common.{◌≡◌, ℕ, suc, true, List, [], ◌∷◌, ◌++◌, Option, Some, refl, sym, subst, append_assoc, append-nil, arith}
 use Rattle.std.specs.Prelude.{All}
 use Rattle.std.specs.Char.{IsScalar}
-use Rattle.tinyjson_grammar.specs.Machine.{strictly}
-use Rattle.tinyjson_grammar.specs.Machine.{Frame, Phase, State, Next, next, stop, awaited, step, reach, reach_on}
+use Rattle.tinyjson_grammar.specs.Machine.{strictly, Frame, Phase, State, Next, next, stop, awaited, step, reach, reach_on}
 use Rattle.tinyjson_grammar.specs.Refusal.{IsPromptly, IsInterrupted}
 use Rattle.tinyjson_grammar.specs.declared.error.JsonParseErrorKind.TheVariants.{InvalidUtf16}
 use Rattle.tinyjson_grammar.proofs.Trace.State.{Ranges, Spells}

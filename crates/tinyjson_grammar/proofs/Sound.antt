@@ -2,17 +2,15 @@
 use Rattle.std.proofs.Common.{suc, ◌≡◌, ℕ, Bool, true, false, List, [], ◌∷◌, ◌++◌, Option, refl, ap, sym, ◌∙◌, append_assoc, append-nil, arith, subst, ◌⊎◌, inl, inr}
 use Rattle.std.specs.Prelude.{All}
 use Rattle.std.specs.Char.{IsScalar}
-use Rattle.tinyjson_grammar.specs.Machine.{strictly}
+use Rattle.tinyjson_grammar.specs.Machine.{strictly, Rules, Frame, Phase, awaited, Next, next, stop, Outcome, accepted, refused, step, end, run, go_on}
 use Rattle.tinyjson_grammar.specs.Kind.{kind_of}
 use Rattle.tinyjson_grammar.specs.Tree.{Tree}
 use Rattle.tinyjson_grammar.specs.Syntax.{tree_of}
 use Rattle.tinyjson_grammar.specs.Grammar.{IsLoose, IsText, IsAccepted}
-use Rattle.tinyjson_grammar.specs.Prefix.{IsViable, IsFaultless, IsCutOffText}
-use Rattle.tinyjson_grammar.specs.Machine.{Rules, Frame, Phase, awaited, Next, next, stop, Outcome, accepted, refused, step, end, run, go_on}
+use Rattle.tinyjson_grammar.specs.Prefix.{IsViable, IsFaultless, IsCutOffText, IsLooselyViable}
 use Rattle.tinyjson_grammar.specs.declared.error.JsonParseErrorKind.{JsonParseErrorKind}
 use Rattle.tinyjson_grammar.specs.declared.error.JsonParseErrorKind.TheVariants.{KeyNotString}
 use Rattle.tinyjson_grammar.specs.Refusal.{KindSays, IsNotTooLate, IsRefusal}
-use Rattle.tinyjson_grammar.specs.Prefix.{IsLooselyViable}
 use Rattle.tinyjson_grammar.proofs.Trace.Paths.{outside}
 use Rattle.tinyjson_grammar.proofs.Prefix.Faultless.{viable_before}
 use Rattle.tinyjson_grammar.proofs.Trace.State.{Ranges, Spells, at_awaited}

@@ -3,10 +3,9 @@ use Rattle.std.proofs.Common.{◌≡◌, ℕ, List, [], ◌++◌, Option, sym, s
 use Rattle.std.proofs.lemmas.List.{append_cancel_right}
 use Rattle.std.specs.Prelude.{All, ◌↔◌}
 use Rattle.std.specs.Char.{IsScalar}
-use Rattle.tinyjson_grammar.specs.Machine.{strictly}
+use Rattle.tinyjson_grammar.specs.Machine.{strictly, awaited, accepted, refused, run}
 use Rattle.tinyjson_grammar.specs.Tree.{Tree}
 use Rattle.tinyjson_grammar.specs.Grammar.{IsText}
-use Rattle.tinyjson_grammar.specs.Machine.{awaited, accepted, refused, run}
 use Rattle.tinyjson_grammar.specs.Refusal.{IsRefusal}
 use Rattle.tinyjson_grammar.specs.declared.error.JsonParseErrorKind.{JsonParseErrorKind}
 use Rattle.tinyjson_grammar.proofs.Prefix.InRange.{ranges}

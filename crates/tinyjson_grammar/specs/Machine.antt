@@ -1,6 +1,6 @@
 -- The parser as a machine over characters, for private contracts. `strict` refuses what the grammar refuses;
 -- otherwise the four conditions are off.
-use Rattle.std.specs.Prelude.{ℕ, Bool, true, false, cond, ◌||◌, ◌&&◌, ◌==◌, not, List, [], ◌∷◌, ◌++◌, Option, Some, None, length, nat_lt}
+use Rattle.std.specs.Prelude.{ℕ, Bool, true, false, cond, ◌||◌, ◌&&◌, ◌==◌, not, List, [], ◌∷◌, ◌++◌, Option, Some, None, length, nat_lt, codes}
 use Rattle.std.specs.Char.{is_ascii_digit}
 use Rattle.tinyjson_number.specs.Numeral.{is_exponent_letter, Numeral, Exponent, has_leading_zero, value, in_range}
 use Rattle.tinyjson_grammar.specs.Tree.{Tree, null, boolean, number, string, array, object}
@@ -47,7 +47,7 @@ pub data Within : Type 0 where
 pub data Phase : Type 0 where
   first : Phase
   awaited : Phase
-  word : List ℕ → Tree → Phase
+  literal : List ℕ → Tree → Phase
   digits : Stage → Numeral → Phase
   quoted : Within → List ℕ → List ℕ → Phase
   colon : List ℕ → Phase
@@ -58,7 +58,7 @@ pub record State : Type 0 where
   pub frames : List Frame
   pub phase : Phase
 
--- The next state, or a refusal, with whether it takes the character.
+-- The next state, or an error, with whether it takes the character.
 pub data Next : Type 0 where
   next : List Frame → Phase → Next
   stop : JsonParseErrorKind → Bool → Next
@@ -88,9 +88,9 @@ push_frame r fs f c = cond (fits r.limit (length fs)) (next (f ∷ fs) first) (s
 -- the first character of a value
 abbrev pub start : Rules → List Frame → ℕ → Next
 start r fs c =
-    cond (c == 110) (next fs (word (117 ∷ 108 ∷ 108 ∷ []) null))
-    (cond (c == 116) (next fs (word (114 ∷ 117 ∷ 101 ∷ []) (boolean true)))
-    (cond (c == 102) (next fs (word (97 ∷ 108 ∷ 115 ∷ 101 ∷ []) (boolean false)))
+    cond (c == 110) (next fs (literal (codes "ull") null))
+    (cond (c == 116) (next fs (literal (codes "rue") (boolean true)))
+    (cond (c == 102) (next fs (literal (codes "alse") (boolean false)))
     (cond (c == 34) (next fs (quoted plain [] []))
     (cond (c == 91) (push_frame r fs (in_array []) c)
     (cond (c == 123) (push_frame r fs (at_key no_members) c)
@@ -124,10 +124,10 @@ step_colon (in_array ts ∷ fs) k c = stop (ExpectedColon c) true
 step_colon (at_key ms ∷ fs) k c = cond (c == 58) (next (at_value ms k ∷ fs) awaited) (stop (ExpectedColon c) true)
 step_colon (at_value ms j ∷ fs) k c = stop (ExpectedColon c) true
 
-abbrev pub step_word : Rules → List Frame → List ℕ → Tree → ℕ → Next
-step_word r fs [] t c = stop (UnexpectedInLiteral c) true
-step_word r fs (l ∷ []) t c = cond (c == l) (complete r.strict fs t true) (stop (UnexpectedInLiteral c) true)
-step_word r fs (l ∷ m ∷ ls) t c = cond (c == l) (next fs (word (m ∷ ls) t)) (stop (UnexpectedInLiteral c) true)
+abbrev pub step_literal : Rules → List Frame → List ℕ → Tree → ℕ → Next
+step_literal r fs [] t c = stop (UnexpectedInLiteral c) true
+step_literal r fs (l ∷ []) t c = cond (c == l) (complete r.strict fs t true) (stop (UnexpectedInLiteral c) true)
+step_literal r fs (l ∷ m ∷ ls) t c = cond (c == l) (next fs (literal (m ∷ ls) t)) (stop (UnexpectedInLiteral c) true)
 
 -- ---- strings
 
@@ -182,7 +182,8 @@ after_whole r fs n c =
 
 -- None where the numeral ends before c
 abbrev pub step_digits : Rules → List Frame → Stage → Numeral → ℕ → Option Next
-step_digits r fs minus n c = Some (cond (is_ascii_digit c) (next fs (digits whole (record n { whole = c ∷ [] }))) (stop EmptyInteger false))
+step_digits r fs minus n c = Some (cond (is_ascii_digit c) (next fs (digits whole (record n { whole = c ∷ [] })))
+    (stop EmptyInteger false))
 step_digits r fs whole n c = cond (is_ascii_digit c)
     (Some (next fs (digits whole (record n { whole = n.whole ++ c ∷ [] })))) (after_whole r fs n c)
 step_digits r fs point n c = Some (cond (is_ascii_digit c) (next fs (digits fraction (record n { fraction = c ∷ [] })))
@@ -201,7 +202,7 @@ step_digits r fs exponent n c = cond (is_ascii_digit c) (Some (next fs (digits e
 abbrev pub step_plain : Rules → List Frame → Phase → ℕ → Next
 step_plain r fs first c = cond (is_white c) (next fs first) (step_first r fs c)
 step_plain r fs awaited c = step_awaited r fs c
-step_plain r fs (word ls t) c = step_word r fs ls t c
+step_plain r fs (literal ls t) c = step_literal r fs ls t c
 step_plain r fs (digits s n) c = stop (ExpectedEof c) true
 step_plain r fs (quoted w cs us) c = step_quoted r fs w cs us c
 step_plain r fs (colon k) c = cond (is_white c) (next fs (colon k)) (step_colon fs k c)
@@ -219,7 +220,7 @@ unless_ended r fs n c (Some m) = m
 unfoldable pub step : Rules → List Frame → Phase → ℕ → Next
 step r fs first c = step_plain r fs first c
 step r fs awaited c = step_plain r fs awaited c
-step r fs (word ls t) c = step_plain r fs (word ls t) c
+step r fs (literal ls t) c = step_plain r fs (literal ls t) c
 step r fs (digits s n) c = unless_ended r fs n c (step_digits r fs s n c)
 step r fs (quoted w cs us) c = step_plain r fs (quoted w cs us) c
 step r fs (colon k) c = step_plain r fs (colon k) c
@@ -232,7 +233,7 @@ abbrev pub end_plain : Next → Outcome
 end_plain (stop k taken) = refused k []
 end_plain (next fs first) = refused UnexpectedEof []
 end_plain (next fs awaited) = refused UnexpectedEof []
-end_plain (next fs (word ls t)) = refused UnexpectedEof []
+end_plain (next fs (literal ls t)) = refused UnexpectedEof []
 end_plain (next fs (digits s n)) = refused UnexpectedEof []
 end_plain (next fs (quoted w cs us)) = refused UnexpectedEof []
 end_plain (next fs (colon k)) = refused UnexpectedEof []
@@ -251,7 +252,7 @@ end_digits r fs exponent n = end_plain (finish r fs n)
 unfoldable pub end : Rules → List Frame → Phase → Outcome
 end r fs first = refused UnexpectedEof []
 end r fs awaited = refused UnexpectedEof []
-end r fs (word ls t) = refused UnexpectedEof []
+end r fs (literal ls t) = refused UnexpectedEof []
 end r fs (digits s n) = end_digits r fs s n
 end r fs (quoted w cs us) = refused UnexpectedEof []
 end r fs (colon k) = refused UnexpectedEof []
@@ -272,7 +273,7 @@ unfoldable pub run : Rules → List Frame → Phase → List ℕ → Outcome
 run r fs p [] = end r fs p
 run r fs p (c ∷ cs) = go_on (λ gs q. run r gs q cs) (step r fs p c) (c ∷ cs) cs
 
--- The state behind the characters, if the machine takes them all.
+-- The state after the characters, if the machine takes them all.
 abbrev pub reach_on : (List Frame → Phase → Option State) → Next → Option State
 reach_on more (next fs p) = more fs p
 reach_on more (stop k b) = None

@@ -19,7 +19,7 @@ abbrev pub IsSorted : Members → Type 0
 IsSorted no_members = ⊤
 IsSorted (member k t ms) = IsBelow k ms × IsSorted ms
 
--- the characters are scalars, the decimals are such with powers of that width, and the keys rise
+-- characters are Unicode scalar values, decimals are canonical and their powers fit the width, keys rise strictly
 abbrev mutual
   pub IsTreeAt : Width → Tree → Type 0
   IsTreeAt width null = ⊤

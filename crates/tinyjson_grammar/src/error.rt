@@ -8,7 +8,7 @@ use std::fmt::{self, Display};
 
 /// Why a text was refused.
 ///
-/// "Consumed" is what the call took from the characters before it refused.
+/// A character is consumed if the parser took it: the next call of `parse` begins after it.
 ///
 /// ```
 /// if let Err(error) = JsonValue::from_str(alloc, "[1 2]") {
@@ -40,7 +40,7 @@ pub enum JsonParseErrorKind {
     InvalidEscape(char),
     /// A string holds a character below U+0020. It is consumed.
     ControlCharacter(char),
-    /// Within `null`, `true` or `false` is another letter than the next. It is consumed.
+    /// A letter of `null`, `true` or `false` is wrong. It is consumed.
     UnexpectedInLiteral(char),
     /// After a minus sign is no digit. What follows isn't consumed.
     EmptyInteger,
@@ -53,7 +53,7 @@ pub enum JsonParseErrorKind {
     /// A number was wholly read, and its power of ten is outside the range of `i64`. What follows it isn't
     /// consumed.
     NumberOutOfRange,
-    /// A growth of memory was refused. The position tells what was consumed by then; the rest is left.
+    /// An allocation failed. The position tells what was consumed by then; the rest is left.
     OutOfMemory,
     /// This bracket would open one container more than the limit allows. It isn't consumed.
     TooDeep(char),
@@ -78,7 +78,7 @@ impl fmt::Display for Shown {
     }
 }
 
-// What was expected, and the character found in its place.
+/// What was expected, and the character found in its place.
 #[derive(Clone, Copy)]
 struct Instead(&'static str, char);
 

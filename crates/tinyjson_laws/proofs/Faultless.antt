@@ -2,8 +2,7 @@
 use Rattle.std.proofs.Common.{ℕ, ◌+◌, List, [], ◌++◌, Option, refl, sym, subst, append_assoc, append-nil, arith, ⊎_elim}
 use Rattle.tinyjson_grammar.specs.Syntax.{string, IsWithin}
 use Rattle.tinyjson_grammar.specs.Grammar.{IsLoose}
-use Rattle.tinyjson_grammar.specs.Prefix.{IsFaultless, IsCutOffText, CutOff, bad_key, in_key, in_member, in_item, cut_off_text, IsCutOff, cut_off_depth}
-use Rattle.tinyjson_grammar.specs.Prefix.{IsLooselyViable}
+use Rattle.tinyjson_grammar.specs.Prefix.{IsFaultless, IsCutOffText, CutOff, bad_key, in_key, in_member, in_item, cut_off_text, IsCutOff, cut_off_depth, IsLooselyViable}
 use Rattle.tinyjson_grammar.proofs.Callers.Laws.{Path, outside, item_in, key_in, value_in, path_text, level, IsPath, within_le, closes, closing, loosely_from, viable_before}
 
 cut_off_loosely : (limit : Option ℕ) (b : CutOff) (p : Path) → IsPath limit p → IsCutOff b → IsWithin limit (level p + cut_off_depth b) → IsLooselyViable limit (path_text p ++ cut_off_text b)

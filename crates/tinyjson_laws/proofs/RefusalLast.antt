@@ -8,7 +8,7 @@ use Rattle.tinyjson_grammar.specs.Prefix.{IsFaultless, IsLooselyViable, IsCutOff
 use Rattle.tinyjson_grammar.specs.Grammar.{IsAccepted}
 use Rattle.tinyjson_grammar.specs.Kind.{kind_of}
 use Rattle.tinyjson_grammar.specs.Machine
-use Rattle.tinyjson_grammar.specs.Machine.{Rules, strictly, Frame, in_array, at_key, at_value, Phase, first, awaited, word, digits, quoted, colon, after, finished, Stage, Next, next, stop, Outcome, accepted, refused, rest_of, complete, finish, then_step, unless_ended, step_digits, step_escape, end_digits, end_plain, step, run, end}
+use Rattle.tinyjson_grammar.specs.Machine.{Rules, strictly, Frame, in_array, at_key, at_value, Phase, first, awaited, literal, digits, quoted, colon, after, finished, Stage, Next, next, stop, Outcome, accepted, refused, rest_of, complete, finish, then_step, unless_ended, step_digits, step_escape, end_digits, end_plain, step, run, end}
 use Rattle.tinyjson_grammar.specs.Refusal.{AwaitsAt}
 use Rattle.tinyjson_grammar.specs.Syntax.{Syntax}
 use Rattle.tinyjson_grammar.specs.Tree as tree
@@ -18,8 +18,8 @@ use Rattle.tinyjson_grammar.specs.declared.kind.JsonKind.{JsonKind}
 use Rattle.tinyjson_grammar.specs.declared.error.JsonParseErrorKind.{JsonParseErrorKind}
 use Rattle.tinyjson_grammar.specs.declared.error.JsonParseErrorKind.TheVariants.{UnexpectedEof, ExpectedEof, KeyNotString, ExpectedColon, ExpectedCommaOrBrace, ExpectedCommaOrBracket, InvalidUtf16, NumberOutOfRange}
 use Rattle.tinyjson.proofs.Callers.Laws.{all_front, all_rest}
-use Rattle.tinyjson_grammar.proofs.Callers.Laws.{cut_off_end, Path, outside, item_in, key_in, value_in, path_frames, continues, continues_digit, continues_point, continues_letter, Read, at_first, at_awaited, in_word, in_digits, in_quoted, at_after, Part, part_stage, part_numeral, read_frames, read_phase, IsRead, IsFresh, values, text_accepted, denies, is_dead, Follows}
-use Rattle.tinyjson_laws.proofs.RefusalPlaces.{Stands, Goes, Halts, goes_or_halts, halts_run, stands_viable, stands_next, stands_stop, stands_follows, IsNoLetter, word_lacks, accepted_refused}
+use Rattle.tinyjson_grammar.proofs.Callers.Laws.{cut_off_end, Path, outside, item_in, key_in, value_in, path_frames, continues, continues_digit, continues_point, continues_letter, Read, at_first, at_awaited, in_literal, in_digits, in_quoted, at_after, Part, part_stage, part_numeral, read_frames, read_phase, IsRead, IsFresh, values, text_accepted, denies, is_dead, Follows}
+use Rattle.tinyjson_laws.proofs.RefusalPlaces.{Stands, Goes, Halts, goes_or_halts, halts_run, stands_viable, stands_next, stands_stop, stands_follows, IsNoLetter, within_lacks, accepted_refused}
 
 -- ---- a character that may follow without a fault
 
@@ -216,10 +216,10 @@ quote_string limit front p cs us s n = ⊎_elim
 
 -- ---- the colon, the brace and the bracket
 
-word_no : (limit : Option ℕ) (fs : List Frame) (l : ℕ) (ls : List ℕ) (t : Tree) (e : ℕ) → (e == l) ≡ false → IsPassed (step (strictly limit) fs (word (l ∷ ls) t) e) → ⊥
+literal_no : (limit : Option ℕ) (fs : List Frame) (l : ℕ) (ls : List ℕ) (t : Tree) (e : ℕ) → (e == l) ≡ false → IsPassed (step (strictly limit) fs (literal (l ∷ ls) t) e) → ⊥
 unfolding step
-word_no limit fs l [] t e h g = rw h at g
-word_no limit fs l (m ∷ ls) t e h g = rw h at g
+literal_no limit fs l [] t e h g = rw h at g
+literal_no limit fs l (m ∷ ls) t e h g = rw h at g
 
 -- a colon, a bracket or a brace: nothing that goes on within a token
 pub record IsCloser (e : ℕ) : Type 0 where
@@ -264,8 +264,8 @@ digits_settled limit e h p n g =
 settled : (limit : Option ℕ) (front : List ℕ) (e : ℕ) → IsCloser e → (x : Read) → IsRead limit x → Stands limit front (read_frames x) (read_phase x) → ¬ IsLooselyViable limit (front ++ 34 ∷ []) → IsPassed (step (strictly limit) (read_frames x) (read_phase x) e) → Settled limit e x
 settled limit front e h (at_first p) i s n g = absurd (quote_next limit front (path_frames p) (path_frames p) first (quoted Machine.plain [] []) s (quote_first limit p i.1) n)
 settled limit front e h (at_awaited p) i s n g = absurd (quote_next limit front (path_frames p) (path_frames p) awaited (quoted Machine.plain [] []) s (quote_awaited limit (path_frames p)) n)
-settled limit front e h (in_word p v done []) i s n g = absurd (omega (arith, i.1.more))
-settled limit front e h (in_word p v done (l ∷ left)) i s n g = absurd (word_no limit (path_frames p) l left _ e (word_lacks e h.no_letter v done l left i.1) g)
+settled limit front e h (in_literal p v done []) i s n g = absurd (omega (arith, i.1.more))
+settled limit front e h (in_literal p v done (l ∷ left)) i s n g = absurd (literal_no limit (path_frames p) l left _ e (within_lacks e h.no_letter v done l left i.1) g)
 settled limit front e h (in_digits p m) i s n g = digits_settled limit e h p m g
 settled limit front e h (in_quoted p ps cs qs Machine.plain) i s n g = absurd (quote_string limit front p cs (values qs) s n)
 settled limit front e h (in_quoted p ps cs qs Machine.backslash) i s n g = absurd (escape_no limit (path_frames p) cs (values qs) e h g)
@@ -372,7 +372,7 @@ text_ends : (limit : Option ℕ) (front : List ℕ) (c : ℕ) → IsScalar c →
 unfolding step end
 text_ends limit front c hc d hw (at_first p) i s t e = absurd cc
 text_ends limit front c hc d hw (at_awaited p) i s t e = absurd cc
-text_ends limit front c hc d hw (in_word p v done left) i s t e = absurd cc
+text_ends limit front c hc d hw (in_literal p v done left) i s t e = absurd cc
 text_ends limit front c hc d hw (in_digits p n) i s t e = number_text limit front c hc d hw p n s t e
 text_ends limit front c hc d hw (in_quoted p ps cs qs wi) i s t e = absurd cc
 text_ends limit front c hc d hw (at_after (outside w) v u) i s t e = rw hw refl
@@ -409,7 +409,7 @@ needs_end : (limit : Option ℕ) (e : ℕ) → IsCloser e → (x : Read) → IsR
 unfolding step end
 needs_end limit e h (at_first p) i g = refl
 needs_end limit e h (at_awaited p) i g = refl
-needs_end limit e h (in_word p v done left) i g = refl
+needs_end limit e h (in_literal p v done left) i g = refl
 needs_end limit e h (in_digits p n) i g = number_needs limit e h p n (digits_settled limit e h p n g)
 needs_end limit e h (in_quoted p ps cs qs wi) i g = refl
 needs_end limit e h (at_after (outside w) v u) i g = elim (rw h.no_white at g) [ ]

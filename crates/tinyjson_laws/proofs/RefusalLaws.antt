@@ -21,9 +21,9 @@ use Rattle.tinyjson_grammar.specs.declared.kind.JsonKind.{JsonKind}
 use Rattle.tinyjson_grammar.specs.declared.error.JsonParseErrorKind.{JsonParseErrorKind}
 use Rattle.tinyjson_grammar.specs.declared.error.JsonParseErrorKind.TheVariants as kind
 use Rattle.tinyjson.proofs.Callers.Laws.{all_front}
-use Rattle.tinyjson_grammar.proofs.Callers.Laws.{faultless, placed, refused_key, run_spelling, last_stage, end_finishes, Path, outside, item_in, key_in, value_in, path_text, path_frames, level, IsPath, Part, part_minus, part_whole, part_point, part_fraction, part_letter, part_sign, part_exponent, part_stage, part_numeral, Read, at_first, at_awaited, in_word, in_digits, in_quoted, at_after, read_frames, read_phase, IsFresh, settle, fits_within, level_frames, rules, only_tree, loose_accepted, Begins, begins_append, numeral_begins, text_begins, run_value, ends, Ends, faultless_place, no_text}
+use Rattle.tinyjson_grammar.proofs.Callers.Laws.{faultless, placed, refused_key, run_spelling, last_stage, end_finishes, Path, outside, item_in, key_in, value_in, path_text, path_frames, level, IsPath, Part, part_minus, part_whole, part_point, part_fraction, part_letter, part_sign, part_exponent, part_stage, part_numeral, Read, at_first, at_awaited, in_literal, in_digits, in_quoted, at_after, read_frames, read_phase, IsFresh, settle, fits_within, level_frames, rules, only_tree, loose_accepted, Begins, begins_append, numeral_begins, text_begins, run_value, ends, Ends, faultless_place, no_text}
 use Rattle.tinyjson_laws.proofs.RefusalPlaces.{Goes, EndsKey, faultless_stands, stands_stop, run_stop, wide_stop, wide_step, Ready, awaits_ready, ready_run, ready_free}
-use Rattle.tinyjson_laws.proofs.RefusalTokens.{has_some_digit, word_stops, word_ends, string_opens, control_stops, escape_stops, hex_stops, escape_ends, run_stops, unpaired_behind, minus_stops, zero_stops, fraction_stops, exponent_stops, signed_stops, number_ends_or}
+use Rattle.tinyjson_laws.proofs.RefusalTokens.{has_some_digit, literal_stops, literal_ends, string_opens, control_stops, escape_stops, hex_stops, escape_ends, run_stops, unpaired_behind, minus_stops, zero_stops, fraction_stops, exponent_stops, signed_stops, number_ends_or}
 use Rattle.tinyjson_laws.proofs.RefusalLast.{Exact, run_end, colon_exact, brace_exact, bracket_exact, behind_exact, needs_exact, closer_colon, closer_bracket, closer_brace}
 use Rattle.tinyjson_laws.specs.Refusals.{OneRefusal, OneAnswer}
 
@@ -103,7 +103,7 @@ end_left : (m : Next) (k : JsonParseErrorKind) (x : ℕ) (xs : List ℕ) → end
 end_left (stop j b) k x xs e = cc
 end_left (next fs first) k x xs e = cc
 end_left (next fs awaited) k x xs e = cc
-end_left (next fs (Machine.word ls t)) k x xs e = cc
+end_left (next fs (Machine.literal ls t)) k x xs e = cc
 end_left (next fs (digits s n)) k x xs e = cc
 end_left (next fs (quoted w cs us)) k x xs e = cc
 end_left (next fs (colon l)) k x xs e = cc
@@ -132,7 +132,7 @@ never_left : (x : Read) (k : JsonKind) → ((ys : List ℕ) → run (strictly No
 unfolding run end
 never_left (at_first p) k h = no_end k (h [])
 never_left (at_awaited p) k h = no_end k (h [])
-never_left (in_word p s done left) k h = no_end k (h [])
+never_left (in_literal p s done left) k h = no_end k (h [])
 never_left (in_digits p n) k h = digit_left (path_frames p) n (kind.KeyNotString k) (h (48 ∷ []))
 never_left (in_quoted p ps cs qs wi) k h = no_end k (h [])
 never_left (at_after (outside w) s v) k h = no_text _ _ (tree_of s) (sym (h []))
@@ -314,7 +314,7 @@ ended limit used a (inl h) =
 ended limit used a (inr (inl (us, e, b, h))) =
     string_exact limit kind.UnexpectedEof used us e [] a h (λ fs cs vs i. ap (run (strictly limit) fs (quoted Machine.plain cs (vs ++ piece_codes us))) (append-nil e) ∙ escape_ends (strictly limit) fs cs (vs ++ piece_codes us) e b)
 ended limit used a (inr (inr (inl (l, n, h, p, q, b)))) =
-    token_exact limit kind.UnexpectedEof used (take n l) [] a b (subst Begins (append-nil (take n l)) (literal_begins l n [] h p)) (λ fs. ap (run (strictly limit) fs awaited) (append-nil (take n l)) ∙ word_ends (strictly limit) fs l n h p q)
+    token_exact limit kind.UnexpectedEof used (take n l) [] a b (subst Begins (append-nil (take n l)) (literal_begins l n [] h p)) (λ fs. ap (run (strictly limit) fs awaited) (append-nil (take n l)) ∙ literal_ends (strictly limit) fs l n h p q)
 ended limit used a (inr (inr (inr (inl f)))) = needs_exact limit used 58 a closer_colon f
 ended limit used a (inr (inr (inr (inr (inl f))))) = needs_exact limit used 93 a closer_bracket f
 ended limit used a (inr (inr (inr (inr (inr f))))) = needs_exact limit used 125 a closer_brace f
@@ -347,7 +347,7 @@ exact limit (kind.InvalidHexDigit c) used rest a r =
 exact limit (kind.InvalidEscape c) used rest a r = string_exact limit (kind.InvalidEscape c) used r.says.0.0.0 _ rest a r.says.0.0.1 (λ fs cs vs i. escape_stops (strictly limit) fs cs (vs ++ piece_codes r.says.0.0.0) c rest r.says.0.1 r.says.0.2)
 exact limit (kind.ControlCharacter c) used rest a r = string_exact limit (kind.ControlCharacter c) used r.says.0.0.0 _ rest a r.says.0.0.1 (λ fs cs vs i. control_stops (strictly limit) fs cs (vs ++ piece_codes r.says.0.0.0) c rest r.says.0.1)
 exact limit (kind.UnexpectedInLiteral c) used rest a r =
-    token_exact limit (kind.UnexpectedInLiteral c) used _ rest a r.says.0.5 (literal_begins r.says.0.0 r.says.0.1 (c ∷ []) r.says.0.2 r.says.0.3) (λ fs. word_stops (strictly limit) fs r.says.0.0 r.says.0.1 c rest r.says.0.2 r.says.0.3 r.says.0.4 r.says.0.6)
+    token_exact limit (kind.UnexpectedInLiteral c) used _ rest a r.says.0.5 (literal_begins r.says.0.0 r.says.0.1 (c ∷ []) r.says.0.2 r.says.0.3) (λ fs. literal_stops (strictly limit) fs r.says.0.0 r.says.0.1 c rest r.says.0.2 r.says.0.3 r.says.0.4 r.says.0.6)
 exact limit kind.EmptyInteger used rest a r = token_exact limit kind.EmptyInteger used _ rest a r.says.0.0 (_, _, refl, (refl, refl, refl)) (λ fs. minus_stops (strictly limit) fs rest r.says.0.1)
 exact limit kind.LeadingZero used rest a r =
     token_exact limit kind.LeadingZero used _ rest a r.says.0.4 (subst (λ xs. Begins (minus_text r.says.0.0 ++ xs)) (append-nil r.says.0.1) (numeral_begins r.says.0.0 r.says.0.1 [] (has_some_digit r.says.0.1 r.says.0.2) r.says.0.3))

@@ -8,7 +8,7 @@ use Rattle.tinyjson_grammar.specs.Prefix.{IsFaultless, IsLooselyViable, IsCutOff
 use Rattle.tinyjson_grammar.specs.Grammar.{IsAccepted}
 use Rattle.tinyjson_grammar.specs.Kind.{kind_of}
 use Rattle.tinyjson_grammar.specs.Machine
-use Rattle.tinyjson_grammar.specs.Machine.{Rules, strictly, Frame, in_array, at_key, at_value, Phase, first, awaited, word, digits, quoted, colon, after, finished, Stage, Next, next, stop, accepted, refused, rest_of, fits, push_frame, start, step_first, step_plain, then_step, unless_ended, finish, step_digits, step, run}
+use Rattle.tinyjson_grammar.specs.Machine.{Rules, strictly, Frame, in_array, at_key, at_value, Phase, first, awaited, literal, digits, quoted, colon, after, finished, Stage, Next, next, stop, accepted, refused, rest_of, fits, push_frame, start, step_first, step_plain, then_step, unless_ended, finish, step_digits, step, run}
 use Rattle.tinyjson_grammar.specs.Refusal.{AwaitsValue, IsLiteral}
 use Rattle.tinyjson_grammar.specs.Syntax.{Syntax, text, tree_of}
 use Rattle.tinyjson_grammar.specs.Tree.{Tree, Members}
@@ -17,7 +17,7 @@ use Rattle.tinyjson_grammar.specs.declared.kind.JsonKind.{JsonKind}
 use Rattle.tinyjson_grammar.specs.declared.error.JsonParseErrorKind.{JsonParseErrorKind}
 use Rattle.tinyjson_grammar.specs.declared.error.JsonParseErrorKind.TheVariants.{KeyNotString, TooDeep}
 use Rattle.tinyjson_grammar.proofs.Callers.{ranges}
-use Rattle.tinyjson_grammar.proofs.Callers.Laws.{cut_off_end, Path, outside, item_in, key_in, value_in, path_text, path_frames, IsPath, strict_key, Reached, reached_next, step_spells, spells_viable, start_spells, run_next, Read, at_first, at_awaited, in_word, in_digits, in_quoted, at_after, Part, part_minus, part_whole, part_point, part_fraction, part_letter, part_sign, part_exponent, part_stage, part_numeral, read_text, read_frames, read_phase, IsRead, IsFresh, IsWord, Spells, exponent_with, rules, text_accepted, loose_accepted, Follows, loosely, Begins, first_array, first_object, no_text}
+use Rattle.tinyjson_grammar.proofs.Callers.Laws.{cut_off_end, Path, outside, item_in, key_in, value_in, path_text, path_frames, IsPath, strict_key, Reached, reached_next, step_spells, spells_viable, start_spells, run_next, Read, at_first, at_awaited, in_literal, in_digits, in_quoted, at_after, Part, part_minus, part_whole, part_point, part_fraction, part_letter, part_sign, part_exponent, part_stage, part_numeral, read_text, read_frames, read_phase, IsRead, IsFresh, IsWithinLiteral, Spells, exponent_with, rules, text_accepted, loose_accepted, Follows, loosely, Begins, first_array, first_object, no_text}
 
 -- ---- with no limit the machine does the same, but where a container is one too many
 
@@ -48,9 +48,9 @@ module _ (limit : Option ℕ) where
   wide_plain : (fs : List Frame) (p : Phase) (c : ℕ) → Wide (step_plain (strictly limit) fs p c) (step_plain (strictly None) fs p c)
   wide_plain fs first c = wide_cond (is_white c) _ _ _ _ (wide _) (wide_first fs c)
   wide_plain fs awaited c = wide_cond (is_white c) _ _ _ _ (wide _) (wide_start fs c)
-  wide_plain fs (word [] t) c = wide _
-  wide_plain fs (word (l ∷ []) t) c = wide _
-  wide_plain fs (word (l ∷ m ∷ ls) t) c = wide _
+  wide_plain fs (literal [] t) c = wide _
+  wide_plain fs (literal (l ∷ []) t) c = wide _
+  wide_plain fs (literal (l ∷ m ∷ ls) t) c = wide _
   wide_plain fs (digits s n) c = wide _
   wide_plain fs (quoted Machine.plain cs us) c = wide _
   wide_plain fs (quoted Machine.backslash cs us) c = wide_escape (short_escape c)
@@ -87,7 +87,7 @@ module _ (limit : Option ℕ) where
   unfolding step
   wide_step fs first c = wide_plain fs first c
   wide_step fs awaited c = wide_plain fs awaited c
-  wide_step fs (word ls t) c = wide_plain fs (word ls t) c
+  wide_step fs (literal ls t) c = wide_plain fs (literal ls t) c
   wide_step fs (digits s n) c = wide_digits fs s n c
   wide_step fs (quoted w cs us) c = wide_plain fs (quoted w cs us) c
   wide_step fs (colon k) c = wide_plain fs (colon k) c
@@ -204,8 +204,8 @@ literal_lacks n h l (inl e) = rw e h.0
 literal_lacks n h l (inr (inl e)) = rw e h.1
 literal_lacks n h l (inr (inr e)) = rw e h.2
 
-pub word_lacks : (n : ℕ) → IsNoLetter n → (s : Syntax) (done : List ℕ) (l : ℕ) (left : List ℕ) → IsWord s done (l ∷ left) → (n == l) ≡ false
-word_lacks n h s done l left w = lacks_after n done l left (subst (λ xs. IsTrue (lacks n xs)) w.whole (literal_lacks n h (text s) w.literal))
+pub within_lacks : (n : ℕ) → IsNoLetter n → (s : Syntax) (done : List ℕ) (l : ℕ) (left : List ℕ) → IsWithinLiteral s done (l ∷ left) → (n == l) ≡ false
+within_lacks n h s done l left w = lacks_after n done l left (subst (λ xs. IsTrue (lacks n xs)) w.whole (literal_lacks n h (text s) w.is_literal))
 
 -- ---- where a value is awaited
 
@@ -213,10 +213,10 @@ word_lacks n h s done l left w = lacks_after n done l left (subst (λ xs. IsTrue
 abbrev NoLine : Option ℕ → List Frame → Phase → Type 0
 NoLine limit fs q = (ys : List ℕ) (t : Tree) → run (loosely limit) fs q (10 ∷ 34 ∷ ys) ≡ accepted t → ⊥
 
-line_word : (limit : Option ℕ) (fs : List Frame) (l : ℕ) (ls : List ℕ) (t : Tree) → (10 == l) ≡ false → NoLine limit fs (word (l ∷ ls) t)
+line_literal : (limit : Option ℕ) (fs : List Frame) (l : ℕ) (ls : List ℕ) (t : Tree) → (10 == l) ≡ false → NoLine limit fs (literal (l ∷ ls) t)
 unfolding run step
-line_word limit fs l [] t h ys u e = no_text _ _ u (rw h at e)
-line_word limit fs l (m ∷ ls) t h ys u e = no_text _ _ u (rw h at e)
+line_literal limit fs l [] t h ys u e = no_text _ _ u (rw h at e)
+line_literal limit fs l (m ∷ ls) t h ys u e = no_text _ _ u (rw h at e)
 
 line_ends : (limit : Option ℕ) (p : Path) (n : Numeral) (ys : List ℕ) (t : Tree) →
     Machine.go_on (λ gs q. run (loosely limit) gs q (34 ∷ ys)) (then_step (loosely limit) (finish (loosely limit) (path_frames p) n) 10) (10 ∷ 34 ∷ ys) (34 ∷ ys) ≡ accepted t → ⊥
@@ -265,8 +265,8 @@ pub record Ready (limit : Option ℕ) (xs : List ℕ) : Type 0 where
 ready_read : (limit : Option ℕ) (xs : List ℕ) (x : Read) → IsRead limit x → xs ≡ read_text x → Stands limit xs (read_frames x) (read_phase x) → Ready limit xs ⊎ NoLine limit (read_frames x) (read_phase x)
 ready_read limit xs (at_first p) h e s = inl (record { path = p; is = h.0; whole = e; phase = first; ready = inr (refl, h.1); stands = s })
 ready_read limit xs (at_awaited p) h e s = inl (record { path = p; is = h; whole = e; phase = awaited; ready = inl refl; stands = s })
-ready_read limit xs (in_word p v done []) h e s = absurd (omega (arith, h.1.more))
-ready_read limit xs (in_word p v done (l ∷ left)) h e s = inr (line_word limit (path_frames p) l left (tree_of v) (word_lacks 10 (refl, refl, refl) v done l left h.1))
+ready_read limit xs (in_literal p v done []) h e s = absurd (omega (arith, h.1.more))
+ready_read limit xs (in_literal p v done (l ∷ left)) h e s = inr (line_literal limit (path_frames p) l left (tree_of v) (within_lacks 10 (refl, refl, refl) v done l left h.1))
 ready_read limit xs (in_digits p n) h e s = inr (line_digits limit p n)
 ready_read limit xs (in_quoted p ps cs qs wi) h e s = inr (line_quoted limit (path_frames p) wi cs _)
 ready_read limit xs (at_after p v w) h e s = inr (line_after limit p v w)

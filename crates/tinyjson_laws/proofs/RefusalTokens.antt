@@ -6,13 +6,13 @@ use Rattle.std.proofs.lemmas.Bool.{and_parts, or_parts, not-true, cases_Bool, eq
 use Rattle.tinyjson_grammar.specs.Characters.{is_hex, short_escape, decode, paired, is_surrogate, is_high, is_low}
 use Rattle.tinyjson_grammar.specs.Prefix.{IsFaultless}
 use Rattle.tinyjson_grammar.specs.Machine
-use Rattle.tinyjson_grammar.specs.Machine.{Rules, strictly, Frame, awaited, word, digits, quoted, refused, step_escape, step_digits, go_on, step, run, end, with_exponent, with_sign, Stage}
+use Rattle.tinyjson_grammar.specs.Machine.{Rules, strictly, Frame, awaited, literal, digits, quoted, refused, step_escape, step_digits, go_on, step, run, end, with_exponent, with_sign, Stage}
 use Rattle.tinyjson_grammar.specs.Refusal.{IsLiteral, IsHex, AreUnits, EndsRun, BeginsEscape, BeginsWithNone}
 use Rattle.tinyjson_grammar.specs.Syntax.{Syntax, text, Piece, plain, escape, unit, IsPiece, ArePieces, pieces_text, piece_codes, unit_value}
 use Rattle.tinyjson_number.specs.Numeral.{numeral, Numeral, Exponent, IsNumeral, AreDigits, is_exponent_letter, is_sign, has_leading_zero, minus_text, fraction_text, spelling}
 use Rattle.tinyjson_grammar.specs.declared.error.JsonParseErrorKind.TheVariants.{UnexpectedEof, InvalidUtf16, InvalidHexDigit, InvalidEscape, ControlCharacter, UnexpectedInLiteral, EmptyInteger, LeadingZero, EmptyFraction, EmptyExponent}
-use Rattle.tinyjson_grammar.proofs.Callers.{ranges}
-use Rattle.tinyjson_grammar.proofs.Callers.Laws.{run_whole, run_spelling, last_stage, stage_of, letter_no_digit, letter_no_point, sign_no_digit, Path, path_text, path_frames, IsPath, paired_cons, paired_append, scalar_no_surrogate, escape_no_surrogate, some_unwrap, plain_no_quote, plain_no_backslash, plain_no_control, faultless_point, faultless_letter}
+use Rattle.tinyjson_grammar.proofs.Callers.{ranges, letter_no_digit, letter_no_point, sign_no_digit}
+use Rattle.tinyjson_grammar.proofs.Callers.Laws.{run_whole, run_spelling, last_stage, stage_of, Path, path_text, path_frames, IsPath, paired_cons, paired_append, scalar_no_surrogate, escape_no_surrogate, some_unwrap, plain_no_quote, plain_no_backslash, plain_no_control, faultless_point, faultless_letter}
 
 differs : (c n : ℕ) → (n ≡ c → ⊥) → (c == n) ≡ false
 differs c n h = ne_eqb c n (λ e. h (sym e))
@@ -47,11 +47,11 @@ stop_false r fs (suc (suc (suc zero))) c rest h k m = rw (differs c 115 m) refl
 stop_false r fs (suc (suc (suc (suc zero)))) c rest h k m = rw (differs c 101 m) refl
 stop_false r fs (suc (suc (suc (suc (suc n))))) c rest h k m = absurd (omega arith)
 
-pub word_stops : (r : Rules) (fs : List Frame) (l : List ℕ) (n c : ℕ) (rest : List ℕ) → IsLiteral l → 0 < n → n < length l → (slice_index l n ≡ c → ⊥) →
+pub literal_stops : (r : Rules) (fs : List Frame) (l : List ℕ) (n c : ℕ) (rest : List ℕ) → IsLiteral l → 0 < n → n < length l → (slice_index l n ≡ c → ⊥) →
     run r fs awaited ((take n l ++ c ∷ []) ++ rest) ≡ refused (UnexpectedInLiteral c) rest
-word_stops r fs l n c rest (inl e) h = rw e (λ k m. stop_null r fs n c rest h k m)
-word_stops r fs l n c rest (inr (inl e)) h = rw e (λ k m. stop_true r fs n c rest h k m)
-word_stops r fs l n c rest (inr (inr e)) h = rw e (λ k m. stop_false r fs n c rest h k m)
+literal_stops r fs l n c rest (inl e) h = rw e (λ k m. stop_null r fs n c rest h k m)
+literal_stops r fs l n c rest (inr (inl e)) h = rw e (λ k m. stop_true r fs n c rest h k m)
+literal_stops r fs l n c rest (inr (inr e)) h = rw e (λ k m. stop_false r fs n c rest h k m)
 
 end_null : (r : Rules) (fs : List Frame) (n : ℕ) → 0 < n → n < 4 → run r fs awaited (take n (text Syntax.null)) ≡ refused UnexpectedEof []
 unfolding run step end
@@ -78,10 +78,10 @@ end_false r fs (suc (suc (suc zero))) h k = refl
 end_false r fs (suc (suc (suc (suc zero)))) h k = refl
 end_false r fs (suc (suc (suc (suc (suc n))))) h k = absurd (omega arith)
 
-pub word_ends : (r : Rules) (fs : List Frame) (l : List ℕ) (n : ℕ) → IsLiteral l → 0 < n → n < length l → run r fs awaited (take n l) ≡ refused UnexpectedEof []
-word_ends r fs l n (inl e) h = rw e (λ k. end_null r fs n h k)
-word_ends r fs l n (inr (inl e)) h = rw e (λ k. end_true r fs n h k)
-word_ends r fs l n (inr (inr e)) h = rw e (λ k. end_false r fs n h k)
+pub literal_ends : (r : Rules) (fs : List Frame) (l : List ℕ) (n : ℕ) → IsLiteral l → 0 < n → n < length l → run r fs awaited (take n l) ≡ refused UnexpectedEof []
+literal_ends r fs l n (inl e) h = rw e (λ k. end_null r fs n h k)
+literal_ends r fs l n (inr (inl e)) h = rw e (λ k. end_true r fs n h k)
+literal_ends r fs l n (inr (inr e)) h = rw e (λ k. end_false r fs n h k)
 
 -- ---- a string
 

@@ -3,14 +3,12 @@ use Rattle.std.proofs.Common.{◌≡◌, ℕ, Bool, true, false, List, [], ◌�
 use Rattle.std.specs.Prelude.{⊤, IfSome}
 use Rattle.std.specs.Char.{is_ascii_digit}
 use Rattle.tinyjson_grammar.specs.Characters.{is_white, is_hex}
-use Rattle.tinyjson_number.specs.Numeral.{Numeral, Exponent, IsNumeral, IsExponent, AreDigits, minus_text, sign_text, fraction_text, exponent_text, spelling}
+use Rattle.tinyjson_number.specs.Numeral.{Numeral, Exponent, IsNumeral, IsExponent, AreDigits, minus_text, sign_text, fraction_text, exponent_text, spelling, power_width}
 use Rattle.tinyjson_grammar.specs.Syntax.{Syntax, Elements, Pairs, null, boolean, number, string, empty_array, array, empty_object, object, last_element, element, last_pair, pair, Piece, plain, escape, unit, pieces_text, ArePieces, text, elements_text, pairs_text, AreWhite, IsSpelled, IsStrictAt, tree_of, AreElements, ArePairs}
-use Rattle.tinyjson_laws.specs.WhiteSpace.{bare_value, bare_elements, bare_pairs}
-use Rattle.tinyjson_laws.specs.WhiteSpace.{outside, in_string, kept_from, without_white, WhiteRemoved, SameButWhite, WhiteChangesNothing}
+use Rattle.tinyjson_laws.specs.WhiteSpace.{bare_value, bare_elements, bare_pairs, outside, in_string, kept_from, without_white, WhiteRemoved, SameButWhite, WhiteChangesNothing}
 use Rattle.tinyjson_grammar.specs.Grammar.{IsLoose, IsText}
 use Rattle.tinyjson_grammar.proofs.Callers.Laws.{only_tree, last_element_assoc, element_assoc, last_pair_assoc, pair_assoc}
 use Rattle.tinyjson_laws.proofs.Bare.{bare_spelled, bare_depth, bare_tree, bare_strict}
-use Rattle.tinyjson_number.specs.Numeral.{power_width}
 
 -- ---- white space goes, other characters outside strings stay
 

@@ -28,7 +28,7 @@ Agree (Err e) (Err d) = (error_kind e ≡ error_kind d) × (error_position e ≡
 Agree (Ok v) (Err e) = ⊥
 Agree (Err e) (Ok v) = ⊥
 
--- two answers to one text agree, unless memory ran out
+-- two results for one text agree, unless memory ran out
 abbrev pub OneAnswer : Type 0
 OneAnswer =
     (limit : Option ℕ) (xs : List ℕ) (a b : Result JsonValue JsonParseError) → All IsScalar xs →

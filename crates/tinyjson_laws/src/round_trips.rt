@@ -31,7 +31,7 @@ pub fn reads_back(alloc: Global, value: &JsonValue) -> Result<bool, JsonParseErr
     };
     match JsonValue::from_str(alloc, text.as_str()) {
         Ok(back) => Ok(back == *value),
-        Err(fault) => Err(fault.kind()),
+        Err(error) => Err(error.kind()),
     }
 }
 

@@ -25,7 +25,7 @@ put_front size at old bytes some room n le =
     let a : length first ≡ size = length-chunk 0 size bytes (omega arith) in
     front_stays old (put_chunk at old first) bytes at size n le (omega arith) (take_more_put_chunk at old first (at + size) (omega arith) (omega arith))
 
--- what each call put, behind what stood there
+-- what each call put, after what stood there
 abbrev Put : ℕ → ℕ → List ℕ → List ℕ → List ℕ → Type 0
 Put size at old new bytes = (n : ℕ) → n ≤ size → take (at + n) new ≡ take at old ++ take n bytes
 

@@ -68,7 +68,7 @@ module _ (n : ℕ) (some : 0 < n) (fits : n < 2 ^ 64) where
   whole_fits negative s z is few =
       kept_is negative s (pos z) (omega (arith, ap length is, kept_some)) (decimal n) (is ∙ sym significant_is) (decimal_digits n fits) (record { sfits = omega (arith, few, length-decimal-le 20 n (omega arith) (omega arith) fits) })
 
--- ---- digits with zeros behind them
+-- ---- digits with zeros after them
 
 ten_more : (x k : ℕ) → x * 10 ^ k * 10 + digit_value 48 ≡ x * 10 ^ suc k
 ten_more x k = rw pow-suc (omega arith)
@@ -129,7 +129,7 @@ module _ (d : Decimal) (valid : IsDecimal d) (p : ℕ) (power : d.power ≡ pos 
       is ∙ zero_is d.negative ∙ ap (whole_decimal d.negative) (sym (ap magnitude_of is)))
       (cases_lt 0 (length d.digits))
 
--- ---- what the calls answer
+-- ---- what the calls return
 
 -- no whole number past the type
 none_past : (d : Decimal) (k : ℕ) → magnitude_of d ≡ k → ¬ (k < 2 ^ 64) → (n : ℕ) → n < 2 ^ 64 → ¬ (d ≡ whole_decimal d.negative n)

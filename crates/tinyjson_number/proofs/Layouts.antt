@@ -2,6 +2,7 @@
 use Rattle.std.proofs.Common.{ℕ, zero, suc, ◌<◌, Bool, true, false, List, [], ◌∷◌, ◌++◌, Option, None, Some, IfSome, subst, IsTrue, arith}
 use Rattle.std.specs.Str.{IsAscii}
 use Rattle.std.proofs.lemmas.Str.{IsAscii-append}
+use Rattle.std.proofs.lemmas.Str.Ascii.{IsAscii-nil, IsAscii-cons}
 use Rattle.std.proofs.lemmas.Bool.Decides.{nat_tests}
 use Rattle.tinyjson_number.specs.Canonical.{IsDecimal}
 use Rattle.tinyjson_number.specs.Decimal.{Decimal}
@@ -12,43 +13,36 @@ use Rattle.tinyjson_number.specs.Numeral.{AreDigits, power_width, Numeral, Expon
 use Rattle.tinyjson_number.proofs.Forms.{digits_of_form}
 use Rattle.tinyjson_number.proofs.Runs.{digits_ascii}
 
-pub none_ascii : IsAscii []
-none_ascii i = omega arith
-
 pub digits_are : (c : Canonical) → AreDigits c.decimal.digits
 digits_are c = digits_of_form power_width c.decimal.negative c.decimal.digits c.decimal.power c.canonical
 
-pub more_ascii : (c : ℕ) (cs : List ℕ) → c < 128 → IsAscii cs → IsAscii (c ∷ cs)
-more_ascii c cs h k zero = h
-more_ascii c cs h k (suc i) = k i
-
 -- the two parts of ASCII
 pub ascii_front : (xs ys : List ℕ) → IsAscii (xs ++ ys) → IsAscii xs
-ascii_front [] ys h = none_ascii
-ascii_front (x ∷ xs) ys h = more_ascii x xs (h 0) (ascii_front xs ys (λ i. h (suc i)))
+ascii_front [] ys h = IsAscii-nil
+ascii_front (x ∷ xs) ys h = IsAscii-cons x xs (h 0) (ascii_front xs ys (λ i. h (suc i)))
 
 pub ascii_back : (xs ys : List ℕ) → IsAscii (xs ++ ys) → IsAscii ys
 ascii_back [] ys h = h
 ascii_back (x ∷ xs) ys h = ascii_back xs ys (λ i. h (suc i))
 
 minus_ascii : (b : Bool) → IsAscii (minus_text b)
-minus_ascii true = more_ascii 45 [] (omega arith) none_ascii
-minus_ascii false = none_ascii
+minus_ascii true = IsAscii-cons 45 [] (omega arith) IsAscii-nil
+minus_ascii false = IsAscii-nil
 
 fraction_ascii : (ds : List ℕ) → AreDigits ds → IsAscii (fraction_text ds)
-fraction_ascii [] h = none_ascii
-fraction_ascii (d ∷ ds) h = more_ascii 46 (d ∷ ds) (omega arith) (digits_ascii (d ∷ ds) h)
+fraction_ascii [] h = IsAscii-nil
+fraction_ascii (d ∷ ds) h = IsAscii-cons 46 (d ∷ ds) (omega arith) (digits_ascii (d ∷ ds) h)
 
 sign_ascii : (s : Option ℕ) → IfSome s (λ c. IsTrue (is_sign c)) → IsAscii (sign_text s)
-sign_ascii None h = none_ascii
-sign_ascii (Some c) h = more_ascii c [] (grind (arith, nat_tests)) none_ascii
+sign_ascii None h = IsAscii-nil
+sign_ascii (Some c) h = IsAscii-cons c [] (grind (arith, nat_tests)) IsAscii-nil
 
 exponent_ascii : (e : Option Exponent) → IfSome e IsExponent → IsAscii (exponent_text e)
-exponent_ascii None h = none_ascii
+exponent_ascii None h = IsAscii-nil
 exponent_ascii (Some e) h =
-    more_ascii e.letter _ (let l = h.letter in grind (arith, nat_tests)) (IsAscii-append (sign_text e.sign) e.digits (sign_ascii e.sign h.sign) (digits_ascii e.digits h.digits))
+    IsAscii-cons e.letter _ (let l = h.letter in grind (arith, nat_tests)) (IsAscii-append (sign_text e.sign) e.digits (sign_ascii e.sign h.sign) (digits_ascii e.digits h.digits))
 
-spelling_ascii : (n : Numeral) → IsNumeral n → IsAscii (spelling n)
+pub spelling_ascii : (n : Numeral) → IsNumeral n → IsAscii (spelling n)
 spelling_ascii n h =
     IsAscii-append (minus_text n.negative) _ (minus_ascii n.negative) (IsAscii-append n.whole _ (digits_ascii n.whole h.whole)
     (IsAscii-append (fraction_text n.fraction) _ (fraction_ascii n.fraction h.fraction) (exponent_ascii n.exponent h.exponent)))

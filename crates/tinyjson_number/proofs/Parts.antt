@@ -2,7 +2,7 @@
 use Rattle.std.proofs.Common.{◌≡◌, ℕ, List, [], ◌∷◌, Bool, true, false, cond, ◌==◌, IsTrue, ◌+◌, ◌≤◌, ◌++◌, length, pos, neg_ℤ, Option, Some, None, IfSome, Result, Ok, Err, refl, sym, ap, ◌∙◌, subst, arith, length-append}
 use Rattle.std.specs.Prelude.{◌+ℤ◌, ◌-ℤ◌}
 use Rattle.tinyjson_number.specs.Decimal.{Decimal, decimal_of, significant, trailing_zeros}
-use Rattle.tinyjson_number.specs.Numeral.{Numeral, Exponent, IsNumeral, IsExponent, is_sign, signed, exponent_value, value, in_range, minus_text, fraction_text, exponent_text}
+use Rattle.tinyjson_number.specs.Numeral.{Numeral, Exponent, IsNumeral, IsExponent, is_sign, signed, exponent_value, value, in_range, minus_text, fraction_text, exponent_text, spelling}
 use Rattle.tinyjson_number.specs.NumberText.{Spells}
 use Rattle.tinyjson_number.specs.Number.{Canonical}
 use Rattle.tinyjson_number.specs.Reading.{ReadsNumeral, numeral_of, plain, plain_sign, plain_exponent}
@@ -50,10 +50,13 @@ fraction_room : (ds : List ℕ) → length ds ≤ length (fraction_text ds)
 fraction_room [] = omega arith
 fraction_room (d ∷ ds) = omega arith
 
-pub spelled_room : (n : Numeral) (text : List ℕ) → Spells n text → length n.whole + length n.fraction ≤ length text
-spelled_room n text h =
+pub spelling_room : (n : Numeral) → length n.whole + length n.fraction ≤ length (spelling n)
+spelling_room n =
     let r : List ℕ = fraction_text n.fraction ++ exponent_text n.exponent in
-    omega (arith, ap length h.spelled, length-append (minus_text n.negative) (n.whole ++ r), length-append n.whole r, length-append (fraction_text n.fraction) (exponent_text n.exponent), fraction_room n.fraction)
+    omega (arith, length-append (minus_text n.negative) (n.whole ++ r), length-append n.whole r, length-append (fraction_text n.fraction) (exponent_text n.exponent), fraction_room n.fraction)
+
+pub spelled_room : (n : Numeral) (text : List ℕ) → Spells n text → length n.whole + length n.fraction ≤ length text
+spelled_room n text h = subst (λ t. length n.whole + length n.fraction ≤ length t) h.spelled (spelling_room n)
 
 -- ---- for a caller of `from_parts` that knows the numeral
 
@@ -66,6 +69,6 @@ reads_plain n (Ok x) h = (h.0 ∙ value_plain n, subst (λ (d : Decimal). IsTrue
 reads_plain n (Err OutOfRange) h = subst (λ (d : Decimal). in_range d ≡ false) (value_plain n) h
 reads_plain n (Err OutOfMemory) h = subst (λ (d : Decimal). IsTrue (in_range d)) (value_plain n) h
 
--- and the answer is that of the numeral
+-- and the result is that of the numeral
 pub parts_read : (n : Numeral) (p : NumberParts) → numeral_of p ≡ plain n → (r : Result Canonical LiteralError) → ReadsNumeral (numeral_of p) r → ReadsNumeral n r
 parts_read n p same r h = reads_plain n r (subst (λ (m : Numeral). ReadsNumeral m r) same h)

@@ -161,7 +161,7 @@ pub refused_so : (text : List ℕ) (n : Numeral) (l : LiteralError) (r : Result 
 refused_so text n l (Ok x) h s k = absurd h
 refused_so text n l (Err e) h s k = subst (λ (x : JsonNumberError). Reads text (Err x)) (sym h) (reads_error text n l s k)
 
--- no want of memory is passed on where there is none
+-- no out of memory is passed on where there is none
 pub refused_short : (l : LiteralError) (r : Result Canonical JsonNumberError) → IsErrAnd r (λ e. e ≡ of_literal l) → ¬ (l ≡ OutOfMemory) → ¬ (r ≡ Err number.OutOfMemory)
 refused_short l (Ok x) h never is = absurd h
 refused_short OutOfMemory (Err e) h never is = never refl

@@ -14,7 +14,7 @@ abbrev pub literal_error_text : LiteralError → List ℕ
 literal_error_text literal.OutOfRange = codes "power of ten out of range"
 literal_error_text literal.OutOfMemory = codes "out of memory"
 
--- the same refusal of any text
+-- the same error of any text
 abbrev pub of_literal : LiteralError → JsonNumberError
 of_literal literal.OutOfRange = number.OutOfRange
 of_literal literal.OutOfMemory = number.OutOfMemory

@@ -3,7 +3,7 @@ use Rattle.std.specs.Prelude.{ℕ, List, [], ◌∷◌, ◌++◌, Option, None, 
 use Rattle.tinyjson_number.specs.Text.{integer_text}
 use Rattle.tinyjson_number.specs.declared.text.Layout.{Layout}
 
--- what stands behind the digits
+-- what stands after the digits
 abbrev pub power_text : Option ℤ → List ℕ
 power_text None = []
 power_text (Some z) = 101 ∷ integer_text z

@@ -57,7 +57,7 @@ decimal_eq_Decides a b =
     Decides-like _ (λ p. (λ i. record { negative = p.0 i; digits = p.1.0 i; power = p.1.1 i }))
     (λ e. (ap (λ d. d.negative) e, (ap (λ d. d.digits) e, ap (λ d. d.power) e))) parts
 
--- what `==` of two numbers answers: whether their decimals are equal
+-- what `==` of two numbers returns: whether their decimals are equal
 abbrev pub number_eq : Canonical → Canonical → Bool
 number_eq a b = decimal_eq a.decimal b.decimal
 

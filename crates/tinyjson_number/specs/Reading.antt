@@ -1,4 +1,4 @@
--- What reading a number answers.
+-- What reading a number returns.
 use Rattle.std.specs.Prelude.{◌≡◌, ◌==◌, ℕ, Bool, List, false, IsTrue, Option, Some, None, Result, Ok, Err, if◌then◌else◌}
 use Rattle.tinyjson_number.specs.Decimal.{Decimal}
 use Rattle.tinyjson_number.specs.Numeral.{Numeral, Exponent, value, in_range}
@@ -37,7 +37,7 @@ plain n = record { negative = n.negative; whole = n.whole; fraction = n.fraction
 abbrev pub plain_numeral : Bool → List ℕ → List ℕ → Numeral
 plain_numeral negative whole fraction = record { negative = negative; whole = whole; fraction = fraction; exponent = None }
 
--- of any text: a number only with the decimal of the text, and each refusal only of such a text
+-- of any text: a number only with the decimal of the text, and each error only of such a text
 abbrev pub Reads : List ℕ → Result Canonical JsonNumberError → Type 0
 Reads text (Ok x) = IsNumberText text x.decimal
 Reads text (Err NotANumber) = (n : Numeral) → ¬ Spells n text

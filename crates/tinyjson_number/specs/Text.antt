@@ -30,7 +30,7 @@ plain_text digits power point =
 abbrev pub scientific_text : List ℕ → ℤ → List ℕ
 scientific_text digits point = take 1 digits ++ (fraction_text (drop 1 digits) ++ (101 ∷ integer_text (point -ℤ pos 1)))
 
--- the point stands before the place -323 or behind the place 309
+-- the point stands before the place -323 or after the place 309
 abbrev pub is_far : ℤ → Bool
 is_far point = int_lt point (negsuc 322) || int_lt (pos 309) point
 

@@ -8,12 +8,12 @@ use crate::digits::Digits;
 use crate::number::JsonNumber;
 use std::simd::prelude::*;
 
-// No more bytes of a buffer are changed.
+/// No more bytes of a buffer are changed.
 const BUFFER: usize = 32;
 
 impl JsonNumber {
     /// Puts the text of this number at the front of a buffer of 32 bytes or more, if that takes few steps, and
-    /// gives its length: of zero; of at most 16 digits with up to 8 zeros behind them and no point; and of at
+    /// gives its length: of zero; of at most 16 digits with up to 8 zeros after them and no point; and of at
     /// most 16 digits with a power of ten of -16 or more, where at most 8 digits stand before the point, or at
     /// most 6 zeros between the point and the digits. In other cases it may give `None`;
     /// [`JsonNumber::layout`] has the text of each number.
@@ -47,7 +47,7 @@ impl JsonNumber {
     }
 }
 
-// Puts a minus sign, and gives how many bytes it takes, if it belongs to the text.
+/// Puts a minus sign, and gives how many bytes it takes, if it belongs to the text.
 #[inline(always)]
 fn put_sign(buffer: &mut [u8], negative: bool) -> usize
     requires { 0 < length buffer.old }
@@ -59,7 +59,7 @@ fn put_sign(buffer: &mut [u8], negative: bool) -> usize
     negative as usize
 }
 
-// Puts the digits, which aren't zero, with their point or zeros.
+/// Puts the digits, which aren't zero, with their point or zeros.
 #[inline(always)]
 fn put_magnitude(
     buffer: &mut [u8],
@@ -90,7 +90,7 @@ fn put_magnitude(
     }
 }
 
-// Digits and zeros before the point.
+/// Digits and zeros before the point.
 #[inline(always)]
 fn put_whole(buffer: &mut [u8], at: usize, bytes: &[u8], count: usize, zeros: usize) -> usize
     requires room { (at ≤ 1) × (32 ≤ length buffer.old) }
@@ -105,7 +105,7 @@ fn put_whole(buffer: &mut [u8], at: usize, bytes: &[u8], count: usize, zeros: us
     at + count + zeros
 }
 
-// Digits on both sides of the point.
+/// Digits on both sides of the point.
 #[inline(always)]
 fn put_mixed(buffer: &mut [u8], at: usize, bytes: &[u8], count: usize, point: usize) -> usize
     requires room { (at ≤ 1) × (32 ≤ length buffer.old) }
@@ -121,7 +121,7 @@ fn put_mixed(buffer: &mut [u8], at: usize, bytes: &[u8], count: usize, point: us
     at + count + 1
 }
 
-// Zeros and digits behind the point.
+/// Zeros and digits after the point.
 #[inline(always)]
 fn put_fraction(buffer: &mut [u8], at: usize, bytes: &[u8], count: usize, zeros: usize) -> usize
     requires room { (at ≤ 1) × (32 ≤ length buffer.old) }
@@ -136,7 +136,7 @@ fn put_fraction(buffer: &mut [u8], at: usize, bytes: &[u8], count: usize, zeros:
     at + 2 + zeros + count
 }
 
-// Puts the first N bytes at the place, of which any count at the front may be meant.
+/// Puts the first N bytes at the place, of which any count at the front may be meant.
 #[inline(always)]
 fn put<const N: usize>(buffer: &mut [u8], at: usize, bytes: &[u8])
     requires bytes { N ≤ length bytes.now }

@@ -37,7 +37,7 @@ impl Inline {
         self.len
     }
 
-    /// The bytes, and what stands behind them.
+    /// The bytes, and what stands after them.
     #[inline(always)]
     pub(crate) fn room(&self) -> &[u8]
         ensures value { result.now ≡ self.now.bytes }

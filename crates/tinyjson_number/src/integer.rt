@@ -81,7 +81,7 @@ impl JsonNumber {
         Some(magnitude as i64)
     }
 
-    // The whole number that this is without its sign, if it fits.
+    /// The whole number that this is without its sign, if it fits.
     fn magnitude(&self) -> Option<u64>
         ensures { MatchOption result
             ((n : ℕ) → n < 2 ^ 64
@@ -99,7 +99,7 @@ impl JsonNumber {
     }
 }
 
-// The number that the digits write, if it fits.
+/// The number that the digits write, if it fits.
 fn digits_number(digits: &[u8]) -> Option<u64>
     requires { AreDigits digits.now }
     ensures { SomeIff result (digits_value 10 digits.now < 2 ^ 64) (digits_value 10 digits.now) }
@@ -117,7 +117,7 @@ fn digits_number(digits: &[u8]) -> Option<u64>
     Some(value)
 }
 
-// A number times a power of ten, if it fits.
+/// A number times a power of ten, if it fits.
 fn times_ten(number: u64, times: u64) -> Option<u64>
     ensures { SomeIff result (number * 10 ^ times < 2 ^ 64) (number * 10 ^ times) }
 {
@@ -131,7 +131,7 @@ fn times_ten(number: u64, times: u64) -> Option<u64>
     Some(value)
 }
 
-// The decimal of a whole number and a sign.
+/// The decimal of a whole number and a sign.
 fn from_magnitude(alloc: Global, negative: bool, value: u64) -> Result<JsonNumber, AllocError>
     ensures decimal { IfOk result (λ n. n.decimal ≡ whole_decimal negative value) }
     ensures ok { IsOk result }
@@ -149,7 +149,7 @@ fn from_magnitude(alloc: Global, negative: bool, value: u64) -> Result<JsonNumbe
 /// The digits of `u64::MAX`.
 const MAX_DIGITS: usize = 20;
 
-// The digits of a number, which are written to the buffer.
+/// The digits of a number, which are written to the buffer.
 fn value_digits(value: u64, buffer: &mut [u8; MAX_DIGITS]) -> &[u8]
     ensures { result.now ≡ decimal value }
 {
@@ -157,7 +157,7 @@ fn value_digits(value: u64, buffer: &mut [u8; MAX_DIGITS]) -> &[u8]
     &buffer[start..]
 }
 
-// Writes the digits of a number to the end of the buffer, and answers where they begin.
+/// Writes the digits of a number to the end of the buffer, and returns where they begin.
 fn write_digits(value: u64, buffer: &mut [u8; MAX_DIGITS]) -> usize
     ensures within { result < 20 }
     ensures digits { drop result buffer.new ≡ decimal value }

@@ -59,7 +59,7 @@ impl JsonNumber {
         }
     }
 
-    // The number of the one form whose digits are the two slices together.
+    /// The number of the one form whose digits are the two slices together.
     pub(crate) fn of_digits(
         alloc: Global,
         negative: bool,
@@ -81,7 +81,7 @@ impl JsonNumber {
         })
     }
 
-    // The same of so few digits that they need no memory.
+    /// The same of so few digits that they need no memory.
     #[inline(always)]
     pub(crate) fn of_few(negative: bool, front: &[u8], back: &[u8], power: i64) -> JsonNumber
         requires few { length front.now + length back.now ≤ 24 }
@@ -135,7 +135,7 @@ impl JsonNumber {
         self.digits.as_bytes()
     }
 
-    // The digits and how many they are, if they are kept in the number itself.
+    /// The digits and how many they are, if they are kept in the number itself.
     #[inline(always)]
     pub(crate) fn few_digits(&self) -> Option<(&[u8], usize)>
         ensures { IfSome result (λ r. (take r.1 r.0.now ≡ self.now.decimal.digits)

@@ -67,8 +67,8 @@ impl JsonNumber {
     /// The decimal of the number that the whole text is, exactly as it is written: any count of digits,
     /// and an exponent of any size.
     ///
-    /// It answers `NotANumber` exactly where the text is no number of the grammar (RFC 8259, section 6),
-    /// `OutOfRange` exactly where it is one whose power of ten, behind its last digit that is not `0`, is
+    /// It returns `NotANumber` exactly where the text is no number of the grammar (RFC 8259, section 6),
+    /// `OutOfRange` exactly where it is one whose power of ten, after its last digit that is not `0`, is
     /// out of the range of `i64`, and `OutOfMemory` only of a text of more than 24 bytes that has a
     /// decimal.
     ///
@@ -88,8 +88,8 @@ impl JsonNumber {
         }
     }
 
-    /// The decimal of a text that is known to be a number of the grammar. It cannot answer that the text
-    /// is no number, and otherwise answers as `from_text` does.
+    /// The decimal of a text that is known to be a number of the grammar. It cannot return that the text
+    /// is no number, and otherwise returns what `from_text` does.
     ///
     /// ```
     /// let number = JsonNumber::from_literal(alloc, "15")?;
@@ -110,9 +110,9 @@ impl JsonNumber {
     /// themselves, as a parser, so that its digits are looked at no second time but to strip zeros.
     ///
     /// All bytes are ASCII digits, at least one before the point, and one in the exponent if there is one;
-    /// those before and behind the point are fewer than 2^64. The whole part may begin with zeros.
+    /// those before and after the point are fewer than 2^64. The whole part may begin with zeros.
     ///
-    /// It answers `OutOfRange` exactly where the power of ten behind the last digit that is not `0` is out
+    /// It returns `OutOfRange` exactly where the power of ten after the last digit that is not `0` is out
     /// of the range of `i64`, and `OutOfMemory` only of a number that has a decimal. At most 24 digits,
     /// beside those of the exponent, need no memory, and without an exponent always give a number.
     ///
@@ -144,7 +144,7 @@ impl JsonNumber {
     }
 }
 
-// The number of few digits that neither begin nor end with `0`.
+/// The number of few digits that neither begin nor end with `0`.
 #[inline(always)]
 fn bare(negative: bool, whole: &[u8], fraction: &[u8]) -> JsonNumber
     requires whole { AreDigits whole.now }
@@ -159,7 +159,7 @@ fn bare(negative: bool, whole: &[u8], fraction: &[u8]) -> JsonNumber
     JsonNumber::of_few(negative, whole, fraction, -(fraction.len() as i64))
 }
 
-// The number of these parts, whose zeros at both ends are stripped.
+/// The number of these parts, whose zeros at both ends are stripped.
 #[inline(never)]
 fn uneven(alloc: Global, parts: NumberParts<'_>) -> Result<JsonNumber, LiteralError>
     requires numeral { IsNumeral (numeral_of parts) }
@@ -176,7 +176,7 @@ fn uneven(alloc: Global, parts: NumberParts<'_>) -> Result<JsonNumber, LiteralEr
     long(alloc, parts)
 }
 
-// The number of few digits and no exponent.
+/// The number of few digits and no exponent.
 fn short(negative: bool, whole: &[u8], fraction: &[u8]) -> JsonNumber
     requires whole { AreDigits whole.now }
     requires fraction { AreDigits fraction.now }
@@ -192,7 +192,7 @@ fn short(negative: bool, whole: &[u8], fraction: &[u8]) -> JsonNumber
     JsonNumber::of_few(negative, kept.whole, kept.fraction, power)
 }
 
-// Whether the digits of both parts neither begin nor end with `0`.
+/// Whether the digits of both parts neither begin nor end with `0`.
 #[inline(always)]
 fn is_bare(whole: &[u8], fraction: &[u8]) -> bool
     ensures { IsTrue result → (0 < length whole.now)
@@ -208,7 +208,7 @@ fn is_bare(whole: &[u8], fraction: &[u8]) -> bool
     fraction[fraction.len() - 1] != b'0'
 }
 
-// The number of any digits and any exponent.
+/// The number of any digits and any exponent.
 fn long(alloc: Global, parts: NumberParts<'_>) -> Result<JsonNumber, LiteralError>
     requires numeral { IsNumeral (numeral_of parts) }
     requires room { length parts.whole.now + length parts.fraction.now < 2 ^ 64 }
@@ -227,7 +227,7 @@ fn long(alloc: Global, parts: NumberParts<'_>) -> Result<JsonNumber, LiteralErro
     Ok(JsonNumber::of_digits(alloc, parts.negative, kept.whole, kept.fraction, power)?)
 }
 
-// The exponent, less the count of fraction digits, and the count of zeros stripped, if it fits a power.
+/// The exponent, less the count of fraction digits, and the count of zeros stripped, if it fits a power.
 fn power_of(exponent: i128, fraction: usize, zeros: usize) -> Option<i64>
     requires low { neg_ℤ (pos exponent_cap) ≤ℤ exponent }
     requires high { exponent ≤ℤ pos exponent_cap }
@@ -246,7 +246,7 @@ fn power_of(exponent: i128, fraction: usize, zeros: usize) -> Option<i64>
 /// cut to it comes back into range.
 const EXPONENT_CAP: u128 = 1 << 66;
 
-// The exponent, 0 where there is none, kept at most as far from 0 as `EXPONENT_CAP`.
+/// The exponent, 0 where there is none, kept at most as far from 0 as `EXPONENT_CAP`.
 fn capped_exponent(exponent: Option<ExponentParts<'_>>) -> i128
     requires { IfSome exponent (λ e. AreDigits e.digits.now) }
     ensures value { result ≡ capped (exponent_of exponent.entry) }
@@ -260,7 +260,7 @@ fn capped_exponent(exponent: Option<ExponentParts<'_>>) -> i128
     if exponent.negative { -value } else { value }
 }
 
-// The number that the digits write, or the cap if that is less.
+/// The number that the digits write, or the cap if that is less.
 fn capped_value(digits: &[u8]) -> u128
     requires { AreDigits digits.now }
     ensures { result ≡ min (digits_value 10 digits.now) exponent_cap }
@@ -316,7 +316,7 @@ fn strip<'a>(whole: &'a [u8], fraction: &'a [u8]) -> Stripped<'a>
     }
 }
 
-// The digits from the first on that is not `0`.
+/// The digits from the first on that is not `0`.
 fn strip_leading(digits: &[u8]) -> &[u8]
     ensures value { result.now ≡ strip_leading digits.now }
     ensures within { length result.now ≤ length digits.now }
@@ -332,7 +332,7 @@ pub(crate) fn strip_trailing(digits: &[u8]) -> &[u8]
     &digits[..kept_len(digits)]
 }
 
-// How many zeros the digits begin with.
+/// How many zeros the digits begin with.
 fn leading_zeros(digits: &[u8]) -> usize
     ensures within { result ≤ length digits.now }
     ensures rest { drop result digits.now ≡ strip_leading digits.now }
@@ -345,7 +345,7 @@ fn leading_zeros(digits: &[u8]) -> usize
     digits.len()
 }
 
-// How many digits there are up to the last that is not `0`.
+/// How many digits there are up to the last that is not `0`.
 fn kept_len(digits: &[u8]) -> usize
     ensures within { result ≤ length digits.now }
     ensures kept { take result digits.now ≡ strip_trailing digits.now }
@@ -357,7 +357,7 @@ fn kept_len(digits: &[u8]) -> usize
     n
 }
 
-// The parts of the number that the whole text is, or `None` if it is none of the grammar.
+/// The parts of the number that the whole text is, or `None` if it is none of the grammar.
 #[tactic(auto, unfolding(crate::specs::private::Scan::scan))]
 fn read(text: &[u8]) -> Option<NumberParts<'_>>
     ensures { option_map numeral_of result ≡ option_map plain (scan text.now) }
@@ -383,7 +383,7 @@ fn begins_with(text: &[u8], byte: u8) -> bool
     }
 }
 
-// The text after a `-` that it begins with.
+/// The text after a `-` that it begins with.
 fn after_minus(text: &[u8]) -> &[u8]
     ensures { result.now ≡ after_minus text.now }
 {
@@ -406,7 +406,7 @@ fn digits_len(text: &[u8]) -> usize
     text.len()
 }
 
-// The digits that a text begins with, and the rest.
+/// The digits that a text begins with, and the rest.
 fn split_digits(text: &[u8]) -> (&[u8], &[u8])
     ensures front { result.0.now ≡ digits_front text.now }
     ensures rest { result.1.now ≡ digits_rest text.now }
@@ -423,7 +423,7 @@ fn has_leading_zero(digits: &[u8]) -> bool
     }
 }
 
-// The whole part, and the rest.
+/// The whole part, and the rest.
 #[tactic(auto, unfolding(crate::specs::private::Scan::whole_at))]
 fn whole(text: &[u8]) -> Option<(&[u8], &[u8])>
     ensures { option_map (λ p. (p.0.now, p.1.now)) result ≡ whole_at text.now }
@@ -435,7 +435,7 @@ fn whole(text: &[u8]) -> Option<(&[u8], &[u8])>
     Some((digits, rest))
 }
 
-// The digits after a point, and the rest.
+/// The digits after a point, and the rest.
 #[tactic(auto, unfolding(crate::specs::private::Scan::fraction_at))]
 fn fraction(text: &[u8]) -> Option<(&[u8], &[u8])>
     ensures { option_map (λ p. (p.0.now, p.1.now)) result ≡ fraction_at text.now }
@@ -450,7 +450,7 @@ fn fraction(text: &[u8]) -> Option<(&[u8], &[u8])>
     Some((digits, rest))
 }
 
-// The exponent that the rest of a number is, if it is one.
+/// The exponent that the rest of a number is, if it is one.
 #[tactic(auto, unfolding(crate::specs::private::Scan::exponent_at))]
 fn exponent(text: &[u8]) -> Option<Option<ExponentParts<'_>>>
     ensures { option_map exponent_of result ≡ option_map plain_exponent (exponent_at text.now) }
@@ -465,7 +465,7 @@ fn exponent(text: &[u8]) -> Option<Option<ExponentParts<'_>>>
     }
 }
 
-// The sign and the digits of an exponent, to the end of the text.
+/// The sign and the digits of an exponent, to the end of the text.
 #[tactic(auto, unfolding(crate::specs::private::Scan::exponent_digits_at))]
 fn exponent_digits(text: &[u8]) -> Option<Option<ExponentParts<'_>>>
     ensures { (letter : ℕ) → option_map exponent_of result

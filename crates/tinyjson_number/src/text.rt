@@ -78,7 +78,7 @@ pub struct Layout<'a> {
     pub middle: &'a [u8],
     /// The other digits, or nothing.
     pub back: &'a [u8],
-    /// What stands in decimal behind an `e`, where there is one.
+    /// What stands in decimal after an `e`, where there is one.
     pub exponent: Option<i128>,
 }
 
@@ -109,7 +109,7 @@ fn decimal(negative: bool, digits: &[u8], power: i64) -> Layout<'_>
     magnitude(sign, digits, power)
 }
 
-// Digits that aren't zero.
+/// Digits that aren't zero.
 fn magnitude<'a>(sign: &'a [u8], digits: &'a [u8], power: i64) -> Layout<'a>
     requires { 0 < length digits.now }
     ensures { layout_text result
@@ -148,7 +148,7 @@ fn scientific<'a>(sign: &'a [u8], digits: &'a [u8], point: i128) -> Layout<'a>
     }
 }
 
-// Digits and zeros before the point.
+/// Digits and zeros before the point.
 fn whole<'a>(sign: &'a [u8], digits: &'a [u8], count: usize) -> Layout<'a>
     requires { count ≤ 323 }
     ensures { layout_text result ≡ sign.now ++ (digits.now ++ replicate count 48) }
@@ -162,7 +162,7 @@ fn whole<'a>(sign: &'a [u8], digits: &'a [u8], count: usize) -> Layout<'a>
     }
 }
 
-// Zeros and digits behind the point.
+/// Zeros and digits after the point.
 fn fraction<'a>(sign: &'a [u8], count: usize, digits: &'a [u8]) -> Layout<'a>
     requires { count ≤ 323 }
     ensures { layout_text result ≡ sign.now ++ (48 ∷ 46 ∷ (replicate count 48 ++ digits.now)) }
@@ -176,7 +176,7 @@ fn fraction<'a>(sign: &'a [u8], count: usize, digits: &'a [u8]) -> Layout<'a>
     }
 }
 
-// Digits on both sides of the point.
+/// Digits on both sides of the point.
 fn mixed<'a>(sign: &'a [u8], digits: &'a [u8], point: usize) -> Layout<'a>
     requires { point ≤ length digits.now }
     ensures { layout_text result
@@ -192,7 +192,7 @@ fn mixed<'a>(sign: &'a [u8], digits: &'a [u8], point: usize) -> Layout<'a>
     }
 }
 
-// No text without an exponent has more zeros in a run.
+/// No text without an exponent has more zeros in a run.
 static ZEROS: [u8; 323] = [b'0'; 323];
 
 fn zeros(count: usize) -> &'static [u8]

@@ -1,6 +1,6 @@
 -- For proofs of callers: what is written, what waits, and the bytes of quoted strings.
 pub use Rattle.tinyjson_output.proofs.Bytes.{closed, enc, enc_cons, null_bytes, three}
-pub use Rattle.tinyjson_output.proofs.Quotes.{escape_ascii, high, le_or_lt, quoted_bytes, two_ascii}
+pub use Rattle.tinyjson_output.proofs.Quotes.{escape_ascii, high, quoted_bytes, two_ascii}
 pub use Rattle.tinyjson_output.proofs.Written.{Appends-trans, Appends_keeps, Appends_nothing, begins, ends, fails, goes}
 pub use Rattle.tinyjson_output.proofs.Written.{stop, stops, stops_then, written_all, written_none, written_same}
 pub use Rattle.tinyjson_output.proofs.Written.{written_take, written_then}

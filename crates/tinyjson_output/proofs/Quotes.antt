@@ -1,11 +1,12 @@
 -- Quoted strings as bytes.
-use Rattle.std.proofs.Common.{◌==◌, ◌≡◌, ℕ, zero, suc, ◌+◌, ◌/◌, ◌%◌, cond, ◌⊎◌, inl, inr, Bool, true, false, List, [], ◌∷◌, ◌++◌, length, get_or, take, drop, length-drop, ◌-◌, ◌≤◌, refl, sym, ◌∙◌, ap, append_assoc, append-nil, arith, lit<, ◌<◌}
+use Rattle.std.proofs.Common.{◌==◌, ◌≡◌, ℕ, zero, suc, ◌+◌, ◌/◌, ◌%◌, cond, inl, inr, Bool, true, false, List, [], ◌∷◌, ◌++◌, length, get_or, take, drop, length-drop, ◌-◌, ◌≤◌, refl, sym, ◌∙◌, ap, append_assoc, append-nil, arith, lit<, ◌<◌}
 use Rattle.std.specs.Str.{chars, IsUtf8, IsAscii}
-use Rattle.tinyjson_number.proofs.Callers.{none_ascii, more_ascii}
 use Rattle.std.proofs.Math.Utf8.{encode}
 use Rattle.std.specs.Char.{digit_char}
 use Rattle.std.specs.Bool.{nat_lt}
 use Rattle.std.proofs.lemmas.Str.{encodes-append, encode_ascii, encodes-chars, encodes-IsAscii, inside_one, IsAscii-append}
+use Rattle.std.proofs.lemmas.Str.Ascii.{IsAscii-nil, IsAscii-cons}
+use Rattle.std.proofs.lemmas.Bool.{cases_lt}
 use Rattle.std.proofs.lemmas.List.{take_all, drop_all}
 use Rattle.std.proofs.lemmas.Bool.Decides.{nat_tests}
 use Rattle.std.specs.List.{prefix_len}
@@ -79,7 +80,7 @@ digit_ascii : (d : ℕ) → d < 16 → digit_char d < 128
 digit_ascii d h = elim (nat_lt d 10) as (λ b. cond b (48 + d) (87 + d) < 128) [ true ↦ omega arith | false ↦ omega arith ]
 
 pub two_ascii : (a b : ℕ) → a < 128 → b < 128 → IsAscii (a ∷ b ∷ [])
-two_ascii a b h k = more_ascii a (b ∷ []) h (more_ascii b [] k none_ascii)
+two_ascii a b h k = IsAscii-cons a (b ∷ []) h (IsAscii-cons b [] k IsAscii-nil)
 
 hex_ascii : (a b : ℕ) → a < 128 → b < 128 → IsAscii (92 ∷ 117 ∷ 48 ∷ 48 ∷ a ∷ b ∷ [])
 hex_ascii a b h k =
@@ -91,23 +92,18 @@ escape_ascii c h =
     let hex = hex_ascii (digit_char (c / 16)) (digit_char (c % 16)) (digit_ascii (c / 16) (omega arith)) (digit_ascii (c % 16) (omega arith)) in
     ascii_cond (c == 8) _ _ (short 98 (lit< tt)) (ascii_cond (c == 9) _ _ (short 116 (lit< tt)) (ascii_cond (c == 10) _ _ (short 110 (lit< tt))
     (ascii_cond (c == 12) _ _ (short 102 (lit< tt)) (ascii_cond (c == 13) _ _ (short 114 (lit< tt)) (ascii_cond (c == 34) _ _ (short 34 (lit< tt))
-    (ascii_cond (c == 92) _ _ (short 92 (lit< tt)) (ascii_cond (nat_lt c 32) _ _ hex (more_ascii c [] h none_ascii))))))))
-
-pub le_or_lt : (a b : ℕ) → (a ≤ b) ⊎ (b < a)
-le_or_lt zero b = inl (omega arith)
-le_or_lt (suc a) zero = inr (omega arith)
-le_or_lt (suc a) (suc b) = elim (le_or_lt a b) [ inl h ↦ inl (omega arith) | inr h ↦ inr (omega arith) ]
+    (ascii_cond (c == 92) _ _ (short 92 (lit< tt)) (ascii_cond (nat_lt c 32) _ _ hex (IsAscii-cons c [] h IsAscii-nil))))))))
 
 not_low : (c k : ℕ) → 128 ≤ c → k < length (encode c) → 128 ≤ get_or (encode c) k 0
-not_low c k h l = elim (le_or_lt 128 (get_or (encode c) k 0)) [
-  | inl a ↦ a
-  | inr a ↦ let e : c ≡ get_or (encode c) k 0 = inside_one c [] (encode c) k (sym (append-nil (encode c))) l a in absurd (omega arith)
+not_low c k h l = elim (cases_lt (get_or (encode c) k 0) 128) [
+  | inr a ↦ a
+  | inl a ↦ let e : c ≡ get_or (encode c) k 0 = inside_one c [] (encode c) k (sym (append-nil (encode c))) l a in absurd (omega arith)
 ]
 
 enc_escape : (c : ℕ) → enc (escape c) ≡ escapes (encode c)
-enc_escape c = elim (le_or_lt 128 c) [
-  | inl h ↦ ap enc (high c h) ∙ append-nil (encode c) ∙ sym (escapes_high (encode c) (λ k l. not_low c k h l))
-  | inr h ↦ encodes-IsAscii (escape c) (escape_ascii c h) ∙ sym (append-nil (escape c)) ∙ ap escapes (sym (encode_ascii c h))
+enc_escape c = elim (cases_lt c 128) [
+  | inr h ↦ ap enc (high c h) ∙ append-nil (encode c) ∙ sym (escapes_high (encode c) (λ k l. not_low c k h l))
+  | inl h ↦ encodes-IsAscii (escape c) (escape_ascii c h) ∙ sym (append-nil (escape c)) ∙ ap escapes (sym (encode_ascii c h))
 ]
 
 enc_escapes : (cs : List ℕ) → enc (escapes cs) ≡ escapes (enc cs)

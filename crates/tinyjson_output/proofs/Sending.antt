@@ -7,7 +7,7 @@ use Rattle.tinyjson_output.specs.Written.{Written, WrittenPart, WritesPrefix}
 use Rattle.tinyjson_output.specs.Room.{Output, Sent, SentPart, Sends}
 use Rattle.tinyjson_output.proofs.Written.{written_then as written_on, stops_then as part_on, written_none as written_now, stop as part_of}
 
--- more stands behind
+-- more stands after
 behind : {old new : Option (List ℕ)} {bytes rest : List ℕ} (more : List ℕ) → Written old new bytes rest → Written old new (bytes ++ more) (rest ++ more)
 behind {old} {new} {bytes} {rest} more h = record { done = h.done; split = ap (λ w. w ++ more) h.split ∙ append_assoc h.done rest more; appended = h.appended }
 
@@ -75,7 +75,7 @@ stop {old} {new} {bytes} {rest} h =
 pub flush_fails : {a b : Option (List ℕ)} {p q : List ℕ} (bytes : List ℕ) → WrittenPart a b p → SentPart (a, p) (b, q) bytes
 flush_fails bytes h = record { part = record { rest = h.rest ++ bytes; written = behind bytes h.written } }
 
--- the bytes wait behind what waited
+-- the bytes wait after what waited
 pub waits : (a : Option (List ℕ)) (p q bytes : List ℕ) → q ≡ p ++ bytes → Sent (a, p) (a, q) bytes []
 waits a p q bytes e = record { done = bytes; split = sym (append-nil bytes); written = written_now a (p ++ bytes) q (sym e) }
 

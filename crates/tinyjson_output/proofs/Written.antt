@@ -79,7 +79,7 @@ fails r rest e k h = MatchResult-from_err r _ _ e (λ _. stops rest k h)
 pub begins : {old : Option (List ℕ)} {bytes : List ℕ} → Written old old bytes bytes
 begins {old} {bytes} = written_none old bytes bytes refl
 
--- where a fault comes before a write
+-- where an error comes before a write
 pub stop : {old new : Option (List ℕ)} {bytes rest : List ℕ} → Written old new bytes rest → WrittenPart old new bytes
 stop {old} {new} {bytes} {rest} h = record { rest = rest; written = h }
 

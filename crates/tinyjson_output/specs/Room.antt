@@ -1,4 +1,4 @@
--- What waits to be written, behind what a writer holds. For private contracts.
+-- What waits to be written, after what a writer holds. For private contracts.
 use Rattle.std.specs.Prelude.{◌≡◌, ℕ, List, [], ◌++◌, take, Option, Result, MatchResult, encode_utf8_all}
 use Rattle.tinyjson_output.specs.Written.{Written, WrittenPart}
 use Rattle.tinyjson_output.specs.declared.room.Room.{Room}
@@ -11,13 +11,13 @@ waiting r = take r.len r.bytes
 abbrev pub Output : Type 0
 Output = Option (List ℕ) × List ℕ
 
--- all but the rest of the bytes stands behind what waited; of both a part is written now, and the others wait
+-- all but the rest of the bytes stands after what waited; of both a part is written now, and the others wait
 pub record Sent (old new : Output) (bytes rest : List ℕ) : Type 0 where
   pub done : List ℕ
   pub split : bytes ≡ done ++ rest
   pub written : Written old.0 new.0 (old.1 ++ done) new.1
 
--- all but the rest of the bytes waits behind what waited, and none is written
+-- all but the rest of the bytes waits after what waited, and none is written
 abbrev pub Waits : List ℕ → List ℕ → List ℕ → List ℕ → Type 0
 Waits old new bytes rest = (held : Option (List ℕ)) → Sent (held, old) (held, new) bytes rest
 
@@ -25,7 +25,7 @@ Waits old new bytes rest = (held : Option (List ℕ)) → Sent (held, old) (held
 pub record SentPart (old new : Output) (bytes : List ℕ) : Type 0 where
   pub part : WrittenPart old.0 new.0 (old.1 ++ bytes)
 
--- on `Ok` the bytes stand behind what waited, and on `Err` a beginning of both is written
+-- on `Ok` the bytes stand after what waited, and on `Err` a beginning of both is written
 abbrev pub Sends : {T E : Type 0} → Output → Output → List ℕ → Result T E → Type 0
 Sends old new bytes result = MatchResult result (λ _. Sent old new bytes []) (λ _. SentPart old new bytes)
 

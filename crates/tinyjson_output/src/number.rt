@@ -37,7 +37,7 @@ fn write_exponent<W: Write>(out: &mut W, room: &mut Room, exponent: i128) -> io:
     write_natural(out, room, exponent.unsigned_abs())
 }
 
-// Writes the digits, the first of them first.
+/// Writes the digits, the first of them first.
 fn write_natural<W: Write>(out: &mut W, room: &mut Room, number: u128) -> io::Result<()>
     ensures { Sends
         (W.contents out.old, waiting room.old) (W.contents out.new, waiting room.new)

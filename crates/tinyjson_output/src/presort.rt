@@ -7,8 +7,8 @@ use std::alloc::{AllocError, Global};
 /// So few members are sorted as fast as they are presorted.
 const FEW: usize = 32;
 
-/// Orders many members by the first bytes of their keys behind those that all share, the last key's
-/// member first. Where memory is wanting, or there are few, or the first of them rise or fall already,
+/// Orders many members by the first bytes of their keys after those that all share, the last key's
+/// member first. Where memory is refused, or there are few, or the first of them rise or fall already,
 /// they stay as they are.
 #[inline(always)]
 pub fn presort<T>(alloc: Global, members: &mut [(&str, &T)])
@@ -109,7 +109,7 @@ fn differences<T>(members: &[(&str, &T)], from: usize, word: u64) -> u64 {
     bits
 }
 
-/// The eight bytes from there on as a number, the first the greatest, with zeros behind the last.
+/// The eight bytes from there on as a number, the first the greatest, with zeros after the last.
 #[inline(always)]
 fn rank(bytes: &[u8], from: usize) -> u64 {
     if bytes.len() < 8 {

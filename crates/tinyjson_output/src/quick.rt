@@ -33,7 +33,7 @@ pub fn quick_number(room: &mut Room, number: &JsonNumber) -> bool
     room.append_short(number) || append_layout(room, number)
 }
 
-// The same by the parts of the number's text.
+/// The same by the parts of the number's text.
 #[inline(never)]
 fn append_layout(room: &mut Room, number: &JsonNumber) -> bool
     ensures { MatchBool result

@@ -36,7 +36,7 @@ fn write_escaped<W: Write>(out: &mut W, room: &mut Room, bytes: &[u8]) -> io::Re
     write_stopped(out, room, &bytes[stop..])
 }
 
-// Writes an escape, and the bytes up to the next one in one piece.
+/// Writes an escape, and the bytes up to the next one in one piece.
 #[inline(never)]
 fn write_stopped<W: Write>(out: &mut W, room: &mut Room, bytes: &[u8]) -> io::Result<()>
     requires { prefix_len is_plain bytes.now ≡ 0 }
@@ -77,8 +77,8 @@ fn write_escape<W: Write>(out: &mut W, room: &mut Room, byte: u8) -> io::Result<
     }
 }
 
-// The letter behind the backslash of a short escape. Those of control characters are looked up in a
-// small table, so that no jump has to be guessed for them.
+/// The letter after the backslash of a short escape. Those of control characters are looked up in a
+/// small table, so that no jump has to be guessed for them.
 fn escape_letter(byte: u8) -> Option<u8>
     requires { IsEscaped byte }
     ensures { MatchOption result

@@ -9,7 +9,7 @@ use std::io::{self, ErrorKind, Write};
 use std::simd::prelude::*;
 use tinyjson_number::JsonNumber;
 
-// How many bytes wait at most.
+/// How many bytes wait at most.
 const ROOM: usize = 4096;
 
 /// Bytes that wait to be written: the first `len`.
@@ -30,7 +30,7 @@ impl Room {
         }
     }
 
-    /// Lets the bytes wait behind the others.
+    /// Lets the bytes wait after the others.
     #[inline(always)]
     pub fn append(&mut self, bytes: &[u8])
         requires { self.old.len + length bytes.now ≤ 4096 }
@@ -41,7 +41,7 @@ impl Room {
         self.len += bytes.len();
     }
 
-    /// Lets the text of a number wait behind the others, if it is short and fits, and says whether it does.
+    /// Lets the text of a number wait after the others, if it is short and fits, and says whether it does.
     #[inline(always)]
     pub fn append_short(&mut self, number: &JsonNumber) -> bool
         ensures { MatchBool result
@@ -85,7 +85,7 @@ impl Room {
     }
 }
 
-// Puts the bytes at the place, a few of them by two vectors, which may overlap.
+/// Puts the bytes at the place, a few of them by two vectors, which may overlap.
 #[inline(always)]
 fn copy(target: &mut [u8], at: usize, bytes: &[u8])
     requires { at + length bytes.now ≤ length target.old }
@@ -103,7 +103,7 @@ fn copy(target: &mut [u8], at: usize, bytes: &[u8])
     }
 }
 
-// The first N bytes and the last N, which are all.
+/// The first N bytes and the last N, which are all.
 #[inline(always)]
 fn copy_ends<const N: usize>(target: &mut [u8], at: usize, bytes: &[u8])
     requires count { (N ≤ length bytes.now) × (length bytes.now ≤ N + N) }
@@ -116,7 +116,7 @@ fn copy_ends<const N: usize>(target: &mut [u8], at: usize, bytes: &[u8])
     Simd::<u8, N>::from_slice(&bytes[last..]).copy_to_slice(&mut target[at + last..]);
 }
 
-/// Writes the bytes behind those that wait, or lets them wait too. An error is the writer's own, an
+/// Writes the bytes after those that wait, or lets them wait too. An error is the writer's own, an
 /// interruption too, or `WriteZero` where it takes nothing.
 #[inline(always)]
 pub fn write_bytes<W: Write>(out: &mut W, room: &mut Room, bytes: &[u8]) -> io::Result<()>
@@ -131,7 +131,7 @@ pub fn write_bytes<W: Write>(out: &mut W, room: &mut Room, bytes: &[u8]) -> io::
     Ok(())
 }
 
-// The same where there is no room.
+/// The same where there is no room.
 #[cold]
 #[inline(never)]
 fn write_far<W: Write>(out: &mut W, room: &mut Room, bytes: &[u8]) -> io::Result<()>
@@ -160,8 +160,8 @@ pub fn flush<W: Write>(out: &mut W, room: &mut Room) -> io::Result<()>
     Ok(())
 }
 
-// Writes the bytes, and ends with the writer's first fault, an interruption too. The writer is never
-// called with no bytes.
+/// Writes the bytes, and ends with the writer's first error, an interruption too. The writer is never
+/// called with no bytes.
 fn write_all<W: Write>(out: &mut W, bytes: &[u8]) -> io::Result<()>
     ensures { WritesPrefix (W.contents out.old) (W.contents out.new) bytes.now result }
 {

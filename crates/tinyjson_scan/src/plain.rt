@@ -24,7 +24,7 @@ pub fn plain_end(bytes: &[u8], from: usize) -> usize
     plain_tail(bytes, i)
 }
 
-// The same where fewer than sixteen bytes are left.
+/// The same where fewer than sixteen bytes are left.
 #[inline(never)]
 fn plain_tail(bytes: &[u8], from: usize) -> usize
     requires { from ≤ length bytes.now }
@@ -40,7 +40,7 @@ fn plain_tail(bytes: &[u8], from: usize) -> usize
     plain_few(bytes, from + 8)
 }
 
-// The same where fewer than eight bytes are left.
+/// The same where fewer than eight bytes are left.
 #[inline(always)]
 fn plain_few(bytes: &[u8], from: usize) -> usize
     requires { from ≤ length bytes.now }
@@ -56,7 +56,7 @@ fn plain_few(bytes: &[u8], from: usize) -> usize
     plain_bytes(bytes, from + 4)
 }
 
-// The same byte by byte.
+/// The same byte by byte.
 #[inline(always)]
 fn plain_bytes(bytes: &[u8], from: usize) -> usize
     requires { from ≤ length bytes.now }

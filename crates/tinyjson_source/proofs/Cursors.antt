@@ -25,7 +25,7 @@ none_shown p None n f s = true≢false (sym s.ended ∙ f)
 none_shown p (Some x) n f s = true≢false (ap is_some (sym s.peeked ∙ n))
 
 module _ {S : Type 0} (steps : S → Option ℕ → S → Type 0) where
-  -- what the iterator answers goes into the one place that is looked at
+  -- what the iterator returns goes into the one place that is looked at
   pub filled : (p : Cursor S) (r : Option ℕ) (t : S) (d : Bool) (zs : List ℕ) → p.peeked ≡ None → p.done ≡ false → steps p.it r t → d ≡ not (is_some r) → Gives steps p zs
       → Gives steps (record { it = t; peeked = r; done = d; line = p.line; column = p.column }) zs
   filled p None t d zs n f s e g =
@@ -77,7 +77,7 @@ module _ {S : Type 0} (steps : S → Option ℕ → S → Type 0) where
     moves = b.moves ∙ ap (λ t. advance t ys) a.moves ∙ advance_append (place p) xs ys;
   }
 
-  -- the iterator's next answer is looked at
+  -- the iterator's next character is looked at
   pub Goes_filled : (p q : Cursor S) (xs : List ℕ) (r : Option ℕ) (t : S) (d : Bool) → Goes steps p xs q → q.peeked ≡ None → q.done ≡ false → steps q.it r t → d ≡ not (is_some r)
       → Goes steps p xs (record { it = t; peeked = r; done = d; line = q.line; column = q.column })
   Goes_filled p q xs r t d a n f s e = record { gives = λ zs g. let x = a.gives zs g in (x.0, x.1, filled steps q r t d x.0 n f s e x.2); moves = a.moves }

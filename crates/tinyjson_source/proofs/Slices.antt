@@ -1,4 +1,4 @@
--- What stands before a place in a text, between two places, and behind a place.
+-- What stands before a place in a text, between two places, and after a place.
 use Rattle.std.proofs.Common.{◌≡◌, ℕ, zero, suc, ◌+◌, ◌-◌, ◌<◌, ◌≤◌, Bool, true, false, cond, List, [], ◌∷◌, ◌++◌, length, take, drop, get_or, Option, Some, None, MatchOption, IfSome, refl, sym, ap, ◌∙◌, subst, arith, length-append, append-nil, add-zero, drop-cons, ⊎_elim, true≢false}
 use Rattle.std.proofs.lemmas.Bool.{cases_lt}
 use Rattle.std.specs.Prelude.{encode_utf8, slice_get}
@@ -155,7 +155,7 @@ module _ (p : ℕ → Bool) (ascii : (b : ℕ) → p b ≡ true → b < 128) whe
       pub ascii_between : AllByRecursion (λ c. p c ≡ true) (between text at to)
       ascii_between = subst (AllByRecursion (λ c. p c ≡ true)) (sym ascii_bytes) passes
 
-      -- the character behind the run does not pass
+      -- the character after the run does not pass
       pub ascii_stops : (o : Option ℕ) → NextChar text to o → IfSome o (λ c. p c ≡ false)
       ascii_stops None next = tt
       ascii_stops (Some c) next = go (p c) refl
@@ -207,7 +207,7 @@ module _ (p : ℕ → Bool) (high : (b : ℕ) → 128 ≤ b → p b ≡ true) wh
 pub plain_high : (c : ℕ) → 128 ≤ c → is_plain c ≡ true
 plain_high c h = grind (arith, nat_tests)
 
--- plain characters, and the quote behind them
+-- plain characters, and the quote after them
 module _ (text : List ℕ) (utf8 : IsUtf8 text) (at : ℕ) (first : IsCharBoundary text at) (to : ℕ) (e : to ≡ run_end is_plain text at) (h : to < length text) (q : get_or text to 0 ≡ 34) where
   quote_next : NextChar text to (Some 34)
   quote_next = ascii_next text to 34 h q (omega arith)

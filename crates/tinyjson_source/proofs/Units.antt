@@ -6,8 +6,7 @@ use Rattle.std.specs.Option.{option_to_list}
 use Rattle.std.proofs.lemmas.Bool.Decides.{nat_tests}
 use Rattle.std.specs.Str.{chars}
 use Rattle.std.proofs.lemmas.Str.{chars-append, chars-encodes, IsUtf8-string_bytes}
-use Rattle.tinyjson_grammar.specs.Characters.{text}
-use Rattle.tinyjson_grammar.specs.Characters.{is_high, is_low, is_surrogate, pair_of, paired, decode}
+use Rattle.tinyjson_grammar.specs.Characters.{text, is_high, is_low, is_surrogate, pair_of, paired, decode}
 
 pub text_push : (new old : String Global) (c : ℕ) → IsScalar c → string_bytes new ≡ string_bytes old ++ encode_utf8 c → text new ≡ text old ++ c ∷ []
 text_push new old c h e =

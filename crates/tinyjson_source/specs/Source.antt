@@ -45,7 +45,7 @@ module _ {S : Type 0} (sight : Sight S) where
   abbrev pub Stops : (ℕ → Bool) → S → Type 0
   Stops test q = (o : Option ℕ) × sight.shows q o × IfSome o (λ c. test c ≡ false)
 
-  -- A call took a string of characters that pass a test, and the quote behind it; or a run of them, as above.
+  -- A call took a string of characters that pass a test, and the quote after it; or a run of them, as above.
   abbrev pub TakesQuoted : (test : ℕ → Bool) {E : Type 0} → S → List ℕ → Result (Option (String Global)) E → List ℕ → S → Type 0
   TakesQuoted test p old (Ok (Some s)) new q = AllByRecursion (λ c. test c ≡ true) (text s) × Takes p (text s ++ 34 ∷ []) q
   TakesQuoted test p old (Ok None) new q = TakesRun test {E = Unit {0}} p old (Ok tt) new q

@@ -6,9 +6,8 @@ ghost use Rattle.std.specs.Iterator.{IsFinite};
 ghost use Rattle.tinyjson_source.specs.Cursor.{Ready, Begins, Gives, Goes, HasPlace, Runs, Skips};
 ghost use Rattle.tinyjson_source.specs.Cursor.{EndsRun, Shows, left, place};
 ghost use Rattle.tinyjson_source.specs.Cursor.Laws.{nothing_left, shown_first, shown_once};
-ghost use Rattle.tinyjson_grammar.specs.Characters.{is_white};
+ghost use Rattle.tinyjson_grammar.specs.Characters.{is_white, text};
 ghost use Rattle.tinyjson_scan.specs.Scan.{is_plain};
-ghost use Rattle.tinyjson_grammar.specs.Characters.{text};
 ghost use Rattle.tinyjson_grammar.specs.Position.{advance, position_at, origin};
 
 use crate::source::Source;
@@ -39,8 +38,8 @@ where
     pub ghost column_fits: { cursor.column < 18446744073709551616 },
 }
 
-/// The line and the column behind a character.
-pub(crate) fn moved(line: usize, column: usize, c: char) -> (usize, usize)
+/// The line and the column after a character.
+pub(crate) fn advance(line: usize, column: usize, c: char) -> (usize, usize)
     ensures { position_at result.0 result.1 ≡ advance (position_at line column) (c ∷ []) }
 {
     if c == '\n' {
@@ -51,7 +50,7 @@ pub(crate) fn moved(line: usize, column: usize, c: char) -> (usize, usize)
 }
 
 impl<I: Iterator<Item = char>> Cursor<I> {
-    /// Takes plain characters straight from the iterator, and looks at the character behind them.
+    /// Takes plain characters straight from the iterator, and looks at the character after them.
     fn draw_plain(&mut self, string: &mut String) -> Result<(), AllocError>
         requires ready { Ready I.can_next I.remaining self.old }
         requires place { HasPlace self.old }
@@ -85,7 +84,7 @@ impl<I: Iterator<Item = char>> Cursor<I> {
         }
     }
 
-    /// Takes digits straight from the iterator, and looks at the character behind them.
+    /// Takes digits straight from the iterator, and looks at the character after them.
     fn draw_digits(&mut self, buffer: &mut String) -> Result<(), AllocError>
         requires ready { Ready I.can_next I.remaining self.old }
         requires place { HasPlace self.old }
@@ -138,7 +137,7 @@ impl<I: Iterator<Item = char>> Cursor<I> {
             let next = self.it.next();
             match next {
                 Some(c) if is_white(c) => {
-                    let (line, column) = moved(self.line, self.column, c);
+                    let (line, column) = advance(self.line, self.column, c);
                     self.line = line;
                     self.column = column;
                 }
@@ -185,7 +184,7 @@ impl<I: Iterator<Item = char>> Characters<I> {
         ensures none { self.new.cursor.peeked ≡ None }
         ensures left { left I.remaining self.new.cursor < left I.remaining self.old.cursor }
     {
-        let (line, column) = moved(self.cursor.line, self.cursor.column, c);
+        let (line, column) = advance(self.cursor.line, self.cursor.column, c);
         self.cursor.peeked = None;
         self.cursor.line = line;
         self.cursor.column = column;

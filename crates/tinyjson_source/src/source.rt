@@ -4,12 +4,11 @@ ghost use Rattle.std.specs.Prelude.{MatchOption, OnOk, Option, Some, None, lengt
 ghost use Rattle.std.specs.Prelude.{string_bytes};
 ghost use Rattle.std.specs.Char.{is_ascii_digit};
 ghost use Rattle.std.specs.Option.{option_len};
-ghost use Rattle.tinyjson_grammar.specs.Characters.{is_white};
+ghost use Rattle.tinyjson_grammar.specs.Characters.{is_white, text};
 ghost use Rattle.tinyjson_scan.specs.Scan.{is_plain};
 ghost use Rattle.tinyjson_grammar.specs.Position.{position_at};
 ghost use Rattle.tinyjson_source.specs.Source.{Sight, Still, Stops, Takes, TakesQuoted, TakesRun};
 ghost use Rattle.tinyjson_source.specs.Source.{Whites};
-ghost use Rattle.tinyjson_grammar.specs.Characters.{text};
 
 use crate::utf16::push;
 use std::alloc::{AllocError, Global};
@@ -92,7 +91,7 @@ pub trait Source: Drop {
         self.plain(string)
     }
 
-    /// Behind the quote that opens a string: the string, if the source finds that no escape stands in it.
+    /// After the quote that opens a string: the string, if the source finds that no escape stands in it.
     /// Otherwise takes the plain characters that come next, and adds them to the buffer.
     fn quoted(&mut self, alloc: Global, buffer: &mut String) -> Result<Option<String>, AllocError>
         ensures quoted { TakesQuoted sight is_plain self.old (text buffer.old) result
@@ -125,7 +124,7 @@ pub trait Source: Drop {
         }
     }
 
-    /// The line and the column behind what was consumed.
+    /// The line and the column after what was consumed.
     fn position(&self) -> (usize, usize)
         ensures { position_at result.0 result.1 ≡ sight.place self.now };
 }

@@ -8,7 +8,7 @@ ghost use Rattle.tinyjson_source.specs.Slice.{before, behind, run_end, NextChar}
 ghost use Rattle.tinyjson_source.specs.Slice.Laws.{line_bound, column_bound, shown_once};
 ghost use Rattle.tinyjson_source.specs.Slice.Laws.{shown_first, nothing_left};
 
-use crate::cursor::moved;
+use crate::cursor::advance;
 use crate::source::Source;
 use crate::utf16::push;
 use std::alloc::{AllocError, Global};
@@ -167,7 +167,7 @@ impl<'a> Source for TextBytes<'a> {
         let mut line = 1;
         let mut column = 0;
         for c in self.text[..self.at].chars() {
-            (line, column) = moved(line, column, c);
+            (line, column) = advance(line, column, c);
         }
         (line, column)
     }

@@ -24,7 +24,7 @@ abbrev pub is_below_zero : Option Exponent → Option Bool
 is_below_zero None = None
 is_below_zero (Some e) = Some (is_minus e.sign)
 
--- the digits of a number, those of one part behind those of the other
+-- the digits of a number, those of one part after those of the other
 abbrev pub exponent_digits : Option Exponent → List ℕ
 exponent_digits None = []
 exponent_digits (Some e) = e.digits
@@ -74,7 +74,7 @@ module _ {S : Type 0} (sight : Sight S) where
     pub takes : Takes sight p (sign_text sign) q
     pub none : sign ≡ None → (o : Option ℕ) × sight.shows q o × IfSome o (λ c. is_sign c ≡ false)
 
-  -- Digits were taken and added to a text, until no digit came. There was one at least, or the refusal is of
+  -- Digits were taken and added to a text, until no digit came. There was one at least, or the error is of
   -- that kind; or there was no memory.
   pub record Digits (empty : JsonParseErrorKind) (p : S) (old : List ℕ) (r : Result (Unit {0}) JsonParseErrorKind)
       (new : List ℕ) (q : S) : Type 0 where

@@ -79,16 +79,16 @@ pub record NumeralAt (text : List ℕ) (at : ℕ) (n : Numeral) (end : ℕ) : Ty
 abbrev pub PartsAt : List ℕ → ℕ → NumberParts → ℕ → Type 0
 PartsAt text at parts end = (n : Numeral) × (numeral_of parts ≡ plain n) × NumeralAt text at n end
 
--- the source p gives the number first, and q is the source behind it
+-- the source p gives the number first, and q is the source after it
 pub record TakesNumeral {S : Type 0} (sight : Sight S) (p : S) (n : Numeral) (q : S) : Type 0 where
   pub grammatical : IsGrammatical n
   pub takes : Takes sight p (spelling n) q
   pub ends : (o : Option ℕ) × sight.shows q o × IfSome o (EndsNumber n)
 
--- the source p gives the number of these parts first, and q is the source behind it
+-- the source p gives the number of these parts first, and q is the source after it
 abbrev pub TakesParts : {S : Type 0} → Sight S → S → NumberParts → S → Type 0
 TakesParts sight p parts q = (n : Numeral) × (numeral_of parts ≡ plain n) × TakesNumeral sight p n q
 
--- the source p gives this number first, and q is the source behind it
+-- the source p gives this number first, and q is the source after it
 abbrev pub TakesNumber : {S : Type 0} → Sight S → S → Canonical → S → Type 0
 TakesNumber sight p x q = (n : Numeral) × ((x.decimal ≡ value n) × IsTrue (in_range (value n))) × TakesNumeral sight p n q

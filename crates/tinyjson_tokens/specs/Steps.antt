@@ -7,17 +7,17 @@ use Rattle.tinyjson_grammar.specs.Tree.{Tree, string}
 use Rattle.tinyjson_grammar.specs.Characters.{text}
 use Rattle.tinyjson_grammar.specs.Position.{advance}
 use Rattle.tinyjson_source.specs.Source.{Sight}
-use Rattle.tinyjson_grammar.specs.Machine.{Frame, word, plain, quoted, Next, next, stop, Outcome}
+use Rattle.tinyjson_grammar.specs.Machine.{Frame, literal, plain, quoted, Next, next, stop, Outcome}
 use Rattle.tinyjson_grammar.specs.Machine.{refused, complete, step, end, run, strictly}
 use Rattle.tinyjson_grammar.specs.declared.error.JsonParseErrorKind.{JsonParseErrorKind}
 use Rattle.tinyjson_grammar.specs.declared.error.JsonParseErrorKind.TheVariants.{InvalidUtf16, OutOfMemory}
 
 -- these letters, and then the value is whole
-abbrev pub wanting : List Frame → List ℕ → Tree → Next
-wanting fs [] t = complete true fs t true
-wanting fs (l ∷ ls) t = next fs (word (l ∷ ls) t)
+abbrev pub letters_left : List Frame → List ℕ → Tree → Next
+letters_left fs [] t = complete true fs t true
+letters_left fs (l ∷ ls) t = next fs (literal (l ∷ ls) t)
 
--- within a string, and behind it where it is done
+-- within a string, and after it where it is done
 abbrev pub within : List Frame → String Global → List ℕ → Bool → Next
 within fs s us done = cond done (complete true fs (string (text s)) true) (next fs (quoted plain (text s) us))
 
@@ -29,7 +29,7 @@ Fails whole k = ((whole ≡ false) × (k ≡ InvalidUtf16)) ⊎ (k ≡ OutOfMemo
 abbrev pub Ends : {S : Type 0} → Sight S → S → Type 0
 Ends sight q = (o : Option ℕ) × sight.shows q o × IfSome o (λ c. is_ascii_digit c ≡ false)
 
--- ---- a refusal is a state that stays
+-- ---- an error is a state that stays
 
 abbrev pub IsNext : Next → Type 0
 IsNext (next fs p) = ⊤
@@ -74,7 +74,7 @@ module _ (limit : Option ℕ) where
   IsLate n (c ∷ []) = onward n c ≡ stop InvalidUtf16 true
   IsLate n (c ∷ d ∷ ds) = ⊥
 
-  -- All of xs leads to no refusal, or its last character alone does, for an unpaired surrogate.
+  -- All of xs leads to no error, or its last character alone does, for an unpaired surrogate.
   pub record IsHeld (n : Next) (xs : List ℕ) : Type 0 where
     pub front : List ℕ
     pub late : List ℕ

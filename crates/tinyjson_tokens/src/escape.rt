@@ -6,7 +6,7 @@ ghost use Rattle.tinyjson_tokens.specs.Escape.{EscapeAt, NoBackslash, UnitAt};
 
 use tinyjson_source::utf16::{is_high, is_low, pair};
 
-/// What the letter behind a backslash stands for. Letters from `b` on are looked up in a small table, so
+/// What the letter after a backslash stands for. Letters from `b` on are looked up in a small table, so
 /// that no jump has to be guessed for them.
 pub(crate) fn short_escape(c: char) -> Option<char>
     ensures { result ≡ short_escape c }
@@ -28,7 +28,7 @@ pub(crate) fn short_escape(c: char) -> Option<char>
 }
 
 /// The character that is spelled by escapes from a place on, and where they end. None where no escape
-/// stands, and where a longer run of units or a fault may stand.
+/// stands, and where a longer run of units or an error may stand.
 #[inline(always)]
 pub(crate) fn escape_at(bytes: &[u8], at: usize) -> Option<(char, usize)>
     requires { at ≤ length bytes.now }
@@ -45,7 +45,7 @@ pub(crate) fn escape_at(bytes: &[u8], at: usize) -> Option<(char, usize)>
     Some((c, at + 2))
 }
 
-/// The same for a unit or two that spell a character, and no unit behind them.
+/// The same for a unit or two that spell a character, and no unit after them.
 fn units_at(bytes: &[u8], at: usize) -> Option<(char, usize)>
     requires { at ≤ length bytes.now }
     ensures { IfSome result (λ r. EscapeAt bytes.now at r.0 r.1) }

@@ -45,7 +45,7 @@ fn has_leading_zero(digits: &[u8]) -> bool
     }
 }
 
-/// The digits at a place of a text, and the place behind them.
+/// The digits at a place of a text, and the place after them.
 #[inline(always)]
 fn digits_at(bytes: &[u8], from: usize) -> (&[u8], usize)
     requires { from ≤ length bytes.now }
@@ -58,7 +58,7 @@ fn digits_at(bytes: &[u8], from: usize) -> (&[u8], usize)
     (&bytes[from..end], end)
 }
 
-/// The parts of the number at a place of a text, and the place behind it, if it has no exponent and lacks
+/// The parts of the number at a place of a text, and the place after it, if it has no exponent and lacks
 /// no digits.
 #[inline(always)]
 pub(crate) fn parts_at(bytes: &[u8], at: usize) -> Option<(NumberParts<'_>, usize)>
@@ -72,7 +72,7 @@ pub(crate) fn parts_at(bytes: &[u8], at: usize) -> Option<(NumberParts<'_>, usiz
     Some((front.with_exponent(None), end))
 }
 
-/// The parts of the number with an exponent at a place of a text, and the place behind it, if it lacks no
+/// The parts of the number with an exponent at a place of a text, and the place after it, if it lacks no
 /// digits.
 #[inline(never)]
 pub(crate) fn scientific_at(bytes: &[u8], at: usize) -> Option<(NumberParts<'_>, usize)>
@@ -115,7 +115,7 @@ impl<'a> Mantissa<'a> {
     }
 }
 
-/// What stands before the exponent of the number at a place of a text, and the place behind it, if it lacks
+/// What stands before the exponent of the number at a place of a text, and the place after it, if it lacks
 /// no digits.
 #[inline(always)]
 fn mantissa_at(bytes: &[u8], at: usize) -> Option<(Mantissa<'_>, usize)>
@@ -136,7 +136,7 @@ fn mantissa_at(bytes: &[u8], at: usize) -> Option<(Mantissa<'_>, usize)>
     Some((front, end))
 }
 
-/// Whether a minus sign stands at a place of a text, and the place behind it.
+/// Whether a minus sign stands at a place of a text, and the place after it.
 #[inline(always)]
 fn minus_at(bytes: &[u8], at: usize) -> (bool, usize)
     requires { at ≤ length bytes.now }
@@ -150,7 +150,7 @@ fn minus_at(bytes: &[u8], at: usize) -> (bool, usize)
     }
 }
 
-/// The digits behind the point at a place of a text, none if there is no point, and the place behind them.
+/// The digits after the point at a place of a text, none if there is no point, and the place after them.
 /// None where a point has no digits.
 #[inline(always)]
 fn fraction_at(bytes: &[u8], point: usize) -> Option<(&[u8], usize)>
@@ -185,7 +185,7 @@ fn has_letter(bytes: &[u8], at: usize) -> bool
 }
 
 /// The sign and the digits of the exponent whose letter stands before a place of a text, and the place
-/// behind them. None where there are no digits.
+/// after them. None where there are no digits.
 fn exponent_at(bytes: &[u8], at: usize) -> Option<(ExponentParts<'_>, usize)>
     requires { at ≤ length bytes.now }
     ensures { IfSome result (λ r. ExponentAt bytes.now at r.0 r.1) }
@@ -198,7 +198,7 @@ fn exponent_at(bytes: &[u8], at: usize) -> Option<(ExponentParts<'_>, usize)>
     Some((ExponentParts { negative, digits }, end))
 }
 
-/// Whether a minus sign stands at a place of a text, and the place behind it or behind a plus sign.
+/// Whether a minus sign stands at a place of a text, and the place after it or after a plus sign.
 fn sign_at(bytes: &[u8], at: usize) -> (bool, usize)
     requires { at ≤ length bytes.now }
     ensures { SignAt bytes.now at result.0 result.1 }
@@ -244,7 +244,7 @@ impl<S: Tokens> TokenReader<S> {
         ensures left { OnOk result (S.left self.new.source < S.left self.old.source) }
     {
         self.digit_buffer.clear();
-        let negative = self.integer()?;
+        let negative = self.whole()?;
         let whole = self.digit_buffer.len();
         self.fraction()?;
         let fraction = self.digit_buffer.len();
@@ -278,7 +278,7 @@ impl<S: Tokens> TokenReader<S> {
 
     /// Reads the minus sign, if there is one, and the digits of the whole part; says whether there is a
     /// minus sign.
-    fn integer(&mut self) -> Result<bool, JsonParseErrorKind>
+    fn whole(&mut self) -> Result<bool, JsonParseErrorKind>
         requires begins { BeginsNumber S.sight self.old.source }
         requires empty { string_bytes self.old.digit_buffer ≡ [] }
         ensures reads { ReadsPart S.sight (λ n. n.negative)
@@ -295,7 +295,7 @@ impl<S: Tokens> TokenReader<S> {
         Ok(negative)
     }
 
-    /// Reads the point and the digits behind it, if there is a point.
+    /// Reads the point and the digits after it, if there is a point.
     fn fraction(&mut self) -> Result<(), JsonParseErrorKind>
         ensures reads { (b : Bool) (ds : List ℕ) →
             Gathered (numeral b ds [] None) (string_bytes self.old.digit_buffer) →

@@ -2,7 +2,7 @@
 ghost use Rattle.std.specs.Prelude.{◌≡◌, ℕ, ◌≤◌, List, true, Option};
 ghost use Rattle.tinyjson_grammar.specs.Machine.{Frame, complete};
 ghost use Rattle.tinyjson_grammar.specs.Tree.{Tree};
-ghost use Rattle.tinyjson_tokens.specs.Steps.{NeedsNone, Reads, wanting};
+ghost use Rattle.tinyjson_tokens.specs.Steps.{NeedsNone, Reads, letters_left};
 
 use crate::tokens::Tokens;
 use std::alloc::Global;
@@ -18,7 +18,7 @@ where
     pub source: S,
     /// The digits of the number that is being read.
     pub(crate) digit_buffer: String,
-    /// The characters of a string that is read piece by piece, and the units behind them.
+    /// The characters of a string that is read piece by piece, and the units after them.
     pub(crate) buffer: String,
     pub(crate) units: Vec<u16>,
 }
@@ -40,7 +40,7 @@ impl<S: Tokens> TokenReader<S> {
     /// Reads these letters.
     pub fn letters(&mut self, letters: &[char]) -> Result<(), JsonParseErrorKind>
         ensures reads { (limit : Option ℕ) (fs : List Frame) (t : Tree) →
-            Reads S.sight limit self.old.source (wanting fs letters.now t) result
+            Reads S.sight limit self.old.source (letters_left fs letters.now t) result
             (λ _. complete true fs t true) self.new.source }
         ensures memory { NeedsNone result }
         ensures left { S.left self.new.source ≤ S.left self.old.source }

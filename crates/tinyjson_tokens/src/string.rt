@@ -1,12 +1,11 @@
 //! Strings (RFC 8259, section 7).
 ghost use Rattle.std.specs.Prelude.{◌≡◌, ℕ, ◌<◌, ◌≤◌, List, [], ◌∷◌, ◌++◌, true, false};
 ghost use Rattle.std.specs.Prelude.{MatchResult, OnOk, Option, cond};
-ghost use Rattle.tinyjson_grammar.specs.Characters.{paired, decode};
+ghost use Rattle.tinyjson_grammar.specs.Characters.{paired, decode, text};
 ghost use Rattle.tinyjson_grammar.specs.Machine.{Frame, plain, backslash, hex, quoted, next};
 ghost use Rattle.tinyjson_grammar.specs.Machine.{complete};
 ghost use Rattle.tinyjson_tokens.specs.Steps.{Reads, Fails, within};
 ghost use Rattle.tinyjson_grammar.specs.Tree.{string};
-ghost use Rattle.tinyjson_grammar.specs.Characters.{text};
 
 use crate::escape::short_escape;
 use crate::reader::TokenReader;
@@ -17,7 +16,7 @@ use tinyjson_scan::is_plain;
 use tinyjson_source::utf16::{decode, push};
 
 impl<S: Tokens> TokenReader<S> {
-    /// Behind the quote that opens a string.
+    /// After the quote that opens a string.
     #[inline(always)]
     pub fn string(&mut self) -> Result<String, JsonParseErrorKind>
         ensures reads { (limit : Option ℕ) (fs : List Frame) →
@@ -33,7 +32,7 @@ impl<S: Tokens> TokenReader<S> {
         }
     }
 
-    /// Behind the plain characters in the buffer.
+    /// After the plain characters in the buffer.
     #[inline(never)]
     fn escaped(&mut self) -> Result<String, JsonParseErrorKind>
         ensures reads { (limit : Option ℕ) (fs : List Frame) →
@@ -47,7 +46,7 @@ impl<S: Tokens> TokenReader<S> {
         }
     }
 
-    /// Behind the characters in the buffer.
+    /// After the characters in the buffer.
     fn pieces(&mut self) -> Result<String, JsonParseErrorKind>
         ensures reads { (limit : Option ℕ) (fs : List Frame) →
             Reads S.sight limit self.old.source (within fs self.old.buffer [] false) result
@@ -141,7 +140,7 @@ impl<S: Tokens> TokenReader<S> {
         }
     }
 
-    /// Behind a backslash.
+    /// After a backslash.
     fn escape(
         &mut self,
         string: &mut String,

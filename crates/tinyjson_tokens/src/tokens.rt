@@ -26,7 +26,7 @@ pub trait Tokens: Source {
         self.plain(string)
     }
 
-    /// The parts of the number that comes next, and the source behind it, if this source finds it whole, and
+    /// The parts of the number that comes next, and the source after it, if this source finds it whole, and
     /// it has no exponent. It may find none.
     fn numeral(&self) -> Option<(NumberParts<'_>, Self)>
         ensures takes { IfSome result (λ r. TakesParts Self.sight self.now r.0 r.1) }
@@ -37,7 +37,7 @@ pub trait Tokens: Source {
         None
     }
 
-    /// The number with an exponent that comes next, and the source behind it, if this source finds it whole,
+    /// The number with an exponent that comes next, and the source after it, if this source finds it whole,
     /// it is in range, and there is memory. It may find none.
     fn scientific(&self, alloc: Global) -> Option<(JsonNumber, Self)>
         ensures takes { IfSome result (λ r. TakesNumber Self.sight self.now r.0 r.1) }

@@ -2,7 +2,7 @@
 use Rattle.std.proofs.Common.{◌≡◌, ℕ, Bool, true, false, List, [], ◌∷◌, length, map, String, Global, Vec, Option, Some, None, IfSome, inl, inr, refl, sym, ap, ◌∙◌, rules}
 use Rattle.std.proofs.lemmas.Bool.{ne_eqb}
 use Rattle.tinyjson_grammar.specs.Kind.{kind_of}
-use Rattle.tinyjson_grammar.specs.Tree.{Tree, items_of, Members, no_members, null, boolean, number, array, object}
+use Rattle.tinyjson_grammar.specs.Tree.{Tree, items_of, Members, no_members, null, boolean, number, array, object, is_string}
 use Rattle.tinyjson.specs.Access.{JsonMap}
 use Rattle.tinyjson.specs.View.{view}
 use Rattle.tinyjson_number.specs.Number.{Canonical}
@@ -11,10 +11,9 @@ use Rattle.tinyjson.specs.declared.value.JsonValue.TheOpen.{JsonValue-F}
 use Rattle.tinyjson.specs.declared.value.JsonValue.TheVariants as is
 use Rattle.tinyjson_grammar.specs.Characters.{is_white}
 use Rattle.tinyjson_grammar.specs.Machine.{step, fits, quoted, plain, Frame, in_array, at_key, at_value, colon, first, awaited, after, Next, next, stop, complete}
-use Rattle.tinyjson_grammar.specs.Tree.{is_string}
 use Rattle.tinyjson_grammar.specs.declared.error.JsonParseErrorKind.TheVariants.{TooDeep, KeyNotString, ExpectedCommaOrBracket, ExpectedCommaOrBrace, ExpectedColon}
 use Rattle.tinyjson_source.specs.Source.{Sight, Takes}
-use Rattle.tinyjson_tokens.specs.Steps.{wanting, onward, Leads}
+use Rattle.tinyjson_tokens.specs.Steps.{letters_left, onward, Leads}
 use Rattle.tinyjson.specs.private.Steps.{BeginsLiteral}
 use Rattle.tinyjson_tokens.proofs.Callers.{Leads_nil, Leads_one, Leads_shown, Leads_end, end_first, end_awaited}
 use Rattle.tinyjson.proofs.Values.Equality.{view_Array, view_Object}
@@ -30,15 +29,15 @@ view_Number n = search (rules, the_lemmas)
 
 -- ---- the first character of a value
 
-pub null_begins : (limit : Option ℕ) (fs : List Frame) (c : ℕ) → c ≡ 110 → onward limit (next fs awaited) c ≡ wanting fs (117 ∷ 108 ∷ 108 ∷ []) (view is.Null)
+pub null_begins : (limit : Option ℕ) (fs : List Frame) (c : ℕ) → c ≡ 110 → onward limit (next fs awaited) c ≡ letters_left fs (117 ∷ 108 ∷ 108 ∷ []) (view is.Null)
 unfolding step
 null_begins limit fs c e = rw (view_Null, e) refl
 
-pub true_begins : (limit : Option ℕ) (fs : List Frame) (c : ℕ) → c ≡ 116 → onward limit (next fs awaited) c ≡ wanting fs (114 ∷ 117 ∷ 101 ∷ []) (view (is.Boolean true))
+pub true_begins : (limit : Option ℕ) (fs : List Frame) (c : ℕ) → c ≡ 116 → onward limit (next fs awaited) c ≡ letters_left fs (114 ∷ 117 ∷ 101 ∷ []) (view (is.Boolean true))
 unfolding step
 true_begins limit fs c e = rw (view_Boolean true, e) refl
 
-pub false_begins : (limit : Option ℕ) (fs : List Frame) (c : ℕ) → c ≡ 102 → onward limit (next fs awaited) c ≡ wanting fs (97 ∷ 108 ∷ 115 ∷ 101 ∷ []) (view (is.Boolean false))
+pub false_begins : (limit : Option ℕ) (fs : List Frame) (c : ℕ) → c ≡ 102 → onward limit (next fs awaited) c ≡ letters_left fs (97 ∷ 108 ∷ 115 ∷ 101 ∷ []) (view (is.Boolean false))
 unfolding step
 false_begins limit fs c e = rw (view_Boolean false, e) refl
 

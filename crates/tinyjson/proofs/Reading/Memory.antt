@@ -1,4 +1,4 @@
--- Where out of memory may be answered.
+-- Where out of memory may be returned.
 use Rattle.std.proofs.Common.{◌≡◌, ℕ, List, [], ◌∷◌, ◌++◌, true, Result, Ok, Err, Some, IfErr, IsTrue, ap, ◌∙◌}
 use Rattle.std.specs.List.{AllByRecursion}
 use Rattle.tinyjson_grammar.specs.Characters.{is_white}
@@ -14,7 +14,7 @@ white_list [] h = tt
 white_list (w ∷ ws) h = (h.0, white_list ws h.1)
 
 module _ {S : Type 0} (sight : Sight S) where
-  -- behind white space is a character that begins a string, a number or a container
+  -- after white space is a character that begins a string, a number or a container
   pub grows_at : (p q : S) (c : ℕ) → Whites sight p q → sight.shows q (Some c) → IsTrue (begins_growth c) → Grows sight p
   grows_at p q c w s h = λ zs g.
       let x = w.takes.gives zs g in

@@ -1,4 +1,4 @@
--- What `parse` answers, from what the reader did.
+-- What `parse` returns, from what the reader did.
 use Rattle.std.proofs.Common.{◌≡◌, IsTrue, ℕ, zero, suc, Bool, true, false, List, [], ◌∷◌, ◌++◌, Result, Ok, Err, OnOk, IfErr, Option, Some, None, MatchResult, refl, sym, ap, ◌∙◌, subst, append-nil, arith, ⊎_elim}
 use Rattle.std.specs.Prelude.{All}
 use Rattle.std.proofs.lemmas.Bool.{and_parts}
@@ -20,9 +20,7 @@ use Rattle.tinyjson.specs.declared.parser.error.JsonParseError.{JsonParseError}
 use Rattle.tinyjson_grammar.specs.declared.error.JsonParseErrorKind.{JsonParseErrorKind}
 use Rattle.tinyjson_grammar.specs.declared.error.JsonParseErrorKind.TheVariants as kind
 use Rattle.tinyjson.specs.declared.value.JsonValue.{JsonValue}
-use Rattle.tinyjson_grammar.proofs.Callers.{ranges}
-use Rattle.tinyjson_grammar.proofs.Callers.{interrupted, interrupted_late}
-use Rattle.tinyjson_grammar.proofs.Callers.{accepts, refuses}
+use Rattle.tinyjson_grammar.proofs.Callers.{ranges, interrupted, interrupted_late, accepts, refuses}
 use Rattle.tinyjson_tokens.proofs.Callers.{Comes_outcome}
 
 end_finished : (limit : Option ℕ) (t : Tree) → outcome limit (next [] (finished t)) [] ≡ accepted t
@@ -81,7 +79,7 @@ module _ (limit : Option ℕ) where
   refused_list kind.OutOfMemory used rest n r = absurd (n refl)
   refused_list k used rest n r = r.refused
 
--- a refusal that does not say that memory ran out: the characters have no tree
+-- an error that does not say that memory ran out: the characters have no tree
 pub refused_answer : (limit : Option ℕ) (xs used rest : List ℕ) (P : JsonValue → Type 0) (Q : JsonParseError → Type 0) (r : Result JsonValue JsonParseError) → xs ≡ used ++ rest
     → MatchResult r P (λ e. Q e × RefusalSays limit e.kind used rest) → IfErr r (λ e. ¬ (e.kind ≡ kind.OutOfMemory) → ¬ IsAccepted limit xs)
 refused_answer limit xs used rest P Q (Ok v) whole a = tt
@@ -90,7 +88,7 @@ refused_answer limit xs used rest P Q (Err e) whole a = λ n. subst (λ ys. ¬ I
 -- ---- the whole call
 
 module _ {S : Type 0} (sight : Sight S) (limit : Option ℕ) where
-  -- What a reader that stood at p took of xs, and what it answered.
+  -- What a reader that stood at p took of xs, and what it returned.
   pub record Answered (p : S) (xs : List ℕ) (r : Result JsonValue JsonParseError) (q : S) : Type 0 where
     pub consumed : List ℕ
     pub rest : List ℕ
@@ -171,6 +169,6 @@ parses_text limit xs p q (Err e) h n a = record {
   refused = subst (λ l. ¬ (e.kind ≡ kind.OutOfMemory) → ¬ IsAccepted l xs) n a.refused;
 }
 
--- a refusal that is not because memory ran out: the characters have no tree
+-- an error for another cause than memory: the characters have no tree
 pub refused_text : (limit : Option ℕ) (xs : List ℕ) (e : JsonParseError) → ¬ (e.kind ≡ kind.OutOfMemory) → ParsesText limit xs (Err e) → ¬ IsAccepted limit xs
 refused_text limit xs e n a = a.refused n

@@ -16,9 +16,7 @@ use Rattle.tinyjson_grammar.specs.Tree.{Members as Entries, array, object, membe
 use Rattle.tinyjson.specs.View.{view, items_view, members_view}
 use Rattle.tinyjson.specs.private.Sorted.{sorted_view}
 use Rattle.tinyjson.specs.private.Pending.{Gathered, frame_text, others, owed, frames, IsStack, Opened, Begins, Advanced, Advances}
-use Rattle.tinyjson_output.proofs.Callers.{sent_goes as goes, sent_stop as stop, sent_stops as stops, sent_written_more as written_more, sent_written_none as written_none}
-use Rattle.tinyjson_output.proofs.Callers.{enc, enc_cons, closed, three}
-use Rattle.tinyjson_output.proofs.Callers.{quoted_bytes}
+use Rattle.tinyjson_output.proofs.Callers.{sent_goes as goes, sent_stop as stop, sent_stops as stops, sent_written_more as written_more, sent_written_none as written_none, enc, enc_cons, closed, three, quoted_bytes}
 use Rattle.tinyjson.proofs.Writing.Sorted.{Entry}
 use Rattle.tinyjson.proofs.Writing.Text.{member_text, some_members, enc_separator}
 
@@ -172,7 +170,7 @@ module _ (w : Option (List ℕ)) where
       ∙ ap (λ c. separator first ++ ((34 ∷ [] ++ (escapes key ++ 34 ∷ [])) ++ (c ++ enc v))) (enc_cons 58 [] (omega arith))
       ∙ pieces_joined (separator first) (34 ∷ [] ++ (escapes key ++ 34 ∷ [])) (58 ∷ []) (enc v)
 
-  -- ---- what begins behind what was written
+  -- ---- what begins after what was written
 
   pub begins_behind : {E : Type 0} (k : ℕ) (old mid new : Output) (bytes piece : List ℕ) (gs hs : List Gathered) (r : Result (Option Frame) E)
       → Sent old mid bytes piece → Begins w k mid new piece gs r hs → Begins w k old new bytes gs r hs

@@ -1,4 +1,4 @@
--- Items and members that wait one behind another in compact text, and what is left of them.
+-- Items and members that wait one after another in compact text, and what is left of them.
 use Rattle.std.proofs.Common.{◌≡◌, ℕ, suc, ◌+◌, ◌-◌, ◌<◌, Bool, true, false, Option, None, Some, List, [], ◌∷◌, ◌++◌, length, take, drop, refl, sym, ◌∙◌, ap, subst, append_assoc, append-nil, length-append, MatchOption, arith}
 use Rattle.std.specs.Borrow.{Bor}
 use Rattle.std.specs.Str.{chars, IsUtf8}
@@ -13,9 +13,8 @@ use Rattle.tinyjson.specs.private.Sorted.{sorted_view}
 use Rattle.tinyjson_grammar.specs.Text.{text, items_text, members_text, separator, quoted, escapes, newline, has_no_items}
 use Rattle.tinyjson_grammar.specs.Tree.{array, member, no_members}
 use Rattle.tinyjson.specs.View.{view, items_view}
-use Rattle.tinyjson_output.proofs.Callers.{enc, enc_cons, three}
+use Rattle.tinyjson_output.proofs.Callers.{enc, enc_cons, three, sent_begins as begins, sent_goes as goes, sent_stops as stops, sent_waits as waits, sent_written_more as written_more}
 use Rattle.tinyjson.proofs.Writing.Pending.{compact_member, opened, array_begins}
-use Rattle.tinyjson_output.proofs.Callers.{sent_begins as begins, sent_goes as goes, sent_stops as stops, sent_waits as waits, sent_written_more as written_more}
 use Rattle.tinyjson.proofs.Writing.Text.{member_text, enc_separator}
 
 -- what was appended to the bytes that wait is taken back
@@ -64,7 +63,7 @@ skipped None left gs hs m l e h =
 pub left_behind : (left more : ℕ) (gs hs : List Gathered) (m : Gathered) → left ≡ suc more → gs ≡ m ∷ hs → drop more hs ≡ drop left gs
 left_behind left more gs hs m n e = sym (ap (λ i. drop i gs) n ∙ ap (drop (suc more)) e)
 
--- ---- a run of them, behind what was sent and before what is owed
+-- ---- a run of them, after what was sent and before what is owed
 
 tail : (a c d : List ℕ) → enc ((a ++ c) ++ d) ≡ enc a ++ (enc c ++ enc d)
 tail a c d = encodes-append (a ++ c) d ∙ ap (λ v. v ++ enc d) (encodes-append a c) ∙ append_assoc (enc a) (enc c) (enc d)

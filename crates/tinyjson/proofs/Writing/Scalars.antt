@@ -1,7 +1,7 @@
 -- The characters of a written text are scalar values, so its bytes are UTF-8.
 use Rattle.std.proofs.Common.{◌≡◌, ℕ, zero, suc, ◌+◌, Bool, true, false, List, [], ◌∷◌, ◌++◌, Option, None, Some, IfSome, IsTrue, inl, inr, codes, lit<, refl, sym, subst, arith}
 use Rattle.std.specs.Str.{all_scalars, IsUtf8, IsAscii, encode_utf8_all, chars}
-use Rattle.std.proofs.lemmas.Bool.{and_from, and_parts}
+use Rattle.std.proofs.lemmas.Bool.{and_from, and_parts, cases_lt}
 use Rattle.std.proofs.lemmas.Bool.Decides.{nat_tests}
 use Rattle.std.proofs.lemmas.Str.{chars_from_encodes, chars-IsAscii}
 use Rattle.tinyjson_number.proofs.Callers.{decimal_ascii}
@@ -9,7 +9,7 @@ use Rattle.tinyjson_grammar.specs.Tree.{Tree, null, boolean, number, string, arr
 use Rattle.tinyjson_grammar.specs.Soundness.{IsTree, AreItemsAt, AreMembersAt}
 use Rattle.tinyjson_number.specs.Numeral.{power_width}
 use Rattle.tinyjson_grammar.specs.Text.{text, items_text, members_text, escape, escapes, quoted, newline, repeated, before, closing, after_colon, has_no_items, has_no_members}
-use Rattle.tinyjson_output.proofs.Callers.{escape_ascii, high, le_or_lt, two_ascii}
+use Rattle.tinyjson_output.proofs.Callers.{escape_ascii, high, two_ascii}
 
 abbrev pub AreScalars : List ℕ → Type 0
 AreScalars cs = IsTrue (all_scalars cs)
@@ -23,7 +23,7 @@ ascii_scalars [] h = refl
 ascii_scalars (c ∷ cs) h = and_from _ _ (let l = h 0 in grind (arith, nat_tests)) (ascii_scalars cs (λ i. h (suc i)))
 
 escape_scalars : (c : ℕ) → AreScalars (c ∷ []) → AreScalars (escape c)
-escape_scalars c h = elim (le_or_lt 128 c) [ inl k ↦ subst AreScalars (sym (high c k)) h | inr k ↦ ascii_scalars (escape c) (escape_ascii c k) ]
+escape_scalars c h = elim (cases_lt c 128) [ inr k ↦ subst AreScalars (sym (high c k)) h | inl k ↦ ascii_scalars (escape c) (escape_ascii c k) ]
 
 escapes_scalars : (cs : List ℕ) → AreScalars cs → AreScalars (escapes cs)
 escapes_scalars [] h = refl

@@ -169,7 +169,7 @@ sorted_members_view es ps d p s =
     ∙ sym (put_all_permutation (map seen (map bytes_pair es)) (map seen (map now_pair ps)) seen_distinct (IsPermutation-map seen (map bytes_pair es) (map now_pair ps) p))
     ∙ put_all_entries es
 
--- ---- members gathered behind others
+-- ---- members gathered after others
 
 -- a list whose end was rewritten
 rebuilt : {X : Type 0} (len s : ℕ) (xs ys : List X) → len ≡ length xs → s ≤ length xs → length ys ≡ length xs - s

@@ -1,6 +1,5 @@
 -- The bytes of words, and of containers that are empty.
-use Rattle.std.proofs.Common.{◌≡◌, ℕ, Bool, true, false, Option, None, Some, List, [], ◌∷◌, length, Result, Bor, refl, sym, ◌∙◌, ap, subst, arith, ◌<◌}
-use Rattle.std.proofs.Common.{String, Global}
+use Rattle.std.proofs.Common.{◌≡◌, ℕ, Bool, true, false, Option, None, Some, List, [], ◌∷◌, length, Result, Bor, refl, sym, ◌∙◌, ap, subst, arith, ◌<◌, String, Global}
 use Rattle.tinyjson.specs.declared.value.JsonValue.{JsonValue}
 use Rattle.tinyjson.specs.declared.value.JsonValue.TheVariants as is
 use Rattle.tinyjson.specs.Indent.{indent_of}

@@ -5,8 +5,8 @@ use Rattle.tinyjson_grammar.specs.Tree.{Tree, array, object, items_of, Members, 
 use Rattle.tinyjson.specs.Access.{JsonMap}
 use Rattle.tinyjson.specs.View.{view, text, members_view}
 use Rattle.tinyjson_grammar.specs.Machine.{Frame, in_array, at_key, at_value, awaited, after, Next, next, complete}
-use Rattle.tinyjson.specs.declared.parser.stack.Frame.{Frame as Open}
-use Rattle.tinyjson.specs.declared.parser.stack.Frame.TheVariants as container
+use Rattle.tinyjson.specs.declared.parser.stack.Container.{Container}
+use Rattle.tinyjson.specs.declared.parser.stack.Container.TheVariants as container
 use Rattle.tinyjson.specs.declared.parser.stack.Stack.{Stack}
 use Rattle.tinyjson.specs.declared.value.JsonValue.{JsonValue}
 
@@ -33,7 +33,7 @@ other_maps (m ∷ ms) = ms
 
 -- open containers as frames, the innermost first: each has the values and keys from its places on, and an
 -- object the members of its map before them
-abbrev pub frames_over : List Open → List JsonValue → List (String Global) → List JsonMap → List Frame
+abbrev pub frames_over : List Container → List JsonValue → List (String Global) → List JsonMap → List Frame
 frames_over [] vs ks ms = []
 frames_over (container.Array n ∷ os) vs ks ms = in_array (map view (drop n vs)) ∷ frames_over os (take n vs) ks ms
 frames_over (container.Object n m ∷ os) vs ks ms =
@@ -43,27 +43,27 @@ frames_over (container.Member n m ∷ os) vs ks ms =
     ∷ frames_over os (take n vs) (take m ks) (other_maps ms)
 
 -- the last value is whole, and not yet part of its container
-abbrev pub whole_over : List Open → List JsonValue → List (String Global) → List JsonMap → Next
+abbrev pub whole_over : List Container → List JsonValue → List (String Global) → List JsonMap → Next
 whole_over os [] ks ms = next [] awaited
 whole_over os (v ∷ vs) ks ms = complete true (frames_over os (reverse vs) ks ms) (view v) true
 
 -- so many values and keys: each container begins within what those around it leave; an object that awaits a
 -- key has a key for each of its values, and one that awaits a value has one more
-abbrev pub Lies : List Open → ℕ → ℕ → Type 0
+abbrev pub Lies : List Container → ℕ → ℕ → Type 0
 Lies [] v k = ⊤
 Lies (container.Array n ∷ os) v k = (n ≤ v) × Lies os n k
 Lies (container.Object n m ∷ os) v k = (n ≤ v) × (m ≤ k) × (k + n ≡ v + m) × Lies os n m
 Lies (container.Member n m ∷ os) v k = (n ≤ v) × (m ≤ k) × (k + n ≡ suc (v + m)) × Lies os n m
 
 -- no object awaits a key
-abbrev pub TakesValue : List Open → Type 0
+abbrev pub TakesValue : List Container → Type 0
 TakesValue [] = ⊤
 TakesValue (container.Array n ∷ os) = ⊤
 TakesValue (container.Object n m ∷ os) = ⊥
 TakesValue (container.Member n m ∷ os) = ⊤
 
 -- the innermost first
-abbrev pub open_of : Stack → List Open
+abbrev pub open_of : Stack → List Container
 open_of s = reverse s.containers.items
 
 abbrev pub maps_of : Stack → List JsonMap
@@ -77,7 +77,7 @@ abbrev pub at : Stack → Bool → Next
 at s false = next (frames s) awaited
 at s true = whole_over (open_of s) (reverse s.values.items) s.keys.items (maps_of s)
 
--- the last value is whole, behind values that the open containers have
+-- the last value is whole, after values that the open containers have
 pub record HasWhole (s : Stack) : Type 0 where
   pub front : List JsonValue
   pub last : JsonValue
@@ -90,8 +90,8 @@ IsSound s false = Lies (open_of s) (length s.values.items) (length s.keys.items)
 IsSound s true = HasWhole s
 
 -- the container that was opened last
-abbrev pub Innermost : Stack → Open → Type 0
-Innermost s o = (os : List Open) × (open_of s ≡ o ∷ os)
+abbrev pub Innermost : Stack → Container → Type 0
+Innermost s o = (os : List Container) × (open_of s ≡ o ∷ os)
 
 abbrev pub AwaitsKey : Stack → Type 0
 AwaitsKey s = (n : ℕ) × (m : ℕ) × Innermost s (container.Object n m)
@@ -103,7 +103,7 @@ pub record BeginsMember (old new : Stack) (key : List ℕ) : Type 0 where
   pub before : frames old ≡ at_key members ∷ outer
   pub behind : frames new ≡ at_value members key ∷ outer
 
--- the innermost container, behind its last value, was closed, and this is its value
+-- the innermost container, after its last value, was closed, and this is its value
 pub record ClosesArray (old new : Stack) (v : JsonValue) : Type 0 where
   pub items : List Tree
   pub before : at old true ≡ next (in_array items ∷ frames new) after

@@ -16,7 +16,7 @@ abbrev pub ReadsText : {S : Type 0} → Sight S → Option ℕ → S → Result 
 ReadsText sight limit p r q = MatchResult r (λ v. Leads sight limit p (next [] awaited) q (next [] (finished (view v))))
     (λ e. (error_position e ≡ sight.place q) × Refuses sight limit p (next [] awaited) e.kind q)
 
--- what the source gives begins, behind white space, with a string, a number or a container
+-- what the source gives begins, after white space, with a string, a number or a container
 abbrev pub Grows : {S : Type 0} → Sight S → S → Type 0
 Grows sight p = (zs : List ℕ) → sight.gives p zs → MayGrow zs
 

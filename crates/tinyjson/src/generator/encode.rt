@@ -27,7 +27,7 @@ use tinyjson_output::quick::quick_key;
 use tinyjson_output::quote::quote;
 use tinyjson_output::room::{flush, write_bytes};
 
-// How values are written: compact, or indented by a text.
+/// How values are written: compact, or indented by a text.
 #[derive(Drop)]
 pub(crate) struct Encoder<'a> {
     pub(crate) alloc: Global,
@@ -35,7 +35,7 @@ pub(crate) struct Encoder<'a> {
 }
 
 impl Encoder<'_> {
-    // Writes how the value begins, and then what the open containers owe, the innermost first.
+    /// Writes how the value begins, and then what the open containers owe, the innermost first.
     pub(crate) fn encode<W: Write>(&self, out: &mut W, value: &JsonValue) -> io::Result<()>
         ensures { WritesText (W.contents out.old) (W.contents out.new)
             (text (indent_of self.now.indent) 0 (view value.now)) result }
@@ -78,7 +78,7 @@ impl Encoder<'_> {
         Ok(())
     }
 
-    // Writes what a container owes, up to the next bracket.
+    /// Writes what a container owes, up to the next bracket.
     fn resume<'a, W: Write>(
         &self,
         out: &mut W,
@@ -200,7 +200,7 @@ impl Encoder<'_> {
         self.close(out, room, level, b"}")
     }
 
-    // Writes the item, or how it begins, and what stands before it.
+    /// Writes the item, or how it begins, and what stands before it.
     fn item<'a, W: Write>(
         &self,
         out: &mut W,
@@ -220,7 +220,7 @@ impl Encoder<'_> {
         self.begin(out, room, gathered, value)
     }
 
-    // The same of a member.
+    /// The same of a member.
     fn member<'a, W: Write>(
         &self,
         out: &mut W,
@@ -248,7 +248,7 @@ impl Encoder<'_> {
         self.begin(out, room, gathered, value)
     }
 
-    // Writes the bracket of a container whose items stand at the level.
+    /// Writes the bracket of a container whose items stand at the level.
     fn close<W: Write>(
         &self,
         out: &mut W,
@@ -266,8 +266,8 @@ impl Encoder<'_> {
         write_bytes(out, room, bracket)
     }
 
-    // Writes a value that holds no other. Of others it writes the opening bracket and what fits at
-    // once, and answers what they owe then.
+    /// Writes a value that holds no other. Of others it writes the opening bracket and what fits at
+    /// once, and returns what they owe then.
     #[inline(always)]
     fn begin<'a, W: Write>(
         &self,
@@ -287,7 +287,7 @@ impl Encoder<'_> {
         self.begin_slowly(out, room, gathered, value)
     }
 
-    // The same where the text is long, or holds other texts.
+    /// The same where the text is long, or holds other texts.
     #[inline(never)]
     fn begin_slowly<'a, W: Write>(
         &self,
@@ -336,7 +336,7 @@ impl Encoder<'_> {
         Ok(Some(Frame::Items { rest, first }))
     }
 
-    // One member alone needs no order, and so no memory.
+    /// One member alone needs no order, and so no memory.
     fn begin_object<'a, W: Write>(
         &self,
         out: &mut W,
@@ -373,8 +373,8 @@ impl Encoder<'_> {
         Ok(Some(Frame::Member { key, value }))
     }
 
-    // In compact text, the items at the front that hold no others, as far as they fit. Gives the items
-    // that are left, and whether none stands before them.
+    /// In compact text, the items at the front that hold no others, as far as they fit. Gives the items
+    /// that are left, and whether none stands before them.
     #[inline(always)]
     fn run_of_items<'a>(
         &self,
@@ -395,7 +395,7 @@ impl Encoder<'_> {
         }
     }
 
-    // The same of so many gathered members.
+    /// The same of so many gathered members.
     #[inline(always)]
     fn run_of_members<'a>(
         &self,
@@ -420,7 +420,7 @@ impl Encoder<'_> {
         }
     }
 
-    // What stands before an item or a member.
+    /// What stands before an item or a member.
     #[inline(always)]
     fn separate<W: Write>(
         &self,
@@ -464,7 +464,7 @@ impl Encoder<'_> {
     }
 }
 
-// A line feed, and the indent of the next line.
+/// A line feed, and the indent of the next line.
 #[inline(never)]
 fn write_line<W: Write>(out: &mut W, room: &mut Room, indent: &str, level: usize) -> io::Result<()>
     ensures { SendsText

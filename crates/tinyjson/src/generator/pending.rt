@@ -5,21 +5,21 @@ ghost use Rattle.tinyjson.specs.private.Pending.{IsStack, frames};
 use crate::value::JsonValue;
 use std::alloc::{AllocError, Global};
 
-// What an open container has still to write before its closing bracket. `first` says that nothing
-// of it is written yet.
+/// What an open container has still to write before its closing bracket. `first` says that nothing
+/// of it is written yet.
 #[derive(Clone, Copy, Drop)]
 pub(super) enum Frame<'a> {
     Items { rest: &'a [JsonValue], first: bool },
-    // The one member of an object that has no other.
+    /// The one member of an object that has no other.
     Member { key: &'a str, value: &'a JsonValue },
-    // That many of the gathered members.
+    /// That many of the gathered members.
     Members { left: usize, first: bool },
 }
 
-// How many frames stand in place.
+/// How many frames stand in place.
 const NEAR: usize = 64;
 
-// The open containers, the innermost last. The first 64 take no memory.
+/// The open containers, the innermost last. The first 64 take no memory.
 #[derive(Drop)]
 pub(super) struct Stack<'a> {
     near: [Frame<'a>; NEAR],
@@ -61,7 +61,7 @@ impl<'a> Stack<'a> {
         Ok(())
     }
 
-    // Pushes a container that goes on behind the inner one, and that one.
+    /// Pushes a container that goes on after the inner one, and that one.
     pub(super) fn enter(&mut self, outer: Frame<'a>, inner: Frame<'a>) -> Result<(), AllocError>
         requires { IsStack self.old }
         ensures stack { OnOk result (IsStack self.new) }
@@ -72,7 +72,7 @@ impl<'a> Stack<'a> {
         self.push(inner)
     }
 
-    // The innermost container, and how many are open with it.
+    /// The innermost container, and how many are open with it.
     pub(super) fn pop(&mut self) -> Option<(Frame<'a>, usize)>
         requires { IsStack self.old }
         ensures stack { IsStack self.new }

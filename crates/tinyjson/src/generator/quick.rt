@@ -13,7 +13,7 @@ use crate::value::JsonValue;
 use tinyjson_output::Room;
 use tinyjson_output::quick::{quick_key, quick_number, quick_text, quick_word};
 
-// Lets the text of a value that holds no other wait, if it fits, and says whether it does.
+/// Lets the text of a value that holds no other wait, if it fits, and says whether it does.
 #[inline(always)]
 pub(super) fn quick_value(room: &mut Room, value: &JsonValue) -> bool
     ensures { (w : Option (List ℕ)) (k : ℕ) → MatchBool result
@@ -30,8 +30,8 @@ pub(super) fn quick_value(room: &mut Room, value: &JsonValue) -> bool
     }
 }
 
-// The items at the front that are no arrays or objects, in compact text, as far as they fit. Gives the
-// items that are left, and whether none stands before them.
+/// The items at the front that are no arrays or objects, in compact text, as far as they fit. Gives the
+/// items that are left, and whether none stands before them.
 #[inline(always)]
 pub(super) fn quick_items<'a>(
     room: &mut Room,
@@ -55,7 +55,7 @@ pub(super) fn quick_items<'a>(
     (rest, first)
 }
 
-// Lets a comma, but not before the first item, and the item wait, and says whether they do.
+/// Lets a comma, but not before the first item, and the item wait, and says whether they do.
 #[inline(always)]
 fn quick_item(room: &mut Room, first: bool, item: &JsonValue) -> bool
     ensures { (k : ℕ) → MatchBool result
@@ -77,7 +77,7 @@ fn quick_item(room: &mut Room, first: bool, item: &JsonValue) -> bool
     false
 }
 
-// The same of the members that are left to an object; their values may be known to hold no others.
+/// The same of the members that are left to an object; their values may be known to hold no others.
 #[inline(always)]
 pub(super) fn quick_members<'a>(
     room: &mut Room,
@@ -108,8 +108,8 @@ pub(super) fn quick_members<'a>(
     (left, first)
 }
 
-// Lets a member whose value holds no other wait, with a comma before all but the first, and says whether
-// it does.
+/// Lets a member whose value holds no other wait, with a comma before all but the first, and says whether
+/// it does.
 #[inline(always)]
 pub(super) fn quick_member(
     room: &mut Room,
@@ -141,7 +141,7 @@ pub(super) fn quick_member(
     false
 }
 
-// Lets the text of an array or object that is empty wait, and says whether it does.
+/// Lets the text of an array or object that is empty wait, and says whether it does.
 #[inline(never)]
 fn quick_empty(room: &mut Room, value: &JsonValue) -> bool
     ensures { (w : Option (List ℕ)) (k : ℕ) → MatchBool result
@@ -155,7 +155,7 @@ fn quick_empty(room: &mut Room, value: &JsonValue) -> bool
     }
 }
 
-// Whether the value is an array or object that isn't empty: only a hint, that saves the key.
+/// Whether the value is an array or object that isn't empty: only a hint, that saves the key.
 #[inline(always)]
 pub(super) fn holds_others(value: &JsonValue) -> bool {
     match value {

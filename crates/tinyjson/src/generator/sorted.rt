@@ -12,8 +12,8 @@ use std::alloc::{AllocError, Global};
 use std::collections::HashMap;
 use tinyjson_output::presort::presort;
 
-// Puts the members behind those that were gathered before, the last key's member first, so that they
-// are popped in the order of their keys' bytes. Says whether no value of them holds another.
+/// Puts the members after those that were gathered before, the last key's member first, so that they
+/// are popped in the order of their keys' bytes. Says whether no value of them holds another.
 pub(super) fn gather_sorted<'a>(
     alloc: Global,
     gathered: &mut Vec<(&'a str, &'a JsonValue)>,
@@ -33,8 +33,8 @@ pub(super) fn gather_sorted<'a>(
     Ok(flat)
 }
 
-// The members in the map's own order. All values are looked at here, side by side, so that the memory
-// of each is near when it is written.
+/// The members in the map's own order. All values are looked at here, side by side, so that the memory
+/// of each is near when it is written.
 fn gather<'a>(
     gathered: &mut Vec<(&'a str, &'a JsonValue)>,
     members: &'a HashMap<String, JsonValue>,
@@ -55,7 +55,7 @@ fn gather<'a>(
     Ok(flat)
 }
 
-// The next of that many members that are left to an object. It stays with them.
+/// The next of that many members that are left to an object. It stays with them.
 #[inline(always)]
 pub(super) fn first_member<'a>(
     gathered: &[(&'a str, &'a JsonValue)],
@@ -70,7 +70,7 @@ pub(super) fn first_member<'a>(
     Some(gathered[gathered.len() - 1])
 }
 
-// The next of that many members that are left to an object.
+/// The next of that many members that are left to an object.
 pub(super) fn next_member<'a>(
     gathered: &mut Vec<(&'a str, &'a JsonValue)>,
     left: usize,

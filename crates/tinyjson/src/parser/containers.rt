@@ -6,11 +6,11 @@ ghost use Rattle.tinyjson.specs.private.Stack.{at, frames, AwaitsKey, Innermost,
 ghost use Rattle.tinyjson_tokens.specs.Steps.{Reads};
 ghost use Rattle.tinyjson_grammar.specs.Tree.{number};
 ghost use Rattle.tinyjson.specs.View.{view, text};
-ghost use Rattle.tinyjson.specs.declared.parser.stack.Frame.TheVariants as container;
+ghost use Rattle.tinyjson.specs.declared.parser.stack.Container.TheVariants as container;
 
 use super::error::JsonParseErrorKind;
 use super::reader::Reader;
-use super::stack::{Frame, Stack};
+use super::stack::{Container, Stack};
 use crate::value::{JsonKind, JsonValue};
 use std::collections::HashMap;
 use tinyjson_number::JsonNumber;
@@ -26,7 +26,7 @@ fn fits(limit: Option<usize>, depth: usize) -> bool
     }
 }
 
-// Where a function answers `true`, a value is whole, and is the last on the stack; otherwise a value is awaited.
+// Where a function returns `true`, a value is whole, and is the last on the stack; otherwise a value is awaited.
 impl<S: Tokens> Reader<S> {
     /// Opens the array whose bracket comes next, or reads it whole if it is empty.
     pub(super) fn array(
@@ -48,7 +48,7 @@ impl<S: Tokens> Reader<S> {
         match self.tokens.source.skip_white() {
             Some(']') => {
                 self.tokens.source.consume(']');
-                self.put(stack, JsonValue::Array(Vec::new(self.tokens.alloc)))
+                self.complete(stack, JsonValue::Array(Vec::new(self.tokens.alloc)))
             }
             _ => {
                 if stack.open_array().is_err() {
@@ -79,7 +79,7 @@ impl<S: Tokens> Reader<S> {
         match self.tokens.source.skip_white() {
             Some('}') => {
                 self.tokens.source.consume('}');
-                self.put(stack, JsonValue::Object(HashMap::new(self.tokens.alloc)))
+                self.complete(stack, JsonValue::Object(HashMap::new(self.tokens.alloc)))
             }
             _ => {
                 if stack.open_object().is_err() {
@@ -92,7 +92,7 @@ impl<S: Tokens> Reader<S> {
 
     /// Puts a value that is whole into the container that it stands in. A string where a key is awaited is the key.
     #[inline(always)]
-    pub(super) fn put(
+    pub(super) fn complete(
         &mut self,
         stack: &mut Stack,
         value: JsonValue,
@@ -104,7 +104,7 @@ impl<S: Tokens> Reader<S> {
         ensures sound { IfOk result (IsSound stack.new) }
         ensures left { OnOk result (S.left self.new.tokens.source ≤ S.left self.old.tokens.source) }
     {
-        if let Some(Frame::Object { .. }) = stack.innermost() {
+        if let Some(Container::Object { .. }) = stack.innermost() {
             return self.use_as_key(stack, value);
         }
         if stack.push(value).is_err() {
@@ -115,7 +115,7 @@ impl<S: Tokens> Reader<S> {
 
     /// The same for a number, which is made a value where it belongs.
     #[inline(always)]
-    pub(super) fn put_number(
+    pub(super) fn complete_number(
         &mut self,
         stack: &mut Stack,
         decimal: JsonNumber,
@@ -127,7 +127,7 @@ impl<S: Tokens> Reader<S> {
         ensures sound { IfOk result (IsSound stack.new) }
         ensures left { OnOk result (S.left self.new.tokens.source ≤ S.left self.old.tokens.source) }
     {
-        if let Some(Frame::Object { .. }) = stack.innermost() {
+        if let Some(Container::Object { .. }) = stack.innermost() {
             return Err(JsonParseErrorKind::KeyNotString(JsonKind::Number));
         }
         if stack.push_number(decimal).is_err() {
@@ -181,7 +181,7 @@ impl<S: Tokens> Reader<S> {
         }
     }
 
-    /// Reads the colon behind a key.
+    /// Reads the colon after a key.
     #[inline(always)]
     fn colon(&mut self, stack: &mut Stack, key: String) -> Result<bool, JsonParseErrorKind>
         requires sound { IsSound stack.old false }
@@ -208,7 +208,7 @@ impl<S: Tokens> Reader<S> {
         }
     }
 
-    /// Reads a comma or the bracket that closes the array, behind an item.
+    /// Reads a comma or the bracket that closes the array, after an item.
     fn after_item(&mut self, stack: &mut Stack, values: usize) -> Result<bool, JsonParseErrorKind>
         requires sound { IsSound stack.old true }
         requires array { Innermost stack.old (container.Array values) }
@@ -227,7 +227,7 @@ impl<S: Tokens> Reader<S> {
                     return Err(JsonParseErrorKind::OutOfMemory);
                 };
                 self.tokens.source.consume(']');
-                self.put(stack, array)
+                self.complete(stack, array)
             }
             Some(c) => {
                 self.tokens.source.consume(c);
@@ -237,7 +237,7 @@ impl<S: Tokens> Reader<S> {
         }
     }
 
-    /// Reads a comma or the brace that closes the object, behind a member.
+    /// Reads a comma or the brace that closes the object, after a member.
     fn after_member(
         &mut self,
         stack: &mut Stack,
@@ -264,7 +264,7 @@ impl<S: Tokens> Reader<S> {
                     return Err(JsonParseErrorKind::OutOfMemory);
                 };
                 self.tokens.source.consume('}');
-                self.put(stack, object)
+                self.complete(stack, object)
             }
             Some(c) => {
                 self.tokens.source.consume(c);
@@ -278,7 +278,7 @@ impl<S: Tokens> Reader<S> {
     pub(super) fn after(
         &mut self,
         stack: &mut Stack,
-        container: Frame,
+        container: Container,
     ) -> Result<bool, JsonParseErrorKind>
         requires sound { IsSound stack.old true }
         requires innermost { Innermost stack.old container }
@@ -288,9 +288,9 @@ impl<S: Tokens> Reader<S> {
         ensures left { OnOk result (S.left self.new.tokens.source < S.left self.old.tokens.source) }
     {
         match container {
-            Frame::Array { values } => self.after_item(stack, values),
-            Frame::Member { values, keys } => self.after_member(stack, values, keys),
-            Frame::Object { .. } => unreachable!(),
+            Container::Array { values } => self.after_item(stack, values),
+            Container::Member { values, keys } => self.after_member(stack, values, keys),
+            Container::Object { .. } => unreachable!(),
         }
     }
 }

@@ -7,7 +7,7 @@ use std::fmt;
 use std::io::{self, ErrorKind};
 pub use tinyjson_grammar::JsonParseErrorKind;
 
-/// A refusal of the parser: a kind, and the position behind what was consumed.
+/// An error of the parser: a kind, and the position after what was consumed.
 ///
 /// ```
 /// if let Err(error) = JsonValue::from_str(alloc, "{\n\"a\" 1}") {

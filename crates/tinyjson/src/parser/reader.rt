@@ -76,7 +76,7 @@ impl<S: Tokens> Reader<S> {
         ensures left { OnOk result (S.left self.new.tokens.source < S.left self.old.tokens.source) }
     {
         let value = self.literal(first)?;
-        self.put(stack, value)
+        self.complete(stack, value)
     }
 
     /// Reads the string whose quote comes next, and puts it where it belongs.
@@ -91,7 +91,7 @@ impl<S: Tokens> Reader<S> {
     {
         self.tokens.source.consume('"');
         let string = self.tokens.string()?;
-        self.put(stack, JsonValue::String(string))
+        self.complete(stack, JsonValue::String(string))
     }
 
     /// Reads the number whose first character, a minus sign or a digit, comes next, and puts it where it
@@ -108,7 +108,7 @@ impl<S: Tokens> Reader<S> {
         if let Some((parts, behind)) = self.tokens.source.numeral() {
             if let Ok(number) = JsonNumber::from_parts(self.tokens.alloc, parts) {
                 self.tokens.source = behind;
-                return self.put_number(stack, number);
+                return self.complete_number(stack, number);
             }
         }
         self.long_number(stack)
@@ -126,10 +126,10 @@ impl<S: Tokens> Reader<S> {
     {
         if let Some((number, behind)) = self.tokens.source.scientific(self.tokens.alloc) {
             self.tokens.source = behind;
-            return self.put_number(stack, number);
+            return self.complete_number(stack, number);
         }
         let number = self.tokens.gathered_number()?;
-        self.put_number(stack, number)
+        self.complete_number(stack, number)
     }
 
     /// Reads the value that begins with this character, or opens a container; `true` where a value is whole.
@@ -187,7 +187,7 @@ impl<S: Tokens> Reader<S> {
         }
     }
 
-    /// Reads a whole text; a refusal tells where the source stands. What it gives up is freed by a loop. A
+    /// Reads a whole text; an error says where the source stands. What it gives up is freed by a loop. A
     /// literal alone takes no memory.
     pub(super) fn text(&mut self, limit: Option<usize>) -> Result<JsonValue, JsonParseError>
         ensures reads { ReadsText S.sight limit self.old.tokens.source result
@@ -229,7 +229,7 @@ impl<S: Tokens> Reader<S> {
         }
     }
 
-    /// Reads the text whose first value begins with this character. After a refusal the stack holds what was read.
+    /// Reads the text whose first value begins with this character. After an error the stack holds what was read.
     fn values(
         &mut self,
         limit: Option<usize>,
@@ -274,7 +274,7 @@ impl<S: Tokens> Reader<S> {
         }
     }
 
-    /// The end behind the value that is left on the stack.
+    /// The end after the value that is left on the stack.
     fn last(&mut self, stack: &mut Stack) -> Result<JsonValue, JsonParseErrorKind>
         requires sound { IsSound stack.old true }
         requires none { open_of stack.old ≡ [] }

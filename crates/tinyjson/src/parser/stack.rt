@@ -9,7 +9,7 @@ ghost use Rattle.tinyjson.specs.private.Stack.{AwaitsKey, BeginsMember, ClosesAr
 ghost use Rattle.tinyjson.specs.private.Stack.{Innermost, IsSound, Lies, TakesValue};
 ghost use Rattle.tinyjson_grammar.specs.Tree.{no_members, number};
 ghost use Rattle.tinyjson.specs.View.{view, text, members_view};
-ghost use Rattle.tinyjson.specs.declared.parser.stack.Frame.TheVariants as container;
+ghost use Rattle.tinyjson.specs.declared.parser.stack.Container.TheVariants as container;
 
 use crate::value::{JsonValue, add_member, insert_member};
 use std::alloc::{AllocError, Global};
@@ -19,7 +19,7 @@ use tinyjson_number::JsonNumber;
 
 /// A container that was opened and not closed: where its values and its keys begin on the stack.
 #[derive(Clone, Copy)]
-pub(super) enum Frame {
+pub(super) enum Container {
     Array { values: usize },
     /// An object that awaits a key.
     Object { values: usize, keys: usize },
@@ -34,7 +34,7 @@ const MANY: usize = 64;
 #[derive(Drop)]
 pub(super) struct Stack {
     alloc: Global,
-    containers: Vec<Frame>,
+    containers: Vec<Container>,
     values: Vec<JsonValue>,
     keys: Vec<String>,
     /// A map for each object, with its first members if it has many. The outermost objects may lack theirs.
@@ -63,7 +63,7 @@ impl Stack {
     }
 
     /// The container that was opened last.
-    pub(super) fn innermost(&self) -> Option<Frame>
+    pub(super) fn innermost(&self) -> Option<Container>
         ensures { MatchOption result (open_of self.now ≡ []) (Innermost self.now) }
     {
         self.containers.last().copied()
@@ -119,7 +119,7 @@ impl Stack {
         ensures sound { OnOk result (IsSound self.new false) }
     {
         let values = self.values.len();
-        self.containers.push(Frame::Array { values })?;
+        self.containers.push(Container::Array { values })?;
         Ok(())
     }
 
@@ -132,7 +132,7 @@ impl Stack {
     {
         let (values, keys) = (self.values.len(), self.keys.len());
         self.open_map()?;
-        self.containers.push(Frame::Object { values, keys })?;
+        self.containers.push(Container::Object { values, keys })?;
         Ok(())
     }
 
@@ -159,11 +159,11 @@ impl Stack {
         ensures begins { OnOk result (BeginsMember self.old self.new (text key)) }
         ensures sound { OnOk result (IsSound self.new false) }
     {
-        let Some(Frame::Object { values, keys }) = self.containers.pop() else {
+        let Some(Container::Object { values, keys }) = self.containers.pop() else {
             unreachable!()
         };
         self.keys.push(key)?;
-        self.containers.push(Frame::Member { values, keys })?;
+        self.containers.push(Container::Member { values, keys })?;
         Ok(())
     }
 
@@ -177,7 +177,7 @@ impl Stack {
     {
         self.containers.pop();
         self.settle(values, keys)?;
-        self.containers.push(Frame::Object { values, keys })?;
+        self.containers.push(Container::Object { values, keys })?;
         Ok(())
     }
 
@@ -227,7 +227,7 @@ impl Stack {
         Ok(())
     }
 
-    /// Closes the innermost array behind its last item. It keeps no more memory than its items need.
+    /// Closes the innermost array after its last item. It keeps no more memory than its items need.
     pub(super) fn close_array(&mut self, values: usize) -> Result<JsonValue, AllocError>
         requires sound { IsSound self.old true }
         requires array { Innermost self.old (container.Array values) }
@@ -254,7 +254,7 @@ impl Stack {
         Ok(items)
     }
 
-    /// Closes the innermost object behind its last member. Of equal keys the last member stays.
+    /// Closes the innermost object after its last member. Of equal keys the last member stays.
     pub(super) fn close_object(
         &mut self,
         values: usize,
@@ -364,7 +364,7 @@ impl Stack {
         Ok(())
     }
 
-    /// The same behind the members that the map has, the first member first.
+    /// The same after the members that the map has, the first member first.
     #[inline(never)]
     fn fill_behind(
         &mut self,

@@ -17,9 +17,9 @@ use std::fmt;
 /// It holds the whole value, so nothing is lost.
 ///
 /// ```
-/// if let Err(fault) = String::try_from(JsonValue::from(true)) {
-///     assert!(rt; *fault.value() == JsonValue::Boolean(true));
-///     assert!(rt; JsonValue::from(fault) == JsonValue::Boolean(true));
+/// if let Err(error) = String::try_from(JsonValue::from(true)) {
+///     assert!(rt; *error.value() == JsonValue::Boolean(true));
+///     assert!(rt; JsonValue::from(error) == JsonValue::Boolean(true));
 /// }
 /// ```
 #[derive(Debug, Drop)]
@@ -32,8 +32,8 @@ impl UnexpectedValue {
     /// The value that was not converted.
     ///
     /// ```
-    /// if let Err(fault) = bool::try_from(JsonValue::Null) {
-    ///     assert!(rt; fault.value().is_null());
+    /// if let Err(error) = bool::try_from(JsonValue::Null) {
+    ///     assert!(rt; error.value().is_null());
     /// }
     /// ```
     pub fn value(&self) -> &JsonValue
@@ -67,8 +67,8 @@ impl Error for UnexpectedValue {}
 impl From<UnexpectedValue> for JsonValue {
     ghost from_gives = { λ e v. v ≡ unexpected_value e };
 
-    fn from(fault: UnexpectedValue) -> JsonValue {
-        fault.value
+    fn from(error: UnexpectedValue) -> JsonValue {
+        error.value
     }
 }
 

@@ -65,7 +65,7 @@ enum Compared<'v> {
     Inside(Rest<'v>),
 }
 
-/// Whether two rests are the same; or two containers in them, and what is left behind those.
+/// Whether two rests are the same; or two containers in them, and what is left after those.
 #[derive(Drop)]
 enum Step<'v> {
     Known(bool),

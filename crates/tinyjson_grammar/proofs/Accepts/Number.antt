@@ -2,10 +2,10 @@
 use Rattle.std.proofs.Common.{◌≡◌, ℕ, ◌<◌, Bool, true, false, List, [], ◌∷◌, ◌++◌, Option, Some, None, refl, ap, sym, ◌∙◌, append_assoc, append-nil, arith, length, ◌&&◌, ◌||◌, ◌==◌, not}
 use Rattle.std.specs.Prelude.{IsTrue, IfSome}
 use Rattle.std.specs.Char.{is_ascii_digit}
+use Rattle.std.proofs.lemmas.Bool.{not-true}
 use Rattle.tinyjson_grammar.specs.Tree.{Tree}
-use Rattle.tinyjson_number.specs.Numeral.{numeral, Numeral, Exponent, IsNumeral, IsExponent, AreDigits, sign_text, minus_text, fraction_text, exponent_text, spelling, has_leading_zero, value, in_range}
+use Rattle.tinyjson_number.specs.Numeral.{numeral, Numeral, Exponent, IsNumeral, IsExponent, AreDigits, sign_text, minus_text, fraction_text, exponent_text, spelling, has_leading_zero, value, in_range, is_exponent_letter}
 use Rattle.tinyjson_grammar.specs.Machine.{Rules, Frame, awaited, complete, step, run, end, end_plain, end_digits, step_digits, finish, digits, Stage, whole, fraction, letter, exponent}
-use Rattle.tinyjson_number.specs.Numeral.{is_exponent_letter}
 use Rattle.tinyjson_grammar.proofs.Accepts.Runs.{settle, ends_complete, end_complete, continues, Delimited, continues_digit, continues_point, continues_letter, digit_is_not, digit_not_white, and_false}
 
 abbrev power : ℕ → Option ℕ → List ℕ → Option Exponent
@@ -124,10 +124,6 @@ end_finishes r fs n [] None h = rw h
 end_finishes r fs n (d ∷ ds) None h = refl
 end_finishes r fs n [] (Some e) h = refl
 end_finishes r fs n (d ∷ ds) (Some e) h = refl
-
-not-true : (b : Bool) → not b ≡ true → b ≡ false
-not-true true h = sym h
-not-true false h = refl
 
 pub fine_zero : (r : Rules) (w : List ℕ) → (r.strict ≡ true → IsTrue (not (has_leading_zero w))) → (r.strict && has_leading_zero w) ≡ false
 fine_zero r w h = and_false r.strict (has_leading_zero w) (λ e. not-true (has_leading_zero w) (h e))

@@ -47,17 +47,8 @@ paired_append (u ∷ v ∷ us) c vs h =
 pub scalar_no_surrogate : (c : ℕ) → IsScalar c → is_surrogate c ≡ false
 scalar_no_surrogate c h = grind arith
 
-escape_cond : (b : Bool) (x d : ℕ) (o : Option ℕ) → (b ≡ true → is_surrogate x ≡ false) → (o ≡ Some d → is_surrogate d ≡ false) → cond b (Some x) o ≡ Some d → is_surrogate d ≡ false
-escape_cond true x d o hx ho h = let e : x ≡ d = cc in rw (← e) (hx refl)
-escape_cond false x d o hx ho h = ho h
-
-itself_no_surrogate : (c : ℕ) → ((c == 34) || ((c == 92) || (c == 47))) ≡ true → is_surrogate c ≡ false
-itself_no_surrogate c h = grind arith
-
 pub escape_no_surrogate : (c d : ℕ) → short_escape c ≡ Some d → is_surrogate d ≡ false
-escape_no_surrogate c d =
-    escape_cond ((c == 34) || ((c == 92) || (c == 47))) c d _ (itself_no_surrogate c) (escape_cond (c == 98) 8 d _ (λ e. refl) (escape_cond (c == 102) 12 d _ (λ e. refl)
-    (escape_cond (c == 110) 10 d _ (λ e. refl) (escape_cond (c == 114) 13 d _ (λ e. refl) (escape_cond (c == 116) 9 d None (λ e. refl) (λ e. absurd cc))))))
+escape_no_surrogate c d h = grind arith
 
 pub some_unwrap : (o : Option ℕ) → IsSome o → o ≡ Some (unwrap_or o 0)
 some_unwrap None h = absurd (false≢true h)

@@ -6,7 +6,8 @@ use Rattle.tinyjson_grammar.specs.Syntax.{AreWhite, IsStrict, tree_of}
 use Rattle.tinyjson_grammar.specs.Grammar.{IsLoose, IsText}
 use Rattle.tinyjson_grammar.specs.Machine.{Rules, awaited, accepted, run}
 use Rattle.tinyjson_grammar.proofs.Accepts.Runs.{Delimited, delimited_white, run_white, finished_white}
-use Rattle.tinyjson_grammar.proofs.Accepts.Value.{run_value, less_within, ends}
+use Rattle.tinyjson_grammar.proofs.Accepts.Value.{run_value, ends}
+use Rattle.tinyjson_grammar.proofs.Trace.Paths.{within_le}
 
 abbrev pub rules : Bool → Option ℕ → Rules
 rules b limit = record { strict = b; limit = limit }
@@ -17,7 +18,7 @@ white_delimited w h = rw (append-nil w) at (delimited_white w [] h tt)
 pub run_text : (b : Bool) (limit : Option ℕ) (xs : List ℕ) (l : IsLoose limit xs) → (b ≡ true → IsStrict l.value) → run (rules b limit) [] awaited xs ≡ accepted (tree_of l.value)
 run_text b limit xs l h = rw l.whole
     (run_white (rules b limit) [] l.before _ l.white_before
-    ∙ run_value l.value (rules b limit) [] l.after l.spelled h (less_within limit _ _ l.shallow (omega arith)) (ends l.value l.after (white_delimited l.after l.white_after))
+    ∙ run_value l.value (rules b limit) [] l.after l.spelled h (within_le limit _ _ l.shallow (omega arith)) (ends l.value l.after (white_delimited l.after l.white_after))
     ∙ finished_white (rules b limit) [] (tree_of l.value) l.after l.white_after)
 
 pub text_accepted : (limit : Option ℕ) (xs : List ℕ) (t : Tree) → IsText limit xs t → run (rules true limit) [] awaited xs ≡ accepted t

@@ -1,5 +1,5 @@
 -- For the laws, whose proofs go on from these: what was read up to each state of the machine, what each step and each rule of the grammar says.
-pub use Rattle.tinyjson_grammar.proofs.Accepts.Number.{run_spelling, last_stage, end_finishes, run_whole, stage_of, letter_no_digit, letter_no_point, sign_no_digit}
+pub use Rattle.tinyjson_grammar.proofs.Accepts.Number.{run_spelling, last_stage, end_finishes, run_whole, stage_of}
 pub use Rattle.tinyjson_grammar.proofs.Accepts.Runs.{continues, continues_digit, continues_point, continues_letter, settle}
 pub use Rattle.tinyjson_grammar.proofs.Accepts.String.{paired_cons, paired_append, scalar_no_surrogate, escape_no_surrogate, some_unwrap, plain_no_quote, plain_no_backslash, plain_no_control}
 pub use Rattle.tinyjson_grammar.proofs.Accepts.Text.{only_tree, text_accepted, rules, loose_accepted}
@@ -15,4 +15,4 @@ pub use Rattle.tinyjson_grammar.proofs.Step.Value.{no_text}
 pub use Rattle.tinyjson_grammar.proofs.Texts.TreeTrip.{IsWhiteIndent}
 pub use Rattle.tinyjson_grammar.proofs.Texts.WrittenTexts.{written_text, from_text}
 pub use Rattle.tinyjson_grammar.proofs.Trace.Paths.{Path, outside, item_in, key_in, value_in, path_text, level, IsPath, within_le, closes, closing, path_frames}
-pub use Rattle.tinyjson_grammar.proofs.Trace.State.{loosely_from, Read, at_first, at_awaited, in_word, in_digits, in_quoted, at_after, Part, part_stage, part_numeral, read_frames, read_phase, IsRead, IsFresh, values, part_minus, part_whole, part_point, part_fraction, part_letter, part_sign, part_exponent, read_text, IsWord, Spells, exponent_with}
+pub use Rattle.tinyjson_grammar.proofs.Trace.State.{loosely_from, Read, at_first, at_awaited, in_literal, in_digits, in_quoted, at_after, Part, part_stage, part_numeral, read_frames, read_phase, IsRead, IsFresh, values, part_minus, part_whole, part_point, part_fraction, part_letter, part_sign, part_exponent, read_text, IsWithinLiteral, Spells, exponent_with}

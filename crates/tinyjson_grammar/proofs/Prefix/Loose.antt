@@ -1,11 +1,11 @@
--- The loose machine does as the strict one, as far as that goes.
+-- Each step of the strict machine that does not stop is a step of the loose one.
 use Rattle.std.proofs.Common.{◌≡◌, ℕ, Bool, true, false, List, [], ◌∷◌, ◌++◌, Option, Some, None, refl, sym, subst, ◌∙◌, ◌⊎◌, inl, inr, cond, ◌&&◌, ◌==◌, not, nat_lt}
 use Rattle.std.specs.Prelude.{⊤}
 use Rattle.std.specs.Char.{is_ascii_digit}
 use Rattle.tinyjson_number.specs.Numeral.{Numeral, has_leading_zero, in_range, value}
 use Rattle.tinyjson_grammar.specs.Tree.{Tree, Members, key_of, is_string, array, object, string, number, items_of}
 use Rattle.tinyjson_grammar.specs.Characters.{is_white, short_escape, decode, paired}
-use Rattle.tinyjson_grammar.specs.Machine.{Frame, in_array, at_key, at_value, Phase, first, awaited, word, digits, quoted, colon, after, finished, Stage, minus, whole, point, fraction, letter, sign, exponent, Within, plain, backslash, hex, Next, next, stop, complete, finish, step, step_plain, step_first, step_after, step_word, step_quoted, step_escape, step_digits, then_step, unless_ended}
+use Rattle.tinyjson_grammar.specs.Machine.{Frame, in_array, at_key, at_value, Phase, first, awaited, literal, digits, quoted, colon, after, finished, Stage, minus, whole, point, fraction, letter, sign, exponent, Within, plain, backslash, hex, Next, next, stop, complete, finish, step, step_plain, step_first, step_after, step_literal, step_quoted, step_escape, step_digits, then_step, unless_ended}
 use Rattle.tinyjson_grammar.specs.declared.kind.JsonKind.{JsonKind}
 use Rattle.tinyjson_grammar.specs.declared.error.JsonParseErrorKind.{JsonParseErrorKind}
 use Rattle.tinyjson_grammar.specs.declared.error.JsonParseErrorKind.TheVariants.{KeyNotString, InvalidUtf16, LeadingZero, NumberOutOfRange}
@@ -57,10 +57,10 @@ same_after limit (in_array ts ∷ fs) c = same_cond (c == 44) _ _ _ _ (same _) (
 same_after limit (at_key ms ∷ fs) c = same_cond (c == 44) _ _ _ _ (same _) (same_cond (c == 125) _ _ _ _ (same_complete fs (object ms) true) (same _))
 same_after limit (at_value ms k ∷ fs) c = same _
 
-same_word : (limit : Option ℕ) (fs : List Frame) (ls : List ℕ) (t : Tree) (c : ℕ) → Same (step_word (rules true limit) fs ls t c) (step_word (rules false limit) fs ls t c)
-same_word limit fs [] t c = same _
-same_word limit fs (l ∷ []) t c = same_cond (c == l) _ _ _ _ (same_complete fs t true) (same _)
-same_word limit fs (l ∷ m ∷ ls) t c = same _
+same_literal : (limit : Option ℕ) (fs : List Frame) (ls : List ℕ) (t : Tree) (c : ℕ) → Same (step_literal (rules true limit) fs ls t c) (step_literal (rules false limit) fs ls t c)
+same_literal limit fs [] t c = same _
+same_literal limit fs (l ∷ []) t c = same_cond (c == l) _ _ _ _ (same_complete fs t true) (same _)
+same_literal limit fs (l ∷ m ∷ ls) t c = same _
 
 same_escape : (limit : Option ℕ) (fs : List Frame) (cs us : List ℕ) (c : ℕ) (o : Option ℕ) → Same (step_escape (rules true limit) fs cs us c o) (step_escape (rules false limit) fs cs us c o)
 same_escape limit fs cs us c None = same _
@@ -76,7 +76,7 @@ same_quoted limit fs (hex ds) cs us c = same _
 same_plain : (limit : Option ℕ) (fs : List Frame) (p : Phase) (c : ℕ) → Same (step_plain (rules true limit) fs p c) (step_plain (rules false limit) fs p c)
 same_plain limit fs first c = same_cond (is_white c) _ _ _ _ (same _) (same_first limit fs c)
 same_plain limit fs awaited c = same _
-same_plain limit fs (word ls t) c = same_word limit fs ls t c
+same_plain limit fs (literal ls t) c = same_literal limit fs ls t c
 same_plain limit fs (digits s n) c = same _
 same_plain limit fs (quoted w cs us) c = same_quoted limit fs w cs us c
 same_plain limit fs (colon k) c = same _
@@ -141,7 +141,7 @@ pub same_step : (limit : Option ℕ) (fs : List Frame) (p : Phase) (c : ℕ) →
 unfolding step
 same_step limit fs first c = same_plain limit fs first c
 same_step limit fs awaited c = same _
-same_step limit fs (word ls t) c = same_word limit fs ls t c
+same_step limit fs (literal ls t) c = same_literal limit fs ls t c
 same_step limit fs (digits s n) c = same_ended limit fs n c _ _ (same_digits limit fs s n c)
 same_step limit fs (quoted w cs us) c = same_quoted limit fs w cs us c
 same_step limit fs (colon k) c = same _

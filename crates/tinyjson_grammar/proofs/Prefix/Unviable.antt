@@ -4,15 +4,15 @@ use Rattle.std.proofs.lemmas.Bool.{false≢true}
 use Rattle.std.specs.Char.{is_ascii_digit}
 use Rattle.tinyjson_grammar.specs.Kind.{kind_of}
 use Rattle.tinyjson_grammar.specs.Tree as tree
-use Rattle.tinyjson_number.specs.Numeral.{Numeral, has_leading_zero, in_range, value}
+use Rattle.tinyjson_number.specs.Numeral.{Numeral, has_leading_zero, in_range, value, is_exponent_letter}
 use Rattle.tinyjson_grammar.specs.Syntax.{Syntax, text, is_key, tree_of, depth}
 use Rattle.tinyjson_grammar.specs.Prefix.{IsValue, IsCutOffText, cut_off_text}
 use Rattle.tinyjson_grammar.specs.Machine.{Rules, Frame, at_key, awaited, Next, next, stop, accepted, refused, complete, step, run, end, end_digits, step_digits, finish, unless_ended, go_on, digits, Stage, minus, whole, point, fraction, letter, sign, exponent}
 use Rattle.tinyjson_grammar.specs.declared.error.JsonParseErrorKind.{JsonParseErrorKind}
 use Rattle.tinyjson_grammar.specs.declared.error.JsonParseErrorKind.TheVariants.{KeyNotString, NumberOutOfRange, LeadingZero}
-use Rattle.tinyjson_number.specs.Numeral.{is_exponent_letter}
 use Rattle.tinyjson_grammar.proofs.Accepts.Runs.{run_white}
-use Rattle.tinyjson_grammar.proofs.Accepts.Value.{run_value, less_within, HasRoom, Ends, ends, string_key}
+use Rattle.tinyjson_grammar.proofs.Accepts.Value.{run_value, HasRoom, Ends, ends, string_key}
+use Rattle.tinyjson_grammar.proofs.Trace.Paths.{within_le}
 use Rattle.tinyjson_grammar.proofs.Accepts.Text.{rules}
 use Rattle.tinyjson_grammar.proofs.Prefix.CutOff.{BadKey, with_bad_key}
 
@@ -106,7 +106,7 @@ refused_key r ms fs s ys h v b m d = run_value s r (at_key ms ∷ fs) ys v.spell
 -- ---- texts that end with their first key that is no string
 
 pub cut_off_key : (limit : Option ℕ) (xs : List ℕ) (h : IsCutOffText limit xs) → BadKey (rules true limit) [] h.cut_off
-cut_off_key limit xs h = with_bad_key h.cut_off (rules true limit) [] h.is_cut_off (less_within limit _ _ h.shallow (omega arith))
+cut_off_key limit xs h = with_bad_key h.cut_off (rules true limit) [] h.is_cut_off (within_le limit _ _ h.shallow (omega arith))
 
 cut_off_reads : (limit : Option ℕ) (xs : List ℕ) (h : IsCutOffText limit xs) (ys : List ℕ) →
     run (rules true limit) [] awaited (xs ++ ys) ≡ run (rules true limit) (at_key (cut_off_key limit xs h).members ∷ (cut_off_key limit xs h).frames) awaited (text (cut_off_key limit xs h).key ++ ys)

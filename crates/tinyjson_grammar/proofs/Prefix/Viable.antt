@@ -4,18 +4,15 @@ use Rattle.std.specs.Prelude.{IfSome}
 use Rattle.std.specs.Char.{is_ascii_digit}
 use Rattle.std.proofs.lemmas.Bool.{eqb-true, le-ltb, lt-ltb, leb-true, and_parts, or_left, or_right, or_cases}
 use Rattle.tinyjson_grammar.specs.Characters.{is_hex, paired}
-use Rattle.tinyjson_number.specs.Numeral.{numeral, Exponent, IsNumeral, AreDigits, minus_text, fraction_text, sign_text, exponent_text, value}
+use Rattle.tinyjson_number.specs.Numeral.{numeral, Exponent, IsNumeral, AreDigits, minus_text, fraction_text, sign_text, exponent_text, value, is_sign, is_exponent_letter}
 use Rattle.tinyjson_grammar.specs.Syntax.{Syntax, null, text, depth, Piece, unit, ArePieces, piece_codes, pieces_text}
-use Rattle.tinyjson_grammar.specs.Prefix.{IsFaultless, IsValue}
+use Rattle.tinyjson_grammar.specs.Prefix.{IsFaultless, IsValue, IsLooselyViable}
 use Rattle.tinyjson_grammar.specs.Machine.{Within}
 use Rattle.tinyjson_grammar.specs.Machine
-use Rattle.tinyjson_grammar.specs.Prefix.{IsLooselyViable}
 use Rattle.tinyjson_grammar.specs.Refusal.{IsPromptly, AreLate, is_late, IsHex}
-use Rattle.tinyjson_number.specs.Numeral.{is_sign}
-use Rattle.tinyjson_number.specs.Numeral.{is_exponent_letter}
 use Rattle.tinyjson_grammar.proofs.Trace.Paths.{Path, outside, item_in, key_in, value_in, path_text, IsPath}
 use Rattle.tinyjson_grammar.proofs.Prefix.Faultless.{faultless, faultless_from, placed, IsPlaced}
-use Rattle.tinyjson_grammar.proofs.Trace.State.{Part, part_minus, part_whole, part_point, part_fraction, part_letter, part_sign, part_exponent, exponent_with, part_text, IsPart, IsWholePart, Ranges, Quad, quads, IsSettled, within_text, IsPartWithin, Read, at_first, at_awaited, in_word, in_digits, in_quoted, at_after, read_text, IsRead, IsKeyed, flat_within, Ending, ends_loosely, white_loosely, are_pieces_append, pieces_append}
+use Rattle.tinyjson_grammar.proofs.Trace.State.{Part, part_minus, part_whole, part_point, part_fraction, part_letter, part_sign, part_exponent, exponent_with, part_text, IsPart, IsWholePart, Ranges, Quad, quads, IsSettled, within_text, IsPartWithin, Read, at_first, at_awaited, in_literal, in_digits, in_quoted, at_after, read_text, IsRead, IsKeyed, flat_within, Ending, ends_loosely, white_loosely, are_pieces_append, pieces_append}
 
 pub part_ending : (n : Part) → IsPart n → Ending (part_text n)
 part_ending part_minus h =
@@ -63,7 +60,7 @@ quoted_ending ps qs wi h i j =
 pub read_viable : (limit : Option ℕ) (x : Read) → IsRead limit x → IsLooselyViable limit (read_text x)
 read_viable limit (at_first p) h = subst (IsLooselyViable limit) (append-nil (path_text p)) (ends_loosely limit p h.0 [] (record { value = null; spelled = tt; flat = refl; rest = 110 ∷ 117 ∷ 108 ∷ 108 ∷ []; whole = refl }))
 read_viable limit (at_awaited p) h = subst (IsLooselyViable limit) (append-nil (path_text p)) (ends_loosely limit p h [] (record { value = null; spelled = tt; flat = refl; rest = 110 ∷ 117 ∷ 108 ∷ 108 ∷ []; whole = refl }))
-read_viable limit (in_word p s done left) h = ends_loosely limit p h.0 done (record { value = s; spelled = h.1.value.spelled; flat = h.1.flat; rest = left; whole = h.1.whole })
+read_viable limit (in_literal p s done left) h = ends_loosely limit p h.0 done (record { value = s; spelled = h.1.value.spelled; flat = h.1.flat; rest = left; whole = h.1.whole })
 read_viable limit (in_digits p n) h = ends_loosely limit p h.0 (part_text n) (part_ending n h.1)
 read_viable limit (in_quoted p ps cs qs wi) h = ends_loosely limit p h.0 _ (quoted_ending ps qs wi h.1 h.3 h.4)
 read_viable limit (at_after p s v) h = white_loosely limit p h.0 s h.1.spelled h.3 v h.4
@@ -206,7 +203,7 @@ at_once limit xs h = record { front = xs; late = []; whole = sym (append-nil xs)
 pub read_prompt : Ranges → (limit : Option ℕ) (x : Read) → IsRead limit x → IsPromptly limit (read_text x) []
 read_prompt ranges limit (at_first p) h = at_once limit _ (faultless_place limit p h.0)
 read_prompt ranges limit (at_awaited p) h = at_once limit _ (faultless_place limit p h)
-read_prompt ranges limit (in_word p s done left) h = at_once limit (path_text p ++ done) (faultless_value limit p h.0 s h.1.value h.1.flat done left h.1.whole)
+read_prompt ranges limit (in_literal p s done left) h = at_once limit (path_text p ++ done) (faultless_value limit p h.0 s h.1.value h.1.flat done left h.1.whole)
 read_prompt ranges limit (in_digits p n) h = part_prompt ranges limit p h.0 n h.1
 read_prompt ranges limit (in_quoted p ps cs qs wi) h =
     subst (λ xs. IsPromptly limit (path_text p ++ 34 ∷ (pieces_text ps ++ (pieces_text (quads qs) ++ xs))) []) (append-nil (within_text wi))

@@ -1,36 +1,26 @@
 -- What comes of each character, of the end, and of the whole.
-use Rattle.std.proofs.Common.{◌≡◌, ℕ, ◌<◌, Bool, true, false, List, [], ◌∷◌, ◌++◌, Option, refl, ap, sym, ◌∙◌, cond, append_assoc, append-nil, arith, length, subst, IsTrue, ◌==◌, not}
+use Rattle.std.proofs.Common.{◌≡◌, ℕ, ◌<◌, Bool, true, false, List, [], ◌∷◌, ◌++◌, Option, refl, ap, sym, ◌∙◌, cond, append_assoc, append-nil, arith, length, subst, IsTrue, ◌==◌, not, length-append, inl, inr}
 use Rattle.std.proofs.Math.Seq.{take-append_seam, get_or-append_seam}
 use Rattle.std.specs.Char.{IsScalar}
 use Rattle.std.proofs.lemmas.Bool.{eqb-false, not-true, not-false}
-use Rattle.tinyjson_grammar.specs.Machine.{strictly}
+use Rattle.tinyjson_grammar.specs.Machine.{strictly, Next, stop, complete, step_literal, step, end, end_digits, end_plain, Outcome, accepted, refused, finish, Within, run, literal, digits, Frame, Phase}
 use Rattle.tinyjson_grammar.specs.Tree.{Tree, no_members}
 use Rattle.tinyjson_grammar.specs.Tree as tree
 use Rattle.tinyjson_grammar.specs.Syntax.{Syntax, text, tree_of}
 use Rattle.tinyjson_number.specs.Numeral.{has_leading_zero, value, in_range}
 use Rattle.tinyjson_grammar.specs.Grammar.{IsText}
 use Rattle.tinyjson_grammar.specs.declared.error.JsonParseErrorKind.TheVariants.{UnexpectedEof, UnexpectedInLiteral}
-use Rattle.tinyjson_grammar.specs.Machine.{Next, stop, complete, step_word, step, end, end_digits, end_plain, Outcome, accepted, refused, finish}
-use Rattle.std.proofs.Common.{length-append}
-use Rattle.tinyjson_grammar.proofs.Trace.Paths.{Path, outside, item_in, key_in, value_in, path_text, path_frames, IsPath, within_le}
-use Rattle.tinyjson_grammar.proofs.Trace.State.{Part, part_point, part_fraction, part_letter, part_sign, part_exponent, part_text, part_stage, part_numeral, IsPart, Ranges, Read, at_first, at_awaited, in_word, in_digits, in_quoted, at_after, part_minus, part_whole, read_text, read_frames, read_phase, IsRead, IsWord, flat_within}
+use Rattle.tinyjson_grammar.proofs.Trace.Paths.{Path, outside, item_in, key_in, value_in, path_text, path_frames, IsPath, within_le, members_from}
+use Rattle.tinyjson_grammar.proofs.Trace.State.{Part, part_point, part_fraction, part_letter, part_sign, part_exponent, part_text, part_stage, part_numeral, IsPart, Ranges, Read, at_first, at_awaited, in_literal, in_digits, in_quoted, at_after, part_minus, part_whole, read_text, read_frames, read_phase, IsRead, IsWithinLiteral, flat_within, quads, within_text, IsPartWithin}
 use Rattle.tinyjson_grammar.proofs.Prefix.Viable.{faultless_value, read_viable, read_prompt}
-use Rattle.tinyjson_grammar.proofs.Step.Statement.{Follows, at_code, key_says}
+use Rattle.tinyjson_grammar.proofs.Step.Statement.{Follows, at_code, key_says, NoQuoteFrom, Denies}
 use Rattle.tinyjson_grammar.proofs.Step.Awaits.{begins_at, awaits_value}
-use Rattle.tinyjson_grammar.proofs.Step.Value.{complete_follows, after_follows}
-use Rattle.std.proofs.Common.{inl, inr}
-use Rattle.tinyjson_grammar.proofs.Step.Statement.{NoQuoteFrom, Denies}
+use Rattle.tinyjson_grammar.proofs.Step.Value.{complete_follows, after_follows, no_text, quote_after, closed_array, closed_object, taken_key}
 use Rattle.std.specs.Prelude.{⊤}
 use Rattle.tinyjson_grammar.specs.Refusal.{KindSays, IsLiteral, NeedsMore, BeginsEscape}
 use Rattle.tinyjson_grammar.specs.Prefix.{IsFaultless}
-use Rattle.tinyjson_grammar.specs.Machine.{Within}
 use Rattle.tinyjson_grammar.specs.Machine
-use Rattle.tinyjson_grammar.specs.Machine.{run, word, digits, Frame, Phase}
 use Rattle.tinyjson_grammar.proofs.Prefix.Unviable.{key_unviable}
-use Rattle.tinyjson_grammar.proofs.Step.Value.{no_text, quote_after, after_follows, closed_array, closed_object, taken_key}
-use Rattle.tinyjson_grammar.proofs.Trace.State.{quads, within_text, IsPartWithin}
-use Rattle.tinyjson_grammar.proofs.Trace.Paths.{members_from}
-use Rattle.tinyjson_grammar.specs.Tree.{no_members}
 use Rattle.tinyjson_grammar.proofs.Step.Number.{digits_follows, minus_says, zero_says, point_says, letter_says, sign_says, range_says, IsDone, done_value, whole_done, fraction_done, exponent_done}
 use Rattle.tinyjson_grammar.proofs.Step.String.{quoted_follows, in_string}
 use Rattle.tinyjson_grammar.proofs.Step.First.{at_first_follows, awaited_follows}
@@ -52,21 +42,21 @@ literal_no_quotes l (inl e) = rw e (refl, (refl, (refl, (refl, tt))))
 literal_no_quotes l (inr (inl e)) = rw e (refl, (refl, (refl, (refl, tt))))
 literal_no_quotes l (inr (inr e)) = rw e (refl, (refl, (refl, (refl, (refl, tt)))))
 
-word_no_quote : (s : Syntax) (done : List ℕ) (l : ℕ) (left : List ℕ) → IsWord s done (l ∷ left) → (34 == l) ≡ false
-word_no_quote s done l left h = no_quotes_after done l left (subst NoQuotes h.whole (literal_no_quotes (text s) h.literal))
+literal_no_quote : (s : Syntax) (done : List ℕ) (l : ℕ) (left : List ℕ) → IsWithinLiteral s done (l ∷ left) → (34 == l) ≡ false
+literal_no_quote s done l left h = no_quotes_after done l left (subst NoQuotes h.whole (literal_no_quotes (text s) h.is_literal))
 
-quote_word : (limit : Option ℕ) (fs : List Frame) (l : ℕ) (ls : List ℕ) (t : Tree) → (34 == l) ≡ false → NoQuoteFrom limit fs (word (l ∷ ls) t)
+quote_literal : (limit : Option ℕ) (fs : List Frame) (l : ℕ) (ls : List ℕ) (t : Tree) → (34 == l) ≡ false → NoQuoteFrom limit fs (literal (l ∷ ls) t)
 unfolding run step
-quote_word limit fs l [] t h ys u e = no_text _ _ u (rw h at e)
-quote_word limit fs l (m ∷ ls) t h ys u e = no_text _ _ u (rw h at e)
+quote_literal limit fs l [] t h ys u e = no_text _ _ u (rw h at e)
+quote_literal limit fs l (m ∷ ls) t h ys u e = no_text _ _ u (rw h at e)
 
-word_says : (limit : Option ℕ) (p : Path) → IsPath limit p → (s : Syntax) (done : List ℕ) (l : ℕ) (left : List ℕ) → IsWord s done (l ∷ left) → (c : ℕ) → (c == l) ≡ false →
-    Follows limit (path_text p ++ done) (path_frames p) (word (l ∷ left) (tree_of s)) c (stop (UnexpectedInLiteral c) true)
-word_says limit p hp s done l left h c hc more d x = (
+literal_says : (limit : Option ℕ) (p : Path) → IsPath limit p → (s : Syntax) (done : List ℕ) (l : ℕ) (left : List ℕ) → IsWithinLiteral s done (l ∷ left) → (c : ℕ) → (c == l) ≡ false →
+    Follows limit (path_text p ++ done) (path_frames p) (literal (l ∷ left) (tree_of s)) c (stop (UnexpectedInLiteral c) true)
+literal_says limit p hp s done l left h c hc more d x = (
   (
     text s,
     length done,
-    h.literal,
+    h.is_literal,
     h.begun,
     rw h.whole (shorter_front done l left),
     begins_at limit p hp _ _ (rw h.whole (rw (take-append_seam done (l ∷ left)) (append_assoc (path_text p) done (c ∷ [])))),
@@ -77,34 +67,34 @@ word_says limit p hp s done l left h c hc more d x = (
       front = path_text p ++ done;
       ends = refl;
       faultless = faultless_value limit p hp s h.value h.flat done (l ∷ left) h.whole;
-      no_string = d.no_quote (quote_word limit (path_frames p) l left (tree_of s) (word_no_quote s done l left h));
+      no_string = d.no_quote (quote_literal limit (path_frames p) l left (tree_of s) (literal_no_quote s done l left h));
     },
     x.loosely refl,
   ),
 )
 
-word_follows : (limit : Option ℕ) (p : Path) → IsPath limit p → (s : Syntax) (done left : List ℕ) → IsWord s done left → (c : ℕ) → Follows limit (path_text p ++ done) (path_frames p) (word left (tree_of s)) c (step_word (strictly limit) (path_frames p) left (tree_of s) c)
-word_follows limit p hp s done [] h c = absurd (omega (arith, h.more))
-word_follows limit p hp s done (l ∷ []) h c =
+literal_follows : (limit : Option ℕ) (p : Path) → IsPath limit p → (s : Syntax) (done left : List ℕ) → IsWithinLiteral s done left → (c : ℕ) → Follows limit (path_text p ++ done) (path_frames p) (literal left (tree_of s)) c (step_literal (strictly limit) (path_frames p) left (tree_of s) c)
+literal_follows limit p hp s done [] h c = absurd (omega (arith, h.more))
+literal_follows limit p hp s done (l ∷ []) h c =
     at_code limit _ _ _ c l _ _ (λ e. complete_follows limit p hp s h.value (flat_within limit p s hp h.flat) h.no_number _ _ _ c (append_assoc (path_text p) done (c ∷ []) ∙ ap (λ xs. path_text p ++ xs) (ap (λ x. done ++ x ∷ []) e ∙ sym h.whole)))
-    (λ e. word_says limit p hp s done l [] h c e)
-word_follows limit p hp s done (l ∷ m ∷ ls) h c =
+    (λ e. literal_says limit p hp s done l [] h c e)
+literal_follows limit p hp s done (l ∷ m ∷ ls) h c =
     at_code limit _ _ _ c l _ _
     (λ e. record {
-      read = in_word p s (done ++ l ∷ []) (m ∷ ls);
-      is = (hp, record { value = h.value; flat = h.flat; literal = h.literal; whole = h.whole ∙ sym (append_assoc done (l ∷ []) (m ∷ ls)); no_number = h.no_number; begun = rw (length-append done (l ∷ [])) (omega arith); more = omega arith });
+      read = in_literal p s (done ++ l ∷ []) (m ∷ ls);
+      is = (hp, record { value = h.value; flat = h.flat; is_literal = h.is_literal; whole = h.whole ∙ sym (append_assoc done (l ∷ []) (m ∷ ls)); no_number = h.no_number; begun = rw (length-append done (l ∷ [])) (omega arith); more = omega arith });
       whole = append_assoc (path_text p) done (c ∷ []) ∙ ap (λ x. path_text p ++ (done ++ x ∷ [])) e;
       frames = refl;
       phase = refl;
     })
-    (λ e. word_says limit p hp s done l (m ∷ ls) h c e)
+    (λ e. literal_says limit p hp s done l (m ∷ ls) h c e)
 
 -- each character is followed
 pub step_follows : Ranges → (limit : Option ℕ) (x : Read) → IsRead limit x → (c : ℕ) → IsScalar c → Follows limit (read_text x) (read_frames x) (read_phase x) c (step (strictly limit) (read_frames x) (read_phase x) c)
 unfolding step
 step_follows ranges limit (at_first p) h c hc = at_first_follows limit p h.0 h.1 c
 step_follows ranges limit (at_awaited p) h c hc = awaited_follows limit p h c
-step_follows ranges limit (in_word p s done left) h c hc = word_follows limit p h.0 s done left h.1 c
+step_follows ranges limit (in_literal p s done left) h c hc = literal_follows limit p h.0 s done left h.1 c
 step_follows ranges limit (in_digits p n) h c hc = digits_follows ranges limit p h.0 n h.1 c
 step_follows ranges limit (in_quoted p ps cs qs wi) h c hc = quoted_follows limit p ps cs qs (record { path = h.0; pieces = h.1; settled = h.2; run = h.3 }) wi h.4 c hc
 step_follows ranges limit (at_after (outside w) s v) h c hc = after_follows limit (outside w) s v h _ _ (quote_after limit (outside w) s) c
@@ -129,15 +119,15 @@ begins_escape Machine.plain h = inl refl
 begins_escape Machine.backslash h = inr (inl refl)
 begins_escape (Machine.hex ds) h = inr (inr (ds, h.1, h.0, refl))
 
-word_needs : (limit : Option ℕ) (p : Path) → IsPath limit p → (s : Syntax) (done left : List ℕ) → IsWord s done left → NeedsMore limit (path_text p ++ done)
-word_needs limit p hp s done [] h = absurd (omega (arith, h.more))
-word_needs limit p hp s done (l ∷ left) h =
-    inr (inr (inl (text s, length done, h.literal, h.begun, rw h.whole (shorter_front done l left), begins_at limit p hp _ _ (rw h.whole (rw (take-append_seam done (l ∷ left)) refl)))))
+literal_needs : (limit : Option ℕ) (p : Path) → IsPath limit p → (s : Syntax) (done left : List ℕ) → IsWithinLiteral s done left → NeedsMore limit (path_text p ++ done)
+literal_needs limit p hp s done [] h = absurd (omega (arith, h.more))
+literal_needs limit p hp s done (l ∷ left) h =
+    inr (inr (inl (text s, length done, h.is_literal, h.begun, rw h.whole (shorter_front done l left), begins_at limit p hp _ _ (rw h.whole (rw (take-append_seam done (l ∷ left)) refl)))))
 
 needs : (limit : Option ℕ) (x : Read) → IsRead limit x → Short x → NeedsMore limit (read_text x)
 needs limit (at_first p) h i = inl (awaits_value limit p h.0)
 needs limit (at_awaited p) h i = inl (awaits_value limit p h)
-needs limit (in_word p s done left) h i = word_needs limit p h.0 s done left h.1
+needs limit (in_literal p s done left) h i = literal_needs limit p h.0 s done left h.1
 needs limit (in_digits p n) h i = elim i [ ]
 needs limit (in_quoted p ps cs qs wi) h i = inr (inl (quads qs, within_text wi, begins_escape wi h.4, in_string limit p ps cs qs (record { path = h.0; pieces = h.1; settled = h.2; run = h.3 }) _ _ refl))
 needs limit (at_after (outside w) s v) h i = elim i [ ]
@@ -208,7 +198,7 @@ pub end_follows : Ranges → (limit : Option ℕ) (x : Read) → IsRead limit x 
 unfolding end
 end_follows ranges limit (at_first p) h = (refl, (λ x. eof ranges limit (at_first p) h tt))
 end_follows ranges limit (at_awaited p) h = (refl, (λ x. eof ranges limit (at_awaited p) h tt))
-end_follows ranges limit (in_word p s done left) h = (refl, (λ x. eof ranges limit (in_word p s done left) h tt))
+end_follows ranges limit (in_literal p s done left) h = (refl, (λ x. eof ranges limit (in_literal p s done left) h tt))
 end_follows ranges limit (in_digits p n) h = digits_end ranges limit p h.0 n h.1
 end_follows ranges limit (in_quoted p ps cs qs wi) h = (refl, (λ x. eof ranges limit (in_quoted p ps cs qs wi) h tt))
 end_follows ranges limit (at_after (outside w) s v) h = ends_text limit w s v h

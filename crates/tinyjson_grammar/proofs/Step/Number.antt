@@ -2,28 +2,20 @@
 use Rattle.std.proofs.Common.{◌≡◌, ℕ, Bool, true, false, List, [], ◌∷◌, ◌++◌, Option, Some, None, refl, ap, sym, ◌∙◌, cond, append_assoc, append-nil, arith, subst, inl, inr, IsTrue, ◌||◌, ◌==◌, not}
 use Rattle.std.specs.Char.{is_ascii_digit}
 use Rattle.std.proofs.lemmas.Bool.{eqb-true, not-true, not-false, or_from}
-use Rattle.tinyjson_grammar.specs.Machine.{strictly}
+use Rattle.tinyjson_grammar.specs.Machine.{strictly, Frame, digits, Next, complete, step_digits, finish, then_step, unless_ended, run, step, go_on, accepted, Phase}
 use Rattle.tinyjson_grammar.specs.Tree.{Tree, no_members}
 use Rattle.tinyjson_grammar.specs.Tree as tree
 use Rattle.tinyjson_grammar.specs.Syntax.{Syntax, text}
-use Rattle.tinyjson_number.specs.Numeral.{numeral, Numeral, IsNumeral, AreDigits, has_leading_zero, minus_text, spelling, value, in_range}
+use Rattle.tinyjson_number.specs.Numeral.{numeral, Numeral, IsNumeral, AreDigits, has_leading_zero, minus_text, spelling, value, in_range, is_sign, is_exponent_letter}
 use Rattle.tinyjson_grammar.specs.Prefix.{IsValue}
 use Rattle.tinyjson_grammar.specs.declared.error.JsonParseErrorKind.TheVariants.{EmptyInteger, LeadingZero, EmptyFraction, EmptyExponent, NumberOutOfRange}
-use Rattle.tinyjson_grammar.specs.Machine.{Frame, digits, Next, complete, step_digits, finish, then_step, unless_ended}
 use Rattle.tinyjson_grammar.specs.Refusal.{KindSays, BeginsWithNone}
-use Rattle.tinyjson_number.specs.Numeral.{is_sign}
-use Rattle.tinyjson_number.specs.Numeral.{is_exponent_letter}
-use Rattle.tinyjson_grammar.proofs.Trace.Paths.{Path, outside, item_in, key_in, value_in, path_text, path_frames, IsPath}
-use Rattle.tinyjson_grammar.proofs.Trace.State.{Part, part_point, part_fraction, part_letter, part_sign, part_exponent, part_text, part_stage, part_numeral, IsPart, IsWholePart, Ranges, in_digits, part_minus, part_whole, Spells, flat_within, ends_loosely}
+use Rattle.tinyjson_grammar.proofs.Trace.Paths.{Path, outside, item_in, key_in, value_in, path_text, path_frames, IsPath, members_from}
+use Rattle.tinyjson_grammar.proofs.Trace.State.{Part, part_point, part_fraction, part_letter, part_sign, part_exponent, part_text, part_stage, part_numeral, IsPart, IsWholePart, Ranges, in_digits, part_minus, part_whole, Spells, flat_within, ends_loosely, exponent_with}
 use Rattle.tinyjson_grammar.proofs.Prefix.Viable.{part_ending, part_prompt, faultless_minus, faultless_point}
-use Rattle.tinyjson_grammar.proofs.Step.Statement.{Follows, either, key_says}
+use Rattle.tinyjson_grammar.proofs.Step.Statement.{Follows, either, key_says, loosely, NoQuoteFrom, Denies}
 use Rattle.tinyjson_grammar.proofs.Step.Awaits.{begins_at}
 use Rattle.tinyjson_grammar.proofs.Prefix.Unviable.{key_unviable, zero_unviable}
-use Rattle.tinyjson_grammar.proofs.Step.Statement.{loosely, NoQuoteFrom, Denies}
-use Rattle.tinyjson_grammar.specs.Machine.{run, step, go_on, accepted, Phase}
-use Rattle.tinyjson_grammar.proofs.Trace.State.{exponent_with}
-use Rattle.tinyjson_grammar.proofs.Trace.Paths.{members_from}
-use Rattle.tinyjson_grammar.specs.Tree.{Tree, no_members}
 use Rattle.tinyjson_grammar.proofs.Step.Value.{no_text, after_follows}
 use Rattle.tinyjson_number.proofs.Callers.{digits_append}
 

@@ -1,17 +1,15 @@
 -- What one step must establish: what comes of a character.
 use Rattle.std.proofs.Common.{suc, ◌≡◌, ℕ, ◌+◌, Bool, true, false, List, [], ◌∷◌, ◌++◌, Option, refl, ap, sym, ◌∙◌, cond, append_assoc, append-nil, subst, ◌⊎◌, inl, inr, ◌==◌}
 use Rattle.std.proofs.lemmas.Bool.{eqb-true}
-use Rattle.tinyjson_grammar.specs.Machine.{strictly}
+use Rattle.tinyjson_grammar.specs.Machine.{strictly, Frame, Phase, Rules, Next, next, stop, run, accepted}
 use Rattle.tinyjson_grammar.specs.Kind.{kind_of}
 use Rattle.tinyjson_grammar.specs.Syntax.{Syntax, text, is_key, depth, IsWithin, tree_of}
-use Rattle.tinyjson_grammar.specs.Prefix.{IsValue, Pair, pairs_before, pair_text}
+use Rattle.tinyjson_grammar.specs.Prefix.{IsValue, Pair, pairs_before, pair_text, IsViable, IsLooselyViable}
 use Rattle.tinyjson_grammar.specs.Tree.{Tree}
-use Rattle.tinyjson_grammar.specs.Machine.{Frame, Phase, Rules, Next, next, stop, run, accepted}
 use Rattle.tinyjson_grammar.specs.declared.error.JsonParseErrorKind.{JsonParseErrorKind}
 use Rattle.tinyjson_grammar.specs.declared.error.JsonParseErrorKind.TheVariants.{KeyNotString}
 use Rattle.tinyjson_grammar.specs.Refusal.{KindSays, AwaitsValue, EndsBefore}
 use Rattle.tinyjson_grammar.specs.Grammar.{IsAccepted}
-use Rattle.tinyjson_grammar.specs.Prefix.{IsViable, IsLooselyViable}
 use Rattle.tinyjson_grammar.proofs.Trace.Paths.{Path, key_in, path_text, level, IsPath, closes, closing}
 use Rattle.tinyjson_grammar.proofs.Prefix.Faultless.{faultless}
 use Rattle.tinyjson_grammar.proofs.Prefix.Loose.{is_own}

@@ -1,13 +1,12 @@
 -- What comes of a character of a string.
-use Rattle.std.proofs.Common.{◌≡◌, ℕ, ◌<◌, true, false, List, [], ◌∷◌, ◌++◌, Option, Some, None, refl, ap, sym, ◌∙◌, append_assoc, append-nil, arith, length, nat_lt, subst, inl, inr, IsTrue, ◌==◌, not}
+use Rattle.std.proofs.Common.{◌≡◌, ℕ, ◌<◌, true, false, List, [], ◌∷◌, ◌++◌, Option, Some, None, refl, ap, sym, ◌∙◌, append_assoc, append-nil, arith, length, nat_lt, subst, inl, inr, IsTrue, ◌==◌, not, length-append}
 use Rattle.std.specs.Char.{IsScalar}
 use Rattle.std.proofs.lemmas.Bool.{not-true, not-false, eqb-false, ltb-true, ltb-false}
-use Rattle.tinyjson_grammar.specs.Machine.{strictly}
+use Rattle.tinyjson_grammar.specs.Machine.{strictly, Frame, Phase, digits, quoted, after, Within, Next, next, stop, complete, step_quoted, step_escape, flush}
 use Rattle.tinyjson_grammar.specs.Tree as tree
-use Rattle.tinyjson_grammar.specs.Characters.{is_hex, unit_of, decode, paired, short_escape}
+use Rattle.tinyjson_grammar.specs.Characters.{is_hex, unit_of, decode, paired, short_escape, is_surrogate}
 use Rattle.tinyjson_grammar.specs.Syntax.{Syntax, Piece, unit, IsPiece, ArePieces, code, piece_text, pieces_text}
 use Rattle.tinyjson_grammar.specs.declared.error.JsonParseErrorKind.TheVariants.{InvalidUtf16, InvalidHexDigit}
-use Rattle.tinyjson_grammar.specs.Machine.{Frame, Phase, digits, quoted, after, Within, Next, next, stop, complete, step_quoted, step_escape, flush}
 use Rattle.tinyjson_grammar.specs.Machine
 use Rattle.tinyjson_grammar.specs.Refusal.{IsHex, AreUnits, EndsRun}
 use Rattle.tinyjson_grammar.specs.Refusal as refusal
@@ -19,9 +18,7 @@ use Rattle.tinyjson_grammar.proofs.Step.Awaits.{begins_at}
 use Rattle.tinyjson_grammar.proofs.Step.Value.{complete_follows}
 use Rattle.tinyjson_grammar.proofs.Step.Units.{codes_quads, settle_more, settle_end, settle_paired}
 use Rattle.tinyjson_grammar.proofs.Accepts.String.{scalar_no_surrogate, escape_no_surrogate}
-use Rattle.tinyjson_grammar.specs.Characters.{is_surrogate}
 use Rattle.std.specs.Prelude.{unwrap_or}
-use Rattle.std.proofs.Common.{length-append}
 
 -- the state of a string, and what it rests on
 pub record InString (limit : Option ℕ) (p : Path) (ps : List Piece) (cs : List ℕ) (qs : List Quad) : Type 0 where

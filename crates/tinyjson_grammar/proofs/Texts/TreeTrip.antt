@@ -83,7 +83,7 @@ spell_string width cs h =
       text = ap (λ z. 34 ∷ (z ++ 34 ∷ [])) s.text;
     }
 
--- ---- the texts of items and members behind the first
+-- ---- the texts of items and members after the first
 
 item_assoc : (v u t is w : List ℕ) → v ++ (u ++ ([] ++ 44 ∷ (v ++ (t ++ (is ++ w))))) ≡ v ++ (u ++ (((44 ∷ v) ++ (t ++ is)) ++ w))
 item_assoc v u t is w = simp append_assoc
@@ -98,7 +98,7 @@ closing_assoc : (v t is w : List ℕ) (b : ℕ) → (v ++ (t ++ (is ++ w))) ++ b
 closing_assoc v t is w b = simp append_assoc
 
 module _ (width : Width) (w : Option (List ℕ)) (i : IsWhiteIndent w) where
-  -- from the white before the first to the white behind the last
+  -- from the white before the first to the white after the last
   abbrev inside_items : ℕ → tree.Tree → tree.Items → List ℕ
   inside_items k t ts = newline w (k + 1) ++ (written.text w (k + 1) t ++ (items_text w (k + 1) false ts ++ newline w k))
 

@@ -1,20 +1,16 @@
 -- What was read, in each state of the machine.
 use Rattle.std.proofs.Common.{◌≡◌, ℕ, ◌+◌, ◌<◌, ◌≤◌, Bool, true, false, List, [], ◌∷◌, ◌++◌, Option, Some, None, refl, append_assoc, arith, length, subst, IsTrue}
 use Rattle.std.specs.Prelude.{⊤, IfSome}
-use Rattle.tinyjson_grammar.specs.Tree.{key_of}
+use Rattle.tinyjson_grammar.specs.Tree.{key_of, no_members, put}
 use Rattle.tinyjson_grammar.specs.Characters.{unit_of, decode, paired}
-use Rattle.tinyjson_number.specs.Numeral.{numeral, Numeral, Exponent, IsExponent, AreDigits, has_leading_zero, minus_text, fraction_text, sign_text, value, in_range}
+use Rattle.tinyjson_number.specs.Numeral.{numeral, Numeral, Exponent, IsExponent, AreDigits, has_leading_zero, minus_text, fraction_text, sign_text, value, in_range, is_sign, is_exponent_letter}
 use Rattle.tinyjson_grammar.specs.Syntax.{Syntax, text, AreWhite, IsSpelled, depth, IsWithin, tree_of, Piece, unit, ArePieces, piece_codes, pieces_text}
 use Rattle.tinyjson_grammar.specs.Grammar.{IsLoose}
-use Rattle.tinyjson_grammar.specs.Prefix.{IsValue}
-use Rattle.tinyjson_grammar.specs.Machine.{Frame, Phase, first, awaited, word, digits, quoted, colon, after, finished, Stage, Within}
+use Rattle.tinyjson_grammar.specs.Prefix.{IsValue, IsLooselyViable}
+use Rattle.tinyjson_grammar.specs.Machine.{Frame, Phase, first, awaited, literal, digits, quoted, colon, after, finished, Stage, Within}
 use Rattle.tinyjson_grammar.specs.Machine
-use Rattle.tinyjson_grammar.specs.Prefix.{IsLooselyViable}
 use Rattle.tinyjson_grammar.specs.Refusal.{IsLiteral, IsHex, EndsBefore}
-use Rattle.tinyjson_number.specs.Numeral.{is_sign}
-use Rattle.tinyjson_number.specs.Numeral.{is_exponent_letter}
 use Rattle.tinyjson_grammar.proofs.Trace.Paths.{IsKey, Path, outside, item_in, key_in, value_in, path_text, path_frames, trees_of, members_from, level, IsPath, within_le, closes, closing}
-use Rattle.tinyjson_grammar.specs.Tree.{no_members, put}
 
 -- ---- the part of a number
 
@@ -109,7 +105,7 @@ IsPartWithin (Machine.hex ds) = IsHex ds × (length ds ≤ 3)
 pub data Read : Type 0 where
   at_first : Path → Read
   at_awaited : Path → Read
-  in_word : Path → Syntax → List ℕ → List ℕ → Read
+  in_literal : Path → Syntax → List ℕ → List ℕ → Read
   in_digits : Path → Part → Read
   in_quoted : Path → List Piece → List ℕ → List Quad → Within → Read
   at_after : Path → Syntax → List ℕ → Read
@@ -117,7 +113,7 @@ pub data Read : Type 0 where
 abbrev pub read_text : Read → List ℕ
 read_text (at_first p) = path_text p
 read_text (at_awaited p) = path_text p
-read_text (in_word p s done left) = path_text p ++ done
+read_text (in_literal p s done left) = path_text p ++ done
 read_text (in_digits p n) = path_text p ++ part_text n
 read_text (in_quoted p ps cs qs wi) = path_text p ++ 34 ∷ (pieces_text ps ++ (pieces_text (quads qs) ++ within_text wi))
 read_text (at_after p s v) = path_text p ++ (text s ++ v)
@@ -137,7 +133,7 @@ after_phase (value_in p ps a k b w) s = after
 abbrev pub read_frames : Read → List Frame
 read_frames (at_first p) = path_frames p
 read_frames (at_awaited p) = path_frames p
-read_frames (in_word p s done left) = path_frames p
+read_frames (in_literal p s done left) = path_frames p
 read_frames (in_digits p n) = path_frames p
 read_frames (in_quoted p ps cs qs wi) = path_frames p
 read_frames (at_after p s v) = after_frames p s
@@ -145,7 +141,7 @@ read_frames (at_after p s v) = after_frames p s
 abbrev pub read_phase : Read → Phase
 read_phase (at_first p) = first
 read_phase (at_awaited p) = awaited
-read_phase (in_word p s done left) = word left (tree_of s)
+read_phase (in_literal p s done left) = literal left (tree_of s)
 read_phase (in_digits p n) = digits (part_stage n) (part_numeral n)
 read_phase (in_quoted p ps cs qs wi) = quoted wi cs (values qs)
 read_phase (at_after p s v) = after_phase p s
@@ -166,10 +162,10 @@ IsKeyed (item_in p es w) s = ⊤
 IsKeyed (key_in p ps w) s = IsKey s
 IsKeyed (value_in p ps a k b w) s = ⊤
 
-pub record IsWord (s : Syntax) (done left : List ℕ) : Type 0 where
+pub record IsWithinLiteral (s : Syntax) (done left : List ℕ) : Type 0 where
   pub value : IsValue s
   pub flat : depth s ≡ 0
-  pub literal : IsLiteral (text s)
+  pub is_literal : IsLiteral (text s)
   pub whole : text s ≡ done ++ left
   pub no_number : (rest : List ℕ) → EndsBefore s rest
   pub begun : 0 < length done
@@ -178,7 +174,7 @@ pub record IsWord (s : Syntax) (done left : List ℕ) : Type 0 where
 abbrev pub IsRead : Option ℕ → Read → Type 0
 IsRead limit (at_first p) = IsPath limit p × IsFresh p
 IsRead limit (at_awaited p) = IsPath limit p
-IsRead limit (in_word p s done left) = IsPath limit p × IsWord s done left
+IsRead limit (in_literal p s done left) = IsPath limit p × IsWithinLiteral s done left
 IsRead limit (in_digits p n) = IsPath limit p × IsPart n
 IsRead limit (in_quoted p ps cs qs wi) = IsPath limit p × ArePieces ps × IsSettled ps cs × ArePieces (quads qs) × IsPartWithin wi
 IsRead limit (at_after p s v) = IsPath limit p × IsValue s × IsKeyed p s × IsWithin limit (level p + depth s) × AreWhite v

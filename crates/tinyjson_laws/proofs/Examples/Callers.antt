@@ -125,7 +125,7 @@ one_compact v w h = sym (callers.chars_compact v) ∙ (ap chars h ∙ callers.ch
 pub three_appended : (old mid late new : Option (List ℕ)) (a b c : List ℕ) → Written old mid a [] → Written mid late b [] → Written late new c [] → Appends old new ((a ++ b) ++ c)
 three_appended old mid late new a b c h k l = callers.Appends-trans old late new (a ++ b) c (callers.Appends_both old mid late a b h k) (callers.Appends_written late new c l)
 
--- nothing behind a text
+-- nothing after a text
 pub nothing_more : (old new : Option (List ℕ)) (a : List ℕ) → Written old new a [] → Appends old new (a ++ [])
 nothing_more old new a h = callers.Appends-trans old new new a [] (callers.Appends_written old new a h) (callers.Appends_nothing new)
 

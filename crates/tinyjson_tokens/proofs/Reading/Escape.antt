@@ -18,8 +18,7 @@ use Rattle.tinyjson_grammar.specs.Position.{advance, origin}
 use Rattle.tinyjson_source.specs.declared.text.TextBytes.{TextBytes}
 use Rattle.tinyjson_grammar.specs.Machine.{step, Frame, Next, next, plain, backslash, hex, quoted}
 use Rattle.tinyjson_tokens.specs.Steps.{onward, IsNext, IsTaken, Same, Comes, Leads, Halts}
-use Rattle.tinyjson_source.proofs.Callers.{All_append, text_sight}
-use Rattle.tinyjson_source.proofs.Callers.{between, next_of, small, step_gives, step_moves}
+use Rattle.tinyjson_source.proofs.Callers.{All_append, text_sight, between, next_of, small, step_gives, step_moves}
 use Rattle.tinyjson_tokens.proofs.Reading.Steps.{Same_refl, Comes_trans, Leads_to, Leads_trans, Halts_trans, end_quoted}
 use Rattle.tinyjson_tokens.proofs.Reading.String.{hexing, hex_next, hex_step, hex_taken, hex_done, backslash_read, u_read, short_read, plain_added, plain_halts}
 
@@ -237,7 +236,7 @@ Leads_escape limit fs cs p q c e same =
       moves = ap (λ t. advance origin (before t q.at)) same ∙ step_moves text utf8 p.at q.at h p.boundary last e.taken one;
     }
 
--- an escape is taken, and the plain characters behind it
+-- an escape is taken, and the plain characters after it
 module _ {E : Type 0} (limit : Option ℕ) (fs : List Frame) (o p q r : TextBytes) (n : Next) (cs ds es : List ℕ) (c to : ℕ) (v : Result (Unit {0}) E)
     (run : TakesRun text_sight is_plain q ds v es r) (l : Leads text_sight limit o n p (next fs (quoted plain cs []))) (e : EscapeAt p.text.now p.at c to) (same : q.text.now ≡ p.text.now) (at : q.at ≡ to) (added : ds ≡ cs ++ c ∷ []) where
   escape_goes : Leads text_sight limit o n q (next fs (quoted plain ds []))

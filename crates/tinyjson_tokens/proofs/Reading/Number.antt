@@ -14,18 +14,12 @@ use Rattle.tinyjson_grammar.specs.Tree.{number}
 use Rattle.tinyjson_grammar.specs.declared.error.JsonParseErrorKind.{JsonParseErrorKind}
 use Rattle.tinyjson_grammar.specs.declared.error.JsonParseErrorKind.TheVariants.{EmptyInteger, LeadingZero, EmptyFraction, EmptyExponent, NumberOutOfRange, OutOfMemory}
 use Rattle.tinyjson_tokens.proofs.Reading.Steps.{Same_refl, Leads_trans, Leads_peek, Leads_shown, Leads_end, Halts_here, Refuses_as, Refuses_memory}
-use Rattle.tinyjson_grammar.proofs.Callers.{digit_not_white}
+use Rattle.tinyjson_grammar.proofs.Callers.{digit_not_white, letter_no_digit, sign_no_digit}
 
 -- ---- characters
 
 pub is_one : (d c : ℕ) → (c == d) ≡ true → c ≡ d
 is_one d c h = grind (arith, nat_tests)
-
-pub letter_no_digit : (c : ℕ) → is_exponent_letter c ≡ true → is_ascii_digit c ≡ false
-letter_no_digit c h = grind (arith, nat_tests)
-
-sign_no_digit : (c : ℕ) → is_sign c ≡ true → is_ascii_digit c ≡ false
-sign_no_digit c h = grind (arith, nat_tests)
 
 digit_low : (c : ℕ) → is_ascii_digit c ≡ true → 48 ≤ c
 digit_low c d = grind (arith, nat_tests)
@@ -256,7 +250,7 @@ module _ (limit : Option ℕ) where
 -- ---- the machine and the cursor
 
 module _ {S : Type 0} (sight : Sight S) where
-  -- what the answer says
+  -- what the result says
   pub was_accepted : (test : ℕ → Bool) (p q : S) (v : Bool) → Accepts sight test p v q → v ≡ true → Accepted sight test p q
   was_accepted test p q true a e = a
   was_accepted test p q false d e = absurd (true≢false (sym e))

@@ -109,7 +109,7 @@ module _ {S : Type 0} (sight : Sight S) (p q : S) where
           (no_letter limit fs (numeral b ds f None) x.0 x.2 x.3);
     }
 
-    -- behind the letter, with the sign, if there is one
+    -- after the letter, with the sign, if there is one
     module _ (r t : S) (new : List ℕ) (a : Accepted sight is_exponent_letter p q) (w : Bool) (x : Signs sight q w r) where
       letter_leads : (limit : Option ℕ) (fs : List Frame) → Leads sight limit p (next fs (digits fraction (numeral b ds f None))) q (powered fs b ds f a.c None [])
       letter_leads limit fs = Leads_one sight limit p p q a.c (Leads_nil sight limit p (next fs (digits fraction (numeral b ds f None)))) a.takes tt (letter_read limit fs b ds f a.c a.one) tt

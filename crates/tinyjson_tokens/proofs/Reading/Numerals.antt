@@ -9,6 +9,7 @@ use Rattle.std.proofs.lemmas.Bool.Decides.{nat_tests}
 use Rattle.std.proofs.lemmas.List.{take-append-drop, drop-drop, take_at, length-drop, get_or-drop, get_or_append_left}
 use Rattle.std.proofs.lemmas.Option.{slice_get-get_or, slice_get_past}
 use Rattle.std.proofs.lemmas.Str.{IsUtf8-had, byte_from_char, chars-IsAscii, IsAscii-append, IsCharBoundary-after_ascii, length-encode, len_utf8_bounds}
+use Rattle.tinyjson_number.proofs.Callers.{fraction_some, spelling_ascii, spelling_room}
 use Rattle.tinyjson_number.specs.Number.{Canonical}
 use Rattle.tinyjson_number.specs.Numeral.{numeral, Numeral, Exponent, AreDigits, IsNumeral, IsExponent, value, in_range, has_leading_zero, is_exponent_letter, is_sign, minus_text, sign_text, fraction_text, exponent_text, spelling}
 use Rattle.tinyjson_number.specs.declared.parse.ExponentParts.{ExponentParts}
@@ -21,12 +22,12 @@ use Rattle.tinyjson_tokens.specs.declared.number.Mantissa.{Mantissa}
 use Rattle.tinyjson_source.specs.Slice.{before, behind, run_end, NextChar}
 use Rattle.tinyjson_source.specs.Source.{Sight}
 use Rattle.tinyjson_tokens.specs.Steps.{Comes, IsNext, IsTaken, Leads, onward}
-use Rattle.tinyjson_tokens.proofs.Reading.Number.{is_one, are_digits, letter_no_digit, begun, begun_next, begun_digit, begun_whole, pointed, pointed_next, pointed_digit, powered, powered_next, powered_digit, powered_whole, minus_begins, point_read, letter_read, sign_read, no_point, no_letter, digits_come, Leads_rest}
+use Rattle.tinyjson_tokens.proofs.Reading.Number.{is_one, are_digits, begun, begun_next, begun_digit, begun_whole, pointed, pointed_next, pointed_digit, powered, powered_next, powered_digit, powered_whole, minus_begins, point_read, letter_read, sign_read, no_point, no_letter, digits_come, Leads_rest}
 use Rattle.tinyjson_tokens.proofs.Reading.NumberParts.{Leads_number, plain_minus}
 use Rattle.tinyjson_grammar.specs.Tree.{number}
 use Rattle.tinyjson_source.specs.declared.text.TextBytes.{TextBytes}
 use Rattle.tinyjson_source.proofs.Callers.{between, digit_small, next_of, run_passes, run_stops, small, step_gives, step_moves, text_sight}
-use Rattle.tinyjson_grammar.proofs.Callers.{some_none}
+use Rattle.tinyjson_grammar.proofs.Callers.{letter_no_digit, letter_no_point, some_none}
 use Rattle.tinyjson_tokens.proofs.Reading.Steps.{Comes_trans, Same_refl}
 
 -- ---- places in a text
@@ -51,10 +52,6 @@ module _ (text : List ℕ) (from to : ℕ) (e : to ≡ run_end is_ascii_digit te
       (λ h. subst (λ o. IfSome o (λ b. is_ascii_digit b ≡ false)) (sym (slice_get_past text to h)) tt)
       (cases_lt to (length text))
 
-point_spelled : (ds : List ℕ) → 0 < length ds → fraction_text ds ≡ 46 ∷ ds
-point_spelled [] h = absurd (omega arith)
-point_spelled (d ∷ ds) h = refl
-
 pub some_from_test : (b : Bool) (n : ℕ) → b ≡ (n == 0) → b ≡ false → 0 < n
 some_from_test b n e h = grind (arith, nat_tests)
 
@@ -71,7 +68,7 @@ pub fraction_between : (text : List ℕ) (at : ℕ) (ds : List ℕ) (end : ℕ) 
     → FractionAt text at ds end
 fraction_between text at ds end h a l s w x = record {
   digits = a;
-  spelled = shown_first text at 46 h.0 (is_one 46 (get_or text at 0) h.1) ∙ ap (λ bs. 46 ∷ bs) s ∙ ap (λ bs. bs ++ drop end text) (sym (point_spelled ds l));
+  spelled = shown_first text at 46 h.0 (is_one 46 (get_or text at 0) h.1) ∙ ap (λ bs. 46 ∷ bs) s ∙ ap (λ bs. bs ++ drop end text) (sym (fraction_some ds l));
   within = w;
   ends = x;
   no_point = λ e. absurd (empty_none ds l e);
@@ -158,55 +155,6 @@ all_pass : (ds : List ℕ) → AreDigits ds → AllByRecursion (λ c. is_ascii_d
 all_pass [] a = tt
 all_pass (d ∷ ds) a = (a.0, all_pass ds a.1)
 
-digits_ascii : (ds : List ℕ) → AreDigits ds → IsAscii ds
-digits_ascii ds a = small is_ascii_digit digit_small ds (all_pass ds a)
-
-minus_ascii : (b : Bool) → IsAscii (minus_text b)
-minus_ascii true = search arith
-minus_ascii false = search arith
-
-fraction_ascii : (ds : List ℕ) → AreDigits ds → IsAscii (fraction_text ds)
-fraction_ascii [] a = search arith
-fraction_ascii (d ∷ ds) a = IsAscii-append (46 ∷ []) (d ∷ ds) (search arith) (digits_ascii (d ∷ ds) a)
-
-more_fraction : (ds : List ℕ) → length ds ≤ length (fraction_text ds)
-more_fraction [] = omega arith
-more_fraction (d ∷ ds) = omega arith
-
-letter_small : (c : ℕ) → is_exponent_letter c ≡ true → c < 128
-letter_small c h = grind (arith, nat_tests)
-
-sign_small : (c : ℕ) → is_sign c ≡ true → c < 128
-sign_small c h = grind (arith, nat_tests)
-
-letter_no_point : (c : ℕ) → is_exponent_letter c ≡ true → (c == 46) ≡ false
-letter_no_point c h = grind (arith, nat_tests)
-
-sign_ascii : (s : Option ℕ) → IfSome s (λ c. is_sign c ≡ true) → IsAscii (sign_text s)
-sign_ascii None h = search arith
-sign_ascii (Some c) h = small is_sign sign_small (c ∷ []) (h, tt)
-
-exponent_ascii : (e : Option Exponent) → IfSome e IsExponent → IsAscii (exponent_text e)
-exponent_ascii None h = search arith
-exponent_ascii (Some e) h = IsAscii-append (e.letter ∷ []) (sign_text e.sign ++ e.digits) (small is_exponent_letter letter_small (e.letter ∷ []) (h.letter, tt)) (IsAscii-append (sign_text e.sign) e.digits (sign_ascii e.sign h.sign) (digits_ascii e.digits h.digits))
-
-spelling_ascii : (n : Numeral) → IsNumeral n → IsAscii (spelling n)
-spelling_ascii n x =
-    IsAscii-append (minus_text n.negative) (n.whole ++ (fraction_text n.fraction ++ exponent_text n.exponent)) (minus_ascii n.negative)
-    (IsAscii-append n.whole (fraction_text n.fraction ++ exponent_text n.exponent) (digits_ascii n.whole x.whole)
-    (IsAscii-append (fraction_text n.fraction) (exponent_text n.exponent) (fraction_ascii n.fraction x.fraction) (exponent_ascii n.exponent x.exponent)))
-
--- at least the digits of whole part and fraction
-spelling_length : (n : Numeral) → length n.whole + length n.fraction ≤ length (spelling n)
-spelling_length n =
-    omega (
-      arith,
-      length-append (minus_text n.negative) (n.whole ++ (fraction_text n.fraction ++ exponent_text n.exponent)),
-      length-append n.whole (fraction_text n.fraction ++ exponent_text n.exponent),
-      length-append (fraction_text n.fraction) (exponent_text n.exponent),
-      more_fraction n.fraction,
-    )
-
 high_ends : (n : Numeral) (c : ℕ) → 128 ≤ c → EndsNumber n c
 high_ends n c h =
     let digit : is_ascii_digit c ≡ false = grind (arith, nat_tests) in
@@ -219,10 +167,10 @@ module _ (text : List ℕ) (at : ℕ) (first : at ≤ length text) (n : Numeral)
   numeral_count = omega (arith, ap length x.spelled, length-append (spelling n) (drop end text), length-drop at text, length-drop end text, x.within, first)
 
   pub numeral_some : at < end
-  numeral_some = omega (arith, numeral_count, spelling_length n, x.grammatical.well_formed.some_digit)
+  numeral_some = omega (arith, numeral_count, spelling_room n, x.grammatical.well_formed.some_digit)
 
   numeral_room : length n.whole + length n.fraction ≤ length text
-  numeral_room = omega (arith, numeral_count, x.within, spelling_length n)
+  numeral_room = omega (arith, numeral_count, x.within, spelling_room n)
 
 module _ (text : List ℕ) (utf8 : IsUtf8 text) (at : ℕ) (first : IsCharBoundary text at) (n : Numeral) (end : ℕ) (x : NumeralAt text at n end) where
   abbrev long : ℕ
@@ -309,7 +257,7 @@ module _ (limit : Option ℕ) (fs : List Frame) where
   minus_comes true rest = one_comes (next fs awaited) (begun fs true []) 45 rest tt tt (minus_begins limit fs 45 refl)
   minus_comes false rest = (Same_refl limit (next fs awaited) rest, λ w. w)
 
-  -- the state behind the fraction, or where there is none behind the whole part
+  -- the state after the fraction, or where there is none after the whole part
   abbrev reached : Bool → List ℕ → List ℕ → Next
   reached b ds [] = next fs (digits whole (numeral b ds [] None))
   reached b ds (x ∷ xs) = next fs (digits fraction (numeral b ds (x ∷ xs) None))
@@ -330,7 +278,7 @@ module _ (limit : Option ℕ) (fs : List Frame) where
       (one_comes (next fs (digits whole (numeral b ds [] None))) (pointed fs b ds []) 46 (x ∷ xs ++ rest) tt tt (point_read limit fs b ds 46 z refl))
       (digits_come limit (pointed fs b ds) (pointed_next fs b ds) (pointed_digit limit fs b ds) [] (x ∷ xs) rest (all_pass (x ∷ xs) a))
 
-  -- the state behind the exponent, or where there is none behind the fraction
+  -- the state after the exponent, or where there is none after the fraction
   abbrev arrived : Bool → List ℕ → List ℕ → Option Exponent → Next
   arrived b ds f None = reached b ds f
   arrived b ds f (Some e) = next fs (digits exponent (numeral b ds f (Some e)))

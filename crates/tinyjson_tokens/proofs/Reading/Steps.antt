@@ -4,16 +4,14 @@ use Rattle.std.proofs.lemmas.Bool.{eq-eqb, ne_eqb}
 use Rattle.std.specs.List.{AllByRecursion}
 use Rattle.std.specs.Char.{is_ascii_digit}
 use Rattle.tinyjson_grammar.specs.Kind.{kind_of}
-use Rattle.tinyjson_grammar.specs.Tree.{Tree}
+use Rattle.tinyjson_grammar.specs.Tree.{Tree, is_string, key_of}
 use Rattle.tinyjson_grammar.specs.declared.error.JsonParseErrorKind.{JsonParseErrorKind}
-use Rattle.tinyjson_grammar.specs.declared.error.JsonParseErrorKind.TheVariants.{OutOfMemory}
+use Rattle.tinyjson_grammar.specs.declared.error.JsonParseErrorKind.TheVariants.{OutOfMemory, UnexpectedEof, ExpectedEof, InvalidCharacter, InvalidUtf16, KeyNotString, UnexpectedInLiteral}
 use Rattle.tinyjson_grammar.specs.Position.{advance}
 use Rattle.tinyjson_grammar.specs.Characters.{is_white}
 use Rattle.tinyjson_source.specs.Source.{Sight, Takes, Whites}
-use Rattle.tinyjson_grammar.specs.declared.error.JsonParseErrorKind.TheVariants.{UnexpectedEof, ExpectedEof, InvalidCharacter, InvalidUtf16, KeyNotString, UnexpectedInLiteral}
 use Rattle.tinyjson_grammar.specs.Machine.{strictly, Within, quoted, end, colon, Frame, in_array, at_key, at_value, first, awaited, after, finished, Next, next, stop, refused, complete, step, run, go_on}
-use Rattle.tinyjson_grammar.specs.Tree.{is_string, key_of}
-use Rattle.tinyjson_tokens.specs.Steps.{onward, ending, outcome, IsNext, IsTaken, behind, wanting, Same, Comes, IsLate, IsHeld, Leads, Halts, Refuses, Reads}
+use Rattle.tinyjson_tokens.specs.Steps.{onward, ending, outcome, IsNext, IsTaken, behind, letters_left, Same, Comes, IsLate, IsHeld, Leads, Halts, Refuses, Reads}
 use Rattle.tinyjson_source.proofs.Callers.{Takes_nil}
 use Rattle.tinyjson_grammar.proofs.Callers.{advance_append}
 
@@ -112,37 +110,37 @@ taken_complete (in_array ts ∷ fs) t = tt
 taken_complete (at_key ms ∷ fs) t = taken_if (not (is_string t)) (stop (KeyNotString (kind_of t)) true) (next (at_key ms ∷ fs) (colon (key_of t))) tt tt
 taken_complete (at_value ms k ∷ fs) t = tt
 
-pub taken_wanting : (fs : List Frame) (ls : List ℕ) (t : Tree) → IsTaken (wanting fs ls t)
-taken_wanting fs [] t = taken_complete fs t
-taken_wanting fs (l ∷ ls) t = tt
+pub taken_letters_left : (fs : List Frame) (ls : List ℕ) (t : Tree) → IsTaken (letters_left fs ls t)
+taken_letters_left fs [] t = taken_complete fs t
+taken_letters_left fs (l ∷ ls) t = tt
 
 module _ (limit : Option ℕ) where
-  word_step : (fs : List Frame) (l : ℕ) (ls : List ℕ) (t : Tree) (c : ℕ) → onward limit (wanting fs (l ∷ ls) t) c ≡ cond (c == l) (wanting fs ls t) (stop (UnexpectedInLiteral c) true)
+  literal_step : (fs : List Frame) (l : ℕ) (ls : List ℕ) (t : Tree) (c : ℕ) → onward limit (letters_left fs (l ∷ ls) t) c ≡ cond (c == l) (letters_left fs ls t) (stop (UnexpectedInLiteral c) true)
   unfolding step
-  word_step fs l [] t c = refl
-  word_step fs l (m ∷ ls) t c = refl
+  literal_step fs l [] t c = refl
+  literal_step fs l (m ∷ ls) t c = refl
 
   -- the letters from place i on, at which x stands
   module _ (fs : List Frame) (t : Tree) (xs : List ℕ) (i x : ℕ) (h : i < length xs) (e : x ≡ get_or xs i x) where
     front : drop i xs ≡ x ∷ drop (i + 1) xs
     front = drop-cons xs i x h ∙ ap (λ y. y ∷ drop (suc i) xs) (sym e) ∙ ap (λ j. x ∷ drop j xs) (sym (add-one i))
 
-    pub letter_next : IsNext (wanting fs (drop i xs) t)
-    letter_next = subst (λ ys. IsNext (wanting fs ys t)) (sym front) tt
+    pub letter_next : IsNext (letters_left fs (drop i xs) t)
+    letter_next = subst (λ ys. IsNext (letters_left fs ys t)) (sym front) tt
 
-    letter_step : (c : ℕ) → onward limit (wanting fs (drop i xs) t) c ≡ cond (c == x) (wanting fs (drop (i + 1) xs) t) (stop (UnexpectedInLiteral c) true)
-    letter_step c = ap (λ ys. onward limit (wanting fs ys t) c) front ∙ word_step fs x (drop (i + 1) xs) t c
+    letter_step : (c : ℕ) → onward limit (letters_left fs (drop i xs) t) c ≡ cond (c == x) (letters_left fs (drop (i + 1) xs) t) (stop (UnexpectedInLiteral c) true)
+    letter_step c = ap (λ ys. onward limit (letters_left fs ys t) c) front ∙ literal_step fs x (drop (i + 1) xs) t c
 
     -- it is read; another character is refused; the end comes
-    pub letter_yes : (c : ℕ) → c ≡ x → onward limit (wanting fs (drop i xs) t) c ≡ wanting fs (drop (i + 1) xs) t
-    letter_yes c k = letter_step c ∙ ap (λ b. cond b (wanting fs (drop (i + 1) xs) t) (stop (UnexpectedInLiteral c) true)) (eq-eqb c x k)
+    pub letter_yes : (c : ℕ) → c ≡ x → onward limit (letters_left fs (drop i xs) t) c ≡ letters_left fs (drop (i + 1) xs) t
+    letter_yes c k = letter_step c ∙ ap (λ b. cond b (letters_left fs (drop (i + 1) xs) t) (stop (UnexpectedInLiteral c) true)) (eq-eqb c x k)
 
-    pub letter_no : (c : ℕ) → (c ≡ x → ⊥) → onward limit (wanting fs (drop i xs) t) c ≡ stop (UnexpectedInLiteral c) true
-    letter_no c k = letter_step c ∙ ap (λ b. cond b (wanting fs (drop (i + 1) xs) t) (stop (UnexpectedInLiteral c) true)) (ne_eqb c x k)
+    pub letter_no : (c : ℕ) → (c ≡ x → ⊥) → onward limit (letters_left fs (drop i xs) t) c ≡ stop (UnexpectedInLiteral c) true
+    letter_no c k = letter_step c ∙ ap (λ b. cond b (letters_left fs (drop (i + 1) xs) t) (stop (UnexpectedInLiteral c) true)) (ne_eqb c x k)
 
-    pub letter_end : ending limit (wanting fs (drop i xs) t) ≡ refused UnexpectedEof []
+    pub letter_end : ending limit (letters_left fs (drop i xs) t) ≡ refused UnexpectedEof []
     unfolding end
-    letter_end = ap (λ ys. ending limit (wanting fs ys t)) front
+    letter_end = ap (λ ys. ending limit (letters_left fs ys t)) front
 
 -- ---- the machine and the cursor
 
@@ -186,7 +184,7 @@ module _ {S : Type 0} (sight : Sight S) (limit : Option ℕ) where
     moves = a.moves;
   }
 
-  -- no memory behind the character that ends a run with an unpaired surrogate
+  -- no memory after the character that ends a run with an unpaired surrogate
   pub Halts_late : (p q r : S) {n m : Next} (c : ℕ) → Leads sight limit p n q m → Takes sight q (c ∷ []) r → IsNext m → onward limit m c ≡ stop InvalidUtf16 true → Halts sight limit p n r
   Halts_late p q r {n} {m} c a t h e = Halts_trans p q r a (record {
     taken = c ∷ [];

@@ -52,12 +52,12 @@ fn items_that_come_back(rt: HostRuntime) -> Result<(), Fail> {
 #[test]
 fn values_that_come_back(rt: HostRuntime) -> Result<(), Fail> {
     let alloc = rt.alloc();
-    if let Err(fault) = String::try_from(JsonValue::from(true)) {
-        assert!(rt; *fault.value() == JsonValue::Boolean(true));
-        assert!(rt; JsonValue::from(fault) == JsonValue::Boolean(true));
+    if let Err(error) = String::try_from(JsonValue::from(true)) {
+        assert!(rt; *error.value() == JsonValue::Boolean(true));
+        assert!(rt; JsonValue::from(error) == JsonValue::Boolean(true));
     }
-    if let Err(fault) = bool::try_from(JsonValue::Null) {
-        assert!(rt; fault.value().is_null());
+    if let Err(error) = bool::try_from(JsonValue::Null) {
+        assert!(rt; error.value().is_null());
     }
     Ok(())
 }

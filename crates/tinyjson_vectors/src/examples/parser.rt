@@ -38,21 +38,21 @@ fn kinds_of_texts(rt: HostRuntime) -> Result<(), Fail> {
 #[test]
 fn limits(rt: HostRuntime) -> Result<(), Fail> {
     let alloc = rt.alloc();
-    let refusal = JsonParser::with_depth_limit(alloc, "[[1]]".chars(), 1).parse();
-    assert!(rt; refusal.is_err_and(|error| error.kind() == JsonParseErrorKind::TooDeep('[')));
+    let result = JsonParser::with_depth_limit(alloc, "[[1]]".chars(), 1).parse();
+    assert!(rt; result.is_err_and(|error| error.kind() == JsonParseErrorKind::TooDeep('[')));
     Ok(())
 }
 
 #[test]
 fn limits_on_texts(rt: HostRuntime) -> Result<(), Fail> {
     let alloc = rt.alloc();
-    let refusal = JsonValue::from_str_with_depth_limit(alloc, "[[1]]", 1);
-    assert!(rt; refusal.is_err_and(|error| error.kind() == JsonParseErrorKind::TooDeep('[')));
+    let result = JsonValue::from_str_with_depth_limit(alloc, "[[1]]", 1);
+    assert!(rt; result.is_err_and(|error| error.kind() == JsonParseErrorKind::TooDeep('[')));
     Ok(())
 }
 
 #[test]
-fn texts_behind_refusals(rt: HostRuntime) -> Result<(), Fail> {
+fn texts_after_errors(rt: HostRuntime) -> Result<(), Fail> {
     let alloc = rt.alloc();
     let mut parser = JsonParser::new(alloc, "nul 1".chars());
     assert!(rt; parser.parse().is_err());
@@ -78,7 +78,7 @@ fn texts_of_objects(rt: HostRuntime) -> Result<(), Fail> {
 }
 
 #[test]
-fn refusals(rt: HostRuntime) -> Result<(), Fail> {
+fn errors(rt: HostRuntime) -> Result<(), Fail> {
     let alloc = rt.alloc();
     if let Err(error) = JsonValue::from_str(alloc, "[1 2]") {
         assert!(rt; error.kind() == JsonParseErrorKind::ExpectedCommaOrBracket('2'));
@@ -87,7 +87,7 @@ fn refusals(rt: HostRuntime) -> Result<(), Fail> {
 }
 
 #[test]
-fn words_of_refusals(rt: HostRuntime) -> Result<(), Fail> {
+fn words_of_errors(rt: HostRuntime) -> Result<(), Fail> {
     let alloc = rt.alloc();
     if let Err(error) = JsonValue::from_str(alloc, "{\n\"a\" 1}") {
         let words = error.to_string(alloc)?;
@@ -100,7 +100,7 @@ fn words_of_refusals(rt: HostRuntime) -> Result<(), Fail> {
 }
 
 #[test]
-fn kinds_of_refusals(rt: HostRuntime) -> Result<(), Fail> {
+fn kinds_of_errors(rt: HostRuntime) -> Result<(), Fail> {
     let alloc = rt.alloc();
     if let Err(error) = JsonValue::from_str(alloc, "01") {
         assert!(rt; error.kind() == JsonParseErrorKind::LeadingZero);
@@ -112,7 +112,7 @@ fn kinds_of_refusals(rt: HostRuntime) -> Result<(), Fail> {
 }
 
 #[test]
-fn lines_of_refusals(rt: HostRuntime) -> Result<(), Fail> {
+fn lines_of_errors(rt: HostRuntime) -> Result<(), Fail> {
     let alloc = rt.alloc();
     if let Err(error) = JsonValue::from_str(alloc, "[\n\n]]") {
         assert!(rt; error.line() == 3);
@@ -124,7 +124,7 @@ fn lines_of_refusals(rt: HostRuntime) -> Result<(), Fail> {
 }
 
 #[test]
-fn refusals_of_reading(rt: HostRuntime) -> Result<(), Fail> {
+fn errors_of_reading(rt: HostRuntime) -> Result<(), Fail> {
     let alloc = rt.alloc();
     assert!(rt; read(alloc, "[").is_err_and(|error| error.kind() == ErrorKind::InvalidData));
     Ok(())

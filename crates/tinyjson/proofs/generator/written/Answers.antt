@@ -5,8 +5,7 @@ use Rattle.tinyjson_grammar.specs.Text.{text}
 use Rattle.tinyjson.specs.View.{view}
 use Rattle.tinyjson.proofs.Values.Trees.{view_IsTree}
 use Rattle.tinyjson.proofs.Writing.Scalars.{text_of_scalars, encoded_utf8, encoded_chars}
-use Rattle.tinyjson_output.proofs.Callers.{enc}
-use Rattle.tinyjson_output.proofs.Callers.{written_all}
+use Rattle.tinyjson_output.proofs.Callers.{enc, written_all}
 use Rattle.tinyjson.proofs.generator.written.Goals as goal
 
 pub unreachable-requires : goal.unreachable-requires

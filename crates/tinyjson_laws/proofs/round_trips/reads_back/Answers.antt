@@ -18,4 +18,4 @@ pub returns : goal.returns
 returns c =
     let v = c.args.value.now in
     let e : chars c.as_str.result.now ≡ compact (view v) = search rules in
-    c.kind.ensures ∙ laws.reads_back v None _ (Err c.in-Err.fault) tt e c.in-Err.ensures
+    c.kind.ensures ∙ laws.reads_back v None _ (Err c.in-Err.error) tt e c.in-Err.ensures

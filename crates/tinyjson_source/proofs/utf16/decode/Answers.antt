@@ -1,7 +1,6 @@
 use Rattle.std.proofs.Common.{rules, ◌≡◌, ◌<◌, ◌++◌, ◌∷◌, [], ◌+◌, drop, true, false, IfSome, ap, subst, ◌∙◌}
 use Rattle.std.specs.Prelude.{slice_index}
-use Rattle.tinyjson_grammar.specs.Characters.{text}
-use Rattle.tinyjson_grammar.specs.Characters.{is_high, is_low, decode}
+use Rattle.tinyjson_grammar.specs.Characters.{text, is_high, is_low, decode}
 use Rattle.tinyjson_source.proofs.Units.{low_ends, pair_goes, high_goes, plain_goes, pair_text, high_text, plain_text, not_scalar, scalar_plain}
 use Rattle.tinyjson_source.proofs.utf16.decode.Goals as goal
 use Rattle.tinyjson_source.proofs.utf16.decode.Goals.{in-Some+else-not-is_low+in_ok-push-in-Some, in-None, in-None-2+in-Some-from_u32+in_ok-push-in-None-2}

@@ -1,7 +1,6 @@
 use Rattle.std.proofs.Common.{◌≡◌, ◌++◌, IfSome, true, drop}
 use Rattle.std.specs.Option.{option_to_list}
-use Rattle.tinyjson_grammar.specs.Characters.{text}
-use Rattle.tinyjson_grammar.specs.Characters.{paired, decode, is_high}
+use Rattle.tinyjson_grammar.specs.Characters.{text, paired, decode, is_high}
 use Rattle.tinyjson_source.proofs.utf16.decode.Given as goal
 
 abbrev pub invariant-loop-unit : goal.invariant-loop-unit

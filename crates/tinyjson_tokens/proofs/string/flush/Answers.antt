@@ -1,6 +1,5 @@
 use Rattle.std.proofs.Common.{◌≡◌, ◌∙◌, ◌++◌, true, false, inl, inr, refl, sym, ap}
-use Rattle.tinyjson_grammar.specs.Characters.{paired, decode}
-use Rattle.tinyjson_grammar.specs.Characters.{text}
+use Rattle.tinyjson_grammar.specs.Characters.{paired, decode, text}
 use Rattle.tinyjson_tokens.proofs.string.flush.Goals as goal
 
 pub returns-in-Ok-true : goal.returns-in-Ok-true

@@ -1,8 +1,7 @@
 use Rattle.std.proofs.Common.{◌≡◌, ◌+◌, ◌-◌, arith}
 use Rattle.std.specs.Str.{chars}
 use Rattle.tinyjson_grammar.specs.Text.{repeated}
-use Rattle.tinyjson_output.proofs.Callers.{sent_goes as goes, sent_fails as fails, sent_written_none as written_none}
-use Rattle.tinyjson_output.proofs.Callers.{enc, enc_cons}
+use Rattle.tinyjson_output.proofs.Callers.{sent_goes as goes, sent_fails as fails, sent_written_none as written_none, enc, enc_cons}
 use Rattle.tinyjson.proofs.Writing.Text.{line_here}
 use Rattle.tinyjson.proofs.generator.encode.write_line.Goals as goal
 

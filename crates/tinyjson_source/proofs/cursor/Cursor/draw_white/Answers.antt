@@ -27,7 +27,7 @@ loop-c-preserved g c =
       white = record {
         taken = t.taken ++ x ∷ [];
         pass = AllByRecursion_push (λ d. is_white d ≡ true) t.taken x t.pass (search rules);
-        goes = Goes_drawn g.I.Iterator.next_gives c.args.self.now p t.taken x _ _ _ t.goes i.none i.more c.in-Some.ensures.steps c.moved-line.ensures;
+        goes = Goes_drawn g.I.Iterator.next_gives c.args.self.now p t.taken x _ _ _ t.goes i.none i.more c.in-Some.ensures.steps c.advance-line.ensures;
       };
       line = search rules;
       column = search rules;

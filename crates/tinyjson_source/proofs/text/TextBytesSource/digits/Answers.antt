@@ -1,9 +1,8 @@
 use Rattle.std.proofs.Common.{◌≡◌, ◌+◌, ◌++◌, [], ap, sym, refl, drop, ◌∙◌, arith, rules, string_bytes, length, length-append, subst}
-use Rattle.std.specs.List.{slice_get}
+use Rattle.std.specs.List.{slice_get, prefix_len}
 use Rattle.std.proofs.lemmas.Result.{err_from_is_err_and}
 use Rattle.std.proofs.lemmas.Str.{IsUtf8-had}
 use Rattle.std.specs.Char.{is_ascii_digit}
-use Rattle.std.specs.List.{prefix_len}
 use Rattle.tinyjson_source.specs.Slice.{before, behind, run_end}
 use Rattle.tinyjson_source.proofs.Slices.{between, digit_small, ascii_boundary, ascii_between, ascii_bytes, ascii_ends, stay_moves, step_gives, step_moves}
 use Rattle.tinyjson_source.proofs.text.TextBytesSource.digits.Goals as goal

@@ -12,7 +12,7 @@ pub loop-c-init : goal.loop-c-init
 loop-c-init c = sym (advance_nil 1 0 (omega arith) (omega arith))
 
 pub loop-c-preserved : goal.loop-c-preserved
-loop-c-preserved c = c.moved.ensures ∙ ap (λ p. advance p (c.in-Some.c ∷ [])) c.loop-c.invariant ∙ advance_append origin c.loop-c.yielded (c.in-Some.c ∷ [])
+loop-c-preserved c = c.advance.ensures ∙ ap (λ p. advance p (c.in-Some.c ∷ [])) c.loop-c.invariant ∙ advance_append origin c.loop-c.yielded (c.in-Some.c ∷ [])
 
 pub returns : goal.returns
 returns c =

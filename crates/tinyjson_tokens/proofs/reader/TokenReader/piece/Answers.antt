@@ -1,8 +1,7 @@
 use Rattle.std.proofs.Common.{rules, true, ◌++◌}
 use Rattle.std.proofs.lemmas.Result.{err_from_is_err_and}
 use Rattle.tinyjson_grammar.specs.Tree.{string}
-use Rattle.tinyjson_grammar.specs.Characters.{text}
-use Rattle.tinyjson_grammar.specs.Characters.{decode}
+use Rattle.tinyjson_grammar.specs.Characters.{text, decode}
 use Rattle.tinyjson_grammar.specs.declared.error.JsonParseErrorKind.TheVariants.{UnexpectedEof, ControlCharacter}
 use Rattle.tinyjson_grammar.specs.Machine.{complete}
 use Rattle.tinyjson_tokens.proofs.Reading.Steps.{end_quoted, Leads_nil, Leads_one, Leads_none, Refuses_as, Reads_after, taken_complete}

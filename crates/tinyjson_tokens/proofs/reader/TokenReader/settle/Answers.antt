@@ -1,6 +1,5 @@
 use Rattle.std.proofs.Common.{rules, arith, ◌≡◌, ◌∙◌, ◌++◌, [], Some, true, false, sym, ap}
-use Rattle.tinyjson_grammar.specs.Characters.{paired, decode}
-use Rattle.tinyjson_grammar.specs.Characters.{text}
+use Rattle.tinyjson_grammar.specs.Characters.{paired, decode, text}
 use Rattle.tinyjson_grammar.specs.Machine.{next, quoted, plain}
 use Rattle.tinyjson_scan.specs.Scan.{is_plain}
 use Rattle.tinyjson_grammar.specs.declared.error.JsonParseErrorKind.TheVariants.{InvalidUtf16}

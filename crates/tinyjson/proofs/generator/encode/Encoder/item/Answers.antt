@@ -2,8 +2,7 @@ use Rattle.std.proofs.lemmas.Result.{MatchResult-from_err}
 use Rattle.tinyjson.specs.Indent.{indent_of}
 use Rattle.tinyjson_grammar.specs.Text.{text}
 use Rattle.tinyjson.specs.View.{view}
-use Rattle.tinyjson_output.proofs.Callers.{sent_begins as begins, sent_goes as goes, sent_stops as stops}
-use Rattle.tinyjson_output.proofs.Callers.{enc}
+use Rattle.tinyjson_output.proofs.Callers.{sent_begins as begins, sent_goes as goes, sent_stops as stops, enc}
 use Rattle.tinyjson.proofs.Writing.Pending.{begins_behind}
 use Rattle.tinyjson.proofs.generator.encode.Encoder.item.Goals as goal
 

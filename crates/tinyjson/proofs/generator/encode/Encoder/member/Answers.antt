@@ -4,8 +4,7 @@ use Rattle.std.proofs.lemmas.Result.{MatchResult-from_err}
 use Rattle.tinyjson.specs.Indent.{indent_of}
 use Rattle.tinyjson_grammar.specs.Text.{text, quoted, before, after_colon}
 use Rattle.tinyjson.specs.View.{view}
-use Rattle.tinyjson_output.proofs.Callers.{sent_goes as goes, sent_waits_part as waits_part, sent_stops as stops, sent_written_none as written_none}
-use Rattle.tinyjson_output.proofs.Callers.{enc, three}
+use Rattle.tinyjson_output.proofs.Callers.{sent_goes as goes, sent_waits_part as waits_part, sent_stops as stops, sent_written_none as written_none, enc, three}
 use Rattle.tinyjson.proofs.Writing.Pending.{begins_behind, compact_member, is_compact}
 use Rattle.tinyjson.proofs.generator.encode.Encoder.member.Goals as goal
 

@@ -4,8 +4,7 @@ use Rattle.tinyjson.specs.Indent.{indent_of}
 use Rattle.tinyjson.specs.private.Pending.{IsStack, frames}
 use Rattle.tinyjson_grammar.specs.Text.{newline}
 use Rattle.tinyjson.specs.declared.generator.pending.Frame.TheVariants.{Members}
-use Rattle.tinyjson_output.proofs.Callers.{sent_begins as begins, sent_stops as stops, sent_goes as goes}
-use Rattle.tinyjson_output.proofs.Callers.{enc}
+use Rattle.tinyjson_output.proofs.Callers.{sent_begins as begins, sent_stops as stops, sent_goes as goes, enc}
 use Rattle.tinyjson.proofs.Writing.Runs.{members_on}
 use Rattle.tinyjson.proofs.Writing.Pending.{members_next, members_end, advanced_open, closes, stopped_open}
 use Rattle.tinyjson.proofs.generator.encode.Encoder.members.Goals as goal

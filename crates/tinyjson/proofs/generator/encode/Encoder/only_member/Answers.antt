@@ -4,8 +4,7 @@ use Rattle.tinyjson.specs.Indent.{indent_of}
 use Rattle.tinyjson.specs.private.Pending.{frames, owed}
 use Rattle.tinyjson_grammar.specs.Text.{newline}
 use Rattle.tinyjson.specs.declared.generator.pending.Frame.TheVariants.{Member, Members}
-use Rattle.tinyjson_output.proofs.Callers.{sent_stops as stops, sent_goes as goes, sent_written_none as written_none}
-use Rattle.tinyjson_output.proofs.Callers.{enc}
+use Rattle.tinyjson_output.proofs.Callers.{sent_stops as stops, sent_goes as goes, sent_written_none as written_none, enc}
 use Rattle.tinyjson.proofs.Writing.Pending.{member_next, members_end, advanced_open, closes, stopped_open}
 use Rattle.tinyjson.proofs.generator.encode.Encoder.only_member.Goals as goal
 

@@ -1,7 +1,6 @@
 use Rattle.tinyjson_grammar.specs.Text.{newline}
 use Rattle.tinyjson.specs.Indent.{indent_of}
-use Rattle.tinyjson_output.proofs.Callers.{sent_goes as goes, sent_ends as ends, sent_fails as fails, sent_written_none as written_none}
-use Rattle.tinyjson_output.proofs.Callers.{enc}
+use Rattle.tinyjson_output.proofs.Callers.{sent_goes as goes, sent_ends as ends, sent_fails as fails, sent_written_none as written_none, enc}
 use Rattle.tinyjson.proofs.Writing.Text.{comma_here, no_comma}
 use Rattle.tinyjson.proofs.generator.encode.Encoder.separate.Goals as goal
 use Rattle.tinyjson.proofs.generator.encode.Encoder.separate.Goals.{then-not-first+in_ok-write_bytes, else-not-first}

@@ -29,7 +29,7 @@ returns-in-Ok-clause-reads g c = λ limit.
     (Leads_one sight limit _ _ _ 93 (after_white sight limit _ _ _ closed.before c.skip_white.ensures.white)
     c.consume-in-Some-eq93.ensures.takes tt
     (array_closes limit _ _ _ 93 closed.value (search rules)) (taken_complete _ _))
-    (c.put.ensures.reads limit)
+    (c.complete.ensures.reads limit)
 
 pub returns-in-Some-clause-reads : goal.returns-in-Some-clause-reads
 returns-in-Some-clause-reads g c = λ limit.

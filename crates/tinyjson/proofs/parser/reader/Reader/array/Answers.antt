@@ -28,7 +28,7 @@ returns-in-Some-eq93-clause-reads g c =
     (Leads_one sight limit _ _ _ 93 (Leads_whites sight limit _ _ _ c.skip_white.ensures.white tt (white_first limit _))
     c.consume-in-Some-eq93.ensures.takes tt
     (array_closes_first limit _ c.new.result 93 (search rules) (search rules)) (taken_complete _ _)))
-    (c.put.ensures.reads limit)
+    (c.complete.ensures.reads limit)
 
 pub returns-then-is_err-clause-reads : goal.returns-then-is_err-clause-reads
 returns-then-is_err-clause-reads g c =

@@ -11,4 +11,4 @@ returns-in_err-value-clause-reads g c =
 pub returns-clause-reads : goal.returns-clause-reads
 returns-clause-reads g c =
     let sight = g.S.Source.sight in
-    λ limit. Reads_after sight limit _ _ _ _ _ (c.in_ok-value.ensures.reads limit _) (c.put.ensures.reads limit)
+    λ limit. Reads_after sight limit _ _ _ _ _ (c.in_ok-value.ensures.reads limit _) (c.complete.ensures.reads limit)

@@ -20,7 +20,7 @@ returns-in-Ok-clause-reads g c = λ limit.
     let q = c.in-Some.behind in
     let x = c.in-Ok.number in
     let l = Leads_numeral sight p q n.0 n.2 limit fs x (parts_read n.0 c.in-Some.parts n.1 (Ok x) c.in-Ok.ensures.reads) in
-    Reads_after sight limit _ _ _ _ _ l (c.put_number.ensures.reads limit)
+    Reads_after sight limit _ _ _ _ _ l (c.complete_number.ensures.reads limit)
 
 pub returns-clause-reads : goal.returns-clause-reads
 returns-clause-reads g c = elim c.match-numeral.branch [

@@ -29,7 +29,7 @@ returns-in-Some-eq125-clause-reads g c =
     (Leads_one sight limit _ _ _ 125 (Leads_whites sight limit _ _ _ c.skip_white.ensures.white tt (white_first limit _))
     c.consume-in-Some-eq125.ensures.takes tt
     (object_closes_first limit _ c.new.result 125 (search rules) (search rules)) (taken_complete _ _)))
-    (c.put.ensures.reads limit)
+    (c.complete.ensures.reads limit)
 
 pub returns-then-is_err-clause-reads : goal.returns-then-is_err-clause-reads
 returns-then-is_err-clause-reads g c =

@@ -28,4 +28,4 @@ returns-clause-reads g c =
     Reads_after sight limit _ _ _ _ _
     (Leads_to sight limit _ _ (Leads_trans sight limit _ _ _ l (c.in_ok-string.ensures.reads limit _))
     (ap (λ t. complete true (frames c.args.stack.now) t true) (sym (view_String c.in_ok-string.string))))
-    (c.put.ensures.reads limit)
+    (c.complete.ensures.reads limit)

@@ -1,6 +1,6 @@
 use Rattle.std.proofs.Common.{rules, ◌≡◌, ◌∷◌, ◌++◌, [], ◌∙◌, ap, ap₂, subst, reverse, take, drop, length}
 use Rattle.tinyjson.specs.private.Stack.{Lies, frames_over, gather, maps_of, open_of, other_maps, own_members}
-use Rattle.tinyjson.specs.declared.parser.stack.Frame.TheVariants as container
+use Rattle.tinyjson.specs.declared.parser.stack.Container.TheVariants as container
 use Rattle.tinyjson.proofs.Reading.Stack.{pushed, frames_key}
 use Rattle.tinyjson.proofs.parser.stack.Stack.begin_member.Goals as goal
 

@@ -1,7 +1,7 @@
 use Rattle.std.proofs.Common.{rules, ◌≡◌, ◌∷◌, ◌++◌, [], ◌-◌, ◌∙◌, ap, sym, reverse, take, length}
 use Rattle.tinyjson_grammar.specs.Machine.{next, after}
 use Rattle.tinyjson.specs.private.Stack.{frames_over, maps_of}
-use Rattle.tinyjson.specs.declared.parser.stack.Frame.TheVariants as container
+use Rattle.tinyjson.specs.declared.parser.stack.Container.TheVariants as container
 use Rattle.tinyjson.proofs.Reading.Stack.{pushed, popped, member_whole}
 use Rattle.tinyjson.proofs.parser.stack.Stack.end_member.Goals as goal
 

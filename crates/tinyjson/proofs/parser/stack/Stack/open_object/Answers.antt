@@ -1,6 +1,6 @@
 use Rattle.std.proofs.Common.{rules, ◌≡◌, ◌∷◌, ◌++◌, [], ◌∙◌, ap, ap₂, reverse, length}
 use Rattle.tinyjson.specs.private.Stack.{frames_over, maps_of, open_of}
-use Rattle.tinyjson.specs.declared.parser.stack.Frame.TheVariants as container
+use Rattle.tinyjson.specs.declared.parser.stack.Container.TheVariants as container
 use Rattle.tinyjson.proofs.Reading.Stack.{pushed, frames_object}
 use Rattle.tinyjson.proofs.parser.stack.Stack.open_object.Goals as goal
 

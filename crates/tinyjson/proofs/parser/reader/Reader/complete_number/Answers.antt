@@ -4,7 +4,7 @@ use Rattle.tinyjson_grammar.specs.Tree.{number}
 use Rattle.tinyjson.specs.private.Stack.{AwaitsKey, TakesValue, open_of, at, frames}
 use Rattle.tinyjson_tokens.proofs.Callers.{Leads_nil, Leads_to, Halts_here, Refuses_as, Refuses_memory}
 use Rattle.tinyjson.proofs.Reading.Stack.{key_refused, value_taken}
-use Rattle.tinyjson.proofs.parser.reader.Reader.put_number.Goals as goal
+use Rattle.tinyjson.proofs.parser.reader.Reader.complete_number.Goals as goal
 
 pub returns-then-is_err-clause-reads : goal.returns-then-is_err-clause-reads
 returns-then-is_err-clause-reads g c = λ limit.

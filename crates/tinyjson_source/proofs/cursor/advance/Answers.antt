@@ -1,7 +1,7 @@
 use Rattle.std.proofs.Common.{arith}
 use Rattle.std.proofs.lemmas.Bool.Decides.{nat_tests}
 use Rattle.tinyjson_grammar.specs.Position.{advance}
-use Rattle.tinyjson_source.proofs.cursor.moved.Goals as goal
+use Rattle.tinyjson_source.proofs.cursor.advance.Goals as goal
 
 pub returns-then-c-eq10 : goal.returns-then-c-eq10
 unfolding advance

@@ -2,7 +2,7 @@ use Rattle.std.proofs.Common.{[], ◌≡◌, true, false, string_bytes, ap, sym,
 use Rattle.std.proofs.lemmas.Result.{err_from_is_err_and}
 use Rattle.tinyjson_number.specs.Numeral.{has_leading_zero}
 use Rattle.tinyjson_tokens.proofs.Reading.NumberParts.{Refuses_whole, Refuses_zero, Part_whole}
-use Rattle.tinyjson_tokens.proofs.reader.TokenReader.integer.Goals as goal
+use Rattle.tinyjson_tokens.proofs.reader.TokenReader.whole.Goals as goal
 
 pub returns-in_err-digits-clause-reads : goal.returns-in_err-digits-clause-reads
 returns-in_err-digits-clause-reads g c =
