@@ -4,7 +4,9 @@ use Rattle.std.specs.Prelude.{encode_utf8_all}
 use Rattle.std.specs.Io.KnownBytes.{Appends, Keeps}
 use Rattle.std.specs.Str.{IsUtf8, chars}
 use Rattle.std.specs.declared.io.Error.{Error}
+use Rattle.tinyjson.specs.Error.{error_kind}
 use Rattle.tinyjson.specs.Grammar.{IsText, IsAccepted}
+use Rattle.tinyjson.specs.JsonParseErrorKind.TheVariants as kind
 use Rattle.tinyjson.specs.Parser.{ParsesText}
 use Rattle.tinyjson.specs.Text.{compact}
 use Rattle.tinyjson.specs.Tree.{Tree}
@@ -44,9 +46,9 @@ AreTexts _ _ = ⊥
 
 -- the characters are no text, and this is what the parser says of them
 abbrev pub IsRefused : List ℕ → JsonParseError → Type 0
-IsRefused xs e = ParsesText None xs (Err e) × ¬ IsAccepted None xs
+IsRefused xs e = ParsesText None xs (Err e) × ¬ (error_kind e ≡ kind.OutOfMemory) × ¬ IsAccepted None xs
 
--- What an answer says, where these lines were read and had trees.
+-- What a result says, where these lines were read and had trees.
 abbrev pub AnswerSays : Option (List ℕ) → Option (List ℕ) → List (List ℕ) → Option Refusal → Type 0
 AnswerSays unread left read None = IfSome unread (λ xs. (lines xs ≡ read) × (left ≡ Some []))
 AnswerSays unread left read (Some r) =

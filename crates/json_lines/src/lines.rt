@@ -14,20 +14,20 @@ use tinyjson::{JsonParseError, JsonValue};
 pub struct Refusal {
     /// Which line it is, from 1.
     pub number: u64,
-    /// Why it is refused, and where: behind its line feed at line 2, column 0.
+    /// Why it is refused, and where: after its line feed at line 2, column 0.
     pub error: JsonParseError,
 }
 
 /// Writes the normal form of each line of the input, which is a JSON text, and a line feed, up to
 /// the first line that is refused.
 ///
-/// A line ends behind its line feed, and the last one where the input ends. A line that isn't UTF-8
+/// A line ends after its line feed, and the last one where the input ends. A line that isn't UTF-8
 /// is an error, and so is memory that runs out. After an error a prefix of the normal forms of the
 /// lines is written.
 ///
 /// ```
 /// let mut input = b"[1.0]\n{\n".as_slice();
-/// write_lines(alloc, &mut input, &mut output)?; // writes `[1]`, and answers line 2
+/// write_lines(alloc, &mut input, &mut output)?; // writes `[1]`, and returns line 2
 /// ```
 pub fn write_lines<R: BufRead, W: Write>(
     alloc: Global,

@@ -25,7 +25,7 @@ fn main(rt: HostRuntime) -> ExitCode {
     }
 }
 
-// From standard input to standard output.
+/// From standard input to standard output.
 fn write_lines(rt: &(impl Input + Print + AllocGlobal)) -> io::Result<Option<Refusal>> {
     let alloc = rt.alloc();
     let mut input = BufReader::new(alloc, rt.reader())?;

@@ -22,7 +22,7 @@ status_of (Refused e) = 3
 status_of OutOfMemory = 4
 status_of Writing = 4
 
--- the words of an error; those of a text that is no pointer and of a refused one are told as they are
+-- the words of an error; those of a text that is no pointer and of a refused one are their readers'
 abbrev pub error_text : PartError → List ℕ
 error_text (BadPointer e) = pointer_error_text e
 error_text (Refused e) = error_words e
@@ -58,11 +58,13 @@ pub record Finds (pointer text : List ℕ) (old new : Option (List ℕ)) (result
   pub is_text : IsText None text tree
   pub writes : WritesFound tokens tree old new result
 
--- The two are a pointer and a JSON text, and the part is written; or one of them is none, as its reader says, and nothing is written.
+-- The two are a pointer and a JSON text, and the part is written; or the pointer is none, or the text is none, as its reader says,
+-- and nothing is written.
 abbrev pub WritesPart : List ℕ → List ℕ → Option (List ℕ) → Option (List ℕ) → Result (Unit {0}) PartError → Type 0
 WritesPart pointer text old new (Err (BadPointer e)) =
     Reads pointer (Err e) × ¬ (e ≡ refusal.OutOfMemory) × IsNoPointer pointer × (new ≡ old)
 WritesPart pointer text old new (Err (Refused e)) =
-    ParsesText None text (Err e) × ¬ (error_kind e ≡ kind.OutOfMemory) × ¬ IsAccepted None text × (new ≡ old)
+    ((tokens : List (List ℕ)) × (pointer ≡ pointer_text tokens))
+    × ParsesText None text (Err e) × ¬ (error_kind e ≡ kind.OutOfMemory) × ¬ IsAccepted None text × (new ≡ old)
 WritesPart pointer text old new (Err OutOfMemory) = (new ≡ old) ⊎ Finds pointer text old new (Err OutOfMemory)
 WritesPart pointer text old new result = Finds pointer text old new result

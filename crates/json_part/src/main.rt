@@ -7,7 +7,7 @@
 
 mod part;
 
-use part::{PartError, write_part};
+use part::{PartError, write_part, writing_error};
 use std::env::{self, Env};
 use std::io::{self, BufWriter, ErrorKind, Write};
 use std::process::ExitCode;
@@ -32,18 +32,21 @@ fn main(rt: HostRuntime) -> ExitCode {
     }
 }
 
-// From standard input to standard output. The outer error is one of the words, of reading or of writing.
+/// From standard input to standard output, which is flushed once, after success. The outer error is one of
+/// the words, or of reading.
 fn print_part(rt: &(impl Env + Input + Print + AllocGlobal)) -> io::Result<Result<(), PartError>> {
     let alloc = rt.alloc();
     let pointer = pointer_asked(rt)?;
     let text = io::read_to_string(alloc, rt.reader())?;
     let mut output = BufWriter::new(alloc, io::writer(rt))?;
     let answer = write_part(alloc, pointer.as_str(), text.as_str(), &mut output);
-    output.flush()?;
+    let answer = answer.and_then(|()| output.flush().map_err(writing_error));
+    // Dropped, the gathered bytes would be written, also after a write that failed.
+    let (_output, _gathered) = output.into_parts();
     Ok(answer)
 }
 
-// The one word of the command line.
+/// The one word of the command line.
 fn pointer_asked(rt: &(impl Env + AllocGlobal)) -> io::Result<String> {
     let mut words = match env::args(rt) {
         Ok(words) => words.skip(1),

@@ -23,7 +23,7 @@ pub enum PartError {
     Refused(JsonParseError),
     /// The pointer names no part.
     NoPart,
-    /// A growth of memory was refused.
+    /// An allocation failed.
     OutOfMemory,
     /// A write failed.
     Writing,
@@ -43,7 +43,7 @@ impl PartError {
     }
 }
 
-/// The words that the program writes behind its name.
+/// The words that the program writes after its name.
 impl fmt::Display for PartError {
     ghost output = { λ e. Some (error_text e) };
 
@@ -60,8 +60,8 @@ impl fmt::Display for PartError {
 
 /// Writes the compact text of the part that the pointer names, and a line feed.
 ///
-/// Both texts are read before anything is written. After `Writing`, and where memory ran out, a beginning
-/// of the line may stand written.
+/// The pointer is read first, and both are read before anything is written. After `Writing`, and where
+/// memory ran out, a prefix of the line may have been written.
 ///
 /// ```
 /// write_part(alloc, "/a/0", r#"{"a":[7]}"#, &mut output)?; // 7 and a line feed
@@ -114,7 +114,7 @@ fn write_found<W: Write>(
 }
 
 /// The error of a write that failed.
-fn writing_error(error: io::Error) -> PartError
+pub(crate) fn writing_error(error: io::Error) -> PartError
     ensures { IsFailedWrite (error_kind error ≡ ErrorKind.OutOfMemory) result }
 {
     if error.kind() == ErrorKind::OutOfMemory {

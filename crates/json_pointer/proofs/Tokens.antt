@@ -1,5 +1,5 @@
 -- The text of a pointer, taken in character by character.
-use Rattle.std.proofs.Common.{◌≡◌, ◌≢◌, ◌↔◌, inl, inr, ℕ, Bool, true, false, cond, Result, Ok, Err, map, ◌==◌, List, [], ◌∷◌, ◌++◌, Err, length, refl, sym, ap, ◌∙◌, append_assoc, append-nil, subst, arith, String, Global, encode_utf8_all}
+use Rattle.std.proofs.Common.{◌≡◌, ◌≢◌, ◌↔◌, inl, inr, ℕ, Bool, true, false, cond, Result, Ok, Err, map, ◌==◌, List, [], ◌∷◌, ◌++◌, length, refl, sym, ap, ◌∙◌, append_assoc, append-nil, subst, arith, String, Global, encode_utf8_all}
 use Rattle.std.proofs.lemmas.Bool.Decides.{nat_tests}
 use Rattle.std.proofs.lemmas.List.{map-append}
 use Rattle.std.proofs.lemmas.Str.{chars-nil, encodes-append}
@@ -11,12 +11,12 @@ use Rattle.json_pointer.specs.declared.pointer.PointerError.{PointerError}
 use Rattle.json_pointer.specs.declared.pointer.PointerError.TheVariants.{NoSlash, BadEscape, OutOfMemory}
 use Rattle.json_pointer.specs.Text.{escape_char, escape, pointer_text}
 
--- a `~` that waits for the character behind it
+-- a `~` that waits for the character after it
 abbrev pub waiting : Bool → List ℕ
 waiting false = []
 waiting true = 126 ∷ []
 
--- The text cs behind the first slash: of it the tokens ts are taken in, of the token behind them the characters t, and xs is left.
+-- The text cs after the first slash: of it the tokens ts are taken in, of the token after them the characters t, and xs is left.
 abbrev pub Stands : List ℕ → List (List ℕ) → List ℕ → Bool → List ℕ → Type 0
 Stands cs ts t tilde xs = 47 ∷ cs ≡ pointer_text ts ++ (47 ∷ (escape t ++ (waiting tilde ++ xs)))
 
@@ -101,7 +101,7 @@ one_pointer ts us h = ap (λ s. s.1) (sym (split_pointer ts) ∙ (ap (split fals
 pub exactly : (cs : List ℕ) (us : List (List ℕ)) → cs ≡ pointer_text us → (ts : List (List ℕ)) → (cs ≡ pointer_text ts) ↔ (ts ≡ us)
 exactly cs us h ts = (λ e. one_pointer ts us (sym e ∙ h), λ e. h ∙ ap pointer_text (sym e))
 
--- ---- in the text of a pointer `0` or `1` is behind each `~`
+-- ---- in the text of a pointer `0` or `1` is after each `~`
 
 abbrev AreEscapes : List ℕ → Type 0
 AreEscapes [] = Unit {0}

@@ -1,4 +1,4 @@
--- What the reading of a pointer's text answers.
+-- What reading a pointer's text returns.
 use Rattle.std.specs.Prelude.{◌≡◌, ◌≢◌, ◌↔◌, ◌⊎◌, ℕ, List, [], ◌∷◌, ◌++◌, Result, Ok, Err, MatchResult, String, Vec, map, codes}
 use Rattle.std.specs.declared.alloc.Global.{Global}
 use Rattle.tinyjson.specs.View.{text}
@@ -32,25 +32,25 @@ abbrev pub BeginsWithSlash : List ℕ → Type 0
 BeginsWithSlash [] = ⊥
 BeginsWithSlash (c ∷ cs) = c ≡ 47
 
--- A pointer comes with just the tokens whose text this is; a refusal says what is wrong, and that it is the text of none.
+-- A pointer comes with just the tokens whose text this is; an error says what is wrong, and that it is the text of none.
 abbrev pub Reads : List ℕ → Result Pointer PointerError → Type 0
 Reads cs (Ok p) = (ts : List (List ℕ)) → (cs ≡ pointer_text ts) ↔ (ts ≡ tokens_of p)
 Reads cs (Err NoSlash) = BeginsWithOther cs × IsNoPointer cs
 Reads cs (Err BadEscape) = BeginsWithSlash cs × HasBadEscape cs × IsNoPointer cs
 Reads cs (Err OutOfMemory) = Unit {0}
 
--- The same of the characters behind the first slash.
+-- The same of the characters after the first slash.
 abbrev pub ReadsTokens : List ℕ → Result (Vec (String Global) Global) PointerError → Type 0
 ReadsTokens cs (Ok v) = 47 ∷ cs ≡ pointer_text (map text v.items)
 ReadsTokens cs (Err NoSlash) = ⊥
 ReadsTokens cs (Err BadEscape) = HasBadEscape (47 ∷ cs)
 ReadsTokens cs (Err OutOfMemory) = Unit {0}
 
--- The character that is escaped with c behind a `~`, or a refusal, where none is.
+-- The character that is escaped with c after a `~`, or an error, where none is.
 abbrev pub Unescapes : ℕ → Result ℕ PointerError → Type 0
 Unescapes c result = MatchResult result (λ d. escape_char d ≡ 126 ∷ c ∷ []) (λ e. (e ≡ BadEscape) × ¬ BeginsEscape (c ∷ []))
 
--- the words of a refusal
+-- the words of an error
 abbrev pub pointer_error_text : PointerError → List ℕ
 pointer_error_text NoSlash = codes "the pointer begins with no '/'"
 pointer_error_text BadEscape = codes "a '~' is followed by neither '0' nor '1'"

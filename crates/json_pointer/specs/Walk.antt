@@ -37,7 +37,7 @@ abbrev pub with_part : Tree → List (List ℕ) → Tree → Tree
 with_part t [] u = u
 with_part t (k ∷ ks) u = option_map_or (λ part. with_step t k (with_part part ks u)) (step t k) t
 
--- What `replace` answers: the old part, and its place holds the new one; or, where the tokens name no
+-- What `replace` returns: the old part, and its place holds the new one; or, where the tokens name no
 -- part, the new one, and nothing is changed.
 abbrev pub Replaces : Tree → List (List ℕ) → JsonValue → Result JsonValue JsonValue → Tree → Type 0
 Replaces t ks part result t' = MatchResult result

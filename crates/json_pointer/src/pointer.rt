@@ -20,7 +20,7 @@ pub enum PointerError {
     NoSlash,
     /// A `~` is followed by neither `0` nor `1`.
     BadEscape,
-    /// A growth of memory was refused.
+    /// An allocation failed.
     OutOfMemory,
 }
 

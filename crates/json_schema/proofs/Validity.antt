@@ -131,6 +131,6 @@ leaf_valid s v m no_object no_array = by (view v) refl m
     by (array ts) e h = let f = array_from_tree v ts e in absurd (no_array f.0 (sym (put_of_array v f.0 f.1)))
     by _ e h = valid h (λ k r u a b. absurd (none_some r a))
 
--- an answer with its reasons
+-- a result with its reasons
 pub told : (s t : Tree) (p : Pointer) → IsInvalidAt s t (tokens_of p) → Validates s t (Ok (Some p))
 told s t p h = (h, there h, not_valid h)

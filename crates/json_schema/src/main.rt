@@ -36,7 +36,7 @@ fn main(rt: HostRuntime) -> ExitCode {
     }
 }
 
-// From standard input to standard output. The inner error is one of the text.
+/// From standard input to standard output. The inner error is one of the text.
 fn check(rt: &(impl Input + Print + AllocGlobal)) -> io::Result<Result<bool, JsonParseError>> {
     let alloc = rt.alloc();
     let text = io::read_to_string(alloc, rt.reader())?;
@@ -48,7 +48,7 @@ fn check(rt: &(impl Input + Print + AllocGlobal)) -> io::Result<Result<bool, Jso
     print_judgment(rt, &input)
 }
 
-// Whether the input's value is valid by its schema.
+/// Whether the input's value is valid by its schema.
 fn print_judgment(
     rt: &(impl Print + AllocGlobal),
     input: &JsonValue,

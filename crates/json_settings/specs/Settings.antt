@@ -1,5 +1,5 @@
 -- Which settings a text has.
-use Rattle.std.specs.Prelude.{◌≡◌, ℕ, ◌<◌, Bool, false, List, Option, Some, None, Result, Ok, Err, MatchOption, ◌⊎◌, codes, pos}
+use Rattle.std.specs.Prelude.{◌≡◌, ℕ, ◌<◌, Bool, false, List, Option, Some, None, Result, Ok, Err, MatchOption, ◌⊎◌, ⊤, codes, pos}
 use Rattle.std.specs.declared.alloc.AllocError.{AllocError}
 use Rattle.tinyjson.specs.Error.{error_words}
 use Rattle.tinyjson.specs.Grammar.{IsText}
@@ -43,14 +43,20 @@ LacksAt t Port = (n : ℕ) → ¬ IsPort (tree_at_key t (codes "port")) n
 LacksAt t Host = (cs : List ℕ) → ¬ IsHost (tree_at_key t (codes "host")) cs
 LacksAt t Tls = (b : Bool) → ¬ IsTls (tree_at_key t (codes "tls")) b
 
--- what is answered where this is the tree of the text
+-- what the tree has, where it lacks something at the key: the port is looked at first, then tls, then the host
+abbrev pub HasBefore : Tree → Key → Type 0
+HasBefore t Port = ⊤
+HasBefore t Tls = (n : ℕ) × IsPort (tree_at_key t (codes "port")) n
+HasBefore t Host = ((n : ℕ) × IsPort (tree_at_key t (codes "port")) n) × ((b : Bool) × IsTls (tree_at_key t (codes "tls")) b)
+
+-- what is returned where this is the tree of the text
 abbrev pub AnswersTree : Tree → Result Settings SettingsError → Type 0
 AnswersTree t (Ok s) = HasSettings t s
 AnswersTree t (Err (Text e)) = ⊥
 AnswersTree t (Err NotAnObject) = ¬ IsObject t
-AnswersTree t (Err (Lacks k)) = IsObject t × LacksAt t k
+AnswersTree t (Err (Lacks k)) = IsObject t × HasBefore t k × LacksAt t k
 
--- what is answered for the text: what the parser says, or an answer on its one tree
+-- what is returned for the text: what the parser says, or what its one tree says
 abbrev pub AnswersText : List ℕ → Result Settings SettingsError → Type 0
 AnswersText xs (Err (Text e)) = ParsesText None xs (Err e)
 AnswersText xs result = (t : Tree) × IsText None xs t × AnswersTree t result

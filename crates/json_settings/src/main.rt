@@ -30,7 +30,7 @@ fn main(rt: HostRuntime) -> ExitCode {
     }
 }
 
-// From standard input to standard output. The outer error is one of the words, of reading or of writing.
+/// From standard input to standard output. The outer error is one of the words, of reading or of writing.
 fn answer(rt: &(impl Env + Input + Print + AllocGlobal)) -> io::Result<Result<(), SettingsError>> {
     let port = port_asked(rt)?;
     let text = io::read_to_string(rt.alloc(), rt.reader())?;
@@ -40,7 +40,7 @@ fn answer(rt: &(impl Env + Input + Print + AllocGlobal)) -> io::Result<Result<()
     }
 }
 
-// The port that the words of the command line ask for.
+/// The port that the words of the command line ask for.
 fn port_asked(rt: &(impl Env + AllocGlobal)) -> io::Result<Option<u16>> {
     let mut words = match env::args(rt) {
         Ok(words) => words.skip(1),

@@ -1,5 +1,5 @@
 //! The settings of a JSON text.
-ghost use Rattle.std.specs.Prelude.{option_map, Some, IfOk};
+ghost use Rattle.std.specs.Prelude.{option_map, Some, IfOk, IsOk};
 ghost use Rattle.std.specs.Str.{chars};
 ghost use Rattle.tinyjson.specs.View.{view, text};
 ghost use Rattle.json_settings.specs.Settings.{
@@ -48,7 +48,8 @@ pub enum SettingsError {
     Text(JsonParseError),
     /// Its value is no object.
     NotAnObject,
-    /// The object has nothing at this key, or nothing of the right kind.
+    /// The object has nothing at this key, or nothing of the right kind. Of several such keys it is the first
+    /// of `port`, `tls` and `host`.
     Lacks(Key),
 }
 
@@ -71,8 +72,8 @@ fn from_value(value: JsonValue) -> Result<Settings, SettingsError>
 {
     let mut members = match HashMap::<String, JsonValue>::try_from(value) {
         Ok(members) => members,
-        Err(fault) => {
-            JsonValue::from(fault).dismantle();
+        Err(error) => {
+            JsonValue::from(error).dismantle();
             return Err(SettingsError::NotAnObject);
         }
     };
@@ -140,6 +141,7 @@ pub fn set_port(
 ) -> Result<Option<JsonValue>, AllocError>
     ensures change { SetsPort value.old port result value.new }
     ensures settings { IfOk result (λ o. KeepsSettings (view value.old) port (view value.new)) }
+    ensures ok { IsOk result }
 {
     let Some(members) = value.get::<HashMap<String, JsonValue>>() else {
         return Ok(None);
@@ -151,7 +153,7 @@ pub fn set_port(
     Ok(Some(value.replace_member("port", JsonValue::from(number))))
 }
 
-/// The words that the program writes behind its name.
+/// The words that the program writes after its name.
 impl fmt::Display for SettingsError {
     ghost output = { λ e. Some (error_text e) };
 

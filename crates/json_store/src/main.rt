@@ -26,7 +26,7 @@ fn main(rt: HostRuntime) -> ExitCode {
     }
 }
 
-// Whether the input is an array; then its items are counted.
+/// Whether the input is an array; then its items are counted.
 fn count_items(rt: &(impl Input + Print + AllocGlobal)) -> io::Result<bool> {
     let alloc = rt.alloc();
     let text = io::read_to_string(alloc, rt.reader())?;
@@ -40,7 +40,7 @@ fn count_items(rt: &(impl Input + Print + AllocGlobal)) -> io::Result<bool> {
     answer
 }
 
-// Whether the value is an array; then a line is printed for each item.
+/// Whether the value is an array; then a line is printed for each item.
 fn print_counts(rt: &(impl Print + AllocGlobal), value: &JsonValue) -> io::Result<bool> {
     let alloc = rt.alloc();
     let Some(items) = value.get::<Vec<JsonValue>>() else {

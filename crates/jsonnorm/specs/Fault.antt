@@ -1,4 +1,4 @@
--- The faults of a run.
+-- The errors of a run.
 use Rattle.std.specs.Prelude.{◌≡◌, ℕ, ◌⊎◌, List, codes}
 use Rattle.tinyjson.specs.Error.{error_words}
 use Rattle.jsonnorm.specs.declared.fault.RunFault.{RunFault}
@@ -11,7 +11,7 @@ status_of OutOfMemory = 4
 status_of Reading = 4
 status_of Writing = 4
 
--- the words of a fault; those of a refusal are the parser's
+-- the words of an error; those of a text that is refused are the parser's
 abbrev pub fault_words : RunFault → List ℕ
 fault_words (Refused e) = error_words e
 fault_words NotUtf8 = codes "input is not UTF-8"
@@ -19,6 +19,6 @@ fault_words OutOfMemory = codes "out of memory"
 fault_words Reading = codes "reading failed"
 fault_words Writing = codes "writing failed"
 
--- the fault is out of memory where that was the cause, and otherwise the other one
+-- `OutOfMemory` if memory ran out, and otherwise the other one
 abbrev pub IsMemoryOr : Type 0 → RunFault → RunFault → Type 0
 IsMemoryOr wanted other fault = (wanted × (fault ≡ OutOfMemory)) ⊎ (¬ wanted × (fault ≡ other))

@@ -34,7 +34,7 @@ pub record WritesPart (limit : Option ℕ) (is_indented : Bool) (bytes : List �
   pub written : WrittenPart held holds (line_of is_indented tree)
 
 module _ (limit : Option ℕ) (is_indented : Bool) (bytes : List ℕ) (left held holds : Option (List ℕ)) where
-  -- What an answer says of the bytes that were read, of what the reader has left, and of what the writer held and holds.
+  -- What a result says of the bytes that were read, of what the reader has left, and of what the writer held and holds.
   abbrev pub AnswerSays : Result (Unit {0}) RunFault → Type 0
   AnswerSays (Ok _) = IsAtEnd left × ((t : Tree) × IsInput limit bytes t × Written held holds (line_of is_indented t) [])
   AnswerSays (Err (Refused e)) =
@@ -45,7 +45,7 @@ module _ (limit : Option ℕ) (is_indented : Bool) (bytes : List ℕ) (left held
   AnswerSays (Err Reading) = Keeps held holds
   AnswerSays (Err Writing) = IsAtEnd left × WritesPart limit is_indented bytes held holds
 
--- A run took some bytes of the reader, from its beginning, and then answered.
+-- A run took some bytes of the reader, from its beginning, and then returned.
 pub record Runs (limit : Option ℕ) (is_indented : Bool) (unread left held holds : Option (List ℕ))
     (result : Result (Unit {0}) RunFault) : Type 0 where
   pub read : List ℕ

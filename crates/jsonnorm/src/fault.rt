@@ -16,7 +16,7 @@ pub enum RunFault {
     Refused(JsonParseError),
     /// The input isn't UTF-8.
     NotUtf8,
-    /// A growth of memory was refused.
+    /// An allocation failed.
     OutOfMemory,
     /// A read failed or was interrupted, or the reads were too many.
     Reading,
@@ -37,7 +37,7 @@ impl RunFault {
     }
 }
 
-/// The fault of a text that the parser refused.
+/// The error of a text that the parser refused.
 pub(crate) fn refusal(error: JsonParseError) -> RunFault
     ensures { IsMemoryOr (error_kind error ≡ JsonParseErrorKind.OutOfMemory)
         (RunFault.Refused error) result }
@@ -48,7 +48,7 @@ pub(crate) fn refusal(error: JsonParseError) -> RunFault
     RunFault::Refused(error)
 }
 
-/// The fault of a write that failed.
+/// The error of a write that failed.
 pub(crate) fn writing_fault(error: io::Error) -> RunFault
     ensures { IsMemoryOr (io_kind error ≡ ErrorKind.OutOfMemory) RunFault.Writing result }
 {
@@ -58,7 +58,7 @@ pub(crate) fn writing_fault(error: io::Error) -> RunFault
     RunFault::Writing
 }
 
-/// The words that the program writes behind its name.
+/// The words that the program writes after its name.
 impl fmt::Display for RunFault {
     ghost output = { λ e. Some (fault_words e) };
 

@@ -42,7 +42,7 @@ fn main(rt: HostRuntime) -> ExitCode {
     }
 }
 
-// What the words of the command line ask for; `None` where they aren't understood.
+/// What the words of the command line ask for; `None` where they aren't understood.
 fn asked(rt: &(impl Env + AllocGlobal)) -> Result<Option<Options>, RunFault> {
     let words = match env::args(rt) {
         Ok(words) => words,
@@ -55,8 +55,8 @@ fn asked(rt: &(impl Env + AllocGlobal)) -> Result<Option<Options>, RunFault> {
     }
 }
 
-// From standard input to standard output, which is flushed once, after success. After a failure
-// nothing more is written, though some bytes may be gathered.
+/// From standard input to standard output, which is flushed once, after success. After a failure
+/// nothing more is written, though some bytes may be gathered.
 fn normalize(rt: &(impl Input + Print + AllocGlobal), options: Options) -> Result<(), RunFault> {
     let alloc = rt.alloc();
     let Ok(mut output) = BufWriter::with_capacity(alloc, OUTPUT_LEN, io::writer(rt)) else {

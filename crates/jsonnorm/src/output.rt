@@ -8,7 +8,7 @@ use std::alloc::Global;
 use std::io::{self, ErrorKind, Write};
 use tinyjson::JsonValue;
 
-/// Writes the text of the value and a line feed, and ends with the first fault.
+/// Writes the text of the value and a line feed, and ends with the first error.
 pub(crate) fn write_line<W: Write>(
     alloc: Global,
     output: &mut W,

@@ -24,7 +24,7 @@ pub struct Options {
 /// Reads one JSON text in UTF-8 to the end of the input, and writes its value's compact text, or
 /// the text indented with two spaces, and a line feed.
 ///
-/// All is read and parsed before anything is written. After a fault of writing a beginning of the
+/// All is read and parsed before anything is written. After an error of writing a prefix of the
 /// line is written, and nothing is flushed.
 ///
 /// The memory of the value is not given back: the program ends soon after.
