@@ -34,7 +34,7 @@ impl InnerAsRefMut for NullMark {
     ghost put_of_part = { λ v x same. refl };
 }
 
-/// Puts `x` in the place of the part that `T` sees, and answers that part. Where `T` sees nothing,
+/// Puts `x` in the place of the part that `T` sees, and returns that part. Where `T` sees nothing,
 /// it gives `x` back as an `Err`, and the value stays as it is.
 ///
 /// ```

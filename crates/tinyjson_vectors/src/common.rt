@@ -1,4 +1,4 @@
-//! Values that several tests make, and answers that several tests compare.
+//! Values that several tests make, and results that several tests compare.
 
 use std::alloc::{AllocError, Global};
 use std::collections::HashMap;
@@ -88,7 +88,7 @@ pub(crate) fn of_kind(alloc: Global, kind: JsonKind) -> Result<JsonValue, AllocE
     }
 }
 
-/// What a parser of the text's characters answers.
+/// What a parser of the text's characters returns.
 pub(crate) fn parsed(alloc: Global, text: &str) -> JsonParseResult {
     JsonParser::new(alloc, text.chars()).parse()
 }

@@ -99,7 +99,7 @@ mod tests {
         Ok(())
     }
 
-    /// The refusal of a conversion to the type of this kind.
+    /// The error of a conversion to the type of this kind.
     fn refusal(value: JsonValue, wanted: JsonKind) -> Option<UnexpectedValue> {
         match wanted {
             JsonKind::Null => <()>::try_from(value).err(),
@@ -111,7 +111,7 @@ mod tests {
         }
     }
 
-    /// Whether the conversion was refused with these words, and the refusal holds this value.
+    /// Whether the conversion was refused with these words, and the error holds this value.
     fn is_refused(
         alloc: Global,
         fault: Option<UnexpectedValue>,
@@ -125,7 +125,7 @@ mod tests {
         Ok(told && JsonValue::from(fault) == *held)
     }
 
-    /// The kind of a value, the kind that is wanted, and the words of the refusal.
+    /// The kind of a value, the kind that is wanted, and the words of the error.
     const REFUSALS: &[(JsonKind, JsonKind, &str)] = &[
         (
             JsonKind::Number,

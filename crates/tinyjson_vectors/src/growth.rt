@@ -1,4 +1,4 @@
-//! Values of sizes round each growth of memory, which is ample: each is read, compared with a value built
+//! Values of sizes round each growth of a vector, a string or a map, where memory is ample: each is read, compared with a value built
 //! by hand, written, copied and converted.
 
 mod containers;
@@ -13,7 +13,7 @@ use std::collections::HashMap;
 use std::test::Fail;
 use tinyjson::{JsonGenerator, JsonKind, JsonNumber, JsonValue, UnexpectedValue};
 
-/// Below, at and behind the first growths of vectors, strings and maps, and far behind them.
+/// Below, at and after the first growths of vectors, strings and maps, and far beyond them.
 const SIZES: [usize; 8] = [0, 1, 8, 9, 64, 65, 1_000, 300_000];
 
 /// A text, its value, and the texts that are written for the value.
@@ -48,9 +48,13 @@ fn converted(value: JsonValue) -> Result<JsonValue, UnexpectedValue> {
     }
 }
 
-/// Whether the value is generated so, in the compact form.
-fn is_generated(alloc: Global, value: &JsonValue, expected: &str) -> bool {
-    let mut generator = JsonGenerator::new(alloc, Vec::new(alloc));
+/// Whether the value is generated so, in the compact form, or with an indent.
+fn is_generated(alloc: Global, indent: Option<&str>, value: &JsonValue, expected: &str) -> bool {
+    let compact = JsonGenerator::new(alloc, Vec::new(alloc));
+    let mut generator = match indent {
+        None => compact,
+        Some(indent) => compact.indent(indent),
+    };
     let answer = generator.generate(value);
     is_taken(answer, generator.into_inner().as_slice(), expected)
 }
@@ -61,7 +65,7 @@ fn compact_fault(alloc: Global, value: &JsonValue, expected: &str) -> Option<&'s
         Some("is written otherwise")
     } else if !is_written(alloc, value, expected) {
         Some("is written as other bytes")
-    } else if !is_generated(alloc, value, expected) {
+    } else if !is_generated(alloc, None, value, expected) {
         Some("is generated otherwise")
     } else {
         None
@@ -74,6 +78,8 @@ fn indented_fault(alloc: Global, value: &JsonValue, expected: &str) -> Option<&'
         Some("is indented otherwise")
     } else if !is_indented(alloc, value, expected) {
         Some("is indented as other bytes")
+    } else if !is_generated(alloc, Some("  "), value, expected) {
+        Some("is generated with another indent")
     } else {
         None
     }
@@ -109,9 +115,12 @@ fn read_fault(alloc: Global, read: JsonValue, value: &JsonValue) -> Option<&'sta
     }
 }
 
-/// Whether parsers read the value, one of them with a limit.
+/// Whether the value is read with no limit on depth, and with one, from a text and from its characters.
 fn is_parsed(alloc: Global, text: &str, value: &JsonValue) -> bool {
-    is_value(parsed(alloc, text), value) && is_value(parsed_within(alloc, text, usize::MAX), value)
+    let limited = JsonValue::from_str_with_depth_limit(alloc, text, usize::MAX);
+    is_value(limited, value)
+        && is_value(parsed(alloc, text), value)
+        && is_value(parsed_within(alloc, text, usize::MAX), value)
 }
 
 /// What is wrong with the value as it is read, copied and converted.

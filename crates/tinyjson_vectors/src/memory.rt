@@ -1,7 +1,7 @@
 //! Answers where memory is refused.
 //!
 //! With ample memory these tests pass as any do. `tools/refuse-allocations` runs each of them with requests
-//! for memory refused: then a test passes too, or it ends with the out of memory that a call answered.
+//! for memory refused: then a test passes too, or it ends with the out of memory that a call returned.
 
 use crate::common::{parsed, parsed_within, string};
 use crate::documentation::{COMPACT, DOCUMENT, INDENTED};
@@ -34,7 +34,7 @@ const TEXTS: &[(&str, Answer)] = &[
 /// A whole number with more digits than a small number has.
 const LONG: &str = "1234567890123456789012345678901234567890123456789";
 
-/// How many characters of the text stand before the place of a refusal.
+/// How many characters of the text stand before the place of an error.
 fn consumed(text: &str, fault: &JsonParseError) -> usize {
     let mut place = (1, 0);
     for (count, c) in text.chars().enumerate() {
@@ -46,12 +46,12 @@ fn consumed(text: &str, fault: &JsonParseError) -> usize {
     text.chars().count()
 }
 
-/// Whether the answers are equal values, or refusals of one kind.
+/// Whether the results are equal values, or errors of one kind.
 fn are_alike(one: JsonParseResult, other: JsonParseResult) -> bool {
     one.map_err(|e| e.kind()) == other.map_err(|e| e.kind())
 }
 
-/// Whether the answer is the expected one. A want of memory is passed on.
+/// Whether the result is the expected one. Out of memory is passed on.
 fn is_answer(alloc: Global, answer: JsonParseResult, expected: Answer) -> Result<bool, Fail> {
     match answer {
         Err(fault) if fault.kind() == Kind::OutOfMemory => Err(Fail::from(fault)),
@@ -158,7 +158,7 @@ fn a_refused_copy_changes_nothing(rt: HostRuntime) -> Result<(), Fail> {
     Ok(())
 }
 
-/// Whether this text was made, or the refusal has its words, and is then passed on.
+/// Whether this text was made, or the error has its words, and is then passed on.
 fn is_made(answer: JsonGenerateResult, expected: &str) -> Result<bool, Fail> {
     if let Err(fault) = &answer {
         if fault.message() != "out of memory" {

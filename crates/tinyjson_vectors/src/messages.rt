@@ -1,11 +1,11 @@
-//! The words of refusals.
+//! The words of errors.
 
 use crate::common::{parsed, parsed_within};
 use std::alloc::Global;
 use std::test::Fail;
 use tinyjson::{JsonParseErrorKind, JsonParseResult, JsonValue};
 
-/// Texts and the messages of their refusals, but for those that show a character.
+/// Texts and the messages of their errors, but for those that show a character.
 const PLAIN: &[(&str, &str)] = &[
     ("[", "Parse error at line:1, col:1: Unexpected EOF"),
     (
@@ -113,7 +113,7 @@ const SHOWN: &[(char, &str)] = &[
     ('\u{1f600}', "U+1F600"),
 ];
 
-/// Texts after which any of these characters is refused, the column, and what stands before and behind
+/// Texts after which any of these characters is refused, the column, and what stands before and after
 /// the character in the message.
 const EACH: &[(&str, usize, &str, &str)] = &[
     (

@@ -10,21 +10,21 @@ mod many;
 mod refusals;
 mod values;
 
-use crate::common::{is_refusal, is_written_so, parsed};
+use crate::common::{is_refusal, is_written_so, parsed, parsed_within};
 use std::alloc::Global;
 use std::test::Fail;
 use tinyjson::{JsonParseErrorKind, JsonParseResult, JsonValue};
 
-/// What a call of `parse` answers.
+/// What a call of `parse` returns.
 #[derive(Clone, Copy, Debug)]
 pub(crate) enum Answer {
     /// A value with this compact text.
     Text(&'static str),
-    /// A refusal of this kind at this line and column.
+    /// An error of this kind at this line and column.
     Refusal(JsonParseErrorKind, usize, usize),
 }
 
-/// Whether the parser's answer is the expected one.
+/// Whether the parser's result is the expected one.
 pub(crate) fn agrees(
     alloc: Global,
     answer: JsonParseResult,
@@ -47,10 +47,17 @@ fn is_answer(alloc: Global, answer: JsonParseResult, expected: Answer) -> bool {
     }
 }
 
-/// Whether a text and its characters are both answered so.
+/// Whether a text and its characters both have this result.
 fn both_agree(alloc: Global, text: &str, expected: Answer) -> bool {
     is_answer(alloc, JsonValue::from_str(alloc, text), expected)
         && is_answer(alloc, parsed(alloc, text), expected)
+}
+
+/// The same with a limit on open containers.
+fn both_agree_within(alloc: Global, text: &str, limit: usize, expected: Answer) -> bool {
+    let answer = JsonValue::from_str_with_depth_limit(alloc, text, limit);
+    is_answer(alloc, answer, expected)
+        && is_answer(alloc, parsed_within(alloc, text, limit), expected)
 }
 
 /// Whether the first text is read, and its value is written as the second.
@@ -58,7 +65,7 @@ fn is_read_so(alloc: Global, text: &str, written: &str) -> bool {
     is_written_so(alloc, JsonValue::from_str(alloc, text), written)
 }
 
-/// The line and column behind a character that is consumed at this place.
+/// The line and column after a character that is consumed at this place.
 pub(crate) fn moved((line, column): (usize, usize), c: char) -> (usize, usize) {
     if c == '\n' {
         (line.saturating_add(1), 0)

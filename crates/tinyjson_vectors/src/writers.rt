@@ -10,7 +10,7 @@ pub const MESSAGE: &str = "the writer's own message";
 /// How a writer fails.
 #[derive(Clone, Copy, Debug)]
 pub enum Fault {
-    /// It answers an error of this kind, with [`MESSAGE`].
+    /// It returns an error of this kind, with [`MESSAGE`].
     Error(ErrorKind),
     /// It takes nothing, though it was given bytes.
     TakesNothing,
@@ -26,7 +26,9 @@ pub struct FaultyWriter {
     chunk: usize,
     room: usize,
     fault: Option<Fault>,
+    has_failed: bool,
     calls: usize,
+    late_calls: usize,
     empty_calls: usize,
     flushes: usize,
 }
@@ -39,7 +41,9 @@ impl FaultyWriter {
             chunk,
             room: usize::MAX,
             fault: None,
+            has_failed: false,
             calls: 0,
+            late_calls: 0,
             empty_calls: 0,
             flushes: 0,
         }
@@ -52,7 +56,9 @@ impl FaultyWriter {
             chunk,
             room,
             fault: Some(fault),
+            has_failed: false,
             calls: 0,
+            late_calls: 0,
             empty_calls: 0,
             flushes: 0,
         }
@@ -66,6 +72,11 @@ impl FaultyWriter {
     /// How often `write` was called.
     pub fn calls(&self) -> usize {
         self.calls
+    }
+
+    /// How often `write` was called after it had failed.
+    pub fn late_calls(&self) -> usize {
+        self.late_calls
     }
 
     /// How often `write` was called with no bytes.
@@ -82,6 +93,9 @@ impl FaultyWriter {
         ensures { self.new.bytes ≡ self.old.bytes }
     {
         self.calls = self.calls.saturating_add(1);
+        if self.has_failed {
+            self.late_calls = self.late_calls.saturating_add(1);
+        }
         if is_empty {
             self.empty_calls = self.empty_calls.saturating_add(1);
         }
@@ -95,6 +109,7 @@ impl Write for FaultyWriter {
         self.count(buf.is_empty());
         if self.room == 0 {
             self.room = usize::MAX;
+            self.has_failed = self.fault.is_some();
             match self.fault {
                 Some(Fault::Error(kind)) => return Err(io::Error::new(kind, MESSAGE)),
                 Some(Fault::TakesNothing) => return Ok(0),

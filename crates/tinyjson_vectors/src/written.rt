@@ -1,13 +1,14 @@
-//! Written texts, to good writers and to bad ones.
+//! Written texts.
+
+mod failing;
 
 use crate::common::{
     is_indented, is_taken, is_text, is_written, number, pair, single, string, with_item,
     with_member,
 };
-use crate::writers::{Fault, FaultyWriter, MESSAGE};
+use crate::documentation::{COMPACT, INDENTED};
 use std::alloc::Global;
 use std::collections::HashMap;
-use std::io::{self, ErrorKind};
 use std::process::Abort;
 use std::string::ToString;
 use std::test::Fail;
@@ -73,7 +74,7 @@ fn written_number(alloc: Global, literal: &str) -> Result<String, Fail> {
     Ok(stringify(alloc, &value)?)
 }
 
-// 1 and 308 zeros, and 323 zeros between `0.` and 5.
+/// 1 and 308 zeros, and 323 zeros between `0.` and 5.
 #[test]
 fn writes_many_zeros(rt: HostRuntime) -> Result<(), Fail> {
     let large = written_number(rt.alloc(), "1e308")?;
@@ -138,23 +139,12 @@ fn document(alloc: Global) -> Result<JsonValue, Fail> {
 #[test]
 fn writes_a_document(rt: HostRuntime) -> Result<(), Fail> {
     let value = document(rt.alloc())?;
-    check_compact(
-        &rt,
-        rt.alloc(),
-        &value,
-        "{\"arr\":[1,null,\"test\"],\"bool\":true,\"nested\":{\"blah\":false,\"blahblah\":3.14},\"unicode\":\"\u{2764}\"}",
-    );
-    check_format(
-        &rt,
-        rt.alloc(),
-        &value,
-        "{\n  \"arr\": [\n    1,\n    null,\n    \"test\"\n  ],\n  \"bool\": true,\n  \
-        \"nested\": {\n    \"blah\": false,\n    \"blahblah\": 3.14\n  },\n  \"unicode\": \"\u{2764}\"\n}",
-    );
+    check_compact(&rt, rt.alloc(), &value, COMPACT);
+    check_format(&rt, rt.alloc(), &value, INDENTED);
     Ok(())
 }
 
-// An emoji's key before one whose character is smaller.
+/// An emoji's key before one whose character is smaller.
 fn rising_keys(alloc: Global) -> Result<JsonValue, Fail> {
     let one = number(alloc, "1")?;
     let two = number(alloc, "2")?;
@@ -168,12 +158,12 @@ fn sorts_keys_by_their_bytes(rt: HostRuntime) -> Result<(), Fail> {
     Ok(())
 }
 
-// The object with this array alone.
+/// The object with this array alone.
 fn array_member(alloc: Global, items: Vec<JsonValue>) -> Result<JsonValue, Fail> {
     Ok(single(alloc, "k", JsonValue::Array(items))?)
 }
 
-// [{},[],{"k":[null]}]
+/// [{},[],{"k":[null]}]
 fn containers(alloc: Global) -> Result<JsonValue, Fail> {
     let items = with_item(Vec::new(alloc), JsonValue::Object(HashMap::new(alloc)))?;
     let items = with_item(items, JsonValue::Array(Vec::new(alloc)))?;
@@ -246,195 +236,8 @@ fn generates_a_string(rt: HostRuntime) -> Result<(), Fail> {
     Ok(())
 }
 
-// [null,"x"]
-fn inner(alloc: Global) -> Result<JsonValue, Fail> {
-    let items = with_item(Vec::new(alloc), JsonValue::Null)?;
-    Ok(JsonValue::Array(with_item(items, string(alloc, "x")?)?))
-}
-
-// {"b":2,"a":[null,"x"]}
-fn falling_keys(alloc: Global) -> Result<JsonValue, Fail> {
-    let two = number(alloc, "2")?;
-    Ok(pair(alloc, ("b", two), ("a", inner(alloc)?))?)
-}
-
-// [1,{"b":2,"a":[null,"x"]}]
-fn nested(alloc: Global) -> Result<JsonValue, Fail> {
-    let items = with_item(Vec::new(alloc), number(alloc, "1")?)?;
-    Ok(JsonValue::Array(with_item(items, falling_keys(alloc)?)?))
-}
-
-const NESTED: &str = "[1,{\"a\":[null,\"x\"],\"b\":2}]";
-
 #[test]
-fn writes_byte_by_byte(rt: HostRuntime) -> Result<(), Fail> {
-    let value = nested(rt.alloc())?;
-    let mut writer = FaultyWriter::good(rt.alloc(), 1);
-    let answer = value.write_to(rt.alloc(), &mut writer);
-    assert!(rt; is_taken(answer, writer.bytes(), NESTED));
-    assert_eq!(rt;
-        (writer.calls(), writer.empty_calls(), writer.flushes()),
-        (26, 0, 0)
-    );
-    Ok(())
-}
-
-// A generator of indented texts writes a value three times.
-fn generate_three(alloc: Global, writer: &mut FaultyWriter, value: &JsonValue) -> io::Result<()> {
-    let text = string(alloc, "\n\n")?;
-    let mut generator = JsonGenerator::new(alloc, writer).indent("");
-    generator.generate(value)?;
-    generator.generate(&JsonValue::Null)?;
-    generator.generate(&text)
-}
-
-#[test]
-fn flushes_nothing(rt: HostRuntime) -> Result<(), Fail> {
-    let value = nested(rt.alloc())?;
-    let mut writer = FaultyWriter::good(rt.alloc(), 3);
-    assert!(rt; value.format_to(rt.alloc(), &mut writer).is_ok());
-    assert_eq!(rt; (writer.empty_calls(), writer.flushes()), (0, 0));
-    let mut writer = FaultyWriter::good(rt.alloc(), usize::MAX);
-    assert!(rt; generate_three(rt.alloc(), &mut writer, &value).is_ok());
-    assert_eq!(rt;
-        (writer.calls(), writer.empty_calls(), writer.flushes()),
-        (3, 0, 0)
-    );
-    Ok(())
-}
-
-// Whether an error of this kind was answered, which is shown so.
-fn is_fault(alloc: Global, answer: io::Result<()>, kind: ErrorKind, message: &str) -> bool {
-    let Err(error) = answer else {
-        return false;
-    };
-    error.kind() == kind
-        && match error.to_string(alloc) {
-            Ok(shown) => shown.as_str() == message,
-            Err(_) => false,
-        }
-}
-
-// How a value is written.
-#[derive(Clone, Copy, Debug)]
-enum Call {
-    Generate,
-    GenerateIndented,
-    WriteTo,
-    FormatTo,
-}
-
-// The calls, and what each writes of the nested value.
-const CALLS: [(Call, &str); 4] = [
-    (Call::Generate, NESTED),
-    (
-        Call::GenerateIndented,
-        "[\n1,\n{\n\"a\": [\nnull,\n\"x\"\n],\n\"b\": 2\n}\n]",
-    ),
-    (Call::WriteTo, NESTED),
-    (
-        Call::FormatTo,
-        "[\n  1,\n  {\n    \"a\": [\n      null,\n      \"x\"\n    ],\n    \"b\": 2\n  }\n]",
-    ),
-];
-
-impl Call {
-    fn write(self, alloc: Global, writer: &mut FaultyWriter, value: &JsonValue) -> io::Result<()> {
-        match self {
-            Call::Generate => JsonGenerator::new(alloc, writer).generate(value),
-            Call::GenerateIndented => JsonGenerator::new(alloc, writer).indent("").generate(value),
-            Call::WriteTo => value.write_to(alloc, writer),
-            Call::FormatTo => value.format_to(alloc, writer),
-        }
-    }
-}
-
-// The error where a writer takes nothing.
-const NOTHING_TAKEN: (ErrorKind, &str) = (ErrorKind::WriteZero, "the writer took no byte");
-
-// The writer fails at each place of the text in turn.
-fn check_fault(
-    rt: &impl Abort,
-    alloc: Global,
-    value: &JsonValue,
-    (call, text): (Call, &str),
-    fault: Fault,
-    (kind, message): (ErrorKind, &str),
-) {
-    for room in 0..text.len() {
-        let mut writer = FaultyWriter::failing(alloc, 1, room, fault);
-        let answer = call.write(alloc, &mut writer, value);
-        assert!(rt; is_fault(alloc, answer, kind, message), "{call:?} {room}");
-        assert!(rt;
-            text.as_bytes().get(..room) == Some(writer.bytes()),
-            "{call:?} {room}"
-        );
-        assert_eq!(rt;
-            (writer.calls(), writer.empty_calls(), writer.flushes()),
-            (room + 1, 0, 0)
-        );
-    }
-}
-
-#[test]
-fn ends_with_the_first_fault(rt: HostRuntime) -> Result<(), Fail> {
-    let alloc = rt.alloc();
-    let value = nested(alloc)?;
-    for call in CALLS {
-        for kind in [
-            ErrorKind::BrokenPipe,
-            ErrorKind::Interrupted,
-            ErrorKind::Other,
-        ] {
-            check_fault(
-                &rt,
-                alloc,
-                &value,
-                call,
-                Fault::Error(kind),
-                (kind, MESSAGE),
-            );
-        }
-        check_fault(&rt, alloc, &value, call, Fault::TakesNothing, NOTHING_TAKEN);
-    }
-    Ok(())
-}
-
-// [true,null]
-fn two_items(alloc: Global) -> Result<JsonValue, Fail> {
-    let items = with_item(Vec::new(alloc), JsonValue::Boolean(true))?;
-    Ok(JsonValue::Array(with_item(items, JsonValue::Null)?))
-}
-
-#[test]
-fn writes_again_after_a_fault(rt: HostRuntime) -> Result<(), Fail> {
-    let value = two_items(rt.alloc())?;
-    let fault = Fault::Error(ErrorKind::BrokenPipe);
-    let mut writer = FaultyWriter::failing(rt.alloc(), usize::MAX, 3, fault);
-    let mut generator = JsonGenerator::new(rt.alloc(), &mut writer);
-    let answer = generator.generate(&value);
-    assert!(rt; is_fault(rt.alloc(), answer, ErrorKind::BrokenPipe, MESSAGE));
-    let answer = generator.generate(&value);
-    assert!(rt; is_taken(answer, writer.bytes(), "[tr[true,null]"));
-    Ok(())
-}
-
-#[test]
-fn writes_two_items_byte_by_byte(rt: HostRuntime) -> Result<(), Fail> {
-    let alloc = rt.alloc();
-    let value = two_items(alloc)?;
-    let mut writer = FaultyWriter::good(alloc, 1);
-    let answer = value.write_to(alloc, &mut writer);
-    assert!(rt; is_taken(answer, writer.bytes(), "[true,null]"));
-    let (kind, message) = NOTHING_TAKEN;
-    let mut writer = FaultyWriter::failing(alloc, 1, 0, Fault::TakesNothing);
-    let answer = value.write_to(alloc, &mut writer);
-    assert!(rt; is_fault(alloc, answer, kind, message));
-    Ok(())
-}
-
-#[test]
-fn tells_want_of_memory(rt: HostRuntime) -> Result<(), Fail> {
+fn words_of_out_of_memory(rt: HostRuntime) -> Result<(), Fail> {
     let error = JsonGenerateError;
     assert_eq!(rt; error.message(), "out of memory");
     let shown = error.to_string(rt.alloc())?;

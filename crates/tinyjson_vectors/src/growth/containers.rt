@@ -13,13 +13,13 @@ enum Piece {
     Item,
     /// A member with a key of its own.
     Member,
-    /// The same with a space behind the colon.
+    /// The same with a space after the colon.
     SpacedMember,
     /// A member with the same key as the others.
     EqualMember,
 }
 
-/// What stands before, between and behind the pieces.
+/// What stands before, between and after the pieces.
 type Brackets = [&'static str; 3];
 
 /// The key of the member with this number, in the order of the numbers.

@@ -6,7 +6,7 @@ use std::collections::HashMap;
 use std::test::Fail;
 use tinyjson::{JsonKind, JsonParseErrorKind as Kind, JsonValue, insert_member};
 
-/// The kind of a refusal and its column.
+/// The kind of an error and its column.
 type Refusal = (Kind, usize);
 
 /// What is nested: how each level begins, what stands inside the last, and how each level ends.

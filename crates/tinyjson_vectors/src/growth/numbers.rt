@@ -46,7 +46,7 @@ fn before_the_point(alloc: Global, size: usize) -> Result<Case, Fail> {
     case(alloc, text, other, written?)
 }
 
-/// `size` nines behind the point, and one 8.
+/// `size` nines after the point, and one 8.
 fn behind_the_point(alloc: Global, size: usize) -> Result<Case, Fail> {
     let power = size.saturating_add(1);
     let text = repeated(alloc, "-0.", ("9", size), "8")?;
@@ -69,6 +69,17 @@ fn in_the_exponent_of_zero(alloc: Global, size: usize) -> Result<Case, Fail> {
     case(alloc, text, other, "0".to_string(alloc)?)
 }
 
+/// Whether the text, which is a number, is read as one that is known to be a number.
+fn is_known(alloc: Global, text: &str) -> bool {
+    let Ok(number) = JsonNumber::from_text(alloc, text) else {
+        return false;
+    };
+    match JsonNumber::from_literal(alloc, text) {
+        Ok(known) => known == number,
+        Err(_) => false,
+    }
+}
+
 /// Whether the number is shown as it is written.
 fn is_shown(alloc: Global, case: &Case) -> bool {
     let Some(number) = case.value.get::<JsonNumber>() else {
@@ -86,6 +97,10 @@ fn check_number(rt: &impl Abort, alloc: Global, case: &Case, name: &str, size: u
     assert!(rt;
         is_shown(alloc, case),
         "the number of {size} {name} is not shown"
+    );
+    assert!(rt;
+        is_known(alloc, case.text.as_str()),
+        "the number of {size} {name} is not known"
     );
 }
 

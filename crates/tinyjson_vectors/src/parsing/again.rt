@@ -1,9 +1,9 @@
-//! `parse` called again, after a refusal and after a value.
+//! `parse` called again, after an error and after a value.
 
 use super::{Answer, is_answer};
 use tinyjson::{JsonKind, JsonParseErrorKind as Kind, JsonParser};
 
-/// A text, and what one call after another answers.
+/// A text, and what one call after another returns.
 const ROWS: &[(&str, &[Answer])] = &[
     (
         "[1,]",

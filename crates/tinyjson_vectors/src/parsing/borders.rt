@@ -28,7 +28,7 @@ const TOKENS: &[(&str, &str)] = &[
     ("{ \"a\" : 1 }", "{\"a\":1}"),
 ];
 
-/// What stands behind a token: white space, and characters of one to four bytes.
+/// What stands after a token: white space, and characters of one to four bytes.
 const WHITE: &[&str] = &["", " ", "\n", "\r\n", "\t"];
 
 const OTHERS: &[char] = &['x', '\u{b}', '\u{a0}', 'é', '€', '😀'];
@@ -38,7 +38,7 @@ fn width(token: &str) -> usize {
     token.chars().count()
 }
 
-/// A token behind a line feed, behind so many spaces.
+/// A token after a line feed, after so many spaces.
 fn padded(alloc: Global, count: usize, token: &str) -> Result<String, AllocError> {
     let mut text = String::from_str(alloc, "\n")?;
     for _ in 0..count {
@@ -90,7 +90,7 @@ fn quoted(alloc: Global, unit: char, count: usize, end: &str) -> Result<String, 
     Ok(text)
 }
 
-/// What stands behind plain characters, the kind of the refusal, and how many characters it takes.
+/// What stands after plain characters, the kind of the error, and how many characters it takes.
 const ENDS: &[(&str, Kind, usize)] = &[
     ("", Kind::UnexpectedEof, 0),
     ("\\", Kind::UnexpectedEof, 1),

@@ -1,11 +1,11 @@
 //! Parsers with a limit on open containers.
 
-use super::{Answer, is_answer};
-use crate::common::{is_refusal, parsed_within};
+use super::{Answer, both_agree_within};
+use crate::common::is_refusal;
 use std::iter;
 use tinyjson::{JsonKind, JsonParseErrorKind as Kind, JsonParser};
 
-/// A text, a limit and the answer.
+/// A text, a limit and the result.
 const ROWS: &[(&str, usize, Answer)] = &[
     ("7", 0, Answer::Text("7")),
     ("[1]", 1, Answer::Text("[1]")),
@@ -34,9 +34,8 @@ const ROWS: &[(&str, usize, Answer)] = &[
 #[test]
 fn the_limit_decides(rt: HostRuntime) {
     for &(text, limit, expected) in ROWS {
-        let answer = parsed_within(rt.alloc(), text, limit);
         assert!(rt;
-            is_answer(rt.alloc(), answer, expected),
+            both_agree_within(rt.alloc(), text, limit, expected),
             "{text} with limit {limit}: {expected:?}"
         );
     }

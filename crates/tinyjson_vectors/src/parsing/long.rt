@@ -1,7 +1,7 @@
 //! Long texts.
 
-use super::is_read_so;
-use crate::common::{is_refusal, parsed};
+use super::{Answer, both_agree, is_read_so};
+use crate::common::is_refusal;
 use std::alloc::{AllocError, Global};
 use std::test::Fail;
 use tinyjson::{JsonParseErrorKind as Kind, JsonParser};
@@ -34,9 +34,9 @@ const REFUSED: &[(Repeated, Kind, usize)] = &[
 fn deep_texts_are_refused(rt: HostRuntime) -> Result<(), Fail> {
     for &(text, kind, column) in REFUSED {
         let text = written(rt.alloc(), text)?;
-        let answer = parsed(rt.alloc(), text.as_str());
+        let refusal = Answer::Refusal(kind, 1, column);
         assert!(rt;
-            is_refusal(answer, kind, (1, column)),
+            both_agree(rt.alloc(), text.as_str(), refusal),
             "{kind:?} at {column}"
         );
     }
@@ -93,7 +93,7 @@ fn is_refused_twice(alloc: Global, text: &str, column: usize) -> bool {
 #[test]
 fn a_surrogate_is_left_out(rt: HostRuntime) -> Result<(), Fail> {
     for left_out in 0..6 {
-        // The column of the second refusal shows whether the quote was left.
+        // The column of the second error shows whether the quote was left.
         for (end, column) in [("\"", 32), ("x\"", 33)] {
             let text = broken(rt.alloc(), left_out, end)?;
             assert!(rt;

@@ -1,5 +1,5 @@
 //! Objects and arrays of 63, 64, 65, 128 and 1,000 members and items: equal keys, of which the last stays, and
-//! what is refused behind the last. A text in memory and its characters are read.
+//! what is refused after the last. A text in memory and its characters are read.
 
 use super::{Answer, both_agree};
 use crate::common::{is_value, parsed, put, whole};
@@ -77,7 +77,7 @@ fn items(alloc: Global, count: usize) -> Result<String, AllocError> {
     Ok(text)
 }
 
-/// What stands behind the last member, the kind of the error, and how many characters of it are consumed.
+/// What stands after the last member, the kind of the error, and how many characters of it are consumed.
 const BEHIND_MEMBERS: &[(&str, Kind, usize)] = &[
     ("", Kind::UnexpectedEof, 0),
     (" ;", Kind::ExpectedCommaOrBrace(';'), 2),
@@ -88,7 +88,7 @@ const BEHIND_MEMBERS: &[(&str, Kind, usize)] = &[
     (",[1]:", Kind::KeyNotString(JsonKind::Array), 4),
 ];
 
-/// The same behind the last item.
+/// The same after the last item.
 const BEHIND_ITEMS: &[(&str, Kind, usize)] = &[
     ("", Kind::UnexpectedEof, 0),
     (" x", Kind::ExpectedCommaOrBracket('x'), 2),
@@ -96,7 +96,7 @@ const BEHIND_ITEMS: &[(&str, Kind, usize)] = &[
     (",-]", Kind::EmptyInteger, 2),
 ];
 
-/// Whether a text of ASCII is refused so with each of these behind it.
+/// Whether a text of ASCII is refused so with each of these after it.
 fn all_refused(alloc: Global, text: &str, behind: &[(&str, Kind, usize)]) -> Result<bool, Fail> {
     for &(end, kind, taken) in behind {
         let text_and_end = format!(in alloc; "{text}{end}")?;

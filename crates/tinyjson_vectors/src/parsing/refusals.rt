@@ -1,6 +1,6 @@
 //! Texts that are refused, each with its kind, line and column.
 
-use crate::common::{is_refusal, parsed};
+use super::{Answer, both_agree};
 use tinyjson::{JsonKind, JsonParseErrorKind as Kind};
 
 const ROWS: &[(&str, Kind, usize, usize)] = &[
@@ -75,7 +75,7 @@ const ROWS: &[(&str, Kind, usize, usize)] = &[
 #[test]
 fn each_text_is_refused(rt: HostRuntime) {
     for &(text, kind, line, column) in ROWS {
-        let answer = parsed(rt.alloc(), text);
-        assert!(rt; is_refusal(answer, kind, (line, column)), "{text}");
+        let refusal = Answer::Refusal(kind, line, column);
+        assert!(rt; both_agree(rt.alloc(), text, refusal), "{text}");
     }
 }

@@ -97,7 +97,7 @@ fn each_value_is_written(rt: HostRuntime) -> Result<(), Fail> {
     let alloc = rt.alloc();
     for &(text, compact) in ROWS {
         assert!(rt; is_read_to_its_end(alloc, text, compact), "{text}");
-        assert!(rt; are_equal(alloc, compact, text)?, "{text}");
+        assert!(rt; are_equal(alloc, text, compact)?, "{text}");
         assert!(rt; is_read_so(alloc, compact, compact), "{text}");
     }
     Ok(())

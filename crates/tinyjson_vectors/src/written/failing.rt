@@ -1,0 +1,266 @@
+//! Writers that take few bytes a call, and writers that fail.
+
+use crate::common::{is_taken, number, pair, string, with_item};
+use crate::writers::{Fault, FaultyWriter, MESSAGE};
+use std::alloc::Global;
+use std::io::{self, ErrorKind};
+use std::process::Abort;
+use std::string::ToString;
+use std::test::Fail;
+use tinyjson::{JsonGenerator, JsonValue};
+
+/// [null,"x"]
+fn inner(alloc: Global) -> Result<JsonValue, Fail> {
+    let items = with_item(Vec::new(alloc), JsonValue::Null)?;
+    Ok(JsonValue::Array(with_item(items, string(alloc, "x")?)?))
+}
+
+/// {"b":2,"a":[null,"x"]}
+fn falling_keys(alloc: Global) -> Result<JsonValue, Fail> {
+    let two = number(alloc, "2")?;
+    Ok(pair(alloc, ("b", two), ("a", inner(alloc)?))?)
+}
+
+/// [1,{"b":2,"a":[null,"x"]}]
+fn nested(alloc: Global) -> Result<JsonValue, Fail> {
+    let items = with_item(Vec::new(alloc), number(alloc, "1")?)?;
+    Ok(JsonValue::Array(with_item(items, falling_keys(alloc)?)?))
+}
+
+const NESTED: &str = "[1,{\"a\":[null,\"x\"],\"b\":2}]";
+
+#[test]
+fn writes_byte_by_byte(rt: HostRuntime) -> Result<(), Fail> {
+    let value = nested(rt.alloc())?;
+    let mut writer = FaultyWriter::good(rt.alloc(), 1);
+    let answer = value.write_to(rt.alloc(), &mut writer);
+    assert!(rt; is_taken(answer, writer.bytes(), NESTED));
+    assert_eq!(rt;
+        (writer.calls(), writer.empty_calls(), writer.flushes()),
+        (26, 0, 0)
+    );
+    Ok(())
+}
+
+/// A generator of indented texts writes a value three times.
+fn generate_three(alloc: Global, writer: &mut FaultyWriter, value: &JsonValue) -> io::Result<()> {
+    let text = string(alloc, "\n\n")?;
+    let mut generator = JsonGenerator::new(alloc, writer).indent("");
+    generator.generate(value)?;
+    generator.generate(&JsonValue::Null)?;
+    generator.generate(&text)
+}
+
+#[test]
+fn flushes_nothing(rt: HostRuntime) -> Result<(), Fail> {
+    let value = nested(rt.alloc())?;
+    let mut writer = FaultyWriter::good(rt.alloc(), 3);
+    assert!(rt; value.format_to(rt.alloc(), &mut writer).is_ok());
+    assert_eq!(rt; (writer.empty_calls(), writer.flushes()), (0, 0));
+    let mut writer = FaultyWriter::good(rt.alloc(), usize::MAX);
+    assert!(rt; generate_three(rt.alloc(), &mut writer, &value).is_ok());
+    assert_eq!(rt;
+        (writer.calls(), writer.empty_calls(), writer.flushes()),
+        (3, 0, 0)
+    );
+    Ok(())
+}
+
+/// Whether an error of this kind was returned, which is shown so.
+fn is_fault(alloc: Global, answer: io::Result<()>, kind: ErrorKind, message: &str) -> bool {
+    let Err(error) = answer else {
+        return false;
+    };
+    error.kind() == kind
+        && match error.to_string(alloc) {
+            Ok(shown) => shown.as_str() == message,
+            Err(_) => false,
+        }
+}
+
+/// How a value is written.
+#[derive(Clone, Copy, Debug)]
+enum Call {
+    Generate,
+    GenerateIndented,
+    WriteTo,
+    FormatTo,
+}
+
+/// The calls, and what each writes of the nested value.
+const CALLS: [(Call, &str); 4] = [
+    (Call::Generate, NESTED),
+    (
+        Call::GenerateIndented,
+        "[\n1,\n{\n\"a\": [\nnull,\n\"x\"\n],\n\"b\": 2\n}\n]",
+    ),
+    (Call::WriteTo, NESTED),
+    (
+        Call::FormatTo,
+        "[\n  1,\n  {\n    \"a\": [\n      null,\n      \"x\"\n    ],\n    \"b\": 2\n  }\n]",
+    ),
+];
+
+impl Call {
+    fn write(self, alloc: Global, writer: &mut FaultyWriter, value: &JsonValue) -> io::Result<()> {
+        match self {
+            Call::Generate => JsonGenerator::new(alloc, writer).generate(value),
+            Call::GenerateIndented => JsonGenerator::new(alloc, writer).indent("").generate(value),
+            Call::WriteTo => value.write_to(alloc, writer),
+            Call::FormatTo => value.format_to(alloc, writer),
+        }
+    }
+}
+
+/// The error where a writer takes nothing.
+const NOTHING_TAKEN: (Fault, ErrorKind, &str) = (
+    Fault::TakesNothing,
+    ErrorKind::WriteZero,
+    "the writer took no byte",
+);
+
+/// The errors of a writer, and where it takes nothing, with their kinds and words.
+const FAULTS: [(Fault, ErrorKind, &str); 4] = [
+    (
+        Fault::Error(ErrorKind::BrokenPipe),
+        ErrorKind::BrokenPipe,
+        MESSAGE,
+    ),
+    (
+        Fault::Error(ErrorKind::Interrupted),
+        ErrorKind::Interrupted,
+        MESSAGE,
+    ),
+    (Fault::Error(ErrorKind::Other), ErrorKind::Other, MESSAGE),
+    NOTHING_TAKEN,
+];
+
+/// What is wrong where a writer that takes `chunk` bytes a call fails after `room` bytes of the text.
+fn fault_of(
+    alloc: Global,
+    value: &JsonValue,
+    (call, text): (Call, &str),
+    (chunk, room): (usize, usize),
+    (fault, kind, message): (Fault, ErrorKind, &str),
+) -> Option<&'static str> {
+    let mut writer = FaultyWriter::failing(alloc, chunk, room, fault);
+    let answer = call.write(alloc, &mut writer, value);
+    if !is_fault(alloc, answer, kind, message) {
+        Some("ends with another error")
+    } else if text.as_bytes().get(..room) != Some(writer.bytes()) {
+        Some("has written something else")
+    } else if (writer.late_calls(), writer.empty_calls(), writer.flushes()) != (0, 0, 0) {
+        Some("calls the writer again")
+    } else {
+        None
+    }
+}
+
+/// The writer fails at every place of the text, or at each so many bytes.
+fn check_faults(
+    rt: &impl Abort,
+    alloc: Global,
+    value: &JsonValue,
+    call: (Call, &str),
+    (chunk, step): (usize, usize),
+) {
+    for room in (0..call.1.len()).step_by(step) {
+        for fault in FAULTS {
+            assert_eq!(rt;
+                fault_of(alloc, value, call, (chunk, room), fault),
+                None,
+                "{:?} {room} {:?}",
+                call.0,
+                fault.0
+            );
+        }
+    }
+}
+
+#[test]
+fn ends_with_the_first_fault(rt: HostRuntime) -> Result<(), Fail> {
+    let value = nested(rt.alloc())?;
+    for call in CALLS {
+        check_faults(&rt, rt.alloc(), &value, call, (1, 1));
+    }
+    Ok(())
+}
+
+/// The lengths of strings of which some are written at once, and some are gathered first.
+const LENGTHS: [usize; 6] = [1_500, 1_500, 2_500, 5_000, 0, 4_000];
+
+/// A string of so many characters for each of the lengths.
+fn long(alloc: Global) -> Result<JsonValue, Fail> {
+    let mut items = Vec::new(alloc);
+    for length in LENGTHS {
+        items.push(string(alloc, "x".repeat(alloc, length)?.as_str())?)?;
+    }
+    Ok(JsonValue::Array(items))
+}
+
+/// The text of that array, with this before, between and after its items.
+fn long_text(alloc: Global, [open, between, close]: [&str; 3]) -> Result<String, Fail> {
+    let mut text = String::from_str(alloc, open)?;
+    for (place, length) in LENGTHS.into_iter().enumerate() {
+        let characters = "x".repeat(alloc, length)?;
+        let before = if place == 0 { "" } else { between };
+        text.push_str(format!(in alloc; "{before}\"{characters}\"")?.as_str())?;
+    }
+    text.push_str(close)?;
+    Ok(text)
+}
+
+/// How each call writes an array.
+const ARRAYS: [(Call, [&str; 3]); 4] = [
+    (Call::Generate, ["[", ",", "]"]),
+    (Call::GenerateIndented, ["[\n", ",\n", "\n]"]),
+    (Call::WriteTo, ["[", ",", "]"]),
+    (Call::FormatTo, ["[\n  ", ",\n  ", "\n]"]),
+];
+
+#[test]
+fn ends_with_the_first_fault_of_a_long_text(rt: HostRuntime) -> Result<(), Fail> {
+    let alloc = rt.alloc();
+    let value = long(alloc)?;
+    for (call, brackets) in ARRAYS {
+        let text = long_text(alloc, brackets)?;
+        check_faults(&rt, alloc, &value, (call, text.as_str()), (1_000, 499));
+        let mut writer = FaultyWriter::good(alloc, 1_000);
+        let answer = call.write(alloc, &mut writer, &value);
+        assert!(rt; is_taken(answer, writer.bytes(), text.as_str()), "{call:?}");
+    }
+    Ok(())
+}
+
+/// [true,null]
+fn two_items(alloc: Global) -> Result<JsonValue, Fail> {
+    let items = with_item(Vec::new(alloc), JsonValue::Boolean(true))?;
+    Ok(JsonValue::Array(with_item(items, JsonValue::Null)?))
+}
+
+#[test]
+fn writes_again_after_a_fault(rt: HostRuntime) -> Result<(), Fail> {
+    let value = two_items(rt.alloc())?;
+    let fault = Fault::Error(ErrorKind::BrokenPipe);
+    let mut writer = FaultyWriter::failing(rt.alloc(), usize::MAX, 3, fault);
+    let mut generator = JsonGenerator::new(rt.alloc(), &mut writer);
+    let answer = generator.generate(&value);
+    assert!(rt; is_fault(rt.alloc(), answer, ErrorKind::BrokenPipe, MESSAGE));
+    let answer = generator.generate(&value);
+    assert!(rt; is_taken(answer, writer.bytes(), "[tr[true,null]"));
+    Ok(())
+}
+
+#[test]
+fn writes_two_items_byte_by_byte(rt: HostRuntime) -> Result<(), Fail> {
+    let alloc = rt.alloc();
+    let value = two_items(alloc)?;
+    let mut writer = FaultyWriter::good(alloc, 1);
+    let answer = value.write_to(alloc, &mut writer);
+    assert!(rt; is_taken(answer, writer.bytes(), "[true,null]"));
+    let (fault, kind, message) = NOTHING_TAKEN;
+    let mut writer = FaultyWriter::failing(alloc, 1, 0, fault);
+    let answer = value.write_to(alloc, &mut writer);
+    assert!(rt; is_fault(alloc, answer, kind, message));
+    Ok(())
+}
