@@ -55,7 +55,7 @@ def text_before(text, message):
 
 
 def parts_of(kind, groups, before):
-    """What the port's words of a kind show, where the crate's show this, behind the text before the place."""
+    """What the port's words of a kind show, where the crate's show this, after the text before the place."""
     if kind == "KeyNotString":
         return tuple(name.lower() for name in groups)
     if kind == "UnexpectedInLiteral":  # the crate shows the character that it expected

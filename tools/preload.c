@@ -7,7 +7,7 @@
 //     FAILED_WRITE=N   the Nth write to standard output fails with ERRNO
 //     SHORT_WRITES=N   a write to standard output takes at most N bytes
 //
-// A call that fails, a write behind one that failed, and memory that is not given back by the end of the
+// A call that fails, a write after one that failed, and memory that is not given back by the end of the
 // program, is told by a line on standard error.
 
 #define _GNU_SOURCE
