@@ -10,7 +10,7 @@ use Rattle.tinyjson_number.specs.declared.parse.ExponentParts.{ExponentParts}
 use Rattle.tinyjson_number.specs.declared.parse.NumberParts.{NumberParts}
 use Rattle.tinyjson_source.specs.Source.{Sight, Takes}
 use Rattle.tinyjson_tokens.specs.NumberSteps.{is_minus}
-use Rattle.tinyjson_tokens.specs.declared.number.Mantissa.{Mantissa}
+use Rattle.tinyjson_tokens.specs.declared.numerals.Mantissa.{Mantissa}
 
 -- whether a character that passes the test stands at a place
 abbrev pub ShowsAt : (ℕ → Bool) → List ℕ → ℕ → Bool → Type 0

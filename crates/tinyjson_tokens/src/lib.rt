@@ -6,6 +6,7 @@
 
 mod escape;
 mod number;
+mod numerals;
 mod reader;
 mod string;
 mod tokens;

@@ -6,7 +6,7 @@ ghost use Rattle.tinyjson_tokens.specs.Numerals.{TakesNumber, TakesParts};
 ghost use Rattle.tinyjson_tokens.specs.Steps.{Halts, Leads, within};
 
 use crate::escape::escape_at;
-use crate::number::{parts_at, scientific_at};
+use crate::numerals::{parts_at, scientific_at};
 use std::alloc::{AllocError, Global};
 use tinyjson_number::{JsonNumber, NumberParts};
 use tinyjson_source::utf16::push;

@@ -8,7 +8,7 @@ ghost use Rattle.tinyjson.specs.private.Sorted.{sorted_view};
 ghost use Rattle.tinyjson_grammar.specs.Text.{items_text, members_text, quoted, separator, text};
 ghost use Rattle.tinyjson.specs.View.{view, items_view};
 
-use super::sorted::{first_member, next_member};
+use super::sorted::{first_member, holds_others, next_member};
 use crate::value::JsonValue;
 use tinyjson_output::Room;
 use tinyjson_output::quick::{quick_key, quick_number, quick_text, quick_word};
@@ -151,16 +151,6 @@ fn quick_empty(room: &mut Room, value: &JsonValue) -> bool
     match value {
         JsonValue::Array(items) => items.is_empty() && quick_word(room, b"[]"),
         JsonValue::Object(members) => members.is_empty() && quick_word(room, b"{}"),
-        _ => false,
-    }
-}
-
-/// Whether the value is an array or object that isn't empty: only a hint, that saves the key.
-#[inline(always)]
-pub(super) fn holds_others(value: &JsonValue) -> bool {
-    match value {
-        JsonValue::Array(items) => !items.is_empty(),
-        JsonValue::Object(members) => !members.is_empty(),
         _ => false,
     }
 }

@@ -6,7 +6,6 @@ ghost use Rattle.std.specs.String.{string_eq};
 ghost use Rattle.tinyjson.specs.private.Sorted.{bytes_pair, now_pair, sorted_view};
 ghost use Rattle.tinyjson.specs.View.{members_view};
 
-use super::quick::holds_others;
 use crate::value::JsonValue;
 use std::alloc::{AllocError, Global};
 use std::collections::HashMap;
@@ -81,4 +80,14 @@ pub(super) fn next_member<'a>(
         (λ m. (0 < left) × (reverse gathered.old.items ≡ m ∷ reverse gathered.new.items)) }
 {
     if left == 0 { None } else { gathered.pop() }
+}
+
+/// Whether the value is an array or object that isn't empty: only a hint, that saves the key.
+#[inline(always)]
+pub(super) fn holds_others(value: &JsonValue) -> bool {
+    match value {
+        JsonValue::Array(items) => !items.is_empty(),
+        JsonValue::Object(members) => !members.is_empty(),
+        _ => false,
+    }
 }

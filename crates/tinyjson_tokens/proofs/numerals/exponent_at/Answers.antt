@@ -1,5 +1,5 @@
 use Rattle.tinyjson_tokens.proofs.Reading.Numerals.{exponent_between, some_from_test}
-use Rattle.tinyjson_tokens.proofs.number.exponent_at.Goals as goal
+use Rattle.tinyjson_tokens.proofs.numerals.exponent_at.Goals as goal
 
 pub returns : goal.returns
 returns c =

@@ -1,7 +1,7 @@
 use Rattle.std.proofs.Common.{arith}
 use Rattle.tinyjson_tokens.proofs.Reading.Numerals.{digits_pass, digits_split, digits_stop}
 use Rattle.tinyjson_source.proofs.Callers.{run_within}
-use Rattle.tinyjson_tokens.proofs.number.digits_at.Goals as goal
+use Rattle.tinyjson_tokens.proofs.numerals.digits_at.Goals as goal
 use Rattle.std.specs.Char.{is_ascii_digit}
 
 pub slice_bounds-result-end : goal.slice_bounds-result-end

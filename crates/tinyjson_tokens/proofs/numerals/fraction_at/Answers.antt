@@ -1,5 +1,5 @@
 use Rattle.tinyjson_tokens.proofs.Reading.Numerals.{fraction_between, no_fraction_at, some_from_test}
-use Rattle.tinyjson_tokens.proofs.number.fraction_at.Goals as goal
+use Rattle.tinyjson_tokens.proofs.numerals.fraction_at.Goals as goal
 
 pub returns-then-not-has_point : goal.returns-then-not-has_point
 returns-then-not-has_point c = no_fraction_at c.args.bytes.now c.args.point c.requires.within c.requires.stops (c.if-not-has_point.ensures)

@@ -1,7 +1,7 @@
 use Rattle.std.proofs.Common.{ap, sym, ◌∙◌, ◌++◌}
 use Rattle.tinyjson_number.specs.Numeral.{minus_text}
 use Rattle.tinyjson_tokens.proofs.Reading.Numerals.{some_from_test}
-use Rattle.tinyjson_tokens.proofs.number.mantissa_at.Goals as goal
+use Rattle.tinyjson_tokens.proofs.numerals.mantissa_at.Goals as goal
 
 pub returns : goal.returns
 returns c =

@@ -1,7 +1,7 @@
 use Rattle.std.proofs.Common.{subst, sym}
 use Rattle.tinyjson_tokens.specs.Numerals.{PartsAt}
 use Rattle.tinyjson_tokens.proofs.Reading.Numerals.{scientific_between}
-use Rattle.tinyjson_tokens.proofs.number.scientific_at.Goals as goal
+use Rattle.tinyjson_tokens.proofs.numerals.scientific_at.Goals as goal
 
 pub returns : goal.returns
 returns c =
