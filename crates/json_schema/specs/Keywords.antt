@@ -1,6 +1,6 @@
 -- The keywords that speak of a value and not of its parts (JSON Schema 2020-12, Validation).
--- One whose own value has another form than the standard's says nothing, but a type of another form, or with no
--- name of a type in it, accepts nothing.
+-- One whose own value has another form than the standard's says nothing (of `required`, only an item that is no
+-- string), but a type of another form, or with no name of a type in it, accepts nothing.
 use Rattle.std.specs.Prelude.{pos, Bool, true, false, not, ◌&&◌, ◌||◌, Option, Some, None, is_some, int_le, codes}
 use Rattle.std.specs.Str.{bytes_eq}
 use Rattle.tinyjson.specs.Index.{tree_at_key}

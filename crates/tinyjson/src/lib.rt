@@ -1,5 +1,5 @@
-//! A JSON parser and generator: every value read, every error with its kind and position, and every byte
-//! written is covered by a proved contract.
+//! A JSON parser and generator: proved contracts say which value each text gives, which error with which
+//! position, and which bytes are written.
 //!
 //! Text by the grammar of RFC 8259, sections 2 to 8, is read from any iterator of characters into a
 //! [`JsonValue`] of plain containers. A value goes back to text over any writer, with its keys in the
