@@ -9,14 +9,14 @@ use Rattle.std.specs.declared.cmp.Ordering.TheVariants.{Less, Equal, Greater}
 use Rattle.std.specs.Ordering.{nat_cmp, match_ordering, is_lt, is_eq, eq_by_cmp, ordering_reverse}
 use Rattle.std.specs.Cmp.Lexicographic.{slice_cmp, nat_list_eq_equiv}
 use Rattle.std.specs.Str.{IsUtf8, chars}
-use Rattle.std.specs.List.{IsDistinct, AllByRecursion}
+use Rattle.std.specs.List.{All, IsDistinct, AllByRecursion}
 use Rattle.std.specs.List.Sorted.{IsPermutation, IsStrictlySortedBy, IsSortedBy}
 use Rattle.std.specs.Map.{keys_of, lookup}
 use Rattle.std.specs.String.{string_eq}
-use Rattle.std.proofs.ByRecursion.{all_shuffled}
 use Rattle.std.proofs.lemmas.Cmp.{nat_list_cmp_total, eq_by_cmp_equiv}
 use Rattle.std.proofs.lemmas.List.{length-map, length-reverse, get_or-reverse, reverse-append, drop_all, take_all}
-use Rattle.std.proofs.lemmas.List.Sorted.{IsPermutation-map, IsPermutation-sym, IsPermutation-trans, IsPermutation-reverse, Contains-permutation, length_permutation}
+use Rattle.std.proofs.lemmas.List.Elements.{All-nil, All-cons, All-head, All-tail}
+use Rattle.std.proofs.lemmas.List.Sorted.{All-permutation, IsPermutation-map, IsPermutation-sym, IsPermutation-trans, IsPermutation-reverse, Contains-permutation, length_permutation}
 use Rattle.std.proofs.lemmas.Map.Keys.{apart_from_distinct, IsDistinct-cons, IsDistinct-head, IsDistinct-tail, IsDistinct-IsPermutation, sorted_from_all_adjacent, sorted_head, sorted_tail}
 use Rattle.std.proofs.lemmas.Map.Text.{is_eq-slice_cmp}
 use Rattle.std.proofs.lemmas.Map.Views.{Contains-from_lookup, lookup-from_Contains}
@@ -134,18 +134,19 @@ rises (p ∷ ps) d s =
     let down = s k p (omega arith) (omega arith) in
     less_from _ (bytes_cmp (get_or ks (k + 1) (key p)) (get_or ks k (key p))) (nat_list_cmp_total.antisymm (get_or ks (k + 1) (key p)) (get_or ks k (key p))) (rw (here, there) down) apart)
 
-below_next : (p : Pair) (ps : List Pair) → IsUtf8 (key p) → AllByRecursion IsUtf8 (map key ps) → AllByRecursion (λ y. bytes_cmp (key p) y ≡ Less) (map key ps) → IsBelow (chars (key p)) (sorted_view ps)
+below_next : (p : Pair) (ps : List Pair) → IsUtf8 (key p) → All IsUtf8 (map key ps) → AllByRecursion (λ y. bytes_cmp (key p) y ≡ Less) (map key ps) → IsBelow (chars (key p)) (sorted_view ps)
 below_next p [] u us h = tt
-below_next p (q ∷ ps) u us h = (λ i. bytes_cmp (encodes-chars (key p) u i) (encodes-chars (key q) us.0 i)) ∙ h.0
+below_next p (q ∷ ps) u us h = (λ i. bytes_cmp (encodes-chars (key p) u i) (encodes-chars (key q) (All-head IsUtf8 (key q) (map key ps) us) i)) ∙ h.0
 
-in_order : (ps : List Pair) → AllByRecursion IsUtf8 (map key ps) → IsStrictlySortedBy bytes_cmp (map key ps) → IsSorted (sorted_view ps)
+in_order : (ps : List Pair) → All IsUtf8 (map key ps) → IsStrictlySortedBy bytes_cmp (map key ps) → IsSorted (sorted_view ps)
 in_order [] us s = tt
 in_order (p ∷ ps) us s =
-    (below_next p ps us.0 us.1 (sorted_head bytes_cmp (key p) (map key ps) s), in_order ps us.1 (sorted_tail bytes_cmp (key p) (map key ps) s))
+    let others = All-tail IsUtf8 (key p) (map key ps) us in
+    (below_next p ps (All-head IsUtf8 (key p) (map key ps) us) others (sorted_head bytes_cmp (key p) (map key ps) s), in_order ps others (sorted_tail bytes_cmp (key p) (map key ps) s))
 
-keys_utf8 : (es : List Entry) → AllByRecursion IsUtf8 (keys_of (map bytes_pair es))
-keys_utf8 [] = tt
-keys_utf8 (e ∷ es) = (IsUtf8-string_bytes e.0, keys_utf8 es)
+keys_utf8 : (es : List Entry) → All IsUtf8 (keys_of (map bytes_pair es))
+keys_utf8 [] = All-nil IsUtf8
+keys_utf8 (e ∷ es) = All-cons IsUtf8 (string_bytes e.0) (keys_of (map bytes_pair es)) (IsUtf8-string_bytes e.0) (keys_utf8 es)
 
 -- a list that falls, from its end on
 pub sorted_back : (ps : List Pair) → IsSortedBy (λ a b. is_lt (bytes_cmp (key b) (key a))) ps → IsSortedBy (λ a b. is_lt (bytes_cmp (key a) (key b))) (reverse ps)
@@ -163,7 +164,7 @@ sorted_members_view es ps d p s =
     let q : IsPermutation (keys_of (map bytes_pair es)) (map key ps) = subst (IsPermutation (keys_of (map bytes_pair es))) (keys_now ps) (IsPermutation-map (λ e. e.0) (map bytes_pair es) (map now_pair ps) p) in
     let bytes = distinct_read (eq_by_cmp bytes_cmp) string_bytes (λ v. v) (λ s t. is_eq-slice_cmp (string_bytes s) (string_bytes t)) es d in
     let distinct = IsDistinct-IsPermutation (eq_by_cmp bytes_cmp) (eq_by_cmp_equiv nat_list_cmp_total).symm (keys_of (map bytes_pair es)) (map key ps) q bytes in
-    let utf8 = all_shuffled IsUtf8 (keys_of (map bytes_pair es)) (map key ps) q (keys_utf8 es) in
+    let utf8 = All-permutation IsUtf8 (keys_of (map bytes_pair es)) (map key ps) q (keys_utf8 es) in
     let seen_distinct = subst (λ w. IsDistinct bytes_eq (keys_of w)) (sym (seen_bytes es)) (distinct_read bytes_eq text view text_eq es d) in
     sym (put_all_pairs ps (in_order ps utf8 (rises ps distinct s)))
     ∙ sym (put_all_permutation (map seen (map bytes_pair es)) (map seen (map now_pair ps)) seen_distinct (IsPermutation-map seen (map bytes_pair es) (map now_pair ps) p))
