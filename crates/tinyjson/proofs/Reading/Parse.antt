@@ -168,7 +168,3 @@ parses_text limit xs p q (Err e) h n a = record {
   answer = (a.answer.0 ∙ a.position ∙ ap (λ x. advance x a.consumed) h, subst (λ l. RefusalSays l e.kind a.consumed a.rest) n a.answer.1);
   refused = subst (λ l. ¬ (e.kind ≡ kind.OutOfMemory) → ¬ IsAccepted l xs) n a.refused;
 }
-
--- an error for another cause than memory: the characters have no tree
-pub refused_text : (limit : Option ℕ) (xs : List ℕ) (e : JsonParseError) → ¬ (e.kind ≡ kind.OutOfMemory) → ParsesText limit xs (Err e) → ¬ IsAccepted limit xs
-refused_text limit xs e n a = a.refused n
