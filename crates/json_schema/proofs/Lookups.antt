@@ -67,9 +67,6 @@ key_present v s m bs e b =
     ∙ (sym (some_view (get_by_text m (string_bytes s))) ∙ (ap is_some (sym (find_get m (string_bytes s) (IsUtf8-string_bytes s))) ∙ ap (λ x. is_present x (members_view m.entries)) (sym (ap view e ∙ view_String s))))
 
 -- what one keyword says, before the ones that come after it
-pub not_met : (b c : Bool) → b ≡ false → false ≡ (b && c)
-not_met b c e = ap (λ x. x && c) (sym e)
-
 pub met : (b c : Bool) → b ≡ true → c ≡ (b && c)
 met b c e = ap (λ x. x && c) (sym e)
 

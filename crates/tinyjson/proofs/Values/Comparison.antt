@@ -1,5 +1,6 @@
 -- Members that are as many as others and stand among them are the same; and a comparison under way.
 use Rattle.std.proofs.Common.{◌≡◌, ℕ, suc, ◌+◌, ◌≤◌, Bool, true, false, ◌&&◌, List, [], ◌∷◌, ◌++◌, length, Option, Some, None, Ordering, Less, Equal, Greater, cond, bytes_eq, String, Global, true≢false, refl, sym, ap, ◌∙◌, subst, arith}
+use Rattle.std.proofs.lemmas.Bool.{and_from, and_parts, and_right}
 use Rattle.std.proofs.lemmas.Bool.Decides.{same_from_decides}
 use Rattle.std.proofs.lemmas.Map.{lookup-none}
 use Rattle.std.proofs.lemmas.Map.Entries.{none_past_head}
@@ -20,28 +21,12 @@ use Rattle.tinyjson.specs.View.{text, view, seen_entries, items_view, members_vi
 use Rattle.tinyjson.specs.declared.value.JsonValue.{JsonValue}
 use Rattle.tinyjson.specs.declared.value.equality.Rest.{Rest}
 
-first_true : (a b : Bool) → a && b ≡ true → a ≡ true
-first_true true b h = refl
-first_true false b h = h
-
-second_true : (a b : Bool) → a && b ≡ true → b ≡ true
-second_true true b h = h
-second_true false b h = absurd (true≢false (sym h))
-
-both_true : (a b : Bool) → a ≡ true → b ≡ true → a && b ≡ true
-both_true true b p q = q
-both_true false b p q = p
-
-and_false : (a b : Bool) → b ≡ false → a && b ≡ false
-and_false true b e = e
-and_false false b e = refl
-
 -- items of two lengths differ
 pub apart_items : (vs ws : List JsonValue) → (length vs ≡ length ws → ⊥) → false ≡ items_eq (items_view vs) (items_view ws)
 apart_items [] [] h = absurd (h refl)
 apart_items [] (w ∷ ws) h = refl
 apart_items (v ∷ vs) [] h = refl
-apart_items (v ∷ vs) (w ∷ ws) h = sym (and_false (tree_eq (view v) (view w)) _ (sym (apart_items vs ws (λ e. h (ap suc e)))))
+apart_items (v ∷ vs) (w ∷ ws) h = sym (and_right (tree_eq (view v) (view w)) _ (sym (apart_items vs ws (λ e. h (ap suc e)))))
 
 -- ---- members among others
 
@@ -144,7 +129,7 @@ found_has t o e = ap (option_eq tree_eq (Some t)) e ∙ (tree_eq_Decides t t).1 
 
 Within_entries : (es : List Entry) (ns : Members) → has_entries ns es ≡ true → Within (members_view es) ns
 Within_entries [] ns h q t g = absurd (some_none t (sym g))
-Within_entries (e ∷ es) ns h q t g = by (bytes_eq q (text e.0)) refl (Within_entries es ns (second_true (has_entry ns e) _ h) q t)
+Within_entries (e ∷ es) ns h q t g = by (bytes_eq q (text e.0)) refl (Within_entries es ns (and_parts (has_entry ns e) _ h).1 q t)
   where
     g' : cond (bytes_eq q (text e.0)) (Some (view e.1)) (find q (members_view es)) ≡ Some t
     g' = sym (find_put q (text e.0) (view e.1) (members_view es)) ∙ g
@@ -152,7 +137,7 @@ Within_entries (e ∷ es) ns h q t g = by (bytes_eq q (text e.0)) refl (Within_e
     by : (b : Bool) → bytes_eq q (text e.0) ≡ b → (find q (members_view es) ≡ Some t → find q ns ≡ Some t) → find q ns ≡ Some t
     by true d rest =
         ap (λ x. find x ns) ((bytes_eq-Decides q (text e.0)).0 d)
-        ∙ (has_found (view e.1) (find (text e.0) ns) (first_true (has_entry ns e) _ h) ∙ (sym (ap (λ b. cond b (Some (view e.1)) (find q (members_view es))) d) ∙ g'))
+        ∙ (has_found (view e.1) (find (text e.0) ns) (and_parts (has_entry ns e) _ h).0 ∙ (sym (ap (λ b. cond b (Some (view e.1)) (find q (members_view es))) d) ∙ g'))
     by false d rest = rest (sym (ap (λ b. cond b (Some (view e.1)) (find q (members_view es))) d) ∙ g')
 
 entries_Within : (es : List Entry) (ns : Members) → IsDistinct string_eq (keys_of es) → Within (members_view es) ns → has_entries ns es ≡ true
@@ -162,7 +147,7 @@ entries_Within (e ∷ es) ns d w =
     let key = text e.0 in
     let more = members_view es in
     let here = w key (view e.1) (find_put key key (view e.1) more ∙ ap (λ b. cond b (Some (view e.1)) (find key more)) (same_key key)) in
-    both_true (has_entry ns e) _ (found_has (view e.1) (find key ns) here) (entries_Within es ns d.1 (λ q t g. w q t (onto q t g)))
+    and_from (has_entry ns e) _ (found_has (view e.1) (find key ns) here) (entries_Within es ns d.1 (λ q t g. w q t (onto q t g)))
   where
     onto : (q : List ℕ) (t : Tree) → find q (members_view es) ≡ Some t → find q (put (text e.0) (view e.1) (members_view es)) ≡ Some t
     onto q t g = find_put q (text e.0) (view e.1) (members_view es) ∙ (by (bytes_eq q (text e.0)) refl ∙ g)
