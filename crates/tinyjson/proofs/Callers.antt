@@ -3,12 +3,11 @@ pub mod Laws
 pub use Rattle.std.proofs.lemmas.Str.{scalars-chars, IsUtf8-string_bytes}
 pub use Rattle.tinyjson.proofs.Reading.Parse.{all_are_scalars, parses_text}
 pub use Rattle.tinyjson.proofs.Values.Entries.{same_text, text_eq}
-pub use Rattle.tinyjson.proofs.Values.Equality.{view_Array, view_Object}
 pub use Rattle.tinyjson.proofs.Values.Index.{items_view_set, tree_with_item, tree_with_member}
 pub use Rattle.tinyjson_grammar.proofs.Callers.{find_put, find_remove, sorted_put, sorted_remove, members_from_find}
 pub use Rattle.tinyjson.proofs.Writing.Scalars.{encoded_chars, encoded_utf8, text_of_scalars}
 pub use Rattle.tinyjson.proofs.Values.Trees.{view_IsTree, text_scalars}
-pub use Rattle.tinyjson.proofs.Values.View.{Entry, find_members_view, members_view_last, view_ref}
+pub use Rattle.tinyjson.proofs.Values.View.{view_Null, view_Boolean, view_Number, view_String, view_Array, view_Object, Entry, find_members_view, members_view_last, view_ref}
 pub use Rattle.tinyjson.proofs.Values.WholeNumbers.{integers_differ, naturals_differ}
 pub use Rattle.tinyjson_source.proofs.Callers.{text_push}
 pub use Rattle.tinyjson_output.proofs.Callers.{Appends-trans, Appends_nothing, Appends_keeps, written_none, written_all, begins, goes, ends, written_take, written_same, written_then, stop, stops, stops_then, fails}
@@ -44,20 +43,6 @@ use Rattle.tinyjson.specs.declared.value.JsonValue.{JsonValue, JsonValue-F, out-
 use Rattle.tinyjson.specs.declared.value.JsonValue.TheVariants as made
 use Rattle.tinyjson_number.specs.Decimal.{Decimal}
 use Rattle.tinyjson_number.specs.declared.number.JsonNumber.{JsonNumber}
-
--- ---- the tree of each variant
-
-pub view_Null : view made.Null ≡ null
-view_Null = search (rules, the_lemmas)
-
-pub view_Boolean : (b : Bool) → view (made.Boolean b) ≡ boolean b
-view_Boolean b = search (rules, the_lemmas)
-
-pub view_Number : (n : JsonNumber) → view (made.Number n) ≡ number n.decimal
-view_Number n = search (rules, the_lemmas)
-
-pub view_String : (s : String Global) → view (made.String s) ≡ string (text s)
-view_String s = search (rules, the_lemmas)
 
 -- ---- from a part to the tree
 

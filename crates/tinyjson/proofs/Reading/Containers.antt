@@ -1,12 +1,11 @@
 -- Values and open containers, as the machine sees them.
-use Rattle.std.proofs.Common.{◌≡◌, ℕ, Bool, true, false, List, [], ◌∷◌, length, map, String, Global, Vec, Option, Some, None, IfSome, inl, inr, refl, sym, ap, ◌∙◌, rules}
+use Rattle.std.proofs.Common.{◌≡◌, ℕ, true, false, List, [], ◌∷◌, length, map, String, Global, Vec, Option, Some, None, IfSome, inl, inr, refl, sym, ap, ◌∙◌}
 use Rattle.std.proofs.lemmas.Bool.{ne_eqb}
 use Rattle.tinyjson_grammar.specs.Kind.{kind_of}
-use Rattle.tinyjson_grammar.specs.Tree.{Tree, items_of, Members, no_members, null, boolean, number, array, object, is_string}
+use Rattle.tinyjson_grammar.specs.Tree.{Tree, items_of, Members, no_members, array, object, is_string}
 use Rattle.tinyjson.specs.Access.{JsonMap}
 use Rattle.tinyjson.specs.View.{view}
-use Rattle.tinyjson_number.specs.Number.{Canonical}
-use Rattle.tinyjson.specs.declared.value.JsonValue.{JsonValue, out-JsonValue, roll-JsonValue, roll-out-JsonValue, the_lemmas}
+use Rattle.tinyjson.specs.declared.value.JsonValue.{JsonValue, out-JsonValue, roll-JsonValue, roll-out-JsonValue}
 use Rattle.tinyjson.specs.declared.value.JsonValue.TheOpen.{JsonValue-F}
 use Rattle.tinyjson.specs.declared.value.JsonValue.TheVariants as is
 use Rattle.tinyjson_grammar.specs.Characters.{is_white}
@@ -16,16 +15,7 @@ use Rattle.tinyjson_source.specs.Source.{Sight, Takes}
 use Rattle.tinyjson_tokens.specs.Steps.{letters_left, onward, Leads}
 use Rattle.tinyjson.specs.private.Steps.{BeginsLiteral}
 use Rattle.tinyjson_tokens.proofs.Callers.{Leads_nil, Leads_one, Leads_shown, Leads_end, end_first, end_awaited}
-use Rattle.tinyjson.proofs.Values.Equality.{view_Array, view_Object}
-
-pub view_Null : view is.Null ≡ null
-view_Null = search (rules, the_lemmas)
-
-pub view_Boolean : (b : Bool) → view (is.Boolean b) ≡ boolean b
-view_Boolean b = search (rules, the_lemmas)
-
-pub view_Number : (n : Canonical) → view (is.Number n) ≡ number n.decimal
-view_Number n = search (rules, the_lemmas)
+use Rattle.tinyjson.proofs.Values.View.{view_Null, view_Boolean, view_Number, view_Array, view_Object}
 
 -- ---- the first character of a value
 

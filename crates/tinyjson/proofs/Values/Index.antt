@@ -10,8 +10,7 @@ use Rattle.std.specs.Prelude.{◌<◌, IsSome, length, slice_get, slice_set, opt
 use Rattle.std.specs.Str.{IsUtf8, chars}
 use Rattle.std.specs.String.{string_eq}
 use Rattle.std.specs.Vec.{with_item}
-use Rattle.tinyjson.proofs.Values.Equality.{view_Array, view_Object}
-use Rattle.tinyjson.proofs.Values.View.{find_members_view, members_view_writes}
+use Rattle.tinyjson.proofs.Values.View.{find_members_view, members_view_writes, view_Array, view_Object}
 use Rattle.tinyjson.specs.Access.{JsonMap, array_part, object_part}
 use Rattle.tinyjson.specs.Access.Laws.{put_of_array, put_of_object}
 use Rattle.tinyjson.specs.Index.{item_at, member_at, nth, tree_at, tree_at_key, with_nth, with_tree_at, with_tree_at_key, IsItemAt, IsMemberAt}

@@ -1,5 +1,5 @@
 -- A value, and a map's entries, beside the trees that they stand for.
-use Rattle.std.proofs.Common.{◌≡◌, Bool, true, false, ℕ, List, [], ◌∷◌, ◌++◌, Bor, bytes_eq, string_bytes, Option, Some, None, cond, is_some, option_map, String, Global, ◌⊎◌, inl, inr, true≢false, refl, sym, ap, ◌∙◌, subst}
+use Rattle.std.proofs.Common.{◌≡◌, rules, Vec, Bool, true, false, ℕ, List, [], ◌∷◌, ◌++◌, Bor, bytes_eq, string_bytes, Option, Some, None, cond, is_some, option_map, String, Global, ◌⊎◌, inl, inr, true≢false, refl, sym, ap, ◌∙◌, subst}
 use Rattle.std.proofs.lemmas.Bool.Decides.{same_from_decides}
 use Rattle.std.proofs.lemmas.Slice.Eq.{bytes_eq-Decides}
 use Rattle.std.proofs.lemmas.Str.{encodes-chars, IsUtf8-string_bytes}
@@ -11,10 +11,35 @@ use Rattle.std.specs.String.{string_eq, string_eq_equiv}
 use Rattle.tinyjson.proofs.Values.Entries.{members_from_lookups, members_of_sorted, find_members_of, None_or_text}
 use Rattle.tinyjson_grammar.proofs.Callers.{cond_swap, find_put, find_remove, sorted_put, sorted_remove, members_from_find}
 use Rattle.tinyjson_grammar.specs.Soundness.{IsSorted}
-use Rattle.tinyjson_grammar.specs.Tree.{Tree, Members, put, find, remove}
-use Rattle.tinyjson.specs.View.{text, view, seen_entries, members_view}
+use Rattle.tinyjson_grammar.specs.Tree.{Tree, null, boolean, number, string, array, object, Members, put, find, remove}
+use Rattle.tinyjson.specs.Access.{JsonMap}
+use Rattle.tinyjson.specs.View.{text, view, seen_entries, items_view, members_view}
 use Rattle.tinyjson.specs.private.Members.{add}
-use Rattle.tinyjson.specs.declared.value.JsonValue.{JsonValue}
+use Rattle.tinyjson.specs.declared.value.JsonValue.{JsonValue, the_lemmas}
+use Rattle.tinyjson.specs.declared.value.JsonValue.TheVariants as made
+use Rattle.tinyjson_number.specs.declared.number.JsonNumber.{JsonNumber}
+
+-- ---- the tree of each variant
+
+pub view_Null : view made.Null ≡ null
+view_Null = search (rules, the_lemmas)
+
+pub view_Boolean : (b : Bool) → view (made.Boolean b) ≡ boolean b
+view_Boolean b = search (rules, the_lemmas)
+
+pub view_Number : (n : JsonNumber) → view (made.Number n) ≡ number n.decimal
+view_Number n = search (rules, the_lemmas)
+
+pub view_String : (s : String Global) → view (made.String s) ≡ string (text s)
+view_String s = search (rules, the_lemmas)
+
+pub view_Array : (v : Vec JsonValue Global) → view (made.Array v) ≡ array (items_view v.items)
+view_Array v = search (rules, the_lemmas)
+
+pub view_Object : (m : JsonMap) → view (made.Object m) ≡ object (members_view m.entries)
+view_Object m = search (rules, the_lemmas)
+
+-- ---- a map's entries
 
 abbrev pub Entry : Type 0
 Entry = String Global × JsonValue

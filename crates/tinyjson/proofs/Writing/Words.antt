@@ -8,7 +8,7 @@ use Rattle.tinyjson_grammar.specs.Text.{text, after_colon, has_no_items, has_no_
 use Rattle.tinyjson_grammar.specs.Tree.{Items, no_items, item, Members, no_members, member, array, object}
 use Rattle.tinyjson_output.specs.Room.{Output, Sent, SentPart, Sends}
 use Rattle.tinyjson_output.proofs.Callers.{enc, enc_cons}
-use Rattle.tinyjson.proofs.Reading.Containers.{view_Boolean}
+use Rattle.tinyjson.proofs.Values.View.{view_Boolean}
 
 two_bytes : (a b : ℕ) → a < 128 → b < 128 → enc (a ∷ b ∷ []) ≡ a ∷ b ∷ []
 two_bytes a b h k = enc_cons a (b ∷ []) h ∙ ap (λ z. a ∷ z) (enc_cons b [] k)

@@ -1,7 +1,7 @@
 use Rattle.std.proofs.Common.{◌≡◌, length, refl, arith}
 use Rattle.std.proofs.lemmas.Bool.Decides.{nat_tests}
 use Rattle.tinyjson.specs.View.{items_view}
-use Rattle.tinyjson.proofs.Values.Equality.{view_Array, view_Object}
+use Rattle.tinyjson.proofs.Values.View.{view_Array, view_Object}
 use Rattle.tinyjson.proofs.Writing.Words.{empty_array, empty_object, no_items_in}
 use Rattle.tinyjson.proofs.generator.quick.quick_empty.Goals as goal
 

@@ -2,11 +2,10 @@ use Rattle.std.proofs.lemmas.Str.{encodes-IsAscii, IsUtf8-string_bytes}
 use Rattle.std.proofs.Common.{string_bytes, ◌≡◌, true, false, refl, rules}
 use Rattle.tinyjson_number.specs.Text.{decimal_text}
 use Rattle.tinyjson_number.proofs.Callers.{decimal_ascii}
-use Rattle.tinyjson.proofs.Reading.Containers.{view_Null, view_Number}
+use Rattle.tinyjson.proofs.Values.View.{view_Null, view_Number, view_String}
 use Rattle.tinyjson.proofs.Writing.Words.{true_is, false_is}
 use Rattle.tinyjson_output.proofs.Callers.{quoted_bytes, null_bytes}
 use Rattle.tinyjson.proofs.generator.quick.quick_value.Goals as goal
-use Rattle.tinyjson.proofs.Values.Equality.{view_String}
 
 pub returns-in-Number : goal.returns-in-Number
 returns-in-Number c =

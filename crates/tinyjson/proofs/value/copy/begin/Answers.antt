@@ -4,8 +4,7 @@ use Rattle.tinyjson.proofs.value.copy.begin.Goals as goal
 use Rattle.tinyjson.specs.private.Copy.{weight}
 use Rattle.tinyjson.specs.View.{view}
 use Rattle.tinyjson_grammar.specs.Tree.{number}
-use Rattle.tinyjson.proofs.Reading.Containers.{view_Number}
-use Rattle.tinyjson.proofs.Values.Equality.{view_Array, view_Object}
+use Rattle.tinyjson.proofs.Values.View.{view_Number, view_Array, view_Object}
 
 pub returns-in-Object-clause-left : goal.returns-in-Object-clause-left
 returns-in-Object-clause-left c = omega (arith, ap weight c.in-Object.is ∙ weight_Object c.in-Object.members)

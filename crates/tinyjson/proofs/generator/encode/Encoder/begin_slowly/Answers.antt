@@ -2,10 +2,9 @@ use Rattle.std.proofs.Common.{[], refl, sym, subst, reverse}
 use Rattle.std.proofs.lemmas.Result.{MatchResult-from_err}
 use Rattle.tinyjson_output.specs.Room.{waiting, Sent, SentPart}
 use Rattle.tinyjson_output.proofs.Callers.{null_bytes}
-use Rattle.tinyjson.proofs.Reading.Containers.{view_Null, view_Boolean, view_Number}
+use Rattle.tinyjson.proofs.Values.View.{view_Null, view_Boolean, view_Number, view_Array, view_String, view_Object}
 use Rattle.tinyjson.proofs.generator.encode.Encoder.begin_slowly.Goals as goal
 use Rattle.tinyjson.proofs.generator.encode.Encoder.begin_slowly.Goals.{in-Null+in_ok-write_bytes-in-Null, in-Boolean+in_ok-write_boolean-in-Boolean, in-Number+in_ok-write_number-in-Number, in-String+in_ok-quote-in-String}
-use Rattle.tinyjson.proofs.Values.Equality.{view_Array, view_String, view_Object}
 
 pub returns-in_err-write_bytes-in-Null : goal.returns-in_err-write_bytes-in-Null
 returns-in_err-write_bytes-in-Null g c = λ k. MatchResult-from_err _ _ _ c.from_residual.ensures.0 (λ _. rw (c.in-Null.is, view_Null) (subst (λ b. SentPart (g.W.Write.contents c.args.out.now, waiting c.args.room.now) (g.W.Write.contents c.write_bytes.new.out, waiting c.write_bytes.new.room) b) (sym null_bytes) c.in_err-write_bytes-in-Null.ensures))

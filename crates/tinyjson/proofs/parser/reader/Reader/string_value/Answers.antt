@@ -3,8 +3,8 @@ use Rattle.std.proofs.lemmas.Result.{err_from_is_err_and}
 use Rattle.tinyjson_grammar.specs.Machine.{complete}
 use Rattle.tinyjson.specs.private.Stack.{frames}
 use Rattle.tinyjson.proofs.Reading.Containers.{string_begins}
+use Rattle.tinyjson.proofs.Values.View.{view_String}
 use Rattle.tinyjson_tokens.proofs.Callers.{Leads_nil, Leads_one, Leads_to, Leads_trans, Refuses_after, Reads_after}
-use Rattle.tinyjson.proofs.Values.Equality.{view_String}
 use Rattle.tinyjson.proofs.parser.reader.Reader.string_value.Goals as goal
 
 pub returns-in_err-string-clause-reads : goal.returns-in_err-string-clause-reads

@@ -3,8 +3,8 @@ use Rattle.tinyjson.specs.View.{view, text}
 use Rattle.tinyjson_grammar.specs.declared.error.JsonParseErrorKind.TheVariants.{KeyNotString}
 use Rattle.tinyjson_tokens.proofs.Callers.{Leads_nil, Leads_to, Refuses_as, Reads_after}
 use Rattle.tinyjson.proofs.Reading.Containers.{no_string}
+use Rattle.tinyjson.proofs.Values.View.{view_String}
 use Rattle.tinyjson.proofs.Reading.Stack.{key_string, key_refused}
-use Rattle.tinyjson.proofs.Values.Equality.{view_String}
 use Rattle.tinyjson.proofs.parser.reader.Reader.use_as_key.Goals as goal
 
 pub returns-in-String-clause-reads : goal.returns-in-String-clause-reads

@@ -2,7 +2,7 @@ use Rattle.std.proofs.Common.{rules, ◌≡◌, ◌-◌, ◌∙◌, ap, reverse,
 use Rattle.tinyjson_grammar.specs.Tree.{array}
 use Rattle.tinyjson.specs.View.{items_view}
 use Rattle.tinyjson.proofs.Reading.Stack.{popped, closes_array}
-use Rattle.tinyjson.proofs.Values.Equality.{view_Array}
+use Rattle.tinyjson.proofs.Values.View.{view_Array}
 use Rattle.tinyjson.proofs.parser.stack.Stack.close_array.Goals as goal
 
 pub returns : goal.returns

@@ -1,7 +1,7 @@
 use Rattle.std.proofs.Common.{rules, ◌≡◌, ◌-◌, ◌∙◌, ap, reverse, take, length}
 use Rattle.tinyjson_grammar.specs.Tree.{object}
 use Rattle.tinyjson.proofs.Reading.Stack.{popped, closes_object}
-use Rattle.tinyjson.proofs.Values.Equality.{view_Object}
+use Rattle.tinyjson.proofs.Values.View.{view_Object}
 use Rattle.tinyjson.proofs.parser.stack.Stack.close_object.Goals as goal
 
 pub returns : goal.returns
