@@ -1,6 +1,6 @@
 -- Tokens that are indices.
 use Rattle.std.proofs.Common.{◌≡◌, ◌<◌, get_or, String, Global, string_bytes, lit<, ◌∷◌, ◌≤◌, ◌^◌, ℕ, zero, suc, Bool, true, false, true≢false, OnOk, ◌&&◌, ◌||◌, not, ◌==◌, cond, length, List, [], Option, Some, None, Result, Ok, Err, MatchOption, encode_utf8_all, refl, sym, ap, ◌∙◌, subst, rules, arith}
-use Rattle.std.proofs.lemmas.Bool.{and_parts}
+use Rattle.std.proofs.lemmas.Bool.{and_parts, or_right}
 use Rattle.std.proofs.lemmas.Bool.Decides.{nat_tests}
 use Rattle.std.proofs.lemmas.Fmt.{digits_decimal, digits_value-decimal, decimal_digit, decimal_nonempty, first_decimal, IsAscii-decimal}
 use Rattle.std.proofs.lemmas.Str.{chars-IsAscii, encodes-chars, IsUtf8-from_ascii}
@@ -70,10 +70,6 @@ index_says bs r o u e h is =
 
 -- ---- the token of an index
 
-or_true : (b : Bool) → (b || true) ≡ true
-or_true true = refl
-or_true false = refl
-
 isnt_zero : (c : ℕ) → 48 < c → (c == 48) ≡ false
 isnt_zero c h = grind (arith, nat_tests)
 
@@ -81,7 +77,7 @@ index_token : (ds : List ℕ) (n : ℕ) → all_ascii_digits ds ≡ true → 0 <
 index_token [] n h k f z = absurd (omega arith)
 index_token (c ∷ ds) zero h k f z = ap is_index (z refl)
 index_token (c ∷ ds) (suc n) h k f z =
-    ap (λ a. a && (is_nil ds || not (c == 48))) h ∙ (ap (λ e. is_nil ds || not e) (isnt_zero c (f (omega arith))) ∙ or_true (is_nil ds))
+    ap (λ a. a && (is_nil ds || not (c == 48))) h ∙ (ap (λ e. is_nil ds || not e) (isnt_zero c (f (omega arith))) ∙ or_right (is_nil ds) true refl)
 
 decimal_zero : (n : ℕ) → n ≡ 0 → decimal n ≡ 48 ∷ []
 decimal_zero n e = ap decimal e ∙ decimal_digit 0 (lit< tt)

@@ -1,10 +1,10 @@
 -- The text of a pointer, taken in character by character.
-use Rattle.std.proofs.Common.{◌≡◌, ◌≢◌, ◌↔◌, inl, inr, ℕ, Bool, true, false, cond, Result, Ok, Err, map, ◌==◌, List, [], ◌∷◌, ◌++◌, length, refl, sym, ap, ◌∙◌, append_assoc, append-nil, subst, arith, String, Global, encode_utf8_all}
+use Rattle.std.proofs.Common.{◌≡◌, ◌≢◌, ◌↔◌, inl, inr, ℕ, Bool, true, false, cond, Result, Ok, Err, map, ◌==◌, List, [], ◌∷◌, ◌++◌, refl, sym, ap, ◌∙◌, append_assoc, append-nil, subst, arith, String, Global, encode_utf8_all}
+use Rattle.std.proofs.lemmas.Bool.{eqb-true}
 use Rattle.std.proofs.lemmas.Bool.Decides.{nat_tests}
 use Rattle.std.proofs.lemmas.List.{map-append}
-use Rattle.std.proofs.lemmas.Str.{chars-nil, encodes-append}
+use Rattle.std.proofs.lemmas.Str.{encodes-append}
 use Rattle.std.specs.Result.{IsErrAnd}
-use Rattle.std.specs.Str.{chars}
 use Rattle.tinyjson.specs.View.{text}
 use Rattle.json_pointer.specs.Reading.{IsNoPointer, HasBadEscape, BeginsEscape, BeginsWithSlash, BeginsWithOther, Reads, ReadsTokens}
 use Rattle.json_pointer.specs.declared.pointer.PointerError.{PointerError}
@@ -27,9 +27,6 @@ escape_push (d ∷ t) c = ap (λ x. escape_char d ++ x) (escape_push t c) ∙ sy
 pub pointer_text_push : (ts : List (List ℕ)) (t : List ℕ) → pointer_text (ts ++ t ∷ []) ≡ pointer_text ts ++ (47 ∷ escape t)
 pointer_text_push [] t = ap (λ x. 47 ∷ x) (append-nil (escape t))
 pointer_text_push (s ∷ ts) t = ap (λ x. 47 ∷ (escape s ++ x)) (pointer_text_push ts t) ∙ ap (λ x. 47 ∷ x) (sym (append_assoc (escape s) (pointer_text ts) (47 ∷ escape t)))
-
-is_code : (c d : ℕ) → (c == d) ≡ true → c ≡ d
-is_code c d e = grind (arith, nat_tests)
 
 isnt_code : (c d : ℕ) → (c == d) ≡ false → c ≢ d
 isnt_code c d e h = grind (arith, nat_tests)
@@ -79,8 +76,8 @@ split_char : (c : ℕ) (xs : List ℕ) → split false (escape_char c ++ xs) ≡
 split_char c xs = by (c == 126) (c == 47) refl refl
   where
     by : (a b : Bool) → (c == 126) ≡ a → (c == 47) ≡ b → split false (cond a (126 ∷ 48 ∷ []) (cond b (126 ∷ 49 ∷ []) (c ∷ [])) ++ xs) ≡ longer c (split false xs)
-    by true b e f = ap (λ x. longer x (split false xs)) (sym (is_code c 126 e))
-    by false true e f = ap (λ x. longer x (split false xs)) (sym (is_code c 47 f))
+    by true b e f = ap (λ x. longer x (split false xs)) (sym (eqb-true c 126 e))
+    by false true e f = ap (λ x. longer x (split false xs)) (sym (eqb-true c 47 f))
     by false false e f = ap (λ x. cond x (parted (split false xs)) (cond (c == 126) (split true xs) (longer c (split false xs)))) f ∙ ap (λ x. cond x (split true xs) (longer c (split false xs))) e
 
 split_escape : (t xs : List ℕ) → split false (escape t ++ xs) ≡ begun t (split false xs)
@@ -138,10 +135,6 @@ escaped_more ys c = sym (encodes-append (escape ys) (escape_char c)) ∙ ap enco
 
 pub pointer_more : (ts : List (List ℕ)) (t : List ℕ) → encode_utf8_all (pointer_text ts) ++ encode_utf8_all (47 ∷ escape t) ≡ encode_utf8_all (pointer_text (ts ++ t ∷ []))
 pointer_more ts t = sym (encodes-append (pointer_text ts) (47 ∷ escape t)) ∙ ap encode_utf8_all (sym (pointer_text_push ts t))
-
-pub no_chars : (bs : List ℕ) → length bs ≡ 0 → chars bs ≡ []
-no_chars [] h = chars-nil
-no_chars (b ∷ bs) h = absurd (omega arith)
 
 pub no_tokens_stand : (cs : List ℕ) (ts : List (List ℕ)) (t xs : List ℕ) → ts ≡ [] → t ≡ [] → xs ≡ cs → Stands cs ts t false xs
 no_tokens_stand cs ts t xs a b e =

@@ -94,10 +94,6 @@ module _ (w : Option (List ℕ)) where
 
   -- ---- none comes
 
-  pub none_left : {X : Type 0} (xs : List X) → length xs ≡ 0 → xs ≡ []
-  none_left [] h = refl
-  none_left (x ∷ xs) h = absurd (omega arith)
-
   pub items_end : (fs : List Frame) (gs : List Gathered) (first : Bool) (xs : List JsonValue) → xs ≡ []
       → enc ((items_text w (length fs + 1) first (items_view xs) ++ (newline w (length fs) ++ 93 ∷ [])) ++ owed w fs gs) ≡ enc (newline w (length fs)) ++ (93 ∷ [] ++ enc (owed w fs gs))
   items_end fs gs first xs e =

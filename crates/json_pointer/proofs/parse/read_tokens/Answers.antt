@@ -1,9 +1,10 @@
 use Rattle.std.proofs.Common.{◌∷◌, [], ◌++◌, Err, true, false, map, sym, ap, ◌∙◌, refl, subst}
 use Rattle.std.proofs.lemmas.Str.{chars_past_char, IsUtf8-past_char, chars-nil}
+use Rattle.std.proofs.StrCases.{chars_of_empty}
 use Rattle.std.specs.Str.{chars, IsUtf8}
 use Rattle.std.specs.Str.Iter.{chars_rest}
 use Rattle.tinyjson.specs.View.{text}
-use Rattle.json_pointer.proofs.Tokens.{Stands, Stands_at, Stands_as, texts_push, no_tokens_stand, slash_stands, other_stands, escaped_stands, stands_bad, stands_whole, no_chars, error_back, bad_escape}
+use Rattle.json_pointer.proofs.Tokens.{Stands, Stands_at, Stands_as, texts_push, no_tokens_stand, slash_stands, other_stands, escaped_stands, stands_bad, stands_whole, error_back, bad_escape}
 use Rattle.json_pointer.specs.Reading.{ReadsTokens}
 use Rattle.json_pointer.specs.Text.{pointer_text}
 use Rattle.json_pointer.proofs.parse.read_tokens.Goals as goal
@@ -80,12 +81,12 @@ returns-then-after_tilde-2 c =
     let cs = chars c.args.text.now in
     let ts = map text c.loop-c.tokens.items in
     let t = text c.loop-c.token in
-    stands_bad cs ts t [] (Stands_at cs ts t _ [] c.loop-c.after_tilde true c.loop-c.invariant.1 c.if-after_tilde-2.true (no_chars (chars_rest c.loop-c.c-iterator) c.in-None.ensures.steps.0.0)) (λ h. h)
+    stands_bad cs ts t [] (Stands_at cs ts t _ [] c.loop-c.after_tilde true c.loop-c.invariant.1 c.if-after_tilde-2.true (chars_of_empty (chars_rest c.loop-c.c-iterator) c.in-None.ensures.steps.0.0)) (λ h. h)
 
 pub returns : goal.returns
 returns c =
     let cs = chars c.args.text.now in
     let ts = map text c.loop-c.tokens.items in
     let t = text c.loop-c.token in
-    let here = Stands_at cs ts t _ [] c.loop-c.after_tilde false c.loop-c.invariant.1 c.if-after_tilde-2.false (no_chars (chars_rest c.loop-c.c-iterator) c.in-None.ensures.steps.0.0) in
+    let here = Stands_at cs ts t _ [] c.loop-c.after_tilde false c.loop-c.invariant.1 c.if-after_tilde-2.false (chars_of_empty (chars_rest c.loop-c.c-iterator) c.in-None.ensures.steps.0.0) in
     stands_whole cs ts t here ∙ ap pointer_text (sym (texts_push c.loop-c.tokens.items c.push-2.new.self.items c.loop-c.token c.in_ok-push-4.ensures.items))

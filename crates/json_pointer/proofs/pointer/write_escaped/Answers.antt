@@ -1,10 +1,11 @@
 use Rattle.std.proofs.Common.{◌≡◌, ◌∙◌, ◌++◌, refl, sym, ap, append-nil, subst, encode_utf8_all, chars}
 use Rattle.std.proofs.lemmas.Grind.{put_two}
 use Rattle.std.proofs.lemmas.Str.{IsUtf8-past_char, chars_past_char}
+use Rattle.std.proofs.StrCases.{chars_of_empty}
 use Rattle.std.specs.Fmt.{HasWritten}
 use Rattle.std.specs.Str.Iter.{chars_rest}
 use Rattle.json_pointer.specs.Text.{escape}
-use Rattle.json_pointer.proofs.Tokens.{one_more, no_chars, escaped_more}
+use Rattle.json_pointer.proofs.Tokens.{one_more, escaped_more}
 use Rattle.json_pointer.proofs.pointer.write_escaped.Goals as goal
 
 pub loop-c-preserved : goal.loop-c-preserved
@@ -22,5 +23,5 @@ loop-c-preserved g c =
 pub returns : goal.returns
 returns g c = λ plain ok.
     let held = c.loop-c.invariant in
-    let all : chars c.args.token.now ≡ c.loop-c.yielded = held.1 ∙ (ap (λ xs. c.loop-c.yielded ++ xs) (no_chars (chars_rest c.loop-c.c-iterator) c.in-None.ensures.steps.0.0) ∙ append-nil c.loop-c.yielded) in
+    let all : chars c.args.token.now ≡ c.loop-c.yielded = held.1 ∙ (ap (λ xs. c.loop-c.yielded ++ xs) (chars_of_empty (chars_rest c.loop-c.c-iterator) c.in-None.ensures.steps.0.0) ∙ append-nil c.loop-c.yielded) in
     subst (λ xs. HasWritten g.W.Write.write_str_gives c.args.f.now (encode_utf8_all (escape xs)) c.loop-c.f) (sym all) (held.2 plain)

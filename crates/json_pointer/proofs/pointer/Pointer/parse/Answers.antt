@@ -1,8 +1,9 @@
 use Rattle.std.proofs.Common.{◌∷◌, sym, ap, ◌∙◌, subst}
 use Rattle.std.proofs.lemmas.Str.{chars_past_char}
+use Rattle.std.proofs.StrCases.{chars_of_empty}
 use Rattle.std.specs.Str.{chars, IsUtf8}
 use Rattle.std.specs.Str.Iter.{chars_rest}
-use Rattle.json_pointer.proofs.Tokens.{exactly, no_slash, behind_slash, no_chars, error_back}
+use Rattle.json_pointer.proofs.Tokens.{exactly, no_slash, behind_slash, error_back}
 use Rattle.json_pointer.specs.Text.{pointer_text}
 use Rattle.json_pointer.specs.Tokens.{tokens_of}
 use Rattle.json_pointer.specs.Reading.{Reads}
@@ -11,7 +12,7 @@ use Rattle.json_pointer.proofs.pointer.Pointer.parse.Goals as goal
 pub returns-in-None : goal.returns-in-None
 returns-in-None c =
     exactly (chars c.args.text.now) (tokens_of c.whole.result)
-    (ap chars (sym c.chars-rest.ensures.rest) ∙ (no_chars (chars_rest c.chars-rest.result) c.in-None.ensures.steps.0.0 ∙ ap pointer_text (sym c.whole.ensures)))
+    (ap chars (sym c.chars-rest.ensures.rest) ∙ (chars_of_empty (chars_rest c.chars-rest.result) c.in-None.ensures.steps.0.0 ∙ ap pointer_text (sym c.whole.ensures)))
 
 pub returns-in-Some : goal.returns-in-Some
 returns-in-Some c =

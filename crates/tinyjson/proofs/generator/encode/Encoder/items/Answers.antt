@@ -1,4 +1,5 @@
 use Rattle.std.proofs.Common.{◌≡◌, [], ◌∷◌, ◌++◌, ◌+◌, ◌-◌, false, length, refl, sym, ◌∙◌, ap, subst, reverse, arith}
+use Rattle.std.proofs.lemmas.List.{nil_from_length}
 use Rattle.std.proofs.lemmas.Result.{MatchResult-from_err}
 use Rattle.tinyjson.specs.Indent.{indent_of}
 use Rattle.tinyjson.specs.private.Pending.{IsStack, frames, owed}
@@ -6,7 +7,7 @@ use Rattle.tinyjson_grammar.specs.Text.{newline}
 use Rattle.tinyjson.specs.declared.generator.pending.Frame.TheVariants.{Items}
 use Rattle.tinyjson_output.proofs.Callers.{sent_begins as begins, sent_stops as stops, sent_goes as goes, enc}
 use Rattle.tinyjson.proofs.Writing.Runs.{run_on}
-use Rattle.tinyjson.proofs.Writing.Pending.{items_next, items_end, none_left, advanced_open, closes, stopped_open}
+use Rattle.tinyjson.proofs.Writing.Pending.{items_next, items_end, advanced_open, closes, stopped_open}
 use Rattle.tinyjson.proofs.generator.encode.Encoder.items.Goals as goal
 
 pub loop-item-init : goal.loop-item-init
@@ -61,6 +62,6 @@ returns g c =
     let fs = frames c.args.stack.now in
     let gs = reverse c.args.gathered.now.items in
     let n : c.args.level - 1 ≡ length fs = omega (arith, c.requires.level) in
-    let none = none_left w c.loop-item.rest.now c.in_default.ensures.cases in
+    let none = nil_from_length c.loop-item.rest.now c.in_default.ensures.cases in
     closes w _ _ _ (Items c.args.items c.args.first ∷ fs) fs gs gs (reverse c.loop-item.gathered.items) (enc (newline w (length fs))) 93 c.loop-item.stack c.close.result
     (subst IsStack (sym c.loop-item.invariant.0) c.requires.stack) (ap frames c.loop-item.invariant.0) c.loop-item.invariant.1 (rw n at c.close.ensures) (rw (items_end w fs gs c.loop-item.first c.loop-item.rest.now none) at c.loop-item.invariant.2)
