@@ -1,5 +1,6 @@
 -- Members that are as many as others and stand among them are the same; and a comparison under way.
 use Rattle.std.proofs.Common.{◌≡◌, ℕ, suc, ◌+◌, ◌≤◌, Bool, true, false, ◌&&◌, List, [], ◌∷◌, ◌++◌, length, Option, Some, None, Ordering, Less, Equal, Greater, cond, bytes_eq, String, Global, true≢false, refl, sym, ap, ◌∙◌, subst, arith}
+use Rattle.std.proofs.Math.Bool.{and_assoc, and_comm}
 use Rattle.std.proofs.lemmas.Bool.{and_from, and_parts, and_right}
 use Rattle.std.proofs.lemmas.Bool.Decides.{same_from_decides}
 use Rattle.std.proofs.lemmas.Map.{lookup-none}
@@ -176,21 +177,11 @@ module _ (es fs : List Entry) (d : IsDistinct string_eq (keys_of es)) where
 
 -- ---- what is left
 
-and_assoc : (a b c : Bool) → (a && b) && c ≡ a && (b && c)
-and_assoc true b c = refl
-and_assoc false b c = refl
-
-and_swap : (a b : Bool) → a && b ≡ b && a
-and_swap true true = refl
-and_swap true false = refl
-and_swap false true = refl
-and_swap false false = refl
-
 pub rests_eq_last : (rs : List Rest) (r : Rest) → rests_eq (rs ++ r ∷ []) ≡ rest_eq r && rests_eq rs
 rests_eq_last [] r = refl
 rests_eq_last (s ∷ rs) r =
     ap (λ b. rest_eq s && b) (rests_eq_last rs r)
-    ∙ (sym (and_assoc (rest_eq s) (rest_eq r) (rests_eq rs)) ∙ (ap (λ b. b && rests_eq rs) (and_swap (rest_eq s) (rest_eq r)) ∙ and_assoc (rest_eq r) (rest_eq s) (rests_eq rs)))
+    ∙ (sym (and_assoc (rest_eq s) (rest_eq r) (rests_eq rs)) ∙ (ap (λ b. b && rests_eq rs) (and_comm (rest_eq s) (rest_eq r)) ∙ and_assoc (rest_eq r) (rest_eq s) (rests_eq rs)))
 
 pub rests_weight_last : (rs : List Rest) (r : Rest) → rests_weight (rs ++ r ∷ []) ≡ rest_weight r + rests_weight rs
 rests_weight_last [] r = refl
