@@ -63,9 +63,10 @@ impl<I: Iterator<Item = char>> Model for JsonParser<I> {
 impl<I: Iterator<Item = char>> JsonParser<I> {
     /// A parser that stands at line 1, column 0. It takes no memory, and has no limit on depth.
     ///
-    /// A value that is nested deeper than some ten thousand levels is freed by [`JsonValue::dismantle`]:
-    /// where it goes out of scope, the language's own recursion can overrun the stack. So read the texts
-    /// of strangers with [`JsonParser::with_depth_limit`], or give their values to `dismantle`.
+    /// Free a value that is nested deeper than some ten thousand levels with
+    /// [`JsonValue::dismantle`]: where it goes out of scope, the language's own recursion can
+    /// overrun the stack. So read the texts of strangers with [`JsonParser::with_depth_limit`], or
+    /// give their values to `dismantle`.
     ///
     /// ```
     /// let mut parser = JsonParser::new(alloc, "[1, true]".chars());

@@ -35,7 +35,8 @@ pub(crate) struct Encoder<'a> {
 }
 
 impl Encoder<'_> {
-    /// Writes how the value begins, and then what the open containers owe, the innermost first.
+    /// Writes the text of the value, by way of a room that is flushed at the end. Where that fails,
+    /// a prefix of the text is written.
     pub(crate) fn encode<W: Write>(&self, out: &mut W, value: &JsonValue) -> io::Result<()>
         ensures { WritesText (W.contents out.old) (W.contents out.new)
             (text (indent_of self.now.indent) 0 (view value.now)) result }
@@ -45,6 +46,8 @@ impl Encoder<'_> {
         flush(out, &mut room)
     }
 
+    /// Writes how the value begins, and then what the open containers owe, the innermost first. The
+    /// last bytes may still wait in the room.
     fn value<W: Write>(&self, out: &mut W, room: &mut Room, value: &JsonValue) -> io::Result<()>
         ensures { SendsText
             (W.contents out.old, waiting room.old) (W.contents out.new, waiting room.new)
@@ -57,6 +60,8 @@ impl Encoder<'_> {
         }
     }
 
+    /// Writes all that the container owes. A container that is opened meanwhile is finished before
+    /// the one that it stands in goes on.
     fn finish<'a, W: Write>(
         &self,
         out: &mut W,
@@ -108,6 +113,8 @@ impl Encoder<'_> {
         }
     }
 
+    /// Writes the one member of an object, and the closing brace unless the member's value stays
+    /// open.
     fn only_member<'a, W: Write>(
         &self,
         out: &mut W,
@@ -138,6 +145,8 @@ impl Encoder<'_> {
         }
     }
 
+    /// Writes the items that are left to an array, up to one that stays open or to the closing
+    /// bracket.
     fn items<'a, W: Write>(
         &self,
         out: &mut W,
@@ -169,6 +178,8 @@ impl Encoder<'_> {
         self.close(out, room, level, b"]")
     }
 
+    /// Writes the members that are left to an object, up to one whose value stays open or to the
+    /// closing brace.
     fn members<'a, W: Write>(
         &self,
         out: &mut W,
@@ -312,6 +323,8 @@ impl Encoder<'_> {
         Ok(None)
     }
 
+    /// Writes the opening bracket and, in compact text, the items at the front that hold no others,
+    /// as far as they fit. Returns what the array owes then, and `None` where it is whole.
     fn begin_array<'a, W: Write>(
         &self,
         out: &mut W,
@@ -336,7 +349,8 @@ impl Encoder<'_> {
         Ok(Some(Frame::Items { rest, first }))
     }
 
-    /// One member alone needs no order, and so no memory.
+    /// The same of an object, whose members are put in order first. One member alone needs no
+    /// order, and so no memory.
     fn begin_object<'a, W: Write>(
         &self,
         out: &mut W,
@@ -373,8 +387,8 @@ impl Encoder<'_> {
         Ok(Some(Frame::Member { key, value }))
     }
 
-    /// In compact text, the items at the front that hold no others, as far as they fit. Gives the items
-    /// that are left, and whether none stands before them.
+    /// Writes, in compact text, the items at the front that hold no others, as far as they fit.
+    /// Gives the items that are left, and whether none stands before them.
     #[inline(always)]
     fn run_of_items<'a>(
         &self,
@@ -420,7 +434,7 @@ impl Encoder<'_> {
         }
     }
 
-    /// What stands before an item or a member.
+    /// Writes what stands before an item or a member.
     #[inline(always)]
     fn separate<W: Write>(
         &self,
@@ -464,7 +478,7 @@ impl Encoder<'_> {
     }
 }
 
-/// A line feed, and the indent of the next line.
+/// Writes a line feed, and the indent of the next line.
 #[inline(never)]
 fn write_line<W: Write>(out: &mut W, room: &mut Room, indent: &str, level: usize) -> io::Result<()>
     ensures { SendsText

@@ -94,8 +94,8 @@ impl<S: Tokens> Reader<S> {
         self.complete(stack, JsonValue::String(string))
     }
 
-    /// Reads the number whose first character, a minus sign or a digit, comes next, and puts it where it
-    /// belongs.
+    /// Reads the number whose first character, a minus sign or a digit, comes next, and puts it
+    /// where it belongs.
     #[inline(always)]
     fn number(&mut self, stack: &mut Stack) -> Result<bool, JsonParseErrorKind>
         requires begins { BeginsNumber S.sight self.old.tokens.source }
@@ -132,7 +132,8 @@ impl<S: Tokens> Reader<S> {
         self.complete_number(stack, number)
     }
 
-    /// Reads the value that begins with this character, or opens a container; `true` where a value is whole.
+    /// Reads the value that begins with this character, or opens a container; `true` where a value
+    /// is whole.
     fn value(
         &mut self,
         limit: Option<usize>,
@@ -172,7 +173,7 @@ impl<S: Tokens> Reader<S> {
         }
     }
 
-    /// The end of the text.
+    /// Reads white space and the end of the text.
     fn end(&mut self) -> Result<(), JsonParseErrorKind>
         ensures reads { (limit : Option ℕ) (t : Tree) →
             Reads S.sight limit self.old.tokens.source (next [] (finished t)) result
@@ -187,8 +188,8 @@ impl<S: Tokens> Reader<S> {
         }
     }
 
-    /// Reads a whole text; an error says where the source stands. What it gives up is freed by a loop. A
-    /// literal alone takes no memory.
+    /// Reads a whole text; an error says where the source stands. What it gives up is freed by a
+    /// loop. A literal alone takes no memory.
     pub(super) fn text(&mut self, limit: Option<usize>) -> Result<JsonValue, JsonParseError>
         ensures reads { ReadsText S.sight limit self.old.tokens.source result
             self.new.tokens.source }
@@ -205,7 +206,7 @@ impl<S: Tokens> Reader<S> {
         }
     }
 
-    /// The value of a whole text.
+    /// Reads the value of a whole text, and the end after it.
     fn text_value(&mut self, limit: Option<usize>) -> Result<JsonValue, JsonParseErrorKind>
         ensures reads { Reads S.sight limit self.old.tokens.source (next [] awaited) result
             (λ v. next [] (finished (view v))) self.new.tokens.source }
@@ -229,7 +230,8 @@ impl<S: Tokens> Reader<S> {
         }
     }
 
-    /// Reads the text whose first value begins with this character. After an error the stack holds what was read.
+    /// Reads the text whose first value begins with this character. After an error the stack holds
+    /// what was read.
     fn values(
         &mut self,
         limit: Option<usize>,
@@ -274,7 +276,7 @@ impl<S: Tokens> Reader<S> {
         }
     }
 
-    /// The end after the value that is left on the stack.
+    /// Reads the end of the text, and takes the value that is left on the stack.
     fn last(&mut self, stack: &mut Stack) -> Result<JsonValue, JsonParseErrorKind>
         requires sound { IsSound stack.old true }
         requires none { open_of stack.old ≡ [] }
