@@ -34,16 +34,16 @@ error_text Writing = codes "writing failed"
 abbrev pub line_of : Tree → List ℕ
 line_of t = encode_utf8_all (compact t) ++ 10 ∷ []
 
--- the tokens name a part, and a beginning of its line is written
-abbrev pub WritesBeginning : List (List ℕ) → Tree → Option (List ℕ) → Option (List ℕ) → Type 0
-WritesBeginning ks t old new = (u : Tree) × (part_at t ks ≡ Some u) × WrittenPart old new (line_of u)
+-- the tokens name a part, and a prefix of its line is written
+abbrev pub WritesLinePrefix : List (List ℕ) → Tree → Option (List ℕ) → Option (List ℕ) → Type 0
+WritesLinePrefix ks t old new = (u : Tree) × (part_at t ks ≡ Some u) × WrittenPart old new (line_of u)
 
--- Of a tree the line of the part that the tokens name is written, or a beginning of it where that failed; or they name none.
+-- Of a tree the line of the part that the tokens name is written, or a prefix of it where that failed; or they name none.
 abbrev pub WritesFound : List (List ℕ) → Tree → Option (List ℕ) → Option (List ℕ) → Result (Unit {0}) PartError → Type 0
 WritesFound ks t old new (Ok _) = (u : Tree) × (part_at t ks ≡ Some u) × Appends old new (line_of u)
 WritesFound ks t old new (Err NoPart) = (part_at t ks ≡ None) × (new ≡ old)
-WritesFound ks t old new (Err Writing) = WritesBeginning ks t old new
-WritesFound ks t old new (Err OutOfMemory) = WritesBeginning ks t old new
+WritesFound ks t old new (Err Writing) = WritesLinePrefix ks t old new
+WritesFound ks t old new (Err OutOfMemory) = WritesLinePrefix ks t old new
 WritesFound ks t old new (Err _) = ⊥
 
 -- a write failed; the error is out of memory where that was wanted

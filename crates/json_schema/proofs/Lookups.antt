@@ -51,9 +51,9 @@ is_type_name v s t e =
     ∙ (ap (λ b. b || (bytes_eq (text s) (codes "integer") && is_whole t)) (sym (same_name (string_bytes s) (kind_name (kind_of t)) (IsUtf8-string_bytes s) (kind_name_ascii (kind_of t))))
     ∙ ap (λ b. bytes_eq (string_bytes s) (kind_name (kind_of t)) || (b && is_whole t)) (sym (same_name (string_bytes s) (codes "integer") (IsUtf8-string_bytes s) refl)))
 
--- a value's type is told by two comparisons and the fraction
-pub type_told : (v : JsonValue) (s : String Global) (t : Tree) (a b c : Bool) → v ≡ is.String s → a ≡ bytes_eq (string_bytes s) (kind_name (kind_of t)) → b ≡ bytes_eq (string_bytes s) (codes "integer") → c ≡ is_whole t → (a || (b && c)) ≡ is_type (view v) t
-type_told v s t a b c e f g h =
+-- a value's type is determined by two comparisons and the fraction
+pub type_determined : (v : JsonValue) (s : String Global) (t : Tree) (a b c : Bool) → v ≡ is.String s → a ≡ bytes_eq (string_bytes s) (kind_name (kind_of t)) → b ≡ bytes_eq (string_bytes s) (codes "integer") → c ≡ is_whole t → (a || (b && c)) ≡ is_type (view v) t
+type_determined v s t a b c e f g h =
     ap (λ x. x || (b && c)) f ∙ (ap (λ x. bytes_eq (string_bytes s) (kind_name (kind_of t)) || (x && c)) g
     ∙ (ap (λ x. bytes_eq (string_bytes s) (kind_name (kind_of t)) || (bytes_eq (string_bytes s) (codes "integer") && x)) h ∙ sym (is_type_name v s t e)))
 

@@ -132,5 +132,5 @@ leaf_valid s v m no_object no_array = by (view v) refl m
     by _ e h = valid h (λ k r u a b. absurd (none_some r a))
 
 -- a result with its reasons
-pub told : (s t : Tree) (p : Pointer) → IsInvalidAt s t (tokens_of p) → Validates s t (Ok (Some p))
-told s t p h = (h, there h, not_valid h)
+pub reported : (s t : Tree) (p : Pointer) → IsInvalidAt s t (tokens_of p) → Validates s t (Ok (Some p))
+reported s t p h = (h, there h, not_valid h)

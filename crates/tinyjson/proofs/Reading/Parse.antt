@@ -101,10 +101,10 @@ module _ {S : Type 0} (sight : Sight S) (limit : Option ℕ) where
 
   answered_error : (p q : S) (e : JsonParseError) (xs : List ℕ) → sight.gives p xs → All IsScalar xs → error_position e ≡ sight.place q → Refuses sight limit p (next [] awaited) e.kind q
       → (e.kind ≡ kind.OutOfMemory → Grows sight p) → Answered p xs (Err e) q
-  answered_error p q e xs g a h r m = ⊎_elim told wanted r
+  answered_error p q e xs g a h r m = ⊎_elim determined wanted r
     where
-      told : Leads sight limit p (next [] awaited) q (stop e.kind true) → Answered p xs (Err e) q
-      told l =
+      determined : Leads sight limit p (next [] awaited) q (stop e.kind true) → Answered p xs (Err e) q
+      determined l =
           let x = l.gives xs g in
           let ran : run (strictly limit) [] awaited (l.taken ++ x.0) ≡ refused e.kind x.0 = Comes_outcome limit (next [] awaited) (stop e.kind true) l.taken x.0 x.3 in
           let s = refuses limit l.taken x.0 (subst (All IsScalar) x.1 a) e.kind ran in

@@ -6,14 +6,14 @@ use Rattle.tinyjson.specs.View.{view, text}
 use Rattle.json_pointer.specs.Tokens.{tokens_of}
 use Rattle.json_schema.specs.Valid.{property, Validates, IsInvalidAt, here}
 use Rattle.json_schema.proofs.Lookups.{at_literal}
-use Rattle.json_schema.proofs.Validity.{EntriesAreValid, one_checked, all_checked, by_schema, by_none, object_valid, member_invalid, ItemsAreValid, at_index, items_more, items_all, array_valid, item_invalid, no_items_schema, leaf_valid, told}
+use Rattle.json_schema.proofs.Validity.{EntriesAreValid, one_checked, all_checked, by_schema, by_none, object_valid, member_invalid, ItemsAreValid, at_index, items_more, items_all, array_valid, item_invalid, no_items_schema, leaf_valid, reported}
 use Rattle.json_schema.proofs.validate.+invalid_place.Goals as goal
 
 pub returns-then-not-meets_own : goal.returns-then-not-meets_own
 returns-then-not-meets_own t c =
     let s = view c.args.schema.now in
     let v = view c.args.value.now in
-    told s v c.whole.result (subst (IsInvalidAt s v) (sym c.whole.ensures) (here (sym c.if-not-meets_own.ensures)))
+    reported s v c.whole.result (subst (IsInvalidAt s v) (sym c.whole.ensures) (here (sym c.if-not-meets_own.ensures)))
 
 pub loop-key-init : goal.loop-key-init
 loop-key-init t c = record { done = []; split = refl; checked = tt }
@@ -32,7 +32,7 @@ returns-in-Some-2 t c =
     let inner = subst (λ o. Validates r (view c.in-Some.member.now) (Ok o)) c.in-Some-2.is c.in_ok-place-in-Object.ensures in
     let tokens : tokens_of c.prepend.new.self ≡ text key ∷ tokens_of c.in-Some-2.place
     = c.in_ok-prepend-in-Object.ensures.ok ∙ ap (λ bs. chars bs ∷ tokens_of c.in-Some-2.place) (c.in_ok-from_str-in-Object.ensures.ok ∙ c.as_str-in-Some-2.ensures.value) in
-    told s v c.prepend.new.self
+    reported s v c.prepend.new.self
     (subst (IsInvalidAt s v) (sym tokens)
     (member_invalid s v r m.entries done c.next.new.self (key, c.in-Some.member.now) (tokens_of c.in-Some-2.place) (ap view c.in-Object.is ∙ view_Object m) split gives.4 schema inner.0))
 
@@ -80,7 +80,7 @@ returns-in-Some-3 t c =
     let got : slice_get vs i ≡ Some x = ap (λ ys. slice_get ys i) (sym same) ∙ at_index c.deref-item-items.result.now i x c.loop-index-test.true c.item-item.is in
     let inner = subst (λ o. Validates r (view x) (Ok o)) c.in-Some-3.is c.in_ok-place-in-Array.ensures in
     let before = c.in_ok-prepend_index-in-Array.ensures.ok in
-    told s v c.prepend_index.new.self
+    reported s v c.prepend_index.new.self
     (subst (IsInvalidAt s v) (sym before.joined)
     (item_invalid s v r vs x i before.token (tokens_of c.in-Some-3.place) (ap view c.in-Array.is ∙ view_Array c.in-Array.items) (at_literal (Some r) s (codes "items") refl c.in-Some-keyword.ensures) before.named got inner.0))
 
