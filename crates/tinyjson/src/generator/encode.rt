@@ -35,8 +35,8 @@ pub(crate) struct Encoder<'a> {
 }
 
 impl Encoder<'_> {
-    /// Writes the text of the value, by way of a room that is flushed at the end. Where that fails,
-    /// a prefix of the text is written.
+    /// Writes the text of the value, by way of a room that is flushed at the end. After an error a
+    /// prefix of the text is written.
     pub(crate) fn encode<W: Write>(&self, out: &mut W, value: &JsonValue) -> io::Result<()>
         ensures { WritesText (W.contents out.old) (W.contents out.new)
             (text (indent_of self.now.indent) 0 (view value.now)) result }
