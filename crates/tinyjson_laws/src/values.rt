@@ -20,12 +20,8 @@ pub fn equal_trees()
 
 /// Two values are equal exactly if their compact texts are one.
 ///
-/// To use a law, call it, and cite what it ensures. Of [`have_one_text`], which calls this one, the
-/// proof is
-///
-/// ```text
-/// returns c = rw c.eq.ensures (c.equal_texts.ensures c.args.a.now c.args.b.now)
-/// ```
+/// To use a law, call it: what it ensures is then known. [`have_one_text`] calls this one, and its proof
+/// needs no answer beyond that. Where an answer is needed, it cites the law as `c.equal_texts.ensures`.
 #[tactic(auto, using(crate::proofs::ValueLaws::equal_texts))]
 pub fn equal_texts()
     ensures { EqualTexts }
