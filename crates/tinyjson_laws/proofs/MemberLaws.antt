@@ -3,6 +3,7 @@ use Rattle.std.proofs.Common.{◌≡◌, ◌≢◌, ℕ, Bool, true, false, cond
 use Rattle.std.specs.Str.{bytes_eq}
 use Rattle.std.specs.Option.{option_or}
 use Rattle.std.specs.Prelude.{◌↔◌}
+use Rattle.std.proofs.lemmas.Option.{same_Some}
 use Rattle.std.proofs.lemmas.Slice.Eq.{bytes_eq-Decides}
 use Rattle.tinyjson_grammar.specs.Tree as tree
 use Rattle.tinyjson_grammar.specs.Tree.{Tree, Members, key_of, find}
@@ -54,11 +55,8 @@ found_last k ps = found k ps tree.no_members ∙ option_or_none (last_value k (e
 some≢none : (t : Tree) → Some t ≡ None → ⊥
 some≢none t h = cc
 
-some_same : (t u : Tree) → Some t ≡ Some u → t ≡ u
-some_same t u h = cc
-
 here : (k : List ℕ) (e : Entry) (b : Bool) → bytes_eq k e.0 ≡ b → ((t : Tree) → (cond b (Some e.1) None ≡ Some t) → (e.0 ≡ k) × (e.1 ≡ t)) × ((cond b (Some e.1) None ≡ None) → e.0 ≢ k)
-here k e true h = (λ t i. (sym ((bytes_eq-Decides k e.0).0 h), some_same e.1 t i), λ i. absurd (some≢none e.1 i))
+here k e true h = (λ t i. (sym ((bytes_eq-Decides k e.0).0 h), same_Some e.1 t i), λ i. absurd (some≢none e.1 i))
 here k e false h = (λ t i. absurd (some≢none t (sym i)), λ i j. let r : bytes_eq k e.0 ≡ true = (bytes_eq-Decides k e.0).1 (sym j) in let f : true ≡ false = sym r ∙ h in cc)
 
 none_by : (k : List ℕ) (e : Entry) (es : List Entry) (o : Option Tree) → last_value k es ≡ o → option_or o (value_at k e) ≡ None → (last_value k es ≡ None → HasNone k es) → HasNone k (e ∷ es)

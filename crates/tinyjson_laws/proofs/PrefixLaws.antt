@@ -126,7 +126,7 @@ begun c h =
     either (c == 116) _ (BeginsStrictly c) h (begun_by (boolean true) 116 _ tt tt refl c) (λ h.
     either (c == 102) _ (BeginsStrictly c) h (begun_by (boolean false) 102 _ tt tt refl c) (begun_growth c)))
 
-same_first : (c d : ℕ) (xs ys : List ℕ) → c ∷ xs ≡ d ∷ ys → c ≡ d
+pub same_first : (c d : ℕ) (xs ys : List ℕ) → c ∷ xs ≡ d ∷ ys → c ≡ d
 same_first c d xs ys e = cc
 
 first_is : (p : ℕ → Bool) (xs : List ℕ) (c : ℕ) (more : List ℕ) → xs ≡ c ∷ more → FirstOf p xs → IsTrue (p c)

@@ -7,7 +7,7 @@ use Rattle.tinyjson_grammar.specs.Syntax.{depth, IsWithin}
 use Rattle.tinyjson_grammar.specs.Grammar.{IsTextAt}
 use Rattle.tinyjson_grammar.specs.Text as written
 use Rattle.tinyjson_grammar.specs.Soundness.{IsTreeAt, tree_depth}
-use Rattle.tinyjson_grammar.proofs.Callers.Laws.{only_tree, IsWhiteIndent, written_text}
+use Rattle.tinyjson_grammar.proofs.Callers.Laws.{only_tree, IsWhiteIndent, within_le, written_text}
 use Rattle.tinyjson_laws.specs.Reading.{OneTree, TextsAreSound, TreesHaveTexts, WiderLimit, WiderRange}
 use Rattle.tinyjson_laws.proofs.ReadTrees.{tree_is, depth_is}
 use Rattle.tinyjson_laws.proofs.Wider.{wider_text}
@@ -15,13 +15,9 @@ use Rattle.tinyjson_laws.proofs.Wider.{wider_text}
 sound_at : (width : Width) (limit : Option ℕ) (xs : List ℕ) (t : Tree) → IsTextAt width limit xs t → IsTreeAt width t
 sound_at width limit xs t h = subst (IsTreeAt width) (sym h.tree) (tree_is width h.loose.value h.loose.spelled h.strict)
 
-within_tree : (limit : Option ℕ) (m n : ℕ) → m ≤ n → IsWithin limit n → IsWithin limit m
-within_tree None m n h j = tt
-within_tree (Some k) m n h j = omega arith
-
 -- the tree of a text keeps the limit of the text
 pub tree_within : (width : Width) (limit : Option ℕ) (xs : List ℕ) (t : Tree) → IsTextAt width limit xs t → IsWithin limit (tree_depth t)
-tree_within width limit xs t h = within_tree limit (tree_depth t) (depth h.loose.value) (subst (λ u. tree_depth u ≤ depth h.loose.value) (sym h.tree) (depth_is h.loose.value)) h.loose.shallow
+tree_within width limit xs t h = within_le limit (tree_depth t) (depth h.loose.value) h.loose.shallow (subst (λ u. tree_depth u ≤ depth h.loose.value) (sym h.tree) (depth_is h.loose.value))
 
 -- what a text has, written anew with any white indent
 pub rewritten : (width : Width) (limit : Option ℕ) (xs : List ℕ) (t : Tree) (w : Option (List ℕ)) → IsWhiteIndent w → IsTextAt width limit xs t → IsTextAt width limit (written.text w 0 t) t

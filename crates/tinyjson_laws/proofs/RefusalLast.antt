@@ -1,6 +1,6 @@
 -- The last character of an error: what the machine does with it, since another one may stand in its place.
 use Rattle.std.proofs.Common.{◌≡◌, ℕ, Bool, true, false, List, [], ◌∷◌, ◌++◌, Option, Some, None, refl, ap, sym, ◌∙◌, cond, append_assoc, append-nil, arith, subst, ◌⊎◌, inl, inr, ⊎_elim, ◌==◌, ◌||◌, not}
-use Rattle.std.proofs.lemmas.Bool.{ne_eqb}
+use Rattle.std.proofs.lemmas.Bool.{cond_both, ne_eqb}
 use Rattle.std.specs.Prelude.{All, ⊤}
 use Rattle.std.specs.Char.{IsScalar, is_ascii_digit}
 use Rattle.tinyjson_grammar.specs.Characters.{is_white, is_hex, short_escape, paired, decode}
@@ -91,18 +91,14 @@ module _ (limit : Option ℕ) (fs : List Frame) where
   abbrev Goes_on : Option Next → Type 0
   Goes_on o = (o ≡ None) ⊎ ((gs : List Frame) × (q : Phase) × (o ≡ Some (next gs q)))
 
-  on_cond : (b : Bool) (x y : Option Next) → Goes_on x → Goes_on y → Goes_on (cond b x y)
-  on_cond true x y h g = h
-  on_cond false x y h g = g
-
   lasts_step : (s : Stage) (n : Numeral) → Lasts s n → (c : ℕ) → Goes_on (step_digits (strictly limit) fs s n c)
   lasts_step Machine.minus n h c = elim h [ ]
-  lasts_step Machine.whole n h c = on_cond (is_ascii_digit c) _ _ (inr (_, _, refl)) (rw h (on_cond (c == 46) _ _ (inr (_, _, refl)) (on_cond (is_exponent_letter c) _ _ (inr (_, _, refl)) (inl refl))))
+  lasts_step Machine.whole n h c = cond_both (is_ascii_digit c) _ _ Goes_on (λ d. inr (_, _, refl)) (λ d. rw h (cond_both (c == 46) _ _ Goes_on (λ p. inr (_, _, refl)) (λ p. cond_both (is_exponent_letter c) _ _ Goes_on (λ l. inr (_, _, refl)) (λ l. inl refl))))
   lasts_step Machine.point n h c = elim h [ ]
-  lasts_step Machine.fraction n h c = on_cond (is_ascii_digit c) _ _ (inr (_, _, refl)) (on_cond (is_exponent_letter c) _ _ (inr (_, _, refl)) (inl refl))
+  lasts_step Machine.fraction n h c = cond_both (is_ascii_digit c) _ _ Goes_on (λ d. inr (_, _, refl)) (λ d. cond_both (is_exponent_letter c) _ _ Goes_on (λ l. inr (_, _, refl)) (λ l. inl refl))
   lasts_step Machine.letter n h c = elim h [ ]
   lasts_step Machine.sign n h c = elim h [ ]
-  lasts_step Machine.exponent n h c = on_cond (is_ascii_digit c) _ _ (inr (_, _, refl)) (inl refl)
+  lasts_step Machine.exponent n h c = cond_both (is_ascii_digit c) _ _ Goes_on (λ d. inr (_, _, refl)) (λ d. inl refl)
 
   lasts_end : (s : Stage) (n : Numeral) → Lasts s n → end_digits (strictly limit) fs s n ≡ end_plain (finish (strictly limit) fs n)
   lasts_end Machine.minus n h = elim h [ ]

@@ -14,6 +14,7 @@ use Rattle.tinyjson_grammar.specs.declared.kind.JsonKind.TheVariants as kind
 use Rattle.tinyjson.proofs.Callers.{all_are_scalars}
 use Rattle.tinyjson_number.specs.Numeral.{power_fits, value}
 use Rattle.tinyjson_laws.proofs.Examples.Reading.{refusal_of}
+use Rattle.tinyjson_laws.proofs.PrefixLaws.{same_first}
 use Rattle.tinyjson_laws.proofs.RefusalLaws.{one_refusal}
 
 -- the right error k of the list, which has consumed `used`, rules out another one
@@ -239,16 +240,13 @@ no_limit = refuted (error.ExpectedCommaOrBracket 120) (codes "[[]x") [] refl ref
 grows_not : (c : ℕ) (xs : List ℕ) → is_white c ≡ false → begins_growth c ≡ false → ¬ MayGrow (c ∷ xs)
 grows_not c xs n g m = by m.before m.whole m.white
   where
-    same_first : (d : ℕ) (ys zs : List ℕ) → d ∷ ys ≡ c ∷ zs → d ≡ c
-    same_first d ys zs e = cc
-
     by : (w : List ℕ) → c ∷ xs ≡ w ++ m.first ∷ m.more → AreWhite w → ⊥
     by [] e w =
         let f : begins_growth m.first ≡ true = m.grows in
-        false≢true (sym g ∙ (ap begins_growth (sym (same_first m.first m.more xs (sym e))) ∙ f))
+        false≢true (sym g ∙ (ap begins_growth (same_first c m.first xs m.more e) ∙ f))
     by (d ∷ ds) e w =
         let f : is_white d ≡ true = w.0 in
-        false≢true (sym n ∙ (ap is_white (sym (same_first d (ds ++ m.first ∷ m.more) xs (sym e))) ∙ f))
+        false≢true (sym n ∙ (ap is_white (same_first c d xs (ds ++ m.first ∷ m.more) e) ∙ f))
 
 memory_for_true : (used rest : List ℕ) → used ++ rest ≡ codes "true" → ¬ RefusalSays None error.OutOfMemory used rest
 memory_for_true used rest e r = grows_not 116 (codes "rue") refl refl (subst MayGrow e r.1)
