@@ -8,7 +8,7 @@ use Rattle.tinyjson_grammar.specs.Prefix.{IsFaultless, IsLooselyViable, IsCutOff
 use Rattle.tinyjson_grammar.specs.Grammar.{IsAccepted}
 use Rattle.tinyjson_grammar.specs.Kind.{kind_of}
 use Rattle.tinyjson_grammar.specs.Machine
-use Rattle.tinyjson_grammar.specs.Machine.{Rules, strictly, Frame, in_array, at_key, at_value, Phase, first, awaited, literal, digits, quoted, colon, after, finished, Stage, Next, next, stop, Outcome, accepted, refused, rest_of, complete, finish, then_step, unless_ended, step_digits, step_escape, end_digits, end_plain, step, run, end}
+use Rattle.tinyjson_grammar.specs.Machine.{Rules, strictly, Frame, Phase, first, awaited, literal, digits, quoted, Stage, Next, next, stop, Outcome, accepted, refused, rest_of, complete, finish, then_step, unless_ended, step_digits, step_escape, end_digits, end_plain, step, run, end}
 use Rattle.tinyjson_grammar.specs.Refusal.{AwaitsAt}
 use Rattle.tinyjson_grammar.specs.Syntax.{Syntax}
 use Rattle.tinyjson_grammar.specs.Tree as tree

@@ -9,7 +9,7 @@ use Rattle.tinyjson_grammar.specs.Prefix.{IsFaultless, IsLooselyViable, IsValue}
 use Rattle.tinyjson_grammar.specs.Grammar.{IsLoose, IsAccepted}
 use Rattle.tinyjson_grammar.specs.Kind.{kind_of}
 use Rattle.tinyjson_grammar.specs.Machine
-use Rattle.tinyjson_grammar.specs.Machine.{Rules, strictly, Frame, at_key, Phase, first, awaited, digits, quoted, colon, finished, Stage, Next, next, stop, Outcome, accepted, refused, complete, finish, then_step, unless_ended, step_digits, end_digits, end_plain, fits, push_frame, start, step, run, end}
+use Rattle.tinyjson_grammar.specs.Machine.{Rules, strictly, Frame, at_key, Phase, first, awaited, digits, quoted, colon, finished, Next, next, stop, accepted, refused, complete, finish, then_step, unless_ended, step_digits, end_plain, fits, push_frame, start, step, run, end}
 use Rattle.tinyjson_grammar.specs.Refusal.{IsRefusal, EndsBadKey, EndsExponent, BeginsAt, InString, NeedsMore, EndsBefore, BeginsWithNone, IsLiteral, begins_value, RefusalSays}
 use Rattle.tinyjson_grammar.specs.Syntax.{Syntax, null, boolean, number, string, empty_array, array, empty_object, object, text, is_key, tree_of, Piece, pieces_text, piece_codes, IsSpelled, IsWithin}
 use Rattle.tinyjson_grammar.specs.Tree as tree

@@ -8,7 +8,7 @@ use Rattle.tinyjson_grammar.specs.Prefix.{IsFaultless, IsLooselyViable, IsCutOff
 use Rattle.tinyjson_grammar.specs.Grammar.{IsAccepted}
 use Rattle.tinyjson_grammar.specs.Kind.{kind_of}
 use Rattle.tinyjson_grammar.specs.Machine
-use Rattle.tinyjson_grammar.specs.Machine.{Rules, strictly, Frame, in_array, at_key, at_value, Phase, first, awaited, literal, digits, quoted, colon, after, finished, Stage, Next, next, stop, accepted, refused, rest_of, fits, push_frame, start, step_first, step_plain, then_step, unless_ended, finish, step_digits, step, run}
+use Rattle.tinyjson_grammar.specs.Machine.{Rules, strictly, Frame, in_array, at_key, at_value, Phase, first, awaited, literal, digits, quoted, colon, after, finished, Stage, Next, next, stop, accepted, refused, rest_of, start, step_first, step_plain, then_step, unless_ended, finish, step_digits, step, run}
 use Rattle.tinyjson_grammar.specs.Refusal.{AwaitsValue, IsLiteral}
 use Rattle.tinyjson_grammar.specs.Syntax.{Syntax, text, tree_of}
 use Rattle.tinyjson_grammar.specs.Tree.{Tree, Members}

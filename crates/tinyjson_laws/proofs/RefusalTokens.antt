@@ -6,7 +6,7 @@ use Rattle.std.proofs.lemmas.Bool.{and_parts, or_parts, not-true, cases_Bool, eq
 use Rattle.tinyjson_grammar.specs.Characters.{is_hex, short_escape, decode, paired, is_surrogate, is_high, is_low}
 use Rattle.tinyjson_grammar.specs.Prefix.{IsFaultless}
 use Rattle.tinyjson_grammar.specs.Machine
-use Rattle.tinyjson_grammar.specs.Machine.{Rules, strictly, Frame, awaited, literal, digits, quoted, refused, step_escape, step_digits, go_on, step, run, end, with_exponent, with_sign, Stage}
+use Rattle.tinyjson_grammar.specs.Machine.{Rules, strictly, Frame, awaited, digits, quoted, refused, step_escape, step_digits, go_on, step, run, end, with_exponent, with_sign}
 use Rattle.tinyjson_grammar.specs.Refusal.{IsLiteral, IsHex, AreUnits, EndsRun, BeginsEscape, BeginsWithNone}
 use Rattle.tinyjson_grammar.specs.Syntax.{Syntax, text, Piece, plain, escape, unit, IsPiece, ArePieces, pieces_text, piece_codes, unit_value}
 use Rattle.tinyjson_number.specs.Numeral.{numeral, Numeral, Exponent, IsNumeral, AreDigits, is_exponent_letter, is_sign, has_leading_zero, minus_text, fraction_text, spelling}
