@@ -21,7 +21,7 @@ use Rattle.tinyjson.proofs.Callers.Laws.{all_front, all_rest}
 use Rattle.tinyjson_grammar.proofs.Callers.Laws.{cut_off_end, Path, outside, item_in, key_in, value_in, path_frames, continues, continues_digit, continues_point, continues_letter, Read, at_first, at_awaited, in_literal, in_digits, in_quoted, at_after, Part, part_stage, part_numeral, read_frames, read_phase, IsRead, IsFresh, values, text_accepted, denies, is_dead, Follows}
 use Rattle.tinyjson_laws.proofs.RefusalPlaces.{Stands, Goes, Halts, goes_or_halts, halts_run, stands_viable, stands_next, stands_stop, stands_follows, IsNoLetter, within_lacks, accepted_refused}
 
--- ---- a character that may follow without a fault
+-- ---- a character that may follow without an error
 
 -- the machine goes on, or stops after a key that is no string
 abbrev pub IsPassed : Next → Type 0

@@ -1,4 +1,4 @@
--- Where the machine stands after characters without fault, and where a value is awaited.
+-- Where the machine stands after characters without error, and where a value is awaited.
 use Rattle.std.proofs.Common.{suc, ◌≡◌, ℕ, Bool, true, false, List, [], ◌∷◌, ◌++◌, Option, Some, None, refl, ap, sym, ◌∙◌, cond, append_assoc, append-nil, arith, subst, ◌⊎◌, inl, inr, ⊎_elim, IsTrue, ◌==◌, ◌&&◌, not}
 use Rattle.std.proofs.lemmas.Bool.{and_parts, not-true}
 use Rattle.std.specs.Prelude.{All}
@@ -161,7 +161,7 @@ goes_or_halts limit xs a = travel limit xs xs a [] [] awaited (stands_start limi
 pub halts_run : (limit : Option ℕ) (xs : List ℕ) (h : Halts limit xs) (ys : List ℕ) → run (strictly limit) [] awaited (xs ++ ys) ≡ refused h.7 (rest_of h.8 h.1 (h.2 ++ ys))
 halts_run limit xs h ys = rw h.3 (rw (append_assoc h.0 (h.1 ∷ h.2) ys) (stands_stop limit h.0 h.4 h.5 h.6 h.1 h.7 h.8 h.9 (h.2 ++ ys)))
 
--- ---- after a list without fault
+-- ---- after a list without error
 
 -- its last character is the end of a key that is no string
 abbrev pub EndsKey : Option ℕ → List ℕ → Type 0

@@ -281,7 +281,7 @@ module _ (limit : Option ℕ) (fs : List Frame) where
 
 -- ---- the end of a number
 
--- A character that is no digit ends a number, or the number has no fault with it.
+-- A character that is no digit ends a number, or the number has no error with it.
 abbrev pub EndsOr : Option ℕ → Path → Numeral → ℕ → Type 0
 EndsOr limit p n c = (step_digits (strictly limit) (path_frames p) (last_stage n) n c ≡ None) ⊎ IsFaultless limit ((path_text p ++ spelling n) ++ c ∷ [])
 

@@ -63,17 +63,17 @@ leading_zero_in_an_escape_of_a_key = refuted (error.InvalidHexDigit 103) (codes 
 
 -- ---- nothing is read past a key that is no string
 
-colon_behind_a_number : ¬ RefusalSays None (error.ExpectedColon 125) (codes "{1}") []
+colon_after_a_number : ¬ RefusalSays None (error.ExpectedColon 125) (codes "{1}") []
 unfolding run step end value power_fits
-colon_behind_a_number = refuted (error.KeyNotString kind.Number) (codes "{1") (codes "}") refl refl refl (λ e. cc)
+colon_after_a_number = refuted (error.KeyNotString kind.Number) (codes "{1") (codes "}") refl refl refl (λ e. cc)
 
-comma_behind_a_number : ¬ RefusalSays None (error.ExpectedColon 44) (codes "{1,") (codes "2}")
+comma_after_a_number : ¬ RefusalSays None (error.ExpectedColon 44) (codes "{1,") (codes "2}")
 unfolding run step end value power_fits
-comma_behind_a_number = refuted (error.KeyNotString kind.Number) (codes "{1") (codes ",2}") refl refl refl (λ e. cc)
+comma_after_a_number = refuted (error.KeyNotString kind.Number) (codes "{1") (codes ",2}") refl refl refl (λ e. cc)
 
-bracket_behind_null : ¬ RefusalSays None (error.ExpectedColon 91) (codes "{null[") []
+bracket_after_null : ¬ RefusalSays None (error.ExpectedColon 91) (codes "{null[") []
 unfolding run step end value power_fits
-bracket_behind_null = refuted (error.KeyNotString kind.Null) (codes "{null") (codes "[") refl refl refl (λ e. cc)
+bracket_after_null = refuted (error.KeyNotString kind.Null) (codes "{null") (codes "[") refl refl refl (λ e. cc)
 
 -- ---- nothing is read past a surrogate without its partner
 
@@ -153,25 +153,25 @@ minus_in_a_string = refuted error.UnexpectedEof (codes "\"a-") [] refl refl refl
 
 -- ---- an end in the middle of a number, or after a wrong key
 
-end_behind_a_minus : ¬ RefusalSays None error.UnexpectedEof (codes "-") []
+end_after_a_minus : ¬ RefusalSays None error.UnexpectedEof (codes "-") []
 unfolding run step end value power_fits
-end_behind_a_minus = refuted error.EmptyInteger (codes "-") [] refl refl refl (λ e. cc)
+end_after_a_minus = refuted error.EmptyInteger (codes "-") [] refl refl refl (λ e. cc)
 
-end_behind_a_point : ¬ RefusalSays None error.UnexpectedEof (codes "0.") []
+end_after_a_point : ¬ RefusalSays None error.UnexpectedEof (codes "0.") []
 unfolding run step end value power_fits
-end_behind_a_point = refuted error.EmptyFraction (codes "0.") [] refl refl refl (λ e. cc)
+end_after_a_point = refuted error.EmptyFraction (codes "0.") [] refl refl refl (λ e. cc)
 
-end_behind_an_exponent_letter : ¬ RefusalSays None error.UnexpectedEof (codes "0e") []
+end_after_an_exponent_letter : ¬ RefusalSays None error.UnexpectedEof (codes "0e") []
 unfolding run step end value power_fits
-end_behind_an_exponent_letter = refuted error.EmptyExponent (codes "0e") [] refl refl refl (λ e. cc)
+end_after_an_exponent_letter = refuted error.EmptyExponent (codes "0e") [] refl refl refl (λ e. cc)
 
-end_behind_a_leading_zero : ¬ RefusalSays None error.UnexpectedEof (codes "00") []
+end_after_a_leading_zero : ¬ RefusalSays None error.UnexpectedEof (codes "00") []
 unfolding run step end value power_fits
-end_behind_a_leading_zero = refuted error.LeadingZero (codes "00") [] refl refl refl (λ e. cc)
+end_after_a_leading_zero = refuted error.LeadingZero (codes "00") [] refl refl refl (λ e. cc)
 
-end_behind_a_wrong_key : ¬ RefusalSays None error.UnexpectedEof (codes "{1") []
+end_after_a_wrong_key : ¬ RefusalSays None error.UnexpectedEof (codes "{1") []
 unfolding run step end value power_fits
-end_behind_a_wrong_key = refuted (error.KeyNotString kind.Number) (codes "{1") [] refl refl refl (λ e. cc)
+end_after_a_wrong_key = refuted (error.KeyNotString kind.Number) (codes "{1") [] refl refl refl (λ e. cc)
 
 -- ---- the place of an error
 
@@ -195,9 +195,9 @@ unfolding run step end value power_fits
 bracket_consumed = refuted (error.InvalidCharacter 93) (codes "[1,") (codes "]") refl refl refl
     (λ e. let n : 3 ≡ 4 = ap length e.1 in omega (arith, n))
 
-space_behind_a_wrong_key_consumed : ¬ RefusalSays None (error.KeyNotString kind.Number) (codes "{1 ") []
+space_after_a_wrong_key_consumed : ¬ RefusalSays None (error.KeyNotString kind.Number) (codes "{1 ") []
 unfolding run step end value power_fits
-space_behind_a_wrong_key_consumed = refuted (error.KeyNotString kind.Number) (codes "{1") (codes " ") refl refl refl
+space_after_a_wrong_key_consumed = refuted (error.KeyNotString kind.Number) (codes "{1") (codes " ") refl refl refl
     (λ e. let n : 2 ≡ 3 = ap length e.1 in omega (arith, n))
 
 -- ---- kinds that stand for one another
@@ -255,9 +255,9 @@ memory_for_a_wrong_character : (used rest : List ℕ) → used ++ rest ≡ codes
 memory_for_a_wrong_character used rest e r = grows_not 120 [] refl refl (subst MayGrow e r.1)
 
 -- no memory is needed after a character that no text of the loose grammar has there
-memory_behind_a_text : ¬ RefusalSays None error.OutOfMemory (codes "[1]x") []
+memory_after_a_text : ¬ RefusalSays None error.OutOfMemory (codes "[1]x") []
 unfolding run step end value power_fits
-memory_behind_a_text r =
+memory_after_a_text r =
     let right : IsRefusal None (error.ExpectedEof 120) (codes "[1]x") [] = refusal_of refl refl in
     right.says.1.1 r.0.viable
 

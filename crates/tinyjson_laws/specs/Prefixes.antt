@@ -39,7 +39,7 @@ ViableIsFaultless = (limit : Option ℕ) (xs : List ℕ) → IsViable (IsAccepte
 abbrev pub FaultlessIsLooselyViable : Type 0
 FaultlessIsLooselyViable = (limit : Option ℕ) (xs : List ℕ) → IsFaultless limit xs → IsLooselyViable limit xs
 
--- what no list completes, in either grammar, or what has a fault, stays so with more characters after it
+-- what no list completes, in either grammar, or what has an error, stays so with more characters after it
 abbrev pub UnviableStaysSo : Type 0
 UnviableStaysSo =
     (limit : Option ℕ) (xs ys : List ℕ) →
@@ -78,7 +78,7 @@ pub record IsShortest (P : List ℕ → Type 0) (xs : List ℕ) (n : ℕ) : Type
   pub fails : ¬ P (take n xs)
   pub least : (k : ℕ) → k < n → ¬ ¬ P (take k xs)
 
--- The shortest prefix that is not viable is no longer than the shortest with a fault, and that is no longer than the shortest
+-- The shortest prefix that is not viable is no longer than the shortest with an error, and that is no longer than the shortest
 -- that is not viable in the loose grammar. Where there is a later one of these, no earlier one is missing.
 abbrev pub ShortestInOrder : Type 0
 ShortestInOrder =
@@ -90,7 +90,7 @@ ShortestInOrder =
     × ((l : ℕ) → IsShortest (IsLooselyViable limit) xs l →
     ¬ ¬ ((m : ℕ) × IsShortest (IsFaultless limit) xs m))
 
--- An error for another cause than memory has consumed at least all but the last character of the shortest prefix with a fault,
+-- An error for another cause than memory has consumed at least all but the last character of the shortest prefix with an error,
 -- and so of the shortest prefix that is not viable.
 abbrev pub RefusedNotTooSoon : Type 0
 RefusedNotTooSoon =
@@ -98,7 +98,7 @@ RefusedNotTooSoon =
     ((m : ℕ) → IsShortest (IsFaultless limit) (used ++ rest) m → m ≤ length used + 1)
     × ((d : ℕ) → IsShortest (IsViable (IsAccepted limit)) (used ++ rest) d → d ≤ length used + 1)
 
--- where no prefix has a fault, an error for another cause than memory has consumed the whole list
+-- where no prefix has an error, an error for another cause than memory has consumed the whole list
 abbrev pub RefusedAtEnd : Type 0
 RefusedAtEnd =
     (limit : Option ℕ) (k : JsonParseErrorKind) (used rest : List ℕ) → IsRefusal limit k used rest →

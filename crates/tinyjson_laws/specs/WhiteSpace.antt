@@ -27,19 +27,19 @@ use Rattle.tinyjson_grammar.specs.Grammar.{IsLoose, IsText}
 pub data Place : Type 0 where
   outside : Place
   in_string : Place
-  behind_backslash : Place
+  after_backslash : Place
 
 -- where the next character stands
 abbrev pub place_after : Place → ℕ → Place
 place_after outside c = cond (c == 34) in_string outside
-place_after in_string c = cond (c == 34) outside (cond (c == 92) behind_backslash in_string)
-place_after behind_backslash c = in_string
+place_after in_string c = cond (c == 34) outside (cond (c == 92) after_backslash in_string)
+place_after after_backslash c = in_string
 
 -- the character, or nothing where it is white space outside a string
 abbrev pub kept_part : Place → ℕ → List ℕ
 kept_part outside c = cond (is_white c) [] (c ∷ [])
 kept_part in_string c = c ∷ []
-kept_part behind_backslash c = c ∷ []
+kept_part after_backslash c = c ∷ []
 
 abbrev pub kept_from : Place → List ℕ → List ℕ
 kept_from p [] = []

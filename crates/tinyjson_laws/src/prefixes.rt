@@ -1,6 +1,6 @@
 //! Laws of prefixes: what can still become a text, what cannot, and where an error comes.
 //!
-//! A list is viable if some list completes it to a text. It is without fault so far (`IsFaultless`) if some
+//! A list is viable if some list completes it to a text. It is without error so far (`IsFaultless`) if some
 //! list completes it to a text, or to one that ends with its first key that is no string. The loose grammar
 //! (`IsLoose`) is the grammar without four of its conditions: leading zeros, powers of ten of any size, lone
 //! surrogates and keys of any kind are let pass.
@@ -30,19 +30,19 @@ pub fn empty_is_viable()
     ensures { EmptyIsViable }
 {}
 
-/// What can be completed to a text is without fault so far.
+/// What can be completed to a text is without error so far.
 #[tactic(auto, using(crate::proofs::PrefixLaws::viable_is_faultless))]
 pub fn viable_is_faultless()
     ensures { ViableIsFaultless }
 {}
 
-/// What is without fault so far can be completed to a text of the loose grammar.
+/// What is without error so far can be completed to a text of the loose grammar.
 #[tactic(auto, using(crate::proofs::PrefixLaws::faultless_is_loosely_viable))]
 pub fn faultless_is_loosely_viable()
     ensures { FaultlessIsLooselyViable }
 {}
 
-/// What cannot be completed cannot be completed with more characters after it, and what has a fault
+/// What cannot be completed cannot be completed with more characters after it, and what has an error
 /// has it still.
 #[tactic(auto, using(crate::proofs::PrefixLaws::unviable_stays_so))]
 pub fn unviable_stays_so()
@@ -68,7 +68,7 @@ pub fn unviable_at_first()
     ensures { UnviableAtFirst }
 {}
 
-/// The shortest prefix that cannot be completed is no longer than the shortest with a fault, and that is
+/// The shortest prefix that cannot be completed is no longer than the shortest with an error, and that is
 /// no longer than the shortest that cannot be completed in the loose grammar. Where a list has a later one of
 /// these, no earlier one is missing.
 pub fn shortest_in_order()
@@ -76,12 +76,12 @@ pub fn shortest_in_order()
 {}
 
 /// An error for another cause than memory has consumed at least all but the last character of the shortest
-/// prefix with a fault, and so of the shortest prefix that no text continues.
+/// prefix with an error, and so of the shortest prefix that no text continues.
 pub fn refused_not_too_soon()
     ensures { RefusedNotTooSoon }
 {}
 
-/// Where no prefix has a fault, an error for another cause than memory has consumed the whole list.
+/// Where no prefix has an error, an error for another cause than memory has consumed the whole list.
 #[tactic(auto, using(crate::proofs::PrefixLaws::refused_at_end))]
 pub fn refused_at_end()
     ensures { RefusedAtEnd }

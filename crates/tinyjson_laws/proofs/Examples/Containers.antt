@@ -144,6 +144,6 @@ second_key : IsRefusal None (error.KeyNotString kind.Number) (codes "{\"a\":1,2"
 unfolding run step end value power_fits
 second_key = refusal_of refl refl
 
-fault_within_a_key : IsRefusal None error.LeadingZero (codes "{[01") []
+error_within_a_key : IsRefusal None error.LeadingZero (codes "{[01") []
 unfolding run step end value power_fits
-fault_within_a_key = refusal_of refl refl
+error_within_a_key = refusal_of refl refl

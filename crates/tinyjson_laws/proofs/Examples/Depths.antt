@@ -62,9 +62,9 @@ limit_and_end : IsRefusal (Some 1) error.UnexpectedEof (codes "[") []
 unfolding run step end value power_fits
 limit_and_end = refusal_of refl refl
 
-limit_and_fault : IsRefusal (Some 1) (error.InvalidCharacter 93) (codes "[1,") (codes "]")
+limit_and_error : IsRefusal (Some 1) (error.InvalidCharacter 93) (codes "[1,") (codes "]")
 unfolding run step end value power_fits
-limit_and_fault = refusal_of refl refl
+limit_and_error = refusal_of refl refl
 
 -- ---- keys that are containers, in the loose grammar
 

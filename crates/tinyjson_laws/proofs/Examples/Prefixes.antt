@@ -12,7 +12,7 @@ use Rattle.tinyjson_laws.specs.Prefixes.{IsShortest}
 use Rattle.tinyjson_laws.proofs.Examples.Reading.{refusal_of}
 use Rattle.tinyjson_laws.proofs.PrefixLaws.{empty_is_viable, viable_is_faultless, faultless_is_loosely_viable, unviable_at_first}
 
--- a list whose first character is at fault has shortest prefixes of all three kinds
+-- a list whose first character is wrong has shortest prefixes of all three kinds
 unviable_from_the_first : (c : ℕ) (xs : List ℕ) → is_white c ≡ false → begins_value c ≡ false →
     IsShortest (IsViable (IsAccepted None)) (c ∷ xs) 1
     × IsShortest (IsFaultless None) (c ∷ xs) 1
