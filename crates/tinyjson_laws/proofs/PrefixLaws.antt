@@ -150,7 +150,7 @@ growth_begins c = (
 )
 
 -- no text of the loose grammar begins so
-no_first : (c : ℕ) (w : List ℕ) (s : Syntax) (v xs : List ℕ) → AreWhite w → IsSpelled s → is_white c ≡ false → begins_value c ≡ false → c ∷ xs ≡ w ++ (text s ++ v) → ⊥
+pub no_first : (c : ℕ) (w : List ℕ) (s : Syntax) (v xs : List ℕ) → AreWhite w → IsSpelled s → is_white c ≡ false → begins_value c ≡ false → c ∷ xs ≡ w ++ (text s ++ v) → ⊥
 no_first c [] s v xs hw hs n b e =
     let f = first_of s hs in
     let same : c ≡ f.0 = same_first c f.0 xs (f.1 ++ v) (e ∙ ap (λ ys. ys ++ v) f.2) in

@@ -64,6 +64,7 @@ pub fn growth_begins()
 
 /// A list whose first character is not white space and begins no value cannot be completed, not even
 /// to a text of the loose grammar.
+#[tactic(auto, using(crate::proofs::PrefixLaws::no_first))]
 pub fn unviable_at_first()
     ensures { UnviableAtFirst }
 {}
