@@ -1,6 +1,7 @@
 -- The parser as a machine over characters, for private contracts. `strict` refuses what the grammar refuses;
 -- otherwise the four conditions are off.
-use Rattle.std.specs.Prelude.{ℕ, Bool, true, false, cond, ◌||◌, ◌&&◌, ◌==◌, not, List, [], ◌∷◌, ◌++◌, Option, Some, None, length, nat_lt, codes}
+use Rattle.std.specs.Prelude.{ℕ, Bool, true, false, cond, ◌||◌, ◌&&◌, ◌==◌, not}
+use Rattle.std.specs.Prelude.{List, [], ◌∷◌, ◌++◌, Option, Some, None, length, nat_lt, codes}
 use Rattle.std.specs.Char.{is_ascii_digit}
 use Rattle.tinyjson_number.specs.Numeral.{is_exponent_letter, Numeral, Exponent, has_leading_zero, value, in_range}
 use Rattle.tinyjson_grammar.specs.Tree.{Tree, null, boolean, number, string, array, object}
@@ -14,6 +15,10 @@ use Rattle.tinyjson_grammar.specs.declared.error.JsonParseErrorKind.TheVariants.
 use Rattle.tinyjson_grammar.specs.declared.error.JsonParseErrorKind.TheVariants.{InvalidEscape, ControlCharacter, UnexpectedInLiteral}
 use Rattle.tinyjson_grammar.specs.declared.error.JsonParseErrorKind.TheVariants.{EmptyInteger, LeadingZero, EmptyFraction, EmptyExponent}
 use Rattle.tinyjson_grammar.specs.declared.error.JsonParseErrorKind.TheVariants.{NumberOutOfRange, TooDeep}
+use Rattle.tinyjson_grammar.specs.Characters.{begin_array, begin_object, decimal_point, end_array, end_object}
+use Rattle.tinyjson_grammar.specs.Characters.{letter_f, letter_n, letter_t, letter_u, minus_sign}
+use Rattle.tinyjson_grammar.specs.Characters.{name_separator, plus_sign, quotation_mark, reverse_solidus, space}
+use Rattle.tinyjson_grammar.specs.Characters.{value_separator}
 
 -- the rules that the machine is run by
 pub record Rules : Type 0 where
@@ -88,13 +93,13 @@ push_frame r fs f c = cond (fits r.limit (length fs)) (next (f ∷ fs) first) (s
 -- the first character of a value
 abbrev pub start : Rules → List Frame → ℕ → Next
 start r fs c =
-    cond (c == 110) (next fs (literal (codes "ull") null))
-    (cond (c == 116) (next fs (literal (codes "rue") (boolean true)))
-    (cond (c == 102) (next fs (literal (codes "alse") (boolean false)))
-    (cond (c == 34) (next fs (quoted plain [] []))
-    (cond (c == 91) (push_frame r fs (in_array []) c)
-    (cond (c == 123) (push_frame r fs (at_key no_members) c)
-    (cond (c == 45) (next fs (digits minus (record { negative = true; whole = []; fraction = []; exponent = None })))
+    cond (c == letter_n) (next fs (literal (codes "ull") null))
+    (cond (c == letter_t) (next fs (literal (codes "rue") (boolean true)))
+    (cond (c == letter_f) (next fs (literal (codes "alse") (boolean false)))
+    (cond (c == quotation_mark) (next fs (quoted plain [] []))
+    (cond (c == begin_array) (push_frame r fs (in_array []) c)
+    (cond (c == begin_object) (push_frame r fs (at_key no_members) c)
+    (cond (c == minus_sign) (next fs (digits minus (record { negative = true; whole = []; fraction = []; exponent = None })))
     (cond (is_ascii_digit c) (next fs (digits whole (record { negative = false; whole = c ∷ []; fraction = []; exponent = None })))
     (stop (InvalidCharacter c) false))))))))
 
@@ -104,24 +109,24 @@ step_awaited r fs c = cond (is_white c) (next fs awaited) (start r fs c)
 -- a bracket may close the container that was just opened
 abbrev pub step_first : Rules → List Frame → ℕ → Next
 step_first r [] c = start r [] c
-step_first r (in_array ts ∷ fs) c = cond (c == 93) (complete r.strict fs (array (items_of ts)) true) (start r (in_array ts ∷ fs) c)
-step_first r (at_key ms ∷ fs) c = cond (c == 125) (complete r.strict fs (object ms) true) (start r (at_key ms ∷ fs) c)
+step_first r (in_array ts ∷ fs) c = cond (c == end_array) (complete r.strict fs (array (items_of ts)) true) (start r (in_array ts ∷ fs) c)
+step_first r (at_key ms ∷ fs) c = cond (c == end_object) (complete r.strict fs (object ms) true) (start r (at_key ms ∷ fs) c)
 step_first r (at_value ms k ∷ fs) c = start r (at_value ms k ∷ fs) c
 
 abbrev pub step_after : Rules → List Frame → ℕ → Next
 step_after r [] c = stop (ExpectedEof c) true
 step_after r (in_array ts ∷ fs) c =
-    cond (c == 44) (next (in_array ts ∷ fs) awaited)
-    (cond (c == 93) (complete r.strict fs (array (items_of ts)) true) (stop (ExpectedCommaOrBracket c) true))
+    cond (c == value_separator) (next (in_array ts ∷ fs) awaited)
+    (cond (c == end_array) (complete r.strict fs (array (items_of ts)) true) (stop (ExpectedCommaOrBracket c) true))
 step_after r (at_key ms ∷ fs) c =
-    cond (c == 44) (next (at_key ms ∷ fs) awaited)
-    (cond (c == 125) (complete r.strict fs (object ms) true) (stop (ExpectedCommaOrBrace c) true))
+    cond (c == value_separator) (next (at_key ms ∷ fs) awaited)
+    (cond (c == end_object) (complete r.strict fs (object ms) true) (stop (ExpectedCommaOrBrace c) true))
 step_after r (at_value ms k ∷ fs) c = stop (ExpectedCommaOrBrace c) true
 
 abbrev pub step_colon : List Frame → List ℕ → ℕ → Next
 step_colon [] k c = stop (ExpectedColon c) true
 step_colon (in_array ts ∷ fs) k c = stop (ExpectedColon c) true
-step_colon (at_key ms ∷ fs) k c = cond (c == 58) (next (at_value ms k ∷ fs) awaited) (stop (ExpectedColon c) true)
+step_colon (at_key ms ∷ fs) k c = cond (c == name_separator) (next (at_value ms k ∷ fs) awaited) (stop (ExpectedColon c) true)
 step_colon (at_value ms j ∷ fs) k c = stop (ExpectedColon c) true
 
 abbrev pub step_literal : Rules → List Frame → List ℕ → Tree → ℕ → Next
@@ -135,14 +140,14 @@ abbrev pub flush : Bool → List ℕ → List ℕ → (List ℕ → Next) → Ne
 flush strict cs us go = cond (strict && not (paired us)) (stop InvalidUtf16 true) (go (cs ++ decode us))
 
 abbrev pub step_escape : Rules → List Frame → List ℕ → List ℕ → ℕ → Option ℕ → Next
-step_escape r fs cs us c None = cond (c == 117) (next fs (quoted (hex []) cs us)) (stop (InvalidEscape c) true)
+step_escape r fs cs us c None = cond (c == letter_u) (next fs (quoted (hex []) cs us)) (stop (InvalidEscape c) true)
 step_escape r fs cs us c (Some d) = flush r.strict cs us (λ xs. next fs (quoted plain (xs ++ d ∷ []) []))
 
 abbrev pub step_quoted : Rules → List Frame → Within → List ℕ → List ℕ → ℕ → Next
 step_quoted r fs plain cs us c =
-    cond (c == 34) (flush r.strict cs us (λ xs. complete r.strict fs (string xs) true))
-    (cond (c == 92) (next fs (quoted backslash cs us))
-    (cond (nat_lt c 32) (stop (ControlCharacter c) true)
+    cond (c == quotation_mark) (flush r.strict cs us (λ xs. complete r.strict fs (string xs) true))
+    (cond (c == reverse_solidus) (next fs (quoted backslash cs us))
+    (cond (nat_lt c space) (stop (ControlCharacter c) true)
     (flush r.strict cs us (λ xs. next fs (quoted plain (xs ++ c ∷ []) [])))))
 step_quoted r fs backslash cs us c = step_escape r fs cs us c (short_escape c)
 step_quoted r fs (hex ds) cs us c =
@@ -177,7 +182,7 @@ finish r fs n = cond (r.strict && not (in_range (value n))) (stop NumberOutOfRan
 abbrev pub after_whole : Rules → List Frame → Numeral → ℕ → Option Next
 after_whole r fs n c =
     cond (r.strict && has_leading_zero n.whole) (Some (stop LeadingZero false))
-    (cond (c == 46) (Some (next fs (digits point n)))
+    (cond (c == decimal_point) (Some (next fs (digits point n)))
     (cond (is_exponent_letter c) (Some (next fs (digits letter (with_exponent n c)))) None))
 
 -- None where the numeral ends before c
@@ -193,7 +198,7 @@ step_digits r fs fraction n c =
     (cond (is_exponent_letter c) (Some (next fs (digits letter (with_exponent n c)))) None)
 step_digits r fs letter n c =
     Some (cond (is_ascii_digit c) (next fs (digits exponent (with_exponent_digit n c)))
-    (cond ((c == 43) || (c == 45)) (next fs (digits sign (with_sign n c))) (stop EmptyExponent false)))
+    (cond ((c == plus_sign) || (c == minus_sign)) (next fs (digits sign (with_sign n c))) (stop EmptyExponent false)))
 step_digits r fs sign n c = Some (cond (is_ascii_digit c) (next fs (digits exponent (with_exponent_digit n c))) (stop EmptyExponent false))
 step_digits r fs exponent n c = cond (is_ascii_digit c) (Some (next fs (digits exponent (with_exponent_digit n c)))) None
 

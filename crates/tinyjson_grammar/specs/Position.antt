@@ -1,6 +1,7 @@
 -- Lines and columns, by a closed form on what was consumed.
 use Rattle.std.specs.Prelude.{ℕ, ◌+◌, min, Bool, cond, List, length, not, ◌==◌}
 use Rattle.std.specs.List.{count_by, suffix_len}
+use Rattle.tinyjson_grammar.specs.Characters.{line_feed}
 
 -- The line begins at 1. The column is the number of characters after the last line feed.
 pub record Position : Type 0 where
@@ -15,7 +16,7 @@ abbrev pub origin : Position
 origin = position_at 1 0
 
 abbrev pub is_line_feed : ℕ → Bool
-is_line_feed c = c == 10
+is_line_feed c = c == line_feed
 
 abbrev pub is_within_line : ℕ → Bool
 is_within_line c = not (is_line_feed c)

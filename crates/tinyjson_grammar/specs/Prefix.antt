@@ -5,6 +5,7 @@ use Rattle.tinyjson_grammar.specs.Syntax.{Syntax, text, AreWhite, IsSpelled, IsS
 use Rattle.tinyjson_grammar.specs.Syntax.{Piece, pieces_text, ArePieces, piece_codes, depth}
 use Rattle.tinyjson_grammar.specs.Syntax.{IsWithin}
 use Rattle.tinyjson_grammar.specs.Grammar.{IsLoose, IsAccepted}
+use Rattle.tinyjson_grammar.specs.Characters.{begin_array, begin_object, name_separator, quotation_mark, value_separator}
 
 -- A viable prefix: some list, perhaps the empty one, completes it.
 abbrev pub IsViable : (List ℕ → Type 0) → List ℕ → Type 0
@@ -35,16 +36,16 @@ element_text e = e.before ++ (text e.value ++ e.after)
 
 abbrev pub pair_text : Pair → List ℕ
 pair_text p =
-    p.before_key ++ (text p.key ++ (p.after_key ++ 58 ∷ (p.before ++ (text p.value ++ p.after))))
+    p.before_key ++ (text p.key ++ (p.after_key ++ name_separator ∷ (p.before ++ (text p.value ++ p.after))))
 
 -- each with a comma after it
 abbrev pub elements_before : List Element → List ℕ
 elements_before [] = []
-elements_before (e ∷ es) = element_text e ++ 44 ∷ elements_before es
+elements_before (e ∷ es) = element_text e ++ value_separator ∷ elements_before es
 
 abbrev pub pairs_before : List Pair → List ℕ
 pairs_before [] = []
-pairs_before (p ∷ ps) = pair_text p ++ 44 ∷ pairs_before ps
+pairs_before (p ∷ ps) = pair_text p ++ value_separator ∷ pairs_before ps
 
 -- a value of the grammar
 pub record IsValue (s : Syntax) : Type 0 where
@@ -81,11 +82,12 @@ pub data CutOff : Type 0 where
   in_item : List Element → List ℕ → CutOff → CutOff
 
 abbrev pub cut_off_text : CutOff → List ℕ
-cut_off_text (bad_key ps w s) = 123 ∷ (pairs_before ps ++ (w ++ text s))
-cut_off_text (in_key ps w b) = 123 ∷ (pairs_before ps ++ (w ++ cut_off_text b))
+cut_off_text (bad_key ps w s) = begin_object ∷ (pairs_before ps ++ (w ++ text s))
+cut_off_text (in_key ps w b) = begin_object ∷ (pairs_before ps ++ (w ++ cut_off_text b))
 cut_off_text (in_member ps w k v u b) =
-    123 ∷ (pairs_before ps ++ (w ++ 34 ∷ (pieces_text k ++ 34 ∷ (v ++ 58 ∷ (u ++ cut_off_text b)))))
-cut_off_text (in_item es w b) = 91 ∷ (elements_before es ++ (w ++ cut_off_text b))
+    begin_object ∷ (pairs_before ps ++ (w ++ quotation_mark ∷ (pieces_text k
+    ++ quotation_mark ∷ (v ++ name_separator ∷ (u ++ cut_off_text b)))))
+cut_off_text (in_item es w b) = begin_array ∷ (elements_before es ++ (w ++ cut_off_text b))
 
 abbrev pub IsCutOff : CutOff → Type 0
 IsCutOff (bad_key ps w s) = ArePairsBefore ps × AreWhite w × IsValue s × (is_key s ≡ false)

@@ -18,6 +18,9 @@ use Rattle.tinyjson_grammar.specs.declared.error.JsonParseErrorKind.TheVariants.
 use Rattle.tinyjson_grammar.specs.declared.error.JsonParseErrorKind.TheVariants.{EmptyInteger, LeadingZero, EmptyFraction, EmptyExponent}
 use Rattle.tinyjson_grammar.specs.declared.error.JsonParseErrorKind.TheVariants.{NumberOutOfRange, OutOfMemory, TooDeep}
 use Rattle.tinyjson_grammar.specs.declared.kind.JsonKind.{JsonKind}
+use Rattle.tinyjson_grammar.specs.Characters.{begin_array, begin_object, end_array, end_object, letter_f}
+use Rattle.tinyjson_grammar.specs.Characters.{letter_n, letter_t, letter_u, minus_sign, name_separator}
+use Rattle.tinyjson_grammar.specs.Characters.{quotation_mark, reverse_solidus, space, value_separator}
 
 -- what is left begins with no such character, or nothing is left
 abbrev pub BeginsWithNone : (ℕ → Bool) → List ℕ → Type 0
@@ -38,9 +41,9 @@ EndsWith end xs = (front : List ℕ) × (xs ≡ front ++ end)
 -- c begins a value: n, t, f, a quote, [, {, a minus sign or a digit
 abbrev pub begins_value : ℕ → Bool
 begins_value c =
-    (c == 110)
-    || ((c == 116) || ((c == 102) || ((c == 34)
-    || ((c == 91) || ((c == 123) || ((c == 45) || is_ascii_digit c))))))
+    (c == letter_n)
+    || ((c == letter_t) || ((c == letter_f) || ((c == quotation_mark)
+    || ((c == begin_array) || ((c == begin_object) || ((c == minus_sign) || is_ascii_digit c))))))
 
 -- `\u` escapes side by side
 abbrev pub AreUnits : List Piece → Type 0
@@ -74,7 +77,7 @@ pub record InString (limit : Option ℕ) (used : List ℕ) (units : List Piece) 
   pub are_pieces : ArePieces pieces
   pub are_paired : IsTrue (paired (piece_codes pieces))
   pub are_units : AreUnits units
-  pub begins : BeginsAt limit used (34 ∷ (pieces_text pieces ++ (pieces_text units ++ end)))
+  pub begins : BeginsAt limit used (quotation_mark ∷ (pieces_text pieces ++ (pieces_text units ++ end)))
 
 -- the list ends within a string, with the end after `\u` escapes side by side, perhaps none
 abbrev pub EndsString : Option ℕ → List ℕ → List ℕ → Type 0
@@ -126,7 +129,7 @@ EndsText limit c used =
 -- after a brace or a comma a value of this kind that is no string
 abbrev pub EndsBadKey : Option ℕ → JsonKind → List ℕ → List ℕ → Type 0
 EndsBadKey limit k used rest =
-    (front w : List ℕ) × (o : ℕ) × (s : Syntax) × ((o ≡ 123) ⊎ (o ≡ 44)) × AreWhite w
+    (front w : List ℕ) × (o : ℕ) × (s : Syntax) × ((o ≡ begin_object) ⊎ (o ≡ value_separator)) × AreWhite w
     × IsSpelled s × IsStrict s × (is_key s ≡ false) × (kind_of (tree_of s) ≡ k)
     × (used ≡ front ++ o ∷ (w ++ text s)) × AwaitsValue limit (front ++ o ∷ w) × EndsBefore s rest
 
@@ -193,7 +196,7 @@ pub record AwaitsAt (limit : Option ℕ) (used : List ℕ) (c next : ℕ) : Type
 
 -- characters that may stand between the first fault and the error
 abbrev pub is_late : ℕ → Bool
-is_late c = is_hex c || ((c == 117) || ((c == 92) || is_sign c))
+is_late c = is_hex c || ((c == letter_u) || ((c == reverse_solidus) || is_sign c))
 
 abbrev pub AreLate : List ℕ → Type 0
 AreLate [] = ⊤
@@ -235,14 +238,14 @@ KindSays limit (KeyNotString k) used rest =
     × (IsFaultless limit used × IsLooselyViable limit (used ++ codes ":")
     × ¬ IsViable (IsAccepted limit) used)
 KindSays limit (ExpectedColon c) used rest =
-    (EndsWith (c ∷ []) used × (is_white c ≡ false) × (c ≡ 58 → ⊥))
-    × (AwaitsAt limit used c 58 × ¬ IsLooselyViable limit used)
+    (EndsWith (c ∷ []) used × (is_white c ≡ false) × (c ≡ name_separator → ⊥))
+    × (AwaitsAt limit used c name_separator × ¬ IsLooselyViable limit used)
 KindSays limit (ExpectedCommaOrBrace c) used rest =
-    (EndsWith (c ∷ []) used × (is_white c ≡ false) × (c ≡ 44 → ⊥) × (c ≡ 125 → ⊥))
-    × (AwaitsAt limit used c 125 × ¬ IsLooselyViable limit used)
+    (EndsWith (c ∷ []) used × (is_white c ≡ false) × (c ≡ value_separator → ⊥) × (c ≡ end_object → ⊥))
+    × (AwaitsAt limit used c end_object × ¬ IsLooselyViable limit used)
 KindSays limit (ExpectedCommaOrBracket c) used rest =
-    (EndsWith (c ∷ []) used × (is_white c ≡ false) × (c ≡ 44 → ⊥) × (c ≡ 93 → ⊥))
-    × (AwaitsAt limit used c 93 × ¬ IsLooselyViable limit used)
+    (EndsWith (c ∷ []) used × (is_white c ≡ false) × (c ≡ value_separator → ⊥) × (c ≡ end_array → ⊥))
+    × (AwaitsAt limit used c end_array × ¬ IsLooselyViable limit used)
 KindSays limit InvalidUtf16 used rest =
     EndsUnpaired limit used
     × (((c : ℕ) × IsPromptlyBy limit used c) × IsLooselyViable limit used
@@ -250,12 +253,12 @@ KindSays limit InvalidUtf16 used rest =
 KindSays limit (InvalidHexDigit c) used rest =
     EndsBadUnit limit c used × (IsPromptlyBy limit used c × ¬ IsLooselyViable limit used)
 KindSays limit (InvalidEscape c) used rest =
-    (EndsString limit used (92 ∷ c ∷ []) × (short_escape c ≡ None) × (c ≡ 117 → ⊥))
+    (EndsString limit used (reverse_solidus ∷ c ∷ []) × (short_escape c ≡ None) × (c ≡ letter_u → ⊥))
     × (IsPromptlyBy limit used c × ¬ IsLooselyViable limit used)
 KindSays limit (ControlCharacter c) used rest =
-    (EndsString limit used (c ∷ []) × (c < 32))
+    (EndsString limit used (c ∷ []) × (c < space))
     × (IsPromptlyBy limit used c × ¬ IsLooselyViable limit used
-    × ((front : List ℕ) × (used ≡ front ++ c ∷ []) × IsLooselyViable limit (front ++ 120 ∷ [])))
+    × ((front : List ℕ) × (used ≡ front ++ c ∷ []) × IsLooselyViable limit (front ++ codes "x")))
 KindSays limit (UnexpectedInLiteral c) used rest =
     EndsBadLiteral limit c used × (NoStringAt limit used c × ¬ IsLooselyViable limit used)
 KindSays limit EmptyInteger used rest =
@@ -272,7 +275,7 @@ KindSays limit NumberOutOfRange used rest =
     EndsOutOfRange limit used rest × (IsPromptly limit used [] × NoQuoteFollows limit used)
 KindSays limit OutOfMemory used rest = ⊥
 KindSays limit (TooDeep c) used rest =
-    (BeginsWith c rest × ((c ≡ 91) ⊎ (c ≡ 123)) × IsSome limit) × AwaitsValue limit used
+    (BeginsWith c rest × ((c ≡ begin_array) ⊎ (c ≡ begin_object)) × IsSome limit) × AwaitsValue limit used
 
 -- ---- the whole of an error
 
@@ -302,7 +305,7 @@ pub record IsInterrupted (limit : Option ℕ) (used : List ℕ) : Type 0 where
 
 -- begins a string, a number or a container
 abbrev pub begins_growth : ℕ → Bool
-begins_growth c = (c == 34) || ((c == 91) || ((c == 123) || ((c == 45) || is_ascii_digit c)))
+begins_growth c = (c == quotation_mark) || ((c == begin_array) || ((c == begin_object) || ((c == minus_sign) || is_ascii_digit c)))
 
 -- The first character that is not white space begins a string, a number or a container.
 pub record MayGrow (xs : List ℕ) : Type 0 where

@@ -6,6 +6,8 @@ use Rattle.tinyjson_number.specs.Numeral.{power_width, Numeral, IsNumeral, has_l
 use Rattle.std.specs.Int.{Width}
 use Rattle.tinyjson_grammar.specs.Tree as tree
 use Rattle.tinyjson_grammar.specs.Characters.{is_white, is_hex, short_escape, unit_of, decode, paired}
+use Rattle.tinyjson_grammar.specs.Characters.{begin_array, begin_object, end_array, end_object, letter_u}
+use Rattle.tinyjson_grammar.specs.Characters.{name_separator, quotation_mark, reverse_solidus, space, value_separator}
 
 -- A part of a string.
 pub data Piece : Type 0 where
@@ -36,8 +38,8 @@ mutual
 
 abbrev pub piece_text : Piece → List ℕ
 piece_text (plain c) = c ∷ []
-piece_text (escape c) = 92 ∷ c ∷ []
-piece_text (unit a b c d) = 92 ∷ 117 ∷ a ∷ b ∷ c ∷ d ∷ []
+piece_text (escape c) = reverse_solidus ∷ c ∷ []
+piece_text (unit a b c d) = reverse_solidus ∷ letter_u ∷ a ∷ b ∷ c ∷ d ∷ []
 
 abbrev pub pieces_text : List Piece → List ℕ
 pieces_text [] = []
@@ -49,27 +51,27 @@ abbrev mutual
   text (boolean true) = codes "true"
   text (boolean false) = codes "false"
   text (number n) = spelling n
-  text (string ps) = 34 ∷ (pieces_text ps ++ 34 ∷ [])
-  text (empty_array w) = 91 ∷ (w ++ 93 ∷ [])
-  text (array es) = 91 ∷ (elements_text es ++ 93 ∷ [])
-  text (empty_object w) = 123 ∷ (w ++ 125 ∷ [])
-  text (object ps) = 123 ∷ (pairs_text ps ++ 125 ∷ [])
+  text (string ps) = quotation_mark ∷ (pieces_text ps ++ quotation_mark ∷ [])
+  text (empty_array w) = begin_array ∷ (w ++ end_array ∷ [])
+  text (array es) = begin_array ∷ (elements_text es ++ end_array ∷ [])
+  text (empty_object w) = begin_object ∷ (w ++ end_object ∷ [])
+  text (object ps) = begin_object ∷ (pairs_text ps ++ end_object ∷ [])
 
   pub elements_text : Elements → List ℕ
   elements_text (last_element v s w) = v ++ (text s ++ w)
-  elements_text (element v s w es) = v ++ (text s ++ (w ++ 44 ∷ elements_text es))
+  elements_text (element v s w es) = v ++ (text s ++ (w ++ value_separator ∷ elements_text es))
 
   pub pairs_text : Pairs → List ℕ
-  pairs_text (last_pair a k b c s d) = a ++ (text k ++ (b ++ 58 ∷ (c ++ (text s ++ d))))
+  pairs_text (last_pair a k b c s d) = a ++ (text k ++ (b ++ name_separator ∷ (c ++ (text s ++ d))))
   pairs_text (pair a k b c s d ps) =
-      a ++ (text k ++ (b ++ 58 ∷ (c ++ (text s ++ (d ++ 44 ∷ pairs_text ps)))))
+      a ++ (text k ++ (b ++ name_separator ∷ (c ++ (text s ++ (d ++ value_separator ∷ pairs_text ps)))))
 
 abbrev pub AreWhite : List ℕ → Type 0
 AreWhite [] = ⊤
 AreWhite (c ∷ cs) = IsTrue (is_white c) × AreWhite cs
 
 abbrev pub IsPiece : Piece → Type 0
-IsPiece (plain c) = IsScalar c × (32 ≤ c) × IsTrue (not ((c == 34) || (c == 92)))
+IsPiece (plain c) = IsScalar c × (space ≤ c) × IsTrue (not ((c == quotation_mark) || (c == reverse_solidus)))
 IsPiece (escape c) = IsSome (short_escape c)
 IsPiece (unit a b c d) =
     IsTrue (is_hex a) × IsTrue (is_hex b) × IsTrue (is_hex c) × IsTrue (is_hex d)

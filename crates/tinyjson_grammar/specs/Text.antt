@@ -7,38 +7,41 @@ pub use Rattle.std.specs.List.{repeat as repeated}
 use Rattle.tinyjson_grammar.specs.Tree.{Tree, Items, Members, null, boolean, number, string}
 use Rattle.tinyjson_grammar.specs.Tree.{array, object, no_items, item, no_members, member}
 use Rattle.tinyjson_number.specs.Text.{decimal_text}
+use Rattle.tinyjson_grammar.specs.Characters.{backspace, begin_array, begin_object, carriage_return, end_array}
+use Rattle.tinyjson_grammar.specs.Characters.{end_object, form_feed, horizontal_tab, line_feed, name_separator}
+use Rattle.tinyjson_grammar.specs.Characters.{quotation_mark, reverse_solidus, space, value_separator}
 
 -- how a character stands inside a string
 abbrev pub escape : ℕ → List ℕ
 escape c =
-    cond (c == 8) (codes "\\b")
-    (cond (c == 9) (codes "\\t")
-    (cond (c == 10) (codes "\\n")
-    (cond (c == 12) (codes "\\f")
-    (cond (c == 13) (codes "\\r")
-    (cond (c == 34) (codes "\\\"")
-    (cond (c == 92) (codes "\\\\")
-    (cond (nat_lt c 32) (codes "\\u00" ++ digit_char (c / 16) ∷ digit_char (c % 16) ∷ []) (c ∷ []))))))))
+    cond (c == backspace) (codes "\\b")
+    (cond (c == horizontal_tab) (codes "\\t")
+    (cond (c == line_feed) (codes "\\n")
+    (cond (c == form_feed) (codes "\\f")
+    (cond (c == carriage_return) (codes "\\r")
+    (cond (c == quotation_mark) (codes "\\\"")
+    (cond (c == reverse_solidus) (codes "\\\\")
+    (cond (nat_lt c space) (codes "\\u00" ++ digit_char (c / 16) ∷ digit_char (c % 16) ∷ []) (c ∷ []))))))))
 
 -- the characters that do not stand as they are
 abbrev pub IsEscaped : ℕ → Type 0
-IsEscaped c = (c < 32) ⊎ ((c ≡ 34) ⊎ (c ≡ 92))
+IsEscaped c = (c < space) ⊎ ((c ≡ quotation_mark) ⊎ (c ≡ reverse_solidus))
 
 abbrev pub escapes : List ℕ → List ℕ
 escapes [] = []
 escapes (c ∷ cs) = escape c ++ escapes cs
 
 abbrev pub quoted : List ℕ → List ℕ
-quoted cs = 34 ∷ (escapes cs ++ 34 ∷ [])
+quoted cs = quotation_mark ∷ (escapes cs ++ quotation_mark ∷ [])
 
 -- the comma before an item, but none before the first
 abbrev pub separator : Bool → List ℕ
-separator first = cond first [] (44 ∷ [])
+separator first = cond first [] (value_separator ∷ [])
 
 -- a new line at a level, where the text is indented
 abbrev pub newline : Option (List ℕ) → ℕ → List ℕ
 newline None k = []
-newline (Some i) k = 10 ∷ repeated k i
+newline (Some i) k = line_feed ∷ repeated k i
 
 -- what stands before an item
 abbrev pub before : Option (List ℕ) → ℕ → Bool → List ℕ
@@ -51,7 +54,7 @@ closing w k is_empty bracket = cond is_empty [] (newline w k) ++ bracket ∷ []
 -- the white space after a colon
 abbrev pub after_colon : Option (List ℕ) → List ℕ
 after_colon None = []
-after_colon (Some i) = 32 ∷ []
+after_colon (Some i) = space ∷ []
 
 abbrev pub has_no_items : Items → Bool
 has_no_items no_items = true
@@ -68,8 +71,8 @@ abbrev mutual
   text w k (boolean b) = cond b (codes "true") (codes "false")
   text w k (number d) = decimal_text d
   text w k (string cs) = quoted cs
-  text w k (array ts) = 91 ∷ (items_text w (k + 1) true ts ++ closing w k (has_no_items ts) 93)
-  text w k (object ms) = 123 ∷ (members_text w (k + 1) true ms ++ closing w k (has_no_members ms) 125)
+  text w k (array ts) = begin_array ∷ (items_text w (k + 1) true ts ++ closing w k (has_no_items ts) end_array)
+  text w k (object ms) = begin_object ∷ (members_text w (k + 1) true ms ++ closing w k (has_no_members ms) end_object)
 
   -- `first` says that no item stands before these
   pub items_text : Option (List ℕ) → ℕ → Bool → Items → List ℕ
@@ -79,7 +82,7 @@ abbrev mutual
   pub members_text : Option (List ℕ) → ℕ → Bool → Members → List ℕ
   members_text w k first no_members = []
   members_text w k first (member key t ms) = before w k first
-      ++ ((quoted key ++ (58 ∷ (after_colon w ++ text w k t))) ++ members_text w k false ms)
+      ++ ((quoted key ++ (name_separator ∷ (after_colon w ++ text w k t))) ++ members_text w k false ms)
 
 abbrev pub compact : Tree → List ℕ
 compact t = text None 0 t

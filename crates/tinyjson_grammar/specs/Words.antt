@@ -2,17 +2,18 @@
 use Rattle.std.specs.Prelude.{ℕ, ◌-◌, true, List, [], ◌∷◌, ◌++◌, length, replicate, cond, codes}
 use Rattle.std.specs.Fmt.{digits}
 use Rattle.std.specs.Int.{is_in_range}
+use Rattle.tinyjson_grammar.specs.Characters.{digit_zero, space, tilde}
 use Rattle.tinyjson_grammar.specs.Kind.{kind_name}
 use Rattle.tinyjson_grammar.specs.declared.error.JsonParseErrorKind.{JsonParseErrorKind}
 use Rattle.tinyjson_grammar.specs.declared.error.JsonParseErrorKind.TheVariants as kind
 
 -- a code point in upper hexadecimal digits, at least four
 abbrev pub code_point : ℕ → List ℕ
-code_point c = codes "U+" ++ (replicate (4 - length (digits 16 true c)) 48 ++ digits 16 true c)
+code_point c = codes "U+" ++ (replicate (4 - length (digits 16 true c)) digit_zero ++ digits 16 true c)
 
 -- a character as messages show it: itself if it is printable ASCII, and otherwise its code point
 abbrev pub shown : ℕ → List ℕ
-shown c = cond (is_in_range 32 126 c) (c ∷ []) (code_point c)
+shown c = cond (is_in_range space tilde c) (c ∷ []) (code_point c)
 
 -- the words of a kind
 abbrev pub kind_words : JsonParseErrorKind → List ℕ

@@ -55,7 +55,7 @@ pub enum JsonParseErrorKind {
     NumberOutOfRange,
     /// An allocation failed. The position tells what was consumed by then; the rest is left.
     OutOfMemory,
-    /// This bracket would open one container more than the limit allows. It isn't consumed.
+    /// This bracket or brace would open one container more than the limit allows. It isn't consumed.
     TooDeep(char),
 }
 

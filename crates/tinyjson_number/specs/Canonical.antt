@@ -5,14 +5,15 @@ use Rattle.std.specs.Str.{all_ascii_digits}
 use Rattle.std.specs.Int.{Width}
 use Rattle.tinyjson_number.specs.Decimal.{Decimal}
 use Rattle.tinyjson_number.specs.Numeral.{power_fits, power_width}
+use Rattle.tinyjson_number.specs.Characters.{digit_zero}
 
 abbrev pub starts_without_zero : List ℕ → Bool
 starts_without_zero [] = true
-starts_without_zero (c ∷ cs) = not (c == 48)
+starts_without_zero (c ∷ cs) = not (c == digit_zero)
 
 -- the last of c and what follows it is not 0
 abbrev pub ends_nonzero : ℕ → List ℕ → Bool
-ends_nonzero c [] = not (c == 48)
+ends_nonzero c [] = not (c == digit_zero)
 ends_nonzero c (d ∷ ds) = ends_nonzero d ds
 
 abbrev pub ends_without_zero : List ℕ → Bool

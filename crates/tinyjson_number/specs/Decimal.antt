@@ -1,5 +1,6 @@
 -- An exact decimal number.
 use Rattle.std.specs.Prelude.{ℕ, ◌-◌, ◌==◌, ℤ, pos, Bool, false, cond, List, [], ◌∷◌, length}
+use Rattle.tinyjson_number.specs.Characters.{digit_zero}
 
 -- The sign, the digits as characters, and the power of ten.
 pub record Decimal : Type 0 where
@@ -10,11 +11,11 @@ pub record Decimal : Type 0 where
 -- the digits from the first that is not 0 on
 abbrev pub strip_leading : List ℕ → List ℕ
 strip_leading [] = []
-strip_leading (d ∷ ds) = cond (d == 48) (strip_leading ds) (d ∷ ds)
+strip_leading (d ∷ ds) = cond (d == digit_zero) (strip_leading ds) (d ∷ ds)
 
 -- puts a digit before stripped digits: a 0 before nothing is stripped too
 abbrev pub before_stripped : ℕ → List ℕ → List ℕ
-before_stripped d [] = cond (d == 48) [] (d ∷ [])
+before_stripped d [] = cond (d == digit_zero) [] (d ∷ [])
 before_stripped d (e ∷ es) = d ∷ e ∷ es
 
 -- the digits up to the last that is not 0

@@ -1,3 +1,4 @@
+pub mod Characters
 pub mod Decimal
 pub mod Numeral
 pub mod Canonical

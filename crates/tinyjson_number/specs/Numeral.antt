@@ -7,6 +7,7 @@ use Rattle.std.specs.Str.Parse.{digits_value}
 use Rattle.std.specs.Prelude.{neg_ℤ, ◌+ℤ◌, ◌-ℤ◌, int_le, int_lt, ◌^◌}
 use Rattle.std.specs.Int.{Width, w64}
 use mir.Val.{hbits}
+use Rattle.tinyjson_number.specs.Characters.{capital_e, decimal_point, digit_zero, letter_e, minus_sign, plus_sign}
 
 -- e or E, a sign if there is one, and digits
 pub record Exponent : Type 0 where
@@ -30,11 +31,11 @@ sign_text None = []
 sign_text (Some c) = c ∷ []
 
 abbrev pub minus_text : Bool → List ℕ
-minus_text b = cond b (45 ∷ []) []
+minus_text b = cond b (minus_sign ∷ []) []
 
 abbrev pub fraction_text : List ℕ → List ℕ
 fraction_text [] = []
-fraction_text (d ∷ ds) = 46 ∷ d ∷ ds
+fraction_text (d ∷ ds) = decimal_point ∷ d ∷ ds
 
 abbrev pub exponent_text : Option Exponent → List ℕ
 exponent_text None = []
@@ -44,10 +45,10 @@ abbrev pub spelling : Numeral → List ℕ
 spelling n = minus_text n.negative ++ (n.whole ++ (fraction_text n.fraction ++ exponent_text n.exponent))
 
 abbrev pub is_exponent_letter : ℕ → Bool
-is_exponent_letter c = (c == 101) || (c == 69)
+is_exponent_letter c = (c == letter_e) || (c == capital_e)
 
 abbrev pub is_sign : ℕ → Bool
-is_sign c = (c == 43) || (c == 45)
+is_sign c = (c == plus_sign) || (c == minus_sign)
 
 abbrev pub AreDigits : List ℕ → Type 0
 AreDigits [] = ⊤
@@ -69,11 +70,11 @@ pub record IsNumeral (n : Numeral) : Type 0 where
 abbrev pub has_leading_zero : List ℕ → Bool
 has_leading_zero [] = false
 has_leading_zero (d ∷ []) = false
-has_leading_zero (d ∷ e ∷ ds) = d == 48
+has_leading_zero (d ∷ e ∷ ds) = d == digit_zero
 
 abbrev pub signed : Option ℕ → ℕ → ℤ
 signed None n = pos n
-signed (Some c) n = cond (c == 45) (neg_ℤ (pos n)) (pos n)
+signed (Some c) n = cond (c == minus_sign) (neg_ℤ (pos n)) (pos n)
 
 -- what the exponent says, a number of any size
 abbrev pub exponent_value : Option Exponent → ℤ

@@ -10,11 +10,12 @@ use Rattle.tinyjson_number.specs.declared.error.JsonNumberError.{JsonNumberError
 use Rattle.tinyjson_number.specs.declared.error.JsonNumberError.TheVariants.{NotANumber, OutOfRange, OutOfMemory}
 use Rattle.tinyjson_number.specs.declared.parse.NumberParts.{NumberParts}
 use Rattle.tinyjson_number.specs.declared.parse.ExponentParts.{ExponentParts}
+use Rattle.tinyjson_number.specs.Characters.{letter_e, minus_sign}
 
 -- the exponent of these parts, with the letter e and without a plus sign
 abbrev pub exponent_of : Option ExponentParts → Option Exponent
 exponent_of None = None
-exponent_of (Some e) = Some (record { letter = 101; sign = if e.negative then Some 45 else None; digits = e.digits.now })
+exponent_of (Some e) = Some (record { letter = letter_e; sign = if e.negative then Some minus_sign else None; digits = e.digits.now })
 
 -- the numeral of these parts
 abbrev pub numeral_of : NumberParts → Numeral
@@ -23,11 +24,11 @@ numeral_of p = record { negative = p.negative; whole = p.whole.now; fraction = p
 -- the same sign, or none for a plus sign
 abbrev pub plain_sign : Option ℕ → Option ℕ
 plain_sign None = None
-plain_sign (Some c) = if c == 45 then Some 45 else None
+plain_sign (Some c) = if c == minus_sign then Some minus_sign else None
 
 abbrev pub plain_exponent : Option Exponent → Option Exponent
 plain_exponent None = None
-plain_exponent (Some e) = Some (record { letter = 101; sign = plain_sign e.sign; digits = e.digits })
+plain_exponent (Some e) = Some (record { letter = letter_e; sign = plain_sign e.sign; digits = e.digits })
 
 -- the same numeral, its exponent with the letter e and without a plus sign
 abbrev pub plain : Numeral → Numeral

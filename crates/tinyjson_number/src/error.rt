@@ -19,7 +19,7 @@ pub enum JsonNumberError {
     NotANumber,
     /// The power of ten of its decimal is out of the range of `i64`.
     OutOfRange,
-    /// A growth of memory was refused.
+    /// An allocation failed.
     OutOfMemory,
 }
 
@@ -60,7 +60,7 @@ impl From<LiteralError> for JsonNumberError {
 pub enum LiteralError {
     /// The power of ten of its decimal is out of the range of `i64`.
     OutOfRange,
-    /// A growth of memory was refused.
+    /// An allocation failed.
     OutOfMemory,
 }
 

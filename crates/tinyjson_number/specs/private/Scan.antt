@@ -5,6 +5,7 @@ use Rattle.std.specs.List.{prefix_len}
 use Rattle.std.specs.Char.{is_ascii_digit}
 use Rattle.std.specs.Str.Parse.{digits_value}
 use Rattle.tinyjson_number.specs.Numeral.{Exponent, Numeral, has_leading_zero, sign_text, is_exponent_letter, signed}
+use Rattle.tinyjson_number.specs.Characters.{decimal_point, minus_sign, plus_sign}
 
 infixl 10 ◌>>=◌
 abbrev pub ◌>>=◌ : {A B : Type 0} → Option A → (A → Option B) → Option B
@@ -23,7 +24,7 @@ abbrev pub digits_rest : List ℕ → List ℕ
 digits_rest text = drop (prefix_len is_ascii_digit text) text
 
 abbrev pub after_minus : List ℕ → List ℕ
-after_minus text = if begins 45 text then drop 1 text else text
+after_minus text = if begins minus_sign text then drop 1 text else text
 
 -- the whole part, and the rest
 unfoldable pub whole_at : List ℕ → Option (List ℕ × List ℕ)
@@ -34,12 +35,12 @@ whole_at text =
 -- the digits after a point, and the rest
 unfoldable pub fraction_at : List ℕ → Option (List ℕ × List ℕ)
 fraction_at text =
-    if begins 46 text
+    if begins decimal_point text
     then (if length (digits_front (drop 1 text)) == 0 then None else Some (digits_front (drop 1 text), digits_rest (drop 1 text)))
     else Some ([], text)
 
 abbrev pub sign_at : List ℕ → Option ℕ
-sign_at text = if begins 43 text then Some 43 else (if begins 45 text then Some 45 else None)
+sign_at text = if begins plus_sign text then Some plus_sign else (if begins minus_sign text then Some minus_sign else None)
 
 -- sign and digits of an exponent, to the end of the text
 unfoldable pub exponent_digits_at : ℕ → List ℕ → Option (Option Exponent)
@@ -59,7 +60,7 @@ scan text = do
   w ← whole_at (after_minus text)
   f ← fraction_at w.1
   e ← exponent_at f.1
-  Some (record { negative = begins 45 text; whole = w.0; fraction = f.0; exponent = e })
+  Some (record { negative = begins minus_sign text; whole = w.0; fraction = f.0; exponent = e })
 
 -- past the range of powers by more than any count of digits
 abbrev pub exponent_cap : ℕ
