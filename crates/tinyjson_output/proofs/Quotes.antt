@@ -6,7 +6,7 @@ use Rattle.std.specs.Char.{digit_char}
 use Rattle.std.specs.Bool.{nat_lt}
 use Rattle.std.proofs.lemmas.Str.{encodes-append, encode_ascii, encodes-chars, encodes-IsAscii, inside_one, IsAscii-append}
 use Rattle.std.proofs.lemmas.Str.Ascii.{IsAscii-nil, IsAscii-cons}
-use Rattle.std.proofs.lemmas.Bool.{cases_lt}
+use Rattle.std.proofs.lemmas.Bool.{cases_lt, cond_both}
 use Rattle.std.proofs.lemmas.List.{take_all, drop_all}
 use Rattle.std.proofs.lemmas.Bool.Decides.{nat_tests}
 use Rattle.std.specs.List.{prefix_len}
@@ -72,10 +72,6 @@ escapes_high : (bs : List ℕ) → ((k : ℕ) → k < length bs → 128 ≤ get_
 escapes_high [] h = refl
 escapes_high (b ∷ bs) h = ap (λ w. w ++ escapes bs) (high b (h 0 (omega arith))) ∙ ap (λ w. b ∷ w) (escapes_high bs (λ k l. h (suc k) (omega arith)))
 
-ascii_cond : (b : Bool) (xs ys : List ℕ) → IsAscii xs → IsAscii ys → IsAscii (cond b xs ys)
-ascii_cond true xs ys h k = h
-ascii_cond false xs ys h k = k
-
 digit_ascii : (d : ℕ) → d < 16 → digit_char d < 128
 digit_ascii d h = elim (nat_lt d 10) as (λ b. cond b (48 + d) (87 + d) < 128) [ true ↦ omega arith | false ↦ omega arith ]
 
@@ -90,9 +86,14 @@ pub escape_ascii : (c : ℕ) → c < 128 → IsAscii (escape c)
 escape_ascii c h =
     let short : (d : ℕ) → d < 128 → IsAscii (92 ∷ d ∷ []) = λ d l. two_ascii 92 d (lit< tt) l in
     let hex = hex_ascii (digit_char (c / 16)) (digit_char (c % 16)) (digit_ascii (c / 16) (omega arith)) (digit_ascii (c % 16) (omega arith)) in
-    ascii_cond (c == 8) _ _ (short 98 (lit< tt)) (ascii_cond (c == 9) _ _ (short 116 (lit< tt)) (ascii_cond (c == 10) _ _ (short 110 (lit< tt))
-    (ascii_cond (c == 12) _ _ (short 102 (lit< tt)) (ascii_cond (c == 13) _ _ (short 114 (lit< tt)) (ascii_cond (c == 34) _ _ (short 34 (lit< tt))
-    (ascii_cond (c == 92) _ _ (short 92 (lit< tt)) (ascii_cond (nat_lt c 32) _ _ hex (IsAscii-cons c [] h IsAscii-nil))))))))
+    cond_both (c == 8) _ _ IsAscii (λ _. short 98 (lit< tt)) (λ _.
+    cond_both (c == 9) _ _ IsAscii (λ _. short 116 (lit< tt)) (λ _.
+    cond_both (c == 10) _ _ IsAscii (λ _. short 110 (lit< tt)) (λ _.
+    cond_both (c == 12) _ _ IsAscii (λ _. short 102 (lit< tt)) (λ _.
+    cond_both (c == 13) _ _ IsAscii (λ _. short 114 (lit< tt)) (λ _.
+    cond_both (c == 34) _ _ IsAscii (λ _. short 34 (lit< tt)) (λ _.
+    cond_both (c == 92) _ _ IsAscii (λ _. short 92 (lit< tt)) (λ _.
+    cond_both (nat_lt c 32) _ _ IsAscii (λ _. hex) (λ _. IsAscii-cons c [] h IsAscii-nil))))))))
 
 not_low : (c k : ℕ) → 128 ≤ c → k < length (encode c) → 128 ≤ get_or (encode c) k 0
 not_low c k h l = elim (cases_lt (get_or (encode c) k 0) 128) [

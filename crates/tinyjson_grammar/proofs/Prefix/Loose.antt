@@ -10,7 +10,7 @@ use Rattle.tinyjson_grammar.specs.declared.kind.JsonKind.{JsonKind}
 use Rattle.tinyjson_grammar.specs.declared.error.JsonParseErrorKind.{JsonParseErrorKind}
 use Rattle.tinyjson_grammar.specs.declared.error.JsonParseErrorKind.TheVariants.{KeyNotString, InvalidUtf16, LeadingZero, NumberOutOfRange}
 use Rattle.tinyjson_grammar.proofs.Accepts.Text.{rules}
-use Rattle.std.proofs.lemmas.Bool.{true≢false, false≢true}
+use Rattle.std.proofs.lemmas.Bool.{cond_both, true≢false, false≢true}
 
 -- the kinds of the four conditions
 abbrev pub is_own : JsonParseErrorKind → Bool
@@ -89,18 +89,14 @@ IsLeft (next fs p) = ⊤
 IsLeft (stop k true) = ⊥
 IsLeft (stop k false) = ⊤
 
-left_cond : (b : Bool) (x y : Next) → IsLeft x → IsLeft y → IsLeft (cond b x y)
-left_cond true x y h g = h
-left_cond false x y h g = g
-
 left_complete : (fs : List Frame) (t : Tree) → IsLeft (complete true fs t false)
 left_complete [] t = tt
 left_complete (in_array ts ∷ fs) t = tt
-left_complete (at_key ms ∷ fs) t = left_cond (not (is_string t)) _ _ tt tt
+left_complete (at_key ms ∷ fs) t = cond_both (not (is_string t)) _ _ IsLeft (λ _. tt) (λ _. tt)
 left_complete (at_value ms k ∷ fs) t = tt
 
 left_finish : (limit : Option ℕ) (fs : List Frame) (n : Numeral) → IsLeft (finish (rules true limit) fs n)
-left_finish limit fs n = left_cond (not (in_range (value n))) _ _ tt (left_complete fs (number (value n)))
+left_finish limit fs n = cond_both (not (in_range (value n))) _ _ IsLeft (λ _. tt) (λ _. left_complete fs (number (value n)))
 
 same_then : (limit : Option ℕ) (m m' : Next) (c : ℕ) → IsLeft m → Same m m' → Same (then_step (rules true limit) m c) (then_step (rules false limit) m' c)
 same_then limit _ _ c i (same (next fs p)) = same_plain limit fs p c

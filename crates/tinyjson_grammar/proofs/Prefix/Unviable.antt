@@ -1,6 +1,6 @@
 -- Within a numeral that is a key, or that begins with a zero too many, the strict machine accepts nothing.
 use Rattle.std.proofs.Common.{◌≡◌, ℕ, Bool, true, false, List, [], ◌∷◌, ◌++◌, Option, Some, None, refl, ap, ◌∙◌, cond, append_assoc, append-nil, arith, ◌&&◌, ◌||◌, ◌==◌, not}
-use Rattle.std.proofs.lemmas.Bool.{false≢true}
+use Rattle.std.proofs.lemmas.Bool.{cond_both, false≢true}
 use Rattle.std.specs.Char.{is_ascii_digit}
 use Rattle.tinyjson_grammar.specs.Kind.{kind_of}
 use Rattle.tinyjson_grammar.specs.Tree as tree
@@ -24,12 +24,10 @@ data Move (fs : List Frame) : Option Next → Type 0 where
   stops : (k : JsonParseErrorKind) → Move fs (Some (stop k false))
 
 move_cond : (fs : List Frame) (b : Bool) (x y : Option Next) → Move fs x → Move fs y → Move fs (cond b x y)
-move_cond fs true x y p q = p
-move_cond fs false x y p q = q
+move_cond fs b x y p q = cond_both b x y (Move fs) (λ _. p) (λ _. q)
 
 move_some : (fs : List Frame) (b : Bool) (x y : Next) → Move fs (Some x) → Move fs (Some y) → Move fs (Some (cond b x y))
-move_some fs true x y p q = p
-move_some fs false x y p q = q
+move_some fs b x y p q = cond_both b x y (λ n. Move fs (Some n)) (λ _. p) (λ _. q)
 
 move : (r : Rules) (fs : List Frame) (s : Stage) (n : Numeral) (c : ℕ) → Move fs (step_digits r fs s n c)
 move r fs minus n c = move_some fs (is_ascii_digit c) _ _ (goes _ _) (stops _)
@@ -53,13 +51,9 @@ finish_key r ms fs n h = rw h (stopped (not (in_range (value n))))
 refused_accepted : (k : JsonParseErrorKind) (xs : List ℕ) (t : tree.Tree) → refused k xs ≡ accepted t → ⊥
 refused_accepted k xs t e = cc
 
-refused_cond : (b : Bool) (x y : JsonParseErrorKind) (t : tree.Tree) → cond b (refused x []) (refused y []) ≡ accepted t → ⊥
-refused_cond true x y t e = cc
-refused_cond false x y t e = cc
-
 end_key : (r : Rules) (ms : tree.Members) (fs : List Frame) (s : Stage) (n : Numeral) (t : tree.Tree) → r.strict ≡ true → end_digits r (at_key ms ∷ fs) s n ≡ accepted t → ⊥
 end_key r ms fs minus n t h e = cc
-end_key r ms fs whole n t h e = refused_cond (r.strict && has_leading_zero n.whole) _ _ t (rw (finish_key r ms fs n h).1 at e)
+end_key r ms fs whole n t h e = cond_both (r.strict && has_leading_zero n.whole) _ _ (λ o. o ≡ accepted t → ⊥) (λ _. refused_accepted _ _ t) (λ _. refused_accepted _ _ t) (rw (finish_key r ms fs n h).1 at e)
 end_key r ms fs point n t h e = cc
 end_key r ms fs fraction n t h e = refused_accepted _ _ t (rw (finish_key r ms fs n h).1 at e)
 end_key r ms fs letter n t h e = cc

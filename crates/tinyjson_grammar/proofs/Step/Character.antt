@@ -1,8 +1,8 @@
 -- What comes of each character, of the end, and of the whole.
-use Rattle.std.proofs.Common.{◌≡◌, ℕ, ◌<◌, Bool, true, false, List, [], ◌∷◌, ◌++◌, Option, refl, ap, sym, ◌∙◌, cond, append_assoc, append-nil, arith, length, subst, IsTrue, ◌==◌, not, length-append, inl, inr}
+use Rattle.std.proofs.Common.{◌≡◌, ℕ, ◌<◌, true, false, List, [], ◌∷◌, ◌++◌, Option, refl, ap, sym, ◌∙◌, append_assoc, append-nil, arith, length, subst, IsTrue, ◌==◌, not, length-append, inl, inr}
 use Rattle.std.proofs.Math.Seq.{take-append_seam, get_or-append_seam}
 use Rattle.std.specs.Char.{IsScalar}
-use Rattle.std.proofs.lemmas.Bool.{eqb-false, not-true, not-false}
+use Rattle.std.proofs.lemmas.Bool.{cond_both, eqb-false, not-true, not-false}
 use Rattle.tinyjson_grammar.specs.Machine.{strictly, Next, stop, complete, step_literal, step, end, end_digits, end_plain, Outcome, accepted, refused, finish, Within, run, literal, digits, Frame, Phase}
 use Rattle.tinyjson_grammar.specs.Tree.{Tree, no_members}
 use Rattle.tinyjson_grammar.specs.Tree as tree
@@ -144,10 +144,6 @@ eof ranges limit x h i = eof_says ranges limit x h (needs limit x h i)
 abbrev EndsPlain : Option ℕ → List ℕ → List Frame → Phase → Next → Type 0
 EndsPlain limit used fs q n = Ends limit used fs q (end_plain n)
 
-plain_either : (limit : Option ℕ) (used : List ℕ) (fs : List Frame) (q : Phase) (b : Bool) (x y : Next) → (b ≡ true → EndsPlain limit used fs q x) → (b ≡ false → EndsPlain limit used fs q y) → EndsPlain limit used fs q (cond b x y)
-plain_either limit used fs q true x y f g = f refl
-plain_either limit used fs q false x y f g = g refl
-
 ends_text : (limit : Option ℕ) (w : List ℕ) (s : Syntax) (v : List ℕ) → IsRead limit (at_after (outside w) s v) → IsText limit (w ++ (text s ++ v)) (tree_of s)
 ends_text limit w s v h = record {
   loose = record { before = w; value = s; after = v; white_before = h.0; spelled = h.1.spelled; white_after = h.4; shallow = within_le limit _ _ h.3 (omega arith); whole = refl };
@@ -177,17 +173,13 @@ number_ends ranges limit (value_in p ps a k b w) hp n hn h e =
 
 finish_ends : Ranges → (limit : Option ℕ) (p : Path) → IsPath limit p → (n : Part) → IsPart n → IsDone n → EndsPlain limit (path_text p ++ part_text n) (path_frames p) (digits (part_stage n) (part_numeral n)) (finish (strictly limit) (path_frames p) (part_numeral n))
 finish_ends ranges limit p hp n hn h =
-    plain_either limit _ _ _ (not (in_range (value (part_numeral n)))) _ _
+    cond_both (not (in_range (value (part_numeral n)))) _ _ (EndsPlain limit _ _ _)
     (λ e. (refl, (λ x. range_says ranges limit p hp n hn h.numeral h.no_zero h.whole (not-true _ e) [] tt x))) (λ e. number_ends ranges limit p hp n hn h (not-false _ e))
-
-ends_either : (limit : Option ℕ) (used : List ℕ) (fs : List Frame) (q : Phase) (b : Bool) (x y : Outcome) → (b ≡ true → Ends limit used fs q x) → (b ≡ false → Ends limit used fs q y) → Ends limit used fs q (cond b x y)
-ends_either limit used fs q true x y f g = f refl
-ends_either limit used fs q false x y f g = g refl
 
 digits_end : Ranges → (limit : Option ℕ) (p : Path) → IsPath limit p → (n : Part) → IsPart n → Ends limit (path_text p ++ part_text n) (path_frames p) (digits (part_stage n) (part_numeral n)) (end_digits (strictly limit) (path_frames p) (part_stage n) (part_numeral n))
 digits_end ranges limit p hp part_minus h = (refl, (λ x. minus_says ranges limit p hp [] tt x))
 digits_end ranges limit p hp (part_whole b d ds) h =
-    ends_either limit _ _ _ (has_leading_zero (d ∷ ds)) _ _ (λ e. (refl, (λ x. zero_says ranges limit p hp b d ds h e [] tt x))) (λ e. finish_ends ranges limit p hp (part_whole b d ds) h (whole_done b d ds (h, e)))
+    cond_both (has_leading_zero (d ∷ ds)) _ _ (Ends limit _ _ _) (λ e. (refl, (λ x. zero_says ranges limit p hp b d ds h e [] tt x))) (λ e. finish_ends ranges limit p hp (part_whole b d ds) h (whole_done b d ds (h, e)))
 digits_end ranges limit p hp (part_point b d ds) h = (refl, (λ x. point_says ranges limit p hp b d ds h [] tt x))
 digits_end ranges limit p hp (part_fraction b d ds e es) h = finish_ends ranges limit p hp (part_fraction b d ds e es) h (fraction_done b d ds e es h)
 digits_end ranges limit p hp (part_letter b d ds f l) h = (refl, (λ x. letter_says ranges limit p hp b d ds f l h [] tt x))

@@ -1,7 +1,7 @@
 -- What comes of a character of a number, and of its end.
 use Rattle.std.proofs.Common.{◌≡◌, ℕ, Bool, true, false, List, [], ◌∷◌, ◌++◌, Option, Some, None, refl, ap, sym, ◌∙◌, cond, append_assoc, append-nil, arith, subst, inl, inr, IsTrue, ◌||◌, ◌==◌, not}
 use Rattle.std.specs.Char.{is_ascii_digit}
-use Rattle.std.proofs.lemmas.Bool.{eqb-true, not-true, not-false, or_from}
+use Rattle.std.proofs.lemmas.Bool.{cond_both, eqb-true, not-true, not-false, or_from}
 use Rattle.tinyjson_grammar.specs.Machine.{strictly, Frame, digits, Next, complete, step_digits, finish, then_step, unless_ended, run, step, go_on, accepted, Phase}
 use Rattle.tinyjson_grammar.specs.Tree.{Tree, no_members}
 use Rattle.tinyjson_grammar.specs.Tree as tree
@@ -83,11 +83,6 @@ pub record IsDone (n : Part) : Type 0 where
 pub done_value : (n : Part) → IsDone n → IsTrue (in_range (value (part_numeral n))) → IsValue (Syntax.number (part_numeral n))
 done_value n h e = record { spelled = h.numeral; strict = (rw h.no_zero refl, e) }
 
-then_either : (limit : Option ℕ) (used : List ℕ) (fs : List Frame) (q : Phase) (c : ℕ) (b : Bool) (x y : Next) → (b ≡ true → Follows limit used fs q c (then_step (strictly limit) x c)) → (b ≡ false → Follows limit used fs q c (then_step (strictly limit) y c)) →
-    Follows limit used fs q c (then_step (strictly limit) (cond b x y) c)
-then_either limit used fs q c true x y f g = f refl
-then_either limit used fs q c false x y f g = g refl
-
 -- it ends before c
 pub ends_before : (limit : Option ℕ) (p : Path) → IsPath limit p → (n : Part) → IsDone n → IsTrue (in_range (value (part_numeral n))) → (c : ℕ) → is_ascii_digit c ≡ false →
     Follows limit (path_text p ++ (text (Syntax.number (part_numeral n)) ++ [])) (path_frames p) (digits (part_stage n) (part_numeral n)) c (then_step (strictly limit) (complete true (path_frames p) (tree.number (value (part_numeral n))) false) c)
@@ -102,7 +97,7 @@ ends_before limit (value_in p ps a k b w) hp n h e c nd =
 pub finish_follows : Ranges → (limit : Option ℕ) (p : Path) → IsPath limit p → (n : Part) → IsPart n → IsDone n → (c : ℕ) → is_ascii_digit c ≡ false →
     Follows limit (path_text p ++ part_text n) (path_frames p) (digits (part_stage n) (part_numeral n)) c (then_step (strictly limit) (finish (strictly limit) (path_frames p) (part_numeral n)) c)
 finish_follows ranges limit p hp n hn h c nd =
-    then_either limit _ _ _ c (not (in_range (value (part_numeral n)))) _ _
+    cond_both (not (in_range (value (part_numeral n)))) _ _ (λ m. Follows limit (path_text p ++ part_text n) (path_frames p) (digits (part_stage n) (part_numeral n)) c (then_step (strictly limit) m c))
     (λ e more x. range_says ranges limit p hp n hn h.numeral h.no_zero h.whole (not-true _ e) (c ∷ more) nd x)
     (λ e. subst (λ xs. Follows limit (path_text p ++ xs) (path_frames p) (digits (part_stage n) (part_numeral n)) c (then_step (strictly limit) (complete true (path_frames p) (tree.number (value (part_numeral n))) false) c)) (append-nil _ ∙ sym h.whole)
     (ends_before limit p hp n h (not-false _ e) c nd))
@@ -112,8 +107,7 @@ finish_follows ranges limit p hp n hn h c nd =
 unless_either : (limit : Option ℕ) (used : List ℕ) (gs : List Frame) (q : Phase) (c : ℕ) (fs : List Frame) (n : Numeral) (b : Bool) (x y : Option Next) →
     (b ≡ true → Follows limit used gs q c (unless_ended (strictly limit) fs n c x)) → (b ≡ false → Follows limit used gs q c (unless_ended (strictly limit) fs n c y)) →
     Follows limit used gs q c (unless_ended (strictly limit) fs n c (cond b x y))
-unless_either limit used gs q c fs n true x y f g = f refl
-unless_either limit used gs q c fs n false x y f g = g refl
+unless_either limit used gs q c fs n b x y = cond_both b x y (λ o. Follows limit used gs q c (unless_ended (strictly limit) fs n c o))
 
 goes : (limit : Option ℕ) (p : Path) → IsPath limit p → (n m : Part) → IsPart m → (c : ℕ) → part_text m ≡ part_text n ++ c ∷ [] → Spells limit ((path_text p ++ part_text n) ++ c ∷ []) (path_frames p) (digits (part_stage m) (part_numeral m))
 goes limit p hp n m hm c e = record { read = in_digits p m; is = (hp, hm); whole = append_assoc (path_text p) (part_text n) (c ∷ []) ∙ ap (λ xs. path_text p ++ xs) (sym e); frames = refl; phase = refl }

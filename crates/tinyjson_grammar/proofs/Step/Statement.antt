@@ -1,6 +1,6 @@
 -- What one step must establish: what comes of a character.
 use Rattle.std.proofs.Common.{suc, ◌≡◌, ℕ, ◌+◌, Bool, true, false, List, [], ◌∷◌, ◌++◌, Option, refl, ap, sym, ◌∙◌, cond, append_assoc, append-nil, subst, ◌⊎◌, inl, inr, ◌==◌}
-use Rattle.std.proofs.lemmas.Bool.{eqb-true}
+use Rattle.std.proofs.lemmas.Bool.{cond_both, eqb-true}
 use Rattle.tinyjson_grammar.specs.Machine.{strictly, Frame, Phase, Rules, Next, next, stop, run, accepted}
 use Rattle.tinyjson_grammar.specs.Kind.{kind_of}
 use Rattle.tinyjson_grammar.specs.Syntax.{Syntax, text, is_key, depth, IsWithin, tree_of}
@@ -45,8 +45,7 @@ Follows limit used fs q c (stop k true) =
 Follows limit used fs q c (stop k false) = (more : List ℕ) → Denies limit used fs q → KindSays limit k used (c ∷ more)
 
 pub either : (limit : Option ℕ) (used : List ℕ) (fs : List Frame) (q : Phase) (c : ℕ) (b : Bool) (x y : Next) → (b ≡ true → Follows limit used fs q c x) → (b ≡ false → Follows limit used fs q c y) → Follows limit used fs q c (cond b x y)
-either limit used fs q c true x y f g = f refl
-either limit used fs q c false x y f g = g refl
+either limit used fs q c b x y = cond_both b x y (Follows limit used fs q c)
 
 pub at_code : (limit : Option ℕ) (used : List ℕ) (fs : List Frame) (q : Phase) (c n : ℕ) (x y : Next) → (c ≡ n → Follows limit used fs q c x) → ((c == n) ≡ false → Follows limit used fs q c y) → Follows limit used fs q c (cond (c == n) x y)
 at_code limit used fs q c n x y f g = either limit used fs q c (c == n) x y (λ e. f (eqb-true c n e)) g
