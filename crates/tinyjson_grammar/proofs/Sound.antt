@@ -17,10 +17,9 @@ use Rattle.tinyjson_grammar.proofs.Trace.State.{Ranges, Spells, at_awaited}
 use Rattle.tinyjson_grammar.proofs.Prefix.Viable.{read_viable}
 use Rattle.tinyjson_grammar.proofs.Step.Statement.{loosely, NoQuoteFrom, Denies, IsDead, Follows}
 use Rattle.tinyjson_grammar.proofs.Step.Character.{step_follows, end_follows, Ends}
-use Rattle.tinyjson_grammar.proofs.Accepts.Text.{rules, text_accepted, loose_accepted}
+use Rattle.tinyjson_grammar.proofs.Accepts.Text.{rules, text_accepted, no_text, loose_accepted}
 use Rattle.tinyjson_grammar.proofs.Prefix.Unviable.{cut_off_end}
 use Rattle.tinyjson_grammar.proofs.Prefix.Loose.{is_own, strict_next, strict_stop}
-use Rattle.tinyjson_grammar.proofs.Step.Value.{no_text}
 
 -- ---- one step of a run
 

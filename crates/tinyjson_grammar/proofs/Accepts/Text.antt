@@ -4,7 +4,8 @@ use Rattle.std.proofs.lemmas.Bool.{false≢true}
 use Rattle.tinyjson_grammar.specs.Tree.{Tree}
 use Rattle.tinyjson_grammar.specs.Syntax.{AreWhite, IsStrict, tree_of}
 use Rattle.tinyjson_grammar.specs.Grammar.{IsLoose, IsText}
-use Rattle.tinyjson_grammar.specs.Machine.{Rules, awaited, accepted, run}
+use Rattle.tinyjson_grammar.specs.Machine.{Rules, awaited, accepted, refused, run}
+use Rattle.tinyjson_grammar.specs.declared.error.JsonParseErrorKind.{JsonParseErrorKind}
 use Rattle.tinyjson_grammar.proofs.Accepts.Runs.{Delimited, delimited_white, run_white, finished_white}
 use Rattle.tinyjson_grammar.proofs.Accepts.Value.{run_value, ends}
 use Rattle.tinyjson_grammar.proofs.Trace.Paths.{within_le}
@@ -23,6 +24,10 @@ run_text b limit xs l h = rw l.whole
 
 pub text_accepted : (limit : Option ℕ) (xs : List ℕ) (t : Tree) → IsText limit xs t → run (rules true limit) [] awaited xs ≡ accepted t
 text_accepted limit xs t h = rw h.tree (run_text true limit xs h.loose (λ e. h.strict))
+
+-- what is refused is not accepted
+pub no_text : (k : JsonParseErrorKind) (xs : List ℕ) (t : Tree) → refused k xs ≡ accepted t → ⊥
+no_text k xs t e = cc
 
 pub only_tree : (limit : Option ℕ) (xs : List ℕ) (t u : Tree) → IsText limit xs t → IsText limit xs u → t ≡ u
 only_tree limit xs t u h k = let e : accepted t ≡ accepted u = sym (text_accepted limit xs t h) ∙ text_accepted limit xs u k in cc

@@ -2,7 +2,7 @@
 pub use Rattle.tinyjson_grammar.proofs.Accepts.Number.{run_spelling, last_stage, end_finishes, run_whole, stage_of}
 pub use Rattle.tinyjson_grammar.proofs.Accepts.Runs.{continues, continues_digit, continues_point, continues_letter, settle}
 pub use Rattle.tinyjson_grammar.proofs.Accepts.String.{paired_cons, paired_append, scalar_no_surrogate, escape_no_surrogate, some_unwrap, plain_no_quote, plain_no_backslash, plain_no_control}
-pub use Rattle.tinyjson_grammar.proofs.Accepts.Text.{only_tree, text_accepted, rules, loose_accepted}
+pub use Rattle.tinyjson_grammar.proofs.Accepts.Text.{only_tree, text_accepted, rules, loose_accepted, no_text}
 pub use Rattle.tinyjson_grammar.proofs.Accepts.Value.{Begins, begins_append, numeral_begins, text_begins, run_value, ends, Ends, first_array, first_object, last_element_assoc, element_assoc, last_pair_assoc, pair_assoc}
 pub use Rattle.tinyjson_grammar.proofs.Prefix.Faultless.{viable_before, faultless, placed}
 pub use Rattle.tinyjson_grammar.proofs.Prefix.Loose.{strict_key}
@@ -11,7 +11,6 @@ pub use Rattle.tinyjson_grammar.proofs.Prefix.Viable.{faultless_place, faultless
 pub use Rattle.tinyjson_grammar.proofs.Sound.{denies, is_dead, Reached, reached_next, step_spells, spells_viable, start_spells, run_next}
 pub use Rattle.tinyjson_grammar.proofs.Step.First.{fits_within, level_frames}
 pub use Rattle.tinyjson_grammar.proofs.Step.Statement.{Follows, loosely}
-pub use Rattle.tinyjson_grammar.proofs.Step.Value.{no_text}
 pub use Rattle.tinyjson_grammar.proofs.Texts.TreeTrip.{IsWhiteIndent}
 pub use Rattle.tinyjson_grammar.proofs.Texts.WrittenTexts.{written_text, from_text}
 pub use Rattle.tinyjson_grammar.proofs.Trace.Paths.{Path, outside, item_in, key_in, value_in, path_text, level, IsPath, within_le, closes, closing, path_frames}

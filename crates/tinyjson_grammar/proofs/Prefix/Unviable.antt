@@ -13,7 +13,7 @@ use Rattle.tinyjson_grammar.specs.declared.error.JsonParseErrorKind.TheVariants.
 use Rattle.tinyjson_grammar.proofs.Accepts.Runs.{run_white}
 use Rattle.tinyjson_grammar.proofs.Accepts.Value.{run_value, HasRoom, Ends, ends, string_key}
 use Rattle.tinyjson_grammar.proofs.Trace.Paths.{within_le}
-use Rattle.tinyjson_grammar.proofs.Accepts.Text.{rules}
+use Rattle.tinyjson_grammar.proofs.Accepts.Text.{rules, no_text}
 use Rattle.tinyjson_grammar.proofs.Prefix.CutOff.{BadKey, with_bad_key}
 
 -- ---- what a character can do to a numeral
@@ -48,22 +48,19 @@ finish_key r ms fs n h = rw h (stopped (not (in_range (value n))))
     stopped true = (_, refl)
     stopped false = (_, refl)
 
-refused_accepted : (k : JsonParseErrorKind) (xs : List ℕ) (t : tree.Tree) → refused k xs ≡ accepted t → ⊥
-refused_accepted k xs t e = cc
-
 end_key : (r : Rules) (ms : tree.Members) (fs : List Frame) (s : Stage) (n : Numeral) (t : tree.Tree) → r.strict ≡ true → end_digits r (at_key ms ∷ fs) s n ≡ accepted t → ⊥
 end_key r ms fs minus n t h e = cc
-end_key r ms fs whole n t h e = cond_both (r.strict && has_leading_zero n.whole) _ _ (λ o. o ≡ accepted t → ⊥) (λ _. refused_accepted _ _ t) (λ _. refused_accepted _ _ t) (rw (finish_key r ms fs n h).1 at e)
+end_key r ms fs whole n t h e = cond_both (r.strict && has_leading_zero n.whole) _ _ (λ o. o ≡ accepted t → ⊥) (λ _. no_text _ _ t) (λ _. no_text _ _ t) (rw (finish_key r ms fs n h).1 at e)
 end_key r ms fs point n t h e = cc
-end_key r ms fs fraction n t h e = refused_accepted _ _ t (rw (finish_key r ms fs n h).1 at e)
+end_key r ms fs fraction n t h e = no_text _ _ t (rw (finish_key r ms fs n h).1 at e)
 end_key r ms fs letter n t h e = cc
 end_key r ms fs sign n t h e = cc
-end_key r ms fs exponent n t h e = refused_accepted _ _ t (rw (finish_key r ms fs n h).1 at e)
+end_key r ms fs exponent n t h e = no_text _ _ t (rw (finish_key r ms fs n h).1 at e)
 
 keeps : (o : Option Next) (r : Rules) (ms : tree.Members) (fs : List Frame) (n : Numeral) (t : tree.Tree) (c : ℕ) (cs : List ℕ) → Move (at_key ms ∷ fs) o → r.strict ≡ true →
     ((s : Stage) (m : Numeral) → run r (at_key ms ∷ fs) (digits s m) cs ≡ accepted t → ⊥) →
     go_on (λ gs q. run r gs q cs) (unless_ended r (at_key ms ∷ fs) n c o) (c ∷ cs) cs ≡ accepted t → ⊥
-keeps _ r ms fs n t c cs ends_here h g e = refused_accepted _ _ t (rw (finish_key r ms fs n h).1 at e)
+keeps _ r ms fs n t c cs ends_here h g e = no_text _ _ t (rw (finish_key r ms fs n h).1 at e)
 keeps _ r ms fs n t c cs (goes s m) h g e = g s m e
 keeps _ r ms fs n t c cs (stops k) h g e = cc
 
@@ -86,7 +83,7 @@ zero_keeps false r fs n m t c cs g e = cc
 
 pub zero_unviable : (ys : List ℕ) (r : Rules) (fs : List Frame) (n : Numeral) (t : tree.Tree) → r.strict ≡ true → has_leading_zero n.whole ≡ true → run r fs (digits whole n) ys ≡ accepted t → ⊥
 unfolding run step end
-zero_unviable [] r fs n t h z e = refused_accepted _ _ t (rw (h, z) at e)
+zero_unviable [] r fs n t h z e = no_text _ _ t (rw (h, z) at e)
 zero_unviable (c ∷ cs) r fs n t h z e =
     let b : (r.strict && has_leading_zero n.whole) ≡ true = rw (h, z) in
     zero_keeps (is_ascii_digit c) r fs n (record n { whole = n.whole ++ c ∷ [] }) t c cs (zero_unviable cs r fs (record n { whole = n.whole ++ c ∷ [] }) t h (zero_more n.whole c z)) (rw b at e)

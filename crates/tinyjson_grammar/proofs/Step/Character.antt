@@ -15,7 +15,8 @@ use Rattle.tinyjson_grammar.proofs.Trace.State.{Part, part_point, part_fraction,
 use Rattle.tinyjson_grammar.proofs.Prefix.Viable.{faultless_value, read_viable, read_prompt}
 use Rattle.tinyjson_grammar.proofs.Step.Statement.{Follows, at_code, key_says, NoQuoteFrom, Denies}
 use Rattle.tinyjson_grammar.proofs.Step.Awaits.{begins_at, awaits_value}
-use Rattle.tinyjson_grammar.proofs.Step.Value.{complete_follows, after_follows, no_text, quote_after, closed_array, closed_object, taken_key}
+use Rattle.tinyjson_grammar.proofs.Accepts.Text.{no_text}
+use Rattle.tinyjson_grammar.proofs.Step.Value.{complete_follows, after_follows, quote_after, closed_array, closed_object, taken_key}
 use Rattle.std.specs.Prelude.{⊤}
 use Rattle.tinyjson_grammar.specs.Refusal.{KindSays, IsLiteral, NeedsMore, BeginsEscape}
 use Rattle.tinyjson_grammar.specs.Prefix.{IsFaultless}

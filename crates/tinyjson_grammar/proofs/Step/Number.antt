@@ -16,7 +16,8 @@ use Rattle.tinyjson_grammar.proofs.Prefix.Viable.{part_ending, part_prompt, faul
 use Rattle.tinyjson_grammar.proofs.Step.Statement.{Follows, either, key_says, loosely, NoQuoteFrom, Denies}
 use Rattle.tinyjson_grammar.proofs.Step.Awaits.{begins_at}
 use Rattle.tinyjson_grammar.proofs.Prefix.Unviable.{key_unviable, zero_unviable}
-use Rattle.tinyjson_grammar.proofs.Step.Value.{no_text, after_follows}
+use Rattle.tinyjson_grammar.proofs.Accepts.Text.{no_text}
+use Rattle.tinyjson_grammar.proofs.Step.Value.{after_follows}
 use Rattle.tinyjson_number.proofs.Callers.{digits_append}
 
 -- ---- no quote follows

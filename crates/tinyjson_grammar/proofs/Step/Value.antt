@@ -2,20 +2,20 @@
 use Rattle.std.specs.Prelude.{⊤}
 use Rattle.std.proofs.Common.{◌≡◌, ℕ, ◌+◌, true, List, [], ◌∷◌, ◌++◌, Option, refl, ap, sym, ◌∙◌, append_assoc, append-nil, arith, subst, IsTrue, not}
 use Rattle.std.proofs.lemmas.Bool.{not-true, not-false, eqb-false}
-use Rattle.tinyjson_grammar.specs.Machine.{strictly, Frame, Phase, run, step, accepted, refused, colon, after, complete, step_plain}
-use Rattle.tinyjson_grammar.specs.Tree.{is_string, Tree, no_members, items_of}
+use Rattle.tinyjson_grammar.specs.Machine.{strictly, Frame, Phase, run, step, after, complete, step_plain}
+use Rattle.tinyjson_grammar.specs.Tree.{is_string, no_members, items_of}
 use Rattle.tinyjson_grammar.specs.Tree as tree
 use Rattle.tinyjson_grammar.specs.Characters.{is_white}
 use Rattle.tinyjson_grammar.specs.Syntax.{Syntax, array, object, text, depth, IsWithin, tree_of}
 use Rattle.tinyjson_grammar.specs.Prefix.{IsValue, Pair, Element, IsFaultless}
 use Rattle.tinyjson_grammar.specs.Refusal.{EndsBefore}
-use Rattle.tinyjson_grammar.specs.declared.error.JsonParseErrorKind.{JsonParseErrorKind}
 use Rattle.tinyjson_grammar.specs.Machine
 use Rattle.tinyjson_grammar.proofs.Trace.Paths.{Path, outside, item_in, key_in, value_in, path_text, path_frames, level, IsPath, within_le, within_max, key_depth, items_with, pairs_with, text_of_items, text_of_pairs, depth_of_items, depth_of_pairs, items_trees, members_of_pairs, before_push, pairs_push, trees_push, members_push, deepest_push, pairs_deepest_push, AreElements_push, ArePairs_push}
 use Rattle.tinyjson_grammar.proofs.Prefix.Faultless.{item_value, pair_value, faultless, faultless_from, placed}
 use Rattle.tinyjson_grammar.proofs.Trace.State.{at_awaited, at_after, after_frames, after_phase, IsRead, are_white_append}
 use Rattle.tinyjson_grammar.proofs.Prefix.Viable.{faultless_after, faultless_place}
 use Rattle.tinyjson_grammar.proofs.Step.Statement.{NoQuoteFrom, Follows, either, at_code, key_says}
+use Rattle.tinyjson_grammar.proofs.Accepts.Text.{no_text}
 use Rattle.tinyjson_grammar.proofs.Accepts.Value.{string_key}
 
 -- the value is whole, and the character was its last
@@ -46,9 +46,6 @@ IsInside (outside w) = ⊥
 IsInside (item_in p es w) = ⊤
 IsInside (key_in p ps w) = ⊤
 IsInside (value_in p ps a k b w) = ⊤
-
-pub no_text : (k : JsonParseErrorKind) (ys : List ℕ) (t : Tree) → refused k ys ≡ accepted t → ⊥
-no_text k ys t e = cc
 
 pub quote_after : (limit : Option ℕ) (p : Path) (s : Syntax) → IsInside p → NoQuoteFrom limit (after_frames p s) (after_phase p s)
 unfolding run step
