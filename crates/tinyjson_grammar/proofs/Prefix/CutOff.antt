@@ -8,17 +8,9 @@ use Rattle.tinyjson_grammar.specs.Prefix.{Element, Pair, elements_before, pairs_
 use Rattle.tinyjson_grammar.specs.Machine.{Rules, Frame, in_array, at_key, at_value, awaited, first, step, run}
 use Rattle.tinyjson_grammar.proofs.Accepts.Runs.{delimited_white, run_white, after_white}
 use Rattle.tinyjson_grammar.proofs.Accepts.Value.{last_element_assoc, run_value, fits_within, HasRoom, ends, Begins, begins_append, text_begins, first_array, first_object, key_and_colon}
-use Rattle.tinyjson_grammar.proofs.Trace.Paths.{within_le}
+use Rattle.tinyjson_grammar.proofs.Trace.Paths.{trees_of, members_from, within_le}
 
 -- ---- what stands before the open container
-
-abbrev elements_trees : List Element → List tree.Tree
-elements_trees [] = []
-elements_trees (e ∷ es) = tree_of e.value ∷ elements_trees es
-
-abbrev members_before : tree.Members → List Pair → tree.Members
-members_before ms [] = ms
-members_before ms (p ∷ ps) = members_before (tree.put (tree.key_of (tree_of p.key)) (tree_of p.value) ms) ps
 
 element_before_assoc : (v t w es xs : List ℕ) → ((v ++ (t ++ w)) ++ 44 ∷ es) ++ xs ≡ v ++ (t ++ (w ++ 44 ∷ (es ++ xs)))
 element_before_assoc v t w es xs = simp append_assoc
@@ -27,17 +19,17 @@ pair_before_assoc : (a k b c t d ps xs : List ℕ) → ((a ++ (k ++ (b ++ 58 ∷
 pair_before_assoc a k b c t d ps xs = simp append_assoc
 
 run_elements_before : (es : List Element) (r : Rules) (ts : List tree.Tree) (fs : List Frame) (xs : List ℕ) → AreElementsBefore es → HasRoom r (in_array ts ∷ fs) (elements_deepest es) →
-    run r (in_array ts ∷ fs) awaited (elements_before es ++ xs) ≡ run r (in_array (ts ++ elements_trees es) ∷ fs) awaited xs
+    run r (in_array ts ∷ fs) awaited (elements_before es ++ xs) ≡ run r (in_array (ts ++ trees_of es) ∷ fs) awaited xs
 unfolding run step
 run_elements_before [] r ts fs xs h m = rw (append-nil ts)
 run_elements_before (e ∷ es) r ts fs xs h m = rw (element_before_assoc e.before (text e.value) e.after (elements_before es) xs)
     (run_white r (in_array ts ∷ fs) e.before _ h.0.before
     ∙ run_value e.value r (in_array ts ∷ fs) _ h.0.value.spelled (λ s. h.0.value.strict) (within_le r.limit _ _ m (omega arith)) (ends e.value _ (delimited_white e.after (44 ∷ _) h.0.after refl))
     ∙ after_white r (in_array (ts ++ tree_of e.value ∷ []) ∷ fs) e.after (44 ∷ _) h.0.after
-    ∙ rw (append_assoc ts (tree_of e.value ∷ []) (elements_trees es)) at (run_elements_before es r (ts ++ tree_of e.value ∷ []) fs xs h.1 (within_le r.limit _ _ m (omega arith))))
+    ∙ rw (append_assoc ts (tree_of e.value ∷ []) (trees_of es)) at (run_elements_before es r (ts ++ tree_of e.value ∷ []) fs xs h.1 (within_le r.limit _ _ m (omega arith))))
 
 run_pairs_before : (ps : List Pair) (r : Rules) (ms : tree.Members) (fs : List Frame) (xs : List ℕ) → ArePairsBefore ps → HasRoom r (at_key ms ∷ fs) (pairs_deepest ps) →
-    run r (at_key ms ∷ fs) awaited (pairs_before ps ++ xs) ≡ run r (at_key (members_before ms ps) ∷ fs) awaited xs
+    run r (at_key ms ∷ fs) awaited (pairs_before ps ++ xs) ≡ run r (at_key (members_from ms ps) ∷ fs) awaited xs
 unfolding run step
 run_pairs_before [] r ms fs xs h m = refl
 run_pairs_before (p ∷ ps) r ms fs xs h m = rw (pair_before_assoc p.before_key (text p.key) p.after_key p.before (text p.value) p.after (pairs_before ps) xs)
@@ -63,16 +55,16 @@ begin_object (p ∷ ps) w r fs xs h hw b = rw (pair_before_assoc p.before_key (t
 
 -- the container's first character, and what stands in it before xs
 open_array : (es : List Element) (w : List ℕ) (r : Rules) (fs : List Frame) (xs : List ℕ) → AreElementsBefore es → AreWhite w → Begins xs → (d : ℕ) → HasRoom r fs (1 + max (elements_deepest es) d) →
-    run r fs awaited (91 ∷ (elements_before es ++ (w ++ xs))) ≡ run r (in_array (elements_trees es) ∷ fs) awaited xs
+    run r fs awaited (91 ∷ (elements_before es ++ (w ++ xs))) ≡ run r (in_array (trees_of es) ∷ fs) awaited xs
 unfolding run step
 open_array es w r fs xs h hw b d m = rw (fits_within r.limit (length fs) (max (elements_deepest es) d) m)
-    (begin_array es w r fs xs h hw b ∙ run_elements_before es r [] fs (w ++ xs) h (within_le r.limit _ _ m (omega arith)) ∙ run_white r (in_array (elements_trees es) ∷ fs) w xs hw)
+    (begin_array es w r fs xs h hw b ∙ run_elements_before es r [] fs (w ++ xs) h (within_le r.limit _ _ m (omega arith)) ∙ run_white r (in_array (trees_of es) ∷ fs) w xs hw)
 
 open_object : (ps : List Pair) (w : List ℕ) (r : Rules) (fs : List Frame) (xs : List ℕ) → ArePairsBefore ps → AreWhite w → Begins xs → (d : ℕ) → HasRoom r fs (1 + max (pairs_deepest ps) d) →
-    run r fs awaited (123 ∷ (pairs_before ps ++ (w ++ xs))) ≡ run r (at_key (members_before tree.no_members ps) ∷ fs) awaited xs
+    run r fs awaited (123 ∷ (pairs_before ps ++ (w ++ xs))) ≡ run r (at_key (members_from tree.no_members ps) ∷ fs) awaited xs
 unfolding run step
 open_object ps w r fs xs h hw b d m = rw (fits_within r.limit (length fs) (max (pairs_deepest ps) d) m)
-    (begin_object ps w r fs xs h hw b ∙ run_pairs_before ps r tree.no_members fs (w ++ xs) h (within_le r.limit _ _ m (omega arith)) ∙ run_white r (at_key (members_before tree.no_members ps) ∷ fs) w xs hw)
+    (begin_object ps w r fs xs h hw b ∙ run_pairs_before ps r tree.no_members fs (w ++ xs) h (within_le r.limit _ _ m (omega arith)) ∙ run_white r (at_key (members_from tree.no_members ps) ∷ fs) w xs hw)
 
 -- ---- the bad key
 
@@ -97,7 +89,7 @@ cut_off_begins (in_item es w b) = (_, _, refl, (refl, refl, refl))
 
 pub with_bad_key : (b : CutOff) (r : Rules) (fs : List Frame) → IsCutOff b → HasRoom r fs (cut_off_depth b) → BadKey r fs b
 with_bad_key (bad_key ps w s) r fs h m = record {
-  members = members_before tree.no_members ps;
+  members = members_from tree.no_members ps;
   frames = fs;
   key = s;
   value = h.2;
@@ -106,7 +98,7 @@ with_bad_key (bad_key ps w s) r fs h m = record {
   reads = λ ys. rw (last_element_assoc (pairs_before ps) w (text s) ys) (open_object ps w r fs (text s ++ ys) h.0 h.1 (begins_append (text s) ys (text_begins s h.2.spelled)) (depth s) m);
 }
 with_bad_key (in_key ps w b) r fs h m =
-    let i = with_bad_key b r (at_key (members_before tree.no_members ps) ∷ fs) h.2 (within_le r.limit _ _ m (omega arith)) in record {
+    let i = with_bad_key b r (at_key (members_from tree.no_members ps) ∷ fs) h.2 (within_le r.limit _ _ m (omega arith)) in record {
       members = i.members;
       frames = i.frames;
       key = i.key;
@@ -116,7 +108,7 @@ with_bad_key (in_key ps w b) r fs h m =
       reads = λ ys. rw (last_element_assoc (pairs_before ps) w (cut_off_text b) ys) (open_object ps w r fs (cut_off_text b ++ ys) h.0 h.1 (begins_append (cut_off_text b) ys (cut_off_begins b)) (cut_off_depth b) m ∙ i.reads ys);
     }
 with_bad_key (in_item es w b) r fs h m =
-    let i = with_bad_key b r (in_array (elements_trees es) ∷ fs) h.2 (within_le r.limit _ _ m (omega arith)) in record {
+    let i = with_bad_key b r (in_array (trees_of es) ∷ fs) h.2 (within_le r.limit _ _ m (omega arith)) in record {
       members = i.members;
       frames = i.frames;
       key = i.key;
@@ -126,7 +118,7 @@ with_bad_key (in_item es w b) r fs h m =
       reads = λ ys. rw (last_element_assoc (elements_before es) w (cut_off_text b) ys) (open_array es w r fs (cut_off_text b ++ ys) h.0 h.1 (begins_append (cut_off_text b) ys (cut_off_begins b)) (cut_off_depth b) m ∙ i.reads ys);
     }
 with_bad_key (in_member ps w k v u b) r fs h m =
-    let ms = members_before tree.no_members ps in
+    let ms = members_from tree.no_members ps in
     let i = with_bad_key b r (at_value ms (decode (piece_codes k)) ∷ fs) h.6 (within_le r.limit _ _ m (omega arith)) in record {
       members = i.members;
       frames = i.frames;
