@@ -1,7 +1,8 @@
 -- For proofs of callers: what is written, what waits, and the bytes of quoted strings.
 pub use Rattle.tinyjson_output.proofs.Bytes.{closed, enc, enc_cons, null_bytes, three}
 pub use Rattle.tinyjson_output.proofs.Quotes.{escape_ascii, high, quoted_bytes, two_ascii}
-pub use Rattle.tinyjson_output.proofs.Written.{Appends-trans, Appends_keeps, Appends_nothing, begins, ends, fails, goes}
+pub use Rattle.std.proofs.KnownBytes.{Appends-trans, Appends-kept as Appends_keeps, Appends-nil as Appends_nothing}
+pub use Rattle.tinyjson_output.proofs.Written.{begins, ends, fails, goes}
 pub use Rattle.tinyjson_output.proofs.Written.{stop, stops, stops_then, written_all, written_none, written_same}
 pub use Rattle.tinyjson_output.proofs.Written.{written_take, written_then}
 pub use Rattle.tinyjson_output.proofs.Sending.{begins as sent_begins, ends as sent_ends, fails as sent_fails}

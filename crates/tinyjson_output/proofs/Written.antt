@@ -1,29 +1,14 @@
 -- How writes follow one another.
-use Rattle.std.proofs.Common.{◌≡◌, ℕ, Option, None, Some, Result, Ok, Err, List, [], ◌++◌, take, drop, refl, sym, ◌∙◌, ap, append_assoc, append-nil, take-append-drop}
+use Rattle.std.proofs.Common.{◌≡◌, ℕ, Option, Some, Result, Ok, Err, List, [], ◌++◌, take, drop, refl, sym, ◌∙◌, ap, append_assoc, append-nil, take-append-drop}
+use Rattle.std.proofs.KnownBytes.{Appends-kept, Appends-nil, Appends-trans}
 use Rattle.std.specs.Result.{IsErr}
 use Rattle.std.proofs.lemmas.Result.{MatchResult-from_err}
 use Rattle.std.specs.Io.KnownBytes.{Appends, Keeps}
 use Rattle.tinyjson_output.specs.Written.{Written, WrittenPart, WritesPrefix}
 
-pub Appends-trans : (old mid new : Option (List ℕ)) (a b : List ℕ) → Appends old mid a → Appends mid new b → Appends old new (a ++ b)
-Appends-trans None mid new a b h k = tt
-Appends-trans (Some xs) None new a b h k = absurd h
-Appends-trans (Some xs) (Some ys) None a b h k = absurd k
-Appends-trans (Some xs) (Some ys) (Some zs) a b h k = k ∙ ap (λ w. w ++ b) h ∙ append_assoc xs a b
-
-pub Appends_nothing : (old : Option (List ℕ)) → Appends old old []
-Appends_nothing None = tt
-Appends_nothing (Some xs) = sym (append-nil xs)
-
-pub Appends_keeps : (old mid new : Option (List ℕ)) (a : List ℕ) → Appends old mid a → Keeps mid new → Appends old new a
-Appends_keeps None mid new a h k = tt
-Appends_keeps (Some xs) None new a h k = absurd h
-Appends_keeps (Some xs) (Some ys) None a h k = absurd k
-Appends_keeps (Some xs) (Some ys) (Some zs) a h k = k ∙ h
-
 -- before the first write
 pub written_none : (old : Option (List ℕ)) (bytes rest : List ℕ) → bytes ≡ rest → Written old old bytes rest
-written_none old bytes rest e = record { done = []; split = e; appended = Appends_nothing old }
+written_none old bytes rest e = record { done = []; split = e; appended = Appends-nil old }
 
 -- a piece is written, or the part of it before `left`
 pub written_more : {old mid new : Option (List ℕ)} {bytes piece left : List ℕ} (rest : List ℕ) → Written old mid bytes (piece ++ rest) → Written mid new piece left → Written old new bytes (left ++ rest)
@@ -43,7 +28,7 @@ written_take {old} {mid} {new} {bytes} {rest} n h k = record {
 
 -- a call of `write` failed
 pub written_same : {old mid new : Option (List ℕ)} {bytes rest : List ℕ} → Written old mid bytes rest → Keeps mid new → Written old new bytes rest
-written_same {old} {mid} {new} {bytes} {rest} h k = record { done = h.done; split = h.split; appended = Appends_keeps old mid new h.done h.appended k }
+written_same {old} {mid} {new} {bytes} {rest} h k = record { done = h.done; split = h.split; appended = Appends-kept old mid new h.done h.appended k }
 
 -- a piece is written
 pub goes : {old mid new : Option (List ℕ)} {bytes piece : List ℕ} (rest : List ℕ) → Written mid new piece [] → Written old mid bytes (piece ++ rest) → Written old new bytes rest
