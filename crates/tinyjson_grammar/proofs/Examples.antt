@@ -12,9 +12,9 @@ abbrev Alike : Outcome → Outcome → Type 0
 Alike (accepted t) (accepted u) = Unit {0}
 Alike o p = o ≡ p
 
-no_digit_behind_the_point : unfold run step end value power_fits put in Alike (run (strictly None) [] awaited (codes "[1.]")) (refused EmptyFraction (codes "]"))
+no_digit_after_the_point : unfold run step end value power_fits put in Alike (run (strictly None) [] awaited (codes "[1.]")) (refused EmptyFraction (codes "]"))
 unfolding run step end value power_fits put
-no_digit_behind_the_point = refl
+no_digit_after_the_point = refl
 
 zero_before_a_digit_and_a_point : unfold run step end value power_fits put in Alike (run (strictly None) [] awaited (codes "01.5")) (refused LeadingZero (codes ".5"))
 unfolding run step end value power_fits put
@@ -24,13 +24,13 @@ zero_before_a_digit : unfold run step end value power_fits put in Alike (run (st
 unfolding run step end value power_fits put
 zero_before_a_digit = refl
 
-blank_behind_the_minus_sign : unfold run step end value power_fits put in Alike (run (strictly None) [] awaited (codes "- 1")) (refused EmptyInteger (codes " 1"))
+blank_after_the_minus_sign : unfold run step end value power_fits put in Alike (run (strictly None) [] awaited (codes "- 1")) (refused EmptyInteger (codes " 1"))
 unfolding run step end value power_fits put
-blank_behind_the_minus_sign = refl
+blank_after_the_minus_sign = refl
 
-letter_behind_the_sign_of_an_exponent : unfold run step end value power_fits put in Alike (run (strictly None) [] awaited (codes "1e+x")) (refused EmptyExponent (codes "x"))
+letter_after_the_sign_of_an_exponent : unfold run step end value power_fits put in Alike (run (strictly None) [] awaited (codes "1e+x")) (refused EmptyExponent (codes "x"))
 unfolding run step end value power_fits put
-letter_behind_the_sign_of_an_exponent = refl
+letter_after_the_sign_of_an_exponent = refl
 
 number_as_a_key : unfold run step end value power_fits put in Alike (run (strictly None) [] awaited (codes "{1 ")) (refused (KeyNotString kind.Number) (codes " "))
 unfolding run step end value power_fits put
@@ -64,9 +64,9 @@ two_items_without_a_comma : unfold run step end value power_fits put in Alike (r
 unfolding run step end value power_fits put
 two_items_without_a_comma = refl
 
-letter_behind_an_item : unfold run step end value power_fits put in Alike (run (strictly None) [] awaited (codes "[1 x")) (refused (ExpectedCommaOrBracket 120) [])
+letter_after_an_item : unfold run step end value power_fits put in Alike (run (strictly None) [] awaited (codes "[1 x")) (refused (ExpectedCommaOrBracket 120) [])
 unfolding run step end value power_fits put
-letter_behind_an_item = refl
+letter_after_an_item = refl
 
 control_character_in_a_string : unfold run step end value power_fits put in Alike (run (strictly None) [] awaited (34 ∷ 116 ∷ 1 ∷ [])) (refused (ControlCharacter 1) [])
 unfolding run step end value power_fits put
@@ -76,9 +76,9 @@ no_colon : unfold run step end value power_fits put in Alike (run (strictly None
 unfolding run step end value power_fits put
 no_colon = refl
 
-no_item_behind_a_comma : unfold run step end value power_fits put in Alike (run (strictly None) [] awaited (codes "[1,]")) (refused (InvalidCharacter 93) (codes "]"))
+no_item_after_a_comma : unfold run step end value power_fits put in Alike (run (strictly None) [] awaited (codes "[1,]")) (refused (InvalidCharacter 93) (codes "]"))
 unfolding run step end value power_fits put
-no_item_behind_a_comma = refl
+no_item_after_a_comma = refl
 
 two_values : unfold run step end value power_fits put in Alike (run (strictly None) [] awaited (codes "1 2")) (refused (ExpectedEof 50) [])
 unfolding run step end value power_fits put
@@ -128,9 +128,9 @@ surrogate_pair : unfold run step end value power_fits put in Alike (run (strictl
 unfolding run step end value power_fits put
 surrogate_pair = tt
 
-no_member_behind_a_comma : unfold run step end value power_fits put in Alike (run (strictly None) [] awaited (codes "{\"a\":1,}")) (refused (InvalidCharacter 125) (codes "}"))
+no_member_after_a_comma : unfold run step end value power_fits put in Alike (run (strictly None) [] awaited (codes "{\"a\":1,}")) (refused (InvalidCharacter 125) (codes "}"))
 unfolding run step end value power_fits put
-no_member_behind_a_comma = refl
+no_member_after_a_comma = refl
 
 empty_text : unfold run step end value power_fits put in Alike (run (strictly None) [] awaited []) (refused UnexpectedEof [])
 unfolding run step end value power_fits put

@@ -1,5 +1,5 @@
 -- Quoted strings as bytes.
-use Rattle.std.proofs.Common.{◌==◌, ◌≡◌, ℕ, zero, suc, ◌+◌, ◌/◌, ◌%◌, cond, inl, inr, Bool, true, false, List, [], ◌∷◌, ◌++◌, length, get_or, take, drop, length-drop, ◌-◌, ◌≤◌, refl, sym, ◌∙◌, ap, append_assoc, append-nil, arith, lit<, ◌<◌}
+use Rattle.std.proofs.Common.{◌==◌, ◌≡◌, ℕ, suc, ◌+◌, ◌/◌, ◌%◌, cond, inl, inr, Bool, true, false, List, [], ◌∷◌, ◌++◌, length, get_or, take, drop, length-drop, ◌-◌, ◌≤◌, refl, sym, ◌∙◌, ap, append_assoc, append-nil, arith, lit<, ◌<◌}
 use Rattle.std.specs.Str.{chars, IsUtf8, IsAscii}
 use Rattle.std.proofs.Math.Utf8.{encode}
 use Rattle.std.specs.Char.{digit_char}

@@ -2,7 +2,7 @@
 use Rattle.std.proofs.Common.{◌≡◌, ℕ, ◌<◌, true, false, List, [], ◌∷◌, ◌++◌, Option, Some, None, refl, ap, sym, ◌∙◌, append_assoc, append-nil, arith, length, nat_lt, subst, inl, inr, IsTrue, ◌==◌, not, length-append}
 use Rattle.std.specs.Char.{IsScalar}
 use Rattle.std.proofs.lemmas.Bool.{not-true, not-false, eqb-false, ltb-true, ltb-false}
-use Rattle.tinyjson_grammar.specs.Machine.{strictly, Frame, Phase, digits, quoted, after, Within, Next, next, stop, complete, step_quoted, step_escape, flush}
+use Rattle.tinyjson_grammar.specs.Machine.{strictly, Frame, Phase, quoted, Within, Next, next, stop, complete, step_quoted, step_escape, flush}
 use Rattle.tinyjson_grammar.specs.Tree as tree
 use Rattle.tinyjson_grammar.specs.Characters.{is_hex, unit_of, decode, paired, short_escape, is_surrogate}
 use Rattle.tinyjson_grammar.specs.Syntax.{Syntax, Piece, unit, IsPiece, ArePieces, code, piece_text, pieces_text}

@@ -2,7 +2,7 @@
 use Rattle.std.specs.Prelude.{⊤}
 use Rattle.std.proofs.Common.{◌≡◌, ℕ, ◌+◌, true, List, [], ◌∷◌, ◌++◌, Option, refl, ap, sym, ◌∙◌, append_assoc, append-nil, arith, subst, IsTrue, not}
 use Rattle.std.proofs.lemmas.Bool.{not-true, not-false, eqb-false}
-use Rattle.tinyjson_grammar.specs.Machine.{strictly, Frame, Phase, run, step, after, complete, step_plain}
+use Rattle.tinyjson_grammar.specs.Machine.{strictly, Frame, Phase, run, step, complete, step_plain}
 use Rattle.tinyjson_grammar.specs.Tree.{is_string, no_members, items_of}
 use Rattle.tinyjson_grammar.specs.Tree as tree
 use Rattle.tinyjson_grammar.specs.Characters.{is_white}

@@ -1,4 +1,4 @@
--- A written text is a text of its tree, so a tree is told by its text.
+-- A written text is a text of its tree, so two trees with one compact text are one.
 use Rattle.std.proofs.Common.{◌≡◌, ℕ, List, [], Option, None, sym, ◌∙◌, subst, append-nil}
 use Rattle.std.specs.Int.{Width}
 use Rattle.tinyjson_number.specs.Numeral.{power_width}
