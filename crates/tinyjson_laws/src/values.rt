@@ -20,8 +20,9 @@ pub fn equal_trees()
 
 /// Two values are equal exactly if their compact texts are one.
 ///
-/// To use a law, call it: what it ensures is then known. [`have_one_text`] calls this one, and its proof
-/// needs no answer beyond that. Where an answer is needed, it cites the law as `c.equal_texts.ensures`.
+/// To use a law, call it: what it ensures is then known. [`have_one_text`] calls this one, and its
+/// proof needs no answer beyond that. Where one is needed, it cites the law as
+/// `c.equal_texts.ensures`.
 #[tactic(auto, using(crate::proofs::ValueLaws::equal_texts))]
 pub fn equal_texts()
     ensures { EqualTexts }

@@ -8,12 +8,12 @@ use Rattle.tinyjson_output.specs.Room.{Output, Sent, SentPart, Sends}
 use Rattle.tinyjson_output.proofs.Written.{written_then as written_on, stops_then as part_on, written_none as written_now, stop as part_of}
 
 -- more stands after
-behind : {old new : Option (List ℕ)} {bytes rest : List ℕ} (more : List ℕ) → Written old new bytes rest → Written old new (bytes ++ more) (rest ++ more)
-behind {old} {new} {bytes} {rest} more h = record { done = h.done; split = ap (λ w. w ++ more) h.split ∙ append_assoc h.done rest more; appended = h.appended }
+with_more : {old new : Option (List ℕ)} {bytes rest : List ℕ} (more : List ℕ) → Written old new bytes rest → Written old new (bytes ++ more) (rest ++ more)
+with_more {old} {new} {bytes} {rest} more h = record { done = h.done; split = ap (λ w. w ++ more) h.split ∙ append_assoc h.done rest more; appended = h.appended }
 
 moved : {a b c : Option (List ℕ)} {q r : List ℕ} (p x y : List ℕ) → Written a b (p ++ x) q → Written b c (q ++ y) r → Written a c (p ++ (x ++ y)) r
 moved {a} {b} {c} {q} {r} p x y h k =
-    let both : Written a c ((p ++ x) ++ y) r = written_on {old = a} {mid = b} {new = c} {bytes = (p ++ x) ++ y} (q ++ y) r (behind y h) k in
+    let both : Written a c ((p ++ x) ++ y) r = written_on {old = a} {mid = b} {new = c} {bytes = (p ++ x) ++ y} (q ++ y) r (with_more y h) k in
     subst (λ w. Written a c w r) (append_assoc p x y) both
 
 -- before the first piece
@@ -33,7 +33,7 @@ goes rest k h = written_more rest h k
 
 pub stops : {old mid new : Output} {bytes piece : List ℕ} (rest : List ℕ) → SentPart mid new piece → Sent old mid bytes (piece ++ rest) → SentPart old new bytes
 stops {old} {mid} {new} {bytes} {piece} rest k h =
-    let all : Written old.0 new.0 ((old.1 ++ (h.done ++ piece)) ++ rest) (k.part.rest ++ rest) = behind rest (moved old.1 h.done piece h.written k.part.written) in
+    let all : Written old.0 new.0 ((old.1 ++ (h.done ++ piece)) ++ rest) (k.part.rest ++ rest) = with_more rest (moved old.1 h.done piece h.written k.part.written) in
     let e : (old.1 ++ (h.done ++ piece)) ++ rest ≡ old.1 ++ bytes = append_assoc old.1 (h.done ++ piece) rest ∙ ap (λ w. old.1 ++ w) (append_assoc h.done piece rest ∙ sym h.split) in
     record { part = record { rest = k.part.rest ++ rest; written = subst (λ w. Written old.0 new.0 w (k.part.rest ++ rest)) e all } }
 
@@ -65,7 +65,7 @@ begins {old} {bytes} = written_none old bytes bytes refl
 -- where an error comes before a write
 pub stop : {old new : Output} {bytes rest : List ℕ} → Sent old new bytes rest → SentPart old new bytes
 stop {old} {new} {bytes} {rest} h =
-    let all : Written old.0 new.0 ((old.1 ++ h.done) ++ rest) (new.1 ++ rest) = behind rest h.written in
+    let all : Written old.0 new.0 ((old.1 ++ h.done) ++ rest) (new.1 ++ rest) = with_more rest h.written in
     let e : (old.1 ++ h.done) ++ rest ≡ old.1 ++ bytes = append_assoc old.1 h.done rest ∙ ap (λ w. old.1 ++ w) (sym h.split) in
     record { part = part_of {bytes = old.1 ++ bytes} (subst (λ w. Written old.0 new.0 w (new.1 ++ rest)) e all) }
 
@@ -73,7 +73,7 @@ stop {old} {new} {bytes} {rest} h =
 
 -- what waits is written, or a part of it
 pub flush_fails : {a b : Option (List ℕ)} {p q : List ℕ} (bytes : List ℕ) → WrittenPart a b p → SentPart (a, p) (b, q) bytes
-flush_fails bytes h = record { part = record { rest = h.rest ++ bytes; written = behind bytes h.written } }
+flush_fails bytes h = record { part = record { rest = h.rest ++ bytes; written = with_more bytes h.written } }
 
 -- the bytes wait after what waited
 pub waits : (a : Option (List ℕ)) (p q bytes : List ℕ) → q ≡ p ++ bytes → Sent (a, p) (a, q) bytes []
@@ -88,12 +88,12 @@ waits_part a p q bytes done rest e h = record { done = done; split = e; written 
 
 -- what waited is written, and the bytes wait
 pub waits_alone : {a b : Option (List ℕ)} {p : List ℕ} (q bytes : List ℕ) → Written a b p [] → q ≡ bytes → Sent (a, p) (b, q) bytes []
-waits_alone {a} {b} {p} q bytes h e = record { done = bytes; split = sym (append-nil bytes); written = subst (λ w. Written a b (p ++ bytes) w) (sym e) (behind bytes h) }
+waits_alone {a} {b} {p} q bytes h e = record { done = bytes; split = sym (append-nil bytes); written = subst (λ w. Written a b (p ++ bytes) w) (sym e) (with_more bytes h) }
 
 -- both are written
 pub far : {T E : Type 0} (a b c : Option (List ℕ)) (p q bytes : List ℕ) (r : Result T E) → Written a b p [] → q ≡ [] → WritesPrefix b c bytes r → Sends (a, p) (c, q) bytes r
-far a b c p q bytes (Ok x) h e k = record { done = bytes; split = sym (append-nil bytes); written = subst (λ w. Written a c (p ++ bytes) w) (sym e) (written_on bytes [] (behind bytes h) k) }
-far a b c p q bytes (Err x) h e k = record { part = part_on bytes (behind bytes h) k }
+far a b c p q bytes (Ok x) h e k = record { done = bytes; split = sym (append-nil bytes); written = subst (λ w. Written a c (p ++ bytes) w) (sym e) (written_on bytes [] (with_more bytes h) k) }
+far a b c p q bytes (Err x) h e k = record { part = part_on bytes (with_more bytes h) k }
 
 -- all that was sent is written in the end, or a part of it
 pub flushes : {T E : Type 0} (a b c : Option (List ℕ)) (q bytes : List ℕ) (r : Result T E) → Sent (a, []) (b, q) bytes [] → WritesPrefix b c q r → WritesPrefix a c bytes r

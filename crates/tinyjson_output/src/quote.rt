@@ -45,11 +45,11 @@ fn write_stopped<W: Write>(out: &mut W, room: &mut Room, bytes: &[u8]) -> io::Re
         (escapes bytes.now) result }
 {
     let mut rest = bytes;
-    while let Some((byte, behind)) = rest.split_first() {
+    while let Some((byte, after)) = rest.split_first() {
         write_escape(out, room, *byte)?;
-        let stop = plain_end(behind, 0);
-        write_bytes(out, room, &behind[..stop])?;
-        rest = &behind[stop..];
+        let stop = plain_end(after, 0);
+        write_bytes(out, room, &after[..stop])?;
+        rest = &after[stop..];
     }
     Ok(())
 }

@@ -8,7 +8,7 @@ use Rattle.std.proofs.lemmas.Bool.{ne_eqb}
 use Rattle.std.proofs.lemmas.Bool.Decides.{nat_tests}
 use Rattle.std.proofs.lemmas.Str.{IsUtf8-had}
 use Rattle.tinyjson_grammar.specs.Position.{advance, origin}
-use Rattle.tinyjson_source.specs.Slice.{before, behind}
+use Rattle.tinyjson_source.specs.Slice.{before, chars_after}
 use Rattle.tinyjson_source.specs.Slice.Laws.{line_bound, column_bound, shown_once, shown_first, nothing_left}
 use Rattle.tinyjson_scan.specs.Scan.{is_plain}
 use Rattle.tinyjson_source.specs.Source.{Sight, Takes, TakesRun}
@@ -23,14 +23,14 @@ All_append P (x ∷ xs) ys a b = (a.0, All_append P xs ys a.1 b)
 -- what a text in memory still gives
 abbrev pub text_sight : Sight TextBytes
 text_sight = record {
-  gives = λ p zs. zs ≡ behind p.text.now p.at;
-  shows = λ p o. slice_get (behind p.text.now p.at) 0 ≡ o;
+  gives = λ p zs. zs ≡ chars_after p.text.now p.at;
+  shows = λ p o. slice_get (chars_after p.text.now p.at) 0 ≡ o;
   place = λ p. advance origin (before p.text.now p.at);
   line_fits = λ p. line_bound (before p.text.now p.at);
   column_fits = λ p. column_bound (before p.text.now p.at);
-  one = λ p. shown_once (behind p.text.now p.at);
-  first = λ p. shown_first (behind p.text.now p.at);
-  none = λ p. nothing_left (behind p.text.now p.at);
+  one = λ p. shown_once (chars_after p.text.now p.at);
+  first = λ p. shown_first (chars_after p.text.now p.at);
+  none = λ p. nothing_left (chars_after p.text.now p.at);
 }
 
 -- a byte below 128 is taken
@@ -44,7 +44,7 @@ Takes_ascii p q b h e low same at =
     let one : between text p.at q.at ≡ b ∷ [] = ap (between text p.at) at ∙ char_between text utf8 p.at p.boundary b 1 next len in
     let on : p.at ≤ q.at = omega (arith, at) in
     record {
-      gives = λ zs g. let x = step_gives text utf8 p.at q.at on p.boundary last (b ∷ []) one zs g in (x.0, x.1, x.2 ∙ ap (λ t. behind t q.at) (sym same));
+      gives = λ zs g. let x = step_gives text utf8 p.at q.at on p.boundary last (b ∷ []) one zs g in (x.0, x.1, x.2 ∙ ap (λ t. chars_after t q.at) (sym same));
       moves = ap (λ t. advance origin (before t q.at)) same ∙ step_moves text utf8 p.at q.at on p.boundary last (b ∷ []) one;
     }
 

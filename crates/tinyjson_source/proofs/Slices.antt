@@ -13,7 +13,7 @@ use Rattle.std.proofs.lemmas.Bool.Decides.{nat_tests}
 use Rattle.tinyjson_grammar.specs.Characters.{is_white}
 use Rattle.tinyjson_scan.specs.Scan.{is_plain}
 use Rattle.tinyjson_grammar.specs.Position.{advance, origin}
-use Rattle.tinyjson_source.specs.Slice.{before, behind, run_end, NextChar}
+use Rattle.tinyjson_source.specs.Slice.{before, chars_after, run_end, NextChar}
 use Rattle.tinyjson_source.specs.Slice.Laws.{line_bound, column_bound}
 use Rattle.tinyjson_grammar.proofs.Callers.{advance_append, advance_nil}
 
@@ -28,8 +28,8 @@ module _ (text : List ℕ) (utf8 : IsUtf8 text) (i j : ℕ) (h : i ≤ j) (first
   rest : drop (j - i) (drop i text) ≡ drop j text
   rest = drop-drop (j - i) i text ∙ ap (λ n. drop n text) (omega arith)
 
-  behind_between : behind text i ≡ between text i j ++ behind text j
-  behind_between =
+  after_between : chars_after text i ≡ between text i j ++ chars_after text j
+  after_between =
       ap chars (sym (take-append-drop (j - i) (drop i text))) ∙ chars-append slice (drop (j - i) (drop i text)) (IsUtf8-between text i j utf8 h first last)
       ∙ ap (λ bs. chars slice ++ chars bs) rest
 
@@ -52,8 +52,8 @@ module _ (text : List ℕ) (utf8 : IsUtf8 text) (i j : ℕ) (h : i ≤ j) (first
 
   -- what is taken on the way from i to j
   module _ (xs : List ℕ) (e : between text i j ≡ xs) where
-    pub step_gives : (zs : List ℕ) → zs ≡ behind text i → (more : List ℕ) × (zs ≡ xs ++ more) × (more ≡ behind text j)
-    step_gives zs g = (behind text j, g ∙ behind_between ∙ ap (λ ys. ys ++ behind text j) e, refl)
+    pub step_gives : (zs : List ℕ) → zs ≡ chars_after text i → (more : List ℕ) × (zs ≡ xs ++ more) × (more ≡ chars_after text j)
+    step_gives zs g = (chars_after text j, g ∙ after_between ∙ ap (λ ys. ys ++ chars_after text j) e, refl)
 
     pub step_moves : advance origin (before text j) ≡ advance (advance origin (before text i)) xs
     step_moves = ap (advance origin) before_between ∙ sym (advance_append origin (before text i) (between text i j)) ∙ ap (advance (advance origin (before text i))) e
@@ -72,13 +72,13 @@ next_char P text s t at (Some c) e m =
     whole ∙ ap (λ bs. encode_utf8 c ++ bs) (sym (drop_past_char text t at c whole))
 
 -- it is the first of those that are left
-pub next_shown : (text : List ℕ) (utf8 : IsUtf8 text) (at : ℕ) → IsCharBoundary text at → (o : Option ℕ) → NextChar text at o → slice_get (behind text at) 0 ≡ o
+pub next_shown : (text : List ℕ) (utf8 : IsUtf8 text) (at : ℕ) → IsCharBoundary text at → (o : Option ℕ) → NextChar text at o → slice_get (chars_after text at) 0 ≡ o
 next_shown text utf8 at b None e = ap (λ bs. slice_get (chars bs) 0) e ∙ ap (λ cs. slice_get cs 0) chars-nil
 next_shown text utf8 at b (Some c) e = ap (λ cs. slice_get cs 0) (chars_past_char (drop at text) (drop (at + len_utf8 c) text) c (IsUtf8-drop text at utf8 b) e)
 
 -- the first of those that are left begins at the place
-pub next_of : (text : List ℕ) (utf8 : IsUtf8 text) (at : ℕ) → IsCharBoundary text at → NextChar text at (slice_get (behind text at) 0)
-next_of text utf8 at b = go (behind text at) (encodes-chars (drop at text) (IsUtf8-drop text at utf8 b))
+pub next_of : (text : List ℕ) (utf8 : IsUtf8 text) (at : ℕ) → IsCharBoundary text at → NextChar text at (slice_get (chars_after text at) 0)
+next_of text utf8 at b = go (chars_after text at) (encodes-chars (drop at text) (IsUtf8-drop text at utf8 b))
   where
     go : (cs : List ℕ) → encode_utf8_all cs ≡ drop at text → NextChar text at (slice_get cs 0)
     go [] e = sym e
@@ -168,8 +168,8 @@ module _ (p : ℕ → Bool) (ascii : (b : ℕ) → p b ≡ true → b < 128) whe
               let at_end : get_or text to 0 ≡ c = ap (λ k. get_or text k 0) (sym (add-zero to)) ∙ sym (get_or-drop to text 0 0) ∙ byte in
               ap p (sym at_end) ∙ ap (λ k. p (get_or text k 0)) e ∙ run_stops p text at (omega (arith, some, length-drop to text, e))
 
-      pub ascii_ends : (o : Option ℕ) × (slice_get (behind text to) 0 ≡ o) × IfSome o (λ c. p c ≡ false)
-      ascii_ends = (slice_get (behind text to) 0, refl, ascii_stops (slice_get (behind text to) 0) (next_of text utf8 to ascii_boundary))
+      pub ascii_ends : (o : Option ℕ) × (slice_get (chars_after text to) 0 ≡ o) × IfSome o (λ c. p c ≡ false)
+      ascii_ends = (slice_get (chars_after text to) 0, refl, ascii_stops (slice_get (chars_after text to) 0) (next_of text utf8 to ascii_boundary))
 
 pub digit_small : (c : ℕ) → is_ascii_digit c ≡ true → c < 128
 digit_small c h = grind (arith, nat_tests)

@@ -10,8 +10,8 @@ abbrev pub before : List ℕ → ℕ → List ℕ
 before text at = chars (take at text)
 
 -- the characters from the place on
-abbrev pub behind : List ℕ → ℕ → List ℕ
-behind text at = chars (drop at text)
+abbrev pub chars_after : List ℕ → ℕ → List ℕ
+chars_after text at = chars (drop at text)
 
 -- The character whose bytes begin at the place; or the text ends there.
 abbrev pub NextChar : List ℕ → ℕ → Option ℕ → Type 0

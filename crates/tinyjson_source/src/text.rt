@@ -4,7 +4,7 @@ ghost use Rattle.std.specs.Char.{len_utf8};
 ghost use Rattle.std.specs.Str.{IsUtf8, IsCharBoundary, chars};
 ghost use Rattle.tinyjson_grammar.specs.Characters.{is_white};
 ghost use Rattle.tinyjson_grammar.specs.Position.{advance, origin};
-ghost use Rattle.tinyjson_source.specs.Slice.{before, behind, run_end, NextChar};
+ghost use Rattle.tinyjson_source.specs.Slice.{before, chars_after, run_end, NextChar};
 ghost use Rattle.tinyjson_source.specs.Slice.Laws.{line_bound, column_bound, shown_once};
 ghost use Rattle.tinyjson_source.specs.Slice.Laws.{shown_first, nothing_left};
 
@@ -26,7 +26,7 @@ pub struct TextBytes<'a> {
 impl<'a> TextBytes<'a> {
     /// The source that gives all characters of the text.
     pub fn new(text: &'a str) -> Self
-        ensures gives { behind result.text.now result.at ≡ chars text.now }
+        ensures gives { chars_after result.text.now result.at ≡ chars text.now }
         ensures start { advance origin (before result.text.now result.at) ≡ origin }
     {
         TextBytes { text, at: 0 }
@@ -34,7 +34,7 @@ impl<'a> TextBytes<'a> {
 
     /// Passes over white space, and shows what follows it. One space alone needs no search.
     #[inline(always)]
-    fn behind_white(&mut self) -> Option<char>
+    fn pass_white(&mut self) -> Option<char>
         ensures text { self.new.text.now ≡ self.old.text.now }
         ensures at { self.new.at ≡ run_end is_white self.old.text.now self.old.at }
         ensures next { NextChar self.new.text.now self.new.at result }
@@ -47,12 +47,12 @@ impl<'a> TextBytes<'a> {
                 return Some(byte as char);
             }
         }
-        self.behind_run()
+        self.pass_run()
     }
 
     /// The same for a run of any length.
     #[inline(never)]
-    fn behind_run(&mut self) -> Option<char>
+    fn pass_run(&mut self) -> Option<char>
         ensures text { self.new.text.now ≡ self.old.text.now }
         ensures at { self.new.at ≡ run_end is_white self.old.text.now self.old.at }
         ensures next { NextChar self.new.text.now self.new.at result }
@@ -79,14 +79,14 @@ impl<'a> TextBytes<'a> {
 
 impl<'a> Source for TextBytes<'a> {
     ghost sight = { record {
-      gives = λ p zs. zs ≡ behind p.text.now p.at;
-      shows = λ p o. slice_get (behind p.text.now p.at) 0 ≡ o;
+      gives = λ p zs. zs ≡ chars_after p.text.now p.at;
+      shows = λ p o. slice_get (chars_after p.text.now p.at) 0 ≡ o;
       place = λ p. advance origin (before p.text.now p.at);
       line_fits = λ p. line_bound (before p.text.now p.at);
       column_fits = λ p. column_bound (before p.text.now p.at);
-      one = λ p. shown_once (behind p.text.now p.at);
-      first = λ p. shown_first (behind p.text.now p.at);
-      none = λ p. nothing_left (behind p.text.now p.at);
+      one = λ p. shown_once (chars_after p.text.now p.at);
+      first = λ p. shown_first (chars_after p.text.now p.at);
+      none = λ p. nothing_left (chars_after p.text.now p.at);
     } };
 
     ghost left = { λ p. length p.text.now - p.at };
@@ -113,7 +113,7 @@ impl<'a> Source for TextBytes<'a> {
         if self.at < bytes.len() && bytes[self.at] > b' ' && bytes[self.at] < 128 {
             return Some(bytes[self.at] as char);
         }
-        self.behind_white()
+        self.pass_white()
     }
 
     fn plain(&mut self, string: &mut String) -> Result<(), AllocError> {

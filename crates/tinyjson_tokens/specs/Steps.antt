@@ -54,9 +54,9 @@ module _ (limit : Option ℕ) where
   outcome (next fs p) xs = run (strictly limit) fs p xs
   outcome (stop k b) xs = refused k xs
 
-  abbrev pub behind : Next → List ℕ → Next
-  behind n [] = n
-  behind n (c ∷ cs) = behind (onward n c) cs
+  abbrev pub after_all : Next → List ℕ → Next
+  after_all n [] = n
+  after_all n (c ∷ cs) = after_all (onward n c) cs
 
   -- they do the same at what comes next
   abbrev pub Same : Next → Next → List ℕ → Type 0
@@ -79,8 +79,8 @@ module _ (limit : Option ℕ) where
     pub front : List ℕ
     pub late : List ℕ
     pub whole : xs ≡ front ++ late
-    pub goes : IsNext (behind n front)
-    pub ends : IsLate (behind n front) late
+    pub goes : IsNext (after_all n front)
+    pub ends : IsLate (after_all n front) late
 
 module _ {S : Type 0} (sight : Sight S) (limit : Option ℕ) where
   -- A call took some characters from p and left q: the machine went from n to m.

@@ -62,21 +62,21 @@ impl<'a> Tokens for TextBytes<'a> {
 
     fn numeral(&self) -> Option<(NumberParts<'_>, Self)> {
         let (parts, end) = parts_at(self.text.as_bytes(), self.at)?;
-        let behind = TextBytes {
+        let after = TextBytes {
             text: self.text,
             at: end,
         };
-        Some((parts, behind))
+        Some((parts, after))
     }
 
     fn scientific(&self, alloc: Global) -> Option<(JsonNumber, Self)> {
         let (parts, end) = scientific_at(self.text.as_bytes(), self.at)?;
-        let behind = TextBytes {
+        let after = TextBytes {
             text: self.text,
             at: end,
         };
         match JsonNumber::from_parts(alloc, parts) {
-            Ok(number) => Some((number, behind)),
+            Ok(number) => Some((number, after)),
             Err(_) => None,
         }
     }

@@ -30,10 +30,10 @@ fn repeated(
     alloc: Global,
     before: &str,
     (part, size): (&str, usize),
-    behind: &str,
+    after: &str,
 ) -> Result<String, Fail> {
     let parts = part.repeat(alloc, size)?;
-    Ok(format!(in alloc; "{before}{parts}{behind}")?)
+    Ok(format!(in alloc; "{before}{parts}{after}")?)
 }
 
 /// What a conversion to the type of the value's kind gives, as a value again.

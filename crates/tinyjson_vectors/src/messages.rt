@@ -168,11 +168,11 @@ fn each_character_is_shown(rt: HostRuntime) -> Result<(), Fail> {
     let alloc = rt.alloc();
     for &(c, shown) in SHOWN {
         let rest = if c == '\t' { CONTROL } else { VISIBLE };
-        for &(text, column, before, behind) in EACH.iter().chain(rest) {
+        for &(text, column, before, after) in EACH.iter().chain(rest) {
             let whole = format!(in alloc; "{text}{c}")?;
             let answer = parsed(alloc, whole.as_str());
             let message = format!(in alloc;
-                "Parse error at line:1, col:{column}: {before}{shown}{behind}"
+                "Parse error at line:1, col:{column}: {before}{shown}{after}"
             )?;
             assert!(rt; is_told(alloc, answer, message.as_str())?, "{message}");
         }

@@ -11,7 +11,7 @@ use Rattle.tinyjson.specs.Error.{error_position}
 use Rattle.tinyjson_grammar.specs.Grammar.{IsText, IsAccepted}
 use Rattle.tinyjson_grammar.specs.Machine.{Frame, Phase, State, Next, next, stop, awaited, finished, accepted, refused, step, end, run, reach, reach_on, strictly}
 use Rattle.tinyjson_grammar.specs.Position.{advance, origin}
-use Rattle.tinyjson_tokens.specs.Steps.{IsNext, IsLate, IsHeld, Leads, Halts, Refuses, behind, onward, outcome}
+use Rattle.tinyjson_tokens.specs.Steps.{IsNext, IsLate, IsHeld, Leads, Halts, Refuses, after_all, onward, outcome}
 use Rattle.tinyjson.specs.private.Steps.{ReadsText, Grows}
 use Rattle.tinyjson_grammar.specs.Refusal.{IsInterrupted, IsRefusal, MayGrow, RefusalSays}
 use Rattle.tinyjson_grammar.specs.Tree.{Tree}
@@ -30,21 +30,21 @@ end_finished limit t = refl
 -- ---- out of memory
 
 module _ (limit : Option ℕ) where
-  behind_stop : (k : JsonParseErrorKind) (b : Bool) (xs : List ℕ) → IsNext (behind limit (stop k b) xs) → ⊥
-  behind_stop k b [] h = h
-  behind_stop k b (c ∷ cs) h = behind_stop k false cs h
+  after_stop : (k : JsonParseErrorKind) (b : Bool) (xs : List ℕ) → IsNext (after_all limit (stop k b) xs) → ⊥
+  after_stop k b [] h = h
+  after_stop k b (c ∷ cs) h = after_stop k false cs h
 
-  behind_reach : (fs : List Frame) (p : Phase) (xs : List ℕ) → IsNext (behind limit (next fs p) xs)
-      → (s : State) × (reach (strictly limit) fs p xs ≡ Some s) × (behind limit (next fs p) xs ≡ next s.frames s.phase)
+  after_reach : (fs : List Frame) (p : Phase) (xs : List ℕ) → IsNext (after_all limit (next fs p) xs)
+      → (s : State) × (reach (strictly limit) fs p xs ≡ Some s) × (after_all limit (next fs p) xs ≡ next s.frames s.phase)
   unfolding reach
-  behind_reach fs p [] h = (record { frames = fs; phase = p }, refl, refl)
-  behind_reach fs p (c ∷ cs) h = go (step (strictly limit) fs p c) h (λ gs q. behind_reach gs q cs)
+  after_reach fs p [] h = (record { frames = fs; phase = p }, refl, refl)
+  after_reach fs p (c ∷ cs) h = go (step (strictly limit) fs p c) h (λ gs q. after_reach gs q cs)
     where
-      go : (n : Next) → IsNext (behind limit n cs)
-          → ((gs : List Frame) (q : Phase) → IsNext (behind limit (next gs q) cs) → (s : State) × (reach (strictly limit) gs q cs ≡ Some s) × (behind limit (next gs q) cs ≡ next s.frames s.phase))
-          → (s : State) × (reach_on (λ gs q. reach (strictly limit) gs q cs) n ≡ Some s) × (behind limit n cs ≡ next s.frames s.phase)
+      go : (n : Next) → IsNext (after_all limit n cs)
+          → ((gs : List Frame) (q : Phase) → IsNext (after_all limit (next gs q) cs) → (s : State) × (reach (strictly limit) gs q cs ≡ Some s) × (after_all limit (next gs q) cs ≡ next s.frames s.phase))
+          → (s : State) × (reach_on (λ gs q. reach (strictly limit) gs q cs) n ≡ Some s) × (after_all limit n cs ≡ next s.frames s.phase)
       go (next gs q) h more = more gs q h
-      go (stop k b) h more = absurd (behind_stop k b cs h)
+      go (stop k b) h more = absurd (after_stop k b cs h)
 
 pub all_front : (xs ys : List ℕ) → All IsScalar (xs ++ ys) → All IsScalar xs
 all_front [] ys h k d l = absurd (omega (arith, l))
@@ -59,13 +59,13 @@ module _ (limit : Option ℕ) where
   held_interrupted : (xs : List ℕ) → All IsScalar xs → IsHeld limit (next [] awaited) xs → IsInterrupted limit xs
   held_interrupted xs a h = go h.late h.whole h.ends
     where
-      go : (late : List ℕ) → xs ≡ h.front ++ late → IsLate limit (behind limit (next [] awaited) h.front) late → IsInterrupted limit xs
+      go : (late : List ℕ) → xs ≡ h.front ++ late → IsLate limit (after_all limit (next [] awaited) h.front) late → IsInterrupted limit xs
       go [] e s =
           let same : xs ≡ h.front = e ∙ append-nil h.front in
-          let r = behind_reach limit [] awaited h.front h.goes in
+          let r = after_reach limit [] awaited h.front h.goes in
           subst (IsInterrupted limit) (sym same) (interrupted ranges limit h.front (subst (All IsScalar) same a) r.0 r.1)
       go (c ∷ []) e s =
-          let r = behind_reach limit [] awaited h.front h.goes in
+          let r = after_reach limit [] awaited h.front h.goes in
           let b = subst (All IsScalar) e a in
           let stops = sym (ap (λ z. onward limit z c) r.2) ∙ s in
           subst (IsInterrupted limit) (sym e) (interrupted_late ranges limit h.front (all_front h.front (c ∷ []) b) r.0 r.1 c (all_rest h.front (c ∷ []) b 0 0 (omega arith)) stops)

@@ -14,8 +14,8 @@ use Rattle.tinyjson_grammar.specs.Kind.{kind_of}
 use Rattle.tinyjson_grammar.specs.declared.error.JsonParseErrorKind.TheVariants.{KeyNotString, ExpectedColon}
 use Rattle.tinyjson.proofs.Reading.Containers.{no_key, colon_read, colon_other, object_comma}
 use Rattle.tinyjson_tokens.proofs.Callers.{Leads_whites, Halts_here, white_after}
-use Rattle.tinyjson.specs.declared.parser.stack.Container.{Container}
-use Rattle.tinyjson.specs.declared.parser.stack.Container.TheVariants as container
+use Rattle.tinyjson.specs.declared.parser.stack.Frame.{Frame as StackFrame}
+use Rattle.tinyjson.specs.declared.parser.stack.Frame.TheVariants as frame
 use Rattle.tinyjson.specs.declared.parser.stack.Stack.{Stack}
 use Rattle.tinyjson.specs.declared.value.JsonValue.{JsonValue}
 
@@ -72,29 +72,29 @@ module _ {T : Type 0} (n : ℕ) (xs ys : List T) (h : n ≤ length xs) (e : ys �
 
 -- ---- a value that is whole
 
-pub whole_last : (os : List Container) (vs : List JsonValue) (v : JsonValue) (ks : Keys) (ms : List JsonMap) → whole_over os (reverse (vs ++ v ∷ [])) ks ms ≡ complete true (frames_over os vs ks ms) (view v) true
+pub whole_last : (os : List StackFrame) (vs : List JsonValue) (v : JsonValue) (ks : Keys) (ms : List JsonMap) → whole_over os (reverse (vs ++ v ∷ [])) ks ms ≡ complete true (frames_over os vs ks ms) (view v) true
 whole_last os vs v ks ms = ap (λ us. whole_over os us ks ms) (reverse-append vs (v ∷ [])) ∙ ap (λ us. complete true (frames_over os us ks ms) (view v) true) (reverse-reverse vs)
 
 -- an array has it as its last item
-pub whole_item : (n : ℕ) (os : List Container) (vs : List JsonValue) (v : JsonValue) (ks : Keys) (ms : List JsonMap) → n ≤ length vs
-    → whole_over (container.Array n ∷ os) (reverse (vs ++ v ∷ [])) ks ms ≡ next (frames_over (container.Array n ∷ os) (vs ++ v ∷ []) ks ms) after
+pub whole_item : (n : ℕ) (os : List StackFrame) (vs : List JsonValue) (v : JsonValue) (ks : Keys) (ms : List JsonMap) → n ≤ length vs
+    → whole_over (frame.Array n ∷ os) (reverse (vs ++ v ∷ [])) ks ms ≡ next (frames_over (frame.Array n ∷ os) (vs ++ v ∷ []) ks ms) after
 whole_item n os vs v ks ms h =
-    whole_last (container.Array n ∷ os) vs v ks ms
+    whole_last (frame.Array n ∷ os) vs v ks ms
     ∙ ap₂ (λ ts us. next (in_array ts ∷ frames_over os us ks ms) after) (sym (ap (map view) (drop-append-le n vs (v ∷ []) h) ∙ map-append view (drop n vs) (v ∷ []))) (sym (take-append-le n vs (v ∷ []) h))
 
 -- an object has it as the value of its last key
-pub whole_member : (n m : ℕ) (os : List Container) (vs : List JsonValue) (v : JsonValue) (ks : Keys) (ms : List JsonMap) → n ≤ length vs → m ≤ length ks → length ks + n ≡ suc (length vs + m)
-    → whole_over (container.Member n m ∷ os) (reverse (vs ++ v ∷ [])) ks ms ≡ next (frames_over (container.Object n m ∷ os) (vs ++ v ∷ []) ks ms) after
+pub whole_member : (n m : ℕ) (os : List StackFrame) (vs : List JsonValue) (v : JsonValue) (ks : Keys) (ms : List JsonMap) → n ≤ length vs → m ≤ length ks → length ks + n ≡ suc (length vs + m)
+    → whole_over (frame.Member n m ∷ os) (reverse (vs ++ v ∷ [])) ks ms ≡ next (frames_over (frame.Object n m ∷ os) (vs ++ v ∷ []) ks ms) after
 whole_member n m os vs v ks ms h k e =
     let more : length (drop m ks) ≡ suc (length (drop n vs)) = length-drop m ks ∙ omega (arith, h, k, e) ∙ ap suc (sym (length-drop n vs)) in
-    whole_last (container.Member n m ∷ os) vs v ks ms
+    whole_last (frame.Member n m ∷ os) vs v ks ms
     ∙ ap₂ (λ ns us. next (at_key ns ∷ frames_over os us (take m ks) (other_maps ms)) after)
     (sym (ap (gather (own_members ms) (drop m ks)) (drop-append-le n vs (v ∷ []) h) ∙ gather_value (own_members ms) (drop m ks) (drop n vs) v more)) (sym (take-append-le n vs (v ∷ []) h))
 
 -- ---- a container that begins
 
-pub frames_object : (os : List Container) (vs : List JsonValue) (ks : Keys) (ms ns : List JsonMap) → own_members ns ≡ no_members → other_maps ns ≡ ms
-    → frames_over (container.Object (length vs) (length ks) ∷ os) vs ks ns ≡ at_key no_members ∷ frames_over os vs ks ms
+pub frames_object : (os : List StackFrame) (vs : List JsonValue) (ks : Keys) (ms ns : List JsonMap) → own_members ns ≡ no_members → other_maps ns ≡ ms
+    → frames_over (frame.Object (length vs) (length ks) ∷ os) vs ks ns ≡ at_key no_members ∷ frames_over os vs ks ms
 frames_object os vs ks ms ns own others =
     ap₂ (λ ds es. at_key (gather (own_members ns) ds es) ∷ frames_over os (take (length vs) vs) (take (length ks) ks) (other_maps ns)) (drop-length ks) (drop-length vs)
     ∙ ap₂ (λ is js. at_key is ∷ frames_over os (take (length vs) vs) (take (length ks) ks) js) own others
@@ -102,8 +102,8 @@ frames_object os vs ks ms ns own others =
 
 -- ---- a key that is read
 
-pub frames_key : (n m : ℕ) (os : List Container) (vs : List JsonValue) (ks : Keys) (ms : List JsonMap) (k : String Global) → n ≤ length vs → m ≤ length ks → length ks + n ≡ length vs + m
-    → frames_over (container.Member n m ∷ os) vs (ks ++ k ∷ []) ms
+pub frames_key : (n m : ℕ) (os : List StackFrame) (vs : List JsonValue) (ks : Keys) (ms : List JsonMap) (k : String Global) → n ≤ length vs → m ≤ length ks → length ks + n ≡ length vs + m
+    → frames_over (frame.Member n m ∷ os) vs (ks ++ k ∷ []) ms
     ≡ at_value (gather (own_members ms) (drop m ks) (drop n vs)) (text k) ∷ frames_over os (take n vs) (take m ks) (other_maps ms)
 frames_key n m os vs ks ms k h i e =
     let same : length (drop m ks) ≡ length (drop n vs) = length-drop m ks ∙ omega (arith, h, i, e) ∙ sym (length-drop n vs) in
@@ -112,11 +112,11 @@ frames_key n m os vs ks ms k h i e =
 
 -- ---- the innermost container
 
-pub length_frames_over : (os : List Container) (vs : List JsonValue) (ks : Keys) (ms : List JsonMap) → length (frames_over os vs ks ms) ≡ length os
+pub length_frames_over : (os : List StackFrame) (vs : List JsonValue) (ks : Keys) (ms : List JsonMap) → length (frames_over os vs ks ms) ≡ length os
 length_frames_over [] vs ks ms = refl
-length_frames_over (container.Array n ∷ os) vs ks ms = ap suc (length_frames_over os (take n vs) ks ms)
-length_frames_over (container.Object n m ∷ os) vs ks ms = ap suc (length_frames_over os (take n vs) (take m ks) (other_maps ms))
-length_frames_over (container.Member n m ∷ os) vs ks ms = ap suc (length_frames_over os (take n vs) (take m ks) (other_maps ms))
+length_frames_over (frame.Array n ∷ os) vs ks ms = ap suc (length_frames_over os (take n vs) ks ms)
+length_frames_over (frame.Object n m ∷ os) vs ks ms = ap suc (length_frames_over os (take n vs) (take m ks) (other_maps ms))
+length_frames_over (frame.Member n m ∷ os) vs ks ms = ap suc (length_frames_over os (take n vs) (take m ks) (other_maps ms))
 
 pub length_frames : (s : Stack) → length (frames s) ≡ length s.containers.items
 length_frames s = length_frames_over (open_of s) s.values.items s.keys.items (maps_of s) ∙ length-reverse s.containers.items
@@ -124,7 +124,7 @@ length_frames s = length_frames_over (open_of s) s.values.items s.keys.items (ma
 pub pushed : {T : Type 0} (xs : List T) (o : T) → reverse (xs ++ o ∷ []) ≡ o ∷ reverse xs
 pushed xs o = reverse-append xs (o ∷ [])
 
-pub popped : (old new : List Container) (o : Container) (os : List Container) → reverse old ≡ o ∷ os → new ≡ take (length old - 1) old → reverse new ≡ os
+pub popped : (old new : List StackFrame) (o : StackFrame) (os : List StackFrame) → reverse old ≡ o ∷ os → new ≡ take (length old - 1) old → reverse new ≡ os
 popped old new o os e h =
     let whole : old ≡ reverse os ++ o ∷ [] = sym (reverse-reverse old) ∙ ap reverse e ∙ reverse-append (o ∷ []) os in
     let size : length old ≡ length (reverse os) + 1 = ap length whole ∙ length-append (reverse os) (o ∷ []) in
@@ -140,8 +140,8 @@ awaits_key s a =
 
 -- ---- an array after an item
 
-module _ (s : Stack) (w : HasWhole s) (n : ℕ) (os : List Container) (i : open_of s ≡ container.Array n ∷ os) where
-  array_lies : Lies (container.Array n ∷ os) (length w.front) (length s.keys.items)
+module _ (s : Stack) (w : HasWhole s) (n : ℕ) (os : List StackFrame) (i : open_of s ≡ frame.Array n ∷ os) where
+  array_lies : Lies (frame.Array n ∷ os) (length w.front) (length s.keys.items)
   array_lies = subst (λ ps. Lies ps (length w.front) (length s.keys.items)) i w.lies
 
   array_frames : frames s ≡ in_array (map view (drop n s.values.items)) ∷ frames_over os (take n s.values.items) s.keys.items (maps_of s)
@@ -157,7 +157,7 @@ module _ (s : Stack) (w : HasWhole s) (n : ℕ) (os : List Container) (i : open_
   array_whole =
       ap₂ (λ ps ws. whole_over ps (reverse ws) s.keys.items (maps_of s)) i w.values
       ∙ whole_item n os w.front w.last s.keys.items (maps_of s) array_lies.0
-      ∙ ap (λ ws. next (frames_over (container.Array n ∷ os) ws s.keys.items (maps_of s)) after) (sym w.values)
+      ∙ ap (λ ws. next (frames_over (frame.Array n ∷ os) ws s.keys.items (maps_of s)) after) (sym w.values)
 
   pub array_stays : next (frames s) awaited ≡ next (in_array (map view (drop n s.values.items)) ∷ frames_over os (take n s.values.items) s.keys.items (maps_of s)) awaited
   array_stays = ap (λ fs. next fs awaited) array_frames
@@ -176,8 +176,8 @@ module _ (s : Stack) (w : HasWhole s) (n : ℕ) (os : List Container) (i : open_
 
 -- ---- an object after a member
 
-module _ (s : Stack) (w : HasWhole s) (n m : ℕ) (os : List Container) (i : open_of s ≡ container.Member n m ∷ os) where
-  member_lies : Lies (container.Member n m ∷ os) (length w.front) (length s.keys.items)
+module _ (s : Stack) (w : HasWhole s) (n m : ℕ) (os : List StackFrame) (i : open_of s ≡ frame.Member n m ∷ os) where
+  member_lies : Lies (frame.Member n m ∷ os) (length w.front) (length s.keys.items)
   member_lies = subst (λ ps. Lies ps (length w.front) (length s.keys.items)) i w.lies
 
   member_size : length s.values.items ≡ length w.front + 1
@@ -189,11 +189,11 @@ module _ (s : Stack) (w : HasWhole s) (n m : ℕ) (os : List Container) (i : ope
   pub member_keys : m ≤ length s.keys.items
   member_keys = member_lies.1
 
-  pub member_whole : at s true ≡ next (frames_over (container.Object n m ∷ os) s.values.items s.keys.items (maps_of s)) after
+  pub member_whole : at s true ≡ next (frames_over (frame.Object n m ∷ os) s.values.items s.keys.items (maps_of s)) after
   member_whole =
       ap₂ (λ ps ws. whole_over ps (reverse ws) s.keys.items (maps_of s)) i w.values
       ∙ whole_member n m os w.front w.last s.keys.items (maps_of s) member_lies.0 member_lies.1 member_lies.2
-      ∙ ap (λ ws. next (frames_over (container.Object n m ∷ os) ws s.keys.items (maps_of s)) after) (sym w.values)
+      ∙ ap (λ ws. next (frames_over (frame.Object n m ∷ os) ws s.keys.items (maps_of s)) after) (sym w.values)
 
   pub closes_object : (new : Stack) (v : JsonValue) → open_of new ≡ os → new.values.items ≡ take n s.values.items → new.keys.items ≡ take m s.keys.items → maps_of new ≡ other_maps (maps_of s)
       → view v ≡ object (gather (own_members (maps_of s)) (drop m s.keys.items) (drop n s.values.items)) → ClosesObject s new v
@@ -229,14 +229,14 @@ module _ (s : Stack) (a : AwaitsKey s) where
     key_other w n = ap (λ fs. onward limit (next fs (colon k)) c) key_frames ∙ colon_other limit _ _ k c w n
 
 pub member_begins : (limit : Option ℕ) (old new : Stack) (k : List ℕ) (c : ℕ) → BeginsMember old new k → c ≡ 58 → onward limit (next (frames old) (colon k)) c ≡ next (frames new) awaited
-member_begins limit old new k c b e = ap (λ fs. onward limit (next fs (colon k)) c) b.before ∙ colon_read limit b.outer b.members k c e ∙ ap (λ fs. next fs awaited) (sym b.behind)
+member_begins limit old new k c b e = ap (λ fs. onward limit (next fs (colon k)) c) b.before ∙ colon_read limit b.outer b.members k c e ∙ ap (λ fs. next fs awaited) (sym b.awaits_value)
 
 -- a value that is no key is whole without an error
-pub value_taken : (os : List Container) (vs : List JsonValue) (ks : Keys) (ms : List JsonMap) (t : Tree) → TakesValue os → IsNext (complete true (frames_over os vs ks ms) t true)
+pub value_taken : (os : List StackFrame) (vs : List JsonValue) (ks : Keys) (ms : List JsonMap) (t : Tree) → TakesValue os → IsNext (complete true (frames_over os vs ks ms) t true)
 value_taken [] vs ks ms t h = tt
-value_taken (container.Array n ∷ os) vs ks ms t h = tt
-value_taken (container.Object n m ∷ os) vs ks ms t h = absurd h
-value_taken (container.Member n m ∷ os) vs ks ms t h = tt
+value_taken (frame.Array n ∷ os) vs ks ms t h = tt
+value_taken (frame.Object n m ∷ os) vs ks ms t h = absurd h
+value_taken (frame.Member n m ∷ os) vs ks ms t h = tt
 
 -- ---- white space after a value
 

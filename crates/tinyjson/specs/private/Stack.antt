@@ -5,8 +5,8 @@ use Rattle.tinyjson_grammar.specs.Tree.{Tree, array, object, items_of, Members, 
 use Rattle.tinyjson.specs.Access.{JsonMap}
 use Rattle.tinyjson.specs.View.{view, text, members_view}
 use Rattle.tinyjson_grammar.specs.Machine.{Frame, in_array, at_key, at_value, awaited, after, Next, next, complete}
-use Rattle.tinyjson.specs.declared.parser.stack.Container.{Container}
-use Rattle.tinyjson.specs.declared.parser.stack.Container.TheVariants as container
+use Rattle.tinyjson.specs.declared.parser.stack.Frame.{Frame as StackFrame}
+use Rattle.tinyjson.specs.declared.parser.stack.Frame.TheVariants as frame
 use Rattle.tinyjson.specs.declared.parser.stack.Stack.{Stack}
 use Rattle.tinyjson.specs.declared.value.JsonValue.{JsonValue}
 
@@ -33,37 +33,37 @@ other_maps (m ∷ ms) = ms
 
 -- open containers as frames, the innermost first: each has the values and keys from its places on, and an
 -- object the members of its map before them
-abbrev pub frames_over : List Container → List JsonValue → List (String Global) → List JsonMap → List Frame
+abbrev pub frames_over : List StackFrame → List JsonValue → List (String Global) → List JsonMap → List Frame
 frames_over [] vs ks ms = []
-frames_over (container.Array n ∷ os) vs ks ms = in_array (map view (drop n vs)) ∷ frames_over os (take n vs) ks ms
-frames_over (container.Object n m ∷ os) vs ks ms =
+frames_over (frame.Array n ∷ os) vs ks ms = in_array (map view (drop n vs)) ∷ frames_over os (take n vs) ks ms
+frames_over (frame.Object n m ∷ os) vs ks ms =
     at_key (gather (own_members ms) (drop m ks) (drop n vs)) ∷ frames_over os (take n vs) (take m ks) (other_maps ms)
-frames_over (container.Member n m ∷ os) vs ks ms =
+frames_over (frame.Member n m ∷ os) vs ks ms =
     at_value (gather (own_members ms) (drop m ks) (drop n vs)) (waiting (drop m ks) (drop n vs))
     ∷ frames_over os (take n vs) (take m ks) (other_maps ms)
 
 -- the last value is whole, and not yet part of its container
-abbrev pub whole_over : List Container → List JsonValue → List (String Global) → List JsonMap → Next
+abbrev pub whole_over : List StackFrame → List JsonValue → List (String Global) → List JsonMap → Next
 whole_over os [] ks ms = next [] awaited
 whole_over os (v ∷ vs) ks ms = complete true (frames_over os (reverse vs) ks ms) (view v) true
 
 -- so many values and keys: each container begins within what those around it leave; an object that awaits a
 -- key has a key for each of its values, and one that awaits a value has one more
-abbrev pub Lies : List Container → ℕ → ℕ → Type 0
+abbrev pub Lies : List StackFrame → ℕ → ℕ → Type 0
 Lies [] v k = ⊤
-Lies (container.Array n ∷ os) v k = (n ≤ v) × Lies os n k
-Lies (container.Object n m ∷ os) v k = (n ≤ v) × (m ≤ k) × (k + n ≡ v + m) × Lies os n m
-Lies (container.Member n m ∷ os) v k = (n ≤ v) × (m ≤ k) × (k + n ≡ suc (v + m)) × Lies os n m
+Lies (frame.Array n ∷ os) v k = (n ≤ v) × Lies os n k
+Lies (frame.Object n m ∷ os) v k = (n ≤ v) × (m ≤ k) × (k + n ≡ v + m) × Lies os n m
+Lies (frame.Member n m ∷ os) v k = (n ≤ v) × (m ≤ k) × (k + n ≡ suc (v + m)) × Lies os n m
 
 -- no object awaits a key
-abbrev pub TakesValue : List Container → Type 0
+abbrev pub TakesValue : List StackFrame → Type 0
 TakesValue [] = ⊤
-TakesValue (container.Array n ∷ os) = ⊤
-TakesValue (container.Object n m ∷ os) = ⊥
-TakesValue (container.Member n m ∷ os) = ⊤
+TakesValue (frame.Array n ∷ os) = ⊤
+TakesValue (frame.Object n m ∷ os) = ⊥
+TakesValue (frame.Member n m ∷ os) = ⊤
 
 -- the innermost first
-abbrev pub open_of : Stack → List Container
+abbrev pub open_of : Stack → List StackFrame
 open_of s = reverse s.containers.items
 
 abbrev pub maps_of : Stack → List JsonMap
@@ -90,18 +90,18 @@ IsSound s false = Lies (open_of s) (length s.values.items) (length s.keys.items)
 IsSound s true = HasWhole s
 
 -- the container that was opened last
-abbrev pub Innermost : Stack → Container → Type 0
-Innermost s o = (os : List Container) × (open_of s ≡ o ∷ os)
+abbrev pub Innermost : Stack → StackFrame → Type 0
+Innermost s o = (os : List StackFrame) × (open_of s ≡ o ∷ os)
 
 abbrev pub AwaitsKey : Stack → Type 0
-AwaitsKey s = (n : ℕ) × (m : ℕ) × Innermost s (container.Object n m)
+AwaitsKey s = (n : ℕ) × (m : ℕ) × Innermost s (frame.Object n m)
 
 -- the innermost object was given a key
 pub record BeginsMember (old new : Stack) (key : List ℕ) : Type 0 where
   pub members : Members
   pub outer : List Frame
   pub before : frames old ≡ at_key members ∷ outer
-  pub behind : frames new ≡ at_value members key ∷ outer
+  pub awaits_value : frames new ≡ at_value members key ∷ outer
 
 -- the innermost container, after its last value, was closed, and this is its value
 pub record ClosesArray (old new : Stack) (v : JsonValue) : Type 0 where

@@ -6,11 +6,11 @@ ghost use Rattle.tinyjson.specs.private.Stack.{at, frames, AwaitsKey, Innermost,
 ghost use Rattle.tinyjson_tokens.specs.Steps.{Reads};
 ghost use Rattle.tinyjson_grammar.specs.Tree.{number};
 ghost use Rattle.tinyjson.specs.View.{view, text};
-ghost use Rattle.tinyjson.specs.declared.parser.stack.Container.TheVariants as container;
+ghost use Rattle.tinyjson.specs.declared.parser.stack.Frame.TheVariants as frame;
 
 use super::error::JsonParseErrorKind;
 use super::reader::Reader;
-use super::stack::{Container, Stack};
+use super::stack::{Frame, Stack};
 use crate::value::{JsonKind, JsonValue};
 use std::collections::HashMap;
 use tinyjson_number::JsonNumber;
@@ -104,7 +104,7 @@ impl<S: Tokens> Reader<S> {
         ensures sound { IfOk result (IsSound stack.new) }
         ensures left { OnOk result (S.left self.new.tokens.source ≤ S.left self.old.tokens.source) }
     {
-        if let Some(Container::Object { .. }) = stack.innermost() {
+        if let Some(Frame::Object { .. }) = stack.innermost() {
             return self.use_as_key(stack, value);
         }
         if stack.push(value).is_err() {
@@ -127,7 +127,7 @@ impl<S: Tokens> Reader<S> {
         ensures sound { IfOk result (IsSound stack.new) }
         ensures left { OnOk result (S.left self.new.tokens.source ≤ S.left self.old.tokens.source) }
     {
-        if let Some(Container::Object { .. }) = stack.innermost() {
+        if let Some(Frame::Object { .. }) = stack.innermost() {
             return Err(JsonParseErrorKind::KeyNotString(JsonKind::Number));
         }
         if stack.push_number(decimal).is_err() {
@@ -211,7 +211,7 @@ impl<S: Tokens> Reader<S> {
     /// Reads a comma or the bracket that closes the array, after an item.
     fn after_item(&mut self, stack: &mut Stack, values: usize) -> Result<bool, JsonParseErrorKind>
         requires sound { IsSound stack.old true }
-        requires array { Innermost stack.old (container.Array values) }
+        requires array { Innermost stack.old (frame.Array values) }
         ensures reads { (limit : Option ℕ) → Reads S.sight limit self.old.tokens.source
             (at stack.old true) result (at stack.new) self.new.tokens.source }
         ensures sound { IfOk result (IsSound stack.new) }
@@ -245,7 +245,7 @@ impl<S: Tokens> Reader<S> {
         keys: usize,
     ) -> Result<bool, JsonParseErrorKind>
         requires sound { IsSound stack.old true }
-        requires member { Innermost stack.old (container.Member values keys) }
+        requires member { Innermost stack.old (frame.Member values keys) }
         ensures reads { (limit : Option ℕ) → Reads S.sight limit self.old.tokens.source
             (at stack.old true) result (at stack.new) self.new.tokens.source }
         ensures sound { IfOk result (IsSound stack.new) }
@@ -278,19 +278,19 @@ impl<S: Tokens> Reader<S> {
     pub(super) fn after(
         &mut self,
         stack: &mut Stack,
-        container: Container,
+        frame: Frame,
     ) -> Result<bool, JsonParseErrorKind>
         requires sound { IsSound stack.old true }
-        requires innermost { Innermost stack.old container }
+        requires innermost { Innermost stack.old frame }
         ensures reads { (limit : Option ℕ) → Reads S.sight limit self.old.tokens.source
             (at stack.old true) result (at stack.new) self.new.tokens.source }
         ensures sound { IfOk result (IsSound stack.new) }
         ensures left { OnOk result (S.left self.new.tokens.source < S.left self.old.tokens.source) }
     {
-        match container {
-            Container::Array { values } => self.after_item(stack, values),
-            Container::Member { values, keys } => self.after_member(stack, values, keys),
-            Container::Object { .. } => unreachable!(),
+        match frame {
+            Frame::Array { values } => self.after_item(stack, values),
+            Frame::Member { values, keys } => self.after_member(stack, values, keys),
+            Frame::Object { .. } => unreachable!(),
         }
     }
 }

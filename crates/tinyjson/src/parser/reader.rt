@@ -105,9 +105,9 @@ impl<S: Tokens> Reader<S> {
         ensures sound { IfOk result (IsSound stack.new) }
         ensures left { OnOk result (S.left self.new.tokens.source < S.left self.old.tokens.source) }
     {
-        if let Some((parts, behind)) = self.tokens.source.numeral() {
+        if let Some((parts, after)) = self.tokens.source.numeral() {
             if let Ok(number) = JsonNumber::from_parts(self.tokens.alloc, parts) {
-                self.tokens.source = behind;
+                self.tokens.source = after;
                 return self.complete_number(stack, number);
             }
         }
@@ -124,8 +124,8 @@ impl<S: Tokens> Reader<S> {
         ensures sound { IfOk result (IsSound stack.new) }
         ensures left { OnOk result (S.left self.new.tokens.source < S.left self.old.tokens.source) }
     {
-        if let Some((number, behind)) = self.tokens.source.scientific(self.tokens.alloc) {
-            self.tokens.source = behind;
+        if let Some((number, after)) = self.tokens.source.scientific(self.tokens.alloc) {
+            self.tokens.source = after;
             return self.complete_number(stack, number);
         }
         let number = self.tokens.gathered_number()?;
@@ -269,7 +269,7 @@ impl<S: Tokens> Reader<S> {
             whole = match whole {
                 false => self.next(limit, stack)?,
                 true => match stack.innermost() {
-                    Some(container) => self.after(stack, container)?,
+                    Some(frame) => self.after(stack, frame)?,
                     None => return self.last(stack),
                 },
             };

@@ -9,7 +9,7 @@ ghost use Rattle.tinyjson.specs.private.Stack.{AwaitsKey, BeginsMember, ClosesAr
 ghost use Rattle.tinyjson.specs.private.Stack.{Innermost, IsSound, Lies, TakesValue};
 ghost use Rattle.tinyjson_grammar.specs.Tree.{no_members, number};
 ghost use Rattle.tinyjson.specs.View.{view, text, members_view};
-ghost use Rattle.tinyjson.specs.declared.parser.stack.Container.TheVariants as container;
+ghost use Rattle.tinyjson.specs.declared.parser.stack.Frame.TheVariants as frame;
 
 use crate::value::{JsonValue, add_member, insert_member};
 use std::alloc::{AllocError, Global};
@@ -17,9 +17,9 @@ use std::collections::HashMap;
 use std::mem;
 use tinyjson_number::JsonNumber;
 
-/// A container that was opened and not closed: where its values and its keys begin on the stack.
+/// A frame of the stack: a container that was opened and not closed, by where its values and its keys begin.
 #[derive(Clone, Copy)]
-pub(super) enum Container {
+pub(super) enum Frame {
     Array { values: usize },
     /// An object that awaits a key.
     Object { values: usize, keys: usize },
@@ -34,7 +34,7 @@ const MANY: usize = 64;
 #[derive(Drop)]
 pub(super) struct Stack {
     alloc: Global,
-    containers: Vec<Container>,
+    containers: Vec<Frame>,
     values: Vec<JsonValue>,
     keys: Vec<String>,
     /// A map for each object, with its first members if it has many. The outermost objects may lack theirs.
@@ -63,7 +63,7 @@ impl Stack {
     }
 
     /// The container that was opened last.
-    pub(super) fn innermost(&self) -> Option<Container>
+    pub(super) fn innermost(&self) -> Option<Frame>
         ensures { MatchOption result (open_of self.now ≡ []) (Innermost self.now) }
     {
         self.containers.last().copied()
@@ -119,7 +119,7 @@ impl Stack {
         ensures sound { OnOk result (IsSound self.new false) }
     {
         let values = self.values.len();
-        self.containers.push(Container::Array { values })?;
+        self.containers.push(Frame::Array { values })?;
         Ok(())
     }
 
@@ -132,7 +132,7 @@ impl Stack {
     {
         let (values, keys) = (self.values.len(), self.keys.len());
         self.open_map()?;
-        self.containers.push(Container::Object { values, keys })?;
+        self.containers.push(Frame::Object { values, keys })?;
         Ok(())
     }
 
@@ -159,25 +159,25 @@ impl Stack {
         ensures begins { OnOk result (BeginsMember self.old self.new (text key)) }
         ensures sound { OnOk result (IsSound self.new false) }
     {
-        let Some(Container::Object { values, keys }) = self.containers.pop() else {
+        let Some(Frame::Object { values, keys }) = self.containers.pop() else {
             unreachable!()
         };
         self.keys.push(key)?;
-        self.containers.push(Container::Member { values, keys })?;
+        self.containers.push(Frame::Member { values, keys })?;
         Ok(())
     }
 
     /// Gives the last key of the innermost object the value that is whole.
     pub(super) fn end_member(&mut self, values: usize, keys: usize) -> Result<(), AllocError>
         requires sound { IsSound self.old true }
-        requires member { Innermost self.old (container.Member values keys) }
+        requires member { Innermost self.old (frame.Member values keys) }
         ensures at { OnOk result (at self.old true ≡ next (frames self.new) after) }
         ensures sound { OnOk result (IsSound self.new false) }
         ensures awaits { OnOk result (AwaitsKey self.new) }
     {
         self.containers.pop();
         self.settle(values, keys)?;
-        self.containers.push(Container::Object { values, keys })?;
+        self.containers.push(Frame::Object { values, keys })?;
         Ok(())
     }
 
@@ -187,13 +187,13 @@ impl Stack {
         requires values { values ≤ length self.old.values.items }
         requires keys { keys ≤ length self.old.keys.items }
         requires count { length self.old.keys.items + values ≡ length self.old.values.items + keys }
-        ensures frames { (os : List container.the_data) →
-            OnOk result (frames_over (container.Object values keys ∷ os) self.new.values.items
+        ensures frames { (os : List frame.the_data) →
+            OnOk result (frames_over (frame.Object values keys ∷ os) self.new.values.items
             self.new.keys.items (maps_of self.new)
-            ≡ frames_over (container.Object values keys ∷ os) self.old.values.items
+            ≡ frames_over (frame.Object values keys ∷ os) self.old.values.items
             self.old.keys.items (maps_of self.old)) }
-        ensures lies { (os : List container.the_data) → Lies os values keys →
-            OnOk result (Lies (container.Object values keys ∷ os) (length self.new.values.items)
+        ensures lies { (os : List frame.the_data) → Lies os values keys →
+            OnOk result (Lies (frame.Object values keys ∷ os) (length self.new.values.items)
             (length self.new.keys.items)) }
         ensures containers { self.new.containers ≡ self.old.containers }
     {
@@ -209,13 +209,13 @@ impl Stack {
         requires values { values ≤ length self.old.values.items }
         requires keys { keys ≤ length self.old.keys.items }
         requires count { length self.old.keys.items + values ≡ length self.old.values.items + keys }
-        ensures frames { (os : List container.the_data) →
-            OnOk result (frames_over (container.Object values keys ∷ os) self.new.values.items
+        ensures frames { (os : List frame.the_data) →
+            OnOk result (frames_over (frame.Object values keys ∷ os) self.new.values.items
             self.new.keys.items (maps_of self.new)
-            ≡ frames_over (container.Object values keys ∷ os) self.old.values.items
+            ≡ frames_over (frame.Object values keys ∷ os) self.old.values.items
             self.old.keys.items (maps_of self.old)) }
-        ensures lies { (os : List container.the_data) → Lies os values keys →
-            OnOk result (Lies (container.Object values keys ∷ os) (length self.new.values.items)
+        ensures lies { (os : List frame.the_data) → Lies os values keys →
+            OnOk result (Lies (frame.Object values keys ∷ os) (length self.new.values.items)
             (length self.new.keys.items)) }
         ensures containers { self.new.containers ≡ self.old.containers }
     {
@@ -230,7 +230,7 @@ impl Stack {
     /// Closes the innermost array after its last item. It keeps no more memory than its items need.
     pub(super) fn close_array(&mut self, values: usize) -> Result<JsonValue, AllocError>
         requires sound { IsSound self.old true }
-        requires array { Innermost self.old (container.Array values) }
+        requires array { Innermost self.old (frame.Array values) }
         ensures { IfOk result (ClosesArray self.old self.new) }
     {
         self.containers.pop();
@@ -261,7 +261,7 @@ impl Stack {
         keys: usize,
     ) -> Result<JsonValue, AllocError>
         requires sound { IsSound self.old true }
-        requires member { Innermost self.old (container.Member values keys) }
+        requires member { Innermost self.old (frame.Member values keys) }
         ensures { IfOk result (ClosesObject self.old self.new) }
     {
         self.containers.pop();
@@ -333,7 +333,7 @@ impl Stack {
         if members.is_empty() && self.values.len() - values < MANY {
             return self.fill_empty(members, values, keys);
         }
-        self.fill_behind(members, values, keys)
+        self.fill_after(members, values, keys)
     }
 
     /// The same where the map has no members, the last member first, which is the last on the stack too.
@@ -366,7 +366,7 @@ impl Stack {
 
     /// The same after the members that the map has, the first member first.
     #[inline(never)]
-    fn fill_behind(
+    fn fill_after(
         &mut self,
         members: &mut HashMap<String, JsonValue>,
         values: usize,

@@ -11,7 +11,7 @@ use Rattle.std.proofs.lemmas.Str.{IsCharBoundary-after_ascii, chars-IsAscii, enc
 use Rattle.std.proofs.Math.Seq.{take-append_seam}
 use Rattle.tinyjson_grammar.specs.Characters.{is_hex, is_high, is_low, is_surrogate, pair_of, unit_of, paired, decode, short_escape}
 use Rattle.tinyjson_tokens.specs.Escape.{Stands, UnitAt, NoBackslash, EscapeAt}
-use Rattle.tinyjson_source.specs.Slice.{before, behind, NextChar}
+use Rattle.tinyjson_source.specs.Slice.{before, chars_after, NextChar}
 use Rattle.tinyjson_scan.specs.Scan.{is_plain}
 use Rattle.tinyjson_source.specs.Source.{TakesRun}
 use Rattle.tinyjson_grammar.specs.Position.{advance, origin}
@@ -212,8 +212,8 @@ module _ (text : List ℕ) (utf8 : IsUtf8 text) (at : ℕ) (first : IsCharBounda
       let n : to - at ≡ length e.taken = omega (arith, e.stands.long) in
       ap chars (ap₂ (λ k bs. take k bs) n e.stands.here ∙ take-append_seam e.taken (drop to text)) ∙ chars-IsAscii e.taken (small is_ascii ascii_small e.taken e.stands.ascii)
 
-  pub escape_comes : (limit : Option ℕ) (fs : List Frame) (cs : List ℕ) → Comes limit (next fs (quoted plain cs [])) e.taken (next fs (quoted plain (cs ++ c ∷ []) [])) (behind text to)
-  escape_comes limit fs cs = e.comes limit fs cs (behind text to) (λ w.
+  pub escape_comes : (limit : Option ℕ) (fs : List Frame) (cs : List ℕ) → Comes limit (next fs (quoted plain cs [])) e.taken (next fs (quoted plain (cs ++ c ∷ []) [])) (chars_after text to)
+  escape_comes limit fs cs = e.comes limit fs cs (chars_after text to) (λ w.
       let n = subst (NextChar text to) w (next_of text utf8 to escape_boundary) in
       ap (λ bs. slice_get bs 0) (n ∙ ap (λ bs. bs ++ drop (to + len_utf8 92) text) (encode_ascii 92 (omega arith))))
 
@@ -232,7 +232,7 @@ Leads_escape limit fs cs p q c e same =
           let x = step_gives text utf8 p.at q.at h p.boundary last e.taken one zs g in
           let n = next fs (quoted plain cs []) in
           let m = next fs (quoted plain (cs ++ c ∷ []) []) in
-          (x.0, x.1, x.2 ∙ ap (λ t. behind t q.at) (sym same), subst (Comes limit n e.taken m) (sym x.2) (escape_comes text utf8 p.at p.boundary c q.at e limit fs cs));
+          (x.0, x.1, x.2 ∙ ap (λ t. chars_after t q.at) (sym same), subst (Comes limit n e.taken m) (sym x.2) (escape_comes text utf8 p.at p.boundary c q.at e limit fs cs));
       moves = ap (λ t. advance origin (before t q.at)) same ∙ step_moves text utf8 p.at q.at h p.boundary last e.taken one;
     }
 

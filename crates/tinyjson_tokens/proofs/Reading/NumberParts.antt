@@ -196,11 +196,11 @@ module _ (n : Numeral) (text : List ℕ) (m : Marks) (has : Gathered n text) (at
   whole_at : take i text ≡ n.whole
   whole_at = ap (take i) (sym has.gathered) ∙ take_at n.whole (n.fraction ++ exponent_digits n.exponent) i (sym to_whole)
 
-  behind_whole : drop i text ≡ n.fraction ++ exponent_digits n.exponent
-  behind_whole = ap (drop i) (sym has.gathered) ∙ drop_at n.whole (n.fraction ++ exponent_digits n.exponent) i (sym to_whole)
+  from_fraction : drop i text ≡ n.fraction ++ exponent_digits n.exponent
+  from_fraction = ap (drop i) (sym has.gathered) ∙ drop_at n.whole (n.fraction ++ exponent_digits n.exponent) i (sym to_whole)
 
   fraction_at : take (j - i) (drop i text) ≡ n.fraction
-  fraction_at = ap (take (j - i)) behind_whole ∙ take_at n.fraction (exponent_digits n.exponent) (j - i) (omega (arith, to_whole, to_fraction))
+  fraction_at = ap (take (j - i)) from_fraction ∙ take_at n.fraction (exponent_digits n.exponent) (j - i) (omega (arith, to_whole, to_fraction))
 
   exponent_at : drop j text ≡ exponent_digits n.exponent
   exponent_at =

@@ -19,7 +19,7 @@ use Rattle.tinyjson_grammar.specs.Machine.{Frame, Next, next, stop, awaited, dig
 use Rattle.tinyjson_tokens.specs.NumberSteps.{all_digits, Part}
 use Rattle.tinyjson_tokens.specs.Numerals.{ShowsAt, EndsAt, EndsNumber, FractionAt, SignAt, ExponentAt, MantissaAt, IsGrammatical, NumeralAt, PartsAt, TakesNumeral}
 use Rattle.tinyjson_tokens.specs.declared.numerals.Mantissa.{Mantissa}
-use Rattle.tinyjson_source.specs.Slice.{before, behind, run_end, NextChar}
+use Rattle.tinyjson_source.specs.Slice.{before, chars_after, run_end, NextChar}
 use Rattle.tinyjson_source.specs.Source.{Sight}
 use Rattle.tinyjson_tokens.specs.Steps.{Comes, IsNext, IsTaken, Leads, onward}
 use Rattle.tinyjson_tokens.proofs.Reading.Number.{is_one, are_digits, begun, begun_next, begun_digit, begun_whole, pointed, pointed_next, pointed_digit, powered, powered_next, powered_digit, powered_whole, minus_begins, point_read, letter_read, sign_read, no_point, no_letter, digits_come, Leads_rest}
@@ -211,10 +211,10 @@ module _ (text : List ℕ) (utf8 : IsUtf8 text) (at : ℕ) (first : IsCharBounda
       (λ h. high_ends n c h)
       (cases_lt c 128)
 
-  numeral_follows : (o : Option ℕ) × (slice_get (behind text end) 0 ≡ o) × IfSome o (EndsNumber n)
-  numeral_follows = let o = slice_get (behind text end) 0 in (o, refl, numeral_ends o (next_of text utf8 end numeral_boundary))
+  numeral_follows : (o : Option ℕ) × (slice_get (chars_after text end) 0 ≡ o) × IfSome o (EndsNumber n)
+  numeral_follows = let o = slice_get (chars_after text end) 0 in (o, refl, numeral_ends o (next_of text utf8 end numeral_boundary))
 
-  numeral_gives : (zs : List ℕ) → zs ≡ behind text at → (more : List ℕ) × (zs ≡ spelling n ++ more) × (more ≡ behind text end)
+  numeral_gives : (zs : List ℕ) → zs ≡ chars_after text at → (more : List ℕ) × (zs ≡ spelling n ++ more) × (more ≡ chars_after text end)
   numeral_gives = step_gives text utf8 at end (omega (arith, some)) first numeral_boundary (spelling n) numeral_between
 
   numeral_moves : advance origin (before text end) ≡ advance (advance origin (before text at)) (spelling n)
@@ -230,10 +230,10 @@ numeral_taken p q n x same =
     record {
       grammatical = x.grammatical;
       takes = record {
-        gives = λ zs g. let y = numeral_gives text utf8 p.at p.boundary n end x zs g in (y.0, y.1, y.2 ∙ ap (λ t. behind t end) (sym same));
+        gives = λ zs g. let y = numeral_gives text utf8 p.at p.boundary n end x zs g in (y.0, y.1, y.2 ∙ ap (λ t. chars_after t end) (sym same));
         moves = ap (λ t. advance origin (before t end)) same ∙ numeral_moves text utf8 p.at p.boundary n end x;
       };
-      ends = (f.0, ap (λ t. slice_get (behind t end) 0) same ∙ f.1, f.2);
+      ends = (f.0, ap (λ t. slice_get (chars_after t end) 0) same ∙ f.1, f.2);
     }
 
 pub parts_room : (text : List ℕ) (at : ℕ) (first : at ≤ length text) (parts : NumberParts) (end : ℕ) → PartsAt text at parts end → length parts.whole.now + length parts.fraction.now ≤ length text
@@ -326,7 +326,7 @@ module _ {S : Type 0} (sight : Sight S) (p q : S) (n : Numeral) (x : TakesNumera
         gives = λ zs g. let y = x.takes.gives zs g in (y.0, y.1, y.2, numeral_comes limit fs n y.0 x.grammatical);
         moves = x.takes.moves;
       } in
-      behind_fraction limit fs n.exponent refl l
+      after_fraction limit fs n.exponent refl l
     where
       no_digit : (o : Option ℕ) → IfSome o (EndsNumber n) → IfSome o (λ c. is_ascii_digit c ≡ false)
       no_digit None h = tt
@@ -340,20 +340,20 @@ module _ {S : Type 0} (sight : Sight S) (p q : S) (n : Numeral) (x : TakesNumera
       no_exponent_letter None j h = tt
       no_exponent_letter (Some c) j h = h.letter j
 
-      behind_point : (limit : Option ℕ) (fs : List Frame) (f : List ℕ) → n.fraction ≡ f → n.exponent ≡ None → Leads sight limit p (next fs awaited) q (reached limit fs n.negative n.whole f)
+      after_point : (limit : Option ℕ) (fs : List Frame) (f : List ℕ) → n.fraction ≡ f → n.exponent ≡ None → Leads sight limit p (next fs awaited) q (reached limit fs n.negative n.whole f)
           → Leads sight limit p (next fs awaited) q (next fs (digits fraction (numeral n.negative n.whole f None)))
-      behind_point limit fs [] i j l = let e = x.ends in
+      after_point limit fs [] i j l = let e = x.ends in
           Leads_rest sight limit p q (next fs (digits fraction (numeral n.negative n.whole [] None))) e.0 l e.1 tt
           (no_point limit fs n.negative n.whole e.0 x.grammatical.no_leading_zero (no_digit e.0 e.2) (no_dot e.0 i j e.2))
-      behind_point limit fs (y ∷ ys) i j l = l
+      after_point limit fs (y ∷ ys) i j l = l
 
-      behind_fraction : (limit : Option ℕ) (fs : List Frame) (o : Option Exponent) → n.exponent ≡ o → Leads sight limit p (next fs awaited) q (arrived limit fs n.negative n.whole n.fraction o)
+      after_fraction : (limit : Option ℕ) (fs : List Frame) (o : Option Exponent) → n.exponent ≡ o → Leads sight limit p (next fs awaited) q (arrived limit fs n.negative n.whole n.fraction o)
           → Leads sight limit p (next fs awaited) q (next fs (digits exponent (numeral n.negative n.whole n.fraction o)))
-      behind_fraction limit fs None j l = let e = x.ends in
+      after_fraction limit fs None j l = let e = x.ends in
           Leads_rest sight limit p q (next fs (digits exponent (numeral n.negative n.whole n.fraction None))) e.0
-          (behind_point limit fs n.fraction refl j l) e.1 tt
+          (after_point limit fs n.fraction refl j l) e.1 tt
           (no_letter limit fs (numeral n.negative n.whole n.fraction None) e.0 (no_digit e.0 e.2) (no_exponent_letter e.0 j e.2))
-      behind_fraction limit fs (Some y) j l = l
+      after_fraction limit fs (Some y) j l = l
 
   no_digit_next : (o : Option ℕ) → IfSome o (EndsNumber n) → IfSome o (λ c. is_ascii_digit c ≡ false)
   no_digit_next None h = tt

@@ -11,7 +11,7 @@ use Rattle.tinyjson_grammar.specs.Position.{advance}
 use Rattle.tinyjson_grammar.specs.Characters.{is_white}
 use Rattle.tinyjson_source.specs.Source.{Sight, Takes, Whites}
 use Rattle.tinyjson_grammar.specs.Machine.{strictly, Within, quoted, end, colon, Frame, in_array, at_key, at_value, first, awaited, after, finished, Next, next, stop, refused, complete, step, run, go_on}
-use Rattle.tinyjson_tokens.specs.Steps.{onward, ending, outcome, IsNext, IsTaken, behind, letters_left, Same, Comes, IsLate, IsHeld, Leads, Halts, Refuses, Reads}
+use Rattle.tinyjson_tokens.specs.Steps.{onward, ending, outcome, IsNext, IsTaken, after_all, letters_left, Same, Comes, IsLate, IsHeld, Leads, Halts, Refuses, Reads}
 use Rattle.tinyjson_source.proofs.Callers.{Takes_nil}
 use Rattle.tinyjson_grammar.proofs.Callers.{advance_append}
 
@@ -82,19 +82,19 @@ module _ (limit : Option ℕ) where
   IsHeld_same : (n m : Next) (ys rest : List ℕ) → (IsNext m → IsNext n) → Same limit n m (ys ++ rest) → IsHeld limit m ys → IsHeld limit n ys
   IsHeld_same n m ys rest h a k = record { front = k.front; late = k.late; whole = k.whole; goes = go k.front k.whole k.goes; ends = on k.front k.late k.whole k.ends }
     where
-      go : (f : List ℕ) → ys ≡ f ++ k.late → IsNext (behind limit m f) → IsNext (behind limit n f)
+      go : (f : List ℕ) → ys ≡ f ++ k.late → IsNext (after_all limit m f) → IsNext (after_all limit n f)
       go [] e g = h g
       go (c ∷ cs) e g =
           let s : onward limit n c ≡ onward limit m c = subst (λ z. Same limit n m (z ++ rest)) e a in
-          subst (λ z. IsNext (behind limit z cs)) (sym s) g
+          subst (λ z. IsNext (after_all limit z cs)) (sym s) g
 
-      on : (f l : List ℕ) → ys ≡ f ++ l → IsLate limit (behind limit m f) l → IsLate limit (behind limit n f) l
+      on : (f l : List ℕ) → ys ≡ f ++ l → IsLate limit (after_all limit m f) l → IsLate limit (after_all limit n f) l
       on [] [] e g = tt
       on [] (c ∷ []) e g = subst (λ z. Same limit n m (z ++ rest)) e a ∙ g
       on [] (c ∷ d ∷ ds) e g = g
       on (c ∷ cs) l e g =
           let s : onward limit n c ≡ onward limit m c = subst (λ z. Same limit n m (z ++ rest)) e a in
-          subst (λ z. IsLate limit (behind limit z cs) l) (sym s) g
+          subst (λ z. IsLate limit (after_all limit z cs) l) (sym s) g
 
   pub Comes_halts : (n m : Next) (xs ys rest : List ℕ) → Comes limit n xs m (ys ++ rest) → IsHeld limit m ys → IsHeld limit n (xs ++ ys)
   Comes_halts n m [] ys rest a k = IsHeld_same n m ys rest a.1 a.0 k

@@ -106,7 +106,7 @@ fn texts_indented_with_a_tab(rt: HostRuntime) -> Result<(), Fail> {
 }
 
 #[test]
-fn texts_one_behind_another(rt: HostRuntime) -> Result<(), Fail> {
+fn texts_one_after_another(rt: HostRuntime) -> Result<(), Fail> {
     let alloc = rt.alloc();
     let mut generator = JsonGenerator::new(alloc, Vec::new(alloc));
     generator.generate(&JsonValue::Null)?;

@@ -16,10 +16,10 @@ fn digits_and_power(
     alloc: Global,
     before: &str,
     digit: (&str, usize),
-    behind: &str,
+    after: &str,
     power: usize,
 ) -> Result<String, Fail> {
-    let text = repeated(alloc, before, digit, behind)?;
+    let text = repeated(alloc, before, digit, after)?;
     Ok(format!(in alloc; "{text}{power}")?)
 }
 
@@ -47,7 +47,7 @@ fn before_the_point(alloc: Global, size: usize) -> Result<Case, Fail> {
 }
 
 /// `size` nines after the point, and one 8.
-fn behind_the_point(alloc: Global, size: usize) -> Result<Case, Fail> {
+fn after_the_point(alloc: Global, size: usize) -> Result<Case, Fail> {
     let power = size.saturating_add(1);
     let text = repeated(alloc, "-0.", ("9", size), "8")?;
     let other = digits_and_power(alloc, "-", ("9", size), "8e-", power)?;
@@ -110,8 +110,8 @@ fn numbers_of_each_size(rt: HostRuntime) -> Result<(), Fail> {
     for size in SIZES {
         let case = before_the_point(alloc, size)?;
         check_number(&rt, alloc, &case, "digits before the point", size);
-        let case = behind_the_point(alloc, size)?;
-        check_number(&rt, alloc, &case, "digits behind the point", size);
+        let case = after_the_point(alloc, size)?;
+        check_number(&rt, alloc, &case, "digits after the point", size);
     }
     Ok(())
 }

@@ -37,7 +37,7 @@ fn asks_for_what_it_needs(rt: HostRuntime) {
 }
 
 #[test]
-fn asks_for_nothing_behind_what_is_too_deep(rt: HostRuntime) {
+fn asks_for_nothing_after_what_is_too_deep(rt: HostRuntime) {
     let mut characters = "[[1".chars();
     let refused = JsonParser::with_depth_limit(rt.alloc(), &mut characters, 1)
         .parse()

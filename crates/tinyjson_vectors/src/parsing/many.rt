@@ -97,8 +97,8 @@ const BEHIND_ITEMS: &[(&str, Kind, usize)] = &[
 ];
 
 /// Whether a text of ASCII is refused so with each of these after it.
-fn all_refused(alloc: Global, text: &str, behind: &[(&str, Kind, usize)]) -> Result<bool, Fail> {
-    for &(end, kind, taken) in behind {
+fn all_refused(alloc: Global, text: &str, after: &[(&str, Kind, usize)]) -> Result<bool, Fail> {
+    for &(end, kind, taken) in after {
         let text_and_end = format!(in alloc; "{text}{end}")?;
         let refusal = Answer::Refusal(kind, 1, text.len().saturating_add(taken));
         if !both_agree(alloc, text_and_end.as_str(), refusal) {

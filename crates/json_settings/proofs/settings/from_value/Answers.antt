@@ -27,8 +27,10 @@ returns-in_default-host c =
     let m = c.in-Ok.members in
     let held = c.in-Ok.ensures in (
       is_object v m held,
-      ((_, subst (λ o. IsPort o c.in-Some.port) (lent_is v m (codes "port") held refl c.get.result c.get.ensures.value) c.in-Some.ensures),
-      (_, subst (λ o. IsTls o c.in-Some-tls.tls) (lent_is v m (codes "tls") held refl c.get-2.result c.get-2.ensures.value) c.in-Some-tls.ensures)),
+      (
+        (_, subst (λ o. IsPort o c.in-Some.port) (lent_is v m (codes "port") held refl c.get.result c.get.ensures.value) c.in-Some.ensures),
+        (_, subst (λ o. IsTls o c.in-Some-tls.tls) (lent_is v m (codes "tls") held refl c.get-2.result c.get-2.ensures.value) c.in-Some-tls.ensures),
+      ),
       subst (λ o. (cs : List ℕ) → ¬ IsHost o cs) (member_is v m (codes "host") held refl c.remove.result c.remove.ensures.value) c.in_default-host.ensures,
     )
 

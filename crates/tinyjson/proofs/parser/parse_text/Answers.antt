@@ -2,7 +2,7 @@ use Rattle.std.proofs.Common.{sym, ap, ◌∙◌}
 use Rattle.std.proofs.lemmas.Str.{scalars-chars}
 use Rattle.std.specs.Str.{chars}
 use Rattle.tinyjson_grammar.specs.Position.{advance, origin}
-use Rattle.tinyjson_source.specs.Slice.{before, behind}
+use Rattle.tinyjson_source.specs.Slice.{before, chars_after}
 use Rattle.tinyjson_source.specs.declared.text.TextBytes.{TextBytes}
 use Rattle.tinyjson.proofs.Reading.Parse.{answered, answered_text, all_are_scalars}
 use Rattle.tinyjson.proofs.parser.parse_text.Goals as goal
@@ -10,7 +10,7 @@ use Rattle.tinyjson.proofs.parser.parse_text.Goals as goal
 pub returns : goal.returns
 returns c =
     let text = c.args.text.now in
-    let gives = sym (ap (λ (p : TextBytes). behind p.text.now p.at) c.new-2.ensures ∙ c.new.ensures.gives) in
+    let gives = sym (ap (λ (p : TextBytes). chars_after p.text.now p.at) c.new-2.ensures ∙ c.new.ensures.gives) in
     let start = ap (λ (p : TextBytes). advance origin (before p.text.now p.at)) c.new-2.ensures ∙ c.new.ensures.start in
     answered_text _ c.args.limit _ _ (chars text) c.text.result start
     (answered _ c.args.limit _ _ c.text.result c.text.ensures.reads c.text.ensures.end c.text.ensures.memory (chars text) gives (all_are_scalars (chars text) (scalars-chars text c.utf8.text)))

@@ -3,7 +3,7 @@ use Rattle.std.specs.List.{slice_get, prefix_len}
 use Rattle.std.proofs.lemmas.Result.{err_from_is_err_and}
 use Rattle.std.proofs.lemmas.Str.{IsUtf8-had}
 use Rattle.std.specs.Char.{is_ascii_digit}
-use Rattle.tinyjson_source.specs.Slice.{before, behind, run_end}
+use Rattle.tinyjson_source.specs.Slice.{before, chars_after, run_end}
 use Rattle.tinyjson_source.proofs.Slices.{between, digit_small, ascii_boundary, ascii_between, ascii_bytes, ascii_ends, stay_moves, step_gives, step_moves}
 use Rattle.tinyjson_source.proofs.text.TextBytesSource.digits.Goals as goal
 
@@ -63,4 +63,4 @@ returns-clause-still c = λ e o h.
     let bytes : string_bytes c.push_str.new.self ≡ string_bytes c.args.buffer.now ++ c.range.result.now = search rules in
     let none : length c.range.result.now ≡ 0 = omega (arith, ap length bytes, ap length e, length-append (string_bytes c.args.buffer.now) c.range.result.now) in
     let here : self.at ≡ to = omega (arith, none, c.range.ensures.len, is) in
-    subst (λ k. slice_get (behind self.text.now k) 0 ≡ o) here h
+    subst (λ k. slice_get (chars_after self.text.now k) 0 ≡ o) here h

@@ -2,7 +2,7 @@ use Rattle.std.proofs.Common.{◌≡◌, ◌∙◌, ◌<◌, [], length, get_or,
 use Rattle.std.proofs.lemmas.Str.{IsUtf8-had}
 use Rattle.tinyjson_grammar.specs.Characters.{is_white}
 use Rattle.tinyjson_grammar.specs.Position.{advance, origin}
-use Rattle.tinyjson_source.specs.Slice.{before, behind}
+use Rattle.tinyjson_source.specs.Slice.{before, chars_after}
 use Rattle.tinyjson_source.proofs.Slices.{between, next_shown, ascii_next, white_small, ascii_boundary, ascii_between, ascii_stops, stay_moves, step_gives, step_moves}
 use Rattle.tinyjson_source.proofs.text.TextBytesSource.skip_white.Goals as goal
 
@@ -27,26 +27,26 @@ pub returns-clause-white : goal.returns-clause-white
 returns-clause-white c =
     let self = c.args.self.now in
     let utf8 = IsUtf8-had self.text.now self.utf8 in
-    let to = c.behind_white.new.self.at in
-    let e = c.behind_white.ensures.at in
+    let to = c.pass_white.new.self.at in
+    let e = c.pass_white.ensures.at in
     let last = ascii_boundary is_white white_small self.text.now utf8 self.at self.boundary to e in
-    let text = c.behind_white.ensures.text in
+    let text = c.pass_white.ensures.text in
     record {
       taken = between self.text.now self.at to;
       white = ascii_between is_white white_small self.text.now utf8 self.at self.boundary to e;
       takes = record {
-        gives = λ zs h. let s = step_gives self.text.now utf8 self.at to (omega (arith, e)) self.boundary last _ refl zs h in (s.0, s.1, s.2 ∙ ap (λ t. behind t to) (sym text));
+        gives = λ zs h. let s = step_gives self.text.now utf8 self.at to (omega (arith, e)) self.boundary last _ refl zs h in (s.0, s.1, s.2 ∙ ap (λ t. chars_after t to) (sym text));
         moves = ap (λ t. advance origin (before t to)) text ∙ step_moves self.text.now utf8 self.at to (omega (arith, e)) self.boundary last _ refl;
       };
     }
 
 pub returns-clause-shows : goal.returns-clause-shows
 returns-clause-shows c =
-    let now = c.behind_white.new.self in
-    next_shown now.text.now (IsUtf8-had now.text.now now.utf8) now.at now.boundary _ c.behind_white.ensures.next
+    let now = c.pass_white.new.self in
+    next_shown now.text.now (IsUtf8-had now.text.now now.utf8) now.at now.boundary _ c.pass_white.ensures.next
 
 pub returns-clause-stops : goal.returns-clause-stops
 returns-clause-stops c =
     let self = c.args.self.now in
-    let next = rw c.behind_white.ensures.text at c.behind_white.ensures.next in
-    ascii_stops is_white white_small self.text.now (IsUtf8-had self.text.now self.utf8) self.at self.boundary _ c.behind_white.ensures.at _ next
+    let next = rw c.pass_white.ensures.text at c.pass_white.ensures.next in
+    ascii_stops is_white white_small self.text.now (IsUtf8-had self.text.now self.utf8) self.at self.boundary _ c.pass_white.ensures.at _ next

@@ -4,8 +4,8 @@ use Rattle.tinyjson_tokens.specs.Numerals.{PartsAt}
 use Rattle.tinyjson_tokens.proofs.Reading.Numerals.{numeral_boundary, numeral_some, numeral_taken, parts_room}
 use Rattle.tinyjson_tokens.proofs.tokens.TextBytesTokens.numeral.Goals as goal
 
-pub invariant_of-behind : goal.invariant_of-behind
-invariant_of-behind c =
+pub invariant_of-after : goal.invariant_of-after
+invariant_of-after c =
     let self = c.args.self.now in
     let r = c.in_ok-parts in
     let x = subst (λ t. PartsAt t self.at r.parts r.end) c.as_bytes.ensures.value r.ensures in

@@ -8,7 +8,7 @@ returns-in-Some-clause-reads g c = λ limit.
     let n = c.in-Some.ensures.takes in
     let fs = frames c.args.stack.now in
     let x = c.in-Some.number in
-    let l = Leads_numeral sight c.args.self.now.tokens.source c.in-Some.behind n.0 n.2 limit fs x n.1 in
+    let l = Leads_numeral sight c.args.self.now.tokens.source c.in-Some.after n.0 n.2 limit fs x n.1 in
     Reads_after sight limit _ _ _ _ _ l (c.complete_number.ensures.reads limit)
 
 pub returns-clause-reads : goal.returns-clause-reads

@@ -17,7 +17,7 @@ returns-in-Ok-clause-reads g c = λ limit.
     let n = c.in-Some.ensures.takes in
     let fs = frames c.args.stack.now in
     let p = c.args.self.now.tokens.source in
-    let q = c.in-Some.behind in
+    let q = c.in-Some.after in
     let x = c.in-Ok.number in
     let l = Leads_numeral sight p q n.0 n.2 limit fs x (parts_read n.0 c.in-Some.parts n.1 (Ok x) c.in-Ok.ensures.reads) in
     Reads_after sight limit _ _ _ _ _ l (c.complete_number.ensures.reads limit)

@@ -1,7 +1,7 @@
 use Rattle.std.proofs.Common.{rules, ◌≡◌, ◌∷◌, ◌++◌, [], ◌-◌, ◌∙◌, ap, sym, reverse, take, length}
 use Rattle.tinyjson_grammar.specs.Machine.{next, after}
 use Rattle.tinyjson.specs.private.Stack.{frames_over, maps_of}
-use Rattle.tinyjson.specs.declared.parser.stack.Container.TheVariants as container
+use Rattle.tinyjson.specs.declared.parser.stack.Frame.TheVariants as frame
 use Rattle.tinyjson.proofs.Reading.Stack.{pushed, popped, member_whole}
 use Rattle.tinyjson.proofs.parser.stack.Stack.end_member.Goals as goal
 
@@ -10,7 +10,7 @@ returns-clause-at c =
     let s = c.args.self.now in
     let n = c.args.values in
     let m = c.args.keys in
-    let o = container.Object n m in
+    let o = frame.Object n m in
     let t = c.settle.new.self in
     let rest = c.pop.new.self.items in
     let was : rest ≡ take (length s.containers.items - 1) s.containers.items = search rules in
@@ -23,7 +23,7 @@ returns-clause-at c =
 
 pub returns-clause-awaits : goal.returns-clause-awaits
 returns-clause-awaits c =
-    let o = container.Object c.args.values c.args.keys in
+    let o = frame.Object c.args.values c.args.keys in
     let rest = c.settle.new.self.containers.items in
     let new : c.push.new.self.items ≡ rest ++ o ∷ [] = search rules in
     (c.args.values, c.args.keys, (reverse rest, ap reverse new ∙ pushed rest o))

@@ -3,7 +3,7 @@ use Rattle.std.proofs.lemmas.List.{take_all}
 use Rattle.tinyjson.specs.View.{members_view}
 use Rattle.tinyjson.specs.private.Stack.{gather}
 use Rattle.tinyjson.proofs.Reading.Stack.{none_left, turned_front, turned_back, turned_length}
-use Rattle.tinyjson.proofs.parser.stack.Stack.fill_behind.Goals as goal
+use Rattle.tinyjson.proofs.parser.stack.Stack.fill_after.Goals as goal
 
 pub loop-self-init : goal.loop-self-init
 loop-self-init c =

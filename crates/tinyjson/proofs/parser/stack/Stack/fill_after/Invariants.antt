@@ -1,7 +1,7 @@
 use Rattle.std.proofs.Common.{◌≡◌, ◌+◌, ◌≤◌, take, drop, length, reverse}
 use Rattle.tinyjson.specs.View.{members_view}
 use Rattle.tinyjson.specs.private.Stack.{gather}
-use Rattle.tinyjson.proofs.parser.stack.Stack.fill_behind.Given as goal
+use Rattle.tinyjson.proofs.parser.stack.Stack.fill_after.Given as goal
 
 abbrev pub invariant-loop-self : goal.invariant-loop-self
 invariant-loop-self l =

@@ -4,7 +4,7 @@ use Rattle.std.specs.List.{prefix_len}
 use Rattle.tinyjson_grammar.specs.Characters.{is_white}
 use Rattle.tinyjson_source.specs.Slice.{run_end}
 use Rattle.tinyjson_source.proofs.Slices.{white_small, ascii_boundary}
-use Rattle.tinyjson_source.proofs.text.TextBytes.behind_run.Goals as goal
+use Rattle.tinyjson_source.proofs.text.TextBytes.pass_run.Goals as goal
 
 pub invariant_of-self : goal.invariant_of-self
 invariant_of-self c =
