@@ -11,7 +11,7 @@ class Checks:
         self.failed = 0
 
     def check(self, name, answer, expected):
-        """Counts one case, and tells of it if it failed."""
+        """Counts one case, and reports it if it failed."""
         if answer == expected:
             self.passed += 1
             return

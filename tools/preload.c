@@ -8,7 +8,7 @@
 //     SHORT_WRITES=N   a write to standard output takes at most N bytes
 //
 // A call that fails, a write after one that failed, and memory that is not given back by the end of the
-// program, is told by a line on standard error.
+// program, is reported by a line on standard error.
 
 #define _GNU_SOURCE
 #include <dlfcn.h>
@@ -23,7 +23,7 @@ static long variable(const char *name) {
     return value == NULL ? 0 : atol(value);
 }
 
-static void tell(const char *line, size_t length) {
+static void report(const char *line, size_t length) {
     if (next_write == NULL) next_write = (ssize_t (*)(int, const void *, size_t))dlsym(RTLD_NEXT, "write");
     if (next_write(2, line, length) < 0) abort();
 }
@@ -33,7 +33,7 @@ static int is_refused(void) {
     calls++;
     long from = variable("REFUSED_FROM");
     if (calls != variable("REFUSED_CALL") && (from == 0 || calls < from)) return 0;
-    tell("(refused)\n", 10);
+    report("(refused)\n", 10);
     return 1;
 }
 
@@ -46,7 +46,7 @@ static void *counted(void *block) {
 }
 
 __attribute__((destructor)) static void tell_of_kept(void) {
-    if (kept > 0) tell("(kept memory)\n", 14);
+    if (kept > 0) report("(kept memory)\n", 14);
 }
 
 void *malloc(size_t size) {
@@ -74,7 +74,7 @@ ssize_t read(int file, void *buffer, size_t length) {
     static long calls;
     if (next == NULL) next = (ssize_t (*)(int, void *, size_t))dlsym(RTLD_NEXT, "read");
     if (file != 0 || ++calls != variable("FAILED_READ")) return next(file, buffer, length);
-    tell("(failed)\n", 9);
+    report("(failed)\n", 9);
     errno = (int)variable("ERRNO");
     return -1;
 }
@@ -85,9 +85,9 @@ ssize_t write(int file, const void *buffer, size_t length) {
     if (file != 1) return next_write(file, buffer, length);
     failed = variable("FAILED_WRITE");
     calls++;
-    if (failed != 0 && calls > failed) tell("(written again)\n", 16);
+    if (failed != 0 && calls > failed) report("(written again)\n", 16);
     if (calls == failed) {
-        tell("(failed)\n", 9);
+        report("(failed)\n", 9);
         errno = (int)variable("ERRNO");
         return -1;
     }

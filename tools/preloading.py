@@ -6,7 +6,7 @@ import subprocess
 HERE = os.path.dirname(os.path.abspath(__file__))
 TOP = os.path.dirname(HERE)
 
-# The lines by which the preloaded library tells of failing calls, and of memory that is not given back.
+# The lines by which the preloaded library reports failing calls, and memory that is not given back.
 REFUSED, FAILED, WRITTEN_AGAIN, KEPT = b"(refused)\n", b"(failed)\n", b"(written again)\n", b"(kept memory)\n"
 
 
@@ -24,9 +24,9 @@ class Ended:
     def __init__(self, process):
         self.status = process.returncode
         self.output = process.stdout
-        self.told = {line: process.stderr.count(line) for line in (REFUSED, FAILED, WRITTEN_AGAIN, KEPT)}
+        self.reports = {line: process.stderr.count(line) for line in (REFUSED, FAILED, WRITTEN_AGAIN, KEPT)}
         self.errors = process.stderr
-        for line in self.told:
+        for line in self.reports:
             self.errors = self.errors.replace(line, b"")
 
     def answer(self):

@@ -9,7 +9,7 @@ use std::alloc::Global;
 use std::io::{self, BufRead, ErrorKind, Write};
 use tinyjson::{JsonParseError, JsonValue};
 
-/// The first line that is no JSON text.
+/// The first line that is not a JSON text.
 #[derive(Clone, Copy, Debug, PartialEq, Eq)]
 pub struct Refusal {
     /// Which line it is, from 1.

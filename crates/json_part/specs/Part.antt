@@ -1,14 +1,14 @@
 -- What is written of a text.
 use Rattle.std.specs.Prelude.{◌≡◌, ℕ, List, [], ◌∷◌, ◌++◌, Option, Some, None, Result, Ok, Err, ◌⊎◌, codes, encode_utf8_all}
 use Rattle.std.specs.Io.KnownBytes.{Appends}
-use Rattle.tinyjson.specs.Error.{error_kind, error_words}
+use Rattle.tinyjson.specs.Error.{error_kind, error_message}
 use Rattle.tinyjson.specs.Grammar.{IsText, IsAccepted}
 use Rattle.tinyjson.specs.JsonParseErrorKind.TheVariants as kind
 use Rattle.tinyjson.specs.Parser.{ParsesText}
 use Rattle.tinyjson.specs.Text.{compact}
 use Rattle.tinyjson.specs.Tree.{Tree}
 use Rattle.tinyjson.specs.Written.{WrittenPart}
-use Rattle.json_pointer.specs.Reading.{IsNoPointer, Reads, pointer_error_text}
+use Rattle.json_pointer.specs.Reading.{IsNoPointer, Reads, pointer_error_message}
 use Rattle.json_pointer.specs.Text.{pointer_text}
 use Rattle.json_pointer.specs.Walk.{part_at}
 use Rattle.json_pointer.specs.declared.pointer.PointerError.TheVariants as refusal
@@ -22,13 +22,13 @@ status_of (Refused e) = 3
 status_of OutOfMemory = 4
 status_of Writing = 4
 
--- the words of an error; those of a text that is no pointer and of a refused one are their readers'
-abbrev pub error_text : PartError → List ℕ
-error_text (BadPointer e) = pointer_error_text e
-error_text (Refused e) = error_words e
-error_text NoPart = codes "the pointer names no part"
-error_text OutOfMemory = codes "out of memory"
-error_text Writing = codes "writing failed"
+-- the message of an error; of a text that is not a pointer and of a refused one its reader's
+abbrev pub part_error_message : PartError → List ℕ
+part_error_message (BadPointer e) = pointer_error_message e
+part_error_message (Refused e) = error_message e
+part_error_message NoPart = codes "the pointer names no part"
+part_error_message OutOfMemory = codes "out of memory"
+part_error_message Writing = codes "writing failed"
 
 -- the compact text in UTF-8, and a line feed
 abbrev pub line_of : Tree → List ℕ

@@ -1,7 +1,7 @@
 //! Prints the part of a JSON text that a JSON pointer names, as compact text.
 //!
-//! The pointer is the one word of the command line, and the text comes from standard input. The status
-//! is 0 for a part, 1 where the pointer names none, 2 for other words or no pointer, 3 for no JSON text,
+//! The pointer is the one argument, and the text comes from standard input. The status
+//! is 0 for a part, 1 where the pointer names none, 2 for other arguments or no pointer, 3 for no JSON text,
 //! and 4 where memory, a read or a write failed.
 #![tactic(auto)]
 
@@ -33,7 +33,7 @@ fn main(rt: HostRuntime) -> ExitCode {
 }
 
 /// From standard input to standard output, which is flushed once, after success. The outer error is one of
-/// the words, or of reading.
+/// the arguments, or of reading.
 fn print_part(rt: &(impl Env + Input + Print + AllocGlobal)) -> io::Result<Result<(), PartError>> {
     let alloc = rt.alloc();
     let pointer = pointer_asked(rt)?;
@@ -46,7 +46,7 @@ fn print_part(rt: &(impl Env + Input + Print + AllocGlobal)) -> io::Result<Resul
     Ok(answer)
 }
 
-/// The one word of the command line.
+/// The one argument.
 fn pointer_asked(rt: &(impl Env + AllocGlobal)) -> io::Result<String> {
     let mut words = match env::args(rt) {
         Ok(words) => words.skip(1),

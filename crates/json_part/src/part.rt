@@ -5,7 +5,7 @@ ghost use Rattle.std.specs.Str.{chars};
 ghost use Rattle.tinyjson.specs.View.{view};
 ghost use Rattle.tinyjson.specs.Written.{WritesPrefix};
 ghost use Rattle.json_pointer.specs.Tokens.{tokens_of};
-ghost use Rattle.json_part.specs.Part.{status_of, error_text, line_of};
+ghost use Rattle.json_part.specs.Part.{status_of, part_error_message, line_of};
 ghost use Rattle.json_part.specs.Part.{IsFailedWrite, WritesFound, WritesPart};
 
 use json_pointer::{Pointer, PointerError};
@@ -43,9 +43,9 @@ impl PartError {
     }
 }
 
-/// The words that the program writes after its name.
+/// The message that the program writes after its name.
 impl fmt::Display for PartError {
-    ghost output = { λ e. Some (error_text e) };
+    ghost output = { λ e. Some (part_error_message e) };
 
     fn fmt<W: fmt::Write>(&self, f: &mut fmt::Formatter<W>) -> fmt::Result {
         match self {

@@ -158,10 +158,10 @@ other_no_pointer c cs (t ∷ ts) h e = let same : c ≡ 47 = cc in h same
 pub no_slash : (cs ds : List ℕ) (c : ℕ) → c ≢ 47 → cs ≡ c ∷ ds → Reads cs (Err NoSlash)
 no_slash cs ds c h e = (subst BeginsWithOther (sym e) h, λ ts is. other_no_pointer c ds ts h (sym e ∙ is))
 
-pub behind_slash : (cs ds : List ℕ) (e : PointerError) → cs ≡ 47 ∷ ds → ReadsTokens ds (Err e) → Reads cs (Err e)
-behind_slash cs ds NoSlash is h = absurd h
-behind_slash cs ds BadEscape is h = let bad = subst HasBadEscape (sym is) h in (subst BeginsWithSlash (sym is) refl, bad, bad_no_pointer cs bad)
-behind_slash cs ds OutOfMemory is h = tt
+pub after_slash : (cs ds : List ℕ) (e : PointerError) → cs ≡ 47 ∷ ds → ReadsTokens ds (Err e) → Reads cs (Err e)
+after_slash cs ds NoSlash is h = absurd h
+after_slash cs ds BadEscape is h = let bad = subst HasBadEscape (sym is) h in (subst BeginsWithSlash (sym is) refl, bad, bad_no_pointer cs bad)
+after_slash cs ds OutOfMemory is h = tt
 
 pub error_back : {T E : Type 0} (P : Result T E → Type 0) (r : Result T E) (e : E) → IsErrAnd r (λ d. d ≡ e) → P (Err e) → P r
 error_back P (Ok x) e h k = absurd h

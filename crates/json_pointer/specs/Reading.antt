@@ -50,8 +50,8 @@ ReadsTokens cs (Err OutOfMemory) = Unit {0}
 abbrev pub Unescapes : ℕ → Result ℕ PointerError → Type 0
 Unescapes c result = MatchResult result (λ d. escape_char d ≡ 126 ∷ c ∷ []) (λ e. (e ≡ BadEscape) × ¬ BeginsEscape (c ∷ []))
 
--- the words of an error
-abbrev pub pointer_error_text : PointerError → List ℕ
-pointer_error_text NoSlash = codes "the pointer begins with no '/'"
-pointer_error_text BadEscape = codes "a '~' is followed by neither '0' nor '1'"
-pointer_error_text OutOfMemory = codes "out of memory"
+-- the message of an error
+abbrev pub pointer_error_message : PointerError → List ℕ
+pointer_error_message NoSlash = codes "the pointer begins with no '/'"
+pointer_error_message BadEscape = codes "a '~' is followed by neither '0' nor '1'"
+pointer_error_message OutOfMemory = codes "out of memory"

@@ -20,7 +20,7 @@ impl Pointer {
     {
         let mut rest = text.chars();
         match rest.next() {
-            None => Ok(Pointer::whole(alloc)),
+            None => Ok(Pointer::root(alloc)),
             Some('/') => Ok(Pointer {
                 tokens: read_tokens(alloc, rest.as_str())?,
             }),

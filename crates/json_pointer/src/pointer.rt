@@ -4,7 +4,7 @@ ghost use Rattle.std.specs.Fmt.{WritesOnOk};
 ghost use Rattle.std.specs.Str.{chars};
 ghost use Rattle.tinyjson.specs.View.{text};
 ghost use Rattle.json_pointer.specs.Index.{HasIndexBefore};
-ghost use Rattle.json_pointer.specs.Reading.{pointer_error_text};
+ghost use Rattle.json_pointer.specs.Reading.{pointer_error_message};
 ghost use Rattle.json_pointer.specs.Text.{escape_char, escape, pointer_text};
 ghost use Rattle.json_pointer.specs.Tokens.{tokens_of};
 ghost use Rattle.json_pointer.specs.declared.pointer.PointerError.{PointerError};
@@ -41,7 +41,7 @@ impl<T: Drop> From<AllocFailed<T>> for PointerError {
 }
 
 impl fmt::Display for PointerError {
-    ghost output = { λ e. Some (pointer_error_text e) };
+    ghost output = { λ e. Some (pointer_error_message e) };
 
     fn fmt<W: fmt::Write>(&self, f: &mut fmt::Formatter<W>) -> fmt::Result {
         match self {
@@ -62,7 +62,7 @@ pub struct Pointer {
 
 impl Pointer {
     /// The pointer to the whole value, whose text is empty.
-    pub fn whole(alloc: Global) -> Pointer
+    pub fn root(alloc: Global) -> Pointer
         ensures { tokens_of result ≡ [] }
     {
         Pointer {

@@ -29,8 +29,8 @@ impl Pointer {
         Some(here)
     }
 
-    /// Puts `part` in the place of the part that this names, and gives the old one; or gives `part`
-    /// back where this names none, and the value stays as it is. It recurses once for each token.
+    /// Puts `part` in the place of the part that this names, and returns the old one; or returns `part`
+    /// where this names none, and the value stays as it is. It recurses once for each token.
     ///
     /// ```
     /// let pointer = Pointer::parse(alloc, "/0")?;

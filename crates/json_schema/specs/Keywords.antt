@@ -13,7 +13,7 @@ abbrev pub refuses_all : Tree → Bool
 refuses_all (boolean accepts) = not accepts
 refuses_all _ = false
 
--- a number with no fraction: its digits end in no 0, so its power tells
+-- a number with no fraction: its digits end in no 0, so its power decides
 abbrev pub is_whole : Tree → Bool
 is_whole (number d) = int_le (pos 0) d.power
 is_whole _ = false

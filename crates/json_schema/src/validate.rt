@@ -25,7 +25,7 @@ pub fn invalid_place(
     ensures { Validates (view schema.now) (view value.now) result }
 {
     if !meets_own(value, schema) {
-        return Ok(Some(Pointer::whole(alloc)));
+        return Ok(Some(Pointer::root(alloc)));
     }
     match value {
         JsonValue::Object(members) => {

@@ -1,7 +1,7 @@
 -- Which settings a text has.
 use Rattle.std.specs.Prelude.{◌≡◌, ℕ, ◌<◌, Bool, false, List, Option, Some, None, Result, Ok, Err, MatchOption, ◌⊎◌, ⊤, codes, pos}
 use Rattle.std.specs.declared.alloc.AllocError.{AllocError}
-use Rattle.tinyjson.specs.Error.{error_words}
+use Rattle.tinyjson.specs.Error.{error_message}
 use Rattle.tinyjson.specs.Grammar.{IsText}
 use Rattle.tinyjson.specs.Index.{tree_at_key, with_tree_at_key}
 use Rattle.tinyjson.specs.Number.{integer_decimal}
@@ -61,13 +61,13 @@ abbrev pub AnswersText : List ℕ → Result Settings SettingsError → Type 0
 AnswersText xs (Err (Text e)) = ParsesText None xs (Err e)
 AnswersText xs result = (t : Tree) × IsText None xs t × AnswersTree t result
 
--- the words of an error; those of a refused text are the parser's
-abbrev pub error_text : SettingsError → List ℕ
-error_text (Text e) = error_words e
-error_text NotAnObject = codes "not an object"
-error_text (Lacks Port) = codes "no port from 1 to 65535"
-error_text (Lacks Host) = codes "no host"
-error_text (Lacks Tls) = codes "tls is neither true nor false"
+-- the message of an error; of a refused text the parser's
+abbrev pub settings_error_message : SettingsError → List ℕ
+settings_error_message (Text e) = error_message e
+settings_error_message NotAnObject = codes "not an object"
+settings_error_message (Lacks Port) = codes "no port from 1 to 65535"
+settings_error_message (Lacks Host) = codes "no host"
+settings_error_message (Lacks Tls) = codes "tls is neither true nor false"
 
 -- the one thing of which P holds, as it is seen, or nothing where there is none
 abbrev pub GivesOnly : {S T : Type 0} → (S → Type 0) → (T → S) → Option T → Type 0

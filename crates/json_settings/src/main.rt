@@ -1,7 +1,7 @@
 //! Reads settings from standard input, an object with `port`, `host` and `tls`, and prints them. With a
-//! port as its one word it prints the object instead, with that port in the place of its own.
+//! port as its one argument it prints the object instead, with that port in the place of its own.
 //!
-//! The status is 0 after success, 1 where the text has no settings or no port, and 2 for other words, for
+//! The status is 0 after success, 1 where the text has no settings or no port, and 2 for other arguments, for
 //! input that isn't UTF-8, or where memory, a read or a write failed.
 #![tactic(auto)]
 
@@ -30,7 +30,7 @@ fn main(rt: HostRuntime) -> ExitCode {
     }
 }
 
-/// From standard input to standard output. The outer error is one of the words, of reading or of writing.
+/// From standard input to standard output. The outer error is one of the arguments, of reading or of writing.
 fn answer(rt: &(impl Env + Input + Print + AllocGlobal)) -> io::Result<Result<(), SettingsError>> {
     let port = port_asked(rt)?;
     let text = io::read_to_string(rt.alloc(), rt.reader())?;
@@ -40,7 +40,7 @@ fn answer(rt: &(impl Env + Input + Print + AllocGlobal)) -> io::Result<Result<()
     }
 }
 
-/// The port that the words of the command line ask for.
+/// The port that the arguments ask for.
 fn port_asked(rt: &(impl Env + AllocGlobal)) -> io::Result<Option<u16>> {
     let mut words = match env::args(rt) {
         Ok(words) => words.skip(1),

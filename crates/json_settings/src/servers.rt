@@ -7,7 +7,7 @@ use tinyjson::JsonValue;
 /// Puts the settings of a server in the place of those at the index of an array, and returns the old
 /// ones.
 ///
-/// `Err` gives `server` back, where the value is no array or has no such item. Then it stays as it is.
+/// `Err` returns `server`, where the value is no array or has no such item. Then it stays as it is.
 ///
 /// ```
 /// let old = servers::replace_server(&mut servers, 0, server);

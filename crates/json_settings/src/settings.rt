@@ -11,7 +11,7 @@ ghost use Rattle.json_settings.specs.Settings.{
   GivesOnly,
   SetsPort,
   KeepsSettings,
-  error_text,
+  settings_error_message,
 };
 
 use std::alloc::{AllocError, Global};
@@ -128,7 +128,7 @@ fn host(member: Option<JsonValue>) -> Option<String>
 /// Puts the port in the place of the member `port` of an object, and returns the old member.
 ///
 /// `None` where the value is no object or has no such member. Then it stays as it is. Settings that a
-/// value has, it still has, but for the port; 0 is no port. There is never an error: the number of a
+/// value has, it still has, but for the port; 0 is no port. It always returns `Ok`: the number of a
 /// port takes no memory.
 ///
 /// ```
@@ -153,9 +153,9 @@ pub fn set_port(
     Ok(Some(value.replace_member("port", JsonValue::from(number))))
 }
 
-/// The words that the program writes after its name.
+/// The message that the program writes after its name.
 impl fmt::Display for SettingsError {
-    ghost output = { λ e. Some (error_text e) };
+    ghost output = { λ e. Some (settings_error_message e) };
 
     fn fmt<W: fmt::Write>(&self, f: &mut fmt::Formatter<W>) -> fmt::Result {
         match self {

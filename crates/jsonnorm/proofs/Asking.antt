@@ -1,4 +1,4 @@
--- Words that ask for each combination of options.
+-- Arguments that ask for each combination of options.
 use Rattle.std.proofs.Common.{◌≡◌, ℕ, ◌<◌, ◌≤◌, true, false, List, [], ◌∷◌, length, get_or, None, Some, codes, map, refl, inl, inr, sym, arith}
 use Rattle.std.specs.Str.Parse.{digits_value}
 use Rattle.jsonnorm.specs.Options.{Asks, IsLimit}

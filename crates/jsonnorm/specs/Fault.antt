@@ -1,6 +1,6 @@
 -- The errors of a run.
 use Rattle.std.specs.Prelude.{◌≡◌, ℕ, ◌⊎◌, List, codes}
-use Rattle.tinyjson.specs.Error.{error_words}
+use Rattle.tinyjson.specs.Error.{error_message}
 use Rattle.jsonnorm.specs.declared.fault.RunFault.{RunFault}
 use Rattle.jsonnorm.specs.declared.fault.RunFault.TheVariants.{Refused, NotUtf8, OutOfMemory, Reading, Writing}
 
@@ -11,13 +11,13 @@ status_of OutOfMemory = 4
 status_of Reading = 4
 status_of Writing = 4
 
--- the words of an error; those of a text that is refused are the parser's
-abbrev pub fault_words : RunFault → List ℕ
-fault_words (Refused e) = error_words e
-fault_words NotUtf8 = codes "input is not UTF-8"
-fault_words OutOfMemory = codes "out of memory"
-fault_words Reading = codes "reading failed"
-fault_words Writing = codes "writing failed"
+-- the message of an error; of a text that is refused the parser's
+abbrev pub fault_message : RunFault → List ℕ
+fault_message (Refused e) = error_message e
+fault_message NotUtf8 = codes "input is not UTF-8"
+fault_message OutOfMemory = codes "out of memory"
+fault_message Reading = codes "reading failed"
+fault_message Writing = codes "writing failed"
 
 -- `OutOfMemory` if memory ran out, and otherwise the other one
 abbrev pub IsMemoryOr : Type 0 → RunFault → RunFault → Type 0

@@ -1,4 +1,4 @@
--- What the words of the command line ask for.
+-- What the arguments ask for.
 use Rattle.std.specs.Prelude.{◌≡◌, ℕ, ◌≤◌, Bool, true, false, Option, Some, None, ◌⊎◌}
 use Rattle.std.specs.Prelude.{List, [], ◌∷◌, ◌++◌, length, codes}
 use Rattle.std.specs.Str.Parse.{IsNumeral, digits_value}
@@ -17,7 +17,7 @@ abbrev pub AsksLimit : Option ℕ → List (List ℕ) → Type 0
 AsksLimit None words = words ≡ []
 AsksLimit (Some n) words = (ds : List ℕ) × (words ≡ codes "-d" ∷ ds ∷ []) × IsLimit ds × (digits_value 10 ds ≡ n)
 
--- The words ask for an indented text or not, and for a limit or none, in either order.
+-- The arguments ask for an indented text or not, and for a limit or none, in either order.
 pub record Asks (words : List (List ℕ)) (is_indented : Bool) (limit : Option ℕ) : Type 0 where
   pub limit_words : List (List ℕ)
   pub asks : AsksLimit limit limit_words

@@ -2,7 +2,7 @@
 ghost use Rattle.std.specs.Prelude.{◌≡◌, Some};
 ghost use Rattle.std.specs.IoError.{error_kind as io_kind};
 ghost use Rattle.tinyjson.specs.Error.{error_kind};
-ghost use Rattle.jsonnorm.specs.Fault.{status_of, fault_words, IsMemoryOr};
+ghost use Rattle.jsonnorm.specs.Fault.{status_of, fault_message, IsMemoryOr};
 
 use std::error::Error;
 use std::fmt;
@@ -49,7 +49,7 @@ pub(crate) fn refusal(error: JsonParseError) -> RunFault
 }
 
 /// The error of a write that failed.
-pub(crate) fn writing_fault(error: io::Error) -> RunFault
+pub(crate) fn writing_error(error: io::Error) -> RunFault
     ensures { IsMemoryOr (io_kind error ≡ ErrorKind.OutOfMemory) RunFault.Writing result }
 {
     if error.kind() == ErrorKind::OutOfMemory {
@@ -58,9 +58,9 @@ pub(crate) fn writing_fault(error: io::Error) -> RunFault
     RunFault::Writing
 }
 
-/// The words that the program writes after its name.
+/// The message that the program writes after its name.
 impl fmt::Display for RunFault {
-    ghost output = { λ e. Some (fault_words e) };
+    ghost output = { λ e. Some (fault_message e) };
 
     fn fmt<W: fmt::Write>(&self, f: &mut fmt::Formatter<W>) -> fmt::Result {
         match self {

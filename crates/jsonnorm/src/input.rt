@@ -12,7 +12,7 @@ const PIECE_LEN: usize = 65_536;
 /// How many reads may give bytes.
 const MAX_READS: u32 = 1_073_741_824;
 
-/// Reads until a read gives nothing. An interruption is an error as any other.
+/// Reads until a read gives nothing. An interruption is an error like any other.
 pub(crate) fn read_all<R: Read>(alloc: Global, input: &mut R) -> Result<Vec<u8>, RunFault>
     ensures { ReadsToEnd (R.remaining input.old) (R.remaining input.new) result }
 {

@@ -1,7 +1,7 @@
 //! Reads one JSON text from standard input, and writes its value's normal text to standard output.
 //!
-//! The words `-i` and `-d N` ask for text indented with two spaces and for a limit on depth. The
-//! status is 0 for success, 1 for a text that is refused, 2 for other words, 3 for input that isn't
+//! The arguments `-i` and `-d N` ask for text indented with two spaces and for a limit on depth. The
+//! status is 0 for success, 1 for a text that is refused, 2 for other arguments, 3 for input that isn't
 //! UTF-8, and 4 where memory, a read or a write failed.
 #![tactic(auto)]
 
@@ -31,18 +31,18 @@ fn main(rt: HostRuntime) -> ExitCode {
             let _ = eprintln!(rt; "{USAGE}");
             return ExitCode::from(2);
         }
-        Err(fault) => Err(fault),
+        Err(error) => Err(error),
     };
     match ended {
         Ok(()) => ExitCode::SUCCESS,
-        Err(fault) => {
-            let _ = eprintln!(rt; "jsonnorm: {fault}");
-            ExitCode::from(fault.status())
+        Err(error) => {
+            let _ = eprintln!(rt; "jsonnorm: {error}");
+            ExitCode::from(error.status())
         }
     }
 }
 
-/// What the words of the command line ask for; `None` where they aren't understood.
+/// The options that the arguments ask for; `None` where they aren't understood.
 fn asked(rt: &(impl Env + AllocGlobal)) -> Result<Option<Options>, RunFault> {
     let words = match env::args(rt) {
         Ok(words) => words,

@@ -1,4 +1,4 @@
-//! The words of the command line.
+//! The arguments.
 ghost use Rattle.std.specs.Prelude.{◌≡◌, ◌≢◌, Some, IfSome, SomeIff, MatchBool, map, string_bytes};
 ghost use Rattle.std.specs.Str.Parse.{digits_value};
 ghost use Rattle.jsonnorm.specs.Options.{Asks, IsLimit};
@@ -6,9 +6,9 @@ ghost use Rattle.jsonnorm.specs.declared.run.Options.{Options};
 
 use crate::run::Options;
 
-/// Reads the words that follow the program's name: `-i` for indented text, and `-d N` for a limit
-/// on depth, N of 1 to 9 decimal digits. They stand in either order, each at most once; other words
-/// give `None`.
+/// Reads the arguments that follow the program's name: `-i` for indented text, and `-d N` for a limit
+/// on depth, N of 1 to 9 decimal digits. They stand in either order, each at most once; other
+/// arguments give `None`.
 pub fn options(words: &[String]) -> Option<Options>
     ensures asked { IfSome result (λ o. Asks (map string_bytes words.now) o.indented o.limit) }
     ensures given { (o : Options) → Asks (map string_bytes words.now) o.indented o.limit →
@@ -25,7 +25,7 @@ pub fn options(words: &[String]) -> Option<Options>
     Some(Options { indented, limit })
 }
 
-/// Whether the word is this one.
+/// Whether the argument is this one.
 fn is_word(word: &String, expected: &str) -> bool
     ensures { MatchBool result (string_bytes word.now ≡ expected.now)
         (string_bytes word.now ≢ expected.now) }

@@ -4,7 +4,7 @@ ghost use Rattle.std.specs.Str.{chars};
 ghost use Rattle.tinyjson.specs.Parser.{ParsesText};
 ghost use Rattle.jsonnorm.specs.Run.{Runs};
 
-use crate::fault::{RunFault, refusal, writing_fault};
+use crate::fault::{RunFault, refusal, writing_error};
 use crate::input::read_all;
 use crate::output::write_line;
 use std::alloc::Global;
@@ -83,7 +83,7 @@ fn normalize<R: Read, W: Write>(
             let written = write_line(alloc, output, &value, options.indented);
             // The program ends soon, and walking the value only to free it would cost time.
             mem::forget(value);
-            written.map_err(writing_fault)
+            written.map_err(writing_error)
         }
     }
 }

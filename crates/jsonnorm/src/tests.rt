@@ -1,4 +1,4 @@
-//! Runs from texts to outputs, with readers and writers that fail, and the words of the command line.
+//! Runs from texts to outputs, with readers and writers that fail, and arguments.
 
 mod failing;
 mod long;

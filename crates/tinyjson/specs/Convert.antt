@@ -19,6 +19,6 @@ abbrev pub GivesPart : {A : Type 0} → (JsonValue → Option A) → JsonKind �
 GivesPart part kind v r = MatchResult r (λ x. part v ≡ Some x)
     (λ e. (part v ≡ None) × ((unexpected_value e ≡ v) × (expected_kind e ≡ kind)))
 
-abbrev pub unexpected_words : UnexpectedValue → List ℕ
-unexpected_words e = codes "Unexpected JSON value: " ++ kind_name (kind_of (view (unexpected_value e)))
+abbrev pub unexpected_message : UnexpectedValue → List ℕ
+unexpected_message e = codes "Unexpected JSON value: " ++ kind_name (kind_of (view (unexpected_value e)))
     ++ codes ". Expected " ++ kind_name (expected_kind e) ++ codes " value"

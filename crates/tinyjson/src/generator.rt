@@ -258,7 +258,7 @@ impl JsonGenerateError {
     }
 }
 
-/// The words of the error.
+/// The message of the error.
 impl fmt::Display for JsonGenerateError {
     ghost use Rattle.std.specs.Prelude.{Some, codes};
 

@@ -8,7 +8,7 @@ use Rattle.tinyjson_grammar.specs.declared.error.JsonParseErrorKind.TheVariants.
 use Rattle.tinyjson_grammar.proofs.Trace.State.{Ranges, Spells}
 use Rattle.tinyjson_grammar.proofs.Prefix.Viable.{read_prompt}
 use Rattle.tinyjson_grammar.proofs.Step.Statement.{Follows}
-use Rattle.tinyjson_grammar.proofs.Sound.{Reached, reached_next, denies, is_dead, step_spells, start_spells, spells_viable}
+use Rattle.tinyjson_grammar.proofs.Sound.{Reached, reached_next, denies, is_unviable, step_spells, start_spells, spells_viable}
 
 pub spells_prompt : Ranges → (limit : Option ℕ) (used : List ℕ) (fs : List Frame) (q : Phase) → Spells limit used fs q → IsPromptly limit used []
 spells_prompt ranges limit used fs q s = rw s.whole (read_prompt ranges limit s.read s.is)
@@ -52,5 +52,5 @@ interrupted_late ranges limit used h s e c hc k =
     let i : Spells limit used s.frames s.phase = reach_spells ranges limit used h [] [] awaited (start_spells limit) s e in
     let r : Reached limit used s.frames s.phase = reach_reached limit used [] [] awaited (λ b ys. refl) s e in
     let f : Follows limit used s.frames s.phase c (stop InvalidUtf16 true) = subst (Follows limit used s.frames s.phase c) k (step_spells ranges limit used s.frames s.phase i c hc) in
-    let p = (f [] (denies limit used s.frames s.phase r) (is_dead limit used s.frames s.phase c InvalidUtf16 r k)).1 in
+    let p = (f [] (denies limit used s.frames s.phase r) (is_unviable limit used s.frames s.phase c InvalidUtf16 r k)).1 in
     record { last = p.0.0 ∷ []; short = omega arith; place = p.0.1; viable = p.1 }

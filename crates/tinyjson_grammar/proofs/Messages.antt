@@ -1,7 +1,7 @@
 -- The words of messages: a code point in four hexadecimal digits or more.
 use Rattle.std.proofs.Common.{◌≡◌, ℕ, ◌-◌, true, false, List, [], ◌++◌, length, replicate, Option, Some, option_map, codes, ap, ◌∙◌, append-nil, arith}
 use Rattle.std.specs.Fmt.{digits, format_spec, padded_integral, char_count, shown_prefix, ◌++?◌}
-use Rattle.tinyjson_grammar.specs.Words.{code_point}
+use Rattle.tinyjson_grammar.specs.Message.{code_point}
 
 -- the digits, with zeros before them up to four
 zeros_before : (ds : List ℕ) → padded_integral (format_spec 32 0 4 4 18446744073709551615) false [] ds ≡ replicate (4 - length ds) 48 ++ ds

@@ -1,5 +1,5 @@
 -- Prefixes: what can still become a text, and what cannot.
-pub mod Faultless
+pub mod ErrorFree
 pub mod InRange
 pub mod Viable
 pub mod CutOff

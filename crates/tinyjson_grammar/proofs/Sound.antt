@@ -7,15 +7,15 @@ use Rattle.tinyjson_grammar.specs.Kind.{kind_of}
 use Rattle.tinyjson_grammar.specs.Tree.{Tree}
 use Rattle.tinyjson_grammar.specs.Syntax.{tree_of}
 use Rattle.tinyjson_grammar.specs.Grammar.{IsLoose, IsText, IsAccepted}
-use Rattle.tinyjson_grammar.specs.Prefix.{IsViable, IsFaultless, IsCutOffText, IsLooselyViable}
+use Rattle.tinyjson_grammar.specs.Prefix.{IsViable, IsErrorFree, IsCutOffText, IsLooselyViable}
 use Rattle.tinyjson_grammar.specs.declared.error.JsonParseErrorKind.{JsonParseErrorKind}
 use Rattle.tinyjson_grammar.specs.declared.error.JsonParseErrorKind.TheVariants.{KeyNotString}
 use Rattle.tinyjson_grammar.specs.Refusal.{KindSays, IsNotTooLate, IsRefusal}
 use Rattle.tinyjson_grammar.proofs.Trace.Paths.{outside}
-use Rattle.tinyjson_grammar.proofs.Prefix.Faultless.{viable_before}
+use Rattle.tinyjson_grammar.proofs.Prefix.ErrorFree.{viable_before}
 use Rattle.tinyjson_grammar.proofs.Trace.State.{Ranges, Spells, at_awaited}
 use Rattle.tinyjson_grammar.proofs.Prefix.Viable.{read_viable}
-use Rattle.tinyjson_grammar.proofs.Step.Statement.{loosely, NoQuoteFrom, Denies, IsDead, Follows}
+use Rattle.tinyjson_grammar.proofs.Step.Statement.{loosely, NoQuoteFrom, Denies, IsUnviable, Follows}
 use Rattle.tinyjson_grammar.proofs.Step.Character.{step_follows, end_follows, Ends}
 use Rattle.tinyjson_grammar.proofs.Accepts.Text.{rules, text_accepted, no_text, loose_accepted}
 use Rattle.tinyjson_grammar.proofs.Prefix.Unviable.{cut_off_end}
@@ -61,28 +61,28 @@ taken_run b limit used fs q c k h e ys = ap (run (rules b limit) [] awaited) (ap
 taken_unviable : (limit : Option ℕ) (used : List ℕ) (fs : List Frame) (q : Phase) (c : ℕ) (k : JsonParseErrorKind) → Reached limit used fs q → step (strictly limit) fs q c ≡ stop k true → ¬ IsViable (IsAccepted limit) (used ++ c ∷ [])
 taken_unviable limit used fs q c k h e = unviable limit (used ++ c ∷ []) (λ ys t g. no_text k ys t (sym (taken_run true limit used fs q c k h e ys) ∙ g))
 
-dies : (limit : Option ℕ) (used : List ℕ) (fs : List Frame) (q : Phase) (c : ℕ) (k : JsonParseErrorKind) → Reached limit used fs q → is_own k ≡ false → step (strictly limit) fs q c ≡ stop k true → ¬ IsLooselyViable limit (used ++ c ∷ [])
-dies limit used fs q c k h o e = loosely_unviable limit (used ++ c ∷ []) (λ ys t g. no_text k ys t (sym (taken_run false limit used fs q c k h (strict_stop limit fs q c k true o e) ys) ∙ g))
+turns_unviable : (limit : Option ℕ) (used : List ℕ) (fs : List Frame) (q : Phase) (c : ℕ) (k : JsonParseErrorKind) → Reached limit used fs q → is_own k ≡ false → step (strictly limit) fs q c ≡ stop k true → ¬ IsLooselyViable limit (used ++ c ∷ [])
+turns_unviable limit used fs q c k h o e = loosely_unviable limit (used ++ c ∷ []) (λ ys t g. no_text k ys t (sym (taken_run false limit used fs q c k h (strict_stop limit fs q c k true o e) ys) ∙ g))
 
 -- what is denied where the machine stands so
 pub denies : (limit : Option ℕ) (used : List ℕ) (fs : List Frame) (q : Phase) → Reached limit used fs q → Denies limit used fs q
 denies limit used fs q h = record { no_quote = no_quote_follows limit used fs q h; unviable = λ n. unviable limit used (λ ys t e. n ys t (sym (h true ys) ∙ e)) }
 
-pub is_dead : (limit : Option ℕ) (used : List ℕ) (fs : List Frame) (q : Phase) (c : ℕ) (k : JsonParseErrorKind) → Reached limit used fs q → step (strictly limit) fs q c ≡ stop k true → IsDead limit (used ++ c ∷ []) k
-is_dead limit used fs q c k h e = record { unviable = taken_unviable limit used fs q c k h e; loosely = λ o. dies limit used fs q c k h o e }
+pub is_unviable : (limit : Option ℕ) (used : List ℕ) (fs : List Frame) (q : Phase) (c : ℕ) (k : JsonParseErrorKind) → Reached limit used fs q → step (strictly limit) fs q c ≡ stop k true → IsUnviable limit (used ++ c ∷ []) k
+is_unviable limit used fs q c k h e = record { unviable = taken_unviable limit used fs q c k h e; loosely = λ o. turns_unviable limit used fs q c k h o e }
 
--- the next character is too many: not even the first key that is no string is still to come
-no_middle : (limit : Option ℕ) (u : List ℕ) (d : ℕ) (k : JsonParseErrorKind) → ((ys : List ℕ) → run (strictly limit) [] awaited (u ++ d ∷ ys) ≡ refused k (d ∷ ys)) → (ys : List ℕ) →
+-- the next character is too many: not even the first key that is not a string is still to come
+not_completed : (limit : Option ℕ) (u : List ℕ) (d : ℕ) (k : JsonParseErrorKind) → ((ys : List ℕ) → run (strictly limit) [] awaited (u ++ d ∷ ys) ≡ refused k (d ∷ ys)) → (ys : List ℕ) →
     (IsAccepted limit ((u ++ d ∷ []) ++ ys) ⊎ IsCutOffText limit ((u ++ d ∷ []) ++ ys)) → ⊥
-no_middle limit u d k h ys (inl a) =
+not_completed limit u d k h ys (inl a) =
     no_text k (d ∷ ys) a.0 (sym (h ys) ∙ (sym (ap (run (strictly limit) [] awaited) (append_assoc u (d ∷ []) ys)) ∙ text_accepted limit ((u ++ d ∷ []) ++ ys) a.0 a.1))
-no_middle limit u d k h ys (inr b) =
+not_completed limit u d k h ys (inr b) =
     let i = cut_off_end limit ((u ++ d ∷ []) ++ ys) b in
     let e : refused k (d ∷ ys) ≡ refused (KeyNotString (kind_of i.0)) [] = sym (h ys) ∙ (sym (ap (run (strictly limit) [] awaited) (append_assoc u (d ∷ []) ys)) ∙ i.1) in
     absurd cc
 
-pub not_faultless : (limit : Option ℕ) (u : List ℕ) (d : ℕ) (k : JsonParseErrorKind) → ((ys : List ℕ) → run (strictly limit) [] awaited (u ++ d ∷ ys) ≡ refused k (d ∷ ys)) → ¬ IsFaultless limit (u ++ d ∷ [])
-not_faultless limit u d k h a = no_middle limit u d k h a.0 a.1
+pub not_error_free : (limit : Option ℕ) (u : List ℕ) (d : ℕ) (k : JsonParseErrorKind) → ((ys : List ℕ) → run (strictly limit) [] awaited (u ++ d ∷ ys) ≡ refused k (d ∷ ys)) → ¬ IsErrorFree limit (u ++ d ∷ [])
+not_error_free limit u d k h a = not_completed limit u d k h a.0 a.1
 
 -- ---- without its last character it is viable in the loose grammar
 
@@ -96,14 +96,14 @@ init_push [] c = refl
 init_push (x ∷ []) c = refl
 init_push (x ∷ y ∷ ys) c = ap (λ zs. x ∷ zs) (init_push (y ∷ ys) c)
 
-same_front : (front other : List ℕ) (c d : ℕ) → front ++ c ∷ [] ≡ other ++ d ∷ [] → front ≡ other
-same_front front other c d e = sym (init_push front c) ∙ (ap init e ∙ init_push other d)
+same_front : (prefix other : List ℕ) (c d : ℕ) → prefix ++ c ∷ [] ≡ other ++ d ∷ [] → prefix ≡ other
+same_front prefix other c d e = sym (init_push prefix c) ∙ (ap init e ∙ init_push other d)
 
 pub late_one : (limit : Option ℕ) (used : List ℕ) (c : ℕ) → IsLooselyViable limit used → IsNotTooLate limit (used ++ c ∷ [])
-late_one limit used c h front d e = subst (IsLooselyViable limit) (same_front used front c d e) h
+late_one limit used c h prefix d e = subst (IsLooselyViable limit) (same_front used prefix c d e) h
 
 pub late_none : (limit : Option ℕ) (used : List ℕ) → IsLooselyViable limit used → IsNotTooLate limit used
-late_none limit used h front d e = viable_before (IsLoose limit) front (d ∷ []) (subst (IsLooselyViable limit) e h)
+late_none limit used h prefix d e = viable_before (IsLoose limit) prefix (d ∷ []) (subst (IsLooselyViable limit) e h)
 
 -- ---- the error
 
@@ -113,9 +113,9 @@ refuses limit xs rest k e a = no_text k rest a.0 (sym e ∙ text_accepted limit 
 refusal_taken : (limit : Option ℕ) (used : List ℕ) (fs : List Frame) (q : Phase) (c : ℕ) (k : JsonParseErrorKind) (rest : List ℕ) → Reached limit used fs q → IsLooselyViable limit used → step (strictly limit) fs q c ≡ stop k true → Follows limit used fs q c (stop k true) →
     IsRefusal limit k (used ++ c ∷ []) rest
 refusal_taken limit used fs q c k rest h a e f = record {
-  says = f rest (denies limit used fs q h) (is_dead limit used fs q c k h e);
+  says = f rest (denies limit used fs q h) (is_unviable limit used fs q c k h e);
   refused = refuses limit ((used ++ c ∷ []) ++ rest) rest k (taken_run true limit used fs q c k h e rest);
-  not_too_soon = λ d more g. not_faultless limit (used ++ c ∷ []) d k (λ ys. taken_run true limit used fs q c k h e (d ∷ ys));
+  not_too_soon = λ d more g. not_error_free limit (used ++ c ∷ []) d k (λ ys. taken_run true limit used fs q c k h e (d ∷ ys));
   not_too_late = late_one limit used c a;
 }
 
@@ -124,7 +124,7 @@ refusal_left : (limit : Option ℕ) (used : List ℕ) (fs : List Frame) (q : Pha
 refusal_left limit used fs q c k cs h a e f = record {
   says = f cs (denies limit used fs q h);
   refused = refuses limit (used ++ c ∷ cs) (c ∷ cs) k (h true (c ∷ cs) ∙ run_left (strictly limit) fs q c k cs e);
-  not_too_soon = λ d more g. subst (λ x. ¬ IsFaultless limit (used ++ x ∷ [])) (same_head c d cs more g) (not_faultless limit used c k (λ ys. h true (c ∷ ys) ∙ run_left (strictly limit) fs q c k ys e));
+  not_too_soon = λ d more g. subst (λ x. ¬ IsErrorFree limit (used ++ x ∷ [])) (same_head c d cs more g) (not_error_free limit used c k (λ ys. h true (c ∷ ys) ∙ run_left (strictly limit) fs q c k ys e));
   not_too_late = late_none limit used a;
 }
   where

@@ -8,7 +8,7 @@ pub mod Grammar
 pub mod Prefix
 pub mod Position
 pub mod Refusal
-pub mod Words
+pub mod Message
 pub mod Text
 -- what private contracts and proofs alone say
 pub mod Machine

@@ -36,7 +36,7 @@ pub data Frame : Type 0 where
 
 pub data Stage : Type 0 where
   minus : Stage
-  whole : Stage
+  integer : Stage
   point : Stage
   fraction : Stage
   letter : Stage
@@ -76,7 +76,7 @@ abbrev pub fits : Option ℕ → ℕ → Bool
 fits None n = true
 fits (Some limit) n = nat_lt n limit
 
--- where a value is whole
+-- where a value is complete
 abbrev pub complete_key : Bool → List Frame → Members → Tree → Bool → Next
 complete_key strict fs ms t taken = cond (strict && not (is_string t)) (stop (KeyNotString (kind_of t)) taken)
     (next (at_key ms ∷ fs) (colon (key_of t)))
@@ -99,8 +99,8 @@ start r fs c =
     (cond (c == quotation_mark) (next fs (quoted plain [] []))
     (cond (c == begin_array) (push_frame r fs (in_array []) c)
     (cond (c == begin_object) (push_frame r fs (at_key no_members) c)
-    (cond (c == minus_sign) (next fs (digits minus (record { negative = true; whole = []; fraction = []; exponent = None })))
-    (cond (is_ascii_digit c) (next fs (digits whole (record { negative = false; whole = c ∷ []; fraction = []; exponent = None })))
+    (cond (c == minus_sign) (next fs (digits minus (record { negative = true; integer = []; fraction = []; exponent = None })))
+    (cond (is_ascii_digit c) (next fs (digits integer (record { negative = false; integer = c ∷ []; fraction = []; exponent = None })))
     (stop (InvalidCharacter c) false))))))))
 
 abbrev pub step_awaited : Rules → List Frame → ℕ → Next
@@ -174,23 +174,23 @@ with_exponent_digit n c = record n {
       (record (exponent_or n.exponent) { digits = (exponent_or n.exponent).digits ++ c ∷ [] });
 }
 
--- the numeral is whole: the power is tested
+-- the numeral is complete: the power is tested
 abbrev pub finish : Rules → List Frame → Numeral → Next
 finish r fs n = cond (r.strict && not (in_range (value n))) (stop NumberOutOfRange false) (complete r.strict fs (number (value n)) false)
 
 -- what follows the digits before the point, once they end
-abbrev pub after_whole : Rules → List Frame → Numeral → ℕ → Option Next
-after_whole r fs n c =
-    cond (r.strict && has_leading_zero n.whole) (Some (stop LeadingZero false))
+abbrev pub after_integer : Rules → List Frame → Numeral → ℕ → Option Next
+after_integer r fs n c =
+    cond (r.strict && has_leading_zero n.integer) (Some (stop LeadingZero false))
     (cond (c == decimal_point) (Some (next fs (digits point n)))
     (cond (is_exponent_letter c) (Some (next fs (digits letter (with_exponent n c)))) None))
 
 -- None where the numeral ends before c
 abbrev pub step_digits : Rules → List Frame → Stage → Numeral → ℕ → Option Next
-step_digits r fs minus n c = Some (cond (is_ascii_digit c) (next fs (digits whole (record n { whole = c ∷ [] })))
+step_digits r fs minus n c = Some (cond (is_ascii_digit c) (next fs (digits integer (record n { integer = c ∷ [] })))
     (stop EmptyInteger false))
-step_digits r fs whole n c = cond (is_ascii_digit c)
-    (Some (next fs (digits whole (record n { whole = n.whole ++ c ∷ [] })))) (after_whole r fs n c)
+step_digits r fs integer n c = cond (is_ascii_digit c)
+    (Some (next fs (digits integer (record n { integer = n.integer ++ c ∷ [] })))) (after_integer r fs n c)
 step_digits r fs point n c = Some (cond (is_ascii_digit c) (next fs (digits fraction (record n { fraction = c ∷ [] })))
     (stop EmptyFraction false))
 step_digits r fs fraction n c =
@@ -247,7 +247,7 @@ end_plain (next fs (finished t)) = accepted t
 
 abbrev pub end_digits : Rules → List Frame → Stage → Numeral → Outcome
 end_digits r fs minus n = refused EmptyInteger []
-end_digits r fs whole n = cond (r.strict && has_leading_zero n.whole) (refused LeadingZero []) (end_plain (finish r fs n))
+end_digits r fs integer n = cond (r.strict && has_leading_zero n.integer) (refused LeadingZero []) (end_plain (finish r fs n))
 end_digits r fs point n = refused EmptyFraction []
 end_digits r fs fraction n = end_plain (finish r fs n)
 end_digits r fs letter n = refused EmptyExponent []

@@ -1,4 +1,4 @@
--- What can still become a text (a viable prefix), and what has no fault so far.
+-- What can still become a text (a viable prefix), and what has no error so far.
 use Rattle.std.specs.Prelude.{◌≡◌, ℕ, ◌+◌, max, false, List, [], ◌∷◌, ◌++◌, Option, ⊤, ◌⊎◌, IsTrue}
 use Rattle.tinyjson_grammar.specs.Characters.{paired}
 use Rattle.tinyjson_grammar.specs.Syntax.{Syntax, text, AreWhite, IsSpelled, IsStrict, is_key}
@@ -15,9 +15,9 @@ IsViable P xs = (ys : List ℕ) × P (xs ++ ys)
 abbrev pub IsLooselyViable : Option ℕ → List ℕ → Type 0
 IsLooselyViable limit xs = IsViable (IsLoose limit) xs
 
--- ---- texts that end with their first key that is no string
+-- ---- texts that end with their first key that is not a string
 
--- an item with the white round it; a pair with the white round its parts
+-- an item with the white space around it; a pair with the white space around its parts
 pub record Element : Type 0 where
   pub before : List ℕ
   pub value : Syntax
@@ -74,7 +74,7 @@ abbrev pub ArePairsBefore : List Pair → Type 0
 ArePairsBefore [] = ⊤
 ArePairsBefore (p ∷ ps) = IsPair p × ArePairsBefore ps
 
--- A container that is left open after its first key that is no string.
+-- A container that is left open after its first key that is not a string.
 pub data CutOff : Type 0 where
   bad_key : List Pair → List ℕ → Syntax → CutOff
   in_key : List Pair → List ℕ → CutOff → CutOff
@@ -111,7 +111,7 @@ cut_off_depth (in_key ps w b) = 1 + max (pairs_deepest ps) (cut_off_depth b)
 cut_off_depth (in_member ps w k v u b) = 1 + max (pairs_deepest ps) (cut_off_depth b)
 cut_off_depth (in_item es w b) = 1 + max (elements_deepest es) (cut_off_depth b)
 
--- white and a CutOff
+-- white space and a CutOff
 pub record IsCutOffText (limit : Option ℕ) (xs : List ℕ) : Type 0 where
   pub before : List ℕ
   pub cut_off : CutOff
@@ -120,8 +120,8 @@ pub record IsCutOffText (limit : Option ℕ) (xs : List ℕ) : Type 0 where
   pub shallow : IsWithin limit (cut_off_depth cut_off)
   pub whole : xs ≡ before ++ cut_off_text cut_off
 
--- No fault has come yet, or the first one just now, a key that is no string: some list, perhaps the
--- empty one, completes it to a text, or to one that ends with its first key that is no string. So `{1`
--- is faultless, though no text begins so, and `{1:` is not.
-abbrev pub IsFaultless : Option ℕ → List ℕ → Type 0
-IsFaultless limit xs = IsViable (λ ys. IsAccepted limit ys ⊎ IsCutOffText limit ys) xs
+-- No error has come yet, or the first one just now, a key that is not a string: some list, perhaps the
+-- empty one, completes it to a text, or to one that ends with its first key that is not a string. So `{1`
+-- is meant, though no text begins so, and `{1:` is not.
+abbrev pub IsErrorFree : Option ℕ → List ℕ → Type 0
+IsErrorFree limit xs = IsViable (λ ys. IsAccepted limit ys ⊎ IsCutOffText limit ys) xs

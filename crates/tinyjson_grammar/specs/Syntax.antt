@@ -26,12 +26,12 @@ mutual
     empty_object : List ℕ → Syntax
     object : Pairs → Syntax
 
-  -- white, a value, white
+  -- white space, a value, white space
   pub data Elements : Type 0 where
     last_element : List ℕ → Syntax → List ℕ → Elements
     element : List ℕ → Syntax → List ℕ → Elements → Elements
 
-  -- white, a key, white, a colon, white, a value, white. In the loose grammar a key is any value.
+  -- a key, a colon and a value, each with white space around it. In the loose grammar a key is any value.
   pub data Pairs : Type 0 where
     last_pair : List ℕ → Syntax → List ℕ → List ℕ → Syntax → List ℕ → Pairs
     pair : List ℕ → Syntax → List ℕ → List ℕ → Syntax → List ℕ → Pairs → Pairs
@@ -153,7 +153,7 @@ abbrev mutual
   IsStrictAt width null = ⊤
   IsStrictAt width (boolean b) = ⊤
   IsStrictAt width (number n) =
-      IsTrue (not (has_leading_zero n.whole)) × IsTrue (fits_in width (value n))
+      IsTrue (not (has_leading_zero n.integer)) × IsTrue (fits_in width (value n))
   IsStrictAt width (string ps) = IsTrue (paired (piece_codes ps))
   IsStrictAt width (empty_array w) = ⊤
   IsStrictAt width (array es) = ElementsAreStrictAt width es

@@ -1,7 +1,7 @@
 //! Why a text was refused.
 ghost use Rattle.std.specs.Int.{is_in_range};
 ghost use Rattle.std.specs.Prelude.{◌≡◌, ◌++◌, Some, codes};
-ghost use Rattle.tinyjson_grammar.specs.Words.{kind_words, shown};
+ghost use Rattle.tinyjson_grammar.specs.Message.{kind_message, shown};
 
 use crate::kind::JsonKind;
 use std::fmt::{self, Display};
@@ -21,9 +21,10 @@ pub enum JsonParseErrorKind {
     UnexpectedEof,
     /// A value was needed, and this character begins none. It isn't consumed.
     InvalidCharacter(char),
-    /// After the whole value there is a character that is not white space. It is consumed.
+    /// After the value of the text there is a character that is not white space. It is consumed.
     ExpectedEof(char),
-    /// A key was needed, and a value of this other kind was wholly read.
+    /// A key was needed, and a complete value of this kind, which is not a string, was read. What follows it
+    /// isn't consumed.
     KeyNotString(JsonKind),
     /// After a key there is no colon. The character is consumed.
     ExpectedColon(char),
@@ -34,7 +35,7 @@ pub enum JsonParseErrorKind {
     /// A run of `\u` escapes has a surrogate without its partner (RFC 8259, section 8.2). What ends the
     /// run, the closing quote, a character or another escape, is consumed.
     InvalidUtf16,
-    /// Among the four digits after `\u` is a character that is no hexadecimal digit. It is consumed.
+    /// Among the four digits after `\u` is a character that is not a hexadecimal digit. It is consumed.
     InvalidHexDigit(char),
     /// After a backslash is a character that begins no escape. It is consumed.
     InvalidEscape(char),
@@ -50,10 +51,10 @@ pub enum JsonParseErrorKind {
     EmptyFraction,
     /// After `e` or `E` and the sign, if there is one, is no digit. What follows isn't consumed.
     EmptyExponent,
-    /// A number was wholly read, and its power of ten is outside the range of `i64`. What follows it isn't
+    /// A complete number was read, and its power of ten is outside the range of `i64`. What follows it isn't
     /// consumed.
     NumberOutOfRange,
-    /// An allocation failed. The position tells what was consumed by then; the rest is left.
+    /// An allocation failed. The position is the one after what was consumed; the rest is left.
     OutOfMemory,
     /// This bracket or brace would open one container more than the limit allows. It isn't consumed.
     TooDeep(char),
@@ -98,9 +99,9 @@ fn is_printable(c: char) -> bool
     matches!(c, ' '..='~')
 }
 
-/// The words of the kind, without a position.
+/// The message of the kind, without a position.
 impl fmt::Display for JsonParseErrorKind {
-    ghost output = { λ k. Some (kind_words k) };
+    ghost output = { λ k. Some (kind_message k) };
 
     fn fmt<W: fmt::Write>(&self, f: &mut fmt::Formatter<W>) -> fmt::Result {
         match *self {

@@ -1,7 +1,7 @@
 //! The grammar of JSON texts, and what is proved of it without any code: that a machine over single characters accepts
 //! exactly the texts of the grammar, each with its one tree, and that each of its errors says what an error must.
 //!
-//! The crate `tinyjson` stands on it and gives its names on: a program takes `tinyjson` alone.
+//! The crate `tinyjson` uses it and re-exports its names: a program takes `tinyjson` alone.
 #![tactic(auto)]
 
 pub mod error;

@@ -76,8 +76,8 @@ module _ (indent : List ℕ) where
       ∙ ap (λ z. 123 ∷ z) (regroup [] (line indent (k + 1)) (quoted l ++ 58 ∷ 32 ∷ indented_text indent (k + 1) t) (commas (indented_members indent (k + 1) ms)) (line indent k) 125)
       ∙ ap (λ z. 123 ∷ ((z ++ line indent k) ++ 125 ∷ [])) (sym (commas_first (line indent (k + 1) ++ (quoted l ++ 58 ∷ 32 ∷ indented_text indent (k + 1) t)) (indented_members indent (k + 1) ms)))
 
-  item_behind : (k : ℕ) (t c : List ℕ) → ((44 ∷ []) ++ line indent k) ++ (t ++ c) ≡ 44 ∷ ((line indent k ++ t) ++ c)
-  item_behind k t c = simp append_assoc
+  item_after : (k : ℕ) (t c : List ℕ) → ((44 ∷ []) ++ line indent k) ++ (t ++ c) ≡ 44 ∷ ((line indent k ++ t) ++ c)
+  item_after k t c = simp append_assoc
 
   mutual
     indented_is : (t : Tree) (k : ℕ) → text (Some indent) k t ≡ indented_text indent k t
@@ -98,12 +98,12 @@ module _ (indent : List ℕ) where
 
     items_indented : (ts : Items) (k : ℕ) → IndentedItems k ts
     items_indented tree.no_items k = refl
-    items_indented (tree.item t ts) k = (λ i. ((44 ∷ []) ++ line indent k) ++ (indented_is t k i ++ items_indented ts k i)) ∙ item_behind k (indented_text indent k t) (commas (indented_items indent k ts))
+    items_indented (tree.item t ts) k = (λ i. ((44 ∷ []) ++ line indent k) ++ (indented_is t k i ++ items_indented ts k i)) ∙ item_after k (indented_text indent k t) (commas (indented_items indent k ts))
 
     members_indented : (ms : Members) (k : ℕ) → IndentedMembers k ms
     members_indented tree.no_members k = refl
     members_indented (tree.member l t ms) k =
-        (λ i. ((44 ∷ []) ++ line indent k) ++ ((quoted l ++ 58 ∷ 32 ∷ indented_is t k i) ++ members_indented ms k i)) ∙ item_behind k (quoted l ++ 58 ∷ 32 ∷ indented_text indent k t) (commas (indented_members indent k ms))
+        (λ i. ((44 ∷ []) ++ line indent k) ++ ((quoted l ++ 58 ∷ 32 ∷ indented_is t k i) ++ members_indented ms k i)) ∙ item_after k (quoted l ++ 58 ∷ 32 ∷ indented_text indent k t) (commas (indented_members indent k ms))
 
 pub compact_layout : CompactLayout
 compact_layout t = compact_is t 0

@@ -9,7 +9,7 @@ pub mod LayoutLaws
 pub mod Bare
 pub mod WhiteSpaceLaws
 pub mod MemberLaws
-pub mod Faultless
+pub mod ErrorFree
 pub mod PrefixLaws
 pub mod RefusalPlaces
 pub mod RefusalTokens

@@ -9,18 +9,18 @@ use Rattle.tinyjson_grammar.specs.Tree as tree
 use Rattle.tinyjson_grammar.specs.Characters.{is_white}
 use Rattle.tinyjson_grammar.specs.Syntax.{Syntax, null, boolean, number, string, empty_array, array, empty_object, object, text, AreWhite, IsSpelled, IsStrict, IsWithin}
 use Rattle.tinyjson_grammar.specs.Grammar.{IsLoose, IsAccepted}
-use Rattle.tinyjson_grammar.specs.Prefix.{IsViable, IsFaultless, IsCutOffText, IsLooselyViable}
+use Rattle.tinyjson_grammar.specs.Prefix.{IsViable, IsErrorFree, IsCutOffText, IsLooselyViable}
 use Rattle.tinyjson_grammar.specs.Refusal.{begins_value, begins_growth, IsLiteral, IsRefusal, RefusalSays}
 use Rattle.tinyjson_grammar.specs.declared.error.JsonParseErrorKind.{JsonParseErrorKind}
 use Rattle.tinyjson_grammar.specs.declared.error.JsonParseErrorKind.TheVariants as kind
 use Rattle.tinyjson_grammar.proofs.Callers.Laws.{viable_before}
-use Rattle.tinyjson_laws.proofs.Faultless.{faultless_loosely}
-use Rattle.tinyjson_laws.specs.Prefixes.{AcceptedIsLoose, EmptyIsViable, ViableIsFaultless, FaultlessIsLooselyViable, UnviableStaysSo, BeginsStrictly, ValuesBegin, GrowthBegins, UnviableAtFirst, IsShortest, ShortestInOrder, RefusedNotTooSoon, RefusedAtEnd, RefusedNotTooLate}
+use Rattle.tinyjson_laws.proofs.ErrorFree.{error_free_loosely}
+use Rattle.tinyjson_laws.specs.Prefixes.{AcceptedIsLoose, EmptyIsViable, ViableIsErrorFree, ErrorFreeIsLooselyViable, UnviableStaysSo, BeginsStrictly, ValuesBegin, GrowthBegins, UnviableAtFirst, IsShortest, ShortestInOrder, RefusedNotTooSoon, RefusedAtEnd, RefusedNotTooLate}
 
 pub accepted_is_loose : AcceptedIsLoose
 accepted_is_loose limit xs h = h.1.loose
 
--- ---- viable, faultless, unviable
+-- ---- viable, without an error, unviable
 
 abbrev null_text : List ℕ
 null_text = text null
@@ -42,11 +42,11 @@ null_accepted limit = (
 pub empty_is_viable : EmptyIsViable
 empty_is_viable limit = let a = null_accepted limit in ((null_text, a), (null_text, accepted_is_loose limit null_text a))
 
-pub viable_is_faultless : ViableIsFaultless
-viable_is_faultless limit xs h = (h.0, inl h.1)
+pub viable_is_error_free : ViableIsErrorFree
+viable_is_error_free limit xs h = (h.0, inl h.1)
 
-pub faultless_is_loosely_viable : FaultlessIsLooselyViable
-faultless_is_loosely_viable limit xs h = faultless_loosely limit xs h
+pub error_free_is_loosely_viable : ErrorFreeIsLooselyViable
+error_free_is_loosely_viable limit xs h = error_free_loosely limit xs h
 
 pub unviable_stays_so : UnviableStaysSo
 unviable_stays_so limit xs ys = (
@@ -76,7 +76,7 @@ literal_or_growth : (s : Syntax) → IsSpelled s → IsLiteral (text s) ⊎ Firs
 literal_or_growth null h = inl (inl refl)
 literal_or_growth (boolean true) h = inl (inr (inl refl))
 literal_or_growth (boolean false) h = inl (inr (inr refl))
-literal_or_growth (number n) h = inr (numeral_first n.negative n.whole _ h.some_digit h.whole)
+literal_or_growth (number n) h = inr (numeral_first n.negative n.integer _ h.some_digit h.integer)
 literal_or_growth (string ps) h = inr (34, _, refl, refl)
 literal_or_growth (empty_array w) h = inr (91, _, refl, refl)
 literal_or_growth (array es) h = inr (91, _, refl, refl)
@@ -95,7 +95,7 @@ begun_by : (s : Syntax) (d : ℕ) (more : List ℕ) → IsSpelled s → IsStrict
 begun_by s d more i j e c h = (s, more, i, j, e ∙ ap (λ k. k ∷ more) (sym (eqb-true c d h)))
 
 abbrev digit : ℕ → Numeral
-digit c = record { negative = false; whole = c ∷ []; fraction = []; exponent = None }
+digit c = record { negative = false; integer = c ∷ []; fraction = []; exponent = None }
 
 digit_fits : (c : ℕ) (b : Bool) → (c == 48) ≡ b → IsTrue (in_range (value (digit c)))
 unfolding value power_fits
@@ -103,11 +103,11 @@ digit_fits c true e = rw e refl
 digit_fits c false e = rw e (rw e refl)
 
 begun_digit : (c : ℕ) → IsTrue (is_ascii_digit c) → BeginsStrictly c
-begun_digit c h = (number (digit c), [], record { whole = (h, tt); some_digit = omega arith; fraction = tt; exponent = tt }, (refl, digit_fits c (c == 48) refl), refl)
+begun_digit c h = (number (digit c), [], record { integer = (h, tt); some_digit = omega arith; fraction = tt; exponent = tt }, (refl, digit_fits c (c == 48) refl), refl)
 
 begun_minus : (c : ℕ) → (c == 45) ≡ true → BeginsStrictly c
 unfolding value power_fits
-begun_minus = begun_by (number (record { negative = true; whole = 48 ∷ []; fraction = []; exponent = None })) 45 _ (record { whole = (refl, tt); some_digit = omega arith; fraction = tt; exponent = tt }) (refl, refl) refl
+begun_minus = begun_by (number (record { negative = true; integer = 48 ∷ []; fraction = []; exponent = None })) 45 _ (record { integer = (refl, tt); some_digit = omega arith; fraction = tt; exponent = tt }) (refl, refl) refl
 
 either : (b d : Bool) (P : Type 0) → (b || d) ≡ true → (b ≡ true → P) → (d ≡ true → P) → P
 either true d P h f g = f refl
@@ -182,10 +182,10 @@ shortest_before P Q xs n f q none = none_fails P xs none (suc n) n (omega arith)
 
 pub shortest_in_order : ShortestInOrder
 shortest_in_order limit xs = (
-  λ d m. shortest_first (IsViable (IsAccepted limit)) (IsFaultless limit) xs d m (viable_is_faultless limit),
-  λ m l. shortest_first (IsFaultless limit) (IsLooselyViable limit) xs m l (faultless_is_loosely_viable limit),
-  λ m. shortest_before (IsViable (IsAccepted limit)) (IsFaultless limit) xs m (viable_is_faultless limit),
-  λ l. shortest_before (IsFaultless limit) (IsLooselyViable limit) xs l (faultless_is_loosely_viable limit),
+  λ d m. shortest_first (IsViable (IsAccepted limit)) (IsErrorFree limit) xs d m (viable_is_error_free limit),
+  λ m l. shortest_first (IsErrorFree limit) (IsLooselyViable limit) xs m l (error_free_is_loosely_viable limit),
+  λ m. shortest_before (IsViable (IsAccepted limit)) (IsErrorFree limit) xs m (viable_is_error_free limit),
+  λ l. shortest_before (IsErrorFree limit) (IsLooselyViable limit) xs l (error_free_is_loosely_viable limit),
 )
 
 -- ---- errors
@@ -216,33 +216,33 @@ module _ (P : List ℕ → Type 0) (used : List ℕ) where
 
 module _ (limit : Option ℕ) (k : JsonParseErrorKind) (used rest : List ℕ) (r : IsRefusal limit k used rest) where
   pub next_unviable : FailsNext (IsViable (IsAccepted limit)) used rest
-  next_unviable c more e a = r.not_too_soon c more e (viable_is_faultless limit (used ++ c ∷ []) a)
+  next_unviable c more e a = r.not_too_soon c more e (viable_is_error_free limit (used ++ c ∷ []) a)
 
   pub viable_at_end : ((n : ℕ) → n ≤ length (used ++ rest) → ¬ ¬ IsViable (IsAccepted limit) (take n (used ++ rest))) → rest ≡ []
   viable_at_end h = at_end (IsViable (IsAccepted limit)) used rest next_unviable h
 
 pub refused_not_too_soon : RefusedNotTooSoon
 refused_not_too_soon limit k used rest r = (
-  never_too_soon (IsFaultless limit) used rest r.not_too_soon,
+  never_too_soon (IsErrorFree limit) used rest r.not_too_soon,
   never_too_soon (IsViable (IsAccepted limit)) used rest (next_unviable limit k used rest r),
 )
 
 pub refused_at_end : RefusedAtEnd
-refused_at_end limit k used rest r h = at_end (IsFaultless limit) used rest r.not_too_soon h
+refused_at_end limit k used rest r h = at_end (IsErrorFree limit) used rest r.not_too_soon h
 
-last_of : (xs : List ℕ) → (xs ≡ []) ⊎ ((front : List ℕ) × (c : ℕ) × (xs ≡ front ++ c ∷ []))
+last_of : (xs : List ℕ) → (xs ≡ []) ⊎ ((prefix : List ℕ) × (c : ℕ) × (xs ≡ prefix ++ c ∷ []))
 last_of [] = inl refl
 last_of (x ∷ xs) = inr (⊎_elim (λ e. ([], x, ap (λ ys. x ∷ ys) e)) (λ f. (x ∷ f.0, f.1, ap (λ ys. x ∷ ys) f.2)) (last_of xs))
 
 -- without its last character the consumed list is viable in the loose grammar, whatever the kind
-one_before : (limit : Option ℕ) (k : JsonParseErrorKind) (used rest : List ℕ) → RefusalSays limit k used rest → (front : List ℕ) (c : ℕ) → used ≡ front ++ c ∷ [] → IsLooselyViable limit front
-one_before limit kind.OutOfMemory used rest r = λ front c e. viable_before (IsLoose limit) front (c ∷ []) (subst (IsLooselyViable limit) e r.0.viable)
+one_before : (limit : Option ℕ) (k : JsonParseErrorKind) (used rest : List ℕ) → RefusalSays limit k used rest → (prefix : List ℕ) (c : ℕ) → used ≡ prefix ++ c ∷ [] → IsLooselyViable limit prefix
+one_before limit kind.OutOfMemory used rest r = λ prefix c e. viable_before (IsLoose limit) prefix (c ∷ []) (subst (IsLooselyViable limit) e r.0.viable)
 one_before limit k used rest r = r.not_too_late
 
 pub refused_not_too_late : RefusedNotTooLate
 refused_not_too_late limit k used rest r l h = ⊎_elim (λ s. absurd (early s (last_of used))) (λ s. s) (cases_lt l (length used))
   where
-    early : l < length used → (used ≡ []) ⊎ ((front : List ℕ) × (c : ℕ) × (used ≡ front ++ c ∷ [])) → ⊥
+    early : l < length used → (used ≡ []) ⊎ ((prefix : List ℕ) × (c : ℕ) × (used ≡ prefix ++ c ∷ [])) → ⊥
     early s (inl e) = omega (arith, s, ap length e)
     early s (inr f) =
         let n = length-append f.0 (f.1 ∷ []) in

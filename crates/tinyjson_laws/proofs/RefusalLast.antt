@@ -4,7 +4,7 @@ use Rattle.std.proofs.lemmas.Bool.{cond_both, ne_eqb}
 use Rattle.std.specs.Prelude.{All, ⊤}
 use Rattle.std.specs.Char.{IsScalar, is_ascii_digit}
 use Rattle.tinyjson_grammar.specs.Characters.{is_white, is_hex, short_escape, paired, decode}
-use Rattle.tinyjson_grammar.specs.Prefix.{IsFaultless, IsLooselyViable, IsCutOffText}
+use Rattle.tinyjson_grammar.specs.Prefix.{IsErrorFree, IsLooselyViable, IsCutOffText}
 use Rattle.tinyjson_grammar.specs.Grammar.{IsAccepted}
 use Rattle.tinyjson_grammar.specs.Kind.{kind_of}
 use Rattle.tinyjson_grammar.specs.Machine
@@ -18,22 +18,22 @@ use Rattle.tinyjson_grammar.specs.declared.kind.JsonKind.{JsonKind}
 use Rattle.tinyjson_grammar.specs.declared.error.JsonParseErrorKind.{JsonParseErrorKind}
 use Rattle.tinyjson_grammar.specs.declared.error.JsonParseErrorKind.TheVariants.{UnexpectedEof, ExpectedEof, KeyNotString, ExpectedColon, ExpectedCommaOrBrace, ExpectedCommaOrBracket, InvalidUtf16, NumberOutOfRange}
 use Rattle.tinyjson.proofs.Callers.Laws.{all_front, all_rest}
-use Rattle.tinyjson_grammar.proofs.Callers.Laws.{cut_off_end, Path, outside, item_in, key_in, value_in, path_frames, continues, continues_digit, continues_point, continues_letter, Read, at_first, at_awaited, in_literal, in_digits, in_quoted, at_after, Part, part_stage, part_numeral, read_frames, read_phase, IsRead, IsFresh, values, text_accepted, denies, is_dead, Follows}
+use Rattle.tinyjson_grammar.proofs.Callers.Laws.{cut_off_end, Path, outside, item_in, key_in, value_in, path_frames, continues, continues_digit, continues_point, continues_letter, Read, at_first, at_awaited, in_literal, in_digits, in_quoted, at_after, Part, part_stage, part_numeral, read_frames, read_phase, IsRead, IsFresh, values, text_accepted, denies, is_unviable, Follows}
 use Rattle.tinyjson_laws.proofs.RefusalPlaces.{Stands, Goes, Halts, goes_or_halts, halts_run, stands_viable, stands_next, stands_stop, stands_follows, IsNoLetter, within_lacks, accepted_refused}
 
 -- ---- a character that may follow without an error
 
--- the machine goes on, or stops after a key that is no string
+-- the machine goes on, or stops after a key that is not a string
 abbrev pub IsPassed : Next → Type 0
 IsPassed (next fs p) = ⊤
 IsPassed (stop (KeyNotString k) true) = ⊤
 IsPassed (stop k b) = ⊥
 
 -- where it may follow
-pub record Passes (limit : Option ℕ) (front : List ℕ) (c : ℕ) : Type 0 where
+pub record Passes (limit : Option ℕ) (prefix : List ℕ) (c : ℕ) : Type 0 where
   pub read : Read
   pub is : IsRead limit read
-  pub stands : Stands limit front (read_frames read) (read_phase read)
+  pub stands : Stands limit prefix (read_frames read) (read_phase read)
   pub passed : IsPassed (step (strictly limit) (read_frames read) (read_phase read) c)
 
 some_left : (b : Bool) (c : ℕ) (xs : List ℕ) (d : ℕ) (ys : List ℕ) → rest_of b c (xs ++ d ∷ ys) ≡ [] → ⊥
@@ -48,27 +48,27 @@ passed_stop n k true c ys j i e = let a : k ≡ KeyNotString j = cc in subst IsP
 left_of : (k j : JsonParseErrorKind) (xs ys : List ℕ) → refused k xs ≡ refused j ys → xs ≡ ys
 left_of k j xs ys e = cc
 
-module _ (limit : Option ℕ) (front : List ℕ) (c : ℕ) (f : IsFaultless limit (front ++ c ∷ [])) where
-  same_list : (front ++ c ∷ []) ++ f.0 ≡ front ++ c ∷ f.0
-  same_list = append_assoc front (c ∷ []) f.0
+module _ (limit : Option ℕ) (prefix : List ℕ) (c : ℕ) (f : IsErrorFree limit (prefix ++ c ∷ [])) where
+  same_list : (prefix ++ c ∷ []) ++ f.0 ≡ prefix ++ c ∷ f.0
+  same_list = append_assoc prefix (c ∷ []) f.0
 
-  no_halt : Halts limit front → (IsAccepted limit ((front ++ c ∷ []) ++ f.0) ⊎ IsCutOffText limit ((front ++ c ∷ []) ++ f.0)) → ⊥
-  no_halt h (inl t) = accepted_refused t.0 _ _ (sym (text_accepted limit ((front ++ c ∷ []) ++ f.0) t.0 t.1) ∙ (ap (run (strictly limit) [] awaited) same_list ∙ halts_run limit front h (c ∷ f.0)))
-  no_halt h (inr t) = let e = cut_off_end limit ((front ++ c ∷ []) ++ f.0) t in
-      some_left h.8 h.1 h.2 c f.0 (left_of _ _ _ _ (sym (halts_run limit front h (c ∷ f.0)) ∙ (sym (ap (run (strictly limit) [] awaited) same_list) ∙ e.1)))
+  no_halt : Halts limit prefix → (IsAccepted limit ((prefix ++ c ∷ []) ++ f.0) ⊎ IsCutOffText limit ((prefix ++ c ∷ []) ++ f.0)) → ⊥
+  no_halt h (inl t) = accepted_refused t.0 _ _ (sym (text_accepted limit ((prefix ++ c ∷ []) ++ f.0) t.0 t.1) ∙ (ap (run (strictly limit) [] awaited) same_list ∙ halts_run limit prefix h (c ∷ f.0)))
+  no_halt h (inr t) = let e = cut_off_end limit ((prefix ++ c ∷ []) ++ f.0) t in
+      some_left h.8 h.1 h.2 c f.0 (left_of _ _ _ _ (sym (halts_run limit prefix h (c ∷ f.0)) ∙ (sym (ap (run (strictly limit) [] awaited) same_list) ∙ e.1)))
 
-  passed_by : (fs : List Frame) (q : Phase) → Stands limit front fs q → (n : Next) → step (strictly limit) fs q c ≡ n → (IsAccepted limit ((front ++ c ∷ []) ++ f.0) ⊎ IsCutOffText limit ((front ++ c ∷ []) ++ f.0)) → IsPassed (step (strictly limit) fs q c)
+  passed_by : (fs : List Frame) (q : Phase) → Stands limit prefix fs q → (n : Next) → step (strictly limit) fs q c ≡ n → (IsAccepted limit ((prefix ++ c ∷ []) ++ f.0) ⊎ IsCutOffText limit ((prefix ++ c ∷ []) ++ f.0)) → IsPassed (step (strictly limit) fs q c)
   passed_by fs q s (next gs p) i g = subst IsPassed (sym i) tt
   passed_by fs q s (stop k b) i (inl t) =
-      absurd (accepted_refused t.0 _ _ (sym (text_accepted limit ((front ++ c ∷ []) ++ f.0) t.0 t.1) ∙ (ap (run (strictly limit) [] awaited) same_list ∙ stands_stop limit front fs q s c k b i f.0)))
+      absurd (accepted_refused t.0 _ _ (sym (text_accepted limit ((prefix ++ c ∷ []) ++ f.0) t.0 t.1) ∙ (ap (run (strictly limit) [] awaited) same_list ∙ stands_stop limit prefix fs q s c k b i f.0)))
   passed_by fs q s (stop k b) i (inr t) =
-      let e = cut_off_end limit ((front ++ c ∷ []) ++ f.0) t in
-      passed_stop (step (strictly limit) fs q c) k b c f.0 (kind_of e.0) i (sym (stands_stop limit front fs q s c k b i f.0) ∙ (sym (ap (run (strictly limit) [] awaited) same_list) ∙ e.1))
+      let e = cut_off_end limit ((prefix ++ c ∷ []) ++ f.0) t in
+      passed_stop (step (strictly limit) fs q c) k b c f.0 (kind_of e.0) i (sym (stands_stop limit prefix fs q s c k b i f.0) ∙ (sym (ap (run (strictly limit) [] awaited) same_list) ∙ e.1))
 
-  pub passes : All IsScalar front → Passes limit front c
-  passes a = ⊎_elim goes (λ h. absurd (no_halt h f.1)) (goes_or_halts limit front a)
+  pub passes : All IsScalar prefix → Passes limit prefix c
+  passes a = ⊎_elim goes (λ h. absurd (no_halt h f.1)) (goes_or_halts limit prefix a)
     where
-      goes : Goes limit front → Passes limit front c
+      goes : Goes limit prefix → Passes limit prefix c
       goes g = let s = g.2.spells in record {
         read = s.read;
         is = s.is;
@@ -80,7 +80,7 @@ module _ (limit : Option ℕ) (front : List ℕ) (c : ℕ) (f : IsFaultless limi
 
 abbrev pub Lasts : Stage → Numeral → Type 0
 Lasts Machine.minus n = ⊥
-Lasts Machine.whole n = has_leading_zero n.whole ≡ false
+Lasts Machine.integer n = has_leading_zero n.integer ≡ false
 Lasts Machine.point n = ⊥
 Lasts Machine.fraction n = ⊤
 Lasts Machine.letter n = ⊥
@@ -93,7 +93,7 @@ module _ (limit : Option ℕ) (fs : List Frame) where
 
   lasts_step : (s : Stage) (n : Numeral) → Lasts s n → (c : ℕ) → Goes_on (step_digits (strictly limit) fs s n c)
   lasts_step Machine.minus n h c = elim h [ ]
-  lasts_step Machine.whole n h c = cond_both (is_ascii_digit c) _ _ Goes_on (λ d. inr (_, _, refl)) (λ d. rw h (cond_both (c == 46) _ _ Goes_on (λ p. inr (_, _, refl)) (λ p. cond_both (is_exponent_letter c) _ _ Goes_on (λ l. inr (_, _, refl)) (λ l. inl refl))))
+  lasts_step Machine.integer n h c = cond_both (is_ascii_digit c) _ _ Goes_on (λ d. inr (_, _, refl)) (λ d. rw h (cond_both (c == 46) _ _ Goes_on (λ p. inr (_, _, refl)) (λ p. cond_both (is_exponent_letter c) _ _ Goes_on (λ l. inr (_, _, refl)) (λ l. inl refl))))
   lasts_step Machine.point n h c = elim h [ ]
   lasts_step Machine.fraction n h c = cond_both (is_ascii_digit c) _ _ Goes_on (λ d. inr (_, _, refl)) (λ d. cond_both (is_exponent_letter c) _ _ Goes_on (λ l. inr (_, _, refl)) (λ l. inl refl))
   lasts_step Machine.letter n h c = elim h [ ]
@@ -102,7 +102,7 @@ module _ (limit : Option ℕ) (fs : List Frame) where
 
   lasts_end : (s : Stage) (n : Numeral) → Lasts s n → end_digits (strictly limit) fs s n ≡ end_plain (finish (strictly limit) fs n)
   lasts_end Machine.minus n h = elim h [ ]
-  lasts_end Machine.whole n h = rw h refl
+  lasts_end Machine.integer n h = rw h refl
   lasts_end Machine.point n h = elim h [ ]
   lasts_end Machine.fraction n h = refl
   lasts_end Machine.letter n h = elim h [ ]
@@ -115,7 +115,7 @@ module _ (limit : Option ℕ) (fs : List Frame) where
 
   accepted_lasts : (s : Stage) (n : Numeral) (t : Tree) → end_digits (strictly limit) fs s n ≡ accepted t → Lasts s n
   accepted_lasts Machine.minus n t e = absurd cc
-  accepted_lasts Machine.whole n t e = accepted_zero (has_leading_zero n.whole) _ _ t e
+  accepted_lasts Machine.integer n t e = accepted_zero (has_leading_zero n.integer) _ _ t e
   accepted_lasts Machine.point n t e = absurd cc
   accepted_lasts Machine.fraction n t e = tt
   accepted_lasts Machine.letter n t e = absurd cc
@@ -130,9 +130,9 @@ module _ (limit : Option ℕ) (fs : List Frame) where
   passed_lasts : (s : Stage) (n : Numeral) (e : ℕ) → continues e ≡ false → ((e == 43) || (e == 45)) ≡ false → IsPassed (unless_ended (strictly limit) fs n e (step_digits (strictly limit) fs s n e)) →
       Lasts s n × IsPassed (then_step (strictly limit) (finish (strictly limit) fs n) e)
   passed_lasts Machine.minus n e h m g = elim (rw (continues_digit e h) at g) [ ]
-  passed_lasts Machine.whole n e h m g =
-      let i : IsPassed (unless_ended (strictly limit) fs n e (Machine.after_whole (strictly limit) fs n e)) = rw (continues_digit e h) at g in
-      let z : has_leading_zero n.whole ≡ false = passed_zero (has_leading_zero n.whole) n e _ _ (λ x. x) i in
+  passed_lasts Machine.integer n e h m g =
+      let i : IsPassed (unless_ended (strictly limit) fs n e (Machine.after_integer (strictly limit) fs n e)) = rw (continues_digit e h) at g in
+      let z : has_leading_zero n.integer ≡ false = passed_zero (has_leading_zero n.integer) n e _ _ (λ x. x) i in
       (z, rw (z, continues_point e h, continues_letter e h) at i)
   passed_lasts Machine.point n e h m g = elim (rw (continues_digit e h) at g) [ ]
   passed_lasts Machine.fraction n e h m g = (tt, rw (continues_digit e h, continues_letter e h) at g)
@@ -157,12 +157,12 @@ module _ (limit : Option ℕ) (fs : List Frame) where
       split false g = absurd cc
 
   -- with a character that completes no loose text
-  digits_step : (front : List ℕ) (s : Stage) (n : Numeral) → Stands limit front fs (digits s n) → Lasts s n → finish (strictly limit) fs n ≡ complete true fs (tree.number (value n)) false → (c : ℕ) → IsScalar c → ¬ IsLooselyViable limit (front ++ c ∷ []) →
+  digits_step : (prefix : List ℕ) (s : Stage) (n : Numeral) → Stands limit prefix fs (digits s n) → Lasts s n → finish (strictly limit) fs n ≡ complete true fs (tree.number (value n)) false → (c : ℕ) → IsScalar c → ¬ IsLooselyViable limit (prefix ++ c ∷ []) →
       step (strictly limit) fs (digits s n) c ≡ then_step (strictly limit) (complete true fs (tree.number (value n)) false) c
   unfolding step
-  digits_step front s n st h f c hc d = ⊎_elim
+  digits_step prefix s n st h f c hc d = ⊎_elim
       (λ e. ap (unless_ended (strictly limit) fs n c) e ∙ ap (λ m. then_step (strictly limit) m c) f)
-      (λ e. absurd (d (stands_viable limit (front ++ c ∷ []) e.0 e.1 (stands_next limit front fs e.0 (digits s n) e.1 c hc st (ap (unless_ended (strictly limit) fs n c) e.2)))))
+      (λ e. absurd (d (stands_viable limit (prefix ++ c ∷ []) e.0 e.1 (stands_next limit prefix fs e.0 (digits s n) e.1 c hc st (ap (unless_ended (strictly limit) fs n c) e.2)))))
       (lasts_step s n h c)
 
 -- ---- a quote may follow
@@ -183,8 +183,8 @@ quote_awaited limit fs = refl
 quote_scalar : IsScalar 34
 quote_scalar = refl
 
-quote_next : (limit : Option ℕ) (front : List ℕ) (fs gs : List Frame) (q p : Phase) → Stands limit front fs q → step (strictly limit) fs q 34 ≡ next gs p → ¬ IsLooselyViable limit (front ++ 34 ∷ []) → ⊥
-quote_next limit front fs gs q p s e n = n (stands_viable limit (front ++ 34 ∷ []) gs p (stands_next limit front fs gs q p 34 quote_scalar s e))
+quote_next : (limit : Option ℕ) (prefix : List ℕ) (fs gs : List Frame) (q p : Phase) → Stands limit prefix fs q → step (strictly limit) fs q 34 ≡ next gs p → ¬ IsLooselyViable limit (prefix ++ 34 ∷ []) → ⊥
+quote_next limit prefix fs gs q p s e n = n (stands_viable limit (prefix ++ 34 ∷ []) gs p (stands_next limit prefix fs gs q p 34 quote_scalar s e))
 
 abbrev Closes : Option ℕ → Path → List ℕ → List ℕ → Type 0
 Closes limit p cs us = ((gs : List Frame) × (q : Phase) × (step (strictly limit) (path_frames p) (quoted Machine.plain cs us) 34 ≡ next gs q)) ⊎ (step (strictly limit) (path_frames p) (quoted Machine.plain cs us) 34 ≡ stop InvalidUtf16 true)
@@ -202,12 +202,12 @@ quote_closes limit p cs us = split p (paired us)
     split (key_in p ps w) true = inl (_, _, refl)
     split (value_in p ps a k b w) true = inl (_, _, refl)
 
-quote_string : (limit : Option ℕ) (front : List ℕ) (p : Path) (cs us : List ℕ) → Stands limit front (path_frames p) (quoted Machine.plain cs us) → ¬ IsLooselyViable limit (front ++ 34 ∷ []) → ⊥
-quote_string limit front p cs us s n = ⊎_elim
-    (λ e. quote_next limit front (path_frames p) e.0 (quoted Machine.plain cs us) e.1 s e.2 n)
-    (λ e. let f : Follows limit front (path_frames p) (quoted Machine.plain cs us) 34 (stop InvalidUtf16 true) =
-    subst (Follows limit front (path_frames p) (quoted Machine.plain cs us) 34) e (stands_follows limit front (path_frames p) (quoted Machine.plain cs us) s 34 quote_scalar) in
-    n (f [] (denies limit front (path_frames p) (quoted Machine.plain cs us) s.reached) (is_dead limit front (path_frames p) (quoted Machine.plain cs us) 34 InvalidUtf16 s.reached e)).1.1)
+quote_string : (limit : Option ℕ) (prefix : List ℕ) (p : Path) (cs us : List ℕ) → Stands limit prefix (path_frames p) (quoted Machine.plain cs us) → ¬ IsLooselyViable limit (prefix ++ 34 ∷ []) → ⊥
+quote_string limit prefix p cs us s n = ⊎_elim
+    (λ e. quote_next limit prefix (path_frames p) e.0 (quoted Machine.plain cs us) e.1 s e.2 n)
+    (λ e. let f : Follows limit prefix (path_frames p) (quoted Machine.plain cs us) 34 (stop InvalidUtf16 true) =
+    subst (Follows limit prefix (path_frames p) (quoted Machine.plain cs us) 34) e (stands_follows limit prefix (path_frames p) (quoted Machine.plain cs us) s 34 quote_scalar) in
+    n (f [] (denies limit prefix (path_frames p) (quoted Machine.plain cs us) s.reached) (is_unviable limit prefix (path_frames p) (quoted Machine.plain cs us) 34 InvalidUtf16 s.reached e)).1.1)
     (quote_closes limit p cs us)
 
 -- ---- the colon, the brace and the bracket
@@ -257,19 +257,19 @@ digits_settled limit e h p n g =
     let f = finish_by limit (path_frames p) (part_numeral n) e l.1 in
     digits_end p n l.0 f (subst (λ m. IsPassed (then_step (strictly limit) m e)) f l.1)
 
-settled : (limit : Option ℕ) (front : List ℕ) (e : ℕ) → IsCloser e → (x : Read) → IsRead limit x → Stands limit front (read_frames x) (read_phase x) → ¬ IsLooselyViable limit (front ++ 34 ∷ []) → IsPassed (step (strictly limit) (read_frames x) (read_phase x) e) → Settled limit e x
-settled limit front e h (at_first p) i s n g = absurd (quote_next limit front (path_frames p) (path_frames p) first (quoted Machine.plain [] []) s (quote_first limit p i.1) n)
-settled limit front e h (at_awaited p) i s n g = absurd (quote_next limit front (path_frames p) (path_frames p) awaited (quoted Machine.plain [] []) s (quote_awaited limit (path_frames p)) n)
-settled limit front e h (in_literal p v done []) i s n g = absurd (omega (arith, i.1.more))
-settled limit front e h (in_literal p v done (l ∷ left)) i s n g = absurd (literal_no limit (path_frames p) l left _ e (within_lacks e h.no_letter v done l left i.1) g)
-settled limit front e h (in_digits p m) i s n g = digits_settled limit e h p m g
-settled limit front e h (in_quoted p ps cs qs Machine.plain) i s n g = absurd (quote_string limit front p cs (values qs) s n)
-settled limit front e h (in_quoted p ps cs qs Machine.backslash) i s n g = absurd (escape_no limit (path_frames p) cs (values qs) e h g)
-settled limit front e h (in_quoted p ps cs qs (Machine.hex ds)) i s n g = absurd (hex_no limit (path_frames p) ds cs (values qs) e h g)
-settled limit front e h (at_after p v w) i s n g = value_ends p v w g
+settled : (limit : Option ℕ) (prefix : List ℕ) (e : ℕ) → IsCloser e → (x : Read) → IsRead limit x → Stands limit prefix (read_frames x) (read_phase x) → ¬ IsLooselyViable limit (prefix ++ 34 ∷ []) → IsPassed (step (strictly limit) (read_frames x) (read_phase x) e) → Settled limit e x
+settled limit prefix e h (at_first p) i s n g = absurd (quote_next limit prefix (path_frames p) (path_frames p) first (quoted Machine.plain [] []) s (quote_first limit p i.1) n)
+settled limit prefix e h (at_awaited p) i s n g = absurd (quote_next limit prefix (path_frames p) (path_frames p) awaited (quoted Machine.plain [] []) s (quote_awaited limit (path_frames p)) n)
+settled limit prefix e h (in_literal p v done []) i s n g = absurd (omega (arith, i.1.more))
+settled limit prefix e h (in_literal p v done (l ∷ left)) i s n g = absurd (literal_no limit (path_frames p) l left _ e (within_lacks e h.no_letter v done l left i.1) g)
+settled limit prefix e h (in_digits p m) i s n g = digits_settled limit e h p m g
+settled limit prefix e h (in_quoted p ps cs qs Machine.plain) i s n g = absurd (quote_string limit prefix p cs (values qs) s n)
+settled limit prefix e h (in_quoted p ps cs qs Machine.backslash) i s n g = absurd (escape_no limit (path_frames p) cs (values qs) e h g)
+settled limit prefix e h (in_quoted p ps cs qs (Machine.hex ds)) i s n g = absurd (hex_no limit (path_frames p) ds cs (values qs) e h g)
+settled limit prefix e h (at_after p v w) i s n g = value_ends p v w g
 
-module _ (limit : Option ℕ) (front : List ℕ) (c : ℕ) (hc : IsScalar c) (d : ¬ IsLooselyViable limit (front ++ c ∷ [])) (hw : is_white c ≡ false) where
-  colon_at : (x : Read) → Settled limit 58 x → Stands limit front (read_frames x) (read_phase x) → (c ≡ 58 → ⊥) → step (strictly limit) (read_frames x) (read_phase x) c ≡ stop (ExpectedColon c) true
+module _ (limit : Option ℕ) (prefix : List ℕ) (c : ℕ) (hc : IsScalar c) (d : ¬ IsLooselyViable limit (prefix ++ c ∷ [])) (hw : is_white c ≡ false) where
+  colon_at : (x : Read) → Settled limit 58 x → Stands limit prefix (read_frames x) (read_phase x) → (c ≡ 58 → ⊥) → step (strictly limit) (read_frames x) (read_phase x) c ≡ stop (ExpectedColon c) true
   unfolding step
   colon_at _ (digits_end (outside w) n l f g) s a = elim g [ ]
   colon_at _ (digits_end (item_in p es w) n l f g) s a = elim g [ ]
@@ -280,23 +280,23 @@ module _ (limit : Option ℕ) (front : List ℕ) (c : ℕ) (hc : IsScalar c) (d 
   colon_at _ (value_ends (key_in p ps w) v u g) s a = rw (hw, ne_eqb c 58 a) refl
   colon_at _ (value_ends (value_in p ps k j b w) v u g) s a = elim g [ ]
 
-  brace_at : (x : Read) → Settled limit 125 x → Stands limit front (read_frames x) (read_phase x) → (c ≡ 44 → ⊥) → (c ≡ 125 → ⊥) → step (strictly limit) (read_frames x) (read_phase x) c ≡ stop (ExpectedCommaOrBrace c) true
+  brace_at : (x : Read) → Settled limit 125 x → Stands limit prefix (read_frames x) (read_phase x) → (c ≡ 44 → ⊥) → (c ≡ 125 → ⊥) → step (strictly limit) (read_frames x) (read_phase x) c ≡ stop (ExpectedCommaOrBrace c) true
   unfolding step
   brace_at _ (digits_end (outside w) n l f g) s a b = elim g [ ]
   brace_at _ (digits_end (item_in p es w) n l f g) s a b = elim g [ ]
   brace_at _ (digits_end (key_in p ps w) n l f g) s a b = elim g [ ]
   brace_at _ (digits_end (value_in p ps k j m w) n l f g) s a b =
-      digits_step limit (path_frames (value_in p ps k j m w)) front (part_stage n) (part_numeral n) s l f c hc d ∙ rw (hw, ne_eqb c 44 a, ne_eqb c 125 b) refl
+      digits_step limit (path_frames (value_in p ps k j m w)) prefix (part_stage n) (part_numeral n) s l f c hc d ∙ rw (hw, ne_eqb c 44 a, ne_eqb c 125 b) refl
   brace_at _ (value_ends (outside w) v u g) s a b = elim g [ ]
   brace_at _ (value_ends (item_in p es w) v u g) s a b = elim g [ ]
   brace_at _ (value_ends (key_in p ps w) v u g) s a b = elim g [ ]
   brace_at _ (value_ends (value_in p ps k j m w) v u g) s a b = rw (hw, ne_eqb c 44 a, ne_eqb c 125 b) refl
 
-  bracket_at : (x : Read) → Settled limit 93 x → Stands limit front (read_frames x) (read_phase x) → (c ≡ 44 → ⊥) → (c ≡ 93 → ⊥) → step (strictly limit) (read_frames x) (read_phase x) c ≡ stop (ExpectedCommaOrBracket c) true
+  bracket_at : (x : Read) → Settled limit 93 x → Stands limit prefix (read_frames x) (read_phase x) → (c ≡ 44 → ⊥) → (c ≡ 93 → ⊥) → step (strictly limit) (read_frames x) (read_phase x) c ≡ stop (ExpectedCommaOrBracket c) true
   unfolding step
   bracket_at _ (digits_end (outside w) n l f g) s a b = elim g [ ]
   bracket_at _ (digits_end (item_in p es w) n l f g) s a b =
-      digits_step limit (path_frames (item_in p es w)) front (part_stage n) (part_numeral n) s l f c hc d ∙ rw (hw, ne_eqb c 44 a, ne_eqb c 93 b) refl
+      digits_step limit (path_frames (item_in p es w)) prefix (part_stage n) (part_numeral n) s l f c hc d ∙ rw (hw, ne_eqb c 44 a, ne_eqb c 93 b) refl
   bracket_at _ (digits_end (key_in p ps w) n l f g) s a b = elim g [ ]
   bracket_at _ (digits_end (value_in p ps k j m w) n l f g) s a b = elim g [ ]
   bracket_at _ (value_ends (outside w) v u g) s a b = elim g [ ]
@@ -310,32 +310,32 @@ module _ (limit : Option ℕ) (front : List ℕ) (c : ℕ) (hc : IsScalar c) (d 
 abbrev pub Exact : Option ℕ → JsonParseErrorKind → List ℕ → List ℕ → Type 0
 Exact limit k used rest = run (strictly limit) [] awaited (used ++ rest) ≡ refused k rest
 
-all_front_of : (used front : List ℕ) (c : ℕ) → used ≡ front ++ c ∷ [] → All IsScalar used → All IsScalar front × IsScalar c
-all_front_of used front c e a = let b = subst (All IsScalar) e a in (all_front front (c ∷ []) b, all_rest front (c ∷ []) b 0 0 (omega arith))
+all_front_of : (used prefix : List ℕ) (c : ℕ) → used ≡ prefix ++ c ∷ [] → All IsScalar used → All IsScalar prefix × IsScalar c
+all_front_of used prefix c e a = let b = subst (All IsScalar) e a in (all_front prefix (c ∷ []) b, all_rest prefix (c ∷ []) b 0 0 (omega arith))
 
-taken_exact : (limit : Option ℕ) (front : List ℕ) (fs : List Frame) (q : Phase) → Stands limit front fs q → (c : ℕ) (k : JsonParseErrorKind) (used rest : List ℕ) → used ≡ front ++ c ∷ [] → step (strictly limit) fs q c ≡ stop k true → Exact limit k used rest
-taken_exact limit front fs q s c k used rest e i = rw e (rw (append_assoc front (c ∷ []) rest) (stands_stop limit front fs q s c k true i rest))
+taken_exact : (limit : Option ℕ) (prefix : List ℕ) (fs : List Frame) (q : Phase) → Stands limit prefix fs q → (c : ℕ) (k : JsonParseErrorKind) (used rest : List ℕ) → used ≡ prefix ++ c ∷ [] → step (strictly limit) fs q c ≡ stop k true → Exact limit k used rest
+taken_exact limit prefix fs q s c k used rest e i = rw e (rw (append_assoc prefix (c ∷ []) rest) (stands_stop limit prefix fs q s c k true i rest))
 
 -- the place of c, where another one may stand
 awaits_exact : (limit : Option ℕ) (used rest : List ℕ) (c e : ℕ) → All IsScalar used → IsCloser e → (h : AwaitsAt limit used c e) → (k : JsonParseErrorKind) →
-    (IsScalar c → (x : Read) → Settled limit e x → Stands limit h.place.front (read_frames x) (read_phase x) → step (strictly limit) (read_frames x) (read_phase x) c ≡ stop k true) → Exact limit k used rest
+    (IsScalar c → (x : Read) → Settled limit e x → Stands limit h.place.prefix (read_frames x) (read_phase x) → step (strictly limit) (read_frames x) (read_phase x) c ≡ stop k true) → Exact limit k used rest
 awaits_exact limit used rest c e a i h k g =
-    let b = all_front_of used h.place.front c h.place.ends a in
-    let p = passes limit h.place.front e h.without_fault b.0 in
-    taken_exact limit h.place.front (read_frames p.read) (read_phase p.read) p.stands c k used rest h.place.ends
-    (g b.1 p.read (settled limit h.place.front e i p.read p.is p.stands h.place.no_string p.passed) p.stands)
+    let b = all_front_of used h.place.prefix c h.place.ends a in
+    let p = passes limit h.place.prefix e h.without_error b.0 in
+    taken_exact limit h.place.prefix (read_frames p.read) (read_phase p.read) p.stands c k used rest h.place.ends
+    (g b.1 p.read (settled limit h.place.prefix e i p.read p.is p.stands h.place.no_string p.passed) p.stands)
 
-not_viable : (limit : Option ℕ) (used front : List ℕ) (c : ℕ) → used ≡ front ++ c ∷ [] → ¬ IsLooselyViable limit used → ¬ IsLooselyViable limit (front ++ c ∷ [])
-not_viable limit used front c e n = subst (λ xs. ¬ IsLooselyViable limit xs) e n
+not_viable : (limit : Option ℕ) (used prefix : List ℕ) (c : ℕ) → used ≡ prefix ++ c ∷ [] → ¬ IsLooselyViable limit used → ¬ IsLooselyViable limit (prefix ++ c ∷ [])
+not_viable limit used prefix c e n = subst (λ xs. ¬ IsLooselyViable limit xs) e n
 
 pub colon_exact : (limit : Option ℕ) (used rest : List ℕ) (c : ℕ) → All IsScalar used → is_white c ≡ false → (c ≡ 58 → ⊥) → AwaitsAt limit used c 58 → ¬ IsLooselyViable limit used → Exact limit (ExpectedColon c) used rest
-colon_exact limit used rest c a w n h d = awaits_exact limit used rest c 58 a closer_colon h (ExpectedColon c) (λ hc x y s. colon_at limit h.place.front c hc (not_viable limit used h.place.front c h.place.ends d) w x y s n)
+colon_exact limit used rest c a w n h d = awaits_exact limit used rest c 58 a closer_colon h (ExpectedColon c) (λ hc x y s. colon_at limit h.place.prefix c hc (not_viable limit used h.place.prefix c h.place.ends d) w x y s n)
 
 pub brace_exact : (limit : Option ℕ) (used rest : List ℕ) (c : ℕ) → All IsScalar used → is_white c ≡ false → (c ≡ 44 → ⊥) → (c ≡ 125 → ⊥) → AwaitsAt limit used c 125 → ¬ IsLooselyViable limit used → Exact limit (ExpectedCommaOrBrace c) used rest
-brace_exact limit used rest c a w n m h d = awaits_exact limit used rest c 125 a closer_brace h (ExpectedCommaOrBrace c) (λ hc x y s. brace_at limit h.place.front c hc (not_viable limit used h.place.front c h.place.ends d) w x y s n m)
+brace_exact limit used rest c a w n m h d = awaits_exact limit used rest c 125 a closer_brace h (ExpectedCommaOrBrace c) (λ hc x y s. brace_at limit h.place.prefix c hc (not_viable limit used h.place.prefix c h.place.ends d) w x y s n m)
 
 pub bracket_exact : (limit : Option ℕ) (used rest : List ℕ) (c : ℕ) → All IsScalar used → is_white c ≡ false → (c ≡ 44 → ⊥) → (c ≡ 93 → ⊥) → AwaitsAt limit used c 93 → ¬ IsLooselyViable limit used → Exact limit (ExpectedCommaOrBracket c) used rest
-bracket_exact limit used rest c a w n m h d = awaits_exact limit used rest c 93 a closer_bracket h (ExpectedCommaOrBracket c) (λ hc x y s. bracket_at limit h.place.front c hc (not_viable limit used h.place.front c h.place.ends d) w x y s n m)
+bracket_exact limit used rest c a w n m h d = awaits_exact limit used rest c 93 a closer_bracket h (ExpectedCommaOrBracket c) (λ hc x y s. bracket_at limit h.place.prefix c hc (not_viable limit used h.place.prefix c h.place.ends d) w x y s n m)
 
 -- ---- after a text
 
@@ -343,9 +343,9 @@ pub run_end : (r : Rules) (fs : List Frame) (q : Phase) → run r fs q [] ≡ en
 unfolding run
 run_end r fs q = refl
 
-number_text : (limit : Option ℕ) (front : List ℕ) (c : ℕ) → IsScalar c → ¬ IsLooselyViable limit (front ++ c ∷ []) → is_white c ≡ false → (p : Path) (n : Part) → Stands limit front (path_frames p) (digits (part_stage n) (part_numeral n)) → (t : Tree) →
+number_text : (limit : Option ℕ) (prefix : List ℕ) (c : ℕ) → IsScalar c → ¬ IsLooselyViable limit (prefix ++ c ∷ []) → is_white c ≡ false → (p : Path) (n : Part) → Stands limit prefix (path_frames p) (digits (part_stage n) (part_numeral n)) → (t : Tree) →
     end_digits (strictly limit) (path_frames p) (part_stage n) (part_numeral n) ≡ accepted t → step (strictly limit) (path_frames p) (digits (part_stage n) (part_numeral n)) c ≡ stop (ExpectedEof c) true
-number_text limit front c hc d hw p n s t e = at p s f (sym (ap end_plain f) ∙ g)
+number_text limit prefix c hc d hw p n s t e = at p s f (sym (ap end_plain f) ∙ g)
   where
     l : Lasts (part_stage n) (part_numeral n)
     l = accepted_lasts limit (path_frames p) (part_stage n) (part_numeral n) t e
@@ -356,28 +356,28 @@ number_text limit front c hc d hw p n s t e = at p s f (sym (ap end_plain f) ∙
     f : finish (strictly limit) (path_frames p) (part_numeral n) ≡ complete true (path_frames p) (tree.number (value (part_numeral n))) false
     f = accepted_finish limit (path_frames p) (part_numeral n) t g
 
-    at : (p : Path) → Stands limit front (path_frames p) (digits (part_stage n) (part_numeral n)) → finish (strictly limit) (path_frames p) (part_numeral n) ≡ complete true (path_frames p) (tree.number (value (part_numeral n))) false →
+    at : (p : Path) → Stands limit prefix (path_frames p) (digits (part_stage n) (part_numeral n)) → finish (strictly limit) (path_frames p) (part_numeral n) ≡ complete true (path_frames p) (tree.number (value (part_numeral n))) false →
         end_plain (complete true (path_frames p) (tree.number (value (part_numeral n))) false) ≡ accepted t → step (strictly limit) (path_frames p) (digits (part_stage n) (part_numeral n)) c ≡ stop (ExpectedEof c) true
-    at (outside w) s f e = digits_step limit [] front (part_stage n) (part_numeral n) s l f c hc d ∙ rw hw refl
+    at (outside w) s f e = digits_step limit [] prefix (part_stage n) (part_numeral n) s l f c hc d ∙ rw hw refl
     at (item_in p es w) s f e = absurd cc
     at (key_in p ps w) s f e = absurd cc
     at (value_in p ps a k b w) s f e = absurd cc
 
-text_ends : (limit : Option ℕ) (front : List ℕ) (c : ℕ) → IsScalar c → ¬ IsLooselyViable limit (front ++ c ∷ []) → is_white c ≡ false → (x : Read) → IsRead limit x → Stands limit front (read_frames x) (read_phase x) → (t : Tree) → end (strictly limit) (read_frames x) (read_phase x) ≡ accepted t →
+text_ends : (limit : Option ℕ) (prefix : List ℕ) (c : ℕ) → IsScalar c → ¬ IsLooselyViable limit (prefix ++ c ∷ []) → is_white c ≡ false → (x : Read) → IsRead limit x → Stands limit prefix (read_frames x) (read_phase x) → (t : Tree) → end (strictly limit) (read_frames x) (read_phase x) ≡ accepted t →
     step (strictly limit) (read_frames x) (read_phase x) c ≡ stop (ExpectedEof c) true
 unfolding step end
-text_ends limit front c hc d hw (at_first p) i s t e = absurd cc
-text_ends limit front c hc d hw (at_awaited p) i s t e = absurd cc
-text_ends limit front c hc d hw (in_literal p v done left) i s t e = absurd cc
-text_ends limit front c hc d hw (in_digits p n) i s t e = number_text limit front c hc d hw p n s t e
-text_ends limit front c hc d hw (in_quoted p ps cs qs wi) i s t e = absurd cc
-text_ends limit front c hc d hw (at_after (outside w) v u) i s t e = rw hw refl
-text_ends limit front c hc d hw (at_after (item_in p es w) v u) i s t e = absurd cc
-text_ends limit front c hc d hw (at_after (key_in p ps w) v u) i s t e = absurd cc
-text_ends limit front c hc d hw (at_after (value_in p ps a k b w) v u) i s t e = absurd cc
+text_ends limit prefix c hc d hw (at_first p) i s t e = absurd cc
+text_ends limit prefix c hc d hw (at_awaited p) i s t e = absurd cc
+text_ends limit prefix c hc d hw (in_literal p v done left) i s t e = absurd cc
+text_ends limit prefix c hc d hw (in_digits p n) i s t e = number_text limit prefix c hc d hw p n s t e
+text_ends limit prefix c hc d hw (in_quoted p ps cs qs wi) i s t e = absurd cc
+text_ends limit prefix c hc d hw (at_after (outside w) v u) i s t e = rw hw refl
+text_ends limit prefix c hc d hw (at_after (item_in p es w) v u) i s t e = absurd cc
+text_ends limit prefix c hc d hw (at_after (key_in p ps w) v u) i s t e = absurd cc
+text_ends limit prefix c hc d hw (at_after (value_in p ps a k b w) v u) i s t e = absurd cc
 
-pub behind_exact : (limit : Option ℕ) (used rest text : List ℕ) (c : ℕ) → All IsScalar used → is_white c ≡ false → used ≡ text ++ c ∷ [] → IsAccepted limit text → ¬ IsLooselyViable limit used → Exact limit (ExpectedEof c) used rest
-behind_exact limit used rest text c a w e t d = ⊎_elim goes halts (goes_or_halts limit text b.0)
+pub after_exact : (limit : Option ℕ) (used rest text : List ℕ) (c : ℕ) → All IsScalar used → is_white c ≡ false → used ≡ text ++ c ∷ [] → IsAccepted limit text → ¬ IsLooselyViable limit used → Exact limit (ExpectedEof c) used rest
+after_exact limit used rest text c a w e t d = ⊎_elim goes halts (goes_or_halts limit text b.0)
   where
     b : All IsScalar text × IsScalar c
     b = all_front_of used text c e a
@@ -413,7 +413,7 @@ needs_end limit e h (at_after (item_in p es w) v u) i g = refl
 needs_end limit e h (at_after (key_in p ps w) v u) i g = refl
 needs_end limit e h (at_after (value_in p ps a k b w) v u) i g = refl
 
-pub needs_exact : (limit : Option ℕ) (used : List ℕ) (e : ℕ) → All IsScalar used → IsCloser e → IsFaultless limit (used ++ e ∷ []) → Exact limit UnexpectedEof used []
+pub needs_exact : (limit : Option ℕ) (used : List ℕ) (e : ℕ) → All IsScalar used → IsCloser e → IsErrorFree limit (used ++ e ∷ []) → Exact limit UnexpectedEof used []
 needs_exact limit used e a h f =
     let p = passes limit used e f a in
     p.stands.reached true [] ∙ (run_end (strictly limit) (read_frames p.read) (read_phase p.read) ∙ needs_end limit e h p.read p.is p.passed)

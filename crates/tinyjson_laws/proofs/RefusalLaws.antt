@@ -5,7 +5,7 @@ use Rattle.std.proofs.lemmas.List.{append_cancel_right}
 use Rattle.std.specs.Prelude.{All}
 use Rattle.std.specs.Char.{IsScalar, is_ascii_digit}
 use Rattle.tinyjson_grammar.specs.Characters.{is_white, paired}
-use Rattle.tinyjson_grammar.specs.Prefix.{IsFaultless, IsLooselyViable, IsValue}
+use Rattle.tinyjson_grammar.specs.Prefix.{IsErrorFree, IsLooselyViable, IsValue}
 use Rattle.tinyjson_grammar.specs.Grammar.{IsLoose, IsAccepted}
 use Rattle.tinyjson_grammar.specs.Kind.{kind_of}
 use Rattle.tinyjson_grammar.specs.Machine
@@ -21,21 +21,21 @@ use Rattle.tinyjson_grammar.specs.declared.kind.JsonKind.{JsonKind}
 use Rattle.tinyjson_grammar.specs.declared.error.JsonParseErrorKind.{JsonParseErrorKind}
 use Rattle.tinyjson_grammar.specs.declared.error.JsonParseErrorKind.TheVariants as kind
 use Rattle.tinyjson.proofs.Callers.Laws.{all_front}
-use Rattle.tinyjson_grammar.proofs.Callers.Laws.{faultless, placed, refused_key, run_spelling, last_stage, end_finishes, Path, outside, item_in, key_in, value_in, path_text, path_frames, level, IsPath, Part, part_minus, part_whole, part_point, part_fraction, part_letter, part_sign, part_exponent, part_stage, part_numeral, Read, at_first, at_awaited, in_literal, in_digits, in_quoted, at_after, read_frames, read_phase, IsFresh, settle, fits_within, level_frames, rules, only_tree, loose_accepted, Begins, begins_append, numeral_begins, text_begins, run_value, ends, Ends, faultless_place, no_text}
-use Rattle.tinyjson_laws.proofs.RefusalPlaces.{Goes, EndsKey, faultless_stands, stands_stop, run_stop, wide_stop, wide_step, Ready, awaits_ready, ready_run, ready_free}
-use Rattle.tinyjson_laws.proofs.RefusalTokens.{has_some_digit, literal_stops, literal_ends, string_opens, control_stops, escape_stops, hex_stops, escape_ends, run_stops, unpaired_behind, minus_stops, zero_stops, fraction_stops, exponent_stops, signed_stops, number_ends_or}
-use Rattle.tinyjson_laws.proofs.RefusalLast.{Exact, run_end, colon_exact, brace_exact, bracket_exact, behind_exact, needs_exact, closer_colon, closer_bracket, closer_brace}
+use Rattle.tinyjson_grammar.proofs.Callers.Laws.{error_free, placed, refused_key, run_spelling, last_stage, end_finishes, Path, outside, item_in, key_in, value_in, path_text, path_frames, level, IsPath, Part, part_minus, part_integer, part_point, part_fraction, part_letter, part_sign, part_exponent, part_stage, part_numeral, Read, at_first, at_awaited, in_literal, in_digits, in_quoted, at_after, read_frames, read_phase, IsFresh, settle, fits_within, level_frames, rules, only_tree, loose_accepted, Begins, begins_append, numeral_begins, text_begins, run_value, ends, Ends, error_free_place, no_text}
+use Rattle.tinyjson_laws.proofs.RefusalPlaces.{Goes, EndsKey, error_free_stands, stands_stop, run_stop, wide_stop, wide_step, Ready, awaits_ready, ready_run, ready_free}
+use Rattle.tinyjson_laws.proofs.RefusalTokens.{has_some_digit, literal_stops, literal_ends, string_opens, control_stops, escape_stops, hex_stops, escape_ends, run_stops, unpaired_after, minus_stops, zero_stops, fraction_stops, exponent_stops, signed_stops, number_ends_or}
+use Rattle.tinyjson_laws.proofs.RefusalLast.{Exact, run_end, colon_exact, brace_exact, bracket_exact, after_exact, needs_exact, closer_colon, closer_bracket, closer_brace}
 use Rattle.tinyjson_laws.specs.Refusals.{OneRefusal, OneAnswer}
 
 -- ---- a token that was begun where a value is awaited
 
-begun : (limit : Option ℕ) (used token : List ℕ) → All IsScalar used → (h : BeginsAt limit used token) → Ready limit h.front
-begun limit used token a h = awaits_ready limit h.front (all_front h.front token (subst (All IsScalar) h.whole a)) h.awaited
+begun : (limit : Option ℕ) (used token : List ℕ) → All IsScalar used → (h : BeginsAt limit used token) → Ready limit h.prefix
+begun limit used token a h = awaits_ready limit h.prefix (all_front h.prefix token (subst (All IsScalar) h.whole a)) h.awaited
 
 begun_run : (limit : Option ℕ) (used token rest : List ℕ) (a : All IsScalar used) (h : BeginsAt limit used token) → Begins token →
     run (strictly limit) [] awaited (used ++ rest) ≡ run (strictly limit) (path_frames (begun limit used token a h).path) awaited (token ++ rest)
 begun_run limit used token rest a h b =
-    ap (run (strictly limit) [] awaited) (ap (λ xs. xs ++ rest) h.whole ∙ append_assoc h.front token rest) ∙ ready_run limit h.front (begun limit used token a h) (token ++ rest) (begins_append token rest b)
+    ap (run (strictly limit) [] awaited) (ap (λ xs. xs ++ rest) h.whole ∙ append_assoc h.prefix token rest) ∙ ready_run limit h.prefix (begun limit used token a h) (token ++ rest) (begins_append token rest b)
 
 token_exact : (limit : Option ℕ) (k : JsonParseErrorKind) (used token rest : List ℕ) → All IsScalar used → BeginsAt limit used token → Begins token →
     ((fs : List Frame) → run (strictly limit) fs awaited (token ++ rest) ≡ refused k rest) → Exact limit k used rest
@@ -44,12 +44,12 @@ token_exact limit k used token rest a h b g = begun_run limit used token rest a 
 string_assoc : (a b c d : List ℕ) → (34 ∷ (a ++ (b ++ c))) ++ d ≡ 34 ∷ (a ++ (b ++ (c ++ d)))
 string_assoc a b c d = simp append_assoc
 
-string_exact : (limit : Option ℕ) (k : JsonParseErrorKind) (used : List ℕ) (units : List Piece) (behind rest : List ℕ) → All IsScalar used → InString limit used units behind →
-    ((fs : List Frame) (cs us : List ℕ) → IsTrue (paired us) → run (strictly limit) fs (quoted Machine.plain cs (us ++ piece_codes units)) (behind ++ rest) ≡ refused k rest) → Exact limit k used rest
-string_exact limit k used units behind rest a h g =
+string_exact : (limit : Option ℕ) (k : JsonParseErrorKind) (used : List ℕ) (units : List Piece) (tail rest : List ℕ) → All IsScalar used → InString limit used units tail →
+    ((fs : List Frame) (cs us : List ℕ) → IsTrue (paired us) → run (strictly limit) fs (quoted Machine.plain cs (us ++ piece_codes units)) (tail ++ rest) ≡ refused k rest) → Exact limit k used rest
+string_exact limit k used units tail rest a h g =
     token_exact limit k used _ rest a h.begins (_, _, refl, (refl, refl, refl))
     (λ fs. let o = string_opens limit fs h.pieces units h.are_pieces h.are_paired h.are_units in
-    ap (run (strictly limit) fs awaited) (string_assoc (pieces_text h.pieces) (pieces_text units) behind rest) ∙ (o.3 (behind ++ rest) ∙ g fs o.0 o.1 o.2))
+    ap (run (strictly limit) fs awaited) (string_assoc (pieces_text h.pieces) (pieces_text units) tail rest) ∙ (o.3 (tail ++ rest) ∙ g fs o.0 o.1 o.2))
 
 literal_begins : (l : List ℕ) (n : ℕ) (xs : List ℕ) → IsLiteral l → 0 < n → Begins (take n l ++ xs)
 literal_begins l zero xs h k = absurd (omega arith)
@@ -59,7 +59,7 @@ literal_begins l (suc n) xs (inr (inr e)) k = rw e (_, _, refl, (refl, refl, ref
 
 -- ---- a number that ends, and what its end is refused for
 
-finish_run : (limit : Option ℕ) (fs : List Frame) (n : Numeral) → has_leading_zero n.whole ≡ false → (k : JsonParseErrorKind) → finish (strictly limit) fs n ≡ stop k false → (rest : List ℕ) →
+finish_run : (limit : Option ℕ) (fs : List Frame) (n : Numeral) → has_leading_zero n.integer ≡ false → (k : JsonParseErrorKind) → finish (strictly limit) fs n ≡ stop k false → (rest : List ℕ) →
     ((c : ℕ) (more : List ℕ) → rest ≡ c ∷ more → step_digits (strictly limit) fs (last_stage n) n c ≡ None) → run (strictly limit) fs (digits (last_stage n) n) rest ≡ refused k rest
 unfolding run step end
 finish_run limit fs n z k f [] h = end_finishes (strictly limit) fs n n.fraction n.exponent z ∙ ap end_plain f
@@ -70,15 +70,15 @@ finish_run limit fs n z k f (c ∷ cs) h =
 begins_digit : (c : ℕ) (more rest : List ℕ) → rest ≡ c ∷ more → BeginsWithNone is_ascii_digit rest → is_ascii_digit c ≡ false
 begins_digit c more rest e h = subst (BeginsWithNone is_ascii_digit) e h
 
-number_exact : (limit : Option ℕ) (front : List ℕ) (r : Ready limit front) (n : Numeral) → IsNumeral n → has_leading_zero n.whole ≡ false → (used rest : List ℕ) → used ≡ front ++ spelling n → BeginsWithNone is_ascii_digit rest →
-    ((c : ℕ) (more : List ℕ) → rest ≡ c ∷ more → ¬ IsFaultless limit (used ++ c ∷ [])) → (k : JsonParseErrorKind) → finish (strictly limit) (path_frames r.path) n ≡ stop k false → Exact limit k used rest
-number_exact limit front r n h z used rest e d s k f =
-    ap (run (strictly limit) [] awaited) (ap (λ xs. xs ++ rest) e ∙ append_assoc front (spelling n) rest)
-    ∙ (ready_run limit front r (spelling n ++ rest) (begins_append (spelling n) rest (text_begins (number n) h))
+number_exact : (limit : Option ℕ) (prefix : List ℕ) (r : Ready limit prefix) (n : Numeral) → IsNumeral n → has_leading_zero n.integer ≡ false → (used rest : List ℕ) → used ≡ prefix ++ spelling n → BeginsWithNone is_ascii_digit rest →
+    ((c : ℕ) (more : List ℕ) → rest ≡ c ∷ more → ¬ IsErrorFree limit (used ++ c ∷ [])) → (k : JsonParseErrorKind) → finish (strictly limit) (path_frames r.path) n ≡ stop k false → Exact limit k used rest
+number_exact limit prefix r n h z used rest e d s k f =
+    ap (run (strictly limit) [] awaited) (ap (λ xs. xs ++ rest) e ∙ append_assoc prefix (spelling n) rest)
+    ∙ (ready_run limit prefix r (spelling n ++ rest) (begins_append (spelling n) rest (text_begins (number n) h))
     ∙ (run_spelling (strictly limit) (path_frames r.path) n rest h z ∙ finish_run limit (path_frames r.path) n z k f rest none))
   where
     none : (c : ℕ) (more : List ℕ) → rest ≡ c ∷ more → step_digits (strictly limit) (path_frames r.path) (last_stage n) n c ≡ None
-    none c more g = ⊎_elim (λ i. i) (λ i. absurd (s c more g (subst (λ xs. IsFaultless limit (xs ++ c ∷ [])) (sym (e ∙ ap (λ xs. xs ++ spelling n) r.whole)) i)))
+    none c more g = ⊎_elim (λ i. i) (λ i. absurd (s c more g (subst (λ xs. IsErrorFree limit (xs ++ c ∷ [])) (sym (e ∙ ap (λ xs. xs ++ spelling n) r.whole)) i)))
         (number_ends_or limit r.path r.is n h z c (begins_digit c more rest g d))
 
 range_finish : (limit : Option ℕ) (fs : List Frame) (n : Numeral) → in_range (value n) ≡ false → finish (strictly limit) fs n ≡ stop kind.NumberOutOfRange false
@@ -87,7 +87,7 @@ range_finish limit fs n h = rw h refl
 key_finish : (limit : Option ℕ) (ms : Members) (fs : List Frame) (n : Numeral) → in_range (value n) ≡ true → finish (strictly limit) (at_key ms ∷ fs) n ≡ stop (kind.KeyNotString (kind_of (tree.number (value n)))) false
 key_finish limit ms fs n h = rw h refl
 
--- ---- a key that is no string
+-- ---- a key that is not a string
 
 key_frames : (p : Path) (s : Syntax) → IsSpelled s → (zs : List ℕ) (t : Tree) → run (rules false None) (path_frames p) awaited (text s ++ 58 ∷ zs) ≡ accepted t → (ms : Members) × (fs : List Frame) × (path_frames p ≡ at_key ms ∷ fs)
 unfolding run step
@@ -118,7 +118,7 @@ zero_left false j m k x xs e = end_left m k x xs e
 digit_left : (fs : List Frame) (n : Part) (k : JsonParseErrorKind) → run (strictly None) fs (digits (part_stage n) (part_numeral n)) (48 ∷ []) ≡ refused k (48 ∷ []) → ⊥
 unfolding run step end
 digit_left fs part_minus k e = end_left _ k 48 [] e
-digit_left fs (part_whole b d ds) k e = zero_left _ _ _ k 48 [] e
+digit_left fs (part_integer b d ds) k e = zero_left _ _ _ k 48 [] e
 digit_left fs (part_point b d ds) k e = end_left _ k 48 [] e
 digit_left fs (part_fraction b d ds x xs) k e = end_left _ k 48 [] e
 digit_left fs (part_letter b d ds f l) k e = end_left _ k 48 [] e
@@ -144,13 +144,13 @@ same_key : (j k : JsonKind) (xs ys : List ℕ) → refused (kind.KeyNotString j)
 same_key j k xs ys e = cc
 
 -- a key that ends with its last character
-key_other : (limit : Option ℕ) (front : List ℕ) (r : Ready limit front) (s : Syntax) → IsValue s → is_key s ≡ false → ((ys : List ℕ) → Ends s ys) → (ms : Members) (fs : List Frame) → path_frames r.path ≡ at_key ms ∷ fs →
-    (used rest : List ℕ) → used ≡ front ++ text s → All IsScalar used → IsFaultless limit used → Exact limit (kind.KeyNotString (kind_of (tree_of s))) used rest
-key_other limit front r s hs nk es ms fs pf used rest e a f = ⊎_elim goes bad (faultless_stands limit used a f)
+key_other : (limit : Option ℕ) (prefix : List ℕ) (r : Ready limit prefix) (s : Syntax) → IsValue s → is_key s ≡ false → ((ys : List ℕ) → Ends s ys) → (ms : Members) (fs : List Frame) → path_frames r.path ≡ at_key ms ∷ fs →
+    (used rest : List ℕ) → used ≡ prefix ++ text s → All IsScalar used → IsErrorFree limit used → Exact limit (kind.KeyNotString (kind_of (tree_of s))) used rest
+key_other limit prefix r s hs nk es ms fs pf used rest e a f = ⊎_elim goes bad (error_free_stands limit used a f)
   where
     free : (ys : List ℕ) → run (strictly None) [] awaited (used ++ ys) ≡ refused (kind.KeyNotString (kind_of (tree_of s))) ys
-    free ys = ap (run (strictly None) [] awaited) (ap (λ xs. xs ++ ys) e ∙ append_assoc front (text s) ys)
-        ∙ (ready_free limit front r true (text s ++ ys) (begins_append (text s) ys (text_begins s hs.spelled))
+    free ys = ap (run (strictly None) [] awaited) (ap (λ xs. xs ++ ys) e ∙ append_assoc prefix (text s) ys)
+        ∙ (ready_free limit prefix r true (text s ++ ys) (begins_append (text s) ys (text_begins s hs.spelled))
         ∙ (ap (λ gs. run (strictly None) gs awaited (text s ++ ys)) pf ∙ refused_key (strictly None) ms fs s ys refl hs nk tt (es ys)))
 
     goes : Goes limit used → Exact limit (kind.KeyNotString (kind_of (tree_of s))) used rest
@@ -164,37 +164,37 @@ key_other limit front r s hs nk es ms fs pf used rest e a f = ⊎_elim goes bad 
         ap (run (strictly limit) [] awaited) (ap (λ xs. xs ++ rest) b.2 ∙ append_assoc b.0 (b.1 ∷ []) rest)
         ∙ (stands_stop limit b.0 b.3 b.4 b.5 b.1 (kind.KeyNotString b.6) true b.7 rest ∙ ap (λ y. refused (kind.KeyNotString y) rest) (sym j))
 
-module _ (limit : Option ℕ) (front : List ℕ) (r : Ready limit front) (ms : Members) (fs : List Frame) (pf : path_frames r.path ≡ at_key ms ∷ fs) (used rest : List ℕ) (a : All IsScalar used) (f : IsFaultless limit used)
-    (soon : (c : ℕ) (more : List ℕ) → rest ≡ c ∷ more → ¬ IsFaultless limit (used ++ c ∷ [])) where
-  key_at : (s : Syntax) → IsValue s → is_key s ≡ false → used ≡ front ++ text s → EndsBefore s rest → Exact limit (kind.KeyNotString (kind_of (tree_of s))) used rest
+module _ (limit : Option ℕ) (prefix : List ℕ) (r : Ready limit prefix) (ms : Members) (fs : List Frame) (pf : path_frames r.path ≡ at_key ms ∷ fs) (used rest : List ℕ) (a : All IsScalar used) (f : IsErrorFree limit used)
+    (soon : (c : ℕ) (more : List ℕ) → rest ≡ c ∷ more → ¬ IsErrorFree limit (used ++ c ∷ [])) where
+  key_at : (s : Syntax) → IsValue s → is_key s ≡ false → used ≡ prefix ++ text s → EndsBefore s rest → Exact limit (kind.KeyNotString (kind_of (tree_of s))) used rest
   key_at (number n) hs nk e d =
-      number_exact limit front r n hs.spelled (not-true (has_leading_zero n.whole) hs.strict.0) used rest e d soon (kind.KeyNotString (kind_of (tree.number (value n))))
+      number_exact limit prefix r n hs.spelled (not-true (has_leading_zero n.integer) hs.strict.0) used rest e d soon (kind.KeyNotString (kind_of (tree.number (value n))))
       (ap (λ gs. finish (strictly limit) gs n) pf ∙ key_finish limit ms fs n hs.strict.1)
-  key_at null hs nk e d = key_other limit front r null hs nk (λ ys. tt) ms fs pf used rest e a f
-  key_at (boolean b) hs nk e d = key_other limit front r (boolean b) hs nk (λ ys. tt) ms fs pf used rest e a f
+  key_at null hs nk e d = key_other limit prefix r null hs nk (λ ys. tt) ms fs pf used rest e a f
+  key_at (boolean b) hs nk e d = key_other limit prefix r (boolean b) hs nk (λ ys. tt) ms fs pf used rest e a f
   key_at (string ps) hs nk e d = absurd (true≢false nk)
-  key_at (empty_array w) hs nk e d = key_other limit front r (empty_array w) hs nk (λ ys. tt) ms fs pf used rest e a f
-  key_at (array es) hs nk e d = key_other limit front r (array es) hs nk (λ ys. tt) ms fs pf used rest e a f
-  key_at (empty_object w) hs nk e d = key_other limit front r (empty_object w) hs nk (λ ys. tt) ms fs pf used rest e a f
-  key_at (object ps) hs nk e d = key_other limit front r (object ps) hs nk (λ ys. tt) ms fs pf used rest e a f
+  key_at (empty_array w) hs nk e d = key_other limit prefix r (empty_array w) hs nk (λ ys. tt) ms fs pf used rest e a f
+  key_at (array es) hs nk e d = key_other limit prefix r (array es) hs nk (λ ys. tt) ms fs pf used rest e a f
+  key_at (empty_object w) hs nk e d = key_other limit prefix r (empty_object w) hs nk (λ ys. tt) ms fs pf used rest e a f
+  key_at (object ps) hs nk e d = key_other limit prefix r (object ps) hs nk (λ ys. tt) ms fs pf used rest e a f
 
 unlimited : (limit : Option ℕ) (xs : List ℕ) → IsLoose limit xs → IsLoose None xs
 unlimited limit xs h = record { before = h.before; value = h.value; after = h.after; white_before = h.white_before; spelled = h.spelled; white_after = h.white_after; shallow = tt; whole = h.whole }
 
-key_exact : (limit : Option ℕ) (used rest : List ℕ) (k : JsonKind) → All IsScalar used → EndsBadKey limit k used rest → IsFaultless limit used → IsLooselyViable limit (used ++ 58 ∷ []) →
-    ((c : ℕ) (more : List ℕ) → rest ≡ c ∷ more → ¬ IsFaultless limit (used ++ c ∷ [])) → Exact limit (kind.KeyNotString k) used rest
+key_exact : (limit : Option ℕ) (used rest : List ℕ) (k : JsonKind) → All IsScalar used → EndsBadKey limit k used rest → IsErrorFree limit used → IsLooselyViable limit (used ++ 58 ∷ []) →
+    ((c : ℕ) (more : List ℕ) → rest ≡ c ∷ more → ¬ IsErrorFree limit (used ++ c ∷ [])) → Exact limit (kind.KeyNotString k) used rest
 unfolding unlimited
 key_exact limit used rest k a (before, w, o, s, ho, hw, hs, hv, nk, kd, ud, aw, eb) f v soon =
-    subst (λ j. Exact limit (kind.KeyNotString j) used rest) kd (key_at limit front r kf.0 kf.1 kf.2 used rest a f soon s (record { spelled = hs; strict = hv }) nk e eb)
+    subst (λ j. Exact limit (kind.KeyNotString j) used rest) kd (key_at limit prefix r kf.0 kf.1 kf.2 used rest a f soon s (record { spelled = hs; strict = hv }) nk e eb)
   where
-    front : List ℕ
-    front = before ++ o ∷ w
+    prefix : List ℕ
+    prefix = before ++ o ∷ w
 
-    e : used ≡ front ++ text s
+    e : used ≡ prefix ++ text s
     e = ud ∙ sym (append_assoc before (o ∷ w) (text s))
 
-    r : Ready limit front
-    r = awaits_ready limit front (all_front front (text s) (subst (All IsScalar) e a)) aw
+    r : Ready limit prefix
+    r = awaits_ready limit prefix (all_front prefix (text s) (subst (All IsScalar) e a)) aw
 
     l : run (rules false None) [] awaited ((used ++ 58 ∷ []) ++ v.0) ≡ accepted (tree_of v.1.value)
     l = loose_accepted None ((used ++ 58 ∷ []) ++ v.0) (unlimited limit ((used ++ 58 ∷ []) ++ v.0) v.1)
@@ -204,8 +204,8 @@ key_exact limit used rest k a (before, w, o, s, ho, hw, hs, hv, nk, kd, ud, aw, 
 
     kf : (ms : Members) × (fs : List Frame) × (path_frames r.path ≡ at_key ms ∷ fs)
     kf = key_frames r.path s hs v.0 (tree_of v.1.value)
-        (sym (ready_free limit front r false (text s ++ 58 ∷ v.0) (begins_append (text s) (58 ∷ v.0) (text_begins s hs)))
-        ∙ (sym (ap (run (rules false None) [] awaited) (ap (λ xs. (xs ++ 58 ∷ []) ++ v.0) e ∙ regroup front (text s) v.0)) ∙ l))
+        (sym (ready_free limit prefix r false (text s ++ 58 ∷ v.0) (begins_append (text s) (58 ∷ v.0) (text_begins s hs)))
+        ∙ (sym (ap (run (rules false None) [] awaited) (ap (λ xs. (xs ++ 58 ∷ []) ++ v.0) e ∙ regroup prefix (text s) v.0)) ∙ l))
 
 -- ---- where a value is awaited
 
@@ -250,21 +250,21 @@ close_array a w = simp (append_assoc, append-nil)
 close_object : (a w : List ℕ) → a ++ ((123 ∷ (w ++ 125 ∷ [])) ++ []) ≡ (a ++ 123 ∷ w) ++ 125 ∷ []
 close_object a w = simp (append_assoc, append-nil)
 
-array_faultless : (limit : Option ℕ) (p : Path) (w : List ℕ) → IsPath limit (item_in p [] w) → IsFaultless limit (path_text (item_in p [] w) ++ 93 ∷ [])
-array_faultless limit p w h = subst (IsFaultless limit) (close_array (path_text p) w) (faultless limit p h.0 (empty_array w) (record { spelled = h.2; strict = tt }) h.3 [] tt (placed p (empty_array w)))
+array_error_free : (limit : Option ℕ) (p : Path) (w : List ℕ) → IsPath limit (item_in p [] w) → IsErrorFree limit (path_text (item_in p [] w) ++ 93 ∷ [])
+array_error_free limit p w h = subst (IsErrorFree limit) (close_array (path_text p) w) (error_free limit p h.0 (empty_array w) (record { spelled = h.2; strict = tt }) h.3 [] tt (placed p (empty_array w)))
 
-object_faultless : (limit : Option ℕ) (p : Path) (w : List ℕ) → IsPath limit (key_in p [] w) → IsFaultless limit (path_text (key_in p [] w) ++ 125 ∷ [])
-object_faultless limit p w h = subst (IsFaultless limit) (close_object (path_text p) w) (faultless limit p h.0 (empty_object w) (record { spelled = h.2; strict = tt }) h.3 [] tt (placed p (empty_object w)))
+object_error_free : (limit : Option ℕ) (p : Path) (w : List ℕ) → IsPath limit (key_in p [] w) → IsErrorFree limit (path_text (key_in p [] w) ++ 125 ∷ [])
+object_error_free limit p w h = subst (IsErrorFree limit) (close_object (path_text p) w) (error_free limit p h.0 (empty_object w) (record { spelled = h.2; strict = tt }) h.3 [] tt (placed p (empty_object w)))
 
-first_none : (limit : Option ℕ) (p : Path) → IsPath limit p → IsFresh p → (c : ℕ) → is_white c ≡ false → begins_value c ≡ false → ¬ IsFaultless limit (path_text p ++ c ∷ []) → step (strictly limit) (path_frames p) first c ≡ stop (kind.InvalidCharacter c) false
+first_none : (limit : Option ℕ) (p : Path) → IsPath limit p → IsFresh p → (c : ℕ) → is_white c ≡ false → begins_value c ≡ false → ¬ IsErrorFree limit (path_text p ++ c ∷ []) → step (strictly limit) (path_frames p) first c ≡ stop (kind.InvalidCharacter c) false
 unfolding step
 first_none limit (outside w) hp f c h i n = elim f [ ]
 first_none limit (item_in p [] w) hp f c h i n = ⊎_elim
-    (λ e. absurd (n (subst (λ x. IsFaultless limit (path_text (item_in p [] w) ++ x ∷ [])) (sym (eqb-true c 93 e)) (array_faultless limit p w hp))))
+    (λ e. absurd (n (subst (λ x. IsErrorFree limit (path_text (item_in p [] w) ++ x ∷ [])) (sym (eqb-true c 93 e)) (array_error_free limit p w hp))))
     (λ (e : (c == 93) ≡ false). rw (h, e) (start_none (strictly limit) (path_frames (item_in p [] w)) c i)) (cases_Bool (c == 93))
 first_none limit (item_in p (e ∷ es) w) hp f c h i n = elim f [ ]
 first_none limit (key_in p [] w) hp f c h i n = ⊎_elim
-    (λ e. absurd (n (subst (λ x. IsFaultless limit (path_text (key_in p [] w) ++ x ∷ [])) (sym (eqb-true c 125 e)) (object_faultless limit p w hp))))
+    (λ e. absurd (n (subst (λ x. IsErrorFree limit (path_text (key_in p [] w) ++ x ∷ [])) (sym (eqb-true c 125 e)) (object_error_free limit p w hp))))
     (λ (e : (c == 125) ≡ false). rw (h, e) (start_none (strictly limit) (path_frames (key_in p [] w)) c i)) (cases_Bool (c == 125))
 first_none limit (key_in p (q ∷ qs) w) hp f c h i n = elim f [ ]
 first_none limit (value_in p ps a k b w) hp f c h i n = elim f [ ]
@@ -272,10 +272,10 @@ first_none limit (value_in p ps a k b w) hp f c h i n = elim f [ ]
 left_exact : (limit : Option ℕ) (used : List ℕ) (r : Ready limit used) (c : ℕ) (more rest : List ℕ) (k : JsonParseErrorKind) → rest ≡ c ∷ more → step (strictly limit) (path_frames r.path) r.phase c ≡ stop k false → Exact limit k used rest
 left_exact limit used r c more rest k e i = subst (Exact limit k used) (sym e) (stands_stop limit used (path_frames r.path) r.phase r.stands c k false i more)
 
-invalid_exact : (limit : Option ℕ) (used : List ℕ) → Ready limit used → (c : ℕ) (more rest : List ℕ) → rest ≡ c ∷ more → is_white c ≡ false → begins_value c ≡ false → ¬ IsFaultless limit (used ++ c ∷ []) → Exact limit (kind.InvalidCharacter c) used rest
+invalid_exact : (limit : Option ℕ) (used : List ℕ) → Ready limit used → (c : ℕ) (more rest : List ℕ) → rest ≡ c ∷ more → is_white c ≡ false → begins_value c ≡ false → ¬ IsErrorFree limit (used ++ c ∷ []) → Exact limit (kind.InvalidCharacter c) used rest
 invalid_exact limit used r c more rest e h i n = left_exact limit used r c more rest (kind.InvalidCharacter c) e (⊎_elim
     (λ g. ap (λ q. step (strictly limit) (path_frames r.path) q c) g ∙ (awaited_start (strictly limit) (path_frames r.path) c h ∙ start_none (strictly limit) (path_frames r.path) c i))
-    (λ g. ap (λ q. step (strictly limit) (path_frames r.path) q c) g.0 ∙ first_none limit r.path r.is g.1 c h i (subst (λ xs. ¬ IsFaultless limit (xs ++ c ∷ [])) r.whole n)) r.ready)
+    (λ g. ap (λ q. step (strictly limit) (path_frames r.path) q c) g.0 ∙ first_none limit r.path r.is g.1 c h i (subst (λ xs. ¬ IsErrorFree limit (xs ++ c ∷ [])) r.whole n)) r.ready)
 
 deep_push : (limit : Option ℕ) (fs : List Frame) (f : Frame) (c : ℕ) → (fits limit (length fs) ≡ true → ⊥) → push_frame (strictly limit) fs f c ≡ stop (kind.TooDeep c) false
 deep_push limit fs f c n = split (fits limit (length fs)) n
@@ -284,7 +284,7 @@ deep_push limit fs f c n = split (fits limit (length fs)) n
     split true h = absurd (h refl)
     split false h = refl
 
-deep_exact : (limit : Option ℕ) (used : List ℕ) → Ready limit used → (c : ℕ) (more rest : List ℕ) → rest ≡ c ∷ more → (c ≡ 91) ⊎ (c ≡ 123) → ¬ IsFaultless limit (used ++ c ∷ []) → Exact limit (kind.TooDeep c) used rest
+deep_exact : (limit : Option ℕ) (used : List ℕ) → Ready limit used → (c : ℕ) (more rest : List ℕ) → rest ≡ c ∷ more → (c ≡ 91) ⊎ (c ≡ 123) → ¬ IsErrorFree limit (used ++ c ∷ []) → Exact limit (kind.TooDeep c) used rest
 deep_exact limit used r c more rest e h n = ⊎_elim array_deep object_deep h
   where
     within : fits limit (length (path_frames r.path)) ≡ true → IsWithin limit (level r.path + (1 + 0))
@@ -293,12 +293,12 @@ deep_exact limit used r c more rest e h n = ⊎_elim array_deep object_deep h
     array_deep : c ≡ 91 → Exact limit (kind.TooDeep c) used rest
     array_deep i = rw i (left_exact limit used r 91 more rest (kind.TooDeep 91) (rw i at e)
         (ready_start limit used r 91 refl refl refl ∙ deep_push limit (path_frames r.path) (Machine.in_array []) 91
-        (λ g. n (rw i (rw r.whole (faultless_place limit (item_in r.path [] []) (r.is, tt, tt, within g)))))))
+        (λ g. n (rw i (rw r.whole (error_free_place limit (item_in r.path [] []) (r.is, tt, tt, within g)))))))
 
     object_deep : c ≡ 123 → Exact limit (kind.TooDeep c) used rest
     object_deep i = rw i (left_exact limit used r 123 more rest (kind.TooDeep 123) (rw i at e)
         (ready_start limit used r 123 refl refl refl ∙ deep_push limit (path_frames r.path) (Machine.at_key tree.no_members) 123
-        (λ g. n (rw i (rw r.whole (faultless_place limit (key_in r.path [] []) (r.is, tt, tt, within g)))))))
+        (λ g. n (rw i (rw r.whole (error_free_place limit (key_in r.path [] []) (r.is, tt, tt, within g)))))))
 
 -- ---- at the end
 
@@ -334,13 +334,13 @@ exact : (limit : Option ℕ) (k : JsonParseErrorKind) (used rest : List ℕ) →
 exact limit kind.UnexpectedEof used rest a r = subst (Exact limit kind.UnexpectedEof used) (sym r.says.0.0) (ended limit used a r.says.0.1)
 exact limit (kind.InvalidCharacter c) used rest a r =
     invalid_exact limit used (awaits_ready limit used a r.says.1) c r.says.0.0.0 rest r.says.0.0.1 r.says.0.1 r.says.0.2 (r.not_too_soon c r.says.0.0.0 r.says.0.0.1)
-exact limit (kind.ExpectedEof c) used rest a r = behind_exact limit used rest r.says.0.1.0 c a r.says.0.0 r.says.0.1.1 r.says.0.1.2 r.says.1.1
+exact limit (kind.ExpectedEof c) used rest a r = after_exact limit used rest r.says.0.1.0 c a r.says.0.0 r.says.0.1.1 r.says.0.1.2 r.says.1.1
 exact limit (kind.KeyNotString k) used rest a r = key_exact limit used rest k a r.says.0 r.says.1.0 r.says.1.1 r.not_too_soon
 exact limit (kind.ExpectedColon c) used rest a r = colon_exact limit used rest c a r.says.0.1 r.says.0.2 r.says.1.0 r.says.1.1
 exact limit (kind.ExpectedCommaOrBrace c) used rest a r = brace_exact limit used rest c a r.says.0.1 r.says.0.2 r.says.0.3 r.says.1.0 r.says.1.1
 exact limit (kind.ExpectedCommaOrBracket c) used rest a r = bracket_exact limit used rest c a r.says.0.1 r.says.0.2 r.says.0.3 r.says.1.0 r.says.1.1
 exact limit kind.InvalidUtf16 used rest a r =
-    string_exact limit kind.InvalidUtf16 used r.says.0.0 r.says.0.1 rest a r.says.0.4 (λ fs cs vs i. run_stops limit fs cs (vs ++ piece_codes r.says.0.0) (unpaired_behind vs (piece_codes r.says.0.0) i r.says.0.2) r.says.0.1 rest r.says.0.3)
+    string_exact limit kind.InvalidUtf16 used r.says.0.0 r.says.0.1 rest a r.says.0.4 (λ fs cs vs i. run_stops limit fs cs (vs ++ piece_codes r.says.0.0) (unpaired_after vs (piece_codes r.says.0.0) i r.says.0.2) r.says.0.1 rest r.says.0.3)
 exact limit (kind.InvalidHexDigit c) used rest a r =
     string_exact limit (kind.InvalidHexDigit c) used r.says.0.4.0 _ rest a r.says.0.4.1
     (λ fs cs vs i. ap (run (strictly limit) fs (quoted Machine.plain cs (vs ++ piece_codes r.says.0.4.0))) (hex_assoc r.says.0.0 c rest) ∙ hex_stops (strictly limit) fs cs (vs ++ piece_codes r.says.0.4.0) r.says.0.0 c rest r.says.0.1 r.says.0.2 r.says.0.3)
@@ -356,7 +356,7 @@ exact limit kind.EmptyFraction used rest a r =
     token_exact limit kind.EmptyFraction used _ rest a r.says.0.3 (numeral_begins r.says.0.0 r.says.0.1 (46 ∷ []) r.says.0.2.1 r.says.0.2.0) (λ fs. fraction_stops limit fs r.says.0.0 r.says.0.1 rest r.says.0.2.0 r.says.0.2.1 r.says.0.2.2 r.says.0.4)
 exact limit kind.EmptyExponent used rest a r = exponent_exact limit used rest a r.says.0
 exact limit kind.NumberOutOfRange used rest a r =
-    number_exact limit r.says.0.4.front (begun limit used (spelling r.says.0.0) a r.says.0.4) r.says.0.0 r.says.0.1 r.says.0.2 used rest r.says.0.4.whole r.says.0.5 r.not_too_soon kind.NumberOutOfRange
+    number_exact limit r.says.0.4.prefix (begun limit used (spelling r.says.0.0) a r.says.0.4) r.says.0.0 r.says.0.1 r.says.0.2 used rest r.says.0.4.whole r.says.0.5 r.not_too_soon kind.NumberOutOfRange
     (range_finish limit (path_frames (begun limit used (spelling r.says.0.0) a r.says.0.4).path) r.says.0.0 r.says.0.3)
 exact limit kind.OutOfMemory used rest a r = absurd r.says
 exact limit (kind.TooDeep c) used rest a r = deep_exact limit used (awaits_ready limit used a r.says.1) c r.says.0.0.0 rest r.says.0.0.1 r.says.0.1 (r.not_too_soon c r.says.0.0.0 r.says.0.0.1)

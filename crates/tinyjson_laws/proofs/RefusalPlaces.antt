@@ -4,7 +4,7 @@ use Rattle.std.proofs.lemmas.Bool.{and_parts, not-true}
 use Rattle.std.specs.Prelude.{All}
 use Rattle.std.specs.Char.{IsScalar}
 use Rattle.tinyjson_grammar.specs.Characters.{is_white, short_escape}
-use Rattle.tinyjson_grammar.specs.Prefix.{IsFaultless, IsLooselyViable, IsCutOffText}
+use Rattle.tinyjson_grammar.specs.Prefix.{IsErrorFree, IsLooselyViable, IsCutOffText}
 use Rattle.tinyjson_grammar.specs.Grammar.{IsAccepted}
 use Rattle.tinyjson_grammar.specs.Kind.{kind_of}
 use Rattle.tinyjson_grammar.specs.Machine
@@ -17,7 +17,7 @@ use Rattle.tinyjson_grammar.specs.declared.kind.JsonKind.{JsonKind}
 use Rattle.tinyjson_grammar.specs.declared.error.JsonParseErrorKind.{JsonParseErrorKind}
 use Rattle.tinyjson_grammar.specs.declared.error.JsonParseErrorKind.TheVariants.{KeyNotString, TooDeep}
 use Rattle.tinyjson_grammar.proofs.Callers.{ranges}
-use Rattle.tinyjson_grammar.proofs.Callers.Laws.{cut_off_end, Path, outside, item_in, key_in, value_in, path_text, path_frames, IsPath, strict_key, Reached, reached_next, step_spells, spells_viable, start_spells, run_next, Read, at_first, at_awaited, in_literal, in_digits, in_quoted, at_after, Part, part_minus, part_whole, part_point, part_fraction, part_letter, part_sign, part_exponent, part_stage, part_numeral, read_text, read_frames, read_phase, IsRead, IsFresh, IsWithinLiteral, Spells, exponent_with, rules, text_accepted, loose_accepted, Follows, loosely, Begins, first_array, first_object, no_text}
+use Rattle.tinyjson_grammar.proofs.Callers.Laws.{cut_off_end, Path, outside, item_in, key_in, value_in, path_text, path_frames, IsPath, strict_key, Reached, reached_next, step_spells, spells_viable, start_spells, run_next, Read, at_first, at_awaited, in_literal, in_digits, in_quoted, at_after, Part, part_minus, part_integer, part_point, part_fraction, part_letter, part_sign, part_exponent, part_stage, part_numeral, read_text, read_frames, read_phase, IsRead, IsFresh, IsWithinLiteral, Spells, exponent_with, rules, text_accepted, loose_accepted, Follows, loosely, Begins, first_array, first_object, no_text}
 
 -- ---- with no limit the machine does the same, but where a container is one too many
 
@@ -76,7 +76,7 @@ module _ (limit : Option ℕ) where
 
   wide_digits : (fs : List Frame) (s : Stage) (n : Numeral) (c : ℕ) → Wide (unless_ended (strictly limit) fs n c (step_digits (strictly limit) fs s n c)) (unless_ended (strictly None) fs n c (step_digits (strictly None) fs s n c))
   wide_digits fs Machine.minus n c = wide _
-  wide_digits fs Machine.whole n c = wide_ended fs n c (step_digits (strictly limit) fs Machine.whole n c)
+  wide_digits fs Machine.integer n c = wide_ended fs n c (step_digits (strictly limit) fs Machine.integer n c)
   wide_digits fs Machine.point n c = wide _
   wide_digits fs Machine.fraction n c = wide_ended fs n c (step_digits (strictly limit) fs Machine.fraction n c)
   wide_digits fs Machine.letter n c = wide _
@@ -141,7 +141,7 @@ Goes limit xs = (fs : List Frame) × (q : Phase) × Stands limit xs fs q
 
 abbrev pub Halts : Option ℕ → List ℕ → Type 0
 Halts limit xs =
-    (front : List ℕ) × (c : ℕ) × (more : List ℕ) × (xs ≡ front ++ c ∷ more) × (fs : List Frame) × (q : Phase) × Stands limit front fs q
+    (prefix : List ℕ) × (c : ℕ) × (more : List ℕ) × (xs ≡ prefix ++ c ∷ more) × (fs : List Frame) × (q : Phase) × Stands limit prefix fs q
     × (k : JsonParseErrorKind) × (b : Bool) × (step (strictly limit) fs q c ≡ stop k b)
 
 travel_on : (limit : Option ℕ) (zs : List ℕ) (c : ℕ) (cs : List ℕ) → IsScalar c → (used : List ℕ) (fs : List Frame) (q : Phase) → Stands limit used fs q → zs ≡ used ++ c ∷ cs → (n : Next) → step (strictly limit) fs q c ≡ n →
@@ -163,22 +163,22 @@ halts_run limit xs h ys = rw h.3 (rw (append_assoc h.0 (h.1 ∷ h.2) ys) (stands
 
 -- ---- after a list without error
 
--- its last character is the end of a key that is no string
+-- its last character is the end of a key that is not a string
 abbrev pub EndsKey : Option ℕ → List ℕ → Type 0
 EndsKey limit xs =
-    (front : List ℕ) × (c : ℕ) × (xs ≡ front ++ c ∷ []) × (fs : List Frame) × (q : Phase) × Stands limit front fs q
+    (prefix : List ℕ) × (c : ℕ) × (xs ≡ prefix ++ c ∷ []) × (fs : List Frame) × (q : Phase) × Stands limit prefix fs q
     × (k : JsonKind) × (step (strictly limit) fs q c ≡ stop (KeyNotString k) true)
 
 pub accepted_refused : (t : Tree) (k : JsonParseErrorKind) (xs : List ℕ) → accepted t ≡ refused k xs → ⊥
 accepted_refused t k xs e = cc
 
 ends_key : (limit : Option ℕ) (xs ys : List ℕ) (k : JsonKind) → (h : Halts limit xs) → refused h.7 (rest_of h.8 h.1 (h.2 ++ ys)) ≡ refused (KeyNotString k) [] → EndsKey limit xs
-ends_key limit xs ys k (front, c, more, e, fs, q, s, j, false, i) g = absurd cc
-ends_key limit xs ys k (front, c, (m ∷ more), e, fs, q, s, j, true, i) g = absurd cc
-ends_key limit xs ys k (front, c, [], e, fs, q, s, j, true, i) g = let a : j ≡ KeyNotString k = cc in (front, c, e, fs, q, s, k, i ∙ ap (λ x. stop x true) a)
+ends_key limit xs ys k (prefix, c, more, e, fs, q, s, j, false, i) g = absurd cc
+ends_key limit xs ys k (prefix, c, (m ∷ more), e, fs, q, s, j, true, i) g = absurd cc
+ends_key limit xs ys k (prefix, c, [], e, fs, q, s, j, true, i) g = let a : j ≡ KeyNotString k = cc in (prefix, c, e, fs, q, s, k, i ∙ ap (λ x. stop x true) a)
 
-pub faultless_stands : (limit : Option ℕ) (xs : List ℕ) → All IsScalar xs → IsFaultless limit xs → Goes limit xs ⊎ EndsKey limit xs
-faultless_stands limit xs a f = ⊎_elim inl (λ h. inr (⊎_elim (taken h) (cut h) f.1)) (goes_or_halts limit xs a)
+pub error_free_stands : (limit : Option ℕ) (xs : List ℕ) → All IsScalar xs → IsErrorFree limit xs → Goes limit xs ⊎ EndsKey limit xs
+error_free_stands limit xs a f = ⊎_elim inl (λ h. inr (⊎_elim (taken h) (cut h) f.1)) (goes_or_halts limit xs a)
   where
     taken : Halts limit xs → IsAccepted limit (xs ++ f.0) → EndsKey limit xs
     taken h t = absurd (accepted_refused t.0 _ _ (sym (text_accepted limit (xs ++ f.0) t.0 t.1) ∙ halts_run limit xs h f.0))
@@ -229,7 +229,7 @@ line_ends limit (value_in p ps a k b w) n ys t e = no_text _ _ t e
 line_digits : (limit : Option ℕ) (p : Path) (n : Part) → NoLine limit (path_frames p) (digits (part_stage n) (part_numeral n))
 unfolding run step
 line_digits limit p part_minus ys t e = no_text _ _ t e
-line_digits limit p (part_whole b d ds) ys t e = line_ends limit p (numeral b (d ∷ ds) [] None) ys t e
+line_digits limit p (part_integer b d ds) ys t e = line_ends limit p (numeral b (d ∷ ds) [] None) ys t e
 line_digits limit p (part_point b d ds) ys t e = no_text _ _ t e
 line_digits limit p (part_fraction b d ds x xs) ys t e = line_ends limit p (numeral b (d ∷ ds) (x ∷ xs) None) ys t e
 line_digits limit p (part_letter b d ds f l) ys t e = no_text _ _ t e
@@ -272,7 +272,7 @@ ready_read limit xs (in_quoted p ps cs qs wi) h e s = inr (line_quoted limit (pa
 ready_read limit xs (at_after p v w) h e s = inr (line_after limit p v w)
 
 pub awaits_ready : (limit : Option ℕ) (xs : List ℕ) → All IsScalar xs → AwaitsValue limit xs → Ready limit xs
-awaits_ready limit xs a h = ⊎_elim goes bad (faultless_stands limit xs a h.0)
+awaits_ready limit xs a h = ⊎_elim goes bad (error_free_stands limit xs a h.0)
   where
     t : Tree
     t = tree_of h.1.1.value

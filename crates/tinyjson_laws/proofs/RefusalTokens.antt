@@ -4,7 +4,7 @@ use Rattle.std.specs.Prelude.{slice_index, unwrap_or}
 use Rattle.std.specs.Char.{is_ascii_digit}
 use Rattle.std.proofs.lemmas.Bool.{and_parts, or_parts, not-true, cases_Bool, eqb-true, ne_eqb, lt-ltb}
 use Rattle.tinyjson_grammar.specs.Characters.{is_hex, short_escape, decode, paired, is_surrogate, is_high, is_low}
-use Rattle.tinyjson_grammar.specs.Prefix.{IsFaultless}
+use Rattle.tinyjson_grammar.specs.Prefix.{IsErrorFree}
 use Rattle.tinyjson_grammar.specs.Machine
 use Rattle.tinyjson_grammar.specs.Machine.{Rules, strictly, Frame, awaited, digits, quoted, refused, step_escape, step_digits, go_on, step, run, end, with_exponent, with_sign}
 use Rattle.tinyjson_grammar.specs.Refusal.{IsLiteral, IsHex, AreUnits, EndsRun, BeginsEscape, BeginsWithNone}
@@ -12,7 +12,7 @@ use Rattle.tinyjson_grammar.specs.Syntax.{Syntax, text, Piece, plain, escape, un
 use Rattle.tinyjson_number.specs.Numeral.{numeral, Numeral, Exponent, IsNumeral, AreDigits, is_exponent_letter, is_sign, has_leading_zero, minus_text, fraction_text, spelling}
 use Rattle.tinyjson_grammar.specs.declared.error.JsonParseErrorKind.TheVariants.{UnexpectedEof, InvalidUtf16, InvalidHexDigit, InvalidEscape, ControlCharacter, UnexpectedInLiteral, EmptyInteger, LeadingZero, EmptyFraction, EmptyExponent}
 use Rattle.tinyjson_grammar.proofs.Callers.{ranges, letter_no_digit, letter_no_point, sign_no_digit}
-use Rattle.tinyjson_grammar.proofs.Callers.Laws.{run_whole, run_spelling, last_stage, stage_of, Path, path_text, path_frames, IsPath, paired_cons, paired_append, scalar_no_surrogate, escape_no_surrogate, some_unwrap, plain_no_quote, plain_no_backslash, plain_no_control, faultless_point, faultless_letter}
+use Rattle.tinyjson_grammar.proofs.Callers.Laws.{run_integer, run_spelling, last_stage, stage_of, Path, path_text, path_frames, IsPath, paired_cons, paired_append, scalar_no_surrogate, escape_no_surrogate, some_unwrap, plain_no_quote, plain_no_backslash, plain_no_control, error_free_point, error_free_letter}
 
 differs : (c n : ℕ) → (n ≡ c → ⊥) → (c == n) ≡ false
 differs c n h = ne_eqb c n (λ e. h (sym e))
@@ -189,8 +189,8 @@ module _ (limit : Option ℕ) (fs : List Frame) (cs us : List ℕ) (h : paired u
   run_stops e rest (inl g) = rw g (quote_stops rest)
   run_stops e rest (inr (p, i, g, n)) = rw g (piece_stops p rest i n)
 
-pub unpaired_behind : (vs us : List ℕ) → IsTrue (paired vs) → paired us ≡ false → paired (vs ++ us) ≡ false
-unpaired_behind vs us h i = paired_front vs us h ∙ i
+pub unpaired_after : (vs us : List ℕ) → IsTrue (paired vs) → paired us ≡ false → paired (vs ++ us) ≡ false
+unpaired_after vs us h i = paired_front vs us h ∙ i
 
 -- ---- a number
 
@@ -224,17 +224,17 @@ has_some_digit [] g = absurd cc
 has_some_digit (x ∷ xs) g = omega arith
 
 module _ (limit : Option ℕ) (fs : List Frame) where
-  zero_behind : (b : Bool) (ds rest : List ℕ) → IsTrue (has_leading_zero ds) → BeginsWithNone is_ascii_digit rest → run (strictly limit) fs (digits Machine.whole (numeral b ds [] None)) rest ≡ refused LeadingZero rest
+  zero_after : (b : Bool) (ds rest : List ℕ) → IsTrue (has_leading_zero ds) → BeginsWithNone is_ascii_digit rest → run (strictly limit) fs (digits Machine.integer (numeral b ds [] None)) rest ≡ refused LeadingZero rest
   unfolding run step end
-  zero_behind b ds [] h g = rw h refl
-  zero_behind b ds (c ∷ cs) h g = rw (g, h) refl
+  zero_after b ds [] h g = rw h refl
+  zero_after b ds (c ∷ cs) h g = rw (g, h) refl
 
-  point_goes : (b : Bool) (ds rest : List ℕ) → has_leading_zero ds ≡ false → run (strictly limit) fs (digits Machine.whole (numeral b ds [] None)) (46 ∷ rest) ≡ run (strictly limit) fs (digits Machine.point (numeral b ds [] None)) rest
+  point_goes : (b : Bool) (ds rest : List ℕ) → has_leading_zero ds ≡ false → run (strictly limit) fs (digits Machine.integer (numeral b ds [] None)) (46 ∷ rest) ≡ run (strictly limit) fs (digits Machine.point (numeral b ds [] None)) rest
   unfolding run step
   point_goes b ds rest z = rw z refl
 
   pub zero_stops : (b : Bool) (ds rest : List ℕ) → IsTrue (has_leading_zero ds) → AreDigits ds → BeginsWithNone is_ascii_digit rest → run (strictly limit) fs awaited ((minus_text b ++ ds) ++ rest) ≡ refused LeadingZero rest
-  zero_stops b ds rest h i e = rw (append_assoc (minus_text b) ds rest) (run_whole (strictly limit) fs b ds rest i (has_some_digit ds h) ∙ zero_behind b ds rest h e)
+  zero_stops b ds rest h i e = rw (append_assoc (minus_text b) ds rest) (run_integer (strictly limit) fs b ds rest i (has_some_digit ds h) ∙ zero_after b ds rest h e)
 
   -- the letter of an exponent after a number without one
   letter_goes : (b : Bool) (ds f : List ℕ) (l : ℕ) (xs : List ℕ) → has_leading_zero ds ≡ false → IsTrue (is_exponent_letter l) →
@@ -244,7 +244,7 @@ module _ (limit : Option ℕ) (fs : List Frame) where
   letter_goes b ds (x ∷ f) l xs z h = rw (letter_no_digit l h, h) refl
 
   plain_numeral : (b : Bool) (ds f : List ℕ) → AreDigits ds → 0 < length ds → AreDigits f → IsNumeral (numeral b ds f None)
-  plain_numeral b ds f h i j = record { whole = h; some_digit = i; fraction = j; exponent = tt }
+  plain_numeral b ds f h i j = record { integer = h; some_digit = i; fraction = j; exponent = tt }
 
   to_letter : (b : Bool) (ds f : List ℕ) (l : ℕ) (xs : List ℕ) → AreDigits ds → 0 < length ds → has_leading_zero ds ≡ false → AreDigits f → IsTrue (is_exponent_letter l) →
       run (strictly limit) fs awaited (minus_text b ++ (ds ++ (fraction_text f ++ l ∷ xs))) ≡ run (strictly limit) fs (digits Machine.letter (with_exponent (numeral b ds f None) l)) xs
@@ -257,7 +257,7 @@ module _ (limit : Option ℕ) (fs : List Frame) where
 
   pub fraction_stops : (b : Bool) (ds rest : List ℕ) → AreDigits ds → 0 < length ds → has_leading_zero ds ≡ false → BeginsWithNone is_ascii_digit rest →
       run (strictly limit) fs awaited ((minus_text b ++ (ds ++ 46 ∷ [])) ++ rest) ≡ refused EmptyFraction rest
-  fraction_stops b ds rest h i z e = rw (regroup (minus_text b) ds rest) (run_whole (strictly limit) fs b ds (46 ∷ rest) h i ∙ (point_goes b ds rest z ∙ point_stops (strictly limit) fs (numeral b ds [] None) rest e))
+  fraction_stops b ds rest h i z e = rw (regroup (minus_text b) ds rest) (run_integer (strictly limit) fs b ds (46 ∷ rest) h i ∙ (point_goes b ds rest z ∙ point_stops (strictly limit) fs (numeral b ds [] None) rest e))
     where
       regroup : (m w ys : List ℕ) → (m ++ (w ++ 46 ∷ [])) ++ ys ≡ m ++ (w ++ 46 ∷ ys)
       regroup m w ys = simp append_assoc
@@ -281,9 +281,9 @@ module _ (limit : Option ℕ) (fs : List Frame) where
 
 -- ---- the end of a number
 
--- A character that is no digit ends a number, or the number has no error with it.
+-- A character that is not a digit ends a number, or the number has no error with it.
 abbrev pub EndsOr : Option ℕ → Path → Numeral → ℕ → Type 0
-EndsOr limit p n c = (step_digits (strictly limit) (path_frames p) (last_stage n) n c ≡ None) ⊎ IsFaultless limit ((path_text p ++ spelling n) ++ c ∷ [])
+EndsOr limit p n c = (step_digits (strictly limit) (path_frames p) (last_stage n) n c ≡ None) ⊎ IsErrorFree limit ((path_text p ++ spelling n) ++ c ∷ [])
 
 point_more : (a m xs : List ℕ) → a ++ (m ++ (xs ++ 46 ∷ [])) ≡ (a ++ (m ++ (xs ++ []))) ++ 46 ∷ []
 point_more a m xs = simp (append_assoc, append-nil)
@@ -301,18 +301,18 @@ ends_or limit p hp b (x ∷ w) [] None h z c d = ⊎_elim point (λ i. ⊎_elim 
     neither i j = inl (rw (d, z, i, j) refl)
 
     point : (c == 46) ≡ true → EndsOr limit p (numeral b (x ∷ w) [] None) c
-    point i = inr (subst (λ y. IsFaultless limit ((path_text p ++ spelling (numeral b (x ∷ w) [] None)) ++ y ∷ [])) (sym (eqb-true c 46 i))
-        (subst (IsFaultless limit) (point_more (path_text p) (minus_text b) (x ∷ w)) (faultless_point ranges limit p hp b x w (h.whole, z))))
+    point i = inr (subst (λ y. IsErrorFree limit ((path_text p ++ spelling (numeral b (x ∷ w) [] None)) ++ y ∷ [])) (sym (eqb-true c 46 i))
+        (subst (IsErrorFree limit) (point_more (path_text p) (minus_text b) (x ∷ w)) (error_free_point ranges limit p hp b x w (h.integer, z))))
 
     letter : is_exponent_letter c ≡ true → EndsOr limit p (numeral b (x ∷ w) [] None) c
-    letter i = inr (subst (IsFaultless limit) (letter_more (path_text p) (minus_text b) (x ∷ w) [] c) (faultless_letter ranges limit p hp b x w [] (h.whole, z) tt c i))
+    letter i = inr (subst (IsErrorFree limit) (letter_more (path_text p) (minus_text b) (x ∷ w) [] c) (error_free_letter ranges limit p hp b x w [] (h.integer, z) tt c i))
 ends_or limit p hp b (x ∷ w) (y ∷ f) None h z c d = ⊎_elim letter neither (cases_Bool (is_exponent_letter c))
   where
     neither : is_exponent_letter c ≡ false → EndsOr limit p (numeral b (x ∷ w) (y ∷ f) None) c
     neither j = inl (rw (d, j) refl)
 
     letter : is_exponent_letter c ≡ true → EndsOr limit p (numeral b (x ∷ w) (y ∷ f) None) c
-    letter i = inr (subst (IsFaultless limit) (letter_more (path_text p) (minus_text b) (x ∷ w) (fraction_text (y ∷ f)) c) (faultless_letter ranges limit p hp b x w (y ∷ f) (h.whole, z) h.fraction c i))
+    letter i = inr (subst (IsErrorFree limit) (letter_more (path_text p) (minus_text b) (x ∷ w) (fraction_text (y ∷ f)) c) (error_free_letter ranges limit p hp b x w (y ∷ f) (h.integer, z) h.fraction c i))
 
-pub number_ends_or : (limit : Option ℕ) (p : Path) → IsPath limit p → (n : Numeral) → IsNumeral n → has_leading_zero n.whole ≡ false → (c : ℕ) → is_ascii_digit c ≡ false → EndsOr limit p n c
-number_ends_or limit p hp n h z c d = ends_or limit p hp n.negative n.whole n.fraction n.exponent h z c d
+pub number_ends_or : (limit : Option ℕ) (p : Path) → IsPath limit p → (n : Numeral) → IsNumeral n → has_leading_zero n.integer ≡ false → (c : ℕ) → is_ascii_digit c ≡ false → EndsOr limit p n c
+number_ends_or limit p hp n h z c d = ends_or limit p hp n.negative n.integer n.fraction n.exponent h z c d

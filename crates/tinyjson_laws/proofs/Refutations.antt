@@ -61,7 +61,7 @@ leading_zero_in_an_escape_of_a_key : ¬ RefusalSays None error.LeadingZero (code
 unfolding run step end value power_fits
 leading_zero_in_an_escape_of_a_key = refuted (error.InvalidHexDigit 103) (codes "{[\"\\u00g") [] refl refl refl (λ e. cc)
 
--- ---- nothing is read past a key that is no string
+-- ---- nothing is read past a key that is not a string
 
 colon_after_a_number : ¬ RefusalSays None (error.ExpectedColon 125) (codes "{1}") []
 unfolding run step end value power_fits

@@ -53,7 +53,7 @@ exponent_scalars (Some e) h = and_from _ _ (letter_scalar e.letter h.letter) (sc
 
 numeral_scalars : (n : Numeral) → IsNumeral n → IsTrue (all_scalars (spelling n))
 numeral_scalars n h = scalars_append (minus_text n.negative) _ (minus_scalars n.negative)
-    (scalars_append n.whole _ (digits_scalars n.whole h.whole) (scalars_append (fraction_text n.fraction) _ (fraction_scalars n.fraction h.fraction) (exponent_scalars n.exponent h.exponent)))
+    (scalars_append n.integer _ (digits_scalars n.integer h.integer) (scalars_append (fraction_text n.fraction) _ (fraction_scalars n.fraction h.fraction) (exponent_scalars n.exponent h.exponent)))
 
 piece_scalars : (p : Piece) → IsPiece p → IsTrue (all_scalars (piece_text p))
 piece_scalars (plain c) h = and_from _ _ h.0 refl

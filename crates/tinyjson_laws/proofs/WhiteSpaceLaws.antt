@@ -66,7 +66,7 @@ exponent_stays (Some e) h = (letter_stays e.letter h.letter, stay_join (sign_tex
 
 numeral_stays : (n : Numeral) → IsNumeral n → AllStay (spelling n)
 numeral_stays n h = stay_join (minus_text n.negative) _ (minus_stays n.negative)
-    (stay_join n.whole _ (digits_stay n.whole h.whole) (stay_join (fraction_text n.fraction) _ (fraction_stays n.fraction h.fraction) (exponent_stays n.exponent h.exponent)))
+    (stay_join n.integer _ (digits_stay n.integer h.integer) (stay_join (fraction_text n.fraction) _ (fraction_stays n.fraction h.fraction) (exponent_stays n.exponent h.exponent)))
 
 -- ---- strings stay
 

@@ -8,7 +8,7 @@ use Rattle.tinyjson_number.specs.Number.{same_canonical}
 use Rattle.tinyjson_number.specs.Text.{natural_text}
 use Rattle.tinyjson_number.proofs.Callers.{magnitude_whole, negative_whole}
 use Rattle.tinyjson.proofs.Callers as callers
-use Rattle.tinyjson_laws.specs.Numbers.{OneNumber, WholesMean, IntegersDiffer, NaturalsDiffer}
+use Rattle.tinyjson_laws.specs.Numbers.{OneNumber, WholeNumberValue, IntegersDiffer, NaturalsDiffer}
 
 pub one_number : OneNumber
 one_number x y e = same_canonical x y e
@@ -19,8 +19,8 @@ some_power : (negative : Bool) (ds : List ℕ) (z : ℕ) → (p : ℕ) × ((deci
 some_power negative [] z = (0, refl)
 some_power negative (d ∷ ds) z = (z, refl)
 
-pub wholes_mean : WholesMean
-wholes_mean negative n fits =
+pub whole_number_value : WholeNumberValue
+whole_number_value negative n fits =
     let d : Decimal = whole_decimal negative n in
     let p = some_power negative (significant (natural_text n)) (trailing_zeros (natural_text n)) in (
       p.0,

@@ -32,8 +32,8 @@ OneNumber = (x y : JsonNumber) → x.decimal ≡ y.decimal → x ≡ y
 -- ---- whole numbers
 
 -- the decimal of a whole number: what its digits say, times ten to its power, is the number, and its sign is the given one but for 0
-abbrev pub WholesMean : Type 0
-WholesMean =
+abbrev pub WholeNumberValue : Type 0
+WholeNumberValue =
     (negative : Bool) (n : ℕ) → n < 2 ^ 64 →
     (p : ℕ) × ((whole_decimal negative n).power ≡ pos p)
     × (digits_value 10 (whole_decimal negative n).digits * 10 ^ p ≡ n)

@@ -19,7 +19,7 @@ use Rattle.std.specs.Prelude.{
 use Rattle.tinyjson_grammar.specs.Characters.{is_white}
 use Rattle.tinyjson_grammar.specs.Syntax.{Syntax, text, IsSpelled, IsStrict}
 use Rattle.tinyjson_grammar.specs.Grammar.{IsLoose, IsAccepted}
-use Rattle.tinyjson_grammar.specs.Prefix.{IsViable, IsLooselyViable, IsFaultless}
+use Rattle.tinyjson_grammar.specs.Prefix.{IsViable, IsLooselyViable, IsErrorFree}
 use Rattle.tinyjson_grammar.specs.Refusal.{begins_value, begins_growth, IsLiteral, IsRefusal, RefusalSays}
 use Rattle.tinyjson_grammar.specs.declared.error.JsonParseErrorKind.{JsonParseErrorKind}
 
@@ -31,13 +31,13 @@ AcceptedIsLoose = (limit : Option ℕ) (xs : List ℕ) → IsAccepted limit xs �
 abbrev pub EmptyIsViable : Type 0
 EmptyIsViable = (limit : Option ℕ) → IsViable (IsAccepted limit) [] × IsLooselyViable limit []
 
--- what is viable in the grammar is faultless
-abbrev pub ViableIsFaultless : Type 0
-ViableIsFaultless = (limit : Option ℕ) (xs : List ℕ) → IsViable (IsAccepted limit) xs → IsFaultless limit xs
+-- what is viable in the grammar has no error so far
+abbrev pub ViableIsErrorFree : Type 0
+ViableIsErrorFree = (limit : Option ℕ) (xs : List ℕ) → IsViable (IsAccepted limit) xs → IsErrorFree limit xs
 
--- what is faultless is viable in the loose grammar
-abbrev pub FaultlessIsLooselyViable : Type 0
-FaultlessIsLooselyViable = (limit : Option ℕ) (xs : List ℕ) → IsFaultless limit xs → IsLooselyViable limit xs
+-- what has no error so far is viable in the loose grammar
+abbrev pub ErrorFreeIsLooselyViable : Type 0
+ErrorFreeIsLooselyViable = (limit : Option ℕ) (xs : List ℕ) → IsErrorFree limit xs → IsLooselyViable limit xs
 
 -- what no list completes, in either grammar, or what has an error, stays so with more characters after it
 abbrev pub UnviableStaysSo : Type 0
@@ -45,7 +45,7 @@ UnviableStaysSo =
     (limit : Option ℕ) (xs ys : List ℕ) →
     (¬ IsViable (IsAccepted limit) xs → ¬ IsViable (IsAccepted limit) (xs ++ ys))
     × (¬ IsLooselyViable limit xs → ¬ IsLooselyViable limit (xs ++ ys))
-    × (¬ IsFaultless limit xs → ¬ IsFaultless limit (xs ++ ys))
+    × (¬ IsErrorFree limit xs → ¬ IsErrorFree limit (xs ++ ys))
 
 -- a value of the grammar that begins with c
 abbrev pub BeginsStrictly : ℕ → Type 0
@@ -83,26 +83,26 @@ pub record IsShortest (P : List ℕ → Type 0) (xs : List ℕ) (n : ℕ) : Type
 abbrev pub ShortestInOrder : Type 0
 ShortestInOrder =
     (limit : Option ℕ) (xs : List ℕ) →
-    ((d m : ℕ) → IsShortest (IsViable (IsAccepted limit)) xs d → IsShortest (IsFaultless limit) xs m → d ≤ m)
-    × ((m l : ℕ) → IsShortest (IsFaultless limit) xs m → IsShortest (IsLooselyViable limit) xs l → m ≤ l)
-    × ((m : ℕ) → IsShortest (IsFaultless limit) xs m →
+    ((d m : ℕ) → IsShortest (IsViable (IsAccepted limit)) xs d → IsShortest (IsErrorFree limit) xs m → d ≤ m)
+    × ((m l : ℕ) → IsShortest (IsErrorFree limit) xs m → IsShortest (IsLooselyViable limit) xs l → m ≤ l)
+    × ((m : ℕ) → IsShortest (IsErrorFree limit) xs m →
     ¬ ¬ ((d : ℕ) × IsShortest (IsViable (IsAccepted limit)) xs d))
     × ((l : ℕ) → IsShortest (IsLooselyViable limit) xs l →
-    ¬ ¬ ((m : ℕ) × IsShortest (IsFaultless limit) xs m))
+    ¬ ¬ ((m : ℕ) × IsShortest (IsErrorFree limit) xs m))
 
 -- An error for another cause than memory has consumed at least all but the last character of the shortest prefix with an error,
 -- and so of the shortest prefix that is not viable.
 abbrev pub RefusedNotTooSoon : Type 0
 RefusedNotTooSoon =
     (limit : Option ℕ) (k : JsonParseErrorKind) (used rest : List ℕ) → IsRefusal limit k used rest →
-    ((m : ℕ) → IsShortest (IsFaultless limit) (used ++ rest) m → m ≤ length used + 1)
+    ((m : ℕ) → IsShortest (IsErrorFree limit) (used ++ rest) m → m ≤ length used + 1)
     × ((d : ℕ) → IsShortest (IsViable (IsAccepted limit)) (used ++ rest) d → d ≤ length used + 1)
 
 -- where no prefix has an error, an error for another cause than memory has consumed the whole list
 abbrev pub RefusedAtEnd : Type 0
 RefusedAtEnd =
     (limit : Option ℕ) (k : JsonParseErrorKind) (used rest : List ℕ) → IsRefusal limit k used rest →
-    ((n : ℕ) → n ≤ length (used ++ rest) → ¬ ¬ IsFaultless limit (take n (used ++ rest))) → rest ≡ []
+    ((n : ℕ) → n ≤ length (used ++ rest) → ¬ ¬ IsErrorFree limit (take n (used ++ rest))) → rest ≡ []
 
 -- an error, also one of memory, has consumed no more than the shortest prefix that is not viable in the loose grammar
 abbrev pub RefusedNotTooLate : Type 0

@@ -5,7 +5,7 @@ ghost use Rattle.tinyjson_laws.specs.Numbers.{
   DecimalReadsBack,
   SameDecimal,
   OneNumber,
-  WholesMean,
+  WholeNumberValue,
   IntegersDiffer,
   NaturalsDiffer,
 };
@@ -41,9 +41,9 @@ pub fn one_number()
 
 /// The decimal of a whole number means that number: the value of its digits times ten to its power, with its
 /// sign.
-#[tactic(auto, using(crate::proofs::WholeNumbers::wholes_mean))]
-pub fn wholes_mean()
-    ensures { WholesMean }
+#[tactic(auto, using(crate::proofs::WholeNumbers::whole_number_value))]
+pub fn whole_number_value()
+    ensures { WholeNumberValue }
 {}
 
 /// Two integers of `i64` with one decimal are one, so what `to_i64` returns for the number of an integer is

@@ -1,14 +1,14 @@
 //! Laws of prefixes: what can still become a text, what cannot, and where an error comes.
 //!
-//! A list is viable if some list completes it to a text. It is without error so far (`IsFaultless`) if some
-//! list completes it to a text, or to one that ends with its first key that is no string. The loose grammar
+//! A list is viable if some list completes it to a text. It is without error so far (`IsErrorFree`) if some
+//! list completes it to a text, or to one that ends with its first key that is not a string. The loose grammar
 //! (`IsLoose`) is the grammar without four of its conditions: leading zeros, powers of ten of any size, lone
 //! surrogates and keys of any kind are let pass.
 ghost use Rattle.tinyjson_laws.specs.Prefixes.{
   AcceptedIsLoose,
   EmptyIsViable,
-  ViableIsFaultless,
-  FaultlessIsLooselyViable,
+  ViableIsErrorFree,
+  ErrorFreeIsLooselyViable,
   UnviableStaysSo,
   ValuesBegin,
   GrowthBegins,
@@ -31,15 +31,15 @@ pub fn empty_is_viable()
 {}
 
 /// What can be completed to a text is without error so far.
-#[tactic(auto, using(crate::proofs::PrefixLaws::viable_is_faultless))]
-pub fn viable_is_faultless()
-    ensures { ViableIsFaultless }
+#[tactic(auto, using(crate::proofs::PrefixLaws::viable_is_error_free))]
+pub fn viable_is_error_free()
+    ensures { ViableIsErrorFree }
 {}
 
 /// What is without error so far can be completed to a text of the loose grammar.
-#[tactic(auto, using(crate::proofs::PrefixLaws::faultless_is_loosely_viable))]
-pub fn faultless_is_loosely_viable()
-    ensures { FaultlessIsLooselyViable }
+#[tactic(auto, using(crate::proofs::PrefixLaws::error_free_is_loosely_viable))]
+pub fn error_free_is_loosely_viable()
+    ensures { ErrorFreeIsLooselyViable }
 {}
 
 /// What cannot be completed cannot be completed with more characters after it, and what has an error
@@ -55,7 +55,7 @@ pub fn values_begin()
     ensures { ValuesBegin }
 {}
 
-/// With which characters a value begins that is no literal: memory runs out only of a list whose first
+/// With which characters a value begins that is not a literal: memory runs out only of a list whose first
 /// character, after white space, is such a one.
 #[tactic(auto, using(crate::proofs::PrefixLaws::growth_begins))]
 pub fn growth_begins()

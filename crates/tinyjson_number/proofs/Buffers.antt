@@ -11,14 +11,14 @@ use Rattle.tinyjson_number.specs.Decimal.{Decimal}
 use Rattle.tinyjson_number.specs.Numeral.{minus_text}
 use Rattle.tinyjson_number.specs.Text.{decimal_text, magnitude_text}
 
--- of what was put at the place only the beginning stays
+-- of what was put at the place only a prefix stays
 pub front_stays : (old new run : List ℕ) (at k n : ℕ) → n ≤ k → at ≤ length old → take (at + k) new ≡ take at old ++ take k run → take (at + n) new ≡ take at old ++ take n run
 front_stays old new run at k n le within e =
     let long = length-take-le at old within in
     sym (take-take (at + n) (at + k) new (omega arith)) ∙ ap (take (at + n)) e ∙ ap (λ j. take (j + n) (take at old ++ take k run)) (sym long)
     ∙ take-append-add (take at old) (take k run) n ∙ ap (λ x. take at old ++ x) (take-take n k run le)
 
--- a beginning of the chunk that was put
+-- a prefix of the chunk that was put
 pub put_front : (size at : ℕ) (old bytes : List ℕ) → size ≤ length bytes → at + size ≤ length old → (n : ℕ) → n ≤ size → take (at + n) (put_chunk at old (chunk 0 size bytes)) ≡ take at old ++ take n bytes
 put_front size at old bytes some room n le =
     let first = chunk 0 size bytes in
@@ -30,8 +30,8 @@ abbrev Put : ℕ → ℕ → List ℕ → List ℕ → List ℕ → Type 0
 Put size at old new bytes = (n : ℕ) → n ≤ size → take (at + n) new ≡ take at old ++ take n bytes
 
 module _ (at count : ℕ) (old one two bytes : List ℕ) where
-  pub whole_put : (zeros : ℕ) → count ≤ 16 → zeros ≤ 8 → Put 16 at old one bytes → Put 8 (at + count) one two (replicate 8 48) → take (at + count + zeros) two ≡ take at old ++ (take count bytes ++ replicate zeros 48)
-  whole_put zeros c z p q =
+  pub integer_put : (zeros : ℕ) → count ≤ 16 → zeros ≤ 8 → Put 16 at old one bytes → Put 8 (at + count) one two (replicate 8 48) → take (at + count + zeros) two ≡ take at old ++ (take count bytes ++ replicate zeros 48)
+  integer_put zeros c z p q =
       q zeros z ∙ ap (λ x. x ++ take zeros (replicate 8 48)) (p count c) ∙ append_assoc (take at old) (take count bytes) (take zeros (replicate 8 48))
       ∙ ap (λ x. take at old ++ (take count bytes ++ x)) (take-replicate zeros 8 48 z)
 

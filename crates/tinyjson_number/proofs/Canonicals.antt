@@ -15,6 +15,6 @@ canonical width g (c ∷ cs) p d f l fits = formed width g c cs p (record { digi
 pub value_canonical : (width : Width) (n : Numeral) → IsNumeral n → IsTrue (fits_in width (value n)) → IsDecimalAt width (value n)
 unfolding value
 value_canonical width n h fits =
-    let ws = n.whole ++ n.fraction in
-    canonical width n.negative (significant ws) (power_of n) (digits_trailing _ (digits_leading ws (digits_join n.whole n.fraction h.whole h.fraction)))
+    let ws = n.integer ++ n.fraction in
+    canonical width n.negative (significant ws) (power_of n) (digits_trailing _ (digits_leading ws (digits_join n.integer n.fraction h.integer h.fraction)))
     (first_trailing (strip_leading ws) (first_leading ws)) (last_trailing (strip_leading ws)) fits

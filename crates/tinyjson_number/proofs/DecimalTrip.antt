@@ -58,7 +58,7 @@ module _ (ds : List ℕ) (some : 0 < length ds) (first : get_or ds 0 0 ≢ 48) (
 pub record SpellsDecimal (d : Decimal) (xs : List ℕ) : Type 0 where
   pub numeral : Numeral
   pub is : IsNumeral numeral
-  pub plain : has_leading_zero numeral.whole ≡ false
+  pub plain : has_leading_zero numeral.integer ≡ false
   pub value : value numeral ≡ d
   pub text : spelling numeral ≡ xs
 
@@ -118,15 +118,15 @@ module _ (g : Bool) (ds : List ℕ) (e : ℤ) (all : AreDigits ds) (some : 0 < l
   first_take : (n : ℕ) → 0 < n → get_or (take n ds) 0 0 ≢ 48
   first_take n h k = first (sym (get_or-take n ds 0 0 h) ∙ k)
 
-  whole_parts : (n : ℕ) → take n ds ++ drop n ds ≡ replicate 0 48 ++ (ds ++ replicate 0 48)
-  whole_parts n = take-append-drop n ds ∙ sym (append-nil ds)
+  integer_parts : (n : ℕ) → take n ds ++ drop n ds ≡ replicate 0 48 ++ (ds ++ replicate 0 48)
+  integer_parts n = take-append-drop n ds ∙ sym (append-nil ds)
 
   spelled_far : SpellsDecimal d (minus_text g ++ scientific_text ds p)
   spelled_far = record {
     numeral = numeral g (take 1 ds) (drop 1 ds) (Some (scientific_exponent (p -ℤ pos 1)));
-    is = record { whole = digits_take 1 ds all; some_digit = omega (arith, short_take); fraction = digits_drop 1 ds all; exponent = scientific_is (p -ℤ pos 1) };
+    is = record { integer = digits_take 1 ds all; some_digit = omega (arith, short_take); fraction = digits_drop 1 ds all; exponent = scientific_is (p -ℤ pos 1) };
     plain = no_leading (take 1 ds) (first_take 1 (omega arith));
-    value = valued ds some first last g (take 1 ds) (drop 1 ds) (Some (scientific_exponent (p -ℤ pos 1))) 0 0 e (whole_parts 1)
+    value = valued ds some first last g (take 1 ds) (drop 1 ds) (Some (scientific_exponent (p -ℤ pos 1))) 0 0 e (integer_parts 1)
         (rw (scientific_value (p -ℤ pos 1)) (omega (arith, ints, length-drop 1 ds)));
     text = ap (λ z. minus_text g ++ (take 1 ds ++ (fraction_text (drop 1 ds) ++ z))) (text_of_scientific (p -ℤ pos 1));
   }
@@ -136,7 +136,7 @@ module _ (g : Bool) (ds : List ℕ) (e : ℤ) (all : AreDigits ds) (some : 0 < l
       let l : length (replicate (unsigned_abs p) 48 ++ ds) ≡ unsigned_abs p + length ds = omega (arith, length-append (replicate (unsigned_abs p) 48) ds, length-replicate {A = ℕ} (unsigned_abs p) 48) in
       record {
         numeral = numeral g (48 ∷ []) (replicate (unsigned_abs p) 48 ++ ds) None;
-        is = record { whole = (refl, tt); some_digit = omega arith; fraction = digits_join _ _ (digits_replicate (unsigned_abs p)) all; exponent = tt };
+        is = record { integer = (refl, tt); some_digit = omega arith; fraction = digits_join _ _ (digits_replicate (unsigned_abs p)) all; exponent = tt };
         plain = refl;
         value = valued ds some first last g (48 ∷ []) (replicate (unsigned_abs p) 48 ++ ds) None (suc (unsigned_abs p)) 0 e (ap (λ z. 48 ∷ (replicate (unsigned_abs p) 48 ++ z)) (sym (append-nil ds)))
             (grind (arith, ints, l));
@@ -151,9 +151,9 @@ module _ (g : Bool) (ds : List ℕ) (e : ℤ) (all : AreDigits ds) (some : 0 < l
       let split : e ≡ (pos 0 -ℤ pos (length ds - n)) +ℤ pos 0 = grind (arith, ints) in
       record {
         numeral = numeral g (take n ds) (drop n ds) None;
-        is = record { whole = digits_take n ds all; some_digit = omega (arith, length-take-le n ds (omega arith)); fraction = digits_drop n ds all; exponent = tt };
+        is = record { integer = digits_take n ds all; some_digit = omega (arith, length-take-le n ds (omega arith)); fraction = digits_drop n ds all; exponent = tt };
         plain = no_leading (take n ds) (first_take n is_pos);
-        value = valued ds some first last g (take n ds) (drop n ds) None 0 0 e (whole_parts n) (rw (length-drop n ds) split);
+        value = valued ds some first last g (take n ds) (drop n ds) None 0 0 e (integer_parts n) (rw (length-drop n ds) split);
         text = ap (λ z. minus_text g ++ (take n ds ++ z)) (append-nil _ ∙ fraction_some (drop n ds) (omega (arith, length-drop n ds)));
       }
 
@@ -162,7 +162,7 @@ module _ (g : Bool) (ds : List ℕ) (e : ℤ) (all : AreDigits ds) (some : 0 < l
       let n : ℕ = unsigned_abs e in
       record {
         numeral = numeral g (ds ++ replicate n 48) [] None;
-        is = record { whole = digits_join ds _ all (digits_replicate n); some_digit = omega (arith, length-append ds (replicate n 48)); fraction = tt; exponent = tt };
+        is = record { integer = digits_join ds _ all (digits_replicate n); some_digit = omega (arith, length-append ds (replicate n 48)); fraction = tt; exponent = tt };
         plain = no_leading (ds ++ replicate n 48) (λ k. first (sym (get_or_append_left ds (replicate n 48) 0 0 some) ∙ k));
         value = valued ds some first last g (ds ++ replicate n 48) [] None 0 n e (append-nil _) (grind (arith, ints));
         text = ap (λ z. minus_text g ++ z) (append-nil _);
@@ -184,7 +184,7 @@ spelled_digits : (width : Width) (g : Bool) (ds : List ℕ) (e : ℤ) → IsDeci
 unfolding decimal_text
 spelled_digits width g [] e h = record {
   numeral = numeral false (48 ∷ []) [] None;
-  is = record { whole = (refl, tt); some_digit = omega arith; fraction = tt; exponent = tt };
+  is = record { integer = (refl, tt); some_digit = omega arith; fraction = tt; exponent = tt };
   plain = refl;
   value = no_digits g [] e refl (zero_form width g e h);
   text = refl;

@@ -44,7 +44,7 @@ exponent_ascii (Some e) h =
 
 pub spelling_ascii : (n : Numeral) → IsNumeral n → IsAscii (spelling n)
 spelling_ascii n h =
-    IsAscii-append (minus_text n.negative) _ (minus_ascii n.negative) (IsAscii-append n.whole _ (digits_ascii n.whole h.whole)
+    IsAscii-append (minus_text n.negative) _ (minus_ascii n.negative) (IsAscii-append n.integer _ (digits_ascii n.integer h.integer)
     (IsAscii-append (fraction_text n.fraction) _ (fraction_ascii n.fraction h.fraction) (exponent_ascii n.exponent h.exponent)))
 
 pub decimal_ascii : (d : Decimal) → IsDecimal d → IsAscii (decimal_text d)

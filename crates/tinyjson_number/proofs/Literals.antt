@@ -11,7 +11,7 @@ use Rattle.tinyjson_number.proofs.DecimalTrip.{fraction_some}
 use Rattle.tinyjson_number.proofs.Runs.{all_from_prefix, digit_at, front_digits}
 use Rattle.tinyjson_number.specs.Numeral.{Exponent, Numeral, AreDigits, IsExponent, IsNumeral, sign_text, minus_text, fraction_text, exponent_text, spelling, is_exponent_letter, is_sign, has_leading_zero}
 use Rattle.tinyjson_number.specs.NumberText.{Spells}
-use Rattle.tinyjson_number.specs.private.Scan.{◌>>=◌, begins, digits_front, digits_rest, after_minus, whole_at, fraction_at, sign_at, exponent_digits_at, exponent_at, scan}
+use Rattle.tinyjson_number.specs.private.Scan.{◌>>=◌, begins, digits_front, digits_rest, after_minus, integer_at, fraction_at, sign_at, exponent_digits_at, exponent_at, scan}
 
 -- a bind that gives something
 bind_some : {A B : Type 0} (o : Option A) (f : A → Option B) (y : B) → (o >>= f) ≡ Some y → (x : A) × (o ≡ Some x) × (f x ≡ Some y)
@@ -33,21 +33,21 @@ minus_joined : (text : List ℕ) → minus_text (begins 45 text) ++ after_minus 
 minus_joined [] = refl
 minus_joined (x ∷ xs) = minus_cases (eqb x 45) x xs (eqb-true x 45)
 
--- the whole part, as it is found
-record WholeRead (text : List ℕ) (p : List ℕ × List ℕ) : Type 0 where
+-- the integer part, as it is found
+record IntegerRead (text : List ℕ) (p : List ℕ × List ℕ) : Type 0 where
   digits : AreDigits p.0
   some_digit : 0 < length p.0
   no_leading_zero : has_leading_zero p.0 ≡ false
   joined : p.0 ++ p.1 ≡ text
 
-whole_sound : (text : List ℕ) (p : List ℕ × List ℕ) → whole_at text ≡ Some p → WholeRead text p
-unfolding whole_at
-whole_sound text p h =
+integer_sound : (text : List ℕ) (p : List ℕ × List ℕ) → integer_at text ≡ Some p → IntegerRead text p
+unfolding integer_at
+integer_sound text p h =
     let front : List ℕ = digits_front text in
     let c = chosen_some (eqb (length front) 0 || has_leading_zero front) (front, digits_rest text) p h in
     let tests = or_parts (eqb (length front) 0) (has_leading_zero front) c.0 in
     let empty = tests.0 in
-    subst (WholeRead text) c.1
+    subst (IntegerRead text) c.1
     (record { digits = front_digits text; some_digit = grind (arith, nat_tests); no_leading_zero = tests.1; joined = take-append-drop (prefix_len is_ascii_digit text) text })
 
 abbrev FractionRead : List ℕ → List ℕ × List ℕ → Type 0
@@ -103,30 +103,30 @@ exponent_sound [] e h = let q : None ≡ e = cc in subst (ExponentRead []) q (tt
 exponent_sound (x ∷ xs) e h = exponent_cases (is_exponent_letter x) x xs e refl h
 
 -- the parts joined again
-spelled_parts : (n : Numeral) (after_whole after_fraction text : List ℕ) → exponent_text n.exponent ≡ after_fraction → fraction_text n.fraction ++ after_fraction ≡ after_whole → n.whole ++ after_whole ≡ after_minus text → n.negative ≡ begins 45 text → spelling n ≡ text
-spelled_parts n after_whole after_fraction text exponent fraction whole minus =
-    (λ i. minus_text (minus i) ++ (n.whole ++ (fraction_text n.fraction ++ exponent i)))
-    ∙ (λ i. minus_text (begins 45 text) ++ (n.whole ++ fraction i))
-    ∙ (λ i. minus_text (begins 45 text) ++ whole i)
+spelled_parts : (n : Numeral) (after_integer after_fraction text : List ℕ) → exponent_text n.exponent ≡ after_fraction → fraction_text n.fraction ++ after_fraction ≡ after_integer → n.integer ++ after_integer ≡ after_minus text → n.negative ≡ begins 45 text → spelling n ≡ text
+spelled_parts n after_integer after_fraction text exponent fraction integer minus =
+    (λ i. minus_text (minus i) ++ (n.integer ++ (fraction_text n.fraction ++ exponent i)))
+    ∙ (λ i. minus_text (begins 45 text) ++ (n.integer ++ fraction i))
+    ∙ (λ i. minus_text (begins 45 text) ++ integer i)
     ∙ minus_joined text
 
 -- what is read is a numeral that the text spells
 pub scan_sound : (text : List ℕ) (n : Numeral) → scan text ≡ Some n → Spells n text
 unfolding scan
 scan_sound text n h =
-    let w = bind_some (whole_at (after_minus text)) (λ w. fraction_at w.1 >>= λ f. exponent_at f.1 >>= λ e. Some (record { negative = begins 45 text; whole = w.0; fraction = f.0; exponent = e })) n h in
-    let f = bind_some (fraction_at w.0.1) (λ f. exponent_at f.1 >>= λ e. Some (record { negative = begins 45 text; whole = w.0.0; fraction = f.0; exponent = e })) n w.2 in
-    let e = bind_some (exponent_at f.0.1) (λ e. Some (record { negative = begins 45 text; whole = w.0.0; fraction = f.0.0; exponent = e })) n f.2 in
-    let whole = whole_sound (after_minus text) w.0 w.1 in
+    let w = bind_some (integer_at (after_minus text)) (λ w. fraction_at w.1 >>= λ f. exponent_at f.1 >>= λ e. Some (record { negative = begins 45 text; integer = w.0; fraction = f.0; exponent = e })) n h in
+    let f = bind_some (fraction_at w.0.1) (λ f. exponent_at f.1 >>= λ e. Some (record { negative = begins 45 text; integer = w.0.0; fraction = f.0; exponent = e })) n w.2 in
+    let e = bind_some (exponent_at f.0.1) (λ e. Some (record { negative = begins 45 text; integer = w.0.0; fraction = f.0.0; exponent = e })) n f.2 in
+    let integer = integer_sound (after_minus text) w.0 w.1 in
     let fraction = fraction_sound w.0.1 f.0 f.1 in
     let exponent = exponent_sound f.0.1 e.0 e.1 in
-    let m : Numeral = record { negative = begins 45 text; whole = w.0.0; fraction = f.0.0; exponent = e.0 } in
+    let m : Numeral = record { negative = begins 45 text; integer = w.0.0; fraction = f.0.0; exponent = e.0 } in
     let is : m ≡ n = cc in
     subst (λ (k : Numeral). Spells k text) {x = m} is
     (record {
-      well_formed = record { whole = whole.digits; some_digit = whole.some_digit; fraction = fraction.0; exponent = exponent.0 };
-      no_leading_zero = whole.no_leading_zero;
-      spelled = spelled_parts m w.0.1 f.0.1 text exponent.1 fraction.1 whole.joined refl;
+      well_formed = record { integer = integer.digits; some_digit = integer.some_digit; fraction = fraction.0; exponent = exponent.0 };
+      no_leading_zero = integer.no_leading_zero;
+      spelled = spelled_parts m w.0.1 f.0.1 text exponent.1 fraction.1 integer.joined refl;
     })
 
 -- ---- what is spelled is read
@@ -150,13 +150,13 @@ rest_joined ds r all stops = rw (prefix_joined ds r all stops) (drop_at ds r (le
 some_is : (n : ℕ) → 0 < n → eqb n 0 ≡ false
 some_is n h = grind (arith, nat_tests)
 
-whole_from : (front rest : List ℕ) → Option (List ℕ × List ℕ)
-whole_from front rest = cond (eqb (length front) 0 || has_leading_zero front) None (Some (front, rest))
+integer_from : (front rest : List ℕ) → Option (List ℕ × List ℕ)
+integer_from front rest = cond (eqb (length front) 0 || has_leading_zero front) None (Some (front, rest))
 
-whole_complete : (ds r : List ℕ) → AreDigits ds → 0 < length ds → has_leading_zero ds ≡ false → Stops r → whole_at (ds ++ r) ≡ Some (ds, r)
-unfolding whole_at whole_from
-whole_complete ds r digits some no_zero stops =
-    (λ i. whole_from (front_joined ds r digits stops i) (rest_joined ds r digits stops i))
+integer_complete : (ds r : List ℕ) → AreDigits ds → 0 < length ds → has_leading_zero ds ≡ false → Stops r → integer_at (ds ++ r) ≡ Some (ds, r)
+unfolding integer_at integer_from
+integer_complete ds r digits some no_zero stops =
+    (λ i. integer_from (front_joined ds r digits stops i) (rest_joined ds r digits stops i))
     ∙ (λ i. cond (some_is (length ds) some i || no_zero i) None (Some (ds, r)))
 
 -- a digit is no other character
@@ -224,21 +224,21 @@ minus_complete true (d ∷ ds) r h some = (refl, refl)
 minus_complete false (d ∷ ds) r h some = let no = not_digit 45 d h.0 refl in (no, ap (λ b. cond b (ds ++ r) (d ∷ (ds ++ r))) no)
 
 numeral_from : Bool → Option (List ℕ × List ℕ) → Option Numeral
-numeral_from b w = w >>= λ w. (fraction_at w.1 >>= λ f. (exponent_at f.1 >>= λ e. Some (record { negative = b; whole = w.0; fraction = f.0; exponent = e })))
+numeral_from b w = w >>= λ w. (fraction_at w.1 >>= λ f. (exponent_at f.1 >>= λ e. Some (record { negative = b; integer = w.0; fraction = f.0; exponent = e })))
 
-scan_spelling : (n : Numeral) → IsNumeral n → has_leading_zero n.whole ≡ false → scan (spelling n) ≡ Some n
+scan_spelling : (n : Numeral) → IsNumeral n → has_leading_zero n.integer ≡ false → scan (spelling n) ≡ Some n
 unfolding scan numeral_from
 scan_spelling n h no_zero =
     let e = exponent_text n.exponent in
     let r : List ℕ = fraction_text n.fraction ++ e in
     let stops = exponent_stops n.exponent h.exponent in
-    let minus = minus_complete n.negative n.whole r h.whole h.some_digit in
-    let whole = whole_complete n.whole r h.whole h.some_digit no_zero (fraction_stops n.fraction e stops.0) in
+    let minus = minus_complete n.negative n.integer r h.integer h.some_digit in
+    let integer = integer_complete n.integer r h.integer h.some_digit no_zero (fraction_stops n.fraction e stops.0) in
     let fraction = fraction_complete n.fraction e h.fraction stops.0 stops.1 in
-    (λ i. numeral_from (minus.0 i) (whole_at (minus.1 i)))
-    ∙ ap (numeral_from n.negative) whole
-    ∙ ap (λ f. f >>= λ f. exponent_at f.1 >>= λ e. Some (record { negative = n.negative; whole = n.whole; fraction = f.0; exponent = e })) fraction
-    ∙ ap (λ e. e >>= λ e. Some (record { negative = n.negative; whole = n.whole; fraction = n.fraction; exponent = e })) (exponent_complete n.exponent h.exponent)
+    (λ i. numeral_from (minus.0 i) (integer_at (minus.1 i)))
+    ∙ ap (numeral_from n.negative) integer
+    ∙ ap (λ f. f >>= λ f. exponent_at f.1 >>= λ e. Some (record { negative = n.negative; integer = n.integer; fraction = f.0; exponent = e })) fraction
+    ∙ ap (λ e. e >>= λ e. Some (record { negative = n.negative; integer = n.integer; fraction = n.fraction; exponent = e })) (exponent_complete n.exponent h.exponent)
 
 -- each numeral that the text spells is what is read
 pub scan_complete : (text : List ℕ) (n : Numeral) → Spells n text → scan text ≡ Some n

@@ -27,7 +27,7 @@ exponent_plain (Some e) = signed_plain e.sign _
 pub value_plain : (n : Numeral) → value (plain n) ≡ value n
 unfolding value
 value_plain n =
-    ap (λ z. decimal_of n.negative (significant (n.whole ++ n.fraction)) ((z -ℤ pos (length n.fraction)) +ℤ pos (trailing_zeros (n.whole ++ n.fraction)))) (exponent_plain n.exponent)
+    ap (λ z. decimal_of n.negative (significant (n.integer ++ n.fraction)) ((z -ℤ pos (length n.fraction)) +ℤ pos (trailing_zeros (n.integer ++ n.fraction)))) (exponent_plain n.exponent)
 
 sign_cases : (b : Bool) → IfSome (cond b (Some 45) None) (λ c. IsTrue (is_sign c))
 sign_cases true = refl
@@ -42,7 +42,7 @@ is_exponent_plain None h = tt
 is_exponent_plain (Some e) h = record { letter = refl; sign = sign_plain e.sign; digits = h.digits; some_digit = h.some_digit }
 
 is_numeral_plain : (n : Numeral) → IsNumeral n → IsNumeral (plain n)
-is_numeral_plain n h = record { whole = h.whole; some_digit = h.some_digit; fraction = h.fraction; exponent = is_exponent_plain n.exponent h.exponent }
+is_numeral_plain n h = record { integer = h.integer; some_digit = h.some_digit; fraction = h.fraction; exponent = is_exponent_plain n.exponent h.exponent }
 
 -- ---- a text is as long as the digits that it spells
 
@@ -50,13 +50,13 @@ fraction_room : (ds : List ℕ) → length ds ≤ length (fraction_text ds)
 fraction_room [] = omega arith
 fraction_room (d ∷ ds) = omega arith
 
-pub spelling_room : (n : Numeral) → length n.whole + length n.fraction ≤ length (spelling n)
+pub spelling_room : (n : Numeral) → length n.integer + length n.fraction ≤ length (spelling n)
 spelling_room n =
     let r : List ℕ = fraction_text n.fraction ++ exponent_text n.exponent in
-    omega (arith, length-append (minus_text n.negative) (n.whole ++ r), length-append n.whole r, length-append (fraction_text n.fraction) (exponent_text n.exponent), fraction_room n.fraction)
+    omega (arith, length-append (minus_text n.negative) (n.integer ++ r), length-append n.integer r, length-append (fraction_text n.fraction) (exponent_text n.exponent), fraction_room n.fraction)
 
-pub spelled_room : (n : Numeral) (text : List ℕ) → Spells n text → length n.whole + length n.fraction ≤ length text
-spelled_room n text h = subst (λ t. length n.whole + length n.fraction ≤ length t) h.spelled (spelling_room n)
+pub spelled_room : (n : Numeral) (text : List ℕ) → Spells n text → length n.integer + length n.fraction ≤ length text
+spelled_room n text h = subst (λ t. length n.integer + length n.fraction ≤ length t) h.spelled (spelling_room n)
 
 -- ---- for a caller of `from_parts` that knows the numeral
 

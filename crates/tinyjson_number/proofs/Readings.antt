@@ -80,15 +80,15 @@ kept_is negative (c ∷ cs) power some ds is all fits = formed power_width negat
   fits = fitting_power power fits;
 })
 
-pub zero_value : (n : Numeral) → significant (n.whole ++ n.fraction) ≡ [] → value n ≡ zero_decimal
+pub zero_value : (n : Numeral) → significant (n.integer ++ n.fraction) ≡ [] → value n ≡ zero_decimal
 unfolding value
 zero_value n h = ap (λ t. decimal_of n.negative t (power_of n)) h
 
-pub zero_in_range : (n : Numeral) → significant (n.whole ++ n.fraction) ≡ [] → IsTrue (in_range (value n))
+pub zero_in_range : (n : Numeral) → significant (n.integer ++ n.fraction) ≡ [] → IsTrue (in_range (value n))
 zero_in_range n h = subst (λ (d : Decimal). IsTrue (in_range d)) (sym (zero_value n h)) (fitting_power (pos 0) (record { sfits = omega arith }))
 
 -- from the digits that are left of the numeral
-module _ (n : Numeral) (s : List ℕ) (zeros : ℕ) (is : s ≡ significant (n.whole ++ n.fraction)) (some : 0 < length s) (zeros_are : zeros ≡ trailing_zeros (n.whole ++ n.fraction)) where
+module _ (n : Numeral) (s : List ℕ) (zeros : ℕ) (is : s ≡ significant (n.integer ++ n.fraction)) (some : 0 < length s) (zeros_are : zeros ≡ trailing_zeros (n.integer ++ n.fraction)) where
   abbrev shifted_by : ℤ → ℤ
   shifted_by e = shifted e (length n.fraction) zeros
 

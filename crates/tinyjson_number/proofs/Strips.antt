@@ -201,15 +201,15 @@ zeros_same (d ∷ xs) h = zeros_cases (eqb d 48) d xs (zeros_same xs) h
 trailing_zeros_is : (xs : List ℕ) → 0 < length (significant xs) → length (strip_leading xs) - length (significant xs) ≡ trailing_zeros xs
 trailing_zeros_is xs h = omega (arith, zeros_same xs h, length_leading xs, length_trailing xs, length_trailing (strip_leading xs))
 
--- the three ways in which a whole part and a fraction are stripped
+-- the three ways in which an integer part and a fraction are stripped
 module _ (w f : List ℕ) where
   pub strip_fraction_alone : strip_leading w ≡ [] → (strip_trailing (strip_leading f) ≡ significant (w ++ f)) × (0 < length (significant (w ++ f)) → length (strip_leading f) - length (strip_trailing (strip_leading f)) ≡ trailing_zeros (w ++ f))
   strip_fraction_alone h =
       let e = strip_leading_append_none w f h in
       (ap strip_trailing (sym e), λ some. ap (λ t. length t - length (strip_trailing t)) (sym e) ∙ trailing_zeros_is (w ++ f) some)
 
-  pub strip_whole_alone : 0 < length (strip_leading w) → strip_trailing f ≡ [] → (strip_trailing (strip_leading w) ++ [] ≡ significant (w ++ f)) × (0 < length (significant (w ++ f)) → (length (strip_leading w) - length (strip_trailing (strip_leading w))) + length f ≡ trailing_zeros (w ++ f))
-  strip_whole_alone some none =
+  pub strip_integer_alone : 0 < length (strip_leading w) → strip_trailing f ≡ [] → (strip_trailing (strip_leading w) ++ [] ≡ significant (w ++ f)) × (0 < length (significant (w ++ f)) → (length (strip_leading w) - length (strip_trailing (strip_leading w))) + length f ≡ trailing_zeros (w ++ f))
+  strip_integer_alone some none =
       let e = strip_leading_append_some w f some in
       let s : significant (w ++ f) ≡ strip_trailing (strip_leading w) = ap strip_trailing e ∙ strip_trailing_append_none (strip_leading w) f none in
       (append-nil _ ∙ sym s, λ h. omega (arith, ap length s, ap length e, length-append (strip_leading w) f, trailing_zeros_is (w ++ f) h, length_trailing (strip_leading w)))

@@ -7,7 +7,7 @@ use Rattle.tinyjson_number.specs.Numeral.{Numeral, IsNumeral, has_leading_zero, 
 -- the text is the spelling of that number of the grammar
 pub record Spells (n : Numeral) (text : List ℕ) : Type 0 where
   pub well_formed : IsNumeral n
-  pub no_leading_zero : has_leading_zero n.whole ≡ false
+  pub no_leading_zero : has_leading_zero n.integer ≡ false
   pub spelled : spelling n ≡ text
 
 -- the text is a number of the grammar with that decimal, whose power of ten fits the width

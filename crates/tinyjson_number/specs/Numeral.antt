@@ -18,13 +18,13 @@ pub record Exponent : Type 0 where
 -- The fraction is empty where there is no point.
 pub record Numeral : Type 0 where
   pub negative : Bool
-  pub whole : List ℕ
+  pub integer : List ℕ
   pub fraction : List ℕ
   pub exponent : Option Exponent
 
 -- the numeral of these parts
 abbrev pub numeral : Bool → List ℕ → List ℕ → Option Exponent → Numeral
-numeral b ds f e = record { negative = b; whole = ds; fraction = f; exponent = e }
+numeral b ds f e = record { negative = b; integer = ds; fraction = f; exponent = e }
 
 abbrev pub sign_text : Option ℕ → List ℕ
 sign_text None = []
@@ -42,7 +42,7 @@ exponent_text None = []
 exponent_text (Some e) = e.letter ∷ (sign_text e.sign ++ e.digits)
 
 abbrev pub spelling : Numeral → List ℕ
-spelling n = minus_text n.negative ++ (n.whole ++ (fraction_text n.fraction ++ exponent_text n.exponent))
+spelling n = minus_text n.negative ++ (n.integer ++ (fraction_text n.fraction ++ exponent_text n.exponent))
 
 abbrev pub is_exponent_letter : ℕ → Bool
 is_exponent_letter c = (c == letter_e) || (c == capital_e)
@@ -61,8 +61,8 @@ pub record IsExponent (e : Exponent) : Type 0 where
   pub some_digit : 0 < length e.digits
 
 pub record IsNumeral (n : Numeral) : Type 0 where
-  pub whole : AreDigits n.whole
-  pub some_digit : 0 < length n.whole
+  pub integer : AreDigits n.integer
+  pub some_digit : 0 < length n.integer
   pub fraction : AreDigits n.fraction
   pub exponent : IfSome n.exponent IsExponent
 
@@ -83,10 +83,10 @@ exponent_value (Some e) = signed e.sign (digits_value 10 e.digits)
 
 -- the power of ten after the last digit that is not 0
 abbrev pub power_of : Numeral → ℤ
-power_of n = (exponent_value n.exponent -ℤ pos (length n.fraction)) +ℤ pos (trailing_zeros (n.whole ++ n.fraction))
+power_of n = (exponent_value n.exponent -ℤ pos (length n.fraction)) +ℤ pos (trailing_zeros (n.integer ++ n.fraction))
 
 unfoldable pub value : Numeral → Decimal
-value n = decimal_of n.negative (significant (n.whole ++ n.fraction)) (power_of n)
+value n = decimal_of n.negative (significant (n.integer ++ n.fraction)) (power_of n)
 
 -- the power fits the width
 unfoldable pub power_fits : Width → ℤ → Bool

@@ -19,7 +19,7 @@ exponent_of (Some e) = Some (record { letter = letter_e; sign = if e.negative th
 
 -- the numeral of these parts
 abbrev pub numeral_of : NumberParts → Numeral
-numeral_of p = record { negative = p.negative; whole = p.whole.now; fraction = p.fraction.now; exponent = exponent_of p.exponent }
+numeral_of p = record { negative = p.negative; integer = p.integer.now; fraction = p.fraction.now; exponent = exponent_of p.exponent }
 
 -- the same sign, or none for a plus sign
 abbrev pub plain_sign : Option ℕ → Option ℕ
@@ -32,11 +32,11 @@ plain_exponent (Some e) = Some (record { letter = letter_e; sign = plain_sign e.
 
 -- the same numeral, its exponent with the letter e and without a plus sign
 abbrev pub plain : Numeral → Numeral
-plain n = record { negative = n.negative; whole = n.whole; fraction = n.fraction; exponent = plain_exponent n.exponent }
+plain n = record { negative = n.negative; integer = n.integer; fraction = n.fraction; exponent = plain_exponent n.exponent }
 
 -- the numeral without an exponent
 abbrev pub plain_numeral : Bool → List ℕ → List ℕ → Numeral
-plain_numeral negative whole fraction = record { negative = negative; whole = whole; fraction = fraction; exponent = None }
+plain_numeral negative integer fraction = record { negative = negative; integer = integer; fraction = fraction; exponent = None }
 
 -- of any text: a number only with the decimal of the text, and each error only of such a text
 abbrev pub Reads : List ℕ → Result Canonical JsonNumberError → Type 0

@@ -8,14 +8,14 @@ use crate::digits::Digits;
 use crate::number::JsonNumber;
 use std::simd::prelude::*;
 
-/// No more bytes of a buffer are changed.
+/// At most this many bytes of a buffer are changed.
 const BUFFER: usize = 32;
 
 impl JsonNumber {
     /// Puts the text of this number at the front of a buffer of 32 bytes or more, if that takes few steps, and
-    /// gives its length: of zero; of at most 16 digits with up to 8 zeros after them and no point; and of at
+    /// returns its length: of zero; of at most 16 digits with up to 8 zeros after them and no point; and of at
     /// most 16 digits with a power of ten of -16 or more, where at most 8 digits stand before the point, or at
-    /// most 6 zeros between the point and the digits. In other cases it may give `None`;
+    /// most 6 zeros between the point and the digits. In other cases it may return `None`;
     /// [`JsonNumber::layout`] has the text of each number.
     ///
     /// Bytes of the buffer that don't belong to the text may be changed too.
@@ -80,7 +80,7 @@ fn put_magnitude(
     }
     let point = count as i64 + power;
     if power >= 0 {
-        Some(put_whole(buffer, at, bytes, count, power as usize))
+        Some(put_integer(buffer, at, bytes, count, power as usize))
     } else if point > 8 || point < -6 {
         None
     } else if point > 0 {
@@ -92,7 +92,7 @@ fn put_magnitude(
 
 /// Digits and zeros before the point.
 #[inline(always)]
-fn put_whole(buffer: &mut [u8], at: usize, bytes: &[u8], count: usize, zeros: usize) -> usize
+fn put_integer(buffer: &mut [u8], at: usize, bytes: &[u8], count: usize, zeros: usize) -> usize
     requires room { (at ≤ 1) × (32 ≤ length buffer.old) }
     requires digits { (count ≤ 16) × (16 ≤ length bytes.now) }
     requires zeros { zeros ≤ 8 }

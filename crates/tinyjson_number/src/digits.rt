@@ -3,7 +3,7 @@ ghost use Rattle.std.specs.Prelude.{◌≡◌, ◌+◌, ◌<◌, ◌≤◌, ◌^
 ghost use Rattle.std.specs.Str.{IsAscii};
 ghost use Rattle.tinyjson_number.specs.Number.{digits_of};
 
-use crate::inline::{Inline, ROOM};
+use crate::inline::{INLINE_DIGITS, Inline};
 use std::alloc::{AllocError, Global};
 use std::str;
 
@@ -31,7 +31,7 @@ impl Digits {
         ensures digits { IfOk result (λ d. digits_of d ≡ front.now ++ back.now) }
         ensures few { length front.now + length back.now ≤ 24 → IsOk result }
     {
-        if front.len() + back.len() <= ROOM {
+        if front.len() + back.len() <= INLINE_DIGITS {
             return Ok(Digits::Short(Inline::joined(front, back)));
         }
         let mut digits = String::with_capacity(alloc, front.len() + back.len())?;

@@ -1,6 +1,6 @@
 //! Why a text gives no number.
 ghost use Rattle.std.specs.Prelude.{◌≡◌, Some};
-ghost use Rattle.tinyjson_number.specs.Error.{number_error_text, literal_error_text, of_literal};
+ghost use Rattle.tinyjson_number.specs.Error.{number_error_message, literal_error_message, of_literal};
 ghost use Rattle.tinyjson_number.specs.declared.error.LiteralError.TheVariants.{OutOfMemory};
 
 use std::alloc::AllocError;
@@ -23,9 +23,9 @@ pub enum JsonNumberError {
     OutOfMemory,
 }
 
-/// The words of the error.
+/// The message of the error.
 impl fmt::Display for JsonNumberError {
-    ghost output = { λ e. Some (number_error_text e) };
+    ghost output = { λ e. Some (number_error_message e) };
 
     fn fmt<W: fmt::Write>(&self, f: &mut fmt::Formatter<W>) -> fmt::Result {
         match self {
@@ -64,9 +64,9 @@ pub enum LiteralError {
     OutOfMemory,
 }
 
-/// The words of the error.
+/// The message of the error.
 impl fmt::Display for LiteralError {
-    ghost output = { λ e. Some (literal_error_text e) };
+    ghost output = { λ e. Some (literal_error_message e) };
 
     fn fmt<W: fmt::Write>(&self, f: &mut fmt::Formatter<W>) -> fmt::Result {
         match self {

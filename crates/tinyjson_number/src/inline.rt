@@ -1,13 +1,13 @@
 //! A few digits in the number itself.
 ghost use Rattle.std.specs.Prelude.{◌≡◌, ◌+◌, ◌≤◌, ◌++◌, length, take};
 
-/// So many digits are kept in the number itself.
-pub(crate) const ROOM: usize = 24;
+/// The most digits that a number keeps in itself.
+pub(crate) const INLINE_DIGITS: usize = 24;
 
 /// The first `len` of the bytes.
 #[derive(Clone, Copy)]
 pub(crate) struct Inline {
-    bytes: [u8; ROOM],
+    bytes: [u8; INLINE_DIGITS],
     len: usize,
     ghost within: { len ≤ 24 },
 }
@@ -20,7 +20,7 @@ impl Inline {
         ensures { take result.len result.bytes ≡ front.now ++ back.now }
     {
         let len = front.len() + back.len();
-        let mut bytes = [0; ROOM];
+        let mut bytes = [0; INLINE_DIGITS];
         bytes[..front.len()].copy_from_slice(front);
         if !back.is_empty() {
             bytes[front.len()..len].copy_from_slice(back);
@@ -28,7 +28,7 @@ impl Inline {
         Inline { bytes, len }
     }
 
-    /// How many there are.
+    /// How many bytes are digits.
     #[inline(always)]
     pub(crate) fn len(&self) -> usize
         ensures value { result ≡ self.now.len }
@@ -39,7 +39,7 @@ impl Inline {
 
     /// The bytes, and what stands after them.
     #[inline(always)]
-    pub(crate) fn room(&self) -> &[u8]
+    pub(crate) fn all_bytes(&self) -> &[u8]
         ensures value { result.now ≡ self.now.bytes }
         ensures len { length result.now ≡ 24 }
     {

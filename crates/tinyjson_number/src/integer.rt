@@ -12,7 +12,7 @@ use crate::parse::strip_trailing;
 use std::alloc::{AllocError, Global};
 
 impl JsonNumber {
-    /// The decimal of a whole number. There is never an error.
+    /// The decimal of a whole number. It always returns `Ok`.
     ///
     /// ```
     /// let number = JsonNumber::from_u64(alloc, 1200)?;
@@ -25,7 +25,7 @@ impl JsonNumber {
         from_magnitude(alloc, false, value)
     }
 
-    /// The decimal of a whole number. There is never an error.
+    /// The decimal of a whole number. It always returns `Ok`.
     ///
     /// ```
     /// let number = JsonNumber::from_i64(alloc, -5)?;

@@ -142,7 +142,7 @@ impl JsonNumber {
             × (r.1 ≤ 24) × (24 ≤ length r.0.now)) }
     {
         match &self.digits {
-            Digits::Short(digits) => Some((digits.room(), digits.len())),
+            Digits::Short(digits) => Some((digits.all_bytes(), digits.len())),
             Digits::Long(_) => None,
         }
     }

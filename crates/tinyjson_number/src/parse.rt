@@ -12,7 +12,7 @@ ghost use Rattle.tinyjson_number.specs.Numeral.{Numeral, IsNumeral, AreDigits, h
 ghost use Rattle.tinyjson_number.specs.Numeral.{value, in_range};
 ghost use Rattle.tinyjson_number.specs.NumberText.{Spells};
 ghost use Rattle.tinyjson_number.specs.private.Scan.{begins, digits_front, digits_rest};
-ghost use Rattle.tinyjson_number.specs.private.Scan.{after_minus, whole_at, fraction_at};
+ghost use Rattle.tinyjson_number.specs.private.Scan.{after_minus, integer_at, fraction_at};
 ghost use Rattle.tinyjson_number.specs.private.Scan.{exponent_at, exponent_digits_at, exponent_cap};
 ghost use Rattle.tinyjson_number.specs.private.Scan.{capped, scan, shifted};
 ghost use Rattle.tinyjson_number.specs.Reading.{Reads, ReadsNumeral, numeral_of, exponent_of};
@@ -21,7 +21,7 @@ ghost use Rattle.tinyjson_number.specs.declared.error.LiteralError.TheVariants a
 ghost use Rattle.tinyjson_number.specs.declared.error.JsonNumberError.TheVariants as number_error;
 
 use crate::error::{JsonNumberError, LiteralError};
-use crate::inline::ROOM;
+use crate::inline::INLINE_DIGITS;
 use crate::number::JsonNumber;
 use std::alloc::Global;
 
@@ -30,7 +30,7 @@ use std::alloc::Global;
 /// ```
 /// let parts = NumberParts {
 ///     negative: true,
-///     whole: b"12",
+///     integer: b"12",
 ///     fraction: b"30",
 ///     exponent: Some(exponent),
 /// };
@@ -40,7 +40,7 @@ pub struct NumberParts<'a> {
     /// Whether a `-` stands in front.
     pub negative: bool,
     /// The digits before the point, as ASCII.
-    pub whole: &'a [u8],
+    pub integer: &'a [u8],
     /// The digits after the point, as ASCII: none where there is no point.
     pub fraction: &'a [u8],
     /// The exponent, if there is one.
@@ -110,7 +110,7 @@ impl JsonNumber {
     /// themselves, as a parser, so that its digits are looked at no second time but to strip zeros.
     ///
     /// All bytes are ASCII digits, at least one before the point, and one in the exponent if there is one;
-    /// those before and after the point are fewer than 2^64. The whole part may begin with zeros.
+    /// those before and after the point are fewer than 2^64. The integer part may begin with zeros.
     ///
     /// It returns `OutOfRange` exactly where the power of ten after the last digit that is not `0` is out
     /// of the range of `i64`, and `OutOfMemory` only of a number that has a decimal. At most 24 digits,
@@ -123,87 +123,87 @@ impl JsonNumber {
     #[inline(always)]
     pub fn from_parts(alloc: Global, parts: NumberParts<'_>) -> Result<JsonNumber, LiteralError>
         requires numeral { IsNumeral (numeral_of parts) }
-        requires room { length parts.whole.now + length parts.fraction.now < 2 ^ 64 }
+        requires room { length parts.integer.now + length parts.fraction.now < 2 ^ 64 }
         ensures reads { ReadsNumeral (numeral_of parts.entry) result }
         ensures few { parts.entry.exponent ≡ None
-            → length parts.entry.whole.now + length parts.entry.fraction.now ≤ 24 → IsOk result }
-        ensures short { length parts.entry.whole.now + length parts.entry.fraction.now ≤ 24
+            → length parts.entry.integer.now + length parts.entry.fraction.now ≤ 24 → IsOk result }
+        ensures short { length parts.entry.integer.now + length parts.entry.fraction.now ≤ 24
             → ¬ (result ≡ Err literal_error.OutOfMemory) }
     {
         if parts.exponent.is_none()
-            && parts.whole.len() + parts.fraction.len() <= ROOM
-            && is_bare(parts.whole, parts.fraction)
+            && parts.integer.len() + parts.fraction.len() <= INLINE_DIGITS
+            && is_unpadded(parts.integer, parts.fraction)
         {
-            return Ok(bare(parts.negative, parts.whole, parts.fraction));
+            return Ok(unpadded(parts.negative, parts.integer, parts.fraction));
         }
         // Taken apart, so that the number above needs no place in memory.
-        match uneven(alloc, parts) {
+        match padded(alloc, parts) {
             Ok(number) => Ok(number),
             Err(error) => Err(error),
         }
     }
 }
 
-/// The number of few digits that neither begin nor end with `0`.
+/// The number of few digits, which neither begin nor end with `0`.
 #[inline(always)]
-fn bare(negative: bool, whole: &[u8], fraction: &[u8]) -> JsonNumber
-    requires whole { AreDigits whole.now }
+fn unpadded(negative: bool, integer: &[u8], fraction: &[u8]) -> JsonNumber
+    requires integer { AreDigits integer.now }
     requires fraction { AreDigits fraction.now }
-    requires few { length whole.now + length fraction.now ≤ 24 }
-    requires some { 0 < length whole.now }
-    requires lead { strip_leading (whole.now ++ fraction.now) ≡ whole.now ++ fraction.now }
-    requires trail { strip_trailing (whole.now ++ fraction.now) ≡ whole.now ++ fraction.now }
-    ensures decimal { result.decimal ≡ value (plain_numeral negative whole.now fraction.now) }
-    ensures fits { IsTrue (in_range (value (plain_numeral negative whole.now fraction.now))) }
+    requires few { length integer.now + length fraction.now ≤ 24 }
+    requires some { 0 < length integer.now }
+    requires lead { strip_leading (integer.now ++ fraction.now) ≡ integer.now ++ fraction.now }
+    requires trail { strip_trailing (integer.now ++ fraction.now) ≡ integer.now ++ fraction.now }
+    ensures decimal { result.decimal ≡ value (plain_numeral negative integer.now fraction.now) }
+    ensures fits { IsTrue (in_range (value (plain_numeral negative integer.now fraction.now))) }
 {
-    JsonNumber::of_few(negative, whole, fraction, -(fraction.len() as i64))
+    JsonNumber::of_few(negative, integer, fraction, -(fraction.len() as i64))
 }
 
-/// The number of these parts, whose zeros at both ends are stripped.
+/// The number of these parts, which may begin and end with zeros.
 #[inline(never)]
-fn uneven(alloc: Global, parts: NumberParts<'_>) -> Result<JsonNumber, LiteralError>
+fn padded(alloc: Global, parts: NumberParts<'_>) -> Result<JsonNumber, LiteralError>
     requires numeral { IsNumeral (numeral_of parts) }
-    requires room { length parts.whole.now + length parts.fraction.now < 2 ^ 64 }
+    requires room { length parts.integer.now + length parts.fraction.now < 2 ^ 64 }
     ensures reads { ReadsNumeral (numeral_of parts.entry) result }
     ensures few { parts.entry.exponent ≡ None
-        → length parts.entry.whole.now + length parts.entry.fraction.now ≤ 24 → IsOk result }
-    ensures short { length parts.entry.whole.now + length parts.entry.fraction.now ≤ 24
+        → length parts.entry.integer.now + length parts.entry.fraction.now ≤ 24 → IsOk result }
+    ensures short { length parts.entry.integer.now + length parts.entry.fraction.now ≤ 24
         → ¬ (result ≡ Err literal_error.OutOfMemory) }
 {
-    if parts.exponent.is_none() && parts.whole.len() + parts.fraction.len() <= ROOM {
-        return Ok(short(parts.negative, parts.whole, parts.fraction));
+    if parts.exponent.is_none() && parts.integer.len() + parts.fraction.len() <= INLINE_DIGITS {
+        return Ok(short(parts.negative, parts.integer, parts.fraction));
     }
     long(alloc, parts)
 }
 
 /// The number of few digits and no exponent.
-fn short(negative: bool, whole: &[u8], fraction: &[u8]) -> JsonNumber
-    requires whole { AreDigits whole.now }
+fn short(negative: bool, integer: &[u8], fraction: &[u8]) -> JsonNumber
+    requires integer { AreDigits integer.now }
     requires fraction { AreDigits fraction.now }
-    requires few { length whole.now + length fraction.now ≤ 24 }
-    ensures decimal { result.decimal ≡ value (plain_numeral negative whole.now fraction.now) }
-    ensures fits { IsTrue (in_range (value (plain_numeral negative whole.now fraction.now))) }
+    requires few { length integer.now + length fraction.now ≤ 24 }
+    ensures decimal { result.decimal ≡ value (plain_numeral negative integer.now fraction.now) }
+    ensures fits { IsTrue (in_range (value (plain_numeral negative integer.now fraction.now))) }
 {
-    let kept = strip(whole, fraction);
-    if kept.whole.len() + kept.fraction.len() == 0 {
+    let kept = strip(integer, fraction);
+    if kept.integer.len() + kept.fraction.len() == 0 {
         return JsonNumber::zero();
     }
     let power = kept.zeros as i64 - fraction.len() as i64;
-    JsonNumber::of_few(negative, kept.whole, kept.fraction, power)
+    JsonNumber::of_few(negative, kept.integer, kept.fraction, power)
 }
 
 /// Whether the digits of both parts neither begin nor end with `0`.
 #[inline(always)]
-fn is_bare(whole: &[u8], fraction: &[u8]) -> bool
-    ensures { IsTrue result → (0 < length whole.now)
-        × (strip_leading (whole.now ++ fraction.now) ≡ whole.now ++ fraction.now)
-        × (strip_trailing (whole.now ++ fraction.now) ≡ whole.now ++ fraction.now) }
+fn is_unpadded(integer: &[u8], fraction: &[u8]) -> bool
+    ensures { IsTrue result → (0 < length integer.now)
+        × (strip_leading (integer.now ++ fraction.now) ≡ integer.now ++ fraction.now)
+        × (strip_trailing (integer.now ++ fraction.now) ≡ integer.now ++ fraction.now) }
 {
-    if whole.is_empty() || whole[0] == b'0' {
+    if integer.is_empty() || integer[0] == b'0' {
         return false;
     }
     if fraction.is_empty() {
-        return whole[whole.len() - 1] != b'0';
+        return integer[integer.len() - 1] != b'0';
     }
     fraction[fraction.len() - 1] != b'0'
 }
@@ -211,20 +211,20 @@ fn is_bare(whole: &[u8], fraction: &[u8]) -> bool
 /// The number of any digits and any exponent.
 fn long(alloc: Global, parts: NumberParts<'_>) -> Result<JsonNumber, LiteralError>
     requires numeral { IsNumeral (numeral_of parts) }
-    requires room { length parts.whole.now + length parts.fraction.now < 2 ^ 64 }
+    requires room { length parts.integer.now + length parts.fraction.now < 2 ^ 64 }
     ensures reads { ReadsNumeral (numeral_of parts.entry) result }
-    ensures short { length parts.entry.whole.now + length parts.entry.fraction.now ≤ 24
+    ensures short { length parts.entry.integer.now + length parts.entry.fraction.now ≤ 24
         → ¬ (result ≡ Err literal_error.OutOfMemory) }
 {
-    let kept = strip(parts.whole, parts.fraction);
-    if kept.whole.len() + kept.fraction.len() == 0 {
+    let kept = strip(parts.integer, parts.fraction);
+    if kept.integer.len() + kept.fraction.len() == 0 {
         return Ok(JsonNumber::zero());
     }
     let exponent = capped_exponent(parts.exponent);
     let Some(power) = power_of(exponent, parts.fraction.len(), kept.zeros) else {
         return Err(LiteralError::OutOfRange);
     };
-    Ok(JsonNumber::of_digits(alloc, parts.negative, kept.whole, kept.fraction, power)?)
+    Ok(JsonNumber::of_digits(alloc, parts.negative, kept.integer, kept.fraction, power)?)
 }
 
 /// The exponent, less the count of fraction digits, and the count of zeros stripped, if it fits a power.
@@ -242,8 +242,8 @@ fn power_of(exponent: i128, fraction: usize, zeros: usize) -> Option<i64>
     Some(power as i64)
 }
 
-/// Past the range of powers by more than any count of digits in memory, so that no exponent that is
-/// cut to it comes back into range.
+/// Exponents are cut to this. It is so far outside `i64` that no count of digits in memory brings the
+/// power of ten back into range.
 const EXPONENT_CAP: u128 = 1 << 66;
 
 /// The exponent, 0 where there is none, kept at most as far from 0 as `EXPONENT_CAP`.
@@ -272,45 +272,45 @@ fn capped_value(digits: &[u8]) -> u128
     value
 }
 
-/// The digits of a whole part and a fraction without the zeros at both ends, and how many zeros were
+/// The digits of an integer part and a fraction without the zeros at both ends, and how many zeros were
 /// stripped at the right end.
 #[derive(Clone, Copy)]
 struct Stripped<'a> {
-    whole: &'a [u8],
+    integer: &'a [u8],
     fraction: &'a [u8],
     zeros: usize,
 }
 
-fn strip<'a>(whole: &'a [u8], fraction: &'a [u8]) -> Stripped<'a>
-    requires { length whole.now + length fraction.now < 2 ^ 64 }
-    ensures digits { result.whole.now ++ result.fraction.now
-        ≡ significant (whole.now ++ fraction.now) }
-    ensures within { length result.whole.now + length result.fraction.now
-        ≤ length whole.now + length fraction.now }
-    ensures zeros { 0 < length (significant (whole.now ++ fraction.now))
-        → result.zeros ≡ trailing_zeros (whole.now ++ fraction.now) }
+fn strip<'a>(integer: &'a [u8], fraction: &'a [u8]) -> Stripped<'a>
+    requires { length integer.now + length fraction.now < 2 ^ 64 }
+    ensures digits { result.integer.now ++ result.fraction.now
+        ≡ significant (integer.now ++ fraction.now) }
+    ensures within { length result.integer.now + length result.fraction.now
+        ≤ length integer.now + length fraction.now }
+    ensures zeros { 0 < length (significant (integer.now ++ fraction.now))
+        → result.zeros ≡ trailing_zeros (integer.now ++ fraction.now) }
 {
-    let whole = strip_leading(whole);
-    if whole.is_empty() {
+    let integer = strip_leading(integer);
+    if integer.is_empty() {
         let digits = strip_leading(fraction);
         let fraction = strip_trailing(digits);
         return Stripped {
-            whole: b"",
+            integer: b"",
             fraction,
             zeros: digits.len() - fraction.len(),
         };
     }
     let kept = strip_trailing(fraction);
     if kept.is_empty() {
-        let digits = strip_trailing(whole);
+        let digits = strip_trailing(integer);
         return Stripped {
-            whole: digits,
+            integer: digits,
             fraction: b"",
-            zeros: whole.len() - digits.len() + fraction.len(),
+            zeros: integer.len() - digits.len() + fraction.len(),
         };
     }
     Stripped {
-        whole,
+        integer,
         fraction: kept,
         zeros: fraction.len() - kept.len(),
     }
@@ -363,12 +363,12 @@ fn read(text: &[u8]) -> Option<NumberParts<'_>>
     ensures { option_map numeral_of result ≡ option_map plain (scan text.now) }
 {
     let negative = begins_with(text, b'-');
-    let (whole, rest) = whole(after_minus(text))?;
+    let (integer, rest) = integer_part(after_minus(text))?;
     let (fraction, rest) = fraction(rest)?;
     let exponent = exponent(rest)?;
     Some(NumberParts {
         negative,
-        whole,
+        integer,
         fraction,
         exponent,
     })
@@ -423,10 +423,10 @@ fn has_leading_zero(digits: &[u8]) -> bool
     }
 }
 
-/// The whole part, and the rest.
-#[tactic(auto, unfolding(crate::specs::private::Scan::whole_at))]
-fn whole(text: &[u8]) -> Option<(&[u8], &[u8])>
-    ensures { option_map (λ p. (p.0.now, p.1.now)) result ≡ whole_at text.now }
+/// The integer part, and the rest.
+#[tactic(auto, unfolding(crate::specs::private::Scan::integer_at))]
+fn integer_part(text: &[u8]) -> Option<(&[u8], &[u8])>
+    ensures { option_map (λ p. (p.0.now, p.1.now)) result ≡ integer_at text.now }
 {
     let (digits, rest) = split_digits(text);
     if digits.is_empty() || has_leading_zero(digits) {

@@ -103,7 +103,7 @@ fn decimal(negative: bool, digits: &[u8], power: i64) -> Layout<'_>
         ≡ decimal_text (record { negative = negative; digits = digits.now; power = power }) }
 {
     if digits.is_empty() {
-        return whole(b"", b"0", 0);
+        return integer(b"", b"0", 0);
     }
     let sign = if negative { b"-".as_slice() } else { b"" };
     magnitude(sign, digits, power)
@@ -119,7 +119,7 @@ fn magnitude<'a>(sign: &'a [u8], digits: &'a [u8], power: i64) -> Layout<'a>
     if point < -323 || point > 309 {
         scientific(sign, digits, point)
     } else if power >= 0 {
-        whole(sign, digits, power as usize)
+        integer(sign, digits, power as usize)
     } else if point < 1 {
         fraction(sign, point.unsigned_abs() as usize, digits)
     } else {
@@ -149,7 +149,7 @@ fn scientific<'a>(sign: &'a [u8], digits: &'a [u8], point: i128) -> Layout<'a>
 }
 
 /// Digits and zeros before the point.
-fn whole<'a>(sign: &'a [u8], digits: &'a [u8], count: usize) -> Layout<'a>
+fn integer<'a>(sign: &'a [u8], digits: &'a [u8], count: usize) -> Layout<'a>
     requires { count ≤ 323 }
     ensures { layout_text result ≡ sign.now ++ (digits.now ++ replicate count 48) }
 {

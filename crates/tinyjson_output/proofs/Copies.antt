@@ -8,7 +8,7 @@ use Rattle.tinyjson_number.proofs.Callers.{front_stays}
 -- the first n bytes and the last n bytes are all
 pub both_ends : (n at : ℕ) (old bytes : List ℕ) → n ≤ length bytes → length bytes ≤ n + n → at + length bytes ≤ length old
     → take (at + length bytes) (put_chunk (at + (length bytes - n)) (put_chunk at old (chunk 0 n bytes)) (chunk (length bytes - n) n bytes)) ≡ take at old ++ bytes
-both_ends n at old bytes low high room =
+both_ends n at old bytes low high buffer =
     let k = length bytes - n in
     let first = chunk 0 n bytes in
     let last = chunk k n bytes in

@@ -1,4 +1,4 @@
--- What is written, and what waits.
+-- What is written, and what is buffered.
 pub mod Written
 pub mod Sending
 pub mod Copies

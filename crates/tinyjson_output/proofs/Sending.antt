@@ -4,7 +4,7 @@ use Rattle.std.specs.Result.{IsErr}
 use Rattle.std.proofs.lemmas.Result.{MatchResult-from_err}
 use Rattle.std.proofs.lemmas.List.{take_at}
 use Rattle.tinyjson_output.specs.Written.{Written, WrittenPart, WritesPrefix}
-use Rattle.tinyjson_output.specs.Room.{Output, Sent, SentPart, Sends}
+use Rattle.tinyjson_output.specs.Buffer.{Output, Sent, SentPart, Sends}
 use Rattle.tinyjson_output.proofs.Written.{written_then as written_on, stops_then as part_on, written_none as written_now, stop as part_of}
 
 -- more stands after
@@ -69,22 +69,22 @@ stop {old} {new} {bytes} {rest} h =
     let e : (old.1 ++ h.done) ++ rest ≡ old.1 ++ bytes = append_assoc old.1 h.done rest ∙ ap (λ w. old.1 ++ w) (sym h.split) in
     record { part = part_of {bytes = old.1 ++ bytes} (subst (λ w. Written old.0 new.0 w (new.1 ++ rest)) e all) }
 
--- ---- into the room, or past it
+-- ---- into the buffer, or past it
 
--- what waits is written, or a part of it
+-- what is buffered is written, or a part of it
 pub flush_fails : {a b : Option (List ℕ)} {p q : List ℕ} (bytes : List ℕ) → WrittenPart a b p → SentPart (a, p) (b, q) bytes
 flush_fails bytes h = record { part = record { rest = h.rest ++ bytes; written = with_more bytes h.written } }
 
 -- the bytes wait after what waited
-pub waits : (a : Option (List ℕ)) (p q bytes : List ℕ) → q ≡ p ++ bytes → Sent (a, p) (a, q) bytes []
-waits a p q bytes e = record { done = bytes; split = sym (append-nil bytes); written = written_now a (p ++ bytes) q (sym e) }
+pub now_buffered : (a : Option (List ℕ)) (p q bytes : List ℕ) → q ≡ p ++ bytes → Sent (a, p) (a, q) bytes []
+now_buffered a p q bytes e = record { done = bytes; split = sym (append-nil bytes); written = written_now a (p ++ bytes) q (sym e) }
 
 pub in_front : (one over bytes : List ℕ) → one ≡ bytes → take (length bytes) (one ++ over) ≡ bytes
 in_front one over bytes e = ap (λ w. take (length bytes) (w ++ over)) e ∙ take_at bytes over (length bytes) refl
 
 -- a part of the bytes does
-pub waits_part : (a : Option (List ℕ)) (p q bytes done rest : List ℕ) → bytes ≡ done ++ rest → q ≡ p ++ done → Sent (a, p) (a, q) bytes rest
-waits_part a p q bytes done rest e h = record { done = done; split = e; written = written_now a (p ++ done) q (sym h) }
+pub buffered_part : (a : Option (List ℕ)) (p q bytes done rest : List ℕ) → bytes ≡ done ++ rest → q ≡ p ++ done → Sent (a, p) (a, q) bytes rest
+buffered_part a p q bytes done rest e h = record { done = done; split = e; written = written_now a (p ++ done) q (sym h) }
 
 -- what waited is written, and the bytes wait
 pub waits_alone : {a b : Option (List ℕ)} {p : List ℕ} (q bytes : List ℕ) → Written a b p [] → q ≡ bytes → Sent (a, p) (b, q) bytes []

@@ -1,4 +1,4 @@
 -- What public contracts say of a writer.
 pub mod Written
--- What waits before it.
-pub mod Room
+-- What is buffered before it.
+pub mod Buffer

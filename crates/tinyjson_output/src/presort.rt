@@ -4,7 +4,7 @@ ghost use Rattle.std.specs.List.Sorted.{IsPermutation};
 
 use std::alloc::{AllocError, Global};
 
-/// So few members are sorted as fast as they are presorted.
+/// Up to this many members, sorting alone is as fast.
 const FEW: usize = 32;
 
 /// Orders many members by the first bytes of their keys after those that all share, the last key's
@@ -60,12 +60,12 @@ fn place<T>(words: &mut [u64], mask: u64, members: &mut [(&str, &T)])
     ensures { IsPermutation members.old members.new }
 {
     for start in 0..members.len() {
-        move_round(words, mask, members, start);
+        move_cycle(words, mask, members, start);
     }
 }
 
-/// Moves the members of one round trip, each to the place where the word with its index stands.
-fn move_round<T>(words: &mut [u64], mask: u64, members: &mut [(&str, &T)], start: usize)
+/// Moves the members of one cycle, each to the place where the word with its index stands.
+fn move_cycle<T>(words: &mut [u64], mask: u64, members: &mut [(&str, &T)], start: usize)
     requires same_len { length words.old ≡ length members.old }
     requires start { start < length members.old }
     ensures words { length words.new ≡ length words.old }
@@ -83,7 +83,7 @@ fn move_round<T>(words: &mut [u64], mask: u64, members: &mut [(&str, &T)], start
     }
 }
 
-/// How many bytes the keys have in common at their front.
+/// How many bytes at their start the keys have in common.
 fn shared_len<T>(members: &[(&str, &T)]) -> usize {
     let Some((first, _value)) = members.first() else {
         return 0;
@@ -100,7 +100,7 @@ fn shared_len<T>(members: &[(&str, &T)]) -> usize {
     first.len()
 }
 
-/// The bits in which the keys' ranks from there on differ from the word.
+/// The bits in which the keys' ranks from that place on differ from the word.
 fn differences<T>(members: &[(&str, &T)], from: usize, word: u64) -> u64 {
     let mut bits = 0;
     for (key, _value) in members {
@@ -109,7 +109,7 @@ fn differences<T>(members: &[(&str, &T)], from: usize, word: u64) -> u64 {
     bits
 }
 
-/// The eight bytes from there on as a number, the first the greatest, with zeros after the last.
+/// The eight bytes from that place on as a number, the first the greatest, with zeros after the last.
 #[inline(always)]
 fn rank(bytes: &[u8], from: usize) -> u64 {
     if bytes.len() < 8 {

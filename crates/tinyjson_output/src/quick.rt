@@ -1,96 +1,97 @@
-//! Short texts, which wait as a whole, or not at all.
+//! Short texts, which are buffered in full, or not at all.
 ghost use Rattle.std.specs.Prelude.{◌≡◌, ◌≤◌, ◌++◌, ◌∷◌, [], IsTrue, length};
 ghost use Rattle.std.specs.Bool.{MatchBool};
 ghost use Rattle.tinyjson_grammar.specs.Text.{escapes, separator};
 ghost use Rattle.tinyjson_number.specs.Text.{decimal_text};
-ghost use Rattle.tinyjson_output.specs.Room.{waiting};
+ghost use Rattle.tinyjson_output.specs.Buffer.{buffered};
 
-use crate::room::Room;
+use crate::buffer::Buffer;
 use tinyjson_number::JsonNumber;
 use tinyjson_scan::plain_end;
 
-/// Lets the bytes of a word wait, if they fit, and says whether they do.
+/// Appends the bytes of a word to the buffer if they fit, and returns whether it did.
 #[inline(always)]
-pub fn quick_word(room: &mut Room, word: &[u8]) -> bool
+pub fn quick_word(buffer: &mut Buffer, word: &[u8]) -> bool
     ensures { MatchBool result
-        (waiting room.new ≡ waiting room.old ++ word.now)
-        (waiting room.new ≡ waiting room.old) }
+        (buffered buffer.new ≡ buffered buffer.old ++ word.now)
+        (buffered buffer.new ≡ buffered buffer.old) }
 {
-    let fits = room.has_room(word.len());
+    let fits = buffer.fits(word.len());
     if fits {
-        room.append(word);
+        buffer.append(word);
     }
     fits
 }
 
-/// Lets a number wait, if it fits and has no exponent, and says whether it does.
+/// Appends the text of a number to the buffer if it fits and has no exponent, and returns whether it did.
 #[inline(always)]
-pub fn quick_number(room: &mut Room, number: &JsonNumber) -> bool
+pub fn quick_number(buffer: &mut Buffer, number: &JsonNumber) -> bool
     ensures { MatchBool result
-        (waiting room.new ≡ waiting room.old ++ decimal_text number.now.decimal)
-        (waiting room.new ≡ waiting room.old) }
+        (buffered buffer.new ≡ buffered buffer.old ++ decimal_text number.now.decimal)
+        (buffered buffer.new ≡ buffered buffer.old) }
 {
-    room.append_short(number) || append_layout(room, number)
+    buffer.append_short(number) || append_layout(buffer, number)
 }
 
 /// The same by the parts of the number's text.
 #[inline(never)]
-fn append_layout(room: &mut Room, number: &JsonNumber) -> bool
+fn append_layout(buffer: &mut Buffer, number: &JsonNumber) -> bool
     ensures { MatchBool result
-        (waiting room.new ≡ waiting room.old ++ decimal_text number.now.decimal)
-        (waiting room.new ≡ waiting room.old) }
+        (buffered buffer.new ≡ buffered buffer.old ++ decimal_text number.now.decimal)
+        (buffered buffer.new ≡ buffered buffer.old) }
 {
     let layout = number.layout();
     let sides = layout.front.len().saturating_add(layout.back.len());
     let count = sides
         .saturating_add(layout.sign.len())
         .saturating_add(layout.middle.len());
-    if layout.exponent.is_some() || !room.has_room(count) {
+    if layout.exponent.is_some() || !buffer.fits(count) {
         return false;
     }
-    room.append(layout.sign);
-    room.append(layout.front);
+    buffer.append(layout.sign);
+    buffer.append(layout.front);
     if layout.middle.is_empty() && layout.back.is_empty() {
         return true;
     }
-    room.append(layout.middle);
-    room.append(layout.back);
+    buffer.append(layout.middle);
+    buffer.append(layout.back);
     true
 }
 
-/// Lets the bytes wait between quotes, if they fit and none of them is escaped, and says whether they do.
+/// Appends the bytes between quotes to the buffer if they fit and none needs an escape, and returns whether
+/// it did.
 #[inline(always)]
-pub fn quick_text(room: &mut Room, bytes: &[u8]) -> bool
+pub fn quick_text(buffer: &mut Buffer, bytes: &[u8]) -> bool
     ensures { MatchBool result
-        (waiting room.new ≡ waiting room.old ++ (34 ∷ [] ++ (escapes bytes.now ++ 34 ∷ [])))
-        (waiting room.new ≡ waiting room.old) }
+        (buffered buffer.new ≡ buffered buffer.old ++ (34 ∷ [] ++ (escapes bytes.now ++ 34 ∷ [])))
+        (buffered buffer.new ≡ buffered buffer.old) }
 {
-    if !room.has_room(bytes.len().saturating_add(2)) || plain_end(bytes, 0) < bytes.len() {
+    if !buffer.fits(bytes.len().saturating_add(2)) || plain_end(bytes, 0) < bytes.len() {
         return false;
     }
-    room.append(b"\"");
-    room.append(bytes);
-    room.append(b"\"");
+    buffer.append(b"\"");
+    buffer.append(bytes);
+    buffer.append(b"\"");
     true
 }
 
-/// Lets wait what stands before a member's value in compact text, a comma, the key and the colon, if it fits
-/// and nothing of the key is escaped, and says whether it does.
+/// Appends what stands before a member's value in compact text, a comma, the key and the colon, to the
+/// buffer if it fits and nothing of the key needs an escape, and returns whether it did.
 #[inline(always)]
-pub fn quick_key(room: &mut Room, compact: bool, first: bool, key: &str) -> bool
+pub fn quick_key(buffer: &mut Buffer, compact: bool, first: bool, key: &str) -> bool
     ensures { MatchBool result
-        (IsTrue compact × (waiting room.new ≡ waiting room.old
+        (IsTrue compact × (buffered buffer.new ≡ buffered buffer.old
         ++ (separator first ++ ((34 ∷ [] ++ (escapes key.now ++ 34 ∷ [])) ++ 58 ∷ []))))
-        (waiting room.new ≡ waiting room.old) }
+        (buffered buffer.new ≡ buffered buffer.old) }
 {
     let bytes = key.as_bytes();
-    let fits = room.has_room(bytes.len().saturating_add(4));
+    let fits = buffer.fits(bytes.len().saturating_add(4));
     if !compact || !fits || plain_end(bytes, 0) < bytes.len() {
         return false;
     }
-    room.append(opening(first));
-    room.append(bytes);
-    room.append(b"\":");
+    buffer.append(opening(first));
+    buffer.append(bytes);
+    buffer.append(b"\":");
     true
 }
 

@@ -5,66 +5,66 @@ ghost use Rattle.std.specs.List.{prefix_len};
 ghost use Rattle.std.specs.Str.{chars};
 ghost use Rattle.tinyjson_scan.specs.Scan.{is_plain};
 ghost use Rattle.tinyjson_grammar.specs.Text.{escape, escapes, quoted, IsEscaped};
-ghost use Rattle.tinyjson_output.specs.Room.{waiting, Sends, SendsText};
+ghost use Rattle.tinyjson_output.specs.Buffer.{buffered, Sends, SendsText};
 
-use crate::room::{Room, write_bytes};
+use crate::buffer::{Buffer, write_bytes};
 use std::io::{self, Write};
 use tinyjson_scan::plain_end;
 
 /// Writes the text between quotes.
-pub fn quote<W: Write>(out: &mut W, room: &mut Room, text: &str) -> io::Result<()>
+pub fn quote<W: Write>(out: &mut W, buffer: &mut Buffer, text: &str) -> io::Result<()>
     ensures { SendsText
-        (W.contents out.old, waiting room.old) (W.contents out.new, waiting room.new)
+        (W.contents out.old, buffered buffer.old) (W.contents out.new, buffered buffer.new)
         (quoted (chars text.now)) result }
 {
-    write_bytes(out, room, b"\"")?;
-    write_escaped(out, room, text.as_bytes())?;
-    write_bytes(out, room, b"\"")
+    write_bytes(out, buffer, b"\"")?;
+    write_escaped(out, buffer, text.as_bytes())?;
+    write_bytes(out, buffer, b"\"")
 }
 
 #[inline(always)]
-fn write_escaped<W: Write>(out: &mut W, room: &mut Room, bytes: &[u8]) -> io::Result<()>
+fn write_escaped<W: Write>(out: &mut W, buffer: &mut Buffer, bytes: &[u8]) -> io::Result<()>
     ensures { Sends
-        (W.contents out.old, waiting room.old) (W.contents out.new, waiting room.new)
+        (W.contents out.old, buffered buffer.old) (W.contents out.new, buffered buffer.new)
         (escapes bytes.now) result }
 {
     let stop = plain_end(bytes, 0);
-    write_bytes(out, room, &bytes[..stop])?;
+    write_bytes(out, buffer, &bytes[..stop])?;
     if stop == bytes.len() {
         return Ok(());
     }
-    write_stopped(out, room, &bytes[stop..])
+    write_stopped(out, buffer, &bytes[stop..])
 }
 
 /// Writes an escape, and the bytes up to the next one in one piece.
 #[inline(never)]
-fn write_stopped<W: Write>(out: &mut W, room: &mut Room, bytes: &[u8]) -> io::Result<()>
+fn write_stopped<W: Write>(out: &mut W, buffer: &mut Buffer, bytes: &[u8]) -> io::Result<()>
     requires { prefix_len is_plain bytes.now ≡ 0 }
     ensures { Sends
-        (W.contents out.old, waiting room.old) (W.contents out.new, waiting room.new)
+        (W.contents out.old, buffered buffer.old) (W.contents out.new, buffered buffer.new)
         (escapes bytes.now) result }
 {
     let mut rest = bytes;
     while let Some((byte, after)) = rest.split_first() {
-        write_escape(out, room, *byte)?;
+        write_escape(out, buffer, *byte)?;
         let stop = plain_end(after, 0);
-        write_bytes(out, room, &after[..stop])?;
+        write_bytes(out, buffer, &after[..stop])?;
         rest = &after[stop..];
     }
     Ok(())
 }
 
-fn write_escape<W: Write>(out: &mut W, room: &mut Room, byte: u8) -> io::Result<()>
+fn write_escape<W: Write>(out: &mut W, buffer: &mut Buffer, byte: u8) -> io::Result<()>
     requires { IsEscaped byte }
     ensures { Sends
-        (W.contents out.old, waiting room.old) (W.contents out.new, waiting room.new)
+        (W.contents out.old, buffered buffer.old) (W.contents out.new, buffered buffer.new)
         (escape byte) result }
 {
     match escape_letter(byte) {
-        Some(letter) => write_bytes(out, room, &[b'\\', letter]),
+        Some(letter) => write_bytes(out, buffer, &[b'\\', letter]),
         None => write_bytes(
             out,
-            room,
+            buffer,
             &[
                 b'\\',
                 b'u',

@@ -1,6 +1,6 @@
 //! Runs of bytes that pass a test, found sixteen at a time: plain characters, white space, digits.
 //!
-//! The sources, the tokens of the parser and the writer of strings stand on it.
+//! The sources, the tokens of the parser and the writer of strings use it.
 #![tactic(auto)]
 
 mod plain;

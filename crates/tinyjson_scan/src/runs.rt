@@ -8,7 +8,7 @@ ghost use Rattle.tinyjson_scan.specs.Scan.{is_no_digit, is_no_white};
 
 use std::simd::prelude::*;
 
-/// The place of the first byte, at `from` or after it, that is no white space; or the length.
+/// The place of the first byte, at `from` or after it, that is not white space; or the length.
 pub fn white_end(bytes: &[u8], from: usize) -> usize
     requires { from ≤ length bytes.now }
     ensures { result ≡ from + prefix_len is_white (drop from bytes.now) }
@@ -47,7 +47,7 @@ fn no_whites(v: u8x16) -> u64
         & v.simd_ne(u8x16::splat(b'\t'))).to_bitmask()
 }
 
-/// The place of the first byte, at `from` or after it, that is no digit; or the length.
+/// The place of the first byte, at `from` or after it, that is not a digit; or the length.
 #[inline(always)]
 pub fn digits_end(bytes: &[u8], from: usize) -> usize
     requires { from ≤ length bytes.now }

@@ -25,8 +25,8 @@ pub record UnitAt (text : List ℕ) (at unit : ℕ) : Type 0 where
 abbrev pub NoBackslash : List ℕ → ℕ → Type 0
 NoBackslash text at = slice_get (drop at text) 0 ≡ Some 92 → ⊥
 
--- Between two places stand escapes that spell a character. The next character may tell of it: units are
--- judged where they end.
+-- Between two places stand escapes that spell a character. An error in their units is found only at
+-- the character after them.
 pub record EscapeAt (text : List ℕ) (at c to : ℕ) : Type 0 where
   pub taken : List ℕ
   pub stands : Stands text at to taken

@@ -30,21 +30,21 @@ exponent_digits None = []
 exponent_digits (Some e) = e.digits
 
 abbrev pub all_digits : Numeral → List ℕ
-all_digits n = n.whole ++ (n.fraction ++ exponent_digits n.exponent)
+all_digits n = n.integer ++ (n.fraction ++ exponent_digits n.exponent)
 
 -- what a number has besides its digits
 abbrev pub marks_of : Numeral → Marks
 marks_of n = record {
   negative = n.negative;
-  whole = length n.whole;
-  fraction = length n.whole + length n.fraction;
+  integer = length n.integer;
+  fraction = length n.integer + length n.fraction;
   exponent = is_below_zero n.exponent;
 }
 
 -- the digits of that number of the grammar
 pub record Gathered (n : Numeral) (text : List ℕ) : Type 0 where
   pub well_formed : IsNumeral n
-  pub no_leading_zero : has_leading_zero n.whole ≡ false
+  pub no_leading_zero : has_leading_zero n.integer ≡ false
   pub gathered : all_digits n ≡ text
 
 module _ {S : Type 0} (sight : Sight S) where

@@ -1,4 +1,4 @@
--- Numbers, as a text in memory shows them whole. For contracts inside the parser.
+-- Numbers, as a text in memory shows them at once. For contracts inside the parser.
 use Rattle.std.specs.Prelude.{◌≡◌, ℕ, ◌<◌, ◌≤◌, ◌==◌, Bool, false, IsTrue, List, [], ◌++◌, drop, length, get_or, slice_get}
 use Rattle.std.specs.Prelude.{Option, None, IfSome, MatchBool}
 use Rattle.std.specs.Char.{is_ascii_digit}
@@ -56,17 +56,17 @@ pub record ExponentAt (text : List ℕ) (at : ℕ) (parts : ExponentParts) (end 
 
 -- what stands before the exponent of a number of the grammar stands between two places
 pub record MantissaAt (text : List ℕ) (at : ℕ) (m : Mantissa) (end : ℕ) : Type 0 where
-  pub whole : AreDigits m.whole.now
-  pub some_digit : 0 < length m.whole.now
-  pub no_leading_zero : has_leading_zero m.whole.now ≡ false
+  pub integer : AreDigits m.integer.now
+  pub some_digit : 0 < length m.integer.now
+  pub no_leading_zero : has_leading_zero m.integer.now ≡ false
   pub point : ℕ
-  pub spelled : drop at text ≡ minus_text m.negative ++ (m.whole.now ++ drop point text)
+  pub spelled : drop at text ≡ minus_text m.negative ++ (m.integer.now ++ drop point text)
   pub fraction : FractionAt text point m.fraction.now end
 
 -- a number of the grammar
 pub record IsGrammatical (n : Numeral) : Type 0 where
   pub well_formed : IsNumeral n
-  pub no_leading_zero : has_leading_zero n.whole ≡ false
+  pub no_leading_zero : has_leading_zero n.integer ≡ false
 
 -- the number stands between two places
 pub record NumeralAt (text : List ℕ) (at : ℕ) (n : Numeral) (end : ℕ) : Type 0 where

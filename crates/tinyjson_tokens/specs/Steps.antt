@@ -12,7 +12,7 @@ use Rattle.tinyjson_grammar.specs.Machine.{refused, complete, step, end, run, st
 use Rattle.tinyjson_grammar.specs.declared.error.JsonParseErrorKind.{JsonParseErrorKind}
 use Rattle.tinyjson_grammar.specs.declared.error.JsonParseErrorKind.TheVariants.{InvalidUtf16, OutOfMemory}
 
--- these letters, and then the value is whole
+-- these letters, and then the value is complete
 abbrev pub letters_left : List Frame → List ℕ → Tree → Next
 letters_left fs [] t = complete true fs t true
 letters_left fs (l ∷ ls) t = next fs (literal (l ∷ ls) t)

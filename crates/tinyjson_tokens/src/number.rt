@@ -2,7 +2,7 @@
 ghost use Rattle.std.specs.Prelude.{◌≡◌, ◌==◌, ◌<◌, ◌≤◌, [], ℕ, List, Bool};
 ghost use Rattle.std.specs.Prelude.{OnOk, Option, Some, None, length, true};
 ghost use Rattle.std.specs.Prelude.{if◌then◌else◌, option_map, string_bytes};
-ghost use Rattle.tinyjson_grammar.specs.Machine.{Frame, awaited, complete, digits, whole, fraction};
+ghost use Rattle.tinyjson_grammar.specs.Machine.{Frame, awaited, complete, digits, integer, fraction};
 ghost use Rattle.tinyjson_grammar.specs.Machine.{exponent, next};
 ghost use Rattle.tinyjson_tokens.specs.NumberSteps.{Digits, BeginsNumber, Accepts, Gathered};
 ghost use Rattle.tinyjson_tokens.specs.NumberSteps.{ReadsPart, Signs};
@@ -23,8 +23,8 @@ use tinyjson_number::{ExponentParts, JsonNumber, LiteralError, NumberParts};
 struct Marks {
     /// Whether a `-` stands in front.
     negative: bool,
-    /// Where the digits of the whole part end.
-    whole: usize,
+    /// Where the digits of the integer part end.
+    integer: usize,
     /// Where those of the fraction end.
     fraction: usize,
     /// Whether the exponent is below zero, if there is one.
@@ -58,14 +58,14 @@ impl<S: Tokens> TokenReader<S> {
         ensures left { OnOk result (S.left self.new.source < S.left self.old.source) }
     {
         self.digit_buffer.clear();
-        let negative = self.whole()?;
-        let whole = self.digit_buffer.len();
+        let negative = self.integer()?;
+        let integer = self.digit_buffer.len();
         self.fraction()?;
         let fraction = self.digit_buffer.len();
         let exponent = self.exponent()?;
         Ok(Marks {
             negative,
-            whole,
+            integer,
             fraction,
             exponent,
         })
@@ -73,7 +73,7 @@ impl<S: Tokens> TokenReader<S> {
 
     /// The number whose digits were gathered.
     fn gathered(&self, marks: Marks) -> Result<JsonNumber, LiteralError>
-        requires order { marks.whole ≤ marks.fraction }
+        requires order { marks.integer ≤ marks.fraction }
         requires within { marks.fraction ≤ length (string_bytes self.now.digit_buffer) }
         requires gathered { (n : Numeral) × Gathered n (string_bytes self.now.digit_buffer)
             × (marks ≡ marks_of n) }
@@ -83,20 +83,20 @@ impl<S: Tokens> TokenReader<S> {
         let digits = self.digit_buffer.as_bytes();
         let parts = NumberParts {
             negative: marks.negative,
-            whole: &digits[..marks.whole],
-            fraction: &digits[marks.whole..marks.fraction],
+            integer: &digits[..marks.integer],
+            fraction: &digits[marks.integer..marks.fraction],
             exponent: exponent_parts(marks.exponent, &digits[marks.fraction..]),
         };
         JsonNumber::from_parts(self.alloc, parts)
     }
 
-    /// Reads the minus sign, if there is one, and the digits of the whole part; says whether there is a
+    /// Reads the minus sign, if there is one, and the digits of the integer part; says whether there is a
     /// minus sign.
-    fn whole(&mut self) -> Result<bool, JsonParseErrorKind>
+    fn integer(&mut self) -> Result<bool, JsonParseErrorKind>
         requires begins { BeginsNumber S.sight self.old.source }
         requires empty { string_bytes self.old.digit_buffer ≡ [] }
         ensures reads { ReadsPart S.sight (λ n. n.negative)
-            (λ (x : Bool × List ℕ). numeral x.0 x.1 [] None) whole
+            (λ (x : Bool × List ℕ). numeral x.0 x.1 [] None) integer
             self.old.source (λ fs. next fs awaited) result (string_bytes self.new.digit_buffer)
             self.new.source }
         ensures left { OnOk result (S.left self.new.source < S.left self.old.source) }
@@ -115,7 +115,7 @@ impl<S: Tokens> TokenReader<S> {
             Gathered (numeral b ds [] None) (string_bytes self.old.digit_buffer) →
             Ends S.sight self.old.source → ReadsPart S.sight (λ _. tt)
             (λ f. numeral b ds f None) fraction
-            self.old.source (λ fs. next fs (digits whole (numeral b ds [] None))) result
+            self.old.source (λ fs. next fs (digits integer (numeral b ds [] None))) result
             (string_bytes self.new.digit_buffer) self.new.source }
         ensures left { OnOk result (S.left self.new.source ≤ S.left self.old.source) }
     {

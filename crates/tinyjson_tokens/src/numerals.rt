@@ -1,4 +1,4 @@
-//! Numbers among the bytes of a text, found whole (RFC 8259, section 6).
+//! Numbers among the bytes of a text, found at once (RFC 8259, section 6).
 ghost use Rattle.std.specs.Prelude.{◌≡◌, ◌==◌, ◌≤◌, ◌++◌, false, IfSome, drop, length, slice_get};
 ghost use Rattle.std.specs.Char.{is_ascii_digit};
 ghost use Rattle.tinyjson_tokens.specs.Numerals.{ExponentAt, FractionAt, MantissaAt, PartsAt};
@@ -65,7 +65,7 @@ pub(crate) fn scientific_at(bytes: &[u8], at: usize) -> Option<(NumberParts<'_>,
 #[derive(Clone, Copy)]
 struct Mantissa<'a> {
     negative: bool,
-    whole: &'a [u8],
+    integer: &'a [u8],
     fraction: &'a [u8],
 }
 
@@ -75,14 +75,14 @@ impl<'a> Mantissa<'a> {
     fn with_exponent(self, exponent: Option<ExponentParts<'a>>) -> NumberParts<'a>
         ensures { result ≡ record {
           negative = self.entry.negative;
-          whole = self.entry.whole;
+          integer = self.entry.integer;
           fraction = self.entry.fraction;
           exponent = exponent.entry;
         } }
     {
         NumberParts {
             negative: self.negative,
-            whole: self.whole,
+            integer: self.integer,
             fraction: self.fraction,
             exponent,
         }
@@ -97,14 +97,14 @@ fn mantissa_at(bytes: &[u8], at: usize) -> Option<(Mantissa<'_>, usize)>
     ensures { IfSome result (λ r. MantissaAt bytes.now at r.0 r.1) }
 {
     let (negative, from) = minus_at(bytes, at);
-    let (whole, point) = digits_at(bytes, from);
-    if whole.is_empty() || has_leading_zero(whole) {
+    let (integer, point) = digits_at(bytes, from);
+    if integer.is_empty() || has_leading_zero(integer) {
         return None;
     }
     let (fraction, end) = fraction_at(bytes, point)?;
     let front = Mantissa {
         negative,
-        whole,
+        integer,
         fraction,
     };
     Some((front, end))

@@ -16,7 +16,7 @@ use tinyjson_scan::is_plain;
 use tinyjson_source::utf16::{decode, push};
 
 impl<S: Tokens> TokenReader<S> {
-    /// After the quote that opens a string.
+    /// Reads the rest of a string, after its opening quote.
     #[inline(always)]
     pub fn string(&mut self) -> Result<String, JsonParseErrorKind>
         ensures reads { (limit : Option ℕ) (fs : List Frame) →
@@ -32,7 +32,7 @@ impl<S: Tokens> TokenReader<S> {
         }
     }
 
-    /// After the plain characters in the buffer.
+    /// Reads the rest of a string, after the plain characters in the buffer.
     #[inline(never)]
     fn escaped(&mut self) -> Result<String, JsonParseErrorKind>
         ensures reads { (limit : Option ℕ) (fs : List Frame) →
@@ -46,7 +46,7 @@ impl<S: Tokens> TokenReader<S> {
         }
     }
 
-    /// After the characters in the buffer.
+    /// Reads the rest of a string piece by piece, after the characters in the buffer.
     fn pieces(&mut self) -> Result<String, JsonParseErrorKind>
         ensures reads { (limit : Option ℕ) (fs : List Frame) →
             Reads S.sight limit self.old.source (within fs self.old.buffer [] false) result
@@ -140,7 +140,7 @@ impl<S: Tokens> TokenReader<S> {
         }
     }
 
-    /// After a backslash.
+    /// Reads an escape, after its backslash.
     fn escape(
         &mut self,
         string: &mut String,

@@ -1,4 +1,4 @@
-//! What a source reads whole, if it has its characters in memory: escapes and numbers.
+//! What a source reads at once, if it has its characters in memory: escapes and numbers.
 ghost use Rattle.std.specs.Prelude.{ℕ, ◌+◌, ◌^◌, ◌<◌, ◌≤◌, List, [], false, IfSome};
 ghost use Rattle.std.specs.Prelude.{MatchResult, Option, length};
 ghost use Rattle.tinyjson_grammar.specs.Machine.{Frame};
@@ -26,18 +26,18 @@ pub trait Tokens: Source {
         self.plain(string)
     }
 
-    /// The parts of the number that comes next, and the source after it, if this source finds it whole, and
+    /// The parts of the number that comes next, and the source after it, if this source finds it at once, and
     /// it has no exponent. It may find none.
     fn numeral(&self) -> Option<(NumberParts<'_>, Self)>
         ensures takes { IfSome result (λ r. TakesParts Self.sight self.now r.0 r.1) }
         ensures room { IfSome result (λ r.
-            length r.0.whole.now + length r.0.fraction.now < 2 ^ 64) }
+            length r.0.integer.now + length r.0.fraction.now < 2 ^ 64) }
         ensures left { IfSome result (λ r. Self.left r.1 < Self.left self.now) }
     {
         None
     }
 
-    /// The number with an exponent that comes next, and the source after it, if this source finds it whole,
+    /// The number with an exponent that comes next, and the source after it, if this source finds it at once,
     /// it is in range, and there is memory. It may find none.
     fn scientific(&self, alloc: Global) -> Option<(JsonNumber, Self)>
         ensures takes { IfSome result (λ r. TakesNumber Self.sight self.now r.0 r.1) }

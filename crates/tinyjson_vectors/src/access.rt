@@ -135,7 +135,7 @@ mod tests {
         Ok(())
     }
 
-    /// The kinds in the order of the tests in `told`.
+    /// The kinds in the order of the tests in `kind_tests`.
     const KINDS: [JsonKind; 6] = [
         JsonKind::Boolean,
         JsonKind::Number,
@@ -145,7 +145,7 @@ mod tests {
         JsonKind::Object,
     ];
 
-    fn told(value: &JsonValue) -> [bool; 6] {
+    fn kind_tests(value: &JsonValue) -> [bool; 6] {
         [
             value.is_bool(),
             value.is_number(),
@@ -157,9 +157,9 @@ mod tests {
     }
 
     #[test]
-    fn each_kind_is_told(rt: HostRuntime) -> Result<(), Fail> {
+    fn each_kind_is_recognized(rt: HostRuntime) -> Result<(), Fail> {
         for (place, kind) in KINDS.iter().copied().enumerate() {
-            let answers = told(&of_kind(rt.alloc(), kind)?);
+            let answers = kind_tests(&of_kind(rt.alloc(), kind)?);
             for (kind, is) in answers.iter().copied().enumerate() {
                 assert_eq!(rt; is, kind == place, "value {place} at test {kind}");
             }

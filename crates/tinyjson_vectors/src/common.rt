@@ -130,7 +130,7 @@ pub(crate) fn is_refusal(
 ) -> bool {
     match answer {
         Ok(_) => false,
-        Err(fault) => fault.kind() == kind && (fault.line(), fault.column()) == place,
+        Err(error) => error.kind() == kind && (error.line(), error.column()) == place,
     }
 }
 

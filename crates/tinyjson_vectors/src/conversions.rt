@@ -54,7 +54,7 @@ pub fn refused_and_back(x: JsonValue) -> JsonValue
 {
     match String::try_from(x) {
         Ok(text) => JsonValue::from(text),
-        Err(fault) => JsonValue::from(fault),
+        Err(error) => JsonValue::from(error),
     }
 }
 
@@ -114,18 +114,19 @@ mod tests {
     /// Whether the conversion was refused with these words, and the error holds this value.
     fn is_refused(
         alloc: Global,
-        fault: Option<UnexpectedValue>,
+        error: Option<UnexpectedValue>,
         held: &JsonValue,
         words: &str,
     ) -> Result<bool, Fail> {
-        let Some(fault) = fault else {
+        let Some(error) = error else {
             return Ok(false);
         };
-        let told = format!(in alloc; "{fault}")?.as_str() == words && *fault.value() == *held;
-        Ok(told && JsonValue::from(fault) == *held)
+        let has_message = format!(in alloc; "{error}")?.as_str() == words
+            && *error.value() == *held;
+        Ok(has_message && JsonValue::from(error) == *held)
     }
 
-    /// The kind of a value, the kind that is wanted, and the words of the error.
+    /// The kind of a value, the kind that is wanted, and the message of the error.
     const REFUSALS: &[(JsonKind, JsonKind, &str)] = &[
         (
             JsonKind::Number,
@@ -184,8 +185,8 @@ mod tests {
         let alloc = rt.alloc();
         for &(kind, wanted, words) in REFUSALS {
             let held = of_kind(alloc, kind)?;
-            let fault = refusal(of_kind(alloc, kind)?, wanted);
-            assert!(rt; is_refused(alloc, fault, &held, words)?, "{words}");
+            let error = refusal(of_kind(alloc, kind)?, wanted);
+            assert!(rt; is_refused(alloc, error, &held, words)?, "{words}");
         }
         Ok(())
     }

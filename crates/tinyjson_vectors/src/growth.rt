@@ -60,7 +60,7 @@ fn is_generated(alloc: Global, indent: Option<&str>, value: &JsonValue, expected
 }
 
 /// What is wrong with the value as a text, and as bytes, in the compact form.
-fn compact_fault(alloc: Global, value: &JsonValue, expected: &str) -> Option<&'static str> {
+fn compact_mistake(alloc: Global, value: &JsonValue, expected: &str) -> Option<&'static str> {
     if !is_text(value.stringify(alloc), expected) {
         Some("is written otherwise")
     } else if !is_written(alloc, value, expected) {
@@ -73,7 +73,7 @@ fn compact_fault(alloc: Global, value: &JsonValue, expected: &str) -> Option<&'s
 }
 
 /// What is wrong with the value as a text, and as bytes, in the form that is indented with two spaces.
-fn indented_fault(alloc: Global, value: &JsonValue, expected: &str) -> Option<&'static str> {
+fn indented_mistake(alloc: Global, value: &JsonValue, expected: &str) -> Option<&'static str> {
     if !is_text(value.format(alloc), expected) {
         Some("is indented otherwise")
     } else if !is_indented(alloc, value, expected) {
@@ -94,7 +94,7 @@ fn is_back(answer: Result<JsonValue, UnexpectedValue>, value: &JsonValue) -> boo
 }
 
 /// What is wrong with a copy of the value.
-fn copy_fault(copy: JsonValue, value: &JsonValue) -> Option<&'static str> {
+fn copy_mistake(copy: JsonValue, value: &JsonValue) -> Option<&'static str> {
     if copy != *value {
         return Some("is copied otherwise");
     }
@@ -105,12 +105,12 @@ fn copy_fault(copy: JsonValue, value: &JsonValue) -> Option<&'static str> {
 }
 
 /// What is wrong with the value that was read, and with its copy.
-fn read_fault(alloc: Global, read: JsonValue, value: &JsonValue) -> Option<&'static str> {
+fn read_mistake(alloc: Global, read: JsonValue, value: &JsonValue) -> Option<&'static str> {
     if read != *value {
         return Some("is read otherwise");
     }
     match read.try_clone(alloc) {
-        Ok(copy) => copy_fault(copy, value),
+        Ok(copy) => copy_mistake(copy, value),
         Err(_) => Some("is not copied"),
     }
 }
@@ -124,19 +124,19 @@ fn is_parsed(alloc: Global, text: &str, value: &JsonValue) -> bool {
 }
 
 /// What is wrong with the value as it is read, copied and converted.
-fn value_fault(alloc: Global, text: &str, value: &JsonValue) -> Option<&'static str> {
+fn value_mistake(alloc: Global, text: &str, value: &JsonValue) -> Option<&'static str> {
     if !is_parsed(alloc, text, value) {
         return Some("is not parsed");
     }
     match JsonValue::from_str(alloc, text) {
-        Ok(read) => read_fault(alloc, read, value),
+        Ok(read) => read_mistake(alloc, read, value),
         Err(_) => Some("is not read"),
     }
 }
 
 /// What is wrong with any of it.
-fn fault(alloc: Global, case: &Case) -> Option<&'static str> {
-    value_fault(alloc, case.text.as_str(), &case.value)
-        .or(compact_fault(alloc, &case.value, case.compact.as_str()))
-        .or(indented_fault(alloc, &case.value, case.indented.as_str()))
+fn mistake(alloc: Global, case: &Case) -> Option<&'static str> {
+    value_mistake(alloc, case.text.as_str(), &case.value)
+        .or(compact_mistake(alloc, &case.value, case.compact.as_str()))
+        .or(indented_mistake(alloc, &case.value, case.indented.as_str()))
 }

@@ -35,10 +35,10 @@ const TEXTS: &[(&str, Answer)] = &[
 const LONG: &str = "1234567890123456789012345678901234567890123456789";
 
 /// How many characters of the text stand before the place of an error.
-fn consumed(text: &str, fault: &JsonParseError) -> usize {
+fn consumed(text: &str, error: &JsonParseError) -> usize {
     let mut place = (1, 0);
     for (count, c) in text.chars().enumerate() {
-        if place == (fault.line(), fault.column()) {
+        if place == (error.line(), error.column()) {
             return count;
         }
         place = moved(place, c);
@@ -54,7 +54,7 @@ fn are_alike(one: JsonParseResult, other: JsonParseResult) -> bool {
 /// Whether the result is the expected one. Out of memory is passed on.
 fn is_answer(alloc: Global, answer: JsonParseResult, expected: Answer) -> Result<bool, Fail> {
     match answer {
-        Err(fault) if fault.kind() == Kind::OutOfMemory => Err(Fail::from(fault)),
+        Err(error) if error.kind() == Kind::OutOfMemory => Err(Fail::from(error)),
         answer => agrees(alloc, answer, expected),
     }
 }
@@ -65,11 +65,11 @@ fn parse_goes_on(rt: HostRuntime) -> Result<(), Fail> {
     for &(text, expected) in TEXTS {
         let mut parser = JsonParser::new(alloc, text.chars());
         match parser.parse() {
-            Err(fault) if fault.kind() == Kind::OutOfMemory => {
-                let rest = text.chars().skip(consumed(text, &fault));
+            Err(error) if error.kind() == Kind::OutOfMemory => {
+                let rest = text.chars().skip(consumed(text, &error));
                 let fresh = JsonParser::new(alloc, rest).parse();
-                assert!(rt; are_alike(parser.parse(), fresh), "{fault}");
-                return Err(Fail::from(fault));
+                assert!(rt; are_alike(parser.parse(), fresh), "{error}");
+                return Err(Fail::from(error));
             }
             answer => assert!(rt; agrees(alloc, answer, expected)?, "{text}"),
         }
@@ -78,7 +78,7 @@ fn parse_goes_on(rt: HostRuntime) -> Result<(), Fail> {
 }
 
 #[test]
-fn from_str_answers_no_other_fault(rt: HostRuntime) -> Result<(), Fail> {
+fn from_str_returns_no_other_error(rt: HostRuntime) -> Result<(), Fail> {
     let alloc = rt.alloc();
     for &(text, expected) in TEXTS {
         let answer = JsonValue::from_str(alloc, text);
@@ -88,7 +88,7 @@ fn from_str_answers_no_other_fault(rt: HostRuntime) -> Result<(), Fail> {
 }
 
 #[test]
-fn a_limited_parser_answers_no_other_fault(rt: HostRuntime) -> Result<(), Fail> {
+fn a_limited_parser_returns_no_other_error(rt: HostRuntime) -> Result<(), Fail> {
     let alloc = rt.alloc();
     let too_deep = Answer::Refusal(Kind::TooDeep('['), 4, 15);
     for (limit, expected) in [(2, Answer::Text(COMPACT)), (1, too_deep)] {
@@ -123,12 +123,12 @@ fn is_long_read(alloc: Global) -> Result<bool, Fail> {
 }
 
 #[test]
-fn numbers_keep_their_faults(rt: HostRuntime) -> Result<(), Fail> {
+fn numbers_keep_their_errors(rt: HostRuntime) -> Result<(), Fail> {
     let alloc = rt.alloc();
-    let fault = JsonNumber::from_text(alloc, "1.").expect_err(&rt, "no number");
-    assert!(rt; matches!(fault, JsonNumberError::NotANumber));
-    let fault = JsonNumber::from_text(alloc, "1e9223372036854775808").expect_err(&rt, "too large");
-    assert!(rt; matches!(fault, JsonNumberError::OutOfRange));
+    let error = JsonNumber::from_text(alloc, "1.").expect_err(&rt, "no number");
+    assert!(rt; matches!(error, JsonNumberError::NotANumber));
+    let error = JsonNumber::from_text(alloc, "1e9223372036854775808").expect_err(&rt, "too large");
+    assert!(rt; matches!(error, JsonNumberError::OutOfRange));
     assert!(rt; is_short_read(alloc)?);
     assert!(rt; is_long_read(alloc)?);
     let least = JsonNumber::from_i64(alloc, i64::MIN)?.to_i64();
@@ -158,10 +158,10 @@ fn a_refused_copy_changes_nothing(rt: HostRuntime) -> Result<(), Fail> {
     Ok(())
 }
 
-/// Whether this text was made, or the error has its words, and is then passed on.
+/// Whether this text was made, or the error has its message, and is then passed on.
 fn is_made(answer: JsonGenerateResult, expected: &str) -> Result<bool, Fail> {
-    if let Err(fault) = &answer {
-        if fault.message() != "out of memory" {
+    if let Err(error) = &answer {
+        if error.message() != "out of memory" {
             return Ok(false);
         }
     }
@@ -186,20 +186,20 @@ fn generates(
     expected: &str,
 ) -> Result<(), ErrorKind> {
     let mut bytes = [0; 256];
-    let mut room = &mut bytes[..];
-    let generator = JsonGenerator::new(alloc, &mut room);
+    let mut output = &mut bytes[..];
+    let generator = JsonGenerator::new(alloc, &mut output);
     let answer = match indent {
         None => { generator }.generate(value),
         Some(indent) => generator.indent(indent).generate(value),
     };
-    let left = room.len();
+    let left = output.len();
     let written = bytes.len().saturating_sub(left);
     let text = expected.as_bytes();
     if answer.is_ok() {
         assert!(rt; written == text.len());
     }
     assert!(rt; text.starts_with(&bytes[..written]));
-    answer.map_err(|fault| fault.kind())
+    answer.map_err(|error| error.kind())
 }
 
 /// A text in so many arrays.

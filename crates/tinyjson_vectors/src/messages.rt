@@ -79,11 +79,11 @@ const DEEP: &[(&str, &str)] = &[
 ];
 
 /// Whether the text was refused with this message.
-fn is_told(alloc: Global, answer: JsonParseResult, message: &str) -> Result<bool, Fail> {
-    let Err(fault) = answer else {
+fn has_message(alloc: Global, answer: JsonParseResult, message: &str) -> Result<bool, Fail> {
+    let Err(error) = answer else {
         return Ok(false);
     };
-    Ok(format!(in alloc; "{fault}")?.as_str() == message)
+    Ok(format!(in alloc; "{error}")?.as_str() == message)
 }
 
 #[test]
@@ -91,11 +91,11 @@ fn each_kind_has_its_words(rt: HostRuntime) -> Result<(), Fail> {
     let alloc = rt.alloc();
     for &(text, message) in PLAIN {
         let answer = JsonValue::from_str(alloc, text);
-        assert!(rt; is_told(alloc, answer, message)?, "{text}");
+        assert!(rt; has_message(alloc, answer, message)?, "{text}");
     }
     for &(text, message) in DEEP {
         let answer = parsed_within(alloc, text, 1);
-        assert!(rt; is_told(alloc, answer, message)?, "{text}");
+        assert!(rt; has_message(alloc, answer, message)?, "{text}");
     }
     let memory = JsonParseErrorKind::OutOfMemory;
     let shown = format!(in alloc; "{memory}")?;
@@ -174,7 +174,7 @@ fn each_character_is_shown(rt: HostRuntime) -> Result<(), Fail> {
             let message = format!(in alloc;
                 "Parse error at line:1, col:{column}: {before}{shown}{after}"
             )?;
-            assert!(rt; is_told(alloc, answer, message.as_str())?, "{message}");
+            assert!(rt; has_message(alloc, answer, message.as_str())?, "{message}");
         }
     }
     Ok(())

@@ -2,7 +2,7 @@
 
 mod again;
 mod ahead;
-mod borders;
+mod alignments;
 mod cuts;
 mod depth;
 mod long;

@@ -4,12 +4,12 @@ ghost use Rattle.std.specs.Prelude.{◌≡◌, Some};
 use std::alloc::Global;
 use std::io::{self, ErrorKind, Write};
 
-/// The message of a [`FaultyWriter`]'s errors.
+/// The message of a [`FailingWriter`]'s errors.
 pub const MESSAGE: &str = "the writer's own message";
 
 /// How a writer fails.
 #[derive(Clone, Copy, Debug)]
-pub enum Fault {
+pub enum Failure {
     /// It returns an error of this kind, with [`MESSAGE`].
     Error(ErrorKind),
     /// It takes nothing, though it was given bytes.
@@ -18,14 +18,14 @@ pub enum Fault {
 
 /// A writer that keeps what it takes, and fails once.
 ///
-/// It takes at most `chunk` bytes a call. After `room` bytes in all it fails in one call, and then it
+/// It takes at most `chunk` bytes a call. After `capacity` bytes in all it fails in one call, and then it
 /// takes bytes again.
 #[derive(Drop)]
-pub struct FaultyWriter {
+pub struct FailingWriter {
     bytes: Vec<u8>,
     chunk: usize,
-    room: usize,
-    fault: Option<Fault>,
+    capacity: usize,
+    failure: Option<Failure>,
     has_failed: bool,
     calls: usize,
     late_calls: usize,
@@ -33,14 +33,14 @@ pub struct FaultyWriter {
     flushes: usize,
 }
 
-impl FaultyWriter {
+impl FailingWriter {
     /// A writer that takes at most so many bytes a call, and never fails.
-    pub fn good(alloc: Global, chunk: usize) -> FaultyWriter {
-        FaultyWriter {
+    pub fn good(alloc: Global, chunk: usize) -> FailingWriter {
+        FailingWriter {
             bytes: Vec::new(alloc),
             chunk,
-            room: usize::MAX,
-            fault: None,
+            capacity: usize::MAX,
+            failure: None,
             has_failed: false,
             calls: 0,
             late_calls: 0,
@@ -49,13 +49,18 @@ impl FaultyWriter {
         }
     }
 
-    /// A writer that takes at most `chunk` bytes a call and fails after `room` bytes.
-    pub fn failing(alloc: Global, chunk: usize, room: usize, fault: Fault) -> FaultyWriter {
-        FaultyWriter {
+    /// A writer that takes at most `chunk` bytes a call and fails after `capacity` bytes.
+    pub fn failing(
+        alloc: Global,
+        chunk: usize,
+        capacity: usize,
+        failure: Failure,
+    ) -> FailingWriter {
+        FailingWriter {
             bytes: Vec::new(alloc),
             chunk,
-            room,
-            fault: Some(fault),
+            capacity,
+            failure: Some(failure),
             has_failed: false,
             calls: 0,
             late_calls: 0,
@@ -102,23 +107,23 @@ impl FaultyWriter {
     }
 }
 
-impl Write for FaultyWriter {
+impl Write for FailingWriter {
     ghost contents = { λ w. Some w.bytes.items };
 
     fn write(&mut self, buf: &[u8]) -> io::Result<usize> {
         self.count(buf.is_empty());
-        if self.room == 0 {
-            self.room = usize::MAX;
-            self.has_failed = self.fault.is_some();
-            match self.fault {
-                Some(Fault::Error(kind)) => return Err(io::Error::new(kind, MESSAGE)),
-                Some(Fault::TakesNothing) => return Ok(0),
+        if self.capacity == 0 {
+            self.capacity = usize::MAX;
+            self.has_failed = self.failure.is_some();
+            match self.failure {
+                Some(Failure::Error(kind)) => return Err(io::Error::new(kind, MESSAGE)),
+                Some(Failure::TakesNothing) => return Ok(0),
                 None => {}
             }
         }
-        let count = buf.len().min(self.chunk).min(self.room);
+        let count = buf.len().min(self.chunk).min(self.capacity);
         self.bytes.extend_from_slice(&buf[..count])?;
-        self.room -= count;
+        self.capacity -= count;
         Ok(count)
     }
 

@@ -30,7 +30,7 @@ fn answers_a_failed_read(rt: HostRuntime) -> Result<(), Fail> {
 fn answers_a_failed_write(rt: HostRuntime) -> Result<(), Fail> {
     let alloc = rt.alloc();
     let line = "[1,{\"a\":[null,\"x\"],\"b\":2}]\n".as_bytes();
-    for (kind, fault) in [
+    for (kind, expected) in [
         (Some(ErrorKind::Other), RunFault::Writing),
         (Some(ErrorKind::Interrupted), RunFault::Writing),
         (Some(ErrorKind::OutOfMemory), RunFault::OutOfMemory),
@@ -39,7 +39,7 @@ fn answers_a_failed_write(rt: HostRuntime) -> Result<(), Fail> {
         for call in 1..=line.len() {
             let mut output = ByteWriter::new(alloc, call, kind);
             let answer = run(alloc, &mut TEXT.as_bytes(), &mut output, false);
-            assert!(rt; answer.as_ref().err() == Some(&fault), "write {call}");
+            assert!(rt; answer.as_ref().err() == Some(&expected), "write {call}");
             assert_eq!(rt; (output.calls, output.flushes), (call, 0));
             assert!(rt;
                 line.get(..call - 1) == Some(output.bytes.as_slice()),

@@ -3,7 +3,7 @@
 //! With ample memory these tests pass as any do. `tools/refuse-allocations` runs each of them with requests
 //! for memory refused: then a test passes too, or it ends with `OutOfMemory`.
 
-use crate::fault::RunFault;
+use crate::error::RunFault;
 use crate::run::{run, run_limited};
 use std::process::Abort;
 use std::test::Fail;
@@ -46,19 +46,19 @@ fn is_written(
     line: &str,
 ) -> Result<(), Fail> {
     let mut storage = [0; 256];
-    let mut room = storage.as_mut_slice();
+    let mut output = storage.as_mut_slice();
     let mut input = DOCUMENT.as_bytes();
     let answer = match limit {
-        None => run(rt.alloc(), &mut input, &mut room, indented),
-        Some(limit) => run_limited(rt.alloc(), &mut input, &mut room, indented, limit),
+        None => run(rt.alloc(), &mut input, &mut output, indented),
+        Some(limit) => run_limited(rt.alloc(), &mut input, &mut output, indented, limit),
     };
-    let written = 256usize.saturating_sub(room.len());
+    let written = 256usize.saturating_sub(output.len());
     assert!(rt; storage.get(..written) == line.as_bytes().get(..written));
     match answer {
         Ok(()) => assert_eq!(rt; written, line.len()),
-        Err(fault) => {
-            assert_eq!(rt; (&fault, fault.status()), (&RunFault::OutOfMemory, 4));
-            return Err(Fail::from(fault));
+        Err(error) => {
+            assert_eq!(rt; (&error, error.status()), (&RunFault::OutOfMemory, 4));
+            return Err(Fail::from(error));
         }
     }
     Ok(())
@@ -83,16 +83,16 @@ fn a_limited_text(rt: HostRuntime) -> Result<(), Fail> {
 fn a_text_beyond_its_limit(rt: HostRuntime) -> Result<(), Fail> {
     let mut output = Vec::new(rt.alloc());
     let mut input = DOCUMENT.as_bytes();
-    let fault = run_limited(rt.alloc(), &mut input, &mut output, true, 1).expect_err(
+    let error = run_limited(rt.alloc(), &mut input, &mut output, true, 1).expect_err(
         &rt,
         "two are open",
     );
     assert!(rt; output.is_empty());
-    match fault {
+    match error {
         RunFault::Refused(error) => assert_eq!(rt; (error.line(), error.column()), (4, 15)),
-        fault => {
-            assert_eq!(rt; (&fault, fault.status()), (&RunFault::OutOfMemory, 4));
-            return Err(Fail::from(fault));
+        error => {
+            assert_eq!(rt; (&error, error.status()), (&RunFault::OutOfMemory, 4));
+            return Err(Fail::from(error));
         }
     }
     Ok(())

@@ -1,4 +1,4 @@
-//! The words of the command line.
+//! The arguments.
 
 use crate::options::options;
 use crate::run::Options;

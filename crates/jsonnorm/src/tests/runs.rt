@@ -1,4 +1,4 @@
-//! What a run writes, and the words and the status of what it answers.
+//! What a run writes, and the message and the status of what it returns.
 
 use crate::fault::RunFault;
 use crate::run::{run, run_limited};
@@ -7,7 +7,7 @@ use std::test::Fail;
 
 const INDENTED: &str = "{\n  \"a\": null,\n  \"b\": [\n    1\n  ]\n}\n";
 
-/// The input, whether the text is indented, the limit, what is written, and the words and the status of
+/// The input, whether the text is indented, the limit, what is written, and the message and the status of
 /// the answer.
 const CASES: [(&[u8], bool, Option<usize>, &str, &str, u8); 9] = [
     (b"  true\n", false, None, "true\n", "", 0),
@@ -52,7 +52,7 @@ const CASES: [(&[u8], bool, Option<usize>, &str, &str, u8); 9] = [
 #[test]
 fn writes_the_normal_text_or_nothing(rt: HostRuntime) -> Result<(), Fail> {
     let alloc = rt.alloc();
-    for (input, indented, limit, text, words, status) in CASES {
+    for (input, indented, limit, text, message, status) in CASES {
         let (mut input, mut output) = (input, Vec::new(alloc));
         let answer = match limit {
             None => run(alloc, &mut input, &mut output, indented),
@@ -60,10 +60,10 @@ fn writes_the_normal_text_or_nothing(rt: HostRuntime) -> Result<(), Fail> {
         };
         assert_eq!(rt; output.as_slice(), text.as_bytes());
         match answer {
-            Ok(()) => assert_eq!(rt; (words, status), ("", 0)),
-            Err(fault) => {
-                assert_eq!(rt; fault.to_string(alloc)?.as_str(), words);
-                assert_eq!(rt; fault.status(), status);
+            Ok(()) => assert_eq!(rt; (message, status), ("", 0)),
+            Err(error) => {
+                assert_eq!(rt; error.to_string(alloc)?.as_str(), message);
+                assert_eq!(rt; error.status(), status);
             }
         }
     }
@@ -71,15 +71,15 @@ fn writes_the_normal_text_or_nothing(rt: HostRuntime) -> Result<(), Fail> {
 }
 
 #[test]
-fn each_fault_has_its_words_and_status(rt: HostRuntime) -> Result<(), Fail> {
-    for (fault, words, status) in [
+fn each_error_has_its_message_and_status(rt: HostRuntime) -> Result<(), Fail> {
+    for (error, message, status) in [
         (RunFault::NotUtf8, "input is not UTF-8", 3),
         (RunFault::OutOfMemory, "out of memory", 4),
         (RunFault::Reading, "reading failed", 4),
         (RunFault::Writing, "writing failed", 4),
     ] {
-        assert_eq!(rt; fault.to_string(rt.alloc())?.as_str(), words);
-        assert_eq!(rt; fault.status(), status);
+        assert_eq!(rt; error.to_string(rt.alloc())?.as_str(), message);
+        assert_eq!(rt; error.status(), status);
     }
     Ok(())
 }

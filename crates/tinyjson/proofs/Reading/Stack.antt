@@ -6,7 +6,7 @@ use Rattle.tinyjson_grammar.specs.Tree.{Tree, Members, no_members, put, string, 
 use Rattle.tinyjson.specs.View.{view, text, items_view}
 use Rattle.tinyjson.specs.Access.{JsonMap}
 use Rattle.tinyjson_grammar.specs.Machine.{Frame, in_array, at_key, at_value, awaited, after, colon, Next, next, stop, complete}
-use Rattle.tinyjson.specs.private.Stack.{gather, waiting, frames_over, whole_over, own_members, other_maps, Lies, open_of, maps_of, frames, at, HasWhole, AwaitsKey, TakesValue, BeginsMember, ClosesArray, ClosesObject}
+use Rattle.tinyjson.specs.private.Stack.{gather, waiting, frames_over, complete_over, own_members, other_maps, Lies, open_of, maps_of, frames, at, HasComplete, AwaitsKey, TakesValue, BeginsMember, ClosesArray, ClosesObject}
 use Rattle.tinyjson_tokens.specs.Steps.{IsNext, onward, Leads, Halts}
 use Rattle.tinyjson_source.specs.Source.{Sight, Whites}
 use Rattle.tinyjson_grammar.specs.Characters.{is_white}
@@ -70,24 +70,24 @@ module _ {T : Type 0} (n : ℕ) (xs ys : List T) (h : n ≤ length xs) (e : ys �
   pub turned_length : length ys ≡ length xs
   turned_length = ap length e ∙ length-append (take n xs) (reverse (drop n xs)) ∙ ap (λ k. length (take n xs) + k) (length-reverse (drop n xs)) ∙ sym (length-append (take n xs) (drop n xs)) ∙ ap length (take-append-drop n xs)
 
--- ---- a value that is whole
+-- ---- a complete value
 
-pub whole_last : (os : List StackFrame) (vs : List JsonValue) (v : JsonValue) (ks : Keys) (ms : List JsonMap) → whole_over os (reverse (vs ++ v ∷ [])) ks ms ≡ complete true (frames_over os vs ks ms) (view v) true
-whole_last os vs v ks ms = ap (λ us. whole_over os us ks ms) (reverse-append vs (v ∷ [])) ∙ ap (λ us. complete true (frames_over os us ks ms) (view v) true) (reverse-reverse vs)
+pub complete_last : (os : List StackFrame) (vs : List JsonValue) (v : JsonValue) (ks : Keys) (ms : List JsonMap) → complete_over os (reverse (vs ++ v ∷ [])) ks ms ≡ complete true (frames_over os vs ks ms) (view v) true
+complete_last os vs v ks ms = ap (λ us. complete_over os us ks ms) (reverse-append vs (v ∷ [])) ∙ ap (λ us. complete true (frames_over os us ks ms) (view v) true) (reverse-reverse vs)
 
 -- an array has it as its last item
-pub whole_item : (n : ℕ) (os : List StackFrame) (vs : List JsonValue) (v : JsonValue) (ks : Keys) (ms : List JsonMap) → n ≤ length vs
-    → whole_over (frame.Array n ∷ os) (reverse (vs ++ v ∷ [])) ks ms ≡ next (frames_over (frame.Array n ∷ os) (vs ++ v ∷ []) ks ms) after
-whole_item n os vs v ks ms h =
-    whole_last (frame.Array n ∷ os) vs v ks ms
+pub complete_item : (n : ℕ) (os : List StackFrame) (vs : List JsonValue) (v : JsonValue) (ks : Keys) (ms : List JsonMap) → n ≤ length vs
+    → complete_over (frame.Array n ∷ os) (reverse (vs ++ v ∷ [])) ks ms ≡ next (frames_over (frame.Array n ∷ os) (vs ++ v ∷ []) ks ms) after
+complete_item n os vs v ks ms h =
+    complete_last (frame.Array n ∷ os) vs v ks ms
     ∙ ap₂ (λ ts us. next (in_array ts ∷ frames_over os us ks ms) after) (sym (ap (map view) (drop-append-le n vs (v ∷ []) h) ∙ map-append view (drop n vs) (v ∷ []))) (sym (take-append-le n vs (v ∷ []) h))
 
 -- an object has it as the value of its last key
-pub whole_member : (n m : ℕ) (os : List StackFrame) (vs : List JsonValue) (v : JsonValue) (ks : Keys) (ms : List JsonMap) → n ≤ length vs → m ≤ length ks → length ks + n ≡ suc (length vs + m)
-    → whole_over (frame.Member n m ∷ os) (reverse (vs ++ v ∷ [])) ks ms ≡ next (frames_over (frame.Object n m ∷ os) (vs ++ v ∷ []) ks ms) after
-whole_member n m os vs v ks ms h k e =
+pub complete_member : (n m : ℕ) (os : List StackFrame) (vs : List JsonValue) (v : JsonValue) (ks : Keys) (ms : List JsonMap) → n ≤ length vs → m ≤ length ks → length ks + n ≡ suc (length vs + m)
+    → complete_over (frame.Member n m ∷ os) (reverse (vs ++ v ∷ [])) ks ms ≡ next (frames_over (frame.Object n m ∷ os) (vs ++ v ∷ []) ks ms) after
+complete_member n m os vs v ks ms h k e =
     let more : length (drop m ks) ≡ suc (length (drop n vs)) = length-drop m ks ∙ omega (arith, h, k, e) ∙ ap suc (sym (length-drop n vs)) in
-    whole_last (frame.Member n m ∷ os) vs v ks ms
+    complete_last (frame.Member n m ∷ os) vs v ks ms
     ∙ ap₂ (λ ns us. next (at_key ns ∷ frames_over os us (take m ks) (other_maps ms)) after)
     (sym (ap (gather (own_members ms) (drop m ks)) (drop-append-le n vs (v ∷ []) h) ∙ gather_value (own_members ms) (drop m ks) (drop n vs) v more)) (sym (take-append-le n vs (v ∷ []) h))
 
@@ -140,7 +140,7 @@ awaits_key s a =
 
 -- ---- an array after an item
 
-module _ (s : Stack) (w : HasWhole s) (n : ℕ) (os : List StackFrame) (i : open_of s ≡ frame.Array n ∷ os) where
+module _ (s : Stack) (w : HasComplete s) (n : ℕ) (os : List StackFrame) (i : open_of s ≡ frame.Array n ∷ os) where
   array_lies : Lies (frame.Array n ∷ os) (length w.front) (length s.keys.items)
   array_lies = subst (λ ps. Lies ps (length w.front) (length s.keys.items)) i w.lies
 
@@ -153,10 +153,10 @@ module _ (s : Stack) (w : HasWhole s) (n : ℕ) (os : List StackFrame) (i : open
   pub array_within : n ≤ length s.values.items
   array_within = omega (arith, array_size, array_lies.0)
 
-  pub array_whole : at s true ≡ next (in_array (map view (drop n s.values.items)) ∷ frames_over os (take n s.values.items) s.keys.items (maps_of s)) after
-  array_whole =
-      ap₂ (λ ps ws. whole_over ps (reverse ws) s.keys.items (maps_of s)) i w.values
-      ∙ whole_item n os w.front w.last s.keys.items (maps_of s) array_lies.0
+  pub array_complete : at s true ≡ next (in_array (map view (drop n s.values.items)) ∷ frames_over os (take n s.values.items) s.keys.items (maps_of s)) after
+  array_complete =
+      ap₂ (λ ps ws. complete_over ps (reverse ws) s.keys.items (maps_of s)) i w.values
+      ∙ complete_item n os w.front w.last s.keys.items (maps_of s) array_lies.0
       ∙ ap (λ ws. next (frames_over (frame.Array n ∷ os) ws s.keys.items (maps_of s)) after) (sym w.values)
 
   pub array_stays : next (frames s) awaited ≡ next (in_array (map view (drop n s.values.items)) ∷ frames_over os (take n s.values.items) s.keys.items (maps_of s)) awaited
@@ -166,7 +166,7 @@ module _ (s : Stack) (w : HasWhole s) (n : ℕ) (os : List StackFrame) (i : open
       → view v ≡ array (items_view (drop n s.values.items)) → ClosesArray s new v
   closes_array new v o a k t e = record {
     items = map view (drop n s.values.items);
-    before = array_whole ∙ ap (λ fs. next (in_array (map view (drop n s.values.items)) ∷ fs) after) (sym ((λ j. frames_over (o j) (a j) (k j) (t j))));
+    before = array_complete ∙ ap (λ fs. next (in_array (map view (drop n s.values.items)) ∷ fs) after) (sym ((λ j. frames_over (o j) (a j) (k j) (t j))));
     value = e;
     sound =
         let size : length new.values.items ≡ n = ap length a ∙ length-take-le n s.values.items array_within in
@@ -176,7 +176,7 @@ module _ (s : Stack) (w : HasWhole s) (n : ℕ) (os : List StackFrame) (i : open
 
 -- ---- an object after a member
 
-module _ (s : Stack) (w : HasWhole s) (n m : ℕ) (os : List StackFrame) (i : open_of s ≡ frame.Member n m ∷ os) where
+module _ (s : Stack) (w : HasComplete s) (n m : ℕ) (os : List StackFrame) (i : open_of s ≡ frame.Member n m ∷ os) where
   member_lies : Lies (frame.Member n m ∷ os) (length w.front) (length s.keys.items)
   member_lies = subst (λ ps. Lies ps (length w.front) (length s.keys.items)) i w.lies
 
@@ -189,17 +189,17 @@ module _ (s : Stack) (w : HasWhole s) (n m : ℕ) (os : List StackFrame) (i : op
   pub member_keys : m ≤ length s.keys.items
   member_keys = member_lies.1
 
-  pub member_whole : at s true ≡ next (frames_over (frame.Object n m ∷ os) s.values.items s.keys.items (maps_of s)) after
-  member_whole =
-      ap₂ (λ ps ws. whole_over ps (reverse ws) s.keys.items (maps_of s)) i w.values
-      ∙ whole_member n m os w.front w.last s.keys.items (maps_of s) member_lies.0 member_lies.1 member_lies.2
+  pub member_complete : at s true ≡ next (frames_over (frame.Object n m ∷ os) s.values.items s.keys.items (maps_of s)) after
+  member_complete =
+      ap₂ (λ ps ws. complete_over ps (reverse ws) s.keys.items (maps_of s)) i w.values
+      ∙ complete_member n m os w.front w.last s.keys.items (maps_of s) member_lies.0 member_lies.1 member_lies.2
       ∙ ap (λ ws. next (frames_over (frame.Object n m ∷ os) ws s.keys.items (maps_of s)) after) (sym w.values)
 
   pub closes_object : (new : Stack) (v : JsonValue) → open_of new ≡ os → new.values.items ≡ take n s.values.items → new.keys.items ≡ take m s.keys.items → maps_of new ≡ other_maps (maps_of s)
       → view v ≡ object (gather (own_members (maps_of s)) (drop m s.keys.items) (drop n s.values.items)) → ClosesObject s new v
   closes_object new v o a k t e = record {
     members = gather (own_members (maps_of s)) (drop m s.keys.items) (drop n s.values.items);
-    before = member_whole ∙ ap (λ fs. next (at_key (gather (own_members (maps_of s)) (drop m s.keys.items) (drop n s.values.items)) ∷ fs) after) (sym ((λ j. frames_over (o j) (a j) (k j) (t j))));
+    before = member_complete ∙ ap (λ fs. next (at_key (gather (own_members (maps_of s)) (drop m s.keys.items) (drop n s.values.items)) ∷ fs) after) (sym ((λ j. frames_over (o j) (a j) (k j) (t j))));
     value = e;
     sound =
         let size : length new.values.items ≡ n = ap length a ∙ length-take-le n s.values.items member_values in
@@ -231,7 +231,7 @@ module _ (s : Stack) (a : AwaitsKey s) where
 pub member_begins : (limit : Option ℕ) (old new : Stack) (k : List ℕ) (c : ℕ) → BeginsMember old new k → c ≡ 58 → onward limit (next (frames old) (colon k)) c ≡ next (frames new) awaited
 member_begins limit old new k c b e = ap (λ fs. onward limit (next fs (colon k)) c) b.before ∙ colon_read limit b.outer b.members k c e ∙ ap (λ fs. next fs awaited) (sym b.awaits_value)
 
--- a value that is no key is whole without an error
+-- a value that is not a key is complete without an error
 pub value_taken : (os : List StackFrame) (vs : List JsonValue) (ks : Keys) (ms : List JsonMap) (t : Tree) → TakesValue os → IsNext (complete true (frames_over os vs ks ms) t true)
 value_taken [] vs ks ms t h = tt
 value_taken (frame.Array n ∷ os) vs ks ms t h = tt

@@ -1,4 +1,4 @@
--- What open containers owe, piece by piece.
+-- What is left of open containers, piece by piece.
 use Rattle.std.proofs.Common.{◌≡◌, ℕ, suc, ◌+◌, ◌<◌, Bool, true, false, not, Option, None, Some, Result, Ok, Err, string_bytes, List, [], ◌∷◌, ◌++◌, length, drop, take, refl, sym, ◌∙◌, ap, append_assoc, append-nil, length-append, add-one, arith, subst}
 use Rattle.std.specs.Borrow.{Bor}
 use Rattle.std.specs.Str.{chars, IsUtf8}
@@ -7,7 +7,7 @@ use Rattle.tinyjson.specs.declared.value.JsonValue.{JsonValue}
 use Rattle.tinyjson.specs.declared.generator.pending.Frame.{Frame}
 use Rattle.tinyjson.specs.declared.generator.pending.Frame.TheVariants.{Items, Member, Members}
 use Rattle.tinyjson.specs.declared.generator.pending.Stack.{Stack}
-use Rattle.tinyjson_output.specs.Room.{Output, Sent, SentPart, Sends}
+use Rattle.tinyjson_output.specs.Buffer.{Output, Sent, SentPart, Sends}
 use Rattle.std.specs.Bool.{IsTrue}
 use Rattle.std.specs.Option.{is_some}
 use Rattle.tinyjson.specs.Indent.{indent_of}
@@ -15,7 +15,7 @@ use Rattle.tinyjson_grammar.specs.Text.{text, items_text, members_text, before, 
 use Rattle.tinyjson_grammar.specs.Tree.{Members as Entries, array, object, member, no_members}
 use Rattle.tinyjson.specs.View.{view, items_view, members_view}
 use Rattle.tinyjson.specs.private.Sorted.{sorted_view}
-use Rattle.tinyjson.specs.private.Pending.{Gathered, frame_text, others, owed, frames, IsStack, Opened, Begins, Advanced, Advances}
+use Rattle.tinyjson.specs.private.Pending.{Gathered, frame_text, others, unwritten, frames, IsStack, Opened, Begins, Advanced, Advances}
 use Rattle.tinyjson_output.proofs.Callers.{sent_goes as goes, sent_stop as stop, sent_stops as stops, sent_written_more as written_more, sent_written_none as written_none, enc, enc_cons, closed, three, quoted_bytes}
 use Rattle.tinyjson.proofs.Writing.Sorted.{Entry}
 use Rattle.tinyjson.proofs.Writing.Text.{member_text, some_members, enc_separator}
@@ -63,67 +63,67 @@ module _ (w : Option (List ℕ)) where
   -- ---- an item or a member comes next
 
   pub items_next : (fs : List Frame) (gs : List Gathered) (level : ℕ) (first : Bool) (xs ys : List JsonValue) (x : JsonValue) → xs ≡ x ∷ ys → level ≡ length fs + 1
-      → enc ((items_text w (length fs + 1) first (items_view xs) ++ (newline w (length fs) ++ 93 ∷ [])) ++ owed w fs gs)
-      ≡ (enc (before w level first) ++ enc (text w level (view x))) ++ enc ((items_text w (length fs + 1) false (items_view ys) ++ (newline w (length fs) ++ 93 ∷ [])) ++ owed w fs gs)
+      → enc ((items_text w (length fs + 1) first (items_view xs) ++ (newline w (length fs) ++ 93 ∷ [])) ++ unwritten w fs gs)
+      ≡ (enc (before w level first) ++ enc (text w level (view x))) ++ enc ((items_text w (length fs + 1) false (items_view ys) ++ (newline w (length fs) ++ 93 ∷ [])) ++ unwritten w fs gs)
   items_next fs gs level first xs ys x e l =
       let k = length fs in
       let close = newline w k ++ 93 ∷ [] in
       let rest = items_text w (k + 1) false (items_view ys) in
-      rw l (ap (λ zs. enc ((items_text w (k + 1) first (items_view zs) ++ close) ++ owed w fs gs)) e
-      ∙ ap enc (piece_first (before w (k + 1) first) (text w (k + 1) (view x)) rest close (owed w fs gs))
-      ∙ encoded_first (before w (k + 1) first) (text w (k + 1) (view x)) ((rest ++ close) ++ owed w fs gs))
+      rw l (ap (λ zs. enc ((items_text w (k + 1) first (items_view zs) ++ close) ++ unwritten w fs gs)) e
+      ∙ ap enc (piece_first (before w (k + 1) first) (text w (k + 1) (view x)) rest close (unwritten w fs gs))
+      ∙ encoded_first (before w (k + 1) first) (text w (k + 1) (view x)) ((rest ++ close) ++ unwritten w fs gs))
 
   pub members_next : (fs : List Frame) (gs hs : List Gathered) (level left more : ℕ) (first : Bool) (x : Gathered) → gs ≡ x ∷ hs → left ≡ suc more → level ≡ length fs + 1
-      → enc (owed w (Members left first ∷ fs) gs) ≡ (enc (before w level first) ++ enc (member_text w level x.0.now x.1.now)) ++ enc (owed w (Members more false ∷ fs) hs)
+      → enc (unwritten w (Members left first ∷ fs) gs) ≡ (enc (before w level first) ++ enc (member_text w level x.0.now x.1.now)) ++ enc (unwritten w (Members more false ∷ fs) hs)
   members_next fs gs hs level left more first x e n l =
       let k = length fs in
       let close = newline w k ++ 125 ∷ [] in
       let rest = members_text w (k + 1) false (sorted_view (take more hs)) in
-      let out = owed w fs (drop more hs) in
-      rw l (ap (λ zs. enc (owed w (Members left first ∷ fs) zs)) e ∙ ap (λ i. enc (owed w (Members i first ∷ fs) (x ∷ hs))) n
+      let out = unwritten w fs (drop more hs) in
+      rw l (ap (λ zs. enc (unwritten w (Members left first ∷ fs) zs)) e ∙ ap (λ i. enc (unwritten w (Members i first ∷ fs) (x ∷ hs))) n
       ∙ ap enc (piece_first (before w (k + 1) first) (member_text w (k + 1) x.0.now x.1.now) rest close out)
       ∙ encoded_first (before w (k + 1) first) (member_text w (k + 1) x.0.now x.1.now) ((rest ++ close) ++ out))
 
   pub member_next : (fs : List Frame) (gs : List Gathered) (level : ℕ) (key : Bor (List ℕ)) (value : Bor JsonValue) → level ≡ length fs + 1
-      → enc (owed w (Member key value ∷ fs) gs) ≡ (enc (before w level true) ++ enc (member_text w level key.now value.now)) ++ enc (owed w (Members 0 false ∷ fs) gs)
+      → enc (unwritten w (Member key value ∷ fs) gs) ≡ (enc (before w level true) ++ enc (member_text w level key.now value.now)) ++ enc (unwritten w (Members 0 false ∷ fs) gs)
   member_next fs gs level key value l =
       let k = length fs in
       let close = newline w k ++ 125 ∷ [] in
-      rw l (ap enc (piece_first (before w (k + 1) true) (member_text w (k + 1) key.now value.now) [] close (owed w fs gs))
-      ∙ encoded_first (before w (k + 1) true) (member_text w (k + 1) key.now value.now) (([] ++ close) ++ owed w fs gs))
+      rw l (ap enc (piece_first (before w (k + 1) true) (member_text w (k + 1) key.now value.now) [] close (unwritten w fs gs))
+      ∙ encoded_first (before w (k + 1) true) (member_text w (k + 1) key.now value.now) (([] ++ close) ++ unwritten w fs gs))
 
   -- ---- none comes
 
   pub items_end : (fs : List Frame) (gs : List Gathered) (first : Bool) (xs : List JsonValue) → xs ≡ []
-      → enc ((items_text w (length fs + 1) first (items_view xs) ++ (newline w (length fs) ++ 93 ∷ [])) ++ owed w fs gs) ≡ enc (newline w (length fs)) ++ (93 ∷ [] ++ enc (owed w fs gs))
+      → enc ((items_text w (length fs + 1) first (items_view xs) ++ (newline w (length fs) ++ 93 ∷ [])) ++ unwritten w fs gs) ≡ enc (newline w (length fs)) ++ (93 ∷ [] ++ enc (unwritten w fs gs))
   items_end fs gs first xs e =
       let close = newline w (length fs) ++ 93 ∷ [] in
-      ap (λ zs. enc ((items_text w (length fs + 1) first (items_view zs) ++ close) ++ owed w fs gs)) e ∙ bracket_first (newline w (length fs)) 93 (owed w fs gs) (omega arith)
+      ap (λ zs. enc ((items_text w (length fs + 1) first (items_view zs) ++ close) ++ unwritten w fs gs)) e ∙ bracket_first (newline w (length fs)) 93 (unwritten w fs gs) (omega arith)
 
   pub members_end : (fs : List Frame) (gs hs : List Gathered) (first : Bool) (left : ℕ) → take left gs ≡ [] → drop left gs ≡ hs
-      → enc (owed w (Members left first ∷ fs) gs) ≡ enc (newline w (length fs)) ++ (125 ∷ [] ++ enc (owed w fs hs))
+      → enc (unwritten w (Members left first ∷ fs) gs) ≡ enc (newline w (length fs)) ++ (125 ∷ [] ++ enc (unwritten w fs hs))
   members_end fs gs hs first left e d =
       let close = newline w (length fs) ++ 125 ∷ [] in
-      ap (λ zs. enc ((members_text w (length fs + 1) first (sorted_view zs) ++ close) ++ owed w fs (drop left gs))) e
-      ∙ ap (λ zs. enc (close ++ owed w fs zs)) d ∙ bracket_first (newline w (length fs)) 125 (owed w fs hs) (omega arith)
+      ap (λ zs. enc ((members_text w (length fs + 1) first (sorted_view zs) ++ close) ++ unwritten w fs (drop left gs))) e
+      ∙ ap (λ zs. enc (close ++ unwritten w fs zs)) d ∙ bracket_first (newline w (length fs)) 125 (unwritten w fs hs) (omega arith)
 
-  -- ---- what the stack owes then
+  -- ---- what is left of the stack then
 
   -- a container was begun inside the outer one
   pub advanced_open : {old mid new : Output} {bytes piece : List ℕ} (fs : List Frame) (gs₀ gs hs : List Gathered) (level : ℕ) (f g : Frame) (s₀ s₂ : Stack)
-      → bytes ≡ enc (owed w fs gs₀) → IsStack s₂ → frames s₂ ≡ f ∷ g ∷ frames s₀ → level ≡ length (frames s₀) + 1
-      → Opened w level mid new piece gs f hs → Sent old mid bytes (piece ++ enc (owed w (g ∷ frames s₀) gs)) → Advanced w old new fs gs₀ s₂ hs
+      → bytes ≡ enc (unwritten w fs gs₀) → IsStack s₂ → frames s₂ ≡ f ∷ g ∷ frames s₀ → level ≡ length (frames s₀) + 1
+      → Opened w level mid new piece gs f hs → Sent old mid bytes (piece ++ enc (unwritten w (g ∷ frames s₀) gs)) → Advanced w old new fs gs₀ s₂ hs
   advanced_open {old} {mid} {new} {bytes} {piece} fs gs₀ gs hs level f g s₀ s₂ whole is e l o h =
-      let rest = enc (owed w (g ∷ frames s₀) gs) in
-      let same : enc (frame_text w level f hs) ++ rest ≡ enc (owed w (frames s₂) hs) =
-      sym (encodes-append (frame_text w level f hs) (owed w (g ∷ frames s₀) gs))
-      ∙ ap (λ zs. enc (frame_text w level f hs ++ owed w (g ∷ frames s₀) zs)) (sym o.outside)
-      ∙ ap (λ n. enc (frame_text w n f hs ++ owed w (g ∷ frames s₀) (others f hs))) (l ∙ add-one (length (frames s₀)))
-      ∙ ap (λ zs. enc (owed w zs hs)) (sym e) in
+      let rest = enc (unwritten w (g ∷ frames s₀) gs) in
+      let same : enc (frame_text w level f hs) ++ rest ≡ enc (unwritten w (frames s₂) hs) =
+      sym (encodes-append (frame_text w level f hs) (unwritten w (g ∷ frames s₀) gs))
+      ∙ ap (λ zs. enc (frame_text w level f hs ++ unwritten w (g ∷ frames s₀) zs)) (sym o.outside)
+      ∙ ap (λ n. enc (frame_text w n f hs ++ unwritten w (g ∷ frames s₀) (others f hs))) (l ∙ add-one (length (frames s₀)))
+      ∙ ap (λ zs. enc (unwritten w zs hs)) (sym e) in
       record {
         stack = is;
-        written = subst (λ b. Sent old new b (enc (owed w (frames s₂) hs))) whole (subst (Sent old new bytes) same (written_more rest h o.written));
-        less = subst (λ b. length (enc (owed w (frames s₂) hs)) < length b) whole (subst (λ r. length r < length bytes) same (shorter piece (enc (frame_text w level f hs)) rest h o.less));
+        written = subst (λ b. Sent old new b (enc (unwritten w (frames s₂) hs))) whole (subst (Sent old new bytes) same (written_more rest h o.written));
+        less = subst (λ b. length (enc (unwritten w (frames s₂) hs)) < length b) whole (subst (λ r. length r < length bytes) same (shorter piece (enc (frame_text w level f hs)) rest h o.less));
       }
 
   -- or the stack had no memory for it
@@ -132,19 +132,19 @@ module _ (w : Option (List ℕ)) where
   stopped_open gs hs level f rest o h = stop (written_more rest h o.written)
 
   closed_rest : {old mid : Output} {bytes : List ℕ} (fs₁ : List Frame) (gs₁ hs : List Gathered) (line : List ℕ) (bracket : ℕ) (s : Stack) → frames s ≡ fs₁ → hs ≡ gs₁
-      → Sent old mid bytes (line ++ (bracket ∷ [] ++ enc (owed w fs₁ gs₁))) → Sent old mid bytes ((line ++ bracket ∷ []) ++ enc (owed w (frames s) hs))
+      → Sent old mid bytes (line ++ (bracket ∷ [] ++ enc (unwritten w fs₁ gs₁))) → Sent old mid bytes ((line ++ bracket ∷ []) ++ enc (unwritten w (frames s) hs))
   closed_rest {old} {mid} {bytes} fs₁ gs₁ hs line bracket s ef eg h =
-      let e : enc (owed w fs₁ gs₁) ≡ enc (owed w (frames s) hs) = ap (λ z. enc (owed w z gs₁)) (sym ef) ∙ ap (λ z. enc (owed w (frames s) z)) (sym eg) in
-      rw (append_assoc line (bracket ∷ []) (enc (owed w (frames s) hs))) (subst (λ z. Sent old mid bytes (line ++ (bracket ∷ [] ++ z))) e h)
+      let e : enc (unwritten w fs₁ gs₁) ≡ enc (unwritten w (frames s) hs) = ap (λ z. enc (unwritten w z gs₁)) (sym ef) ∙ ap (λ z. enc (unwritten w (frames s) z)) (sym eg) in
+      rw (append_assoc line (bracket ∷ []) (enc (unwritten w (frames s) hs))) (subst (λ z. Sent old mid bytes (line ++ (bracket ∷ [] ++ z))) e h)
 
   -- the container was closed, where `line` stands before its bracket
   pub closes : {E : Type 0} (old mid new : Output) (fs fs₁ : List Frame) (gs gs₁ hs : List Gathered) (line : List ℕ) (bracket : ℕ) (s : Stack) (r : Result (Unit {0}) E) → IsStack s → frames s ≡ fs₁ → hs ≡ gs₁
-      → Sends mid new (line ++ bracket ∷ []) r → Sent old mid (enc (owed w fs gs)) (line ++ (bracket ∷ [] ++ enc (owed w fs₁ gs₁))) → Advances w old new fs gs r s hs
+      → Sends mid new (line ++ bracket ∷ []) r → Sent old mid (enc (unwritten w fs gs)) (line ++ (bracket ∷ [] ++ enc (unwritten w fs₁ gs₁))) → Advances w old new fs gs r s hs
   closes old mid new fs fs₁ gs gs₁ hs line bracket s (Ok u) is ef eg k h =
-      let rest = enc (owed w (frames s) hs) in
+      let rest = enc (unwritten w (frames s) hs) in
       let whole = closed_rest fs₁ gs₁ hs line bracket s ef eg h in
       record { stack = is; written = goes {piece = line ++ bracket ∷ []} rest k whole; less = shorter (line ++ bracket ∷ []) [] rest whole (omega (arith, length-append line (bracket ∷ []))) }
-  closes old mid new fs fs₁ gs gs₁ hs line bracket s (Err e) is ef eg k h = stops {piece = line ++ bracket ∷ []} (enc (owed w (frames s) hs)) k (closed_rest fs₁ gs₁ hs line bracket s ef eg h)
+  closes old mid new fs fs₁ gs gs₁ hs line bracket s (Err e) is ef eg k h = stops {piece = line ++ bracket ∷ []} (enc (unwritten w (frames s) hs)) k (closed_rest fs₁ gs₁ hs line bracket s ef eg h)
 
   -- ---- a member in compact text
 
@@ -168,11 +168,11 @@ module _ (w : Option (List ℕ)) where
 
   -- ---- what begins after what was written
 
-  pub begins_behind : {E : Type 0} (k : ℕ) (old mid new : Output) (bytes piece : List ℕ) (gs hs : List Gathered) (r : Result (Option Frame) E)
+  pub begins_after : {E : Type 0} (k : ℕ) (old mid new : Output) (bytes piece : List ℕ) (gs hs : List Gathered) (r : Result (Option Frame) E)
       → Sent old mid bytes piece → Begins w k mid new piece gs r hs → Begins w k old new bytes gs r hs
-  begins_behind k old mid new bytes piece gs hs (Err e) h b = stops {piece = piece} [] b (rw append-nil h)
-  begins_behind k old mid new bytes piece gs hs (Ok None) h b = record { written = goes {piece = piece} [] b.written (rw append-nil h); outside = b.outside }
-  begins_behind k old mid new bytes piece gs hs (Ok (Some f)) h b =
+  begins_after k old mid new bytes piece gs hs (Err e) h b = stops {piece = piece} [] b (rw append-nil h)
+  begins_after k old mid new bytes piece gs hs (Ok None) h b = record { written = goes {piece = piece} [] b.written (rw append-nil h); outside = b.outside }
+  begins_after k old mid new bytes piece gs hs (Ok (Some f)) h b =
       let n = ap length h.split in
       let rest = enc (frame_text w k f hs) in
       record { written = subst (Sent old new bytes) (append-nil rest) (written_more {piece = piece} [] (rw append-nil h) b.written); outside = b.outside; less = omega (arith, n, length-append h.done piece, b.less) }

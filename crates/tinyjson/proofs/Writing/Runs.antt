@@ -1,4 +1,4 @@
--- Items and members that wait one after another in compact text, and what is left of them.
+-- Items and members that are buffered one after another in compact text, and what is left of them.
 use Rattle.std.proofs.Common.{◌≡◌, ℕ, suc, ◌+◌, ◌-◌, ◌<◌, Bool, true, false, Option, None, Some, List, [], ◌∷◌, ◌++◌, length, take, drop, refl, sym, ◌∙◌, ap, subst, append_assoc, append-nil, length-append, MatchOption, arith}
 use Rattle.std.specs.Borrow.{Bor}
 use Rattle.std.specs.Str.{chars, IsUtf8}
@@ -7,17 +7,17 @@ use Rattle.std.proofs.lemmas.List.{take_at}
 use Rattle.tinyjson.specs.declared.value.JsonValue.{JsonValue}
 use Rattle.tinyjson.specs.declared.generator.pending.Frame.{Frame}
 use Rattle.tinyjson.specs.declared.generator.pending.Frame.TheVariants.{Items, Member, Members}
-use Rattle.tinyjson.specs.private.Pending.{Gathered, frame_text, others, owed, Opened, Finished}
-use Rattle.tinyjson_output.specs.Room.{Output, Sent, SentPart}
+use Rattle.tinyjson.specs.private.Pending.{Gathered, frame_text, others, unwritten, Opened, Finished}
+use Rattle.tinyjson_output.specs.Buffer.{Output, Sent, SentPart}
 use Rattle.tinyjson.specs.private.Sorted.{sorted_view}
 use Rattle.tinyjson_grammar.specs.Text.{text, items_text, members_text, separator, quoted, escapes, newline, has_no_items}
 use Rattle.tinyjson_grammar.specs.Tree.{array, member, no_members}
 use Rattle.tinyjson.specs.View.{view, items_view}
-use Rattle.tinyjson_output.proofs.Callers.{enc, enc_cons, three, sent_begins as begins, sent_goes as goes, sent_stops as stops, sent_waits as waits, sent_written_more as written_more}
+use Rattle.tinyjson_output.proofs.Callers.{enc, enc_cons, three, sent_begins as begins, sent_goes as goes, sent_stops as stops, sent_buffered as buffers, sent_written_more as written_more}
 use Rattle.tinyjson.proofs.Writing.Pending.{compact_member, opened, array_begins}
 use Rattle.tinyjson.proofs.Writing.Text.{member_text, enc_separator}
 
--- what was appended to the bytes that wait is taken back
+-- what was appended to the buffer is taken back
 pub taken_back : (p q r s more : List ℕ) (n : ℕ) → n ≡ length p → r ≡ take n q → q ≡ s → s ≡ p ++ more → r ≡ p
 taken_back p q r s more n e a b c = a ∙ ap (λ m. take m q) e ∙ ap (λ z. take (length p) z) (b ∙ c) ∙ take_at p more (length p) refl
 
@@ -31,7 +31,7 @@ pub item_on : {old : Output} {bytes : List ℕ} (held : Option (List ℕ)) (k : 
 item_on {old} {bytes} held k first xs ys x p q e w h =
     let t = text None k (view x) in
     let r = items_text None k false (items_view ys) in
-    goes {piece = separator first ++ enc t} (enc r) (waits held p q _ w)
+    goes {piece = separator first ++ enc t} (enc r) (buffers held p q _ w)
     (subst (Sent old (held, p) bytes) (ap (λ zs. enc (items_text None k first (items_view zs))) e ∙ piece_first first t r) h)
 
 pub member_on : {old : Output} {bytes : List ℕ} (held : Option (List ℕ)) (k : ℕ) (first : Bool) (gs hs : List Gathered) (x : Gathered) (left more : ℕ) (p q : List ℕ) → gs ≡ x ∷ hs → left ≡ suc more
@@ -40,13 +40,13 @@ pub member_on : {old : Output} {bytes : List ℕ} (held : Option (List ℕ)) (k 
 member_on {old} {bytes} held k first gs hs x left more p q e n w h =
     let t = member_text None k x.0.now x.1.now in
     let r = members_text None k false (sorted_view (take more hs)) in
-    goes {piece = separator first ++ enc t} (enc r) (waits held p q _ w)
+    goes {piece = separator first ++ enc t} (enc r) (buffers held p q _ w)
     (subst (Sent old (held, p) bytes) (ap (λ zs. enc (members_text None k first (sorted_view (take left zs)))) e ∙ ap (λ i. enc (members_text None k first (sorted_view (take i (x ∷ hs))))) n ∙ piece_first first t r) h)
 
--- a member that waits: its key, the colon and its value
-pub member_waits : (k : ℕ) (first : Bool) (key v p q r : List ℕ) → IsUtf8 key → q ≡ p ++ (separator first ++ ((34 ∷ [] ++ (escapes key ++ 34 ∷ [])) ++ 58 ∷ [])) → r ≡ q ++ enc v
+-- a member that is buffered: its key, the colon and its value
+pub member_buffered : (k : ℕ) (first : Bool) (key v p q r : List ℕ) → IsUtf8 key → q ≡ p ++ (separator first ++ ((34 ∷ [] ++ (escapes key ++ 34 ∷ [])) ++ 58 ∷ [])) → r ≡ q ++ enc v
     → r ≡ p ++ (separator first ++ enc (quoted (chars key) ++ (58 ∷ v)))
-member_waits k first key v p q r u a b =
+member_buffered k first key v p q r u a b =
     let t = enc (quoted (chars key) ++ (58 ∷ v)) in
     b ∙ ap (λ z. z ++ enc v) a ∙ append_assoc p (separator first ++ ((34 ∷ [] ++ (escapes key ++ 34 ∷ [])) ++ 58 ∷ [])) (enc v)
     ∙ ap (λ z. p ++ z) (sym (compact_member None k first key v u refl) ∙ ap (λ z. z ++ t) (enc_separator first))
@@ -60,10 +60,10 @@ skipped None left gs hs m l e h =
     let n = ap length (sym h.0 ∙ ap (λ i. take i gs) one ∙ ap (take (suc (left - 1))) e) in
     absurd (omega (arith, n))
 
-pub left_behind : (left more : ℕ) (gs hs : List Gathered) (m : Gathered) → left ≡ suc more → gs ≡ m ∷ hs → drop more hs ≡ drop left gs
-left_behind left more gs hs m n e = sym (ap (λ i. drop i gs) n ∙ ap (drop (suc more)) e)
+pub left_after : (left more : ℕ) (gs hs : List Gathered) (m : Gathered) → left ≡ suc more → gs ≡ m ∷ hs → drop more hs ≡ drop left gs
+left_after left more gs hs m n e = sym (ap (λ i. drop i gs) n ∙ ap (drop (suc more)) e)
 
--- ---- a run of them, after what was sent and before what is owed
+-- ---- a run of them, after what was sent and before what is left
 
 tail : (a c d : List ℕ) → enc ((a ++ c) ++ d) ≡ enc a ++ (enc c ++ enc d)
 tail a c d = encodes-append (a ++ c) d ∙ ap (λ v. v ++ enc d) (encodes-append a c) ∙ append_assoc (enc a) (enc c) (enc d)
@@ -80,11 +80,11 @@ module _ (w : Option (List ℕ)) where
   -- a run of the gathered members of the innermost container
   pub members_on : {old mid new : Output} {bytes : List ℕ} (fs : List Frame) (count left : ℕ) (first next : Bool) (hs is : List Gathered) → drop left is ≡ drop count hs
       → Sent mid new (enc (members_text w (length fs + 1) first (sorted_view (take count hs)))) (enc (members_text w (length fs + 1) next (sorted_view (take left is))))
-      → Sent old mid bytes (enc (owed w (Members count first ∷ fs) hs)) → Sent old new bytes (enc (owed w (Members left next ∷ fs) is))
+      → Sent old mid bytes (enc (unwritten w (Members count first ∷ fs) hs)) → Sent old new bytes (enc (unwritten w (Members left next ∷ fs) is))
   members_on {old} {mid} {new} {bytes} fs count left first next hs is e r h =
       let b = members_text w (length fs + 1) next (sorted_view (take left is)) in
       let close = newline w (length fs) ++ 125 ∷ [] in
-      subst (λ zs. Sent old new bytes (enc ((b ++ close) ++ owed w fs zs))) (sym e) (run_on _ b close (owed w fs (drop count hs)) r h)
+      subst (λ zs. Sent old new bytes (enc ((b ++ close) ++ unwritten w fs zs))) (sym e) (run_on _ b close (unwritten w fs (drop count hs)) r h)
 
   -- a container was begun, and then a run of what it holds
   pub opened_run : {old mid new : Output} {bytes : List ℕ} (k : ℕ) (gs hs is : List Gathered) (f g : Frame) (a b c : List ℕ) → frame_text w k f hs ≡ a ++ c → frame_text w k g is ≡ b ++ c → others g is ≡ others f hs
@@ -113,9 +113,9 @@ module _ (w : Option (List ℕ)) where
       → Sent mid new (enc (members_text w (k + 1) true (member (chars key.now) (view value.now) no_members))) [] → Opened w k old mid bytes gs (Member key value) gs → Opened w k old new bytes gs (Members 0 false) gs
   member_run k gs key value r o = opened_run k gs gs gs (Member key value) (Members 0 false) _ [] (newline w k ++ 125 ∷ []) refl refl refl r o
 
-  pub only_member_waits : (held : Option (List ℕ)) (k : ℕ) (key : Bor (List ℕ)) (value : Bor JsonValue) (p q : List ℕ) → w ≡ None → q ≡ p ++ (separator true ++ enc (member_text None k key.now value.now))
+  pub only_member_buffered : (held : Option (List ℕ)) (k : ℕ) (key : Bor (List ℕ)) (value : Bor JsonValue) (p q : List ℕ) → w ≡ None → q ≡ p ++ (separator true ++ enc (member_text None k key.now value.now))
       → Sent (held, p) (held, q) (enc (members_text w k true (member (chars key.now) (view value.now) no_members))) []
-  only_member_waits held k key value p q e h =
+  only_member_buffered held k key value p q e h =
       subst (λ i. Sent (held, p) (held, q) (enc (members_text i k true (member (chars key.now) (view value.now) no_members))) []) (sym e)
       (member_on held k true ((key, value) ∷ []) [] (key, value) 1 0 p q refl refl h begins)
 

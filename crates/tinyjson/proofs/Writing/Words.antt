@@ -6,7 +6,7 @@ use Rattle.tinyjson.specs.Indent.{indent_of}
 use Rattle.tinyjson.specs.View.{view, items_view, members_view}
 use Rattle.tinyjson_grammar.specs.Text.{text, after_colon, has_no_items, has_no_members}
 use Rattle.tinyjson_grammar.specs.Tree.{Items, no_items, item, Members, no_members, member, array, object}
-use Rattle.tinyjson_output.specs.Room.{Output, Sent, SentPart, Sends}
+use Rattle.tinyjson_output.specs.Buffer.{Output, Sent, SentPart, Sends}
 use Rattle.tinyjson_output.proofs.Callers.{enc, enc_cons}
 use Rattle.tinyjson.proofs.Values.View.{view_Boolean}
 

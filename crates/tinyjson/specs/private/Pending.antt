@@ -7,7 +7,7 @@ use Rattle.tinyjson_grammar.specs.Tree.{member, no_members}
 use Rattle.tinyjson.specs.View.{view, items_view}
 use Rattle.tinyjson_grammar.specs.Text.{items_text, members_text, newline}
 use Rattle.tinyjson.specs.private.Sorted.{sorted_view}
-use Rattle.tinyjson_output.specs.Room.{Output, Sent, SentPart}
+use Rattle.tinyjson_output.specs.Buffer.{Output, Sent, SentPart}
 use Rattle.tinyjson.specs.declared.value.JsonValue.{JsonValue}
 use Rattle.tinyjson.specs.declared.generator.pending.Frame.{Frame}
 use Rattle.tinyjson.specs.declared.generator.pending.Frame.TheVariants.{Items, Member, Members}
@@ -33,7 +33,7 @@ others (Member key value) gs = gs
 others (Members left first) gs = drop left gs
 
 module _ (w : Option (List ℕ)) where
-  -- what a container at the level k still owes: the items or members that are left, and its closing bracket.
+  -- what is left of a container at the level k: the items or members that are left, and its closing bracket.
   -- Its members are the first of those gathered.
   abbrev pub frame_text : ℕ → Frame → List Gathered → List ℕ
   frame_text k (Items rest first) gs = items_text w (k + 1) first (items_view rest.now) ++ (newline w k ++ 93 ∷ [])
@@ -41,12 +41,12 @@ module _ (w : Option (List ℕ)) where
       ++ (newline w k ++ 125 ∷ [])
   frame_text k (Members left first) gs = members_text w (k + 1) first (sorted_view (take left gs)) ++ (newline w k ++ 125 ∷ [])
 
-  -- what all open containers owe, the innermost first
-  abbrev pub owed : List Frame → List Gathered → List ℕ
-  owed [] gs = []
-  owed (f ∷ fs) gs = frame_text (length fs) f gs ++ owed fs (others f gs)
+  -- what is left of all open containers, the innermost first
+  abbrev pub unwritten : List Frame → List Gathered → List ℕ
+  unwritten [] gs = []
+  unwritten (f ∷ fs) gs = frame_text (length fs) f gs ++ unwritten fs (others f gs)
 
--- a container is begun: its bracket and what stands before it are sent, and the frame is what it owes
+-- a container is begun: its bracket and what stands before it are sent, and the frame is what is left of it
 pub record Opened (w : Option (List ℕ)) (k : ℕ) (old new : Output) (bytes : List ℕ) (gs : List Gathered) (f : Frame)
     (hs : List Gathered) : Type 0 where
   pub written : Sent old new bytes (encode_utf8_all (frame_text w k f hs))
@@ -58,21 +58,21 @@ pub record Finished (old new : Output) (bytes : List ℕ) (gs hs : List Gathered
   pub written : Sent old new bytes []
   pub outside : hs ≡ gs
 
--- of the bytes all is sent but what the frame at the level k owes, where there is one; or, on an error, a prefix
+-- of the bytes all is sent but what is left of the frame at the level k, where there is one; or, on an error, a prefix
 abbrev pub Begins : {E : Type 0} → Option (List ℕ) → ℕ → Output → Output → List ℕ → List Gathered →
     Result (Option Frame) E → List Gathered → Type 0
 Begins w k old new bytes gs result hs = MatchResult result
     (λ o. MatchOption o (Finished old new bytes gs hs) (λ f. Opened w k old new bytes gs f hs))
     (λ _. SentPart old new bytes)
 
--- of what the frames owe all is sent but what the stack owes now, which is less
+-- of what was left of the frames all is sent but what is left of the stack now, which is less
 pub record Advanced (w : Option (List ℕ)) (old new : Output) (fs : List Frame) (gs : List Gathered) (s : Stack)
     (hs : List Gathered) : Type 0 where
   pub stack : IsStack s
-  pub written : Sent old new (encode_utf8_all (owed w fs gs)) (encode_utf8_all (owed w (frames s) hs))
-  pub less : length (encode_utf8_all (owed w (frames s) hs)) < length (encode_utf8_all (owed w fs gs))
+  pub written : Sent old new (encode_utf8_all (unwritten w fs gs)) (encode_utf8_all (unwritten w (frames s) hs))
+  pub less : length (encode_utf8_all (unwritten w (frames s) hs)) < length (encode_utf8_all (unwritten w fs gs))
 
 abbrev pub Advances : {T E : Type 0} → Option (List ℕ) → Output → Output → List Frame → List Gathered → Result T E →
     Stack → List Gathered → Type 0
 Advances w old new fs gs result s hs = MatchResult result (λ _. Advanced w old new fs gs s hs)
-    (λ _. SentPart old new (encode_utf8_all (owed w fs gs)))
+    (λ _. SentPart old new (encode_utf8_all (unwritten w fs gs)))

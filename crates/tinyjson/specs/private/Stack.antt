@@ -42,10 +42,10 @@ frames_over (frame.Member n m ∷ os) vs ks ms =
     at_value (gather (own_members ms) (drop m ks) (drop n vs)) (waiting (drop m ks) (drop n vs))
     ∷ frames_over os (take n vs) (take m ks) (other_maps ms)
 
--- the last value is whole, and not yet part of its container
-abbrev pub whole_over : List StackFrame → List JsonValue → List (String Global) → List JsonMap → Next
-whole_over os [] ks ms = next [] awaited
-whole_over os (v ∷ vs) ks ms = complete true (frames_over os (reverse vs) ks ms) (view v) true
+-- the last value is complete, and not yet part of its container
+abbrev pub complete_over : List StackFrame → List JsonValue → List (String Global) → List JsonMap → Next
+complete_over os [] ks ms = next [] awaited
+complete_over os (v ∷ vs) ks ms = complete true (frames_over os (reverse vs) ks ms) (view v) true
 
 -- so many values and keys: each container begins within what those around it leave; an object that awaits a
 -- key has a key for each of its values, and one that awaits a value has one more
@@ -72,13 +72,13 @@ maps_of s = reverse s.maps.items
 abbrev pub frames : Stack → List Frame
 frames s = frames_over (open_of s) s.values.items s.keys.items (maps_of s)
 
--- a value is awaited, or is whole
+-- a value is awaited, or is complete
 abbrev pub at : Stack → Bool → Next
 at s false = next (frames s) awaited
-at s true = whole_over (open_of s) (reverse s.values.items) s.keys.items (maps_of s)
+at s true = complete_over (open_of s) (reverse s.values.items) s.keys.items (maps_of s)
 
--- the last value is whole, after values that the open containers have
-pub record HasWhole (s : Stack) : Type 0 where
+-- the last value is complete, after values that the open containers have
+pub record HasComplete (s : Stack) : Type 0 where
   pub front : List JsonValue
   pub last : JsonValue
   pub values : s.values.items ≡ front ++ last ∷ []
@@ -87,7 +87,7 @@ pub record HasWhole (s : Stack) : Type 0 where
 
 abbrev pub IsSound : Stack → Bool → Type 0
 IsSound s false = Lies (open_of s) (length s.values.items) (length s.keys.items)
-IsSound s true = HasWhole s
+IsSound s true = HasComplete s
 
 -- the container that was opened last
 abbrev pub Innermost : Stack → StackFrame → Type 0

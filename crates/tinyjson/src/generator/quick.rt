@@ -1,44 +1,44 @@
-//! Values that hold no other, which wait as a whole, or not at all.
+//! Values that hold no other, which are buffered in full, or not at all.
 ghost use Rattle.std.specs.Prelude.{◌≡◌, ◌≤◌, ◌++◌, ◌∷◌, ℕ, List, Option, None, IsTrue, length};
 ghost use Rattle.std.specs.Prelude.{take, drop, reverse};
 ghost use Rattle.std.specs.Bool.{MatchBool};
 ghost use Rattle.std.specs.Str.{chars, encode_utf8_all};
-ghost use Rattle.tinyjson_output.specs.Room.{waiting, Waits};
+ghost use Rattle.tinyjson_output.specs.Buffer.{buffered, Buffers};
 ghost use Rattle.tinyjson.specs.private.Sorted.{sorted_view};
 ghost use Rattle.tinyjson_grammar.specs.Text.{items_text, members_text, quoted, separator, text};
 ghost use Rattle.tinyjson.specs.View.{view, items_view};
 
 use super::sorted::{first_member, holds_others, next_member};
 use crate::value::JsonValue;
-use tinyjson_output::Room;
+use tinyjson_output::Buffer;
 use tinyjson_output::quick::{quick_key, quick_number, quick_text, quick_word};
 
-/// Lets the text of a value that holds no other wait, if it fits, and says whether it does.
+/// Appends the text of a value that holds no other to the buffer if it fits, and returns whether it did.
 #[inline(always)]
-pub(super) fn quick_value(room: &mut Room, value: &JsonValue) -> bool
+pub(super) fn quick_value(buffer: &mut Buffer, value: &JsonValue) -> bool
     ensures { (w : Option (List ℕ)) (k : ℕ) → MatchBool result
-        (waiting room.new ≡ waiting room.old ++ encode_utf8_all (text w k (view value.now)))
-        (waiting room.new ≡ waiting room.old) }
+        (buffered buffer.new ≡ buffered buffer.old ++ encode_utf8_all (text w k (view value.now)))
+        (buffered buffer.new ≡ buffered buffer.old) }
 {
     match value {
-        JsonValue::Number(number) => quick_number(room, number),
-        JsonValue::String(text) => quick_text(room, text.as_bytes()),
-        JsonValue::Boolean(true) => quick_word(room, b"true"),
-        JsonValue::Boolean(false) => quick_word(room, b"false"),
-        JsonValue::Null => quick_word(room, b"null"),
+        JsonValue::Number(number) => quick_number(buffer, number),
+        JsonValue::String(text) => quick_text(buffer, text.as_bytes()),
+        JsonValue::Boolean(true) => quick_word(buffer, b"true"),
+        JsonValue::Boolean(false) => quick_word(buffer, b"false"),
+        JsonValue::Null => quick_word(buffer, b"null"),
         _ => false,
     }
 }
 
-/// The items at the front that are no arrays or objects, in compact text, as far as they fit. Gives the
+/// The items at the front that are not arrays or objects, in compact text, as far as they fit. Returns the
 /// items that are left, and whether none stands before them.
 #[inline(always)]
 pub(super) fn quick_items<'a>(
-    room: &mut Room,
+    buffer: &mut Buffer,
     items: &'a [JsonValue],
     first: bool,
 ) -> (&'a [JsonValue], bool)
-    ensures waits { (k : ℕ) → Waits (waiting room.old) (waiting room.new)
+    ensures buffers { (k : ℕ) → Buffers (buffered buffer.old) (buffered buffer.new)
         (encode_utf8_all (items_text None k first (items_view items.now)))
         (encode_utf8_all (items_text None k result.1 (items_view result.0.now))) }
     ensures less { length result.0.now ≤ length items.now }
@@ -46,7 +46,7 @@ pub(super) fn quick_items<'a>(
     let mut rest = items;
     let mut first = first;
     while let Some((item, others)) = rest.split_first() {
-        if !quick_item(room, first, item) {
+        if !quick_item(buffer, first, item) {
             return (rest, first);
         }
         rest = others;
@@ -55,38 +55,39 @@ pub(super) fn quick_items<'a>(
     (rest, first)
 }
 
-/// Lets a comma, but not before the first item, and the item wait, and says whether they do.
+/// Appends a comma, but not before the first item, and the item to the buffer if they fit, and returns
+/// whether it did.
 #[inline(always)]
-fn quick_item(room: &mut Room, first: bool, item: &JsonValue) -> bool
+fn quick_item(buffer: &mut Buffer, first: bool, item: &JsonValue) -> bool
     ensures { (k : ℕ) → MatchBool result
-        (waiting room.new ≡ waiting room.old
+        (buffered buffer.new ≡ buffered buffer.old
         ++ (separator first ++ encode_utf8_all (text None k (view item.now))))
-        (waiting room.new ≡ waiting room.old) }
+        (buffered buffer.new ≡ buffered buffer.old) }
 {
-    if !room.has_room(1) {
+    if !buffer.fits(1) {
         return false;
     }
-    let len = room.len();
+    let len = buffer.len();
     if !first {
-        room.append(b",");
+        buffer.append(b",");
     }
-    if quick_value(room, item) {
+    if quick_value(buffer, item) {
         return true;
     }
-    room.truncate(len);
+    buffer.truncate(len);
     false
 }
 
 /// The same of the members that are left to an object; their values may be known to hold no others.
 #[inline(always)]
 pub(super) fn quick_members<'a>(
-    room: &mut Room,
+    buffer: &mut Buffer,
     gathered: &mut Vec<(&'a str, &'a JsonValue)>,
     count: usize,
     first: bool,
     flat: bool,
 ) -> (usize, bool)
-    ensures waits { (k : ℕ) → Waits (waiting room.old) (waiting room.new)
+    ensures buffers { (k : ℕ) → Buffers (buffered buffer.old) (buffered buffer.new)
         (encode_utf8_all (members_text None k first
         (sorted_view (take count (reverse gathered.old.items)))))
         (encode_utf8_all (members_text None k result.1
@@ -98,7 +99,7 @@ pub(super) fn quick_members<'a>(
     let mut left = count;
     let mut first = first;
     while let Some((key, value)) = first_member(gathered, left) {
-        if !quick_member(room, true, first, flat, key, value) {
+        if !quick_member(buffer, true, first, flat, key, value) {
             return (left, first);
         }
         let _written = next_member(gathered, left);
@@ -108,11 +109,11 @@ pub(super) fn quick_members<'a>(
     (left, first)
 }
 
-/// Lets a member whose value holds no other wait, with a comma before all but the first, and says whether
-/// it does.
+/// Appends a member whose value holds no other to the buffer, with a comma before all but the first, if it
+/// fits, and returns whether it did.
 #[inline(always)]
 pub(super) fn quick_member(
-    room: &mut Room,
+    buffer: &mut Buffer,
     compact: bool,
     first: bool,
     flat: bool,
@@ -120,37 +121,37 @@ pub(super) fn quick_member(
     value: &JsonValue,
 ) -> bool
     ensures { (k : ℕ) → MatchBool result
-        (IsTrue compact × (waiting room.new ≡ waiting room.old ++ (separator first
+        (IsTrue compact × (buffered buffer.new ≡ buffered buffer.old ++ (separator first
         ++ encode_utf8_all (quoted (chars key.now) ++ (58 ∷ text None k (view value.now))))))
-        (waiting room.new ≡ waiting room.old) }
+        (buffered buffer.new ≡ buffered buffer.old) }
 {
     if !flat && holds_others(value) {
         return false;
     }
-    let len = room.len();
-    if !quick_key(room, compact, first, key) {
+    let len = buffer.len();
+    if !quick_key(buffer, compact, first, key) {
         return false;
     }
-    if quick_value(room, value) {
+    if quick_value(buffer, value) {
         return true;
     }
-    if quick_empty(room, value) {
+    if quick_empty(buffer, value) {
         return true;
     }
-    room.truncate(len);
+    buffer.truncate(len);
     false
 }
 
-/// Lets the text of an array or object that is empty wait, and says whether it does.
+/// Appends the text of an empty array or object to the buffer if it fits, and returns whether it did.
 #[inline(never)]
-fn quick_empty(room: &mut Room, value: &JsonValue) -> bool
+fn quick_empty(buffer: &mut Buffer, value: &JsonValue) -> bool
     ensures { (w : Option (List ℕ)) (k : ℕ) → MatchBool result
-        (waiting room.new ≡ waiting room.old ++ encode_utf8_all (text w k (view value.now)))
-        (waiting room.new ≡ waiting room.old) }
+        (buffered buffer.new ≡ buffered buffer.old ++ encode_utf8_all (text w k (view value.now)))
+        (buffered buffer.new ≡ buffered buffer.old) }
 {
     match value {
-        JsonValue::Array(items) => items.is_empty() && quick_word(room, b"[]"),
-        JsonValue::Object(members) => members.is_empty() && quick_word(room, b"{}"),
+        JsonValue::Array(items) => items.is_empty() && quick_word(buffer, b"[]"),
+        JsonValue::Object(members) => members.is_empty() && quick_word(buffer, b"{}"),
         _ => false,
     }
 }

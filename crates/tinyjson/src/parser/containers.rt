@@ -26,9 +26,9 @@ fn fits(limit: Option<usize>, depth: usize) -> bool
     }
 }
 
-// Where a function returns `true`, a value is whole, and is the last on the stack; otherwise a value is awaited.
+// Where a function returns `true`, a value is complete, and is the last on the stack; otherwise a value is awaited.
 impl<S: Tokens> Reader<S> {
-    /// Opens the array whose bracket comes next, or reads it whole if it is empty.
+    /// Opens the array whose bracket comes next, or reads all of it if it is empty.
     pub(super) fn array(
         &mut self,
         limit: Option<usize>,
@@ -59,7 +59,7 @@ impl<S: Tokens> Reader<S> {
         }
     }
 
-    /// Opens the object whose brace comes next, or reads it whole if it is empty.
+    /// Opens the object whose brace comes next, or reads all of it if it is empty.
     pub(super) fn object(
         &mut self,
         limit: Option<usize>,
@@ -90,7 +90,7 @@ impl<S: Tokens> Reader<S> {
         }
     }
 
-    /// Puts a value that is whole into the container that it stands in. A string where a key is awaited is the key.
+    /// Puts a complete value into the container that it stands in. A string where a key is awaited is the key.
     #[inline(always)]
     pub(super) fn complete(
         &mut self,

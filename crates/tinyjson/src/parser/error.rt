@@ -1,6 +1,6 @@
 //! Why a text was refused, and where.
 ghost use Rattle.std.specs.Prelude.{◌≡◌, ◌↔◌, IsTrue, Some};
-ghost use Rattle.tinyjson.specs.Error.{error_kind, error_position, error_words};
+ghost use Rattle.tinyjson.specs.Error.{error_kind, error_position, error_message};
 
 use std::error::Error;
 use std::fmt;
@@ -79,9 +79,9 @@ impl JsonParseError {
     }
 }
 
-/// `Parse error at line:LINE, col:COLUMN: ` and the words of the kind.
+/// `Parse error at line:LINE, col:COLUMN: ` and the message of the kind.
 impl fmt::Display for JsonParseError {
-    ghost output = { λ e. Some (error_words e) };
+    ghost output = { λ e. Some (error_message e) };
 
     fn fmt<W: fmt::Write>(&self, f: &mut fmt::Formatter<W>) -> fmt::Result {
         let JsonParseError { kind, line, column } = *self;

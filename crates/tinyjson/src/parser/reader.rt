@@ -133,7 +133,7 @@ impl<S: Tokens> Reader<S> {
     }
 
     /// Reads the value that begins with this character, or opens a container; `true` where a value
-    /// is whole.
+    /// is complete.
     fn value(
         &mut self,
         limit: Option<usize>,
@@ -248,8 +248,8 @@ impl<S: Tokens> Reader<S> {
         ensures end { OnOk result (S.sight.shows self.new.tokens.source None) }
         ensures memory { IfErr result (λ kind. kind ≡ OutOfMemory → IsTrue (begins_growth first)) }
     {
-        let whole = self.value(limit, stack, first)?;
-        self.rest(limit, stack, whole)
+        let is_complete = self.value(limit, stack, first)?;
+        self.rest(limit, stack, is_complete)
     }
 
     /// Reads what is left. One turn for each value that is read or container that is opened.
@@ -257,16 +257,16 @@ impl<S: Tokens> Reader<S> {
         &mut self,
         limit: Option<usize>,
         stack: &mut Stack,
-        whole: bool,
+        is_complete: bool,
     ) -> Result<JsonValue, JsonParseErrorKind>
-        requires sound { IsSound stack.old whole }
-        ensures reads { Reads S.sight limit self.old.tokens.source (at stack.old whole) result
+        requires sound { IsSound stack.old is_complete }
+        ensures reads { Reads S.sight limit self.old.tokens.source (at stack.old is_complete) result
             (λ v. next [] (finished (view v))) self.new.tokens.source }
         ensures end { OnOk result (S.sight.shows self.new.tokens.source None) }
     {
-        let mut whole = whole;
+        let mut is_complete = is_complete;
         loop {
-            whole = match whole {
+            is_complete = match is_complete {
                 false => self.next(limit, stack)?,
                 true => match stack.innermost() {
                     Some(frame) => self.after(stack, frame)?,
@@ -285,6 +285,6 @@ impl<S: Tokens> Reader<S> {
         ensures end { OnOk result (S.sight.shows self.new.tokens.source None) }
     {
         self.end()?;
-        Ok(stack.take_whole())
+        Ok(stack.take_complete())
     }
 }

@@ -27,7 +27,7 @@ pub(super) enum Frame {
     Member { values: usize, keys: usize },
 }
 
-/// So many members of an object wait on the stack at most, before they are put into its map.
+/// At most this many members of an object stand on the stack before they are put into its map.
 const MANY: usize = 64;
 
 /// The containers that are open, the innermost last, and the values and keys that were read in them.
@@ -100,8 +100,8 @@ impl Stack {
         Ok(())
     }
 
-    /// Takes the value that is whole, where no container is open.
-    pub(super) fn take_whole(&mut self) -> JsonValue
+    /// Takes the complete value, where no container is open.
+    pub(super) fn take_complete(&mut self) -> JsonValue
         requires sound { IsSound self.old true }
         requires none { open_of self.old ≡ [] }
         ensures { at self.old true ≡ next [] (finished (view result)) }
@@ -167,7 +167,7 @@ impl Stack {
         Ok(())
     }
 
-    /// Gives the last key of the innermost object the value that is whole.
+    /// Gives the last key of the innermost object the complete value.
     pub(super) fn end_member(&mut self, values: usize, keys: usize) -> Result<(), AllocError>
         requires sound { IsSound self.old true }
         requires member { Innermost self.old (frame.Member values keys) }
@@ -289,7 +289,7 @@ impl Stack {
     {
         let mut members = self.take_map();
         let count = self.values.len() - values;
-        if make_room(&mut members, count).is_err()
+        if reserve_members(&mut members, count).is_err()
             || self.fill(&mut members, values, keys).is_err()
         {
             JsonValue::Object(members).dismantle();
@@ -383,8 +383,8 @@ impl Stack {
         ensures values { OnOk result (self.new.values.items ≡ take values self.old.values.items) }
         ensures keys { OnOk result (self.new.keys.items ≡ take keys self.old.keys.items) }
     {
-        turn_around(&mut self.keys, keys);
-        turn_around(&mut self.values, values);
+        reverse_from(&mut self.keys, keys);
+        reverse_from(&mut self.values, values);
         while self.values.len() > values {
             let (Some(key), Some(value)) = (self.keys.pop(), self.values.pop()) else {
                 unreachable!()
@@ -403,8 +403,8 @@ impl Stack {
     }
 }
 
-/// Puts the elements from this place on in the opposite order.
-fn turn_around<T>(elements: &mut Vec<T>, from: usize)
+/// Reverses the elements from this place on.
+fn reverse_from<T>(elements: &mut Vec<T>, from: usize)
     requires { from ≤ length elements.old.items }
     ensures { elements.new.items
         ≡ take from elements.old.items ++ reverse (drop from elements.old.items) }
@@ -412,8 +412,8 @@ fn turn_around<T>(elements: &mut Vec<T>, from: usize)
     elements[from..].reverse();
 }
 
-/// Makes room in a map for so many members more, and for no others where it has none.
-fn make_room(members: &mut HashMap<String, JsonValue>, count: usize) -> Result<(), AllocError>
+/// Reserves capacity in a map for `count` more members, and no more than that where it has none yet.
+fn reserve_members(members: &mut HashMap<String, JsonValue>, count: usize) -> Result<(), AllocError>
     ensures { members_view members.new.entries ≡ members_view members.old.entries }
 {
     members.reserve(count)?;
@@ -423,7 +423,7 @@ fn make_room(members: &mut HashMap<String, JsonValue>, count: usize) -> Result<(
     Ok(())
 }
 
-/// Gives back the room of a map that its members do not need.
+/// Gives back the capacity of a map that its members do not need.
 fn trim(members: &mut HashMap<String, JsonValue>)
     ensures { members_view members.new.entries ≡ members_view members.old.entries }
 {

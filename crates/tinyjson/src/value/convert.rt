@@ -47,9 +47,9 @@ impl UnexpectedValue {
 /// `Unexpected JSON value: number. Expected string value`.
 impl fmt::Display for UnexpectedValue {
     ghost use Rattle.std.specs.Prelude.{Some};
-    ghost use Rattle.tinyjson.specs.Convert.{unexpected_words};
+    ghost use Rattle.tinyjson.specs.Convert.{unexpected_message};
 
-    ghost output = { λ e. Some (unexpected_words e) };
+    ghost output = { λ e. Some (unexpected_message e) };
 
     fn fmt<W: fmt::Write>(&self, f: &mut fmt::Formatter<W>) -> fmt::Result {
         let found = self.value.kind();

@@ -44,9 +44,9 @@ impl Index<usize> for JsonValue {
 /// The member at the key of an object.
 ///
 /// The caller shows that the value is an object that has the key; `get` and `contains_key` are the
-/// test. A part of a part is tested step by step, as below. A chain as `value["arr"][1]` is proved
-/// where the test is a function of the value whose contract says that the place is there: written
-/// out, the test names another result of the first index.
+/// test. A part of a part is tested step by step, as below. A chain such as `value["arr"][1]` can be
+/// proved only where the test is a function whose contract says that the place is there: a test written
+/// in place speaks of its own result of `value["arr"]`, not of the one that is indexed.
 ///
 /// ```
 /// let value = JsonValue::from(members);

@@ -1,4 +1,4 @@
--- Where a value is whole, and what the machine does with white space.
+-- Where a value is complete, and what the machine does with white space.
 use Rattle.std.proofs.Common.{◌≡◌, ℕ, Bool, true, false, List, [], ◌∷◌, ◌++◌, refl, cond, arith, nat_lt, ◌&&◌, ◌||◌, ◌==◌, not}
 use Rattle.std.specs.Prelude.{IsTrue, ⊤}
 use Rattle.std.specs.Char.{is_ascii_digit}
@@ -16,7 +16,7 @@ pub and_false : (b c : Bool) → (b ≡ true → c ≡ false) → (b && c) ≡ f
 and_false true c h = h refl
 and_false false c h = refl
 
--- what comes of the rest once a value is whole
+-- what comes of the rest once a value is complete
 abbrev pub settle : Rules → Next → List ℕ → Outcome
 settle r (next fs p) rest = run r fs p rest
 settle r (stop k b) rest = refused k rest
@@ -26,7 +26,7 @@ pub settle_cond : (r : Rules) (b : Bool) (k : JsonParseErrorKind) (fs : List Fra
 settle_cond r true k fs p c xs = refl
 settle_cond r false k fs p c xs = refl
 
--- a character that makes a value whole
+-- a character that completes a value
 pub settle_complete : (r : Rules) (b : Bool) (fs : List Frame) (t : Tree) (c : ℕ) (xs : List ℕ) →
     go_on (λ gs q. run r gs q xs) (complete b fs t true) (c ∷ xs) xs ≡ settle r (complete b fs t true) xs
 settle_complete r b [] t c xs = refl
@@ -34,7 +34,7 @@ settle_complete r b (in_array ts ∷ fs) t c xs = refl
 settle_complete r b (at_key ms ∷ fs) t c xs = settle_cond r (b && not (is_string t)) (KeyNotString (kind_of t)) (at_key ms ∷ fs) (colon (key_of t)) c xs
 settle_complete r b (at_value ms k ∷ fs) t c xs = refl
 
--- a character after a whole numeral
+-- a character after a complete numeral
 ends_cond : (r : Rules) (b : Bool) (k : JsonParseErrorKind) (fs : List Frame) (l : List ℕ) (c : ℕ) (xs : List ℕ) →
     go_on (λ gs q. run r gs q xs) (then_step r (cond b (stop k false) (next fs (colon l))) c) (c ∷ xs) xs ≡ settle r (cond b (stop k true) (next fs (colon l))) (c ∷ xs)
 unfolding run step
@@ -49,7 +49,7 @@ ends_complete r b (in_array ts ∷ fs) t c xs = refl
 ends_complete r b (at_key ms ∷ fs) t c xs = ends_cond r (b && not (is_string t)) (KeyNotString (kind_of t)) (at_key ms ∷ fs) (key_of t) c xs
 ends_complete r b (at_value ms k ∷ fs) t c xs = refl
 
--- the end after a whole numeral
+-- the end after a complete numeral
 end_cond : (r : Rules) (b : Bool) (k : JsonParseErrorKind) (fs : List Frame) (l : List ℕ) →
     end_plain (cond b (stop k false) (next fs (colon l))) ≡ settle r (cond b (stop k true) (next fs (colon l))) []
 unfolding run end

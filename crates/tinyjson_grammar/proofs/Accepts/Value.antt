@@ -33,7 +33,7 @@ pub text_begins : (s : Syntax) → IsSpelled s → Begins (text s)
 text_begins null h = (_, _, refl, (refl, refl, refl))
 text_begins (boolean true) h = (_, _, refl, (refl, refl, refl))
 text_begins (boolean false) h = (_, _, refl, (refl, refl, refl))
-text_begins (number n) h = numeral_begins n.negative n.whole _ h.some_digit h.whole
+text_begins (number n) h = numeral_begins n.negative n.integer _ h.some_digit h.integer
 text_begins (string ps) h = (_, _, refl, (refl, refl, refl))
 text_begins (empty_array w) h = (_, _, refl, (refl, refl, refl))
 text_begins (array es) h = (_, _, refl, (refl, refl, refl))
@@ -81,8 +81,8 @@ first_pairs r ms fs (pair a k b c s d ps) xs h = rw (pair_assoc a (text k) b c (
 
 -- ---- room for the containers
 
-abbrev pub HasRoom : Rules → List Frame → ℕ → Type 0
-HasRoom r fs n = IsWithin r.limit (length fs + n)
+abbrev pub FitsDepth : Rules → List Frame → ℕ → Type 0
+FitsDepth r fs n = IsWithin r.limit (length fs + n)
 
 pub fits_within : (limit : Option ℕ) (k n : ℕ) → IsWithin limit (k + (1 + n)) → fits limit k ≡ true
 fits_within None k n h = refl
@@ -133,7 +133,7 @@ key_and_colon r ms fs k b xs f h = rw (fine_key r k f) (colon_white r (at_key ms
 mutual
   unfolding run step
 
-  pub run_value : (s : Syntax) (r : Rules) (fs : List Frame) (xs : List ℕ) → IsSpelled s → (r.strict ≡ true → IsStrict s) → HasRoom r fs (depth s) → Ends s xs →
+  pub run_value : (s : Syntax) (r : Rules) (fs : List Frame) (xs : List ℕ) → IsSpelled s → (r.strict ≡ true → IsStrict s) → FitsDepth r fs (depth s) → Ends s xs →
       run r fs awaited (text s ++ xs) ≡ settle r (complete r.strict fs (tree_of s) true) xs
   run_value null r fs xs h f m d = settle_complete r r.strict fs tree.null 108 xs
   run_value (boolean true) r fs xs h f m d = settle_complete r r.strict fs (tree.boolean true) 101 xs
@@ -149,7 +149,7 @@ mutual
   run_value (object ps) r fs xs h f m d = rw (append_assoc (pairs_text ps) (125 ∷ []) xs, fits_within r.limit (length fs) (pairs_depth ps) m)
       (first_pairs r tree.no_members fs ps (125 ∷ xs) h ∙ run_pairs ps r tree.no_members fs xs h f (within_le r.limit _ _ m (omega arith)))
 
-  run_elements : (es : Elements) (r : Rules) (ts : List tree.Tree) (fs : List Frame) (xs : List ℕ) → AreElements es → (r.strict ≡ true → ElementsAreStrict es) → HasRoom r (in_array ts ∷ fs) (elements_depth es) →
+  run_elements : (es : Elements) (r : Rules) (ts : List tree.Tree) (fs : List Frame) (xs : List ℕ) → AreElements es → (r.strict ≡ true → ElementsAreStrict es) → FitsDepth r (in_array ts ∷ fs) (elements_depth es) →
       run r (in_array ts ∷ fs) awaited (elements_text es ++ 93 ∷ xs) ≡ settle r (complete r.strict fs (tree.array (tree.items_of (ts ++ elements_trees es))) true) xs
   run_elements (last_element v s w) r ts fs xs h f m = rw (last_element_assoc v (text s) w (93 ∷ xs))
       (run_white r (in_array ts ∷ fs) v _ h.0
@@ -162,7 +162,7 @@ mutual
       ∙ after_white r (in_array (ts ++ tree_of s ∷ []) ∷ fs) w (44 ∷ (elements_text es ++ 93 ∷ xs)) h.2
       ∙ rw (append_assoc ts (tree_of s ∷ []) (elements_trees es)) at (run_elements es r (ts ++ tree_of s ∷ []) fs xs h.3 (λ e. (f e).1) (within_le r.limit _ _ m (omega arith))))
 
-  run_pairs : (ps : Pairs) (r : Rules) (ms : tree.Members) (fs : List Frame) (xs : List ℕ) → ArePairs ps → (r.strict ≡ true → PairsAreStrict ps) → HasRoom r (at_key ms ∷ fs) (pairs_depth ps) →
+  run_pairs : (ps : Pairs) (r : Rules) (ms : tree.Members) (fs : List Frame) (xs : List ℕ) → ArePairs ps → (r.strict ≡ true → PairsAreStrict ps) → FitsDepth r (at_key ms ∷ fs) (pairs_depth ps) →
       run r (at_key ms ∷ fs) awaited (pairs_text ps ++ 125 ∷ xs) ≡ settle r (complete r.strict fs (tree.object (pairs_members ms ps)) true) xs
   run_pairs (last_pair a k b c s d) r ms fs xs h f m = rw (last_pair_assoc a (text k) b c (text s) d (125 ∷ xs))
       (run_white r (at_key ms ∷ fs) a _ h.0

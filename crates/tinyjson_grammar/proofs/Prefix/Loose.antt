@@ -5,7 +5,7 @@ use Rattle.std.specs.Char.{is_ascii_digit}
 use Rattle.tinyjson_number.specs.Numeral.{Numeral, has_leading_zero, in_range, value}
 use Rattle.tinyjson_grammar.specs.Tree.{Tree, Members, key_of, is_string, array, object, string, number, items_of}
 use Rattle.tinyjson_grammar.specs.Characters.{is_white, short_escape, decode, paired}
-use Rattle.tinyjson_grammar.specs.Machine.{Frame, in_array, at_key, at_value, Phase, first, awaited, literal, digits, quoted, colon, after, finished, Stage, minus, whole, point, fraction, letter, sign, exponent, Within, plain, backslash, hex, Next, next, stop, complete, finish, step, step_plain, step_first, step_after, step_literal, step_quoted, step_escape, step_digits, then_step, unless_ended}
+use Rattle.tinyjson_grammar.specs.Machine.{Frame, in_array, at_key, at_value, Phase, first, awaited, literal, digits, quoted, colon, after, finished, Stage, minus, integer, point, fraction, letter, sign, exponent, Within, plain, backslash, hex, Next, next, stop, complete, finish, step, step_plain, step_first, step_after, step_literal, step_quoted, step_escape, step_digits, then_step, unless_ended}
 use Rattle.tinyjson_grammar.specs.declared.kind.JsonKind.{JsonKind}
 use Rattle.tinyjson_grammar.specs.declared.error.JsonParseErrorKind.{JsonParseErrorKind}
 use Rattle.tinyjson_grammar.specs.declared.error.JsonParseErrorKind.TheVariants.{KeyNotString, InvalidUtf16, LeadingZero, NumberOutOfRange}
@@ -20,7 +20,7 @@ is_own LeadingZero = true
 is_own NumberOutOfRange = true
 is_own _ = false
 
--- after a key that is no string the loose machine awaits the colon
+-- after a key that is not a string the loose machine awaits the colon
 abbrev pub GoesOn : JsonParseErrorKind → Next → Type 0
 GoesOn (KeyNotString k) m = (fs : List Frame) × (ms : Members) × (l : List ℕ) × (m ≡ next (at_key ms ∷ fs) (colon l))
 GoesOn _ m = ⊤
@@ -121,7 +121,7 @@ moves_own false k o h = same_moves o
 
 same_digits : (limit : Option ℕ) (fs : List Frame) (s : Stage) (n : Numeral) (c : ℕ) → Same_moves (step_digits (rules true limit) fs s n c) (step_digits (rules false limit) fs s n c)
 same_digits limit fs minus n c = same_moves _
-same_digits limit fs whole n c = moves_cond (is_ascii_digit c) _ _ _ _ (same_moves _) (moves_own (has_leading_zero n.whole) LeadingZero _ refl)
+same_digits limit fs integer n c = moves_cond (is_ascii_digit c) _ _ _ _ (same_moves _) (moves_own (has_leading_zero n.integer) LeadingZero _ refl)
 same_digits limit fs point n c = same_moves _
 same_digits limit fs fraction n c = same_moves _
 same_digits limit fs letter n c = same_moves _
@@ -164,7 +164,7 @@ same_key : (m m' : Next) (k : JsonKind) → Same m m' → m ≡ stop (KeyNotStri
 same_key _ _ k (same m) e = inl e
 same_key _ _ k (own j d m o g) e = let a : j ≡ KeyNotString k = cc in let b : d ≡ true = cc in inr (subst (λ x. GoesOn x m) a (g b))
 
--- where the strict machine stops at a key that is no string, the loose one awaits the colon
+-- where the strict machine stops at a key that is not a string, the loose one awaits the colon
 pub strict_key : (limit : Option ℕ) (fs : List Frame) (p : Phase) (c : ℕ) (k : JsonKind) → step (rules true limit) fs p c ≡ stop (KeyNotString k) true →
     (step (rules false limit) fs p c ≡ stop (KeyNotString k) true) ⊎ GoesOn (KeyNotString k) (step (rules false limit) fs p c)
 strict_key limit fs p c k e = same_key _ _ k (same_step limit fs p c) e

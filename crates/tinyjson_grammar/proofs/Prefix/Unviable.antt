@@ -7,11 +7,11 @@ use Rattle.tinyjson_grammar.specs.Tree as tree
 use Rattle.tinyjson_number.specs.Numeral.{Numeral, has_leading_zero, in_range, value, is_exponent_letter}
 use Rattle.tinyjson_grammar.specs.Syntax.{Syntax, text, is_key, tree_of, depth}
 use Rattle.tinyjson_grammar.specs.Prefix.{IsValue, IsCutOffText, cut_off_text}
-use Rattle.tinyjson_grammar.specs.Machine.{Rules, Frame, at_key, awaited, Next, next, stop, accepted, refused, complete, step, run, end, end_digits, step_digits, finish, unless_ended, go_on, digits, Stage, minus, whole, point, fraction, letter, sign, exponent}
+use Rattle.tinyjson_grammar.specs.Machine.{Rules, Frame, at_key, awaited, Next, next, stop, accepted, refused, complete, step, run, end, end_digits, step_digits, finish, unless_ended, go_on, digits, Stage, minus, integer, point, fraction, letter, sign, exponent}
 use Rattle.tinyjson_grammar.specs.declared.error.JsonParseErrorKind.{JsonParseErrorKind}
 use Rattle.tinyjson_grammar.specs.declared.error.JsonParseErrorKind.TheVariants.{KeyNotString, NumberOutOfRange, LeadingZero}
 use Rattle.tinyjson_grammar.proofs.Accepts.Runs.{run_white}
-use Rattle.tinyjson_grammar.proofs.Accepts.Value.{run_value, HasRoom, Ends, ends, string_key}
+use Rattle.tinyjson_grammar.proofs.Accepts.Value.{run_value, FitsDepth, Ends, ends, string_key}
 use Rattle.tinyjson_grammar.proofs.Trace.Paths.{within_le}
 use Rattle.tinyjson_grammar.proofs.Accepts.Text.{rules, no_text}
 use Rattle.tinyjson_grammar.proofs.Prefix.CutOff.{BadKey, with_bad_key}
@@ -31,7 +31,7 @@ move_some fs b x y p q = cond_both b x y (λ n. Move fs (Some n)) (λ _. p) (λ 
 
 move : (r : Rules) (fs : List Frame) (s : Stage) (n : Numeral) (c : ℕ) → Move fs (step_digits r fs s n c)
 move r fs minus n c = move_some fs (is_ascii_digit c) _ _ (goes _ _) (stops _)
-move r fs whole n c = move_cond fs (is_ascii_digit c) _ _ (goes _ _) (move_cond fs (r.strict && has_leading_zero n.whole) _ _ (stops _) (move_cond fs (c == 46) _ _ (goes _ _) (move_cond fs (is_exponent_letter c) _ _ (goes _ _) ends_here)))
+move r fs integer n c = move_cond fs (is_ascii_digit c) _ _ (goes _ _) (move_cond fs (r.strict && has_leading_zero n.integer) _ _ (stops _) (move_cond fs (c == 46) _ _ (goes _ _) (move_cond fs (is_exponent_letter c) _ _ (goes _ _) ends_here)))
 move r fs point n c = move_some fs (is_ascii_digit c) _ _ (goes _ _) (stops _)
 move r fs fraction n c = move_cond fs (is_ascii_digit c) _ _ (goes _ _) (move_cond fs (is_exponent_letter c) _ _ (goes _ _) ends_here)
 move r fs letter n c = move_some fs (is_ascii_digit c) _ _ (goes _ _) (move_some fs ((c == 43) || (c == 45)) _ _ (goes _ _) (stops _))
@@ -50,7 +50,7 @@ finish_key r ms fs n h = rw h (stopped (not (in_range (value n))))
 
 end_key : (r : Rules) (ms : tree.Members) (fs : List Frame) (s : Stage) (n : Numeral) (t : tree.Tree) → r.strict ≡ true → end_digits r (at_key ms ∷ fs) s n ≡ accepted t → ⊥
 end_key r ms fs minus n t h e = cc
-end_key r ms fs whole n t h e = cond_both (r.strict && has_leading_zero n.whole) _ _ (λ o. o ≡ accepted t → ⊥) (λ _. no_text _ _ t) (λ _. no_text _ _ t) (rw (finish_key r ms fs n h).1 at e)
+end_key r ms fs integer n t h e = cond_both (r.strict && has_leading_zero n.integer) _ _ (λ o. o ≡ accepted t → ⊥) (λ _. no_text _ _ t) (λ _. no_text _ _ t) (rw (finish_key r ms fs n h).1 at e)
 end_key r ms fs point n t h e = cc
 end_key r ms fs fraction n t h e = no_text _ _ t (rw (finish_key r ms fs n h).1 at e)
 end_key r ms fs letter n t h e = cc
@@ -76,25 +76,25 @@ zero_more [] d h = absurd (false≢true h)
 zero_more (a ∷ []) d h = absurd (false≢true h)
 zero_more (a ∷ b ∷ w) d h = h
 
-zero_keeps : (b : Bool) (r : Rules) (fs : List Frame) (n m : Numeral) (t : tree.Tree) (c : ℕ) (cs : List ℕ) → (run r fs (digits whole m) cs ≡ accepted t → ⊥) →
-    go_on (λ gs q. run r gs q cs) (unless_ended r fs n c (cond b (Some (next fs (digits whole m))) (Some (stop LeadingZero false)))) (c ∷ cs) cs ≡ accepted t → ⊥
+zero_keeps : (b : Bool) (r : Rules) (fs : List Frame) (n m : Numeral) (t : tree.Tree) (c : ℕ) (cs : List ℕ) → (run r fs (digits integer m) cs ≡ accepted t → ⊥) →
+    go_on (λ gs q. run r gs q cs) (unless_ended r fs n c (cond b (Some (next fs (digits integer m))) (Some (stop LeadingZero false)))) (c ∷ cs) cs ≡ accepted t → ⊥
 zero_keeps true r fs n m t c cs g e = g e
 zero_keeps false r fs n m t c cs g e = cc
 
-pub zero_unviable : (ys : List ℕ) (r : Rules) (fs : List Frame) (n : Numeral) (t : tree.Tree) → r.strict ≡ true → has_leading_zero n.whole ≡ true → run r fs (digits whole n) ys ≡ accepted t → ⊥
+pub zero_unviable : (ys : List ℕ) (r : Rules) (fs : List Frame) (n : Numeral) (t : tree.Tree) → r.strict ≡ true → has_leading_zero n.integer ≡ true → run r fs (digits integer n) ys ≡ accepted t → ⊥
 unfolding run step end
 zero_unviable [] r fs n t h z e = no_text _ _ t (rw (h, z) at e)
 zero_unviable (c ∷ cs) r fs n t h z e =
-    let b : (r.strict && has_leading_zero n.whole) ≡ true = rw (h, z) in
-    zero_keeps (is_ascii_digit c) r fs n (record n { whole = n.whole ++ c ∷ [] }) t c cs (zero_unviable cs r fs (record n { whole = n.whole ++ c ∷ [] }) t h (zero_more n.whole c z)) (rw b at e)
+    let b : (r.strict && has_leading_zero n.integer) ≡ true = rw (h, z) in
+    zero_keeps (is_ascii_digit c) r fs n (record n { integer = n.integer ++ c ∷ [] }) t c cs (zero_unviable cs r fs (record n { integer = n.integer ++ c ∷ [] }) t h (zero_more n.integer c z)) (rw b at e)
 
--- ---- a key that is no string
+-- ---- a key that is not a string
 
-pub refused_key : (r : Rules) (ms : tree.Members) (fs : List Frame) (s : Syntax) (ys : List ℕ) → r.strict ≡ true → IsValue s → is_key s ≡ false → HasRoom r (at_key ms ∷ fs) (depth s) → Ends s ys →
+pub refused_key : (r : Rules) (ms : tree.Members) (fs : List Frame) (s : Syntax) (ys : List ℕ) → r.strict ≡ true → IsValue s → is_key s ≡ false → FitsDepth r (at_key ms ∷ fs) (depth s) → Ends s ys →
     run r (at_key ms ∷ fs) awaited (text s ++ ys) ≡ refused (KeyNotString (kind_of (tree_of s))) ys
 refused_key r ms fs s ys h v b m d = run_value s r (at_key ms ∷ fs) ys v.spelled (λ e. v.strict) m d ∙ rw (h, string_key s, b)
 
--- ---- texts that end with their first key that is no string
+-- ---- texts that end with their first key that is not a string
 
 pub cut_off_key : (limit : Option ℕ) (xs : List ℕ) (h : IsCutOffText limit xs) → BadKey (rules true limit) [] h.cut_off
 cut_off_key limit xs h = with_bad_key h.cut_off (rules true limit) [] h.is_cut_off (within_le limit _ _ h.shallow (omega arith))
@@ -106,7 +106,7 @@ cut_off_reads limit xs h ys = ap (λ zs. run (rules true limit) [] awaited (zs +
 pub cut_off_refused : (limit : Option ℕ) (xs : List ℕ) (h : IsCutOffText limit xs) (ys : List ℕ) → Ends (cut_off_key limit xs h).key ys →
     run (rules true limit) [] awaited (xs ++ ys) ≡ refused (KeyNotString (kind_of (tree_of (cut_off_key limit xs h).key))) ys
 cut_off_refused limit xs h ys d = let b = cut_off_key limit xs h in
-    cut_off_reads limit xs h ys ∙ refused_key (rules true limit) b.members b.frames b.key ys refl b.value b.no_string b.room d
+    cut_off_reads limit xs h ys ∙ refused_key (rules true limit) b.members b.frames b.key ys refl b.value b.no_string b.fits_depth d
 
 -- the end after it
 pub cut_off_end : (limit : Option ℕ) (xs : List ℕ) → IsCutOffText limit xs → (t : tree.Tree) × (run (rules true limit) [] awaited xs ≡ refused (KeyNotString (kind_of t)) [])

@@ -6,7 +6,7 @@ use Rattle.tinyjson_grammar.specs.Prefix.{IsLooselyViable}
 use Rattle.tinyjson_grammar.specs.Refusal.{AwaitsValue, BeginsAt}
 use Rattle.tinyjson_grammar.proofs.Trace.Paths.{Path, outside, item_in, key_in, value_in, path_text, IsPath}
 use Rattle.tinyjson_grammar.proofs.Trace.State.{ends_loosely, are_white_append}
-use Rattle.tinyjson_grammar.proofs.Prefix.Viable.{faultless_place}
+use Rattle.tinyjson_grammar.proofs.Prefix.Viable.{error_free_place}
 
 -- one more white character
 abbrev pub whiter : Path → ℕ → Path
@@ -30,8 +30,8 @@ whiter_path limit (value_in p ps a k b w) h c hc = (h.0, h.1, h.2, h.3, h.4, h.5
 pub awaits_value : (limit : Option ℕ) (p : Path) → IsPath limit p → AwaitsValue limit (path_text p)
 awaits_value limit p hp =
     let a : IsLooselyViable limit (path_text (whiter p 10) ++ 34 ∷ []) = ends_loosely limit (whiter p 10) (whiter_path limit p hp 10 refl) (34 ∷ []) (record { value = Syntax.string []; spelled = tt; flat = refl; rest = 34 ∷ []; whole = refl }) in
-    (faultless_place limit p hp, subst (IsLooselyViable limit) (ap (λ xs. xs ++ 34 ∷ []) (sym (whiter_text p 10)) ∙ append_assoc (path_text p) (10 ∷ []) (34 ∷ [])) a)
+    (error_free_place limit p hp, subst (IsLooselyViable limit) (ap (λ xs. xs ++ 34 ∷ []) (sym (whiter_text p 10)) ∙ append_assoc (path_text p) (10 ∷ []) (34 ∷ [])) a)
 
 -- what stands after the place begins there
 pub begins_at : (limit : Option ℕ) (p : Path) → IsPath limit p → (used token : List ℕ) → used ≡ path_text p ++ token → BeginsAt limit used token
-begins_at limit p hp used token e = record { front = path_text p; whole = e; awaited = awaits_value limit p hp }
+begins_at limit p hp used token e = record { prefix = path_text p; whole = e; awaited = awaits_value limit p hp }

@@ -11,18 +11,18 @@ use Rattle.tinyjson_number.specs.Numeral.{has_leading_zero, value, in_range}
 use Rattle.tinyjson_grammar.specs.Grammar.{IsText}
 use Rattle.tinyjson_grammar.specs.declared.error.JsonParseErrorKind.TheVariants.{UnexpectedEof, UnexpectedInLiteral}
 use Rattle.tinyjson_grammar.proofs.Trace.Paths.{Path, outside, item_in, key_in, value_in, path_text, path_frames, IsPath, within_le, members_from}
-use Rattle.tinyjson_grammar.proofs.Trace.State.{Part, part_point, part_fraction, part_letter, part_sign, part_exponent, part_text, part_stage, part_numeral, IsPart, Ranges, Read, at_first, at_awaited, in_literal, in_digits, in_quoted, at_after, part_minus, part_whole, read_text, read_frames, read_phase, IsRead, IsWithinLiteral, flat_within, quads, within_text, IsPartWithin}
-use Rattle.tinyjson_grammar.proofs.Prefix.Viable.{faultless_value, read_viable, read_prompt}
+use Rattle.tinyjson_grammar.proofs.Trace.State.{Part, part_point, part_fraction, part_letter, part_sign, part_exponent, part_text, part_stage, part_numeral, IsPart, Ranges, Read, at_first, at_awaited, in_literal, in_digits, in_quoted, at_after, part_minus, part_integer, read_text, read_frames, read_phase, IsRead, IsWithinLiteral, flat_within, quads, within_text, IsPartWithin}
+use Rattle.tinyjson_grammar.proofs.Prefix.Viable.{error_free_value, read_viable, read_prompt}
 use Rattle.tinyjson_grammar.proofs.Step.Statement.{Follows, at_code, key_says, NoQuoteFrom, Denies}
 use Rattle.tinyjson_grammar.proofs.Step.Awaits.{begins_at, awaits_value}
 use Rattle.tinyjson_grammar.proofs.Accepts.Text.{no_text}
 use Rattle.tinyjson_grammar.proofs.Step.Value.{complete_follows, after_follows, quote_after, closed_array, closed_object, taken_key}
 use Rattle.std.specs.Prelude.{⊤}
 use Rattle.tinyjson_grammar.specs.Refusal.{KindSays, IsLiteral, NeedsMore, BeginsEscape}
-use Rattle.tinyjson_grammar.specs.Prefix.{IsFaultless}
+use Rattle.tinyjson_grammar.specs.Prefix.{IsErrorFree}
 use Rattle.tinyjson_grammar.specs.Machine
 use Rattle.tinyjson_grammar.proofs.Prefix.Unviable.{key_unviable}
-use Rattle.tinyjson_grammar.proofs.Step.Number.{digits_follows, minus_says, zero_says, point_says, letter_says, sign_says, range_says, IsDone, done_value, whole_done, fraction_done, exponent_done}
+use Rattle.tinyjson_grammar.proofs.Step.Number.{digits_follows, minus_says, zero_says, point_says, letter_says, sign_says, range_says, IsDone, done_value, integer_done, fraction_done, exponent_done}
 use Rattle.tinyjson_grammar.proofs.Step.String.{quoted_follows, in_string}
 use Rattle.tinyjson_grammar.proofs.Step.First.{at_first_follows, awaited_follows}
 
@@ -65,9 +65,9 @@ literal_says limit p hp s done l left h c hc more d x = (
   ),
   (
     record {
-      front = path_text p ++ done;
+      prefix = path_text p ++ done;
       ends = refl;
-      faultless = faultless_value limit p hp s h.value h.flat done (l ∷ left) h.whole;
+      error_free = error_free_value limit p hp s h.value h.flat done (l ∷ left) h.whole;
       no_string = d.no_quote (quote_literal limit (path_frames p) l left (tree_of s) (literal_no_quote s done l left h));
     },
     x.loosely refl,
@@ -157,9 +157,9 @@ number_ends : Ranges → (limit : Option ℕ) (p : Path) → IsPath limit p → 
 number_ends ranges limit (outside w) hp n hn h e =
     subst (λ xs. IsText limit (w ++ xs) (tree.number (value (part_numeral n)))) (append-nil _ ∙ sym h.whole) (ends_text limit w (Syntax.number (part_numeral n)) [] (hp, done_value n h e, tt, flat_within limit (outside w) (Syntax.number (part_numeral n)) hp refl, tt))
 number_ends ranges limit (item_in p es w) hp n hn h e =
-    let a : IsFaultless limit ((path_text (item_in p es w) ++ (text (Syntax.number (part_numeral n)) ++ [])) ++ 93 ∷ []) =
+    let a : IsErrorFree limit ((path_text (item_in p es w) ++ (text (Syntax.number (part_numeral n)) ++ [])) ++ 93 ∷ []) =
     closed_array limit p es w (Syntax.number (part_numeral n)) [] (hp, done_value n h e, tt, flat_within limit (item_in p es w) (Syntax.number (part_numeral n)) hp refl, tt) in
-    let b : IsFaultless limit ((path_text (item_in p es w) ++ part_text n) ++ 93 ∷ []) = subst (λ xs. IsFaultless limit ((path_text (item_in p es w) ++ xs) ++ 93 ∷ [])) (append-nil _ ∙ sym h.whole) a in
+    let b : IsErrorFree limit ((path_text (item_in p es w) ++ part_text n) ++ 93 ∷ []) = subst (λ xs. IsErrorFree limit ((path_text (item_in p es w) ++ xs) ++ 93 ∷ [])) (append-nil _ ∙ sym h.whole) a in
     (refl, (λ x. eof_says ranges limit (in_digits (item_in p es w) n) (hp, hn) (inr (inr (inr (inr (inl b)))))))
 number_ends ranges limit (key_in p ps w) hp n hn h e = (
   refl,
@@ -167,9 +167,9 @@ number_ends ranges limit (key_in p ps w) hp n hn h e = (
       (x.unviable (λ ys t. key_unviable ys (strictly limit) (members_from no_members ps) (path_frames p) (part_stage n) (part_numeral n) t refl))),
 )
 number_ends ranges limit (value_in p ps a k b w) hp n hn h e =
-    let x : IsFaultless limit ((path_text (value_in p ps a k b w) ++ (text (Syntax.number (part_numeral n)) ++ [])) ++ 125 ∷ []) =
+    let x : IsErrorFree limit ((path_text (value_in p ps a k b w) ++ (text (Syntax.number (part_numeral n)) ++ [])) ++ 125 ∷ []) =
     closed_object limit p ps a k b w (Syntax.number (part_numeral n)) [] (hp, done_value n h e, tt, flat_within limit (value_in p ps a k b w) (Syntax.number (part_numeral n)) hp refl, tt) in
-    let y : IsFaultless limit ((path_text (value_in p ps a k b w) ++ part_text n) ++ 125 ∷ []) = subst (λ xs. IsFaultless limit ((path_text (value_in p ps a k b w) ++ xs) ++ 125 ∷ [])) (append-nil _ ∙ sym h.whole) x in
+    let y : IsErrorFree limit ((path_text (value_in p ps a k b w) ++ part_text n) ++ 125 ∷ []) = subst (λ xs. IsErrorFree limit ((path_text (value_in p ps a k b w) ++ xs) ++ 125 ∷ [])) (append-nil _ ∙ sym h.whole) x in
     (refl, (λ u. eof_says ranges limit (in_digits (value_in p ps a k b w) n) (hp, hn) (inr (inr (inr (inr (inr y)))))))
 
 finish_ends : Ranges → (limit : Option ℕ) (p : Path) → IsPath limit p → (n : Part) → IsPart n → IsDone n → EndsPlain limit (path_text p ++ part_text n) (path_frames p) (digits (part_stage n) (part_numeral n)) (finish (strictly limit) (path_frames p) (part_numeral n))
@@ -179,8 +179,8 @@ finish_ends ranges limit p hp n hn h =
 
 digits_end : Ranges → (limit : Option ℕ) (p : Path) → IsPath limit p → (n : Part) → IsPart n → Ends limit (path_text p ++ part_text n) (path_frames p) (digits (part_stage n) (part_numeral n)) (end_digits (strictly limit) (path_frames p) (part_stage n) (part_numeral n))
 digits_end ranges limit p hp part_minus h = (refl, (λ x. minus_says ranges limit p hp [] tt x))
-digits_end ranges limit p hp (part_whole b d ds) h =
-    cond_both (has_leading_zero (d ∷ ds)) _ _ (Ends limit _ _ _) (λ e. (refl, (λ x. zero_says ranges limit p hp b d ds h e [] tt x))) (λ e. finish_ends ranges limit p hp (part_whole b d ds) h (whole_done b d ds (h, e)))
+digits_end ranges limit p hp (part_integer b d ds) h =
+    cond_both (has_leading_zero (d ∷ ds)) _ _ (Ends limit _ _ _) (λ e. (refl, (λ x. zero_says ranges limit p hp b d ds h e [] tt x))) (λ e. finish_ends ranges limit p hp (part_integer b d ds) h (integer_done b d ds (h, e)))
 digits_end ranges limit p hp (part_point b d ds) h = (refl, (λ x. point_says ranges limit p hp b d ds h [] tt x))
 digits_end ranges limit p hp (part_fraction b d ds e es) h = finish_ends ranges limit p hp (part_fraction b d ds e es) h (fraction_done b d ds e es h)
 digits_end ranges limit p hp (part_letter b d ds f l) h = (refl, (λ x. letter_says ranges limit p hp b d ds f l h [] tt x))

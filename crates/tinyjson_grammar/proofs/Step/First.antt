@@ -9,7 +9,7 @@ use Rattle.tinyjson_grammar.specs.Syntax.{Syntax, null, empty_array, empty_objec
 use Rattle.tinyjson_grammar.specs.Machine
 use Rattle.tinyjson_grammar.specs.Refusal.{begins_value}
 use Rattle.tinyjson_grammar.proofs.Trace.Paths.{Path, outside, item_in, key_in, value_in, path_text, path_frames, level, IsPath}
-use Rattle.tinyjson_grammar.proofs.Trace.State.{at_first, at_awaited, in_literal, in_digits, in_quoted, part_minus, part_whole, IsFresh, IsWithinLiteral, Spells}
+use Rattle.tinyjson_grammar.proofs.Trace.State.{at_first, at_awaited, in_literal, in_digits, in_quoted, part_minus, part_integer, IsFresh, IsWithinLiteral, Spells}
 use Rattle.tinyjson_grammar.proofs.Step.Awaits.{whiter, whiter_text, whiter_path, awaits_value}
 use Rattle.tinyjson_grammar.proofs.Step.Statement.{Follows, either, at_code}
 use Rattle.tinyjson_grammar.proofs.Step.Value.{complete_follows}
@@ -65,7 +65,7 @@ start_follows limit p hp c hw fs a =
     at_code limit _ _ _ c 91 _ _ (λ e. push_follows limit p (item_in p [] []) (Machine.in_array []) c hp (inl e) refl (ap (λ x. path_text p ++ x ∷ []) e) tt (λ i. (hp, tt, tt, i)) fs a) (λ h4.
     at_code limit _ _ _ c 123 _ _ (λ e. push_follows limit p (key_in p [] []) (Machine.at_key no_members) c hp (inr e) refl (ap (λ x. path_text p ++ x ∷ []) e) tt (λ i. (hp, tt, tt, i)) fs a) (λ h5.
     at_code limit _ _ _ c 45 _ _ (λ e. record { read = in_digits p part_minus; is = (hp, tt); whole = ap (λ x. path_text p ++ x ∷ []) e; frames = refl; phase = refl }) (λ h6.
-    either limit _ _ _ c (is_ascii_digit c) _ _ (λ e. record { read = in_digits p (part_whole false c []); is = (hp, (e, tt)); whole = refl; frames = refl; phase = refl }) (λ h7 more d.
+    either limit _ _ _ c (is_ascii_digit c) _ _ (λ e. record { read = in_digits p (part_integer false c []); is = (hp, (e, tt)); whole = refl; frames = refl; phase = refl }) (λ h7 more d.
     (((more, refl), hw, none_begins c h0 h1 h2 h3 h4 h5 h6 h7), awaits_value limit p hp)))))))))
 
 pub white_follows : (limit : Option ℕ) (p : Path) → IsPath limit p → (c : ℕ) → IsTrue (is_white c) → Spells limit (path_text p ++ c ∷ []) (path_frames p) awaited

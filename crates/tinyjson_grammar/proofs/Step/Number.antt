@@ -11,8 +11,8 @@ use Rattle.tinyjson_grammar.specs.Prefix.{IsValue}
 use Rattle.tinyjson_grammar.specs.declared.error.JsonParseErrorKind.TheVariants.{EmptyInteger, LeadingZero, EmptyFraction, EmptyExponent, NumberOutOfRange}
 use Rattle.tinyjson_grammar.specs.Refusal.{KindSays, BeginsWithNone}
 use Rattle.tinyjson_grammar.proofs.Trace.Paths.{Path, outside, item_in, key_in, value_in, path_text, path_frames, IsPath, members_from}
-use Rattle.tinyjson_grammar.proofs.Trace.State.{Part, part_point, part_fraction, part_letter, part_sign, part_exponent, part_text, part_stage, part_numeral, IsPart, IsWholePart, Ranges, in_digits, part_minus, part_whole, Spells, flat_within, ends_loosely, exponent_with}
-use Rattle.tinyjson_grammar.proofs.Prefix.Viable.{part_ending, part_prompt, faultless_minus, faultless_point}
+use Rattle.tinyjson_grammar.proofs.Trace.State.{Part, part_point, part_fraction, part_letter, part_sign, part_exponent, part_text, part_stage, part_numeral, IsPart, IsIntegerPart, Ranges, in_digits, part_minus, part_integer, Spells, flat_within, ends_loosely, exponent_with}
+use Rattle.tinyjson_grammar.proofs.Prefix.Viable.{part_ending, part_prompt, error_free_minus, error_free_point}
 use Rattle.tinyjson_grammar.proofs.Step.Statement.{Follows, either, key_says, loosely, NoQuoteFrom, Denies}
 use Rattle.tinyjson_grammar.proofs.Step.Awaits.{begins_at}
 use Rattle.tinyjson_grammar.proofs.Prefix.Unviable.{key_unviable, zero_unviable}
@@ -31,7 +31,7 @@ quote_ends limit (value_in p ps a k b w) n ys t e = no_text _ _ t e
 pub quote_digits : (limit : Option ℕ) (p : Path) (n : Part) → NoQuoteFrom limit (path_frames p) (digits (part_stage n) (part_numeral n))
 unfolding run step
 quote_digits limit p part_minus ys t e = no_text _ _ t e
-quote_digits limit p (part_whole b d ds) ys t e = quote_ends limit p (numeral b (d ∷ ds) [] None) ys t e
+quote_digits limit p (part_integer b d ds) ys t e = quote_ends limit p (numeral b (d ∷ ds) [] None) ys t e
 quote_digits limit p (part_point b d ds) ys t e = no_text _ _ t e
 quote_digits limit p (part_fraction b d ds x xs) ys t e = quote_ends limit p (numeral b (d ∷ ds) (x ∷ xs) None) ys t e
 quote_digits limit p (part_letter b d ds f l) ys t e = no_text _ _ t e
@@ -46,16 +46,16 @@ DeniesPart limit p n = Denies limit (path_text p ++ part_text n) (path_frames p)
 
 module _ (ranges : Ranges) (limit : Option ℕ) (p : Path) (hp : IsPath limit p) where
   pub minus_says : (rest : List ℕ) → BeginsWithNone is_ascii_digit rest → DeniesPart limit p part_minus → KindSays limit EmptyInteger (path_text p ++ 45 ∷ []) rest
-  minus_says rest h x = ((begins_at limit p hp _ _ refl, h), (faultless_minus ranges limit p hp, (ends_loosely limit p hp _ (part_ending part_minus tt), x.no_quote (quote_digits limit p part_minus))))
+  minus_says rest h x = ((begins_at limit p hp _ _ refl, h), (error_free_minus ranges limit p hp, (ends_loosely limit p hp _ (part_ending part_minus tt), x.no_quote (quote_digits limit p part_minus))))
 
   pub zero_says : (b : Bool) (d : ℕ) (ds : List ℕ) → AreDigits (d ∷ ds) → IsTrue (has_leading_zero (d ∷ ds)) → (rest : List ℕ) → BeginsWithNone is_ascii_digit rest →
-      DeniesPart limit p (part_whole b d ds) → KindSays limit LeadingZero (path_text p ++ (minus_text b ++ d ∷ ds)) rest
+      DeniesPart limit p (part_integer b d ds) → KindSays limit LeadingZero (path_text p ++ (minus_text b ++ d ∷ ds)) rest
   zero_says b d ds h i rest e x =
-      ((b, d ∷ ds, i, h, begins_at limit p hp _ _ refl, e), (part_prompt ranges limit p hp (part_whole b d ds) h, (ends_loosely limit p hp _ (part_ending (part_whole b d ds) h), x.no_quote (quote_digits limit p (part_whole b d ds))), x.unviable (λ ys t. zero_unviable ys (strictly limit) (path_frames p) (numeral b (d ∷ ds) [] None) t refl i)))
+      ((b, d ∷ ds, i, h, begins_at limit p hp _ _ refl, e), (part_prompt ranges limit p hp (part_integer b d ds) h, (ends_loosely limit p hp _ (part_ending (part_integer b d ds) h), x.no_quote (quote_digits limit p (part_integer b d ds))), x.unviable (λ ys t. zero_unviable ys (strictly limit) (path_frames p) (numeral b (d ∷ ds) [] None) t refl i)))
 
-  pub point_says : (b : Bool) (d : ℕ) (ds : List ℕ) → IsWholePart d ds → (rest : List ℕ) → BeginsWithNone is_ascii_digit rest → DeniesPart limit p (part_point b d ds) → KindSays limit EmptyFraction (path_text p ++ (minus_text b ++ d ∷ (ds ++ 46 ∷ []))) rest
+  pub point_says : (b : Bool) (d : ℕ) (ds : List ℕ) → IsIntegerPart d ds → (rest : List ℕ) → BeginsWithNone is_ascii_digit rest → DeniesPart limit p (part_point b d ds) → KindSays limit EmptyFraction (path_text p ++ (minus_text b ++ d ∷ (ds ++ 46 ∷ []))) rest
   point_says b d ds h rest e x =
-      ((b, d ∷ ds, (h.0, omega arith, h.1), begins_at limit p hp _ _ refl, e), (faultless_point ranges limit p hp b d ds h, (ends_loosely limit p hp _ (part_ending (part_point b d ds) h), x.no_quote (quote_digits limit p (part_point b d ds)))))
+      ((b, d ∷ ds, (h.0, omega arith, h.1), begins_at limit p hp _ _ refl, e), (error_free_point ranges limit p hp b d ds h, (ends_loosely limit p hp _ (part_ending (part_point b d ds) h), x.no_quote (quote_digits limit p (part_point b d ds)))))
 
   pub letter_says : (b : Bool) (d : ℕ) (ds f : List ℕ) (l : ℕ) → IsPart (part_letter b d ds f l) → (rest : List ℕ) → BeginsWithNone (λ c. is_ascii_digit c || is_sign c) rest →
       DeniesPart limit p (part_letter b d ds f l) → KindSays limit EmptyExponent (path_text p ++ part_text (part_letter b d ds f l)) rest
@@ -71,14 +71,14 @@ module _ (ranges : Ranges) (limit : Option ℕ) (p : Path) (hp : IsPath limit p)
     (part_prompt ranges limit p hp (part_sign b d ds f l s) h, (ends_loosely limit p hp _ (part_ending (part_sign b d ds f l s) h), x.no_quote (quote_digits limit p (part_sign b d ds f l s)))),
   )
 
-  pub range_says : (n : Part) → IsPart n → IsNumeral (part_numeral n) → has_leading_zero (part_numeral n).whole ≡ false → part_text n ≡ spelling (part_numeral n) → in_range (value (part_numeral n)) ≡ false → (rest : List ℕ) → BeginsWithNone is_ascii_digit rest →
+  pub range_says : (n : Part) → IsPart n → IsNumeral (part_numeral n) → has_leading_zero (part_numeral n).integer ≡ false → part_text n ≡ spelling (part_numeral n) → in_range (value (part_numeral n)) ≡ false → (rest : List ℕ) → BeginsWithNone is_ascii_digit rest →
       DeniesPart limit p n → KindSays limit NumberOutOfRange (path_text p ++ part_text n) rest
   range_says n h i j t e rest nd x = ((part_numeral n, i, j, e, begins_at limit p hp _ _ (ap (λ xs. path_text p ++ xs) t), nd), (part_prompt ranges limit p hp n h, (ends_loosely limit p hp _ (part_ending n h), x.no_quote (quote_digits limit p n))))
 
 -- the number may end here
 pub record IsDone (n : Part) : Type 0 where
   pub numeral : IsNumeral (part_numeral n)
-  pub no_zero : has_leading_zero (part_numeral n).whole ≡ false
+  pub no_zero : has_leading_zero (part_numeral n).integer ≡ false
   pub whole : part_text n ≡ spelling (part_numeral n)
 
 pub done_value : (n : Part) → IsDone n → IsTrue (in_range (value (part_numeral n))) → IsValue (Syntax.number (part_numeral n))
@@ -113,27 +113,27 @@ unless_either limit used gs q c fs n b x y = cond_both b x y (λ o. Follows limi
 goes : (limit : Option ℕ) (p : Path) → IsPath limit p → (n m : Part) → IsPart m → (c : ℕ) → part_text m ≡ part_text n ++ c ∷ [] → Spells limit ((path_text p ++ part_text n) ++ c ∷ []) (path_frames p) (digits (part_stage m) (part_numeral m))
 goes limit p hp n m hm c e = record { read = in_digits p m; is = (hp, hm); whole = append_assoc (path_text p) (part_text n) (c ∷ []) ∙ ap (λ xs. path_text p ++ xs) (sym e); frames = refl; phase = refl }
 
-pub whole_done : (b : Bool) (d : ℕ) (ds : List ℕ) → IsWholePart d ds → IsDone (part_whole b d ds)
-whole_done b d ds h = record { numeral = record { whole = h.0; some_digit = omega arith; fraction = tt; exponent = tt }; no_zero = h.1; whole = ap (λ xs. minus_text b ++ d ∷ xs) (sym (append-nil ds)) }
+pub integer_done : (b : Bool) (d : ℕ) (ds : List ℕ) → IsIntegerPart d ds → IsDone (part_integer b d ds)
+integer_done b d ds h = record { numeral = record { integer = h.0; some_digit = omega arith; fraction = tt; exponent = tt }; no_zero = h.1; whole = ap (λ xs. minus_text b ++ d ∷ xs) (sym (append-nil ds)) }
 
 pub fraction_done : (b : Bool) (d : ℕ) (ds : List ℕ) (e : ℕ) (es : List ℕ) → IsPart (part_fraction b d ds e es) → IsDone (part_fraction b d ds e es)
-fraction_done b d ds e es h = record { numeral = record { whole = h.0.0; some_digit = omega arith; fraction = h.1; exponent = tt }; no_zero = h.0.1; whole = ap (λ xs. minus_text b ++ d ∷ (ds ++ 46 ∷ e ∷ xs)) (sym (append-nil es)) }
+fraction_done b d ds e es h = record { numeral = record { integer = h.0.0; some_digit = omega arith; fraction = h.1; exponent = tt }; no_zero = h.0.1; whole = ap (λ xs. minus_text b ++ d ∷ (ds ++ 46 ∷ e ∷ xs)) (sym (append-nil es)) }
 
 pub exponent_done : (b : Bool) (d : ℕ) (ds f : List ℕ) (l : ℕ) (s : Option ℕ) (e : ℕ) (es : List ℕ) → IsPart (part_exponent b d ds f l s e es) → IsDone (part_exponent b d ds f l s e es)
 exponent_done b d ds f l s e es h =
-    record { numeral = record { whole = h.0.0; some_digit = omega arith; fraction = h.1; exponent = record { letter = h.2; sign = h.3; digits = h.4; some_digit = omega arith } }; no_zero = h.0.1; whole = refl }
+    record { numeral = record { integer = h.0.0; some_digit = omega arith; fraction = h.1; exponent = record { letter = h.2; sign = h.3; digits = h.4; some_digit = omega arith } }; no_zero = h.0.1; whole = refl }
 
 pub digits_follows : Ranges → (limit : Option ℕ) (p : Path) → IsPath limit p → (n : Part) → IsPart n → (c : ℕ) →
     Follows limit (path_text p ++ part_text n) (path_frames p) (digits (part_stage n) (part_numeral n)) c (unless_ended (strictly limit) (path_frames p) (part_numeral n) c (step_digits (strictly limit) (path_frames p) (part_stage n) (part_numeral n) c))
 digits_follows ranges limit p hp part_minus h c =
-    either limit _ _ _ c (is_ascii_digit c) _ _ (λ e. goes limit p hp part_minus (part_whole true c []) (e, tt) c refl) (λ e more x. minus_says ranges limit p hp (c ∷ more) e x)
-digits_follows ranges limit p hp (part_whole b d ds) h c =
+    either limit _ _ _ c (is_ascii_digit c) _ _ (λ e. goes limit p hp part_minus (part_integer true c []) (e, tt) c refl) (λ e more x. minus_says ranges limit p hp (c ∷ more) e x)
+digits_follows ranges limit p hp (part_integer b d ds) h c =
     unless_either limit _ _ _ c _ _ (is_ascii_digit c) _ _
-    (λ e. goes limit p hp (part_whole b d ds) (part_whole b d (ds ++ c ∷ [])) (h.0, digits_append ds c h.1 e) c (simp append_assoc))
+    (λ e. goes limit p hp (part_integer b d ds) (part_integer b d (ds ++ c ∷ [])) (h.0, digits_append ds c h.1 e) c (simp append_assoc))
     (λ i. unless_either limit _ _ _ c _ _ (has_leading_zero (d ∷ ds)) _ _ (λ e more x. zero_says ranges limit p hp b d ds h e (c ∷ more) i x)
-    (λ z. unless_either limit _ _ _ c _ _ (c == 46) _ _ (λ e. goes limit p hp (part_whole b d ds) (part_point b d ds) (h, z) c (rw (eqb-true c 46 e) (simp append_assoc)))
-    (λ j. unless_either limit _ _ _ c _ _ (is_exponent_letter c) _ _ (λ e. goes limit p hp (part_whole b d ds) (part_letter b d ds [] c) ((h, z), tt, e) c (simp append_assoc))
-    (λ k. finish_follows ranges limit p hp (part_whole b d ds) h (whole_done b d ds (h, z)) c i))))
+    (λ z. unless_either limit _ _ _ c _ _ (c == 46) _ _ (λ e. goes limit p hp (part_integer b d ds) (part_point b d ds) (h, z) c (rw (eqb-true c 46 e) (simp append_assoc)))
+    (λ j. unless_either limit _ _ _ c _ _ (is_exponent_letter c) _ _ (λ e. goes limit p hp (part_integer b d ds) (part_letter b d ds [] c) ((h, z), tt, e) c (simp append_assoc))
+    (λ k. finish_follows ranges limit p hp (part_integer b d ds) h (integer_done b d ds (h, z)) c i))))
 digits_follows ranges limit p hp (part_point b d ds) h c =
     either limit _ _ _ c (is_ascii_digit c) _ _ (λ e. goes limit p hp (part_point b d ds) (part_fraction b d ds c []) (h, (e, tt)) c (simp append_assoc)) (λ e more x. point_says ranges limit p hp b d ds h (c ∷ more) e x)
 digits_follows ranges limit p hp (part_fraction b d ds x xs) h c =

@@ -11,7 +11,7 @@ use Rattle.tinyjson_grammar.specs.declared.error.JsonParseErrorKind.TheVariants.
 use Rattle.tinyjson_grammar.specs.Refusal.{KindSays, AwaitsValue, EndsBefore}
 use Rattle.tinyjson_grammar.specs.Grammar.{IsAccepted}
 use Rattle.tinyjson_grammar.proofs.Trace.Paths.{Path, key_in, path_text, level, IsPath, closes, closing}
-use Rattle.tinyjson_grammar.proofs.Prefix.Faultless.{faultless}
+use Rattle.tinyjson_grammar.proofs.Prefix.ErrorFree.{error_free}
 use Rattle.tinyjson_grammar.proofs.Prefix.Loose.{is_own}
 use Rattle.tinyjson_grammar.proofs.Step.Awaits.{awaits_value}
 use Rattle.tinyjson_grammar.proofs.Trace.State.{Spells, loosely_from}
@@ -33,7 +33,7 @@ pub record Denies (limit : Option ℕ) (used : List ℕ) (fs : List Frame) (q : 
   pub unviable : AcceptsNoneFrom limit fs q → ¬ IsViable (IsAccepted limit) used
 
 -- What is denied where the machine stops with its last character.
-pub record IsDead (limit : Option ℕ) (used : List ℕ) (k : JsonParseErrorKind) : Type 0 where
+pub record IsUnviable (limit : Option ℕ) (used : List ℕ) (k : JsonParseErrorKind) : Type 0 where
   pub unviable : ¬ IsViable (IsAccepted limit) used
   pub loosely : is_own k ≡ false → ¬ IsLooselyViable limit used
 
@@ -41,7 +41,7 @@ pub record IsDead (limit : Option ℕ) (used : List ℕ) (k : JsonParseErrorKind
 abbrev pub Follows : Option ℕ → List ℕ → List Frame → Phase → ℕ → Next → Type 0
 Follows limit used fs q c (next gs p) = Spells limit (used ++ c ∷ []) gs p
 Follows limit used fs q c (stop k true) =
-    (more : List ℕ) → Denies limit used fs q → IsDead limit (used ++ c ∷ []) k → KindSays limit k (used ++ c ∷ []) more
+    (more : List ℕ) → Denies limit used fs q → IsUnviable limit (used ++ c ∷ []) k → KindSays limit k (used ++ c ∷ []) more
 Follows limit used fs q c (stop k false) = (more : List ℕ) → Denies limit used fs q → KindSays limit k used (c ∷ more)
 
 pub either : (limit : Option ℕ) (used : List ℕ) (fs : List Frame) (q : Phase) (c : ℕ) (b : Bool) (x y : Next) → (b ≡ true → Follows limit used fs q c x) → (b ≡ false → Follows limit used fs q c y) → Follows limit used fs q c (cond b x y)
@@ -50,14 +50,14 @@ either limit used fs q c b x y = cond_both b x y (Follows limit used fs q c)
 pub at_code : (limit : Option ℕ) (used : List ℕ) (fs : List Frame) (q : Phase) (c n : ℕ) (x y : Next) → (c ≡ n → Follows limit used fs q c x) → ((c == n) ≡ false → Follows limit used fs q c y) → Follows limit used fs q c (cond (c == n) x y)
 at_code limit used fs q c n x y f g = either limit used fs q c (c == n) x y (λ e. f (eqb-true c n e)) g
 
--- ---- a value is whole
+-- ---- a value is complete
 
-pub last_comma : (ps : List Pair) (p : Pair) → (front : List ℕ) × (pairs_before (p ∷ ps) ≡ front ++ 44 ∷ [])
+pub last_comma : (ps : List Pair) (p : Pair) → (prefix : List ℕ) × (pairs_before (p ∷ ps) ≡ prefix ++ 44 ∷ [])
 last_comma [] p = (pair_text p, refl)
 last_comma (q ∷ ps) p = let r = last_comma ps q in (pair_text p ++ 44 ∷ r.0, rw r.1 (simp append_assoc))
 
 abbrev pub Opener : List ℕ → Type 0
-Opener xs = (front : List ℕ) × (o : ℕ) × ((o ≡ 123) ⊎ (o ≡ 44)) × (xs ≡ front ++ o ∷ [])
+Opener xs = (prefix : List ℕ) × (o : ℕ) × ((o ≡ 123) ⊎ (o ≡ 44)) × (xs ≡ prefix ++ o ∷ [])
 
 pub opener : (xs : List ℕ) (ps : List Pair) → Opener (xs ++ 123 ∷ pairs_before ps)
 opener xs [] = (xs, 123, inl refl, refl)
@@ -75,7 +75,7 @@ key_says limit p ps w hp s hs hk hd used e rest b u =
     let place_is : path_text (key_in p ps w) ≡ o.0 ++ o.1 ∷ w = sym (append_assoc (path_text p) (123 ∷ pairs_before ps) w) ∙ (ap (λ xs. xs ++ w) o.3 ∙ append_assoc o.0 (o.1 ∷ []) w) in (
       (o.0, w, o.1, s, o.2, hp.2, hs.spelled, hs.strict, hk, refl, used_is, subst (AwaitsValue limit) place_is (awaits_value limit (key_in p ps w) hp), b),
       (
-        rw e (rw (sym (append-nil (text s))) (faultless limit (key_in p ps w) hp s hs hd [] tt (inr (hk, refl)))),
+        rw e (rw (sym (append-nil (text s))) (error_free limit (key_in p ps w) hp s hs hd [] tt (inr (hk, refl)))),
         rw e (loosely_from limit _ (48 ∷ 125 ∷ closing p) (simp append_assoc) (closes limit (key_in p ps w) hp s hs.spelled hd [] tt)),
         u,
       ),

@@ -1,4 +1,4 @@
--- What comes of a value that is whole, and of a character after it.
+-- What comes of a complete value, and of a character after it.
 use Rattle.std.specs.Prelude.{⊤}
 use Rattle.std.proofs.Common.{◌≡◌, ℕ, ◌+◌, true, List, [], ◌∷◌, ◌++◌, Option, refl, ap, sym, ◌∙◌, append_assoc, append-nil, arith, subst, IsTrue, not}
 use Rattle.std.proofs.lemmas.Bool.{not-true, not-false, eqb-false}
@@ -7,18 +7,18 @@ use Rattle.tinyjson_grammar.specs.Tree.{is_string, no_members, items_of}
 use Rattle.tinyjson_grammar.specs.Tree as tree
 use Rattle.tinyjson_grammar.specs.Characters.{is_white}
 use Rattle.tinyjson_grammar.specs.Syntax.{Syntax, array, object, text, depth, IsWithin, tree_of}
-use Rattle.tinyjson_grammar.specs.Prefix.{IsValue, Pair, Element, IsFaultless}
+use Rattle.tinyjson_grammar.specs.Prefix.{IsValue, Pair, Element, IsErrorFree}
 use Rattle.tinyjson_grammar.specs.Refusal.{EndsBefore}
 use Rattle.tinyjson_grammar.specs.Machine
 use Rattle.tinyjson_grammar.proofs.Trace.Paths.{Path, outside, item_in, key_in, value_in, path_text, path_frames, level, IsPath, within_le, within_max, key_depth, items_with, pairs_with, text_of_items, text_of_pairs, depth_of_items, depth_of_pairs, items_trees, members_of_pairs, before_push, pairs_push, trees_push, members_push, deepest_push, pairs_deepest_push, AreElements_push, ArePairs_push}
-use Rattle.tinyjson_grammar.proofs.Prefix.Faultless.{item_value, pair_value, faultless, faultless_from, placed}
+use Rattle.tinyjson_grammar.proofs.Prefix.ErrorFree.{item_value, pair_value, error_free, error_free_from, placed}
 use Rattle.tinyjson_grammar.proofs.Trace.State.{at_awaited, at_after, after_frames, after_phase, IsRead, are_white_append}
-use Rattle.tinyjson_grammar.proofs.Prefix.Viable.{faultless_after, faultless_place}
+use Rattle.tinyjson_grammar.proofs.Prefix.Viable.{error_free_after, error_free_place}
 use Rattle.tinyjson_grammar.proofs.Step.Statement.{NoQuoteFrom, Follows, either, at_code, key_says}
 use Rattle.tinyjson_grammar.proofs.Accepts.Text.{no_text}
 use Rattle.tinyjson_grammar.proofs.Accepts.Value.{string_key}
 
--- the value is whole, and the character was its last
+-- the value is complete, and the character was its last
 pub complete_follows : (limit : Option ℕ) (p : Path) → IsPath limit p → (s : Syntax) → IsValue s → IsWithin limit (level p + depth s) → ((rest : List ℕ) → EndsBefore s rest) → (used : List ℕ) (fs : List Frame) (q : Phase) (c : ℕ) → used ++ c ∷ [] ≡ path_text p ++ text s →
     Follows limit used fs q c (complete true (path_frames p) (tree_of s) true)
 complete_follows limit (outside w) hp s hs hd nn used fs q c e =
@@ -55,19 +55,19 @@ quote_after limit (key_in p ps w) s h ys t e = no_text _ _ t e
 quote_after limit (value_in p ps a k b w) s h ys t e = no_text _ _ t e
 
 -- the bracket, the brace or the colon may follow
-pub closed_array : (limit : Option ℕ) (p : Path) (es : List Element) (w : List ℕ) (s : Syntax) (v : List ℕ) → IsRead limit (at_after (item_in p es w) s v) → IsFaultless limit ((path_text (item_in p es w) ++ (text s ++ v)) ++ 93 ∷ [])
+pub closed_array : (limit : Option ℕ) (p : Path) (es : List Element) (w : List ℕ) (s : Syntax) (v : List ℕ) → IsRead limit (at_after (item_in p es w) s v) → IsErrorFree limit ((path_text (item_in p es w) ++ (text s ++ v)) ++ 93 ∷ [])
 closed_array limit p es w s v h =
-    faultless_from limit _ [] _ (simp (text_of_items, append_assoc, append-nil))
-    (faultless limit p h.0.0 (array (items_with es w s v)) (item_value es w s v h.0.1 h.0.2 h.1 h.4) (within_max limit _ _ _ h.0.3 h.3 (rw (depth_of_items es w s v) (omega arith))) [] tt (placed p _))
+    error_free_from limit _ [] _ (simp (text_of_items, append_assoc, append-nil))
+    (error_free limit p h.0.0 (array (items_with es w s v)) (item_value es w s v h.0.1 h.0.2 h.1 h.4) (within_max limit _ _ _ h.0.3 h.3 (rw (depth_of_items es w s v) (omega arith))) [] tt (placed p _))
 
-pub closed_object : (limit : Option ℕ) (p : Path) (ps : List Pair) (a : List ℕ) (k : Syntax) (b w : List ℕ) (s : Syntax) (v : List ℕ) → IsRead limit (at_after (value_in p ps a k b w) s v) → IsFaultless limit ((path_text (value_in p ps a k b w) ++ (text s ++ v)) ++ 125 ∷ [])
+pub closed_object : (limit : Option ℕ) (p : Path) (ps : List Pair) (a : List ℕ) (k : Syntax) (b w : List ℕ) (s : Syntax) (v : List ℕ) → IsRead limit (at_after (value_in p ps a k b w) s v) → IsErrorFree limit ((path_text (value_in p ps a k b w) ++ (text s ++ v)) ++ 125 ∷ [])
 closed_object limit p ps a k b w s v h =
-    faultless_from limit _ [] _ (simp (text_of_pairs, append_assoc, append-nil))
-    (faultless limit p h.0.0 (object (pairs_with ps a k b w s v)) (pair_value ps a k b w s v h.0.1 h.0.2 h.0.4 h.0.3 h.0.5 h.0.6 h.1 h.4)
+    error_free_from limit _ [] _ (simp (text_of_pairs, append_assoc, append-nil))
+    (error_free limit p h.0.0 (object (pairs_with ps a k b w s v)) (pair_value ps a k b w s v h.0.1 h.0.2 h.0.4 h.0.3 h.0.5 h.0.6 h.1 h.4)
     (within_max limit _ _ _ h.0.7 h.3 (rw (depth_of_pairs ps a k b w s v) (rw (key_depth k h.0.4) (omega arith)))) [] tt (placed p _))
 
-pub taken_key : (limit : Option ℕ) (p : Path) (ps : List Pair) (w : List ℕ) (s : Syntax) (v : List ℕ) → IsRead limit (at_after (key_in p ps w) s v) → IsFaultless limit ((path_text (key_in p ps w) ++ (text s ++ v)) ++ 58 ∷ [])
-taken_key limit p ps w s v h = faultless_from limit _ [] _ (simp (append_assoc, append-nil)) (faultless_place limit (value_in p ps w s v []) (h.0.0, h.0.1, h.0.2, h.1, h.2, h.4, tt, h.0.3))
+pub taken_key : (limit : Option ℕ) (p : Path) (ps : List Pair) (w : List ℕ) (s : Syntax) (v : List ℕ) → IsRead limit (at_after (key_in p ps w) s v) → IsErrorFree limit ((path_text (key_in p ps w) ++ (text s ++ v)) ++ 58 ∷ [])
+taken_key limit p ps w s v h = error_free_from limit _ [] _ (simp (append_assoc, append-nil)) (error_free_place limit (value_in p ps w s v []) (h.0.0, h.0.1, h.0.2, h.1, h.2, h.4, tt, h.0.3))
 
 pub after_follows : (limit : Option ℕ) (p : Path) (s : Syntax) (v : List ℕ) → IsRead limit (at_after p s v) → (fs : List Frame) (q : Phase) → (IsInside p → NoQuoteFrom limit fs q) → (c : ℕ) →
     Follows limit (path_text p ++ (text s ++ v)) fs q c (step_plain (strictly limit) (after_frames p s) (after_phase p s) c)
@@ -90,7 +90,7 @@ after_follows limit (outside w) s v h fs q nq c =
           ),
         ),
       ),
-      ((w ++ (text s ++ v), refl, faultless_after limit (outside w) s v h), x.loosely refl),
+      ((w ++ (text s ++ v), refl, error_free_after limit (outside w) s v h), x.loosely refl),
     ))
 after_follows limit (item_in p es w) s v h fs q nq c =
     either limit _ _ _ c (is_white c) _ _
@@ -111,8 +111,8 @@ after_follows limit (item_in p es w) s v h fs q nq c =
       ((path_text (item_in p es w) ++ (text s ++ v), refl), hw, (λ e. eqb-false c 44 hn e), (λ e. eqb-false c 93 hm e)),
       (
         record {
-          place = record { front = path_text (item_in p es w) ++ (text s ++ v); ends = refl; faultless = faultless_after limit (item_in p es w) s v h; no_string = d.no_quote (nq tt) };
-          without_fault = closed_array limit p es w s v h;
+          place = record { prefix = path_text (item_in p es w) ++ (text s ++ v); ends = refl; error_free = error_free_after limit (item_in p es w) s v h; no_string = d.no_quote (nq tt) };
+          without_error = closed_array limit p es w s v h;
         },
         x.loosely refl,
       ),
@@ -132,8 +132,8 @@ after_follows limit (key_in p ps w) s v h fs q nq c =
       ((path_text (key_in p ps w) ++ (text s ++ v), refl), hw, (λ e. eqb-false c 58 hm e)),
       (
         record {
-          place = record { front = path_text (key_in p ps w) ++ (text s ++ v); ends = refl; faultless = faultless_after limit (key_in p ps w) s v h; no_string = d.no_quote (nq tt) };
-          without_fault = taken_key limit p ps w s v h;
+          place = record { prefix = path_text (key_in p ps w) ++ (text s ++ v); ends = refl; error_free = error_free_after limit (key_in p ps w) s v h; no_string = d.no_quote (nq tt) };
+          without_error = taken_key limit p ps w s v h;
         },
         x.loosely refl,
       ),
@@ -164,8 +164,8 @@ after_follows limit (value_in p ps a k b w) s v h fs q nq c =
       ((path_text (value_in p ps a k b w) ++ (text s ++ v), refl), hw, (λ e. eqb-false c 44 hn e), (λ e. eqb-false c 125 hm e)),
       (
         record {
-          place = record { front = path_text (value_in p ps a k b w) ++ (text s ++ v); ends = refl; faultless = faultless_after limit (value_in p ps a k b w) s v h; no_string = d.no_quote (nq tt) };
-          without_fault = closed_object limit p ps a k b w s v h;
+          place = record { prefix = path_text (value_in p ps a k b w) ++ (text s ++ v); ends = refl; error_free = error_free_after limit (value_in p ps a k b w) s v h; no_string = d.no_quote (nq tt) };
+          without_error = closed_object limit p ps a k b w s v h;
         },
         x.loosely refl,
       ),

@@ -180,9 +180,9 @@ closes limit (item_in p es w) hp s hs hd v hv =
     (closes limit p hp.0 (array (items_with es w s v)) (items_spelled es w s v hp.1 hp.2 hs hv)
     (within_max limit _ _ _ hp.3 hd (rw (depth_of_items es w s v) (omega arith))) [] tt)
 closes limit (key_in p ps w) hp s hs hd v hv =
-    let zero_numeral : Syntax = Syntax.number (record { negative = false; whole = 48 ∷ []; fraction = []; exponent = None }) in
+    let zero_numeral : Syntax = Syntax.number (record { negative = false; integer = 48 ∷ []; fraction = []; exponent = None }) in
     subst (IsLoose limit) (simp (text_of_pairs, append_assoc))
-    (closes limit p hp.0 (object (pairs_with ps w s v [] zero_numeral [])) (pairs_spelled ps w s v [] zero_numeral [] hp.1 hp.2 hs hv tt (record { whole = (refl, tt); some_digit = omega arith; fraction = tt; exponent = tt }) tt)
+    (closes limit p hp.0 (object (pairs_with ps w s v [] zero_numeral [])) (pairs_spelled ps w s v [] zero_numeral [] hp.1 hp.2 hs hv tt (record { integer = (refl, tt); some_digit = omega arith; fraction = tt; exponent = tt }) tt)
     (within_max limit _ _ _ hp.3 hd (rw (depth_of_pairs ps w s v [] zero_numeral []) (omega arith))) [] tt)
 closes limit (value_in p ps a k b w) hp s hs hd v hv =
     subst (IsLoose limit) (simp (text_of_pairs, append_assoc))

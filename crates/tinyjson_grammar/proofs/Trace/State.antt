@@ -16,7 +16,7 @@ use Rattle.tinyjson_grammar.proofs.Trace.Paths.{IsKey, Path, outside, item_in, k
 
 pub data Part : Type 0 where
   part_minus : Part
-  part_whole : Bool → ℕ → List ℕ → Part
+  part_integer : Bool → ℕ → List ℕ → Part
   part_point : Bool → ℕ → List ℕ → Part
   part_fraction : Bool → ℕ → List ℕ → ℕ → List ℕ → Part
   part_letter : Bool → ℕ → List ℕ → List ℕ → ℕ → Part
@@ -28,7 +28,7 @@ exponent_with l s ds = record { letter = l; sign = s; digits = ds }
 
 abbrev pub part_numeral : Part → Numeral
 part_numeral part_minus = numeral true [] [] None
-part_numeral (part_whole b d ds) = numeral b (d ∷ ds) [] None
+part_numeral (part_integer b d ds) = numeral b (d ∷ ds) [] None
 part_numeral (part_point b d ds) = numeral b (d ∷ ds) [] None
 part_numeral (part_fraction b d ds e es) = numeral b (d ∷ ds) (e ∷ es) None
 part_numeral (part_letter b d ds f l) = numeral b (d ∷ ds) f (Some (exponent_with l None []))
@@ -37,7 +37,7 @@ part_numeral (part_exponent b d ds f l s e es) = numeral b (d ∷ ds) f (Some (e
 
 abbrev pub part_stage : Part → Stage
 part_stage part_minus = Machine.minus
-part_stage (part_whole b d ds) = Machine.whole
+part_stage (part_integer b d ds) = Machine.integer
 part_stage (part_point b d ds) = Machine.point
 part_stage (part_fraction b d ds e es) = Machine.fraction
 part_stage (part_letter b d ds f l) = Machine.letter
@@ -46,7 +46,7 @@ part_stage (part_exponent b d ds f l s e es) = Machine.exponent
 
 abbrev pub part_text : Part → List ℕ
 part_text part_minus = 45 ∷ []
-part_text (part_whole b d ds) = minus_text b ++ d ∷ ds
+part_text (part_integer b d ds) = minus_text b ++ d ∷ ds
 part_text (part_point b d ds) = minus_text b ++ d ∷ (ds ++ 46 ∷ [])
 part_text (part_fraction b d ds e es) = minus_text b ++ d ∷ (ds ++ 46 ∷ e ∷ es)
 part_text (part_letter b d ds f l) = minus_text b ++ d ∷ (ds ++ (fraction_text f ++ l ∷ []))
@@ -54,17 +54,17 @@ part_text (part_sign b d ds f l s) = minus_text b ++ d ∷ (ds ++ (fraction_text
 part_text (part_exponent b d ds f l s e es) = minus_text b ++ d ∷ (ds ++ (fraction_text f ++ l ∷ (sign_text s ++ e ∷ es)))
 
 -- digits with no zero in front
-abbrev pub IsWholePart : ℕ → List ℕ → Type 0
-IsWholePart d ds = AreDigits (d ∷ ds) × (has_leading_zero (d ∷ ds) ≡ false)
+abbrev pub IsIntegerPart : ℕ → List ℕ → Type 0
+IsIntegerPart d ds = AreDigits (d ∷ ds) × (has_leading_zero (d ∷ ds) ≡ false)
 
 abbrev pub IsPart : Part → Type 0
 IsPart part_minus = ⊤
-IsPart (part_whole b d ds) = AreDigits (d ∷ ds)
-IsPart (part_point b d ds) = IsWholePart d ds
-IsPart (part_fraction b d ds e es) = IsWholePart d ds × AreDigits (e ∷ es)
-IsPart (part_letter b d ds f l) = IsWholePart d ds × AreDigits f × IsTrue (is_exponent_letter l)
-IsPart (part_sign b d ds f l s) = IsWholePart d ds × AreDigits f × IsTrue (is_exponent_letter l) × IsTrue (is_sign s)
-IsPart (part_exponent b d ds f l s e es) = IsWholePart d ds × AreDigits f × IsTrue (is_exponent_letter l) × IfSome s (λ c. IsTrue (is_sign c)) × AreDigits (e ∷ es)
+IsPart (part_integer b d ds) = AreDigits (d ∷ ds)
+IsPart (part_point b d ds) = IsIntegerPart d ds
+IsPart (part_fraction b d ds e es) = IsIntegerPart d ds × AreDigits (e ∷ es)
+IsPart (part_letter b d ds f l) = IsIntegerPart d ds × AreDigits f × IsTrue (is_exponent_letter l)
+IsPart (part_sign b d ds f l s) = IsIntegerPart d ds × AreDigits f × IsTrue (is_exponent_letter l) × IsTrue (is_sign s)
+IsPart (part_exponent b d ds f l s e es) = IsIntegerPart d ds × AreDigits f × IsTrue (is_exponent_letter l) × IfSome s (λ c. IsTrue (is_sign c)) × AreDigits (e ∷ es)
 
 -- each numeral without exponent has an exponent with which it is in range
 abbrev pub Ranges : Type 0
@@ -215,16 +215,16 @@ pieces_append [] qs = refl
 pieces_append (p ∷ ps) qs = simp (pieces_append ps qs, append_assoc)
 
 -- what a token that was begun may end as
-pub record Ending (front : List ℕ) : Type 0 where
+pub record Ending (prefix : List ℕ) : Type 0 where
   pub value : Syntax
   pub spelled : IsSpelled value
   pub flat : depth value ≡ 0
   pub rest : List ℕ
-  pub whole : text value ≡ front ++ rest
+  pub whole : text value ≡ prefix ++ rest
 
-pub ends_loosely : (limit : Option ℕ) (p : Path) → IsPath limit p → (front : List ℕ) → Ending front → IsLooselyViable limit (path_text p ++ front)
-ends_loosely limit p hp front e =
-    loosely_from limit (path_text p ++ front) (e.rest ++ closing p) (rw e.whole (simp append_assoc)) (closes limit p hp e.value e.spelled (flat_within limit p e.value hp e.flat) [] tt)
+pub ends_loosely : (limit : Option ℕ) (p : Path) → IsPath limit p → (prefix : List ℕ) → Ending prefix → IsLooselyViable limit (path_text p ++ prefix)
+ends_loosely limit p hp prefix e =
+    loosely_from limit (path_text p ++ prefix) (e.rest ++ closing p) (rw e.whole (simp append_assoc)) (closes limit p hp e.value e.spelled (flat_within limit p e.value hp e.flat) [] tt)
 
 pub white_loosely : (limit : Option ℕ) (p : Path) → IsPath limit p → (s : Syntax) → IsSpelled s → IsWithin limit (level p + depth s) → (v : List ℕ) → AreWhite v → IsLooselyViable limit (path_text p ++ (text s ++ v))
 white_loosely limit p hp s hs hd v hv = loosely_from limit (path_text p ++ (text s ++ v)) (closing p) (simp append_assoc) (closes limit p hp s hs hd v hv)

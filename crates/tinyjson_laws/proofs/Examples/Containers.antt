@@ -32,9 +32,9 @@ equal_keys : IsText None (codes "{\"a\":1,\"a\":2}") (object ((codes "a", whole 
 unfolding run step end value power_fits encode
 equal_keys = text_of refl refl
 
-equal_keys_behind_their_escapes : IsText None (codes "{\"\\u0061\":1,\"a\":2}") (object ((codes "a", whole (codes "2")) ∷ []))
+equal_keys_after_their_escapes : IsText None (codes "{\"\\u0061\":1,\"a\":2}") (object ((codes "a", whole (codes "2")) ∷ []))
 unfolding run step end value power_fits encode
-equal_keys_behind_their_escapes = text_of refl refl
+equal_keys_after_their_escapes = text_of refl refl
 
 three_equal_keys : IsText None (codes "{\"a\":1,\"b\":3,\"a\":[],\"a\":null}")
     (object ((codes "a", tree.null) ∷ (codes "b", whole (codes "3")) ∷ []))
@@ -92,9 +92,9 @@ two_items_without_a_comma : IsRefusal None (error.ExpectedCommaOrBracket 50) (co
 unfolding run step end value power_fits
 two_items_without_a_comma = refusal_of refl refl
 
-letter_behind_an_item : IsRefusal None (error.ExpectedCommaOrBracket 120) (codes "[1 x") []
+letter_after_an_item : IsRefusal None (error.ExpectedCommaOrBracket 120) (codes "[1 x") []
 unfolding run step end value power_fits
-letter_behind_an_item = refusal_of refl refl
+letter_after_an_item = refusal_of refl refl
 
 brace_for_a_bracket : IsRefusal None (error.ExpectedCommaOrBracket 125) (codes "[1}") []
 unfolding run step end value power_fits
@@ -104,9 +104,9 @@ bracket_for_a_brace : IsRefusal None (error.ExpectedCommaOrBrace 93) (codes "{\"
 unfolding run step end value power_fits
 bracket_for_a_brace = refusal_of refl refl
 
-semicolon_behind_a_member : IsRefusal None (error.ExpectedCommaOrBrace 59) (codes "{\"a\":1;") []
+semicolon_after_a_member : IsRefusal None (error.ExpectedCommaOrBrace 59) (codes "{\"a\":1;") []
 unfolding run step end value power_fits
-semicolon_behind_a_member = refusal_of refl refl
+semicolon_after_a_member = refusal_of refl refl
 
 no_colon : IsRefusal None (error.ExpectedColon 49) (codes "{\"a\" 1") (codes "}")
 unfolding run step end value power_fits

@@ -73,9 +73,9 @@ smallest_power : IsText None (codes "10e-9223372036854775809") (decimal false (c
 unfolding run step end value power_fits
 smallest_power = text_of refl refl
 
-largest_power_behind_a_point : IsText None (codes "0.1e9223372036854775808") (decimal false (codes "1") (pos 9223372036854775807))
+largest_power_after_a_point : IsText None (codes "0.1e9223372036854775808") (decimal false (codes "1") (pos 9223372036854775807))
 unfolding run step end value power_fits
-largest_power_behind_a_point = text_of refl refl
+largest_power_after_a_point = text_of refl refl
 
 power_too_large : IsRefusal None error.NumberOutOfRange (codes "1e9223372036854775808") []
 unfolding run step end value power_fits
@@ -109,9 +109,9 @@ minus_alone : IsRefusal None error.EmptyInteger (codes "-") []
 unfolding run step end value power_fits
 minus_alone = refusal_of refl refl
 
-space_behind_a_minus : IsRefusal None error.EmptyInteger (codes "-") (codes " 1")
+space_after_a_minus : IsRefusal None error.EmptyInteger (codes "-") (codes " 1")
 unfolding run step end value power_fits
-space_behind_a_minus = refusal_of refl refl
+space_after_a_minus = refusal_of refl refl
 
 plus : IsRefusal None (error.InvalidCharacter 43) [] (codes "+1")
 unfolding run step end value power_fits
@@ -129,9 +129,9 @@ leading_zero_before_a_point : IsRefusal None error.LeadingZero (codes "01") (cod
 unfolding run step end value power_fits
 leading_zero_before_a_point = refusal_of refl refl
 
-leading_zero_behind_a_minus : IsRefusal None error.LeadingZero (codes "-00") []
+leading_zero_after_a_minus : IsRefusal None error.LeadingZero (codes "-00") []
 unfolding run step end value power_fits
-leading_zero_behind_a_minus = refusal_of refl refl
+leading_zero_after_a_minus = refusal_of refl refl
 
 point_before_a_bracket : IsRefusal None error.EmptyFraction (codes "[1.") (codes "]")
 unfolding run step end value power_fits
@@ -153,14 +153,14 @@ no_exponent : IsRefusal None error.EmptyExponent (codes "1e") []
 unfolding run step end value power_fits
 no_exponent = refusal_of refl refl
 
-no_exponent_behind_a_sign : IsRefusal None error.EmptyExponent (codes "1e+") (codes "x")
+no_exponent_after_a_sign : IsRefusal None error.EmptyExponent (codes "1e+") (codes "x")
 unfolding run step end value power_fits
-no_exponent_behind_a_sign = refusal_of refl refl
+no_exponent_after_a_sign = refusal_of refl refl
 
 two_signs : IsRefusal None error.EmptyExponent (codes "1e+") (codes "-1")
 unfolding run step end value power_fits
 two_signs = refusal_of refl refl
 
-letter_behind_a_number : IsRefusal None (error.ExpectedEof 120) (codes "0x") (codes "10")
+letter_after_a_number : IsRefusal None (error.ExpectedEof 120) (codes "0x") (codes "10")
 unfolding run step end value power_fits
-letter_behind_a_number = refusal_of refl refl
+letter_after_a_number = refusal_of refl refl

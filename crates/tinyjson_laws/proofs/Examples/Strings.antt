@@ -59,9 +59,9 @@ capital_u_is_no_escape : IsRefusal None (error.InvalidEscape 85) (codes "\"\\U")
 unfolding run step end value power_fits
 capital_u_is_no_escape = refusal_of refl refl
 
-line_feed_behind_a_backslash : IsRefusal None (error.InvalidEscape 10) (codes "\"\\\n") (codes "\"")
+line_feed_after_a_backslash : IsRefusal None (error.InvalidEscape 10) (codes "\"\\\n") (codes "\"")
 unfolding run step end value power_fits
-line_feed_behind_a_backslash = refusal_of refl refl
+line_feed_after_a_backslash = refusal_of refl refl
 
 -- ---- escapes of four hexadecimal digits
 

@@ -26,9 +26,9 @@ digits_rest text = drop (prefix_len is_ascii_digit text) text
 abbrev pub after_minus : List ℕ → List ℕ
 after_minus text = if begins minus_sign text then drop 1 text else text
 
--- the whole part, and the rest
-unfoldable pub whole_at : List ℕ → Option (List ℕ × List ℕ)
-whole_at text =
+-- the integer part, and the rest
+unfoldable pub integer_at : List ℕ → Option (List ℕ × List ℕ)
+integer_at text =
     if (length (digits_front text) == 0) || has_leading_zero (digits_front text) then None
     else Some (digits_front text, digits_rest text)
 
@@ -57,10 +57,10 @@ exponent_at (c ∷ cs) = if is_exponent_letter c then exponent_digits_at c cs el
 -- the one numeral that the text spells
 unfoldable pub scan : List ℕ → Option Numeral
 scan text = do
-  w ← whole_at (after_minus text)
+  w ← integer_at (after_minus text)
   f ← fraction_at w.1
   e ← exponent_at f.1
-  Some (record { negative = begins minus_sign text; whole = w.0; fraction = f.0; exponent = e })
+  Some (record { negative = begins minus_sign text; integer = w.0; fraction = f.0; exponent = e })
 
 -- past the range of powers by more than any count of digits
 abbrev pub exponent_cap : ℕ

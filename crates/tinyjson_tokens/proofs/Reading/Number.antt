@@ -7,7 +7,7 @@ use Rattle.std.proofs.lemmas.Bool.Decides.{nat_tests}
 use Rattle.tinyjson_number.specs.Decimal.{Decimal}
 use Rattle.tinyjson_number.specs.Numeral.{numeral, Numeral, AreDigits, has_leading_zero, is_exponent_letter, is_sign, value, in_range}
 use Rattle.tinyjson_source.specs.Source.{Sight, Still, Stops, Takes, TakesRun}
-use Rattle.tinyjson_grammar.specs.Machine.{strictly, step, end, then_step, end_plain, Frame, in_array, at_key, at_value, Next, next, stop, awaited, digits, minus, whole, point, fraction, letter, sign, exponent, complete}
+use Rattle.tinyjson_grammar.specs.Machine.{strictly, step, end, then_step, end_plain, Frame, in_array, at_key, at_value, Next, next, stop, awaited, digits, minus, integer, point, fraction, letter, sign, exponent, complete}
 use Rattle.tinyjson_tokens.specs.NumberSteps.{BeginsNumber, Gathered, Accepted, Declined, Accepts, Digits}
 use Rattle.tinyjson_tokens.specs.Steps.{onward, ending, IsNext, IsTaken, Comes, Ends, Leads, Refuses}
 use Rattle.tinyjson_grammar.specs.Tree.{number}
@@ -33,16 +33,16 @@ pub are_digits : (ds : List ℕ) → AllByRecursion (λ c. is_ascii_digit c ≡ 
 are_digits [] a = tt
 are_digits (d ∷ ds) a = (a.0, are_digits ds a.1)
 
-pub gathered_whole : (b : Bool) (ds text : List ℕ) → AreDigits ds → 0 < length ds → has_leading_zero ds ≡ false → text ≡ ds → Gathered (numeral b ds [] None) text
-gathered_whole b ds text a l z e = record {
-  well_formed = record { whole = a; some_digit = l; fraction = tt; exponent = tt };
+pub gathered_integer : (b : Bool) (ds text : List ℕ) → AreDigits ds → 0 < length ds → has_leading_zero ds ≡ false → text ≡ ds → Gathered (numeral b ds [] None) text
+gathered_integer b ds text a l z e = record {
+  well_formed = record { integer = a; some_digit = l; fraction = tt; exponent = tt };
   no_leading_zero = z;
   gathered = append-nil ds ∙ sym e;
 }
 
 pub gathered_fraction : (b : Bool) (ds f old new : List ℕ) → Gathered (numeral b ds [] None) old → AreDigits f → new ≡ old ++ f → Gathered (numeral b ds f None) new
 gathered_fraction b ds f old new s a e = record {
-  well_formed = record { whole = s.well_formed.whole; some_digit = s.well_formed.some_digit; fraction = a; exponent = tt };
+  well_formed = record { integer = s.well_formed.integer; some_digit = s.well_formed.some_digit; fraction = a; exponent = tt };
   no_leading_zero = s.no_leading_zero;
   gathered = ap (λ t. ds ++ t) (append-nil f) ∙ sym (e ∙ ap (λ t. t ++ f) (sym s.gathered ∙ append-nil ds));
 }
@@ -50,7 +50,7 @@ gathered_fraction b ds f old new s a e = record {
 pub gathered_exponent : (b : Bool) (ds f : List ℕ) (l : ℕ) (s : Option ℕ) (xs old new : List ℕ) → Gathered (numeral b ds f None) old → is_exponent_letter l ≡ true → IfSome s (λ c. is_sign c ≡ true) → AreDigits xs → 0 < length xs
     → new ≡ old ++ xs → Gathered (numeral b ds f (Some (record { letter = l; sign = s; digits = xs }))) new
 gathered_exponent b ds f l s xs old new h i j a n e = record {
-  well_formed = record { whole = h.well_formed.whole; some_digit = h.well_formed.some_digit; fraction = h.well_formed.fraction; exponent = record { letter = i; sign = j; digits = a; some_digit = n } };
+  well_formed = record { integer = h.well_formed.integer; some_digit = h.well_formed.some_digit; fraction = h.well_formed.fraction; exponent = record { letter = i; sign = j; digits = a; some_digit = n } };
   no_leading_zero = h.no_leading_zero;
   gathered = sym (e ∙ ap (λ t. t ++ xs) (sym h.gathered ∙ ap (λ t. ds ++ t) (append-nil f)) ∙ append_assoc ds f xs);
 }
@@ -84,7 +84,7 @@ module _ {S : Type 0} (sight : Sight S) {E : Type 0} (empty : JsonParseErrorKind
 abbrev pub begun : List Frame → Bool → List ℕ → Next
 begun fs false [] = next fs awaited
 begun fs true [] = next fs (digits minus (numeral true [] [] None))
-begun fs b (d ∷ ds) = next fs (digits whole (numeral b (d ∷ ds) [] None))
+begun fs b (d ∷ ds) = next fs (digits integer (numeral b (d ∷ ds) [] None))
 
 abbrev pub pointed : List Frame → Bool → List ℕ → List ℕ → Next
 pointed fs b ds [] = next fs (digits point (numeral b ds [] None))
@@ -111,22 +111,22 @@ powered_next fs b ds f l (Some s) [] = tt
 powered_next fs b ds f l None (x ∷ xs) = tt
 powered_next fs b ds f l (Some s) (x ∷ xs) = tt
 
-pub begun_whole : (fs : List Frame) (b : Bool) (ds : List ℕ) → 0 < length ds → begun fs b ds ≡ next fs (digits whole (numeral b ds [] None))
-begun_whole fs b [] h = absurd (omega arith)
-begun_whole fs false (d ∷ ds) h = refl
-begun_whole fs true (d ∷ ds) h = refl
+pub begun_integer : (fs : List Frame) (b : Bool) (ds : List ℕ) → 0 < length ds → begun fs b ds ≡ next fs (digits integer (numeral b ds [] None))
+begun_integer fs b [] h = absurd (omega arith)
+begun_integer fs false (d ∷ ds) h = refl
+begun_integer fs true (d ∷ ds) h = refl
 
-pub pointed_whole : (fs : List Frame) (b : Bool) (ds f : List ℕ) → 0 < length f → pointed fs b ds f ≡ next fs (digits fraction (numeral b ds f None))
-pointed_whole fs b ds [] h = absurd (omega arith)
-pointed_whole fs b ds (x ∷ xs) h = refl
+pub pointed_integer : (fs : List Frame) (b : Bool) (ds f : List ℕ) → 0 < length f → pointed fs b ds f ≡ next fs (digits fraction (numeral b ds f None))
+pointed_integer fs b ds [] h = absurd (omega arith)
+pointed_integer fs b ds (x ∷ xs) h = refl
 
-pub powered_whole : (fs : List Frame) (b : Bool) (ds f : List ℕ) (l : ℕ) (s : Option ℕ) (xs : List ℕ) → 0 < length xs → powered fs b ds f l s xs ≡ next fs (digits exponent (numeral b ds f (Some (record { letter = l; sign = s; digits = xs }))))
-powered_whole fs b ds f l s [] h = absurd (omega arith)
-powered_whole fs b ds f l None (x ∷ xs) h = refl
-powered_whole fs b ds f l (Some s) (x ∷ xs) h = refl
+pub powered_integer : (fs : List Frame) (b : Bool) (ds f : List ℕ) (l : ℕ) (s : Option ℕ) (xs : List ℕ) → 0 < length xs → powered fs b ds f l s xs ≡ next fs (digits exponent (numeral b ds f (Some (record { letter = l; sign = s; digits = xs }))))
+powered_integer fs b ds f l s [] h = absurd (omega arith)
+powered_integer fs b ds f l None (x ∷ xs) h = refl
+powered_integer fs b ds f l (Some s) (x ∷ xs) h = refl
 
 module _ (limit : Option ℕ) where
-  digit_begins : (fs : List Frame) (c : ℕ) → is_ascii_digit c ≡ true → onward limit (next fs awaited) c ≡ next fs (digits whole (numeral false (c ∷ []) [] None))
+  digit_begins : (fs : List Frame) (c : ℕ) → is_ascii_digit c ≡ true → onward limit (next fs awaited) c ≡ next fs (digits integer (numeral false (c ∷ []) [] None))
   unfolding step
   digit_begins fs c d =
       let a = digit_low c d in
@@ -164,7 +164,7 @@ module _ (limit : Option ℕ) where
   powered_digit fs b ds f l None (x ∷ xs) c d = rw d refl
   powered_digit fs b ds f l (Some s) (x ∷ xs) c d = rw d refl
 
-  pub point_read : (fs : List Frame) (b : Bool) (ds : List ℕ) (c : ℕ) → has_leading_zero ds ≡ false → c ≡ 46 → onward limit (next fs (digits whole (numeral b ds [] None))) c ≡ pointed fs b ds []
+  pub point_read : (fs : List Frame) (b : Bool) (ds : List ℕ) (c : ℕ) → has_leading_zero ds ≡ false → c ≡ 46 → onward limit (next fs (digits integer (numeral b ds [] None))) c ≡ pointed fs b ds []
   unfolding step
   point_read fs b ds c z e = rw (e, z) refl
 
@@ -181,10 +181,10 @@ module _ (limit : Option ℕ) where
   abbrev pub Alike : Next → Next → Option ℕ → Type 0
   Alike n m o = MatchOption o (ending limit n ≡ ending limit m) (λ c. onward limit n c ≡ onward limit m c)
 
-  pub no_whole : (fs : List Frame) (o : Option ℕ) → IfSome o (λ c. is_ascii_digit c ≡ false) → Alike (begun fs true []) (stop EmptyInteger true) o
+  pub no_integer : (fs : List Frame) (o : Option ℕ) → IfSome o (λ c. is_ascii_digit c ≡ false) → Alike (begun fs true []) (stop EmptyInteger true) o
   unfolding step end
-  no_whole fs None d = refl
-  no_whole fs (Some c) d = rw d refl
+  no_integer fs None d = refl
+  no_integer fs (Some c) d = rw d refl
 
   pub no_fraction : (fs : List Frame) (b : Bool) (ds : List ℕ) (o : Option ℕ) → IfSome o (λ c. is_ascii_digit c ≡ false) → Alike (pointed fs b ds []) (stop EmptyFraction true) o
   unfolding step end
@@ -198,12 +198,12 @@ module _ (limit : Option ℕ) where
   no_exponent fs b ds f l (Some s) None d h = refl
   no_exponent fs b ds f l (Some s) (Some c) d h = rw d refl
 
-  pub zero_leads : (fs : List Frame) (b : Bool) (ds : List ℕ) (o : Option ℕ) → has_leading_zero ds ≡ true → IfSome o (λ c. is_ascii_digit c ≡ false) → Alike (next fs (digits whole (numeral b ds [] None))) (stop LeadingZero true) o
+  pub zero_leads : (fs : List Frame) (b : Bool) (ds : List ℕ) (o : Option ℕ) → has_leading_zero ds ≡ true → IfSome o (λ c. is_ascii_digit c ≡ false) → Alike (next fs (digits integer (numeral b ds [] None))) (stop LeadingZero true) o
   unfolding step end
   zero_leads fs b ds None z d = rw z refl
   zero_leads fs b ds (Some c) z d = rw (d, z) refl
 
-  pub no_point : (fs : List Frame) (b : Bool) (ds : List ℕ) (o : Option ℕ) → has_leading_zero ds ≡ false → IfSome o (λ c. is_ascii_digit c ≡ false) → IfSome o (λ c. (c == 46) ≡ false) → Alike (next fs (digits whole (numeral b ds [] None))) (next fs (digits fraction (numeral b ds [] None))) o
+  pub no_point : (fs : List Frame) (b : Bool) (ds : List ℕ) (o : Option ℕ) → has_leading_zero ds ≡ false → IfSome o (λ c. is_ascii_digit c ≡ false) → IfSome o (λ c. (c == 46) ≡ false) → Alike (next fs (digits integer (numeral b ds [] None))) (next fs (digits fraction (numeral b ds [] None))) o
   unfolding step end
   no_point fs b ds None z d h = rw z refl
   no_point fs b ds (Some c) z d h = rw (d, z, h) refl

@@ -9,7 +9,7 @@ use Rattle.tinyjson_number.specs.Reading.{exponent_of, numeral_of, plain, plain_
 use Rattle.tinyjson_number.specs.declared.parse.ExponentParts.{ExponentParts}
 use Rattle.tinyjson_number.specs.declared.parse.NumberParts.{NumberParts}
 use Rattle.tinyjson_source.specs.Source.{Sight, Still, Takes}
-use Rattle.tinyjson_grammar.specs.Machine.{Frame, next, stop, awaited, digits, whole, fraction, exponent, complete}
+use Rattle.tinyjson_grammar.specs.Machine.{Frame, next, stop, awaited, digits, integer, fraction, exponent, complete}
 use Rattle.tinyjson_tokens.specs.NumberSteps.{BeginsNumber, is_minus, is_below_zero, exponent_digits, all_digits, marks_of, Gathered, Accepted, Declined, Accepts, Signs, Digits, Part, ReadsPart}
 use Rattle.tinyjson_tokens.specs.Steps.{Ends, Leads, Refuses}
 use Rattle.tinyjson_grammar.specs.declared.error.JsonParseErrorKind.{JsonParseErrorKind}
@@ -17,7 +17,7 @@ use Rattle.tinyjson_tokens.specs.declared.number.Marks.{Marks}
 use Rattle.tinyjson_grammar.specs.declared.error.JsonParseErrorKind.TheVariants.{EmptyInteger, LeadingZero, EmptyFraction, EmptyExponent, NumberOutOfRange}
 use Rattle.tinyjson_grammar.specs.Tree.{number}
 use Rattle.tinyjson_tokens.proofs.Reading.Steps.{Leads_nil, Leads_to, Leads_trans, Leads_peek, Leads_one, Refuses_as}
-use Rattle.tinyjson_tokens.proofs.Reading.Number.{is_one, are_digits, gathered_whole, gathered_fraction, gathered_exponent, begun, begun_next, begun_digit, begun_whole, pointed, pointed_next, pointed_digit, pointed_whole, powered, powered_next, powered_digit, powered_whole, minus_begins, point_read, letter_read, sign_read, Alike, no_whole, no_fraction, no_exponent, zero_leads, no_point, no_letter, number_ends, range_ends, ends_declined, digit_comes, Leads_rest, Leads_digits, Refuses_digits}
+use Rattle.tinyjson_tokens.proofs.Reading.Number.{is_one, are_digits, gathered_integer, gathered_fraction, gathered_exponent, begun, begun_next, begun_digit, begun_integer, pointed, pointed_next, pointed_digit, pointed_integer, powered, powered_next, powered_digit, powered_integer, minus_begins, point_read, letter_read, sign_read, Alike, no_integer, no_fraction, no_exponent, zero_leads, no_point, no_letter, number_ends, range_ends, ends_declined, digit_comes, Leads_rest, Leads_digits, Refuses_digits}
 
 -- an exponent as it is handed on
 abbrev pub written : List ℕ → Option Bool → Option Exponent
@@ -28,7 +28,7 @@ plain_minus None = refl
 plain_minus (Some c) = refl
 
 module _ {S : Type 0} (sight : Sight S) (p q : S) where
-  -- ---- the whole part
+  -- ---- the integer part
 
   module _ (r : S) (v : Bool) (old new : List ℕ) (b : BeginsNumber sight p) (a : Accepts sight (λ c. c == 45) p v q) where
     minus_leads : (limit : Option ℕ) (fs : List Frame) → Leads sight limit p (next fs awaited) q (begun fs v [])
@@ -38,16 +38,16 @@ module _ {S : Type 0} (sight : Sight S) (p q : S) where
         go true a = Leads_one sight limit p p q a.c (Leads_nil sight limit p (next fs awaited)) a.takes tt (minus_begins limit fs a.c (is_one 45 a.c a.one)) tt
         go false d = Leads_peek sight limit p p q (Leads_nil sight limit p (next fs awaited)) d.takes
 
-    pub Refuses_whole : (k : JsonParseErrorKind) → Digits sight EmptyInteger q old (Err k) new r → (limit : Option ℕ) (fs : List Frame) → Refuses sight limit p (next fs awaited) k r
-    Refuses_whole k g limit fs = Refuses_digits sight limit (begun fs v) (begun_next fs v) (begun_digit limit fs v) p q r (minus_leads limit fs) EmptyInteger old new k tt g (go v a)
+    pub Refuses_integer : (k : JsonParseErrorKind) → Digits sight EmptyInteger q old (Err k) new r → (limit : Option ℕ) (fs : List Frame) → Refuses sight limit p (next fs awaited) k r
+    Refuses_integer k g limit fs = Refuses_digits sight limit (begun fs v) (begun_next fs v) (begun_digit limit fs v) p q r (minus_leads limit fs) EmptyInteger old new k tt g (go v a)
       where
         go : (v : Bool) → Accepts sight (λ c. c == 45) p v q → (o : Option ℕ) → sight.shows r o → IfSome o (λ c. is_ascii_digit c ≡ false) → Still sight q r → Alike limit (begun fs v []) (stop EmptyInteger true) o
-        go true a o s h t = no_whole limit fs o h
+        go true a o s h t = no_integer limit fs o h
         go false d o s h t = absurd (digit_comes sight p q r o b d s h t)
 
     module _ (g : Digits sight EmptyInteger q old (Ok tt) new r) where
-      whole_leads : (limit : Option ℕ) (fs : List Frame) → Leads sight limit p (next fs awaited) r (next fs (digits whole (numeral v g.ds [] None)))
-      whole_leads limit fs = Leads_to sight limit p r (Leads_digits sight limit (begun fs v) (begun_next fs v) (begun_digit limit fs v) p q r (minus_leads limit fs) g.ds g.digits g.takes) (begun_whole fs v g.ds g.result.1)
+      integer_leads : (limit : Option ℕ) (fs : List Frame) → Leads sight limit p (next fs awaited) r (next fs (digits integer (numeral v g.ds [] None)))
+      integer_leads limit fs = Leads_to sight limit p r (Leads_digits sight limit (begun fs v) (begun_next fs v) (begun_digit limit fs v) p q r (minus_leads limit fs) g.ds g.digits g.takes) (begun_integer fs v g.ds g.result.1)
 
       module _ (first : old ≡ []) where
         all : new ≡ g.ds
@@ -55,42 +55,42 @@ module _ {S : Type 0} (sight : Sight S) (p q : S) where
 
         pub Refuses_zero : has_leading_zero new ≡ true → (limit : Option ℕ) (fs : List Frame) → Refuses sight limit p (next fs awaited) LeadingZero r
         Refuses_zero z limit fs = let x = g.result.2 in
-            Refuses_as sight limit p r LeadingZero (Leads_rest sight limit p r (stop LeadingZero true) x.0 (whole_leads limit fs) x.1 tt (zero_leads limit fs v g.ds x.0 (ap has_leading_zero (sym all) ∙ z) x.2))
+            Refuses_as sight limit p r LeadingZero (Leads_rest sight limit p r (stop LeadingZero true) x.0 (integer_leads limit fs) x.1 tt (zero_leads limit fs v g.ds x.0 (ap has_leading_zero (sym all) ∙ z) x.2))
 
-        pub Part_whole : has_leading_zero new ≡ false → Part sight (λ n. n.negative) (λ (x : Bool × List ℕ). numeral x.0 x.1 [] None) whole p (λ fs. next fs awaited) v new r
-        Part_whole z = record {
+        pub Part_integer : has_leading_zero new ≡ false → Part sight (λ n. n.negative) (λ (x : Bool × List ℕ). numeral x.0 x.1 [] None) integer p (λ fs. next fs awaited) v new r
+        Part_integer z = record {
           part = (v, g.ds);
-          has = gathered_whole v g.ds new (are_digits g.ds g.digits) g.result.1 (ap has_leading_zero (sym all) ∙ z) all;
+          has = gathered_integer v g.ds new (are_digits g.ds g.digits) g.result.1 (ap has_leading_zero (sym all) ∙ z) all;
           answers = refl;
           ends = g.result.2;
-          leads = whole_leads;
+          leads = integer_leads;
         }
 
   -- ---- the fraction
 
   module _ (b : Bool) (ds old : List ℕ) (s : Gathered (numeral b ds [] None) old) where
-    pub Part_no_fraction : Ends sight p → Declined sight (λ c. c == 46) p q → Part sight (λ _. tt {0}) (λ f. numeral b ds f None) fraction p (λ fs. next fs (digits whole (numeral b ds [] None))) tt old q
+    pub Part_no_fraction : Ends sight p → Declined sight (λ c. c == 46) p q → Part sight (λ _. tt {0}) (λ f. numeral b ds f None) fraction p (λ fs. next fs (digits integer (numeral b ds [] None))) tt old q
     Part_no_fraction e d = let x = ends_declined sight (λ c. c == 46) p q e d in record {
       part = [];
       has = s;
       answers = refl;
       ends = (x.0, x.1, x.2);
       leads = λ limit fs.
-          Leads_rest sight limit p q (next fs (digits fraction (numeral b ds [] None))) x.0 (Leads_peek sight limit p p q (Leads_nil sight limit p (next fs (digits whole (numeral b ds [] None)))) d.takes) x.1 tt
+          Leads_rest sight limit p q (next fs (digits fraction (numeral b ds [] None))) x.0 (Leads_peek sight limit p p q (Leads_nil sight limit p (next fs (digits integer (numeral b ds [] None)))) d.takes) x.1 tt
           (no_point limit fs b ds x.0 s.no_leading_zero x.2 x.3);
     }
 
     module _ (r : S) (new : List ℕ) (a : Accepted sight (λ c. c == 46) p q) where
-      point_leads : (limit : Option ℕ) (fs : List Frame) → Leads sight limit p (next fs (digits whole (numeral b ds [] None))) q (pointed fs b ds [])
-      point_leads limit fs = Leads_one sight limit p p q a.c (Leads_nil sight limit p (next fs (digits whole (numeral b ds [] None)))) a.takes tt (point_read limit fs b ds a.c s.no_leading_zero (is_one 46 a.c a.one)) tt
+      point_leads : (limit : Option ℕ) (fs : List Frame) → Leads sight limit p (next fs (digits integer (numeral b ds [] None))) q (pointed fs b ds [])
+      point_leads limit fs = Leads_one sight limit p p q a.c (Leads_nil sight limit p (next fs (digits integer (numeral b ds [] None)))) a.takes tt (point_read limit fs b ds a.c s.no_leading_zero (is_one 46 a.c a.one)) tt
 
-      pub Reads_fraction : (v : Result (Unit {0}) JsonParseErrorKind) → Digits sight EmptyFraction q old v new r → ReadsPart sight (λ _. tt {0}) (λ f. numeral b ds f None) fraction p (λ fs. next fs (digits whole (numeral b ds [] None))) v new r
+      pub Reads_fraction : (v : Result (Unit {0}) JsonParseErrorKind) → Digits sight EmptyFraction q old v new r → ReadsPart sight (λ _. tt {0}) (λ f. numeral b ds f None) fraction p (λ fs. next fs (digits integer (numeral b ds [] None))) v new r
       Reads_fraction (Ok u) g = record {
         part = g.ds;
         has = gathered_fraction b ds g.ds old new s (are_digits g.ds g.digits) g.result.0;
         answers = refl;
         ends = g.result.2;
-        leads = λ limit fs. Leads_to sight limit p r (Leads_digits sight limit (pointed fs b ds) (pointed_next fs b ds) (pointed_digit limit fs b ds) p q r (point_leads limit fs) g.ds g.digits g.takes) (pointed_whole fs b ds g.ds g.result.1);
+        leads = λ limit fs. Leads_to sight limit p r (Leads_digits sight limit (pointed fs b ds) (pointed_next fs b ds) (pointed_digit limit fs b ds) p q r (point_leads limit fs) g.ds g.digits g.takes) (pointed_integer fs b ds g.ds g.result.1);
       }
       Reads_fraction (Err k) g = λ limit fs.
           Refuses_digits sight limit (pointed fs b ds) (pointed_next fs b ds) (pointed_digit limit fs b ds) p q r (point_leads limit fs) EmptyFraction old new k tt g (λ o t h i. no_fraction limit fs b ds o h)
@@ -131,7 +131,7 @@ module _ {S : Type 0} (sight : Sight S) (p q : S) where
         answers = ap Some x.minus;
         ends = g.result.2;
         leads = λ limit fs.
-            Leads_to sight limit p t (Leads_digits sight limit (powered fs b ds f a.c x.sign) (powered_next fs b ds f a.c x.sign) (powered_digit limit fs b ds f a.c x.sign) p r t (sign_leads limit fs) g.ds g.digits g.takes) (powered_whole fs b ds f a.c x.sign g.ds g.result.1);
+            Leads_to sight limit p t (Leads_digits sight limit (powered fs b ds f a.c x.sign) (powered_next fs b ds f a.c x.sign) (powered_digit limit fs b ds f a.c x.sign) p r t (sign_leads limit fs) g.ds g.digits g.takes) (powered_integer fs b ds f a.c x.sign g.ds g.result.1);
       }
 
       pub Refuses_exponent : (k : JsonParseErrorKind) → Digits sight EmptyExponent r old (Err k) new t → (limit : Option ℕ) (fs : List Frame) → Refuses sight limit p (next fs (digits fraction (numeral b ds f None))) k t
@@ -142,13 +142,13 @@ module _ {S : Type 0} (sight : Sight S) (p q : S) where
 
 -- the marks that are known before the fraction is read
 abbrev pub front_marks : Numeral → Bool × ℕ
-front_marks n = (n.negative, length n.whole)
+front_marks n = (n.negative, length n.integer)
 
 module _ {S : Type 0} (sight : Sight S) (p q r : S) (mid new : List ℕ) where
   -- a part, and the next
-  pub Part_fraction : {v : Bool} → Part sight (λ n. n.negative) (λ (x : Bool × List ℕ). numeral x.0 x.1 [] None) whole p (λ fs. next fs awaited) v mid q
+  pub Part_fraction : {v : Bool} → Part sight (λ n. n.negative) (λ (x : Bool × List ℕ). numeral x.0 x.1 [] None) integer p (λ fs. next fs awaited) v mid q
       → (k : ℕ) → k ≡ length mid
-      → ((b : Bool) (ds : List ℕ) → Gathered (numeral b ds [] None) mid → Ends sight q → Part sight (λ _. tt {0}) (λ f. numeral b ds f None) fraction q (λ fs. next fs (digits whole (numeral b ds [] None))) tt new r)
+      → ((b : Bool) (ds : List ℕ) → Gathered (numeral b ds [] None) mid → Ends sight q → Part sight (λ _. tt {0}) (λ f. numeral b ds f None) fraction q (λ fs. next fs (digits integer (numeral b ds [] None))) tt new r)
       → Part sight front_marks (λ (x : Bool × List ℕ × List ℕ). numeral x.0 x.1 x.2 None) fraction p (λ fs. next fs awaited) (v, k) new r
   Part_fraction i k w f =
       let x = f i.part.0 i.part.1 i.has i.ends in
@@ -158,14 +158,14 @@ module _ {S : Type 0} (sight : Sight S) (p q r : S) (mid new : List ℕ) where
   pub Part_number : {v : Bool} {m : ℕ} {w : Option Bool} → Part sight front_marks (λ (x : Bool × List ℕ × List ℕ). numeral x.0 x.1 x.2 None) fraction p (λ fs. next fs awaited) (v, m) mid q
       → (k : ℕ) → k ≡ length mid
       → ((b : Bool) (ds f : List ℕ) → Gathered (numeral b ds f None) mid → Ends sight q → Part sight (λ n. is_below_zero n.exponent) (numeral b ds f) exponent q (λ fs. next fs (digits fraction (numeral b ds f None))) w new r)
-      → Part sight marks_of (λ n. n) exponent p (λ fs. next fs awaited) (record { negative = v; whole = m; fraction = k; exponent = w }) new r
+      → Part sight marks_of (λ n. n) exponent p (λ fs. next fs awaited) (record { negative = v; integer = m; fraction = k; exponent = w }) new r
   Part_number i k l e =
       let x = e i.part.0 i.part.1 i.part.2 i.has i.ends in
       let n : k ≡ length i.part.1 + length i.part.2 = l ∙ ap length (sym i.has.gathered ∙ ap (λ t. i.part.1 ++ t) (append-nil i.part.2)) ∙ length-append i.part.1 i.part.2 in
       record {
         part = numeral i.part.0 i.part.1 i.part.2 x.part;
         has = x.has;
-        answers = λ y. record { negative = (i.answers y).0; whole = (i.answers y).1; fraction = n y; exponent = x.answers y };
+        answers = λ y. record { negative = (i.answers y).0; integer = (i.answers y).1; fraction = n y; exponent = x.answers y };
         ends = x.ends;
         leads = λ limit fs. Leads_trans sight limit p q r (i.leads limit fs) (x.leads limit fs);
       }
@@ -174,38 +174,38 @@ module _ {S : Type 0} (sight : Sight S) (p q r : S) (mid new : List ℕ) where
 abbrev pub parts_of : List ℕ → Marks → Option ExponentParts → NumberParts
 parts_of text m e = record {
   negative = m.negative;
-  whole = record { ref_ptr = (0, 0); now = take m.whole text };
-  fraction = record { ref_ptr = (0, 0); now = take (m.fraction - m.whole) (drop m.whole text) };
+  integer = record { ref_ptr = (0, 0); now = take m.integer text };
+  fraction = record { ref_ptr = (0, 0); now = take (m.fraction - m.integer) (drop m.integer text) };
   exponent = e;
 }
 
 -- those that end at the marks of a numeral are its parts
 module _ (n : Numeral) (text : List ℕ) (m : Marks) (has : Gathered n text) (at : m ≡ marks_of n) where
   abbrev i : ℕ
-  i = m.whole
+  i = m.integer
 
   abbrev j : ℕ
   j = m.fraction
 
-  to_whole : i ≡ length n.whole
-  to_whole = ap (λ (x : Marks). x.whole) at
+  to_integer : i ≡ length n.integer
+  to_integer = ap (λ (x : Marks). x.integer) at
 
-  to_fraction : j ≡ length n.whole + length n.fraction
+  to_fraction : j ≡ length n.integer + length n.fraction
   to_fraction = ap (λ (x : Marks). x.fraction) at
 
-  whole_at : take i text ≡ n.whole
-  whole_at = ap (take i) (sym has.gathered) ∙ take_at n.whole (n.fraction ++ exponent_digits n.exponent) i (sym to_whole)
+  integer_at : take i text ≡ n.integer
+  integer_at = ap (take i) (sym has.gathered) ∙ take_at n.integer (n.fraction ++ exponent_digits n.exponent) i (sym to_integer)
 
   from_fraction : drop i text ≡ n.fraction ++ exponent_digits n.exponent
-  from_fraction = ap (drop i) (sym has.gathered) ∙ drop_at n.whole (n.fraction ++ exponent_digits n.exponent) i (sym to_whole)
+  from_fraction = ap (drop i) (sym has.gathered) ∙ drop_at n.integer (n.fraction ++ exponent_digits n.exponent) i (sym to_integer)
 
   fraction_at : take (j - i) (drop i text) ≡ n.fraction
-  fraction_at = ap (take (j - i)) from_fraction ∙ take_at n.fraction (exponent_digits n.exponent) (j - i) (omega (arith, to_whole, to_fraction))
+  fraction_at = ap (take (j - i)) from_fraction ∙ take_at n.fraction (exponent_digits n.exponent) (j - i) (omega (arith, to_integer, to_fraction))
 
   exponent_at : drop j text ≡ exponent_digits n.exponent
   exponent_at =
-      let both : all_digits n ≡ (n.whole ++ n.fraction) ++ exponent_digits n.exponent = sym (append_assoc n.whole n.fraction (exponent_digits n.exponent)) in
-      ap (drop j) (sym has.gathered ∙ both) ∙ drop_at (n.whole ++ n.fraction) (exponent_digits n.exponent) j (length-append n.whole n.fraction ∙ sym to_fraction)
+      let both : all_digits n ≡ (n.integer ++ n.fraction) ++ exponent_digits n.exponent = sym (append_assoc n.integer n.fraction (exponent_digits n.exponent)) in
+      ap (drop j) (sym has.gathered ∙ both) ∙ drop_at (n.integer ++ n.fraction) (exponent_digits n.exponent) j (length-append n.integer n.fraction ∙ sym to_fraction)
 
   plain_at : (e : Option Exponent) → m.exponent ≡ is_below_zero e → (t : List ℕ) → t ≡ exponent_digits e → written t m.exponent ≡ plain_exponent e
   plain_at None h t k = ap (written t) h
@@ -213,12 +213,12 @@ module _ (n : Numeral) (text : List ℕ) (m : Marks) (has : Gathered n text) (at
 
   pub marks_within : (i ≤ j) × (j ≤ length text)
   marks_within =
-      (omega (arith, to_whole, to_fraction), omega (arith, to_fraction, ap length has.gathered, length-append n.whole (n.fraction ++ exponent_digits n.exponent), length-append n.fraction (exponent_digits n.exponent)))
+      (omega (arith, to_integer, to_fraction), omega (arith, to_fraction, ap length has.gathered, length-append n.integer (n.fraction ++ exponent_digits n.exponent), length-append n.fraction (exponent_digits n.exponent)))
 
   pub parts_plain : (e : Option ExponentParts) → exponent_of e ≡ written (take (length text - j) (drop j text)) m.exponent → numeral_of (parts_of text m e) ≡ plain n
   parts_plain e h =
       let u = h ∙ plain_at n.exponent (ap (λ (x : Marks). x.exponent) at) (take (length text - j) (drop j text)) (take_all _ _ (omega (arith, length-drop j text)) ∙ exponent_at) in
-      λ k. record { negative = (at k).negative; whole = whole_at k; fraction = fraction_at k; exponent = u k }
+      λ k. record { negative = (at k).negative; integer = integer_at k; fraction = fraction_at k; exponent = u k }
 
 -- the number ends here
 module _ {S : Type 0} (sight : Sight S) (limit : Option ℕ) (fs : List Frame) (p q : S) {T : Type 0} {answer : Numeral → T} {v : T} (text : List ℕ) (n : Part sight answer (λ n. n) exponent p (λ fs. next fs awaited) v text q) where

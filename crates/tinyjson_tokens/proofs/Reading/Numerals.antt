@@ -1,4 +1,4 @@
--- Numbers that a text in memory shows whole.
+-- Numbers that a text in memory shows at once.
 use Rattle.std.proofs.Common.{◌≡◌, ◌==◌, ℕ, ◌+◌, ◌-◌, ◌<◌, ◌≤◌, Bool, true, false, List, [], ◌∷◌, ◌++◌, length, take, drop, get_or, Option, Some, None, IfSome, refl, sym, ap, ◌∙◌, subst, suc, arith, drop-cons, add-one, append_assoc, length-append, ⊎_elim}
 use Rattle.std.specs.Prelude.{slice_get, encode_utf8, if◌then◌else◌}
 use Rattle.std.specs.Char.{is_ascii_digit, len_utf8}
@@ -15,14 +15,14 @@ use Rattle.tinyjson_number.specs.Numeral.{numeral, Numeral, Exponent, AreDigits,
 use Rattle.tinyjson_number.specs.declared.parse.ExponentParts.{ExponentParts}
 use Rattle.tinyjson_number.specs.declared.parse.NumberParts.{NumberParts}
 use Rattle.tinyjson_grammar.specs.Position.{advance, origin}
-use Rattle.tinyjson_grammar.specs.Machine.{Frame, Next, next, stop, awaited, digits, whole, fraction, exponent, complete}
+use Rattle.tinyjson_grammar.specs.Machine.{Frame, Next, next, stop, awaited, digits, integer, fraction, exponent, complete}
 use Rattle.tinyjson_tokens.specs.NumberSteps.{all_digits, Part}
 use Rattle.tinyjson_tokens.specs.Numerals.{ShowsAt, EndsAt, EndsNumber, FractionAt, SignAt, ExponentAt, MantissaAt, IsGrammatical, NumeralAt, PartsAt, TakesNumeral}
 use Rattle.tinyjson_tokens.specs.declared.numerals.Mantissa.{Mantissa}
 use Rattle.tinyjson_source.specs.Slice.{before, chars_after, run_end, NextChar}
 use Rattle.tinyjson_source.specs.Source.{Sight}
 use Rattle.tinyjson_tokens.specs.Steps.{Comes, IsNext, IsTaken, Leads, onward}
-use Rattle.tinyjson_tokens.proofs.Reading.Number.{is_one, are_digits, begun, begun_next, begun_digit, begun_whole, pointed, pointed_next, pointed_digit, powered, powered_next, powered_digit, powered_whole, minus_begins, point_read, letter_read, sign_read, no_point, no_letter, digits_come, Leads_rest}
+use Rattle.tinyjson_tokens.proofs.Reading.Number.{is_one, are_digits, begun, begun_next, begun_digit, begun_integer, pointed, pointed_next, pointed_digit, powered, powered_next, powered_digit, powered_integer, minus_begins, point_read, letter_read, sign_read, no_point, no_letter, digits_come, Leads_rest}
 use Rattle.tinyjson_tokens.proofs.Reading.NumberParts.{Leads_number, plain_minus}
 use Rattle.tinyjson_grammar.specs.Tree.{number}
 use Rattle.tinyjson_source.specs.declared.text.TextBytes.{TextBytes}
@@ -103,33 +103,33 @@ exponent_ends b ds f e None d = tt
 exponent_ends b ds f e (Some c) d = record { digit = d; point = λ i j. absurd (some_none e j); letter = λ j. absurd (some_none e j) }
 
 module _ (text : List ℕ) (at : ℕ) (m : Mantissa) (end : ℕ) (x : MantissaAt text at m end) where
-  parts_spelled : (e : Option Exponent) (last : ℕ) → drop end text ≡ exponent_text e ++ drop last text → drop at text ≡ spelling (numeral m.negative m.whole.now m.fraction.now e) ++ drop last text
+  parts_spelled : (e : Option Exponent) (last : ℕ) → drop end text ≡ exponent_text e ++ drop last text → drop at text ≡ spelling (numeral m.negative m.integer.now m.fraction.now e) ++ drop last text
   parts_spelled e last h =
       let b = m.negative in
-      let ds = m.whole.now in
+      let ds = m.integer.now in
       let f = m.fraction.now in
       let more = drop last text in
       let tail : drop x.point text ≡ (fraction_text f ++ exponent_text e) ++ more = x.fraction.spelled ∙ ap (λ t. fraction_text f ++ t) h ∙ sym (append_assoc (fraction_text f) (exponent_text e) more) in
       let digits : ds ++ drop x.point text ≡ (ds ++ (fraction_text f ++ exponent_text e)) ++ more = ap (λ t. ds ++ t) tail ∙ sym (append_assoc ds (fraction_text f ++ exponent_text e) more) in
       x.spelled ∙ ap (λ t. minus_text b ++ t) digits ∙ sym (append_assoc (minus_text b) (ds ++ (fraction_text f ++ exponent_text e)) more)
 
-  grammatical : (e : Option Exponent) → IfSome e IsExponent → IsGrammatical (numeral m.negative m.whole.now m.fraction.now e)
-  grammatical e h = record { well_formed = record { whole = x.whole; some_digit = x.some_digit; fraction = x.fraction.digits; exponent = h }; no_leading_zero = x.no_leading_zero }
+  grammatical : (e : Option Exponent) → IfSome e IsExponent → IsGrammatical (numeral m.negative m.integer.now m.fraction.now e)
+  grammatical e h = record { well_formed = record { integer = x.integer; some_digit = x.some_digit; fraction = x.fraction.digits; exponent = h }; no_leading_zero = x.no_leading_zero }
 
   -- the parts with this exponent
   abbrev with_exponent : Option ExponentParts → NumberParts
-  with_exponent e = record { negative = m.negative; whole = m.whole; fraction = m.fraction; exponent = e }
+  with_exponent e = record { negative = m.negative; integer = m.integer; fraction = m.fraction; exponent = e }
 
   pub plain_between : ShowsAt is_exponent_letter text end false → PartsAt text at (with_exponent None) end
   plain_between h =
       let f = m.fraction.now in (
-        numeral m.negative m.whole.now f None,
+        numeral m.negative m.integer.now f None,
         refl,
         record {
           grammatical = grammatical None tt;
           spelled = parts_spelled None end refl;
           within = x.fraction.within;
-          ends = no_exponent_ends m.negative m.whole.now f (slice_get text end) x.fraction.ends x.fraction.no_point h;
+          ends = no_exponent_ends m.negative m.integer.now f (slice_get text end) x.fraction.ends x.fraction.no_point h;
         },
       )
 
@@ -139,13 +139,13 @@ module _ (text : List ℕ) (at : ℕ) (m : Mantissa) (end : ℕ) (x : MantissaAt
       let f = m.fraction.now in
       let exponent : Exponent = record { letter = letter; sign = e.sign; digits = parts.digits.now } in
       let same = ap (λ s. Some (record { letter = 101; sign = s; digits = parts.digits.now })) (ap (λ b. if b then Some 45 else None) e.minus ∙ plain_minus e.sign) in (
-        numeral m.negative m.whole.now f (Some exponent),
-        ap (numeral m.negative m.whole.now f) same,
+        numeral m.negative m.integer.now f (Some exponent),
+        ap (numeral m.negative m.integer.now f) same,
         record {
           grammatical = grammatical (Some exponent) (record { letter = h.1; sign = e.known; digits = e.digits; some_digit = e.some_digit });
           spelled = parts_spelled (Some exponent) last (shown_first text end letter h.0 refl ∙ ap (λ bs. letter ∷ bs) e.spelled);
           within = e.within;
-          ends = exponent_ends m.negative m.whole.now f exponent (slice_get text last) e.ends;
+          ends = exponent_ends m.negative m.integer.now f exponent (slice_get text last) e.ends;
         },
       )
 
@@ -169,7 +169,7 @@ module _ (text : List ℕ) (at : ℕ) (first : at ≤ length text) (n : Numeral)
   pub numeral_some : at < end
   numeral_some = omega (arith, numeral_count, spelling_room n, x.grammatical.well_formed.some_digit)
 
-  numeral_room : length n.whole + length n.fraction ≤ length text
+  numeral_room : length n.integer + length n.fraction ≤ length text
   numeral_room = omega (arith, numeral_count, x.within, spelling_room n)
 
 module _ (text : List ℕ) (utf8 : IsUtf8 text) (at : ℕ) (first : IsCharBoundary text at) (n : Numeral) (end : ℕ) (x : NumeralAt text at n end) where
@@ -236,11 +236,11 @@ numeral_taken p q n x same =
       ends = (f.0, ap (λ t. slice_get (chars_after t end) 0) same ∙ f.1, f.2);
     }
 
-pub parts_room : (text : List ℕ) (at : ℕ) (first : at ≤ length text) (parts : NumberParts) (end : ℕ) → PartsAt text at parts end → length parts.whole.now + length parts.fraction.now ≤ length text
+pub parts_room : (text : List ℕ) (at : ℕ) (first : at ≤ length text) (parts : NumberParts) (end : ℕ) → PartsAt text at parts end → length parts.integer.now + length parts.fraction.now ≤ length text
 parts_room text at first parts end x =
-    let whole = ap (λ (m : Numeral). length m.whole) x.1 in
+    let integer = ap (λ (m : Numeral). length m.integer) x.1 in
     let fraction = ap (λ (m : Numeral). length m.fraction) x.1 in
-    omega (arith, whole, fraction, numeral_room text at first x.0 end x.2)
+    omega (arith, integer, fraction, numeral_room text at first x.0 end x.2)
 
 -- ---- the machine takes it
 
@@ -257,25 +257,25 @@ module _ (limit : Option ℕ) (fs : List Frame) where
   minus_comes true rest = one_comes (next fs awaited) (begun fs true []) 45 rest tt tt (minus_begins limit fs 45 refl)
   minus_comes false rest = (Same_refl limit (next fs awaited) rest, λ w. w)
 
-  -- the state after the fraction, or where there is none after the whole part
+  -- the state after the fraction, or where there is none after the integer part
   abbrev reached : Bool → List ℕ → List ℕ → Next
-  reached b ds [] = next fs (digits whole (numeral b ds [] None))
+  reached b ds [] = next fs (digits integer (numeral b ds [] None))
   reached b ds (x ∷ xs) = next fs (digits fraction (numeral b ds (x ∷ xs) None))
 
   reached_next : (b : Bool) (ds f : List ℕ) → IsNext (reached b ds f)
   reached_next b ds [] = tt
   reached_next b ds (x ∷ xs) = tt
 
-  whole_comes : (b : Bool) (ds rest : List ℕ) → AreDigits ds → 0 < length ds → Comes limit (next fs awaited) (minus_text b ++ ds) (next fs (digits whole (numeral b ds [] None))) rest
-  whole_comes b ds rest a l =
-      Comes_trans limit (next fs awaited) (begun fs b []) (next fs (digits whole (numeral b ds [] None))) (minus_text b) ds rest (minus_comes b (ds ++ rest))
-      (subst (λ z. Comes limit (begun fs b []) ds z rest) (begun_whole fs b ds l) (digits_come limit (begun fs b) (begun_next fs b) (begun_digit limit fs b) [] ds rest (all_pass ds a)))
+  integer_comes : (b : Bool) (ds rest : List ℕ) → AreDigits ds → 0 < length ds → Comes limit (next fs awaited) (minus_text b ++ ds) (next fs (digits integer (numeral b ds [] None))) rest
+  integer_comes b ds rest a l =
+      Comes_trans limit (next fs awaited) (begun fs b []) (next fs (digits integer (numeral b ds [] None))) (minus_text b) ds rest (minus_comes b (ds ++ rest))
+      (subst (λ z. Comes limit (begun fs b []) ds z rest) (begun_integer fs b ds l) (digits_come limit (begun fs b) (begun_next fs b) (begun_digit limit fs b) [] ds rest (all_pass ds a)))
 
-  fraction_comes : (b : Bool) (ds f rest : List ℕ) → has_leading_zero ds ≡ false → AreDigits f → Comes limit (next fs (digits whole (numeral b ds [] None))) (fraction_text f) (reached b ds f) rest
-  fraction_comes b ds [] rest z a = (Same_refl limit (next fs (digits whole (numeral b ds [] None))) rest, λ w. w)
+  fraction_comes : (b : Bool) (ds f rest : List ℕ) → has_leading_zero ds ≡ false → AreDigits f → Comes limit (next fs (digits integer (numeral b ds [] None))) (fraction_text f) (reached b ds f) rest
+  fraction_comes b ds [] rest z a = (Same_refl limit (next fs (digits integer (numeral b ds [] None))) rest, λ w. w)
   fraction_comes b ds (x ∷ xs) rest z a =
-      Comes_trans limit (next fs (digits whole (numeral b ds [] None))) (pointed fs b ds []) (reached b ds (x ∷ xs)) (46 ∷ []) (x ∷ xs) rest
-      (one_comes (next fs (digits whole (numeral b ds [] None))) (pointed fs b ds []) 46 (x ∷ xs ++ rest) tt tt (point_read limit fs b ds 46 z refl))
+      Comes_trans limit (next fs (digits integer (numeral b ds [] None))) (pointed fs b ds []) (reached b ds (x ∷ xs)) (46 ∷ []) (x ∷ xs) rest
+      (one_comes (next fs (digits integer (numeral b ds [] None))) (pointed fs b ds []) 46 (x ∷ xs ++ rest) tt tt (point_read limit fs b ds 46 z refl))
       (digits_come limit (pointed fs b ds) (pointed_next fs b ds) (pointed_digit limit fs b ds) [] (x ∷ xs) rest (all_pass (x ∷ xs) a))
 
   -- the state after the exponent, or where there is none after the fraction
@@ -300,28 +300,28 @@ module _ (limit : Option ℕ) (fs : List Frame) where
       (one_comes (reached b ds f) (powered fs b ds f l None []) l ((sign_text s ++ e.digits) ++ rest) (reached_next b ds f) tt (letter_comes b ds f l z h.letter))
       (Comes_trans limit (powered fs b ds f l None []) (powered fs b ds f l s []) (arrived b ds f (Some e)) (sign_text s) e.digits rest
       (sign_comes b ds f l s (e.digits ++ rest) h.sign)
-      (subst (λ z. Comes limit (powered fs b ds f l s []) e.digits z rest) (powered_whole fs b ds f l s e.digits h.some_digit)
+      (subst (λ z. Comes limit (powered fs b ds f l s []) e.digits z rest) (powered_integer fs b ds f l s e.digits h.some_digit)
       (digits_come limit (powered fs b ds f l s) (powered_next fs b ds f l s) (powered_digit limit fs b ds f l s) [] e.digits rest (all_pass e.digits h.digits))))
 
-  numeral_comes : (n : Numeral) (rest : List ℕ) → IsGrammatical n → Comes limit (next fs awaited) (spelling n) (arrived n.negative n.whole n.fraction n.exponent) rest
+  numeral_comes : (n : Numeral) (rest : List ℕ) → IsGrammatical n → Comes limit (next fs awaited) (spelling n) (arrived n.negative n.integer n.fraction n.exponent) rest
   numeral_comes n rest x =
       let b = n.negative in
-      let ds = n.whole in
+      let ds = n.integer in
       let f = n.fraction in
       let e = n.exponent in
       let to = arrived b ds f e in
       let parts : spelling n ≡ (minus_text b ++ ds) ++ (fraction_text f ++ exponent_text e) = sym (append_assoc (minus_text b) ds (fraction_text f ++ exponent_text e)) in
       subst (λ t. Comes limit (next fs awaited) t to rest) (sym parts)
-      (Comes_trans limit (next fs awaited) (next fs (digits whole (numeral b ds [] None))) to (minus_text b ++ ds) (fraction_text f ++ exponent_text e) rest
-      (whole_comes b ds ((fraction_text f ++ exponent_text e) ++ rest) x.well_formed.whole x.well_formed.some_digit)
-      (Comes_trans limit (next fs (digits whole (numeral b ds [] None))) (reached b ds f) to (fraction_text f) (exponent_text e) rest
+      (Comes_trans limit (next fs awaited) (next fs (digits integer (numeral b ds [] None))) to (minus_text b ++ ds) (fraction_text f ++ exponent_text e) rest
+      (integer_comes b ds ((fraction_text f ++ exponent_text e) ++ rest) x.well_formed.integer x.well_formed.some_digit)
+      (Comes_trans limit (next fs (digits integer (numeral b ds [] None))) (reached b ds f) to (fraction_text f) (exponent_text e) rest
       (fraction_comes b ds f (exponent_text e ++ rest) x.no_leading_zero x.well_formed.fraction)
       (exponent_comes b ds f e rest x.no_leading_zero x.well_formed.exponent)))
 
 module _ {S : Type 0} (sight : Sight S) (p q : S) (n : Numeral) (x : TakesNumeral sight p n q) where
   numeral_leads : (limit : Option ℕ) (fs : List Frame) → Leads sight limit p (next fs awaited) q (next fs (digits exponent n))
   numeral_leads limit fs =
-      let l : Leads sight limit p (next fs awaited) q (arrived limit fs n.negative n.whole n.fraction n.exponent) = record {
+      let l : Leads sight limit p (next fs awaited) q (arrived limit fs n.negative n.integer n.fraction n.exponent) = record {
         taken = spelling n;
         gives = λ zs g. let y = x.takes.gives zs g in (y.0, y.1, y.2, numeral_comes limit fs n y.0 x.grammatical);
         moves = x.takes.moves;
@@ -340,27 +340,27 @@ module _ {S : Type 0} (sight : Sight S) (p q : S) (n : Numeral) (x : TakesNumera
       no_exponent_letter None j h = tt
       no_exponent_letter (Some c) j h = h.letter j
 
-      after_point : (limit : Option ℕ) (fs : List Frame) (f : List ℕ) → n.fraction ≡ f → n.exponent ≡ None → Leads sight limit p (next fs awaited) q (reached limit fs n.negative n.whole f)
-          → Leads sight limit p (next fs awaited) q (next fs (digits fraction (numeral n.negative n.whole f None)))
+      after_point : (limit : Option ℕ) (fs : List Frame) (f : List ℕ) → n.fraction ≡ f → n.exponent ≡ None → Leads sight limit p (next fs awaited) q (reached limit fs n.negative n.integer f)
+          → Leads sight limit p (next fs awaited) q (next fs (digits fraction (numeral n.negative n.integer f None)))
       after_point limit fs [] i j l = let e = x.ends in
-          Leads_rest sight limit p q (next fs (digits fraction (numeral n.negative n.whole [] None))) e.0 l e.1 tt
-          (no_point limit fs n.negative n.whole e.0 x.grammatical.no_leading_zero (no_digit e.0 e.2) (no_dot e.0 i j e.2))
+          Leads_rest sight limit p q (next fs (digits fraction (numeral n.negative n.integer [] None))) e.0 l e.1 tt
+          (no_point limit fs n.negative n.integer e.0 x.grammatical.no_leading_zero (no_digit e.0 e.2) (no_dot e.0 i j e.2))
       after_point limit fs (y ∷ ys) i j l = l
 
-      after_fraction : (limit : Option ℕ) (fs : List Frame) (o : Option Exponent) → n.exponent ≡ o → Leads sight limit p (next fs awaited) q (arrived limit fs n.negative n.whole n.fraction o)
-          → Leads sight limit p (next fs awaited) q (next fs (digits exponent (numeral n.negative n.whole n.fraction o)))
+      after_fraction : (limit : Option ℕ) (fs : List Frame) (o : Option Exponent) → n.exponent ≡ o → Leads sight limit p (next fs awaited) q (arrived limit fs n.negative n.integer n.fraction o)
+          → Leads sight limit p (next fs awaited) q (next fs (digits exponent (numeral n.negative n.integer n.fraction o)))
       after_fraction limit fs None j l = let e = x.ends in
-          Leads_rest sight limit p q (next fs (digits exponent (numeral n.negative n.whole n.fraction None))) e.0
+          Leads_rest sight limit p q (next fs (digits exponent (numeral n.negative n.integer n.fraction None))) e.0
           (after_point limit fs n.fraction refl j l) e.1 tt
-          (no_letter limit fs (numeral n.negative n.whole n.fraction None) e.0 (no_digit e.0 e.2) (no_exponent_letter e.0 j e.2))
+          (no_letter limit fs (numeral n.negative n.integer n.fraction None) e.0 (no_digit e.0 e.2) (no_exponent_letter e.0 j e.2))
       after_fraction limit fs (Some y) j l = l
 
   no_digit_next : (o : Option ℕ) → IfSome o (EndsNumber n) → IfSome o (λ c. is_ascii_digit c ≡ false)
   no_digit_next None h = tt
   no_digit_next (Some c) h = h.digit
 
-  part_whole : Part sight (λ (m : Numeral). tt {0}) (λ m. m) exponent p (λ fs. next fs awaited) tt (all_digits n) q
-  part_whole = record {
+  part_integer : Part sight (λ (m : Numeral). tt {0}) (λ m. m) exponent p (λ fs. next fs awaited) tt (all_digits n) q
+  part_integer = record {
     part = n;
     has = record { well_formed = x.grammatical.well_formed; no_leading_zero = x.grammatical.no_leading_zero; gathered = refl };
     answers = refl;
@@ -370,5 +370,5 @@ module _ {S : Type 0} (sight : Sight S) (p q : S) (n : Numeral) (x : TakesNumera
 
   -- the whole number was read
   pub Leads_numeral : (limit : Option ℕ) (fs : List Frame) (y : Canonical) → (y.decimal ≡ value n) × (in_range (value n) ≡ true) → Leads sight limit p (next fs awaited) q (complete true fs (number y.decimal) true)
-  unfolding part_whole
-  Leads_numeral limit fs y r = Leads_number sight limit fs p q (all_digits n) part_whole y r
+  unfolding part_integer
+  Leads_numeral limit fs y r = Leads_number sight limit fs p q (all_digits n) part_integer y r

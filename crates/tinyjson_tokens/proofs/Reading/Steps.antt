@@ -279,7 +279,7 @@ module _ (limit : Option ℕ) where
   unfolding step
   white_finished t c h = rw h refl
 
-  -- ---- a character that is no white space
+  -- ---- a character that is not white space
 
   pub no_end : (t : Tree) (c : ℕ) → is_white c ≡ false → onward limit (next [] (finished t)) c ≡ stop (ExpectedEof c) true
   unfolding step

@@ -128,7 +128,7 @@ fn known_parts(rt: HostRuntime) -> Result<(), Fail> {
     };
     let parts = NumberParts {
         negative: true,
-        whole: b"12",
+        integer: b"12",
         fraction: b"30",
         exponent: Some(exponent),
     };

@@ -1,6 +1,6 @@
 //! Arrays and objects by the number of their items and members.
 
-use super::{Case, SIZES, fault};
+use super::{Case, SIZES, mistake};
 use crate::common::{put, single, whole};
 use std::alloc::{AllocError, Global};
 use std::collections::HashMap;
@@ -96,7 +96,11 @@ fn items(alloc: Global, size: usize) -> Result<Case, Fail> {
 fn arrays_of_each_size(rt: HostRuntime) -> Result<(), Fail> {
     for size in SIZES {
         let case = items(rt.alloc(), size)?;
-        assert_eq!(rt; fault(rt.alloc(), &case), None, "the array of {size} items");
+        assert_eq!(rt;
+            mistake(rt.alloc(), &case),
+            None,
+            "the array of {size} items"
+        );
     }
     Ok(())
 }
@@ -135,7 +139,7 @@ fn objects_of_each_size(rt: HostRuntime) -> Result<(), Fail> {
     for size in SIZES {
         let case = members(rt.alloc(), size)?;
         assert_eq!(rt;
-            fault(rt.alloc(), &case),
+            mistake(rt.alloc(), &case),
             None,
             "the object of {size} members"
         );
@@ -180,7 +184,7 @@ fn equal_keys_of_each_number(rt: HostRuntime) -> Result<(), Fail> {
     for size in SIZES {
         let case = equal_keys(rt.alloc(), size)?;
         assert_eq!(rt;
-            fault(rt.alloc(), &case),
+            mistake(rt.alloc(), &case),
             None,
             "the object of {size} equal keys"
         );

@@ -1,6 +1,6 @@
 //! Containers in one another, by their number.
 
-use super::{Case, SIZES, fault};
+use super::{Case, SIZES, mistake};
 use crate::common::{is_refusal, parsed, single};
 use std::alloc::{AllocError, Global};
 use std::test::Fail;
@@ -106,7 +106,7 @@ fn closed_containers_of_each_depth(rt: HostRuntime) -> Result<(), Fail> {
         for size in SIZES {
             if size <= DEEPEST {
                 let case = case(rt.alloc(), nest, size)?;
-                assert_eq!(rt; fault(rt.alloc(), &case), None, "{size} {nest:?}");
+                assert_eq!(rt; mistake(rt.alloc(), &case), None, "{size} {nest:?}");
             }
         }
     }

@@ -1,6 +1,6 @@
 //! Numbers by the number of digits of their parts.
 
-use super::{Case, SIZES, fault, repeated};
+use super::{Case, SIZES, mistake, repeated};
 use crate::common::number;
 use std::alloc::Global;
 use std::process::Abort;
@@ -93,7 +93,7 @@ fn is_shown(alloc: Global, case: &Case) -> bool {
 
 /// The number as it is read, written, copied, converted and shown.
 fn check_number(rt: &impl Abort, alloc: Global, case: &Case, name: &str, size: usize) {
-    assert_eq!(rt; fault(alloc, case), None, "the number of {size} {name}");
+    assert_eq!(rt; mistake(alloc, case), None, "the number of {size} {name}");
     assert!(rt;
         is_shown(alloc, case),
         "the number of {size} {name} is not shown"

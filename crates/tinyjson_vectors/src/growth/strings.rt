@@ -1,6 +1,6 @@
 //! Strings and keys by the number of their characters.
 
-use super::{Case, SIZES, fault, repeated};
+use super::{Case, SIZES, mistake, repeated};
 use crate::common::single;
 use std::alloc::Global;
 use std::test::Fail;
@@ -88,7 +88,7 @@ fn strings_of_each_size(rt: HostRuntime) -> Result<(), Fail> {
         for size in SIZES {
             let case = string(rt.alloc(), part, size)?;
             assert_eq!(rt;
-                fault(rt.alloc(), &case),
+                mistake(rt.alloc(), &case),
                 None,
                 "the string of {size} times {}",
                 part.spelled
@@ -104,7 +104,7 @@ fn keys_of_each_size(rt: HostRuntime) -> Result<(), Fail> {
         for size in SIZES {
             let case = key(rt.alloc(), part, size)?;
             assert_eq!(rt;
-                fault(rt.alloc(), &case),
+                mistake(rt.alloc(), &case),
                 None,
                 "the key of {size} times {}",
                 part.spelled

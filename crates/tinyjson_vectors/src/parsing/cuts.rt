@@ -16,25 +16,26 @@ const TEXTS: &[&str] = &[
 ];
 
 /// Whether a text was accepted, or refused as one that goes on, at this place.
-fn is_beginning(answer: JsonParseResult, place: (usize, usize)) -> bool {
-    let Err(fault) = answer else {
+fn is_end_of_a_prefix(answer: JsonParseResult, place: (usize, usize)) -> bool {
+    let Err(error) = answer else {
         return true;
     };
     let goes_on = matches!(
-        fault.kind(),
+        error.kind(),
         Kind::UnexpectedEof | Kind::EmptyInteger | Kind::EmptyFraction | Kind::EmptyExponent
     );
-    goes_on && (fault.line(), fault.column()) == place
+    goes_on && (error.line(), error.column()) == place
 }
 
-/// A beginning of a text is accepted, or it is refused where it ends, and then nothing is left.
+/// A prefix of a text is accepted, or it is refused where it ends, and then nothing is left.
 fn ends(alloc: Global, text: &str, length: usize, place: (usize, usize)) -> bool {
     let mut parser = JsonParser::new(alloc, text.chars().take(length));
-    is_beginning(parser.parse(), place) && is_refusal(parser.parse(), Kind::UnexpectedEof, place)
+    is_end_of_a_prefix(parser.parse(), place)
+        && is_refusal(parser.parse(), Kind::UnexpectedEof, place)
 }
 
 #[test]
-fn each_beginning_ends_well(rt: HostRuntime) {
+fn each_prefix_is_accepted_or_refused_at_its_end(rt: HostRuntime) {
     let texts = values::ROWS.iter().map(|row| row.0);
     for text in texts.chain(TEXTS.iter().copied()) {
         let mut place = (1, 0);

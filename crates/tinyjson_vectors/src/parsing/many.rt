@@ -78,7 +78,7 @@ fn items(alloc: Global, count: usize) -> Result<String, AllocError> {
 }
 
 /// What stands after the last member, the kind of the error, and how many characters of it are consumed.
-const BEHIND_MEMBERS: &[(&str, Kind, usize)] = &[
+const AFTER_MEMBERS: &[(&str, Kind, usize)] = &[
     ("", Kind::UnexpectedEof, 0),
     (" ;", Kind::ExpectedCommaOrBrace(';'), 2),
     (",}", Kind::InvalidCharacter('}'), 1),
@@ -89,7 +89,7 @@ const BEHIND_MEMBERS: &[(&str, Kind, usize)] = &[
 ];
 
 /// The same after the last item.
-const BEHIND_ITEMS: &[(&str, Kind, usize)] = &[
+const AFTER_ITEMS: &[(&str, Kind, usize)] = &[
     ("", Kind::UnexpectedEof, 0),
     (" x", Kind::ExpectedCommaOrBracket('x'), 2),
     (",]", Kind::InvalidCharacter(']'), 1),
@@ -114,12 +114,12 @@ fn what_follows_many_is_refused(rt: HostRuntime) -> Result<(), Fail> {
     for count in COUNTS {
         let members = members(alloc, count)?;
         assert!(rt;
-            all_refused(alloc, members.as_str(), BEHIND_MEMBERS)?,
+            all_refused(alloc, members.as_str(), AFTER_MEMBERS)?,
             "{count} members"
         );
         let items = items(alloc, count)?;
         assert!(rt;
-            all_refused(alloc, items.as_str(), BEHIND_ITEMS)?,
+            all_refused(alloc, items.as_str(), AFTER_ITEMS)?,
             "{count} items"
         );
     }

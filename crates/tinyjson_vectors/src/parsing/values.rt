@@ -76,7 +76,7 @@ pub(super) const ROWS: &[(&str, &str)] = &[
 fn is_end(answer: JsonParseResult) -> bool {
     match answer {
         Ok(_) => false,
-        Err(fault) => fault.kind() == JsonParseErrorKind::UnexpectedEof,
+        Err(error) => error.kind() == JsonParseErrorKind::UnexpectedEof,
     }
 }
 

@@ -1,7 +1,7 @@
 //! Writers that take few bytes a call, and writers that fail.
 
 use crate::common::{is_taken, number, pair, string, with_item};
-use crate::writers::{Fault, FaultyWriter, MESSAGE};
+use crate::writers::{FailingWriter, Failure, MESSAGE};
 use std::alloc::Global;
 use std::io::{self, ErrorKind};
 use std::process::Abort;
@@ -32,7 +32,7 @@ const NESTED: &str = "[1,{\"a\":[null,\"x\"],\"b\":2}]";
 #[test]
 fn writes_byte_by_byte(rt: HostRuntime) -> Result<(), Fail> {
     let value = nested(rt.alloc())?;
-    let mut writer = FaultyWriter::good(rt.alloc(), 1);
+    let mut writer = FailingWriter::good(rt.alloc(), 1);
     let answer = value.write_to(rt.alloc(), &mut writer);
     assert!(rt; is_taken(answer, writer.bytes(), NESTED));
     assert_eq!(rt;
@@ -43,7 +43,7 @@ fn writes_byte_by_byte(rt: HostRuntime) -> Result<(), Fail> {
 }
 
 /// A generator of indented texts writes a value three times.
-fn generate_three(alloc: Global, writer: &mut FaultyWriter, value: &JsonValue) -> io::Result<()> {
+fn generate_three(alloc: Global, writer: &mut FailingWriter, value: &JsonValue) -> io::Result<()> {
     let text = string(alloc, "\n\n")?;
     let mut generator = JsonGenerator::new(alloc, writer).indent("");
     generator.generate(value)?;
@@ -54,10 +54,10 @@ fn generate_three(alloc: Global, writer: &mut FaultyWriter, value: &JsonValue) -
 #[test]
 fn flushes_nothing(rt: HostRuntime) -> Result<(), Fail> {
     let value = nested(rt.alloc())?;
-    let mut writer = FaultyWriter::good(rt.alloc(), 3);
+    let mut writer = FailingWriter::good(rt.alloc(), 3);
     assert!(rt; value.format_to(rt.alloc(), &mut writer).is_ok());
     assert_eq!(rt; (writer.empty_calls(), writer.flushes()), (0, 0));
-    let mut writer = FaultyWriter::good(rt.alloc(), usize::MAX);
+    let mut writer = FailingWriter::good(rt.alloc(), usize::MAX);
     assert!(rt; generate_three(rt.alloc(), &mut writer, &value).is_ok());
     assert_eq!(rt;
         (writer.calls(), writer.empty_calls(), writer.flushes()),
@@ -67,7 +67,7 @@ fn flushes_nothing(rt: HostRuntime) -> Result<(), Fail> {
 }
 
 /// Whether an error of this kind was returned, which is shown so.
-fn is_fault(alloc: Global, answer: io::Result<()>, kind: ErrorKind, message: &str) -> bool {
+fn is_error(alloc: Global, answer: io::Result<()>, kind: ErrorKind, message: &str) -> bool {
     let Err(error) = answer else {
         return false;
     };
@@ -102,7 +102,7 @@ const CALLS: [(Call, &str); 4] = [
 ];
 
 impl Call {
-    fn write(self, alloc: Global, writer: &mut FaultyWriter, value: &JsonValue) -> io::Result<()> {
+    fn write(self, alloc: Global, writer: &mut FailingWriter, value: &JsonValue) -> io::Result<()> {
         match self {
             Call::Generate => JsonGenerator::new(alloc, writer).generate(value),
             Call::GenerateIndented => JsonGenerator::new(alloc, writer).indent("").generate(value),
@@ -113,41 +113,41 @@ impl Call {
 }
 
 /// The error where a writer takes nothing.
-const NOTHING_TAKEN: (Fault, ErrorKind, &str) = (
-    Fault::TakesNothing,
+const NOTHING_TAKEN: (Failure, ErrorKind, &str) = (
+    Failure::TakesNothing,
     ErrorKind::WriteZero,
     "the writer took no byte",
 );
 
 /// The errors of a writer, and where it takes nothing, with their kinds and words.
-const FAULTS: [(Fault, ErrorKind, &str); 4] = [
+const FAILURES: [(Failure, ErrorKind, &str); 4] = [
     (
-        Fault::Error(ErrorKind::BrokenPipe),
+        Failure::Error(ErrorKind::BrokenPipe),
         ErrorKind::BrokenPipe,
         MESSAGE,
     ),
     (
-        Fault::Error(ErrorKind::Interrupted),
+        Failure::Error(ErrorKind::Interrupted),
         ErrorKind::Interrupted,
         MESSAGE,
     ),
-    (Fault::Error(ErrorKind::Other), ErrorKind::Other, MESSAGE),
+    (Failure::Error(ErrorKind::Other), ErrorKind::Other, MESSAGE),
     NOTHING_TAKEN,
 ];
 
-/// What is wrong where a writer that takes `chunk` bytes a call fails after `room` bytes of the text.
-fn fault_of(
+/// What is wrong where a writer that takes `chunk` bytes a call fails after `capacity` bytes of the text.
+fn mistake(
     alloc: Global,
     value: &JsonValue,
     (call, text): (Call, &str),
-    (chunk, room): (usize, usize),
-    (fault, kind, message): (Fault, ErrorKind, &str),
+    (chunk, capacity): (usize, usize),
+    (failure, kind, message): (Failure, ErrorKind, &str),
 ) -> Option<&'static str> {
-    let mut writer = FaultyWriter::failing(alloc, chunk, room, fault);
+    let mut writer = FailingWriter::failing(alloc, chunk, capacity, failure);
     let answer = call.write(alloc, &mut writer, value);
-    if !is_fault(alloc, answer, kind, message) {
+    if !is_error(alloc, answer, kind, message) {
         Some("ends with another error")
-    } else if text.as_bytes().get(..room) != Some(writer.bytes()) {
+    } else if text.as_bytes().get(..capacity) != Some(writer.bytes()) {
         Some("has written something else")
     } else if (writer.late_calls(), writer.empty_calls(), writer.flushes()) != (0, 0, 0) {
         Some("calls the writer again")
@@ -157,31 +157,31 @@ fn fault_of(
 }
 
 /// The writer fails at every place of the text, or at each so many bytes.
-fn check_faults(
+fn check_failures(
     rt: &impl Abort,
     alloc: Global,
     value: &JsonValue,
     call: (Call, &str),
     (chunk, step): (usize, usize),
 ) {
-    for room in (0..call.1.len()).step_by(step) {
-        for fault in FAULTS {
+    for capacity in (0..call.1.len()).step_by(step) {
+        for failure in FAILURES {
             assert_eq!(rt;
-                fault_of(alloc, value, call, (chunk, room), fault),
+                mistake(alloc, value, call, (chunk, capacity), failure),
                 None,
-                "{:?} {room} {:?}",
+                "{:?} {capacity} {:?}",
                 call.0,
-                fault.0
+                failure.0
             );
         }
     }
 }
 
 #[test]
-fn ends_with_the_first_fault(rt: HostRuntime) -> Result<(), Fail> {
+fn ends_with_the_first_error(rt: HostRuntime) -> Result<(), Fail> {
     let value = nested(rt.alloc())?;
     for call in CALLS {
-        check_faults(&rt, rt.alloc(), &value, call, (1, 1));
+        check_failures(&rt, rt.alloc(), &value, call, (1, 1));
     }
     Ok(())
 }
@@ -219,13 +219,13 @@ const ARRAYS: [(Call, [&str; 3]); 4] = [
 ];
 
 #[test]
-fn ends_with_the_first_fault_of_a_long_text(rt: HostRuntime) -> Result<(), Fail> {
+fn ends_with_the_first_error_of_a_long_text(rt: HostRuntime) -> Result<(), Fail> {
     let alloc = rt.alloc();
     let value = long(alloc)?;
     for (call, brackets) in ARRAYS {
         let text = long_text(alloc, brackets)?;
-        check_faults(&rt, alloc, &value, (call, text.as_str()), (1_000, 499));
-        let mut writer = FaultyWriter::good(alloc, 1_000);
+        check_failures(&rt, alloc, &value, (call, text.as_str()), (1_000, 499));
+        let mut writer = FailingWriter::good(alloc, 1_000);
         let answer = call.write(alloc, &mut writer, &value);
         assert!(rt; is_taken(answer, writer.bytes(), text.as_str()), "{call:?}");
     }
@@ -239,13 +239,13 @@ fn two_items(alloc: Global) -> Result<JsonValue, Fail> {
 }
 
 #[test]
-fn writes_again_after_a_fault(rt: HostRuntime) -> Result<(), Fail> {
+fn writes_again_after_an_error(rt: HostRuntime) -> Result<(), Fail> {
     let value = two_items(rt.alloc())?;
-    let fault = Fault::Error(ErrorKind::BrokenPipe);
-    let mut writer = FaultyWriter::failing(rt.alloc(), usize::MAX, 3, fault);
+    let failure = Failure::Error(ErrorKind::BrokenPipe);
+    let mut writer = FailingWriter::failing(rt.alloc(), usize::MAX, 3, failure);
     let mut generator = JsonGenerator::new(rt.alloc(), &mut writer);
     let answer = generator.generate(&value);
-    assert!(rt; is_fault(rt.alloc(), answer, ErrorKind::BrokenPipe, MESSAGE));
+    assert!(rt; is_error(rt.alloc(), answer, ErrorKind::BrokenPipe, MESSAGE));
     let answer = generator.generate(&value);
     assert!(rt; is_taken(answer, writer.bytes(), "[tr[true,null]"));
     Ok(())
@@ -255,12 +255,12 @@ fn writes_again_after_a_fault(rt: HostRuntime) -> Result<(), Fail> {
 fn writes_two_items_byte_by_byte(rt: HostRuntime) -> Result<(), Fail> {
     let alloc = rt.alloc();
     let value = two_items(alloc)?;
-    let mut writer = FaultyWriter::good(alloc, 1);
+    let mut writer = FailingWriter::good(alloc, 1);
     let answer = value.write_to(alloc, &mut writer);
     assert!(rt; is_taken(answer, writer.bytes(), "[true,null]"));
-    let (fault, kind, message) = NOTHING_TAKEN;
-    let mut writer = FaultyWriter::failing(alloc, 1, 0, fault);
+    let (failure, kind, message) = NOTHING_TAKEN;
+    let mut writer = FailingWriter::failing(alloc, 1, 0, failure);
     let answer = value.write_to(alloc, &mut writer);
-    assert!(rt; is_fault(alloc, answer, kind, message));
+    assert!(rt; is_error(alloc, answer, kind, message));
     Ok(())
 }

@@ -13,7 +13,7 @@ pub returns-then-not-meets_own : goal.returns-then-not-meets_own
 returns-then-not-meets_own t c =
     let s = view c.args.schema.now in
     let v = view c.args.value.now in
-    reported s v c.whole.result (subst (IsInvalidAt s v) (sym c.whole.ensures) (here (sym c.if-not-meets_own.ensures)))
+    reported s v c.root.result (subst (IsInvalidAt s v) (sym c.root.ensures) (here (sym c.if-not-meets_own.ensures)))
 
 pub loop-key-init : goal.loop-key-init
 loop-key-init t c = record { done = []; split = refl; checked = tt }

@@ -25,7 +25,7 @@ returns g c =
     let size : n ≡ unsigned_abs z = c.unsigned_abs.ensures.value ∙ ap unsigned_abs (to_z-of_z w128 z c.ranges.exponent) in
     elim c.if-exponent-lt0.branch [
       | then-exponent-lt0+in_ok-write_bytes w ↦
-          ends _ _ _ _ _ _ c.write_natural.ensures (rw (w.out-is, w.room-is) (goes (natural_text n) w.in_ok-write_bytes.ensures (written_none _ _ _ (negative_exponent z n (rw (to_z-of_z w128 z c.ranges.exponent) at w.if-exponent-lt0.true) size))))
+          ends _ _ _ _ _ _ c.write_natural.ensures (rw (w.out-is, w.buffer-is) (goes (natural_text n) w.in_ok-write_bytes.ensures (written_none _ _ _ (negative_exponent z n (rw (to_z-of_z w128 z c.ranges.exponent) at w.if-exponent-lt0.true) size))))
       | else-exponent-lt0+in_ok-write_bytes-2 w ↦
-          ends _ _ _ _ _ _ c.write_natural.ensures (rw (w.out-is, w.room-is) (goes (natural_text n) w.in_ok-write_bytes-2.ensures (written_none _ _ _ (positive_exponent z n (rw (to_z-of_z w128 z c.ranges.exponent) at w.if-exponent-lt0.false) size))))
+          ends _ _ _ _ _ _ c.write_natural.ensures (rw (w.out-is, w.buffer-is) (goes (natural_text n) w.in_ok-write_bytes-2.ensures (written_none _ _ _ (positive_exponent z n (rw (to_z-of_z w128 z c.ranges.exponent) at w.if-exponent-lt0.false) size))))
     ]

@@ -8,7 +8,7 @@ use Rattle.tinyjson_number.specs.Number.{Canonical}
 use Rattle.tinyjson_number.specs.Text.{decimal_text}
 use Rattle.tinyjson_number.specs.declared.text.Layout.{Layout}
 use Rattle.tinyjson_number.proofs.Callers.{decimal_ascii}
-use Rattle.tinyjson_output.specs.Room.{Output, Sent}
+use Rattle.tinyjson_output.specs.Buffer.{Output, Sent}
 use Rattle.tinyjson_output.proofs.Sending.{goes, ends, fails, written_none}
 use Rattle.tinyjson_output.proofs.Bytes.{enc}
 use Rattle.tinyjson_output.proofs.number.write_number.Goals as goal

@@ -1,23 +1,23 @@
 use Rattle.std.proofs.Common.{None, ◌∙◌}
 use Rattle.tinyjson_grammar.specs.Text.{text}
 use Rattle.tinyjson.specs.View.{view}
-use Rattle.tinyjson_output.specs.Room.{waiting}
-use Rattle.tinyjson.proofs.Writing.Runs.{taken_back, member_waits}
+use Rattle.tinyjson_output.specs.Buffer.{buffered}
+use Rattle.tinyjson.proofs.Writing.Runs.{taken_back, member_buffered}
 use Rattle.tinyjson.proofs.generator.quick.quick_member.Goals as goal
 
 pub returns-then-quick_value : goal.returns-then-quick_value
 returns-then-quick_value c = λ k.
     let quick = rw c.if-not-quick_key.false at c.quick_key.ensures in
-    (quick.0, member_waits k c.args.first c.args.key.now (text None k (view c.args.value.now)) (waiting c.args.room.now) _ _ c.utf8.key quick.1 (rw c.if-quick_value.true at (c.quick_value.ensures None k)))
+    (quick.0, member_buffered k c.args.first c.args.key.now (text None k (view c.args.value.now)) (buffered c.args.buffer.now) _ _ c.utf8.key quick.1 (rw c.if-quick_value.true at (c.quick_value.ensures None k)))
 
 pub returns-then-quick_empty : goal.returns-then-quick_empty
 returns-then-quick_empty c = λ k.
     let quick = rw c.if-not-quick_key.false at c.quick_key.ensures in
     let stays = rw c.if-quick_value.false at (c.quick_value.ensures None k) in
-    (quick.0, member_waits k c.args.first c.args.key.now (text None k (view c.args.value.now)) (waiting c.args.room.now) _ _ c.utf8.key (stays ∙ quick.1) (rw c.if-quick_empty.true at (c.quick_empty.ensures None k)))
+    (quick.0, member_buffered k c.args.first c.args.key.now (text None k (view c.args.value.now)) (buffered c.args.buffer.now) _ _ c.utf8.key (stays ∙ quick.1) (rw c.if-quick_empty.true at (c.quick_empty.ensures None k)))
 
 pub returns : goal.returns
 returns c = λ k.
     let quick = rw c.if-not-quick_key.false at c.quick_key.ensures in
     let stays = rw c.if-quick_value.false at (c.quick_value.ensures None k) in
-    taken_back (waiting c.args.room.now) _ _ _ _ _ c.len-len.ensures c.truncate.ensures (rw c.if-quick_empty.false at (c.quick_empty.ensures None k) ∙ stays) quick.1
+    taken_back (buffered c.args.buffer.now) _ _ _ _ _ c.len-len.ensures c.truncate.ensures (rw c.if-quick_empty.false at (c.quick_empty.ensures None k) ∙ stays) quick.1

@@ -1,6 +1,6 @@
 use Rattle.std.proofs.Common.{◌≡◌, cond, [], ◌∷◌, sym, ap, ◌∙◌}
 use Rattle.tinyjson_grammar.proofs.Messages.{code_point_text}
-use Rattle.tinyjson_grammar.specs.Words.{shown, code_point}
+use Rattle.tinyjson_grammar.specs.Message.{shown, code_point}
 use Rattle.tinyjson_grammar.proofs.error.ShownDisplay.fmt.Goals as goal
 
 pub returns-else-is_printable-clause-writes : goal.returns-else-is_printable-clause-writes

@@ -18,7 +18,7 @@ pub from_parts-requires-clause-room : goal.from_parts-requires-clause-room
 from_parts-requires-clause-room c =
     let t = c.as_bytes.result.now in
     let k = plain_of (scan t) (numeral_of c.in-Some.parts) c.in-Some.ensures in
-    omega (arith, ap (λ (n : Numeral). length n.whole + length n.fraction) k.2, spelled_room k.0 t (scan_sound t k.0 k.1), c.as_bytes.ensures.len)
+    omega (arith, ap (λ (n : Numeral). length n.integer + length n.fraction) k.2, spelled_room k.0 t (scan_sound t k.0 k.1), c.as_bytes.ensures.len)
 
 pub unreachable-requires : goal.unreachable-requires
 unreachable-requires c = none_spells c.as_bytes.result.now (none_of (scan c.as_bytes.result.now) c.in-None.ensures) c.requires.0 (subst (Spells c.requires.0) (sym c.as_bytes.ensures.value) c.requires.1)
@@ -36,4 +36,4 @@ returns-clause-short c = λ few is.
     let t = c.as_bytes.result.now in
     let k = plain_of (scan t) (numeral_of c.in-Some.parts) c.in-Some.ensures in
     let room = spelled_room k.0 t (scan_sound t k.0 k.1) in
-    c.from_parts.ensures.short (omega (arith, few, ap (λ (n : Numeral). length n.whole + length n.fraction) k.2, room, ap length c.as_bytes.ensures.value)) is
+    c.from_parts.ensures.short (omega (arith, few, ap (λ (n : Numeral). length n.integer + length n.fraction) k.2, room, ap length c.as_bytes.ensures.value)) is

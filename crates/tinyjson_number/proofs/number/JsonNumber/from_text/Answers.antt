@@ -18,7 +18,7 @@ pub from_parts-requires-clause-room : goal.from_parts-requires-clause-room
 from_parts-requires-clause-room c =
     let t = c.as_bytes.result.now in
     let k = plain_of (scan t) (numeral_of c.in-Some.parts) c.in-Some.ensures in
-    omega (arith, ap (λ (n : Numeral). length n.whole + length n.fraction) k.2, spelled_room k.0 t (scan_sound t k.0 k.1), c.as_bytes.ensures.len)
+    omega (arith, ap (λ (n : Numeral). length n.integer + length n.fraction) k.2, spelled_room k.0 t (scan_sound t k.0 k.1), c.as_bytes.ensures.len)
 
 pub returns-in-None-clause-reads : goal.returns-in-None-clause-reads
 returns-in-None-clause-reads c = λ n s. none_spells c.as_bytes.result.now (none_of (scan c.as_bytes.result.now) c.in-None.ensures) n (subst (Spells n) (sym c.as_bytes.ensures.value) s)
@@ -44,5 +44,5 @@ returns-in_err-from_parts-in-Some-clause-short c = λ few is.
     let t = c.as_bytes.result.now in
     let k = plain_of (scan t) (numeral_of c.in-Some.parts) c.in-Some.ensures in
     let room = spelled_room k.0 t (scan_sound t k.0 k.1) in
-    let short = c.from_parts.ensures.short (omega (arith, few, ap (λ (n : Numeral). length n.whole + length n.fraction) k.2, room, ap length c.as_bytes.ensures.value)) in
+    let short = c.from_parts.ensures.short (omega (arith, few, ap (λ (n : Numeral). length n.integer + length n.fraction) k.2, room, ap length c.as_bytes.ensures.value)) in
     refused_short c.in_err-from_parts-in-Some.field-0.0 c.from_residual.result c.from_residual.ensures.1 (λ m. short (c.in_err-from_parts-in-Some.was ∙ ap Err m)) is

@@ -1,10 +1,10 @@
 use Rattle.std.proofs.Common.{refl}
 use Rattle.tinyjson.specs.Indent.{indent_of}
-use Rattle.tinyjson_output.proofs.Callers.{sent_waits as waits}
+use Rattle.tinyjson_output.proofs.Callers.{sent_buffered as buffers}
 use Rattle.tinyjson.proofs.generator.encode.Encoder.begin.Goals as goal
 
 pub returns-then-quick_value : goal.returns-then-quick_value
-returns-then-quick_value g c = λ k. record { written = waits _ _ _ _ (rw c.if-quick_value.true at (c.quick_value.ensures (indent_of c.args.self.now.indent) k)); outside = refl }
+returns-then-quick_value g c = λ k. record { written = buffers _ _ _ _ (rw c.if-quick_value.true at (c.quick_value.ensures (indent_of c.args.self.now.indent) k)); outside = refl }
 
 pub returns : goal.returns
 returns g c = λ k.

@@ -25,7 +25,7 @@ returns-in_err-write_bytes-3 g c =
     let empty : has_no_items (items_view rest.now) ≡ true = no_items_is rest.now ∙ sym c.is_empty-2.ensures ∙ c.if-is_empty-2.true in
     let none : w ≡ None = is_compact w c.args.self.now.indent c.is_none.result c.is_none.ensures c.if-is_none.true in
     λ k gs. MatchResult-from_err _ _ _ c.from_residual-in_err-write_bytes-3.ensures.0 (λ _. stopped_at_once w k 93 gs gs (Items rest first) (array_end w k rest first gs empty none) c.in_err-write_bytes-3.ensures
-    (array_run w k c.args.items rest first gs some c.in_ok-write_bytes-2.ensures (c.run_of_items-first.ensures.waits (k + 1) (g.W.Write.contents c.write_bytes-2.new.out))))
+    (array_run w k c.args.items rest first gs some c.in_ok-write_bytes-2.ensures (c.run_of_items-first.ensures.buffers (k + 1) (g.W.Write.contents c.write_bytes-2.new.out))))
 
 pub returns-then-is_none : goal.returns-then-is_none
 returns-then-is_none g c =
@@ -36,13 +36,13 @@ returns-then-is_none g c =
     let empty : has_no_items (items_view rest.now) ≡ true = no_items_is rest.now ∙ sym c.is_empty-2.ensures ∙ c.if-is_empty-2.true in
     let none : w ≡ None = is_compact w c.args.self.now.indent c.is_none.result c.is_none.ensures c.if-is_none.true in
     λ k gs. closed_at_once w k 93 gs gs (Items rest first) (array_end w k rest first gs empty none) refl c.in_ok-write_bytes-3.ensures
-    (array_run w k c.args.items rest first gs some c.in_ok-write_bytes-2.ensures (c.run_of_items-first.ensures.waits (k + 1) (g.W.Write.contents c.write_bytes-2.new.out)))
+    (array_run w k c.args.items rest first gs some c.in_ok-write_bytes-2.ensures (c.run_of_items-first.ensures.buffers (k + 1) (g.W.Write.contents c.write_bytes-2.new.out)))
 
 pub returns : goal.returns
 returns g c =
     let some : has_no_items (items_view c.args.items.now) ≡ false = no_items_is c.args.items.now ∙ sym c.is_empty.ensures ∙ c.if-is_empty.false in
     λ k gs. array_run (indent_of c.args.self.now.indent) k c.args.items c.run_of_items-first.result.0 c.run_of_items-first.result.1 gs some c.in_ok-write_bytes-2.ensures
-    (c.run_of_items-first.ensures.waits (k + 1) (g.W.Write.contents c.write_bytes-2.new.out))
+    (c.run_of_items-first.ensures.buffers (k + 1) (g.W.Write.contents c.write_bytes-2.new.out))
 
 pub returns-in_err-write_bytes : goal.returns-in_err-write_bytes
 returns-in_err-write_bytes g c =

@@ -3,7 +3,7 @@ use Rattle.std.proofs.lemmas.Result.{MatchResult-from_err}
 use Rattle.tinyjson.specs.Indent.{indent_of}
 use Rattle.tinyjson.proofs.Writing.Pending.{object_stops, object_ungathered, members_open, member_opens, is_compact}
 use Rattle.tinyjson.proofs.Writing.Words.{empty_object, part_same, sent_same}
-use Rattle.tinyjson.proofs.Writing.Runs.{members_run, member_run, only_member_waits, object_end, closed_at_once, stopped_at_once}
+use Rattle.tinyjson.proofs.Writing.Runs.{members_run, member_run, only_member_buffered, object_end, closed_at_once, stopped_at_once}
 use Rattle.tinyjson.specs.declared.generator.pending.Frame.TheVariants.{Members}
 use Rattle.tinyjson.proofs.generator.encode.Encoder.begin_object.Goals as goal
 
@@ -30,7 +30,7 @@ returns-in_err-write_bytes-2 g c = λ k.
     let zero : left ≡ 0 = omega (arith, c.if-left-eq0.true) in
     let none : w ≡ None = is_compact w c.args.self.now.indent c.is_none.result c.is_none.ensures c.if-is_none.true in
     MatchResult-from_err _ _ _ c.from_residual-in_err-write_bytes-2.ensures.0 (λ _. stopped_at_once w k 125 gs is (Members left first) (object_end w k left first is zero none) c.in_err-write_bytes-2.ensures
-    (members_run w k c.len-then-len-gt1.result left first gs hs is c.run_of_members-left.ensures.others (c.run_of_members-left.ensures.waits (k + 1) out)
+    (members_run w k c.len-then-len-gt1.result left first gs hs is c.run_of_members-left.ensures.others (c.run_of_members-left.ensures.buffers (k + 1) out)
     (members_open w k c.len-then-len-gt1.result c.args.members.now.entries gs hs some c.len-then-len-gt1.ensures.len c.in_ok-flat.ensures.members c.in_ok-flat.ensures.before c.in_ok-write_bytes.ensures)))
 
 pub returns-then-is_none : goal.returns-then-is_none
@@ -46,7 +46,7 @@ returns-then-is_none g c = λ k.
     let zero : left ≡ 0 = omega (arith, c.if-left-eq0.true) in
     let none : w ≡ None = is_compact w c.args.self.now.indent c.is_none.result c.is_none.ensures c.if-is_none.true in
     closed_at_once w k 125 gs is (Members left first) (object_end w k left first is zero none) (ap (λ i. drop i is) zero) c.in_ok-write_bytes-2.ensures
-    (members_run w k c.len-then-len-gt1.result left first gs hs is c.run_of_members-left.ensures.others (c.run_of_members-left.ensures.waits (k + 1) out)
+    (members_run w k c.len-then-len-gt1.result left first gs hs is c.run_of_members-left.ensures.others (c.run_of_members-left.ensures.buffers (k + 1) out)
     (members_open w k c.len-then-len-gt1.result c.args.members.now.entries gs hs some c.len-then-len-gt1.ensures.len c.in_ok-flat.ensures.members c.in_ok-flat.ensures.before c.in_ok-write_bytes.ensures))
 
 pub returns-then-len-gt1 : goal.returns-then-len-gt1
@@ -59,7 +59,7 @@ returns-then-len-gt1 g c = λ k.
     let first = c.run_of_members-left.result.1 in
     let out = g.W.Write.contents c.write_bytes.new.out in
     let some : 0 < length c.args.members.now.entries = omega (arith, c.len.ensures.len, c.if-len-gt1.true) in
-    members_run w k c.len-then-len-gt1.result left first gs hs is c.run_of_members-left.ensures.others (c.run_of_members-left.ensures.waits (k + 1) out)
+    members_run w k c.len-then-len-gt1.result left first gs hs is c.run_of_members-left.ensures.others (c.run_of_members-left.ensures.buffers (k + 1) out)
     (members_open w k c.len-then-len-gt1.result c.args.members.now.entries gs hs some c.len-then-len-gt1.ensures.len c.in_ok-flat.ensures.members c.in_ok-flat.ensures.before c.in_ok-write_bytes.ensures)
 
 pub returns-in_err-write_bytes-4 : goal.returns-in_err-write_bytes-4
@@ -76,7 +76,7 @@ returns-in_err-write_bytes-5 g c = λ k.
     let few : length c.args.members.now.entries < 2 = omega (arith, c.len.ensures.len, c.if-len-gt1.false) in
     let quick = rw c.if-quick_member.true at (c.quick_member.ensures (k + 1)) in
     let none : w ≡ None = is_compact w c.args.self.now.indent c.is_none-2.result c.is_none-2.ensures quick.0 in
-    let run = only_member_waits w (g.W.Write.contents c.write_bytes-2.new.out) (k + 1) key value _ _ none quick.1 in
+    let run = only_member_buffered w (g.W.Write.contents c.write_bytes-2.new.out) (k + 1) key value _ _ none quick.1 in
     MatchResult-from_err _ _ _ c.from_residual-in_err-write_bytes-5.ensures.0 (λ _. stopped_at_once w k 125 gs gs (Members 0 false) (object_end w k 0 false gs refl none) c.in_err-write_bytes-5.ensures
     (member_run w k gs key value run
     (member_opens w k c.args.members.now.entries c.next.new.self (c.in-Some.key.now, value.now) gs key value (sym c.iter.ensures.rest ∙ c.in-Some.ensures.steps) few c.as_str-key.ensures.value refl
@@ -91,7 +91,7 @@ returns-then-quick_member g c = λ k.
     let few : length c.args.members.now.entries < 2 = omega (arith, c.len.ensures.len, c.if-len-gt1.false) in
     let quick = rw c.if-quick_member.true at (c.quick_member.ensures (k + 1)) in
     let none : w ≡ None = is_compact w c.args.self.now.indent c.is_none-2.result c.is_none-2.ensures quick.0 in
-    let run = only_member_waits w (g.W.Write.contents c.write_bytes-2.new.out) (k + 1) key value _ _ none quick.1 in
+    let run = only_member_buffered w (g.W.Write.contents c.write_bytes-2.new.out) (k + 1) key value _ _ none quick.1 in
     closed_at_once w k 125 gs gs (Members 0 false) (object_end w k 0 false gs refl none) refl c.in_ok-write_bytes-5.ensures
     (member_run w k gs key value run
     (member_opens w k c.args.members.now.entries c.next.new.self (c.in-Some.key.now, value.now) gs key value (sym c.iter.ensures.rest ∙ c.in-Some.ensures.steps) few c.as_str-key.ensures.value refl

@@ -1,13 +1,13 @@
 use Rattle.std.proofs.Common.{[], refl, sym, subst, reverse}
 use Rattle.std.proofs.lemmas.Result.{MatchResult-from_err}
-use Rattle.tinyjson_output.specs.Room.{waiting, Sent, SentPart}
+use Rattle.tinyjson_output.specs.Buffer.{buffered, Sent, SentPart}
 use Rattle.tinyjson_output.proofs.Callers.{null_bytes}
 use Rattle.tinyjson.proofs.Values.View.{view_Null, view_Boolean, view_Number, view_Array, view_String, view_Object}
 use Rattle.tinyjson.proofs.generator.encode.Encoder.begin_slowly.Goals as goal
 use Rattle.tinyjson.proofs.generator.encode.Encoder.begin_slowly.Goals.{in-Null+in_ok-write_bytes-in-Null, in-Boolean+in_ok-write_boolean-in-Boolean, in-Number+in_ok-write_number-in-Number, in-String+in_ok-quote-in-String}
 
 pub returns-in_err-write_bytes-in-Null : goal.returns-in_err-write_bytes-in-Null
-returns-in_err-write_bytes-in-Null g c = λ k. MatchResult-from_err _ _ _ c.from_residual.ensures.0 (λ _. rw (c.in-Null.is, view_Null) (subst (λ b. SentPart (g.W.Write.contents c.args.out.now, waiting c.args.room.now) (g.W.Write.contents c.write_bytes.new.out, waiting c.write_bytes.new.room) b) (sym null_bytes) c.in_err-write_bytes-in-Null.ensures))
+returns-in_err-write_bytes-in-Null g c = λ k. MatchResult-from_err _ _ _ c.from_residual.ensures.0 (λ _. rw (c.in-Null.is, view_Null) (subst (λ b. SentPart (g.W.Write.contents c.args.out.now, buffered c.args.buffer.now) (g.W.Write.contents c.write_bytes.new.out, buffered c.write_bytes.new.buffer) b) (sym null_bytes) c.in_err-write_bytes-in-Null.ensures))
 
 pub returns-in-Array : goal.returns-in-Array
 returns-in-Array g c = λ k. rw (c.in-Array.is, view_Array c.in-Array.items) (rw c.deref-in-Array.ensures.value at (c.begin_array.ensures k (reverse c.args.gathered.now.items)))
@@ -18,10 +18,10 @@ returns-in-Object g c = λ k. rw (c.in-Object.is, view_Object c.in-Object.member
 pub returns : goal.returns
 returns g c = λ k.
     elim c.match-value.branch [
-      | in-Null+in_ok-write_bytes-in-Null v ↦ rw (v.in-Null.is, v.out-is, v.room-is, view_Null) (record { written = subst (λ b. Sent (g.W.Write.contents c.args.out.now, waiting c.args.room.now) (g.W.Write.contents v.write_bytes.new.out, waiting v.write_bytes.new.room) b []) (sym null_bytes) v.in_ok-write_bytes-in-Null.ensures; outside = refl })
-      | in-Boolean+in_ok-write_boolean-in-Boolean v ↦ rw (v.in-Boolean.is, v.out-is, v.room-is, view_Boolean v.in-Boolean.value) (record { written = v.in_ok-write_boolean-in-Boolean.ensures; outside = refl })
-      | in-Number+in_ok-write_number-in-Number v ↦ rw (v.in-Number.is, v.out-is, v.room-is, view_Number v.in-Number.number) (record { written = v.in_ok-write_number-in-Number.ensures; outside = refl })
-      | in-String+in_ok-quote-in-String v ↦ rw (v.in-String.is, v.out-is, v.room-is, view_String v.in-String.text) (record { written = rw v.deref.ensures at v.in_ok-quote-in-String.ensures; outside = refl })
+      | in-Null+in_ok-write_bytes-in-Null v ↦ rw (v.in-Null.is, v.out-is, v.buffer-is, view_Null) (record { written = subst (λ b. Sent (g.W.Write.contents c.args.out.now, buffered c.args.buffer.now) (g.W.Write.contents v.write_bytes.new.out, buffered v.write_bytes.new.buffer) b []) (sym null_bytes) v.in_ok-write_bytes-in-Null.ensures; outside = refl })
+      | in-Boolean+in_ok-write_boolean-in-Boolean v ↦ rw (v.in-Boolean.is, v.out-is, v.buffer-is, view_Boolean v.in-Boolean.value) (record { written = v.in_ok-write_boolean-in-Boolean.ensures; outside = refl })
+      | in-Number+in_ok-write_number-in-Number v ↦ rw (v.in-Number.is, v.out-is, v.buffer-is, view_Number v.in-Number.number) (record { written = v.in_ok-write_number-in-Number.ensures; outside = refl })
+      | in-String+in_ok-quote-in-String v ↦ rw (v.in-String.is, v.out-is, v.buffer-is, view_String v.in-String.text) (record { written = rw v.deref.ensures at v.in_ok-quote-in-String.ensures; outside = refl })
     ]
 
 pub returns-in_err-write_boolean-in-Boolean : goal.returns-in_err-write_boolean-in-Boolean

@@ -4,8 +4,8 @@ use Rattle.tinyjson.proofs.generator.encode.Encoder.encode.Goals as goal
 
 pub returns-in_err-value : goal.returns-in_err-value
 returns-in_err-value g c =
-    let h = rw c.new-room.ensures at c.in_err-value.ensures in
+    let h = rw c.new-buffer.ensures at c.in_err-value.ensures in
     MatchResult-from_err _ _ _ c.from_residual.ensures.0 (λ _. h.part)
 
 pub returns : goal.returns
-returns g c = flushes _ _ _ _ _ _ (rw c.new-room.ensures at c.in_ok-value.ensures) c.flush.ensures.written
+returns g c = flushes _ _ _ _ _ _ (rw c.new-buffer.ensures at c.in_ok-value.ensures) c.flush.ensures.written

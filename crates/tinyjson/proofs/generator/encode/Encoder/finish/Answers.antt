@@ -1,7 +1,7 @@
 use Rattle.std.proofs.Common.{◌∷◌, sym, ◌∙◌, ap, reverse}
 use Rattle.std.proofs.lemmas.Result.{MatchResult-from_err}
 use Rattle.tinyjson.specs.Indent.{indent_of}
-use Rattle.tinyjson.specs.private.Pending.{owed}
+use Rattle.tinyjson.specs.private.Pending.{unwritten}
 use Rattle.tinyjson_output.proofs.Callers.{sent_begins as begins, sent_stop as stop, sent_stops_then as stops_then, sent_written_none as written_none, sent_written_then as written_then, enc}
 use Rattle.tinyjson.proofs.generator.encode.Encoder.finish.Goals as goal
 
@@ -9,7 +9,7 @@ pub loop-frame-init : goal.loop-frame-init
 loop-frame-init g c =
     let w = indent_of c.args.self.now.indent in
     let gs = reverse c.args.gathered.items in
-    (c.in_ok-push.ensures.stack, written_none _ _ _ (ap (λ fs. enc (owed w fs gs)) (sym (c.in_ok-push.ensures.frames ∙ ap (λ fs. c.args.frame ∷ fs) c.new-stack.ensures.frames))))
+    (c.in_ok-push.ensures.stack, written_none _ _ _ (ap (λ fs. enc (unwritten w fs gs)) (sym (c.in_ok-push.ensures.frames ∙ ap (λ fs. c.args.frame ∷ fs) c.new-stack.ensures.frames))))
 
 pub returns-in_err-push : goal.returns-in_err-push
 returns-in_err-push g c = MatchResult-from_err _ _ _ c.from_residual.ensures.0 (λ _. stop begins)

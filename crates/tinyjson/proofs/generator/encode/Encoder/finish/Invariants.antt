@@ -1,17 +1,17 @@
 use Rattle.std.proofs.Common.{◌∷◌, [], length, reverse}
 use Rattle.std.specs.Str.{encode_utf8_all}
 use Rattle.tinyjson.specs.Indent.{indent_of}
-use Rattle.tinyjson.specs.private.Pending.{IsStack, frames, owed}
-use Rattle.tinyjson_output.specs.Room.{waiting, Sent}
+use Rattle.tinyjson.specs.private.Pending.{IsStack, frames, unwritten}
+use Rattle.tinyjson_output.specs.Buffer.{buffered, Sent}
 use Rattle.tinyjson.proofs.generator.encode.Encoder.finish.Given as goal
 
 abbrev pub invariant-loop-frame : goal.invariant-loop-frame
 invariant-loop-frame g l =
     let w = indent_of l.fn.self.indent in
     IsStack l.stack
-    × Sent (g.W.Write.contents l.fn.out, waiting l.fn.room) (g.W.Write.contents l.out, waiting l.room)
-    (encode_utf8_all (owed w (l.fn.frame ∷ []) (reverse l.fn.gathered.items)))
-    (encode_utf8_all (owed w (frames l.stack) (reverse l.gathered.items)))
+    × Sent (g.W.Write.contents l.fn.out, buffered l.fn.buffer) (g.W.Write.contents l.out, buffered l.buffer)
+    (encode_utf8_all (unwritten w (l.fn.frame ∷ []) (reverse l.fn.gathered.items)))
+    (encode_utf8_all (unwritten w (frames l.stack) (reverse l.gathered.items)))
 
 abbrev pub decreases-loop-frame : goal.decreases-loop-frame
-decreases-loop-frame g l = length (encode_utf8_all (owed (indent_of l.fn.self.indent) (frames l.stack) (reverse l.gathered.items)))
+decreases-loop-frame g l = length (encode_utf8_all (unwritten (indent_of l.fn.self.indent) (frames l.stack) (reverse l.gathered.items)))

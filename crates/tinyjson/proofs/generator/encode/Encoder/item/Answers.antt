@@ -3,7 +3,7 @@ use Rattle.tinyjson.specs.Indent.{indent_of}
 use Rattle.tinyjson_grammar.specs.Text.{text}
 use Rattle.tinyjson.specs.View.{view}
 use Rattle.tinyjson_output.proofs.Callers.{sent_begins as begins, sent_goes as goes, sent_stops as stops, enc}
-use Rattle.tinyjson.proofs.Writing.Pending.{begins_behind}
+use Rattle.tinyjson.proofs.Writing.Pending.{begins_after}
 use Rattle.tinyjson.proofs.generator.encode.Encoder.item.Goals as goal
 
 pub returns-in_err-separate : goal.returns-in_err-separate
@@ -13,4 +13,4 @@ pub returns : goal.returns
 returns g c =
     let w = indent_of c.args.self.now.indent in
     let piece = enc (text w c.args.level (view c.args.value.now)) in
-    begins_behind w c.args.level _ _ _ _ piece _ _ _ (goes piece c.in_ok-separate.ensures begins) (c.begin.ensures c.args.level)
+    begins_after w c.args.level _ _ _ _ piece _ _ _ (goes piece c.in_ok-separate.ensures begins) (c.begin.ensures c.args.level)

@@ -2,7 +2,7 @@ use Rattle.std.proofs.Common.{◌≡◌, [], ◌∷◌, ◌++◌, ◌+◌, ◌-�
 use Rattle.std.proofs.lemmas.List.{nil_from_length}
 use Rattle.std.proofs.lemmas.Result.{MatchResult-from_err}
 use Rattle.tinyjson.specs.Indent.{indent_of}
-use Rattle.tinyjson.specs.private.Pending.{IsStack, frames, owed}
+use Rattle.tinyjson.specs.private.Pending.{IsStack, frames, unwritten}
 use Rattle.tinyjson_grammar.specs.Text.{newline}
 use Rattle.tinyjson.specs.declared.generator.pending.Frame.TheVariants.{Items}
 use Rattle.tinyjson_output.proofs.Callers.{sent_begins as begins, sent_stops as stops, sent_goes as goes, enc}
@@ -14,7 +14,7 @@ pub loop-item-init : goal.loop-item-init
 loop-item-init g c =
     let w = indent_of c.args.self.now.indent in
     let fs = frames c.args.stack.now in
-    (refl, refl, run_on _ _ (newline w (length fs) ++ 93 ∷ []) (owed w fs (reverse c.args.gathered.now.items)) (c.run_of_items-first.ensures.waits (length fs + 1) (g.W.Write.contents c.args.out.now)) begins)
+    (refl, refl, run_on _ _ (newline w (length fs) ++ 93 ∷ []) (unwritten w fs (reverse c.args.gathered.now.items)) (c.run_of_items-first.ensures.buffers (length fs + 1) (g.W.Write.contents c.args.out.now)) begins)
 
 pub enter-requires : goal.enter-requires
 enter-requires g c = subst IsStack (sym c.loop-item.invariant.0) c.requires.stack
@@ -53,8 +53,8 @@ loop-item-preserved g c =
     let gs = reverse c.args.gathered.now.items in
     let h = rw (items_next w fs gs c.args.level c.loop-item.first c.loop-item.rest.now c.in-Some.others.now c.in-Some.item.now c.in-Some.ensures.cases.0 c.requires.level) at c.loop-item.invariant.2 in
     let done = rw c.in-None.is at c.in_ok-begun.ensures in
-    let run = c.run_of_items.ensures.waits (length fs + 1) (g.W.Write.contents c.item.new.out) in
-    (c.loop-item.invariant.0, done.outside ∙ c.loop-item.invariant.1, run_on _ _ (newline w (length fs) ++ 93 ∷ []) (owed w fs gs) run (goes _ done.written h))
+    let run = c.run_of_items.ensures.buffers (length fs + 1) (g.W.Write.contents c.item.new.out) in
+    (c.loop-item.invariant.0, done.outside ∙ c.loop-item.invariant.1, run_on _ _ (newline w (length fs) ++ 93 ∷ []) (unwritten w fs gs) run (goes _ done.written h))
 
 pub returns : goal.returns
 returns g c =

@@ -1,10 +1,10 @@
 use Rattle.std.proofs.Common.{◌≡◌, ◌+◌, ◌++◌, ◌∷◌, [], length, reverse}
 use Rattle.std.specs.Str.{encode_utf8_all}
 use Rattle.tinyjson.specs.Indent.{indent_of}
-use Rattle.tinyjson.specs.private.Pending.{frames, owed}
+use Rattle.tinyjson.specs.private.Pending.{frames, unwritten}
 use Rattle.tinyjson_grammar.specs.Text.{items_text, newline}
 use Rattle.tinyjson.specs.View.{items_view}
-use Rattle.tinyjson_output.specs.Room.{waiting, Sent}
+use Rattle.tinyjson_output.specs.Buffer.{buffered, Sent}
 use Rattle.tinyjson.proofs.generator.encode.Encoder.items.Given as goal
 
 abbrev pub invariant-loop-item : goal.invariant-loop-item
@@ -15,9 +15,9 @@ invariant-loop-item g l =
     let close = newline w (length fs) ++ 93 ∷ [] in
     (l.stack ≡ l.fn.stack)
     × (reverse l.gathered.items ≡ gs)
-    × Sent (g.W.Write.contents l.fn.out, waiting l.fn.room) (g.W.Write.contents l.out, waiting l.room)
-    (encode_utf8_all ((items_text w (length fs + 1) l.fn.first (items_view l.fn.items) ++ close) ++ owed w fs gs))
-    (encode_utf8_all ((items_text w (length fs + 1) l.first (items_view l.rest) ++ close) ++ owed w fs gs))
+    × Sent (g.W.Write.contents l.fn.out, buffered l.fn.buffer) (g.W.Write.contents l.out, buffered l.buffer)
+    (encode_utf8_all ((items_text w (length fs + 1) l.fn.first (items_view l.fn.items) ++ close) ++ unwritten w fs gs))
+    (encode_utf8_all ((items_text w (length fs + 1) l.first (items_view l.rest) ++ close) ++ unwritten w fs gs))
 
 abbrev pub decreases-loop-item : goal.decreases-loop-item
 decreases-loop-item g l = length l.rest

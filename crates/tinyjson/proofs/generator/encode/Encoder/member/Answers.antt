@@ -4,8 +4,8 @@ use Rattle.std.proofs.lemmas.Result.{MatchResult-from_err}
 use Rattle.tinyjson.specs.Indent.{indent_of}
 use Rattle.tinyjson_grammar.specs.Text.{text, quoted, before, after_colon}
 use Rattle.tinyjson.specs.View.{view}
-use Rattle.tinyjson_output.proofs.Callers.{sent_goes as goes, sent_waits_part as waits_part, sent_stops as stops, sent_written_none as written_none, enc, three}
-use Rattle.tinyjson.proofs.Writing.Pending.{begins_behind, compact_member, is_compact}
+use Rattle.tinyjson_output.proofs.Callers.{sent_goes as goes, sent_buffered_part as buffered_part, sent_stops as stops, sent_written_none as written_none, enc, three}
+use Rattle.tinyjson.proofs.Writing.Pending.{begins_after, compact_member, is_compact}
 use Rattle.tinyjson.proofs.generator.encode.Encoder.member.Goals as goal
 
 pub returns-then-quick_key : goal.returns-then-quick_key
@@ -15,7 +15,7 @@ returns-then-quick_key g c =
     let v = text w c.args.level (view c.args.value.now) in
     let quick = rw c.if-quick_key.true at c.quick_key.ensures in
     let none = is_compact w c.args.self.now.indent c.is_none.result c.is_none.ensures quick.0 in
-    begins_behind w c.args.level _ _ _ _ (enc v) _ _ _ (waits_part _ _ _ _ _ (enc v) (compact_member w c.args.level c.args.first key v c.utf8.key none) quick.1) (c.begin.ensures c.args.level)
+    begins_after w c.args.level _ _ _ _ (enc v) _ _ _ (buffered_part _ _ _ _ _ (enc v) (compact_member w c.args.level c.args.first key v c.utf8.key none) quick.1) (c.begin.ensures c.args.level)
 
 pub returns-in_err-separate : goal.returns-in_err-separate
 returns-in_err-separate g c =
@@ -59,4 +59,4 @@ returns g c =
     let h = goes (enc key ++ rest) c.in_ok-separate.ensures (written_none _ _ _ (ap (λ z. start ++ z) (three key (58 ∷ after_colon w) v))) in
     let k = goes rest c.in_ok-quote.ensures h in
     let same = rw c.if-quick_key.false at c.quick_key.ensures in
-    rw (← same) (begins_behind w c.args.level _ _ _ _ (enc v) _ _ _ (goes (enc v) c.in_ok-colon.ensures k) (c.begin-2.ensures c.args.level))
+    rw (← same) (begins_after w c.args.level _ _ _ _ (enc v) _ _ _ (goes (enc v) c.in_ok-colon.ensures k) (c.begin-2.ensures c.args.level))

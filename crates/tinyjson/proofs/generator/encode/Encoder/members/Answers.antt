@@ -13,7 +13,7 @@ pub loop-key-init : goal.loop-key-init
 loop-key-init g c =
     let w = indent_of c.args.self.now.indent in
     let fs = frames c.args.stack.now in
-    let run = c.run_of_members-left.ensures.waits (length fs + 1) (g.W.Write.contents c.args.out.now) in
+    let run = c.run_of_members-left.ensures.buffers (length fs + 1) (g.W.Write.contents c.args.out.now) in
     (refl, members_on w fs c.args.left c.run_of_members-left.result.0 c.args.first c.run_of_members-left.result.1 _ _ c.run_of_members-left.ensures.others run begins)
 
 pub enter-requires : goal.enter-requires
@@ -56,7 +56,7 @@ loop-key-preserved g c =
     let n : l.left ≡ suc (l.left - 1) = omega (arith, c.in-Some.ensures.0) in
     let h = rw (members_next w fs (reverse l.gathered.items) (reverse c.next_member.new.gathered.items) c.args.level l.left (l.left - 1) l.first (c.in-Some.key, c.in-Some.value) c.in-Some.ensures.1 n c.requires.level) at l.invariant.1 in
     let done = rw c.in-None.is at c.in_ok-begun.ensures in
-    let run = c.run_of_members.ensures.waits (length fs + 1) (g.W.Write.contents c.member.new.out) in
+    let run = c.run_of_members.ensures.buffers (length fs + 1) (g.W.Write.contents c.member.new.out) in
     (l.invariant.0, members_on w fs (l.left - 1) c.run_of_members.result.0 false c.run_of_members.result.1 _ _ c.run_of_members.ensures.others run (rw done.outside (goes _ done.written h)))
 
 pub returns : goal.returns

@@ -1,8 +1,8 @@
 use Rattle.std.proofs.Common.{◌≡◌, ◌∷◌, reverse}
 use Rattle.std.specs.Str.{encode_utf8_all}
 use Rattle.tinyjson.specs.Indent.{indent_of}
-use Rattle.tinyjson.specs.private.Pending.{frames, owed}
-use Rattle.tinyjson_output.specs.Room.{waiting, Sent}
+use Rattle.tinyjson.specs.private.Pending.{frames, unwritten}
+use Rattle.tinyjson_output.specs.Buffer.{buffered, Sent}
 use Rattle.tinyjson.specs.declared.generator.pending.Frame.TheVariants.{Members}
 use Rattle.tinyjson.proofs.generator.encode.Encoder.members.Given as goal
 
@@ -11,9 +11,9 @@ invariant-loop-key g l =
     let w = indent_of l.fn.self.indent in
     let fs = frames l.fn.stack in
     (l.stack ≡ l.fn.stack)
-    × Sent (g.W.Write.contents l.fn.out, waiting l.fn.room) (g.W.Write.contents l.out, waiting l.room)
-    (encode_utf8_all (owed w (Members l.fn.left l.fn.first ∷ fs) (reverse l.fn.gathered.items)))
-    (encode_utf8_all (owed w (Members l.left l.first ∷ fs) (reverse l.gathered.items)))
+    × Sent (g.W.Write.contents l.fn.out, buffered l.fn.buffer) (g.W.Write.contents l.out, buffered l.buffer)
+    (encode_utf8_all (unwritten w (Members l.fn.left l.fn.first ∷ fs) (reverse l.fn.gathered.items)))
+    (encode_utf8_all (unwritten w (Members l.left l.first ∷ fs) (reverse l.gathered.items)))
 
 abbrev pub decreases-loop-key : goal.decreases-loop-key
 decreases-loop-key g l = l.left

@@ -1,7 +1,7 @@
 use Rattle.std.proofs.Common.{◌≡◌, ◌∷◌, ◌-◌, false, length, refl, reverse, arith}
 use Rattle.std.proofs.lemmas.Result.{MatchResult-from_err}
 use Rattle.tinyjson.specs.Indent.{indent_of}
-use Rattle.tinyjson.specs.private.Pending.{frames, owed}
+use Rattle.tinyjson.specs.private.Pending.{frames, unwritten}
 use Rattle.tinyjson_grammar.specs.Text.{newline}
 use Rattle.tinyjson.specs.declared.generator.pending.Frame.TheVariants.{Member, Members}
 use Rattle.tinyjson_output.proofs.Callers.{sent_stops as stops, sent_goes as goes, sent_written_none as written_none, enc}
@@ -37,6 +37,6 @@ returns-in-None g c =
     let gs = reverse c.args.gathered.now.items in
     let hs = reverse c.member.new.gathered.items in
     let done = rw c.in-None.is at c.in_ok-begun.ensures in
-    let h = goes (enc (owed w (Members 0 false ∷ fs) gs)) done.written (written_none _ _ _ (member_next w fs gs c.args.level c.args.key c.args.value c.requires.level)) in
+    let h = goes (enc (unwritten w (Members 0 false ∷ fs) gs)) done.written (written_none _ _ _ (member_next w fs gs c.args.level c.args.key c.args.value c.requires.level)) in
     let n : c.args.level - 1 ≡ length fs = omega (arith, c.requires.level) in
     closes w _ _ _ (Member c.args.key c.args.value ∷ fs) fs gs gs hs (enc (newline w (length fs))) 125 c.args.stack.now c.close.result c.requires.stack refl done.outside (rw n at c.close.ensures) (rw (members_end w fs gs gs false 0 refl refl) at h)

@@ -15,6 +15,6 @@ returns g c =
     let n = newline (indent_of c.args.self.now.indent) c.args.level in
     elim c.if-not-first.branch [
       | then-not-first+in_ok-write_bytes w ↦
-          ends _ _ _ _ _ _ c.newline.ensures (rw (w.out-is, w.room-is) (goes (enc n) w.in_ok-write_bytes.ensures (written_none _ _ _ (comma_here c.args.first n w.if-not-first.true))))
-      | else-not-first w ↦ ends _ _ _ _ _ _ c.newline.ensures (rw (w.out-is, w.room-is) (written_none _ _ _ (no_comma c.args.first n w.if-not-first.false)))
+          ends _ _ _ _ _ _ c.newline.ensures (rw (w.out-is, w.buffer-is) (goes (enc n) w.in_ok-write_bytes.ensures (written_none _ _ _ (comma_here c.args.first n w.if-not-first.true))))
+      | else-not-first w ↦ ends _ _ _ _ _ _ c.newline.ensures (rw (w.out-is, w.buffer-is) (written_none _ _ _ (no_comma c.args.first n w.if-not-first.false)))
     ]

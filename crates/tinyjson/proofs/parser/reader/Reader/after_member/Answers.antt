@@ -4,19 +4,19 @@ use Rattle.tinyjson.specs.private.Stack.{ClosesObject, at, frames}
 use Rattle.tinyjson_grammar.specs.declared.error.JsonParseErrorKind.TheVariants.{UnexpectedEof, ExpectedCommaOrBrace}
 use Rattle.tinyjson_tokens.proofs.Callers.{end_after, Leads_one, Leads_end, Refuses_as, Refuses_memory, Reads_after, taken_complete}
 use Rattle.tinyjson.proofs.Reading.Containers.{object_closes, object_other}
-use Rattle.tinyjson.proofs.Reading.Stack.{member_whole, comma_read, after_white, after_halts}
+use Rattle.tinyjson.proofs.Reading.Stack.{member_complete, comma_read, after_white, after_halts}
 use Rattle.tinyjson.proofs.parser.reader.Reader.after_member.Goals as goal
 
 pub returns-then-is_err-clause-reads : goal.returns-then-is_err-clause-reads
 returns-then-is_err-clause-reads g c = λ limit.
     let sight = g.S.Source.sight in
-    let whole = member_whole c.args.stack.now c.requires.sound c.args.values c.args.keys _ c.requires.member.1 in
+    let whole = member_complete c.args.stack.now c.requires.sound c.args.values c.args.keys _ c.requires.member.1 in
     Refuses_memory sight limit _ _ (after_halts sight limit _ _ _ whole c.skip_white.ensures.white)
 
 pub returns-in_default-clause-reads : goal.returns-in_default-clause-reads
 returns-in_default-clause-reads g c = λ limit.
     let sight = g.S.Source.sight in
-    let whole = member_whole c.args.stack.now c.requires.sound c.args.values c.args.keys _ c.requires.member.1 in
+    let whole = member_complete c.args.stack.now c.requires.sound c.args.values c.args.keys _ c.requires.member.1 in
     Refuses_memory sight limit _ _ (after_halts sight limit _ _ _ whole c.skip_white.ensures.white)
 
 pub returns-else-is_err-clause-reads : goal.returns-else-is_err-clause-reads
@@ -43,7 +43,7 @@ pub returns-in-Some-clause-reads : goal.returns-in-Some-clause-reads
 returns-in-Some-clause-reads g c = λ limit.
     let sight = g.S.Source.sight in
     let d = c.in-Some.c in
-    let whole = member_whole c.args.stack.now c.requires.sound c.args.values c.args.keys _ c.requires.member.1 in
+    let whole = member_complete c.args.stack.now c.requires.sound c.args.values c.args.keys _ c.requires.member.1 in
     Refuses_as sight limit _ _ (ExpectedCommaOrBrace d)
     (Leads_one sight limit _ _ _ d (after_white sight limit _ _ _ whole c.skip_white.ensures.white)
     c.consume-in-Some.ensures.takes tt
@@ -52,6 +52,6 @@ returns-in-Some-clause-reads g c = λ limit.
 pub returns-in-None-clause-reads : goal.returns-in-None-clause-reads
 returns-in-None-clause-reads g c = λ limit.
     let sight = g.S.Source.sight in
-    let whole = member_whole c.args.stack.now c.requires.sound c.args.values c.args.keys _ c.requires.member.1 in
+    let whole = member_complete c.args.stack.now c.requires.sound c.args.values c.args.keys _ c.requires.member.1 in
     Refuses_as sight limit _ _ UnexpectedEof
     (Leads_end sight limit _ _ (after_white sight limit _ _ _ whole c.skip_white.ensures.white) c.in-None.ensures.shows (end_after limit _) tt)

@@ -2,7 +2,7 @@ use Rattle.std.proofs.Common.{rules, ◌≡◌, ◌∷◌, ◌++◌, [], ◌-◌
 use Rattle.tinyjson_grammar.specs.Machine.{next, after}
 use Rattle.tinyjson.specs.private.Stack.{frames_over, maps_of}
 use Rattle.tinyjson.specs.declared.parser.stack.Frame.TheVariants as frame
-use Rattle.tinyjson.proofs.Reading.Stack.{pushed, popped, member_whole}
+use Rattle.tinyjson.proofs.Reading.Stack.{pushed, popped, member_complete}
 use Rattle.tinyjson.proofs.parser.stack.Stack.end_member.Goals as goal
 
 pub returns-clause-at : goal.returns-clause-at
@@ -17,7 +17,7 @@ returns-clause-at c =
     let same : t.containers.items ≡ rest = ap (λ v. v.items) c.in_ok-settle.ensures.containers in
     let new : c.push.new.self.items ≡ t.containers.items ++ o ∷ [] = search rules in
     let opened = ap reverse (new ∙ ap (λ xs. xs ++ o ∷ []) same) ∙ pushed rest o ∙ ap (λ os. o ∷ os) (popped _ _ _ _ c.requires.member.1 was) in
-    member_whole s c.requires.sound n m _ c.requires.member.1
+    member_complete s c.requires.sound n m _ c.requires.member.1
     ∙ ap (λ fs. next fs after) (sym (c.in_ok-settle.ensures.frames _))
     ∙ ap (λ os. next (frames_over os t.values.items t.keys.items (maps_of t)) after) (sym opened)
 

@@ -1,5 +1,0 @@
-use Rattle.tinyjson.proofs.Values.View.{members_view_same}
-use Rattle.tinyjson.proofs.parser.stack.make_room.Goals as goal
-
-pub returns-else-is_empty : goal.returns-else-is_empty
-returns-else-is_empty c = members_view_same _ _ c.reserve.ensures.entries.2

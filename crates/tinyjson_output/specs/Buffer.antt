@@ -1,0 +1,34 @@
+-- What is buffered, after what a writer holds. For private contracts.
+use Rattle.std.specs.Prelude.{◌≡◌, ℕ, List, [], ◌++◌, take, Option, Result, MatchResult, encode_utf8_all}
+use Rattle.tinyjson_output.specs.Written.{Written, WrittenPart}
+use Rattle.tinyjson_output.specs.declared.buffer.Buffer.{Buffer}
+
+-- the bytes that are buffered
+abbrev pub buffered : Buffer → List ℕ
+buffered r = take r.len r.bytes
+
+-- what a writer holds, where its contract says that, and what is buffered
+abbrev pub Output : Type 0
+Output = Option (List ℕ) × List ℕ
+
+-- all but the rest of the bytes follows what was buffered; of both a part is now written, and the others are buffered
+pub record Sent (old new : Output) (bytes rest : List ℕ) : Type 0 where
+  pub done : List ℕ
+  pub split : bytes ≡ done ++ rest
+  pub written : Written old.0 new.0 (old.1 ++ done) new.1
+
+-- all but the rest of the bytes is buffered after what was, and none is written
+abbrev pub Buffers : List ℕ → List ℕ → List ℕ → List ℕ → Type 0
+Buffers old new bytes rest = (held : Option (List ℕ)) → Sent (held, old) (held, new) bytes rest
+
+-- a prefix of what was buffered and of the bytes is written
+pub record SentPart (old new : Output) (bytes : List ℕ) : Type 0 where
+  pub part : WrittenPart old.0 new.0 (old.1 ++ bytes)
+
+-- on `Ok` the bytes follow what was buffered, and on `Err` a prefix of both is written
+abbrev pub Sends : {T E : Type 0} → Output → Output → List ℕ → Result T E → Type 0
+Sends old new bytes result = MatchResult result (λ _. Sent old new bytes []) (λ _. SentPart old new bytes)
+
+-- the same of a text, in UTF-8
+abbrev pub SendsText : {T E : Type 0} → Output → Output → List ℕ → Result T E → Type 0
+SendsText old new text result = Sends old new (encode_utf8_all text) result

@@ -1,0 +1,177 @@
+//! The buffer before a writer, and the write loop.
+ghost use Rattle.std.specs.Prelude.{◌≡◌, ◌≤◌, ◌+◌, ◌++◌, [], length, take, IsTrue, OnOk};
+ghost use Rattle.std.specs.Bool.{MatchBool};
+ghost use Rattle.tinyjson_number.specs.Text.{decimal_text};
+ghost use Rattle.tinyjson_output.specs.Buffer.{buffered, Sends};
+ghost use Rattle.tinyjson_output.specs.Written.{WritesPrefix};
+
+use std::io::{self, ErrorKind, Write};
+use std::simd::prelude::*;
+use tinyjson_number::JsonNumber;
+
+/// How many bytes the buffer holds at most.
+const CAPACITY: usize = 4096;
+
+/// Bytes that are still to be written: the first `len`.
+#[derive(Drop)]
+pub struct Buffer {
+    bytes: [u8; CAPACITY],
+    len: usize,
+}
+
+impl Buffer {
+    /// An empty buffer.
+    pub fn new() -> Buffer
+        ensures { buffered result ≡ [] }
+    {
+        Buffer {
+            bytes: [0; CAPACITY],
+            len: 0,
+        }
+    }
+
+    /// Appends the bytes.
+    #[inline(always)]
+    pub fn append(&mut self, bytes: &[u8])
+        requires { self.old.len + length bytes.now ≤ 4096 }
+        ensures buffers { buffered self.new ≡ buffered self.old ++ bytes.now }
+        ensures len { self.new.len ≡ self.old.len + length bytes.now }
+    {
+        copy(&mut self.bytes[..], self.len, bytes);
+        self.len += bytes.len();
+    }
+
+    /// Appends the text of a number if it is short and fits, and returns whether it did.
+    #[inline(always)]
+    pub fn append_short(&mut self, number: &JsonNumber) -> bool
+        ensures { MatchBool result
+            (buffered self.new ≡ buffered self.old ++ decimal_text number.now.decimal)
+            (buffered self.new ≡ buffered self.old) }
+    {
+        if self.len > CAPACITY {
+            return false;
+        }
+        match number.write_short(&mut self.bytes[self.len..]) {
+            Some(count) => {
+                self.len += count;
+                true
+            }
+            None => false,
+        }
+    }
+
+    /// How many bytes are buffered.
+    #[inline(always)]
+    pub fn len(&self) -> usize
+        ensures { result ≡ length (buffered self.now) }
+    {
+        self.len.min(CAPACITY)
+    }
+
+    /// Keeps only the first `len` bytes.
+    #[inline(always)]
+    pub fn truncate(&mut self, len: usize)
+        ensures { buffered self.new ≡ take len (buffered self.old) }
+    {
+        self.len = self.len.min(len);
+    }
+
+    /// Whether `count` more bytes fit.
+    #[inline(always)]
+    pub fn fits(&self, count: usize) -> bool
+        ensures { IsTrue result → self.now.len + count ≤ 4096 }
+    {
+        self.len.saturating_add(count) <= CAPACITY
+    }
+}
+
+/// Puts the bytes at the place, a few of them by two vectors, which may overlap.
+#[inline(always)]
+fn copy(target: &mut [u8], at: usize, bytes: &[u8])
+    requires { at + length bytes.now ≤ length target.old }
+    ensures copied { take (at + length bytes.now) target.new ≡ take at target.old ++ bytes.now }
+    ensures len { length target.new ≡ length target.old }
+{
+    match bytes.len() {
+        0 => {}
+        1 => target[at] = bytes[0],
+        2..=3 => copy_ends::<2>(target, at, bytes),
+        4..=7 => copy_ends::<4>(target, at, bytes),
+        8..=15 => copy_ends::<8>(target, at, bytes),
+        16..=32 => copy_ends::<16>(target, at, bytes),
+        count => target[at..at + count].copy_from_slice(bytes),
+    }
+}
+
+/// The first N bytes and the last N, which are all.
+#[inline(always)]
+fn copy_ends<const N: usize>(target: &mut [u8], at: usize, bytes: &[u8])
+    requires count { (N ≤ length bytes.now) × (length bytes.now ≤ N + N) }
+    requires fits { at + length bytes.now ≤ length target.old }
+    ensures copied { take (at + length bytes.now) target.new ≡ take at target.old ++ bytes.now }
+    ensures len { length target.new ≡ length target.old }
+{
+    let last = bytes.len() - N;
+    Simd::<u8, N>::from_slice(bytes).copy_to_slice(&mut target[at..]);
+    Simd::<u8, N>::from_slice(&bytes[last..]).copy_to_slice(&mut target[at + last..]);
+}
+
+/// Appends the bytes to the buffer, or, where they do not fit, writes what is buffered first. An error is
+/// the writer's own, an interruption too, or `WriteZero` where it takes nothing.
+#[inline(always)]
+pub fn write_bytes<W: Write>(out: &mut W, buffer: &mut Buffer, bytes: &[u8]) -> io::Result<()>
+    ensures { Sends
+        (W.contents out.old, buffered buffer.old) (W.contents out.new, buffered buffer.new)
+        bytes.now result }
+{
+    if !buffer.fits(bytes.len()) {
+        return write_far(out, buffer, bytes);
+    }
+    buffer.append(bytes);
+    Ok(())
+}
+
+/// The same where the bytes do not fit.
+#[cold]
+#[inline(never)]
+fn write_far<W: Write>(out: &mut W, buffer: &mut Buffer, bytes: &[u8]) -> io::Result<()>
+    ensures { Sends
+        (W.contents out.old, buffered buffer.old) (W.contents out.new, buffered buffer.new)
+        bytes.now result }
+{
+    flush(out, buffer)?;
+    let len = bytes.len();
+    if len > CAPACITY {
+        return write_all(out, bytes);
+    }
+    buffer.bytes[..len].copy_from_slice(bytes);
+    buffer.len = len;
+    Ok(())
+}
+
+/// Writes what is buffered.
+pub fn flush<W: Write>(out: &mut W, buffer: &mut Buffer) -> io::Result<()>
+    ensures written { WritesPrefix (W.contents out.old) (W.contents out.new)
+        (buffered buffer.old) result }
+    ensures empty { OnOk result (buffered buffer.new ≡ []) }
+{
+    write_all(out, &buffer.bytes[..buffer.len.min(CAPACITY)])?;
+    buffer.len = 0;
+    Ok(())
+}
+
+/// Writes the bytes, and ends with the writer's first error, an interruption too. The writer is not
+/// called with an empty slice.
+fn write_all<W: Write>(out: &mut W, bytes: &[u8]) -> io::Result<()>
+    ensures { WritesPrefix (W.contents out.old) (W.contents out.new) bytes.now result }
+{
+    let mut rest = bytes;
+    while !rest.is_empty() {
+        let count = out.write(rest)?;
+        if count == 0 {
+            return Err(io::Error::new(ErrorKind::WriteZero, "the writer took no byte"));
+        }
+        rest = &rest[count..];
+    }
+    Ok(())
+}
