@@ -4,6 +4,7 @@ use Rattle.std.specs.Prelude.{encode_utf8_all}
 use Rattle.std.specs.Io.KnownBytes.{Appends, Keeps}
 use Rattle.std.specs.Str.{IsUtf8, chars}
 use Rattle.std.specs.declared.io.Error.{Error}
+use Rattle.tinyjson.specs.Characters.{line_feed}
 use Rattle.tinyjson.specs.Error.{error_kind}
 use Rattle.tinyjson.specs.Grammar.{IsText, IsAccepted}
 use Rattle.tinyjson.specs.JsonParseErrorKind.TheVariants as kind
@@ -22,7 +23,7 @@ onto_first b (line ∷ more) = (b ∷ line) ∷ more
 -- the lines of the bytes, each with its line feed, which the last may lack
 abbrev pub lines : List ℕ → List (List ℕ)
 lines [] = []
-lines (b ∷ bs) = cond (b == 10) ((b ∷ []) ∷ lines bs) (onto_first b (lines bs))
+lines (b ∷ bs) = cond (b == line_feed) ((b ∷ []) ∷ lines bs) (onto_first b (lines bs))
 
 -- of the known bytes these lines are read
 abbrev pub LinesRead : Option (List ℕ) → Option (List ℕ) → List (List ℕ) → Type 0
@@ -32,7 +33,7 @@ LinesRead (Some xs) (Some ys) read = lines xs ≡ read ++ lines ys
 
 -- the compact text in UTF-8, and a line feed
 abbrev pub normal_line : Tree → List ℕ
-normal_line t = encode_utf8_all (compact t) ++ 10 ∷ []
+normal_line t = encode_utf8_all (compact t) ++ line_feed ∷ []
 
 abbrev pub normal_lines : List Tree → List ℕ
 normal_lines [] = []

@@ -1,6 +1,7 @@
 //! The normal forms of the lines of an input.
 ghost use Rattle.std.specs.Prelude.{[], ◌∷◌};
 ghost use Rattle.std.specs.Str.{chars};
+ghost use Rattle.tinyjson.specs.Characters.{line_feed};
 ghost use Rattle.tinyjson.specs.View.{view};
 ghost use Rattle.tinyjson.specs.Written.{WritesPrefix};
 ghost use Rattle.json_lines.specs.Lines.{WritesLines, WritesLine, normal_line};
@@ -83,7 +84,7 @@ fn write_value<W: Write>(alloc: Global, output: &mut W, value: &JsonValue) -> io
 }
 
 fn end_line<W: Write>(output: &mut W) -> io::Result<()>
-    ensures { WritesPrefix (W.contents output.old) (W.contents output.new) (10 ∷ []) result }
+    ensures { WritesPrefix (W.contents output.old) (W.contents output.new) (line_feed ∷ []) result }
 {
     if output.write(b"\n")? == 0 {
         return Err(io::Error::new(ErrorKind::WriteZero, "the writer took no byte"));

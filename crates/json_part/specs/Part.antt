@@ -1,6 +1,7 @@
 -- What is written of a text.
 use Rattle.std.specs.Prelude.{◌≡◌, ℕ, List, [], ◌∷◌, ◌++◌, Option, Some, None, Result, Ok, Err, ◌⊎◌, codes, encode_utf8_all}
 use Rattle.std.specs.Io.KnownBytes.{Appends}
+use Rattle.tinyjson.specs.Characters.{line_feed}
 use Rattle.tinyjson.specs.Error.{error_kind, error_message}
 use Rattle.tinyjson.specs.Grammar.{IsText, IsAccepted}
 use Rattle.tinyjson.specs.JsonParseErrorKind.TheVariants as kind
@@ -32,7 +33,7 @@ part_error_message Writing = codes "writing failed"
 
 -- the compact text in UTF-8, and a line feed
 abbrev pub line_of : Tree → List ℕ
-line_of t = encode_utf8_all (compact t) ++ 10 ∷ []
+line_of t = encode_utf8_all (compact t) ++ line_feed ∷ []
 
 -- the tokens name a part, and a prefix of its line is written
 abbrev pub WritesLinePrefix : List (List ℕ) → Tree → Option (List ℕ) → Option (List ℕ) → Type 0

@@ -2,6 +2,7 @@
 ghost use Rattle.std.specs.IoError.{error_kind};
 ghost use Rattle.std.specs.Prelude.{◌≡◌, ◌∷◌, [], Some};
 ghost use Rattle.std.specs.Str.{chars};
+ghost use Rattle.tinyjson.specs.Characters.{line_feed};
 ghost use Rattle.tinyjson.specs.View.{view};
 ghost use Rattle.tinyjson.specs.Written.{WritesPrefix};
 ghost use Rattle.json_pointer.specs.Tokens.{tokens_of};
@@ -132,7 +133,7 @@ fn write_line<W: Write>(alloc: Global, value: &JsonValue, output: &mut W) -> io:
 }
 
 fn end_line<W: Write>(output: &mut W) -> io::Result<()>
-    ensures { WritesPrefix (W.contents output.old) (W.contents output.new) (10 ∷ []) result }
+    ensures { WritesPrefix (W.contents output.old) (W.contents output.new) (line_feed ∷ []) result }
 {
     if output.write(b"\n")? == 0 {
         return Err(io::Error::new(ErrorKind::WriteZero, "the writer took no byte"));

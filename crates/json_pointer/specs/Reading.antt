@@ -1,8 +1,9 @@
 -- What reading a pointer's text returns.
 use Rattle.std.specs.Prelude.{◌≡◌, ◌≢◌, ◌↔◌, ◌⊎◌, ℕ, List, [], ◌∷◌, ◌++◌, Result, Ok, Err, MatchResult, String, Vec, map, codes}
 use Rattle.std.specs.declared.alloc.Global.{Global}
+use Rattle.tinyjson.specs.Characters.{digit_zero, solidus, tilde}
 use Rattle.tinyjson.specs.View.{text}
-use Rattle.json_pointer.specs.Text.{escape_char, pointer_text}
+use Rattle.json_pointer.specs.Text.{digit_one, escape_char, pointer_text}
 use Rattle.json_pointer.specs.Tokens.{tokens_of}
 use Rattle.json_pointer.specs.declared.pointer.Pointer.{Pointer}
 use Rattle.json_pointer.specs.declared.pointer.PointerError.{PointerError}
@@ -14,23 +15,23 @@ IsNoPointer cs = (ts : List (List ℕ)) → cs ≢ pointer_text ts
 
 abbrev pub BeginsWithOther : List ℕ → Type 0
 BeginsWithOther [] = ⊥
-BeginsWithOther (c ∷ cs) = c ≢ 47
+BeginsWithOther (c ∷ cs) = c ≢ solidus
 
 -- `0` or `1` comes first
 abbrev pub BeginsEscape : List ℕ → Type 0
 BeginsEscape [] = ⊥
-BeginsEscape (c ∷ cs) = (c ≡ 48) ⊎ (c ≡ 49)
+BeginsEscape (c ∷ cs) = (c ≡ digit_zero) ⊎ (c ≡ digit_one)
 
 -- A `~` that is followed by neither `0` nor `1`.
 pub record HasBadEscape (cs : List ℕ) : Type 0 where
   pub front : List ℕ
   pub rest : List ℕ
-  pub split : cs ≡ front ++ 126 ∷ rest
+  pub split : cs ≡ front ++ tilde ∷ rest
   pub bad : ¬ BeginsEscape rest
 
 abbrev pub BeginsWithSlash : List ℕ → Type 0
 BeginsWithSlash [] = ⊥
-BeginsWithSlash (c ∷ cs) = c ≡ 47
+BeginsWithSlash (c ∷ cs) = c ≡ solidus
 
 -- A pointer comes with just the tokens whose text this is; an error says what is wrong, and that it is the text of none.
 abbrev pub Reads : List ℕ → Result Pointer PointerError → Type 0
@@ -41,14 +42,14 @@ Reads cs (Err OutOfMemory) = Unit {0}
 
 -- The same of the characters after the first slash.
 abbrev pub ReadsTokens : List ℕ → Result (Vec (String Global) Global) PointerError → Type 0
-ReadsTokens cs (Ok v) = 47 ∷ cs ≡ pointer_text (map text v.items)
+ReadsTokens cs (Ok v) = solidus ∷ cs ≡ pointer_text (map text v.items)
 ReadsTokens cs (Err NoSlash) = ⊥
-ReadsTokens cs (Err BadEscape) = HasBadEscape (47 ∷ cs)
+ReadsTokens cs (Err BadEscape) = HasBadEscape (solidus ∷ cs)
 ReadsTokens cs (Err OutOfMemory) = Unit {0}
 
 -- The character that is escaped with c after a `~`, or an error, where none is.
 abbrev pub Unescapes : ℕ → Result ℕ PointerError → Type 0
-Unescapes c result = MatchResult result (λ d. escape_char d ≡ 126 ∷ c ∷ []) (λ e. (e ≡ BadEscape) × ¬ BeginsEscape (c ∷ []))
+Unescapes c result = MatchResult result (λ d. escape_char d ≡ tilde ∷ c ∷ []) (λ e. (e ≡ BadEscape) × ¬ BeginsEscape (c ∷ []))
 
 -- the message of an error
 abbrev pub pointer_error_message : PointerError → List ℕ

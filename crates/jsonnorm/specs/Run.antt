@@ -3,6 +3,7 @@ use Rattle.std.specs.Prelude.{◌≡◌, ℕ, Bool, true, false, List, [], ◌�
 use Rattle.std.specs.Prelude.{codes, encode_utf8_all}
 use Rattle.std.specs.Io.KnownBytes.{Consumes, IsAtEnd, Keeps}
 use Rattle.std.specs.Str.{IsUtf8, chars}
+use Rattle.tinyjson.specs.Characters.{line_feed}
 use Rattle.tinyjson.specs.Error.{error_kind}
 use Rattle.tinyjson.specs.Grammar.{IsText, IsAccepted}
 use Rattle.tinyjson.specs.Parser.{ParsesText}
@@ -20,7 +21,7 @@ normal_text true t = indented t (codes "  ") 0
 
 -- the bytes to write: the text in UTF-8, and a line feed
 abbrev pub line_of : Bool → Tree → List ℕ
-line_of is_indented t = encode_utf8_all (normal_text is_indented t) ++ 10 ∷ []
+line_of is_indented t = encode_utf8_all (normal_text is_indented t) ++ line_feed ∷ []
 
 -- The bytes are the UTF-8 of a text of the grammar, with its tree.
 pub record IsInput (limit : Option ℕ) (bytes : List ℕ) (t : Tree) : Type 0 where

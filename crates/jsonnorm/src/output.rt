@@ -1,5 +1,6 @@
 //! Writing the text of a value as a line.
 ghost use Rattle.std.specs.Prelude.{[], ◌∷◌};
+ghost use Rattle.tinyjson.specs.Characters.{line_feed};
 ghost use Rattle.tinyjson.specs.View.{view};
 ghost use Rattle.tinyjson.specs.Written.{WritesPrefix, WritesText};
 ghost use Rattle.jsonnorm.specs.Run.{normal_text, line_of};
@@ -39,7 +40,7 @@ fn write_text<W: Write>(
 }
 
 fn end_line<W: Write>(output: &mut W) -> io::Result<()>
-    ensures { WritesPrefix (W.contents output.old) (W.contents output.new) (10 ∷ []) result }
+    ensures { WritesPrefix (W.contents output.old) (W.contents output.new) (line_feed ∷ []) result }
 {
     if output.write(b"\n")? == 0 {
         return Err(io::Error::new(ErrorKind::WriteZero, "the writer took no byte"));

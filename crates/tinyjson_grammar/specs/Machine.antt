@@ -16,7 +16,7 @@ use Rattle.tinyjson_grammar.specs.declared.error.JsonParseErrorKind.TheVariants.
 use Rattle.tinyjson_grammar.specs.declared.error.JsonParseErrorKind.TheVariants.{EmptyInteger, LeadingZero, EmptyFraction, EmptyExponent}
 use Rattle.tinyjson_grammar.specs.declared.error.JsonParseErrorKind.TheVariants.{NumberOutOfRange, TooDeep}
 use Rattle.tinyjson_grammar.specs.Characters.{begin_array, begin_object, decimal_point, end_array, end_object}
-use Rattle.tinyjson_grammar.specs.Characters.{letter_f, letter_n, letter_t, letter_u, minus_sign}
+use Rattle.tinyjson_grammar.specs.Characters.{letter_e, letter_f, letter_n, letter_t, letter_u, minus_sign}
 use Rattle.tinyjson_grammar.specs.Characters.{name_separator, plus_sign, quotation_mark, reverse_solidus, space}
 use Rattle.tinyjson_grammar.specs.Characters.{value_separator}
 
@@ -162,7 +162,7 @@ abbrev pub with_exponent : Numeral → ℕ → Numeral
 with_exponent n c = record n { exponent = Some (record { letter = c; sign = None; digits = [] }) }
 
 abbrev pub exponent_or : Option Exponent → Exponent
-exponent_or None = record { letter = 101; sign = None; digits = [] }
+exponent_or None = record { letter = letter_e; sign = None; digits = [] }
 exponent_or (Some e) = e
 
 abbrev pub with_sign : Numeral → ℕ → Numeral

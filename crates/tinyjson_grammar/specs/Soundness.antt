@@ -1,5 +1,5 @@
 -- The trees of values: their characters are scalar values, their numbers have the one form, their keys rise.
-use Rattle.std.specs.Prelude.{◌≡◌, ℕ, ◌+◌, max, List, ⊤, IsTrue}
+use Rattle.std.specs.Prelude.{◌≡◌, ℕ, List, ⊤, IsTrue}
 use Rattle.std.specs.Int.{Width}
 use Rattle.std.specs.Str.{all_scalars}
 use Rattle.std.specs.declared.cmp.Ordering.TheVariants.{Less}
@@ -36,24 +36,6 @@ abbrev mutual
   pub AreMembersAt : Width → Members → Type 0
   AreMembersAt width no_members = ⊤
   AreMembersAt width (member k t ms) = IsTrue (all_scalars k) × IsTreeAt width t × AreMembersAt width ms
-
--- how many containers are nested at the most
-abbrev mutual
-  pub tree_depth : Tree → ℕ
-  tree_depth null = 0
-  tree_depth (boolean b) = 0
-  tree_depth (number d) = 0
-  tree_depth (string cs) = 0
-  tree_depth (array ts) = 1 + items_depth ts
-  tree_depth (object ms) = 1 + members_depth ms
-
-  pub items_depth : Items → ℕ
-  items_depth no_items = 0
-  items_depth (item t ts) = max (tree_depth t) (items_depth ts)
-
-  pub members_depth : Members → ℕ
-  members_depth no_members = 0
-  members_depth (member k t ms) = max (tree_depth t) (members_depth ms)
 
 abbrev pub IsTree : Tree → Type 0
 IsTree t = IsTreeAt power_width t

@@ -1,5 +1,5 @@
 -- A JSON value (RFC 8259, section 3), apart from how it is spelled or kept.
-use Rattle.std.specs.Prelude.{ℕ, Bool, true, false, List, [], ◌∷◌, encode_utf8_all, Option, Some, None, cond}
+use Rattle.std.specs.Prelude.{ℕ, ◌+◌, max, Bool, true, false, List, [], ◌∷◌, encode_utf8_all, Option, Some, None, cond}
 use Rattle.std.specs.Ordering.{nat_cmp, match_ordering}
 use Rattle.std.specs.Str.{bytes_eq}
 use Rattle.std.specs.Cmp.Lexicographic.{slice_cmp}
@@ -66,3 +66,21 @@ key_of (boolean b) = []
 key_of (number d) = []
 key_of (array ts) = []
 key_of (object ms) = []
+
+-- how many containers are nested at the most
+abbrev mutual
+  pub tree_depth : Tree → ℕ
+  tree_depth null = 0
+  tree_depth (boolean b) = 0
+  tree_depth (number d) = 0
+  tree_depth (string cs) = 0
+  tree_depth (array ts) = 1 + items_depth ts
+  tree_depth (object ms) = 1 + members_depth ms
+
+  pub items_depth : Items → ℕ
+  items_depth no_items = 0
+  items_depth (item t ts) = max (tree_depth t) (items_depth ts)
+
+  pub members_depth : Members → ℕ
+  members_depth no_members = 0
+  members_depth (member k t ms) = max (tree_depth t) (members_depth ms)

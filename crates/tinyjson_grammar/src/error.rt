@@ -1,6 +1,7 @@
 //! Why a text was refused.
 ghost use Rattle.std.specs.Int.{is_in_range};
 ghost use Rattle.std.specs.Prelude.{◌≡◌, ◌++◌, Some, codes};
+ghost use Rattle.tinyjson_grammar.specs.Characters.{space, tilde};
 ghost use Rattle.tinyjson_grammar.specs.Message.{kind_message, shown};
 
 use crate::kind::JsonKind;
@@ -94,7 +95,7 @@ impl fmt::Display for Instead {
 
 /// Whether messages show the character itself.
 fn is_printable(c: char) -> bool
-    ensures { result ≡ is_in_range 32 126 c }
+    ensures { result ≡ is_in_range space tilde c }
 {
     matches!(c, ' '..='~')
 }

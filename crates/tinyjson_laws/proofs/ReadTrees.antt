@@ -9,9 +9,9 @@ use Rattle.std.specs.declared.cmp.Ordering.TheVariants.{Less, Equal, Greater}
 use Rattle.std.proofs.lemmas.Bool.{false≢true, and_from, and_parts, ltb-true}
 use Rattle.tinyjson_grammar.specs.Characters.{short_escape, is_hex, is_high, is_low, is_surrogate, pair_of, decode, paired}
 use Rattle.tinyjson_grammar.specs.Tree as tree
-use Rattle.tinyjson_grammar.specs.Tree.{key_cmp}
+use Rattle.tinyjson_grammar.specs.Tree.{key_cmp, tree_depth, items_depth, members_depth}
 use Rattle.tinyjson_grammar.specs.Syntax.{Syntax, Elements, Pairs, null, boolean, number, string, empty_array, array, empty_object, object, last_element, element, last_pair, pair, Piece, plain, escape, unit, IsPiece, ArePieces, code, piece_codes, unit_value, IsSpelled, AreElements, ArePairs, IsStrictAt, ElementsAreStrictAt, PairsAreStrictAt, is_key, tree_of, elements_trees, pairs_members, depth, elements_depth, pairs_depth}
-use Rattle.tinyjson_grammar.specs.Soundness.{IsSorted, IsTreeAt, AreItemsAt, AreMembersAt, tree_depth, items_depth, members_depth}
+use Rattle.tinyjson_grammar.specs.Soundness.{IsSorted, IsTreeAt, AreItemsAt, AreMembersAt}
 use Rattle.tinyjson.proofs.Callers.{sorted_put}
 use Rattle.tinyjson.proofs.Callers.Laws.{are_put}
 use Rattle.tinyjson_number.proofs.Callers.{value_canonical}

@@ -2,11 +2,11 @@
 use Rattle.std.proofs.Common.{◌≤◌, ℕ, List, Option, Some, None, sym, ap, subst, arith}
 use Rattle.std.specs.Int.{Width, w32}
 use Rattle.tinyjson_number.specs.Numeral.{power_width}
-use Rattle.tinyjson_grammar.specs.Tree.{Tree}
+use Rattle.tinyjson_grammar.specs.Tree.{Tree, tree_depth}
 use Rattle.tinyjson_grammar.specs.Syntax.{depth, IsWithin}
 use Rattle.tinyjson_grammar.specs.Grammar.{IsTextAt}
 use Rattle.tinyjson_grammar.specs.Text as written
-use Rattle.tinyjson_grammar.specs.Soundness.{IsTreeAt, tree_depth}
+use Rattle.tinyjson_grammar.specs.Soundness.{IsTreeAt}
 use Rattle.tinyjson_grammar.proofs.Callers.Laws.{only_tree, IsWhiteIndent, within_le, written_text}
 use Rattle.tinyjson_laws.specs.Reading.{OneTree, TextsAreSound, TreesHaveTexts, WiderLimit, WiderRange}
 use Rattle.tinyjson_laws.proofs.ReadTrees.{tree_is, depth_is}

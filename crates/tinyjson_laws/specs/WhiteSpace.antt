@@ -1,6 +1,6 @@
 -- Laws of the white space between tokens.
 use Rattle.std.specs.Prelude.{◌≡◌, ℕ, cond, ◌==◌, List, [], ◌∷◌, ◌++◌, Option}
-use Rattle.tinyjson_grammar.specs.Characters.{is_white}
+use Rattle.tinyjson_grammar.specs.Characters.{is_white, quotation_mark, reverse_solidus}
 use Rattle.tinyjson_grammar.specs.Tree.{Tree}
 use Rattle.tinyjson_grammar.specs.Syntax.{
   Syntax,
@@ -31,8 +31,8 @@ pub data Place : Type 0 where
 
 -- where the next character stands
 abbrev pub place_after : Place → ℕ → Place
-place_after outside c = cond (c == 34) in_string outside
-place_after in_string c = cond (c == 34) outside (cond (c == 92) after_backslash in_string)
+place_after outside c = cond (c == quotation_mark) in_string outside
+place_after in_string c = cond (c == quotation_mark) outside (cond (c == reverse_solidus) after_backslash in_string)
 place_after after_backslash c = in_string
 
 -- the character, or nothing where it is white space outside a string

@@ -1,10 +1,10 @@
 -- Laws of writing: what is written of a tree reads back.
 use Rattle.std.specs.Prelude.{◌≡◌, ◌≤◌, ◌↔◌, ℕ, List, Option, Some, None, IsTrue, IsUtf8, encode_utf8_all}
 use Rattle.std.specs.Str.{all_scalars}
-use Rattle.tinyjson_grammar.specs.Tree.{Tree}
+use Rattle.tinyjson_grammar.specs.Tree.{Tree, tree_depth}
 use Rattle.tinyjson_grammar.specs.Syntax.{AreWhite}
 use Rattle.tinyjson_grammar.specs.Grammar.{IsText}
-use Rattle.tinyjson_grammar.specs.Soundness.{IsTree, tree_depth}
+use Rattle.tinyjson_grammar.specs.Soundness.{IsTree}
 use Rattle.tinyjson_grammar.specs.Text.{compact, indented}
 
 -- the compact text of a tree is a text of that tree

@@ -1,6 +1,7 @@
 //! Short texts of numbers, put into a buffer by vectors.
 ghost use Rattle.std.specs.Prelude.{◌≡◌, ℕ, ◌+◌, ◌<◌, ◌≤◌, ◌++◌, ◌∷◌, length, take, drop, pos};
 ghost use Rattle.std.specs.Prelude.{◌+ℤ◌, IfSome, replicate};
+ghost use Rattle.tinyjson_number.specs.Characters.{digit_zero, decimal_point};
 ghost use Rattle.tinyjson_number.specs.Numeral.{minus_text};
 ghost use Rattle.tinyjson_number.specs.Text.{decimal_text, magnitude_text};
 
@@ -97,7 +98,7 @@ fn put_integer(buffer: &mut [u8], at: usize, bytes: &[u8], count: usize, zeros: 
     requires digits { (count ≤ 16) × (16 ≤ length bytes.now) }
     requires zeros { zeros ≤ 8 }
     ensures text { (result ≤ 32) × (take result buffer.new
-        ≡ take at buffer.old ++ (take count bytes.now ++ replicate zeros 48)) }
+        ≡ take at buffer.old ++ (take count bytes.now ++ replicate zeros digit_zero)) }
     ensures len { length buffer.new ≡ length buffer.old }
 {
     put::<16>(buffer, at, bytes);
@@ -112,7 +113,7 @@ fn put_mixed(buffer: &mut [u8], at: usize, bytes: &[u8], count: usize, point: us
     requires digits { (count ≤ 16) × (24 ≤ length bytes.now) }
     requires point { (point ≤ 8) × (point ≤ count) }
     ensures text { (result ≤ 32) × (take result buffer.new ≡ take at buffer.old
-        ++ (take point (take count bytes.now) ++ (46 ∷ drop point (take count bytes.now)))) }
+        ++ (take point (take count bytes.now) ++ (decimal_point ∷ drop point (take count bytes.now)))) }
     ensures len { length buffer.new ≡ length buffer.old }
 {
     put::<8>(buffer, at, bytes);
@@ -128,7 +129,7 @@ fn put_fraction(buffer: &mut [u8], at: usize, bytes: &[u8], count: usize, zeros:
     requires digits { (count ≤ 16) × (16 ≤ length bytes.now) }
     requires zeros { zeros ≤ 6 }
     ensures text { (result ≤ 32) × (take result buffer.new ≡ take at buffer.old
-        ++ (48 ∷ 46 ∷ (replicate zeros 48 ++ take count bytes.now))) }
+        ++ (digit_zero ∷ decimal_point ∷ (replicate zeros digit_zero ++ take count bytes.now))) }
     ensures len { length buffer.new ≡ length buffer.old }
 {
     put::<8>(buffer, at, b"0.000000");

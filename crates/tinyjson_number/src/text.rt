@@ -3,6 +3,7 @@ ghost use Rattle.std.specs.Prelude.{◌≡◌, ◌<◌, ◌≤◌, ◌++◌, ◌
 ghost use Rattle.std.specs.Prelude.{replicate, pos, neg_ℤ, Some};
 ghost use Rattle.std.specs.Fmt.{WritesOnOk};
 ghost use Rattle.std.specs.Str.{IsAscii};
+ghost use Rattle.tinyjson_number.specs.Characters.{digit_zero, decimal_point, letter_e};
 ghost use Rattle.tinyjson_number.specs.Layout.{layout_text};
 ghost use Rattle.tinyjson_number.specs.Text.{decimal_text, integer_text, magnitude_text};
 ghost use Rattle.tinyjson_number.specs.Text.{scientific_text};
@@ -52,7 +53,7 @@ fn write_ascii<W: fmt::Write>(f: &mut fmt::Formatter<W>, bytes: &[u8]) -> fmt::R
 }
 
 fn write_exponent<W: fmt::Write>(f: &mut fmt::Formatter<W>, exponent: i128) -> fmt::Result
-    ensures { WritesOnOk W.write_str_gives f.old result (101 ∷ integer_text exponent) f.new }
+    ensures { WritesOnOk W.write_str_gives f.old result (letter_e ∷ integer_text exponent) f.new }
 {
     write!(f, "e{exponent}")
 }
@@ -151,7 +152,7 @@ fn scientific<'a>(sign: &'a [u8], digits: &'a [u8], point: i128) -> Layout<'a>
 /// Digits and zeros before the point.
 fn integer<'a>(sign: &'a [u8], digits: &'a [u8], count: usize) -> Layout<'a>
     requires { count ≤ 323 }
-    ensures { layout_text result ≡ sign.now ++ (digits.now ++ replicate count 48) }
+    ensures { layout_text result ≡ sign.now ++ (digits.now ++ replicate count digit_zero) }
 {
     Layout {
         sign,
@@ -165,7 +166,8 @@ fn integer<'a>(sign: &'a [u8], digits: &'a [u8], count: usize) -> Layout<'a>
 /// Zeros and digits after the point.
 fn fraction<'a>(sign: &'a [u8], count: usize, digits: &'a [u8]) -> Layout<'a>
     requires { count ≤ 323 }
-    ensures { layout_text result ≡ sign.now ++ (48 ∷ 46 ∷ (replicate count 48 ++ digits.now)) }
+    ensures { layout_text result ≡ sign.now
+        ++ (digit_zero ∷ decimal_point ∷ (replicate count digit_zero ++ digits.now)) }
 {
     Layout {
         sign,
@@ -180,7 +182,7 @@ fn fraction<'a>(sign: &'a [u8], count: usize, digits: &'a [u8]) -> Layout<'a>
 fn mixed<'a>(sign: &'a [u8], digits: &'a [u8], point: usize) -> Layout<'a>
     requires { point ≤ length digits.now }
     ensures { layout_text result
-        ≡ sign.now ++ (take point digits.now ++ (46 ∷ drop point digits.now)) }
+        ≡ sign.now ++ (take point digits.now ++ (decimal_point ∷ drop point digits.now)) }
 {
     let (front, back) = digits.split_at(point);
     Layout {
@@ -197,7 +199,7 @@ static ZEROS: [u8; 323] = [b'0'; 323];
 
 fn zeros(count: usize) -> &'static [u8]
     requires { count ≤ 323 }
-    ensures { result.now ≡ replicate count 48 }
+    ensures { result.now ≡ replicate count digit_zero }
 {
     &ZEROS[..count]
 }

@@ -1,5 +1,6 @@
 //! Numbers.
 ghost use Rattle.std.specs.Prelude.{◌∷◌};
+ghost use Rattle.tinyjson_number.specs.Characters.{letter_e};
 ghost use Rattle.tinyjson_number.specs.Text.{decimal_text, integer_text, natural_text};
 ghost use Rattle.tinyjson_output.specs.Buffer.{buffered, Sends, SendsText};
 
@@ -31,7 +32,7 @@ pub fn write_number<W: Write>(
 fn write_exponent<W: Write>(out: &mut W, buffer: &mut Buffer, exponent: i128) -> io::Result<()>
     ensures { Sends
         (W.contents out.old, buffered buffer.old) (W.contents out.new, buffered buffer.new)
-        (101 ∷ integer_text exponent) result }
+        (letter_e ∷ integer_text exponent) result }
 {
     if exponent < 0 {
         write_bytes(out, buffer, b"e-")?;

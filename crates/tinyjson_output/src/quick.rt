@@ -1,6 +1,7 @@
 //! Short texts, which are buffered in full, or not at all.
 ghost use Rattle.std.specs.Prelude.{◌≡◌, ◌≤◌, ◌++◌, ◌∷◌, [], IsTrue, length};
 ghost use Rattle.std.specs.Bool.{MatchBool};
+ghost use Rattle.tinyjson_grammar.specs.Characters.{quotation_mark, name_separator};
 ghost use Rattle.tinyjson_grammar.specs.Text.{escapes, separator};
 ghost use Rattle.tinyjson_number.specs.Text.{decimal_text};
 ghost use Rattle.tinyjson_output.specs.Buffer.{buffered};
@@ -63,7 +64,8 @@ fn append_layout(buffer: &mut Buffer, number: &JsonNumber) -> bool
 #[inline(always)]
 pub fn quick_text(buffer: &mut Buffer, bytes: &[u8]) -> bool
     ensures { MatchBool result
-        (buffered buffer.new ≡ buffered buffer.old ++ (34 ∷ [] ++ (escapes bytes.now ++ 34 ∷ [])))
+        (buffered buffer.new ≡ buffered buffer.old
+        ++ (quotation_mark ∷ [] ++ (escapes bytes.now ++ quotation_mark ∷ [])))
         (buffered buffer.new ≡ buffered buffer.old) }
 {
     if !buffer.fits(bytes.len().saturating_add(2)) || plain_end(bytes, 0) < bytes.len() {
@@ -81,7 +83,8 @@ pub fn quick_text(buffer: &mut Buffer, bytes: &[u8]) -> bool
 pub fn quick_key(buffer: &mut Buffer, compact: bool, first: bool, key: &str) -> bool
     ensures { MatchBool result
         (IsTrue compact × (buffered buffer.new ≡ buffered buffer.old
-        ++ (separator first ++ ((34 ∷ [] ++ (escapes key.now ++ 34 ∷ [])) ++ 58 ∷ []))))
+        ++ (separator first ++ ((quotation_mark ∷ [] ++ (escapes key.now ++ quotation_mark ∷ []))
+        ++ name_separator ∷ []))))
         (buffered buffer.new ≡ buffered buffer.old) }
 {
     let bytes = key.as_bytes();
@@ -98,7 +101,7 @@ pub fn quick_key(buffer: &mut Buffer, compact: bool, first: bool, key: &str) -> 
 #[inline(always)]
 fn opening(first: bool) -> &'static [u8]
     ensures short { length result.now ≤ 2 }
-    ensures value { result.now ≡ separator first ++ 34 ∷ [] }
+    ensures value { result.now ≡ separator first ++ quotation_mark ∷ [] }
 {
     if first {
         b"\"".as_slice()

@@ -3,6 +3,7 @@ ghost use Rattle.std.specs.Prelude.{◌≡◌, ◌<◌, ◌/◌, ◌%◌, ◌++�
 ghost use Rattle.std.specs.Char.{digit_char};
 ghost use Rattle.std.specs.List.{prefix_len};
 ghost use Rattle.std.specs.Str.{chars};
+ghost use Rattle.tinyjson_grammar.specs.Characters.{reverse_solidus};
 ghost use Rattle.tinyjson_scan.specs.Scan.{is_plain};
 ghost use Rattle.tinyjson_grammar.specs.Text.{escape, escapes, quoted, IsEscaped};
 ghost use Rattle.tinyjson_output.specs.Buffer.{buffered, Sends, SendsText};
@@ -83,7 +84,7 @@ fn escape_letter(byte: u8) -> Option<u8>
     requires { IsEscaped byte }
     ensures { MatchOption result
         (escape byte ≡ codes "\\u00" ++ digit_char (byte / 16) ∷ digit_char (byte % 16) ∷ [])
-        (λ letter. escape byte ≡ 92 ∷ letter ∷ []) }
+        (λ letter. escape byte ≡ reverse_solidus ∷ letter ∷ []) }
 {
     if byte >= b' ' {
         return Some(byte);

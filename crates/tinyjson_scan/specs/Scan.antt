@@ -1,11 +1,11 @@
 -- Bytes that end a run.
 use Rattle.std.specs.Prelude.{ℕ, Bool, not, ◌||◌, ◌==◌, nat_lt}
 use Rattle.std.specs.Char.{is_ascii_digit}
-use Rattle.tinyjson_grammar.specs.Characters.{is_white}
+use Rattle.tinyjson_grammar.specs.Characters.{is_white, quotation_mark, reverse_solidus, space}
 
 -- a quotation mark, a backslash or a control character
 abbrev pub is_stop : ℕ → Bool
-is_stop b = (b == 34) || (b == 92) || nat_lt b 32
+is_stop b = (b == quotation_mark) || (b == reverse_solidus) || nat_lt b space
 
 abbrev pub is_plain : ℕ → Bool
 is_plain b = not (is_stop b)

@@ -3,6 +3,7 @@ use Rattle.std.specs.Prelude.{◌≡◌, ℕ, ◌+◌, ◌<◌, ◌⊎◌, ◌==
 use Rattle.std.specs.Prelude.{Option, Some, None, Result, MatchResult, MatchBool, IfSome}
 use Rattle.std.specs.Char.{is_ascii_digit}
 use Rattle.std.specs.List.{AllByRecursion}
+use Rattle.tinyjson_number.specs.Characters.{minus_sign}
 use Rattle.tinyjson_number.specs.Numeral.{Numeral, Exponent, IsNumeral, has_leading_zero, is_sign, sign_text}
 use Rattle.tinyjson_source.specs.Source.{Sight, Still, Takes}
 use Rattle.tinyjson_grammar.specs.Machine.{Frame, Stage, Next, next, digits}
@@ -13,12 +14,12 @@ use Rattle.tinyjson_grammar.specs.declared.error.JsonParseErrorKind.TheVariants.
 
 -- a minus sign or a digit comes next
 abbrev pub BeginsNumber : {S : Type 0} → Sight S → S → Type 0
-BeginsNumber sight p = (c : ℕ) × sight.shows p (Some c) × ((c ≡ 45) ⊎ (is_ascii_digit c ≡ true))
+BeginsNumber sight p = (c : ℕ) × sight.shows p (Some c) × ((c ≡ minus_sign) ⊎ (is_ascii_digit c ≡ true))
 
 -- whether it is below zero, where there is one
 abbrev pub is_minus : Option ℕ → Bool
 is_minus None = false
-is_minus (Some c) = c == 45
+is_minus (Some c) = c == minus_sign
 
 abbrev pub is_below_zero : Option Exponent → Option Bool
 is_below_zero None = None

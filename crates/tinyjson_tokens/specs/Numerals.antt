@@ -2,6 +2,7 @@
 use Rattle.std.specs.Prelude.{◌≡◌, ℕ, ◌<◌, ◌≤◌, ◌==◌, Bool, false, IsTrue, List, [], ◌++◌, drop, length, get_or, slice_get}
 use Rattle.std.specs.Prelude.{Option, None, IfSome, MatchBool}
 use Rattle.std.specs.Char.{is_ascii_digit}
+use Rattle.tinyjson_number.specs.Characters.{decimal_point}
 use Rattle.tinyjson_number.specs.Numeral.{Numeral, IsNumeral, AreDigits, has_leading_zero, is_exponent_letter, value, in_range}
 use Rattle.tinyjson_number.specs.Numeral.{is_sign, spelling, minus_text, sign_text, fraction_text}
 use Rattle.tinyjson_number.specs.Number.{Canonical}
@@ -24,7 +25,7 @@ EndsAt text at = IfSome (slice_get text at) (λ c. is_ascii_digit c ≡ false)
 -- a number does not go on with this character
 pub record EndsNumber (n : Numeral) (c : ℕ) : Type 0 where
   pub digit : is_ascii_digit c ≡ false
-  pub point : n.fraction ≡ [] → n.exponent ≡ None → (c == 46) ≡ false
+  pub point : n.fraction ≡ [] → n.exponent ≡ None → (c == decimal_point) ≡ false
   pub letter : n.exponent ≡ None → is_exponent_letter c ≡ false
 
 -- the fraction, with its point if it has digits, stands between two places
@@ -33,7 +34,7 @@ pub record FractionAt (text : List ℕ) (at : ℕ) (ds : List ℕ) (end : ℕ) :
   pub spelled : drop at text ≡ fraction_text ds ++ drop end text
   pub within : end ≤ length text
   pub ends : EndsAt text end
-  pub no_point : ds ≡ [] → IfSome (slice_get text end) (λ c. (c == 46) ≡ false)
+  pub no_point : ds ≡ [] → IfSome (slice_get text end) (λ c. (c == decimal_point) ≡ false)
 
 -- the sign of an exponent, if it has one, stands between two places
 pub record SignAt (text : List ℕ) (at : ℕ) (negative : Bool) (end : ℕ) : Type 0 where

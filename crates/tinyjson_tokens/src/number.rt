@@ -2,6 +2,7 @@
 ghost use Rattle.std.specs.Prelude.{◌≡◌, ◌==◌, ◌<◌, ◌≤◌, [], ℕ, List, Bool};
 ghost use Rattle.std.specs.Prelude.{OnOk, Option, Some, None, length, true};
 ghost use Rattle.std.specs.Prelude.{if◌then◌else◌, option_map, string_bytes};
+ghost use Rattle.tinyjson_number.specs.Characters.{letter_e, minus_sign};
 ghost use Rattle.tinyjson_grammar.specs.Machine.{Frame, awaited, complete, digits, integer, fraction};
 ghost use Rattle.tinyjson_grammar.specs.Machine.{exponent, next};
 ghost use Rattle.tinyjson_tokens.specs.NumberSteps.{Digits, BeginsNumber, Accepts, Gathered};
@@ -212,8 +213,8 @@ impl<S: Tokens> TokenReader<S> {
 /// The exponent of these digits, with this sign, if there is one.
 fn exponent_parts(negative: Option<bool>, digits: &[u8]) -> Option<ExponentParts<'_>>
     ensures { exponent_of result ≡ option_map (λ b. record {
-      letter = 101;
-      sign = if b then Some 45 else None;
+      letter = letter_e;
+      sign = if b then Some minus_sign else None;
       digits = digits.now;
     }) negative }
 {

@@ -1,6 +1,7 @@
 //! Numbers among the bytes of a text, found at once (RFC 8259, section 6).
 ghost use Rattle.std.specs.Prelude.{◌≡◌, ◌==◌, ◌≤◌, ◌++◌, false, IfSome, drop, length, slice_get};
 ghost use Rattle.std.specs.Char.{is_ascii_digit};
+ghost use Rattle.tinyjson_number.specs.Characters.{decimal_point};
 ghost use Rattle.tinyjson_tokens.specs.Numerals.{ExponentAt, FractionAt, MantissaAt, PartsAt};
 ghost use Rattle.tinyjson_tokens.specs.Numerals.{ShowsAt, SignAt};
 ghost use Rattle.tinyjson_number.specs.Numeral.{AreDigits, has_leading_zero};
@@ -145,7 +146,7 @@ fn fraction_at(bytes: &[u8], point: usize) -> Option<(&[u8], usize)>
 /// Whether a point stands at a place of a text.
 #[inline(always)]
 fn has_point(bytes: &[u8], at: usize) -> bool
-    ensures { ShowsAt (λ b. b == 46) bytes.now at result }
+    ensures { ShowsAt (λ b. b == decimal_point) bytes.now at result }
 {
     at < bytes.len() && bytes[at] == b'.'
 }

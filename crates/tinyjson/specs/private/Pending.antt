@@ -3,6 +3,7 @@ use Rattle.std.specs.Prelude.{◌≡◌, ℕ, ◌+◌, ◌-◌, ◌<◌, true, L
 use Rattle.std.specs.Prelude.{drop, reverse, encode_utf8_all}
 use Rattle.std.specs.Borrow.{Bor}
 use Rattle.std.specs.Str.{chars}
+use Rattle.tinyjson_grammar.specs.Characters.{end_array, end_object}
 use Rattle.tinyjson_grammar.specs.Tree.{member, no_members}
 use Rattle.tinyjson.specs.View.{view, items_view}
 use Rattle.tinyjson_grammar.specs.Text.{items_text, members_text, newline}
@@ -36,10 +37,10 @@ module _ (w : Option (List ℕ)) where
   -- what is left of a container at the level k: the items or members that are left, and its closing bracket.
   -- Its members are the first of those gathered.
   abbrev pub frame_text : ℕ → Frame → List Gathered → List ℕ
-  frame_text k (Items rest first) gs = items_text w (k + 1) first (items_view rest.now) ++ (newline w k ++ 93 ∷ [])
+  frame_text k (Items rest first) gs = items_text w (k + 1) first (items_view rest.now) ++ (newline w k ++ end_array ∷ [])
   frame_text k (Member key value) gs = members_text w (k + 1) true (member (chars key.now) (view value.now) no_members)
-      ++ (newline w k ++ 125 ∷ [])
-  frame_text k (Members left first) gs = members_text w (k + 1) first (sorted_view (take left gs)) ++ (newline w k ++ 125 ∷ [])
+      ++ (newline w k ++ end_object ∷ [])
+  frame_text k (Members left first) gs = members_text w (k + 1) first (sorted_view (take left gs)) ++ (newline w k ++ end_object ∷ [])
 
   -- what is left of all open containers, the innermost first
   abbrev pub unwritten : List Frame → List Gathered → List ℕ

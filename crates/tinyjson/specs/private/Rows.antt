@@ -1,4 +1,4 @@
--- The types of a value's containers, as the clauses on what a `&mut` lends name them.
+-- The types of a value's containers, as the clauses on what a `&mut` lends name them. For private contracts.
 use denote.RattleType.{RattleType}
 use Rattle.std.specs.Prelude.{◌≡◌}
 use Rattle.std.specs.contracts.alloc.Global as global

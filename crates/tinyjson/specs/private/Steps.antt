@@ -1,5 +1,6 @@
 -- What the parser did with a whole text, and where it may need memory. For private contracts.
 use Rattle.std.specs.Prelude.{◌≡◌, ℕ, List, [], Option, Result, MatchResult, IsTrue, ◌⊎◌}
+use Rattle.tinyjson_grammar.specs.Characters.{letter_f, letter_n, letter_t}
 use Rattle.tinyjson_grammar.specs.Machine.{awaited, finished, next}
 use Rattle.tinyjson_grammar.specs.Refusal.{MayGrow, begins_growth}
 use Rattle.tinyjson_source.specs.Source.{Sight}
@@ -26,4 +27,4 @@ GrowsFor c r = MatchResult r (λ _. IsTrue (begins_growth c)) (λ k. k ≡ OutOf
 
 -- a letter that begins a literal
 abbrev pub BeginsLiteral : ℕ → Type 0
-BeginsLiteral c = (c ≡ 110) ⊎ (c ≡ 116) ⊎ (c ≡ 102)
+BeginsLiteral c = (c ≡ letter_n) ⊎ (c ≡ letter_t) ⊎ (c ≡ letter_f)

@@ -2,6 +2,7 @@
 ghost use Rattle.std.specs.Prelude.{◌≡◌, ◌++◌, ◌∷◌, ◌+◌, ◌-◌, ◌<◌, ◌≤◌, ℕ, [], List, None, Some};
 ghost use Rattle.std.specs.Prelude.{length, reverse, take, drop};
 ghost use Rattle.std.specs.Str.{chars, encode_utf8_all};
+ghost use Rattle.tinyjson_grammar.specs.Characters.{name_separator};
 ghost use Rattle.tinyjson.specs.Indent.{indent_of};
 ghost use Rattle.tinyjson.specs.private.Pending.{Gathered, IsStack, frames, unwritten, Advances, Begins};
 ghost use Rattle.tinyjson_grammar.specs.Text.{text, items_text, members_text, quoted};
@@ -247,7 +248,7 @@ impl Encoder<'_> {
             (W.contents out.old, buffered buffer.old) (W.contents out.new, buffered buffer.new)
             (encode_utf8_all (before (indent_of self.now.indent) level first)
             ++ encode_utf8_all (quoted (chars key.now)
-            ++ (58 ∷ (after_colon (indent_of self.now.indent)
+            ++ (name_separator ∷ (after_colon (indent_of self.now.indent)
             ++ text (indent_of self.now.indent) level (view value.now)))))
             (reverse gathered.old.items) result (reverse gathered.new.items) }
     {
@@ -471,7 +472,7 @@ impl Encoder<'_> {
     fn colon<W: Write>(&self, out: &mut W, buffer: &mut Buffer) -> io::Result<()>
         ensures { SendsText
             (W.contents out.old, buffered buffer.old) (W.contents out.new, buffered buffer.new)
-            (58 ∷ after_colon (indent_of self.now.indent)) result }
+            (name_separator ∷ after_colon (indent_of self.now.indent)) result }
     {
         match self.indent {
             None => write_bytes(out, buffer, b":"),

@@ -3,6 +3,7 @@ ghost use Rattle.std.specs.Prelude.{◌≡◌, ◌≤◌, ◌++◌, ◌∷◌, �
 ghost use Rattle.std.specs.Prelude.{take, drop, reverse};
 ghost use Rattle.std.specs.Bool.{MatchBool};
 ghost use Rattle.std.specs.Str.{chars, encode_utf8_all};
+ghost use Rattle.tinyjson_grammar.specs.Characters.{name_separator};
 ghost use Rattle.tinyjson_output.specs.Buffer.{buffered, Buffers};
 ghost use Rattle.tinyjson.specs.private.Sorted.{sorted_view};
 ghost use Rattle.tinyjson_grammar.specs.Text.{items_text, members_text, quoted, separator, text};
@@ -122,7 +123,8 @@ pub(super) fn quick_member(
 ) -> bool
     ensures { (k : ℕ) → MatchBool result
         (IsTrue compact × (buffered buffer.new ≡ buffered buffer.old ++ (separator first
-        ++ encode_utf8_all (quoted (chars key.now) ++ (58 ∷ text None k (view value.now))))))
+        ++ encode_utf8_all (quoted (chars key.now)
+        ++ (name_separator ∷ text None k (view value.now))))))
         (buffered buffer.new ≡ buffered buffer.old) }
 {
     if !flat && holds_others(value) {

@@ -1,6 +1,7 @@
 //! Arrays and objects (RFC 8259, sections 4 and 5).
 ghost use Rattle.std.specs.Prelude.{◌≡◌, ◌<◌, ◌≤◌, true, false, OnOk, IfOk, Option, Some};
 ghost use Rattle.std.specs.Prelude.{ℕ};
+ghost use Rattle.tinyjson_grammar.specs.Characters.{begin_array, begin_object};
 ghost use Rattle.tinyjson_grammar.specs.Machine.{awaited, colon, next, complete, fits};
 ghost use Rattle.tinyjson.specs.private.Stack.{at, frames, AwaitsKey, Innermost, IsSound};
 ghost use Rattle.tinyjson_tokens.specs.Steps.{Reads};
@@ -34,7 +35,7 @@ impl<S: Tokens> Reader<S> {
         limit: Option<usize>,
         stack: &mut Stack,
     ) -> Result<bool, JsonParseErrorKind>
-        requires shown { S.sight.shows self.old.tokens.source (Some 91) }
+        requires shown { S.sight.shows self.old.tokens.source (Some begin_array) }
         requires sound { IsSound stack.old false }
         ensures reads { Reads S.sight limit self.old.tokens.source
             (next (frames stack.old) awaited) result (at stack.new) self.new.tokens.source }
@@ -65,7 +66,7 @@ impl<S: Tokens> Reader<S> {
         limit: Option<usize>,
         stack: &mut Stack,
     ) -> Result<bool, JsonParseErrorKind>
-        requires shown { S.sight.shows self.old.tokens.source (Some 123) }
+        requires shown { S.sight.shows self.old.tokens.source (Some begin_object) }
         requires sound { IsSound stack.old false }
         ensures reads { Reads S.sight limit self.old.tokens.source
             (next (frames stack.old) awaited) result (at stack.new) self.new.tokens.source }

@@ -1,6 +1,7 @@
 //! The reader: values by their first character, the loop over open containers, literals.
 ghost use Rattle.std.specs.Prelude.{◌≡◌, ℕ, ◌<◌, List, [], true, false, OnOk, IfOk, IfErr};
 ghost use Rattle.std.specs.Prelude.{IsTrue, Option, Some, None};
+ghost use Rattle.tinyjson_grammar.specs.Characters.{quotation_mark};
 ghost use Rattle.tinyjson_grammar.specs.Characters.{is_white};
 ghost use Rattle.tinyjson_grammar.specs.Refusal.{begins_growth};
 ghost use Rattle.tinyjson_grammar.specs.Machine.{Frame, awaited, complete, finished, next};
@@ -82,7 +83,7 @@ impl<S: Tokens> Reader<S> {
     /// Reads the string whose quote comes next, and puts it where it belongs.
     #[inline(always)]
     fn string_value(&mut self, stack: &mut Stack) -> Result<bool, JsonParseErrorKind>
-        requires shown { S.sight.shows self.old.tokens.source (Some 34) }
+        requires shown { S.sight.shows self.old.tokens.source (Some quotation_mark) }
         requires sound { IsSound stack.old false }
         ensures reads { (limit : Option ℕ) → Reads S.sight limit self.old.tokens.source
             (next (frames stack.old) awaited) result (at stack.new) self.new.tokens.source }

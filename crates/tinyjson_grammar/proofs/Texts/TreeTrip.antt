@@ -7,7 +7,8 @@ use Rattle.tinyjson_grammar.specs.Tree as tree
 use Rattle.tinyjson_grammar.specs.Syntax.{Syntax, Elements, Pairs, null, boolean, number, string, empty_array, array, empty_object, object, last_element, element, last_pair, pair, text, elements_text, pairs_text, AreWhite, IsSpelled, AreElements, ArePairs, IsStrictAt, ElementsAreStrictAt, PairsAreStrictAt, tree_of, elements_trees, pairs_members, depth, elements_depth, pairs_depth}
 use Rattle.tinyjson_grammar.specs.Characters.{decode}
 use Rattle.tinyjson_number.specs.Canonical.{IsDecimalAt}
-use Rattle.tinyjson_grammar.specs.Soundness.{IsSorted, IsTreeAt, AreItemsAt, AreMembersAt, tree_depth, items_depth, members_depth}
+use Rattle.tinyjson_grammar.specs.Soundness.{IsSorted, IsTreeAt, AreItemsAt, AreMembersAt}
+use Rattle.tinyjson_grammar.specs.Tree.{tree_depth, items_depth, members_depth}
 use Rattle.tinyjson_grammar.specs.Text as written
 use Rattle.tinyjson_grammar.specs.Text.{newline, repeated, after_colon, quoted, items_text, members_text}
 use Rattle.tinyjson_number.proofs.Callers.{decimal_spelled, decimal_fits}

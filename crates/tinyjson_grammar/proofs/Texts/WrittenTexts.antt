@@ -2,11 +2,11 @@
 use Rattle.std.proofs.Common.{◌≡◌, ℕ, List, [], Option, None, sym, ◌∙◌, subst, append-nil}
 use Rattle.std.specs.Int.{Width}
 use Rattle.tinyjson_number.specs.Numeral.{power_width}
-use Rattle.tinyjson_grammar.specs.Tree.{Tree}
+use Rattle.tinyjson_grammar.specs.Tree.{Tree, tree_depth}
 use Rattle.tinyjson_grammar.specs.Syntax.{text, IsWithin}
 use Rattle.tinyjson_grammar.specs.Grammar.{IsText, IsTextAt}
 use Rattle.tinyjson_grammar.specs.Text as written
-use Rattle.tinyjson_grammar.specs.Soundness.{IsTree, IsTreeAt, tree_depth}
+use Rattle.tinyjson_grammar.specs.Soundness.{IsTree, IsTreeAt}
 use Rattle.tinyjson_grammar.proofs.Accepts.Text.{only_tree}
 use Rattle.tinyjson_grammar.proofs.Texts.TreeTrip.{IsWhiteIndent, spell}
 

@@ -4,10 +4,10 @@ use Rattle.std.specs.Prelude.{codes}
 use lib.Utf8.{encode}
 use Rattle.tinyjson_grammar.specs.Grammar.{IsText}
 use Rattle.tinyjson_grammar.specs.Machine.{run, step, end}
-use Rattle.tinyjson_grammar.specs.Soundness.{IsTree, tree_depth}
+use Rattle.tinyjson_grammar.specs.Soundness.{IsTree}
+use Rattle.tinyjson_grammar.specs.Tree.{tree_depth, Tree}
 use Rattle.tinyjson_grammar.specs.Text.{compact, indented}
 use Rattle.tinyjson_grammar.specs.Tree as tree
-use Rattle.tinyjson_grammar.specs.Tree.{Tree}
 use Rattle.tinyjson_number.specs.Numeral.{power_fits, value}
 use Rattle.tinyjson_number.specs.Text.{natural_text, decimal_text}
 use Rattle.tinyjson_laws.proofs.Examples.Reading.{text_of, lines, decimal, whole, array, object}
