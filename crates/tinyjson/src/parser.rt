@@ -54,7 +54,8 @@ impl<I: Iterator<Item = char>> Model for JsonParser<I> {
 
     ghost view = { λ p. record {
       limit = p.limit;
-      position = position_at p.reader.tokens.source.cursor.line p.reader.tokens.source.cursor.column;
+      position = position_at p.reader.tokens.source.cursor.line
+          p.reader.tokens.source.cursor.column;
       ahead = p.reader.tokens.source.cursor.peeked;
       source = cond p.reader.tokens.source.cursor.done None (Some p.reader.tokens.source.cursor.it);
     } };

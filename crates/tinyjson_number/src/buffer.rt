@@ -113,7 +113,8 @@ fn put_mixed(buffer: &mut [u8], at: usize, bytes: &[u8], count: usize, point: us
     requires digits { (count ≤ 16) × (24 ≤ length bytes.now) }
     requires point { (point ≤ 8) × (point ≤ count) }
     ensures text { (result ≤ 32) × (take result buffer.new ≡ take at buffer.old
-        ++ (take point (take count bytes.now) ++ (decimal_point ∷ drop point (take count bytes.now)))) }
+        ++ (take point (take count bytes.now)
+        ++ (decimal_point ∷ drop point (take count bytes.now)))) }
     ensures len { length buffer.new ≡ length buffer.old }
 {
     put::<8>(buffer, at, bytes);
