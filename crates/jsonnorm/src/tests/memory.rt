@@ -3,7 +3,7 @@
 //! With ample memory these tests pass as any do. `tools/refuse-allocations` runs each of them with requests
 //! for memory refused: then a test passes too, or it ends with `OutOfMemory`.
 
-use crate::error::RunFault;
+use crate::fault::RunFault;
 use crate::run::{run, run_limited};
 use std::process::Abort;
 use std::test::Fail;
