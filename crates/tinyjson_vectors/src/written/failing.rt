@@ -164,7 +164,7 @@ fn check_failures(
     call: (Call, &str),
     (chunk, step): (usize, usize),
 ) {
-    for capacity in (0..call.1.len()).step_by(step) {
+    for capacity in (0..call.1.len()).step_by(step.max(1)) {
         for failure in FAILURES {
             assert_eq!(rt;
                 mistake(alloc, value, call, (chunk, capacity), failure),
