@@ -4,11 +4,12 @@
 //     REFUSED_CALL=N   the Nth request for memory is refused
 //     REFUSED_FROM=N   the Nth and all later requests for memory are refused
 //     FAILED_READ=N    the Nth read of standard input fails with ERRNO
-//     FAILED_WRITE=N   the Nth write to standard output fails with ERRNO
+//     FAILED_WRITE=N   the Nth write to standard output fails with ERRNO, or, if that is 0, takes nothing
+//     SHORT_READS=N    a read of standard input gives at most N bytes
 //     SHORT_WRITES=N   a write to standard output takes at most N bytes
 //
-// A call that fails, a write after one that failed, and memory that is not given back by the end of the
-// program, is reported by a line on standard error.
+// A call that fails, a read or a write after one that failed, and memory that is not given back by the end of
+// the program, is reported by a line on standard error.
 
 #define _GNU_SOURCE
 #include <dlfcn.h>
@@ -69,28 +70,39 @@ void *realloc(void *block, size_t size) {
     return block == NULL ? counted(next(block, size)) : next(block, size);
 }
 
+// Whether the call of this number is the one that the variable lets fail; it reports that one and those after it.
+static int fails(long call, const char *name) {
+    long failed = variable(name);
+    if (failed != 0 && call > failed) report("(called again)\n", 15);
+    if (call != failed) return 0;
+    report("(failed)\n", 9);
+    return 1;
+}
+
+// What a call that fails returns.
+static ssize_t failure(void) {
+    errno = (int)variable("ERRNO");
+    return errno == 0 ? 0 : -1;
+}
+
+static size_t shortened(size_t length, const char *name) {
+    size_t longest = (size_t)variable(name);
+    return longest != 0 && longest < length ? longest : length;
+}
+
 ssize_t read(int file, void *buffer, size_t length) {
     static ssize_t (*next)(int, void *, size_t);
     static long calls;
     if (next == NULL) next = (ssize_t (*)(int, void *, size_t))dlsym(RTLD_NEXT, "read");
-    if (file != 0 || ++calls != variable("FAILED_READ")) return next(file, buffer, length);
-    report("(failed)\n", 9);
-    errno = (int)variable("ERRNO");
-    return -1;
+    if (file != 0) return next(file, buffer, length);
+    if (fails(++calls, "FAILED_READ")) return failure();
+    return next(file, buffer, shortened(length, "SHORT_READS"));
 }
 
 ssize_t write(int file, const void *buffer, size_t length) {
-    static long calls, failed;
+    static long calls;
     if (next_write == NULL) next_write = (ssize_t (*)(int, const void *, size_t))dlsym(RTLD_NEXT, "write");
     if (file != 1) return next_write(file, buffer, length);
-    failed = variable("FAILED_WRITE");
-    calls++;
-    if (failed != 0 && calls > failed) report("(written again)\n", 16);
-    if (calls == failed) {
-        report("(failed)\n", 9);
-        errno = (int)variable("ERRNO");
-        return -1;
-    }
-    size_t longest = (size_t)variable("SHORT_WRITES");
-    return next_write(file, buffer, longest != 0 && longest < length ? longest : length);
+    if (fails(++calls, "FAILED_WRITE")) return failure();
+    return next_write(file, buffer, shortened(length, "SHORT_WRITES"));
 }

@@ -7,7 +7,7 @@ HERE = os.path.dirname(os.path.abspath(__file__))
 TOP = os.path.dirname(HERE)
 
 # The lines by which the preloaded library reports failing calls, and memory that is not given back.
-REFUSED, FAILED, WRITTEN_AGAIN, KEPT = b"(refused)\n", b"(failed)\n", b"(written again)\n", b"(kept memory)\n"
+REFUSED, FAILED, CALLED_AGAIN, KEPT = b"(refused)\n", b"(failed)\n", b"(called again)\n", b"(kept memory)\n"
 
 
 def built(folder):
@@ -24,7 +24,7 @@ class Ended:
     def __init__(self, process):
         self.status = process.returncode
         self.output = process.stdout
-        self.reports = {line: process.stderr.count(line) for line in (REFUSED, FAILED, WRITTEN_AGAIN, KEPT)}
+        self.reports = {line: process.stderr.count(line) for line in (REFUSED, FAILED, CALLED_AGAIN, KEPT)}
         self.errors = process.stderr
         for line in self.reports:
             self.errors = self.errors.replace(line, b"")

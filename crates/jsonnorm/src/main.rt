@@ -10,10 +10,8 @@ mod input;
 pub mod options;
 mod output;
 pub mod run;
-#[cfg(test)]
-mod tests;
 
-use fault::RunFault;
+use fault::{RunFault, writing_error};
 use run::Options;
 use std::env::{self, Env};
 use std::io::{self, BufWriter, ErrorKind, Write};
@@ -68,7 +66,7 @@ fn normalize(rt: &(impl Input + Print + AllocGlobal), options: Options) -> Resul
         None => run::run(alloc, &mut input, &mut output, indented),
         Some(limit) => run::run_limited(alloc, &mut input, &mut output, indented, limit),
     };
-    let answer = answer.and_then(|()| output.flush().map_err(|_| RunFault::Writing));
+    let answer = answer.and_then(|()| output.flush().map_err(writing_error));
     // Dropped, the gathered bytes would be written.
     let (_output, _gathered) = output.into_parts();
     answer
