@@ -1,5 +1,5 @@
 -- Memory runs out: wherever the machine stands, and after the character that ends a run with an unpaired surrogate.
-use Rattle.std.proofs.Common.{◌≡◌, ℕ, suc, true, List, [], ◌∷◌, ◌++◌, Option, Some, refl, sym, subst, append_assoc, append-nil, arith}
+use Rattle.std.proofs.Common.{◌≡◌, ℕ, suc, true, List, [], ◌∷◌, ◌++◌, Option, Some, refl, sym, subst, append_assoc, append-nil, inl, inr, arith}
 use Rattle.std.specs.Prelude.{All}
 use Rattle.std.specs.Char.{IsScalar}
 use Rattle.tinyjson_grammar.specs.Machine.{strictly, Frame, Phase, State, Next, next, stop, awaited, step, reach, reach_on}
@@ -44,7 +44,7 @@ reach_reached limit (c ∷ cs) used fs q h s e =
 pub interrupted : Ranges → (limit : Option ℕ) (used : List ℕ) → All IsScalar used → (s : State) → reach (strictly limit) [] awaited used ≡ Some s → IsInterrupted limit used
 interrupted ranges limit used h s e =
     let i : Spells limit used s.frames s.phase = reach_spells ranges limit used h [] [] awaited (start_spells limit) s e in
-    record { last = []; short = omega arith; place = spells_prompt ranges limit used s.frames s.phase i; viable = spells_viable limit used s.frames s.phase i }
+    record { place = inl (spells_prompt ranges limit used s.frames s.phase i); viable = spells_viable limit used s.frames s.phase i }
 
 pub interrupted_late : Ranges → (limit : Option ℕ) (used : List ℕ) → All IsScalar used → (s : State) → reach (strictly limit) [] awaited used ≡ Some s
     → (c : ℕ) → IsScalar c → step (strictly limit) s.frames s.phase c ≡ stop InvalidUtf16 true → IsInterrupted limit (used ++ c ∷ [])
@@ -52,5 +52,5 @@ interrupted_late ranges limit used h s e c hc k =
     let i : Spells limit used s.frames s.phase = reach_spells ranges limit used h [] [] awaited (start_spells limit) s e in
     let r : Reached limit used s.frames s.phase = reach_reached limit used [] [] awaited (λ b ys. refl) s e in
     let f : Follows limit used s.frames s.phase c (stop InvalidUtf16 true) = subst (Follows limit used s.frames s.phase c) k (step_spells ranges limit used s.frames s.phase i c hc) in
-    let p = (f [] (denies limit used s.frames s.phase r) (is_unviable limit used s.frames s.phase c InvalidUtf16 r k)).1 in
-    record { last = p.0.0 ∷ []; short = omega arith; place = p.0.1; viable = p.1 }
+    let says = f [] (denies limit used s.frames s.phase r) (is_unviable limit used s.frames s.phase c InvalidUtf16 r k) in
+    record { place = inr says; viable = says.1.1 }

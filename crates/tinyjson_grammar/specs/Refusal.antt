@@ -296,10 +296,8 @@ pub record IsRefusal (limit : Option ℕ) (kind : JsonParseErrorKind) (consumed 
 
 -- Memory ran out: where that may come, and nothing of what is left.
 pub record IsInterrupted (limit : Option ℕ) (consumed : List ℕ) : Type 0 where
-  -- no error, then late characters, then perhaps one character more
-  pub last : List ℕ
-  pub short : length last ≤ 1
-  pub place : IsPromptly limit consumed last
+  -- no error, then late characters, or what is said of a surrogate that has no partner
+  pub place : IsPromptly limit consumed [] ⊎ KindSays limit InvalidUtf16 consumed []
   -- some list completes it to a text of the loose grammar
   pub viable : IsLooselyViable limit consumed
 

@@ -3,19 +3,19 @@ use Rattle.std.proofs.Common.{◌≡◌, ℕ, zero, suc, ◌+◌, ◌<◌, ◌�
 use Rattle.std.specs.Char.{is_ascii_digit}
 use Rattle.std.proofs.Math.Seq.{take-append_seam}
 use Rattle.std.proofs.lemmas.Bool.{false≢true, cases_lt, or_right, eqb-true}
-use Rattle.std.proofs.lemmas.List.{take-append-le, take-append-drop}
+use Rattle.std.proofs.lemmas.List.{take-append-le, take-append-drop, length-drop}
 use Rattle.tinyjson_number.specs.Numeral.{AreDigits, minus_text, Numeral, value, power_fits, in_range}
 use Rattle.tinyjson_grammar.specs.Tree as tree
 use Rattle.tinyjson_grammar.specs.Characters.{is_white}
 use Rattle.tinyjson_grammar.specs.Syntax.{Syntax, null, boolean, number, string, empty_array, array, empty_object, object, text, AreWhite, IsSpelled, IsStrict, IsWithin}
 use Rattle.tinyjson_grammar.specs.Grammar.{IsLoose, IsAccepted}
 use Rattle.tinyjson_grammar.specs.Prefix.{IsViable, IsErrorFree, IsCutOffText, IsLooselyViable}
-use Rattle.tinyjson_grammar.specs.Refusal.{begins_value, begins_growth, IsLiteral, IsRefusal, RefusalSays}
+use Rattle.tinyjson_grammar.specs.Refusal.{begins_value, begins_growth, AreLate, IsPromptly, IsLiteral, IsRefusal, RefusalSays}
 use Rattle.tinyjson_grammar.specs.declared.error.JsonParseErrorKind.{JsonParseErrorKind}
 use Rattle.tinyjson_grammar.specs.declared.error.JsonParseErrorKind.TheVariants as kind
 use Rattle.tinyjson_grammar.proofs.Callers.Laws.{viable_before}
 use Rattle.tinyjson_laws.proofs.ErrorFree.{error_free_loosely}
-use Rattle.tinyjson_laws.specs.Prefixes.{AcceptedIsLoose, EmptyIsViable, ViableIsErrorFree, ErrorFreeIsLooselyViable, UnviableStaysSo, BeginsStrictly, ValuesBegin, GrowthBegins, UnviableAtFirst, IsShortest, ShortestInOrder, RefusedNotTooSoon, RefusedAtEnd, RefusedNotTooLate}
+use Rattle.tinyjson_laws.specs.Prefixes.{AcceptedIsLoose, EmptyIsViable, ViableIsErrorFree, ErrorFreeIsLooselyViable, UnviableStaysSo, BeginsStrictly, ValuesBegin, GrowthBegins, UnviableAtFirst, IsShortest, ShortestInOrder, RefusedNotTooSoon, RefusedAtEnd, RefusedNotTooLate, IsLateButOne, InterruptedNotTooLate}
 
 pub accepted_is_loose : AcceptedIsLoose
 accepted_is_loose limit xs h = h.1.loose
@@ -251,3 +251,44 @@ refused_not_too_late limit k used rest r l h = ⊎_elim (λ s. absurd (early s (
         ap (take l) (sym same ∙ append_assoc f.0 (f.1 ∷ []) rest) ∙ take-append-le l f.0 (f.1 ∷ rest) (omega (arith, s, ap length f.2, n)) in
         let whole : f.0 ≡ take l (used ++ rest) ++ drop l f.0 = sym (take-append-drop l f.0) ∙ ap (λ xs. xs ++ drop l f.0) (sym short) in
         h.fails (viable_before (IsLoose limit) (take l (used ++ rest)) (drop l f.0) (subst (IsLooselyViable limit) whole (one_before limit k used rest r f.0 f.1 f.2)))
+
+-- ---- out of memory
+
+-- where xs is P, and each beginning of a list that is P is P, xs is shorter than the shortest prefix without P of a list that begins with xs
+holds_before : (P : List ℕ → Type 0) → ((ys zs : List ℕ) → P (ys ++ zs) → P ys) → (xs rest : List ℕ) (n : ℕ) → P xs → IsShortest P (xs ++ rest) n → length xs < n
+holds_before P before xs rest n p h = ⊎_elim (λ l. l) (λ s. absurd (fails s)) (cases_lt (length xs) n)
+  where
+    fails : n ≤ length xs → ⊥
+    fails s =
+        let same : take n (xs ++ rest) ≡ take n xs = take-append-le n xs rest s in
+        let whole : xs ≡ take n (xs ++ rest) ++ drop n xs = sym (take-append-drop n xs) ∙ ap (λ ys. ys ++ drop n xs) (sym same) in
+        h.fails (before (take n (xs ++ rest)) (drop n xs) (subst P whole p))
+
+late_drop : (k : ℕ) (late last : List ℕ) → AreLate late → length last ≤ 1 → IsLateButOne (drop k (late ++ last))
+late_drop zero late last a h = (late, last, refl, a, h)
+late_drop (suc k) [] last a h = let n = length-drop (suc k) last in ([], drop (suc k) last, refl, tt, omega (arith, h, n))
+late_drop (suc k) (c ∷ cs) last a h = late_drop k cs last a.1 h
+
+late_after : (m : ℕ) (prefix late last : List ℕ) → length prefix ≤ m → AreLate late → length last ≤ 1 → IsLateButOne (drop m (prefix ++ (late ++ last)))
+late_after m [] late last w a h = late_drop m late last a h
+late_after zero (x ∷ xs) late last w a h = absurd (omega (arith, w))
+late_after (suc m) (x ∷ xs) late last w a h = late_after m xs late last (omega (arith, w)) a h
+
+error_free_before : (limit : Option ℕ) (xs ys : List ℕ) → IsErrorFree limit (xs ++ ys) → IsErrorFree limit xs
+error_free_before limit xs ys h = viable_before (λ zs. IsAccepted limit zs ⊎ IsCutOffText limit zs) xs ys h
+
+promptly : (limit : Option ℕ) (used rest last : List ℕ) → length last ≤ 1 → IsPromptly limit used last → (m : ℕ) → IsShortest (IsErrorFree limit) (used ++ rest) (m + 1) → IsLateButOne (drop m used)
+promptly limit used rest last short p m h =
+    let same : used ++ rest ≡ p.prefix ++ ((p.late ++ last) ++ rest) = ap (λ xs. xs ++ rest) p.whole ∙ append_assoc p.prefix (p.late ++ last) rest in
+    let first = subst (λ xs. IsShortest (IsErrorFree limit) xs (m + 1)) same h in
+    let room = holds_before (IsErrorFree limit) (error_free_before limit) p.prefix ((p.late ++ last) ++ rest) (m + 1) p.error_free first in
+    subst (λ xs. IsLateButOne (drop m xs)) (sym p.whole) (late_after m p.prefix p.late last (omega (arith, room)) p.are_late short)
+
+pub interrupted_not_too_late : InterruptedNotTooLate
+interrupted_not_too_late limit used rest r = (
+  λ l h. holds_before (IsLooselyViable limit) (viable_before (IsLoose limit)) used rest l r.0.viable h,
+  ⊎_elim
+      (λ p. promptly limit used rest [] (omega arith) p)
+      (λ k. promptly limit used rest (k.1.0.0 ∷ []) (omega arith) k.1.0.1)
+      r.0.place,
+)

@@ -1,12 +1,14 @@
 -- Wrong errors: the contract of `parse` refuses just these. Each names the wrong kind with what it says was consumed and left,
 -- and is refuted by the right error of the list, of which there is one.
-use Rattle.std.proofs.Common.{◌≡◌, ℕ, true, false, List, [], ◌∷◌, ◌++◌, Option, None, Some, refl, subst, ap, sym, ◌∙◌, arith, length}
-use Rattle.std.specs.Prelude.{codes}
+use Rattle.std.proofs.Common.{◌≡◌, ℕ, true, false, List, [], ◌∷◌, ◌++◌, Option, None, Some, refl, subst, ap, sym, ◌∙◌, ⊎_elim, append-nil, map, arith, length, ◌==◌}
+use Rattle.std.specs.Prelude.{codes, ⊤}
+use Rattle.std.specs.List.{list_all}
 use Rattle.std.specs.Str.{all_scalars}
 use Rattle.std.proofs.lemmas.Bool.{false≢true}
 use Rattle.tinyjson_grammar.specs.Characters.{is_white}
 use Rattle.tinyjson_grammar.specs.Machine.{strictly, awaited, refused, run, step, end}
-use Rattle.tinyjson_grammar.specs.Refusal.{IsRefusal, RefusalSays, MayGrow, begins_growth}
+use Rattle.tinyjson_grammar.specs.Prefix.{IsErrorFree}
+use Rattle.tinyjson_grammar.specs.Refusal.{IsRefusal, RefusalSays, MayGrow, begins_growth, is_late, AreLate, IsPromptly}
 use Rattle.tinyjson_grammar.specs.Syntax.{AreWhite}
 use Rattle.tinyjson_grammar.specs.declared.error.JsonParseErrorKind.{JsonParseErrorKind}
 use Rattle.tinyjson_grammar.specs.declared.error.JsonParseErrorKind.TheVariants as error
@@ -266,3 +268,57 @@ unfolding run step end value power_fits
 memory_at_a_wrong_bracket r =
     let right : IsRefusal None (error.ExpectedCommaOrBracket 125) (codes "[1}") (codes "]") = refusal_of refl refl in
     right.says.1.1 r.0.viable
+
+-- what ends with a character that is not late is without error, where it is so promptly
+not_all_late : (xs late : List ℕ) (c : ℕ) → is_late c ≡ false → xs ++ c ∷ [] ≡ late → AreLate late → ⊥
+not_all_late xs late c n e a = go xs (subst AreLate (sym e) a)
+  where
+    go : (ys : List ℕ) → AreLate (ys ++ c ∷ []) → ⊥
+    go [] b = let f : is_late c ≡ true = b.0 in false≢true (sym n ∙ f)
+    go (y ∷ ys) b = go ys b.1
+
+late_is_nothing : (xs prefix late : List ℕ) (c : ℕ) → is_late c ≡ false → xs ++ c ∷ [] ≡ prefix ++ late → AreLate late → xs ++ c ∷ [] ≡ prefix
+late_is_nothing xs [] late c n e a = absurd (not_all_late xs late c n e a)
+late_is_nothing [] (y ∷ []) late c n e a = ap (λ d. d ∷ []) (same_first c y [] late e)
+late_is_nothing [] (y ∷ z ∷ zs) late c n e a = absurd cc
+late_is_nothing (x ∷ xs) (y ∷ ys) late c n e a =
+    let tail : xs ++ c ∷ [] ≡ ys ++ late = cc in
+    let rest = late_is_nothing xs ys late c n tail a in
+    ap (λ d. d ∷ (xs ++ c ∷ [])) (same_first x y (xs ++ c ∷ []) (ys ++ late) e) ∙ ap (λ zs. y ∷ zs) rest
+
+error_free_at_once : {limit : Option ℕ} (xs : List ℕ) (c : ℕ) → is_late c ≡ false → IsPromptly limit (xs ++ c ∷ []) [] → IsErrorFree limit (xs ++ c ∷ [])
+error_free_at_once {limit} xs c n p =
+    let whole = p.whole ∙ ap (λ ys. p.prefix ++ ys) (append-nil p.late) in
+    subst (IsErrorFree limit) (sym (late_is_nothing xs p.prefix p.late c n whole p.are_late)) p.error_free
+
+-- a list without a quote ends in no string
+abbrev HasNoQuote : List ℕ → Type 0
+HasNoQuote [] = ⊤
+HasNoQuote (c ∷ cs) = ((c == 34) ≡ false) × HasNoQuote cs
+
+in_no_string : (xs prefix more : List ℕ) → HasNoQuote xs → xs ≡ prefix ++ 34 ∷ more → ⊥
+in_no_string xs prefix more n e = go prefix (subst HasNoQuote e n)
+  where
+    go : (ys : List ℕ) → HasNoQuote (ys ++ 34 ∷ more) → ⊥
+    go [] m = false≢true (sym m.0)
+    go (y ∷ ys) m = go ys m.1
+
+-- nothing is read past a leading zero, for want of memory too
+memory_past_a_leading_zero : ¬ RefusalSays None error.OutOfMemory (codes "[01,") (codes "2]")
+unfolding run step end value power_fits
+memory_past_a_leading_zero r =
+    let right : IsRefusal None error.LeadingZero (codes "[01") (codes ",2]") = refusal_of refl refl in
+    ⊎_elim
+    (λ p. right.not_too_soon 44 (codes "2]") refl (error_free_at_once (codes "[01") 44 refl p))
+    (λ k. let begins = k.0.4.begins in in_no_string (codes "[01,") begins.prefix _ (refl, (refl, (refl, (refl, tt)))) begins.whole)
+    r.0.place
+
+-- which characters are late
+digits_are_late : list_all is_late (codes "0123456789abcdefABCDEF") ≡ true
+digits_are_late = refl
+
+letters_and_signs_are_late : list_all is_late (codes "u\\+-") ≡ true
+letters_and_signs_are_late = refl
+
+others_are_not_late : map is_late (codes ",.:x gU/\"") ≡ map (λ c. false) (codes ",.:x gU/\"")
+others_are_not_late = refl

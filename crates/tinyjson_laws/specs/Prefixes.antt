@@ -15,13 +15,15 @@ use Rattle.std.specs.Prelude.{
   IsTrue,
   length,
   take,
+  drop,
 }
 use Rattle.tinyjson_grammar.specs.Characters.{is_white}
 use Rattle.tinyjson_grammar.specs.Syntax.{Syntax, text, IsSpelled, IsStrict}
 use Rattle.tinyjson_grammar.specs.Grammar.{IsLoose, IsAccepted}
 use Rattle.tinyjson_grammar.specs.Prefix.{IsViable, IsLooselyViable, IsErrorFree}
-use Rattle.tinyjson_grammar.specs.Refusal.{begins_value, begins_growth, IsLiteral, IsRefusal, RefusalSays}
+use Rattle.tinyjson_grammar.specs.Refusal.{begins_value, begins_growth, AreLate, IsLiteral, IsRefusal, RefusalSays}
 use Rattle.tinyjson_grammar.specs.declared.error.JsonParseErrorKind.{JsonParseErrorKind}
+use Rattle.tinyjson_grammar.specs.declared.error.JsonParseErrorKind.TheVariants.{OutOfMemory}
 
 -- an accepted list is one of the loose grammar
 abbrev pub AcceptedIsLoose : Type 0
@@ -109,3 +111,15 @@ abbrev pub RefusedNotTooLate : Type 0
 RefusedNotTooLate =
     (limit : Option ℕ) (k : JsonParseErrorKind) (used rest : List ℕ) → RefusalSays limit k used rest →
     (l : ℕ) → IsShortest (IsLooselyViable limit) (used ++ rest) l → length used ≤ l
+
+-- late characters, and then at most one more
+abbrev pub IsLateButOne : List ℕ → Type 0
+IsLateButOne xs = (late last : List ℕ) × (xs ≡ late ++ last) × AreLate late × (length last ≤ 1)
+
+-- Out of memory has consumed less than the shortest prefix that is not viable in the loose grammar. Where the shortest prefix with
+-- an error has m + 1 characters, what was consumed after m of them is late characters, and then at most one more.
+abbrev pub InterruptedNotTooLate : Type 0
+InterruptedNotTooLate =
+    (limit : Option ℕ) (used rest : List ℕ) → RefusalSays limit OutOfMemory used rest →
+    ((l : ℕ) → IsShortest (IsLooselyViable limit) (used ++ rest) l → length used < l)
+    × ((m : ℕ) → IsShortest (IsErrorFree limit) (used ++ rest) (m + 1) → IsLateButOne (drop m used))

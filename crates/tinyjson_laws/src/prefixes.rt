@@ -17,6 +17,7 @@ ghost use Rattle.tinyjson_laws.specs.Prefixes.{
   RefusedNotTooSoon,
   RefusedAtEnd,
   RefusedNotTooLate,
+  InterruptedNotTooLate,
 };
 
 /// Every text is one of the loose grammar.
@@ -92,4 +93,11 @@ pub fn refused_at_end()
 /// the loose grammar.
 pub fn refused_not_too_late()
     ensures { RefusedNotTooLate }
+{}
+
+/// Out of memory is told before the shortest prefix that cannot be completed in the loose grammar is consumed,
+/// and no later than one character after the first error, but for late characters between them: digits, and
+/// what stands in escapes and exponents (`is_late`).
+pub fn interrupted_not_too_late()
+    ensures { InterruptedNotTooLate }
 {}
