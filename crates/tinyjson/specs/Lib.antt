@@ -24,5 +24,7 @@ pub use Rattle.tinyjson_grammar.specs.declared.kind.JsonKind
 pub use Rattle.tinyjson_grammar.specs.declared.error.JsonParseErrorKind
 -- what they say of a writer
 pub use Rattle.tinyjson_output.specs.Written
+-- all of these that contracts of programs need most
+pub mod Words
 -- what private contracts alone say
 pub mod private
