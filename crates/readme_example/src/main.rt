@@ -1,42 +1,31 @@
-//! The program of the README: reads two texts, looks into one, changes it, and prints it again.
+//! The program of the README: marks a task as done.
 #![tactic(auto)]
 
+ghost use Rattle.std.specs.IoError.{error_kind};
+ghost use Rattle.std.specs.Prelude.{◌≡◌, ◌≢◌, true, codes, Some, IfOk, IfErr};
+ghost use Rattle.tinyjson.specs.Words.{Tree, boolean, IsText, IsAccepted};
+ghost use Rattle.tinyjson.specs.Words.{chars, compact, text, with_tree_at_key};
+
+use std::alloc::Global;
 use std::collections::HashMap;
-use std::io;
-use tinyjson::{JsonNumber, JsonValue};
+use std::io::{self, ErrorKind};
+use tinyjson::{JsonValue, insert_member};
 
-const TEXTS: [&str; 2] = [
-    r#"{"tags": ["poet", 1.50], "born": {"year": 1815, "town": "London"}}"#,
-    r#"{"tags": ["poet",]}"#,
-];
-
-/// The member `year` of the member `born`, where it is a whole number.
-fn birth_year(person: &JsonValue) -> Option<i64> {
-    let person = person.get::<HashMap<String, JsonValue>>()?;
-    let born = person.get("born")?.get::<HashMap<String, JsonValue>>()?;
-    born.get("year")?.get::<JsonNumber>()?.to_i64()
-}
-
-/// Puts `null` in the place of the first tag, if there is one.
-fn clear_first_tag(person: &mut JsonValue) -> Option<()> {
-    let person = person.get_mut::<HashMap<String, JsonValue>>()?;
-    let tags = person.get_mut("tags")?.get_mut::<Vec<JsonValue>>()?;
-    *tags.first_mut()? = JsonValue::Null;
-    Some(())
+/// The text of the task with `true` at the key `done`. At most 100 containers may be open at once.
+fn mark_done(alloc: Global, task: &str) -> io::Result<String>
+    ensures ok { IfOk result (λ done. (t : Tree) × IsText (Some 100) (chars task.now) t
+        × (text done ≡ compact (with_tree_at_key t (codes "done") (boolean true)))) }
+    ensures err { IfErr result (λ e. error_kind e ≢ ErrorKind.OutOfMemory →
+        ¬ IsAccepted (Some 100) (chars task.now)) }
+{
+    let mut value = JsonValue::from_str_with_depth_limit(alloc, task, 100)?;
+    if let Some(members) = value.get_mut::<HashMap<String, JsonValue>>() {
+        insert_member(members, "done".to_string(alloc)?, JsonValue::from(true))?;
+    }
+    Ok(value.stringify(alloc)?)
 }
 
 fn main(rt: HostRuntime) -> io::Result<()> {
-    let alloc = rt.alloc();
-    for text in TEXTS {
-        match JsonValue::from_str(alloc, text) {
-            Ok(mut person) => {
-                println!(rt; "{:?}", birth_year(&person))?;
-                clear_first_tag(&mut person);
-                println!(rt; "{}", person.stringify(alloc)?)?;
-            }
-            Err(error) if error.is_out_of_memory() => return Err(error.into()),
-            Err(error) => println!(rt; "{}:{}: {}", error.line(), error.column(), error.kind())?,
-        }
-    }
-    Ok(())
+    let task = r#"{"task": "pay", "sum": 12345678901234567890.10}"#;
+    println!(rt; "{}", mark_done(rt.alloc(), task)?)
 }
