@@ -1,7 +1,6 @@
 //! Numbers by the number of digits of their parts.
 
-use super::{Case, SIZES, mistake, repeated};
-use crate::common::number;
+use super::{SIZES, check, filled};
 use std::alloc::Global;
 use std::process::Abort;
 use std::string::ToString;
@@ -11,107 +10,77 @@ use tinyjson::JsonNumber;
 /// The longest whole numbers that are written without an exponent.
 const LONGEST_PLAIN: usize = 309;
 
-/// A digit so many times between two texts, and a number at the end.
-fn digits_and_power(
+/// Finds no mistake in the number of this text, nor where it is shown, or known to be a number.
+fn check_number(
+    rt: &impl Abort,
     alloc: Global,
-    before: &str,
-    digit: (&str, usize),
-    after: &str,
-    power: usize,
-) -> Result<String, Fail> {
-    let text = repeated(alloc, before, digit, after)?;
+    size: usize,
+    text: &str,
+    written: &str,
+) -> Result<(), Fail> {
+    check(rt, alloc, ("a number", size), text, written)?;
+    let number = JsonNumber::from_text(alloc, text)?;
+    assert_eq!(rt; JsonNumber::from_literal(alloc, text)?, number);
+    assert_eq!(rt; number.to_string(alloc)?.as_str(), written);
+    Ok(())
+}
+
+/// The text with a number after it.
+fn with_power(alloc: Global, text: &str, power: usize) -> Result<String, Fail> {
     Ok(format!(in alloc; "{text}{power}")?)
 }
 
-/// A number by two spellings, and its text.
-fn case(alloc: Global, text: String, other: String, written: String) -> Result<Case, Fail> {
-    Ok(Case {
-        text,
-        value: number(alloc, other.as_str())?,
-        compact: written.clone()?,
-        indented: written,
-    })
-}
-
-/// `size` nines before the point, and one 8.
-fn before_the_point(alloc: Global, size: usize) -> Result<Case, Fail> {
-    let power = size.saturating_add(1);
-    let text = repeated(alloc, "", ("9", size), "8")?;
-    let other = digits_and_power(alloc, "0.", ("9", size), "80e", power)?;
-    let written = if size < LONGEST_PLAIN {
-        repeated(alloc, "", ("9", size), "8")
+/// Numbers with that many nines after a first one before the point, and that many and an 8 after it: with the point there, without
+/// it, and with an exponent that takes it to the end.
+fn check_both_sides(
+    rt: &impl Abort,
+    alloc: Global,
+    before: usize,
+    after: usize,
+) -> Result<(), Fail> {
+    let size = before.max(after);
+    let all = before.saturating_add(after).saturating_add(1);
+    let nines = "9".repeat(alloc, before)?;
+    let digits = filled(alloc, "#8", "9", after)?;
+    let plain = format!(in alloc; "9{nines}.{digits}")?;
+    let whole = format!(in alloc; "9{nines}{digits}")?;
+    let far = format!(in alloc; "9.{nines}{digits}e")?;
+    let shifted = format!(in alloc; "{whole}e-{}", after.saturating_add(1))?;
+    let written = if before < LONGEST_PLAIN {
+        plain.clone()?
     } else {
-        digits_and_power(alloc, "9.", ("9", size - 1), "8e", size)
+        with_power(alloc, far.as_str(), before)?
     };
-    case(alloc, text, other, written?)
-}
-
-/// `size` nines after the point, and one 8.
-fn after_the_point(alloc: Global, size: usize) -> Result<Case, Fail> {
-    let power = size.saturating_add(1);
-    let text = repeated(alloc, "-0.", ("9", size), "8")?;
-    let other = digits_and_power(alloc, "-", ("9", size), "8e-", power)?;
-    let written = repeated(alloc, "-0.", ("9", size), "8")?;
-    case(alloc, text, other, written)
-}
-
-/// `size` zeros before the exponent's last digit.
-fn in_the_exponent(alloc: Global, size: usize) -> Result<Case, Fail> {
-    let text = repeated(alloc, "5e", ("0", size), "2")?;
-    let other = "500".to_string(alloc)?;
-    case(alloc, text, other, "500".to_string(alloc)?)
-}
-
-/// `size` nines in the exponent of zero, and one more.
-fn in_the_exponent_of_zero(alloc: Global, size: usize) -> Result<Case, Fail> {
-    let text = repeated(alloc, "-0.0E+", ("9", size), "9")?;
-    let other = "0".to_string(alloc)?;
-    case(alloc, text, other, "0".to_string(alloc)?)
-}
-
-/// Whether the text, which is a number, is read as one that is known to be a number.
-fn is_known(alloc: Global, text: &str) -> bool {
-    let Ok(number) = JsonNumber::from_text(alloc, text) else {
-        return false;
+    check_number(rt, alloc, size, plain.as_str(), written.as_str())?;
+    check_number(rt, alloc, size, shifted.as_str(), written.as_str())?;
+    let shifted = format!(in alloc; "{plain}E+{}", after.saturating_add(1))?;
+    let written = if all < LONGEST_PLAIN {
+        whole.clone()?
+    } else {
+        with_power(alloc, far.as_str(), all)?
     };
-    match JsonNumber::from_literal(alloc, text) {
-        Ok(known) => known == number,
-        Err(_) => false,
-    }
-}
-
-/// Whether the number is shown as it is written.
-fn is_shown(alloc: Global, case: &Case) -> bool {
-    let Some(number) = case.value.get::<JsonNumber>() else {
-        return false;
-    };
-    match number.to_string(alloc) {
-        Ok(shown) => shown == case.compact,
-        Err(_) => false,
-    }
-}
-
-/// The number as it is read, written, copied, converted and shown.
-fn check_number(rt: &impl Abort, alloc: Global, case: &Case, name: &str, size: usize) {
-    assert_eq!(rt; mistake(alloc, case), None, "the number of {size} {name}");
-    assert!(rt;
-        is_shown(alloc, case),
-        "the number of {size} {name} is not shown"
-    );
-    assert!(rt;
-        is_known(alloc, case.text.as_str()),
-        "the number of {size} {name} is not known"
-    );
+    check_number(rt, alloc, size, whole.as_str(), written.as_str())?;
+    check_number(rt, alloc, size, shifted.as_str(), written.as_str())
 }
 
 #[test]
 fn numbers_of_each_size(rt: HostRuntime) -> Result<(), Fail> {
+    for before in SIZES {
+        for after in SIZES {
+            check_both_sides(&rt, rt.alloc(), before, after)?;
+        }
+    }
+    Ok(())
+}
+
+#[test]
+fn fractions_of_each_size(rt: HostRuntime) -> Result<(), Fail> {
     let alloc = rt.alloc();
     for size in SIZES {
-        let case = before_the_point(alloc, size)?;
-        check_number(&rt, alloc, &case, "digits before the point", size);
-        let case = after_the_point(alloc, size)?;
-        check_number(&rt, alloc, &case, "digits after the point", size);
+        let written = filled(alloc, "-0.#8", "9", size)?;
+        let digits = filled(alloc, "-#8e-", "9", size)?;
+        let text = with_power(alloc, digits.as_str(), size.saturating_add(1))?;
+        check_number(&rt, alloc, size, text.as_str(), written.as_str())?;
     }
     Ok(())
 }
@@ -120,10 +89,10 @@ fn numbers_of_each_size(rt: HostRuntime) -> Result<(), Fail> {
 fn exponents_of_each_size(rt: HostRuntime) -> Result<(), Fail> {
     let alloc = rt.alloc();
     for size in SIZES {
-        let case = in_the_exponent(alloc, size)?;
-        check_number(&rt, alloc, &case, "zeros in the exponent", size);
-        let case = in_the_exponent_of_zero(alloc, size)?;
-        check_number(&rt, alloc, &case, "digits in the exponent of zero", size);
+        let text = filled(alloc, "5e#2", "0", size)?;
+        check_number(&rt, alloc, size, text.as_str(), "500")?;
+        let text = filled(alloc, "-0.0E+#9", "9", size)?;
+        check_number(&rt, alloc, size, text.as_str(), "0")?;
     }
     Ok(())
 }
