@@ -128,13 +128,15 @@ fn longest_plain_texts(rt: HostRuntime) -> Result<(), Fail> {
 }
 
 /// Texts of numbers, and what is put into a buffer for them.
-const SHORT: [(&str, Option<&str>); 7] = [
+const SHORT: [(&str, Option<&str>); 9] = [
     ("0", Some("0")),
     ("12345678", Some("12345678")),
     ("1234567890123456", Some("1234567890123456")),
     ("1e8", Some("100000000")),
     ("12345678.9", Some("12345678.9")),
     ("0.0000001", Some("0.0000001")),
+    ("0.1234567890123456", Some("0.1234567890123456")),
+    ("1234567891e-16", Some("0.0000001234567891")),
     ("0.01234567890123456", None),
 ];
 
