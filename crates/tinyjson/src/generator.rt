@@ -12,7 +12,7 @@ mod quick;
 mod sorted;
 
 use crate::value::JsonValue;
-use encode::Encoder;
+use encode::encode;
 use std::alloc::Global;
 use std::error::Error;
 use std::fmt;
@@ -98,11 +98,7 @@ impl<'indent, W: Write> JsonGenerator<'indent, W> {
             (text (generator_indent self.old) 0 (view value.now)) result }
         ensures same { generator_indent self.new ≡ generator_indent self.old }
     {
-        let encoder = Encoder {
-            alloc: self.alloc,
-            indent: self.indent,
-        };
-        encoder.encode(&mut self.out, value)
+        encode(self.alloc, self.indent, &mut self.out, value)
     }
 
     /// The writer, with what was written to it so far. Nothing is flushed.
@@ -184,11 +180,7 @@ impl JsonValue {
         ensures { WritesText (W.contents w.old) (W.contents w.new)
             (compact (view self.now)) result }
     {
-        let plain = Encoder {
-            alloc,
-            indent: None,
-        };
-        plain.encode(w, self)
+        encode(alloc, None, w, self)
     }
 
     /// Writes the text indented with two spaces, with the errors of [`JsonGenerator::generate`].
@@ -203,11 +195,7 @@ impl JsonValue {
         ensures { WritesText (W.contents w.old) (W.contents w.new)
             (indented (view self.now) (codes "  ") 0) result }
     {
-        let encoder = Encoder {
-            alloc,
-            indent: Some(INDENT),
-        };
-        encoder.encode(w, self)
+        encode(alloc, Some(INDENT), w, self)
     }
 }
 
@@ -218,8 +206,7 @@ fn written(alloc: Global, indent: Option<&str>, value: &JsonValue) -> JsonGenera
         (λ s. chars (string_bytes s) ≡ text (indent_of indent.entry) 0 (view value.now)) }
 {
     let mut bytes = Vec::new(alloc);
-    let encoder = Encoder { alloc, indent };
-    let Ok(()) = encoder.encode(&mut bytes, value) else {
+    let Ok(()) = encode(alloc, indent, &mut bytes, value) else {
         return Err(JsonGenerateError);
     };
     match String::from_utf8(bytes) {

@@ -4,7 +4,7 @@ use Rattle.std.specs.Result.{IsErr}
 use Rattle.std.proofs.lemmas.Result.{MatchResult-from_err}
 use Rattle.std.proofs.lemmas.List.{take_at}
 use Rattle.tinyjson_output.specs.Written.{Written, WrittenPart, WritesPrefix}
-use Rattle.tinyjson_output.specs.Buffer.{Output, Sent, SentPart, Sends}
+use Rattle.tinyjson_output.specs.Buffer.{Output, Sent, SentPart, SendsFrom}
 use Rattle.tinyjson_output.proofs.Written.{written_then as written_on, stops_then as part_on, written_none as written_now, stop as part_of}
 
 -- more stands after
@@ -51,12 +51,12 @@ stops_then {old} {mid} {new} {bytes} rest h k =
     stops {old = old} {mid = mid} {new = new} {bytes = bytes} {piece = rest} [] k whole
 
 -- the last piece
-pub ends : {T E : Type 0} (old mid new : Output) (bytes piece : List ℕ) (r : Result T E) → Sends mid new piece r → Sent old mid bytes piece → Sends old new bytes r
+pub ends : {T E : Type 0} (old mid new : Output) (bytes piece : List ℕ) (r : Result T E) → SendsFrom mid new piece r → Sent old mid bytes piece → SendsFrom old new bytes r
 ends old mid new bytes piece (Ok x) k h = goes {piece = piece} [] k (rw append-nil h)
 ends old mid new bytes piece (Err e) k h = stops {piece = piece} [] k (rw append-nil h)
 
 -- the exit of a `?` on the call that sends a piece
-pub fails : {T E : Type 0} {old mid new : Output} {bytes piece : List ℕ} (r : Result T E) (rest : List ℕ) → IsErr r → SentPart mid new piece → Sent old mid bytes (piece ++ rest) → Sends old new bytes r
+pub fails : {T E : Type 0} {old mid new : Output} {bytes piece : List ℕ} (r : Result T E) (rest : List ℕ) → IsErr r → SentPart mid new piece → Sent old mid bytes (piece ++ rest) → SendsFrom old new bytes r
 fails r rest e k h = MatchResult-from_err r _ _ e (λ _. stops rest k h)
 
 pub begins : {old : Output} {bytes : List ℕ} → Sent old old bytes bytes
@@ -91,7 +91,7 @@ pub waits_alone : {a b : Option (List ℕ)} {p : List ℕ} (q bytes : List ℕ) 
 waits_alone {a} {b} {p} q bytes h e = record { done = bytes; split = sym (append-nil bytes); written = subst (λ w. Written a b (p ++ bytes) w) (sym e) (with_more bytes h) }
 
 -- both are written
-pub far : {T E : Type 0} (a b c : Option (List ℕ)) (p q bytes : List ℕ) (r : Result T E) → Written a b p [] → q ≡ [] → WritesPrefix b c bytes r → Sends (a, p) (c, q) bytes r
+pub far : {T E : Type 0} (a b c : Option (List ℕ)) (p q bytes : List ℕ) (r : Result T E) → Written a b p [] → q ≡ [] → WritesPrefix b c bytes r → SendsFrom (a, p) (c, q) bytes r
 far a b c p q bytes (Ok x) h e k = record { done = bytes; split = sym (append-nil bytes); written = subst (λ w. Written a c (p ++ bytes) w) (sym e) (written_on bytes [] (with_more bytes h) k) }
 far a b c p q bytes (Err x) h e k = record { part = part_on bytes (with_more bytes h) k }
 

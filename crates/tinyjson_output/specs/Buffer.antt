@@ -26,9 +26,13 @@ pub record SentPart (old new : Output) (bytes : List ℕ) : Type 0 where
   pub part : WrittenPart old.0 new.0 (old.1 ++ bytes)
 
 -- on `Ok` the bytes follow what was buffered, and on `Err` a prefix of both is written
-abbrev pub Sends : {T E : Type 0} → Output → Output → List ℕ → Result T E → Type 0
-Sends old new bytes result = MatchResult result (λ _. Sent old new bytes []) (λ _. SentPart old new bytes)
+abbrev pub SendsFrom : {T E : Type 0} → Output → Output → List ℕ → Result T E → Type 0
+SendsFrom old new bytes result = MatchResult result (λ _. Sent old new bytes []) (λ _. SentPart old new bytes)
 
--- the same of a text, in UTF-8
-abbrev pub SendsText : {T E : Type 0} → Output → Output → List ℕ → Result T E → Type 0
-SendsText old new text result = Sends old new (encode_utf8_all text) result
+-- by a writer, which holds `contents`, and a buffer before it: both as they were, and as they are now
+abbrev pub Sends : {W T E : Type 0} → (W → Option (List ℕ)) → W → W → Buffer → Buffer → List ℕ → Result T E → Type 0
+Sends contents w v old new bytes result = SendsFrom (contents w, buffered old) (contents v, buffered new) bytes result
+
+-- a text likewise, in UTF-8
+abbrev pub SendsText : {W T E : Type 0} → (W → Option (List ℕ)) → W → W → Buffer → Buffer → List ℕ → Result T E → Type 0
+SendsText contents w v old new text result = Sends contents w v old new (encode_utf8_all text) result

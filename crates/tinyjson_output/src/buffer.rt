@@ -120,9 +120,7 @@ fn copy_ends<const N: usize>(target: &mut [u8], at: usize, bytes: &[u8])
 /// the writer's own, an interruption too, or `WriteZero` where it takes nothing.
 #[inline(always)]
 pub fn write_bytes<W: Write>(out: &mut W, buffer: &mut Buffer, bytes: &[u8]) -> io::Result<()>
-    ensures { Sends
-        (W.contents out.old, buffered buffer.old) (W.contents out.new, buffered buffer.new)
-        bytes.now result }
+    ensures { Sends W.contents out.old out.new buffer.old buffer.new bytes.now result }
 {
     if !buffer.fits(bytes.len()) {
         return write_far(out, buffer, bytes);
@@ -135,9 +133,7 @@ pub fn write_bytes<W: Write>(out: &mut W, buffer: &mut Buffer, bytes: &[u8]) -> 
 #[cold]
 #[inline(never)]
 fn write_far<W: Write>(out: &mut W, buffer: &mut Buffer, bytes: &[u8]) -> io::Result<()>
-    ensures { Sends
-        (W.contents out.old, buffered buffer.old) (W.contents out.new, buffered buffer.new)
-        bytes.now result }
+    ensures { Sends W.contents out.old out.new buffer.old buffer.new bytes.now result }
 {
     flush(out, buffer)?;
     let len = bytes.len();

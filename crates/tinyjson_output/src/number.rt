@@ -2,7 +2,7 @@
 ghost use Rattle.std.specs.Prelude.{◌∷◌};
 ghost use Rattle.tinyjson_number.specs.Characters.{letter_e};
 ghost use Rattle.tinyjson_number.specs.Text.{decimal_text, integer_text, natural_text};
-ghost use Rattle.tinyjson_output.specs.Buffer.{buffered, Sends, SendsText};
+ghost use Rattle.tinyjson_output.specs.Buffer.{Sends, SendsText};
 
 use crate::buffer::{Buffer, write_bytes};
 use std::io::{self, Write};
@@ -14,8 +14,7 @@ pub fn write_number<W: Write>(
     buffer: &mut Buffer,
     number: &JsonNumber,
 ) -> io::Result<()>
-    ensures { SendsText
-        (W.contents out.old, buffered buffer.old) (W.contents out.new, buffered buffer.new)
+    ensures { SendsText W.contents out.old out.new buffer.old buffer.new
         (decimal_text number.now.decimal) result }
 {
     let layout = number.layout();
@@ -30,8 +29,7 @@ pub fn write_number<W: Write>(
 }
 
 fn write_exponent<W: Write>(out: &mut W, buffer: &mut Buffer, exponent: i128) -> io::Result<()>
-    ensures { Sends
-        (W.contents out.old, buffered buffer.old) (W.contents out.new, buffered buffer.new)
+    ensures { Sends W.contents out.old out.new buffer.old buffer.new
         (letter_e ∷ integer_text exponent) result }
 {
     if exponent < 0 {
@@ -44,9 +42,7 @@ fn write_exponent<W: Write>(out: &mut W, buffer: &mut Buffer, exponent: i128) ->
 
 /// Writes the digits, the first of them first.
 fn write_natural<W: Write>(out: &mut W, buffer: &mut Buffer, number: u128) -> io::Result<()>
-    ensures { Sends
-        (W.contents out.old, buffered buffer.old) (W.contents out.new, buffered buffer.new)
-        (natural_text number) result }
+    ensures { Sends W.contents out.old out.new buffer.old buffer.new (natural_text number) result }
 {
     if number >= 10 {
         write_natural(out, buffer, number / 10)?;

@@ -6,7 +6,7 @@ ghost use Rattle.std.specs.Str.{chars};
 ghost use Rattle.tinyjson_grammar.specs.Characters.{reverse_solidus};
 ghost use Rattle.tinyjson_scan.specs.Scan.{is_plain};
 ghost use Rattle.tinyjson_grammar.specs.Text.{escape, escapes, quoted, IsEscaped};
-ghost use Rattle.tinyjson_output.specs.Buffer.{buffered, Sends, SendsText};
+ghost use Rattle.tinyjson_output.specs.Buffer.{Sends, SendsText};
 
 use crate::buffer::{Buffer, write_bytes};
 use std::io::{self, Write};
@@ -14,8 +14,7 @@ use tinyjson_scan::plain_end;
 
 /// Writes the text between quotes.
 pub fn quote<W: Write>(out: &mut W, buffer: &mut Buffer, text: &str) -> io::Result<()>
-    ensures { SendsText
-        (W.contents out.old, buffered buffer.old) (W.contents out.new, buffered buffer.new)
+    ensures { SendsText W.contents out.old out.new buffer.old buffer.new
         (quoted (chars text.now)) result }
 {
     write_bytes(out, buffer, b"\"")?;
@@ -25,9 +24,7 @@ pub fn quote<W: Write>(out: &mut W, buffer: &mut Buffer, text: &str) -> io::Resu
 
 #[inline(always)]
 fn write_escaped<W: Write>(out: &mut W, buffer: &mut Buffer, bytes: &[u8]) -> io::Result<()>
-    ensures { Sends
-        (W.contents out.old, buffered buffer.old) (W.contents out.new, buffered buffer.new)
-        (escapes bytes.now) result }
+    ensures { Sends W.contents out.old out.new buffer.old buffer.new (escapes bytes.now) result }
 {
     let stop = plain_end(bytes, 0);
     write_bytes(out, buffer, &bytes[..stop])?;
@@ -41,9 +38,7 @@ fn write_escaped<W: Write>(out: &mut W, buffer: &mut Buffer, bytes: &[u8]) -> io
 #[inline(never)]
 fn write_stopped<W: Write>(out: &mut W, buffer: &mut Buffer, bytes: &[u8]) -> io::Result<()>
     requires { prefix_len is_plain bytes.now ≡ 0 }
-    ensures { Sends
-        (W.contents out.old, buffered buffer.old) (W.contents out.new, buffered buffer.new)
-        (escapes bytes.now) result }
+    ensures { Sends W.contents out.old out.new buffer.old buffer.new (escapes bytes.now) result }
 {
     let mut rest = bytes;
     while let Some((byte, after)) = rest.split_first() {
@@ -57,9 +52,7 @@ fn write_stopped<W: Write>(out: &mut W, buffer: &mut Buffer, bytes: &[u8]) -> io
 
 fn write_escape<W: Write>(out: &mut W, buffer: &mut Buffer, byte: u8) -> io::Result<()>
     requires { IsEscaped byte }
-    ensures { Sends
-        (W.contents out.old, buffered buffer.old) (W.contents out.new, buffered buffer.new)
-        (escape byte) result }
+    ensures { Sends W.contents out.old out.new buffer.old buffer.new (escape byte) result }
 {
     match escape_letter(byte) {
         Some(letter) => write_bytes(out, buffer, &[b'\\', letter]),

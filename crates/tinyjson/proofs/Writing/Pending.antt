@@ -7,7 +7,7 @@ use Rattle.tinyjson.specs.declared.value.JsonValue.{JsonValue}
 use Rattle.tinyjson.specs.declared.generator.pending.Frame.{Frame}
 use Rattle.tinyjson.specs.declared.generator.pending.Frame.TheVariants.{Items, Member, Members}
 use Rattle.tinyjson.specs.declared.generator.pending.Stack.{Stack}
-use Rattle.tinyjson_output.specs.Buffer.{Output, Sent, SentPart, Sends}
+use Rattle.tinyjson_output.specs.Buffer.{Output, Sent, SentPart, SendsFrom}
 use Rattle.std.specs.Bool.{IsTrue}
 use Rattle.std.specs.Option.{is_some}
 use Rattle.tinyjson.specs.Indent.{indent_of}
@@ -15,7 +15,7 @@ use Rattle.tinyjson_grammar.specs.Text.{text, items_text, members_text, before, 
 use Rattle.tinyjson_grammar.specs.Tree.{Members as Entries, array, object, member, no_members}
 use Rattle.tinyjson.specs.View.{view, items_view, members_view}
 use Rattle.tinyjson.specs.private.Sorted.{sorted_view}
-use Rattle.tinyjson.specs.private.Pending.{Gathered, frame_text, others, unwritten, frames, IsStack, Opened, Begins, Advanced, Advances}
+use Rattle.tinyjson.specs.private.Pending.{Gathered, frame_text, others, unwritten, frames, IsStack, Opened, BeginsFrom, Advanced, AdvancesFrom}
 use Rattle.tinyjson_output.proofs.Callers.{sent_goes as goes, sent_stop as stop, sent_stops as stops, sent_written_more as written_more, sent_written_none as written_none, enc, enc_cons, closed, three, quoted_bytes}
 use Rattle.tinyjson.proofs.Writing.Sorted.{Entry}
 use Rattle.tinyjson.proofs.Writing.Text.{member_text, some_members, enc_separator}
@@ -139,7 +139,7 @@ module _ (w : Option (List ℕ)) where
 
   -- the container was closed, where `line` stands before its bracket
   pub closes : {E : Type 0} (old mid new : Output) (fs fs₁ : List Frame) (gs gs₁ hs : List Gathered) (line : List ℕ) (bracket : ℕ) (s : Stack) (r : Result (Unit {0}) E) → IsStack s → frames s ≡ fs₁ → hs ≡ gs₁
-      → Sends mid new (line ++ bracket ∷ []) r → Sent old mid (enc (unwritten w fs gs)) (line ++ (bracket ∷ [] ++ enc (unwritten w fs₁ gs₁))) → Advances w old new fs gs r s hs
+      → SendsFrom mid new (line ++ bracket ∷ []) r → Sent old mid (enc (unwritten w fs gs)) (line ++ (bracket ∷ [] ++ enc (unwritten w fs₁ gs₁))) → AdvancesFrom w old new fs gs r s hs
   closes old mid new fs fs₁ gs gs₁ hs line bracket s (Ok u) is ef eg k h =
       let rest = enc (unwritten w (frames s) hs) in
       let whole = closed_rest fs₁ gs₁ hs line bracket s ef eg h in
@@ -169,7 +169,7 @@ module _ (w : Option (List ℕ)) where
   -- ---- what begins after what was written
 
   pub begins_after : {E : Type 0} (k : ℕ) (old mid new : Output) (bytes piece : List ℕ) (gs hs : List Gathered) (r : Result (Option Frame) E)
-      → Sent old mid bytes piece → Begins w k mid new piece gs r hs → Begins w k old new bytes gs r hs
+      → Sent old mid bytes piece → BeginsFrom w k mid new piece gs r hs → BeginsFrom w k old new bytes gs r hs
   begins_after k old mid new bytes piece gs hs (Err e) h b = stops {piece = piece} [] b (rw append-nil h)
   begins_after k old mid new bytes piece gs hs (Ok None) h b = record { written = goes {piece = piece} [] b.written (rw append-nil h); outside = b.outside }
   begins_after k old mid new bytes piece gs hs (Ok (Some f)) h b =

@@ -8,11 +8,13 @@ use Rattle.tinyjson_grammar.specs.Tree.{member, no_members}
 use Rattle.tinyjson.specs.View.{view, items_view}
 use Rattle.tinyjson_grammar.specs.Text.{items_text, members_text, newline}
 use Rattle.tinyjson.specs.private.Sorted.{sorted_view}
-use Rattle.tinyjson_output.specs.Buffer.{Output, Sent, SentPart}
+use Rattle.tinyjson_output.specs.Buffer.{buffered, Output, Sent, SentPart}
 use Rattle.tinyjson.specs.declared.value.JsonValue.{JsonValue}
 use Rattle.tinyjson.specs.declared.generator.pending.Frame.{Frame}
 use Rattle.tinyjson.specs.declared.generator.pending.Frame.TheVariants.{Items, Member, Members}
 use Rattle.tinyjson.specs.declared.generator.pending.Stack.{Stack}
+use Rattle.tinyjson.specs.declared.generator.encode.Encoder.{Encoder}
+use Rattle.tinyjson.specs.Indent.{indent_of}
 
 -- the frames that don't fit in place stand in the vector
 pub record IsStack (s : Stack) : Type 0 where
@@ -60,9 +62,9 @@ pub record Finished (old new : Output) (bytes : List ℕ) (gs hs : List Gathered
   pub outside : hs ≡ gs
 
 -- of the bytes all is sent but what is left of the frame at the level k, where there is one; or, on an error, a prefix
-abbrev pub Begins : {E : Type 0} → Option (List ℕ) → ℕ → Output → Output → List ℕ → List Gathered →
+abbrev pub BeginsFrom : {E : Type 0} → Option (List ℕ) → ℕ → Output → Output → List ℕ → List Gathered →
     Result (Option Frame) E → List Gathered → Type 0
-Begins w k old new bytes gs result hs = MatchResult result
+BeginsFrom w k old new bytes gs result hs = MatchResult result
     (λ o. MatchOption o (Finished old new bytes gs hs) (λ f. Opened w k old new bytes gs f hs))
     (λ _. SentPart old new bytes)
 
@@ -73,7 +75,24 @@ pub record Advanced (w : Option (List ℕ)) (old new : Output) (fs : List Frame)
   pub written : Sent old new (encode_utf8_all (unwritten w fs gs)) (encode_utf8_all (unwritten w (frames s) hs))
   pub less : length (encode_utf8_all (unwritten w (frames s) hs)) < length (encode_utf8_all (unwritten w fs gs))
 
-abbrev pub Advances : {T E : Type 0} → Option (List ℕ) → Output → Output → List Frame → List Gathered → Result T E →
+abbrev pub AdvancesFrom : {T E : Type 0} → Option (List ℕ) → Output → Output → List Frame → List Gathered → Result T E →
     Stack → List Gathered → Type 0
-Advances w old new fs gs result s hs = MatchResult result (λ _. Advanced w old new fs gs s hs)
+AdvancesFrom w old new fs gs result s hs = MatchResult result (λ _. Advanced w old new fs gs s hs)
     (λ _. SentPart old new (encode_utf8_all (unwritten w fs gs)))
+
+-- the gathered members of an encoder, the next one first
+abbrev pub gathered_in : Encoder → List Gathered
+gathered_in e = reverse e.gathered.items
+
+-- nothing of an encoder changes but its buffer
+abbrev pub OnlyBuffers : Encoder → Encoder → Type 0
+OnlyBuffers old new = (new.indent ≡ old.indent) × (new.gathered ≡ old.gathered)
+
+-- by a writer, which holds `contents`, and the encoder before it: both as they were, and as they are now
+abbrev pub Begins : {W E : Type 0} → ℕ → (W → Option (List ℕ)) → W → W → Encoder → Encoder → List ℕ → Result (Option Frame) E → Type 0
+Begins k contents p q old new bytes result =
+    BeginsFrom (indent_of old.indent) k (contents p, buffered old.buffer) (contents q, buffered new.buffer) bytes (gathered_in old) result (gathered_in new)
+
+abbrev pub Advances : {W T E : Type 0} → (W → Option (List ℕ)) → W → W → Encoder → Encoder → List Frame → Result T E → Stack → Type 0
+Advances contents p q old new fs result s =
+    AdvancesFrom (indent_of old.indent) (contents p, buffered old.buffer) (contents q, buffered new.buffer) fs (gathered_in old) result s (gathered_in new)

@@ -1,10 +1,11 @@
 //! Values, compact and indented.
-ghost use Rattle.std.specs.Prelude.{◌≡◌, ◌++◌, ◌∷◌, ◌+◌, ◌-◌, ◌<◌, ◌≤◌, ℕ, [], List, None, Some};
-ghost use Rattle.std.specs.Prelude.{length, reverse, take, drop};
+ghost use Rattle.std.specs.Prelude.{◌≡◌, ◌++◌, ◌∷◌, ◌+◌, ◌-◌, ◌<◌, ◌≤◌, ℕ, [], Some};
+ghost use Rattle.std.specs.Prelude.{length, take, drop};
 ghost use Rattle.std.specs.Str.{chars, encode_utf8_all};
 ghost use Rattle.tinyjson_grammar.specs.Characters.{name_separator};
 ghost use Rattle.tinyjson.specs.Indent.{indent_of};
-ghost use Rattle.tinyjson.specs.private.Pending.{Gathered, IsStack, frames, unwritten, Advances, Begins};
+ghost use Rattle.tinyjson.specs.private.Pending.{IsStack, frames, unwritten, gathered_in};
+ghost use Rattle.tinyjson.specs.private.Pending.{Advances, Begins, OnlyBuffers};
 ghost use Rattle.tinyjson_grammar.specs.Text.{text, items_text, members_text, quoted};
 ghost use Rattle.tinyjson_grammar.specs.Text.{before, newline};
 ghost use Rattle.tinyjson_grammar.specs.Text.{after_colon};
@@ -29,112 +30,111 @@ use tinyjson_output::number::write_number;
 use tinyjson_output::quick::quick_key;
 use tinyjson_output::quote::quote;
 
-/// How values are written: compact, or indented by a text.
-#[derive(Drop)]
-pub(crate) struct Encoder<'a> {
-    pub(crate) alloc: Global,
-    pub(crate) indent: Option<&'a str>,
+/// Writes the text of the value, by way of a buffer that is flushed at the end. After an error a
+/// prefix of the text is written.
+pub(super) fn encode<'a, W: Write>(
+    alloc: Global,
+    indent: Option<&'a str>,
+    out: &mut W,
+    value: &'a JsonValue,
+) -> io::Result<()>
+    ensures { WritesText (W.contents out.old) (W.contents out.new)
+        (text (indent_of indent.entry) 0 (view value.now)) result }
+{
+    let mut encoder = Encoder::new(alloc, indent);
+    encoder.value(out, value)?;
+    flush(out, &mut encoder.buffer)
 }
 
-impl Encoder<'_> {
-    /// Writes the text of the value, by way of a buffer that is flushed at the end. After an error a
-    /// prefix of the text is written.
-    pub(crate) fn encode<W: Write>(&self, out: &mut W, value: &JsonValue) -> io::Result<()>
-        ensures { WritesText (W.contents out.old) (W.contents out.new)
-            (text (indent_of self.now.indent) 0 (view value.now)) result }
+/// How a value is written, compact or indented by a text, and what of it is not written yet.
+#[derive(Drop)]
+struct Encoder<'a> {
+    alloc: Global,
+    indent: Option<&'a str>,
+    buffer: Buffer,
+    /// The members of the open objects that are still to be written, the next one last.
+    gathered: Vec<(&'a str, &'a JsonValue)>,
+}
+
+impl<'a> Encoder<'a> {
+    #[inline(always)]
+    fn new(alloc: Global, indent: Option<&'a str>) -> Self
+        ensures indent { result.indent ≡ indent.entry }
+        ensures buffer { buffered result.buffer ≡ [] }
     {
-        let mut buffer = Buffer::new();
-        self.value(out, &mut buffer, value)?;
-        flush(out, &mut buffer)
+        Encoder {
+            alloc,
+            indent,
+            buffer: Buffer::new(),
+            gathered: Vec::new(alloc),
+        }
     }
 
     /// Writes how the value begins, and then what is left of the open containers, the innermost first. The
     /// last bytes may still be in the buffer.
-    fn value<W: Write>(&self, out: &mut W, buffer: &mut Buffer, value: &JsonValue) -> io::Result<()>
-        ensures { SendsText
-            (W.contents out.old, buffered buffer.old) (W.contents out.new, buffered buffer.new)
-            (text (indent_of self.now.indent) 0 (view value.now)) result }
+    fn value<W: Write>(&mut self, out: &mut W, value: &'a JsonValue) -> io::Result<()>
+        ensures { SendsText W.contents out.old out.new self.old.buffer self.new.buffer
+            (text (indent_of self.old.indent) 0 (view value.now)) result }
     {
-        let mut gathered = Vec::new(self.alloc);
-        match self.begin(out, buffer, &mut gathered, value)? {
+        match self.begin(out, value)? {
             None => Ok(()),
-            Some(frame) => self.finish(out, buffer, gathered, frame),
+            Some(frame) => self.finish(out, frame),
         }
     }
 
     /// Writes all that is left of the container. A container that is opened meanwhile is finished before
     /// the one that it stands in goes on.
-    fn finish<'a, W: Write>(
-        &self,
-        out: &mut W,
-        buffer: &mut Buffer,
-        gathered: Vec<(&'a str, &'a JsonValue)>,
-        frame: Frame<'a>,
-    ) -> io::Result<()>
-        ensures { SendsText
-            (W.contents out.old, buffered buffer.old) (W.contents out.new, buffered buffer.new)
-            (unwritten (indent_of self.now.indent) (frame.entry ∷ [])
-            (reverse gathered.entry.items)) result }
+    fn finish<W: Write>(&mut self, out: &mut W, frame: Frame<'a>) -> io::Result<()>
+        ensures { SendsText W.contents out.old out.new self.old.buffer self.new.buffer
+            (unwritten (indent_of self.old.indent) (frame.entry ∷ []) (gathered_in self.old)) result }
     {
-        let mut gathered = gathered;
+        // Made here, since most values leave nothing open: it has room for 64 frames.
         let mut stack = Stack::new(self.alloc);
         stack.push(frame)?;
         while let Some((frame, level)) = stack.pop() {
-            self.resume(out, buffer, &mut stack, &mut gathered, frame, level)?;
+            self.resume(out, &mut stack, frame, level)?;
         }
         Ok(())
     }
 
     /// Writes what is left of a container, up to the next bracket.
-    fn resume<'a, W: Write>(
-        &self,
+    fn resume<W: Write>(
+        &mut self,
         out: &mut W,
-        buffer: &mut Buffer,
         stack: &mut Stack<'a>,
-        gathered: &mut Vec<(&'a str, &'a JsonValue)>,
         frame: Frame<'a>,
         level: usize,
     ) -> io::Result<()>
         requires stack { IsStack stack.old }
         requires level { level ≡ length (frames stack.old) + 1 }
-        ensures { Advances (indent_of self.now.indent)
-            (W.contents out.old, buffered buffer.old) (W.contents out.new, buffered buffer.new)
-            (frame.entry ∷ frames stack.old) (reverse gathered.old.items) result stack.new
-            (reverse gathered.new.items) }
+        ensures sent { Advances W.contents out.old out.new self.old self.new
+            (frame.entry ∷ frames stack.old) result stack.new }
+        ensures indent { self.new.indent ≡ self.old.indent }
     {
         match frame {
-            Frame::Items { rest, first } => self.items(
-                out, buffer, stack, gathered, rest, first, level,
-            ),
-            Frame::Member { key, value } => self.only_member(
-                out, buffer, stack, gathered, key, value, level,
-            ),
-            Frame::Members { left, first } => self.members(
-                out, buffer, stack, gathered, left, first, level,
-            ),
+            Frame::Items { rest, first } => self.items(out, stack, rest, first, level),
+            Frame::Member { key, value } => self.only_member(out, stack, key, value, level),
+            Frame::Members { left, first } => self.members(out, stack, left, first, level),
         }
     }
 
     /// Writes the one member of an object, and the closing brace unless the member's value stays
     /// open.
-    fn only_member<'a, W: Write>(
-        &self,
+    fn only_member<W: Write>(
+        &mut self,
         out: &mut W,
-        buffer: &mut Buffer,
         stack: &mut Stack<'a>,
-        gathered: &mut Vec<(&'a str, &'a JsonValue)>,
         key: &'a str,
         value: &'a JsonValue,
         level: usize,
     ) -> io::Result<()>
         requires stack { IsStack stack.old }
         requires level { level ≡ length (frames stack.old) + 1 }
-        ensures { Advances (indent_of self.now.indent)
-            (W.contents out.old, buffered buffer.old) (W.contents out.new, buffered buffer.new)
-            (Member key.entry value.entry ∷ frames stack.old) (reverse gathered.old.items) result
-            stack.new (reverse gathered.new.items) }
+        ensures sent { Advances W.contents out.old out.new self.old self.new
+            (Member key.entry value.entry ∷ frames stack.old) result stack.new }
+        ensures indent { self.new.indent ≡ self.old.indent }
     {
-        let begun = self.member(out, buffer, gathered, key, value, level, true)?;
+        let begun = self.member(out, key, value, level, true)?;
         match begun {
             Some(inner) => {
                 let outer = Frame::Members {
@@ -143,340 +143,304 @@ impl Encoder<'_> {
                 };
                 Ok(stack.enter(outer, inner)?)
             }
-            None => self.close(out, buffer, level, b"}"),
+            None => self.close(out, level, b"}"),
         }
     }
 
     /// Writes the items that are left to an array, up to one that stays open or to the closing
     /// bracket.
-    fn items<'a, W: Write>(
-        &self,
+    fn items<W: Write>(
+        &mut self,
         out: &mut W,
-        buffer: &mut Buffer,
         stack: &mut Stack<'a>,
-        gathered: &mut Vec<(&'a str, &'a JsonValue)>,
         items: &'a [JsonValue],
         first: bool,
         level: usize,
     ) -> io::Result<()>
         requires stack { IsStack stack.old }
         requires level { level ≡ length (frames stack.old) + 1 }
-        ensures { Advances (indent_of self.now.indent)
-            (W.contents out.old, buffered buffer.old) (W.contents out.new, buffered buffer.new)
-            (Items items.entry first ∷ frames stack.old) (reverse gathered.old.items) result
-            stack.new (reverse gathered.new.items) }
+        ensures sent { Advances W.contents out.old out.new self.old self.new
+            (Items items.entry first ∷ frames stack.old) result stack.new }
+        ensures indent { self.new.indent ≡ self.old.indent }
     {
-        let (mut rest, mut first) = self.run_of_items(buffer, items, first);
+        let (mut rest, mut first) = self.run_of_items(items, first);
         while let Some((item, others)) = rest.split_first() {
-            let begun = self.item(out, buffer, gathered, item, level, first)?;
+            let begun = self.item(out, item, level, first)?;
             rest = others;
             first = false;
             match begun {
                 Some(inner) => return Ok(stack.enter(Frame::Items { rest, first }, inner)?),
                 None => {}
             }
-            (rest, first) = self.run_of_items(buffer, rest, first);
+            (rest, first) = self.run_of_items(rest, first);
         }
-        self.close(out, buffer, level, b"]")
+        self.close(out, level, b"]")
     }
 
     /// Writes the members that are left to an object, up to one whose value stays open or to the
     /// closing brace.
-    fn members<'a, W: Write>(
-        &self,
+    fn members<W: Write>(
+        &mut self,
         out: &mut W,
-        buffer: &mut Buffer,
         stack: &mut Stack<'a>,
-        gathered: &mut Vec<(&'a str, &'a JsonValue)>,
         left: usize,
         first: bool,
         level: usize,
     ) -> io::Result<()>
         requires stack { IsStack stack.old }
         requires level { level ≡ length (frames stack.old) + 1 }
-        ensures { Advances (indent_of self.now.indent)
-            (W.contents out.old, buffered buffer.old) (W.contents out.new, buffered buffer.new)
-            (Members left first ∷ frames stack.old) (reverse gathered.old.items) result stack.new
-            (reverse gathered.new.items) }
+        ensures sent { Advances W.contents out.old out.new self.old self.new
+            (Members left first ∷ frames stack.old) result stack.new }
+        ensures indent { self.new.indent ≡ self.old.indent }
     {
-        let (mut left, mut first) = self.run_of_members(buffer, gathered, left, first, false);
-        while let Some((key, value)) = next_member(gathered, left) {
-            let begun = self.member(out, buffer, gathered, key, value, level, first)?;
+        let (mut left, mut first) = self.run_of_members(left, first, false);
+        while let Some((key, value)) = next_member(&mut self.gathered, left) {
+            let begun = self.member(out, key, value, level, first)?;
             left -= 1;
             first = false;
             match begun {
                 Some(inner) => return Ok(stack.enter(Frame::Members { left, first }, inner)?),
                 None => {}
             }
-            (left, first) = self.run_of_members(buffer, gathered, left, first, false);
+            (left, first) = self.run_of_members(left, first, false);
         }
-        self.close(out, buffer, level, b"}")
+        self.close(out, level, b"}")
     }
 
     /// Writes the item, or how it begins, and what stands before it.
-    fn item<'a, W: Write>(
-        &self,
+    fn item<W: Write>(
+        &mut self,
         out: &mut W,
-        buffer: &mut Buffer,
-        gathered: &mut Vec<(&'a str, &'a JsonValue)>,
         value: &'a JsonValue,
         level: usize,
         first: bool,
     ) -> io::Result<Option<Frame<'a>>>
-        ensures { Begins (indent_of self.now.indent) level
-            (W.contents out.old, buffered buffer.old) (W.contents out.new, buffered buffer.new)
-            (encode_utf8_all (before (indent_of self.now.indent) level first)
-            ++ encode_utf8_all (text (indent_of self.now.indent) level (view value.now)))
-            (reverse gathered.old.items) result (reverse gathered.new.items) }
+        ensures sent { Begins level W.contents out.old out.new self.old self.new
+            (encode_utf8_all (before (indent_of self.old.indent) level first)
+            ++ encode_utf8_all (text (indent_of self.old.indent) level (view value.now))) result }
+        ensures indent { self.new.indent ≡ self.old.indent }
     {
-        self.separate(out, buffer, level, first)?;
-        self.begin(out, buffer, gathered, value)
+        self.separate(out, level, first)?;
+        self.begin(out, value)
     }
 
-    /// The same of a member.
-    fn member<'a, W: Write>(
-        &self,
+    /// Writes the member, or its key and how its value begins, and what stands before it.
+    fn member<W: Write>(
+        &mut self,
         out: &mut W,
-        buffer: &mut Buffer,
-        gathered: &mut Vec<(&'a str, &'a JsonValue)>,
         key: &'a str,
         value: &'a JsonValue,
         level: usize,
         first: bool,
     ) -> io::Result<Option<Frame<'a>>>
-        ensures { Begins (indent_of self.now.indent) level
-            (W.contents out.old, buffered buffer.old) (W.contents out.new, buffered buffer.new)
-            (encode_utf8_all (before (indent_of self.now.indent) level first)
+        ensures sent { Begins level W.contents out.old out.new self.old self.new
+            (encode_utf8_all (before (indent_of self.old.indent) level first)
             ++ encode_utf8_all (quoted (chars key.now)
-            ++ (name_separator ∷ (after_colon (indent_of self.now.indent)
-            ++ text (indent_of self.now.indent) level (view value.now)))))
-            (reverse gathered.old.items) result (reverse gathered.new.items) }
+            ++ (name_separator ∷ (after_colon (indent_of self.old.indent)
+            ++ text (indent_of self.old.indent) level (view value.now))))) result }
+        ensures indent { self.new.indent ≡ self.old.indent }
     {
-        if quick_key(buffer, self.indent.is_none(), first, key) {
-            return self.begin(out, buffer, gathered, value);
+        if quick_key(&mut self.buffer, self.indent.is_none(), first, key) {
+            return self.begin(out, value);
         }
-        self.separate(out, buffer, level, first)?;
-        quote(out, buffer, key)?;
-        self.colon(out, buffer)?;
-        self.begin(out, buffer, gathered, value)
+        self.separate(out, level, first)?;
+        quote(out, &mut self.buffer, key)?;
+        self.colon(out)?;
+        self.begin(out, value)
     }
 
     /// Writes the bracket of a container whose items stand at the level.
-    fn close<W: Write>(
-        &self,
-        out: &mut W,
-        buffer: &mut Buffer,
-        level: usize,
-        bracket: &[u8],
-    ) -> io::Result<()>
+    fn close<W: Write>(&mut self, out: &mut W, level: usize, bracket: &[u8]) -> io::Result<()>
         requires { 0 < level }
-        ensures { Sends
-            (W.contents out.old, buffered buffer.old) (W.contents out.new, buffered buffer.new)
-            (encode_utf8_all (newline (indent_of self.now.indent) (level - 1)) ++ bracket.now)
+        ensures sent { Sends W.contents out.old out.new self.old.buffer self.new.buffer
+            (encode_utf8_all (newline (indent_of self.old.indent) (level - 1)) ++ bracket.now)
             result }
+        ensures kept { OnlyBuffers self.old self.new }
     {
-        self.newline(out, buffer, level - 1)?;
-        write_bytes(out, buffer, bracket)
+        self.newline(out, level - 1)?;
+        write_bytes(out, &mut self.buffer, bracket)
     }
 
     /// Writes a value that holds no other. Of others it writes the opening bracket and what fits at
     /// once, and returns what is left of them then.
     #[inline(always)]
-    fn begin<'a, W: Write>(
-        &self,
+    fn begin<W: Write>(
+        &mut self,
         out: &mut W,
-        buffer: &mut Buffer,
-        gathered: &mut Vec<(&'a str, &'a JsonValue)>,
         value: &'a JsonValue,
     ) -> io::Result<Option<Frame<'a>>>
-        ensures { (k : ℕ) → Begins (indent_of self.now.indent) k
-            (W.contents out.old, buffered buffer.old) (W.contents out.new, buffered buffer.new)
-            (encode_utf8_all (text (indent_of self.now.indent) k (view value.now)))
-            (reverse gathered.old.items) result (reverse gathered.new.items) }
+        ensures sent { (k : ℕ) → Begins k W.contents out.old out.new self.old self.new
+            (encode_utf8_all (text (indent_of self.old.indent) k (view value.now))) result }
+        ensures indent { self.new.indent ≡ self.old.indent }
     {
-        if quick_value(buffer, value) {
+        if quick_value(&mut self.buffer, value) {
             return Ok(None);
         }
-        self.begin_slowly(out, buffer, gathered, value)
+        self.begin_slowly(out, value)
     }
 
-    /// The same for a value that was not appended to the buffer at once: a container, or a text that does not
-    /// fit or needs an escape.
+    /// Writes a value as `begin` does, where it was not appended to the buffer at once: a container, or a
+    /// text that does not fit or needs an escape.
     #[inline(never)]
-    fn begin_slowly<'a, W: Write>(
-        &self,
+    fn begin_slowly<W: Write>(
+        &mut self,
         out: &mut W,
-        buffer: &mut Buffer,
-        gathered: &mut Vec<(&'a str, &'a JsonValue)>,
         value: &'a JsonValue,
     ) -> io::Result<Option<Frame<'a>>>
-        ensures { (k : ℕ) → Begins (indent_of self.now.indent) k
-            (W.contents out.old, buffered buffer.old) (W.contents out.new, buffered buffer.new)
-            (encode_utf8_all (text (indent_of self.now.indent) k (view value.now)))
-            (reverse gathered.old.items) result (reverse gathered.new.items) }
+        ensures sent { (k : ℕ) → Begins k W.contents out.old out.new self.old self.new
+            (encode_utf8_all (text (indent_of self.old.indent) k (view value.now))) result }
+        ensures indent { self.new.indent ≡ self.old.indent }
     {
         match value {
-            JsonValue::Null => write_bytes(out, buffer, b"null")?,
-            JsonValue::Boolean(value) => write_boolean(out, buffer, *value)?,
-            JsonValue::Number(number) => write_number(out, buffer, number)?,
-            JsonValue::String(text) => quote(out, buffer, text)?,
-            JsonValue::Array(items) => return self.begin_array(out, buffer, items),
-            JsonValue::Object(members) => return self.begin_object(out, buffer, gathered, members),
+            JsonValue::Null => write_bytes(out, &mut self.buffer, b"null")?,
+            JsonValue::Boolean(value) => write_boolean(out, &mut self.buffer, *value)?,
+            JsonValue::Number(number) => write_number(out, &mut self.buffer, number)?,
+            JsonValue::String(text) => quote(out, &mut self.buffer, text)?,
+            JsonValue::Array(items) => return self.begin_array(out, items),
+            JsonValue::Object(members) => return self.begin_object(out, members),
         }
         Ok(None)
     }
 
     /// Writes the opening bracket and, in compact text, the items at the front that hold no others,
     /// as far as they fit. Returns what is left of the array then, and `None` where it is complete.
-    fn begin_array<'a, W: Write>(
-        &self,
+    fn begin_array<W: Write>(
+        &mut self,
         out: &mut W,
-        buffer: &mut Buffer,
         items: &'a [JsonValue],
     ) -> io::Result<Option<Frame<'a>>>
-        ensures { (k : ℕ) (gs : List Gathered) → Begins (indent_of self.now.indent) k
-            (W.contents out.old, buffered buffer.old) (W.contents out.new, buffered buffer.new)
-            (encode_utf8_all (text (indent_of self.now.indent) k (array (items_view items.now))))
-            gs result gs }
+        ensures sent { (k : ℕ) → Begins k W.contents out.old out.new self.old self.new
+            (encode_utf8_all (text (indent_of self.old.indent) k (array (items_view items.now))))
+            result }
+        ensures indent { self.new.indent ≡ self.old.indent }
     {
         if items.is_empty() {
-            write_bytes(out, buffer, b"[]")?;
+            write_bytes(out, &mut self.buffer, b"[]")?;
             return Ok(None);
         }
-        write_bytes(out, buffer, b"[")?;
-        let (rest, first) = self.run_of_items(buffer, items, true);
+        write_bytes(out, &mut self.buffer, b"[")?;
+        let (rest, first) = self.run_of_items(items, true);
         if rest.is_empty() && self.indent.is_none() {
-            write_bytes(out, buffer, b"]")?;
+            write_bytes(out, &mut self.buffer, b"]")?;
             return Ok(None);
         }
         Ok(Some(Frame::Items { rest, first }))
     }
 
-    /// The same of an object, whose members are put in order first. One member alone needs no
-    /// order, and so no memory.
-    fn begin_object<'a, W: Write>(
-        &self,
+    /// Writes the opening brace and, in compact text, the members at the front that hold no others, as far
+    /// as they fit. Members are put in order first; one alone needs no order, and so no memory.
+    fn begin_object<W: Write>(
+        &mut self,
         out: &mut W,
-        buffer: &mut Buffer,
-        gathered: &mut Vec<(&'a str, &'a JsonValue)>,
         members: &'a HashMap<String, JsonValue>,
     ) -> io::Result<Option<Frame<'a>>>
-        ensures { (k : ℕ) → Begins (indent_of self.now.indent) k
-            (W.contents out.old, buffered buffer.old) (W.contents out.new, buffered buffer.new)
-            (encode_utf8_all (text (indent_of self.now.indent) k
-            (object (members_view members.now.entries))))
-            (reverse gathered.old.items) result (reverse gathered.new.items) }
+        ensures sent { (k : ℕ) → Begins k W.contents out.old out.new self.old self.new
+            (encode_utf8_all (text (indent_of self.old.indent) k
+            (object (members_view members.now.entries)))) result }
+        ensures indent { self.new.indent ≡ self.old.indent }
     {
         if members.len() > 1 {
-            write_bytes(out, buffer, b"{")?;
-            let flat = gather_sorted(self.alloc, gathered, members)?;
-            let (left, first) = self.run_of_members(buffer, gathered, members.len(), true, flat);
+            write_bytes(out, &mut self.buffer, b"{")?;
+            let flat = gather_sorted(self.alloc, &mut self.gathered, members)?;
+            let (left, first) = self.run_of_members(members.len(), true, flat);
             if left == 0 && self.indent.is_none() {
-                write_bytes(out, buffer, b"}")?;
+                write_bytes(out, &mut self.buffer, b"}")?;
                 return Ok(None);
             }
             return Ok(Some(Frame::Members { left, first }));
         }
         let Some((key, value)) = members.iter().next() else {
-            write_bytes(out, buffer, b"{}")?;
+            write_bytes(out, &mut self.buffer, b"{}")?;
             return Ok(None);
         };
-        write_bytes(out, buffer, b"{")?;
+        write_bytes(out, &mut self.buffer, b"{")?;
         let key = key.as_str();
-        if quick_member(buffer, self.indent.is_none(), true, false, key, value) {
-            write_bytes(out, buffer, b"}")?;
+        if quick_member(
+            &mut self.buffer,
+            self.indent.is_none(),
+            true,
+            false,
+            key,
+            value,
+        ) {
+            write_bytes(out, &mut self.buffer, b"}")?;
             return Ok(None);
         }
         Ok(Some(Frame::Member { key, value }))
     }
 
     /// Writes, in compact text, the items at the front that hold no others, as far as they fit.
-    /// Gives the items that are left, and whether none stands before them.
+    /// Returns the items that are left, and whether none stands before them.
     #[inline(always)]
-    fn run_of_items<'a>(
-        &self,
-        buffer: &mut Buffer,
-        items: &'a [JsonValue],
-        first: bool,
-    ) -> (&'a [JsonValue], bool)
-        ensures buffers { (k : ℕ) → Buffers (buffered buffer.old) (buffered buffer.new)
-            (encode_utf8_all (items_text (indent_of self.now.indent) k first
+    fn run_of_items(&mut self, items: &'a [JsonValue], first: bool) -> (&'a [JsonValue], bool)
+        ensures buffers { (k : ℕ) → Buffers (buffered self.old.buffer) (buffered self.new.buffer)
+            (encode_utf8_all (items_text (indent_of self.old.indent) k first
             (items_view items.now)))
-            (encode_utf8_all (items_text (indent_of self.now.indent) k result.1
+            (encode_utf8_all (items_text (indent_of self.old.indent) k result.1
             (items_view result.0.now))) }
         ensures less { length result.0.now ≤ length items.now }
+        ensures kept { OnlyBuffers self.old self.new }
     {
         match self.indent {
-            None => quick_items(buffer, items, first),
+            None => quick_items(&mut self.buffer, items, first),
             Some(_) => (items, first),
         }
     }
 
-    /// The same of so many gathered members.
+    /// Writes, in compact text, those of so many gathered members that come first and hold no others, as
+    /// far as they fit. Returns how many are left, and whether none stands before them.
     #[inline(always)]
-    fn run_of_members<'a>(
-        &self,
-        buffer: &mut Buffer,
-        gathered: &mut Vec<(&'a str, &'a JsonValue)>,
-        left: usize,
-        first: bool,
-        flat: bool,
-    ) -> (usize, bool)
-        ensures buffers { (k : ℕ) → Buffers (buffered buffer.old) (buffered buffer.new)
-            (encode_utf8_all (members_text (indent_of self.now.indent) k first
-            (sorted_view (take left (reverse gathered.old.items)))))
-            (encode_utf8_all (members_text (indent_of self.now.indent) k result.1
-            (sorted_view (take result.0 (reverse gathered.new.items))))) }
-        ensures others { drop result.0 (reverse gathered.new.items)
-            ≡ drop left (reverse gathered.old.items) }
+    fn run_of_members(&mut self, left: usize, first: bool, flat: bool) -> (usize, bool)
+        ensures buffers { (k : ℕ) → Buffers (buffered self.old.buffer) (buffered self.new.buffer)
+            (encode_utf8_all (members_text (indent_of self.old.indent) k first
+            (sorted_view (take left (gathered_in self.old)))))
+            (encode_utf8_all (members_text (indent_of self.old.indent) k result.1
+            (sorted_view (take result.0 (gathered_in self.new))))) }
+        ensures others { drop result.0 (gathered_in self.new)
+            ≡ drop left (gathered_in self.old) }
         ensures less { result.0 ≤ left }
+        ensures indent { self.new.indent ≡ self.old.indent }
     {
         match self.indent {
-            None => quick_members(buffer, gathered, left, first, flat),
+            None => quick_members(&mut self.buffer, &mut self.gathered, left, first, flat),
             Some(_) => (left, first),
         }
     }
 
     /// Writes what stands before an item or a member.
     #[inline(always)]
-    fn separate<W: Write>(
-        &self,
-        out: &mut W,
-        buffer: &mut Buffer,
-        level: usize,
-        first: bool,
-    ) -> io::Result<()>
-        ensures { SendsText
-            (W.contents out.old, buffered buffer.old) (W.contents out.new, buffered buffer.new)
-            (before (indent_of self.now.indent) level first) result }
+    fn separate<W: Write>(&mut self, out: &mut W, level: usize, first: bool) -> io::Result<()>
+        ensures sent { SendsText W.contents out.old out.new self.old.buffer self.new.buffer
+            (before (indent_of self.old.indent) level first) result }
+        ensures kept { OnlyBuffers self.old self.new }
     {
         if !first {
-            write_bytes(out, buffer, b",")?;
+            write_bytes(out, &mut self.buffer, b",")?;
         }
-        self.newline(out, buffer, level)
+        self.newline(out, level)
     }
 
     #[inline(always)]
-    fn newline<W: Write>(&self, out: &mut W, buffer: &mut Buffer, level: usize) -> io::Result<()>
-        ensures { SendsText
-            (W.contents out.old, buffered buffer.old) (W.contents out.new, buffered buffer.new)
-            (newline (indent_of self.now.indent) level) result }
+    fn newline<W: Write>(&mut self, out: &mut W, level: usize) -> io::Result<()>
+        ensures sent { SendsText W.contents out.old out.new self.old.buffer self.new.buffer
+            (newline (indent_of self.old.indent) level) result }
+        ensures kept { OnlyBuffers self.old self.new }
     {
         match self.indent {
             None => Ok(()),
-            Some(indent) => write_line(out, buffer, indent, level),
+            Some(indent) => write_line(out, &mut self.buffer, indent, level),
         }
     }
 
     #[inline(always)]
-    fn colon<W: Write>(&self, out: &mut W, buffer: &mut Buffer) -> io::Result<()>
-        ensures { SendsText
-            (W.contents out.old, buffered buffer.old) (W.contents out.new, buffered buffer.new)
-            (name_separator ∷ after_colon (indent_of self.now.indent)) result }
+    fn colon<W: Write>(&mut self, out: &mut W) -> io::Result<()>
+        ensures sent { SendsText W.contents out.old out.new self.old.buffer self.new.buffer
+            (name_separator ∷ after_colon (indent_of self.old.indent)) result }
+        ensures kept { OnlyBuffers self.old self.new }
     {
         match self.indent {
-            None => write_bytes(out, buffer, b":"),
-            Some(_) => write_bytes(out, buffer, b": "),
+            None => write_bytes(out, &mut self.buffer, b":"),
+            Some(_) => write_bytes(out, &mut self.buffer, b": "),
         }
     }
 }
@@ -489,8 +453,7 @@ fn write_line<W: Write>(
     indent: &str,
     level: usize,
 ) -> io::Result<()>
-    ensures { SendsText
-        (W.contents out.old, buffered buffer.old) (W.contents out.new, buffered buffer.new)
+    ensures { SendsText W.contents out.old out.new buffer.old buffer.new
         (newline (Some (chars indent.now)) level) result }
 {
     write_bytes(out, buffer, b"\n")?;
@@ -501,8 +464,7 @@ fn write_line<W: Write>(
 }
 
 fn write_boolean<W: Write>(out: &mut W, buffer: &mut Buffer, value: bool) -> io::Result<()>
-    ensures { SendsText
-        (W.contents out.old, buffered buffer.old) (W.contents out.new, buffered buffer.new)
+    ensures { SendsText W.contents out.old out.new buffer.old buffer.new
         (text None 0 (boolean_tree value)) result }
 {
     write_bytes(

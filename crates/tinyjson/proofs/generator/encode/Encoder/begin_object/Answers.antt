@@ -7,54 +7,54 @@ use Rattle.tinyjson.proofs.Writing.Runs.{members_run, member_run, only_member_bu
 use Rattle.tinyjson.specs.declared.generator.pending.Frame.TheVariants.{Members}
 use Rattle.tinyjson.proofs.generator.encode.Encoder.begin_object.Goals as goal
 
-pub returns-in_err-write_bytes : goal.returns-in_err-write_bytes
-returns-in_err-write_bytes g c =
+pub returns-in_err-write_bytes-clause-sent : goal.returns-in_err-write_bytes-clause-sent
+returns-in_err-write_bytes-clause-sent g c =
     let some : 0 < length c.args.members.now.entries = omega (arith, c.len.ensures.len, c.if-len-gt1.true) in
     λ k. MatchResult-from_err _ _ _ c.from_residual.ensures.0 (λ _. object_stops (indent_of c.args.self.now.indent) k c.args.members.now.entries some c.in_err-write_bytes.ensures)
 
-pub returns-in_err-flat : goal.returns-in_err-flat
-returns-in_err-flat g c =
+pub returns-in_err-flat-clause-sent : goal.returns-in_err-flat-clause-sent
+returns-in_err-flat-clause-sent g c =
     let some : 0 < length c.args.members.now.entries = omega (arith, c.len.ensures.len, c.if-len-gt1.true) in
     λ k. MatchResult-from_err _ _ _ c.from_residual-in_err-flat.ensures.0 (λ _. object_ungathered (indent_of c.args.self.now.indent) k c.args.members.now.entries some c.in_ok-write_bytes.ensures)
 
-pub returns-in_err-write_bytes-2 : goal.returns-in_err-write_bytes-2
-returns-in_err-write_bytes-2 g c = λ k.
+pub returns-in_err-write_bytes-2-clause-sent : goal.returns-in_err-write_bytes-2-clause-sent
+returns-in_err-write_bytes-2-clause-sent g c = λ k.
     let w = indent_of c.args.self.now.indent in
-    let gs = reverse c.args.gathered.now.items in
+    let gs = reverse c.args.self.now.gathered.items in
     let hs = reverse c.gather_sorted.new.gathered.items in
-    let is = reverse c.run_of_members-left.new.gathered.items in
+    let is = reverse c.run_of_members-left.new.self.gathered.items in
     let left = c.run_of_members-left.result.0 in
     let first = c.run_of_members-left.result.1 in
     let out = g.W.Write.contents c.write_bytes.new.out in
     let some : 0 < length c.args.members.now.entries = omega (arith, c.len.ensures.len, c.if-len-gt1.true) in
     let zero : left ≡ 0 = omega (arith, c.if-left-eq0.true) in
-    let none : w ≡ None = is_compact w c.args.self.now.indent c.is_none.result c.is_none.ensures c.if-is_none.true in
+    let none : w ≡ None = is_compact w c.args.self.now.indent c.is_none.result (rw c.run_of_members-left.ensures.indent at c.is_none.ensures) c.if-is_none.true in
     MatchResult-from_err _ _ _ c.from_residual-in_err-write_bytes-2.ensures.0 (λ _. stopped_at_once w k 125 gs is (Members left first) (object_end w k left first is zero none) c.in_err-write_bytes-2.ensures
     (members_run w k c.len-then-len-gt1.result left first gs hs is c.run_of_members-left.ensures.others (c.run_of_members-left.ensures.buffers (k + 1) out)
     (members_open w k c.len-then-len-gt1.result c.args.members.now.entries gs hs some c.len-then-len-gt1.ensures.len c.in_ok-flat.ensures.members c.in_ok-flat.ensures.before c.in_ok-write_bytes.ensures)))
 
-pub returns-then-is_none : goal.returns-then-is_none
-returns-then-is_none g c = λ k.
+pub returns-then-is_none-clause-sent : goal.returns-then-is_none-clause-sent
+returns-then-is_none-clause-sent g c = λ k.
     let w = indent_of c.args.self.now.indent in
-    let gs = reverse c.args.gathered.now.items in
+    let gs = reverse c.args.self.now.gathered.items in
     let hs = reverse c.gather_sorted.new.gathered.items in
-    let is = reverse c.run_of_members-left.new.gathered.items in
+    let is = reverse c.run_of_members-left.new.self.gathered.items in
     let left = c.run_of_members-left.result.0 in
     let first = c.run_of_members-left.result.1 in
     let out = g.W.Write.contents c.write_bytes.new.out in
     let some : 0 < length c.args.members.now.entries = omega (arith, c.len.ensures.len, c.if-len-gt1.true) in
     let zero : left ≡ 0 = omega (arith, c.if-left-eq0.true) in
-    let none : w ≡ None = is_compact w c.args.self.now.indent c.is_none.result c.is_none.ensures c.if-is_none.true in
+    let none : w ≡ None = is_compact w c.args.self.now.indent c.is_none.result (rw c.run_of_members-left.ensures.indent at c.is_none.ensures) c.if-is_none.true in
     closed_at_once w k 125 gs is (Members left first) (object_end w k left first is zero none) (ap (λ i. drop i is) zero) c.in_ok-write_bytes-2.ensures
     (members_run w k c.len-then-len-gt1.result left first gs hs is c.run_of_members-left.ensures.others (c.run_of_members-left.ensures.buffers (k + 1) out)
     (members_open w k c.len-then-len-gt1.result c.args.members.now.entries gs hs some c.len-then-len-gt1.ensures.len c.in_ok-flat.ensures.members c.in_ok-flat.ensures.before c.in_ok-write_bytes.ensures))
 
-pub returns-then-len-gt1 : goal.returns-then-len-gt1
-returns-then-len-gt1 g c = λ k.
+pub returns-then-len-gt1-clause-sent : goal.returns-then-len-gt1-clause-sent
+returns-then-len-gt1-clause-sent g c = λ k.
     let w = indent_of c.args.self.now.indent in
-    let gs = reverse c.args.gathered.now.items in
+    let gs = reverse c.args.self.now.gathered.items in
     let hs = reverse c.gather_sorted.new.gathered.items in
-    let is = reverse c.run_of_members-left.new.gathered.items in
+    let is = reverse c.run_of_members-left.new.self.gathered.items in
     let left = c.run_of_members-left.result.0 in
     let first = c.run_of_members-left.result.1 in
     let out = g.W.Write.contents c.write_bytes.new.out in
@@ -62,15 +62,15 @@ returns-then-len-gt1 g c = λ k.
     members_run w k c.len-then-len-gt1.result left first gs hs is c.run_of_members-left.ensures.others (c.run_of_members-left.ensures.buffers (k + 1) out)
     (members_open w k c.len-then-len-gt1.result c.args.members.now.entries gs hs some c.len-then-len-gt1.ensures.len c.in_ok-flat.ensures.members c.in_ok-flat.ensures.before c.in_ok-write_bytes.ensures)
 
-pub returns-in_err-write_bytes-4 : goal.returns-in_err-write_bytes-4
-returns-in_err-write_bytes-4 g c =
+pub returns-in_err-write_bytes-4-clause-sent : goal.returns-in_err-write_bytes-4-clause-sent
+returns-in_err-write_bytes-4-clause-sent g c =
     let some : 0 < length c.args.members.now.entries = omega (arith, ap length c.iter.ensures.rest, ap length c.in-Some.ensures.steps) in
     λ k. MatchResult-from_err _ _ _ c.from_residual-in_err-write_bytes-4.ensures.0 (λ _. object_stops (indent_of c.args.self.now.indent) k c.args.members.now.entries some c.in_err-write_bytes-4.ensures)
 
-pub returns-in_err-write_bytes-5 : goal.returns-in_err-write_bytes-5
-returns-in_err-write_bytes-5 g c = λ k.
+pub returns-in_err-write_bytes-5-clause-sent : goal.returns-in_err-write_bytes-5-clause-sent
+returns-in_err-write_bytes-5-clause-sent g c = λ k.
     let w = indent_of c.args.self.now.indent in
-    let gs = reverse c.args.gathered.now.items in
+    let gs = reverse c.args.self.now.gathered.items in
     let key = c.as_str-key.result in
     let value = c.in-Some.value in
     let few : length c.args.members.now.entries < 2 = omega (arith, c.len.ensures.len, c.if-len-gt1.false) in
@@ -82,10 +82,10 @@ returns-in_err-write_bytes-5 g c = λ k.
     (member_opens w k c.args.members.now.entries c.next.new.self (c.in-Some.key.now, value.now) gs key value (sym c.iter.ensures.rest ∙ c.in-Some.ensures.steps) few c.as_str-key.ensures.value refl
     c.in_ok-write_bytes-4.ensures)))
 
-pub returns-then-quick_member : goal.returns-then-quick_member
-returns-then-quick_member g c = λ k.
+pub returns-then-quick_member-clause-sent : goal.returns-then-quick_member-clause-sent
+returns-then-quick_member-clause-sent g c = λ k.
     let w = indent_of c.args.self.now.indent in
-    let gs = reverse c.args.gathered.now.items in
+    let gs = reverse c.args.self.now.gathered.items in
     let key = c.as_str-key.result in
     let value = c.in-Some.value in
     let few : length c.args.members.now.entries < 2 = omega (arith, c.len.ensures.len, c.if-len-gt1.false) in
@@ -97,10 +97,10 @@ returns-then-quick_member g c = λ k.
     (member_opens w k c.args.members.now.entries c.next.new.self (c.in-Some.key.now, value.now) gs key value (sym c.iter.ensures.rest ∙ c.in-Some.ensures.steps) few c.as_str-key.ensures.value refl
     c.in_ok-write_bytes-4.ensures))
 
-pub returns : goal.returns
-returns g c = λ k.
+pub returns-clause-sent : goal.returns-clause-sent
+returns-clause-sent g c = λ k.
     let w = indent_of c.args.self.now.indent in
-    let gs = reverse c.args.gathered.now.items in
+    let gs = reverse c.args.self.now.gathered.items in
     let key = c.as_str-key.result in
     let value = c.in-Some.value in
     let few : length c.args.members.now.entries < 2 = omega (arith, c.len.ensures.len, c.if-len-gt1.false) in
@@ -109,12 +109,12 @@ returns g c = λ k.
     (member_opens w k c.args.members.now.entries c.next.new.self (c.in-Some.key.now, value.now) gs key value (sym c.iter.ensures.rest ∙ c.in-Some.ensures.steps) few c.as_str-key.ensures.value refl
     c.in_ok-write_bytes-4.ensures)
 
-pub returns-in_err-write_bytes-3 : goal.returns-in_err-write_bytes-3
-returns-in_err-write_bytes-3 g c =
+pub returns-in_err-write_bytes-3-clause-sent : goal.returns-in_err-write_bytes-3-clause-sent
+returns-in_err-write_bytes-3-clause-sent g c =
     let none : length c.args.members.now.entries ≡ 0 = ap length (sym c.iter.ensures.rest ∙ c.in_default.ensures.steps.0) in
     λ k. MatchResult-from_err _ _ _ c.from_residual-in_err-write_bytes-3.ensures.0 (λ _. part_same (empty_object (indent_of c.args.self.now.indent) k c.args.members.now.entries none) c.in_err-write_bytes-3.ensures)
 
-pub returns-in_default : goal.returns-in_default
-returns-in_default g c =
+pub returns-in_default-clause-sent : goal.returns-in_default-clause-sent
+returns-in_default-clause-sent g c =
     let none : length c.args.members.now.entries ≡ 0 = ap length (sym c.iter.ensures.rest ∙ c.in_default.ensures.steps.0) in
     λ k. record { written = sent_same (empty_object (indent_of c.args.self.now.indent) k c.args.members.now.entries none) c.in_ok-write_bytes-3.ensures; outside = refl }

@@ -1,4 +1,4 @@
-use Rattle.std.proofs.Common.{◌∷◌, [], length, reverse}
+use Rattle.std.proofs.Common.{◌≡◌, ◌∷◌, [], length, reverse}
 use Rattle.std.specs.Str.{encode_utf8_all}
 use Rattle.tinyjson.specs.Indent.{indent_of}
 use Rattle.tinyjson.specs.private.Pending.{IsStack, frames, unwritten}
@@ -9,9 +9,10 @@ abbrev pub invariant-loop-frame : goal.invariant-loop-frame
 invariant-loop-frame g l =
     let w = indent_of l.fn.self.indent in
     IsStack l.stack
-    × Sent (g.W.Write.contents l.fn.out, buffered l.fn.buffer) (g.W.Write.contents l.out, buffered l.buffer)
-    (encode_utf8_all (unwritten w (l.fn.frame ∷ []) (reverse l.fn.gathered.items)))
-    (encode_utf8_all (unwritten w (frames l.stack) (reverse l.gathered.items)))
+    × (l.self.indent ≡ l.fn.self.indent)
+    × Sent (g.W.Write.contents l.fn.out, buffered l.fn.self.buffer) (g.W.Write.contents l.out, buffered l.self.buffer)
+    (encode_utf8_all (unwritten w (l.fn.frame ∷ []) (reverse l.fn.self.gathered.items)))
+    (encode_utf8_all (unwritten w (frames l.stack) (reverse l.self.gathered.items)))
 
 abbrev pub decreases-loop-frame : goal.decreases-loop-frame
-decreases-loop-frame g l = length (encode_utf8_all (unwritten (indent_of l.fn.self.indent) (frames l.stack) (reverse l.gathered.items)))
+decreases-loop-frame g l = length (encode_utf8_all (unwritten (indent_of l.fn.self.indent) (frames l.stack) (reverse l.self.gathered.items)))

@@ -11,9 +11,10 @@ invariant-loop-key g l =
     let w = indent_of l.fn.self.indent in
     let fs = frames l.fn.stack in
     (l.stack ≡ l.fn.stack)
-    × Sent (g.W.Write.contents l.fn.out, buffered l.fn.buffer) (g.W.Write.contents l.out, buffered l.buffer)
-    (encode_utf8_all (unwritten w (Members l.fn.left l.fn.first ∷ fs) (reverse l.fn.gathered.items)))
-    (encode_utf8_all (unwritten w (Members l.left l.first ∷ fs) (reverse l.gathered.items)))
+    × (l.self.indent ≡ l.fn.self.indent)
+    × Sent (g.W.Write.contents l.fn.out, buffered l.fn.self.buffer) (g.W.Write.contents l.out, buffered l.self.buffer)
+    (encode_utf8_all (unwritten w (Members l.fn.left l.fn.first ∷ fs) (reverse l.fn.self.gathered.items)))
+    (encode_utf8_all (unwritten w (Members l.left l.first ∷ fs) (reverse l.self.gathered.items)))
 
 abbrev pub decreases-loop-key : goal.decreases-loop-key
 decreases-loop-key g l = l.left

@@ -1,10 +1,10 @@
 use Rattle.tinyjson.proofs.generator.encode.Encoder.resume.Goals as goal
 
-pub returns-in-Items : goal.returns-in-Items
-returns-in-Items g c = rw c.in-Items.is c.items.ensures
+pub returns-in-Items-clause-sent : goal.returns-in-Items-clause-sent
+returns-in-Items-clause-sent g c = rw c.in-Items.is c.items.ensures.sent
 
-pub returns-in-Member : goal.returns-in-Member
-returns-in-Member g c = rw c.in-Member.is c.only_member.ensures
+pub returns-in-Member-clause-sent : goal.returns-in-Member-clause-sent
+returns-in-Member-clause-sent g c = rw c.in-Member.is c.only_member.ensures.sent
 
-pub returns-in-Members : goal.returns-in-Members
-returns-in-Members g c = rw c.in-Members.is c.members.ensures
+pub returns-in-Members-clause-sent : goal.returns-in-Members-clause-sent
+returns-in-Members-clause-sent g c = rw c.in-Members.is c.members.ensures.sent
