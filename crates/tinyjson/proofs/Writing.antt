@@ -1,5 +1,5 @@
 -- The generator's functions, and the bytes that they write.
-pub mod Pending
+pub mod Containers
 pub mod Scalars
 pub mod Runs
 pub mod Sorted

@@ -2,7 +2,7 @@
 pub mod Comparison
 pub mod Steps
 pub mod Stack
-pub mod Pending
+pub mod Encoding
 pub mod Sorted
 pub mod Members
 pub mod Copy

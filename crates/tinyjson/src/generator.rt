@@ -7,7 +7,7 @@ ghost use Rattle.tinyjson.specs.View.{view};
 ghost use Rattle.tinyjson_output.specs.Written.{WritesText};
 
 mod encode;
-mod pending;
+mod frames;
 mod quick;
 mod sorted;
 

@@ -129,7 +129,8 @@ pub fn write_bytes<W: Write>(out: &mut W, buffer: &mut Buffer, bytes: &[u8]) -> 
     Ok(())
 }
 
-/// The same where the bytes do not fit.
+/// Writes what is buffered, and then appends the bytes to the empty buffer, or writes them too where it cannot
+/// hold them.
 #[cold]
 #[inline(never)]
 fn write_far<W: Write>(out: &mut W, buffer: &mut Buffer, bytes: &[u8]) -> io::Result<()>

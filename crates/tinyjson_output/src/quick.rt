@@ -34,7 +34,7 @@ pub fn quick_number(buffer: &mut Buffer, number: &JsonNumber) -> bool
     buffer.append_short(number) || append_layout(buffer, number)
 }
 
-/// The same by the parts of the number's text.
+/// Appends the text of a number part by part if it fits and has no exponent, and returns whether it did.
 #[inline(never)]
 fn append_layout(buffer: &mut Buffer, number: &JsonNumber) -> bool
     ensures { MatchBool result

@@ -5,16 +5,16 @@ use Rattle.std.specs.Str.{chars, IsUtf8}
 use Rattle.std.proofs.lemmas.Str.{encodes-append}
 use Rattle.std.proofs.lemmas.List.{take_at}
 use Rattle.tinyjson.specs.declared.value.JsonValue.{JsonValue}
-use Rattle.tinyjson.specs.declared.generator.pending.Frame.{Frame}
-use Rattle.tinyjson.specs.declared.generator.pending.Frame.TheVariants.{Items, Member, Members}
-use Rattle.tinyjson.specs.private.Pending.{Gathered, frame_text, others, unwritten, Opened, Finished}
+use Rattle.tinyjson.specs.declared.generator.frames.Frame.{Frame}
+use Rattle.tinyjson.specs.declared.generator.frames.Frame.TheVariants.{Items, Member, Members}
+use Rattle.tinyjson.specs.private.Encoding.{Gathered, frame_text, others, unwritten, Opened, Finished}
 use Rattle.tinyjson_output.specs.Buffer.{Output, Sent, SentPart}
 use Rattle.tinyjson.specs.private.Sorted.{sorted_view}
 use Rattle.tinyjson_grammar.specs.Text.{text, items_text, members_text, separator, quoted, escapes, newline, has_no_items}
 use Rattle.tinyjson_grammar.specs.Tree.{array, member, no_members}
 use Rattle.tinyjson.specs.View.{view, items_view}
 use Rattle.tinyjson_output.proofs.Callers.{enc, enc_cons, three, sent_begins as begins, sent_goes as goes, sent_stops as stops, sent_buffered as buffers, sent_written_more as written_more}
-use Rattle.tinyjson.proofs.Writing.Pending.{compact_member, opened, array_begins}
+use Rattle.tinyjson.proofs.Writing.Containers.{compact_member, opened, array_begins}
 use Rattle.tinyjson.proofs.Writing.Text.{member_text, enc_separator}
 
 -- what was appended to the buffer is taken back

@@ -79,7 +79,8 @@ fn quick_item(buffer: &mut Buffer, first: bool, item: &JsonValue) -> bool
     false
 }
 
-/// The same of the members that are left to an object; their values may be known to hold no others.
+/// The next members of an object, as far as they hold no others and fit, in compact text; their values may
+/// be known to hold no others. Returns how many are left, and whether none stands before them.
 #[inline(always)]
 pub(super) fn quick_members<'a>(
     buffer: &mut Buffer,

@@ -1,5 +1,5 @@
 use Rattle.std.proofs.Common.{◌≡◌, ◌∷◌, ◌-◌, suc, drop, reverse, arith, refl, ◌∙◌}
-use Rattle.tinyjson.specs.private.Pending.{Gathered}
+use Rattle.tinyjson.specs.private.Encoding.{Gathered}
 use Rattle.tinyjson_output.proofs.Callers.{sent_begins as begins}
 use Rattle.tinyjson.proofs.Writing.Runs.{member_on, skipped, left_after}
 use Rattle.tinyjson.proofs.generator.quick.quick_members.Goals as goal

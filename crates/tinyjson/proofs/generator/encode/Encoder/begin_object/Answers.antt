@@ -2,15 +2,15 @@ use Rattle.std.proofs.Common.{◌≡◌, ℕ, ◌+◌, None, false, drop, revers
 use Rattle.std.proofs.lemmas.Result.{MatchResult-from_err}
 use Rattle.tinyjson.specs.Indent.{indent_of}
 use Rattle.tinyjson.specs.View.{members_view}
-use Rattle.tinyjson.specs.private.Pending.{Opened, gathered_in}
+use Rattle.tinyjson.specs.private.Encoding.{Opened, gathered_in}
 use Rattle.tinyjson_grammar.specs.Text.{text}
 use Rattle.tinyjson_grammar.specs.Tree.{object}
 use Rattle.tinyjson_output.specs.Buffer.{buffered}
 use Rattle.tinyjson_output.proofs.Callers.{enc}
-use Rattle.tinyjson.proofs.Writing.Pending.{object_stops, object_ungathered, members_open, member_opens, is_compact}
+use Rattle.tinyjson.proofs.Writing.Containers.{object_stops, object_ungathered, members_open, member_opens, is_compact}
 use Rattle.tinyjson.proofs.Writing.Words.{empty_object, part_same, sent_same}
 use Rattle.tinyjson.proofs.Writing.Runs.{members_run, member_run, only_member_buffered, object_end, closed_at_once, stopped_at_once}
-use Rattle.tinyjson.specs.declared.generator.pending.Frame.TheVariants.{Member, Members}
+use Rattle.tinyjson.specs.declared.generator.frames.Frame.TheVariants.{Member, Members}
 use Rattle.tinyjson.proofs.generator.encode.Encoder.begin_object.Given.{Over}
 use Rattle.tinyjson.proofs.generator.encode.Encoder.begin_object.Goals as goal
 use Rattle.tinyjson.proofs.generator.encode.Encoder.begin_object.Goals.{After-run_of_members-left, After-quick_member}

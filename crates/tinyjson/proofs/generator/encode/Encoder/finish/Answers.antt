@@ -1,7 +1,7 @@
 use Rattle.std.proofs.Common.{◌∷◌, refl, sym, ◌∙◌, ap, reverse}
 use Rattle.std.proofs.lemmas.Result.{MatchResult-from_err}
 use Rattle.tinyjson.specs.Indent.{indent_of}
-use Rattle.tinyjson.specs.private.Pending.{frames, gathered_in, unwritten}
+use Rattle.tinyjson.specs.private.Encoding.{frames, gathered_in, unwritten}
 use Rattle.tinyjson.proofs.Writing.Words.{part_same}
 use Rattle.tinyjson_output.proofs.Callers.{sent_begins as begins, sent_stop as stop, sent_stops_then as stops_then, sent_written_none as written_none, sent_written_then as written_then, enc}
 use Rattle.tinyjson.proofs.generator.encode.Encoder.finish.Goals as goal

@@ -1,7 +1,7 @@
 use Rattle.std.proofs.Common.{◌≡◌, ◌∷◌, [], length, reverse}
 use Rattle.std.specs.Str.{encode_utf8_all}
 use Rattle.tinyjson.specs.Indent.{indent_of}
-use Rattle.tinyjson.specs.private.Pending.{IsStack, frames, unwritten}
+use Rattle.tinyjson.specs.private.Encoding.{IsStack, frames, unwritten}
 use Rattle.tinyjson_output.specs.Buffer.{buffered, Sent}
 use Rattle.tinyjson.proofs.generator.encode.Encoder.finish.Given as goal
 

@@ -3,7 +3,7 @@ use Rattle.tinyjson.specs.Indent.{indent_of}
 use Rattle.tinyjson_grammar.specs.Text.{text}
 use Rattle.tinyjson.specs.View.{view}
 use Rattle.tinyjson_output.proofs.Callers.{sent_begins as begins, sent_goes as goes, sent_stops as stops, enc}
-use Rattle.tinyjson.proofs.Writing.Pending.{begins_after}
+use Rattle.tinyjson.proofs.Writing.Containers.{begins_after}
 use Rattle.tinyjson.proofs.generator.encode.Encoder.item.Goals as goal
 
 pub returns-in_err-separate-clause-sent : goal.returns-in_err-separate-clause-sent

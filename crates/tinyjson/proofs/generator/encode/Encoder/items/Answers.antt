@@ -2,12 +2,12 @@ use Rattle.std.proofs.Common.{◌≡◌, [], ◌∷◌, ◌++◌, ◌+◌, ◌-�
 use Rattle.std.proofs.lemmas.List.{nil_from_length}
 use Rattle.std.proofs.lemmas.Result.{MatchResult-from_err}
 use Rattle.tinyjson.specs.Indent.{indent_of}
-use Rattle.tinyjson.specs.private.Pending.{IsStack, frames, unwritten}
+use Rattle.tinyjson.specs.private.Encoding.{IsStack, frames, unwritten}
 use Rattle.tinyjson_grammar.specs.Text.{newline}
-use Rattle.tinyjson.specs.declared.generator.pending.Frame.TheVariants.{Items}
+use Rattle.tinyjson.specs.declared.generator.frames.Frame.TheVariants.{Items}
 use Rattle.tinyjson_output.proofs.Callers.{sent_begins as begins, sent_stops as stops, sent_goes as goes, enc}
 use Rattle.tinyjson.proofs.Writing.Runs.{run_on}
-use Rattle.tinyjson.proofs.Writing.Pending.{items_next, items_end, advanced_open, closes, stopped_open}
+use Rattle.tinyjson.proofs.Writing.Containers.{items_next, items_end, advanced_open, closes, stopped_open}
 use Rattle.tinyjson.proofs.generator.encode.Encoder.items.Goals as goal
 
 pub loop-item-init : goal.loop-item-init

@@ -1,7 +1,7 @@
 use Rattle.std.proofs.Common.{◌≡◌, ◌+◌, ◌++◌, ◌∷◌, [], length, reverse}
 use Rattle.std.specs.Str.{encode_utf8_all}
 use Rattle.tinyjson.specs.Indent.{indent_of}
-use Rattle.tinyjson.specs.private.Pending.{frames, unwritten}
+use Rattle.tinyjson.specs.private.Encoding.{frames, unwritten}
 use Rattle.tinyjson_grammar.specs.Text.{items_text, newline}
 use Rattle.tinyjson.specs.View.{items_view}
 use Rattle.tinyjson_output.specs.Buffer.{buffered, Sent}

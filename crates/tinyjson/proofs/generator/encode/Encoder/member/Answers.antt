@@ -5,7 +5,7 @@ use Rattle.tinyjson.specs.Indent.{indent_of}
 use Rattle.tinyjson_grammar.specs.Text.{text, quoted, before, after_colon}
 use Rattle.tinyjson.specs.View.{view}
 use Rattle.tinyjson_output.proofs.Callers.{sent_goes as goes, sent_buffered_part as buffered_part, sent_stops as stops, sent_written_none as written_none, enc, three}
-use Rattle.tinyjson.proofs.Writing.Pending.{begins_after, compact_member, is_compact}
+use Rattle.tinyjson.proofs.Writing.Containers.{begins_after, compact_member, is_compact}
 use Rattle.tinyjson.proofs.generator.encode.Encoder.member.Goals as goal
 
 pub returns-then-quick_key-clause-sent : goal.returns-then-quick_key-clause-sent

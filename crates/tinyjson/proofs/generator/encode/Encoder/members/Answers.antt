@@ -1,12 +1,12 @@
 use Rattle.std.proofs.Common.{◌≡◌, ◌∷◌, ◌+◌, ◌-◌, suc, false, length, refl, sym, ◌∙◌, ap, subst, reverse, arith}
 use Rattle.std.proofs.lemmas.Result.{MatchResult-from_err}
 use Rattle.tinyjson.specs.Indent.{indent_of}
-use Rattle.tinyjson.specs.private.Pending.{IsStack, frames}
+use Rattle.tinyjson.specs.private.Encoding.{IsStack, frames}
 use Rattle.tinyjson_grammar.specs.Text.{newline}
-use Rattle.tinyjson.specs.declared.generator.pending.Frame.TheVariants.{Members}
+use Rattle.tinyjson.specs.declared.generator.frames.Frame.TheVariants.{Members}
 use Rattle.tinyjson_output.proofs.Callers.{sent_begins as begins, sent_stops as stops, sent_goes as goes, enc}
 use Rattle.tinyjson.proofs.Writing.Runs.{members_on}
-use Rattle.tinyjson.proofs.Writing.Pending.{members_next, members_end, advanced_open, closes, stopped_open}
+use Rattle.tinyjson.proofs.Writing.Containers.{members_next, members_end, advanced_open, closes, stopped_open}
 use Rattle.tinyjson.proofs.generator.encode.Encoder.members.Goals as goal
 
 pub loop-key-init : goal.loop-key-init

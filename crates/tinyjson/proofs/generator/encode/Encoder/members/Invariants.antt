@@ -1,9 +1,9 @@
 use Rattle.std.proofs.Common.{◌≡◌, ◌∷◌, reverse}
 use Rattle.std.specs.Str.{encode_utf8_all}
 use Rattle.tinyjson.specs.Indent.{indent_of}
-use Rattle.tinyjson.specs.private.Pending.{frames, unwritten}
+use Rattle.tinyjson.specs.private.Encoding.{frames, unwritten}
 use Rattle.tinyjson_output.specs.Buffer.{buffered, Sent}
-use Rattle.tinyjson.specs.declared.generator.pending.Frame.TheVariants.{Members}
+use Rattle.tinyjson.specs.declared.generator.frames.Frame.TheVariants.{Members}
 use Rattle.tinyjson.proofs.generator.encode.Encoder.members.Given as goal
 
 abbrev pub invariant-loop-key : goal.invariant-loop-key

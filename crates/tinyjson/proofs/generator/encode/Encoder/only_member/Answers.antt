@@ -1,11 +1,11 @@
 use Rattle.std.proofs.Common.{◌≡◌, ◌∷◌, ◌-◌, false, length, refl, reverse, arith}
 use Rattle.std.proofs.lemmas.Result.{MatchResult-from_err}
 use Rattle.tinyjson.specs.Indent.{indent_of}
-use Rattle.tinyjson.specs.private.Pending.{frames, unwritten}
+use Rattle.tinyjson.specs.private.Encoding.{frames, unwritten}
 use Rattle.tinyjson_grammar.specs.Text.{newline}
-use Rattle.tinyjson.specs.declared.generator.pending.Frame.TheVariants.{Member, Members}
+use Rattle.tinyjson.specs.declared.generator.frames.Frame.TheVariants.{Member, Members}
 use Rattle.tinyjson_output.proofs.Callers.{sent_stops as stops, sent_goes as goes, sent_written_none as written_none, enc}
-use Rattle.tinyjson.proofs.Writing.Pending.{member_next, members_end, advanced_open, closes, stopped_open}
+use Rattle.tinyjson.proofs.Writing.Containers.{member_next, members_end, advanced_open, closes, stopped_open}
 use Rattle.tinyjson.proofs.generator.encode.Encoder.only_member.Goals as goal
 
 pub returns-in_err-begun-clause-sent : goal.returns-in_err-begun-clause-sent

@@ -1,4 +1,4 @@
--- What is still to be written, by the open containers. For private contracts.
+-- What an encoder sends, and what its open containers have still to write. For private contracts.
 use Rattle.std.specs.Prelude.{◌≡◌, ℕ, ◌+◌, ◌-◌, ◌<◌, true, List, [], ◌∷◌, ◌++◌, Option, Result, MatchResult, MatchOption, length, take}
 use Rattle.std.specs.Prelude.{drop, reverse, encode_utf8_all}
 use Rattle.std.specs.Borrow.{Bor}
@@ -10,9 +10,9 @@ use Rattle.tinyjson_grammar.specs.Text.{items_text, members_text, newline}
 use Rattle.tinyjson.specs.private.Sorted.{sorted_view}
 use Rattle.tinyjson_output.specs.Buffer.{buffered, Output, Sent, SentPart}
 use Rattle.tinyjson.specs.declared.value.JsonValue.{JsonValue}
-use Rattle.tinyjson.specs.declared.generator.pending.Frame.{Frame}
-use Rattle.tinyjson.specs.declared.generator.pending.Frame.TheVariants.{Items, Member, Members}
-use Rattle.tinyjson.specs.declared.generator.pending.Stack.{Stack}
+use Rattle.tinyjson.specs.declared.generator.frames.Frame.{Frame}
+use Rattle.tinyjson.specs.declared.generator.frames.Frame.TheVariants.{Items, Member, Members}
+use Rattle.tinyjson.specs.declared.generator.frames.Stack.{Stack}
 use Rattle.tinyjson.specs.declared.generator.encode.Encoder.{Encoder}
 use Rattle.tinyjson.specs.Indent.{indent_of}
 

@@ -4,9 +4,9 @@ use Rattle.std.specs.Borrow.{Bor}
 use Rattle.std.specs.Str.{chars, IsUtf8}
 use Rattle.std.proofs.lemmas.Str.{encodes-append}
 use Rattle.tinyjson.specs.declared.value.JsonValue.{JsonValue}
-use Rattle.tinyjson.specs.declared.generator.pending.Frame.{Frame}
-use Rattle.tinyjson.specs.declared.generator.pending.Frame.TheVariants.{Items, Member, Members}
-use Rattle.tinyjson.specs.declared.generator.pending.Stack.{Stack}
+use Rattle.tinyjson.specs.declared.generator.frames.Frame.{Frame}
+use Rattle.tinyjson.specs.declared.generator.frames.Frame.TheVariants.{Items, Member, Members}
+use Rattle.tinyjson.specs.declared.generator.frames.Stack.{Stack}
 use Rattle.tinyjson_output.specs.Buffer.{Output, Sent, SentPart, SendsFrom}
 use Rattle.std.specs.Bool.{IsTrue}
 use Rattle.std.specs.Option.{is_some}
@@ -15,7 +15,7 @@ use Rattle.tinyjson_grammar.specs.Text.{text, items_text, members_text, before, 
 use Rattle.tinyjson_grammar.specs.Tree.{Members as Entries, array, object, member, no_members}
 use Rattle.tinyjson.specs.View.{view, items_view, members_view}
 use Rattle.tinyjson.specs.private.Sorted.{sorted_view}
-use Rattle.tinyjson.specs.private.Pending.{Gathered, frame_text, others, unwritten, frames, IsStack, Opened, BeginsFrom, Advanced, AdvancesFrom}
+use Rattle.tinyjson.specs.private.Encoding.{Gathered, frame_text, others, unwritten, frames, IsStack, Opened, BeginsFrom, Advanced, AdvancesFrom}
 use Rattle.tinyjson_output.proofs.Callers.{sent_goes as goes, sent_stop as stop, sent_stops as stops, sent_written_more as written_more, sent_written_none as written_none, enc, enc_cons, closed, three, quoted_bytes}
 use Rattle.tinyjson.proofs.Writing.Sorted.{Entry}
 use Rattle.tinyjson.proofs.Writing.Text.{member_text, some_members, enc_separator}

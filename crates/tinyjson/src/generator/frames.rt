@@ -1,6 +1,6 @@
-//! What is still to be written.
+//! The open containers, and what each has still to write.
 ghost use Rattle.std.specs.Prelude.{◌≡◌, ◌+◌, ◌∷◌, [], length, MatchOption, OnOk};
-ghost use Rattle.tinyjson.specs.private.Pending.{IsStack, frames};
+ghost use Rattle.tinyjson.specs.private.Encoding.{IsStack, frames};
 
 use crate::value::JsonValue;
 use std::alloc::{AllocError, Global};
