@@ -16,6 +16,7 @@ use Rattle.tinyjson.proofs.Reading.Containers.{no_key, colon_read, colon_other, 
 use Rattle.tinyjson_tokens.proofs.Callers.{Leads_whites, Halts_here, white_after}
 use Rattle.tinyjson.specs.declared.parser.stack.Frame.{Frame as StackFrame}
 use Rattle.tinyjson.specs.declared.parser.stack.Frame.TheVariants as frame
+use Rattle.tinyjson.specs.declared.parser.stack.Progress.TheVariants.{Complete}
 use Rattle.tinyjson.specs.declared.parser.stack.Stack.{Stack}
 use Rattle.tinyjson.specs.declared.value.JsonValue.{JsonValue}
 
@@ -153,7 +154,7 @@ module _ (s : Stack) (w : HasComplete s) (n : ℕ) (os : List StackFrame) (i : o
   pub array_within : n ≤ length s.values.items
   array_within = omega (arith, array_size, array_lies.0)
 
-  pub array_complete : at s true ≡ next (in_array (map view (drop n s.values.items)) ∷ frames_over os (take n s.values.items) s.keys.items (maps_of s)) after
+  pub array_complete : at s Complete ≡ next (in_array (map view (drop n s.values.items)) ∷ frames_over os (take n s.values.items) s.keys.items (maps_of s)) after
   array_complete =
       ap₂ (λ ps ws. complete_over ps (reverse ws) s.keys.items (maps_of s)) i w.values
       ∙ complete_item n os w.front w.last s.keys.items (maps_of s) array_lies.0
@@ -189,7 +190,7 @@ module _ (s : Stack) (w : HasComplete s) (n m : ℕ) (os : List StackFrame) (i :
   pub member_keys : m ≤ length s.keys.items
   member_keys = member_lies.1
 
-  pub member_complete : at s true ≡ next (frames_over (frame.Object n m ∷ os) s.values.items s.keys.items (maps_of s)) after
+  pub member_complete : at s Complete ≡ next (frames_over (frame.Object n m ∷ os) s.values.items s.keys.items (maps_of s)) after
   member_complete =
       ap₂ (λ ps ws. complete_over ps (reverse ws) s.keys.items (maps_of s)) i w.values
       ∙ complete_member n m os w.front w.last s.keys.items (maps_of s) member_lies.0 member_lies.1 member_lies.2

@@ -1,5 +1,5 @@
 -- The containers that are open, in the words of the machine. For private contracts.
-use Rattle.std.specs.Prelude.{◌≡◌, ℕ, suc, ◌+◌, ◌≤◌, Bool, true, false, List, [], ◌∷◌, ◌++◌, map, take, drop, reverse, length, String, ⊤}
+use Rattle.std.specs.Prelude.{◌≡◌, ℕ, suc, ◌+◌, ◌≤◌, true, List, [], ◌∷◌, ◌++◌, map, take, drop, reverse, length, String, ⊤}
 use Rattle.std.specs.declared.alloc.Global.{Global}
 use Rattle.tinyjson_grammar.specs.Tree.{Tree, array, object, items_of, Members, no_members, put}
 use Rattle.tinyjson.specs.Access.{JsonMap}
@@ -7,6 +7,8 @@ use Rattle.tinyjson.specs.View.{view, text, members_view}
 use Rattle.tinyjson_grammar.specs.Machine.{Frame, in_array, at_key, at_value, awaited, after, Next, next, complete}
 use Rattle.tinyjson.specs.declared.parser.stack.Frame.{Frame as StackFrame}
 use Rattle.tinyjson.specs.declared.parser.stack.Frame.TheVariants as frame
+use Rattle.tinyjson.specs.declared.parser.stack.Progress.{Progress}
+use Rattle.tinyjson.specs.declared.parser.stack.Progress.TheVariants.{Awaits, Complete}
 use Rattle.tinyjson.specs.declared.parser.stack.Stack.{Stack}
 use Rattle.tinyjson.specs.declared.value.JsonValue.{JsonValue}
 
@@ -73,9 +75,9 @@ abbrev pub frames : Stack → List Frame
 frames s = frames_over (open_of s) s.values.items s.keys.items (maps_of s)
 
 -- a value is awaited, or is complete
-abbrev pub at : Stack → Bool → Next
-at s false = next (frames s) awaited
-at s true = complete_over (open_of s) (reverse s.values.items) s.keys.items (maps_of s)
+abbrev pub at : Stack → Progress → Next
+at s Awaits = next (frames s) awaited
+at s Complete = complete_over (open_of s) (reverse s.values.items) s.keys.items (maps_of s)
 
 -- the last value is complete, after values that the open containers have
 pub record HasComplete (s : Stack) : Type 0 where
@@ -85,9 +87,9 @@ pub record HasComplete (s : Stack) : Type 0 where
   pub place : TakesValue (open_of s)
   pub lies : Lies (open_of s) (length front) (length s.keys.items)
 
-abbrev pub IsSound : Stack → Bool → Type 0
-IsSound s false = Lies (open_of s) (length s.values.items) (length s.keys.items)
-IsSound s true = HasComplete s
+abbrev pub IsSound : Stack → Progress → Type 0
+IsSound s Awaits = Lies (open_of s) (length s.values.items) (length s.keys.items)
+IsSound s Complete = HasComplete s
 
 -- the container that was opened last
 abbrev pub Innermost : Stack → StackFrame → Type 0
@@ -106,12 +108,12 @@ pub record BeginsMember (old new : Stack) (key : List ℕ) : Type 0 where
 -- the innermost container, after its last value, was closed, and this is its value
 pub record ClosesArray (old new : Stack) (v : JsonValue) : Type 0 where
   pub items : List Tree
-  pub before : at old true ≡ next (in_array items ∷ frames new) after
+  pub before : at old Complete ≡ next (in_array items ∷ frames new) after
   pub value : view v ≡ array (items_of items)
-  pub sound : IsSound new false
+  pub sound : IsSound new Awaits
 
 pub record ClosesObject (old new : Stack) (v : JsonValue) : Type 0 where
   pub members : Members
-  pub before : at old true ≡ next (at_key members ∷ frames new) after
+  pub before : at old Complete ≡ next (at_key members ∷ frames new) after
   pub value : view v ≡ object members
-  pub sound : IsSound new false
+  pub sound : IsSound new Awaits

@@ -8,10 +8,11 @@ ghost use Rattle.tinyjson_tokens.specs.Steps.{Reads};
 ghost use Rattle.tinyjson_grammar.specs.Tree.{number};
 ghost use Rattle.tinyjson.specs.View.{view, text};
 ghost use Rattle.tinyjson.specs.declared.parser.stack.Frame.TheVariants as frame;
+ghost use Rattle.tinyjson.specs.declared.parser.stack.Progress.TheVariants.{Awaits, Complete};
 
 use super::error::JsonParseErrorKind;
 use super::reader::Reader;
-use super::stack::{Frame, Stack};
+use super::stack::{Frame, Progress, Stack};
 use crate::value::{JsonKind, JsonValue};
 use std::collections::HashMap;
 use tinyjson_number::JsonNumber;
@@ -27,16 +28,15 @@ fn fits(limit: Option<usize>, depth: usize) -> bool
     }
 }
 
-// Where a function returns `true`, a value is complete, and is the last on the stack; otherwise a value is awaited.
 impl<S: Tokens> Reader<S> {
     /// Opens the array whose bracket comes next, or reads all of it if it is empty.
     pub(super) fn array(
         &mut self,
         limit: Option<usize>,
         stack: &mut Stack,
-    ) -> Result<bool, JsonParseErrorKind>
+    ) -> Result<Progress, JsonParseErrorKind>
         requires shown { S.sight.shows self.old.tokens.source (Some begin_array) }
-        requires sound { IsSound stack.old false }
+        requires sound { IsSound stack.old Awaits }
         ensures reads { Reads S.sight limit self.old.tokens.source
             (next (frames stack.old) awaited) result (at stack.new) self.new.tokens.source }
         ensures sound { IfOk result (IsSound stack.new) }
@@ -55,7 +55,7 @@ impl<S: Tokens> Reader<S> {
                 if stack.open_array().is_err() {
                     return Err(JsonParseErrorKind::OutOfMemory);
                 }
-                Ok(false)
+                Ok(Progress::Awaits)
             }
         }
     }
@@ -65,9 +65,9 @@ impl<S: Tokens> Reader<S> {
         &mut self,
         limit: Option<usize>,
         stack: &mut Stack,
-    ) -> Result<bool, JsonParseErrorKind>
+    ) -> Result<Progress, JsonParseErrorKind>
         requires shown { S.sight.shows self.old.tokens.source (Some begin_object) }
-        requires sound { IsSound stack.old false }
+        requires sound { IsSound stack.old Awaits }
         ensures reads { Reads S.sight limit self.old.tokens.source
             (next (frames stack.old) awaited) result (at stack.new) self.new.tokens.source }
         ensures sound { IfOk result (IsSound stack.new) }
@@ -97,8 +97,8 @@ impl<S: Tokens> Reader<S> {
         &mut self,
         stack: &mut Stack,
         value: JsonValue,
-    ) -> Result<bool, JsonParseErrorKind>
-        requires sound { IsSound stack.old false }
+    ) -> Result<Progress, JsonParseErrorKind>
+        requires sound { IsSound stack.old Awaits }
         ensures reads { (limit : Option ℕ) → Reads S.sight limit self.old.tokens.source
             (complete true (frames stack.old) (view value) true) result (at stack.new)
             self.new.tokens.source }
@@ -111,7 +111,7 @@ impl<S: Tokens> Reader<S> {
         if stack.push(value).is_err() {
             return Err(JsonParseErrorKind::OutOfMemory);
         }
-        Ok(true)
+        Ok(Progress::Complete)
     }
 
     /// The same for a number, which is made a value where it belongs.
@@ -120,8 +120,8 @@ impl<S: Tokens> Reader<S> {
         &mut self,
         stack: &mut Stack,
         decimal: JsonNumber,
-    ) -> Result<bool, JsonParseErrorKind>
-        requires sound { IsSound stack.old false }
+    ) -> Result<Progress, JsonParseErrorKind>
+        requires sound { IsSound stack.old Awaits }
         ensures reads { (limit : Option ℕ) → Reads S.sight limit self.old.tokens.source
             (complete true (frames stack.old) (number decimal.decimal) true) result
             (at stack.new) self.new.tokens.source }
@@ -134,7 +134,7 @@ impl<S: Tokens> Reader<S> {
         if stack.push_number(decimal).is_err() {
             return Err(JsonParseErrorKind::OutOfMemory);
         }
-        Ok(true)
+        Ok(Progress::Complete)
     }
 
     /// Makes a value the key of its object, and reads the colon.
@@ -143,8 +143,8 @@ impl<S: Tokens> Reader<S> {
         &mut self,
         stack: &mut Stack,
         value: JsonValue,
-    ) -> Result<bool, JsonParseErrorKind>
-        requires sound { IsSound stack.old false }
+    ) -> Result<Progress, JsonParseErrorKind>
+        requires sound { IsSound stack.old Awaits }
         requires awaits { AwaitsKey stack.old }
         ensures reads { (limit : Option ℕ) → Reads S.sight limit self.old.tokens.source
             (complete true (frames stack.old) (view value) true) result (at stack.new)
@@ -164,8 +164,8 @@ impl<S: Tokens> Reader<S> {
 
     /// Reads a string as the key of its object, and the colon, if a string comes next.
     #[inline(always)]
-    fn key(&mut self, stack: &mut Stack) -> Result<bool, JsonParseErrorKind>
-        requires sound { IsSound stack.old false }
+    fn key(&mut self, stack: &mut Stack) -> Result<Progress, JsonParseErrorKind>
+        requires sound { IsSound stack.old Awaits }
         requires awaits { AwaitsKey stack.old }
         ensures reads { (limit : Option ℕ) → Reads S.sight limit self.old.tokens.source
             (next (frames stack.old) awaited) result (at stack.new) self.new.tokens.source }
@@ -178,14 +178,14 @@ impl<S: Tokens> Reader<S> {
                 let key = self.tokens.string()?;
                 self.colon(stack, key)
             }
-            _ => Ok(false),
+            _ => Ok(Progress::Awaits),
         }
     }
 
     /// Reads the colon after a key.
     #[inline(always)]
-    fn colon(&mut self, stack: &mut Stack, key: String) -> Result<bool, JsonParseErrorKind>
-        requires sound { IsSound stack.old false }
+    fn colon(&mut self, stack: &mut Stack, key: String) -> Result<Progress, JsonParseErrorKind>
+        requires sound { IsSound stack.old Awaits }
         requires awaits { AwaitsKey stack.old }
         ensures reads { (limit : Option ℕ) → Reads S.sight limit self.old.tokens.source
             (next (frames stack.old) (colon (text key))) result (at stack.new)
@@ -199,7 +199,7 @@ impl<S: Tokens> Reader<S> {
                 if stack.begin_member(key).is_err() {
                     return Err(JsonParseErrorKind::OutOfMemory);
                 }
-                Ok(false)
+                Ok(Progress::Awaits)
             }
             Some(c) => {
                 self.tokens.source.consume(c);
@@ -210,18 +210,22 @@ impl<S: Tokens> Reader<S> {
     }
 
     /// Reads a comma or the bracket that closes the array, after an item.
-    fn after_item(&mut self, stack: &mut Stack, values: usize) -> Result<bool, JsonParseErrorKind>
-        requires sound { IsSound stack.old true }
+    fn after_item(
+        &mut self,
+        stack: &mut Stack,
+        values: usize,
+    ) -> Result<Progress, JsonParseErrorKind>
+        requires sound { IsSound stack.old Complete }
         requires array { Innermost stack.old (frame.Array values) }
         ensures reads { (limit : Option ℕ) → Reads S.sight limit self.old.tokens.source
-            (at stack.old true) result (at stack.new) self.new.tokens.source }
+            (at stack.old Complete) result (at stack.new) self.new.tokens.source }
         ensures sound { IfOk result (IsSound stack.new) }
         ensures left { OnOk result (S.left self.new.tokens.source < S.left self.old.tokens.source) }
     {
         match self.tokens.source.skip_white() {
             Some(',') => {
                 self.tokens.source.consume(',');
-                Ok(false)
+                Ok(Progress::Awaits)
             }
             Some(']') => {
                 let Ok(array) = stack.close_array(values) else {
@@ -244,11 +248,11 @@ impl<S: Tokens> Reader<S> {
         stack: &mut Stack,
         values: usize,
         keys: usize,
-    ) -> Result<bool, JsonParseErrorKind>
-        requires sound { IsSound stack.old true }
+    ) -> Result<Progress, JsonParseErrorKind>
+        requires sound { IsSound stack.old Complete }
         requires member { Innermost stack.old (frame.Member values keys) }
         ensures reads { (limit : Option ℕ) → Reads S.sight limit self.old.tokens.source
-            (at stack.old true) result (at stack.new) self.new.tokens.source }
+            (at stack.old Complete) result (at stack.new) self.new.tokens.source }
         ensures sound { IfOk result (IsSound stack.new) }
         ensures left { OnOk result (S.left self.new.tokens.source < S.left self.old.tokens.source) }
     {
@@ -280,11 +284,11 @@ impl<S: Tokens> Reader<S> {
         &mut self,
         stack: &mut Stack,
         frame: Frame,
-    ) -> Result<bool, JsonParseErrorKind>
-        requires sound { IsSound stack.old true }
+    ) -> Result<Progress, JsonParseErrorKind>
+        requires sound { IsSound stack.old Complete }
         requires innermost { Innermost stack.old frame }
         ensures reads { (limit : Option ℕ) → Reads S.sight limit self.old.tokens.source
-            (at stack.old true) result (at stack.new) self.new.tokens.source }
+            (at stack.old Complete) result (at stack.new) self.new.tokens.source }
         ensures sound { IfOk result (IsSound stack.new) }
         ensures left { OnOk result (S.left self.new.tokens.source < S.left self.old.tokens.source) }
     {

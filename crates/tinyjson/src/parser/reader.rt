@@ -12,9 +12,10 @@ ghost use Rattle.tinyjson_tokens.specs.Steps.{NeedsNone, Reads};
 ghost use Rattle.tinyjson_grammar.specs.Tree.{Tree};
 ghost use Rattle.tinyjson.specs.View.{view};
 ghost use Rattle.tinyjson_grammar.specs.declared.error.JsonParseErrorKind.TheVariants.{OutOfMemory};
+ghost use Rattle.tinyjson.specs.declared.parser.stack.Progress.TheVariants.{Awaits, Complete};
 
 use super::error::{JsonParseError, JsonParseErrorKind};
-use super::stack::Stack;
+use super::stack::{Progress, Stack};
 use crate::value::JsonValue;
 use std::alloc::Global;
 use tinyjson_number::JsonNumber;
@@ -67,10 +68,14 @@ impl<S: Tokens> Reader<S> {
 
     /// Reads the literal that begins with this letter, and puts it where it belongs.
     #[inline(always)]
-    fn literal_value(&mut self, stack: &mut Stack, first: char) -> Result<bool, JsonParseErrorKind>
+    fn literal_value(
+        &mut self,
+        stack: &mut Stack,
+        first: char,
+    ) -> Result<Progress, JsonParseErrorKind>
         requires shown { S.sight.shows self.old.tokens.source (Some first) }
         requires begins { BeginsLiteral first }
-        requires sound { IsSound stack.old false }
+        requires sound { IsSound stack.old Awaits }
         ensures reads { (limit : Option ℕ) → Reads S.sight limit self.old.tokens.source
             (next (frames stack.old) awaited) result (at stack.new) self.new.tokens.source }
         ensures sound { IfOk result (IsSound stack.new) }
@@ -82,9 +87,9 @@ impl<S: Tokens> Reader<S> {
 
     /// Reads the string whose quote comes next, and puts it where it belongs.
     #[inline(always)]
-    fn string_value(&mut self, stack: &mut Stack) -> Result<bool, JsonParseErrorKind>
+    fn string_value(&mut self, stack: &mut Stack) -> Result<Progress, JsonParseErrorKind>
         requires shown { S.sight.shows self.old.tokens.source (Some quotation_mark) }
-        requires sound { IsSound stack.old false }
+        requires sound { IsSound stack.old Awaits }
         ensures reads { (limit : Option ℕ) → Reads S.sight limit self.old.tokens.source
             (next (frames stack.old) awaited) result (at stack.new) self.new.tokens.source }
         ensures sound { IfOk result (IsSound stack.new) }
@@ -98,9 +103,9 @@ impl<S: Tokens> Reader<S> {
     /// Reads the number whose first character, a minus sign or a digit, comes next, and puts it
     /// where it belongs.
     #[inline(always)]
-    fn number(&mut self, stack: &mut Stack) -> Result<bool, JsonParseErrorKind>
+    fn number(&mut self, stack: &mut Stack) -> Result<Progress, JsonParseErrorKind>
         requires begins { BeginsNumber S.sight self.old.tokens.source }
-        requires sound { IsSound stack.old false }
+        requires sound { IsSound stack.old Awaits }
         ensures reads { (limit : Option ℕ) → Reads S.sight limit self.old.tokens.source
             (next (frames stack.old) awaited) result (at stack.new) self.new.tokens.source }
         ensures sound { IfOk result (IsSound stack.new) }
@@ -117,9 +122,9 @@ impl<S: Tokens> Reader<S> {
 
     /// Reads the number by its exponent, or piece by piece.
     #[inline(never)]
-    fn long_number(&mut self, stack: &mut Stack) -> Result<bool, JsonParseErrorKind>
+    fn long_number(&mut self, stack: &mut Stack) -> Result<Progress, JsonParseErrorKind>
         requires begins { BeginsNumber S.sight self.old.tokens.source }
-        requires sound { IsSound stack.old false }
+        requires sound { IsSound stack.old Awaits }
         ensures reads { (limit : Option ℕ) → Reads S.sight limit self.old.tokens.source
             (next (frames stack.old) awaited) result (at stack.new) self.new.tokens.source }
         ensures sound { IfOk result (IsSound stack.new) }
@@ -133,17 +138,16 @@ impl<S: Tokens> Reader<S> {
         self.complete_number(stack, number)
     }
 
-    /// Reads the value that begins with this character, or opens a container; `true` where a value
-    /// is complete.
+    /// Reads the value that begins with this character, or opens a container.
     fn value(
         &mut self,
         limit: Option<usize>,
         stack: &mut Stack,
         first: char,
-    ) -> Result<bool, JsonParseErrorKind>
+    ) -> Result<Progress, JsonParseErrorKind>
         requires shown { S.sight.shows self.old.tokens.source (Some first) }
         requires no_white { is_white first ≡ false }
-        requires sound { IsSound stack.old false }
+        requires sound { IsSound stack.old Awaits }
         ensures reads { Reads S.sight limit self.old.tokens.source
             (next (frames stack.old) awaited) result (at stack.new) self.new.tokens.source }
         ensures sound { IfOk result (IsSound stack.new) }
@@ -161,8 +165,12 @@ impl<S: Tokens> Reader<S> {
     }
 
     /// Reads white space and a value, or opens a container.
-    fn next(&mut self, limit: Option<usize>, stack: &mut Stack) -> Result<bool, JsonParseErrorKind>
-        requires sound { IsSound stack.old false }
+    fn next(
+        &mut self,
+        limit: Option<usize>,
+        stack: &mut Stack,
+    ) -> Result<Progress, JsonParseErrorKind>
+        requires sound { IsSound stack.old Awaits }
         ensures reads { Reads S.sight limit self.old.tokens.source
             (next (frames stack.old) awaited) result (at stack.new) self.new.tokens.source }
         ensures sound { IfOk result (IsSound stack.new) }
@@ -242,15 +250,15 @@ impl<S: Tokens> Reader<S> {
         requires shown { S.sight.shows self.old.tokens.source (Some first) }
         requires no_white { is_white first ≡ false }
         requires no_literal { ¬ (BeginsLiteral first) }
-        requires sound { IsSound stack.old false }
+        requires sound { IsSound stack.old Awaits }
         ensures reads { Reads S.sight limit self.old.tokens.source
             (next (frames stack.old) awaited) result (λ v. next [] (finished (view v)))
             self.new.tokens.source }
         ensures end { OnOk result (S.sight.shows self.new.tokens.source None) }
         ensures memory { IfErr result (λ kind. kind ≡ OutOfMemory → IsTrue (begins_growth first)) }
     {
-        let is_complete = self.value(limit, stack, first)?;
-        self.rest(limit, stack, is_complete)
+        let progress = self.value(limit, stack, first)?;
+        self.rest(limit, stack, progress)
     }
 
     /// Reads what is left. One turn for each value that is read or container that is opened.
@@ -258,18 +266,18 @@ impl<S: Tokens> Reader<S> {
         &mut self,
         limit: Option<usize>,
         stack: &mut Stack,
-        is_complete: bool,
+        progress: Progress,
     ) -> Result<JsonValue, JsonParseErrorKind>
-        requires sound { IsSound stack.old is_complete }
-        ensures reads { Reads S.sight limit self.old.tokens.source (at stack.old is_complete) result
+        requires sound { IsSound stack.old progress }
+        ensures reads { Reads S.sight limit self.old.tokens.source (at stack.old progress) result
             (λ v. next [] (finished (view v))) self.new.tokens.source }
         ensures end { OnOk result (S.sight.shows self.new.tokens.source None) }
     {
-        let mut is_complete = is_complete;
+        let mut progress = progress;
         loop {
-            is_complete = match is_complete {
-                false => self.next(limit, stack)?,
-                true => match stack.innermost() {
+            progress = match progress {
+                Progress::Awaits => self.next(limit, stack)?,
+                Progress::Complete => match stack.innermost() {
                     Some(frame) => self.after(stack, frame)?,
                     None => return self.last(stack),
                 },
@@ -279,10 +287,10 @@ impl<S: Tokens> Reader<S> {
 
     /// Reads the end of the text, and takes the value that is left on the stack.
     fn last(&mut self, stack: &mut Stack) -> Result<JsonValue, JsonParseErrorKind>
-        requires sound { IsSound stack.old true }
+        requires sound { IsSound stack.old Complete }
         requires none { open_of stack.old ≡ [] }
         ensures reads { (limit : Option ℕ) → Reads S.sight limit self.old.tokens.source
-            (at stack.old true) result (λ v. next [] (finished (view v))) self.new.tokens.source }
+            (at stack.old Complete) result (λ v. next [] (finished (view v))) self.new.tokens.source }
         ensures end { OnOk result (S.sight.shows self.new.tokens.source None) }
     {
         self.end()?;

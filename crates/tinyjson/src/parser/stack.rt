@@ -10,6 +10,7 @@ ghost use Rattle.tinyjson.specs.private.Stack.{Innermost, IsSound, Lies, TakesVa
 ghost use Rattle.tinyjson_grammar.specs.Tree.{no_members, number};
 ghost use Rattle.tinyjson.specs.View.{view, text, members_view};
 ghost use Rattle.tinyjson.specs.declared.parser.stack.Frame.TheVariants as frame;
+ghost use Rattle.tinyjson.specs.declared.parser.stack.Progress.TheVariants.{Awaits, Complete};
 
 use crate::value::{JsonValue, add_member, insert_member};
 use std::alloc::{AllocError, Global};
@@ -25,6 +26,15 @@ pub(super) enum Frame {
     Object { values: usize, keys: usize },
     /// An object that awaits the value of its last key.
     Member { values: usize, keys: usize },
+}
+
+/// How far the parser is between two tokens.
+#[derive(Clone, Copy)]
+pub(super) enum Progress {
+    /// A value is awaited.
+    Awaits,
+    /// A value is complete, and is the last on the stack.
+    Complete,
 }
 
 /// At most this many members of an object stand on the stack before they are put into its map.
@@ -44,7 +54,7 @@ pub(super) struct Stack {
 impl Stack {
     pub(super) fn new(alloc: Global) -> Self
         ensures frames { frames result ≡ [] }
-        ensures sound { IsSound result false }
+        ensures sound { IsSound result Awaits }
     {
         Stack {
             alloc,
@@ -72,11 +82,11 @@ impl Stack {
     /// Puts a value on the stack.
     #[inline(always)]
     pub(super) fn push(&mut self, value: JsonValue) -> Result<(), AllocError>
-        requires sound { IsSound self.old false }
+        requires sound { IsSound self.old Awaits }
         requires place { TakesValue (open_of self.old) }
-        ensures at { OnOk result (at self.new true
+        ensures at { OnOk result (at self.new Complete
             ≡ complete true (frames self.old) (view value) true) }
-        ensures sound { OnOk result (IsSound self.new true) }
+        ensures sound { OnOk result (IsSound self.new Complete) }
     {
         if self.values.reserve(1).is_err() {
             value.dismantle();
@@ -89,11 +99,11 @@ impl Stack {
     /// Puts a number on the stack.
     #[inline(always)]
     pub(super) fn push_number(&mut self, decimal: JsonNumber) -> Result<(), AllocError>
-        requires sound { IsSound self.old false }
+        requires sound { IsSound self.old Awaits }
         requires place { TakesValue (open_of self.old) }
-        ensures at { OnOk result (at self.new true
+        ensures at { OnOk result (at self.new Complete
             ≡ complete true (frames self.old) (number decimal.decimal) true) }
-        ensures sound { OnOk result (IsSound self.new true) }
+        ensures sound { OnOk result (IsSound self.new Complete) }
     {
         self.values.reserve(1)?;
         self.values.push_reserved(JsonValue::Number(decimal));
@@ -102,9 +112,9 @@ impl Stack {
 
     /// Takes the complete value, where no container is open.
     pub(super) fn take_complete(&mut self) -> JsonValue
-        requires sound { IsSound self.old true }
+        requires sound { IsSound self.old Complete }
         requires none { open_of self.old ≡ [] }
-        ensures { at self.old true ≡ next [] (finished (view result)) }
+        ensures { at self.old Complete ≡ next [] (finished (view result)) }
     {
         match self.values.pop() {
             Some(value) => value,
@@ -114,9 +124,9 @@ impl Stack {
 
     /// Opens an array.
     pub(super) fn open_array(&mut self) -> Result<(), AllocError>
-        requires sound { IsSound self.old false }
+        requires sound { IsSound self.old Awaits }
         ensures frames { OnOk result (frames self.new ≡ in_array [] ∷ frames self.old) }
-        ensures sound { OnOk result (IsSound self.new false) }
+        ensures sound { OnOk result (IsSound self.new Awaits) }
     {
         let values = self.values.len();
         self.containers.push(Frame::Array { values })?;
@@ -125,9 +135,9 @@ impl Stack {
 
     /// Opens an object.
     pub(super) fn open_object(&mut self) -> Result<(), AllocError>
-        requires sound { IsSound self.old false }
+        requires sound { IsSound self.old Awaits }
         ensures frames { OnOk result (frames self.new ≡ at_key no_members ∷ frames self.old) }
-        ensures sound { OnOk result (IsSound self.new false) }
+        ensures sound { OnOk result (IsSound self.new Awaits) }
         ensures awaits { OnOk result (AwaitsKey self.new) }
     {
         let (values, keys) = (self.values.len(), self.keys.len());
@@ -154,10 +164,10 @@ impl Stack {
     /// Gives the innermost object, which awaits a key, this key.
     #[inline(always)]
     pub(super) fn begin_member(&mut self, key: String) -> Result<(), AllocError>
-        requires sound { IsSound self.old false }
+        requires sound { IsSound self.old Awaits }
         requires awaits { AwaitsKey self.old }
         ensures begins { OnOk result (BeginsMember self.old self.new (text key)) }
-        ensures sound { OnOk result (IsSound self.new false) }
+        ensures sound { OnOk result (IsSound self.new Awaits) }
     {
         let Some(Frame::Object { values, keys }) = self.containers.pop() else {
             unreachable!()
@@ -169,10 +179,10 @@ impl Stack {
 
     /// Gives the last key of the innermost object the complete value.
     pub(super) fn end_member(&mut self, values: usize, keys: usize) -> Result<(), AllocError>
-        requires sound { IsSound self.old true }
+        requires sound { IsSound self.old Complete }
         requires member { Innermost self.old (frame.Member values keys) }
-        ensures at { OnOk result (at self.old true ≡ next (frames self.new) after) }
-        ensures sound { OnOk result (IsSound self.new false) }
+        ensures at { OnOk result (at self.old Complete ≡ next (frames self.new) after) }
+        ensures sound { OnOk result (IsSound self.new Awaits) }
         ensures awaits { OnOk result (AwaitsKey self.new) }
     {
         self.containers.pop();
@@ -229,7 +239,7 @@ impl Stack {
 
     /// Closes the innermost array after its last item. It keeps no more memory than its items need.
     pub(super) fn close_array(&mut self, values: usize) -> Result<JsonValue, AllocError>
-        requires sound { IsSound self.old true }
+        requires sound { IsSound self.old Complete }
         requires array { Innermost self.old (frame.Array values) }
         ensures { IfOk result (ClosesArray self.old self.new) }
     {
@@ -260,7 +270,7 @@ impl Stack {
         values: usize,
         keys: usize,
     ) -> Result<JsonValue, AllocError>
-        requires sound { IsSound self.old true }
+        requires sound { IsSound self.old Complete }
         requires member { Innermost self.old (frame.Member values keys) }
         ensures { IfOk result (ClosesObject self.old self.new) }
     {

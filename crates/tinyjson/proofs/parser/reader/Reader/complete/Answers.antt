@@ -4,6 +4,7 @@ use Rattle.tinyjson_grammar.specs.Machine.{complete}
 use Rattle.tinyjson.specs.private.Stack.{TakesValue, open_of, at, frames}
 use Rattle.tinyjson_tokens.proofs.Callers.{Leads_nil, Leads_to, Halts_here, Refuses_memory}
 use Rattle.tinyjson.proofs.Reading.Stack.{value_taken}
+use Rattle.tinyjson.specs.declared.parser.stack.Progress.TheVariants.{Complete}
 use Rattle.tinyjson.proofs.parser.reader.Reader.complete.Goals as goal
 
 pub returns-then-is_err-clause-reads : goal.returns-then-is_err-clause-reads
@@ -16,7 +17,7 @@ returns-then-is_err-clause-reads g c = λ limit.
 pub returns-clause-reads : goal.returns-clause-reads
 returns-clause-reads g c = λ limit.
     let sight = g.S.Source.sight in
-    let e : at c.push.new.self true ≡ complete true (frames c.args.stack.now) (view c.args.value) true = search rules in
+    let e : at c.push.new.self Complete ≡ complete true (frames c.args.stack.now) (view c.args.value) true = search rules in
     Leads_to sight limit _ _ (Leads_nil sight limit _ _) (sym e)
 
 pub returns-in-Some-Object-clause-reads : goal.returns-in-Some-Object-clause-reads
