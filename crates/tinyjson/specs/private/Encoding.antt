@@ -1,6 +1,6 @@
 -- What an encoder sends, and what its open containers have still to write. For private contracts.
-use Rattle.std.specs.Prelude.{◌≡◌, ℕ, ◌+◌, ◌-◌, ◌<◌, true, List, [], ◌∷◌, ◌++◌, Option, Result, MatchResult, MatchOption, length, take}
-use Rattle.std.specs.Prelude.{drop, reverse, encode_utf8_all}
+use Rattle.std.specs.Prelude.{◌≡◌, ℕ, ◌+◌, ◌-◌, ◌<◌, true, List, [], ◌∷◌, ◌++◌, Option, Result, MatchResult, MatchOption}
+use Rattle.std.specs.Prelude.{length, take, drop, reverse, encode_utf8_all}
 use Rattle.std.specs.Borrow.{Bor}
 use Rattle.std.specs.Str.{chars}
 use Rattle.tinyjson_grammar.specs.Characters.{end_array, end_object}
@@ -89,10 +89,14 @@ abbrev pub OnlyBuffers : Encoder → Encoder → Type 0
 OnlyBuffers old new = (new.indent ≡ old.indent) × (new.gathered ≡ old.gathered)
 
 -- by a writer, which holds `contents`, and the encoder before it: both as they were, and as they are now
-abbrev pub Begins : {W E : Type 0} → ℕ → (W → Option (List ℕ)) → W → W → Encoder → Encoder → List ℕ → Result (Option Frame) E → Type 0
+abbrev pub Begins : {W E : Type 0} → ℕ → (W → Option (List ℕ)) → W → W → Encoder → Encoder → List ℕ
+    → Result (Option Frame) E → Type 0
 Begins k contents p q old new bytes result =
-    BeginsFrom (indent_of old.indent) k (contents p, buffered old.buffer) (contents q, buffered new.buffer) bytes (gathered_in old) result (gathered_in new)
+    BeginsFrom (indent_of old.indent) k (contents p, buffered old.buffer) (contents q, buffered new.buffer) bytes
+    (gathered_in old) result (gathered_in new)
 
-abbrev pub Advances : {W T E : Type 0} → (W → Option (List ℕ)) → W → W → Encoder → Encoder → List Frame → Result T E → Stack → Type 0
+abbrev pub Advances : {W T E : Type 0} → (W → Option (List ℕ)) → W → W → Encoder → Encoder → List Frame
+    → Result T E → Stack → Type 0
 Advances contents p q old new fs result s =
-    AdvancesFrom (indent_of old.indent) (contents p, buffered old.buffer) (contents q, buffered new.buffer) fs (gathered_in old) result s (gathered_in new)
+    AdvancesFrom (indent_of old.indent) (contents p, buffered old.buffer) (contents q, buffered new.buffer) fs
+    (gathered_in old) result s (gathered_in new)
