@@ -3,6 +3,7 @@
 //
 //     REFUSED_CALL=N   the Nth request for memory is refused
 //     REFUSED_FROM=N   the Nth and all later requests for memory are refused
+//     COUNTED=1        a line on standard error tells the number of requests for memory
 //     FAILED_READ=N    the Nth read of standard input fails with ERRNO
 //     FAILED_WRITE=N   the Nth write to standard output fails with ERRNO, or, if that is 0, takes nothing
 //     SHORT_READS=N    a read of standard input gives at most N bytes
@@ -14,6 +15,7 @@
 #define _GNU_SOURCE
 #include <dlfcn.h>
 #include <errno.h>
+#include <stdio.h>
 #include <stdlib.h>
 #include <sys/types.h>
 
@@ -29,11 +31,16 @@ static void report(const char *line, size_t length) {
     if (next_write(2, line, length) < 0) abort();
 }
 
+// The requests for memory so far.
+static long requests;
+
 static int is_refused(void) {
-    static long calls;
-    calls++;
-    long from = variable("REFUSED_FROM");
-    if (calls != variable("REFUSED_CALL") && (from == 0 || calls < from)) return 0;
+    static long call, from;
+    if (requests++ == 0) {
+        call = variable("REFUSED_CALL");
+        from = variable("REFUSED_FROM");
+    }
+    if (requests != call && (from == 0 || requests < from)) return 0;
     report("(refused)\n", 10);
     return 1;
 }
@@ -46,8 +53,9 @@ static void *counted(void *block) {
     return block;
 }
 
-__attribute__((destructor)) static void tell_of_kept(void) {
+__attribute__((destructor)) static void tell_of_memory(void) {
     if (kept > 0) report("(kept memory)\n", 14);
+    if (variable("COUNTED") != 0) dprintf(2, "(%ld requests)\n", requests);
 }
 
 void *malloc(size_t size) {

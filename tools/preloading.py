@@ -1,6 +1,7 @@
 """Programs that run with chosen calls of the C library failing; `preload.c` says which."""
 
 import os
+import resource
 import subprocess
 
 HERE = os.path.dirname(os.path.abspath(__file__))
@@ -34,8 +35,9 @@ class Ended:
         return self.status, self.output, self.errors
 
 
-def run(library, words, given=b"", **variables):
-    """Runs a program with the library, and these variables for it."""
+def run(library, words, given=b"", stack=None, **variables):
+    """Runs a program with the library, these variables for it, and a stack of at most so many bytes."""
     variables = {name: str(value) for name, value in variables.items()}
     env = {**os.environ, "LD_PRELOAD": library, **variables}
-    return Ended(subprocess.run(words, input=given, env=env, capture_output=True, timeout=120, check=False))
+    least = stack and (lambda: resource.setrlimit(resource.RLIMIT_STACK, (stack, stack)))
+    return Ended(subprocess.run(words, input=given, env=env, preexec_fn=least, capture_output=True, timeout=120, check=False))

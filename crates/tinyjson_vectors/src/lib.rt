@@ -6,6 +6,8 @@ pub mod access;
 mod common;
 pub mod conversions;
 #[cfg(test)]
+mod deep_memory;
+#[cfg(test)]
 mod documentation;
 pub mod equality;
 #[cfg(test)]
