@@ -86,7 +86,8 @@ impl<'a> Encoder<'a> {
     /// the one that it stands in goes on.
     fn finish<W: Write>(&mut self, out: &mut W, frame: Frame<'a>) -> io::Result<()>
         ensures { SendsText W.contents out.old out.new self.old.buffer self.new.buffer
-            (unwritten (indent_of self.old.indent) (frame.entry ∷ []) (gathered_in self.old)) result }
+            (unwritten (indent_of self.old.indent) (frame.entry ∷ []) (gathered_in self.old))
+            result }
     {
         // Made here, since most values leave nothing open: it has room for 64 frames.
         let mut stack = Stack::new(self.alloc);

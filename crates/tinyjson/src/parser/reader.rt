@@ -290,7 +290,8 @@ impl<S: Tokens> Reader<S> {
         requires sound { IsSound stack.old Complete }
         requires none { open_of stack.old ≡ [] }
         ensures reads { (limit : Option ℕ) → Reads S.sight limit self.old.tokens.source
-            (at stack.old Complete) result (λ v. next [] (finished (view v))) self.new.tokens.source }
+            (at stack.old Complete) result (λ v. next [] (finished (view v)))
+            self.new.tokens.source }
         ensures end { OnOk result (S.sight.shows self.new.tokens.source None) }
     {
         self.end()?;
