@@ -1,0 +1,198 @@
+"""The programs that are timed, and how one run of a program is measured.
+
+A program is a dictionary from the mode of an input to the command that reads and writes it so.
+"""
+
+import pathlib
+import shutil
+import subprocess
+import sys
+
+TOP = pathlib.Path(__file__).resolve().parent.parent
+
+ORIGINAL = """use std::io::{self, BufWriter, Read, Write};
+use tinyjson::JsonValue;
+
+fn main() -> Result<(), Box<dyn std::error::Error>> {
+    let mode = std::env::args().nth(1).unwrap_or_default();
+    let mut text = String::new();
+    io::stdin().read_to_string(&mut text)?;
+    let mut output = BufWriter::new(io::stdout().lock());
+    if mode == "lines" {
+        for line in text.lines() {
+            line.parse::<JsonValue>()?.write_to(&mut output)?;
+            writeln!(output)?;
+        }
+    } else {
+        let value: JsonValue = text.parse()?;
+        match mode.as_str() {
+            "indented" => value.format_to(&mut output)?,
+            _ => value.write_to(&mut output)?,
+        }
+        writeln!(output)?;
+    }
+    output.flush()?;
+    Ok(())
+}
+"""
+
+CHARS = """//! Reads a JSON text from standard input by its characters, and writes its normal text.
+#![tactic(auto)]
+
+use std::io::{self, BufWriter, ErrorKind, Read, Write};
+use std::{mem, str};
+use tinyjson::JsonParser;
+
+fn main(rt: HostRuntime) -> io::Result<()> {
+    let alloc = rt.alloc();
+    let mut bytes = Vec::new(alloc);
+    rt.reader().read_to_end(&mut bytes)?;
+    let Ok(text) = str::from_utf8(bytes.as_slice()) else {
+        return Err(ErrorKind::InvalidData.into());
+    };
+    let Ok(value) = JsonParser::new(alloc, text.chars()).parse() else {
+        return Err(ErrorKind::InvalidData.into());
+    };
+    let mut output = BufWriter::new(alloc, io::writer(&rt))?;
+    let written = value.write_to(alloc, &mut output);
+    mem::forget(value);
+    written?;
+    output.write_all(b"\\n")?;
+    output.flush()
+}
+"""
+
+# What `json` of Python does for each mode. It rounds numbers, as `jq` does.
+PYTHON = """import json, sys
+def write(text, **shape):
+    sys.stdout.write(json.dumps(json.loads(text), ensure_ascii=False, sort_keys=True, **shape) + "\\n")
+if sys.argv[1] == "lines":
+    for line in sys.stdin.buffer:
+        write(line, separators=(",", ":"))
+elif sys.argv[1] == "indented":
+    write(sys.stdin.buffer.read(), indent=2)
+else:
+    write(sys.stdin.buffer.read(), separators=(",", ":"))
+"""
+
+# Starts a program and prints its status, its processor time and its peak memory. It is a process of its own,
+# since a program's peak is counted from that of the process that starts it.
+STARTER = """
+import os, sys
+source = os.open(sys.argv[1], os.O_RDONLY)
+sink = os.open("/dev/null", os.O_WRONLY)
+child = os.fork()
+if child == 0:
+    os.dup2(source, 0)
+    os.dup2(sink, 1)
+    os.dup2(sink, 2)
+    os.execv(sys.argv[2], sys.argv[2:])
+_, status, used = os.wait4(child, 0)
+print(status, used.ru_utime + used.ru_stime, used.ru_maxrss)
+"""
+
+# What a program over an iterator needs, the lowest first.
+LIBRARIES = ("tinyjson_bytes", "tinyjson_number", "tinyjson_grammar", "tinyjson_tokens", "tinyjson_output", "tinyjson")
+
+
+def quietly(command, folder, text=""):
+    done = subprocess.run(command, cwd=folder, capture_output=True, text=True, input=text)
+    if done.returncode != 0:
+        sys.exit(f"{' '.join(map(str, command))}: status {done.returncode}\n{done.stdout[-3000:]}{done.stderr[-3000:]}")
+
+
+# ---- building
+
+
+def source(folder, name):
+    """The file `NAME.rs` below the folder, by whatever name it is kept there."""
+    for path in sorted(folder.rglob(f"*{name}.rs*"), key=lambda path: len(path.parts)):
+        return path.read_text()
+    sys.exit(f"{folder}: no {name}.rs below it")
+
+
+def original(folder, work):
+    """The original crate's program, built by cargo at the highest optimization."""
+    cargo = shutil.which("cargo") or str(pathlib.Path.home() / ".cargo/bin/cargo")
+    crate = work / "original/tinyjson"
+    (crate / "src").mkdir(parents=True, exist_ok=True)
+    for name in ("lib", "parser", "generator", "json_value"):
+        (crate / f"src/{name}.rs").write_text(source(folder, name))
+    crate.joinpath("Cargo.toml").write_text('[package]\nname = "tinyjson"\nversion = "2.5.1"\nedition = "2021"\n')
+    program = work / "original/program"
+    (program / "src").mkdir(parents=True, exist_ok=True)
+    (program / "src/main.rs").write_text(ORIGINAL)
+    program.joinpath("Cargo.toml").write_text(
+        '[package]\nname = "original"\nversion = "0.0.0"\nedition = "2021"\n\n'
+        '[dependencies]\ntinyjson = { path = "../tinyjson" }\n\n[profile.release]\nopt-level = 3\n\n[workspace]\n'
+    )
+    quietly([cargo, "build", "--release", "--offline"], program)
+    built = str(program / "target/release/original")
+    return {mode: [built, mode] for mode in ("text", "indented", "lines")}
+
+
+def built(name, work, text):
+    """A program of this repository, proved and built where it stands; the text is for its first run."""
+    crate = TOP / "crates" / name
+    quietly(["rt", "run"], crate, text)
+    return str(shutil.copy2(crate / "out" / name, work / name))
+
+
+def ours(work):
+    """The programs of this repository: `jsonnorm`, and for lines `json_lines`."""
+    return of_command([built("jsonnorm", work, "null")]) | {"lines": [built("json_lines", work, "null\n")]}
+
+
+def of_command(command):
+    """A program that writes indented text with `-i`."""
+    return {"text": command, "indented": [*command, "-i"]}
+
+
+def chars(work):
+    """The parser over characters, in a repository of its own, on copies of the crates that it needs."""
+    scratch = work / "chars"
+    crate = scratch / "crates/chars"
+    (crate / "src").mkdir(parents=True, exist_ok=True)
+    quietly(["git", "init", "-q"], scratch)
+    for name in LIBRARIES:
+        quietly(["cp", "-a", "--reflink=auto", "-u", TOP / "crates" / name, scratch / "crates"], scratch)
+    (crate / "src/main.rt").write_text(CHARS)
+    lines = [line for line in (TOP / "crates.txt").read_text().splitlines() if line.split(":")[0] in LIBRARIES]
+    (scratch / "crates.txt").write_text("\n".join([*lines, "chars: tinyjson"]) + "\n")
+    quietly(["rt", "run"], crate, "null")
+    return {"text": [str(crate / "out/chars")]}
+
+
+def installed():
+    """`jq`, where it is installed, and Python's `json`."""
+    python = [sys.executable, "-I", "-S", "-c", PYTHON]
+    programs = {}
+    if jq := shutil.which("jq"):
+        programs["jq -S"] = {"text": [jq, "-S", "-c", "."], "indented": [jq, "-S", "."], "lines": [jq, "-S", "-c", "."]}
+    return programs | {"Python": {mode: [*python, mode] for mode in ("text", "indented", "lines")}}
+
+
+# ---- measuring
+
+
+def measure(command, path, is_refused):
+    """The processor time of one run in seconds and its peak memory in MB; nothing, if it ends otherwise."""
+    started = [sys.executable, "-I", "-S", "-c", STARTER, str(path), *command]
+    done = subprocess.run(started, capture_output=True, text=True, check=True)
+    status, seconds, kilobytes = done.stdout.split()
+    if (status != "0") != is_refused:
+        return None
+    return float(seconds), int(kilobytes) / 1024
+
+
+def least(programs, given, path, runs):
+    """The least processor time and the least peak of each program, which run in turn, where it can do it."""
+    seen = {name: [] for name, program in programs.items() if given.mode in program}
+    for _ in range(runs):
+        for name in list(seen):
+            result = measure(programs[name][given.mode], path, given.is_refused)
+            if result is None:
+                del seen[name]
+            else:
+                seen[name].append(result)
+    return {name: tuple(map(min, zip(*pairs))) for name, pairs in seen.items()}
