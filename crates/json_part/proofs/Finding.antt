@@ -7,7 +7,8 @@ use Rattle.json_part.specs.Part.{WritesFound, WritesPart}
 use Rattle.json_part.specs.declared.part.PartError.{PartError}
 use Rattle.json_part.specs.declared.part.PartError.TheVariants.{BadPointer, Refused, NoPart, OutOfMemory, Writing}
 
-pub found : (pointer text : List ℕ) (ks : List (List ℕ)) (t : Tree) (old new : Option (List ℕ)) (r : Result (Unit {0}) PartError) → pointer ≡ pointer_text ks → IsText None text t → WritesFound ks t old new r → WritesPart pointer text old new r
+pub found : (pointer text : List ℕ) (ks : List (List ℕ)) (t : Tree) (old new : Option (List ℕ)) (r : Result (Unit {0}) PartError)
+    → pointer ≡ pointer_text ks → IsText None text t → WritesFound ks t old new r → WritesPart pointer text old new r
 found pointer text ks t old new (Ok x) p s w = record { tokens = ks; tree = t; is_pointer = p; is_text = s; writes = w }
 found pointer text ks t old new (Err NoPart) p s w = record { tokens = ks; tree = t; is_pointer = p; is_text = s; writes = w }
 found pointer text ks t old new (Err Writing) p s w = record { tokens = ks; tree = t; is_pointer = p; is_text = s; writes = w }

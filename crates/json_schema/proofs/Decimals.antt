@@ -1,5 +1,7 @@
 -- The order of decimals by the place of their first digit, and by their digits.
-use Rattle.std.proofs.Common.{◌≡◌, ◌≢◌, ℕ, zero, suc, ◌+◌, ◌*◌, ◌^◌, ◌<◌, ◌≤◌, Bool, true, false, not, ◌&&◌, ◌==◌, nat_le, cond, List, [], ◌∷◌, length, get_or, ℤ, pos, negsuc, neg_ℤ, int_le, IsTrue, refl, sym, ap, ◌∙◌, subst, arith, Ordering, Less, Equal, Greater, ⊎_elim, ◌+ℤ◌, true≢false}
+use Rattle.std.proofs.Common.{◌≡◌, ◌≢◌, ℕ, zero, suc, ◌+◌, ◌*◌, ◌^◌, ◌<◌, ◌≤◌, Bool, true, false, not, ◌&&◌, ◌==◌, nat_le, cond, List, []}
+use Rattle.std.proofs.Common.{◌∷◌, length, get_or, ℤ, pos, negsuc, neg_ℤ, int_le, IsTrue, refl, sym, ap, ◌∙◌, subst, arith, Ordering}
+use Rattle.std.proofs.Common.{Less, Equal, Greater, ⊎_elim, ◌+ℤ◌, true≢false}
 use Rattle.std.specs.Cmp.{ranks}
 use Rattle.std.specs.Bool.{⊤}
 use Rattle.std.specs.Str.{all_ascii_digits}
@@ -122,11 +124,14 @@ by_digits (suc k) (a ∷ xs) (b ∷ ys) h g = by (nat_cmp a b) (ranks a b) (by_d
 
     by : (o : Ordering) → MatchOrdering o (a < b) (a ≡ b) (b < a) → is_le (slice_cmp nat_cmp xs ys) ≡ nat_le (padded k xs) (padded k ys)
         → is_le (ordering_then o (slice_cmp nat_cmp xs ys)) ≡ nat_le (padded (suc k) (a ∷ xs)) (padded (suc k) (b ∷ ys))
-    by Less lt later = sym (le-leb _ _ (omega (arith, front_below (digit_value a) (digit_value b) (10 ^ k) (padded k xs) (omega (arith, (digit_is a h.are.0).0, (digit_is b g.are.0).0)) p)))
+    by Less lt later = sym (le-leb _ _ (omega (arith, front_below (digit_value a) (digit_value b) (10 ^ k) (padded k xs)
+        (omega (arith, (digit_is a h.are.0).0, (digit_is b g.are.0).0)) p)))
     by Equal e later =
         later
-        ∙ (same_test (padded k xs) (padded k ys) (digit_value a * 10 ^ k) ∙ ap (λ c. nat_le (digit_value a * 10 ^ k + padded k xs) (digit_value c * 10 ^ k + padded k ys)) e)
-    by Greater gt later = sym (lt-leb _ _ (omega (arith, front_below (digit_value b) (digit_value a) (10 ^ k) (padded k ys) (omega (arith, (digit_is a h.are.0).0, (digit_is b g.are.0).0)) q)))
+        ∙ (same_test (padded k xs) (padded k ys) (digit_value a * 10 ^ k)
+            ∙ ap (λ c. nat_le (digit_value a * 10 ^ k + padded k xs) (digit_value c * 10 ^ k + padded k ys)) e)
+    by Greater gt later = sym (lt-leb _ _ (omega (arith, front_below (digit_value b) (digit_value a) (10 ^ k) (padded k ys)
+        (omega (arith, (digit_is a h.are.0).0, (digit_is b g.are.0).0)) q)))
 
 -- ---- other places: by the places
 
@@ -144,7 +149,8 @@ record HasDigits (ds : List ℕ) : Type 0 where
   pub first : get_or ds 0 0 ≢ 48
   pub ends : IsTrue (ends_without_zero ds)
 
-same_end : (f : ℕ → List ℕ → Bool) → ((c : ℕ) → f c [] ≡ not (c == 48)) → ((c d : ℕ) (ds : List ℕ) → f c (d ∷ ds) ≡ f d ds) → (c : ℕ) (cs : List ℕ) → f c cs ≡ ends_nonzero c cs
+same_end : (f : ℕ → List ℕ → Bool) → ((c : ℕ) → f c [] ≡ not (c == 48)) → ((c d : ℕ) (ds : List ℕ) → f c (d ∷ ds) ≡ f d ds)
+    → (c : ℕ) (cs : List ℕ) → f c cs ≡ ends_nonzero c cs
 same_end f one more c [] = one c
 same_end f one more c (d ∷ ds) = more c d ds ∙ same_end f one more d ds
 
@@ -167,14 +173,16 @@ digits_in g (c ∷ cs) p h = in_form g p c cs h
 has_digits : (d : Decimal) → IsDecimal d → HasDigits d.digits
 has_digits d h = digits_in d.negative d.digits d.power h
 
-none_is : (g : Bool) (ds : List ℕ) (p : ℤ) → IsDecimal (record { negative = g; digits = ds; power = p }) → length ds ≡ 0 → record { negative = g; digits = ds; power = p } ≡ zero_decimal
+none_is : (g : Bool) (ds : List ℕ) (p : ℤ) → IsDecimal (record { negative = g; digits = ds; power = p }) → length ds ≡ 0
+    → record { negative = g; digits = ds; power = p } ≡ zero_decimal
 none_is g [] p h e =
     let k = and_parts (not g) (int_eq p (pos 0)) h in
     λ i. record { negative = not-true g k.0 i; digits = []; power = (Decides-int_eq p (pos 0)).0 k.1 i }
 none_is g (c ∷ cs) p h e = absurd (omega (arith, e))
 
 some_digits : (d : Decimal) → IsDecimal d → ¬ (d ≡ zero_decimal) → 0 < length d.digits
-some_digits d h some = ⊎_elim (λ lt. lt) (λ none. absurd (some (none_is d.negative d.digits d.power h (omega (arith, none))))) (cases_lt 0 (length d.digits))
+some_digits d h some = ⊎_elim (λ lt. lt) (λ none. absurd (some (none_is d.negative d.digits d.power h (omega (arith, none)))))
+    (cases_lt 0 (length d.digits))
 
 lower_digits : (k l : ℕ) (xs ys : List ℕ) → AreDigits xs → HasDigits ys → 0 < length ys → k < l → padded k xs < padded l ys
 lower_digits k l xs [] h g some lt = absurd (omega arith)
@@ -209,7 +217,8 @@ same_places d e = omega (arith, ints, gap d.power e.power)
 
 lower_units : (d e : Decimal) → IsDecimal d → IsDecimal e → ¬ (e ≡ zero_decimal) → places d e < places e d → units d e < units e d
 lower_units d e h g some lt =
-    omega (arith, units_is d e, units_is e d, lower_digits (places d e) (places e d) d.digits e.digits (has_digits d h).are (has_digits e g) (some_digits e g some) lt)
+    omega (arith, units_is d e, units_is e d, lower_digits (places d e) (places e d) d.digits e.digits (has_digits d h).are
+        (has_digits e g) (some_digits e g some) lt)
 
 module _ (d e : Decimal) (h : IsDecimal d) (g : IsDecimal e) where
   pub zero_least : d ≡ zero_decimal → true ≡ is_magnitude_at_most d e
@@ -218,10 +227,12 @@ module _ (d e : Decimal) (h : IsDecimal d) (g : IsDecimal e) where
   pub not_under_zero : ¬ (d ≡ zero_decimal) → e ≡ zero_decimal → false ≡ is_magnitude_at_most d e
   not_under_zero some is = sym (lt-leb (units d e) (units e d) (omega (arith, some_units d e h some, zero_units e d is)))
 
-  pub by_place : ¬ (d ≡ zero_decimal) → ¬ (e ≡ zero_decimal) → (y z : ℤ) → y ≡ first_place d → z ≡ first_place e → ¬ (y ≡ z) → lt_z y z ≡ is_magnitude_at_most d e
+  pub by_place : ¬ (d ≡ zero_decimal) → ¬ (e ≡ zero_decimal) → (y z : ℤ) → y ≡ first_place d → z ≡ first_place e → ¬ (y ≡ z)
+      → lt_z y z ≡ is_magnitude_at_most d e
   by_place some other y z ey ez differ =
       ⊎_elim
-      (λ lt. let less : lt_z y z ≡ true = grind (arith, ints, same_places d e) in less ∙ sym (le-leb (units d e) (units e d) (omega (arith, lower_units d e h g other lt))))
+      (λ lt. let less : lt_z y z ≡ true = grind (arith, ints, same_places d e) in less
+          ∙ sym (le-leb (units d e) (units e d) (omega (arith, lower_units d e h g other lt))))
       (λ le.
       let apart : ¬ (places d e ≡ places e d) = λ same. differ (omega (arith, ints, same_places d e)) in
       let lt : places e d < places d e = omega (arith, le, apart) in
@@ -235,7 +246,8 @@ module _ (d e : Decimal) (h : IsDecimal d) (g : IsDecimal e) where
       let is : places e d ≡ k = omega (arith, ints, same_places d e) in
       let a = has_digits d h in
       let b = has_digits e g in
-      by_digits k d.digits e.digits (record { are = a.are; ends = a.ends; room = omega arith }) (record { are = b.are; ends = b.ends; room = omega arith })
+      by_digits k d.digits e.digits (record { are = a.are; ends = a.ends; room = omega arith })
+          (record { are = b.are; ends = b.ends; room = omega arith })
       ∙ (λ i. nat_le (sym (units_is d e) i) ((ap (λ j. padded j e.digits) (sym is) ∙ sym (units_is e d)) i))
 
 -- ---- signs
@@ -255,9 +267,11 @@ below_above (suc a) b = refl
 pub positive_negative : (d e : Decimal) → IsDecimal e → d.negative ≡ false → e.negative ≡ true → false ≡ is_at_most d e
 positive_negative d e g p n =
     above_below (units d e) (units e d) (some_units e d g (below_some e n))
-    ∙ (λ i. int_le (cond (sym p i) (neg_ℤ (pos (units d e))) (pos (units d e))) (cond (sym n i) (neg_ℤ (pos (units e d))) (pos (units e d))))
+    ∙ (λ i. int_le (cond (sym p i) (neg_ℤ (pos (units d e))) (pos (units d e)))
+        (cond (sym n i) (neg_ℤ (pos (units e d))) (pos (units e d))))
 
 pub negative_positive : (d e : Decimal) → d.negative ≡ true → e.negative ≡ false → true ≡ is_at_most d e
 negative_positive d e n p =
     below_above (units d e) (units e d)
-    ∙ (λ i. int_le (cond (sym n i) (neg_ℤ (pos (units d e))) (pos (units d e))) (cond (sym p i) (neg_ℤ (pos (units e d))) (pos (units e d))))
+    ∙ (λ i. int_le (cond (sym n i) (neg_ℤ (pos (units d e))) (pos (units d e)))
+        (cond (sym p i) (neg_ℤ (pos (units e d))) (pos (units e d))))

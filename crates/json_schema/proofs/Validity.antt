@@ -1,5 +1,7 @@
 -- Values that are valid, and places that are not.
-use Rattle.std.proofs.Common.{◌≡◌, ◌∷◌, ◌++◌, [], ℕ, ◌<◌, true, true≢false, List, Option, Some, None, IsSome, option_map, Ok, Global, Vec, codes, refl, sym, ap, ◌∙◌, subst, arith, length, append_assoc, append-nil, below_more, zero, suc, get_or, ◌+◌, ◌≤◌}
+use Rattle.std.proofs.Common.{◌≡◌, ◌∷◌, ◌++◌, [], ℕ, ◌<◌, true, true≢false, List, Option, Some, None, IsSome, option_map, Ok, Global, Vec}
+use Rattle.std.proofs.Common.{codes, refl, sym, ap, ◌∙◌, subst, arith, length, append_assoc, append-nil, below_more, zero, suc, get_or}
+use Rattle.std.proofs.Common.{◌+◌, ◌≤◌}
 use Rattle.std.proofs.lemmas.Option.{slice_get_within}
 use Rattle.std.specs.List.{IsDistinct}
 use Rattle.std.specs.Map.{keys_of}
@@ -51,13 +53,16 @@ object_valid s t es is m h = subst (IsValid s) (sym is) (valid (subst (λ x. mee
     parts : (k : List ℕ) (r u : Tree) → property s k ≡ Some r → find k (members_view es) ≡ Some u → IsValid r u
     parts k r u a b =
         let e = entry_from_find es k u b in
-        subst (IsValid r) e.tree (entry_valid s e.done e.more e.entry (subst (EntriesAreValid s) e.split h) r (ap (property s) (sym e.key) ∙ a))
+        subst (IsValid r) e.tree (entry_valid s e.done e.more e.entry (subst (EntriesAreValid s) e.split h) r (ap (property s) (sym e.key)
+            ∙ a))
 
-pub member_invalid : (s t r : Tree) (es done more : List Entry) (e : Entry) (ks : List (List ℕ)) → t ≡ object (members_view es) → es ≡ done ++ e ∷ more → IsDistinct string_eq (keys_of es) → property s (text e.0) ≡ Some r
+pub member_invalid : (s t r : Tree) (es done more : List Entry) (e : Entry) (ks : List (List ℕ)) → t ≡ object (members_view es)
+    → es ≡ done ++ e ∷ more → IsDistinct string_eq (keys_of es) → property s (text e.0) ≡ Some r
     → IsInvalidAt r (view e.1) ks → IsInvalidAt s t (text e.0 ∷ ks)
 member_invalid s t r es done more e ks is split d a h =
     subst (λ x. IsInvalidAt s x (text e.0 ∷ ks)) (sym is)
-    (in_part a (ap (λ x. find (text e.0) (members_view x)) split ∙ find_entry done more e (subst (λ x. IsDistinct string_eq (keys_of x)) split d)) h)
+    (in_part a (ap (λ x. find (text e.0) (members_view x)) split
+        ∙ find_entry done more e (subst (λ x. IsDistinct string_eq (keys_of x)) split d)) h)
 
 -- The entries before the rest are valid.
 pub record AreChecked (s : Tree) (es rest : List Entry) : Type 0 where
@@ -65,7 +70,8 @@ pub record AreChecked (s : Tree) (es rest : List Entry) : Type 0 where
   pub split : es ≡ done ++ rest
   pub checked : EntriesAreValid s done
 
-pub one_checked : (s : Tree) (es rest more : List Entry) (e : Entry) → AreChecked s es rest → rest ≡ e ∷ more → EntryIsValid s e → AreChecked s es more
+pub one_checked : (s : Tree) (es rest more : List Entry) (e : Entry) → AreChecked s es rest → rest ≡ e ∷ more → EntryIsValid s e
+    → AreChecked s es more
 one_checked s es rest more e c f h = record {
   done = c.done ++ e ∷ [];
   split = c.split ∙ (ap (λ x. c.done ++ x) f ∙ sym (append_assoc c.done (e ∷ []) more));
@@ -94,17 +100,22 @@ at_index [] i x h e = absurd (omega arith)
 at_index (v ∷ vs) zero x h e = ap Some (sym e)
 at_index (v ∷ vs) (suc i) x h e = at_index vs i x (omega arith) e
 
-pub items_more : (r : Tree) (vs : List JsonValue) (i : ℕ) (v : JsonValue) → ItemsAreValid r vs i → slice_get vs i ≡ Some v → IsValid r (view v) → ItemsAreValid r vs (i + 1)
-items_more r vs i v h g k = below_more (λ j. (w : JsonValue) → slice_get vs j ≡ Some w → IsValid r (view w)) i h (λ w e. let same : v ≡ w = cc in subst (λ x. IsValid r (view x)) same k)
+pub items_more : (r : Tree) (vs : List JsonValue) (i : ℕ) (v : JsonValue) → ItemsAreValid r vs i → slice_get vs i ≡ Some v
+    → IsValid r (view v) → ItemsAreValid r vs (i + 1)
+items_more r vs i v h g k = below_more (λ j. (w : JsonValue) → slice_get vs j ≡ Some w
+    → IsValid r (view w)) i h (λ w e. let same : v ≡ w = cc in subst (λ x. IsValid r (view x)) same k)
 
 pub items_all : (r : Tree) (vs : List JsonValue) (n : ℕ) → ItemsAreValid r vs n → length vs ≤ n → ItemsAreValid r vs (length vs)
 items_all r vs n h g i l = h i (omega arith)
 
-item_named : (vs : List JsonValue) (o : Option ℕ) (u : Tree) → item_of (items_view vs) o ≡ Some u → (i : ℕ) × (v : JsonValue) × (slice_get vs i ≡ Some v) × (view v ≡ u)
+item_named : (vs : List JsonValue) (o : Option ℕ) (u : Tree) → item_of (items_view vs) o ≡ Some u
+    → (i : ℕ) × (v : JsonValue) × (slice_get vs i ≡ Some v) × (view v ≡ u)
 item_named vs None u h = cc
-item_named vs (Some i) u h = let found = value_from_tree (slice_get vs i) u (sym (nth_items_view vs i) ∙ h) in (i, found.0, found.1, found.2)
+item_named vs (Some i) u h = let found = value_from_tree (slice_get vs i) u (sym (nth_items_view vs i) ∙ h)
+    in (i, found.0, found.1, found.2)
 
-pub array_valid : (s t r : Tree) (vs : List JsonValue) → t ≡ array (items_view vs) → meets_own s t ≡ true → Some r ≡ tree_at_key s (codes "items") → ItemsAreValid r vs (length vs) → IsValid s t
+pub array_valid : (s t r : Tree) (vs : List JsonValue) → t ≡ array (items_view vs) → meets_own s t ≡ true
+    → Some r ≡ tree_at_key s (codes "items") → ItemsAreValid r vs (length vs) → IsValid s t
 array_valid s t r vs is m a h = subst (IsValid s) (sym is) (valid (subst (λ x. meets_own s x ≡ true) is m) parts)
   where
     parts : (k : List ℕ) (q u : Tree) → tree_at_key s (codes "items") ≡ Some q → item_of (items_view vs) (index_of k) ≡ Some u → IsValid q u
@@ -113,17 +124,22 @@ array_valid s t r vs is m a h = subst (IsValid s) (sym is) (valid (subst (λ x. 
         let f = item_named vs (index_of k) u e in
         subst (λ x. IsValid x u) same (subst (IsValid r) f.3 (h f.0 (slice_get_within vs f.0 f.1 f.2) f.1 f.2))
 
-pub item_invalid : (s t r : Tree) (vs : List JsonValue) (v : JsonValue) (i : ℕ) (k : List ℕ) (ks : List (List ℕ)) → t ≡ array (items_view vs) → Some r ≡ tree_at_key s (codes "items") → index_of k ≡ Some i → slice_get vs i ≡ Some v
+pub item_invalid : (s t r : Tree) (vs : List JsonValue) (v : JsonValue) (i : ℕ) (k : List ℕ) (ks : List (List ℕ))
+    → t ≡ array (items_view vs) → Some r ≡ tree_at_key s (codes "items") → index_of k ≡ Some i → slice_get vs i ≡ Some v
     → IsInvalidAt r (view v) ks → IsInvalidAt s t (k ∷ ks)
 item_invalid s t r vs v i k ks is a n g h =
-    subst (λ x. IsInvalidAt s x (k ∷ ks)) (sym is) (in_part (sym a) (ap (item_of (items_view vs)) n ∙ (nth_items_view vs i ∙ ap (option_map view) g)) h)
+    subst (λ x. IsInvalidAt s x (k ∷ ks)) (sym is)
+        (in_part (sym a) (ap (item_of (items_view vs)) n ∙ (nth_items_view vs i ∙ ap (option_map view) g)) h)
 
 -- ---- values with no parts that a schema speaks of
 
-pub no_items_schema : (s t : Tree) (vs : List JsonValue) → t ≡ array (items_view vs) → meets_own s t ≡ true → None ≡ tree_at_key s (codes "items") → IsValid s t
-no_items_schema s t vs is m a = subst (IsValid s) (sym is) (valid (subst (λ x. meets_own s x ≡ true) is m) (λ k r u b e. absurd (none_some r (a ∙ b))))
+pub no_items_schema : (s t : Tree) (vs : List JsonValue) → t ≡ array (items_view vs) → meets_own s t ≡ true
+    → None ≡ tree_at_key s (codes "items") → IsValid s t
+no_items_schema s t vs is m a = subst (IsValid s) (sym is)
+    (valid (subst (λ x. meets_own s x ≡ true) is m) (λ k r u b e. absurd (none_some r (a ∙ b))))
 
-pub leaf_valid : (s : Tree) (v : JsonValue) → meets_own s (view v) ≡ true → ((m : JsonMap) → v ≡ is.Object m → ⊥) → ((l : Vec JsonValue Global) → v ≡ is.Array l → ⊥) → IsValid s (view v)
+pub leaf_valid : (s : Tree) (v : JsonValue) → meets_own s (view v) ≡ true → ((m : JsonMap) → v ≡ is.Object m → ⊥)
+    → ((l : Vec JsonValue Global) → v ≡ is.Array l → ⊥) → IsValid s (view v)
 leaf_valid s v m no_object no_array = by (view v) refl m
   where
     by : (t : Tree) → view v ≡ t → meets_own s t ≡ true → IsValid s t

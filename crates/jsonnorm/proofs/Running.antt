@@ -13,13 +13,15 @@ use Rattle.jsonnorm.specs.Run.{Runs}
 use Rattle.jsonnorm.specs.declared.fault.RunFault.{RunFault}
 use Rattle.jsonnorm.specs.declared.fault.RunFault.TheVariants.{Refused}
 
-pub refused : (limit : Option ℕ) (is_indented : Bool) (unread left held : Option (List ℕ)) (bytes : List ℕ) (e : JsonParseError) (f : RunFault) →
+pub refused : (limit : Option ℕ) (is_indented : Bool) (unread left held : Option (List ℕ)) (bytes : List ℕ) (e : JsonParseError)
+    (f : RunFault) →
     Consumes unread left bytes → IsAtEnd left → IsUtf8 bytes → ParsesText limit (chars bytes) (Err e) →
     IsMemoryOr (error_kind e ≡ kind.OutOfMemory) (Refused e) f → Runs limit is_indented unread left held held (Err f)
 refused limit is_indented unread left held bytes e f taken end utf8 parsed why =
     ⊎_elim
     (λ w. subst P (sym w.1) (record { read = bytes; taken = taken; says = inl (Keeps-refl held) }))
-    (λ w. subst P (sym w.1) (record { read = bytes; taken = taken; says = (end, Keeps-refl held, utf8, refused_text limit (chars bytes) e parsed w.0, w.0, parsed) }))
+    (λ w. subst P (sym w.1) (record { read = bytes; taken = taken; says =
+        (end, Keeps-refl held, utf8, refused_text limit (chars bytes) e parsed w.0, w.0, parsed) }))
     why
   where
     P : RunFault → Type 0

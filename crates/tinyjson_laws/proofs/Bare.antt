@@ -2,7 +2,10 @@
 use Rattle.std.proofs.Common.{◌≡◌, ◌+◌, max, ◌∷◌, [], refl, ap, ◌∙◌, IsTrue}
 use Rattle.std.specs.Int.{Width}
 use Rattle.tinyjson_grammar.specs.Tree as tree
-use Rattle.tinyjson_grammar.specs.Syntax.{Syntax, Elements, Pairs, null, boolean, number, string, empty_array, array, empty_object, object, last_element, element, last_pair, pair, is_key, tree_of, elements_trees, pairs_members, IsStrictAt, ElementsAreStrictAt, PairsAreStrictAt, IsSpelled, AreElements, ArePairs, depth, elements_depth, pairs_depth}
+use Rattle.tinyjson_grammar.specs.Syntax.{Syntax, Elements, Pairs, null, boolean, number, string, empty_array, array, empty_object}
+use Rattle.tinyjson_grammar.specs.Syntax.{object, last_element, element, last_pair, pair, is_key, tree_of, elements_trees, pairs_members}
+use Rattle.tinyjson_grammar.specs.Syntax.{IsStrictAt, ElementsAreStrictAt, PairsAreStrictAt, IsSpelled, AreElements, ArePairs, depth}
+use Rattle.tinyjson_grammar.specs.Syntax.{elements_depth, pairs_depth}
 use Rattle.tinyjson_laws.specs.WhiteSpace.{bare_value, bare_elements, bare_pairs}
 
 mutual
@@ -60,7 +63,8 @@ mutual
 
   bare_members : (ps : Pairs) (ms : tree.Members) → pairs_members ms (bare_pairs ps) ≡ pairs_members ms ps
   bare_members (last_pair a k b c s d) ms = λ i. tree.put (tree.key_of (bare_tree k i)) (bare_tree s i) ms
-  bare_members (pair a k b c s d ps) ms = ap (λ z. pairs_members z (bare_pairs ps)) (λ i. tree.put (tree.key_of (bare_tree k i)) (bare_tree s i) ms) ∙ bare_members ps (tree.put (tree.key_of (tree_of k)) (tree_of s) ms)
+  bare_members (pair a k b c s d ps) ms = ap (λ z. pairs_members z (bare_pairs ps))
+      (λ i. tree.put (tree.key_of (bare_tree k i)) (bare_tree s i) ms) ∙ bare_members ps (tree.put (tree.key_of (tree_of k)) (tree_of s) ms)
 
 pub bare_key : (s : Syntax) → is_key (bare_value s) ≡ is_key s
 bare_key null = refl
@@ -90,4 +94,5 @@ mutual
 
   bare_pairs_strict : (width : Width) (ps : Pairs) → PairsAreStrictAt width (bare_pairs ps) ≡ PairsAreStrictAt width ps
   bare_pairs_strict width (last_pair a k b c s d) = λ i. IsTrue (bare_key k i) × bare_strict width k i × bare_strict width s i
-  bare_pairs_strict width (pair a k b c s d ps) = λ i. IsTrue (bare_key k i) × bare_strict width k i × bare_strict width s i × bare_pairs_strict width ps i
+  bare_pairs_strict width (pair a k b c s d ps) = λ i. IsTrue (bare_key k i) × bare_strict width k i × bare_strict width s i
+      × bare_pairs_strict width ps i

@@ -1,5 +1,6 @@
 -- Laws over the calls.
-use Rattle.std.proofs.Common.{◌≡◌, ◌↔◌, ℕ, ◌++◌, List, Option, Some, None, Result, Ok, Err, String, Global, string_bytes, refl, sym, ◌∙◌, subst}
+use Rattle.std.proofs.Common.{◌≡◌, ◌↔◌, ℕ, ◌++◌, List, Option, Some, None, Result, Ok, Err, String, Global, string_bytes, refl, sym, ◌∙◌}
+use Rattle.std.proofs.Common.{subst}
 use Rattle.std.specs.Prelude.{IsTrue, IfSome}
 use Rattle.std.specs.Str.{chars, bytes_eq}
 use Rattle.std.specs.String.{string_eq}
@@ -27,7 +28,8 @@ use Rattle.tinyjson_laws.specs.Calls.{TextAnswered, ReadsBack, EqualStrings, Con
 -- ---- texts
 
 -- a text is refused only where memory ran out
-only_memory : (limit : Option ℕ) (k : JsonParseErrorKind) (used rest : List ℕ) → IsAccepted limit (used ++ rest) → RefusalSays limit k used rest → k ≡ error.OutOfMemory
+only_memory : (limit : Option ℕ) (k : JsonParseErrorKind) (used rest : List ℕ) → IsAccepted limit (used ++ rest)
+    → RefusalSays limit k used rest → k ≡ error.OutOfMemory
 only_memory limit error.OutOfMemory used rest a r = refl
 only_memory limit k used rest a r = absurd (r.refused a)
 
@@ -42,10 +44,12 @@ written_of v None white = compact_reads_back (view v) (view_IsTree v)
 written_of v (Some i) white = indented_reads_back (view v) i white (view_IsTree v)
 
 pub reads_back : ReadsBack
-reads_back v indent xs r white e p = text_answered None xs (view v) r (subst (λ ys. IsText None ys (view v)) (sym e) (written_of v indent white)) p
+reads_back v indent xs r white e p = text_answered None xs (view v) r
+    (subst (λ ys. IsText None ys (view v)) (sym e) (written_of v indent white)) p
 
 -- whether two strings are equal says whether their characters are
-texts_same : (s t : String Global) (xs ys : List ℕ) → chars (string_bytes s) ≡ xs → chars (string_bytes t) ≡ ys → {P : Type 0} → (xs ≡ ys) ↔ P → IsTrue (string_eq s t) ↔ P
+texts_same : (s t : String Global) (xs ys : List ℕ) → chars (string_bytes s) ≡ xs → chars (string_bytes t) ≡ ys → {P : Type 0}
+    → (xs ≡ ys) ↔ P → IsTrue (string_eq s t) ↔ P
 texts_same s t xs ys e f w =
     let k : string_eq s t ≡ bytes_eq xs ys = sym (text_eq s t) ∙ (λ i. bytes_eq (e i) (f i)) in
     let d = bytes_eq-Decides xs ys in
@@ -58,7 +62,8 @@ equal_strings v w (Err a) q e f = tt
 
 -- ---- conversions
 
-back : {A : Type 0} (part : JsonValue → Option A) (k : JsonKind) (v : JsonValue) (x : A) → part v ≡ Some x → (r : Result A UnexpectedValue) → GivesPart part k v r → r ≡ Ok x
+back : {A : Type 0} (part : JsonValue → Option A) (k : JsonKind) (v : JsonValue) (x : A) → part v ≡ Some x → (r : Result A UnexpectedValue)
+    → GivesPart part k v r → r ≡ Ok x
 back part k v x h (Ok y) g = let e : Some y ≡ Some x = sym g ∙ h in cc
 back part k v x h (Err f) g = let e : None ≡ Some x = sym g.0 ∙ h in cc
 

@@ -55,11 +55,14 @@ found_last k ps = found k ps tree.no_members ∙ option_or_none (last_value k (e
 some≢none : (t : Tree) → Some t ≡ None → ⊥
 some≢none t h = cc
 
-here : (k : List ℕ) (e : Entry) (b : Bool) → bytes_eq k e.0 ≡ b → ((t : Tree) → (cond b (Some e.1) None ≡ Some t) → (e.0 ≡ k) × (e.1 ≡ t)) × ((cond b (Some e.1) None ≡ None) → e.0 ≢ k)
+here : (k : List ℕ) (e : Entry) (b : Bool) → bytes_eq k e.0 ≡ b
+    → ((t : Tree) → (cond b (Some e.1) None ≡ Some t) → (e.0 ≡ k) × (e.1 ≡ t)) × ((cond b (Some e.1) None ≡ None) → e.0 ≢ k)
 here k e true h = (λ t i. (sym ((bytes_eq-Decides k e.0).0 h), same_Some e.1 t i), λ i. absurd (some≢none e.1 i))
-here k e false h = (λ t i. absurd (some≢none t (sym i)), λ i j. let r : bytes_eq k e.0 ≡ true = (bytes_eq-Decides k e.0).1 (sym j) in let f : true ≡ false = sym r ∙ h in cc)
+here k e false h = (λ t i. absurd (some≢none t (sym i)), λ i j. let r : bytes_eq k e.0 ≡ true =
+    (bytes_eq-Decides k e.0).1 (sym j) in let f : true ≡ false = sym r ∙ h in cc)
 
-none_by : (k : List ℕ) (e : Entry) (es : List Entry) (o : Option Tree) → last_value k es ≡ o → option_or o (value_at k e) ≡ None → (last_value k es ≡ None → HasNone k es) → HasNone k (e ∷ es)
+none_by : (k : List ℕ) (e : Entry) (es : List Entry) (o : Option Tree) → last_value k es ≡ o → option_or o (value_at k e) ≡ None
+    → (last_value k es ≡ None → HasNone k es) → HasNone k (e ∷ es)
 none_by k e es None i h rest = ((here k e (bytes_eq k e.0) refl).1 h, rest i)
 none_by k e es (Some t) i h rest = absurd (some≢none t h)
 
@@ -75,7 +78,8 @@ has_none : (k : List ℕ) (es : List Entry) → HasNone k es → last_value k es
 has_none k [] h = refl
 has_none k (e ∷ es) h = ap (λ o. option_or o (value_at k e)) (has_none k es h.1) ∙ apart k e h.0 (bytes_eq k e.0) refl
 
-some_by : (k : List ℕ) (t : Tree) (e : Entry) (es : List Entry) (o : Option Tree) → last_value k es ≡ o → option_or o (value_at k e) ≡ Some t → (last_value k es ≡ Some t → IsLast k t es) → IsLast k t (e ∷ es)
+some_by : (k : List ℕ) (t : Tree) (e : Entry) (es : List Entry) (o : Option Tree) → last_value k es ≡ o
+    → option_or o (value_at k e) ≡ Some t → (last_value k es ≡ Some t → IsLast k t es) → IsLast k t (e ∷ es)
 some_by k t e es None i h rest = let p = (here k e (bytes_eq k e.0) refl).0 t h in ([], es, (λ j. (p.0 j, p.1 j) ∷ es), none_has k es i)
 some_by k t e es (Some u) i h rest = let r = rest (i ∙ h) in (e ∷ r.0, r.1, ap (λ xs. e ∷ xs) r.2, r.3)
 

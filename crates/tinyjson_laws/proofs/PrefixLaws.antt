@@ -1,5 +1,7 @@
 -- Prefixes of texts, and where an error comes.
-use Rattle.std.proofs.Common.{◌≡◌, ℕ, zero, suc, ◌+◌, ◌<◌, ◌≤◌, Bool, true, false, List, [], ◌∷◌, ◌++◌, Option, Some, None, refl, ap, sym, ◌∙◌, subst, append_assoc, arith, length, take, drop, ◌⊎◌, inl, inr, ⊎_elim, IsTrue, ◌==◌, ◌||◌, length-append}
+use Rattle.std.proofs.Common.{◌≡◌, ℕ, zero, suc, ◌+◌, ◌<◌, ◌≤◌, Bool, true, false, List, [], ◌∷◌, ◌++◌, Option, Some, None, refl, ap, sym}
+use Rattle.std.proofs.Common.{◌∙◌, subst, append_assoc, arith, length, take, drop, ◌⊎◌, inl, inr, ⊎_elim, IsTrue, ◌==◌, ◌||◌}
+use Rattle.std.proofs.Common.{length-append}
 use Rattle.std.specs.Char.{is_ascii_digit}
 use Rattle.std.proofs.Math.Seq.{take-append_seam}
 use Rattle.std.proofs.lemmas.Bool.{false≢true, cases_lt, or_right, eqb-true}
@@ -7,7 +9,8 @@ use Rattle.std.proofs.lemmas.List.{take-append-le, take-append-drop, length-drop
 use Rattle.tinyjson_number.specs.Numeral.{AreDigits, minus_text, Numeral, value, power_fits, in_range}
 use Rattle.tinyjson_grammar.specs.Tree as tree
 use Rattle.tinyjson_grammar.specs.Characters.{is_white}
-use Rattle.tinyjson_grammar.specs.Syntax.{Syntax, null, boolean, number, string, empty_array, array, empty_object, object, text, AreWhite, IsSpelled, IsStrict, IsWithin}
+use Rattle.tinyjson_grammar.specs.Syntax.{Syntax, null, boolean, number, string, empty_array, array, empty_object, object, text, AreWhite}
+use Rattle.tinyjson_grammar.specs.Syntax.{IsSpelled, IsStrict, IsWithin}
 use Rattle.tinyjson_grammar.specs.Grammar.{IsLoose, IsAccepted}
 use Rattle.tinyjson_grammar.specs.Prefix.{IsViable, IsErrorFree, IsCutOffText, IsLooselyViable}
 use Rattle.tinyjson_grammar.specs.Refusal.{begins_value, begins_growth, AreLate, IsPromptly, IsLiteral, IsRefusal, RefusalSays}
@@ -15,7 +18,9 @@ use Rattle.tinyjson_grammar.specs.declared.error.JsonParseErrorKind.{JsonParseEr
 use Rattle.tinyjson_grammar.specs.declared.error.JsonParseErrorKind.TheVariants as kind
 use Rattle.tinyjson_grammar.proofs.Callers.Laws.{viable_before}
 use Rattle.tinyjson_laws.proofs.ErrorFree.{error_free_loosely}
-use Rattle.tinyjson_laws.specs.Prefixes.{AcceptedIsLoose, EmptyIsViable, ViableIsErrorFree, ErrorFreeIsLooselyViable, UnviableStaysSo, BeginsStrictly, ValuesBegin, GrowthBegins, UnviableAtFirst, IsShortest, ShortestInOrder, RefusedNotTooSoon, RefusedAtEnd, RefusedNotTooLate, IsLateButOne, InterruptedNotTooLate}
+use Rattle.tinyjson_laws.specs.Prefixes.{AcceptedIsLoose, EmptyIsViable, ViableIsErrorFree, ErrorFreeIsLooselyViable, UnviableStaysSo}
+use Rattle.tinyjson_laws.specs.Prefixes.{BeginsStrictly, ValuesBegin, GrowthBegins, UnviableAtFirst, IsShortest, ShortestInOrder}
+use Rattle.tinyjson_laws.specs.Prefixes.{RefusedNotTooSoon, RefusedAtEnd, RefusedNotTooLate, IsLateButOne, InterruptedNotTooLate}
 
 pub accepted_is_loose : AcceptedIsLoose
 accepted_is_loose limit xs h = h.1.loose
@@ -33,7 +38,8 @@ null_accepted : (limit : Option ℕ) → IsAccepted limit null_text
 null_accepted limit = (
   tree.null,
   record {
-    loose = record { before = []; value = null; after = []; white_before = tt; spelled = tt; white_after = tt; shallow = scalar_within limit; whole = refl };
+    loose = record { before = []; value = null; after = []; white_before = tt; spelled = tt; white_after = tt; shallow =
+        scalar_within limit; whole = refl };
     strict = tt;
     tree = refl;
   },
@@ -91,7 +97,8 @@ literal_first xs (inr (inr e)) = (102, _, e, refl)
 first_of : (s : Syntax) → IsSpelled s → FirstOf begins_value (text s)
 first_of s h = ⊎_elim (literal_first (text s)) (λ f. (f.0, f.1, f.2, growth_begins_value f.0 f.3)) (literal_or_growth s h)
 
-begun_by : (s : Syntax) (d : ℕ) (more : List ℕ) → IsSpelled s → IsStrict s → text s ≡ d ∷ more → (c : ℕ) → (c == d) ≡ true → BeginsStrictly c
+begun_by : (s : Syntax) (d : ℕ) (more : List ℕ) → IsSpelled s → IsStrict s → text s ≡ d ∷ more → (c : ℕ) → (c == d) ≡ true
+    → BeginsStrictly c
 begun_by s d more i j e c h = (s, more, i, j, e ∙ ap (λ k. k ∷ more) (sym (eqb-true c d h)))
 
 abbrev digit : ℕ → Numeral
@@ -103,11 +110,13 @@ digit_fits c true e = rw e refl
 digit_fits c false e = rw e (rw e refl)
 
 begun_digit : (c : ℕ) → IsTrue (is_ascii_digit c) → BeginsStrictly c
-begun_digit c h = (number (digit c), [], record { integer = (h, tt); some_digit = omega arith; fraction = tt; exponent = tt }, (refl, digit_fits c (c == 48) refl), refl)
+begun_digit c h = (number (digit c), [], record { integer = (h, tt); some_digit = omega arith; fraction = tt; exponent =
+    tt }, (refl, digit_fits c (c == 48) refl), refl)
 
 begun_minus : (c : ℕ) → (c == 45) ≡ true → BeginsStrictly c
 unfolding value power_fits
-begun_minus = begun_by (number (record { negative = true; integer = 48 ∷ []; fraction = []; exponent = None })) 45 _ (record { integer = (refl, tt); some_digit = omega arith; fraction = tt; exponent = tt }) (refl, refl) refl
+begun_minus = begun_by (number (record { negative = true; integer = 48 ∷ []; fraction = []; exponent = None })) 45 _
+    (record { integer = (refl, tt); some_digit = omega arith; fraction = tt; exponent = tt }) (refl, refl) refl
 
 either : (b d : Bool) (P : Type 0) → (b || d) ≡ true → (b ≡ true → P) → (d ≡ true → P) → P
 either true d P h f g = f refl
@@ -136,9 +145,12 @@ pub values_begin : ValuesBegin
 values_begin c = (begun c, λ s more h e. first_is begins_value (text s) c more e (first_of s h))
 
 no_literal : (c : ℕ) (more xs : List ℕ) → IsTrue (begins_growth c) → xs ≡ c ∷ more → ¬ IsLiteral xs
-no_literal c more xs g e (inl l) = let d : c ≡ 110 = same_first c 110 more _ (sym e ∙ l) in false≢true (subst (λ d. IsTrue (begins_growth d)) d g)
-no_literal c more xs g e (inr (inl l)) = let d : c ≡ 116 = same_first c 116 more _ (sym e ∙ l) in false≢true (subst (λ d. IsTrue (begins_growth d)) d g)
-no_literal c more xs g e (inr (inr l)) = let d : c ≡ 102 = same_first c 102 more _ (sym e ∙ l) in false≢true (subst (λ d. IsTrue (begins_growth d)) d g)
+no_literal c more xs g e (inl l) = let d : c ≡ 110 =
+    same_first c 110 more _ (sym e ∙ l) in false≢true (subst (λ d. IsTrue (begins_growth d)) d g)
+no_literal c more xs g e (inr (inl l)) = let d : c ≡ 116 =
+    same_first c 116 more _ (sym e ∙ l) in false≢true (subst (λ d. IsTrue (begins_growth d)) d g)
+no_literal c more xs g e (inr (inr l)) = let d : c ≡ 102 =
+    same_first c 102 more _ (sym e ∙ l) in false≢true (subst (λ d. IsTrue (begins_growth d)) d g)
 
 pub growth_begins : GrowthBegins
 growth_begins c = (
@@ -150,7 +162,8 @@ growth_begins c = (
 )
 
 -- no text of the loose grammar begins so
-pub no_first : (c : ℕ) (w : List ℕ) (s : Syntax) (v xs : List ℕ) → AreWhite w → IsSpelled s → is_white c ≡ false → begins_value c ≡ false → c ∷ xs ≡ w ++ (text s ++ v) → ⊥
+pub no_first : (c : ℕ) (w : List ℕ) (s : Syntax) (v xs : List ℕ) → AreWhite w → IsSpelled s → is_white c ≡ false → begins_value c ≡ false
+    → c ∷ xs ≡ w ++ (text s ++ v) → ⊥
 no_first c [] s v xs hw hs n b e =
     let f = first_of s hs in
     let same : c ≡ f.0 = same_first c f.0 xs (f.1 ++ v) (e ∙ ap (λ ys. ys ++ v) f.2) in
@@ -166,7 +179,8 @@ unviable_at_first limit c xs n b h = let l = h.1 in no_first c l.before l.value 
 -- ---- lengths
 
 -- the shortest prefix without P is no longer than the shortest without Q, where P gives Q
-shortest_first : (P Q : List ℕ → Type 0) (xs : List ℕ) (m n : ℕ) → ((ys : List ℕ) → P ys → Q ys) → IsShortest P xs m → IsShortest Q xs n → m ≤ n
+shortest_first : (P Q : List ℕ → Type 0) (xs : List ℕ) (m n : ℕ) → ((ys : List ℕ) → P ys → Q ys) → IsShortest P xs m → IsShortest Q xs n
+    → m ≤ n
 shortest_first P Q xs m n f p q = ⊎_elim (λ l. absurd (p.least n l (λ h. q.fails (f (take n xs) h)))) (λ l. l) (cases_lt n m)
 
 -- where no prefix is the shortest without P, none is without it
@@ -177,7 +191,8 @@ module _ (P : List ℕ → Type 0) (xs : List ℕ) (none : ¬ ((n : ℕ) × IsSh
       none (n, record { within = w; fails = f; least = λ k s. none_fails bound k (omega (arith, s, b)) (omega (arith, s, w)) })
 
 -- where there is a shortest prefix without Q, there is one without P, where P gives Q
-shortest_before : (P Q : List ℕ → Type 0) (xs : List ℕ) (n : ℕ) → ((ys : List ℕ) → P ys → Q ys) → IsShortest Q xs n → ¬ ¬ ((m : ℕ) × IsShortest P xs m)
+shortest_before : (P Q : List ℕ → Type 0) (xs : List ℕ) (n : ℕ) → ((ys : List ℕ) → P ys → Q ys) → IsShortest Q xs n
+    → ¬ ¬ ((m : ℕ) × IsShortest P xs m)
 shortest_before P Q xs n f q none = none_fails P xs none (suc n) n (omega arith) q.within (λ h. q.fails (f (take n xs) h))
 
 pub shortest_in_order : ShortestInOrder
@@ -235,8 +250,10 @@ last_of [] = inl refl
 last_of (x ∷ xs) = inr (⊎_elim (λ e. ([], x, ap (λ ys. x ∷ ys) e)) (λ f. (x ∷ f.0, f.1, ap (λ ys. x ∷ ys) f.2)) (last_of xs))
 
 -- without its last character the consumed list is viable in the loose grammar, whatever the kind
-one_before : (limit : Option ℕ) (k : JsonParseErrorKind) (used rest : List ℕ) → RefusalSays limit k used rest → (prefix : List ℕ) (c : ℕ) → used ≡ prefix ++ c ∷ [] → IsLooselyViable limit prefix
-one_before limit kind.OutOfMemory used rest r = λ prefix c e. viable_before (IsLoose limit) prefix (c ∷ []) (subst (IsLooselyViable limit) e r.0.viable)
+one_before : (limit : Option ℕ) (k : JsonParseErrorKind) (used rest : List ℕ) → RefusalSays limit k used rest → (prefix : List ℕ) (c : ℕ)
+    → used ≡ prefix ++ c ∷ [] → IsLooselyViable limit prefix
+one_before limit kind.OutOfMemory used rest r = λ prefix c e. viable_before (IsLoose limit) prefix (c ∷ [])
+    (subst (IsLooselyViable limit) e r.0.viable)
 one_before limit k used rest r = r.not_too_late
 
 pub refused_not_too_late : RefusedNotTooLate
@@ -248,14 +265,18 @@ refused_not_too_late limit k used rest r l h = ⊎_elim (λ s. absurd (early s (
         let n = length-append f.0 (f.1 ∷ []) in
         let same : (f.0 ++ f.1 ∷ []) ++ rest ≡ used ++ rest = ap (λ xs. xs ++ rest) (sym f.2) in
         let short : take l (used ++ rest) ≡ take l f.0 =
-        ap (take l) (sym same ∙ append_assoc f.0 (f.1 ∷ []) rest) ∙ take-append-le l f.0 (f.1 ∷ rest) (omega (arith, s, ap length f.2, n)) in
+        ap (take l) (sym same ∙ append_assoc f.0 (f.1 ∷ []) rest)
+            ∙ take-append-le l f.0 (f.1 ∷ rest) (omega (arith, s, ap length f.2, n)) in
         let whole : f.0 ≡ take l (used ++ rest) ++ drop l f.0 = sym (take-append-drop l f.0) ∙ ap (λ xs. xs ++ drop l f.0) (sym short) in
-        h.fails (viable_before (IsLoose limit) (take l (used ++ rest)) (drop l f.0) (subst (IsLooselyViable limit) whole (one_before limit k used rest r f.0 f.1 f.2)))
+        h.fails (viable_before (IsLoose limit) (take l (used ++ rest)) (drop l f.0)
+            (subst (IsLooselyViable limit) whole (one_before limit k used rest r f.0 f.1 f.2)))
 
 -- ---- out of memory
 
--- where xs is P, and each beginning of a list that is P is P, xs is shorter than the shortest prefix without P of a list that begins with xs
-holds_before : (P : List ℕ → Type 0) → ((ys zs : List ℕ) → P (ys ++ zs) → P ys) → (xs rest : List ℕ) (n : ℕ) → P xs → IsShortest P (xs ++ rest) n → length xs < n
+-- where xs is P, and each beginning of a list that is P is P, xs is shorter than the shortest
+-- prefix without P of a list that begins with xs
+holds_before : (P : List ℕ → Type 0) → ((ys zs : List ℕ) → P (ys ++ zs) → P ys) → (xs rest : List ℕ) (n : ℕ) → P xs
+    → IsShortest P (xs ++ rest) n → length xs < n
 holds_before P before xs rest n p h = ⊎_elim (λ l. l) (λ s. absurd (fails s)) (cases_lt (length xs) n)
   where
     fails : n ≤ length xs → ⊥
@@ -269,7 +290,8 @@ late_drop zero late last a h = (late, last, refl, a, h)
 late_drop (suc k) [] last a h = let n = length-drop (suc k) last in ([], drop (suc k) last, refl, tt, omega (arith, h, n))
 late_drop (suc k) (c ∷ cs) last a h = late_drop k cs last a.1 h
 
-late_after : (m : ℕ) (prefix late last : List ℕ) → length prefix ≤ m → AreLate late → length last ≤ 1 → IsLateButOne (drop m (prefix ++ (late ++ last)))
+late_after : (m : ℕ) (prefix late last : List ℕ) → length prefix ≤ m → AreLate late → length last ≤ 1
+    → IsLateButOne (drop m (prefix ++ (late ++ last)))
 late_after m [] late last w a h = late_drop m late last a h
 late_after zero (x ∷ xs) late last w a h = absurd (omega (arith, w))
 late_after (suc m) (x ∷ xs) late last w a h = late_after m xs late last (omega (arith, w)) a h
@@ -277,9 +299,11 @@ late_after (suc m) (x ∷ xs) late last w a h = late_after m xs late last (omega
 error_free_before : (limit : Option ℕ) (xs ys : List ℕ) → IsErrorFree limit (xs ++ ys) → IsErrorFree limit xs
 error_free_before limit xs ys h = viable_before (λ zs. IsAccepted limit zs ⊎ IsCutOffText limit zs) xs ys h
 
-promptly : (limit : Option ℕ) (used rest last : List ℕ) → length last ≤ 1 → IsPromptly limit used last → (m : ℕ) → IsShortest (IsErrorFree limit) (used ++ rest) (m + 1) → IsLateButOne (drop m used)
+promptly : (limit : Option ℕ) (used rest last : List ℕ) → length last ≤ 1 → IsPromptly limit used last → (m : ℕ)
+    → IsShortest (IsErrorFree limit) (used ++ rest) (m + 1) → IsLateButOne (drop m used)
 promptly limit used rest last short p m h =
-    let same : used ++ rest ≡ p.prefix ++ ((p.late ++ last) ++ rest) = ap (λ xs. xs ++ rest) p.whole ∙ append_assoc p.prefix (p.late ++ last) rest in
+    let same : used ++ rest ≡ p.prefix ++ ((p.late ++ last) ++ rest) = ap (λ xs. xs ++ rest) p.whole
+        ∙ append_assoc p.prefix (p.late ++ last) rest in
     let first = subst (λ xs. IsShortest (IsErrorFree limit) xs (m + 1)) same h in
     let room = holds_before (IsErrorFree limit) (error_free_before limit) p.prefix ((p.late ++ last) ++ rest) (m + 1) p.error_free first in
     subst (λ xs. IsLateButOne (drop m xs)) (sym p.whole) (late_after m p.prefix p.late last (omega (arith, room)) p.are_late short)

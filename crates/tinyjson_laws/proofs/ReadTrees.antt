@@ -10,7 +10,11 @@ use Rattle.std.proofs.lemmas.Bool.{false≢true, and_from, and_parts, ltb-true}
 use Rattle.tinyjson_grammar.specs.Characters.{short_escape, is_hex, is_high, is_low, is_surrogate, pair_of, decode, paired}
 use Rattle.tinyjson_grammar.specs.Tree as tree
 use Rattle.tinyjson_grammar.specs.Tree.{key_cmp, tree_depth, items_depth, members_depth}
-use Rattle.tinyjson_grammar.specs.Syntax.{Syntax, Elements, Pairs, null, boolean, number, string, empty_array, array, empty_object, object, last_element, element, last_pair, pair, Piece, plain, escape, unit, IsPiece, ArePieces, code, piece_codes, unit_value, IsSpelled, AreElements, ArePairs, IsStrictAt, ElementsAreStrictAt, PairsAreStrictAt, is_key, tree_of, elements_trees, pairs_members, depth, elements_depth, pairs_depth}
+use Rattle.tinyjson_grammar.specs.Syntax.{Syntax, Elements, Pairs, null, boolean, number, string, empty_array, array, empty_object}
+use Rattle.tinyjson_grammar.specs.Syntax.{object, last_element, element, last_pair, pair, Piece, plain, escape, unit, IsPiece, ArePieces}
+use Rattle.tinyjson_grammar.specs.Syntax.{code, piece_codes, unit_value, IsSpelled, AreElements, ArePairs, IsStrictAt}
+use Rattle.tinyjson_grammar.specs.Syntax.{ElementsAreStrictAt, PairsAreStrictAt, is_key, tree_of, elements_trees, pairs_members, depth}
+use Rattle.tinyjson_grammar.specs.Syntax.{elements_depth, pairs_depth}
 use Rattle.tinyjson_grammar.specs.Soundness.{IsSorted, IsTreeAt, AreItemsAt, AreMembersAt}
 use Rattle.tinyjson.proofs.Callers.{sorted_put}
 use Rattle.tinyjson.proofs.Callers.Laws.{are_put}
@@ -26,7 +30,8 @@ escape_code : (c : ℕ) → unwrap_or (short_escape c) 0 < 1114112
 escape_code c = grind arith
 
 unit_code : (a b c d : ℕ) → IsTrue (is_hex a) → IsTrue (is_hex b) → IsTrue (is_hex c) → IsTrue (is_hex d) → unit_value a b c d < 1114112
-unit_code a b c d ha hb hc hd = omega (arith, ltb-true (digit_value a) 16 ha, ltb-true (digit_value b) 16 hb, ltb-true (digit_value c) 16 hc, ltb-true (digit_value d) 16 hd)
+unit_code a b c d ha hb hc hd = omega (arith, ltb-true (digit_value a) 16 ha, ltb-true (digit_value b) 16 hb, ltb-true (digit_value c) 16
+    hc, ltb-true (digit_value d) 16 hd)
 
 scalar_code : (c : ℕ) → IsScalar c → c < 1114112
 scalar_code c h = grind arith
@@ -46,7 +51,8 @@ alone_scalar u h k = grind arith
 pair_scalar : (u v : ℕ) → (is_high u && is_low v) ≡ true → IsScalar (pair_of u v)
 pair_scalar u v h = grind arith
 
-choose : (b : Bool) (x y : List ℕ) (p q : Bool) → cond b p q ≡ true → (b ≡ true → p ≡ true → IsTrue (all_scalars x)) → (b ≡ false → q ≡ true → IsTrue (all_scalars y)) → IsTrue (all_scalars (cond b x y))
+choose : (b : Bool) (x y : List ℕ) (p q : Bool) → cond b p q ≡ true → (b ≡ true → p ≡ true → IsTrue (all_scalars x))
+    → (b ≡ false → q ≡ true → IsTrue (all_scalars y)) → IsTrue (all_scalars (cond b x y))
 choose true x y p q e f g = f refl e
 choose false x y p q e f g = g refl e
 
@@ -62,7 +68,9 @@ string_scalars ps h e = decoded (piece_codes ps) (pieces_codes ps h) e
 
 -- ---- members
 
-depth_put_at : (o : Ordering) (k : List ℕ) (t : tree.Tree) (l : List ℕ) (u : tree.Tree) (ms more : tree.Members) → members_depth more ≤ max (tree_depth t) (members_depth ms) → members_depth (tree.put_at o k t l u ms more) ≤ max (tree_depth t) (max (tree_depth u) (members_depth ms))
+depth_put_at : (o : Ordering) (k : List ℕ) (t : tree.Tree) (l : List ℕ) (u : tree.Tree) (ms more : tree.Members)
+    → members_depth more ≤ max (tree_depth t) (members_depth ms)
+    → members_depth (tree.put_at o k t l u ms more) ≤ max (tree_depth t) (max (tree_depth u) (members_depth ms))
 depth_put_at Less k t l u ms more h = omega arith
 depth_put_at Equal k t l u ms more h = omega arith
 depth_put_at Greater k t l u ms more h = omega arith
@@ -73,7 +81,8 @@ depth_put k t (tree.member l u ms) = depth_put_at (key_cmp k l) k t l u ms (tree
 
 -- ---- values
 
-key_scalars : (width : Width) (k : Syntax) → IsSpelled k → IsTrue (is_key k) → IsStrictAt width k → IsTrue (all_scalars (tree.key_of (tree_of k)))
+key_scalars : (width : Width) (k : Syntax) → IsSpelled k → IsTrue (is_key k) → IsStrictAt width k
+    → IsTrue (all_scalars (tree.key_of (tree_of k)))
 key_scalars width (string ps) h i s = string_scalars ps h s
 key_scalars width null h i s = absurd (false≢true i)
 key_scalars width (boolean b) h i s = absurd (false≢true i)
@@ -94,14 +103,18 @@ mutual
   tree_is width (empty_object w) h s = (tt, tt)
   tree_is width (object ps) h s = members_are width ps tree.no_members h s tt tt
 
-  items_are : (width : Width) (es : Elements) → AreElements es → ElementsAreStrictAt width es → AreItemsAt width (tree.items_of (elements_trees es))
+  items_are : (width : Width) (es : Elements) → AreElements es → ElementsAreStrictAt width es
+      → AreItemsAt width (tree.items_of (elements_trees es))
   items_are width (last_element v s w) h k = (tree_is width s h.1 k, tt)
   items_are width (element v s w es) h k = (tree_is width s h.1 k.0, items_are width es h.3 k.1)
 
-  members_are : (width : Width) (ps : Pairs) (ms : tree.Members) → ArePairs ps → PairsAreStrictAt width ps → IsSorted ms → AreMembersAt width ms → AreMembersAt width (pairs_members ms ps) × IsSorted (pairs_members ms ps)
-  members_are width (last_pair a k b c s d) ms h j r m = (are_put width _ _ ms (key_scalars width k h.1 j.0 j.1) (tree_is width s h.4 j.2) m, sorted_put _ _ ms r)
+  members_are : (width : Width) (ps : Pairs) (ms : tree.Members) → ArePairs ps → PairsAreStrictAt width ps → IsSorted ms
+      → AreMembersAt width ms → AreMembersAt width (pairs_members ms ps) × IsSorted (pairs_members ms ps)
+  members_are width (last_pair a k b c s d) ms h j r m =
+      (are_put width _ _ ms (key_scalars width k h.1 j.0 j.1) (tree_is width s h.4 j.2) m, sorted_put _ _ ms r)
   members_are width (pair a k b c s d ps) ms h j r m =
-      members_are width ps (tree.put (tree.key_of (tree_of k)) (tree_of s) ms) h.6 j.3 (sorted_put _ _ ms r) (are_put width _ _ ms (key_scalars width k h.1 j.0 j.1) (tree_is width s h.4 j.2) m)
+      members_are width ps (tree.put (tree.key_of (tree_of k)) (tree_of s) ms) h.6 j.3 (sorted_put _ _ ms r)
+          (are_put width _ _ ms (key_scalars width k h.1 j.0 j.1) (tree_is width s h.4 j.2) m)
 
 -- ---- depth
 
@@ -122,4 +135,6 @@ mutual
 
   depth_of_members : (ps : Pairs) (ms : tree.Members) → members_depth (pairs_members ms ps) ≤ max (members_depth ms) (pairs_depth ps)
   depth_of_members (last_pair a k b c s d) ms = omega (arith, depth_put (tree.key_of (tree_of k)) (tree_of s) ms, depth_is s)
-  depth_of_members (pair a k b c s d ps) ms = omega (arith, depth_put (tree.key_of (tree_of k)) (tree_of s) ms, depth_is s, depth_of_members ps (tree.put (tree.key_of (tree_of k)) (tree_of s) ms))
+  depth_of_members (pair a k b c s d ps) ms = omega
+      (arith, depth_put (tree.key_of (tree_of k)) (tree_of s) ms, depth_is s, depth_of_members ps
+      (tree.put (tree.key_of (tree_of k)) (tree_of s) ms))

@@ -17,10 +17,12 @@ sound_at width limit xs t h = subst (IsTreeAt width) (sym h.tree) (tree_is width
 
 -- the tree of a text keeps the limit of the text
 pub tree_within : (width : Width) (limit : Option ℕ) (xs : List ℕ) (t : Tree) → IsTextAt width limit xs t → IsWithin limit (tree_depth t)
-tree_within width limit xs t h = within_le limit (tree_depth t) (depth h.loose.value) h.loose.shallow (subst (λ u. tree_depth u ≤ depth h.loose.value) (sym h.tree) (depth_is h.loose.value))
+tree_within width limit xs t h = within_le limit (tree_depth t) (depth h.loose.value) h.loose.shallow
+    (subst (λ u. tree_depth u ≤ depth h.loose.value) (sym h.tree) (depth_is h.loose.value))
 
 -- what a text has, written anew with any white indent
-pub rewritten : (width : Width) (limit : Option ℕ) (xs : List ℕ) (t : Tree) (w : Option (List ℕ)) → IsWhiteIndent w → IsTextAt width limit xs t → IsTextAt width limit (written.text w 0 t) t
+pub rewritten : (width : Width) (limit : Option ℕ) (xs : List ℕ) (t : Tree) (w : Option (List ℕ)) → IsWhiteIndent w
+    → IsTextAt width limit xs t → IsTextAt width limit (written.text w 0 t) t
 rewritten width limit xs t w i h = written_text width limit w 0 t i (sound_at width limit xs t h) (tree_within width limit xs t h)
 
 pub one_tree : OneTree
@@ -32,15 +34,19 @@ texts_are_sound limit xs t h = sound_at power_width limit xs t h
 pub trees_have_texts : TreesHaveTexts
 trees_have_texts t = (λ h. (written.compact t, written_text power_width None None 0 t tt h tt), λ p. texts_are_sound None p.0 t p.1)
 
-at_limit : (width : Width) (limit other : Option ℕ) (xs : List ℕ) (t : Tree) → ((n : ℕ) → IsWithin limit n → IsWithin other n) → IsTextAt width limit xs t → IsTextAt width other xs t
+at_limit : (width : Width) (limit other : Option ℕ) (xs : List ℕ) (t : Tree) → ((n : ℕ) → IsWithin limit n → IsWithin other n)
+    → IsTextAt width limit xs t → IsTextAt width other xs t
 at_limit width limit other xs t f h = let l = h.loose in record {
-  loose = record { before = l.before; value = l.value; after = l.after; white_before = l.white_before; spelled = l.spelled; white_after = l.white_after; shallow = f (depth l.value) l.shallow; whole = l.whole };
+  loose = record { before = l.before; value = l.value; after = l.after; white_before = l.white_before; spelled = l.spelled; white_after =
+      l.white_after; shallow = f (depth l.value) l.shallow; whole = l.whole };
   strict = h.strict;
   tree = h.tree;
 }
 
 pub wider_limit : WiderLimit
-wider_limit m n xs t l h = (at_limit power_width (Some m) (Some n) xs t (λ k d. omega arith) h, at_limit power_width (Some m) None xs t (λ k d. tt) h)
+wider_limit m n xs t l h = (at_limit power_width (Some m) (Some n) xs t (λ k d. omega arith) h, at_limit power_width (Some m) None xs t
+    (λ k d. tt) h)
 
 pub wider_range : WiderRange
-wider_range limit xs t h = let wide = wider_text limit xs t h in (wide, rewritten w32 limit xs t None tt h, λ u j. ap written.compact (only_tree limit xs u t j wide))
+wider_range limit xs t h = let wide = wider_text limit xs t h
+    in (wide, rewritten w32 limit xs t None tt h, λ u j. ap written.compact (only_tree limit xs u t j wide))

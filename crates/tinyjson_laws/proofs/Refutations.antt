@@ -1,6 +1,7 @@
 -- Wrong errors: the contract of `parse` refuses just these. Each names the wrong kind with what it says was consumed and left,
 -- and is refuted by the right error of the list, of which there is one.
-use Rattle.std.proofs.Common.{◌≡◌, ℕ, true, false, List, [], ◌∷◌, ◌++◌, Option, None, Some, refl, subst, ap, sym, ◌∙◌, ⊎_elim, append-nil, map, arith, length, ◌==◌}
+use Rattle.std.proofs.Common.{◌≡◌, ℕ, true, false, List, [], ◌∷◌, ◌++◌, Option, None, Some, refl, subst, ap, sym, ◌∙◌, ⊎_elim, append-nil}
+use Rattle.std.proofs.Common.{map, arith, length, ◌==◌}
 use Rattle.std.specs.Prelude.{codes, ⊤}
 use Rattle.std.specs.List.{list_all}
 use Rattle.std.specs.Str.{all_scalars}
@@ -277,7 +278,8 @@ not_all_late xs late c n e a = go xs (subst AreLate (sym e) a)
     go [] b = let f : is_late c ≡ true = b.0 in false≢true (sym n ∙ f)
     go (y ∷ ys) b = go ys b.1
 
-late_is_nothing : (xs prefix late : List ℕ) (c : ℕ) → is_late c ≡ false → xs ++ c ∷ [] ≡ prefix ++ late → AreLate late → xs ++ c ∷ [] ≡ prefix
+late_is_nothing : (xs prefix late : List ℕ) (c : ℕ) → is_late c ≡ false → xs ++ c ∷ [] ≡ prefix ++ late → AreLate late
+    → xs ++ c ∷ [] ≡ prefix
 late_is_nothing xs [] late c n e a = absurd (not_all_late xs late c n e a)
 late_is_nothing [] (y ∷ []) late c n e a = ap (λ d. d ∷ []) (same_first c y [] late e)
 late_is_nothing [] (y ∷ z ∷ zs) late c n e a = absurd cc
@@ -286,7 +288,8 @@ late_is_nothing (x ∷ xs) (y ∷ ys) late c n e a =
     let rest = late_is_nothing xs ys late c n tail a in
     ap (λ d. d ∷ (xs ++ c ∷ [])) (same_first x y (xs ++ c ∷ []) (ys ++ late) e) ∙ ap (λ zs. y ∷ zs) rest
 
-error_free_at_once : {limit : Option ℕ} (xs : List ℕ) (c : ℕ) → is_late c ≡ false → IsPromptly limit (xs ++ c ∷ []) [] → IsErrorFree limit (xs ++ c ∷ [])
+error_free_at_once : {limit : Option ℕ} (xs : List ℕ) (c : ℕ) → is_late c ≡ false → IsPromptly limit (xs ++ c ∷ []) []
+    → IsErrorFree limit (xs ++ c ∷ [])
 error_free_at_once {limit} xs c n p =
     let whole = p.whole ∙ ap (λ ys. p.prefix ++ ys) (append-nil p.late) in
     subst (IsErrorFree limit) (sym (late_is_nothing xs p.prefix p.late c n whole p.are_late)) p.error_free

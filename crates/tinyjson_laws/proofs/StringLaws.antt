@@ -1,5 +1,6 @@
 -- Units of UTF-16: the definitions of the grammar beside the library's.
-use Rattle.std.proofs.Common.{◌≡◌, ℕ, Bool, true, false, List, [], ◌∷◌, Option, Some, None, refl, ap, ◌∙◌, sym, cond, arith, IsTrue, map, not, ◌&&◌, ◌||◌, nat_le, nat_lt}
+use Rattle.std.proofs.Common.{◌≡◌, ℕ, Bool, true, false, List, [], ◌∷◌, Option, Some, None, refl, ap, ◌∙◌, sym, cond, arith, IsTrue, map}
+use Rattle.std.proofs.Common.{not, ◌&&◌, ◌||◌, nat_le, nat_lt}
 use Rattle.std.specs.Char.Utf16.{lone_unit_char, utf16_chars}
 use Rattle.std.specs.List.{list_any}
 use Rattle.std.specs.Prelude.{is_some}
@@ -41,8 +42,10 @@ paired_is [] = refl
 paired_is (u ∷ []) = ap not (or_nothing (is_surrogate u) ∙ ap (λ b. b || false) (sym (lone_is u)))
 paired_is (u ∷ v ∷ us) = by (is_high u && is_low v) (paired_is us) (paired_is (v ∷ us))
   where
-    by : (b : Bool) → paired us ≡ not (list_any is_lone (utf16_chars us)) → paired (v ∷ us) ≡ not (list_any is_lone (utf16_chars (v ∷ us))) →
-        cond b (paired us) (not (is_surrogate u) && paired (v ∷ us)) ≡ not (list_any is_lone (cond b (Some (pair_of u v) ∷ utf16_chars us) (lone_unit_char u ∷ utf16_chars (v ∷ us))))
+    by : (b : Bool) → paired us ≡ not (list_any is_lone (utf16_chars us)) → paired (v ∷ us) ≡ not (list_any is_lone (utf16_chars (v ∷ us)))
+        →
+        cond b (paired us) (not (is_surrogate u) && paired (v ∷ us))
+            ≡ not (list_any is_lone (cond b (Some (pair_of u v) ∷ utf16_chars us) (lone_unit_char u ∷ utf16_chars (v ∷ us))))
     by true h g = h
     by false h g =
         let rest = list_any is_lone (utf16_chars (v ∷ us)) in
@@ -54,8 +57,11 @@ decoded_is [] h = refl
 decoded_is (u ∷ []) h = ap (λ o. o ∷ []) (alone u h)
 decoded_is (u ∷ v ∷ us) h = by (is_high u && is_low v) h (λ g. decoded_is us g) (λ g. decoded_is (v ∷ us) g)
   where
-    by : (b : Bool) → IsTrue (cond b (paired us) (not (is_surrogate u) && paired (v ∷ us))) → (IsTrue (paired us) → utf16_chars us ≡ map Some (decode us)) → (IsTrue (paired (v ∷ us)) → utf16_chars (v ∷ us) ≡ map Some (decode (v ∷ us))) →
-        cond b (Some (pair_of u v) ∷ utf16_chars us) (lone_unit_char u ∷ utf16_chars (v ∷ us)) ≡ map Some (cond b (pair_of u v ∷ decode us) (u ∷ decode (v ∷ us)))
+    by : (b : Bool) → IsTrue (cond b (paired us) (not (is_surrogate u) && paired (v ∷ us)))
+        → (IsTrue (paired us) → utf16_chars us ≡ map Some (decode us))
+        → (IsTrue (paired (v ∷ us)) → utf16_chars (v ∷ us) ≡ map Some (decode (v ∷ us))) →
+        cond b (Some (pair_of u v) ∷ utf16_chars us) (lone_unit_char u ∷ utf16_chars (v ∷ us))
+            ≡ map Some (cond b (pair_of u v ∷ decode us) (u ∷ decode (v ∷ us)))
     by true h f g = ap (λ xs. Some (pair_of u v) ∷ xs) (f h)
     by false h f g = let k = and_parts _ _ h in ap (λ o. o ∷ utf16_chars (v ∷ us)) (alone u k.0) ∙ ap (λ xs. Some u ∷ xs) (g k.1)
 

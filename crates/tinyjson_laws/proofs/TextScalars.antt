@@ -4,9 +4,13 @@ use Rattle.std.specs.Prelude.{IfSome, IsSome}
 use Rattle.std.specs.Char.{IsScalar, is_ascii_digit}
 use Rattle.std.specs.Str.{all_scalars}
 use Rattle.std.proofs.lemmas.Bool.{and_from}
-use Rattle.tinyjson_number.specs.Numeral.{Numeral, Exponent, IsNumeral, IsExponent, AreDigits, minus_text, sign_text, fraction_text, exponent_text, spelling}
+use Rattle.tinyjson_number.specs.Numeral.{Numeral, Exponent, IsNumeral, IsExponent, AreDigits, minus_text, sign_text, fraction_text}
+use Rattle.tinyjson_number.specs.Numeral.{exponent_text, spelling}
 use Rattle.tinyjson_grammar.specs.Characters.{is_white, is_hex, short_escape}
-use Rattle.tinyjson_grammar.specs.Syntax.{Syntax, Elements, Pairs, null, boolean, number, string, empty_array, array, empty_object, object, last_element, element, last_pair, pair, Piece, plain, escape, unit, piece_text, pieces_text, IsPiece, ArePieces, text, elements_text, pairs_text, AreWhite, IsSpelled, AreElements, ArePairs}
+use Rattle.tinyjson_grammar.specs.Syntax.{Syntax, Elements, Pairs, null, boolean, number, string, empty_array, array, empty_object}
+use Rattle.tinyjson_grammar.specs.Syntax.{object, last_element, element, last_pair, pair, Piece, plain, escape, unit, piece_text}
+use Rattle.tinyjson_grammar.specs.Syntax.{pieces_text, IsPiece, ArePieces, text, elements_text, pairs_text, AreWhite, IsSpelled}
+use Rattle.tinyjson_grammar.specs.Syntax.{AreElements, ArePairs}
 use Rattle.tinyjson.proofs.Callers.Laws.{scalars_append}
 
 digit_scalar : (c : ℕ) → IsTrue (is_ascii_digit c) → IsScalar c
@@ -49,16 +53,19 @@ sign_scalars (Some c) h = and_from _ _ (sign_scalar c h) refl
 
 exponent_scalars : (e : Option Exponent) → IfSome e IsExponent → IsTrue (all_scalars (exponent_text e))
 exponent_scalars None h = refl
-exponent_scalars (Some e) h = and_from _ _ (letter_scalar e.letter h.letter) (scalars_append (sign_text e.sign) e.digits (sign_scalars e.sign h.sign) (digits_scalars e.digits h.digits))
+exponent_scalars (Some e) h = and_from _ _ (letter_scalar e.letter h.letter)
+    (scalars_append (sign_text e.sign) e.digits (sign_scalars e.sign h.sign) (digits_scalars e.digits h.digits))
 
 numeral_scalars : (n : Numeral) → IsNumeral n → IsTrue (all_scalars (spelling n))
 numeral_scalars n h = scalars_append (minus_text n.negative) _ (minus_scalars n.negative)
-    (scalars_append n.integer _ (digits_scalars n.integer h.integer) (scalars_append (fraction_text n.fraction) _ (fraction_scalars n.fraction h.fraction) (exponent_scalars n.exponent h.exponent)))
+    (scalars_append n.integer _ (digits_scalars n.integer h.integer)
+        (scalars_append (fraction_text n.fraction) _ (fraction_scalars n.fraction h.fraction) (exponent_scalars n.exponent h.exponent)))
 
 piece_scalars : (p : Piece) → IsPiece p → IsTrue (all_scalars (piece_text p))
 piece_scalars (plain c) h = and_from _ _ h.0 refl
 piece_scalars (escape c) h = and_from _ _ (escape_scalar c h) refl
-piece_scalars (unit a b c d) h = and_from _ _ (hex_scalar a h.0) (and_from _ _ (hex_scalar b h.1) (and_from _ _ (hex_scalar c h.2) (and_from _ _ (hex_scalar d h.3) refl)))
+piece_scalars (unit a b c d) h = and_from _ _ (hex_scalar a h.0)
+    (and_from _ _ (hex_scalar b h.1) (and_from _ _ (hex_scalar c h.2) (and_from _ _ (hex_scalar d h.3) refl)))
 
 pieces_scalars : (ps : List Piece) → ArePieces ps → IsTrue (all_scalars (pieces_text ps))
 pieces_scalars [] h = refl
@@ -77,11 +84,16 @@ mutual
   text_of_scalars (object ps) h = scalars_append (pairs_text ps) (125 ∷ []) (pairs_scalars ps h) refl
 
   elements_scalars : (es : Elements) → AreElements es → IsTrue (all_scalars (elements_text es))
-  elements_scalars (last_element v s w) h = scalars_append v _ (white_scalars v h.0) (scalars_append (text s) w (text_of_scalars s h.1) (white_scalars w h.2))
-  elements_scalars (element v s w es) h = scalars_append v _ (white_scalars v h.0) (scalars_append (text s) _ (text_of_scalars s h.1) (scalars_append w _ (white_scalars w h.2) (elements_scalars es h.3)))
+  elements_scalars (last_element v s w) h = scalars_append v _ (white_scalars v h.0)
+      (scalars_append (text s) w (text_of_scalars s h.1) (white_scalars w h.2))
+  elements_scalars (element v s w es) h = scalars_append v _ (white_scalars v h.0)
+      (scalars_append (text s) _ (text_of_scalars s h.1) (scalars_append w _ (white_scalars w h.2) (elements_scalars es h.3)))
 
   pairs_scalars : (ps : Pairs) → ArePairs ps → IsTrue (all_scalars (pairs_text ps))
-  pairs_scalars (last_pair a k b c s d) h = scalars_append a _ (white_scalars a h.0) (scalars_append (text k) _ (text_of_scalars k h.1) (scalars_append b _ (white_scalars b h.2)
+  pairs_scalars (last_pair a k b c s d) h = scalars_append a _ (white_scalars a h.0)
+      (scalars_append (text k) _ (text_of_scalars k h.1) (scalars_append b _ (white_scalars b h.2)
       (scalars_append c _ (white_scalars c h.3) (scalars_append (text s) d (text_of_scalars s h.4) (white_scalars d h.5)))))
-  pairs_scalars (pair a k b c s d ps) h = scalars_append a _ (white_scalars a h.0) (scalars_append (text k) _ (text_of_scalars k h.1) (scalars_append b _ (white_scalars b h.2)
-      (scalars_append c _ (white_scalars c h.3) (scalars_append (text s) _ (text_of_scalars s h.4) (scalars_append d _ (white_scalars d h.5) (pairs_scalars ps h.6))))))
+  pairs_scalars (pair a k b c s d ps) h = scalars_append a _ (white_scalars a h.0)
+      (scalars_append (text k) _ (text_of_scalars k h.1) (scalars_append b _ (white_scalars b h.2)
+      (scalars_append c _ (white_scalars c h.3) (scalars_append (text s) _ (text_of_scalars s h.4)
+          (scalars_append d _ (white_scalars d h.5) (pairs_scalars ps h.6))))))

@@ -1,5 +1,6 @@
 -- A small use of each lemma of `Rattle.tinyjson.proofs.Callers` that no program of this repository needs.
-use Rattle.std.proofs.Common.{◌≡◌, ◌≢◌, ℕ, Bool, true, false, cond, bytes_eq, List, [], ◌∷◌, ◌++◌, Option, Some, None, IsSome, option_map, codes, All, String, string_bytes, Vec, Global, refl, sym, ap, ◌∙◌}
+use Rattle.std.proofs.Common.{◌≡◌, ◌≢◌, ℕ, Bool, true, false, cond, bytes_eq, List, [], ◌∷◌, ◌++◌, Option, Some, None, IsSome, option_map}
+use Rattle.std.proofs.Common.{codes, All, String, string_bytes, Vec, Global, refl, sym, ap, ◌∙◌}
 use Rattle.std.proofs.lemmas.Slice.Eq.{bytes_eq-Decides}
 use Rattle.std.specs.Char.{IsScalar}
 use Rattle.std.specs.HashMap.{get, get_by_text, Updates, UpdatesBy}
@@ -43,7 +44,8 @@ module _ (v w : JsonValue) (one : view w ≡ view v) where
   pub number_kept : (n : JsonNumber) → number_part v ≡ Some n → (m : JsonNumber) × (number_part w ≡ Some m) × (m.decimal ≡ n.decimal)
   number_kept n h = callers.number_from_tree w n.decimal (one ∙ callers.number_tree v n h)
 
-  pub string_kept : (s : String Global) → string_part v ≡ Some s → (t : String Global) × (string_part w ≡ Some t) × (string_bytes t ≡ string_bytes s)
+  pub string_kept : (s : String Global) → string_part v ≡ Some s
+      → (t : String Global) × (string_part w ≡ Some t) × (string_bytes t ≡ string_bytes s)
   string_kept s h =
       let found = callers.string_from_tree w (text s) (one ∙ callers.string_tree v s h) in
       (found.0, found.1, callers.same_text found.0 s found.2)
@@ -53,19 +55,23 @@ module _ (v w : JsonValue) (one : view w ≡ view v) where
 pub port_is_there : (v x : JsonValue) → member_at v (codes "port") ≡ Some x → tree_at_key (view v) (codes "port") ≡ Some (view x)
 port_is_there v x h = callers.tree_at_literal v (codes "port") refl ∙ ap (option_map view) h
 
-pub member_is_there : (v x : JsonValue) (k : String Global) → member_at v (string_bytes k) ≡ Some x → tree_at_key (view v) (text k) ≡ Some (view x)
+pub member_is_there : (v x : JsonValue) (k : String Global) → member_at v (string_bytes k) ≡ Some x
+    → tree_at_key (view v) (text k) ≡ Some (view x)
 member_is_there v x k h = callers.tree_at_key_view v (string_bytes k) (callers.IsUtf8-string_bytes k) ∙ ap (option_map view) h
 
-pub got_is_there : (m : JsonMap) (x : JsonValue) (k : String Global) → get string_eq m k ≡ Some x → find (text k) (members_view m.entries) ≡ Some (view x)
+pub got_is_there : (m : JsonMap) (x : JsonValue) (k : String Global) → get string_eq m k ≡ Some x
+    → find (text k) (members_view m.entries) ≡ Some (view x)
 got_is_there m x k h = callers.find_get_text m k ∙ ap (option_map view) h
 
-pub none_is_found : (es : List Entry) (k : String Global) → lookup (λ q. bytes_eq (string_bytes k) (string_bytes q)) es ≡ None → find (text k) (members_view es) ≡ None
+pub none_is_found : (es : List Entry) (k : String Global) → lookup (λ q. bytes_eq (string_bytes k) (string_bytes q)) es ≡ None
+    → find (text k) (members_view es) ≡ None
 none_is_found es k h = callers.find_members_view (string_bytes k) (callers.IsUtf8-string_bytes k) es ∙ ap (option_map view) h
 
 pub no_item : (v : JsonValue) (i : ℕ) → tree_at (view v) i ≡ None → item_at v i ≡ None
 no_item v i h = callers.none_from_tree (item_at v i) (sym (callers.tree_at_view v i) ∙ h)
 
-pub one_more_entry : (done : List Entry) (e : Entry) → IsDistinct string_eq (keys_of (done ++ e ∷ [])) → members_view (done ++ e ∷ []) ≡ put (text e.0) (view e.1) (members_view done)
+pub one_more_entry : (done : List Entry) (e : Entry) → IsDistinct string_eq (keys_of (done ++ e ∷ []))
+    → members_view (done ++ e ∷ []) ≡ put (text e.0) (view e.1) (members_view done)
 one_more_entry done e h = callers.members_view_last done e [] h
 
 pub entry_at : (es : List Entry) (k : List ℕ) (t : Tree) → find k (members_view es) ≡ Some t → callers.HasEntry es k t
@@ -73,8 +79,10 @@ entry_at es k t h = callers.entry_from_find es k t h
 
 -- ---- after a change
 
-pub inserted_is_found : (m n : JsonMap) (k : String Global) (v : JsonValue) → Updates string_eq m n k (Some v) → find (text k) (members_view n.entries) ≡ Some (view v)
-inserted_is_found m n k v h = ap (find (text k)) (callers.members_view_insert m n k v h) ∙ callers.find_put_same (text k) (view v) (members_view m.entries)
+pub inserted_is_found : (m n : JsonMap) (k : String Global) (v : JsonValue) → Updates string_eq m n k (Some v)
+    → find (text k) (members_view n.entries) ≡ Some (view v)
+inserted_is_found m n k v h = ap (find (text k)) (callers.members_view_insert m n k v h)
+    ∙ callers.find_put_same (text k) (view v) (members_view m.entries)
 
 module _ (m n : JsonMap) (k : String Global) (change : UpdatesBy string_eq (λ q. bytes_eq (string_bytes k) (string_bytes q)) m n None) where
   left : members_view n.entries ≡ remove (text k) (members_view m.entries)
@@ -89,7 +97,8 @@ module _ (m n : JsonMap) (k : String Global) (change : UpdatesBy string_eq (λ q
 -- a member that is removed and put again
 pub put_again : (k : List ℕ) (u : Tree) (ms : Members) → IsSorted ms → find k ms ≡ Some u → put k u (remove k ms) ≡ ms
 put_again k u ms s h =
-    callers.members_from_find (put k u (remove k ms)) ms (callers.sorted_put k u (remove k ms) (callers.sorted_remove k ms s)) s (λ q. callers.find_put q k u (remove k ms) ∙ by q (bytes_eq q k) refl)
+    callers.members_from_find (put k u (remove k ms)) ms (callers.sorted_put k u (remove k ms) (callers.sorted_remove k ms s)) s
+        (λ q. callers.find_put q k u (remove k ms) ∙ by q (bytes_eq q k) refl)
   where
     by : (q : List ℕ) (b : Bool) → bytes_eq q k ≡ b → cond b (Some u) (find q (remove k ms)) ≡ find q ms
     by q true e = sym (ap (λ x. find x ms) ((bytes_eq-Decides q k).0 e) ∙ h)
@@ -98,11 +107,14 @@ put_again k u ms s h =
 pub pushed_is_last : (vs : List JsonValue) (v : JsonValue) → array (items_view (vs ++ v ∷ [])) ≡ array (with_last (items_view vs) (view v))
 pushed_is_last vs v = ap array (callers.items_view_push vs v)
 
-pub item_written : (v : JsonValue) (l : Vec JsonValue Global) (i j : ℕ) (w : JsonValue) → array_part v ≡ Some l → tree_at (view (made.Array (with_item l i w))) j ≡ tree_at (with_tree_at (view v) i (view w)) j
+pub item_written : (v : JsonValue) (l : Vec JsonValue Global) (i j : ℕ) (w : JsonValue) → array_part v ≡ Some l
+    → tree_at (view (made.Array (with_item l i w))) j ≡ tree_at (with_tree_at (view v) i (view w)) j
 item_written v l i j w held = ap (λ t. tree_at t j) (callers.tree_with_item v l i w held)
 
-pub member_written : (v : JsonValue) (m n : JsonMap) (k : String Global) (w : JsonValue) → object_part v ≡ Some m → IsSome (get_by_text m (string_bytes k))
-    → UpdatesBy string_eq (λ q. bytes_eq (string_bytes k) (string_bytes q)) m n (Some w) → view (made.Object n) ≡ with_tree_at_key (view v) (text k) (view w)
+pub member_written : (v : JsonValue) (m n : JsonMap) (k : String Global) (w : JsonValue) → object_part v ≡ Some m
+    → IsSome (get_by_text m (string_bytes k))
+    → UpdatesBy string_eq (λ q. bytes_eq (string_bytes k) (string_bytes q)) m n (Some w)
+        → view (made.Object n) ≡ with_tree_at_key (view v) (text k) (view w)
 member_written v m n k w held there h = callers.tree_with_member v m n (string_bytes k) w (callers.IsUtf8-string_bytes k) held there h.0
 
 -- ---- a found part put back
@@ -110,7 +122,8 @@ member_written v m n k w held there h = callers.tree_with_member v m n (string_b
 pub item_put_back : (v x : JsonValue) (i : ℕ) → item_at v i ≡ Some x → with_tree_at (view v) i (view x) ≡ view v
 item_put_back v x i h = callers.with_tree_at_back (view v) i (view x) (callers.tree_at_view v i ∙ ap (option_map view) h)
 
-pub member_put_back : (v x : JsonValue) (k : String Global) → member_at v (string_bytes k) ≡ Some x → with_tree_at_key (view v) (text k) (view x) ≡ view v
+pub member_put_back : (v x : JsonValue) (k : String Global) → member_at v (string_bytes k) ≡ Some x
+    → with_tree_at_key (view v) (text k) (view x) ≡ view v
 member_put_back v x k h = callers.with_tree_at_key_back (view v) (text k) (view x) (callers.view_IsTree v) (member_is_there v x k h)
 
 -- ---- texts
@@ -118,12 +131,15 @@ member_put_back v x k h = callers.with_tree_at_key_back (view v) (text k) (view 
 pub compact_is_accepted : (v : JsonValue) → IsAccepted None (compact (view v))
 compact_is_accepted v = (view v, callers.compact_read_back v)
 
-pub one_compact : (v w : JsonValue) → encode_utf8_all (compact (view v)) ≡ encode_utf8_all (compact (view w)) → compact (view v) ≡ compact (view w)
+pub one_compact : (v w : JsonValue) → encode_utf8_all (compact (view v)) ≡ encode_utf8_all (compact (view w))
+    → compact (view v) ≡ compact (view w)
 one_compact v w h = sym (callers.chars_compact v) ∙ (ap chars h ∙ callers.chars_compact w)
 
 -- three texts, one after the other
-pub three_appended : (old mid late new : Option (List ℕ)) (a b c : List ℕ) → Written old mid a [] → Written mid late b [] → Written late new c [] → Appends old new ((a ++ b) ++ c)
-three_appended old mid late new a b c h k l = callers.Appends-trans old late new (a ++ b) c (callers.Appends_both old mid late a b h k) (callers.Appends_written late new c l)
+pub three_appended : (old mid late new : Option (List ℕ)) (a b c : List ℕ) → Written old mid a [] → Written mid late b []
+    → Written late new c [] → Appends old new ((a ++ b) ++ c)
+three_appended old mid late new a b c h k l = callers.Appends-trans old late new (a ++ b) c (callers.Appends_both old mid late a b h k)
+    (callers.Appends_written late new c l)
 
 -- nothing after a text
 pub nothing_more : (old new : Option (List ℕ)) (a : List ℕ) → Written old new a [] → Appends old new (a ++ [])
@@ -138,7 +154,8 @@ pub part_of_the_first : (old new : Option (List ℕ)) (piece rest : List ℕ) �
 part_of_the_first old new piece rest k = callers.stops rest k begins
 
 -- a text in two steps
-pub in_two_steps : (old mid new : Option (List ℕ)) (bytes rest : List ℕ) → Written old mid bytes rest → Written mid new rest [] → Written old new bytes []
+pub in_two_steps : (old mid new : Option (List ℕ)) (bytes rest : List ℕ) → Written old mid bytes rest → Written mid new rest []
+    → Written old new bytes []
 in_two_steps old mid new bytes rest h k = callers.written_then rest [] h k
 
 pub string_is_scalars : (s : String Global) → All IsScalar (text s)

@@ -7,7 +7,8 @@ use Rattle.json_schema.proofs.Decimals.{zero_least, not_under_zero, by_place, by
 use Rattle.json_schema.proofs.order.is_magnitude_at_most.Goals as goal
 
 pub returns-then-is_zero : goal.returns-then-is_zero
-returns-then-is_zero c = zero_least c.args.number.now.decimal c.args.other.now.decimal c.args.number.now.canonical c.args.other.now.canonical (c.is_zero.ensures.0 c.if-is_zero.true)
+returns-then-is_zero c = zero_least c.args.number.now.decimal c.args.other.now.decimal c.args.number.now.canonical
+    c.args.other.now.canonical (c.is_zero.ensures.0 c.if-is_zero.true)
 
 pub returns-then-is_zero-2 : goal.returns-then-is_zero-2
 returns-then-is_zero-2 c =
@@ -17,7 +18,8 @@ returns-then-is_zero-2 c =
 pub returns-then-place-other_place : goal.returns-then-place-other_place
 returns-then-place-other_place c =
     by_place c.args.number.now.decimal c.args.other.now.decimal c.args.number.now.canonical c.args.other.now.canonical
-    (λ e. true≢false (sym (c.is_zero.ensures.1 e) ∙ c.if-is_zero.false)) (λ e. true≢false (sym (c.is_zero-2.ensures.1 e) ∙ c.if-is_zero-2.false))
+    (λ e. true≢false (sym (c.is_zero.ensures.1 e) ∙ c.if-is_zero.false))
+        (λ e. true≢false (sym (c.is_zero-2.ensures.1 e) ∙ c.if-is_zero-2.false))
     (to_z w128 (of_z w128 c.first_place-place.result)) (to_z w128 (of_z w128 c.first_place-other_place.result))
     (omega (arith, ints)) (omega (arith, ints)) (λ e. omega (arith, ints, e))
 

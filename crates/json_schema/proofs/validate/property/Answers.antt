@@ -5,7 +5,9 @@ use Rattle.json_schema.proofs.Lookups.{property_found, property_missing}
 use Rattle.json_schema.proofs.validate.property.Goals as goal
 
 pub returns : goal.returns
-returns c = property_found (view c.args.schema.now) (view c.in_ok-keyword.field-0.now) (chars c.args.key.now) _ c.in_ok-keyword.ensures c.keyword-2.ensures
+returns c = property_found (view c.args.schema.now) (view c.in_ok-keyword.field-0.now) (chars c.args.key.now) _ c.in_ok-keyword.ensures
+    c.keyword-2.ensures
 
 pub returns-in_err-keyword : goal.returns-in_err-keyword
-returns-in_err-keyword c = ap (option_map (λ x. view x.now)) c.from_residual.ensures ∙ property_missing (view c.args.schema.now) (chars c.args.key.now) c.in_err-keyword.ensures
+returns-in_err-keyword c = ap (option_map (λ x. view x.now)) c.from_residual.ensures
+    ∙ property_missing (view c.args.schema.now) (chars c.args.key.now) c.in_err-keyword.ensures
