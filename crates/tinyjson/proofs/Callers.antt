@@ -9,7 +9,7 @@ pub use Rattle.tinyjson.proofs.Writing.Scalars.{encoded_chars, encoded_utf8, tex
 pub use Rattle.tinyjson.proofs.Values.Trees.{view_IsTree, text_scalars}
 pub use Rattle.tinyjson.proofs.Values.View.{view_Null, view_Boolean, view_Number, view_String, view_Array, view_Object, Entry, find_members_view, members_view_last, view_ref}
 pub use Rattle.tinyjson.proofs.Values.WholeNumbers.{integers_differ, naturals_differ}
-pub use Rattle.tinyjson_source.proofs.Callers.{text_push}
+pub use Rattle.tinyjson_tokens.proofs.Callers.{text_push}
 pub use Rattle.tinyjson_output.proofs.Callers.{Appends-trans, Appends_nothing, Appends_keeps, written_none, written_all, begins, goes, ends, written_take, written_same, written_then, stop, stops, stops_then, fails}
 use Rattle.std.proofs.Common.{◌≡◌, ◌≢◌, ℕ, zero, suc, Bool, true, false, ◌&&◌, cond, bytes_eq, nat_lt, List, [], ◌∷◌, ◌++◌, Option, Some, None, option_map, Ok, Err, String, string_bytes, Vec, Global, refl, sym, ap, ◌∙◌, subst, rules, arith, append-nil}
 use Rattle.std.proofs.lemmas.Bool.{and_parts}

@@ -15,7 +15,7 @@ pub use error::{JsonParseError, JsonParseErrorKind};
 use reader::Reader;
 use std::alloc::Global;
 use std::marker::Model;
-use tinyjson_source::{Characters, TextBytes};
+use tinyjson_tokens::{Characters, TextBytes};
 
 /// What [`JsonParser::parse`] returns.
 ///

@@ -1,5 +1,6 @@
 -- Members in order: what `put` leaves to find, and that sorted members with the same finds are the same.
-use Rattle.std.proofs.Common.{◌≡◌, ℕ, Bool, true, false, List, Some, None, Ordering, Less, Equal, Greater, cond, bytes_eq, true≢false, refl, sym, ap, ◌∙◌, subst}
+use Rattle.std.proofs.Common.{◌≡◌, ℕ, Bool, true, false, List, Some, None, Ordering, Less, Equal, Greater, cond, bytes_eq, true≢false}
+use Rattle.std.proofs.Common.{refl, sym, ap, ◌∙◌, subst}
 use Rattle.std.proofs.lemmas.Cmp.{on_total, nat_list_cmp_total}
 use Rattle.std.proofs.lemmas.Map.Lookups.{exact_bytes}
 use Rattle.std.proofs.lemmas.Slice.Eq.{bytes_eq-Decides}
@@ -46,14 +47,18 @@ cond_swap true true x y z h = absurd (h refl refl)
 cond_swap true false x y z h = refl
 cond_swap false b x y z h = refl
 
-find_put_at : (o : Ordering) (q k l : List ℕ) (t u : Tree) (ms : Members) → key_cmp k l ≡ o → find q (put k t ms) ≡ cond (bytes_eq q k) (Some t) (find q ms)
-    → find q (match_ordering o (member k t (member l u ms)) (member k t ms) (member l u (put k t ms))) ≡ cond (bytes_eq q k) (Some t) (cond (bytes_eq q l) (Some u) (find q ms))
+find_put_at : (o : Ordering) (q k l : List ℕ) (t u : Tree) (ms : Members) → key_cmp k l ≡ o
+    → find q (put k t ms) ≡ cond (bytes_eq q k) (Some t) (find q ms)
+    → find q (match_ordering o (member k t (member l u ms)) (member k t ms) (member l u (put k t ms)))
+        ≡ cond (bytes_eq q k) (Some t) (cond (bytes_eq q l) (Some u) (find q ms))
 find_put_at Less q k l t u ms e later = refl
 find_put_at Equal q k l t u ms e later =
-    cond_twice (bytes_eq q k) (Some t) (Some u) (find q ms) ∙ ap (λ x. cond (bytes_eq q k) (Some t) (cond (bytes_eq q x) (Some u) (find q ms))) (key_same k l e)
+    cond_twice (bytes_eq q k) (Some t) (Some u) (find q ms)
+        ∙ ap (λ x. cond (bytes_eq q k) (Some t) (cond (bytes_eq q x) (Some u) (find q ms))) (key_same k l e)
 find_put_at Greater q k l t u ms e later =
     let clash : bytes_eq q l ≡ true → bytes_eq q k ≡ true → ⊥
-    = λ a b. true≢false (sym (same_key k) ∙ (ap (λ x. bytes_eq k x) (sym ((bytes_eq-Decides q k).0 b) ∙ (bytes_eq-Decides q l).0 a) ∙ apart k l Greater e (λ h. cc))) in
+    = λ a b. true≢false (sym (same_key k) ∙ (ap (λ x. bytes_eq k x) (sym ((bytes_eq-Decides q k).0 b) ∙ (bytes_eq-Decides q l).0 a)
+        ∙ apart k l Greater e (λ h. cc))) in
     ap (cond (bytes_eq q l) (Some u)) later ∙ cond_swap (bytes_eq q l) (bytes_eq q k) (Some u) (Some t) (find q ms) clash
 
 -- what was put at k is found there, and the rest as before
@@ -81,7 +86,8 @@ below_put : (j k : List ℕ) (t : Tree) (ms : Members) → key_cmp j k ≡ Less 
 below_put j k t no_members a b = a
 below_put j k t (member l u ms) a b = below_put_at (key_cmp k l) j k l t u ms a b
 
-sorted_put_at : (o : Ordering) (k l : List ℕ) (t u : Tree) (ms : Members) → key_cmp k l ≡ o → IsSorted (member l u ms) → IsSorted (put k t ms)
+sorted_put_at : (o : Ordering) (k l : List ℕ) (t u : Tree) (ms : Members) → key_cmp k l ≡ o → IsSorted (member l u ms)
+    → IsSorted (put k t ms)
     → IsSorted (match_ordering o (member k t (member l u ms)) (member k t ms) (member l u (put k t ms)))
 sorted_put_at Less k l t u ms e s later = (e, s)
 sorted_put_at Equal k l t u ms e s later = (subst (λ x. IsBelow x ms) (sym (key_same k l e)) s.0, s.1)
@@ -95,10 +101,12 @@ cond_itself : {A : Type 0} (b : Bool) (x : A) → x ≡ cond b x x
 cond_itself true x = refl
 cond_itself false x = refl
 
-find_remove_at : (b : Bool) (q k l : List ℕ) (u : Tree) (ms : Members) → bytes_eq k l ≡ b → find q (remove k ms) ≡ cond (bytes_eq q k) None (find q ms)
+find_remove_at : (b : Bool) (q k l : List ℕ) (u : Tree) (ms : Members) → bytes_eq k l ≡ b
+    → find q (remove k ms) ≡ cond (bytes_eq q k) None (find q ms)
     → find q (cond b (remove k ms) (member l u (remove k ms))) ≡ cond (bytes_eq q k) None (cond (bytes_eq q l) (Some u) (find q ms))
 find_remove_at true q k l u ms e later =
-    later ∙ (cond_twice (bytes_eq q k) None (Some u) (find q ms) ∙ ap (λ x. cond (bytes_eq q k) None (cond (bytes_eq q x) (Some u) (find q ms))) ((bytes_eq-Decides k l).0 e))
+    later ∙ (cond_twice (bytes_eq q k) None (Some u) (find q ms)
+        ∙ ap (λ x. cond (bytes_eq q k) None (cond (bytes_eq q x) (Some u) (find q ms))) ((bytes_eq-Decides k l).0 e))
 find_remove_at false q k l u ms e later =
     let clash : bytes_eq q l ≡ true → bytes_eq q k ≡ true → ⊥
     = λ a b. true≢false (sym (same_key k) ∙ (ap (λ x. bytes_eq k x) (sym ((bytes_eq-Decides q k).0 b) ∙ (bytes_eq-Decides q l).0 a) ∙ e)) in
@@ -135,7 +143,8 @@ abbrev Same : Members → Members → Type 0
 Same ms ns = (q : List ℕ) → find q ms ≡ find q ns
 
 -- the rest of two lists with one first key
-same_rest : (k : List ℕ) (t : Tree) (ms ns : Members) → IsSorted (member k t ms) → IsSorted (member k t ns) → Same (member k t ms) (member k t ns) → Same ms ns
+same_rest : (k : List ℕ) (t : Tree) (ms ns : Members) → IsSorted (member k t ms) → IsSorted (member k t ns)
+    → Same (member k t ms) (member k t ns) → Same ms ns
 same_rest k t ms ns s r h q = by (bytes_eq q k) refl
   where
     by : (b : Bool) → bytes_eq q k ≡ b → find q ms ≡ find q ns

@@ -4,8 +4,8 @@
 //! The crate `tinyjson` uses it and re-exports its names: a program takes `tinyjson` alone.
 #![tactic(auto)]
 
-pub mod error;
-pub mod kind;
+mod error;
+mod kind;
 
 pub use error::JsonParseErrorKind;
 pub use kind::JsonKind;

@@ -11,20 +11,6 @@ use Rattle.tinyjson_number.specs.Decimal.{Decimal}
 use Rattle.tinyjson_number.specs.Numeral.{minus_text}
 use Rattle.tinyjson_number.specs.Text.{decimal_text, magnitude_text}
 
--- of what was put at the place only a prefix stays
-pub front_stays : (old new run : List ℕ) (at k n : ℕ) → n ≤ k → at ≤ length old → take (at + k) new ≡ take at old ++ take k run → take (at + n) new ≡ take at old ++ take n run
-front_stays old new run at k n le within e =
-    let long = length-take-le at old within in
-    sym (take-take (at + n) (at + k) new (omega arith)) ∙ ap (take (at + n)) e ∙ ap (λ j. take (j + n) (take at old ++ take k run)) (sym long)
-    ∙ take-append-add (take at old) (take k run) n ∙ ap (λ x. take at old ++ x) (take-take n k run le)
-
--- a prefix of the chunk that was put
-pub put_front : (size at : ℕ) (old bytes : List ℕ) → size ≤ length bytes → at + size ≤ length old → (n : ℕ) → n ≤ size → take (at + n) (put_chunk at old (chunk 0 size bytes)) ≡ take at old ++ take n bytes
-put_front size at old bytes some room n le =
-    let first = chunk 0 size bytes in
-    let a : length first ≡ size = length-chunk 0 size bytes (omega arith) in
-    front_stays old (put_chunk at old first) bytes at size n le (omega arith) (take_more_put_chunk at old first (at + size) (omega arith) (omega arith))
-
 -- what each call put, after what stood there
 abbrev Put : ℕ → ℕ → List ℕ → List ℕ → List ℕ → Type 0
 Put size at old new bytes = (n : ℕ) → n ≤ size → take (at + n) new ≡ take at old ++ take n bytes

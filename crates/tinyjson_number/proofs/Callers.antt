@@ -1,5 +1,4 @@
 -- For proofs of callers: of digits, decimals and the texts that spell them.
-pub use Rattle.tinyjson_number.proofs.Buffers.{front_stays}
 pub use Rattle.tinyjson_number.proofs.Naturals.{digits_append, natural, natural_decimal}
 pub use Rattle.tinyjson_number.proofs.Canonicals.{value_canonical}
 pub use Rattle.tinyjson_number.proofs.DecimalTrip.{decimal_fits, decimal_spelled, fraction_some}

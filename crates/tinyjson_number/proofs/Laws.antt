@@ -8,7 +8,7 @@ use Rattle.tinyjson_number.specs.Numeral.{value, power_fits, power_width}
 use Rattle.tinyjson_number.specs.Canonical.{IsDecimalAt}
 use Rattle.tinyjson_number.specs.NumberText.{IsNumberTextAt}
 use Rattle.tinyjson_number.specs.Text.{decimal_text}
-use Rattle.tinyjson_number.proofs.Literals.{one_numeral}
+use Rattle.tinyjson_number.proofs.Scans.{one_numeral}
 use Rattle.tinyjson_number.proofs.DecimalTrip.{decimal_spelled, decimal_fits}
 
 -- a text is a number of at most one decimal

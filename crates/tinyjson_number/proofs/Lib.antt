@@ -4,7 +4,7 @@ pub mod Forms
 pub mod Canonicals
 pub mod DecimalTrip
 pub mod Runs
-pub mod Literals
+pub mod Scans
 pub mod Readings
 pub mod Parts
 pub mod Integers

@@ -13,7 +13,7 @@ use Rattle.tinyjson_number.specs.Numeral.{Exponent, Numeral, AreDigits, signed, 
 use Rattle.tinyjson_number.specs.Canonical.{is_canonical}
 use Rattle.tinyjson_number.specs.NumberText.{Spells}
 use Rattle.tinyjson_number.specs.Number.{Canonical}
-use Rattle.tinyjson_number.specs.private.Scan.{exponent_cap, capped, shifted}
+use Rattle.tinyjson_number.specs.private.Power.{exponent_cap, capped, shifted}
 use Rattle.tinyjson_number.specs.Reading.{Reads, ReadsNumeral, plain}
 use Rattle.tinyjson_number.specs.Error.{of_literal}
 use Rattle.tinyjson_number.specs.declared.error.JsonNumberError.{JsonNumberError}
@@ -136,14 +136,6 @@ pub power_few_fits : (zeros fraction : ℕ) → zeros ≤ 24 → fraction ≤ 24
 power_few_fits zeros fraction h k = few_fits (shifted (pos 0) fraction zeros) zeros fraction refl h k
 
 -- ---- from what was read to the numeral
-
-pub plain_of : (o : Option Numeral) (m : Numeral) → Some m ≡ option_map plain o → (n : Numeral) × (o ≡ Some n) × (m ≡ plain n)
-plain_of None m h = absurd (cc)
-plain_of (Some n) m h = (n, refl, cc)
-
-pub none_of : (o : Option Numeral) → None ≡ option_map plain o → o ≡ None
-none_of None h = refl
-none_of (Some n) h = absurd (cc)
 
 pub reads_number : (text : List ℕ) (n : Numeral) (x : Canonical) → Spells n text → ReadsNumeral n (Ok x) → Reads text (Ok x)
 reads_number text n x s r = (n, s, sym r.0, subst (λ (d : Decimal). IsTrue (in_range d)) (sym r.0) r.1)

@@ -1,5 +1,5 @@
 -- Runs of digits, and where a text may be cut.
-use Rattle.std.proofs.Common.{◌≡◌, ℕ, zero, suc, ◌<◌, ◌≤◌, true, List, [], ◌∷◌, ◌++◌, length, get_or, IsTrue, refl, arith, Result, Ok, Err}
+use Rattle.std.proofs.Common.{◌≡◌, ℕ, zero, suc, ◌<◌, ◌≤◌, true, List, [], ◌∷◌, ◌++◌, length, take, get_or, IsTrue, refl, arith, Result, Ok, Err}
 use Rattle.std.specs.Result.{MatchResult, IsOk}
 use Rattle.std.specs.List.{prefix_len, list_all}
 use Rattle.std.specs.Str.{IsAscii}
@@ -13,7 +13,6 @@ use Rattle.std.proofs.lemmas.List.{get_or-take}
 use Rattle.std.proofs.lemmas.Bool.Decides.{nat_tests}
 use Rattle.std.proofs.lemmas.Bool.{and_parts, and_from}
 use Rattle.tinyjson_number.specs.Numeral.{AreDigits}
-use Rattle.tinyjson_number.specs.private.Scan.{digits_front}
 
 -- the same by std's word
 pub digits_list_all : (xs : List ℕ) → list_all is_ascii_digit xs ≡ true → AreDigits xs
@@ -44,14 +43,10 @@ pub digits_back : (xs ys : List ℕ) → AreDigits (xs ++ ys) → AreDigits ys
 digits_back [] ys h = h
 digits_back (d ∷ xs) ys h = digits_back xs ys h.1
 
--- a text whose digits in front are all of it is all digits
-pub all_from_prefix : (xs : List ℕ) → length xs ≤ prefix_len is_ascii_digit xs → AreDigits xs
-all_from_prefix xs h = digits_list_all xs (list_all-from_AllPass is_ascii_digit xs (All-from_get_or (λ x. IsTrue (is_ascii_digit x)) xs 0 (λ i lt. prefix_len_passes is_ascii_digit xs i 0 (omega (arith, lt, h)))))
-
 -- the digits in front are digits
-pub front_digits : (xs : List ℕ) → AreDigits (digits_front xs)
+pub front_digits : (xs : List ℕ) → AreDigits (take (prefix_len is_ascii_digit xs) xs)
 front_digits xs =
-    digits_list_all _ (list_all-from_AllPass is_ascii_digit _ (All-from_get_or (λ x. IsTrue (is_ascii_digit x)) (digits_front xs) 0 (λ i lt.
+    digits_list_all _ (list_all-from_AllPass is_ascii_digit _ (All-from_get_or (λ x. IsTrue (is_ascii_digit x)) (take (prefix_len is_ascii_digit xs) xs) 0 (λ i lt.
     let within : i < prefix_len is_ascii_digit xs = omega (arith, lt, length-prefix_len is_ascii_digit xs) in
     rw (get_or-take (prefix_len is_ascii_digit xs) xs i 0 within) (prefix_len_passes is_ascii_digit xs i 0 within))))
 

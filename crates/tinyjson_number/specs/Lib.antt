@@ -9,4 +9,5 @@ pub mod Layout
 pub mod Error
 pub mod Integer
 pub mod Reading
+pub mod Scan
 pub mod private

@@ -7,7 +7,7 @@ ghost use Rattle.tinyjson_number.specs.Text.{decimal_text, magnitude_text};
 
 use crate::digits::Digits;
 use crate::number::JsonNumber;
-use std::simd::prelude::*;
+use tinyjson_bytes::put;
 
 /// At most this many bytes of a buffer are changed.
 const BUFFER: usize = 32;
@@ -136,16 +136,4 @@ fn put_fraction(buffer: &mut [u8], at: usize, bytes: &[u8], count: usize, zeros:
     put::<8>(buffer, at, b"0.000000");
     put::<16>(buffer, at + 2 + zeros, bytes);
     at + 2 + zeros + count
-}
-
-/// Puts the first N bytes at the place, of which any count at the front may be meant.
-#[inline(always)]
-fn put<const N: usize>(buffer: &mut [u8], at: usize, bytes: &[u8])
-    requires bytes { N ≤ length bytes.now }
-    requires room { at + N ≤ length buffer.old }
-    ensures put { (n : ℕ) → n ≤ N
-        → take (at + n) buffer.new ≡ take at buffer.old ++ take n bytes.now }
-    ensures len { length buffer.new ≡ length buffer.old }
-{
-    Simd::<u8, N>::from_slice(bytes).copy_to_slice(&mut buffer[at..]);
 }

@@ -2,6 +2,8 @@
 //!
 //! A [`JsonNumber`] is zero, or a sign, digits that neither begin nor end with `0`, and a power of ten
 //! in the range of `i64`. Each number has one such form, so equal numbers have equal texts.
+//!
+//! The crate `tinyjson` uses it and re-exports its names: a program takes `tinyjson` alone.
 #![tactic(auto)]
 
 mod buffer;
@@ -11,9 +13,12 @@ mod inline;
 mod integer;
 mod number;
 mod parse;
+mod scan;
 mod text;
 
 pub use error::{JsonNumberError, LiteralError};
 pub use number::JsonNumber;
 pub use parse::{ExponentParts, NumberParts};
+#[doc(hidden)]
+pub use scan::{has_leading_zero, number_at, plain_number_at};
 pub use text::Layout;

@@ -1,28 +1,23 @@
 //! The number that a text spells (RFC 8259, section 6).
-ghost use Rattle.std.specs.Prelude.{◌≡◌, ℕ, ◌+◌, ◌<◌, ◌≤◌, ◌^◌, ◌++◌, length, take, drop, min, pos};
+ghost use Rattle.std.specs.Prelude.{◌≡◌, ◌+◌, ◌<◌, ◌≤◌, ◌^◌, ◌++◌, length, take, drop, min, pos};
 ghost use Rattle.std.specs.Prelude.{neg_ℤ, ◌≤ℤ◌, None};
-ghost use Rattle.std.specs.Prelude.{option_map, IfSome, IsOk, MatchOption, FitsSigned, IsTrue, Err};
+ghost use Rattle.std.specs.Prelude.{IfSome, IsOk, MatchOption, FitsSigned, IsTrue, Err};
 ghost use Rattle.std.specs.Int.{w64};
-ghost use Rattle.std.specs.List.{prefix_len};
-ghost use Rattle.std.specs.Char.{is_ascii_digit};
 ghost use Rattle.std.specs.Str.Parse.{digits_value};
 ghost use Rattle.tinyjson_number.specs.Decimal.{strip_leading, strip_trailing, significant};
 ghost use Rattle.tinyjson_number.specs.Decimal.{trailing_zeros};
-ghost use Rattle.tinyjson_number.specs.Numeral.{Numeral, IsNumeral, AreDigits, has_leading_zero};
-ghost use Rattle.tinyjson_number.specs.Numeral.{value, in_range};
+ghost use Rattle.tinyjson_number.specs.Numeral.{Numeral, IsNumeral, AreDigits, value, in_range};
 ghost use Rattle.tinyjson_number.specs.NumberText.{Spells};
-ghost use Rattle.tinyjson_number.specs.private.Scan.{begins, digits_front, digits_rest};
-ghost use Rattle.tinyjson_number.specs.private.Scan.{after_minus, integer_at, fraction_at};
-ghost use Rattle.tinyjson_number.specs.private.Scan.{exponent_at, exponent_digits_at, exponent_cap};
-ghost use Rattle.tinyjson_number.specs.private.Scan.{capped, scan, shifted};
-ghost use Rattle.tinyjson_number.specs.Reading.{Reads, ReadsNumeral, numeral_of, exponent_of};
-ghost use Rattle.tinyjson_number.specs.Reading.{plain, plain_exponent, plain_numeral};
+ghost use Rattle.tinyjson_number.specs.private.Power.{capped, exponent_cap, shifted};
+ghost use Rattle.tinyjson_number.specs.Reading.{Reads, ReadsNumeral, exponent_of, numeral_of};
+ghost use Rattle.tinyjson_number.specs.Reading.{plain, plain_numeral};
 ghost use Rattle.tinyjson_number.specs.declared.error.LiteralError.TheVariants as literal_error;
 ghost use Rattle.tinyjson_number.specs.declared.error.JsonNumberError.TheVariants as number_error;
 
 use crate::error::{JsonNumberError, LiteralError};
 use crate::inline::INLINE_DIGITS;
 use crate::number::JsonNumber;
+use crate::scan::number_at;
 use std::alloc::Global;
 
 /// The parts of a number, as a parser finds them in a text (RFC 8259, section 6).
@@ -358,127 +353,13 @@ fn kept_len(digits: &[u8]) -> usize
 }
 
 /// The parts of the number that the whole text is, or `None` if it is none of the grammar.
-#[tactic(auto, unfolding(crate::specs::private::Scan::scan))]
 fn read(text: &[u8]) -> Option<NumberParts<'_>>
-    ensures { option_map numeral_of result ≡ option_map plain (scan text.now) }
+    ensures { MatchOption result ((n : Numeral) → ¬ Spells n text.now)
+        (λ p. (n : Numeral) × (numeral_of p ≡ plain n) × Spells n text.now) }
 {
-    let negative = begins_with(text, b'-');
-    let (integer, rest) = integer_part(after_minus(text))?;
-    let (fraction, rest) = fraction(rest)?;
-    let exponent = exponent(rest)?;
-    Some(NumberParts {
-        negative,
-        integer,
-        fraction,
-        exponent,
-    })
-}
-
-fn begins_with(text: &[u8], byte: u8) -> bool
-    ensures { result ≡ begins byte text.now }
-{
-    match text {
-        [] => false,
-        [first, ..] => *first == byte,
-    }
-}
-
-/// The text after a `-` that it begins with.
-fn after_minus(text: &[u8]) -> &[u8]
-    ensures { result.now ≡ after_minus text.now }
-{
-    if begins_with(text, b'-') {
-        &text[1..]
-    } else {
-        text
-    }
-}
-
-fn digits_len(text: &[u8]) -> usize
-    ensures value { result ≡ prefix_len is_ascii_digit text.now }
-    ensures within { result ≤ length text.now }
-{
-    for (i, b) in text.iter().enumerate() {
-        if !b.is_ascii_digit() {
-            return i;
-        }
-    }
-    text.len()
-}
-
-/// The digits that a text begins with, and the rest.
-fn split_digits(text: &[u8]) -> (&[u8], &[u8])
-    ensures front { result.0.now ≡ digits_front text.now }
-    ensures rest { result.1.now ≡ digits_rest text.now }
-{
-    text.split_at(digits_len(text))
-}
-
-fn has_leading_zero(digits: &[u8]) -> bool
-    ensures { result ≡ has_leading_zero digits.now }
-{
-    match digits {
-        [first, _, ..] => *first == b'0',
-        _ => false,
-    }
-}
-
-/// The integer part, and the rest.
-#[tactic(auto, unfolding(crate::specs::private::Scan::integer_at))]
-fn integer_part(text: &[u8]) -> Option<(&[u8], &[u8])>
-    ensures { option_map (λ p. (p.0.now, p.1.now)) result ≡ integer_at text.now }
-{
-    let (digits, rest) = split_digits(text);
-    if digits.is_empty() || has_leading_zero(digits) {
+    let (parts, end) = number_at(text, 0)?;
+    if end < text.len() {
         return None;
     }
-    Some((digits, rest))
-}
-
-/// The digits after a point, and the rest.
-#[tactic(auto, unfolding(crate::specs::private::Scan::fraction_at))]
-fn fraction(text: &[u8]) -> Option<(&[u8], &[u8])>
-    ensures { option_map (λ p. (p.0.now, p.1.now)) result ≡ fraction_at text.now }
-{
-    if !begins_with(text, b'.') {
-        return Some((b"", text));
-    }
-    let (digits, rest) = split_digits(&text[1..]);
-    if digits.is_empty() {
-        return None;
-    }
-    Some((digits, rest))
-}
-
-/// The exponent that the rest of a number is, if it is one.
-#[tactic(auto, unfolding(crate::specs::private::Scan::exponent_at))]
-fn exponent(text: &[u8]) -> Option<Option<ExponentParts<'_>>>
-    ensures { option_map exponent_of result ≡ option_map plain_exponent (exponent_at text.now) }
-{
-    if text.is_empty() {
-        return Some(None);
-    }
-    if begins_with(text, b'e') || begins_with(text, b'E') {
-        exponent_digits(&text[1..])
-    } else {
-        None
-    }
-}
-
-/// The sign and the digits of an exponent, to the end of the text.
-#[tactic(auto, unfolding(crate::specs::private::Scan::exponent_digits_at))]
-fn exponent_digits(text: &[u8]) -> Option<Option<ExponentParts<'_>>>
-    ensures { (letter : ℕ) → option_map exponent_of result
-        ≡ option_map plain_exponent (exponent_digits_at letter text.now) }
-{
-    let negative = begins_with(text, b'-');
-    let digits = if negative || begins_with(text, b'+') {
-        &text[1..]
-    } else {
-        text
-    };
-    if digits.is_empty() || digits_len(digits) < digits.len() {
-        return None;
-    }
-    Some(Some(ExponentParts { negative, digits }))
+    Some(parts)
 }

@@ -1,7 +1,6 @@
 -- What is written, and what is buffered.
 pub mod Written
 pub mod Sending
-pub mod Copies
 -- The bytes of quoted strings and of numbers.
 pub mod Bytes
 pub mod Digits

@@ -10,7 +10,7 @@ use Rattle.std.proofs.lemmas.Bool.{cases_lt, cond_both}
 use Rattle.std.proofs.lemmas.List.{take_all, drop_all}
 use Rattle.std.proofs.lemmas.Bool.Decides.{nat_tests}
 use Rattle.std.specs.List.{prefix_len}
-use Rattle.tinyjson_scan.specs.Scan.{is_plain}
+use Rattle.tinyjson_bytes.specs.Scan.{is_plain}
 use Rattle.tinyjson_grammar.specs.Text.{quoted, escape, escapes}
 use Rattle.tinyjson_output.proofs.Bytes.{enc, enclosed}
 

@@ -1,13 +1,15 @@
-//! What a writer gets: the bytes of a buffer before it, which holds 4,096, and the texts of numbers and of strings. Also
-//! `presort`, the part of the ordering of members that knows no values.
+//! What a writer gets: the bytes of a buffer before it, which holds 4,096, and the texts of numbers and of strings.
 //!
-//! The generator of `tinyjson` uses it. Its contracts say what is written and what is buffered.
+//! It is part of the inside of `tinyjson`, which a program takes alone. Its contracts say what is written and what is
+//! buffered.
 #![tactic(auto)]
 
-pub mod buffer;
-pub mod number;
-pub mod presort;
-pub mod quick;
-pub mod quote;
+mod buffer;
+mod number;
+mod quick;
+mod strings;
 
-pub use buffer::Buffer;
+pub use buffer::{Buffer, flush, write_bytes};
+pub use number::write_number;
+pub use quick::{quick_key, quick_number, quick_text, quick_word};
+pub use strings::quote;

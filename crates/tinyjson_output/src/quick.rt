@@ -7,8 +7,8 @@ ghost use Rattle.tinyjson_number.specs.Text.{decimal_text};
 ghost use Rattle.tinyjson_output.specs.Buffer.{buffered};
 
 use crate::buffer::Buffer;
+use tinyjson_bytes::plain_end;
 use tinyjson_number::JsonNumber;
-use tinyjson_scan::plain_end;
 
 /// Appends the bytes of a word to the buffer if they fit, and returns whether it did.
 #[inline(always)]

@@ -5,3 +5,5 @@ pub use Rattle.tinyjson_tokens.proofs.Reading.Steps.{Refuses_as, Refuses_memory,
 pub use Rattle.tinyjson_tokens.proofs.Reading.Steps.{end_after, end_awaited, end_colon, end_first, invalid, no_end}
 pub use Rattle.tinyjson_tokens.proofs.Reading.Steps.{white_after, white_awaited, white_colon, white_finished, white_first}
 pub use Rattle.tinyjson_tokens.proofs.Reading.Numerals.{Leads_numeral}
+-- The text of a string to which a character was added.
+pub use Rattle.tinyjson_tokens.proofs.Units.{text_push}

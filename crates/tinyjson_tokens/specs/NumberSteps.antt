@@ -5,7 +5,7 @@ use Rattle.std.specs.Char.{is_ascii_digit}
 use Rattle.std.specs.List.{AllByRecursion}
 use Rattle.tinyjson_number.specs.Characters.{minus_sign}
 use Rattle.tinyjson_number.specs.Numeral.{Numeral, Exponent, IsNumeral, has_leading_zero, is_sign, sign_text}
-use Rattle.tinyjson_source.specs.Source.{Sight, Still, Takes}
+use Rattle.tinyjson_tokens.specs.Source.{Sight, Still, Takes}
 use Rattle.tinyjson_grammar.specs.Machine.{Frame, Stage, Next, next, digits}
 use Rattle.tinyjson_tokens.specs.Steps.{Ends, Leads, Refuses}
 use Rattle.tinyjson_tokens.specs.declared.number.Marks.{Marks}

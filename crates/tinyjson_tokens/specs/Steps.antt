@@ -6,7 +6,7 @@ use Rattle.std.specs.declared.alloc.Global.{Global}
 use Rattle.tinyjson_grammar.specs.Tree.{Tree, string}
 use Rattle.tinyjson_grammar.specs.Characters.{text}
 use Rattle.tinyjson_grammar.specs.Position.{advance}
-use Rattle.tinyjson_source.specs.Source.{Sight}
+use Rattle.tinyjson_tokens.specs.Source.{Sight}
 use Rattle.tinyjson_grammar.specs.Machine.{Frame, literal, plain, quoted, Next, next, stop, Outcome}
 use Rattle.tinyjson_grammar.specs.Machine.{refused, complete, step, end, run, strictly}
 use Rattle.tinyjson_grammar.specs.declared.error.JsonParseErrorKind.{JsonParseErrorKind}

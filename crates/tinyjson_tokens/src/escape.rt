@@ -4,7 +4,7 @@ ghost use Rattle.std.specs.Char.{digit_value};
 ghost use Rattle.tinyjson_grammar.specs.Characters.{short_escape, is_high};
 ghost use Rattle.tinyjson_tokens.specs.Escape.{EscapeAt, NoBackslash, UnitAt};
 
-use tinyjson_source::utf16::{is_high, is_low, pair};
+use crate::utf16::{is_high, is_low, pair};
 
 /// What the letter after a backslash stands for. Letters from `b` on are looked up in a small table, so
 /// that no jump has to be guessed for them.

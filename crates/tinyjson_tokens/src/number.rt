@@ -13,11 +13,10 @@ ghost use Rattle.tinyjson_grammar.specs.Tree.{number};
 ghost use Rattle.tinyjson_number.specs.Numeral.{numeral, Numeral, is_exponent_letter};
 ghost use Rattle.tinyjson_number.specs.Reading.{ReadsNumeral, exponent_of};
 
-use crate::numerals::has_leading_zero;
 use crate::reader::TokenReader;
 use crate::tokens::Tokens;
 use tinyjson_grammar::JsonParseErrorKind;
-use tinyjson_number::{ExponentParts, JsonNumber, LiteralError, NumberParts};
+use tinyjson_number::{ExponentParts, JsonNumber, LiteralError, NumberParts, has_leading_zero};
 
 /// What a number has besides its digits, which are gathered without anything between them.
 #[derive(Clone, Copy)]

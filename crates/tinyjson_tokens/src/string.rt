@@ -10,10 +10,10 @@ ghost use Rattle.tinyjson_grammar.specs.Tree.{string};
 use crate::escape::short_escape;
 use crate::reader::TokenReader;
 use crate::tokens::Tokens;
+use crate::utf16::{decode, push};
 use std::mem;
+use tinyjson_bytes::is_plain;
 use tinyjson_grammar::JsonParseErrorKind;
-use tinyjson_scan::is_plain;
-use tinyjson_source::utf16::{decode, push};
 
 impl<S: Tokens> TokenReader<S> {
     /// Reads the rest of a string, after its opening quote.

@@ -5,12 +5,13 @@ ghost use Rattle.tinyjson_grammar.specs.Machine.{Frame};
 ghost use Rattle.tinyjson_tokens.specs.Numerals.{TakesNumber, TakesParts};
 ghost use Rattle.tinyjson_tokens.specs.Steps.{Halts, Leads, within};
 
+use crate::cursor::Characters;
 use crate::escape::escape_at;
-use crate::numerals::{parts_at, scientific_at};
+use crate::source::Source;
+use crate::text::TextBytes;
+use crate::utf16::push;
 use std::alloc::{AllocError, Global};
-use tinyjson_number::{JsonNumber, NumberParts};
-use tinyjson_source::utf16::push;
-use tinyjson_source::{Characters, Source, TextBytes};
+use tinyjson_number::{JsonNumber, NumberParts, number_at, plain_number_at};
 
 /// A source of which the parser reads.
 pub trait Tokens: Source {
@@ -61,7 +62,7 @@ impl<'a> Tokens for TextBytes<'a> {
     }
 
     fn numeral(&self) -> Option<(NumberParts<'_>, Self)> {
-        let (parts, end) = parts_at(self.text.as_bytes(), self.at)?;
+        let (parts, end) = plain_number_at(self.text.as_bytes(), self.at)?;
         let after = TextBytes {
             text: self.text,
             at: end,
@@ -70,7 +71,7 @@ impl<'a> Tokens for TextBytes<'a> {
     }
 
     fn scientific(&self, alloc: Global) -> Option<(JsonNumber, Self)> {
-        let (parts, end) = scientific_at(self.text.as_bytes(), self.at)?;
+        let (parts, end) = number_at(self.text.as_bytes(), self.at)?;
         let after = TextBytes {
             text: self.text,
             at: end,

@@ -11,7 +11,7 @@ use Rattle.tinyjson.specs.declared.value.JsonValue.TheVariants as is
 use Rattle.tinyjson_grammar.specs.Characters.{is_white}
 use Rattle.tinyjson_grammar.specs.Machine.{step, fits, quoted, plain, Frame, in_array, at_key, at_value, colon, first, awaited, after, Next, next, stop, complete}
 use Rattle.tinyjson_grammar.specs.declared.error.JsonParseErrorKind.TheVariants.{TooDeep, KeyNotString, ExpectedCommaOrBracket, ExpectedCommaOrBrace, ExpectedColon}
-use Rattle.tinyjson_source.specs.Source.{Sight, Takes}
+use Rattle.tinyjson_tokens.specs.Source.{Sight, Takes}
 use Rattle.tinyjson_tokens.specs.Steps.{letters_left, onward, Leads}
 use Rattle.tinyjson.specs.private.Steps.{BeginsLiteral}
 use Rattle.tinyjson_tokens.proofs.Callers.{Leads_nil, Leads_one, Leads_shown, Leads_end, end_first, end_awaited}

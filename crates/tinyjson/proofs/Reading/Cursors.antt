@@ -1,8 +1,8 @@
 -- What a cursor gives is what a parser over it has left.
 use Rattle.std.proofs.Common.{◌≡◌, ℕ, Bool, true, false, List, [], ◌++◌, Option, Some, None, cond, refl, sym, true≢false}
 use Rattle.std.specs.Option.{option_to_list}
-use Rattle.tinyjson_source.specs.Cursor.{Gives, Begins}
-use Rattle.tinyjson_source.specs.declared.cursor.Cursor.{Cursor}
+use Rattle.tinyjson_tokens.specs.Cursor.{Gives, Begins}
+use Rattle.tinyjson_tokens.specs.declared.cursor.Cursor.{Cursor}
 use Rattle.tinyjson.specs.Parser.{Follows}
 
 module _ {S : Type 0} (steps : S → Option ℕ → S → Type 0) where

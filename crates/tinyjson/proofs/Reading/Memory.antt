@@ -2,7 +2,7 @@
 use Rattle.std.proofs.Common.{◌≡◌, ℕ, List, [], ◌∷◌, ◌++◌, true, Result, Ok, Err, Some, IfErr, IsTrue, ap, ◌∙◌}
 use Rattle.std.specs.List.{AllByRecursion}
 use Rattle.tinyjson_grammar.specs.Characters.{is_white}
-use Rattle.tinyjson_source.specs.Source.{Sight, Whites}
+use Rattle.tinyjson_tokens.specs.Source.{Sight, Whites}
 use Rattle.tinyjson.specs.private.Steps.{Grows}
 use Rattle.tinyjson_grammar.specs.Refusal.{begins_growth}
 use Rattle.tinyjson_grammar.specs.Syntax.{AreWhite}

@@ -6,7 +6,7 @@ use Rattle.std.specs.Char.{IsScalar}
 use Rattle.std.specs.Str.{all_scalars}
 use lib.Utf8.{scalar as is_scalar}
 use Rattle.tinyjson.specs.Parser.{Parser, Parses, ParsesText}
-use Rattle.tinyjson_source.specs.Source.{Sight}
+use Rattle.tinyjson_tokens.specs.Source.{Sight}
 use Rattle.tinyjson.specs.Error.{error_position}
 use Rattle.tinyjson_grammar.specs.Grammar.{IsText, IsAccepted}
 use Rattle.tinyjson_grammar.specs.Machine.{Frame, Phase, State, Next, next, stop, awaited, finished, accepted, refused, step, end, run, reach, reach_on, strictly}

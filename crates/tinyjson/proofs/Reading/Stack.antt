@@ -8,7 +8,7 @@ use Rattle.tinyjson.specs.Access.{JsonMap}
 use Rattle.tinyjson_grammar.specs.Machine.{Frame, in_array, at_key, at_value, awaited, after, colon, Next, next, stop, complete}
 use Rattle.tinyjson.specs.private.Stack.{gather, waiting, frames_over, complete_over, own_members, other_maps, Lies, open_of, maps_of, frames, at, HasComplete, AwaitsKey, TakesValue, BeginsMember, ClosesArray, ClosesObject}
 use Rattle.tinyjson_tokens.specs.Steps.{IsNext, onward, Leads, Halts}
-use Rattle.tinyjson_source.specs.Source.{Sight, Whites}
+use Rattle.tinyjson_tokens.specs.Source.{Sight, Whites}
 use Rattle.tinyjson_grammar.specs.Characters.{is_white}
 use Rattle.tinyjson_grammar.specs.Kind.{kind_of}
 use Rattle.tinyjson_grammar.specs.declared.error.JsonParseErrorKind.TheVariants.{KeyNotString, ExpectedColon}

@@ -3,7 +3,7 @@ use Rattle.std.specs.Prelude.{◌≡◌, ℕ, List, [], Option, Result, MatchRes
 use Rattle.tinyjson_grammar.specs.Characters.{letter_f, letter_n, letter_t}
 use Rattle.tinyjson_grammar.specs.Machine.{awaited, finished, next}
 use Rattle.tinyjson_grammar.specs.Refusal.{MayGrow, begins_growth}
-use Rattle.tinyjson_source.specs.Source.{Sight}
+use Rattle.tinyjson_tokens.specs.Source.{Sight}
 use Rattle.tinyjson_tokens.specs.Steps.{Leads, Refuses}
 use Rattle.tinyjson.specs.Error.{error_position}
 use Rattle.tinyjson.specs.View.{view}

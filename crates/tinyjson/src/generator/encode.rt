@@ -24,11 +24,7 @@ use crate::value::JsonValue;
 use std::alloc::Global;
 use std::collections::HashMap;
 use std::io::{self, Write};
-use tinyjson_output::Buffer;
-use tinyjson_output::buffer::{flush, write_bytes};
-use tinyjson_output::number::write_number;
-use tinyjson_output::quick::quick_key;
-use tinyjson_output::quote::quote;
+use tinyjson_output::{Buffer, flush, quick_key, quote, write_bytes, write_number};
 
 /// Writes the text of the value, by way of a buffer that is flushed at the end. After an error a
 /// prefix of the text is written.

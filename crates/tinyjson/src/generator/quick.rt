@@ -11,8 +11,7 @@ ghost use Rattle.tinyjson.specs.View.{view, items_view};
 
 use super::sorted::{first_member, holds_others, next_member};
 use crate::value::JsonValue;
-use tinyjson_output::Buffer;
-use tinyjson_output::quick::{quick_key, quick_number, quick_text, quick_word};
+use tinyjson_output::{Buffer, quick_key, quick_number, quick_text, quick_word};
 
 /// Appends the text of a value that holds no other to the buffer if it fits, and returns whether it did.
 #[inline(always)]

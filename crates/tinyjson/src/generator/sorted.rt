@@ -9,7 +9,7 @@ ghost use Rattle.tinyjson.specs.View.{members_view};
 use crate::value::JsonValue;
 use std::alloc::{AllocError, Global};
 use std::collections::HashMap;
-use tinyjson_output::presort::presort;
+use tinyjson_bytes::presort;
 
 /// Puts the members after those that were gathered before, the last key's member first, so that they
 /// are popped in the order of their keys' bytes. Says whether no value of them holds another.

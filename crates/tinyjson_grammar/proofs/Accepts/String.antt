@@ -1,5 +1,6 @@
 -- The machine reads a string.
-use Rattle.std.proofs.Common.{◌≡◌, ℕ, ◌≤◌, Bool, true, false, List, [], ◌∷◌, ◌++◌, Option, Some, None, refl, ap, sym, ◌∙◌, cond, append_assoc, append-nil, arith, nat_lt, ◌&&◌, ◌||◌, ◌==◌, not}
+use Rattle.std.proofs.Common.{◌≡◌, ℕ, ◌≤◌, Bool, true, false, List, [], ◌∷◌, ◌++◌, Option, Some, None, refl, ap, sym, ◌∙◌, cond}
+use Rattle.std.proofs.Common.{append_assoc, append-nil, arith, nat_lt, ◌&&◌, ◌||◌, ◌==◌, not}
 use Rattle.std.specs.Prelude.{IsTrue, IsSome, unwrap_or}
 use Rattle.std.specs.Char.{IsScalar}
 use Rattle.std.proofs.lemmas.Bool.{and_right, or_parts, true≢false, false≢true}
@@ -21,7 +22,8 @@ decode_cons c (v ∷ vs) h = rw (or_parts (is_high c) (is_low c) h).0
 
 pub decode_append : (us : List ℕ) (c : ℕ) (vs : List ℕ) → is_surrogate c ≡ false → decode (us ++ c ∷ vs) ≡ decode us ++ c ∷ decode vs
 decode_append [] c vs h = decode_cons c vs h
-decode_append (u ∷ []) c vs h = rw (and_right (is_high u) (is_low c) (or_parts (is_high c) (is_low c) h).1) (ap (λ z. u ∷ z) (decode_cons c vs h))
+decode_append (u ∷ []) c vs h = rw (and_right (is_high u) (is_low c) (or_parts (is_high c) (is_low c) h).1)
+    (ap (λ z. u ∷ z) (decode_cons c vs h))
 decode_append (u ∷ v ∷ us) c vs h =
     ap (λ x. cond (is_high u && is_low v) (pair_of u v ∷ x) (u ∷ decode (v ∷ us ++ c ∷ vs))) (decode_append us c vs h)
     ∙ ap (λ y. cond (is_high u && is_low v) (pair_of u v ∷ (decode us ++ c ∷ decode vs)) (u ∷ y)) (decode_append (v ∷ us) c vs h)
@@ -56,7 +58,8 @@ some_unwrap (Some d) h = refl
 
 -- ---- what is gathered
 
-append_codes : (cs us : List ℕ) (c : ℕ) (vs : List ℕ) → is_surrogate c ≡ false → ((cs ++ decode us) ++ c ∷ []) ++ decode vs ≡ cs ++ decode (us ++ c ∷ vs)
+append_codes : (cs us : List ℕ) (c : ℕ) (vs : List ℕ) → is_surrogate c ≡ false
+    → ((cs ++ decode us) ++ c ∷ []) ++ decode vs ≡ cs ++ decode (us ++ c ∷ vs)
 append_codes cs us c vs h = rw (decode_append us c vs h) (simp append_assoc)
 
 front_fine : (s a b : Bool) → (s && not (a && b)) ≡ false → (s && not a) ≡ false
@@ -69,7 +72,8 @@ rest_fine true true b h = h
 rest_fine true false b h = absurd (true≢false h)
 rest_fine false a b h = refl
 
-fine_parts : (s : Bool) (us : List ℕ) (c : ℕ) (vs : List ℕ) → is_surrogate c ≡ false → (s && not (paired (us ++ c ∷ vs))) ≡ false → ((s && not (paired us)) ≡ false) × ((s && not (paired vs)) ≡ false)
+fine_parts : (s : Bool) (us : List ℕ) (c : ℕ) (vs : List ℕ) → is_surrogate c ≡ false → (s && not (paired (us ++ c ∷ vs))) ≡ false
+    → ((s && not (paired us)) ≡ false) × ((s && not (paired vs)) ≡ false)
 fine_parts s us c vs h f = let g : (s && not (paired us && paired vs)) ≡ false = rw (← paired_append us c vs h) f in
     (front_fine s (paired us) (paired vs) g, rest_fine s (paired us) (paired vs) g)
 
@@ -82,8 +86,10 @@ plain_no_backslash c h = grind arith
 pub plain_no_control : (c : ℕ) → 32 ≤ c → nat_lt c 32 ≡ false
 plain_no_control c h = grind arith
 
-run_pieces : (r : Rules) (fs : List Frame) (cs us : List ℕ) (ps : List Piece) (xs : List ℕ) → ArePieces ps → (r.strict && not (paired (us ++ piece_codes ps))) ≡ false →
-    run r fs (quoted plain cs us) (pieces_text ps ++ 34 ∷ xs) ≡ settle r (complete r.strict fs (Tree.string (cs ++ decode (us ++ piece_codes ps))) true) xs
+run_pieces : (r : Rules) (fs : List Frame) (cs us : List ℕ) (ps : List Piece) (xs : List ℕ) → ArePieces ps
+    → (r.strict && not (paired (us ++ piece_codes ps))) ≡ false →
+    run r fs (quoted plain cs us) (pieces_text ps ++ 34 ∷ xs)
+        ≡ settle r (complete r.strict fs (Tree.string (cs ++ decode (us ++ piece_codes ps))) true) xs
 unfolding run step
 run_pieces r fs cs us [] xs h f =
     let f' : (r.strict && not (paired us)) ≡ false = rw (append-nil us) at f in
@@ -91,20 +97,25 @@ run_pieces r fs cs us [] xs h f =
 run_pieces r fs cs us (Piece.plain c ∷ ps) xs h f =
     let n = scalar_no_surrogate c h.0.0 in
     let g = fine_parts r.strict us c (piece_codes ps) n f in
-    rw (plain_no_quote c h.0.2, plain_no_backslash c h.0.2, plain_no_control c h.0.1, g.0, ← append_codes cs us c (piece_codes ps) n) (run_pieces r fs ((cs ++ decode us) ++ c ∷ []) [] ps xs h.1 g.1)
+    rw (plain_no_quote c h.0.2, plain_no_backslash c h.0.2, plain_no_control c h.0.1, g.0, ← append_codes cs us c (piece_codes ps) n)
+        (run_pieces r fs ((cs ++ decode us) ++ c ∷ []) [] ps xs h.1 g.1)
 run_pieces r fs cs us (Piece.escape c ∷ ps) xs h f =
     let e = some_unwrap (short_escape c) h.0 in
     let d = unwrap_or (short_escape c) 0 in
     let n = escape_no_surrogate c d e in
     let g = fine_parts r.strict us d (piece_codes ps) n f in
-    ap (λ o. go_on (λ gs q. run r gs q (pieces_text ps ++ 34 ∷ xs)) (step_escape r fs cs us c o) (c ∷ (pieces_text ps ++ 34 ∷ xs)) (pieces_text ps ++ 34 ∷ xs)) e
+    ap (λ o. go_on (λ gs q. run r gs q (pieces_text ps ++ 34 ∷ xs)) (step_escape r fs cs us c o) (c ∷ (pieces_text ps ++ 34 ∷ xs))
+        (pieces_text ps ++ 34 ∷ xs)) e
     ∙ rw (g.0, ← append_codes cs us d (piece_codes ps) n) (run_pieces r fs ((cs ++ decode us) ++ d ∷ []) [] ps xs h.1 g.1)
 run_pieces r fs cs us (Piece.unit a b c d ∷ ps) xs h f =
     let u = unit_value a b c d in
     let f' : (r.strict && not (paired ((us ++ u ∷ []) ++ piece_codes ps))) ≡ false = rw (append_assoc us (u ∷ []) (piece_codes ps)) f in
     rw (h.0.0, h.0.1, h.0.2, h.0.3) (rw (append_assoc us (u ∷ []) (piece_codes ps)) at (run_pieces r fs cs (us ++ u ∷ []) ps xs h.1 f'))
 
-pub run_string : (r : Rules) (fs : List Frame) (ps : List Piece) (xs : List ℕ) → ArePieces ps → (r.strict ≡ true → IsTrue (paired (piece_codes ps))) →
-    run r fs awaited ((34 ∷ (pieces_text ps ++ 34 ∷ [])) ++ xs) ≡ settle r (complete r.strict fs (Tree.string (decode (piece_codes ps))) true) xs
+pub run_string : (r : Rules) (fs : List Frame) (ps : List Piece) (xs : List ℕ) → ArePieces ps
+    → (r.strict ≡ true → IsTrue (paired (piece_codes ps))) →
+    run r fs awaited ((34 ∷ (pieces_text ps ++ 34 ∷ [])) ++ xs)
+        ≡ settle r (complete r.strict fs (Tree.string (decode (piece_codes ps))) true) xs
 unfolding run step
-run_string r fs ps xs h f = rw (append_assoc (pieces_text ps) (34 ∷ []) xs) (run_pieces r fs [] [] ps xs h (and_false r.strict _ (λ e. ap not (f e))))
+run_string r fs ps xs h f = rw (append_assoc (pieces_text ps) (34 ∷ []) xs)
+    (run_pieces r fs [] [] ps xs h (and_false r.strict _ (λ e. ap not (f e))))

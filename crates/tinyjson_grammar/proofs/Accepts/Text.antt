@@ -16,10 +16,12 @@ rules b limit = record { strict = b; limit = limit }
 pub white_delimited : (w : List ℕ) → AreWhite w → Delimited w
 white_delimited w h = rw (append-nil w) at (delimited_white w [] h tt)
 
-pub run_text : (b : Bool) (limit : Option ℕ) (xs : List ℕ) (l : IsLoose limit xs) → (b ≡ true → IsStrict l.value) → run (rules b limit) [] awaited xs ≡ accepted (tree_of l.value)
+pub run_text : (b : Bool) (limit : Option ℕ) (xs : List ℕ) (l : IsLoose limit xs) → (b ≡ true → IsStrict l.value)
+    → run (rules b limit) [] awaited xs ≡ accepted (tree_of l.value)
 run_text b limit xs l h = rw l.whole
     (run_white (rules b limit) [] l.before _ l.white_before
-    ∙ run_value l.value (rules b limit) [] l.after l.spelled h (within_le limit _ _ l.shallow (omega arith)) (ends l.value l.after (white_delimited l.after l.white_after))
+    ∙ run_value l.value (rules b limit) [] l.after l.spelled h (within_le limit _ _ l.shallow (omega arith))
+        (ends l.value l.after (white_delimited l.after l.white_after))
     ∙ finished_white (rules b limit) [] (tree_of l.value) l.after l.white_after)
 
 pub text_accepted : (limit : Option ℕ) (xs : List ℕ) (t : Tree) → IsText limit xs t → run (rules true limit) [] awaited xs ≡ accepted t
@@ -32,5 +34,6 @@ no_text k xs t e = cc
 pub only_tree : (limit : Option ℕ) (xs : List ℕ) (t u : Tree) → IsText limit xs t → IsText limit xs u → t ≡ u
 only_tree limit xs t u h k = let e : accepted t ≡ accepted u = sym (text_accepted limit xs t h) ∙ text_accepted limit xs u k in cc
 
-pub loose_accepted : (limit : Option ℕ) (xs : List ℕ) (l : IsLoose limit xs) → run (rules false limit) [] awaited xs ≡ accepted (tree_of l.value)
+pub loose_accepted : (limit : Option ℕ) (xs : List ℕ) (l : IsLoose limit xs)
+    → run (rules false limit) [] awaited xs ≡ accepted (tree_of l.value)
 loose_accepted limit xs l = run_text false limit xs l (λ e. absurd (false≢true e))

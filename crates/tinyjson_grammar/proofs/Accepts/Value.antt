@@ -1,14 +1,19 @@
 -- The machine reads each spelled value.
-use Rattle.std.proofs.Common.{◌≡◌, ℕ, ◌+◌, ◌<◌, Bool, true, false, List, [], ◌∷◌, ◌++◌, Option, Some, None, refl, ap, ◌∙◌, append_assoc, arith, length, ◌&&◌, ◌==◌, not}
+use Rattle.std.proofs.Common.{◌≡◌, ℕ, ◌+◌, ◌<◌, Bool, true, false, List, [], ◌∷◌, ◌++◌, Option, Some, None, refl, ap, ◌∙◌, append_assoc}
+use Rattle.std.proofs.Common.{arith, length, ◌&&◌, ◌==◌, not}
 use Rattle.std.specs.Prelude.{IsTrue, ⊤}
 use Rattle.std.specs.Char.{is_ascii_digit}
 use Rattle.std.proofs.lemmas.Bool.{lt-ltb}
 use Rattle.tinyjson_grammar.specs.Tree as tree
 use Rattle.tinyjson_grammar.specs.Characters.{is_white}
 use Rattle.tinyjson_number.specs.Numeral.{minus_text, AreDigits}
-use Rattle.tinyjson_grammar.specs.Syntax.{Syntax, Elements, Pairs, null, boolean, number, string, empty_array, array, empty_object, object, last_element, element, last_pair, pair, text, elements_text, pairs_text, AreWhite, IsSpelled, AreElements, ArePairs, IsStrict, ElementsAreStrict, PairsAreStrict, is_key, tree_of, elements_trees, pairs_members, depth, elements_depth, pairs_depth, IsWithin}
+use Rattle.tinyjson_grammar.specs.Syntax.{Syntax, Elements, Pairs, null, boolean, number, string, empty_array, array, empty_object}
+use Rattle.tinyjson_grammar.specs.Syntax.{object, last_element, element, last_pair, pair, text, elements_text, pairs_text, AreWhite}
+use Rattle.tinyjson_grammar.specs.Syntax.{IsSpelled, AreElements, ArePairs, IsStrict, ElementsAreStrict, PairsAreStrict, is_key, tree_of}
+use Rattle.tinyjson_grammar.specs.Syntax.{elements_trees, pairs_members, depth, elements_depth, pairs_depth, IsWithin}
 use Rattle.tinyjson_grammar.specs.Machine.{Rules, Frame, in_array, at_key, at_value, awaited, first, complete, step, run, fits}
-use Rattle.tinyjson_grammar.proofs.Accepts.Runs.{settle, settle_complete, and_false, Delimited, delimited_white, run_white, first_white, after_white, colon_white, digit_is_not, digit_not_white}
+use Rattle.tinyjson_grammar.proofs.Accepts.Runs.{settle, settle_complete, and_false, Delimited, delimited_white, run_white, first_white}
+use Rattle.tinyjson_grammar.proofs.Accepts.Runs.{after_white, colon_white, digit_is_not, digit_not_white}
 use Rattle.tinyjson_grammar.proofs.Accepts.Number.{run_numeral}
 use Rattle.tinyjson_grammar.proofs.Accepts.String.{run_string}
 use Rattle.tinyjson_grammar.proofs.Trace.Paths.{within_le}
@@ -63,21 +68,27 @@ last_element_assoc v t w xs = simp append_assoc
 pub element_assoc : (v t w es xs : List ℕ) → (v ++ (t ++ (w ++ 44 ∷ es))) ++ xs ≡ v ++ (t ++ (w ++ 44 ∷ (es ++ xs)))
 element_assoc v t w es xs = simp append_assoc
 
-pub last_pair_assoc : (a k b c t d xs : List ℕ) → (a ++ (k ++ (b ++ 58 ∷ (c ++ (t ++ d))))) ++ xs ≡ a ++ (k ++ (b ++ 58 ∷ (c ++ (t ++ (d ++ xs)))))
+pub last_pair_assoc : (a k b c t d xs : List ℕ) → (a ++ (k ++ (b ++ 58 ∷ (c ++ (t ++ d))))) ++ xs
+    ≡ a ++ (k ++ (b ++ 58 ∷ (c ++ (t ++ (d ++ xs)))))
 last_pair_assoc a k b c t d xs = simp append_assoc
 
-pub pair_assoc : (a k b c t d ps xs : List ℕ) → (a ++ (k ++ (b ++ 58 ∷ (c ++ (t ++ (d ++ 44 ∷ ps)))))) ++ xs ≡ a ++ (k ++ (b ++ 58 ∷ (c ++ (t ++ (d ++ 44 ∷ (ps ++ xs))))))
+pub pair_assoc : (a k b c t d ps xs : List ℕ) → (a ++ (k ++ (b ++ 58 ∷ (c ++ (t ++ (d ++ 44 ∷ ps)))))) ++ xs
+    ≡ a ++ (k ++ (b ++ 58 ∷ (c ++ (t ++ (d ++ 44 ∷ (ps ++ xs))))))
 pair_assoc a k b c t d ps xs = simp append_assoc
 
 first_elements : (r : Rules) (ts : List tree.Tree) (fs : List Frame) (es : Elements) (xs : List ℕ) → AreElements es →
     run r (in_array ts ∷ fs) first (elements_text es ++ xs) ≡ run r (in_array ts ∷ fs) awaited (elements_text es ++ xs)
-first_elements r ts fs (last_element v s w) xs h = rw (last_element_assoc v (text s) w xs) (first_array r ts fs v _ h.0 (begins_append (text s) _ (text_begins s h.1)))
-first_elements r ts fs (element v s w es) xs h = rw (element_assoc v (text s) w (elements_text es) xs) (first_array r ts fs v _ h.0 (begins_append (text s) _ (text_begins s h.1)))
+first_elements r ts fs (last_element v s w) xs h =
+    rw (last_element_assoc v (text s) w xs) (first_array r ts fs v _ h.0 (begins_append (text s) _ (text_begins s h.1)))
+first_elements r ts fs (element v s w es) xs h = rw (element_assoc v (text s) w (elements_text es) xs)
+    (first_array r ts fs v _ h.0 (begins_append (text s) _ (text_begins s h.1)))
 
 first_pairs : (r : Rules) (ms : tree.Members) (fs : List Frame) (ps : Pairs) (xs : List ℕ) → ArePairs ps →
     run r (at_key ms ∷ fs) first (pairs_text ps ++ xs) ≡ run r (at_key ms ∷ fs) awaited (pairs_text ps ++ xs)
-first_pairs r ms fs (last_pair a k b c s d) xs h = rw (last_pair_assoc a (text k) b c (text s) d xs) (first_object r ms fs a _ h.0 (begins_append (text k) _ (text_begins k h.1)))
-first_pairs r ms fs (pair a k b c s d ps) xs h = rw (pair_assoc a (text k) b c (text s) d (pairs_text ps) xs) (first_object r ms fs a _ h.0 (begins_append (text k) _ (text_begins k h.1)))
+first_pairs r ms fs (last_pair a k b c s d) xs h =
+    rw (last_pair_assoc a (text k) b c (text s) d xs) (first_object r ms fs a _ h.0 (begins_append (text k) _ (text_begins k h.1)))
+first_pairs r ms fs (pair a k b c s d ps) xs h = rw (pair_assoc a (text k) b c (text s) d (pairs_text ps) xs)
+    (first_object r ms fs a _ h.0 (begins_append (text k) _ (text_begins k h.1)))
 
 -- ---- room for the containers
 
@@ -125,15 +136,18 @@ fine_key : (r : Rules) (k : Syntax) → (r.strict ≡ true → IsTrue (is_key k)
 fine_key r k h = rw (string_key k) (and_false r.strict (not (is_key k)) (λ e. ap not (h e)))
 
 -- a key, white space and the colon
-pub key_and_colon : (r : Rules) (ms : tree.Members) (fs : List Frame) (k : Syntax) (b xs : List ℕ) → (r.strict ≡ true → IsTrue (is_key k)) → AreWhite b →
-    settle r (complete r.strict (at_key ms ∷ fs) (tree_of k) true) (b ++ 58 ∷ xs) ≡ run r (at_value ms (tree.key_of (tree_of k)) ∷ fs) awaited xs
+pub key_and_colon : (r : Rules) (ms : tree.Members) (fs : List Frame) (k : Syntax) (b xs : List ℕ) → (r.strict ≡ true → IsTrue (is_key k))
+    → AreWhite b →
+    settle r (complete r.strict (at_key ms ∷ fs) (tree_of k) true) (b ++ 58 ∷ xs)
+        ≡ run r (at_value ms (tree.key_of (tree_of k)) ∷ fs) awaited xs
 unfolding run step
 key_and_colon r ms fs k b xs f h = rw (fine_key r k f) (colon_white r (at_key ms ∷ fs) (tree.key_of (tree_of k)) b (58 ∷ xs) h)
 
 mutual
   unfolding run step
 
-  pub run_value : (s : Syntax) (r : Rules) (fs : List Frame) (xs : List ℕ) → IsSpelled s → (r.strict ≡ true → IsStrict s) → FitsDepth r fs (depth s) → Ends s xs →
+  pub run_value : (s : Syntax) (r : Rules) (fs : List Frame) (xs : List ℕ) → IsSpelled s → (r.strict ≡ true → IsStrict s)
+      → FitsDepth r fs (depth s) → Ends s xs →
       run r fs awaited (text s ++ xs) ≡ settle r (complete r.strict fs (tree_of s) true) xs
   run_value null r fs xs h f m d = settle_complete r r.strict fs tree.null 108 xs
   run_value (boolean true) r fs xs h f m d = settle_complete r r.strict fs (tree.boolean true) 101 xs
@@ -142,15 +156,19 @@ mutual
   run_value (string ps) r fs xs h f m d = run_string r fs ps xs h f
   run_value (empty_array w) r fs xs h f m d = rw (append_assoc w (93 ∷ []) xs, fits_within r.limit (length fs) 0 m)
       (first_white r (in_array [] ∷ fs) w (93 ∷ xs) h ∙ settle_complete r r.strict fs (tree.array tree.no_items) 93 xs)
-  run_value (array es) r fs xs h f m d = rw (append_assoc (elements_text es) (93 ∷ []) xs, fits_within r.limit (length fs) (elements_depth es) m)
+  run_value (array es) r fs xs h f m d = rw (append_assoc (elements_text es) (93 ∷ []) xs, fits_within r.limit (length fs)
+      (elements_depth es) m)
       (first_elements r [] fs es (93 ∷ xs) h ∙ run_elements es r [] fs xs h f (within_le r.limit _ _ m (omega arith)))
   run_value (empty_object w) r fs xs h f m d = rw (append_assoc w (125 ∷ []) xs, fits_within r.limit (length fs) 0 m)
       (first_white r (at_key tree.no_members ∷ fs) w (125 ∷ xs) h ∙ settle_complete r r.strict fs (tree.object tree.no_members) 125 xs)
-  run_value (object ps) r fs xs h f m d = rw (append_assoc (pairs_text ps) (125 ∷ []) xs, fits_within r.limit (length fs) (pairs_depth ps) m)
+  run_value (object ps) r fs xs h f m d = rw (append_assoc (pairs_text ps) (125 ∷ []) xs, fits_within r.limit (length fs) (pairs_depth ps)
+      m)
       (first_pairs r tree.no_members fs ps (125 ∷ xs) h ∙ run_pairs ps r tree.no_members fs xs h f (within_le r.limit _ _ m (omega arith)))
 
-  run_elements : (es : Elements) (r : Rules) (ts : List tree.Tree) (fs : List Frame) (xs : List ℕ) → AreElements es → (r.strict ≡ true → ElementsAreStrict es) → FitsDepth r (in_array ts ∷ fs) (elements_depth es) →
-      run r (in_array ts ∷ fs) awaited (elements_text es ++ 93 ∷ xs) ≡ settle r (complete r.strict fs (tree.array (tree.items_of (ts ++ elements_trees es))) true) xs
+  run_elements : (es : Elements) (r : Rules) (ts : List tree.Tree) (fs : List Frame) (xs : List ℕ) → AreElements es
+      → (r.strict ≡ true → ElementsAreStrict es) → FitsDepth r (in_array ts ∷ fs) (elements_depth es) →
+      run r (in_array ts ∷ fs) awaited (elements_text es ++ 93 ∷ xs)
+          ≡ settle r (complete r.strict fs (tree.array (tree.items_of (ts ++ elements_trees es))) true) xs
   run_elements (last_element v s w) r ts fs xs h f m = rw (last_element_assoc v (text s) w (93 ∷ xs))
       (run_white r (in_array ts ∷ fs) v _ h.0
       ∙ run_value s r (in_array ts ∷ fs) (w ++ 93 ∷ xs) h.1 f m (ends s _ (delimited_white w (93 ∷ xs) h.2 refl))
@@ -158,25 +176,33 @@ mutual
       ∙ settle_complete r r.strict fs (tree.array (tree.items_of (ts ++ tree_of s ∷ []))) 93 xs)
   run_elements (element v s w es) r ts fs xs h f m = rw (element_assoc v (text s) w (elements_text es) (93 ∷ xs))
       (run_white r (in_array ts ∷ fs) v _ h.0
-      ∙ run_value s r (in_array ts ∷ fs) (w ++ 44 ∷ (elements_text es ++ 93 ∷ xs)) h.1 (λ e. (f e).0) (within_le r.limit _ _ m (omega arith)) (ends s _ (delimited_white w _ h.2 refl))
+      ∙ run_value s r (in_array ts ∷ fs) (w ++ 44 ∷ (elements_text es ++ 93 ∷ xs)) h.1 (λ e. (f e).0)
+          (within_le r.limit _ _ m (omega arith)) (ends s _ (delimited_white w _ h.2 refl))
       ∙ after_white r (in_array (ts ++ tree_of s ∷ []) ∷ fs) w (44 ∷ (elements_text es ++ 93 ∷ xs)) h.2
-      ∙ rw (append_assoc ts (tree_of s ∷ []) (elements_trees es)) at (run_elements es r (ts ++ tree_of s ∷ []) fs xs h.3 (λ e. (f e).1) (within_le r.limit _ _ m (omega arith))))
+      ∙ rw (append_assoc ts (tree_of s ∷ []) (elements_trees es)) at
+          (run_elements es r (ts ++ tree_of s ∷ []) fs xs h.3 (λ e. (f e).1) (within_le r.limit _ _ m (omega arith))))
 
-  run_pairs : (ps : Pairs) (r : Rules) (ms : tree.Members) (fs : List Frame) (xs : List ℕ) → ArePairs ps → (r.strict ≡ true → PairsAreStrict ps) → FitsDepth r (at_key ms ∷ fs) (pairs_depth ps) →
-      run r (at_key ms ∷ fs) awaited (pairs_text ps ++ 125 ∷ xs) ≡ settle r (complete r.strict fs (tree.object (pairs_members ms ps)) true) xs
+  run_pairs : (ps : Pairs) (r : Rules) (ms : tree.Members) (fs : List Frame) (xs : List ℕ) → ArePairs ps
+      → (r.strict ≡ true → PairsAreStrict ps) → FitsDepth r (at_key ms ∷ fs) (pairs_depth ps) →
+      run r (at_key ms ∷ fs) awaited (pairs_text ps ++ 125 ∷ xs)
+          ≡ settle r (complete r.strict fs (tree.object (pairs_members ms ps)) true) xs
   run_pairs (last_pair a k b c s d) r ms fs xs h f m = rw (last_pair_assoc a (text k) b c (text s) d (125 ∷ xs))
       (run_white r (at_key ms ∷ fs) a _ h.0
-      ∙ run_value k r (at_key ms ∷ fs) _ h.1 (λ e. (f e).1) (within_le r.limit _ _ m (omega arith)) (ends k _ (delimited_white b (58 ∷ _) h.2 refl))
+      ∙ run_value k r (at_key ms ∷ fs) _ h.1 (λ e. (f e).1) (within_le r.limit _ _ m (omega arith))
+          (ends k _ (delimited_white b (58 ∷ _) h.2 refl))
       ∙ key_and_colon r ms fs k b _ (λ e. (f e).0) h.2
       ∙ run_white r (at_value ms (tree.key_of (tree_of k)) ∷ fs) c _ h.3
-      ∙ run_value s r (at_value ms (tree.key_of (tree_of k)) ∷ fs) (d ++ 125 ∷ xs) h.4 (λ e. (f e).2) (within_le r.limit _ _ m (omega arith)) (ends s _ (delimited_white d (125 ∷ xs) h.5 refl))
+      ∙ run_value s r (at_value ms (tree.key_of (tree_of k)) ∷ fs) (d ++ 125 ∷ xs) h.4 (λ e. (f e).2)
+          (within_le r.limit _ _ m (omega arith)) (ends s _ (delimited_white d (125 ∷ xs) h.5 refl))
       ∙ after_white r (at_key (tree.put (tree.key_of (tree_of k)) (tree_of s) ms) ∷ fs) d (125 ∷ xs) h.5
       ∙ settle_complete r r.strict fs (tree.object (tree.put (tree.key_of (tree_of k)) (tree_of s) ms)) 125 xs)
   run_pairs (pair a k b c s d ps) r ms fs xs h f m = rw (pair_assoc a (text k) b c (text s) d (pairs_text ps) (125 ∷ xs))
       (run_white r (at_key ms ∷ fs) a _ h.0
-      ∙ run_value k r (at_key ms ∷ fs) _ h.1 (λ e. (f e).1) (within_le r.limit _ _ m (omega arith)) (ends k _ (delimited_white b (58 ∷ _) h.2 refl))
+      ∙ run_value k r (at_key ms ∷ fs) _ h.1 (λ e. (f e).1) (within_le r.limit _ _ m (omega arith))
+          (ends k _ (delimited_white b (58 ∷ _) h.2 refl))
       ∙ key_and_colon r ms fs k b _ (λ e. (f e).0) h.2
       ∙ run_white r (at_value ms (tree.key_of (tree_of k)) ∷ fs) c _ h.3
-      ∙ run_value s r (at_value ms (tree.key_of (tree_of k)) ∷ fs) (d ++ 44 ∷ (pairs_text ps ++ 125 ∷ xs)) h.4 (λ e. (f e).2) (within_le r.limit _ _ m (omega arith)) (ends s _ (delimited_white d _ h.5 refl))
+      ∙ run_value s r (at_value ms (tree.key_of (tree_of k)) ∷ fs) (d ++ 44 ∷ (pairs_text ps ++ 125 ∷ xs)) h.4 (λ e. (f e).2)
+          (within_le r.limit _ _ m (omega arith)) (ends s _ (delimited_white d _ h.5 refl))
       ∙ after_white r (at_key (tree.put (tree.key_of (tree_of k)) (tree_of s) ms) ∷ fs) d (44 ∷ (pairs_text ps ++ 125 ∷ xs)) h.5
       ∙ run_pairs ps r (tree.put (tree.key_of (tree_of k)) (tree_of s) ms) fs xs h.6 (λ e. (f e).3) (within_le r.limit _ _ m (omega arith)))

@@ -1,5 +1,6 @@
 -- Each numeral without exponent has an exponent with which its power is 0.
-use Rattle.std.proofs.Common.{◌≡◌, ℕ, ◌-◌, ◌<◌, ◌≤◌, Bool, List, [], ◌∷◌, ◌++◌, length, Some, None, ℤ, pos, ◌+ℤ◌, ◌-ℤ◌, neg_ℤ, refl, arith, IsTrue, ⊎_elim}
+use Rattle.std.proofs.Common.{◌≡◌, ℕ, ◌-◌, ◌<◌, ◌≤◌, Bool, List, [], ◌∷◌, ◌++◌, length, Some, None, ℤ, pos, ◌+ℤ◌, ◌-ℤ◌, neg_ℤ, refl}
+use Rattle.std.proofs.Common.{arith, IsTrue, ⊎_elim}
 use Rattle.std.specs.Str.Parse.{digits_value}
 use Rattle.std.proofs.lemmas.Bool.{cases_lt}
 use Rattle.std.proofs.lemmas.Int.{ints}
@@ -28,12 +29,14 @@ ranges b w f hw hf = ⊎_elim low high (cases_lt (length f) (trailing_zeros (w +
     low h = let n = trailing_zeros (w ++ f) - length f in let d = natural n in (
       exponent_with 101 (Some 45) (natural_text n),
       record { letter = refl; sign = refl; digits = d.are; some_digit = d.some },
-      power_range b (significant (w ++ f)) _ (lowered (digits_value 10 (natural_text n)) (length f) (trailing_zeros (w ++ f)) d.value (omega arith)),
+      power_range b (significant (w ++ f)) _ (lowered (digits_value 10 (natural_text n)) (length f) (trailing_zeros (w ++ f)) d.value
+          (omega arith)),
     )
 
     high : trailing_zeros (w ++ f) ≤ length f → (e : Exponent) × IsExponent e × IsTrue (in_range (value (numeral b w f (Some e))))
     high h = let n = length f - trailing_zeros (w ++ f) in let d = natural n in (
       exponent_with 101 None (natural_text n),
       record { letter = refl; sign = tt; digits = d.are; some_digit = d.some },
-      power_range b (significant (w ++ f)) _ (raised (digits_value 10 (natural_text n)) (length f) (trailing_zeros (w ++ f)) d.value (omega arith)),
+      power_range b (significant (w ++ f)) _ (raised (digits_value 10 (natural_text n)) (length f) (trailing_zeros (w ++ f)) d.value
+          (omega arith)),
     )

@@ -26,16 +26,24 @@ regroup_characters : (xs ys : List ℕ) (y : ℕ) (zs : List ℕ) → xs ++ (ys 
 regroup_characters xs ys y zs = simp append_assoc
 
 -- the pieces, a run and one more piece
-pub settle_more : (ps : List Piece) (cs : List ℕ) → IsSettled ps cs → (qs : List Quad) → IsTrue (paired (values qs)) → (e : Piece) → is_surrogate (code e) ≡ false →
+pub settle_more : (ps : List Piece) (cs : List ℕ) → IsSettled ps cs → (qs : List Quad) → IsTrue (paired (values qs)) → (e : Piece)
+    → is_surrogate (code e) ≡ false →
     IsSettled (ps ++ (quads qs ++ e ∷ [])) ((cs ++ decode (values qs)) ++ code e ∷ [])
 settle_more ps cs h qs hp e he rs = (
-  ap (λ xs. decode (piece_codes xs)) (regroup ps (quads qs) e rs) ∙ ((h (quads qs ++ e ∷ rs)).0 ∙ (ap (λ xs. cs ++ decode xs) (run_codes qs (e ∷ rs)) ∙ (ap (λ xs. cs ++ xs) (decode_append (values qs) (code e) (piece_codes rs) he) ∙ regroup_characters cs (decode (values qs)) (code e) (decode (piece_codes rs))))),
-  ap (λ xs. paired (piece_codes xs)) (regroup ps (quads qs) e rs) ∙ ((h (quads qs ++ e ∷ rs)).1 ∙ (ap paired (run_codes qs (e ∷ rs)) ∙ (paired_append (values qs) (code e) (piece_codes rs) he ∙ ap (λ b. b && paired (piece_codes rs)) hp))),
+  ap (λ xs. decode (piece_codes xs)) (regroup ps (quads qs) e rs)
+      ∙ ((h (quads qs ++ e ∷ rs)).0 ∙ (ap (λ xs. cs ++ decode xs) (run_codes qs (e ∷ rs))
+      ∙ (ap (λ xs. cs ++ xs) (decode_append (values qs) (code e) (piece_codes rs) he)
+      ∙ regroup_characters cs (decode (values qs)) (code e) (decode (piece_codes rs))))),
+  ap (λ xs. paired (piece_codes xs)) (regroup ps (quads qs) e rs)
+      ∙ ((h (quads qs ++ e ∷ rs)).1 ∙ (ap paired (run_codes qs (e ∷ rs))
+      ∙ (paired_append (values qs) (code e) (piece_codes rs) he ∙ ap (λ b. b && paired (piece_codes rs)) hp))),
 )
 
 -- the whole string
-pub settle_end : (ps : List Piece) (cs : List ℕ) → IsSettled ps cs → (qs : List Quad) → decode (piece_codes (ps ++ quads qs)) ≡ cs ++ decode (values qs)
+pub settle_end : (ps : List Piece) (cs : List ℕ) → IsSettled ps cs → (qs : List Quad)
+    → decode (piece_codes (ps ++ quads qs)) ≡ cs ++ decode (values qs)
 settle_end ps cs h qs = (h (quads qs)).0 ∙ ap (λ xs. cs ++ decode xs) (codes_quads qs)
 
-pub settle_paired : (ps : List Piece) (cs : List ℕ) → IsSettled ps cs → (qs : List Quad) → paired (piece_codes (ps ++ quads qs)) ≡ paired (values qs)
+pub settle_paired : (ps : List Piece) (cs : List ℕ) → IsSettled ps cs → (qs : List Quad)
+    → paired (piece_codes (ps ++ quads qs)) ≡ paired (values qs)
 settle_paired ps cs h qs = (h (quads qs)).1 ∙ ap paired (codes_quads qs)

@@ -17,7 +17,8 @@ scalar_parts c cs h = and_parts _ (all_scalars cs) h
 
 pub decode_scalars : (cs : List ℕ) → IsTrue (all_scalars cs) → decode cs ≡ cs
 decode_scalars [] h = refl
-decode_scalars (c ∷ cs) h = let k = scalar_parts c cs h in decode_cons c cs (scalar_no_surrogate c k.0) ∙ ap (λ z. c ∷ z) (decode_scalars cs k.1)
+decode_scalars (c ∷ cs) h = let k = scalar_parts c cs h in decode_cons c cs (scalar_no_surrogate c k.0)
+    ∙ ap (λ z. c ∷ z) (decode_scalars cs k.1)
 
 pub paired_scalars : (cs : List ℕ) → IsTrue (all_scalars cs) → IsTrue (paired cs)
 paired_scalars [] h = refl

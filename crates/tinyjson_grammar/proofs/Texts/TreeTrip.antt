@@ -1,10 +1,14 @@
 -- The text of a tree is a text of the grammar, with that tree.
-use Rattle.std.proofs.Common.{◌≡◌, ℕ, zero, suc, ◌+◌, max, true, false, List, [], ◌∷◌, ◌++◌, Option, Some, None, refl, ap, ◌∙◌, append_assoc, arith, IsTrue, not}
+use Rattle.std.proofs.Common.{◌≡◌, ℕ, zero, suc, ◌+◌, max, true, false, List, [], ◌∷◌, ◌++◌, Option, Some, None, refl, ap, ◌∙◌}
+use Rattle.std.proofs.Common.{append_assoc, arith, IsTrue, not}
 use Rattle.std.specs.Prelude.{⊤}
 use Rattle.std.specs.Int.{Width}
 use Rattle.std.specs.Str.{all_scalars}
 use Rattle.tinyjson_grammar.specs.Tree as tree
-use Rattle.tinyjson_grammar.specs.Syntax.{Syntax, Elements, Pairs, null, boolean, number, string, empty_array, array, empty_object, object, last_element, element, last_pair, pair, text, elements_text, pairs_text, AreWhite, IsSpelled, AreElements, ArePairs, IsStrictAt, ElementsAreStrictAt, PairsAreStrictAt, tree_of, elements_trees, pairs_members, depth, elements_depth, pairs_depth}
+use Rattle.tinyjson_grammar.specs.Syntax.{Syntax, Elements, Pairs, null, boolean, number, string, empty_array, array, empty_object}
+use Rattle.tinyjson_grammar.specs.Syntax.{object, last_element, element, last_pair, pair, text, elements_text, pairs_text, AreWhite}
+use Rattle.tinyjson_grammar.specs.Syntax.{IsSpelled, AreElements, ArePairs, IsStrictAt, ElementsAreStrictAt, PairsAreStrictAt, tree_of}
+use Rattle.tinyjson_grammar.specs.Syntax.{elements_trees, pairs_members, depth, elements_depth, pairs_depth}
 use Rattle.tinyjson_grammar.specs.Characters.{decode}
 use Rattle.tinyjson_number.specs.Canonical.{IsDecimalAt}
 use Rattle.tinyjson_grammar.specs.Soundness.{IsSorted, IsTreeAt, AreItemsAt, AreMembersAt}
@@ -92,7 +96,8 @@ item_assoc v u t is w = simp append_assoc
 last_assoc : (v q c t w : List ℕ) → v ++ (q ++ ([] ++ 58 ∷ (c ++ (t ++ w)))) ≡ v ++ ((q ++ (58 ∷ (c ++ t))) ++ w)
 last_assoc v q c t w = simp append_assoc
 
-member_assoc : (v q c t r ms w : List ℕ) → v ++ (q ++ ([] ++ 58 ∷ (c ++ (t ++ ([] ++ 44 ∷ (v ++ (r ++ (ms ++ w)))))))) ≡ v ++ ((q ++ (58 ∷ (c ++ t))) ++ (((44 ∷ v) ++ (r ++ ms)) ++ w))
+member_assoc : (v q c t r ms w : List ℕ) → v ++ (q ++ ([] ++ 58 ∷ (c ++ (t ++ ([] ++ 44 ∷ (v ++ (r ++ (ms ++ w))))))))
+    ≡ v ++ ((q ++ (58 ∷ (c ++ t))) ++ (((44 ∷ v) ++ (r ++ ms)) ++ w))
 member_assoc v q c t r ms w = simp append_assoc
 
 closing_assoc : (v t is w : List ℕ) (b : ℕ) → (v ++ (t ++ (is ++ w))) ++ b ∷ [] ≡ (v ++ (t ++ is)) ++ (w ++ b ∷ [])
@@ -104,7 +109,8 @@ module _ (width : Width) (w : Option (List ℕ)) (i : IsWhiteIndent w) where
   inside_items k t ts = newline w (k + 1) ++ (written.text w (k + 1) t ++ (items_text w (k + 1) false ts ++ newline w k))
 
   abbrev inside_members : ℕ → List ℕ → tree.Tree → tree.Members → List ℕ
-  inside_members k l t ms = newline w (k + 1) ++ ((quoted l ++ (58 ∷ (after_colon w ++ written.text w (k + 1) t))) ++ (members_text w (k + 1) false ms ++ newline w k))
+  inside_members k l t ms = newline w (k + 1) ++ ((quoted l ++ (58 ∷ (after_colon w ++ written.text w (k + 1) t)))
+      ++ (members_text w (k + 1) false ms ++ newline w k))
 
   abbrev ItemsSpelled : ℕ → tree.Items → Type 0
   ItemsSpelled k tree.no_items = ⊤
@@ -122,7 +128,8 @@ module _ (width : Width) (w : Option (List ℕ)) (i : IsWhiteIndent w) where
     strict = s.strict;
     tree = ap tree.array s.trees;
     depth = ap (λ n. 1 + n) s.depth;
-    text = ap (λ z. 91 ∷ (z ++ 93 ∷ [])) s.text ∙ ap (λ z. 91 ∷ z) (closing_assoc (newline w (k + 1)) (written.text w (k + 1) t) (items_text w (k + 1) false ts) (newline w k) 93);
+    text = ap (λ z. 91 ∷ (z ++ 93 ∷ [])) s.text ∙ ap (λ z. 91 ∷ z)
+        (closing_assoc (newline w (k + 1)) (written.text w (k + 1) t) (items_text w (k + 1) false ts) (newline w k) 93);
   }
 
   object_spelled : (k : ℕ) (ms : tree.Members) → MembersSpelled k ms → Spells width (tree.object ms) (written.text w k (tree.object ms))
@@ -133,10 +140,13 @@ module _ (width : Width) (w : Option (List ℕ)) (i : IsWhiteIndent w) where
     strict = s.strict;
     tree = ap tree.object (s.members tree.no_members tt);
     depth = ap (λ n. 1 + n) s.depth;
-    text = ap (λ z. 123 ∷ (z ++ 125 ∷ [])) s.text ∙ ap (λ z. 123 ∷ z) (closing_assoc (newline w (k + 1)) (quoted l ++ (58 ∷ (after_colon w ++ written.text w (k + 1) t))) (members_text w (k + 1) false ms) (newline w k) 125);
+    text = ap (λ z. 123 ∷ (z ++ 125 ∷ [])) s.text ∙ ap (λ z. 123 ∷ z)
+        (closing_assoc (newline w (k + 1)) (quoted l ++ (58 ∷ (after_colon w ++ written.text w (k + 1) t)))
+        (members_text w (k + 1) false ms) (newline w k) 125);
   }
 
-  item_spelled : (k : ℕ) (t : tree.Tree) (ts : tree.Items) → Spells width t (written.text w (k + 1) t) → ItemsSpelled k ts → SpellItems width t ts (inside_items k t ts)
+  item_spelled : (k : ℕ) (t : tree.Tree) (ts : tree.Items) → Spells width t (written.text w (k + 1) t) → ItemsSpelled k ts
+      → SpellItems width t ts (inside_items k t ts)
   item_spelled k t tree.no_items s m = record {
     elements = last_element (newline w (k + 1)) s.value (newline w k);
     spelled = (white_newline w (k + 1) i, s.spelled, white_newline w k i);
@@ -151,28 +161,36 @@ module _ (width : Width) (w : Option (List ℕ)) (i : IsWhiteIndent w) where
     strict = (s.strict, m.strict);
     trees = λ j. tree.item (s.tree j) (m.trees j);
     depth = λ j. max (s.depth j) (m.depth j);
-    text = (λ j. newline w (k + 1) ++ (s.text j ++ ([] ++ 44 ∷ m.text j))) ∙ item_assoc (newline w (k + 1)) (written.text w (k + 1) t) (written.text w (k + 1) u) (items_text w (k + 1) false us) (newline w k);
+    text = (λ j. newline w (k + 1) ++ (s.text j ++ ([] ++ 44 ∷ m.text j)))
+        ∙ item_assoc (newline w (k + 1)) (written.text w (k + 1) t) (written.text w (k + 1) u) (items_text w (k + 1) false us)
+        (newline w k);
   }
 
-  member_spelled : (k : ℕ) (l : List ℕ) (t : tree.Tree) (ms : tree.Members) → IsSorted (tree.member l t ms) → IsTrue (all_scalars l) → Spells width t (written.text w (k + 1) t) → MembersSpelled k ms → SpellMembers width l t ms (inside_members k l t ms)
+  member_spelled : (k : ℕ) (l : List ℕ) (t : tree.Tree) (ms : tree.Members) → IsSorted (tree.member l t ms) → IsTrue (all_scalars l)
+      → Spells width t (written.text w (k + 1) t) → MembersSpelled k ms → SpellMembers width l t ms (inside_members k l t ms)
   member_spelled k l t tree.no_members r hl s m = let e = escapes_stand l hl in record {
     pairs = last_pair (newline w (k + 1)) (string e.pieces) [] (after_colon w) s.value (newline w k);
     spelled = (white_newline w (k + 1) i, e.are, tt, white_colon w, s.spelled, white_newline w k i);
     strict = (refl, rw e.codes (paired_scalars l hl), s.strict);
     members = λ ns above. (λ j. tree.put ((ap decode e.codes ∙ decode_scalars l hl) j) (s.tree j) ns) ∙ put_above l t ns above;
     depth = omega (arith, s.depth);
-    text = (λ j. newline w (k + 1) ++ ((34 ∷ (e.text j ++ 34 ∷ [])) ++ ([] ++ 58 ∷ (after_colon w ++ (s.text j ++ newline w k))))) ∙ last_assoc (newline w (k + 1)) (quoted l) (after_colon w) (written.text w (k + 1) t) (newline w k);
+    text = (λ j. newline w (k + 1) ++ ((34 ∷ (e.text j ++ 34 ∷ [])) ++ ([] ++ 58 ∷ (after_colon w ++ (s.text j ++ newline w k)))))
+        ∙ last_assoc (newline w (k + 1)) (quoted l) (after_colon w) (written.text w (k + 1) t) (newline w k);
   }
   member_spelled k l t (tree.member o u ms) r hl s m = let e = escapes_stand l hl in record {
     pairs = pair (newline w (k + 1)) (string e.pieces) [] (after_colon w) s.value [] m.pairs;
     spelled = (white_newline w (k + 1) i, e.are, tt, white_colon w, s.spelled, tt, m.spelled);
     strict = (refl, rw e.codes (paired_scalars l hl), s.strict, m.strict);
     members = λ ns above.
-        ap (λ z. pairs_members z m.pairs) ((λ j. tree.put ((ap decode e.codes ∙ decode_scalars l hl) j) (s.tree j) ns) ∙ put_above l t ns above)
+        ap (λ z. pairs_members z m.pairs) ((λ j. tree.put ((ap decode e.codes ∙ decode_scalars l hl) j) (s.tree j) ns)
+            ∙ put_above l t ns above)
         ∙ m.members (join ns (tree.member l t tree.no_members)) (above_join l o t ns r.0 above)
         ∙ join_join ns (tree.member l t tree.no_members) (tree.member o u ms);
     depth = omega (arith, s.depth, m.depth);
-    text = (λ j. newline w (k + 1) ++ ((34 ∷ (e.text j ++ 34 ∷ [])) ++ ([] ++ 58 ∷ (after_colon w ++ (s.text j ++ ([] ++ 44 ∷ m.text j)))))) ∙ member_assoc (newline w (k + 1)) (quoted l) (after_colon w) (written.text w (k + 1) t) (quoted o ++ (58 ∷ (after_colon w ++ written.text w (k + 1) u))) (members_text w (k + 1) false ms) (newline w k);
+    text = (λ j. newline w (k + 1) ++ ((34 ∷ (e.text j ++ 34 ∷ []))
+        ++ ([] ++ 58 ∷ (after_colon w ++ (s.text j ++ ([] ++ 44 ∷ m.text j))))))
+        ∙ member_assoc (newline w (k + 1)) (quoted l) (after_colon w) (written.text w (k + 1) t)
+        (quoted o ++ (58 ∷ (after_colon w ++ written.text w (k + 1) u))) (members_text w (k + 1) false ms) (newline w k);
   }
 
   mutual

@@ -11,10 +11,12 @@ use Rattle.tinyjson_grammar.proofs.Accepts.Text.{only_tree}
 use Rattle.tinyjson_grammar.proofs.Texts.TreeTrip.{IsWhiteIndent, spell}
 
 -- a written text, with any limit that the tree keeps
-pub written_text : (width : Width) (limit : Option ℕ) (w : Option (List ℕ)) (k : ℕ) (t : Tree) → IsWhiteIndent w → IsTreeAt width t → IsWithin limit (tree_depth t) → IsTextAt width limit (written.text w k t) t
+pub written_text : (width : Width) (limit : Option ℕ) (w : Option (List ℕ)) (k : ℕ) (t : Tree) → IsWhiteIndent w → IsTreeAt width t
+    → IsWithin limit (tree_depth t) → IsTextAt width limit (written.text w k t) t
 written_text width limit w k t i h d =
     let s = spell width w i k t h in record {
-      loose = record { before = []; value = s.value; after = []; white_before = tt; spelled = s.spelled; white_after = tt; shallow = rw s.depth d; whole = sym (append-nil (text s.value) ∙ s.text) };
+      loose = record { before = []; value = s.value; after = []; white_before = tt; spelled = s.spelled; white_after = tt; shallow =
+          rw s.depth d; whole = sym (append-nil (text s.value) ∙ s.text) };
       strict = s.strict;
       tree = sym s.tree;
     }

@@ -1,10 +1,15 @@
 -- What was read up to the place of a value, and the value round it.
-use Rattle.std.proofs.Common.{suc, ◌≡◌, ℕ, ◌+◌, ◌≤◌, max, true, false, List, [], ◌∷◌, ◌++◌, Option, Some, None, refl, ap, append_assoc, append-nil, arith, subst, ◌⊎◌}
+use Rattle.std.proofs.Common.{suc, ◌≡◌, ℕ, ◌+◌, ◌≤◌, max, true, false, List, [], ◌∷◌, ◌++◌, Option, Some, None, refl, ap, append_assoc}
+use Rattle.std.proofs.Common.{append-nil, arith, subst, ◌⊎◌}
 use Rattle.std.proofs.lemmas.Bool.{false≢true, cases_Bool}
 use Rattle.tinyjson_grammar.specs.Tree.{key_of, Tree, Members, no_members, put}
-use Rattle.tinyjson_grammar.specs.Syntax.{Syntax, array, object, null, Elements, last_element, element, Pairs, last_pair, pair, text, elements_text, pairs_text, AreWhite, IsSpelled, AreElements, ArePairs, is_key, IsStrict, ElementsAreStrict, PairsAreStrict, depth, elements_depth, pairs_depth, IsWithin, tree_of, elements_trees, pairs_members}
+use Rattle.tinyjson_grammar.specs.Syntax.{Syntax, array, object, null, Elements, last_element, element, Pairs, last_pair, pair, text}
+use Rattle.tinyjson_grammar.specs.Syntax.{elements_text, pairs_text, AreWhite, IsSpelled, AreElements, ArePairs, is_key, IsStrict}
+use Rattle.tinyjson_grammar.specs.Syntax.{ElementsAreStrict, PairsAreStrict, depth, elements_depth, pairs_depth, IsWithin, tree_of}
+use Rattle.tinyjson_grammar.specs.Syntax.{elements_trees, pairs_members}
 use Rattle.tinyjson_grammar.specs.Grammar.{IsLoose}
-use Rattle.tinyjson_grammar.specs.Prefix.{Element, Pair, element_text, pair_text, elements_before, pairs_before, IsValue, IsElement, IsPair, AreElementsBefore, ArePairsBefore, elements_deepest, pairs_deepest}
+use Rattle.tinyjson_grammar.specs.Prefix.{Element, Pair, element_text, pair_text, elements_before, pairs_before, IsValue, IsElement}
+use Rattle.tinyjson_grammar.specs.Prefix.{IsPair, AreElementsBefore, ArePairsBefore, elements_deepest, pairs_deepest}
 use Rattle.tinyjson_grammar.specs.Machine
 use Rattle.tinyjson_grammar.specs.Machine.{Frame}
 
@@ -48,7 +53,8 @@ abbrev pub IsPath : Option ℕ → Path → Type 0
 IsPath limit (outside w) = AreWhite w
 IsPath limit (item_in p es w) = IsPath limit p × AreElementsBefore es × AreWhite w × IsWithin limit (level p + (1 + elements_deepest es))
 IsPath limit (key_in p ps w) = IsPath limit p × ArePairsBefore ps × AreWhite w × IsWithin limit (level p + (1 + pairs_deepest ps))
-IsPath limit (value_in p ps a k b w) = IsPath limit p × ArePairsBefore ps × AreWhite a × IsValue k × IsKey k × AreWhite b × AreWhite w × IsWithin limit (level p + (1 + pairs_deepest ps))
+IsPath limit (value_in p ps a k b w) = IsPath limit p × ArePairsBefore ps × AreWhite a × IsValue k × IsKey k × AreWhite b × AreWhite w
+    × IsWithin limit (level p + (1 + pairs_deepest ps))
 
 -- ---- limits
 
@@ -74,7 +80,8 @@ pub trees_push : (es : List Element) (e : Element) → trees_of (es ++ e ∷ [])
 trees_push [] e = refl
 trees_push (d ∷ es) e = ap (λ ts. tree_of d.value ∷ ts) (trees_push es e)
 
-pub members_push : (ms : Members) (ps : List Pair) (p : Pair) → members_from ms (ps ++ p ∷ []) ≡ put (key_of (tree_of p.key)) (tree_of p.value) (members_from ms ps)
+pub members_push : (ms : Members) (ps : List Pair) (p : Pair)
+    → members_from ms (ps ++ p ∷ []) ≡ put (key_of (tree_of p.key)) (tree_of p.value) (members_from ms ps)
 members_push ms [] p = refl
 members_push ms (q ∷ ps) p = members_push (put (key_of (tree_of q.key)) (tree_of q.value) ms) ps p
 
@@ -82,7 +89,8 @@ pub deepest_push : (es : List Element) (e : Element) → elements_deepest (es ++
 deepest_push [] e = omega arith
 deepest_push (d ∷ es) e = rw (deepest_push es e) (omega arith)
 
-pub pairs_deepest_push : (ps : List Pair) (p : Pair) → pairs_deepest (ps ++ p ∷ []) ≡ max (pairs_deepest ps) (max (depth p.key) (depth p.value))
+pub pairs_deepest_push : (ps : List Pair) (p : Pair)
+    → pairs_deepest (ps ++ p ∷ []) ≡ max (pairs_deepest ps) (max (depth p.key) (depth p.value))
 pairs_deepest_push [] p = omega arith
 pairs_deepest_push (q ∷ ps) p = rw (pairs_deepest_push ps p) (omega arith)
 
@@ -104,7 +112,8 @@ abbrev pub pairs_with : List Pair → List ℕ → Syntax → List ℕ → List 
 pairs_with [] a k b c s d = last_pair a k b c s d
 pairs_with (p ∷ ps) a k b c s d = pair p.before_key p.key p.after_key p.before p.value p.after (pairs_with ps a k b c s d)
 
-pub text_of_items : (es : List Element) (w : List ℕ) (s : Syntax) (v : List ℕ) → elements_text (items_with es w s v) ≡ elements_before es ++ (w ++ (text s ++ v))
+pub text_of_items : (es : List Element) (w : List ℕ) (s : Syntax) (v : List ℕ)
+    → elements_text (items_with es w s v) ≡ elements_before es ++ (w ++ (text s ++ v))
 text_of_items [] w s v = refl
 text_of_items (e ∷ es) w s v = simp (text_of_items es w s v, append_assoc)
 
@@ -113,7 +122,8 @@ pub text_of_pairs : (ps : List Pair) (a : List ℕ) (k : Syntax) (b c : List ℕ
 text_of_pairs [] a k b c s d = refl
 text_of_pairs (p ∷ ps) a k b c s d = simp (text_of_pairs ps a k b c s d, append_assoc)
 
-pub items_trees : (es : List Element) (w : List ℕ) (s : Syntax) (v : List ℕ) → elements_trees (items_with es w s v) ≡ trees_of es ++ tree_of s ∷ []
+pub items_trees : (es : List Element) (w : List ℕ) (s : Syntax) (v : List ℕ)
+    → elements_trees (items_with es w s v) ≡ trees_of es ++ tree_of s ∷ []
 items_trees [] w s v = refl
 items_trees (e ∷ es) w s v = ap (λ ts. tree_of e.value ∷ ts) (items_trees es w s v)
 
@@ -122,7 +132,8 @@ pub members_of_pairs : (ms : Members) (ps : List Pair) (a : List ℕ) (k : Synta
 members_of_pairs ms [] a k b c s d = refl
 members_of_pairs ms (p ∷ ps) a k b c s d = members_of_pairs (put (key_of (tree_of p.key)) (tree_of p.value) ms) ps a k b c s d
 
-pub depth_of_items : (es : List Element) (w : List ℕ) (s : Syntax) (v : List ℕ) → elements_depth (items_with es w s v) ≡ max (elements_deepest es) (depth s)
+pub depth_of_items : (es : List Element) (w : List ℕ) (s : Syntax) (v : List ℕ)
+    → elements_depth (items_with es w s v) ≡ max (elements_deepest es) (depth s)
 depth_of_items [] w s v = omega arith
 depth_of_items (e ∷ es) w s v = rw (depth_of_items es w s v) (omega arith)
 
@@ -131,11 +142,13 @@ pub depth_of_pairs : (ps : List Pair) (a : List ℕ) (k : Syntax) (b c : List �
 depth_of_pairs [] a k b c s d = omega arith
 depth_of_pairs (p ∷ ps) a k b c s d = rw (depth_of_pairs ps a k b c s d) (omega arith)
 
-pub items_spelled : (es : List Element) (w : List ℕ) (s : Syntax) (v : List ℕ) → AreElementsBefore es → AreWhite w → IsSpelled s → AreWhite v → AreElements (items_with es w s v)
+pub items_spelled : (es : List Element) (w : List ℕ) (s : Syntax) (v : List ℕ) → AreElementsBefore es → AreWhite w → IsSpelled s
+    → AreWhite v → AreElements (items_with es w s v)
 items_spelled [] w s v h hw hs hv = (hw, hs, hv)
 items_spelled (e ∷ es) w s v h hw hs hv = (h.0.before, h.0.value.spelled, h.0.after, items_spelled es w s v h.1 hw hs hv)
 
-pub items_strict : (es : List Element) (w : List ℕ) (s : Syntax) (v : List ℕ) → AreElementsBefore es → IsStrict s → ElementsAreStrict (items_with es w s v)
+pub items_strict : (es : List Element) (w : List ℕ) (s : Syntax) (v : List ℕ) → AreElementsBefore es → IsStrict s
+    → ElementsAreStrict (items_with es w s v)
 items_strict [] w s v h hs = hs
 items_strict (e ∷ es) w s v h hs = (h.0.value.strict, items_strict es w s v h.1 hs)
 
@@ -143,7 +156,8 @@ pub pairs_spelled : (ps : List Pair) (a : List ℕ) (k : Syntax) (b c : List ℕ
     ArePairsBefore ps → AreWhite a → IsSpelled k → AreWhite b → AreWhite c → IsSpelled s → AreWhite d → ArePairs (pairs_with ps a k b c s d)
 pairs_spelled [] a k b c s d h ha hk hb hc hs hd = (ha, hk, hb, hc, hs, hd)
 pairs_spelled (p ∷ ps) a k b c s d h ha hk hb hc hs hd =
-    (h.0.before_key, h.0.key.spelled, h.0.after_key, h.0.before, h.0.value.spelled, h.0.after, pairs_spelled ps a k b c s d h.1 ha hk hb hc hs hd)
+    (h.0.before_key, h.0.key.spelled, h.0.after_key, h.0.before, h.0.value.spelled, h.0.after, pairs_spelled ps a k b c s d h.1 ha hk hb hc
+        hs hd)
 
 pub pairs_strict : (ps : List Pair) (a : List ℕ) (k : Syntax) (b c : List ℕ) (s : Syntax) (d : List ℕ) →
     ArePairsBefore ps → IsKey k → IsStrict k → IsStrict s → PairsAreStrict (pairs_with ps a k b c s d)
@@ -171,10 +185,12 @@ closing (item_in p es w) = 93 ∷ closing p
 closing (key_in p ps w) = 58 ∷ 48 ∷ 125 ∷ closing p
 closing (value_in p ps a k b w) = 125 ∷ closing p
 
-pub closes : (limit : Option ℕ) (p : Path) → IsPath limit p → (s : Syntax) → IsSpelled s → IsWithin limit (level p + depth s) → (v : List ℕ) → AreWhite v →
+pub closes : (limit : Option ℕ) (p : Path) → IsPath limit p → (s : Syntax) → IsSpelled s → IsWithin limit (level p + depth s)
+    → (v : List ℕ) → AreWhite v →
     IsLoose limit (path_text p ++ (text s ++ (v ++ closing p)))
 closes limit (outside w) hp s hs hd v hv =
-    record { before = w; value = s; after = v; white_before = hp; spelled = hs; white_after = hv; shallow = within_le limit _ _ hd (omega arith); whole = simp append-nil }
+    record { before = w; value = s; after = v; white_before = hp; spelled = hs; white_after = hv; shallow =
+        within_le limit _ _ hd (omega arith); whole = simp append-nil }
 closes limit (item_in p es w) hp s hs hd v hv =
     subst (IsLoose limit) (simp (text_of_items, append_assoc))
     (closes limit p hp.0 (array (items_with es w s v)) (items_spelled es w s v hp.1 hp.2 hs hv)
@@ -182,7 +198,9 @@ closes limit (item_in p es w) hp s hs hd v hv =
 closes limit (key_in p ps w) hp s hs hd v hv =
     let zero_numeral : Syntax = Syntax.number (record { negative = false; integer = 48 ∷ []; fraction = []; exponent = None }) in
     subst (IsLoose limit) (simp (text_of_pairs, append_assoc))
-    (closes limit p hp.0 (object (pairs_with ps w s v [] zero_numeral [])) (pairs_spelled ps w s v [] zero_numeral [] hp.1 hp.2 hs hv tt (record { integer = (refl, tt); some_digit = omega arith; fraction = tt; exponent = tt }) tt)
+    (closes limit p hp.0 (object (pairs_with ps w s v [] zero_numeral []))
+        (pairs_spelled ps w s v [] zero_numeral [] hp.1 hp.2 hs hv tt
+        (record { integer = (refl, tt); some_digit = omega arith; fraction = tt; exponent = tt }) tt)
     (within_max limit _ _ _ hp.3 hd (rw (depth_of_pairs ps w s v [] zero_numeral []) (omega arith))) [] tt)
 closes limit (value_in p ps a k b w) hp s hs hd v hv =
     subst (IsLoose limit) (simp (text_of_pairs, append_assoc))

@@ -1,16 +1,20 @@
 -- What was read, in each state of the machine.
-use Rattle.std.proofs.Common.{◌≡◌, ℕ, ◌+◌, ◌<◌, ◌≤◌, Bool, true, false, List, [], ◌∷◌, ◌++◌, Option, Some, None, refl, append_assoc, arith, length, subst, IsTrue}
+use Rattle.std.proofs.Common.{◌≡◌, ℕ, ◌+◌, ◌<◌, ◌≤◌, Bool, true, false, List, [], ◌∷◌, ◌++◌, Option, Some, None, refl, append_assoc}
+use Rattle.std.proofs.Common.{arith, length, subst, IsTrue}
 use Rattle.std.specs.Prelude.{⊤, IfSome}
 use Rattle.tinyjson_grammar.specs.Tree.{key_of, no_members, put}
 use Rattle.tinyjson_grammar.specs.Characters.{unit_of, decode, paired}
-use Rattle.tinyjson_number.specs.Numeral.{numeral, Numeral, Exponent, IsExponent, AreDigits, has_leading_zero, minus_text, fraction_text, sign_text, value, in_range, is_sign, is_exponent_letter}
-use Rattle.tinyjson_grammar.specs.Syntax.{Syntax, text, AreWhite, IsSpelled, depth, IsWithin, tree_of, Piece, unit, ArePieces, piece_codes, pieces_text}
+use Rattle.tinyjson_number.specs.Numeral.{numeral, Numeral, Exponent, IsExponent, AreDigits, has_leading_zero, minus_text, fraction_text}
+use Rattle.tinyjson_number.specs.Numeral.{sign_text, value, in_range, is_sign, is_exponent_letter}
+use Rattle.tinyjson_grammar.specs.Syntax.{Syntax, text, AreWhite, IsSpelled, depth, IsWithin, tree_of, Piece, unit, ArePieces}
+use Rattle.tinyjson_grammar.specs.Syntax.{piece_codes, pieces_text}
 use Rattle.tinyjson_grammar.specs.Grammar.{IsLoose}
 use Rattle.tinyjson_grammar.specs.Prefix.{IsValue, IsLooselyViable}
 use Rattle.tinyjson_grammar.specs.Machine.{Frame, Phase, first, awaited, literal, digits, quoted, colon, after, finished, Stage, Within}
 use Rattle.tinyjson_grammar.specs.Machine
 use Rattle.tinyjson_grammar.specs.Refusal.{IsLiteral, IsHex, EndsBefore}
-use Rattle.tinyjson_grammar.proofs.Trace.Paths.{IsKey, Path, outside, item_in, key_in, value_in, path_text, path_frames, trees_of, members_from, level, IsPath, within_le, closes, closing}
+use Rattle.tinyjson_grammar.proofs.Trace.Paths.{IsKey, Path, outside, item_in, key_in, value_in, path_text, path_frames, trees_of}
+use Rattle.tinyjson_grammar.proofs.Trace.Paths.{members_from, level, IsPath, within_le, closes, closing}
 
 -- ---- the part of a number
 
@@ -64,11 +68,13 @@ IsPart (part_point b d ds) = IsIntegerPart d ds
 IsPart (part_fraction b d ds e es) = IsIntegerPart d ds × AreDigits (e ∷ es)
 IsPart (part_letter b d ds f l) = IsIntegerPart d ds × AreDigits f × IsTrue (is_exponent_letter l)
 IsPart (part_sign b d ds f l s) = IsIntegerPart d ds × AreDigits f × IsTrue (is_exponent_letter l) × IsTrue (is_sign s)
-IsPart (part_exponent b d ds f l s e es) = IsIntegerPart d ds × AreDigits f × IsTrue (is_exponent_letter l) × IfSome s (λ c. IsTrue (is_sign c)) × AreDigits (e ∷ es)
+IsPart (part_exponent b d ds f l s e es) = IsIntegerPart d ds × AreDigits f × IsTrue (is_exponent_letter l)
+    × IfSome s (λ c. IsTrue (is_sign c)) × AreDigits (e ∷ es)
 
 -- each numeral without exponent has an exponent with which it is in range
 abbrev pub Ranges : Type 0
-Ranges = (b : Bool) (w f : List ℕ) → AreDigits w → AreDigits f → (e : Exponent) × IsExponent e × IsTrue (in_range (value (numeral b w f (Some e))))
+Ranges = (b : Bool) (w f : List ℕ) → AreDigits w → AreDigits f
+    → (e : Exponent) × IsExponent e × IsTrue (in_range (value (numeral b w f (Some e))))
 
 -- ---- the part of a string
 
@@ -88,7 +94,8 @@ values (q ∷ qs) = unit_of 0 (q.a ∷ q.b ∷ q.c ∷ q.d ∷ []) ∷ values qs
 
 -- whatever follows, the pieces stand for these characters
 abbrev pub IsSettled : List Piece → List ℕ → Type 0
-IsSettled ps cs = (qs : List Piece) → (decode (piece_codes (ps ++ qs)) ≡ cs ++ decode (piece_codes qs)) × (paired (piece_codes (ps ++ qs)) ≡ paired (piece_codes qs))
+IsSettled ps cs = (qs : List Piece) → (decode (piece_codes (ps ++ qs)) ≡ cs ++ decode (piece_codes qs))
+    × (paired (piece_codes (ps ++ qs)) ≡ paired (piece_codes qs))
 
 abbrev pub within_text : Within → List ℕ
 within_text Machine.plain = []
@@ -222,9 +229,13 @@ pub record Ending (prefix : List ℕ) : Type 0 where
   pub rest : List ℕ
   pub whole : text value ≡ prefix ++ rest
 
-pub ends_loosely : (limit : Option ℕ) (p : Path) → IsPath limit p → (prefix : List ℕ) → Ending prefix → IsLooselyViable limit (path_text p ++ prefix)
+pub ends_loosely : (limit : Option ℕ) (p : Path) → IsPath limit p → (prefix : List ℕ) → Ending prefix
+    → IsLooselyViable limit (path_text p ++ prefix)
 ends_loosely limit p hp prefix e =
-    loosely_from limit (path_text p ++ prefix) (e.rest ++ closing p) (rw e.whole (simp append_assoc)) (closes limit p hp e.value e.spelled (flat_within limit p e.value hp e.flat) [] tt)
+    loosely_from limit (path_text p ++ prefix) (e.rest ++ closing p) (rw e.whole (simp append_assoc))
+        (closes limit p hp e.value e.spelled (flat_within limit p e.value hp e.flat) [] tt)
 
-pub white_loosely : (limit : Option ℕ) (p : Path) → IsPath limit p → (s : Syntax) → IsSpelled s → IsWithin limit (level p + depth s) → (v : List ℕ) → AreWhite v → IsLooselyViable limit (path_text p ++ (text s ++ v))
-white_loosely limit p hp s hs hd v hv = loosely_from limit (path_text p ++ (text s ++ v)) (closing p) (simp append_assoc) (closes limit p hp s hs hd v hv)
+pub white_loosely : (limit : Option ℕ) (p : Path) → IsPath limit p → (s : Syntax) → IsSpelled s → IsWithin limit (level p + depth s)
+    → (v : List ℕ) → AreWhite v → IsLooselyViable limit (path_text p ++ (text s ++ v))
+white_loosely limit p hp s hs hd v hv = loosely_from limit (path_text p ++ (text s ++ v)) (closing p) (simp append_assoc)
+    (closes limit p hp s hs hd v hv)

@@ -1,76 +1,68 @@
--- The parts of a number as they are found from left to right. For private contracts.
-use Rattle.std.specs.Prelude.{ℕ, ◌^◌, min, nat_lt, ◌==◌, Bool, false, ◌||◌, if◌then◌else◌, Option, Some, None, option_and_then}
-use Rattle.std.specs.Prelude.{List, [], ◌∷◌, length, take, drop, ℤ, pos, ◌+ℤ◌, ◌-ℤ◌}
-use Rattle.std.specs.List.{prefix_len}
+-- The parts of a number, as they are found from left to right.
+use Rattle.std.specs.Prelude.{◌≡◌, ℕ, ◌<◌, ◌≤◌, ◌==◌, Bool, false, IsTrue, List, [], ◌∷◌, ◌++◌, drop, length, if◌then◌else◌}
+use Rattle.std.specs.Prelude.{Option, Some, None, IfSome}
 use Rattle.std.specs.Char.{is_ascii_digit}
-use Rattle.std.specs.Str.Parse.{digits_value}
-use Rattle.tinyjson_number.specs.Numeral.{Exponent, Numeral, has_leading_zero, sign_text, is_exponent_letter, signed}
-use Rattle.tinyjson_number.specs.Characters.{decimal_point, minus_sign, plus_sign}
+use Rattle.tinyjson_number.specs.Characters.{decimal_point, minus_sign}
+use Rattle.tinyjson_number.specs.Numeral.{AreDigits, has_leading_zero, is_sign, minus_text, sign_text, fraction_text}
+use Rattle.tinyjson_number.specs.Reading.{plain_sign}
+use Rattle.tinyjson_number.specs.Scan.{is_point, starts}
+use Rattle.tinyjson_number.specs.declared.parse.ExponentParts.{ExponentParts}
+use Rattle.tinyjson_number.specs.declared.scan.Mantissa.{Mantissa}
 
-infixl 10 ◌>>=◌
-abbrev pub ◌>>=◌ : {A B : Type 0} → Option A → (A → Option B) → Option B
-o >>= f = option_and_then f o
+abbrev pub is_minus : ℕ → Bool
+is_minus c = c == minus_sign
 
--- the text begins with that byte
-abbrev pub begins : ℕ → List ℕ → Bool
-begins c [] = false
-begins c (x ∷ xs) = x == c
+-- a text is what stands before an exponent, and a rest
+pub record IsMantissa (negative : Bool) (integer fraction text rest : List ℕ) : Type 0 where
+  pub integer_digits : AreDigits integer
+  pub some_digit : 0 < length integer
+  pub no_leading_zero : has_leading_zero integer ≡ false
+  pub fraction_digits : AreDigits fraction
+  pub spelled : text ≡ minus_text negative ++ (integer ++ (fraction_text fraction ++ rest))
+  pub digit : starts is_ascii_digit rest ≡ false
+  pub point : fraction ≡ [] → starts is_point rest ≡ false
 
--- the digits that a text begins with, and what follows them
-abbrev pub digits_front : List ℕ → List ℕ
-digits_front text = take (prefix_len is_ascii_digit text) text
+abbrev pub MantissaAt : List ℕ → ℕ → Mantissa → ℕ → Type 0
+MantissaAt text at m end = IsMantissa m.negative m.integer.now m.fraction.now (drop at text) (drop end text) × (end ≤ length text)
 
-abbrev pub digits_rest : List ℕ → List ℕ
-digits_rest text = drop (prefix_len is_ascii_digit text) text
+abbrev pub NoMantissaAt : List ℕ → ℕ → Type 0
+NoMantissaAt text at = (negative : Bool) (integer fraction rest : List ℕ) → ¬ IsMantissa negative integer fraction (drop at text) rest
 
-abbrev pub after_minus : List ℕ → List ℕ
-after_minus text = if begins minus_sign text then drop 1 text else text
+-- a text is a fraction, with its point if it has digits, and a rest
+pub record IsFraction (digits text rest : List ℕ) : Type 0 where
+  pub are : AreDigits digits
+  pub spelled : text ≡ fraction_text digits ++ rest
+  pub digit : starts is_ascii_digit rest ≡ false
+  pub point : digits ≡ [] → starts is_point rest ≡ false
 
--- the integer part, and the rest
-unfoldable pub integer_at : List ℕ → Option (List ℕ × List ℕ)
-integer_at text =
-    if (length (digits_front text) == 0) || has_leading_zero (digits_front text) then None
-    else Some (digits_front text, digits_rest text)
+abbrev pub FractionAt : List ℕ → ℕ → List ℕ → ℕ → Type 0
+FractionAt text at digits end = IsFraction digits (drop at text) (drop end text) × (end ≤ length text)
 
--- the digits after a point, and the rest
-unfoldable pub fraction_at : List ℕ → Option (List ℕ × List ℕ)
-fraction_at text =
-    if begins decimal_point text
-    then (if length (digits_front (drop 1 text)) == 0 then None else Some (digits_front (drop 1 text), digits_rest (drop 1 text)))
-    else Some ([], text)
+abbrev pub NoFractionAt : List ℕ → ℕ → Type 0
+NoFractionAt text at = (digits rest : List ℕ) → ¬ IsFraction digits (drop at text) rest
 
-abbrev pub sign_at : List ℕ → Option ℕ
-sign_at text = if begins plus_sign text then Some plus_sign else (if begins minus_sign text then Some minus_sign else None)
+-- a text is the sign of an exponent, if it has one, and a rest
+pub record SignAt (text : List ℕ) (at : ℕ) (negative : Bool) (end : ℕ) : Type 0 where
+  pub sign : Option ℕ
+  pub known : IfSome sign (λ c. IsTrue (is_sign c))
+  pub minus : (if negative then Some minus_sign else None) ≡ plain_sign sign
+  pub spelled : drop at text ≡ sign_text sign ++ drop end text
+  pub none : sign ≡ None → starts is_sign (drop end text) ≡ false
+  pub within : end ≤ length text
 
--- sign and digits of an exponent, to the end of the text
-unfoldable pub exponent_digits_at : ℕ → List ℕ → Option (Option Exponent)
-exponent_digits_at letter text =
-    let sign = sign_at text in
-    let digits = drop (length (sign_text sign)) text in
-    if (length digits == 0) || nat_lt (prefix_len is_ascii_digit digits) (length digits) then None
-    else Some (Some (record { letter = letter; sign = sign; digits = digits }))
+-- a text is the sign and the digits of an exponent, and a rest
+pub record IsPower (sign : Option ℕ) (digits text rest : List ℕ) : Type 0 where
+  pub known : IfSome sign (λ c. IsTrue (is_sign c))
+  pub are : AreDigits digits
+  pub some_digit : 0 < length digits
+  pub spelled : text ≡ sign_text sign ++ (digits ++ rest)
+  pub digit : starts is_ascii_digit rest ≡ false
 
-unfoldable pub exponent_at : List ℕ → Option (Option Exponent)
-exponent_at [] = Some None
-exponent_at (c ∷ cs) = if is_exponent_letter c then exponent_digits_at c cs else None
+pub record ExponentAt (text : List ℕ) (at : ℕ) (parts : ExponentParts) (end : ℕ) : Type 0 where
+  pub sign : Option ℕ
+  pub minus : (if parts.negative then Some minus_sign else None) ≡ plain_sign sign
+  pub power : IsPower sign parts.digits.now (drop at text) (drop end text)
+  pub within : end ≤ length text
 
--- the one numeral that the text spells
-unfoldable pub scan : List ℕ → Option Numeral
-scan text = do
-  w ← integer_at (after_minus text)
-  f ← fraction_at w.1
-  e ← exponent_at f.1
-  Some (record { negative = begins minus_sign text; integer = w.0; fraction = f.0; exponent = e })
-
--- past the range of powers by more than any count of digits
-abbrev pub exponent_cap : ℕ
-exponent_cap = 2 ^ 66
-
--- the exponent as the code keeps it
-abbrev pub capped : Option Exponent → ℤ
-capped None = pos 0
-capped (Some e) = signed e.sign (min (digits_value 10 e.digits) exponent_cap)
-
--- the power of the stripped digits
-abbrev pub shifted : ℤ → ℕ → ℕ → ℤ
-shifted exponent fraction zeros = (exponent -ℤ pos fraction) +ℤ pos zeros
+abbrev pub NoExponentAt : List ℕ → ℕ → Type 0
+NoExponentAt text at = (sign : Option ℕ) (digits rest : List ℕ) → ¬ IsPower sign digits (drop at text) rest

@@ -11,14 +11,15 @@ use Rattle.std.proofs.lemmas.Str.{IsCharBoundary-after_ascii, chars-IsAscii, enc
 use Rattle.std.proofs.Math.Seq.{take-append_seam}
 use Rattle.tinyjson_grammar.specs.Characters.{is_hex, is_high, is_low, is_surrogate, pair_of, unit_of, paired, decode, short_escape}
 use Rattle.tinyjson_tokens.specs.Escape.{Stands, UnitAt, NoBackslash, EscapeAt}
-use Rattle.tinyjson_source.specs.Slice.{before, chars_after, NextChar}
-use Rattle.tinyjson_scan.specs.Scan.{is_plain}
-use Rattle.tinyjson_source.specs.Source.{TakesRun}
+use Rattle.tinyjson_tokens.specs.Slice.{before, chars_after, NextChar}
+use Rattle.tinyjson_bytes.specs.Scan.{is_plain}
+use Rattle.tinyjson_tokens.specs.Source.{TakesRun}
 use Rattle.tinyjson_grammar.specs.Position.{advance, origin}
-use Rattle.tinyjson_source.specs.declared.text.TextBytes.{TextBytes}
+use Rattle.tinyjson_tokens.specs.declared.text.TextBytes.{TextBytes}
 use Rattle.tinyjson_grammar.specs.Machine.{step, Frame, Next, next, plain, backslash, hex, quoted}
 use Rattle.tinyjson_tokens.specs.Steps.{onward, IsNext, IsTaken, Same, Comes, Leads, Halts}
-use Rattle.tinyjson_source.proofs.Callers.{All_append, text_sight, between, next_of, small, step_gives, step_moves}
+use Rattle.tinyjson_tokens.proofs.Letters.{All_append, text_sight}
+use Rattle.tinyjson_tokens.proofs.Slices.{between, next_of, small, step_gives, step_moves}
 use Rattle.tinyjson_tokens.proofs.Reading.Steps.{Same_refl, Comes_trans, Leads_to, Leads_trans, Halts_trans, end_quoted}
 use Rattle.tinyjson_tokens.proofs.Reading.String.{hexing, hex_next, hex_step, hex_taken, hex_done, backslash_read, u_read, short_read, plain_added, plain_halts}
 

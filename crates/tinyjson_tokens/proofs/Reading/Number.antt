@@ -6,7 +6,7 @@ use Rattle.std.proofs.lemmas.Bool.{ne_eqb}
 use Rattle.std.proofs.lemmas.Bool.Decides.{nat_tests}
 use Rattle.tinyjson_number.specs.Decimal.{Decimal}
 use Rattle.tinyjson_number.specs.Numeral.{numeral, Numeral, AreDigits, has_leading_zero, is_exponent_letter, is_sign, value, in_range}
-use Rattle.tinyjson_source.specs.Source.{Sight, Still, Stops, Takes, TakesRun}
+use Rattle.tinyjson_tokens.specs.Source.{Sight, Still, Stops, Takes, TakesRun}
 use Rattle.tinyjson_grammar.specs.Machine.{strictly, step, end, then_step, end_plain, Frame, in_array, at_key, at_value, Next, next, stop, awaited, digits, minus, integer, point, fraction, letter, sign, exponent, complete}
 use Rattle.tinyjson_tokens.specs.NumberSteps.{BeginsNumber, Gathered, Accepted, Declined, Accepts, Digits}
 use Rattle.tinyjson_tokens.specs.Steps.{onward, ending, IsNext, IsTaken, Comes, Ends, Leads, Refuses}

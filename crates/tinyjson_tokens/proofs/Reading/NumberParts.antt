@@ -8,7 +8,7 @@ use Rattle.tinyjson_number.specs.Number.{Canonical}
 use Rattle.tinyjson_number.specs.Reading.{exponent_of, numeral_of, plain, plain_sign, plain_exponent}
 use Rattle.tinyjson_number.specs.declared.parse.ExponentParts.{ExponentParts}
 use Rattle.tinyjson_number.specs.declared.parse.NumberParts.{NumberParts}
-use Rattle.tinyjson_source.specs.Source.{Sight, Still, Takes}
+use Rattle.tinyjson_tokens.specs.Source.{Sight, Still, Takes}
 use Rattle.tinyjson_grammar.specs.Machine.{Frame, next, stop, awaited, digits, integer, fraction, exponent, complete}
 use Rattle.tinyjson_tokens.specs.NumberSteps.{BeginsNumber, is_minus, is_below_zero, exponent_digits, all_digits, marks_of, Gathered, Accepted, Declined, Accepts, Signs, Digits, Part, ReadsPart}
 use Rattle.tinyjson_tokens.specs.Steps.{Ends, Leads, Refuses}
@@ -23,7 +23,7 @@ use Rattle.tinyjson_tokens.proofs.Reading.Number.{is_one, are_digits, gathered_i
 abbrev pub written : List ℕ → Option Bool → Option Exponent
 written t w = option_map (λ b. record { letter = 101; sign = if b then Some 45 else None; digits = t }) w
 
-pub plain_minus : (s : Option ℕ) → (if is_minus s then Some 45 else None) ≡ plain_sign s
+plain_minus : (s : Option ℕ) → (if is_minus s then Some 45 else None) ≡ plain_sign s
 plain_minus None = refl
 plain_minus (Some c) = refl
 

@@ -17,137 +17,19 @@ use Rattle.tinyjson_number.specs.declared.parse.NumberParts.{NumberParts}
 use Rattle.tinyjson_grammar.specs.Position.{advance, origin}
 use Rattle.tinyjson_grammar.specs.Machine.{Frame, Next, next, stop, awaited, digits, integer, fraction, exponent, complete}
 use Rattle.tinyjson_tokens.specs.NumberSteps.{all_digits, Part}
-use Rattle.tinyjson_tokens.specs.Numerals.{ShowsAt, EndsAt, EndsNumber, FractionAt, SignAt, ExponentAt, MantissaAt, IsGrammatical, NumeralAt, PartsAt, TakesNumeral}
-use Rattle.tinyjson_tokens.specs.declared.numerals.Mantissa.{Mantissa}
-use Rattle.tinyjson_source.specs.Slice.{before, chars_after, run_end, NextChar}
-use Rattle.tinyjson_source.specs.Source.{Sight}
+use Rattle.tinyjson_number.specs.Scan.{EndsNumber, IsGrammatical, NumeralAt, PartsAt}
+use Rattle.tinyjson_tokens.specs.Numerals.{EndsBefore, TakesNumeral}
+use Rattle.tinyjson_tokens.specs.Slice.{before, chars_after, run_end, NextChar}
+use Rattle.tinyjson_tokens.specs.Source.{Sight}
 use Rattle.tinyjson_tokens.specs.Steps.{Comes, IsNext, IsTaken, Leads, onward}
 use Rattle.tinyjson_tokens.proofs.Reading.Number.{is_one, are_digits, begun, begun_next, begun_digit, begun_integer, pointed, pointed_next, pointed_digit, powered, powered_next, powered_digit, powered_integer, minus_begins, point_read, letter_read, sign_read, no_point, no_letter, digits_come, Leads_rest}
-use Rattle.tinyjson_tokens.proofs.Reading.NumberParts.{Leads_number, plain_minus}
+use Rattle.tinyjson_tokens.proofs.Reading.NumberParts.{Leads_number}
 use Rattle.tinyjson_grammar.specs.Tree.{number}
-use Rattle.tinyjson_source.specs.declared.text.TextBytes.{TextBytes}
-use Rattle.tinyjson_source.proofs.Callers.{between, next_of, run_passes, run_stops, step_gives, step_moves, text_sight}
+use Rattle.tinyjson_tokens.specs.declared.text.TextBytes.{TextBytes}
+use Rattle.tinyjson_tokens.proofs.Letters.{text_sight}
+use Rattle.tinyjson_tokens.proofs.Slices.{between, next_of, run_passes, run_stops, step_gives, step_moves}
 use Rattle.tinyjson_grammar.proofs.Callers.{letter_no_digit, letter_no_point, some_none}
 use Rattle.tinyjson_tokens.proofs.Reading.Steps.{Comes_trans, Same_refl}
-
--- ---- places in a text
-
-module _ (text : List ℕ) (from to : ℕ) (e : to ≡ run_end is_ascii_digit text from) where
-  abbrev run : List ℕ
-  run = take (to - from) (drop from text)
-
-  pub digits_pass : AreDigits run
-  digits_pass =
-      let n : prefix_len is_ascii_digit (drop from text) ≡ to - from = omega (arith, e) in
-      are_digits run (subst (λ m. AllByRecursion (λ c. is_ascii_digit c ≡ true) (take m (drop from text))) n (run_passes is_ascii_digit (drop from text)))
-
-  pub digits_split : drop from text ≡ run ++ drop to text
-  digits_split =
-      let n : (to - from) + from ≡ to = omega (arith, e) in
-      sym (take-append-drop (to - from) (drop from text)) ∙ ap (λ bs. run ++ bs) (drop-drop (to - from) from text ∙ ap (λ k. drop k text) (omega (arith, n)))
-
-  pub digits_stop : IfSome (slice_get text to) (λ b. is_ascii_digit b ≡ false)
-  digits_stop = ⊎_elim
-      (λ h. subst (λ o. IfSome o (λ b. is_ascii_digit b ≡ false)) (sym (slice_get-get_or text to 0 h)) (ap (λ k. is_ascii_digit (get_or text k 0)) e ∙ run_stops is_ascii_digit text from (omega (arith, e, h))))
-      (λ h. subst (λ o. IfSome o (λ b. is_ascii_digit b ≡ false)) (sym (slice_get_past text to h)) tt)
-      (cases_lt to (length text))
-
-pub some_from_test : (b : Bool) (n : ℕ) → b ≡ (n == 0) → b ≡ false → 0 < n
-some_from_test b n e h = grind (arith, nat_tests)
-
-shown_first : (text : List ℕ) (at c : ℕ) → at < length text → get_or text at 0 ≡ c → drop at text ≡ c ∷ drop (at + 1) text
-shown_first text at c h e = drop-cons text at 0 h ∙ ap (λ y. y ∷ drop (suc at) text) e ∙ ap (λ k. c ∷ drop k text) (sym (add-one at))
-
-empty_none : (ds : List ℕ) → 0 < length ds → ds ≡ [] → ⊥
-empty_none ds l e = absurd (omega (arith, l, ap length e))
-
-pub no_fraction_at : (text : List ℕ) (at : ℕ) → at ≤ length text → EndsAt text at → ShowsAt (λ c. c == 46) text at false → FractionAt text at [] at
-no_fraction_at text at w d s = record { digits = tt; spelled = refl; within = w; ends = d; no_point = λ e. s }
-
-pub fraction_between : (text : List ℕ) (at : ℕ) (ds : List ℕ) (end : ℕ) → ShowsAt (λ c. c == 46) text at true → AreDigits ds → 0 < length ds → drop (at + 1) text ≡ ds ++ drop end text → end ≤ length text → EndsAt text end
-    → FractionAt text at ds end
-fraction_between text at ds end h a l s w x = record {
-  digits = a;
-  spelled = shown_first text at 46 h.0 (is_one 46 (get_or text at 0) h.1) ∙ ap (λ bs. 46 ∷ bs) s ∙ ap (λ bs. bs ++ drop end text) (sym (fraction_some ds l));
-  within = w;
-  ends = x;
-  no_point = λ e. absurd (empty_none ds l e);
-}
-
-pub sign_between : (text : List ℕ) (at : ℕ) (negative : Bool) → ShowsAt is_sign text at true → negative ≡ (get_or text at 0 == 45) → SignAt text at negative (at + 1)
-sign_between text at negative h e = record { sign = Some (get_or text at 0); known = h.1; minus = e; spelled = shown_first text at (get_or text at 0) h.0 refl; within = omega (arith, h.0) }
-
-pub no_sign_at : (text : List ℕ) (at : ℕ) → at ≤ length text → SignAt text at false at
-no_sign_at text at w = record { sign = None; known = tt; minus = refl; spelled = refl; within = w }
-
-pub exponent_between : (text : List ℕ) (at from : ℕ) (parts : ExponentParts) (end : ℕ) → SignAt text at parts.negative from → AreDigits parts.digits.now → 0 < length parts.digits.now → drop from text ≡ parts.digits.now ++ drop end text
-    → end ≤ length text → EndsAt text end → ExponentAt text at parts end
-exponent_between text at from parts end x a l s w e = record {
-  sign = x.sign;
-  known = x.known;
-  minus = x.minus;
-  digits = a;
-  some_digit = l;
-  spelled = x.spelled ∙ ap (λ bs. sign_text x.sign ++ bs) s ∙ sym (append_assoc (sign_text x.sign) parts.digits.now (drop end text));
-  within = w;
-  ends = e;
-}
-
--- what follows ends the number
-no_exponent_ends : (b : Bool) (ds f : List ℕ) (o : Option ℕ) → IfSome o (λ c. is_ascii_digit c ≡ false) → (f ≡ [] → IfSome o (λ c. (c == 46) ≡ false)) → IfSome o (λ c. is_exponent_letter c ≡ false) → IfSome o (EndsNumber (numeral b ds f None))
-no_exponent_ends b ds f None d p l = tt
-no_exponent_ends b ds f (Some c) d p l = record { digit = d; point = λ e i. p e; letter = λ i. l }
-
-exponent_ends : (b : Bool) (ds f : List ℕ) (e : Exponent) (o : Option ℕ) → IfSome o (λ c. is_ascii_digit c ≡ false) → IfSome o (EndsNumber (numeral b ds f (Some e)))
-exponent_ends b ds f e None d = tt
-exponent_ends b ds f e (Some c) d = record { digit = d; point = λ i j. absurd (some_none e j); letter = λ j. absurd (some_none e j) }
-
-module _ (text : List ℕ) (at : ℕ) (m : Mantissa) (end : ℕ) (x : MantissaAt text at m end) where
-  parts_spelled : (e : Option Exponent) (last : ℕ) → drop end text ≡ exponent_text e ++ drop last text → drop at text ≡ spelling (numeral m.negative m.integer.now m.fraction.now e) ++ drop last text
-  parts_spelled e last h =
-      let b = m.negative in
-      let ds = m.integer.now in
-      let f = m.fraction.now in
-      let more = drop last text in
-      let tail : drop x.point text ≡ (fraction_text f ++ exponent_text e) ++ more = x.fraction.spelled ∙ ap (λ t. fraction_text f ++ t) h ∙ sym (append_assoc (fraction_text f) (exponent_text e) more) in
-      let digits : ds ++ drop x.point text ≡ (ds ++ (fraction_text f ++ exponent_text e)) ++ more = ap (λ t. ds ++ t) tail ∙ sym (append_assoc ds (fraction_text f ++ exponent_text e) more) in
-      x.spelled ∙ ap (λ t. minus_text b ++ t) digits ∙ sym (append_assoc (minus_text b) (ds ++ (fraction_text f ++ exponent_text e)) more)
-
-  grammatical : (e : Option Exponent) → IfSome e IsExponent → IsGrammatical (numeral m.negative m.integer.now m.fraction.now e)
-  grammatical e h = record { well_formed = record { integer = x.integer; some_digit = x.some_digit; fraction = x.fraction.digits; exponent = h }; no_leading_zero = x.no_leading_zero }
-
-  -- the parts with this exponent
-  abbrev with_exponent : Option ExponentParts → NumberParts
-  with_exponent e = record { negative = m.negative; integer = m.integer; fraction = m.fraction; exponent = e }
-
-  pub plain_between : ShowsAt is_exponent_letter text end false → PartsAt text at (with_exponent None) end
-  plain_between h =
-      let f = m.fraction.now in (
-        numeral m.negative m.integer.now f None,
-        refl,
-        record {
-          grammatical = grammatical None tt;
-          spelled = parts_spelled None end refl;
-          within = x.fraction.within;
-          ends = no_exponent_ends m.negative m.integer.now f (slice_get text end) x.fraction.ends x.fraction.no_point h;
-        },
-      )
-
-  pub scientific_between : (parts : ExponentParts) (last : ℕ) → ShowsAt is_exponent_letter text end true → ExponentAt text (end + 1) parts last → PartsAt text at (with_exponent (Some parts)) last
-  scientific_between parts last h e =
-      let letter = get_or text end 0 in
-      let f = m.fraction.now in
-      let exponent : Exponent = record { letter = letter; sign = e.sign; digits = parts.digits.now } in
-      let same = ap (λ s. Some (record { letter = 101; sign = s; digits = parts.digits.now })) (ap (λ b. if b then Some 45 else None) e.minus ∙ plain_minus e.sign) in (
-        numeral m.negative m.integer.now f (Some exponent),
-        ap (numeral m.negative m.integer.now f) same,
-        record {
-          grammatical = grammatical (Some exponent) (record { letter = h.1; sign = e.known; digits = e.digits; some_digit = e.some_digit });
-          spelled = parts_spelled (Some exponent) last (shown_first text end letter h.0 refl ∙ ap (λ bs. letter ∷ bs) e.spelled);
-          within = e.within;
-          ends = exponent_ends m.negative m.integer.now f exponent (slice_get text last) e.ends;
-        },
-      )
 
 -- ---- a number between two places
 
@@ -155,12 +37,16 @@ all_pass : (ds : List ℕ) → AreDigits ds → AllByRecursion (λ c. is_ascii_d
 all_pass [] a = tt
 all_pass (d ∷ ds) a = (a.0, all_pass ds a.1)
 
-high_ends : (n : Numeral) (c : ℕ) → 128 ≤ c → EndsNumber n c
+high_ends : (n : Numeral) (c : ℕ) → 128 ≤ c → EndsBefore n c
 high_ends n c h =
     let digit : is_ascii_digit c ≡ false = grind (arith, nat_tests) in
     let point : (c == 46) ≡ false = grind (arith, nat_tests) in
     let letter : is_exponent_letter c ≡ false = grind (arith, nat_tests) in
     record { digit = digit; point = λ e i. point; letter = λ e. letter }
+
+ends_first : (n : Numeral) (rest : List ℕ) (c : ℕ) → 0 < length rest → get_or rest 0 0 ≡ c → EndsNumber n rest → EndsBefore n c
+ends_first n [] c some e h = absurd (omega arith)
+ends_first n (x ∷ xs) c some e h = subst (EndsBefore n) e (record { digit = h.digit; point = h.point; letter = h.letter })
 
 module _ (text : List ℕ) (at : ℕ) (first : at ≤ length text) (n : Numeral) (end : ℕ) (x : NumeralAt text at n end) where
   numeral_count : end ≡ at + length (spelling n)
@@ -200,18 +86,17 @@ module _ (text : List ℕ) (utf8 : IsUtf8 text) (at : ℕ) (first : IsCharBounda
       let positive : 0 < long = omega (arith, some, count) in
       subst (IsCharBoundary text) (omega (arith, count, positive)) (IsCharBoundary-after_ascii text (at + (long - 1)) utf8 (omega (arith, count, positive, x.within)) last_byte)
 
-  numeral_ends : (o : Option ℕ) → NextChar text end o → IfSome o (EndsNumber n)
+  numeral_ends : (o : Option ℕ) → NextChar text end o → IfSome o (EndsBefore n)
   numeral_ends None h = tt
   numeral_ends (Some c) k = ⊎_elim
       (λ l.
       let some : 0 < length (drop end text) = omega (arith, ap length k, length-append (encode_utf8 c) (drop (end + len_utf8 c) text), length-encode c, (len_utf8_bounds c).0) in
       let byte : get_or (drop end text) 0 0 ≡ c = byte_from_char (drop end text) (drop (end + len_utf8 c) text) c k l in
-      let at_end : get_or text end 0 ≡ c = ap (λ k. get_or text k 0) (omega arith) ∙ sym (get_or-drop end text 0 0) ∙ byte in
-      subst (λ o. IfSome o (EndsNumber n)) (slice_get-get_or text end 0 (omega (arith, some, length-drop end text)) ∙ ap Some at_end) x.ends)
+      ends_first n (drop end text) c some byte x.ends)
       (λ h. high_ends n c h)
       (cases_lt c 128)
 
-  numeral_follows : (o : Option ℕ) × (slice_get (chars_after text end) 0 ≡ o) × IfSome o (EndsNumber n)
+  numeral_follows : (o : Option ℕ) × (slice_get (chars_after text end) 0 ≡ o) × IfSome o (EndsBefore n)
   numeral_follows = let o = slice_get (chars_after text end) 0 in (o, refl, numeral_ends o (next_of text utf8 end numeral_boundary))
 
   numeral_gives : (zs : List ℕ) → zs ≡ chars_after text at → (more : List ℕ) × (zs ≡ spelling n ++ more) × (more ≡ chars_after text end)
@@ -328,15 +213,15 @@ module _ {S : Type 0} (sight : Sight S) (p q : S) (n : Numeral) (x : TakesNumera
       } in
       after_fraction limit fs n.exponent refl l
     where
-      no_digit : (o : Option ℕ) → IfSome o (EndsNumber n) → IfSome o (λ c. is_ascii_digit c ≡ false)
+      no_digit : (o : Option ℕ) → IfSome o (EndsBefore n) → IfSome o (λ c. is_ascii_digit c ≡ false)
       no_digit None h = tt
       no_digit (Some c) h = h.digit
 
-      no_dot : (o : Option ℕ) → n.fraction ≡ [] → n.exponent ≡ None → IfSome o (EndsNumber n) → IfSome o (λ c. (c == 46) ≡ false)
+      no_dot : (o : Option ℕ) → n.fraction ≡ [] → n.exponent ≡ None → IfSome o (EndsBefore n) → IfSome o (λ c. (c == 46) ≡ false)
       no_dot None i j h = tt
       no_dot (Some c) i j h = h.point i j
 
-      no_exponent_letter : (o : Option ℕ) → n.exponent ≡ None → IfSome o (EndsNumber n) → IfSome o (λ c. is_exponent_letter c ≡ false)
+      no_exponent_letter : (o : Option ℕ) → n.exponent ≡ None → IfSome o (EndsBefore n) → IfSome o (λ c. is_exponent_letter c ≡ false)
       no_exponent_letter None j h = tt
       no_exponent_letter (Some c) j h = h.letter j
 
@@ -355,7 +240,7 @@ module _ {S : Type 0} (sight : Sight S) (p q : S) (n : Numeral) (x : TakesNumera
           (no_letter limit fs (numeral n.negative n.integer n.fraction None) e.0 (no_digit e.0 e.2) (no_exponent_letter e.0 j e.2))
       after_fraction limit fs (Some y) j l = l
 
-  no_digit_next : (o : Option ℕ) → IfSome o (EndsNumber n) → IfSome o (λ c. is_ascii_digit c ≡ false)
+  no_digit_next : (o : Option ℕ) → IfSome o (EndsBefore n) → IfSome o (λ c. is_ascii_digit c ≡ false)
   no_digit_next None h = tt
   no_digit_next (Some c) h = h.digit
 

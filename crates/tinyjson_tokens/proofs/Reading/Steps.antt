@@ -9,10 +9,10 @@ use Rattle.tinyjson_grammar.specs.declared.error.JsonParseErrorKind.{JsonParseEr
 use Rattle.tinyjson_grammar.specs.declared.error.JsonParseErrorKind.TheVariants.{OutOfMemory, UnexpectedEof, ExpectedEof, InvalidCharacter, InvalidUtf16, KeyNotString, UnexpectedInLiteral}
 use Rattle.tinyjson_grammar.specs.Position.{advance}
 use Rattle.tinyjson_grammar.specs.Characters.{is_white}
-use Rattle.tinyjson_source.specs.Source.{Sight, Takes, Whites}
+use Rattle.tinyjson_tokens.specs.Source.{Sight, Takes, Whites}
 use Rattle.tinyjson_grammar.specs.Machine.{strictly, Within, quoted, end, colon, Frame, in_array, at_key, at_value, first, awaited, after, finished, Next, next, stop, refused, complete, step, run, go_on}
 use Rattle.tinyjson_tokens.specs.Steps.{onward, ending, outcome, IsNext, IsTaken, after_all, letters_left, Same, Comes, IsLate, IsHeld, Leads, Halts, Refuses, Reads}
-use Rattle.tinyjson_source.proofs.Callers.{Takes_nil}
+use Rattle.tinyjson_tokens.proofs.Sources.{Takes_nil}
 use Rattle.tinyjson_grammar.proofs.Callers.{advance_append}
 
 -- ---- the machine alone

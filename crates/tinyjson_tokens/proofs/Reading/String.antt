@@ -9,8 +9,8 @@ use Rattle.std.proofs.lemmas.Bool.Decides.{nat_tests}
 use Rattle.tinyjson_grammar.specs.Tree.{string}
 use Rattle.tinyjson_grammar.specs.Characters.{text, is_hex, unit_of, paired, decode, short_escape}
 use Rattle.tinyjson_grammar.specs.declared.error.JsonParseErrorKind.{JsonParseErrorKind}
-use Rattle.tinyjson_scan.specs.Scan.{is_plain}
-use Rattle.tinyjson_source.specs.Source.{Sight, Takes, TakesRun}
+use Rattle.tinyjson_bytes.specs.Scan.{is_plain}
+use Rattle.tinyjson_tokens.specs.Source.{Sight, Takes, TakesRun}
 use Rattle.tinyjson_grammar.specs.Machine.{step, end, Frame, in_array, at_key, at_value, Next, next, stop, complete, plain, backslash, hex, quoted, refused}
 use Rattle.tinyjson_grammar.specs.declared.error.JsonParseErrorKind.TheVariants.{InvalidUtf16, InvalidHexDigit, InvalidEscape, ControlCharacter, UnexpectedEof}
 use Rattle.tinyjson_tokens.specs.Steps.{onward, ending, within, Fails, IsNext, IsTaken, Comes, Leads, Halts, Refuses, Reads}

@@ -2,8 +2,8 @@ use Rattle.std.proofs.Common.{sym, ap, ◌∙◌}
 use Rattle.std.proofs.lemmas.Str.{scalars-chars}
 use Rattle.std.specs.Str.{chars}
 use Rattle.tinyjson_grammar.specs.Position.{advance, origin}
-use Rattle.tinyjson_source.specs.Slice.{before, chars_after}
-use Rattle.tinyjson_source.specs.declared.text.TextBytes.{TextBytes}
+use Rattle.tinyjson_tokens.specs.Slice.{before, chars_after}
+use Rattle.tinyjson_tokens.specs.declared.text.TextBytes.{TextBytes}
 use Rattle.tinyjson.proofs.Reading.Parse.{answered, answered_text, all_are_scalars}
 use Rattle.tinyjson.proofs.parser.parse_text.Goals as goal
 

@@ -1,6 +1,6 @@
 use Rattle.std.proofs.Common.{◌≡◌, take, min}
 use Rattle.std.specs.Str.Parse.{digits_value}
-use Rattle.tinyjson_number.specs.private.Scan.{exponent_cap}
+use Rattle.tinyjson_number.specs.private.Power.{exponent_cap}
 use Rattle.tinyjson_number.proofs.parse.capped_value.Given as goal
 
 abbrev pub invariant-loop-b : goal.invariant-loop-b

@@ -1,5 +1,5 @@
 use Rattle.std.proofs.Common.{rules, ◌≡◌, refl}
-use Rattle.tinyjson_source.proofs.Callers.{scalar_plain}
+use Rattle.tinyjson_tokens.proofs.Units.{scalar_plain}
 use Rattle.tinyjson_tokens.proofs.Reading.Escape.{unit_escape}
 use Rattle.tinyjson_tokens.proofs.escape.units_at.Goals as goal
 

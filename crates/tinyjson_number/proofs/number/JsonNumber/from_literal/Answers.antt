@@ -1,39 +1,37 @@
 use Rattle.std.proofs.Common.{◌+◌, length, sym, ap, subst, arith}
-use Rattle.tinyjson_number.specs.private.Scan.{scan}
 use Rattle.tinyjson_number.specs.Numeral.{Numeral}
 use Rattle.tinyjson_number.specs.NumberText.{Spells}
 use Rattle.tinyjson_number.specs.Reading.{ReadsNumeral, numeral_of}
-use Rattle.tinyjson_number.proofs.Literals.{scan_sound, none_spells, one_numeral}
-use Rattle.tinyjson_number.proofs.Readings.{plain_of, none_of}
+use Rattle.tinyjson_number.proofs.Scans.{one_numeral}
 use Rattle.tinyjson_number.proofs.Parts.{spelled_room, parts_numeral, parts_read}
 use Rattle.tinyjson_number.proofs.number.JsonNumber.from_literal.Goals as goal
 
 pub from_parts-requires-clause-numeral : goal.from_parts-requires-clause-numeral
 from_parts-requires-clause-numeral c =
     let t = c.as_bytes.result.now in
-    let k = plain_of (scan t) (numeral_of c.in-Some.parts) c.in-Some.ensures in
-    parts_numeral k.0 c.in-Some.parts k.2 (scan_sound t k.0 k.1).well_formed
+    let k = c.in-Some.ensures in
+    parts_numeral k.0 c.in-Some.parts k.1 k.2.well_formed
 
 pub from_parts-requires-clause-room : goal.from_parts-requires-clause-room
 from_parts-requires-clause-room c =
     let t = c.as_bytes.result.now in
-    let k = plain_of (scan t) (numeral_of c.in-Some.parts) c.in-Some.ensures in
-    omega (arith, ap (λ (n : Numeral). length n.integer + length n.fraction) k.2, spelled_room k.0 t (scan_sound t k.0 k.1), c.as_bytes.ensures.len)
+    let k = c.in-Some.ensures in
+    omega (arith, ap (λ (n : Numeral). length n.integer + length n.fraction) k.1, spelled_room k.0 t k.2, c.as_bytes.ensures.len)
 
 pub unreachable-requires : goal.unreachable-requires
-unreachable-requires c = none_spells c.as_bytes.result.now (none_of (scan c.as_bytes.result.now) c.in-None.ensures) c.requires.0 (subst (Spells c.requires.0) (sym c.as_bytes.ensures.value) c.requires.1)
+unreachable-requires c = c.in-None.ensures c.requires.0 (subst (Spells c.requires.0) (sym c.as_bytes.ensures.value) c.requires.1)
 
 pub returns-clause-reads : goal.returns-clause-reads
 returns-clause-reads c = λ n s.
     let t = c.as_bytes.result.now in
-    let k = plain_of (scan t) (numeral_of c.in-Some.parts) c.in-Some.ensures in
-    let spelled = subst (Spells k.0) c.as_bytes.ensures.value (scan_sound t k.0 k.1) in
-    let read = parts_read k.0 c.in-Some.parts k.2 c.from_parts.result c.from_parts.ensures.reads in
+    let k = c.in-Some.ensures in
+    let spelled = subst (Spells k.0) c.as_bytes.ensures.value k.2 in
+    let read = parts_read k.0 c.in-Some.parts k.1 c.from_parts.result c.from_parts.ensures.reads in
     subst (λ (m : Numeral). ReadsNumeral m c.from_parts.result) (one_numeral c.args.literal.now k.0 n spelled s) read
 
 pub returns-clause-short : goal.returns-clause-short
 returns-clause-short c = λ few is.
     let t = c.as_bytes.result.now in
-    let k = plain_of (scan t) (numeral_of c.in-Some.parts) c.in-Some.ensures in
-    let room = spelled_room k.0 t (scan_sound t k.0 k.1) in
-    c.from_parts.ensures.short (omega (arith, few, ap (λ (n : Numeral). length n.integer + length n.fraction) k.2, room, ap length c.as_bytes.ensures.value)) is
+    let k = c.in-Some.ensures in
+    let room = spelled_room k.0 t k.2 in
+    c.from_parts.ensures.short (omega (arith, few, ap (λ (n : Numeral). length n.integer + length n.fraction) k.1, room, ap length c.as_bytes.ensures.value)) is

@@ -1,5 +1,5 @@
 use Rattle.std.proofs.Common.{rules, ◌∷◌, [], Some}
-use Rattle.tinyjson_source.proofs.Callers.{Takes_append, Takes_shown}
+use Rattle.tinyjson_tokens.proofs.Sources.{Takes_append, Takes_shown}
 use Rattle.tinyjson_tokens.proofs.reader.TokenReader.letter.Goals as goal
 
 pub returns-in-Some-clause-accepts : goal.returns-in-Some-clause-accepts

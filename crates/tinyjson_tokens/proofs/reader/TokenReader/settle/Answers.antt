@@ -1,9 +1,9 @@
 use Rattle.std.proofs.Common.{rules, arith, ◌≡◌, ◌∙◌, ◌++◌, [], Some, true, false, sym, ap}
 use Rattle.tinyjson_grammar.specs.Characters.{paired, decode, text}
 use Rattle.tinyjson_grammar.specs.Machine.{next, quoted, plain}
-use Rattle.tinyjson_scan.specs.Scan.{is_plain}
+use Rattle.tinyjson_bytes.specs.Scan.{is_plain}
 use Rattle.tinyjson_grammar.specs.declared.error.JsonParseErrorKind.TheVariants.{InvalidUtf16}
-use Rattle.tinyjson_source.proofs.Callers.{Takes_shown}
+use Rattle.tinyjson_tokens.proofs.Sources.{Takes_shown}
 use Rattle.tinyjson_tokens.proofs.Reading.Steps.{Leads_nil, Leads_one, Leads_peek, Leads_shown, Leads_to, Halts_here, Refuses_as, Refuses_memory}
 use Rattle.tinyjson_tokens.proofs.Reading.String.{units_added, units_refused}
 use Rattle.tinyjson_tokens.proofs.reader.TokenReader.settle.Goals as goal

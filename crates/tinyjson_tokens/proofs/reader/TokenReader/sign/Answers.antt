@@ -1,6 +1,6 @@
 use Rattle.std.proofs.Common.{◌≡◌, ◌∷◌, [], Some, true, refl, sym, subst, ⊎_elim}
 use Rattle.tinyjson_number.specs.Numeral.{is_sign}
-use Rattle.tinyjson_source.proofs.Callers.{Takes_append, Takes_shown}
+use Rattle.tinyjson_tokens.proofs.Sources.{Takes_append, Takes_shown}
 use Rattle.tinyjson_tokens.proofs.reader.TokenReader.sign.Goals as goal
 
 pub returns-in-Some-clause-signs : goal.returns-in-Some-clause-signs

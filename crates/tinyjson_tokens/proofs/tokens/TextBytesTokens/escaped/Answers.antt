@@ -3,7 +3,7 @@ use Rattle.std.proofs.lemmas.Result.{err_from_is_err_and}
 use Rattle.std.proofs.lemmas.Str.{IsUtf8-had}
 use Rattle.tinyjson_tokens.specs.Escape.{EscapeAt}
 use Rattle.tinyjson_tokens.proofs.Reading.Escape.{escape_boundary, escape_added, escape_halts}
-use Rattle.tinyjson_source.proofs.Callers.{text_sight}
+use Rattle.tinyjson_tokens.proofs.Letters.{text_sight}
 use Rattle.tinyjson_tokens.proofs.Reading.Steps.{Halts_here}
 use Rattle.tinyjson_tokens.proofs.Reading.String.{plain_added, plain_halts}
 use Rattle.tinyjson_tokens.proofs.tokens.TextBytesTokens.escaped.Goals as goal

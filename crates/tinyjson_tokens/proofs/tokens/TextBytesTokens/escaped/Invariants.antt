@@ -1,6 +1,6 @@
 use Rattle.std.proofs.Common.{◌-◌, ◌≤◌, ℕ, Option, List, [], false, length}
 use Rattle.tinyjson_grammar.specs.Machine.{Frame}
-use Rattle.tinyjson_source.proofs.Callers.{text_sight}
+use Rattle.tinyjson_tokens.proofs.Letters.{text_sight}
 use Rattle.tinyjson_tokens.specs.Steps.{Leads, within}
 use Rattle.tinyjson_tokens.proofs.tokens.TextBytesTokens.escaped.Given as goal
 

@@ -1,7 +1,7 @@
 use Rattle.std.proofs.Common.{arith, refl, subst, Ok}
 use Rattle.std.proofs.lemmas.Str.{IsUtf8-had}
 use Rattle.tinyjson_number.proofs.Callers.{parts_numeral, parts_read}
-use Rattle.tinyjson_tokens.specs.Numerals.{PartsAt}
+use Rattle.tinyjson_number.specs.Scan.{PartsAt}
 use Rattle.tinyjson_tokens.proofs.Reading.Numerals.{numeral_boundary, numeral_some, numeral_taken, parts_room}
 use Rattle.tinyjson_tokens.proofs.tokens.TextBytesTokens.scientific.Goals as goal
 

@@ -1,0 +1,3 @@
+-- Runs of bytes, and copies, seen a vector at a time.
+pub mod Scans
+pub mod Vectors

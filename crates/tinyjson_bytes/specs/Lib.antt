@@ -1,0 +1,3 @@
+-- What ends a run.
+pub mod Characters
+pub mod Scan

@@ -1,0 +1,15 @@
+//! What works on bytes alone: runs of plain characters, white space and digits, found sixteen at a time; copies by
+//! vectors; members put near their order before they are sorted.
+//!
+//! It is part of the inside of `tinyjson`, which a program takes alone.
+#![tactic(auto)]
+
+mod copies;
+mod plain;
+mod runs;
+mod sorting;
+
+pub use copies::{copy, put};
+pub use plain::{is_plain, plain_end};
+pub use runs::{digits_end, is_white, white_end};
+pub use sorting::presort;

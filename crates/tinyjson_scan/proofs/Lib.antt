@@ -1,2 +1,0 @@
--- Runs of bytes, seen a vector at a time.
-pub mod Scans

@@ -1,2 +1,0 @@
--- What ends a run.
-pub mod Scan

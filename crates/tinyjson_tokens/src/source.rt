@@ -1,0 +1,130 @@
+//! What a source of characters is.
+ghost use Rattle.std.specs.Prelude.{◌≡◌, ℕ, ◌+◌, ◌<◌, ◌≤◌, [], ◌∷◌, false, IfSome};
+ghost use Rattle.std.specs.Prelude.{MatchOption, OnOk, Option, Some, None, length};
+ghost use Rattle.std.specs.Prelude.{string_bytes};
+ghost use Rattle.std.specs.Char.{is_ascii_digit};
+ghost use Rattle.std.specs.Option.{option_len};
+ghost use Rattle.tinyjson_grammar.specs.Characters.{is_white, text};
+ghost use Rattle.tinyjson_bytes.specs.Scan.{is_plain};
+ghost use Rattle.tinyjson_grammar.specs.Position.{position_at};
+ghost use Rattle.tinyjson_tokens.specs.Source.{Sight, Still, Stops, Takes, TakesQuoted, TakesRun};
+ghost use Rattle.tinyjson_tokens.specs.Source.{Whites};
+
+use crate::utf16::push;
+use std::alloc::{AllocError, Global};
+use tinyjson_bytes::{is_plain, is_white};
+
+/// A source of characters, of which the next one can be looked at.
+///
+/// `sight` says what the source still gives and where it stands, and `left` goes down with each character.
+pub trait Source: Drop {
+    ghost sight: { Sight Self };
+
+    ghost left: { Self → ℕ };
+
+    /// The next character, which is not consumed yet.
+    fn peek(&mut self) -> Option<char>
+        ensures takes { Takes sight self.old [] self.new }
+        ensures shows { sight.shows self.new result }
+        ensures kept { (o : Option ℕ) → sight.shows self.old o → result ≡ o }
+        ensures left { left self.new ≤ left self.old };
+
+    /// The next character, which is consumed.
+    fn bump(&mut self) -> Option<char>
+        ensures takes { MatchOption result
+            (Takes sight self.old [] self.new × sight.shows self.new None)
+            (λ c. Takes sight self.old (c ∷ []) self.new) }
+        ensures shown { (o : Option ℕ) → sight.shows self.old o → result ≡ o }
+        ensures left { left self.new + option_len result ≤ left self.old };
+
+    /// Consumes the next character, which was shown.
+    fn consume(&mut self, c: char)
+        requires shown { sight.shows self.old (Some c) }
+        ensures takes { Takes sight self.old (c ∷ []) self.new }
+        ensures left { left self.new < left self.old }
+    {
+        self.bump();
+    }
+
+    /// Passes over white space, and shows what follows it.
+    fn skip_white(&mut self) -> Option<char>
+        ensures white { Whites sight self.old self.new }
+        ensures shows { sight.shows self.new result }
+        ensures stops { IfSome result (λ c. is_white c ≡ false) }
+        ensures left { left self.new ≤ left self.old }
+    {
+        loop {
+            let next = self.peek();
+            match next {
+                Some(c) if is_white(c) => {
+                    self.bump();
+                }
+                _ => return next,
+            }
+        }
+    }
+
+    /// Takes the plain characters of a string that come next, and adds them to it. Where memory runs out,
+    /// some of them may be taken.
+    fn plain(&mut self, string: &mut String) -> Result<(), AllocError>
+        ensures plain { TakesRun sight is_plain self.old (text string.old) result
+            (text string.new) self.new }
+        ensures left { left self.new ≤ left self.old }
+    {
+        loop {
+            match self.peek() {
+                Some(c) if is_plain(c) => {
+                    push(string, c)?;
+                    self.bump();
+                }
+                _ => return Ok(()),
+            }
+        }
+    }
+
+    /// The same, where few of them are awaited.
+    fn letters(&mut self, string: &mut String) -> Result<(), AllocError>
+        ensures plain { TakesRun sight is_plain self.old (text string.old) result
+            (text string.new) self.new }
+        ensures left { left self.new ≤ left self.old }
+    {
+        self.plain(string)
+    }
+
+    /// After the quote that opens a string: the string, if the source finds that no escape stands in it.
+    /// Otherwise takes the plain characters that come next, and adds them to the buffer.
+    fn quoted(&mut self, alloc: Global, buffer: &mut String) -> Result<Option<String>, AllocError>
+        ensures quoted { TakesQuoted sight is_plain self.old (text buffer.old) result
+            (text buffer.new) self.new }
+        ensures left { left self.new ≤ left self.old }
+    {
+        self.plain(buffer)?;
+        Ok(None)
+    }
+
+    /// Takes the digits that come next, and adds them to a text. Where memory runs out, some of them may be
+    /// taken.
+    fn digits(&mut self, buffer: &mut String) -> Result<(), AllocError>
+        ensures digits { TakesRun sight is_ascii_digit self.old (string_bytes buffer.old) result
+            (string_bytes buffer.new) self.new }
+        ensures stops { OnOk result (Stops sight is_ascii_digit self.new) }
+        ensures still { OnOk result (string_bytes buffer.new ≡ string_bytes buffer.old
+            → Still sight self.old self.new) }
+        ensures left { OnOk result (left self.new + length (string_bytes buffer.new)
+            ≤ left self.old + length (string_bytes buffer.old)) }
+    {
+        loop {
+            match self.peek() {
+                Some(c) if c.is_ascii_digit() => {
+                    buffer.push(c)?;
+                    self.bump();
+                }
+                _ => return Ok(()),
+            }
+        }
+    }
+
+    /// The line and the column after what was consumed.
+    fn position(&self) -> (usize, usize)
+        ensures { position_at result.0 result.1 ≡ sight.place self.now };
+}
