@@ -3,15 +3,18 @@ pub mod Laws
 pub use Rattle.std.proofs.lemmas.Str.{scalars-chars, IsUtf8-string_bytes}
 pub use Rattle.tinyjson.proofs.Reading.Parse.{all_are_scalars, parses_text}
 pub use Rattle.tinyjson.proofs.Values.Entries.{same_text, text_eq}
+pub use Rattle.tinyjson.proofs.Values.Depths.{item_less_deep, member_less_deep, item_count_view, nth_past}
+pub use Rattle.tinyjson.proofs.Values.Loops.{members_view_IsSorted, find_done, find_more, IsRest, rest_begins, rest_next, rest_distinct, rest_ends}
+pub use Rattle.tinyjson.specs.Access.Laws.{put_of_array, put_of_object}
 pub use Rattle.tinyjson.proofs.Values.Index.{items_view_set, tree_with_item, tree_with_member}
-pub use Rattle.tinyjson_grammar.proofs.Callers.{find_put, find_remove, sorted_put, sorted_remove, members_from_find}
+pub use Rattle.tinyjson_grammar.proofs.Callers.{find_below, find_put, find_remove, key_same, sorted_put, sorted_remove, members_from_find}
 pub use Rattle.tinyjson.proofs.Writing.Scalars.{encoded_chars, encoded_utf8, text_of_scalars}
 pub use Rattle.tinyjson.proofs.Values.Trees.{view_IsTree, text_scalars}
 pub use Rattle.tinyjson.proofs.Values.View.{view_Null, view_Boolean, view_Number, view_String, view_Array, view_Object, Entry, find_members_view, members_view_last, view_ref}
 pub use Rattle.tinyjson.proofs.Values.WholeNumbers.{integers_differ, naturals_differ}
 pub use Rattle.tinyjson_tokens.proofs.Callers.{text_push}
 pub use Rattle.tinyjson_output.proofs.Callers.{Appends-trans, Appends_nothing, Appends_keeps, written_none, written_all, begins, goes, ends, written_take, written_same, written_then, stop, stops, stops_then, fails}
-use Rattle.std.proofs.Common.{◌≡◌, ◌≢◌, ℕ, zero, suc, Bool, true, false, ◌&&◌, cond, bytes_eq, nat_lt, List, [], ◌∷◌, ◌++◌, Option, Some, None, option_map, Ok, Err, String, string_bytes, Vec, Global, refl, sym, ap, ◌∙◌, subst, rules, arith, append-nil}
+use Rattle.std.proofs.Common.{◌≡◌, ◌≢◌, ℕ, zero, suc, Bool, true, false, ◌&&◌, cond, bytes_eq, nat_lt, List, [], ◌∷◌, ◌++◌, Option, Some, None, option_map, unwrap_or, is_some, Ok, Err, String, string_bytes, Vec, Global, refl, sym, ap, ◌∙◌, subst, rules, arith, append-nil}
 use Rattle.std.proofs.lemmas.Bool.{and_parts}
 use Rattle.std.proofs.lemmas.Bool.Decides.{nat_tests, same_from_decides}
 use Rattle.std.proofs.lemmas.Slice.Eq.{bytes_eq-Decides}
@@ -25,7 +28,7 @@ use Rattle.std.specs.Str.{IsAscii, IsUtf8, chars, encode_utf8_all}
 use Rattle.std.specs.String.{string_eq, string_eq_equiv}
 use Rattle.tinyjson.proofs.Values.Entries.{find_members_of}
 use Rattle.tinyjson.proofs.Values.View.{view_lookup, members_view_updates, members_view_removes, members_view_writes}
-use Rattle.tinyjson.specs.Access.{JsonMap, number_in, boolean_in, string_in, null_in, array_in, object_in, number_part, boolean_part, string_part, null_part, array_part, object_part}
+use Rattle.tinyjson.specs.Access.{JsonMap, number_in, boolean_in, string_in, null_in, array_in, object_in, number_part, boolean_part, string_part, null_part, array_part, object_part, is_null, is_boolean, is_number, is_string, is_array, is_object}
 use Rattle.tinyjson_grammar.proofs.Callers.{compact_text, one_compact}
 use Rattle.tinyjson.specs.Equality.{same_tree, tree_eq_Decides}
 use Rattle.tinyjson.specs.Error.{error_kind}
@@ -151,6 +154,57 @@ array_from_tree v ts h = array_held (out-JsonValue v) ts (sym (view_seen v) ∙ 
 pub object_from_tree : (v : JsonValue) (ms : Members) → view v ≡ object ms → (m : JsonMap) × (object_part v ≡ Some m) × (members_view m.entries ≡ ms)
 object_from_tree v ms h = object_held (out-JsonValue v) ms (sym (view_seen v) ∙ h)
 
+-- a value that is no object, or no array, has the tree of none
+pub no_object : (v : JsonValue) → ((m : JsonMap) → v ≡ made.Object m → ⊥) → (ms : Members) → view v ≡ object ms → ⊥
+no_object v other ms h = let f = object_from_tree v ms h in other f.0 (sym (put_of_object v f.0 f.1))
+
+pub no_array : (v : JsonValue) → ((l : Vec JsonValue Global) → v ≡ made.Array l → ⊥) → (ts : Items) → view v ≡ array ts → ⊥
+no_array v other ts h = let f = array_from_tree v ts h in other f.0 (sym (put_of_array v f.0 f.1))
+
+-- ---- whether a part is there, by the tree
+
+null_told : (o : JsonValue-F JsonValue) → is_some (null_in o) ≡ is_null (seen o)
+null_told JsonValue-F.Null = refl
+null_told _ = refl
+
+boolean_told : (o : JsonValue-F JsonValue) → is_some (boolean_in o) ≡ is_boolean (seen o)
+boolean_told (JsonValue-F.Boolean b) = refl
+boolean_told _ = refl
+
+number_told : (o : JsonValue-F JsonValue) → is_some (number_in o) ≡ is_number (seen o)
+number_told (JsonValue-F.Number n) = refl
+number_told _ = refl
+
+string_told : (o : JsonValue-F JsonValue) → is_some (string_in o) ≡ is_string (seen o)
+string_told (JsonValue-F.String s) = refl
+string_told _ = refl
+
+array_told : (o : JsonValue-F JsonValue) → is_some (array_in o) ≡ is_array (seen o)
+array_told (JsonValue-F.Array l) = refl
+array_told _ = refl
+
+object_told : (o : JsonValue-F JsonValue) → is_some (object_in o) ≡ is_object (seen o)
+object_told (JsonValue-F.Object m) = refl
+object_told _ = refl
+
+pub is_null_view : (v : JsonValue) → is_some (null_part v) ≡ is_null (view v)
+is_null_view v = null_told (out-JsonValue v) ∙ ap is_null (sym (view_seen v))
+
+pub is_boolean_view : (v : JsonValue) → is_some (boolean_part v) ≡ is_boolean (view v)
+is_boolean_view v = boolean_told (out-JsonValue v) ∙ ap is_boolean (sym (view_seen v))
+
+pub is_number_view : (v : JsonValue) → is_some (number_part v) ≡ is_number (view v)
+is_number_view v = number_told (out-JsonValue v) ∙ ap is_number (sym (view_seen v))
+
+pub is_string_view : (v : JsonValue) → is_some (string_part v) ≡ is_string (view v)
+is_string_view v = string_told (out-JsonValue v) ∙ ap is_string (sym (view_seen v))
+
+pub is_array_view : (v : JsonValue) → is_some (array_part v) ≡ is_array (view v)
+is_array_view v = array_told (out-JsonValue v) ∙ ap is_array (sym (view_seen v))
+
+pub is_object_view : (v : JsonValue) → is_some (object_part v) ≡ is_object (view v)
+is_object_view v = object_told (out-JsonValue v) ∙ ap is_object (sym (view_seen v))
+
 -- ---- keys of ASCII characters
 
 abbrev pub are_ascii : List ℕ → Bool
@@ -216,6 +270,11 @@ value_from_tree None t h = cc
 pub none_from_tree : (o : Option JsonValue) → option_map view o ≡ None → o ≡ None
 none_from_tree None h = refl
 none_from_tree (Some v) h = cc
+
+-- null in the place of no value
+pub view_or_null : (o : Option JsonValue) → view (unwrap_or o made.Null) ≡ unwrap_or (option_map view o) null
+view_or_null (Some v) = refl
+view_or_null None = view_Null
 
 -- ---- the entries of a map
 

@@ -7,3 +7,5 @@ pub mod Copy
 pub mod View
 pub mod Trees
 pub mod Index
+pub mod Loops
+pub mod Depths

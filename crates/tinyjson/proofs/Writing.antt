@@ -2,6 +2,7 @@
 pub mod Containers
 pub mod Scalars
 pub mod Runs
+pub mod Listed
 pub mod Sorted
 pub mod Text
 pub mod Words

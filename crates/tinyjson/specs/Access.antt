@@ -1,12 +1,14 @@
 -- Which part of a value each type sees.
-use Rattle.std.specs.Prelude.{Bool, Option, Some, None, String, Vec}
+use Rattle.std.specs.Prelude.{Bool, true, false, Option, Some, None, String, Vec}
 use Rattle.std.specs.HashMap.{HashMap}
 use Rattle.std.specs.declared.alloc.Global.{Global}
 use Rattle.std.specs.declared.hash.BuildHasherDefault.{BuildHasherDefault}
 use Rattle.std.specs.declared.hash.FoldHasher.{FoldHasher}
 use Rattle.tinyjson_number.specs.declared.number.JsonNumber.{JsonNumber}
+use Rattle.tinyjson_grammar.specs.Tree.{Tree, null, boolean, number, array, object}
 use Rattle.tinyjson.specs.declared.value.JsonValue.{JsonValue, JsonValue-F, out-JsonValue}
 use Rattle.tinyjson.specs.declared.value.JsonValue.TheOpen.{Number, Boolean, String as Text, Null, Array, Object}
+pub use Rattle.tinyjson_grammar.specs.Tree.{is_string}
 pub mod Laws
 
 abbrev pub JsonMap : Type 0
@@ -55,3 +57,24 @@ array_part v = array_in (out-JsonValue v)
 
 abbrev pub object_part : JsonValue → Option JsonMap
 object_part v = object_in (out-JsonValue v)
+
+-- which variant a tree is
+abbrev pub is_null : Tree → Bool
+is_null null = true
+is_null _ = false
+
+abbrev pub is_boolean : Tree → Bool
+is_boolean (boolean b) = true
+is_boolean _ = false
+
+abbrev pub is_number : Tree → Bool
+is_number (number d) = true
+is_number _ = false
+
+abbrev pub is_array : Tree → Bool
+is_array (array ts) = true
+is_array _ = false
+
+abbrev pub is_object : Tree → Bool
+is_object (object ms) = true
+is_object _ = false

@@ -25,6 +25,10 @@ nth no_items i = None
 nth (item t ts) zero = Some t
 nth (item t ts) (suc i) = nth ts i
 
+abbrev pub item_count : Items → ℕ
+item_count no_items = 0
+item_count (item t ts) = suc (item_count ts)
+
 -- the tree at the index, in a tree
 abbrev pub tree_at : Tree → ℕ → Option Tree
 tree_at (array ts) i = nth ts i

@@ -1,8 +1,10 @@
 -- The tree that a `JsonValue` is seen as.
 use Rattle.std.specs.Prelude.{List, [], ◌∷◌, map, String}
 pub use Rattle.tinyjson_grammar.specs.Characters.{text}
+use Rattle.std.specs.Borrow.{Bor}
 use Rattle.std.specs.declared.alloc.Global.{Global}
-use Rattle.tinyjson_grammar.specs.Tree.{Tree, null, boolean, number, string, array, object, Items, items_of, Members, no_members, put}
+use Rattle.tinyjson_grammar.specs.Tree.{Tree, null, boolean, number, string, array, object}
+use Rattle.tinyjson_grammar.specs.Tree.{Items, items_of, Members, no_members, member, put}
 use Rattle.tinyjson.specs.declared.value.JsonValue.{JsonValue, fold-JsonValue}
 use Rattle.tinyjson.specs.declared.value.JsonValue.TheOpen.{JsonValue-F}
 
@@ -31,3 +33,8 @@ seen_entries es = map (λ e. (e.0, view e.1)) es
 
 abbrev pub members_view : List (String Global × JsonValue) → Members
 members_view es = members_of (seen_entries es)
+
+-- the members that a list of references has, in its order
+abbrev pub members_listed : List (Bor (String Global) × Bor JsonValue) → Members
+members_listed [] = no_members
+members_listed (e ∷ es) = member (text e.0.now) (view e.1.now) (members_listed es)

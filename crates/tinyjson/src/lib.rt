@@ -24,5 +24,6 @@ pub use generator::{JsonGenerateError, JsonGenerateResult, JsonGenerator, format
 pub use number::{JsonNumber, JsonNumberError};
 pub use parser::{JsonParseError, JsonParseErrorKind, JsonParseResult, JsonParser};
 pub use value::{
-    InnerAsRef, InnerAsRefMut, JsonKind, JsonValue, UnexpectedValue, insert_member, remove_member,
+    InnerAsRef, InnerAsRefMut, JsonKind, JsonValue, UnexpectedValue, discard_member, insert_member,
+    remove_member, sorted_members,
 };

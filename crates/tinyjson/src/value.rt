@@ -20,7 +20,7 @@ mod replace;
 pub use access::{InnerAsRef, InnerAsRefMut};
 pub use convert::UnexpectedValue;
 pub(crate) use members::add_member;
-pub use members::{insert_member, remove_member};
+pub use members::{discard_member, insert_member, remove_member, sorted_members};
 pub use tinyjson_grammar::JsonKind;
 
 /// A JSON value (RFC 8259, section 3), in plain containers.

@@ -66,7 +66,7 @@ members_view_updates old new k v h =
 pub members_view_same : (old new : List Entry) → ((q : String Global) → lookup (string_eq q) new ≡ lookup (string_eq q) old) → members_view new ≡ members_view old
 members_view_same old new h = members_from_lookups (seen_entries new) (seen_entries old) (λ q. view_lookup q new ∙ (ap (λ r. option_map view r) (h q) ∙ sym (view_lookup q old)))
 
-differs_later : (d : String Global) (es : List Entry) (e : Entry) (more : List Entry) → AllByRecursion (λ y. string_eq d y ≡ false) (keys_of (es ++ e ∷ more)) → string_eq d e.0 ≡ false
+pub differs_later : (d : String Global) (es : List Entry) (e : Entry) (more : List Entry) → AllByRecursion (λ y. string_eq d y ≡ false) (keys_of (es ++ e ∷ more)) → string_eq d e.0 ≡ false
 differs_later d [] e more h = h.0
 differs_later d (x ∷ es) e more h = differs_later d es e more h.1
 

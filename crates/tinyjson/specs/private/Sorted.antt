@@ -7,12 +7,15 @@ use Rattle.tinyjson_grammar.specs.Tree.{Members, no_members, member}
 use Rattle.tinyjson.specs.View.{view}
 use Rattle.tinyjson.specs.declared.value.JsonValue.{JsonValue}
 
--- a member by its key's bytes: of a map's entry, and of a pair of references
+-- a member by its key's bytes: of a map's entry, and of pairs of references
 abbrev pub bytes_pair : String Global × JsonValue → List ℕ × JsonValue
 bytes_pair e = (string_bytes e.0, e.1)
 
 abbrev pub now_pair : Bor (List ℕ) × Bor JsonValue → List ℕ × JsonValue
 now_pair p = (p.0.now, p.1.now)
+
+abbrev pub listed_pair : Bor (String Global) × Bor JsonValue → List ℕ × JsonValue
+listed_pair p = (string_bytes p.0.now, p.1.now)
 
 -- the members that the list has, as it stands
 abbrev pub sorted_view : List (Bor (List ℕ) × Bor JsonValue) → Members

@@ -1,13 +1,15 @@
 //! The members of an object.
-ghost use Rattle.std.specs.HashMap.{get_by_text};
-ghost use Rattle.std.specs.Prelude.{◌≡◌, OnOk, OnErr, option_map};
+ghost use Rattle.std.specs.HashMap.{get_by_text, IsUnique};
+ghost use Rattle.std.specs.Prelude.{◌≡◌, ◌++◌, OnOk, OnErr, IfOk, map, option_map};
 ghost use Rattle.std.specs.Str.{chars};
+ghost use Rattle.std.specs.String.{string_eq};
 ghost use Rattle.tinyjson_grammar.specs.Tree.{put, find, remove};
-ghost use Rattle.tinyjson.specs.View.{view, text, members_view};
+ghost use Rattle.tinyjson.specs.View.{view, text, members_view, members_listed};
 ghost use Rattle.tinyjson.specs.private.Members.{add};
+ghost use Rattle.tinyjson.specs.private.Sorted.{bytes_pair, listed_pair};
 
 use super::JsonValue;
-use std::alloc::AllocError;
+use std::alloc::{AllocError, Global};
 use std::collections::HashMap;
 use std::collections::hash_map::Entry;
 
@@ -87,4 +89,66 @@ pub fn remove_member(members: &mut HashMap<String, JsonValue>, key: &str) -> Opt
         ≡ remove (chars key.now) (members_view members.old.entries) }
 {
     members.remove(key)
+}
+
+/// Takes the member at the key out of an object's members, if there is one, and frees it by a loop,
+/// as [`JsonValue::dismantle`] does.
+///
+/// Where the old member is not wanted, this keeps the proof of a caller in one piece: what
+/// [`remove_member`] returns, and its caller drops, is seen in each variant that it may be.
+///
+/// ```
+/// let mut members = HashMap::new(alloc);
+/// insert_member(&mut members, "foo".to_string(alloc)?, JsonValue::Null)?;
+/// discard_member(&mut members, "foo");
+/// discard_member(&mut members, "bar");
+/// assert!(rt; members.is_empty());
+/// ```
+pub fn discard_member(members: &mut HashMap<String, JsonValue>, key: &str)
+    ensures { members_view members.new.entries
+        ≡ remove (chars key.now) (members_view members.old.entries) }
+{
+    if let Some(old) = remove_member(members, key) {
+        old.dismantle();
+    }
+}
+
+/// The members of an object in the order of their keys' bytes, which is the order that they are
+/// written in. The only error is out of memory.
+///
+/// ```
+/// let mut members = HashMap::new(alloc);
+/// insert_member(&mut members, "foo".to_string(alloc)?, JsonValue::Null)?;
+/// insert_member(&mut members, "bar".to_string(alloc)?, JsonValue::from(true))?;
+/// let sorted = sorted_members(alloc, &members)?;
+/// assert_eq!(rt; sorted[0].0.as_str(), "bar");
+/// assert_eq!(rt; sorted[1].0.as_str(), "foo");
+/// ```
+pub fn sorted_members<'a>(
+    alloc: Global,
+    members: &'a HashMap<String, JsonValue>,
+) -> Result<Vec<(&'a String, &'a JsonValue)>, AllocError>
+    ensures { IfOk result
+        (λ sorted. members_listed sorted.items ≡ members_view members.now.entries) }
+{
+    let mut sorted = Vec::new(alloc);
+    list_members(&mut sorted, members)?;
+    sorted.sort_unstable_by(|a, b| a.0.as_str().cmp(b.0.as_str()));
+    Ok(sorted)
+}
+
+/// Puts the members after those of the list, in the map's own order.
+fn list_members<'a>(
+    listed: &mut Vec<(&'a String, &'a JsonValue)>,
+    members: &'a HashMap<String, JsonValue>,
+) -> Result<(), AllocError>
+    ensures items { OnOk result (map listed_pair listed.new.items
+        ≡ map listed_pair listed.old.items ++ map bytes_pair members.now.entries) }
+    ensures unique { OnOk result (IsUnique string_eq members.now) }
+{
+    listed.reserve(members.len())?;
+    for (key, value) in members {
+        listed.push((key, value))?;
+    }
+    Ok(())
 }
