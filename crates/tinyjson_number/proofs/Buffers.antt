@@ -1,12 +1,9 @@
 -- Texts that are put by vectors.
 use Rattle.std.proofs.Common.{◌≡◌, ℕ, ℤ, suc, ◌+◌, ◌-◌, ◌<◌, ◌≤◌, ◌==◌, Bool, false, Option, None, Some, IfSome, List, [], ◌∷◌, ◌++◌, length, take, drop, replicate, pos, sym, refl, ◌∙◌, ap, subst, append_assoc, arith}
 use Rattle.std.specs.Prelude.{◌+ℤ◌}
-use Rattle.std.specs.Simd.Lanes.{chunk, put_chunk}
 use Rattle.std.proofs.Math.ListN.{set}
 use Rattle.std.proofs.lemmas.Bool.Decides.{nat_tests}
-use Rattle.std.proofs.Math.Seq.{take-append-add}
-use Rattle.std.proofs.lemmas.List.{drop-take, take-take, take-replicate, length-take-le}
-use Rattle.std.proofs.lemmas.Simd.{take_more_put_chunk, length-chunk}
+use Rattle.std.proofs.lemmas.List.{drop-take, take-take, take-replicate}
 use Rattle.tinyjson_number.specs.Decimal.{Decimal}
 use Rattle.tinyjson_number.specs.Numeral.{minus_text}
 use Rattle.tinyjson_number.specs.Text.{decimal_text, magnitude_text}

@@ -2,7 +2,6 @@
 use Rattle.std.proofs.Common.{◌≡◌, ◌≢◌, ℕ, ◌-◌, ◌<◌, ◌≤◌, ◌^◌, min, get_or, Bool, true, false, List, [], ◌∷◌, ◌++◌, length, ℤ, pos, negsuc, neg_ℤ, IsTrue, ◌&&◌, ◌==◌, cond, refl, sym, ap, ◌∙◌, subst, ⊎_elim, arith, Option, Some, None, inl, inr, ◌⊎◌, Result, Ok, Err}
 use mir.Val.{to_z, of_z}
 use Rattle.std.specs.Prelude.{FitsSigned, int_le, int_lt, ◌+ℤ◌, ◌-ℤ◌}
-use Rattle.std.specs.Option.{option_map}
 use Rattle.std.specs.Result.{IsErrAnd}
 use Rattle.std.specs.Int.{w64}
 use Rattle.std.specs.Str.Parse.{digits_value}
@@ -14,7 +13,7 @@ use Rattle.tinyjson_number.specs.Canonical.{is_canonical}
 use Rattle.tinyjson_number.specs.NumberText.{Spells}
 use Rattle.tinyjson_number.specs.Number.{Canonical}
 use Rattle.tinyjson_number.specs.private.Power.{exponent_cap, capped, shifted}
-use Rattle.tinyjson_number.specs.Reading.{Reads, ReadsNumeral, plain}
+use Rattle.tinyjson_number.specs.Reading.{Reads, ReadsNumeral}
 use Rattle.tinyjson_number.specs.Error.{of_literal}
 use Rattle.tinyjson_number.specs.declared.error.JsonNumberError.{JsonNumberError}
 use Rattle.tinyjson_number.specs.declared.error.JsonNumberError.TheVariants as number

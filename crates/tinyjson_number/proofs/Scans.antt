@@ -1,7 +1,7 @@
 -- A text begins with at most one number, and its parts are found from left to right.
-use Rattle.std.proofs.Common.{◌≡◌, ℕ, ◌+◌, ◌-◌, ◌<◌, cond, ⊎_elim, add-one, ◌≤◌, Bool, true, false, ◌==◌, eqb, ltb, ◌&&◌, ◌||◌, List, []}
+use Rattle.std.proofs.Common.{◌≡◌, ℕ, ◌+◌, ◌-◌, ◌<◌, cond, ⊎_elim, add-one, ◌≤◌, Bool, true, false, ◌==◌, ◌&&◌, ◌||◌, List, []}
 use Rattle.std.proofs.Common.{◌∷◌, ◌++◌, length, take, drop, get_or, IsTrue, Option, Some, None, IfSome, sym, refl, ap, ◌∙◌, subst, arith}
-use Rattle.std.proofs.Common.{suc, drop-cons, append_assoc, append-nil, length-append, take-append-drop}
+use Rattle.std.proofs.Common.{suc, drop-cons, append_assoc, append-nil, take-append-drop}
 use Rattle.std.specs.Prelude.{if◌then◌else◌}
 use Rattle.std.specs.List.{prefix_len}
 use Rattle.std.specs.Char.{is_ascii_digit}
@@ -226,13 +226,6 @@ module _ (text : List ℕ) (n : Numeral) where
     ends = subst (EndsNumber n) (sym nothing_left) (ends_at_end n);
   }
 
-  pub spells_from : (end : ℕ) → NumeralAt text 0 n end → length text ≤ end → Spells n text
-  spells_from end x h =
-      let last : end ≡ length text = omega (arith, x.within, h) in
-      let all : spelling n ++ drop end text ≡ spelling n = ap (λ k. spelling n ++ drop k text) last ∙ ap (λ t. spelling n ++ t) nothing_left
-      ∙ append-nil (spelling n) in
-      record { well_formed = x.grammatical.well_formed; no_leading_zero = x.grammatical.no_leading_zero; spelled = sym all ∙ sym x.spelled }
-
 -- where the number of a text ends earlier, the text spells none
 pub spells_none : (text : List ℕ) (m n : Numeral) (end : ℕ) → NumeralAt text 0 m end → end < length text → ¬ Spells n text
 spells_none text m n end x early s =
@@ -343,12 +336,6 @@ module _ (text : List ℕ) (at : ℕ) (b : Bool) (from : ℕ) (minus : drop at t
       (λ _. digits_no_minus es (fraction_text g ++ y) n.integer_digits n.some_digit) (sym minus ∙ n.spelled) in
       same_digits ds es (drop point text) (fraction_text g ++ y) are n.integer_digits stops (fraction_stops g y n.digit) (sym split ∙ m.1)
 
-  pub no_integer : length ds ≡ 0 → NoMantissaAt text at
-  no_integer empty c es g y n = absurd (omega (arith, ap length (front c es g y n).0, n.some_digit, empty))
-
-  pub zero_leads : has_leading_zero ds ≡ true → NoMantissaAt text at
-  zero_leads leads c es g y n = let same = ap has_leading_zero (front c es g y n).0 in let no = n.no_leading_zero in absurd (cc)
-
   pub fraction_lacks : NoFractionAt text point → NoMantissaAt text at
   fraction_lacks lacks c es g y n = lacks g y (record {
     are = n.fraction_digits;
@@ -357,18 +344,6 @@ module _ (text : List ℕ) (at : ℕ) (b : Bool) (from : ℕ) (minus : drop at t
     point = n.point;
   })
 
-  pub mantissa_between : 0 < length ds → has_leading_zero ds ≡ false → (f : List ℕ) (end : ℕ) → FractionAt text point f end
-      → IsMantissa b ds f (drop at text) (drop end text)
-  mantissa_between some leads f end x = record {
-    integer_digits = are;
-    some_digit = some;
-    no_leading_zero = leads;
-    fraction_digits = x.0.are;
-    spelled = minus ∙ ap (λ t. minus_text b ++ t) (split ∙ ap (λ t. ds ++ t) x.0.spelled);
-    digit = x.0.digit;
-    point = x.0.point;
-  }
-
 module _ (text : List ℕ) (at : ℕ) (negative : Bool) (from : ℕ) (x : SignAt text at negative from) (ds : List ℕ) (end : ℕ)
     (are : AreDigits ds) (split : drop from text ≡ ds ++ drop end text) (stops : starts is_ascii_digit (drop end text) ≡ false) where
   pub no_power : length ds ≡ 0 → NoExponentAt text at
@@ -376,15 +351,6 @@ module _ (text : List ℕ) (at : ℕ) (negative : Bool) (from : ℕ) (x : SignAt
       let same = power_digits x.sign sign ds es (drop end text) rest x.known (λ o. ap (starts is_sign) (sym split) ∙ x.none o) are stops
       (drop at text) (x.spelled ∙ ap (λ t. sign_text x.sign ++ t) split) p in
       absurd (omega (arith, ap length same.1, p.some_digit, empty))
-
-  pub power_between : 0 < length ds → IsPower x.sign ds (drop at text) (drop end text)
-  power_between some = record {
-    known = x.known;
-    are = are;
-    some_digit = some;
-    spelled = x.spelled ∙ ap (λ t. sign_text x.sign ++ t) split;
-    digit = stops;
-  }
 
 module _ (text : List ℕ) (at : ℕ) (m : Mantissa) (end : ℕ) (x : MantissaAt text at m end) where
   abbrev number : Option Exponent → Numeral
@@ -463,7 +429,3 @@ module _ (text : List ℕ) (at : ℕ) (m : Mantissa) (end : ℕ) (x : MantissaAt
         let l = lettered n.exponent (get_or text end 0) (drop (end + 1) text)
         (drop last text) y.grammatical.well_formed.exponent y.ends.digit y.ends.letter s.1 (sym s.2 ∙ after_mantissa) in
         lacks l.0.sign l.0.digits (drop last text) l.3
-
-pub mantissa_lacks : (text : List ℕ) (at : ℕ) → NoMantissaAt text at → (n : Numeral) (end : ℕ) → ¬ NumeralAt text at n end
-mantissa_lacks text at lacks n end y = lacks n.negative n.integer n.fraction (exponent_text n.exponent ++ drop end text)
-    (mantissa_of n (drop at text) (drop end text) y.grammatical y.spelled y.ends)

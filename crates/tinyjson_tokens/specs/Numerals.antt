@@ -1,5 +1,5 @@
 -- Numbers, as a text in memory shows them at once. For contracts inside the parser.
-use Rattle.std.specs.Prelude.{◌≡◌, ℕ, List, [], ◌∷◌, Option, IfSome, IsTrue}
+use Rattle.std.specs.Prelude.{◌≡◌, ℕ, [], ◌∷◌, Option, IfSome, IsTrue}
 use Rattle.tinyjson_number.specs.Numeral.{Numeral, spelling, value, in_range}
 use Rattle.tinyjson_number.specs.Number.{Canonical}
 use Rattle.tinyjson_number.specs.Reading.{plain, numeral_of}

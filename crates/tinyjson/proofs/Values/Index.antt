@@ -14,7 +14,7 @@ use Rattle.tinyjson.proofs.Values.View.{find_members_view, members_view_writes, 
 use Rattle.tinyjson.specs.Access.{JsonMap, array_part, object_part}
 use Rattle.tinyjson.specs.Access.Laws.{put_of_array, put_of_object}
 use Rattle.tinyjson.specs.Index.{item_at, member_at, nth, tree_at, tree_at_key, with_nth, with_tree_at, with_tree_at_key, IsItemAt, IsMemberAt}
-use Rattle.tinyjson_grammar.specs.Tree.{Tree, array, object, item}
+use Rattle.tinyjson_grammar.specs.Tree.{array, object, item}
 use Rattle.tinyjson.specs.View.{view, items_view}
 use Rattle.tinyjson.specs.declared.value.JsonValue as made
 use Rattle.tinyjson.specs.declared.value.JsonValue.{JsonValue}

@@ -2,7 +2,7 @@
 use Rattle.std.specs.Prelude.{◌≡◌, ℕ, ◌<◌, ◌≤◌, ◌==◌, Bool, false, IsTrue, List, [], ◌∷◌, ◌++◌, drop, length, if◌then◌else◌}
 use Rattle.std.specs.Prelude.{Option, Some, None, IfSome}
 use Rattle.std.specs.Char.{is_ascii_digit}
-use Rattle.tinyjson_number.specs.Characters.{decimal_point, minus_sign}
+use Rattle.tinyjson_number.specs.Characters.{minus_sign}
 use Rattle.tinyjson_number.specs.Numeral.{AreDigits, has_leading_zero, is_sign, minus_text, sign_text, fraction_text}
 use Rattle.tinyjson_number.specs.Reading.{plain_sign}
 use Rattle.tinyjson_number.specs.Scan.{is_point, starts}

@@ -1,34 +1,32 @@
 -- Numbers that a text in memory shows at once.
-use Rattle.std.proofs.Common.{◌≡◌, ◌==◌, ℕ, ◌+◌, ◌-◌, ◌<◌, ◌≤◌, Bool, true, false, List, [], ◌∷◌, ◌++◌, length, take, drop, get_or, Option, Some, None, IfSome, refl, sym, ap, ◌∙◌, subst, suc, arith, drop-cons, add-one, append_assoc, length-append, ⊎_elim}
+use Rattle.std.proofs.Common.{◌≡◌, ◌==◌, ℕ, ◌+◌, ◌-◌, ◌<◌, ◌≤◌, Bool, true, false, List, [], ◌∷◌, ◌++◌, length, take, drop, get_or, Option, Some, None, IfSome, refl, sym, ap, ◌∙◌, subst, suc, arith, append_assoc, length-append, ⊎_elim}
 use Rattle.std.specs.Prelude.{slice_get, encode_utf8, if◌then◌else◌}
 use Rattle.std.specs.Char.{is_ascii_digit, len_utf8}
-use Rattle.std.specs.List.{AllByRecursion, prefix_len}
+use Rattle.std.specs.List.{AllByRecursion}
 use Rattle.std.specs.Str.{IsUtf8, IsCharBoundary, chars}
 use Rattle.std.proofs.lemmas.Bool.{cases_lt}
 use Rattle.std.proofs.lemmas.Bool.Decides.{nat_tests}
-use Rattle.std.proofs.lemmas.List.{take-append-drop, drop-drop, take_at, length-drop, get_or-drop, get_or_append_left}
-use Rattle.std.proofs.lemmas.Option.{slice_get-get_or, slice_get_past}
+use Rattle.std.proofs.lemmas.List.{take_at, length-drop, get_or-drop, get_or_append_left}
 use Rattle.std.proofs.lemmas.Str.{IsUtf8-had, byte_from_char, chars-IsAscii, IsCharBoundary-after_ascii, length-encode, len_utf8_bounds}
-use Rattle.tinyjson_number.proofs.Callers.{fraction_some, spelling_ascii, spelling_room}
+use Rattle.tinyjson_number.proofs.Callers.{spelling_ascii, spelling_room}
 use Rattle.tinyjson_number.specs.Number.{Canonical}
 use Rattle.tinyjson_number.specs.Numeral.{numeral, Numeral, Exponent, AreDigits, IsExponent, value, in_range, has_leading_zero, is_exponent_letter, is_sign, minus_text, sign_text, fraction_text, exponent_text, spelling}
-use Rattle.tinyjson_number.specs.declared.parse.ExponentParts.{ExponentParts}
 use Rattle.tinyjson_number.specs.declared.parse.NumberParts.{NumberParts}
 use Rattle.tinyjson_grammar.specs.Position.{advance, origin}
 use Rattle.tinyjson_grammar.specs.Machine.{Frame, Next, next, stop, awaited, digits, integer, fraction, exponent, complete}
 use Rattle.tinyjson_tokens.specs.NumberSteps.{all_digits, Part}
 use Rattle.tinyjson_number.specs.Scan.{EndsNumber, IsGrammatical, NumeralAt, PartsAt}
 use Rattle.tinyjson_tokens.specs.Numerals.{EndsBefore, TakesNumeral}
-use Rattle.tinyjson_tokens.specs.Slice.{before, chars_after, run_end, NextChar}
+use Rattle.tinyjson_tokens.specs.Slice.{before, chars_after, NextChar}
 use Rattle.tinyjson_tokens.specs.Source.{Sight}
 use Rattle.tinyjson_tokens.specs.Steps.{Comes, IsNext, IsTaken, Leads, onward}
-use Rattle.tinyjson_tokens.proofs.Reading.Number.{is_one, are_digits, begun, begun_next, begun_digit, begun_integer, pointed, pointed_next, pointed_digit, powered, powered_next, powered_digit, powered_integer, minus_begins, point_read, letter_read, sign_read, no_point, no_letter, digits_come, Leads_rest}
+use Rattle.tinyjson_tokens.proofs.Reading.Number.{begun, begun_next, begun_digit, begun_integer, pointed, pointed_next, pointed_digit, powered, powered_next, powered_digit, powered_integer, minus_begins, point_read, letter_read, sign_read, no_point, no_letter, digits_come, Leads_rest}
 use Rattle.tinyjson_tokens.proofs.Reading.NumberParts.{Leads_number}
 use Rattle.tinyjson_grammar.specs.Tree.{number}
 use Rattle.tinyjson_tokens.specs.declared.text.TextBytes.{TextBytes}
 use Rattle.tinyjson_tokens.proofs.Letters.{text_sight}
-use Rattle.tinyjson_tokens.proofs.Slices.{between, next_of, run_passes, run_stops, step_gives, step_moves}
-use Rattle.tinyjson_grammar.proofs.Callers.{letter_no_digit, letter_no_point, some_none}
+use Rattle.tinyjson_tokens.proofs.Slices.{between, next_of, step_gives, step_moves}
+use Rattle.tinyjson_grammar.proofs.Callers.{letter_no_digit, letter_no_point}
 use Rattle.tinyjson_tokens.proofs.Reading.Steps.{Comes_trans, Same_refl}
 
 -- ---- a number between two places

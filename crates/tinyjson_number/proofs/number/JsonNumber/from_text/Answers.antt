@@ -1,7 +1,7 @@
 use Rattle.std.proofs.Common.{◌+◌, ◌∙◌, Err, length, sym, ap, subst, arith}
 use Rattle.tinyjson_number.specs.Numeral.{Numeral}
 use Rattle.tinyjson_number.specs.NumberText.{Spells}
-use Rattle.tinyjson_number.specs.Reading.{ReadsNumeral, numeral_of}
+use Rattle.tinyjson_number.specs.Reading.{ReadsNumeral}
 use Rattle.tinyjson_number.proofs.Readings.{reads_number, refused_so, refused_short}
 use Rattle.tinyjson_number.proofs.Parts.{spelled_room, parts_numeral, parts_read}
 use Rattle.tinyjson_number.proofs.number.JsonNumber.from_text.Goals as goal
