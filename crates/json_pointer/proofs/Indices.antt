@@ -42,7 +42,7 @@ index_chars bs u = by (is_index bs) (is_index (chars bs)) refl refl
     by false true e f =
         let plain : IsAscii (chars bs) = ascii (chars bs) (digits_in (chars bs) f) in
         let same : encode_utf8_all (chars bs) ≡ chars bs = ap encode_utf8_all (sym (chars-IsAscii (chars bs) plain))
-            ∙ encodes-chars (chars bs) (IsUtf8-from_ascii (chars bs) plain) in
+        ∙ encodes-chars (chars bs) (IsUtf8-from_ascii (chars bs) plain) in
         ap index_of (sym same ∙ encodes-chars bs u)
     by false false e f = ap (λ b. cond b (Some (digits_value 10 (chars bs))) None) f
         ∙ sym (ap (λ b. cond b (Some (digits_value 10 bs)) None) e)
@@ -73,7 +73,7 @@ pub index_says : {E : Type 0} (bs : List ℕ) (r : Result ℕ E) (o : Option ℕ
     → MatchOption o ((i : ℕ) → index_of (chars bs) ≡ Some i → 2 ^ 64 ≤ i) (λ i. index_of (chars bs) ≡ Some i)
 index_says bs r o u e h is =
     subst (λ p. MatchOption p ((i : ℕ) → index_of (chars bs) ≡ Some i → 2 ^ 64 ≤ i) (λ i. index_of (chars bs) ≡ Some i)) (sym is)
-        (from_result bs r u e (parse_digits own 64 bs r h (digits_in bs e)))
+    (from_result bs r u e (parse_digits own 64 bs r h (digits_in bs e)))
 
 -- ---- the token of an index
 
@@ -86,7 +86,7 @@ index_token [] n h k f z = absurd (omega arith)
 index_token (c ∷ ds) zero h k f z = ap is_index (z refl)
 index_token (c ∷ ds) (suc n) h k f z =
     ap (λ a. a && (is_nil ds || not (c == 48))) h ∙ (ap (λ e. is_nil ds || not e) (isnt_zero c (f (omega arith)))
-        ∙ or_right (is_nil ds) true refl)
+    ∙ or_right (is_nil ds) true refl)
 
 decimal_zero : (n : ℕ) → n ≡ 0 → decimal n ≡ 48 ∷ []
 decimal_zero n e = ap decimal e ∙ decimal_digit 0 (lit< tt)
@@ -94,12 +94,16 @@ decimal_zero n e = ap decimal e ∙ decimal_digit 0 (lit< tt)
 pub decimal_index : (n : ℕ) → n < 2 ^ 64 → index_of (decimal n) ≡ Some n
 decimal_index n h =
     ap (λ b. cond b (Some (digits_value 10 (decimal n))) None)
-        (index_token (decimal n) n (digits_decimal own n h) (decimal_nonempty n h) (λ k. first_decimal n k h) (decimal_zero n))
+    (index_token (decimal n) n (digits_decimal own n h) (decimal_nonempty n h) (λ k. first_decimal n k h) (decimal_zero n))
     ∙ ap Some (digits_value-decimal own n h)
 
 -- the text that is the decimal of an index
 pub prepended : {T E : Type 0} (r : Result T E) (s : String Global) (n : ℕ) (old new : List (List ℕ)) → n < 2 ^ 64
     → string_bytes s ≡ decimal n → OnOk r (new ≡ text s ∷ old) → OnOk r (HasIndexBefore n old new)
-prepended (Ok x) s n old new h b e = record { token = text s; named =
-    ap index_of (ap chars b ∙ chars-IsAscii (decimal n) (IsAscii-decimal n h)) ∙ decimal_index n h; joined = e }
+prepended (Ok x) s n old new h b e = record {
+  token = text s;
+  named =
+      ap index_of (ap chars b ∙ chars-IsAscii (decimal n) (IsAscii-decimal n h)) ∙ decimal_index n h;
+  joined = e;
+}
 prepended (Err x) s n old new h b e = tt

@@ -58,7 +58,7 @@ pub member_replaced : (v : JsonValue) (m n : JsonMap) (key : String Global) (bs 
 member_replaced v m n key bs w b h there upd =
     view_Object n
     ∙ (ap object (members_view_write m n (string_bytes key) w (IsUtf8-string_bytes key) (subst (λ x. IsSome (get_by_text m x)) b there)
-        (subst (λ x. UpdatesBy string_eq (λ k. bytes_eq x (string_bytes k)) m n (Some w)) b upd))
+    (subst (λ x. UpdatesBy string_eq (λ k. bytes_eq x (string_bytes k)) m n (Some w)) b upd))
     ∙ ap (λ t. with_step t (text key) (view w)) (sym (object_tree v m (sym h))))
 
 pub item_step : (v : JsonValue) (l : Vec JsonValue Global) (k : List ℕ) (i : ℕ) (o : Option JsonValue) → Some l ≡ array_part v
@@ -66,7 +66,7 @@ pub item_step : (v : JsonValue) (l : Vec JsonValue Global) (k : List ℕ) (i : �
     → step (view v) k ≡ option_map view o
 item_step v l k i o h at g =
     ap (λ t. step t k) (array_tree v l (sym h)) ∙ (ap (item_of (items_view l.items)) at
-        ∙ (nth_items_view l.items i ∙ ap (option_map view) g))
+    ∙ (nth_items_view l.items i ∙ ap (option_map view) g))
 
 pub item_past : (v : JsonValue) (l : Vec JsonValue Global) (k : List ℕ) → Some l ≡ array_part v
     → ((i : ℕ) → index_of k ≡ Some i → length l.items ≤ i) → step (view v) k ≡ None

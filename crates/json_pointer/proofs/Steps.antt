@@ -29,7 +29,7 @@ pub step_item : (v : JsonValue) (l : Vec JsonValue Global) (k : List ℕ) (i : �
     → option_map (λ x. view x.now) r ≡ step (view v) k
 step_item v l k i r e at g =
     view_ref r ∙ (ap (option_map view) g ∙ (sym (nth_items_view l.items i)
-        ∙ (ap (item_of (items_view l.items)) (sym at) ∙ ap (λ t. step t k) (sym (ap view e ∙ view_Array l)))))
+    ∙ (ap (item_of (items_view l.items)) (sym at) ∙ ap (λ t. step t k) (sym (ap view e ∙ view_Array l)))))
 
 pub no_item : (l : Vec JsonValue Global) (o : Option ℕ) → ((i : ℕ) → o ≡ Some i → length l.items ≤ i)
     → None ≡ item_of (items_view l.items) o

@@ -45,15 +45,20 @@ pub escaped_stands : (cs : List ℕ) (ts : List (List ℕ)) (t xs ys : List ℕ)
     → 47 ∷ cs ≡ pointer_text ts ++ (47 ∷ (escape t ++ (ys ++ xs))) → escape_char c ≡ ys → Stands cs ts (t ++ c ∷ []) false xs
 escaped_stands cs ts t xs ys c h e =
     h ∙ ap (λ y. pointer_text ts ++ (47 ∷ y)) (sym (append_assoc (escape t) ys xs)
-        ∙ ap (λ y. y ++ xs) (ap (λ y. escape t ++ y) (sym e) ∙ sym (escape_push t c)))
+    ∙ ap (λ y. y ++ xs) (ap (λ y. escape t ++ y) (sym e) ∙ sym (escape_push t c)))
 
 pub other_stands : (cs : List ℕ) (ts : List (List ℕ)) (t xs : List ℕ) (c : ℕ) → c ≢ 126 → c ≢ 47 → Stands cs ts t false (c ∷ xs)
     → Stands cs ts (t ++ c ∷ []) false xs
 other_stands cs ts t xs c n m h = escaped_stands cs ts t xs (c ∷ []) c h (escape_char_other c n m)
 
 pub stands_bad : (cs : List ℕ) (ts : List (List ℕ)) (t xs : List ℕ) → Stands cs ts t true xs → ¬ BeginsEscape xs → HasBadEscape (47 ∷ cs)
-stands_bad cs ts t xs h n = record { front = pointer_text ts ++ (47 ∷ escape t); rest = xs; split = h
-    ∙ sym (append_assoc (pointer_text ts) (47 ∷ escape t) (126 ∷ xs)); bad = n }
+stands_bad cs ts t xs h n = record {
+  front = pointer_text ts ++ (47 ∷ escape t);
+  rest = xs;
+  split = h
+      ∙ sym (append_assoc (pointer_text ts) (47 ∷ escape t) (126 ∷ xs));
+  bad = n;
+}
 
 pub stands_whole : (cs : List ℕ) (ts : List (List ℕ)) (t : List ℕ) → Stands cs ts t false [] → 47 ∷ cs ≡ pointer_text (ts ++ t ∷ [])
 stands_whole cs ts t h = h ∙ (ap (λ x. pointer_text ts ++ (47 ∷ x)) (append-nil (escape t)) ∙ sym (pointer_text_push ts t))

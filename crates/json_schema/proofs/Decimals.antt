@@ -124,14 +124,20 @@ by_digits (suc k) (a ∷ xs) (b ∷ ys) h g = by (nat_cmp a b) (ranks a b) (by_d
 
     by : (o : Ordering) → MatchOrdering o (a < b) (a ≡ b) (b < a) → is_le (slice_cmp nat_cmp xs ys) ≡ nat_le (padded k xs) (padded k ys)
         → is_le (ordering_then o (slice_cmp nat_cmp xs ys)) ≡ nat_le (padded (suc k) (a ∷ xs)) (padded (suc k) (b ∷ ys))
-    by Less lt later = sym (le-leb _ _ (omega (arith, front_below (digit_value a) (digit_value b) (10 ^ k) (padded k xs)
-        (omega (arith, (digit_is a h.are.0).0, (digit_is b g.are.0).0)) p)))
+    by Less lt later = sym (le-leb _ _ (omega (
+      arith,
+      front_below (digit_value a) (digit_value b) (10 ^ k) (padded k xs)
+          (omega (arith, (digit_is a h.are.0).0, (digit_is b g.are.0).0)) p,
+    )))
     by Equal e later =
         later
         ∙ (same_test (padded k xs) (padded k ys) (digit_value a * 10 ^ k)
-            ∙ ap (λ c. nat_le (digit_value a * 10 ^ k + padded k xs) (digit_value c * 10 ^ k + padded k ys)) e)
-    by Greater gt later = sym (lt-leb _ _ (omega (arith, front_below (digit_value b) (digit_value a) (10 ^ k) (padded k ys)
-        (omega (arith, (digit_is a h.are.0).0, (digit_is b g.are.0).0)) q)))
+        ∙ ap (λ c. nat_le (digit_value a * 10 ^ k + padded k xs) (digit_value c * 10 ^ k + padded k ys)) e)
+    by Greater gt later = sym (lt-leb _ _ (omega (
+      arith,
+      front_below (digit_value b) (digit_value a) (10 ^ k) (padded k ys)
+          (omega (arith, (digit_is a h.are.0).0, (digit_is b g.are.0).0)) q,
+    )))
 
 -- ---- other places: by the places
 
@@ -217,8 +223,13 @@ same_places d e = omega (arith, ints, gap d.power e.power)
 
 lower_units : (d e : Decimal) → IsDecimal d → IsDecimal e → ¬ (e ≡ zero_decimal) → places d e < places e d → units d e < units e d
 lower_units d e h g some lt =
-    omega (arith, units_is d e, units_is e d, lower_digits (places d e) (places e d) d.digits e.digits (has_digits d h).are
-        (has_digits e g) (some_digits e g some) lt)
+    omega (
+      arith,
+      units_is d e,
+      units_is e d,
+      lower_digits (places d e) (places e d) d.digits e.digits (has_digits d h).are
+          (has_digits e g) (some_digits e g some) lt,
+    )
 
 module _ (d e : Decimal) (h : IsDecimal d) (g : IsDecimal e) where
   pub zero_least : d ≡ zero_decimal → true ≡ is_magnitude_at_most d e
@@ -232,7 +243,7 @@ module _ (d e : Decimal) (h : IsDecimal d) (g : IsDecimal e) where
   by_place some other y z ey ez differ =
       ⊎_elim
       (λ lt. let less : lt_z y z ≡ true = grind (arith, ints, same_places d e) in less
-          ∙ sym (le-leb (units d e) (units e d) (omega (arith, lower_units d e h g other lt))))
+      ∙ sym (le-leb (units d e) (units e d) (omega (arith, lower_units d e h g other lt))))
       (λ le.
       let apart : ¬ (places d e ≡ places e d) = λ same. differ (omega (arith, ints, same_places d e)) in
       let lt : places e d < places d e = omega (arith, le, apart) in
@@ -247,7 +258,7 @@ module _ (d e : Decimal) (h : IsDecimal d) (g : IsDecimal e) where
       let a = has_digits d h in
       let b = has_digits e g in
       by_digits k d.digits e.digits (record { are = a.are; ends = a.ends; room = omega arith })
-          (record { are = b.are; ends = b.ends; room = omega arith })
+      (record { are = b.are; ends = b.ends; room = omega arith })
       ∙ (λ i. nat_le (sym (units_is d e) i) ((ap (λ j. padded j e.digits) (sym is) ∙ sym (units_is e d)) i))
 
 -- ---- signs
@@ -268,10 +279,10 @@ pub positive_negative : (d e : Decimal) → IsDecimal e → d.negative ≡ false
 positive_negative d e g p n =
     above_below (units d e) (units e d) (some_units e d g (below_some e n))
     ∙ (λ i. int_le (cond (sym p i) (neg_ℤ (pos (units d e))) (pos (units d e)))
-        (cond (sym n i) (neg_ℤ (pos (units e d))) (pos (units e d))))
+    (cond (sym n i) (neg_ℤ (pos (units e d))) (pos (units e d))))
 
 pub negative_positive : (d e : Decimal) → d.negative ≡ true → e.negative ≡ false → true ≡ is_at_most d e
 negative_positive d e n p =
     below_above (units d e) (units e d)
     ∙ (λ i. int_le (cond (sym n i) (neg_ℤ (pos (units d e))) (pos (units d e)))
-        (cond (sym p i) (neg_ℤ (pos (units e d))) (pos (units e d))))
+    (cond (sym p i) (neg_ℤ (pos (units e d))) (pos (units e d))))

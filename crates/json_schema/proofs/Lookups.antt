@@ -37,7 +37,7 @@ same_name bs name u a = by (bytes_eq bs name) (bytes_eq (chars bs) name) refl re
     by true y e f = sym ((bytes_eq-Decides (chars bs) name).1 (ap chars ((bytes_eq-Decides bs name).0 e) ∙ chars_literal name a)) ∙ f
     by false true e f =
         let same : bs ≡ name = sym (encodes-chars bs u)
-            ∙ (ap encode_utf8_all ((bytes_eq-Decides (chars bs) name).0 f) ∙ encodes-IsAscii name (IsAscii_literal name a)) in
+        ∙ (ap encode_utf8_all ((bytes_eq-Decides (chars bs) name).0 f) ∙ encodes-IsAscii name (IsAscii_literal name a)) in
         sym e ∙ (bytes_eq-Decides bs name).1 same
     by false false e f = refl
 
@@ -55,9 +55,9 @@ is_type_name : (v : JsonValue) (s : String Global) (t : Tree) → v ≡ is.Strin
 is_type_name v s t e =
     ap (λ x. is_type x t) (ap view e ∙ view_String s)
     ∙ (ap (λ b. b || (bytes_eq (text s) (codes "integer") && is_whole t))
-        (sym (same_name (string_bytes s) (kind_name (kind_of t)) (IsUtf8-string_bytes s) (kind_name_ascii (kind_of t))))
+    (sym (same_name (string_bytes s) (kind_name (kind_of t)) (IsUtf8-string_bytes s) (kind_name_ascii (kind_of t))))
     ∙ ap (λ b. bytes_eq (string_bytes s) (kind_name (kind_of t)) || (b && is_whole t))
-        (sym (same_name (string_bytes s) (codes "integer") (IsUtf8-string_bytes s) refl)))
+    (sym (same_name (string_bytes s) (codes "integer") (IsUtf8-string_bytes s) refl)))
 
 -- a value's type is determined by two comparisons and the fraction
 pub type_determined : (v : JsonValue) (s : String Global) (t : Tree) (a b c : Bool) → v ≡ is.String s
@@ -66,7 +66,7 @@ pub type_determined : (v : JsonValue) (s : String Global) (t : Tree) (a b c : Bo
 type_determined v s t a b c e f g h =
     ap (λ x. x || (b && c)) f ∙ (ap (λ x. bytes_eq (string_bytes s) (kind_name (kind_of t)) || (x && c)) g
     ∙ (ap (λ x. bytes_eq (string_bytes s) (kind_name (kind_of t)) || (bytes_eq (string_bytes s) (codes "integer") && x)) h
-        ∙ sym (is_type_name v s t e)))
+    ∙ sym (is_type_name v s t e)))
 
 some_view : (o : Option JsonValue) → is_some (option_map view o) ≡ is_some o
 some_view None = refl
@@ -77,8 +77,8 @@ pub key_present : (v : JsonValue) (s : String Global) (m : JsonMap) (bs : List �
 key_present v s m bs e b =
     ap (λ x. is_some (get_by_text m x)) b
     ∙ (sym (some_view (get_by_text m (string_bytes s)))
-        ∙ (ap is_some (sym (find_get m (string_bytes s) (IsUtf8-string_bytes s)))
-        ∙ ap (λ x. is_present x (members_view m.entries)) (sym (ap view e ∙ view_String s))))
+    ∙ (ap is_some (sym (find_get m (string_bytes s) (IsUtf8-string_bytes s)))
+    ∙ ap (λ x. is_present x (members_view m.entries)) (sym (ap view e ∙ view_String s))))
 
 -- what one keyword says, before the ones that come after it
 pub met : (b c : Bool) → b ≡ true → c ≡ (b && c)

@@ -54,7 +54,7 @@ object_valid s t es is m h = subst (IsValid s) (sym is) (valid (subst (λ x. mee
     parts k r u a b =
         let e = entry_from_find es k u b in
         subst (IsValid r) e.tree (entry_valid s e.done e.more e.entry (subst (EntriesAreValid s) e.split h) r (ap (property s) (sym e.key)
-            ∙ a))
+        ∙ a))
 
 pub member_invalid : (s t r : Tree) (es done more : List Entry) (e : Entry) (ks : List (List ℕ)) → t ≡ object (members_view es)
     → es ≡ done ++ e ∷ more → IsDistinct string_eq (keys_of es) → property s (text e.0) ≡ Some r
@@ -62,7 +62,7 @@ pub member_invalid : (s t r : Tree) (es done more : List Entry) (e : Entry) (ks 
 member_invalid s t r es done more e ks is split d a h =
     subst (λ x. IsInvalidAt s x (text e.0 ∷ ks)) (sym is)
     (in_part a (ap (λ x. find (text e.0) (members_view x)) split
-        ∙ find_entry done more e (subst (λ x. IsDistinct string_eq (keys_of x)) split d)) h)
+    ∙ find_entry done more e (subst (λ x. IsDistinct string_eq (keys_of x)) split d)) h)
 
 -- The entries before the rest are valid.
 pub record AreChecked (s : Tree) (es rest : List Entry) : Type 0 where
@@ -129,7 +129,7 @@ pub item_invalid : (s t r : Tree) (vs : List JsonValue) (v : JsonValue) (i : ℕ
     → IsInvalidAt r (view v) ks → IsInvalidAt s t (k ∷ ks)
 item_invalid s t r vs v i k ks is a n g h =
     subst (λ x. IsInvalidAt s x (k ∷ ks)) (sym is)
-        (in_part (sym a) (ap (item_of (items_view vs)) n ∙ (nth_items_view vs i ∙ ap (option_map view) g)) h)
+    (in_part (sym a) (ap (item_of (items_view vs)) n ∙ (nth_items_view vs i ∙ ap (option_map view) g)) h)
 
 -- ---- values with no parts that a schema speaks of
 

@@ -20,8 +20,12 @@ pub refused : (limit : Option ℕ) (is_indented : Bool) (unread left held : Opti
 refused limit is_indented unread left held bytes e f taken end utf8 parsed why =
     ⊎_elim
     (λ w. subst P (sym w.1) (record { read = bytes; taken = taken; says = inl (Keeps-refl held) }))
-    (λ w. subst P (sym w.1) (record { read = bytes; taken = taken; says =
-        (end, Keeps-refl held, utf8, refused_text limit (chars bytes) e parsed w.0, w.0, parsed) }))
+    (λ w. subst P (sym w.1) (record {
+      read = bytes;
+      taken = taken;
+      says =
+          (end, Keeps-refl held, utf8, refused_text limit (chars bytes) e parsed w.0, w.0, parsed);
+    }))
     why
   where
     P : RunFault → Type 0

@@ -50,15 +50,15 @@ cond_swap false b x y z h = refl
 find_put_at : (o : Ordering) (q k l : List ℕ) (t u : Tree) (ms : Members) → key_cmp k l ≡ o
     → find q (put k t ms) ≡ cond (bytes_eq q k) (Some t) (find q ms)
     → find q (match_ordering o (member k t (member l u ms)) (member k t ms) (member l u (put k t ms)))
-        ≡ cond (bytes_eq q k) (Some t) (cond (bytes_eq q l) (Some u) (find q ms))
+    ≡ cond (bytes_eq q k) (Some t) (cond (bytes_eq q l) (Some u) (find q ms))
 find_put_at Less q k l t u ms e later = refl
 find_put_at Equal q k l t u ms e later =
     cond_twice (bytes_eq q k) (Some t) (Some u) (find q ms)
-        ∙ ap (λ x. cond (bytes_eq q k) (Some t) (cond (bytes_eq q x) (Some u) (find q ms))) (key_same k l e)
+    ∙ ap (λ x. cond (bytes_eq q k) (Some t) (cond (bytes_eq q x) (Some u) (find q ms))) (key_same k l e)
 find_put_at Greater q k l t u ms e later =
     let clash : bytes_eq q l ≡ true → bytes_eq q k ≡ true → ⊥
     = λ a b. true≢false (sym (same_key k) ∙ (ap (λ x. bytes_eq k x) (sym ((bytes_eq-Decides q k).0 b) ∙ (bytes_eq-Decides q l).0 a)
-        ∙ apart k l Greater e (λ h. cc))) in
+    ∙ apart k l Greater e (λ h. cc))) in
     ap (cond (bytes_eq q l) (Some u)) later ∙ cond_swap (bytes_eq q l) (bytes_eq q k) (Some u) (Some t) (find q ms) clash
 
 -- what was put at k is found there, and the rest as before
@@ -106,7 +106,7 @@ find_remove_at : (b : Bool) (q k l : List ℕ) (u : Tree) (ms : Members) → byt
     → find q (cond b (remove k ms) (member l u (remove k ms))) ≡ cond (bytes_eq q k) None (cond (bytes_eq q l) (Some u) (find q ms))
 find_remove_at true q k l u ms e later =
     later ∙ (cond_twice (bytes_eq q k) None (Some u) (find q ms)
-        ∙ ap (λ x. cond (bytes_eq q k) None (cond (bytes_eq q x) (Some u) (find q ms))) ((bytes_eq-Decides k l).0 e))
+    ∙ ap (λ x. cond (bytes_eq q k) None (cond (bytes_eq q x) (Some u) (find q ms))) ((bytes_eq-Decides k l).0 e))
 find_remove_at false q k l u ms e later =
     let clash : bytes_eq q l ≡ true → bytes_eq q k ≡ true → ⊥
     = λ a b. true≢false (sym (same_key k) ∙ (ap (λ x. bytes_eq k x) (sym ((bytes_eq-Decides q k).0 b) ∙ (bytes_eq-Decides q l).0 a) ∙ e)) in

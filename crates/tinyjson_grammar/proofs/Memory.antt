@@ -18,7 +18,7 @@ spells_prompt ranges limit used fs q s = rw s.whole (read_prompt ranges limit s.
 go_reach : (limit : Option ℕ) (used : List ℕ) (fs : List Frame) (q : Phase) (c : ℕ) (cs : List ℕ) (n : Next) (more : List Frame → Phase
     → Option State) (s : State) → Follows limit used fs q c n → reach_on more n ≡ Some s →
     ((gs : List Frame) (p : Phase) → Spells limit (used ++ c ∷ []) gs p → more gs p ≡ Some s
-        → Spells limit ((used ++ c ∷ []) ++ cs) s.frames s.phase) → Spells limit (used ++ c ∷ cs) s.frames s.phase
+    → Spells limit ((used ++ c ∷ []) ++ cs) s.frames s.phase) → Spells limit (used ++ c ∷ cs) s.frames s.phase
 go_reach limit used fs q c cs (next gs p) more s h e on =
     subst (λ xs. Spells limit xs s.frames s.phase) (append_assoc used (c ∷ []) cs) (on gs p h e)
 go_reach limit used fs q c cs (stop k b) more s h e on = absurd cc
@@ -32,13 +32,13 @@ reach_spells ranges limit [] h used fs q i s e =
     subst (λ (x : State). Spells limit (used ++ []) x.frames x.phase) same (subst (λ xs. Spells limit xs fs q) (sym (append-nil used)) i)
 reach_spells ranges limit (c ∷ cs) h used fs q i s e =
     go_reach limit used fs q c cs (step (strictly limit) fs q c) (λ gs p. reach (strictly limit) gs p cs) s
-        (step_spells ranges limit used fs q i c (h 0 0 (omega arith))) e
+    (step_spells ranges limit used fs q i c (h 0 0 (omega arith))) e
     (λ gs p j d. reach_spells ranges limit cs (λ k x l. h (suc k) x (omega arith)) (used ++ c ∷ []) gs p j s d)
 
 go_reached : (limit : Option ℕ) (used : List ℕ) (fs : List Frame) (q : Phase) (c : ℕ) (cs : List ℕ) (n : Next) (more : List Frame → Phase
     → Option State) (s : State) → Reached limit used fs q → step (strictly limit) fs q c ≡ n → reach_on more n ≡ Some s →
     ((gs : List Frame) (p : Phase) → Reached limit (used ++ c ∷ []) gs p → more gs p ≡ Some s
-        → Reached limit ((used ++ c ∷ []) ++ cs) s.frames s.phase) → Reached limit (used ++ c ∷ cs) s.frames s.phase
+    → Reached limit ((used ++ c ∷ []) ++ cs) s.frames s.phase) → Reached limit (used ++ c ∷ cs) s.frames s.phase
 go_reached limit used fs q c cs (next gs p) more s h i e on =
     subst (λ xs. Reached limit xs s.frames s.phase) (append_assoc used (c ∷ []) cs) (on gs p (reached_next limit used fs gs q p c h i) e)
 go_reached limit used fs q c cs (stop k b) more s h i e on = absurd cc
@@ -51,7 +51,7 @@ reach_reached limit [] used fs q h s e =
     subst (λ (x : State). Reached limit (used ++ []) x.frames x.phase) same (subst (λ xs. Reached limit xs fs q) (sym (append-nil used)) h)
 reach_reached limit (c ∷ cs) used fs q h s e =
     go_reached limit used fs q c cs (step (strictly limit) fs q c) (λ gs p. reach (strictly limit) gs p cs) s h refl e
-        (λ gs p j d. reach_reached limit cs (used ++ c ∷ []) gs p j s d)
+    (λ gs p j d. reach_reached limit cs (used ++ c ∷ []) gs p j s d)
 
 pub interrupted : Ranges → (limit : Option ℕ) (used : List ℕ) → All IsScalar used → (s : State)
     → reach (strictly limit) [] awaited used ≡ Some s → IsInterrupted limit used
@@ -66,6 +66,6 @@ interrupted_late ranges limit used h s e c hc k =
     let i : Spells limit used s.frames s.phase = reach_spells ranges limit used h [] [] awaited (start_spells limit) s e in
     let r : Reached limit used s.frames s.phase = reach_reached limit used [] [] awaited (λ b ys. refl) s e in
     let f : Follows limit used s.frames s.phase c (stop InvalidUtf16 true) =
-        subst (Follows limit used s.frames s.phase c) k (step_spells ranges limit used s.frames s.phase i c hc) in
+    subst (Follows limit used s.frames s.phase c) k (step_spells ranges limit used s.frames s.phase i c hc) in
     let says = f [] (denies limit used s.frames s.phase r) (is_unviable limit used s.frames s.phase c InvalidUtf16 r k) in
     record { place = inr says; viable = says.1.1 }

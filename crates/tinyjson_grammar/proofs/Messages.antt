@@ -12,7 +12,7 @@ zeros_before ds = ap (λ k. replicate k 48 ++ (ds ++ [])) (omega arith) ∙ ap (
 -- what `U+{:04X}` writes
 pub code_point_text : (prefix : List ℕ) (o : Option (List ℕ)) (n : ℕ) → o ≡ Some (digits 16 true n)
     → Some (codes "U+") ++? option_map (padded_integral (format_spec 32 0 4 4 18446744073709551615) false
-        (shown_prefix (format_spec 32 0 4 4 18446744073709551615) prefix)) o ≡ Some (code_point n)
+    (shown_prefix (format_spec 32 0 4 4 18446744073709551615) prefix)) o ≡ Some (code_point n)
 code_point_text prefix o n h =
     ap (λ p. Some (codes "U+") ++? option_map (padded_integral (format_spec 32 0 4 4 18446744073709551615) false []) p) h
     ∙ ap (λ ds. Some (codes "U+" ++ ds)) (zeros_before (digits 16 true n))

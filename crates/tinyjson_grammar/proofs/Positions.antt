@@ -30,16 +30,16 @@ all_plain [] = refl
 all_plain (z ∷ zs) =
     let e : line_feeds (z ∷ zs) ≡ cond (is_line_feed z) 1 0 + line_feeds zs = sum_by-cons (λ x. cond (is_line_feed x) 1 0) z zs in
     rw e (step_none (is_line_feed z) (prefix_len is_within_line zs) (length zs) (line_feeds zs) (prefix_len-le-length is_within_line zs)
-        (all_plain zs))
+    (all_plain zs))
 
 after_line_feed_append : (xs ys : List ℕ) → after_line_feed (xs ++ ys)
     ≡ cond (eqb (line_feeds ys) 0) (length ys + after_line_feed xs) (after_line_feed ys)
 after_line_feed_append xs ys =
     let P : List ℕ → ℕ = prefix_len is_within_line in
     let a : P (reverse ys ++ reverse xs) ≡ cond (eqb (P (reverse ys)) (length (reverse ys))) (length (reverse ys) + P (reverse xs))
-        (P (reverse ys)) = prefix_len-append is_within_line (reverse ys) (reverse xs) in
+    (P (reverse ys)) = prefix_len-append is_within_line (reverse ys) (reverse xs) in
     let b : eqb (P (reverse ys)) (length (reverse ys)) ≡ eqb (line_feeds ys) 0 = all_plain (reverse ys)
-        ∙ ap (λ n. eqb n 0) (line_feeds_reverse ys) in
+    ∙ ap (λ n. eqb n 0) (line_feeds_reverse ys) in
     ap P (reverse-append xs ys) ∙ a ∙ ap (λ t. cond t (length (reverse ys) + P (reverse xs)) (P (reverse ys))) b
     ∙ ap (λ n. cond (eqb (line_feeds ys) 0) (n + P (reverse xs)) (P (reverse ys))) (length-reverse ys)
 
@@ -54,18 +54,18 @@ pub advance_append : (p : Position) (xs ys : List ℕ) → advance (advance p xs
 unfolding advance
 advance_append p xs ys =
     let l : capped (p.line + (line_feeds xs + line_feeds ys)) ≡ capped (p.line + line_feeds (xs ++ ys)) =
-        ap (λ n. capped (p.line + n)) (sym (line_feeds_append xs ys)) in
+    ap (λ n. capped (p.line + n)) (sym (line_feeds_append xs ys)) in
     let target : ℕ → ℕ → ℕ → ℕ = λ n len after. capped (cond (eqb n 0) (p.column + len) after) in
     let k : target (line_feeds xs + line_feeds ys) (length xs + length ys)
-        (cond (eqb (line_feeds ys) 0) (length ys + after_line_feed xs) (after_line_feed ys))
-        ≡ target (line_feeds (xs ++ ys)) (length (xs ++ ys)) (after_line_feed (xs ++ ys)) =
+    (cond (eqb (line_feeds ys) 0) (length ys + after_line_feed xs) (after_line_feed ys))
+    ≡ target (line_feeds (xs ++ ys)) (length (xs ++ ys)) (after_line_feed (xs ++ ys)) =
     ap (λ n. target n (length xs + length ys) (cond (eqb (line_feeds ys) 0) (length ys + after_line_feed xs) (after_line_feed ys)))
-        (sym (line_feeds_append xs ys))
+    (sym (line_feeds_append xs ys))
     ∙ ap (λ n. target (line_feeds (xs ++ ys)) n (cond (eqb (line_feeds ys) 0) (length ys + after_line_feed xs) (after_line_feed ys)))
-        (sym (length-append xs ys))
+    (sym (length-append xs ys))
     ∙ ap (λ n. target (line_feeds (xs ++ ys)) (length (xs ++ ys)) n) (sym (after_line_feed_append xs ys)) in
     ap₂ position_at (lines p.line (line_feeds xs) (line_feeds ys)
-        ∙ l) (columns p.column (length xs) (after_line_feed xs) (line_feeds xs) (length ys) (after_line_feed ys) (line_feeds ys) ∙ k)
+    ∙ l) (columns p.column (length xs) (after_line_feed xs) (line_feeds xs) (length ys) (after_line_feed ys) (line_feeds ys) ∙ k)
 
 pub advance_nil : (l c : ℕ) → l < 18446744073709551616 → c < 18446744073709551616 → advance (position_at l c) [] ≡ position_at l c
 unfolding advance

@@ -50,7 +50,7 @@ reached_next limit used fs gs q p c h e true ys = ap (run (rules true limit) [] 
     ∙ (h true (c ∷ ys) ∙ run_next (rules true limit) fs gs q p c ys e)
 reached_next limit used fs gs q p c h e false ys =
     ap (run (rules false limit) [] awaited) (append_assoc used (c ∷ []) ys)
-        ∙ (h false (c ∷ ys) ∙ run_next (rules false limit) fs gs q p c ys (strict_next limit fs gs q p c e))
+    ∙ (h false (c ∷ ys) ∙ run_next (rules false limit) fs gs q p c ys (strict_next limit fs gs q p c e))
 
 -- ---- what is unviable
 
@@ -85,13 +85,19 @@ turns_unviable limit used fs q c k h o e = loosely_unviable limit (used ++ c ∷
 
 -- what is denied where the machine stands so
 pub denies : (limit : Option ℕ) (used : List ℕ) (fs : List Frame) (q : Phase) → Reached limit used fs q → Denies limit used fs q
-denies limit used fs q h = record { no_quote = no_quote_follows limit used fs q h; unviable =
-    λ n. unviable limit used (λ ys t e. n ys t (sym (h true ys) ∙ e)) }
+denies limit used fs q h = record {
+  no_quote = no_quote_follows limit used fs q h;
+  unviable =
+      λ n. unviable limit used (λ ys t e. n ys t (sym (h true ys) ∙ e));
+}
 
 pub is_unviable : (limit : Option ℕ) (used : List ℕ) (fs : List Frame) (q : Phase) (c : ℕ) (k : JsonParseErrorKind)
     → Reached limit used fs q → step (strictly limit) fs q c ≡ stop k true → IsUnviable limit (used ++ c ∷ []) k
-is_unviable limit used fs q c k h e = record { unviable = taken_unviable limit used fs q c k h e; loosely =
-    λ o. turns_unviable limit used fs q c k h o e }
+is_unviable limit used fs q c k h e = record {
+  unviable = taken_unviable limit used fs q c k h e;
+  loosely =
+      λ o. turns_unviable limit used fs q c k h o e;
+}
 
 -- the next character is too many: not even the first key that is not a string is still to come
 not_completed : (limit : Option ℕ) (u : List ℕ) (d : ℕ) (k : JsonParseErrorKind)
@@ -99,11 +105,11 @@ not_completed : (limit : Option ℕ) (u : List ℕ) (d : ℕ) (k : JsonParseErro
     (IsAccepted limit ((u ++ d ∷ []) ++ ys) ⊎ IsCutOffText limit ((u ++ d ∷ []) ++ ys)) → ⊥
 not_completed limit u d k h ys (inl a) =
     no_text k (d ∷ ys) a.0 (sym (h ys) ∙ (sym (ap (run (strictly limit) [] awaited) (append_assoc u (d ∷ []) ys))
-        ∙ text_accepted limit ((u ++ d ∷ []) ++ ys) a.0 a.1))
+    ∙ text_accepted limit ((u ++ d ∷ []) ++ ys) a.0 a.1))
 not_completed limit u d k h ys (inr b) =
     let i = cut_off_end limit ((u ++ d ∷ []) ++ ys) b in
     let e : refused k (d ∷ ys) ≡ refused (KeyNotString (kind_of i.0)) [] = sym (h ys)
-        ∙ (sym (ap (run (strictly limit) [] awaited) (append_assoc u (d ∷ []) ys)) ∙ i.1) in
+    ∙ (sym (ap (run (strictly limit) [] awaited) (append_assoc u (d ∷ []) ys)) ∙ i.1) in
     absurd cc
 
 pub not_error_free : (limit : Option ℕ) (u : List ℕ) (d : ℕ) (k : JsonParseErrorKind)
@@ -191,7 +197,7 @@ go_results : (limit : Option ℕ) (used : List ℕ) (fs : List Frame) (q : Phase
     → Outcome) (n : Next) → step (strictly limit) fs q c ≡ n → Reached limit used fs q → Follows limit used fs q c n
     → IsLooselyViable limit used →
     ((gs : List Frame) (p : Phase) → Spells limit (used ++ c ∷ []) gs p → Reached limit (used ++ c ∷ []) gs p
-        → Results limit (used ++ c ∷ []) cs (more gs p)) → Results limit used (c ∷ cs) (go_on more n (c ∷ cs) cs)
+    → Results limit (used ++ c ∷ []) cs (more gs p)) → Results limit used (c ∷ cs) (go_on more n (c ∷ cs) cs)
 go_results limit used fs q c cs more (next gs p) e r h a on =
     results_shift limit used c cs (more gs p) (on gs p h (reached_next limit used fs gs q p c r e))
 go_results limit used fs q c cs more (stop k true) e r h a on = (c ∷ [], refl, refusal_taken limit used fs q c k cs r a e h)
@@ -201,9 +207,12 @@ go_results limit used fs q c cs more (stop k false) e r h a on =
 end_results : (limit : Option ℕ) (used : List ℕ) (fs : List Frame) (q : Phase) (o : Outcome) → run (strictly limit) fs q [] ≡ o
     → Reached limit used fs q → Ends limit used fs q o → IsLooselyViable limit used → Results limit used [] o
 end_results limit used fs q (accepted t) e r h a = subst (λ xs. IsText limit xs t) (sym (append-nil used)) h
-end_results limit used fs q (refused k rest) e r h a =
-    ([], sym h.0, rw h.0 (subst (λ xs. IsRefusal limit k xs []) (sym (append-nil used))
-        (refusal_end limit used fs q k r a (e ∙ ap (refused k) h.0) h.1)))
+end_results limit used fs q (refused k rest) e r h a = (
+  [],
+  sym h.0,
+  rw h.0 (subst (λ xs. IsRefusal limit k xs []) (sym (append-nil used))
+      (refusal_end limit used fs q k r a (e ∙ ap (refused k) h.0) h.1)),
+)
 
 pub step_spells : Ranges → (limit : Option ℕ) (used : List ℕ) (fs : List Frame) (q : Phase) → Spells limit used fs q → (c : ℕ) → IsScalar c
     → Follows limit used fs q c (step (strictly limit) fs q c)
@@ -223,7 +232,7 @@ run_results ranges limit [] h used fs q s r = end_results limit used fs q (end (
     (end_spells ranges limit used fs q s) (spells_viable limit used fs q s)
 run_results ranges limit (c ∷ cs) h used fs q s r =
     go_results limit used fs q c cs (λ gs p. run (strictly limit) gs p cs) (step (strictly limit) fs q c) refl r
-        (step_spells ranges limit used fs q s c (h 0 0 (omega arith))) (spells_viable limit used fs q s)
+    (step_spells ranges limit used fs q s c (h 0 0 (omega arith))) (spells_viable limit used fs q s)
     (λ gs p i j. run_results ranges limit cs (λ k d l. h (suc k) d (omega arith)) (used ++ c ∷ []) gs p i j)
 
 -- ---- from the start

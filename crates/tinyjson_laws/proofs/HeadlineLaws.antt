@@ -44,6 +44,8 @@ stops_at limit e used rest r p = record {
 
 pub timely : (limit : Option ℕ) (xs : List ℕ) (r : Result JsonValue JsonParseError) → ParsesText limit xs r → IsTimely limit xs r
 timely limit xs (Ok v) p = tt
-timely limit xs (Err e) p =
-    (length p.consumed, subst (λ ys. StopsAt limit ys e (length p.consumed)) (sym p.whole)
-        (stops_at limit e p.consumed p.rest p.answer.1 p.answer.0))
+timely limit xs (Err e) p = (
+  length p.consumed,
+  subst (λ ys. StopsAt limit ys e (length p.consumed)) (sym p.whole)
+      (stops_at limit e p.consumed p.rest p.answer.1 p.answer.0),
+)

@@ -74,9 +74,9 @@ module _ (indent : List ℕ) where
   indented_array k t ts h hs =
       (λ i. 91 ∷ ((line indent (k + 1) ++ (h i ++ hs i)) ++ (line indent k ++ 93 ∷ [])))
       ∙ ap (λ z. 91 ∷ z) (regroup [] (line indent (k + 1)) (indented_text indent (k + 1) t) (commas (indented_items indent (k + 1) ts))
-          (line indent k) 93)
+      (line indent k) 93)
       ∙ ap (λ z. 91 ∷ ((z ++ line indent k) ++ 93 ∷ []))
-          (sym (commas_first (line indent (k + 1) ++ indented_text indent (k + 1) t) (indented_items indent (k + 1) ts)))
+      (sym (commas_first (line indent (k + 1) ++ indented_text indent (k + 1) t) (indented_items indent (k + 1) ts)))
 
   indented_object : (k : ℕ) (l : List ℕ) (t : Tree) (ms : Members) → text (Some indent) (k + 1) t ≡ indented_text indent (k + 1) t
       → IndentedMembers (k + 1) ms → text (Some indent) k (tree.object (tree.member l t ms))
@@ -84,10 +84,10 @@ module _ (indent : List ℕ) where
   indented_object k l t ms h hs =
       (λ i. 123 ∷ ((line indent (k + 1) ++ ((quoted l ++ 58 ∷ 32 ∷ h i) ++ hs i)) ++ (line indent k ++ 125 ∷ [])))
       ∙ ap (λ z. 123 ∷ z) (regroup [] (line indent (k + 1)) (quoted l ++ 58 ∷ 32 ∷ indented_text indent (k + 1) t)
-          (commas (indented_members indent (k + 1) ms)) (line indent k) 125)
+      (commas (indented_members indent (k + 1) ms)) (line indent k) 125)
       ∙ ap (λ z. 123 ∷ ((z ++ line indent k) ++ 125 ∷ []))
-          (sym (commas_first (line indent (k + 1) ++ (quoted l ++ 58 ∷ 32 ∷ indented_text indent (k + 1) t))
-          (indented_members indent (k + 1) ms)))
+      (sym (commas_first (line indent (k + 1) ++ (quoted l ++ 58 ∷ 32 ∷ indented_text indent (k + 1) t))
+      (indented_members indent (k + 1) ms)))
 
   item_after : (k : ℕ) (t c : List ℕ) → ((44 ∷ []) ++ line indent k) ++ (t ++ c) ≡ 44 ∷ ((line indent k ++ t) ++ c)
   item_after k t c = simp append_assoc
@@ -118,7 +118,7 @@ module _ (indent : List ℕ) where
     members_indented tree.no_members k = refl
     members_indented (tree.member l t ms) k =
         (λ i. ((44 ∷ []) ++ line indent k) ++ ((quoted l ++ 58 ∷ 32 ∷ indented_is t k i) ++ members_indented ms k i))
-            ∙ item_after k (quoted l ++ 58 ∷ 32 ∷ indented_text indent k t) (commas (indented_members indent k ms))
+        ∙ item_after k (quoted l ++ 58 ∷ 32 ∷ indented_text indent k t) (commas (indented_members indent k ms))
 
 pub compact_layout : CompactLayout
 compact_layout t = compact_is t 0

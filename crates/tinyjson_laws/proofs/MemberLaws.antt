@@ -58,8 +58,11 @@ some≢none t h = cc
 here : (k : List ℕ) (e : Entry) (b : Bool) → bytes_eq k e.0 ≡ b
     → ((t : Tree) → (cond b (Some e.1) None ≡ Some t) → (e.0 ≡ k) × (e.1 ≡ t)) × ((cond b (Some e.1) None ≡ None) → e.0 ≢ k)
 here k e true h = (λ t i. (sym ((bytes_eq-Decides k e.0).0 h), same_Some e.1 t i), λ i. absurd (some≢none e.1 i))
-here k e false h = (λ t i. absurd (some≢none t (sym i)), λ i j. let r : bytes_eq k e.0 ≡ true =
-    (bytes_eq-Decides k e.0).1 (sym j) in let f : true ≡ false = sym r ∙ h in cc)
+here k e false h = (
+  λ t i. absurd (some≢none t (sym i)),
+  λ i j. let r : bytes_eq k e.0 ≡ true =
+      (bytes_eq-Decides k e.0).1 (sym j) in let f : true ≡ false = sym r ∙ h in cc,
+)
 
 none_by : (k : List ℕ) (e : Entry) (es : List Entry) (o : Option Tree) → last_value k es ≡ o → option_or o (value_at k e) ≡ None
     → (last_value k es ≡ None → HasNone k es) → HasNone k (e ∷ es)

@@ -24,5 +24,8 @@ pub decimals_have_texts : DecimalsHaveTexts
 decimals_have_texts d = (λ h. (decimal_text d, decimal_reads_back d h), λ p. spelled_canonical p.0 d p.1)
 
 pub same_decimal : SameDecimal
-same_decimal d e h j = (λ i. one_decimal (decimal_text e) d e (subst (λ t. IsNumberText t d) i (decimal_reads_back d h))
-    (decimal_reads_back e j), λ i. ap decimal_text i)
+same_decimal d e h j = (
+  λ i. one_decimal (decimal_text e) d e (subst (λ t. IsNumberText t d) i (decimal_reads_back d h))
+      (decimal_reads_back e j),
+  λ i. ap decimal_text i,
+)

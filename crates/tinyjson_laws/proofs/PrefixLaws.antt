@@ -38,8 +38,17 @@ null_accepted : (limit : Option ℕ) → IsAccepted limit null_text
 null_accepted limit = (
   tree.null,
   record {
-    loose = record { before = []; value = null; after = []; white_before = tt; spelled = tt; white_after = tt; shallow =
-        scalar_within limit; whole = refl };
+    loose = record {
+      before = [];
+      value = null;
+      after = [];
+      white_before = tt;
+      spelled = tt;
+      white_after = tt;
+      shallow =
+          scalar_within limit;
+      whole = refl;
+    };
     strict = tt;
     tree = refl;
   },
@@ -110,8 +119,19 @@ digit_fits c true e = rw e refl
 digit_fits c false e = rw e (rw e refl)
 
 begun_digit : (c : ℕ) → IsTrue (is_ascii_digit c) → BeginsStrictly c
-begun_digit c h = (number (digit c), [], record { integer = (h, tt); some_digit = omega arith; fraction = tt; exponent =
-    tt }, (refl, digit_fits c (c == 48) refl), refl)
+begun_digit c h = (
+  number (digit c),
+  [],
+  record {
+    integer = (h, tt);
+    some_digit = omega arith;
+    fraction = tt;
+    exponent =
+        tt;
+  },
+  (refl, digit_fits c (c == 48) refl),
+  refl,
+)
 
 begun_minus : (c : ℕ) → (c == 45) ≡ true → BeginsStrictly c
 unfolding value power_fits
@@ -266,10 +286,10 @@ refused_not_too_late limit k used rest r l h = ⊎_elim (λ s. absurd (early s (
         let same : (f.0 ++ f.1 ∷ []) ++ rest ≡ used ++ rest = ap (λ xs. xs ++ rest) (sym f.2) in
         let short : take l (used ++ rest) ≡ take l f.0 =
         ap (take l) (sym same ∙ append_assoc f.0 (f.1 ∷ []) rest)
-            ∙ take-append-le l f.0 (f.1 ∷ rest) (omega (arith, s, ap length f.2, n)) in
+        ∙ take-append-le l f.0 (f.1 ∷ rest) (omega (arith, s, ap length f.2, n)) in
         let whole : f.0 ≡ take l (used ++ rest) ++ drop l f.0 = sym (take-append-drop l f.0) ∙ ap (λ xs. xs ++ drop l f.0) (sym short) in
         h.fails (viable_before (IsLoose limit) (take l (used ++ rest)) (drop l f.0)
-            (subst (IsLooselyViable limit) whole (one_before limit k used rest r f.0 f.1 f.2)))
+        (subst (IsLooselyViable limit) whole (one_before limit k used rest r f.0 f.1 f.2)))
 
 -- ---- out of memory
 
@@ -303,7 +323,7 @@ promptly : (limit : Option ℕ) (used rest last : List ℕ) → length last ≤ 
     → IsShortest (IsErrorFree limit) (used ++ rest) (m + 1) → IsLateButOne (drop m used)
 promptly limit used rest last short p m h =
     let same : used ++ rest ≡ p.prefix ++ ((p.late ++ last) ++ rest) = ap (λ xs. xs ++ rest) p.whole
-        ∙ append_assoc p.prefix (p.late ++ last) rest in
+    ∙ append_assoc p.prefix (p.late ++ last) rest in
     let first = subst (λ xs. IsShortest (IsErrorFree limit) xs (m + 1)) same h in
     let room = holds_before (IsErrorFree limit) (error_free_before limit) p.prefix ((p.late ++ last) ++ rest) (m + 1) p.error_free first in
     subst (λ xs. IsLateButOne (drop m xs)) (sym p.whole) (late_after m p.prefix p.late last (omega (arith, room)) p.are_late short)

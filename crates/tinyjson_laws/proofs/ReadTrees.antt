@@ -30,8 +30,14 @@ escape_code : (c : ℕ) → unwrap_or (short_escape c) 0 < 1114112
 escape_code c = grind arith
 
 unit_code : (a b c d : ℕ) → IsTrue (is_hex a) → IsTrue (is_hex b) → IsTrue (is_hex c) → IsTrue (is_hex d) → unit_value a b c d < 1114112
-unit_code a b c d ha hb hc hd = omega (arith, ltb-true (digit_value a) 16 ha, ltb-true (digit_value b) 16 hb, ltb-true (digit_value c) 16
-    hc, ltb-true (digit_value d) 16 hd)
+unit_code a b c d ha hb hc hd = omega (
+  arith,
+  ltb-true (digit_value a) 16 ha,
+  ltb-true (digit_value b) 16 hb,
+  ltb-true (digit_value c) 16
+      hc,
+  ltb-true (digit_value d) 16 hd,
+)
 
 scalar_code : (c : ℕ) → IsScalar c → c < 1114112
 scalar_code c h = grind arith
@@ -114,7 +120,7 @@ mutual
       (are_put width _ _ ms (key_scalars width k h.1 j.0 j.1) (tree_is width s h.4 j.2) m, sorted_put _ _ ms r)
   members_are width (pair a k b c s d ps) ms h j r m =
       members_are width ps (tree.put (tree.key_of (tree_of k)) (tree_of s) ms) h.6 j.3 (sorted_put _ _ ms r)
-          (are_put width _ _ ms (key_scalars width k h.1 j.0 j.1) (tree_is width s h.4 j.2) m)
+      (are_put width _ _ ms (key_scalars width k h.1 j.0 j.1) (tree_is width s h.4 j.2) m)
 
 -- ---- depth
 
@@ -135,6 +141,10 @@ mutual
 
   depth_of_members : (ps : Pairs) (ms : tree.Members) → members_depth (pairs_members ms ps) ≤ max (members_depth ms) (pairs_depth ps)
   depth_of_members (last_pair a k b c s d) ms = omega (arith, depth_put (tree.key_of (tree_of k)) (tree_of s) ms, depth_is s)
-  depth_of_members (pair a k b c s d ps) ms = omega
-      (arith, depth_put (tree.key_of (tree_of k)) (tree_of s) ms, depth_is s, depth_of_members ps
-      (tree.put (tree.key_of (tree_of k)) (tree_of s) ms))
+  depth_of_members (pair a k b c s d ps) ms = omega (
+    arith,
+    depth_put (tree.key_of (tree_of k)) (tree_of s) ms,
+    depth_is s,
+    depth_of_members ps
+        (tree.put (tree.key_of (tree_of k)) (tree_of s) ms),
+  )

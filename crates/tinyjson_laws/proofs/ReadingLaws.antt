@@ -37,15 +37,27 @@ trees_have_texts t = (λ h. (written.compact t, written_text power_width None No
 at_limit : (width : Width) (limit other : Option ℕ) (xs : List ℕ) (t : Tree) → ((n : ℕ) → IsWithin limit n → IsWithin other n)
     → IsTextAt width limit xs t → IsTextAt width other xs t
 at_limit width limit other xs t f h = let l = h.loose in record {
-  loose = record { before = l.before; value = l.value; after = l.after; white_before = l.white_before; spelled = l.spelled; white_after =
-      l.white_after; shallow = f (depth l.value) l.shallow; whole = l.whole };
+  loose = record {
+    before = l.before;
+    value = l.value;
+    after = l.after;
+    white_before = l.white_before;
+    spelled = l.spelled;
+    white_after =
+        l.white_after;
+    shallow = f (depth l.value) l.shallow;
+    whole = l.whole;
+  };
   strict = h.strict;
   tree = h.tree;
 }
 
 pub wider_limit : WiderLimit
-wider_limit m n xs t l h = (at_limit power_width (Some m) (Some n) xs t (λ k d. omega arith) h, at_limit power_width (Some m) None xs t
-    (λ k d. tt) h)
+wider_limit m n xs t l h = (
+  at_limit power_width (Some m) (Some n) xs t (λ k d. omega arith) h,
+  at_limit power_width (Some m) None xs t
+      (λ k d. tt) h,
+)
 
 pub wider_range : WiderRange
 wider_range limit xs t h = let wide = wider_text limit xs t h

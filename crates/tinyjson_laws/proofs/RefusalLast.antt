@@ -67,7 +67,7 @@ module _ (limit : Option ℕ) (prefix : List ℕ) (c : ℕ) (f : IsErrorFree lim
       ∙ (ap (run (strictly limit) [] awaited) same_list ∙ halts_run limit prefix h (c ∷ f.0)))
   no_halt h (inr t) = let e = cut_off_end limit ((prefix ++ c ∷ []) ++ f.0) t in
       some_left h.8 h.1 h.2 c f.0 (left_of _ _ _ _ (sym (halts_run limit prefix h (c ∷ f.0))
-          ∙ (sym (ap (run (strictly limit) [] awaited) same_list) ∙ e.1)))
+      ∙ (sym (ap (run (strictly limit) [] awaited) same_list) ∙ e.1)))
 
   passed_by : (fs : List Frame) (q : Phase) → Stands limit prefix fs q → (n : Next) → step (strictly limit) fs q c ≡ n
       → (IsAccepted limit ((prefix ++ c ∷ []) ++ f.0) ⊎ IsCutOffText limit ((prefix ++ c ∷ []) ++ f.0))
@@ -75,11 +75,11 @@ module _ (limit : Option ℕ) (prefix : List ℕ) (c : ℕ) (f : IsErrorFree lim
   passed_by fs q s (next gs p) i g = subst IsPassed (sym i) tt
   passed_by fs q s (stop k b) i (inl t) =
       absurd (accepted_refused t.0 _ _ (sym (text_accepted limit ((prefix ++ c ∷ []) ++ f.0) t.0 t.1)
-          ∙ (ap (run (strictly limit) [] awaited) same_list ∙ stands_stop limit prefix fs q s c k b i f.0)))
+      ∙ (ap (run (strictly limit) [] awaited) same_list ∙ stands_stop limit prefix fs q s c k b i f.0)))
   passed_by fs q s (stop k b) i (inr t) =
       let e = cut_off_end limit ((prefix ++ c ∷ []) ++ f.0) t in
       passed_stop (step (strictly limit) fs q c) k b c f.0 (kind_of e.0) i (sym (stands_stop limit prefix fs q s c k b i f.0)
-          ∙ (sym (ap (run (strictly limit) [] awaited) same_list) ∙ e.1))
+      ∙ (sym (ap (run (strictly limit) [] awaited) same_list) ∙ e.1))
 
   pub passes : All IsScalar prefix → Passes limit prefix c
   passes a = ⊎_elim goes (λ h. absurd (no_halt h f.1)) (goes_or_halts limit prefix a)
@@ -153,7 +153,7 @@ module _ (limit : Option ℕ) (fs : List Frame) where
   passed_lasts Machine.minus n e h m g = elim (rw (continues_digit e h) at g) [ ]
   passed_lasts Machine.integer n e h m g =
       let i : IsPassed (unless_ended (strictly limit) fs n e (Machine.after_integer (strictly limit) fs n e)) =
-          rw (continues_digit e h) at g in
+      rw (continues_digit e h) at g in
       let z : has_leading_zero n.integer ≡ false = passed_zero (has_leading_zero n.integer) n e _ _ (λ x. x) i in
       (z, rw (z, continues_point e h, continues_letter e h) at i)
   passed_lasts Machine.point n e h m g = elim (rw (continues_digit e h) at g) [ ]
@@ -169,7 +169,7 @@ module _ (limit : Option ℕ) (fs : List Frame) where
       split : (b : Bool) → IsPassed (then_step (strictly limit)
           (cond (not b) (stop NumberOutOfRange false) (complete true fs (tree.number (value n)) false)) e) →
           cond (not b) (stop NumberOutOfRange false) (complete true fs (tree.number (value n)) false)
-              ≡ complete true fs (tree.number (value n)) false
+          ≡ complete true fs (tree.number (value n)) false
       split true g = refl
       split false g = elim g [ ]
 
@@ -180,7 +180,7 @@ module _ (limit : Option ℕ) (fs : List Frame) where
       split : (b : Bool) → end_plain (cond (not b) (stop NumberOutOfRange false) (complete true fs (tree.number (value n)) false))
           ≡ accepted t →
           cond (not b) (stop NumberOutOfRange false) (complete true fs (tree.number (value n)) false)
-              ≡ complete true fs (tree.number (value n)) false
+          ≡ complete true fs (tree.number (value n)) false
       split true g = refl
       split false g = absurd cc
 
@@ -193,7 +193,7 @@ module _ (limit : Option ℕ) (fs : List Frame) where
   digits_step prefix s n st h f c hc d = ⊎_elim
       (λ e. ap (unless_ended (strictly limit) fs n c) e ∙ ap (λ m. then_step (strictly limit) m c) f)
       (λ e. absurd (d (stands_viable limit (prefix ++ c ∷ []) e.0 e.1
-          (stands_next limit prefix fs e.0 (digits s n) e.1 c hc st (ap (unless_ended (strictly limit) fs n c) e.2)))))
+      (stands_next limit prefix fs e.0 (digits s n) e.1 c hc st (ap (unless_ended (strictly limit) fs n c) e.2)))))
       (lasts_step s n h c)
 
 -- ---- a quote may follow
@@ -231,9 +231,9 @@ quote_closes limit p cs us = split p (paired us)
   where
     split : (p : Path) (b : Bool) →
         ((gs : List Frame) × (q : Phase) × (cond (not b) (stop InvalidUtf16 true)
-            (complete true (path_frames p) (tree.string (cs ++ decode us)) true) ≡ next gs q))
+        (complete true (path_frames p) (tree.string (cs ++ decode us)) true) ≡ next gs q))
         ⊎ (cond (not b) (stop InvalidUtf16 true) (complete true (path_frames p) (tree.string (cs ++ decode us)) true)
-            ≡ stop InvalidUtf16 true)
+        ≡ stop InvalidUtf16 true)
     split p false = inr refl
     split (outside w) true = inl (_, _, refl)
     split (item_in p es w) true = inl (_, _, refl)
@@ -246,9 +246,9 @@ quote_string limit prefix p cs us s n = ⊎_elim
     (λ e. quote_next limit prefix (path_frames p) e.0 (quoted Machine.plain cs us) e.1 s e.2 n)
     (λ e. let f : Follows limit prefix (path_frames p) (quoted Machine.plain cs us) 34 (stop InvalidUtf16 true) =
     subst (Follows limit prefix (path_frames p) (quoted Machine.plain cs us) 34) e
-        (stands_follows limit prefix (path_frames p) (quoted Machine.plain cs us) s 34 quote_scalar) in
+    (stands_follows limit prefix (path_frames p) (quoted Machine.plain cs us) s 34 quote_scalar) in
     n (f [] (denies limit prefix (path_frames p) (quoted Machine.plain cs us) s.reached)
-        (is_unviable limit prefix (path_frames p) (quoted Machine.plain cs us) 34 InvalidUtf16 s.reached e)).1.1)
+    (is_unviable limit prefix (path_frames p) (quoted Machine.plain cs us) 34 InvalidUtf16 s.reached e)).1.1)
     (quote_closes limit p cs us)
 
 -- ---- the colon, the brace and the bracket
@@ -270,16 +270,40 @@ pub record IsCloser (e : ℕ) : Type 0 where
   pub no_letter : IsNoLetter e
 
 pub closer_colon : IsCloser 58
-closer_colon = record { no_escape = refl; no_unit = refl; no_hex = refl; no_white = refl; ends = refl; no_sign = refl; no_letter =
-    (refl, refl, refl) }
+closer_colon = record {
+  no_escape = refl;
+  no_unit = refl;
+  no_hex = refl;
+  no_white = refl;
+  ends = refl;
+  no_sign = refl;
+  no_letter =
+      (refl, refl, refl);
+}
 
 pub closer_bracket : IsCloser 93
-closer_bracket = record { no_escape = refl; no_unit = refl; no_hex = refl; no_white = refl; ends = refl; no_sign = refl; no_letter =
-    (refl, refl, refl) }
+closer_bracket = record {
+  no_escape = refl;
+  no_unit = refl;
+  no_hex = refl;
+  no_white = refl;
+  ends = refl;
+  no_sign = refl;
+  no_letter =
+      (refl, refl, refl);
+}
 
 pub closer_brace : IsCloser 125
-closer_brace = record { no_escape = refl; no_unit = refl; no_hex = refl; no_white = refl; ends = refl; no_sign = refl; no_letter =
-    (refl, refl, refl) }
+closer_brace = record {
+  no_escape = refl;
+  no_unit = refl;
+  no_hex = refl;
+  no_white = refl;
+  ends = refl;
+  no_sign = refl;
+  no_letter =
+      (refl, refl, refl);
+}
 
 escape_no : (limit : Option ℕ) (fs : List Frame) (cs us : List ℕ) (e : ℕ) → IsCloser e
     → IsPassed (step (strictly limit) fs (quoted Machine.backslash cs us) e) → ⊥
@@ -298,7 +322,7 @@ pub data Settled (limit : Option ℕ) (e : ℕ) : Read → Type 0 where
       → finish (strictly limit) (path_frames p) (part_numeral n)
       ≡ complete true (path_frames p) (tree.number (value (part_numeral n))) false →
       IsPassed (then_step (strictly limit) (complete true (path_frames p) (tree.number (value (part_numeral n))) false) e)
-          → Settled limit e (in_digits p n)
+      → Settled limit e (in_digits p n)
   value_ends : (p : Path) (s : Syntax) (v : List ℕ)
       → IsPassed (step (strictly limit) (read_frames (at_after p s v)) (read_phase (at_after p s v)) e) → Settled limit e (at_after p s v)
 
@@ -348,7 +372,7 @@ module _ (limit : Option ℕ) (prefix : List ℕ) (c : ℕ) (hc : IsScalar c) (d
   brace_at _ (digits_end (key_in p ps w) n l f g) s a b = elim g [ ]
   brace_at _ (digits_end (value_in p ps k j m w) n l f g) s a b =
       digits_step limit (path_frames (value_in p ps k j m w)) prefix (part_stage n) (part_numeral n) s l f c hc d
-          ∙ rw (hw, ne_eqb c 44 a, ne_eqb c 125 b) refl
+      ∙ rw (hw, ne_eqb c 44 a, ne_eqb c 125 b) refl
   brace_at _ (value_ends (outside w) v u g) s a b = elim g [ ]
   brace_at _ (value_ends (item_in p es w) v u g) s a b = elim g [ ]
   brace_at _ (value_ends (key_in p ps w) v u g) s a b = elim g [ ]
@@ -360,7 +384,7 @@ module _ (limit : Option ℕ) (prefix : List ℕ) (c : ℕ) (hc : IsScalar c) (d
   bracket_at _ (digits_end (outside w) n l f g) s a b = elim g [ ]
   bracket_at _ (digits_end (item_in p es w) n l f g) s a b =
       digits_step limit (path_frames (item_in p es w)) prefix (part_stage n) (part_numeral n) s l f c hc d
-          ∙ rw (hw, ne_eqb c 44 a, ne_eqb c 93 b) refl
+      ∙ rw (hw, ne_eqb c 44 a, ne_eqb c 93 b) refl
   bracket_at _ (digits_end (key_in p ps w) n l f g) s a b = elim g [ ]
   bracket_at _ (digits_end (value_in p ps k j m w) n l f g) s a b = elim g [ ]
   bracket_at _ (value_ends (outside w) v u g) s a b = elim g [ ]
@@ -388,7 +412,7 @@ taken_exact limit prefix fs q s c k used rest e i =
 awaits_exact : (limit : Option ℕ) (used rest : List ℕ) (c e : ℕ) → All IsScalar used → IsCloser e → (h : AwaitsAt limit used c e)
     → (k : JsonParseErrorKind) →
     (IsScalar c → (x : Read) → Settled limit e x → Stands limit h.place.prefix (read_frames x) (read_phase x)
-        → step (strictly limit) (read_frames x) (read_phase x) c ≡ stop k true) → Exact limit k used rest
+    → step (strictly limit) (read_frames x) (read_phase x) c ≡ stop k true) → Exact limit k used rest
 awaits_exact limit used rest c e a i h k g =
     let b = all_front_of used h.place.prefix c h.place.ends a in
     let p = passes limit h.place.prefix e h.without_error b.0 in
@@ -423,7 +447,7 @@ run_end r fs q = refl
 number_text : (limit : Option ℕ) (prefix : List ℕ) (c : ℕ) → IsScalar c → ¬ IsLooselyViable limit (prefix ++ c ∷ []) → is_white c ≡ false
     → (p : Path) (n : Part) → Stands limit prefix (path_frames p) (digits (part_stage n) (part_numeral n)) → (t : Tree) →
     end_digits (strictly limit) (path_frames p) (part_stage n) (part_numeral n) ≡ accepted t
-        → step (strictly limit) (path_frames p) (digits (part_stage n) (part_numeral n)) c ≡ stop (ExpectedEof c) true
+    → step (strictly limit) (path_frames p) (digits (part_stage n) (part_numeral n)) c ≡ stop (ExpectedEof c) true
 number_text limit prefix c hc d hw p n s t e = at p s f (sym (ap end_plain f) ∙ g)
   where
     l : Lasts (part_stage n) (part_numeral n)
@@ -440,7 +464,7 @@ number_text limit prefix c hc d hw p n s t e = at p s f (sym (ap end_plain f) �
         → finish (strictly limit) (path_frames p) (part_numeral n)
         ≡ complete true (path_frames p) (tree.number (value (part_numeral n))) false →
         end_plain (complete true (path_frames p) (tree.number (value (part_numeral n))) false) ≡ accepted t
-            → step (strictly limit) (path_frames p) (digits (part_stage n) (part_numeral n)) c ≡ stop (ExpectedEof c) true
+        → step (strictly limit) (path_frames p) (digits (part_stage n) (part_numeral n)) c ≡ stop (ExpectedEof c) true
     at (outside w) s f e = digits_step limit [] prefix (part_stage n) (part_numeral n) s l f c hc d ∙ rw hw refl
     at (item_in p es w) s f e = absurd cc
     at (key_in p ps w) s f e = absurd cc
@@ -475,7 +499,7 @@ after_exact limit used rest text c a w e t d = ⊎_elim goes halts (goes_or_halt
     goes g = let s = g.2.spells in
         taken_exact limit text (read_frames s.read) (read_phase s.read) (rw (← s.frames, ← s.phase) g.2) c (ExpectedEof c) used rest e
         (text_ends limit text c b.1 (not_viable limit used text c e d) w s.read s.is (rw (← s.frames, ← s.phase) g.2) t.0
-            (rw (← s.frames, ← s.phase) (sym (run_end (strictly limit) g.0 g.1) ∙ (sym (g.2.reached true []) ∙ runs))))
+        (rw (← s.frames, ← s.phase) (sym (run_end (strictly limit) g.0 g.1) ∙ (sym (g.2.reached true []) ∙ runs))))
 
     halts : Halts limit text → Exact limit (ExpectedEof c) used rest
     halts h = absurd (accepted_refused t.0 _ _ (sym runs ∙ halts_run limit text h []))
@@ -510,4 +534,4 @@ pub needs_exact : (limit : Option ℕ) (used : List ℕ) (e : ℕ) → All IsSca
 needs_exact limit used e a h f =
     let p = passes limit used e f a in
     p.stands.reached true [] ∙ (run_end (strictly limit) (read_frames p.read) (read_phase p.read)
-        ∙ needs_end limit e h p.read p.is p.passed)
+    ∙ needs_end limit e h p.read p.is p.passed)

@@ -49,10 +49,10 @@ begun limit used token a h = awaits_ready limit h.prefix (all_front h.prefix tok
 
 begun_run : (limit : Option ℕ) (used token rest : List ℕ) (a : All IsScalar used) (h : BeginsAt limit used token) → Begins token →
     run (strictly limit) [] awaited (used ++ rest)
-        ≡ run (strictly limit) (path_frames (begun limit used token a h).path) awaited (token ++ rest)
+    ≡ run (strictly limit) (path_frames (begun limit used token a h).path) awaited (token ++ rest)
 begun_run limit used token rest a h b =
     ap (run (strictly limit) [] awaited) (ap (λ xs. xs ++ rest) h.whole ∙ append_assoc h.prefix token rest)
-        ∙ ready_run limit h.prefix (begun limit used token a h) (token ++ rest) (begins_append token rest b)
+    ∙ ready_run limit h.prefix (begun limit used token a h) (token ++ rest) (begins_append token rest b)
 
 token_exact : (limit : Option ℕ) (k : JsonParseErrorKind) (used token rest : List ℕ) → All IsScalar used → BeginsAt limit used token
     → Begins token →
@@ -65,13 +65,13 @@ string_assoc a b c d = simp append_assoc
 string_exact : (limit : Option ℕ) (k : JsonParseErrorKind) (used : List ℕ) (units : List Piece) (tail rest : List ℕ) → All IsScalar used
     → InString limit used units tail →
     ((fs : List Frame) (cs us : List ℕ) → IsTrue (paired us)
-        → run (strictly limit) fs (quoted Machine.plain cs (us ++ piece_codes units)) (tail ++ rest) ≡ refused k rest)
-        → Exact limit k used rest
+    → run (strictly limit) fs (quoted Machine.plain cs (us ++ piece_codes units)) (tail ++ rest) ≡ refused k rest)
+    → Exact limit k used rest
 string_exact limit k used units tail rest a h g =
     token_exact limit k used _ rest a h.begins (_, _, refl, (refl, refl, refl))
     (λ fs. let o = string_opens limit fs h.pieces units h.are_pieces h.are_paired h.are_units in
     ap (run (strictly limit) fs awaited) (string_assoc (pieces_text h.pieces) (pieces_text units) tail rest)
-        ∙ (o.3 (tail ++ rest) ∙ g fs o.0 o.1 o.2))
+    ∙ (o.3 (tail ++ rest) ∙ g fs o.0 o.1 o.2))
 
 literal_begins : (l : List ℕ) (n : ℕ) (xs : List ℕ) → IsLiteral l → 0 < n → Begins (take n l ++ xs)
 literal_begins l zero xs h k = absurd (omega arith)
@@ -84,7 +84,7 @@ literal_begins l (suc n) xs (inr (inr e)) k = rw e (_, _, refl, (refl, refl, ref
 finish_run : (limit : Option ℕ) (fs : List Frame) (n : Numeral) → has_leading_zero n.integer ≡ false → (k : JsonParseErrorKind)
     → finish (strictly limit) fs n ≡ stop k false → (rest : List ℕ) →
     ((c : ℕ) (more : List ℕ) → rest ≡ c ∷ more → step_digits (strictly limit) fs (last_stage n) n c ≡ None)
-        → run (strictly limit) fs (digits (last_stage n) n) rest ≡ refused k rest
+    → run (strictly limit) fs (digits (last_stage n) n) rest ≡ refused k rest
 unfolding run step end
 finish_run limit fs n z k f [] h = end_finishes (strictly limit) fs n n.fraction n.exponent z ∙ ap end_plain f
 finish_run limit fs n z k f (c ∷ cs) h =
@@ -97,7 +97,7 @@ begins_digit c more rest e h = subst (BeginsWithNone is_ascii_digit) e h
 number_exact : (limit : Option ℕ) (prefix : List ℕ) (r : Ready limit prefix) (n : Numeral) → IsNumeral n
     → has_leading_zero n.integer ≡ false → (used rest : List ℕ) → used ≡ prefix ++ spelling n → BeginsWithNone is_ascii_digit rest →
     ((c : ℕ) (more : List ℕ) → rest ≡ c ∷ more → ¬ IsErrorFree limit (used ++ c ∷ [])) → (k : JsonParseErrorKind)
-        → finish (strictly limit) (path_frames r.path) n ≡ stop k false → Exact limit k used rest
+    → finish (strictly limit) (path_frames r.path) n ≡ stop k false → Exact limit k used rest
 number_exact limit prefix r n h z used rest e d s k f =
     ap (run (strictly limit) [] awaited) (ap (λ xs. xs ++ rest) e ∙ append_assoc prefix (spelling n) rest)
     ∙ (ready_run limit prefix r (spelling n ++ rest) (begins_append (spelling n) rest (text_begins (number n) h))
@@ -183,7 +183,7 @@ same_key j k xs ys e = cc
 key_other : (limit : Option ℕ) (prefix : List ℕ) (r : Ready limit prefix) (s : Syntax) → IsValue s → is_key s ≡ false
     → ((ys : List ℕ) → Ends s ys) → (ms : Members) (fs : List Frame) → path_frames r.path ≡ at_key ms ∷ fs →
     (used rest : List ℕ) → used ≡ prefix ++ text s → All IsScalar used → IsErrorFree limit used
-        → Exact limit (kind.KeyNotString (kind_of (tree_of s))) used rest
+    → Exact limit (kind.KeyNotString (kind_of (tree_of s))) used rest
 key_other limit prefix r s hs nk es ms fs pf used rest e a f = ⊎_elim goes bad (error_free_stands limit used a f)
   where
     free : (ys : List ℕ) → run (strictly None) [] awaited (used ++ ys) ≡ refused (kind.KeyNotString (kind_of (tree_of s))) ys
@@ -199,12 +199,12 @@ key_other limit prefix r s hs nk es ms fs pf used rest e a f = ⊎_elim goes bad
     bad b =
         let i : run (strictly None) [] awaited (b.0 ++ b.1 ∷ []) ≡ refused (kind.KeyNotString b.6) [] =
         b.5.free true (b.1 ∷ []) ∙ run_stop (strictly None) b.3 b.4 b.1 (kind.KeyNotString b.6) true []
-            (wide_stop _ _ b.6 true (wide_step limit b.3 b.4 b.1) b.7) in
+        (wide_stop _ _ b.6 true (wide_step limit b.3 b.4 b.1) b.7) in
         let j : kind_of (tree_of s) ≡ b.6 = same_key _ _ _ _ (sym (free [])
-            ∙ (ap (run (strictly None) [] awaited) (append-nil used ∙ b.2) ∙ i)) in
+        ∙ (ap (run (strictly None) [] awaited) (append-nil used ∙ b.2) ∙ i)) in
         ap (run (strictly limit) [] awaited) (ap (λ xs. xs ++ rest) b.2 ∙ append_assoc b.0 (b.1 ∷ []) rest)
         ∙ (stands_stop limit b.0 b.3 b.4 b.5 b.1 (kind.KeyNotString b.6) true b.7 rest
-            ∙ ap (λ y. refused (kind.KeyNotString y) rest) (sym j))
+        ∙ ap (λ y. refused (kind.KeyNotString y) rest) (sym j))
 
 module _ (limit : Option ℕ) (prefix : List ℕ) (r : Ready limit prefix) (ms : Members) (fs : List Frame)
     (pf : path_frames r.path ≡ at_key ms ∷ fs) (used rest : List ℕ) (a : All IsScalar used) (f : IsErrorFree limit used)
@@ -213,7 +213,7 @@ module _ (limit : Option ℕ) (prefix : List ℕ) (r : Ready limit prefix) (ms :
       → Exact limit (kind.KeyNotString (kind_of (tree_of s))) used rest
   key_at (number n) hs nk e d =
       number_exact limit prefix r n hs.spelled (not-true (has_leading_zero n.integer) hs.strict.0) used rest e d soon
-          (kind.KeyNotString (kind_of (tree.number (value n))))
+      (kind.KeyNotString (kind_of (tree.number (value n))))
       (ap (λ gs. finish (strictly limit) gs n) pf ∙ key_finish limit ms fs n hs.strict.1)
   key_at null hs nk e d = key_other limit prefix r null hs nk (λ ys. tt) ms fs pf used rest e a f
   key_at (boolean b) hs nk e d = key_other limit prefix r (boolean b) hs nk (λ ys. tt) ms fs pf used rest e a f
@@ -224,8 +224,17 @@ module _ (limit : Option ℕ) (prefix : List ℕ) (r : Ready limit prefix) (ms :
   key_at (object ps) hs nk e d = key_other limit prefix r (object ps) hs nk (λ ys. tt) ms fs pf used rest e a f
 
 unlimited : (limit : Option ℕ) (xs : List ℕ) → IsLoose limit xs → IsLoose None xs
-unlimited limit xs h = record { before = h.before; value = h.value; after = h.after; white_before = h.white_before; spelled =
-    h.spelled; white_after = h.white_after; shallow = tt; whole = h.whole }
+unlimited limit xs h = record {
+  before = h.before;
+  value = h.value;
+  after = h.after;
+  white_before = h.white_before;
+  spelled =
+      h.spelled;
+  white_after = h.white_after;
+  shallow = tt;
+  whole = h.whole;
+}
 
 key_exact : (limit : Option ℕ) (used rest : List ℕ) (k : JsonKind) → All IsScalar used → EndsBadKey limit k used rest
     → IsErrorFree limit used → IsLooselyViable limit (used ++ 58 ∷ []) →
@@ -233,7 +242,7 @@ key_exact : (limit : Option ℕ) (used rest : List ℕ) (k : JsonKind) → All I
 unfolding unlimited
 key_exact limit used rest k a (before, w, o, s, ho, hw, hs, hv, nk, kd, ud, aw, eb) f v soon =
     subst (λ j. Exact limit (kind.KeyNotString j) used rest) kd
-        (key_at limit prefix r kf.0 kf.1 kf.2 used rest a f soon s (record { spelled = hs; strict = hv }) nk e eb)
+    (key_at limit prefix r kf.0 kf.1 kf.2 used rest a f soon s (record { spelled = hs; strict = hv }) nk e eb)
   where
     prefix : List ℕ
     prefix = before ++ o ∷ w
@@ -316,12 +325,12 @@ unfolding step
 first_none limit (outside w) hp f c h i n = elim f [ ]
 first_none limit (item_in p [] w) hp f c h i n = ⊎_elim
     (λ e. absurd (n (subst (λ x. IsErrorFree limit (path_text (item_in p [] w) ++ x ∷ [])) (sym (eqb-true c 93 e))
-        (array_error_free limit p w hp))))
+    (array_error_free limit p w hp))))
     (λ (e : (c == 93) ≡ false). rw (h, e) (start_none (strictly limit) (path_frames (item_in p [] w)) c i)) (cases_Bool (c == 93))
 first_none limit (item_in p (e ∷ es) w) hp f c h i n = elim f [ ]
 first_none limit (key_in p [] w) hp f c h i n = ⊎_elim
     (λ e. absurd (n (subst (λ x. IsErrorFree limit (path_text (key_in p [] w) ++ x ∷ [])) (sym (eqb-true c 125 e))
-        (object_error_free limit p w hp))))
+    (object_error_free limit p w hp))))
     (λ (e : (c == 125) ≡ false). rw (h, e) (start_none (strictly limit) (path_frames (key_in p [] w)) c i)) (cases_Bool (c == 125))
 first_none limit (key_in p (q ∷ qs) w) hp f c h i n = elim f [ ]
 first_none limit (value_in p ps a k b w) hp f c h i n = elim f [ ]
@@ -335,9 +344,9 @@ invalid_exact : (limit : Option ℕ) (used : List ℕ) → Ready limit used → 
     → begins_value c ≡ false → ¬ IsErrorFree limit (used ++ c ∷ []) → Exact limit (kind.InvalidCharacter c) used rest
 invalid_exact limit used r c more rest e h i n = left_exact limit used r c more rest (kind.InvalidCharacter c) e (⊎_elim
     (λ g. ap (λ q. step (strictly limit) (path_frames r.path) q c) g
-        ∙ (awaited_start (strictly limit) (path_frames r.path) c h ∙ start_none (strictly limit) (path_frames r.path) c i))
+    ∙ (awaited_start (strictly limit) (path_frames r.path) c h ∙ start_none (strictly limit) (path_frames r.path) c i))
     (λ g. ap (λ q. step (strictly limit) (path_frames r.path) q c) g.0
-        ∙ first_none limit r.path r.is g.1 c h i (subst (λ xs. ¬ IsErrorFree limit (xs ++ c ∷ [])) r.whole n)) r.ready)
+    ∙ first_none limit r.path r.is g.1 c h i (subst (λ xs. ¬ IsErrorFree limit (xs ++ c ∷ [])) r.whole n)) r.ready)
 
 deep_push : (limit : Option ℕ) (fs : List Frame) (f : Frame) (c : ℕ) → (fits limit (length fs) ≡ true → ⊥)
     → push_frame (strictly limit) fs f c ≡ stop (kind.TooDeep c) false
@@ -376,14 +385,14 @@ ended : (limit : Option ℕ) (used : List ℕ) → All IsScalar used → NeedsMo
 ended limit used a (inl h) =
     let r = awaits_ready limit used a h in
     r.stands.reached true [] ∙ (run_end (strictly limit) (path_frames r.path) r.phase
-        ∙ awaited_end (strictly limit) (path_frames r.path) r.phase r.path r.ready)
+    ∙ awaited_end (strictly limit) (path_frames r.path) r.phase r.path r.ready)
 ended limit used a (inr (inl (us, e, b, h))) =
     string_exact limit kind.UnexpectedEof used us e [] a h
-        (λ fs cs vs i. ap (run (strictly limit) fs (quoted Machine.plain cs (vs ++ piece_codes us))) (append-nil e)
-        ∙ escape_ends (strictly limit) fs cs (vs ++ piece_codes us) e b)
+    (λ fs cs vs i. ap (run (strictly limit) fs (quoted Machine.plain cs (vs ++ piece_codes us))) (append-nil e)
+    ∙ escape_ends (strictly limit) fs cs (vs ++ piece_codes us) e b)
 ended limit used a (inr (inr (inl (l, n, h, p, q, b)))) =
     token_exact limit kind.UnexpectedEof used (take n l) [] a b (subst Begins (append-nil (take n l)) (literal_begins l n [] h p))
-        (λ fs. ap (run (strictly limit) fs awaited) (append-nil (take n l)) ∙ literal_ends (strictly limit) fs l n h p q)
+    (λ fs. ap (run (strictly limit) fs awaited) (append-nil (take n l)) ∙ literal_ends (strictly limit) fs l n h p q)
 ended limit used a (inr (inr (inr (inl f)))) = needs_exact limit used 58 a closer_colon f
 ended limit used a (inr (inr (inr (inr (inl f))))) = needs_exact limit used 93 a closer_bracket f
 ended limit used a (inr (inr (inr (inr (inr f))))) = needs_exact limit used 125 a closer_brace f
@@ -397,17 +406,17 @@ exponent_exact : (limit : Option ℕ) (used rest : List ℕ) → All IsScalar us
     → Exact limit kind.EmptyExponent used rest
 exponent_exact limit used rest a (b, ds, f, l, w, i, j, inl (t, d)) =
     token_exact limit kind.EmptyExponent used _ rest a t (numeral_begins b ds (fraction_text f ++ l ∷ []) w.1 w.0)
-        (λ fs. exponent_stops limit fs b ds f l rest w.0 w.1 w.2 i j d)
+    (λ fs. exponent_stops limit fs b ds f l rest w.0 w.1 w.2 i j d)
 exponent_exact limit used rest a (b, ds, f, l, w, i, j, inr (s, m, t, d)) =
     token_exact limit kind.EmptyExponent used _ rest a t (numeral_begins b ds (fraction_text f ++ l ∷ s ∷ []) w.1 w.0)
-        (λ fs. signed_stops limit fs b ds f l s rest w.0 w.1 w.2 i j m d)
+    (λ fs. signed_stops limit fs b ds f l s rest w.0 w.1 w.2 i j m d)
 
 exact : (limit : Option ℕ) (k : JsonParseErrorKind) (used rest : List ℕ) → All IsScalar used → IsRefusal limit k used rest
     → Exact limit k used rest
 exact limit kind.UnexpectedEof used rest a r = subst (Exact limit kind.UnexpectedEof used) (sym r.says.0.0) (ended limit used a r.says.0.1)
 exact limit (kind.InvalidCharacter c) used rest a r =
     invalid_exact limit used (awaits_ready limit used a r.says.1) c r.says.0.0.0 rest r.says.0.0.1 r.says.0.1 r.says.0.2
-        (r.not_too_soon c r.says.0.0.0 r.says.0.0.1)
+    (r.not_too_soon c r.says.0.0.0 r.says.0.0.1)
 exact limit (kind.ExpectedEof c) used rest a r = after_exact limit used rest r.says.0.1.0 c a r.says.0.0 r.says.0.1.1 r.says.0.1.2
     r.says.1.1
 exact limit (kind.KeyNotString k) used rest a r = key_exact limit used rest k a r.says.0 r.says.1.0 r.says.1.1 r.not_too_soon
@@ -418,12 +427,12 @@ exact limit (kind.ExpectedCommaOrBracket c) used rest a r =
     bracket_exact limit used rest c a r.says.0.1 r.says.0.2 r.says.0.3 r.says.1.0 r.says.1.1
 exact limit kind.InvalidUtf16 used rest a r =
     string_exact limit kind.InvalidUtf16 used r.says.0.0 r.says.0.1 rest a r.says.0.4
-        (λ fs cs vs i. run_stops limit fs cs (vs ++ piece_codes r.says.0.0) (unpaired_after vs (piece_codes r.says.0.0) i r.says.0.2)
-        r.says.0.1 rest r.says.0.3)
+    (λ fs cs vs i. run_stops limit fs cs (vs ++ piece_codes r.says.0.0) (unpaired_after vs (piece_codes r.says.0.0) i r.says.0.2)
+    r.says.0.1 rest r.says.0.3)
 exact limit (kind.InvalidHexDigit c) used rest a r =
     string_exact limit (kind.InvalidHexDigit c) used r.says.0.4.0 _ rest a r.says.0.4.1
     (λ fs cs vs i. ap (run (strictly limit) fs (quoted Machine.plain cs (vs ++ piece_codes r.says.0.4.0))) (hex_assoc r.says.0.0 c rest)
-        ∙ hex_stops (strictly limit) fs cs (vs ++ piece_codes r.says.0.4.0) r.says.0.0 c rest r.says.0.1 r.says.0.2 r.says.0.3)
+    ∙ hex_stops (strictly limit) fs cs (vs ++ piece_codes r.says.0.4.0) r.says.0.0 c rest r.says.0.1 r.says.0.2 r.says.0.3)
 exact limit (kind.InvalidEscape c) used rest a r =
     string_exact limit (kind.InvalidEscape c) used r.says.0.0.0 _ rest a r.says.0.0.1
     (λ fs cs vs i. escape_stops (strictly limit) fs cs (vs ++ piece_codes r.says.0.0.0) c rest r.says.0.1 r.says.0.2)
@@ -432,23 +441,23 @@ exact limit (kind.ControlCharacter c) used rest a r =
     (λ fs cs vs i. control_stops (strictly limit) fs cs (vs ++ piece_codes r.says.0.0.0) c rest r.says.0.1)
 exact limit (kind.UnexpectedInLiteral c) used rest a r =
     token_exact limit (kind.UnexpectedInLiteral c) used _ rest a r.says.0.5
-        (literal_begins r.says.0.0 r.says.0.1 (c ∷ []) r.says.0.2 r.says.0.3)
-        (λ fs. literal_stops (strictly limit) fs r.says.0.0 r.says.0.1 c rest r.says.0.2 r.says.0.3 r.says.0.4 r.says.0.6)
+    (literal_begins r.says.0.0 r.says.0.1 (c ∷ []) r.says.0.2 r.says.0.3)
+    (λ fs. literal_stops (strictly limit) fs r.says.0.0 r.says.0.1 c rest r.says.0.2 r.says.0.3 r.says.0.4 r.says.0.6)
 exact limit kind.EmptyInteger used rest a r = token_exact limit kind.EmptyInteger used _ rest a r.says.0.0 (_, _, refl, (refl, refl, refl))
     (λ fs. minus_stops (strictly limit) fs rest r.says.0.1)
 exact limit kind.LeadingZero used rest a r =
     token_exact limit kind.LeadingZero used _ rest a r.says.0.4
-        (subst (λ xs. Begins (minus_text r.says.0.0 ++ xs)) (append-nil r.says.0.1)
-        (numeral_begins r.says.0.0 r.says.0.1 [] (has_some_digit r.says.0.1 r.says.0.2) r.says.0.3))
+    (subst (λ xs. Begins (minus_text r.says.0.0 ++ xs)) (append-nil r.says.0.1)
+    (numeral_begins r.says.0.0 r.says.0.1 [] (has_some_digit r.says.0.1 r.says.0.2) r.says.0.3))
     (λ fs. zero_stops limit fs r.says.0.0 r.says.0.1 rest r.says.0.2 r.says.0.3 r.says.0.5)
 exact limit kind.EmptyFraction used rest a r =
     token_exact limit kind.EmptyFraction used _ rest a r.says.0.3
-        (numeral_begins r.says.0.0 r.says.0.1 (46 ∷ []) r.says.0.2.1 r.says.0.2.0)
-        (λ fs. fraction_stops limit fs r.says.0.0 r.says.0.1 rest r.says.0.2.0 r.says.0.2.1 r.says.0.2.2 r.says.0.4)
+    (numeral_begins r.says.0.0 r.says.0.1 (46 ∷ []) r.says.0.2.1 r.says.0.2.0)
+    (λ fs. fraction_stops limit fs r.says.0.0 r.says.0.1 rest r.says.0.2.0 r.says.0.2.1 r.says.0.2.2 r.says.0.4)
 exact limit kind.EmptyExponent used rest a r = exponent_exact limit used rest a r.says.0
 exact limit kind.NumberOutOfRange used rest a r =
     number_exact limit r.says.0.4.prefix (begun limit used (spelling r.says.0.0) a r.says.0.4) r.says.0.0 r.says.0.1 r.says.0.2 used rest
-        r.says.0.4.whole r.says.0.5 r.not_too_soon kind.NumberOutOfRange
+    r.says.0.4.whole r.says.0.5 r.not_too_soon kind.NumberOutOfRange
     (range_finish limit (path_frames (begun limit used (spelling r.says.0.0) a r.says.0.4).path) r.says.0.0 r.says.0.3)
 exact limit kind.OutOfMemory used rest a r = absurd r.says
 exact limit (kind.TooDeep c) used rest a r = deep_exact limit used (awaits_ready limit used a r.says.1) c r.says.0.0.0 rest r.says.0.0.1

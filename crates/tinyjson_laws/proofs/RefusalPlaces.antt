@@ -46,7 +46,7 @@ module _ (limit : Option ℕ) where
   wide_start : (fs : List Frame) (c : ℕ) → Wide (start (strictly limit) fs c) (start (strictly None) fs c)
   wide_start fs c =
       wide_cond (c == 110) _ _ _ _ (wide _) (wide_cond (c == 116) _ _ _ _ (wide _)
-          (wide_cond (c == 102) _ _ _ _ (wide _) (wide_cond (c == 34) _ _ _ _ (wide _)
+      (wide_cond (c == 102) _ _ _ _ (wide _) (wide_cond (c == 34) _ _ _ _ (wide _)
       (wide_cond (c == 91) _ _ _ _ (wide_push _ c _) (wide_cond (c == 123) _ _ _ _ (wide_push _ c _) (wide _))))))
 
   wide_first : (fs : List Frame) (c : ℕ) → Wide (step_first (strictly limit) fs c) (step_first (strictly None) fs c)
@@ -174,7 +174,7 @@ travel limit zs [] a used fs q s e = inl (fs, q, subst (λ xs. Stands limit xs f
 travel limit zs (c ∷ cs) a used fs q s e =
     travel_on limit zs c cs (a 0 0 (omega arith)) used fs q s e (step (strictly limit) fs q c) refl
     (λ gs p i. travel limit zs cs (λ k d l. a (suc k) d (omega (arith, l))) (used ++ c ∷ []) gs p i (e
-        ∙ sym (append_assoc used (c ∷ []) cs)))
+    ∙ sym (append_assoc used (c ∷ []) cs)))
 
 pub goes_or_halts : (limit : Option ℕ) (xs : List ℕ) → All IsScalar xs → Goes limit xs ⊎ Halts limit xs
 goes_or_halts limit xs a = travel limit xs xs a [] [] awaited (stands_start limit) refl
@@ -248,7 +248,7 @@ line_literal limit fs l (m ∷ ls) t h ys u e = no_text _ _ u (rw h at e)
 
 line_ends : (limit : Option ℕ) (p : Path) (n : Numeral) (ys : List ℕ) (t : Tree) →
     Machine.go_on (λ gs q. run (loosely limit) gs q (34 ∷ ys)) (then_step (loosely limit) (finish (loosely limit) (path_frames p) n) 10)
-        (10 ∷ 34 ∷ ys) (34 ∷ ys) ≡ accepted t → ⊥
+    (10 ∷ 34 ∷ ys) (34 ∷ ys) ≡ accepted t → ⊥
 unfolding run step
 line_ends limit (outside w) n ys t e = no_text _ _ t e
 line_ends limit (item_in p es w) n ys t e = no_text _ _ t e
@@ -323,12 +323,12 @@ awaits_ready limit xs a h = ⊎_elim goes bad (error_free_stands limit xs a h.0)
     bad b =
         let e : run (loosely limit) b.3 b.4 (b.1 ∷ 10 ∷ 34 ∷ h.1.0) ≡ accepted t =
         sym (b.5.reached false (b.1 ∷ 10 ∷ 34 ∷ h.1.0))
-            ∙ (sym (ap (run (loosely limit) [] awaited) (ap (λ zs. zs ++ 10 ∷ 34 ∷ h.1.0) b.2
-            ∙ append_assoc b.0 (b.1 ∷ []) (10 ∷ 34 ∷ h.1.0))) ∙ runs) in
+        ∙ (sym (ap (run (loosely limit) [] awaited) (ap (λ zs. zs ++ 10 ∷ 34 ∷ h.1.0) b.2
+        ∙ append_assoc b.0 (b.1 ∷ []) (10 ∷ 34 ∷ h.1.0))) ∙ runs) in
         absurd (⊎_elim
         (λ i. no_text _ _ t (sym (run_stop (loosely limit) b.3 b.4 b.1 _ true (10 ∷ 34 ∷ h.1.0) i) ∙ e))
         (λ i. line_colon limit i.0 i.1 i.2 h.1.0 t
-            (sym (run_next (loosely limit) b.3 (at_key i.1 ∷ i.0) b.4 (colon i.2) b.1 (10 ∷ 34 ∷ h.1.0) i.3) ∙ e))
+        (sym (run_next (loosely limit) b.3 (at_key i.1 ∷ i.0) b.4 (colon i.2) b.1 (10 ∷ 34 ∷ h.1.0) i.3) ∙ e))
         (strict_key limit b.3 b.4 b.1 b.6 b.7))
 
 -- a value that begins there is awaited

@@ -135,9 +135,13 @@ open_pieces limit fs cs us (escape c ∷ ps) h i =
     let d = unwrap_or (short_escape c) 0 in
     let n = escape_no_surrogate c d e in
     let g = paired_parts us d (piece_codes ps) n i in
-    let o = open_pieces limit fs ((cs ++ decode us) ++ d ∷ []) [] ps h.1 g.1 in
-    (o.0, o.1, o.2, λ xs. ap (λ x. go_on (λ gs q. run (strictly limit) gs q (pieces_text ps ++ xs))
-        (step_escape (strictly limit) fs cs us c x) (c ∷ (pieces_text ps ++ xs)) (pieces_text ps ++ xs)) e ∙ rw g.0 (o.3 xs))
+    let o = open_pieces limit fs ((cs ++ decode us) ++ d ∷ []) [] ps h.1 g.1 in (
+      o.0,
+      o.1,
+      o.2,
+      λ xs. ap (λ x. go_on (λ gs q. run (strictly limit) gs q (pieces_text ps ++ xs))
+          (step_escape (strictly limit) fs cs us c x) (c ∷ (pieces_text ps ++ xs)) (pieces_text ps ++ xs)) e ∙ rw g.0 (o.3 xs),
+    )
 open_pieces limit fs cs us (unit a b c d ∷ ps) h i =
     let u = unit_value a b c d in
     let o = open_pieces limit fs cs (us ++ u ∷ []) ps h.1 (rw (append_assoc us (u ∷ []) (piece_codes ps)) i) in
@@ -152,14 +156,14 @@ open_units r fs cs us (escape c ∷ ps) h xs = elim h [ ]
 open_units r fs cs us (unit a b c d ∷ ps) h xs =
     let u = unit_value a b c d in
     rw (h.0.0, h.0.1, h.0.2, h.0.3) (open_units r fs cs (us ++ u ∷ []) ps h.1 xs
-        ∙ ap (λ vs. run r fs (quoted Machine.plain cs vs) xs) (append_assoc us (u ∷ []) (piece_codes ps)))
+    ∙ ap (λ vs. run r fs (quoted Machine.plain cs vs) xs) (append_assoc us (u ∷ []) (piece_codes ps)))
 
 -- the state after a string that was begun
 abbrev pub StringOpens : Option ℕ → List Frame → List Piece → List Piece → Type 0
 StringOpens limit fs ps qs =
     (ds vs : List ℕ) × IsTrue (paired vs) × ((xs : List ℕ)
-        → run (strictly limit) fs awaited (34 ∷ (pieces_text ps ++ (pieces_text qs ++ xs)))
-        ≡ run (strictly limit) fs (quoted Machine.plain ds (vs ++ piece_codes qs)) xs)
+    → run (strictly limit) fs awaited (34 ∷ (pieces_text ps ++ (pieces_text qs ++ xs)))
+    ≡ run (strictly limit) fs (quoted Machine.plain ds (vs ++ piece_codes qs)) xs)
 
 pub string_opens : (limit : Option ℕ) (fs : List Frame) (ps qs : List Piece) → ArePieces ps → IsTrue (paired (piece_codes ps))
     → AreUnits qs → StringOpens limit fs ps qs
@@ -280,7 +284,7 @@ module _ (limit : Option ℕ) (fs : List Frame) where
   -- the letter of an exponent after a number without one
   letter_goes : (b : Bool) (ds f : List ℕ) (l : ℕ) (xs : List ℕ) → has_leading_zero ds ≡ false → IsTrue (is_exponent_letter l) →
       run (strictly limit) fs (digits (stage_of f None) (numeral b ds f None)) (l ∷ xs)
-          ≡ run (strictly limit) fs (digits Machine.letter (with_exponent (numeral b ds f None) l)) xs
+      ≡ run (strictly limit) fs (digits Machine.letter (with_exponent (numeral b ds f None) l)) xs
   unfolding run step
   letter_goes b ds [] l xs z h = rw (letter_no_digit l h, z, letter_no_point l h, h) refl
   letter_goes b ds (x ∷ f) l xs z h = rw (letter_no_digit l h, h) refl
@@ -291,7 +295,7 @@ module _ (limit : Option ℕ) (fs : List Frame) where
   to_letter : (b : Bool) (ds f : List ℕ) (l : ℕ) (xs : List ℕ) → AreDigits ds → 0 < length ds → has_leading_zero ds ≡ false → AreDigits f
       → IsTrue (is_exponent_letter l) →
       run (strictly limit) fs awaited (minus_text b ++ (ds ++ (fraction_text f ++ l ∷ xs)))
-          ≡ run (strictly limit) fs (digits Machine.letter (with_exponent (numeral b ds f None) l)) xs
+      ≡ run (strictly limit) fs (digits Machine.letter (with_exponent (numeral b ds f None) l)) xs
   to_letter b ds f l xs h i z j k =
       ap (run (strictly limit) fs awaited) (regroup (minus_text b) ds (fraction_text f) (l ∷ xs))
       ∙ (run_spelling (strictly limit) fs (numeral b ds f None) (l ∷ xs) (plain_numeral b ds f h i j) z ∙ letter_goes b ds f l xs z k)
@@ -324,7 +328,7 @@ module _ (limit : Option ℕ) (fs : List Frame) where
       rw (regroup (minus_text b) ds (fraction_text f) rest)
       (to_letter b ds f l (s ∷ rest) h i z j k
       ∙ (letter_signed (strictly limit) fs (with_exponent (numeral b ds f None) l) s rest m
-          ∙ sign_stops (strictly limit) fs (with_sign (with_exponent (numeral b ds f None) l) s) rest e))
+      ∙ sign_stops (strictly limit) fs (with_sign (with_exponent (numeral b ds f None) l) s) rest e))
     where
       regroup : (m w g ys : List ℕ) → (m ++ (w ++ (g ++ l ∷ s ∷ []))) ++ ys ≡ m ++ (w ++ (g ++ l ∷ s ∷ ys))
       regroup m w g ys = simp append_assoc
@@ -356,7 +360,7 @@ ends_or limit p hp b (x ∷ w) [] None h z c d = ⊎_elim point (λ i. ⊎_elim 
     point : (c == 46) ≡ true → EndsOr limit p (numeral b (x ∷ w) [] None) c
     point i = inr (subst (λ y. IsErrorFree limit ((path_text p ++ spelling (numeral b (x ∷ w) [] None)) ++ y ∷ [])) (sym (eqb-true c 46 i))
         (subst (IsErrorFree limit) (point_more (path_text p) (minus_text b) (x ∷ w))
-            (error_free_point ranges limit p hp b x w (h.integer, z))))
+        (error_free_point ranges limit p hp b x w (h.integer, z))))
 
     letter : is_exponent_letter c ≡ true → EndsOr limit p (numeral b (x ∷ w) [] None) c
     letter i = inr (subst (IsErrorFree limit) (letter_more (path_text p) (minus_text b) (x ∷ w) [] c)

@@ -45,7 +45,7 @@ paired_is (u ∷ v ∷ us) = by (is_high u && is_low v) (paired_is us) (paired_i
     by : (b : Bool) → paired us ≡ not (list_any is_lone (utf16_chars us)) → paired (v ∷ us) ≡ not (list_any is_lone (utf16_chars (v ∷ us)))
         →
         cond b (paired us) (not (is_surrogate u) && paired (v ∷ us))
-            ≡ not (list_any is_lone (cond b (Some (pair_of u v) ∷ utf16_chars us) (lone_unit_char u ∷ utf16_chars (v ∷ us))))
+        ≡ not (list_any is_lone (cond b (Some (pair_of u v) ∷ utf16_chars us) (lone_unit_char u ∷ utf16_chars (v ∷ us))))
     by true h g = h
     by false h g =
         let rest = list_any is_lone (utf16_chars (v ∷ us)) in
@@ -61,7 +61,7 @@ decoded_is (u ∷ v ∷ us) h = by (is_high u && is_low v) h (λ g. decoded_is u
         → (IsTrue (paired us) → utf16_chars us ≡ map Some (decode us))
         → (IsTrue (paired (v ∷ us)) → utf16_chars (v ∷ us) ≡ map Some (decode (v ∷ us))) →
         cond b (Some (pair_of u v) ∷ utf16_chars us) (lone_unit_char u ∷ utf16_chars (v ∷ us))
-            ≡ map Some (cond b (pair_of u v ∷ decode us) (u ∷ decode (v ∷ us)))
+        ≡ map Some (cond b (pair_of u v ∷ decode us) (u ∷ decode (v ∷ us)))
     by true h f g = ap (λ xs. Some (pair_of u v) ∷ xs) (f h)
     by false h f g = let k = and_parts _ _ h in ap (λ o. o ∷ utf16_chars (v ∷ us)) (alone u k.0) ∙ ap (λ xs. Some u ∷ xs) (g k.1)
 

@@ -59,7 +59,7 @@ exponent_scalars (Some e) h = and_from _ _ (letter_scalar e.letter h.letter)
 numeral_scalars : (n : Numeral) → IsNumeral n → IsTrue (all_scalars (spelling n))
 numeral_scalars n h = scalars_append (minus_text n.negative) _ (minus_scalars n.negative)
     (scalars_append n.integer _ (digits_scalars n.integer h.integer)
-        (scalars_append (fraction_text n.fraction) _ (fraction_scalars n.fraction h.fraction) (exponent_scalars n.exponent h.exponent)))
+    (scalars_append (fraction_text n.fraction) _ (fraction_scalars n.fraction h.fraction) (exponent_scalars n.exponent h.exponent)))
 
 piece_scalars : (p : Piece) → IsPiece p → IsTrue (all_scalars (piece_text p))
 piece_scalars (plain c) h = and_from _ _ h.0 refl
@@ -96,4 +96,4 @@ mutual
   pairs_scalars (pair a k b c s d ps) h = scalars_append a _ (white_scalars a h.0)
       (scalars_append (text k) _ (text_of_scalars k h.1) (scalars_append b _ (white_scalars b h.2)
       (scalars_append c _ (white_scalars c h.3) (scalars_append (text s) _ (text_of_scalars s h.4)
-          (scalars_append d _ (white_scalars d h.5) (pairs_scalars ps h.6))))))
+      (scalars_append d _ (white_scalars d h.5) (pairs_scalars ps h.6))))))

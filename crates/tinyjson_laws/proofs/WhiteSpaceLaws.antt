@@ -68,13 +68,16 @@ sign_text_stays (Some c) h = (sign_stays c h, tt)
 
 exponent_stays : (e : Option Exponent) → IfSome e IsExponent → AllStay (exponent_text e)
 exponent_stays None h = tt
-exponent_stays (Some e) h = (letter_stays e.letter h.letter, stay_join (sign_text e.sign) e.digits (sign_text_stays e.sign h.sign)
-    (digits_stay e.digits h.digits))
+exponent_stays (Some e) h = (
+  letter_stays e.letter h.letter,
+  stay_join (sign_text e.sign) e.digits (sign_text_stays e.sign h.sign)
+      (digits_stay e.digits h.digits),
+)
 
 numeral_stays : (n : Numeral) → IsNumeral n → AllStay (spelling n)
 numeral_stays n h = stay_join (minus_text n.negative) _ (minus_stays n.negative)
     (stay_join n.integer _ (digits_stay n.integer h.integer)
-        (stay_join (fraction_text n.fraction) _ (fraction_stays n.fraction h.fraction) (exponent_stays n.exponent h.exponent)))
+    (stay_join (fraction_text n.fraction) _ (fraction_stays n.fraction h.fraction) (exponent_stays n.exponent h.exponent)))
 
 -- ---- strings stay
 
@@ -116,7 +119,7 @@ mutual
   value_kept (array es) xs h =
       ap (λ z. 91 ∷ kept_from outside z) (append_assoc (elements_text es) (93 ∷ []) xs)
       ∙ ap (λ z. 91 ∷ z) (elements_kept es (93 ∷ xs) h
-          ∙ sym (append_assoc (elements_text (bare_elements es)) (93 ∷ []) (kept_from outside xs)))
+      ∙ sym (append_assoc (elements_text (bare_elements es)) (93 ∷ []) (kept_from outside xs)))
   value_kept (empty_object w) xs h = ap (λ z. 123 ∷ kept_from outside z) (append_assoc w (125 ∷ []) xs)
       ∙ ap (λ z. 123 ∷ z) (white_goes w (125 ∷ xs) h)
   value_kept (object ps) xs h =
@@ -132,7 +135,7 @@ mutual
   elements_kept (element v s w es) xs h =
       ap (kept_from outside) (element_assoc v (text s) w (elements_text es) xs)
       ∙ white_goes v _ h.0 ∙ value_kept s _ h.1 ∙ ap (λ z. text (bare_value s) ++ z) (white_goes w _ h.2
-          ∙ ap (λ z. 44 ∷ z) (elements_kept es xs h.3))
+      ∙ ap (λ z. 44 ∷ z) (elements_kept es xs h.3))
       ∙ sym (element_assoc [] (text (bare_value s)) [] (elements_text (bare_elements es)) (kept_from outside xs))
 
   pairs_kept : (ps : Pairs) (xs : List ℕ) → ArePairs ps
@@ -140,13 +143,13 @@ mutual
   pairs_kept (last_pair a k b c s d) xs h =
       ap (kept_from outside) (last_pair_assoc a (text k) b c (text s) d xs)
       ∙ white_goes a _ h.0 ∙ value_kept k _ h.1 ∙ ap (λ z. text (bare_value k) ++ z) (white_goes b _ h.2
-          ∙ ap (λ z. 58 ∷ z) (white_goes c _ h.3 ∙ value_kept s _ h.4 ∙ ap (λ z. text (bare_value s) ++ z) (white_goes d xs h.5)))
+      ∙ ap (λ z. 58 ∷ z) (white_goes c _ h.3 ∙ value_kept s _ h.4 ∙ ap (λ z. text (bare_value s) ++ z) (white_goes d xs h.5)))
       ∙ sym (last_pair_assoc [] (text (bare_value k)) [] [] (text (bare_value s)) [] (kept_from outside xs))
   pairs_kept (pair a k b c s d ps) xs h =
       ap (kept_from outside) (pair_assoc a (text k) b c (text s) d (pairs_text ps) xs)
       ∙ white_goes a _ h.0 ∙ value_kept k _ h.1 ∙ ap (λ z. text (bare_value k) ++ z) (white_goes b _ h.2
-          ∙ ap (λ z. 58 ∷ z) (white_goes c _ h.3 ∙ value_kept s _ h.4
-          ∙ ap (λ z. text (bare_value s) ++ z) (white_goes d _ h.5 ∙ ap (λ z. 44 ∷ z) (pairs_kept ps xs h.6))))
+      ∙ ap (λ z. 58 ∷ z) (white_goes c _ h.3 ∙ value_kept s _ h.4
+      ∙ ap (λ z. text (bare_value s) ++ z) (white_goes d _ h.5 ∙ ap (λ z. 44 ∷ z) (pairs_kept ps xs h.6))))
       ∙ sym (pair_assoc [] (text (bare_value k)) [] [] (text (bare_value s)) [] (pairs_text (bare_pairs ps)) (kept_from outside xs))
 
 -- ---- texts
@@ -162,9 +165,18 @@ text_without_white limit xs l =
 pub white_removed : WhiteRemoved
 white_removed limit xs t h =
     let l = h.loose in record {
-      loose = record { before = []; value = bare_value l.value; after = []; white_before = tt; spelled =
-          bare_spelled l.value l.spelled; white_after = tt; shallow = rw (bare_depth l.value) l.shallow; whole =
-          text_without_white limit xs l ∙ sym (append-nil (text (bare_value l.value))) };
+      loose = record {
+        before = [];
+        value = bare_value l.value;
+        after = [];
+        white_before = tt;
+        spelled =
+            bare_spelled l.value l.spelled;
+        white_after = tt;
+        shallow = rw (bare_depth l.value) l.shallow;
+        whole =
+            text_without_white limit xs l ∙ sym (append-nil (text (bare_value l.value)));
+      };
       strict = subst (λ T. T) (sym (bare_strict power_width l.value)) h.strict;
       tree = h.tree ∙ sym (bare_tree l.value);
     }

@@ -23,8 +23,11 @@ pub same_compact : SameCompact
 same_compact t u h j = (one_compact t u h j, λ e. ap written.compact e)
 
 pub same_indented : SameIndented
-same_indented t u indent i h j = (from_text t u _ _ (indented_reads_back t indent i h) (indented_reads_back u indent i j), λ e. ap
-    (λ v. written.indented v indent 0) e)
+same_indented t u indent i h j = (
+  from_text t u _ _ (indented_reads_back t indent i h) (indented_reads_back u indent i j),
+  λ e. ap
+      (λ v. written.indented v indent 0) e,
+)
 
 pub limit_kept : LimitKept
 limit_kept limit xs t indent i h = (rewritten power_width limit xs t None tt h, rewritten power_width limit xs t (Some indent) i h)
@@ -38,14 +41,17 @@ pub compact_within : CompactWithin
 compact_within t n h = (tree_within power_width (Some n) (written.compact t) t, written_text power_width (Some n) None 0 t tt h)
 
 pub indented_within : IndentedWithin
-indented_within t indent n i h = (tree_within power_width (Some n) (written.indented t indent 0) t, written_text power_width (Some n)
-    (Some indent) 0 t i h)
+indented_within t indent n i h = (
+  tree_within power_width (Some n) (written.indented t indent 0) t,
+  written_text power_width (Some n)
+      (Some indent) 0 t i h,
+)
 
 pub texts_are_utf8 : TextsAreUtf8
 texts_are_utf8 limit xs t h =
     let l = h.loose in
     let s : IsTrue _ = rw l.whole (scalars_append l.before _ (white_scalars l.before l.white_before)
-        (scalars_append (text l.value) l.after (text_of_scalars l.value l.spelled) (white_scalars l.after l.white_after))) in
+    (scalars_append (text l.value) l.after (text_of_scalars l.value l.spelled) (white_scalars l.after l.white_after))) in
     (s, (xs, (s, refl)))
 
 pub compact_is_utf8 : CompactIsUtf8

@@ -39,7 +39,7 @@ fraction_digits r fs g w f (d ∷ ds) xs h = rw h.0 (rw (append_assoc f (d ∷ [
 
 exponent_digits : (r : Rules) (fs : List Frame) (g : Bool) (w f : List ℕ) (l : ℕ) (s : Option ℕ) (es ds xs : List ℕ) → AreDigits ds →
     run r fs (digits exponent (numeral g w f (power l s es))) (ds ++ xs)
-        ≡ run r fs (digits exponent (numeral g w f (power l s (es ++ ds)))) xs
+    ≡ run r fs (digits exponent (numeral g w f (power l s (es ++ ds)))) xs
 unfolding run step
 exponent_digits r fs g w f l s es [] xs h = rw (append-nil es)
 exponent_digits r fs g w f l s es (d ∷ ds) xs h = rw h.0
@@ -60,7 +60,7 @@ power_digits : (r : Rules) (fs : List Frame) (g : Bool) (w f : List ℕ) (l : �
     → 0 < length ds →
     IfSome s (λ c. IsTrue ((c == 43) || (c == 45))) →
     run r fs (digits letter (numeral g w f (power l None []))) ((sign_text s ++ ds) ++ xs)
-        ≡ run r fs (digits exponent (numeral g w f (power l s ds))) xs
+    ≡ run r fs (digits exponent (numeral g w f (power l s ds))) xs
 unfolding run step
 power_digits r fs g w f l None [] xs h p hs = absurd (omega arith)
 power_digits r fs g w f l (Some c) [] xs h p hs = absurd (omega arith)
@@ -80,13 +80,13 @@ last_stage n = stage_of n.fraction n.exponent
 
 from_letter : (r : Rules) (fs : List Frame) (g : Bool) (w f : List ℕ) (e : Exponent) (xs : List ℕ) → IsExponent e →
     run r fs (digits letter (numeral g w f (power e.letter None []))) ((sign_text e.sign ++ e.digits) ++ xs)
-        ≡ run r fs (digits exponent (numeral g w f (Some e))) xs
+    ≡ run r fs (digits exponent (numeral g w f (Some e))) xs
 from_letter r fs g w f e xs he = power_digits r fs g w f e.letter e.sign e.digits xs he.digits he.some_digit he.sign
 
 from_fraction : (r : Rules) (fs : List Frame) (g : Bool) (w : List ℕ) (d : ℕ) (ds : List ℕ) (e : Option Exponent) (xs : List ℕ)
     → IfSome e IsExponent →
     run r fs (digits fraction (numeral g w (d ∷ ds) None)) (exponent_text e ++ xs)
-        ≡ run r fs (digits (stage_of (d ∷ ds) e) (numeral g w (d ∷ ds) e)) xs
+    ≡ run r fs (digits (stage_of (d ∷ ds) e) (numeral g w (d ∷ ds) e)) xs
 unfolding run step
 from_fraction r fs g w d ds None xs he = refl
 from_fraction r fs g w d ds (Some e) xs he = rw (letter_no_digit e.letter he.letter, he.letter) (from_letter r fs g w (d ∷ ds) e xs he)
@@ -94,7 +94,7 @@ from_fraction r fs g w d ds (Some e) xs he = rw (letter_no_digit e.letter he.let
 from_integer : (r : Rules) (fs : List Frame) (g : Bool) (w f : List ℕ) (e : Option Exponent) (xs : List ℕ) → AreDigits f
     → IfSome e IsExponent → (r.strict && has_leading_zero w) ≡ false →
     run r fs (digits integer (numeral g w [] None)) (fraction_text f ++ (exponent_text e ++ xs))
-        ≡ run r fs (digits (stage_of f e) (numeral g w f e)) xs
+    ≡ run r fs (digits (stage_of f e) (numeral g w f e)) xs
 unfolding run step
 from_integer r fs g w [] None xs hf he h = refl
 from_integer r fs g w [] (Some e) xs hf he h =
@@ -110,14 +110,24 @@ run_integer r fs true [] xs h p = absurd (omega (arith, p))
 run_integer r fs false [] xs h p = absurd (omega (arith, p))
 run_integer r fs true (c ∷ cs) xs h p = rw h.0 (integer_digits r fs true (c ∷ []) cs xs h.1)
 run_integer r fs false (c ∷ cs) xs h p =
-    rw (digit_not_white c h.0, digit_is_not c 110 h.0 refl, digit_is_not c 116 h.0 refl, digit_is_not c 102 h.0 refl, digit_is_not c 34 h.0
-        refl, digit_is_not c 91 h.0 refl, digit_is_not c 123 h.0 refl, digit_is_not c 45 h.0 refl, h.0)
+    rw (
+      digit_not_white c h.0,
+      digit_is_not c 110 h.0 refl,
+      digit_is_not c 116 h.0 refl,
+      digit_is_not c 102 h.0 refl,
+      digit_is_not c 34 h.0
+          refl,
+      digit_is_not c 91 h.0 refl,
+      digit_is_not c 123 h.0 refl,
+      digit_is_not c 45 h.0 refl,
+      h.0,
+    )
     (integer_digits r fs false (c ∷ []) cs xs h.1)
 
 from_first : (r : Rules) (fs : List Frame) (g : Bool) (w f : List ℕ) (e : Option Exponent) (xs : List ℕ) →
     IsNumeral (numeral g w f e) → (r.strict && has_leading_zero w) ≡ false →
     run r fs awaited (minus_text g ++ (w ++ (fraction_text f ++ (exponent_text e ++ xs))))
-        ≡ run r fs (digits (stage_of f e) (numeral g w f e)) xs
+    ≡ run r fs (digits (stage_of f e) (numeral g w f e)) xs
 from_first r fs g w f e xs hn h = run_integer r fs g w (fraction_text f ++ (exponent_text e ++ xs)) hn.integer hn.some_digit
     ∙ from_integer r fs g w f e xs hn.fraction hn.exponent h
 
@@ -157,5 +167,5 @@ run_numeral r fs n xs hn h d =
     let z = fine_zero r n.integer (λ e. (h e).0) in
     run_spelling r fs n xs hn z
     ∙ numeral_ends r fs (last_stage n) n xs (λ c hc. none_follows r fs n n.fraction n.exponent c z hc)
-        (end_finishes r fs n n.fraction n.exponent z)
+    (end_finishes r fs n n.fraction n.exponent z)
     (and_false r.strict (not (in_range (value n))) (λ e. ap not (h e).1)) d

@@ -39,7 +39,7 @@ settle_complete r b (at_value ms k ∷ fs) t c xs = refl
 -- a character after a complete numeral
 ends_cond : (r : Rules) (b : Bool) (k : JsonParseErrorKind) (fs : List Frame) (l : List ℕ) (c : ℕ) (xs : List ℕ) →
     go_on (λ gs q. run r gs q xs) (then_step r (cond b (stop k false) (next fs (colon l))) c) (c ∷ xs) xs
-        ≡ settle r (cond b (stop k true) (next fs (colon l))) (c ∷ xs)
+    ≡ settle r (cond b (stop k true) (next fs (colon l))) (c ∷ xs)
 unfolding run step
 ends_cond r true k fs l c xs = refl
 ends_cond r false k fs l c xs = refl

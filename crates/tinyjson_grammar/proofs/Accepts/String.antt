@@ -89,7 +89,7 @@ plain_no_control c h = grind arith
 run_pieces : (r : Rules) (fs : List Frame) (cs us : List ℕ) (ps : List Piece) (xs : List ℕ) → ArePieces ps
     → (r.strict && not (paired (us ++ piece_codes ps))) ≡ false →
     run r fs (quoted plain cs us) (pieces_text ps ++ 34 ∷ xs)
-        ≡ settle r (complete r.strict fs (Tree.string (cs ++ decode (us ++ piece_codes ps))) true) xs
+    ≡ settle r (complete r.strict fs (Tree.string (cs ++ decode (us ++ piece_codes ps))) true) xs
 unfolding run step
 run_pieces r fs cs us [] xs h f =
     let f' : (r.strict && not (paired us)) ≡ false = rw (append-nil us) at f in
@@ -98,14 +98,14 @@ run_pieces r fs cs us (Piece.plain c ∷ ps) xs h f =
     let n = scalar_no_surrogate c h.0.0 in
     let g = fine_parts r.strict us c (piece_codes ps) n f in
     rw (plain_no_quote c h.0.2, plain_no_backslash c h.0.2, plain_no_control c h.0.1, g.0, ← append_codes cs us c (piece_codes ps) n)
-        (run_pieces r fs ((cs ++ decode us) ++ c ∷ []) [] ps xs h.1 g.1)
+    (run_pieces r fs ((cs ++ decode us) ++ c ∷ []) [] ps xs h.1 g.1)
 run_pieces r fs cs us (Piece.escape c ∷ ps) xs h f =
     let e = some_unwrap (short_escape c) h.0 in
     let d = unwrap_or (short_escape c) 0 in
     let n = escape_no_surrogate c d e in
     let g = fine_parts r.strict us d (piece_codes ps) n f in
     ap (λ o. go_on (λ gs q. run r gs q (pieces_text ps ++ 34 ∷ xs)) (step_escape r fs cs us c o) (c ∷ (pieces_text ps ++ 34 ∷ xs))
-        (pieces_text ps ++ 34 ∷ xs)) e
+    (pieces_text ps ++ 34 ∷ xs)) e
     ∙ rw (g.0, ← append_codes cs us d (piece_codes ps) n) (run_pieces r fs ((cs ++ decode us) ++ d ∷ []) [] ps xs h.1 g.1)
 run_pieces r fs cs us (Piece.unit a b c d ∷ ps) xs h f =
     let u = unit_value a b c d in
@@ -115,7 +115,7 @@ run_pieces r fs cs us (Piece.unit a b c d ∷ ps) xs h f =
 pub run_string : (r : Rules) (fs : List Frame) (ps : List Piece) (xs : List ℕ) → ArePieces ps
     → (r.strict ≡ true → IsTrue (paired (piece_codes ps))) →
     run r fs awaited ((34 ∷ (pieces_text ps ++ 34 ∷ [])) ++ xs)
-        ≡ settle r (complete r.strict fs (Tree.string (decode (piece_codes ps))) true) xs
+    ≡ settle r (complete r.strict fs (Tree.string (decode (piece_codes ps))) true) xs
 unfolding run step
 run_string r fs ps xs h f = rw (append_assoc (pieces_text ps) (34 ∷ []) xs)
     (run_pieces r fs [] [] ps xs h (and_false r.strict _ (λ e. ap not (f e))))

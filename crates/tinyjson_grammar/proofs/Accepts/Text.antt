@@ -21,7 +21,7 @@ pub run_text : (b : Bool) (limit : Option ℕ) (xs : List ℕ) (l : IsLoose limi
 run_text b limit xs l h = rw l.whole
     (run_white (rules b limit) [] l.before _ l.white_before
     ∙ run_value l.value (rules b limit) [] l.after l.spelled h (within_le limit _ _ l.shallow (omega arith))
-        (ends l.value l.after (white_delimited l.after l.white_after))
+    (ends l.value l.after (white_delimited l.after l.white_after))
     ∙ finished_white (rules b limit) [] (tree_of l.value) l.after l.white_after)
 
 pub text_accepted : (limit : Option ℕ) (xs : List ℕ) (t : Tree) → IsText limit xs t → run (rules true limit) [] awaited xs ≡ accepted t

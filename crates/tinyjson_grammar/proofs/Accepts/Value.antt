@@ -139,7 +139,7 @@ fine_key r k h = rw (string_key k) (and_false r.strict (not (is_key k)) (λ e. a
 pub key_and_colon : (r : Rules) (ms : tree.Members) (fs : List Frame) (k : Syntax) (b xs : List ℕ) → (r.strict ≡ true → IsTrue (is_key k))
     → AreWhite b →
     settle r (complete r.strict (at_key ms ∷ fs) (tree_of k) true) (b ++ 58 ∷ xs)
-        ≡ run r (at_value ms (tree.key_of (tree_of k)) ∷ fs) awaited xs
+    ≡ run r (at_value ms (tree.key_of (tree_of k)) ∷ fs) awaited xs
 unfolding run step
 key_and_colon r ms fs k b xs f h = rw (fine_key r k f) (colon_white r (at_key ms ∷ fs) (tree.key_of (tree_of k)) b (58 ∷ xs) h)
 
@@ -156,19 +156,25 @@ mutual
   run_value (string ps) r fs xs h f m d = run_string r fs ps xs h f
   run_value (empty_array w) r fs xs h f m d = rw (append_assoc w (93 ∷ []) xs, fits_within r.limit (length fs) 0 m)
       (first_white r (in_array [] ∷ fs) w (93 ∷ xs) h ∙ settle_complete r r.strict fs (tree.array tree.no_items) 93 xs)
-  run_value (array es) r fs xs h f m d = rw (append_assoc (elements_text es) (93 ∷ []) xs, fits_within r.limit (length fs)
-      (elements_depth es) m)
+  run_value (array es) r fs xs h f m d = rw (
+    append_assoc (elements_text es) (93 ∷ []) xs,
+    fits_within r.limit (length fs)
+        (elements_depth es) m,
+  )
       (first_elements r [] fs es (93 ∷ xs) h ∙ run_elements es r [] fs xs h f (within_le r.limit _ _ m (omega arith)))
   run_value (empty_object w) r fs xs h f m d = rw (append_assoc w (125 ∷ []) xs, fits_within r.limit (length fs) 0 m)
       (first_white r (at_key tree.no_members ∷ fs) w (125 ∷ xs) h ∙ settle_complete r r.strict fs (tree.object tree.no_members) 125 xs)
-  run_value (object ps) r fs xs h f m d = rw (append_assoc (pairs_text ps) (125 ∷ []) xs, fits_within r.limit (length fs) (pairs_depth ps)
-      m)
+  run_value (object ps) r fs xs h f m d = rw (
+    append_assoc (pairs_text ps) (125 ∷ []) xs,
+    fits_within r.limit (length fs) (pairs_depth ps)
+        m,
+  )
       (first_pairs r tree.no_members fs ps (125 ∷ xs) h ∙ run_pairs ps r tree.no_members fs xs h f (within_le r.limit _ _ m (omega arith)))
 
   run_elements : (es : Elements) (r : Rules) (ts : List tree.Tree) (fs : List Frame) (xs : List ℕ) → AreElements es
       → (r.strict ≡ true → ElementsAreStrict es) → FitsDepth r (in_array ts ∷ fs) (elements_depth es) →
       run r (in_array ts ∷ fs) awaited (elements_text es ++ 93 ∷ xs)
-          ≡ settle r (complete r.strict fs (tree.array (tree.items_of (ts ++ elements_trees es))) true) xs
+      ≡ settle r (complete r.strict fs (tree.array (tree.items_of (ts ++ elements_trees es))) true) xs
   run_elements (last_element v s w) r ts fs xs h f m = rw (last_element_assoc v (text s) w (93 ∷ xs))
       (run_white r (in_array ts ∷ fs) v _ h.0
       ∙ run_value s r (in_array ts ∷ fs) (w ++ 93 ∷ xs) h.1 f m (ends s _ (delimited_white w (93 ∷ xs) h.2 refl))
@@ -177,32 +183,32 @@ mutual
   run_elements (element v s w es) r ts fs xs h f m = rw (element_assoc v (text s) w (elements_text es) (93 ∷ xs))
       (run_white r (in_array ts ∷ fs) v _ h.0
       ∙ run_value s r (in_array ts ∷ fs) (w ++ 44 ∷ (elements_text es ++ 93 ∷ xs)) h.1 (λ e. (f e).0)
-          (within_le r.limit _ _ m (omega arith)) (ends s _ (delimited_white w _ h.2 refl))
+      (within_le r.limit _ _ m (omega arith)) (ends s _ (delimited_white w _ h.2 refl))
       ∙ after_white r (in_array (ts ++ tree_of s ∷ []) ∷ fs) w (44 ∷ (elements_text es ++ 93 ∷ xs)) h.2
       ∙ rw (append_assoc ts (tree_of s ∷ []) (elements_trees es)) at
-          (run_elements es r (ts ++ tree_of s ∷ []) fs xs h.3 (λ e. (f e).1) (within_le r.limit _ _ m (omega arith))))
+      (run_elements es r (ts ++ tree_of s ∷ []) fs xs h.3 (λ e. (f e).1) (within_le r.limit _ _ m (omega arith))))
 
   run_pairs : (ps : Pairs) (r : Rules) (ms : tree.Members) (fs : List Frame) (xs : List ℕ) → ArePairs ps
       → (r.strict ≡ true → PairsAreStrict ps) → FitsDepth r (at_key ms ∷ fs) (pairs_depth ps) →
       run r (at_key ms ∷ fs) awaited (pairs_text ps ++ 125 ∷ xs)
-          ≡ settle r (complete r.strict fs (tree.object (pairs_members ms ps)) true) xs
+      ≡ settle r (complete r.strict fs (tree.object (pairs_members ms ps)) true) xs
   run_pairs (last_pair a k b c s d) r ms fs xs h f m = rw (last_pair_assoc a (text k) b c (text s) d (125 ∷ xs))
       (run_white r (at_key ms ∷ fs) a _ h.0
       ∙ run_value k r (at_key ms ∷ fs) _ h.1 (λ e. (f e).1) (within_le r.limit _ _ m (omega arith))
-          (ends k _ (delimited_white b (58 ∷ _) h.2 refl))
+      (ends k _ (delimited_white b (58 ∷ _) h.2 refl))
       ∙ key_and_colon r ms fs k b _ (λ e. (f e).0) h.2
       ∙ run_white r (at_value ms (tree.key_of (tree_of k)) ∷ fs) c _ h.3
       ∙ run_value s r (at_value ms (tree.key_of (tree_of k)) ∷ fs) (d ++ 125 ∷ xs) h.4 (λ e. (f e).2)
-          (within_le r.limit _ _ m (omega arith)) (ends s _ (delimited_white d (125 ∷ xs) h.5 refl))
+      (within_le r.limit _ _ m (omega arith)) (ends s _ (delimited_white d (125 ∷ xs) h.5 refl))
       ∙ after_white r (at_key (tree.put (tree.key_of (tree_of k)) (tree_of s) ms) ∷ fs) d (125 ∷ xs) h.5
       ∙ settle_complete r r.strict fs (tree.object (tree.put (tree.key_of (tree_of k)) (tree_of s) ms)) 125 xs)
   run_pairs (pair a k b c s d ps) r ms fs xs h f m = rw (pair_assoc a (text k) b c (text s) d (pairs_text ps) (125 ∷ xs))
       (run_white r (at_key ms ∷ fs) a _ h.0
       ∙ run_value k r (at_key ms ∷ fs) _ h.1 (λ e. (f e).1) (within_le r.limit _ _ m (omega arith))
-          (ends k _ (delimited_white b (58 ∷ _) h.2 refl))
+      (ends k _ (delimited_white b (58 ∷ _) h.2 refl))
       ∙ key_and_colon r ms fs k b _ (λ e. (f e).0) h.2
       ∙ run_white r (at_value ms (tree.key_of (tree_of k)) ∷ fs) c _ h.3
       ∙ run_value s r (at_value ms (tree.key_of (tree_of k)) ∷ fs) (d ++ 44 ∷ (pairs_text ps ++ 125 ∷ xs)) h.4 (λ e. (f e).2)
-          (within_le r.limit _ _ m (omega arith)) (ends s _ (delimited_white d _ h.5 refl))
+      (within_le r.limit _ _ m (omega arith)) (ends s _ (delimited_white d _ h.5 refl))
       ∙ after_white r (at_key (tree.put (tree.key_of (tree_of k)) (tree_of s) ms) ∷ fs) d (44 ∷ (pairs_text ps ++ 125 ∷ xs)) h.5
       ∙ run_pairs ps r (tree.put (tree.key_of (tree_of k)) (tree_of s) ms) fs xs h.6 (λ e. (f e).3) (within_le r.limit _ _ m (omega arith)))

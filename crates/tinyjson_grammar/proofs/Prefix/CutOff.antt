@@ -30,10 +30,10 @@ run_elements_before [] r ts fs xs h m = rw (append-nil ts)
 run_elements_before (e ∷ es) r ts fs xs h m = rw (element_before_assoc e.before (text e.value) e.after (elements_before es) xs)
     (run_white r (in_array ts ∷ fs) e.before _ h.0.before
     ∙ run_value e.value r (in_array ts ∷ fs) _ h.0.value.spelled (λ s. h.0.value.strict) (within_le r.limit _ _ m (omega arith))
-        (ends e.value _ (delimited_white e.after (44 ∷ _) h.0.after refl))
+    (ends e.value _ (delimited_white e.after (44 ∷ _) h.0.after refl))
     ∙ after_white r (in_array (ts ++ tree_of e.value ∷ []) ∷ fs) e.after (44 ∷ _) h.0.after
     ∙ rw (append_assoc ts (tree_of e.value ∷ []) (trees_of es)) at
-        (run_elements_before es r (ts ++ tree_of e.value ∷ []) fs xs h.1 (within_le r.limit _ _ m (omega arith))))
+    (run_elements_before es r (ts ++ tree_of e.value ∷ []) fs xs h.1 (within_le r.limit _ _ m (omega arith))))
 
 run_pairs_before : (ps : List Pair) (r : Rules) (ms : tree.Members) (fs : List Frame) (xs : List ℕ) → ArePairsBefore ps
     → FitsDepth r (at_key ms ∷ fs) (pairs_deepest ps) →
@@ -44,11 +44,11 @@ run_pairs_before (p ∷ ps) r ms fs xs h m = rw (pair_before_assoc p.before_key 
     (pairs_before ps) xs)
     (run_white r (at_key ms ∷ fs) p.before_key _ h.0.before_key
     ∙ run_value p.key r (at_key ms ∷ fs) _ h.0.key.spelled (λ e. h.0.key.strict) (within_le r.limit _ _ m (omega arith))
-        (ends p.key _ (delimited_white p.after_key (58 ∷ _) h.0.after_key refl))
+    (ends p.key _ (delimited_white p.after_key (58 ∷ _) h.0.after_key refl))
     ∙ key_and_colon r ms fs p.key p.after_key _ (λ e. h.0.is_key) h.0.after_key
     ∙ run_white r (at_value ms (tree.key_of (tree_of p.key)) ∷ fs) p.before _ h.0.before
     ∙ run_value p.value r (at_value ms (tree.key_of (tree_of p.key)) ∷ fs) _ h.0.value.spelled (λ e. h.0.value.strict)
-        (within_le r.limit _ _ m (omega arith)) (ends p.value _ (delimited_white p.after (44 ∷ _) h.0.after refl))
+    (within_le r.limit _ _ m (omega arith)) (ends p.value _ (delimited_white p.after (44 ∷ _) h.0.after refl))
     ∙ after_white r (at_key (tree.put (tree.key_of (tree_of p.key)) (tree_of p.value) ms) ∷ fs) p.after (44 ∷ _) h.0.after
     ∙ run_pairs_before ps r (tree.put (tree.key_of (tree_of p.key)) (tree_of p.value) ms) fs xs h.1 (within_le r.limit _ _ m (omega arith)))
 
@@ -60,7 +60,7 @@ begin_array (e ∷ es) w r fs xs h hw b = rw (element_before_assoc e.before (tex
 
 begin_object : (ps : List Pair) (w : List ℕ) (r : Rules) (fs : List Frame) (xs : List ℕ) → ArePairsBefore ps → AreWhite w → Begins xs →
     run r (at_key tree.no_members ∷ fs) first (pairs_before ps ++ (w ++ xs))
-        ≡ run r (at_key tree.no_members ∷ fs) awaited (pairs_before ps ++ (w ++ xs))
+    ≡ run r (at_key tree.no_members ∷ fs) awaited (pairs_before ps ++ (w ++ xs))
 begin_object [] w r fs xs h hw b = first_object r tree.no_members fs w xs hw b
 begin_object (p ∷ ps) w r fs xs h hw b = rw (pair_before_assoc p.before_key (text p.key) p.after_key p.before (text p.value) p.after
     (pairs_before ps) (w ++ xs))
@@ -73,7 +73,7 @@ open_array : (es : List Element) (w : List ℕ) (r : Rules) (fs : List Frame) (x
 unfolding run step
 open_array es w r fs xs h hw b d m = rw (fits_within r.limit (length fs) (max (elements_deepest es) d) m)
     (begin_array es w r fs xs h hw b ∙ run_elements_before es r [] fs (w ++ xs) h (within_le r.limit _ _ m (omega arith))
-        ∙ run_white r (in_array (trees_of es) ∷ fs) w xs hw)
+    ∙ run_white r (in_array (trees_of es) ∷ fs) w xs hw)
 
 open_object : (ps : List Pair) (w : List ℕ) (r : Rules) (fs : List Frame) (xs : List ℕ) → ArePairsBefore ps → AreWhite w → Begins xs
     → (d : ℕ) → FitsDepth r fs (1 + max (pairs_deepest ps) d) →
@@ -81,7 +81,7 @@ open_object : (ps : List Pair) (w : List ℕ) (r : Rules) (fs : List Frame) (xs 
 unfolding run step
 open_object ps w r fs xs h hw b d m = rw (fits_within r.limit (length fs) (max (pairs_deepest ps) d) m)
     (begin_object ps w r fs xs h hw b ∙ run_pairs_before ps r tree.no_members fs (w ++ xs) h (within_le r.limit _ _ m (omega arith))
-        ∙ run_white r (at_key (members_from tree.no_members ps) ∷ fs) w xs hw)
+    ∙ run_white r (at_key (members_from tree.no_members ps) ∷ fs) w xs hw)
 
 -- ---- the bad key
 
@@ -152,7 +152,7 @@ with_bad_key (in_member ps w k v u b) r fs h m =
       reads = λ ys. rw (member_assoc (pairs_before ps) w (pieces_text k) v u (cut_off_text b) ys)
           (open_object ps w r fs _ h.0 h.1 (_, _, refl, (refl, refl, refl)) (cut_off_depth b) m
           ∙ run_value (string k) r (at_key ms ∷ fs) (v ++ 58 ∷ (u ++ (cut_off_text b ++ ys))) h.2 (λ e. h.3)
-              (within_le r.limit _ _ m (omega arith)) tt
+          (within_le r.limit _ _ m (omega arith)) tt
           ∙ key_and_colon r ms fs (string k) v _ (λ e. refl) h.4
           ∙ run_white r (at_value ms (decode (piece_codes k)) ∷ fs) u _ h.5
           ∙ i.reads ys);

@@ -48,7 +48,7 @@ cut_off_error_free limit (value_in p ps a k v w) hp b hb hd =
     let kp = key_pieces k hp.4 hp.3 in
     subst (IsCutOffText limit) (rw kp.3 (simp append_assoc))
     (cut_off_error_free limit p hp.0 (in_member ps a kp.0 v w b) (hp.1, hp.2, kp.1, kp.2, hp.5, hp.6, hb)
-        (within_max limit _ _ _ hp.7 hd (omega arith)))
+    (within_max limit _ _ _ hp.7 hd (omega arith)))
 
 -- a key that is not a string ends the text
 abbrev pub IsPlaced : Path → Syntax → List ℕ → Type 0
@@ -69,10 +69,13 @@ item_value es w s v h hw hs hv = record { spelled = items_spelled es w s v h hw 
 
 abbrev pub pair_value : (ps : List Pair) (a : List ℕ) (k : Syntax) (b c : List ℕ) (s : Syntax) (d : List ℕ) →
     ArePairsBefore ps → AreWhite a → IsKey k → IsValue k → AreWhite b → AreWhite c → IsValue s → AreWhite d
-        → IsValue (object (pairs_with ps a k b c s d))
+    → IsValue (object (pairs_with ps a k b c s d))
 pair_value ps a k b c s d h ha i hk hb hc hs hd =
-    record { spelled = pairs_spelled ps a k b c s d h ha hk.spelled hb hc hs.spelled hd; strict =
-        pairs_strict ps a k b c s d h i hk.strict hs.strict }
+    record {
+      spelled = pairs_spelled ps a k b c s d h ha hk.spelled hb hc hs.spelled hd;
+      strict =
+          pairs_strict ps a k b c s d h i hk.strict hs.strict;
+    }
 
 pub with_bad_key : (limit : Option ℕ) (p : Path) (ps : List Pair) (w : List ℕ) → IsPath limit (key_in p ps w) → (s : Syntax) → IsValue s
     → IsWithin limit (suc (level p) + depth s) → is_key s ≡ false →
@@ -91,8 +94,17 @@ error_free limit (outside w) hp s hs hd v hv hk = (
   inl (
     tree_of s,
     record {
-      loose = record { before = w; value = s; after = v; white_before = hp; spelled = hs.spelled; white_after = hv; shallow =
-          within_le limit _ _ hd (omega arith); whole = simp append-nil };
+      loose = record {
+        before = w;
+        value = s;
+        after = v;
+        white_before = hp;
+        spelled = hs.spelled;
+        white_after = hv;
+        shallow =
+            within_le limit _ _ hd (omega arith);
+        whole = simp append-nil;
+      };
       strict = hs.strict;
       tree = refl;
     },
@@ -100,20 +112,20 @@ error_free limit (outside w) hp s hs hd v hv hk = (
 )
 error_free limit (item_in p es w) hp s hs hd v hv hk =
     error_free_from limit (path_text (item_in p es w) ++ (text s ++ v)) (93 ∷ [])
-        (path_text p ++ (text (array (items_with es w s v)) ++ [])) (simp (text_of_items, append_assoc, append-nil))
+    (path_text p ++ (text (array (items_with es w s v)) ++ [])) (simp (text_of_items, append_assoc, append-nil))
     (error_free limit p hp.0 (array (items_with es w s v)) (item_value es w s v hp.1 hp.2 hs hv)
-        (within_max limit _ _ _ hp.3 hd (rw (depth_of_items es w s v) (omega arith))) [] tt (placed p _))
+    (within_max limit _ _ _ hp.3 hd (rw (depth_of_items es w s v) (omega arith))) [] tt (placed p _))
 error_free limit (key_in p ps w) hp s hs hd v hv (inl hk) =
     error_free_from limit (path_text (key_in p ps w) ++ (text s ++ v)) (58 ∷ 110 ∷ 117 ∷ 108 ∷ 108 ∷ 125 ∷ [])
-        (path_text p ++ (text (object (pairs_with ps w s v [] null [])) ++ [])) (simp (text_of_pairs, append_assoc, append-nil))
+    (path_text p ++ (text (object (pairs_with ps w s v [] null [])) ++ [])) (simp (text_of_pairs, append_assoc, append-nil))
     (error_free limit p hp.0 (object (pairs_with ps w s v [] null []))
-        (pair_value ps w s v [] null [] hp.1 hp.2 hk hs hv tt (record { spelled = tt; strict = tt }) tt)
+    (pair_value ps w s v [] null [] hp.1 hp.2 hk hs hv tt (record { spelled = tt; strict = tt }) tt)
     (within_max limit _ _ _ hp.3 hd (rw (depth_of_pairs ps w s v [] null []) (omega arith))) [] tt (placed p _))
 error_free limit (key_in p ps w) hp s hs hd v hv (inr hk) =
     error_free_from limit (path_text (key_in p ps w) ++ (text s ++ v)) [] (path_text (key_in p ps w) ++ text s)
     (rw hk.1 (simp (append_assoc, append-nil))) (with_bad_key limit p ps w hp s hs hd hk.0)
 error_free limit (value_in p ps a k b w) hp s hs hd v hv hk =
     error_free_from limit (path_text (value_in p ps a k b w) ++ (text s ++ v)) (125 ∷ [])
-        (path_text p ++ (text (object (pairs_with ps a k b w s v)) ++ [])) (simp (text_of_pairs, append_assoc, append-nil))
+    (path_text p ++ (text (object (pairs_with ps a k b w s v)) ++ [])) (simp (text_of_pairs, append_assoc, append-nil))
     (error_free limit p hp.0 (object (pairs_with ps a k b w s v)) (pair_value ps a k b w s v hp.1 hp.2 hp.4 hp.3 hp.5 hp.6 hs hv)
     (within_max limit _ _ _ hp.7 hd (rw (depth_of_pairs ps a k b w s v) (rw (key_depth k hp.4) (omega arith)))) [] tt (placed p _))

@@ -79,9 +79,9 @@ same_quoted : (limit : Option ℕ) (fs : List Frame) (w : Within) (cs us : List 
     → Same (step_quoted (rules true limit) fs w cs us c) (step_quoted (rules false limit) fs w cs us c)
 same_quoted limit fs plain cs us c =
     same_cond (c == 34) _ _ _ _ (same_own (not (paired us)) InvalidUtf16 true _ _ refl (λ e. tt)
-        (same_complete fs (string (cs ++ decode us)) true))
+    (same_complete fs (string (cs ++ decode us)) true))
     (same_cond (c == 92) _ _ _ _ (same _) (same_cond (nat_lt c 32) _ _ _ _ (same _)
-        (same_own (not (paired us)) InvalidUtf16 true _ _ refl (λ e. tt) (same _))))
+    (same_own (not (paired us)) InvalidUtf16 true _ _ refl (λ e. tt) (same _))))
 same_quoted limit fs backslash cs us c = same_escape limit fs cs us c (short_escape c)
 same_quoted limit fs (hex ds) cs us c = same _
 

@@ -91,7 +91,7 @@ zero_more (a ∷ b ∷ w) d h = h
 zero_keeps : (b : Bool) (r : Rules) (fs : List Frame) (n m : Numeral) (t : tree.Tree) (c : ℕ) (cs : List ℕ)
     → (run r fs (digits integer m) cs ≡ accepted t → ⊥) →
     go_on (λ gs q. run r gs q cs) (unless_ended r fs n c (cond b (Some (next fs (digits integer m))) (Some (stop LeadingZero false))))
-        (c ∷ cs) cs ≡ accepted t → ⊥
+    (c ∷ cs) cs ≡ accepted t → ⊥
 zero_keeps true r fs n m t c cs g e = g e
 zero_keeps false r fs n m t c cs g e = cc
 
@@ -102,7 +102,7 @@ zero_unviable [] r fs n t h z e = no_text _ _ t (rw (h, z) at e)
 zero_unviable (c ∷ cs) r fs n t h z e =
     let b : (r.strict && has_leading_zero n.integer) ≡ true = rw (h, z) in
     zero_keeps (is_ascii_digit c) r fs n (record n { integer = n.integer ++ c ∷ [] }) t c cs
-        (zero_unviable cs r fs (record n { integer = n.integer ++ c ∷ [] }) t h (zero_more n.integer c z)) (rw b at e)
+    (zero_unviable cs r fs (record n { integer = n.integer ++ c ∷ [] }) t h (zero_more n.integer c z)) (rw b at e)
 
 -- ---- a key that is not a string
 
@@ -118,7 +118,7 @@ cut_off_key limit xs h = with_bad_key h.cut_off (rules true limit) [] h.is_cut_o
 
 cut_off_reads : (limit : Option ℕ) (xs : List ℕ) (h : IsCutOffText limit xs) (ys : List ℕ) →
     run (rules true limit) [] awaited (xs ++ ys) ≡ run (rules true limit)
-        (at_key (cut_off_key limit xs h).members ∷ (cut_off_key limit xs h).frames) awaited (text (cut_off_key limit xs h).key ++ ys)
+    (at_key (cut_off_key limit xs h).members ∷ (cut_off_key limit xs h).frames) awaited (text (cut_off_key limit xs h).key ++ ys)
 cut_off_reads limit xs h ys = ap (λ zs. run (rules true limit) [] awaited (zs ++ ys)) h.whole
     ∙ rw (append_assoc h.before (cut_off_text h.cut_off) ys) (run_white (rules true limit) [] h.before _ h.white_before
     ∙ (cut_off_key limit xs h).reads ys)

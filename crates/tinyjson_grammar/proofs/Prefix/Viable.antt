@@ -22,35 +22,92 @@ use Rattle.tinyjson_grammar.proofs.Trace.State.{white_loosely, are_pieces_append
 
 pub part_ending : (n : Part) → IsPart n → Ending (part_text n)
 part_ending part_minus h =
-    record { value = Syntax.number (numeral true (48 ∷ []) [] None); spelled =
-        record { integer = (refl, tt); some_digit = omega arith; fraction = tt; exponent = tt }; flat = refl; rest = 48 ∷ []; whole = refl }
+    record {
+      value = Syntax.number (numeral true (48 ∷ []) [] None);
+      spelled =
+          record { integer = (refl, tt); some_digit = omega arith; fraction = tt; exponent = tt };
+      flat = refl;
+      rest = 48 ∷ [];
+      whole = refl;
+    }
 part_ending (part_integer b d ds) h =
-    record { value = Syntax.number (numeral b (d ∷ ds) [] None); spelled =
-        record { integer = h; some_digit = omega arith; fraction = tt; exponent = tt }; flat = refl; rest = []; whole =
-        ap (λ xs. minus_text b ++ d ∷ xs) (append-nil ds) ∙ sym (append-nil (minus_text b ++ d ∷ ds)) }
+    record {
+      value = Syntax.number (numeral b (d ∷ ds) [] None);
+      spelled =
+          record { integer = h; some_digit = omega arith; fraction = tt; exponent = tt };
+      flat = refl;
+      rest = [];
+      whole =
+          ap (λ xs. minus_text b ++ d ∷ xs) (append-nil ds) ∙ sym (append-nil (minus_text b ++ d ∷ ds));
+    }
 part_ending (part_point b d ds) h =
-    record { value = Syntax.number (numeral b (d ∷ ds) (48 ∷ []) None); spelled =
-        record { integer = h.0; some_digit = omega arith; fraction = (refl, tt); exponent = tt }; flat = refl; rest = 48 ∷ []; whole =
-        simp append_assoc }
+    record {
+      value = Syntax.number (numeral b (d ∷ ds) (48 ∷ []) None);
+      spelled =
+          record { integer = h.0; some_digit = omega arith; fraction = (refl, tt); exponent = tt };
+      flat = refl;
+      rest = 48 ∷ [];
+      whole =
+          simp append_assoc;
+    }
 part_ending (part_fraction b d ds e es) h =
-    record { value = Syntax.number (numeral b (d ∷ ds) (e ∷ es) None); spelled =
-        record { integer = h.0.0; some_digit = omega arith; fraction = h.1; exponent = tt }; flat = refl; rest = []; whole =
-        simp (append_assoc, append-nil) }
+    record {
+      value = Syntax.number (numeral b (d ∷ ds) (e ∷ es) None);
+      spelled =
+          record { integer = h.0.0; some_digit = omega arith; fraction = h.1; exponent = tt };
+      flat = refl;
+      rest = [];
+      whole =
+          simp (append_assoc, append-nil);
+    }
 part_ending (part_letter b d ds f l) h =
-    record { value = Syntax.number (numeral b (d ∷ ds) f (Some (exponent_with l None (48 ∷ [])))); spelled =
-        record { integer = h.0.0; some_digit = omega arith; fraction = h.1; exponent =
-        record { letter = h.2; sign = tt; digits = (refl, tt); some_digit = omega arith } }; flat = refl; rest = 48 ∷ []; whole =
-        simp append_assoc }
+    record {
+      value = Syntax.number (numeral b (d ∷ ds) f (Some (exponent_with l None (48 ∷ []))));
+      spelled =
+          record {
+            integer = h.0.0;
+            some_digit = omega arith;
+            fraction = h.1;
+            exponent =
+                record { letter = h.2; sign = tt; digits = (refl, tt); some_digit = omega arith };
+          };
+      flat = refl;
+      rest = 48 ∷ [];
+      whole =
+          simp append_assoc;
+    }
 part_ending (part_sign b d ds f l s) h =
-    record { value = Syntax.number (numeral b (d ∷ ds) f (Some (exponent_with l (Some s) (48 ∷ [])))); spelled =
-        record { integer = h.0.0; some_digit = omega arith; fraction = h.1; exponent =
-        record { letter = h.2; sign = h.3; digits = (refl, tt); some_digit = omega arith } }; flat = refl; rest = 48 ∷ []; whole =
-        simp append_assoc }
+    record {
+      value = Syntax.number (numeral b (d ∷ ds) f (Some (exponent_with l (Some s) (48 ∷ []))));
+      spelled =
+          record {
+            integer = h.0.0;
+            some_digit = omega arith;
+            fraction = h.1;
+            exponent =
+                record { letter = h.2; sign = h.3; digits = (refl, tt); some_digit = omega arith };
+          };
+      flat = refl;
+      rest = 48 ∷ [];
+      whole =
+          simp append_assoc;
+    }
 part_ending (part_exponent b d ds f l s e es) h =
-    record { value = Syntax.number (numeral b (d ∷ ds) f (Some (exponent_with l s (e ∷ es)))); spelled =
-        record { integer = h.0.0; some_digit = omega arith; fraction = h.1; exponent =
-        record { letter = h.2; sign = h.3; digits = h.4; some_digit = omega arith } }; flat = refl; rest = []; whole =
-        simp (append_assoc, append-nil) }
+    record {
+      value = Syntax.number (numeral b (d ∷ ds) f (Some (exponent_with l s (e ∷ es))));
+      spelled =
+          record {
+            integer = h.0.0;
+            some_digit = omega arith;
+            fraction = h.1;
+            exponent =
+                record { letter = h.2; sign = h.3; digits = h.4; some_digit = omega arith };
+          };
+      flat = refl;
+      rest = [];
+      whole =
+          simp (append_assoc, append-nil);
+    }
 
 -- the piece that was begun, completed
 pub record Last (wi : Within) : Type 0 where
@@ -62,14 +119,34 @@ pub record Last (wi : Within) : Type 0 where
 pub last_piece : (wi : Within) → IsPartWithin wi → Last wi
 last_piece Machine.plain h = record { pieces = []; are = tt; rest = []; whole = refl }
 last_piece Machine.backslash h = record { pieces = Piece.escape 34 ∷ []; are = (refl, tt); rest = 34 ∷ []; whole = refl }
-last_piece (Machine.hex []) h = record { pieces = unit 48 48 48 48 ∷ []; are = ((refl, refl, refl, refl), tt); rest =
-    48 ∷ 48 ∷ 48 ∷ 48 ∷ []; whole = refl }
-last_piece (Machine.hex (a ∷ [])) h = record { pieces = unit a 48 48 48 ∷ []; are = ((h.0.0, refl, refl, refl), tt); rest =
-    48 ∷ 48 ∷ 48 ∷ []; whole = refl }
-last_piece (Machine.hex (a ∷ b ∷ [])) h = record { pieces = unit a b 48 48 ∷ []; are = ((h.0.0, h.0.1.0, refl, refl), tt); rest =
-    48 ∷ 48 ∷ []; whole = refl }
-last_piece (Machine.hex (a ∷ b ∷ c ∷ [])) h = record { pieces = unit a b c 48 ∷ []; are = ((h.0.0, h.0.1.0, h.0.1.1.0, refl), tt); rest =
-    48 ∷ []; whole = refl }
+last_piece (Machine.hex []) h = record {
+  pieces = unit 48 48 48 48 ∷ [];
+  are = ((refl, refl, refl, refl), tt);
+  rest =
+      48 ∷ 48 ∷ 48 ∷ 48 ∷ [];
+  whole = refl;
+}
+last_piece (Machine.hex (a ∷ [])) h = record {
+  pieces = unit a 48 48 48 ∷ [];
+  are = ((h.0.0, refl, refl, refl), tt);
+  rest =
+      48 ∷ 48 ∷ 48 ∷ [];
+  whole = refl;
+}
+last_piece (Machine.hex (a ∷ b ∷ [])) h = record {
+  pieces = unit a b 48 48 ∷ [];
+  are = ((h.0.0, h.0.1.0, refl, refl), tt);
+  rest =
+      48 ∷ 48 ∷ [];
+  whole = refl;
+}
+last_piece (Machine.hex (a ∷ b ∷ c ∷ [])) h = record {
+  pieces = unit a b c 48 ∷ [];
+  are = ((h.0.0, h.0.1.0, h.0.1.1.0, refl), tt);
+  rest =
+      48 ∷ [];
+  whole = refl;
+}
 last_piece (Machine.hex (a ∷ b ∷ c ∷ d ∷ ds)) h = absurd (omega (arith, h.1))
 
 pub quoted_ending : (ps : List Piece) (qs : List Quad) (wi : Within) → ArePieces ps → ArePieces (quads qs) → IsPartWithin wi
@@ -129,8 +206,16 @@ signs_late (Some c) h = (sign_late c h, tt)
 
 pub quads_late : (qs : List Quad) → ArePieces (quads qs) → AreLate (pieces_text (quads qs))
 quads_late [] h = tt
-quads_late (q ∷ qs) h = (refl, (refl, (hex_late q.a h.0.0,
-    (hex_late q.b h.0.1, (hex_late q.c h.0.2, (hex_late q.d h.0.3, quads_late qs h.1))))))
+quads_late (q ∷ qs) h = (
+  refl,
+  (
+    refl,
+    (
+      hex_late q.a h.0.0,
+      (hex_late q.b h.0.1, (hex_late q.c h.0.2, (hex_late q.d h.0.3, quads_late qs h.1))),
+    ),
+  ),
+)
 
 pub within_late : (wi : Within) → IsPartWithin wi → AreLate (within_text wi)
 within_late Machine.plain h = tt
@@ -151,8 +236,11 @@ module _ (ranges : Ranges) where
       record {
         exponent = r.0;
         error_free = error_free limit p hp s
-            (record { spelled = record { integer = h.0; some_digit = omega arith; fraction = i; exponent = r.1 }; strict =
-                (rw h.1 refl, r.2) }) (flat_within limit p s hp refl) [] tt (placed p s);
+            (record {
+              spelled = record { integer = h.0; some_digit = omega arith; fraction = i; exponent = r.1 };
+              strict =
+                  (rw h.1 refl, r.2);
+            }) (flat_within limit p s hp refl) [] tt (placed p s);
       }
 
   pub error_free_number : (limit : Option ℕ) (p : Path) → IsPath limit p → (b : Bool) (d : ℕ) (ds f : List ℕ) → IsIntegerPart d ds
@@ -161,18 +249,18 @@ module _ (ranges : Ranges) where
   error_free_number limit p hp b d ds f h i =
       let n : Numbered limit p b (d ∷ ds) f = numbered limit p hp b d ds f h i in
       error_free_from limit (path_text p ++ (minus_text b ++ d ∷ (ds ++ fraction_text f))) (exponent_text (Some n.exponent)) _
-          (simp (append_assoc, append-nil)) n.error_free
+      (simp (append_assoc, append-nil)) n.error_free
 
   pub error_free_minus : (limit : Option ℕ) (p : Path) → IsPath limit p → IsErrorFree limit (path_text p ++ 45 ∷ [])
   error_free_minus limit p hp =
       error_free_from limit (path_text p ++ 45 ∷ []) (48 ∷ []) (path_text p ++ 45 ∷ 48 ∷ []) (simp append_assoc)
-          (error_free_number limit p hp true 48 [] [] ((refl, tt), refl) tt)
+      (error_free_number limit p hp true 48 [] [] ((refl, tt), refl) tt)
 
   pub error_free_point : (limit : Option ℕ) (p : Path) → IsPath limit p → (b : Bool) (d : ℕ) (ds : List ℕ) → IsIntegerPart d ds
       → IsErrorFree limit (path_text p ++ (minus_text b ++ d ∷ (ds ++ 46 ∷ [])))
   error_free_point limit p hp b d ds h =
       error_free_from limit (path_text p ++ (minus_text b ++ d ∷ (ds ++ 46 ∷ []))) (48 ∷ []) _ (simp append_assoc)
-          (error_free_number limit p hp b d ds (48 ∷ []) h (refl, tt))
+      (error_free_number limit p hp b d ds (48 ∷ []) h (refl, tt))
 
   pub error_free_letter : (limit : Option ℕ) (p : Path) → IsPath limit p → (b : Bool) (d : ℕ) (ds f : List ℕ) → IsIntegerPart d ds
       → AreDigits f → (l : ℕ) → IsTrue (is_exponent_letter l) →
@@ -183,31 +271,72 @@ module _ (ranges : Ranges) where
       let e : Exponent = exponent_with l r.0.sign r.0.digits in
       let s : Syntax = Syntax.number (numeral b (d ∷ ds) f (Some e)) in
       let is : IsNumeral (numeral b (d ∷ ds) f (Some e)) =
-          record { integer = h.0; some_digit = omega arith; fraction = i; exponent =
-          record { letter = hl; sign = r.1.sign; digits = r.1.digits; some_digit = r.1.some_digit } } in
+      record {
+        integer = h.0;
+        some_digit = omega arith;
+        fraction = i;
+        exponent =
+            record { letter = hl; sign = r.1.sign; digits = r.1.digits; some_digit = r.1.some_digit };
+      } in
       error_free_from limit (path_text p ++ (minus_text b ++ d ∷ (ds ++ (fraction_text f ++ l ∷ [])))) (sign_text r.0.sign ++ r.0.digits)
-          (path_text p ++ (text s ++ [])) (simp (append_assoc, append-nil))
+      (path_text p ++ (text s ++ [])) (simp (append_assoc, append-nil))
       (error_free limit p hp s (record { spelled = is; strict = (rw h.1 refl, r.2) }) (flat_within limit p s hp refl) [] tt (placed p s))
 
   pub part_prompt : (limit : Option ℕ) (p : Path) → IsPath limit p → (n : Part) → IsPart n
       → IsPromptly limit (path_text p ++ part_text n) []
-  part_prompt limit p hp part_minus h = record { prefix = path_text p ++ 45 ∷ []; late = []; whole = simp append-nil; error_free =
-      error_free_minus limit p hp; are_late = tt }
+  part_prompt limit p hp part_minus h = record {
+    prefix = path_text p ++ 45 ∷ [];
+    late = [];
+    whole = simp append-nil;
+    error_free =
+        error_free_minus limit p hp;
+    are_late = tt;
+  }
   part_prompt limit p hp (part_integer b d ds) h =
-      record { prefix = path_text p ++ (minus_text b ++ d ∷ []); late = ds; whole = simp (append_assoc, append-nil); error_free =
-          error_free_number limit p hp b d [] [] ((h.0, tt), refl) tt; are_late = digits_late ds h.1 }
-  part_prompt limit p hp (part_point b d ds) h = record { prefix = path_text p ++ (minus_text b ++ d ∷ (ds ++ 46 ∷ [])); late = []; whole =
-      simp append-nil; error_free = error_free_point limit p hp b d ds h; are_late = tt }
+      record {
+        prefix = path_text p ++ (minus_text b ++ d ∷ []);
+        late = ds;
+        whole = simp (append_assoc, append-nil);
+        error_free =
+            error_free_number limit p hp b d [] [] ((h.0, tt), refl) tt;
+        are_late = digits_late ds h.1;
+      }
+  part_prompt limit p hp (part_point b d ds) h = record {
+    prefix = path_text p ++ (minus_text b ++ d ∷ (ds ++ 46 ∷ []));
+    late = [];
+    whole =
+        simp append-nil;
+    error_free = error_free_point limit p hp b d ds h;
+    are_late = tt;
+  }
   part_prompt limit p hp (part_fraction b d ds e es) h =
-      record { prefix = path_text p ++ (minus_text b ++ d ∷ (ds ++ 46 ∷ e ∷ es)); late = []; whole = simp append-nil; error_free =
-          error_free_number limit p hp b d ds (e ∷ es) h.0 h.1; are_late = tt }
+      record {
+        prefix = path_text p ++ (minus_text b ++ d ∷ (ds ++ 46 ∷ e ∷ es));
+        late = [];
+        whole = simp append-nil;
+        error_free =
+            error_free_number limit p hp b d ds (e ∷ es) h.0 h.1;
+        are_late = tt;
+      }
   part_prompt limit p hp (part_letter b d ds f l) h =
-      record { prefix = path_text p ++ (minus_text b ++ d ∷ (ds ++ fraction_text f)); late = l ∷ []; whole =
-          simp append_assoc; error_free = error_free_number limit p hp b d ds f h.0 h.1; are_late = (letter_late l h.2, tt) }
+      record {
+        prefix = path_text p ++ (minus_text b ++ d ∷ (ds ++ fraction_text f));
+        late = l ∷ [];
+        whole =
+            simp append_assoc;
+        error_free = error_free_number limit p hp b d ds f h.0 h.1;
+        are_late = (letter_late l h.2, tt);
+      }
   part_prompt limit p hp (part_sign b d ds f l s) h =
-      record { prefix = path_text p ++ (minus_text b ++ d ∷ (ds ++ fraction_text f)); late = l ∷ s ∷ []; whole =
-          simp append_assoc; error_free = error_free_number limit p hp b d ds f h.0 h.1; are_late =
-          (letter_late l h.2, (sign_late s h.3, tt)) }
+      record {
+        prefix = path_text p ++ (minus_text b ++ d ∷ (ds ++ fraction_text f));
+        late = l ∷ s ∷ [];
+        whole =
+            simp append_assoc;
+        error_free = error_free_number limit p hp b d ds f h.0 h.1;
+        are_late =
+            (letter_late l h.2, (sign_late s h.3, tt));
+      }
   part_prompt limit p hp (part_exponent b d ds f l s e es) h =
       record {
         prefix = path_text p ++ (minus_text b ++ d ∷ (ds ++ fraction_text f));
@@ -223,12 +352,12 @@ pub error_free_value : (limit : Option ℕ) (p : Path) → IsPath limit p → (s
     → text s ≡ prefix ++ rest → IsErrorFree limit (path_text p ++ prefix)
 error_free_value limit p hp s hs hd prefix rest e =
     error_free_from limit (path_text p ++ prefix) rest (path_text p ++ (text s ++ [])) (rw e (simp (append_assoc, append-nil)))
-        (error_free limit p hp s hs (flat_within limit p s hp hd) [] tt (placed p s))
+    (error_free limit p hp s hs (flat_within limit p s hp hd) [] tt (placed p s))
 
 pub error_free_place : (limit : Option ℕ) (p : Path) → IsPath limit p → IsErrorFree limit (path_text p)
 error_free_place limit p hp =
     error_free_from limit (path_text p) (110 ∷ 117 ∷ 108 ∷ 108 ∷ []) (path_text p ++ (text null ++ [])) refl
-        (error_free limit p hp null (record { spelled = tt; strict = tt }) (flat_within limit p null hp refl) [] tt (placed p null))
+    (error_free limit p hp null (record { spelled = tt; strict = tt }) (flat_within limit p null hp refl) [] tt (placed p null))
 
 pub is_keyed_placed : (p : Path) (s : Syntax) (v : List ℕ) → IsKeyed p s → IsPlaced p s v
 is_keyed_placed (outside w) s v h = tt
@@ -252,8 +381,14 @@ pub quoted_prompt : (limit : Option ℕ) (p : Path) → IsPath limit p → (ps :
     → (qs : List Quad) → ArePieces (quads qs) → (late : List ℕ) → AreLate late → (end : List ℕ) →
     IsPromptly limit (path_text p ++ 34 ∷ (pieces_text ps ++ (pieces_text (quads qs) ++ (late ++ end)))) end
 quoted_prompt limit p hp ps cs h i qs j late l end =
-    record { prefix = path_text p ++ 34 ∷ pieces_text ps; late = pieces_text (quads qs) ++ late; whole = simp append_assoc; error_free =
-        error_free_open limit p hp ps cs h i; are_late = late_append _ _ (quads_late qs j) l }
+    record {
+      prefix = path_text p ++ 34 ∷ pieces_text ps;
+      late = pieces_text (quads qs) ++ late;
+      whole = simp append_assoc;
+      error_free =
+          error_free_open limit p hp ps cs h i;
+      are_late = late_append _ _ (quads_late qs j) l;
+    }
 
 pub at_once : (limit : Option ℕ) (xs : List ℕ) → IsErrorFree limit xs → IsPromptly limit xs []
 at_once limit xs h = record { prefix = xs; late = []; whole = sym (append-nil xs); error_free = h; are_late = tt }

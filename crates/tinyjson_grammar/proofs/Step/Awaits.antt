@@ -30,10 +30,12 @@ whiter_path limit (value_in p ps a k b w) h c hc = (h.0, h.1, h.2, h.3, h.4, h.5
 pub awaits_value : (limit : Option ℕ) (p : Path) → IsPath limit p → AwaitsValue limit (path_text p)
 awaits_value limit p hp =
     let a : IsLooselyViable limit (path_text (whiter p 10) ++ 34 ∷ []) =
-        ends_loosely limit (whiter p 10) (whiter_path limit p hp 10 refl) (34 ∷ [])
-        (record { value = Syntax.string []; spelled = tt; flat = refl; rest = 34 ∷ []; whole = refl }) in
-    (error_free_place limit p hp, subst (IsLooselyViable limit) (ap (λ xs. xs ++ 34 ∷ []) (sym (whiter_text p 10))
-        ∙ append_assoc (path_text p) (10 ∷ []) (34 ∷ [])) a)
+    ends_loosely limit (whiter p 10) (whiter_path limit p hp 10 refl) (34 ∷ [])
+    (record { value = Syntax.string []; spelled = tt; flat = refl; rest = 34 ∷ []; whole = refl }) in (
+      error_free_place limit p hp,
+      subst (IsLooselyViable limit) (ap (λ xs. xs ++ 34 ∷ []) (sym (whiter_text p 10))
+          ∙ append_assoc (path_text p) (10 ∷ []) (34 ∷ [])) a,
+    )
 
 -- what stands after the place begins there
 pub begins_at : (limit : Option ℕ) (p : Path) → IsPath limit p → (used token : List ℕ) → used ≡ path_text p ++ token

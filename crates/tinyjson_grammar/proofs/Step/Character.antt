@@ -89,15 +89,26 @@ literal_follows : (limit : Option ℕ) (p : Path) → IsPath limit p → (s : Sy
 literal_follows limit p hp s done [] h c = absurd (omega (arith, h.more))
 literal_follows limit p hp s done (l ∷ []) h c =
     at_code limit _ _ _ c l _ _ (λ e. complete_follows limit p hp s h.value (flat_within limit p s hp h.flat) h.no_number _ _ _ c
-        (append_assoc (path_text p) done (c ∷ []) ∙ ap (λ xs. path_text p ++ xs) (ap (λ x. done ++ x ∷ []) e ∙ sym h.whole)))
+    (append_assoc (path_text p) done (c ∷ []) ∙ ap (λ xs. path_text p ++ xs) (ap (λ x. done ++ x ∷ []) e ∙ sym h.whole)))
     (λ e. literal_says limit p hp s done l [] h c e)
 literal_follows limit p hp s done (l ∷ m ∷ ls) h c =
     at_code limit _ _ _ c l _ _
     (λ e. record {
       read = in_literal p s (done ++ l ∷ []) (m ∷ ls);
-      is = (hp, record { value = h.value; flat = h.flat; is_literal = h.is_literal; whole = h.whole
-          ∙ sym (append_assoc done (l ∷ []) (m ∷ ls)); no_number = h.no_number; begun =
-          rw (length-append done (l ∷ [])) (omega arith); more = omega arith });
+      is = (
+        hp,
+        record {
+          value = h.value;
+          flat = h.flat;
+          is_literal = h.is_literal;
+          whole = h.whole
+              ∙ sym (append_assoc done (l ∷ []) (m ∷ ls));
+          no_number = h.no_number;
+          begun =
+              rw (length-append done (l ∷ [])) (omega arith);
+          more = omega arith;
+        },
+      );
       whole = append_assoc (path_text p) done (c ∷ []) ∙ ap (λ x. path_text p ++ (done ++ x ∷ [])) e;
       frames = refl;
       phase = refl;
@@ -143,17 +154,28 @@ literal_needs : (limit : Option ℕ) (p : Path) → IsPath limit p → (s : Synt
     → NeedsMore limit (path_text p ++ done)
 literal_needs limit p hp s done [] h = absurd (omega (arith, h.more))
 literal_needs limit p hp s done (l ∷ left) h =
-    inr (inr (inl (text s, length done, h.is_literal, h.begun, rw h.whole (shorter_front done l left), begins_at limit p hp _ _
-        (rw h.whole (rw (take-append_seam done (l ∷ left)) refl)))))
+    inr (inr (inl (
+      text s,
+      length done,
+      h.is_literal,
+      h.begun,
+      rw h.whole (shorter_front done l left),
+      begins_at limit p hp _ _
+          (rw h.whole (rw (take-append_seam done (l ∷ left)) refl)),
+    )))
 
 needs : (limit : Option ℕ) (x : Read) → IsRead limit x → Short x → NeedsMore limit (read_text x)
 needs limit (at_first p) h i = inl (awaits_value limit p h.0)
 needs limit (at_awaited p) h i = inl (awaits_value limit p h)
 needs limit (in_literal p s done left) h i = literal_needs limit p h.0 s done left h.1
 needs limit (in_digits p n) h i = elim i [ ]
-needs limit (in_quoted p ps cs qs wi) h i = inr (inl
-    (quads qs, within_text wi, begins_escape wi h.4, in_string limit p ps cs qs
-    (record { path = h.0; pieces = h.1; settled = h.2; run = h.3 }) _ _ refl))
+needs limit (in_quoted p ps cs qs wi) h i = inr (inl (
+  quads qs,
+  within_text wi,
+  begins_escape wi h.4,
+  in_string limit p ps cs qs
+      (record { path = h.0; pieces = h.1; settled = h.2; run = h.3 }) _ _ refl,
+))
 needs limit (at_after (outside w) s v) h i = elim i [ ]
 needs limit (at_after (item_in p es w) s v) h i = inr (inr (inr (inr (inl (closed_array limit p es w s v h)))))
 needs limit (at_after (key_in p ps w) s v) h i = inr (inr (inr (inl (taken_key limit p ps w s v h))))
@@ -172,8 +194,17 @@ EndsPlain limit used fs q n = Ends limit used fs q (end_plain n)
 ends_text : (limit : Option ℕ) (w : List ℕ) (s : Syntax) (v : List ℕ) → IsRead limit (at_after (outside w) s v)
     → IsText limit (w ++ (text s ++ v)) (tree_of s)
 ends_text limit w s v h = record {
-  loose = record { before = w; value = s; after = v; white_before = h.0; spelled = h.1.spelled; white_after = h.4; shallow =
-      within_le limit _ _ h.3 (omega arith); whole = refl };
+  loose = record {
+    before = w;
+    value = s;
+    after = v;
+    white_before = h.0;
+    spelled = h.1.spelled;
+    white_after = h.4;
+    shallow =
+        within_le limit _ _ h.3 (omega arith);
+    whole = refl;
+  };
   strict = h.1.strict;
   tree = refl;
 }
@@ -181,17 +212,17 @@ ends_text limit w s v h = record {
 number_ends : Ranges → (limit : Option ℕ) (p : Path) → IsPath limit p → (n : Part) → IsPart n → IsDone n
     → IsTrue (in_range (value (part_numeral n))) →
     EndsPlain limit (path_text p ++ part_text n) (path_frames p) (digits (part_stage n) (part_numeral n))
-        (complete true (path_frames p) (tree.number (value (part_numeral n))) false)
+    (complete true (path_frames p) (tree.number (value (part_numeral n))) false)
 number_ends ranges limit (outside w) hp n hn h e =
     subst (λ xs. IsText limit (w ++ xs) (tree.number (value (part_numeral n)))) (append-nil _
-        ∙ sym h.whole) (ends_text limit w (Syntax.number (part_numeral n)) []
-        (hp, done_value n h e, tt, flat_within limit (outside w) (Syntax.number (part_numeral n)) hp refl, tt))
+    ∙ sym h.whole) (ends_text limit w (Syntax.number (part_numeral n)) []
+    (hp, done_value n h e, tt, flat_within limit (outside w) (Syntax.number (part_numeral n)) hp refl, tt))
 number_ends ranges limit (item_in p es w) hp n hn h e =
     let a : IsErrorFree limit ((path_text (item_in p es w) ++ (text (Syntax.number (part_numeral n)) ++ [])) ++ 93 ∷ []) =
     closed_array limit p es w (Syntax.number (part_numeral n)) []
-        (hp, done_value n h e, tt, flat_within limit (item_in p es w) (Syntax.number (part_numeral n)) hp refl, tt) in
+    (hp, done_value n h e, tt, flat_within limit (item_in p es w) (Syntax.number (part_numeral n)) hp refl, tt) in
     let b : IsErrorFree limit ((path_text (item_in p es w) ++ part_text n) ++ 93 ∷ []) =
-        subst (λ xs. IsErrorFree limit ((path_text (item_in p es w) ++ xs) ++ 93 ∷ [])) (append-nil _ ∙ sym h.whole) a in
+    subst (λ xs. IsErrorFree limit ((path_text (item_in p es w) ++ xs) ++ 93 ∷ [])) (append-nil _ ∙ sym h.whole) a in
     (refl, (λ x. eof_says ranges limit (in_digits (item_in p es w) n) (hp, hn) (inr (inr (inr (inr (inl b)))))))
 number_ends ranges limit (key_in p ps w) hp n hn h e = (
   refl,
@@ -199,14 +230,14 @@ number_ends ranges limit (key_in p ps w) hp n hn h e = (
       (flat_within limit (key_in p ps w) (Syntax.number (part_numeral n)) hp refl) _ (ap (λ xs. path_text (key_in p ps w) ++ xs) h.whole)
       [] tt
       (x.unviable (λ ys t. key_unviable ys (strictly limit) (members_from no_members ps) (path_frames p) (part_stage n) (part_numeral n) t
-          refl))),
+      refl))),
 )
 number_ends ranges limit (value_in p ps a k b w) hp n hn h e =
     let x : IsErrorFree limit ((path_text (value_in p ps a k b w) ++ (text (Syntax.number (part_numeral n)) ++ [])) ++ 125 ∷ []) =
     closed_object limit p ps a k b w (Syntax.number (part_numeral n)) []
-        (hp, done_value n h e, tt, flat_within limit (value_in p ps a k b w) (Syntax.number (part_numeral n)) hp refl, tt) in
+    (hp, done_value n h e, tt, flat_within limit (value_in p ps a k b w) (Syntax.number (part_numeral n)) hp refl, tt) in
     let y : IsErrorFree limit ((path_text (value_in p ps a k b w) ++ part_text n) ++ 125 ∷ []) =
-        subst (λ xs. IsErrorFree limit ((path_text (value_in p ps a k b w) ++ xs) ++ 125 ∷ [])) (append-nil _ ∙ sym h.whole) x in
+    subst (λ xs. IsErrorFree limit ((path_text (value_in p ps a k b w) ++ xs) ++ 125 ∷ [])) (append-nil _ ∙ sym h.whole) x in
     (refl, (λ u. eof_says ranges limit (in_digits (value_in p ps a k b w) n) (hp, hn) (inr (inr (inr (inr (inr y)))))))
 
 finish_ends : Ranges → (limit : Option ℕ) (p : Path) → IsPath limit p → (n : Part) → IsPart n → IsDone n
@@ -215,7 +246,7 @@ finish_ends : Ranges → (limit : Option ℕ) (p : Path) → IsPath limit p → 
 finish_ends ranges limit p hp n hn h =
     cond_both (not (in_range (value (part_numeral n)))) _ _ (EndsPlain limit _ _ _)
     (λ e. (refl, (λ x. range_says ranges limit p hp n hn h.numeral h.no_zero h.whole (not-true _ e) [] tt x)))
-        (λ e. number_ends ranges limit p hp n hn h (not-false _ e))
+    (λ e. number_ends ranges limit p hp n hn h (not-false _ e))
 
 digits_end : Ranges → (limit : Option ℕ) (p : Path) → IsPath limit p → (n : Part) → IsPart n
     → Ends limit (path_text p ++ part_text n) (path_frames p) (digits (part_stage n) (part_numeral n))
@@ -223,7 +254,7 @@ digits_end : Ranges → (limit : Option ℕ) (p : Path) → IsPath limit p → (
 digits_end ranges limit p hp part_minus h = (refl, (λ x. minus_says ranges limit p hp [] tt x))
 digits_end ranges limit p hp (part_integer b d ds) h =
     cond_both (has_leading_zero (d ∷ ds)) _ _ (Ends limit _ _ _) (λ e. (refl, (λ x. zero_says ranges limit p hp b d ds h e [] tt x)))
-        (λ e. finish_ends ranges limit p hp (part_integer b d ds) h (integer_done b d ds (h, e)))
+    (λ e. finish_ends ranges limit p hp (part_integer b d ds) h (integer_done b d ds (h, e)))
 digits_end ranges limit p hp (part_point b d ds) h = (refl, (λ x. point_says ranges limit p hp b d ds h [] tt x))
 digits_end ranges limit p hp (part_fraction b d ds e es) h =
     finish_ends ranges limit p hp (part_fraction b d ds e es) h (fraction_done b d ds e es h)

@@ -53,8 +53,14 @@ none_begins c a b d e f g h i = or_from _ _ a (or_from _ _ b
 
 pub literal_begun : (limit : Option ℕ) (p : Path) → IsPath limit p → (s : Syntax) (c n : ℕ) (left : List ℕ)
     → IsWithinLiteral s (n ∷ []) left → c ≡ n → Spells limit (path_text p ++ c ∷ []) (path_frames p) (literal left (tree_of s))
-literal_begun limit p hp s c n left h e = record { read = in_literal p s (n ∷ []) left; is = (hp, h); whole =
-    ap (λ x. path_text p ++ x ∷ []) e; frames = refl; phase = refl }
+literal_begun limit p hp s c n left h e = record {
+  read = in_literal p s (n ∷ []) left;
+  is = (hp, h);
+  whole =
+      ap (λ x. path_text p ++ x ∷ []) e;
+  frames = refl;
+  phase = refl;
+}
 
 pub push_follows : (limit : Option ℕ) (p q : Path) (f : Frame) (c : ℕ) → IsPath limit p → (c ≡ 91) ⊎ (c ≡ 123)
     → path_frames q ≡ f ∷ path_frames p → path_text p ++ c ∷ [] ≡ path_text q → IsFresh q
@@ -62,38 +68,92 @@ pub push_follows : (limit : Option ℕ) (p q : Path) (f : Frame) (c : ℕ) → I
     Follows limit (path_text p) fs a c (push_frame (strictly limit) (path_frames p) f c)
 push_follows limit p q f c hp hc hf ht hq h fs a =
     either limit (path_text p) fs a c (fits limit (length (path_frames p))) _ _
-    (λ e. record { read = at_first q; is = (h (rw (← level_frames p) (fits_within limit (length (path_frames p)) e)), hq); whole =
-        ht; frames = sym hf; phase = refl })
+    (λ e. record {
+      read = at_first q;
+      is = (h (rw (← level_frames p) (fits_within limit (length (path_frames p)) e)), hq);
+      whole =
+          ht;
+      frames = sym hf;
+      phase = refl;
+    })
     (λ e more d. (((more, refl), hc, limited limit (length (path_frames p)) e), awaits_value limit p hp))
 
 pub start_follows : (limit : Option ℕ) (p : Path) → IsPath limit p → (c : ℕ) → is_white c ≡ false → (fs : List Frame) (a : Phase)
     → Follows limit (path_text p) fs a c (start (strictly limit) (path_frames p) c)
 start_follows limit p hp c hw fs a =
     at_code limit _ _ _ c 110 _ _ (λ e. literal_begun limit p hp null c 110 _
-        (record { value = record { spelled = tt; strict = tt }; flat = refl; is_literal = inl refl; whole = refl; no_number =
-        λ rest. tt; begun = omega arith; more = omega arith }) e) (λ h0.
+    (record {
+      value = record { spelled = tt; strict = tt };
+      flat = refl;
+      is_literal = inl refl;
+      whole = refl;
+      no_number =
+          λ rest. tt;
+      begun = omega arith;
+      more = omega arith;
+    }) e) (λ h0.
     at_code limit _ _ _ c 116 _ _ (λ e. literal_begun limit p hp (Syntax.boolean true) c 116 _
-        (record { value = record { spelled = tt; strict = tt }; flat = refl; is_literal = inr (inl refl); whole = refl; no_number =
-        λ rest. tt; begun = omega arith; more = omega arith }) e) (λ h1.
+    (record {
+      value = record { spelled = tt; strict = tt };
+      flat = refl;
+      is_literal = inr (inl refl);
+      whole = refl;
+      no_number =
+          λ rest. tt;
+      begun = omega arith;
+      more = omega arith;
+    }) e) (λ h1.
     at_code limit _ _ _ c 102 _ _ (λ e. literal_begun limit p hp (Syntax.boolean false) c 102 _
-        (record { value = record { spelled = tt; strict = tt }; flat = refl; is_literal = inr (inr refl); whole = refl; no_number =
-        λ rest. tt; begun = omega arith; more = omega arith }) e) (λ h2.
-    at_code limit _ _ _ c 34 _ _ (λ e. record { read = in_quoted p [] [] [] Machine.plain; is = (hp, tt, settled_start, tt, tt); whole =
-        ap (λ x. path_text p ++ x ∷ []) e; frames = refl; phase = refl }) (λ h3.
+    (record {
+      value = record { spelled = tt; strict = tt };
+      flat = refl;
+      is_literal = inr (inr refl);
+      whole = refl;
+      no_number =
+          λ rest. tt;
+      begun = omega arith;
+      more = omega arith;
+    }) e) (λ h2.
+    at_code limit _ _ _ c 34 _ _ (λ e. record {
+      read = in_quoted p [] [] [] Machine.plain;
+      is = (hp, tt, settled_start, tt, tt);
+      whole =
+          ap (λ x. path_text p ++ x ∷ []) e;
+      frames = refl;
+      phase = refl;
+    }) (λ h3.
     at_code limit _ _ _ c 91 _ _ (λ e. push_follows limit p (item_in p [] []) (Machine.in_array []) c hp (inl e) refl
-        (ap (λ x. path_text p ++ x ∷ []) e) tt (λ i. (hp, tt, tt, i)) fs a) (λ h4.
+    (ap (λ x. path_text p ++ x ∷ []) e) tt (λ i. (hp, tt, tt, i)) fs a) (λ h4.
     at_code limit _ _ _ c 123 _ _ (λ e. push_follows limit p (key_in p [] []) (Machine.at_key no_members) c hp (inr e) refl
-        (ap (λ x. path_text p ++ x ∷ []) e) tt (λ i. (hp, tt, tt, i)) fs a) (λ h5.
-    at_code limit _ _ _ c 45 _ _ (λ e. record { read = in_digits p part_minus; is = (hp, tt); whole =
-        ap (λ x. path_text p ++ x ∷ []) e; frames = refl; phase = refl }) (λ h6.
-    either limit _ _ _ c (is_ascii_digit c) _ _ (λ e. record { read = in_digits p (part_integer false c []); is = (hp, (e, tt)); whole =
-        refl; frames = refl; phase = refl }) (λ h7 more d.
+    (ap (λ x. path_text p ++ x ∷ []) e) tt (λ i. (hp, tt, tt, i)) fs a) (λ h5.
+    at_code limit _ _ _ c 45 _ _ (λ e. record {
+      read = in_digits p part_minus;
+      is = (hp, tt);
+      whole =
+          ap (λ x. path_text p ++ x ∷ []) e;
+      frames = refl;
+      phase = refl;
+    }) (λ h6.
+    either limit _ _ _ c (is_ascii_digit c) _ _ (λ e. record {
+      read = in_digits p (part_integer false c []);
+      is = (hp, (e, tt));
+      whole =
+          refl;
+      frames = refl;
+      phase = refl;
+    }) (λ h7 more d.
     (((more, refl), hw, none_begins c h0 h1 h2 h3 h4 h5 h6 h7), awaits_value limit p hp)))))))))
 
 pub white_follows : (limit : Option ℕ) (p : Path) → IsPath limit p → (c : ℕ) → IsTrue (is_white c)
     → Spells limit (path_text p ++ c ∷ []) (path_frames p) awaited
-white_follows limit p hp c hc = record { read = at_awaited (whiter p c); is = whiter_path limit p hp c hc; whole =
-    whiter_text p c; frames = whiter_frames p c; phase = refl }
+white_follows limit p hp c hc = record {
+  read = at_awaited (whiter p c);
+  is = whiter_path limit p hp c hc;
+  whole =
+      whiter_text p c;
+  frames = whiter_frames p c;
+  phase = refl;
+}
 
 pub awaited_follows : (limit : Option ℕ) (p : Path) → IsPath limit p → (c : ℕ)
     → Follows limit (path_text p) (path_frames p) awaited c (step_awaited (strictly limit) (path_frames p) c)
@@ -106,13 +166,13 @@ first_follows limit (outside w) hp hf c hc = elim hf [ ]
 first_follows limit (item_in p [] w) hp hf c hc =
     at_code limit _ _ _ c 93 _ _
     (λ e. complete_follows limit p hp.0 (empty_array w) (record { spelled = hp.2; strict = tt }) hp.3 (λ rest. tt) _ _ _ c
-        (rw e (simp append_assoc)))
+    (rw e (simp append_assoc)))
     (λ e. start_follows limit (item_in p [] w) hp c hc _ _)
 first_follows limit (item_in p (e ∷ es) w) hp hf c hc = elim hf [ ]
 first_follows limit (key_in p [] w) hp hf c hc =
     at_code limit _ _ _ c 125 _ _
     (λ e. complete_follows limit p hp.0 (empty_object w) (record { spelled = hp.2; strict = tt }) hp.3 (λ rest. tt) _ _ _ c
-        (rw e (simp append_assoc)))
+    (rw e (simp append_assoc)))
     (λ e. start_follows limit (key_in p [] w) hp c hc _ _)
 first_follows limit (key_in p (q ∷ qs) w) hp hf c hc = elim hf [ ]
 first_follows limit (value_in p ps a k b w) hp hf c hc = elim hf [ ]
@@ -121,6 +181,12 @@ pub at_first_follows : (limit : Option ℕ) (p : Path) → IsPath limit p → Is
     → Follows limit (path_text p) (path_frames p) first c (step_plain (strictly limit) (path_frames p) first c)
 at_first_follows limit p hp hf c =
     either limit _ _ _ c (is_white c) _ _
-    (λ hc. record { read = at_first (whiter p c); is = (whiter_path limit p hp c hc, whiter_fresh p c hf); whole =
-        whiter_text p c; frames = whiter_frames p c; phase = refl })
+    (λ hc. record {
+      read = at_first (whiter p c);
+      is = (whiter_path limit p hp c hc, whiter_fresh p c hf);
+      whole =
+          whiter_text p c;
+      frames = whiter_frames p c;
+      phase = refl;
+    })
     (λ hc. first_follows limit p hp hf c hc)

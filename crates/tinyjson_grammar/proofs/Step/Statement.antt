@@ -77,12 +77,26 @@ pub key_says : (limit : Option ℕ) (p : Path) (ps : List Pair) (w : List ℕ) �
 key_says limit p ps w hp s hs hk hd used e rest b u =
     let o : Opener (path_text p ++ 123 ∷ pairs_before ps) = opener (path_text p) ps in
     let used_is : used ≡ o.0 ++ o.1 ∷ (w ++ text s) = e
-        ∙ (regroup (path_text p) (123 ∷ pairs_before ps) w (text s)
-        ∙ (ap (λ xs. xs ++ (w ++ text s)) o.3 ∙ append_assoc o.0 (o.1 ∷ []) (w ++ text s))) in
+    ∙ (regroup (path_text p) (123 ∷ pairs_before ps) w (text s)
+    ∙ (ap (λ xs. xs ++ (w ++ text s)) o.3 ∙ append_assoc o.0 (o.1 ∷ []) (w ++ text s))) in
     let place_is : path_text (key_in p ps w) ≡ o.0 ++ o.1 ∷ w = sym (append_assoc (path_text p) (123 ∷ pairs_before ps) w)
-        ∙ (ap (λ xs. xs ++ w) o.3 ∙ append_assoc o.0 (o.1 ∷ []) w) in (
-      (o.0, w, o.1, s, o.2, hp.2, hs.spelled, hs.strict, hk, refl, used_is, subst (AwaitsValue limit) place_is
-          (awaits_value limit (key_in p ps w) hp), b),
+    ∙ (ap (λ xs. xs ++ w) o.3 ∙ append_assoc o.0 (o.1 ∷ []) w) in (
+      (
+        o.0,
+        w,
+        o.1,
+        s,
+        o.2,
+        hp.2,
+        hs.spelled,
+        hs.strict,
+        hk,
+        refl,
+        used_is,
+        subst (AwaitsValue limit) place_is
+            (awaits_value limit (key_in p ps w) hp),
+        b,
+      ),
       (
         rw e (rw (sym (append-nil (text s))) (error_free limit (key_in p ps w) hp s hs hd [] tt (inr (hk, refl)))),
         rw e (loosely_from limit _ (48 ∷ 125 ∷ closing p) (simp append_assoc) (closes limit (key_in p ps w) hp s hs.spelled hd [] tt)),

@@ -29,19 +29,43 @@ pub complete_follows : (limit : Option ℕ) (p : Path) → IsPath limit p → (s
     → used ++ c ∷ [] ≡ path_text p ++ text s →
     Follows limit used fs q c (complete true (path_frames p) (tree_of s) true)
 complete_follows limit (outside w) hp s hs hd nn used fs q c e =
-    record { read = at_after (outside w) s []; is = (hp, hs, tt, hd, tt); whole = e
-        ∙ ap (λ xs. w ++ xs) (sym (append-nil (text s))); frames = refl; phase = refl }
+    record {
+      read = at_after (outside w) s [];
+      is = (hp, hs, tt, hd, tt);
+      whole = e
+          ∙ ap (λ xs. w ++ xs) (sym (append-nil (text s)));
+      frames = refl;
+      phase = refl;
+    }
 complete_follows limit (item_in p es w) hp s hs hd nn used fs q c e =
-    record { read = at_after (item_in p es w) s []; is = (hp, hs, tt, hd, tt); whole = e
-        ∙ ap (λ xs. path_text (item_in p es w) ++ xs) (sym (append-nil (text s))); frames = refl; phase = refl }
+    record {
+      read = at_after (item_in p es w) s [];
+      is = (hp, hs, tt, hd, tt);
+      whole = e
+          ∙ ap (λ xs. path_text (item_in p es w) ++ xs) (sym (append-nil (text s)));
+      frames = refl;
+      phase = refl;
+    }
 complete_follows limit (value_in p ps a k b w) hp s hs hd nn used fs q c e =
-    record { read = at_after (value_in p ps a k b w) s []; is = (hp, hs, tt, hd, tt); whole = e
-        ∙ ap (λ xs. path_text (value_in p ps a k b w) ++ xs) (sym (append-nil (text s))); frames = refl; phase = refl }
+    record {
+      read = at_after (value_in p ps a k b w) s [];
+      is = (hp, hs, tt, hd, tt);
+      whole = e
+          ∙ ap (λ xs. path_text (value_in p ps a k b w) ++ xs) (sym (append-nil (text s)));
+      frames = refl;
+      phase = refl;
+    }
 complete_follows limit (key_in p ps w) hp s hs hd nn used fs q c e =
     either limit used fs q c (not (is_string (tree_of s))) _ _
     (λ h more d x. key_says limit p ps w hp s hs (sym (string_key s) ∙ not-true _ h) hd _ e more (nn more) x.unviable)
-    (λ h. record { read = at_after (key_in p ps w) s []; is = (hp, hs, sym (string_key s) ∙ not-false _ h, hd, tt); whole = e
-        ∙ ap (λ ys. path_text (key_in p ps w) ++ ys) (sym (append-nil (text s))); frames = refl; phase = refl })
+    (λ h. record {
+      read = at_after (key_in p ps w) s [];
+      is = (hp, hs, sym (string_key s) ∙ not-false _ h, hd, tt);
+      whole = e
+          ∙ ap (λ ys. path_text (key_in p ps w) ++ ys) (sym (append-nil (text s)));
+      frames = refl;
+      phase = refl;
+    })
 
 -- ---- after a value
 
@@ -72,7 +96,7 @@ pub closed_array : (limit : Option ℕ) (p : Path) (es : List Element) (w : List
 closed_array limit p es w s v h =
     error_free_from limit _ [] _ (simp (text_of_items, append_assoc, append-nil))
     (error_free limit p h.0.0 (array (items_with es w s v)) (item_value es w s v h.0.1 h.0.2 h.1 h.4)
-        (within_max limit _ _ _ h.0.3 h.3 (rw (depth_of_items es w s v) (omega arith))) [] tt (placed p _))
+    (within_max limit _ _ _ h.0.3 h.3 (rw (depth_of_items es w s v) (omega arith))) [] tt (placed p _))
 
 pub closed_object : (limit : Option ℕ) (p : Path) (ps : List Pair) (a : List ℕ) (k : Syntax) (b w : List ℕ) (s : Syntax) (v : List ℕ)
     → IsRead limit (at_after (value_in p ps a k b w) s v)
@@ -92,8 +116,14 @@ pub after_follows : (limit : Option ℕ) (p : Path) (s : Syntax) (v : List ℕ) 
     Follows limit (path_text p ++ (text s ++ v)) fs q c (step_plain (strictly limit) (after_frames p s) (after_phase p s) c)
 after_follows limit (outside w) s v h fs q nq c =
     either limit _ _ _ c (is_white c) _ _
-    (λ hc. record { read = at_after (outside w) s (v ++ c ∷ []); is = more_white limit (outside w) s v h c hc; whole =
-        longer w (text s) v c; frames = refl; phase = refl })
+    (λ hc. record {
+      read = at_after (outside w) s (v ++ c ∷ []);
+      is = more_white limit (outside w) s v h c hc;
+      whole =
+          longer w (text s) v c;
+      frames = refl;
+      phase = refl;
+    })
     (λ hc more d x. (
       (
         hc,
@@ -103,8 +133,17 @@ after_follows limit (outside w) s v h fs q nq c =
           (
             tree_of s,
             record {
-              loose = record { before = w; value = s; after = v; white_before = h.0; spelled = h.1.spelled; white_after = h.4; shallow =
-                  within_le limit _ _ h.3 (omega arith); whole = refl };
+              loose = record {
+                before = w;
+                value = s;
+                after = v;
+                white_before = h.0;
+                spelled = h.1.spelled;
+                white_after = h.4;
+                shallow =
+                    within_le limit _ _ h.3 (omega arith);
+                whole = refl;
+              };
               strict = h.1.strict;
               tree = refl;
             },
@@ -115,29 +154,45 @@ after_follows limit (outside w) s v h fs q nq c =
     ))
 after_follows limit (item_in p es w) s v h fs q nq c =
     either limit _ _ _ c (is_white c) _ _
-    (λ hc. record { read = at_after (item_in p es w) s (v ++ c ∷ []); is = more_white limit (item_in p es w) s v h c hc; whole =
-        longer (path_text (item_in p es w)) (text s) v c; frames = refl; phase = refl })
+    (λ hc. record {
+      read = at_after (item_in p es w) s (v ++ c ∷ []);
+      is = more_white limit (item_in p es w) s v h c hc;
+      whole =
+          longer (path_text (item_in p es w)) (text s) v c;
+      frames = refl;
+      phase = refl;
+    })
     (λ hw. at_code limit _ _ _ c 44 _ _
     (λ hc. record {
       read = at_awaited (item_in p (es ++ (record { before = w; value = s; after = v }) ∷ []) []);
-      is = (h.0.0, AreElements_push es _ h.0.1 (record { before = h.0.2; value = h.1; after = h.4 }), tt, within_max limit _ _ _ h.0.3 h.3
-          (rw (deepest_push es (record { before = w; value = s; after = v })) (omega arith)));
+      is = (
+        h.0.0,
+        AreElements_push es _ h.0.1 (record { before = h.0.2; value = h.1; after = h.4 }),
+        tt,
+        within_max limit _ _ _ h.0.3 h.3
+            (rw (deepest_push es (record { before = w; value = s; after = v })) (omega arith)),
+      );
       whole = rw hc (simp (before_push, append_assoc, append-nil));
       frames = ap (λ ts. Machine.in_array ts ∷ path_frames p) (sym (trees_push es (record { before = w; value = s; after = v })));
       phase = refl;
     })
     (λ hn. at_code limit _ _ _ c 93 _ _
     (λ hc. subst (λ ts. Follows limit (path_text (item_in p es w) ++ (text s ++ v)) fs q c
-        (complete true (path_frames p) (tree.array (items_of ts)) true)) (items_trees es w s v)
+    (complete true (path_frames p) (tree.array (items_of ts)) true)) (items_trees es w s v)
     (complete_follows limit p h.0.0 (array (items_with es w s v)) (item_value es w s v h.0.1 h.0.2 h.1 h.4)
-        (within_max limit _ _ _ h.0.3 h.3 (rw (depth_of_items es w s v) (omega arith))) (λ rest. tt)
+    (within_max limit _ _ _ h.0.3 h.3 (rw (depth_of_items es w s v) (omega arith))) (λ rest. tt)
     (path_text (item_in p es w) ++ (text s ++ v)) _ _ c (rw hc (simp (text_of_items, append_assoc)))))
     (λ hm more d x. (
       ((path_text (item_in p es w) ++ (text s ++ v), refl), hw, (λ e. eqb-false c 44 hn e), (λ e. eqb-false c 93 hm e)),
       (
         record {
-          place = record { prefix = path_text (item_in p es w) ++ (text s ++ v); ends = refl; error_free =
-              error_free_after limit (item_in p es w) s v h; no_string = d.no_quote (nq tt) };
+          place = record {
+            prefix = path_text (item_in p es w) ++ (text s ++ v);
+            ends = refl;
+            error_free =
+                error_free_after limit (item_in p es w) s v h;
+            no_string = d.no_quote (nq tt);
+          };
           without_error = closed_array limit p es w s v h;
         },
         x.loosely refl,
@@ -145,8 +200,14 @@ after_follows limit (item_in p es w) s v h fs q nq c =
     ))))
 after_follows limit (key_in p ps w) s v h fs q nq c =
     either limit _ _ _ c (is_white c) _ _
-    (λ hc. record { read = at_after (key_in p ps w) s (v ++ c ∷ []); is = more_white limit (key_in p ps w) s v h c hc; whole =
-        longer (path_text (key_in p ps w)) (text s) v c; frames = refl; phase = refl })
+    (λ hc. record {
+      read = at_after (key_in p ps w) s (v ++ c ∷ []);
+      is = more_white limit (key_in p ps w) s v h c hc;
+      whole =
+          longer (path_text (key_in p ps w)) (text s) v c;
+      frames = refl;
+      phase = refl;
+    })
     (λ hw. at_code limit _ _ _ c 58 _ _
     (λ hc. record {
       read = at_awaited (value_in p ps w s v []);
@@ -159,8 +220,13 @@ after_follows limit (key_in p ps w) s v h fs q nq c =
       ((path_text (key_in p ps w) ++ (text s ++ v), refl), hw, (λ e. eqb-false c 58 hm e)),
       (
         record {
-          place = record { prefix = path_text (key_in p ps w) ++ (text s ++ v); ends = refl; error_free =
-              error_free_after limit (key_in p ps w) s v h; no_string = d.no_quote (nq tt) };
+          place = record {
+            prefix = path_text (key_in p ps w) ++ (text s ++ v);
+            ends = refl;
+            error_free =
+                error_free_after limit (key_in p ps w) s v h;
+            no_string = d.no_quote (nq tt);
+          };
           without_error = taken_key limit p ps w s v h;
         },
         x.loosely refl,
@@ -168,17 +234,31 @@ after_follows limit (key_in p ps w) s v h fs q nq c =
     )))
 after_follows limit (value_in p ps a k b w) s v h fs q nq c =
     either limit _ _ _ c (is_white c) _ _
-    (λ hc. record { read = at_after (value_in p ps a k b w) s (v ++ c ∷ []); is =
-        more_white limit (value_in p ps a k b w) s v h c hc; whole = longer (path_text (value_in p ps a k b w)) (text s) v c; frames =
-        refl; phase = refl })
+    (λ hc. record {
+      read = at_after (value_in p ps a k b w) s (v ++ c ∷ []);
+      is =
+          more_white limit (value_in p ps a k b w) s v h c hc;
+      whole = longer (path_text (value_in p ps a k b w)) (text s) v c;
+      frames =
+          refl;
+      phase = refl;
+    })
     (λ hw. at_code limit _ _ _ c 44 _ _
     (λ hc. let q : Pair = record { before_key = a; key = k; after_key = b; before = w; value = s; after = v } in
     record {
       read = at_awaited (key_in p (ps ++ q ∷ []) []);
       is = (
         h.0.0,
-        ArePairs_push ps q h.0.1 (record { before_key = h.0.2; is_key = h.0.4; key = h.0.3; after_key = h.0.5; before = h.0.6; value =
-            h.1; after = h.4 }),
+        ArePairs_push ps q h.0.1 (record {
+          before_key = h.0.2;
+          is_key = h.0.4;
+          key = h.0.3;
+          after_key = h.0.5;
+          before = h.0.6;
+          value =
+              h.1;
+          after = h.4;
+        }),
         tt,
         within_max limit _ _ _ h.0.7 h.3 (rw (pairs_deepest_push ps q) (rw (key_depth k h.0.4) (omega arith))),
       );
@@ -188,17 +268,22 @@ after_follows limit (value_in p ps a k b w) s v h fs q nq c =
     })
     (λ hn. at_code limit _ _ _ c 125 _ _
     (λ hc. subst (λ ms. Follows limit (path_text (value_in p ps a k b w) ++ (text s ++ v)) fs q c
-        (complete true (path_frames p) (tree.object ms) true)) (members_of_pairs no_members ps a k b w s v)
+    (complete true (path_frames p) (tree.object ms) true)) (members_of_pairs no_members ps a k b w s v)
     (complete_follows limit p h.0.0 (object (pairs_with ps a k b w s v))
-        (pair_value ps a k b w s v h.0.1 h.0.2 h.0.4 h.0.3 h.0.5 h.0.6 h.1 h.4)
+    (pair_value ps a k b w s v h.0.1 h.0.2 h.0.4 h.0.3 h.0.5 h.0.6 h.1 h.4)
     (within_max limit _ _ _ h.0.7 h.3 (rw (depth_of_pairs ps a k b w s v) (rw (key_depth k h.0.4) (omega arith)))) (λ rest. tt)
     (path_text (value_in p ps a k b w) ++ (text s ++ v)) _ _ c (rw hc (simp (text_of_pairs, append_assoc)))))
     (λ hm more d x. (
       ((path_text (value_in p ps a k b w) ++ (text s ++ v), refl), hw, (λ e. eqb-false c 44 hn e), (λ e. eqb-false c 125 hm e)),
       (
         record {
-          place = record { prefix = path_text (value_in p ps a k b w) ++ (text s ++ v); ends = refl; error_free =
-              error_free_after limit (value_in p ps a k b w) s v h; no_string = d.no_quote (nq tt) };
+          place = record {
+            prefix = path_text (value_in p ps a k b w) ++ (text s ++ v);
+            ends = refl;
+            error_free =
+                error_free_after limit (value_in p ps a k b w) s v h;
+            no_string = d.no_quote (nq tt);
+          };
           without_error = closed_object limit p ps a k b w s v h;
         },
         x.loosely refl,

@@ -183,7 +183,7 @@ module _ (width : Width) (w : Option (List ℕ)) (i : IsWhiteIndent w) where
     strict = (refl, rw e.codes (paired_scalars l hl), s.strict, m.strict);
     members = λ ns above.
         ap (λ z. pairs_members z m.pairs) ((λ j. tree.put ((ap decode e.codes ∙ decode_scalars l hl) j) (s.tree j) ns)
-            ∙ put_above l t ns above)
+        ∙ put_above l t ns above)
         ∙ m.members (join ns (tree.member l t tree.no_members)) (above_join l o t ns r.0 above)
         ∙ join_join ns (tree.member l t tree.no_members) (tree.member o u ms);
     depth = omega (arith, s.depth, m.depth);

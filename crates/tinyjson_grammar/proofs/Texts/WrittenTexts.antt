@@ -15,8 +15,17 @@ pub written_text : (width : Width) (limit : Option ℕ) (w : Option (List ℕ)) 
     → IsWithin limit (tree_depth t) → IsTextAt width limit (written.text w k t) t
 written_text width limit w k t i h d =
     let s = spell width w i k t h in record {
-      loose = record { before = []; value = s.value; after = []; white_before = tt; spelled = s.spelled; white_after = tt; shallow =
-          rw s.depth d; whole = sym (append-nil (text s.value) ∙ s.text) };
+      loose = record {
+        before = [];
+        value = s.value;
+        after = [];
+        white_before = tt;
+        spelled = s.spelled;
+        white_after = tt;
+        shallow =
+            rw s.depth d;
+        whole = sym (append-nil (text s.value) ∙ s.text);
+      };
       strict = s.strict;
       tree = sym s.tree;
     }

@@ -155,9 +155,16 @@ items_strict (e ∷ es) w s v h hs = (h.0.value.strict, items_strict es w s v h.
 pub pairs_spelled : (ps : List Pair) (a : List ℕ) (k : Syntax) (b c : List ℕ) (s : Syntax) (d : List ℕ) →
     ArePairsBefore ps → AreWhite a → IsSpelled k → AreWhite b → AreWhite c → IsSpelled s → AreWhite d → ArePairs (pairs_with ps a k b c s d)
 pairs_spelled [] a k b c s d h ha hk hb hc hs hd = (ha, hk, hb, hc, hs, hd)
-pairs_spelled (p ∷ ps) a k b c s d h ha hk hb hc hs hd =
-    (h.0.before_key, h.0.key.spelled, h.0.after_key, h.0.before, h.0.value.spelled, h.0.after, pairs_spelled ps a k b c s d h.1 ha hk hb hc
-        hs hd)
+pairs_spelled (p ∷ ps) a k b c s d h ha hk hb hc hs hd = (
+  h.0.before_key,
+  h.0.key.spelled,
+  h.0.after_key,
+  h.0.before,
+  h.0.value.spelled,
+  h.0.after,
+  pairs_spelled ps a k b c s d h.1 ha hk hb hc
+      hs hd,
+)
 
 pub pairs_strict : (ps : List Pair) (a : List ℕ) (k : Syntax) (b c : List ℕ) (s : Syntax) (d : List ℕ) →
     ArePairsBefore ps → IsKey k → IsStrict k → IsStrict s → PairsAreStrict (pairs_with ps a k b c s d)
@@ -189,8 +196,17 @@ pub closes : (limit : Option ℕ) (p : Path) → IsPath limit p → (s : Syntax)
     → (v : List ℕ) → AreWhite v →
     IsLoose limit (path_text p ++ (text s ++ (v ++ closing p)))
 closes limit (outside w) hp s hs hd v hv =
-    record { before = w; value = s; after = v; white_before = hp; spelled = hs; white_after = hv; shallow =
-        within_le limit _ _ hd (omega arith); whole = simp append-nil }
+    record {
+      before = w;
+      value = s;
+      after = v;
+      white_before = hp;
+      spelled = hs;
+      white_after = hv;
+      shallow =
+          within_le limit _ _ hd (omega arith);
+      whole = simp append-nil;
+    }
 closes limit (item_in p es w) hp s hs hd v hv =
     subst (IsLoose limit) (simp (text_of_items, append_assoc))
     (closes limit p hp.0 (array (items_with es w s v)) (items_spelled es w s v hp.1 hp.2 hs hv)
@@ -199,8 +215,8 @@ closes limit (key_in p ps w) hp s hs hd v hv =
     let zero_numeral : Syntax = Syntax.number (record { negative = false; integer = 48 ∷ []; fraction = []; exponent = None }) in
     subst (IsLoose limit) (simp (text_of_pairs, append_assoc))
     (closes limit p hp.0 (object (pairs_with ps w s v [] zero_numeral []))
-        (pairs_spelled ps w s v [] zero_numeral [] hp.1 hp.2 hs hv tt
-        (record { integer = (refl, tt); some_digit = omega arith; fraction = tt; exponent = tt }) tt)
+    (pairs_spelled ps w s v [] zero_numeral [] hp.1 hp.2 hs hv tt
+    (record { integer = (refl, tt); some_digit = omega arith; fraction = tt; exponent = tt }) tt)
     (within_max limit _ _ _ hp.3 hd (rw (depth_of_pairs ps w s v [] zero_numeral []) (omega arith))) [] tt)
 closes limit (value_in p ps a k b w) hp s hs hd v hv =
     subst (IsLoose limit) (simp (text_of_pairs, append_assoc))

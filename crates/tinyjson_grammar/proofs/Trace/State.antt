@@ -233,7 +233,7 @@ pub ends_loosely : (limit : Option ℕ) (p : Path) → IsPath limit p → (prefi
     → IsLooselyViable limit (path_text p ++ prefix)
 ends_loosely limit p hp prefix e =
     loosely_from limit (path_text p ++ prefix) (e.rest ++ closing p) (rw e.whole (simp append_assoc))
-        (closes limit p hp e.value e.spelled (flat_within limit p e.value hp e.flat) [] tt)
+    (closes limit p hp e.value e.spelled (flat_within limit p e.value hp e.flat) [] tt)
 
 pub white_loosely : (limit : Option ℕ) (p : Path) → IsPath limit p → (s : Syntax) → IsSpelled s → IsWithin limit (level p + depth s)
     → (v : List ℕ) → AreWhite v → IsLooselyViable limit (path_text p ++ (text s ++ v))

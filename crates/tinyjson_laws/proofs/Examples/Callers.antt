@@ -98,7 +98,7 @@ module _ (m n : JsonMap) (k : String Global) (change : UpdatesBy string_eq (λ q
 pub put_again : (k : List ℕ) (u : Tree) (ms : Members) → IsSorted ms → find k ms ≡ Some u → put k u (remove k ms) ≡ ms
 put_again k u ms s h =
     callers.members_from_find (put k u (remove k ms)) ms (callers.sorted_put k u (remove k ms) (callers.sorted_remove k ms s)) s
-        (λ q. callers.find_put q k u (remove k ms) ∙ by q (bytes_eq q k) refl)
+    (λ q. callers.find_put q k u (remove k ms) ∙ by q (bytes_eq q k) refl)
   where
     by : (q : List ℕ) (b : Bool) → bytes_eq q k ≡ b → cond b (Some u) (find q (remove k ms)) ≡ find q ms
     by q true e = sym (ap (λ x. find x ms) ((bytes_eq-Decides q k).0 e) ∙ h)
@@ -114,7 +114,7 @@ item_written v l i j w held = ap (λ t. tree_at t j) (callers.tree_with_item v l
 pub member_written : (v : JsonValue) (m n : JsonMap) (k : String Global) (w : JsonValue) → object_part v ≡ Some m
     → IsSome (get_by_text m (string_bytes k))
     → UpdatesBy string_eq (λ q. bytes_eq (string_bytes k) (string_bytes q)) m n (Some w)
-        → view (made.Object n) ≡ with_tree_at_key (view v) (text k) (view w)
+    → view (made.Object n) ≡ with_tree_at_key (view v) (text k) (view w)
 member_written v m n k w held there h = callers.tree_with_member v m n (string_bytes k) w (callers.IsUtf8-string_bytes k) held there h.0
 
 -- ---- a found part put back

@@ -15,7 +15,7 @@ returns-in-Ok-from_str g c =
     let ks = tokens_of c.in-Ok.pointer in
     let v = c.in-Ok-from_str.value in
     found (chars c.args.pointer.now) text ks (view v) (g.W.Write.contents c.args.output.now)
-        (g.W.Write.contents c.write_found-answer.new.output) c.write_found-answer.result
+    (g.W.Write.contents c.write_found-answer.new.output) c.write_found-answer.result
     ((c.in-Ok.ensures ks).1 refl) (accepted_text None text v c.in-Ok-from_str.ensures) c.write_found-answer.ensures
 
 pub returns : goal.returns
@@ -23,6 +23,11 @@ returns g c =
     let text = chars c.args.text.now in
     let error = c.in-Err-from_str.error in
     let other : ¬ (error_kind error ≡ kind.OutOfMemory) =
-        λ k. false≢true (sym c.if-is_out_of_memory.false ∙ c.is_out_of_memory.ensures.1 k) in
-    ((_, (c.in-Ok.ensures (tokens_of c.in-Ok.pointer)).1 refl), c.in-Err-from_str.ensures, other, refused_text None text error
-        c.in-Err-from_str.ensures other, refl)
+    λ k. false≢true (sym c.if-is_out_of_memory.false ∙ c.is_out_of_memory.ensures.1 k) in (
+      (_, (c.in-Ok.ensures (tokens_of c.in-Ok.pointer)).1 refl),
+      c.in-Err-from_str.ensures,
+      other,
+      refused_text None text error
+          c.in-Err-from_str.ensures other,
+      refl,
+    )

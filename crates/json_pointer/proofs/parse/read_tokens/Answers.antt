@@ -26,10 +26,10 @@ returns-in_err-unescaped c =
     let t = text c.loop-c.token in
     let xs = chars (chars_rest c.next.new.self) in
     let here = Stands_at cs ts t _ (c.in-Some.c ∷ xs) c.loop-c.after_tilde true held.1 c.if-after_tilde.true
-        (chars_past_char _ _ c.in-Some.c held.0 c.in-Some.ensures.steps.0) in
+    (chars_past_char _ _ c.in-Some.c held.0 c.in-Some.ensures.steps.0) in
     let says = c.in_err-unescaped.ensures in
     error_back (ReadsTokens cs) c.from_residual.result c.in_err-unescaped.field-0.0 c.from_residual.ensures.1
-        (subst (λ d. ReadsTokens cs (Err d)) (sym says.0) (bad_escape cs ts t xs c.in-Some.c here says.1))
+    (subst (λ d. ReadsTokens cs (Err d)) (sym says.0) (bad_escape cs ts t xs c.in-Some.c here says.1))
 
 pub loop-c-preserved-then-after_tilde : goal.loop-c-preserved-then-after_tilde
 loop-c-preserved-then-after_tilde c =
@@ -48,9 +48,11 @@ pub loop-c-preserved-then-c-eq126 : goal.loop-c-preserved-then-c-eq126
 loop-c-preserved-then-c-eq126 c =
     let held = c.loop-c.invariant in
     let parts = c.in-Some.ensures.steps.0 in
-    let step = chars_past_char _ _ c.in-Some.c held.0 parts ∙ ap (λ x. x ∷ chars (chars_rest c.next.new.self)) c.if-c-eq126.true in
-    (IsUtf8-past_char _ _ c.in-Some.c held.0 parts, Stands_at (chars c.args.text.now) (map text c.loop-c.tokens.items)
-        (text c.loop-c.token) _ _ c.loop-c.after_tilde false held.1 c.if-after_tilde.false step)
+    let step = chars_past_char _ _ c.in-Some.c held.0 parts ∙ ap (λ x. x ∷ chars (chars_rest c.next.new.self)) c.if-c-eq126.true in (
+      IsUtf8-past_char _ _ c.in-Some.c held.0 parts,
+      Stands_at (chars c.args.text.now) (map text c.loop-c.tokens.items)
+          (text c.loop-c.token) _ _ c.loop-c.after_tilde false held.1 c.if-after_tilde.false step,
+    )
 
 pub loop-c-preserved-in_ok-push-2 : goal.loop-c-preserved-in_ok-push-2
 loop-c-preserved-in_ok-push-2 c =
@@ -64,10 +66,12 @@ loop-c-preserved-in_ok-push-2 c =
     let xs = chars (chars_rest c.next.new.self) in
     let there = slash_stands cs ts t xs here in
     let pushed = texts_push c.loop-c.tokens.items c.push-then-c-eq47.new.self.items c.replace.result c.in_ok-push-2.ensures.items
-        ∙ ap (λ s. ts ++ text s ∷ []) c.replace.ensures.value in
-    let fresh = ap text c.replace.ensures.after ∙ (ap chars c.new.ensures.bytes ∙ chars-nil) in
-    (IsUtf8-past_char _ _ c.in-Some.c held.0 parts, Stands_as cs (ts ++ t ∷ []) (map text c.push-then-c-eq47.new.self.items) []
-        (text c.replace.new.dest) xs false c.loop-c.after_tilde there pushed fresh c.if-after_tilde.false)
+    ∙ ap (λ s. ts ++ text s ∷ []) c.replace.ensures.value in
+    let fresh = ap text c.replace.ensures.after ∙ (ap chars c.new.ensures.bytes ∙ chars-nil) in (
+      IsUtf8-past_char _ _ c.in-Some.c held.0 parts,
+      Stands_as cs (ts ++ t ∷ []) (map text c.push-then-c-eq47.new.self.items) []
+          (text c.replace.new.dest) xs false c.loop-c.after_tilde there pushed fresh c.if-after_tilde.false,
+    )
 
 pub loop-c-preserved : goal.loop-c-preserved
 loop-c-preserved c =
@@ -91,7 +95,7 @@ returns-then-after_tilde-2 c =
     let ts = map text c.loop-c.tokens.items in
     let t = text c.loop-c.token in
     stands_bad cs ts t [] (Stands_at cs ts t _ [] c.loop-c.after_tilde true c.loop-c.invariant.1 c.if-after_tilde-2.true
-        (chars_of_empty (chars_rest c.loop-c.c-iterator) c.in-None.ensures.steps.0.0)) (λ h. h)
+    (chars_of_empty (chars_rest c.loop-c.c-iterator) c.in-None.ensures.steps.0.0)) (λ h. h)
 
 pub returns : goal.returns
 returns c =
@@ -99,6 +103,6 @@ returns c =
     let ts = map text c.loop-c.tokens.items in
     let t = text c.loop-c.token in
     let here = Stands_at cs ts t _ [] c.loop-c.after_tilde false c.loop-c.invariant.1 c.if-after_tilde-2.false
-        (chars_of_empty (chars_rest c.loop-c.c-iterator) c.in-None.ensures.steps.0.0) in
+    (chars_of_empty (chars_rest c.loop-c.c-iterator) c.in-None.ensures.steps.0.0) in
     stands_whole cs ts t here ∙ ap pointer_text (sym
-        (texts_push c.loop-c.tokens.items c.push-2.new.self.items c.loop-c.token c.in_ok-push-4.ensures.items))
+    (texts_push c.loop-c.tokens.items c.push-2.new.self.items c.loop-c.token c.in_ok-push-4.ensures.items))

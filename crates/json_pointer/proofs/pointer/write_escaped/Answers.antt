@@ -24,6 +24,6 @@ pub returns : goal.returns
 returns g c = λ plain ok.
     let held = c.loop-c.invariant in
     let all : chars c.args.token.now ≡ c.loop-c.yielded = held.1
-        ∙ (ap (λ xs. c.loop-c.yielded ++ xs) (chars_of_empty (chars_rest c.loop-c.c-iterator) c.in-None.ensures.steps.0.0)
-        ∙ append-nil c.loop-c.yielded) in
+    ∙ (ap (λ xs. c.loop-c.yielded ++ xs) (chars_of_empty (chars_rest c.loop-c.c-iterator) c.in-None.ensures.steps.0.0)
+    ∙ append-nil c.loop-c.yielded) in
     subst (λ xs. HasWritten g.W.Write.write_str_gives c.args.f.now (encode_utf8_all (escape xs)) c.loop-c.f) (sym all) (held.2 plain)

@@ -14,10 +14,10 @@ pub returns-in_ok-index-in-Array : goal.returns-in_ok-index-in-Array
 returns-in_ok-index-in-Array c =
     let i = c.in_ok-index-in-Array.field-0 in
     step_item c.args.value.now c.in-Array.items (chars c.args.token.now) i c.get-in-Array.result c.in-Array.is
-        c.in_ok-index-in-Array.ensures (grind (arith, common_steps, slice_get_cases c.in-Array.items.items i))
+    c.in_ok-index-in-Array.ensures (grind (arith, common_steps, slice_get_cases c.in-Array.items.items i))
 
 pub returns-in_err-index-in-Array : goal.returns-in_err-index-in-Array
 returns-in_err-index-in-Array c =
     let past = step_past c.args.value.now c.in-Array.items (chars c.args.token.now) c.in-Array.is (λ i e. let h : 2 ^ 64 ≤ i =
-        c.in_err-index-in-Array.ensures i e in omega (arith, c.in-Array.items.small, c.in-Array.items.ok)) in
+    c.in_err-index-in-Array.ensures i e in omega (arith, c.in-Array.items.small, c.in-Array.items.ok)) in
     ap (option_map (λ x. view x.now)) c.from_residual.ensures ∙ past

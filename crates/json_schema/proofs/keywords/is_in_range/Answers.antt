@@ -11,8 +11,8 @@ returns-then-not-meets_minimum c =
     let s = view c.args.schema.now in
     let t = view c.args.value.now in
     let least : meets_minimum (tree_at_key s (codes "minimum")) t ≡ false =
-        ap (λ o. meets_minimum o t) (sym (at_literal _ s (codes "minimum") refl c.keyword.ensures))
-        ∙ (sym c.meets_minimum.ensures ∙ c.if-not-meets_minimum.true) in
+    ap (λ o. meets_minimum o t) (sym (at_literal _ s (codes "minimum") refl c.keyword.ensures))
+    ∙ (sym c.meets_minimum.ensures ∙ c.if-not-meets_minimum.true) in
     sym (and_left _ _ least)
 
 pub returns : goal.returns
@@ -20,6 +20,6 @@ returns c =
     let s = view c.args.schema.now in
     let t = view c.args.value.now in
     let least : meets_minimum (tree_at_key s (codes "minimum")) t ≡ true =
-        ap (λ o. meets_minimum o t) (sym (at_literal _ s (codes "minimum") refl c.keyword.ensures))
-        ∙ (sym c.meets_minimum.ensures ∙ c.if-not-meets_minimum.false) in
+    ap (λ o. meets_minimum o t) (sym (at_literal _ s (codes "minimum") refl c.keyword.ensures))
+    ∙ (sym c.meets_minimum.ensures ∙ c.if-not-meets_minimum.false) in
     c.meets_maximum.ensures ∙ (ap (λ o. meets_maximum o t) (at_literal _ s (codes "maximum") refl c.keyword-2.ensures) ∙ met _ _ least)

@@ -9,4 +9,4 @@ returns-in-true-false c = negative_positive c.args.number.now.decimal c.args.oth
 pub returns-in-false-true : goal.returns-in-false-true
 returns-in-false-true c =
     positive_negative c.args.number.now.decimal c.args.other.now.decimal c.args.other.now.canonical (sym c.in-false-true.ensures)
-        (sym c.in-false-true.ensures')
+    (sym c.in-false-true.ensures')

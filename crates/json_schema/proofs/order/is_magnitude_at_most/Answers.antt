@@ -19,7 +19,7 @@ pub returns-then-place-other_place : goal.returns-then-place-other_place
 returns-then-place-other_place c =
     by_place c.args.number.now.decimal c.args.other.now.decimal c.args.number.now.canonical c.args.other.now.canonical
     (λ e. true≢false (sym (c.is_zero.ensures.1 e) ∙ c.if-is_zero.false))
-        (λ e. true≢false (sym (c.is_zero-2.ensures.1 e) ∙ c.if-is_zero-2.false))
+    (λ e. true≢false (sym (c.is_zero-2.ensures.1 e) ∙ c.if-is_zero-2.false))
     (to_z w128 (of_z w128 c.first_place-place.result)) (to_z w128 (of_z w128 c.first_place-other_place.result))
     (omega (arith, ints)) (omega (arith, ints)) (λ e. omega (arith, ints, e))
 

@@ -11,4 +11,4 @@ returns-in-Err g c =
     let same = u.0 ∙ c.as_slice.ensures.value ∙ r.answer.0 in
     let taken = subst (Consumes (g.R.Read.remaining c.args.input.now) (g.R.Read.remaining c.read_all.new.input)) (sym same) r.taken in
     refused c.args.options.limit c.args.options.indented _ _ _ c.in-Ok.text.now c.in-Err.error c.refusal.result taken r.answer.1
-        (subst IsUtf8 (sym u.0) u.1) c.in-Err.ensures c.refusal.ensures
+    (subst IsUtf8 (sym u.0) u.1) c.in-Err.ensures c.refusal.ensures

@@ -21,6 +21,6 @@ returns c =
     let i = chars c.args.indent.now in
     let scalars = text_of_scalars (Some i) (white_scalars i c.requires) 0 (view v) (view_IsTree v) in
     let bytes : chars c.in_ok-bytes.bytes.items ≡ indented (view v) i 0 = ap chars c.in_ok-bytes.ensures
-        ∙ encoded_chars (indented (view v) i 0) scalars in
+    ∙ encoded_chars (indented (view v) i 0) scalars in
     let same : chars c.as_str.result.now ≡ chars c.in_ok-bytes.bytes.items = search rules in
     reads_back v (Some i) (chars c.as_str.result.now) c.from_str.result c.requires (same ∙ bytes) c.from_str.ensures

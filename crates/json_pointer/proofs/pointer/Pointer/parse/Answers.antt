@@ -13,7 +13,7 @@ pub returns-in-None : goal.returns-in-None
 returns-in-None c =
     exactly (chars c.args.text.now) (tokens_of c.root.result)
     (ap chars (sym c.chars-rest.ensures.rest) ∙ (chars_of_empty (chars_rest c.chars-rest.result) c.in-None.ensures.steps.0.0
-        ∙ ap pointer_text (sym c.root.ensures)))
+    ∙ ap pointer_text (sym c.root.ensures)))
 
 pub returns-in-Some : goal.returns-in-Some
 returns-in-Some c =
@@ -27,7 +27,7 @@ returns-in_ok-read_tokens-in-Some-eq47 c =
     let first = c.in-Some-eq47 in
     let step = chars_past_char _ _ first.field-0 (subst IsUtf8 (sym rest) c.utf8.text) first.ensures.steps.0 in
     let all = ap chars (sym rest) ∙ (step ∙ (ap (λ x. x ∷ chars (chars_rest c.next.new.self)) first.field-0-test
-        ∙ ap (λ bs. 47 ∷ chars bs) (sym c.as_str.ensures))) in
+    ∙ ap (λ bs. 47 ∷ chars bs) (sym c.as_str.ensures))) in
     exactly (chars c.args.text.now) _ (all ∙ c.in_ok-read_tokens-in-Some-eq47.ensures)
 
 pub returns-in_err-read_tokens-in-Some-eq47 : goal.returns-in_err-read_tokens-in-Some-eq47
@@ -36,8 +36,8 @@ returns-in_err-read_tokens-in-Some-eq47 c =
     let first = c.in-Some-eq47 in
     let step = chars_past_char _ _ first.field-0 (subst IsUtf8 (sym rest) c.utf8.text) first.ensures.steps.0 in
     let all = ap chars (sym rest) ∙ (step ∙ (ap (λ x. x ∷ chars (chars_rest c.next.new.self)) first.field-0-test
-        ∙ ap (λ bs. 47 ∷ chars bs) (sym c.as_str.ensures))) in
+    ∙ ap (λ bs. 47 ∷ chars bs) (sym c.as_str.ensures))) in
     let said = after_slash (chars c.args.text.now) (chars c.as_str.result.now) c.in_err-read_tokens-in-Some-eq47.field-0.0 all
-        c.in_err-read_tokens-in-Some-eq47.ensures in
+    c.in_err-read_tokens-in-Some-eq47.ensures in
     error_back (Reads (chars c.args.text.now)) c.from_residual.result c.in_err-read_tokens-in-Some-eq47.field-0.0 c.from_residual.ensures.1
-        said
+    said

@@ -9,5 +9,5 @@ returns-else-is_printable-clause-writes g c =
     let laid_out = rw c.laid_out.ensures at c.write-else-is_printable.ensures.writes in
     let written = rw (code_point_text _ _ code c.in_radix.ensures) at laid_out in
     let is : shown code ≡ code_point code = ap (λ b. cond b (code ∷ []) (code_point code)) (sym c.is_printable.ensures
-        ∙ c.if-is_printable.false) in
+    ∙ c.if-is_printable.false) in
     rw is written
