@@ -1,0 +1,26 @@
+use Rattle.std.proofs.Common.{◌∙◌, subst}
+use Rattle.std.specs.Str.{chars}
+use Rattle.i_regexp.specs.Grammar.{IsText}
+use Rattle.i_regexp.specs.Reading.{Refused}
+use Rattle.i_regexp.proofs.Kept.{kept_to}
+use Rattle.i_regexp.proofs.Reading.{one_reading}
+use Rattle.i_regexp.proofs.regexp.IRegexp.parse.Goals as goal
+
+pub invariant_of-result : goal.invariant_of-result
+invariant_of-result c = record { kept = kept_to c.in-Ok-read.root c.in-Ok-read.ensures.2.kept }
+
+pub returns-in-Ok-read : goal.returns-in-Ok-read
+returns-in-Ok-read c =
+    let r = c.in-Ok-read.ensures.0 in
+    let means = c.in-Ok-read.ensures.2 in
+    let all = c.as_slice.ensures.value ∙ c.in-Ok.ensures in
+    let text = subst (λ cs. IsText cs r) all c.in-Ok-read.ensures.1 in
+    record {
+      regexp = r;
+      text = text;
+      only = λ q t. one_reading (chars c.args.text.now) q r t text;
+      same = λ ds. (means.sound ds, means.complete ds);
+    }
+
+pub returns : goal.returns
+returns c = subst (λ cs. Refused cs c.in-Err.error) (c.as_slice.ensures.value ∙ c.in-Ok.ensures) c.in-Err.ensures

@@ -1,0 +1,55 @@
+-- What a tree that is built means; only private contracts use these words.
+use Rattle.std.specs.Prelude.{◌≡◌, ℕ, false, List, [], ◌∷◌, ◌++◌, length}
+use Rattle.i_regexp.specs.declared.marked.Node.{Node}
+use Rattle.i_regexp.specs.Forms.{Form, empty, class, concat, alternation, Matches}
+use Rattle.i_regexp.specs.Marked.{form_of, skips, ends_here, IsKept}
+
+-- The tree, which has no mark at an end, matches what the regular expression matches.
+pub record Means (n : Node) (f : Form) : Type 0 where
+  pub kept : IsKept n
+  pub fresh : ends_here n ≡ false
+  pub sound : (cs : List ℕ) → Matches (form_of n) cs → Matches f cs
+  pub complete : (cs : List ℕ) → Matches f cs → Matches (form_of n) cs
+
+-- The second tree is the first once more.
+pub record IsCopy (n m : Node) : Type 0 where
+  pub form : form_of m ≡ form_of n
+  pub skipped : skips m ≡ skips n
+  pub ended : ends_here m ≡ ends_here n
+  pub kept : IsKept n → IsKept m
+
+-- the trees match what the regular expressions match, one by one
+abbrev pub AllMean : List Node → List Form → Type 0
+AllMean [] [] = Unit {0}
+AllMean [] (f ∷ fs) = ⊥
+AllMean (n ∷ ns) [] = ⊥
+AllMean (n ∷ ns) (f ∷ fs) = Means n f × AllMean ns fs
+
+-- one after the other
+abbrev pub sequence : List Form → Form
+sequence [] = empty
+sequence (f ∷ fs) = concat f (sequence fs)
+
+-- one of them
+abbrev pub choice_from : Form → List Form → Form
+choice_from f [] = f
+choice_from f (g ∷ gs) = alternation f (choice_from g gs)
+
+-- one of them; of none, what matches nothing
+abbrev pub choice : List Form → Form
+choice [] = class false []
+choice (f ∷ fs) = choice_from f fs
+
+-- The last nodes are taken, and are one after the other in n.
+pub record TakesSequence (old : List Node) (count : ℕ) (new : List Node) (n : Node) : Type 0 where
+  pub taken : List Node
+  pub split : old ≡ new ++ taken
+  pub counted : length taken ≡ count
+  pub means : (fs : List Form) → AllMean taken fs → Means n (sequence fs)
+
+-- The last nodes are taken, and n is a choice among them.
+pub record TakesChoice (old : List Node) (count : ℕ) (new : List Node) (n : Node) : Type 0 where
+  pub taken : List Node
+  pub split : old ≡ new ++ taken
+  pub counted : length taken ≡ count
+  pub means : (fs : List Form) → AllMean taken fs → Means n (choice fs)

@@ -1,0 +1,123 @@
+-- The machine that reads tokens; only private contracts use these words.
+use Rattle.std.specs.Prelude.{◌≡◌, ℕ, List, [], ◌∷◌, ◌++◌, map, Option, Some, None, Result, Ok, Err}
+use Rattle.i_regexp.specs.declared.error.IRegexpErrorKind.{IRegexpErrorKind}
+use Rattle.i_regexp.specs.declared.error.IRegexpErrorKind.TheVariants as kind
+use Rattle.i_regexp.specs.declared.marked.Node.{Node}
+use Rattle.i_regexp.specs.declared.reader.Level.{Level as CodeLevel}
+use Rattle.i_regexp.specs.Forms.{AtMost}
+use Rattle.i_regexp.specs.Building.{Means, AllMean}
+use Rattle.i_regexp.specs.Grammar.{Token, characters, opened, closed, bar, quantifier, Regexp, last, branches, Branch, nothing, pieces}
+use Rattle.i_regexp.specs.Grammar.{Piece, once, times, Atom, character, group, branch_form, piece_form, atom_form}
+
+-- what was read of a group: the branches that have ended, the pieces of the last one, and the atom after these
+pub data Level : Type 0 where
+  level : (done : List Branch) (front : List Piece) (end : Option Atom) → Level
+
+-- the innermost group, and those around it
+abbrev pub State : Type 0
+State = Level × List Level
+
+-- nothing read
+abbrev pub fresh : Level
+fresh = level [] [] None
+
+-- the pieces, with the atom after them as one, which is not repeated
+abbrev pub settled : List Piece → Option Atom → List Piece
+settled ps None = ps
+settled ps (Some a) = ps ++ once a ∷ []
+
+-- the last atom is not repeated
+abbrev pub settle : Level → Level
+settle (level bs ps end) = level bs (settled ps end) None
+
+-- one more atom
+abbrev pub with_atom : Level → Atom → Level
+with_atom (level bs ps end) a = level bs (settled ps end) (Some a)
+
+-- the pieces as a branch
+abbrev pub branch_of : List Piece → Branch
+branch_of [] = nothing
+branch_of (p ∷ ps) = pieces p (branch_of ps)
+
+-- branches, and the last one
+abbrev pub regexp_from : List Branch → Branch → Regexp
+regexp_from [] b = last b
+regexp_from (c ∷ cs) b = branches c (regexp_from cs b)
+
+-- a branch has ended
+abbrev pub barred : Level → Level
+barred (level bs ps end) = level (bs ++ branch_of (settled ps end) ∷ []) [] None
+
+-- what was read of the group, as if it ended here
+abbrev pub regexp_of : Level → Regexp
+regexp_of (level bs ps end) = regexp_from bs (branch_of (settled ps end))
+
+-- the last atom is repeated, if there is one
+abbrev pub quantified : Level → ℕ → Option ℕ → Option Level
+quantified (level bs ps None) least most = None
+quantified (level bs ps (Some a)) least most = Some (level bs (ps ++ times a least most ∷ []) None)
+
+-- the innermost group, if it is one, in those around it
+abbrev pub in_state : List Level → Option Level → Option State
+in_state ls None = None
+in_state ls (Some l) = Some (l, ls)
+
+-- the innermost group ends, and is an atom of the one around it
+abbrev pub close : Level → List Level → Option State
+close l [] = None
+close l (o ∷ ls) = Some (with_atom o (group (regexp_of l)), ls)
+
+-- a token is read
+abbrev pub advance : State → Token → Option State
+advance s (characters negated ranges) = Some (with_atom s.0 (character negated ranges), s.1)
+advance s opened = Some (fresh, s.0 ∷ s.1)
+advance s closed = close s.0 s.1
+advance s bar = Some (barred s.0, s.1)
+advance s (quantifier least most) = in_state s.1 (quantified s.0 least most)
+
+-- ---- the code's levels
+
+-- the node is the atom, or neither is there
+abbrev pub MeansEnd : Option Node → Option Atom → Type 0
+MeansEnd None None = Unit {0}
+MeansEnd None (Some a) = ⊥
+MeansEnd (Some n) None = ⊥
+MeansEnd (Some n) (Some a) = Means n (atom_form a)
+
+-- the code's level has these branches, pieces and last atom
+pub record Stands (f : CodeLevel) (bs : List Branch) (ps : List Piece) (end : Option Atom) : Type 0 where
+  pub done : AllMean f.branches.items (map branch_form bs)
+  pub front : AllMean f.pieces.items (map piece_form ps)
+  pub ended : MeansEnd f.last end
+
+-- the code's level is that level
+abbrev pub StandsAt : CodeLevel → Level → Type 0
+StandsAt f (level bs ps end) = Stands f bs ps end
+
+-- the levels around, the innermost of which is the last one of the list
+abbrev pub Outer : List CodeLevel → List Level → Type 0
+Outer fs [] = fs ≡ []
+Outer fs (l ∷ ls) = (gs : List CodeLevel) × (f : CodeLevel) × (fs ≡ gs ++ f ∷ []) × StandsAt f l × Outer gs ls
+
+-- the code's levels are that state
+abbrev pub Agrees : CodeLevel → List CodeLevel → State → Type 0
+Agrees here outer s = StandsAt here s.0 × Outer outer s.1
+
+-- what a quantifier does to a level
+abbrev pub Quantifies : CodeLevel → ℕ → Option ℕ → Result (Unit {0}) IRegexpErrorKind → CodeLevel → Type 0
+Quantifies old least most (Ok x) new =
+    (l : Level) → StandsAt old l → (l' : Level) × (quantified l least most ≡ Some l') × StandsAt new l'
+Quantifies old least most (Err kind.Invalid) new = (l : Level) → StandsAt old l → quantified l least most ≡ None
+Quantifies old least most (Err e) new = Unit {0}
+
+-- what a token does to a state
+abbrev pub Takes : CodeLevel → List CodeLevel → Token → Result (Unit {0}) IRegexpErrorKind → CodeLevel → List CodeLevel → Type 0
+Takes here outer t (Ok x) here' outer' =
+    (s : State) → Agrees here outer s → (s' : State) × (advance s t ≡ Some s') × Agrees here' outer' s'
+Takes here outer t (Err kind.Invalid) here' outer' = (s : State) → Agrees here outer s → advance s t ≡ None
+Takes here outer t (Err e) here' outer' = Unit {0}
+
+-- a quantifier's counts are in order
+abbrev pub IsFit : Token → Type 0
+IsFit (quantifier least most) = AtMost least most
+IsFit t = Unit {0}

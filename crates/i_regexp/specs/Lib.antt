@@ -1,0 +1,10 @@
+pub mod Characters
+pub mod Forms
+pub mod Marked
+pub mod Building
+pub mod Grammar
+pub mod Fronts
+pub mod Levels
+pub mod Message
+pub mod Reading
+pub mod Regexps

@@ -1,0 +1,192 @@
+//! Building the tree of a regular expression, with no marks.
+ghost use Rattle.std.specs.Prelude.{◌≡◌, ◌≤◌, ◌<◌, List, IfOk, vec_len};
+ghost use Rattle.i_regexp.specs.Forms.{Form, class, concat, alternation, repetition, AtMost};
+ghost use Rattle.i_regexp.specs.Building.{Means, IsCopy, AllMean, sequence, choice};
+ghost use Rattle.i_regexp.specs.Building.{TakesSequence, TakesChoice};
+
+use crate::class::Class;
+use crate::marked::Node;
+use std::alloc::{AllocError, Global};
+
+/// One character of a class.
+pub(crate) fn one_of(members: Class) -> Node
+    ensures { Means result (class members.negated members.ranges.items) }
+{
+    Node::Class {
+        class: members,
+        mark: false,
+    }
+}
+
+impl Node {
+    /// The same tree once more.
+    pub(crate) fn copy(&self, alloc: Global) -> Result<Node, AllocError>
+        ensures { IfOk result (λ n. IsCopy self.now n) }
+    {
+        match self {
+            Node::Empty => Ok(Node::Empty),
+            Node::Class { class, mark } => Ok(Node::Class {
+                class: class.copy(alloc)?,
+                mark: *mark,
+            }),
+            Node::Concat {
+                left,
+                right,
+                left_empty,
+                right_empty,
+                left_ends,
+            } => Ok(Node::Concat {
+                left: Box::new(alloc, left.copy(alloc)?)?,
+                right: Box::new(alloc, right.copy(alloc)?)?,
+                left_empty: *left_empty,
+                right_empty: *right_empty,
+                left_ends: *left_ends,
+            }),
+            Node::Alternation { left, right } => Ok(Node::Alternation {
+                left: Box::new(alloc, left.copy(alloc)?)?,
+                right: Box::new(alloc, right.copy(alloc)?)?,
+            }),
+            Node::Star { body, body_ends } => Ok(Node::Star {
+                body: Box::new(alloc, body.copy(alloc)?)?,
+                body_ends: *body_ends,
+            }),
+        }
+    }
+
+    /// How many places a text can reach in this tree, at most.
+    pub(crate) fn size(&self) -> usize {
+        match self {
+            Node::Empty => 1,
+            Node::Class { .. } => 1,
+            Node::Concat { left, right, .. } => left.size().saturating_add(right.size()),
+            Node::Alternation { left, right } => left.size().saturating_add(right.size()),
+            Node::Star { body, .. } => body.size(),
+        }
+    }
+}
+
+/// One after the other.
+pub(crate) fn concat(alloc: Global, left: Node, right: Node) -> Result<Node, AllocError>
+    ensures { IfOk result (λ n. (f g : Form) → Means left f → Means right g
+        → Means n (concat f g)) }
+{
+    let left_empty = left.skips();
+    let right_empty = right.skips();
+    Ok(Node::Concat {
+        left: Box::new(alloc, left)?,
+        right: Box::new(alloc, right)?,
+        left_empty,
+        right_empty,
+        left_ends: false,
+    })
+}
+
+/// One or the other.
+pub(crate) fn alternation(alloc: Global, left: Node, right: Node) -> Result<Node, AllocError>
+    ensures { IfOk result (λ n. (f g : Form) → Means left f → Means right g
+        → Means n (alternation f g)) }
+{
+    Ok(Node::Alternation {
+        left: Box::new(alloc, left)?,
+        right: Box::new(alloc, right)?,
+    })
+}
+
+/// Any number of times.
+pub(crate) fn star(alloc: Global, body: Node) -> Result<Node, AllocError>
+    ensures { IfOk result (λ n. (f : Form) → Means body f → Means n (repetition f 0 None)) }
+{
+    Ok(Node::Star {
+        body: Box::new(alloc, body)?,
+        body_ends: false,
+    })
+}
+
+/// Once or not at all.
+pub(crate) fn optional(alloc: Global, body: Node) -> Result<Node, AllocError>
+    ensures { IfOk result (λ n. (f : Form) → Means body f → Means n (repetition f 0 (Some 1))) }
+{
+    alternation(alloc, Node::Empty, body)
+}
+
+/// Takes the last nodes, of which there are `count`, and puts them one after the other, as a tree
+/// whose depth is the logarithm of the count.
+pub(crate) fn take_sequence(
+    alloc: Global,
+    nodes: &mut Vec<Node>,
+    count: usize,
+) -> Result<Node, AllocError>
+    requires { count ≤ vec_len nodes.old }
+    ensures { IfOk result (λ n. TakesSequence nodes.old.items count nodes.new.items n) }
+{
+    if count == 0 {
+        return Ok(Node::Empty);
+    }
+    if count == 1 {
+        return Ok(nodes.pop().unwrap());
+    }
+    let half = count / 2;
+    let right = take_sequence(alloc, nodes, half)?;
+    let left = take_sequence(alloc, nodes, count - half)?;
+    concat(alloc, left, right)
+}
+
+/// Takes the last nodes, of which there are `count`, as a choice among them.
+pub(crate) fn take_choice(
+    alloc: Global,
+    nodes: &mut Vec<Node>,
+    count: usize,
+) -> Result<Node, AllocError>
+    requires some { 0 < count }
+    requires there { count ≤ vec_len nodes.old }
+    ensures { IfOk result (λ n. TakesChoice nodes.old.items count nodes.new.items n) }
+{
+    if count == 1 {
+        return Ok(nodes.pop().unwrap());
+    }
+    let half = count / 2;
+    let right = take_choice(alloc, nodes, half)?;
+    let left = take_choice(alloc, nodes, count - half)?;
+    alternation(alloc, left, right)
+}
+
+/// All of them, one after the other.
+pub(crate) fn sequence_of(alloc: Global, mut nodes: Vec<Node>) -> Result<Node, AllocError>
+    ensures { IfOk result (λ n. (fs : List Form) → AllMean nodes.items fs → Means n (sequence fs)) }
+{
+    let count = nodes.len();
+    take_sequence(alloc, &mut nodes, count)
+}
+
+/// A choice among all of them.
+pub(crate) fn choice_of(alloc: Global, mut nodes: Vec<Node>) -> Result<Node, AllocError>
+    requires { 0 < vec_len nodes }
+    ensures { IfOk result (λ n. (fs : List Form) → AllMean nodes.items fs → Means n (choice fs)) }
+{
+    let count = nodes.len();
+    take_choice(alloc, &mut nodes, count)
+}
+
+/// At least and at most so many times.
+pub(crate) fn repeat(
+    alloc: Global,
+    node: &Node,
+    least: usize,
+    most: Option<usize>,
+) -> Result<Node, AllocError>
+    requires { AtMost least most }
+    ensures { IfOk result (λ n. (f : Form) → Means node.now f → Means n (repetition f least most)) }
+{
+    let mut parts = Vec::new(alloc);
+    for _i in 0..least {
+        parts.push(node.copy(alloc)?)?;
+    }
+    let Some(most) = most else {
+        parts.push(star(alloc, node.copy(alloc)?)?)?;
+        return sequence_of(alloc, parts);
+    };
+    for _k in 0..most - least {
+        parts.push(optional(alloc, node.copy(alloc)?)?)?;
+    }
+    sequence_of(alloc, parts)
+}

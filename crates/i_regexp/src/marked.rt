@@ -1,0 +1,109 @@
+//! The tree of a regular expression, marked at the places that a text has reached.
+ghost use Rattle.std.specs.Prelude.{◌≡◌};
+ghost use Rattle.i_regexp.specs.Marked.{shifted, cleared, skips, ends_here};
+
+use crate::class::Class;
+
+/// A regular expression. The mark of a class says that the text read so far can end with a
+/// character of this class, so that what may come next is what may follow here.
+#[derive(Drop)]
+pub(crate) enum Node {
+    Empty,
+    Class {
+        class: Class,
+        mark: bool,
+    },
+    Concat {
+        left: Box<Node>,
+        right: Box<Node>,
+        // whether each matches the empty text, and whether the left one can end here
+        left_empty: bool,
+        right_empty: bool,
+        left_ends: bool,
+    },
+    Alternation {
+        left: Box<Node>,
+        right: Box<Node>,
+    },
+    Star {
+        body: Box<Node>,
+        // whether the body can end here
+        body_ends: bool,
+    },
+}
+
+impl Node {
+    /// Whether this matches the empty text.
+    pub(crate) fn skips(&self) -> bool
+        ensures { result ≡ skips self.now }
+    {
+        match self {
+            Node::Empty => true,
+            Node::Class { .. } => false,
+            Node::Concat { left, right, .. } => left.skips() && right.skips(),
+            Node::Alternation { left, right } => left.skips() || right.skips(),
+            Node::Star { .. } => true,
+        }
+    }
+
+    /// Takes all marks away.
+    pub(crate) fn clear(&mut self)
+        ensures { self.new ≡ cleared self.old }
+    {
+        match self {
+            Node::Empty => {}
+            Node::Class { mark, .. } => *mark = false,
+            Node::Concat {
+                left,
+                right,
+                left_ends,
+                ..
+            } => {
+                left.clear();
+                right.clear();
+                *left_ends = false;
+            }
+            Node::Alternation { left, right } => {
+                left.clear();
+                right.clear();
+            }
+            Node::Star { body, body_ends } => {
+                body.clear();
+                *body_ends = false;
+            }
+        }
+    }
+
+    /// Moves the marks over a character: each to the places that it leads to. With `start`, the
+    /// text may also begin with this character. Returns whether the text can end after it.
+    pub(crate) fn shift(&mut self, start: bool, c: char) -> bool
+        ensures marks { self.new ≡ shifted start c self.old }
+        ensures ends { result ≡ ends_here self.new }
+    {
+        match self {
+            Node::Empty => false,
+            Node::Class { class, mark } => {
+                *mark = start & class.contains(c);
+                *mark
+            }
+            Node::Concat {
+                left,
+                right,
+                left_empty,
+                right_empty,
+                left_ends,
+            } => {
+                let enters = *left_ends | (start & *left_empty);
+                let ends = left.shift(start, c);
+                *left_ends = ends;
+                right.shift(enters, c) | (ends & *right_empty)
+            }
+            Node::Alternation { left, right } => left.shift(start, c) | right.shift(start, c),
+            Node::Star { body, body_ends } => {
+                let ends = body.shift(start | *body_ends, c);
+                *body_ends = ends;
+                ends
+            }
+        }
+    }
+}

@@ -1,0 +1,92 @@
+//! A regular expression that is ready to be matched.
+ghost use Rattle.std.specs.Prelude.{◌≡◌, ◌↔◌, true, IfOk, IsTrue};
+ghost use Rattle.std.specs.Str.{chars};
+ghost use Rattle.i_regexp.specs.Forms.{Matches, Searches};
+ghost use Rattle.i_regexp.specs.Marked.{is_kept};
+
+use crate::error::{IRegexpError, IRegexpErrorKind};
+use crate::marked::Node;
+use crate::reader::read;
+use crate::run::{matches_part, matches_whole};
+use std::alloc::{AllocError, Global};
+
+/// A regular expression of RFC 9485 that is ready to be matched. It is mutable for the marks that move
+/// over a text; between two calls they have no meaning.
+///
+/// ```
+/// let mut word = IRegexp::parse(alloc, "[a-z]+(-[a-z]+)*")?;
+/// assert!(rt; word.matches("so-called"));
+/// assert!(rt; !word.matches("so--called"));
+/// ```
+#[derive(Drop)]
+pub struct IRegexp {
+    root: Node,
+    ghost kept: { is_kept root ≡ true },
+}
+
+impl IRegexp {
+    ghost use Rattle.i_regexp.specs.Regexps.{form_in, ReadsRegexp};
+
+    /// Reads a regular expression: a text of the grammar (RFC 9485, section 3) with no category of
+    /// characters. `^` and `$` stand for themselves, but for a `^` behind `[`, which negates. After an
+    /// error nothing is left of what was read.
+    ///
+    /// ```
+    /// let mut month = IRegexp::parse(alloc, "[0-9]{4}-[0-9]{2}")?;
+    /// assert!(rt; month.matches("2026-11"));
+    /// ```
+    pub fn parse(alloc: Global, text: &str) -> Result<IRegexp, IRegexpError>
+        ensures { ReadsRegexp (chars text.now) result }
+    {
+        let Ok(all) = characters(alloc, text) else {
+            return Err(IRegexpError {
+                kind: IRegexpErrorKind::OutOfMemory,
+                place: 0,
+            });
+        };
+        match read(alloc, all.as_slice()) {
+            Ok(root) => Ok(IRegexp { root }),
+            Err(error) => Err(error),
+        }
+    }
+
+    /// Whether the whole text is matched (RFC 9485, section 4). It takes time by the product of the
+    /// two sizes, and no memory.
+    ///
+    /// ```
+    /// let mut even = IRegexp::parse(alloc, "(aa)*")?;
+    /// assert!(rt; even.matches("aaaa"));
+    /// assert!(rt; !even.matches("aaa"));
+    /// ```
+    pub fn matches(&mut self, text: &str) -> bool
+        ensures matched { IsTrue result ↔ Matches (form_in self.old) (chars text.now) }
+        ensures same { form_in self.new ≡ form_in self.old }
+    {
+        matches_whole(&mut self.root, text)
+    }
+
+    /// Whether a part of the text is matched: some of its characters in a row, or none. It takes time
+    /// by the product of the two sizes, and no memory.
+    ///
+    /// ```
+    /// let mut month = IRegexp::parse(alloc, "[0-9]{4}-[0-9]{2}")?;
+    /// assert!(rt; month.searches("until 2026-11, or so"));
+    /// ```
+    pub fn searches(&mut self, text: &str) -> bool
+        ensures matched { IsTrue result ↔ Searches (form_in self.old) (chars text.now) }
+        ensures same { form_in self.new ≡ form_in self.old }
+    {
+        matches_part(&mut self.root, text)
+    }
+}
+
+/// The characters of a text.
+fn characters(alloc: Global, text: &str) -> Result<Vec<char>, AllocError>
+    ensures { IfOk result (λ v. v.items ≡ chars text.now) }
+{
+    let mut all = Vec::new(alloc);
+    for c in text.chars() {
+        all.push(c)?;
+    }
+    Ok(all)
+}

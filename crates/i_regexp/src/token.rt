@@ -1,0 +1,305 @@
+//! The tokens of a text.
+ghost use Rattle.std.specs.Prelude.{◌≡◌, ℕ, ◌<◌, ◌≤◌, length};
+ghost use Rattle.i_regexp.specs.Grammar.{is_normal, is_plain, is_digit, escape_of};
+ghost use Rattle.i_regexp.specs.Fronts.{Fronts, token_of, escape_front, member_front, item_front};
+ghost use Rattle.i_regexp.specs.Fronts.{number_front, counts_front, class_front, first_front};
+ghost use Rattle.i_regexp.specs.Fronts.{bracket_front, token_front};
+
+use crate::class::Class;
+use crate::error::IRegexpErrorKind;
+use crate::limits::SIZE;
+use std::alloc::Global;
+
+/// A part of a text that has a meaning of its own.
+#[derive(Drop)]
+pub(crate) enum Token {
+    /// One character of a class.
+    Characters(Class),
+    Open,
+    Close,
+    Bar,
+    Quantifier { least: usize, most: Option<usize> },
+}
+
+/// The first token of a text, and what stands after it.
+pub(crate) fn next_token<'t>(
+    alloc: Global,
+    text: &'t [char],
+) -> Result<(Token, &'t [char]), IRegexpErrorKind>
+    ensures { Fronts token_of (token_front text.now) result }
+{
+    let Some((first, rest)) = text.split_first() else {
+        return Err(IRegexpErrorKind::Invalid);
+    };
+    match *first {
+        '(' => Ok((Token::Open, rest)),
+        ')' => Ok((Token::Close, rest)),
+        '|' => Ok((Token::Bar, rest)),
+        '*' => Ok((
+            Token::Quantifier {
+                least: 0,
+                most: None,
+            },
+            rest,
+        )),
+        '+' => Ok((
+            Token::Quantifier {
+                least: 1,
+                most: None,
+            },
+            rest,
+        )),
+        '?' => Ok((
+            Token::Quantifier {
+                least: 0,
+                most: Some(1),
+            },
+            rest,
+        )),
+        '{' => counts(rest),
+        '.' => Ok((Token::Characters(Class::dot(alloc)?), rest)),
+        '\\' => {
+            let (c, after) = escaped(rest)?;
+            Ok((Token::Characters(Class::single(alloc, c)?), after))
+        }
+        '[' => bracket(alloc, rest),
+        c => {
+            if is_normal(c) {
+                Ok((Token::Characters(Class::single(alloc, c)?), rest))
+            } else {
+                Err(IRegexpErrorKind::Invalid)
+            }
+        }
+    }
+}
+
+/// Whether the character stands for itself.
+fn is_normal(c: char) -> bool
+    ensures { result ≡ is_normal c }
+{
+    !matches!(
+        c,
+        '(' | ')' | '*' | '+' | '.' | '?' | '[' | '\\' | ']' | '{' | '|' | '}'
+    )
+}
+
+/// Whether the character stands for itself in a class.
+fn is_plain(c: char) -> bool
+    ensures { result ≡ is_plain c }
+{
+    !matches!(c, '-' | '[' | '\\' | ']')
+}
+
+/// The character that this one stands for behind a backslash.
+fn escape(letter: char) -> Option<char>
+    ensures { result ≡ escape_of letter }
+{
+    match letter {
+        'n' => Some('\n'),
+        'r' => Some('\r'),
+        't' => Some('\t'),
+        '(' | ')' | '*' | '+' | '-' | '.' | '?' | '[' | '\\' | ']' | '^' | '{' | '|' | '}' => Some(
+            letter,
+        ),
+        _ => None,
+    }
+}
+
+/// The character that stands behind a backslash.
+fn escaped(text: &[char]) -> Result<(char, &[char]), IRegexpErrorKind>
+    ensures { Fronts (λ c. c) (escape_front text.now) result }
+{
+    let Some((first, rest)) = text.split_first() else {
+        return Err(IRegexpErrorKind::Invalid);
+    };
+    match escape(*first) {
+        Some(c) => Ok((c, rest)),
+        None => {
+            if matches!(*first, 'p' | 'P') {
+                Err(IRegexpErrorKind::UnsupportedCategory)
+            } else {
+                Err(IRegexpErrorKind::Invalid)
+            }
+        }
+    }
+}
+
+/// The quantifier of which the counts stand behind a brace.
+fn counts(text: &[char]) -> Result<(Token, &[char]), IRegexpErrorKind>
+    ensures { Fronts token_of (counts_front text.now) result }
+{
+    let (least, rest) = number(text)?;
+    let Some((next, after)) = rest.split_first() else {
+        return Err(IRegexpErrorKind::Invalid);
+    };
+    if *next == '}' {
+        return Ok((
+            Token::Quantifier {
+                least,
+                most: Some(least),
+            },
+            after,
+        ));
+    }
+    if *next != ',' {
+        return Err(IRegexpErrorKind::Invalid);
+    }
+    let Some((next, end)) = after.split_first() else {
+        return Err(IRegexpErrorKind::Invalid);
+    };
+    if *next == '}' {
+        return Ok((Token::Quantifier { least, most: None }, end));
+    }
+    let (most, rest) = number(after)?;
+    let Some((next, after)) = rest.split_first() else {
+        return Err(IRegexpErrorKind::Invalid);
+    };
+    if *next != '}' || most < least {
+        return Err(IRegexpErrorKind::Invalid);
+    }
+    Ok((
+        Token::Quantifier {
+            least,
+            most: Some(most),
+        },
+        after,
+    ))
+}
+
+/// The number that the digits at the front are.
+fn number(text: &[char]) -> Result<(usize, &[char]), IRegexpErrorKind>
+    ensures { Fronts (λ n. n) (number_front text.now) result }
+{
+    let Some((first, after)) = text.split_first() else {
+        return Err(IRegexpErrorKind::Invalid);
+    };
+    if !is_digit(*first) {
+        return Err(IRegexpErrorKind::Invalid);
+    }
+    let mut value = *first as usize - '0' as usize;
+    let mut rest = after;
+    while let Some((next, after)) = rest.split_first() {
+        if !is_digit(*next) {
+            break;
+        }
+        value = 10 * value + (*next as usize - '0' as usize);
+        if value > SIZE {
+            return Err(IRegexpErrorKind::TooLarge);
+        }
+        rest = after;
+    }
+    Ok((value, rest))
+}
+
+fn is_digit(c: char) -> bool
+    ensures { result ≡ is_digit c }
+{
+    '0' <= c && c <= '9'
+}
+
+/// The class that stands behind an opening bracket.
+fn bracket<'t>(alloc: Global, text: &'t [char]) -> Result<(Token, &'t [char]), IRegexpErrorKind>
+    ensures { Fronts token_of (bracket_front text.now) result }
+{
+    let Some((next, after)) = text.split_first() else {
+        return Err(IRegexpErrorKind::Invalid);
+    };
+    if *next == '^' {
+        return class(alloc, true, after);
+    }
+    class(alloc, false, text)
+}
+
+/// The class of which the items stand here.
+fn class<'t>(
+    alloc: Global,
+    negated: bool,
+    text: &'t [char],
+) -> Result<(Token, &'t [char]), IRegexpErrorKind>
+    ensures { (n : ℕ) → length text.now ≤ n
+        → Fronts token_of (first_front n negated text.now) result }
+{
+    let Some((next, after)) = text.split_first() else {
+        return Err(IRegexpErrorKind::Invalid);
+    };
+    if *next == '-' {
+        return class_from(alloc, negated, ('-', '-'), after);
+    }
+    let (range, after) = item(text)?;
+    class_from(alloc, negated, range, after)
+}
+
+/// The class that begins with this item, and of which the others stand here.
+fn class_from<'t>(
+    alloc: Global,
+    negated: bool,
+    first: (char, char),
+    text: &'t [char],
+) -> Result<(Token, &'t [char]), IRegexpErrorKind>
+    ensures { (n : ℕ) → length text.now < n
+        → Fronts token_of (class_front n negated (first, text.now)) result }
+{
+    let mut ranges = Vec::new(alloc);
+    ranges.push(first)?;
+    let mut rest = text;
+    while let Some((next, after)) = rest.split_first() {
+        if *next == ']' {
+            return Ok((Token::Characters(Class { negated, ranges }), after));
+        }
+        if *next == '-' {
+            let Some((last, end)) = after.split_first() else {
+                return Err(IRegexpErrorKind::Invalid);
+            };
+            if *last != ']' {
+                return Err(IRegexpErrorKind::Invalid);
+            }
+            ranges.push(('-', '-'))?;
+            return Ok((Token::Characters(Class { negated, ranges }), end));
+        }
+        let (range, after) = item(rest)?;
+        ranges.push(range)?;
+        rest = after;
+    }
+    Err(IRegexpErrorKind::Invalid)
+}
+
+/// A character of a class, or a range of them.
+fn item(text: &[char]) -> Result<((char, char), &[char]), IRegexpErrorKind>
+    ensures { Fronts (λ r. r) (item_front text.now) result }
+{
+    let (first, rest) = member(text)?;
+    let Some((next, after)) = rest.split_first() else {
+        return Ok(((first, first), rest));
+    };
+    if *next != '-' {
+        return Ok(((first, first), rest));
+    }
+    let Some((next, _)) = after.split_first() else {
+        return Err(IRegexpErrorKind::Invalid);
+    };
+    // the last `-` of a class
+    if *next == ']' {
+        return Ok(((first, first), rest));
+    }
+    let (last, after) = member(after)?;
+    if last < first {
+        return Err(IRegexpErrorKind::Invalid);
+    }
+    Ok(((first, last), after))
+}
+
+/// A character of a class, as it stands or behind a backslash.
+fn member(text: &[char]) -> Result<(char, &[char]), IRegexpErrorKind>
+    ensures { Fronts (λ c. c) (member_front text.now) result }
+{
+    let Some((first, rest)) = text.split_first() else {
+        return Err(IRegexpErrorKind::Invalid);
+    };
+    if *first == '\\' {
+        return escaped(rest);
+    }
+    if !is_plain(*first) {
+        return Err(IRegexpErrorKind::Invalid);
+    }
+    Ok((*first, rest))
+}

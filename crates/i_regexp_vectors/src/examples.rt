@@ -1,0 +1,45 @@
+//! The examples of the documentation, as they are written there.
+
+use i_regexp::{IRegexp, IRegexpErrorKind};
+use std::string::ToString;
+use std::test::Fail;
+
+#[test]
+fn months_and_words(rt: HostRuntime) -> Result<(), Fail> {
+    let alloc = rt.alloc();
+    let mut months = IRegexp::parse(alloc, "[0-9]{4}-[0-9]{2}")?;
+    let is_month = months.matches("2026-11");
+    assert!(rt; is_month);
+
+    let mut month = IRegexp::parse(alloc, "[0-9]{4}-[0-9]{2}")?;
+    assert!(rt; month.matches("2026-11"));
+
+    let mut month = IRegexp::parse(alloc, "[0-9]{4}-[0-9]{2}")?;
+    assert!(rt; month.searches("until 2026-11, or so"));
+
+    let mut word = IRegexp::parse(alloc, "[a-z]+(-[a-z]+)*")?;
+    assert!(rt; word.matches("so-called"));
+    assert!(rt; !word.matches("so--called"));
+
+    let mut even = IRegexp::parse(alloc, "(aa)*")?;
+    assert!(rt; even.matches("aaaa"));
+    assert!(rt; !even.matches("aaa"));
+    Ok(())
+}
+
+#[test]
+fn errors(rt: HostRuntime) -> Result<(), Fail> {
+    let alloc = rt.alloc();
+    let error = IRegexp::parse(alloc, "a{3,2}").err();
+    assert!(rt; error.is_some_and(|e| e.kind == IRegexpErrorKind::Invalid));
+
+    if let Err(error) = IRegexp::parse(alloc, "ab[c-a]") {
+        assert_eq!(rt; error.place, 2);
+        let words = error.to_string(alloc)?;
+        assert_eq!(rt;
+            words.as_str(),
+            "no regular expression of RFC 9485 at character 2"
+        );
+    }
+    Ok(())
+}
