@@ -1,18 +1,16 @@
 -- Reading a text token by token.
 use Rattle.std.proofs.lemmas.Bool.{eqb-true}
 use Rattle.std.proofs.lemmas.Bool.Decides.{nat_tests}
-use Rattle.std.proofs.Common.{Bool, true, false, ◌==◌, ◌≡◌, ℕ, ◌<◌, List, [], ◌∷◌, ◌++◌, length, Option, Some, None, Err, refl, sym, ap}
+use Rattle.std.proofs.Common.{Bool, true, false, ◌==◌, ◌≡◌, ℕ, ◌<◌, List, [], ◌∷◌, ◌++◌, length, Option, Some, None, refl, sym, ap}
 use Rattle.std.proofs.Common.{◌∙◌, subst, arith, append-nil, length-append}
 use Rattle.std.specs.Prelude.{option_and_then}
-use Rattle.i_regexp.specs.declared.error.IRegexpErrorKind.{IRegexpErrorKind}
-use Rattle.i_regexp.specs.declared.error.IRegexpErrorKind.TheVariants.{Invalid}
 use Rattle.i_regexp.specs.declared.marked.Node.{Node}
 use Rattle.i_regexp.specs.declared.reader.Level.{Level as CodeLevel}
 use Rattle.i_regexp.specs.Building.{Means}
-use Rattle.i_regexp.specs.Fronts.{Fronts, token_front}
+use Rattle.i_regexp.specs.Fronts.{token_front}
 use Rattle.i_regexp.specs.Grammar as is
 use Rattle.i_regexp.specs.Grammar.{Token, Spells, Spelled, Regexp, regexp_tokens, regexp_form, IsText}
-use Rattle.i_regexp.specs.Levels.{Level, State, fresh, regexp_of, advance, StandsAt, Outer, Agrees, Takes}
+use Rattle.i_regexp.specs.Levels.{Level, State, fresh, regexp_of, advance, StandsAt, Outer, Agrees}
 use Rattle.i_regexp.proofs.Levels.{outer_none}
 use Rattle.i_regexp.proofs.Lexing.{spells_some, front_sound, front_complete}
 use Rattle.i_regexp.proofs.Machine.{run, machine_sound, machine_complete}
@@ -53,13 +51,13 @@ record Rest (us ts : List Token) (ys : List ℕ) : Type 0 where
 some_same : {A : Type 0} {x y : A} → Some x ≡ Some y → x ≡ y
 some_same h = cc
 
-token_same : {a b : Token} {c d : List ℕ} → ◌≡◌ {A = Option (Token × List ℕ)} (Some (a, c)) (Some (b, d)) → a ≡ b
+pub token_same : {a b : Token} {c d : List ℕ} → ◌≡◌ {A = Option (Token × List ℕ)} (Some (a, c)) (Some (b, d)) → a ≡ b
 token_same h = ap (λ p. p.0) (some_same h)
 
 rest_same : {a b : Token} {c d : List ℕ} → ◌≡◌ {A = Option (Token × List ℕ)} (Some (a, c)) (Some (b, d)) → c ≡ d
 rest_same h = ap (λ p. p.1) (some_same h)
 
-none_some : {A : Type 0} {x : A} → None ≡ Some x → ⊥
+pub none_some : {A : Type 0} {x : A} → None ≡ Some x → ⊥
 none_some h = cc
 
 front_same : {cs ds : List ℕ} {u : Token} (us : List Token) (zs : List ℕ) → token_front cs ≡ Some (u, ds) → Lexes cs us zs → zs ≡ []
@@ -76,7 +74,7 @@ lexes_unique us (go {xs} {ys} {zs} {t} {ts} e h) k =
     let r = lexes_unique s.0 h s.2 in
     record { rest = r.rest; split = s.1 ∙ ap (λ vs. t ∷ vs) r.split; lexed = r.lexed }
 
-run_append : (ts us : List Token) (s : State) → run s (ts ++ us) ≡ option_and_then (λ s'. run s' us) (run s ts)
+pub run_append : (ts us : List Token) (s : State) → run s (ts ++ us) ≡ option_and_then (λ s'. run s' us) (run s ts)
 run_append [] us s = refl
 run_append (t ∷ ts) us s = by (advance s t) (λ s'. run_append ts us s')
   where
@@ -88,11 +86,11 @@ run_append (t ∷ ts) us s = by (advance s t) (λ s'. run_append ts us s')
 -- ---- the reading of a text, of which the rest is left
 
 pub record Reading (text rest : List ℕ) (here : CodeLevel) (outer : List CodeLevel) : Type 0 where
-  tokens : List Token
-  state : State
-  lexed : Lexes text tokens rest
-  ran : run (fresh, []) tokens ≡ Some state
-  agrees : Agrees here outer state
+  pub tokens : List Token
+  pub state : State
+  pub lexed : Lexes text tokens rest
+  pub ran : run (fresh, []) tokens ≡ Some state
+  pub agrees : Agrees here outer state
 
 pub reading_init : (text : List ℕ) (here : CodeLevel) (outer : List CodeLevel) → StandsAt here fresh → outer ≡ []
     → Reading text text here outer
@@ -124,7 +122,7 @@ reading_end text rest here outer n r e o whole =
 
 -- ---- refusals
 
-some_none : {A : Type 0} {x : A} → Some x ≡ None → ⊥
+pub some_none : {A : Type 0} {x : A} → Some x ≡ None → ⊥
 some_none e = cc
 
 -- the tokens of a regular expression that the text is
@@ -177,14 +175,6 @@ no_end text rest here outer r e l x k =
         let whole = machine_complete x in
         let tokens : regexp_tokens x ≡ r.tokens = split ∙ (ap (λ us. r.tokens ++ us) (nothing_lexed lexed e) ∙ append-nil r.tokens) in
         no_outer r.state whole.0 (sym r.ran ∙ (ap (run (fresh, [])) (sym tokens) ∙ whole.1)) r.agrees.1
-
-pub fronts_invalid : {U V : Type 0} (view : U → V) (o : Option (V × List ℕ)) (e : IRegexpErrorKind) → Fronts view o (Err e) → e ≡ Invalid
-    → o ≡ None
-fronts_invalid view o e h f = subst (λ x. Fronts view o (Err x)) f h
-
-pub takes_invalid : (here here' : CodeLevel) (outer outer' : List CodeLevel) (t : Token) (e : IRegexpErrorKind)
-    → Takes here outer t (Err e) here' outer' → e ≡ Invalid → (s : State) → Agrees here outer s → advance s t ≡ None
-takes_invalid here here' outer outer' t e h f = subst (λ x. Takes here outer t (Err x) here' outer') f h
 
 pub some_left : (b : Bool) (n : ℕ) → b ≡ (n == 0) → b ≡ false → 0 < n
 some_left b n e h = grind (arith, nat_tests)

@@ -146,7 +146,7 @@ pub fronts_err : {U V U' V' : Type 0} (view : U → V) (view' : U' → V') (o : 
 fronts_err view view' o o' e (Ok x) h k f = absurd h
 fronts_err view view' o o' Invalid (Err d) h k f = subst (λ x. Fronts view o (Err x)) (sym h) (f k)
 fronts_err view view' o o' UnsupportedCategory (Err d) h k f = subst (λ x. Fronts view o (Err x)) (sym h) tt
-fronts_err view view' o o' TooDeep (Err d) h k f = subst (λ x. Fronts view o (Err x)) (sym h) tt
+fronts_err view view' o o' TooDeep (Err d) h k f = absurd k
 fronts_err view view' o o' TooLarge (Err d) h k f = subst (λ x. Fronts view o (Err x)) (sym h) tt
 fronts_err view view' o o' OutOfMemory (Err d) h k f = subst (λ x. Fronts view o (Err x)) (sym h) tt
 

@@ -15,6 +15,7 @@ use Rattle.i_regexp.specs.Grammar.{Token, characters, opened, closed, bar, quant
 abbrev pub Fronts : {U V : Type 0} → (U → V) → Option (V × List ℕ) → Result (U × Bor (List ℕ)) IRegexpErrorKind → Type 0
 Fronts view o (Ok r) = o ≡ Some (view r.0, r.1.now)
 Fronts view o (Err kind.Invalid) = o ≡ None
+Fronts view o (Err kind.TooDeep) = ⊥
 Fronts view o (Err e) = Unit {0}
 
 -- a token of the code

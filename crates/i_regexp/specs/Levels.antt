@@ -1,11 +1,12 @@
 -- The machine that reads tokens; only private contracts use these words.
-use Rattle.std.specs.Prelude.{◌≡◌, ℕ, List, [], ◌∷◌, ◌++◌, map, Option, Some, None, Result, Ok, Err}
+use Rattle.std.specs.Prelude.{◌≡◌, ℕ, ◌≤◌, List, [], ◌∷◌, ◌++◌, length, map, Option, Some, None, Result, Ok, Err}
 use Rattle.i_regexp.specs.declared.error.IRegexpErrorKind.{IRegexpErrorKind}
 use Rattle.i_regexp.specs.declared.error.IRegexpErrorKind.TheVariants as kind
 use Rattle.i_regexp.specs.declared.marked.Node.{Node}
 use Rattle.i_regexp.specs.declared.reader.Level.{Level as CodeLevel}
 use Rattle.i_regexp.specs.Forms.{AtMost}
 use Rattle.i_regexp.specs.Building.{Means, AllMean}
+use Rattle.i_regexp.specs.Limits.{depth_limit}
 use Rattle.i_regexp.specs.Grammar.{Token, characters, opened, closed, bar, quantifier, Regexp, last, branches, Branch, nothing, pieces}
 use Rattle.i_regexp.specs.Grammar.{Piece, once, times, Atom, character, group, branch_form, piece_form, atom_form}
 
@@ -108,6 +109,7 @@ abbrev pub Quantifies : CodeLevel → ℕ → Option ℕ → Result (Unit {0}) I
 Quantifies old least most (Ok x) new =
     (l : Level) → StandsAt old l → (l' : Level) × (quantified l least most ≡ Some l') × StandsAt new l'
 Quantifies old least most (Err kind.Invalid) new = (l : Level) → StandsAt old l → quantified l least most ≡ None
+Quantifies old least most (Err kind.TooDeep) new = ⊥
 Quantifies old least most (Err e) new = Unit {0}
 
 -- what a token does to a state
@@ -115,6 +117,7 @@ abbrev pub Takes : CodeLevel → List CodeLevel → Token → Result (Unit {0}) 
 Takes here outer t (Ok x) here' outer' =
     (s : State) → Agrees here outer s → (s' : State) × (advance s t ≡ Some s') × Agrees here' outer' s'
 Takes here outer t (Err kind.Invalid) here' outer' = (s : State) → Agrees here outer s → advance s t ≡ None
+Takes here outer t (Err kind.TooDeep) here' outer' = (t ≡ opened) × (depth_limit ≤ length outer)
 Takes here outer t (Err e) here' outer' = Unit {0}
 
 -- a quantifier's counts are in order

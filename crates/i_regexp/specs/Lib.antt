@@ -3,6 +3,7 @@ pub mod Forms
 pub mod Marked
 pub mod Building
 pub mod Grammar
+pub mod Limits
 pub mod Fronts
 pub mod Levels
 pub mod Message

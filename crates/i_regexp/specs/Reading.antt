@@ -1,15 +1,46 @@
 -- What is read of a text; `Reads` is for private contracts.
-use Rattle.std.specs.Prelude.{◌≡◌, ℕ, ◌≤◌, List, length, Result, Ok, Err}
+use Rattle.std.specs.Prelude.{◌≡◌, ℕ, ◌≤◌, ◌+◌, List, ◌∷◌, ◌++◌, length, Result, Ok, Err}
 use Rattle.i_regexp.specs.declared.error.IRegexpError.{IRegexpError}
+use Rattle.i_regexp.specs.declared.error.IRegexpErrorKind.{IRegexpErrorKind}
 use Rattle.i_regexp.specs.declared.error.IRegexpErrorKind.TheVariants as kind
 use Rattle.i_regexp.specs.declared.marked.Node.{Node}
 use Rattle.i_regexp.specs.Building.{Means}
-use Rattle.i_regexp.specs.Grammar.{Regexp, IsText, regexp_form}
+use Rattle.i_regexp.specs.Characters.{left_parenthesis}
+use Rattle.i_regexp.specs.Grammar.{Token, Spells, Spelled, Regexp, IsText, regexp_form}
+use Rattle.i_regexp.specs.Limits.{depth_limit, begun_groups, ended_groups}
 
--- The place is in the text; where the text is called invalid, it is in the grammar by no reading.
+-- Some regular expression begins with these characters.
+pub record Begins (cs : List ℕ) : Type 0 where
+  pub more : List ℕ
+  pub regexp : Regexp
+  pub text : IsText (cs ++ more) regexp
+
+-- No token begins the rest with which a regular expression could go on.
+abbrev pub Stops : List ℕ → List ℕ → Type 0
+Stops front rest = (cs more : List ℕ) (t : Token) → rest ≡ cs ++ more → Spells cs t → Begins (front ++ cs) → ⊥
+
+-- A group begins the rest, and as many are open before it as may be.
+pub record OpensTooMany (tokens : List Token) (rest : List ℕ) : Type 0 where
+  pub after : List ℕ
+  pub begins : rest ≡ left_parenthesis ∷ after
+  pub full : ended_groups tokens + depth_limit ≤ begun_groups tokens
+
+-- what a kind of error says of a text that is these tokens, of which the characters are the front, and the rest
+abbrev pub Says : List ℕ → List ℕ → List Token → List ℕ → IRegexpErrorKind → Type 0
+Says cs front tokens rest kind.Invalid = ((r : Regexp) → IsText cs r → ⊥) × Stops front rest
+Says cs front tokens rest kind.TooDeep = OpensTooMany tokens rest
+Says cs front tokens rest e = Unit {0}
+
+-- What stands before the place is tokens with which some regular expression begins, and what follows is what the kind says.
 pub record Refused (cs : List ℕ) (e : IRegexpError) : Type 0 where
-  pub placed : e.place ≤ length cs
-  pub invalid : e.kind ≡ kind.Invalid → (r : Regexp) → IsText cs r → ⊥
+  pub front : List ℕ
+  pub tokens : List Token
+  pub rest : List ℕ
+  pub split : cs ≡ front ++ rest
+  pub placed : e.place ≡ length front
+  pub spelled : Spelled front tokens
+  pub begun : Begins front
+  pub says : Says cs front tokens rest e.kind
 
 -- what reading a text into a tree returns
 abbrev pub Reads : List ℕ → Result Node IRegexpError → Type 0

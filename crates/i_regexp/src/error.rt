@@ -74,8 +74,8 @@ impl fmt::Display for IRegexpErrorKind {
 #[derive(Clone, Copy, Debug, PartialEq, Eq)]
 pub struct IRegexpError {
     pub kind: IRegexpErrorKind,
-    /// How many characters stand before the part that is refused: a character outside of classes
-    /// and escapes, an escape, a class or a quantifier. All, where the text ends in a group.
+    /// How many characters stand before the token that is refused, which is a character, an escape, a
+    /// class, a parenthesis, a bar or a quantifier. All of them, where the text ends in a group.
     pub place: usize,
 }
 

@@ -1,9 +1,10 @@
-use Rattle.std.proofs.Common.{◌∙◌, subst}
+use Rattle.std.proofs.Common.{◌∙◌, refl, subst}
 use Rattle.std.specs.Str.{chars}
 use Rattle.i_regexp.specs.Grammar.{IsText}
 use Rattle.i_regexp.specs.Reading.{Refused}
 use Rattle.i_regexp.proofs.Kept.{kept_to}
 use Rattle.i_regexp.proofs.Reading.{one_reading}
+use Rattle.i_regexp.proofs.Refusing.{refused_at_once}
 use Rattle.i_regexp.proofs.regexp.IRegexp.parse.Goals as goal
 
 pub invariant_of-result : goal.invariant_of-result
@@ -21,6 +22,9 @@ returns-in-Ok-read c =
       only = λ q t. one_reading (chars c.args.text.now) q r t text;
       same = λ ds. (means.sound ds, means.complete ds);
     }
+
+pub returns-in_default : goal.returns-in_default
+returns-in_default c = refused_at_once _ _ refl refl
 
 pub returns : goal.returns
 returns c = subst (λ cs. Refused cs c.in-Err.error) (c.as_slice.ensures.value ∙ c.in-Ok.ensures) c.in-Err.ensures
