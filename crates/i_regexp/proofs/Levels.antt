@@ -140,7 +140,7 @@ quantifier_takes here here' outer least most t (Ok x) e q = λ s a.
     let k = q s.0 a.0 in
     ((k.0, s.1), ap (advance s) e ∙ ap (in_state s.1) k.1, (k.2, a.1))
 quantifier_takes here here' outer least most t (Err Invalid) e q = λ s a. ap (advance s) e ∙ ap (in_state s.1) (q s.0 a.0)
-quantifier_takes here here' outer least most t (Err UnsupportedCategory) e q = tt
+quantifier_takes here here' outer least most t (Err UnsupportedCategory) e q = absurd q
 quantifier_takes here here' outer least most t (Err TooDeep) e q = absurd q
 quantifier_takes here here' outer least most t (Err TooLarge) e q = tt
 quantifier_takes here here' outer least most t (Err OutOfMemory) e q = tt

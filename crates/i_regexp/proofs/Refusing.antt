@@ -146,11 +146,11 @@ first_token rest cs more t e s = ap token_front e ∙ front_complete cs t s more
 
 -- no token stands at the place
 pub says_no_token : (text rest : List ℕ) (here : CodeLevel) (outer : List CodeLevel) (k : IRegexpErrorKind)
-    → (r : Reading text rest here outer) → 0 < length rest → Fronts token_of (token_front rest) (Err k) → (front : List ℕ)
+    → (r : Reading text rest here outer) → 0 < length rest → Fronts token_of rest (token_front rest) (Err k) → (front : List ℕ)
     → Says text front r.tokens rest k
 says_no_token text rest here outer Invalid r l f front =
     (no_front text rest here outer r l f, λ cs more t e s b. some_none (sym (first_token rest cs more t e s) ∙ f))
-says_no_token text rest here outer UnsupportedCategory r l f front = tt
+says_no_token text rest here outer UnsupportedCategory r l f front = f
 says_no_token text rest here outer TooDeep r l f front = absurd f
 says_no_token text rest here outer TooLarge r l f front = tt
 says_no_token text rest here outer OutOfMemory r l f front = tt
@@ -176,7 +176,7 @@ pub says_no_take : (text rest after : List ℕ) (here here' : CodeLevel) (outer 
     → Spelled front r.tokens → Says text front r.tokens rest k
 says_no_take text rest after here here' outer outer' t Invalid r e f front p =
     (no_advance text rest after here outer t r e f, no_going_on text rest after here outer t r e f front p)
-says_no_take text rest after here here' outer outer' t UnsupportedCategory r e f front p = tt
+says_no_take text rest after here here' outer outer' t UnsupportedCategory r e f front p = absurd f
 says_no_take text rest after here here' outer outer' t TooDeep r e f front p = too_deep text rest after here outer t r e f.0 f.1
 says_no_take text rest after here here' outer outer' t TooLarge r e f front p = tt
 says_no_take text rest after here here' outer outer' t OutOfMemory r e f front p = tt

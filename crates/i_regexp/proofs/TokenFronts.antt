@@ -1,11 +1,11 @@
 -- The fronts of texts.
 use Rattle.std.proofs.Common.{◌≡◌, ◌≢◌, ℕ, zero, suc, ◌<◌, ◌≤◌, Bool, true, false, ◌==◌, nat_le, cond, List, [], ◌∷◌, ◌++◌, length, Option}
-use Rattle.std.proofs.Common.{Some, None, option_map, option_and_then, Result, Ok, Err, Bor, refl, sym, ap, ◌∙◌, subst, arith}
-use Rattle.std.proofs.lemmas.Bool.{ne_eqb}
+use Rattle.std.proofs.Common.{◌&&◌, Some, None, option_map, option_and_then, Result, Ok, Err, Bor, refl, sym, ap, ◌∙◌, subst, arith}
+use Rattle.std.proofs.lemmas.Bool.{ne_eqb, or_right}
 use Rattle.std.specs.Result.{IsErrAnd}
 use Rattle.i_regexp.specs.declared.error.IRegexpErrorKind.{IRegexpErrorKind}
 use Rattle.i_regexp.specs.declared.error.IRegexpErrorKind.TheVariants.{Invalid, UnsupportedCategory, TooDeep, TooLarge, OutOfMemory}
-use Rattle.i_regexp.specs.Grammar.{Token, characters, is_plain, escape_of}
+use Rattle.i_regexp.specs.Grammar.{Token, characters, is_plain, escape_of, begins_category, has_category}
 use Rattle.i_regexp.specs.Fronts.{Fronts, escape_front, member_front, up_to, range_end, range_front, item_front, closing, tail_step}
 use Rattle.i_regexp.specs.Fronts.{tail_front, class_front, first_front, bracket_front}
 
@@ -140,15 +140,80 @@ class_of negated o = option_map (λ q. (characters negated q.0, q.1)) o
 
 -- ---- errors
 
-pub fronts_err : {U V U' V' : Type 0} (view : U → V) (view' : U' → V') (o : Option (V × List ℕ)) (o' : Option (V' × List ℕ))
-    (e : IRegexpErrorKind) (r : Result (U × Bor (List ℕ)) IRegexpErrorKind)
-    → IsErrAnd r (λ d. d ≡ e) → Fronts view' o' (Err e) → (o' ≡ None → o ≡ None) → Fronts view o r
-fronts_err view view' o o' e (Ok x) h k f = absurd h
-fronts_err view view' o o' Invalid (Err d) h k f = subst (λ x. Fronts view o (Err x)) (sym h) (f k)
-fronts_err view view' o o' UnsupportedCategory (Err d) h k f = subst (λ x. Fronts view o (Err x)) (sym h) tt
-fronts_err view view' o o' TooDeep (Err d) h k f = absurd k
-fronts_err view view' o o' TooLarge (Err d) h k f = subst (λ x. Fronts view o (Err x)) (sym h) tt
-fronts_err view view' o o' OutOfMemory (Err d) h k f = subst (λ x. Fronts view o (Err x)) (sym h) tt
+pub fronts_err : {U V U' V' : Type 0} (view : U → V) (view' : U' → V') (xs xs' : List ℕ) (o : Option (V × List ℕ))
+    (o' : Option (V' × List ℕ)) (e : IRegexpErrorKind) (r : Result (U × Bor (List ℕ)) IRegexpErrorKind)
+    → IsErrAnd r (λ d. d ≡ e) → Fronts view' xs' o' (Err e) → (has_category xs' ≡ true → has_category xs ≡ true)
+    → (o' ≡ None → o ≡ None) → Fronts view xs o r
+fronts_err view view' xs xs' o o' e (Ok x) h k g f = absurd h
+fronts_err view view' xs xs' o o' Invalid (Err d) h k g f = subst (λ x. Fronts view xs o (Err x)) (sym h) (f k)
+fronts_err view view' xs xs' o o' UnsupportedCategory (Err d) h k g f = subst (λ x. Fronts view xs o (Err x)) (sym h) (g k)
+fronts_err view view' xs xs' o o' TooDeep (Err d) h k g f = absurd k
+fronts_err view view' xs xs' o o' TooLarge (Err d) h k g f = subst (λ x. Fronts view xs o (Err x)) (sym h) tt
+fronts_err view view' xs xs' o o' OutOfMemory (Err d) h k g f = subst (λ x. Fronts view xs o (Err x)) (sym h) tt
+
+-- ---- a category in what is left stands in the text
+
+pub category_after : (c : ℕ) (cs : List ℕ) → has_category cs ≡ true → has_category (c ∷ cs) ≡ true
+category_after c cs h = or_right ((c == 92) && begins_category cs) (has_category cs) h
+
+pub category_in : (xs cs : List ℕ) (c : ℕ) → xs ≡ c ∷ cs → has_category cs ≡ true → has_category xs ≡ true
+category_in xs cs c e h = subst (λ ys. has_category ys ≡ true) (sym e) (category_after c cs h)
+
+member_category : (xs : List ℕ) (p : ℕ × List ℕ) → member_front xs ≡ Some p → has_category p.1 ≡ true → has_category xs ≡ true
+member_category [] p e h = no_some p e
+member_category (c ∷ cs) p e h = by (c == 92) (is_plain c) e
+  where
+    escaped : (ys : List ℕ) → escape_front ys ≡ Some p → has_category ys ≡ true
+    escaped [] f = no_some p f
+    escaped (l ∷ ys) f = letter (escape_of l) f
+      where
+        letter : (o : Option ℕ) → option_map (λ d. (d, ys)) o ≡ Some p → has_category (l ∷ ys) ≡ true
+        letter None g = no_some p g
+        letter (Some d) g = let same : (d, ys) ≡ p = cc in
+            category_after l ys (subst (λ zs. has_category zs ≡ true) (sym (ap (λ q. q.1) same)) h)
+
+    by : (a b : Bool) → cond a (escape_front cs) (cond b (Some (c, cs)) None) ≡ Some p → has_category (c ∷ cs) ≡ true
+    by true b f = category_after c cs (escaped cs f)
+    by false true f = let same : (c, cs) ≡ p = cc in
+        category_after c cs (subst (λ zs. has_category zs ≡ true) (sym (ap (λ q. q.1) same)) h)
+    by false false f = no_some p f
+
+range_category : (c : ℕ) (xs : List ℕ) (p : (ℕ × ℕ) × List ℕ) → range_front c xs ≡ Some p → has_category p.1 ≡ true
+    → has_category xs ≡ true
+range_category c [] p e h = let same : ((c, c), []) ≡ p = cc in subst (λ zs. has_category zs ≡ true) (sym (ap (λ q. q.1) same)) h
+range_category c (d ∷ ys) p e h = by (d == 45) e
+  where
+    kept : Some ((c, c), d ∷ ys) ≡ Some p → has_category (d ∷ ys) ≡ true
+    kept f = let same : ((c, c), d ∷ ys) ≡ p = cc in subst (λ zs. has_category zs ≡ true) (sym (ap (λ q. q.1) same)) h
+
+    ended : (zs : List ℕ) → range_end c (d ∷ ys) zs ≡ Some p → (has_category zs ≡ true → has_category (d ∷ ys) ≡ true)
+        → has_category (d ∷ ys) ≡ true
+    ended [] f g = no_some p f
+    ended (u ∷ us) f g = last (u == 93) (member_front (u ∷ us)) refl f
+      where
+        last : (a : Bool) (o : Option (ℕ × List ℕ)) → member_front (u ∷ us) ≡ o
+            → cond a (Some ((c, c), d ∷ ys)) (option_and_then (up_to c) o) ≡ Some p → has_category (d ∷ ys) ≡ true
+        last true o m k = kept k
+        last false None m k = no_some p k
+        last false (Some q) m k = ordered (nat_le c q.0) k
+          where
+            ordered : (b : Bool) → cond b (Some ((c, q.0), q.1)) None ≡ Some p → has_category (d ∷ ys) ≡ true
+            ordered true l = let same : ((c, q.0), q.1) ≡ p = cc in
+                g (member_category (u ∷ us) q m (subst (λ zs. has_category zs ≡ true) (sym (ap (λ v. v.1) same)) h))
+            ordered false l = no_some p l
+
+    by : (a : Bool) → cond a (range_end c (d ∷ ys) ys) (Some ((c, c), d ∷ ys)) ≡ Some p → has_category (d ∷ ys) ≡ true
+    by true f = ended ys f (category_after d ys)
+    by false f = kept f
+
+pub item_category : (xs : List ℕ) (r : ℕ × ℕ) (ys : List ℕ) → item_front xs ≡ Some (r, ys) → has_category ys ≡ true
+    → has_category xs ≡ true
+item_category xs r ys e h = by (member_front xs) refl e
+  where
+    by : (o : Option (ℕ × List ℕ)) → member_front xs ≡ o → option_and_then (λ p. range_front p.0 p.1) o ≡ Some (r, ys)
+        → has_category xs ≡ true
+    by None m f = no_some (r, ys) f
+    by (Some q) m f = member_category xs q m (range_category q.0 q.1 (r, ys) f h)
 
 -- ---- the beginning of a class
 
@@ -173,6 +238,12 @@ bracket_other xs cs c e f =
     ∙ (ap (λ b. cond b (first_front (length cs) true cs) (first_front (suc (length cs)) false (c ∷ cs))) (ne_eqb c 94 f)
     ∙ ap (λ ys. first_front (length ys) false ys) (sym e))
 
-pub fronts_as : {U V : Type 0} (view : U → V) (o o' : Option (V × List ℕ)) (r : Result (U × Bor (List ℕ)) IRegexpErrorKind) → o ≡ o'
-    → Fronts view o' r → Fronts view o r
-fronts_as view o o' r e h = subst (λ x. Fronts view x r) (sym e) h
+pub fronts_as : {U V : Type 0} (view : U → V) (xs xs' : List ℕ) (o o' : Option (V × List ℕ))
+    (r : Result (U × Bor (List ℕ)) IRegexpErrorKind) → (has_category xs' ≡ true → has_category xs ≡ true) → o ≡ o'
+    → Fronts view xs' o' r → Fronts view xs o r
+fronts_as view xs xs' o o' (Ok x) g e h = e ∙ h
+fronts_as view xs xs' o o' (Err Invalid) g e h = e ∙ h
+fronts_as view xs xs' o o' (Err UnsupportedCategory) g e h = g h
+fronts_as view xs xs' o o' (Err TooDeep) g e h = h
+fronts_as view xs xs' o o' (Err TooLarge) g e h = tt
+fronts_as view xs xs' o o' (Err OutOfMemory) g e h = tt

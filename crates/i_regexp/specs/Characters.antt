@@ -52,7 +52,7 @@ hyphen = 45
 abbrev pub right_bracket : ℕ
 right_bracket = 93
 
--- what begins an escape, the letters of those that stand for another character, and these characters
+-- what begins an escape, and the letters of those that stand for another character
 abbrev pub reverse_solidus : ℕ
 reverse_solidus = 92
 
@@ -65,6 +65,14 @@ letter_r = 114
 abbrev pub letter_t : ℕ
 letter_t = 116
 
+-- the letters that begin a category behind a backslash
+abbrev pub letter_p : ℕ
+letter_p = 112
+
+abbrev pub capital_p : ℕ
+capital_p = 80
+
+-- characters that an escape stands for
 abbrev pub line_feed : ℕ
 line_feed = 10
 

@@ -3,8 +3,8 @@ use Rattle.std.specs.Prelude.{◌≡◌, ℕ, ◌+◌, ◌-◌, ◌*◌, Bool, t
 use Rattle.std.specs.Prelude.{Option, Some, None}
 use Rattle.i_regexp.specs.Characters.{left_parenthesis, right_parenthesis, vertical_bar, asterisk, plus_sign, question_mark, left_brace}
 use Rattle.i_regexp.specs.Characters.{comma, right_brace, digit_zero, digit_nine, full_stop, left_bracket, circumflex, hyphen}
-use Rattle.i_regexp.specs.Characters.{right_bracket, reverse_solidus, letter_n, letter_r, letter_t, line_feed, carriage_return}
-use Rattle.i_regexp.specs.Characters.{horizontal_tab}
+use Rattle.i_regexp.specs.Characters.{right_bracket, reverse_solidus, letter_n, letter_r, letter_t, letter_p, capital_p, line_feed}
+use Rattle.i_regexp.specs.Characters.{carriage_return, horizontal_tab}
 use Rattle.i_regexp.specs.Forms.{Form, empty, class, concat, alternation, repetition}
 
 -- ---- tokens
@@ -125,6 +125,16 @@ pub data Spells : List ℕ → Token → Type 0 where
 pub data Spelled : List ℕ → List Token → Type 0 where
   none : Spelled [] []
   more : {cs ds : List ℕ} {t : Token} {ts : List Token} → Spells cs t → Spelled ds ts → Spelled (cs ++ ds) (t ∷ ts)
+
+-- whether the letter of a category comes first
+abbrev pub begins_category : List ℕ → Bool
+begins_category [] = false
+begins_category (c ∷ cs) = (c == letter_p) || (c == capital_p)
+
+-- whether a backslash and the letter of a category stand side by side somewhere, as in `\p{L}`
+abbrev pub has_category : List ℕ → Bool
+has_category [] = false
+has_category (c ∷ cs) = ((c == reverse_solidus) && begins_category cs) || has_category cs
 
 -- ---- expressions
 

@@ -109,6 +109,7 @@ abbrev pub Quantifies : CodeLevel → ℕ → Option ℕ → Result (Unit {0}) I
 Quantifies old least most (Ok x) new =
     (l : Level) → StandsAt old l → (l' : Level) × (quantified l least most ≡ Some l') × StandsAt new l'
 Quantifies old least most (Err kind.Invalid) new = (l : Level) → StandsAt old l → quantified l least most ≡ None
+Quantifies old least most (Err kind.UnsupportedCategory) new = ⊥
 Quantifies old least most (Err kind.TooDeep) new = ⊥
 Quantifies old least most (Err e) new = Unit {0}
 
@@ -117,6 +118,7 @@ abbrev pub Takes : CodeLevel → List CodeLevel → Token → Result (Unit {0}) 
 Takes here outer t (Ok x) here' outer' =
     (s : State) → Agrees here outer s → (s' : State) × (advance s t ≡ Some s') × Agrees here' outer' s'
 Takes here outer t (Err kind.Invalid) here' outer' = (s : State) → Agrees here outer s → advance s t ≡ None
+Takes here outer t (Err kind.UnsupportedCategory) here' outer' = ⊥
 Takes here outer t (Err kind.TooDeep) here' outer' = (t ≡ opened) × (depth_limit ≤ length outer)
 Takes here outer t (Err e) here' outer' = Unit {0}
 

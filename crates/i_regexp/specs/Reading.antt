@@ -1,12 +1,12 @@
 -- What is read of a text; `Reads` is for private contracts.
-use Rattle.std.specs.Prelude.{◌≡◌, ℕ, ◌≤◌, ◌+◌, List, ◌∷◌, ◌++◌, length, Result, Ok, Err}
+use Rattle.std.specs.Prelude.{◌≡◌, ℕ, true, ◌≤◌, ◌+◌, List, ◌∷◌, ◌++◌, length, Result, Ok, Err}
 use Rattle.i_regexp.specs.declared.error.IRegexpError.{IRegexpError}
 use Rattle.i_regexp.specs.declared.error.IRegexpErrorKind.{IRegexpErrorKind}
 use Rattle.i_regexp.specs.declared.error.IRegexpErrorKind.TheVariants as kind
 use Rattle.i_regexp.specs.declared.marked.Node.{Node}
 use Rattle.i_regexp.specs.Building.{Means}
 use Rattle.i_regexp.specs.Characters.{left_parenthesis}
-use Rattle.i_regexp.specs.Grammar.{Token, Spells, Spelled, Regexp, IsText, regexp_form}
+use Rattle.i_regexp.specs.Grammar.{Token, Spells, Spelled, has_category, Regexp, IsText, regexp_form}
 use Rattle.i_regexp.specs.Limits.{depth_limit, begun_groups, ended_groups}
 
 -- Some regular expression begins with these characters.
@@ -28,6 +28,7 @@ pub record OpensTooMany (tokens : List Token) (rest : List ℕ) : Type 0 where
 -- what a kind of error says of a text that is these tokens, of which the characters are the front, and the rest
 abbrev pub Says : List ℕ → List ℕ → List Token → List ℕ → IRegexpErrorKind → Type 0
 Says cs front tokens rest kind.Invalid = ((r : Regexp) → IsText cs r → ⊥) × Stops front rest
+Says cs front tokens rest kind.UnsupportedCategory = has_category rest ≡ true
 Says cs front tokens rest kind.TooDeep = OpensTooMany tokens rest
 Says cs front tokens rest e = Unit {0}
 
