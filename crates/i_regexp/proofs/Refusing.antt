@@ -68,7 +68,9 @@ begun front tokens s p r =
     record {
       more = k.cs;
       regexp = regexp_of k.whole;
-      text = record { spelled = subst (Spelled (front ++ k.cs)) (sym (machine_sound (tokens ++ k.tokens) k.whole ran)) (spelled_append p k.spelled) };
+      text = record {
+        spelled = subst (Spelled (front ++ k.cs)) (sym (machine_sound (tokens ++ k.tokens) k.whole ran)) (spelled_append p k.spelled);
+      };
     }
 
 -- ---- how many groups are open

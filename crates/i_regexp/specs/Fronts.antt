@@ -9,7 +9,8 @@ use Rattle.i_regexp.specs.declared.error.IRegexpErrorKind.{IRegexpErrorKind}
 use Rattle.i_regexp.specs.declared.error.IRegexpErrorKind.TheVariants as kind
 use Rattle.i_regexp.specs.declared.token.Token.TheVariants as is
 use Rattle.i_regexp.specs.declared.token.Token.{Token as CodeToken}
-use Rattle.i_regexp.specs.Grammar.{Token, characters, opened, closed, bar, quantifier, one, any, is_normal, is_plain, is_digit, escape_of, has_category}
+use Rattle.i_regexp.specs.Grammar.{Token, characters, opened, closed, bar, quantifier, one, any, is_normal, is_plain, is_digit}
+use Rattle.i_regexp.specs.Grammar.{escape_of, has_category}
 
 -- what a reading of the front of the text returns: o, if the text is not refused for another reason
 abbrev pub Fronts : {U V : Type 0} → (U → V) → List ℕ → Option (V × List ℕ) → Result (U × Bor (List ℕ)) IRegexpErrorKind → Type 0

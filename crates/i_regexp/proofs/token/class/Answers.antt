@@ -6,7 +6,8 @@ use Rattle.i_regexp.proofs.token.class.Goals as goal
 
 pub returns-then-next-eq45 : goal.returns-then-next-eq45
 returns-then-next-eq45 c = λ n h.
-    fronts_as token_of c.args.text.now c.in-Some.after.now _ _ c.class_from.result (category_in _ _ c.in-Some.next.now c.in-Some.ensures.cases.0)
+    fronts_as token_of c.args.text.now c.in-Some.after.now _ _ c.class_from.result
+    (category_in _ _ c.in-Some.next.now c.in-Some.ensures.cases.0)
     (first_dash n c.args.negated _ _ c.in-Some.next.now c.in-Some.ensures.cases.0 c.if-next-eq45.true)
     (c.class_from.ensures n (omega (arith, c.in-Some.ensures.cases.1)))
 

@@ -1,0 +1,92 @@
+-- Instances of the definitions, computed.
+use Rattle.std.proofs.Common.{◌≡◌, ◌≤◌, true, false, [], ◌∷◌, Some, None, inr, refl, arith}
+use Rattle.std.specs.Prelude.{codes}
+use Rattle.i_regexp.specs.Forms.{Form, empty, class, concat, alternation, repetition, is_in_class, Matches, Searches}
+use Rattle.i_regexp.specs.Fronts.{token_front}
+use Rattle.i_regexp.specs.Grammar.{characters, bar, quantifier, one, any, has_category, IsText, Spells, Spelled}
+use Rattle.i_regexp.specs.Grammar as is
+
+-- ---- classes (RFC 9485, section 4)
+
+b_is_in_class : is_in_class false ((97, 99) ∷ []) 98 ≡ true
+b_is_in_class = refl
+
+d_is_in_no_class : is_in_class false ((97, 99) ∷ []) 100 ≡ false
+d_is_in_no_class = refl
+
+b_is_in_no_negated_class : is_in_class true ((97, 99) ∷ []) 98 ≡ false
+b_is_in_no_negated_class = refl
+
+-- ---- what is matched
+
+a : Form
+a = class false ((97, 97) ∷ [])
+
+matches_a : Matches a (codes "a")
+unfolding a
+matches_a = (97, refl, refl)
+
+star_matches_nothing : Matches (repetition a 0 None) []
+star_matches_nothing = (0, omega arith, tt, refl)
+
+star_matches_two : Matches (repetition a 0 None) (codes "aa")
+star_matches_two = (2, omega arith, tt, (codes "a", codes "a", refl, matches_a, (codes "a", [], refl, matches_a, refl)))
+
+second_branch_matches : Matches (alternation empty a) (codes "a")
+second_branch_matches = inr matches_a
+
+one_after_another : Matches (concat a (repetition a 1 (Some 1))) (codes "aa")
+one_after_another = (codes "a", codes "a", refl, matches_a, (1, omega arith, (let l : 1 ≤ 1 = omega arith in l), (codes "a", [], refl, matches_a, refl)))
+
+is_found : Searches a (codes "bab")
+is_found = record { before = codes "b"; part = codes "a"; after = codes "b"; split = refl; matched = matches_a }
+
+-- ---- which text is which token (section 3)
+
+class_with_a_hyphen : token_front (codes "[^a-]b") ≡ Some (characters true ((97, 97) ∷ (45, 45) ∷ []), codes "b")
+class_with_a_hyphen = refl
+
+class_of_a_range : token_front (codes "[a-c^]") ≡ Some (characters false ((97, 99) ∷ (94, 94) ∷ []), [])
+class_of_a_range = refl
+
+falling_range : token_front (codes "[c-a]") ≡ None
+falling_range = refl
+
+empty_class : token_front (codes "[]") ≡ None
+empty_class = refl
+
+caret_alone : token_front (codes "[^]") ≡ None
+caret_alone = refl
+
+counts : token_front (codes "{2,13}") ≡ Some (quantifier 2 (Some 13), [])
+counts = refl
+
+count_alone : token_front (codes "{2,}") ≡ Some (quantifier 2 None, [])
+count_alone = refl
+
+falling_counts : token_front (codes "{3,2}") ≡ None
+falling_counts = refl
+
+no_least_count : token_front (codes "{,2}") ≡ None
+no_least_count = refl
+
+tab : token_front (codes "\\t") ≡ Some (one 9, [])
+tab = refl
+
+dollar : token_front (codes "$") ≡ Some (one 36, [])
+dollar = refl
+
+shorthand : token_front (codes "\\d") ≡ None
+shorthand = refl
+
+category : has_category (codes "[a\\p{L}]") ≡ true
+category = refl
+
+no_category : has_category (codes "p\\n") ≡ false
+no_category = refl
+
+-- ---- which text is which regular expression
+
+two_branches : IsText (codes "a|.") (is.branches (is.pieces (is.once (is.character false ((97, 97) ∷ []))) is.nothing)
+    (is.last (is.pieces (is.once (is.character true ((10, 10) ∷ (13, 13) ∷ []))) is.nothing)))
+two_branches = record { spelled = is.more (is.normal 97 refl) (is.more is.parts (is.more is.dot is.none)) }
