@@ -1,24 +1,27 @@
--- Reading and writing line by line.
-use Rattle.std.proofs.Common.{◌≡◌, ◌<◌, ◌==◌, ℕ, suc, ◌+◌, Bool, true, false, cond, List, [], ◌∷◌, ◌++◌, length, Option, None, Some, IfSome, Result, Ok, Err, ⊎_elim, refl, sym, ap, ◌∙◌, subst, append_assoc, append-nil, length-append, arith}
+-- Reading, writing and telling line by line.
+use Rattle.std.proofs.Common.{◌≡◌, ◌<◌, ◌==◌, ℕ, suc, ◌+◌, Bool, true, false, cond, List, [], ◌∷◌, ◌++◌, length, Option, None}
+use Rattle.std.proofs.Common.{Some, IfSome, Result, Ok, Err, ⊎_elim, refl, sym, ap, ◌∙◌, subst, append_assoc, append-nil}
+use Rattle.std.proofs.Common.{length-append, arith}
 use Rattle.std.proofs.KnownBytes.{Appends-nil, Appends-trans}
 use Rattle.std.proofs.lemmas.Bool.{false≢true}
 use Rattle.std.specs.Io.BufRead.{take_through, drop_through, DropsThrough}
 use Rattle.std.specs.Io.KnownBytes.{Appends, IsAtEnd, Keeps}
 use Rattle.std.specs.Prelude.{if◌then◌else◌}
-use Rattle.std.specs.Str.{IsUtf8, chars}
 use Rattle.std.specs.Result.{IsErr}
 use Rattle.std.specs.declared.io.Error.{Error}
 use Rattle.tinyjson.proofs.Callers.{Appends_keeps, stop, stops_then, written_same}
-use Rattle.tinyjson.specs.Grammar.{IsText}
-use Rattle.tinyjson.specs.Tree.{Tree}
 use Rattle.tinyjson.specs.Written.{Written, WrittenPart}
-use Rattle.tinyjson.specs.declared.parser.error.JsonParseError.{JsonParseError}
-use Rattle.json_lines.specs.Lines.{lines, onto_first, LinesRead, normal_line, normal_lines, AreTexts, AnswersLines, StopsAmongLines, WritesLine, WritesLines}
-use Rattle.json_lines.specs.declared.lines.Refusal.{Refusal}
+use Rattle.json_lines.proofs.Cutting.{both_fates, both_outputs}
+use Rattle.json_lines.specs.Lines.{lines, onto_first, Fate, HasFate, HaveFates, output_of, outputs_of, telling_of, tellings_of, outcome_of}
+use Rattle.json_lines.specs.Run.{LinesRead, AllRead, EndsRefused, Reaches, AnswersLines, StopsAmongLines, Handles, Runs}
+use Rattle.json_lines.specs.declared.lines.Options.{Options}
+use Rattle.json_lines.specs.declared.lines.Outcome.{Outcome}
+use Rattle.json_lines.specs.declared.lines.Outcome.TheVariants.{AllWritten, SomeRefused}
 
 -- ---- lines of known bytes
 
-first_by : (b : Bool) (x : ℕ) (xs : List ℕ) → cond b ((x ∷ []) ∷ lines xs) (onto_first x (lines xs)) ≡ (if b then x ∷ [] else x ∷ take_through 10 xs) ∷ lines (if b then xs else drop_through 10 xs)
+first_by : (b : Bool) (x : ℕ) (xs : List ℕ) → cond b ((x ∷ []) ∷ lines xs) (onto_first x (lines xs)) ≡
+    (if b then x ∷ [] else x ∷ take_through 10 xs) ∷ lines (if b then xs else drop_through 10 xs)
 first_by true x xs = refl
 first_by false x [] = refl
 first_by false x (y ∷ ys) = ap (onto_first x) (first_by (y == 10) y ys)
@@ -28,108 +31,228 @@ first_line [] h = absurd (omega (arith, h))
 first_line (x ∷ xs) h = first_by (x == 10) x xs
 
 -- one more line is read
-lines_read_next : (unread left after : Option (List ℕ)) (read : List (List ℕ)) (line : List ℕ) → LinesRead unread left read → IfSome left (λ xs. line ≡ take_through 10 xs) → DropsThrough left after 10 → 0 < length line
+lines_read_next : (unread left after : Option (List ℕ)) (read : List (List ℕ)) (line : List ℕ) → LinesRead unread left read
+    → IfSome left (λ xs. line ≡ take_through 10 xs) → DropsThrough left after 10 → 0 < length line
     → LinesRead unread after (read ++ line ∷ [])
 lines_read_next None left after read line h is rest some = tt
 lines_read_next (Some xs) None after read line h is rest some = absurd h
 lines_read_next (Some xs) (Some ys) after read line h is rest some =
     subst (λ o. LinesRead (Some xs) o (read ++ line ∷ [])) (sym rest)
-    (h ∙ ap (λ ls. read ++ ls) (first_line ys (subst (λ l. 0 < length l) is some) ∙ ap (λ l. l ∷ lines (drop_through 10 ys)) (sym is)) ∙ sym (append_assoc read (line ∷ []) (lines (drop_through 10 ys))))
+    (h ∙ ap (λ ls. read ++ ls) (first_line ys (subst (λ l. 0 < length l) is some) ∙ ap (λ l. l ∷ lines (drop_through 10 ys)) (sym is))
+    ∙ sym (append_assoc read (line ∷ []) (lines (drop_through 10 ys))))
 
 -- at the end nothing more is read
-all_read : (unread left after : Option (List ℕ)) (read : List (List ℕ)) → LinesRead unread left read → IsAtEnd left → DropsThrough left after 10 → IfSome unread (λ xs. (lines xs ≡ read) × (after ≡ Some []))
+all_read : (unread left after : Option (List ℕ)) (read : List (List ℕ)) → LinesRead unread left read → IsAtEnd left
+    → DropsThrough left after 10 → AllRead unread after read
 all_read None left after read h end rest = tt
 all_read (Some xs) None after read h end rest = absurd h
-all_read (Some xs) (Some ys) after read h end rest = (h ∙ (ap (λ l. read ++ lines l) end ∙ append-nil read), rest ∙ ap (λ l. Some (drop_through 10 l)) end)
+all_read (Some xs) (Some ys) after read h end rest =
+    (h ∙ (ap (λ l. read ++ lines l) end ∙ append-nil read), rest ∙ ap (λ l. Some (drop_through 10 l)) end)
 
-first_lines : (unread left : Option (List ℕ)) (read : List (List ℕ)) → LinesRead unread left read → IfSome unread (λ xs. (more : List (List ℕ)) × (lines xs ≡ read ++ more))
+first_lines : (unread left : Option (List ℕ)) (read : List (List ℕ)) → LinesRead unread left read
+    → IfSome unread (λ xs. (more : List (List ℕ)) × (lines xs ≡ read ++ more))
 first_lines None left read h = tt
 first_lines (Some xs) None read h = absurd h
 first_lines (Some xs) (Some ys) read h = (lines ys, h)
 
--- ---- their trees
+-- ---- what they give
 
-texts_next : (read : List (List ℕ)) (trees : List Tree) (line : List ℕ) (t : Tree) → AreTexts read trees → IsUtf8 line → IsText None (chars line) t → AreTexts (read ++ line ∷ []) (trees ++ t ∷ [])
-texts_next [] [] line t h utf8 is = ((utf8, is), tt)
-texts_next [] (u ∷ us) line t h utf8 is = absurd h
-texts_next (l ∷ ls) [] line t h utf8 is = absurd h
-texts_next (l ∷ ls) (u ∷ us) line t h utf8 is = (h.0, texts_next ls us line t h.1 utf8 is)
+fates_next : (limit : Option ℕ) (read : List (List ℕ)) (fates : List Fate) (line : List ℕ) (f : Fate) → HaveFates limit read fates
+    → HasFate limit line f
+    → HaveFates limit (read ++ line ∷ []) (fates ++ f ∷ [])
+fates_next limit read fates line f h k = both_fates limit read (line ∷ []) fates (f ∷ []) h (k, tt)
 
-normal_next : (trees : List Tree) (t : Tree) → normal_lines (trees ++ t ∷ []) ≡ normal_lines trees ++ normal_line t
-normal_next [] t = append-nil (normal_line t)
-normal_next (u ∷ us) t = ap (λ l. normal_line u ++ l) (normal_next us t) ∙ sym (append_assoc (normal_line u) (normal_lines us) (normal_line t))
+outputs_next : (fates : List Fate) (f : Fate) → outputs_of (fates ++ f ∷ []) ≡ outputs_of fates ++ output_of f
+outputs_next fates f = both_outputs fates (f ∷ []) ∙ ap (λ l. outputs_of fates ++ l) (append-nil (output_of f))
+
+-- the lines before are counted from n, and the next one is number m
+tellings_next : (n m : ℕ) (fates : List Fate) (f : Fate) → m ≡ n + length fates
+    → tellings_of n (fates ++ f ∷ []) ≡ tellings_of n fates ++ telling_of m f
+tellings_next n m [] f e = let is : n ≡ m = omega (arith, e) in append-nil (telling_of n f) ∙ ap (λ k. telling_of k f) is
+tellings_next n m (g ∷ fates) f e =
+    let is : m ≡ suc n + length fates = omega (arith, e) in
+    ap (λ l. telling_of n g ++ l) (tellings_next (suc n) m fates f is)
+    ∙ sym (append_assoc (telling_of n g) (tellings_of (suc n) fates) (telling_of m f))
+
+written_last : (fates : List Fate) (f : Fate) → AllWritten ≡ outcome_of (f ∷ []) → outcome_of fates ≡ outcome_of (fates ++ f ∷ [])
+written_last [] f h = h
+written_last (Ok t ∷ fates) f h = written_last fates f h
+written_last (Err c ∷ fates) f h = refl
+
+refused_last : (fates : List Fate) (f : Fate) → SomeRefused ≡ outcome_of (f ∷ []) → SomeRefused ≡ outcome_of (fates ++ f ∷ [])
+refused_last [] f h = h
+refused_last (Ok t ∷ fates) f h = refused_last fates f h
+refused_last (Err c ∷ fates) f h = refl
+
+ends_refused : (fates : List Fate) (f : Fate) → AllWritten ≡ outcome_of fates → SomeRefused ≡ outcome_of (f ∷ [])
+    → EndsRefused (fates ++ f ∷ [])
+ends_refused fates (Ok t) all h = cc
+ends_refused fates (Err c) all h = (fates, c, refl, sym all)
+
+reaches_all : (b : Bool) (unread left : Option (List ℕ)) (read : List (List ℕ)) (fates : List Fate) (o : Outcome) → (b ≡ false
+    → o ≡ AllWritten) → AllRead unread left read
+    → Reaches b unread left read fates o
+reaches_all true unread left read fates o h a = a
+reaches_all false unread left read fates AllWritten h a = a
+reaches_all false unread left read fates SomeRefused h a = let e : SomeRefused ≡ AllWritten = h refl in cc
+
+reaches_refused : (b : Bool) (unread left : Option (List ℕ)) (read : List (List ℕ)) (fates : List Fate) → b ≡ false
+    → LinesRead unread left read → EndsRefused fates
+    → Reaches b unread left read fates SomeRefused
+reaches_refused false unread left read fates h l e = (l, e)
+reaches_refused true unread left read fates h l e = absurd (false≢true (sym h))
 
 -- ---- the loop
 
--- Before the line of this number: the lines before it are read, and their normal forms written.
-pub record Progress (unread left held holds : Option (List ℕ)) (number : ℕ) : Type 0 where
+-- Before the line of this number: the lines before it are read, and what they give is written or told.
+pub record Progress (options : Options) (unread left held holds told tells : Option (List ℕ)) (number : ℕ)
+    (outcome : Outcome) : Type 0 where
   pub read : List (List ℕ)
-  pub trees : List Tree
-  pub texts : AreTexts read trees
+  pub fates : List Fate
+  pub are : HaveFates options.limit read fates
   pub lines_read : LinesRead unread left read
-  pub written : Appends held holds (normal_lines trees)
-  pub count : number ≡ suc (length read)
+  pub written : Appends held holds (outputs_of fates)
+  pub telling : Appends told tells (tellings_of 1 fates)
+  pub count : number ≡ 1 + length fates
+  pub is : outcome ≡ outcome_of fates
+  pub unless : options.goes_on ≡ false → outcome ≡ AllWritten
 
 -- the bytes of the line, which the buffer was cleared for
-line_is : (left : Option (List ℕ)) (cleared filled line : List ℕ) → cleared ≡ [] → line ≡ filled → IfSome left (λ xs. filled ≡ cleared ++ take_through 10 xs) → IfSome left (λ xs. line ≡ take_through 10 xs)
+line_is : (left : Option (List ℕ)) (cleared filled line : List ℕ) → cleared ≡ [] → line ≡ filled
+    → IfSome left (λ xs. filled ≡ cleared ++ take_through 10 xs) → IfSome left (λ xs. line ≡ take_through 10 xs)
 line_is None cleared filled line e is h = tt
 line_is (Some xs) cleared filled line e is h = is ∙ h ∙ ap (λ l. l ++ take_through 10 xs) e
 
-pub begun : (unread held : Option (List ℕ)) → Progress unread unread held held 1
-begun unread held = record { read = []; trees = []; texts = tt; lines_read = none unread; written = Appends-nil held; count = refl }
+pub begun : (options : Options) (unread held told : Option (List ℕ)) → Progress options unread unread held held told told 1 AllWritten
+begun options unread held told = record {
+  read = [];
+  fates = [];
+  are = tt;
+  lines_read = none unread;
+  written = Appends-nil held;
+  telling = Appends-nil told;
+  count = refl;
+  is = refl;
+  unless = λ _. refl;
+}
   where
     none : (o : Option (List ℕ)) → LinesRead o o []
     none None = tt
     none (Some xs) = refl
 
-module _ (unread left held holds : Option (List ℕ)) where
-  all_written : (trees : List Tree) → Appends held holds (normal_lines trees) → Written held holds (normal_lines trees) []
-  all_written trees w = record { done = normal_lines trees; split = sym (append-nil (normal_lines trees)); appended = w }
+all_written : (held holds : Option (List ℕ)) (bytes : List ℕ) → Appends held holds bytes → Written held holds bytes []
+all_written held holds bytes w = record { done = bytes; split = sym (append-nil bytes); appended = w }
 
-  pub stopped : (n : ℕ) → Progress unread left held holds n → StopsAmongLines unread held holds
-  stopped n p = record { read = p.read; trees = p.trees; texts = p.texts; first = first_lines unread left p.read p.lines_read; written = stop (all_written p.trees p.written) }
+module _ (options : Options) (unread left held holds told tells : Option (List ℕ)) (n : ℕ) (o : Outcome)
+    (p : Progress options unread left held holds told tells n o) where
+  -- nothing more was written, and nothing told
+  pub stopped : (new news : Option (List ℕ)) → Keeps holds new → Keeps tells news → StopsAmongLines options unread held new told news
+  stopped new news k l = record {
+    read = p.read;
+    fates = p.fates;
+    are = p.are;
+    first = first_lines unread left p.read p.lines_read;
+    written = stop (written_same (all_written held holds (outputs_of p.fates) p.written) k);
+    telling = stop (written_same (all_written told tells (tellings_of 1 p.fates) p.telling) l);
+  }
 
-  pub ended : (n : ℕ) (after : Option (List ℕ)) → Progress unread left held holds n → IsAtEnd left → DropsThrough left after 10 → AnswersLines unread after held holds None
-  ended n after p end rest = record { read = p.read; trees = p.trees; texts = p.texts; written = p.written; says = all_read unread left after p.read p.lines_read end rest }
+  pub ended : (after new : Option (List ℕ)) → IsAtEnd left → DropsThrough left after 10 → Keeps holds new
+      → AnswersLines options unread after held new told tells o
+  ended after new end rest k = record {
+    read = p.read;
+    fates = p.fates;
+    are = p.are;
+    reaches = reaches_all options.goes_on unread after p.read p.fates o p.unless (all_read unread left after p.read p.lines_read end rest);
+    written = Appends_keeps held holds new (outputs_of p.fates) p.written k;
+    telling = p.telling;
+    is = p.is;
+  }
 
-  module _ (n : ℕ) (p : Progress unread left held holds n) (after new : Option (List ℕ)) (cleared filled line : List ℕ) (empty : cleared ≡ []) (is : line ≡ filled) (utf8 : IsUtf8 line)
-      (taken : IfSome left (λ xs. filled ≡ cleared ++ take_through 10 xs)) (rest : DropsThrough left after 10) (some : 0 < length line) where
+  -- one more line is read
+  module _ (after new news : Option (List ℕ)) (cleared filled line : List ℕ) (empty : cleared ≡ []) (is : line ≡ filled)
+      (taken : IfSome left (λ xs. filled ≡ cleared ++ take_through 10 xs)) (rest : DropsThrough left after 10)
+      (some : 0 < length line) where
     one_more : LinesRead unread after (p.read ++ line ∷ [])
     one_more = lines_read_next unread left after p.read line p.lines_read (line_is left cleared filled line empty is taken) rest some
 
-    pub refused : (o : Option JsonParseError) (e : JsonParseError) → o ≡ Some e → WritesLine (chars line) holds new (Ok o) → AnswersLines unread after held new (Some record { number = n; error = e })
-    refused o e there h =
-        let w : WritesLine (chars line) holds new (Ok (Some e)) = subst (λ q. WritesLine (chars line) holds new (Ok q)) there h in
-        record { read = p.read; trees = p.trees; texts = p.texts; written = Appends_keeps held holds new (normal_lines p.trees) p.written w.1; says = (line, one_more, p.count, utf8, w.0) }
+    next_written : (f : Fate) → Appends holds new (output_of f) → Appends held new (outputs_of (p.fates ++ f ∷ []))
+    next_written f w = subst (Appends held new) (sym (outputs_next p.fates f)) (Appends-trans held holds new (outputs_of p.fates)
+        (output_of f) p.written w)
 
-    pub next : (o : Option JsonParseError) → o ≡ None → WritesLine (chars line) holds new (Ok o) → Progress unread after held new (n + 1)
-    next o nothing h =
-        let w : WritesLine (chars line) holds new (Ok None) = subst (λ q. WritesLine (chars line) holds new (Ok q)) nothing h in
-        record {
-          read = p.read ++ line ∷ [];
-          trees = p.trees ++ w.0 ∷ [];
-          texts = texts_next p.read p.trees line w.0 p.texts utf8 w.1;
-          lines_read = one_more;
-          written = subst (Appends held new) (sym (normal_next p.trees w.0)) (Appends-trans held holds new (normal_lines p.trees) (normal_line w.0) p.written w.2);
-          count = omega (arith, p.count, length-append p.read (line ∷ []));
-        }
+    next_telling : (f : Fate) → Appends tells news (telling_of n f) → Appends told news (tellings_of 1 (p.fates ++ f ∷ []))
+    next_telling f w = subst (Appends told news) (sym (tellings_next 1 n p.fates f p.count)) (Appends-trans told tells news
+        (tellings_of 1 p.fates) (telling_of n f) p.telling w)
 
-    cut : (t : Tree) → IsText None (chars line) t → WrittenPart holds new (normal_line t) → StopsAmongLines unread held new
-    cut t h w = record {
+    next_count : (f : Fate) → n + 1 ≡ 1 + length (p.fates ++ f ∷ [])
+    next_count f = omega (arith, p.count, length-append p.fates (f ∷ []))
+
+    -- it was written
+    pub next : (r : Outcome) → r ≡ AllWritten → Handles options.limit n line holds new tells news (Ok r)
+        → Progress options unread after held new told news (n + 1) o
+    next r all h = record {
       read = p.read ++ line ∷ [];
-      trees = p.trees ++ t ∷ [];
-      texts = texts_next p.read p.trees line t p.texts utf8 h;
-      first = first_lines unread after (p.read ++ line ∷ []) one_more;
-      written = stops_then (normal_line t) (record { done = normal_lines p.trees; split = normal_next p.trees t; appended = p.written }) w;
+      fates = p.fates ++ h.0 ∷ [];
+      are = fates_next options.limit p.read p.fates line h.0 p.are h.1;
+      lines_read = one_more;
+      written = next_written h.0 h.3;
+      telling = next_telling h.0 h.4;
+      count = next_count h.0;
+      is = p.is ∙ written_last p.fates h.0 (sym all ∙ h.2);
+      unless = p.unless;
     }
 
-    kept : Keeps holds new → StopsAmongLines unread held new
-    kept k = record { read = p.read; trees = p.trees; texts = p.texts; first = first_lines unread left p.read p.lines_read; written = stop (written_same (all_written p.trees p.written) k) }
+    -- it was refused, and the run goes on
+    pub next_refused : options.goes_on ≡ true → (r : Outcome) → r ≡ SomeRefused → Handles options.limit n line holds new tells news (Ok r)
+        → Progress options unread after held new told news (n + 1) SomeRefused
+    next_refused on r some_refused h = record {
+      read = p.read ++ line ∷ [];
+      fates = p.fates ++ h.0 ∷ [];
+      are = fates_next options.limit p.read p.fates line h.0 p.are h.1;
+      lines_read = one_more;
+      written = next_written h.0 h.3;
+      telling = next_telling h.0 h.4;
+      count = next_count h.0;
+      is = refused_last p.fates h.0 (sym some_refused ∙ h.2);
+      unless = λ off. absurd (false≢true (sym off ∙ on));
+    }
 
-    pub failed : (e : Error) → WritesLine (chars line) holds new (Err e) → StopsAmongLines unread held new
-    failed e h = ⊎_elim kept (λ w. cut w.0 w.1 w.2) h
+    -- it was refused, and the run ends
+    pub refused : options.goes_on ≡ false → (r : Outcome) → r ≡ SomeRefused → Handles options.limit n line holds new tells news (Ok r)
+        → AnswersLines options unread after held new told news SomeRefused
+    refused off r some_refused h = record {
+      read = p.read ++ line ∷ [];
+      fates = p.fates ++ h.0 ∷ [];
+      are = fates_next options.limit p.read p.fates line h.0 p.are h.1;
+      reaches = reaches_refused options.goes_on unread after (p.read ++ line ∷ []) (p.fates ++ h.0 ∷ []) off one_more
+          (ends_refused p.fates h.0 (sym (p.unless off) ∙ p.is) (sym some_refused ∙ h.2));
+      written = next_written h.0 h.3;
+      telling = next_telling h.0 h.4;
+      is = refused_last p.fates h.0 (sym some_refused ∙ h.2);
+    }
+
+    -- writing it or telling of it failed
+    cut : (f : Fate) → HasFate options.limit line f → WrittenPart holds new (output_of f) → WrittenPart tells news (telling_of n f)
+        → StopsAmongLines options unread held new told news
+    cut f h w t = record {
+      read = p.read ++ line ∷ [];
+      fates = p.fates ++ f ∷ [];
+      are = fates_next options.limit p.read p.fates line f p.are h;
+      first = first_lines unread after (p.read ++ line ∷ []) one_more;
+      written = stops_then (output_of f) (record { done = outputs_of p.fates; split = outputs_next p.fates f; appended = p.written }) w;
+      telling = stops_then (telling_of n f) (record {
+        done = tellings_of 1 p.fates;
+        split = tellings_next 1 n p.fates f p.count;
+        appended
+            = p.telling;
+      }) t;
+    }
+
+    pub failed : (e : Error) → Handles options.limit n line holds new tells news (Err e) → StopsAmongLines options unread held new told news
+    failed e h = ⊎_elim (λ k. stopped new news k.0 k.1) (λ k. cut k.0 k.1 k.2 k.3) h
 
 -- the exit of a `?`
-pub at_error : (unread left held holds : Option (List ℕ)) (r : Result (Option Refusal) Error) → IsErr r → StopsAmongLines unread held holds → WritesLines unread left held holds r
-at_error unread left held holds (Ok x) e h = absurd (false≢true e)
-at_error unread left held holds (Err x) e h = h
+pub at_error : (options : Options) (unread left held holds told tells : Option (List ℕ)) (r : Result Outcome Error) → IsErr r
+    → StopsAmongLines options unread held holds told tells
+    → Runs options unread left held holds told tells r
+at_error options unread left held holds told tells (Ok x) e h = absurd (false≢true e)
+at_error options unread left held holds told tells (Err x) e h = h

@@ -1,65 +1,123 @@
 //! The normal forms of the lines of an input.
-ghost use Rattle.std.specs.Prelude.{[], ◌∷◌};
+ghost use Rattle.std.specs.Prelude.{◌≡◌, [], ◌∷◌};
 ghost use Rattle.std.specs.Str.{chars};
 ghost use Rattle.tinyjson.specs.Characters.{line_feed};
+ghost use Rattle.tinyjson.specs.Parser.{ParsesText};
 ghost use Rattle.tinyjson.specs.View.{view};
 ghost use Rattle.tinyjson.specs.Written.{WritesPrefix};
-ghost use Rattle.json_lines.specs.Lines.{WritesLines, WritesLine, normal_line};
+ghost use Rattle.json_lines.specs.Lines.{content as content_of, normal_line};
+ghost use Rattle.json_lines.specs.Run.{Runs, Handles, WritesLine};
 
+use crate::refusal::{Cause, Refusal, tell};
 use std::alloc::Global;
 use std::io::{self, BufRead, ErrorKind, Write};
-use tinyjson::{JsonParseError, JsonValue};
+use std::str;
+use tinyjson::{JsonParseResult, JsonValue};
 
-/// The first line that is not a JSON text.
+/// How lines are read.
 #[derive(Clone, Copy, Debug, PartialEq, Eq)]
-pub struct Refusal {
-    /// Which line it is, from 1.
-    pub number: u64,
-    /// Why it is refused, and where: after its line feed at line 2, column 0.
-    pub error: JsonParseError,
+pub struct Options {
+    /// Whether the run goes on after a line that is refused.
+    pub goes_on: bool,
+    /// How many containers may be open at once, if there is a limit.
+    pub limit: Option<usize>,
 }
 
-/// Writes the normal form of each line of the input, which is a JSON text, and a line feed, up to
-/// the first line that is refused.
+/// What became of the lines that were read.
+#[derive(Clone, Copy, Debug, PartialEq, Eq)]
+pub enum Outcome {
+    /// The normal form of each was written.
+    AllWritten,
+    /// One was refused, or more than one.
+    SomeRefused,
+}
+
+/// Writes the normal form of each line of the input and a line feed to `output`, and tells `errors`
+/// of each line that is refused.
 ///
-/// A line ends after its line feed, and the last one where the input ends. A line that isn't UTF-8
-/// is an error, and so is memory that runs out. After an error a prefix of the normal forms of the
-/// lines is written.
+/// A line ends after its line feed, and the last one where the input ends. One that is not UTF-8, no
+/// JSON text, or nested deeper than the limit is refused: nothing is written for it, and one line says
+/// which it is, where in it the parser stopped, and why. The run goes on after it where the options
+/// say so, and otherwise ends.
+///
+/// Memory that runs out, a read or a write that fails is an error. Then of what was to be written for
+/// the lines so far, and of what was to be told, a prefix was.
 ///
 /// ```
-/// let mut input = b"[1.0]\n{\n".as_slice();
-/// write_lines(alloc, &mut input, &mut output)?; // writes `[1]`, and returns line 2
+/// let mut input = b"[1.0]\n{\n2".as_slice();
+/// run(alloc, options, &mut input, &mut output, &mut errors)?; // writes `[1]`, and tells of line 2
 /// ```
-pub fn write_lines<R: BufRead, W: Write>(
+pub fn run<R: BufRead, W: Write, E: Write>(
     alloc: Global,
+    options: Options,
     input: &mut R,
     output: &mut W,
-) -> io::Result<Option<Refusal>>
-    ensures { WritesLines (R.remaining input.old) (R.remaining input.new)
-        (W.contents output.old) (W.contents output.new) result }
+    errors: &mut E,
+) -> io::Result<Outcome>
+    ensures { Runs options (R.remaining input.old) (R.remaining input.new)
+        (W.contents output.old) (W.contents output.new)
+        (E.contents errors.old) (E.contents errors.new) result }
 {
-    let mut line = String::new(alloc);
+    let mut line = Vec::new(alloc);
+    let mut outcome = Outcome::AllWritten;
     for number in 1..u64::MAX {
         line.clear();
-        if input.read_line(&mut line)? == 0 {
-            return Ok(None);
+        if input.read_until(b'\n', &mut line)? == 0 {
+            output.flush()?;
+            return Ok(outcome);
         }
-        if let Some(error) = write_line(alloc, output, line.as_str())? {
-            return Ok(Some(Refusal { number, error }));
+        let handled = handle(
+            alloc,
+            options.limit,
+            number,
+            line.as_slice(),
+            output,
+            errors,
+        )?;
+        let Outcome::SomeRefused = handled else {
+            continue;
+        };
+        if !options.goes_on {
+            return Ok(Outcome::SomeRefused);
         }
+        outcome = Outcome::SomeRefused;
     }
     Err(io::Error::new(ErrorKind::InvalidData, "too many lines"))
+}
+
+/// Writes the normal form of one line, or tells of it, after what was written before it.
+fn handle<W: Write, E: Write>(
+    alloc: Global,
+    limit: Option<usize>,
+    number: u64,
+    line: &[u8],
+    output: &mut W,
+    errors: &mut E,
+) -> io::Result<Outcome>
+    ensures { Handles limit number line.now (W.contents output.old) (W.contents output.new)
+        (E.contents errors.old) (E.contents errors.new) result }
+{
+    let Some(cause) = write_line(alloc, limit, line, output)? else {
+        return Ok(Outcome::AllWritten);
+    };
+    output.flush()?;
+    tell(alloc, errors, Refusal { number, cause })?;
+    Ok(Outcome::SomeRefused)
 }
 
 /// Writes the normal form of one line and a line feed; or nothing, where the line is refused.
 fn write_line<W: Write>(
     alloc: Global,
+    limit: Option<usize>,
+    line: &[u8],
     output: &mut W,
-    line: &str,
-) -> io::Result<Option<JsonParseError>>
-    ensures { WritesLine (chars line.now) (W.contents output.old) (W.contents output.new) result }
+) -> io::Result<Option<Cause>>
+    ensures { WritesLine limit line.now (W.contents output.old) (W.contents output.new) result }
 {
-    match JsonValue::from_str(alloc, line) {
+    let Ok(text) = str::from_utf8(content(line)) else {
+        return Ok(Some(Cause::NotUtf8));
+    };
+    match parse(alloc, text, limit) {
         Ok(value) => {
             let written = write_value(alloc, output, &value);
             value.dismantle();
@@ -70,8 +128,27 @@ fn write_line<W: Write>(
             if error.is_out_of_memory() {
                 return Err(error.into());
             }
-            Ok(Some(error))
+            Ok(Some(Cause::NotJson(error)))
         }
+    }
+}
+
+/// The line without its line feed.
+fn content(line: &[u8]) -> &[u8]
+    ensures { result.now ≡ content_of line.now }
+{
+    if !line.is_empty() && line[line.len() - 1] == b'\n' {
+        return &line[..line.len() - 1];
+    }
+    line
+}
+
+fn parse(alloc: Global, text: &str, limit: Option<usize>) -> JsonParseResult
+    ensures { ParsesText limit (chars text.now) result }
+{
+    match limit {
+        None => JsonValue::from_str(alloc, text),
+        Some(limit) => JsonValue::from_str_with_depth_limit(alloc, text, limit),
     }
 }
 

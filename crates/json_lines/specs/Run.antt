@@ -1,0 +1,72 @@
+-- What a run does.
+use Rattle.std.specs.Prelude.{◌≡◌, ℕ, Bool, false, List, [], ◌∷◌, ◌++◌, Option, None, Some, IfSome, Result, Ok, Err, ◌⊎◌, ⊤}
+use Rattle.std.specs.Io.KnownBytes.{Appends, Keeps}
+use Rattle.std.specs.declared.io.Error.{Error}
+use Rattle.tinyjson.specs.Tree.{Tree}
+use Rattle.tinyjson.specs.Written.{WrittenPart}
+use Rattle.json_lines.specs.Lines.{lines, Fate, HasFate, HaveFates, normal_line, output_of, outputs_of, telling_of, tellings_of, outcome_of}
+use Rattle.json_lines.specs.declared.lines.Options.{Options}
+use Rattle.json_lines.specs.declared.lines.Outcome.{Outcome}
+use Rattle.json_lines.specs.declared.lines.Outcome.TheVariants.{AllWritten, SomeRefused}
+use Rattle.json_lines.specs.declared.refusal.Cause.{Cause}
+
+-- of the known bytes these lines are read
+abbrev pub LinesRead : Option (List ℕ) → Option (List ℕ) → List (List ℕ) → Type 0
+LinesRead None left read = ⊤
+LinesRead (Some xs) None read = ⊥
+LinesRead (Some xs) (Some ys) read = lines xs ≡ read ++ lines ys
+
+-- these lines are all, and nothing is left
+abbrev pub AllRead : Option (List ℕ) → Option (List ℕ) → List (List ℕ) → Type 0
+AllRead unread left read = IfSome unread (λ xs. (lines xs ≡ read) × (left ≡ Some []))
+
+-- only the last is refused
+abbrev pub EndsRefused : List Fate → Type 0
+EndsRefused fates = (before : List Fate) × (c : Cause) × (fates ≡ before ++ Err c ∷ []) × (outcome_of before ≡ AllWritten)
+
+-- All lines are read; or, where the run does not go on after a line that is refused, those up to the first of them.
+abbrev pub Reaches : Bool → Option (List ℕ) → Option (List ℕ) → List (List ℕ) → List Fate → Outcome → Type 0
+Reaches false unread left read fates SomeRefused = LinesRead unread left read × EndsRefused fates
+Reaches goes_on unread left read fates outcome = AllRead unread left read
+
+-- For each line that is read its normal form was written or its refusal told, in order, and nothing else.
+pub record AnswersLines (options : Options) (unread left held holds told tells : Option (List ℕ)) (outcome : Outcome) : Type 0 where
+  pub read : List (List ℕ)
+  pub fates : List Fate
+  pub are : HaveFates options.limit read fates
+  pub reaches : Reaches options.goes_on unread left read fates outcome
+  pub written : Appends held holds (outputs_of fates)
+  pub telling : Appends told tells (tellings_of 1 fates)
+  pub is : outcome ≡ outcome_of fates
+
+-- Of what is to be written for the first lines, and of what is to be told of them, a prefix was.
+pub record StopsAmongLines (options : Options) (unread held holds told tells : Option (List ℕ)) : Type 0 where
+  pub read : List (List ℕ)
+  pub fates : List Fate
+  pub are : HaveFates options.limit read fates
+  pub first : IfSome unread (λ xs. (more : List (List ℕ)) × (lines xs ≡ read ++ more))
+  pub written : WrittenPart held holds (outputs_of fates)
+  pub telling : WrittenPart told tells (tellings_of 1 fates)
+
+-- what the input had and has, the output held and holds, and standard error held and holds
+abbrev pub Runs : Options → Option (List ℕ) → Option (List ℕ) → Option (List ℕ) → Option (List ℕ) → Option (List ℕ) → Option (List ℕ)
+    → Result Outcome Error → Type 0
+Runs options unread left held holds told tells (Ok outcome) = AnswersLines options unread left held holds told tells outcome
+Runs options unread left held holds told tells (Err e) = StopsAmongLines options unread held holds told tells
+
+-- the same of one line
+abbrev pub Handles : Option ℕ → ℕ → List ℕ → Option (List ℕ) → Option (List ℕ) → Option (List ℕ) → Option (List ℕ)
+    → Result Outcome Error → Type 0
+Handles limit n line held holds told tells (Ok outcome) =
+    (f : Fate) × HasFate limit line f × (outcome ≡ outcome_of (f ∷ []))
+    × Appends held holds (output_of f) × Appends told tells (telling_of n f)
+Handles limit n line held holds told tells (Err e) =
+    (Keeps held holds × Keeps told tells)
+    ⊎ ((f : Fate) × HasFate limit line f × WrittenPart held holds (output_of f) × WrittenPart told tells (telling_of n f))
+
+-- the same of writing it
+abbrev pub WritesLine : Option ℕ → List ℕ → Option (List ℕ) → Option (List ℕ) → Result (Option Cause) Error → Type 0
+WritesLine limit line held holds (Ok None) = (t : Tree) × HasFate limit line (Ok t) × Appends held holds (normal_line t)
+WritesLine limit line held holds (Ok (Some c)) = HasFate limit line (Err c) × Keeps held holds
+WritesLine limit line held holds (Err e) =
+    Keeps held holds ⊎ ((t : Tree) × HasFate limit line (Ok t) × WrittenPart held holds (normal_line t))
