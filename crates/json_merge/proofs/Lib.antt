@@ -1,0 +1,4 @@
+pub mod Applying
+pub mod Entries
+pub mod Examples
+pub mod Merging

@@ -1,0 +1,65 @@
+-- What is written of the texts of a patch and of a value.
+use Rattle.std.specs.Prelude.{◌≡◌, ℕ, List, [], ◌∷◌, ◌++◌, Option, Some, None, Result, Ok, Err, ◌⊎◌, codes, encode_utf8_all}
+use Rattle.std.specs.Io.KnownBytes.{Appends}
+use Rattle.tinyjson.specs.Characters.{line_feed}
+use Rattle.tinyjson.specs.Error.{error_kind, error_message}
+use Rattle.tinyjson.specs.Grammar.{IsText, IsAccepted}
+use Rattle.tinyjson.specs.JsonParseErrorKind.TheVariants as kind
+use Rattle.tinyjson.specs.Parser.{ParsesText}
+use Rattle.tinyjson.specs.Text.{compact}
+use Rattle.tinyjson.specs.Tree.{Tree}
+use Rattle.tinyjson.specs.Written.{WrittenPart}
+use Rattle.json_merge.specs.Merge.{merge_patch}
+use Rattle.tinyjson.specs.declared.parser.error.JsonParseError.{JsonParseError}
+use Rattle.json_merge.specs.declared.apply.MergeError.{MergeError}
+use Rattle.json_merge.specs.declared.apply.MergeError.TheVariants.{BadPatch, Refused, OutOfMemory, Writing}
+
+abbrev pub status_of : MergeError → ℕ
+status_of (BadPatch e) = 2
+status_of (Refused e) = 3
+status_of OutOfMemory = 4
+status_of Writing = 4
+
+-- the message of an error; of a text that is refused its reader's
+abbrev pub merge_error_message : MergeError → List ℕ
+merge_error_message (BadPatch e) = codes "the patch: " ++ error_message e
+merge_error_message (Refused e) = error_message e
+merge_error_message OutOfMemory = codes "out of memory"
+merge_error_message Writing = codes "writing failed"
+
+-- how many containers of a patch may be open at once
+abbrev pub patch_depth : Option ℕ
+patch_depth = Some 1000
+
+-- the compact text in UTF-8, and a line feed
+abbrev pub line_of : Tree → List ℕ
+line_of t = encode_utf8_all (compact t) ++ line_feed ∷ []
+
+-- a write failed; the error is out of memory where that was wanted
+abbrev pub IsFailedWrite : Type 0 → MergeError → Type 0
+IsFailedWrite wanted error = (wanted × (error ≡ OutOfMemory)) ⊎ (¬ wanted × (error ≡ Writing))
+
+-- the reader refuses the text, which is none under the limit
+abbrev pub IsRefused : Option ℕ → List ℕ → JsonParseError → Type 0
+IsRefused limit text e = ParsesText limit text (Err e) × ¬ (error_kind e ≡ kind.OutOfMemory) × ¬ IsAccepted limit text
+
+-- The line of the tree t with the patch p applied is written, or a prefix of it where that failed.
+abbrev pub AppliesTree : Tree → Tree → Option (List ℕ) → Option (List ℕ) → Result (Unit {0}) MergeError → Type 0
+AppliesTree p t old new (Ok _) = Appends old new (line_of (merge_patch t p))
+AppliesTree p t old new (Err Writing) = WrittenPart old new (line_of (merge_patch t p))
+AppliesTree p t old new (Err OutOfMemory) = WrittenPart old new (line_of (merge_patch t p))
+AppliesTree p t old new (Err _) = ⊥
+
+-- So it is of the tree of a text; or the text is none, as its reader says, or memory ran out, and nothing is written.
+abbrev pub Applies : Tree → List ℕ → Option (List ℕ) → Option (List ℕ) → Result (Unit {0}) MergeError → Type 0
+Applies p text old new (Err (Refused e)) = IsRefused None text e × (new ≡ old)
+Applies p text old new (Err OutOfMemory) =
+    (new ≡ old) ⊎ ((t : Tree) × IsText None text t × AppliesTree p t old new (Err OutOfMemory))
+Applies p text old new result = (t : Tree) × IsText None text t × AppliesTree p t old new result
+
+-- So it is of the tree of the patch; or the patch is none, and nothing is written.
+abbrev pub WritesMerged : List ℕ → List ℕ → Option (List ℕ) → Option (List ℕ) → Result (Unit {0}) MergeError → Type 0
+WritesMerged patch text old new (Err (BadPatch e)) = IsRefused patch_depth patch e × (new ≡ old)
+WritesMerged patch text old new (Err OutOfMemory) =
+    (new ≡ old) ⊎ ((p : Tree) × IsText patch_depth patch p × Applies p text old new (Err OutOfMemory))
+WritesMerged patch text old new result = (p : Tree) × IsText patch_depth patch p × Applies p text old new result

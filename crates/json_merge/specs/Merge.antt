@@ -1,0 +1,21 @@
+-- JSON Merge Patch (RFC 7396, section 2), over trees.
+use Rattle.std.specs.Prelude.{unwrap_or}
+use Rattle.tinyjson.specs.Tree.{Tree, null, object, Members, no_members, member, find, put, remove}
+
+-- the members of an object; of another target the contents are ignored
+abbrev pub members_of : Tree → Members
+members_of (object ms) = ms
+members_of _ = no_members
+
+abbrev mutual
+  -- `MergePatch(Target, Patch)`: a patch that is no object is the result
+  pub merge_patch : Tree → Tree → Tree
+  merge_patch t (object ps) = object (merge_members (members_of t) ps)
+  merge_patch t p = p
+
+  -- Each member of the patch in turn: null removes, another one is merged into the member that is there, or, where
+  -- there is none, into no object, as which null stands.
+  pub merge_members : Members → Members → Members
+  merge_members ms no_members = ms
+  merge_members ms (member k null ps) = merge_members (remove k ms) ps
+  merge_members ms (member k p ps) = merge_members (put k (merge_patch (unwrap_or (find k ms) null) p) ms) ps

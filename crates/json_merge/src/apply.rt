@@ -1,0 +1,154 @@
+//! The text of a patch, applied to the text of a value.
+ghost use Rattle.std.specs.IoError.{error_kind};
+ghost use Rattle.std.specs.Prelude.{◌≡◌, ◌∷◌, [], Some};
+ghost use Rattle.std.specs.Str.{chars};
+ghost use Rattle.tinyjson.specs.Characters.{line_feed};
+ghost use Rattle.tinyjson.specs.View.{view};
+ghost use Rattle.tinyjson.specs.Written.{WritesPrefix};
+ghost use Rattle.json_merge.specs.Apply.{status_of, merge_error_message, line_of, patch_depth};
+ghost use Rattle.json_merge.specs.Apply.{IsFailedWrite, AppliesTree, Applies, WritesMerged};
+
+use crate::merge::merge;
+use std::alloc::Global;
+use std::fmt;
+use std::io::{self, ErrorKind, Write};
+use tinyjson::{JsonParseError, JsonValue};
+
+/// How many containers of a patch may be open at once: the merge and the drop of the patch take stack as it
+/// is deep.
+const PATCH_DEPTH: usize = 1_000;
+
+/// Why no merged value is written.
+#[derive(Debug, Drop)]
+pub enum MergeError {
+    /// The patch is no JSON text, or deeper than 1,000 containers.
+    BadPatch(JsonParseError),
+    /// The text of the value is no JSON text.
+    Refused(JsonParseError),
+    /// An allocation failed.
+    OutOfMemory,
+    /// A write failed.
+    Writing,
+}
+
+impl MergeError {
+    /// The status with which the program ends.
+    pub fn status(&self) -> u8
+        ensures { result ≡ status_of self.now }
+    {
+        match self {
+            MergeError::BadPatch(_) => 2,
+            MergeError::Refused(_) => 3,
+            MergeError::OutOfMemory | MergeError::Writing => 4,
+        }
+    }
+}
+
+/// The message that the program writes after its name.
+impl fmt::Display for MergeError {
+    ghost output = { λ e. Some (merge_error_message e) };
+
+    fn fmt<W: fmt::Write>(&self, f: &mut fmt::Formatter<W>) -> fmt::Result {
+        match self {
+            MergeError::BadPatch(error) => write!(f, "the patch: {error}"),
+            MergeError::Refused(error) => write!(f, "{error}"),
+            MergeError::OutOfMemory => f.write_str("out of memory"),
+            MergeError::Writing => f.write_str("writing failed"),
+        }
+    }
+}
+
+/// Writes the compact text of the value with the patch applied (RFC 7396), and a line feed.
+///
+/// The patch is read first, and both are read before anything is written. After `Writing`, and where
+/// memory ran out, a prefix of the line may have been written. The value may be of any depth.
+///
+/// ```
+/// write_merged(alloc, r#"{"a":null}"#, r#"{"a":1,"b":2}"#, &mut output)?; // {"b":2} and a line feed
+/// ```
+pub fn write_merged<W: Write>(
+    alloc: Global,
+    patch: &str,
+    text: &str,
+    output: &mut W,
+) -> Result<(), MergeError>
+    ensures { WritesMerged (chars patch.now) (chars text.now)
+        (W.contents output.old) (W.contents output.new) result }
+{
+    match JsonValue::from_str_with_depth_limit(alloc, patch, PATCH_DEPTH) {
+        Ok(patch) => apply_to_text(alloc, &patch, text, output),
+        Err(error) => {
+            if error.is_out_of_memory() {
+                return Err(MergeError::OutOfMemory);
+            }
+            Err(MergeError::BadPatch(error))
+        }
+    }
+}
+
+fn apply_to_text<W: Write>(
+    alloc: Global,
+    patch: &JsonValue,
+    text: &str,
+    output: &mut W,
+) -> Result<(), MergeError>
+    ensures { Applies (view patch.now) (chars text.now)
+        (W.contents output.old) (W.contents output.new) result }
+{
+    match JsonValue::from_str(alloc, text) {
+        Ok(value) => apply_to_value(alloc, patch, value, output),
+        Err(error) => {
+            if error.is_out_of_memory() {
+                return Err(MergeError::OutOfMemory);
+            }
+            Err(MergeError::Refused(error))
+        }
+    }
+}
+
+fn apply_to_value<W: Write>(
+    alloc: Global,
+    patch: &JsonValue,
+    value: JsonValue,
+    output: &mut W,
+) -> Result<(), MergeError>
+    ensures { AppliesTree (view patch.now) (view value)
+        (W.contents output.old) (W.contents output.new) result }
+{
+    let Ok(merged) = merge(value, patch, alloc) else {
+        return Err(MergeError::OutOfMemory);
+    };
+    let answer = write_line(alloc, &merged, output);
+    merged.dismantle();
+    match answer {
+        Ok(()) => Ok(()),
+        Err(error) => Err(writing_error(error)),
+    }
+}
+
+/// The error of a write that failed.
+pub(crate) fn writing_error(error: io::Error) -> MergeError
+    ensures { IsFailedWrite (error_kind error ≡ ErrorKind.OutOfMemory) result }
+{
+    if error.kind() == ErrorKind::OutOfMemory {
+        return MergeError::OutOfMemory;
+    }
+    MergeError::Writing
+}
+
+fn write_line<W: Write>(alloc: Global, value: &JsonValue, output: &mut W) -> io::Result<()>
+    ensures { WritesPrefix (W.contents output.old) (W.contents output.new)
+        (line_of (view value.now)) result }
+{
+    value.write_to(alloc, output)?;
+    end_line(output)
+}
+
+fn end_line<W: Write>(output: &mut W) -> io::Result<()>
+    ensures { WritesPrefix (W.contents output.old) (W.contents output.new) (line_feed ∷ []) result }
+{
+    if output.write(b"\n")? == 0 {
+        return Err(io::Error::new(ErrorKind::WriteZero, "the writer took no byte"));
+    }
+    Ok(())
+}

@@ -1,0 +1,94 @@
+//! A value with a patch merged into it.
+ghost use Rattle.std.specs.Prelude.{◌≡◌, IfOk, OnOk, unwrap_or};
+ghost use Rattle.std.specs.Str.{chars};
+ghost use Rattle.tinyjson.specs.Tree.{null, find, put, remove};
+ghost use Rattle.tinyjson.specs.View.{view, text, members_view};
+ghost use Rattle.json_merge.specs.Merge.{merge_patch, members_of};
+
+use std::alloc::{AllocError, Global};
+use std::collections::HashMap;
+use tinyjson::{JsonValue, discard_member, insert_member, remove_member};
+
+/// The target with the patch applied: `MergePatch(Target, Patch)` of RFC 7396, section 2.
+///
+/// The only error is out of memory, and the target is then freed. It calls itself once for each object
+/// around a part of the patch, so it takes stack as the patch is deep, and none for the depth of the target.
+///
+/// ```
+/// let merged = merge(target, &patch, alloc)?; // {"a":1,"b":2} by {"a":null,"c":3} is {"b":2,"c":3}
+/// ```
+pub fn merge(target: JsonValue, patch: &JsonValue, alloc: Global) -> Result<JsonValue, AllocError>
+    ensures { IfOk result (λ v. view v ≡ merge_patch (view target) (view patch.now)) }
+{
+    merge_into(patch, target, alloc)
+}
+
+fn merge_into(patch: &JsonValue, target: JsonValue, alloc: Global) -> Result<JsonValue, AllocError>
+    ensures { IfOk result (λ v. view v ≡ merge_patch (view target) (view patch.now)) }
+{
+    let JsonValue::Object(changes) = patch else {
+        target.dismantle();
+        return patch.try_clone(alloc);
+    };
+    let mut members = members_of(target, alloc);
+    for (key, change) in changes {
+        if change.is_null() {
+            discard_member(&mut members, key.as_str());
+        } else {
+            let old = take_or_null(&mut members, key.as_str());
+            let Ok(new) = merge_into(change, old, alloc) else {
+                return Err(give_up(members));
+            };
+            let Ok(()) = put_member(&mut members, key.as_str(), new, alloc) else {
+                return Err(give_up(members));
+            };
+        }
+    }
+    Ok(JsonValue::Object(members))
+}
+
+/// The members of an object, and none of another value, which is freed.
+fn members_of(value: JsonValue, alloc: Global) -> HashMap<String, JsonValue>
+    ensures { members_view result.entries ≡ members_of (view value) }
+{
+    match value {
+        JsonValue::Object(members) => members,
+        other => {
+            other.dismantle();
+            HashMap::new(alloc)
+        }
+    }
+}
+
+/// Takes the member at the key out, or `null` where there is none.
+fn take_or_null(members: &mut HashMap<String, JsonValue>, key: &str) -> JsonValue
+    ensures old { view result
+        ≡ unwrap_or (find (chars key.now) (members_view members.old.entries)) null }
+    ensures new { members_view members.new.entries
+        ≡ remove (chars key.now) (members_view members.old.entries) }
+{
+    remove_member(members, key).unwrap_or(JsonValue::Null)
+}
+
+/// Puts the value at the key, of which it makes a string. Where memory runs out, the value is freed.
+fn put_member(
+    members: &mut HashMap<String, JsonValue>,
+    key: &str,
+    value: JsonValue,
+    alloc: Global,
+) -> Result<(), AllocError>
+    ensures { OnOk result (members_view members.new.entries
+        ≡ put (chars key.now) (view value) (members_view members.old.entries)) }
+{
+    let Ok(key) = String::from_str(alloc, key) else {
+        value.dismantle();
+        return Err(AllocError);
+    };
+    insert_member(members, key, value)
+}
+
+/// Frees the members by a loop, and gives the error to return.
+fn give_up(members: HashMap<String, JsonValue>) -> AllocError {
+    JsonValue::Object(members).dismantle();
+    AllocError
+}
