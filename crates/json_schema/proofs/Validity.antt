@@ -1,18 +1,18 @@
 -- Values that are valid, and places that are not.
 use Rattle.std.proofs.Common.{◌≡◌, ◌∷◌, ◌++◌, [], ℕ, ◌<◌, true, true≢false, List, Option, Some, None, IsSome, option_map, Ok, Global, Vec}
-use Rattle.std.proofs.Common.{codes, refl, sym, ap, ◌∙◌, subst, arith, length, append_assoc, append-nil, below_more, zero, suc, get_or}
+use Rattle.std.proofs.Common.{codes, refl, sym, ap, ◌∙◌, subst, arith, length, below_more, zero, suc, get_or}
 use Rattle.std.proofs.Common.{◌+◌, ◌≤◌}
 use Rattle.std.proofs.lemmas.Option.{slice_get_within}
 use Rattle.std.specs.List.{IsDistinct}
 use Rattle.std.specs.Map.{keys_of}
 use Rattle.std.specs.Prelude.{slice_get, option_and_then}
 use Rattle.std.specs.String.{string_eq}
-use Rattle.tinyjson.proofs.Callers.{Entry, entry_from_find, find_entry, nth_items_view, value_from_tree, object_from_tree, array_from_tree}
+use Rattle.tinyjson.proofs.Callers.{Entry, IsRest, rest_next, rest_distinct, rest_ends, entry_from_find, find_entry}
+use Rattle.tinyjson.proofs.Callers.{nth_items_view, value_from_tree, no_object, no_array}
 use Rattle.tinyjson.specs.Access.{JsonMap}
-use Rattle.tinyjson.specs.Access.Laws.{put_of_object, put_of_array}
 use Rattle.tinyjson.specs.declared.value.JsonValue.TheVariants as is
 use Rattle.tinyjson.specs.Index.{tree_at_key}
-use Rattle.tinyjson.specs.Tree.{Tree, array, object, find}
+use Rattle.tinyjson.specs.Tree.{Tree, Items, Members, array, object, find}
 use Rattle.tinyjson.specs.View.{view, text, items_view, members_view}
 use Rattle.tinyjson.specs.declared.value.JsonValue.{JsonValue}
 use Rattle.json_pointer.specs.Index.{index_of}
@@ -56,30 +56,27 @@ object_valid s t es is m h = subst (IsValid s) (sym is) (valid (subst (λ x. mee
         subst (IsValid r) e.tree (entry_valid s e.done e.more e.entry (subst (EntriesAreValid s) e.split h) r (ap (property s) (sym e.key)
         ∙ a))
 
-pub member_invalid : (s t r : Tree) (es done more : List Entry) (e : Entry) (ks : List (List ℕ)) → t ≡ object (members_view es)
-    → es ≡ done ++ e ∷ more → IsDistinct string_eq (keys_of es) → property s (text e.0) ≡ Some r
-    → IsInvalidAt r (view e.1) ks → IsInvalidAt s t (text e.0 ∷ ks)
-member_invalid s t r es done more e ks is split d a h =
+pub member_invalid : (s t r : Tree) (es rest more : List Entry) (e : Entry) (ks : List (List ℕ)) → t ≡ object (members_view es)
+    → IsRest es rest → rest ≡ e ∷ more → property s (text e.0) ≡ Some r → IsInvalidAt r (view e.1) ks → IsInvalidAt s t (text e.0 ∷ ks)
+member_invalid s t r es rest more e ks is left f a h =
     subst (λ x. IsInvalidAt s x (text e.0 ∷ ks)) (sym is)
-    (in_part a (ap (λ x. find (text e.0) (members_view x)) split
-    ∙ find_entry done more e (subst (λ x. IsDistinct string_eq (keys_of x)) split d)) h)
+    (in_part a (ap (λ x. find (text e.0) (members_view x)) (left.split ∙ ap (λ x. left.done ++ x) f)
+    ∙ find_entry left.done more e (rest_distinct es rest more e left f)) h)
 
 -- The entries before the rest are valid.
 pub record AreChecked (s : Tree) (es rest : List Entry) : Type 0 where
-  pub done : List Entry
-  pub split : es ≡ done ++ rest
-  pub checked : EntriesAreValid s done
+  pub left : IsRest es rest
+  pub checked : EntriesAreValid s left.done
 
 pub one_checked : (s : Tree) (es rest more : List Entry) (e : Entry) → AreChecked s es rest → rest ≡ e ∷ more → EntryIsValid s e
     → AreChecked s es more
 one_checked s es rest more e c f h = record {
-  done = c.done ++ e ∷ [];
-  split = c.split ∙ (ap (λ x. c.done ++ x) f ∙ sym (append_assoc c.done (e ∷ []) more));
-  checked = entries_push s c.done e c.checked h;
+  left = rest_next es rest more e c.left f;
+  checked = entries_push s c.left.done e c.checked h;
 }
 
 pub all_checked : (s : Tree) (es rest : List Entry) → AreChecked s es rest → rest ≡ [] → EntriesAreValid s es
-all_checked s es rest c e = subst (EntriesAreValid s) (sym (c.split ∙ (ap (λ x. c.done ++ x) e ∙ append-nil c.done))) c.checked
+all_checked s es rest c e = subst (EntriesAreValid s) (sym (rest_ends es rest c.left e)) c.checked
 
 none_some : (r : Tree) → None ≡ Some r → ⊥
 none_some r h = cc
@@ -140,12 +137,12 @@ no_items_schema s t vs is m a = subst (IsValid s) (sym is)
 
 pub leaf_valid : (s : Tree) (v : JsonValue) → meets_own s (view v) ≡ true → ((m : JsonMap) → v ≡ is.Object m → ⊥)
     → ((l : Vec JsonValue Global) → v ≡ is.Array l → ⊥) → IsValid s (view v)
-leaf_valid s v m no_object no_array = by (view v) refl m
+leaf_valid s v m other_object other_array = by (view v) (no_object v other_object) (no_array v other_array) m
   where
-    by : (t : Tree) → view v ≡ t → meets_own s t ≡ true → IsValid s t
-    by (object ms) e h = let f = object_from_tree v ms e in absurd (no_object f.0 (sym (put_of_object v f.0 f.1)))
-    by (array ts) e h = let f = array_from_tree v ts e in absurd (no_array f.0 (sym (put_of_array v f.0 f.1)))
-    by _ e h = valid h (λ k r u a b. absurd (none_some r a))
+    by : (t : Tree) → ((ms : Members) → t ≡ object ms → ⊥) → ((ts : Items) → t ≡ array ts → ⊥) → meets_own s t ≡ true → IsValid s t
+    by (object ms) n o h = absurd (n ms refl)
+    by (array ts) n o h = absurd (o ts refl)
+    by _ n o h = valid h (λ k r u a b. absurd (none_some r a))
 
 -- a result with its reasons
 pub reported : (s t : Tree) (p : Pointer) → IsInvalidAt s t (tokens_of p) → Validates s t (Ok (Some p))

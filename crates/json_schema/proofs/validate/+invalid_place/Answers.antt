@@ -1,8 +1,12 @@
 use Rattle.std.proofs.Common.{◌≡◌, ◌∙◌, ◌∷◌, [], ◌++◌, codes, Ok, Some, None, length, sym, ap, refl, subst, arith}
 use Rattle.std.specs.Prelude.{slice_get}
 use Rattle.std.specs.Str.{chars}
-use Rattle.tinyjson.proofs.Callers.{view_Object, view_Array}
-use Rattle.tinyjson.specs.View.{view, text}
+use Rattle.std.specs.List.{IsDistinct}
+use Rattle.std.specs.Map.{keys_of}
+use Rattle.std.specs.String.{string_eq}
+use Rattle.tinyjson.proofs.Callers.{rest_begins, view_Object, view_Array}
+use Rattle.tinyjson.specs.Tree.{object}
+use Rattle.tinyjson.specs.View.{view, text, members_view}
 use Rattle.json_pointer.specs.Tokens.{tokens_of}
 use Rattle.json_schema.specs.Valid.{property, Validates, IsInvalidAt, here}
 use Rattle.json_schema.proofs.Lookups.{at_literal}
@@ -18,7 +22,10 @@ returns-then-not-meets_own t c =
     reported s v c.root.result (subst (IsInvalidAt s v) (sym c.root.ensures) (here (sym c.if-not-meets_own.ensures)))
 
 pub loop-key-init : goal.loop-key-init
-loop-key-init t c = record { done = []; split = refl; checked = tt }
+loop-key-init t c =
+    let gives = c.into_iter-key-iterator.ensures.into_iter_gives in
+    let es = c.into_iter-key-iterator.result in
+    record { left = rest_begins es es refl (subst (λ x. IsDistinct string_eq (keys_of x)) (sym gives.0) gives.4); checked = tt }
 
 pub returns-in-Some-2 : goal.returns-in-Some-2
 returns-in-Some-2 t c =
@@ -27,9 +34,7 @@ returns-in-Some-2 t c =
     let m = c.in-Object.members in
     let gives = c.into_iter-key-iterator.ensures.into_iter_gives in
     let key = c.in-Some.key.now in
-    let done = c.loop-key.invariant.done in
     let r = view c.in-Some-property.part.now in
-    let split = sym gives.0 ∙ (c.loop-key.invariant.split ∙ ap (λ x. done ++ x) c.in-Some.ensures.steps) in
     let schema : property s (text key) ≡ Some r = sym (c.in-Some-property.ensures
     ∙ ap (λ bs. property s (chars bs)) c.as_str.ensures.value) in
     let inner = subst (λ o. Validates r (view c.in-Some.member.now) (Ok o)) c.in-Some-2.is c.in_ok-place-in-Object.ensures in
@@ -38,8 +43,9 @@ returns-in-Some-2 t c =
     ∙ c.as_str-in-Some-2.ensures.value) in
     reported s v c.prepend.new.self
     (subst (IsInvalidAt s v) (sym tokens)
-    (member_invalid s v r m.entries done c.next.new.self (key, c.in-Some.member.now) (tokens_of c.in-Some-2.place) (ap view c.in-Object.is
-    ∙ view_Object m) split gives.4 schema inner.0))
+    (member_invalid s v r c.into_iter-key-iterator.result c.loop-key.key-iterator c.next.new.self (key, c.in-Some.member.now)
+    (tokens_of c.in-Some-2.place) ((ap view c.in-Object.is ∙ view_Object m) ∙ ap (λ x. object (members_view x)) (sym gives.0))
+    c.loop-key.invariant.left c.in-Some.ensures.steps schema inner.0))
 
 pub loop-key-preserved-in_default-2 : goal.loop-key-preserved-in_default-2
 loop-key-preserved-in_default-2 t c =
