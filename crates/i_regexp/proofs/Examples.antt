@@ -36,7 +36,9 @@ second_branch_matches : Matches (alternation empty a) (codes "a")
 second_branch_matches = inr matches_a
 
 one_after_another : Matches (concat a (repetition a 1 (Some 1))) (codes "aa")
-one_after_another = (codes "a", codes "a", refl, matches_a, (1, omega arith, (let l : 1 ≤ 1 = omega arith in l), (codes "a", [], refl, matches_a, refl)))
+one_after_another =
+    let once : 1 ≤ 1 = omega arith in
+    (codes "a", codes "a", refl, matches_a, (1, omega arith, once, (codes "a", [], refl, matches_a, refl)))
 
 is_found : Searches a (codes "bab")
 is_found = record { before = codes "b"; part = codes "a"; after = codes "b"; split = refl; matched = matches_a }
