@@ -15,6 +15,8 @@ mod examples;
 #[cfg(test)]
 mod growth;
 #[cfg(test)]
+mod members;
+#[cfg(test)]
 mod memory;
 #[cfg(test)]
 mod messages;

@@ -7,7 +7,10 @@ ghost use Rattle.tinyjson.specs.View.{view};
 use std::collections::HashMap;
 use std::mem;
 use std::test::Fail;
-use tinyjson::{InnerAsRef, InnerAsRefMut, JsonNumber, JsonValue, insert_member, remove_member};
+use tinyjson::{
+    InnerAsRef, InnerAsRefMut, JsonNumber, JsonValue, discard_member, insert_member, remove_member,
+    sorted_members,
+};
 
 fn set_member(value: &mut JsonValue, key: &str, part: JsonValue) -> Option<JsonValue>
     ensures { OnSome result
@@ -68,5 +71,28 @@ fn members_that_are_removed(rt: HostRuntime) -> Result<(), Fail> {
     insert_member(&mut members, "foo".to_string(alloc)?, JsonValue::Null)?;
     assert!(rt; remove_member(&mut members, "foo") == Some(JsonValue::Null));
     assert!(rt; members.is_empty());
+    Ok(())
+}
+
+#[test]
+fn members_that_are_discarded(rt: HostRuntime) -> Result<(), Fail> {
+    let alloc = rt.alloc();
+    let mut members = HashMap::new(alloc);
+    insert_member(&mut members, "foo".to_string(alloc)?, JsonValue::Null)?;
+    discard_member(&mut members, "foo");
+    discard_member(&mut members, "bar");
+    assert!(rt; members.is_empty());
+    Ok(())
+}
+
+#[test]
+fn members_in_order(rt: HostRuntime) -> Result<(), Fail> {
+    let alloc = rt.alloc();
+    let mut members = HashMap::new(alloc);
+    insert_member(&mut members, "foo".to_string(alloc)?, JsonValue::Null)?;
+    insert_member(&mut members, "bar".to_string(alloc)?, JsonValue::from(true))?;
+    let sorted = sorted_members(alloc, &members)?;
+    assert_eq!(rt; sorted[0].0.as_str(), "bar");
+    assert_eq!(rt; sorted[1].0.as_str(), "foo");
     Ok(())
 }

@@ -5,7 +5,7 @@ use crate::common::{is_refusal, is_text, parsed, parsed_within};
 use std::alloc::{AllocError, Global};
 use std::collections::HashMap;
 use std::test::Fail;
-use tinyjson::{JsonKind, JsonParseErrorKind as Kind, JsonValue, insert_member};
+use tinyjson::{JsonKind, JsonParseErrorKind as Kind, JsonValue, discard_member, insert_member};
 
 /// What is nested: how each level begins, what stands inside the last, and how each level ends.
 type Nested = [&'static str; 3];
@@ -178,6 +178,20 @@ fn a_deep_member_is_replaced(rt: HostRuntime) -> Result<(), Fail> {
         insert_member(&mut members, "a".to_string(alloc)?, value)?;
         insert_member(&mut members, "a".to_string(alloc)?, JsonValue::Null)?;
         assert!(rt; members.get("a") == Some(&JsonValue::Null));
+    }
+    Ok(())
+}
+
+#[test]
+fn a_deep_member_is_discarded(rt: HostRuntime) -> Result<(), Fail> {
+    let alloc = rt.alloc();
+    let mut members = HashMap::new(alloc);
+    for (shape, size) in ROWS {
+        let text = levels(alloc, shape.text, *size)?;
+        let value = JsonValue::from_str(alloc, text.as_str())?;
+        insert_member(&mut members, "a".to_string(alloc)?, value)?;
+        discard_member(&mut members, "a");
+        assert!(rt; members.is_empty());
     }
     Ok(())
 }
