@@ -1,14 +1,17 @@
 //! Checks a JSON value against a JSON Schema.
 //!
 //! Standard input is an array of the schema and the value. It prints `valid`, or the JSON pointer of a
-//! place in the value that is not valid, which is empty for the value itself. The status is 0 for a
-//! valid value, 1 for another, 2 for other input, and 4 where memory, a read or a write failed.
+//! place in the value that is not valid, which is empty for the value itself; control characters of keys
+//! are printed as `U+001B`. The status is 0 for a valid value, 1 for another, 2 for other input, and 4
+//! where memory, a read or a write failed.
 #![tactic(auto)]
 
 mod keywords;
 mod order;
+mod shown;
 mod validate;
 
+use shown::Shown;
 use std::io::{self, ErrorKind};
 use std::process::ExitCode;
 use tinyjson::{JsonParseError, JsonValue};
@@ -65,7 +68,8 @@ fn print_judgment(
             Ok(Ok(true))
         }
         Some(place) => {
-            println!(rt; "{place}")?;
+            let pointer = place.to_string(alloc)?;
+            println!(rt; "{}", Shown(pointer.as_str()))?;
             Ok(Ok(false))
         }
     }

@@ -1,5 +1,6 @@
-//! Reads settings from standard input, an object with `port`, `host` and `tls`, and prints them. With a
-//! port as its one argument it prints the object instead, with that port in the place of its own.
+//! Reads settings from standard input, an object with `port`, `host` and `tls`, and prints them, control
+//! characters of the host as `U+001B`. With a port as its one argument it prints the object instead, with
+//! that port in the place of its own.
 //!
 //! The status is 0 after success, 1 where the text has no settings or no port, and 2 for other arguments, for
 //! input that isn't UTF-8, or where memory, a read or a write failed.
@@ -7,8 +8,10 @@
 
 pub mod servers;
 pub mod settings;
+mod shown;
 
 use settings::{Key, SettingsError};
+use shown::Shown;
 use std::env::{self, Env};
 use std::io::{self, ErrorKind};
 use std::process::ExitCode;
@@ -63,7 +66,8 @@ fn print_settings(
     match settings::read(rt.alloc(), text) {
         Ok(settings) => {
             let scheme = if settings.tls { "https" } else { "http" };
-            println!(rt; "{scheme}://{}:{}", settings.host, settings.port)?;
+            let host = Shown(settings.host.as_str());
+            println!(rt; "{scheme}://{host}:{}", settings.port)?;
             Ok(Ok(()))
         }
         Err(SettingsError::Text(error)) if error.is_out_of_memory() => Err(error.into()),
