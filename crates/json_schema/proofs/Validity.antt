@@ -3,10 +3,7 @@ use Rattle.std.proofs.Common.{◌≡◌, ◌∷◌, ◌++◌, [], ℕ, ◌<◌, 
 use Rattle.std.proofs.Common.{codes, refl, sym, ap, ◌∙◌, subst, arith, length, below_more, zero, suc, get_or}
 use Rattle.std.proofs.Common.{◌+◌, ◌≤◌}
 use Rattle.std.proofs.lemmas.Option.{slice_get_within}
-use Rattle.std.specs.List.{IsDistinct}
-use Rattle.std.specs.Map.{keys_of}
 use Rattle.std.specs.Prelude.{slice_get, option_and_then}
-use Rattle.std.specs.String.{string_eq}
 use Rattle.tinyjson.proofs.Callers.{Entry, IsRest, rest_next, rest_distinct, rest_ends, entry_from_find, find_entry}
 use Rattle.tinyjson.proofs.Callers.{nth_items_view, value_from_tree, no_object, no_array}
 use Rattle.tinyjson.specs.Access.{JsonMap}
