@@ -1,8 +1,9 @@
 -- Characters from units, one unit at a time.
-use Rattle.std.proofs.Common.{◌≡◌, ℕ, ◌+◌, ◌<◌, true, false, List, [], ◌∷◌, ◌++◌, length, drop, Option, Some, None, String, Global, string_bytes, refl, sym, ap, ◌∙◌, append_assoc, append-nil, drop-cons, add-one, arith}
+use Rattle.std.proofs.Common.{◌≡◌, ℕ, ◌+◌, ◌<◌, Bool, ◌||◌, ◌&&◌, not, cond, true, false, true≢false, List, [], ◌∷◌, ◌++◌, length, drop, Option, Some, None, String, Global, string_bytes, refl, sym, ap, ◌∙◌, append_assoc, append-nil, drop-cons, add-one, arith}
 use Rattle.std.specs.Char.{IsScalar, InScalarRange, OutOfScalarRange, encode_utf8}
 use Rattle.std.specs.Prelude.{slice_index}
 use Rattle.std.specs.Option.{option_to_list}
+use Rattle.std.proofs.lemmas.Bool.{not-true}
 use Rattle.std.proofs.lemmas.Bool.Decides.{nat_tests}
 use Rattle.std.specs.Str.{chars}
 use Rattle.std.proofs.lemmas.Str.{chars-append, chars-encodes, IsUtf8-string_bytes}
@@ -30,6 +31,40 @@ paired_plain u (v ∷ us) a b = rw (a, b) refl
 pub decode_plain : (u : ℕ) (us : List ℕ) → is_high u ≡ false → decode (u ∷ us) ≡ u ∷ decode us
 decode_plain u [] b = refl
 decode_plain u (v ∷ us) b = rw b refl
+
+-- ---- units of which each surrogate has its partner, and units after them
+
+alone_high : (u : ℕ) → not (is_surrogate u) ≡ true → is_high u ≡ false
+alone_high u h = or_left (is_high u) (is_low u) h
+  where
+    or_left : (a b : Bool) → not (a || b) ≡ true → a ≡ false
+    or_left true b h = absurd (true≢false (sym h))
+    or_left false b h = refl
+
+paired_either : (b n x y v w z : Bool) → (x ≡ true → v ≡ z) → (y ≡ true → w ≡ z) → cond b x (n && y) ≡ true → cond b v (n && w) ≡ z
+paired_either true n x y v w z f g h = f h
+paired_either false true x y v w z f g h = g h
+paired_either false false x y v w z f g h = absurd (true≢false (sym h))
+
+decode_either : (b n x y : Bool) (p u : ℕ) (xs ys vs ws zs : List ℕ) → (x ≡ true → vs ≡ xs ++ zs) → (y ≡ true → ws ≡ ys ++ zs) → cond b x (n && y) ≡ true
+    → cond b (p ∷ vs) (u ∷ ws) ≡ cond b (p ∷ xs) (u ∷ ys) ++ zs
+decode_either true n x y p u xs ys vs ws zs f g h = ap (λ cs. p ∷ cs) (f h)
+decode_either false true x y p u xs ys vs ws zs f g h = ap (λ cs. u ∷ cs) (g h)
+decode_either false false x y p u xs ys vs ws zs f g h = absurd (true≢false (sym h))
+
+pub paired_append : (us vs : List ℕ) → paired us ≡ true → paired (us ++ vs) ≡ paired vs
+paired_append [] vs h = refl
+paired_append (u ∷ []) vs h = paired_plain u vs (not-true (is_surrogate u) h) (alone_high u h)
+paired_append (u ∷ v ∷ us) vs h =
+    paired_either (is_high u && is_low v) (not (is_surrogate u)) (paired us) (paired (v ∷ us)) (paired (us ++ vs)) (paired (v ∷ us ++ vs)) (paired vs)
+    (paired_append us vs) (paired_append (v ∷ us) vs) h
+
+pub decode_append : (us vs : List ℕ) → paired us ≡ true → decode (us ++ vs) ≡ decode us ++ decode vs
+decode_append [] vs h = refl
+decode_append (u ∷ []) vs h = decode_plain u vs (alone_high u h)
+decode_append (u ∷ v ∷ us) vs h =
+    decode_either (is_high u && is_low v) (not (is_surrogate u)) (paired us) (paired (v ∷ us)) (pair_of u v) u (decode us) (decode (v ∷ us)) (decode (us ++ vs))
+    (decode (v ∷ us ++ vs)) (decode vs) (decode_append us vs) (decode_append (v ∷ us) vs) h
 
 -- ---- a unit in its list
 

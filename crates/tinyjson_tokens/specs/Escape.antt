@@ -1,5 +1,5 @@
 -- Escapes among the bytes of a text, as the machine reads them. For contracts inside the parser.
-use Rattle.std.specs.Prelude.{◌≡◌, ℕ, ◌+◌, ◌<◌, ◌≤◌, true, List, [], ◌∷◌, ◌++◌, length, drop, slice_get, Option, Some}
+use Rattle.std.specs.Prelude.{◌≡◌, ℕ, ◌+◌, ◌<◌, ◌≤◌, true, List, [], ◌∷◌, ◌++◌, length, drop, Option}
 use Rattle.std.specs.Char.{is_ascii}
 use Rattle.std.specs.List.{AllByRecursion}
 use Rattle.tinyjson_grammar.specs.Characters.{reverse_solidus, letter_u, is_hex, unit_of}
@@ -21,16 +21,10 @@ pub record UnitAt (text : List ℕ) (at unit : ℕ) : Type 0 where
   pub value : unit ≡ unit_of 0 digits
   pub stands : Stands text at (at + 6) (reverse_solidus ∷ letter_u ∷ digits)
 
--- at a place stands no backslash
-abbrev pub NoBackslash : List ℕ → ℕ → Type 0
-NoBackslash text at = slice_get (drop at text) 0 ≡ Some reverse_solidus → ⊥
-
--- Between two places stand escapes that spell a character. An error in their units is found only at
--- the character after them.
+-- Between two places stand escapes that spell a character, of which no unit waits for a partner.
 pub record EscapeAt (text : List ℕ) (at c to : ℕ) : Type 0 where
   pub taken : List ℕ
   pub stands : Stands text at to taken
   pub some : at < to
   pub comes : (limit : Option ℕ) (fs : List Frame) (cs rest : List ℕ)
-      → (slice_get rest 0 ≡ Some reverse_solidus → slice_get (drop to text) 0 ≡ Some reverse_solidus)
       → Comes limit (next fs (quoted plain cs [])) taken (next fs (quoted plain (cs ++ c ∷ []) [])) rest

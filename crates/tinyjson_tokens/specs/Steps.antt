@@ -58,10 +58,10 @@ module _ (limit : Option ℕ) where
   after_all n [] = n
   after_all n (c ∷ cs) = after_all (onward n c) cs
 
-  -- they do the same at what comes next
+  -- They do the same with what comes: the next character leads them to one state, or to two that go on so.
   abbrev pub Same : Next → Next → List ℕ → Type 0
   Same n m [] = ending n ≡ ending m
-  Same n m (c ∷ cs) = onward n c ≡ onward m c
+  Same n m (c ∷ cs) = (onward n c ≡ onward m c) ⊎ ((IsNext (onward n c) × IsNext (onward m c)) × Same (onward n c) (onward m c) cs)
 
   -- From n the machine takes xs, and then does at rest what m does.
   abbrev pub Comes : Next → List ℕ → Next → List ℕ → Type 0

@@ -1,8 +1,8 @@
 //! Escapes among the bytes of a text (RFC 8259, section 7).
-ghost use Rattle.std.specs.Prelude.{◌≡◌, ◌<◌, ◌≤◌, IfSome, true, false, length};
+ghost use Rattle.std.specs.Prelude.{◌≡◌, ◌<◌, ◌≤◌, IfSome, true, length};
 ghost use Rattle.std.specs.Char.{digit_value};
 ghost use Rattle.tinyjson_grammar.specs.Characters.{short_escape, is_high};
-ghost use Rattle.tinyjson_tokens.specs.Escape.{EscapeAt, NoBackslash, UnitAt};
+ghost use Rattle.tinyjson_tokens.specs.Escape.{EscapeAt, UnitAt};
 
 use crate::utf16::{is_high, is_low, pair};
 
@@ -27,8 +27,8 @@ pub(crate) fn short_escape(c: char) -> Option<char>
     }
 }
 
-/// The character that is spelled by escapes from a place on, and where they end. None where no escape
-/// stands, and where a longer run of units or an error may stand.
+/// The character that an escape spells at a place, or two that are a pair, and where they end. None where
+/// no escape stands, and where an error may stand.
 #[inline(always)]
 pub(crate) fn escape_at(bytes: &[u8], at: usize) -> Option<(char, usize)>
     requires { at ≤ length bytes.now }
@@ -45,7 +45,7 @@ pub(crate) fn escape_at(bytes: &[u8], at: usize) -> Option<(char, usize)>
     Some((c, at + 2))
 }
 
-/// The same for a unit or two that spell a character, and no unit after them.
+/// The same for a unit or two that spell a character.
 fn units_at(bytes: &[u8], at: usize) -> Option<(char, usize)>
     requires { at ≤ length bytes.now }
     ensures { IfSome result (λ r. EscapeAt bytes.now at r.0 r.1) }
@@ -55,9 +55,6 @@ fn units_at(bytes: &[u8], at: usize) -> Option<(char, usize)>
         return pair_at(bytes, at, unit);
     }
     let c = char::from_u32(unit as u32)?;
-    if is_backslash(bytes, at + 6) {
-        return None;
-    }
     Some((c, at + 6))
 }
 
@@ -71,18 +68,7 @@ fn pair_at(bytes: &[u8], at: usize, high: u16) -> Option<(char, usize)>
     if !is_low(low) {
         return None;
     }
-    if is_backslash(bytes, at + 12) {
-        return None;
-    }
     Some((pair(high, low), at + 12))
-}
-
-/// Whether a backslash stands at a place.
-fn is_backslash(bytes: &[u8], at: usize) -> bool
-    requires { at ≤ length bytes.now }
-    ensures { result ≡ false → NoBackslash bytes.now at }
-{
-    at < bytes.len() && bytes[at] == b'\\'
 }
 
 /// The unit that an escape spells at a place.

@@ -1,27 +1,29 @@
 -- Escapes among the bytes of a text.
-use Rattle.std.proofs.Common.{◌≡◌, ℕ, suc, ◌+◌, ◌*◌, ◌-◌, ◌<◌, ◌≤◌, true, false, not, List, [], ◌∷◌, ◌++◌, length, take, drop, get_or, Option, Some, Result, is_err, refl, sym, ap, ap₂, ◌∙◌, subst, arith, length-append, append-nil, append_assoc, drop-cons, add-zero}
-use Rattle.std.specs.Prelude.{slice_get}
-use Rattle.std.specs.Char.{is_ascii, digit_value, len_utf8}
+use Rattle.std.proofs.Common.{◌≡◌, ℕ, suc, ◌+◌, ◌*◌, ◌-◌, ◌<◌, ◌≤◌, ◌==◌, Bool, true, false, true≢false, not, cond, List, [], ◌∷◌, ◌++◌, length, take, drop, get_or, Option, None, Some, inl, inr, Result, is_err, refl, sym, ap, ap₂, ◌∙◌, subst, arith, length-append, append-nil, append_assoc, drop-cons, add-zero}
+use Rattle.std.specs.Prelude.{nat_lt}
+use Rattle.std.specs.Char.{is_ascii, digit_value}
 use Rattle.std.specs.List.{AllByRecursion}
 use Rattle.std.specs.Str.{IsUtf8, IsCharBoundary, chars}
-use Rattle.std.proofs.lemmas.Bool.{ne_eqb}
+use Rattle.std.proofs.lemmas.Bool.{eq-eqb, eqb-true}
 use Rattle.std.proofs.lemmas.Bool.Decides.{nat_tests}
 use Rattle.std.proofs.lemmas.List.{drop-drop, get_or-drop}
-use Rattle.std.proofs.lemmas.Str.{IsCharBoundary-after_ascii, chars-IsAscii, encode_ascii, IsUtf8-had}
+use Rattle.std.proofs.lemmas.Str.{IsCharBoundary-after_ascii, chars-IsAscii, IsUtf8-had}
 use Rattle.std.proofs.Math.Seq.{take-append_seam}
 use Rattle.tinyjson_grammar.specs.Characters.{is_hex, is_high, is_low, is_surrogate, pair_of, unit_of, paired, decode, short_escape}
-use Rattle.tinyjson_tokens.specs.Escape.{Stands, UnitAt, NoBackslash, EscapeAt}
-use Rattle.tinyjson_tokens.specs.Slice.{before, chars_after, NextChar}
+use Rattle.tinyjson_tokens.specs.Escape.{Stands, UnitAt, EscapeAt}
+use Rattle.tinyjson_tokens.specs.Slice.{before, chars_after}
 use Rattle.tinyjson_bytes.specs.Scan.{is_plain}
 use Rattle.tinyjson_tokens.specs.Source.{TakesRun}
 use Rattle.tinyjson_grammar.specs.Position.{advance, origin}
 use Rattle.tinyjson_tokens.specs.declared.text.TextBytes.{TextBytes}
-use Rattle.tinyjson_grammar.specs.Machine.{step, Frame, Next, next, plain, backslash, hex, quoted}
+use Rattle.tinyjson_grammar.specs.Machine.{step, Frame, Within, Next, next, stop, plain, backslash, hex, quoted}
+use Rattle.tinyjson_grammar.specs.declared.error.JsonParseErrorKind.TheVariants.{InvalidUtf16, InvalidHexDigit}
 use Rattle.tinyjson_tokens.specs.Steps.{onward, IsNext, IsTaken, Same, Comes, Leads, Halts}
 use Rattle.tinyjson_tokens.proofs.Letters.{All_append, text_sight}
-use Rattle.tinyjson_tokens.proofs.Slices.{between, next_of, small, step_gives, step_moves}
+use Rattle.tinyjson_tokens.proofs.Units.{paired_append, decode_append}
+use Rattle.tinyjson_tokens.proofs.Slices.{between, small, step_gives, step_moves}
 use Rattle.tinyjson_tokens.proofs.Reading.Steps.{Same_refl, Comes_trans, Leads_to, Leads_trans, Halts_trans, end_quoted}
-use Rattle.tinyjson_tokens.proofs.Reading.String.{hexing, hex_next, hex_step, hex_taken, hex_done, backslash_read, u_read, short_read, plain_added, plain_halts}
+use Rattle.tinyjson_tokens.proofs.Reading.String.{hexing, hex_next, hex_step, hex_taken, hex_done, backslash_read, u_read, short_read, escape_other, plain_added, plain_halts}
 
 -- ---- the machine
 
@@ -66,23 +68,93 @@ module _ (limit : Option ℕ) (fs : List Frame) where
       Comes_trans limit n m o (92 ∷ []) (c ∷ []) rest (Comes_one n m 92 (c ∷ rest) tt (backslash_read limit fs cs [] 92 refl) tt)
       (Comes_one m o c rest tt (short_read limit fs cs [] c d e ∙ ap (λ ys. next fs (quoted plain (ys ++ d ∷ []) [])) (append-nil cs)) tt)
 
-  units_same : (cs us xs : List ℕ) (c : ℕ) → (c ≡ 92 → ⊥) → paired us ≡ true → xs ≡ cs ++ decode us
-      → onward limit (next fs (quoted plain cs us)) c ≡ onward limit (next fs (quoted plain xs [])) c
+  on_same : (n m o p : Next) (c : ℕ) (rest : List ℕ) → onward limit n c ≡ o → onward limit m c ≡ p → IsNext o → IsNext p → Same limit o p rest → Same limit n m (c ∷ rest)
+  on_same n m o p c rest a b h k s = inr ((subst IsNext (sym a) h, subst IsNext (sym b) k), rw (a, b) s)
+
+  hex_more : (ds cs us : List ℕ) (c : ℕ) → is_hex c ≡ true → nat_lt (length ds) 3 ≡ true → onward limit (next fs (quoted (hex ds) cs us)) c ≡ next fs (quoted (hex (ds ++ c ∷ [])) cs us)
   unfolding step
-  units_same cs us xs c n p e = rw (ne_eqb c 92 n, p, e, append-nil (cs ++ decode us)) refl
+  hex_more ds cs us c h l = rw (h, l) refl
 
-  -- units whose surrogates are paired are judged and added at once where no further one follows
-  pub units_known : (cs us xs rest : List ℕ) → paired us ≡ true → xs ≡ cs ++ decode us → (slice_get rest 0 ≡ Some 92 → ⊥)
-      → Same limit (next fs (quoted plain cs us)) (next fs (quoted plain xs [])) rest
-  units_known cs us xs [] p e n = end_quoted limit fs plain cs us ∙ sym (end_quoted limit fs plain xs [])
-  units_known cs us xs (c ∷ rest) p e n = units_same cs us xs c (λ k. n (ap Some k)) p e
+  hex_last : (ds cs us : List ℕ) (c : ℕ) → is_hex c ≡ true → nat_lt (length ds) 3 ≡ false
+      → onward limit (next fs (quoted (hex ds) cs us)) c ≡ next fs (quoted plain cs (us ++ unit_of 0 (ds ++ c ∷ []) ∷ []))
+  unfolding step
+  hex_last ds cs us c h l = rw (h, l) refl
 
-  pub Comes_known : (n : Next) (cs us xs taken rest : List ℕ) → Comes limit n taken (next fs (quoted plain cs us)) rest → paired us ≡ true → xs ≡ cs ++ decode us → (slice_get rest 0 ≡ Some 92 → ⊥)
+  hex_none : (ds cs us : List ℕ) (c : ℕ) → is_hex c ≡ false → onward limit (next fs (quoted (hex ds) cs us)) c ≡ stop (InvalidHexDigit c) true
+  unfolding step
+  hex_none ds cs us c h = rw h refl
+
+  -- The same state but for units that all have their partner: they wait, or their characters were added.
+  module _ (cs us vs : List ℕ) (p : paired us ≡ true) where
+    abbrev waiting : Within → Next
+    waiting w = next fs (quoted w cs (us ++ vs))
+
+    abbrev added : Within → Next
+    added w = next fs (quoted w (cs ++ decode us) vs)
+
+    decoded : cs ++ decode (us ++ vs) ≡ (cs ++ decode us) ++ decode vs
+    decoded = ap (λ xs. cs ++ xs) (decode_append us vs p) ∙ sym (append_assoc cs (decode us) (decode vs))
+
+    plain_same : (c : ℕ) → (c == 92) ≡ false → onward limit (waiting plain) c ≡ onward limit (added plain) c
+    unfolding step
+    plain_same c n = rw (n, paired_append us vs p, decoded) refl
+
+    plain_known : (c : ℕ) (rest : List ℕ) → Same limit (waiting backslash) (added backslash) rest → Same limit (waiting plain) (added plain) (c ∷ rest)
+    plain_known c rest s = go (c == 92) refl
+      where
+        go : (b : Bool) → (c == 92) ≡ b → Same limit (waiting plain) (added plain) (c ∷ rest)
+        go true e =
+            let k = eqb-true c 92 e in
+            on_same (waiting plain) (added plain) (waiting backslash) (added backslash) c rest (backslash_read limit fs cs (us ++ vs) c k) (backslash_read limit fs (cs ++ decode us) vs c k) tt tt s
+        go false e = inl (plain_same c e)
+
+    backslash_known : (c : ℕ) (rest : List ℕ) → Same limit (waiting (hex [])) (added (hex [])) rest → Same limit (waiting backslash) (added backslash) (c ∷ rest)
+    backslash_known c rest s = go (short_escape c) refl
+      where
+        u_or : (b : Bool) → (c == 117) ≡ b → short_escape c ≡ None → Same limit (waiting backslash) (added backslash) (c ∷ rest)
+        u_or true e n =
+            let k = eqb-true c 117 e in
+            on_same (waiting backslash) (added backslash) (waiting (hex [])) (added (hex [])) c rest (u_read limit fs cs (us ++ vs) c k) (u_read limit fs (cs ++ decode us) vs c k) tt tt s
+        u_or false e n =
+            let k : c ≡ 117 → ⊥ = λ h. true≢false (sym (eq-eqb c 117 h) ∙ e) in
+            inl (escape_other limit fs cs (us ++ vs) c n k ∙ sym (escape_other limit fs (cs ++ decode us) vs c n k))
+
+        go : (o : Option ℕ) → short_escape c ≡ o → Same limit (waiting backslash) (added backslash) (c ∷ rest)
+        go None e = u_or (c == 117) refl e
+        go (Some d) e =
+            let m : Bool → List ℕ → Next = λ b xs. cond (not b) (stop InvalidUtf16 true) (next fs (quoted plain (xs ++ d ∷ []) [])) in
+            inl (short_read limit fs cs (us ++ vs) c d e ∙ ap₂ m (paired_append us vs p) decoded ∙ sym (short_read limit fs (cs ++ decode us) vs c d e))
+
+    hex_known : (ds : List ℕ) (c : ℕ) (rest : List ℕ) → Same limit (waiting (hex (ds ++ c ∷ []))) (added (hex (ds ++ c ∷ []))) rest
+        → Same limit (next fs (quoted plain cs (us ++ (vs ++ unit_of 0 (ds ++ c ∷ []) ∷ [])))) (next fs (quoted plain (cs ++ decode us) (vs ++ unit_of 0 (ds ++ c ∷ []) ∷ []))) rest
+        → Same limit (waiting (hex ds)) (added (hex ds)) (c ∷ rest)
+    hex_known ds c rest s t = go (is_hex c) refl (nat_lt (length ds) 3) refl
+      where
+        go : (h : Bool) → is_hex c ≡ h → (l : Bool) → nat_lt (length ds) 3 ≡ l → Same limit (waiting (hex ds)) (added (hex ds)) (c ∷ rest)
+        go true h true l =
+            on_same (waiting (hex ds)) (added (hex ds)) (waiting (hex (ds ++ c ∷ []))) (added (hex (ds ++ c ∷ []))) c rest
+            (hex_more ds cs (us ++ vs) c h l) (hex_more ds (cs ++ decode us) vs c h l) tt tt s
+        go true h false l =
+            let u = unit_of 0 (ds ++ c ∷ []) ∷ [] in
+            on_same (waiting (hex ds)) (added (hex ds)) (next fs (quoted plain cs (us ++ (vs ++ u)))) (next fs (quoted plain (cs ++ decode us) (vs ++ u))) c rest
+            (hex_last ds cs (us ++ vs) c h l ∙ ap (λ ws. next fs (quoted plain cs ws)) (append_assoc us vs u)) (hex_last ds (cs ++ decode us) vs c h l) tt tt t
+        go false h l k = inl (hex_none ds cs (us ++ vs) c h ∙ sym (hex_none ds (cs ++ decode us) vs c h))
+
+  -- Units that all have their partner wait for no unit after them: the machine answers as if their characters were added.
+  pub units_known : (w : Within) (cs us vs rest : List ℕ) → paired us ≡ true → Same limit (next fs (quoted w cs (us ++ vs))) (next fs (quoted w (cs ++ decode us) vs)) rest
+  units_known w cs us vs [] p = end_quoted limit fs w cs (us ++ vs) ∙ sym (end_quoted limit fs w (cs ++ decode us) vs)
+  units_known plain cs us vs (c ∷ rest) p = plain_known cs us vs p c rest (units_known backslash cs us vs rest p)
+  units_known backslash cs us vs (c ∷ rest) p = backslash_known cs us vs p c rest (units_known (hex []) cs us vs rest p)
+  units_known (hex ds) cs us vs (c ∷ rest) p =
+      hex_known cs us vs p ds c rest (units_known (hex (ds ++ c ∷ [])) cs us vs rest p) (units_known plain cs us (vs ++ unit_of 0 (ds ++ c ∷ []) ∷ []) rest p)
+
+  pub Comes_known : (n : Next) (cs us xs taken rest : List ℕ) → Comes limit n taken (next fs (quoted plain cs us)) rest → paired us ≡ true → xs ≡ cs ++ decode us
       → Comes limit n taken (next fs (quoted plain xs [])) rest
-  Comes_known n cs us xs taken rest a p e k =
+  Comes_known n cs us xs taken rest a p e =
       let m = next fs (quoted plain cs us) in
       let o = next fs (quoted plain xs []) in
-      subst (λ ys. Comes limit n ys o rest) (append-nil taken) (Comes_trans limit n m o taken [] rest a (units_known cs us xs rest p e k, λ w. tt))
+      let k : Same limit m o rest = rw e (subst (λ ys. Same limit (next fs (quoted plain cs ys)) (next fs (quoted plain (cs ++ decode us) [])) rest) (append-nil us) (units_known plain cs us [] rest p)) in
+      subst (λ ys. Comes limit n ys o rest) (append-nil taken) (Comes_trans limit n m o taken [] rest a (k, λ w. tt))
 
 -- ---- where bytes stand
 
@@ -152,7 +224,7 @@ short_at text at c d h p q e = record {
       (stands_cons text (at + 1) (at + 2) (at + 2) c [] (omega (arith, h)) (omega arith) q (short_ascii c d e)
       (stands_nil text (at + 2) h));
   some = omega arith;
-  comes = λ limit fs cs rest k. short_comes limit fs cs rest c d e;
+  comes = λ limit fs cs rest. short_comes limit fs cs rest c d e;
 }
   where
     short_ascii : (c d : ℕ) → short_escape c ≡ Some d → is_ascii c ≡ true
@@ -160,14 +232,14 @@ short_at text at c d h p q e = record {
 
 -- ---- a unit, and a pair
 
-module _ (text : List ℕ) (at to : ℕ) (none : NoBackslash text to) where
+module _ (text : List ℕ) (at to : ℕ) where
   pub unit_escape : (u : ℕ) → UnitAt text at u → to ≡ at + 6 → is_surrogate u ≡ false → EscapeAt text at u to
   unit_escape u a e s = record {
     taken = 92 ∷ 117 ∷ a.digits;
     stands = subst (λ t. Stands text at t (92 ∷ 117 ∷ a.digits)) (sym e) a.stands;
     some = omega (arith, e);
-    comes = λ limit fs cs rest k. Comes_known limit fs (next fs (quoted plain cs [])) cs (u ∷ []) (cs ++ u ∷ []) (92 ∷ 117 ∷ a.digits) rest
-        (unit_comes limit fs cs [] a.digits rest u a.four a.hex a.value) (ap not s) refl (λ w. none (k w));
+    comes = λ limit fs cs rest. Comes_known limit fs (next fs (quoted plain cs [])) cs (u ∷ []) (cs ++ u ∷ []) (92 ∷ 117 ∷ a.digits) rest
+        (unit_comes limit fs cs [] a.digits rest u a.four a.hex a.value) (ap not s) refl;
   }
 
   pub pair_escape : (high low : ℕ) → UnitAt text at high → UnitAt text (at + 6) low → to ≡ at + 12 → is_high high ≡ true → is_low low ≡ true → EscapeAt text at (pair_of high low) to
@@ -179,14 +251,14 @@ module _ (text : List ℕ) (at to : ℕ) (none : NoBackslash text to) where
         taken = first ++ second;
         stands = stands_append text at (at + 6) to first second a.stands (subst (λ t. Stands text (at + 6) t second) n b.stands);
         some = omega (arith, e);
-        comes = λ limit fs cs rest k.
+        comes = λ limit fs cs rest.
             let n = next fs (quoted plain cs []) in
             let m = next fs (quoted plain cs (high ∷ [])) in
             let o = next fs (quoted plain cs (high ∷ low ∷ [])) in
             Comes_known limit fs n cs (high ∷ low ∷ []) (cs ++ pair_of high low ∷ []) (first ++ second) rest
             (Comes_trans limit n m o first second rest (unit_comes limit fs cs [] a.digits (second ++ rest) high a.four a.hex a.value)
             (unit_comes limit fs cs (high ∷ []) b.digits rest low b.four b.hex b.value))
-            (rw (h, l) refl) (rw (h, l) refl) (λ w. none (k w));
+            (rw (h, l) refl) (rw (h, l) refl);
       }
 
 -- ---- what is taken
@@ -214,9 +286,7 @@ module _ (text : List ℕ) (utf8 : IsUtf8 text) (at : ℕ) (first : IsCharBounda
       ap chars (ap₂ (λ k bs. take k bs) n e.stands.here ∙ take-append_seam e.taken (drop to text)) ∙ chars-IsAscii e.taken (small is_ascii ascii_small e.taken e.stands.ascii)
 
   pub escape_comes : (limit : Option ℕ) (fs : List Frame) (cs : List ℕ) → Comes limit (next fs (quoted plain cs [])) e.taken (next fs (quoted plain (cs ++ c ∷ []) [])) (chars_after text to)
-  escape_comes limit fs cs = e.comes limit fs cs (chars_after text to) (λ w.
-      let n = subst (NextChar text to) w (next_of text utf8 to escape_boundary) in
-      ap (λ bs. slice_get bs 0) (n ∙ ap (λ bs. bs ++ drop (to + len_utf8 92) text) (encode_ascii 92 (omega arith))))
+  escape_comes limit fs cs = e.comes limit fs cs (chars_after text to)
 
 -- the escape at the place of a text is taken
 pub Leads_escape : (limit : Option ℕ) (fs : List Frame) (cs : List ℕ) (p q : TextBytes) (c : ℕ) → EscapeAt p.text.now p.at c q.at → q.text.now ≡ p.text.now

@@ -1,6 +1,6 @@
 -- Numbers that a text in memory shows at once.
-use Rattle.std.proofs.Common.{◌≡◌, ◌==◌, ℕ, ◌+◌, ◌-◌, ◌<◌, ◌≤◌, Bool, true, false, List, [], ◌∷◌, ◌++◌, length, take, drop, get_or, Option, Some, None, IfSome, refl, sym, ap, ◌∙◌, subst, suc, arith, append_assoc, length-append, ⊎_elim}
-use Rattle.std.specs.Prelude.{slice_get, encode_utf8, if◌then◌else◌}
+use Rattle.std.proofs.Common.{◌≡◌, ◌==◌, ℕ, ◌+◌, ◌-◌, ◌<◌, ◌≤◌, Bool, true, false, List, [], ◌∷◌, ◌++◌, length, take, drop, get_or, Option, Some, None, IfSome, refl, sym, ap, ◌∙◌, subst, arith, append_assoc, length-append, ⊎_elim}
+use Rattle.std.specs.Prelude.{slice_get, encode_utf8}
 use Rattle.std.specs.Char.{is_ascii_digit, len_utf8}
 use Rattle.std.specs.List.{AllByRecursion}
 use Rattle.std.specs.Str.{IsUtf8, IsCharBoundary, chars}

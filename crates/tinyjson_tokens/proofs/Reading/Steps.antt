@@ -20,15 +20,23 @@ use Rattle.tinyjson_grammar.proofs.Callers.{advance_append}
 module _ (limit : Option ℕ) where
   pub Same_refl : (n : Next) (zs : List ℕ) → Same limit n n zs
   Same_refl n [] = refl
-  Same_refl n (c ∷ cs) = refl
+  Same_refl n (c ∷ cs) = inl refl
 
   Same_trans : (n m o : Next) (zs : List ℕ) → Same limit n m zs → Same limit m o zs → Same limit n o zs
   Same_trans n m o [] a b = a ∙ b
-  Same_trans n m o (c ∷ cs) a b = a ∙ b
+  Same_trans n m o (c ∷ cs) (inl a) (inl b) = inl (a ∙ b)
+  Same_trans n m o (c ∷ cs) (inl a) (inr b) = inr (rw a b)
+  Same_trans n m o (c ∷ cs) (inr a) (inl b) = inr (rw (sym b) a)
+  Same_trans n m o (c ∷ cs) (inr a) (inr b) = inr ((a.0.0, b.0.1), Same_trans (onward limit n c) (onward limit m c) (onward limit o c) cs a.1 b.1)
+
+  IsNext_taken : (n : Next) → IsNext n → IsTaken n
+  IsNext_taken (next fs p) h = tt
+  IsNext_taken (stop k b) h = absurd h
 
   Comes_same : (n m o : Next) (xs rest : List ℕ) → Same limit n m (xs ++ rest) → (IsNext m → IsNext n) → Comes limit m xs o rest → Comes limit n xs o rest
   Comes_same n m o [] rest a k b = (Same_trans n m o rest a b.0, λ h. k (b.1 h))
-  Comes_same n m o (c ∷ cs) rest a k b = (k b.0, subst IsTaken (sym a) b.1, subst (λ z. Comes limit z cs o rest) (sym a) b.2)
+  Comes_same n m o (c ∷ cs) rest (inl a) k b = (k b.0, subst IsTaken (sym a) b.1, subst (λ z. Comes limit z cs o rest) (sym a) b.2)
+  Comes_same n m o (c ∷ cs) rest (inr a) k b = (k b.0, IsNext_taken (onward limit n c) a.0.0, Comes_same (onward limit n c) (onward limit m c) o cs rest a.1 (λ h. a.0.0) b.2)
 
   pub Comes_trans : (n m o : Next) (xs ys rest : List ℕ) → Comes limit n xs m (ys ++ rest) → Comes limit m ys o rest → Comes limit n (xs ++ ys) o rest
   Comes_trans n m o [] ys rest a b = Comes_same n m o ys rest a.0 a.1 b
@@ -54,9 +62,16 @@ module _ (limit : Option ℕ) where
   outcome_on (next fs p) c cs = refl
   outcome_on (stop k b) c cs = refl
 
+  outcome_goes : (n : Next) (c : ℕ) (cs : List ℕ) → IsNext n → go_on (λ gs q. run (strictly limit) gs q cs) n (c ∷ cs) cs ≡ outcome limit n cs
+  outcome_goes (next fs p) c cs h = refl
+  outcome_goes (stop k b) c cs h = absurd h
+
   outcome_same : (n m : Next) (zs : List ℕ) → Same limit n m zs → outcome limit n zs ≡ outcome limit m zs
   outcome_same n m [] a = outcome_end n ∙ a ∙ sym (outcome_end m)
-  outcome_same n m (c ∷ cs) a = outcome_on n c cs ∙ ap (λ z. go_on (λ gs q. run (strictly limit) gs q cs) z (c ∷ cs) cs) a ∙ sym (outcome_on m c cs)
+  outcome_same n m (c ∷ cs) (inl a) = outcome_on n c cs ∙ ap (λ z. go_on (λ gs q. run (strictly limit) gs q cs) z (c ∷ cs) cs) a ∙ sym (outcome_on m c cs)
+  outcome_same n m (c ∷ cs) (inr a) =
+      outcome_on n c cs ∙ outcome_goes (onward limit n c) c cs a.0.0 ∙ outcome_same (onward limit n c) (onward limit m c) cs a.1
+      ∙ sym (outcome_goes (onward limit m c) c cs a.0.1) ∙ sym (outcome_on m c cs)
 
   -- what the machine says of the list, it says of the rest
   pub Comes_outcome : (n m : Next) (xs rest : List ℕ) → Comes limit n xs m rest → outcome limit n (xs ++ rest) ≡ outcome limit m rest
@@ -79,22 +94,23 @@ module _ (limit : Option ℕ) where
       came n m [] rest k a = a.1 k
       came n m (c ∷ cs) rest k a = a.0
 
-  IsHeld_same : (n m : Next) (ys rest : List ℕ) → (IsNext m → IsNext n) → Same limit n m (ys ++ rest) → IsHeld limit m ys → IsHeld limit n ys
-  IsHeld_same n m ys rest h a k = record { front = k.front; late = k.late; whole = k.whole; goes = go k.front k.whole k.goes; ends = on k.front k.late k.whole k.ends }
-    where
-      go : (f : List ℕ) → ys ≡ f ++ k.late → IsNext (after_all limit m f) → IsNext (after_all limit n f)
-      go [] e g = h g
-      go (c ∷ cs) e g =
-          let s : onward limit n c ≡ onward limit m c = subst (λ z. Same limit n m (z ++ rest)) e a in
-          subst (λ z. IsNext (after_all limit z cs)) (sym s) g
+  held_goes : (n m : Next) (f zs : List ℕ) → (IsNext m → IsNext n) → Same limit n m (f ++ zs) → IsNext (after_all limit m f) → IsNext (after_all limit n f)
+  held_goes n m [] zs h a g = h g
+  held_goes n m (c ∷ cs) zs h (inl e) g = subst (λ z. IsNext (after_all limit z cs)) (sym e) g
+  held_goes n m (c ∷ cs) zs h (inr a) g = held_goes (onward limit n c) (onward limit m c) cs zs (λ w. a.0.0) a.1 g
 
-      on : (f l : List ℕ) → ys ≡ f ++ l → IsLate limit (after_all limit m f) l → IsLate limit (after_all limit n f) l
-      on [] [] e g = tt
-      on [] (c ∷ []) e g = subst (λ z. Same limit n m (z ++ rest)) e a ∙ g
-      on [] (c ∷ d ∷ ds) e g = g
-      on (c ∷ cs) l e g =
-          let s : onward limit n c ≡ onward limit m c = subst (λ z. Same limit n m (z ++ rest)) e a in
-          subst (λ z. IsLate limit (after_all limit z cs) l) (sym s) g
+  held_late : (n m : Next) (f l rest : List ℕ) → Same limit n m (f ++ (l ++ rest)) → IsLate limit (after_all limit m f) l → IsLate limit (after_all limit n f) l
+  held_late n m [] [] rest a g = tt
+  held_late n m [] (c ∷ []) rest (inl e) g = e ∙ g
+  held_late n m [] (c ∷ []) rest (inr a) g = absurd (subst IsNext g a.0.1)
+  held_late n m [] (c ∷ d ∷ ds) rest a g = g
+  held_late n m (c ∷ cs) l rest (inl e) g = subst (λ z. IsLate limit (after_all limit z cs) l) (sym e) g
+  held_late n m (c ∷ cs) l rest (inr a) g = held_late (onward limit n c) (onward limit m c) cs l rest a.1 g
+
+  IsHeld_same : (n m : Next) (ys rest : List ℕ) → (IsNext m → IsNext n) → Same limit n m (ys ++ rest) → IsHeld limit m ys → IsHeld limit n ys
+  IsHeld_same n m ys rest h a k =
+      let s : Same limit n m (k.front ++ (k.late ++ rest)) = subst (Same limit n m) (ap (λ z. z ++ rest) k.whole ∙ append_assoc k.front k.late rest) a in
+      record { front = k.front; late = k.late; whole = k.whole; goes = held_goes n m k.front (k.late ++ rest) h s k.goes; ends = held_late n m k.front k.late rest s k.ends }
 
   pub Comes_halts : (n m : Next) (xs ys rest : List ℕ) → Comes limit n xs m (ys ++ rest) → IsHeld limit m ys → IsHeld limit n (xs ++ ys)
   Comes_halts n m [] ys rest a k = IsHeld_same n m ys rest a.1 a.0 k
@@ -226,7 +242,7 @@ module _ {S : Type 0} (sight : Sight S) (limit : Option ℕ) where
 
   -- at a character that is shown, and at the end
   pub Leads_shown : (p q : S) {n m o : Next} (c : ℕ) → Leads sight limit p n q m → sight.shows q (Some c) → onward limit m c ≡ onward limit o c → IsNext m → Leads sight limit p n q o
-  Leads_shown p q {n} {m} {o} c a s e k = then p q a (λ rest g. let f = sight.first q rest c s g in subst (Same limit m o) (sym f.1) e) k
+  Leads_shown p q {n} {m} {o} c a s e k = then p q a (λ rest g. let f = sight.first q rest c s g in subst (Same limit m o) (sym f.1) (inl e)) k
 
   pub Leads_end : (p q : S) {n m o : Next} → Leads sight limit p n q m → sight.shows q None → ending limit m ≡ ending limit o → IsNext m → Leads sight limit p n q o
   Leads_end p q {n} {m} {o} a s e k = then p q a (λ rest g. subst (Same limit m o) (sym (sight.none q rest s g)) e) k

@@ -1,4 +1,4 @@
-use Rattle.std.proofs.Common.{rules, arith, ◌≡◌, ◌+◌, ◌<◌, ◌++◌, ◌∷◌, true, [], ℕ, length, get_or, refl, sym, append-nil}
+use Rattle.std.proofs.Common.{rules, arith, ◌≡◌, ◌<◌, ◌++◌, ◌∷◌, true, [], ℕ, length, get_or, refl, sym, append-nil}
 use Rattle.std.proofs.lemmas.Bool.Decides.{nat_tests}
 use Rattle.std.specs.Char.{len_utf8}
 use Rattle.std.proofs.lemmas.Str.{IsUtf8-had}
