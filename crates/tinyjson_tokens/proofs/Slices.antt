@@ -7,7 +7,7 @@ use Rattle.std.specs.List.{AllByRecursion, prefix_len}
 use Rattle.std.specs.Str.{encode_utf8_all, IsAscii, IsUtf8, IsCharBoundary, chars}
 use Rattle.std.proofs.lemmas.List.{nil_from_length, take-append-drop, drop-drop, drop-take, take-take, length-drop, get_or-drop}
 use Rattle.std.proofs.lemmas.List.Sums.{prefix_len-le-length, prefix_len_passes, prefix_len_stops}
-use Rattle.std.proofs.lemmas.Str.{byte_from_char, encode_ascii, encodes-chars, IsCharBoundary-before_ascii, IsCharBoundary-end, chars-nil, chars-append, chars-IsAscii, chars_past_char, drop_past_char, IsUtf8-take, IsUtf8-drop, IsUtf8-between, IsCharBoundary-past_char, IsCharBoundary-after_ascii, length-encode, len_utf8_bounds}
+use Rattle.std.proofs.lemmas.Str.{byte_from_char, encode_ascii, encodes-chars, IsCharBoundary-before_ascii, IsCharBoundary-end, IsCharBoundary-from_rest, IsCharBoundary-from_take, chars-nil, chars-append, chars-IsAscii, chars_past_char, drop_past_char, IsUtf8-take, IsUtf8-drop, IsUtf8-between, IsCharBoundary-past_char, IsCharBoundary-after_ascii, length-encode, len_utf8_bounds}
 use Rattle.std.proofs.Math.Seq.{take-append_seam}
 use Rattle.std.proofs.lemmas.Bool.Decides.{nat_tests}
 use Rattle.tinyjson_grammar.specs.Characters.{is_white}
@@ -101,6 +101,20 @@ ascii_next text at c h e low =
     let one : len_utf8 c ≡ 1 = grind (arith, nat_tests) in
     let next : suc at ≡ at + len_utf8 c = omega (arith, one) in
     drop-cons text at 0 h ∙ ap (λ y. y ∷ drop (suc at) text) e ∙ ap (λ m. c ∷ drop m text) next ∙ ap (λ bs. bs ++ drop (at + len_utf8 c) text) (sym (encode_ascii c low))
+
+-- ---- a word
+
+module _ (text : List ℕ) (at : ℕ) (word : List ℕ) (same : take (length word) (drop at text) ≡ word) where
+  pub word_between : between text at (at + length word) ≡ chars word
+  word_between = let n : at + length word - at ≡ length word = omega arith in ap (λ k. chars (take k (drop at text))) n ∙ ap chars same
+
+module _ (text : List ℕ) (utf8 : IsUtf8 text) (at : ℕ) (first : IsCharBoundary text at) (word : List ℕ) (spells : IsUtf8 word)
+    (same : take (length word) (drop at text) ≡ word) (room : at + length word ≤ length text) where
+  pub word_boundary : IsCharBoundary text (at + length word)
+  word_boundary =
+      let within : length word ≤ length (drop at text) = omega (arith, room, length-drop at text) in
+      IsCharBoundary-from_rest text at (length word) first.0
+      (IsCharBoundary-from_take (drop at text) (length word) (IsUtf8-drop text at utf8 first) within (subst IsUtf8 (sym same) spells))
 
 -- ---- runs
 

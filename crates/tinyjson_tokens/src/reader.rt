@@ -1,5 +1,6 @@
 //! The reader of tokens: what it holds, and the letters of a literal.
 ghost use Rattle.std.specs.Prelude.{◌≡◌, ℕ, ◌≤◌, List, true, Option};
+ghost use Rattle.std.specs.Str.{chars};
 ghost use Rattle.tinyjson_grammar.specs.Machine.{Frame, complete};
 ghost use Rattle.tinyjson_grammar.specs.Tree.{Tree};
 ghost use Rattle.tinyjson_tokens.specs.Steps.{NeedsNone, Reads, letters_left};
@@ -38,18 +39,34 @@ impl<S: Tokens> TokenReader<S> {
     }
 
     /// Reads these letters.
-    pub fn letters(&mut self, letters: &[char]) -> Result<(), JsonParseErrorKind>
+    #[inline(always)]
+    pub fn letters(&mut self, letters: &str) -> Result<(), JsonParseErrorKind>
         ensures reads { (limit : Option ℕ) (fs : List Frame) (t : Tree) →
-            Reads S.sight limit self.old.source (letters_left fs letters.now t) result
+            Reads S.sight limit self.old.source (letters_left fs (chars letters.now) t) result
             (λ _. complete true fs t true) self.new.source }
         ensures memory { NeedsNone result }
         ensures left { S.left self.new.source ≤ S.left self.old.source }
     {
-        for letter in letters {
+        if self.source.word(letters) {
+            return Ok(());
+        }
+        self.each_letter(letters)
+    }
+
+    /// The same, one after the other.
+    #[inline(never)]
+    fn each_letter(&mut self, letters: &str) -> Result<(), JsonParseErrorKind>
+        ensures reads { (limit : Option ℕ) (fs : List Frame) (t : Tree) →
+            Reads S.sight limit self.old.source (letters_left fs (chars letters.now) t) result
+            (λ _. complete true fs t true) self.new.source }
+        ensures memory { NeedsNone result }
+        ensures left { S.left self.new.source ≤ S.left self.old.source }
+    {
+        for letter in letters.chars() {
             let Some(c) = self.source.bump() else {
                 return Err(JsonParseErrorKind::UnexpectedEof);
             };
-            if c != *letter {
+            if c != letter {
                 return Err(JsonParseErrorKind::UnexpectedInLiteral(c));
             }
         }

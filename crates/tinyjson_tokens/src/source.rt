@@ -2,8 +2,10 @@
 ghost use Rattle.std.specs.Prelude.{◌≡◌, ℕ, ◌+◌, ◌<◌, ◌≤◌, [], ◌∷◌, false, IfSome};
 ghost use Rattle.std.specs.Prelude.{MatchOption, OnOk, Option, Some, None, length};
 ghost use Rattle.std.specs.Prelude.{string_bytes};
+ghost use Rattle.std.specs.Bool.{MatchBool};
 ghost use Rattle.std.specs.Char.{is_ascii_digit};
 ghost use Rattle.std.specs.Option.{option_len};
+ghost use Rattle.std.specs.Str.{chars};
 ghost use Rattle.tinyjson_grammar.specs.Characters.{is_white, text};
 ghost use Rattle.tinyjson_bytes.specs.Scan.{is_plain};
 ghost use Rattle.tinyjson_grammar.specs.Position.{position_at};
@@ -100,6 +102,15 @@ pub trait Source: Drop {
     {
         self.plain(buffer)?;
         Ok(None)
+    }
+
+    /// Consumes these characters, if the source finds at once that they come next. It may decline.
+    fn word(&mut self, word: &str) -> bool
+        ensures takes { MatchBool result (Takes sight self.old (chars word.now) self.new)
+            (self.new ≡ self.old) }
+        ensures left { left self.new ≤ left self.old }
+    {
+        false
     }
 
     /// Takes the digits that come next, and adds them to a text. Where memory runs out, some of them may be

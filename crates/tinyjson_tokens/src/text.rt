@@ -156,6 +156,20 @@ impl<'a> Source for TextBytes<'a> {
         Ok(Some(string))
     }
 
+    #[inline(always)]
+    fn word(&mut self, word: &str) -> bool {
+        let bytes = self.text.as_bytes();
+        if bytes.len() - self.at < word.len() {
+            return false;
+        }
+        let end = self.at + word.len();
+        if &bytes[self.at..end] != word.as_bytes() {
+            return false;
+        }
+        self.at = end;
+        true
+    }
+
     fn digits(&mut self, buffer: &mut String) -> Result<(), AllocError> {
         let end = digits_end(self.text.as_bytes(), self.at);
         buffer.push_str(&self.text[self.at..end])?;

@@ -52,15 +52,15 @@ impl<S: Tokens> Reader<S> {
         self.tokens.source.consume(first);
         match first {
             'n' => {
-                self.tokens.letters(&['u', 'l', 'l'])?;
+                self.tokens.letters("ull")?;
                 Ok(JsonValue::Null)
             }
             't' => {
-                self.tokens.letters(&['r', 'u', 'e'])?;
+                self.tokens.letters("rue")?;
                 Ok(JsonValue::Boolean(true))
             }
             _ => {
-                self.tokens.letters(&['a', 'l', 's', 'e'])?;
+                self.tokens.letters("alse")?;
                 Ok(JsonValue::Boolean(false))
             }
         }
@@ -81,8 +81,21 @@ impl<S: Tokens> Reader<S> {
         ensures sound { IfOk result (IsSound stack.new) }
         ensures left { OnOk result (S.left self.new.tokens.source < S.left self.old.tokens.source) }
     {
-        let value = self.literal(first)?;
-        self.complete(stack, value)
+        self.tokens.source.consume(first);
+        match first {
+            'n' => {
+                self.tokens.letters("ull")?;
+                self.complete(stack, JsonValue::Null)
+            }
+            't' => {
+                self.tokens.letters("rue")?;
+                self.complete(stack, JsonValue::Boolean(true))
+            }
+            _ => {
+                self.tokens.letters("alse")?;
+                self.complete(stack, JsonValue::Boolean(false))
+            }
+        }
     }
 
     /// Reads the string whose quote comes next, and puts it where it belongs.

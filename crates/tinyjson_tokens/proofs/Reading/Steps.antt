@@ -136,27 +136,35 @@ module _ (limit : Option ℕ) where
   literal_step fs l [] t c = refl
   literal_step fs l (m ∷ ls) t c = refl
 
-  -- the letters from place i on, at which x stands
-  module _ (fs : List Frame) (t : Tree) (xs : List ℕ) (i x : ℕ) (h : i < length xs) (e : x ≡ get_or xs i x) where
-    front : drop i xs ≡ x ∷ drop (i + 1) xs
-    front = drop-cons xs i x h ∙ ap (λ y. y ∷ drop (suc i) xs) (sym e) ∙ ap (λ j. x ∷ drop j xs) (sym (add-one i))
+  -- the letters xs, of which x is the first
+  module _ (fs : List Frame) (t : Tree) (xs : List ℕ) (x : ℕ) (ys : List ℕ) (front : xs ≡ x ∷ ys) where
+    pub letter_next : IsNext (letters_left fs xs t)
+    letter_next = subst (λ zs. IsNext (letters_left fs zs t)) (sym front) tt
 
-    pub letter_next : IsNext (letters_left fs (drop i xs) t)
-    letter_next = subst (λ ys. IsNext (letters_left fs ys t)) (sym front) tt
-
-    letter_step : (c : ℕ) → onward limit (letters_left fs (drop i xs) t) c ≡ cond (c == x) (letters_left fs (drop (i + 1) xs) t) (stop (UnexpectedInLiteral c) true)
-    letter_step c = ap (λ ys. onward limit (letters_left fs ys t) c) front ∙ literal_step fs x (drop (i + 1) xs) t c
+    letter_step : (c : ℕ) → onward limit (letters_left fs xs t) c ≡ cond (c == x) (letters_left fs ys t) (stop (UnexpectedInLiteral c) true)
+    letter_step c = ap (λ zs. onward limit (letters_left fs zs t) c) front ∙ literal_step fs x ys t c
 
     -- it is read; another character is refused; the end comes
-    pub letter_yes : (c : ℕ) → c ≡ x → onward limit (letters_left fs (drop i xs) t) c ≡ letters_left fs (drop (i + 1) xs) t
-    letter_yes c k = letter_step c ∙ ap (λ b. cond b (letters_left fs (drop (i + 1) xs) t) (stop (UnexpectedInLiteral c) true)) (eq-eqb c x k)
+    pub letter_yes : (c : ℕ) → c ≡ x → onward limit (letters_left fs xs t) c ≡ letters_left fs ys t
+    letter_yes c k = letter_step c ∙ ap (λ b. cond b (letters_left fs ys t) (stop (UnexpectedInLiteral c) true)) (eq-eqb c x k)
 
-    pub letter_no : (c : ℕ) → (c ≡ x → ⊥) → onward limit (letters_left fs (drop i xs) t) c ≡ stop (UnexpectedInLiteral c) true
-    letter_no c k = letter_step c ∙ ap (λ b. cond b (letters_left fs (drop (i + 1) xs) t) (stop (UnexpectedInLiteral c) true)) (ne_eqb c x k)
+    pub letter_no : (c : ℕ) → (c ≡ x → ⊥) → onward limit (letters_left fs xs t) c ≡ stop (UnexpectedInLiteral c) true
+    letter_no c k = letter_step c ∙ ap (λ b. cond b (letters_left fs ys t) (stop (UnexpectedInLiteral c) true)) (ne_eqb c x k)
 
-    pub letter_end : ending limit (letters_left fs (drop i xs) t) ≡ refused UnexpectedEof []
+    pub letter_end : ending limit (letters_left fs xs t) ≡ refused UnexpectedEof []
     unfolding end
-    letter_end = ap (λ ys. ending limit (letters_left fs ys t)) front
+    letter_end = ap (λ zs. ending limit (letters_left fs zs t)) front
+
+  -- all of them come
+  letters_come : (fs : List Frame) (t : Tree) (xs rest : List ℕ) → Comes limit (letters_left fs xs t) xs (complete true fs t true) rest
+  letters_come fs t [] rest = (Same_refl limit (complete true fs t true) rest, λ w. w)
+  letters_come fs t (x ∷ xs) rest =
+      let e : letters_left fs xs t ≡ onward limit (letters_left fs (x ∷ xs) t) x = sym (letter_yes fs t (x ∷ xs) x xs refl x refl) in (
+        tt,
+        subst IsTaken e (taken_letters_left fs xs t),
+        subst (λ z. Comes limit z xs (complete true fs t true) rest) e
+            (letters_come fs t xs rest),
+      )
 
 -- ---- the machine and the cursor
 
@@ -230,6 +238,15 @@ module _ {S : Type 0} (sight : Sight S) (limit : Option ℕ) where
     gives = λ zs g. let x = t.gives zs g in (x.0, x.1, x.2, (h, subst IsTaken (sym e) k, subst (λ z. Comes limit z [] o x.0) (sym e) (Same_refl limit o x.0, λ w. w)));
     moves = t.moves;
   })
+
+  -- all letters of a literal are taken
+  pub Leads_letters : (p q : S) (fs : List Frame) (t : Tree) (xs : List ℕ) → Takes sight p xs q
+      → Leads sight limit p (letters_left fs xs t) q (complete true fs t true)
+  Leads_letters p q fs t xs k = record {
+    taken = xs;
+    gives = λ zs g. let x = k.gives zs g in (x.0, x.1, x.2, letters_come limit fs t xs x.0);
+    moves = k.moves;
+  }
 
   then : (p q : S) {n m o : Next} → Leads sight limit p n q m → ((rest : List ℕ) → sight.gives q rest → Same limit m o rest) → IsNext m → Leads sight limit p n q o
   then p q {n} {m} {o} a h k = record {
