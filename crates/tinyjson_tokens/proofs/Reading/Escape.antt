@@ -1,10 +1,11 @@
 -- Escapes among the bytes of a text.
-use Rattle.std.proofs.Common.{◌≡◌, ℕ, suc, ◌+◌, ◌*◌, ◌-◌, ◌<◌, ◌≤◌, ◌==◌, Bool, true, false, true≢false, not, cond, List, [], ◌∷◌, ◌++◌, length, take, drop, get_or, Option, None, Some, inl, inr, Result, is_err, refl, sym, ap, ap₂, ◌∙◌, subst, arith, length-append, append-nil, append_assoc, drop-cons, add-zero}
+use Rattle.std.proofs.Common.{◌≡◌, ℕ, suc, ◌+◌, ◌*◌, ◌/◌, ◌%◌, ◌-◌, ◌||◌, ◌&&◌, ◌<◌, ◌≤◌, ◌==◌, Bool, true, false, true≢false, not, cond, List, [], ◌∷◌, ◌++◌, length, take, drop, get_or, Option, None, Some, inl, inr, Result, is_err, refl, sym, ap, ap₂, ◌∙◌, subst, arith, length-append, append-nil, append_assoc, drop-cons, add-zero}
 use Rattle.std.specs.Prelude.{nat_lt}
+use Rattle.std.specs.Int.Bits.{bit_and, bit_or}
 use Rattle.std.specs.Char.{is_ascii, digit_value}
 use Rattle.std.specs.List.{AllByRecursion}
 use Rattle.std.specs.Str.{IsUtf8, IsCharBoundary, chars}
-use Rattle.std.proofs.lemmas.Bool.{eq-eqb, eqb-true}
+use Rattle.std.proofs.lemmas.Bool.{agree_below_at, and_parts, eq-eqb, eqb-true, ltb-true}
 use Rattle.std.proofs.lemmas.Bool.Decides.{nat_tests}
 use Rattle.std.proofs.lemmas.List.{drop-drop, get_or-drop}
 use Rattle.std.proofs.lemmas.Str.{IsCharBoundary-after_ascii, chars-IsAscii, IsUtf8-had}
@@ -188,6 +189,22 @@ hex_ascii c h = grind (arith, nat_tests)
 
 pub hex_digit : (c : ℕ) → digit_value c < 16 → is_hex c ≡ true
 hex_digit c h = grind (arith, nat_tests)
+
+-- The bytes that are taken for hexadecimal digits are those, and the number that is computed of them is their value.
+is_hex_by_bits : ℕ → Bool
+is_hex_by_bits b =
+    not (nat_lt ((b + 208) % 256) 10 || nat_lt ((bit_or b 32 + 159) % 256) 6)
+    || ((bit_and b 15 + 9 * (b / 64) == digit_value b) && nat_lt (digit_value b) 16)
+
+pub hex_of_bits : (b : ℕ) → b < 256 → (nat_lt ((b + 208) % 256) 10 || nat_lt ((bit_or b 32 + 159) % 256) 6) ≡ true
+    → (bit_and b 15 + 9 * (b / 64) ≡ digit_value b) × (bit_and b 15 + 9 * (b / 64) < 16)
+unfolding is_hex_by_bits
+hex_of_bits b h t =
+    let a : is_hex_by_bits b ≡ true = agree_below_at is_hex_by_bits (λ _. true) 256 b refl h in
+    let k = and_parts (bit_and b 15 + 9 * (b / 64) == digit_value b) (nat_lt (digit_value b) 16)
+    (ap (λ x. not x || ((bit_and b 15 + 9 * (b / 64) == digit_value b) && nat_lt (digit_value b) 16)) (sym t) ∙ a) in
+    let e = eqb-true (bit_and b 15 + 9 * (b / 64)) (digit_value b) k.0 in
+    (e, rw e (ltb-true (digit_value b) 16 k.1))
 
 -- the value of four digits
 pub four_digits : (a b c d p q r s : ℕ) → p ≡ digit_value a → q ≡ digit_value b → r ≡ digit_value c → s ≡ digit_value d
