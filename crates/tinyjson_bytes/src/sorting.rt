@@ -7,9 +7,11 @@ use std::alloc::{AllocError, Global};
 /// Up to this many members, sorting alone is as fast.
 const FEW: usize = 32;
 
-/// Orders many members by the first bytes of their keys after those that all share, the last key's
-/// member first. Where memory is refused, or there are few, or the first of them rise or fall already,
-/// they stay as they are.
+/// So many times members are ordered by some bytes of their keys, before whole keys are compared.
+const PASSES: usize = 16;
+
+/// Orders many members by the bytes of their keys, the last key's member first. Where memory is
+/// refused, or there are few, or the first of them rise or fall already, they stay as they are.
 #[inline(always)]
 pub fn presort<T>(alloc: Global, members: &mut [(&str, &T)])
     ensures { IsPermutation members.old members.new }
@@ -28,12 +30,23 @@ fn is_run<T>(members: &[(&str, &T)]) -> bool {
 fn presort_many<T>(alloc: Global, members: &mut [(&str, &T)])
     ensures { IsPermutation members.old members.new }
 {
-    let mask = index_mask(members.len());
-    let Ok(mut words) = key_words(alloc, members, mask) else {
+    let Ok(mut words) = indices(alloc, members.len()) else {
         return;
     };
-    words.sort_unstable();
+    let mask = index_mask(members.len());
+    order(&mut words, mask, members, 0, PASSES);
     place(&mut words, mask, members);
+}
+
+/// The words of so many members: their indices, for now.
+fn indices(alloc: Global, count: usize) -> Result<Vec<u64>, AllocError>
+    ensures { IfOk result (λ v. length v.items ≡ count) }
+{
+    let mut words = Vec::with_capacity(alloc, count)?;
+    for index in 0..count {
+        words.push(index as u64)?;
+    }
+    Ok(words)
 }
 
 /// The bits that hold each index below that count.
@@ -41,17 +54,50 @@ fn index_mask(count: usize) -> u64 {
     u64::MAX.wrapping_shr((count as u64).leading_zeros())
 }
 
-/// For each member a word that falls where the key rises, and in its low bits the member's index.
-fn key_words<T>(alloc: Global, members: &[(&str, &T)], mask: u64) -> Result<Vec<u64>, AllocError>
-    ensures { IfOk result (λ v. length v.items ≡ length members.now) }
+/// Orders the words, each with a member's index in the bits of the mask, as the keys of those members
+/// fall. So many bytes at the start of the keys are known to be the same. Members that tie in the first
+/// bytes after those that all share are ordered by the bytes after those; by whole keys, where they are
+/// few or no pass is left.
+fn order<T>(words: &mut [u64], mask: u64, members: &[(&str, &T)], common: usize, passes: usize)
+    ensures { length words.new ≡ length words.old }
 {
-    let shared = shared_len(members);
-    let mut words = Vec::with_capacity(alloc, members.len())?;
-    for (index, (key, _value)) in members.iter().enumerate() {
-        let rank = rank(key.as_bytes(), shared);
-        words.push((!rank & !mask) | (index as u64 & mask))?;
+    let Some(passes) = passes.checked_sub(1) else {
+        return order_by_keys(words, mask, members);
+    };
+    let shared = shared_len(words, mask, members, common);
+    rank_words(words, mask, members, shared);
+    words.sort_unstable();
+    for tied in words.chunk_by_mut(|a, b| a ^ b <= mask) {
+        if tied.len() > FEW {
+            order(tied, mask, members, shared, passes);
+        } else if tied.len() > 1 {
+            order_by_keys(tied, mask, members);
+        }
     }
-    Ok(words)
+}
+
+/// Gives each word, above its index, a number that falls where the bytes of the key from that place on
+/// rise.
+fn rank_words<T>(words: &mut [u64], mask: u64, members: &[(&str, &T)], from: usize)
+    ensures { length words.new ≡ length words.old }
+{
+    for word in words.iter_mut() {
+        let index = *word & mask;
+        *word = (!rank(key_at(members, index).as_bytes(), from) & !mask) | index;
+    }
+}
+
+/// Orders the words as the keys of their members fall.
+fn order_by_keys<T>(words: &mut [u64], mask: u64, members: &[(&str, &T)])
+    ensures { length words.new ≡ length words.old }
+{
+    words.sort_unstable_by(|a, b| key_at(members, b & mask).cmp(key_at(members, a & mask)));
+}
+
+/// The key of the member with that index.
+#[inline(always)]
+fn key_at<'k, T>(members: &[(&'k str, &T)], index: u64) -> &'k str {
+    members.get(index as usize).map_or("", |(key, _value)| key)
 }
 
 /// Moves each member to the place where the word with its index stands.
@@ -83,15 +129,15 @@ fn move_cycle<T>(words: &mut [u64], mask: u64, members: &mut [(&str, &T)], start
     }
 }
 
-/// How many bytes at their start the keys have in common.
-fn shared_len<T>(members: &[(&str, &T)]) -> usize {
-    let Some((first, _value)) = members.first() else {
-        return 0;
+/// How many bytes at their start the keys of those members have in common, if so many are known to be.
+fn shared_len<T>(words: &[u64], mask: u64, members: &[(&str, &T)], common: usize) -> usize {
+    let Some(word) = words.first() else {
+        return common;
     };
-    let first = first.as_bytes();
-    let mut len = 0;
+    let first = key_at(members, word & mask).as_bytes();
+    let mut len = common;
     while len < first.len() {
-        let unequal = differences(members, len, rank(first, len));
+        let unequal = differences(words, mask, members, len, rank(first, len));
         if unequal != 0 {
             return len.saturating_add((unequal.leading_zeros() / 8) as usize);
         }
@@ -100,11 +146,17 @@ fn shared_len<T>(members: &[(&str, &T)]) -> usize {
     first.len()
 }
 
-/// The bits in which the keys' ranks from that place on differ from the word.
-fn differences<T>(members: &[(&str, &T)], from: usize, word: u64) -> u64 {
+/// The bits in which the keys' ranks from that place on differ from that one.
+fn differences<T>(
+    words: &[u64],
+    mask: u64,
+    members: &[(&str, &T)],
+    from: usize,
+    expected: u64,
+) -> u64 {
     let mut bits = 0;
-    for (key, _value) in members {
-        bits |= rank(key.as_bytes(), from) ^ word;
+    for word in words {
+        bits |= rank(key_at(members, word & mask).as_bytes(), from) ^ expected;
     }
     bits
 }
