@@ -1,4 +1,4 @@
-use Rattle.std.proofs.Common.{rules, arith, ◌≡◌, ◌+◌, ◌≤◌, length, take, drop, refl}
+use Rattle.std.proofs.Common.{rules, arith, ◌≡◌, ◌+◌, ◌≤◌, length, take, drop}
 use Rattle.std.proofs.lemmas.Str.{IsUtf8-had}
 use Rattle.std.specs.Str.{chars}
 use Rattle.tinyjson_tokens.proofs.Slices.{step_gives, step_moves, word_boundary, word_between}
