@@ -19,6 +19,7 @@ mod replace;
 
 pub use access::{InnerAsRef, InnerAsRefMut};
 pub use convert::UnexpectedValue;
+pub(crate) use dismantle::holds_others;
 pub(crate) use members::add_member;
 pub use members::{discard_member, insert_member, remove_member, sorted_members};
 pub use tinyjson_grammar::JsonKind;

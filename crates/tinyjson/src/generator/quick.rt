@@ -9,8 +9,8 @@ ghost use Rattle.tinyjson.specs.private.Sorted.{sorted_view};
 ghost use Rattle.tinyjson_grammar.specs.Text.{items_text, members_text, quoted, separator, text};
 ghost use Rattle.tinyjson.specs.View.{view, items_view};
 
-use super::sorted::{first_member, holds_others, next_member};
-use crate::value::JsonValue;
+use super::sorted::{first_member, next_member};
+use crate::value::{JsonValue, holds_others};
 use tinyjson_output::{Buffer, quick_key, quick_number, quick_text, quick_word};
 
 /// Appends the text of a value that holds no other to the buffer if it fits, and returns whether it did.

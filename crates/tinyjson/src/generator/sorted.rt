@@ -6,7 +6,7 @@ ghost use Rattle.std.specs.String.{string_eq};
 ghost use Rattle.tinyjson.specs.private.Sorted.{bytes_pair, now_pair, sorted_view};
 ghost use Rattle.tinyjson.specs.View.{members_view};
 
-use crate::value::JsonValue;
+use crate::value::{JsonValue, holds_others};
 use std::alloc::{AllocError, Global};
 use std::collections::HashMap;
 use tinyjson_bytes::presort;
@@ -80,14 +80,4 @@ pub(super) fn next_member<'a>(
         (λ m. (0 < left) × (reverse gathered.old.items ≡ m ∷ reverse gathered.new.items)) }
 {
     if left == 0 { None } else { gathered.pop() }
-}
-
-/// Whether the value is an array or object that isn't empty: only a hint, that saves the key.
-#[inline(always)]
-pub(super) fn holds_others(value: &JsonValue) -> bool {
-    match value {
-        JsonValue::Array(items) => !items.is_empty(),
-        JsonValue::Object(members) => !members.is_empty(),
-        _ => false,
-    }
 }

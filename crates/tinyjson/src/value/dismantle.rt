@@ -4,8 +4,9 @@ use std::collections::HashMap;
 use std::mem;
 
 impl JsonValue {
-    /// Frees the value by a loop, however deep it is nested, in linear time. The loop takes no memory:
-    /// it keeps what is still to be freed in the containers that it has reached.
+    /// Frees the value, however deep it is nested, in linear time and without taking memory: the outer
+    /// 64 levels by a recursion, and deeper ones by a loop, which keeps what is still to be freed in the
+    /// containers that it has reached.
     ///
     /// The language frees a value that goes out of scope by a recursion over its levels.
     ///
@@ -14,14 +15,57 @@ impl JsonValue {
     /// value.dismantle();
     /// ```
     pub fn dismantle(self) {
-        let mut chain = chained(self, JsonValue::Null);
-        for _ in 0..u64::MAX {
-            chain = match chain {
-                JsonValue::Array(items) => unchain_items(items),
-                JsonValue::Object(members) => unchain_members(members),
-                _ => return,
-            };
+        dismantle_near(self, NEAR);
+    }
+}
+
+/// How many levels are freed by a recursion.
+const NEAR: usize = 64;
+
+/// Frees so many levels by a recursion, and deeper ones by a loop. A container whose values hold no
+/// others is freed whole.
+fn dismantle_near(value: JsonValue, levels: usize) {
+    let Some(levels) = levels.checked_sub(1) else {
+        return dismantle_all(value);
+    };
+    match value {
+        JsonValue::Array(items) => {
+            if items.iter().any(holds_others) {
+                for item in items {
+                    dismantle_near(item, levels);
+                }
+            }
         }
+        JsonValue::Object(members) => {
+            if members.values().any(holds_others) {
+                for value in members.into_values() {
+                    dismantle_near(value, levels);
+                }
+            }
+        }
+        _ => {}
+    }
+}
+
+/// Whether the value is an array or object that isn't empty.
+#[inline(always)]
+pub(crate) fn holds_others(value: &JsonValue) -> bool {
+    match value {
+        JsonValue::Array(items) => !items.is_empty(),
+        JsonValue::Object(members) => !members.is_empty(),
+        _ => false,
+    }
+}
+
+/// Frees a value by a loop, without a recursion.
+fn dismantle_all(value: JsonValue) {
+    let mut chain = chained(value, JsonValue::Null);
+    for _ in 0..u64::MAX {
+        chain = match chain {
+            JsonValue::Array(items) => unchain_items(items),
+            JsonValue::Object(members) => unchain_members(members),
+            _ => return,
+        };
     }
 }
 
