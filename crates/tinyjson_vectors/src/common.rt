@@ -88,6 +88,18 @@ pub(crate) fn of_kind(alloc: Global, kind: JsonKind) -> Result<JsonValue, AllocE
     }
 }
 
+/// What a conversion to the type of the value's kind gives, as a value again.
+pub(crate) fn converted(value: JsonValue) -> Result<JsonValue, Fail> {
+    Ok(match value.kind() {
+        JsonKind::Null => JsonValue::from(<()>::try_from(value)?),
+        JsonKind::Boolean => JsonValue::from(bool::try_from(value)?),
+        JsonKind::Number => JsonValue::from(JsonNumber::try_from(value)?),
+        JsonKind::String => JsonValue::from(String::try_from(value)?),
+        JsonKind::Array => JsonValue::from(Vec::<JsonValue>::try_from(value)?),
+        JsonKind::Object => JsonValue::from(HashMap::<String, JsonValue>::try_from(value)?),
+    })
+}
+
 /// What a parser of the text's characters returns.
 pub(crate) fn parsed(alloc: Global, text: &str) -> JsonParseResult {
     JsonParser::new(alloc, text.chars()).parse()

@@ -61,41 +61,26 @@ pub fn refused_and_back(x: JsonValue) -> JsonValue
 #[cfg(test)]
 mod tests {
     use super::*;
-    use crate::common::{array, of_kind, string, whole};
+    use crate::common::{converted, of_kind};
     use std::alloc::Global;
     use std::test::Fail;
     use tinyjson::JsonKind;
 
-    fn is_number_held(alloc: Global) -> Result<bool, Fail> {
-        let number = JsonNumber::try_from(whole(alloc, 1)?)?;
-        Ok(number == JsonNumber::from_u64(alloc, 1)?)
-    }
-
-    fn is_string_held(alloc: Global) -> Result<bool, Fail> {
-        let text = String::try_from(string(alloc, "foo")?)?;
-        Ok(text.as_str() == "foo")
-    }
-
-    fn is_array_held(alloc: Global) -> Result<bool, Fail> {
-        let items = Vec::<JsonValue>::try_from(array(alloc, JsonValue::from(true))?)?;
-        Ok(items.as_slice() == [JsonValue::Boolean(true)].as_slice())
-    }
-
-    fn is_object_held(alloc: Global) -> Result<bool, Fail> {
-        let member = whole(alloc, 42)?;
-        let members = HashMap::<String, JsonValue>::try_from(of_kind(alloc, JsonKind::Object)?)?;
-        Ok(members.len() == 1 && members.get("foo") == Some(&member))
-    }
+    const KINDS: [JsonKind; 6] = [
+        JsonKind::Null,
+        JsonKind::Boolean,
+        JsonKind::Number,
+        JsonKind::String,
+        JsonKind::Array,
+        JsonKind::Object,
+    ];
 
     #[test]
     fn the_content_of_each_kind(rt: HostRuntime) -> Result<(), Fail> {
-        let alloc = rt.alloc();
-        assert!(rt; is_number_held(alloc)?);
-        assert!(rt; bool::try_from(JsonValue::from(true))?);
-        <()>::try_from(JsonValue::Null)?;
-        assert!(rt; is_string_held(alloc)?);
-        assert!(rt; is_array_held(alloc)?);
-        assert!(rt; is_object_held(alloc)?);
+        for kind in KINDS {
+            let back = converted(of_kind(rt.alloc(), kind)?)?;
+            assert!(rt; back == of_kind(rt.alloc(), kind)?, "{kind}");
+        }
         Ok(())
     }
 

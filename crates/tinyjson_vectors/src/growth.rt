@@ -1,19 +1,20 @@
 //! Growing things at sizes round each growth of a vector, a string or a map, where memory is ample, alone and inside others: each is
 //! read, compared with what another spelling of it gives, written, copied and converted.
 
-mod containers;
+pub(crate) mod containers;
 mod deep;
 mod indents;
 mod nesting;
 mod numbers;
 mod strings;
 
-use crate::common::{is_indented, is_taken, is_text, is_value, is_written, parsed, parsed_within};
+use crate::common::{
+    converted, is_indented, is_taken, is_text, is_value, is_written, parsed, parsed_within,
+};
 use std::alloc::{AllocError, Global};
-use std::collections::HashMap;
 use std::process::Abort;
 use std::test::Fail;
-use tinyjson::{JsonGenerator, JsonKind, JsonNumber, JsonValue};
+use tinyjson::{JsonGenerator, JsonValue};
 
 /// Below, at and after the first growths of vectors, strings and maps, and far beyond them.
 const SIZES: [usize; 10] = [0, 1, 8, 9, 17, 64, 65, 1_000, 5_000, 300_000];
@@ -96,20 +97,8 @@ fn laid_out(alloc: Global, compact: &str, indent: &str) -> Result<String, AllocE
     Ok(text)
 }
 
-/// What a conversion to the type of the value's kind gives, as a value again.
-fn converted(value: JsonValue) -> Result<JsonValue, Fail> {
-    Ok(match value.kind() {
-        JsonKind::Null => JsonValue::from(<()>::try_from(value)?),
-        JsonKind::Boolean => JsonValue::from(bool::try_from(value)?),
-        JsonKind::Number => JsonValue::from(JsonNumber::try_from(value)?),
-        JsonKind::String => JsonValue::from(String::try_from(value)?),
-        JsonKind::Array => JsonValue::from(Vec::<JsonValue>::try_from(value)?),
-        JsonKind::Object => JsonValue::from(HashMap::<String, JsonValue>::try_from(value)?),
-    })
-}
-
 /// Whether the text is read as this value, with no limit on depth, and with one, from a text and from its characters.
-fn is_read(alloc: Global, text: &str, value: &JsonValue) -> bool {
+pub(crate) fn is_read(alloc: Global, text: &str, value: &JsonValue) -> bool {
     let limited = JsonValue::from_str_with_depth_limit(alloc, text, usize::MAX);
     is_value(JsonValue::from_str(alloc, text), value)
         && is_value(limited, value)

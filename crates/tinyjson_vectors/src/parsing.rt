@@ -48,7 +48,7 @@ fn is_answer(alloc: Global, answer: JsonParseResult, expected: Answer) -> bool {
 }
 
 /// Whether a text and its characters both have this result.
-fn both_agree(alloc: Global, text: &str, expected: Answer) -> bool {
+pub(crate) fn both_agree(alloc: Global, text: &str, expected: Answer) -> bool {
     is_answer(alloc, JsonValue::from_str(alloc, text), expected)
         && is_answer(alloc, parsed(alloc, text), expected)
 }

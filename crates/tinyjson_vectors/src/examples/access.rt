@@ -22,28 +22,18 @@ fn set_member(value: &mut JsonValue, key: &str, part: JsonValue) -> Option<JsonV
 }
 
 #[test]
-fn parts_and_members(rt: HostRuntime) -> Result<(), Fail> {
+fn parts(rt: HostRuntime) -> Result<(), Fail> {
     let alloc = rt.alloc();
     let value = JsonValue::Boolean(true);
     assert!(rt; bool::json_value_as(&value) == Some(&true));
     assert!(rt; String::json_value_as(&value).is_none());
-    Ok(())
-}
 
-#[test]
-fn parts_for_writing(rt: HostRuntime) -> Result<(), Fail> {
-    let alloc = rt.alloc();
     let mut value = JsonValue::Boolean(true);
     if let Some(b) = bool::json_value_as_mut(&mut value) {
         *b = false;
     }
     assert!(rt; value == JsonValue::Boolean(false));
-    Ok(())
-}
 
-#[test]
-fn parts_of_strings(rt: HostRuntime) -> Result<(), Fail> {
-    let alloc = rt.alloc();
     let value = JsonValue::from("this is string".to_string(alloc)?);
     assert!(rt; value.get::<String>().is_some());
     assert!(rt; value.get::<JsonNumber>().is_none());
@@ -71,12 +61,7 @@ fn members_that_are_removed(rt: HostRuntime) -> Result<(), Fail> {
     insert_member(&mut members, "foo".to_string(alloc)?, JsonValue::Null)?;
     assert!(rt; remove_member(&mut members, "foo") == Some(JsonValue::Null));
     assert!(rt; members.is_empty());
-    Ok(())
-}
 
-#[test]
-fn members_that_are_discarded(rt: HostRuntime) -> Result<(), Fail> {
-    let alloc = rt.alloc();
     let mut members = HashMap::new(alloc);
     insert_member(&mut members, "foo".to_string(alloc)?, JsonValue::Null)?;
     discard_member(&mut members, "foo");

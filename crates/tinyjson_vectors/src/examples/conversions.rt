@@ -27,12 +27,7 @@ fn content_that_goes_in(rt: HostRuntime) -> Result<(), Fail> {
 
     let value = JsonValue::from(HashMap::new(alloc));
     assert!(rt; value.is_object());
-    Ok(())
-}
 
-#[test]
-fn text_that_comes_back(rt: HostRuntime) -> Result<(), Fail> {
-    let alloc = rt.alloc();
     let value = JsonValue::from("foo".to_string(alloc)?);
     assert!(rt; String::try_from(value).is_ok_and(|text| text.as_str() == "foo"));
     Ok(())

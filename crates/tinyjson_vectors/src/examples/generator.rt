@@ -12,12 +12,7 @@ fn texts_of_values(rt: HostRuntime) -> Result<(), Fail> {
     let value = JsonValue::from_str(alloc, r#"{"bool": true, "arr": [1, null]}"#)?;
     let text = stringify(alloc, &value)?;
     assert_eq!(rt; text.as_str(), r#"{"arr":[1,null],"bool":true}"#);
-    Ok(())
-}
 
-#[test]
-fn indented_texts_of_values(rt: HostRuntime) -> Result<(), Fail> {
-    let alloc = rt.alloc();
     let value = JsonValue::from_str(alloc, "[null]")?;
     assert_eq!(rt; format(alloc, &value)?.as_str(), "[\n  null\n]");
     Ok(())
@@ -40,12 +35,7 @@ fn text_of_a_value(rt: HostRuntime) -> Result<(), Fail> {
     let alloc = rt.alloc();
     let value = JsonValue::from_str(alloc, "[1.50e1, null]")?;
     assert_eq!(rt; value.stringify(alloc)?.as_str(), "[15,null]");
-    Ok(())
-}
 
-#[test]
-fn indented_text_of_a_value(rt: HostRuntime) -> Result<(), Fail> {
-    let alloc = rt.alloc();
     let value = JsonValue::from_str(alloc, "[1.50e1, null]")?;
     assert_eq!(rt; value.format(alloc)?.as_str(), "[\n  15,\n  null\n]");
     Ok(())
@@ -58,12 +48,7 @@ fn texts_to_writers(rt: HostRuntime) -> Result<(), Fail> {
     let mut bytes = Vec::new(alloc);
     value.format_to(alloc, &mut bytes)?;
     assert_eq!(rt; bytes.as_slice(), b"[\n  true\n]".as_slice());
-    Ok(())
-}
 
-#[test]
-fn compact_texts_to_writers(rt: HostRuntime) -> Result<(), Fail> {
-    let alloc = rt.alloc();
     let mut bytes = Vec::new(alloc);
     JsonValue::Boolean(true).write_to(alloc, &mut bytes)?;
     assert_eq!(rt; bytes.as_slice(), b"true".as_slice());
@@ -71,7 +56,7 @@ fn compact_texts_to_writers(rt: HostRuntime) -> Result<(), Fail> {
 }
 
 #[test]
-fn indented_texts_of_generators(rt: HostRuntime) -> Result<(), Fail> {
+fn texts_of_generators(rt: HostRuntime) -> Result<(), Fail> {
     let alloc = rt.alloc();
     let value = JsonValue::from_str(alloc, "[true]")?;
     let mut generator = JsonGenerator::new(alloc, Vec::new(alloc)).indent("  ");
@@ -80,12 +65,7 @@ fn indented_texts_of_generators(rt: HostRuntime) -> Result<(), Fail> {
         generator.into_inner().as_slice(),
         b"[\n  true\n]".as_slice()
     );
-    Ok(())
-}
 
-#[test]
-fn compact_texts_of_generators(rt: HostRuntime) -> Result<(), Fail> {
-    let alloc = rt.alloc();
     let mut generator = JsonGenerator::new(alloc, Vec::new(alloc));
     generator.generate(&JsonValue::Null)?;
     assert_eq!(rt; generator.into_inner().as_slice(), b"null".as_slice());

@@ -13,6 +13,9 @@ fn numbers_from_texts(rt: HostRuntime) -> Result<(), Fail> {
 
     let error = JsonNumberError::from(LiteralError::OutOfRange);
     assert!(rt; matches!(error, JsonNumberError::OutOfRange));
+
+    assert_eq!(rt; JsonNumber::from_text(alloc, "1.50e1")?.to_u64(), Some(15));
+    assert!(rt; JsonNumber::from_text(alloc, "01").is_err());
     Ok(())
 }
 
@@ -30,10 +33,13 @@ fn digits_and_powers(rt: HostRuntime) -> Result<(), Fail> {
 }
 
 #[test]
-fn digits_of_fractions(rt: HostRuntime) -> Result<(), Fail> {
+fn fractions_and_copies(rt: HostRuntime) -> Result<(), Fail> {
     let alloc = rt.alloc();
     assert_eq!(rt; JsonNumber::from_text(alloc, "0.0120")?.digits(), "12");
     assert_eq!(rt; JsonNumber::from_text(alloc, "0.0120")?.power(), -3);
+
+    let number = JsonNumber::from_text(alloc, "-0.5")?;
+    assert!(rt; number.try_clone(alloc)? == number);
     Ok(())
 }
 
@@ -48,32 +54,11 @@ fn short_texts_of_numbers(rt: HostRuntime) -> Result<(), Fail> {
 }
 
 #[test]
-fn copies_of_numbers(rt: HostRuntime) -> Result<(), Fail> {
-    let alloc = rt.alloc();
-    let number = JsonNumber::from_text(alloc, "-0.5")?;
-    assert!(rt; number.try_clone(alloc)? == number);
-    Ok(())
-}
-
-#[test]
-fn numbers_by_their_spelling(rt: HostRuntime) -> Result<(), Fail> {
-    let alloc = rt.alloc();
-    assert_eq!(rt; JsonNumber::from_text(alloc, "1.50e1")?.to_u64(), Some(15));
-    assert!(rt; JsonNumber::from_text(alloc, "01").is_err());
-    Ok(())
-}
-
-#[test]
 fn numbers_and_integers(rt: HostRuntime) -> Result<(), Fail> {
     let alloc = rt.alloc();
     let number = JsonNumber::from_u64(alloc, 1200)?;
     assert_eq!(rt; number.to_string(alloc)?.as_str(), "1200");
-    Ok(())
-}
 
-#[test]
-fn numbers_and_signed_integers(rt: HostRuntime) -> Result<(), Fail> {
-    let alloc = rt.alloc();
     let number = JsonNumber::from_i64(alloc, -5)?;
     assert_eq!(rt; number.to_string(alloc)?.as_str(), "-5");
     Ok(())
@@ -84,12 +69,7 @@ fn numbers_as_integers(rt: HostRuntime) -> Result<(), Fail> {
     let alloc = rt.alloc();
     assert_eq!(rt; JsonNumber::from_text(alloc, "1.2e3")?.to_u64(), Some(1200));
     assert_eq!(rt; JsonNumber::from_text(alloc, "-1")?.to_u64(), None);
-    Ok(())
-}
 
-#[test]
-fn numbers_as_signed_integers(rt: HostRuntime) -> Result<(), Fail> {
-    let alloc = rt.alloc();
     assert_eq!(rt; JsonNumber::from_text(alloc, "-1.0")?.to_i64(), Some(-1));
     assert_eq!(rt; JsonNumber::from_text(alloc, "1.5")?.to_i64(), None);
     Ok(())

@@ -15,6 +15,9 @@ fn texts(rt: HostRuntime) -> Result<(), Fail> {
     let alloc = rt.alloc();
     let read: JsonParseResult = JsonParser::new(alloc, "null".chars()).parse();
     assert!(rt; read.is_ok_and(|value| value.is_null()));
+
+    let mut parser = JsonParser::new(alloc, "[1, true]".chars());
+    assert!(rt; parser.parse().is_ok_and(|value| value.is_array()));
     Ok(())
 }
 
@@ -24,14 +27,9 @@ fn values_of_texts(rt: HostRuntime) -> Result<(), Fail> {
     let mut parser = JsonParser::new(alloc, "[1, true]".chars());
     let value = parser.parse()?;
     assert_eq!(rt; value.stringify(alloc)?.as_str(), "[1,true]");
-    Ok(())
-}
 
-#[test]
-fn kinds_of_texts(rt: HostRuntime) -> Result<(), Fail> {
-    let alloc = rt.alloc();
-    let mut parser = JsonParser::new(alloc, "[1, true]".chars());
-    assert!(rt; parser.parse().is_ok_and(|value| value.is_array()));
+    let value = JsonValue::from_str(alloc, "{\"a\": 1.50e1}")?;
+    assert_eq!(rt; value.stringify(alloc)?.as_str(), r#"{"a":15}"#);
     Ok(())
 }
 
@@ -40,12 +38,7 @@ fn limits(rt: HostRuntime) -> Result<(), Fail> {
     let alloc = rt.alloc();
     let result = JsonParser::with_depth_limit(alloc, "[[1]]".chars(), 1).parse();
     assert!(rt; result.is_err_and(|error| error.kind() == JsonParseErrorKind::TooDeep('[')));
-    Ok(())
-}
 
-#[test]
-fn limits_on_texts(rt: HostRuntime) -> Result<(), Fail> {
-    let alloc = rt.alloc();
     let result = JsonValue::from_str_with_depth_limit(alloc, "[[1]]", 1);
     assert!(rt; result.is_err_and(|error| error.kind() == JsonParseErrorKind::TooDeep('[')));
     Ok(())
@@ -57,23 +50,10 @@ fn texts_after_errors(rt: HostRuntime) -> Result<(), Fail> {
     let mut parser = JsonParser::new(alloc, "nul 1".chars());
     assert!(rt; parser.parse().is_err());
     assert!(rt; parser.parse().is_ok_and(|value| value.is_number()));
-    Ok(())
-}
 
-#[test]
-fn texts_of_nested_values(rt: HostRuntime) -> Result<(), Fail> {
-    let alloc = rt.alloc();
     let text = "[[[null]], []]";
     let value = JsonValue::from_str(alloc, text)?;
     value.dismantle();
-    Ok(())
-}
-
-#[test]
-fn texts_of_objects(rt: HostRuntime) -> Result<(), Fail> {
-    let alloc = rt.alloc();
-    let value = JsonValue::from_str(alloc, "{\"a\": 1.50e1}")?;
-    assert_eq!(rt; value.stringify(alloc)?.as_str(), r#"{"a":15}"#);
     Ok(())
 }
 
@@ -83,12 +63,7 @@ fn errors(rt: HostRuntime) -> Result<(), Fail> {
     if let Err(error) = JsonValue::from_str(alloc, "[1 2]") {
         assert!(rt; error.kind() == JsonParseErrorKind::ExpectedCommaOrBracket('2'));
     }
-    Ok(())
-}
 
-#[test]
-fn words_of_errors(rt: HostRuntime) -> Result<(), Fail> {
-    let alloc = rt.alloc();
     if let Err(error) = JsonValue::from_str(alloc, "{\n\"a\" 1}") {
         let words = error.to_string(alloc)?;
         assert_eq!(rt;

@@ -10,14 +10,15 @@ fn values_and_kinds(rt: HostRuntime) -> Result<(), Fail> {
     let alloc = rt.alloc();
     let value = JsonValue::Array(vec![in alloc; JsonValue::Null, JsonValue::Boolean(true)]?);
     assert!(rt; value.kind() == JsonKind::Array);
-    Ok(())
-}
 
-#[test]
-fn names_of_kinds(rt: HostRuntime) -> Result<(), Fail> {
-    let alloc = rt.alloc();
+    let copy = value.try_clone(alloc)?;
+    assert!(rt; copy == value);
+
     assert!(rt; JsonValue::Boolean(true).kind() == JsonKind::Boolean);
     assert_eq!(rt; JsonKind::Boolean.to_string(alloc)?.as_str(), "boolean");
+
+    let one = JsonValue::from(vec![in alloc; JsonValue::Null]?);
+    assert!(rt; one == JsonValue::Array(vec![in alloc; JsonValue::from(())]?));
     Ok(())
 }
 
@@ -31,13 +32,5 @@ fn kinds_of_values(rt: HostRuntime) -> Result<(), Fail> {
     assert!(rt; JsonValue::from(()).is_null());
     assert!(rt; JsonValue::from(Vec::new(alloc)).is_array());
     assert!(rt; JsonValue::from(HashMap::new(alloc)).is_object());
-    Ok(())
-}
-
-#[test]
-fn equal_values(rt: HostRuntime) -> Result<(), Fail> {
-    let alloc = rt.alloc();
-    let one = JsonValue::from(vec![in alloc; JsonValue::Null]?);
-    assert!(rt; one == JsonValue::Array(vec![in alloc; JsonValue::from(())]?));
     Ok(())
 }

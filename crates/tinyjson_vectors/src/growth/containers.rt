@@ -5,10 +5,10 @@ use std::alloc::Global;
 use std::test::Fail;
 
 /// What stands before the pieces, each piece, with `#` for its number, and what stands between and after the pieces.
-type Pieces = [&'static str; 4];
+pub(crate) type Pieces = [&'static str; 4];
 
 /// So many pieces, whose numbers have as many digits each, in rising order, or falling.
-fn joined(
+pub(crate) fn joined(
     alloc: Global,
     [open, piece, between, close]: Pieces,
     size: usize,

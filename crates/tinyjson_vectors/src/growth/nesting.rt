@@ -1,9 +1,9 @@
 //! Containers in one another, by their number.
 
 use super::{SIZES, check, nested};
-use crate::common::{is_refusal, parsed};
+use crate::parsing::{Answer, both_agree};
 use std::test::Fail;
-use tinyjson::JsonParseErrorKind;
+use tinyjson::JsonParseErrorKind as Kind;
 
 /// The deepest containers that are closed here, where the language drops the values, and where the
 /// indented text grows with the square of the depth. `deep` has deeper ones.
@@ -30,18 +30,25 @@ fn closed_containers_of_each_depth(rt: HostRuntime) -> Result<(), Fail> {
     Ok(())
 }
 
+/// How containers begin that stay open, also objects with objects in the place of their keys.
+const OPEN: [[&str; 2]; 4] = [
+    ["[", "["],
+    ["{\"a\":", "{\"a\":"],
+    ["[", "{\"a\":"],
+    ["{", "{"],
+];
+
 #[test]
 fn open_containers_of_each_depth(rt: HostRuntime) -> Result<(), Fail> {
     let alloc = rt.alloc();
-    for (begins, _) in NESTS {
+    for begins in OPEN {
         for size in SIZES {
             let text = nested(alloc, begins, "", ["", ""], size)?;
-            let place = (1, text.len());
-            let answer = parsed(alloc, text.as_str());
-            assert!(rt;
-                is_refusal(answer, JsonParseErrorKind::UnexpectedEof, place),
-                "{size}"
-            );
+            let refusal = Answer::Refusal(Kind::UnexpectedEof, 1, text.len());
+            assert!(rt; both_agree(alloc, text.as_str(), refusal), "{size}");
+            let refusal = Answer::Refusal(Kind::InvalidCharacter('x'), 1, text.len());
+            let text = format!(in alloc; "{text}x")?;
+            assert!(rt; both_agree(alloc, text.as_str(), refusal), "{size}");
         }
     }
     Ok(())

@@ -2,7 +2,6 @@
 //! bytes, so that they lie across 8, 16, 24, 32 and 64 bytes. A text in memory and its characters are read.
 
 use super::{Answer, both_agree, is_read_so};
-use std::alloc::{AllocError, Global};
 use std::test::Fail;
 use tinyjson::JsonParseErrorKind as Kind;
 
@@ -33,29 +32,15 @@ const WHITE: &[&str] = &["", " ", "\n", "\r\n", "\t"];
 
 const OTHERS: &[char] = &['x', '\u{b}', '\u{a0}', 'é', '€', '😀'];
 
-/// The number of characters of a token.
-fn width(token: &str) -> usize {
-    token.chars().count()
-}
-
-/// A token after a line feed, after so many spaces.
-fn padded(alloc: Global, count: usize, token: &str) -> Result<String, AllocError> {
-    let mut text = String::from_str(alloc, "\n")?;
-    for _ in 0..count {
-        text.push(' ')?;
-    }
-    text.push_str(token)?;
-    Ok(text)
-}
-
 #[test]
 fn tokens_are_read(rt: HostRuntime) -> Result<(), Fail> {
+    let alloc = rt.alloc();
     for &(token, compact) in TOKENS {
         for count in 0..34 {
+            let spaces = " ".repeat(alloc, count)?;
             for white in WHITE {
-                let mut text = padded(rt.alloc(), count, token)?;
-                text.push_str(white)?;
-                let read = both_agree(rt.alloc(), text.as_str(), Answer::Text(compact));
+                let text = format!(in alloc; "\n{spaces}{token}{white}")?;
+                let read = both_agree(alloc, text.as_str(), Answer::Text(compact));
                 assert!(rt; read, "{count} {token}");
             }
         }
@@ -65,14 +50,16 @@ fn tokens_are_read(rt: HostRuntime) -> Result<(), Fail> {
 
 #[test]
 fn what_follows_a_token_is_refused(rt: HostRuntime) -> Result<(), Fail> {
+    let alloc = rt.alloc();
     for &(token, _) in TOKENS {
+        let width = token.chars().count();
         for count in 0..34 {
+            let spaces = " ".repeat(alloc, count)?;
             for &other in OTHERS {
-                let mut text = padded(rt.alloc(), count, token)?;
-                text.push(other)?;
-                let column = count.saturating_add(width(token)).saturating_add(1);
+                let text = format!(in alloc; "\n{spaces}{token}{other}")?;
+                let column = count.saturating_add(width).saturating_add(1);
                 let refusal = Answer::Refusal(Kind::ExpectedEof(other), 2, column);
-                let refused = both_agree(rt.alloc(), text.as_str(), refusal);
+                let refused = both_agree(alloc, text.as_str(), refusal);
                 assert!(rt; refused, "{count} {token} {other}");
             }
         }
@@ -80,14 +67,29 @@ fn what_follows_a_token_is_refused(rt: HostRuntime) -> Result<(), Fail> {
     Ok(())
 }
 
-/// A quote, a character so many times, and what ends the string.
-fn quoted(alloc: Global, unit: char, count: usize, end: &str) -> Result<String, AllocError> {
-    let mut text = String::from_str(alloc, "\"")?;
-    for _ in 0..count {
-        text.push(unit)?;
+/// Plain characters of one to four bytes.
+const PLAIN: [&str; 5] = ["a", "\u{7f}", "é", "€", "😀"];
+
+/// What ends a string after plain characters, and how it is written.
+const CLOSED: [(&str, &str); 2] = [("\"", "\""), ("\\u0041\\\"é\\/\"", "A\\\"é/\"")];
+
+#[test]
+fn strings_are_read(rt: HostRuntime) -> Result<(), Fail> {
+    let alloc = rt.alloc();
+    for unit in PLAIN {
+        for count in 0..70 {
+            let plain = unit.repeat(alloc, count)?;
+            for (end, written) in CLOSED {
+                let text = format!(in alloc; "\"{plain}{end}")?;
+                let compact = format!(in alloc; "\"{plain}{written}")?;
+                assert!(rt;
+                    is_read_so(alloc, text.as_str(), compact.as_str()),
+                    "{text}"
+                );
+            }
+        }
     }
-    text.push_str(end)?;
-    Ok(text)
+    Ok(())
 }
 
 /// What stands after plain characters, the kind of the error, and how many characters it takes.
@@ -103,29 +105,16 @@ const ENDS: &[(&str, Kind, usize)] = &[
 ];
 
 #[test]
-fn strings_are_read(rt: HostRuntime) -> Result<(), Fail> {
-    let alloc = rt.alloc();
-    for unit in ['a', '\u{7f}', 'é', '€', '😀'] {
-        for count in 0..70 {
-            let plain = quoted(alloc, unit, count, "\"")?;
-            assert!(rt; is_read_so(alloc, plain.as_str(), plain.as_str()));
-            let escaped = quoted(alloc, unit, count, "\\u0041\\\"é\\/\"")?;
-            let expected = quoted(alloc, unit, count, "A\\\"é/\"")?;
-            assert!(rt; is_read_so(alloc, escaped.as_str(), expected.as_str()));
-        }
-    }
-    Ok(())
-}
-
-#[test]
 fn strings_are_refused(rt: HostRuntime) -> Result<(), Fail> {
-    for unit in ['a', 'é', '€', '😀'] {
+    let alloc = rt.alloc();
+    for unit in PLAIN {
         for count in 0..34 {
+            let plain = unit.repeat(alloc, count)?;
             for &(end, kind, taken) in ENDS {
-                let text = quoted(rt.alloc(), unit, count, end)?;
+                let text = format!(in alloc; "\"{plain}{end}")?;
                 let column = count.saturating_add(1).saturating_add(taken);
                 let refusal = Answer::Refusal(kind, 1, column);
-                let refused = both_agree(rt.alloc(), text.as_str(), refusal);
+                let refused = both_agree(alloc, text.as_str(), refusal);
                 assert!(rt; refused, "{count} {unit} {end}");
             }
         }

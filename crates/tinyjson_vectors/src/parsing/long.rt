@@ -1,10 +1,11 @@
-//! Long texts.
+//! Long numbers, and runs of surrogates.
 
-use super::{Answer, both_agree, is_read_so};
+use super::is_read_so;
 use crate::common::is_refusal;
 use std::alloc::{AllocError, Global};
+use std::string::ToString;
 use std::test::Fail;
-use tinyjson::{JsonParseErrorKind as Kind, JsonParser};
+use tinyjson::{JsonNumber, JsonParseErrorKind as Kind, JsonParser};
 
 /// A text that has `unit` many times between `head` and `tail`.
 type Repeated = (&'static str, &'static str, usize, &'static str);
@@ -16,31 +17,6 @@ fn written(alloc: Global, (head, unit, count, tail): Repeated) -> Result<String,
     }
     text.push_str(tail)?;
     Ok(text)
-}
-
-/// Texts that are refused, and the column.
-const REFUSED: &[(Repeated, Kind, usize)] = &[
-    (("", "[", 100_000, ""), Kind::UnexpectedEof, 100_000),
-    (
-        ("", "[", 100_000, "x"),
-        Kind::InvalidCharacter('x'),
-        100_000,
-    ),
-    (("", "{", 100_000, ""), Kind::UnexpectedEof, 100_000),
-    (("", "{\"a\":", 20_000, ""), Kind::UnexpectedEof, 100_000),
-];
-
-#[test]
-fn deep_texts_are_refused(rt: HostRuntime) -> Result<(), Fail> {
-    for &(text, kind, column) in REFUSED {
-        let text = written(rt.alloc(), text)?;
-        let refusal = Answer::Refusal(kind, 1, column);
-        assert!(rt;
-            both_agree(rt.alloc(), text.as_str(), refusal),
-            "{kind:?} at {column}"
-        );
-    }
-    Ok(())
 }
 
 /// Numbers and their compact texts.
@@ -59,15 +35,9 @@ fn long_numbers_are_written(rt: HostRuntime) -> Result<(), Fail> {
         let compact = written(rt.alloc(), compact)?;
         assert!(rt; is_read_so(rt.alloc(), text.as_str(), compact.as_str()));
         assert!(rt; is_read_so(rt.alloc(), compact.as_str(), compact.as_str()));
+        let number = JsonNumber::from_text(rt.alloc(), text.as_str())?;
+        assert_eq!(rt; number.to_string(rt.alloc())?.as_str(), compact.as_str());
     }
-    Ok(())
-}
-
-#[test]
-fn a_thousand_arrays(rt: HostRuntime) -> Result<(), Fail> {
-    let mut text = written(rt.alloc(), ("", "[", 1000, ""))?;
-    text.push_str(written(rt.alloc(), ("", "]", 1000, ""))?.as_str())?;
-    assert!(rt; is_read_so(rt.alloc(), text.as_str(), text.as_str()));
     Ok(())
 }
 

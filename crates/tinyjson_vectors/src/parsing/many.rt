@@ -2,79 +2,44 @@
 //! what is refused after the last. A text in memory and its characters are read.
 
 use super::{Answer, both_agree};
-use crate::common::{is_value, parsed, put, whole};
-use std::alloc::{AllocError, Global};
-use std::collections::HashMap;
+use crate::common::is_text;
+use crate::growth::containers::{Pieces, joined};
+use crate::growth::is_read;
+use std::alloc::Global;
 use std::test::Fail;
 use tinyjson::{JsonKind, JsonParseErrorKind as Kind, JsonValue};
 
 const COUNTS: [usize; 5] = [63, 64, 65, 128, 1_000];
 
-/// An open object with the members "0": 0, "1": 1 and so on.
-fn members(alloc: Global, count: usize) -> Result<String, AllocError> {
-    let mut text = String::from_str(alloc, "{")?;
-    for i in 0..count {
-        let comma = if i == 0 { "" } else { "," };
-        text.push_str(format!(in alloc; "{comma}\"{i}\":{i}")?.as_str())?;
-    }
-    Ok(text)
-}
+/// Open objects and arrays.
+const MEMBERS: Pieces = ["{", "\"#\":#", ",", ""];
 
-/// The same with one of these keys again.
-fn members_and_again(alloc: Global, count: usize, again: usize) -> Result<String, Fail> {
-    let members = members(alloc, count)?;
-    Ok(format!(in alloc; "{members},\"{again}\":5000}}")?)
-}
+const ITEMS: Pieces = ["[", "#", ",", ""];
 
-fn put_number(
-    alloc: Global,
-    members: &mut HashMap<String, JsonValue>,
-    key: usize,
-    number: usize,
-) -> Result<(), Fail> {
-    let key = key.to_string(alloc)?;
-    Ok(put(members, key, whole(alloc, number as u64)?)?)
-}
-
-/// The object that `members_and_again` spells.
-fn object(alloc: Global, count: usize, again: usize) -> Result<JsonValue, Fail> {
-    let mut members = HashMap::new(alloc);
-    for i in 0..count {
-        put_number(alloc, &mut members, i, i)?;
-    }
-    put_number(alloc, &mut members, again, 5000)?;
-    Ok(JsonValue::from(members))
-}
-
-/// Whether a text and its characters both spell this value.
-fn both_spell(alloc: Global, text: &str, value: &JsonValue) -> bool {
-    is_value(JsonValue::from_str(alloc, text), value) && is_value(parsed(alloc, text), value)
+/// Whether one of so many members, which has its key again at the end, has the value that it has there.
+fn is_last_kept(alloc: Global, count: usize, again: usize) -> Result<bool, Fail> {
+    let again = again.saturating_add(1_000_001);
+    let members = joined(alloc, MEMBERS, count, false)?;
+    let text = format!(in alloc; "{members},\"{again}\":5000}}")?;
+    let first = format!(in alloc; "\"{again}\":{again}")?;
+    let last = format!(in alloc; "\"{again}\":5000")?;
+    let members = members.replace(alloc, first.as_str(), last.as_str())?;
+    let expected = format!(in alloc; "{members}}}")?;
+    let value = JsonValue::from_str(alloc, expected.as_str())?;
+    Ok(is_read(alloc, text.as_str(), &value) && is_text(value.stringify(alloc), expected.as_str()))
 }
 
 #[test]
 fn the_last_of_equal_keys_stays(rt: HostRuntime) -> Result<(), Fail> {
-    let alloc = rt.alloc();
     for count in COUNTS {
         for again in [0, 1, 62, count / 2, count - 1] {
-            let text = members_and_again(alloc, count, again)?;
-            let value = object(alloc, count, again)?;
             assert!(rt;
-                both_spell(alloc, text.as_str(), &value),
+                is_last_kept(rt.alloc(), count, again)?,
                 "{again} of {count}"
             );
         }
     }
     Ok(())
-}
-
-/// An open array with the items 0, 1 and so on.
-fn items(alloc: Global, count: usize) -> Result<String, AllocError> {
-    let mut text = String::from_str(alloc, "[")?;
-    for i in 0..count {
-        let comma = if i == 0 { "" } else { "," };
-        text.push_str(format!(in alloc; "{comma}{i}")?.as_str())?;
-    }
-    Ok(text)
 }
 
 /// What stands after the last member, the kind of the error, and how many characters of it are consumed.
@@ -112,16 +77,10 @@ fn all_refused(alloc: Global, text: &str, after: &[(&str, Kind, usize)]) -> Resu
 fn what_follows_many_is_refused(rt: HostRuntime) -> Result<(), Fail> {
     let alloc = rt.alloc();
     for count in COUNTS {
-        let members = members(alloc, count)?;
-        assert!(rt;
-            all_refused(alloc, members.as_str(), AFTER_MEMBERS)?,
-            "{count} members"
-        );
-        let items = items(alloc, count)?;
-        assert!(rt;
-            all_refused(alloc, items.as_str(), AFTER_ITEMS)?,
-            "{count} items"
-        );
+        for (pieces, after) in [(MEMBERS, AFTER_MEMBERS), (ITEMS, AFTER_ITEMS)] {
+            let text = joined(alloc, pieces, count, false)?;
+            assert!(rt; all_refused(alloc, text.as_str(), after)?, "{count}");
+        }
     }
     Ok(())
 }

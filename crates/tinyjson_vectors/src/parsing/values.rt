@@ -14,6 +14,8 @@ pub(super) const ROWS: &[(&str, &str)] = &[
     ("[1]", "[1]"),
     ("[true,null]", "[true,null]"),
     ("[1, 2, 3]", "[1,2,3]"),
+    ("[\n  1,\n  2,\n  3\n]", "[1,2,3]"),
+    ("[\n        1,\n        2,\n        3\n]", "[1,2,3]"),
     (" [ 1 , 2 ] ", "[1,2]"),
     ("\r[\r1\r,\r2\r]\r", "[1,2]"),
     ("\t{\t\"a\"\t:\t[\n]\t}\n", r#"{"a":[]}"#),
@@ -54,6 +56,10 @@ pub(super) const ROWS: &[(&str, &str)] = &[
     (r#""\ud83d\ude00""#, "\"\u{1f600}\""),
     (r#""\u2764""#, "\"\u{2764}\""),
     (r#""\/\u000B""#, r#""/\u000b""#),
+    (
+        "\"\\b\\u000b\u{7f}/\\\"\\\\\"",
+        "\"\\b\\u000b\u{7f}/\\\"\\\\\"",
+    ),
     // Objects.
     (r#"{"a":1,"a":2}"#, r#"{"a":2}"#),
     (r#"{"\u0061":1,"a":2}"#, r#"{"a":2}"#),
@@ -61,6 +67,10 @@ pub(super) const ROWS: &[(&str, &str)] = &[
     (r#"{"b":1,"a":2}"#, r#"{"a":2,"b":1}"#),
     (r#" {"a":2.0 , "b":10e-1}"#, r#"{"a":2,"b":1}"#),
     (r#"{"b":[1],"a":null}"#, r#"{"a":null,"b":[1]}"#),
+    (
+        r#"[1,{"a":[null,"x"],"b":2}]"#,
+        r#"[1,{"a":[null,"x"],"b":2}]"#,
+    ),
     (
         r#"{"\ud83d\ude00":1,"\uff5e":2}"#,
         "{\"\u{ff5e}\":2,\"\u{1f600}\":1}",
@@ -103,8 +113,17 @@ fn each_value_is_written(rt: HostRuntime) -> Result<(), Fail> {
     Ok(())
 }
 
+/// Two texts, and whether they spell equal values: the order of members does not count.
+const PAIRS: &[(&str, &str, bool)] = &[
+    (r#"{"a":null,"b":true}"#, r#"{"b":true,"a":null}"#, true),
+    (r#"{"a":null,"b":true}"#, r#"{"b":null,"a":true}"#, false),
+    ("[1]", r#"["1"]"#, false),
+];
+
 #[test]
-fn a_number_is_no_string(rt: HostRuntime) -> Result<(), Fail> {
-    assert!(rt; !are_equal(rt.alloc(), "[1]", r#"["1"]"#)?);
+fn values_are_compared(rt: HostRuntime) -> Result<(), Fail> {
+    for &(one, other, expected) in PAIRS {
+        assert_eq!(rt; are_equal(rt.alloc(), one, other)?, expected, "{other}");
+    }
     Ok(())
 }

@@ -1,6 +1,6 @@
 //! Writers that take few bytes a call, and writers that fail.
 
-use crate::common::{is_taken, number, pair, string, with_item};
+use crate::common::{is_taken, string};
 use crate::writers::{FailingWriter, Failure, MESSAGE};
 use std::alloc::Global;
 use std::io::{self, ErrorKind};
@@ -9,29 +9,14 @@ use std::string::ToString;
 use std::test::Fail;
 use tinyjson::{JsonGenerator, JsonValue};
 
-/// [null,"x"]
-fn inner(alloc: Global) -> Result<JsonValue, Fail> {
-    let items = with_item(Vec::new(alloc), JsonValue::Null)?;
-    Ok(JsonValue::Array(with_item(items, string(alloc, "x")?)?))
-}
-
-/// {"b":2,"a":[null,"x"]}
-fn falling_keys(alloc: Global) -> Result<JsonValue, Fail> {
-    let two = number(alloc, "2")?;
-    Ok(pair(alloc, ("b", two), ("a", inner(alloc)?))?)
-}
-
-/// [1,{"b":2,"a":[null,"x"]}]
-fn nested(alloc: Global) -> Result<JsonValue, Fail> {
-    let items = with_item(Vec::new(alloc), number(alloc, "1")?)?;
-    Ok(JsonValue::Array(with_item(items, falling_keys(alloc)?)?))
-}
+/// A text, and the compact text of its value.
+const FALLING: &str = "[1,{\"b\":2,\"a\":[null,\"x\"]}]";
 
 const NESTED: &str = "[1,{\"a\":[null,\"x\"],\"b\":2}]";
 
 #[test]
 fn writes_byte_by_byte(rt: HostRuntime) -> Result<(), Fail> {
-    let value = nested(rt.alloc())?;
+    let value = JsonValue::from_str(rt.alloc(), FALLING)?;
     let mut writer = FailingWriter::good(rt.alloc(), 1);
     let answer = value.write_to(rt.alloc(), &mut writer);
     assert!(rt; is_taken(answer, writer.bytes(), NESTED));
@@ -53,7 +38,7 @@ fn generate_three(alloc: Global, writer: &mut FailingWriter, value: &JsonValue) 
 
 #[test]
 fn flushes_nothing(rt: HostRuntime) -> Result<(), Fail> {
-    let value = nested(rt.alloc())?;
+    let value = JsonValue::from_str(rt.alloc(), FALLING)?;
     let mut writer = FailingWriter::good(rt.alloc(), 3);
     assert!(rt; value.format_to(rt.alloc(), &mut writer).is_ok());
     assert_eq!(rt; (writer.empty_calls(), writer.flushes()), (0, 0));
@@ -112,13 +97,6 @@ impl Call {
     }
 }
 
-/// The error where a writer takes nothing.
-const NOTHING_TAKEN: (Failure, ErrorKind, &str) = (
-    Failure::TakesNothing,
-    ErrorKind::WriteZero,
-    "the writer took no byte",
-);
-
 /// The errors of a writer, and where it takes nothing, with their kinds and words.
 const FAILURES: [(Failure, ErrorKind, &str); 4] = [
     (
@@ -132,7 +110,11 @@ const FAILURES: [(Failure, ErrorKind, &str); 4] = [
         MESSAGE,
     ),
     (Failure::Error(ErrorKind::Other), ErrorKind::Other, MESSAGE),
-    NOTHING_TAKEN,
+    (
+        Failure::TakesNothing,
+        ErrorKind::WriteZero,
+        "the writer took no byte",
+    ),
 ];
 
 /// What is wrong where a writer that takes `chunk` bytes a call fails after `capacity` bytes of the text.
@@ -179,7 +161,7 @@ fn check_failures(
 
 #[test]
 fn ends_with_the_first_error(rt: HostRuntime) -> Result<(), Fail> {
-    let value = nested(rt.alloc())?;
+    let value = JsonValue::from_str(rt.alloc(), FALLING)?;
     for call in CALLS {
         check_failures(&rt, rt.alloc(), &value, call, (1, 1));
     }
@@ -189,16 +171,7 @@ fn ends_with_the_first_error(rt: HostRuntime) -> Result<(), Fail> {
 /// The lengths of strings of which some are written at once, and some are gathered first.
 const LENGTHS: [usize; 6] = [1_500, 1_500, 2_500, 5_000, 0, 4_000];
 
-/// A string of so many characters for each of the lengths.
-fn long(alloc: Global) -> Result<JsonValue, Fail> {
-    let mut items = Vec::new(alloc);
-    for length in LENGTHS {
-        items.push(string(alloc, "x".repeat(alloc, length)?.as_str())?)?;
-    }
-    Ok(JsonValue::Array(items))
-}
-
-/// The text of that array, with this before, between and after its items.
+/// The text of an array of strings of these lengths, with this before, between and after its items.
 fn long_text(alloc: Global, [open, between, close]: [&str; 3]) -> Result<String, Fail> {
     let mut text = String::from_str(alloc, open)?;
     for (place, length) in LENGTHS.into_iter().enumerate() {
@@ -221,7 +194,8 @@ const ARRAYS: [(Call, [&str; 3]); 4] = [
 #[test]
 fn ends_with_the_first_error_of_a_long_text(rt: HostRuntime) -> Result<(), Fail> {
     let alloc = rt.alloc();
-    let value = long(alloc)?;
+    let compact = long_text(alloc, ["[", ",", "]"])?;
+    let value = JsonValue::from_str(alloc, compact.as_str())?;
     for (call, brackets) in ARRAYS {
         let text = long_text(alloc, brackets)?;
         check_failures(&rt, alloc, &value, (call, text.as_str()), (1_000, 499));
@@ -232,15 +206,9 @@ fn ends_with_the_first_error_of_a_long_text(rt: HostRuntime) -> Result<(), Fail>
     Ok(())
 }
 
-/// [true,null]
-fn two_items(alloc: Global) -> Result<JsonValue, Fail> {
-    let items = with_item(Vec::new(alloc), JsonValue::Boolean(true))?;
-    Ok(JsonValue::Array(with_item(items, JsonValue::Null)?))
-}
-
 #[test]
 fn writes_again_after_an_error(rt: HostRuntime) -> Result<(), Fail> {
-    let value = two_items(rt.alloc())?;
+    let value = JsonValue::from_str(rt.alloc(), "[true,null]")?;
     let failure = Failure::Error(ErrorKind::BrokenPipe);
     let mut writer = FailingWriter::failing(rt.alloc(), usize::MAX, 3, failure);
     let mut generator = JsonGenerator::new(rt.alloc(), &mut writer);
@@ -248,19 +216,5 @@ fn writes_again_after_an_error(rt: HostRuntime) -> Result<(), Fail> {
     assert!(rt; is_error(rt.alloc(), answer, ErrorKind::BrokenPipe, MESSAGE));
     let answer = generator.generate(&value);
     assert!(rt; is_taken(answer, writer.bytes(), "[tr[true,null]"));
-    Ok(())
-}
-
-#[test]
-fn writes_two_items_byte_by_byte(rt: HostRuntime) -> Result<(), Fail> {
-    let alloc = rt.alloc();
-    let value = two_items(alloc)?;
-    let mut writer = FailingWriter::good(alloc, 1);
-    let answer = value.write_to(alloc, &mut writer);
-    assert!(rt; is_taken(answer, writer.bytes(), "[true,null]"));
-    let (failure, kind, message) = NOTHING_TAKEN;
-    let mut writer = FailingWriter::failing(alloc, 1, 0, failure);
-    let answer = value.write_to(alloc, &mut writer);
-    assert!(rt; is_error(alloc, answer, kind, message));
     Ok(())
 }
