@@ -32,7 +32,11 @@ merge_begins start now es rest same h d = record { left = rest_begins es rest h 
 pub merge_next : (start now next : Members) (es rest more : List Entry) (e : Entry) → AreMerged start now es rest → rest ≡ e ∷ more
     → IsChanged now next (text e.0) (view e.1) → AreMerged start next es more
 merge_next start now next es rest more e r split h =
-    record { left = rest_next es rest more e r.left split; merged = λ q. h q ∙ (by q (bytes_eq q k) refl ∙ sym (ap (merged_at (find q start)) (last q))) }
+    record {
+      left = rest_next es rest more e r.left split;
+      merged = λ q. h q
+          ∙ (by q (bytes_eq q k) refl ∙ sym (ap (merged_at (find q start)) (last q)));
+    }
   where
     k : List ℕ
     k = text e.0

@@ -19,7 +19,8 @@ nothing_there None h = refl
 nothing_there (Some v) h = cc
 
 -- a map without the key is an object without a port
-pub no_port_there : (v : JsonValue) (m : JsonMap) → object_part v ≡ Some m → is_some (get_by_text m (codes "port")) ≡ false → tree_at_key (view v) (codes "port") ≡ None
+pub no_port_there : (v : JsonValue) (m : JsonMap) → object_part v ≡ Some m → is_some (get_by_text m (codes "port")) ≡ false
+    → tree_at_key (view v) (codes "port") ≡ None
 no_port_there v m held h = sym (member_is v m (codes "port") held refl (get_by_text m (codes "port")) refl) ∙ nothing_there _ h
 
 -- which has no settings
@@ -31,7 +32,8 @@ module _ (v part : JsonValue) where
   pub was_there : tree_at_key (view v) (chars (codes "port")) ≡ Some (view part) → tree_at_key (view v) (codes "port") ≡ Some (view part)
   was_there h = ap (tree_at_key (view v)) (sym (chars_literal (codes "port") refl)) ∙ h
 
-  pub port_is_put : (w : JsonValue) (x : JsonNumber) (n : ℕ) → view w ≡ with_tree_at_key (view v) (chars (codes "port")) (view part) → part ≡ made.Number x → x.decimal ≡ integer_decimal (pos n)
+  pub port_is_put : (w : JsonValue) (x : JsonNumber) (n : ℕ) → view w ≡ with_tree_at_key (view v) (chars (codes "port")) (view part)
+      → part ≡ made.Number x → x.decimal ≡ integer_decimal (pos n)
       → view w ≡ with_port (view v) n
   port_is_put w x n h is whole =
       h
@@ -50,4 +52,5 @@ keeps_members ms n fits s (o, p, h, l) low = (
 pub keeps : (t : Tree) (n : ℕ) → n < 65536 → KeepsSettings t n (with_port t n)
 keeps t n fits s has low =
     let o = has.0 in
-    subst (λ x. HasSettings (with_port x n) (record { port = n; host = s.host; tls = s.tls })) (sym o.1) (keeps_members o.0 n fits s (subst (λ x. HasSettings x s) o.1 has) low)
+    subst (λ x. HasSettings (with_port x n) (record { port = n; host = s.host; tls = s.tls })) (sym o.1)
+    (keeps_members o.0 n fits s (subst (λ x. HasSettings x s) o.1 has) low)

@@ -14,7 +14,8 @@ use Rattle.json_settings.specs.Servers.{KeepsOthers}
 -- an array has an item at each index below its length, and no other
 module _ (v : JsonValue) (l : Vec JsonValue Global) (i : ℕ) (held : array_part v ≡ Some l) where
   pub has_item : i < length l.items → IsSome (item_at v i)
-  has_item below = subst (λ o. IsSome (option_and_then (λ x. slice_get x.items i) o)) (sym held) (grind (arith, common_steps, slice_get_cases l.items i))
+  has_item below = subst (λ o. IsSome (option_and_then (λ x. slice_get x.items i) o)) (sym held)
+      (grind (arith, common_steps, slice_get_cases l.items i))
 
   pub past_the_end : length l.items ≤ i → tree_at (view v) i ≡ None
   past_the_end past =

@@ -14,7 +14,8 @@ pick true k o = refl
 pick false k o = refl
 
 -- the count k was set at the key of v
-pub counted : {S : Type 0} (m n : HashMap (String Global) ℕ S) (key : String Global) (v w : JsonValue) (k : ℕ) → string_bytes key ≡ key_of v → Updates string_eq m n key (Some k)
+pub counted : {S : Type 0} (m n : HashMap (String Global) ℕ S) (key : String Global) (v w : JsonValue) (k : ℕ) → string_bytes key ≡ key_of v
+    → Updates string_eq m n key (Some k)
     → unwrap_or (get_by_text n (key_of w)) 0 ≡ cond (same_tree v w) k (unwrap_or (get_by_text m (key_of w)) 0)
 counted m n key v w k is upd =
     ap (λ o. unwrap_or o 0) (hash_map_updates_text (string_bytes key) m n (Some k) upd (key_of w))

@@ -4,17 +4,22 @@ pub use Rattle.std.proofs.lemmas.Str.{scalars-chars, IsUtf8-string_bytes}
 pub use Rattle.tinyjson.proofs.Reading.Parse.{all_are_scalars, parses_text}
 pub use Rattle.tinyjson.proofs.Values.Entries.{same_text, text_eq}
 pub use Rattle.tinyjson.proofs.Values.Depths.{item_less_deep, member_less_deep, item_count_view, nth_past}
-pub use Rattle.tinyjson.proofs.Values.Loops.{members_view_IsSorted, find_done, find_more, IsRest, rest_begins, rest_next, rest_distinct, rest_ends}
+pub use Rattle.tinyjson.proofs.Values.Loops.{members_view_IsSorted, find_done, find_more, IsRest, rest_begins, rest_next, rest_distinct}
+pub use Rattle.tinyjson.proofs.Values.Loops.{rest_ends}
 pub use Rattle.tinyjson.specs.Access.Laws.{put_of_array, put_of_object}
 pub use Rattle.tinyjson.proofs.Values.Index.{items_view_set, tree_with_item, tree_with_member}
 pub use Rattle.tinyjson_grammar.proofs.Callers.{find_below, find_put, find_remove, key_same, sorted_put, sorted_remove, members_from_find}
 pub use Rattle.tinyjson.proofs.Writing.Scalars.{encoded_chars, encoded_utf8, text_of_scalars}
 pub use Rattle.tinyjson.proofs.Values.Trees.{view_IsTree, text_scalars}
-pub use Rattle.tinyjson.proofs.Values.View.{view_Null, view_Boolean, view_Number, view_String, view_Array, view_Object, Entry, find_members_view, members_view_last, view_ref}
+pub use Rattle.tinyjson.proofs.Values.View.{view_Null, view_Boolean, view_Number, view_String, view_Array, view_Object, Entry}
+pub use Rattle.tinyjson.proofs.Values.View.{find_members_view, members_view_last, view_ref}
 pub use Rattle.tinyjson.proofs.Values.WholeNumbers.{integers_differ, naturals_differ}
 pub use Rattle.tinyjson_tokens.proofs.Callers.{text_push}
-pub use Rattle.tinyjson_output.proofs.Callers.{Appends-trans, Appends_nothing, Appends_keeps, written_none, written_all, begins, goes, ends, written_take, written_same, written_then, stop, stops, stops_then, fails}
-use Rattle.std.proofs.Common.{◌≡◌, ◌≢◌, ℕ, zero, suc, Bool, true, false, ◌&&◌, cond, bytes_eq, nat_lt, List, [], ◌∷◌, ◌++◌, Option, Some, None, option_map, unwrap_or, is_some, Ok, Err, String, string_bytes, Vec, Global, refl, sym, ap, ◌∙◌, subst, rules, arith, append-nil}
+pub use Rattle.tinyjson_output.proofs.Callers.{Appends-trans, Appends_nothing, Appends_keeps, written_none, written_all, begins, goes, ends}
+pub use Rattle.tinyjson_output.proofs.Callers.{written_take, written_same, written_then, stop, stops, stops_then, fails}
+use Rattle.std.proofs.Common.{◌≡◌, ◌≢◌, ℕ, zero, suc, Bool, true, false, ◌&&◌, cond, bytes_eq, nat_lt, List, [], ◌∷◌, ◌++◌, Option, Some}
+use Rattle.std.proofs.Common.{None, option_map, unwrap_or, is_some, Ok, Err, String, string_bytes, Vec, Global, refl, sym, ap, ◌∙◌, subst}
+use Rattle.std.proofs.Common.{rules, arith, append-nil}
 use Rattle.std.proofs.lemmas.Bool.{and_parts}
 use Rattle.std.proofs.lemmas.Bool.Decides.{nat_tests, same_from_decides}
 use Rattle.std.proofs.lemmas.Slice.Eq.{bytes_eq-Decides}
@@ -28,7 +33,9 @@ use Rattle.std.specs.Str.{IsAscii, IsUtf8, chars, encode_utf8_all}
 use Rattle.std.specs.String.{string_eq, string_eq_equiv}
 use Rattle.tinyjson.proofs.Values.Entries.{find_members_of}
 use Rattle.tinyjson.proofs.Values.View.{view_lookup, members_view_updates, members_view_removes, members_view_writes}
-use Rattle.tinyjson.specs.Access.{JsonMap, number_in, boolean_in, string_in, null_in, array_in, object_in, number_part, boolean_part, string_part, null_part, array_part, object_part, is_null, is_boolean, is_number, is_string, is_array, is_object}
+use Rattle.tinyjson.specs.Access.{JsonMap, number_in, boolean_in, string_in, null_in, array_in, object_in, number_part, boolean_part}
+use Rattle.tinyjson.specs.Access.{string_part, null_part, array_part, object_part, is_null, is_boolean, is_number, is_string, is_array}
+use Rattle.tinyjson.specs.Access.{is_object}
 use Rattle.tinyjson_grammar.proofs.Callers.{compact_text, one_compact}
 use Rattle.tinyjson.specs.Equality.{same_tree, tree_eq_Decides}
 use Rattle.tinyjson.specs.Error.{error_kind}
@@ -37,7 +44,8 @@ use Rattle.tinyjson.specs.Index.{item_at, member_at, nth, tree_at, tree_at_key, 
 use Rattle.tinyjson.specs.Parser.{ParsesText}
 use Rattle.tinyjson_grammar.specs.Soundness.{IsTree, IsSorted}
 use Rattle.tinyjson_grammar.specs.Text.{compact}
-use Rattle.tinyjson_grammar.specs.Tree.{Tree, null, boolean, number, string, array, object, Items, no_items, item, Members, put, find, remove}
+use Rattle.tinyjson_grammar.specs.Tree.{Tree, null, boolean, number, string, array, object, Items, no_items, item, Members, put, find}
+use Rattle.tinyjson_grammar.specs.Tree.{remove}
 use Rattle.tinyjson.specs.View.{text, view, view_step, items_view, members_view, seen_entries}
 use Rattle.tinyjson_output.specs.Written.{Written}
 use Rattle.tinyjson.specs.declared.parser.error.JsonParseError.{JsonParseError}
@@ -122,11 +130,13 @@ string_held : (o : JsonValue-F JsonValue) (cs : List ℕ) → seen o ≡ string 
 string_held (JsonValue-F.String s) cs h = (s, refl, cc)
 string_held _ cs h = cc
 
-array_held : (o : JsonValue-F JsonValue) (ts : Items) → seen o ≡ array ts → (l : Vec JsonValue Global) × (array_in o ≡ Some l) × (items_view l.items ≡ ts)
+array_held : (o : JsonValue-F JsonValue) (ts : Items) → seen o ≡ array ts → (l : Vec JsonValue Global) × (array_in o ≡ Some l)
+    × (items_view l.items ≡ ts)
 array_held (JsonValue-F.Array l) ts h = (l, refl, cc)
 array_held _ ts h = cc
 
-object_held : (o : JsonValue-F JsonValue) (ms : Members) → seen o ≡ object ms → (m : JsonMap) × (object_in o ≡ Some m) × (members_view m.entries ≡ ms)
+object_held : (o : JsonValue-F JsonValue) (ms : Members) → seen o ≡ object ms → (m : JsonMap) × (object_in o ≡ Some m)
+    × (members_view m.entries ≡ ms)
 object_held (JsonValue-F.Object m) ms h = (m, refl, cc)
 object_held _ ms h = cc
 
@@ -147,11 +157,13 @@ pub string_from_tree : (v : JsonValue) (cs : List ℕ) → view v ≡ string cs 
 string_from_tree v cs h = string_held (out-JsonValue v) cs (sym (view_seen v) ∙ h)
 
 -- a value whose tree is an array
-pub array_from_tree : (v : JsonValue) (ts : Items) → view v ≡ array ts → (l : Vec JsonValue Global) × (array_part v ≡ Some l) × (items_view l.items ≡ ts)
+pub array_from_tree : (v : JsonValue) (ts : Items) → view v ≡ array ts → (l : Vec JsonValue Global) × (array_part v ≡ Some l)
+    × (items_view l.items ≡ ts)
 array_from_tree v ts h = array_held (out-JsonValue v) ts (sym (view_seen v) ∙ h)
 
 -- a value whose tree is an object
-pub object_from_tree : (v : JsonValue) (ms : Members) → view v ≡ object ms → (m : JsonMap) × (object_part v ≡ Some m) × (members_view m.entries ≡ ms)
+pub object_from_tree : (v : JsonValue) (ms : Members) → view v ≡ object ms → (m : JsonMap) × (object_part v ≡ Some m)
+    × (members_view m.entries ≡ ms)
 object_from_tree v ms h = object_held (out-JsonValue v) ms (sym (view_seen v) ∙ h)
 
 -- a value that is no object, or no array, has the tree of none
@@ -229,7 +241,8 @@ nth_items_view [] i = refl
 nth_items_view (v ∷ vs) zero = refl
 nth_items_view (v ∷ vs) (suc i) = nth_items_view vs i
 
-item_seen : (o : JsonValue-F JsonValue) (i : ℕ) → tree_at (seen o) i ≡ option_map view (option_and_then (λ l. slice_get l.items i) (array_in o))
+item_seen : (o : JsonValue-F JsonValue) (i : ℕ) → tree_at (seen o) i ≡ option_map view
+    (option_and_then (λ l. slice_get l.items i) (array_in o))
 item_seen (JsonValue-F.Array l) i = nth_items_view l.items i
 item_seen _ i = refl
 
@@ -237,7 +250,8 @@ item_seen _ i = refl
 pub tree_at_view : (v : JsonValue) (i : ℕ) → tree_at (view v) i ≡ option_map view (item_at v i)
 tree_at_view v i = ap (λ t. tree_at t i) (view_seen v) ∙ item_seen (out-JsonValue v) i
 
-member_seen : (o : JsonValue-F JsonValue) (bs : List ℕ) → IsUtf8 bs → tree_at_key (seen o) (chars bs) ≡ option_map view (option_and_then (λ m. get_by_text m bs) (object_in o))
+member_seen : (o : JsonValue-F JsonValue) (bs : List ℕ) → IsUtf8 bs → tree_at_key (seen o) (chars bs) ≡ option_map view
+    (option_and_then (λ m. get_by_text m bs) (object_in o))
 member_seen (JsonValue-F.Object m) bs u = find_members_view bs u m.entries
 member_seen _ bs u = refl
 
@@ -247,7 +261,8 @@ tree_at_key_view v bs u = ap (λ t. tree_at_key t (chars bs)) (view_seen v) ∙ 
 
 -- the same at a literal key, as `tree_at_literal v (codes "port") refl`
 pub tree_at_literal : (v : JsonValue) (bs : List ℕ) → are_ascii bs ≡ true → tree_at_key (view v) bs ≡ option_map view (member_at v bs)
-tree_at_literal v bs h = ap (tree_at_key (view v)) (sym (chars_literal bs h)) ∙ tree_at_key_view v bs (IsUtf8-from_ascii bs (IsAscii_literal bs h))
+tree_at_literal v bs h = ap (tree_at_key (view v)) (sym (chars_literal bs h))
+    ∙ tree_at_key_view v bs (IsUtf8-from_ascii bs (IsAscii_literal bs h))
 
 -- among the members of a map, by the bytes of a key
 pub find_get : (m : JsonMap) (bs : List ℕ) → IsUtf8 bs → find (chars bs) (members_view m.entries) ≡ option_map view (get_by_text m bs)
@@ -258,8 +273,10 @@ pub find_get_text : (m : JsonMap) (k : String Global) → find (text k) (members
 find_get_text m k = find_members_of k (seen_entries m.entries) ∙ view_lookup k m.entries
 
 -- at a literal key
-pub find_get_literal : (m : JsonMap) (bs : List ℕ) → are_ascii bs ≡ true → find bs (members_view m.entries) ≡ option_map view (get_by_text m bs)
-find_get_literal m bs h = ap (λ k. find k (members_view m.entries)) (sym (chars_literal bs h)) ∙ find_get m bs (IsUtf8-from_ascii bs (IsAscii_literal bs h))
+pub find_get_literal : (m : JsonMap) (bs : List ℕ) → are_ascii bs ≡ true
+    → find bs (members_view m.entries) ≡ option_map view (get_by_text m bs)
+find_get_literal m bs h = ap (λ k. find k (members_view m.entries)) (sym (chars_literal bs h))
+    ∙ find_get m bs (IsUtf8-from_ascii bs (IsAscii_literal bs h))
 
 -- a tree that is there is one of a value
 pub value_from_tree : (o : Option JsonValue) (t : Tree) → option_map view o ≡ Some t → (v : JsonValue) × (o ≡ Some v) × (view v ≡ t)
@@ -278,19 +295,23 @@ view_or_null None = view_Null
 
 -- ---- the entries of a map
 
-lookup_at : (done more : List Entry) (e : Entry) → IsDistinct string_eq (keys_of (done ++ e ∷ more)) → lookup (string_eq e.0) (done ++ e ∷ more) ≡ Some e.1
+lookup_at : (done more : List Entry) (e : Entry) → IsDistinct string_eq (keys_of (done ++ e ∷ more))
+    → lookup (string_eq e.0) (done ++ e ∷ more) ≡ Some e.1
 unfolding IsDistinct
 lookup_at [] more e h = ap (λ b. cond b (Some e.1) (lookup (string_eq e.0) more)) (string_eq_equiv.refl e.0)
-lookup_at (d ∷ done) more e h = ap (λ b. cond b (Some d.1) (lookup (string_eq e.0) (done ++ e ∷ more))) (string_eq_equiv.symm e.0 d.0 ∙ apart done h.0) ∙ lookup_at done more e h.1
+lookup_at (d ∷ done) more e h = ap (λ b. cond b (Some d.1) (lookup (string_eq e.0) (done ++ e ∷ more)))
+    (string_eq_equiv.symm e.0 d.0 ∙ apart done h.0) ∙ lookup_at done more e h.1
   where
     apart : (es : List Entry) → AllByRecursion (λ y. string_eq d.0 y ≡ false) (keys_of (es ++ e ∷ more)) → string_eq d.0 e.0 ≡ false
     apart [] a = a.0
     apart (x ∷ es) a = apart es a.1
 
 -- each entry is found at its key
-pub find_entry : (done more : List Entry) (e : Entry) → IsDistinct string_eq (keys_of (done ++ e ∷ more)) → find (text e.0) (members_view (done ++ e ∷ more)) ≡ Some (view e.1)
+pub find_entry : (done more : List Entry) (e : Entry) → IsDistinct string_eq (keys_of (done ++ e ∷ more))
+    → find (text e.0) (members_view (done ++ e ∷ more)) ≡ Some (view e.1)
 find_entry done more e h =
-    find_members_of e.0 (seen_entries (done ++ e ∷ more)) ∙ (view_lookup e.0 (done ++ e ∷ more) ∙ ap (λ o. option_map view o) (lookup_at done more e h))
+    find_members_of e.0 (seen_entries (done ++ e ∷ more)) ∙ (view_lookup e.0 (done ++ e ∷ more)
+    ∙ ap (λ o. option_map view o) (lookup_at done more e h))
 
 -- An entry with this key and this tree stands among the entries.
 pub record HasEntry (es : List Entry) (k : List ℕ) (t : Tree) : Type 0 where
@@ -304,29 +325,43 @@ pub record HasEntry (es : List Entry) (k : List ℕ) (t : Tree) : Type 0 where
 -- whatever is found is an entry
 pub entry_from_find : (es : List Entry) (k : List ℕ) (t : Tree) → find k (members_view es) ≡ Some t → HasEntry es k t
 entry_from_find [] k t h = cc
-entry_from_find (e ∷ es) k t h = by (bytes_eq k (text e.0)) refl (sym (find_put k (text e.0) (view e.1) (members_view es)) ∙ h) (entry_from_find es k t)
+entry_from_find (e ∷ es) k t h = by (bytes_eq k (text e.0)) refl (sym (find_put k (text e.0) (view e.1) (members_view es)) ∙ h)
+    (entry_from_find es k t)
   where
-    by : (b : Bool) → bytes_eq k (text e.0) ≡ b → cond b (Some (view e.1)) (find k (members_view es)) ≡ Some t → (find k (members_view es) ≡ Some t → HasEntry es k t) → HasEntry (e ∷ es) k t
+    by : (b : Bool) → bytes_eq k (text e.0) ≡ b → cond b (Some (view e.1)) (find k (members_view es)) ≡ Some t
+        → (find k (members_view es) ≡ Some t → HasEntry es k t) → HasEntry (e ∷ es) k t
     by true is g later = record { done = []; entry = e; more = es; split = refl; key = (bytes_eq-Decides k (text e.0)).0 is; tree = cc }
-    by false is g later = let r = later g in record { done = e ∷ r.done; entry = r.entry; more = r.more; split = ap (λ fs. e ∷ fs) r.split; key = r.key; tree = r.tree }
+    by false is g later = let r = later g in record {
+      done = e ∷ r.done;
+      entry = r.entry;
+      more = r.more;
+      split =
+          ap (λ fs. e ∷ fs) r.split;
+      key = r.key;
+      tree = r.tree;
+    }
 
 -- ---- after a change
 
 -- `insert` of a value at a key
-pub members_view_insert : (m n : JsonMap) (k : String Global) (v : JsonValue) → Updates string_eq m n k (Some v) → members_view n.entries ≡ put (text k) (view v) (members_view m.entries)
+pub members_view_insert : (m n : JsonMap) (k : String Global) (v : JsonValue) → Updates string_eq m n k (Some v)
+    → members_view n.entries ≡ put (text k) (view v) (members_view m.entries)
 members_view_insert m n k v h = members_view_updates m.entries n.entries k v h.0
 
 -- `remove` of a key
-pub members_view_remove : (m n : JsonMap) (bs : List ℕ) → IsUtf8 bs → UpdatesBy string_eq (λ k. bytes_eq bs (string_bytes k)) m n None → members_view n.entries ≡ remove (chars bs) (members_view m.entries)
+pub members_view_remove : (m n : JsonMap) (bs : List ℕ) → IsUtf8 bs → UpdatesBy string_eq (λ k. bytes_eq bs (string_bytes k)) m n None
+    → members_view n.entries ≡ remove (chars bs) (members_view m.entries)
 members_view_remove m n bs u h = members_view_removes m.entries n.entries bs u h.0
 
 -- a write through what `get_mut` of a map lent
-pub members_view_write : (m n : JsonMap) (bs : List ℕ) (w : JsonValue) → IsUtf8 bs → IsSome (get_by_text m bs) → UpdatesBy string_eq (λ k. bytes_eq bs (string_bytes k)) m n (Some w)
+pub members_view_write : (m n : JsonMap) (bs : List ℕ) (w : JsonValue) → IsUtf8 bs → IsSome (get_by_text m bs)
+    → UpdatesBy string_eq (λ k. bytes_eq bs (string_bytes k)) m n (Some w)
     → members_view n.entries ≡ put (chars bs) (view w) (members_view m.entries)
 members_view_write m n bs w u there h = members_view_writes m.entries n.entries bs w u there h.0
 
 -- the object that a value is, after a member was written through two calls of `get_mut`
-pub tree_write : (v : JsonValue) (m n : JsonMap) (bs : List ℕ) (w : JsonValue) → IsUtf8 bs → object_part v ≡ Some m → IsSome (get_by_text m bs) → UpdatesBy string_eq (λ k. bytes_eq bs (string_bytes k)) m n (Some w)
+pub tree_write : (v : JsonValue) (m n : JsonMap) (bs : List ℕ) (w : JsonValue) → IsUtf8 bs → object_part v ≡ Some m
+    → IsSome (get_by_text m bs) → UpdatesBy string_eq (λ k. bytes_eq bs (string_bytes k)) m n (Some w)
     → view (made.Object n) ≡ with_tree_at_key (view v) (chars bs) (view w)
 tree_write v m n bs w u held there h = tree_with_member v m n bs w u held there h.0
 
@@ -400,7 +435,8 @@ pub accepted_text : (limit : Option ℕ) (xs : List ℕ) (v : JsonValue) → Par
 accepted_text limit xs v p = p.answer.1
 
 -- a text that was refused, and not because memory ran out, is not accepted
-pub refused_text : (limit : Option ℕ) (xs : List ℕ) (e : JsonParseError) → ParsesText limit xs (Err e) → ¬ (error_kind e ≡ refusal.OutOfMemory) → ¬ IsAccepted limit xs
+pub refused_text : (limit : Option ℕ) (xs : List ℕ) (e : JsonParseError) → ParsesText limit xs (Err e)
+    → ¬ (error_kind e ≡ refusal.OutOfMemory) → ¬ IsAccepted limit xs
 refused_text limit xs e p n = p.refused n
 
 -- the compact text of a value is a text of its tree

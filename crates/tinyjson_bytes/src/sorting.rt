@@ -38,7 +38,7 @@ fn presort_many<T>(alloc: Global, members: &mut [(&str, &T)])
     place(&mut words, mask, members);
 }
 
-/// The words of so many members: their indices, for now.
+/// The words of so many members, at first their indices.
 fn indices(alloc: Global, count: usize) -> Result<Vec<u64>, AllocError>
     ensures { IfOk result (λ v. length v.items ≡ count) }
 {

@@ -8,7 +8,8 @@ use Rattle.tinyjson_number.proofs.Strips.{first_leading, first_trailing, last_tr
 use Rattle.tinyjson_number.proofs.DecimalTrip.{digits_join}
 use Rattle.tinyjson_number.proofs.Forms.{formed}
 
-canonical : (width : Width) (g : Bool) (s : List ℕ) (p : ℤ) → AreDigits s → get_or s 0 0 ≢ 48 → get_or s (length s - 1) 0 ≢ 48 → IsTrue (fits_in width (decimal_of g s p)) → IsDecimalAt width (decimal_of g s p)
+canonical : (width : Width) (g : Bool) (s : List ℕ) (p : ℤ) → AreDigits s → get_or s 0 0 ≢ 48 → get_or s (length s - 1) 0 ≢ 48
+    → IsTrue (fits_in width (decimal_of g s p)) → IsDecimalAt width (decimal_of g s p)
 canonical width g [] p d f l fits = refl
 canonical width g (c ∷ cs) p d f l fits = formed width g c cs p (record { digits = d; first = f; last = l; fits = fits })
 
@@ -16,5 +17,6 @@ pub value_canonical : (width : Width) (n : Numeral) → IsNumeral n → IsTrue (
 unfolding value
 value_canonical width n h fits =
     let ws = n.integer ++ n.fraction in
-    canonical width n.negative (significant ws) (power_of n) (digits_trailing _ (digits_leading ws (digits_join n.integer n.fraction h.integer h.fraction)))
+    canonical width n.negative (significant ws) (power_of n) (digits_trailing _
+    (digits_leading ws (digits_join n.integer n.fraction h.integer h.fraction)))
     (first_trailing (strip_leading ws) (first_leading ws)) (last_trailing (strip_leading ws)) fits

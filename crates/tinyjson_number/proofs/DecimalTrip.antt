@@ -1,5 +1,7 @@
 -- The text of a decimal spells a numeral with that value.
-use Rattle.std.proofs.Common.{◌≡◌, ◌≢◌, ℕ, zero, suc, ◌+◌, ◌-◌, ◌<◌, Bool, true, false, List, [], ◌∷◌, ◌++◌, length, get_or, take, drop, replicate, refl, sym, ap, ◌∙◌, arith, append-nil, length-append, IsTrue, ℤ, pos, negsuc, neg_ℤ, ◌+ℤ◌, ◌-ℤ◌, Option, Some, None}
+use Rattle.std.proofs.Common.{◌≡◌, ◌≢◌, ℕ, zero, suc, ◌+◌, ◌-◌, ◌<◌, Bool, true, false, List, [], ◌∷◌, ◌++◌, length, get_or, take, drop}
+use Rattle.std.proofs.Common.{replicate, refl, sym, ap, ◌∙◌, arith, append-nil, length-append, IsTrue, ℤ, pos, negsuc, neg_ℤ, ◌+ℤ◌, ◌-ℤ◌}
+use Rattle.std.proofs.Common.{Option, Some, None}
 use Rattle.std.specs.Prelude.{unsigned_abs, int_lt, int_le, ◌^◌, ◌&&◌}
 use mir.Val.{hbits}
 use Rattle.std.proofs.lemmas.Nat.{pow_pos}
@@ -10,10 +12,12 @@ use Rattle.std.proofs.lemmas.Bool.Decides.{nat_tests}
 use Rattle.std.proofs.lemmas.Int.{ints}
 use Rattle.std.proofs.lemmas.List.{get_or_append_left, length-replicate, take-append-drop, length-drop, length-take-le, get_or-take}
 use Rattle.tinyjson_number.specs.Decimal.{Decimal, strip_leading, strip_trailing, significant, trailing_zeros, decimal_of}
-use Rattle.tinyjson_number.specs.Numeral.{numeral, Numeral, Exponent, IsNumeral, IsExponent, AreDigits, minus_text, fraction_text, exponent_text, spelling, has_leading_zero, exponent_value, value, fits_in, power_fits}
+use Rattle.tinyjson_number.specs.Numeral.{numeral, Numeral, Exponent, IsNumeral, IsExponent, AreDigits, minus_text, fraction_text}
+use Rattle.tinyjson_number.specs.Numeral.{exponent_text, spelling, has_leading_zero, exponent_value, value, fits_in, power_fits}
 use Rattle.tinyjson_number.specs.Text.{natural_text, integer_text, plain_text, scientific_text, is_far, magnitude_text, decimal_text}
 use Rattle.tinyjson_number.specs.Canonical.{IsDecimalAt, is_canonical_at}
-use Rattle.tinyjson_number.proofs.Strips.{strip_leading_none, strip_trailing_append_none, strip_trailing_append_some, strip_zeros, strip_trailing_none}
+use Rattle.tinyjson_number.proofs.Strips.{strip_leading_none, strip_trailing_append_none, strip_trailing_append_some, strip_zeros}
+use Rattle.tinyjson_number.proofs.Strips.{strip_trailing_none}
 use Rattle.tinyjson_number.proofs.Naturals.{natural}
 use Rattle.tinyjson_number.proofs.Forms.{form, zero_form}
 
@@ -33,21 +37,33 @@ module _ (ds : List ℕ) (some : 0 < length ds) (first : get_or ds 0 0 ≢ 48) (
 
   padded : (a b : ℕ) → significant (replicate a 48 ++ (ds ++ replicate b 48)) ≡ ds
   padded a b =
-      ap strip_trailing (strip_leading_zeros a (ds ++ replicate b 48) ∙ strip_leading_none (ds ++ replicate b 48) (λ e. first (sym (get_or_append_left ds (replicate b 48) 0 0 some) ∙ e)))
+      ap strip_trailing (strip_leading_zeros a (ds ++ replicate b 48) ∙ strip_leading_none (ds ++ replicate b 48)
+      (λ e. first (sym (get_or_append_left ds (replicate b 48) 0 0 some) ∙ e)))
       ∙ kept b
 
   padding : (a b : ℕ) → trailing_zeros (replicate a 48 ++ (ds ++ replicate b 48)) ≡ b
   padding a b =
       let e : strip_trailing (replicate a 48 ++ (ds ++ replicate b 48)) ≡ replicate a 48 ++ ds =
-      strip_trailing_append_some (replicate a 48) (ds ++ replicate b 48) (omega (arith, ap length (kept b))) ∙ ap (λ t. replicate a 48 ++ t) (kept b) in
-      omega (arith, ap length e, length-append (replicate a 48) ds, length-append (replicate a 48) (ds ++ replicate b 48), length-append ds (replicate b 48), length-replicate {A = ℕ} b 48)
+      strip_trailing_append_some (replicate a 48) (ds ++ replicate b 48) (omega (arith, ap length (kept b)))
+      ∙ ap (λ t. replicate a 48 ++ t) (kept b) in
+      omega (
+        arith,
+        ap length e,
+        length-append (replicate a 48) ds,
+        length-append (replicate a 48) (ds ++ replicate b 48),
+        length-append ds
+            (replicate b 48),
+        length-replicate {A = ℕ} b 48,
+      )
 
-  valued : (g : Bool) (w f : List ℕ) (x : Option Exponent) (a b : ℕ) (p : ℤ) → w ++ f ≡ replicate a 48 ++ (ds ++ replicate b 48) → p ≡ (exponent_value x -ℤ pos (length f)) +ℤ pos b →
+  valued : (g : Bool) (w f : List ℕ) (x : Option Exponent) (a b : ℕ) (p : ℤ) → w ++ f ≡ replicate a 48 ++ (ds ++ replicate b 48)
+      → p ≡ (exponent_value x -ℤ pos (length f)) +ℤ pos b →
       value (numeral g w f x) ≡ record { negative = g; digits = ds; power = p }
   unfolding value
   valued g w f x a b p e ep =
       ap (λ z. decimal_of g (significant z) ((exponent_value x -ℤ pos (length f)) +ℤ pos (trailing_zeros z))) e
-      ∙ ap (λ z. decimal_of g z ((exponent_value x -ℤ pos (length f)) +ℤ pos (trailing_zeros (replicate a 48 ++ (ds ++ replicate b 48))))) (padded a b)
+      ∙ ap (λ z. decimal_of g z ((exponent_value x -ℤ pos (length f)) +ℤ pos (trailing_zeros (replicate a 48 ++ (ds ++ replicate b 48)))))
+      (padded a b)
       ∙ ap (λ z. decimal_of g ds ((exponent_value x -ℤ pos (length f)) +ℤ pos z)) (padding a b)
       ∙ ap (decimal_of g ds) (sym ep)
       ∙ decimal_of_some g ds p some
@@ -105,7 +121,8 @@ text_of_scientific : (z : ℤ) → exponent_text (Some (scientific_exponent z)) 
 text_of_scientific (pos n) = refl
 text_of_scientific (negsuc n) = refl
 
-module _ (g : Bool) (ds : List ℕ) (e : ℤ) (all : AreDigits ds) (some : 0 < length ds) (first : get_or ds 0 0 ≢ 48) (last : get_or ds (length ds - 1) 0 ≢ 48) where
+module _ (g : Bool) (ds : List ℕ) (e : ℤ) (all : AreDigits ds) (some : 0 < length ds) (first : get_or ds 0 0 ≢ 48)
+    (last : get_or ds (length ds - 1) 0 ≢ 48) where
   abbrev d : Decimal
   d = record { negative = g; digits = ds; power = e }
 
@@ -124,26 +141,42 @@ module _ (g : Bool) (ds : List ℕ) (e : ℤ) (all : AreDigits ds) (some : 0 < l
   spelled_far : SpellsDecimal d (minus_text g ++ scientific_text ds p)
   spelled_far = record {
     numeral = numeral g (take 1 ds) (drop 1 ds) (Some (scientific_exponent (p -ℤ pos 1)));
-    is = record { integer = digits_take 1 ds all; some_digit = omega (arith, short_take); fraction = digits_drop 1 ds all; exponent = scientific_is (p -ℤ pos 1) };
+    is = record {
+      integer = digits_take 1 ds all;
+      some_digit = omega (arith, short_take);
+      fraction = digits_drop 1 ds all;
+      exponent =
+          scientific_is (p -ℤ pos 1);
+    };
     plain = no_leading (take 1 ds) (first_take 1 (omega arith));
     value = valued ds some first last g (take 1 ds) (drop 1 ds) (Some (scientific_exponent (p -ℤ pos 1))) 0 0 e (integer_parts 1)
         (rw (scientific_value (p -ℤ pos 1)) (omega (arith, ints, length-drop 1 ds)));
     text = ap (λ z. minus_text g ++ (take 1 ds ++ (fraction_text (drop 1 ds) ++ z))) (text_of_scientific (p -ℤ pos 1));
   }
 
-  spelled_small : int_lt e (pos 0) ≡ true → int_lt p (pos 1) ≡ true → SpellsDecimal d (minus_text g ++ (48 ∷ 46 ∷ (replicate (unsigned_abs p) 48 ++ ds)))
+  spelled_small : int_lt e (pos 0) ≡ true → int_lt p (pos 1) ≡ true → SpellsDecimal d
+      (minus_text g ++ (48 ∷ 46 ∷ (replicate (unsigned_abs p) 48 ++ ds)))
   spelled_small low small =
-      let l : length (replicate (unsigned_abs p) 48 ++ ds) ≡ unsigned_abs p + length ds = omega (arith, length-append (replicate (unsigned_abs p) 48) ds, length-replicate {A = ℕ} (unsigned_abs p) 48) in
+      let l : length (replicate (unsigned_abs p) 48 ++ ds) ≡ unsigned_abs p + length ds =
+      omega (arith, length-append (replicate (unsigned_abs p) 48) ds, length-replicate {A = ℕ} (unsigned_abs p) 48) in
       record {
         numeral = numeral g (48 ∷ []) (replicate (unsigned_abs p) 48 ++ ds) None;
-        is = record { integer = (refl, tt); some_digit = omega arith; fraction = digits_join _ _ (digits_replicate (unsigned_abs p)) all; exponent = tt };
+        is = record {
+          integer = (refl, tt);
+          some_digit = omega arith;
+          fraction =
+              digits_join _ _ (digits_replicate (unsigned_abs p)) all;
+          exponent = tt;
+        };
         plain = refl;
-        value = valued ds some first last g (48 ∷ []) (replicate (unsigned_abs p) 48 ++ ds) None (suc (unsigned_abs p)) 0 e (ap (λ z. 48 ∷ (replicate (unsigned_abs p) 48 ++ z)) (sym (append-nil ds)))
+        value = valued ds some first last g (48 ∷ []) (replicate (unsigned_abs p) 48 ++ ds) None (suc (unsigned_abs p)) 0 e
+            (ap (λ z. 48 ∷ (replicate (unsigned_abs p) 48 ++ z)) (sym (append-nil ds)))
             (grind (arith, ints, l));
         text = ap (λ z. minus_text g ++ (48 ∷ z)) (append-nil _ ∙ fraction_some _ (omega (arith, l, some)));
       }
 
-  spelled_mid : int_lt e (pos 0) ≡ true → int_lt p (pos 1) ≡ false → SpellsDecimal d (minus_text g ++ (take (unsigned_abs p) ds ++ (46 ∷ drop (unsigned_abs p) ds)))
+  spelled_mid : int_lt e (pos 0) ≡ true → int_lt p (pos 1) ≡ false → SpellsDecimal d
+      (minus_text g ++ (take (unsigned_abs p) ds ++ (46 ∷ drop (unsigned_abs p) ds)))
   spelled_mid low big =
       let n : ℕ = unsigned_abs p in
       let is_pos : 0 < n = grind (arith, ints) in
@@ -151,7 +184,13 @@ module _ (g : Bool) (ds : List ℕ) (e : ℤ) (all : AreDigits ds) (some : 0 < l
       let split : e ≡ (pos 0 -ℤ pos (length ds - n)) +ℤ pos 0 = grind (arith, ints) in
       record {
         numeral = numeral g (take n ds) (drop n ds) None;
-        is = record { integer = digits_take n ds all; some_digit = omega (arith, length-take-le n ds (omega arith)); fraction = digits_drop n ds all; exponent = tt };
+        is = record {
+          integer = digits_take n ds all;
+          some_digit = omega (arith, length-take-le n ds (omega arith));
+          fraction =
+              digits_drop n ds all;
+          exponent = tt;
+        };
         plain = no_leading (take n ds) (first_take n is_pos);
         value = valued ds some first last g (take n ds) (drop n ds) None 0 0 e (integer_parts n) (rw (length-drop n ds) split);
         text = ap (λ z. minus_text g ++ (take n ds ++ z)) (append-nil _ ∙ fraction_some (drop n ds) (omega (arith, length-drop n ds)));
@@ -162,25 +201,34 @@ module _ (g : Bool) (ds : List ℕ) (e : ℤ) (all : AreDigits ds) (some : 0 < l
       let n : ℕ = unsigned_abs e in
       record {
         numeral = numeral g (ds ++ replicate n 48) [] None;
-        is = record { integer = digits_join ds _ all (digits_replicate n); some_digit = omega (arith, length-append ds (replicate n 48)); fraction = tt; exponent = tt };
+        is = record {
+          integer = digits_join ds _ all (digits_replicate n);
+          some_digit =
+              omega (arith, length-append ds (replicate n 48));
+          fraction = tt;
+          exponent = tt;
+        };
         plain = no_leading (ds ++ replicate n 48) (λ k. first (sym (get_or_append_left ds (replicate n 48) 0 0 some) ∙ k));
         value = valued ds some first last g (ds ++ replicate n 48) [] None 0 n e (append-nil _) (grind (arith, ints));
         text = ap (λ z. minus_text g ++ z) (append-nil _);
       }
 
   pub spelled_some : SpellsDecimal d (minus_text g ++ magnitude_text ds e p)
-  spelled_some = cond_both (is_far p) (scientific_text ds p) (plain_text ds e p) (λ z. SpellsDecimal d (minus_text g ++ z)) (λ far. spelled_far)
+  spelled_some = cond_both (is_far p) (scientific_text ds p) (plain_text ds e p) (λ z. SpellsDecimal d (minus_text g ++ z))
+      (λ far. spelled_far)
       (λ near. cond_both (int_lt e (pos 0)) _ _ (λ z. SpellsDecimal d (minus_text g ++ z))
       (λ low. cond_both (int_lt p (pos 1)) _ _ (λ z. SpellsDecimal d (minus_text g ++ z)) (spelled_small low) (spelled_mid low))
       spelled_whole)
 
 -- ---- any decimal
 
-no_digits : (g : Bool) (ds : List ℕ) (e : ℤ) → ds ≡ [] → (g ≡ false) × (e ≡ pos 0) → value (numeral false (48 ∷ []) [] None) ≡ record { negative = g; digits = ds; power = e }
+no_digits : (g : Bool) (ds : List ℕ) (e : ℤ) → ds ≡ [] → (g ≡ false) × (e ≡ pos 0)
+    → value (numeral false (48 ∷ []) [] None) ≡ record { negative = g; digits = ds; power = e }
 unfolding value
 no_digits g ds e h z = λ i. record { negative = sym z.0 i; digits = sym h i; power = sym z.1 i }
 
-spelled_digits : (width : Width) (g : Bool) (ds : List ℕ) (e : ℤ) → IsDecimalAt width (record { negative = g; digits = ds; power = e }) → SpellsDecimal (record { negative = g; digits = ds; power = e }) (decimal_text (record { negative = g; digits = ds; power = e }))
+spelled_digits : (width : Width) (g : Bool) (ds : List ℕ) (e : ℤ) → IsDecimalAt width (record { negative = g; digits = ds; power = e })
+    → SpellsDecimal (record { negative = g; digits = ds; power = e }) (decimal_text (record { negative = g; digits = ds; power = e }))
 unfolding decimal_text
 spelled_digits width g [] e h = record {
   numeral = numeral false (48 ∷ []) [] None;
@@ -189,7 +237,8 @@ spelled_digits width g [] e h = record {
   value = no_digits g [] e refl (zero_form width g e h);
   text = refl;
 }
-spelled_digits width g (c ∷ cs) e h = let f = form width g c cs e h in rw (eqb-suc-zero (length cs)) (spelled_some g (c ∷ cs) e f.digits (omega arith) f.first f.last)
+spelled_digits width g (c ∷ cs) e h = let f = form width g c cs e h in
+    rw (eqb-suc-zero (length cs)) (spelled_some g (c ∷ cs) e f.digits (omega arith) f.first f.last)
 
 pub decimal_spelled : (width : Width) (d : Decimal) → IsDecimalAt width d → SpellsDecimal d (decimal_text d)
 decimal_spelled width d h = spelled_digits width d.negative d.digits d.power h

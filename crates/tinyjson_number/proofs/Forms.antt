@@ -1,5 +1,6 @@
 -- What a canonical decimal is, in parts.
-use Rattle.std.proofs.Common.{◌≡◌, ◌≢◌, ℕ, ◌-◌, Bool, false, List, [], ◌∷◌, length, get_or, ℤ, pos, refl, sym, ◌∙◌, arith, IsTrue, not, ◌==◌}
+use Rattle.std.proofs.Common.{◌≡◌, ◌≢◌, ℕ, ◌-◌, Bool, false, List, [], ◌∷◌, length, get_or, ℤ, pos, refl, sym, ◌∙◌, arith, IsTrue, not}
+use Rattle.std.proofs.Common.{◌==◌}
 use Rattle.std.specs.Int.{Width}
 use Rattle.std.specs.Char.{is_ascii_digit}
 use Rattle.std.specs.Ordering.{int_eq}
@@ -46,9 +47,11 @@ form width g c cs p h =
     let f = and_parts (starts_without_zero (c ∷ cs)) (ends_without_zero (c ∷ cs)) d.1 in
     record { digits = digits_from (c ∷ cs) d.0; first = first_from c f.0; last = last_from c cs f.1; fits = k.0 }
 
-pub formed : (width : Width) (g : Bool) (c : ℕ) (cs : List ℕ) (p : ℤ) → HasForm width (c ∷ cs) p → IsTrue (is_canonical_at width g (c ∷ cs) p)
+pub formed : (width : Width) (g : Bool) (c : ℕ) (cs : List ℕ) (p : ℤ) → HasForm width (c ∷ cs) p
+    → IsTrue (is_canonical_at width g (c ∷ cs) p)
 formed width g c cs p h =
-    and_from (power_fits width p) _ h.fits (and_from (all_ascii_digits (c ∷ cs)) _ (from_digits (c ∷ cs) h.digits) (and_from (starts_without_zero (c ∷ cs)) (ends_without_zero (c ∷ cs)) (from_first c h.first) (from_last c cs h.last)))
+    and_from (power_fits width p) _ h.fits (and_from (all_ascii_digits (c ∷ cs)) _ (from_digits (c ∷ cs) h.digits)
+    (and_from (starts_without_zero (c ∷ cs)) (ends_without_zero (c ∷ cs)) (from_first c h.first) (from_last c cs h.last)))
 
 pub zero_form : (width : Width) (g : Bool) (p : ℤ) → IsTrue (is_canonical_at width g [] p) → (g ≡ false) × (p ≡ pos 0)
 zero_form width g p h = let k = and_parts (not g) (int_eq p (pos 0)) h in (not-true g k.0, (Decides-int_eq p (pos 0)).0 k.1)

@@ -9,7 +9,8 @@ use Rattle.tinyjson_number.specs.Decimal.{Decimal}
 use Rattle.tinyjson_number.specs.Text.{decimal_text}
 use Rattle.tinyjson_number.proofs.DecimalTrip.{decimal_spelled}
 use Rattle.tinyjson_number.specs.Number.{Canonical}
-use Rattle.tinyjson_number.specs.Numeral.{AreDigits, power_width, Numeral, Exponent, IsNumeral, IsExponent, minus_text, sign_text, fraction_text, exponent_text, spelling, is_sign}
+use Rattle.tinyjson_number.specs.Numeral.{AreDigits, power_width, Numeral, Exponent, IsNumeral, IsExponent, minus_text, sign_text}
+use Rattle.tinyjson_number.specs.Numeral.{fraction_text, exponent_text, spelling, is_sign}
 use Rattle.tinyjson_number.proofs.Forms.{digits_of_form}
 use Rattle.tinyjson_number.proofs.Runs.{digits_ascii}
 
@@ -40,7 +41,8 @@ sign_ascii (Some c) h = IsAscii-cons c [] (grind (arith, nat_tests)) IsAscii-nil
 exponent_ascii : (e : Option Exponent) → IfSome e IsExponent → IsAscii (exponent_text e)
 exponent_ascii None h = IsAscii-nil
 exponent_ascii (Some e) h =
-    IsAscii-cons e.letter _ (let l = h.letter in grind (arith, nat_tests)) (IsAscii-append (sign_text e.sign) e.digits (sign_ascii e.sign h.sign) (digits_ascii e.digits h.digits))
+    IsAscii-cons e.letter _ (let l = h.letter in grind (arith, nat_tests))
+    (IsAscii-append (sign_text e.sign) e.digits (sign_ascii e.sign h.sign) (digits_ascii e.digits h.digits))
 
 pub spelling_ascii : (n : Numeral) → IsNumeral n → IsAscii (spelling n)
 spelling_ascii n h =

@@ -1,5 +1,6 @@
 -- The digits of a number.
-use Rattle.std.proofs.Common.{◌≡◌, ℕ, zero, suc, ◌+◌, ◌/◌, ◌%◌, ◌<◌, ◌≤◌, Bool, true, false, List, [], ◌∷◌, ◌++◌, length, refl, sym, ap, ◌∙◌, arith, length-append, nat_lt, IsTrue, ◌*◌, ◌^◌, ℤ, pos, negsuc}
+use Rattle.std.proofs.Common.{◌≡◌, ℕ, zero, suc, ◌+◌, ◌/◌, ◌%◌, ◌<◌, ◌≤◌, Bool, true, false, List, [], ◌∷◌, ◌++◌, length, refl, sym, ap}
+use Rattle.std.proofs.Common.{◌∙◌, arith, length-append, nat_lt, IsTrue, ◌*◌, ◌^◌, ℤ, pos, negsuc}
 use Rattle.std.specs.Fmt.{decimal, signed_decimal}
 use Rattle.std.proofs.lemmas.Fmt.{decimal_digit, decimal_step_wide}
 use lib.Signed.{mag}
@@ -41,7 +42,8 @@ natural_more n ds h = record {
 natural_within : (b : Bool) (k n : ℕ) → nat_lt n 10 ≡ b → n ≤ k → IsNatural n (digits_within b k n)
 natural_within true k n e h = natural_one n (ltb-true n 10 e)
 natural_within false zero n e h = absurd (omega (arith, ltb-false n 10 e))
-natural_within false (suc k) n e h = natural_more n (digits_within (nat_lt (n / 10) 10) k (n / 10)) (natural_within (nat_lt (n / 10) 10) k (n / 10) refl (omega (arith, ltb-false n 10 e)))
+natural_within false (suc k) n e h = natural_more n (digits_within (nat_lt (n / 10) 10) k (n / 10))
+    (natural_within (nat_lt (n / 10) 10) k (n / 10) refl (omega (arith, ltb-false n 10 e)))
 
 pub natural : (n : ℕ) → IsNatural n (natural_text n)
 unfolding natural_text
@@ -52,7 +54,9 @@ natural n = natural_within (nat_lt n 10) n n refl (omega arith)
 within_decimal : (b : Bool) (k n : ℕ) → nat_lt n 10 ≡ b → n ≤ k → n < 10 ^ 64 → digits_within b k n ≡ decimal n
 within_decimal true k n e h s = sym (decimal_digit n (ltb-true n 10 e))
 within_decimal false zero n e h s = absurd (omega (arith, ltb-false n 10 e))
-within_decimal false (suc k) n e h s = ap (λ z. z ++ (48 + n % 10) ∷ []) (within_decimal (nat_lt (n / 10) 10) k (n / 10) refl (omega (arith, ltb-false n 10 e)) (omega arith)) ∙ sym (decimal_step_wide n (ltb-false n 10 e) s)
+within_decimal false (suc k) n e h s = ap (λ z. z ++ (48 + n % 10) ∷ [])
+    (within_decimal (nat_lt (n / 10) 10) k (n / 10) refl (omega (arith, ltb-false n 10 e)) (omega arith))
+    ∙ sym (decimal_step_wide n (ltb-false n 10 e) s)
 
 pub natural_decimal : (n : ℕ) → n < 10 ^ 64 → natural_text n ≡ decimal n
 unfolding natural_text

@@ -1,5 +1,7 @@
 -- The decimal of a numeral, from what the code keeps of it.
-use Rattle.std.proofs.Common.{◌≡◌, ◌≢◌, ℕ, ◌-◌, ◌<◌, ◌≤◌, ◌^◌, min, get_or, Bool, true, false, List, [], ◌∷◌, ◌++◌, length, ℤ, pos, negsuc, neg_ℤ, IsTrue, ◌&&◌, ◌==◌, cond, refl, sym, ap, ◌∙◌, subst, ⊎_elim, arith, Option, Some, None, inl, inr, ◌⊎◌, Result, Ok, Err}
+use Rattle.std.proofs.Common.{◌≡◌, ◌≢◌, ℕ, ◌-◌, ◌<◌, ◌≤◌, ◌^◌, min, get_or, Bool, true, false, List, [], ◌∷◌, ◌++◌, length, ℤ, pos, negsuc}
+use Rattle.std.proofs.Common.{neg_ℤ, IsTrue, ◌&&◌, ◌==◌, cond, refl, sym, ap, ◌∙◌, subst, ⊎_elim, arith, Option, Some, None, inl, inr, ◌⊎◌}
+use Rattle.std.proofs.Common.{Result, Ok, Err}
 use mir.Val.{to_z, of_z}
 use Rattle.std.specs.Prelude.{FitsSigned, int_le, int_lt, ◌+ℤ◌, ◌-ℤ◌}
 use Rattle.std.specs.Result.{IsErrAnd}
@@ -8,7 +10,8 @@ use Rattle.std.specs.Str.Parse.{digits_value}
 use Rattle.std.proofs.lemmas.Bool.{cases_lt}
 use Rattle.std.proofs.lemmas.Int.{ints}
 use Rattle.tinyjson_number.specs.Decimal.{Decimal, decimal_of, strip_leading, significant, trailing_zeros, zero_decimal}
-use Rattle.tinyjson_number.specs.Numeral.{Exponent, Numeral, AreDigits, signed, exponent_value, power_of, value, power_fits, power_width, in_range}
+use Rattle.tinyjson_number.specs.Numeral.{Exponent, Numeral, AreDigits, signed, exponent_value, power_of, value, power_fits, power_width}
+use Rattle.tinyjson_number.specs.Numeral.{in_range}
 use Rattle.tinyjson_number.specs.Canonical.{is_canonical}
 use Rattle.tinyjson_number.specs.NumberText.{Spells}
 use Rattle.tinyjson_number.specs.Number.{Canonical}
@@ -48,29 +51,39 @@ refuted false h = refl
 cap_cases : (v : ℕ) → (min v exponent_cap ≡ v) ⊎ ((min v exponent_cap ≡ exponent_cap) × (exponent_cap < v))
 cap_cases v = ⊎_elim (λ over. inr (omega arith, over)) (λ under. inl (omega arith)) (cases_lt exponent_cap v)
 
-same_plus : (v f t : ℕ) → f < 2 ^ 64 → t < 2 ^ 64 → FitsSigned w64 (shifted (pos (min v exponent_cap)) f t) ⊎ FitsSigned w64 (shifted (pos v) f t) → min v exponent_cap ≡ v
-same_plus v f t hf ht fits = ⊎_elim (λ same. same) (λ over. absurd (⊎_elim (λ h. omega (arith, ints, h)) (λ h. omega (arith, ints, h)) fits)) (cap_cases v)
+same_plus : (v f t : ℕ) → f < 2 ^ 64 → t < 2 ^ 64 → FitsSigned w64 (shifted (pos (min v exponent_cap)) f t) ⊎ FitsSigned w64
+    (shifted (pos v) f t) → min v exponent_cap ≡ v
+same_plus v f t hf ht fits = ⊎_elim (λ same. same) (λ over. absurd (⊎_elim (λ h. omega (arith, ints, h))
+    (λ h. omega (arith, ints, h)) fits)) (cap_cases v)
 
-same_minus : (v f t : ℕ) → f < 2 ^ 64 → t < 2 ^ 64 → FitsSigned w64 (shifted (neg_ℤ (pos (min v exponent_cap))) f t) ⊎ FitsSigned w64 (shifted (neg_ℤ (pos v)) f t) → min v exponent_cap ≡ v
-same_minus v f t hf ht fits = ⊎_elim (λ same. same) (λ over. absurd (⊎_elim (λ h. omega (arith, ints, h)) (λ h. omega (arith, ints, h)) fits)) (cap_cases v)
+same_minus : (v f t : ℕ) → f < 2 ^ 64 → t < 2 ^ 64 → FitsSigned w64 (shifted (neg_ℤ (pos (min v exponent_cap))) f t) ⊎ FitsSigned w64
+    (shifted (neg_ℤ (pos v)) f t) → min v exponent_cap ≡ v
+same_minus v f t hf ht fits = ⊎_elim (λ same. same) (λ over. absurd (⊎_elim (λ h. omega (arith, ints, h))
+    (λ h. omega (arith, ints, h)) fits)) (cap_cases v)
 
-sign_cases : (b : Bool) (v f t : ℕ) → f < 2 ^ 64 → t < 2 ^ 64 → FitsSigned w64 (shifted (cond b (neg_ℤ (pos (min v exponent_cap))) (pos (min v exponent_cap))) f t) ⊎ FitsSigned w64 (shifted (cond b (neg_ℤ (pos v)) (pos v)) f t) → cond b (neg_ℤ (pos (min v exponent_cap))) (pos (min v exponent_cap)) ≡ cond b (neg_ℤ (pos v)) (pos v)
+sign_cases : (b : Bool) (v f t : ℕ) → f < 2 ^ 64 → t < 2 ^ 64 → FitsSigned w64
+    (shifted (cond b (neg_ℤ (pos (min v exponent_cap))) (pos (min v exponent_cap))) f t) ⊎ FitsSigned w64
+    (shifted (cond b (neg_ℤ (pos v)) (pos v)) f t) → cond b (neg_ℤ (pos (min v exponent_cap))) (pos (min v exponent_cap)) ≡ cond b
+    (neg_ℤ (pos v)) (pos v)
 sign_cases true v f t hf ht fits = ap (λ n. neg_ℤ (pos n)) (same_minus v f t hf ht fits)
 sign_cases false v f t hf ht fits = ap pos (same_plus v f t hf ht fits)
 
-cap_signed : (s : Option ℕ) (v f t : ℕ) → f < 2 ^ 64 → t < 2 ^ 64 → FitsSigned w64 (shifted (signed s (min v exponent_cap)) f t) ⊎ FitsSigned w64 (shifted (signed s v) f t) → signed s (min v exponent_cap) ≡ signed s v
+cap_signed : (s : Option ℕ) (v f t : ℕ) → f < 2 ^ 64 → t < 2 ^ 64 → FitsSigned w64
+    (shifted (signed s (min v exponent_cap)) f t) ⊎ FitsSigned w64 (shifted (signed s v) f t) → signed s (min v exponent_cap) ≡ signed s v
 cap_signed None v f t hf ht fits = ap pos (same_plus v f t hf ht fits)
 cap_signed (Some c) v f t hf ht fits = sign_cases (c == 45) v f t hf ht fits
 
 -- where either power is in range, the cap changed nothing
-cap_harmless : (e : Option Exponent) (f t : ℕ) → f < 2 ^ 64 → t < 2 ^ 64 → FitsSigned w64 (shifted (capped e) f t) ⊎ FitsSigned w64 (shifted (exponent_value e) f t) → capped e ≡ exponent_value e
+cap_harmless : (e : Option Exponent) (f t : ℕ) → f < 2 ^ 64 → t < 2 ^ 64
+    → FitsSigned w64 (shifted (capped e) f t) ⊎ FitsSigned w64 (shifted (exponent_value e) f t) → capped e ≡ exponent_value e
 cap_harmless None f t hf ht fits = refl
 cap_harmless (Some e) f t hf ht fits = cap_signed e.sign (digits_value 10 e.digits) f t hf ht fits
 
 -- ---- the decimal of a numeral
 
 -- stripped digits have the one form
-pub kept_is : (negative : Bool) (s : List ℕ) (power : ℤ) → 0 < length s → (ds : List ℕ) → s ≡ significant ds → AreDigits ds → FitsSigned w64 power → IsTrue (is_canonical negative s power)
+pub kept_is : (negative : Bool) (s : List ℕ) (power : ℤ) → 0 < length s → (ds : List ℕ) → s ≡ significant ds → AreDigits ds
+    → FitsSigned w64 power → IsTrue (is_canonical negative s power)
 kept_is negative [] power some ds is all fits = absurd (omega arith)
 kept_is negative (c ∷ cs) power some ds is all fits = formed power_width negative c cs power (record {
   digits = subst AreDigits (sym is) (digits_trailing (strip_leading ds) (digits_leading ds all));
@@ -84,10 +97,12 @@ unfolding value
 zero_value n h = ap (λ t. decimal_of n.negative t (power_of n)) h
 
 pub zero_in_range : (n : Numeral) → significant (n.integer ++ n.fraction) ≡ [] → IsTrue (in_range (value n))
-zero_in_range n h = subst (λ (d : Decimal). IsTrue (in_range d)) (sym (zero_value n h)) (fitting_power (pos 0) (record { sfits = omega arith }))
+zero_in_range n h = subst (λ (d : Decimal). IsTrue (in_range d)) (sym (zero_value n h))
+    (fitting_power (pos 0) (record { sfits = omega arith }))
 
 -- from the digits that are left of the numeral
-module _ (n : Numeral) (s : List ℕ) (zeros : ℕ) (is : s ≡ significant (n.integer ++ n.fraction)) (some : 0 < length s) (zeros_are : zeros ≡ trailing_zeros (n.integer ++ n.fraction)) where
+module _ (n : Numeral) (s : List ℕ) (zeros : ℕ) (is : s ≡ significant (n.integer ++ n.fraction)) (some : 0 < length s)
+    (zeros_are : zeros ≡ trailing_zeros (n.integer ++ n.fraction)) where
   abbrev shifted_by : ℤ → ℤ
   shifted_by e = shifted e (length n.fraction) zeros
 
@@ -102,17 +117,20 @@ module _ (n : Numeral) (s : List ℕ) (zeros : ℕ) (is : s ≡ significant (n.i
   value_exact p p_is = ap (λ q. record { negative = n.negative; digits = s; power = q }) (p_is ∙ sym power_is) ∙ value_is
 
   pub value_fits : (p : ℤ) → p ≡ shifted_by (exponent_value n.exponent) → FitsSigned w64 p → IsTrue (in_range (value n))
-  value_fits p p_is fits = subst (λ q. IsTrue (power_fits power_width q)) (ap (λ (d : Decimal). d.power) (value_exact p p_is)) (fitting_power p fits)
+  value_fits p p_is fits = subst (λ q. IsTrue (power_fits power_width q)) (ap (λ (d : Decimal). d.power) (value_exact p p_is))
+      (fitting_power p fits)
 
   -- by the exponent that is cut to the cap
   module _ (short : length n.fraction < 2 ^ 64) (few : zeros < 2 ^ 64) where
-    harmless : FitsSigned w64 (shifted_by (capped n.exponent)) ⊎ FitsSigned w64 (shifted_by (exponent_value n.exponent)) → capped n.exponent ≡ exponent_value n.exponent
+    harmless : FitsSigned w64 (shifted_by (capped n.exponent)) ⊎ FitsSigned w64 (shifted_by (exponent_value n.exponent))
+        → capped n.exponent ≡ exponent_value n.exponent
     harmless fits = cap_harmless n.exponent (length n.fraction) zeros short few fits
 
     exact_power : (p : ℤ) → p ≡ shifted_by (capped n.exponent) → FitsSigned w64 p → p ≡ shifted_by (exponent_value n.exponent)
     exact_power p p_is fits = p_is ∙ ap shifted_by (harmless (inl (subst (FitsSigned w64) p_is fits)))
 
-    pub value_kept : (p : ℤ) → p ≡ shifted_by (capped n.exponent) → FitsSigned w64 p → record { negative = n.negative; digits = s; power = p } ≡ value n
+    pub value_kept : (p : ℤ) → p ≡ shifted_by (capped n.exponent) → FitsSigned w64 p
+        → record { negative = n.negative; digits = s; power = p } ≡ value n
     value_kept p p_is fits = value_exact p (exact_power p p_is fits)
 
     pub value_in : (p : ℤ) → p ≡ shifted_by (capped n.exponent) → FitsSigned w64 p → IsTrue (in_range (value n))
@@ -120,11 +138,13 @@ module _ (n : Numeral) (s : List ℕ) (zeros : ℕ) (is : s ≡ significant (n.i
 
     pub value_out : ¬ FitsSigned w64 (shifted_by (capped n.exponent)) → in_range (value n) ≡ false
     value_out out = refuted (in_range (value n)) (λ fits.
-        let real : FitsSigned w64 (shifted_by (exponent_value n.exponent)) = subst (FitsSigned w64) (sym (ap (λ (d : Decimal). d.power) value_is) ∙ power_is) (power_within (value n).power fits) in
+        let real : FitsSigned w64 (shifted_by (exponent_value n.exponent)) =
+        subst (FitsSigned w64) (sym (ap (λ (d : Decimal). d.power) value_is) ∙ power_is) (power_within (value n).power fits) in
         out (subst (λ e. FitsSigned w64 (shifted_by e)) (sym (harmless (inr real))) real))
 
 -- the power of few digits without an exponent, as the code computes it
-pub power_few : (zeros fraction : ℕ) → zeros ≤ 24 → fraction ≤ 24 → to_z w64 (of_z w64 (to_z w64 zeros -ℤ to_z w64 fraction)) ≡ shifted (pos 0) fraction zeros
+pub power_few : (zeros fraction : ℕ) → zeros ≤ 24 → fraction ≤ 24 → to_z w64 (of_z w64 (to_z w64 zeros -ℤ to_z w64 fraction)) ≡ shifted
+    (pos 0) fraction zeros
 power_few zeros fraction h k = omega (arith, ints, h, k)
 
 few_fits : (z : ℤ) (zeros fraction : ℕ) → z ≡ (pos 0 -ℤ pos fraction) +ℤ pos zeros → zeros ≤ 24 → fraction ≤ 24 → FitsSigned w64 z
@@ -139,7 +159,8 @@ power_few_fits zeros fraction h k = few_fits (shifted (pos 0) fraction zeros) ze
 pub reads_number : (text : List ℕ) (n : Numeral) (x : Canonical) → Spells n text → ReadsNumeral n (Ok x) → Reads text (Ok x)
 reads_number text n x s r = (n, s, sym r.0, subst (λ (d : Decimal). IsTrue (in_range d)) (sym r.0) r.1)
 
-pub memory_refused : (n : Numeral) (r : Result Canonical LiteralError) → IsErrAnd r (λ e. e ≡ OutOfMemory) → IsTrue (in_range (value n)) → ReadsNumeral n r
+pub memory_refused : (n : Numeral) (r : Result Canonical LiteralError) → IsErrAnd r (λ e. e ≡ OutOfMemory) → IsTrue (in_range (value n))
+    → ReadsNumeral n r
 memory_refused n (Ok x) h fits = absurd h
 memory_refused n (Err OutOfRange) h fits = absurd (cc)
 memory_refused n (Err OutOfMemory) h fits = fits
@@ -148,12 +169,14 @@ reads_error : (text : List ℕ) (n : Numeral) (e : LiteralError) → Spells n te
 reads_error text n OutOfRange s r = (n, s, r)
 reads_error text n OutOfMemory s r = (value n, (n, s, refl, r))
 
-pub refused_so : (text : List ℕ) (n : Numeral) (l : LiteralError) (r : Result Canonical JsonNumberError) → IsErrAnd r (λ e. e ≡ of_literal l) → Spells n text → ReadsNumeral n (Err l) → Reads text r
+pub refused_so : (text : List ℕ) (n : Numeral) (l : LiteralError) (r : Result Canonical JsonNumberError)
+    → IsErrAnd r (λ e. e ≡ of_literal l) → Spells n text → ReadsNumeral n (Err l) → Reads text r
 refused_so text n l (Ok x) h s k = absurd h
 refused_so text n l (Err e) h s k = subst (λ (x : JsonNumberError). Reads text (Err x)) (sym h) (reads_error text n l s k)
 
 -- no out of memory is passed on where there is none
-pub refused_short : (l : LiteralError) (r : Result Canonical JsonNumberError) → IsErrAnd r (λ e. e ≡ of_literal l) → ¬ (l ≡ OutOfMemory) → ¬ (r ≡ Err number.OutOfMemory)
+pub refused_short : (l : LiteralError) (r : Result Canonical JsonNumberError) → IsErrAnd r (λ e. e ≡ of_literal l) → ¬ (l ≡ OutOfMemory)
+    → ¬ (r ≡ Err number.OutOfMemory)
 refused_short l (Ok x) h never is = absurd h
 refused_short OutOfMemory (Err e) h never is = never refl
 refused_short OutOfRange (Err e) h never is = absurd (cc)

@@ -1,5 +1,6 @@
 -- Runs of digits, and where a text may be cut.
-use Rattle.std.proofs.Common.{◌≡◌, ℕ, zero, suc, ◌<◌, ◌≤◌, true, List, [], ◌∷◌, ◌++◌, length, take, get_or, IsTrue, refl, arith, Result, Ok, Err}
+use Rattle.std.proofs.Common.{◌≡◌, ℕ, zero, suc, ◌<◌, ◌≤◌, true, List, [], ◌∷◌, ◌++◌, length, take, get_or, IsTrue, refl, arith, Result, Ok}
+use Rattle.std.proofs.Common.{Err}
 use Rattle.std.specs.Result.{MatchResult, IsOk}
 use Rattle.std.specs.List.{prefix_len, list_all}
 use Rattle.std.specs.Str.{IsAscii}
@@ -46,7 +47,8 @@ digits_back (d ∷ xs) ys h = digits_back xs ys h.1
 -- the digits in front are digits
 pub front_digits : (xs : List ℕ) → AreDigits (take (prefix_len is_ascii_digit xs) xs)
 front_digits xs =
-    digits_list_all _ (list_all-from_AllPass is_ascii_digit _ (All-from_get_or (λ x. IsTrue (is_ascii_digit x)) (take (prefix_len is_ascii_digit xs) xs) 0 (λ i lt.
+    digits_list_all _ (list_all-from_AllPass is_ascii_digit _ (All-from_get_or (λ x. IsTrue (is_ascii_digit x))
+    (take (prefix_len is_ascii_digit xs) xs) 0 (λ i lt.
     let within : i < prefix_len is_ascii_digit xs = omega (arith, lt, length-prefix_len is_ascii_digit xs) in
     rw (get_or-take (prefix_len is_ascii_digit xs) xs i 0 within) (prefix_len_passes is_ascii_digit xs i 0 within))))
 

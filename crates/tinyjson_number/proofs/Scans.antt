@@ -99,7 +99,13 @@ module _ (b c : Bool) (ds es f g text x y : List ℕ) (m : IsMantissa b ds f tex
 
   fraction : (f ≡ g) × (x ≡ y)
   fraction =
-      let of_f : IsFraction f (fraction_text f ++ x) x = record { are = m.fraction_digits; spelled = refl; digit = m.digit; point = m.point } in
+      let of_f : IsFraction f (fraction_text f ++ x) x = record {
+        are = m.fraction_digits;
+        spelled = refl;
+        digit = m.digit;
+        point =
+            m.point;
+      } in
       let of_g : IsFraction g (fraction_text f ++ x) y =
       record { are = n.fraction_digits; spelled = integer.1; digit = n.digit; point = n.point } in
       same_fraction f g (fraction_text f ++ x) x y of_f of_g

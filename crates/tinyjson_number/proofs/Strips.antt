@@ -1,5 +1,6 @@
 -- Zeros stripped from digits.
-use Rattle.std.proofs.Common.{◌≡◌, ◌≢◌, ℕ, zero, suc, ◌+◌, ◌-◌, ◌<◌, ◌≤◌, Bool, true, false, cond, eqb, List, [], ◌∷◌, ◌++◌, length, get_or, replicate, IsTrue, refl, sym, ap, ◌∙◌, ⊎_elim, arith, append-nil, length-append}
+use Rattle.std.proofs.Common.{◌≡◌, ◌≢◌, ℕ, zero, suc, ◌+◌, ◌-◌, ◌<◌, ◌≤◌, Bool, true, false, cond, eqb, List, [], ◌∷◌, ◌++◌, length, get_or}
+use Rattle.std.proofs.Common.{replicate, IsTrue, refl, sym, ap, ◌∙◌, ⊎_elim, arith, append-nil, length-append}
 use Rattle.std.specs.Char.{is_ascii_digit}
 use Rattle.std.proofs.lemmas.Bool.{eqb-true, cases_lt, cond_both, false≢true}
 use Rattle.std.proofs.lemmas.Bool.Decides.{nat_tests}
@@ -9,7 +10,8 @@ use Rattle.tinyjson_number.specs.Numeral.{AreDigits}
 
 -- ---- joined digits
 
-leading_cases : (b : Bool) (d : ℕ) (w f : List ℕ) → (strip_leading w ≡ [] → strip_leading (w ++ f) ≡ strip_leading f) → cond b (strip_leading w) (d ∷ w) ≡ [] → cond b (strip_leading (w ++ f)) (d ∷ (w ++ f)) ≡ strip_leading f
+leading_cases : (b : Bool) (d : ℕ) (w f : List ℕ) → (strip_leading w ≡ [] → strip_leading (w ++ f) ≡ strip_leading f)
+    → cond b (strip_leading w) (d ∷ w) ≡ [] → cond b (strip_leading (w ++ f)) (d ∷ (w ++ f)) ≡ strip_leading f
 leading_cases true d w f more h = more h
 leading_cases false d w f more h = absurd (cc)
 
@@ -17,7 +19,8 @@ strip_leading_append_none : (w f : List ℕ) → strip_leading w ≡ [] → stri
 strip_leading_append_none [] f h = refl
 strip_leading_append_none (d ∷ w) f h = leading_cases (eqb d 48) d w f (strip_leading_append_none w f) h
 
-leading_some_cases : (b : Bool) (d : ℕ) (w f : List ℕ) → (0 < length (strip_leading w) → strip_leading (w ++ f) ≡ strip_leading w ++ f) → 0 < length (cond b (strip_leading w) (d ∷ w)) → cond b (strip_leading (w ++ f)) (d ∷ (w ++ f)) ≡ cond b (strip_leading w) (d ∷ w) ++ f
+leading_some_cases : (b : Bool) (d : ℕ) (w f : List ℕ) → (0 < length (strip_leading w) → strip_leading (w ++ f) ≡ strip_leading w ++ f)
+    → 0 < length (cond b (strip_leading w) (d ∷ w)) → cond b (strip_leading (w ++ f)) (d ∷ (w ++ f)) ≡ cond b (strip_leading w) (d ∷ w) ++ f
 leading_some_cases true d w f more h = more h
 leading_some_cases false d w f more h = refl
 
@@ -36,9 +39,11 @@ before_some d (x ∷ xs) h = refl
 pub strip_trailing_append_some : (w f : List ℕ) → 0 < length (strip_trailing f) → strip_trailing (w ++ f) ≡ w ++ strip_trailing f
 strip_trailing_append_some [] f h = refl
 strip_trailing_append_some (d ∷ w) f h =
-    ap (before_stripped d) (strip_trailing_append_some w f h) ∙ before_some d (w ++ strip_trailing f) (omega (arith, h, length-append w (strip_trailing f)))
+    ap (before_stripped d) (strip_trailing_append_some w f h) ∙ before_some d (w ++ strip_trailing f)
+    (omega (arith, h, length-append w (strip_trailing f)))
 
-first_cases : (b : Bool) (d : ℕ) (xs : List ℕ) → eqb d 48 ≡ b → get_or (strip_leading xs) 0 0 ≢ 48 → get_or (cond b (strip_leading xs) (d ∷ xs)) 0 0 ≢ 48
+first_cases : (b : Bool) (d : ℕ) (xs : List ℕ) → eqb d 48 ≡ b → get_or (strip_leading xs) 0 0 ≢ 48
+    → get_or (cond b (strip_leading xs) (d ∷ xs)) 0 0 ≢ 48
 first_cases true d xs e more = more
 first_cases false d xs e more = λ h. grind (arith, nat_tests)
 
@@ -65,9 +70,11 @@ last_one false d e = λ h. grind (arith, nat_tests)
 
 -- the last of a longer list
 pub last_cons : (d x : ℕ) (xs : List ℕ) → get_or (d ∷ x ∷ xs) (length (d ∷ x ∷ xs) - 1) 0 ≡ get_or (x ∷ xs) (length (x ∷ xs) - 1) 0
-last_cons d x xs = let e : length (d ∷ x ∷ xs) - 1 ≡ suc (length xs) = omega arith in let f : length (x ∷ xs) - 1 ≡ length xs = omega arith in ap (λ n. get_or (d ∷ x ∷ xs) n 0) e ∙ ap (λ n. get_or (x ∷ xs) n 0) (sym f)
+last_cons d x xs = let e : length (d ∷ x ∷ xs) - 1 ≡ suc (length xs) = omega arith in let f : length (x ∷ xs) - 1 ≡ length xs =
+    omega arith in ap (λ n. get_or (d ∷ x ∷ xs) n 0) e ∙ ap (λ n. get_or (x ∷ xs) n 0) (sym f)
 
-last_before : (d : ℕ) (xs : List ℕ) → get_or xs (length xs - 1) 0 ≢ 48 → get_or (before_stripped d xs) (length (before_stripped d xs) - 1) 0 ≢ 48
+last_before : (d : ℕ) (xs : List ℕ) → get_or xs (length xs - 1) 0 ≢ 48
+    → get_or (before_stripped d xs) (length (before_stripped d xs) - 1) 0 ≢ 48
 last_before d [] h = last_one (eqb d 48) d refl
 last_before d (x ∷ xs) h = λ e. h (sym (last_cons d x xs) ∙ e)
 
@@ -76,7 +83,8 @@ last_trailing [] = λ h. absurd (omega (arith, h))
 last_trailing (d ∷ xs) = last_before d (strip_trailing xs) (last_trailing xs)
 
 -- digits are those up to the last that is not 0, and zeros
-one_cases : (b : Bool) (d : ℕ) (xs : List ℕ) → eqb d 48 ≡ b → xs ≡ replicate (length xs) 48 → d ∷ xs ≡ cond b [] (d ∷ []) ++ replicate (suc (length xs) - length (cond b [] (d ∷ []))) 48
+one_cases : (b : Bool) (d : ℕ) (xs : List ℕ) → eqb d 48 ≡ b → xs ≡ replicate (length xs) 48
+    → d ∷ xs ≡ cond b [] (d ∷ []) ++ replicate (suc (length xs) - length (cond b [] (d ∷ []))) 48
 one_cases true d xs e h =
     let all : suc (length xs) ≡ suc (length xs) - 0 = omega arith in
     (λ i. eqb-true d 48 e i ∷ h i) ∙ ap (λ k. replicate k 48) all
@@ -84,9 +92,12 @@ one_cases false d xs e h =
     let rest : length xs ≡ suc (length xs) - 1 = omega arith in
     ap (λ t. d ∷ t) (h ∙ ap (λ k. replicate k 48) rest)
 
-tail_cases : (d : ℕ) (xs kept : List ℕ) → xs ≡ kept ++ replicate (length xs - length kept) 48 → d ∷ xs ≡ before_stripped d kept ++ replicate (suc (length xs) - length (before_stripped d kept)) 48
-tail_cases d xs [] h = let all : length xs - 0 ≡ length xs = omega arith in one_cases (eqb d 48) d xs refl (h ∙ ap (λ k. replicate k 48) all)
-tail_cases d xs (e ∷ es) h = let same : length xs - length (e ∷ es) ≡ suc (length xs) - length (d ∷ e ∷ es) = omega arith in ap (λ t. d ∷ t) (h ∙ ap (λ k. (e ∷ es) ++ replicate k 48) same)
+tail_cases : (d : ℕ) (xs kept : List ℕ) → xs ≡ kept ++ replicate (length xs - length kept) 48
+    → d ∷ xs ≡ before_stripped d kept ++ replicate (suc (length xs) - length (before_stripped d kept)) 48
+tail_cases d xs [] h = let all : length xs - 0 ≡ length xs = omega arith in
+    one_cases (eqb d 48) d xs refl (h ∙ ap (λ k. replicate k 48) all)
+tail_cases d xs (e ∷ es) h = let same : length xs - length (e ∷ es) ≡ suc (length xs) - length (d ∷ e ∷ es) = omega arith in
+    ap (λ t. d ∷ t) (h ∙ ap (λ k. (e ∷ es) ++ replicate k 48) same)
 
 pub tail_is : (xs : List ℕ) → xs ≡ strip_trailing xs ++ replicate (trailing_zeros xs) 48
 tail_is [] = refl
@@ -103,7 +114,8 @@ strip_trailing_none xs h =
     let kept = strip_trailing xs in
     let t = trailing_zeros xs in
     let tail = tail_is xs in
-    let len : length xs ≡ length kept + t = ap length tail ∙ length-append kept (replicate t 48) ∙ ap (λ k. length kept + k) (length-replicate t 48) in
+    let len : length xs ≡ length kept + t = ap length tail ∙ length-append kept (replicate t 48)
+    ∙ ap (λ k. length kept + k) (length-replicate t 48) in
     ⊎_elim
     (λ some.
     let last : get_or xs (length xs - 1) 0 ≡ 48 =
@@ -166,7 +178,8 @@ digits_trailing (d ∷ xs) h = digits_before d (strip_trailing xs) h.0 (digits_t
 
 -- ---- how many zeros the digits end with
 
-length_cases : (b : Bool) (d : ℕ) (xs : List ℕ) → length (strip_leading xs) ≤ length xs → length (cond b (strip_leading xs) (d ∷ xs)) ≤ suc (length xs)
+length_cases : (b : Bool) (d : ℕ) (xs : List ℕ) → length (strip_leading xs) ≤ length xs
+    → length (cond b (strip_leading xs) (d ∷ xs)) ≤ suc (length xs)
 length_cases true d xs h = omega (arith, h)
 length_cases false d xs h = omega arith
 
@@ -187,14 +200,19 @@ length_trailing [] = omega arith
 length_trailing (d ∷ xs) = omega (arith, length_before d (strip_trailing xs), length_trailing xs)
 
 -- they are those after the first digit that is not 0
-zeros_cases : (b : Bool) (d : ℕ) (xs : List ℕ) → (0 < length (significant xs) → length xs + length (significant xs) ≡ length (strip_leading xs) + length (strip_trailing xs)) → 0 < length (strip_trailing (cond b (strip_leading xs) (d ∷ xs))) → suc (length xs) + length (strip_trailing (cond b (strip_leading xs) (d ∷ xs))) ≡ length (cond b (strip_leading xs) (d ∷ xs)) + length (before_stripped d (strip_trailing xs))
+zeros_cases : (b : Bool) (d : ℕ) (xs : List ℕ) → (0 < length (significant xs)
+    → length xs + length (significant xs) ≡ length (strip_leading xs) + length (strip_trailing xs))
+    → 0 < length (strip_trailing (cond b (strip_leading xs) (d ∷ xs)))
+    → suc (length xs) + length (strip_trailing (cond b (strip_leading xs) (d ∷ xs))) ≡ length (cond b (strip_leading xs) (d ∷ xs)) + length
+    (before_stripped d (strip_trailing xs))
 zeros_cases true d xs more some =
     let m = more some in
     let kept : 0 < length (strip_trailing xs) = omega (arith, m, some, length_leading xs) in
     omega (arith, m, ap length (before_some d (strip_trailing xs) kept))
 zeros_cases false d xs more some = refl
 
-zeros_same : (xs : List ℕ) → 0 < length (significant xs) → length xs + length (significant xs) ≡ length (strip_leading xs) + length (strip_trailing xs)
+zeros_same : (xs : List ℕ) → 0 < length (significant xs) → length xs + length (significant xs) ≡ length (strip_leading xs) + length
+    (strip_trailing xs)
 zeros_same [] h = refl
 zeros_same (d ∷ xs) h = zeros_cases (eqb d 48) d xs (zeros_same xs) h
 
@@ -203,19 +221,47 @@ trailing_zeros_is xs h = omega (arith, zeros_same xs h, length_leading xs, lengt
 
 -- the three ways in which an integer part and a fraction are stripped
 module _ (w f : List ℕ) where
-  pub strip_fraction_alone : strip_leading w ≡ [] → (strip_trailing (strip_leading f) ≡ significant (w ++ f)) × (0 < length (significant (w ++ f)) → length (strip_leading f) - length (strip_trailing (strip_leading f)) ≡ trailing_zeros (w ++ f))
+  pub strip_fraction_alone : strip_leading w ≡ [] → (strip_trailing (strip_leading f) ≡ significant (w ++ f))
+      × (0 < length (significant (w ++ f)) → length (strip_leading f) - length (strip_trailing (strip_leading f)) ≡ trailing_zeros (w ++ f))
   strip_fraction_alone h =
       let e = strip_leading_append_none w f h in
       (ap strip_trailing (sym e), λ some. ap (λ t. length t - length (strip_trailing t)) (sym e) ∙ trailing_zeros_is (w ++ f) some)
 
-  pub strip_integer_alone : 0 < length (strip_leading w) → strip_trailing f ≡ [] → (strip_trailing (strip_leading w) ++ [] ≡ significant (w ++ f)) × (0 < length (significant (w ++ f)) → (length (strip_leading w) - length (strip_trailing (strip_leading w))) + length f ≡ trailing_zeros (w ++ f))
+  pub strip_integer_alone : 0 < length (strip_leading w) → strip_trailing f ≡ []
+      → (strip_trailing (strip_leading w) ++ [] ≡ significant (w ++ f))
+      × (0 < length (significant (w ++ f)) → (length (strip_leading w) - length (strip_trailing (strip_leading w))) + length f
+      ≡ trailing_zeros (w ++ f))
   strip_integer_alone some none =
       let e = strip_leading_append_some w f some in
-      let s : significant (w ++ f) ≡ strip_trailing (strip_leading w) = ap strip_trailing e ∙ strip_trailing_append_none (strip_leading w) f none in
-      (append-nil _ ∙ sym s, λ h. omega (arith, ap length s, ap length e, length-append (strip_leading w) f, trailing_zeros_is (w ++ f) h, length_trailing (strip_leading w)))
+      let s : significant (w ++ f) ≡ strip_trailing (strip_leading w) = ap strip_trailing e
+      ∙ strip_trailing_append_none (strip_leading w) f none in (
+        append-nil _ ∙ sym s,
+        λ h. omega (
+          arith,
+          ap length s,
+          ap length e,
+          length-append (strip_leading w) f,
+          trailing_zeros_is
+              (w ++ f) h,
+          length_trailing (strip_leading w),
+        ),
+      )
 
-  pub strip_both : 0 < length (strip_leading w) → 0 < length (strip_trailing f) → (strip_leading w ++ strip_trailing f ≡ significant (w ++ f)) × (0 < length (significant (w ++ f)) → length f - length (strip_trailing f) ≡ trailing_zeros (w ++ f))
+  pub strip_both : 0 < length (strip_leading w) → 0 < length (strip_trailing f)
+      → (strip_leading w ++ strip_trailing f ≡ significant (w ++ f)) ×
+      (0 < length (significant (w ++ f)) → length f - length (strip_trailing f) ≡ trailing_zeros (w ++ f))
   strip_both some kept =
       let e = strip_leading_append_some w f some in
-      let s : significant (w ++ f) ≡ strip_leading w ++ strip_trailing f = ap strip_trailing e ∙ strip_trailing_append_some (strip_leading w) f kept in
-      (sym s, λ h. omega (arith, ap length s, ap length e, length-append (strip_leading w) f, length-append (strip_leading w) (strip_trailing f), trailing_zeros_is (w ++ f) h))
+      let s : significant (w ++ f) ≡ strip_leading w ++ strip_trailing f = ap strip_trailing e
+      ∙ strip_trailing_append_some (strip_leading w) f kept in (
+        sym s,
+        λ h. omega (
+          arith,
+          ap length s,
+          ap length e,
+          length-append (strip_leading w) f,
+          length-append (strip_leading w)
+              (strip_trailing f),
+          trailing_zeros_is (w ++ f) h,
+        ),
+      )

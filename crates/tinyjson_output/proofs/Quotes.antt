@@ -1,5 +1,6 @@
 -- Quoted strings as bytes.
-use Rattle.std.proofs.Common.{◌==◌, ◌≡◌, ℕ, suc, ◌+◌, ◌/◌, ◌%◌, cond, inl, inr, Bool, true, false, List, [], ◌∷◌, ◌++◌, length, get_or, take, drop, length-drop, ◌-◌, ◌≤◌, refl, sym, ◌∙◌, ap, append_assoc, append-nil, arith, lit<, ◌<◌}
+use Rattle.std.proofs.Common.{◌==◌, ◌≡◌, ℕ, suc, ◌+◌, ◌/◌, ◌%◌, cond, inl, inr, Bool, true, false, List, [], ◌∷◌, ◌++◌, length, get_or}
+use Rattle.std.proofs.Common.{take, drop, length-drop, ◌-◌, ◌≤◌, refl, sym, ◌∙◌, ap, append_assoc, append-nil, arith, lit<, ◌<◌}
 use Rattle.std.specs.Str.{chars, IsUtf8, IsAscii}
 use Rattle.std.proofs.Math.Utf8.{encode}
 use Rattle.std.specs.Char.{digit_char}
@@ -26,7 +27,8 @@ escapes_plain (x ∷ xs) = go (is_plain x) refl (escapes_plain xs)
     n : ℕ
     n = prefix_len is_plain xs
 
-    go : (b : Bool) → is_plain x ≡ b → escapes xs ≡ take n xs ++ escapes (drop n xs) → escapes (x ∷ xs) ≡ take (cond b (1 + n) 0) (x ∷ xs) ++ escapes (drop (cond b (1 + n) 0) (x ∷ xs))
+    go : (b : Bool) → is_plain x ≡ b → escapes xs ≡ take n xs ++ escapes (drop n xs)
+        → escapes (x ∷ xs) ≡ take (cond b (1 + n) 0) (x ∷ xs) ++ escapes (drop (cond b (1 + n) 0) (x ∷ xs))
     go true e h = let one : 1 + n ≡ suc n = omega arith in rw one (ap (λ w. w ++ escapes xs) (plain_escape x e) ∙ ap (λ w. x ∷ w) h)
     go false e h = refl
 
@@ -70,7 +72,8 @@ escapes_append (x ∷ xs) ys = ap (λ w. escape x ++ w) (escapes_append xs ys) �
 
 escapes_high : (bs : List ℕ) → ((k : ℕ) → k < length bs → 128 ≤ get_or bs k 0) → escapes bs ≡ bs
 escapes_high [] h = refl
-escapes_high (b ∷ bs) h = ap (λ w. w ++ escapes bs) (high b (h 0 (omega arith))) ∙ ap (λ w. b ∷ w) (escapes_high bs (λ k l. h (suc k) (omega arith)))
+escapes_high (b ∷ bs) h = ap (λ w. w ++ escapes bs) (high b (h 0 (omega arith)))
+    ∙ ap (λ w. b ∷ w) (escapes_high bs (λ k l. h (suc k) (omega arith)))
 
 digit_ascii : (d : ℕ) → d < 16 → digit_char d < 128
 digit_ascii d h = elim (nat_lt d 10) as (λ b. cond b (48 + d) (87 + d) < 128) [ true ↦ omega arith | false ↦ omega arith ]
@@ -80,12 +83,14 @@ two_ascii a b h k = IsAscii-cons a (b ∷ []) h (IsAscii-cons b [] k IsAscii-nil
 
 hex_ascii : (a b : ℕ) → a < 128 → b < 128 → IsAscii (92 ∷ 117 ∷ 48 ∷ 48 ∷ a ∷ b ∷ [])
 hex_ascii a b h k =
-    IsAscii-append (92 ∷ 117 ∷ []) (48 ∷ 48 ∷ a ∷ b ∷ []) (two_ascii 92 117 (lit< tt) (lit< tt)) (IsAscii-append (48 ∷ 48 ∷ []) (a ∷ b ∷ []) (two_ascii 48 48 (lit< tt) (lit< tt)) (two_ascii a b h k))
+    IsAscii-append (92 ∷ 117 ∷ []) (48 ∷ 48 ∷ a ∷ b ∷ []) (two_ascii 92 117 (lit< tt) (lit< tt))
+    (IsAscii-append (48 ∷ 48 ∷ []) (a ∷ b ∷ []) (two_ascii 48 48 (lit< tt) (lit< tt)) (two_ascii a b h k))
 
 pub escape_ascii : (c : ℕ) → c < 128 → IsAscii (escape c)
 escape_ascii c h =
     let short : (d : ℕ) → d < 128 → IsAscii (92 ∷ d ∷ []) = λ d l. two_ascii 92 d (lit< tt) l in
-    let hex = hex_ascii (digit_char (c / 16)) (digit_char (c % 16)) (digit_ascii (c / 16) (omega arith)) (digit_ascii (c % 16) (omega arith)) in
+    let hex = hex_ascii (digit_char (c / 16)) (digit_char (c % 16)) (digit_ascii (c / 16) (omega arith))
+    (digit_ascii (c % 16) (omega arith)) in
     cond_both (c == 8) _ _ IsAscii (λ _. short 98 (lit< tt)) (λ _.
     cond_both (c == 9) _ _ IsAscii (λ _. short 116 (lit< tt)) (λ _.
     cond_both (c == 10) _ _ IsAscii (λ _. short 110 (lit< tt)) (λ _.
@@ -109,12 +114,15 @@ enc_escape c = elim (cases_lt c 128) [
 
 enc_escapes : (cs : List ℕ) → enc (escapes cs) ≡ escapes (enc cs)
 enc_escapes [] = refl
-enc_escapes (c ∷ cs) = encodes-append (escape c) (escapes cs) ∙ ap (λ w. w ++ enc (escapes cs)) (enc_escape c) ∙ ap (λ w. escapes (encode c) ++ w) (enc_escapes cs) ∙ sym (escapes_append (encode c) (enc cs))
+enc_escapes (c ∷ cs) = encodes-append (escape c) (escapes cs) ∙ ap (λ w. w ++ enc (escapes cs)) (enc_escape c)
+    ∙ ap (λ w. escapes (encode c) ++ w) (enc_escapes cs) ∙ sym (escapes_append (encode c) (enc cs))
 
 -- a quoted text: its bytes with escapes, between quotes
 pub quoted_bytes : (bs : List ℕ) → IsUtf8 bs → enc (quoted (chars bs)) ≡ 34 ∷ [] ++ (escapes bs ++ 34 ∷ [])
-quoted_bytes bs u = enclosed 34 34 (escapes (chars bs)) (omega arith) (omega arith) ∙ ap (λ w. 34 ∷ [] ++ (w ++ 34 ∷ [])) (enc_escapes (chars bs) ∙ ap escapes (encodes-chars bs u))
+quoted_bytes bs u = enclosed 34 34 (escapes (chars bs)) (omega arith) (omega arith)
+    ∙ ap (λ w. 34 ∷ [] ++ (w ++ 34 ∷ [])) (enc_escapes (chars bs) ∙ ap escapes (encodes-chars bs u))
 
 -- a comma, a key and a colon
-pub key_joined : (p s bytes : List ℕ) → ((p ++ (s ++ 34 ∷ [])) ++ bytes) ++ 34 ∷ 58 ∷ [] ≡ p ++ (s ++ ((34 ∷ [] ++ (bytes ++ 34 ∷ [])) ++ 58 ∷ []))
+pub key_joined : (p s bytes : List ℕ) → ((p ++ (s ++ 34 ∷ [])) ++ bytes) ++ 34 ∷ 58 ∷ [] ≡ p ++
+    (s ++ ((34 ∷ [] ++ (bytes ++ 34 ∷ [])) ++ 58 ∷ []))
 key_joined p s bytes = simp append_assoc

@@ -1,5 +1,6 @@
 -- How a cursor over an iterator goes on.
-use Rattle.std.proofs.Common.{◌≡◌, ℕ, Bool, true, false, not, is_some, List, [], ◌∷◌, ◌++◌, Option, Some, None, refl, sym, ap, ◌∙◌, ◌<◌, ◌+◌, arith, true≢false, append_assoc, subst, Result, Ok, Err, OnOk}
+use Rattle.std.proofs.Common.{◌≡◌, ℕ, Bool, true, false, not, is_some, List, [], ◌∷◌, ◌++◌, Option, Some, None, refl, sym, ap, ◌∙◌, ◌<◌}
+use Rattle.std.proofs.Common.{◌+◌, arith, true≢false, append_assoc, subst, Result, Ok, Err, OnOk}
 use Rattle.std.specs.Char.{is_ascii_digit}
 use Rattle.std.specs.Option.{option_to_list}
 use Rattle.std.specs.Iterator.{Count, MakesProgress}
@@ -11,7 +12,8 @@ use Rattle.tinyjson_grammar.specs.Position.{advance, capped, position_at}
 use Rattle.tinyjson_grammar.proofs.Callers.{advance_nil, advance_append}
 
 -- what a call of the iterator leaves may be called, and ends
-pub Ready_filled : {S : Type 0} (can : S → Type 0) (remaining : S → Count) (p : Cursor S) (r : Option ℕ) (t : S) (d : Bool) → Ready can remaining p → p.done ≡ false → d ≡ not (is_some r)
+pub Ready_filled : {S : Type 0} (can : S → Type 0) (remaining : S → Count) (p : Cursor S) (r : Option ℕ) (t : S) (d : Bool)
+    → Ready can remaining p → p.done ≡ false → d ≡ not (is_some r)
     → MakesProgress can remaining p.it r t → Ready can remaining (record { it = t; peeked = r; done = d; line = p.line; column = p.column })
 Ready_filled can remaining p None t d a f e m = λ h. absurd (true≢false (sym e ∙ h))
 Ready_filled can remaining p (Some x) t d a f e m = λ h. let k = m.on (a f).1 in (k.0, k.1)
@@ -26,7 +28,8 @@ none_shown p (Some x) n f s = true≢false (ap is_some (sym s.peeked ∙ n))
 
 module _ {S : Type 0} (steps : S → Option ℕ → S → Type 0) where
   -- what the iterator returns goes into the one place that is looked at
-  pub filled : (p : Cursor S) (r : Option ℕ) (t : S) (d : Bool) (zs : List ℕ) → p.peeked ≡ None → p.done ≡ false → steps p.it r t → d ≡ not (is_some r) → Gives steps p zs
+  pub filled : (p : Cursor S) (r : Option ℕ) (t : S) (d : Bool) (zs : List ℕ) → p.peeked ≡ None → p.done ≡ false → steps p.it r t
+      → d ≡ not (is_some r) → Gives steps p zs
       → Gives steps (record { it = t; peeked = r; done = d; line = p.line; column = p.column }) zs
   filled p None t d zs n f s e g =
       let k : zs ≡ g.later = g.is ∙ ap (λ o. option_to_list o ++ g.later) n in
@@ -40,8 +43,19 @@ module _ {S : Type 0} (steps : S → Option ℕ → S → Type 0) where
       record { later = w.0; is = k ∙ w.1; source = λ h. w.2; ended = λ h. absurd (true≢false (sym h ∙ e)) }
 
   -- the character that is looked at is taken
-  pub taken : (p : Cursor S) (c l k : ℕ) (zs : List ℕ) → p.peeked ≡ Some c → Gives steps p zs → (rest : List ℕ) × (zs ≡ c ∷ rest) × Gives steps (record { it = p.it; peeked = None; done = p.done; line = l; column = k }) rest
-  taken p c l k zs e g = (g.later, g.is ∙ ap (λ o. option_to_list o ++ g.later) e, record { later = g.later; is = refl; source = g.source; ended = g.ended })
+  pub taken : (p : Cursor S) (c l k : ℕ) (zs : List ℕ) → p.peeked ≡ Some c → Gives steps p zs → (rest : List ℕ) × (zs ≡ c ∷ rest)
+      × Gives steps (record { it = p.it; peeked = None; done = p.done; line = l; column = k }) rest
+  taken p c l k zs e g = (
+    g.later,
+    g.is ∙ ap (λ o. option_to_list o ++ g.later) e,
+    record {
+      later = g.later;
+      is = refl;
+      source =
+          g.source;
+      ended = g.ended;
+    },
+  )
 
   -- where nothing was looked at and the end did not come, nothing is known
   pub not_shown : (p : Cursor S) (o r : Option ℕ) → p.peeked ≡ None → p.done ≡ false → Shows p o → r ≡ o
@@ -50,17 +64,20 @@ module _ {S : Type 0} (steps : S → Option ℕ → S → Type 0) where
 -- ---- what calls took
 
 -- nor is a digit
-pub digit_column : (l k c n : ℕ) → l < 18446744073709551616 → is_ascii_digit c ≡ true → n ≡ capped (k + 1) → position_at l n ≡ advance (position_at l k) (c ∷ [])
+pub digit_column : (l k c n : ℕ) → l < 18446744073709551616 → is_ascii_digit c ≡ true → n ≡ capped (k + 1)
+    → position_at l n ≡ advance (position_at l k) (c ∷ [])
 unfolding advance
 digit_column l k c n h p e = grind (arith, nat_tests)
 
 -- what was added to a text that grew before
-pub OnOk_append : {E : Type 0} (r : Result (Unit {0}) E) (new ys old xs mid : List ℕ) → mid ≡ old ++ xs → OnOk r (new ≡ mid ++ ys) → OnOk r (new ≡ old ++ (xs ++ ys))
+pub OnOk_append : {E : Type 0} (r : Result (Unit {0}) E) (new ys old xs mid : List ℕ) → mid ≡ old ++ xs → OnOk r (new ≡ mid ++ ys)
+    → OnOk r (new ≡ old ++ (xs ++ ys))
 OnOk_append (Ok u) new ys old xs mid m h = h ∙ ap (λ t. t ++ ys) m ∙ append_assoc old xs ys
 OnOk_append (Err e) new ys old xs mid m h = tt
 
 -- a plain character is no line feed
-pub plain_column : (l k c n : ℕ) → l < 18446744073709551616 → is_plain c ≡ true → n ≡ capped (k + 1) → position_at l n ≡ advance (position_at l k) (c ∷ [])
+pub plain_column : (l k c n : ℕ) → l < 18446744073709551616 → is_plain c ≡ true → n ≡ capped (k + 1)
+    → position_at l n ≡ advance (position_at l k) (c ∷ [])
 unfolding advance
 plain_column l k c n h p e = grind (arith, nat_tests)
 
@@ -78,15 +95,22 @@ module _ {S : Type 0} (steps : S → Option ℕ → S → Type 0) where
   }
 
   -- the iterator's next character is looked at
-  pub Goes_filled : (p q : Cursor S) (xs : List ℕ) (r : Option ℕ) (t : S) (d : Bool) → Goes steps p xs q → q.peeked ≡ None → q.done ≡ false → steps q.it r t → d ≡ not (is_some r)
+  pub Goes_filled : (p q : Cursor S) (xs : List ℕ) (r : Option ℕ) (t : S) (d : Bool) → Goes steps p xs q → q.peeked ≡ None → q.done ≡ false
+      → steps q.it r t → d ≡ not (is_some r)
       → Goes steps p xs (record { it = t; peeked = r; done = d; line = q.line; column = q.column })
-  Goes_filled p q xs r t d a n f s e = record { gives = λ zs g. let x = a.gives zs g in (x.0, x.1, filled steps q r t d x.0 n f s e x.2); moves = a.moves }
+  Goes_filled p q xs r t d a n f s e = record {
+    gives = λ zs g. let x = a.gives zs g in
+        (x.0, x.1, filled steps q r t d x.0 n f s e x.2);
+    moves = a.moves;
+  }
 
   -- the iterator's next character is taken at once
-  pub Goes_drawn : (p q : Cursor S) (xs : List ℕ) (c : ℕ) (t : S) (l k : ℕ) → Goes steps p xs q → q.peeked ≡ None → q.done ≡ false → steps q.it (Some c) t → position_at l k ≡ advance (place q) (c ∷ [])
+  pub Goes_drawn : (p q : Cursor S) (xs : List ℕ) (c : ℕ) (t : S) (l k : ℕ) → Goes steps p xs q → q.peeked ≡ None → q.done ≡ false
+      → steps q.it (Some c) t → position_at l k ≡ advance (place q) (c ∷ [])
       → Goes steps p (xs ++ c ∷ []) (record { it = t; peeked = q.peeked; done = q.done; line = l; column = k })
   Goes_drawn p q xs c t l k a n f s m =
       let r : Cursor S = record { it = t; peeked = Some c; done = q.done; line = q.line; column = q.column } in
       let after : Option ℕ → Cursor S = λ o. record { it = t; peeked = o; done = q.done; line = l; column = k } in
       subst (λ o. Goes steps p (xs ++ c ∷ []) (after o)) (sym n)
-      (Goes_append p r (after None) xs (c ∷ []) (Goes_filled p q xs (Some c) t q.done a n f s f) (record { gives = λ zs g. taken steps r c l k zs refl g; moves = m }))
+      (Goes_append p r (after None) xs (c ∷ []) (Goes_filled p q xs (Some c) t q.done a n f s f)
+      (record { gives = λ zs g. taken steps r c l k zs refl g; moves = m }))

@@ -1,5 +1,6 @@
 -- A text in memory as a source, and runs that are taken byte by byte.
-use Rattle.std.proofs.Common.{◌≡◌, ℕ, ◌+◌, ◌<◌, ◌≤◌, true, false, List, [], ◌∷◌, ◌++◌, length, get_or, Result, Ok, Err, OnOk, refl, sym, ap, ◌∙◌, subst, arith, append_assoc}
+use Rattle.std.proofs.Common.{◌≡◌, ℕ, ◌+◌, ◌<◌, ◌≤◌, true, false, List, [], ◌∷◌, ◌++◌, length, get_or, Result, Ok, Err, OnOk, refl, sym, ap}
+use Rattle.std.proofs.Common.{◌∙◌, subst, arith, append_assoc}
 use Rattle.std.specs.Prelude.{nat_lt, slice_get}
 use Rattle.std.specs.Char.{len_utf8}
 use Rattle.std.specs.List.{AllByRecursion}
@@ -34,7 +35,8 @@ text_sight = record {
 }
 
 -- a byte below 128 is taken
-pub Takes_ascii : (p q : TextBytes) (b : ℕ) → p.at < length p.text.now → get_or p.text.now p.at 0 ≡ b → b < 128 → q.text.now ≡ p.text.now → q.at ≡ p.at + 1 → Takes text_sight p (b ∷ []) q
+pub Takes_ascii : (p q : TextBytes) (b : ℕ) → p.at < length p.text.now → get_or p.text.now p.at 0 ≡ b → b < 128 → q.text.now ≡ p.text.now
+    → q.at ≡ p.at + 1 → Takes text_sight p (b ∷ []) q
 Takes_ascii p q b h e low same at =
     let text = p.text.now in
     let utf8 = IsUtf8-had text p.utf8 in
@@ -44,13 +46,16 @@ Takes_ascii p q b h e low same at =
     let one : between text p.at q.at ≡ b ∷ [] = ap (between text p.at) at ∙ char_between text utf8 p.at p.boundary b 1 next len in
     let on : p.at ≤ q.at = omega (arith, at) in
     record {
-      gives = λ zs g. let x = step_gives text utf8 p.at q.at on p.boundary last (b ∷ []) one zs g in (x.0, x.1, x.2 ∙ ap (λ t. chars_after t q.at) (sym same));
+      gives = λ zs g. let x = step_gives text utf8 p.at q.at on p.boundary last (b ∷ []) one zs g in
+          (x.0, x.1, x.2 ∙ ap (λ t. chars_after t q.at) (sym same));
       moves = ap (λ t. advance origin (before t q.at)) same ∙ step_moves text utf8 p.at q.at on p.boundary last (b ∷ []) one;
     }
 
 -- a run goes on by a plain byte below 128, and by another run
-pub run_ascii : {E : Type 0} (o p q : TextBytes) (old new more : List ℕ) (b : ℕ) → TakesRun text_sight is_plain {E = Unit {0}} o old (Ok tt) new p
-    → p.at < length p.text.now → get_or p.text.now p.at 0 ≡ b → b < 128 → q.text.now ≡ p.text.now → q.at ≡ p.at + 1 → is_plain b ≡ true → more ≡ new ++ b ∷ []
+pub run_ascii : {E : Type 0} (o p q : TextBytes) (old new more : List ℕ) (b : ℕ)
+    → TakesRun text_sight is_plain {E = Unit {0}} o old (Ok tt) new p
+    → p.at < length p.text.now → get_or p.text.now p.at 0 ≡ b → b < 128 → q.text.now ≡ p.text.now → q.at ≡ p.at + 1 → is_plain b ≡ true
+    → more ≡ new ++ b ∷ []
     → TakesRun text_sight is_plain {E = E} o old (Ok tt) more q
 run_ascii o p q old new more b t h e low same at printed added = record {
   taken = t.taken ++ b ∷ [];
@@ -62,7 +67,8 @@ run_ascii o p q old new more b t h e low same at printed added = record {
 pub printed_plain : (b : ℕ) → (b ≡ 34 → ⊥) → (b ≡ 92 → ⊥) → 32 ≤ b → is_plain b ≡ true
 printed_plain b n m h = let l : nat_lt b 32 ≡ false = grind (arith, nat_tests) in rw (ne_eqb b 34 n, ne_eqb b 92 m, l) refl
 
-pub run_run : {E : Type 0} (o p q : TextBytes) (old new more : List ℕ) (r : Result (Unit {0}) E) → TakesRun text_sight is_plain {E = Unit {0}} o old (Ok tt) new p → TakesRun text_sight is_plain p new r more q
+pub run_run : {E : Type 0} (o p q : TextBytes) (old new more : List ℕ) (r : Result (Unit {0}) E)
+    → TakesRun text_sight is_plain {E = Unit {0}} o old (Ok tt) new p → TakesRun text_sight is_plain p new r more q
     → TakesRun text_sight is_plain o old r more q
 run_run {E = E} o p q old new more r t u = record {
   taken = t.taken ++ u.taken;

@@ -1,5 +1,6 @@
 -- How a source goes on.
-use Rattle.std.proofs.Common.{◌≡◌, ℕ, true, List, [], ◌∷◌, ◌++◌, Option, Some, None, MatchOption, refl, sym, ap, ◌∙◌, subst, append_assoc, append-nil}
+use Rattle.std.proofs.Common.{◌≡◌, ℕ, true, List, [], ◌∷◌, ◌++◌, Option, Some, None, MatchOption, refl, sym, ap, ◌∙◌, subst, append_assoc}
+use Rattle.std.proofs.Common.{append-nil}
 use Rattle.std.specs.List.{AllByRecursion}
 use Rattle.tinyjson_grammar.specs.Characters.{is_white}
 use Rattle.tinyjson_grammar.specs.Position.{advance}
@@ -13,7 +14,11 @@ AllByRecursion_push P (x ∷ xs) y a h = (a.0, AllByRecursion_push P xs y a.1 h)
 module _ {S : Type 0} (sight : Sight S) where
   -- nothing is taken
   pub Takes_nil : (p : S) → Takes sight p [] p
-  Takes_nil p = record { gives = λ zs g. (zs, refl, g); moves = sym (advance_nil (sight.place p).line (sight.place p).column (sight.line_fits p) (sight.column_fits p)) }
+  Takes_nil p = record {
+    gives = λ zs g. (zs, refl, g);
+    moves = sym (advance_nil (sight.place p).line (sight.place p).column
+        (sight.line_fits p) (sight.column_fits p));
+  }
 
   pub Takes_append : (p q r : S) (xs ys : List ℕ) → Takes sight p xs q → Takes sight q ys r → Takes sight p (xs ++ ys) r
   Takes_append p q r xs ys a b = record {
@@ -25,7 +30,8 @@ module _ {S : Type 0} (sight : Sight S) where
   }
 
   -- what was shown is what a call of `bump` takes
-  pub Takes_shown : (p q : S) (c : ℕ) (o : Option ℕ) → o ≡ Some c → MatchOption o (Takes sight p [] q × sight.shows q None) (λ d. Takes sight p (d ∷ []) q) → Takes sight p (c ∷ []) q
+  pub Takes_shown : (p q : S) (c : ℕ) (o : Option ℕ) → o ≡ Some c → MatchOption o (Takes sight p [] q × sight.shows q None)
+      (λ d. Takes sight p (d ∷ []) q) → Takes sight p (c ∷ []) q
   Takes_shown p q c o e m = subst (λ u. MatchOption u (Takes sight p [] q × sight.shows q None) (λ d. Takes sight p (d ∷ []) q)) e m
 
   -- a look ahead
@@ -44,4 +50,9 @@ module _ {S : Type 0} (sight : Sight S) where
       → MatchOption o (Takes sight r [] s × sight.shows s None) (λ d. Takes sight r (d ∷ []) s) → Whites sight p s
   Whites_bump p q r s c o a b w e m =
       let h = Whites_peek p q r a b in
-      record { taken = h.taken ++ c ∷ []; white = AllByRecursion_push (λ d. is_white d ≡ true) h.taken c h.white w; takes = Takes_append p r s h.taken (c ∷ []) h.takes (Takes_shown r s c o e m) }
+      record {
+        taken = h.taken ++ c ∷ [];
+        white = AllByRecursion_push (λ d. is_white d ≡ true) h.taken c h.white w;
+        takes =
+            Takes_append p r s h.taken (c ∷ []) h.takes (Takes_shown r s c o e m);
+      }

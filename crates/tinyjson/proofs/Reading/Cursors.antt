@@ -6,14 +6,17 @@ use Rattle.tinyjson_tokens.specs.declared.cursor.Cursor.{Cursor}
 use Rattle.tinyjson.specs.Parser.{Follows}
 
 module _ {S : Type 0} (steps : S → Option ℕ → S → Type 0) where
-  pub gives_follows : (p : Cursor S) (xs : List ℕ) → Gives steps p xs → (later : List ℕ) × (xs ≡ option_to_list p.peeked ++ later) × Follows steps (cond p.done None (Some p.it)) later
+  pub gives_follows : (p : Cursor S) (xs : List ℕ) → Gives steps p xs → (later : List ℕ) × (xs ≡ option_to_list p.peeked ++ later)
+      × Follows steps (cond p.done None (Some p.it)) later
   gives_follows p xs g = (g.later, g.is, by p.done g.source g.ended)
     where
-      by : (d : Bool) → (d ≡ false → Begins steps p.it g.later) → (d ≡ true → g.later ≡ []) → Follows steps (cond d None (Some p.it)) g.later
+      by : (d : Bool) → (d ≡ false → Begins steps p.it g.later) → (d ≡ true → g.later ≡ [])
+          → Follows steps (cond d None (Some p.it)) g.later
       by true f e = e refl
       by false f e = f refl
 
-  pub follows_gives : (p : Cursor S) (xs later : List ℕ) → xs ≡ option_to_list p.peeked ++ later → Follows steps (cond p.done None (Some p.it)) later → Gives steps p xs
+  pub follows_gives : (p : Cursor S) (xs later : List ℕ) → xs ≡ option_to_list p.peeked ++ later
+      → Follows steps (cond p.done None (Some p.it)) later → Gives steps p xs
   follows_gives p xs later e f = record { later = later; is = e; source = λ h. on p.done h f; ended = λ h. off p.done h f }
     where
       on : (d : Bool) → d ≡ false → Follows steps (cond d None (Some p.it)) later → Begins steps p.it later

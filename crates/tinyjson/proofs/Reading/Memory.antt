@@ -19,7 +19,15 @@ module _ {S : Type 0} (sight : Sight S) where
   grows_at p q c w s h = λ zs g.
       let x = w.takes.gives zs g in
       let f = sight.first q x.0 c s x.2 in
-      record { before = w.taken; first = c; more = f.0; whole = x.1 ∙ ap (λ ys. w.taken ++ ys) f.1; white = white_list w.taken w.white; grows = h }
+      record {
+        before = w.taken;
+        first = c;
+        more = f.0;
+        whole = x.1 ∙ ap (λ ys. w.taken ++ ys) f.1;
+        white =
+            white_list w.taken w.white;
+        grows = h;
+      }
 
   pub grows_text : {T : Type 0} (p q : S) (c : ℕ) (r : Result T JsonParseErrorKind) → Whites sight p q → sight.shows q (Some c)
       → IfErr r (λ k. k ≡ OutOfMemory → IsTrue (begins_growth c)) → IfErr r (λ k. k ≡ OutOfMemory → Grows sight p)

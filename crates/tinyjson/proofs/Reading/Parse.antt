@@ -1,5 +1,6 @@
 -- What `parse` returns, from what the reader did.
-use Rattle.std.proofs.Common.{◌≡◌, IsTrue, ℕ, zero, suc, Bool, true, false, List, [], ◌∷◌, ◌++◌, Result, Ok, Err, OnOk, IfErr, Option, Some, None, MatchResult, refl, sym, ap, ◌∙◌, subst, append-nil, arith, ⊎_elim}
+use Rattle.std.proofs.Common.{◌≡◌, IsTrue, ℕ, zero, suc, Bool, true, false, List, [], ◌∷◌, ◌++◌, Result, Ok, Err, OnOk, IfErr, Option, Some}
+use Rattle.std.proofs.Common.{None, MatchResult, refl, sym, ap, ◌∙◌, subst, append-nil, arith, ⊎_elim}
 use Rattle.std.specs.Prelude.{All}
 use Rattle.std.proofs.lemmas.Bool.{and_parts}
 use Rattle.std.specs.Char.{IsScalar}
@@ -9,7 +10,8 @@ use Rattle.tinyjson.specs.Parser.{Parser, Parses, ParsesText}
 use Rattle.tinyjson_tokens.specs.Source.{Sight}
 use Rattle.tinyjson.specs.Error.{error_position}
 use Rattle.tinyjson_grammar.specs.Grammar.{IsText, IsAccepted}
-use Rattle.tinyjson_grammar.specs.Machine.{Frame, Phase, State, Next, next, stop, awaited, finished, accepted, refused, step, end, run, reach, reach_on, strictly}
+use Rattle.tinyjson_grammar.specs.Machine.{Frame, Phase, State, Next, next, stop, awaited, finished, accepted, refused, step, end, run}
+use Rattle.tinyjson_grammar.specs.Machine.{reach, reach_on, strictly}
 use Rattle.tinyjson_grammar.specs.Position.{advance, origin}
 use Rattle.tinyjson_tokens.specs.Steps.{IsNext, IsLate, IsHeld, Leads, Halts, Refuses, after_all, onward, outcome}
 use Rattle.tinyjson.specs.private.Steps.{ReadsText, Grows}
@@ -41,7 +43,8 @@ module _ (limit : Option ℕ) where
   after_reach fs p (c ∷ cs) h = go (step (strictly limit) fs p c) h (λ gs q. after_reach gs q cs)
     where
       go : (n : Next) → IsNext (after_all limit n cs)
-          → ((gs : List Frame) (q : Phase) → IsNext (after_all limit (next gs q) cs) → (s : State) × (reach (strictly limit) gs q cs ≡ Some s) × (after_all limit (next gs q) cs ≡ next s.frames s.phase))
+          → ((gs : List Frame) (q : Phase) → IsNext (after_all limit (next gs q) cs) → (s : State)
+          × (reach (strictly limit) gs q cs ≡ Some s) × (after_all limit (next gs q) cs ≡ next s.frames s.phase))
           → (s : State) × (reach_on (λ gs q. reach (strictly limit) gs q cs) n ≡ Some s) × (after_all limit n cs ≡ next s.frames s.phase)
       go (next gs q) h more = more gs q h
       go (stop k b) h more = absurd (after_stop k b cs h)
@@ -68,22 +71,26 @@ module _ (limit : Option ℕ) where
           let r = after_reach limit [] awaited h.front h.goes in
           let b = subst (All IsScalar) e a in
           let stops = sym (ap (λ z. onward limit z c) r.2) ∙ s in
-          subst (IsInterrupted limit) (sym e) (interrupted_late ranges limit h.front (all_front h.front (c ∷ []) b) r.0 r.1 c (all_rest h.front (c ∷ []) b 0 0 (omega arith)) stops)
+          subst (IsInterrupted limit) (sym e) (interrupted_late ranges limit h.front (all_front h.front (c ∷ []) b) r.0 r.1 c
+          (all_rest h.front (c ∷ []) b 0 0 (omega arith)) stops)
       go (c ∷ d ∷ ds) e s = absurd s
 
   refusal_says : (k : JsonParseErrorKind) (used rest : List ℕ) → IsRefusal limit k used rest → RefusalSays limit k used rest
   refusal_says kind.OutOfMemory used rest r = absurd r.says
   refusal_says k used rest r = r
 
-  refused_list : (k : JsonParseErrorKind) (used rest : List ℕ) → ¬ (k ≡ kind.OutOfMemory) → RefusalSays limit k used rest → ¬ IsAccepted limit (used ++ rest)
+  refused_list : (k : JsonParseErrorKind) (used rest : List ℕ) → ¬ (k ≡ kind.OutOfMemory) → RefusalSays limit k used rest
+      → ¬ IsAccepted limit (used ++ rest)
   refused_list kind.OutOfMemory used rest n r = absurd (n refl)
   refused_list k used rest n r = r.refused
 
 -- an error that does not say that memory ran out: the characters have no tree
-pub refused_answer : (limit : Option ℕ) (xs used rest : List ℕ) (P : JsonValue → Type 0) (Q : JsonParseError → Type 0) (r : Result JsonValue JsonParseError) → xs ≡ used ++ rest
+pub refused_answer : (limit : Option ℕ) (xs used rest : List ℕ) (P : JsonValue → Type 0) (Q : JsonParseError → Type 0)
+    (r : Result JsonValue JsonParseError) → xs ≡ used ++ rest
     → MatchResult r P (λ e. Q e × RefusalSays limit e.kind used rest) → IfErr r (λ e. ¬ (e.kind ≡ kind.OutOfMemory) → ¬ IsAccepted limit xs)
 refused_answer limit xs used rest P Q (Ok v) whole a = tt
-refused_answer limit xs used rest P Q (Err e) whole a = λ n. subst (λ ys. ¬ IsAccepted limit ys) (sym whole) (refused_list limit e.kind used rest n a.1)
+refused_answer limit xs used rest P Q (Err e) whole a = λ n. subst (λ ys. ¬ IsAccepted limit ys) (sym whole)
+    (refused_list limit e.kind used rest n a.1)
 
 -- ---- the whole call
 
@@ -99,14 +106,16 @@ module _ {S : Type 0} (sight : Sight S) (limit : Option ℕ) where
         (λ v. (rest ≡ []) × IsText limit xs (view v))
         (λ e. (error_position e ≡ sight.place q) × RefusalSays limit e.kind consumed rest)
 
-  answered_error : (p q : S) (e : JsonParseError) (xs : List ℕ) → sight.gives p xs → All IsScalar xs → error_position e ≡ sight.place q → Refuses sight limit p (next [] awaited) e.kind q
+  answered_error : (p q : S) (e : JsonParseError) (xs : List ℕ) → sight.gives p xs → All IsScalar xs → error_position e ≡ sight.place q
+      → Refuses sight limit p (next [] awaited) e.kind q
       → (e.kind ≡ kind.OutOfMemory → Grows sight p) → Answered p xs (Err e) q
   answered_error p q e xs g a h r m = ⊎_elim determined wanted r
     where
       determined : Leads sight limit p (next [] awaited) q (stop e.kind true) → Answered p xs (Err e) q
       determined l =
           let x = l.gives xs g in
-          let ran : run (strictly limit) [] awaited (l.taken ++ x.0) ≡ refused e.kind x.0 = Comes_outcome limit (next [] awaited) (stop e.kind true) l.taken x.0 x.3 in
+          let ran : run (strictly limit) [] awaited (l.taken ++ x.0) ≡ refused e.kind x.0 =
+          Comes_outcome limit (next [] awaited) (stop e.kind true) l.taken x.0 x.3 in
           let s = refuses limit l.taken x.0 (subst (All IsScalar) x.1 a) e.kind ran in
           record {
             consumed = l.taken;
@@ -131,25 +140,37 @@ module _ {S : Type 0} (sight : Sight S) (limit : Option ℕ) where
             answer = (h, subst (λ k. RefusalSays limit k w.1.taken x.0) (sym w.0) (i, n));
           }
 
-  pub answered : (p q : S) (r : Result JsonValue JsonParseError) → ReadsText sight limit p r q → OnOk r (sight.shows q None) → IfErr r (λ e. e.kind ≡ kind.OutOfMemory → Grows sight p)
+  pub answered : (p q : S) (r : Result JsonValue JsonParseError) → ReadsText sight limit p r q → OnOk r (sight.shows q None)
+      → IfErr r (λ e. e.kind ≡ kind.OutOfMemory → Grows sight p)
       → (xs : List ℕ) → sight.gives p xs → All IsScalar xs → Answered p xs r q
   answered p q (Ok v) l s m xs g a =
       let x = l.gives xs g in
       let n = sight.none q x.0 s x.2 in
       let w = next [] (finished (view v)) in
-      let ran : run (strictly limit) [] awaited xs ≡ accepted (view v) = ap (outcome limit (next [] awaited)) x.1 ∙ Comes_outcome limit (next [] awaited) w l.taken x.0 x.3 ∙ ap (outcome limit w) n ∙ end_finished limit (view v) in
-      record { consumed = l.taken; rest = x.0; whole = x.1; gives = x.2; moves = l.moves; answer = (n, (accepts limit xs a (view v)).0 ran) }
+      let ran : run (strictly limit) [] awaited xs ≡ accepted (view v) = ap (outcome limit (next [] awaited)) x.1
+      ∙ Comes_outcome limit (next [] awaited) w l.taken x.0 x.3 ∙ ap (outcome limit w) n ∙ end_finished limit (view v) in
+      record {
+        consumed = l.taken;
+        rest = x.0;
+        whole = x.1;
+        gives = x.2;
+        moves = l.moves;
+        answer =
+            (n, (accepts limit xs a (view v)).0 ran);
+      }
   answered p q (Err e) l s m xs g a = answered_error p q e xs g a l.0 l.1 m
 
   -- of a source that stands at the origin
-  pub answered_text : (p q : S) (xs : List ℕ) (r : Result JsonValue JsonParseError) → sight.place p ≡ origin → Answered p xs r q → ParsesText limit xs r
+  pub answered_text : (p q : S) (xs : List ℕ) (r : Result JsonValue JsonParseError) → sight.place p ≡ origin → Answered p xs r q
+      → ParsesText limit xs r
   answered_text p q xs (Ok v) h a = record { consumed = a.consumed; rest = a.rest; whole = a.whole; answer = a.answer; refused = tt }
   answered_text p q xs (Err e) h a = record {
     consumed = a.consumed;
     rest = a.rest;
     whole = a.whole;
     answer = (a.answer.0 ∙ a.moves ∙ ap (λ x. advance x a.consumed) h, a.answer.1);
-    refused = refused_answer limit xs a.consumed a.rest (λ v. (a.rest ≡ []) × IsText limit xs (view v)) (λ e. error_position e ≡ sight.place q) (Err e) a.whole a.answer;
+    refused = refused_answer limit xs a.consumed a.rest (λ v. (a.rest ≡ []) × IsText limit xs (view v))
+        (λ e. error_position e ≡ sight.place q) (Err e) a.whole a.answer;
   }
 
 pub all_are_scalars : (xs : List ℕ) → IsTrue (all_scalars xs) → All IsScalar xs
@@ -158,9 +179,17 @@ all_are_scalars (x ∷ xs) h zero d l = (and_parts (is_scalar x) (all_scalars xs
 all_are_scalars (x ∷ xs) h (suc k) d l = all_are_scalars xs (and_parts (is_scalar x) (all_scalars xs) h).1 k d (omega (arith, l))
 
 -- a new parser over a text
-pub parses_text : {S : Type 0} {steps : S → Option ℕ → S → Type 0} (limit : Option ℕ) (xs : List ℕ) (p q : Parser S) (r : Result JsonValue JsonParseError)
+pub parses_text : {S : Type 0} {steps : S → Option ℕ → S → Type 0} (limit : Option ℕ) (xs : List ℕ) (p q : Parser S)
+    (r : Result JsonValue JsonParseError)
     → p.position ≡ origin → p.limit ≡ limit → Parses steps p xs r q → ParsesText limit xs r
-parses_text limit xs p q (Ok v) h n a = record { consumed = a.consumed; rest = a.rest; whole = a.whole; answer = subst (λ l. (a.rest ≡ []) × IsText l xs (view v)) n a.answer; refused = tt }
+parses_text limit xs p q (Ok v) h n a = record {
+  consumed = a.consumed;
+  rest = a.rest;
+  whole = a.whole;
+  answer =
+      subst (λ l. (a.rest ≡ []) × IsText l xs (view v)) n a.answer;
+  refused = tt;
+}
 parses_text limit xs p q (Err e) h n a = record {
   consumed = a.consumed;
   rest = a.rest;

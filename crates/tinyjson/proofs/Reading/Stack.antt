@@ -1,12 +1,15 @@
 -- The containers that are open: what is pushed, and what closes.
-use Rattle.std.proofs.Common.{◌≡◌, ℕ, suc, ◌+◌, ◌-◌, ◌≤◌, true, false, List, [], ◌∷◌, ◌++◌, map, take, drop, reverse, length, String, Global, Option, refl, sym, ap, ap₂, ◌∙◌, subst, arith}
+use Rattle.std.proofs.Common.{◌≡◌, ℕ, suc, ◌+◌, ◌-◌, ◌≤◌, true, false, List, [], ◌∷◌, ◌++◌, map, take, drop, reverse, length, String}
+use Rattle.std.proofs.Common.{Global, Option, refl, sym, ap, ap₂, ◌∙◌, subst, arith}
 use Rattle.std.proofs.Math.Seq.{drop-length, take-length, take-append_seam, drop-append_seam}
-use Rattle.std.proofs.lemmas.List.{reverse-append, reverse-reverse, map-append, length-drop, drop-append-le, take-append-le, length-take-le, length-append, length-reverse, take-append-drop, drop_all}
+use Rattle.std.proofs.lemmas.List.{reverse-append, reverse-reverse, map-append, length-drop, drop-append-le, take-append-le, length-take-le}
+use Rattle.std.proofs.lemmas.List.{length-append, length-reverse, take-append-drop, drop_all}
 use Rattle.tinyjson_grammar.specs.Tree.{Tree, Members, no_members, put, string, array, object, is_string}
 use Rattle.tinyjson.specs.View.{view, text, items_view}
 use Rattle.tinyjson.specs.Access.{JsonMap}
 use Rattle.tinyjson_grammar.specs.Machine.{Frame, in_array, at_key, at_value, awaited, after, colon, Next, next, stop, complete}
-use Rattle.tinyjson.specs.private.Stack.{gather, waiting, frames_over, complete_over, own_members, other_maps, Lies, open_of, maps_of, frames, at, HasComplete, AwaitsKey, TakesValue, BeginsMember, ClosesArray, ClosesObject}
+use Rattle.tinyjson.specs.private.Stack.{gather, waiting, frames_over, complete_over, own_members, other_maps, Lies, open_of, maps_of}
+use Rattle.tinyjson.specs.private.Stack.{frames, at, HasComplete, AwaitsKey, TakesValue, BeginsMember, ClosesArray, ClosesObject}
 use Rattle.tinyjson_tokens.specs.Steps.{IsNext, onward, Leads, Halts}
 use Rattle.tinyjson_tokens.specs.Source.{Sight, Whites}
 use Rattle.tinyjson_grammar.specs.Characters.{is_white}
@@ -37,7 +40,8 @@ gather_value ms (k ∷ ks) [] v h = none ks (omega (arith, h))
 gather_value ms (k ∷ ks) (w ∷ vs) v h = gather_value (put (text k) (view w) ms) ks vs v (omega (arith, h))
 
 -- a key that has no value yet counts for nothing, and waits
-pub gather_key : (ms : Members) (ks : Keys) (vs : List JsonValue) (k : String Global) → length ks ≡ length vs → gather ms (ks ++ k ∷ []) vs ≡ gather ms ks vs
+pub gather_key : (ms : Members) (ks : Keys) (vs : List JsonValue) (k : String Global) → length ks ≡ length vs
+    → gather ms (ks ++ k ∷ []) vs ≡ gather ms ks vs
 gather_key ms [] [] k h = refl
 gather_key ms [] (v ∷ vs) k h = absurd (omega (arith, h))
 gather_key ms (j ∷ ks) [] k h = refl
@@ -60,60 +64,77 @@ none_left ms n vs ks h = none ks ∙ ap (λ us. gather ms ks (reverse us)) (sym 
 -- a list whose elements from a place on were put in the opposite order
 module _ {T : Type 0} (n : ℕ) (xs ys : List T) (h : n ≤ length xs) (e : ys ≡ take n xs ++ reverse (drop n xs)) where
   pub turned_front : take n ys ≡ take n xs
-  turned_front = ap (take n) e ∙ ap (λ k. take k (take n xs ++ reverse (drop n xs))) (sym (length-take-le n xs h)) ∙ take-append_seam (take n xs) (reverse (drop n xs))
+  turned_front = ap (take n) e ∙ ap (λ k. take k (take n xs ++ reverse (drop n xs))) (sym (length-take-le n xs h))
+      ∙ take-append_seam (take n xs) (reverse (drop n xs))
 
   pub turned_back : reverse (drop n ys) ≡ drop n xs
   turned_back =
       ap (λ zs. reverse (drop n zs)) e
-      ∙ ap reverse (ap (λ k. drop k (take n xs ++ reverse (drop n xs))) (sym (length-take-le n xs h)) ∙ drop-append_seam (take n xs) (reverse (drop n xs)))
+      ∙ ap reverse (ap (λ k. drop k (take n xs ++ reverse (drop n xs))) (sym (length-take-le n xs h))
+      ∙ drop-append_seam (take n xs) (reverse (drop n xs)))
       ∙ reverse-reverse (drop n xs)
 
   pub turned_length : length ys ≡ length xs
-  turned_length = ap length e ∙ length-append (take n xs) (reverse (drop n xs)) ∙ ap (λ k. length (take n xs) + k) (length-reverse (drop n xs)) ∙ sym (length-append (take n xs) (drop n xs)) ∙ ap length (take-append-drop n xs)
+  turned_length = ap length e ∙ length-append (take n xs) (reverse (drop n xs))
+      ∙ ap (λ k. length (take n xs) + k) (length-reverse (drop n xs)) ∙ sym (length-append (take n xs) (drop n xs))
+      ∙ ap length (take-append-drop n xs)
 
 -- ---- a complete value
 
-pub complete_last : (os : List StackFrame) (vs : List JsonValue) (v : JsonValue) (ks : Keys) (ms : List JsonMap) → complete_over os (reverse (vs ++ v ∷ [])) ks ms ≡ complete true (frames_over os vs ks ms) (view v) true
-complete_last os vs v ks ms = ap (λ us. complete_over os us ks ms) (reverse-append vs (v ∷ [])) ∙ ap (λ us. complete true (frames_over os us ks ms) (view v) true) (reverse-reverse vs)
+pub complete_last : (os : List StackFrame) (vs : List JsonValue) (v : JsonValue) (ks : Keys) (ms : List JsonMap)
+    → complete_over os (reverse (vs ++ v ∷ [])) ks ms ≡ complete true (frames_over os vs ks ms) (view v) true
+complete_last os vs v ks ms = ap (λ us. complete_over os us ks ms) (reverse-append vs (v ∷ []))
+    ∙ ap (λ us. complete true (frames_over os us ks ms) (view v) true) (reverse-reverse vs)
 
 -- an array has it as its last item
 pub complete_item : (n : ℕ) (os : List StackFrame) (vs : List JsonValue) (v : JsonValue) (ks : Keys) (ms : List JsonMap) → n ≤ length vs
     → complete_over (frame.Array n ∷ os) (reverse (vs ++ v ∷ [])) ks ms ≡ next (frames_over (frame.Array n ∷ os) (vs ++ v ∷ []) ks ms) after
 complete_item n os vs v ks ms h =
     complete_last (frame.Array n ∷ os) vs v ks ms
-    ∙ ap₂ (λ ts us. next (in_array ts ∷ frames_over os us ks ms) after) (sym (ap (map view) (drop-append-le n vs (v ∷ []) h) ∙ map-append view (drop n vs) (v ∷ []))) (sym (take-append-le n vs (v ∷ []) h))
+    ∙ ap₂ (λ ts us. next (in_array ts ∷ frames_over os us ks ms) after)
+    (sym (ap (map view) (drop-append-le n vs (v ∷ []) h) ∙ map-append view (drop n vs) (v ∷ []))) (sym (take-append-le n vs (v ∷ []) h))
 
 -- an object has it as the value of its last key
-pub complete_member : (n m : ℕ) (os : List StackFrame) (vs : List JsonValue) (v : JsonValue) (ks : Keys) (ms : List JsonMap) → n ≤ length vs → m ≤ length ks → length ks + n ≡ suc (length vs + m)
-    → complete_over (frame.Member n m ∷ os) (reverse (vs ++ v ∷ [])) ks ms ≡ next (frames_over (frame.Object n m ∷ os) (vs ++ v ∷ []) ks ms) after
+pub complete_member : (n m : ℕ) (os : List StackFrame) (vs : List JsonValue) (v : JsonValue) (ks : Keys) (ms : List JsonMap) → n ≤ length vs
+    → m ≤ length ks → length ks + n ≡ suc (length vs + m)
+    → complete_over (frame.Member n m ∷ os) (reverse (vs ++ v ∷ [])) ks ms ≡ next
+    (frames_over (frame.Object n m ∷ os) (vs ++ v ∷ []) ks ms) after
 complete_member n m os vs v ks ms h k e =
-    let more : length (drop m ks) ≡ suc (length (drop n vs)) = length-drop m ks ∙ omega (arith, h, k, e) ∙ ap suc (sym (length-drop n vs)) in
+    let more : length (drop m ks) ≡ suc (length (drop n vs)) = length-drop m ks ∙ omega (arith, h, k, e)
+    ∙ ap suc (sym (length-drop n vs)) in
     complete_last (frame.Member n m ∷ os) vs v ks ms
     ∙ ap₂ (λ ns us. next (at_key ns ∷ frames_over os us (take m ks) (other_maps ms)) after)
-    (sym (ap (gather (own_members ms) (drop m ks)) (drop-append-le n vs (v ∷ []) h) ∙ gather_value (own_members ms) (drop m ks) (drop n vs) v more)) (sym (take-append-le n vs (v ∷ []) h))
+    (sym (ap (gather (own_members ms) (drop m ks)) (drop-append-le n vs (v ∷ []) h)
+    ∙ gather_value (own_members ms) (drop m ks) (drop n vs) v more)) (sym (take-append-le n vs (v ∷ []) h))
 
 -- ---- a container that begins
 
-pub frames_object : (os : List StackFrame) (vs : List JsonValue) (ks : Keys) (ms ns : List JsonMap) → own_members ns ≡ no_members → other_maps ns ≡ ms
+pub frames_object : (os : List StackFrame) (vs : List JsonValue) (ks : Keys) (ms ns : List JsonMap) → own_members ns ≡ no_members
+    → other_maps ns ≡ ms
     → frames_over (frame.Object (length vs) (length ks) ∷ os) vs ks ns ≡ at_key no_members ∷ frames_over os vs ks ms
 frames_object os vs ks ms ns own others =
-    ap₂ (λ ds es. at_key (gather (own_members ns) ds es) ∷ frames_over os (take (length vs) vs) (take (length ks) ks) (other_maps ns)) (drop-length ks) (drop-length vs)
+    ap₂ (λ ds es. at_key (gather (own_members ns) ds es) ∷ frames_over os (take (length vs) vs) (take (length ks) ks) (other_maps ns))
+    (drop-length ks) (drop-length vs)
     ∙ ap₂ (λ is js. at_key is ∷ frames_over os (take (length vs) vs) (take (length ks) ks) js) own others
     ∙ ap₂ (λ us js. at_key no_members ∷ frames_over os us js ms) (take-length vs) (take-length ks)
 
 -- ---- a key that is read
 
-pub frames_key : (n m : ℕ) (os : List StackFrame) (vs : List JsonValue) (ks : Keys) (ms : List JsonMap) (k : String Global) → n ≤ length vs → m ≤ length ks → length ks + n ≡ length vs + m
+pub frames_key : (n m : ℕ) (os : List StackFrame) (vs : List JsonValue) (ks : Keys) (ms : List JsonMap) (k : String Global) → n ≤ length vs
+    → m ≤ length ks → length ks + n ≡ length vs + m
     → frames_over (frame.Member n m ∷ os) vs (ks ++ k ∷ []) ms
     ≡ at_value (gather (own_members ms) (drop m ks) (drop n vs)) (text k) ∷ frames_over os (take n vs) (take m ks) (other_maps ms)
 frames_key n m os vs ks ms k h i e =
     let same : length (drop m ks) ≡ length (drop n vs) = length-drop m ks ∙ omega (arith, h, i, e) ∙ sym (length-drop n vs) in
-    ap₂ (λ js is. at_value (gather (own_members ms) js (drop n vs)) (waiting js (drop n vs)) ∷ frames_over os (take n vs) is (other_maps ms)) (drop-append-le m ks (k ∷ []) i) (take-append-le m ks (k ∷ []) i)
-    ∙ ap₂ (λ ns j. at_value ns j ∷ frames_over os (take n vs) (take m ks) (other_maps ms)) (gather_key (own_members ms) (drop m ks) (drop n vs) k same) (waiting_key (drop m ks) (drop n vs) k same)
+    ap₂ (λ js is. at_value (gather (own_members ms) js (drop n vs)) (waiting js (drop n vs)) ∷ frames_over os (take n vs) is
+    (other_maps ms)) (drop-append-le m ks (k ∷ []) i) (take-append-le m ks (k ∷ []) i)
+    ∙ ap₂ (λ ns j. at_value ns j ∷ frames_over os (take n vs) (take m ks) (other_maps ms))
+    (gather_key (own_members ms) (drop m ks) (drop n vs) k same) (waiting_key (drop m ks) (drop n vs) k same)
 
 -- ---- the innermost container
 
-pub length_frames_over : (os : List StackFrame) (vs : List JsonValue) (ks : Keys) (ms : List JsonMap) → length (frames_over os vs ks ms) ≡ length os
+pub length_frames_over : (os : List StackFrame) (vs : List JsonValue) (ks : Keys) (ms : List JsonMap)
+    → length (frames_over os vs ks ms) ≡ length os
 length_frames_over [] vs ks ms = refl
 length_frames_over (frame.Array n ∷ os) vs ks ms = ap suc (length_frames_over os (take n vs) ks ms)
 length_frames_over (frame.Object n m ∷ os) vs ks ms = ap suc (length_frames_over os (take n vs) (take m ks) (other_maps ms))
@@ -125,7 +146,8 @@ length_frames s = length_frames_over (open_of s) s.values.items s.keys.items (ma
 pub pushed : {T : Type 0} (xs : List T) (o : T) → reverse (xs ++ o ∷ []) ≡ o ∷ reverse xs
 pushed xs o = reverse-append xs (o ∷ [])
 
-pub popped : (old new : List StackFrame) (o : StackFrame) (os : List StackFrame) → reverse old ≡ o ∷ os → new ≡ take (length old - 1) old → reverse new ≡ os
+pub popped : (old new : List StackFrame) (o : StackFrame) (os : List StackFrame) → reverse old ≡ o ∷ os → new ≡ take (length old - 1) old
+    → reverse new ≡ os
 popped old new o os e h =
     let whole : old ≡ reverse os ++ o ∷ [] = sym (reverse-reverse old) ∙ ap reverse e ∙ reverse-append (o ∷ []) os in
     let size : length old ≡ length (reverse os) + 1 = ap length whole ∙ length-append (reverse os) (o ∷ []) in
@@ -136,8 +158,12 @@ pub awaits_key : (s : Stack) → AwaitsKey s → (ms : Members) × (fs : List Fr
 awaits_key s a =
     let n = a.0 in
     let m = a.1 in
-    let os = a.2.0 in
-    (gather (own_members (maps_of s)) (drop m s.keys.items) (drop n s.values.items), frames_over os (take n s.values.items) (take m s.keys.items) (other_maps (maps_of s)), ap (λ ps. frames_over ps s.values.items s.keys.items (maps_of s)) a.2.1)
+    let os = a.2.0 in (
+      gather (own_members (maps_of s)) (drop m s.keys.items) (drop n s.values.items),
+      frames_over os (take n s.values.items)
+          (take m s.keys.items) (other_maps (maps_of s)),
+      ap (λ ps. frames_over ps s.values.items s.keys.items (maps_of s)) a.2.1,
+    )
 
 -- ---- an array after an item
 
@@ -154,20 +180,24 @@ module _ (s : Stack) (w : HasComplete s) (n : ℕ) (os : List StackFrame) (i : o
   pub array_within : n ≤ length s.values.items
   array_within = omega (arith, array_size, array_lies.0)
 
-  pub array_complete : at s Complete ≡ next (in_array (map view (drop n s.values.items)) ∷ frames_over os (take n s.values.items) s.keys.items (maps_of s)) after
+  pub array_complete : at s Complete ≡ next (in_array (map view (drop n s.values.items)) ∷ frames_over os
+      (take n s.values.items) s.keys.items (maps_of s)) after
   array_complete =
       ap₂ (λ ps ws. complete_over ps (reverse ws) s.keys.items (maps_of s)) i w.values
       ∙ complete_item n os w.front w.last s.keys.items (maps_of s) array_lies.0
       ∙ ap (λ ws. next (frames_over (frame.Array n ∷ os) ws s.keys.items (maps_of s)) after) (sym w.values)
 
-  pub array_stays : next (frames s) awaited ≡ next (in_array (map view (drop n s.values.items)) ∷ frames_over os (take n s.values.items) s.keys.items (maps_of s)) awaited
+  pub array_stays : next (frames s) awaited ≡ next (in_array (map view (drop n s.values.items)) ∷ frames_over os
+      (take n s.values.items) s.keys.items (maps_of s)) awaited
   array_stays = ap (λ fs. next fs awaited) array_frames
 
-  pub closes_array : (new : Stack) (v : JsonValue) → open_of new ≡ os → new.values.items ≡ take n s.values.items → new.keys.items ≡ s.keys.items → maps_of new ≡ maps_of s
+  pub closes_array : (new : Stack) (v : JsonValue) → open_of new ≡ os → new.values.items ≡ take n s.values.items
+      → new.keys.items ≡ s.keys.items → maps_of new ≡ maps_of s
       → view v ≡ array (items_view (drop n s.values.items)) → ClosesArray s new v
   closes_array new v o a k t e = record {
     items = map view (drop n s.values.items);
-    before = array_complete ∙ ap (λ fs. next (in_array (map view (drop n s.values.items)) ∷ fs) after) (sym ((λ j. frames_over (o j) (a j) (k j) (t j))));
+    before = array_complete ∙ ap (λ fs. next (in_array (map view (drop n s.values.items)) ∷ fs) after)
+        (sym ((λ j. frames_over (o j) (a j) (k j) (t j))));
     value = e;
     sound =
         let size : length new.values.items ≡ n = ap length a ∙ length-take-le n s.values.items array_within in
@@ -196,11 +226,13 @@ module _ (s : Stack) (w : HasComplete s) (n m : ℕ) (os : List StackFrame) (i :
       ∙ complete_member n m os w.front w.last s.keys.items (maps_of s) member_lies.0 member_lies.1 member_lies.2
       ∙ ap (λ ws. next (frames_over (frame.Object n m ∷ os) ws s.keys.items (maps_of s)) after) (sym w.values)
 
-  pub closes_object : (new : Stack) (v : JsonValue) → open_of new ≡ os → new.values.items ≡ take n s.values.items → new.keys.items ≡ take m s.keys.items → maps_of new ≡ other_maps (maps_of s)
+  pub closes_object : (new : Stack) (v : JsonValue) → open_of new ≡ os → new.values.items ≡ take n s.values.items
+      → new.keys.items ≡ take m s.keys.items → maps_of new ≡ other_maps (maps_of s)
       → view v ≡ object (gather (own_members (maps_of s)) (drop m s.keys.items) (drop n s.values.items)) → ClosesObject s new v
   closes_object new v o a k t e = record {
     members = gather (own_members (maps_of s)) (drop m s.keys.items) (drop n s.values.items);
-    before = member_complete ∙ ap (λ fs. next (at_key (gather (own_members (maps_of s)) (drop m s.keys.items) (drop n s.values.items)) ∷ fs) after) (sym ((λ j. frames_over (o j) (a j) (k j) (t j))));
+    before = member_complete ∙ ap (λ fs. next (at_key (gather (own_members (maps_of s)) (drop m s.keys.items) (drop n s.values.items)) ∷ fs)
+        after) (sym ((λ j. frames_over (o j) (a j) (k j) (t j))));
     value = e;
     sound =
         let size : length new.values.items ≡ n = ap length a ∙ length-take-le n s.values.items member_values in
@@ -229,11 +261,14 @@ module _ (s : Stack) (a : AwaitsKey s) where
     pub key_other : is_white c ≡ false → (c ≡ 58 → ⊥) → onward limit (next (frames s) (colon k)) c ≡ stop (ExpectedColon c) true
     key_other w n = ap (λ fs. onward limit (next fs (colon k)) c) key_frames ∙ colon_other limit _ _ k c w n
 
-pub member_begins : (limit : Option ℕ) (old new : Stack) (k : List ℕ) (c : ℕ) → BeginsMember old new k → c ≡ 58 → onward limit (next (frames old) (colon k)) c ≡ next (frames new) awaited
-member_begins limit old new k c b e = ap (λ fs. onward limit (next fs (colon k)) c) b.before ∙ colon_read limit b.outer b.members k c e ∙ ap (λ fs. next fs awaited) (sym b.awaits_value)
+pub member_begins : (limit : Option ℕ) (old new : Stack) (k : List ℕ) (c : ℕ) → BeginsMember old new k → c ≡ 58
+    → onward limit (next (frames old) (colon k)) c ≡ next (frames new) awaited
+member_begins limit old new k c b e = ap (λ fs. onward limit (next fs (colon k)) c) b.before ∙ colon_read limit b.outer b.members k c e
+    ∙ ap (λ fs. next fs awaited) (sym b.awaits_value)
 
 -- a value that is not a key is complete without an error
-pub value_taken : (os : List StackFrame) (vs : List JsonValue) (ks : Keys) (ms : List JsonMap) (t : Tree) → TakesValue os → IsNext (complete true (frames_over os vs ks ms) t true)
+pub value_taken : (os : List StackFrame) (vs : List JsonValue) (ks : Keys) (ms : List JsonMap) (t : Tree) → TakesValue os
+    → IsNext (complete true (frames_over os vs ks ms) t true)
 value_taken [] vs ks ms t h = tt
 value_taken (frame.Array n ∷ os) vs ks ms t h = tt
 value_taken (frame.Object n m ∷ os) vs ks ms t h = absurd h
@@ -241,7 +276,8 @@ value_taken (frame.Member n m ∷ os) vs ks ms t h = tt
 
 -- ---- white space after a value
 
-module _ {S : Type 0} (sight : Sight S) (limit : Option ℕ) (p q : S) {n : Next} (fs : List Frame) (e : n ≡ next fs after) (w : Whites sight p q) where
+module _ {S : Type 0} (sight : Sight S) (limit : Option ℕ) (p q : S) {n : Next} (fs : List Frame) (e : n ≡ next fs after)
+    (w : Whites sight p q) where
   pub after_white : Leads sight limit p n q (next fs after)
   after_white = subst (λ m. Leads sight limit p m q (next fs after)) (sym e) (Leads_whites sight limit p q _ w tt (white_after limit fs))
 
@@ -249,7 +285,8 @@ module _ {S : Type 0} (sight : Sight S) (limit : Option ℕ) (p q : S) {n : Next
   after_halts = Halts_here sight limit p q after_white (subst IsNext (sym e) tt) tt
 
 -- a comma after a member, where a key is awaited next
-pub comma_read : (limit : Option ℕ) (s : Stack) → AwaitsKey s → (c : ℕ) → c ≡ 44 → onward limit (next (frames s) after) c ≡ next (frames s) awaited
+pub comma_read : (limit : Option ℕ) (s : Stack) → AwaitsKey s → (c : ℕ) → c ≡ 44
+    → onward limit (next (frames s) after) c ≡ next (frames s) awaited
 comma_read limit s a c e =
     let k = awaits_key s a in
     ap (λ fs. onward limit (next fs after) c) k.2 ∙ object_comma limit k.1 k.0 k.0 c refl e ∙ ap (λ fs. next fs awaited) (sym k.2)

@@ -1,5 +1,6 @@
 -- Members that are as many as others and stand among them are the same; and a comparison under way.
-use Rattle.std.proofs.Common.{◌≡◌, ℕ, suc, ◌+◌, ◌≤◌, Bool, true, false, ◌&&◌, List, [], ◌∷◌, ◌++◌, length, Option, Some, None, Ordering, Less, Equal, Greater, cond, bytes_eq, String, Global, true≢false, refl, sym, ap, ◌∙◌, subst, arith}
+use Rattle.std.proofs.Common.{◌≡◌, ℕ, suc, ◌+◌, ◌≤◌, Bool, true, false, ◌&&◌, List, [], ◌∷◌, ◌++◌, length, Option, Some, None, Ordering}
+use Rattle.std.proofs.Common.{Less, Equal, Greater, cond, bytes_eq, String, Global, true≢false, refl, sym, ap, ◌∙◌, subst, arith}
 use Rattle.std.proofs.Math.Bool.{and_assoc, and_comm}
 use Rattle.std.proofs.lemmas.Bool.{and_from, and_parts, and_right}
 use Rattle.std.proofs.lemmas.Bool.Decides.{same_from_decides}
@@ -12,7 +13,8 @@ use Rattle.std.specs.Option.{option_eq, option_map}
 use Rattle.std.specs.Ordering.{match_ordering}
 use Rattle.std.specs.String.{string_eq, string_eq_equiv}
 use Rattle.tinyjson.proofs.Values.Entries.{find_members_of, members_of_sorted}
-use Rattle.tinyjson_grammar.proofs.Callers.{find_below, find_put, flip, found_first, key_same, members_from_find, same_key, some_none, sorted_put}
+use Rattle.tinyjson_grammar.proofs.Callers.{find_below, find_put, flip, found_first, key_same, members_from_find, same_key, some_none}
+use Rattle.tinyjson_grammar.proofs.Callers.{sorted_put}
 use Rattle.tinyjson.proofs.Values.View.{Entry, view_lookup}
 use Rattle.tinyjson.specs.private.Comparison.{has_entry, has_entries, rest_eq, rests_eq, rest_weight, rests_weight}
 use Rattle.tinyjson.specs.Equality.{tree_eq, tree_eq_Decides, items_eq, members_eq, members_eq_Decides}
@@ -52,9 +54,11 @@ past_first k q u ms e = ap (λ b. cond b (Some u) (find q ms)) e
 Within_count : (ms ns : Members) → IsSorted ms → IsSorted ns → Within ms ns → count ms ≤ count ns
 Within_count no_members ns s r h = omega arith
 Within_count (member k t ms) no_members s r h = absurd (some_none t (sym (h k t (found_first k t ms))))
-Within_count (member k t ms) (member l u ns) s r h = by (key_cmp k l) refl (Within_count ms ns s.1 r.1) (Within_count (member k t ms) ns s r.1)
+Within_count (member k t ms) (member l u ns) s r h = by (key_cmp k l) refl (Within_count ms ns s.1 r.1)
+    (Within_count (member k t ms) ns s r.1)
   where
-    by : (o : Ordering) → key_cmp k l ≡ o → (Within ms ns → count ms ≤ count ns) → (Within (member k t ms) ns → 1 + count ms ≤ count ns) → 1 + count ms ≤ 1 + count ns
+    by : (o : Ordering) → key_cmp k l ≡ o → (Within ms ns → count ms ≤ count ns) → (Within (member k t ms) ns → 1 + count ms ≤ count ns)
+        → 1 + count ms ≤ 1 + count ns
     by Less e tails all = absurd (some_none t (sym (h k t (found_first k t ms)) ∙ find_below k (member l u ns) e r))
     by Equal e tails all =
         let le = tails (λ q x g.
@@ -69,7 +73,8 @@ count_put_le : (k : List ℕ) (t : Tree) (ms : Members) → count (put k t ms) �
 count_put_le k t no_members = omega arith
 count_put_le k t (member l u ms) = by (key_cmp k l) (count_put_le k t ms)
   where
-    by : (o : Ordering) → count (put k t ms) ≤ 1 + count ms → count (match_ordering o (member k t (member l u ms)) (member k t ms) (member l u (put k t ms))) ≤ 1 + (1 + count ms)
+    by : (o : Ordering) → count (put k t ms) ≤ 1 + count ms → count (match_ordering o (member k t (member l u ms)) (member k t ms)
+        (member l u (put k t ms))) ≤ 1 + (1 + count ms)
     by Less le = omega arith
     by Equal le = omega arith
     by Greater le = omega (arith, le)
@@ -93,7 +98,8 @@ Within_same ms ns s r h le = members_from_find ms ns s r (λ q. by q (find q ms)
     more q u f x t g = at (bytes_eq x q) refl
       where
         at : (b : Bool) → bytes_eq x q ≡ b → find x ns ≡ Some t
-        at true e = ap (λ y. find y ns) ((bytes_eq-Decides x q).0 e) ∙ (f ∙ (sym (ap (λ b. cond b (Some u) (find x ms)) e) ∙ (sym (find_put x q u ms) ∙ g)))
+        at true e = ap (λ y. find y ns) ((bytes_eq-Decides x q).0 e) ∙
+            (f ∙ (sym (ap (λ b. cond b (Some u) (find x ms)) e) ∙ (sym (find_put x q u ms) ∙ g)))
         at false e = h x t (sym (ap (λ b. cond b (Some u) (find x ms)) e) ∙ (sym (find_put x q u ms) ∙ g))
 
     by : (q : List ℕ) (o : Option Tree) → find q ms ≡ o → (p : Option Tree) → find q ns ≡ p → find q ms ≡ find q ns
@@ -110,7 +116,8 @@ Within_same ms ns s r h le = members_from_find ms ns s r (λ q. by q (find q ms)
 fresh : (e : Entry) (es : List Entry) → IsDistinct string_eq (keys_of (e ∷ es)) → find (text e.0) (members_view es) ≡ None
 fresh e es h =
     find_members_of e.0 (seen_entries es)
-    ∙ (view_lookup e.0 es ∙ ap (option_map view) (lookup-none (string_eq e.0) es (none_past_head string_eq_equiv e.0 e es h (string_eq_equiv.refl e.0))))
+    ∙ (view_lookup e.0 es ∙ ap (option_map view) (lookup-none (string_eq e.0) es
+    (none_past_head string_eq_equiv e.0 e es h (string_eq_equiv.refl e.0))))
 
 count_entries_le : (es : List Entry) → count (members_view es) ≤ length es
 count_entries_le [] = omega arith
@@ -138,10 +145,12 @@ Within_entries (e ∷ es) ns h q t g = by (bytes_eq q (text e.0)) refl (Within_e
     by : (b : Bool) → bytes_eq q (text e.0) ≡ b → (find q (members_view es) ≡ Some t → find q ns ≡ Some t) → find q ns ≡ Some t
     by true d rest =
         ap (λ x. find x ns) ((bytes_eq-Decides q (text e.0)).0 d)
-        ∙ (has_found (view e.1) (find (text e.0) ns) (and_parts (has_entry ns e) _ h).0 ∙ (sym (ap (λ b. cond b (Some (view e.1)) (find q (members_view es))) d) ∙ g'))
+        ∙ (has_found (view e.1) (find (text e.0) ns) (and_parts (has_entry ns e) _ h).0
+        ∙ (sym (ap (λ b. cond b (Some (view e.1)) (find q (members_view es))) d) ∙ g'))
     by false d rest = rest (sym (ap (λ b. cond b (Some (view e.1)) (find q (members_view es))) d) ∙ g')
 
-entries_Within : (es : List Entry) (ns : Members) → IsDistinct string_eq (keys_of es) → Within (members_view es) ns → has_entries ns es ≡ true
+entries_Within : (es : List Entry) (ns : Members) → IsDistinct string_eq (keys_of es) → Within (members_view es) ns
+    → has_entries ns es ≡ true
 unfolding IsDistinct
 entries_Within [] ns d w = refl
 entries_Within (e ∷ es) ns d w =
@@ -162,18 +171,21 @@ module _ (es fs : List Entry) (d : IsDistinct string_eq (keys_of es)) where
   same_entries same =
       let le : count (members_view fs) ≤ count (members_view es) = omega (arith, same, count_entries_le fs, count_entries es d) in
       same_from_decides _ _ (
-        λ h. Within_same (members_view es) (members_view fs) (members_of_sorted (seen_entries es)) (members_of_sorted (seen_entries fs)) (Within_entries es (members_view fs) h) le,
+        λ h. Within_same (members_view es) (members_view fs) (members_of_sorted (seen_entries es)) (members_of_sorted (seen_entries fs))
+            (Within_entries es (members_view fs) h) le,
         λ e. entries_Within es (members_view fs) d (subst (λ ms. Within (members_view es) ms) e (λ q t g. g)),
       )
       (members_eq_Decides (members_view es) (members_view fs))
 
   -- objects of two lengths differ
-  pub apart_entries : IsDistinct string_eq (keys_of fs) → (length es ≡ length fs → ⊥) → false ≡ members_eq (members_view es) (members_view fs)
+  pub apart_entries : IsDistinct string_eq (keys_of fs) → (length es ≡ length fs → ⊥)
+      → false ≡ members_eq (members_view es) (members_view fs)
   apart_entries f differ = by (members_eq (members_view es) (members_view fs)) refl
     where
       by : (b : Bool) → members_eq (members_view es) (members_view fs) ≡ b → false ≡ b
       by false e = refl
-      by true e = absurd (differ (sym (count_entries es d) ∙ (ap count ((members_eq_Decides (members_view es) (members_view fs)).0 e) ∙ count_entries fs f)))
+      by true e = absurd (differ (sym (count_entries es d) ∙ (ap count ((members_eq_Decides (members_view es) (members_view fs)).0 e)
+          ∙ count_entries fs f)))
 
 -- ---- what is left
 
@@ -181,7 +193,8 @@ pub rests_eq_last : (rs : List Rest) (r : Rest) → rests_eq (rs ++ r ∷ []) �
 rests_eq_last [] r = refl
 rests_eq_last (s ∷ rs) r =
     ap (λ b. rest_eq s && b) (rests_eq_last rs r)
-    ∙ (sym (and_assoc (rest_eq s) (rest_eq r) (rests_eq rs)) ∙ (ap (λ b. b && rests_eq rs) (and_comm (rest_eq s) (rest_eq r)) ∙ and_assoc (rest_eq r) (rest_eq s) (rests_eq rs)))
+    ∙ (sym (and_assoc (rest_eq s) (rest_eq r) (rests_eq rs)) ∙ (ap (λ b. b && rests_eq rs) (and_comm (rest_eq s) (rest_eq r))
+    ∙ and_assoc (rest_eq r) (rest_eq s) (rests_eq rs)))
 
 pub rests_weight_last : (rs : List Rest) (r : Rest) → rests_weight (rs ++ r ∷ []) ≡ rest_weight r + rests_weight rs
 rests_weight_last [] r = refl
@@ -201,8 +214,11 @@ module _ (r d w : Bool) (all : r && d ≡ w) where
   turn_deferred i o inside = sym (and_assoc i o d) ∙ (ap (λ b. b && d) inside ∙ all)
 
 -- one entry of an object beside what the other object has at its key
-pub entry_turn : (fs es all : List Entry) (k : String Global) (v : JsonValue) (w : Bool) (o : Option JsonValue) → has_entries (members_view fs) all ≡ w → all ≡ (k, v) ∷ es → o ≡ lookup (string_eq k) fs
+pub entry_turn : (fs es all : List Entry) (k : String Global) (v : JsonValue) (w : Bool) (o : Option JsonValue)
+    → has_entries (members_view fs) all ≡ w → all ≡ (k, v) ∷ es → o ≡ lookup (string_eq k) fs
     → option_eq tree_eq (Some (view v)) (option_map view o) && has_entries (members_view fs) es ≡ w
 entry_turn fs es all k v w o is step got =
-    let found : find (text k) (members_view fs) ≡ option_map view o = find_members_of k (seen_entries fs) ∙ (view_lookup k fs ∙ ap (option_map view) (sym got)) in
-    ap (λ p. option_eq tree_eq (Some (view v)) p && has_entries (members_view fs) es) (sym found) ∙ (sym (ap (has_entries (members_view fs)) step) ∙ is)
+    let found : find (text k) (members_view fs) ≡ option_map view o = find_members_of k (seen_entries fs)
+    ∙ (view_lookup k fs ∙ ap (option_map view) (sym got)) in
+    ap (λ p. option_eq tree_eq (Some (view v)) p && has_entries (members_view fs) es) (sym found)
+    ∙ (sym (ap (has_entries (members_view fs)) step) ∙ is)

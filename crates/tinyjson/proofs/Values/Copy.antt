@@ -26,10 +26,12 @@ pub weight_Object : (m : JsonMap) → weight (is.Object m) ≡ 2 + entries_weigh
 weight_Object m = search (rules, the_lemmas)
 
 -- entries whose keys are distinct, put after others
-pub put_all_append : (done more : List Entry) → IsDistinct string_eq (keys_of (done ++ more)) → put_all more (members_view done) ≡ members_view (done ++ more)
+pub put_all_append : (done more : List Entry) → IsDistinct string_eq (keys_of (done ++ more))
+    → put_all more (members_view done) ≡ members_view (done ++ more)
 put_all_append done [] h = ap members_view (sym (append-nil done))
 put_all_append done (e ∷ more) h =
-    ap (put_all more) (sym (members_view_last done e more h)) ∙ (put_all_append (done ++ e ∷ []) more (subst (λ es. IsDistinct string_eq (keys_of es)) (sym (append_assoc done (e ∷ []) more)) h)
+    ap (put_all more) (sym (members_view_last done e more h)) ∙ (put_all_append (done ++ e ∷ []) more
+    (subst (λ es. IsDistinct string_eq (keys_of es)) (sym (append_assoc done (e ∷ []) more)) h)
     ∙ ap members_view (append_assoc done (e ∷ []) more))
 
 pub put_all_none : (es : List Entry) → IsDistinct string_eq (keys_of es) → put_all es no_members ≡ members_view es

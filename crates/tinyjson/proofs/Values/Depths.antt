@@ -1,9 +1,11 @@
 -- What stands in a container is less deep; its items by their number.
-use Rattle.std.proofs.Common.{◌≡◌, ℕ, zero, suc, ◌<◌, ◌≤◌, max, Bool, true, false, cond, List, [], ◌∷◌, Some, None, length, bytes_eq, refl, ap, arith}
+use Rattle.std.proofs.Common.{◌≡◌, ℕ, zero, suc, ◌<◌, ◌≤◌, max, Bool, true, false, cond, List, [], ◌∷◌, Some, None, length, bytes_eq, refl}
+use Rattle.std.proofs.Common.{ap, arith}
 use Rattle.tinyjson.specs.Index.{nth, item_count}
 use Rattle.tinyjson.specs.View.{items_view}
 use Rattle.tinyjson.specs.declared.value.JsonValue.{JsonValue}
-use Rattle.tinyjson_grammar.specs.Tree.{Tree, array, object, Items, no_items, item, Members, no_members, member, find, tree_depth, items_depth, members_depth}
+use Rattle.tinyjson_grammar.specs.Tree.{Tree, array, object, Items, no_items, item, Members, no_members, member, find, tree_depth}
+use Rattle.tinyjson_grammar.specs.Tree.{items_depth, members_depth}
 
 within_items : (ts : Items) (i : ℕ) (t : Tree) → nth ts i ≡ Some t → tree_depth t ≤ items_depth ts
 within_items no_items i t h = cc
@@ -18,7 +20,8 @@ within_members : (ms : Members) (k : List ℕ) (t : Tree) → find k ms ≡ Some
 within_members no_members k t h = cc
 within_members (member l u ms) k t h = by (bytes_eq k l) h (within_members ms k t)
   where
-    by : (b : Bool) → cond b (Some u) (find k ms) ≡ Some t → (find k ms ≡ Some t → tree_depth t ≤ members_depth ms) → tree_depth t ≤ max (tree_depth u) (members_depth ms)
+    by : (b : Bool) → cond b (Some u) (find k ms) ≡ Some t → (find k ms ≡ Some t → tree_depth t ≤ members_depth ms)
+        → tree_depth t ≤ max (tree_depth u) (members_depth ms)
     by true g later = let e : tree_depth u ≡ tree_depth t = ap tree_depth cc in omega arith
     by false g later = let m = later g in omega arith
 

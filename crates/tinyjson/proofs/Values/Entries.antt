@@ -1,5 +1,6 @@
 -- A map's entries and the members that they stand for.
-use Rattle.std.proofs.Common.{◌≡◌, ℕ, Bool, true, false, List, [], ◌∷◌, Some, None, cond, bytes_eq, ◌⊎◌, inl, inr, String, Global, string_bytes, refl, sym, ap, ◌∙◌, subst}
+use Rattle.std.proofs.Common.{◌≡◌, ℕ, Bool, true, false, List, [], ◌∷◌, Some, None, cond, bytes_eq, ◌⊎◌, inl, inr, String, Global}
+use Rattle.std.proofs.Common.{string_bytes, refl, sym, ap, ◌∙◌, subst}
 use Rattle.std.proofs.lemmas.Bool.Decides.{same_from_decides}
 use Rattle.std.proofs.lemmas.Slice.Eq.{bytes_eq-Decides}
 use Rattle.std.proofs.lemmas.Str.{encodes-chars, IsUtf8-string_bytes}
@@ -53,12 +54,15 @@ SameLookups es fs = (k : String Global) → lookup (string_eq k) es ≡ lookup (
 
 -- entries with the same look-ups are the same members, in whatever order they stand
 pub members_from_lookups : (es fs : List Seen) → SameLookups es fs → members_of es ≡ members_of fs
-members_from_lookups es fs h = members_from_find (members_of es) (members_of fs) (members_of_sorted es) (members_of_sorted fs) (λ q. by q (None_or_text q es) (None_or_text q fs))
+members_from_lookups es fs h = members_from_find (members_of es) (members_of fs) (members_of_sorted es) (members_of_sorted fs)
+    (λ q. by q (None_or_text q es) (None_or_text q fs))
   where
     at : (q : List ℕ) → (k : String Global) × (q ≡ text k) → find q (members_of es) ≡ find q (members_of fs)
-    at q t = subst (λ x. find x (members_of es) ≡ find x (members_of fs)) (sym t.1) (find_members_of t.0 es ∙ (h t.0 ∙ sym (find_members_of t.0 fs)))
+    at q t = subst (λ x. find x (members_of es) ≡ find x (members_of fs)) (sym t.1)
+        (find_members_of t.0 es ∙ (h t.0 ∙ sym (find_members_of t.0 fs)))
 
-    by : (q : List ℕ) → (find q (members_of es) ≡ None) ⊎ ((k : String Global) × (q ≡ text k)) → (find q (members_of fs) ≡ None) ⊎ ((k : String Global) × (q ≡ text k)) → find q (members_of es) ≡ find q (members_of fs)
+    by : (q : List ℕ) → (find q (members_of es) ≡ None) ⊎ ((k : String Global) × (q ≡ text k))
+        → (find q (members_of fs) ≡ None) ⊎ ((k : String Global) × (q ≡ text k)) → find q (members_of es) ≡ find q (members_of fs)
     by q (inr t) r = at q t
     by q (inl n) (inr t) = at q t
     by q (inl n) (inl m) = n ∙ sym m

@@ -15,21 +15,25 @@ pub members_view_IsSorted : (es : List Entry) → IsSorted (members_view es)
 members_view_IsSorted es = members_of_sorted (seen_entries es)
 
 -- an entry's key is found in none of those before it
-pub find_done : (done more : List Entry) (e : Entry) → IsDistinct string_eq (keys_of (done ++ e ∷ more)) → find (text e.0) (members_view done) ≡ None
+pub find_done : (done more : List Entry) (e : Entry) → IsDistinct string_eq (keys_of (done ++ e ∷ more))
+    → find (text e.0) (members_view done) ≡ None
 unfolding IsDistinct
 find_done [] more e h = refl
 find_done (d ∷ done) more e h =
     find_put (text e.0) (text d.0) (view d.1) (members_view done)
-    ∙ (ap (λ b. cond b (Some (view d.1)) (find (text e.0) (members_view done))) (text_eq e.0 d.0 ∙ (string_eq_equiv.symm e.0 d.0 ∙ differs_later d.0 done e more h.0)) ∙ find_done done more e h.1)
+    ∙ (ap (λ b. cond b (Some (view d.1)) (find (text e.0) (members_view done)))
+    (text_eq e.0 d.0 ∙ (string_eq_equiv.symm e.0 d.0 ∙ differs_later d.0 done e more h.0)) ∙ find_done done more e h.1)
 
-find_apart : (e : Entry) (es : List Entry) → AllByRecursion (λ y. string_eq e.0 y ≡ false) (keys_of es) → find (text e.0) (members_view es) ≡ None
+find_apart : (e : Entry) (es : List Entry) → AllByRecursion (λ y. string_eq e.0 y ≡ false) (keys_of es)
+    → find (text e.0) (members_view es) ≡ None
 find_apart e [] h = refl
 find_apart e (d ∷ es) h =
     find_put (text e.0) (text d.0) (view d.1) (members_view es)
     ∙ (ap (λ b. cond b (Some (view d.1)) (find (text e.0) (members_view es))) (text_eq e.0 d.0 ∙ h.0) ∙ find_apart e es h.1)
 
 -- nor in any after it
-pub find_more : (done more : List Entry) (e : Entry) → IsDistinct string_eq (keys_of (done ++ e ∷ more)) → find (text e.0) (members_view more) ≡ None
+pub find_more : (done more : List Entry) (e : Entry) → IsDistinct string_eq (keys_of (done ++ e ∷ more))
+    → find (text e.0) (members_view more) ≡ None
 unfolding IsDistinct
 find_more [] more e h = find_apart e more h.0
 find_more (d ∷ done) more e h = find_more done more e h.1
@@ -53,7 +57,8 @@ rest_next es rest more e r h = record {
 }
 
 -- the keys of what is done, of a turn's entry and of what is left then
-pub rest_distinct : (es rest more : List Entry) (e : Entry) (r : IsRest es rest) → rest ≡ e ∷ more → IsDistinct string_eq (keys_of (r.done ++ e ∷ more))
+pub rest_distinct : (es rest more : List Entry) (e : Entry) (r : IsRest es rest) → rest ≡ e ∷ more
+    → IsDistinct string_eq (keys_of (r.done ++ e ∷ more))
 rest_distinct es rest more e r h = subst (λ x. IsDistinct string_eq (keys_of x)) (r.split ∙ ap (λ x. r.done ++ x) h) r.distinct
 
 -- with nothing left, all is done

@@ -16,13 +16,15 @@ use Rattle.tinyjson.specs.declared.value.JsonValue.TheOpen.{JsonValue-F}
 pub text_scalars : (s : String Global) → IsTrue (all_scalars (text s))
 text_scalars s = scalars-chars (string_bytes s) (IsUtf8-string_bytes s)
 
-are_put_at : (width : Width) (o : Ordering) (k l : List ℕ) (t u : Tree) (ms : Members) → IsTrue (all_scalars k) → IsTreeAt width t → AreMembersAt width (member l u ms) → AreMembersAt width (put k t ms)
+are_put_at : (width : Width) (o : Ordering) (k l : List ℕ) (t u : Tree) (ms : Members) → IsTrue (all_scalars k) → IsTreeAt width t
+    → AreMembersAt width (member l u ms) → AreMembersAt width (put k t ms)
     → AreMembersAt width (match_ordering o (member k t (member l u ms)) (member k t ms) (member l u (put k t ms)))
 are_put_at width Less k l t u ms a b c later = (a, b, c)
 are_put_at width Equal k l t u ms a b c later = (a, b, c.2)
 are_put_at width Greater k l t u ms a b c later = (c.0, c.1, later)
 
-pub are_put : (width : Width) (k : List ℕ) (t : Tree) (ms : Members) → IsTrue (all_scalars k) → IsTreeAt width t → AreMembersAt width ms → AreMembersAt width (put k t ms)
+pub are_put : (width : Width) (k : List ℕ) (t : Tree) (ms : Members) → IsTrue (all_scalars k) → IsTreeAt width t → AreMembersAt width ms
+    → AreMembersAt width (put k t ms)
 are_put width k t no_members a b c = (a, b, tt)
 are_put width k t (member l u ms) a b c = are_put_at width (key_cmp k l) k l t u ms a b c (are_put width k t ms a b c.2)
 
@@ -36,7 +38,8 @@ items_sound : (ts : List Sound) → AreItemsAt power_width (items_of (map view (
 items_sound [] = tt
 items_sound (t ∷ ts) = (t.1, items_sound ts)
 
-members_sound : (es : List (String Global × Sound)) → AreMembersAt power_width (members_view (map (λ (e : String Global × Sound). (e.0, e.1.0)) es))
+members_sound : (es : List (String Global × Sound)) → AreMembersAt power_width
+    (members_view (map (λ (e : String Global × Sound). (e.0, e.1.0)) es))
 members_sound [] = tt
 members_sound (e ∷ es) = are_put power_width (text e.0) (view e.1.0) _ (text_scalars e.0) e.1.1 (members_sound es)
 
@@ -49,8 +52,13 @@ layer_sound (JsonValue-F.Boolean b) = tt
 layer_sound (JsonValue-F.String s) = text_scalars s
 layer_sound JsonValue-F.Null = tt
 layer_sound (JsonValue-F.Array v) = items_sound v.items
-layer_sound (JsonValue-F.Object m) = (members_sound m.entries, members_of_sorted (seen_entries (map (λ (e : String Global × Sound). (e.0, e.1.0)) m.entries)))
+layer_sound (JsonValue-F.Object m) = (
+  members_sound m.entries,
+  members_of_sorted
+      (seen_entries (map (λ (e : String Global × Sound). (e.0, e.1.0)) m.entries)),
+)
 
 -- the tree of every value is sound
 pub view_IsTree : (v : JsonValue) → IsTree (view v)
-view_IsTree = ind-JsonValue Seen (λ x y e. subst (λ z. Seen (roll-JsonValue z)) e (subst IsTree (sym (fold-roll-JsonValue Tree view_step (held y))) (layer_sound y)))
+view_IsTree = ind-JsonValue Seen (λ x y e. subst (λ z. Seen (roll-JsonValue z)) e
+    (subst IsTree (sym (fold-roll-JsonValue Tree view_step (held y))) (layer_sound y)))

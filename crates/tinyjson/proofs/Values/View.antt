@@ -1,5 +1,6 @@
 -- A value, and a map's entries, beside the trees that they stand for.
-use Rattle.std.proofs.Common.{◌≡◌, rules, Vec, Bool, true, false, ℕ, List, [], ◌∷◌, ◌++◌, Bor, bytes_eq, string_bytes, Option, Some, None, cond, is_some, option_map, String, Global, ◌⊎◌, inl, inr, true≢false, refl, sym, ap, ◌∙◌, subst}
+use Rattle.std.proofs.Common.{◌≡◌, rules, Vec, Bool, true, false, ℕ, List, [], ◌∷◌, ◌++◌, Bor, bytes_eq, string_bytes, Option, Some, None}
+use Rattle.std.proofs.Common.{cond, is_some, option_map, String, Global, ◌⊎◌, inl, inr, true≢false, refl, sym, ap, ◌∙◌, subst}
 use Rattle.std.proofs.lemmas.Bool.Decides.{same_from_decides}
 use Rattle.std.proofs.lemmas.Slice.Eq.{bytes_eq-Decides}
 use Rattle.std.proofs.lemmas.Str.{encodes-chars, IsUtf8-string_bytes}
@@ -45,7 +46,8 @@ abbrev pub Entry : Type 0
 Entry = String Global × JsonValue
 
 -- an entry's value at a key, as a tree
-seen_value : (b : Bool) (v : JsonValue) (p : Option Tree) (q : Option JsonValue) → p ≡ option_map view q → cond b (Some (view v)) p ≡ option_map view (cond b (Some v) q)
+seen_value : (b : Bool) (v : JsonValue) (p : Option Tree) (q : Option JsonValue) → p ≡ option_map view q
+    → cond b (Some (view v)) p ≡ option_map view (cond b (Some v) q)
 seen_value true v p q e = refl
 seen_value false v p q e = e
 
@@ -54,7 +56,8 @@ view_lookup k [] = refl
 view_lookup k (e ∷ es) = seen_value (string_eq k e.0) e.1 _ _ (view_lookup k es)
 
 -- a map with v at k, and at other keys what it had
-pub members_view_updates : (old new : List Entry) (k : String Global) (v : JsonValue) → ((q : String Global) → lookup (string_eq q) new ≡ cond (string_eq k q) (Some v) (lookup (string_eq q) old))
+pub members_view_updates : (old new : List Entry) (k : String Global) (v : JsonValue)
+    → ((q : String Global) → lookup (string_eq q) new ≡ cond (string_eq k q) (Some v) (lookup (string_eq q) old))
     → members_view new ≡ put (text k) (view v) (members_view old)
 members_view_updates old new k v h =
     members_from_lookups (seen_entries new) ((k, view v) ∷ seen_entries old) (λ q.
@@ -63,10 +66,13 @@ members_view_updates old new k v h =
     view_lookup q new ∙ (ap (λ r. option_map view r) (h q ∙ side) ∙ sym (seen_value (string_eq q k) v _ _ (view_lookup q old))))
 
 -- a map with the same values at all keys
-pub members_view_same : (old new : List Entry) → ((q : String Global) → lookup (string_eq q) new ≡ lookup (string_eq q) old) → members_view new ≡ members_view old
-members_view_same old new h = members_from_lookups (seen_entries new) (seen_entries old) (λ q. view_lookup q new ∙ (ap (λ r. option_map view r) (h q) ∙ sym (view_lookup q old)))
+pub members_view_same : (old new : List Entry) → ((q : String Global) → lookup (string_eq q) new ≡ lookup (string_eq q) old)
+    → members_view new ≡ members_view old
+members_view_same old new h = members_from_lookups (seen_entries new) (seen_entries old)
+    (λ q. view_lookup q new ∙ (ap (λ r. option_map view r) (h q) ∙ sym (view_lookup q old)))
 
-pub differs_later : (d : String Global) (es : List Entry) (e : Entry) (more : List Entry) → AllByRecursion (λ y. string_eq d y ≡ false) (keys_of (es ++ e ∷ more)) → string_eq d e.0 ≡ false
+pub differs_later : (d : String Global) (es : List Entry) (e : Entry) (more : List Entry)
+    → AllByRecursion (λ y. string_eq d y ≡ false) (keys_of (es ++ e ∷ more)) → string_eq d e.0 ≡ false
 differs_later d [] e more h = h.0
 differs_later d (x ∷ es) e more h = differs_later d es e more h.1
 
@@ -77,10 +83,12 @@ lookup_last q [] e more h = refl
 lookup_last q (d ∷ done) e more h =
     let clash : string_eq q d.0 ≡ true → string_eq q e.0 ≡ true → ⊥
     = λ a b. true≢false (sym b ∙ (string_eq_equiv.congr q d.0 e.0 a ∙ differs_later d.0 done e more h.0)) in
-    ap (cond (string_eq q d.0) (Some d.1)) (lookup_last q done e more h.1) ∙ cond_swap (string_eq q d.0) (string_eq q e.0) (Some d.1) (Some e.1) (lookup (string_eq q) done) clash
+    ap (cond (string_eq q d.0) (Some d.1)) (lookup_last q done e more h.1)
+    ∙ cond_swap (string_eq q d.0) (string_eq q e.0) (Some d.1) (Some e.1) (lookup (string_eq q) done) clash
 
 -- one more entry, whose key is new
-pub members_view_last : (done : List Entry) (e : Entry) (more : List Entry) → IsDistinct string_eq (keys_of (done ++ e ∷ more)) → members_view (done ++ e ∷ []) ≡ put (text e.0) (view e.1) (members_view done)
+pub members_view_last : (done : List Entry) (e : Entry) (more : List Entry) → IsDistinct string_eq (keys_of (done ++ e ∷ more))
+    → members_view (done ++ e ∷ []) ≡ put (text e.0) (view e.1) (members_view done)
 members_view_last done e more h =
     members_view_updates done (done ++ e ∷ []) e.0 e.1 (λ q.
     lookup_last q done e more h ∙ ap (λ b. cond b (Some e.1) (lookup (string_eq q) done)) (string_eq_equiv.symm q e.0))
@@ -90,13 +98,19 @@ key_eq : (bs : List ℕ) (k : String Global) → IsUtf8 bs → bytes_eq (chars b
 key_eq bs k u =
     let both = bytes_eq-Decides (chars bs) (text k) in
     let bytes = bytes_eq-Decides bs (string_bytes k) in
-    same_from_decides _ _ both (λ e. ap chars (bytes.0 e), λ e. bytes.1 (sym (encodes-chars bs u) ∙ (ap encode_utf8_all e ∙ encodes-chars (string_bytes k) (IsUtf8-string_bytes k))))
+    same_from_decides _ _ both (
+      λ e. ap chars (bytes.0 e),
+      λ e. bytes.1
+          (sym (encodes-chars bs u) ∙ (ap encode_utf8_all e ∙ encodes-chars (string_bytes k) (IsUtf8-string_bytes k))),
+    )
 
-pub find_members_view : (bs : List ℕ) → IsUtf8 bs → (es : List Entry) → find (chars bs) (members_view es) ≡ option_map view (lookup (λ k. bytes_eq bs (string_bytes k)) es)
+pub find_members_view : (bs : List ℕ) → IsUtf8 bs → (es : List Entry) → find (chars bs) (members_view es) ≡ option_map view
+    (lookup (λ k. bytes_eq bs (string_bytes k)) es)
 find_members_view bs u [] = refl
 find_members_view bs u (e ∷ es) =
     find_put (chars bs) (text e.0) (view e.1) (members_view es)
-    ∙ (ap (λ b. cond b (Some (view e.1)) (find (chars bs) (members_view es))) (key_eq bs e.0 u) ∙ seen_value (bytes_eq bs (string_bytes e.0)) e.1 _ _ (find_members_view bs u es))
+    ∙ (ap (λ b. cond b (Some (view e.1)) (find (chars bs) (members_view es))) (key_eq bs e.0 u)
+    ∙ seen_value (bytes_eq bs (string_bytes e.0)) e.1 _ _ (find_members_view bs u es))
 
 option_map_cond : (b : Bool) (o p : Option JsonValue) → option_map view (cond b o p) ≡ cond b (option_map view o) (option_map view p)
 option_map_cond true o p = refl
@@ -109,7 +123,8 @@ module _ (old new : List Entry) (bs : List ℕ) (o : Option JsonValue) (ms : Mem
     (absent : find (chars bs) (members_view old) ≡ None → o ≡ None) where
   key_eq_flip : (k : String Global) → bytes_eq bs (string_bytes k) ≡ bytes_eq (text k) (chars bs)
   key_eq_flip k =
-      sym (key_eq bs k u) ∙ same_from_decides _ _ (bytes_eq-Decides (chars bs) (text k)) (λ e. sym ((bytes_eq-Decides (text k) (chars bs)).0 e), λ e. (bytes_eq-Decides (text k) (chars bs)).1 (sym e))
+      sym (key_eq bs k u) ∙ same_from_decides _ _ (bytes_eq-Decides (chars bs) (text k))
+      (λ e. sym ((bytes_eq-Decides (text k) (chars bs)).0 e), λ e. (bytes_eq-Decides (text k) (chars bs)).1 (sym e))
 
   changed_key : (k : String Global) → find (text k) (members_view new) ≡ find (text k) ms
   changed_key k =
@@ -117,7 +132,8 @@ module _ (old new : List Entry) (bs : List ℕ) (o : Option JsonValue) (ms : Mem
       ∙ (view_lookup k new
       ∙ (ap (λ r. option_map view r) (updates k)
       ∙ (option_map_cond (bytes_eq bs (string_bytes k)) o (lookup (string_eq k) old)
-      ∙ ((λ i. cond (key_eq_flip k i) (option_map view o) (sym (find_members_of k (seen_entries old) ∙ view_lookup k old) i)) ∙ sym (finds (text k))))))
+      ∙ ((λ i. cond (key_eq_flip k i) (option_map view o) (sym (find_members_of k (seen_entries old) ∙ view_lookup k old) i))
+      ∙ sym (finds (text k))))))
 
   not_there : (q : List ℕ) → find q (members_view old) ≡ None → find q ms ≡ None
   not_there q n = finds q ∙ by (bytes_eq q (chars bs)) refl
@@ -128,12 +144,14 @@ module _ (old new : List Entry) (bs : List ℕ) (o : Option JsonValue) (ms : Mem
 
   members_view_changes : IsSorted ms → members_view new ≡ ms
   members_view_changes sorted =
-      members_from_find (members_view new) ms (members_of_sorted (seen_entries new)) sorted (λ q. by q (None_or_text q (seen_entries old)) (None_or_text q (seen_entries new)))
+      members_from_find (members_view new) ms (members_of_sorted (seen_entries new)) sorted
+      (λ q. by q (None_or_text q (seen_entries old)) (None_or_text q (seen_entries new)))
     where
       at : (q : List ℕ) → (k : String Global) × (q ≡ text k) → find q (members_view new) ≡ find q ms
       at q t = subst (λ x. find x (members_view new) ≡ find x ms) (sym t.1) (changed_key t.0)
 
-      by : (q : List ℕ) → (find q (members_view old) ≡ None) ⊎ ((k : String Global) × (q ≡ text k)) → (find q (members_view new) ≡ None) ⊎ ((k : String Global) × (q ≡ text k)) → find q (members_view new) ≡ find q ms
+      by : (q : List ℕ) → (find q (members_view old) ≡ None) ⊎ ((k : String Global) × (q ≡ text k))
+          → (find q (members_view new) ≡ None) ⊎ ((k : String Global) × (q ≡ text k)) → find q (members_view new) ≡ find q ms
       by q (inr t) r = at q t
       by q (inl n) (inr t) = at q t
       by q (inl n) (inl m) = m ∙ sym (not_there q n)
@@ -143,7 +161,8 @@ none_there (Some v) s h = cc
 none_there None s h = cc
 
 -- a map with v at a key that it has, and at other keys what it had
-pub members_view_writes : (old new : List Entry) (bs : List ℕ) (v : JsonValue) → IsUtf8 bs → IsSome (lookup (λ k. bytes_eq bs (string_bytes k)) old)
+pub members_view_writes : (old new : List Entry) (bs : List ℕ) (v : JsonValue) → IsUtf8 bs
+    → IsSome (lookup (λ k. bytes_eq bs (string_bytes k)) old)
     → ((q : String Global) → lookup (string_eq q) new ≡ cond (bytes_eq bs (string_bytes q)) (Some v) (lookup (string_eq q) old))
     → members_view new ≡ put (chars bs) (view v) (members_view old)
 members_view_writes old new bs v u there updates =
@@ -172,22 +191,27 @@ find_text k es = find_members_view (string_bytes k) (IsUtf8-string_bytes k) es
 
 -- a map with v at k, which it lacked
 pub members_view_added : (old new : List Entry) (k : String Global) (v : JsonValue) → lookup (string_eq k) old ≡ None
-    → ((q : String Global) → lookup (string_eq q) new ≡ cond (string_eq k q) (Some v) (lookup (string_eq q) old)) → members_view new ≡ add (text k) (view v) (members_view old)
+    → ((q : String Global) → lookup (string_eq q) new ≡ cond (string_eq k q) (Some v) (lookup (string_eq q) old))
+    → members_view new ≡ add (text k) (view v) (members_view old)
 members_view_added old new k v none h =
     members_view_updates old new k v h
-    ∙ ap (λ o. cond (is_some o) (members_view old) (put (text k) (view v) (members_view old))) (sym (find_text k old ∙ ap (option_map view) none))
+    ∙ ap (λ o. cond (is_some o) (members_view old) (put (text k) (view v) (members_view old)))
+    (sym (find_text k old ∙ ap (option_map view) none))
 
 -- a map with v at k, which it had there
 pub members_view_kept : (old new : List Entry) (k : String Global) (w v : JsonValue) → lookup (string_eq k) old ≡ Some v
-    → ((q : String Global) → lookup (string_eq q) new ≡ cond (string_eq k q) (Some v) (lookup (string_eq q) old)) → members_view new ≡ add (text k) (view w) (members_view old)
+    → ((q : String Global) → lookup (string_eq q) new ≡ cond (string_eq k q) (Some v) (lookup (string_eq q) old))
+    → members_view new ≡ add (text k) (view w) (members_view old)
 members_view_kept old new k w v some h =
     let ms = members_view old in
     let found : find (text k) ms ≡ Some (view v) = find_text k old ∙ ap (option_map view) some in
     let sorted = members_of_sorted (seen_entries old) in
     members_view_updates old new k v h
-    ∙ members_from_find _ _ (sorted_put (text k) (view v) ms sorted) sorted (λ q. find_put q (text k) (view v) ms ∙ at q (bytes_eq q (text k)) refl found)
+    ∙ members_from_find _ _ (sorted_put (text k) (view v) ms sorted) sorted
+    (λ q. find_put q (text k) (view v) ms ∙ at q (bytes_eq q (text k)) refl found)
     ∙ ap (λ o. cond (is_some o) ms (put (text k) (view w) ms)) (sym found)
   where
-    at : (q : List ℕ) (b : Bool) → bytes_eq q (text k) ≡ b → find (text k) (members_view old) ≡ Some (view v) → cond b (Some (view v)) (find q (members_view old)) ≡ find q (members_view old)
+    at : (q : List ℕ) (b : Bool) → bytes_eq q (text k) ≡ b → find (text k) (members_view old) ≡ Some (view v)
+        → cond b (Some (view v)) (find q (members_view old)) ≡ find q (members_view old)
     at q true e found = sym (ap (λ x. find x (members_view old)) ((bytes_eq-Decides q (text k)).0 e) ∙ found)
     at q false e found = refl

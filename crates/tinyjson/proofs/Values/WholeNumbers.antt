@@ -14,7 +14,8 @@ same_magnitude b c m n fm fn e = sym (magnitude_whole b m fm) ∙ ap magnitude_o
 signs_differ : (m n : ℕ) → m < 2 ^ 64 → suc n < 2 ^ 64 → whole_decimal false m ≡ whole_decimal true (suc n) → ⊥
 signs_differ m n fm fn e =
     let q : m ≡ suc n = same_magnitude false true m (suc n) fm fn e in
-    false≢true (sym (negative_whole false m (omega (arith, q)) fm) ∙ ap (λ (d : Decimal). d.negative) e ∙ negative_whole true (suc n) (omega arith) fn)
+    false≢true (sym (negative_whole false m (omega (arith, q)) fm) ∙ ap (λ (d : Decimal). d.negative) e
+    ∙ negative_whole true (suc n) (omega arith) fn)
 
 -- two integers of `i64` with one decimal are one
 pub integers_differ : (z w : ℤ) → FitsSigned w64 z → FitsSigned w64 w → integer_decimal z ≡ integer_decimal w → z ≡ w

@@ -1,5 +1,6 @@
 -- The members of a map in a list of references to keys and values, sorted by the keys' bytes.
-use Rattle.std.proofs.Common.{◌≡◌, ℕ, ◌+◌, List, [], ◌∷◌, map, length, get_or, refl, sym, ◌∙◌, ap, subst, string_bytes, String, Global, arith}
+use Rattle.std.proofs.Common.{◌≡◌, ℕ, ◌+◌, List, [], ◌∷◌, map, length, get_or, refl, sym, ◌∙◌, ap, subst, string_bytes, String, Global}
+use Rattle.std.proofs.Common.{arith}
 use Rattle.std.specs.Borrow.{Bor}
 use Rattle.std.specs.List.{IsDistinct}
 use Rattle.std.specs.List.Sorted.{IsPermutation, IsSortedBy}
@@ -32,20 +33,24 @@ now_pairs : (es : List Lent) → map now_pair (map as_pair es) ≡ map listed_pa
 now_pairs [] = refl
 now_pairs (e ∷ es) = ap (λ w. listed_pair e ∷ w) (now_pairs es)
 
-sorted_pairs : (es : List Lent) → IsSortedBy (λ a b. is_lt (bytes_cmp (key_bytes a) (key_bytes b))) es → IsSortedBy (λ a b. is_lt (bytes_cmp (key a) (key b))) (map as_pair es)
+sorted_pairs : (es : List Lent) → IsSortedBy (λ a b. is_lt (bytes_cmp (key_bytes a) (key_bytes b))) es
+    → IsSortedBy (λ a b. is_lt (bytes_cmp (key a) (key b))) (map as_pair es)
 sorted_pairs [] s k d low h = absurd (omega arith)
 sorted_pairs (e ∷ es) s k d low h =
     let n : length (map as_pair (e ∷ es)) ≡ length (e ∷ es) = length-map (e ∷ es) as_pair in
-    let there : get_or (map as_pair (e ∷ es)) (k + 1) d ≡ as_pair (get_or (e ∷ es) (k + 1) e) = get_or-map as_pair (e ∷ es) (k + 1) e d (omega arith) in
+    let there : get_or (map as_pair (e ∷ es)) (k + 1) d ≡ as_pair (get_or (e ∷ es) (k + 1) e) =
+    get_or-map as_pair (e ∷ es) (k + 1) e d (omega arith) in
     let here : get_or (map as_pair (e ∷ es)) k d ≡ as_pair (get_or (e ∷ es) k e) = get_or-map as_pair (e ∷ es) k e d (omega arith) in
     ap (λ p. is_lt (bytes_cmp (key p) (key (get_or (map as_pair (e ∷ es)) k d)))) there
     ∙ (ap (λ p. is_lt (bytes_cmp (key_bytes (get_or (e ∷ es) (k + 1) e)) (key p))) here ∙ s k e (omega arith) (omega arith))
 
 -- the sorted list has the map's members
 pub members_listed_sorted : (es : List Entry) (xs ys : List Lent)
-    → IsDistinct string_eq (keys_of es) → map listed_pair xs ≡ map bytes_pair es → IsPermutation xs ys → IsSortedBy (λ a b. is_lt (bytes_cmp (key_bytes a) (key_bytes b))) ys
+    → IsDistinct string_eq (keys_of es) → map listed_pair xs ≡ map bytes_pair es → IsPermutation xs ys
+    → IsSortedBy (λ a b. is_lt (bytes_cmp (key_bytes a) (key_bytes b))) ys
     → members_listed ys ≡ members_view es
 members_listed_sorted es xs ys d same p s =
     let q : IsPermutation (map bytes_pair es) (map now_pair (map as_pair ys))
-    = subst (λ w. IsPermutation w (map now_pair (map as_pair ys))) same (subst (IsPermutation (map listed_pair xs)) (sym (now_pairs ys)) (IsPermutation-map listed_pair xs ys p)) in
+    = subst (λ w. IsPermutation w (map now_pair (map as_pair ys))) same
+    (subst (IsPermutation (map listed_pair xs)) (sym (now_pairs ys)) (IsPermutation-map listed_pair xs ys p)) in
     sym (listed_pairs ys) ∙ sorted_members_view es (map as_pair ys) d q (sorted_pairs ys s)

@@ -1,14 +1,17 @@
 -- The characters of a written text are scalar values, so its bytes are UTF-8.
-use Rattle.std.proofs.Common.{◌≡◌, ℕ, zero, suc, ◌+◌, Bool, true, false, List, [], ◌∷◌, ◌++◌, Option, None, Some, IfSome, IsTrue, inl, inr, codes, lit<, refl, sym, subst, arith}
+use Rattle.std.proofs.Common.{◌≡◌, ℕ, zero, suc, ◌+◌, Bool, true, false, List, [], ◌∷◌, ◌++◌, Option, None, Some, IfSome, IsTrue, inl, inr}
+use Rattle.std.proofs.Common.{codes, lit<, refl, sym, subst, arith}
 use Rattle.std.specs.Str.{all_scalars, IsUtf8, IsAscii, encode_utf8_all, chars}
 use Rattle.std.proofs.lemmas.Bool.{and_from, and_parts, cases_lt}
 use Rattle.std.proofs.lemmas.Bool.Decides.{nat_tests}
 use Rattle.std.proofs.lemmas.Str.{chars_from_encodes, chars-IsAscii}
 use Rattle.tinyjson_number.proofs.Callers.{decimal_ascii}
-use Rattle.tinyjson_grammar.specs.Tree.{Tree, null, boolean, number, string, array, object, Items, no_items, item, Members, no_members, member}
+use Rattle.tinyjson_grammar.specs.Tree.{Tree, null, boolean, number, string, array, object, Items, no_items, item, Members, no_members}
+use Rattle.tinyjson_grammar.specs.Tree.{member}
 use Rattle.tinyjson_grammar.specs.Soundness.{IsTree, AreItemsAt, AreMembersAt}
 use Rattle.tinyjson_number.specs.Numeral.{power_width}
-use Rattle.tinyjson_grammar.specs.Text.{text, items_text, members_text, escape, escapes, quoted, newline, repeated, before, closing, after_colon, has_no_items, has_no_members}
+use Rattle.tinyjson_grammar.specs.Text.{text, items_text, members_text, escape, escapes, quoted, newline, repeated, before, closing}
+use Rattle.tinyjson_grammar.specs.Text.{after_colon, has_no_items, has_no_members}
 use Rattle.tinyjson_output.proofs.Callers.{escape_ascii, high, two_ascii}
 
 abbrev pub AreScalars : List ℕ → Type 0
@@ -23,11 +26,16 @@ ascii_scalars [] h = refl
 ascii_scalars (c ∷ cs) h = and_from _ _ (let l = h 0 in grind (arith, nat_tests)) (ascii_scalars cs (λ i. h (suc i)))
 
 escape_scalars : (c : ℕ) → AreScalars (c ∷ []) → AreScalars (escape c)
-escape_scalars c h = elim (cases_lt c 128) [ inr k ↦ subst AreScalars (sym (high c k)) h | inl k ↦ ascii_scalars (escape c) (escape_ascii c k) ]
+escape_scalars c h = elim (cases_lt c 128) [
+  | inr k ↦ subst AreScalars (sym (high c k)) h
+  | inl k ↦ ascii_scalars (escape c)
+      (escape_ascii c k)
+]
 
 escapes_scalars : (cs : List ℕ) → AreScalars cs → AreScalars (escapes cs)
 escapes_scalars [] h = refl
-escapes_scalars (c ∷ cs) h = let p = and_parts _ (all_scalars cs) h in scalars_append (escape c) (escapes cs) (escape_scalars c (and_from _ _ p.0 refl)) (escapes_scalars cs p.1)
+escapes_scalars (c ∷ cs) h = let p = and_parts _ (all_scalars cs) h in
+    scalars_append (escape c) (escapes cs) (escape_scalars c (and_from _ _ p.0 refl)) (escapes_scalars cs p.1)
 
 quoted_scalars : (cs : List ℕ) → AreScalars cs → AreScalars (quoted cs)
 quoted_scalars cs h = scalars_append (escapes cs) (34 ∷ []) (escapes_scalars cs h) refl
@@ -61,19 +69,23 @@ module _ (w : Option (List ℕ)) (indent : IfSome w AreScalars) where
     text_of_scalars k (boolean false) h = refl
     text_of_scalars k (number d) h = ascii_scalars _ (decimal_ascii d h)
     text_of_scalars k (string cs) h = quoted_scalars cs h
-    text_of_scalars k (array ts) h = scalars_append (items_text w (k + 1) true ts) _ (items_scalars (k + 1) true ts h) (closing_scalars k (has_no_items ts) 93 refl)
-    text_of_scalars k (object ms) h = scalars_append (members_text w (k + 1) true ms) _ (members_scalars (k + 1) true ms h.0) (closing_scalars k (has_no_members ms) 125 refl)
+    text_of_scalars k (array ts) h = scalars_append (items_text w (k + 1) true ts) _ (items_scalars (k + 1) true ts h)
+        (closing_scalars k (has_no_items ts) 93 refl)
+    text_of_scalars k (object ms) h = scalars_append (members_text w (k + 1) true ms) _ (members_scalars (k + 1) true ms h.0)
+        (closing_scalars k (has_no_members ms) 125 refl)
 
     items_scalars : (k : ℕ) (first : Bool) (ts : Items) → AreItemsAt power_width ts → AreScalars (items_text w k first ts)
     items_scalars k first no_items h = refl
-    items_scalars k first (item t ts) h = scalars_append (before w k first) _ (before_scalars k first) (scalars_append (text w k t) _ (text_of_scalars k t h.0) (items_scalars k false ts h.1))
+    items_scalars k first (item t ts) h = scalars_append (before w k first) _ (before_scalars k first)
+        (scalars_append (text w k t) _ (text_of_scalars k t h.0) (items_scalars k false ts h.1))
 
     members_scalars : (k : ℕ) (first : Bool) (ms : Members) → AreMembersAt power_width ms → AreScalars (members_text w k first ms)
     members_scalars k first no_members h = refl
     members_scalars k first (member key t ms) h =
         scalars_append (before w k first) _ (before_scalars k first)
         (scalars_append (quoted key ++ (58 ∷ (after_colon w ++ text w k t))) _
-        (scalars_append (quoted key) _ (quoted_scalars key h.0) (colon_scalars w (text w k t) (text_of_scalars k t h.1))) (members_scalars k false ms h.2))
+        (scalars_append (quoted key) _ (quoted_scalars key h.0) (colon_scalars w (text w k t) (text_of_scalars k t h.1)))
+        (members_scalars k false ms h.2))
 
 pub encoded_utf8 : (cs : List ℕ) → AreScalars cs → IsUtf8 (encode_utf8_all cs)
 encoded_utf8 cs h = (cs, (h, refl))

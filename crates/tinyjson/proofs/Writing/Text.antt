@@ -1,5 +1,6 @@
 -- The texts of containers as bytes, piece by piece.
-use Rattle.std.proofs.Common.{◌≡◌, ℕ, suc, ◌+◌, Bool, true, false, Option, List, [], ◌∷◌, ◌++◌, length, ◌-◌, refl, ◌∙◌, ap, String, string_bytes, arith, ◌<◌}
+use Rattle.std.proofs.Common.{◌≡◌, ℕ, suc, ◌+◌, Bool, true, false, Option, List, [], ◌∷◌, ◌++◌, length, ◌-◌, refl, ◌∙◌, ap, String}
+use Rattle.std.proofs.Common.{string_bytes, arith, ◌<◌}
 use Rattle.std.specs.declared.alloc.Global.{Global}
 use Rattle.std.specs.Str.{chars, IsUtf8}
 use Rattle.std.specs.Bool.{nat_eq}
@@ -35,15 +36,19 @@ no_items_is (x ∷ xs) = grind (arith, nat_tests)
 
 put_some : (k : List ℕ) (t : Tree) (ms : Members) → has_no_members (put k t ms) ≡ false
 put_some k t no_members = refl
-put_some k t (member l u ms) = elim (slice_cmp nat_cmp (enc k) (enc l)) as (λ r. has_no_members (match_ordering r (member k t (member l u ms)) (member k t ms) (member l u (put k t ms))) ≡ false) [ Less ↦ refl | Equal ↦ refl | Greater ↦ refl ]
+put_some k t (member l u ms) = elim (slice_cmp nat_cmp (enc k) (enc l)) as
+    (λ r. has_no_members (match_ordering r (member k t (member l u ms)) (member k t ms) (member l u (put k t ms))) ≡ false)
+    [ Less ↦ refl | Equal ↦ refl | Greater ↦ refl ]
 
 -- one more indent of a line
-pub line_here : (level done : ℕ) (bs : List ℕ) → IsUtf8 bs → done < level → enc (repeated (level - done) (chars bs)) ≡ bs ++ enc (repeated (level - (done + 1)) (chars bs))
+pub line_here : (level done : ℕ) (bs : List ℕ) → IsUtf8 bs → done < level
+    → enc (repeated (level - done) (chars bs)) ≡ bs ++ enc (repeated (level - (done + 1)) (chars bs))
 line_here level done bs u h =
     let r = repeated (level - (done + 1)) (chars bs) in
     let e : level - done ≡ suc (level - (done + 1)) = omega arith in
     ap (λ n. enc (repeated n (chars bs))) e ∙ encodes-append (chars bs) r ∙ ap (λ w. w ++ enc r) (encodes-chars bs u)
 
-pub some_members : (es : List (String Global × JsonValue)) (b : Bool) → (length es ≡ 0 → b ≡ true) → b ≡ false → has_no_members (members_view es) ≡ false
+pub some_members : (es : List (String Global × JsonValue)) (b : Bool) → (length es ≡ 0 → b ≡ true) → b ≡ false
+    → has_no_members (members_view es) ≡ false
 some_members [] b h e = let t = h refl in cc
 some_members (x ∷ es) b h e = put_some (chars (string_bytes x.0)) (view x.1) (members_view es)

@@ -1,5 +1,6 @@
 -- The bytes of words, and of containers that are empty.
-use Rattle.std.proofs.Common.{◌≡◌, ℕ, Bool, true, false, Option, None, Some, List, [], ◌∷◌, length, Result, Bor, refl, sym, ◌∙◌, ap, subst, arith, ◌<◌, String, Global}
+use Rattle.std.proofs.Common.{◌≡◌, ℕ, Bool, true, false, Option, None, Some, List, [], ◌∷◌, length, Result, Bor, refl, sym, ◌∙◌, ap, subst}
+use Rattle.std.proofs.Common.{arith, ◌<◌, String, Global}
 use Rattle.tinyjson.specs.declared.value.JsonValue.{JsonValue}
 use Rattle.tinyjson.specs.declared.value.JsonValue.TheVariants as is
 use Rattle.tinyjson.specs.Indent.{indent_of}
@@ -60,5 +61,6 @@ part_same {old} {new} e h = subst (SentPart old new) (sym e) h
 pub sent_same : {old new : Output} {bs cs : List ℕ} → bs ≡ cs → Sent old new cs [] → Sent old new bs []
 sent_same {old} {new} e h = subst (λ b. Sent old new b []) (sym e) h
 
-pub sends_same : {T E : Type 0} (old new : Output) (bs cs : List ℕ) (r : Result T E) → bs ≡ cs → SendsFrom old new cs r → SendsFrom old new bs r
+pub sends_same : {T E : Type 0} (old new : Output) (bs cs : List ℕ) (r : Result T E) → bs ≡ cs → SendsFrom old new cs r
+    → SendsFrom old new bs r
 sends_same old new bs cs r e h = subst (λ b. SendsFrom old new b r) (sym e) h

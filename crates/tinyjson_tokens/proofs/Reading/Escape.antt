@@ -1,5 +1,7 @@
 -- Escapes among the bytes of a text.
-use Rattle.std.proofs.Common.{◌≡◌, ℕ, suc, ◌+◌, ◌*◌, ◌/◌, ◌%◌, ◌-◌, ◌||◌, ◌&&◌, ◌<◌, ◌≤◌, ◌==◌, Bool, true, false, true≢false, not, cond, List, [], ◌∷◌, ◌++◌, length, take, drop, get_or, Option, None, Some, inl, inr, Result, is_err, refl, sym, ap, ap₂, ◌∙◌, subst, arith, length-append, append-nil, append_assoc, drop-cons, add-zero}
+use Rattle.std.proofs.Common.{◌≡◌, ℕ, suc, ◌+◌, ◌*◌, ◌/◌, ◌%◌, ◌-◌, ◌||◌, ◌&&◌, ◌<◌, ◌≤◌, ◌==◌, Bool, true, false, true≢false, not, cond}
+use Rattle.std.proofs.Common.{List, [], ◌∷◌, ◌++◌, length, take, drop, get_or, Option, None, Some, inl, inr, Result, is_err, refl, sym, ap}
+use Rattle.std.proofs.Common.{ap₂, ◌∙◌, subst, arith, length-append, append-nil, append_assoc, drop-cons, add-zero}
 use Rattle.std.specs.Prelude.{nat_lt}
 use Rattle.std.specs.Int.Bits.{bit_and, bit_or}
 use Rattle.std.specs.Char.{is_ascii, digit_value}
@@ -24,7 +26,8 @@ use Rattle.tinyjson_tokens.proofs.Letters.{All_append, text_sight}
 use Rattle.tinyjson_tokens.proofs.Units.{paired_append, decode_append}
 use Rattle.tinyjson_tokens.proofs.Slices.{between, small, step_gives, step_moves}
 use Rattle.tinyjson_tokens.proofs.Reading.Steps.{Same_refl, Comes_trans, Leads_to, Leads_trans, Halts_trans, end_quoted}
-use Rattle.tinyjson_tokens.proofs.Reading.String.{hexing, hex_next, hex_step, hex_taken, hex_done, backslash_read, u_read, short_read, escape_other, plain_added, plain_halts}
+use Rattle.tinyjson_tokens.proofs.Reading.String.{hexing, hex_next, hex_step, hex_taken, hex_done, backslash_read, u_read, short_read}
+use Rattle.tinyjson_tokens.proofs.Reading.String.{escape_other, plain_added, plain_halts}
 
 -- ---- the machine
 
@@ -32,7 +35,8 @@ module _ (limit : Option ℕ) (fs : List Frame) where
   Comes_one : (n m : Next) (c : ℕ) (rest : List ℕ) → IsNext n → onward limit n c ≡ m → IsTaken m → Comes limit n (c ∷ []) m rest
   Comes_one n m c rest h e k = (h, subst IsTaken (sym e) k, subst (λ z. Comes limit z [] m rest) (sym e) (Same_refl limit m rest, λ w. w))
 
-  hex_comes : (cs us ds es rest : List ℕ) → length ds + length es ≡ 4 → AllByRecursion (λ d. is_hex d ≡ true) es → Comes limit (hexing fs cs us ds) es (hexing fs cs us (ds ++ es)) rest
+  hex_comes : (cs us ds es rest : List ℕ) → length ds + length es ≡ 4 → AllByRecursion (λ d. is_hex d ≡ true) es
+      → Comes limit (hexing fs cs us ds) es (hexing fs cs us (ds ++ es)) rest
   hex_comes cs us ds [] rest l a =
       let n = hexing fs cs us ds in
       subst (λ xs. Comes limit n [] (hexing fs cs us xs) rest) (sym (append-nil ds)) (Same_refl limit n rest, λ w. w)
@@ -44,7 +48,8 @@ module _ (limit : Option ℕ) (fs : List Frame) where
         hex_next fs cs us ds h,
         subst IsTaken s (hex_taken fs cs us (ds ++ e ∷ [])),
         subst (λ z. Comes limit z es (hexing fs cs us (ds ++ e ∷ es)) rest) s
-            (subst (λ xs. Comes limit n es (hexing fs cs us xs) rest) (append_assoc ds (e ∷ []) es) (hex_comes cs us (ds ++ e ∷ []) es rest k a.1)),
+            (subst (λ xs. Comes limit n es (hexing fs cs us xs) rest) (append_assoc ds (e ∷ []) es)
+            (hex_comes cs us (ds ++ e ∷ []) es rest k a.1)),
       )
 
   -- the escape of a unit
@@ -55,8 +60,10 @@ module _ (limit : Option ℕ) (fs : List Frame) where
       let m = next fs (quoted backslash cs us) in
       let o = next fs (quoted (hex []) cs us) in
       let p = hexing fs cs us ds in
-      Comes_trans limit n m (next fs (quoted plain cs (us ++ u ∷ []))) (92 ∷ []) (117 ∷ ds) rest (Comes_one n m 92 (117 ∷ ds ++ rest) tt (backslash_read limit fs cs us 92 refl) tt)
-      (Comes_trans limit m o (next fs (quoted plain cs (us ++ u ∷ []))) (117 ∷ []) ds rest (Comes_one m o 117 (ds ++ rest) tt (u_read limit fs cs us 117 refl) tt)
+      Comes_trans limit n m (next fs (quoted plain cs (us ++ u ∷ []))) (92 ∷ []) (117 ∷ ds) rest
+      (Comes_one n m 92 (117 ∷ ds ++ rest) tt (backslash_read limit fs cs us 92 refl) tt)
+      (Comes_trans limit m o (next fs (quoted plain cs (us ++ u ∷ []))) (117 ∷ []) ds rest
+      (Comes_one m o 117 (ds ++ rest) tt (u_read limit fs cs us 117 refl) tt)
       (subst (λ z. Comes limit o ds z rest) (hex_done fs cs us ds u l e) (hex_comes cs us [] ds rest (omega (arith, l)) a)))
 
   -- the short escape of a character
@@ -69,10 +76,12 @@ module _ (limit : Option ℕ) (fs : List Frame) where
       Comes_trans limit n m o (92 ∷ []) (c ∷ []) rest (Comes_one n m 92 (c ∷ rest) tt (backslash_read limit fs cs [] 92 refl) tt)
       (Comes_one m o c rest tt (short_read limit fs cs [] c d e ∙ ap (λ ys. next fs (quoted plain (ys ++ d ∷ []) [])) (append-nil cs)) tt)
 
-  on_same : (n m o p : Next) (c : ℕ) (rest : List ℕ) → onward limit n c ≡ o → onward limit m c ≡ p → IsNext o → IsNext p → Same limit o p rest → Same limit n m (c ∷ rest)
+  on_same : (n m o p : Next) (c : ℕ) (rest : List ℕ) → onward limit n c ≡ o → onward limit m c ≡ p → IsNext o → IsNext p
+      → Same limit o p rest → Same limit n m (c ∷ rest)
   on_same n m o p c rest a b h k s = inr ((subst IsNext (sym a) h, subst IsNext (sym b) k), rw (a, b) s)
 
-  hex_more : (ds cs us : List ℕ) (c : ℕ) → is_hex c ≡ true → nat_lt (length ds) 3 ≡ true → onward limit (next fs (quoted (hex ds) cs us)) c ≡ next fs (quoted (hex (ds ++ c ∷ [])) cs us)
+  hex_more : (ds cs us : List ℕ) (c : ℕ) → is_hex c ≡ true → nat_lt (length ds) 3 ≡ true
+      → onward limit (next fs (quoted (hex ds) cs us)) c ≡ next fs (quoted (hex (ds ++ c ∷ [])) cs us)
   unfolding step
   hex_more ds cs us c h l = rw (h, l) refl
 
@@ -81,7 +90,8 @@ module _ (limit : Option ℕ) (fs : List Frame) where
   unfolding step
   hex_last ds cs us c h l = rw (h, l) refl
 
-  hex_none : (ds cs us : List ℕ) (c : ℕ) → is_hex c ≡ false → onward limit (next fs (quoted (hex ds) cs us)) c ≡ stop (InvalidHexDigit c) true
+  hex_none : (ds cs us : List ℕ) (c : ℕ) → is_hex c ≡ false → onward limit (next fs (quoted (hex ds) cs us)) c ≡ stop
+      (InvalidHexDigit c) true
   unfolding step
   hex_none ds cs us c h = rw h refl
 
@@ -100,22 +110,26 @@ module _ (limit : Option ℕ) (fs : List Frame) where
     unfolding step
     plain_same c n = rw (n, paired_append us vs p, decoded) refl
 
-    plain_known : (c : ℕ) (rest : List ℕ) → Same limit (waiting backslash) (added backslash) rest → Same limit (waiting plain) (added plain) (c ∷ rest)
+    plain_known : (c : ℕ) (rest : List ℕ) → Same limit (waiting backslash) (added backslash) rest
+        → Same limit (waiting plain) (added plain) (c ∷ rest)
     plain_known c rest s = go (c == 92) refl
       where
         go : (b : Bool) → (c == 92) ≡ b → Same limit (waiting plain) (added plain) (c ∷ rest)
         go true e =
             let k = eqb-true c 92 e in
-            on_same (waiting plain) (added plain) (waiting backslash) (added backslash) c rest (backslash_read limit fs cs (us ++ vs) c k) (backslash_read limit fs (cs ++ decode us) vs c k) tt tt s
+            on_same (waiting plain) (added plain) (waiting backslash) (added backslash) c rest (backslash_read limit fs cs (us ++ vs) c k)
+            (backslash_read limit fs (cs ++ decode us) vs c k) tt tt s
         go false e = inl (plain_same c e)
 
-    backslash_known : (c : ℕ) (rest : List ℕ) → Same limit (waiting (hex [])) (added (hex [])) rest → Same limit (waiting backslash) (added backslash) (c ∷ rest)
+    backslash_known : (c : ℕ) (rest : List ℕ) → Same limit (waiting (hex [])) (added (hex [])) rest
+        → Same limit (waiting backslash) (added backslash) (c ∷ rest)
     backslash_known c rest s = go (short_escape c) refl
       where
         u_or : (b : Bool) → (c == 117) ≡ b → short_escape c ≡ None → Same limit (waiting backslash) (added backslash) (c ∷ rest)
         u_or true e n =
             let k = eqb-true c 117 e in
-            on_same (waiting backslash) (added backslash) (waiting (hex [])) (added (hex [])) c rest (u_read limit fs cs (us ++ vs) c k) (u_read limit fs (cs ++ decode us) vs c k) tt tt s
+            on_same (waiting backslash) (added backslash) (waiting (hex [])) (added (hex [])) c rest (u_read limit fs cs (us ++ vs) c k)
+            (u_read limit fs (cs ++ decode us) vs c k) tt tt s
         u_or false e n =
             let k : c ≡ 117 → ⊥ = λ h. true≢false (sym (eq-eqb c 117 h) ∙ e) in
             inl (escape_other limit fs cs (us ++ vs) c n k ∙ sym (escape_other limit fs (cs ++ decode us) vs c n k))
@@ -124,10 +138,12 @@ module _ (limit : Option ℕ) (fs : List Frame) where
         go None e = u_or (c == 117) refl e
         go (Some d) e =
             let m : Bool → List ℕ → Next = λ b xs. cond (not b) (stop InvalidUtf16 true) (next fs (quoted plain (xs ++ d ∷ []) [])) in
-            inl (short_read limit fs cs (us ++ vs) c d e ∙ ap₂ m (paired_append us vs p) decoded ∙ sym (short_read limit fs (cs ++ decode us) vs c d e))
+            inl (short_read limit fs cs (us ++ vs) c d e ∙ ap₂ m (paired_append us vs p) decoded
+            ∙ sym (short_read limit fs (cs ++ decode us) vs c d e))
 
     hex_known : (ds : List ℕ) (c : ℕ) (rest : List ℕ) → Same limit (waiting (hex (ds ++ c ∷ []))) (added (hex (ds ++ c ∷ []))) rest
-        → Same limit (next fs (quoted plain cs (us ++ (vs ++ unit_of 0 (ds ++ c ∷ []) ∷ [])))) (next fs (quoted plain (cs ++ decode us) (vs ++ unit_of 0 (ds ++ c ∷ []) ∷ []))) rest
+        → Same limit (next fs (quoted plain cs (us ++ (vs ++ unit_of 0 (ds ++ c ∷ []) ∷ []))))
+        (next fs (quoted plain (cs ++ decode us) (vs ++ unit_of 0 (ds ++ c ∷ []) ∷ []))) rest
         → Same limit (waiting (hex ds)) (added (hex ds)) (c ∷ rest)
     hex_known ds c rest s t = go (is_hex c) refl (nat_lt (length ds) 3) refl
       where
@@ -137,29 +153,36 @@ module _ (limit : Option ℕ) (fs : List Frame) where
             (hex_more ds cs (us ++ vs) c h l) (hex_more ds (cs ++ decode us) vs c h l) tt tt s
         go true h false l =
             let u = unit_of 0 (ds ++ c ∷ []) ∷ [] in
-            on_same (waiting (hex ds)) (added (hex ds)) (next fs (quoted plain cs (us ++ (vs ++ u)))) (next fs (quoted plain (cs ++ decode us) (vs ++ u))) c rest
-            (hex_last ds cs (us ++ vs) c h l ∙ ap (λ ws. next fs (quoted plain cs ws)) (append_assoc us vs u)) (hex_last ds (cs ++ decode us) vs c h l) tt tt t
+            on_same (waiting (hex ds)) (added (hex ds)) (next fs (quoted plain cs (us ++ (vs ++ u))))
+            (next fs (quoted plain (cs ++ decode us) (vs ++ u))) c rest
+            (hex_last ds cs (us ++ vs) c h l ∙ ap (λ ws. next fs (quoted plain cs ws)) (append_assoc us vs u))
+            (hex_last ds (cs ++ decode us) vs c h l) tt tt t
         go false h l k = inl (hex_none ds cs (us ++ vs) c h ∙ sym (hex_none ds (cs ++ decode us) vs c h))
 
   -- Units that all have their partner wait for no unit after them: the machine answers as if their characters were added.
-  pub units_known : (w : Within) (cs us vs rest : List ℕ) → paired us ≡ true → Same limit (next fs (quoted w cs (us ++ vs))) (next fs (quoted w (cs ++ decode us) vs)) rest
+  pub units_known : (w : Within) (cs us vs rest : List ℕ) → paired us ≡ true
+      → Same limit (next fs (quoted w cs (us ++ vs))) (next fs (quoted w (cs ++ decode us) vs)) rest
   units_known w cs us vs [] p = end_quoted limit fs w cs (us ++ vs) ∙ sym (end_quoted limit fs w (cs ++ decode us) vs)
   units_known plain cs us vs (c ∷ rest) p = plain_known cs us vs p c rest (units_known backslash cs us vs rest p)
   units_known backslash cs us vs (c ∷ rest) p = backslash_known cs us vs p c rest (units_known (hex []) cs us vs rest p)
   units_known (hex ds) cs us vs (c ∷ rest) p =
-      hex_known cs us vs p ds c rest (units_known (hex (ds ++ c ∷ [])) cs us vs rest p) (units_known plain cs us (vs ++ unit_of 0 (ds ++ c ∷ []) ∷ []) rest p)
+      hex_known cs us vs p ds c rest (units_known (hex (ds ++ c ∷ [])) cs us vs rest p)
+      (units_known plain cs us (vs ++ unit_of 0 (ds ++ c ∷ []) ∷ []) rest p)
 
-  pub Comes_known : (n : Next) (cs us xs taken rest : List ℕ) → Comes limit n taken (next fs (quoted plain cs us)) rest → paired us ≡ true → xs ≡ cs ++ decode us
+  pub Comes_known : (n : Next) (cs us xs taken rest : List ℕ) → Comes limit n taken (next fs (quoted plain cs us)) rest → paired us ≡ true
+      → xs ≡ cs ++ decode us
       → Comes limit n taken (next fs (quoted plain xs [])) rest
   Comes_known n cs us xs taken rest a p e =
       let m = next fs (quoted plain cs us) in
       let o = next fs (quoted plain xs []) in
-      let k : Same limit m o rest = rw e (subst (λ ys. Same limit (next fs (quoted plain cs ys)) (next fs (quoted plain (cs ++ decode us) [])) rest) (append-nil us) (units_known plain cs us [] rest p)) in
+      let k : Same limit m o rest = rw e (subst (λ ys. Same limit (next fs (quoted plain cs ys))
+      (next fs (quoted plain (cs ++ decode us) [])) rest) (append-nil us) (units_known plain cs us [] rest p)) in
       subst (λ ys. Comes limit n ys o rest) (append-nil taken) (Comes_trans limit n m o taken [] rest a (k, λ w. tt))
 
 -- ---- where bytes stand
 
-stands_append : (text : List ℕ) (at mid to : ℕ) (xs ys : List ℕ) → Stands text at mid xs → Stands text mid to ys → Stands text at to (xs ++ ys)
+stands_append : (text : List ℕ) (at mid to : ℕ) (xs ys : List ℕ) → Stands text at mid xs → Stands text mid to ys
+    → Stands text at to (xs ++ ys)
 stands_append text at mid to xs ys a b = record {
   ascii = All_append (λ c. is_ascii c ≡ true) xs ys a.ascii b.ascii;
   here = a.here ∙ ap (λ bs. xs ++ bs) b.here ∙ sym (append_assoc xs ys (drop to text));
@@ -174,7 +197,8 @@ ascii_small : (b : ℕ) → is_ascii b ≡ true → b < 128
 ascii_small b h = grind (arith, nat_tests, h)
 
 -- one byte more in front
-pub stands_cons : (text : List ℕ) (at after to b : ℕ) (xs : List ℕ) → at < length text → after ≡ at + 1 → get_or text at 0 ≡ b → is_ascii b ≡ true → Stands text after to xs → Stands text at to (b ∷ xs)
+pub stands_cons : (text : List ℕ) (at after to b : ℕ) (xs : List ℕ) → at < length text → after ≡ at + 1 → get_or text at 0 ≡ b
+    → is_ascii b ≡ true → Stands text after to xs → Stands text at to (b ∷ xs)
 stands_cons text at after to b xs h n e a s =
     let m : suc at ≡ after = omega (arith, n) in
     record {
@@ -211,12 +235,15 @@ pub four_digits : (a b c d p q r s : ℕ) → p ≡ digit_value a → q ≡ digi
     → ((p * 16 + q) * 16 + r) * 16 + s ≡ unit_of 0 (a ∷ b ∷ c ∷ d ∷ [])
 four_digits a b c d p q r s i j k l =
     let e : ((p * 16 + q) * 16 + r) * 16 + s ≡ (((0 * 16 + p) * 16 + q) * 16 + r) * 16 + s = omega arith in
-    e ∙ ap₂ (λ x y. (((0 * 16 + x) * 16 + y) * 16 + r) * 16 + s) i j ∙ ap₂ (λ x y. (((0 * 16 + digit_value a) * 16 + digit_value b) * 16 + x) * 16 + y) k l
+    e ∙ ap₂ (λ x y. (((0 * 16 + x) * 16 + y) * 16 + r) * 16 + s) i j ∙ ap₂
+    (λ x y. (((0 * 16 + digit_value a) * 16 + digit_value b) * 16 + x) * 16 + y) k l
 
 -- the six bytes of a unit
 module _ (text : List ℕ) (at u a b c d : ℕ) (h : at + 6 ≤ length text) where
-  pub six_bytes : get_or text at 0 ≡ 92 → get_or text (at + 1) 0 ≡ 117 → get_or text (at + 2) 0 ≡ a → get_or text (at + 3) 0 ≡ b → get_or text (at + 4) 0 ≡ c → get_or text (at + 5) 0 ≡ d
-      → digit_value a < 16 → digit_value b < 16 → digit_value c < 16 → digit_value d < 16 → u ≡ unit_of 0 (a ∷ b ∷ c ∷ d ∷ []) → UnitAt text at u
+  pub six_bytes : get_or text at 0 ≡ 92 → get_or text (at + 1) 0 ≡ 117 → get_or text (at + 2) 0 ≡ a → get_or text (at + 3) 0 ≡ b
+      → get_or text (at + 4) 0 ≡ c → get_or text (at + 5) 0 ≡ d
+      → digit_value a < 16 → digit_value b < 16 → digit_value c < 16 → digit_value d < 16 → u ≡ unit_of 0 (a ∷ b ∷ c ∷ d ∷ [])
+      → UnitAt text at u
   six_bytes p q r s t v i j k l e = record {
     digits = a ∷ b ∷ c ∷ d ∷ [];
     four = refl;
@@ -233,7 +260,8 @@ module _ (text : List ℕ) (at u a b c d : ℕ) (h : at + 6 ≤ length text) whe
   }
 
 -- a backslash and the letter of a short escape
-pub short_at : (text : List ℕ) (at c d : ℕ) → at + 2 ≤ length text → get_or text at 0 ≡ 92 → get_or text (at + 1) 0 ≡ c → short_escape c ≡ Some d → EscapeAt text at d (at + 2)
+pub short_at : (text : List ℕ) (at c d : ℕ) → at + 2 ≤ length text → get_or text at 0 ≡ 92 → get_or text (at + 1) 0 ≡ c
+    → short_escape c ≡ Some d → EscapeAt text at d (at + 2)
 short_at text at c d h p q e = record {
   taken = 92 ∷ c ∷ [];
   stands =
@@ -259,7 +287,8 @@ module _ (text : List ℕ) (at to : ℕ) where
         (unit_comes limit fs cs [] a.digits rest u a.four a.hex a.value) (ap not s) refl;
   }
 
-  pub pair_escape : (high low : ℕ) → UnitAt text at high → UnitAt text (at + 6) low → to ≡ at + 12 → is_high high ≡ true → is_low low ≡ true → EscapeAt text at (pair_of high low) to
+  pub pair_escape : (high low : ℕ) → UnitAt text at high → UnitAt text (at + 6) low → to ≡ at + 12 → is_high high ≡ true → is_low low ≡ true
+      → EscapeAt text at (pair_of high low) to
   pair_escape high low a b e h l =
       let first = 92 ∷ 117 ∷ a.digits in
       let second = 92 ∷ 117 ∷ b.digits in
@@ -280,18 +309,21 @@ module _ (text : List ℕ) (at to : ℕ) where
 
 -- ---- what is taken
 
-Stands_boundary : (text : List ℕ) → IsUtf8 text → (at to : ℕ) (xs : List ℕ) → IsCharBoundary text at → Stands text at to xs → IsCharBoundary text to
+Stands_boundary : (text : List ℕ) → IsUtf8 text → (at to : ℕ) (xs : List ℕ) → IsCharBoundary text at → Stands text at to xs
+    → IsCharBoundary text to
 Stands_boundary text utf8 at to [] b s = let e : at ≡ to = omega (arith, s.long) in subst (IsCharBoundary text) e b
 Stands_boundary text utf8 at to (x ∷ xs) b s =
     let h : at < length text = omega (arith, s.long, s.fits) in
-    let byte : get_or text at 0 ≡ x = ap (λ i. get_or text i 0) (sym (add-zero at)) ∙ sym (get_or-drop at text 0 0) ∙ ap (λ bs. get_or bs 0 0) s.here in
+    let byte : get_or text at 0 ≡ x = ap (λ i. get_or text i 0) (sym (add-zero at)) ∙ sym (get_or-drop at text 0 0)
+    ∙ ap (λ bs. get_or bs 0 0) s.here in
     let more : Stands text (at + 1) to xs = record {
       ascii = s.ascii.1;
       here = ap (λ i. drop i text) (omega arith) ∙ sym (drop-drop 1 at text) ∙ ap (drop 1) s.here;
       long = omega (arith, s.long);
       fits = s.fits;
     } in
-    Stands_boundary text utf8 (at + 1) to xs (IsCharBoundary-after_ascii text at utf8 h (subst (λ y. y < 128) (sym byte) (ascii_small x s.ascii.0))) more
+    Stands_boundary text utf8 (at + 1) to xs (IsCharBoundary-after_ascii text at utf8 h
+    (subst (λ y. y < 128) (sym byte) (ascii_small x s.ascii.0))) more
 
 module _ (text : List ℕ) (utf8 : IsUtf8 text) (at : ℕ) (first : IsCharBoundary text at) (c to : ℕ) (e : EscapeAt text at c to) where
   pub escape_boundary : IsCharBoundary text to
@@ -300,13 +332,16 @@ module _ (text : List ℕ) (utf8 : IsUtf8 text) (at : ℕ) (first : IsCharBounda
   pub escape_between : between text at to ≡ e.taken
   escape_between =
       let n : to - at ≡ length e.taken = omega (arith, e.stands.long) in
-      ap chars (ap₂ (λ k bs. take k bs) n e.stands.here ∙ take-append_seam e.taken (drop to text)) ∙ chars-IsAscii e.taken (small is_ascii ascii_small e.taken e.stands.ascii)
+      ap chars (ap₂ (λ k bs. take k bs) n e.stands.here ∙ take-append_seam e.taken (drop to text))
+      ∙ chars-IsAscii e.taken (small is_ascii ascii_small e.taken e.stands.ascii)
 
-  pub escape_comes : (limit : Option ℕ) (fs : List Frame) (cs : List ℕ) → Comes limit (next fs (quoted plain cs [])) e.taken (next fs (quoted plain (cs ++ c ∷ []) [])) (chars_after text to)
+  pub escape_comes : (limit : Option ℕ) (fs : List Frame) (cs : List ℕ)
+      → Comes limit (next fs (quoted plain cs [])) e.taken (next fs (quoted plain (cs ++ c ∷ []) [])) (chars_after text to)
   escape_comes limit fs cs = e.comes limit fs cs (chars_after text to)
 
 -- the escape at the place of a text is taken
-pub Leads_escape : (limit : Option ℕ) (fs : List Frame) (cs : List ℕ) (p q : TextBytes) (c : ℕ) → EscapeAt p.text.now p.at c q.at → q.text.now ≡ p.text.now
+pub Leads_escape : (limit : Option ℕ) (fs : List Frame) (cs : List ℕ) (p q : TextBytes) (c : ℕ) → EscapeAt p.text.now p.at c q.at
+    → q.text.now ≡ p.text.now
     → Leads text_sight limit p (next fs (quoted plain cs [])) q (next fs (quoted plain (cs ++ c ∷ []) []))
 Leads_escape limit fs cs p q c e same =
     let text = p.text.now in
@@ -319,18 +354,26 @@ Leads_escape limit fs cs p q c e same =
       gives = λ zs g.
           let x = step_gives text utf8 p.at q.at h p.boundary last e.taken one zs g in
           let n = next fs (quoted plain cs []) in
-          let m = next fs (quoted plain (cs ++ c ∷ []) []) in
-          (x.0, x.1, x.2 ∙ ap (λ t. chars_after t q.at) (sym same), subst (Comes limit n e.taken m) (sym x.2) (escape_comes text utf8 p.at p.boundary c q.at e limit fs cs));
+          let m = next fs (quoted plain (cs ++ c ∷ []) []) in (
+            x.0,
+            x.1,
+            x.2 ∙ ap (λ t. chars_after t q.at) (sym same),
+            subst (Comes limit n e.taken m) (sym x.2)
+                (escape_comes text utf8 p.at p.boundary c q.at e limit fs cs),
+          );
       moves = ap (λ t. advance origin (before t q.at)) same ∙ step_moves text utf8 p.at q.at h p.boundary last e.taken one;
     }
 
 -- an escape is taken, and the plain characters after it
-module _ {E : Type 0} (limit : Option ℕ) (fs : List Frame) (o p q r : TextBytes) (n : Next) (cs ds es : List ℕ) (c to : ℕ) (v : Result (Unit {0}) E)
-    (run : TakesRun text_sight is_plain q ds v es r) (l : Leads text_sight limit o n p (next fs (quoted plain cs []))) (e : EscapeAt p.text.now p.at c to) (same : q.text.now ≡ p.text.now) (at : q.at ≡ to) (added : ds ≡ cs ++ c ∷ []) where
+module _ {E : Type 0} (limit : Option ℕ) (fs : List Frame) (o p q r : TextBytes) (n : Next) (cs ds es : List ℕ) (c to : ℕ)
+    (v : Result (Unit {0}) E)
+    (run : TakesRun text_sight is_plain q ds v es r) (l : Leads text_sight limit o n p (next fs (quoted plain cs [])))
+    (e : EscapeAt p.text.now p.at c to) (same : q.text.now ≡ p.text.now) (at : q.at ≡ to) (added : ds ≡ cs ++ c ∷ []) where
   escape_goes : Leads text_sight limit o n q (next fs (quoted plain ds []))
   escape_goes =
       let m : List ℕ → Next = λ ys. next fs (quoted plain ys []) in
-      Leads_trans text_sight limit o p q l (Leads_to text_sight limit p q (Leads_escape limit fs cs p q c (subst (EscapeAt p.text.now p.at c) (sym at) e) same) (ap m (sym added)))
+      Leads_trans text_sight limit o p q l (Leads_to text_sight limit p q
+      (Leads_escape limit fs cs p q c (subst (EscapeAt p.text.now p.at c) (sym at) e) same) (ap m (sym added)))
 
   pub escape_added : is_err v ≡ false → Leads text_sight limit o n r (next fs (quoted plain es []))
   escape_added h = Leads_trans text_sight limit o q r escape_goes (plain_added text_sight limit q r fs ds es [] v refl h run)

@@ -60,5 +60,6 @@ returns t c =
 
 pub returns-in_default : goal.returns-in_default
 returns-in_default t c =
-    subst (λ x. IfOk c.try_clone.result (λ v. view v ≡ x)) (sym (patch_replaces c.args.patch.now (view c.args.target) c.in_default.not-Object))
+    subst (λ x. IfOk c.try_clone.result (λ v. view v ≡ x)) (sym (patch_replaces c.args.patch.now
+    (view c.args.target) c.in_default.not-Object))
     c.try_clone.ensures

@@ -8,8 +8,12 @@ pub returns-in_default : goal.returns-in_default
 returns-in_default c =
     let v = c.args.value in
     let m = c.in-Ok.members in
-    let held = c.in-Ok.ensures in
-    (is_object v m held, tt, subst (λ o. (n : ℕ) → ¬ IsPort o n) (lent_is v m (codes "port") held refl c.get.result c.get.ensures.value) c.in_default.ensures)
+    let held = c.in-Ok.ensures in (
+      is_object v m held,
+      tt,
+      subst (λ o. (n : ℕ) → ¬ IsPort o n) (lent_is v m (codes "port") held refl c.get.result c.get.ensures.value)
+          c.in_default.ensures,
+    )
 
 pub returns-in_default-tls : goal.returns-in_default-tls
 returns-in_default-tls c =
@@ -18,7 +22,8 @@ returns-in_default-tls c =
     let held = c.in-Ok.ensures in (
       is_object v m held,
       (_, subst (λ o. IsPort o c.in-Some.port) (lent_is v m (codes "port") held refl c.get.result c.get.ensures.value) c.in-Some.ensures),
-      subst (λ o. (b : Bool) → ¬ IsTls o b) (lent_is v m (codes "tls") held refl c.get-2.result c.get-2.ensures.value) c.in_default-tls.ensures,
+      subst (λ o. (b : Bool) → ¬ IsTls o b) (lent_is v m (codes "tls") held refl c.get-2.result c.get-2.ensures.value)
+          c.in_default-tls.ensures,
     )
 
 pub returns-in_default-host : goal.returns-in_default-host
@@ -29,9 +34,14 @@ returns-in_default-host c =
       is_object v m held,
       (
         (_, subst (λ o. IsPort o c.in-Some.port) (lent_is v m (codes "port") held refl c.get.result c.get.ensures.value) c.in-Some.ensures),
-        (_, subst (λ o. IsTls o c.in-Some-tls.tls) (lent_is v m (codes "tls") held refl c.get-2.result c.get-2.ensures.value) c.in-Some-tls.ensures),
+        (
+          _,
+          subst (λ o. IsTls o c.in-Some-tls.tls) (lent_is v m (codes "tls") held refl c.get-2.result c.get-2.ensures.value)
+              c.in-Some-tls.ensures,
+        ),
       ),
-      subst (λ o. (cs : List ℕ) → ¬ IsHost o cs) (member_is v m (codes "host") held refl c.remove.result c.remove.ensures.value) c.in_default-host.ensures,
+      subst (λ o. (cs : List ℕ) → ¬ IsHost o cs) (member_is v m (codes "host") held refl c.remove.result c.remove.ensures.value)
+          c.in_default-host.ensures,
     )
 
 pub returns : goal.returns
@@ -41,6 +51,8 @@ returns c =
     let held = c.in-Ok.ensures in (
       is_object v m held,
       subst (λ o. IsPort o c.in-Some.port) (lent_is v m (codes "port") held refl c.get.result c.get.ensures.value) c.in-Some.ensures,
-      subst (λ o. IsHost o (text c.in-Some-host.host)) (member_is v m (codes "host") held refl c.remove.result c.remove.ensures.value) c.in-Some-host.ensures,
-      subst (λ o. IsTls o c.in-Some-tls.tls) (lent_is v m (codes "tls") held refl c.get-2.result c.get-2.ensures.value) c.in-Some-tls.ensures,
+      subst (λ o. IsHost o (text c.in-Some-host.host)) (member_is v m (codes "host") held refl c.remove.result c.remove.ensures.value)
+          c.in-Some-host.ensures,
+      subst (λ o. IsTls o c.in-Some-tls.tls) (lent_is v m (codes "tls") held refl c.get-2.result c.get-2.ensures.value)
+          c.in-Some-tls.ensures,
     )

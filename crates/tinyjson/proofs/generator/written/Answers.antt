@@ -13,7 +13,8 @@ unreachable-requires c =
     let w = indent_of c.args.indent in
     let t = view c.args.value.now in
     let all = written_all _ (enc (text w 0 t)) (rw c.new-bytes.ensures.items at c.in-Ok.ensures) in
-    let fits = c.in-Err.ensures.succeeds (subst IsUtf8 (sym all) (encoded_utf8 (text w 0 t) (text_of_scalars w c.requires 0 t (view_IsTree c.args.value.now)))) in
+    let fits = c.in-Err.ensures.succeeds (subst IsUtf8 (sym all) (encoded_utf8 (text w 0 t)
+    (text_of_scalars w c.requires 0 t (view_IsTree c.args.value.now)))) in
     cc
 
 pub returns : goal.returns
@@ -21,4 +22,5 @@ returns c =
     let w = indent_of c.args.indent in
     let t = view c.args.value.now in
     let all = written_all _ (enc (text w 0 t)) (rw c.new-bytes.ensures.items at c.in-Ok.ensures) in
-    ap (λ v. chars v.items) c.in-Ok-from_utf8.ensures.ok ∙ ap chars all ∙ encoded_chars (text w 0 t) (text_of_scalars w c.requires 0 t (view_IsTree c.args.value.now))
+    ap (λ v. chars v.items) c.in-Ok-from_utf8.ensures.ok ∙ ap chars all
+    ∙ encoded_chars (text w 0 t) (text_of_scalars w c.requires 0 t (view_IsTree c.args.value.now))

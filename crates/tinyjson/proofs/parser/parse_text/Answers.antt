@@ -13,4 +13,5 @@ returns c =
     let gives = sym (ap (λ (p : TextBytes). chars_after p.text.now p.at) c.new-2.ensures ∙ c.new.ensures.gives) in
     let start = ap (λ (p : TextBytes). advance origin (before p.text.now p.at)) c.new-2.ensures ∙ c.new.ensures.start in
     answered_text _ c.args.limit _ _ (chars text) c.text.result start
-    (answered _ c.args.limit _ _ c.text.result c.text.ensures.reads c.text.ensures.end c.text.ensures.memory (chars text) gives (all_are_scalars (chars text) (scalars-chars text c.utf8.text)))
+    (answered _ c.args.limit _ _ c.text.result c.text.ensures.reads c.text.ensures.end c.text.ensures.memory (chars text) gives
+    (all_are_scalars (chars text) (scalars-chars text c.utf8.text)))

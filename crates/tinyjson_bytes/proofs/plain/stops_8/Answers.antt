@@ -8,4 +8,5 @@ pub returns : goal.returns
 returns c =
     let v = c.args.v in
     let long = c.fits-v.0 in
-    masked _ is_stop v _ (omega arith) c.fits-v.1 (either _ _ v (either _ _ v (zip2_splat hit v 8 34 long) (zip2_splat hit v 8 92 long)) (zip2_splat below v 8 32 long)) tt
+    masked _ is_stop v _ (omega arith) c.fits-v.1 (either _ _ v (either _ _ v (zip2_splat hit v 8 34 long) (zip2_splat hit v 8 92 long))
+    (zip2_splat below v 8 32 long)) tt

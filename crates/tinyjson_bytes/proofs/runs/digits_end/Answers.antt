@@ -8,10 +8,12 @@ use Rattle.tinyjson_bytes.proofs.runs.digits_end.Goals as goal
 pub returns-then-found-ne0 : goal.returns-then-found-ne0
 returns-then-found-ne0 c =
     let found = c.no_digits-found in
-    let run = run_stops is_no_digit is_ascii_digit (opposite is_ascii_digit) c.args.bytes.now c.loop-i.i 16 (omega arith) (omega arith) (omega (arith, found.ensures)) ∙ ap (count_trailing_zeros 64) (sym found.ensures) in
+    let run = run_stops is_no_digit is_ascii_digit (opposite is_ascii_digit) c.args.bytes.now c.loop-i.i 16 (omega arith) (omega arith)
+    (omega (arith, found.ensures)) ∙ ap (count_trailing_zeros 64) (sym found.ensures) in
     omega (arith, run, c.loop-i.invariant.run)
 
 pub loop-i-preserved : goal.loop-i-preserved
 loop-i-preserved c =
-    let run = run_through is_no_digit is_ascii_digit (opposite is_ascii_digit) c.args.bytes.now c.loop-i.i 16 (omega arith) (omega (arith, c.no_digits-found.ensures)) in
+    let run = run_through is_no_digit is_ascii_digit (opposite is_ascii_digit) c.args.bytes.now c.loop-i.i 16 (omega arith)
+    (omega (arith, c.no_digits-found.ensures)) in
     record { run = omega (arith, run, c.loop-i.invariant.run); within = omega arith }

@@ -9,4 +9,5 @@ returns c =
     let v = c.args.v in
     let long = c.fits-v.0 in
     masked _ is_no_white v _ (omega arith) c.fits-v.1
-    (each_of _ _ v (each_of _ _ v (each_of _ _ v (zip2_splat other v 16 32 long) (zip2_splat other v 16 10 long)) (zip2_splat other v 16 13 long)) (zip2_splat other v 16 9 long)) tt
+    (each_of _ _ v (each_of _ _ v (each_of _ _ v (zip2_splat other v 16 32 long) (zip2_splat other v 16 10 long))
+    (zip2_splat other v 16 13 long)) (zip2_splat other v 16 9 long)) tt

@@ -9,7 +9,8 @@ use Rattle.tinyjson_number.proofs.Integers.{zero_is, whole_is, whole_fits}
 use Rattle.tinyjson_number.proofs.integer.from_magnitude.Goals as goal
 
 pub returns-then-value-eq0-clause-decimal : goal.returns-then-value-eq0-clause-decimal
-returns-then-value-eq0-clause-decimal c = c.zero.ensures ∙ zero_is c.args.negative ∙ ap (whole_decimal c.args.negative) (sym c.if-value-eq0.true)
+returns-then-value-eq0-clause-decimal c = c.zero.ensures ∙ zero_is c.args.negative
+    ∙ ap (whole_decimal c.args.negative) (sym c.if-value-eq0.true)
 
 pub of_digits-requires-clause-canonical : goal.of_digits-requires-clause-canonical
 of_digits-requires-clause-canonical c =
@@ -19,7 +20,11 @@ of_digits-requires-clause-canonical c =
     let text = c.value_digits-digits.ensures in
     let is : s ≡ strip_trailing (decimal n) = c.strip_trailing-kept.ensures.value ∙ ap strip_trailing text in
     let few : length c.value_digits-digits.result.now - length s ≤ length (decimal n) = omega (arith, ap length text) in
-    rw (append-nil s, to_z_pos w64 (length c.value_digits-digits.result.now - length s) (omega (arith, few, length-decimal-le 20 n (omega arith) (omega arith) fits)))
+    rw (
+      append-nil s,
+      to_z_pos w64 (length c.value_digits-digits.result.now - length s)
+          (omega (arith, few, length-decimal-le 20 n (omega arith) (omega arith) fits)),
+    )
     (whole_fits n (omega arith) fits c.args.negative s _ is few)
 
 pub returns-clause-decimal : goal.returns-clause-decimal
@@ -33,7 +38,8 @@ returns-clause-decimal c =
     let few : z ≤ length (decimal n) = omega (arith, ap length text) in
     let power = to_z_pos w64 z (omega (arith, few, length-decimal-le 20 n (omega arith) (omega arith) fits)) in
     let same = whole_is n (omega arith) fits c.args.negative s z is (omega (arith, ap length text)) in
-    subst (λ (d : Decimal). IfOk c.of_digits.result (λ n. n.decimal ≡ d)) ((λ i. record { negative = c.args.negative; digits = append-nil s i; power = power i }) ∙ same) c.of_digits.ensures.decimal
+    subst (λ (d : Decimal). IfOk c.of_digits.result (λ n. n.decimal ≡ d))
+    ((λ i. record { negative = c.args.negative; digits = append-nil s i; power = power i }) ∙ same) c.of_digits.ensures.decimal
 
 pub returns-clause-ok : goal.returns-clause-ok
 returns-clause-ok c =

@@ -3,10 +3,15 @@ use Rattle.tinyjson_number.proofs.Integers.{ten_within, ten_next}
 use Rattle.tinyjson_number.proofs.integer.times_ten.Goals as goal
 
 pub returns-in_default : goal.returns-in_default
-returns-in_default c = λ fits. c.in_default.ensures (omega (arith, c.loop-i.invariant.is, fits, ten_within c.args.number c.loop-i._i c.args.times (omega arith)))
+returns-in_default c = λ fits. c.in_default.ensures
+    (omega (arith, c.loop-i.invariant.is, fits, ten_within c.args.number c.loop-i._i c.args.times (omega arith)))
 
 pub loop-i-preserved : goal.loop-i-preserved
-loop-i-preserved c = record { is = omega (arith, c.in-Some.ensures.1, c.loop-i.invariant.is, ten_next c.args.number c.loop-i._i); fits = omega (arith, c.in-Some.ensures.0, c.in-Some.ensures.1) }
+loop-i-preserved c = record {
+  is = omega (arith, c.in-Some.ensures.1, c.loop-i.invariant.is, ten_next c.args.number c.loop-i._i);
+  fits =
+      omega (arith, c.in-Some.ensures.0, c.in-Some.ensures.1);
+}
 
 pub returns : goal.returns
 returns c =

@@ -7,4 +7,5 @@ all_taken : (bs ds : List ℕ) (start : ℕ) → length bs ≡ 20 → drop start
 all_taken bs ds start long is = take_all (20 - start) (drop start bs) (omega (arith, long, length-drop start bs)) ∙ is
 
 pub returns : goal.returns
-returns c = all_taken c.write_digits-start.new.buffer (decimal c.args.value) c.write_digits-start.result c.write_digits-start.array_long c.write_digits-start.ensures.digits
+returns c = all_taken c.write_digits-start.new.buffer (decimal c.args.value) c.write_digits-start.result c.write_digits-start.array_long
+    c.write_digits-start.ensures.digits

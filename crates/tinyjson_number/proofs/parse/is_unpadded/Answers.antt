@@ -10,7 +10,8 @@ first_of w f some h e = h (sym (get_or_append_left w f 0 0 some) ∙ e)
 last_of : (w f : List ℕ) → 0 < length f → get_or f (length f - 1) 0 ≢ 48 → get_or (w ++ f) (length (w ++ f) - 1) 0 ≢ 48
 last_of w f some h e =
     let i : length (w ++ f) - 1 - length w ≡ length f - 1 = omega (arith, length-append w f, some) in
-    h (sym (get_or-append_right w f (length w) (length (w ++ f) - 1) 0 refl (omega (arith, length-append w f, some)) ∙ ap (λ k. get_or f k 0) i) ∙ e)
+    h (sym (get_or-append_right w f (length w) (length (w ++ f) - 1) 0 refl (omega (arith, length-append w f, some))
+    ∙ ap (λ k. get_or f k 0) i) ∙ e)
 
 last_alone : (w f : List ℕ) → length f ≡ 0 → get_or w (length w - 1) 0 ≢ 48 → get_or (w ++ f) (length (w ++ f) - 1) 0 ≢ 48
 last_alone w f none h e = h (sym (ap (λ t. get_or t (length t - 1) 0) (ap (λ g. w ++ g) (nil_from_length f none) ∙ append-nil w)) ∙ e)
@@ -19,12 +20,20 @@ pub returns-then-is_empty-2 : goal.returns-then-is_empty-2
 returns-then-is_empty-2 c = λ bare.
     let w = c.args.integer.now in
     let f = c.args.fraction.now in
-    let some : 0 < length w = grind (arith, nat_tests, c.if-is_empty.false, c.is_empty.ensures) in
-    (some, strip_leading_none (w ++ f) (first_of w f some c.if-integer-eq48.false), strip_trailing_none (w ++ f) (last_alone w f (grind (arith, nat_tests)) (λ e. grind (arith, nat_tests, e, bare))))
+    let some : 0 < length w = grind (arith, nat_tests, c.if-is_empty.false, c.is_empty.ensures) in (
+      some,
+      strip_leading_none (w ++ f) (first_of w f some c.if-integer-eq48.false),
+      strip_trailing_none (w ++ f)
+          (last_alone w f (grind (arith, nat_tests)) (λ e. grind (arith, nat_tests, e, bare))),
+    )
 
 pub returns : goal.returns
 returns c = λ bare.
     let w = c.args.integer.now in
     let f = c.args.fraction.now in
-    let some : 0 < length w = grind (arith, nat_tests, c.if-is_empty.false, c.is_empty.ensures) in
-    (some, strip_leading_none (w ++ f) (first_of w f some c.if-integer-eq48.false), strip_trailing_none (w ++ f) (last_of w f (grind (arith, nat_tests)) (λ e. grind (arith, nat_tests, e, bare))))
+    let some : 0 < length w = grind (arith, nat_tests, c.if-is_empty.false, c.is_empty.ensures) in (
+      some,
+      strip_leading_none (w ++ f) (first_of w f some c.if-integer-eq48.false),
+      strip_trailing_none (w ++ f)
+          (last_of w f (grind (arith, nat_tests)) (λ e. grind (arith, nat_tests, e, bare))),
+    )

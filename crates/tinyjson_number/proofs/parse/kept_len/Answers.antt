@@ -9,10 +9,12 @@ loop-n-preserved c =
     let n = c.loop-n.n in
     let ds = c.args.digits.now in
     let more : n - 1 + 1 ≡ n = omega arith in
-    let last : take n ds ≡ take (n - 1) ds ++ get_or ds (n - 1) 0 ∷ [] = ap (λ k. take k ds) (sym more) ∙ take_more ds (n - 1) 0 (omega arith) in
+    let last : take n ds ≡ take (n - 1) ds ++ get_or ds (n - 1) 0 ∷ [] = ap (λ k. take k ds) (sym more)
+    ∙ take_more ds (n - 1) 0 (omega arith) in
     record {
       within = omega arith;
-      rest = sym (strip_trailing_push_zero (take (n - 1) ds) (get_or ds (n - 1) 0) (omega arith)) ∙ ap strip_trailing (sym last) ∙ c.loop-n.invariant.rest;
+      rest = sym (strip_trailing_push_zero (take (n - 1) ds) (get_or ds (n - 1) 0) (omega arith)) ∙ ap strip_trailing (sym last)
+          ∙ c.loop-n.invariant.rest;
     }
 
 pub returns-else-digits-n-eq48-clause-kept : goal.returns-else-digits-n-eq48-clause-kept
@@ -20,6 +22,8 @@ returns-else-digits-n-eq48-clause-kept c =
     let n = c.loop-n.n in
     let ds = c.args.digits.now in
     let more : n - 1 + 1 ≡ n = omega arith in
-    let last : take n ds ≡ take (n - 1) ds ++ get_or ds (n - 1) 0 ∷ [] = ap (λ k. take k ds) (sym more) ∙ take_more ds (n - 1) 0 (omega arith) in
+    let last : take n ds ≡ take (n - 1) ds ++ get_or ds (n - 1) 0 ∷ [] = ap (λ k. take k ds) (sym more)
+    ∙ take_more ds (n - 1) 0 (omega arith) in
     let other : get_or ds (n - 1) 0 ≢ 48 = omega arith in
-    last ∙ sym (strip_trailing_push_other (take (n - 1) ds) (get_or ds (n - 1) 0) other) ∙ ap strip_trailing (sym last) ∙ c.loop-n.invariant.rest
+    last ∙ sym (strip_trailing_push_other (take (n - 1) ds) (get_or ds (n - 1) 0) other) ∙ ap strip_trailing (sym last)
+    ∙ c.loop-n.invariant.rest

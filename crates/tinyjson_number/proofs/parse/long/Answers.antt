@@ -13,7 +13,8 @@ use Rattle.tinyjson_number.proofs.parse.long.Goals as goal
 pub returns-then-kept-eq0-clause-reads : goal.returns-then-kept-eq0-clause-reads
 returns-then-kept-eq0-clause-reads c =
     let n : Numeral = numeral_of c.args.parts in
-    let empty : length (significant (n.integer ++ n.fraction)) ≡ 0 = omega (arith, ap length c.strip-kept.ensures.digits, length-append {A = ℕ}) in
+    let empty : length (significant (n.integer ++ n.fraction)) ≡ 0 = omega
+    (arith, ap length c.strip-kept.ensures.digits, length-append {A = ℕ}) in
     let none : significant (n.integer ++ n.fraction) ≡ [] = nil_from_length _ empty in
     (c.zero.ensures ∙ sym (zero_value n none), zero_in_range n none)
 
@@ -24,7 +25,8 @@ returns-in_default-clause-reads c =
     let some : 0 < length s = omega (arith, length-append {A = ℕ}) in
     let found : 0 < length (significant (n.integer ++ n.fraction)) = omega (arith, ap length c.strip-kept.ensures.digits) in
     let wide : FitsSigned w128 c.capped_exponent-exponent.result = search rules in
-    value_out n s c.strip-kept.result.zeros c.strip-kept.ensures.digits some (c.strip-kept.ensures.zeros found) (omega (arith, c.requires.room)) (omega arith)
+    value_out n s c.strip-kept.result.zeros c.strip-kept.ensures.digits some (c.strip-kept.ensures.zeros found)
+    (omega (arith, c.requires.room)) (omega arith)
     (rw (to_z-of_z w128 c.capped_exponent-exponent.result wide, c.capped_exponent-exponent.ensures.value) at c.in_default.ensures)
 
 pub of_digits-requires-clause-canonical : goal.of_digits-requires-clause-canonical
@@ -33,7 +35,9 @@ of_digits-requires-clause-canonical c =
     let s : List ℕ = c.strip-kept.result.integer.now ++ c.strip-kept.result.fraction.now in
     let p = c.in-Some.power in
     let fits : FitsSigned w64 p = search rules in
-    rw (to_z-of_z w64 p fits) (kept_is n.negative s p (omega (arith, length-append {A = ℕ})) (n.integer ++ n.fraction) c.strip-kept.ensures.digits (digits_join n.integer n.fraction c.requires.numeral.integer c.requires.numeral.fraction) fits)
+    rw (to_z-of_z w64 p fits) (kept_is n.negative s p (omega (arith, length-append {A = ℕ}))
+    (n.integer ++ n.fraction) c.strip-kept.ensures.digits (digits_join n.integer n.fraction c.requires.numeral.integer
+    c.requires.numeral.fraction) fits)
 
 pub returns-in_err-of_digits-clause-reads : goal.returns-in_err-of_digits-clause-reads
 returns-in_err-of_digits-clause-reads c =
@@ -45,7 +49,8 @@ returns-in_err-of_digits-clause-reads c =
     let p = c.in-Some.power in
     let fits : FitsSigned w64 p = search rules in
     let power = rw (to_z-of_z w128 c.capped_exponent-exponent.result wide, c.capped_exponent-exponent.ensures.value) at c.in-Some.ensures in
-    memory_refused n c.from_residual.result c.from_residual.ensures.1 (value_in n s c.strip-kept.result.zeros c.strip-kept.ensures.digits some (c.strip-kept.ensures.zeros found) (omega (arith, c.requires.room)) (omega arith) p power fits)
+    memory_refused n c.from_residual.result c.from_residual.ensures.1 (value_in n s c.strip-kept.result.zeros c.strip-kept.ensures.digits
+    some (c.strip-kept.ensures.zeros found) (omega (arith, c.requires.room)) (omega arith) p power fits)
 
 pub returns-clause-reads : goal.returns-clause-reads
 returns-clause-reads c =
@@ -58,6 +63,8 @@ returns-clause-reads c =
     let fits : FitsSigned w64 p = search rules in
     let power = rw (to_z-of_z w128 c.capped_exponent-exponent.result wide, c.capped_exponent-exponent.ensures.value) at c.in-Some.ensures in
     let decimal = rw (to_z-of_z w64 p fits) at c.in_ok-of_digits.ensures.decimal in (
-      decimal ∙ value_kept n s c.strip-kept.result.zeros c.strip-kept.ensures.digits some (c.strip-kept.ensures.zeros found) (omega (arith, c.requires.room)) (omega arith) p power fits,
-      value_in n s c.strip-kept.result.zeros c.strip-kept.ensures.digits some (c.strip-kept.ensures.zeros found) (omega (arith, c.requires.room)) (omega arith) p power fits,
+      decimal ∙ value_kept n s c.strip-kept.result.zeros c.strip-kept.ensures.digits some (c.strip-kept.ensures.zeros found)
+          (omega (arith, c.requires.room)) (omega arith) p power fits,
+      value_in n s c.strip-kept.result.zeros c.strip-kept.ensures.digits some (c.strip-kept.ensures.zeros found)
+          (omega (arith, c.requires.room)) (omega arith) p power fits,
     )

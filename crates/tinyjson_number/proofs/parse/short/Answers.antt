@@ -10,14 +10,16 @@ use Rattle.tinyjson_number.proofs.parse.short.Goals as goal
 pub returns-then-kept-eq0-clause-decimal : goal.returns-then-kept-eq0-clause-decimal
 returns-then-kept-eq0-clause-decimal c =
     let n : Numeral = plain_numeral c.args.negative c.args.integer.now c.args.fraction.now in
-    let empty : length (significant (n.integer ++ n.fraction)) ≡ 0 = omega (arith, ap length c.strip-kept.ensures.digits, length-append {A = ℕ}) in
+    let empty : length (significant (n.integer ++ n.fraction)) ≡ 0 = omega
+    (arith, ap length c.strip-kept.ensures.digits, length-append {A = ℕ}) in
     let none : significant (n.integer ++ n.fraction) ≡ [] = nil_from_length _ empty in
     c.zero.ensures ∙ sym (zero_value n none)
 
 pub returns-then-kept-eq0-clause-fits : goal.returns-then-kept-eq0-clause-fits
 returns-then-kept-eq0-clause-fits c =
     let n : Numeral = plain_numeral c.args.negative c.args.integer.now c.args.fraction.now in
-    let empty : length (significant (n.integer ++ n.fraction)) ≡ 0 = omega (arith, ap length c.strip-kept.ensures.digits, length-append {A = ℕ}) in
+    let empty : length (significant (n.integer ++ n.fraction)) ≡ 0 = omega
+    (arith, ap length c.strip-kept.ensures.digits, length-append {A = ℕ}) in
     let none : significant (n.integer ++ n.fraction) ≡ [] = nil_from_length _ empty in
     zero_in_range n none
 
@@ -30,7 +32,9 @@ of_few-requires-clause-canonical c =
     let zeros = c.strip-kept.ensures.zeros found in
     let few : c.strip-kept.result.zeros ≤ 24 = omega (arith, zeros, length-append n.integer n.fraction, c.requires.few) in
     let power = power_few c.strip-kept.result.zeros (length n.fraction) few (omega (arith, c.requires.few)) in
-    rw power (kept_is n.negative s _ some (n.integer ++ n.fraction) c.strip-kept.ensures.digits (digits_join n.integer n.fraction c.requires.integer c.requires.fraction) (power_few_fits c.strip-kept.result.zeros (length n.fraction) few (omega (arith, c.requires.few))))
+    rw power (kept_is n.negative s _ some (n.integer ++ n.fraction) c.strip-kept.ensures.digits
+    (digits_join n.integer n.fraction c.requires.integer c.requires.fraction)
+    (power_few_fits c.strip-kept.result.zeros (length n.fraction) few (omega (arith, c.requires.few))))
 
 pub returns-clause-decimal : goal.returns-clause-decimal
 returns-clause-decimal c =
@@ -52,4 +56,5 @@ returns-clause-fits c =
     let zeros = c.strip-kept.ensures.zeros found in
     let few : c.strip-kept.result.zeros ≤ 24 = omega (arith, zeros, length-append n.integer n.fraction, c.requires.few) in
     let power = power_few c.strip-kept.result.zeros (length n.fraction) few (omega (arith, c.requires.few)) in
-    value_fits n s c.strip-kept.result.zeros c.strip-kept.ensures.digits some zeros _ refl (power_few_fits c.strip-kept.result.zeros (length n.fraction) few (omega (arith, c.requires.few)))
+    value_fits n s c.strip-kept.result.zeros c.strip-kept.ensures.digits some zeros _ refl
+    (power_few_fits c.strip-kept.result.zeros (length n.fraction) few (omega (arith, c.requires.few)))

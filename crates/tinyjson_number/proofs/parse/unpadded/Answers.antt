@@ -20,7 +20,8 @@ of_few-requires-clause-canonical c =
     let few : length n.fraction ≤ 24 = omega (arith, c.requires.few) in
     let some : 0 < length (n.integer ++ n.fraction) = omega (arith, b.some, length-append n.integer n.fraction) in
     let power = power_few 0 (length n.fraction) (omega arith) few in
-    rw power (kept_is n.negative (n.integer ++ n.fraction) _ some (n.integer ++ n.fraction) (bare_significant _ b.lead b.trail) (digits_join n.integer n.fraction c.requires.integer c.requires.fraction) (power_few_fits 0 (length n.fraction) (omega arith) few))
+    rw power (kept_is n.negative (n.integer ++ n.fraction) _ some (n.integer ++ n.fraction) (bare_significant _ b.lead b.trail)
+    (digits_join n.integer n.fraction c.requires.integer c.requires.fraction) (power_few_fits 0 (length n.fraction) (omega arith) few))
 
 pub returns-clause-decimal : goal.returns-clause-decimal
 returns-clause-decimal c =
@@ -29,7 +30,8 @@ returns-clause-decimal c =
     let few : length n.fraction ≤ 24 = omega (arith, c.requires.few) in
     let some : 0 < length (n.integer ++ n.fraction) = omega (arith, b.some, length-append n.integer n.fraction) in
     let power = power_few 0 (length n.fraction) (omega arith) few in
-    (rw power at c.of_few.ensures) ∙ value_exact n (n.integer ++ n.fraction) 0 (bare_significant _ b.lead b.trail) some (bare_zeros _ b.trail) _ refl
+    (rw power at c.of_few.ensures) ∙ value_exact n (n.integer ++ n.fraction) 0 (bare_significant _ b.lead b.trail) some
+    (bare_zeros _ b.trail) _ refl
 
 pub returns-clause-fits : goal.returns-clause-fits
 returns-clause-fits c =
@@ -37,4 +39,5 @@ returns-clause-fits c =
     let b = c.requires in
     let few : length n.fraction ≤ 24 = omega (arith, c.requires.few) in
     let some : 0 < length (n.integer ++ n.fraction) = omega (arith, b.some, length-append n.integer n.fraction) in
-    value_fits n (n.integer ++ n.fraction) 0 (bare_significant _ b.lead b.trail) some (bare_zeros _ b.trail) _ refl (power_few_fits 0 (length n.fraction) (omega arith) few)
+    value_fits n (n.integer ++ n.fraction) 0 (bare_significant _ b.lead b.trail) some (bare_zeros _ b.trail) _ refl
+    (power_few_fits 0 (length n.fraction) (omega arith) few)

@@ -5,4 +5,5 @@ use Rattle.tinyjson_number.proofs.Naturals.{integer_decimal}
 use Rattle.tinyjson_number.proofs.text.write_exponent.Goals as goal
 
 pub returns : goal.returns
-returns g c = let same : integer_text c.args.exponent ≡ signed_decimal c.args.exponent = integer_decimal c.args.exponent (omega (arith, c.ranges.exponent.sfits)) in rw same (search rules)
+returns g c = let same : integer_text c.args.exponent ≡ signed_decimal c.args.exponent =
+    integer_decimal c.args.exponent (omega (arith, c.ranges.exponent.sfits)) in rw same (search rules)

@@ -4,4 +4,5 @@ use Rattle.tinyjson_output.proofs.Written.{written_take}
 use Rattle.tinyjson_output.proofs.buffer.write_all.Goals as goal
 
 pub loop-rest-preserved : goal.loop-rest-preserved
-loop-rest-preserved g c = let h = written_take c.in_ok-count.count c.loop-rest.invariant c.in_ok-count.ensures.bytes in grind (arith, common_steps, h)
+loop-rest-preserved g c = let h = written_take c.in_ok-count.count c.loop-rest.invariant c.in_ok-count.ensures.bytes in
+    grind (arith, common_steps, h)

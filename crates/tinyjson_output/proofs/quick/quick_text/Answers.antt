@@ -9,4 +9,5 @@ returns c =
     let p = buffered c.args.buffer.now in
     let plain = all_plain bytes c.plain_end.result c.plain_end.ensures.end (omega arith) in
     c.append-3.ensures.buffers ∙ ap (λ w. w ++ 34 ∷ []) (c.append-2.ensures.buffers ∙ ap (λ w. w ++ bytes) c.append.ensures.buffers)
-    ∙ append_assoc (p ++ 34 ∷ []) bytes (34 ∷ []) ∙ append_assoc p (34 ∷ []) (bytes ++ 34 ∷ []) ∙ ap (λ b. p ++ 34 ∷ (b ++ 34 ∷ [])) (sym plain)
+    ∙ append_assoc (p ++ 34 ∷ []) bytes (34 ∷ []) ∙ append_assoc p (34 ∷ []) (bytes ++ 34 ∷ [])
+    ∙ ap (λ b. p ++ 34 ∷ (b ++ 34 ∷ [])) (sym plain)

@@ -9,7 +9,8 @@ pub returns-in_err-write_bytes : goal.returns-in_err-write_bytes
 returns-in_err-write_bytes g c =
     let xs = c.args.bytes.now in
     let n = c.plain_end-stop.result in
-    fails _ (escapes (drop n xs)) c.from_residual.ensures.0 c.in_err-write_bytes.ensures (written_none _ _ _ (at_stop xs n c.plain_end-stop.ensures.end))
+    fails _ (escapes (drop n xs)) c.from_residual.ensures.0 c.in_err-write_bytes.ensures
+    (written_none _ _ _ (at_stop xs n c.plain_end-stop.ensures.end))
 
 pub returns-then-stop-bytes : goal.returns-then-stop-bytes
 returns-then-stop-bytes g c =
@@ -26,4 +27,5 @@ returns g c =
     let xs = c.args.bytes.now in
     let n = c.plain_end-stop.result in
     let e = c.plain_end-stop.ensures.end in
-    ends _ _ _ _ _ _ c.write_stopped.ensures (rw (escapes_there xs n e) at (goes (escapes (drop n xs)) c.in_ok-write_bytes.ensures (written_none _ _ _ (at_stop xs n e))))
+    ends _ _ _ _ _ _ c.write_stopped.ensures (rw (escapes_there xs n e) at
+    (goes (escapes (drop n xs)) c.in_ok-write_bytes.ensures (written_none _ _ _ (at_stop xs n e))))

@@ -7,14 +7,16 @@ use Rattle.tinyjson_output.proofs.strings.write_stopped.Goals as goal
 pub returns-in_err-write_escape : goal.returns-in_err-write_escape
 returns-in_err-write_escape g c =
     let after = c.in-Some.after.now in
-    fails _ (escapes after) c.from_residual.ensures.0 c.in_err-write_escape.ensures (rw c.in-Some.ensures.cases.0 at c.loop-byte.invariant.1)
+    fails _ (escapes after) c.from_residual.ensures.0 c.in_err-write_escape.ensures
+    (rw c.in-Some.ensures.cases.0 at c.loop-byte.invariant.1)
 
 pub returns-in_err-write_bytes : goal.returns-in_err-write_bytes
 returns-in_err-write_bytes g c =
     let after = c.in-Some.after.now in
     let n = c.plain_end-stop.result in
     let h = goes (escapes after) c.in_ok-write_escape.ensures (rw c.in-Some.ensures.cases.0 at c.loop-byte.invariant.1) in
-    fails _ (escapes (drop n after)) c.from_residual-in_err-write_bytes.ensures.0 c.in_err-write_bytes.ensures (rw (at_stop after n c.plain_end-stop.ensures.end) at h)
+    fails _ (escapes (drop n after)) c.from_residual-in_err-write_bytes.ensures.0 c.in_err-write_bytes.ensures
+    (rw (at_stop after n c.plain_end-stop.ensures.end) at h)
 
 pub loop-byte-preserved : goal.loop-byte-preserved
 loop-byte-preserved g c =

@@ -18,4 +18,6 @@ returns c =
     let h : at + 6 ≤ length bytes = search (rules, arith) in
     let p : get_or bytes at 0 ≡ 92 = search rules in
     let q : get_or bytes (at + 1) 0 ≡ 117 = search rules in
-    six_bytes bytes at _ _ _ _ _ h p q refl refl refl refl a1 a2 a3 a4 (four_digits (get_or bytes (at + 2) 0) (get_or bytes (at + 3) 0) (get_or bytes (at + 4) 0) (get_or bytes (at + 5) 0) _ _ _ _ e1 e2 e3 e4)
+    six_bytes bytes at _ _ _ _ _ h p q refl refl refl refl a1 a2 a3 a4
+    (four_digits (get_or bytes (at + 2) 0) (get_or bytes (at + 3) 0) (get_or bytes (at + 4) 0)
+    (get_or bytes (at + 5) 0) _ _ _ _ e1 e2 e3 e4)

@@ -6,7 +6,8 @@ pub returns-in-Ok-true : goal.returns-in-Ok-true
 returns-in-Ok-true c =
     let whole : paired c.args.units.now.items ≡ true =
     ap paired (sym c.deref.ensures.value) ∙ sym c.in-Ok-true.ensures.whole ∙ c.in-Ok-true.field-0-test in
-    let added = c.in-Ok-true.ensures.text c.in-Ok-true.field-0-test ∙ ap (λ us. text c.args.string.now ++ decode us) c.deref.ensures.value in
+    let added = c.in-Ok-true.ensures.text c.in-Ok-true.field-0-test ∙ ap
+    (λ us. text c.args.string.now ++ decode us) c.deref.ensures.value in
     (whole, added, c.clear.ensures.items)
 
 pub returns-in-Ok-false : goal.returns-in-Ok-false

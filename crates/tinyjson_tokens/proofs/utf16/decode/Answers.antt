@@ -1,9 +1,11 @@
 use Rattle.std.proofs.Common.{rules, ◌≡◌, ◌<◌, ◌++◌, ◌∷◌, [], ◌+◌, drop, true, false, IfSome, ap, subst, ◌∙◌}
 use Rattle.std.specs.Prelude.{slice_index}
 use Rattle.tinyjson_grammar.specs.Characters.{text, is_high, is_low, decode}
-use Rattle.tinyjson_tokens.proofs.Units.{low_ends, pair_goes, high_goes, plain_goes, pair_text, high_text, plain_text, not_scalar, scalar_plain}
+use Rattle.tinyjson_tokens.proofs.Units.{low_ends, pair_goes, high_goes, plain_goes, pair_text, high_text, plain_text, not_scalar}
+use Rattle.tinyjson_tokens.proofs.Units.{scalar_plain}
 use Rattle.tinyjson_tokens.proofs.utf16.decode.Goals as goal
-use Rattle.tinyjson_tokens.proofs.utf16.decode.Goals.{in-Some+else-not-is_low+in_ok-push-in-Some, in-None, in-None-2+in-Some-from_u32+in_ok-push-in-None-2}
+use Rattle.tinyjson_tokens.proofs.utf16.decode.Goals.{in-Some+else-not-is_low+in_ok-push-in-Some, in-None}
+use Rattle.tinyjson_tokens.proofs.utf16.decode.Goals.{in-None-2+in-Some-from_u32+in_ok-push-in-None-2}
 
 pub returns-in_default-clause-whole : goal.returns-in_default-clause-whole
 returns-in_default-clause-whole c =
@@ -27,8 +29,10 @@ loop-unit-preserved c =
             high = tt;
             paired = pair_goes us i h _ v.paired w.in-Some.first w.in-Some.is a b;
             text =
-                ap (λ s. s ++ decode (drop (i + 1) us)) (w.in_ok-push-in-Some.ensures ∙ ap (λ x. text c.loop-unit.string ++ x ∷ []) w.pair.ensures)
-                ∙ pair_text us i h c.loop-unit.high (text c.loop-unit.string) (text c.args.string.now) v.text w.in-Some.first w.in-Some.is a b;
+                ap (λ s. s ++ decode (drop (i + 1) us)) (w.in_ok-push-in-Some.ensures
+                ∙ ap (λ x. text c.loop-unit.string ++ x ∷ []) w.pair.ensures)
+                ∙ pair_text us i h c.loop-unit.high (text c.loop-unit.string)
+                (text c.args.string.now) v.text w.in-Some.first w.in-Some.is a b;
           })
       | in-None w ↦
           let a : is_high u ≡ true = search rules in

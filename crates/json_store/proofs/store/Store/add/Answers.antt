@@ -15,4 +15,5 @@ returns-clause-ok c = λ w.
     let at : c.as_str.result.now ≡ key_of v = c.as_str.ensures.value ∙ is in
     let read : c.unwrap_or-count.result ≡ unwrap_or (get_by_text m c.as_str.result.now) 0 = cc in
     counted m c.insert.new.self c.in-Ok.key v w c.saturating_add.result is c.in-Ok-insert.ensures.updates
-    ∙ ap (λ k. cond (same_tree v w) k (count_of c.args.self.now w)) (c.saturating_add.ensures ∙ ap next_count (read ∙ ap (λ bs. unwrap_or (get_by_text m bs) 0) at))
+    ∙ ap (λ k. cond (same_tree v w) k (count_of c.args.self.now w)) (c.saturating_add.ensures
+    ∙ ap next_count (read ∙ ap (λ bs. unwrap_or (get_by_text m bs) 0) at))

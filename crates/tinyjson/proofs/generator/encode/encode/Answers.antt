@@ -8,4 +8,5 @@ returns-in_err-value g c =
     MatchResult-from_err _ _ _ c.from_residual.ensures.0 (λ _. h.part)
 
 pub returns : goal.returns
-returns g c = flushes _ _ _ _ _ _ (rw (c.new-encoder.ensures.buffer, c.new-encoder.ensures.indent) at c.in_ok-value.ensures) c.flush.ensures.written
+returns g c = flushes _ _ _ _ _ _ (rw (c.new-encoder.ensures.buffer, c.new-encoder.ensures.indent) at c.in_ok-value.ensures)
+    c.flush.ensures.written

@@ -14,13 +14,15 @@ pub returns-in_err-write_bytes-2 : goal.returns-in_err-write_bytes-2
 returns-in_err-write_bytes-2 g c =
     let bs = c.args.indent.now in
     let h = rw (line_here c.args.level c.loop-level._level bs c.utf8.indent c.loop-level-test.true) at c.loop-level.invariant in
-    fails _ (enc (repeated (c.args.level - (c.loop-level._level + 1)) (chars bs))) c.from_residual-in_err-write_bytes-2.ensures.0 c.in_err-write_bytes-2.ensures (rw c.as_bytes.ensures.value h)
+    fails _ (enc (repeated (c.args.level - (c.loop-level._level + 1)) (chars bs))) c.from_residual-in_err-write_bytes-2.ensures.0
+    c.in_err-write_bytes-2.ensures (rw c.as_bytes.ensures.value h)
 
 pub loop-level-preserved : goal.loop-level-preserved
 loop-level-preserved g c =
     let bs = c.args.indent.now in
     let h = rw (line_here c.args.level c.loop-level._level bs c.utf8.indent c.loop-level-test.true) at c.loop-level.invariant in
-    goes (enc (repeated (c.args.level - (c.loop-level._level + 1)) (chars bs))) c.in_ok-write_bytes-2.ensures (rw c.as_bytes.ensures.value h)
+    goes (enc (repeated (c.args.level - (c.loop-level._level + 1)) (chars bs))) c.in_ok-write_bytes-2.ensures
+    (rw c.as_bytes.ensures.value h)
 
 pub loop-level-init : goal.loop-level-init
 loop-level-init g c =

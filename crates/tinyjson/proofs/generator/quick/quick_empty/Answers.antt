@@ -17,7 +17,8 @@ returns-else-is_empty c = λ w k. rw c.if-is_empty.false refl
 pub returns-then-is_empty-2 : goal.returns-then-is_empty-2
 returns-then-is_empty-2 c =
     let m = c.in-Object.members in
-    λ w k. rw (c.in-Object.is, view_Object m, empty_object w k m.entries (c.if-is_empty-2.ensures.0 refl)) c.quick_word-then-is_empty-2.ensures
+    λ w k. rw (c.in-Object.is, view_Object m, empty_object w k m.entries (c.if-is_empty-2.ensures.0 refl))
+    c.quick_word-then-is_empty-2.ensures
 
 pub returns-else-is_empty-2 : goal.returns-else-is_empty-2
 returns-else-is_empty-2 c = λ w k. rw c.if-is_empty-2.false refl

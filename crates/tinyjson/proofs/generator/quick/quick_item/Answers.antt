@@ -9,6 +9,7 @@ returns c = λ k.
     let p = buffered c.args.buffer.now in
     let same = rw c.if-quick_value.false at (c.quick_value.ensures None k) in
     elim c.if-not-first.branch [
-      | then-not-first w ↦ taken_back p _ _ _ (44 ∷ []) _ c.len-len.ensures c.truncate.ensures same (rw w.buffer-is w.append.ensures.buffers)
+      | then-not-first w ↦ taken_back p _ _ _ (44 ∷ []) _ c.len-len.ensures c.truncate.ensures same
+          (rw w.buffer-is w.append.ensures.buffers)
       | else-not-first w ↦ taken_back p _ _ _ [] _ c.len-len.ensures c.truncate.ensures same (rw w.buffer-is (sym (append-nil p)))
     ]

@@ -10,6 +10,7 @@ pub loop-item-preserved : goal.loop-item-preserved
 loop-item-preserved c =
     let l = c.loop-item in
     let e = c.in-Some.ensures.cases.0 in (
-      λ k held. item_on held k l.first l.rest.now c.in-Some.others.now c.in-Some.item.now _ _ e (rw c.if-not-quick_item.false at (c.quick_item.ensures k)) (l.invariant.0 k held),
+      λ k held. item_on held k l.first l.rest.now c.in-Some.others.now c.in-Some.item.now _ _ e
+          (rw c.if-not-quick_item.false at (c.quick_item.ensures k)) (l.invariant.0 k held),
       omega (arith, l.invariant.1, ap length e),
     )

@@ -7,7 +7,8 @@ use Rattle.tinyjson.proofs.generator.quick.quick_items.Given as goal
 
 abbrev pub invariant-loop-item : goal.invariant-loop-item
 invariant-loop-item l =
-    ((k : ℕ) → Buffers (buffered l.fn.buffer) (buffered l.buffer) (encode_utf8_all (items_text None k l.fn.first (items_view l.fn.items))) (encode_utf8_all (items_text None k l.first (items_view l.rest))))
+    ((k : ℕ) → Buffers (buffered l.fn.buffer) (buffered l.buffer) (encode_utf8_all (items_text None k l.fn.first (items_view l.fn.items)))
+    (encode_utf8_all (items_text None k l.first (items_view l.rest))))
     × (length l.rest ≤ length l.fn.items)
 
 abbrev pub decreases-loop-item : goal.decreases-loop-item

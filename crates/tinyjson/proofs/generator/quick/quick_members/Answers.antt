@@ -16,7 +16,8 @@ loop-key-preserved c =
     let n : l.left ≡ suc (l.left - 1) = omega (arith, c.in-Some.ensures.0) in
     let head : gs ≡ m ∷ drop 1 gs = rw c.deref.ensures.value at c.in-Some.ensures.1 in
     let e = skipped c.next_member-written.result l.left gs hs m c.in-Some.ensures.0 head c.next_member-written.ensures in (
-      λ k held. let quick = rw c.if-not-quick_member.false at (c.quick_member.ensures k) in member_on held k l.first gs hs m l.left (l.left - 1) _ _ e n quick.1 (l.invariant.0 k held),
+      λ k held. let quick = rw c.if-not-quick_member.false at (c.quick_member.ensures k) in
+          member_on held k l.first gs hs m l.left (l.left - 1) _ _ e n quick.1 (l.invariant.0 k held),
       left_after l.left (l.left - 1) gs hs m n e ∙ l.invariant.1,
       omega (arith, l.invariant.2),
     )

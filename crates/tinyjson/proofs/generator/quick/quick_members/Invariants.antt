@@ -9,7 +9,9 @@ abbrev pub invariant-loop-key : goal.invariant-loop-key
 invariant-loop-key l =
     let gs = reverse l.fn.gathered.items in
     let hs = reverse l.gathered.items in
-    ((k : ℕ) → Buffers (buffered l.fn.buffer) (buffered l.buffer) (encode_utf8_all (members_text None k l.fn.first (sorted_view (take l.fn.count gs)))) (encode_utf8_all (members_text None k l.first (sorted_view (take l.left hs)))))
+    ((k : ℕ) → Buffers (buffered l.fn.buffer) (buffered l.buffer) (encode_utf8_all
+    (members_text None k l.fn.first (sorted_view (take l.fn.count gs))))
+    (encode_utf8_all (members_text None k l.first (sorted_view (take l.left hs)))))
     × (drop l.left hs ≡ drop l.fn.count gs)
     × (l.left ≤ l.fn.count)
 

@@ -10,12 +10,14 @@ use Rattle.tinyjson.proofs.generator.quick.quick_value.Goals as goal
 pub returns-in-Number : goal.returns-in-Number
 returns-in-Number c =
     let n = c.in-Number.number in
-    λ w k. rw (c.in-Number.is, view_Number n, encodes-IsAscii (decimal_text n.decimal) (decimal_ascii n.decimal n.canonical)) c.quick_number.ensures
+    λ w k. rw (c.in-Number.is, view_Number n, encodes-IsAscii (decimal_text n.decimal) (decimal_ascii n.decimal n.canonical))
+    c.quick_number.ensures
 
 pub returns-in-String : goal.returns-in-String
 returns-in-String c =
     let s = c.in-String.text in
-    λ w k. rw (c.in-String.is, view_String s, quoted_bytes (string_bytes s) (IsUtf8-string_bytes s)) (rw c.as_bytes.ensures.value at c.quick_text.ensures)
+    λ w k. rw (c.in-String.is, view_String s, quoted_bytes (string_bytes s) (IsUtf8-string_bytes s))
+    (rw c.as_bytes.ensures.value at c.quick_text.ensures)
 
 pub returns-in-Boolean-true : goal.returns-in-Boolean-true
 returns-in-Boolean-true c =

@@ -16,7 +16,13 @@ returns-clause-parses g c = rw (← c.self.view_is) (λ xs r.
       consumed = a.consumed;
       rest = a.rest;
       whole = a.whole;
-      remains = record { later = l.0; whole = l.1; follows = l.2; scalars = all_rest a.consumed a.rest (subst (All IsScalar) a.whole r.scalars) };
+      remains = record {
+        later = l.0;
+        whole = l.1;
+        follows = l.2;
+        scalars =
+            all_rest a.consumed a.rest (subst (All IsScalar) a.whole r.scalars);
+      };
       position = a.moves;
       answer = a.answer;
       refused = refused_answer limit xs a.consumed a.rest _ _ c.text.result a.whole a.answer;

@@ -13,7 +13,8 @@ returns-clause-old c =
     let list = c.array_mut.result.now in
     let held = c.array_mut.ensures.value in
     is_item_at v c.args.index list c.replace.result held
-    (slice_get_read list.items _ c.args.index _ refl (within_array v c.args.index list c.requires held) c.index_mut.ensures.value ∙ ap Some (sym c.replace.ensures.value))
+    (slice_get_read list.items _ c.args.index _ refl (within_array v c.args.index list c.requires held) c.index_mut.ensures.value
+    ∙ ap Some (sym c.replace.ensures.value))
 
 pub returns-clause-new : goal.returns-clause-new
 returns-clause-new c =

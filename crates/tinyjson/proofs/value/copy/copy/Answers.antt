@@ -11,8 +11,10 @@ loop-step-preserved-in_ok-step-in-Object c =
     let stack = c.loop-step.stack.items in
     let entries = c.in-Object.members.now.entries in
     let all : put_all c.iter-in-Object.result (members_view c.in_ok-copies-in-Object.copies.entries) ≡ members_view entries
-    = (λ i. put_all (c.iter-in-Object.ensures.rest i) (members_view (c.in_ok-copies-in-Object.ensures.empty i))) ∙ put_all_none entries c.iter-in-Object.ensures.unique in
-    c.in_ok-step-in-Object.ensures.view ∙ (ap (λ ms. filled_all stack (object ms)) all ∙ (ap (λ s. filled_all stack (step_view s)) (sym c.in-Object.is) ∙ c.loop-step.invariant))
+    = (λ i. put_all (c.iter-in-Object.ensures.rest i) (members_view (c.in_ok-copies-in-Object.ensures.empty i)))
+    ∙ put_all_none entries c.iter-in-Object.ensures.unique in
+    c.in_ok-step-in-Object.ensures.view ∙ (ap (λ ms. filled_all stack (object ms)) all
+    ∙ (ap (λ s. filled_all stack (step_view s)) (sym c.in-Object.is) ∙ c.loop-step.invariant))
 
 pub loop-step-smaller : goal.loop-step-smaller
 loop-step-smaller c =
@@ -22,7 +24,8 @@ loop-step-smaller c =
 
 pub loop-step-preserved : goal.loop-step-preserved
 loop-step-preserved c =
-    let before = ap₂ (λ ps s. filled_all ps (step_view s)) c.in-Some.ensures.items c.in-Copied.is ∙ filled_all_last c.pop.new.self.items c.in-Some.partial _ in
+    let before = ap₂ (λ ps s. filled_all ps (step_view s)) c.in-Some.ensures.items c.in-Copied.is
+    ∙ filled_all_last c.pop.new.self.items c.in-Some.partial _ in
     c.in_ok-step-in-Some.ensures.view ∙ (sym before ∙ c.loop-step.invariant)
 
 pub loop-step-init : goal.loop-step-init
@@ -40,7 +43,8 @@ loop-step-preserved-in_ok-step-in-Array c =
     let rest : iter_rest c.iter.result ≡ items = c.iter.ensures.rest ∙ c.deref.ensures.value in
     let all : map view c.in_ok-copies-in-Array.copies.items ++ map view (iter_rest c.iter.result) ≡ map view items
     = (λ i. map view (c.in_ok-copies-in-Array.ensures.items i) ++ map view (rest i)) in
-    c.in_ok-step-in-Array.ensures.view ∙ (ap (λ ts. filled_all stack (array (items_of ts))) all ∙ (ap (λ s. filled_all stack (step_view s)) (sym c.in-Array.is) ∙ c.loop-step.invariant))
+    c.in_ok-step-in-Array.ensures.view ∙ (ap (λ ts. filled_all stack (array (items_of ts))) all
+    ∙ (ap (λ s. filled_all stack (step_view s)) (sym c.in-Array.is) ∙ c.loop-step.invariant))
 
 pub loop-step-smaller-in_ok-step-in-Object : goal.loop-step-smaller-in_ok-step-in-Object
 loop-step-smaller-in_ok-step-in-Object c =

@@ -7,4 +7,5 @@ pub loop-key-smaller : goal.loop-key-smaller
 loop-key-smaller c = omega (arith, ap length c.in-Some.ensures.steps)
 
 pub returns-clause-view : goal.returns-clause-view
-returns-clause-view c = ap (λ r. put_all r (members_view c.loop-key.copies.entries)) (sym c.in_default.ensures.steps.0) ∙ c.loop-key.invariant.0
+returns-clause-view c = ap (λ r. put_all r (members_view c.loop-key.copies.entries)) (sym c.in_default.ensures.steps.0)
+    ∙ c.loop-key.invariant.0

@@ -19,4 +19,5 @@ loop-stack-preserved-in-Ok c =
     let deferred = rests_eq c.loop-stack.stack.items in
     ap (λ rs. inner && rests_eq rs) c.in-Ok.ensures.items
     ∙ (ap (λ b. inner && b) (rests_eq_last c.loop-stack.stack.items c.in-Inside.outer)
-    ∙ turn_deferred (rest_eq c.loop-stack.rest) deferred _ c.loop-stack.invariant inner (rest_eq c.in-Inside.outer) c.in-Inside.ensures.same)
+    ∙ turn_deferred (rest_eq c.loop-stack.rest) deferred _ c.loop-stack.invariant inner
+    (rest_eq c.in-Inside.outer) c.in-Inside.ensures.same)

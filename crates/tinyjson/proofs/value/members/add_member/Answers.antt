@@ -11,7 +11,8 @@ returns-in-Ok-Vacant c =
     let old = c.args.members.now.entries in
     let none : lookup (string_eq c.args.key) old ≡ None = search rules in
     let e = c.members-in-Ok-Vacant-1.given.1 (search rules) in
-    members_view_added old c.members-in-Ok-Vacant-1.given.0.entries c.args.key c.insert.result.now none (λ q. ap (λ m. lookup (string_eq q) m.entries) e ∙ search rules)
+    members_view_added old c.members-in-Ok-Vacant-1.given.0.entries c.args.key c.insert.result.now none
+    (λ q. ap (λ m. lookup (string_eq q) m.entries) e ∙ search rules)
     ∙ ap (λ w. add (text c.args.key) (view w) (members_view old)) c.insert.ensures.value
 
 pub returns-in-Ok-Occupied : goal.returns-in-Ok-Occupied
@@ -20,4 +21,5 @@ returns-in-Ok-Occupied c =
     let v = c.into_mut.result.now in
     let some : lookup (string_eq c.args.key) old ≡ Some v = search rules in
     let e = c.members-in-Ok-Occupied-2-1.given.1 (search rules) in
-    members_view_kept old c.members-in-Ok-Occupied-2-1.given.0.entries c.args.key c.args.value v some (λ q. ap (λ m. lookup (string_eq q) m.entries) e ∙ search rules)
+    members_view_kept old c.members-in-Ok-Occupied-2-1.given.0.entries c.args.key c.args.value v some
+    (λ q. ap (λ m. lookup (string_eq q) m.entries) e ∙ search rules)

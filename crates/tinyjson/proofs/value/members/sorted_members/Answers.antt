@@ -12,6 +12,8 @@ pub returns : goal.returns
 returns c =
     let es = c.args.members.now.entries in
     let less = λ (a b : Lent). is_lt (bytes_cmp (key_bytes a) (key_bytes b)) in
-    let rising = c.sort_unstable_by.ensures.sorted less (ranks_by nat_list_cmp_total key_bytes) (answers_always _ _ _ (λ f a r q k. search rules)) in
+    let rising = c.sort_unstable_by.ensures.sorted less (ranks_by nat_list_cmp_total key_bytes)
+    (answers_always _ _ _ (λ f a r q k. search rules)) in
     let same = c.in_ok-list_members.ensures.items ∙ ap (λ l. map listed_pair l ++ map bytes_pair es) c.new-sorted.ensures.items in
-    members_listed_sorted es c.list_members.new.listed.items c.sort_unstable_by.new.self.items c.in_ok-list_members.ensures.unique same c.sort_unstable_by.ensures.permutation rising
+    members_listed_sorted es c.list_members.new.listed.items c.sort_unstable_by.new.self.items c.in_ok-list_members.ensures.unique same
+    c.sort_unstable_by.ensures.permutation rising

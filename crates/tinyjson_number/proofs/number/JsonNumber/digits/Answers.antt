@@ -7,4 +7,5 @@ use Rattle.tinyjson_number.proofs.Runs.{digits_ascii}
 use Rattle.tinyjson_number.proofs.number.JsonNumber.digits.Goals as goal
 
 pub ascii_str-requires : goal.ascii_str-requires
-ascii_str-requires c = let n = c.self.inside in subst IsAscii (sym c.as_bytes.ensures) (digits_ascii _ (digits_of_form power_width n.negative (digits_of n.digits) n.power n.canonical))
+ascii_str-requires c = let n = c.self.inside in subst IsAscii (sym c.as_bytes.ensures)
+    (digits_ascii _ (digits_of_form power_width n.negative (digits_of n.digits) n.power n.canonical))

@@ -34,4 +34,11 @@ returns-clause-short c = λ few is.
     let t = c.as_bytes.result.now in
     let k = c.in-Some.ensures in
     let room = spelled_room k.0 t k.2 in
-    c.from_parts.ensures.short (omega (arith, few, ap (λ (n : Numeral). length n.integer + length n.fraction) k.1, room, ap length c.as_bytes.ensures.value)) is
+    c.from_parts.ensures.short (omega (
+      arith,
+      few,
+      ap (λ (n : Numeral). length n.integer + length n.fraction) k.1,
+      room,
+      ap length
+          c.as_bytes.ensures.value,
+    )) is

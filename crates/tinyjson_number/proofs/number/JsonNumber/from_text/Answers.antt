@@ -27,7 +27,8 @@ returns-in_ok-from_parts-in-Some-clause-reads c =
     let k = c.in-Some.ensures in
     let spelled = subst (Spells k.0) c.as_bytes.ensures.value k.2 in
     let read = parts_read k.0 c.in-Some.parts k.1 c.from_parts.result c.from_parts.ensures.reads in
-    reads_number c.args.text.now k.0 c.in_ok-from_parts-in-Some.field-0 spelled (subst (ReadsNumeral k.0) c.in_ok-from_parts-in-Some.was read)
+    reads_number c.args.text.now k.0 c.in_ok-from_parts-in-Some.field-0 spelled
+    (subst (ReadsNumeral k.0) c.in_ok-from_parts-in-Some.was read)
 
 pub returns-in_err-from_parts-in-Some-clause-reads : goal.returns-in_err-from_parts-in-Some-clause-reads
 returns-in_err-from_parts-in-Some-clause-reads c =
@@ -35,12 +36,15 @@ returns-in_err-from_parts-in-Some-clause-reads c =
     let k = c.in-Some.ensures in
     let spelled = subst (Spells k.0) c.as_bytes.ensures.value k.2 in
     let read = parts_read k.0 c.in-Some.parts k.1 c.from_parts.result c.from_parts.ensures.reads in
-    refused_so c.args.text.now k.0 c.in_err-from_parts-in-Some.field-0.0 c.from_residual.result c.from_residual.ensures.1 spelled (subst (ReadsNumeral k.0) c.in_err-from_parts-in-Some.was read)
+    refused_so c.args.text.now k.0 c.in_err-from_parts-in-Some.field-0.0 c.from_residual.result c.from_residual.ensures.1 spelled
+    (subst (ReadsNumeral k.0) c.in_err-from_parts-in-Some.was read)
 
 pub returns-in_err-from_parts-in-Some-clause-short : goal.returns-in_err-from_parts-in-Some-clause-short
 returns-in_err-from_parts-in-Some-clause-short c = λ few is.
     let t = c.as_bytes.result.now in
     let k = c.in-Some.ensures in
     let room = spelled_room k.0 t k.2 in
-    let short = c.from_parts.ensures.short (omega (arith, few, ap (λ (n : Numeral). length n.integer + length n.fraction) k.1, room, ap length c.as_bytes.ensures.value)) in
-    refused_short c.in_err-from_parts-in-Some.field-0.0 c.from_residual.result c.from_residual.ensures.1 (λ m. short (c.in_err-from_parts-in-Some.was ∙ ap Err m)) is
+    let short = c.from_parts.ensures.short
+    (omega (arith, few, ap (λ (n : Numeral). length n.integer + length n.fraction) k.1, room, ap length c.as_bytes.ensures.value)) in
+    refused_short c.in_err-from_parts-in-Some.field-0.0 c.from_residual.result c.from_residual.ensures.1
+    (λ m. short (c.in_err-from_parts-in-Some.was ∙ ap Err m)) is

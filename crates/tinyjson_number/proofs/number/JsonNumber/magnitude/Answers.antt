@@ -16,14 +16,17 @@ pub returns-in_default : goal.returns-in_default
 returns-in_default c =
     let d : Decimal = c.args.self.now.decimal in
     let fits : FitsSigned w64 c.power-power.result = search rules in
-    let power : d.power ≡ pos (unsigned_abs d.power) = subst (λ (z : ℤ). z ≡ pos (unsigned_abs z)) c.power-power.ensures (omega (arith, ints, fits)) in
-    none_under d (unsigned_abs d.power) power (λ small. c.in_default.ensures (omega (arith, small, ap (digits_value 10) c.digit_bytes.ensures)))
+    let power : d.power ≡ pos (unsigned_abs d.power) = subst (λ (z : ℤ). z ≡ pos (unsigned_abs z)) c.power-power.ensures
+    (omega (arith, ints, fits)) in
+    none_under d (unsigned_abs d.power) power (λ small. c.in_default.ensures
+    (omega (arith, small, ap (digits_value 10) c.digit_bytes.ensures)))
 
 pub returns : goal.returns
 returns c =
     let d : Decimal = c.args.self.now.decimal in
     let fits : FitsSigned w64 c.power-power.result = search rules in
-    let power : d.power ≡ pos (unsigned_abs d.power) = subst (λ (z : ℤ). z ≡ pos (unsigned_abs z)) c.power-power.ensures (omega (arith, ints, fits)) in
+    let power : d.power ≡ pos (unsigned_abs d.power) = subst (λ (z : ℤ). z ≡ pos (unsigned_abs z)) c.power-power.ensures
+    (omega (arith, ints, fits)) in
     let value = c.in-Some.ensures.1 ∙ ap (digits_value 10) c.digit_bytes.ensures in
     let times = ap unsigned_abs (to_z-of_z w64 c.power-power.result fits ∙ c.power-power.ensures) in
     answer_is d c.args.self.now.canonical (unsigned_abs d.power) power c.times_ten.result

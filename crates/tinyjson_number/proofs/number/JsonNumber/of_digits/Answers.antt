@@ -7,9 +7,11 @@ use Rattle.tinyjson_number.proofs.number.JsonNumber.of_digits.Goals as goal
 pub joined-requires-clause-front : goal.joined-requires-clause-front
 joined-requires-clause-front c =
     digits_ascii c.args.front.now
-    (digits_of_front c.args.front.now c.args.back.now (digits_of_form power_width c.args.negative (c.args.front.now ++ c.args.back.now) _ c.requires.canonical))
+    (digits_of_front c.args.front.now c.args.back.now (digits_of_form power_width c.args.negative
+    (c.args.front.now ++ c.args.back.now) _ c.requires.canonical))
 
 pub joined-requires-clause-back : goal.joined-requires-clause-back
 joined-requires-clause-back c =
     digits_ascii c.args.back.now
-    (digits_back c.args.front.now c.args.back.now (digits_of_form power_width c.args.negative (c.args.front.now ++ c.args.back.now) _ c.requires.canonical))
+    (digits_back c.args.front.now c.args.back.now (digits_of_form power_width c.args.negative
+    (c.args.front.now ++ c.args.back.now) _ c.requires.canonical))

@@ -17,5 +17,7 @@ returns-clause-text c =
     let sign = c.put_sign-at in
     let put = c.put_magnitude in
     let long = length-take-le some.count some.bytes.now (omega (arith, digits.2, digits.1)) in
-    decimal_put sign.new.buffer put.new.buffer sign.result (take some.count some.bytes.now) c.is_negative.result _ c.args.self.now.decimal digits.0 c.is_negative.ensures (to_z-of_z w64 c.power.result (record { sfits = c.power.type_inv }) ∙ c.power.ensures) put.result (omega (arith, long, c.if-count-eq0.false))
+    decimal_put sign.new.buffer put.new.buffer sign.result (take some.count some.bytes.now) c.is_negative.result _ c.args.self.now.decimal
+    digits.0 c.is_negative.ensures (to_z-of_z w64 c.power.result (record { sfits = c.power.type_inv }) ∙ c.power.ensures) put.result
+    (omega (arith, long, c.if-count-eq0.false))
     sign.ensures.text (omega (arith, put.ensures.len, sign.ensures.len, c.if-buffer-lt-BUFFER.false)) put.ensures.text

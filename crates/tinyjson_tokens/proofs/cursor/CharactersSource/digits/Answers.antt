@@ -10,7 +10,13 @@ pub returns-then-not-is_ascii_digit-clause-digits : goal.returns-then-not-is_asc
 returns-then-not-is_ascii_digit-clause-digits g c =
     let p = c.args.self.now in
     let n = Goes_nil g.I.Iterator.next_gives p.cursor p.line_fits p.column_fits in
-    record { taken = []; pass = tt; takes = record { gives = n.gives; moves = n.moves }; added = sym (append-nil (string_bytes c.args.buffer.now)) }
+    record {
+      taken = [];
+      pass = tt;
+      takes = record { gives = n.gives; moves = n.moves };
+      added =
+          sym (append-nil (string_bytes c.args.buffer.now));
+    }
 
 pub returns-in_err-push-clause-digits : goal.returns-in_err-push-clause-digits
 returns-in_err-push-clause-digits g c =
@@ -31,5 +37,6 @@ returns-clause-digits g c =
       taken = x ∷ r.skips.taken;
       pass = (digit, r.skips.pass);
       takes = record { gives = goes.gives; moves = goes.moves };
-      added = OnOk_append c.take_digits-2.result _ r.skips.taken (string_bytes c.args.buffer.now) (x ∷ []) (string_bytes c.push.new.self) bytes r.added;
+      added = OnOk_append c.take_digits-2.result _ r.skips.taken (string_bytes c.args.buffer.now) (x ∷ [])
+          (string_bytes c.push.new.self) bytes r.added;
     }

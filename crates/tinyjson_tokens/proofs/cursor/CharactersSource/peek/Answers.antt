@@ -4,18 +4,28 @@ use Rattle.tinyjson_grammar.proofs.Callers.{advance_nil}
 use Rattle.tinyjson_tokens.proofs.cursor.CharactersSource.peek.Goals as goal
 
 pub returns-then-is_some-clause-takes : goal.returns-then-is_some-clause-takes
-returns-then-is_some-clause-takes g c = let p = c.args.self.now in record { gives = λ zs h. (zs, refl, h); moves = sym (advance_nil p.cursor.line p.cursor.column p.line_fits p.column_fits) }
+returns-then-is_some-clause-takes g c = let p = c.args.self.now in record {
+  gives = λ zs h. (zs, refl, h);
+  moves =
+      sym (advance_nil p.cursor.line p.cursor.column p.line_fits p.column_fits);
+}
 
 pub invariant_of-self-clause-ready : goal.invariant_of-self-clause-ready
 invariant_of-self-clause-ready g c =
-    ∣ Ready_filled g.I.Iterator.can_next g.I.Iterator.remaining c.args.self.now.cursor _ _ _ c.ready.ensures (search rules) (search rules) c.next-next.ensures.goes ∣₁
+    ∣ Ready_filled g.I.Iterator.can_next g.I.Iterator.remaining c.args.self.now.cursor _ _ _ c.ready.ensures (search rules)
+    (search rules) c.next-next.ensures.goes ∣₁
 
 pub returns-clause-takes : goal.returns-clause-takes
 returns-clause-takes g c =
     let p = c.args.self.now in
     let n : p.cursor.peeked ≡ None = search (rules, none_from) in
     record {
-      gives = λ zs h. (zs, refl, filled g.I.Iterator.next_gives p.cursor _ _ _ zs n (search rules) c.next-next.ensures.steps (search rules) h);
+      gives = λ zs h. (
+        zs,
+        refl,
+        filled g.I.Iterator.next_gives p.cursor _ _ _ zs n (search rules) c.next-next.ensures.steps
+            (search rules) h,
+      );
       moves = sym (advance_nil p.cursor.line p.cursor.column p.line_fits p.column_fits);
     }
 

@@ -1,4 +1,5 @@
-use Rattle.std.proofs.Common.{rules, arith, ◌≡◌, ◌∙◌, ◌∷◌, ◌++◌, [], true, sym, ap, append-nil, append_assoc, not, is_some, length, length-append, string_bytes, ◌<◌}
+use Rattle.std.proofs.Common.{rules, arith, ◌≡◌, ◌∙◌, ◌∷◌, ◌++◌, [], true, sym, ap, append-nil, append_assoc, not, is_some, length}
+use Rattle.std.proofs.Common.{length-append, string_bytes, ◌<◌}
 use Rattle.tinyjson_grammar.specs.Position.{advance, position_at}
 use Rattle.std.specs.Char.{is_ascii_digit}
 use Rattle.std.proofs.lemmas.Str.{encode_ascii}
@@ -30,7 +31,9 @@ returns-then-is_err-clause-run g c =
       skips = record {
         taken = t.taken;
         pass = t.pass;
-        goes = Goes_filled g.I.Iterator.next_gives c.args.self.now (record p { column = c.loop-c.column }) t.taken _ _ p.done t.goes c.loop-c.invariant.none c.loop-c.invariant.more c.next-next.ensures.steps (c.loop-c.invariant.more ∙ ap (λ o. not (is_some o)) (sym c.in-Some.is));
+        goes = Goes_filled g.I.Iterator.next_gives c.args.self.now (record p { column = c.loop-c.column }) t.taken _ _ p.done t.goes
+            c.loop-c.invariant.none c.loop-c.invariant.more c.next-next.ensures.steps
+            (c.loop-c.invariant.more ∙ ap (λ o. not (is_some o)) (sym c.in-Some.is));
       };
       added = tt;
     }
@@ -43,7 +46,8 @@ loop-c-preserved g c =
     let t = i.run.skips in
     let digit : is_ascii_digit x ≡ true = search rules in
     let steps = c.in-Some.ensures.steps in
-    let place : position_at p.line c.saturating_add-column.result ≡ advance (position_at p.line c.loop-c.column) (x ∷ []) = digit_column p.line c.loop-c.column x c.saturating_add-column.result i.line digit (search rules) in
+    let place : position_at p.line c.saturating_add-column.result ≡ advance (position_at p.line c.loop-c.column) (x ∷ []) =
+    digit_column p.line c.loop-c.column x c.saturating_add-column.result i.line digit (search rules) in
     let small = digit_small x digit in
     let bytes : string_bytes c.push.new.self ≡ string_bytes c.loop-c.buffer ++ x ∷ [] = search (rules, encode_ascii) in
     let long = ap length bytes ∙ length-append (string_bytes c.loop-c.buffer) (x ∷ []) in
@@ -55,7 +59,8 @@ loop-c-preserved g c =
         skips = record {
           taken = t.taken ++ x ∷ [];
           pass = AllByRecursion_push (λ d. is_ascii_digit d ≡ true) t.taken x t.pass digit;
-          goes = Goes_drawn g.I.Iterator.next_gives c.args.self.now (record p { column = c.loop-c.column }) t.taken x _ _ _ t.goes i.none i.more steps place;
+          goes = Goes_drawn g.I.Iterator.next_gives c.args.self.now (record p { column = c.loop-c.column }) t.taken x _ _ _ t.goes i.none
+              i.more steps place;
         };
         added = bytes ∙ ap (λ cs. cs ++ x ∷ []) i.run.added ∙ append_assoc (string_bytes c.args.buffer.now) t.taken (x ∷ []);
       };
@@ -74,7 +79,8 @@ returns-in_default-clause-run g c =
       skips = record {
         taken = t.taken;
         pass = t.pass;
-        goes = Goes_filled g.I.Iterator.next_gives c.args.self.now (record p { column = c.loop-c.column }) t.taken c.next-next.result _ c.is_none-self.result t.goes c.loop-c.invariant.none c.loop-c.invariant.more c.next-next.ensures.steps (search rules);
+        goes = Goes_filled g.I.Iterator.next_gives c.args.self.now (record p { column = c.loop-c.column }) t.taken c.next-next.result _
+            c.is_none-self.result t.goes c.loop-c.invariant.none c.loop-c.invariant.more c.next-next.ensures.steps (search rules);
       };
       added = c.loop-c.invariant.run.added;
     }

@@ -29,7 +29,8 @@ returns-then-is_err-clause-run g c =
       skips = record {
         taken = t.taken;
         pass = t.pass;
-        goes = Goes_filled g.I.Iterator.next_gives c.args.self.now (record p { column = c.loop-c.column }) t.taken _ _ _ t.goes c.loop-c.invariant.none c.loop-c.invariant.more c.in-Some.ensures.steps c.loop-c.invariant.more;
+        goes = Goes_filled g.I.Iterator.next_gives c.args.self.now (record p { column = c.loop-c.column }) t.taken _ _ _ t.goes
+            c.loop-c.invariant.none c.loop-c.invariant.more c.in-Some.ensures.steps c.loop-c.invariant.more;
       };
       added = tt;
     }
@@ -42,7 +43,8 @@ loop-c-preserved g c =
     let t = i.run.skips in
     let plain : is_plain x ≡ true = search rules in
     let steps = c.in-Some.ensures.steps in
-    let place : position_at p.line c.saturating_add-column.result ≡ advance (position_at p.line c.loop-c.column) (x ∷ []) = plain_column p.line c.loop-c.column x c.saturating_add-column.result i.line plain (search rules) in
+    let place : position_at p.line c.saturating_add-column.result ≡ advance (position_at p.line c.loop-c.column) (x ∷ []) =
+    plain_column p.line c.loop-c.column x c.saturating_add-column.result i.line plain (search rules) in
     let bytes : text c.push.new.string ≡ text c.loop-c.string ++ x ∷ [] = search rules in
     record {
       ready = Ready_filled g.I.Iterator.can_next g.I.Iterator.remaining p _ _ p.done i.ready i.more i.more c.in-Some.ensures.goes;
@@ -50,7 +52,8 @@ loop-c-preserved g c =
         skips = record {
           taken = t.taken ++ x ∷ [];
           pass = AllByRecursion_push (λ d. is_plain d ≡ true) t.taken x t.pass plain;
-          goes = Goes_drawn g.I.Iterator.next_gives c.args.self.now (record p { column = c.loop-c.column }) t.taken x _ _ _ t.goes i.none i.more steps place;
+          goes = Goes_drawn g.I.Iterator.next_gives c.args.self.now (record p { column = c.loop-c.column }) t.taken x _ _ _ t.goes i.none
+              i.more steps place;
         };
         added = bytes ∙ ap (λ cs. cs ++ x ∷ []) i.run.added ∙ append_assoc (text c.args.string.now) t.taken (x ∷ []);
       };
@@ -65,13 +68,18 @@ pub returns-in_default-clause-run : goal.returns-in_default-clause-run
 returns-in_default-clause-run g c =
     let p = c.loop-c.self in
     let t = c.loop-c.invariant.run.skips in
-    let same : c.in_default.next ≡ c.next-next.result = elim c.in_default.branch [ in_default-via-in-Some+else-is_plain w ↦ w.next-is ∙ sym w.in-Some.is | in_default-via-in_default w ↦ w.next-is ] in
+    let same : c.in_default.next ≡ c.next-next.result = elim c.in_default.branch [
+      | in_default-via-in-Some+else-is_plain w ↦ w.next-is
+          ∙ sym w.in-Some.is
+      | in_default-via-in_default w ↦ w.next-is
+    ] in
     let steps = subst (λ r. g.I.Iterator.next_gives p.it r c.next-next.new.self) (sym same) c.next-next.ensures.steps in
     record {
       skips = record {
         taken = t.taken;
         pass = t.pass;
-        goes = Goes_filled g.I.Iterator.next_gives c.args.self.now (record p { column = c.loop-c.column }) t.taken c.in_default.next _ c.is_none-self.result t.goes c.loop-c.invariant.none c.loop-c.invariant.more steps (search rules);
+        goes = Goes_filled g.I.Iterator.next_gives c.args.self.now (record p { column = c.loop-c.column }) t.taken c.in_default.next _
+            c.is_none-self.result t.goes c.loop-c.invariant.none c.loop-c.invariant.more steps (search rules);
       };
       added = c.loop-c.invariant.run.added;
     }

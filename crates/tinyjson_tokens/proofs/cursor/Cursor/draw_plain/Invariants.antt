@@ -7,7 +7,8 @@ use Rattle.tinyjson_tokens.proofs.cursor.Cursor.draw_plain.Given as goal
 abbrev pub invariant-loop-c : goal.invariant-loop-c
 invariant-loop-c g l = record {
   ready : Ready g.I.Iterator.can_next g.I.Iterator.remaining l.self;
-  run : Runs g.I.Iterator.next_gives is_plain {E = Unit {0}} l.initial.self (text l.initial.string) (Ok tt) (text l.string) (record l.self { column = l.column });
+  run : Runs g.I.Iterator.next_gives is_plain {E = Unit {0}} l.initial.self (text l.initial.string) (Ok tt) (text l.string)
+      (record l.self { column = l.column });
   line : l.self.line < 18446744073709551616;
   column : l.column < 18446744073709551616;
   none : l.self.peeked ≡ None;

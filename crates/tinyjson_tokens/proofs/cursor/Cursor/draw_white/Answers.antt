@@ -27,7 +27,8 @@ loop-c-preserved g c =
       white = record {
         taken = t.taken ++ x ∷ [];
         pass = AllByRecursion_push (λ d. is_white d ≡ true) t.taken x t.pass (search rules);
-        goes = Goes_drawn g.I.Iterator.next_gives c.args.self.now p t.taken x _ _ _ t.goes i.none i.more c.in-Some.ensures.steps c.advance-line.ensures;
+        goes = Goes_drawn g.I.Iterator.next_gives c.args.self.now p t.taken x _ _ _ t.goes i.none i.more c.in-Some.ensures.steps
+            c.advance-line.ensures;
       };
       line = search rules;
       column = search rules;
@@ -40,10 +41,15 @@ pub returns-in_default-clause-white : goal.returns-in_default-clause-white
 returns-in_default-clause-white g c =
     let p = c.loop-c.self in
     let t = c.loop-c.invariant.white in
-    let same : c.in_default.next ≡ c.next-next.result = elim c.in_default.branch [ in_default-via-in-Some+else-is_white w ↦ w.next-is ∙ sym w.in-Some.is | in_default-via-in_default w ↦ w.next-is ] in
+    let same : c.in_default.next ≡ c.next-next.result = elim c.in_default.branch [
+      | in_default-via-in-Some+else-is_white w ↦ w.next-is
+          ∙ sym w.in-Some.is
+      | in_default-via-in_default w ↦ w.next-is
+    ] in
     let steps = subst (λ r. g.I.Iterator.next_gives p.it r c.next-next.new.self) (sym same) c.next-next.ensures.steps in
     record {
       taken = t.taken;
       pass = t.pass;
-      goes = Goes_filled g.I.Iterator.next_gives c.args.self.now p t.taken c.in_default.next _ c.is_none-self.result t.goes c.loop-c.invariant.none c.loop-c.invariant.more steps (search rules);
+      goes = Goes_filled g.I.Iterator.next_gives c.args.self.now p t.taken c.in_default.next _ c.is_none-self.result t.goes
+          c.loop-c.invariant.none c.loop-c.invariant.more steps (search rules);
     }

@@ -9,5 +9,6 @@ returns-in-Some-clause-accepts g c =
     record {
       c = x;
       one = search rules;
-      takes = Takes_append sight _ _ _ [] (x ∷ []) c.peek.ensures.takes (Takes_shown sight _ _ x _ (c.bump.ensures.shown (Some x) c.in-Some.ensures.shows) c.bump.ensures.takes);
+      takes = Takes_append sight _ _ _ [] (x ∷ []) c.peek.ensures.takes
+          (Takes_shown sight _ _ x _ (c.bump.ensures.shown (Some x) c.in-Some.ensures.shows) c.bump.ensures.takes);
     }

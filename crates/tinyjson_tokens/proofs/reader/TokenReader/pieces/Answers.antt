@@ -14,7 +14,8 @@ loop-units-init g c =
     let sight = g.S.Source.sight in
     let b : c.clear.new.self.items ≡ [] = search rules in
     record {
-      reads = λ limit fs. Leads_to sight limit _ _ (Leads_nil sight limit _ _) (ap₂ (λ x y. next fs (quoted plain x y)) (ap text (sym c.replace-string.ensures.value)) (sym b));
+      reads = λ limit fs. Leads_to sight limit _ _ (Leads_nil sight limit _ _)
+          (ap₂ (λ x y. next fs (quoted plain x y)) (ap text (sym c.replace-string.ensures.value)) (sym b));
       left = search rules;
     }
 
@@ -29,7 +30,8 @@ returns-in_err-settle-clause-reads g c = λ limit fs.
     let sight = g.S.Source.sight in
     let p = err_from_is_err_and c.from_residual-in_err-settle.result c.from_residual-in_err-settle.ensures.1 in
     let a = ap (within fs c.piece.new.string c.piece.new.units.items) c.if-not-branch.true in
-    let l = Leads_trans sight limit _ _ _ (c.loop-units.invariant.reads limit fs) (Leads_to sight limit _ _ (c.in_ok-piece.ensures.reads limit fs) a) in
+    let l = Leads_trans sight limit _ _ _ (c.loop-units.invariant.reads limit fs)
+    (Leads_to sight limit _ _ (c.in_ok-piece.ensures.reads limit fs) a) in
     rw (p.1, p.2) (Refuses_after sight limit _ _ _ _ l (c.in_err-settle.ensures.reads limit fs))
 
 pub returns-in_err-plain-clause-reads : goal.returns-in_err-plain-clause-reads
@@ -38,7 +40,8 @@ returns-in_err-plain-clause-reads g c = λ limit fs.
     let p = err_from_is_err_and c.from_residual-in_err-plain.result c.from_residual-in_err-plain.ensures.1 in
     let a = ap (within fs c.piece.new.string c.piece.new.units.items) c.if-not-branch.true in
     let b = ap (λ us. next fs (quoted plain (text c.settle.new.string) us)) (sym c.as_slice.ensures.value) in
-    let l = Leads_trans sight limit _ _ _ (c.loop-units.invariant.reads limit fs) (Leads_to sight limit _ _ (c.in_ok-piece.ensures.reads limit fs) a) in
+    let l = Leads_trans sight limit _ _ _ (c.loop-units.invariant.reads limit fs)
+    (Leads_to sight limit _ _ (c.in_ok-piece.ensures.reads limit fs) a) in
     let m = Leads_trans sight limit _ _ _ l (Leads_to sight limit _ _ (c.in_ok-settle.ensures.reads limit fs) b) in
     rw (p.1, p.2) (Refuses_after sight limit _ _ _ _ m (c.in_err-plain.ensures.reads limit fs))
 
@@ -50,7 +53,8 @@ loop-units-preserved g c =
           let a = ap (within fs c.piece.new.string c.piece.new.units.items) c.if-not-branch.true in
           let b = ap (λ us. next fs (quoted plain (text c.settle.new.string) us)) (sym c.as_slice.ensures.value) in
           let d = ap (λ us. next fs (quoted plain (text c.plain.new.string) us)) c.as_slice.ensures.value in
-          let l = Leads_trans sight limit _ _ _ (c.loop-units.invariant.reads limit fs) (Leads_to sight limit _ _ (c.in_ok-piece.ensures.reads limit fs) a) in
+          let l = Leads_trans sight limit _ _ _ (c.loop-units.invariant.reads limit fs)
+          (Leads_to sight limit _ _ (c.in_ok-piece.ensures.reads limit fs) a) in
           let m = Leads_trans sight limit _ _ _ l (Leads_to sight limit _ _ (c.in_ok-settle.ensures.reads limit fs) b) in
           Leads_trans sight limit _ _ _ m (Leads_to sight limit _ _ (c.in_ok-plain.ensures.reads limit fs) d);
       left = omega (arith, c.piece.ensures.left, c.settle.ensures.left, c.plain.ensures.left, c.loop-units.invariant.left);
@@ -60,7 +64,8 @@ pub returns-in_default-clause-reads : goal.returns-in_default-clause-reads
 returns-in_default-clause-reads g c = λ limit fs.
     let sight = g.S.Source.sight in
     let a = ap (within fs c.piece.new.string c.piece.new.units.items) c.if-not-branch.false in
-    let l = Leads_trans sight limit _ _ _ (c.loop-units.invariant.reads limit fs) (Leads_to sight limit _ _ (c.in_ok-piece.ensures.reads limit fs) a) in
+    let l = Leads_trans sight limit _ _ _ (c.loop-units.invariant.reads limit fs)
+    (Leads_to sight limit _ _ (c.in_ok-piece.ensures.reads limit fs) a) in
     Refuses_memory sight limit _ _ (Halts_here sight limit _ _ l tt (quote_goes fs _))
 
 pub returns-clause-reads : goal.returns-clause-reads
@@ -69,4 +74,5 @@ returns-clause-reads g c = λ limit fs.
     let a = ap (within fs c.piece.new.string c.piece.new.units.items) c.if-not-branch.false in
     let b : text c.piece.new.string ≡ text c.in-Ok.exact = ap chars (sym c.as_str.ensures.value ∙ sym c.in-Ok.ensures.ok) in
     let d = ap (λ t. complete true fs (string t) true) b in
-    Leads_trans sight limit _ _ _ (c.loop-units.invariant.reads limit fs) (Leads_to sight limit _ _ (c.in_ok-piece.ensures.reads limit fs) (a ∙ d))
+    Leads_trans sight limit _ _ _ (c.loop-units.invariant.reads limit fs)
+    (Leads_to sight limit _ _ (c.in_ok-piece.ensures.reads limit fs) (a ∙ d))

@@ -9,8 +9,10 @@ returns-in-Some-clause-signs g c =
     let sight = g.S.Source.sight in
     record {
       sign = Some x;
-      known = ⊎_elim (λ e. subst (λ d. is_sign d ≡ true) (sym e) refl) (λ e. subst (λ d. is_sign d ≡ true) (sym e.1) refl) c.if-c-eq45.either;
+      known = ⊎_elim (λ e. subst (λ d. is_sign d ≡ true) (sym e) refl)
+          (λ e. subst (λ d. is_sign d ≡ true) (sym e.1) refl) c.if-c-eq45.either;
       minus = refl;
-      takes = Takes_append sight _ _ _ [] (x ∷ []) c.peek.ensures.takes (Takes_shown sight _ _ x _ (c.bump.ensures.shown (Some x) c.in-Some.ensures.shows) c.bump.ensures.takes);
+      takes = Takes_append sight _ _ _ [] (x ∷ []) c.peek.ensures.takes
+          (Takes_shown sight _ _ x _ (c.bump.ensures.shown (Some x) c.in-Some.ensures.shows) c.bump.ensures.takes);
       none = λ e. absurd (cc e);
     }

@@ -5,7 +5,8 @@ use Rattle.tinyjson_grammar.specs.Characters.{is_hex}
 use Rattle.tinyjson_grammar.specs.declared.error.JsonParseErrorKind.TheVariants.{UnexpectedEof, InvalidHexDigit}
 use Rattle.tinyjson_grammar.specs.Machine.{next, quoted, plain}
 use Rattle.tinyjson_tokens.proofs.Reading.Steps.{Leads_nil, Leads_to, Leads_one, Leads_none, Halts_here, Refuses_as, Refuses_memory}
-use Rattle.tinyjson_tokens.proofs.Reading.String.{unit_grows, sixteen_small, sixteen_next, hex_next, hex_step, hex_other, hex_done, hex_end, hex_taken}
+use Rattle.tinyjson_tokens.proofs.Reading.String.{unit_grows, sixteen_small, sixteen_next, hex_next, hex_step, hex_other, hex_done, hex_end}
+use Rattle.tinyjson_tokens.proofs.Reading.String.{hex_taken}
 use Rattle.tinyjson_tokens.proofs.reader.TokenReader.unit.Goals as goal
 
 pub loop-init : goal.loop-init
@@ -22,7 +23,8 @@ returns-in_default-clause-reads g c = λ limit fs cs.
     let v = c.loop.invariant.reads in
     let h : length v.0 < 4 = omega (arith, v.1, c.loop-test.true) in
     Refuses_as sight limit _ _ UnexpectedEof
-    (Leads_none sight limit _ _ _ (v.3 limit fs cs) c.in_default.ensures.takes.0 c.in_default.ensures.takes.1 (hex_end limit fs cs _ v.0 h) (hex_next fs cs _ v.0 h))
+    (Leads_none sight limit _ _ _ (v.3 limit fs cs) c.in_default.ensures.takes.0 c.in_default.ensures.takes.1 (hex_end limit fs cs _ v.0 h)
+    (hex_next fs cs _ v.0 h))
 
 pub returns-in_default-to_digit-clause-reads : goal.returns-in_default-to_digit-clause-reads
 returns-in_default-to_digit-clause-reads g c = λ limit fs cs.
@@ -32,7 +34,8 @@ returns-in_default-to_digit-clause-reads g c = λ limit fs cs.
     let a : 16 ≤ digit_value c.in-Some.c = search rules in
     let b : is_hex c.in-Some.c ≡ false = grind (arith, nat_tests, a) in
     Refuses_as sight limit _ _ (InvalidHexDigit c.in-Some.c)
-    (Leads_one sight limit _ _ _ c.in-Some.c (v.3 limit fs cs) c.in-Some.ensures.takes (hex_next fs cs _ v.0 h) (hex_other limit fs cs _ v.0 c.in-Some.c h b) tt)
+    (Leads_one sight limit _ _ _ c.in-Some.c (v.3 limit fs cs) c.in-Some.ensures.takes (hex_next fs cs _ v.0 h)
+    (hex_other limit fs cs _ v.0 c.in-Some.c h b) tt)
 
 pub overflow_mul-unit : goal.overflow_mul-unit
 overflow_mul-unit g c =
@@ -63,7 +66,8 @@ loop-preserved g c =
         v.0 ++ c.in-Some.c ∷ [],
         length-append v.0 (c.in-Some.c ∷ []) ∙ ap (λ n. n + 1) v.1,
         unit_grows v.0 c.in-Some.c c.loop.unit c.in-Some-to_digit.digit _ v.2 e refl,
-        λ limit fs cs. Leads_one sight limit _ _ _ c.in-Some.c (v.3 limit fs cs) c.in-Some.ensures.takes (hex_next fs cs _ v.0 h) (hex_step limit fs cs _ v.0 c.in-Some.c h b) (hex_taken fs cs _ (v.0 ++ c.in-Some.c ∷ [])),
+        λ limit fs cs. Leads_one sight limit _ _ _ c.in-Some.c (v.3 limit fs cs) c.in-Some.ensures.takes (hex_next fs cs _ v.0 h)
+            (hex_step limit fs cs _ v.0 c.in-Some.c h b) (hex_taken fs cs _ (v.0 ++ c.in-Some.c ∷ [])),
       );
     }
 

@@ -1,4 +1,5 @@
-use Rattle.std.proofs.Common.{rules, arith, sym, ap, true, ◌≡◌, ◌∙◌, ◌∷◌, ◌++◌, [], Some, append-nil, append_assoc, length, length-append, string_bytes, subst}
+use Rattle.std.proofs.Common.{rules, arith, sym, ap, true, ◌≡◌, ◌∙◌, ◌∷◌, ◌++◌, [], Some, append-nil, append_assoc, length, length-append}
+use Rattle.std.proofs.Common.{string_bytes, subst}
 use Rattle.std.specs.Option.{option_len}
 use Rattle.std.proofs.lemmas.Result.{err_from_is_err_and}
 use Rattle.std.specs.Char.{is_ascii_digit}
@@ -9,7 +10,13 @@ use Rattle.tinyjson_tokens.proofs.source.Source.digits.Goals as goal
 
 pub loop-c-init : goal.loop-c-init
 loop-c-init g c = record {
-  digits = record { taken = []; pass = tt; takes = Takes_nil g.Self.Source.sight c.args.self.now; added = sym (append-nil (string_bytes c.args.buffer.now)) };
+  digits = record {
+    taken = [];
+    pass = tt;
+    takes = Takes_nil g.Self.Source.sight c.args.self.now;
+    added =
+        sym (append-nil (string_bytes c.args.buffer.now));
+  };
   still = λ e o h. h;
   left = omega arith;
 }
@@ -18,7 +25,13 @@ pub returns-in_err-push-in-Some-clause-digits : goal.returns-in_err-push-in-Some
 returns-in_err-push-in-Some-clause-digits g c =
     let t = c.loop-c.invariant.digits in
     let p = err_from_is_err_and c.from_residual.result c.from_residual.ensures.1 in
-    record { taken = t.taken; pass = t.pass; takes = Takes_peek g.Self.Source.sight _ _ _ t.taken t.takes c.peek.ensures.takes; added = rw p.1 tt }
+    record {
+      taken = t.taken;
+      pass = t.pass;
+      takes = Takes_peek g.Self.Source.sight _ _ _ t.taken t.takes c.peek.ensures.takes;
+      added =
+          rw p.1 tt;
+    }
 
 pub loop-c-preserved : goal.loop-c-preserved
 loop-c-preserved g c =
@@ -38,21 +51,42 @@ loop-c-preserved g c =
         added = bytes ∙ ap (λ cs. cs ++ x ∷ []) t.added ∙ append_assoc (string_bytes c.args.buffer.now) t.taken (x ∷ []);
       };
       still = λ e. absurd (omega (arith, ap length e, long, ap length t.added, length-append (string_bytes c.args.buffer.now) t.taken));
-      left = omega (arith, ap option_len (c.bump.ensures.shown (Some x) c.in-Some.ensures.shows), c.bump.ensures.left, c.peek.ensures.left, c.loop-c.invariant.left, long);
+      left = omega (
+        arith,
+        ap option_len (c.bump.ensures.shown (Some x) c.in-Some.ensures.shows),
+        c.bump.ensures.left,
+        c.peek.ensures.left,
+        c.loop-c.invariant.left,
+        long,
+      );
     }
 
 pub returns-in_default-clause-digits : goal.returns-in_default-clause-digits
 returns-in_default-clause-digits g c =
     let t = c.loop-c.invariant.digits in
-    record { taken = t.taken; pass = t.pass; takes = Takes_peek g.Self.Source.sight _ _ _ t.taken t.takes c.peek.ensures.takes; added = t.added }
+    record {
+      taken = t.taken;
+      pass = t.pass;
+      takes = Takes_peek g.Self.Source.sight _ _ _ t.taken t.takes c.peek.ensures.takes;
+      added =
+          t.added;
+    }
 
 pub returns-in_default-2-clause-digits : goal.returns-in_default-2-clause-digits
 returns-in_default-2-clause-digits g c =
     let t = c.loop-c.invariant.digits in
-    record { taken = t.taken; pass = t.pass; takes = Takes_peek g.Self.Source.sight _ _ _ t.taken t.takes c.peek.ensures.takes; added = t.added }
+    record {
+      taken = t.taken;
+      pass = t.pass;
+      takes = Takes_peek g.Self.Source.sight _ _ _ t.taken t.takes c.peek.ensures.takes;
+      added =
+          t.added;
+    }
 
 pub returns-in_default-clause-still : goal.returns-in_default-clause-still
-returns-in_default-clause-still g c = λ e o h. subst (g.Self.Source.sight.shows c.peek.new.self) (c.peek.ensures.kept o (c.loop-c.invariant.still e o h)) c.peek.ensures.shows
+returns-in_default-clause-still g c = λ e o h. subst (g.Self.Source.sight.shows c.peek.new.self)
+    (c.peek.ensures.kept o (c.loop-c.invariant.still e o h)) c.peek.ensures.shows
 
 pub returns-in_default-2-clause-still : goal.returns-in_default-2-clause-still
-returns-in_default-2-clause-still g c = λ e o h. subst (g.Self.Source.sight.shows c.peek.new.self) (c.peek.ensures.kept o (c.loop-c.invariant.still e o h)) c.peek.ensures.shows
+returns-in_default-2-clause-still g c = λ e o h. subst (g.Self.Source.sight.shows c.peek.new.self)
+    (c.peek.ensures.kept o (c.loop-c.invariant.still e o h)) c.peek.ensures.shows

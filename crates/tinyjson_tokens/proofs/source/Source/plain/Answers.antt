@@ -7,7 +7,13 @@ use Rattle.tinyjson_tokens.proofs.source.Source.plain.Goals as goal
 
 pub loop-c-init : goal.loop-c-init
 loop-c-init g c = record {
-  plain = record { taken = []; pass = tt; takes = Takes_nil g.Self.Source.sight c.args.self.now; added = sym (append-nil (text c.args.string.now)) };
+  plain = record {
+    taken = [];
+    pass = tt;
+    takes = Takes_nil g.Self.Source.sight c.args.self.now;
+    added =
+        sym (append-nil (text c.args.string.now));
+  };
   left = search rules;
 }
 
@@ -15,7 +21,13 @@ pub returns-in_err-push-in-Some-clause-plain : goal.returns-in_err-push-in-Some-
 returns-in_err-push-in-Some-clause-plain g c =
     let t = c.loop-c.invariant.plain in
     let p = err_from_is_err_and c.from_residual.result c.from_residual.ensures.1 in
-    record { taken = t.taken; pass = t.pass; takes = Takes_peek g.Self.Source.sight _ _ _ t.taken t.takes c.peek.ensures.takes; added = rw p.1 tt }
+    record {
+      taken = t.taken;
+      pass = t.pass;
+      takes = Takes_peek g.Self.Source.sight _ _ _ t.taken t.takes c.peek.ensures.takes;
+      added =
+          rw p.1 tt;
+    }
 
 pub loop-c-preserved : goal.loop-c-preserved
 loop-c-preserved g c =
@@ -36,9 +48,21 @@ loop-c-preserved g c =
 pub returns-in_default-clause-plain : goal.returns-in_default-clause-plain
 returns-in_default-clause-plain g c =
     let t = c.loop-c.invariant.plain in
-    record { taken = t.taken; pass = t.pass; takes = Takes_peek g.Self.Source.sight _ _ _ t.taken t.takes c.peek.ensures.takes; added = t.added }
+    record {
+      taken = t.taken;
+      pass = t.pass;
+      takes = Takes_peek g.Self.Source.sight _ _ _ t.taken t.takes c.peek.ensures.takes;
+      added =
+          t.added;
+    }
 
 pub returns-in_default-2-clause-plain : goal.returns-in_default-2-clause-plain
 returns-in_default-2-clause-plain g c =
     let t = c.loop-c.invariant.plain in
-    record { taken = t.taken; pass = t.pass; takes = Takes_peek g.Self.Source.sight _ _ _ t.taken t.takes c.peek.ensures.takes; added = t.added }
+    record {
+      taken = t.taken;
+      pass = t.pass;
+      takes = Takes_peek g.Self.Source.sight _ _ _ t.taken t.takes c.peek.ensures.takes;
+      added =
+          t.added;
+    }

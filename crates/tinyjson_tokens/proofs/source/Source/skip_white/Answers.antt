@@ -10,7 +10,8 @@ loop-c-init g c = let p = c.args.self.now in record {
 
 pub loop-c-preserved : goal.loop-c-preserved
 loop-c-preserved g c = record {
-  white = Whites_bump g.Self.Source.sight _ _ _ _ c.in-Some.c _ c.loop-c.invariant.white c.peek-next.ensures.takes (search rules) (c.bump.ensures.shown (Some c.in-Some.c) c.in-Some.ensures.shows) c.bump.ensures.takes;
+  white = Whites_bump g.Self.Source.sight _ _ _ _ c.in-Some.c _ c.loop-c.invariant.white c.peek-next.ensures.takes (search rules)
+      (c.bump.ensures.shown (Some c.in-Some.c) c.in-Some.ensures.shows) c.bump.ensures.takes;
   left = omega (arith, c.bump.ensures.left, c.peek-next.ensures.left, c.loop-c.invariant.left);
 }
 

@@ -9,7 +9,8 @@ invariant_of-self c =
     let self = c.args.self.now in
     record {
       utf8 = self.utf8;
-      boundary = char_boundary self.text.now (IsUtf8-had self.text.now self.utf8) self.at self.boundary c.in-Some.c _ c.in-Some.ensures c.width.ensures;
+      boundary = char_boundary self.text.now (IsUtf8-had self.text.now self.utf8) self.at self.boundary c.in-Some.c _ c.in-Some.ensures
+          c.width.ensures;
     }
 
 pub returns-in-Some-clause-takes : goal.returns-in-Some-clause-takes

@@ -24,7 +24,11 @@ invariant_of-self c =
     let h : self.at < length self.text.now = search (rules, arith) in
     let b = get_or self.text.now self.at 0 in
     let low : b < 128 = search (rules, arith) in
-    record { utf8 = self.utf8; boundary = char_boundary self.text.now (IsUtf8-had self.text.now self.utf8) self.at self.boundary b 1 (ascii_next self.text.now self.at b h refl low) (small b low) }
+    record {
+      utf8 = self.utf8;
+      boundary = char_boundary self.text.now (IsUtf8-had self.text.now self.utf8) self.at self.boundary b 1
+          (ascii_next self.text.now self.at b h refl low) (small b low);
+    }
   where
     small : (b : ℕ) → b < 128 → 1 ≡ len_utf8 b
     small b h = grind (arith, nat_tests, h)

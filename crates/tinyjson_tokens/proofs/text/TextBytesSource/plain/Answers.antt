@@ -12,7 +12,8 @@ use Rattle.tinyjson_tokens.proofs.text.TextBytesSource.plain.Goals as goal
 pub range-requires-clause-end_boundary : goal.range-requires-clause-end_boundary
 range-requires-clause-end_boundary c =
     let self = c.args.self.now in
-    let e : c.plain_end-end.result ≡ run_end is_plain self.text.now self.at = c.plain_end-end.ensures.end ∙ ap (λ bs. self.at + prefix_len is_plain (drop self.at bs)) c.as_bytes.ensures.value in
+    let e : c.plain_end-end.result ≡ run_end is_plain self.text.now self.at = c.plain_end-end.ensures.end
+    ∙ ap (λ bs. self.at + prefix_len is_plain (drop self.at bs)) c.as_bytes.ensures.value in
     plain_boundary is_plain plain_high self.text.now (IsUtf8-had self.text.now self.utf8) self.at self.boundary _ e
 
 pub returns-in_err-push_str-clause-plain : goal.returns-in_err-push_str-clause-plain
@@ -29,8 +30,13 @@ returns-in_err-push_str-clause-plain c =
 pub invariant_of-self : goal.invariant_of-self
 invariant_of-self c =
     let self = c.args.self.now in
-    let e : c.plain_end-end.result ≡ run_end is_plain self.text.now self.at = c.plain_end-end.ensures.end ∙ ap (λ bs. self.at + prefix_len is_plain (drop self.at bs)) c.as_bytes.ensures.value in
-    record { utf8 = self.utf8; boundary = plain_boundary is_plain plain_high self.text.now (IsUtf8-had self.text.now self.utf8) self.at self.boundary _ e }
+    let e : c.plain_end-end.result ≡ run_end is_plain self.text.now self.at = c.plain_end-end.ensures.end
+    ∙ ap (λ bs. self.at + prefix_len is_plain (drop self.at bs)) c.as_bytes.ensures.value in
+    record {
+      utf8 = self.utf8;
+      boundary = plain_boundary is_plain plain_high self.text.now
+          (IsUtf8-had self.text.now self.utf8) self.at self.boundary _ e;
+    }
 
 pub returns-clause-plain : goal.returns-clause-plain
 returns-clause-plain c =
@@ -38,7 +44,8 @@ returns-clause-plain c =
     let old = c.args.string.now in
     let utf8 = IsUtf8-had self.text.now self.utf8 in
     let to = c.plain_end-end.result in
-    let e : to ≡ run_end is_plain self.text.now self.at = c.plain_end-end.ensures.end ∙ ap (λ bs. self.at + prefix_len is_plain (drop self.at bs)) c.as_bytes.ensures.value in
+    let e : to ≡ run_end is_plain self.text.now self.at = c.plain_end-end.ensures.end
+    ∙ ap (λ bs. self.at + prefix_len is_plain (drop self.at bs)) c.as_bytes.ensures.value in
     let last = plain_boundary is_plain plain_high self.text.now utf8 self.at self.boundary to e in
     let bytes : string_bytes c.push_str.new.self ≡ string_bytes old ++ c.range.result.now = search rules in
     record {
@@ -48,5 +55,6 @@ returns-clause-plain c =
         gives = step_gives self.text.now utf8 self.at to (omega (arith, e)) self.boundary last _ refl;
         moves = step_moves self.text.now utf8 self.at to (omega (arith, e)) self.boundary last _ refl;
       };
-      added = ap chars bytes ∙ chars-append (string_bytes old) c.range.result.now (IsUtf8-string_bytes old) ∙ ap (λ bs. text old ++ chars bs) c.range.ensures.value;
+      added = ap chars bytes ∙ chars-append (string_bytes old) c.range.result.now (IsUtf8-string_bytes old)
+          ∙ ap (λ bs. text old ++ chars bs) c.range.ensures.value;
     }

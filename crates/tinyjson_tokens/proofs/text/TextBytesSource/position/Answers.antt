@@ -12,11 +12,15 @@ pub loop-c-init : goal.loop-c-init
 loop-c-init c = sym (advance_nil 1 0 (omega arith) (omega arith))
 
 pub loop-c-preserved : goal.loop-c-preserved
-loop-c-preserved c = c.advance.ensures ∙ ap (λ p. advance p (c.in-Some.c ∷ [])) c.loop-c.invariant ∙ advance_append origin c.loop-c.yielded (c.in-Some.c ∷ [])
+loop-c-preserved c = c.advance.ensures ∙ ap (λ p. advance p (c.in-Some.c ∷ [])) c.loop-c.invariant
+    ∙ advance_append origin c.loop-c.yielded (c.in-Some.c ∷ [])
 
 pub returns : goal.returns
 returns c =
     let self = c.args.self.now in
-    let all = (YieldsList-end (YieldsList-at c.into_iter-c-iterator.ensures.into_iter_gives (YieldsList-from_chars c.range.result.now c.range.utf8 c.chars-c-items.ensures.rest)) c.loop-c.yielded _ c.loop-c.yielded_by _ _ c.in-None.is c.next.ensures.steps).0 in
+    let all = (YieldsList-end (YieldsList-at c.into_iter-c-iterator.ensures.into_iter_gives
+    (YieldsList-from_chars c.range.result.now c.range.utf8 c.chars-c-items.ensures.rest)) c.loop-c.yielded _ c.loop-c.yielded_by _ _
+    c.in-None.is c.next.ensures.steps).0 in
     let n : self.at - 0 ≡ self.at = omega arith in
-    c.loop-c.invariant ∙ ap (advance origin) (sym (map-id c.loop-c.yielded) ∙ all ∙ ap chars c.range.ensures.value ∙ ap (before self.text.now) n)
+    c.loop-c.invariant ∙ ap (advance origin) (sym (map-id c.loop-c.yielded) ∙ all ∙ ap chars c.range.ensures.value
+    ∙ ap (before self.text.now) n)

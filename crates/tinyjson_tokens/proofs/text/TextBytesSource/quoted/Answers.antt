@@ -6,7 +6,8 @@ use Rattle.std.specs.Str.{chars}
 use Rattle.tinyjson_bytes.specs.Scan.{is_plain}
 use Rattle.tinyjson_tokens.specs.Slice.{before, run_end}
 use Rattle.tinyjson_grammar.specs.Characters.{text}
-use Rattle.tinyjson_tokens.proofs.Slices.{between, plain_high, plain_between, quote_boundary, quote_between, stay_moves, step_gives, step_moves}
+use Rattle.tinyjson_tokens.proofs.Slices.{between, plain_high, plain_between, quote_boundary, quote_between, stay_moves, step_gives}
+use Rattle.tinyjson_tokens.proofs.Slices.{step_moves}
 use Rattle.tinyjson_tokens.proofs.text.TextBytesSource.quoted.Goals as goal
 
 pub returns-in_err-string-clause-quoted : goal.returns-in_err-string-clause-quoted
@@ -23,21 +24,35 @@ returns-in_err-string-clause-quoted c =
 pub invariant_of-self : goal.invariant_of-self
 invariant_of-self c =
     let self = c.args.self.now in
-    let e : c.plain_end-end.result ≡ run_end is_plain self.text.now self.at = c.plain_end-end.ensures.end ∙ ap (λ bs. self.at + prefix_len is_plain (drop self.at bs)) c.as_bytes-bytes.ensures.value in
-    let some : c.plain_end-end.result < length self.text.now = omega (arith, c.plain_end-end.ensures.within, ap length c.as_bytes-bytes.ensures.value) in
-    let quote : get_or self.text.now c.plain_end-end.result 0 ≡ 34 = ap (λ bs. get_or bs c.plain_end-end.result 0) (sym c.as_bytes-bytes.ensures.value) ∙ c.if-bytes-end-ne34.false in
-    record { utf8 = self.utf8; boundary = quote_boundary self.text.now (IsUtf8-had self.text.now self.utf8) self.at self.boundary _ e some quote }
+    let e : c.plain_end-end.result ≡ run_end is_plain self.text.now self.at = c.plain_end-end.ensures.end
+    ∙ ap (λ bs. self.at + prefix_len is_plain (drop self.at bs)) c.as_bytes-bytes.ensures.value in
+    let some : c.plain_end-end.result < length self.text.now = omega (
+      arith,
+      c.plain_end-end.ensures.within,
+      ap length
+          c.as_bytes-bytes.ensures.value,
+    ) in
+    let quote : get_or self.text.now c.plain_end-end.result 0 ≡ 34 = ap (λ bs. get_or bs c.plain_end-end.result 0)
+    (sym c.as_bytes-bytes.ensures.value) ∙ c.if-bytes-end-ne34.false in
+    record {
+      utf8 = self.utf8;
+      boundary = quote_boundary self.text.now
+          (IsUtf8-had self.text.now self.utf8) self.at self.boundary _ e some quote;
+    }
 
 pub returns-clause-quoted : goal.returns-clause-quoted
 returns-clause-quoted c =
     let self = c.args.self.now in
     let utf8 = IsUtf8-had self.text.now self.utf8 in
     let to = c.plain_end-end.result in
-    let e : to ≡ run_end is_plain self.text.now self.at = c.plain_end-end.ensures.end ∙ ap (λ bs. self.at + prefix_len is_plain (drop self.at bs)) c.as_bytes-bytes.ensures.value in
+    let e : to ≡ run_end is_plain self.text.now self.at = c.plain_end-end.ensures.end
+    ∙ ap (λ bs. self.at + prefix_len is_plain (drop self.at bs)) c.as_bytes-bytes.ensures.value in
     let some : to < length self.text.now = omega (arith, c.plain_end-end.ensures.within, ap length c.as_bytes-bytes.ensures.value) in
-    let quote : get_or self.text.now to 0 ≡ 34 = ap (λ bs. get_or bs to 0) (sym c.as_bytes-bytes.ensures.value) ∙ c.if-bytes-end-ne34.false in
+    let quote : get_or self.text.now to 0 ≡ 34 = ap (λ bs. get_or bs to 0) (sym c.as_bytes-bytes.ensures.value)
+    ∙ c.if-bytes-end-ne34.false in
     let last = quote_boundary self.text.now utf8 self.at self.boundary to e some quote in
-    let whole : text c.in_ok-string.string ≡ between self.text.now self.at to = ap chars (c.in_ok-string.ensures.ok ∙ c.range.ensures.value) in
+    let whole : text c.in_ok-string.string ≡ between self.text.now self.at to =
+    ap chars (c.in_ok-string.ensures.ok ∙ c.range.ensures.value) in
     let step = quote_between self.text.now utf8 self.at self.boundary to e some quote in
     rw whole (
       plain_between is_plain plain_high self.text.now utf8 self.at self.boundary to e,

@@ -28,21 +28,27 @@ pub invariant_of-self : goal.invariant_of-self
 invariant_of-self c =
     let self = c.loop-c.self in
     let e : EscapeAt self.text.now self.at c.in-Some.c c.in-Some.end = search rules in
-    record { utf8 = self.utf8; boundary = escape_boundary self.text.now (IsUtf8-had self.text.now self.utf8) self.at self.boundary c.in-Some.c c.in-Some.end e }
+    record {
+      utf8 = self.utf8;
+      boundary = escape_boundary self.text.now
+          (IsUtf8-had self.text.now self.utf8) self.at self.boundary c.in-Some.c c.in-Some.end e;
+    }
 
 pub returns-in_err-letters-clause-reads : goal.returns-in_err-letters-clause-reads
 returns-in_err-letters-clause-reads c = λ limit fs.
     let self = c.loop-c.self in
     let p = err_from_is_err_and c.from_residual-in_err-letters.result c.from_residual-in_err-letters.ensures.1 in
     let e : EscapeAt self.text.now self.at c.in-Some.c c.in-Some.end = search rules in
-    rw p.1 (escape_halts limit fs _ self _ _ _ _ _ _ c.in-Some.c c.in-Some.end _ c.letters.ensures.plain (c.loop-c.invariant.reads limit fs) e refl refl c.in_ok-push.ensures)
+    rw p.1 (escape_halts limit fs _ self _ _ _ _ _ _ c.in-Some.c c.in-Some.end _ c.letters.ensures.plain
+    (c.loop-c.invariant.reads limit fs) e refl refl c.in_ok-push.ensures)
 
 pub loop-c-preserved : goal.loop-c-preserved
 loop-c-preserved c =
     let self = c.loop-c.self in
     let e : EscapeAt self.text.now self.at c.in-Some.c c.in-Some.end = search rules in
     record {
-      reads = λ limit fs. escape_added limit fs _ self _ _ _ _ _ _ c.in-Some.c c.in-Some.end _ c.letters.ensures.plain (c.loop-c.invariant.reads limit fs) e refl refl c.in_ok-push.ensures (ap is_err c.in_ok-letters.was);
+      reads = λ limit fs. escape_added limit fs _ self _ _ _ _ _ _ c.in-Some.c c.in-Some.end _ c.letters.ensures.plain
+          (c.loop-c.invariant.reads limit fs) e refl refl c.in_ok-push.ensures (ap is_err c.in_ok-letters.was);
       left = omega (arith, e.some, c.letters.ensures.left, c.loop-c.invariant.left);
     }
 

@@ -6,7 +6,8 @@ use Rattle.tinyjson_tokens.proofs.tokens.TextBytesTokens.escaped.Given as goal
 
 abbrev pub invariant-loop-c : goal.invariant-loop-c
 invariant-loop-c l = record {
-  reads : (limit : Option ℕ) (fs : List Frame) → Leads text_sight limit l.fn.self (within fs l.fn.string [] false) l.self (within fs l.string [] false);
+  reads : (limit : Option ℕ) (fs : List Frame) → Leads text_sight limit l.fn.self (within fs l.fn.string [] false) l.self
+      (within fs l.string [] false);
   left : length l.self.text.now - l.self.at ≤ length l.fn.self.text.now - l.fn.self.at;
 }
 

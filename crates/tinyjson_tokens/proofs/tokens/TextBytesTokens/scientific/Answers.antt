@@ -10,10 +10,15 @@ invariant_of-after c =
     let self = c.args.self.now in
     let r = c.in_ok-parts in
     let x = subst (λ t. PartsAt t self.at r.parts r.end) c.as_bytes.ensures.value r.ensures in
-    record { utf8 = self.utf8; boundary = numeral_boundary self.text.now (IsUtf8-had self.text.now self.utf8) self.at self.boundary x.0 r.end x.2 }
+    record {
+      utf8 = self.utf8;
+      boundary = numeral_boundary self.text.now
+          (IsUtf8-had self.text.now self.utf8) self.at self.boundary x.0 r.end x.2;
+    }
 
 pub from_parts-requires-clause-numeral : goal.from_parts-requires-clause-numeral
-from_parts-requires-clause-numeral c = let r = c.in_ok-parts in parts_numeral r.ensures.0 r.parts r.ensures.1 r.ensures.2.grammatical.well_formed
+from_parts-requires-clause-numeral c = let r = c.in_ok-parts in parts_numeral r.ensures.0 r.parts r.ensures.1
+    r.ensures.2.grammatical.well_formed
 
 pub from_parts-requires-clause-room : goal.from_parts-requires-clause-room
 from_parts-requires-clause-room c =

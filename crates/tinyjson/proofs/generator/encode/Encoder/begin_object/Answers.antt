@@ -18,12 +18,14 @@ use Rattle.tinyjson.proofs.generator.encode.Encoder.begin_object.Goals.{After-ru
 pub returns-in_err-write_bytes-clause-sent : goal.returns-in_err-write_bytes-clause-sent
 returns-in_err-write_bytes-clause-sent g c =
     let some : 0 < length c.args.members.now.entries = omega (arith, c.len.ensures.len, c.if-len-gt1.true) in
-    λ k. MatchResult-from_err _ _ _ c.from_residual.ensures.0 (λ _. object_stops (indent_of c.args.self.now.indent) k c.args.members.now.entries some c.in_err-write_bytes.ensures)
+    λ k. MatchResult-from_err _ _ _ c.from_residual.ensures.0 (λ _. object_stops
+    (indent_of c.args.self.now.indent) k c.args.members.now.entries some c.in_err-write_bytes.ensures)
 
 pub returns-in_err-flat-clause-sent : goal.returns-in_err-flat-clause-sent
 returns-in_err-flat-clause-sent g c =
     let some : 0 < length c.args.members.now.entries = omega (arith, c.len.ensures.len, c.if-len-gt1.true) in
-    λ k. MatchResult-from_err _ _ _ c.from_residual-in_err-flat.ensures.0 (λ _. object_ungathered (indent_of c.args.self.now.indent) k c.args.members.now.entries some c.in_ok-write_bytes.ensures)
+    λ k. MatchResult-from_err _ _ _ c.from_residual-in_err-flat.ensures.0
+    (λ _. object_ungathered (indent_of c.args.self.now.indent) k c.args.members.now.entries some c.in_ok-write_bytes.ensures)
 
 -- the brace is sent, and of two or more members a run
 module _ (g : Over) (c : After-run_of_members-left g) (k : ℕ) where
@@ -36,8 +38,10 @@ module _ (g : Over) (c : After-run_of_members-left g) (k : ℕ) where
       let gs = gathered_in c.args.self.now in
       let hs = reverse c.gather_sorted.new.gathered.items in
       let some : 0 < length c.args.members.now.entries = omega (arith, c.len.ensures.len, c.if-len-gt1.true) in
-      members_run w k c.len-then-len-gt1.result _ _ gs hs _ c.run_of_members-left.ensures.others (c.run_of_members-left.ensures.buffers (k + 1) (g.W.Write.contents c.write_bytes.new.out))
-      (members_open w k c.len-then-len-gt1.result c.args.members.now.entries gs hs some c.len-then-len-gt1.ensures.len c.in_ok-flat.ensures.members c.in_ok-flat.ensures.before c.in_ok-write_bytes.ensures)
+      members_run w k c.len-then-len-gt1.result _ _ gs hs _ c.run_of_members-left.ensures.others
+      (c.run_of_members-left.ensures.buffers (k + 1) (g.W.Write.contents c.write_bytes.new.out))
+      (members_open w k c.len-then-len-gt1.result c.args.members.now.entries gs hs some c.len-then-len-gt1.ensures.len
+      c.in_ok-flat.ensures.members c.in_ok-flat.ensures.before c.in_ok-write_bytes.ensures)
 
 pub returns-in_err-write_bytes-2-clause-sent : goal.returns-in_err-write_bytes-2-clause-sent
 returns-in_err-write_bytes-2-clause-sent g c = λ k.
@@ -46,8 +50,11 @@ returns-in_err-write_bytes-2-clause-sent g c = λ k.
     let left = c.run_of_members-left.result.0 in
     let first = c.run_of_members-left.result.1 in
     let zero : left ≡ 0 = omega (arith, c.if-left-eq0.true) in
-    let none : w ≡ None = is_compact w c.args.self.now.indent c.is_none.result (rw c.run_of_members-left.ensures.indent at c.is_none.ensures) c.if-is_none.true in
-    MatchResult-from_err _ _ _ c.from_residual-in_err-write_bytes-2.ensures.0 (λ _. stopped_at_once w k 125 _ is (Members left first) (object_end w k left first is zero none) c.in_err-write_bytes-2.ensures (many_members g (goal.at.returns-in_err-write_bytes-2-clause-sent g c).After-run_of_members-left k))
+    let none : w ≡ None = is_compact w c.args.self.now.indent c.is_none.result
+    (rw c.run_of_members-left.ensures.indent at c.is_none.ensures) c.if-is_none.true in
+    MatchResult-from_err _ _ _ c.from_residual-in_err-write_bytes-2.ensures.0
+    (λ _. stopped_at_once w k 125 _ is (Members left first) (object_end w k left first is zero none) c.in_err-write_bytes-2.ensures
+    (many_members g (goal.at.returns-in_err-write_bytes-2-clause-sent g c).After-run_of_members-left k))
 
 pub returns-then-is_none-clause-sent : goal.returns-then-is_none-clause-sent
 returns-then-is_none-clause-sent g c = λ k.
@@ -56,8 +63,11 @@ returns-then-is_none-clause-sent g c = λ k.
     let left = c.run_of_members-left.result.0 in
     let first = c.run_of_members-left.result.1 in
     let zero : left ≡ 0 = omega (arith, c.if-left-eq0.true) in
-    let none : w ≡ None = is_compact w c.args.self.now.indent c.is_none.result (rw c.run_of_members-left.ensures.indent at c.is_none.ensures) c.if-is_none.true in
-    closed_at_once w k 125 _ is (Members left first) (object_end w k left first is zero none) (ap (λ i. drop i is) zero) c.in_ok-write_bytes-2.ensures (many_members g (goal.at.returns-then-is_none-clause-sent g c).After-run_of_members-left k)
+    let none : w ≡ None = is_compact w c.args.self.now.indent c.is_none.result
+    (rw c.run_of_members-left.ensures.indent at c.is_none.ensures) c.if-is_none.true in
+    closed_at_once w k 125 _ is (Members left first) (object_end w k left first is zero none)
+    (ap (λ i. drop i is) zero) c.in_ok-write_bytes-2.ensures (many_members g
+    (goal.at.returns-then-is_none-clause-sent g c).After-run_of_members-left k)
 
 pub returns-then-len-gt1-clause-sent : goal.returns-then-len-gt1-clause-sent
 returns-then-len-gt1-clause-sent g c = λ k. many_members g (goal.at.returns-then-len-gt1-clause-sent g c).After-run_of_members-left k
@@ -65,7 +75,8 @@ returns-then-len-gt1-clause-sent g c = λ k. many_members g (goal.at.returns-the
 pub returns-in_err-write_bytes-4-clause-sent : goal.returns-in_err-write_bytes-4-clause-sent
 returns-in_err-write_bytes-4-clause-sent g c =
     let some : 0 < length c.args.members.now.entries = omega (arith, ap length c.iter.ensures.rest, ap length c.in-Some.ensures.steps) in
-    λ k. MatchResult-from_err _ _ _ c.from_residual-in_err-write_bytes-4.ensures.0 (λ _. object_stops (indent_of c.args.self.now.indent) k c.args.members.now.entries some c.in_err-write_bytes-4.ensures)
+    λ k. MatchResult-from_err _ _ _ c.from_residual-in_err-write_bytes-4.ensures.0
+    (λ _. object_stops (indent_of c.args.self.now.indent) k c.args.members.now.entries some c.in_err-write_bytes-4.ensures)
 
 -- the brace is sent before the one member
 module _ (g : Over) (c : After-quick_member g) (k : ℕ) where
@@ -75,7 +86,8 @@ module _ (g : Over) (c : After-quick_member g) (k : ℕ) where
       (Member c.as_str-key.result c.in-Some.value) (gathered_in c.args.self.now)
   one_member =
       let few : length c.args.members.now.entries < 2 = omega (arith, c.len.ensures.len, c.if-len-gt1.false) in
-      member_opens (indent_of c.args.self.now.indent) k c.args.members.now.entries c.next.new.self (c.in-Some.key.now, c.in-Some.value.now) (gathered_in c.args.self.now) c.as_str-key.result c.in-Some.value
+      member_opens (indent_of c.args.self.now.indent) k c.args.members.now.entries c.next.new.self (c.in-Some.key.now, c.in-Some.value.now)
+      (gathered_in c.args.self.now) c.as_str-key.result c.in-Some.value
       (sym c.iter.ensures.rest ∙ c.in-Some.ensures.steps) few c.as_str-key.ensures.value refl c.in_ok-write_bytes-4.ensures
 
 pub returns-in_err-write_bytes-5-clause-sent : goal.returns-in_err-write_bytes-5-clause-sent
@@ -87,7 +99,8 @@ returns-in_err-write_bytes-5-clause-sent g c = λ k.
     let quick = rw c.if-quick_member.true at (c.quick_member.ensures (k + 1)) in
     let none : w ≡ None = is_compact w c.args.self.now.indent c.is_none-2.result c.is_none-2.ensures quick.0 in
     let run = only_member_buffered w (g.W.Write.contents c.write_bytes-2.new.out) (k + 1) key value _ _ none quick.1 in
-    MatchResult-from_err _ _ _ c.from_residual-in_err-write_bytes-5.ensures.0 (λ _. stopped_at_once w k 125 gs gs (Members 0 false) (object_end w k 0 false gs refl none) c.in_err-write_bytes-5.ensures
+    MatchResult-from_err _ _ _ c.from_residual-in_err-write_bytes-5.ensures.0
+    (λ _. stopped_at_once w k 125 gs gs (Members 0 false) (object_end w k 0 false gs refl none) c.in_err-write_bytes-5.ensures
     (member_run w k gs key value run (one_member g (goal.at.returns-in_err-write_bytes-5-clause-sent g c).After-quick_member k)))
 
 pub returns-then-quick_member-clause-sent : goal.returns-then-quick_member-clause-sent
@@ -99,7 +112,8 @@ returns-then-quick_member-clause-sent g c = λ k.
     let quick = rw c.if-quick_member.true at (c.quick_member.ensures (k + 1)) in
     let none : w ≡ None = is_compact w c.args.self.now.indent c.is_none-2.result c.is_none-2.ensures quick.0 in
     let run = only_member_buffered w (g.W.Write.contents c.write_bytes-2.new.out) (k + 1) key value _ _ none quick.1 in
-    closed_at_once w k 125 gs gs (Members 0 false) (object_end w k 0 false gs refl none) refl c.in_ok-write_bytes-5.ensures (member_run w k gs key value run (one_member g (goal.at.returns-then-quick_member-clause-sent g c).After-quick_member k))
+    closed_at_once w k 125 gs gs (Members 0 false) (object_end w k 0 false gs refl none) refl c.in_ok-write_bytes-5.ensures
+    (member_run w k gs key value run (one_member g (goal.at.returns-then-quick_member-clause-sent g c).After-quick_member k))
 
 pub returns-clause-sent : goal.returns-clause-sent
 returns-clause-sent g c = λ k.
@@ -109,9 +123,14 @@ returns-clause-sent g c = λ k.
 pub returns-in_err-write_bytes-3-clause-sent : goal.returns-in_err-write_bytes-3-clause-sent
 returns-in_err-write_bytes-3-clause-sent g c =
     let none : length c.args.members.now.entries ≡ 0 = ap length (sym c.iter.ensures.rest ∙ c.in_default.ensures.steps.0) in
-    λ k. MatchResult-from_err _ _ _ c.from_residual-in_err-write_bytes-3.ensures.0 (λ _. part_same (empty_object (indent_of c.args.self.now.indent) k c.args.members.now.entries none) c.in_err-write_bytes-3.ensures)
+    λ k. MatchResult-from_err _ _ _ c.from_residual-in_err-write_bytes-3.ensures.0
+    (λ _. part_same (empty_object (indent_of c.args.self.now.indent) k c.args.members.now.entries none) c.in_err-write_bytes-3.ensures)
 
 pub returns-in_default-clause-sent : goal.returns-in_default-clause-sent
 returns-in_default-clause-sent g c =
     let none : length c.args.members.now.entries ≡ 0 = ap length (sym c.iter.ensures.rest ∙ c.in_default.ensures.steps.0) in
-    λ k. record { written = sent_same (empty_object (indent_of c.args.self.now.indent) k c.args.members.now.entries none) c.in_ok-write_bytes-3.ensures; outside = refl }
+    λ k. record {
+      written = sent_same (empty_object (indent_of c.args.self.now.indent) k c.args.members.now.entries none)
+          c.in_ok-write_bytes-3.ensures;
+      outside = refl;
+    }

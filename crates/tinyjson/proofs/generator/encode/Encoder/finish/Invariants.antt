@@ -15,4 +15,5 @@ invariant-loop-frame g l =
     (encode_utf8_all (unwritten w (frames l.stack) (reverse l.self.gathered.items)))
 
 abbrev pub decreases-loop-frame : goal.decreases-loop-frame
-decreases-loop-frame g l = length (encode_utf8_all (unwritten (indent_of l.fn.self.indent) (frames l.stack) (reverse l.self.gathered.items)))
+decreases-loop-frame g l = length (encode_utf8_all (unwritten (indent_of l.fn.self.indent) (frames l.stack)
+    (reverse l.self.gathered.items)))

@@ -46,4 +46,5 @@ returns-in-None-clause-reads g c = λ limit.
     let sight = g.S.Source.sight in
     let whole = array_complete c.args.stack.now c.requires.sound c.args.values _ c.requires.array.1 in
     Refuses_as sight limit _ _ UnexpectedEof
-    (Leads_end sight limit _ _ (after_white sight limit _ _ _ whole c.skip_white.ensures.white) c.in-None.ensures.shows (end_after limit _) tt)
+    (Leads_end sight limit _ _ (after_white sight limit _ _ _ whole c.skip_white.ensures.white) c.in-None.ensures.shows
+    (end_after limit _) tt)

@@ -17,7 +17,8 @@ returns-then-is_err-clause-reads g c = λ limit.
 pub returns-clause-reads : goal.returns-clause-reads
 returns-clause-reads g c = λ limit.
     let sight = g.S.Source.sight in
-    let e : at c.push_number.new.self Complete ≡ complete true (frames c.args.stack.now) (number c.args.decimal.decimal) true = search rules in
+    let e : at c.push_number.new.self Complete ≡ complete true (frames c.args.stack.now) (number c.args.decimal.decimal) true =
+    search rules in
     Leads_to sight limit _ _ (Leads_nil sight limit _ _) (sym e)
 
 pub returns-in-Some-Object-clause-reads : goal.returns-in-Some-Object-clause-reads

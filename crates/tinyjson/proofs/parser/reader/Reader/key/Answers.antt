@@ -21,11 +21,14 @@ returns-in_ok-key-in-Some-eq34-clause-reads g c = λ limit.
     c.consume.ensures.takes tt
     (string_begins limit _ 34 (search rules)) tt in
     Reads_after sight limit _ _ _ _ _
-    (Leads_to sight limit _ _ (Leads_trans sight limit _ _ _ q (c.in_ok-key-in-Some-eq34.ensures.reads limit _)) (key_string c.args.stack.now c.requires.awaits _))
+    (Leads_to sight limit _ _ (Leads_trans sight limit _ _ _ q (c.in_ok-key-in-Some-eq34.ensures.reads limit _))
+    (key_string c.args.stack.now c.requires.awaits _))
     (c.colon.ensures.reads limit)
 
 pub returns-in_default-clause-reads : goal.returns-in_default-clause-reads
-returns-in_default-clause-reads g c = λ limit. Leads_whites g.S.Source.sight limit _ _ _ c.skip_white.ensures.white tt (white_awaited limit _)
+returns-in_default-clause-reads g c = λ limit. Leads_whites g.S.Source.sight limit _ _ _ c.skip_white.ensures.white tt
+    (white_awaited limit _)
 
 pub returns-in_default-2-clause-reads : goal.returns-in_default-2-clause-reads
-returns-in_default-2-clause-reads g c = λ limit. Leads_whites g.S.Source.sight limit _ _ _ c.skip_white.ensures.white tt (white_awaited limit _)
+returns-in_default-2-clause-reads g c = λ limit. Leads_whites g.S.Source.sight limit _ _ _ c.skip_white.ensures.white tt
+    (white_awaited limit _)

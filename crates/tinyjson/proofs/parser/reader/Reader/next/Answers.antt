@@ -6,11 +6,13 @@ pub returns-in-Some-clause-reads : goal.returns-in-Some-clause-reads
 returns-in-Some-clause-reads g c =
     let sight = g.S.Source.sight in
     let limit = c.args.limit in
-    Reads_after sight limit _ _ _ _ _ (Leads_whites sight limit _ _ _ c.skip_white.ensures.white tt (white_awaited limit _)) c.value.ensures.reads
+    Reads_after sight limit _ _ _ _ _ (Leads_whites sight limit _ _ _ c.skip_white.ensures.white tt (white_awaited limit _))
+    c.value.ensures.reads
 
 pub returns-in-None-clause-reads : goal.returns-in-None-clause-reads
 returns-in-None-clause-reads g c =
     let sight = g.S.Source.sight in
     let limit = c.args.limit in
     Refuses_as sight limit _ _ UnexpectedEof
-    (Leads_end sight limit _ _ (Leads_whites sight limit _ _ _ c.skip_white.ensures.white tt (white_awaited limit _)) c.in-None.ensures.shows (end_awaited limit _) tt)
+    (Leads_end sight limit _ _ (Leads_whites sight limit _ _ _ c.skip_white.ensures.white tt (white_awaited limit _))
+    c.in-None.ensures.shows (end_awaited limit _) tt)

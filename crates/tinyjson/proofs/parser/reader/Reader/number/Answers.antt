@@ -6,7 +6,8 @@ use Rattle.tinyjson.proofs.parser.reader.Reader.number.Goals.{in-Some+in_default
 use Rattle.tinyjson.proofs.parser.reader.Reader.number.Goals as goal
 
 pub from_parts-requires-clause-numeral : goal.from_parts-requires-clause-numeral
-from_parts-requires-clause-numeral g c = let n = c.in-Some.ensures.takes in parts_numeral n.0 c.in-Some.parts n.1 n.2.grammatical.well_formed
+from_parts-requires-clause-numeral g c = let n = c.in-Some.ensures.takes in
+    parts_numeral n.0 c.in-Some.parts n.1 n.2.grammatical.well_formed
 
 pub from_parts-requires-clause-room : goal.from_parts-requires-clause-room
 from_parts-requires-clause-room g c = c.in-Some.ensures.room

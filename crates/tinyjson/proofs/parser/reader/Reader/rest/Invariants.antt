@@ -4,7 +4,8 @@ use Rattle.tinyjson.proofs.parser.reader.Reader.rest.Given as goal
 
 abbrev pub invariant-loop-progress : goal.invariant-loop-progress
 invariant-loop-progress g l = record {
-  reads : Leads g.S.Source.sight l.fn.limit l.initial.self.tokens.source (at l.initial.stack l.initial.progress) l.self.tokens.source (at l.stack l.progress);
+  reads : Leads g.S.Source.sight l.fn.limit l.initial.self.tokens.source (at l.initial.stack l.initial.progress) l.self.tokens.source
+      (at l.stack l.progress);
   sound : IsSound l.stack l.progress;
 }
 

@@ -4,7 +4,8 @@ use Rattle.tinyjson.specs.View.{view}
 use Rattle.tinyjson_grammar.specs.Machine.{next, awaited}
 use Rattle.tinyjson_grammar.specs.declared.error.JsonParseErrorKind.TheVariants.{UnexpectedEof}
 use Rattle.tinyjson.proofs.Reading.Memory.{grows_text}
-use Rattle.tinyjson_tokens.proofs.Callers.{end_awaited, Leads_end, Leads_to, Leads_trans, Leads_whites, Refuses_after, Refuses_as, Reads_after, white_awaited}
+use Rattle.tinyjson_tokens.proofs.Callers.{end_awaited, Leads_end, Leads_to, Leads_trans, Leads_whites, Refuses_after, Refuses_as}
+use Rattle.tinyjson_tokens.proofs.Callers.{Reads_after, white_awaited}
 use Rattle.tinyjson.proofs.parser.reader.Reader.text_value.Goals as goal
 
 pub returns-in_err-value-in-Some-n-clause-reads : goal.returns-in_err-value-in-Some-n-clause-reads
@@ -23,7 +24,8 @@ returns-in_err-end-in-Some-n-clause-reads g c =
     let p = err_from_is_err_and r.result r.ensures.1 in
     let l = Leads_whites sight limit _ _ _ c.skip_white.ensures.white tt (white_awaited limit []) in
     let w = c.in_ok-value-in-Some-n in
-    rw (p.1, p.2) (Refuses_after sight limit _ _ _ _ (Leads_trans sight limit _ _ _ l (w.ensures.reads limit [])) (c.in_err-end-in-Some-n.ensures.reads limit (view w.value)))
+    rw (p.1, p.2) (Refuses_after sight limit _ _ _ _ (Leads_trans sight limit _ _ _ l (w.ensures.reads limit []))
+    (c.in_err-end-in-Some-n.ensures.reads limit (view w.value)))
 
 pub returns-in_ok-end-in-Some-n-clause-reads : goal.returns-in_ok-end-in-Some-n-clause-reads
 returns-in_ok-end-in-Some-n-clause-reads g c =
@@ -31,21 +33,25 @@ returns-in_ok-end-in-Some-n-clause-reads g c =
     let limit = c.args.limit in
     let l = Leads_whites sight limit _ _ _ c.skip_white.ensures.white tt (white_awaited limit []) in
     let w = c.in_ok-value-in-Some-n in
-    Leads_trans sight limit _ _ _ (Leads_trans sight limit _ _ _ l (w.ensures.reads limit [])) (c.in_ok-end-in-Some-n.ensures.reads limit (view w.value))
+    Leads_trans sight limit _ _ _ (Leads_trans sight limit _ _ _ l (w.ensures.reads limit []))
+    (c.in_ok-end-in-Some-n.ensures.reads limit (view w.value))
 
 pub returns-in-Some-clause-reads : goal.returns-in-Some-clause-reads
 returns-in-Some-clause-reads g c =
     let sight = g.S.Source.sight in
     let limit = c.args.limit in
     let l = Leads_whites sight limit _ _ _ c.skip_white.ensures.white tt (white_awaited limit []) in
-    Reads_after sight limit _ _ _ _ _ (Leads_to sight limit _ _ l (ap (λ fs. next fs awaited) (sym c.new-stack.ensures.frames))) c.values-read.ensures.reads
+    Reads_after sight limit _ _ _ _ _ (Leads_to sight limit _ _ l (ap (λ fs. next fs awaited) (sym c.new-stack.ensures.frames)))
+    c.values-read.ensures.reads
 
 pub returns-in-Some-clause-memory : goal.returns-in-Some-clause-memory
-returns-in-Some-clause-memory g c = grows_text g.S.Source.sight _ _ c.in-Some.first c.values-read.result c.skip_white.ensures.white c.in-Some.ensures.shows c.values-read.ensures.memory
+returns-in-Some-clause-memory g c = grows_text g.S.Source.sight _ _ c.in-Some.first c.values-read.result c.skip_white.ensures.white
+    c.in-Some.ensures.shows c.values-read.ensures.memory
 
 pub returns-in-None-clause-reads : goal.returns-in-None-clause-reads
 returns-in-None-clause-reads g c =
     let sight = g.S.Source.sight in
     let limit = c.args.limit in
     Refuses_as sight limit _ _ UnexpectedEof
-    (Leads_end sight limit _ _ (Leads_whites sight limit _ _ _ c.skip_white.ensures.white tt (white_awaited limit [])) c.in-None.ensures.shows (end_awaited limit _) tt)
+    (Leads_end sight limit _ _ (Leads_whites sight limit _ _ _ c.skip_white.ensures.white tt (white_awaited limit []))
+    c.in-None.ensures.shows (end_awaited limit _) tt)

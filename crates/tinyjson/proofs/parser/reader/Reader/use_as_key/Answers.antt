@@ -11,7 +11,8 @@ pub returns-in-String-clause-reads : goal.returns-in-String-clause-reads
 returns-in-String-clause-reads g c = λ limit.
     let sight = g.S.Source.sight in
     rw (c.in-String.is, view_String c.in-String.key)
-    (Reads_after sight limit _ _ _ _ _ (Leads_to sight limit _ _ (Leads_nil sight limit _ _) (key_string c.args.stack.now c.requires.awaits (text c.in-String.key))) (c.colon.ensures.reads limit))
+    (Reads_after sight limit _ _ _ _ _ (Leads_to sight limit _ _ (Leads_nil sight limit _ _)
+    (key_string c.args.stack.now c.requires.awaits (text c.in-String.key))) (c.colon.ensures.reads limit))
 
 pub returns-in_default : goal.returns-in_default
 returns-in_default g c =
@@ -20,7 +21,8 @@ returns-in_default g c =
     record {
       reads = λ limit.
           rw c.kind.ensures (Refuses_as sight limit _ _ (KeyNotString (kind_of t))
-          (Leads_to sight limit _ _ (Leads_nil sight limit _ _) (key_refused c.args.stack.now c.requires.awaits t (no_string c.args.value c.in_default.not-String))));
+          (Leads_to sight limit _ _ (Leads_nil sight limit _ _) (key_refused c.args.stack.now c.requires.awaits t
+          (no_string c.args.value c.in_default.not-String))));
       sound = tt;
       left = tt;
     }

@@ -29,7 +29,8 @@ returns-in_default-2-clause-reads g c =
     let d = c.args.first in
     Refuses_as sight limit _ _ (InvalidCharacter d)
     (Leads_shown sight limit _ _ d (Leads_nil sight limit _ _) c.requires.shown
-    (invalid limit _ d c.requires.no_white (search rules) (search rules) (search rules) (search rules) (search rules) (search rules) (search rules) (search rules)) tt)
+    (invalid limit _ d c.requires.no_white (search rules) (search rules) (search rules) (search rules) (search rules) (search rules)
+    (search rules) (search rules)) tt)
 
 pub returns-in-91-clause-memory : goal.returns-in-91-clause-memory
 returns-in-91-clause-memory g c = λ _. grows_for c.args.first c.array.result (rw c.in-91.is refl)

@@ -22,5 +22,6 @@ returns-clause-begins c =
       members = gather (own_members ms) (drop m ks) (drop n vs);
       outer = frames_over (reverse rest) (take n vs) (take m ks) (other_maps ms);
       before = ap (λ os. frames_over os vs ks ms) opened;
-      awaits_value = ap₂ (λ os js. frames_over os vs js ms) (ap reverse new ∙ pushed rest (frame.Member n m)) keys ∙ frames_key n m (reverse rest) vs ks ms c.args.key lies.0 lies.1 lies.2;
+      awaits_value = ap₂ (λ os js. frames_over os vs js ms) (ap reverse new ∙ pushed rest (frame.Member n m)) keys
+          ∙ frames_key n m (reverse rest) vs ks ms c.args.key lies.0 lies.1 lies.2;
     }

@@ -11,5 +11,6 @@ returns c =
     let w = c.in_ok-take_items in
     let was : c.pop.new.self.items ≡ take (length s.containers.items - 1) s.containers.items = search rules in
     closes_array s c.requires.sound c.args.values _ c.requires.array.1 c.take_items.new.self _
-    (ap (λ v. reverse v.items) w.ensures.containers ∙ popped _ _ _ _ c.requires.array.1 was) w.ensures.values (ap (λ v. v.items) w.ensures.keys) (ap (λ v. reverse v.items) w.ensures.maps)
+    (ap (λ v. reverse v.items) w.ensures.containers ∙ popped _ _ _ _ c.requires.array.1 was) w.ensures.values
+    (ap (λ v. v.items) w.ensures.keys) (ap (λ v. reverse v.items) w.ensures.maps)
     (view_Array w.field-0 ∙ ap (λ ws. array (items_view ws)) w.ensures.items)

@@ -16,7 +16,8 @@ returns-clause-at c =
     let was : rest ≡ take (length s.containers.items - 1) s.containers.items = search rules in
     let same : t.containers.items ≡ rest = ap (λ v. v.items) c.in_ok-settle.ensures.containers in
     let new : c.push.new.self.items ≡ t.containers.items ++ o ∷ [] = search rules in
-    let opened = ap reverse (new ∙ ap (λ xs. xs ++ o ∷ []) same) ∙ pushed rest o ∙ ap (λ os. o ∷ os) (popped _ _ _ _ c.requires.member.1 was) in
+    let opened = ap reverse (new ∙ ap (λ xs. xs ++ o ∷ []) same) ∙ pushed rest o
+    ∙ ap (λ os. o ∷ os) (popped _ _ _ _ c.requires.member.1 was) in
     member_complete s c.requires.sound n m _ c.requires.member.1
     ∙ ap (λ fs. next fs after) (sym (c.in_ok-settle.ensures.frames _))
     ∙ ap (λ os. next (frames_over os t.values.items t.keys.items (maps_of t)) after) (sym opened)

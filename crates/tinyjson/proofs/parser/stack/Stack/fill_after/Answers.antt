@@ -26,12 +26,14 @@ returns-clause-members c =
     let done : length c.loop-self.self.values.items ≤ c.args.values = search rules in
     none_left (members_view c.loop-self.members.entries) c.args.values _ (reverse (drop c.args.keys c.loop-self.self.keys.items)) done
     ∙ i.members
-    ∙ ap₂ (gather (members_view c.args.members.now.entries)) (turned_back c.args.keys _ _ c.requires.keys c.reverse_from.ensures) (turned_back c.args.values _ _ c.requires.values c.reverse_from-2.ensures)
+    ∙ ap₂ (gather (members_view c.args.members.now.entries)) (turned_back c.args.keys _ _ c.requires.keys c.reverse_from.ensures)
+    (turned_back c.args.values _ _ c.requires.values c.reverse_from-2.ensures)
 
 pub returns-clause-values : goal.returns-clause-values
 returns-clause-values c =
     let done : length c.loop-self.self.values.items ≤ c.args.values = search rules in
-    sym (take_all c.args.values _ done) ∙ c.loop-self.invariant.values ∙ turned_front c.args.values _ _ c.requires.values c.reverse_from-2.ensures
+    sym (take_all c.args.values _ done) ∙ c.loop-self.invariant.values
+    ∙ turned_front c.args.values _ _ c.requires.values c.reverse_from-2.ensures
 
 pub returns-clause-keys : goal.returns-clause-keys
 returns-clause-keys c =

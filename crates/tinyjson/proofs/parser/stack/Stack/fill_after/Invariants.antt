@@ -7,8 +7,10 @@ abbrev pub invariant-loop-self : goal.invariant-loop-self
 invariant-loop-self l =
     let old = l.initial.self in
     record {
-      members : gather (members_view l.members.entries) (reverse (drop l.keys l.self.keys.items)) (reverse (drop l.values l.self.values.items))
-          ≡ gather (members_view l.initial.members.entries) (reverse (drop l.keys old.keys.items)) (reverse (drop l.values old.values.items));
+      members : gather (members_view l.members.entries) (reverse (drop l.keys l.self.keys.items))
+          (reverse (drop l.values l.self.values.items))
+          ≡ gather (members_view l.initial.members.entries) (reverse (drop l.keys old.keys.items))
+          (reverse (drop l.values old.values.items));
       keys : take l.keys l.self.keys.items ≡ take l.keys old.keys.items;
       values : take l.values l.self.values.items ≡ take l.values old.values.items;
       keys_least : l.keys ≤ length l.self.keys.items;

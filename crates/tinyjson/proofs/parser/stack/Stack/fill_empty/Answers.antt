@@ -12,7 +12,8 @@ pub loop-self-init : goal.loop-self-init
 loop-self-init c =
     let s = c.args.self.now in
     record {
-      members = c.requires.empty ∙ sym (ap (λ js. gather no_members js (drop (length s.values.items) s.values.items)) (drop-length s.keys.items));
+      members = c.requires.empty ∙ sym (ap (λ js. gather no_members js (drop (length s.values.items) s.values.items))
+          (drop-length s.keys.items));
       keys = sym (take-length s.keys.items);
       values = sym (take-length s.values.items);
       keys_least = c.requires.keys;

@@ -9,4 +9,5 @@ returns c =
     let v = c.args.self.now in
     let list = c.unwrap-items.result.now in
     let held : array_part v ≡ Some list = search rules in
-    is_item_at v c.args.index list c.index.result.now held (slice_get_read list.items _ c.args.index _ refl (within_array v c.args.index list c.requires held) c.index.ensures)
+    is_item_at v c.args.index list c.index.result.now held (slice_get_read list.items _ c.args.index _ refl
+    (within_array v c.args.index list c.requires held) c.index.ensures)
