@@ -6,7 +6,6 @@ pub mod Prefix
 pub mod Accepts
 pub mod Step
 pub mod Trace
-pub mod Examples
 -- What the text of a tree is read as, and finite maps of members.
 pub mod Texts
 pub mod Members

@@ -1,6 +1,7 @@
 pub mod Reading
 pub mod WhiteSpace
 pub mod Strings
+pub mod Literals
 pub mod Numbers
 pub mod Containers
 pub mod Documents

@@ -147,3 +147,11 @@ second_key = refusal_of refl refl
 error_within_a_key : IsRefusal None error.LeadingZero (codes "{[01") []
 unfolding run step end value power_fits
 error_within_a_key = refusal_of refl refl
+
+number_as_a_key_before_an_error : IsRefusal None (error.KeyNotString kind.Number) (codes "{1") (codes ":01}")
+unfolding run step end value power_fits
+number_as_a_key_before_an_error = refusal_of refl refl
+
+array_of_an_array_as_a_key : IsRefusal None (error.KeyNotString kind.Array) (codes "{[[]]") []
+unfolding run step end value power_fits
+array_of_an_array_as_a_key = refusal_of refl refl

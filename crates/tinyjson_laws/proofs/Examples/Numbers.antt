@@ -85,6 +85,10 @@ power_too_small : IsRefusal None error.NumberOutOfRange (codes "[1e-922337203685
 unfolding run step end value power_fits
 power_too_small = refusal_of refl refl
 
+power_too_small_at_the_end : IsRefusal None error.NumberOutOfRange (codes "1e-9223372036854775809") []
+unfolding run step end value power_fits
+power_too_small_at_the_end = refusal_of refl refl
+
 power_far_too_large : IsRefusal None error.NumberOutOfRange (codes "1e" ++ replicate 40 57) []
 unfolding run step end value power_fits
 power_far_too_large = refusal_of refl refl
@@ -128,6 +132,10 @@ leading_zero_in_an_array = refusal_of refl refl
 leading_zero_before_a_point : IsRefusal None error.LeadingZero (codes "01") (codes ".5")
 unfolding run step end value power_fits
 leading_zero_before_a_point = refusal_of refl refl
+
+leading_zero_before_a_point_alone : IsRefusal None error.LeadingZero (codes "01") (codes ".")
+unfolding run step end value power_fits
+leading_zero_before_a_point_alone = refusal_of refl refl
 
 leading_zero_after_a_minus : IsRefusal None error.LeadingZero (codes "-00") []
 unfolding run step end value power_fits

@@ -161,6 +161,10 @@ low_surrogate_before_a_unit : IsRefusal None error.InvalidUtf16 (codes "\"\\udc0
 unfolding run step end value power_fits
 low_surrogate_before_a_unit = refusal_of refl refl
 
+low_surrogate_before_a_wrong_escape : IsRefusal None (error.InvalidEscape 113) (codes "\"\\udc00\\q") []
+unfolding run step end value power_fits
+low_surrogate_before_a_wrong_escape = refusal_of refl refl
+
 high_surrogate_before_a_wrong_escape : IsRefusal None (error.InvalidEscape 113) (codes "\"\\ud800\\q") (codes "\"")
 unfolding run step end value power_fits
 high_surrogate_before_a_wrong_escape = refusal_of refl refl
@@ -196,6 +200,10 @@ line_feed_as_it_is = refusal_of refl refl
 last_control_character : IsRefusal None (error.ControlCharacter 31) (34 ∷ 31 ∷ []) (34 ∷ [])
 unfolding run step end value power_fits
 last_control_character = refusal_of refl refl
+
+control_character_after_a_letter : IsRefusal None (error.ControlCharacter 1) (34 ∷ 116 ∷ 1 ∷ []) []
+unfolding run step end value power_fits
+control_character_after_a_letter = refusal_of refl refl
 
 no_closing_quote : IsRefusal None error.UnexpectedEof (codes "\"abc") []
 unfolding run step end value power_fits
