@@ -47,10 +47,6 @@ pub enum Expression {
     Comparison(ComparisonOperator, Comparable, Comparable),
     /// Whether the query selects some node.
     Test(FilterQuery),
-    /// Whether the whole of a text is of a regular expression (RFC 9535, 2.4.6).
-    Match(Comparable, Comparable),
-    /// Whether a part of a text is of a regular expression (RFC 9535, 2.4.7).
-    Search(Comparable, Comparable),
 }
 
 #[derive(Clone, Copy)]
