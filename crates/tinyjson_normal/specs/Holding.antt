@@ -1,0 +1,86 @@
+-- For which open containers an arena stands, and for which tree, once all are closed.
+use Rattle.std.specs.Prelude.{◌≡◌, ℕ, List, [], ◌∷◌, ◌++◌, length, ⊤}
+use Rattle.tinyjson_grammar.specs.Tree.{Tree, items_of, Members, no_members, put}
+use Rattle.tinyjson_grammar.specs.Machine.{Frame, in_array, at_key, at_value}
+use Rattle.tinyjson_normal.specs.Node.{Is, Are, IsText}
+use Rattle.tinyjson_normal.specs.declared.store.Span.{Span}
+use Rattle.tinyjson_normal.specs.declared.store.Node.{Node}
+use Rattle.tinyjson_normal.specs.declared.store.Store.{Store}
+use Rattle.tinyjson_normal.specs.declared.arena.Place.{Place}
+use Rattle.tinyjson_normal.specs.declared.arena.Arena.{Arena}
+
+-- a key and its value
+abbrev pub Entry : Type 0
+Entry = List ℕ × Tree
+
+-- each value put at its key in turn: of equal keys the last stays
+abbrev pub put_all : Members → List Entry → Members
+put_all ms [] = ms
+put_all ms (e ∷ es) = put_all (put e.0 e.1 ms) es
+
+-- keys and values that wait, in the order of the text
+abbrev pub AreEntries : Store → List Entry → List Span → List Node → Type 0
+AreEntries s [] [] [] = ⊤
+AreEntries s [] [] (v ∷ vs) = ⊥
+AreEntries s [] (k ∷ ks) vs = ⊥
+AreEntries s (e ∷ es) [] vs = ⊥
+AreEntries s (e ∷ es) (k ∷ ks) [] = ⊥
+AreEntries s (e ∷ es) (k ∷ ks) (v ∷ vs) = IsText s e.0 k × Is s e.1 v × AreEntries s es ks vs
+
+-- the members of an object, from its keys and values
+pub record Gathers (s : Store) (ms : Members) (ks : List Span) (vs : List Node) : Type 0 where
+  pub entries : List Entry
+  pub members : ms ≡ put_all no_members entries
+  pub waiting : AreEntries s entries ks vs
+
+-- those of an object whose last key has no value yet
+pub record Awaits (s : Store) (ms : Members) (k : List ℕ) (ks : List Span) (vs : List Node) : Type 0 where
+  pub before : List Span
+  pub key : Span
+  pub keys : ks ≡ before ++ (key ∷ [])
+  pub text : IsText s k key
+  pub gathered : Gathers s ms before vs
+
+-- an open container has these keys and values
+abbrev pub IsFrame : Store → Frame → List Span → List Node → Type 0
+IsFrame s (in_array ts) ks vs = (ks ≡ []) × Are s (items_of ts) vs
+IsFrame s (at_key ms) ks vs = Gathers s ms ks vs
+IsFrame s (at_value ms k) ks vs = Awaits s ms k ks vs
+
+-- what waits: the places where the open containers begin, keys and values
+pub record Waiting : Type 0 where
+  pub places : List Place
+  pub keys : List Span
+  pub values : List Node
+
+-- the last of what waits belongs to the innermost container
+pub record Splits (all outer : Waiting) (ks : List Span) (vs : List Node) : Type 0 where
+  pub place : Place
+  pub places : all.places ≡ outer.places ++ (place ∷ [])
+  pub keys : all.keys ≡ outer.keys ++ ks
+  pub values : all.values ≡ outer.values ++ vs
+  pub first_key : place.keys ≡ length outer.keys
+  pub first_value : place.values ≡ length outer.values
+
+abbrev pub HoldsIn : Store → Waiting → List Frame → Type 0
+HoldsIn s w [] = (w.places ≡ []) × (w.keys ≡ []) × (w.values ≡ [])
+HoldsIn s w (f ∷ fs) =
+    (outer : Waiting) × (ks : List Span) × (vs : List Node) × Splits w outer ks vs × IsFrame s f ks vs × HoldsIn s outer fs
+
+abbrev pub waiting_in : Arena → Waiting
+waiting_in a = record { places = a.open.items; keys = a.keys.items; values = a.values.items }
+
+-- the arena stands for these open containers, the innermost first
+abbrev pub Holds : Arena → List Frame → Type 0
+Holds a fs = HoldsIn a.store (waiting_in a) fs
+
+-- the arena stands for the tree: no container is open
+abbrev pub IsTree : Arena → Tree → Type 0
+IsTree a t = (n : Node) × (a.values.items ≡ n ∷ []) × Is a.store t n
+
+-- the tree is put where it belongs; an object that awaits a key takes none
+abbrev pub Puts : List Frame → Tree → Arena → Type 0
+Puts [] t a = IsTree a t
+Puts (in_array ts ∷ fs) t a = Holds a (in_array (ts ++ t ∷ []) ∷ fs)
+Puts (at_value ms k ∷ fs) t a = Holds a (at_key (put k t ms) ∷ fs)
+Puts (at_key ms ∷ fs) t a = ⊤

@@ -1,0 +1,4 @@
+-- Which tree a node stands for.
+pub mod Node
+-- For which open containers an arena stands.
+pub mod Holding

@@ -1,0 +1,107 @@
+//! The arena, and the events that it is built by.
+ghost use Rattle.std.specs.Prelude.{List, [], ◌∷◌, OnOk};
+ghost use Rattle.std.specs.Str.{chars};
+ghost use Rattle.tinyjson_grammar.specs.Machine.{Frame, in_array};
+ghost use Rattle.tinyjson_grammar.specs.Tree.{Tree, null, boolean as boolean_tree, number as number_tree};
+ghost use Rattle.tinyjson_grammar.specs.Tree.{string as string_tree, array, object, items_of};
+ghost use Rattle.tinyjson_normal.specs.Holding.{Holds, Puts};
+
+use crate::store::{Node, Span, Store};
+use std::alloc::{AllocError, Global};
+use tinyjson_number::JsonNumber;
+
+/// Where the keys and the values of an open container begin among those that wait.
+#[derive(Clone, Copy)]
+pub(crate) struct Place {
+    pub(crate) keys: usize,
+    pub(crate) values: usize,
+}
+
+/// A value that is built by the events of a text: values and keys wait until their container is closed.
+#[derive(Drop)]
+pub struct Arena {
+    pub(crate) store: Store,
+    pub(crate) open: Vec<Place>,
+    pub(crate) keys: Vec<Span>,
+    pub(crate) values: Vec<Node>,
+}
+
+impl Arena {
+    /// An arena in which no container is open and no value stands.
+    pub fn new(alloc: Global) -> Self
+        ensures { Holds result [] }
+    {
+        Arena {
+            store: Store::new(alloc),
+            open: Vec::new(alloc),
+            keys: Vec::new(alloc),
+            values: Vec::new(alloc),
+        }
+    }
+
+    /// Puts the literal `null`.
+    pub fn null(&mut self) -> Result<(), AllocError>
+        ensures { (fs : List Frame) → Holds self.old fs → OnOk result (Puts fs null self.new) }
+    {
+        self.values.push(Node::Null)?;
+        Ok(())
+    }
+
+    /// Puts the literal `true` or `false`.
+    pub fn boolean(&mut self, value: bool) -> Result<(), AllocError>
+        ensures { (fs : List Frame) → Holds self.old fs →
+            OnOk result (Puts fs (boolean_tree value) self.new) }
+    {
+        self.values.push(Node::Boolean(value))?;
+        Ok(())
+    }
+
+    /// Puts a number.
+    pub fn number(&mut self, number: JsonNumber) -> Result<(), AllocError>
+        ensures { (fs : List Frame) → Holds self.old fs →
+            OnOk result (Puts fs (number_tree number.decimal) self.new) }
+    {
+        let index = self.store.add_number(number)?;
+        self.values.push(Node::Number(index))?;
+        Ok(())
+    }
+
+    /// Puts a string of these characters.
+    pub fn string(&mut self, text: &str) -> Result<(), AllocError>
+        ensures { (fs : List Frame) → Holds self.old fs →
+            OnOk result (Puts fs (string_tree (chars text.now)) self.new) }
+    {
+        let span = self.store.add_text(text)?;
+        self.values.push(Node::String(span))?;
+        Ok(())
+    }
+
+    /// Opens an array.
+    pub fn open_array(&mut self) -> Result<(), AllocError>
+        ensures { (fs : List Frame) → Holds self.old fs →
+            OnOk result (Holds self.new (in_array [] ∷ fs)) }
+    {
+        self.open.push(Place {
+            keys: self.keys.len(),
+            values: self.values.len(),
+        })?;
+        Ok(())
+    }
+
+    /// Closes the innermost container, which is an array.
+    pub fn close_array(&mut self) -> Result<(), AllocError>
+        ensures { (ts : List Tree) (fs : List Frame) → Holds self.old (in_array ts ∷ fs) →
+            OnOk result (Puts fs (array (items_of ts)) self.new) }
+    {
+        let Some(place) = self.open.pop() else {
+            return Err(AllocError);
+        };
+        let Some(items) = self.values.get(place.values..) else {
+            return Err(AllocError);
+        };
+        let span = self.store.add_items(items)?;
+        self.values.truncate(place.values);
+        self.values.push(Node::Array(span))?;
+        Ok(())
+    }
+}

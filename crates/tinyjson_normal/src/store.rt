@@ -1,0 +1,89 @@
+//! Nodes, and what they stand on: vectors that only grow.
+ghost use Rattle.std.specs.Prelude.{IfOk, OnOk};
+ghost use Rattle.std.specs.Str.{chars};
+ghost use Rattle.tinyjson_normal.specs.Node.{IsRun, IsText, IsNumberAt, Grows};
+
+use std::alloc::{AllocError, Global};
+use tinyjson_number::JsonNumber;
+
+/// The places of a vector from `from` up to `to`.
+#[derive(Clone, Copy)]
+pub(crate) struct Span {
+    pub(crate) from: usize,
+    pub(crate) to: usize,
+}
+
+/// A value. Its text, its number, its items or its members stand in the store.
+#[derive(Clone, Copy)]
+pub(crate) enum Node {
+    Null,
+    Boolean(bool),
+    Number(usize),
+    String(Span),
+    Array(Span),
+    Object(Span),
+}
+
+/// A member of an object. Its key is a run of the texts.
+#[derive(Clone, Copy)]
+pub(crate) struct Member {
+    pub(crate) key: Span,
+    pub(crate) value: Node,
+}
+
+/// What nodes stand on. A node stays what it is while the vectors grow.
+#[derive(Drop)]
+pub(crate) struct Store {
+    /// The characters of strings and keys, in UTF-8.
+    pub(crate) texts: Vec<u8>,
+    pub(crate) numbers: Vec<JsonNumber>,
+    pub(crate) items: Vec<Node>,
+    pub(crate) members: Vec<Member>,
+}
+
+impl Store {
+    pub(crate) fn new(alloc: Global) -> Self {
+        Store {
+            texts: Vec::new(alloc),
+            numbers: Vec::new(alloc),
+            items: Vec::new(alloc),
+            members: Vec::new(alloc),
+        }
+    }
+
+    /// Appends the characters.
+    pub(crate) fn add_text(&mut self, text: &str) -> Result<Span, AllocError>
+        ensures text { IfOk result (IsText self.new (chars text.now)) }
+        ensures grows { OnOk result (Grows self.old self.new) }
+    {
+        let from = self.texts.len();
+        self.texts.extend_from_slice(text.as_bytes())?;
+        Ok(Span {
+            from,
+            to: self.texts.len(),
+        })
+    }
+
+    /// Appends the number.
+    pub(crate) fn add_number(&mut self, number: JsonNumber) -> Result<usize, AllocError>
+        ensures number { IfOk result (IsNumberAt self.new number.decimal) }
+        ensures grows { OnOk result (Grows self.old self.new) }
+    {
+        let index = self.numbers.len();
+        self.numbers.push(number)?;
+        Ok(index)
+    }
+
+    /// Appends the items of an array.
+    pub(crate) fn add_items(&mut self, items: &[Node]) -> Result<Span, AllocError>
+        ensures items { IfOk result (λ span. IsRun self.new.items.items span items.now) }
+        ensures grows { OnOk result (Grows self.old self.new) }
+    {
+        let from = self.items.len();
+        self.items.extend_from_slice(items)?;
+        Ok(Span {
+            from,
+            to: self.items.len(),
+        })
+    }
+}
