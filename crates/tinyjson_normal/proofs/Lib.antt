@@ -4,3 +4,7 @@ pub mod Growing
 pub mod Waiting
 -- Slices up to the end.
 pub mod Slices
+-- The order of members.
+pub mod Order
+-- What a sorted object keeps.
+pub mod Gathered

@@ -1,17 +1,33 @@
 -- What waits, when a value comes or a container is closed.
 use Rattle.std.proofs.Common.{◌≡◌, ℕ, List, [], ◌∷◌, ◌++◌, length, take, drop, refl, sym, ◌∙◌, ap, subst, append_assoc, append-nil}
 use Rattle.std.proofs.lemmas.List.{take_at, drop_at, same_from_push}
-use Rattle.tinyjson_grammar.specs.Tree.{Tree, array, items_of, Members, no_members, put}
+use Rattle.tinyjson_grammar.specs.Tree.{Tree, array, object, items_of, Members, no_members, put}
 use Rattle.tinyjson_grammar.specs.Machine.{Frame, in_array, at_key, at_value}
-use Rattle.tinyjson_normal.specs.Node.{IsRun, IsText, Is, Are, Grows}
-use Rattle.tinyjson_normal.specs.Holding.{Entry, put_all, AreEntries, Gathers, IsFrame, Waiting, Splits, HoldsIn, waiting_in, Holds, Puts}
+use Rattle.tinyjson_normal.specs.Node.{IsRun, IsText, Is, Are, AreMembers, Grows}
+use Rattle.tinyjson_normal.specs.Holding.{
+  Entry,
+  put_all,
+  AreEntries,
+  Gathers,
+  IsFrame,
+  Waiting,
+  Splits,
+  HoldsIn,
+  waiting_in,
+  Holds,
+  Puts,
+}
 use Rattle.tinyjson_normal.specs.declared.store.Span.{Span}
 use Rattle.tinyjson_normal.specs.declared.store.Node.{Node}
 use Rattle.tinyjson_normal.specs.declared.store.Node.TheVariants as node
 use Rattle.tinyjson_normal.specs.declared.store.Store.{Store}
 use Rattle.tinyjson_normal.specs.declared.arena.Place.{Place}
 use Rattle.tinyjson_normal.specs.declared.arena.Arena.{Arena}
-use Rattle.tinyjson_normal.proofs.Growing.{is_still, are_still, text_stays, grows_none}
+use Rattle.std.specs.List.Sorted.{IsPermutation, IsSortedBy, IsStableBy}
+use Rattle.tinyjson_normal.specs.Order.{key_lt, paired, lasts}
+use Rattle.tinyjson_normal.specs.declared.store.Member.{Member}
+use Rattle.tinyjson_normal.proofs.Growing.{is_still, are_still, members_still, text_stays, grows_none}
+use Rattle.tinyjson_normal.proofs.Gathered.{gathered}
 
 -- ---- one more item, one more entry
 
@@ -151,7 +167,8 @@ innermost w outer ks vs place places h e =
     record { others = same.0; own_keys = k.0; own_values = v.0; outer_keys = k.1; outer_values = v.1 }
 
 -- an array is closed: what it had waits no more, and its items are in the store
-pub closes_array : (a b : Arena) (ts : List Tree) (fs : List Frame) (p : Span) (place : Place) (places : List Place) (ns kept : List Node)
+pub closes_array : (a b : Arena) (ts : List Tree) (fs : List Frame) (p : Span) (place : Place) (places : List Place)
+    (ns kept : List Node)
     → Holds a (in_array ts ∷ fs) → a.open.items ≡ places ++ place ∷ [] → ns ≡ drop place.values a.values.items
     → kept ≡ take place.values a.values.items
     → Grows a.store b.store → IsRun b.store.items.items p ns
@@ -169,3 +186,65 @@ closes_array a b ts fs p place places ns kept h o e ekept g run eo ek ev =
       values = (ev ∙ ap (λ z. z ++ node.Array p ∷ []) (ekept
           ∙ inner.outer_values)) x;
     })
+
+-- an object is closed: its members are in the store, in order
+pub closes_object : (a b : Arena) (ms : Members) (fs : List Frame) (p : Span) (place : Place) (places : List Place)
+    (ks keys : List Span) (vs values : List Node) (ns : List Member)
+    → Holds a (at_key ms ∷ fs) → a.open.items ≡ places ++ place ∷ []
+    → ks ≡ drop place.keys a.keys.items → keys ≡ take place.keys a.keys.items
+    → vs ≡ drop place.values a.values.items → values ≡ take place.values a.values.items
+    → IsPermutation (paired ks vs) ns → IsSortedBy (key_lt a.store.texts.items) ns
+    → IsStableBy (key_lt a.store.texts.items) (paired ks vs) ns
+    → Grows a.store b.store → IsRun b.store.members.items p (lasts a.store.texts.items ns)
+    → b.open.items ≡ places → b.keys.items ≡ keys → b.values.items ≡ values ++ node.Object p ∷ []
+    → Puts fs (object ms) b
+closes_object a b ms fs p place places ks keys vs values ns h o dk tk dv tv permuted sorted stable g run eo ek ev =
+    let inner = innermost (waiting_in a) h.0 h.1 h.2 place places h.3 o in
+    let waiting : AreEntries a.store h.4.entries ks vs =
+    subst (λ z. AreEntries a.store h.4.entries z vs) (sym (dk
+    ∙ inner.own_keys)) (subst (AreEntries a.store h.4.entries h.1) (sym (dv ∙ inner.own_values)) h.4.waiting) in
+    let are = members_still a.store b.store (put_all no_members h.4.entries) (lasts a.store.texts.items ns) g
+    (gathered a.store h.4.entries ks vs ns waiting permuted sorted stable) in
+    puts_in b.store h.0 fs (object ms) (node.Object p) b (holds_still a.store b.store h.0 fs g h.5) (
+      p,
+      refl,
+      lasts a.store.texts.items ns,
+      run,
+      subst (λ z. AreMembers b.store z (lasts a.store.texts.items ns))
+          (sym h.4.members) are,
+    ) refl
+    (λ x. record {
+      places = (eo ∙ sym inner.others) x;
+      keys = (ek ∙ tk ∙ inner.outer_keys) x;
+      values = (ev
+          ∙ ap (λ z. z ++ node.Object p ∷ []) (tv ∙ inner.outer_values)) x;
+    })
+
+-- a key comes
+pub awaits_value : (a b : Arena) (ms : Members) (fs : List Frame) (k : List ℕ) (p : Span) → Holds a (at_key ms ∷ fs)
+    → Grows a.store b.store → IsText b.store k p
+    → b.open.items ≡ a.open.items → b.keys.items ≡ a.keys.items ++ p ∷ [] → b.values.items ≡ a.values.items
+    → Holds b (at_value ms k ∷ fs)
+awaits_value a b ms fs k p h g text eo ek ev =
+    let split : Splits (waiting_in b) h.0 (h.1 ++ p ∷ []) h.2 = record {
+      place = h.3.place;
+      places = eo ∙ h.3.places;
+      keys = ek ∙ ap (λ z. z ++ p ∷ []) h.3.keys ∙ append_assoc h.0.keys h.1 (p ∷ []);
+      values = ev ∙ h.3.values;
+      first_key = h.3.first_key;
+      first_value = h.3.first_value;
+    } in (
+      h.0,
+      h.1 ++ p ∷ [],
+      h.2,
+      split,
+      record {
+        before = h.1;
+        key = p;
+        keys = refl;
+        text = text;
+        gathered =
+            gathers_still a.store b.store ms h.1 h.2 g h.4;
+      },
+      holds_still a.store b.store h.0 fs g h.5,
+    )

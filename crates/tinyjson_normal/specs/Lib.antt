@@ -2,3 +2,5 @@
 pub mod Node
 -- For which open containers an arena stands.
 pub mod Holding
+-- The order of members.
+pub mod Order

@@ -1,12 +1,14 @@
 //! The arena, and the events that it is built by.
 ghost use Rattle.std.specs.Prelude.{List, [], ◌∷◌, OnOk};
 ghost use Rattle.std.specs.Str.{chars};
-ghost use Rattle.tinyjson_grammar.specs.Machine.{Frame, in_array};
+ghost use Rattle.tinyjson_grammar.specs.Machine.{Frame, in_array, at_key, at_value};
 ghost use Rattle.tinyjson_grammar.specs.Tree.{Tree, null, boolean as boolean_tree, number as number_tree};
 ghost use Rattle.tinyjson_grammar.specs.Tree.{string as string_tree, array, object, items_of};
+ghost use Rattle.tinyjson_grammar.specs.Tree.{Members, no_members};
 ghost use Rattle.tinyjson_normal.specs.Holding.{Holds, Puts};
 
-use crate::store::{Node, Span, Store};
+use crate::sorting::{pair, sort};
+use crate::store::{Member, Node, Span, Store};
 use std::alloc::{AllocError, Global};
 use tinyjson_number::JsonNumber;
 
@@ -24,6 +26,8 @@ pub struct Arena {
     pub(crate) open: Vec<Place>,
     pub(crate) keys: Vec<Span>,
     pub(crate) values: Vec<Node>,
+    /// The members of the object that is being closed.
+    sorted: Vec<Member>,
 }
 
 impl Arena {
@@ -36,6 +40,7 @@ impl Arena {
             open: Vec::new(alloc),
             keys: Vec::new(alloc),
             values: Vec::new(alloc),
+            sorted: Vec::new(alloc),
         }
     }
 
@@ -102,6 +107,52 @@ impl Arena {
         let span = self.store.add_items(items)?;
         self.values.truncate(place.values);
         self.values.push(Node::Array(span))?;
+        Ok(())
+    }
+
+    /// Opens an object.
+    pub fn open_object(&mut self) -> Result<(), AllocError>
+        ensures { (fs : List Frame) → Holds self.old fs →
+            OnOk result (Holds self.new (at_key no_members ∷ fs)) }
+    {
+        self.open.push(Place {
+            keys: self.keys.len(),
+            values: self.values.len(),
+        })?;
+        Ok(())
+    }
+
+    /// Gives the innermost container, which is an object that awaits a key, a key of these characters.
+    pub fn key(&mut self, key: &str) -> Result<(), AllocError>
+        ensures { (ms : Members) (fs : List Frame) → Holds self.old (at_key ms ∷ fs) →
+            OnOk result (Holds self.new (at_value ms (chars key.now) ∷ fs)) }
+    {
+        let span = self.store.add_text(key)?;
+        self.keys.push(span)?;
+        Ok(())
+    }
+
+    /// Closes the innermost container, which is an object that awaits a key. Its members are sorted by
+    /// their keys; of equal keys the last stays.
+    pub fn close_object(&mut self) -> Result<(), AllocError>
+        ensures { (ms : Members) (fs : List Frame) → Holds self.old (at_key ms ∷ fs) →
+            OnOk result (Puts fs (object ms) self.new) }
+    {
+        let Some(place) = self.open.pop() else {
+            return Err(AllocError);
+        };
+        let Some(keys) = self.keys.get(place.keys..) else {
+            return Err(AllocError);
+        };
+        let Some(values) = self.values.get(place.values..) else {
+            return Err(AllocError);
+        };
+        pair(&mut self.sorted, keys, values)?;
+        sort(&self.store.texts, &mut self.sorted)?;
+        let span = self.store.add_members(&self.sorted)?;
+        self.keys.truncate(place.keys);
+        self.values.truncate(place.values);
+        self.values.push(Node::Object(span))?;
         Ok(())
     }
 }

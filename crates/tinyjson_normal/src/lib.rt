@@ -5,6 +5,7 @@
 #![tactic(auto)]
 
 mod arena;
+mod sorting;
 mod store;
 #[cfg(test)]
 mod tests;

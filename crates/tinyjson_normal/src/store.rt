@@ -2,7 +2,9 @@
 ghost use Rattle.std.specs.Prelude.{IfOk, OnOk};
 ghost use Rattle.std.specs.Str.{chars};
 ghost use Rattle.tinyjson_normal.specs.Node.{IsRun, IsText, IsNumberAt, Grows};
+ghost use Rattle.tinyjson_normal.specs.Order.{lasts};
 
+use crate::sorting::push_lasts;
 use std::alloc::{AllocError, Global};
 use tinyjson_number::JsonNumber;
 
@@ -84,6 +86,20 @@ impl Store {
         Ok(Span {
             from,
             to: self.items.len(),
+        })
+    }
+
+    /// Appends the members of an object, which are sorted: of those with one key the last.
+    pub(crate) fn add_members(&mut self, sorted: &[Member]) -> Result<Span, AllocError>
+        ensures members { IfOk result (λ span. IsRun self.new.members.items span
+            (lasts self.old.texts.items sorted.now)) }
+        ensures grows { OnOk result (Grows self.old self.new) }
+    {
+        let from = self.members.len();
+        push_lasts(&self.texts, &mut self.members, sorted)?;
+        Ok(Span {
+            from,
+            to: self.members.len(),
         })
     }
 }

@@ -1,0 +1,37 @@
+-- Members in the order of their keys, of equal keys the last. For private contracts.
+use Rattle.std.specs.Prelude.{ℕ, Bool, false, cond, min, List, [], ◌∷◌, length}
+use Rattle.std.specs.List.{slice_range}
+use Rattle.std.specs.Str.{bytes_eq}
+use Rattle.std.specs.Cmp.Lexicographic.{slice_cmp}
+use Rattle.std.specs.Ordering.{nat_cmp, is_lt}
+use Rattle.tinyjson_normal.specs.declared.store.Span.{Span}
+use Rattle.tinyjson_normal.specs.declared.store.Node.{Node}
+use Rattle.tinyjson_normal.specs.declared.store.Member.{Member}
+
+-- the bytes from the one place to the other, as far as there are any
+abbrev pub bytes_at : List ℕ → Span → List ℕ
+bytes_at xs p = slice_range xs (min p.from (min p.to (length xs))) (min p.to (length xs))
+
+-- the key of a member
+abbrev pub key_in : List ℕ → Member → List ℕ
+key_in xs m = bytes_at xs m.key
+
+-- the key of the one member is below that of the other
+abbrev pub key_lt : List ℕ → Member → Member → Bool
+key_lt xs m n = is_lt (slice_cmp nat_cmp (key_in xs m) (key_in xs n))
+
+-- each key with its value
+abbrev pub paired : List Span → List Node → List Member
+paired [] vs = []
+paired (k ∷ ks) [] = []
+paired (k ∷ ks) (v ∷ vs) = record { key = k; value = v } ∷ paired ks vs
+
+-- the first of the members has that key
+abbrev pub comes_again : List ℕ → Member → List Member → Bool
+comes_again xs m [] = false
+comes_again xs m (n ∷ ns) = bytes_eq (key_in xs m) (key_in xs n)
+
+-- of neighbours with one key the last
+abbrev pub lasts : List ℕ → List Member → List Member
+lasts xs [] = []
+lasts xs (m ∷ ms) = cond (comes_again xs m ms) (lasts xs ms) (m ∷ lasts xs ms)

@@ -1,0 +1,88 @@
+//! The members of an object in the order of their keys.
+ghost use Rattle.std.specs.Prelude.{◌≡◌, ◌++◌, ◌∷◌, [], cond, OnOk};
+ghost use Rattle.std.specs.List.Sorted.{IsPermutation, IsSortedBy, IsStableBy};
+ghost use Rattle.tinyjson_normal.specs.Order.{bytes_at, comes_again, key_lt, lasts, paired};
+
+use crate::store::{Member, Node, Span};
+use std::alloc::AllocError;
+
+/// The bytes of a run of the texts, as far as there are any.
+pub(crate) fn bytes_at(texts: &[u8], span: Span) -> &[u8]
+    ensures { result.now ≡ bytes_at texts.now span }
+{
+    let to = span.to.min(texts.len());
+    let from = span.from.min(to);
+    &texts[from..to]
+}
+
+/// Makes a member of each key and its value.
+pub(crate) fn pair(
+    members: &mut Vec<Member>,
+    keys: &[Span],
+    values: &[Node],
+) -> Result<(), AllocError>
+    ensures { OnOk result (members.new.items ≡ paired keys.now values.now) }
+{
+    members.clear();
+    let count = keys.len().min(values.len());
+    members.reserve(count)?;
+    for i in 0..count {
+        members.push(Member {
+            key: keys[i],
+            value: values[i],
+        })?;
+    }
+    Ok(())
+}
+
+/// Sorts the members by the bytes of their keys. Those of equal keys stay in their order.
+pub(crate) fn sort(texts: &[u8], members: &mut Vec<Member>) -> Result<(), AllocError>
+    ensures permutation { IsPermutation members.old.items members.new.items }
+    ensures sorted { OnOk result (IsSortedBy (key_lt texts.now) members.new.items) }
+    ensures stable { IsStableBy (key_lt texts.now) members.old.items members.new.items }
+{
+    members.sort_by(|a, b| bytes_at(texts, a.key).cmp(bytes_at(texts, b.key)))?;
+    Ok(())
+}
+
+/// Pushes the sorted members, of those with one key the last.
+pub(crate) fn push_lasts(
+    texts: &[u8],
+    members: &mut Vec<Member>,
+    sorted: &[Member],
+) -> Result<(), AllocError>
+    ensures { OnOk result (members.new.items ≡ members.old.items ++ lasts texts.now sorted.now) }
+{
+    let mut rest = sorted;
+    while let Some((member, others)) = rest.split_first() {
+        push_last(texts, members, *member, others)?;
+        rest = others;
+    }
+    Ok(())
+}
+
+/// Pushes a member, unless its key comes again.
+fn push_last(
+    texts: &[u8],
+    members: &mut Vec<Member>,
+    member: Member,
+    others: &[Member],
+) -> Result<(), AllocError>
+    ensures { OnOk result (members.new.items ≡ members.old.items
+        ++ cond (comes_again texts.now member others.now) [] (member ∷ [])) }
+{
+    if !comes_again(texts, member, others) {
+        members.push(member)?;
+    }
+    Ok(())
+}
+
+/// Whether the first of the others has the key of this member.
+fn comes_again(texts: &[u8], member: Member, others: &[Member]) -> bool
+    ensures { result ≡ comes_again texts.now member others.now }
+{
+    match others.first() {
+        Some(next) => bytes_at(texts, member.key) == bytes_at(texts, next.key),
+        None => false,
+    }
+}
