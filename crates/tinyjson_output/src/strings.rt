@@ -1,12 +1,13 @@
 //! Quoted strings.
-ghost use Rattle.std.specs.Prelude.{◌≡◌, ◌<◌, ◌/◌, ◌%◌, ◌++◌, ◌∷◌, [], MatchOption, codes};
+ghost use Rattle.std.specs.Prelude.{◌≡◌, ◌<◌, ◌≤◌, ◌/◌, ◌%◌, ◌++◌, ◌∷◌, [], IsTrue, MatchOption, codes, length};
+ghost use Rattle.std.specs.Bool.{MatchBool};
 ghost use Rattle.std.specs.Char.{digit_char};
 ghost use Rattle.std.specs.List.{prefix_len};
 ghost use Rattle.std.specs.Str.{chars};
 ghost use Rattle.tinyjson_grammar.specs.Characters.{reverse_solidus};
 ghost use Rattle.tinyjson_bytes.specs.Scan.{is_plain};
 ghost use Rattle.tinyjson_grammar.specs.Text.{escape, escapes, quoted, IsEscaped};
-ghost use Rattle.tinyjson_output.specs.Buffer.{Sends, SendsText};
+ghost use Rattle.tinyjson_output.specs.Buffer.{buffered, Buffers, Sends, SendsText};
 
 use crate::buffer::{Buffer, write_bytes};
 use std::io::{self, Write};
@@ -34,7 +35,7 @@ fn write_escaped<W: Write>(out: &mut W, buffer: &mut Buffer, bytes: &[u8]) -> io
     write_stopped(out, buffer, &bytes[stop..])
 }
 
-/// Writes an escape, and the bytes up to the next one in one piece.
+/// Writes escapes that stand side by side, and the bytes up to the next one in one piece.
 #[inline(never)]
 fn write_stopped<W: Write>(out: &mut W, buffer: &mut Buffer, bytes: &[u8]) -> io::Result<()>
     requires { prefix_len is_plain bytes.now ≡ 0 }
@@ -43,9 +44,10 @@ fn write_stopped<W: Write>(out: &mut W, buffer: &mut Buffer, bytes: &[u8]) -> io
     let mut rest = bytes;
     while let Some((byte, after)) = rest.split_first() {
         write_escape(out, buffer, *byte)?;
-        let stop = plain_end(after, 0);
-        write_bytes(out, buffer, &after[..stop])?;
-        rest = &after[stop..];
+        let others = append_escapes(buffer, after);
+        let stop = plain_end(others, 0);
+        write_bytes(out, buffer, &others[..stop])?;
+        rest = &others[stop..];
     }
     Ok(())
 }
@@ -56,19 +58,64 @@ fn write_escape<W: Write>(out: &mut W, buffer: &mut Buffer, byte: u8) -> io::Res
 {
     match escape_letter(byte) {
         Some(letter) => write_bytes(out, buffer, &[b'\\', letter]),
-        None => write_bytes(
-            out,
-            buffer,
-            &[
-                b'\\',
-                b'u',
-                b'0',
-                b'0',
-                hex_digit(byte / 16),
-                hex_digit(byte % 16),
-            ],
-        ),
+        None => write_bytes(out, buffer, &long_escape(byte)),
     }
+}
+
+/// Appends the escapes at the front to the buffer, as far as they fit, and returns the bytes after them.
+#[inline(always)]
+fn append_escapes<'a>(buffer: &mut Buffer, bytes: &'a [u8]) -> &'a [u8]
+    ensures buffers { Buffers (buffered buffer.old) (buffered buffer.new) (escapes bytes.now)
+        (escapes result.now) }
+    ensures less { length result.now ≤ length bytes.now }
+{
+    let mut rest = bytes;
+    while let Some((byte, after)) = rest.split_first() {
+        if !append_escape(buffer, *byte) {
+            return rest;
+        }
+        rest = after;
+    }
+    rest
+}
+
+/// Appends the escape of a byte that needs one if it fits, and returns whether it did.
+#[inline(always)]
+fn append_escape(buffer: &mut Buffer, byte: u8) -> bool
+    ensures { MatchBool result (buffered buffer.new ≡ buffered buffer.old ++ escape byte)
+        (buffered buffer.new ≡ buffered buffer.old) }
+{
+    if !is_escaped(byte) || !buffer.fits(6) {
+        return false;
+    }
+    match escape_letter(byte) {
+        Some(letter) => buffer.append(&[b'\\', letter]),
+        None => buffer.append(&long_escape(byte)),
+    }
+    true
+}
+
+/// Whether the byte does not stand as it is.
+#[inline(always)]
+fn is_escaped(byte: u8) -> bool
+    ensures { IsTrue result → IsEscaped byte }
+{
+    byte < b' ' || byte == b'"' || byte == b'\\'
+}
+
+/// The escape of a control character that has no short one.
+#[inline(always)]
+fn long_escape(byte: u8) -> [u8; 6]
+    ensures { result ≡ codes "\\u00" ++ digit_char (byte / 16) ∷ digit_char (byte % 16) ∷ [] }
+{
+    [
+        b'\\',
+        b'u',
+        b'0',
+        b'0',
+        hex_digit(byte / 16),
+        hex_digit(byte % 16),
+    ]
 }
 
 /// The letter after the backslash of a short escape. Those of control characters are looked up in a
