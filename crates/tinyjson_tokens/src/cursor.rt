@@ -39,7 +39,7 @@ where
 }
 
 /// The line and the column after a character.
-pub(crate) fn advance(line: usize, column: usize, c: char) -> (usize, usize)
+fn advance(line: usize, column: usize, c: char) -> (usize, usize)
     ensures { position_at result.0 result.1 ≡ advance (position_at line column) (c ∷ []) }
 {
     if c == '\n' {

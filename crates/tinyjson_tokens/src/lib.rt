@@ -8,6 +8,7 @@
 mod cursor;
 mod escape;
 mod number;
+mod place;
 mod reader;
 mod source;
 mod string;

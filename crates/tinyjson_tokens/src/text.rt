@@ -8,7 +8,7 @@ ghost use Rattle.tinyjson_tokens.specs.Slice.{before, chars_after, run_end, Next
 ghost use Rattle.tinyjson_tokens.specs.Slice.Laws.{line_bound, column_bound, shown_once};
 ghost use Rattle.tinyjson_tokens.specs.Slice.Laws.{shown_first, nothing_left};
 
-use crate::cursor::advance;
+use crate::place::place_after;
 use crate::source::Source;
 use crate::utf16::push;
 use std::alloc::{AllocError, Global};
@@ -178,12 +178,7 @@ impl<'a> Source for TextBytes<'a> {
     }
 
     fn position(&self) -> (usize, usize) {
-        let mut line = 1;
-        let mut column = 0;
-        for c in self.text[..self.at].chars() {
-            (line, column) = advance(line, column, c);
-        }
-        (line, column)
+        place_after(&self.text[..self.at])
     }
 }
 
