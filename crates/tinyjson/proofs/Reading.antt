@@ -5,3 +5,4 @@ pub mod Stack
 pub mod Members
 pub mod Cursors
 pub mod Memory
+pub mod Loop

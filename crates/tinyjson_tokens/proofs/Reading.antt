@@ -4,4 +4,5 @@ pub mod Number
 pub mod NumberParts
 pub mod Numerals
 pub mod Steps
+pub mod Begins
 pub mod Escape

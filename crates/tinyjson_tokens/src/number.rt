@@ -32,10 +32,44 @@ struct Marks {
 }
 
 impl<S: Tokens> TokenReader<S> {
+    /// Reads the number whose first character, a minus sign or a digit, comes next.
+    #[inline(always)]
+    pub fn number(&mut self) -> Result<JsonNumber, JsonParseErrorKind>
+        requires begins { BeginsNumber S.sight self.old.source }
+        ensures reads { (limit : Option ℕ) (fs : List Frame) →
+            Reads S.sight limit self.old.source (next fs awaited) result
+            (λ n. complete true fs (number n.decimal) true) self.new.source }
+        ensures left { OnOk result (S.left self.new.source < S.left self.old.source) }
+    {
+        if let Some((parts, after)) = self.source.numeral() {
+            if let Ok(number) = JsonNumber::from_parts(self.alloc, parts) {
+                self.source = after;
+                return Ok(number);
+            }
+        }
+        self.long_number()
+    }
+
+    /// Reads the number by its exponent, or piece by piece.
+    #[inline(never)]
+    fn long_number(&mut self) -> Result<JsonNumber, JsonParseErrorKind>
+        requires begins { BeginsNumber S.sight self.old.source }
+        ensures reads { (limit : Option ℕ) (fs : List Frame) →
+            Reads S.sight limit self.old.source (next fs awaited) result
+            (λ n. complete true fs (number n.decimal) true) self.new.source }
+        ensures left { OnOk result (S.left self.new.source < S.left self.old.source) }
+    {
+        if let Some((number, after)) = self.source.scientific(self.alloc) {
+            self.source = after;
+            return Ok(number);
+        }
+        self.gathered_number()
+    }
+
     /// Reads the number by its parts, whose digits are gathered.
     #[inline(always)]
-    pub fn gathered_number(&mut self) -> Result<JsonNumber, JsonParseErrorKind>
-        requires { BeginsNumber S.sight self.old.source }
+    fn gathered_number(&mut self) -> Result<JsonNumber, JsonParseErrorKind>
+        requires begins { BeginsNumber S.sight self.old.source }
         ensures reads { (limit : Option ℕ) (fs : List Frame) →
             Reads S.sight limit self.old.source (next fs awaited) result
             (λ n. complete true fs (number n.decimal) true) self.new.source }

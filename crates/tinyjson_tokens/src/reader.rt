@@ -1,9 +1,14 @@
-//! The reader of tokens: what it holds, and the letters of a literal.
-ghost use Rattle.std.specs.Prelude.{◌≡◌, ℕ, ◌≤◌, List, true, Option};
+//! The reader of tokens: what it holds, white space, literals, and strings from their opening quote on.
+ghost use Rattle.std.specs.Prelude.{◌≡◌, ℕ, ◌<◌, ◌≤◌, List, [], ◌∷◌, true, false, OnOk, IfSome};
+ghost use Rattle.std.specs.Prelude.{Option, Some};
 ghost use Rattle.std.specs.Str.{chars};
-ghost use Rattle.tinyjson_grammar.specs.Machine.{Frame, complete};
-ghost use Rattle.tinyjson_grammar.specs.Tree.{Tree};
-ghost use Rattle.tinyjson_tokens.specs.Steps.{NeedsNone, Reads, letters_left};
+ghost use Rattle.tinyjson_grammar.specs.Characters.{is_white, quotation_mark, text};
+ghost use Rattle.tinyjson_grammar.specs.Machine.{Frame, awaited, complete, next};
+ghost use Rattle.tinyjson_grammar.specs.Position.{position_at};
+ghost use Rattle.tinyjson_grammar.specs.Tree.{Tree, string};
+ghost use Rattle.tinyjson_tokens.specs.Source.{Takes, Whites};
+ghost use Rattle.tinyjson_tokens.specs.Steps.{BeginsLiteral, NeedsNone, Reads, letters_left};
+ghost use Rattle.tinyjson_tokens.specs.Steps.{literal_tree};
 
 use crate::tokens::Tokens;
 use std::alloc::Global;
@@ -15,8 +20,8 @@ pub struct TokenReader<S>
 where
     S: Tokens,
 {
-    pub alloc: Global,
-    pub source: S,
+    pub(crate) alloc: Global,
+    pub(crate) source: S,
     /// The digits of the number that is being read.
     pub(crate) digit_buffer: String,
     /// The characters of a string that is read piece by piece, and the units after them.
@@ -38,22 +43,88 @@ impl<S: Tokens> TokenReader<S> {
         }
     }
 
-    /// Reads these letters.
+    /// Passes over white space, and shows what follows it.
     #[inline(always)]
-    pub fn letters(&mut self, letters: &str) -> Result<(), JsonParseErrorKind>
-        ensures reads { (limit : Option ℕ) (fs : List Frame) (t : Tree) →
-            Reads S.sight limit self.old.source (letters_left fs (chars letters.now) t) result
-            (λ _. complete true fs t true) self.new.source }
-        ensures memory { NeedsNone result }
+    pub fn skip_white(&mut self) -> Option<char>
+        ensures white { Whites S.sight self.old.source self.new.source }
+        ensures shows { S.sight.shows self.new.source result }
+        ensures stops { IfSome result (λ c. is_white c ≡ false) }
         ensures left { S.left self.new.source ≤ S.left self.old.source }
     {
-        if self.source.word(letters) {
-            return Ok(());
-        }
-        self.each_letter(letters)
+        self.source.skip_white()
     }
 
-    /// The same, one after the other.
+    /// Consumes the next character, which was shown.
+    #[inline(always)]
+    pub fn consume(&mut self, c: char)
+        requires shown { S.sight.shows self.old.source (Some c) }
+        ensures takes { Takes S.sight self.old.source (c ∷ []) self.new.source }
+        ensures left { S.left self.new.source < S.left self.old.source }
+    {
+        self.source.consume(c);
+    }
+
+    /// The line and the column after what was consumed.
+    pub fn position(&self) -> (usize, usize)
+        ensures { position_at result.0 result.1 ≡ S.sight.place self.now.source }
+    {
+        self.source.position()
+    }
+
+    /// Reads the string whose opening quote comes next.
+    #[inline(always)]
+    pub fn quoted_string(&mut self) -> Result<String, JsonParseErrorKind>
+        requires shown { S.sight.shows self.old.source (Some quotation_mark) }
+        ensures reads { (limit : Option ℕ) (fs : List Frame) →
+            Reads S.sight limit self.old.source (next fs awaited) result
+            (λ s. complete true fs (string (text s)) true) self.new.source }
+        ensures left { OnOk result (S.left self.new.source < S.left self.old.source) }
+    {
+        self.source.consume('"');
+        self.string()
+    }
+
+    /// Reads the literal that begins with this letter, which comes next: a boolean, or `None` for `null`.
+    #[inline(always)]
+    pub fn literal(&mut self, first: char) -> Result<Option<bool>, JsonParseErrorKind>
+        requires shown { S.sight.shows self.old.source (Some first) }
+        requires begins { BeginsLiteral first }
+        ensures reads { (limit : Option ℕ) (fs : List Frame) →
+            Reads S.sight limit self.old.source (next fs awaited) result
+            (λ v. complete true fs (literal_tree v) true) self.new.source }
+        ensures memory { NeedsNone result }
+        ensures left { OnOk result (S.left self.new.source < S.left self.old.source) }
+    {
+        self.source.consume(first);
+        match first {
+            'n' => self.letters("ull", None),
+            't' => self.letters("rue", Some(true)),
+            _ => self.letters("alse", Some(false)),
+        }
+    }
+
+    /// Reads the letters that are left of the literal that has this value.
+    #[inline(always)]
+    fn letters(
+        &mut self,
+        letters: &str,
+        value: Option<bool>,
+    ) -> Result<Option<bool>, JsonParseErrorKind>
+        ensures reads { (limit : Option ℕ) (fs : List Frame) →
+            Reads S.sight limit self.old.source
+            (letters_left fs (chars letters.now) (literal_tree value)) result
+            (λ v. complete true fs (literal_tree v) true) self.new.source }
+        ensures memory { NeedsNone result }
+        ensures left { OnOk result (S.left self.new.source ≤ S.left self.old.source) }
+    {
+        if self.source.word(letters) {
+            return Ok(value);
+        }
+        self.each_letter(letters)?;
+        Ok(value)
+    }
+
+    /// Reads these letters, one after the other.
     #[inline(never)]
     fn each_letter(&mut self, letters: &str) -> Result<(), JsonParseErrorKind>
         ensures reads { (limit : Option ℕ) (fs : List Frame) (t : Tree) →

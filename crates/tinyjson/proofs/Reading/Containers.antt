@@ -1,9 +1,7 @@
 -- Values and open containers, as the machine sees them.
-use Rattle.std.proofs.Common.{◌≡◌, ℕ, true, false, List, [], ◌∷◌, length, map, String, Global, Vec, Option, Some, None, IfSome, inl, inr}
-use Rattle.std.proofs.Common.{codes, refl, sym, ap, ◌∙◌}
+use Rattle.std.proofs.Common.{◌≡◌, ℕ, true, false, List, [], ◌∷◌, length, map, String, Global, Vec, Option, Some, None, IfSome}
+use Rattle.std.proofs.Common.{refl, sym, ap, ◌∙◌}
 use Rattle.std.proofs.lemmas.Bool.{ne_eqb}
-use Rattle.std.proofs.lemmas.Str.{chars-encodes}
-use Rattle.std.specs.Str.{chars}
 use Rattle.tinyjson_grammar.specs.Kind.{kind_of}
 use Rattle.tinyjson_grammar.specs.Tree.{Tree, items_of, Members, no_members, array, object, is_string}
 use Rattle.tinyjson.specs.Access.{JsonMap}
@@ -12,66 +10,14 @@ use Rattle.tinyjson.specs.declared.value.JsonValue.{JsonValue, out-JsonValue, ro
 use Rattle.tinyjson.specs.declared.value.JsonValue.TheOpen.{JsonValue-F}
 use Rattle.tinyjson.specs.declared.value.JsonValue.TheVariants as is
 use Rattle.tinyjson_grammar.specs.Characters.{is_white}
-use Rattle.tinyjson_grammar.specs.Machine.{step, fits, quoted, plain, Frame, in_array, at_key, at_value, colon, first, awaited, after, Next}
+use Rattle.tinyjson_grammar.specs.Machine.{step, fits, Frame, in_array, at_key, at_value, colon, first, awaited, after, Next}
 use Rattle.tinyjson_grammar.specs.Machine.{next, stop, complete}
 use Rattle.tinyjson_grammar.specs.declared.error.JsonParseErrorKind.TheVariants.{TooDeep, KeyNotString, ExpectedCommaOrBracket}
 use Rattle.tinyjson_grammar.specs.declared.error.JsonParseErrorKind.TheVariants.{ExpectedCommaOrBrace, ExpectedColon}
 use Rattle.tinyjson_tokens.specs.Source.{Sight, Takes}
-use Rattle.tinyjson_tokens.specs.Steps.{IsTaken, letters_left, onward, Leads}
-use Rattle.tinyjson.specs.private.Steps.{BeginsLiteral}
-use Rattle.tinyjson_tokens.proofs.Callers.{Leads_nil, Leads_one, Leads_to, Leads_shown, Leads_end, end_first, end_awaited}
+use Rattle.tinyjson_tokens.specs.Steps.{onward, Leads}
+use Rattle.tinyjson_tokens.proofs.Callers.{Leads_nil, Leads_one, Leads_shown, Leads_end, end_first, end_awaited}
 use Rattle.tinyjson.proofs.Values.View.{view_Null, view_Boolean, view_Number, view_Array, view_Object}
-
--- ---- the first character of a value
-
-null_begins : (limit : Option ℕ) (fs : List Frame) (c : ℕ) → c ≡ 110
-    → onward limit (next fs awaited) c ≡ letters_left fs (codes "ull") (view is.Null)
-unfolding step
-null_begins limit fs c e = rw (view_Null, e) refl
-
-true_begins : (limit : Option ℕ) (fs : List Frame) (c : ℕ) → c ≡ 116
-    → onward limit (next fs awaited) c ≡ letters_left fs (codes "rue") (view (is.Boolean true))
-unfolding step
-true_begins limit fs c e = rw (view_Boolean true, e) refl
-
-false_begins : (limit : Option ℕ) (fs : List Frame) (c : ℕ) → c ≡ 102
-    → onward limit (next fs awaited) c ≡ letters_left fs (codes "alse") (view (is.Boolean false))
-unfolding step
-false_begins limit fs c e = rw (view_Boolean false, e) refl
-
--- the first letter of a literal is taken
-module _ {S : Type 0} (sight : Sight S) (limit : Option ℕ) (p q : S) (fs : List Frame) (c : ℕ) where
-  begun : (word : List ℕ) (t : Tree) → chars word ≡ word → onward limit (next fs awaited) c ≡ letters_left fs word t
-      → IsTaken (letters_left fs word t) → Takes sight p (c ∷ []) q
-      → Leads sight limit p (next fs awaited) q (letters_left fs (chars word) t)
-  begun word t a e i k =
-      let l = Leads_one sight limit p p q c (Leads_nil sight limit p (next fs awaited)) k tt e i in
-      Leads_to sight limit p q l (ap (λ ls. letters_left fs ls t) (sym a))
-
-  pub Leads_null : c ≡ 110 → Takes sight p (c ∷ []) q
-      → Leads sight limit p (next fs awaited) q (letters_left fs (chars (codes "ull")) (view is.Null))
-  unfolding lib.Utf8.encode
-  Leads_null e = begun (codes "ull") (view is.Null) (chars-encodes (codes "ull") refl) (null_begins limit fs c e) tt
-
-  pub Leads_true : c ≡ 116 → Takes sight p (c ∷ []) q
-      → Leads sight limit p (next fs awaited) q (letters_left fs (chars (codes "rue")) (view (is.Boolean true)))
-  unfolding lib.Utf8.encode
-  Leads_true e = begun (codes "rue") (view (is.Boolean true)) (chars-encodes (codes "rue") refl) (true_begins limit fs c e) tt
-
-  pub Leads_false : c ≡ 102 → Takes sight p (c ∷ []) q
-      → Leads sight limit p (next fs awaited) q (letters_left fs (chars (codes "alse")) (view (is.Boolean false)))
-  unfolding lib.Utf8.encode
-  Leads_false e = begun (codes "alse") (view (is.Boolean false)) (chars-encodes (codes "alse") refl) (false_begins limit fs c e) tt
-
--- the letter that is left
-pub literal_false : (c : ℕ) → BeginsLiteral c → (c ≡ 110 → ⊥) → (c ≡ 116 → ⊥) → c ≡ 102
-literal_false c (inl e) n t = absurd (n e)
-literal_false c (inr (inl e)) n t = absurd (t e)
-literal_false c (inr (inr e)) n t = e
-
-pub string_begins : (limit : Option ℕ) (fs : List Frame) (c : ℕ) → c ≡ 34 → onward limit (next fs awaited) c ≡ next fs (quoted plain [] [])
-unfolding step
-string_begins limit fs c e = rw e refl
 
 -- ---- the limit on depth
 

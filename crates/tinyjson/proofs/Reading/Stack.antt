@@ -180,6 +180,9 @@ module _ (s : Stack) (w : HasComplete s) (n : ℕ) (os : List StackFrame) (i : o
   pub array_within : n ≤ length s.values.items
   array_within = omega (arith, array_size, array_lies.0)
 
+  pub array_sound : Lies (open_of s) (length s.values.items) (length s.keys.items)
+  array_sound = subst (λ ps. Lies ps (length s.values.items) (length s.keys.items)) (sym i) (array_within, array_lies.1)
+
   pub array_complete : at s Complete ≡ next (in_array (map view (drop n s.values.items)) ∷ frames_over os
       (take n s.values.items) s.keys.items (maps_of s)) after
   array_complete =

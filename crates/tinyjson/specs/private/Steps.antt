@@ -1,12 +1,14 @@
--- What the parser did with a whole text, and where it may need memory. For private contracts.
-use Rattle.std.specs.Prelude.{◌≡◌, ℕ, List, [], Option, Result, MatchResult, IsTrue, ◌⊎◌}
-use Rattle.tinyjson_grammar.specs.Characters.{letter_f, letter_n, letter_t}
-use Rattle.tinyjson_grammar.specs.Machine.{awaited, finished, next}
+-- What the parser did with a whole text or with a part of it, and where it may need memory. For private contracts.
+use Rattle.std.specs.Prelude.{◌≡◌, ℕ, List, [], Option, Result, MatchResult, IsTrue}
+use Rattle.tinyjson_grammar.specs.Machine.{awaited, finished, Next, next}
 use Rattle.tinyjson_grammar.specs.Refusal.{MayGrow, begins_growth}
 use Rattle.tinyjson_tokens.specs.Source.{Sight}
 use Rattle.tinyjson_tokens.specs.Steps.{Leads, Refuses}
 use Rattle.tinyjson.specs.Error.{error_position}
 use Rattle.tinyjson.specs.View.{view}
+use Rattle.tinyjson.specs.private.Stack.{IsSound, at}
+use Rattle.tinyjson.specs.declared.parser.stack.Progress.{Progress}
+use Rattle.tinyjson.specs.declared.parser.stack.Stack.{Stack}
 use Rattle.tinyjson.specs.declared.parser.error.JsonParseError.{JsonParseError}
 use Rattle.tinyjson.specs.declared.value.JsonValue.{JsonValue}
 use Rattle.tinyjson_grammar.specs.declared.error.JsonParseErrorKind.{JsonParseErrorKind}
@@ -17,6 +19,11 @@ abbrev pub ReadsText : {S : Type 0} → Sight S → Option ℕ → S → Result 
 ReadsText sight limit p r q = MatchResult r (λ v. Leads sight limit p (next [] awaited) q (next [] (finished (view v))))
     (λ e. (error_position e ≡ sight.place q) × Refuses sight limit p (next [] awaited) e.kind q)
 
+-- a part of a text: the machine went from n to where the stack stands, or it refuses, or there was no memory
+abbrev pub Continues : {S : Type 0} → Sight S → Option ℕ → S → Next → Result Progress JsonParseErrorKind → Stack → S → Type 0
+Continues sight limit p n r stack q = MatchResult r (λ v. Leads sight limit p n q (at stack v) × IsSound stack v)
+    (λ k. Refuses sight limit p n k q)
+
 -- what the source gives begins, after white space, with a string, a number or a container
 abbrev pub Grows : {S : Type 0} → Sight S → S → Type 0
 Grows sight p = (zs : List ℕ) → sight.gives p zs → MayGrow zs
@@ -24,7 +31,3 @@ Grows sight p = (zs : List ℕ) → sight.gives p zs → MayGrow zs
 -- a call that succeeded, or found no memory, began with a character that begins a string, a number or a container
 abbrev pub GrowsFor : {T : Type 0} → ℕ → Result T JsonParseErrorKind → Type 0
 GrowsFor c r = MatchResult r (λ _. IsTrue (begins_growth c)) (λ k. k ≡ OutOfMemory → IsTrue (begins_growth c))
-
--- a letter that begins a literal
-abbrev pub BeginsLiteral : ℕ → Type 0
-BeginsLiteral c = (c ≡ letter_n) ⊎ (c ≡ letter_t) ⊎ (c ≡ letter_f)

@@ -1,10 +1,10 @@
 //! Arrays and objects (RFC 8259, sections 4 and 5).
-ghost use Rattle.std.specs.Prelude.{◌≡◌, ◌<◌, ◌≤◌, true, false, OnOk, IfOk, Option, Some};
+ghost use Rattle.std.specs.Prelude.{◌≡◌, ◌<◌, ◌≤◌, true, OnOk, Option, Some};
 ghost use Rattle.std.specs.Prelude.{ℕ};
 ghost use Rattle.tinyjson_grammar.specs.Characters.{begin_array, begin_object};
 ghost use Rattle.tinyjson_grammar.specs.Machine.{awaited, colon, next, complete, fits};
 ghost use Rattle.tinyjson.specs.private.Stack.{at, frames, AwaitsKey, Innermost, IsSound};
-ghost use Rattle.tinyjson_tokens.specs.Steps.{Reads};
+ghost use Rattle.tinyjson.specs.private.Steps.{Continues};
 ghost use Rattle.tinyjson_grammar.specs.Tree.{number};
 ghost use Rattle.tinyjson.specs.View.{view, text};
 ghost use Rattle.tinyjson.specs.declared.parser.stack.Frame.TheVariants as frame;
@@ -37,19 +37,18 @@ impl<S: Tokens> Reader<S> {
     ) -> Result<Progress, JsonParseErrorKind>
         requires shown { S.sight.shows self.old.tokens.source (Some begin_array) }
         requires sound { IsSound stack.old Awaits }
-        ensures reads { Reads S.sight limit self.old.tokens.source
-            (next (frames stack.old) awaited) result (at stack.new) self.new.tokens.source }
-        ensures sound { IfOk result (IsSound stack.new) }
+        ensures reads { Continues S.sight limit self.old.tokens.source
+            (next (frames stack.old) awaited) result stack.new self.new.tokens.source }
         ensures left { OnOk result (S.left self.new.tokens.source < S.left self.old.tokens.source) }
     {
         if !fits(limit, stack.depth()) {
             return Err(JsonParseErrorKind::TooDeep('['));
         }
-        self.tokens.source.consume('[');
-        match self.tokens.source.skip_white() {
+        self.tokens.consume('[');
+        match self.tokens.skip_white() {
             Some(']') => {
-                self.tokens.source.consume(']');
-                self.complete(stack, JsonValue::Array(Vec::new(self.tokens.alloc)))
+                self.tokens.consume(']');
+                self.complete(stack, JsonValue::Array(Vec::new(self.alloc)))
             }
             _ => {
                 if stack.open_array().is_err() {
@@ -68,19 +67,18 @@ impl<S: Tokens> Reader<S> {
     ) -> Result<Progress, JsonParseErrorKind>
         requires shown { S.sight.shows self.old.tokens.source (Some begin_object) }
         requires sound { IsSound stack.old Awaits }
-        ensures reads { Reads S.sight limit self.old.tokens.source
-            (next (frames stack.old) awaited) result (at stack.new) self.new.tokens.source }
-        ensures sound { IfOk result (IsSound stack.new) }
+        ensures reads { Continues S.sight limit self.old.tokens.source
+            (next (frames stack.old) awaited) result stack.new self.new.tokens.source }
         ensures left { OnOk result (S.left self.new.tokens.source < S.left self.old.tokens.source) }
     {
         if !fits(limit, stack.depth()) {
             return Err(JsonParseErrorKind::TooDeep('{'));
         }
-        self.tokens.source.consume('{');
-        match self.tokens.source.skip_white() {
+        self.tokens.consume('{');
+        match self.tokens.skip_white() {
             Some('}') => {
-                self.tokens.source.consume('}');
-                self.complete(stack, JsonValue::Object(HashMap::new(self.tokens.alloc)))
+                self.tokens.consume('}');
+                self.complete(stack, JsonValue::Object(HashMap::new(self.alloc)))
             }
             _ => {
                 if stack.open_object().is_err() {
@@ -99,10 +97,9 @@ impl<S: Tokens> Reader<S> {
         value: JsonValue,
     ) -> Result<Progress, JsonParseErrorKind>
         requires sound { IsSound stack.old Awaits }
-        ensures reads { (limit : Option ℕ) → Reads S.sight limit self.old.tokens.source
-            (complete true (frames stack.old) (view value) true) result (at stack.new)
+        ensures reads { (limit : Option ℕ) → Continues S.sight limit self.old.tokens.source
+            (complete true (frames stack.old) (view value) true) result stack.new
             self.new.tokens.source }
-        ensures sound { IfOk result (IsSound stack.new) }
         ensures left { OnOk result (S.left self.new.tokens.source ≤ S.left self.old.tokens.source) }
     {
         if let Some(Frame::Object { .. }) = stack.innermost() {
@@ -122,10 +119,9 @@ impl<S: Tokens> Reader<S> {
         decimal: JsonNumber,
     ) -> Result<Progress, JsonParseErrorKind>
         requires sound { IsSound stack.old Awaits }
-        ensures reads { (limit : Option ℕ) → Reads S.sight limit self.old.tokens.source
-            (complete true (frames stack.old) (number decimal.decimal) true) result
-            (at stack.new) self.new.tokens.source }
-        ensures sound { IfOk result (IsSound stack.new) }
+        ensures reads { (limit : Option ℕ) → Continues S.sight limit self.old.tokens.source
+            (complete true (frames stack.old) (number decimal.decimal) true) result stack.new
+            self.new.tokens.source }
         ensures left { OnOk result (S.left self.new.tokens.source ≤ S.left self.old.tokens.source) }
     {
         if let Some(Frame::Object { .. }) = stack.innermost() {
@@ -146,10 +142,9 @@ impl<S: Tokens> Reader<S> {
     ) -> Result<Progress, JsonParseErrorKind>
         requires sound { IsSound stack.old Awaits }
         requires awaits { AwaitsKey stack.old }
-        ensures reads { (limit : Option ℕ) → Reads S.sight limit self.old.tokens.source
-            (complete true (frames stack.old) (view value) true) result (at stack.new)
+        ensures reads { (limit : Option ℕ) → Continues S.sight limit self.old.tokens.source
+            (complete true (frames stack.old) (view value) true) result stack.new
             self.new.tokens.source }
-        ensures sound { IfOk result (IsSound stack.new) }
         ensures left { OnOk result (S.left self.new.tokens.source ≤ S.left self.old.tokens.source) }
     {
         match value {
@@ -167,15 +162,13 @@ impl<S: Tokens> Reader<S> {
     fn key(&mut self, stack: &mut Stack) -> Result<Progress, JsonParseErrorKind>
         requires sound { IsSound stack.old Awaits }
         requires awaits { AwaitsKey stack.old }
-        ensures reads { (limit : Option ℕ) → Reads S.sight limit self.old.tokens.source
-            (next (frames stack.old) awaited) result (at stack.new) self.new.tokens.source }
-        ensures sound { IfOk result (IsSound stack.new) }
+        ensures reads { (limit : Option ℕ) → Continues S.sight limit self.old.tokens.source
+            (next (frames stack.old) awaited) result stack.new self.new.tokens.source }
         ensures left { OnOk result (S.left self.new.tokens.source ≤ S.left self.old.tokens.source) }
     {
-        match self.tokens.source.skip_white() {
+        match self.tokens.skip_white() {
             Some('"') => {
-                self.tokens.source.consume('"');
-                let key = self.tokens.string()?;
+                let key = self.tokens.quoted_string()?;
                 self.colon(stack, key)
             }
             _ => Ok(Progress::Awaits),
@@ -187,22 +180,20 @@ impl<S: Tokens> Reader<S> {
     fn colon(&mut self, stack: &mut Stack, key: String) -> Result<Progress, JsonParseErrorKind>
         requires sound { IsSound stack.old Awaits }
         requires awaits { AwaitsKey stack.old }
-        ensures reads { (limit : Option ℕ) → Reads S.sight limit self.old.tokens.source
-            (next (frames stack.old) (colon (text key))) result (at stack.new)
-            self.new.tokens.source }
-        ensures sound { IfOk result (IsSound stack.new) }
+        ensures reads { (limit : Option ℕ) → Continues S.sight limit self.old.tokens.source
+            (next (frames stack.old) (colon (text key))) result stack.new self.new.tokens.source }
         ensures left { OnOk result (S.left self.new.tokens.source ≤ S.left self.old.tokens.source) }
     {
-        match self.tokens.source.skip_white() {
+        match self.tokens.skip_white() {
             Some(':') => {
-                self.tokens.source.consume(':');
+                self.tokens.consume(':');
                 if stack.begin_member(key).is_err() {
                     return Err(JsonParseErrorKind::OutOfMemory);
                 }
                 Ok(Progress::Awaits)
             }
             Some(c) => {
-                self.tokens.source.consume(c);
+                self.tokens.consume(c);
                 Err(JsonParseErrorKind::ExpectedColon(c))
             }
             None => Err(JsonParseErrorKind::UnexpectedEof),
@@ -217,25 +208,24 @@ impl<S: Tokens> Reader<S> {
     ) -> Result<Progress, JsonParseErrorKind>
         requires sound { IsSound stack.old Complete }
         requires array { Innermost stack.old (frame.Array values) }
-        ensures reads { (limit : Option ℕ) → Reads S.sight limit self.old.tokens.source
-            (at stack.old Complete) result (at stack.new) self.new.tokens.source }
-        ensures sound { IfOk result (IsSound stack.new) }
+        ensures reads { (limit : Option ℕ) → Continues S.sight limit self.old.tokens.source
+            (at stack.old Complete) result stack.new self.new.tokens.source }
         ensures left { OnOk result (S.left self.new.tokens.source < S.left self.old.tokens.source) }
     {
-        match self.tokens.source.skip_white() {
+        match self.tokens.skip_white() {
             Some(',') => {
-                self.tokens.source.consume(',');
+                self.tokens.consume(',');
                 Ok(Progress::Awaits)
             }
             Some(']') => {
                 let Ok(array) = stack.close_array(values) else {
                     return Err(JsonParseErrorKind::OutOfMemory);
                 };
-                self.tokens.source.consume(']');
+                self.tokens.consume(']');
                 self.complete(stack, array)
             }
             Some(c) => {
-                self.tokens.source.consume(c);
+                self.tokens.consume(c);
                 Err(JsonParseErrorKind::ExpectedCommaOrBracket(c))
             }
             None => Err(JsonParseErrorKind::UnexpectedEof),
@@ -251,28 +241,27 @@ impl<S: Tokens> Reader<S> {
     ) -> Result<Progress, JsonParseErrorKind>
         requires sound { IsSound stack.old Complete }
         requires member { Innermost stack.old (frame.Member values keys) }
-        ensures reads { (limit : Option ℕ) → Reads S.sight limit self.old.tokens.source
-            (at stack.old Complete) result (at stack.new) self.new.tokens.source }
-        ensures sound { IfOk result (IsSound stack.new) }
+        ensures reads { (limit : Option ℕ) → Continues S.sight limit self.old.tokens.source
+            (at stack.old Complete) result stack.new self.new.tokens.source }
         ensures left { OnOk result (S.left self.new.tokens.source < S.left self.old.tokens.source) }
     {
-        match self.tokens.source.skip_white() {
+        match self.tokens.skip_white() {
             Some(',') => {
                 if stack.end_member(values, keys).is_err() {
                     return Err(JsonParseErrorKind::OutOfMemory);
                 }
-                self.tokens.source.consume(',');
+                self.tokens.consume(',');
                 self.key(stack)
             }
             Some('}') => {
                 let Ok(object) = stack.close_object(values, keys) else {
                     return Err(JsonParseErrorKind::OutOfMemory);
                 };
-                self.tokens.source.consume('}');
+                self.tokens.consume('}');
                 self.complete(stack, object)
             }
             Some(c) => {
-                self.tokens.source.consume(c);
+                self.tokens.consume(c);
                 Err(JsonParseErrorKind::ExpectedCommaOrBrace(c))
             }
             None => Err(JsonParseErrorKind::UnexpectedEof),
@@ -287,9 +276,8 @@ impl<S: Tokens> Reader<S> {
     ) -> Result<Progress, JsonParseErrorKind>
         requires sound { IsSound stack.old Complete }
         requires innermost { Innermost stack.old frame }
-        ensures reads { (limit : Option ℕ) → Reads S.sight limit self.old.tokens.source
-            (at stack.old Complete) result (at stack.new) self.new.tokens.source }
-        ensures sound { IfOk result (IsSound stack.new) }
+        ensures reads { (limit : Option ℕ) → Continues S.sight limit self.old.tokens.source
+            (at stack.old Complete) result stack.new self.new.tokens.source }
         ensures left { OnOk result (S.left self.new.tokens.source < S.left self.old.tokens.source) }
     {
         match frame {

@@ -1,14 +1,14 @@
-//! The reader: values by their first character, the loop over open containers, literals.
-ghost use Rattle.std.specs.Prelude.{◌≡◌, ℕ, ◌<◌, List, [], true, false, OnOk, IfOk, IfErr};
+//! The reader: values by their first character, and the loop over open containers.
+ghost use Rattle.std.specs.Prelude.{◌≡◌, ℕ, ◌<◌, [], false, OnOk, IfErr};
 ghost use Rattle.std.specs.Prelude.{IsTrue, Option, Some, None};
 ghost use Rattle.tinyjson_grammar.specs.Characters.{quotation_mark};
 ghost use Rattle.tinyjson_grammar.specs.Characters.{is_white};
 ghost use Rattle.tinyjson_grammar.specs.Refusal.{begins_growth};
-ghost use Rattle.tinyjson_grammar.specs.Machine.{Frame, awaited, complete, finished, next};
+ghost use Rattle.tinyjson_grammar.specs.Machine.{awaited, finished, next};
 ghost use Rattle.tinyjson.specs.private.Stack.{IsSound, at, frames, open_of};
-ghost use Rattle.tinyjson.specs.private.Steps.{BeginsLiteral, Grows, GrowsFor, ReadsText};
+ghost use Rattle.tinyjson.specs.private.Steps.{Continues, Grows, GrowsFor, ReadsText};
 ghost use Rattle.tinyjson_tokens.specs.NumberSteps.{BeginsNumber};
-ghost use Rattle.tinyjson_tokens.specs.Steps.{NeedsNone, Reads};
+ghost use Rattle.tinyjson_tokens.specs.Steps.{BeginsLiteral, NeedsNone, Reads, literal_tree};
 ghost use Rattle.tinyjson_grammar.specs.Tree.{Tree};
 ghost use Rattle.tinyjson.specs.View.{view};
 ghost use Rattle.tinyjson_grammar.specs.declared.error.JsonParseErrorKind.TheVariants.{OutOfMemory};
@@ -18,7 +18,6 @@ use super::error::{JsonParseError, JsonParseErrorKind};
 use super::stack::{Progress, Stack};
 use crate::value::JsonValue;
 use std::alloc::Global;
-use tinyjson_number::JsonNumber;
 use tinyjson_tokens::{TokenReader, Tokens};
 
 /// Reads tokens and values from a source of characters.
@@ -27,6 +26,7 @@ pub(super) struct Reader<S>
 where
     S: Tokens,
 {
+    pub(super) alloc: Global,
     pub(super) tokens: TokenReader<S>,
 }
 
@@ -35,81 +35,35 @@ impl<S: Tokens> Reader<S> {
         ensures { result.tokens.source ≡ source }
     {
         Reader {
+            alloc,
             tokens: TokenReader::new(alloc, source),
-        }
-    }
-
-    /// Reads the literal that begins with this letter, which comes next.
-    fn literal(&mut self, first: char) -> Result<JsonValue, JsonParseErrorKind>
-        requires shown { S.sight.shows self.old.tokens.source (Some first) }
-        requires begins { BeginsLiteral first }
-        ensures reads { (limit : Option ℕ) (fs : List Frame) →
-            Reads S.sight limit self.old.tokens.source (next fs awaited) result
-            (λ v. complete true fs (view v) true) self.new.tokens.source }
-        ensures memory { NeedsNone result }
-        ensures left { OnOk result (S.left self.new.tokens.source < S.left self.old.tokens.source) }
-    {
-        self.tokens.source.consume(first);
-        match first {
-            'n' => {
-                self.tokens.letters("ull")?;
-                Ok(JsonValue::Null)
-            }
-            't' => {
-                self.tokens.letters("rue")?;
-                Ok(JsonValue::Boolean(true))
-            }
-            _ => {
-                self.tokens.letters("alse")?;
-                Ok(JsonValue::Boolean(false))
-            }
         }
     }
 
     /// Reads the literal that begins with this letter, and puts it where it belongs.
     #[inline(always)]
-    fn literal_value(
-        &mut self,
-        stack: &mut Stack,
-        first: char,
-    ) -> Result<Progress, JsonParseErrorKind>
+    fn literal(&mut self, stack: &mut Stack, first: char) -> Result<Progress, JsonParseErrorKind>
         requires shown { S.sight.shows self.old.tokens.source (Some first) }
         requires begins { BeginsLiteral first }
         requires sound { IsSound stack.old Awaits }
-        ensures reads { (limit : Option ℕ) → Reads S.sight limit self.old.tokens.source
-            (next (frames stack.old) awaited) result (at stack.new) self.new.tokens.source }
-        ensures sound { IfOk result (IsSound stack.new) }
+        ensures reads { (limit : Option ℕ) → Continues S.sight limit self.old.tokens.source
+            (next (frames stack.old) awaited) result stack.new self.new.tokens.source }
         ensures left { OnOk result (S.left self.new.tokens.source < S.left self.old.tokens.source) }
     {
-        self.tokens.source.consume(first);
-        match first {
-            'n' => {
-                self.tokens.letters("ull")?;
-                self.complete(stack, JsonValue::Null)
-            }
-            't' => {
-                self.tokens.letters("rue")?;
-                self.complete(stack, JsonValue::Boolean(true))
-            }
-            _ => {
-                self.tokens.letters("alse")?;
-                self.complete(stack, JsonValue::Boolean(false))
-            }
-        }
+        let value = self.tokens.literal(first)?;
+        self.complete(stack, literal_value(value))
     }
 
     /// Reads the string whose quote comes next, and puts it where it belongs.
     #[inline(always)]
-    fn string_value(&mut self, stack: &mut Stack) -> Result<Progress, JsonParseErrorKind>
+    fn string(&mut self, stack: &mut Stack) -> Result<Progress, JsonParseErrorKind>
         requires shown { S.sight.shows self.old.tokens.source (Some quotation_mark) }
         requires sound { IsSound stack.old Awaits }
-        ensures reads { (limit : Option ℕ) → Reads S.sight limit self.old.tokens.source
-            (next (frames stack.old) awaited) result (at stack.new) self.new.tokens.source }
-        ensures sound { IfOk result (IsSound stack.new) }
+        ensures reads { (limit : Option ℕ) → Continues S.sight limit self.old.tokens.source
+            (next (frames stack.old) awaited) result stack.new self.new.tokens.source }
         ensures left { OnOk result (S.left self.new.tokens.source < S.left self.old.tokens.source) }
     {
-        self.tokens.source.consume('"');
-        let string = self.tokens.string()?;
+        let string = self.tokens.quoted_string()?;
         self.complete(stack, JsonValue::String(string))
     }
 
@@ -119,35 +73,11 @@ impl<S: Tokens> Reader<S> {
     fn number(&mut self, stack: &mut Stack) -> Result<Progress, JsonParseErrorKind>
         requires begins { BeginsNumber S.sight self.old.tokens.source }
         requires sound { IsSound stack.old Awaits }
-        ensures reads { (limit : Option ℕ) → Reads S.sight limit self.old.tokens.source
-            (next (frames stack.old) awaited) result (at stack.new) self.new.tokens.source }
-        ensures sound { IfOk result (IsSound stack.new) }
+        ensures reads { (limit : Option ℕ) → Continues S.sight limit self.old.tokens.source
+            (next (frames stack.old) awaited) result stack.new self.new.tokens.source }
         ensures left { OnOk result (S.left self.new.tokens.source < S.left self.old.tokens.source) }
     {
-        if let Some((parts, after)) = self.tokens.source.numeral() {
-            if let Ok(number) = JsonNumber::from_parts(self.tokens.alloc, parts) {
-                self.tokens.source = after;
-                return self.complete_number(stack, number);
-            }
-        }
-        self.long_number(stack)
-    }
-
-    /// Reads the number by its exponent, or piece by piece.
-    #[inline(never)]
-    fn long_number(&mut self, stack: &mut Stack) -> Result<Progress, JsonParseErrorKind>
-        requires begins { BeginsNumber S.sight self.old.tokens.source }
-        requires sound { IsSound stack.old Awaits }
-        ensures reads { (limit : Option ℕ) → Reads S.sight limit self.old.tokens.source
-            (next (frames stack.old) awaited) result (at stack.new) self.new.tokens.source }
-        ensures sound { IfOk result (IsSound stack.new) }
-        ensures left { OnOk result (S.left self.new.tokens.source < S.left self.old.tokens.source) }
-    {
-        if let Some((number, after)) = self.tokens.source.scientific(self.tokens.alloc) {
-            self.tokens.source = after;
-            return self.complete_number(stack, number);
-        }
-        let number = self.tokens.gathered_number()?;
+        let number = self.tokens.number()?;
         self.complete_number(stack, number)
     }
 
@@ -161,15 +91,14 @@ impl<S: Tokens> Reader<S> {
         requires shown { S.sight.shows self.old.tokens.source (Some first) }
         requires no_white { is_white first ≡ false }
         requires sound { IsSound stack.old Awaits }
-        ensures reads { Reads S.sight limit self.old.tokens.source
-            (next (frames stack.old) awaited) result (at stack.new) self.new.tokens.source }
-        ensures sound { IfOk result (IsSound stack.new) }
+        ensures reads { Continues S.sight limit self.old.tokens.source
+            (next (frames stack.old) awaited) result stack.new self.new.tokens.source }
         ensures left { OnOk result (S.left self.new.tokens.source < S.left self.old.tokens.source) }
         ensures memory { ¬ (BeginsLiteral first) → GrowsFor first result }
     {
         match first {
-            'n' | 't' | 'f' => self.literal_value(stack, first),
-            '"' => self.string_value(stack),
+            'n' | 't' | 'f' => self.literal(stack, first),
+            '"' => self.string(stack),
             '[' => self.array(limit, stack),
             '{' => self.object(limit, stack),
             c if c == '-' || c.is_ascii_digit() => self.number(stack),
@@ -184,12 +113,11 @@ impl<S: Tokens> Reader<S> {
         stack: &mut Stack,
     ) -> Result<Progress, JsonParseErrorKind>
         requires sound { IsSound stack.old Awaits }
-        ensures reads { Reads S.sight limit self.old.tokens.source
-            (next (frames stack.old) awaited) result (at stack.new) self.new.tokens.source }
-        ensures sound { IfOk result (IsSound stack.new) }
+        ensures reads { Continues S.sight limit self.old.tokens.source
+            (next (frames stack.old) awaited) result stack.new self.new.tokens.source }
         ensures left { OnOk result (S.left self.new.tokens.source < S.left self.old.tokens.source) }
     {
-        match self.tokens.source.skip_white() {
+        match self.tokens.skip_white() {
             Some(first) => self.value(limit, stack, first),
             None => Err(JsonParseErrorKind::UnexpectedEof),
         }
@@ -203,10 +131,12 @@ impl<S: Tokens> Reader<S> {
         ensures end { OnOk result (S.sight.shows self.new.tokens.source None) }
         ensures memory { NeedsNone result }
     {
-        self.tokens.source.skip_white();
-        match self.tokens.source.bump() {
+        match self.tokens.skip_white() {
+            Some(c) => {
+                self.tokens.consume(c);
+                Err(JsonParseErrorKind::ExpectedEof(c))
+            }
             None => Ok(()),
-            Some(c) => Err(JsonParseErrorKind::ExpectedEof(c)),
         }
     }
 
@@ -222,7 +152,7 @@ impl<S: Tokens> Reader<S> {
         match self.text_value(limit) {
             Ok(value) => Ok(value),
             Err(kind) => {
-                let (line, column) = self.tokens.source.position();
+                let (line, column) = self.tokens.position();
                 Err(JsonParseError { kind, line, column })
             }
         }
@@ -236,14 +166,14 @@ impl<S: Tokens> Reader<S> {
         ensures memory { IfErr result (λ kind.
             kind ≡ OutOfMemory → Grows S.sight self.old.tokens.source) }
     {
-        match self.tokens.source.skip_white() {
+        match self.tokens.skip_white() {
             Some(first @ ('n' | 't' | 'f')) => {
-                let value = self.literal(first)?;
+                let literal = self.tokens.literal(first)?;
                 self.end()?;
-                Ok(value)
+                Ok(literal_value(literal))
             }
             Some(first) => {
-                let mut stack = Stack::new(self.tokens.alloc);
+                let mut stack = Stack::new(self.alloc);
                 let read = self.values(limit, &mut stack, first);
                 stack.abandon();
                 read
@@ -309,5 +239,16 @@ impl<S: Tokens> Reader<S> {
     {
         self.end()?;
         Ok(stack.take_complete())
+    }
+}
+
+/// The value of a literal.
+#[inline(always)]
+fn literal_value(literal: Option<bool>) -> JsonValue
+    ensures { view result ≡ literal_tree literal }
+{
+    match literal {
+        None => JsonValue::Null,
+        Some(boolean) => JsonValue::Boolean(boolean),
     }
 }

@@ -3,8 +3,9 @@ use Rattle.tinyjson_grammar.specs.Machine.{fits, in_array, next, awaited}
 use Rattle.tinyjson.specs.private.Stack.{frames}
 use Rattle.tinyjson_grammar.specs.declared.error.JsonParseErrorKind.TheVariants.{TooDeep}
 use Rattle.tinyjson_tokens.proofs.Callers.{Leads_to, Leads_trans, Leads_whites, Leads_one, Halts_here, Refuses_as, Refuses_memory}
-use Rattle.tinyjson_tokens.proofs.Callers.{Reads_after, white_first, taken_complete}
+use Rattle.tinyjson_tokens.proofs.Callers.{white_first, taken_complete}
 use Rattle.tinyjson.proofs.Reading.Containers.{array_begins, array_too_deep, array_closes_first, array_goes_on}
+use Rattle.tinyjson.proofs.Reading.Loop.{Continues_after}
 use Rattle.tinyjson.proofs.parser.reader.Reader.array.Goals as goal
 use Rattle.tinyjson.proofs.parser.reader.Reader.array.Goals.{in_default-via-in-Some+in_default, in_default-via-in_default}
 
@@ -23,7 +24,7 @@ returns-in-Some-eq93-clause-reads g c =
     let limit = c.args.limit in
     let p = c.args.self.now in
     let h : fits limit c.depth.result ≡ true = search rules in
-    Reads_after sight limit _ _ _ _ _
+    Continues_after sight limit _ _ _ _ _ _
     (Leads_trans sight limit _ _ _
     (array_begins sight limit p.tokens.source _ _ _ c.depth.ensures h c.consume.ensures.takes)
     (Leads_one sight limit _ _ _ 93 (Leads_whites sight limit _ _ _ c.skip_white.ensures.white tt (white_first limit _))
@@ -50,10 +51,12 @@ returns-else-is_err-clause-reads g c =
     let h : fits limit c.depth.result ≡ true = search rules in
     let other : IfSome c.skip_white.result (λ d. d ≡ 93 → ⊥) = elim c.in_default.branch
     [ in_default-via-in-Some+in_default w ↦ rw w.in_default.is (search rules) | in_default-via-in_default w ↦ rw w.in_default.is tt ] in
-    let e : frames c.open_array.new.self ≡ in_array [] ∷ frames c.args.stack.now = search rules in
-    Leads_to sight limit _ _
-    (Leads_trans sight limit _ _ _
-    (array_begins sight limit p.tokens.source _ _ _ c.depth.ensures h c.consume.ensures.takes)
-    (array_goes_on sight limit _ _ _ _ c.skip_white.result refl (Leads_whites sight limit _ _ _ c.skip_white.ensures.white tt
-    (white_first limit _)) c.skip_white.ensures.shows c.skip_white.ensures.stops other))
-    (ap (λ fs. next fs awaited) (sym e))
+    let e : frames c.open_array.new.self ≡ in_array [] ∷ frames c.args.stack.now = search rules in (
+      Leads_to sight limit _ _
+          (Leads_trans sight limit _ _ _
+          (array_begins sight limit p.tokens.source _ _ _ c.depth.ensures h c.consume.ensures.takes)
+          (array_goes_on sight limit _ _ _ _ c.skip_white.result refl (Leads_whites sight limit _ _ _ c.skip_white.ensures.white tt
+          (white_first limit _)) c.skip_white.ensures.shows c.skip_white.ensures.stops other))
+          (ap (λ fs. next fs awaited) (sym e)),
+      search rules,
+    )

@@ -19,10 +19,12 @@ returns-then-is_err-clause-reads g c = λ limit.
 pub returns-else-is_err-clause-reads : goal.returns-else-is_err-clause-reads
 returns-else-is_err-clause-reads g c = λ limit.
     let sight = g.S.Source.sight in
-    let b : BeginsMember c.args.stack.now c.begin_member.new.self (text c.args.key) = search rules in
-    Leads_one sight limit _ _ _ 58 (Leads_whites sight limit _ _ _ c.skip_white.ensures.white tt (white_colon limit _ _))
-    c.consume.ensures.takes tt
-    (member_begins limit c.args.stack.now c.begin_member.new.self (text c.args.key) 58 b (search rules)) tt
+    let b : BeginsMember c.args.stack.now c.begin_member.new.self (text c.args.key) = search rules in (
+      Leads_one sight limit _ _ _ 58 (Leads_whites sight limit _ _ _ c.skip_white.ensures.white tt (white_colon limit _ _))
+          c.consume.ensures.takes tt
+          (member_begins limit c.args.stack.now c.begin_member.new.self (text c.args.key) 58 b (search rules)) tt,
+      search rules,
+    )
 
 pub returns-in-Some-clause-reads : goal.returns-in-Some-clause-reads
 returns-in-Some-clause-reads g c = λ limit.

@@ -18,13 +18,10 @@ pub returns-clause-reads : goal.returns-clause-reads
 returns-clause-reads g c = λ limit.
     let sight = g.S.Source.sight in
     let e : at c.push.new.self Complete ≡ complete true (frames c.args.stack.now) (view c.args.value) true = search rules in
-    Leads_to sight limit _ _ (Leads_nil sight limit _ _) (sym e)
+    (Leads_to sight limit _ _ (Leads_nil sight limit _ _) (sym e), search rules)
 
 pub returns-in-Some-Object-clause-reads : goal.returns-in-Some-Object-clause-reads
 returns-in-Some-Object-clause-reads g c = c.use_as_key.ensures.reads
-
-pub returns-in-Some-Object-clause-sound : goal.returns-in-Some-Object-clause-sound
-returns-in-Some-Object-clause-sound g c = c.use_as_key.ensures.sound
 
 pub returns-clause-left : goal.returns-clause-left
 returns-clause-left g c = omega arith

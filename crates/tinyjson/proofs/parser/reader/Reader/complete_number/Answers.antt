@@ -19,7 +19,7 @@ returns-clause-reads g c = λ limit.
     let sight = g.S.Source.sight in
     let e : at c.push_number.new.self Complete ≡ complete true (frames c.args.stack.now) (number c.args.decimal.decimal) true =
     search rules in
-    Leads_to sight limit _ _ (Leads_nil sight limit _ _) (sym e)
+    (Leads_to sight limit _ _ (Leads_nil sight limit _ _) (sym e), search rules)
 
 pub returns-in-Some-Object-clause-reads : goal.returns-in-Some-Object-clause-reads
 returns-in-Some-Object-clause-reads g c = λ limit.

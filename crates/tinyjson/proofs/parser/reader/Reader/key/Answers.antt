@@ -1,34 +1,29 @@
-use Rattle.std.proofs.Common.{rules}
 use Rattle.std.proofs.lemmas.Result.{err_from_is_err_and}
-use Rattle.tinyjson.proofs.Reading.Containers.{string_begins}
 use Rattle.tinyjson.proofs.Reading.Stack.{key_string}
-use Rattle.tinyjson_tokens.proofs.Callers.{Leads_whites, Leads_one, Leads_to, Leads_trans, Refuses_after, Reads_after, white_awaited}
+use Rattle.tinyjson_tokens.proofs.Callers.{Leads_whites, Leads_to, Leads_trans, Refuses_after, white_awaited}
+use Rattle.tinyjson.proofs.Reading.Loop.{Continues_after}
 use Rattle.tinyjson.proofs.parser.reader.Reader.key.Goals as goal
 
 pub returns-in_err-key-in-Some-eq34-clause-reads : goal.returns-in_err-key-in-Some-eq34-clause-reads
 returns-in_err-key-in-Some-eq34-clause-reads g c = λ limit.
     let sight = g.S.Source.sight in
     let p = err_from_is_err_and c.from_residual.result c.from_residual.ensures.1 in
-    let q = Leads_one sight limit _ _ _ 34 (Leads_whites sight limit _ _ _ c.skip_white.ensures.white tt (white_awaited limit _))
-    c.consume.ensures.takes tt
-    (string_begins limit _ 34 (search rules)) tt in
+    let q = Leads_whites sight limit _ _ _ c.skip_white.ensures.white tt (white_awaited limit _) in
     rw (p.1, p.2) (Refuses_after sight limit _ _ _ _ q (c.in_err-key-in-Some-eq34.ensures.reads limit _))
 
 pub returns-in_ok-key-in-Some-eq34-clause-reads : goal.returns-in_ok-key-in-Some-eq34-clause-reads
 returns-in_ok-key-in-Some-eq34-clause-reads g c = λ limit.
     let sight = g.S.Source.sight in
-    let q = Leads_one sight limit _ _ _ 34 (Leads_whites sight limit _ _ _ c.skip_white.ensures.white tt (white_awaited limit _))
-    c.consume.ensures.takes tt
-    (string_begins limit _ 34 (search rules)) tt in
-    Reads_after sight limit _ _ _ _ _
+    let q = Leads_whites sight limit _ _ _ c.skip_white.ensures.white tt (white_awaited limit _) in
+    Continues_after sight limit _ _ _ _ _ _
     (Leads_to sight limit _ _ (Leads_trans sight limit _ _ _ q (c.in_ok-key-in-Some-eq34.ensures.reads limit _))
     (key_string c.args.stack.now c.requires.awaits _))
     (c.colon.ensures.reads limit)
 
 pub returns-in_default-clause-reads : goal.returns-in_default-clause-reads
-returns-in_default-clause-reads g c = λ limit. Leads_whites g.S.Source.sight limit _ _ _ c.skip_white.ensures.white tt
-    (white_awaited limit _)
+returns-in_default-clause-reads g c = λ limit.
+    (Leads_whites g.S.Source.sight limit _ _ _ c.skip_white.ensures.white tt (white_awaited limit _), c.requires.sound)
 
 pub returns-in_default-2-clause-reads : goal.returns-in_default-2-clause-reads
-returns-in_default-2-clause-reads g c = λ limit. Leads_whites g.S.Source.sight limit _ _ _ c.skip_white.ensures.white tt
-    (white_awaited limit _)
+returns-in_default-2-clause-reads g c = λ limit.
+    (Leads_whites g.S.Source.sight limit _ _ _ c.skip_white.ensures.white tt (white_awaited limit _), c.requires.sound)

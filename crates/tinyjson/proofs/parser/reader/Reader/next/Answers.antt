@@ -1,12 +1,13 @@
 use Rattle.tinyjson_grammar.specs.declared.error.JsonParseErrorKind.TheVariants.{UnexpectedEof}
-use Rattle.tinyjson_tokens.proofs.Callers.{end_awaited, Leads_whites, Leads_end, Refuses_as, Reads_after, white_awaited}
+use Rattle.tinyjson_tokens.proofs.Callers.{end_awaited, Leads_whites, Leads_end, Refuses_as, white_awaited}
+use Rattle.tinyjson.proofs.Reading.Loop.{Continues_after}
 use Rattle.tinyjson.proofs.parser.reader.Reader.next.Goals as goal
 
 pub returns-in-Some-clause-reads : goal.returns-in-Some-clause-reads
 returns-in-Some-clause-reads g c =
     let sight = g.S.Source.sight in
     let limit = c.args.limit in
-    Reads_after sight limit _ _ _ _ _ (Leads_whites sight limit _ _ _ c.skip_white.ensures.white tt (white_awaited limit _))
+    Continues_after sight limit _ _ _ _ _ _ (Leads_whites sight limit _ _ _ c.skip_white.ensures.white tt (white_awaited limit _))
     c.value.ensures.reads
 
 pub returns-in-None-clause-reads : goal.returns-in-None-clause-reads

@@ -4,8 +4,9 @@ use Rattle.tinyjson.specs.private.Stack.{frames}
 use Rattle.tinyjson_grammar.specs.Tree.{no_members}
 use Rattle.tinyjson_grammar.specs.declared.error.JsonParseErrorKind.TheVariants.{TooDeep}
 use Rattle.tinyjson_tokens.proofs.Callers.{Leads_to, Leads_trans, Leads_whites, Leads_one, Halts_here, Refuses_as, Refuses_memory}
-use Rattle.tinyjson_tokens.proofs.Callers.{Reads_after, white_first, taken_complete}
+use Rattle.tinyjson_tokens.proofs.Callers.{white_first, taken_complete}
 use Rattle.tinyjson.proofs.Reading.Containers.{object_begins, object_too_deep, object_closes_first, object_goes_on}
+use Rattle.tinyjson.proofs.Reading.Loop.{Continues_after}
 use Rattle.tinyjson.proofs.parser.reader.Reader.object.Goals as goal
 use Rattle.tinyjson.proofs.parser.reader.Reader.object.Goals.{in_default-via-in-Some+in_default, in_default-via-in_default}
 
@@ -24,7 +25,7 @@ returns-in-Some-eq125-clause-reads g c =
     let limit = c.args.limit in
     let p = c.args.self.now in
     let h : fits limit c.depth.result ≡ true = search rules in
-    Reads_after sight limit _ _ _ _ _
+    Continues_after sight limit _ _ _ _ _ _
     (Leads_trans sight limit _ _ _
     (object_begins sight limit p.tokens.source _ _ _ c.depth.ensures h c.consume.ensures.takes)
     (Leads_one sight limit _ _ _ 125 (Leads_whites sight limit _ _ _ c.skip_white.ensures.white tt (white_first limit _))
@@ -52,7 +53,7 @@ returns-else-is_err-clause-reads g c =
     let other : IfSome c.skip_white.result (λ d. d ≡ 125 → ⊥) = elim c.in_default.branch
     [ in_default-via-in-Some+in_default w ↦ rw w.in_default.is (search rules) | in_default-via-in_default w ↦ rw w.in_default.is tt ] in
     let e : frames c.open_object.new.self ≡ at_key no_members ∷ frames c.args.stack.now = search rules in
-    Reads_after sight limit _ _ _ _ _
+    Continues_after sight limit _ _ _ _ _ _
     (Leads_to sight limit _ _
     (Leads_trans sight limit _ _ _
     (object_begins sight limit p.tokens.source _ _ _ c.depth.ensures h c.consume.ensures.takes)

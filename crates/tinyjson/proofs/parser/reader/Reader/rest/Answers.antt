@@ -40,8 +40,8 @@ loop-progress-preserved g c =
     let limit = c.args.limit in
     let l = Leads_to sight limit _ _ c.loop-progress.invariant.reads (ap (at c.loop-progress.stack) c.in-Complete.is) in
     record {
-      reads = Leads_trans sight limit _ _ _ l (c.in_ok-progress-in-Some.ensures.reads limit);
-      sound = c.in_ok-progress-in-Some.ensures.sound;
+      reads = Leads_trans sight limit _ _ _ l (c.in_ok-progress-in-Some.ensures.reads limit).0;
+      sound = (c.in_ok-progress-in-Some.ensures.reads limit).1;
     }
 
 pub loop-progress-preserved-in_ok-progress-in-Awaits : goal.loop-progress-preserved-in_ok-progress-in-Awaits
@@ -50,6 +50,6 @@ loop-progress-preserved-in_ok-progress-in-Awaits g c =
     let limit = c.args.limit in
     let l = Leads_to sight limit _ _ c.loop-progress.invariant.reads (ap (at c.loop-progress.stack) c.in-Awaits.is) in
     record {
-      reads = Leads_trans sight limit _ _ _ l c.in_ok-progress-in-Awaits.ensures.reads;
-      sound = c.in_ok-progress-in-Awaits.ensures.sound;
+      reads = Leads_trans sight limit _ _ _ l c.in_ok-progress-in-Awaits.ensures.reads.0;
+      sound = c.in_ok-progress-in-Awaits.ensures.reads.1;
     }

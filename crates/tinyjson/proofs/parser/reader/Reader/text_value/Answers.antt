@@ -1,6 +1,6 @@
 use Rattle.std.proofs.Common.{[], ap, sym}
 use Rattle.std.proofs.lemmas.Result.{err_from_is_err_and}
-use Rattle.tinyjson.specs.View.{view}
+use Rattle.tinyjson_tokens.specs.Steps.{literal_tree}
 use Rattle.tinyjson_grammar.specs.Machine.{next, awaited}
 use Rattle.tinyjson_grammar.specs.declared.error.JsonParseErrorKind.TheVariants.{UnexpectedEof}
 use Rattle.tinyjson.proofs.Reading.Memory.{grows_text}
@@ -8,13 +8,13 @@ use Rattle.tinyjson_tokens.proofs.Callers.{end_awaited, Leads_end, Leads_to, Lea
 use Rattle.tinyjson_tokens.proofs.Callers.{Reads_after, white_awaited}
 use Rattle.tinyjson.proofs.parser.reader.Reader.text_value.Goals as goal
 
-pub returns-in_err-value-in-Some-n-clause-reads : goal.returns-in_err-value-in-Some-n-clause-reads
-returns-in_err-value-in-Some-n-clause-reads g c =
+pub returns-in_err-literal-in-Some-n-clause-reads : goal.returns-in_err-literal-in-Some-n-clause-reads
+returns-in_err-literal-in-Some-n-clause-reads g c =
     let sight = g.S.Source.sight in
     let limit = c.args.limit in
     let p = err_from_is_err_and c.from_residual.result c.from_residual.ensures.1 in
     let l = Leads_whites sight limit _ _ _ c.skip_white.ensures.white tt (white_awaited limit []) in
-    rw (p.1, p.2) (Refuses_after sight limit _ _ _ _ l (c.in_err-value-in-Some-n.ensures.reads limit []))
+    rw (p.1, p.2) (Refuses_after sight limit _ _ _ _ l (c.in_err-literal-in-Some-n.ensures.reads limit []))
 
 pub returns-in_err-end-in-Some-n-clause-reads : goal.returns-in_err-end-in-Some-n-clause-reads
 returns-in_err-end-in-Some-n-clause-reads g c =
@@ -23,18 +23,18 @@ returns-in_err-end-in-Some-n-clause-reads g c =
     let r = c.from_residual-in_err-end-in-Some-n in
     let p = err_from_is_err_and r.result r.ensures.1 in
     let l = Leads_whites sight limit _ _ _ c.skip_white.ensures.white tt (white_awaited limit []) in
-    let w = c.in_ok-value-in-Some-n in
+    let w = c.in_ok-literal-in-Some-n in
     rw (p.1, p.2) (Refuses_after sight limit _ _ _ _ (Leads_trans sight limit _ _ _ l (w.ensures.reads limit []))
-    (c.in_err-end-in-Some-n.ensures.reads limit (view w.value)))
+    (c.in_err-end-in-Some-n.ensures.reads limit (literal_tree w.literal)))
 
 pub returns-in_ok-end-in-Some-n-clause-reads : goal.returns-in_ok-end-in-Some-n-clause-reads
 returns-in_ok-end-in-Some-n-clause-reads g c =
     let sight = g.S.Source.sight in
     let limit = c.args.limit in
     let l = Leads_whites sight limit _ _ _ c.skip_white.ensures.white tt (white_awaited limit []) in
-    let w = c.in_ok-value-in-Some-n in
-    Leads_trans sight limit _ _ _ (Leads_trans sight limit _ _ _ l (w.ensures.reads limit []))
-    (c.in_ok-end-in-Some-n.ensures.reads limit (view w.value))
+    let w = c.in_ok-literal-in-Some-n in
+    rw c.literal_value.ensures (Leads_trans sight limit _ _ _ (Leads_trans sight limit _ _ _ l (w.ensures.reads limit []))
+    (c.in_ok-end-in-Some-n.ensures.reads limit (literal_tree w.literal)))
 
 pub returns-in-Some-clause-reads : goal.returns-in-Some-clause-reads
 returns-in-Some-clause-reads g c =

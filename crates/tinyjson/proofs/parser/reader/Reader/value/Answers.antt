@@ -11,13 +11,13 @@ grows_for c (Ok v) h = h
 grows_for c (Err k) h = λ _. h
 
 pub returns-in-n-clause-reads : goal.returns-in-n-clause-reads
-returns-in-n-clause-reads g c = c.literal_value.ensures.reads c.args.limit
+returns-in-n-clause-reads g c = c.literal.ensures.reads c.args.limit
 
 pub returns-in-34-clause-reads : goal.returns-in-34-clause-reads
-returns-in-34-clause-reads g c = c.string_value.ensures.reads c.args.limit
+returns-in-34-clause-reads g c = c.string.ensures.reads c.args.limit
 
 pub returns-in-34-clause-memory : goal.returns-in-34-clause-memory
-returns-in-34-clause-memory g c = λ _. grows_for c.args.first c.string_value.result (rw c.in-34.is refl)
+returns-in-34-clause-memory g c = λ _. grows_for c.args.first c.string.result (rw c.in-34.is refl)
 
 pub returns-in_default-clause-reads : goal.returns-in_default-clause-reads
 returns-in_default-clause-reads g c = c.number.ensures.reads c.args.limit

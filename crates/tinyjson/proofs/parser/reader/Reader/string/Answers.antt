@@ -1,0 +1,22 @@
+use Rattle.std.proofs.Common.{true, ap, sym}
+use Rattle.std.proofs.lemmas.Result.{err_from_is_err_and}
+use Rattle.tinyjson_grammar.specs.Machine.{complete}
+use Rattle.tinyjson.specs.private.Stack.{frames}
+use Rattle.tinyjson.proofs.Values.View.{view_String}
+use Rattle.tinyjson_tokens.proofs.Callers.{Leads_to}
+use Rattle.tinyjson.proofs.Reading.Loop.{Continues_after}
+use Rattle.tinyjson.proofs.parser.reader.Reader.string.Goals as goal
+
+pub returns-in_err-string-clause-reads : goal.returns-in_err-string-clause-reads
+returns-in_err-string-clause-reads g c = λ limit.
+    let p = err_from_is_err_and c.from_residual.result c.from_residual.ensures.1 in
+    rw (p.1, p.2) (c.in_err-string.ensures.reads limit _)
+
+pub returns-clause-reads : goal.returns-clause-reads
+returns-clause-reads g c = λ limit.
+    let sight = g.S.Source.sight in
+    let fs = frames c.args.stack.now in
+    Continues_after sight limit _ _ _ _ _ _
+    (Leads_to sight limit _ _ (c.in_ok-string.ensures.reads limit fs)
+    (ap (λ t. complete true fs t true) (sym (view_String c.in_ok-string.string))))
+    (c.complete.ensures.reads limit)
