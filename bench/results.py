@@ -100,11 +100,22 @@ def slower(rows, name):
     return sorted((row for row in rows if (row.speed(name) or 1) < 1), key=lambda row: row.speed(name))
 
 
+def growth(title, rows, names):
+    """How many times as long the programs take as for the row before, where both are of one kind."""
+    for less, more in zip(rows, rows[1:]) if title == "Growth" else ():
+        kind, _, count = more.name.partition(", ")
+        if less.name.startswith(f"{kind}, "):
+            known = [name for name in ("original", *names) if name in less.results and name in more.results]
+            times = [f"{name} {more.results[name][0] / less.results[name][0]:.2f}" for name in known]
+            yield f"{less.name} to {count}: {', '.join(times)}"
+
+
 def document(tables, names, runs):
     """The page of results; the tables are lists of rows, by their titles."""
     parts = ["# Times beside the original crate", "Written by `bench/run`.", heading(runs), "![Times as fast](results.svg)"]
     for title, rows in tables.items():
         parts += [f"## {title}", markdown(rows, names)]
+        parts += [f"Times as long: {line}." for line in growth(title, rows, names)]
         below = [f"{row.name} {row.speed('jsonnorm'):.2f} (memory {row.memory('jsonnorm'):.2f})" for row in slower(rows, "jsonnorm")]
         if below:
             parts.append("Slower than the original: " + "; ".join(below) + ".")
