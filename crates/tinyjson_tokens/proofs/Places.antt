@@ -1,7 +1,7 @@
 -- The line and the column after a text, by its bytes.
-use Rattle.std.proofs.Common.{◌≡◌, ℕ, zero, suc, ◌+◌, ◌/◌, ◌-◌, ◌%◌, ◌==◌, ◌<◌, ◌≤◌, Bool, true, false, cond, not, List, [], ◌∷◌, ◌++◌, length, take, drop}
-use Rattle.std.proofs.Common.{map, get_or, refl, sym, ap, ap₂, ◌∙◌, inl, inr, arith, true≢false}
-use Rattle.std.specs.Prelude.{nat_lt, nat_le, count_ones}
+use Rattle.std.proofs.Common.{◌≡◌, ℕ, zero, suc, ◌+◌, ◌/◌, ◌-◌, ◌%◌, ◌==◌, ◌<◌, ◌≤◌, Bool, true, false, cond, not, List, []}
+use Rattle.std.proofs.Common.{◌∷◌, ◌++◌, length, take, drop, map, get_or, refl, sym, ap, ap₂, ◌∙◌, inl, inr, arith, true≢false}
+use Rattle.std.specs.Prelude.{nat_lt, count_ones}
 use Rattle.std.specs.Fmt.{is_char_start}
 use Rattle.std.specs.List.{count_by, filter}
 use Rattle.std.specs.Simd.Lanes.{chunk, mask_l}
@@ -130,7 +130,8 @@ unfolding advance
 at_line_feed p = refl
 
 -- at the start of a line
-column_of_start : (xs : List ℕ) (s : ℕ) → s ≤ length xs → (0 < s → get_or xs (s - 1) 0 ≡ 10) → (advance origin (starts (take s xs))).column ≡ 0
+column_of_start : (xs : List ℕ) (s : ℕ) → s ≤ length xs → (0 < s → get_or xs (s - 1) 0 ≡ 10)
+    → (advance origin (starts (take s xs))).column ≡ 0
 column_of_start xs zero h after = ap (λ p. p.column) (advance_nil 1 0 (omega arith) (omega arith))
 column_of_start xs (suc k) h after =
     let one : k + 1 ≡ suc k = omega arith in
@@ -146,7 +147,8 @@ line_is : (xs : List ℕ) → (advance origin (starts xs)).line ≡ capped (1 + 
 unfolding advance
 line_is xs = ap (λ n. capped (1 + n)) (feeds_starts xs)
 
-column_on : (q : Position) (ys : List ℕ) → line_feeds ys ≡ 0 → q.column ≡ 0 → (advance q (starts ys)).column ≡ capped (count_by is_char_start ys)
+column_on : (q : Position) (ys : List ℕ) → line_feeds ys ≡ 0 → q.column ≡ 0
+    → (advance q (starts ys)).column ≡ capped (count_by is_char_start ys)
 unfolding advance
 column_on q ys none e =
     let n : line_feeds (starts ys) ≡ 0 = feeds_starts ys ∙ none in

@@ -1,4 +1,4 @@
-use Rattle.std.proofs.Common.{◌≡◌, ◌+◌, ◌-◌, drop, subst, sym, arith}
+use Rattle.std.proofs.Common.{◌≡◌, ◌+◌, ◌-◌, drop, subst, arith}
 use Rattle.tinyjson_grammar.specs.Position.{line_feeds}
 use Rattle.tinyjson_tokens.proofs.Places.{none_on}
 use Rattle.tinyjson_tokens.proofs.place.line_start.Goals as goal
