@@ -51,7 +51,10 @@ impl<S: Tokens> Reader<S> {
         ensures left { OnOk result (S.left self.new.tokens.source < S.left self.old.tokens.source) }
     {
         let value = self.tokens.literal(first)?;
-        self.complete(stack, literal_value(value))
+        match value {
+            None => self.complete(stack, JsonValue::Null),
+            Some(boolean) => self.complete(stack, JsonValue::Boolean(boolean)),
+        }
     }
 
     /// Reads the string whose quote comes next, and puts it where it belongs.
