@@ -52,7 +52,8 @@ use Rattle.tinyjson_grammar.specs.Soundness.{IsBelow, IsSorted}
 use Rattle.tinyjson_grammar.proofs.Callers.{find_put, find_below, sorted_put, members_from_find}
 use Rattle.tinyjson_normal.specs.Node.{IsRun, IsText, Is, AreMembers}
 use Rattle.tinyjson_normal.specs.Holding.{Entry, put_all, AreEntries}
-use Rattle.tinyjson_normal.specs.Order.{bytes_at, key_in, key_lt, paired, comes_again, lasts}
+use Rattle.tinyjson_normal.specs.Order.{part, key_in, key_lt, paired, comes_again, lasts}
+use Rattle.tinyjson_normal.proofs.Slices.{run_part}
 use Rattle.tinyjson_normal.specs.declared.store.Span.{Span}
 use Rattle.tinyjson_normal.specs.declared.store.Node.{Node}
 use Rattle.tinyjson_normal.specs.declared.store.Member.{Member}
@@ -209,21 +210,10 @@ module _ (xs : List ℕ) where
   rises_tail m [] r = tt
   rises_tail m (n ∷ ms) r = r.1
 
--- ---- the bytes of a run
+-- ---- the bytes of a key
 
-run_bytes : (xs : List ℕ) (p : Span) (ys : List ℕ) → IsRun xs p ys → bytes_at xs p ≡ ys
-run_bytes xs p ys h =
-    let f = length h.front in
-    let y = length ys in
-    let long : length xs ≡ f + (y + length h.back) = ap length h.whole ∙ length-append h.front (ys ++ h.back)
-    ∙ ap (λ z. f + z) (length-append ys h.back) in
-    let high : min p.to (length xs) ≡ f + y = omega (arith, long, h.to) in
-    let low : min p.from (min p.to (length xs)) ≡ f = omega (arith, long, h.to, h.from) in
-    ap (λ a. slice_range xs a (min p.to (length xs))) low ∙ ap (slice_range xs f) high ∙ ap (λ z. slice_range z f (f + y)) h.whole
-    ∙ ap (take (f + y - f)) (drop_at h.front (ys ++ h.back) f refl) ∙ take_at ys h.back (f + y - f) (omega arith)
-
-text_bytes : (s : Store) (k : List ℕ) (p : Span) → IsText s k p → bytes_at s.texts.items p ≡ enc k
-text_bytes s k p h = run_bytes s.texts.items p h.bytes h.run ∙ sym (encodes-chars h.bytes h.utf8) ∙ ap enc (sym h.characters)
+text_bytes : (s : Store) (k : List ℕ) (p : Span) → IsText s k p → part s.texts.items p ≡ enc k
+text_bytes s k p h = run_part s.texts.items p h.bytes h.run ∙ sym (encodes-chars h.bytes h.utf8) ∙ ap enc (sym h.characters)
 
 sorted_put_all : (ms : Members) (es : List Entry) → IsSorted ms → IsSorted (put_all ms es)
 sorted_put_all ms [] h = h
@@ -247,10 +237,10 @@ module _ (s : Store) where
   agrees (e ∷ es) (k ∷ ks) [] ms h q = absurd h
   agrees (e ∷ es) (k ∷ ks) (v ∷ vs) ms h q = step (last_at xs (enc q) (paired ks vs)) (agrees es ks vs (put e.0 e.1 ms) h.2 q)
     where
-      same : (c : Bool) → bytes_eq (enc q) (bytes_at xs k) ≡ c → bytes_eq q e.0 ≡ c
+      same : (c : Bool) → bytes_eq (enc q) (part xs k) ≡ c → bytes_eq q e.0 ≡ c
       same c g = sym (same_bytes_eq q e.0) ∙ ap (bytes_eq (enc q)) (sym (text_bytes s e.0 k h.0)) ∙ g
 
-      at : (c : Bool) → bytes_eq (enc q) (bytes_at xs k) ≡ c → find q (put_all (put e.0 e.1 ms) es) ≡ find q (put e.0 e.1 ms)
+      at : (c : Bool) → bytes_eq (enc q) (part xs k) ≡ c → find q (put_all (put e.0 e.1 ms) es) ≡ find q (put e.0 e.1 ms)
           → Agrees q (find q (put_all (put e.0 e.1 ms) es)) (cond c (Some (record { key = k; value = v })) None) (find q ms)
       at true g a =
           let here = same true g in (
@@ -263,13 +253,13 @@ module _ (s : Store) where
       at false g a = a ∙ find_put q e.0 e.1 ms ∙ ap (λ z. cond z (Some e.1) (find q ms)) (same false g)
 
       step : (p : Option Member) → Agrees q (find q (put_all (put e.0 e.1 ms) es)) p (find q (put e.0 e.1 ms))
-          → Agrees q (find q (put_all (put e.0 e.1 ms) es)) (or_some p (cond (bytes_eq (enc q) (bytes_at xs k)) (Some (record {
+          → Agrees q (find q (put_all (put e.0 e.1 ms) es)) (or_some p (cond (bytes_eq (enc q) (part xs k)) (Some (record {
             key =
                 k;
             value = v;
           })) None)) (find q ms)
       step (Some m) a = a
-      step None a = at (bytes_eq (enc q) (bytes_at xs k)) refl a
+      step None a = at (bytes_eq (enc q) (part xs k)) refl a
 
   abbrev HasText : Member → Type 0
   HasText m = (k : List ℕ) × IsText s k m.key

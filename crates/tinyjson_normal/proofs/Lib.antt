@@ -8,3 +8,5 @@ pub mod Slices
 pub mod Order
 -- What a sorted object keeps.
 pub mod Gathered
+-- What a walk writes.
+pub mod Writing

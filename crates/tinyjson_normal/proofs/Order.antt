@@ -46,7 +46,7 @@ use Rattle.std.proofs.lemmas.List.{take_more, nil_from_length}
 use Rattle.std.proofs.lemmas.List.Elements.{filter_agree}
 use Rattle.std.proofs.lemmas.Map.Lookups.{exact_bytes}
 use Rattle.std.proofs.lemmas.Slice.Eq.{bytes_eq-Decides}
-use Rattle.tinyjson_normal.specs.Order.{bytes_at, key_in, key_lt, paired, comes_again, lasts}
+use Rattle.tinyjson_normal.specs.Order.{part, key_in, key_lt, paired, comes_again, lasts}
 use Rattle.tinyjson_normal.specs.declared.store.Span.{Span}
 use Rattle.tinyjson_normal.specs.declared.store.Node.{Node}
 use Rattle.tinyjson_normal.specs.declared.store.Member.{Member}

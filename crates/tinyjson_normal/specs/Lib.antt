@@ -4,3 +4,5 @@ pub mod Node
 pub mod Holding
 -- The order of members.
 pub mod Order
+-- What a walk writes.
+pub mod Walking

@@ -19,6 +19,10 @@ pub record IsRun {A : Type 0} (xs : List A) (s : Span) (ys : List A) : Type 0 wh
   pub from : s.from ≡ length front
   pub to : s.to ≡ length front + length ys
 
+-- the bytes are these characters in UTF-8
+abbrev pub IsBytes : List ℕ → List ℕ → Type 0
+IsBytes cs bytes = IsUtf8 bytes × (cs ≡ chars bytes)
+
 -- the characters that stand there in UTF-8
 pub record IsText (s : Store) (cs : List ℕ) (p : Span) : Type 0 where
   pub bytes : List ℕ

@@ -8,13 +8,13 @@ use Rattle.tinyjson_normal.specs.declared.store.Span.{Span}
 use Rattle.tinyjson_normal.specs.declared.store.Node.{Node}
 use Rattle.tinyjson_normal.specs.declared.store.Member.{Member}
 
--- the bytes from the one place to the other, as far as there are any
-abbrev pub bytes_at : List ℕ → Span → List ℕ
-bytes_at xs p = slice_range xs (min p.from (min p.to (length xs))) (min p.to (length xs))
+-- what stands from the one place to the other, as far as there is any
+abbrev pub part : {A : Type 0} → List A → Span → List A
+part xs p = slice_range xs (min p.from (min p.to (length xs))) (min p.to (length xs))
 
 -- the key of a member
 abbrev pub key_in : List ℕ → Member → List ℕ
-key_in xs m = bytes_at xs m.key
+key_in xs m = part xs m.key
 
 -- the key of the one member is below that of the other
 abbrev pub key_lt : List ℕ → Member → Member → Bool

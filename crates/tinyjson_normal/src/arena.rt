@@ -5,12 +5,17 @@ ghost use Rattle.tinyjson_grammar.specs.Machine.{Frame, in_array, at_key, at_val
 ghost use Rattle.tinyjson_grammar.specs.Tree.{Tree, null, boolean as boolean_tree, number as number_tree};
 ghost use Rattle.tinyjson_grammar.specs.Tree.{string as string_tree, array, object, items_of};
 ghost use Rattle.tinyjson_grammar.specs.Tree.{Members, no_members};
-ghost use Rattle.tinyjson_normal.specs.Holding.{Holds, Puts};
+ghost use Rattle.tinyjson_normal.specs.Holding.{Holds, IsTree, Puts};
+ghost use Rattle.tinyjson_grammar.specs.Text.{compact};
+ghost use Rattle.tinyjson_output.specs.Written.{WritesText};
 
 use crate::sorting::{pair, sort};
 use crate::store::{Member, Node, Span, Store};
+use crate::walk::Walk;
 use std::alloc::{AllocError, Global};
+use std::io::{self, ErrorKind, Write};
 use tinyjson_number::JsonNumber;
+use tinyjson_output::flush;
 
 /// Where the keys and the values of an open container begin among those that wait.
 #[derive(Clone, Copy)]
@@ -28,6 +33,8 @@ pub struct Arena {
     pub(crate) values: Vec<Node>,
     /// The members of the object that is being closed.
     sorted: Vec<Member>,
+    /// The most containers that were open at once.
+    deepest: usize,
 }
 
 impl Arena {
@@ -41,6 +48,7 @@ impl Arena {
             keys: Vec::new(alloc),
             values: Vec::new(alloc),
             sorted: Vec::new(alloc),
+            deepest: 0,
         }
     }
 
@@ -90,6 +98,7 @@ impl Arena {
             keys: self.keys.len(),
             values: self.values.len(),
         })?;
+        self.deepest = self.deepest.max(self.open.len());
         Ok(())
     }
 
@@ -119,6 +128,7 @@ impl Arena {
             keys: self.keys.len(),
             values: self.values.len(),
         })?;
+        self.deepest = self.deepest.max(self.open.len());
         Ok(())
     }
 
@@ -154,5 +164,24 @@ impl Arena {
         self.values.truncate(place.values);
         self.values.push(Node::Object(span))?;
         Ok(())
+    }
+
+    /// Writes the compact text of the tree, in UTF-8, by way of a buffer that is flushed at the end: the members
+    /// of each object in the order of their keys' bytes, numbers and strings in their one form.
+    ///
+    /// It ends with the first error: the writer's own, an interruption too; one of kind `WriteZero` where the
+    /// writer takes nothing; or one of kind `OutOfMemory` where there is no memory for the open containers.
+    /// Then a prefix of the text is written.
+    pub fn write_to<W: Write>(&self, alloc: Global, out: &mut W) -> io::Result<()>
+        ensures { (t : Tree) → IsTree self.now t →
+            WritesText (W.contents out.old) (W.contents out.new) (compact t) result }
+    {
+        let Some(root) = self.values.first() else {
+            return Err(io::Error::from(ErrorKind::InvalidData));
+        };
+        let mut walk = Walk::new(alloc, &self.store, self.deepest);
+        walk.begin(out, *root)?;
+        walk.finish(out)?;
+        flush(out, &mut walk.buffer)
     }
 }

@@ -9,5 +9,6 @@ mod sorting;
 mod store;
 #[cfg(test)]
 mod tests;
+mod walk;
 
 pub use arena::Arena;

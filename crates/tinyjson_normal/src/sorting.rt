@@ -1,19 +1,10 @@
 //! The members of an object in the order of their keys.
 ghost use Rattle.std.specs.Prelude.{◌≡◌, ◌++◌, ◌∷◌, [], cond, OnOk};
 ghost use Rattle.std.specs.List.Sorted.{IsPermutation, IsSortedBy, IsStableBy};
-ghost use Rattle.tinyjson_normal.specs.Order.{bytes_at, comes_again, key_lt, lasts, paired};
+ghost use Rattle.tinyjson_normal.specs.Order.{comes_again, key_lt, lasts, paired};
 
-use crate::store::{Member, Node, Span};
+use crate::store::{Member, Node, Span, part};
 use std::alloc::AllocError;
-
-/// The bytes of a run of the texts, as far as there are any.
-pub(crate) fn bytes_at(texts: &[u8], span: Span) -> &[u8]
-    ensures { result.now ≡ bytes_at texts.now span }
-{
-    let to = span.to.min(texts.len());
-    let from = span.from.min(to);
-    &texts[from..to]
-}
 
 /// Makes a member of each key and its value.
 pub(crate) fn pair(
@@ -41,7 +32,7 @@ pub(crate) fn sort(texts: &[u8], members: &mut Vec<Member>) -> Result<(), AllocE
     ensures sorted { OnOk result (IsSortedBy (key_lt texts.now) members.new.items) }
     ensures stable { IsStableBy (key_lt texts.now) members.old.items members.new.items }
 {
-    members.sort_by(|a, b| bytes_at(texts, a.key).cmp(bytes_at(texts, b.key)))?;
+    members.sort_by(|a, b| part(texts, a.key).cmp(part(texts, b.key)))?;
     Ok(())
 }
 
@@ -82,7 +73,7 @@ fn comes_again(texts: &[u8], member: Member, others: &[Member]) -> bool
     ensures { result ≡ comes_again texts.now member others.now }
 {
     match others.first() {
-        Some(next) => bytes_at(texts, member.key) == bytes_at(texts, next.key),
+        Some(next) => part(texts, member.key) == part(texts, next.key),
         None => false,
     }
 }

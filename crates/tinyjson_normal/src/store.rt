@@ -1,8 +1,8 @@
 //! Nodes, and what they stand on: vectors that only grow.
-ghost use Rattle.std.specs.Prelude.{IfOk, OnOk};
+ghost use Rattle.std.specs.Prelude.{◌≡◌, IfOk, OnOk};
 ghost use Rattle.std.specs.Str.{chars};
 ghost use Rattle.tinyjson_normal.specs.Node.{IsRun, IsText, IsNumberAt, Grows};
-ghost use Rattle.tinyjson_normal.specs.Order.{lasts};
+ghost use Rattle.tinyjson_normal.specs.Order.{lasts, part};
 
 use crate::sorting::push_lasts;
 use std::alloc::{AllocError, Global};
@@ -13,6 +13,15 @@ use tinyjson_number::JsonNumber;
 pub(crate) struct Span {
     pub(crate) from: usize,
     pub(crate) to: usize,
+}
+
+/// What stands at these places, as far as there is any.
+pub(crate) fn part<T>(all: &[T], span: Span) -> &[T]
+    ensures { result.now ≡ part all.now span }
+{
+    let to = span.to.min(all.len());
+    let from = span.from.min(to);
+    &all[from..to]
 }
 
 /// A value. Its text, its number, its items or its members stand in the store.

@@ -1,0 +1,379 @@
+-- What a walk writes, piece by piece.
+use Rattle.std.proofs.Common.{
+  ◌≡◌,
+  ℕ,
+  zero,
+  suc,
+  ◌+◌,
+  ◌-◌,
+  ◌<◌,
+  ◌≤◌,
+  Bool,
+  true,
+  false,
+  Option,
+  None,
+  Some,
+  Result,
+  Ok,
+  Err,
+  OnOk,
+  slice_get,
+  codes,
+}
+use Rattle.std.proofs.Common.{
+  List,
+  [],
+  ◌∷◌,
+  ◌++◌,
+  length,
+  reverse,
+  refl,
+  sym,
+  ◌∙◌,
+  ap,
+  subst,
+  append_assoc,
+  append-nil,
+  length-append,
+  arith,
+}
+use Rattle.std.specs.Borrow.{Bor}
+use Rattle.std.specs.List.{sum_by}
+use Rattle.std.proofs.lemmas.List.{reverse-append, length-reverse}
+use Rattle.std.proofs.lemmas.List.Sums.{sum_by-cons}
+use Rattle.std.proofs.lemmas.Str.{encodes-append}
+use Rattle.tinyjson_grammar.specs.Tree.{Tree, null, boolean, number, string, array, object}
+use Rattle.tinyjson_grammar.specs.Tree.{Items, no_items, item, Members, no_members, member}
+use Rattle.tinyjson_grammar.specs.Text.{text, items_text, members_text, quoted, separator, has_no_items, has_no_members, closing}
+use Rattle.tinyjson_output.specs.Buffer.{Output, Sent, SentPart, SendsFrom}
+use Rattle.tinyjson_output.specs.Written.{WrittenPart, WritesPrefix}
+use Rattle.tinyjson_output.proofs.Callers.{sent_flushes as flushes}
+use Rattle.tinyjson_output.proofs.Callers.{enc, enc_cons, sent_goes as goes, sent_stops as stops, sent_stop as stop}
+use Rattle.tinyjson_output.proofs.Callers.{
+  sent_written_none as written_none,
+  sent_written_then as written_then,
+  sent_stops_then as stops_then,
+}
+use Rattle.tinyjson_normal.specs.Node.{IsRun, IsText, IsNumberAt, Is, Are, AreMembers, IsBytes}
+use Rattle.tinyjson_normal.specs.Order.{part}
+use Rattle.tinyjson_normal.specs.Walking.{head, IsRest, AreLeft, Advanced, AdvancesFrom, cost, rest_cost, left_cost}
+use Rattle.tinyjson_normal.specs.declared.store.Span.{Span}
+use Rattle.tinyjson_normal.specs.declared.store.Node.{Node}
+use Rattle.tinyjson_normal.specs.declared.store.Node.TheVariants as node
+use Rattle.tinyjson_normal.specs.declared.store.Member.{Member}
+use Rattle.tinyjson_normal.specs.declared.store.Store.{Store}
+use Rattle.tinyjson_normal.specs.declared.walk.Rest.{Rest}
+use Rattle.tinyjson_normal.specs.declared.walk.Rest.TheVariants as rest
+use Rattle.tinyjson_normal.proofs.Slices.{run_part, text_part}
+
+-- ---- which trees a node may stand for
+
+abbrev pub Seen : Store → Node → Tree → Type 0
+Seen s node.Null t = t ≡ null
+Seen s (node.Boolean b) t = t ≡ boolean b
+Seen s (node.Number i) t = (d : _) × (t ≡ number d) × IsNumberAt s d i
+Seen s (node.String p) t = (cs : List ℕ) × (t ≡ string cs) × IsBytes cs (part s.texts.items p)
+Seen s (node.Array p) t = (ts : Items) × (t ≡ array ts) × Are s ts (part s.items.items p)
+Seen s (node.Object p) t = (ms : Members) × (t ≡ object ms) × AreMembers s ms (part s.members.items p)
+
+pub seen : (s : Store) (t : Tree) (n : Node) → Is s t n → Seen s n t
+seen s null n h = subst (λ m. Seen s m null) (sym h) refl
+seen s (boolean b) n h = subst (λ m. Seen s m (boolean b)) (sym h) refl
+seen s (number d) n h = subst (λ m. Seen s m (number d)) (sym h.1) (d, refl, h.2)
+seen s (string cs) n h = subst (λ m. Seen s m (string cs)) (sym h.1) (cs, refl, text_part s cs h.0 h.2)
+seen s (array ts) n h =
+    subst (λ m. Seen s m (array ts)) (sym h.1) (ts, refl, subst (Are s ts) (sym (run_part s.items.items h.0 h.2 h.3)) h.4)
+seen s (object ms) n h =
+    subst (λ m. Seen s m (object ms)) (sym h.1) (ms, refl, subst (AreMembers s ms) (sym (run_part s.members.items h.0 h.2 h.3)) h.4)
+
+-- ---- a text and its head
+
+items_closed : (k : ℕ) (ts : Items) → items_text None k true ts ++ closing None 0
+    (has_no_items ts) 93 ≡ items_text None k true ts ++ 93 ∷ []
+items_closed k no_items = refl
+items_closed k (item t ts) = refl
+
+members_closed : (k : ℕ) (ms : Members) → members_text None k true ms ++ closing None 0
+    (has_no_members ms) 125 ≡ members_text None k true ms ++ 125 ∷ []
+members_closed k no_members = refl
+members_closed k (member key t ms) = refl
+
+pub array_text : (k : ℕ) (ts : Items) → text None k (array ts) ≡ head (array ts) ++ (items_text None (k + 1) true ts ++ 93 ∷ [])
+array_text k ts = ap (λ z. 91 ∷ z) (items_closed (k + 1) ts)
+
+pub object_text : (k : ℕ) (ms : Members) → text None k (object ms) ≡ head (object ms) ++ (members_text None (k + 1) true ms ++ 125 ∷ [])
+object_text k ms = ap (λ z. 123 ∷ z) (members_closed (k + 1) ms)
+
+head_begins : (k : ℕ) (t : Tree) → (ys : List ℕ) × (text None k t ≡ head t ++ ys)
+head_begins k null = ([], sym (append-nil (head null)))
+head_begins k (boolean b) = ([], sym (append-nil (head (boolean b))))
+head_begins k (number d) = ([], sym (append-nil (head (number d))))
+head_begins k (string cs) = ([], sym (append-nil (head (string cs))))
+head_begins k (array ts) = (_, array_text k ts)
+head_begins k (object ms) = (_, object_text k ms)
+
+cut : (t h ys xs : List ℕ) → t ≡ h ++ ys → enc (t ++ xs) ≡ enc h ++ enc (ys ++ xs)
+cut t h ys xs e = ap (λ z. enc (z ++ xs)) e ∙ ap enc (append_assoc h ys xs) ∙ encodes-append h (ys ++ xs)
+
+-- ---- a value is begun
+
+pub begin_fails : {old new : Output} (k : ℕ) (t : Tree) (xs : List ℕ) → SentPart old new (enc (head t))
+    → SentPart old new (enc (text None k t ++ xs))
+begin_fails {old} k t xs h =
+    let b = head_begins k t in stops {piece = enc (head t)} (enc (b.0 ++ xs)) h (written_none old _ _ (cut _ (head t) b.0 xs b.1))
+
+pub begin_stops : {old new : Output} (k : ℕ) (t : Tree) (xs : List ℕ) → Sent old new (enc (head t)) []
+    → SentPart old new (enc (text None k t ++ xs))
+begin_stops {old} k t xs h =
+    let b = head_begins k t in stop (goes {piece = enc (head t)} (enc (b.0 ++ xs)) h (written_none old _ _ (cut _ (head t) b.0 xs b.1)))
+
+pub begin_opens : (s : Store) (old new : Output) (k : ℕ) (t : Tree) (xs ys : List ℕ) (r : Rest) (opened now : List Rest)
+    → Sent old new (enc (head t)) [] → text None k t ≡ head t ++ ys → IsRest s r ys → AreLeft s (reverse opened) xs
+    → now ≡ opened ++ r ∷ []
+    → Advanced s old new (text None k t ++ xs) (reverse now)
+begin_opens s old new k t xs ys r opened now h e i l n =
+    let last : reverse now ≡ r ∷ reverse opened = ap reverse n ∙ reverse-append opened (r ∷ []) in
+    subst (Advanced s old new (text None k t ++ xs)) (sym last) (record {
+      left = ys ++ xs;
+      are_left = (ys, xs, refl, i, l);
+      sent = goes {piece = enc (head t)} (enc (ys ++ xs)) h (written_none old _ _ (cut _ (head t) ys xs e));
+    })
+
+pub begin_ends : (s : Store) (old new : Output) (k : ℕ) (t : Tree) (xs : List ℕ) (rs : List Rest)
+    → Sent old new (enc (head t)) [] → text None k t ≡ head t → AreLeft s rs xs → Advanced s old new (text None k t ++ xs) rs
+begin_ends s old new k t xs rs h e l = record {
+  left = xs;
+  are_left = l;
+  sent = goes {piece = enc (head t)} (enc xs) h (written_none old _ _ (ap (λ z. enc (z ++ xs)) e ∙ encodes-append (head t) xs));
+}
+
+-- ---- how many steps are left
+
+pub array_rest : (s : Store) (p : Span) (ns : List Node) (k : ℕ) (t : Tree) → ns ≡ part s.items.items p → Seen s (node.Array p) t
+    → (xs : List ℕ) × ((level : ℕ) × (ts : Items) × Are s ts ns × (xs ≡ items_text None level true ts ++ 93 ∷ [])) ×
+    (text None k t ≡ head t ++ xs)
+array_rest s p ns k t e v =
+    let xs = items_text None (k + 1) true v.0 ++ 93 ∷ [] in
+    (xs, (k + 1, v.0, subst (Are s v.0) (sym e) v.2, refl), subst (λ z. text None k z ≡ head z ++ xs) (sym v.1) (array_text k v.0))
+
+pub object_rest : (s : Store) (p : Span) (es : List Member) (k : ℕ) (t : Tree) → es ≡ part s.members.items p → Seen s (node.Object p) t
+    → (xs : List ℕ) × ((level : ℕ) × (ms : Members) × AreMembers s ms es × (xs ≡ members_text None level true ms ++ 125 ∷ [])) ×
+    (text None k t ≡ head t ++ xs)
+object_rest s p es k t e v =
+    let xs = members_text None (k + 1) true v.0 ++ 125 ∷ [] in (
+      xs,
+      (k + 1, v.0, subst (AreMembers s v.0) (sym e) v.2, refl),
+      subst (λ z. text None k z ≡ head z ++ xs) (sym v.1)
+          (object_text k v.0),
+    )
+
+cost_some : (s : Store) (f : ℕ) (n : Node) → 0 < cost s f n
+cost_some s zero n = omega arith
+cost_some s (suc f) node.Null = omega arith
+cost_some s (suc f) (node.Boolean b) = omega arith
+cost_some s (suc f) (node.Number i) = omega arith
+cost_some s (suc f) (node.String p) = omega arith
+cost_some s (suc f) (node.Array p) = omega arith
+cost_some s (suc f) (node.Object p) = omega arith
+
+pub less_leaf : (s : Store) (f most : ℕ) (n : Node) (rs : List Rest) → left_cost s most rs < cost s f n + left_cost s most rs
+less_leaf s f most n rs = omega (arith, cost_some s f n)
+
+pub less_open : (s : Store) (most : ℕ) (n : Node) (opened now : List Rest) (r : Rest) → now ≡ opened ++ r ∷ [] → length now ≤ most
+    → ((f : ℕ) → suc (rest_cost s f r) ≡ cost s (suc f) n)
+    → left_cost s most (reverse now) < cost s (most - length opened) n + left_cost s most (reverse opened)
+less_open s most n opened now r e room c =
+    let last : reverse now ≡ r ∷ reverse opened = ap reverse e ∙ reverse-append opened (r ∷ []) in
+    let long = ap length e ∙ length-append opened (r ∷ []) in
+    let same : suc (length (reverse opened)) ≡ suc (length opened) = ap suc (length-reverse opened) in
+    let fuel : most - length opened ≡ suc (most - suc (length (reverse opened))) = omega (arith, long, room, same) in
+    let whole : left_cost s most (reverse now) ≡ rest_cost s (most - suc (length (reverse opened))) r + left_cost s most
+    (reverse opened)
+    = ap (left_cost s most) last in
+    let now_cost = c (most - suc (length (reverse opened))) ∙ ap (λ f. cost s f n) (sym fuel) in
+    omega (arith, whole, now_cost)
+
+-- ---- what follows a first piece
+
+pub then_advances : {T E : Type 0} (s : Store) (old mid new : Output) (xs ys : List ℕ) (rs : List Rest) (r : Result T E)
+    → AdvancesFrom s mid new ys rs r → Sent old mid (enc xs) (enc ys) → AdvancesFrom s old new xs rs r
+then_advances s old mid new xs ys rs (Ok x) a h = record {
+  left = a.left;
+  are_left = a.are_left;
+  sent =
+      written_then (enc ys) (enc a.left) h a.sent;
+}
+then_advances s old mid new xs ys rs (Err e) a h = stops_then (enc ys) h a
+
+pub ok_map : {T E : Type 0} {A B : Type 0} (r : Result T E) → (A → B) → OnOk r A → OnOk r B
+ok_map (Ok x) f a = f a
+ok_map (Err e) f a = a
+
+pub closes : {T E : Type 0} (s : Store) (old new : Output) (xs own outer : List ℕ) (b : ℕ) (rs : List Rest) (r : Result T E) → b < 128
+    → xs ≡ own ++ outer → own ≡ b ∷ [] → AreLeft s rs outer → SendsFrom old new (b ∷ []) r → AdvancesFrom s old new xs rs r
+closes s old new xs own outer b rs (Ok x) low e o l h = record {
+  left = outer;
+  are_left = l;
+  sent = goes {piece = b ∷ []} (enc outer) h (written_none old _ _ (ap enc e ∙ ap (λ z. enc (z ++ outer)) o ∙ enc_cons b outer low));
+}
+closes s old new xs own outer b rs (Err x) low e o l h =
+    stops {piece = b ∷ []} (enc outer) h (written_none old _ _ (ap enc e ∙ ap (λ z. enc (z ++ outer)) o ∙ enc_cons b outer low))
+
+-- ---- an item, a member
+
+first_item : (b t i c o : List ℕ) → (((b ++ []) ++ (t ++ i)) ++ c) ++ o ≡ b ++ (t ++ ((i ++ c) ++ o))
+first_item b t i c o = simp (append-nil, append_assoc)
+
+first_member : (b q t m c o : List ℕ) → (((b ++ []) ++ ((q ++ (58 ∷ t)) ++ m)) ++ c) ++ o ≡ (b ++ (q ++ 58 ∷ [])) ++ (t ++
+    ((m ++ c) ++ o))
+first_member b q t m c o = simp (append-nil, append_assoc)
+
+-- the items that are left have a first one
+pub record NextItem (s : Store) (n : Node) (ns : List Node) (first : Bool) (rs : List Rest) (xs : List ℕ) : Type 0 where
+  pub level : ℕ
+  pub tree : Tree
+  pub is : Is s tree n
+  pub own : List ℕ
+  pub outer : List ℕ
+  pub rest : (level' : ℕ) × (ts : Items) × Are s ts ns × (own ≡ items_text None level' false ts ++ 93 ∷ [])
+  pub left : AreLeft s rs outer
+  pub split : enc xs ≡ enc (separator first) ++ enc (text None level tree ++ (own ++ outer))
+
+pub next_item : (s : Store) (n : Node) (ns all : List Node) (first : Bool) (rs : List Rest) (xs : List ℕ) → all ≡ n ∷ ns
+    → (own : List ℕ) × (outer : List ℕ) × (xs ≡ own ++ outer)
+    × ((k : ℕ) × (ts : Items) × Are s ts all × (own ≡ items_text None k first ts ++ 93 ∷ [])) × AreLeft s rs outer
+    → NextItem s n ns first rs xs
+next_item s n ns all first rs xs e g = by g.3.1 (subst (Are s g.3.1) e g.3.2) g.3.3
+  where
+    by : (ts : Items) → Are s ts (n ∷ ns) → g.0 ≡ items_text None g.3.0 first ts ++ 93 ∷ [] → NextItem s n ns first rs xs
+    by no_items h o = absurd h
+    by (item t ts) h o = record {
+      level = g.3.0;
+      tree = t;
+      is = h.0;
+      own = items_text None g.3.0 false ts ++ 93 ∷ [];
+      outer = g.1;
+      rest = (g.3.0, ts, h.1, refl);
+      left = g.4;
+      split = ap enc (g.2 ∙ ap (λ z. z ++ g.1) o
+          ∙ first_item (separator first) (text None g.3.0 t) (items_text None g.3.0 false ts) (93 ∷ []) g.1)
+          ∙ encodes-append (separator first) (text None g.3.0 t ++ ((items_text None g.3.0 false ts ++ 93 ∷ []) ++ g.1));
+    }
+
+pub last_item : (s : Store) (all : List Node) (k : ℕ) (first : Bool) (ts : Items) → length all ≡ 0 → Are s ts all
+    → items_text None k first ts ++ 93 ∷ [] ≡ 93 ∷ []
+last_item s [] k first no_items e h = refl
+last_item s [] k first (item t ts) e h = absurd h
+last_item s (n ∷ ns) k first ts e h = absurd (omega (arith, e))
+
+pub record NextMember (s : Store) (m : Member) (es : List Member) (first : Bool) (rs : List Rest) (xs : List ℕ) : Type 0 where
+  pub level : ℕ
+  pub key : List ℕ
+  pub is_key : IsBytes key (part s.texts.items m.key)
+  pub tree : Tree
+  pub is : Is s tree m.value
+  pub own : List ℕ
+  pub outer : List ℕ
+  pub rest : (level' : ℕ) × (ms : Members) × AreMembers s ms es × (own ≡ members_text None level' false ms ++ 125 ∷ [])
+  pub left : AreLeft s rs outer
+  pub split : enc xs ≡ enc (separator first ++ (quoted key ++ 58 ∷ [])) ++ enc (text None level tree ++ (own ++ outer))
+
+pub next_member : (s : Store) (m : Member) (es all : List Member) (first : Bool) (rs : List Rest) (xs : List ℕ) → all ≡ m ∷ es
+    → (own : List ℕ) × (outer : List ℕ) × (xs ≡ own ++ outer)
+    × ((k : ℕ) × (ms : Members) × AreMembers s ms all × (own ≡ members_text None k first ms ++ 125 ∷ [])) × AreLeft s rs outer
+    → NextMember s m es first rs xs
+next_member s m es all first rs xs e g = by g.3.1 (subst (AreMembers s g.3.1) e g.3.2) g.3.3
+  where
+    by : (ms : Members) → AreMembers s ms (m ∷ es) → g.0 ≡ members_text None g.3.0 first ms ++ 125 ∷ [] → NextMember s m es first rs xs
+    by no_members h o = absurd h
+    by (member key t ms) h o = record {
+      level = g.3.0;
+      key = key;
+      is_key = text_part s key m.key h.0;
+      tree = t;
+      is = h.1;
+      own = members_text None g.3.0 false ms ++ 125 ∷ [];
+      outer = g.1;
+      rest = (g.3.0, ms, h.2, refl);
+      left = g.4;
+      split = ap enc (g.2 ∙ ap (λ z. z ++ g.1) o
+          ∙ first_member (separator first) (quoted key) (text None g.3.0 t) (members_text None g.3.0 false ms) (125 ∷ []) g.1)
+          ∙ encodes-append (separator first ++ (quoted key ++ 58 ∷ [])) (text None g.3.0 t ++
+          ((members_text None g.3.0 false ms ++ 125 ∷ []) ++ g.1));
+    }
+
+pub last_member : (s : Store) (all : List Member) (k : ℕ) (first : Bool) (ms : Members) → length all ≡ 0 → AreMembers s ms all
+    → members_text None k first ms ++ 125 ∷ [] ≡ 125 ∷ []
+last_member s [] k first no_members e h = refl
+last_member s [] k first (member key t ms) e h = absurd h
+last_member s (m ∷ es) k first ms e h = absurd (omega (arith, e))
+
+-- ---- one step less
+
+pub ok_always : {T E A : Type 0} (r : Result T E) → A → OnOk r A
+ok_always (Ok x) a = a
+ok_always (Err e) a = tt
+
+pub less_close : (s : Store) (most : ℕ) (r : Rest) (rs : List Rest) → left_cost s most rs < left_cost s most (r ∷ rs)
+less_close s most (rest.Items ns first) rs = omega arith
+less_close s most (rest.Members es first) rs = omega arith
+
+last_first : (stack pushed : List Rest) (r : Rest) → pushed ≡ stack ++ r ∷ [] → reverse pushed ≡ r ∷ reverse stack
+last_first stack pushed r e = ap reverse e ∙ reverse-append stack (r ∷ [])
+
+-- what is left after a container was put on the stack
+pub left_pushed : (s : Store) (stack pushed : List Rest) (r : Rest) (own outer : List ℕ) → pushed ≡ stack ++ r ∷ []
+    → IsRest s r own → AreLeft s (reverse stack) outer
+    → AreLeft s (reverse pushed) (own ++ outer)
+left_pushed s stack pushed r own outer e i l =
+    subst (λ z. AreLeft s z (own ++ outer)) (sym (last_first stack pushed r e)) (own, outer, refl, i, l)
+
+pub less_item : (s : Store) (most now : ℕ) (n : Node) (ns all : Bor (List Node)) (first : Bool) (stack pushed : List Rest)
+    → all.now ≡ n ∷ ns.now
+    → pushed ≡ stack ++ rest.Items ns false ∷ [] → now < cost s (most - length pushed) n + left_cost s most (reverse pushed)
+    → now < left_cost s most (rest.Items all first ∷ reverse stack)
+less_item s most now n ns all first stack pushed a e h =
+    let fuel = most - suc (length (reverse stack)) in
+    let long = ap length e ∙ length-append stack (rest.Items ns false ∷ []) in
+    let same : most - length pushed ≡ fuel = omega (arith, long, length-reverse stack) in
+    let here : cost s (most - length pushed) n ≡ cost s fuel n = ap (λ f. cost s f n) same in
+    let whole : left_cost s most (reverse pushed) ≡ suc (sum_by (cost s fuel) ns.now) + left_cost s most (reverse stack)
+    = ap (left_cost s most) (last_first stack pushed (rest.Items ns false) e) in
+    let parts : sum_by (cost s fuel) all.now ≡ cost s fuel n + sum_by (cost s fuel) ns.now = ap (sum_by (cost s fuel)) a
+    ∙ sum_by-cons (cost s fuel) n ns.now in
+    omega (arith, h, here, whole, parts)
+
+pub less_member : (s : Store) (most now : ℕ) (m : Member) (es all : Bor (List Member)) (first : Bool) (stack pushed : List Rest)
+    → all.now ≡ m ∷ es.now
+    → pushed ≡ stack ++ rest.Members es false ∷ [] → now < cost s (most - length pushed) m.value + left_cost s most (reverse pushed)
+    → now < left_cost s most (rest.Members all first ∷ reverse stack)
+less_member s most now m es all first stack pushed a e h =
+    let fuel = most - suc (length (reverse stack)) in
+    let long = ap length e ∙ length-append stack (rest.Members es false ∷ []) in
+    let same : most - length pushed ≡ fuel = omega (arith, long, length-reverse stack) in
+    let here : cost s (most - length pushed) m.value ≡ cost s fuel m.value = ap (λ f. cost s f m.value) same in
+    let whole : left_cost s most (reverse pushed) ≡ suc (sum_by (λ (x : Member). cost s fuel x.value) es.now) + left_cost s most
+    (reverse stack)
+    = ap (left_cost s most) (last_first stack pushed (rest.Members es false) e) in
+    let parts : sum_by (λ (x : Member). cost s fuel x.value) all.now ≡ cost s fuel m.value + sum_by (λ
+    (x : Member). cost s fuel x.value) es.now
+    = ap (sum_by (λ (x : Member). cost s fuel x.value)) a ∙ sum_by-cons (λ (x : Member). cost s fuel x.value) m es.now in
+    omega (arith, h, here, whole, parts)
+
+-- ---- the whole text
+
+pub root_is : (values xs : List Node) (n m : Node) → Some m ≡ slice_get xs 0 → xs ≡ values → values ≡ n ∷ [] → n ≡ m
+root_is values xs n m a b c = let e : Some m ≡ Some n = a ∙ ap (λ z. slice_get z 0) (b ∙ c) in cc
+
+pub flushed : {T E : Type 0} (a b c : Option (List ℕ)) (p q : List ℕ) (t : Tree) (r : Result T E) → p ≡ []
+    → Sent (a, p) (b, q) (enc (text None 0 t ++ [])) [] → WritesPrefix b c q r → WritesPrefix a c (enc (text None 0 t)) r
+flushed a b c p q t r e h k =
+    flushes a b c q (enc (text None 0 t)) r (subst (λ z. Sent (a, z) (b, q) (enc (text None 0 t)) []) e
+    (subst (λ z. Sent (a, p) (b, q) (enc z) []) (append-nil (text None 0 t)) h)) k
+
+pub part_flushed : (a b : Option (List ℕ)) (p q : List ℕ) (t : Tree) → p ≡ [] → SentPart (a, p) (b, q) (enc (text None 0 t ++ []))
+    → WrittenPart a b (enc (text None 0 t))
+part_flushed a b p q t e h =
+    (subst (λ z. SentPart (a, z) (b, q) (enc (text None 0 t))) e (subst (λ z. SentPart (a, p) (b, q) (enc z)) (append-nil
+    (text None 0 t)) h)).part

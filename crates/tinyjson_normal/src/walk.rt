@@ -1,0 +1,246 @@
+//! The text of a tree in an arena, written without recursion: what is left of the open containers is on a stack.
+ghost use Rattle.std.specs.Prelude.{◌≡◌, ◌≤◌, ◌<◌, ◌+◌, ◌-◌, ◌++◌, ◌∷◌, [], ℕ, List, suc, length};
+ghost use Rattle.std.specs.Prelude.{reverse, OnOk, MatchOption, IfSome, None};
+ghost use Rattle.std.specs.Str.{encode_utf8_all};
+ghost use Rattle.tinyjson_grammar.specs.Tree.{Tree};
+ghost use Rattle.tinyjson_grammar.specs.Text.{text, separator, quoted};
+ghost use Rattle.tinyjson_grammar.specs.Characters.{name_separator};
+ghost use Rattle.tinyjson_normal.specs.declared.walk.Rest.TheVariants.{Items, Members};
+ghost use Rattle.tinyjson_normal.specs.Node.{Is, IsBytes};
+ghost use Rattle.tinyjson_normal.specs.Walking.{head, IsRest, AreLeft, Advances, cost, rest_cost, left_cost};
+ghost use Rattle.tinyjson_output.specs.Buffer.{buffered, SendsText};
+
+use crate::store::{Member, Node, Store, part};
+use std::alloc::{AllocError, Global};
+use std::io::{self, ErrorKind, Write};
+use tinyjson_output::{Buffer, quick_text, quote, write_bytes, write_number};
+
+/// What an open container has still to write before its closing bracket. `first` says that nothing of it is
+/// written yet.
+#[derive(Clone, Copy, Drop)]
+pub(crate) enum Rest<'a> {
+    Items { rest: &'a [Node], first: bool },
+    Members { rest: &'a [Member], first: bool },
+}
+
+/// A walk over a tree, the innermost container last, with room for so many.
+#[derive(Drop)]
+pub(crate) struct Walk<'a> {
+    pub(crate) store: &'a Store,
+    pub(crate) most: usize,
+    pub(crate) buffer: Buffer,
+    pub(crate) stack: Vec<Rest<'a>>,
+}
+
+impl<'a> Walk<'a> {
+    pub(crate) fn new(alloc: Global, store: &'a Store, most: usize) -> Self
+        ensures store { result.store ≡ store.entry }
+        ensures stack { result.stack.items ≡ [] }
+        ensures buffer { buffered result.buffer ≡ [] }
+    {
+        Walk {
+            store,
+            most,
+            buffer: Buffer::new(),
+            stack: Vec::new(alloc),
+        }
+    }
+
+    /// Writes a value, or its opening bracket, and opens what is left of it.
+    pub(crate) fn begin<W: Write>(&mut self, out: &mut W, node: Node) -> io::Result<()>
+        ensures sent { (t : Tree) (k : ℕ) (xs : List ℕ) → Is self.old.store.now t node
+            → AreLeft self.old.store.now (reverse self.old.stack.items) xs
+            → Advances W.contents out.old out.new self.old self.new (text None k t ++ xs) result }
+        ensures less { OnOk result
+            (left_cost self.old.store.now self.old.most (reverse self.new.stack.items)
+            < cost self.old.store.now (self.old.most - length self.old.stack.items) node
+            + left_cost self.old.store.now self.old.most (reverse self.old.stack.items)) }
+        ensures store { self.new.store ≡ self.old.store }
+        ensures most { self.new.most ≡ self.old.most }
+    {
+        write_head(out, &mut self.buffer, self.store, node)?;
+        match rest_of(self.store, node) {
+            Some(rest) => Ok(push(&mut self.stack, self.most, rest)?),
+            None => Ok(()),
+        }
+    }
+
+    /// Writes all that is left.
+    pub(crate) fn finish<W: Write>(&mut self, out: &mut W) -> io::Result<()>
+        ensures { (xs : List ℕ) → AreLeft self.old.store.now (reverse self.old.stack.items) xs
+            → SendsText W.contents out.old out.new self.old.buffer self.new.buffer xs result }
+    {
+        while let Some(rest) = self.stack.pop() {
+            self.resume(out, rest)?;
+        }
+        Ok(())
+    }
+
+    /// Writes what comes next of what is left of a container: an item or a member, or how it begins, or the
+    /// closing bracket.
+    fn resume<W: Write>(&mut self, out: &mut W, rest: Rest<'a>) -> io::Result<()>
+        ensures sent { (xs : List ℕ)
+            → AreLeft self.old.store.now (rest.entry ∷ reverse self.old.stack.items) xs
+            → Advances W.contents out.old out.new self.old self.new xs result }
+        ensures less { OnOk result
+            (left_cost self.old.store.now self.old.most (reverse self.new.stack.items)
+            < left_cost self.old.store.now self.old.most
+            (rest.entry ∷ reverse self.old.stack.items)) }
+        ensures store { self.new.store ≡ self.old.store }
+        ensures most { self.new.most ≡ self.old.most }
+    {
+        match rest {
+            Rest::Items { rest, first } => self.resume_items(out, rest, first),
+            Rest::Members { rest, first } => self.resume_members(out, rest, first),
+        }
+    }
+
+    fn resume_items<W: Write>(
+        &mut self,
+        out: &mut W,
+        items: &'a [Node],
+        first: bool,
+    ) -> io::Result<()>
+        ensures sent { (xs : List ℕ)
+            → AreLeft self.old.store.now (Items items.entry first ∷ reverse self.old.stack.items) xs
+            → Advances W.contents out.old out.new self.old self.new xs result }
+        ensures less { OnOk result
+            (left_cost self.old.store.now self.old.most (reverse self.new.stack.items)
+            < left_cost self.old.store.now self.old.most
+            (Items items.entry first ∷ reverse self.old.stack.items)) }
+        ensures store { self.new.store ≡ self.old.store }
+        ensures most { self.new.most ≡ self.old.most }
+    {
+        let Some((node, rest)) = items.split_first() else {
+            return write_bytes(out, &mut self.buffer, b"]");
+        };
+        separate(out, &mut self.buffer, first)?;
+        push(
+            &mut self.stack,
+            self.most,
+            Rest::Items { rest, first: false },
+        )?;
+        self.begin(out, *node)
+    }
+
+    fn resume_members<W: Write>(
+        &mut self,
+        out: &mut W,
+        members: &'a [Member],
+        first: bool,
+    ) -> io::Result<()>
+        ensures sent { (xs : List ℕ) → AreLeft self.old.store.now
+            (Members members.entry first ∷ reverse self.old.stack.items) xs
+            → Advances W.contents out.old out.new self.old self.new xs result }
+        ensures less { OnOk result
+            (left_cost self.old.store.now self.old.most (reverse self.new.stack.items)
+            < left_cost self.old.store.now self.old.most
+            (Members members.entry first ∷ reverse self.old.stack.items)) }
+        ensures store { self.new.store ≡ self.old.store }
+        ensures most { self.new.most ≡ self.old.most }
+    {
+        let Some((member, rest)) = members.split_first() else {
+            return write_bytes(out, &mut self.buffer, b"}");
+        };
+        let key = part(&self.store.texts, member.key);
+        write_key(out, &mut self.buffer, first, key)?;
+        push(
+            &mut self.stack,
+            self.most,
+            Rest::Members { rest, first: false },
+        )?;
+        self.begin(out, member.value)
+    }
+}
+
+/// Puts what is left of a container on the stack, if there is room.
+fn push<'a>(stack: &mut Vec<Rest<'a>>, most: usize, rest: Rest<'a>) -> Result<(), AllocError>
+    ensures stack { OnOk result (stack.new.items ≡ stack.old.items ++ rest.entry ∷ []) }
+    ensures room { OnOk result (length stack.new.items ≤ most) }
+{
+    if stack.len() >= most {
+        return Err(AllocError);
+    }
+    stack.push(rest)?;
+    Ok(())
+}
+
+/// What is left of a value after its opening bracket, if it has one.
+fn rest_of<'a>(store: &'a Store, node: Node) -> Option<Rest<'a>>
+    ensures rest { (t : Tree) (k : ℕ) → Is store.now t node →
+        MatchOption result (text None k t ≡ head t) (λ r. (xs : List ℕ)
+        × IsRest store.now r xs × (text None k t ≡ head t ++ xs)) }
+    ensures less { (f : ℕ) → IfSome result
+        (λ r. suc (rest_cost store.now f r) ≡ cost store.now (suc f) node) }
+{
+    match node {
+        Node::Array(span) => Some(Rest::Items {
+            rest: part(&store.items, span),
+            first: true,
+        }),
+        Node::Object(span) => Some(Rest::Members {
+            rest: part(&store.members, span),
+            first: true,
+        }),
+        _ => None,
+    }
+}
+
+/// Writes a value that holds no others, or an opening bracket.
+fn write_head<W: Write>(
+    out: &mut W,
+    buffer: &mut Buffer,
+    store: &Store,
+    node: Node,
+) -> io::Result<()>
+    ensures { (t : Tree) → Is store.now t node
+        → SendsText W.contents out.old out.new buffer.old buffer.new (head t) result }
+{
+    match node {
+        Node::Null => write_bytes(out, buffer, b"null"),
+        Node::Boolean(true) => write_bytes(out, buffer, b"true"),
+        Node::Boolean(false) => write_bytes(out, buffer, b"false"),
+        Node::Number(index) => match store.numbers.get(index) {
+            Some(number) => write_number(out, buffer, number),
+            None => Err(io::Error::from(ErrorKind::InvalidData)),
+        },
+        Node::String(span) => write_text(out, buffer, part(&store.texts, span)),
+        Node::Array(_) => write_bytes(out, buffer, b"["),
+        Node::Object(_) => write_bytes(out, buffer, b"{"),
+    }
+}
+
+/// Writes characters between quotes.
+fn write_text<W: Write>(out: &mut W, buffer: &mut Buffer, bytes: &[u8]) -> io::Result<()>
+    ensures { (cs : List ℕ) → IsBytes cs bytes.now
+        → SendsText W.contents out.old out.new buffer.old buffer.new (quoted cs) result }
+{
+    if quick_text(buffer, bytes) {
+        return Ok(());
+    }
+    match str::from_utf8(bytes) {
+        Ok(text) => quote(out, buffer, text),
+        Err(_) => Err(io::Error::from(ErrorKind::InvalidData)),
+    }
+}
+
+/// Writes what stands before the value of a member.
+fn write_key<W: Write>(out: &mut W, buffer: &mut Buffer, first: bool, key: &[u8]) -> io::Result<()>
+    ensures { (cs : List ℕ) → IsBytes cs key.now
+        → SendsText W.contents out.old out.new buffer.old buffer.new
+        (separator first ++ (quoted cs ++ name_separator ∷ [])) result }
+{
+    separate(out, buffer, first)?;
+    write_text(out, buffer, key)?;
+    write_bytes(out, buffer, b":")
+}
+
+/// Writes the comma before an item or a member, but none before the first.
+fn separate<W: Write>(out: &mut W, buffer: &mut Buffer, first: bool) -> io::Result<()>
+    ensures { SendsText W.contents out.old out.new buffer.old buffer.new (separator first) result }
+{
+    if first {
+        return Ok(());
+    }
+    write_bytes(out, buffer, b",")
+}
