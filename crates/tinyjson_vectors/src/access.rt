@@ -56,9 +56,6 @@ pub fn swap_in<T: InnerAsRefMut>(v: &mut JsonValue, x: T) -> Result<T, T>
 #[cfg(test)]
 mod tests {
     use super::*;
-    use crate::common::{of_kind, string};
-    use std::test::Fail;
-    use tinyjson::{JsonKind, JsonNumber};
 
     #[test]
     fn a_part_is_seen_and_swapped(rt: HostRuntime) {
@@ -71,50 +68,5 @@ mod tests {
         assert_eq!(rt; swap_in(&mut null, true), Err(true));
         assert!(rt; null == JsonValue::Null);
         assert!(rt; swap_in(&mut null, NullMark).is_err());
-    }
-
-    #[test]
-    fn a_string_is_seen_as_a_string(rt: HostRuntime) -> Result<(), Fail> {
-        let value = string(rt.alloc(), "this is string")?;
-        assert!(rt; value.get::<JsonNumber>().is_none());
-        let expected = "this is string".to_string(rt.alloc())?;
-        assert!(rt; value.get::<String>() == Some(&expected));
-        assert!(rt; matches!(value, JsonValue::String(_)));
-        assert!(rt; value.is_string());
-        let text = String::try_from(value)?;
-        assert_eq!(rt; text.as_str(), "this is string");
-        Ok(())
-    }
-
-    /// The kinds in the order of the tests in `kind_tests`.
-    const KINDS: [JsonKind; 6] = [
-        JsonKind::Boolean,
-        JsonKind::Number,
-        JsonKind::String,
-        JsonKind::Null,
-        JsonKind::Array,
-        JsonKind::Object,
-    ];
-
-    fn kind_tests(value: &JsonValue) -> [bool; 6] {
-        [
-            value.is_bool(),
-            value.is_number(),
-            value.is_string(),
-            value.is_null(),
-            value.is_array(),
-            value.is_object(),
-        ]
-    }
-
-    #[test]
-    fn each_kind_is_recognized(rt: HostRuntime) -> Result<(), Fail> {
-        for (place, kind) in KINDS.iter().copied().enumerate() {
-            let answers = kind_tests(&of_kind(rt.alloc(), kind)?);
-            for (kind, is) in answers.iter().copied().enumerate() {
-                assert_eq!(rt; is, kind == place, "value {place} at test {kind}");
-            }
-        }
-        Ok(())
     }
 }

@@ -61,28 +61,10 @@ pub fn refused_and_back(x: JsonValue) -> JsonValue
 #[cfg(test)]
 mod tests {
     use super::*;
-    use crate::common::{converted, of_kind};
+    use crate::common::of_kind;
     use std::alloc::Global;
     use std::test::Fail;
     use tinyjson::JsonKind;
-
-    const KINDS: [JsonKind; 6] = [
-        JsonKind::Null,
-        JsonKind::Boolean,
-        JsonKind::Number,
-        JsonKind::String,
-        JsonKind::Array,
-        JsonKind::Object,
-    ];
-
-    #[test]
-    fn the_content_of_each_kind(rt: HostRuntime) -> Result<(), Fail> {
-        for kind in KINDS {
-            let back = converted(of_kind(rt.alloc(), kind)?)?;
-            assert!(rt; back == of_kind(rt.alloc(), kind)?, "{kind}");
-        }
-        Ok(())
-    }
 
     /// The error of a conversion to the type of this kind.
     fn refusal(value: JsonValue, wanted: JsonKind) -> Option<UnexpectedValue> {

@@ -8,7 +8,7 @@ use crate::growth::placed;
 use std::alloc::Global;
 use std::collections::HashMap;
 use std::test::Fail;
-use tinyjson::{JsonValue, insert_member};
+use tinyjson::{JsonValue, discard_member, insert_member};
 
 /// A deep value, with what takes memory before and after it, whichever member a map gives last.
 const AMONG_OTHERS: &str = r#"[{"a":"x","b":["x"],"c":@,"d":"x","e":["x"]},"x",["x"]]"#;
@@ -50,5 +50,31 @@ fn a_deep_member_is_inserted(rt: HostRuntime) -> Result<(), Fail> {
     let mut members = HashMap::new(alloc);
     let inserted = insert_member(&mut members, key, value);
     JsonValue::from(members).dismantle();
+    Ok(inserted?)
+}
+
+/// A member that another replaces.
+#[test]
+fn a_deep_member_is_replaced(rt: HostRuntime) -> Result<(), Fail> {
+    let alloc = rt.alloc();
+    let keys = ("a".to_string(alloc)?, "a".to_string(alloc)?);
+    let value = with_levels(alloc, "@")?;
+    let mut members = HashMap::new(alloc);
+    let inserted = insert_member(&mut members, keys.0, value);
+    let replaced = insert_member(&mut members, keys.1, JsonValue::Null);
+    JsonValue::from(members).dismantle();
+    inserted?;
+    Ok(replaced?)
+}
+
+#[test]
+fn a_deep_member_is_discarded(rt: HostRuntime) -> Result<(), Fail> {
+    let alloc = rt.alloc();
+    let key = "a".to_string(alloc)?;
+    let value = with_levels(alloc, "@")?;
+    let mut members = HashMap::new(alloc);
+    let inserted = insert_member(&mut members, key, value);
+    discard_member(&mut members, "a");
+    assert!(rt; members.is_empty());
     Ok(inserted?)
 }

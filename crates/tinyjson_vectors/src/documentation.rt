@@ -1,6 +1,7 @@
-//! The examples of the documentation.
+//! The examples of the original crate's documentation. `tools/check-program` has the first one's texts.
+ghost use Rattle.std.specs.Prelude.{IsTrue, IsSome, ◌↔◌};
+ghost use Rattle.tinyjson.specs.Index.{item_at, member_at};
 
-use crate::places::{has_item, has_member};
 use std::collections::HashMap;
 use std::test::Fail;
 use tinyjson::{JsonNumber, JsonValue};
@@ -34,35 +35,20 @@ pub(crate) const INDENTED: &str = "{
   \"unicode\": \"\u{2764}\"
 }";
 
-const KEYS: [&str; 4] = ["arr", "bool", "nested", "unicode"];
-
-#[test]
-fn a_document_is_read_and_written(rt: HostRuntime) -> Result<(), Fail> {
-    let alloc = rt.alloc();
-    let parsed = JsonValue::from_str(alloc, DOCUMENT)?;
-
-    // Access to the inner value as a standard container
-    let object = parsed
+fn has_member(value: &JsonValue, key: &str) -> bool
+    ensures { IsTrue result ↔ IsSome (member_at value.now key.now) }
+{
+    value
         .get::<HashMap<String, JsonValue>>()
-        .expect(&rt, "an object");
-    assert_eq!(rt; object.len(), 4);
-
-    assert_eq!(rt; parsed.stringify(alloc)?.as_str(), COMPACT);
-    assert_eq!(rt; parsed.format(alloc)?.as_str(), INDENTED);
-    Ok(())
+        .is_some_and(|members| members.contains_key(key))
 }
 
-#[test]
-fn a_document_is_converted(rt: HostRuntime) -> Result<(), Fail> {
-    let parsed = JsonValue::from_str(rt.alloc(), DOCUMENT)?;
-
-    // Convert to a standard container
-    let object = HashMap::<String, JsonValue>::try_from(parsed)?;
-    assert_eq!(rt; object.len(), 4);
-    for key in KEYS {
-        assert!(rt; object.contains_key(key), "{key}");
-    }
-    Ok(())
+fn has_item(value: &JsonValue, index: usize) -> bool
+    ensures { IsTrue result ↔ IsSome (item_at value.now index) }
+{
+    value
+        .get::<Vec<JsonValue>>()
+        .is_some_and(|items| index < items.len())
 }
 
 #[test]
@@ -105,19 +91,5 @@ fn a_place_is_read_and_written(rt: HostRuntime) -> Result<(), Fail> {
         json.stringify(alloc)?.as_str(),
         r#"{"foo":{"bar":[{"target":false}]}}"#
     );
-    Ok(())
-}
-
-#[test]
-fn an_array_is_seen_and_changed(rt: HostRuntime) -> Result<(), Fail> {
-    let alloc = rt.alloc();
-    let mut value = JsonValue::from_str(alloc, "[1, 2, 3]")?;
-    assert!(rt; value.get::<JsonNumber>().is_none());
-    assert!(rt; value.get_mut::<JsonNumber>().is_none());
-    let items = value.get_mut::<Vec<JsonValue>>().expect(&rt, "an array");
-    let first = items.first_mut().expect(&rt, "three items");
-    assert!(rt; first.get::<JsonNumber>().and_then(|number| number.to_i64()) == Some(1));
-    *first = JsonValue::from(false);
-    assert_eq!(rt; value.stringify(alloc)?.as_str(), "[false,2,3]");
     Ok(())
 }

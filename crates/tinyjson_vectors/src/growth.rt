@@ -1,26 +1,18 @@
-//! Growing things at sizes round each growth of a vector, a string or a map, where memory is ample, alone and inside others: each is
-//! read, compared with what another spelling of it gives, written, copied and converted.
+//! Growing things at sizes round each growth of a vector, a string or a map, where memory is ample, alone and inside others: a text
+//! and its characters have one answer, and the value is copied and written in each way. `tools/check-program` shows what the answers
+//! and the texts are.
 
-pub(crate) mod containers;
-mod deep;
-mod indents;
-mod nesting;
-mod numbers;
-mod strings;
-
-use crate::common::{
-    converted, is_indented, is_taken, is_text, is_value, is_written, parsed, parsed_within,
-};
+use crate::common::{is_taken, parsed};
 use std::alloc::{AllocError, Global};
-use std::process::Abort;
+use std::string::ToString;
 use std::test::Fail;
-use tinyjson::{JsonGenerator, JsonValue};
+use tinyjson::{JsonGenerator, JsonNumber, JsonParseResult, JsonParser, JsonValue};
 
-/// Below, at and after the first growths of vectors, strings and maps, and far beyond them.
-const SIZES: [usize; 10] = [0, 1, 8, 9, 17, 64, 65, 1_000, 5_000, 300_000];
+/// Below, at and after the first growths of vectors, strings and maps, and round the 64 levels that `==` compares by a recursion.
+const SIZES: [usize; 8] = [0, 1, 8, 9, 17, 64, 65, 1_000];
 
-/// Larger things are tested alone, and not inside others.
-const LARGEST_INSIDE: usize = 1_000;
+/// Far beyond them, where things are tested alone and not inside others, and are not indented, since that takes the square of the depth.
+const LARGE: [usize; 2] = [5_000, 300_000];
 
 /// 64 members of an object.
 const OTHERS: &str =
@@ -32,17 +24,61 @@ const OTHERS: &str =
     \"b50\":0,\"b51\":0,\"b52\":0,\"b53\":0,\"b54\":0,\"b55\":0,\"b56\":0,\"b57\":0,\"b58\":0,\"b59\":0,\
     \"b60\":0,\"b61\":0,\"b62\":0,\"b63\":0";
 
-/// Where a value stands, in a text and in the compact text: at the top, as an item, as a later, the first and the only member, as
-/// the first and the last member of an object of 65, and in such an object in another. `@` is the value, and `*` is `OTHERS`.
-const PLACES: [(&str, &str); 8] = [
-    ("@", "@"),
-    ("\t[ @ ]\r\n", "[@]"),
-    ("{\"z\" : 1,\"a\":@}", "{\"a\":@,\"z\":1}"),
-    ("{\"a\": @ ,\"z\":1}", "{\"a\":@,\"z\":1}"),
-    ("{ \"a\":@ }", "{\"a\":@}"),
-    ("{\"a\":@,*}", "{\"a\":@,*}"),
-    ("{*,\"z\":@}", "{*,\"z\":@}"),
-    ("{*,\"z\":{\"a\":@,*}}", "{*,\"z\":{\"a\":@,*}}"),
+/// Where a value stands: at the top, as an item, as a later, the first and the only member, as the first and the last member of an
+/// object of 65, and in such an object in another. `@` is the value, and `*` is `OTHERS`.
+const PLACES: [&str; 8] = [
+    "@",
+    "\t[ @ ]\r\n",
+    "{\"z\" : 1,\"a\":@}",
+    "{\"a\": @ ,\"z\":1}",
+    "{ \"a\":@ }",
+    "{\"a\":@,*}",
+    "{*,\"z\":@}",
+    "{*,\"z\":{\"a\":@,*}}",
+];
+
+/// What stands before the pieces, each piece, with `#` for its number, and what stands between the pieces, inside the last, after the
+/// inside so many times as there are pieces, and at the end.
+type Shape = [&'static str; 6];
+
+const SHAPES: &[Shape] = &[
+    // Arrays and objects, with their members in falling order; equal keys, of which the last stays; what is refused after many.
+    ["\t[ ", "#", " , ", "", "", " ]\r\n"],
+    ["{ ", "\"k#\":#", " ,", "", "", " }"],
+    ["{", "\"k\":#,", "", "\"k\":\"last\"", "", "}"],
+    ["[0,", "#", ",", "", "", ",-]"],
+    ["{\"0\":0,", "\"#\":#", ",", "", "", ",7:"],
+    // Strings and keys.
+    ["\"", "a", "", "", "", "\""],
+    ["\"", "\\n", "", "", "", "\""],
+    ["\"", "\\\\", "", "", "", "\""],
+    ["\"", "\u{2764}", "", "", "", "\""],
+    ["\"", "\u{1f600}", "", "", "", "\""],
+    ["\"", "\\u0041", "", "", "", "\""],
+    ["\"", "\\u001F", "", "", "", "\""],
+    ["\"", "\\ud83d\\ude00", "", "", "", "\""],
+    ["{\"", "a", "", "", "", "\":null}"],
+    ["{\"", "\u{1f600}", "", "", "", "\":null}"],
+    ["{\"", "\\u001F", "", "", "", "\":null}"],
+    // Containers that are closed, and such that stay open.
+    ["", "[", "", "", "]", ""],
+    ["", "[1,", "", "2", "]", ""],
+    ["", "{\"a\":", "", "null", "}", ""],
+    ["", "{\"b\":1,\"a\":", "", "null", "}", ""],
+    ["", "[{\"a\":", "", "null", "}]", ""],
+    ["", "[", "", "", "", ""],
+    ["", "{", "", "", "", "x"],
+    ["", "[{\"a\":", "", "", "", "x"],
+];
+
+/// Numbers by the digits of their parts.
+const NUMBERS: [Shape; 6] = [
+    ["9", "9", "", "", "", ""],
+    ["9", "9", "", ".", "9", "8"],
+    ["9", "9", "", ".", "9", "8E+7"],
+    ["-", "9", "", "8e-70", "", ""],
+    ["5e", "0", "", "2", "", ""],
+    ["-0.0E+", "9", "", "9", "", ""],
 ];
 
 /// The text with this value and these members in their places.
@@ -52,64 +88,40 @@ pub(crate) fn placed(alloc: Global, place: &str, value: &str) -> Result<String, 
         .replace(alloc, "@", value)
 }
 
-/// The text with a part so many times in the place of `#`.
-fn filled(alloc: Global, around: &str, part: &str, size: usize) -> Result<String, AllocError> {
-    around.replace(alloc, "#", part.repeat(alloc, size)?.as_str())
-}
-
-/// What begins so many containers in one another, what stands inside, and what ends them. Each second one begins and ends otherwise.
-fn nested(
-    alloc: Global,
-    begins: [&str; 2],
-    inside: &str,
-    ends: [&str; 2],
-    size: usize,
-) -> Result<String, AllocError> {
-    let mut text = String::new(alloc);
-    for depth in 0..size {
-        text.push_str(begins[depth % 2])?;
+/// The text of this shape with so many pieces, whose numbers fall and have as many digits each.
+fn text_of(alloc: Global, shape: &Shape, size: usize) -> Result<String, Fail> {
+    let [begin, piece, between, inside, close, end] = *shape;
+    let mut text = begin.to_string(alloc)?;
+    for i in 0..size {
+        let number = 1_000_000_usize.saturating_add(size - i).to_string(alloc)?;
+        text.push_str(if i == 0 { "" } else { between })?;
+        text.push_str(piece.replace(alloc, "#", number.as_str())?.as_str())?;
     }
     text.push_str(inside)?;
-    for depth in (0..size).rev() {
-        text.push_str(ends[depth % 2])?;
-    }
+    text.push_str(close.repeat(alloc, size)?.as_str())?;
+    text.push_str(end)?;
     Ok(text)
 }
 
-/// The lines of a compact text in which no string holds a bracket, a comma or a colon.
-fn laid_out(alloc: Global, compact: &str, indent: &str) -> Result<String, AllocError> {
-    let mut text = String::new(alloc);
-    let mut depth: usize = 0;
-    let mut last = ' ';
-    for c in compact.chars() {
-        let closes = matches!(c, ']' | '}');
-        let is_begun = matches!(last, '[' | '{');
-        depth = depth.saturating_sub(closes as usize);
-        if is_begun != closes || last == ',' {
-            text.push('\n')?;
-            text.push_str(indent.repeat(alloc, depth)?.as_str())?;
+/// Whether a value was read that is equal to this one.
+fn is_value(answer: JsonParseResult, value: &JsonValue) -> bool {
+    match answer {
+        Ok(other) => {
+            let is_equal = other == *value;
+            other.dismantle();
+            is_equal
         }
-        text.push(c)?;
-        text.push_str(if c == ':' { " " } else { "" })?;
-        depth = depth.saturating_add(matches!(c, '[' | '{') as usize);
-        last = c;
+        Err(_) => false,
     }
-    Ok(text)
 }
 
-/// Whether the text is read as this value, with no limit on depth, and with one, from a text and from its characters.
-pub(crate) fn is_read(alloc: Global, text: &str, value: &JsonValue) -> bool {
+/// Whether the text is read as this value with a limit on depth, and its characters with one and with none.
+fn is_read(alloc: Global, text: &str, value: &JsonValue) -> bool {
     let limited = JsonValue::from_str_with_depth_limit(alloc, text, usize::MAX);
-    is_value(JsonValue::from_str(alloc, text), value)
+    let mut parser = JsonParser::with_depth_limit(alloc, text.chars(), usize::MAX);
+    is_value(parsed(alloc, text), value)
         && is_value(limited, value)
-        && is_value(parsed(alloc, text), value)
-        && is_value(parsed_within(alloc, text, usize::MAX), value)
-}
-
-/// Whether a copy of the value is equal to it, and stays so where it is converted.
-fn is_copied(alloc: Global, value: &JsonValue) -> Result<bool, Fail> {
-    let copy = value.try_clone(alloc)?;
-    Ok(copy == *value && converted(copy)? == *value)
+        && is_value(parser.parse(), value)
 }
 
 /// Whether the value is generated so, in the compact form, or with an indent.
@@ -123,46 +135,125 @@ fn is_generated(alloc: Global, indent: Option<&str>, value: &JsonValue, expected
     is_taken(answer, generator.into_inner().as_slice(), expected)
 }
 
-/// Whether the value is written so as a text, as bytes and by a generator, in both forms.
-fn is_written_in_both_forms(alloc: Global, value: &JsonValue, compact: &str, lines: &str) -> bool {
-    is_text(value.stringify(alloc), compact)
-        && is_written(alloc, value, compact)
-        && is_generated(alloc, None, value, compact)
-        && is_text(value.format(alloc), lines)
-        && is_indented(alloc, value, lines)
-        && is_generated(alloc, Some("  "), value, lines)
+/// Whether the compact text is the same as a text, as bytes and by a generator, and is read as the value.
+fn is_written(alloc: Global, value: &JsonValue) -> Result<bool, Fail> {
+    let text = value.stringify(alloc)?;
+    let mut bytes = Vec::new(alloc);
+    let answer = value.write_to(alloc, &mut bytes);
+    Ok(
+        is_taken(answer, bytes.as_slice(), text.as_str())
+            && is_generated(alloc, None, value, text.as_str())
+            && is_value(JsonValue::from_str(alloc, text.as_str()), value),
+    )
 }
 
-/// What is wrong with the value of the text, and of the compact text, which is to be written for it.
-fn mistake(alloc: Global, text: &str, compact: &str) -> Result<Option<&'static str>, Fail> {
-    let value = JsonValue::from_str(alloc, compact)?;
-    let lines = laid_out(alloc, compact, "  ")?;
-    Ok(if !is_read(alloc, text, &value) {
+/// The same of the indented text.
+fn is_indented(alloc: Global, value: &JsonValue) -> Result<bool, Fail> {
+    let text = value.format(alloc)?;
+    let mut bytes = Vec::new(alloc);
+    let answer = value.format_to(alloc, &mut bytes);
+    Ok(
+        is_taken(answer, bytes.as_slice(), text.as_str())
+            && is_generated(alloc, Some("  "), value, text.as_str())
+            && is_value(JsonValue::from_str(alloc, text.as_str()), value),
+    )
+}
+
+/// What is wrong with the answer to a text.
+fn mistake(alloc: Global, text: &str, is_large: bool) -> Result<Option<&'static str>, Fail> {
+    let value = match JsonValue::from_str(alloc, text) {
+        Ok(value) => value,
+        Err(error) => {
+            let is_alike = parsed(alloc, text) == Err(error) && !error.is_out_of_memory();
+            return Ok(if is_alike {
+                None
+            } else {
+                Some("is refused otherwise")
+            });
+        }
+    };
+    let found = if !is_read(alloc, text, &value) {
         Some("is read otherwise")
-    } else if !is_copied(alloc, &value)? {
+    } else if !is_value(Ok(value.try_clone(alloc)?), &value) {
         Some("is copied otherwise")
-    } else if !is_written_in_both_forms(alloc, &value, compact, lines.as_str()) {
+    } else if !is_written(alloc, &value)? {
         Some("is written otherwise")
+    } else if !is_large && !is_indented(alloc, &value)? {
+        Some("is indented otherwise")
     } else {
         None
-    })
+    };
+    value.dismantle();
+    Ok(found)
 }
 
-/// Finds no mistake in the value that the text and the compact text spell, in each place.
-fn check(
-    rt: &impl Abort,
-    alloc: Global,
-    (name, size): (&str, usize),
-    text: &str,
-    compact: &str,
-) -> Result<(), Fail> {
-    for (place, written) in PLACES {
-        if size <= LARGEST_INSIDE || place == "@" {
-            let text = placed(alloc, place, text)?;
-            let compact = placed(alloc, written, compact)?;
-            let found = mistake(alloc, text.as_str(), compact.as_str())?;
-            assert_eq!(rt; found, None, "{name} of size {size} at {place}");
+#[test]
+fn texts_of_each_size(rt: HostRuntime) -> Result<(), Fail> {
+    let alloc = rt.alloc();
+    for shape in SHAPES.iter().chain(&NUMBERS) {
+        for size in SIZES {
+            let value = text_of(alloc, shape, size)?;
+            for place in PLACES {
+                let text = placed(alloc, place, value.as_str())?;
+                let found = mistake(alloc, text.as_str(), false)?;
+                assert_eq!(rt; found, None, "{} of size {size} at {place}", shape[1]);
+            }
         }
+    }
+    Ok(())
+}
+
+#[test]
+fn large_texts(rt: HostRuntime) -> Result<(), Fail> {
+    let alloc = rt.alloc();
+    for shape in SHAPES.iter().chain(&NUMBERS) {
+        for size in LARGE {
+            let text = text_of(alloc, shape, size)?;
+            let found = mistake(alloc, text.as_str(), true)?;
+            assert_eq!(rt; found, None, "{} of size {size}", shape[1]);
+        }
+    }
+    Ok(())
+}
+
+/// Whether a number is shown as it is written, or known to be a number.
+fn is_number(alloc: Global, text: &str) -> Result<bool, Fail> {
+    let written = JsonValue::from_str(alloc, text)?.stringify(alloc)?;
+    let number = JsonNumber::from_text(alloc, text)?;
+    Ok(
+        JsonNumber::from_literal(alloc, text)? == number
+            && number.to_string(alloc)?.as_str() == written.as_str(),
+    )
+}
+
+#[test]
+fn numbers_of_each_size(rt: HostRuntime) -> Result<(), Fail> {
+    let alloc = rt.alloc();
+    for shape in NUMBERS.iter() {
+        for size in SIZES.into_iter().chain(LARGE) {
+            let text = text_of(alloc, shape, size)?;
+            assert!(rt; is_number(alloc, text.as_str())?, "{size}");
+        }
+    }
+    Ok(())
+}
+
+/// Containers of both kinds with others in them, and empty ones, indented with a tab.
+const TABBED: &str =
+    "{\n\t\"a\": [\n\t\t1,\n\t\t{}\n\t],\n\t\"b\": {\n\t\t\"c\": [\n\t\t\t[],\n\t\t\t2\n\t\t]\n\t}\n}";
+
+#[test]
+fn indents_of_each_size(rt: HostRuntime) -> Result<(), Fail> {
+    let alloc = rt.alloc();
+    let value = JsonValue::from_str(alloc, TABBED)?;
+    for size in SIZES.into_iter().chain(LARGE) {
+        let indent = "\t".repeat(alloc, size)?;
+        let lines = TABBED.replace(alloc, "\t", indent.as_str())?;
+        let indent = Some(indent.as_str());
+        assert!(rt;
+            is_generated(alloc, indent, &value, lines.as_str()),
+            "{size}"
+        );
     }
     Ok(())
 }

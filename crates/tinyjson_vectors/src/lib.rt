@@ -19,13 +19,10 @@ mod members;
 #[cfg(test)]
 mod memory;
 #[cfg(test)]
-mod messages;
-#[cfg(test)]
 mod numbers;
 #[cfg(test)]
 mod parsing;
 #[cfg(test)]
-mod places;
-pub mod writers;
+mod writers;
 #[cfg(test)]
 mod written;

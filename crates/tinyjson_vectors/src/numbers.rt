@@ -1,9 +1,9 @@
-//! Numbers: what is read, their parts and their texts.
+//! Numbers: what is read, their parts and their texts; and words of errors that no program shows.
 
 use std::string::ToString;
 use std::test::Fail;
 use tinyjson::number::LiteralError;
-use tinyjson::{JsonNumber, JsonNumberError, JsonValue};
+use tinyjson::{JsonNumber, JsonNumberError, JsonParseErrorKind};
 
 /// A number's text, whether it is negative, its digits, its power and its own text.
 type Row = (&'static str, bool, &'static str, i64, &'static str);
@@ -81,32 +81,17 @@ fn number(rt: &HostRuntime, text: &str) -> Result<JsonNumber, Fail> {
     Ok(JsonNumber::from_text(rt.alloc(), text)?)
 }
 
-/// Whether a number is zero, whether it is negative, its digits and its power.
-fn parts(number: &JsonNumber) -> (bool, bool, &str, i64) {
-    (
-        number.is_zero(),
-        number.is_negative(),
-        number.digits(),
-        number.power(),
-    )
-}
-
 #[test]
 fn decimals(rt: HostRuntime) -> Result<(), Fail> {
     for (text, negative, digits, power, shown) in ROWS {
         let number = number(&rt, text)?;
-        let is_zero = digits.is_empty();
-        assert_eq!(rt;
-            parts(&number),
-            (is_zero, negative, digits, power),
-            "{text}"
-        );
+        let parts = (number.is_negative(), number.digits(), number.power());
+        assert_eq!(rt; parts, (negative, digits, power), "{text}");
+        assert_eq!(rt; number.is_zero(), digits.is_empty(), "{text}");
         let own = number.to_string(rt.alloc())?;
         assert_eq!(rt; own.as_str(), shown, "{text}");
         assert_eq!(rt; JsonNumber::from_text(rt.alloc(), own.as_str())?, number);
         assert_eq!(rt; number.try_clone(rt.alloc())?, number);
-        let value = JsonValue::from(number);
-        assert_eq!(rt; value.stringify(rt.alloc())?.as_str(), shown, "{text}");
     }
     Ok(())
 }
@@ -191,5 +176,7 @@ fn words(rt: HostRuntime) -> Result<(), Fail> {
     ] {
         assert_eq!(rt; error.to_string(rt.alloc())?.as_str(), shown);
     }
+    let memory = JsonParseErrorKind::OutOfMemory.to_string(rt.alloc())?;
+    assert_eq!(rt; memory.as_str(), "Out of memory");
     Ok(())
 }

@@ -5,11 +5,11 @@ use std::alloc::Global;
 use std::io::{self, ErrorKind, Write};
 
 /// The message of a [`FailingWriter`]'s errors.
-pub const MESSAGE: &str = "the writer's own message";
+pub(crate) const MESSAGE: &str = "the writer's own message";
 
 /// How a writer fails.
-#[derive(Clone, Copy, Debug)]
-pub enum Failure {
+#[derive(Clone, Copy)]
+pub(crate) enum Failure {
     /// It returns an error of this kind, with [`MESSAGE`].
     Error(ErrorKind),
     /// It takes nothing, though it was given bytes.
@@ -21,77 +21,40 @@ pub enum Failure {
 /// It takes at most `chunk` bytes a call. After `capacity` bytes in all it fails in one call, and then it
 /// takes bytes again.
 #[derive(Drop)]
-pub struct FailingWriter {
-    bytes: Vec<u8>,
+pub(crate) struct FailingWriter {
+    /// What was taken.
+    pub(crate) bytes: Vec<u8>,
     chunk: usize,
     capacity: usize,
     failure: Option<Failure>,
     has_failed: bool,
-    calls: usize,
-    late_calls: usize,
-    empty_calls: usize,
-    flushes: usize,
+    /// How often `write` was called, how often after it had failed, and how often with no bytes.
+    pub(crate) calls: usize,
+    pub(crate) late_calls: usize,
+    pub(crate) empty_calls: usize,
+    /// How often `flush` was called.
+    pub(crate) flushes: usize,
 }
 
 impl FailingWriter {
-    /// A writer that takes at most so many bytes a call, and never fails.
-    pub fn good(alloc: Global, chunk: usize) -> FailingWriter {
-        FailingWriter {
-            bytes: Vec::new(alloc),
-            chunk,
-            capacity: usize::MAX,
-            failure: None,
-            has_failed: false,
-            calls: 0,
-            late_calls: 0,
-            empty_calls: 0,
-            flushes: 0,
-        }
-    }
-
-    /// A writer that takes at most `chunk` bytes a call and fails after `capacity` bytes.
-    pub fn failing(
+    /// A writer that takes at most `chunk` bytes a call, and fails after `capacity` bytes if it has a failure.
+    pub(crate) fn new(
         alloc: Global,
         chunk: usize,
         capacity: usize,
-        failure: Failure,
+        failure: Option<Failure>,
     ) -> FailingWriter {
         FailingWriter {
             bytes: Vec::new(alloc),
             chunk,
             capacity,
-            failure: Some(failure),
+            failure,
             has_failed: false,
             calls: 0,
             late_calls: 0,
             empty_calls: 0,
             flushes: 0,
         }
-    }
-
-    /// What was taken.
-    pub fn bytes(&self) -> &[u8] {
-        self.bytes.as_slice()
-    }
-
-    /// How often `write` was called.
-    pub fn calls(&self) -> usize {
-        self.calls
-    }
-
-    /// How often `write` was called after it had failed.
-    pub fn late_calls(&self) -> usize {
-        self.late_calls
-    }
-
-    /// How often `write` was called with no bytes.
-    pub fn empty_calls(&self) -> usize {
-        self.empty_calls
-    }
-
-    /// How often `flush` was called.
-    pub fn flushes(&self) -> usize {
-        self.flushes
     }
 
     fn count(&mut self, is_empty: bool)

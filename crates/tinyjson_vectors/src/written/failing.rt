@@ -17,11 +17,11 @@ const NESTED: &str = "[1,{\"a\":[null,\"x\"],\"b\":2}]";
 #[test]
 fn writes_byte_by_byte(rt: HostRuntime) -> Result<(), Fail> {
     let value = JsonValue::from_str(rt.alloc(), FALLING)?;
-    let mut writer = FailingWriter::good(rt.alloc(), 1);
+    let mut writer = FailingWriter::new(rt.alloc(), 1, usize::MAX, None);
     let answer = value.write_to(rt.alloc(), &mut writer);
-    assert!(rt; is_taken(answer, writer.bytes(), NESTED));
+    assert!(rt; is_taken(answer, writer.bytes.as_slice(), NESTED));
     assert_eq!(rt;
-        (writer.calls(), writer.empty_calls(), writer.flushes()),
+        (writer.calls, writer.empty_calls, writer.flushes),
         (26, 0, 0)
     );
     Ok(())
@@ -39,13 +39,13 @@ fn generate_three(alloc: Global, writer: &mut FailingWriter, value: &JsonValue) 
 #[test]
 fn flushes_nothing(rt: HostRuntime) -> Result<(), Fail> {
     let value = JsonValue::from_str(rt.alloc(), FALLING)?;
-    let mut writer = FailingWriter::good(rt.alloc(), 3);
+    let mut writer = FailingWriter::new(rt.alloc(), 3, usize::MAX, None);
     assert!(rt; value.format_to(rt.alloc(), &mut writer).is_ok());
-    assert_eq!(rt; (writer.empty_calls(), writer.flushes()), (0, 0));
-    let mut writer = FailingWriter::good(rt.alloc(), usize::MAX);
+    assert_eq!(rt; (writer.empty_calls, writer.flushes), (0, 0));
+    let mut writer = FailingWriter::new(rt.alloc(), usize::MAX, usize::MAX, None);
     assert!(rt; generate_three(rt.alloc(), &mut writer, &value).is_ok());
     assert_eq!(rt;
-        (writer.calls(), writer.empty_calls(), writer.flushes()),
+        (writer.calls, writer.empty_calls, writer.flushes),
         (3, 0, 0)
     );
     Ok(())
@@ -64,7 +64,7 @@ fn is_error(alloc: Global, answer: io::Result<()>, kind: ErrorKind, message: &st
 }
 
 /// How a value is written.
-#[derive(Clone, Copy, Debug)]
+#[derive(Clone, Copy)]
 enum Call {
     Generate,
     GenerateIndented,
@@ -125,13 +125,13 @@ fn mistake(
     (chunk, capacity): (usize, usize),
     (failure, kind, message): (Failure, ErrorKind, &str),
 ) -> Option<&'static str> {
-    let mut writer = FailingWriter::failing(alloc, chunk, capacity, failure);
+    let mut writer = FailingWriter::new(alloc, chunk, capacity, Some(failure));
     let answer = call.write(alloc, &mut writer, value);
     if !is_error(alloc, answer, kind, message) {
         Some("ends with another error")
-    } else if text.as_bytes().get(..capacity) != Some(writer.bytes()) {
+    } else if text.as_bytes().get(..capacity) != Some(writer.bytes.as_slice()) {
         Some("has written something else")
-    } else if (writer.late_calls(), writer.empty_calls(), writer.flushes()) != (0, 0, 0) {
+    } else if (writer.late_calls, writer.empty_calls, writer.flushes) != (0, 0, 0) {
         Some("calls the writer again")
     } else {
         None
@@ -151,9 +151,9 @@ fn check_failures(
             assert_eq!(rt;
                 mistake(alloc, value, call, (chunk, capacity), failure),
                 None,
-                "{:?} {capacity} {:?}",
-                call.0,
-                failure.0
+                "{} {capacity} {}",
+                call.1,
+                failure.2
             );
         }
     }
@@ -199,9 +199,9 @@ fn ends_with_the_first_error_of_a_long_text(rt: HostRuntime) -> Result<(), Fail>
     for (call, brackets) in ARRAYS {
         let text = long_text(alloc, brackets)?;
         check_failures(&rt, alloc, &value, (call, text.as_str()), (1_000, 499));
-        let mut writer = FailingWriter::good(alloc, 1_000);
+        let mut writer = FailingWriter::new(alloc, 1_000, usize::MAX, None);
         let answer = call.write(alloc, &mut writer, &value);
-        assert!(rt; is_taken(answer, writer.bytes(), text.as_str()), "{call:?}");
+        assert!(rt; is_taken(answer, writer.bytes.as_slice(), text.as_str()));
     }
     Ok(())
 }
@@ -209,12 +209,12 @@ fn ends_with_the_first_error_of_a_long_text(rt: HostRuntime) -> Result<(), Fail>
 #[test]
 fn writes_again_after_an_error(rt: HostRuntime) -> Result<(), Fail> {
     let value = JsonValue::from_str(rt.alloc(), "[true,null]")?;
-    let failure = Failure::Error(ErrorKind::BrokenPipe);
-    let mut writer = FailingWriter::failing(rt.alloc(), usize::MAX, 3, failure);
+    let failure = Some(Failure::Error(ErrorKind::BrokenPipe));
+    let mut writer = FailingWriter::new(rt.alloc(), usize::MAX, 3, failure);
     let mut generator = JsonGenerator::new(rt.alloc(), &mut writer);
     let answer = generator.generate(&value);
     assert!(rt; is_error(rt.alloc(), answer, ErrorKind::BrokenPipe, MESSAGE));
     let answer = generator.generate(&value);
-    assert!(rt; is_taken(answer, writer.bytes(), "[tr[true,null]"));
+    assert!(rt; is_taken(answer, writer.bytes.as_slice(), "[tr[true,null]"));
     Ok(())
 }

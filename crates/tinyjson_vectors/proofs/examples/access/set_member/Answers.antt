@@ -12,5 +12,5 @@ returns c =
     let w = c.replace.new.dest in
     let there = subst IsSome c.in_ok-member.ensures.value refl in
     tree_write v c.in_ok-members.members.now (c.get_mut-2.follows.lender w) c.args.key.now w c.utf8.key
-        (sym c.in_ok-members.ensures.value) there ((c.get_mut-2.follows.holds w).3 there)
+    (sym c.in_ok-members.ensures.value) there ((c.get_mut-2.follows.holds w).3 there)
     ∙ ap (λ x. with_tree_at_key (view v) (chars c.args.key.now) (view x)) c.replace.ensures.after

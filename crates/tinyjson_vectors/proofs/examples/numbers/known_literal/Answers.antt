@@ -4,6 +4,10 @@ use Rattle.tinyjson_vectors.proofs.examples.numbers.known_literal.Goals as goal
 pub from_literal-requires : goal.from_literal-requires
 from_literal-requires g c = (
   record { negative = false; integer = 49 ∷ 53 ∷ []; fraction = []; exponent = None },
-  record { well_formed = record { integer = (refl, (refl, tt)); some_digit = omega arith; fraction = tt; exponent = tt }; no_leading_zero =
-      refl; spelled = refl },
+  record {
+    well_formed = record { integer = (refl, (refl, tt)); some_digit = omega arith; fraction = tt; exponent = tt };
+    no_leading_zero =
+        refl;
+    spelled = refl;
+  },
 )
