@@ -1,8 +1,17 @@
-//! Queries of JSONPath (RFC 9535) as data.
+//! Queries of JSONPath (RFC 9535), as a text and as data.
+//!
+//! ```
+//! let query = Query::parse(alloc, "$.store.book[*].author")?;
+//! ```
 #![tactic(auto)]
 
+mod error;
+mod lexical;
+mod parse;
 mod query;
+mod string;
 
+pub use error::{ParseError, ParseErrorKind};
 pub use query::{
     Comparable, ComparisonOperator, Expression, FilterQuery, FunctionExpression, Literal, Origin,
     Query, Segment, Selector, SingularQuery, SingularSegment,

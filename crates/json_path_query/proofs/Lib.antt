@@ -1,0 +1,9 @@
+pub mod Finds
+pub mod Turns
+pub mod Sound
+pub mod Shorter
+pub mod Complete
+pub mod Refusals
+pub mod Steps
+pub mod Digits
+pub mod Reading

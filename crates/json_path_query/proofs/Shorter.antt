@@ -1,0 +1,180 @@
+-- What follows a text of a rule is shorter.
+use Rattle.std.proofs.Common.{◌≡◌, ℕ, ◌<◌, ◌≤◌, ◌+◌, ◌*◌, ◌-◌, Bool, true, false, ◌==◌, cond, List, [], ◌∷◌, length, Option, Some, None}
+use Rattle.std.proofs.Common.{refl, ap, arith, subst}
+use Rattle.std.specs.Prelude.{ℤ}
+use Rattle.tinyjson.specs.Characters.{is_white}
+use Rattle.json_path_query.specs.Forms.{Selector, Segment}
+use Rattle.json_path_query.specs.Grammar as is
+use Rattle.json_path_query.specs.Grammar.{after_blanks, is_name_char, name_chars, is_digit, digits_on, MagnitudeText, IntText, HexText}
+use Rattle.json_path_query.specs.Grammar.{CodeText}
+use Rattle.json_path_query.specs.Grammar.{EscapeText, CharacterText, QuotedText, StringText, BoundText, StepText, SelectorText}
+use Rattle.json_path_query.specs.Grammar.{SelectionText, ShorthandText, SegmentText}
+use Rattle.json_path_query.specs.Fronts.{string_turn, selector_front, separator, separated, selection_turn, begins_segment, segments_turn}
+use Rattle.json_path_query.specs.Fronts.{more_of, character_front, segment_front}
+use Rattle.json_path_query.proofs.Finds.{Finds, finds_none, finds_some, finds_cond, finds_map, finds_then, finds_as}
+use Rattle.json_path_query.proofs.Turns.{Falls, Shortens}
+use Rattle.json_path_query.proofs.Sound.{Before, character_sound, selector_sound, segment_sound}
+
+pub blanks_shorter : (xs : List ℕ) → length (after_blanks xs) ≤ length xs
+blanks_shorter [] = omega arith
+blanks_shorter (c ∷ cs) = by (is_white c) (blanks_shorter cs)
+  where
+    by : (b : Bool) → length (after_blanks cs) ≤ length cs → length (cond b (after_blanks cs) (c ∷ cs)) ≤ length (c ∷ cs)
+    by true h = omega arith
+    by false h = omega arith
+
+names_shorter : (xs : List ℕ) → length (name_chars xs).1 ≤ length xs
+names_shorter [] = omega arith
+names_shorter (c ∷ cs) = by (is_name_char c) (names_shorter cs)
+  where
+    by : (b : Bool) → length (name_chars cs).1 ≤ length cs
+        → length (cond {A = List ℕ × List ℕ} b (c ∷ (name_chars cs).0, (name_chars cs).1) ([], c ∷ cs)).1 ≤ length (c ∷ cs)
+    by true h = omega arith
+    by false h = omega arith
+
+digits_shorter : (n : ℕ) (xs : List ℕ) → length (digits_on n xs).1 ≤ length xs
+digits_shorter n [] = omega arith
+digits_shorter n (c ∷ cs) = by (is_digit c) (digits_shorter (10 * n + (c - 48)) cs)
+  where
+    by : (b : Bool) → length (digits_on (10 * n + (c - 48)) cs).1 ≤ length cs
+        → length (cond {A = ℕ × List ℕ} b (digits_on (10 * n + (c - 48)) cs) (n, c ∷ cs)).1 ≤ length (c ∷ cs)
+    by true h = omega arith
+    by false h = omega arith
+
+magnitude_shorter : (xs : List ℕ) (n : ℕ) (ys : List ℕ) → MagnitudeText xs n ys → length ys < length xs
+magnitude_shorter xs n ys (is.digits {xs = cs} c d e f) =
+    let h = digits_shorter (c - 48) cs in
+    let same : length (digits_on (c - 48) cs).1 ≡ length ys = ap (λ p. length p.1) e in
+    omega arith
+
+pub int_shorter : (xs : List ℕ) (i : ℤ) (ys : List ℕ) → IntText xs i ys → length ys < length xs
+int_shorter xs i ys is.zero = omega arith
+int_shorter xs i ys (is.positive {n = n} m) = magnitude_shorter xs n ys m
+int_shorter xs i ys (is.negative {xs = cs} {n = n} m) = let h = magnitude_shorter cs n ys m in omega arith
+
+hex_shorter : (xs : List ℕ) (n : ℕ) (ys : List ℕ) → HexText xs n ys → length ys < length xs
+hex_shorter xs n ys (is.digit c h) = omega arith
+
+code_shorter : (xs : List ℕ) (n : ℕ) (ys : List ℕ) → CodeText xs n ys → length ys < length xs
+code_shorter xs n ys (is.code {ys = zs} {zs = us} {us = vs} {a = a} {b = b} {c = c} {d = d} e f g h) =
+    let p = hex_shorter xs a zs e in
+    let q = hex_shorter zs b us f in
+    let r = hex_shorter us c vs g in
+    let s = hex_shorter vs d ys h in
+    omega arith
+
+escape_shorter : (quote : ℕ) (xs : List ℕ) (c : ℕ) (ys : List ℕ) → EscapeText quote xs c ys → length ys < length xs
+escape_shorter quote xs c ys (is.letter l d h) = omega arith
+escape_shorter quote xs c ys (is.non_surrogate {xs = cs} k h) = let s = code_shorter cs c ys k in omega arith
+escape_shorter quote xs c ys (is.surrogates {xs = cs} {ys = ds} {high = high} {low = low} k h l m) =
+    let s = code_shorter cs high (92 ∷ 117 ∷ ds) k in
+    let t = code_shorter ds low ys l in
+    omega arith
+
+character_shorter : (quote : ℕ) (xs : List ℕ) (c : ℕ) (ys : List ℕ) → CharacterText quote xs c ys → length ys < length xs
+character_shorter quote xs c ys (is.unescaped d h) = omega arith
+character_shorter quote xs c ys (is.escaped {xs = cs} k) = let s = escape_shorter quote cs c ys k in omega arith
+
+quoted_shorter : (quote : ℕ) (xs cs ys : List ℕ) → QuotedText quote xs cs ys → length ys < length xs
+quoted_shorter quote xs cs ys is.closed = omega arith
+quoted_shorter quote xs cs ys (is.more {ys = zs} {c = c} {cs = ds} m k) =
+    let s = character_shorter quote xs c zs m in
+    let t = quoted_shorter quote zs ds ys k in
+    omega arith
+
+string_shorter : (xs cs ys : List ℕ) → StringText xs cs ys → length ys < length xs
+string_shorter xs cs ys (is.double {xs = zs} q) = let s = quoted_shorter 34 zs cs ys q in omega arith
+string_shorter xs cs ys (is.single {xs = zs} q) = let s = quoted_shorter 39 zs cs ys q in omega arith
+
+bound_shorter : (xs : List ℕ) (o : Option ℤ) (ys : List ℕ) → BoundText xs o ys → length ys ≤ length xs
+bound_shorter xs o ys is.absent = omega arith
+bound_shorter xs o ys (is.present {ys = zs} {i = i} m e) =
+    let s = int_shorter xs i zs m in
+    let t = blanks_shorter zs in
+    let same : length (after_blanks zs) ≡ length ys = ap length e in
+    omega arith
+
+step_shorter : (xs : List ℕ) (o : Option ℤ) (ys : List ℕ) → StepText xs o ys → length ys ≤ length xs
+step_shorter xs o ys is.absent = omega arith
+step_shorter xs o ys is.empty = omega arith
+step_shorter xs o ys (is.present {xs = zs} {i = i} m) =
+    let s = int_shorter (after_blanks zs) i ys m in
+    let t = blanks_shorter zs in
+    omega arith
+
+selector_shorter : (xs : List ℕ) (v : Selector) (ys : List ℕ) → SelectorText xs v ys → length ys < length xs
+selector_shorter xs v ys (is.name {cs = cs} s) = string_shorter xs cs ys s
+selector_shorter xs v ys is.wildcard = omega arith
+selector_shorter xs v ys (is.slice {ys = zs} {zs = us} {start = start} {end = end} {step = step} a b c) =
+    let s = bound_shorter xs start (58 ∷ zs) a in
+    let t = blanks_shorter zs in
+    let u = bound_shorter (after_blanks zs) end us b in
+    let w = step_shorter us step ys c in
+    omega arith
+selector_shorter xs v ys (is.index {i = i} m) = int_shorter xs i ys m
+
+selection_shorter : (xs : List ℕ) (vs : List Selector) (ys : List ℕ) → SelectionText xs vs ys → length ys < length xs
+selection_shorter xs vs ys (is.last {ys = zs} {v = v} s e) =
+    let a = selector_shorter (after_blanks xs) v zs s in
+    let b = blanks_shorter xs in
+    let c = blanks_shorter zs in
+    let same : length (after_blanks zs) ≡ length (93 ∷ ys) = ap length e in
+    omega arith
+selection_shorter xs vs ys (is.more {ys = zs} {zs = us} {v = v} {vs = ws} s e k) =
+    let a = selector_shorter (after_blanks xs) v zs s in
+    let b = blanks_shorter xs in
+    let c = blanks_shorter zs in
+    let same : length (after_blanks zs) ≡ length (44 ∷ us) = ap length e in
+    let d = selection_shorter us ws ys k in
+    omega arith
+
+shorthand_shorter : (xs : List ℕ) (v : Selector) (ys : List ℕ) → ShorthandText xs v ys → length ys < length xs
+shorthand_shorter xs v ys is.wildcard = omega arith
+shorthand_shorter xs v ys (is.name {xs = zs} c h e) =
+    let a = names_shorter zs in
+    let same : length (name_chars zs).1 ≡ length ys = ap (λ p. length p.1) e in
+    omega arith
+
+segment_shorter : (xs : List ℕ) (s : Segment) (ys : List ℕ) → SegmentText xs s ys → length ys < length xs
+segment_shorter xs s ys (is.bracketed_child {xs = zs} {vs = vs} m) = let a = selection_shorter zs vs ys m in omega arith
+segment_shorter xs s ys (is.child {xs = zs} {v = v} m) = let a = shorthand_shorter zs v ys m in omega arith
+segment_shorter xs s ys (is.bracketed_descendant {xs = zs} {vs = vs} m) = let a = selection_shorter zs vs ys m in omega arith
+segment_shorter xs s ys (is.descendant {xs = zs} {v = v} m) = let a = shorthand_shorter zs v ys m in omega arith
+
+-- ---- the loops
+
+pub character_falls : (quote : ℕ) (xs : List ℕ) → Finds (character_front quote xs) (λ p. length p.1 < length xs)
+character_falls quote xs = finds_as (character_sound quote xs) (λ p m. character_shorter quote xs p.0 p.1 m)
+
+pub string_falls : (quote : ℕ) → Shortens (string_turn quote)
+string_falls quote [] = finds_none
+string_falls quote (c ∷ cs) =
+    finds_cond (c == quote) (λ _. finds_some tt) (λ _. finds_map more_of _ (finds_as (character_falls quote (c ∷ cs)) (λ p h. h)))
+
+pub selector_falls : (xs : List ℕ) → Finds (selector_front (after_blanks xs)) (λ p. length p.1 < length xs)
+selector_falls xs = finds_as (selector_sound (after_blanks xs)) (λ p b.
+    let a = selector_shorter (after_blanks xs) p.0 b.whole b.held in
+    let c = blanks_shorter b.whole in
+    let d = blanks_shorter xs in
+    let same : length (after_blanks b.whole) ≡ length p.1 = ap length b.blanks in
+    omega arith)
+
+pub selection_falls : Shortens selection_turn
+selection_falls xs = finds_then separated _ (finds_as (selector_falls xs) (λ p h. by p.0 p.1 h))
+  where
+    by : (v : Selector) (ys : List ℕ) → length ys < length xs → Finds (separator v ys) (Falls xs)
+    by v [] h = finds_none
+    by v (c ∷ cs) h =
+        finds_cond (c == 44) (λ _. finds_some (let l : length cs < length xs = omega arith in l))
+        (λ _. finds_cond (c == 93) (λ _. finds_some tt) (λ _. finds_none))
+
+pub segment_falls : (xs : List ℕ) → Finds (segment_front (after_blanks xs)) (λ p. length p.1 < length xs)
+segment_falls xs = finds_as (segment_sound (after_blanks xs)) (λ p m.
+    let a = segment_shorter (after_blanks xs) p.0 p.1 m in
+    let d = blanks_shorter xs in
+    omega arith)
+
+pub segments_falls : Shortens segments_turn
+segments_falls xs =
+    finds_cond (begins_segment (after_blanks xs)) (λ _. finds_map more_of _ (finds_as (segment_falls xs) (λ p h. h)))
+    (λ _. finds_some tt)

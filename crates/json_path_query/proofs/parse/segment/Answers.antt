@@ -1,0 +1,21 @@
+use Rattle.std.proofs.Common.{◌∷◌, [], refl}
+use Rattle.json_path_query.specs.Forms as form
+use Rattle.json_path_query.proofs.Steps.{segment_bracket, segment_short}
+use Rattle.json_path_query.proofs.parse.segment.Goals as goal
+
+pub returns-then-first-eq91 : goal.returns-then-first-eq91
+returns-then-first-eq91 c =
+    let s = c.in_ok-selectors.ensures in (
+      form.child s.0,
+      segment_bracket c.args.text.now _ c.in-Some.first.now s.0 _ c.in-Some.ensures.cases.0 c.if-first-eq91.true s.1,
+      (c.in_ok-selectors.selectors, refl, s.2),
+    )
+
+pub returns : goal.returns
+returns c =
+    let s = c.in_ok-selectors-2.ensures in (
+      form.child (s.0 ∷ []),
+      segment_short c.args.text.now _ _ c.in-Some.first.now c.in-Some-split_first.next.now s.0 _ c.in-Some.ensures.cases.0
+          c.if-first-ne46.false c.in-Some-split_first.ensures.cases.0 c.if-next-eq46.false s.1,
+      (c.in_ok-selectors-2.selectors, refl, s.2),
+    )

@@ -1,0 +1,230 @@
+-- What stands at the front of a text, and what follows it; only private contracts use these words.
+use Rattle.std.specs.Prelude.{◌≡◌, ℕ, zero, suc, ◌+◌, ◌-◌, ◌*◌, Bool, true, false, not, ◌&&◌, ◌||◌, ◌==◌, nat_le, cond, List, [], ◌∷◌}
+use Rattle.std.specs.Prelude.{length}
+use Rattle.std.specs.Prelude.{Option, Some, None, option_map, option_and_then, ℤ, pos, neg_ℤ}
+use Rattle.std.specs.Char.{digit_value}
+use Rattle.tinyjson.specs.Characters.{minus_sign, digit_zero, begin_array, end_array, name_separator, value_separator}
+use Rattle.tinyjson.specs.Characters.{quotation_mark, reverse_solidus, decimal_point, letter_u}
+use Rattle.tinyjson.specs.Characters.{is_hex, is_high, is_low, is_surrogate, pair_of}
+use Rattle.json_path_query.specs.Forms.{Selector, name, wildcard, index, slice, Segment, child, descendant}
+use Rattle.json_path_query.specs.Grammar.{root_identifier, apostrophe, asterisk, after_blanks, is_name_first, is_digit, is_digit1}
+use Rattle.json_path_query.specs.Grammar.{name_chars, digits_on}
+use Rattle.json_path_query.specs.Grammar.{greatest_exact, is_unescaped, escape_of}
+
+-- ---- integers
+
+abbrev pub exact_front : ℕ × List ℕ → Option (ℕ × List ℕ)
+exact_front p = cond (nat_le p.0 greatest_exact) (Some p) None
+
+abbrev pub magnitude_front : List ℕ → Option (ℕ × List ℕ)
+magnitude_front [] = None
+magnitude_front (c ∷ cs) = cond (is_digit1 c) (exact_front (digits_on (c - digit_zero) cs)) None
+
+abbrev pub negated : ℕ × List ℕ → ℤ × List ℕ
+negated p = (neg_ℤ (pos p.0), p.1)
+
+abbrev pub unsigned : ℕ × List ℕ → ℤ × List ℕ
+unsigned p = (pos p.0, p.1)
+
+abbrev pub int_front : List ℕ → Option (ℤ × List ℕ)
+int_front [] = None
+int_front (c ∷ cs) =
+    cond (c == digit_zero) (Some (pos 0, cs))
+    (cond (c == minus_sign) (option_map negated (magnitude_front cs))
+    (option_map unsigned (magnitude_front (c ∷ cs))))
+
+-- ---- strings
+
+abbrev pub hex_front : List ℕ → Option (ℕ × List ℕ)
+hex_front [] = None
+hex_front (c ∷ cs) = cond (is_hex c) (Some (digit_value c, cs)) None
+
+abbrev pub shifted : ℕ → ℕ × List ℕ → ℕ × List ℕ
+shifted n p = (n * 16 + p.0, p.1)
+
+-- one more digit
+abbrev pub digit_on : ℕ × List ℕ → Option (ℕ × List ℕ)
+digit_on q = option_map (shifted q.0) (hex_front q.1)
+
+abbrev pub code_front : List ℕ → Option (ℕ × List ℕ)
+code_front xs = option_and_then digit_on (option_and_then digit_on (option_and_then digit_on (hex_front xs)))
+
+abbrev pub low_end : ℕ → ℕ × List ℕ → Option (ℕ × List ℕ)
+low_end high p = cond (is_low p.0) (Some (pair_of high p.0, p.1)) None
+
+abbrev pub low_front : ℕ → List ℕ → Option (ℕ × List ℕ)
+low_front high cs = option_and_then (low_end high) (code_front cs)
+
+abbrev pub pair_front : ℕ → List ℕ → Option (ℕ × List ℕ)
+pair_front high (c ∷ d ∷ cs) = cond ((c == reverse_solidus) && (d == letter_u)) (low_front high cs) None
+pair_front high xs = None
+
+abbrev pub unicode_end : ℕ × List ℕ → Option (ℕ × List ℕ)
+unicode_end p = cond (is_high p.0) (pair_front p.0 p.1) (cond (is_low p.0) None (Some p))
+
+abbrev pub unicode_front : List ℕ → Option (ℕ × List ℕ)
+unicode_front xs = option_and_then unicode_end (code_front xs)
+
+abbrev pub before : List ℕ → ℕ → ℕ × List ℕ
+before cs d = (d, cs)
+
+abbrev pub escape_front : ℕ → List ℕ → Option (ℕ × List ℕ)
+escape_front quote [] = None
+escape_front quote (c ∷ cs) = cond (c == letter_u) (unicode_front cs) (option_map (before cs) (escape_of quote c))
+
+abbrev pub character_front : ℕ → List ℕ → Option (ℕ × List ℕ)
+character_front quote [] = None
+character_front quote (c ∷ cs) =
+    cond (c == reverse_solidus) (escape_front quote cs) (cond (is_unescaped quote c) (Some (c, cs)) None)
+
+-- a turn of a loop: it ends, or ends with one more, or goes on after one more
+pub data Turn (A : Type 0) : Type 0 where
+  end : List ℕ → Turn A
+  last : A → List ℕ → Turn A
+  more : A → List ℕ → Turn A
+
+abbrev pub with_first : {A : Type 0} → A → List A × List ℕ → List A × List ℕ
+with_first a r = (a ∷ r.0, r.1)
+
+abbrev pub then_turn : {A : Type 0} → (List ℕ → Option (List A × List ℕ)) → Turn A → Option (List A × List ℕ)
+then_turn go (end ys) = Some ([], ys)
+then_turn go (last a ys) = Some (a ∷ [], ys)
+then_turn go (more a ys) = option_map (with_first a) (go ys)
+
+-- fewer than n turns
+abbrev pub turns : {A : Type 0} → (List ℕ → Option (Turn A)) → ℕ → List ℕ → Option (List A × List ℕ)
+turns turn zero xs = None
+turns turn (suc n) xs = option_and_then (then_turn (turns turn n)) (turn xs)
+
+-- as many turns as a text can have
+abbrev pub all_turns : {A : Type 0} → (List ℕ → Option (Turn A)) → List ℕ → Option (List A × List ℕ)
+all_turns turn xs = turns turn (suc (length xs)) xs
+
+abbrev pub more_of : {A : Type 0} → A × List ℕ → Turn A
+more_of p = more p.0 p.1
+
+abbrev pub string_turn : ℕ → List ℕ → Option (Turn ℕ)
+string_turn quote [] = None
+string_turn quote (c ∷ cs) = cond (c == quote) (Some (end cs)) (option_map more_of (character_front quote (c ∷ cs)))
+
+abbrev pub quoted_front : ℕ → List ℕ → Option (List ℕ × List ℕ)
+quoted_front quote xs = all_turns (string_turn quote) xs
+
+-- ---- selectors, and the blanks after them
+
+abbrev pub begins_int : List ℕ → Bool
+begins_int [] = false
+begins_int (c ∷ cs) = (c == minus_sign) || is_digit c
+
+abbrev pub present_bound : ℤ × List ℕ → Option ℤ × List ℕ
+present_bound p = (Some p.0, after_blanks p.1)
+
+abbrev pub bound_front : List ℕ → Option (Option ℤ × List ℕ)
+bound_front xs = cond (begins_int xs) (option_map present_bound (int_front xs)) (Some (None, xs))
+
+abbrev pub step_front : List ℕ → Option (Option ℤ × List ℕ)
+step_front [] = Some (None, [])
+step_front (c ∷ cs) = cond (c == name_separator) (bound_front (after_blanks cs)) (Some (None, c ∷ cs))
+
+abbrev pub whole_slice : Option ℤ → Option ℤ → Option ℤ × List ℕ → Selector × List ℕ
+whole_slice start stop q = (slice start stop q.0, q.1)
+
+abbrev pub slice_end : Option ℤ → Option ℤ × List ℕ → Option (Selector × List ℕ)
+slice_end start p = option_map (whole_slice start p.0) (step_front p.1)
+
+-- a slice behind its first colon
+abbrev pub slice_front : Option ℤ → List ℕ → Option (Selector × List ℕ)
+slice_front start xs = option_and_then (slice_end start) (bound_front (after_blanks xs))
+
+abbrev pub index_end : ℤ → List ℕ → Option (Selector × List ℕ)
+index_end i [] = Some (index i, [])
+index_end i (c ∷ cs) = cond (c == name_separator) (slice_front (Some i) cs) (Some (index i, c ∷ cs))
+
+abbrev pub int_end : ℤ × List ℕ → Option (Selector × List ℕ)
+int_end p = index_end p.0 (after_blanks p.1)
+
+abbrev pub int_selector_front : List ℕ → Option (Selector × List ℕ)
+int_selector_front xs = option_and_then int_end (int_front xs)
+
+abbrev pub named : List ℕ × List ℕ → Selector × List ℕ
+named p = (name p.0, after_blanks p.1)
+
+abbrev pub is_quote : ℕ → Bool
+is_quote c = (c == quotation_mark) || (c == apostrophe)
+
+abbrev pub selector_front : List ℕ → Option (Selector × List ℕ)
+selector_front [] = None
+selector_front (c ∷ cs) =
+    cond (is_quote c) (option_map named (quoted_front c cs))
+    (cond (c == asterisk) (Some (wildcard, after_blanks cs))
+    (cond (c == name_separator) (slice_front None cs)
+    (int_selector_front (c ∷ cs))))
+
+-- ---- segments
+
+abbrev pub separator : Selector → List ℕ → Option (Turn Selector)
+separator v [] = None
+separator v (c ∷ cs) = cond (c == value_separator) (Some (more v cs)) (cond (c == end_array) (Some (last v cs)) None)
+
+abbrev pub separated : Selector × List ℕ → Option (Turn Selector)
+separated p = separator p.0 p.1
+
+abbrev pub selection_turn : List ℕ → Option (Turn Selector)
+selection_turn xs = option_and_then separated (selector_front (after_blanks xs))
+
+-- bracketed-selection behind its bracket
+abbrev pub selection_front : List ℕ → Option (List Selector × List ℕ)
+selection_front xs = all_turns selection_turn xs
+
+abbrev pub shorthand_front : List ℕ → Option (Selector × List ℕ)
+shorthand_front [] = None
+shorthand_front (c ∷ cs) =
+    cond (c == asterisk) (Some (wildcard, cs))
+    (cond (is_name_first c) (Some (name (c ∷ (name_chars cs).0), (name_chars cs).1)) None)
+
+abbrev pub child_of : List Selector × List ℕ → Segment × List ℕ
+child_of p = (child p.0, p.1)
+
+abbrev pub descendant_of : List Selector × List ℕ → Segment × List ℕ
+descendant_of p = (descendant p.0, p.1)
+
+abbrev pub alone : Selector × List ℕ → List Selector × List ℕ
+alone p = (p.0 ∷ [], p.1)
+
+-- a descendant segment behind its two points
+abbrev pub descendant_front : List ℕ → Option (Segment × List ℕ)
+descendant_front [] = None
+descendant_front (c ∷ cs) =
+    cond (c == begin_array) (option_map descendant_of (selection_front cs))
+    (option_map descendant_of (option_map alone (shorthand_front (c ∷ cs))))
+
+-- a segment behind its first point
+abbrev pub dotted_front : List ℕ → Option (Segment × List ℕ)
+dotted_front [] = None
+dotted_front (c ∷ cs) =
+    cond (c == decimal_point) (descendant_front cs) (option_map child_of (option_map alone (shorthand_front (c ∷ cs))))
+
+abbrev pub segment_front : List ℕ → Option (Segment × List ℕ)
+segment_front [] = None
+segment_front (c ∷ cs) =
+    cond (c == begin_array) (option_map child_of (selection_front cs))
+    (cond (c == decimal_point) (dotted_front cs) None)
+
+abbrev pub begins_segment : List ℕ → Bool
+begins_segment [] = false
+begins_segment (c ∷ cs) = (c == begin_array) || (c == decimal_point)
+
+abbrev pub segments_turn : List ℕ → Option (Turn Segment)
+segments_turn xs = cond (begins_segment (after_blanks xs)) (option_map more_of (segment_front (after_blanks xs))) (Some (end xs))
+
+abbrev pub segments_front : List ℕ → Option (List Segment × List ℕ)
+segments_front xs = all_turns segments_turn xs
+
+-- a whole query
+abbrev pub ended : List Segment × List ℕ → Option (List Segment)
+ended (ss, []) = Some ss
+ended (ss, c ∷ cs) = None
+
+abbrev pub query_front : List ℕ → Option (List Segment)
+query_front [] = None
+query_front (c ∷ cs) = cond (c == root_identifier) (option_and_then ended (segments_front cs)) None

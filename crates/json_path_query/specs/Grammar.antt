@@ -1,0 +1,182 @@
+-- The grammar of RFC 9535: which text is which query. A rule of the RFC's ABNF that has parts is a type here: `Rule xs v ys` says that the
+-- characters xs begin with a text of the rule, which means v, and that ys follow it. A run of blanks, of digits or of the characters of a
+-- name is taken whole; what may follow it in the RFC's rules never begins with one more of its characters.
+use Rattle.std.specs.Prelude.{◌≡◌, ℕ, ◌+◌, ◌-◌, ◌*◌, ◌≤◌, Bool, true, false, not, ◌&&◌, ◌||◌, ◌==◌, nat_le, cond, List, [], ◌∷◌}
+use Rattle.std.specs.Prelude.{Option, Some, None, ℤ, pos, neg_ℤ}
+use Rattle.std.specs.Char.{is_digit as is_digit_of, digit_value}
+use Rattle.tinyjson.specs.Characters.{minus_sign, digit_zero, begin_array, end_array, name_separator, value_separator, space, is_white}
+use Rattle.tinyjson.specs.Characters.{quotation_mark, reverse_solidus, solidus, backspace, form_feed, line_feed, carriage_return}
+use Rattle.tinyjson.specs.Characters.{horizontal_tab, decimal_point, letter_b, letter_f, letter_n, letter_r, letter_t, letter_u}
+use Rattle.tinyjson.specs.Characters.{is_hex, is_high, is_low, is_surrogate, pair_of}
+use Rattle.json_path_query.specs.Forms.{Selector, Segment}
+use Rattle.json_path_query.specs.Forms as form
+
+abbrev pub root_identifier : ℕ
+root_identifier = 36
+
+abbrev pub apostrophe : ℕ
+apostrophe = 39
+
+abbrev pub asterisk : ℕ
+asterisk = 42
+
+abbrev pub low_line : ℕ
+low_line = 95
+
+-- the runs
+
+-- S = *B: what follows the blanks
+abbrev pub after_blanks : List ℕ → List ℕ
+after_blanks [] = []
+after_blanks (c ∷ cs) = cond (is_white c) (after_blanks cs) (c ∷ cs)
+
+-- ALPHA
+abbrev pub is_alpha : ℕ → Bool
+is_alpha c = (nat_le 65 c && nat_le c 90) || (nat_le 97 c && nat_le c 122)
+
+-- name-first
+abbrev pub is_name_first : ℕ → Bool
+is_name_first c = is_alpha c || ((c == low_line) || nat_le 128 c)
+
+-- DIGIT
+abbrev pub is_digit : ℕ → Bool
+is_digit c = nat_le digit_zero c && nat_le c 57
+
+-- DIGIT1
+abbrev pub is_digit1 : ℕ → Bool
+is_digit1 c = nat_le 49 c && nat_le c 57
+
+-- name-char
+abbrev pub is_name_char : ℕ → Bool
+is_name_char c = is_name_first c || is_digit c
+
+-- *name-char: those at the front, and what follows them
+abbrev pub name_chars : List ℕ → List ℕ × List ℕ
+name_chars [] = ([], [])
+name_chars (c ∷ cs) = cond (is_name_char c) (c ∷ (name_chars cs).0, (name_chars cs).1) ([], c ∷ cs)
+
+-- *DIGIT: the number of which the digits at the front are those after the digits of n, and what follows them
+abbrev pub digits_on : ℕ → List ℕ → ℕ × List ℕ
+digits_on n [] = (n, [])
+digits_on n (c ∷ cs) = cond (is_digit c) (digits_on (10 * n + (c - digit_zero)) cs) (n, c ∷ cs)
+
+-- ---- integers (2.1)
+
+-- 2^53 - 1
+abbrev pub greatest_exact : ℕ
+greatest_exact = 9007199254740991
+
+-- DIGIT1 *DIGIT, in the range of exact integers
+pub data MagnitudeText : List ℕ → ℕ → List ℕ → Type 0 where
+  digits : {xs ys : List ℕ} {n : ℕ} (c : ℕ) → is_digit1 c ≡ true → digits_on (c - digit_zero) xs ≡ (n, ys) → nat_le n greatest_exact ≡ true
+      → MagnitudeText (c ∷ xs) n ys
+
+-- int
+pub data IntText : List ℕ → ℤ → List ℕ → Type 0 where
+  zero : {xs : List ℕ} → IntText (digit_zero ∷ xs) (pos 0) xs
+  positive : {xs ys : List ℕ} {n : ℕ} → MagnitudeText xs n ys → IntText xs (pos n) ys
+  negative : {xs ys : List ℕ} {n : ℕ} → MagnitudeText xs n ys → IntText (minus_sign ∷ xs) (neg_ℤ (pos n)) ys
+
+-- ---- strings (2.3.1.1)
+
+-- unescaped, and the quote that is not the string's own
+abbrev pub is_unescaped : ℕ → ℕ → Bool
+is_unescaped quote c = nat_le space c && (not (c == quote) && not (c == reverse_solidus))
+
+-- escapable, but for a code, and the string's own quote
+abbrev pub escape_of : ℕ → ℕ → Option ℕ
+escape_of quote c =
+    cond (c == quote) (Some c)
+    (cond (c == letter_b) (Some backspace)
+    (cond (c == letter_f) (Some form_feed)
+    (cond (c == letter_n) (Some line_feed)
+    (cond (c == letter_r) (Some carriage_return)
+    (cond (c == letter_t) (Some horizontal_tab)
+    (cond (c == solidus) (Some c)
+    (cond (c == reverse_solidus) (Some c) None)))))))
+
+-- HEXDIG
+pub data HexText : List ℕ → ℕ → List ℕ → Type 0 where
+  digit : {xs : List ℕ} (c : ℕ) → is_hex c ≡ true → HexText (c ∷ xs) (digit_value c) xs
+
+-- 4HEXDIG
+pub data CodeText : List ℕ → ℕ → List ℕ → Type 0 where
+  code : {xs ys zs us vs : List ℕ} {a b c d : ℕ} → HexText xs a ys → HexText ys b zs → HexText zs c us → HexText us d vs
+      → CodeText xs (((a * 16 + b) * 16 + c) * 16 + d) vs
+
+-- what follows a backslash: escapable, or the string's own quote
+pub data EscapeText : ℕ → List ℕ → ℕ → List ℕ → Type 0 where
+  letter : {quote : ℕ} {xs : List ℕ} (l c : ℕ) → escape_of quote l ≡ Some c → EscapeText quote (l ∷ xs) c xs
+  non_surrogate : {quote : ℕ} {xs ys : List ℕ} {c : ℕ} → CodeText xs c ys → is_surrogate c ≡ false → EscapeText quote (letter_u ∷ xs) c ys
+  surrogates : {quote : ℕ} {xs ys zs : List ℕ} {high low : ℕ} → CodeText xs high (reverse_solidus ∷ letter_u ∷ ys) → is_high high ≡ true
+      → CodeText ys low zs → is_low low ≡ true → EscapeText quote (letter_u ∷ xs) (pair_of high low) zs
+
+-- double-quoted, single-quoted
+pub data CharacterText : ℕ → List ℕ → ℕ → List ℕ → Type 0 where
+  unescaped : {quote : ℕ} {xs : List ℕ} (c : ℕ) → is_unescaped quote c ≡ true → CharacterText quote (c ∷ xs) c xs
+  escaped : {quote : ℕ} {xs ys : List ℕ} {c : ℕ} → EscapeText quote xs c ys → CharacterText quote (reverse_solidus ∷ xs) c ys
+
+-- *double-quoted or *single-quoted, and the quote that ends the string
+pub data QuotedText : ℕ → List ℕ → List ℕ → List ℕ → Type 0 where
+  closed : {quote : ℕ} {xs : List ℕ} → QuotedText quote (quote ∷ xs) [] xs
+  more : {quote : ℕ} {xs ys zs : List ℕ} {c : ℕ} {cs : List ℕ} → CharacterText quote xs c ys → QuotedText quote ys cs zs
+      → QuotedText quote xs (c ∷ cs) zs
+
+-- string-literal
+pub data StringText : List ℕ → List ℕ → List ℕ → Type 0 where
+  double : {xs cs ys : List ℕ} → QuotedText quotation_mark xs cs ys → StringText (quotation_mark ∷ xs) cs ys
+  single : {xs cs ys : List ℕ} → QuotedText apostrophe xs cs ys → StringText (apostrophe ∷ xs) cs ys
+
+-- ---- selectors (2.3)
+
+-- [start S], and [end S]
+pub data BoundText : List ℕ → Option ℤ → List ℕ → Type 0 where
+  absent : {xs : List ℕ} → BoundText xs None xs
+  present : {xs ys zs : List ℕ} {i : ℤ} → IntText xs i ys → after_blanks ys ≡ zs → BoundText xs (Some i) zs
+
+-- [":" [S step]]
+pub data StepText : List ℕ → Option ℤ → List ℕ → Type 0 where
+  absent : {xs : List ℕ} → StepText xs None xs
+  empty : {xs : List ℕ} → StepText (name_separator ∷ xs) None xs
+  present : {xs ys : List ℕ} {i : ℤ} → IntText (after_blanks xs) i ys → StepText (name_separator ∷ xs) (Some i) ys
+
+-- selector
+pub data SelectorText : List ℕ → Selector → List ℕ → Type 0 where
+  name : {xs cs ys : List ℕ} → StringText xs cs ys → SelectorText xs (form.name cs) ys
+  wildcard : {xs : List ℕ} → SelectorText (asterisk ∷ xs) form.wildcard xs
+  slice : {xs ys zs us : List ℕ} {start end step : Option ℤ} → BoundText xs start (name_separator ∷ ys)
+      → BoundText (after_blanks ys) end zs → StepText zs step us → SelectorText xs (form.slice start end step) us
+  index : {xs ys : List ℕ} {i : ℤ} → IntText xs i ys → SelectorText xs (form.index i) ys
+
+-- ---- segments (2.5)
+
+-- bracketed-selection behind its bracket: S selector *(S "," S selector) S "]"
+pub data SelectionText : List ℕ → List Selector → List ℕ → Type 0 where
+  last : {xs ys zs : List ℕ} {v : Selector} → SelectorText (after_blanks xs) v ys → after_blanks ys ≡ end_array ∷ zs
+      → SelectionText xs (v ∷ []) zs
+  more : {xs ys zs us : List ℕ} {v : Selector} {vs : List Selector} → SelectorText (after_blanks xs) v ys
+      → after_blanks ys ≡ value_separator ∷ zs → SelectionText zs vs us → SelectionText xs (v ∷ vs) us
+
+-- wildcard-selector, or member-name-shorthand
+pub data ShorthandText : List ℕ → Selector → List ℕ → Type 0 where
+  wildcard : {xs : List ℕ} → ShorthandText (asterisk ∷ xs) form.wildcard xs
+  name : {xs cs ys : List ℕ} (c : ℕ) → is_name_first c ≡ true → name_chars xs ≡ (cs, ys) → ShorthandText (c ∷ xs) (form.name (c ∷ cs)) ys
+
+-- child-segment, descendant-segment
+pub data SegmentText : List ℕ → Segment → List ℕ → Type 0 where
+  bracketed_child : {xs ys : List ℕ} {vs : List Selector} → SelectionText xs vs ys → SegmentText (begin_array ∷ xs) (form.child vs) ys
+  child : {xs ys : List ℕ} {v : Selector} → ShorthandText xs v ys → SegmentText (decimal_point ∷ xs) (form.child (v ∷ [])) ys
+  bracketed_descendant : {xs ys : List ℕ} {vs : List Selector} → SelectionText xs vs ys
+      → SegmentText (decimal_point ∷ decimal_point ∷ begin_array ∷ xs) (form.descendant vs) ys
+  descendant : {xs ys : List ℕ} {v : Selector} → ShorthandText xs v ys
+      → SegmentText (decimal_point ∷ decimal_point ∷ xs) (form.descendant (v ∷ [])) ys
+
+-- segments = *(S segment)
+pub data SegmentsText : List ℕ → List Segment → List ℕ → Type 0 where
+  none : {xs : List ℕ} → SegmentsText xs [] xs
+  more : {xs ys zs : List ℕ} {s : Segment} {ss : List Segment} → SegmentText (after_blanks xs) s ys → SegmentsText ys ss zs
+      → SegmentsText xs (s ∷ ss) zs
+
+-- jsonpath-query (2.1)
+pub data QueryText : List ℕ → List Segment → Type 0 where
+  query : {xs : List ℕ} {ss : List Segment} → SegmentsText xs ss [] → QueryText (root_identifier ∷ xs) ss
