@@ -2,3 +2,5 @@ pub mod Tokens
 pub mod Steps
 pub mod Replacing
 pub mod Indices
+pub mod Changing
+pub mod Places

@@ -24,7 +24,7 @@ item_back ts None u h = refl
 item_back ts (Some i) u h = with_nth_back ts i u h
 
 -- putting a part where it stands changes nothing
-step_back : (t : Tree) (k : List ℕ) (u : Tree) → IsTree t → step t k ≡ Some u → with_step t k u ≡ t
+pub step_back : (t : Tree) (k : List ℕ) (u : Tree) → IsTree t → step t k ≡ Some u → with_step t k u ≡ t
 step_back (object ms) k u s h = ap object (put_back k u ms s.1 h)
 step_back (array ts) k u s h = ap array (item_back ts (index_of k) u h)
 step_back _ k u s h = refl

@@ -3,3 +3,4 @@ pub mod Tokens
 pub mod Reading
 pub mod Index
 pub mod Walk
+pub mod Change

@@ -6,9 +6,11 @@
 //! ```
 #![tactic(auto)]
 
+mod change;
 mod index;
 mod parse;
 mod pointer;
 mod walk;
 
+pub use change::InsertError;
 pub use pointer::{Pointer, PointerError};

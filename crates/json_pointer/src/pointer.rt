@@ -1,12 +1,12 @@
 //! A pointer: the tokens of its text.
-ghost use Rattle.std.specs.Prelude.{◌≡◌, ◌∷◌, [], Some, OnOk, OnErr, encode_utf8_all};
+ghost use Rattle.std.specs.Prelude.{◌≡◌, ◌∷◌, [], Some, OnOk, OnErr, length, encode_utf8_all};
 ghost use Rattle.std.specs.Fmt.{WritesOnOk};
 ghost use Rattle.std.specs.Str.{chars};
 ghost use Rattle.tinyjson.specs.View.{text};
 ghost use Rattle.json_pointer.specs.Index.{HasIndexBefore};
 ghost use Rattle.json_pointer.specs.Reading.{pointer_error_message};
 ghost use Rattle.json_pointer.specs.Text.{escape_char, escape, pointer_text};
-ghost use Rattle.json_pointer.specs.Tokens.{tokens_of};
+ghost use Rattle.json_pointer.specs.Tokens.{tokens_of, begins_with};
 ghost use Rattle.json_pointer.specs.declared.pointer.PointerError.{PointerError};
 
 use std::alloc::{AllocError, AllocFailed, Global};
@@ -68,6 +68,20 @@ impl Pointer {
         Pointer {
             tokens: Vec::new(alloc),
         }
+    }
+
+    /// The number of tokens: how deep the part is that this names.
+    pub fn depth(&self) -> usize
+        ensures { result ≡ length (tokens_of self.now) }
+    {
+        self.tokens.len()
+    }
+
+    /// Whether the tokens begin with all of the other's: this then names the other's part, or one in it.
+    pub fn starts_with(&self, other: &Pointer) -> bool
+        ensures { result ≡ begins_with (tokens_of self.now) (tokens_of other.now) }
+    {
+        self.tokens.starts_with(other.tokens.as_slice())
     }
 
     /// Puts a token in front: what this names in a value, it then names in the value's container. If

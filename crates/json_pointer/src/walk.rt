@@ -54,7 +54,7 @@ fn child<'v>(value: &'v JsonValue, token: &str) -> Option<&'v JsonValue>
     }
 }
 
-fn replace_at(
+pub(crate) fn replace_at(
     value: &mut JsonValue,
     tokens: &[String],
     part: JsonValue,
