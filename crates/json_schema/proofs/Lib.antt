@@ -1,3 +1,7 @@
 pub mod Decimals
+pub mod Depths
+pub mod Forms
 pub mod Lookups
+pub mod Parts
+pub mod Places
 pub mod Validity

@@ -1,23 +1,28 @@
 -- Keywords and names, as bytes and as characters.
 use Rattle.std.proofs.Common.{◌≡◌, ℕ, Bool, true, false, ◌&&◌, ◌||◌, not, List, Option, Some, None, option_map, is_some, String}
-use Rattle.std.proofs.Common.{string_bytes, Global, Bor, bytes_eq, codes, encode_utf8_all, refl, sym, ap, ◌∙◌}
+use Rattle.std.proofs.Common.{[], ◌∷◌, suc, length, Vec, string_bytes, Global, Bor, bytes_eq, codes, encode_utf8_all, refl, sym, ap, ◌∙◌}
 use Rattle.std.proofs.lemmas.Slice.Eq.{bytes_eq-Decides}
 use Rattle.std.proofs.lemmas.Str.{encodes-chars, encodes-IsAscii, IsUtf8-string_bytes}
 use Rattle.std.specs.HashMap.{get_by_text}
-use Rattle.std.specs.Prelude.{option_and_then}
+use Rattle.std.specs.Prelude.{option_and_then, slice_get}
 use Rattle.std.specs.Str.{IsUtf8, chars}
+use Rattle.tinyjson.proofs.Callers.{view_Array, nth_items_view, item_count_view, no_array}
 use Rattle.tinyjson.proofs.Callers.{view_Object, view_String, view_ref, find_get, chars_literal, IsAscii_literal, are_ascii}
 use Rattle.tinyjson.specs.Access.{JsonMap}
-use Rattle.tinyjson.specs.Index.{tree_at_key}
+use Rattle.tinyjson.specs.Index.{tree_at, tree_at_key}
 use Rattle.tinyjson.specs.Kind.{kind_of, kind_name}
-use Rattle.tinyjson.specs.Tree.{Tree}
-use Rattle.tinyjson.specs.View.{view, text, members_view}
+use Rattle.tinyjson.specs.Tree.{Tree, Items, array, find}
+use Rattle.tinyjson.specs.View.{view, text, items_view, members_view, members_listed}
 use Rattle.tinyjson.specs.JsonKind.{JsonKind}
 use Rattle.tinyjson.specs.JsonKind.TheVariants as kind
 use Rattle.tinyjson.specs.declared.value.JsonValue.{JsonValue}
 use Rattle.tinyjson.specs.declared.value.JsonValue.TheVariants as is
-use Rattle.json_schema.specs.Keywords.{is_whole, is_type, is_present}
-use Rattle.json_schema.specs.Valid.{property}
+use Rattle.json_schema.specs.Keywords.{is_whole, is_type, is_present, member_count}
+use Rattle.json_schema.specs.Keywords.{length_of, items_count_of, members_count_of}
+use Rattle.json_schema.specs.Names.{name}
+use Rattle.json_schema.specs.Parts.{property, prefix_item}
+use Rattle.json_schema.specs.declared.keyword.Keyword.{Keyword}
+use Rattle.json_schema.specs.declared.keyword.Keyword.TheVariants as kw
 
 pub keyword_found : (v : JsonValue) (m : JsonMap) (bs : List ℕ) (r : Option (Bor JsonValue)) → v ≡ is.Object m → IsUtf8 bs
     → option_map (λ x. x.now) r ≡ get_by_text m bs
@@ -80,12 +85,64 @@ key_present v s m bs e b =
     ∙ (ap is_some (sym (find_get m (string_bytes s) (IsUtf8-string_bytes s)))
     ∙ ap (λ x. is_present x (members_view m.entries)) (sym (ap view e ∙ view_String s))))
 
--- what one keyword says, before the ones that come after it
-pub met : (b c : Bool) → b ≡ true → c ≡ (b && c)
-met b c e = ap (λ x. x && c) (sym e)
-
-pub not_refused : (a c : Bool) → a ≡ false → c ≡ (not a && c)
-not_refused a c e = ap (λ x. not x && c) (sym e)
+pub name_ascii : (k : Keyword) → are_ascii (name k) ≡ true
+name_ascii kw.Schema = refl
+name_ascii kw.Id = refl
+name_ascii kw.Comment = refl
+name_ascii kw.Defs = refl
+name_ascii kw.Ref = refl
+name_ascii kw.Anchor = refl
+name_ascii kw.DynamicRef = refl
+name_ascii kw.DynamicAnchor = refl
+name_ascii kw.Vocabulary = refl
+name_ascii kw.AllOf = refl
+name_ascii kw.AnyOf = refl
+name_ascii kw.OneOf = refl
+name_ascii kw.Not = refl
+name_ascii kw.If = refl
+name_ascii kw.Then = refl
+name_ascii kw.Else = refl
+name_ascii kw.DependentSchemas = refl
+name_ascii kw.PrefixItems = refl
+name_ascii kw.Items = refl
+name_ascii kw.Contains = refl
+name_ascii kw.Properties = refl
+name_ascii kw.PatternProperties = refl
+name_ascii kw.AdditionalProperties = refl
+name_ascii kw.PropertyNames = refl
+name_ascii kw.UnevaluatedItems = refl
+name_ascii kw.UnevaluatedProperties = refl
+name_ascii kw.Type = refl
+name_ascii kw.Enum = refl
+name_ascii kw.Const = refl
+name_ascii kw.MultipleOf = refl
+name_ascii kw.Maximum = refl
+name_ascii kw.ExclusiveMaximum = refl
+name_ascii kw.Minimum = refl
+name_ascii kw.ExclusiveMinimum = refl
+name_ascii kw.MaxLength = refl
+name_ascii kw.MinLength = refl
+name_ascii kw.Pattern = refl
+name_ascii kw.MaxItems = refl
+name_ascii kw.MinItems = refl
+name_ascii kw.UniqueItems = refl
+name_ascii kw.MaxContains = refl
+name_ascii kw.MinContains = refl
+name_ascii kw.MaxProperties = refl
+name_ascii kw.MinProperties = refl
+name_ascii kw.Required = refl
+name_ascii kw.DependentRequired = refl
+name_ascii kw.Format = refl
+name_ascii kw.ContentEncoding = refl
+name_ascii kw.ContentMediaType = refl
+name_ascii kw.ContentSchema = refl
+name_ascii kw.Title = refl
+name_ascii kw.Description = refl
+name_ascii kw.Default = refl
+name_ascii kw.Deprecated = refl
+name_ascii kw.ReadOnly = refl
+name_ascii kw.WriteOnly = refl
+name_ascii kw.Examples = refl
 
 -- the schema of a key, if there are any, and if there are none
 pub property_found : (s p : Tree) (k : List ℕ) (o : Option Tree) → Some p ≡ tree_at_key s (chars (codes "properties"))
@@ -94,3 +151,65 @@ property_found s p k o h e = e ∙ ap (option_and_then (λ q. tree_at_key q k)) 
 
 pub property_missing : (s : Tree) (k : List ℕ) → None ≡ tree_at_key s (chars (codes "properties")) → None ≡ property s k
 property_missing s k h = ap (option_and_then (λ q. tree_at_key q k)) (at_literal None s (codes "properties") refl h)
+
+-- ---- what is listed of a map
+
+pub listed_count : (ps : List (Bor (String Global) × Bor JsonValue)) → member_count (members_listed ps) ≡ length ps
+listed_count [] = refl
+listed_count (p ∷ ps) = ap suc (listed_count ps)
+
+-- ---- a schema's keyword, by its name
+
+pub at_name : (o : Option Tree) (s : Tree) (k : Keyword) (bs : List ℕ) → o ≡ tree_at_key s (chars bs) → bs ≡ name k
+    → tree_at_key s (name k) ≡ o
+at_name o s k bs h e = sym (h ∙ (ap (λ x. tree_at_key s (chars x)) e ∙ ap (tree_at_key s) (chars_literal (name k) (name_ascii k))))
+
+pub name_chars : (k : Keyword) (bs : List ℕ) → bs ≡ name k → chars bs ≡ name k
+name_chars k bs e = ap chars e ∙ chars_literal (name k) (name_ascii k)
+
+pub key_there : (s : String Global) (m : JsonMap) (bs : List ℕ) → bs ≡ string_bytes s
+    → is_some (get_by_text m bs) ≡ is_some (find (text s) (members_view m.entries))
+key_there s m bs b =
+    ap (λ x. is_some (get_by_text m x)) b
+    ∙ (sym (some_view (get_by_text m (string_bytes s)))
+    ∙ ap is_some (sym (find_get m (string_bytes s) (IsUtf8-string_bytes s))))
+
+pub prefix_found : (s : Tree) (v : JsonValue) (l : Vec JsonValue Global) (i : ℕ) (r : Option (Bor JsonValue)) → v ≡ is.Array l
+    → Some (view v) ≡ tree_at_key s (chars (codes "prefixItems")) → option_map (λ x. x.now) r ≡ slice_get l.items i
+    → option_map (λ x. view x.now) r ≡ prefix_item s i
+prefix_found s v l i r e h g =
+    view_ref r ∙ (ap (option_map view) g ∙ (sym (nth_items_view l.items i)
+    ∙ (ap (λ t. tree_at t i) (sym (ap view e ∙ view_Array l))
+    ∙ ap (option_and_then (λ p. tree_at p i)) (at_literal (Some (view v)) s (codes "prefixItems") refl h))))
+
+pub prefix_other : (s : Tree) (v : JsonValue) (i : ℕ) → ((l : Vec JsonValue Global) → v ≡ is.Array l → ⊥)
+    → Some (view v) ≡ tree_at_key s (chars (codes "prefixItems")) → None ≡ prefix_item s i
+prefix_other s v i other h = by (view v) (no_array v other)
+    ∙ ap (option_and_then (λ p. tree_at p i)) (at_literal (Some (view v)) s (codes "prefixItems") refl h)
+  where
+    by : (t : Tree) → ((ts : Items) → t ≡ array ts → ⊥) → None ≡ tree_at t i
+    by (array ts) n = absurd (n ts refl)
+    by _ n = refl
+
+pub prefix_missing : (s : Tree) (i : ℕ) → None ≡ tree_at_key s (chars (codes "prefixItems")) → None ≡ prefix_item s i
+prefix_missing s i h = ap (option_and_then (λ p. tree_at p i)) (at_literal None s (codes "prefixItems") refl h)
+
+-- ---- counts
+
+pub items_counted : (v : JsonValue) (l : Vec JsonValue Global) (n : ℕ) → v ≡ is.Array l → n ≡ length l.items
+    → Some n ≡ items_count_of (view v)
+items_counted v l n e h = ap Some (h ∙ sym (item_count_view l.items)) ∙ ap items_count_of (sym (ap view e ∙ view_Array l))
+
+pub members_counted : (v : JsonValue) (m : JsonMap) (ps : List (Bor (String Global) × Bor JsonValue)) (n : ℕ) → v ≡ is.Object m
+    → members_listed ps ≡ members_view m.entries → n ≡ length ps → Some n ≡ members_count_of (view v)
+members_counted v m ps n e h g =
+    ap Some (g ∙ (sym (listed_count ps) ∙ ap member_count h)) ∙ ap members_count_of (sym (ap view e ∙ view_Object m))
+
+-- ---- tests of a text's bytes
+
+pub text_bytes : (s : String Global) (bs : List ℕ) → bs ≡ string_bytes s → bs ≡ encode_utf8_all (text s)
+text_bytes s bs e = e ∙ sym (encodes-chars (string_bytes s) (IsUtf8-string_bytes s))
+
+pub characters_counted : (v : JsonValue) (s : String Global) (n : ℕ) → v ≡ is.String s → n ≡ length (text s)
+    → Some n ≡ length_of (view v)
+characters_counted v s n e h = ap Some h ∙ ap length_of (sym (ap view e ∙ view_String s))

@@ -1,3 +1,7 @@
+pub mod Forms
 pub mod Keywords
+pub mod Names
 pub mod Order
+pub mod Parts
+pub mod Places
 pub mod Valid

@@ -1,76 +1,91 @@
-//! Checks a JSON value against a JSON Schema.
+//! Checks a JSON text against a JSON Schema (2020-12).
 //!
-//! Standard input is an array of the schema and the value. It prints `valid`, or the JSON pointer of a
-//! place in the value that is not valid, which is empty for the value itself; control characters of keys
-//! are printed as `U+001B`. The status is 0 for a valid value, 1 for another, 2 for other input, and 4
-//! where memory, a read or a write failed.
+//! The one argument names the file of the schema, and the text comes from standard input. The status is 0 for a valid
+//! value, and nothing is printed; 1 for another, of which one line of JSON is printed: the place in the schema
+//! and the place in the value that does not meet it; 2 for other arguments, or a schema that is no JSON text, is
+//! deeper than the limit, can't be read or can't be applied; 3 for no JSON text, or one deeper than the limit;
+//! and 4 where memory, a read or a write failed.
 #![tactic(auto)]
 
-mod keywords;
+mod assertions;
+mod failure;
+mod form;
+mod keyword;
 mod order;
+mod part;
+mod refused;
+mod report;
 mod shown;
 mod validate;
+mod violation;
 
-use shown::Shown;
-use std::io::{self, ErrorKind};
+use failure::{Failure, input_error, schema_file_error, schema_text_error, text_error};
+use refused::refused_place;
+use report::write_report;
+use std::alloc::Global;
+use std::env::{self, Env};
+use std::fs::{self, Files};
+use std::io::{self, BufWriter, ErrorKind, Write};
 use std::process::ExitCode;
-use tinyjson::{JsonParseError, JsonValue};
-use validate::invalid_place;
+use tinyjson::JsonValue;
+use validate::find_violation;
 
-/// How many containers may be open at once: the check and the drop of the value take stack as it is deep.
-const DEPTH_LIMIT: usize = 1_000;
+/// How many containers of a schema or a value may be open at once: the check takes stack as they are deep.
+const DEPTH_LIMIT: usize = 100;
 
 fn main(rt: HostRuntime) -> ExitCode {
     match check(&rt) {
-        Ok(Ok(true)) => ExitCode::SUCCESS,
-        Ok(Ok(false)) => ExitCode::from(1),
-        Ok(Err(error)) => {
-            let _ = eprintln!(rt; "json_schema: {error}");
-            ExitCode::from(2)
-        }
-        Err(error) => {
-            let _ = eprintln!(rt; "json_schema: {error}");
-            let is_input = matches!(
-                error.kind(),
-                ErrorKind::InvalidData | ErrorKind::InvalidInput
-            );
-            ExitCode::from(if is_input { 2 } else { 4 })
+        Ok(true) => ExitCode::SUCCESS,
+        Ok(false) => ExitCode::from(1),
+        Err(failure) => {
+            let _ = eprintln!(rt; "json_schema: {failure}");
+            ExitCode::from(failure.status())
         }
     }
 }
 
-/// From standard input to standard output. The inner error is one of the text.
-fn check(rt: &(impl Input + Print + AllocGlobal)) -> io::Result<Result<bool, JsonParseError>> {
+/// Whether the text of standard input is valid; what it does not meet is printed.
+fn check(rt: &(impl Env + Files + Input + Print + AllocGlobal)) -> Result<bool, Failure> {
     let alloc = rt.alloc();
-    let text = io::read_to_string(alloc, rt.reader())?;
-    let input = match JsonValue::from_str_with_depth_limit(alloc, text.as_str(), DEPTH_LIMIT) {
-        Ok(input) => input,
-        Err(error) if error.is_out_of_memory() => return Err(error.into()),
-        Err(error) => return Ok(Err(error)),
+    let name = file_asked(rt)?;
+    let schema = fs::read_to_string(rt, name.as_str()).map_err(schema_file_error)?;
+    let schema = read_schema(alloc, schema.as_str())?;
+    let text = io::read_to_string(alloc, rt.reader()).map_err(input_error)?;
+    let value = JsonValue::from_str_with_depth_limit(alloc, text.as_str(), DEPTH_LIMIT).map_err(
+        text_error,
+    )?;
+    let Some(violation) = find_violation(&value, &schema, alloc)? else {
+        return Ok(true);
     };
-    print_judgment(rt, &input)
+    let mut output = BufWriter::new(alloc, io::writer(rt)).map_err(Failure::Memory)?;
+    let answer = write_report(alloc, &violation, &mut output);
+    let answer = answer.and_then(|()| output.flush());
+    // Dropped, the gathered bytes would be written, also after a write that failed.
+    let (_output, _gathered) = output.into_parts();
+    answer.map_err(Failure::Writing)?;
+    Ok(false)
 }
 
-/// Whether the input's value is valid by its schema.
-fn print_judgment(
-    rt: &(impl Print + AllocGlobal),
-    input: &JsonValue,
-) -> io::Result<Result<bool, JsonParseError>> {
-    let alloc = rt.alloc();
-    let items = input.get::<Vec<JsonValue>>();
-    let Some([schema, value]) = items.map(|items| items.as_slice()) else {
-        let message = "the input is no array of a schema and a value";
-        return Err(io::Error::new(ErrorKind::InvalidInput, message));
+/// A schema that can be applied.
+fn read_schema(alloc: Global, text: &str) -> Result<JsonValue, Failure> {
+    let schema = JsonValue::from_str_with_depth_limit(alloc, text, DEPTH_LIMIT).map_err(
+        schema_text_error,
+    )?;
+    match refused_place(&schema, alloc)? {
+        None => Ok(schema),
+        Some(place) => Err(Failure::Refused(place.to_string(alloc)?)),
+    }
+}
+
+/// The one argument.
+fn file_asked(rt: &(impl Env + AllocGlobal)) -> Result<String, Failure> {
+    let mut words = match env::args(rt) {
+        Ok(words) => words.skip(1),
+        Err(error) if error.kind() == ErrorKind::OutOfMemory => return Err(Failure::Memory(error)),
+        Err(_) => return Err(Failure::Arguments),
     };
-    match invalid_place(value, schema, alloc)? {
-        None => {
-            println!(rt; "valid")?;
-            Ok(Ok(true))
-        }
-        Some(place) => {
-            let pointer = place.to_string(alloc)?;
-            println!(rt; "{}", Shown(pointer.as_str()))?;
-            Ok(Ok(false))
-        }
+    match (words.next(), words.next()) {
+        (Some(name), None) => Ok(name),
+        _ => Err(Failure::Arguments),
     }
 }

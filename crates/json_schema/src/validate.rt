@@ -1,52 +1,54 @@
-//! Where a value is not valid against a schema.
-ghost use Rattle.std.specs.Prelude.{◌≡◌, option_map};
-ghost use Rattle.std.specs.Str.{chars};
+//! What a value does not meet of a schema.
+ghost use Rattle.std.specs.Prelude.{◌≡◌};
 ghost use Rattle.tinyjson.specs.View.{view};
-ghost use Rattle.json_schema.specs.Valid.{property, Validates};
+ghost use Rattle.json_schema.specs.Valid.{refuses_all, Validates};
 
-use crate::keywords::{keyword, meets_own};
-use json_pointer::Pointer;
+use crate::assertions::unmet;
+use crate::part::{item_part, member_part};
+use crate::violation::Violation;
 use std::alloc::{AllocError, Global};
 use tinyjson::JsonValue;
 
-/// The place of a part of the value that the schema refuses, if there is one; `None` says that the
-/// value is valid. The only error is out of memory.
+/// What the value does not meet of the schema, if there is something; `None` says that the value is valid.
+/// The only error is out of memory.
 ///
 /// It calls itself once for each container around a part, so it takes stack as the value is deep.
 ///
 /// ```
-/// let place = invalid_place(&value, &schema, alloc)?; // as /tags/1
+/// let violation = find_violation(&value, &schema, alloc)?;
 /// ```
-pub fn invalid_place(
+pub fn find_violation(
     value: &JsonValue,
     schema: &JsonValue,
     alloc: Global,
-) -> Result<Option<Pointer>, AllocError>
+) -> Result<Option<Violation>, AllocError>
     ensures { Validates (view schema.now) (view value.now) result }
 {
-    if !meets_own(value, schema) {
-        return Ok(Some(Pointer::root(alloc)));
+    if refuses_all(schema) {
+        return Ok(Some(Violation::of_schema(alloc)));
+    }
+    if let Some(keyword) = unmet(schema, value, alloc)? {
+        return Ok(Some(Violation::of_keyword(alloc, keyword)?));
     }
     match value {
         JsonValue::Object(members) => {
             for (key, member) in members {
-                if let Some(part) = property(schema, key.as_str()) {
-                    if let Some(mut place) = invalid_place(member, part, alloc)? {
-                        place.prepend(String::from_str(alloc, key.as_str())?)?;
-                        return Ok(Some(place));
+                if let Some(part) = member_part(schema, key.as_str()) {
+                    if let Some(mut found) = find_violation(member, part.schema, alloc)? {
+                        found.enter_member(alloc, part.applicator, key.as_str())?;
+                        return Ok(Some(found));
                     }
                 }
             }
             Ok(None)
         }
         JsonValue::Array(items) => {
-            let Some(part) = keyword(schema, "items") else {
-                return Ok(None);
-            };
             for (index, item) in items.iter().enumerate() {
-                if let Some(mut place) = invalid_place(item, part, alloc)? {
-                    place.prepend_index(alloc, index)?;
-                    return Ok(Some(place));
+                if let Some(part) = item_part(schema, index) {
+                    if let Some(mut found) = find_violation(item, part.schema, alloc)? {
+                        found.enter_item(alloc, part.applicator, index)?;
+                        return Ok(Some(found));
+                    }
                 }
             }
             Ok(None)
@@ -55,9 +57,12 @@ pub fn invalid_place(
     }
 }
 
-/// The schema of the members at a key.
-fn property<'s>(schema: &'s JsonValue, key: &str) -> Option<&'s JsonValue>
-    ensures { option_map (λ x. view x.now) result ≡ property (view schema.now) (chars key.now) }
+/// Whether it is the schema `false`.
+fn refuses_all(schema: &JsonValue) -> bool
+    ensures { result ≡ refuses_all (view schema.now) }
 {
-    keyword(keyword(schema, "properties")?, key)
+    match schema {
+        JsonValue::Boolean(accepts) => !*accepts,
+        _ => false,
+    }
 }

@@ -1,0 +1,17 @@
+-- How deep the schemas in a schema are.
+use Rattle.std.proofs.Common.{◌≡◌, ◌∷◌, [], ℕ, zero, suc, ◌<◌, ◌≤◌, List, String, Global, Bor, length, get_or, refl, ap, arith}
+use Rattle.tinyjson.specs.Tree.{Tree, tree_depth, items_depth, members_depth}
+use Rattle.tinyjson.specs.View.{view, items_view, members_listed}
+use Rattle.tinyjson.specs.declared.value.JsonValue.{JsonValue}
+
+pub listed_depth : (ps : List (Bor (String Global) × Bor JsonValue)) (i : ℕ) (p : Bor (String Global) × Bor JsonValue) → i < length ps
+    → p ≡ get_or ps i p → tree_depth (view p.1.now) ≤ members_depth (members_listed ps)
+listed_depth [] i p h e = absurd (omega arith)
+listed_depth (q ∷ ps) zero p h e = omega (arith, ap (λ (x : Bor (String Global) × Bor JsonValue). tree_depth (view x.1.now)) e)
+listed_depth (q ∷ ps) (suc i) p h e = omega (arith, listed_depth ps i p (omega arith) e)
+
+pub items_depth_at : (vs : List JsonValue) (i : ℕ) (v : JsonValue) → i < length vs → v ≡ get_or vs i v
+    → tree_depth (view v) ≤ items_depth (items_view vs)
+items_depth_at [] i v h e = absurd (omega arith)
+items_depth_at (w ∷ vs) zero v h e = omega (arith, ap (λ x. tree_depth (view x)) e)
+items_depth_at (w ∷ vs) (suc i) v h e = omega (arith, items_depth_at vs i v (omega arith) e)

@@ -1,0 +1,179 @@
+-- The forms that the values of keywords have, and which trees are schemas that can be applied.
+use Rattle.std.specs.Prelude.{◌≡◌, ℕ, pos, Bool, true, false, not, ◌&&◌, ◌||◌, List, Option, Some, None, Result, Ok, Err, int_le, codes, encode_utf8_all}
+use Rattle.std.specs.declared.alloc.AllocError.{AllocError}
+use Rattle.std.specs.Option.{option_map_or}
+use Rattle.std.specs.Str.{bytes_eq}
+use Rattle.tinyjson.specs.Access.{is_boolean, is_number, is_string, is_array}
+use Rattle.tinyjson.specs.Tree.{Tree, boolean, number, string, array, object, Items, no_items, item, Members, no_members, member}
+use Rattle.json_pointer.specs.declared.pointer.Pointer.{Pointer}
+use Rattle.json_schema.specs.Keywords.{is_among}
+use Rattle.json_schema.specs.Names.{keywords, keyword_among}
+use Rattle.json_schema.specs.declared.form.Form.{Form}
+use Rattle.json_schema.specs.declared.form.Form.TheVariants as form
+use Rattle.json_schema.specs.declared.keyword.Keyword.{Keyword}
+use Rattle.json_schema.specs.declared.keyword.Keyword.TheVariants as kw
+
+abbrev pub form_of : Keyword → Form
+form_of kw.Schema = form.Dialect
+form_of kw.Id = form.Text
+form_of kw.Comment = form.Text
+form_of kw.Defs = form.SchemaMap
+form_of kw.Ref = form.Refused
+form_of kw.Anchor = form.Refused
+form_of kw.DynamicRef = form.Refused
+form_of kw.DynamicAnchor = form.Refused
+form_of kw.Vocabulary = form.Refused
+form_of kw.AllOf = form.Refused
+form_of kw.AnyOf = form.Refused
+form_of kw.OneOf = form.Refused
+form_of kw.Not = form.Refused
+form_of kw.If = form.Refused
+form_of kw.Then = form.Refused
+form_of kw.Else = form.Refused
+form_of kw.DependentSchemas = form.Refused
+form_of kw.PrefixItems = form.Schemas
+form_of kw.Items = form.Schema
+form_of kw.Contains = form.Refused
+form_of kw.Properties = form.SchemaMap
+form_of kw.PatternProperties = form.Refused
+form_of kw.AdditionalProperties = form.Schema
+form_of kw.PropertyNames = form.Refused
+form_of kw.UnevaluatedItems = form.Refused
+form_of kw.UnevaluatedProperties = form.Refused
+form_of kw.Type = form.Types
+form_of kw.Enum = form.List
+form_of kw.Const = form.Anything
+form_of kw.MultipleOf = form.Refused
+form_of kw.Maximum = form.Number
+form_of kw.ExclusiveMaximum = form.Number
+form_of kw.Minimum = form.Number
+form_of kw.ExclusiveMinimum = form.Number
+form_of kw.MaxLength = form.Count
+form_of kw.MinLength = form.Count
+form_of kw.Pattern = form.Refused
+form_of kw.MaxItems = form.Count
+form_of kw.MinItems = form.Count
+form_of kw.UniqueItems = form.Refused
+form_of kw.MaxContains = form.Refused
+form_of kw.MinContains = form.Refused
+form_of kw.MaxProperties = form.Count
+form_of kw.MinProperties = form.Count
+form_of kw.Required = form.Keys
+form_of kw.DependentRequired = form.KeyLists
+form_of kw.Format = form.Text
+form_of kw.ContentEncoding = form.Text
+form_of kw.ContentMediaType = form.Text
+form_of kw.ContentSchema = form.Schema
+form_of kw.Title = form.Text
+form_of kw.Description = form.Text
+form_of kw.Default = form.Anything
+form_of kw.Deprecated = form.Truth
+form_of kw.ReadOnly = form.Truth
+form_of kw.WriteOnly = form.Truth
+form_of kw.Examples = form.List
+
+-- the form of the keyword whose name has these bytes
+abbrev pub form_at : List ℕ → Form
+form_at key = option_map_or form_of (keyword_among keywords key) form.Anything
+
+abbrev pub is_count : Tree → Bool
+is_count (number d) = not d.negative && int_le (pos 0) d.power
+is_count _ = false
+
+abbrev pub is_name_of_type : List ℕ → Bool
+is_name_of_type bs = bytes_eq bs (codes "null") || (bytes_eq bs (codes "boolean") || (bytes_eq bs (codes "object")
+    || (bytes_eq bs (codes "array") || (bytes_eq bs (codes "number") || (bytes_eq bs (codes "string") || bytes_eq bs (codes "integer"))))))
+
+abbrev pub is_type_name : Tree → Bool
+is_type_name (string cs) = is_name_of_type (encode_utf8_all cs)
+is_type_name _ = false
+
+abbrev pub are_type_names : Items → Bool
+are_type_names no_items = true
+are_type_names (item t ts) = is_type_name t && (not (is_among ts t) && are_type_names ts)
+
+abbrev pub is_some_item : Items → Bool
+is_some_item no_items = false
+is_some_item (item t ts) = true
+
+abbrev pub is_type_list : Items → Bool
+is_type_list ts = is_some_item ts && are_type_names ts
+
+abbrev pub are_types : Tree → Bool
+are_types (array ts) = is_type_list ts
+are_types t = is_type_name t
+
+-- different strings
+abbrev pub are_keys : Items → Bool
+are_keys no_items = true
+are_keys (item t ts) = is_string t && (not (is_among ts t) && are_keys ts)
+
+abbrev pub is_key_list : Tree → Bool
+is_key_list (array ts) = are_keys ts
+is_key_list _ = false
+
+abbrev pub have_key_lists : Members → Bool
+have_key_lists no_members = true
+have_key_lists (member k t ms) = is_key_list t && have_key_lists ms
+
+abbrev pub is_key_map : Tree → Bool
+is_key_map (object ms) = have_key_lists ms
+is_key_map _ = false
+
+abbrev pub is_dialect : Tree → Bool
+is_dialect (string cs) = bytes_eq (encode_utf8_all cs) (codes "https://json-schema.org/draft/2020-12/schema")
+is_dialect _ = false
+
+-- whether a keyword's value has the form, where it is known whether it is a schema, a list or a map of schemas
+abbrev pub has_form : Form → Tree → Bool → Bool → Bool → Bool
+has_form form.Anything w one list entries = true
+has_form form.Text w one list entries = is_string w
+has_form form.Truth w one list entries = is_boolean w
+has_form form.List w one list entries = is_array w
+has_form form.Types w one list entries = are_types w
+has_form form.Number w one list entries = is_number w
+has_form form.Count w one list entries = is_count w
+has_form form.Keys w one list entries = is_key_list w
+has_form form.KeyLists w one list entries = is_key_map w
+has_form form.Dialect w one list entries = is_dialect w
+has_form form.Schema w one list entries = one
+has_form form.Schemas w one list entries = list
+has_form form.SchemaMap w one list entries = entries
+has_form form.Refused w one list entries = false
+
+abbrev mutual
+  -- a schema whose keywords, and those of the schemas in it, can be applied
+  pub is_schema : Tree → Bool
+  is_schema (boolean accepts) = true
+  is_schema (object ms) = keywords_fit ms
+  is_schema _ = false
+
+  pub keywords_fit : Members → Bool
+  keywords_fit no_members = true
+  keywords_fit (member k w ms) = has_form (form_at (encode_utf8_all k)) w (is_schema w) (is_schema_list w) (is_schema_map w)
+      && keywords_fit ms
+
+  pub is_schema_list : Tree → Bool
+  is_schema_list (array ts) = is_some_item ts && are_schemas ts
+  is_schema_list _ = false
+
+  pub is_schema_map : Tree → Bool
+  is_schema_map (object ms) = have_schemas ms
+  is_schema_map _ = false
+
+  pub are_schemas : Items → Bool
+  are_schemas no_items = true
+  are_schemas (item t ts) = is_schema t && are_schemas ts
+
+  pub have_schemas : Members → Bool
+  have_schemas no_members = true
+  have_schemas (member k t ms) = is_schema t && have_schemas ms
+
+abbrev pub fits : Form → Tree → Bool
+fits f w = has_form f w (is_schema w) (is_schema_list w) (is_schema_map w)
+
+-- No place, and what was asked is so; or a place, and it is not.
+abbrev pub Refuses : Bool → Result (Option Pointer) AllocError → Type 0
+Refuses is (Ok None) = is ≡ true
+Refuses is (Ok (Some p)) = is ≡ false
+Refuses is (Err e) = Unit {0}

@@ -1,0 +1,39 @@
+-- The schemas that there are for the parts of a value.
+use Rattle.std.specs.Prelude.{ℕ, Bool, true, false, List, [], ◌∷◌, Option, Some, None, option_and_then, codes}
+use Rattle.tinyjson.specs.Index.{tree_at, tree_at_key}
+use Rattle.tinyjson.specs.Tree.{Tree, array, object}
+use Rattle.json_pointer.specs.Index.{index_of}
+use Rattle.json_schema.specs.declared.keyword.Keyword.{Keyword}
+use Rattle.json_schema.specs.declared.keyword.Keyword.TheVariants as kw
+
+-- whether the keyword has a schema for each part, and not one for all
+abbrev pub is_by_part : Keyword → Bool
+is_by_part kw.Properties = true
+is_by_part kw.PrefixItems = true
+is_by_part _ = false
+
+-- the schema that `properties` has for a key (Core, 10.3.2.1)
+abbrev pub property : Tree → List ℕ → Option Tree
+property s k = option_and_then (λ p. tree_at_key p k) (tree_at_key s (codes "properties"))
+
+-- the schema that `prefixItems` has for an index (Core, 10.3.1.1)
+abbrev pub prefix_item : Tree → ℕ → Option Tree
+prefix_item s i = option_and_then (λ p. tree_at p i) (tree_at_key s (codes "prefixItems"))
+
+abbrev pub or_else : Option Tree → Option Tree → Option Tree
+or_else (Some r) o = Some r
+or_else None o = o
+
+-- `additionalProperties` speaks of what `properties` leaves (Core, 10.3.2.3)
+abbrev pub member_schema : Tree → List ℕ → Option Tree
+member_schema s k = or_else (property s k) (tree_at_key s (codes "additionalProperties"))
+
+-- `items` speaks of what `prefixItems` leaves (Core, 10.3.1.2)
+abbrev pub item_schema : Tree → ℕ → Option Tree
+item_schema s i = or_else (prefix_item s i) (tree_at_key s (codes "items"))
+
+-- the schema of the part that the token names
+abbrev pub part_schema : Tree → Tree → List ℕ → Option Tree
+part_schema s (object ms) k = member_schema s k
+part_schema s (array ts) k = option_and_then (item_schema s) (index_of k)
+part_schema s _ k = None

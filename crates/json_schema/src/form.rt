@@ -1,0 +1,100 @@
+//! The forms that the values of keywords have.
+ghost use Rattle.std.specs.Prelude.{◌≡◌};
+ghost use Rattle.std.specs.Option.{option_map_or};
+ghost use Rattle.json_schema.specs.Forms.{form_of, form_at};
+
+use crate::keyword::{Keyword, keyword_of};
+
+/// What the standard asks of a keyword's value.
+#[derive(Clone, Copy, Debug, PartialEq, Eq)]
+pub enum Form {
+    Anything,
+    Text,
+    Truth,
+    List,
+    /// A name of a type, or an array of different ones.
+    Types,
+    Number,
+    /// A whole number that is not negative.
+    Count,
+    /// An array of different strings.
+    Keys,
+    /// An object whose members are arrays of different strings.
+    KeyLists,
+    /// The name of this version of the standard.
+    Dialect,
+    Schema,
+    /// An array of schemas, not empty.
+    Schemas,
+    /// An object whose members are schemas.
+    SchemaMap,
+    /// The keyword can't be applied, whatever its value.
+    Refused,
+}
+
+/// The form of the keyword of a name; a name that is none says nothing.
+pub fn form_at(name: &str) -> Form
+    ensures { result ≡ form_at name.now }
+{
+    match keyword_of(name) {
+        Some(keyword) => form_of(keyword),
+        None => Form::Anything,
+    }
+}
+
+fn form_of(keyword: Keyword) -> Form
+    ensures { result ≡ form_of keyword }
+{
+    match keyword {
+        Keyword::Schema => Form::Dialect,
+        Keyword::Id
+        | Keyword::Comment
+        | Keyword::Format
+        | Keyword::ContentEncoding
+        | Keyword::ContentMediaType
+        | Keyword::Title
+        | Keyword::Description => Form::Text,
+        Keyword::Defs | Keyword::Properties => Form::SchemaMap,
+        Keyword::Ref
+        | Keyword::Anchor
+        | Keyword::DynamicRef
+        | Keyword::DynamicAnchor
+        | Keyword::Vocabulary
+        | Keyword::AllOf
+        | Keyword::AnyOf
+        | Keyword::OneOf
+        | Keyword::Not
+        | Keyword::If
+        | Keyword::Then
+        | Keyword::Else
+        | Keyword::DependentSchemas
+        | Keyword::Contains
+        | Keyword::PatternProperties
+        | Keyword::PropertyNames
+        | Keyword::UnevaluatedItems
+        | Keyword::UnevaluatedProperties
+        | Keyword::MultipleOf
+        | Keyword::Pattern
+        | Keyword::UniqueItems
+        | Keyword::MaxContains
+        | Keyword::MinContains => Form::Refused,
+        Keyword::PrefixItems => Form::Schemas,
+        Keyword::Items | Keyword::AdditionalProperties | Keyword::ContentSchema => Form::Schema,
+        Keyword::Type => Form::Types,
+        Keyword::Enum | Keyword::Examples => Form::List,
+        Keyword::Const | Keyword::Default => Form::Anything,
+        Keyword::Maximum
+        | Keyword::ExclusiveMaximum
+        | Keyword::Minimum
+        | Keyword::ExclusiveMinimum => Form::Number,
+        Keyword::MaxLength
+        | Keyword::MinLength
+        | Keyword::MaxItems
+        | Keyword::MinItems
+        | Keyword::MaxProperties
+        | Keyword::MinProperties => Form::Count,
+        Keyword::Required => Form::Keys,
+        Keyword::DependentRequired => Form::KeyLists,
+        Keyword::Deprecated | Keyword::ReadOnly | Keyword::WriteOnly => Form::Truth,
+    }
+}

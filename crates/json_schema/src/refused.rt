@@ -1,0 +1,283 @@
+//! Which schemas can be applied, and the place of what can't.
+ghost use Rattle.std.specs.Prelude.{◌≡◌, IfOk};
+ghost use Rattle.tinyjson.specs.Access.{is_string, is_boolean, is_array, is_number};
+ghost use Rattle.tinyjson.specs.View.{view, items_view, members_listed};
+ghost use Rattle.json_schema.specs.Forms.{Refuses, is_schema, keywords_fit, fits, is_schema_list};
+ghost use Rattle.json_schema.specs.Forms.{is_schema_map, are_schemas, have_schemas};
+ghost use Rattle.json_schema.specs.Forms.{is_count, is_type_name, are_type_names};
+ghost use Rattle.json_schema.specs.Forms.{are_types, are_keys, is_key_list, have_key_lists, is_key_map};
+ghost use Rattle.json_schema.specs.Forms.{is_dialect, is_name_of_type, is_type_list, is_some_item};
+
+use crate::assertions::is_among;
+use crate::form::{Form, form_at};
+use json_pointer::Pointer;
+use std::alloc::{AllocError, Global};
+use tinyjson::{JsonValue, sorted_members};
+
+/// The place of what can't be applied in a schema: a keyword that is not supported or whose value has another form
+/// than the standard's, or a schema that is neither an object nor a truth value. `None` says that the schema can be
+/// applied. The only error is out of memory.
+///
+/// It calls itself for each schema in the schema, so it takes stack as the schema is deep.
+#[cycle(refused)]
+pub fn refused_place(schema: &JsonValue, alloc: Global) -> Result<Option<Pointer>, AllocError>
+    ensures { Refuses (is_schema (view schema.now)) result }
+{
+    match schema {
+        JsonValue::Boolean(_) => Ok(None),
+        JsonValue::Object(keywords) => {
+            let sorted = sorted_members(alloc, keywords)?;
+            refused_keyword(sorted.as_slice(), alloc)
+        }
+        _ => Ok(Some(Pointer::root(alloc))),
+    }
+}
+
+#[cycle(refused)]
+fn refused_keyword(
+    keywords: &[(&String, &JsonValue)],
+    alloc: Global,
+) -> Result<Option<Pointer>, AllocError>
+    ensures { Refuses (keywords_fit (members_listed keywords.now)) result }
+{
+    for (name, operand) in keywords {
+        if let Some(mut place) = misfit(form_at(name.as_str()), operand, alloc)? {
+            place.prepend(String::from_str(alloc, name.as_str())?)?;
+            return Ok(Some(place));
+        }
+    }
+    Ok(None)
+}
+
+/// The place in a keyword's value of what has another form.
+#[cycle(refused)]
+fn misfit(form: Form, operand: &JsonValue, alloc: Global) -> Result<Option<Pointer>, AllocError>
+    ensures { Refuses (fits form (view operand.now)) result }
+{
+    match form {
+        Form::Anything => Ok(None),
+        Form::Text => unless(is_string(operand), alloc),
+        Form::Truth => unless(is_boolean(operand), alloc),
+        Form::List => unless(is_array(operand), alloc),
+        Form::Types => unless(are_types(operand), alloc),
+        Form::Number => unless(is_number(operand), alloc),
+        Form::Count => unless(is_count(operand), alloc),
+        Form::Keys => unless(is_key_list(operand), alloc),
+        Form::KeyLists => unless(is_key_map(operand, alloc)?, alloc),
+        Form::Dialect => unless(is_dialect(operand), alloc),
+        Form::Schema => refused_place(operand, alloc),
+        Form::Schemas => refused_in_list(operand, alloc),
+        Form::SchemaMap => refused_in_map(operand, alloc),
+        Form::Refused => unless(false, alloc),
+    }
+}
+
+#[cycle(refused)]
+fn refused_in_list(schemas: &JsonValue, alloc: Global) -> Result<Option<Pointer>, AllocError>
+    ensures { Refuses (is_schema_list (view schemas.now)) result }
+{
+    let JsonValue::Array(schemas) = schemas else {
+        return Ok(Some(Pointer::root(alloc)));
+    };
+    let schemas = schemas.as_slice();
+    if !is_some_item(schemas) {
+        return Ok(Some(Pointer::root(alloc)));
+    }
+    refused_item(schemas, alloc)
+}
+
+#[cycle(refused)]
+fn refused_item(schemas: &[JsonValue], alloc: Global) -> Result<Option<Pointer>, AllocError>
+    ensures { Refuses (are_schemas (items_view schemas.now)) result }
+{
+    for (index, schema) in schemas.iter().enumerate() {
+        if let Some(mut place) = refused_place(schema, alloc)? {
+            place.prepend_index(alloc, index)?;
+            return Ok(Some(place));
+        }
+    }
+    Ok(None)
+}
+
+#[cycle(refused)]
+fn refused_in_map(schemas: &JsonValue, alloc: Global) -> Result<Option<Pointer>, AllocError>
+    ensures { Refuses (is_schema_map (view schemas.now)) result }
+{
+    let JsonValue::Object(schemas) = schemas else {
+        return Ok(Some(Pointer::root(alloc)));
+    };
+    let sorted = sorted_members(alloc, schemas)?;
+    refused_member(sorted.as_slice(), alloc)
+}
+
+#[cycle(refused)]
+fn refused_member(
+    schemas: &[(&String, &JsonValue)],
+    alloc: Global,
+) -> Result<Option<Pointer>, AllocError>
+    ensures { Refuses (have_schemas (members_listed schemas.now)) result }
+{
+    for (key, schema) in schemas {
+        if let Some(mut place) = refused_place(schema, alloc)? {
+            place.prepend(String::from_str(alloc, key.as_str())?)?;
+            return Ok(Some(place));
+        }
+    }
+    Ok(None)
+}
+
+/// The place of the whole, unless it fits.
+fn unless(fits: bool, alloc: Global) -> Result<Option<Pointer>, AllocError>
+    ensures { Refuses fits result }
+{
+    if fits {
+        Ok(None)
+    } else {
+        Ok(Some(Pointer::root(alloc)))
+    }
+}
+
+fn is_string(value: &JsonValue) -> bool
+    ensures { result ≡ is_string (view value.now) }
+{
+    matches!(value, JsonValue::String(_))
+}
+
+fn is_boolean(value: &JsonValue) -> bool
+    ensures { result ≡ is_boolean (view value.now) }
+{
+    matches!(value, JsonValue::Boolean(_))
+}
+
+fn is_array(value: &JsonValue) -> bool
+    ensures { result ≡ is_array (view value.now) }
+{
+    matches!(value, JsonValue::Array(_))
+}
+
+fn is_number(value: &JsonValue) -> bool
+    ensures { result ≡ is_number (view value.now) }
+{
+    matches!(value, JsonValue::Number(_))
+}
+
+fn is_count(value: &JsonValue) -> bool
+    ensures { result ≡ is_count (view value.now) }
+{
+    match value {
+        JsonValue::Number(number) => !number.is_negative() && number.power() >= 0,
+        _ => false,
+    }
+}
+
+fn are_types(value: &JsonValue) -> bool
+    ensures { result ≡ are_types (view value.now) }
+{
+    match value {
+        JsonValue::Array(names) => is_type_list(names.as_slice()),
+        _ => is_type_name(value),
+    }
+}
+
+fn is_type_list(names: &[JsonValue]) -> bool
+    ensures { result ≡ is_type_list (items_view names.now) }
+{
+    if !is_some_item(names) {
+        return false;
+    }
+    are_type_names(names)
+}
+
+fn is_some_item(items: &[JsonValue]) -> bool
+    ensures { result ≡ is_some_item (items_view items.now) }
+{
+    !items.is_empty()
+}
+
+fn are_type_names(names: &[JsonValue]) -> bool
+    ensures { result ≡ are_type_names (items_view names.now) }
+{
+    let mut rest = names;
+    while let Some((name, more)) = rest.split_first() {
+        if !is_type_name(name) || is_among(more, name) {
+            return false;
+        }
+        rest = more;
+    }
+    true
+}
+
+fn is_type_name(value: &JsonValue) -> bool
+    ensures { result ≡ is_type_name (view value.now) }
+{
+    match value {
+        JsonValue::String(name) => is_name_of_type(name.as_str()),
+        _ => false,
+    }
+}
+
+fn is_name_of_type(name: &str) -> bool
+    ensures { result ≡ is_name_of_type name.now }
+{
+    name == "null"
+        || name == "boolean"
+        || name == "object"
+        || name == "array"
+        || name == "number"
+        || name == "string"
+        || name == "integer"
+}
+
+fn is_key_list(value: &JsonValue) -> bool
+    ensures { result ≡ is_key_list (view value.now) }
+{
+    match value {
+        JsonValue::Array(keys) => are_keys(keys.as_slice()),
+        _ => false,
+    }
+}
+
+fn are_keys(keys: &[JsonValue]) -> bool
+    ensures { result ≡ are_keys (items_view keys.now) }
+{
+    let mut rest = keys;
+    while let Some((key, more)) = rest.split_first() {
+        if !is_string(key) || is_among(more, key) {
+            return false;
+        }
+        rest = more;
+    }
+    true
+}
+
+fn is_key_map(value: &JsonValue, alloc: Global) -> Result<bool, AllocError>
+    ensures { IfOk result (λ is. is ≡ is_key_map (view value.now)) }
+{
+    match value {
+        JsonValue::Object(lists) => {
+            let sorted = sorted_members(alloc, lists)?;
+            Ok(have_key_lists(sorted.as_slice()))
+        }
+        _ => Ok(false),
+    }
+}
+
+fn have_key_lists(lists: &[(&String, &JsonValue)]) -> bool
+    ensures { result ≡ have_key_lists (members_listed lists.now) }
+{
+    for (_, keys) in lists {
+        if !is_key_list(keys) {
+            return false;
+        }
+    }
+    true
+}
+
+fn is_dialect(value: &JsonValue) -> bool
+    ensures { result ≡ is_dialect (view value.now) }
+{
+    match value {
+        JsonValue::String(name) => name.as_str() == "https://json-schema.org/draft/2020-12/schema",
+        _ => false,
+    }
+}

@@ -1,0 +1,97 @@
+//! What a value does not meet.
+ghost use Rattle.std.specs.Prelude.{◌≡◌, ◌∷◌, [], IfOk, OnOk};
+ghost use Rattle.std.specs.Str.{chars};
+ghost use Rattle.json_pointer.specs.Tokens.{tokens_of};
+ghost use Rattle.json_schema.specs.Names.{name};
+ghost use Rattle.json_schema.specs.Parts.{is_by_part};
+ghost use Rattle.json_schema.specs.Places.{IsAt, IsUnder, Enters, EntersItem};
+
+use crate::keyword::Keyword;
+use json_pointer::Pointer;
+use std::alloc::{AllocError, Global};
+
+/// A place in the schema, and the place in the value that does not meet it (Core, 12.3).
+#[derive(Debug, Drop)]
+pub struct Violation {
+    /// The place of the keyword, or of the schema `false`.
+    pub keyword_location: Pointer,
+    /// The place in the value.
+    pub instance_location: Pointer,
+}
+
+impl Violation {
+    /// The value does not meet the schema `false`.
+    pub fn of_schema(alloc: Global) -> Violation
+        ensures { IsAt [] [] result }
+    {
+        Violation {
+            keyword_location: Pointer::root(alloc),
+            instance_location: Pointer::root(alloc),
+        }
+    }
+
+    /// The value does not meet the schema's keyword.
+    pub fn of_keyword(alloc: Global, keyword: Keyword) -> Result<Violation, AllocError>
+        ensures { IfOk result (λ v. IsAt (name keyword ∷ []) [] v) }
+    {
+        let mut violation = Violation::of_schema(alloc);
+        violation.put_under(alloc, keyword.name())?;
+        Ok(violation)
+    }
+
+    /// Puts a token before those of the place in the schema.
+    fn put_under(&mut self, alloc: Global, token: &str) -> Result<(), AllocError>
+        ensures { OnOk result (IsUnder (chars token.now) self.old self.new) }
+    {
+        let token = String::from_str(alloc, token)?;
+        self.keyword_location.prepend(token)?;
+        Ok(())
+    }
+
+    /// Makes what was found of a member one of the object, whose schema applies the member's by the
+    /// applicator.
+    pub fn enter_member(
+        &mut self,
+        alloc: Global,
+        applicator: Keyword,
+        key: &str,
+    ) -> Result<(), AllocError>
+        ensures { OnOk result (Enters applicator (chars key.now) (chars key.now) self.old self.new) }
+    {
+        let token = String::from_str(alloc, key)?;
+        self.instance_location.prepend(token)?;
+        if is_by_part(applicator) {
+            self.put_under(alloc, key)?;
+            self.put_under(alloc, applicator.name())?;
+            return Ok(());
+        }
+        self.put_under(alloc, applicator.name())?;
+        Ok(())
+    }
+
+    /// The same of an item and its array.
+    pub fn enter_item(
+        &mut self,
+        alloc: Global,
+        applicator: Keyword,
+        index: usize,
+    ) -> Result<(), AllocError>
+        ensures { OnOk result (EntersItem applicator index self.old self.new) }
+    {
+        self.instance_location.prepend_index(alloc, index)?;
+        if is_by_part(applicator) {
+            self.keyword_location.prepend_index(alloc, index)?;
+            self.put_under(alloc, applicator.name())?;
+            return Ok(());
+        }
+        self.put_under(alloc, applicator.name())?;
+        Ok(())
+    }
+}
+
+/// Whether the keyword has a schema for each part, and not one for all.
+fn is_by_part(applicator: Keyword) -> bool
+    ensures { result ≡ is_by_part applicator }
+{
+    matches!(applicator, Keyword::Properties | Keyword::PrefixItems)
+}

@@ -1,0 +1,121 @@
+"""Cases of `json_schema`: schemas, values, and what is valid (JSON Schema 2020-12)."""
+
+# The schema, values that are valid, and values that are not, each with the place in it and the keyword's.
+KEYWORDS = [
+    # Core, 4.3.2: the schemas that are truth values, and the one with no keyword.
+    ("true", ["null", "[1]", "{}"], []),
+    ("{}", ["null", "[1]", "{}"], []),
+    ("false", [], [("null", "", ""), ("{}", "", "")]),
+    # Validation, 6.1.1: a name or a list of names; `integer` is any number with a zero fraction.
+    ('{"type":"integer"}', ["1", "1.0", "-0", "1e400", "10e-1"], [("1.5", "", "/type"), ('"1"', "", "/type"), ("true", "", "/type")]),
+    ('{"type":"number"}', ["1", "1.5", "-0"], [('"1"', "", "/type"), ("true", "", "/type"), ("null", "", "/type")]),
+    ('{"type":"null"}', ["null"], [("0", "", "/type"), ("false", "", "/type"), ('""', "", "/type"), ("[]", "", "/type")]),
+    ('{"type":"boolean"}', ["true", "false"], [("0", "", "/type"), ("null", "", "/type"), ('"true"', "", "/type")]),
+    ('{"type":"string"}', ['""', '"\\u0000"'], [("1", "", "/type"), ("null", "", "/type")]),
+    ('{"type":"array"}', ["[]", "[[]]"], [("{}", "", "/type"), ('"[]"', "", "/type")]),
+    ('{"type":"object"}', ["{}", '{"a":1}'], [("[]", "", "/type"), ("null", "", "/type")]),
+    ('{"type":["string","null"]}', ['"a"', "null"], [("1", "", "/type"), ("[null]", "", "/type")]),
+    ('{"type":["integer","string"]}', ["2.0", '"2"'], [("2.5", "", "/type")]),
+    # 6.1.2: any value, equal as a value, with members in any order.
+    ('{"enum":[1,"a",[1],{"a":1,"b":[2]},null]}', ["1", "1.0", "10e-1", '"\\u0061"', "[1.0]", '{"b":[2.0],"a":1}', "null"],
+     [("true", "", "/enum"), ("[true]", "", "/enum"), ("0", "", "/enum"), ('{"a":1}', "", "/enum"), ('{"a":1,"b":[2],"c":3}', "", "/enum")]),
+    ('{"enum":[]}', [], [("null", "", "/enum"), ("[]", "", "/enum")]),
+    ('{"enum":[0,[false]]}', ["-0", "0.0", "0e9", "[false]"], [("false", "", "/enum"), ("[0]", "", "/enum")]),
+    # 6.1.3
+    ('{"const":2}', ["2", "2.0", "20e-1"], [("5", "", "/const"), ('"2"', "", "/const"), ("[2]", "", "/const")]),
+    ('{"const":null}', ["null"], [("0", "", "/const"), ("false", "", "/const")]),
+    ('{"const":{"foo":"bar","baz":[1]}}', ['{"baz":[1.0],"foo":"bar"}'], [('{"foo":"bar"}', "", "/const"), ('[{"foo":"bar"}]', "", "/const")]),
+    ('{"const":"\\u00e9"}', ['"é"'], [('"e\\u0301"', "", "/const")]),
+    ('{"const":false}', ["false"], [("0", "", "/const"), ("[]", "", "/const")]),
+    ('{"const":9007199254740992}', ["9007199254740992"], [("9007199254740993", "", "/const"), ("9007199254740992.1", "", "/const")]),
+    # 6.2.2 to 6.2.5: exact, and of numbers alone.
+    ('{"maximum":3.0}', ["2.6", "3", "3.0", '"x"', "-1e400"], [("3.5", "", "/maximum"), ("3.0000000000000000001", "", "/maximum")]),
+    ('{"maximum":2e399}', ["2e399", "0"], [("1e400", "", "/maximum")]),
+    ('{"maximum":-1}', ["-2", "-1"], [("0", "", "/maximum"), ("-0.9", "", "/maximum")]),
+    ('{"maximum":0}', ["0", "-0", "-1e-400"], [("1e-400", "", "/maximum")]),
+    ('{"exclusiveMaximum":3.0}', ["2.2", "2.9999999999999999999", '"x"', "[4]"], [("3.0", "", "/exclusiveMaximum"), ("3.5", "", "/exclusiveMaximum")]),
+    ('{"exclusiveMaximum":0}', ["-1e-400"], [("0", "", "/exclusiveMaximum"), ("-0", "", "/exclusiveMaximum")]),
+    ('{"minimum":1.1}', ["2.6", "1.1", '"x"', "null"], [("0.6", "", "/minimum"), ("1.0999999999999999999", "", "/minimum")]),
+    ('{"minimum":-2}', ["-1", "0", "-2", "-2.0"], [("-2.0001", "", "/minimum"), ("-3", "", "/minimum")]),
+    ('{"minimum":0.10000000000000000001}', ["0.2"], [("0.1", "", "/minimum")]),
+    ('{"minimum":25e9223372036854775807}', ["26e9223372036854775807"], [("1", "", "/minimum"), ("1e9223372036854775807", "", "/minimum")]),
+    ('{"exclusiveMinimum":1.1}', ["1.2", "1.1000000000000000001", '"x"', "{}"], [("1.1", "", "/exclusiveMinimum"), ("0.6", "", "/exclusiveMinimum")]),
+    ('{"exclusiveMinimum":0}', ["1e-400"], [("0", "", "/exclusiveMinimum"), ("-0.0", "", "/exclusiveMinimum")]),
+    # 6.3.1 and 6.3.2: lengths are of characters.
+    ('{"maxLength":2}', ['"f"', '"fo"', '""', "100", '"\\ud83d\\udca9\\ud83d\\udca9"', '"éé"'], [('"foo"', "", "/maxLength"), ('"e\\u0301e"', "", "/maxLength")]),
+    ('{"maxLength":2.0}', ['"f"'], [('"foo"', "", "/maxLength")]),
+    ('{"maxLength":0}', ['""', "[1]"], [('"a"', "", "/maxLength")]),
+    ('{"maxLength":1e400}', ['"aaa"'], []),
+    ('{"minLength":2}', ['"foo"', '"fo"', "1", "[]", '"éé"'], [('"f"', "", "/minLength"), ('"\\ud83d\\udca9"', "", "/minLength"), ('""', "", "/minLength")]),
+    ('{"minLength":20e-1}', ['"foo"'], [('"f"', "", "/minLength")]),
+    ('{"minLength":1e400}', ["1"], [('"foo"', "", "/minLength")]),
+    # 6.4.1 and 6.4.2
+    ('{"maxItems":2}', ["[1]", "[1,2]", "[]", '"foobar"', '{"a":1,"b":2,"c":3}'], [("[1,2,3]", "", "/maxItems")]),
+    ('{"maxItems":0.0}', ["[]", "{}"], [("[null]", "", "/maxItems")]),
+    ('{"minItems":1}', ["[1,2]", "[[]]", '""', "{}"], [("[]", "", "/minItems")]),
+    ('{"minItems":3}', ["[1,2,3]"], [("[1,2]", "", "/minItems"), ("[[1,2,3]]", "", "/minItems")]),
+    # 6.5.1 to 6.5.4; of equal members the last one stands.
+    ('{"maxProperties":2}', ['{"a":1}', '{"a":1,"b":2}', "[1,2,3]", '{"a":1,"b":2,"a":3}'], [('{"a":1,"b":2,"c":3}', "", "/maxProperties")]),
+    ('{"maxProperties":0}', ["{}", '"x"'], [('{"a":1}', "", "/maxProperties")]),
+    ('{"minProperties":1}', ['{"a":1}', "[]", '""'], [("{}", "", "/minProperties")]),
+    ('{"minProperties":2}', ['{"a":1,"b":2}'], [('{"a":1,"a":2}', "", "/minProperties"), ('{"a":{"b":1,"c":2}}', "", "/minProperties")]),
+    ('{"required":["foo"]}', ['{"foo":1}', '{"foo":null}', "[]", '""', "12", '{"f\\u006fo":1}'], [('{"bar":1}', "", "/required"), ("{}", "", "/required")]),
+    ('{"required":[]}', ["{}"], []),
+    ('{"required":["foo\\nbar","foo\\"bar","","é"]}', ['{"foo\\nbar":1,"foo\\"bar":1,"":1,"é":1}'], [('{"foo\\nbar":1,"foo\\"bar":1,"é":1}', "", "/required")]),
+    ('{"dependentRequired":{"bar":["foo"]}}', ["{}", '{"foo":1}', '{"foo":1,"bar":2}', '["bar"]', '"bar"'], [('{"bar":2}', "", "/dependentRequired"), ('{"bar":null,"fo":1}', "", "/dependentRequired")]),
+    ('{"dependentRequired":{"bar":[]}}', ["{}", '{"bar":2}'], []),
+    ('{"dependentRequired":{"quux":["foo","bar"],"a":["b"]}}', ['{"foo":1,"bar":2,"quux":3}', '{"a":1,"b":2}'],
+     [('{"foo":1,"quux":2}', "", "/dependentRequired"), ('{"quux":1}', "", "/dependentRequired"), ('{"a":1,"foo":1}', "", "/dependentRequired")]),
+    # Core, 10.3.1: `items` speaks of what `prefixItems` leaves.
+    ('{"items":{"type":"integer"}}', ["[1,2,3]", "[]", '{"0":"x"}', '"x"'], [('[1,"x"]', "/1", "/items/type"), ("[[1]]", "/0", "/items/type")]),
+    ('{"items":false}', ["[]", "{}"], [("[1]", "/0", "/items")]),
+    ('{"items":true}', ["[1,[]]"], []),
+    ('{"prefixItems":[{"type":"integer"},{"type":"string"}]}', ['[1,"foo"]', "[1]", "[]", '[1,"foo",true]', '{"0":"x"}'],
+     [('["foo",1]', "/0", "/prefixItems/0/type"), ("[1,1]", "/1", "/prefixItems/1/type")]),
+    ('{"prefixItems":[{"type":"string"}],"items":{"type":"number"}}', ['["a",1]', '["a"]', "[]"], [('["a","b"]', "/1", "/items/type"), ("[1]", "/0", "/prefixItems/0/type")]),
+    ('{"prefixItems":[true,false]}', ["[1]", "[]"], [("[1,2]", "/1", "/prefixItems/1")]),
+    ('{"prefixItems":[{},{},{}],"items":false}', ["[1,2,3]", "[1]"], [("[1,2,3,4]", "/3", "/items")]),
+    ('{"items":{"items":{"minimum":0}}}', ["[[0],[]]"], [("[[0],[1,-1]]", "/1/1", "/items/items/minimum")]),
+    # Core, 10.3.2: `additionalProperties` speaks of what the `properties` beside it leave.
+    ('{"properties":{"foo":{"type":"integer"},"bar":{"type":"string"}}}', ['{"foo":1,"bar":"baz"}', "{}", "[]", "12", '{"quux":[]}'],
+     [('{"foo":1,"bar":{}}', "/bar", "/properties/bar/type"), ('{"foo":"a"}', "/foo", "/properties/foo/type")]),
+    ('{"properties":{"foo":true,"bar":false}}', ["{}", '{"foo":1}'], [('{"bar":2}', "/bar", "/properties/bar")]),
+    ('{"properties":{"a/b":{"type":"null"},"m~n":false,"":false,"%25":false}}', ['{"a/b":null}'],
+     [('{"a/b":1}', "/a~1b", "/properties/a~1b/type"), ('{"m~n":1}', "/m~0n", "/properties/m~0n"), ('{"":1}', "/", "/properties/"), ('{"%25":1}', "/%25", "/properties/%25")]),
+    ('{"properties":{"$ref":{"type":"string"}}}', ['{"$ref":"a"}'], [('{"$ref":2}', "/$ref", "/properties/$ref/type")]),
+    ('{"properties":{"__proto__":{"type":"number"},"toString":{"properties":{"length":{"type":"string"}}}}}', ["{}", '{"__proto__":1,"toString":{"length":"a"}}'],
+     [('{"__proto__":"foo"}', "/__proto__", "/properties/__proto__/type"), ('{"toString":{"length":37}}', "/toString/length", "/properties/toString/properties/length/type")]),
+    ('{"properties":{"foo":{}},"additionalProperties":false}', ['{"foo":1}', "{}", "[1,2,3]", '"foobarbaz"'], [('{"foo":1,"quux":"boom"}', "/quux", "/additionalProperties")]),
+    ('{"properties":{"foo":{}},"additionalProperties":{"type":"boolean"}}', ['{"foo":1,"quux":true}', '{"foo":1}'], [('{"foo":1,"quux":12}', "/quux", "/additionalProperties/type")]),
+    ('{"additionalProperties":{"additionalProperties":{"type":"boolean"}}}', ['{"a":{"b":true}}', '{"a":1}'], [('{"a":{"b":1}}', "/a/b", "/additionalProperties/additionalProperties/type")]),
+    ('{"properties":{"x\\nvalid":false}}', ['{"x":1}'], [('{"x\\nvalid":1}', "/x\nvalid", "/properties/x\nvalid")]),
+    # Of equal members the last one stands, in schemas too.
+    ('{"type":"string","type":"number"}', ["1"], [('"a"', "", "/type")]),
+    # Keywords that say nothing, names that are none, and what is data.
+    ('{"$schema":"https://json-schema.org/draft/2020-12/schema","$id":"https://example.com/a","title":"t","description":"d","default":5,'
+     '"examples":["a"],"$comment":"c","deprecated":true,"readOnly":true,"writeOnly":false,"format":"ipv4","contentEncoding":"base64",'
+     '"contentMediaType":"text/html","contentSchema":{"type":"null"},"$defs":{"a":{"type":"null"}}}', ["1", '"x"', "{}"], []),
+    ('{"default":{"$ref":"#"},"enum":[{"allOf":[]}],"examples":[{"type":5}],"const":{"allOf":[]}}', ['{"allOf":[]}'], [("{}", "", "/enum")]),
+]
+
+# Schemas that can't be applied, each with the place.
+REFUSED = [
+    ("5", ""), ("null", ""), ("[]", ""), ('"x"', ""),
+    ('{"$ref":"#"}', "/$ref"), ('{"properties":{"a":{"pattern":"x"}}}', "/properties/a/pattern"),
+    ('{"patternProperties":{}}', "/patternProperties"), ('{"unevaluatedProperties":true}', "/unevaluatedProperties"),
+    ('{"unevaluatedItems":true}', "/unevaluatedItems"), ('{"$dynamicRef":"#a"}', "/$dynamicRef"), ('{"$dynamicAnchor":"a"}', "/$dynamicAnchor"),
+    ('{"$schema":"http://json-schema.org/draft-07/schema#"}', "/$schema"), ('{"$schema":5}', "/$schema"),
+    ('{"$defs":{"a":{"$ref":"#"}}}', "/$defs/a/$ref"), ('{"$defs":{"a":5}}', "/$defs/a"), ('{"$defs":[]}', "/$defs"),
+    ('{"items":[]}', "/items"), ('{"items":[{"type":"string"}]}', "/items"), ('{"prefixItems":[]}', "/prefixItems"),
+    ('{"prefixItems":[{},{"type":5}]}', "/prefixItems/1/type"), ('{"prefixItems":{}}', "/prefixItems"),
+    ('{"properties":[]}', "/properties"), ('{"properties":{"a/b":{"a":1},"~":null}}', "/properties/~0"),
+    ('{"additionalProperties":0}', "/additionalProperties"), ('{"additionalProperties":{"items":{"enum":{}}}}', "/additionalProperties/items/enum"),
+    ('{"type":5}', "/type"), ('{"type":[]}', "/type"), ('{"type":["null","null"]}', "/type"), ('{"type":"any"}', "/type"), ('{"type":["null","Null"]}', "/type"),
+    ('{"enum":1}', "/enum"), ('{"maximum":"1"}', "/maximum"), ('{"minimum":null}', "/minimum"),
+    ('{"maxLength":-1}', "/maxLength"), ('{"maxLength":1.5}', "/maxLength"), ('{"minLength":"1"}', "/minLength"), ('{"minItems":-1e400}', "/minItems"),
+    ('{"maxProperties":1e-1}', "/maxProperties"), ('{"required":"a"}', "/required"), ('{"required":["a","a"]}', "/required"), ('{"required":[1]}', "/required"),
+    ('{"dependentRequired":{"a":["b","b"]}}', "/dependentRequired"), ('{"dependentRequired":{"a":"b"}}', "/dependentRequired"), ('{"dependentRequired":[]}', "/dependentRequired"),
+    ('{"title":1}', "/title"), ('{"deprecated":"yes"}', "/deprecated"), ('{"examples":{}}', "/examples"), ('{"format":1}', "/format"),
+    ('{"contentSchema":{"type":"any"}}', "/contentSchema/type"), ('{"$id":1}', "/$id"),
+    ('{"properties":{"x\\n\\u001b[2J":0}}', "/properties/xU+000AU+001B[2J"),
+]
