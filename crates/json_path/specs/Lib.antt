@@ -1,0 +1,6 @@
+pub mod Nodes
+pub mod Slices
+pub mod Selecting
+pub mod Queries
+pub mod Finding
+pub mod Seen
