@@ -1,5 +1,6 @@
 -- Values that are valid, and places that are not.
-use Rattle.std.proofs.Common.{◌≡◌, ◌∷◌, ◌++◌, [], ℕ, ◌<◌, ◌+◌, ◌≤◌, Bool, true, false, true≢false, List, Option, Some, None, IsSome, option_map, Ok}
+use Rattle.std.proofs.Common.{◌≡◌, ◌∷◌, ◌++◌, [], ℕ, ◌<◌, ◌+◌, ◌≤◌, Bool, true, false, true≢false, List, Option, Some, None, IsSome}
+use Rattle.std.proofs.Common.{option_map, Ok}
 use Rattle.std.proofs.Common.{Global, Vec, codes, refl, sym, ap, ◌∙◌, subst, arith, length, below_more, zero, suc, get_or}
 use Rattle.std.proofs.lemmas.Option.{slice_get_within}
 use Rattle.std.specs.Prelude.{slice_get, option_and_then}

@@ -1,7 +1,8 @@
 -- The keywords that speak of a value and not of its parts (JSON Schema 2020-12, Validation).
 -- One whose own value has another form than the standard's says nothing, but a type of another form, or with no name of a
 -- type in it, accepts nothing, and no value is in an `enum` that is no array.
-use Rattle.std.specs.Prelude.{◌≡◌, ℕ, suc, pos, Bool, true, false, not, ◌&&◌, ◌||◌, List, [], ◌∷◌, Option, Some, None, is_some, int_le, codes, length}
+use Rattle.std.specs.Prelude.{◌≡◌, ℕ, suc, pos, Bool, true, false, not, ◌&&◌, ◌||◌, List, [], ◌∷◌, Option, Some, None, is_some, int_le}
+use Rattle.std.specs.Prelude.{codes, length}
 use Rattle.std.specs.Option.{option_map_or}
 use Rattle.std.specs.Str.{bytes_eq}
 use Rattle.tinyjson.specs.Equality.{tree_eq}

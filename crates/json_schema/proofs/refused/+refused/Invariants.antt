@@ -23,7 +23,8 @@ abbrev pub decreases-refused_member : goal.decreases-refused_member
 decreases-refused_member l = 3 * members_depth (members_listed l.schemas.now) + 2
 
 abbrev pub invariant-refused_keyword-loop-name : goal.invariant-refused_keyword-loop-name
-invariant-refused_keyword-loop-name l = keywords_fit (members_listed (drop l.name-index l.keywords)) ≡ keywords_fit (members_listed l.keywords)
+invariant-refused_keyword-loop-name l = keywords_fit (members_listed (drop l.name-index l.keywords)) ≡ keywords_fit
+    (members_listed l.keywords)
 
 abbrev pub decreases-refused_item : goal.decreases-refused_item
 decreases-refused_item l = 3 * items_depth (items_view l.schemas.now) + 2

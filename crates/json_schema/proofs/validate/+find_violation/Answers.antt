@@ -79,7 +79,8 @@ returns-in-None t c =
     let v = view c.args.value.now in
     let m = c.in-Object.members in
     object_valid s v m.entries (ap view c.in-Object.is ∙ view_Object m)
-    (meets_own s v (sym c.refuses_all.ensures ∙ c.if-refuses_all.false) (subst (λ o. IsUnmet s v o) c.in_default.is c.in_ok-keyword.ensures))
+    (meets_own s v (sym c.refuses_all.ensures ∙ c.if-refuses_all.false)
+    (subst (λ o. IsUnmet s v o) c.in_default.is c.in_ok-keyword.ensures))
     (subst (EntriesAreValid s) c.into_iter-key-iterator.ensures.into_iter_gives.0
     (all_checked s _ _ c.loop-key.invariant c.in-None.ensures.steps.0))
 
@@ -126,7 +127,8 @@ returns-after-loop-index t c =
     let v = view c.args.value.now in
     let vs = c.deref-item-items.result.now in
     array_valid s v c.in-Array.items.items (ap view c.in-Array.is ∙ view_Array c.in-Array.items)
-    (meets_own s v (sym c.refuses_all.ensures ∙ c.if-refuses_all.false) (subst (λ o. IsUnmet s v o) c.in_default.is c.in_ok-keyword.ensures))
+    (meets_own s v (sym c.refuses_all.ensures ∙ c.if-refuses_all.false)
+    (subst (λ o. IsUnmet s v o) c.in_default.is c.in_ok-keyword.ensures))
     (subst (λ ys. ItemsAreValid s ys (length ys)) c.deref-item-items.ensures.value
     (items_all s vs c.loop-index.index c.loop-index.invariant c.loop-index-test.false))
 
@@ -135,5 +137,6 @@ returns-in_default-value t c =
     let s = view c.args.schema.now in
     let v = view c.args.value.now in
     leaf_valid s c.args.value.now
-    (meets_own s v (sym c.refuses_all.ensures ∙ c.if-refuses_all.false) (subst (λ o. IsUnmet s v o) c.in_default.is c.in_ok-keyword.ensures))
+    (meets_own s v (sym c.refuses_all.ensures ∙ c.if-refuses_all.false)
+    (subst (λ o. IsUnmet s v o) c.in_default.is c.in_ok-keyword.ensures))
     c.in_default-value.not-Object c.in_default-value.not-Array
