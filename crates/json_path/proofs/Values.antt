@@ -1,14 +1,18 @@
 -- Values beside their parts of trees.
 use Rattle.std.proofs.Common.{◌≡◌, ℕ, ℤ, pos, negsuc, List, Option, Some, None, option_map, MatchOption, Vec, Global, Bor}
 use Rattle.std.proofs.Common.{String}
-use Rattle.std.proofs.Common.{string_bytes, IsTrue, IfSome, bytes_eq, reverse}
+use Rattle.std.proofs.Common.{string_bytes, IsTrue, IfSome, OnOk, Result, Ok, Err, is_ok, if◌then◌else◌, true, bytes_eq, reverse}
 use Rattle.std.proofs.Common.{length}
-use Rattle.std.proofs.Common.{sym, ap, ◌∙◌}
+use Rattle.std.proofs.Common.{◌++◌, sym, ap, ◌∙◌, subst}
 use Rattle.std.proofs.lemmas.Slice.Eq.{bytes_eq-Decides}
+use Rattle.std.proofs.lemmas.Str.{chars-append, chars-IsAscii}
+use Rattle.std.proofs.Common.{append_assoc}
+use Rattle.tinyjson.proofs.Callers.{are_ascii, IsAscii_literal}
 use Rattle.std.specs.HashMap.{get_by_text}
 use Rattle.std.specs.Prelude.{slice_get}
 use Rattle.std.specs.Str.{IsUtf8, chars}
-use Rattle.tinyjson.proofs.Callers.{view_Object, view_Array, find_get, item_count_view, nth_items_view}
+use Rattle.std.specs.declared.alloc.AllocError.{AllocError}
+use Rattle.tinyjson.proofs.Callers.{view_Object, view_Array, IsUtf8-string_bytes, find_get, item_count_view, nth_items_view}
 use Rattle.tinyjson.specs.Access.{JsonMap}
 use Rattle.tinyjson.specs.Index.{tree_at, tree_at_key, item_count}
 use Rattle.tinyjson.specs.Tree.{Items}
@@ -96,3 +100,27 @@ down_is v l path start end step n len low high vs e z w k a b =
     ∙ (ap (λ j. down path start end n (items_view vs) j) (k ∙ sym (item_count_view vs))
     ∙ (ap (λ y. down path start end n (items_view y) (item_count (items_view y))) w
     ∙ (steps_down path start end step n (item_count (items_view l.items)) (items_view l.items) z ∙ slice_is v l path start end step e)))
+
+-- ---- texts
+
+pub words_pushed : (r : Result (Unit {0}) AllocError) (new old : String Global) (ws : List ℕ)
+    → string_bytes new ≡ if◌then◌else◌ (is_ok r) (string_bytes old ++ ws) (string_bytes old) → OnOk r (text new ≡ text old ++ chars ws)
+words_pushed (Ok x) new old ws h = ap chars h ∙ chars-append (string_bytes old) ws (IsUtf8-string_bytes old)
+words_pushed (Err e) new old ws h = tt
+
+-- what was appended, in other words
+pub pushed_as : (r : Result (Unit {0}) AllocError) (new old x y : List ℕ) → x ≡ y → OnOk r (new ≡ old ++ x) → OnOk r (new ≡ old ++ y)
+pushed_as r new old x y e h = subst (λ z. OnOk r (new ≡ old ++ z)) e h
+
+-- the same of a text of ASCII
+pub ascii_pushed : (r : Result (Unit {0}) AllocError) (new old bs y : List ℕ) → are_ascii bs ≡ true → bs ≡ y
+    → OnOk r (new ≡ old ++ chars bs) → OnOk r (new ≡ old ++ y)
+ascii_pushed r new old bs y a e h = pushed_as r new old (chars bs) y (chars-IsAscii bs (IsAscii_literal bs a) ∙ e) h
+
+-- after others
+pub pushed_after : (r : Result (Unit {0}) AllocError) (new mid old x y : List ℕ) → mid ≡ old ++ x → OnOk r (new ≡ mid ++ y)
+    → OnOk r (new ≡ old ++ (x ++ y))
+pushed_after r new mid old x y e h = subst (λ z. OnOk r (new ≡ z)) (ap (λ z. z ++ y) e ∙ append_assoc old x y) h
+
+pub ascii_chars : (bs : List ℕ) → are_ascii bs ≡ true → chars bs ≡ bs
+ascii_chars bs a = chars-IsAscii bs (IsAscii_literal bs a)

@@ -3,4 +3,5 @@ pub mod Slices
 pub mod Selecting
 pub mod Queries
 pub mod Finding
+pub mod Paths
 pub mod Seen

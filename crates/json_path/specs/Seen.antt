@@ -1,5 +1,9 @@
 -- What the types that are the program's own are seen as.
 use Rattle.std.specs.Prelude.{suc, ℤ, pos, negsuc, Option, Some, None}
+use Rattle.tinyjson.specs.View.{text}
+use Rattle.json_path.specs.Nodes.{Step, at_key, at_index}
+use Rattle.json_path.specs.declared.path.Step as last
+use Rattle.json_path.specs.declared.path.Step.TheVariants.{Name, Index}
 use Rattle.json_path.specs.declared.slice.Steps.{Steps}
 use Rattle.json_path.specs.declared.slice.Steps.TheVariants.{Up, Down}
 
@@ -8,3 +12,7 @@ abbrev pub steps_of : Option ℤ → Steps
 steps_of None = Up 1
 steps_of (Some (pos n)) = Up n
 steps_of (Some (negsuc n)) = Down (suc n)
+
+abbrev pub step_view : last.Step → Step
+step_view (Name k) = at_key (text k.now)
+step_view (Index i) = at_index i

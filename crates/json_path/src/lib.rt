@@ -3,8 +3,10 @@
 
 mod children;
 mod node;
+mod path;
 mod select;
 mod slice;
 
 pub use node::{Location, Node};
+pub use path::path_text;
 pub use select::{FindError, find};
