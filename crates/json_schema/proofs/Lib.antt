@@ -1,4 +1,3 @@
-pub mod Decimals
 pub mod Depths
 pub mod Forms
 pub mod Lookups

@@ -11,7 +11,7 @@ use Rattle.tinyjson.specs.Kind.{kind_of, kind_name}
 use Rattle.tinyjson.specs.Number.{Decimal, integer_decimal}
 use Rattle.tinyjson.specs.Tree.{Tree, boolean, number, string, array, object, Items, no_items, item, Members, no_members, member, find}
 use Rattle.json_schema.specs.Names.{name}
-use Rattle.json_schema.specs.Order.{is_at_most}
+use Rattle.json_order.specs.Order.{is_at_most}
 use Rattle.json_schema.specs.declared.keyword.Keyword.{Keyword}
 use Rattle.json_schema.specs.declared.keyword.Keyword.TheVariants as kw
 

@@ -1,7 +1,6 @@
 pub mod Forms
 pub mod Keywords
 pub mod Names
-pub mod Order
 pub mod Parts
 pub mod Places
 pub mod Valid

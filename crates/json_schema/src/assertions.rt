@@ -16,7 +16,7 @@ ghost use Rattle.json_schema.specs.Keywords.{length_of, items_count_of, members_
 ghost use Rattle.json_schema.specs.Keywords.{is_count_at_most, is_count_at_least};
 
 use crate::keyword::Keyword;
-use crate::order::is_at_most;
+use json_order::is_at_most;
 use std::alloc::{AllocError, Global};
 use std::collections::HashMap;
 use tinyjson::{JsonNumber, JsonValue, sorted_members};

@@ -11,7 +11,6 @@ mod assertions;
 mod failure;
 mod form;
 mod keyword;
-mod order;
 mod part;
 mod refused;
 mod report;

@@ -1,5 +1,5 @@
 -- The order of decimals.
-use Rattle.std.specs.Prelude.{ℕ, ◌*◌, ◌^◌, ℤ, pos, neg_ℤ, Bool, cond, nat_le, int_le, length, ◌+ℤ◌}
+use Rattle.std.specs.Prelude.{ℕ, ◌*◌, ◌^◌, ℤ, pos, neg_ℤ, Bool, cond, nat_le, int_le, int_lt, length, ◌+ℤ◌}
 use Rattle.std.specs.Int.{int_gap}
 use Rattle.std.specs.Str.Parse.{digits_value}
 use Rattle.tinyjson.specs.Number.{Decimal}
@@ -15,7 +15,11 @@ signed_units d e = cond d.negative (neg_ℤ (pos (units d e))) (pos (units d e))
 abbrev pub is_at_most : Decimal → Decimal → Bool
 is_at_most d e = int_le (signed_units d e) (signed_units e d)
 
--- the same without the signs
+-- d < e
+abbrev pub is_less : Decimal → Decimal → Bool
+is_less d e = int_lt (signed_units d e) (signed_units e d)
+
+-- d ≤ e without the signs
 abbrev pub is_magnitude_at_most : Decimal → Decimal → Bool
 is_magnitude_at_most d e = nat_le (units d e) (units e d)
 

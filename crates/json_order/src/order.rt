@@ -1,10 +1,30 @@
 //! The order of exact decimals.
 ghost use Rattle.std.specs.Prelude.{◌≡◌};
-ghost use Rattle.json_schema.specs.Order.{is_at_most, is_magnitude_at_most, first_place};
+ghost use Rattle.json_order.specs.Order.{is_at_most, is_less, is_magnitude_at_most, first_place};
 
 use tinyjson::JsonNumber;
 
+/// Whether a number is less than another, as exact decimals.
+///
+/// It takes the time of one comparison of their digits, and no memory.
+///
+/// ```
+/// let small = JsonNumber::from_text(alloc, "0.1")?;
+/// let large = JsonNumber::from_text(alloc, "1e400")?;
+/// is_less(&small, &large) // true
+/// ```
+pub fn is_less(number: &JsonNumber, other: &JsonNumber) -> bool
+    ensures { result ≡ is_less number.now.decimal other.now.decimal }
+{
+    !is_at_most(other, number)
+}
+
 /// Whether a number is at most another, as exact decimals.
+///
+/// ```
+/// let one = JsonNumber::from_text(alloc, "1.0")?;
+/// is_at_most(&one, &one) // true
+/// ```
 pub fn is_at_most(number: &JsonNumber, other: &JsonNumber) -> bool
     ensures { result ≡ is_at_most number.now.decimal other.now.decimal }
 {

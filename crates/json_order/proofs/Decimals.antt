@@ -1,6 +1,6 @@
 -- The order of decimals by the place of their first digit, and by their digits.
 use Rattle.std.proofs.Common.{◌≡◌, ◌≢◌, ℕ, zero, suc, ◌+◌, ◌*◌, ◌^◌, ◌<◌, ◌≤◌, Bool, true, false, not, ◌&&◌, ◌==◌, nat_le, cond, List, []}
-use Rattle.std.proofs.Common.{◌∷◌, length, get_or, ℤ, pos, negsuc, neg_ℤ, int_le, IsTrue, refl, sym, ap, ◌∙◌, subst, arith, Ordering}
+use Rattle.std.proofs.Common.{◌∷◌, length, get_or, ℤ, pos, negsuc, neg_ℤ, int_le, int_lt, IsTrue, refl, sym, ap, ◌∙◌, subst, arith, Ordering}
 use Rattle.std.proofs.Common.{Less, Equal, Greater, ⊎_elim, ◌+ℤ◌, true≢false}
 use Rattle.std.specs.Cmp.{ranks}
 use Rattle.std.specs.Bool.{⊤}
@@ -17,7 +17,7 @@ use Rattle.std.proofs.lemmas.Int.{ints}
 use Rattle.std.proofs.lemmas.Str.{digit_value_digit}
 use lib.Signed.{lt_z}
 use Rattle.tinyjson.specs.Number.{Decimal, IsDecimal, zero_decimal}
-use Rattle.json_schema.specs.Order.{units, first_place, is_at_most, is_magnitude_at_most}
+use Rattle.json_order.specs.Order.{units, first_place, is_at_most, is_magnitude_at_most}
 
 abbrev AreDigits : List ℕ → Type 0
 AreDigits [] = ⊤
@@ -286,3 +286,8 @@ negative_positive d e n p =
     below_above (units d e) (units e d)
     ∙ (λ i. int_le (cond (sym n i) (neg_ℤ (pos (units d e))) (pos (units d e)))
     (cond (sym p i) (neg_ℤ (pos (units e d))) (pos (units e d))))
+
+-- ---- less
+
+pub less_unless : (x y : ℤ) → not (int_le y x) ≡ int_lt x y
+less_unless x y = grind (arith, ints)

@@ -3,8 +3,8 @@ use Rattle.std.proofs.Common.{to_z, of_z, ◌∙◌, sym, arith, true≢false}
 use Rattle.std.proofs.lemmas.Int.{ints}
 use Rattle.std.specs.Cmp.Lexicographic.{slice_cmp}
 use Rattle.std.specs.Ordering.{nat_cmp, is_le}
-use Rattle.json_schema.proofs.Decimals.{zero_least, not_under_zero, by_place, by_same_place}
-use Rattle.json_schema.proofs.order.is_magnitude_at_most.Goals as goal
+use Rattle.json_order.proofs.Decimals.{zero_least, not_under_zero, by_place, by_same_place}
+use Rattle.json_order.proofs.order.is_magnitude_at_most.Goals as goal
 
 pub returns-then-is_zero : goal.returns-then-is_zero
 returns-then-is_zero c = zero_least c.args.number.now.decimal c.args.other.now.decimal c.args.number.now.canonical

@@ -1,6 +1,6 @@
 use Rattle.std.proofs.Common.{sym}
-use Rattle.json_schema.proofs.Decimals.{positive_negative, negative_positive}
-use Rattle.json_schema.proofs.order.is_at_most.Goals as goal
+use Rattle.json_order.proofs.Decimals.{positive_negative, negative_positive}
+use Rattle.json_order.proofs.order.is_at_most.Goals as goal
 
 pub returns-in-true-false : goal.returns-in-true-false
 returns-in-true-false c = negative_positive c.args.number.now.decimal c.args.other.now.decimal (sym c.in-true-false.ensures)

@@ -1,0 +1,10 @@
+//! The order of JSON numbers as exact decimals: of any size, with any number of digits.
+//!
+//! ```
+//! is_less(&small, &large) // true of 1e400 and 1e401
+//! ```
+#![tactic(auto)]
+
+mod order;
+
+pub use order::{is_at_most, is_less};
