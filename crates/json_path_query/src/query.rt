@@ -36,26 +36,36 @@ pub enum Selector {
     Filter(Expression),
 }
 
-/// A logical expression (RFC 9535, 2.3.5).
+/// A logical expression (RFC 9535, 2.3.5.1). How deep expressions, functions and the queries in them stand
+/// in each other is bounded in a query that was read from a text.
 #[derive(Drop)]
 #[cycle(segments)]
 pub enum Expression {
-    Or(Box<Expression>, Box<Expression>),
-    And(Box<Expression>, Box<Expression>),
+    /// `||`: holds if one of these holds. It has one at least.
+    Or(Vec<Expression>),
+    /// `&&`: holds if each of these holds. It has one at least.
+    And(Vec<Expression>),
+    /// `!`: holds if this one does not.
     Not(Box<Expression>),
-    /// The value on the left beside the one on the right.
+    /// The value on the left beside the one on the right (RFC 9535, 2.3.5.2.2).
     Comparison(ComparisonOperator, Comparable, Comparable),
-    /// Whether the query selects some node.
+    /// Holds if the query selects some node.
     Test(FilterQuery),
 }
 
 #[derive(Clone, Copy)]
 pub enum ComparisonOperator {
+    /// `==`
     Equal,
+    /// `!=`
     NotEqual,
+    /// `<`
     Less,
+    /// `<=`
     LessOrEqual,
+    /// `>`
     Greater,
+    /// `>=`
     GreaterOrEqual,
 }
 
@@ -68,23 +78,26 @@ pub enum Comparable {
     Function(FunctionExpression),
 }
 
+/// A value that stands in the query itself.
 #[derive(Drop)]
 pub enum Literal {
     Null,
     Boolean(bool),
+    /// An exact decimal.
     Number(JsonNumber),
+    /// The characters between the quotes.
     String(String),
 }
 
-/// A function whose result is a value or nothing (RFC 9535, 2.4).
+/// A function whose result is a value or nothing, with an argument of the type that it takes (RFC 9535, 2.4).
 #[derive(Drop)]
 #[cycle(segments)]
 pub enum FunctionExpression {
-    /// The characters of a string, the items of an array or the members of an object.
+    /// `length`: how many characters a string, items an array or members an object has; of anything else nothing.
     Length(Box<Comparable>),
-    /// How many nodes the query selects.
+    /// `count`: how many nodes the query selects, with duplicates.
     Count(FilterQuery),
-    /// The value of the one node that the query selects.
+    /// `value`: that of the one node that the query selects; nothing if it selects none, or more than one.
     Value(FilterQuery),
 }
 
@@ -96,16 +109,18 @@ pub struct FilterQuery {
     pub segments: Vec<Segment>,
 }
 
-/// A query that selects one node at most.
+/// A query that selects one node at most: its value, or nothing.
 #[derive(Drop)]
 pub struct SingularQuery {
     pub origin: Origin,
     pub segments: Vec<SingularSegment>,
 }
 
+/// A segment of one selector (RFC 9535, 2.3.5.1).
 #[derive(Drop)]
 pub enum SingularSegment {
     Name(String),
+    /// An index, counted from the end if it is below zero.
     Index(i64),
 }
 
