@@ -1,31 +1,49 @@
 -- What is in the grammar is found at the front of a text.
-use Rattle.std.proofs.Common.{◌≡◌, ◌⊎◌, inl, inr, ℕ, zero, suc, ◌≤◌, ◌-◌, Bool, true, false, not, ◌&&◌, ◌||◌, ◌==◌, nat_le, cond}
-use Rattle.std.proofs.Common.{◌+◌, ◌*◌, List, [], ◌∷◌, length, Option, Some, None, option_map, option_and_then, refl, sym, ap, ◌∙◌, subst}
+use Rattle.std.proofs.Common.{◌≡◌, inl, inr, ℕ, zero, suc, ◌≤◌, Bool, true, false, not, ◌==◌, nat_le, cond}
+use Rattle.std.proofs.Common.{◌+◌, ◌*◌, List, [], ◌∷◌, Option, Some, None, option_map, option_and_then, refl, sym, ap, ◌∙◌}
 use Rattle.std.proofs.Common.{arith}
 use Rattle.std.proofs.lemmas.Bool.{cond-true, cond-false, ne_eqb, eqb-true, eq-eqb, leb-true, le-leb, and_parts, and_from, or_parts}
 use Rattle.std.proofs.lemmas.Bool.{or_from}
-use Rattle.std.proofs.lemmas.Bool.{or_cases, or_left, or_right, not-true}
+use Rattle.std.proofs.lemmas.Bool.{or_cases, or_right, not-true}
 use Rattle.std.specs.Prelude.{ℤ}
 use Rattle.tinyjson.specs.Characters.{is_high, is_low, is_hex}
-use Rattle.json_path_query.specs.Forms.{Selector, Segment}
+use Rattle.json_path_query.specs.declared.query.Origin.TheVariants.{Root, CurrentNode}
+use Rattle.json_path_query.specs.Forms.{PlainSelector, Selector, Segment, Operand, Basic, Expression}
 use Rattle.json_path_query.specs.Forms as form
 use Rattle.json_path_query.specs.Grammar as is
-use Rattle.json_path_query.specs.Grammar.{after_blanks, name_chars, digits_on, is_alpha, is_digit, is_digit1, greatest_exact, is_name_first}
+use Rattle.json_path_query.specs.Grammar.{
+  after_blanks,
+  name_chars,
+  digits_on,
+  is_alpha,
+  is_digit,
+  is_digit1,
+  greatest_exact,
+  is_name_first,
+}
 use Rattle.json_path_query.specs.Grammar.{is_unescaped, escape_of, MagnitudeText, IntText, HexText, CodeText, EscapeText, CharacterText}
 use Rattle.json_path_query.specs.Grammar.{QuotedText}
-use Rattle.json_path_query.specs.Grammar.{StringText, BoundText, StepText, SelectorText, SelectionText, ShorthandText, SegmentText}
-use Rattle.json_path_query.specs.Grammar.{SegmentsText, QueryText}
-use Rattle.json_path_query.specs.Fronts.{exact_front, magnitude_front, int_front, hex_front, shifted, digit_on, code_front, low_front}
-use Rattle.json_path_query.specs.Fronts.{low_end, pair_front, unicode_front}
-use Rattle.json_path_query.specs.Fronts.{unicode_end, escape_front, character_front, all_turns, string_turn, quoted_front, begins_int}
+use Rattle.json_path_query.specs.Grammar.{StringText, BoundText, StepText, PlainSelectorText, TextsOf, SelectorText, SelectionText}
+use Rattle.json_path_query.specs.Grammar.{ShorthandText}
+use Rattle.json_path_query.specs.Grammar.{SegmentText, SegmentsText, OperandText, BasicText, JoinedText, ConjunctionText}
+use Rattle.json_path_query.specs.Grammar.{DisjunctionText, ExpressionText, QueryText}
+use Rattle.json_path_query.specs.Fronts.{exact_front, magnitude_front, int_front, hex_front, shifted, digit_on, code_front}
+use Rattle.json_path_query.specs.Fronts.{low_end}
+use Rattle.json_path_query.specs.Fronts.{unicode_end, escape_front, character_front, string_turn, quoted_front, begins_int}
 use Rattle.json_path_query.specs.Fronts.{bound_front, step_front, slice_front, slice_end, index_end, int_end, int_selector_front}
-use Rattle.json_path_query.specs.Fronts.{selector_front, separated, selection_turn, selection_front, shorthand_front, descendant_front}
+use Rattle.json_path_query.specs.Fronts.{plain_front, separated, selection_turn, selection_front, shorthand_front, descendant_front}
 use Rattle.json_path_query.specs.Fronts.{dotted_front, segment_front, begins_segment, segments_turn, segments_front, ended, query_front}
-use Rattle.json_path_query.specs.Fronts.{negated, unsigned, before, with_first, then_turn, more_of, present_bound, whole_slice, named}
-use Rattle.json_path_query.specs.Fronts.{child_of, descendant_of, alone, is_quote, Turn, end, last, more}
-use Rattle.json_path_query.proofs.Turns.{turns_at}
-use Rattle.json_path_query.proofs.Shorter.{string_falls, selection_falls, segments_falls}
-use Rattle.json_path_query.proofs.Sound.{blanks_once}
+use Rattle.json_path_query.specs.Fronts.{with_minus, unsigned, before, with_first, more_of, present_bound, whole_slice, named}
+use Rattle.json_path_query.specs.Fronts.{child_of, descendant_of, alone, is_quote, end, last, more}
+use Rattle.json_path_query.specs.Fronts.{FrontOf, filtered, as_plain, selector_front, behind, closed, closing, tested, operand_front}
+use Rattle.json_path_query.specs.Fronts.{as_affirmed, as_negated, basic_front, behind_both, joint, joined, joined_turn, joined_front}
+use Rattle.json_path_query.specs.Fronts.{conjunction_front, disjunction_front, expression_front}
+use Rattle.json_path_query.proofs.Before.{Ends, ends_at, ends_no_segment}
+use Rattle.json_path_query.proofs.Finds.{none_some, finds_none}
+use Rattle.json_path_query.proofs.Turns.{Shortens, turns_at}
+use Rattle.json_path_query.proofs.Shorter.{Shortening, basic_shorter, joined_shorter, string_falls, front_falls, selection_falls}
+use Rattle.json_path_query.proofs.Shorter.{segments_falls, joined_falls}
+use Rattle.json_path_query.proofs.Sound.{Sound, blanks_once, basic_sound, joined_sound}
 
 -- ---- integers
 
@@ -40,7 +58,7 @@ magnitude_complete xs n ys (is.digits c d e f) =
     cond-true (is_digit1 c) _ _ d ∙ (ap exact_front e ∙ cond-true (nat_le n greatest_exact) _ _ f)
 
 int_complete : (xs : List ℕ) (i : ℤ) (ys : List ℕ) → IntText xs i ys → int_front xs ≡ Some (i, ys)
-int_complete xs i ys is.zero = refl
+int_complete xs i ys is.nought = refl
 int_complete xs i ys (is.positive {n = n} m) = by xs m (ap (option_map unsigned) (magnitude_complete xs n ys m))
   where
     by : (zs : List ℕ) → MagnitudeText zs n ys → option_map unsigned (magnitude_front zs) ≡ Some (unsigned (n, ys))
@@ -48,7 +66,7 @@ int_complete xs i ys (is.positive {n = n} m) = by xs m (ap (option_map unsigned)
     by zs (is.digits c d e f) h =
         let low = digit1_from c d in
         cond-false (c == 48) _ _ (above c 48 low (omega arith)) ∙ (cond-false (c == 45) _ _ (above c 45 low (omega arith)) ∙ h)
-int_complete xs i ys (is.negative {xs = cs} {n = n} m) = ap (option_map negated) (magnitude_complete cs n ys m)
+int_complete xs i ys (is.negative {xs = cs} {n = n} m) = ap (option_map with_minus) (magnitude_complete cs n ys m)
 
 -- what an integer begins with
 record BeginsInt (xs : List ℕ) : Type 0 where
@@ -61,7 +79,7 @@ record BeginsInt (xs : List ℕ) : Type 0 where
   no_colon : (first == 58) ≡ false
 
 int_begins : (xs : List ℕ) (i : ℤ) (ys : List ℕ) → IntText xs i ys → BeginsInt xs
-int_begins xs i ys (is.zero {xs = cs}) =
+int_begins xs i ys (is.nought {xs = cs}) =
     record { first = 48; rest = cs; at = refl; begins = refl; no_quote = refl; no_asterisk = refl; no_colon = refl }
 int_begins xs i ys (is.negative {xs = cs} m) =
     record { first = 45; rest = cs; at = refl; begins = refl; no_quote = refl; no_asterisk = refl; no_colon = refl }
@@ -150,14 +168,6 @@ quoted_complete quote xs cs ys q (is.more {ys = zs} {c = c} {cs = ds} m k) =
 
 -- ---- selectors
 
--- what follows a selector, behind blanks: a comma or the bracket
-record Ends (ys : List ℕ) : Type 0 where
-  sign : ℕ
-  rest : List ℕ
-  at : after_blanks ys ≡ sign ∷ rest
-  no_int : begins_int (sign ∷ rest) ≡ false
-  no_colon : (sign == 58) ≡ false
-
 no_bound : (xs : List ℕ) → begins_int xs ≡ false → bound_front xs ≡ Some (None, xs)
 no_bound xs h = cond-false (begins_int xs) _ _ h
 
@@ -196,91 +206,220 @@ slice_complete ys start stop step zs us b m e =
     ap (option_and_then (slice_end start)) (bound_complete (after_blanks ys) stop zs b (step_begins zs step us s e m))
     ∙ ap (option_map (whole_slice start stop)) (step_complete zs step us s e m)
 
-int_selector_at : (xs : List ℕ) (i : ℤ) (ys : List ℕ) → IntText xs i ys → selector_front xs ≡ index_end i (after_blanks ys)
+int_selector_at : (xs : List ℕ) (i : ℤ) (ys : List ℕ) → IntText xs i ys → plain_front xs ≡ index_end i (after_blanks ys)
 int_selector_at xs i ys m =
     let b = int_begins xs i ys m in
-    ap selector_front b.at
+    ap plain_front b.at
     ∙ (cond-false (is_quote b.first) _ _ b.no_quote
     ∙ (cond-false (b.first == 42) _ _ b.no_asterisk
     ∙ (cond-false (b.first == 58) _ _ b.no_colon
     ∙ (ap int_selector_front (sym b.at) ∙ ap (option_and_then int_end) (int_complete xs i ys m)))))
 
-string_complete : (xs cs ys : List ℕ) → StringText xs cs ys → selector_front xs ≡ Some (form.name cs, after_blanks ys)
+string_complete : (xs cs ys : List ℕ) → StringText xs cs ys → plain_front xs ≡ Some (form.name cs, after_blanks ys)
 string_complete xs cs ys (is.double {xs = zs} q) = ap (option_map named) (quoted_complete 34 zs cs ys refl q)
 string_complete xs cs ys (is.single {xs = zs} q) = ap (option_map named) (quoted_complete 39 zs cs ys refl q)
 
-slice_begins : (xs : List ℕ) (o : Option ℤ) (zs ys : List ℕ) → zs ≡ 58 ∷ ys → BoundText xs o zs → selector_front xs ≡ slice_front o ys
-slice_begins xs o zs ys h is.absent = ap selector_front h
+slice_begins : (xs : List ℕ) (o : Option ℤ) (zs ys : List ℕ) → zs ≡ 58 ∷ ys → BoundText xs o zs → plain_front xs ≡ slice_front o ys
+slice_begins xs o zs ys h is.absent = ap plain_front h
 slice_begins xs o zs ys h (is.present {ys = us} {i = i} m e) = int_selector_at xs i us m ∙ ap (index_end i) (e ∙ h)
 
-selector_complete : (xs : List ℕ) (v : Selector) (ys : List ℕ) → SelectorText xs v ys → Ends ys
-    → selector_front xs ≡ Some (v, after_blanks ys)
-selector_complete xs v ys (is.name {cs = cs} s) e = string_complete xs cs ys s
-selector_complete xs v ys is.wildcard e = refl
-selector_complete xs v ys (is.slice {ys = zs} {zs = us} {start = start} {end = stop} {step = step} a b c) e =
+plain_complete : (xs : List ℕ) (v : PlainSelector) (ys : List ℕ) → PlainSelectorText xs v ys → Ends ys
+    → plain_front xs ≡ Some (v, after_blanks ys)
+plain_complete xs v ys (is.name {cs = cs} s) e = string_complete xs cs ys s
+plain_complete xs v ys is.wildcard e = refl
+plain_complete xs v ys (is.slice {ys = zs} {zs = us} {start = start} {end = stop} {step = step} a b c) e =
     slice_begins xs start (58 ∷ zs) zs refl a ∙ slice_complete zs start stop step us ys b c e
-selector_complete xs v ys (is.index {i = i} m) e =
+plain_complete xs v ys (is.index {i = i} m) e =
     int_selector_at xs i ys m
     ∙ (ap (index_end i) e.at ∙ (cond-false (e.sign == 58) _ _ e.no_colon ∙ ap (λ zs. Some (form.index i, zs)) (sym e.at)))
 
-selection_complete : (xs : List ℕ) (vs : List Selector) (ys : List ℕ) → SelectionText xs vs ys → selection_front xs ≡ Some (vs, ys)
-selection_complete xs vs ys (is.last {ys = zs} {v = v} s e) =
-    turns_at selection_turn selection_falls xs (last v ys)
-    (ap (option_and_then separated) (selector_complete (after_blanks xs) v zs s
-    (record { sign = 93; rest = ys; at = e; no_int = refl; no_colon = refl }) ∙ ap (λ us. Some (v, us)) e))
-selection_complete xs vs ys (is.more {ys = zs} {zs = us} {v = v} {vs = ws} s e k) =
-    turns_at selection_turn selection_falls xs (more v us)
-    (ap (option_and_then separated) (selector_complete (after_blanks xs) v zs s
-    (record { sign = 44; rest = us; at = e; no_int = refl; no_colon = refl }) ∙ ap (λ us. Some (v, us)) e))
-    ∙ ap (option_map (with_first v)) (selection_complete us ws ys k)
+-- ---- selectors and segments, where expressions are found as they are written
 
--- ---- segments
+-- what F finds is all that T are the texts of, before what may follow an expression
+abbrev pub Complete : {E : Type 0} → TextsOf E → FrontOf E → Type 0
+Complete {E = E} T F = (xs : List ℕ) (e : E) (ys : List ℕ) → T xs e ys → (k : Ends ys) → (k.sign == 38) ≡ false → (k.sign == 124) ≡ false
+    → F xs ≡ Some (e, after_blanks ys)
+
+plain_at : {E : Type 0} (F : FrontOf E) (xs : List ℕ) (v : PlainSelector) (ys : List ℕ) → plain_front xs ≡ Some (v, ys)
+    → selector_front F xs ≡ Some (form.plain v, ys)
+plain_at F [] v ys e = none_some e
+plain_at F (c ∷ cs) v ys e = by (c == 63) refl
+  where
+    by : (b : Bool) → (c == 63) ≡ b
+        → cond b (option_map filtered (F (after_blanks cs))) (option_map as_plain (plain_front (c ∷ cs))) ≡ Some (form.plain v, ys)
+    by true f =
+        let none : plain_front (c ∷ cs) ≡ None = ap (λ x. plain_front (x ∷ cs)) (eqb-true c 63 f) in
+        none_some (sym none ∙ e)
+    by false f = ap (option_map as_plain) e
+
+selector_complete : {E : Type 0} {T : TextsOf E} {F : FrontOf E} → Complete T F → (xs : List ℕ) (v : Selector E) (ys : List ℕ)
+    → SelectorText T xs v ys → (k : Ends ys) → (k.sign == 38) ≡ false → (k.sign == 124) ≡ false
+    → selector_front F xs ≡ Some (v, after_blanks ys)
+selector_complete {F = F} t xs v ys (is.plain {v = u} m) k a o = plain_at F xs u (after_blanks ys) (plain_complete xs u ys m k)
+selector_complete t xs v ys (is.filter {xs = cs} {e = e} m) k a o = ap (option_map filtered) (t (after_blanks cs) e ys m k a o)
+
+selection_complete : {E : Type 0} {T : TextsOf E} {F : FrontOf E} → Complete T F → Shortens (selection_turn F) → (xs : List ℕ)
+    (vs : List (Selector E)) (ys : List ℕ) → SelectionText T xs vs ys → selection_front F xs ≡ Some (vs, ys)
+selection_complete {F = F} t f xs vs ys (is.last {ys = zs} {v = v} s e) =
+    turns_at (selection_turn F) f xs (last v ys)
+    (ap (option_and_then separated) (selector_complete t (after_blanks xs) v zs s (ends_at 93 zs ys e refl refl refl) refl refl
+    ∙ ap (λ us. Some (v, us)) e))
+selection_complete {F = F} t f xs vs ys (is.more {ys = zs} {zs = us} {v = v} {vs = ws} s e k) =
+    turns_at (selection_turn F) f xs (more v us)
+    (ap (option_and_then separated) (selector_complete t (after_blanks xs) v zs s (ends_at 44 zs us e refl refl refl) refl refl
+    ∙ ap (λ us. Some (v, us)) e))
+    ∙ ap (option_map (with_first v)) (selection_complete t f us ws ys k)
 
 -- what a name begins with is none of the signs
 name_not : (c k : ℕ) → is_name_first c ≡ true → is_name_first k ≡ false → (c == k) ≡ false
 name_not c k h n = ne_eqb c k (λ e. let t : is_name_first c ≡ false = ap is_name_first e ∙ n in absurd cc)
 
-shorthand_complete : (xs : List ℕ) (v : Selector) (ys : List ℕ) → ShorthandText xs v ys → shorthand_front xs ≡ Some (v, ys)
+shorthand_complete : (xs : List ℕ) (v : PlainSelector) (ys : List ℕ) → ShorthandText xs v ys → shorthand_front xs ≡ Some (v, ys)
 shorthand_complete xs v ys is.wildcard = refl
 shorthand_complete xs v ys (is.name {xs = zs} c h e) =
     cond-false (c == 42) _ _ (name_not c 42 h refl)
     ∙ (cond-true (is_name_first c) _ _ h ∙ ap (λ p. Some (form.name (c ∷ p.0), p.1)) e)
 
-descendant_complete : (xs : List ℕ) (v : Selector) (ys : List ℕ) → ShorthandText xs v ys
-    → descendant_front xs ≡ Some (form.descendant (v ∷ []), ys)
-descendant_complete xs v ys is.wildcard = refl
-descendant_complete xs v ys (is.name c h e) =
+descendant_complete : {E : Type 0} (F : FrontOf E) (xs : List ℕ) (v : PlainSelector) (ys : List ℕ) → ShorthandText xs v ys
+    → descendant_front F xs ≡ Some (form.descendant (form.plain v ∷ []), ys)
+descendant_complete F xs v ys is.wildcard = refl
+descendant_complete F xs v ys (is.name c h e) =
     cond-false (c == 91) _ _ (name_not c 91 h refl)
     ∙ ap (λ o. option_map descendant_of (option_map alone o)) (shorthand_complete xs v ys (is.name c h e))
 
-dotted_complete : (xs : List ℕ) (v : Selector) (ys : List ℕ) → ShorthandText xs v ys → dotted_front xs ≡ Some (form.child (v ∷ []), ys)
-dotted_complete xs v ys is.wildcard = refl
-dotted_complete xs v ys (is.name c h e) =
+dotted_complete : {E : Type 0} (F : FrontOf E) (xs : List ℕ) (v : PlainSelector) (ys : List ℕ) → ShorthandText xs v ys
+    → dotted_front F xs ≡ Some (form.child (form.plain v ∷ []), ys)
+dotted_complete F xs v ys is.wildcard = refl
+dotted_complete F xs v ys (is.name c h e) =
     cond-false (c == 46) _ _ (name_not c 46 h refl)
     ∙ ap (λ o. option_map child_of (option_map alone o)) (shorthand_complete xs v ys (is.name c h e))
 
-segment_complete : (xs : List ℕ) (s : Segment) (ys : List ℕ) → SegmentText xs s ys → segment_front xs ≡ Some (s, ys)
-segment_complete xs s ys (is.bracketed_child {xs = zs} {vs = vs} m) = ap (option_map child_of) (selection_complete zs vs ys m)
-segment_complete xs s ys (is.child {xs = zs} {v = v} m) = dotted_complete zs v ys m
-segment_complete xs s ys (is.bracketed_descendant {xs = zs} {vs = vs} m) =
-    ap (option_map descendant_of) (selection_complete zs vs ys m)
-segment_complete xs s ys (is.descendant {xs = zs} {v = v} m) = descendant_complete zs v ys m
+segment_complete : {E : Type 0} {T : TextsOf E} {F : FrontOf E} → Complete T F → Shortens (selection_turn F) → (xs : List ℕ)
+    (s : Segment E) (ys : List ℕ) → SegmentText T xs s ys → segment_front F xs ≡ Some (s, ys)
+segment_complete t f xs s ys (is.bracketed_child {xs = zs} {vs = vs} m) =
+    ap (option_map child_of) (selection_complete t f zs vs ys m)
+segment_complete {F = F} t f xs s ys (is.child {xs = zs} {v = v} m) = dotted_complete F zs v ys m
+segment_complete t f xs s ys (is.bracketed_descendant {xs = zs} {vs = vs} m) =
+    ap (option_map descendant_of) (selection_complete t f zs vs ys m)
+segment_complete {F = F} t f xs s ys (is.descendant {xs = zs} {v = v} m) = descendant_complete F zs v ys m
 
-segment_begins : (xs : List ℕ) (s : Segment) (ys : List ℕ) → SegmentText xs s ys → begins_segment xs ≡ true
+segment_begins : {E : Type 0} {T : TextsOf E} (xs : List ℕ) (s : Segment E) (ys : List ℕ) → SegmentText T xs s ys
+    → begins_segment xs ≡ true
 segment_begins xs s ys (is.bracketed_child m) = refl
 segment_begins xs s ys (is.child m) = refl
 segment_begins xs s ys (is.bracketed_descendant m) = refl
 segment_begins xs s ys (is.descendant m) = refl
 
-segments_complete : (xs : List ℕ) (ss : List Segment) (ys : List ℕ) → begins_segment (after_blanks ys) ≡ false → SegmentsText xs ss ys
-    → segments_front xs ≡ Some (ss, ys)
-segments_complete xs ss ys h is.none =
-    turns_at segments_turn segments_falls xs (end xs) (cond-false (begins_segment (after_blanks xs)) _ _ h)
-segments_complete xs ss ys h (is.more {ys = zs} {s = s} {ss = ts} m k) =
-    turns_at segments_turn segments_falls xs (more s zs)
+pub segments_complete : {E : Type 0} {T : TextsOf E} {F : FrontOf E} → Complete T F → Shortens (selection_turn F)
+    → Shortens (segments_turn F) → (xs : List ℕ) (ss : List (Segment E)) (ys : List ℕ) → begins_segment (after_blanks ys) ≡ false
+    → SegmentsText T xs ss ys → segments_front F xs ≡ Some (ss, ys)
+segments_complete {F = F} t f g xs ss ys h is.none =
+    turns_at (segments_turn F) g xs (end xs) (cond-false (begins_segment (after_blanks xs)) _ _ h)
+segments_complete {F = F} t f g xs ss ys h (is.more {ys = zs} {s = s} {ss = ts} m k) =
+    turns_at (segments_turn F) g xs (more s zs)
     (cond-true (begins_segment (after_blanks xs)) _ _ (segment_begins (after_blanks xs) s zs m)
-    ∙ ap (option_map more_of) (segment_complete (after_blanks xs) s zs m))
-    ∙ ap (option_map (with_first s)) (segments_complete zs ts ys h k)
+    ∙ ap (option_map more_of) (segment_complete t f (after_blanks xs) s zs m))
+    ∙ ap (option_map (with_first s)) (segments_complete t f g zs ts ys h k)
 
-pub query_complete : (xs : List ℕ) (ss : List Segment) → QueryText xs ss → query_front xs ≡ Some ss
-query_complete xs ss (is.query {xs = cs} m) = ap (option_and_then ended) (segments_complete cs ss [] refl m)
+-- ---- logical expressions
+
+operand_complete : {E : Type 0} {T : TextsOf E} {F : FrontOf E} → Complete T F → Shortens (selection_turn F)
+    → Shortens (segments_turn F) → (xs : List ℕ) (o : Operand E) (ys : List ℕ) → OperandText T xs o ys → Ends ys
+    → operand_front F xs ≡ Some (o, after_blanks ys)
+operand_complete t f g xs o ys (is.parenthesized {xs = us} {ys = zs} {e = e} m h) k =
+    ap (option_and_then closing) (t (after_blanks us) e zs m (ends_at 41 zs ys h refl refl refl) refl refl)
+    ∙ ap (λ ws. option_map (closed e) (behind 41 ws)) h
+operand_complete t f g xs o ys (is.relative {xs = us} {ss = ss} m) k =
+    ap (option_map (tested CurrentNode)) (segments_complete t f g us ss ys (ends_no_segment ys k) m)
+operand_complete t f g xs o ys (is.absolute {xs = us} {ss = ss} m) k =
+    ap (option_map (tested Root)) (segments_complete t f g us ss ys (ends_no_segment ys k) m)
+
+affirmed_complete : {E : Type 0} {T : TextsOf E} (F : FrontOf E) (xs : List ℕ) (o : Operand E) (ys : List ℕ) → OperandText T xs o ys
+    → operand_front F xs ≡ Some (o, after_blanks ys) → basic_front F xs ≡ Some (form.affirmed o, after_blanks ys)
+affirmed_complete F xs o ys (is.parenthesized m h) e = ap (option_map as_affirmed) e
+affirmed_complete F xs o ys (is.relative m) e = ap (option_map as_affirmed) e
+affirmed_complete F xs o ys (is.absolute m) e = ap (option_map as_affirmed) e
+
+pub basic_complete : {E : Type 0} {T : TextsOf E} {F : FrontOf E} → Complete T F → Shortens (selection_turn F)
+    → Shortens (segments_turn F) → (xs : List ℕ) (v : Basic E) (ys : List ℕ) → BasicText T xs v ys → Ends ys
+    → basic_front F xs ≡ Some (v, after_blanks ys)
+basic_complete {F = F} t f g xs v ys (is.affirmed {o = o} m) k =
+    affirmed_complete F xs o ys m (operand_complete t f g xs o ys m k)
+basic_complete t f g xs v ys (is.negated {xs = us} {o = o} m) k =
+    ap (option_map as_negated) (operand_complete t f g (after_blanks us) o ys m k)
+
+-- a sign that an expression may be followed by
+pub record Sign (sign : ℕ) : Type 0 where
+  pub no_int : (zs : List ℕ) → begins_int (sign ∷ zs) ≡ false
+  pub no_colon : (sign == 58) ≡ false
+  pub no_segment : (zs : List ℕ) → begins_segment (sign ∷ zs) ≡ false
+
+both_none : (sign : ℕ) (ys : List ℕ) (k : Ends ys) → (k.sign == sign) ≡ false → behind_both sign (after_blanks ys) ≡ None
+both_none sign ys k n =
+    ap (behind_both sign) k.at ∙ ap (λ o. option_map after_blanks (option_and_then (behind sign) o)) (cond-false (k.sign == sign) _ _ n)
+
+both_some : (sign : ℕ) (xs ys : List ℕ) → xs ≡ sign ∷ sign ∷ ys → behind_both sign xs ≡ Some (after_blanks ys)
+both_some sign xs ys e =
+    ap (behind_both sign) e
+    ∙ (ap (λ o. option_map after_blanks (option_and_then (behind sign) o)) (cond-true (sign == sign) _ _ (eq-eqb sign sign refl))
+    ∙ ap (option_map after_blanks) (cond-true (sign == sign) _ _ (eq-eqb sign sign refl)))
+
+pub joined_complete : {A : Type 0} {T : TextsOf A} {F : FrontOf A} (sign : ℕ) (P : ℕ → Type 0) → Sign sign → P sign
+    → ((xs : List ℕ) (a : A) (ys : List ℕ) → T xs a ys → (k : Ends ys) → P k.sign → F xs ≡ Some (a, after_blanks ys))
+    → Shortens (joined_turn sign F) → (xs : List ℕ) (as' : List A) (ys : List ℕ) → JoinedText sign T xs as' ys → (k : Ends ys)
+    → P k.sign → (k.sign == sign) ≡ false → joined_front sign F xs ≡ Some (as', after_blanks ys)
+joined_complete {F = F} sign P s own t f xs as' ys (is.last {a = a} m) k p n =
+    turns_at (joined_turn sign F) f xs (last a (after_blanks ys))
+    (ap (option_map (joined sign)) (t xs a ys m k p) ∙ ap (λ o. Some (joint a (after_blanks ys) o)) (both_none sign ys k n))
+joined_complete {F = F} sign P s own t f xs as' ys (is.more {ys = zs} {zs = us} {a = a} {as' = bs} m h r) k p n =
+    turns_at (joined_turn sign F) f xs (more a (after_blanks us))
+    (ap (option_map (joined sign))
+    (t xs a zs m (ends_at sign zs (sign ∷ us) h (s.no_int (sign ∷ us)) s.no_colon (s.no_segment (sign ∷ us))) own)
+    ∙ ap (λ o. Some (joint a (after_blanks zs) o)) (both_some sign (after_blanks zs) us h))
+    ∙ ap (option_map (with_first a)) (joined_complete sign P s own t f (after_blanks us) bs ys r k p n)
+
+-- ---- each depth
+
+-- F finds what T are the texts of, and all of it
+pub record Faithful {E : Type 0} (T : TextsOf E) (F : FrontOf E) : Type 0 where
+  pub sound : Sound T F
+  pub shorter : Shortening T
+  pub complete : Complete T F
+
+disjunction_faithful : {E : Type 0} {T : TextsOf E} {F : FrontOf E} → Faithful T F
+    → Faithful (DisjunctionText T) (disjunction_front F)
+disjunction_faithful {E = E} {T = T} {F = F} h = record {
+  sound = joined_sound 124 many;
+  shorter = joined_shorter 124 (joined_shorter 38 fewer);
+  complete = λ xs e ys m k a o. joined_complete 124 (λ c. (c == 38) ≡ false)
+      (record { no_int = λ zs. refl; no_colon = refl; no_segment = λ zs. refl }) refl
+      (λ us b vs n j p. joined_complete 38 (λ c. Unit {0}) (record { no_int = λ zs. refl; no_colon = refl; no_segment = λ zs. refl }) tt
+      (λ ws d rs q i u. basic_complete h.complete (selection_falls h.sound h.shorter) (segments_falls h.sound h.shorter) ws d rs q i)
+      (joined_falls 38 (front_falls one fewer)) us b vs n j tt p)
+      (joined_falls 124 (front_falls many (joined_shorter 38 fewer))) xs e ys m k a o;
+}
+  where
+    one : Sound (BasicText T) (basic_front F)
+    one = basic_sound h.sound
+
+    fewer : Shortening (BasicText T)
+    fewer = basic_shorter h.shorter
+
+    many : Sound (ConjunctionText T) (conjunction_front F)
+    many = joined_sound 38 one
+
+pub expression_faithful : (n : ℕ) → Faithful (ExpressionText n) (expression_front n)
+expression_faithful zero = record {
+  sound = λ xs. finds_none;
+  shorter = λ xs e ys m. absurd m;
+  complete = λ xs e ys m. absurd m;
+}
+expression_faithful (suc n) =
+    let f = disjunction_faithful (expression_faithful n) in
+    record { sound = f.sound; shorter = f.shorter; complete = f.complete }
+
+pub query_complete : (n : ℕ) (xs : List ℕ) (ss : List (Segment (Expression n))) → QueryText n xs ss → query_front n xs ≡ Some ss
+query_complete n xs ss (is.query {xs = cs} m) =
+    let h = expression_faithful n in
+    ap (option_and_then ended) (segments_complete h.complete (selection_falls h.sound h.shorter)
+    (segments_falls h.sound h.shorter) cs ss [] refl m)

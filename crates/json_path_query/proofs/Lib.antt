@@ -1,9 +1,11 @@
 pub mod Finds
 pub mod Turns
+pub mod Before
 pub mod Sound
 pub mod Shorter
 pub mod Complete
 pub mod Refusals
 pub mod Steps
+pub mod Levels
 pub mod Digits
 pub mod Reading

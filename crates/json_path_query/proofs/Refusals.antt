@@ -1,12 +1,10 @@
 -- Errors that are handed on, and what is appended.
-use Rattle.std.proofs.Common.{◌≡◌, ◌≢◌, ℕ, List, [], ◌∷◌, ◌++◌, Option, Some, None, option_map, option_and_then, Result, Ok, Err, Bor}
-use Rattle.std.proofs.Common.{refl, sym, ap, ◌∙◌}
+use Rattle.std.proofs.Common.{◌≡◌, ◌≢◌, ℕ, List, [], ◌∷◌, ◌++◌, Option, None, option_map, Result, Ok, Err, Bor}
+use Rattle.std.proofs.Common.{sym, ap, ◌∙◌, subst}
 use Rattle.std.specs.Result.{IsErrAnd}
 use Rattle.json_path_query.specs.declared.error.Refusal.{Refusal}
 use Rattle.json_path_query.specs.declared.error.ParseErrorKind.TheVariants.{OutOfMemory}
-use Rattle.json_path_query.specs.declared.query.Selector.{Selector as CodeSelector}
-use Rattle.json_path_query.specs.declared.query.Segment.{Segment as CodeSegment}
-use Rattle.json_path_query.specs.Forms.{Selector, Segment, IsSelector, AreSelectors, IsSegment, AreSegments}
+use Rattle.json_path_query.specs.Forms.{Each}
 use Rattle.json_path_query.specs.Reading.{Fronts, FrontsAs}
 
 pub refused_as : {U V W : Type 0} (stands : V → U → Type 0) (o : Option (V × List ℕ)) (o' : Option W) (e : Refusal)
@@ -30,16 +28,24 @@ pub fronts_from : {U V : Type 0} (stands : V → U → Type 0) (o o' : Option (V
 fronts_from stands o o' (Ok x) e h = (h.0, e ∙ h.1, h.2)
 fronts_from stands o o' (Err d) e h = λ n. e ∙ h n
 
-pub selectors_push : (vs : List Selector) (v : Selector) (xs : List CodeSelector) (x : CodeSelector) → AreSelectors vs xs → IsSelector v x
-    → AreSelectors (vs ++ v ∷ []) (xs ++ x ∷ [])
-selectors_push [] v [] x h k = (k, tt)
-selectors_push [] v (y ∷ ys) x h k = absurd h
-selectors_push (w ∷ ws) v [] x h k = absurd h
-selectors_push (w ∷ ws) v (y ∷ ys) x h k = (h.0, selectors_push ws v ys x h.1 k)
+-- the same, as something else
+pub fronts_map : {U V W : Type 0} (P : V → U → Type 0) (Q : W → U → Type 0) (f : V → W) (o : Option (V × List ℕ)) (o' : Option (W × List ℕ))
+    (r : Result (U × Bor (List ℕ)) Refusal) → o' ≡ option_map (λ p. (f p.0, p.1)) o → ((v : V) (u : U) → P v u → Q (f v) u)
+    → Fronts P o r → Fronts Q o' r
+fronts_map P Q f o o' (Ok x) e k h = (f h.0, e ∙ ap (option_map (λ p. (f p.0, p.1))) h.1, k h.0 x.0 h.2)
+fronts_map P Q f o o' (Err d) e k h = λ n. e ∙ ap (option_map (λ p. (f p.0, p.1))) (h n)
 
-pub segments_push : (vs : List Segment) (v : Segment) (xs : List CodeSegment) (x : CodeSegment) → AreSegments vs xs → IsSegment v x
-    → AreSegments (vs ++ v ∷ []) (xs ++ x ∷ [])
-segments_push [] v [] x h k = (k, tt)
-segments_push [] v (y ∷ ys) x h k = absurd h
-segments_push (w ∷ ws) v [] x h k = absurd h
-segments_push (w ∷ ws) v (y ∷ ys) x h k = (h.0, segments_push ws v ys x h.1 k)
+pub each_push : {V U : Type 0} (Is : V → U → Type 0) (vs : List V) (v : V) (xs : List U) (x : U) → Each Is vs xs → Is v x
+    → Each Is (vs ++ v ∷ []) (xs ++ x ∷ [])
+each_push Is [] v [] x h k = (k, tt)
+each_push Is [] v (y ∷ ys) x h k = absurd h
+each_push Is (w ∷ ws) v [] x h k = absurd h
+each_push Is (w ∷ ws) v (y ∷ ys) x h k = (h.0, each_push Is ws v ys x h.1 k)
+
+-- the vector with one more
+pub each_pushed : {V U : Type 0} (Is : V → U → Type 0) (vs : List V) (v : V) (xs ys : List U) (x : U) → ys ≡ xs ++ x ∷ [] → Each Is vs xs
+    → Is v x → Each Is (vs ++ v ∷ []) ys
+each_pushed Is vs v xs ys x e h k = subst (λ zs. Each Is (vs ++ v ∷ []) zs) (sym e) (each_push Is vs v xs x h k)
+
+pub each_none : {V U : Type 0} (Is : V → U → Type 0) (xs : List U) → xs ≡ [] → Each Is [] xs
+each_none Is xs e = subst (λ zs. Each Is [] zs) (sym e) tt

@@ -1,19 +1,20 @@
 -- What follows a text of a rule is shorter.
 use Rattle.std.proofs.Common.{◌≡◌, ℕ, ◌<◌, ◌≤◌, ◌+◌, ◌*◌, ◌-◌, Bool, true, false, ◌==◌, cond, List, [], ◌∷◌, length, Option, Some, None}
-use Rattle.std.proofs.Common.{refl, ap, arith, subst}
+use Rattle.std.proofs.Common.{refl, ap, arith}
 use Rattle.std.specs.Prelude.{ℤ}
 use Rattle.tinyjson.specs.Characters.{is_white}
-use Rattle.json_path_query.specs.Forms.{Selector, Segment}
+use Rattle.json_path_query.specs.Forms.{PlainSelector, Selector, Segment}
 use Rattle.json_path_query.specs.Grammar as is
 use Rattle.json_path_query.specs.Grammar.{after_blanks, is_name_char, name_chars, is_digit, digits_on, MagnitudeText, IntText, HexText}
 use Rattle.json_path_query.specs.Grammar.{CodeText}
-use Rattle.json_path_query.specs.Grammar.{EscapeText, CharacterText, QuotedText, StringText, BoundText, StepText, SelectorText}
-use Rattle.json_path_query.specs.Grammar.{SelectionText, ShorthandText, SegmentText}
+use Rattle.json_path_query.specs.Grammar.{EscapeText, CharacterText, QuotedText, StringText, BoundText, StepText, PlainSelectorText}
+use Rattle.json_path_query.specs.Grammar.{TextsOf, SelectorText, SelectionText, ShorthandText, SegmentText, SegmentsText}
+use Rattle.json_path_query.specs.Grammar.{OperandText, BasicText, JoinedText}
 use Rattle.json_path_query.specs.Fronts.{string_turn, selector_front, separator, separated, selection_turn, begins_segment, segments_turn}
-use Rattle.json_path_query.specs.Fronts.{more_of, character_front, segment_front}
+use Rattle.json_path_query.specs.Fronts.{more_of, character_front, segment_front, FrontOf, behind, behind_both, joint, joined, joined_turn}
 use Rattle.json_path_query.proofs.Finds.{Finds, finds_none, finds_some, finds_cond, finds_map, finds_then, finds_as}
 use Rattle.json_path_query.proofs.Turns.{Falls, Shortens}
-use Rattle.json_path_query.proofs.Sound.{Before, character_sound, selector_sound, segment_sound}
+use Rattle.json_path_query.proofs.Sound.{Sound, character_sound, selector_sound, segment_sound}
 
 pub blanks_shorter : (xs : List ℕ) → length (after_blanks xs) ≤ length xs
 blanks_shorter [] = omega arith
@@ -48,7 +49,7 @@ magnitude_shorter xs n ys (is.digits {xs = cs} c d e f) =
     omega arith
 
 pub int_shorter : (xs : List ℕ) (i : ℤ) (ys : List ℕ) → IntText xs i ys → length ys < length xs
-int_shorter xs i ys is.zero = omega arith
+int_shorter xs i ys is.nought = omega arith
 int_shorter xs i ys (is.positive {n = n} m) = magnitude_shorter xs n ys m
 int_shorter xs i ys (is.negative {xs = cs} {n = n} m) = let h = magnitude_shorter cs n ys m in omega arith
 
@@ -102,44 +103,91 @@ step_shorter xs o ys (is.present {xs = zs} {i = i} m) =
     let t = blanks_shorter zs in
     omega arith
 
-selector_shorter : (xs : List ℕ) (v : Selector) (ys : List ℕ) → SelectorText xs v ys → length ys < length xs
-selector_shorter xs v ys (is.name {cs = cs} s) = string_shorter xs cs ys s
-selector_shorter xs v ys is.wildcard = omega arith
-selector_shorter xs v ys (is.slice {ys = zs} {zs = us} {start = start} {end = end} {step = step} a b c) =
+plain_shorter : (xs : List ℕ) (v : PlainSelector) (ys : List ℕ) → PlainSelectorText xs v ys → length ys < length xs
+plain_shorter xs v ys (is.name {cs = cs} s) = string_shorter xs cs ys s
+plain_shorter xs v ys is.wildcard = omega arith
+plain_shorter xs v ys (is.slice {ys = zs} {zs = us} {start = start} {end = end} {step = step} a b c) =
     let s = bound_shorter xs start (58 ∷ zs) a in
     let t = blanks_shorter zs in
     let u = bound_shorter (after_blanks zs) end us b in
     let w = step_shorter us step ys c in
     omega arith
-selector_shorter xs v ys (is.index {i = i} m) = int_shorter xs i ys m
+plain_shorter xs v ys (is.index {i = i} m) = int_shorter xs i ys m
 
-selection_shorter : (xs : List ℕ) (vs : List Selector) (ys : List ℕ) → SelectionText xs vs ys → length ys < length xs
-selection_shorter xs vs ys (is.last {ys = zs} {v = v} s e) =
-    let a = selector_shorter (after_blanks xs) v zs s in
+-- what follows each of the texts is shorter
+abbrev pub Shortening : {E : Type 0} → TextsOf E → Type 0
+Shortening {E = E} T = (xs : List ℕ) (e : E) (ys : List ℕ) → T xs e ys → length ys < length xs
+
+pub selector_shorter : {E : Type 0} {T : TextsOf E} → Shortening T → Shortening (SelectorText T)
+selector_shorter k xs v ys (is.plain {v = u} m) = plain_shorter xs u ys m
+selector_shorter k xs v ys (is.filter {xs = zs} {e = e} m) =
+    let a = k (after_blanks zs) e ys m in
+    let b = blanks_shorter zs in
+    omega arith
+
+selection_shorter : {E : Type 0} {T : TextsOf E} → Shortening T → Shortening (SelectionText T)
+selection_shorter k xs vs ys (is.last {ys = zs} {v = v} s e) =
+    let a = selector_shorter k (after_blanks xs) v zs s in
     let b = blanks_shorter xs in
     let c = blanks_shorter zs in
     let same : length (after_blanks zs) ≡ length (93 ∷ ys) = ap length e in
     omega arith
-selection_shorter xs vs ys (is.more {ys = zs} {zs = us} {v = v} {vs = ws} s e k) =
-    let a = selector_shorter (after_blanks xs) v zs s in
+selection_shorter k xs vs ys (is.more {ys = zs} {zs = us} {v = v} {vs = ws} s e m) =
+    let a = selector_shorter k (after_blanks xs) v zs s in
     let b = blanks_shorter xs in
     let c = blanks_shorter zs in
     let same : length (after_blanks zs) ≡ length (44 ∷ us) = ap length e in
-    let d = selection_shorter us ws ys k in
+    let d = selection_shorter k us ws ys m in
     omega arith
 
-shorthand_shorter : (xs : List ℕ) (v : Selector) (ys : List ℕ) → ShorthandText xs v ys → length ys < length xs
+shorthand_shorter : (xs : List ℕ) (v : PlainSelector) (ys : List ℕ) → ShorthandText xs v ys → length ys < length xs
 shorthand_shorter xs v ys is.wildcard = omega arith
 shorthand_shorter xs v ys (is.name {xs = zs} c h e) =
     let a = names_shorter zs in
     let same : length (name_chars zs).1 ≡ length ys = ap (λ p. length p.1) e in
     omega arith
 
-segment_shorter : (xs : List ℕ) (s : Segment) (ys : List ℕ) → SegmentText xs s ys → length ys < length xs
-segment_shorter xs s ys (is.bracketed_child {xs = zs} {vs = vs} m) = let a = selection_shorter zs vs ys m in omega arith
-segment_shorter xs s ys (is.child {xs = zs} {v = v} m) = let a = shorthand_shorter zs v ys m in omega arith
-segment_shorter xs s ys (is.bracketed_descendant {xs = zs} {vs = vs} m) = let a = selection_shorter zs vs ys m in omega arith
-segment_shorter xs s ys (is.descendant {xs = zs} {v = v} m) = let a = shorthand_shorter zs v ys m in omega arith
+segment_shorter : {E : Type 0} {T : TextsOf E} → Shortening T → Shortening (SegmentText T)
+segment_shorter k xs s ys (is.bracketed_child {xs = zs} {vs = vs} m) = let a = selection_shorter k zs vs ys m in omega arith
+segment_shorter k xs s ys (is.child {xs = zs} {v = v} m) = let a = shorthand_shorter zs v ys m in omega arith
+segment_shorter k xs s ys (is.bracketed_descendant {xs = zs} {vs = vs} m) = let a = selection_shorter k zs vs ys m in omega arith
+segment_shorter k xs s ys (is.descendant {xs = zs} {v = v} m) = let a = shorthand_shorter zs v ys m in omega arith
+
+segments_shorter : {E : Type 0} {T : TextsOf E} → Shortening T → (xs : List ℕ) (ss : List (Segment E)) (ys : List ℕ)
+    → SegmentsText T xs ss ys → length ys ≤ length xs
+segments_shorter k xs ss ys is.none = omega arith
+segments_shorter k xs ss ys (is.more {ys = zs} {s = s} {ss = ts} m n) =
+    let a = segment_shorter k (after_blanks xs) s zs m in
+    let b = blanks_shorter xs in
+    let c = segments_shorter k zs ts ys n in
+    omega arith
+
+operand_shorter : {E : Type 0} {T : TextsOf E} → Shortening T → Shortening (OperandText T)
+operand_shorter k xs o ys (is.parenthesized {xs = us} {ys = zs} {e = e} m f) =
+    let a = k (after_blanks us) e zs m in
+    let b = blanks_shorter us in
+    let c = blanks_shorter zs in
+    let same : length (after_blanks zs) ≡ length (41 ∷ ys) = ap length f in
+    omega arith
+operand_shorter k xs o ys (is.relative {xs = us} {ss = ss} m) = let a = segments_shorter k us ss ys m in omega arith
+operand_shorter k xs o ys (is.absolute {xs = us} {ss = ss} m) = let a = segments_shorter k us ss ys m in omega arith
+
+pub basic_shorter : {E : Type 0} {T : TextsOf E} → Shortening T → Shortening (BasicText T)
+basic_shorter k xs v ys (is.affirmed {o = o} m) = operand_shorter k xs o ys m
+basic_shorter k xs v ys (is.negated {xs = zs} {o = o} m) =
+    let a = operand_shorter k (after_blanks zs) o ys m in
+    let b = blanks_shorter zs in
+    omega arith
+
+pub joined_shorter : {A : Type 0} {T : TextsOf A} (sign : ℕ) → Shortening T → Shortening (JoinedText sign T)
+joined_shorter sign k xs as' ys (is.last {a = a} m) = k xs a ys m
+joined_shorter sign k xs as' ys (is.more {ys = zs} {zs = us} {a = a} {as' = bs} m f n) =
+    let b = k xs a zs m in
+    let c = blanks_shorter zs in
+    let d = blanks_shorter us in
+    let same : length (after_blanks zs) ≡ length (sign ∷ sign ∷ us) = ap length f in
+    let e = joined_shorter sign k (after_blanks us) bs ys n in
+    omega arith
 
 -- ---- the loops
 
@@ -151,30 +199,57 @@ string_falls quote [] = finds_none
 string_falls quote (c ∷ cs) =
     finds_cond (c == quote) (λ _. finds_some tt) (λ _. finds_map more_of _ (finds_as (character_falls quote (c ∷ cs)) (λ p h. h)))
 
-pub selector_falls : (xs : List ℕ) → Finds (selector_front (after_blanks xs)) (λ p. length p.1 < length xs)
-selector_falls xs = finds_as (selector_sound (after_blanks xs)) (λ p b.
-    let a = selector_shorter (after_blanks xs) p.0 b.whole b.held in
+-- what is found is shorter
+pub front_falls : {E : Type 0} {T : TextsOf E} {F : FrontOf E} → Sound T F → Shortening T → (xs : List ℕ)
+    → Finds (F xs) (λ p. length p.1 < length xs)
+front_falls s k xs = finds_as (s xs) (λ p b.
+    let a = k xs p.0 b.whole b.held in
     let c = blanks_shorter b.whole in
-    let d = blanks_shorter xs in
     let same : length (after_blanks b.whole) ≡ length p.1 = ap length b.blanks in
     omega arith)
 
-pub selection_falls : Shortens selection_turn
-selection_falls xs = finds_then separated _ (finds_as (selector_falls xs) (λ p h. by p.0 p.1 h))
+pub selector_falls : {E : Type 0} {T : TextsOf E} {F : FrontOf E} → Sound T F → Shortening T → (xs : List ℕ)
+    → Finds (selector_front F (after_blanks xs)) (λ p. length p.1 < length xs)
+selector_falls s k xs = finds_as (front_falls (selector_sound s) (selector_shorter k) (after_blanks xs)) (λ p a.
+    let d = blanks_shorter xs in
+    omega arith)
+
+pub selection_falls : {E : Type 0} {T : TextsOf E} {F : FrontOf E} → Sound T F → Shortening T → Shortens (selection_turn F)
+selection_falls {E = E} s k xs = finds_then separated _ (finds_as (selector_falls s k xs) (λ p h. by p.0 p.1 h))
   where
-    by : (v : Selector) (ys : List ℕ) → length ys < length xs → Finds (separator v ys) (Falls xs)
+    by : (v : Selector E) (ys : List ℕ) → length ys < length xs → Finds (separator v ys) (Falls xs)
     by v [] h = finds_none
     by v (c ∷ cs) h =
         finds_cond (c == 44) (λ _. finds_some (let l : length cs < length xs = omega arith in l))
         (λ _. finds_cond (c == 93) (λ _. finds_some tt) (λ _. finds_none))
 
-pub segment_falls : (xs : List ℕ) → Finds (segment_front (after_blanks xs)) (λ p. length p.1 < length xs)
-segment_falls xs = finds_as (segment_sound (after_blanks xs)) (λ p m.
-    let a = segment_shorter (after_blanks xs) p.0 p.1 m in
+pub segment_falls : {E : Type 0} {T : TextsOf E} {F : FrontOf E} → Sound T F → Shortening T → (xs : List ℕ)
+    → Finds (segment_front F (after_blanks xs)) (λ p. length p.1 < length xs)
+segment_falls s k xs = finds_as (segment_sound s (after_blanks xs)) (λ p m.
+    let a = segment_shorter k (after_blanks xs) p.0 p.1 m in
     let d = blanks_shorter xs in
     omega arith)
 
-pub segments_falls : Shortens segments_turn
-segments_falls xs =
-    finds_cond (begins_segment (after_blanks xs)) (λ _. finds_map more_of _ (finds_as (segment_falls xs) (λ p h. h)))
+pub segments_falls : {E : Type 0} {T : TextsOf E} {F : FrontOf E} → Sound T F → Shortening T → Shortens (segments_turn F)
+segments_falls {F = F} s k xs =
+    finds_cond (begins_segment (after_blanks xs)) (λ _. finds_map more_of _ (finds_as (segment_falls s k xs) (λ p h. h)))
     (λ _. finds_some tt)
+
+behind_shorter : (sign : ℕ) (xs : List ℕ) → Finds (behind sign xs) (λ ys. length ys < length xs)
+behind_shorter sign [] = finds_none
+behind_shorter sign (c ∷ cs) = finds_cond (c == sign) (λ _. finds_some (omega arith)) (λ _. finds_none)
+
+pub both_shorter : (sign : ℕ) (xs : List ℕ) → Finds (behind_both sign xs) (λ ys. length ys < length xs)
+both_shorter sign xs =
+    finds_map after_blanks _ (finds_then (behind sign) (behind sign xs) (finds_as (behind_shorter sign xs) (λ ys e.
+    finds_as (behind_shorter sign ys) (λ zs f. let a = blanks_shorter zs in omega arith))))
+
+pub joined_falls : {A : Type 0} {F : FrontOf A} (sign : ℕ) → ((xs : List ℕ) → Finds (F xs) (λ p. length p.1 < length xs))
+    → Shortens (joined_turn sign F)
+joined_falls {A = A} {F = F} sign f xs =
+    finds_map (joined sign) (F xs) (finds_as (f xs) (λ p h. by p.0 p.1 h (behind_both sign p.1) (both_shorter sign p.1)))
+  where
+    by : (a : A) (ys : List ℕ) → length ys < length xs → (o : Option (List ℕ)) → Finds o (λ zs. length zs < length ys)
+        → Falls xs (joint a ys o)
+    by a ys h None k = tt
+    by a ys h (Some zs) k = let l = k.at zs refl in omega arith

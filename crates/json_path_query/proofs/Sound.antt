@@ -1,25 +1,31 @@
 -- What is found at the front of a text is in the grammar.
-use Rattle.std.proofs.Common.{◌≡◌, ◌⊎◌, inl, inr, ℕ, zero, suc, Bool, true, false, ◌==◌, nat_le, cond, List, [], ◌∷◌, length}
+use Rattle.std.proofs.Common.{◌≡◌, ◌⊎◌, inl, inr, ℕ, zero, suc, Bool, true, false, ◌==◌, cond, List, [], ◌∷◌, length}
 use Rattle.std.proofs.Common.{◌+◌, ◌*◌, Option, Some, None, option_and_then, refl, sym, ap, ◌∙◌, subst}
 use Rattle.std.proofs.lemmas.Bool.{eqb-true, eq-eqb, and_parts, or_cases, or_from, cond-false}
 use Rattle.std.specs.Prelude.{ℤ, pos, neg_ℤ}
 use Rattle.tinyjson.specs.Characters.{is_white, is_hex, is_high, is_low}
-use Rattle.json_path_query.specs.Forms.{Selector, Segment}
+use Rattle.json_path_query.specs.declared.query.Origin.TheVariants.{Root, CurrentNode}
+use Rattle.json_path_query.specs.Forms.{PlainSelector, Selector, Segment, Expression}
 use Rattle.json_path_query.specs.Forms as form
 use Rattle.json_path_query.specs.Grammar as is
 use Rattle.json_path_query.specs.Grammar.{after_blanks, name_chars, digits_on, is_digit1, greatest_exact, is_name_first, is_unescaped}
 use Rattle.json_path_query.specs.Grammar.{escape_of, MagnitudeText, IntText, HexText, CodeText, EscapeText, CharacterText, QuotedText}
 use Rattle.json_path_query.specs.Grammar.{StringText}
-use Rattle.json_path_query.specs.Grammar.{BoundText, StepText, SelectorText, SelectionText, ShorthandText, SegmentText, SegmentsText}
-use Rattle.json_path_query.specs.Grammar.{QueryText}
-use Rattle.json_path_query.specs.Fronts.{magnitude_front, int_front, hex_front, shifted, digit_on, code_front, low_front, low_end}
+use Rattle.json_path_query.specs.Grammar.{BoundText, StepText, PlainSelectorText, TextsOf, SelectorText, SelectionText, ShorthandText}
+use Rattle.json_path_query.specs.Grammar.{SegmentText, SegmentsText}
+use Rattle.json_path_query.specs.Grammar.{OperandText, BasicText, JoinedText, ExpressionText, QueryText}
+use Rattle.json_path_query.specs.Fronts.{magnitude_front, int_front, hex_front, shifted, digit_on, code_front, low_end}
 use Rattle.json_path_query.specs.Fronts.{pair_front, unicode_front, unicode_end}
 use Rattle.json_path_query.specs.Fronts.{escape_front, character_front, turns, string_turn, quoted_front, begins_int, bound_front}
-use Rattle.json_path_query.specs.Fronts.{step_front, slice_front, slice_end, index_end, int_end, int_selector_front, selector_front}
+use Rattle.json_path_query.specs.Fronts.{step_front, slice_front, slice_end, index_end, int_end, int_selector_front, plain_front}
 use Rattle.json_path_query.specs.Fronts.{separator, separated, selection_turn, selection_front, shorthand_front, descendant_front}
 use Rattle.json_path_query.specs.Fronts.{dotted_front, segment_front, begins_segment, segments_turn, segments_front, ended, query_front}
-use Rattle.json_path_query.specs.Fronts.{negated, unsigned, before, with_first, then_turn, more_of, present_bound, whole_slice, named}
-use Rattle.json_path_query.specs.Fronts.{child_of, descendant_of, alone, is_quote, end, last, more}
+use Rattle.json_path_query.specs.Fronts.{with_minus, unsigned, before, with_first, then_turn, more_of, present_bound, whole_slice, named}
+use Rattle.json_path_query.specs.Fronts.{FrontOf, filtered, as_plain, selector_front, behind, closed, closing, tested, origin_of}
+use Rattle.json_path_query.specs.Fronts.{tested_front, operand_front, as_affirmed, as_negated, basic_front, behind_both, joint, joined}
+use Rattle.json_path_query.specs.Fronts.{joined_turn, joined_front, expression_front}
+use Rattle.json_path_query.specs.Fronts.{child_of, descendant_of, alone, is_quote}
+use Rattle.json_path_query.proofs.Before.{Before}
 use Rattle.json_path_query.proofs.Finds.{Finds, finds_none, finds_some, finds_cond, finds_map, finds_then, finds_as, at_code}
 
 magnitude_sound : (xs : List ℕ) → Finds (magnitude_front xs) (λ p. MagnitudeText xs p.0 p.1)
@@ -30,9 +36,9 @@ magnitude_sound (c ∷ cs) =
 pub int_sound : (xs : List ℕ) → Finds (int_front xs) (λ p. IntText xs p.0 p.1)
 int_sound [] = finds_none
 int_sound (c ∷ cs) =
-    finds_cond (c == 48) (λ e. finds_some (at_code (λ x. IntText (x ∷ cs) (pos 0) cs) c 48 e is.zero))
+    finds_cond (c == 48) (λ e. finds_some (at_code (λ x. IntText (x ∷ cs) (pos 0) cs) c 48 e is.nought))
     (λ _. finds_cond (c == 45)
-    (λ e. finds_map negated _ (finds_as (magnitude_sound cs)
+    (λ e. finds_map with_minus _ (finds_as (magnitude_sound cs)
     (λ p m. at_code (λ x. IntText (x ∷ cs) (neg_ℤ (pos p.0)) p.1) c 45 e (is.negative m))))
     (λ _. finds_map unsigned _ (finds_as (magnitude_sound (c ∷ cs)) (λ p m. is.positive m))))
 
@@ -111,12 +117,6 @@ bound_sound xs =
     finds_cond (begins_int xs) (λ _. finds_map present_bound _ (finds_as (int_sound xs) (λ p m. is.present m refl)))
     (λ _. finds_some is.absent)
 
--- what stands before blanks that are left out
-pub record Before (P : List ℕ → Type 0) (ys : List ℕ) : Type 0 where
-  pub whole : List ℕ
-  pub blanks : after_blanks whole ≡ ys
-  pub held : P whole
-
 pub blanks_once : (xs : List ℕ) → after_blanks (after_blanks xs) ≡ after_blanks xs
 blanks_once [] = refl
 blanks_once (c ∷ cs) = by (is_white c) refl (blanks_once cs)
@@ -143,7 +143,7 @@ step_sound (c ∷ cs) s =
     (λ _. finds_some (record { whole = c ∷ cs; blanks = s; held = is.absent }))
 
 slice_sound : (xs ys : List ℕ) (start : Option ℤ) → BoundText xs start (58 ∷ ys)
-    → Finds (slice_front start ys) (λ p. Before (SelectorText xs p.0) p.1)
+    → Finds (slice_front start ys) (λ p. Before (PlainSelectorText xs p.0) p.1)
 slice_sound xs ys start b =
     finds_then (slice_end start) _ (record {
       at = λ p e.
@@ -156,20 +156,20 @@ slice_sound xs ys start b =
           }));
     })
 
-int_selector_sound : (xs : List ℕ) → Finds (int_selector_front xs) (λ p. Before (SelectorText xs p.0) p.1)
+int_selector_sound : (xs : List ℕ) → Finds (int_selector_front xs) (λ p. Before (PlainSelectorText xs p.0) p.1)
 int_selector_sound xs = finds_then int_end _ (finds_as (int_sound xs) (λ p m. by p.0 p.1 (after_blanks p.1) refl m))
   where
     by : (i : ℤ) (ys zs : List ℕ) → after_blanks ys ≡ zs → IntText xs i ys
-        → Finds (index_end i zs) (λ p. Before (SelectorText xs p.0) p.1)
+        → Finds (index_end i zs) (λ p. Before (PlainSelectorText xs p.0) p.1)
     by i ys [] e m = finds_some (record { whole = ys; blanks = e; held = is.index m })
     by i ys (c ∷ cs) e m =
         finds_cond (c == 58)
         (λ h. slice_sound xs cs (Some i) (is.present m (e ∙ ap (λ x. x ∷ cs) (eqb-true c 58 h))))
         (λ _. finds_some (record { whole = ys; blanks = e; held = is.index m }))
 
-pub selector_sound : (xs : List ℕ) → Finds (selector_front xs) (λ p. Before (SelectorText xs p.0) p.1)
-selector_sound [] = finds_none
-selector_sound (c ∷ cs) =
+pub plain_sound : (xs : List ℕ) → Finds (plain_front xs) (λ p. Before (PlainSelectorText xs p.0) p.1)
+plain_sound [] = finds_none
+plain_sound (c ∷ cs) =
     finds_cond (is_quote c) (λ h. finds_map named (quoted_front c cs) (finds_as (quoted_sound (suc (length cs)) c cs) (λ p m. record {
       whole = p.1;
       blanks = refl;
@@ -178,7 +178,7 @@ selector_sound (c ∷ cs) =
     (λ _. finds_cond (c == 42) (λ e. finds_some (record {
       whole = cs;
       blanks = refl;
-      held = at_code (λ x. SelectorText (x ∷ cs) form.wildcard cs) c 42 e is.wildcard;
+      held = at_code (λ x. PlainSelectorText (x ∷ cs) form.wildcard cs) c 42 e is.wildcard;
     }))
     (λ _. finds_cond (c == 58) (λ e. slice_sound (c ∷ cs) cs None (at_code (λ x. BoundText (c ∷ cs) None (x ∷ cs)) 58 c
     (sym_test c 58 e) is.absent))
@@ -191,23 +191,7 @@ selector_sound (c ∷ cs) =
     by ds ys m (inl e) = at_code (λ x. QuotedText x cs ds ys → StringText (x ∷ cs) ds ys) c 34 e (λ q. is.double q) m
     by ds ys m (inr e) = at_code (λ x. QuotedText x cs ds ys → StringText (x ∷ cs) ds ys) c 39 e (λ q. is.single q) m
 
-selection_sound : (n : ℕ) (xs : List ℕ) → Finds (turns selection_turn n xs) (λ p. SelectionText xs p.0 p.1)
-selection_sound zero xs = finds_none
-selection_sound (suc n) xs =
-    finds_then (then_turn (turns selection_turn n)) (selection_turn xs) (finds_then separated (selector_front (after_blanks xs))
-    (finds_as (selector_sound (after_blanks xs)) (λ p b. by p.0 p.1 b (selection_sound n))))
-  where
-    by : (v : Selector) (ys : List ℕ) → Before (SelectorText (after_blanks xs) v) ys
-        → ((zs : List ℕ) → Finds (turns selection_turn n zs) (λ p. SelectionText zs p.0 p.1))
-        → Finds (separator v ys) (λ t. Finds (then_turn (turns selection_turn n) t) (λ p. SelectionText xs p.0 p.1))
-    by v [] b rec = finds_none
-    by v (c ∷ cs) b rec =
-        finds_cond (c == 44)
-        (λ e. finds_some (finds_map (with_first v) (turns selection_turn n cs) (finds_as (rec cs)
-        (λ r k. is.more b.held (b.blanks ∙ ap (λ x. x ∷ cs) (eqb-true c 44 e)) k))))
-        (λ _. finds_cond (c == 93)
-        (λ e. finds_some (finds_some (is.last b.held (b.blanks ∙ ap (λ x. x ∷ cs) (eqb-true c 93 e)))))
-        (λ _. finds_none))
+-- ---- selectors and segments, where expressions are found as they are written
 
 shorthand_sound : (xs : List ℕ) → Finds (shorthand_front xs) (λ p. ShorthandText xs p.0 p.1)
 shorthand_sound [] = finds_none
@@ -215,48 +199,176 @@ shorthand_sound (c ∷ cs) =
     finds_cond (c == 42) (λ e. finds_some (at_code (λ x. ShorthandText (x ∷ cs) form.wildcard cs) c 42 e is.wildcard))
     (λ _. finds_cond _ (λ h. finds_some (is.name c h refl)) (λ _. finds_none))
 
-descendant_sound : (xs : List ℕ) → Finds (descendant_front xs) (λ p. SegmentText (46 ∷ 46 ∷ xs) p.0 p.1)
-descendant_sound [] = finds_none
-descendant_sound (c ∷ cs) =
+-- what F finds is what T are the texts of
+abbrev pub Sound : {E : Type 0} → TextsOf E → FrontOf E → Type 0
+Sound T F = (xs : List ℕ) → Finds (F xs) (λ p. Before (T xs p.0) p.1)
+
+pub selector_sound : {E : Type 0} {T : TextsOf E} {F : FrontOf E} → Sound T F → Sound (SelectorText T) (selector_front F)
+selector_sound s [] = finds_none
+selector_sound {T = T} {F = F} s (c ∷ cs) =
+    finds_cond (c == 63)
+    (λ e. finds_map filtered (F (after_blanks cs)) (finds_as (s (after_blanks cs)) (λ p b. record {
+      whole = b.whole;
+      blanks = b.blanks;
+      held = at_code (λ x. SelectorText T (x ∷ cs) (form.filter p.0) b.whole) c 63 e (is.filter b.held);
+    })))
+    (λ _. finds_map as_plain (plain_front (c ∷ cs)) (finds_as (plain_sound (c ∷ cs)) (λ p b. record {
+      whole = b.whole;
+      blanks = b.blanks;
+      held = is.plain b.held;
+    })))
+
+selection_sound : {E : Type 0} {T : TextsOf E} {F : FrontOf E} → Sound T F → (n : ℕ) (xs : List ℕ)
+    → Finds (turns (selection_turn F) n xs) (λ p. SelectionText T xs p.0 p.1)
+selection_sound s zero xs = finds_none
+selection_sound {E = E} {T = T} {F = F} s (suc n) xs =
+    finds_then (then_turn (turns (selection_turn F) n)) (selection_turn F xs) (finds_then separated (selector_front F (after_blanks xs))
+    (finds_as (selector_sound s (after_blanks xs)) (λ p b. by p.0 p.1 b (selection_sound s n))))
+  where
+    by : (v : Selector E) (ys : List ℕ) → Before (SelectorText T (after_blanks xs) v) ys
+        → ((zs : List ℕ) → Finds (turns (selection_turn F) n zs) (λ p. SelectionText T zs p.0 p.1))
+        → Finds (separator v ys) (λ t. Finds (then_turn (turns (selection_turn F) n) t) (λ p. SelectionText T xs p.0 p.1))
+    by v [] b rec = finds_none
+    by v (c ∷ cs) b rec =
+        finds_cond (c == 44)
+        (λ e. finds_some (finds_map (with_first v) (turns (selection_turn F) n cs) (finds_as (rec cs)
+        (λ r k. is.more b.held (b.blanks ∙ ap (λ x. x ∷ cs) (eqb-true c 44 e)) k))))
+        (λ _. finds_cond (c == 93)
+        (λ e. finds_some (finds_some (is.last b.held (b.blanks ∙ ap (λ x. x ∷ cs) (eqb-true c 93 e)))))
+        (λ _. finds_none))
+
+descendant_sound : {E : Type 0} {T : TextsOf E} {F : FrontOf E} → Sound T F → (xs : List ℕ)
+    → Finds (descendant_front F xs) (λ p. SegmentText T (46 ∷ 46 ∷ xs) p.0 p.1)
+descendant_sound s [] = finds_none
+descendant_sound {T = T} {F = F} s (c ∷ cs) =
     finds_cond (c == 91)
-    (λ e. finds_map descendant_of (selection_front cs) (finds_as (selection_sound (suc (length cs)) cs)
-    (λ p m. at_code (λ x. SegmentText (46 ∷ 46 ∷ x ∷ cs) (form.descendant p.0) p.1) c 91 e (is.bracketed_descendant m))))
+    (λ e. finds_map descendant_of (selection_front F cs) (finds_as (selection_sound s (suc (length cs)) cs)
+    (λ p m. at_code (λ x. SegmentText T (46 ∷ 46 ∷ x ∷ cs) (form.descendant p.0) p.1) c 91 e (is.bracketed_descendant m))))
     (λ _. finds_map descendant_of _ (finds_map alone _ (finds_as (shorthand_sound (c ∷ cs)) (λ p m. is.descendant m))))
 
-dotted_sound : (xs : List ℕ) → Finds (dotted_front xs) (λ p. SegmentText (46 ∷ xs) p.0 p.1)
-dotted_sound [] = finds_none
-dotted_sound (c ∷ cs) =
+dotted_sound : {E : Type 0} {T : TextsOf E} {F : FrontOf E} → Sound T F → (xs : List ℕ)
+    → Finds (dotted_front F xs) (λ p. SegmentText T (46 ∷ xs) p.0 p.1)
+dotted_sound s [] = finds_none
+dotted_sound {T = T} s (c ∷ cs) =
     finds_cond (c == 46)
-    (λ e. finds_as (descendant_sound cs) (λ p m. at_code (λ x. SegmentText (46 ∷ x ∷ cs) p.0 p.1) c 46 e m))
+    (λ e. finds_as (descendant_sound s cs) (λ p m. at_code (λ x. SegmentText T (46 ∷ x ∷ cs) p.0 p.1) c 46 e m))
     (λ _. finds_map child_of _ (finds_map alone _ (finds_as (shorthand_sound (c ∷ cs)) (λ p m. is.child m))))
 
-pub segment_sound : (xs : List ℕ) → Finds (segment_front xs) (λ p. SegmentText xs p.0 p.1)
-segment_sound [] = finds_none
-segment_sound (c ∷ cs) =
+pub segment_sound : {E : Type 0} {T : TextsOf E} {F : FrontOf E} → Sound T F → (xs : List ℕ)
+    → Finds (segment_front F xs) (λ p. SegmentText T xs p.0 p.1)
+segment_sound s [] = finds_none
+segment_sound {T = T} {F = F} s (c ∷ cs) =
     finds_cond (c == 91)
-    (λ e. finds_map child_of (selection_front cs) (finds_as (selection_sound (suc (length cs)) cs)
-    (λ p m. at_code (λ x. SegmentText (x ∷ cs) (form.child p.0) p.1) c 91 e (is.bracketed_child m))))
+    (λ e. finds_map child_of (selection_front F cs) (finds_as (selection_sound s (suc (length cs)) cs)
+    (λ p m. at_code (λ x. SegmentText T (x ∷ cs) (form.child p.0) p.1) c 91 e (is.bracketed_child m))))
     (λ _. finds_cond (c == 46)
-    (λ e. finds_as (dotted_sound cs) (λ p m. at_code (λ x. SegmentText (x ∷ cs) p.0 p.1) c 46 e m))
+    (λ e. finds_as (dotted_sound s cs) (λ p m. at_code (λ x. SegmentText T (x ∷ cs) p.0 p.1) c 46 e m))
     (λ _. finds_none))
 
-segments_sound : (n : ℕ) (xs : List ℕ) → Finds (turns segments_turn n xs) (λ p. SegmentsText xs p.0 p.1)
-segments_sound zero xs = finds_none
-segments_sound (suc n) xs =
-    finds_then (then_turn (turns segments_turn n)) _
+pub segments_sound : {E : Type 0} {T : TextsOf E} {F : FrontOf E} → Sound T F → (n : ℕ) (xs : List ℕ)
+    → Finds (turns (segments_turn F) n xs) (λ p. SegmentsText T xs p.0 p.1)
+segments_sound s zero xs = finds_none
+segments_sound {F = F} s (suc n) xs =
+    finds_then (then_turn (turns (segments_turn F) n)) _
     (finds_cond (begins_segment (after_blanks xs))
-    (λ _. finds_map more_of _ (finds_as (segment_sound (after_blanks xs))
-    (λ p m. finds_map (with_first p.0) _ (finds_as (segments_sound n p.1) (λ r k. is.more m k)))))
+    (λ _. finds_map more_of _ (finds_as (segment_sound s (after_blanks xs))
+    (λ p m. finds_map (with_first p.0) _ (finds_as (segments_sound s n p.1) (λ r k. is.more m k)))))
     (λ _. finds_some (finds_some is.none)))
 
-pub query_sound : (xs : List ℕ) → Finds (query_front xs) (λ ss. QueryText xs ss)
-query_sound [] = finds_none
-query_sound (c ∷ cs) =
+-- ---- logical expressions
+
+behind_sound : (sign : ℕ) (xs : List ℕ) → Finds (behind sign xs) (λ ys. xs ≡ sign ∷ ys)
+behind_sound sign [] = finds_none
+behind_sound sign (c ∷ cs) = finds_cond (c == sign) (λ e. finds_some (ap (λ x. x ∷ cs) (eqb-true c sign e))) (λ _. finds_none)
+
+-- what follows both signs, with the blanks
+record Both (sign : ℕ) (xs zs : List ℕ) : Type 0 where
+  rest : List ℕ
+  at : xs ≡ sign ∷ sign ∷ rest
+  blanks : after_blanks rest ≡ zs
+
+both_sound : (sign : ℕ) (xs : List ℕ) → Finds (behind_both sign xs) (Both sign xs)
+both_sound sign xs =
+    finds_map after_blanks _ (finds_then (behind sign) (behind sign xs) (finds_as (behind_sound sign xs) (λ ys e.
+    finds_as (behind_sound sign ys) (λ zs f. record { rest = zs; at = e ∙ ap (λ us. sign ∷ us) f; blanks = refl }))))
+
+operand_sound : {E : Type 0} {T : TextsOf E} {F : FrontOf E} → Sound T F → Sound (OperandText T) (operand_front F)
+operand_sound s [] = finds_none
+operand_sound {E = E} {T = T} {F = F} s (c ∷ cs) =
+    finds_cond (c == 40)
+    (λ e. finds_then closing (F (after_blanks cs)) (finds_as (s (after_blanks cs)) (λ p b.
+    finds_map (closed p.0) (behind 41 p.1) (finds_as (behind_sound 41 p.1) (λ ys f. record {
+      whole = ys;
+      blanks = refl;
+      held = at_code (λ x. OperandText T (x ∷ cs) (form.parenthesized p.0) ys) c 40 e (is.parenthesized b.held (b.blanks ∙ f));
+    })))))
+    (λ _. finds_then (tested_front F cs) (origin_of c)
+    (finds_cond (c == 64)
+    (λ e. finds_some (finds_map (tested CurrentNode) (segments_front F cs) (finds_as (segments_sound s (suc (length cs)) cs)
+    (λ p m. record {
+      whole = p.1;
+      blanks = refl;
+      held = at_code (λ x. OperandText T (x ∷ cs) (form.test CurrentNode p.0) p.1) c 64 e (is.relative m);
+    }))))
+    (λ _. finds_cond (c == 36)
+    (λ e. finds_some (finds_map (tested Root) (segments_front F cs) (finds_as (segments_sound s (suc (length cs)) cs)
+    (λ p m. record {
+      whole = p.1;
+      blanks = refl;
+      held = at_code (λ x. OperandText T (x ∷ cs) (form.test Root p.0) p.1) c 36 e (is.absolute m);
+    }))))
+    (λ _. finds_none))))
+
+pub basic_sound : {E : Type 0} {T : TextsOf E} {F : FrontOf E} → Sound T F → Sound (BasicText T) (basic_front F)
+basic_sound s [] = finds_none
+basic_sound {T = T} {F = F} s (c ∷ cs) =
+    finds_cond (c == 33)
+    (λ e. finds_map as_negated (operand_front F (after_blanks cs)) (finds_as (operand_sound s (after_blanks cs)) (λ p b. record {
+      whole = b.whole;
+      blanks = b.blanks;
+      held = at_code (λ x. BasicText T (x ∷ cs) (form.negated p.0) b.whole) c 33 e (is.negated b.held);
+    })))
+    (λ _. finds_map as_affirmed (operand_front F (c ∷ cs)) (finds_as (operand_sound s (c ∷ cs)) (λ p b. record {
+      whole = b.whole;
+      blanks = b.blanks;
+      held = is.affirmed b.held;
+    })))
+
+joined_turns_sound : {A : Type 0} {T : TextsOf A} {F : FrontOf A} (sign : ℕ) → Sound T F → (n : ℕ) (xs : List ℕ)
+    → Finds (turns (joined_turn sign F) n xs) (λ p. Before (JoinedText sign T xs p.0) p.1)
+joined_turns_sound sign s zero xs = finds_none
+joined_turns_sound {A = A} {T = T} {F = F} sign s (suc n) xs =
+    finds_then (then_turn (turns (joined_turn sign F) n)) (joined_turn sign F xs) (finds_map (joined sign) (F xs)
+    (finds_as (s xs) (λ p b. by p.0 p.1 b (behind_both sign p.1) (both_sound sign p.1) (joined_turns_sound sign s n))))
+  where
+    by : (a : A) (ys : List ℕ) → Before (T xs a) ys → (o : Option (List ℕ)) → Finds o (Both sign ys)
+        → ((zs : List ℕ) → Finds (turns (joined_turn sign F) n zs) (λ p. Before (JoinedText sign T zs p.0) p.1))
+        → Finds (then_turn (turns (joined_turn sign F) n) (joint a ys o)) (λ p. Before (JoinedText sign T xs p.0) p.1)
+    by a ys b None f rec = finds_some (record { whole = b.whole; blanks = b.blanks; held = is.last b.held })
+    by a ys b (Some zs) f rec =
+        let both = f.at zs refl in
+        finds_map (with_first a) (turns (joined_turn sign F) n zs) (finds_as (rec zs) (λ r k. record {
+          whole = k.whole;
+          blanks = k.blanks;
+          held = is.more b.held (b.blanks ∙ both.at) (subst (λ us. JoinedText sign T us r.0 k.whole) (sym both.blanks) k.held);
+        }))
+
+pub joined_sound : {A : Type 0} {T : TextsOf A} {F : FrontOf A} (sign : ℕ) → Sound T F
+    → Sound (JoinedText sign T) (joined_front sign F)
+joined_sound sign s xs = joined_turns_sound sign s (suc (length xs)) xs
+
+-- ---- queries
+
+pub query_sound : (n : ℕ) → Sound (ExpressionText n) (expression_front n) → (xs : List ℕ)
+    → Finds (query_front n xs) (λ ss. QueryText n xs ss)
+query_sound n s [] = finds_none
+query_sound n s (c ∷ cs) =
     finds_cond (c == 36)
-    (λ e. finds_then ended (segments_front cs) (finds_as (segments_sound (suc (length cs)) cs) (λ p m. by p.0 p.1 m e)))
+    (λ e. finds_then ended (segments_front (expression_front n) cs) (finds_as (segments_sound s (suc (length cs)) cs)
+    (λ p m. by p.0 p.1 m e)))
     (λ _. finds_none)
   where
-    by : (ss : List Segment) (ys : List ℕ) → SegmentsText cs ss ys → (c == 36) ≡ true
-        → Finds (ended (ss, ys)) (λ us. QueryText (c ∷ cs) us)
-    by ss [] m e = finds_some (at_code (λ x. QueryText (x ∷ cs) ss) c 36 e (is.query m))
+    by : (ss : List (Segment (Expression n))) (ys : List ℕ) → SegmentsText (ExpressionText n) cs ss ys → (c == 36) ≡ true
+        → Finds (ended (ss, ys)) (λ us. QueryText n (c ∷ cs) us)
+    by ss [] m e = finds_some (at_code (λ x. QueryText n (x ∷ cs) ss) c 36 e (is.query m))
     by ss (y ∷ ys) m e = finds_none

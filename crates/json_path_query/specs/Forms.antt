@@ -1,63 +1,126 @@
--- What a query says, without filters (RFC 9535, 2.3 to 2.5), and the value that holds it.
-use Rattle.std.specs.Prelude.{◌≡◌, ℕ, List, [], ◌∷◌, Option, String, Vec, ℤ}
+-- What a query says (RFC 9535, 2.3 to 2.5), and the value that holds it. What stands in a filter is of a type E, which is given below.
+use Rattle.std.specs.Prelude.{◌≡◌, ℕ, zero, suc, List, [], ◌∷◌, Option, String, Vec, ℤ}
+use Rattle.std.specs.Box.{box_value}
+use Rattle.std.specs.declared.boxed.Box.{Box}
 use Rattle.std.specs.declared.alloc.Global.{Global}
 use Rattle.tinyjson.specs.Characters.{text}
 use Rattle.json_path_query.specs.declared.query.Query.{Query}
+use Rattle.json_path_query.specs.declared.query.Origin.{Origin}
+use Rattle.json_path_query.specs.declared.query.Expression.{Expression as CodeExpression}
 use Rattle.json_path_query.specs.declared.query.Segment.{Segment as CodeSegment}
 use Rattle.json_path_query.specs.declared.query.Selector.{Selector as CodeSelector}
+use Rattle.json_path_query.specs.declared.query.Expression.TheVariants as says
 use Rattle.json_path_query.specs.declared.query.Selector.TheVariants as is
 use Rattle.json_path_query.specs.declared.query.Segment.TheVariants as does
 
 -- a member's name, all children, an index, or a slice
-pub data Selector : Type 0 where
-  name : (characters : List ℕ) → Selector
-  wildcard : Selector
-  index : ℤ → Selector
-  slice : (start end step : Option ℤ) → Selector
+pub data PlainSelector : Type 0 where
+  name : (characters : List ℕ) → PlainSelector
+  wildcard : PlainSelector
+  index : ℤ → PlainSelector
+  slice : (start end step : Option ℤ) → PlainSelector
+
+-- such a selector, or the children of which an expression holds
+pub data Selector (E : Type 0) : Type 0 where
+  plain : PlainSelector → Selector E
+  filter : E → Selector E
 
 -- selectors among the children of a node, or among those of its descendants too
-pub data Segment : Type 0 where
-  child : List Selector → Segment
-  descendant : List Selector → Segment
+pub data Segment (E : Type 0) : Type 0 where
+  child : List (Selector E) → Segment E
+  descendant : List (Selector E) → Segment E
+
+-- what may stand behind `!`: an expression in parentheses, or a query of which some node is to be there
+pub data Operand (E : Type 0) : Type 0 where
+  parenthesized : E → Operand E
+  test : Origin → List (Segment E) → Operand E
+
+-- what `&&` joins
+pub data Basic (E : Type 0) : Type 0 where
+  affirmed : Operand E → Basic E
+  negated : Operand E → Basic E
+
+-- one of these holds, of each of which all hold
+abbrev pub Disjunction : Type 0 → Type 0
+Disjunction E = List (List (Basic E))
+
+-- logical expressions, in which fewer than n stand in each other
+abbrev pub Expression : ℕ → Type 0
+Expression zero = ⊥
+Expression (suc n) = Disjunction (Expression n)
+
+-- ---- the values of the code
+
+-- they are, one by one
+abbrev pub Each : {V U : Type 0} → (V → U → Type 0) → List V → List U → Type 0
+Each Is [] [] = Unit {0}
+Each Is [] (x ∷ xs) = ⊥
+Each Is (v ∷ vs) [] = ⊥
+Each Is (v ∷ vs) (x ∷ xs) = Is v x × Each Is vs xs
+
+-- the code's selector is that one
+abbrev pub IsPlain : PlainSelector → CodeSelector → Type 0
+IsPlain (name cs) x = (s : String Global) × (x ≡ is.Name s) × (text s ≡ cs)
+IsPlain wildcard x = x ≡ is.Wildcard
+IsPlain (index i) x = x ≡ is.Index i
+IsPlain (slice start end step) x = x ≡ is.Slice start end step
 
 -- the code's selector is that selector
-abbrev pub IsSelector : Selector → CodeSelector → Type 0
-IsSelector (name cs) x = (s : String Global) × (x ≡ is.Name s) × (text s ≡ cs)
-IsSelector wildcard x = x ≡ is.Wildcard
-IsSelector (index i) x = x ≡ is.Index i
-IsSelector (slice start end step) x = x ≡ is.Slice start end step
-
--- they are, one by one
-abbrev pub AreSelectors : List Selector → List CodeSelector → Type 0
-AreSelectors [] [] = Unit {0}
-AreSelectors [] (x ∷ xs) = ⊥
-AreSelectors (v ∷ vs) [] = ⊥
-AreSelectors (v ∷ vs) (x ∷ xs) = IsSelector v x × AreSelectors vs xs
-
--- the code's segment is that segment
-abbrev pub IsSegment : Segment → CodeSegment → Type 0
-IsSegment (child vs) x = (v : Vec CodeSelector Global) × (x ≡ does.Child v) × AreSelectors vs v.items
-IsSegment (descendant vs) x = (v : Vec CodeSelector Global) × (x ≡ does.Descendant v) × AreSelectors vs v.items
-
--- they are, one by one
-abbrev pub AreSegments : List Segment → List CodeSegment → Type 0
-AreSegments [] [] = Unit {0}
-AreSegments [] (x ∷ xs) = ⊥
-AreSegments (s ∷ ss) [] = ⊥
-AreSegments (s ∷ ss) (x ∷ xs) = IsSegment s x × AreSegments ss xs
-
--- the code's query has these segments
-abbrev pub IsQuery : List Segment → Query → Type 0
-IsQuery ss q = AreSegments ss q.segments.items
+abbrev pub IsSelector : {E : Type 0} → (E → CodeExpression → Type 0) → Selector E → CodeSelector → Type 0
+IsSelector Is (plain v) x = IsPlain v x
+IsSelector Is (filter e) x = (y : CodeExpression) × (x ≡ is.Filter y) × Is e y
 
 -- a vector of the code's selectors
-abbrev pub AreSelectorsIn : List Selector → Vec CodeSelector Global → Type 0
-AreSelectorsIn vs v = AreSelectors vs v.items
+abbrev pub AreSelectorsIn : {E : Type 0} → (E → CodeExpression → Type 0) → List (Selector E) → Vec CodeSelector Global → Type 0
+AreSelectorsIn Is vs v = Each (IsSelector Is) vs v.items
 
--- a vector of one of them
-abbrev pub IsOneSelector : Selector → Vec CodeSelector Global → Type 0
-IsOneSelector v x = AreSelectors (v ∷ []) x.items
+-- the code's segment is that segment
+abbrev pub IsSegment : {E : Type 0} → (E → CodeExpression → Type 0) → Segment E → CodeSegment → Type 0
+IsSegment Is (child vs) x = (v : Vec CodeSelector Global) × (x ≡ does.Child v) × AreSelectorsIn Is vs v
+IsSegment Is (descendant vs) x = (v : Vec CodeSelector Global) × (x ≡ does.Descendant v) × AreSelectorsIn Is vs v
 
 -- a vector of the code's segments
-abbrev pub AreSegmentsIn : List Segment → Vec CodeSegment Global → Type 0
-AreSegmentsIn ss v = AreSegments ss v.items
+abbrev pub AreSegmentsIn : {E : Type 0} → (E → CodeExpression → Type 0) → List (Segment E) → Vec CodeSegment Global → Type 0
+AreSegmentsIn Is ss v = Each (IsSegment Is) ss v.items
+
+-- the code's expression is that operand
+abbrev pub IsOperand : {E : Type 0} → (E → CodeExpression → Type 0) → Operand E → CodeExpression → Type 0
+IsOperand Is (parenthesized e) x = Is e x
+IsOperand Is (test o ss) x =
+    (v : Vec CodeSegment Global) × (x ≡ says.Test (record { origin = o; segments = v })) × AreSegmentsIn Is ss v
+
+-- the code's expression is that one
+abbrev pub IsBasic : {E : Type 0} → (E → CodeExpression → Type 0) → Basic E → CodeExpression → Type 0
+IsBasic Is (affirmed o) x = IsOperand Is o x
+IsBasic Is (negated o) x = (b : Box CodeExpression Global) × (x ≡ says.Not b) × IsOperand Is o (box_value b)
+
+-- the code's expression is all of these
+abbrev pub IsConjunction : {E : Type 0} → (E → CodeExpression → Type 0) → List (Basic E) → CodeExpression → Type 0
+IsConjunction Is bs x = (v : Vec CodeExpression Global) × (x ≡ says.And v) × Each (IsBasic Is) bs v.items
+
+-- the code's expression is one of these
+abbrev pub IsDisjunction : {E : Type 0} → (E → CodeExpression → Type 0) → Disjunction E → CodeExpression → Type 0
+IsDisjunction Is cs x = (v : Vec CodeExpression Global) × (x ≡ says.Or v) × Each (IsConjunction Is) cs v.items
+
+-- the code's expression is that one
+abbrev pub IsExpression : (n : ℕ) → Expression n → CodeExpression → Type 0
+IsExpression zero e x = ⊥
+IsExpression (suc n) e x = IsDisjunction (IsExpression n) e x
+
+-- ---- queries
+
+-- the limit on how many logical expressions stand in each other
+abbrev pub nesting_limit : ℕ
+nesting_limit = 64
+
+-- a whole query
+abbrev pub QuerySegment : Type 0
+QuerySegment = Segment (Expression nesting_limit)
+
+-- the code's query has these segments
+abbrev pub IsQuery : List QuerySegment → Query → Type 0
+IsQuery ss q = AreSegmentsIn (IsExpression nesting_limit) ss q.segments
+
+-- a vector of one selector
+abbrev pub IsOneSelector : PlainSelector → Vec CodeSelector Global → Type 0
+IsOneSelector v x = (y : CodeSelector) × (x.items ≡ y ∷ []) × IsPlain v y

@@ -1,13 +1,18 @@
 -- What stands at the front of a text, and what follows it; only private contracts use these words.
-use Rattle.std.specs.Prelude.{◌≡◌, ℕ, zero, suc, ◌+◌, ◌-◌, ◌*◌, Bool, true, false, not, ◌&&◌, ◌||◌, ◌==◌, nat_le, cond, List, [], ◌∷◌}
+use Rattle.std.specs.Prelude.{ℕ, zero, suc, ◌+◌, ◌-◌, ◌*◌, Bool, false, ◌&&◌, ◌||◌, ◌==◌, nat_le, cond, List, [], ◌∷◌}
 use Rattle.std.specs.Prelude.{length}
 use Rattle.std.specs.Prelude.{Option, Some, None, option_map, option_and_then, ℤ, pos, neg_ℤ}
 use Rattle.std.specs.Char.{digit_value}
 use Rattle.tinyjson.specs.Characters.{minus_sign, digit_zero, begin_array, end_array, name_separator, value_separator}
 use Rattle.tinyjson.specs.Characters.{quotation_mark, reverse_solidus, decimal_point, letter_u}
-use Rattle.tinyjson.specs.Characters.{is_hex, is_high, is_low, is_surrogate, pair_of}
-use Rattle.json_path_query.specs.Forms.{Selector, name, wildcard, index, slice, Segment, child, descendant}
+use Rattle.tinyjson.specs.Characters.{is_hex, is_high, is_low, pair_of}
+use Rattle.json_path_query.specs.declared.query.Origin.{Origin}
+use Rattle.json_path_query.specs.declared.query.Origin.TheVariants.{Root, CurrentNode}
+use Rattle.json_path_query.specs.Forms.{PlainSelector, name, wildcard, index, slice, Selector, plain, filter, Segment, child, descendant}
+use Rattle.json_path_query.specs.Forms.{Operand, parenthesized, test, Basic, affirmed, negated, Expression}
 use Rattle.json_path_query.specs.Grammar.{root_identifier, apostrophe, asterisk, after_blanks, is_name_first, is_digit, is_digit1}
+use Rattle.json_path_query.specs.Grammar.{question_mark, current_node_identifier, exclamation_mark, left_parenthesis, right_parenthesis}
+use Rattle.json_path_query.specs.Grammar.{ampersand, vertical_line}
 use Rattle.json_path_query.specs.Grammar.{name_chars, digits_on}
 use Rattle.json_path_query.specs.Grammar.{greatest_exact, is_unescaped, escape_of}
 
@@ -20,8 +25,8 @@ abbrev pub magnitude_front : List ℕ → Option (ℕ × List ℕ)
 magnitude_front [] = None
 magnitude_front (c ∷ cs) = cond (is_digit1 c) (exact_front (digits_on (c - digit_zero) cs)) None
 
-abbrev pub negated : ℕ × List ℕ → ℤ × List ℕ
-negated p = (neg_ℤ (pos p.0), p.1)
+abbrev pub with_minus : ℕ × List ℕ → ℤ × List ℕ
+with_minus p = (neg_ℤ (pos p.0), p.1)
 
 abbrev pub unsigned : ℕ × List ℕ → ℤ × List ℕ
 unsigned p = (pos p.0, p.1)
@@ -30,7 +35,7 @@ abbrev pub int_front : List ℕ → Option (ℤ × List ℕ)
 int_front [] = None
 int_front (c ∷ cs) =
     cond (c == digit_zero) (Some (pos 0, cs))
-    (cond (c == minus_sign) (option_map negated (magnitude_front cs))
+    (cond (c == minus_sign) (option_map with_minus (magnitude_front cs))
     (option_map unsigned (magnitude_front (c ∷ cs))))
 
 -- ---- strings
@@ -126,105 +131,192 @@ abbrev pub step_front : List ℕ → Option (Option ℤ × List ℕ)
 step_front [] = Some (None, [])
 step_front (c ∷ cs) = cond (c == name_separator) (bound_front (after_blanks cs)) (Some (None, c ∷ cs))
 
-abbrev pub whole_slice : Option ℤ → Option ℤ → Option ℤ × List ℕ → Selector × List ℕ
+abbrev pub whole_slice : Option ℤ → Option ℤ → Option ℤ × List ℕ → PlainSelector × List ℕ
 whole_slice start stop q = (slice start stop q.0, q.1)
 
-abbrev pub slice_end : Option ℤ → Option ℤ × List ℕ → Option (Selector × List ℕ)
+abbrev pub slice_end : Option ℤ → Option ℤ × List ℕ → Option (PlainSelector × List ℕ)
 slice_end start p = option_map (whole_slice start p.0) (step_front p.1)
 
 -- a slice behind its first colon
-abbrev pub slice_front : Option ℤ → List ℕ → Option (Selector × List ℕ)
+abbrev pub slice_front : Option ℤ → List ℕ → Option (PlainSelector × List ℕ)
 slice_front start xs = option_and_then (slice_end start) (bound_front (after_blanks xs))
 
-abbrev pub index_end : ℤ → List ℕ → Option (Selector × List ℕ)
+abbrev pub index_end : ℤ → List ℕ → Option (PlainSelector × List ℕ)
 index_end i [] = Some (index i, [])
 index_end i (c ∷ cs) = cond (c == name_separator) (slice_front (Some i) cs) (Some (index i, c ∷ cs))
 
-abbrev pub int_end : ℤ × List ℕ → Option (Selector × List ℕ)
+abbrev pub int_end : ℤ × List ℕ → Option (PlainSelector × List ℕ)
 int_end p = index_end p.0 (after_blanks p.1)
 
-abbrev pub int_selector_front : List ℕ → Option (Selector × List ℕ)
+abbrev pub int_selector_front : List ℕ → Option (PlainSelector × List ℕ)
 int_selector_front xs = option_and_then int_end (int_front xs)
 
-abbrev pub named : List ℕ × List ℕ → Selector × List ℕ
+abbrev pub named : List ℕ × List ℕ → PlainSelector × List ℕ
 named p = (name p.0, after_blanks p.1)
 
 abbrev pub is_quote : ℕ → Bool
 is_quote c = (c == quotation_mark) || (c == apostrophe)
 
-abbrev pub selector_front : List ℕ → Option (Selector × List ℕ)
-selector_front [] = None
-selector_front (c ∷ cs) =
+abbrev pub plain_front : List ℕ → Option (PlainSelector × List ℕ)
+plain_front [] = None
+plain_front (c ∷ cs) =
     cond (is_quote c) (option_map named (quoted_front c cs))
     (cond (c == asterisk) (Some (wildcard, after_blanks cs))
     (cond (c == name_separator) (slice_front None cs)
     (int_selector_front (c ∷ cs))))
 
+abbrev pub FrontOf : Type 0 → Type 0
+FrontOf A = List ℕ → Option (A × List ℕ)
+
+abbrev pub filtered : {E : Type 0} → E × List ℕ → Selector E × List ℕ
+filtered p = (filter p.0, p.1)
+
+abbrev pub as_plain : {E : Type 0} → PlainSelector × List ℕ → Selector E × List ℕ
+as_plain p = (plain p.0, p.1)
+
+-- F finds an expression
+abbrev pub selector_front : {E : Type 0} → FrontOf E → FrontOf (Selector E)
+selector_front F [] = None
+selector_front F (c ∷ cs) =
+    cond (c == question_mark) (option_map filtered (F (after_blanks cs))) (option_map as_plain (plain_front (c ∷ cs)))
+
 -- ---- segments
 
-abbrev pub separator : Selector → List ℕ → Option (Turn Selector)
+abbrev pub separator : {E : Type 0} → Selector E → List ℕ → Option (Turn (Selector E))
 separator v [] = None
 separator v (c ∷ cs) = cond (c == value_separator) (Some (more v cs)) (cond (c == end_array) (Some (last v cs)) None)
 
-abbrev pub separated : Selector × List ℕ → Option (Turn Selector)
+abbrev pub separated : {E : Type 0} → Selector E × List ℕ → Option (Turn (Selector E))
 separated p = separator p.0 p.1
 
-abbrev pub selection_turn : List ℕ → Option (Turn Selector)
-selection_turn xs = option_and_then separated (selector_front (after_blanks xs))
+abbrev pub selection_turn : {E : Type 0} → FrontOf E → List ℕ → Option (Turn (Selector E))
+selection_turn F xs = option_and_then separated (selector_front F (after_blanks xs))
 
 -- bracketed-selection behind its bracket
-abbrev pub selection_front : List ℕ → Option (List Selector × List ℕ)
-selection_front xs = all_turns selection_turn xs
+abbrev pub selection_front : {E : Type 0} → FrontOf E → FrontOf (List (Selector E))
+selection_front F xs = all_turns (selection_turn F) xs
 
-abbrev pub shorthand_front : List ℕ → Option (Selector × List ℕ)
+abbrev pub shorthand_front : FrontOf PlainSelector
 shorthand_front [] = None
 shorthand_front (c ∷ cs) =
     cond (c == asterisk) (Some (wildcard, cs))
     (cond (is_name_first c) (Some (name (c ∷ (name_chars cs).0), (name_chars cs).1)) None)
 
-abbrev pub child_of : List Selector × List ℕ → Segment × List ℕ
+abbrev pub child_of : {E : Type 0} → List (Selector E) × List ℕ → Segment E × List ℕ
 child_of p = (child p.0, p.1)
 
-abbrev pub descendant_of : List Selector × List ℕ → Segment × List ℕ
+abbrev pub descendant_of : {E : Type 0} → List (Selector E) × List ℕ → Segment E × List ℕ
 descendant_of p = (descendant p.0, p.1)
 
-abbrev pub alone : Selector × List ℕ → List Selector × List ℕ
-alone p = (p.0 ∷ [], p.1)
+abbrev pub alone : {E : Type 0} → PlainSelector × List ℕ → List (Selector E) × List ℕ
+alone p = (plain p.0 ∷ [], p.1)
 
 -- a descendant segment behind its two points
-abbrev pub descendant_front : List ℕ → Option (Segment × List ℕ)
-descendant_front [] = None
-descendant_front (c ∷ cs) =
-    cond (c == begin_array) (option_map descendant_of (selection_front cs))
+abbrev pub descendant_front : {E : Type 0} → FrontOf E → FrontOf (Segment E)
+descendant_front F [] = None
+descendant_front F (c ∷ cs) =
+    cond (c == begin_array) (option_map descendant_of (selection_front F cs))
     (option_map descendant_of (option_map alone (shorthand_front (c ∷ cs))))
 
 -- a segment behind its first point
-abbrev pub dotted_front : List ℕ → Option (Segment × List ℕ)
-dotted_front [] = None
-dotted_front (c ∷ cs) =
-    cond (c == decimal_point) (descendant_front cs) (option_map child_of (option_map alone (shorthand_front (c ∷ cs))))
+abbrev pub dotted_front : {E : Type 0} → FrontOf E → FrontOf (Segment E)
+dotted_front F [] = None
+dotted_front F (c ∷ cs) =
+    cond (c == decimal_point) (descendant_front F cs) (option_map child_of (option_map alone (shorthand_front (c ∷ cs))))
 
-abbrev pub segment_front : List ℕ → Option (Segment × List ℕ)
-segment_front [] = None
-segment_front (c ∷ cs) =
-    cond (c == begin_array) (option_map child_of (selection_front cs))
-    (cond (c == decimal_point) (dotted_front cs) None)
+abbrev pub segment_front : {E : Type 0} → FrontOf E → FrontOf (Segment E)
+segment_front F [] = None
+segment_front F (c ∷ cs) =
+    cond (c == begin_array) (option_map child_of (selection_front F cs))
+    (cond (c == decimal_point) (dotted_front F cs) None)
 
 abbrev pub begins_segment : List ℕ → Bool
 begins_segment [] = false
 begins_segment (c ∷ cs) = (c == begin_array) || (c == decimal_point)
 
-abbrev pub segments_turn : List ℕ → Option (Turn Segment)
-segments_turn xs = cond (begins_segment (after_blanks xs)) (option_map more_of (segment_front (after_blanks xs))) (Some (end xs))
+abbrev pub segments_turn : {E : Type 0} → FrontOf E → List ℕ → Option (Turn (Segment E))
+segments_turn F xs =
+    cond (begins_segment (after_blanks xs)) (option_map more_of (segment_front F (after_blanks xs))) (Some (end xs))
 
-abbrev pub segments_front : List ℕ → Option (List Segment × List ℕ)
-segments_front xs = all_turns segments_turn xs
+abbrev pub segments_front : {E : Type 0} → FrontOf E → FrontOf (List (Segment E))
+segments_front F xs = all_turns (segments_turn F) xs
 
--- a whole query
-abbrev pub ended : List Segment × List ℕ → Option (List Segment)
+-- ---- logical expressions, and the blanks after them
+
+-- the rest, behind one sign
+abbrev pub behind : ℕ → List ℕ → Option (List ℕ)
+behind sign [] = None
+behind sign (c ∷ cs) = cond (c == sign) (Some cs) None
+
+abbrev pub closed : {E : Type 0} → E → List ℕ → Operand E × List ℕ
+closed e ys = (parenthesized e, after_blanks ys)
+
+abbrev pub closing : {E : Type 0} → E × List ℕ → Option (Operand E × List ℕ)
+closing p = option_map (closed p.0) (behind right_parenthesis p.1)
+
+abbrev pub tested : {E : Type 0} → Origin → List (Segment E) × List ℕ → Operand E × List ℕ
+tested o p = (test o p.0, after_blanks p.1)
+
+-- where a query in a filter begins, by its first character
+abbrev pub origin_of : ℕ → Option Origin
+origin_of c = cond (c == current_node_identifier) (Some CurrentNode) (cond (c == root_identifier) (Some Root) None)
+
+abbrev pub tested_front : {E : Type 0} → FrontOf E → List ℕ → Origin → Option (Operand E × List ℕ)
+tested_front F cs o = option_map (tested o) (segments_front F cs)
+
+abbrev pub operand_front : {E : Type 0} → FrontOf E → FrontOf (Operand E)
+operand_front F [] = None
+operand_front F (c ∷ cs) =
+    cond (c == left_parenthesis) (option_and_then closing (F (after_blanks cs)))
+    (option_and_then (tested_front F cs) (origin_of c))
+
+abbrev pub as_affirmed : {E : Type 0} → Operand E × List ℕ → Basic E × List ℕ
+as_affirmed p = (affirmed p.0, p.1)
+
+abbrev pub as_negated : {E : Type 0} → Operand E × List ℕ → Basic E × List ℕ
+as_negated p = (negated p.0, p.1)
+
+abbrev pub basic_front : {E : Type 0} → FrontOf E → FrontOf (Basic E)
+basic_front F [] = None
+basic_front F (c ∷ cs) =
+    cond (c == exclamation_mark) (option_map as_negated (operand_front F (after_blanks cs)))
+    (option_map as_affirmed (operand_front F (c ∷ cs)))
+
+-- what follows a sign that is written twice, and the blanks after it
+abbrev pub behind_both : ℕ → List ℕ → Option (List ℕ)
+behind_both sign xs = option_map after_blanks (option_and_then (behind sign) (behind sign xs))
+
+-- after one, the sign and more, or the end
+abbrev pub joint : {A : Type 0} → A → List ℕ → Option (List ℕ) → Turn A
+joint a ys None = last a ys
+joint a ys (Some zs) = more a zs
+
+abbrev pub joined : {A : Type 0} → ℕ → A × List ℕ → Turn A
+joined sign p = joint p.0 p.1 (behind_both sign p.1)
+
+abbrev pub joined_turn : {A : Type 0} → ℕ → FrontOf A → List ℕ → Option (Turn A)
+joined_turn sign F xs = option_map (joined sign) (F xs)
+
+-- one or more, joined by the sign, written twice
+abbrev pub joined_front : {A : Type 0} → ℕ → FrontOf A → FrontOf (List A)
+joined_front sign F xs = all_turns (joined_turn sign F) xs
+
+abbrev pub conjunction_front : {E : Type 0} → FrontOf E → FrontOf (List (Basic E))
+conjunction_front F = joined_front ampersand (basic_front F)
+
+abbrev pub disjunction_front : {E : Type 0} → FrontOf E → FrontOf (List (List (Basic E)))
+disjunction_front F = joined_front vertical_line (conjunction_front F)
+
+abbrev pub expression_front : (n : ℕ) → FrontOf (Expression n)
+expression_front zero xs = None
+expression_front (suc n) xs = disjunction_front (expression_front n) xs
+
+-- ---- a whole query
+
+abbrev pub ended : {E : Type 0} → List (Segment E) × List ℕ → Option (List (Segment E))
 ended (ss, []) = Some ss
 ended (ss, c ∷ cs) = None
 
-abbrev pub query_front : List ℕ → Option (List Segment)
-query_front [] = None
-query_front (c ∷ cs) = cond (c == root_identifier) (option_and_then ended (segments_front cs)) None
+abbrev pub query_front : (n : ℕ) → List ℕ → Option (List (Segment (Expression n)))
+query_front n [] = None
+query_front n (c ∷ cs) = cond (c == root_identifier) (option_and_then ended (segments_front (expression_front n) cs)) None

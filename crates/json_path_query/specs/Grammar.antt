@@ -1,14 +1,15 @@
--- The grammar of RFC 9535: which text is which query. A rule of the RFC's ABNF that has parts is a type here: `Rule xs v ys` says that the
--- characters xs begin with a text of the rule, which means v, and that ys follow it. A run of blanks, of digits or of the characters of a
--- name is taken whole; what may follow it in the RFC's rules never begins with one more of its characters.
-use Rattle.std.specs.Prelude.{◌≡◌, ℕ, ◌+◌, ◌-◌, ◌*◌, ◌≤◌, Bool, true, false, not, ◌&&◌, ◌||◌, ◌==◌, nat_le, cond, List, [], ◌∷◌}
+-- The grammar of RFC 9535 without comparisons and functions: which text is which query. A rule of the RFC's ABNF that has parts is a type
+-- here: `Rule xs v ys` says that the characters xs begin with a text of the rule, which means v, and that ys follow it. A run of blanks, of
+-- digits or of the characters of a name is taken whole; what may follow it in the RFC's rules never begins with one more of its characters.
+use Rattle.std.specs.Prelude.{◌≡◌, ℕ, zero, suc, ◌+◌, ◌-◌, ◌*◌, Bool, true, false, not, ◌&&◌, ◌||◌, ◌==◌, nat_le, cond, List, [], ◌∷◌}
 use Rattle.std.specs.Prelude.{Option, Some, None, ℤ, pos, neg_ℤ}
-use Rattle.std.specs.Char.{is_digit as is_digit_of, digit_value}
+use Rattle.std.specs.Char.{digit_value}
 use Rattle.tinyjson.specs.Characters.{minus_sign, digit_zero, begin_array, end_array, name_separator, value_separator, space, is_white}
 use Rattle.tinyjson.specs.Characters.{quotation_mark, reverse_solidus, solidus, backspace, form_feed, line_feed, carriage_return}
 use Rattle.tinyjson.specs.Characters.{horizontal_tab, decimal_point, letter_b, letter_f, letter_n, letter_r, letter_t, letter_u}
 use Rattle.tinyjson.specs.Characters.{is_hex, is_high, is_low, is_surrogate, pair_of}
-use Rattle.json_path_query.specs.Forms.{Selector, Segment}
+use Rattle.json_path_query.specs.declared.query.Origin.TheVariants.{Root, CurrentNode}
+use Rattle.json_path_query.specs.Forms.{PlainSelector, Selector, Segment, Operand, Basic, Expression}
 use Rattle.json_path_query.specs.Forms as form
 
 abbrev pub root_identifier : ℕ
@@ -22,6 +23,27 @@ asterisk = 42
 
 abbrev pub low_line : ℕ
 low_line = 95
+
+abbrev pub question_mark : ℕ
+question_mark = 63
+
+abbrev pub current_node_identifier : ℕ
+current_node_identifier = 64
+
+abbrev pub exclamation_mark : ℕ
+exclamation_mark = 33
+
+abbrev pub left_parenthesis : ℕ
+left_parenthesis = 40
+
+abbrev pub right_parenthesis : ℕ
+right_parenthesis = 41
+
+abbrev pub ampersand : ℕ
+ampersand = 38
+
+abbrev pub vertical_line : ℕ
+vertical_line = 124
 
 -- the runs
 
@@ -73,7 +95,7 @@ pub data MagnitudeText : List ℕ → ℕ → List ℕ → Type 0 where
 
 -- int
 pub data IntText : List ℕ → ℤ → List ℕ → Type 0 where
-  zero : {xs : List ℕ} → IntText (digit_zero ∷ xs) (pos 0) xs
+  nought : {xs : List ℕ} → IntText (digit_zero ∷ xs) (pos 0) xs
   positive : {xs ys : List ℕ} {n : ℕ} → MagnitudeText xs n ys → IntText xs (pos n) ys
   negative : {xs ys : List ℕ} {n : ℕ} → MagnitudeText xs n ys → IntText (minus_sign ∷ xs) (neg_ℤ (pos n)) ys
 
@@ -140,43 +162,91 @@ pub data StepText : List ℕ → Option ℤ → List ℕ → Type 0 where
   empty : {xs : List ℕ} → StepText (name_separator ∷ xs) None xs
   present : {xs ys : List ℕ} {i : ℤ} → IntText (after_blanks xs) i ys → StepText (name_separator ∷ xs) (Some i) ys
 
--- selector
-pub data SelectorText : List ℕ → Selector → List ℕ → Type 0 where
-  name : {xs cs ys : List ℕ} → StringText xs cs ys → SelectorText xs (form.name cs) ys
-  wildcard : {xs : List ℕ} → SelectorText (asterisk ∷ xs) form.wildcard xs
+-- selector, but for filter-selector
+pub data PlainSelectorText : List ℕ → PlainSelector → List ℕ → Type 0 where
+  name : {xs cs ys : List ℕ} → StringText xs cs ys → PlainSelectorText xs (form.name cs) ys
+  wildcard : {xs : List ℕ} → PlainSelectorText (asterisk ∷ xs) form.wildcard xs
   slice : {xs ys zs us : List ℕ} {start end step : Option ℤ} → BoundText xs start (name_separator ∷ ys)
-      → BoundText (after_blanks ys) end zs → StepText zs step us → SelectorText xs (form.slice start end step) us
-  index : {xs ys : List ℕ} {i : ℤ} → IntText xs i ys → SelectorText xs (form.index i) ys
+      → BoundText (after_blanks ys) end zs → StepText zs step us → PlainSelectorText xs (form.slice start end step) us
+  index : {xs ys : List ℕ} {i : ℤ} → IntText xs i ys → PlainSelectorText xs (form.index i) ys
+
+-- the texts of something
+abbrev pub TextsOf : Type 0 → Type 1
+TextsOf A = List ℕ → A → List ℕ → Type 0
+
+-- selector, where T are the texts of an expression
+pub data SelectorText {E : Type 0} (T : TextsOf E) : List ℕ → Selector E → List ℕ → Type 0 where
+  plain : {xs ys : List ℕ} {v : PlainSelector} → PlainSelectorText xs v ys → SelectorText T xs (form.plain v) ys
+  filter : {xs ys : List ℕ} {e : E} → T (after_blanks xs) e ys → SelectorText T (question_mark ∷ xs) (form.filter e) ys
 
 -- ---- segments (2.5)
 
 -- bracketed-selection behind its bracket: S selector *(S "," S selector) S "]"
-pub data SelectionText : List ℕ → List Selector → List ℕ → Type 0 where
-  last : {xs ys zs : List ℕ} {v : Selector} → SelectorText (after_blanks xs) v ys → after_blanks ys ≡ end_array ∷ zs
-      → SelectionText xs (v ∷ []) zs
-  more : {xs ys zs us : List ℕ} {v : Selector} {vs : List Selector} → SelectorText (after_blanks xs) v ys
-      → after_blanks ys ≡ value_separator ∷ zs → SelectionText zs vs us → SelectionText xs (v ∷ vs) us
+pub data SelectionText {E : Type 0} (T : TextsOf E) : List ℕ → List (Selector E) → List ℕ → Type 0 where
+  last : {xs ys zs : List ℕ} {v : Selector E} → SelectorText T (after_blanks xs) v ys → after_blanks ys ≡ end_array ∷ zs
+      → SelectionText T xs (v ∷ []) zs
+  more : {xs ys zs us : List ℕ} {v : Selector E} {vs : List (Selector E)} → SelectorText T (after_blanks xs) v ys
+      → after_blanks ys ≡ value_separator ∷ zs → SelectionText T zs vs us → SelectionText T xs (v ∷ vs) us
 
 -- wildcard-selector, or member-name-shorthand
-pub data ShorthandText : List ℕ → Selector → List ℕ → Type 0 where
+pub data ShorthandText : List ℕ → PlainSelector → List ℕ → Type 0 where
   wildcard : {xs : List ℕ} → ShorthandText (asterisk ∷ xs) form.wildcard xs
   name : {xs cs ys : List ℕ} (c : ℕ) → is_name_first c ≡ true → name_chars xs ≡ (cs, ys) → ShorthandText (c ∷ xs) (form.name (c ∷ cs)) ys
 
 -- child-segment, descendant-segment
-pub data SegmentText : List ℕ → Segment → List ℕ → Type 0 where
-  bracketed_child : {xs ys : List ℕ} {vs : List Selector} → SelectionText xs vs ys → SegmentText (begin_array ∷ xs) (form.child vs) ys
-  child : {xs ys : List ℕ} {v : Selector} → ShorthandText xs v ys → SegmentText (decimal_point ∷ xs) (form.child (v ∷ [])) ys
-  bracketed_descendant : {xs ys : List ℕ} {vs : List Selector} → SelectionText xs vs ys
-      → SegmentText (decimal_point ∷ decimal_point ∷ begin_array ∷ xs) (form.descendant vs) ys
-  descendant : {xs ys : List ℕ} {v : Selector} → ShorthandText xs v ys
-      → SegmentText (decimal_point ∷ decimal_point ∷ xs) (form.descendant (v ∷ [])) ys
+pub data SegmentText {E : Type 0} (T : TextsOf E) : List ℕ → Segment E → List ℕ → Type 0 where
+  bracketed_child : {xs ys : List ℕ} {vs : List (Selector E)} → SelectionText T xs vs ys
+      → SegmentText T (begin_array ∷ xs) (form.child vs) ys
+  child : {xs ys : List ℕ} {v : PlainSelector} → ShorthandText xs v ys
+      → SegmentText T (decimal_point ∷ xs) (form.child (form.plain v ∷ [])) ys
+  bracketed_descendant : {xs ys : List ℕ} {vs : List (Selector E)} → SelectionText T xs vs ys
+      → SegmentText T (decimal_point ∷ decimal_point ∷ begin_array ∷ xs) (form.descendant vs) ys
+  descendant : {xs ys : List ℕ} {v : PlainSelector} → ShorthandText xs v ys
+      → SegmentText T (decimal_point ∷ decimal_point ∷ xs) (form.descendant (form.plain v ∷ [])) ys
 
 -- segments = *(S segment)
-pub data SegmentsText : List ℕ → List Segment → List ℕ → Type 0 where
-  none : {xs : List ℕ} → SegmentsText xs [] xs
-  more : {xs ys zs : List ℕ} {s : Segment} {ss : List Segment} → SegmentText (after_blanks xs) s ys → SegmentsText ys ss zs
-      → SegmentsText xs (s ∷ ss) zs
+pub data SegmentsText {E : Type 0} (T : TextsOf E) : List ℕ → List (Segment E) → List ℕ → Type 0 where
+  none : {xs : List ℕ} → SegmentsText T xs [] xs
+  more : {xs ys zs : List ℕ} {s : Segment E} {ss : List (Segment E)} → SegmentText T (after_blanks xs) s ys → SegmentsText T ys ss zs
+      → SegmentsText T xs (s ∷ ss) zs
 
--- jsonpath-query (2.1)
-pub data QueryText : List ℕ → List Segment → Type 0 where
-  query : {xs : List ℕ} {ss : List Segment} → SegmentsText xs ss [] → QueryText (root_identifier ∷ xs) ss
+-- ---- logical expressions (2.3.5.1)
+
+-- paren-expr and test-expr, but for their logical-not-op
+pub data OperandText {E : Type 0} (T : TextsOf E) : List ℕ → Operand E → List ℕ → Type 0 where
+  parenthesized : {xs ys zs : List ℕ} {e : E} → T (after_blanks xs) e ys → after_blanks ys ≡ right_parenthesis ∷ zs
+      → OperandText T (left_parenthesis ∷ xs) (form.parenthesized e) zs
+  relative : {xs ys : List ℕ} {ss : List (Segment E)} → SegmentsText T xs ss ys
+      → OperandText T (current_node_identifier ∷ xs) (form.test CurrentNode ss) ys
+  absolute : {xs ys : List ℕ} {ss : List (Segment E)} → SegmentsText T xs ss ys
+      → OperandText T (root_identifier ∷ xs) (form.test Root ss) ys
+
+-- basic-expr = paren-expr / test-expr
+pub data BasicText {E : Type 0} (T : TextsOf E) : List ℕ → Basic E → List ℕ → Type 0 where
+  affirmed : {xs ys : List ℕ} {o : Operand E} → OperandText T xs o ys → BasicText T xs (form.affirmed o) ys
+  negated : {xs ys : List ℕ} {o : Operand E} → OperandText T (after_blanks xs) o ys
+      → BasicText T (exclamation_mark ∷ xs) (form.negated o) ys
+
+-- one or more of what T are the texts of, with the sign, written twice, between each two: *(S sign sign S ..)
+pub data JoinedText {A : Type 0} (sign : ℕ) (T : TextsOf A) : List ℕ → List A → List ℕ → Type 0 where
+  last : {xs ys : List ℕ} {a : A} → T xs a ys → JoinedText sign T xs (a ∷ []) ys
+  more : {xs ys zs us : List ℕ} {a : A} {as' : List A} → T xs a ys → after_blanks ys ≡ sign ∷ sign ∷ zs
+      → JoinedText sign T (after_blanks zs) as' us → JoinedText sign T xs (a ∷ as') us
+
+-- logical-and-expr = basic-expr *(S "&&" S basic-expr)
+abbrev pub ConjunctionText : {E : Type 0} → TextsOf E → TextsOf (List (Basic E))
+ConjunctionText T = JoinedText ampersand (BasicText T)
+
+-- logical-or-expr = logical-and-expr *(S "||" S logical-and-expr)
+abbrev pub DisjunctionText : {E : Type 0} → TextsOf E → TextsOf (List (List (Basic E)))
+DisjunctionText T = JoinedText vertical_line (ConjunctionText T)
+
+-- logical-expr, in which fewer than n stand in each other
+abbrev pub ExpressionText : (n : ℕ) → TextsOf (Expression n)
+ExpressionText zero xs e ys = ⊥
+ExpressionText (suc n) xs e ys = DisjunctionText (ExpressionText n) xs e ys
+
+-- jsonpath-query (2.1), where at most n logical expressions stand in each other
+pub data QueryText (n : ℕ) : List ℕ → List (Segment (Expression n)) → Type 0 where
+  query : {xs : List ℕ} {ss : List (Segment (Expression n))} → SegmentsText (ExpressionText n) xs ss []
+      → QueryText n (root_identifier ∷ xs) ss

@@ -1,5 +1,5 @@
 -- What reading a query returns; all but `Reads` is for private contracts.
-use Rattle.std.specs.Prelude.{◌≡◌, ◌≢◌, ℕ, ◌≤◌, List, ◌++◌, length, Option, Some, None, Result, Ok, Err}
+use Rattle.std.specs.Prelude.{◌≡◌, ◌≢◌, ℕ, ◌≤◌, List, ◌++◌, length, Option, Some, None, option_map, Result, Ok, Err}
 use Rattle.std.specs.Prelude.{String}
 use Rattle.std.specs.Borrow.{Bor}
 use Rattle.std.specs.declared.alloc.Global.{Global}
@@ -8,20 +8,20 @@ use Rattle.json_path_query.specs.declared.error.ParseError.{ParseError}
 use Rattle.json_path_query.specs.declared.error.Refusal.{Refusal}
 use Rattle.json_path_query.specs.declared.error.ParseErrorKind.TheVariants.{OutOfMemory}
 use Rattle.json_path_query.specs.declared.query.Query.{Query}
-use Rattle.json_path_query.specs.Forms.{Segment, IsQuery}
+use Rattle.json_path_query.specs.Forms.{Segment, Expression, nesting_limit, QuerySegment, IsQuery, AreSegmentsIn, IsExpression}
 use Rattle.json_path_query.specs.Fronts.{query_front}
 use Rattle.json_path_query.specs.Grammar.{QueryText, name_chars}
 
 -- The text is this query, and no other.
 pub record IsReading (cs : List ℕ) (q : Query) : Type 0 where
-  pub segments : List Segment
-  pub text : QueryText cs segments
-  pub only : (ss : List Segment) → QueryText cs ss → ss ≡ segments
+  pub segments : List QuerySegment
+  pub text : QueryText nesting_limit cs segments
+  pub only : (ss : List QuerySegment) → QueryText nesting_limit cs ss → ss ≡ segments
   pub same : IsQuery segments q
 
 -- The text is no query, unless memory ran out, and the place is in it.
 pub record IsRefused (cs : List ℕ) (e : ParseError) : Type 0 where
-  pub none : e.kind ≢ OutOfMemory → (ss : List Segment) → QueryText cs ss → ⊥
+  pub none : e.kind ≢ OutOfMemory → (ss : List QuerySegment) → QueryText nesting_limit cs ss → ⊥
   pub within : e.place ≤ length cs
 
 -- what reading a text returns
@@ -49,6 +49,10 @@ abbrev pub IsText : List ℕ → String Global → Type 0
 IsText cs s = text s ≡ cs
 
 -- what reading a whole query returns
-abbrev pub ReadsQuery : List ℕ → Result Query Refusal → Type 0
-ReadsQuery xs (Ok q) = (ss : List Segment) × (query_front xs ≡ Some ss) × IsQuery ss q
-ReadsQuery xs (Err e) = e.kind ≢ OutOfMemory → query_front xs ≡ None
+abbrev pub ReadsQuery : (n : ℕ) → List ℕ → Result Query Refusal → Type 0
+ReadsQuery n xs (Ok q) = (ss : List (Segment (Expression n))) × (query_front n xs ≡ Some ss) × AreSegmentsIn (IsExpression n) ss q.segments
+ReadsQuery n xs (Err e) = e.kind ≢ OutOfMemory → query_front n xs ≡ None
+
+-- what follows, if it does
+abbrev pub IsRest : Option (List ℕ) → Option (Bor (List ℕ)) → Type 0
+IsRest o r = o ≡ option_map (λ b. b.now) r

@@ -12,8 +12,8 @@ use std::fmt;
 pub enum ParseErrorKind {
     /// The text is no query of RFC 9535.
     Invalid,
-    /// A filter, which is not supported.
-    UnsupportedFilter,
+    /// More than 64 logical expressions stand in each other.
+    TooDeep,
     /// An allocation failed.
     OutOfMemory,
 }
@@ -24,7 +24,7 @@ impl fmt::Display for ParseErrorKind {
     fn fmt<W: fmt::Write>(&self, f: &mut fmt::Formatter<W>) -> fmt::Result {
         f.write_str(match self {
             ParseErrorKind::Invalid => "no query of RFC 9535",
-            ParseErrorKind::UnsupportedFilter => "filters are not supported",
+            ParseErrorKind::TooDeep => "more than 64 logical expressions in each other",
             ParseErrorKind::OutOfMemory => "out of memory",
         })
     }

@@ -1,10 +1,10 @@
 //! Blanks, names and integers.
 ghost use Rattle.std.specs.Prelude.{◌≡◌, ◌≤◌, ◌++◌, ◌∷◌, [], IfOk};
 ghost use Rattle.tinyjson.specs.Characters.{is_white, text};
-ghost use Rattle.json_path_query.specs.Fronts.{begins_int, magnitude_front, int_front};
+ghost use Rattle.json_path_query.specs.Fronts.{begins_int, magnitude_front, int_front, behind, behind_both};
 ghost use Rattle.json_path_query.specs.Grammar.{after_blanks, is_name_first, is_name_char, name_chars};
 ghost use Rattle.json_path_query.specs.Grammar.{is_digit, greatest_exact};
-ghost use Rattle.json_path_query.specs.Reading.{FrontsAs, PushesName};
+ghost use Rattle.json_path_query.specs.Reading.{FrontsAs, IsRest, PushesName};
 
 use crate::error::Refusal;
 use std::alloc::AllocError;
@@ -49,6 +49,23 @@ fn is_digit(c: char) -> bool
     ensures { result ≡ is_digit c }
 {
     '0' <= c && c <= '9'
+}
+
+/// What follows the sign, if it stands here.
+pub(crate) fn behind(sign: char, text: &[char]) -> Option<&[char]>
+    ensures { IsRest (behind sign text.now) result }
+{
+    let (first, rest) = text.split_first()?;
+    if *first == sign { Some(rest) } else { None }
+}
+
+/// What follows the sign, if it stands here twice, and the blanks after it.
+pub(crate) fn behind_both(sign: char, text: &[char]) -> Option<&[char]>
+    ensures { IsRest (behind_both sign text.now) result }
+{
+    let second = behind(sign, text)?;
+    let rest = behind(sign, second)?;
+    Some(after_blanks(rest))
 }
 
 /// Whether an integer begins here.

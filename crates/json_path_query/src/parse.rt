@@ -1,23 +1,29 @@
 //! Reading the text of a query.
 ghost use Rattle.std.specs.Prelude.{◌≡◌, ◌∷◌, [], IfOk};
 ghost use Rattle.std.specs.Str.{chars};
-ghost use Rattle.json_path_query.specs.Forms.{IsSelector, IsOneSelector, AreSelectorsIn};
-ghost use Rattle.json_path_query.specs.Forms.{IsSegment, AreSegmentsIn};
-ghost use Rattle.json_path_query.specs.Fronts.{bound_front, step_front, slice_front, selector_front};
-ghost use Rattle.json_path_query.specs.Fronts.{selection_front, shorthand_front, descendant_front};
-ghost use Rattle.json_path_query.specs.Fronts.{int_selector_front, begins_segment};
-ghost use Rattle.json_path_query.specs.Fronts.{segment_front, segments_front};
+ghost use Rattle.json_path_query.specs.Forms.{IsPlain, IsOneSelector, IsSelector, AreSelectorsIn, IsSegment, AreSegmentsIn};
+ghost use Rattle.json_path_query.specs.Forms.{IsOperand, IsBasic, IsConjunction, IsExpression};
+ghost use Rattle.json_path_query.specs.Fronts.{bound_front, step_front, slice_front, plain_front, int_selector_front};
+ghost use Rattle.json_path_query.specs.Fronts.{shorthand_front, selector_front, selection_front, descendant_front};
+ghost use Rattle.json_path_query.specs.Fronts.{begins_segment, segment_front, segments_front, operand_front};
+ghost use Rattle.json_path_query.specs.Fronts.{basic_front, conjunction_front, expression_front, origin_of};
 ghost use Rattle.json_path_query.specs.Reading.{Reads, ReadsQuery, Fronts, FrontsAs};
 
 use crate::error::{ParseError, ParseErrorKind, Refusal};
-use crate::lexical::{after_blanks, begins_integer, integer, is_name_first, push, push_name_chars};
-use crate::query::{Query, Segment, Selector};
+use crate::lexical::{
+    after_blanks, begins_integer, behind, behind_both, integer, is_name_first, push,
+    push_name_chars,
+};
+use crate::query::{Expression, FilterQuery, Origin, Query, Segment, Selector};
 use crate::string::quoted;
 use std::alloc::{AllocError, Global};
 
+/// How many logical expressions may stand in each other.
+const NESTING_LIMIT: usize = 64;
+
 impl Query {
-    /// Reads the text of a query (RFC 9535), without filters. After an error nothing is left of what was
-    /// read.
+    /// Reads the text of a query (RFC 9535), whose filters have no comparisons and no functions, and at most 64
+    /// logical expressions in each other. After an error nothing is left of what was read.
     ///
     /// ```
     /// let query = Query::parse(alloc, "$.store.book[*].author")?;
@@ -32,7 +38,7 @@ impl Query {
                 place: 0,
             });
         };
-        match query(alloc, all.as_slice()) {
+        match query(alloc, NESTING_LIMIT, all.as_slice()) {
             Ok(query) => Ok(query),
             Err(refusal) => Err(ParseError {
                 kind: refusal.kind,
@@ -53,9 +59,9 @@ fn characters(alloc: Global, text: &str) -> Result<Vec<char>, AllocError>
     Ok(all)
 }
 
-/// Reads a whole query.
-fn query(alloc: Global, text: &[char]) -> Result<Query, Refusal>
-    ensures { ReadsQuery text.now result }
+/// Reads a whole query, in which so many logical expressions may stand in each other.
+fn query(alloc: Global, levels: usize, text: &[char]) -> Result<Query, Refusal>
+    ensures { ReadsQuery levels text.now result }
 {
     let Some((first, rest)) = text.split_first() else {
         return Err(Refusal::invalid(text));
@@ -63,7 +69,7 @@ fn query(alloc: Global, text: &[char]) -> Result<Query, Refusal>
     if *first != '$' {
         return Err(Refusal::invalid(text));
     }
-    let (segments, after) = segments(alloc, rest)?;
+    let (segments, after) = segments(alloc, levels, rest)?;
     if !after.is_empty() {
         return Err(Refusal::invalid(after));
     }
@@ -71,13 +77,19 @@ fn query(alloc: Global, text: &[char]) -> Result<Query, Refusal>
 }
 
 /// Reads segments up to where none begins.
-fn segments<'t>(alloc: Global, text: &'t [char]) -> Result<(Vec<Segment>, &'t [char]), Refusal>
-    ensures { Fronts AreSegmentsIn (segments_front text.now) result }
+#[cycle(reader)]
+fn segments<'t>(
+    alloc: Global,
+    levels: usize,
+    text: &'t [char],
+) -> Result<(Vec<Segment>, &'t [char]), Refusal>
+    ensures { Fronts (AreSegmentsIn (IsExpression levels))
+        (segments_front (expression_front levels) text.now) result }
 {
     let mut segments = Vec::new(alloc);
     let mut rest = text;
     while begins_segment(after_blanks(rest)) {
-        let (segment, after) = segment(alloc, after_blanks(rest))?;
+        let (segment, after) = segment(alloc, levels, after_blanks(rest))?;
         segments.push(segment)?;
         rest = after;
     }
@@ -94,14 +106,20 @@ fn begins_segment(text: &[char]) -> bool
 }
 
 /// Reads a segment.
-fn segment<'t>(alloc: Global, text: &'t [char]) -> Result<(Segment, &'t [char]), Refusal>
-    ensures { Fronts IsSegment (segment_front text.now) result }
+#[cycle(reader)]
+fn segment<'t>(
+    alloc: Global,
+    levels: usize,
+    text: &'t [char],
+) -> Result<(Segment, &'t [char]), Refusal>
+    ensures { Fronts (IsSegment (IsExpression levels))
+        (segment_front (expression_front levels) text.now) result }
 {
     let Some((first, rest)) = text.split_first() else {
         return Err(Refusal::invalid(text));
     };
     if *first == '[' {
-        let (selectors, after) = selection(alloc, rest)?;
+        let (selectors, after) = selection(alloc, levels, rest)?;
         return Ok((Segment::Child(selectors), after));
     }
     if *first != '.' {
@@ -111,21 +129,27 @@ fn segment<'t>(alloc: Global, text: &'t [char]) -> Result<(Segment, &'t [char]),
         return Err(Refusal::invalid(rest));
     };
     if *next == '.' {
-        return descendant(alloc, behind);
+        return descendant(alloc, levels, behind);
     }
     let (selectors, after) = shorthand(alloc, rest)?;
     Ok((Segment::Child(selectors), after))
 }
 
 /// Reads a descendant segment behind its two points.
-fn descendant<'t>(alloc: Global, text: &'t [char]) -> Result<(Segment, &'t [char]), Refusal>
-    ensures { Fronts IsSegment (descendant_front text.now) result }
+#[cycle(reader)]
+fn descendant<'t>(
+    alloc: Global,
+    levels: usize,
+    text: &'t [char],
+) -> Result<(Segment, &'t [char]), Refusal>
+    ensures { Fronts (IsSegment (IsExpression levels))
+        (descendant_front (expression_front levels) text.now) result }
 {
     let Some((first, rest)) = text.split_first() else {
         return Err(Refusal::invalid(text));
     };
     if *first == '[' {
-        let (selectors, after) = selection(alloc, rest)?;
+        let (selectors, after) = selection(alloc, levels, rest)?;
         return Ok((Segment::Descendant(selectors), after));
     }
     let (selectors, after) = shorthand(alloc, text)?;
@@ -155,13 +179,19 @@ fn shorthand<'t>(alloc: Global, text: &'t [char]) -> Result<(Vec<Selector>, &'t 
 }
 
 /// Reads selectors behind a bracket, and the bracket that ends them.
-fn selection<'t>(alloc: Global, text: &'t [char]) -> Result<(Vec<Selector>, &'t [char]), Refusal>
-    ensures { Fronts AreSelectorsIn (selection_front text.now) result }
+#[cycle(reader)]
+fn selection<'t>(
+    alloc: Global,
+    levels: usize,
+    text: &'t [char],
+) -> Result<(Vec<Selector>, &'t [char]), Refusal>
+    ensures { Fronts (AreSelectorsIn (IsExpression levels))
+        (selection_front (expression_front levels) text.now) result }
 {
     let mut selectors = Vec::new(alloc);
     let mut rest = text;
     loop {
-        let (selector, after) = selector(alloc, after_blanks(rest))?;
+        let (selector, after) = selector(alloc, levels, after_blanks(rest))?;
         selectors.push(selector)?;
         let Some((separator, behind)) = after.split_first() else {
             return Err(Refusal::invalid(after));
@@ -177,8 +207,138 @@ fn selection<'t>(alloc: Global, text: &'t [char]) -> Result<(Vec<Selector>, &'t 
 }
 
 /// Reads a selector, and the blanks after it.
-fn selector<'t>(alloc: Global, text: &'t [char]) -> Result<(Selector, &'t [char]), Refusal>
-    ensures { Fronts IsSelector (selector_front text.now) result }
+#[cycle(reader)]
+fn selector<'t>(
+    alloc: Global,
+    levels: usize,
+    text: &'t [char],
+) -> Result<(Selector, &'t [char]), Refusal>
+    ensures { Fronts (IsSelector (IsExpression levels))
+        (selector_front (expression_front levels) text.now) result }
+{
+    let Some((first, rest)) = text.split_first() else {
+        return Err(Refusal::invalid(text));
+    };
+    if *first == '?' {
+        let (condition, after) = expression(alloc, levels, after_blanks(rest))?;
+        return Ok((Selector::Filter(condition), after));
+    }
+    plain_selector(alloc, text)
+}
+
+/// Reads a logical expression, and the blanks after it, if so many may stand in each other here.
+#[cycle(reader)]
+fn expression<'t>(
+    alloc: Global,
+    levels: usize,
+    text: &'t [char],
+) -> Result<(Expression, &'t [char]), Refusal>
+    ensures { Fronts (IsExpression levels) (expression_front levels text.now) result }
+{
+    if levels == 0 {
+        return Err(Refusal {
+            kind: ParseErrorKind::TooDeep,
+            left: text.len(),
+        });
+    }
+    let mut alternatives = Vec::new(alloc);
+    let mut rest = text;
+    loop {
+        let (alternative, after) = conjunction(alloc, levels - 1, rest)?;
+        alternatives.push(alternative)?;
+        let Some(more) = behind_both('|', after) else {
+            return Ok((Expression::Or(alternatives), after));
+        };
+        rest = more;
+    }
+}
+
+/// Reads what `&&` joins, and the blanks after it.
+#[cycle(reader)]
+fn conjunction<'t>(
+    alloc: Global,
+    levels: usize,
+    text: &'t [char],
+) -> Result<(Expression, &'t [char]), Refusal>
+    ensures { Fronts (IsConjunction (IsExpression levels))
+        (conjunction_front (expression_front levels) text.now) result }
+{
+    let mut conditions = Vec::new(alloc);
+    let mut rest = text;
+    loop {
+        let (condition, after) = basic(alloc, levels, rest)?;
+        conditions.push(condition)?;
+        let Some(more) = behind_both('&', after) else {
+            return Ok((Expression::And(conditions), after));
+        };
+        rest = more;
+    }
+}
+
+/// Reads one condition, and the blanks after it.
+#[cycle(reader)]
+fn basic<'t>(
+    alloc: Global,
+    levels: usize,
+    text: &'t [char],
+) -> Result<(Expression, &'t [char]), Refusal>
+    ensures { Fronts (IsBasic (IsExpression levels))
+        (basic_front (expression_front levels) text.now) result }
+{
+    let Some((first, rest)) = text.split_first() else {
+        return Err(Refusal::invalid(text));
+    };
+    if *first == '!' {
+        let (condition, after) = operand(alloc, levels, after_blanks(rest))?;
+        return Ok((Expression::Not(Box::new(alloc, condition)?), after));
+    }
+    operand(alloc, levels, text)
+}
+
+/// Reads an expression in parentheses or a test of a query, and the blanks after it.
+#[cycle(reader)]
+fn operand<'t>(
+    alloc: Global,
+    levels: usize,
+    text: &'t [char],
+) -> Result<(Expression, &'t [char]), Refusal>
+    ensures { Fronts (IsOperand (IsExpression levels))
+        (operand_front (expression_front levels) text.now) result }
+{
+    let Some((first, rest)) = text.split_first() else {
+        return Err(Refusal::invalid(text));
+    };
+    if *first == '(' {
+        let (condition, after) = expression(alloc, levels, after_blanks(rest))?;
+        let Some(behind) = behind(')', after) else {
+            return Err(Refusal::invalid(after));
+        };
+        return Ok((condition, after_blanks(behind)));
+    }
+    let Some(origin) = origin(*first) else {
+        return Err(Refusal::invalid(text));
+    };
+    let (segments, after) = segments(alloc, levels, rest)?;
+    Ok((
+        Expression::Test(FilterQuery { origin, segments }),
+        after_blanks(after),
+    ))
+}
+
+/// Where a query inside a filter begins that begins with this character.
+fn origin(first: char) -> Option<Origin>
+    ensures { result ≡ origin_of first }
+{
+    match first {
+        '@' => Some(Origin::CurrentNode),
+        '$' => Some(Origin::Root),
+        _ => None,
+    }
+}
+
+/// Reads a selector that is no filter, and the blanks after it.
+fn plain_selector<'t>(alloc: Global, text: &'t [char]) -> Result<(Selector, &'t [char]), Refusal>
+    ensures { Fronts IsPlain (plain_front text.now) result }
 {
     let Some((first, rest)) = text.split_first() else {
         return Err(Refusal::invalid(text));
@@ -190,17 +350,13 @@ fn selector<'t>(alloc: Global, text: &'t [char]) -> Result<(Selector, &'t [char]
         }
         '*' => Ok((Selector::Wildcard, after_blanks(rest))),
         ':' => slice(None, rest),
-        '?' => Err(Refusal {
-            kind: ParseErrorKind::UnsupportedFilter,
-            left: text.len(),
-        }),
         _ => index_or_slice(text),
     }
 }
 
 /// Reads an index, or a slice that begins with its start.
 fn index_or_slice(text: &[char]) -> Result<(Selector, &[char]), Refusal>
-    ensures { Fronts IsSelector (int_selector_front text.now) result }
+    ensures { Fronts IsPlain (int_selector_front text.now) result }
 {
     let (index, rest) = integer(text)?;
     let after = after_blanks(rest);
@@ -215,7 +371,7 @@ fn index_or_slice(text: &[char]) -> Result<(Selector, &[char]), Refusal>
 
 /// Reads a slice behind its first colon.
 fn slice(start: Option<i64>, text: &[char]) -> Result<(Selector, &[char]), Refusal>
-    ensures { Fronts IsSelector (slice_front start text.now) result }
+    ensures { Fronts IsPlain (slice_front start text.now) result }
 {
     let (end, rest) = bound(after_blanks(text))?;
     let (step, after) = step(rest)?;

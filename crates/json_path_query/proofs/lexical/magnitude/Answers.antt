@@ -1,5 +1,5 @@
-use Rattle.std.proofs.Common.{◌≡◌, ◌<◌, ◌+◌, ◌-◌, ◌*◌, true, rules, arith, refl}
-use Rattle.json_path_query.specs.Grammar.{is_digit, greatest_exact}
+use Rattle.std.proofs.Common.{◌≡◌, true, rules, arith}
+use Rattle.json_path_query.specs.Grammar.{is_digit}
 use Rattle.json_path_query.proofs.Digits.{magnitude_over}
 use Rattle.json_path_query.proofs.lexical.magnitude.Goals as goal
 

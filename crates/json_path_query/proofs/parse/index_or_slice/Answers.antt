@@ -2,7 +2,7 @@ use Rattle.std.proofs.Common.{◌∙◌, ap, rules, w64, SFits}
 use Rattle.std.proofs.lemmas.Int.{to_z-of_z}
 use Rattle.json_path_query.specs.declared.query.Selector.TheVariants as is
 use Rattle.json_path_query.specs.Forms as form
-use Rattle.json_path_query.specs.Forms.{IsSelector}
+use Rattle.json_path_query.specs.Forms.{IsPlain}
 use Rattle.json_path_query.proofs.Refusals.{fronts_from}
 use Rattle.json_path_query.proofs.Steps.{index_at, index_nothing, index_other, index_colon}
 use Rattle.json_path_query.proofs.parse.index_or_slice.Goals as goal
@@ -30,6 +30,6 @@ pub returns : goal.returns
 returns c =
     let i = c.in_ok-index.index in
     let fits : SFits w64 i = search rules in
-    fronts_from IsSelector _ _ c.slice.result
+    fronts_from IsPlain _ _ c.slice.result
     (index_at c.args.text.now _ _ i c.in_ok-index.ensures c.after_blanks-after.ensures
     ∙ index_colon i _ _ _ c.in-Some.next.now c.in-Some.ensures.cases.0 c.if-next-ne58.false (to_z-of_z w64 i fits)) c.slice.ensures

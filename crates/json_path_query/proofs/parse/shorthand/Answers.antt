@@ -5,7 +5,7 @@ use Rattle.tinyjson.specs.Characters.{text}
 use Rattle.json_path_query.specs.declared.query.Selector.TheVariants as is
 use Rattle.json_path_query.specs.Forms as form
 use Rattle.json_path_query.specs.Grammar.{is_name_first, name_chars}
-use Rattle.json_path_query.proofs.Steps.{shorthand_at, one_selector}
+use Rattle.json_path_query.proofs.Steps.{shorthand_at}
 use Rattle.json_path_query.proofs.parse.shorthand.Goals as goal
 
 pub returns : goal.returns
@@ -21,7 +21,9 @@ returns c =
       form.name name,
       shorthand_at c.args.text.now rest first name c.in_ok-after.after.now c.in-Some.ensures.cases.0 c.if-first-eq42.false
           begins whole run.rest,
-      one_selector (form.name name) (is.Name c.push_name_chars.new.name) c.push-3.new.self.items
-          (c.in_ok-push-3.ensures.items ∙ ap (λ xs. xs ++ is.Name c.push_name_chars.new.name ∷ []) c.new-selectors.ensures.items)
-          (c.push_name_chars.new.name, refl, refl),
+      (
+        is.Name c.push_name_chars.new.name,
+        c.in_ok-push-3.ensures.items ∙ ap (λ xs. xs ++ is.Name c.push_name_chars.new.name ∷ []) c.new-selectors.ensures.items,
+        (c.push_name_chars.new.name, refl, refl),
+      ),
     )

@@ -1,4 +1,4 @@
-use Rattle.std.proofs.Common.{◌≡◌, length}
+use Rattle.std.proofs.Common.{length}
 use Rattle.tinyjson.specs.Characters.{text}
 use Rattle.json_path_query.specs.Fronts.{string_turn}
 use Rattle.json_path_query.proofs.Turns.{Goes}

@@ -1,10 +1,9 @@
 use Rattle.std.proofs.Common.{◌≡◌, true, refl, arith}
 use Rattle.std.proofs.lemmas.Bool.Decides.{nat_tests}
-use Rattle.tinyjson.specs.Characters.{text}
 use Rattle.json_path_query.specs.Forms as form
 use Rattle.json_path_query.specs.Fronts.{is_quote}
 use Rattle.json_path_query.proofs.Steps.{quoted_at}
-use Rattle.json_path_query.proofs.parse.selector.Goals as goal
+use Rattle.json_path_query.proofs.parse.plain_selector.Goals as goal
 
 pub returns-in_ok-name-in-34 : goal.returns-in_ok-name-in-34
 returns-in_ok-name-in-34 c =

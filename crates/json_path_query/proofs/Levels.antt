@@ -1,0 +1,236 @@
+-- Single turns over selectors, segments and conditions, at each depth.
+use Rattle.std.proofs.Common.{◌≡◌, ◌≢◌, ℕ, suc, ◌<◌, true, false, ◌==◌, List, [], ◌∷◌, length, Option, Some, None}
+use Rattle.std.proofs.Common.{option_map, option_and_then, refl, sym, ap, ◌∙◌, subst, arith}
+use Rattle.std.proofs.lemmas.Bool.{cond-true, cond-false, ne_eqb}
+use Rattle.json_path_query.specs.declared.query.Expression.{Expression as CodeExpression}
+use Rattle.json_path_query.specs.declared.query.Origin.{Origin}
+use Rattle.json_path_query.specs.declared.query.Selector.{Selector as CodeSelector}
+use Rattle.json_path_query.specs.Forms.{PlainSelector, Selector, Segment, Operand, Basic, Expression, Each, IsSelector, IsOneSelector}
+use Rattle.json_path_query.specs.Forms.{Disjunction, IsExpression, IsDisjunction}
+use Rattle.json_path_query.specs.Forms as form
+use Rattle.json_path_query.specs.Grammar.{after_blanks}
+use Rattle.json_path_query.specs.Fronts.{FrontOf, end, last, more, more_of, selector_front, filtered, as_plain, plain_front, separator}
+use Rattle.json_path_query.specs.Fronts.{separated, selection_turn, selection_front, shorthand_front, begins_segment, segment_front}
+use Rattle.json_path_query.specs.Fronts.{descendant_front, descendant_of, alone, dotted_front, child_of, segments_turn, segments_front}
+use Rattle.json_path_query.specs.Fronts.{operand_front, closing, closed, behind, tested, tested_front, origin_of, basic_front, as_negated}
+use Rattle.json_path_query.specs.Fronts.{as_affirmed, behind_both, joint, joined, joined_turn, conjunction_front, disjunction_front}
+use Rattle.json_path_query.specs.Fronts.{expression_front, ended, query_front}
+use Rattle.json_path_query.proofs.Finds.{Finds}
+use Rattle.json_path_query.proofs.Turns.{Shortens}
+use Rattle.json_path_query.proofs.Shorter.{selector_falls, selection_falls, segment_falls, segments_falls, joined_falls, front_falls}
+use Rattle.json_path_query.proofs.Shorter.{both_shorter, basic_shorter, joined_shorter}
+use Rattle.json_path_query.proofs.Sound.{basic_sound, joined_sound}
+use Rattle.json_path_query.proofs.Complete.{expression_faithful}
+
+-- ---- what is left is shorter
+
+pub selection_shortens : (n : ℕ) → Shortens (selection_turn (expression_front n))
+selection_shortens n = let h = expression_faithful n in selection_falls h.sound h.shorter
+
+pub segments_shortens : (n : ℕ) → Shortens (segments_turn (expression_front n))
+segments_shortens n = let h = expression_faithful n in segments_falls h.sound h.shorter
+
+basic_falls : (n : ℕ) (xs : List ℕ) → Finds (basic_front (expression_front n) xs) (λ p. length p.1 < length xs)
+basic_falls n xs = let h = expression_faithful n in front_falls (basic_sound h.sound) (basic_shorter h.shorter) xs
+
+conjunction_falls : (n : ℕ) (xs : List ℕ) → Finds (conjunction_front (expression_front n) xs) (λ p. length p.1 < length xs)
+conjunction_falls n xs =
+    let h = expression_faithful n in
+    front_falls (joined_sound 38 (basic_sound h.sound)) (joined_shorter 38 (basic_shorter h.shorter)) xs
+
+pub conjunction_shortens : (n : ℕ) → Shortens (joined_turn 38 (basic_front (expression_front n)))
+conjunction_shortens n = joined_falls 38 (basic_falls n)
+
+pub disjunction_shortens : (n : ℕ) → Shortens (joined_turn 124 (conjunction_front (expression_front n)))
+disjunction_shortens n = joined_falls 124 (conjunction_falls n)
+
+pub basic_smaller : (n : ℕ) (xs : List ℕ) (v : Basic (Expression n)) (ys zs : List ℕ) → basic_front (expression_front n) xs ≡ Some (v, ys)
+    → behind_both 38 ys ≡ Some zs → length zs < length xs
+basic_smaller n xs v ys zs e f =
+    let a = (basic_falls n xs).at (v, ys) e in
+    let b = (both_shorter 38 ys).at zs f in
+    omega arith
+
+pub conjunction_smaller : (n : ℕ) (xs : List ℕ) (v : List (Basic (Expression n))) (ys zs : List ℕ)
+    → conjunction_front (expression_front n) xs ≡ Some (v, ys) → behind_both 124 ys ≡ Some zs → length zs < length xs
+conjunction_smaller n xs v ys zs e f =
+    let a = (conjunction_falls n xs).at (v, ys) e in
+    let b = (both_shorter 124 ys).at zs f in
+    omega arith
+
+pub segment_smaller : (n : ℕ) (xs zs : List ℕ) (s : Segment (Expression n)) (ys : List ℕ) → zs ≡ after_blanks xs
+    → segment_front (expression_front n) zs ≡ Some (s, ys) → length ys < length xs
+segment_smaller n xs zs s ys e f =
+    let h = expression_faithful n in
+    (segment_falls h.sound h.shorter xs).at (s, ys) (ap (segment_front (expression_front n)) (sym e) ∙ f)
+
+pub selector_smaller : (n : ℕ) (xs zs : List ℕ) (v : Selector (Expression n)) (ys : List ℕ) → zs ≡ after_blanks xs
+    → selector_front (expression_front n) zs ≡ Some (v, ys) → length ys < length xs
+selector_smaller n xs zs v ys e f =
+    let h = expression_faithful n in
+    (selector_falls h.sound h.shorter xs).at (v, ys) (ap (selector_front (expression_front n)) (sym e) ∙ f)
+
+module _ {E : Type 0} (F : FrontOf E) where
+  -- ---- selectors
+
+  pub filter_at : (xs cs zs : List ℕ) (c : ℕ) (e : E) (ys : List ℕ) → xs ≡ c ∷ cs → c ≡ 63 → zs ≡ after_blanks cs → F zs ≡ Some (e, ys)
+      → selector_front F xs ≡ Some (form.filter e, ys)
+  filter_at xs cs zs c e ys f g h k =
+      ap (selector_front F) (f ∙ ap (λ d. d ∷ cs) g) ∙ (ap (λ us. option_map filtered (F us)) (sym h) ∙ ap (option_map filtered) k)
+
+  pub filter_none : (xs cs zs : List ℕ) (c : ℕ) → xs ≡ c ∷ cs → c ≡ 63 → zs ≡ after_blanks cs → F zs ≡ None
+      → selector_front F xs ≡ None
+  filter_none xs cs zs c f g h k =
+      ap (selector_front F) (f ∙ ap (λ d. d ∷ cs) g) ∙ (ap (λ us. option_map filtered (F us)) (sym h) ∙ ap (option_map filtered) k)
+
+  pub plain_from : (xs cs : List ℕ) (c : ℕ) → xs ≡ c ∷ cs → c ≢ 63 → selector_front F xs ≡ option_map as_plain (plain_front xs)
+  plain_from xs cs c f g =
+      ap (selector_front F) f ∙ (cond-false (c == 63) _ _ (ne_eqb c 63 g) ∙ ap (λ us. option_map as_plain (plain_front us)) (sym f))
+
+  pub selection_at : (xs zs : List ℕ) (v : Selector E) (ys : List ℕ) → zs ≡ after_blanks xs → selector_front F zs ≡ Some (v, ys)
+      → selection_turn F xs ≡ separator v ys
+  selection_at xs zs v ys e h =
+      ap (λ us. option_and_then separated (selector_front F us)) (sym e) ∙ ap (option_and_then separated) h
+
+  pub selection_none : (xs zs : List ℕ) → zs ≡ after_blanks xs → selector_front F zs ≡ None → selection_turn F xs ≡ None
+  selection_none xs zs e h =
+      ap (λ us. option_and_then separated (selector_front F us)) (sym e) ∙ ap (option_and_then separated) h
+
+  -- ---- segments
+
+  pub segments_end : (xs zs : List ℕ) → zs ≡ after_blanks xs → begins_segment zs ≡ false → segments_turn F xs ≡ Some (end xs)
+  segments_end xs zs e h = cond-false (begins_segment (after_blanks xs)) _ _ (ap begins_segment (sym e) ∙ h)
+
+  pub segments_more : (xs zs ws : List ℕ) (s : Segment E) (ys : List ℕ) → zs ≡ after_blanks xs → begins_segment zs ≡ true
+      → ws ≡ after_blanks xs → segment_front F ws ≡ Some (s, ys) → segments_turn F xs ≡ Some (more s ys)
+  segments_more xs zs ws s ys e h f k =
+      cond-true (begins_segment (after_blanks xs)) _ _ (ap begins_segment (sym e) ∙ h)
+      ∙ ap (option_map more_of) (ap (segment_front F) (sym f) ∙ k)
+
+  pub segments_none : (xs zs ws : List ℕ) → zs ≡ after_blanks xs → begins_segment zs ≡ true → ws ≡ after_blanks xs
+      → segment_front F ws ≡ None → segments_turn F xs ≡ None
+  segments_none xs zs ws e h f k =
+      cond-true (begins_segment (after_blanks xs)) _ _ (ap begins_segment (sym e) ∙ h)
+      ∙ ap (option_map more_of) (ap (segment_front F) (sym f) ∙ k)
+
+  pub descendant_bracket : (xs cs : List ℕ) (c : ℕ) (vs : List (Selector E)) (ys : List ℕ) → xs ≡ c ∷ cs → c ≡ 91
+      → selection_front F cs ≡ Some (vs, ys) → descendant_front F xs ≡ Some (form.descendant vs, ys)
+  descendant_bracket xs cs c vs ys e f h = ap (descendant_front F) (e ∙ ap (λ d. d ∷ cs) f) ∙ ap (option_map descendant_of) h
+
+  pub descendant_short : (xs cs : List ℕ) (c : ℕ) (v : PlainSelector) (ys : List ℕ) → xs ≡ c ∷ cs → c ≢ 91
+      → shorthand_front xs ≡ Some (v, ys) → descendant_front F xs ≡ Some (form.descendant (form.plain v ∷ []), ys)
+  descendant_short xs cs c v ys e f h =
+      ap (descendant_front F) e
+      ∙ (cond-false (c == 91) _ _ (ne_eqb c 91 f)
+      ∙ (ap (λ zs. option_map descendant_of (option_map alone (shorthand_front zs))) (sym e)
+      ∙ ap (λ o. option_map descendant_of (option_map alone o)) h))
+
+  pub segment_bracket : (xs cs : List ℕ) (c : ℕ) (vs : List (Selector E)) (ys : List ℕ) → xs ≡ c ∷ cs → c ≡ 91
+      → selection_front F cs ≡ Some (vs, ys) → segment_front F xs ≡ Some (form.child vs, ys)
+  segment_bracket xs cs c vs ys e f h = ap (segment_front F) (e ∙ ap (λ d. d ∷ cs) f) ∙ ap (option_map child_of) h
+
+  pub segment_short : (xs cs ds : List ℕ) (c d : ℕ) (v : PlainSelector) (ys : List ℕ) → xs ≡ c ∷ cs → c ≡ 46 → cs ≡ d ∷ ds → d ≢ 46
+      → shorthand_front cs ≡ Some (v, ys) → segment_front F xs ≡ Some (form.child (form.plain v ∷ []), ys)
+  segment_short xs cs ds c d v ys e f g n h =
+      ap (segment_front F) (e ∙ ap (λ x. x ∷ cs) f)
+      ∙ (ap (dotted_front F) g
+      ∙ (cond-false (d == 46) _ _ (ne_eqb d 46 n)
+      ∙ (ap (λ zs. option_map child_of (option_map alone (shorthand_front zs))) (sym g)
+      ∙ ap (λ o. option_map child_of (option_map alone o)) h)))
+
+  -- ---- conditions
+
+  pub closed_at : (xs cs zs ys us vs : List ℕ) (c : ℕ) (e : E) → xs ≡ c ∷ cs → c ≡ 40 → zs ≡ after_blanks cs → F zs ≡ Some (e, ys)
+      → behind 41 ys ≡ Some us → vs ≡ after_blanks us → operand_front F xs ≡ Some (form.parenthesized e, vs)
+  closed_at xs cs zs ys us vs c e f g h k l m =
+      ap (operand_front F) (f ∙ ap (λ d. d ∷ cs) g)
+      ∙ (ap (λ ws. option_and_then closing (F ws)) (sym h)
+      ∙ (ap (option_and_then closing) k
+      ∙ (ap (option_map (closed e)) l ∙ ap (λ ws. Some (form.parenthesized e, ws)) (sym m))))
+
+  pub unclosed : (xs cs zs ys : List ℕ) (c : ℕ) (e : E) → xs ≡ c ∷ cs → c ≡ 40 → zs ≡ after_blanks cs → F zs ≡ Some (e, ys)
+      → behind 41 ys ≡ None → operand_front F xs ≡ None
+  unclosed xs cs zs ys c e f g h k l =
+      ap (operand_front F) (f ∙ ap (λ d. d ∷ cs) g)
+      ∙ (ap (λ ws. option_and_then closing (F ws)) (sym h) ∙ (ap (option_and_then closing) k ∙ ap (option_map (closed e)) l))
+
+  pub parenthesized_none : (xs cs zs : List ℕ) (c : ℕ) → xs ≡ c ∷ cs → c ≡ 40 → zs ≡ after_blanks cs → F zs ≡ None
+      → operand_front F xs ≡ None
+  parenthesized_none xs cs zs c f g h k =
+      ap (operand_front F) (f ∙ ap (λ d. d ∷ cs) g)
+      ∙ (ap (λ ws. option_and_then closing (F ws)) (sym h) ∙ ap (option_and_then closing) k)
+
+  pub tested_at : (xs cs ys zs : List ℕ) (c : ℕ) (o : Origin) (ss : List (Segment E)) → xs ≡ c ∷ cs → c ≢ 40 → origin_of c ≡ Some o
+      → segments_front F cs ≡ Some (ss, ys) → zs ≡ after_blanks ys → operand_front F xs ≡ Some (form.test o ss, zs)
+  tested_at xs cs ys zs c o ss f g h k l =
+      ap (operand_front F) f
+      ∙ (cond-false (c == 40) _ _ (ne_eqb c 40 g)
+      ∙ (ap (option_and_then (tested_front F cs)) h
+      ∙ (ap (option_map (tested o)) k ∙ ap (λ us. Some (form.test o ss, us)) (sym l))))
+
+  pub negated_from : (xs cs zs : List ℕ) (c : ℕ) → xs ≡ c ∷ cs → c ≡ 33 → zs ≡ after_blanks cs
+      → basic_front F xs ≡ option_map as_negated (operand_front F zs)
+  negated_from xs cs zs c f g h =
+      ap (basic_front F) (f ∙ ap (λ d. d ∷ cs) g) ∙ ap (λ us. option_map as_negated (operand_front F us)) (sym h)
+
+  pub affirmed_from : (xs cs : List ℕ) (c : ℕ) → xs ≡ c ∷ cs → c ≢ 33 → basic_front F xs ≡ option_map as_affirmed (operand_front F xs)
+  affirmed_from xs cs c f g =
+      ap (basic_front F) f
+      ∙ (cond-false (c == 33) _ _ (ne_eqb c 33 g) ∙ ap (λ us. option_map as_affirmed (operand_front F us)) (sym f))
+
+  pub joined_at : (sign : ℕ) (xs : List ℕ) (a : E) (ys : List ℕ) (o : Option (List ℕ)) → F xs ≡ Some (a, ys) → behind_both sign ys ≡ o
+      → joined_turn sign F xs ≡ Some (joint a ys o)
+  joined_at sign xs a ys o e f = ap (option_map (joined sign)) e ∙ ap (λ p. Some (joint a ys p)) f
+
+  pub joined_none : (sign : ℕ) (xs : List ℕ) → F xs ≡ None → joined_turn sign F xs ≡ None
+  joined_none sign xs e = ap (option_map (joined sign)) e
+
+module _ {E : Type 0} where
+  pub separator_nothing : (v : Selector E) (ys : List ℕ) → length ys ≡ 0 → separator v ys ≡ None
+  separator_nothing v [] e = refl
+  separator_nothing v (c ∷ cs) e = absurd (omega arith)
+
+  pub separator_closes : (v : Selector E) (ys cs : List ℕ) (c : ℕ) → ys ≡ c ∷ cs → c ≡ 93 → separator v ys ≡ Some (last v cs)
+  separator_closes v ys cs c e f = ap (separator v) (e ∙ ap (λ d. d ∷ cs) f)
+
+  pub separator_more : (v : Selector E) (ys cs : List ℕ) (c : ℕ) → ys ≡ c ∷ cs → c ≡ 44 → separator v ys ≡ Some (more v cs)
+  separator_more v ys cs c e f = ap (separator v) (e ∙ ap (λ d. d ∷ cs) f)
+
+  pub separator_other : (v : Selector E) (ys cs : List ℕ) (c : ℕ) → ys ≡ c ∷ cs → c ≢ 93 → c ≢ 44 → separator v ys ≡ None
+  separator_other v ys cs c e f g =
+      ap (separator v) e ∙ (cond-false (c == 44) _ _ (ne_eqb c 44 g) ∙ cond-false (c == 93) _ _ (ne_eqb c 93 f))
+
+  pub one_selector : (Is : E → CodeExpression → Type 0) (v : PlainSelector) (xs : List CodeSelector)
+      → ((y : CodeSelector) × (xs ≡ y ∷ []) × form.IsPlain v y) → Each (IsSelector Is) (form.plain v ∷ []) xs
+  one_selector Is v xs h = subst (λ ys. Each (IsSelector Is) (form.plain v ∷ []) ys) (sym h.1) (h.2, tt)
+
+  pub ended_nothing : (ss : List (Segment E)) (ys : List ℕ) → length ys ≡ 0 → ended (ss, ys) ≡ Some ss
+  ended_nothing ss [] e = refl
+  ended_nothing ss (c ∷ cs) e = absurd (omega arith)
+
+  pub ended_more : (ss : List (Segment E)) (ys : List ℕ) → length ys ≢ 0 → ended (ss, ys) ≡ None
+  ended_more ss [] n = absurd (n refl)
+  ended_more ss (c ∷ cs) n = refl
+
+-- ---- depths
+
+-- what is found one level below is found
+pub expression_at : (n m : ℕ) (xs : List ℕ) (e : Disjunction (Expression m)) (ys : List ℕ) (x : CodeExpression) → n ≡ suc m
+    → disjunction_front (expression_front m) xs ≡ Some (e, ys) → IsDisjunction (IsExpression m) e x
+    → (f : Expression n) × (expression_front n xs ≡ Some (f, ys)) × IsExpression n f x
+expression_at n m xs e ys x s h k =
+    subst (λ l. (f : Expression l) × (expression_front l xs ≡ Some (f, ys)) × IsExpression l f x) (sym s) (e, h, k)
+
+pub expression_none : (n m : ℕ) (xs : List ℕ) → n ≡ suc m → disjunction_front (expression_front m) xs ≡ None
+    → expression_front n xs ≡ None
+expression_none n m xs s h = subst (λ l. expression_front l xs ≡ None) (sym s) h
+
+-- ---- queries
+
+pub query_at : (n : ℕ) (xs cs : List ℕ) (c : ℕ) (ss : List (Segment (Expression n))) (ys : List ℕ) → xs ≡ c ∷ cs → c ≡ 36
+    → segments_front (expression_front n) cs ≡ Some (ss, ys) → query_front n xs ≡ ended (ss, ys)
+query_at n xs cs c ss ys e f h = ap (query_front n) (e ∙ ap (λ d. d ∷ cs) f) ∙ ap (option_and_then ended) h
+
+pub query_none : (n : ℕ) (xs cs : List ℕ) (c : ℕ) → xs ≡ c ∷ cs → c ≡ 36 → segments_front (expression_front n) cs ≡ None
+    → query_front n xs ≡ None
+query_none n xs cs c e f h = ap (query_front n) (e ∙ ap (λ d. d ∷ cs) f) ∙ ap (option_and_then ended) h

@@ -1,0 +1,329 @@
+use Rattle.std.proofs.Common.{◌≡◌, ◌∙◌, ◌∷◌, [], ◌++◌, ◌<◌, ◌-◌, true, false, length, sym, ap, refl, subst, rules, arith}
+use Rattle.std.specs.Prelude.{option_map}
+use Rattle.json_path_query.specs.Forms as form
+use Rattle.json_path_query.specs.Forms.{Each, IsPlain, IsSelector, AreSelectorsIn, IsSegment, AreSegmentsIn, IsOperand, IsBasic}
+use Rattle.json_path_query.specs.Forms.{IsConjunction}
+use Rattle.json_path_query.specs.Forms.{IsExpression, IsDisjunction}
+use Rattle.json_path_query.specs.Fronts.{begins_segment, selector_front, selection_turn, selection_front, segment_front, segments_turn}
+use Rattle.json_path_query.specs.Fronts.{segments_front, basic_front, joined_turn, conjunction_front}
+use Rattle.json_path_query.specs.Fronts.{expression_front, behind_both, as_negated}
+use Rattle.json_path_query.specs.Reading.{IsRest}
+use Rattle.json_path_query.proofs.Turns.{goes_init, goes_more, goes_last, goes_end, goes_none}
+use Rattle.json_path_query.proofs.Refusals.{refused_as, fronts_map, each_none, each_pushed}
+use Rattle.json_path_query.proofs.Levels.{
+  selection_shortens,
+  segments_shortens,
+  conjunction_shortens,
+  disjunction_shortens,
+  basic_smaller,
+}
+use Rattle.json_path_query.proofs.Levels.{conjunction_smaller, segment_smaller, selector_smaller, filter_at, plain_from}
+use Rattle.json_path_query.proofs.Levels.{selection_at, selection_none, segments_end, segments_more, segments_none, descendant_bracket}
+use Rattle.json_path_query.proofs.Levels.{descendant_short, segment_bracket, segment_short, closed_at}
+use Rattle.json_path_query.proofs.Levels.{tested_at, negated_from, affirmed_from, joined_at, joined_none, separator_nothing}
+use Rattle.json_path_query.proofs.Levels.{separator_closes, separator_more, separator_other, one_selector, expression_at, expression_none}
+use Rattle.json_path_query.proofs.parse.+reader.Goals as goal
+
+pub segments-loop-alloc-init : goal.segments-loop-alloc-init
+segments-loop-alloc-init t c = (
+  [],
+  each_none (IsSegment (IsExpression c.args.levels)) _ c.new-segments.ensures.items,
+  goes_init
+      (segments_turn (expression_front c.args.levels)) c.args.text.now,
+)
+
+pub segments-loop-alloc-smaller : goal.segments-loop-alloc-smaller
+segments-loop-alloc-smaller t c =
+    let s = c.in_ok-segment.ensures in
+    segment_smaller c.args.levels c.loop-alloc.rest.now c.after_blanks-in-loop-alloc.result.now
+    s.0 c.in_ok-segment.after.now c.after_blanks-in-loop-alloc.ensures s.1
+
+pub segments-loop-alloc-preserved : goal.segments-loop-alloc-preserved
+segments-loop-alloc-preserved t c =
+    let held = c.loop-alloc.invariant in
+    let s = c.in_ok-segment.ensures in
+    let begins : begins_segment c.after_blanks.result.now ≡ true = search rules in (
+      held.0 ++ s.0 ∷ [],
+      each_pushed (IsSegment (IsExpression c.args.levels)) held.0 s.0 _ _ _ c.in_ok-push.ensures.items held.1 s.2,
+      goes_more (segments_turn (expression_front c.args.levels)) (segments_shortens c.args.levels) c.args.text.now held.0
+          c.loop-alloc.rest.now s.0 c.in_ok-segment.after.now held.2
+          (segments_more (expression_front c.args.levels) c.loop-alloc.rest.now c.after_blanks.result.now
+          c.after_blanks-in-loop-alloc.result.now s.0
+          c.in_ok-segment.after.now c.after_blanks.ensures begins c.after_blanks-in-loop-alloc.ensures s.1),
+    )
+
+pub segments-returns-in_err-segment : goal.segments-returns-in_err-segment
+segments-returns-in_err-segment t c =
+    let held = c.loop-alloc.invariant in
+    let begins : begins_segment c.after_blanks.result.now ≡ true = search rules in
+    refused_as (AreSegmentsIn (IsExpression c.args.levels)) (segments_front (expression_front c.args.levels) c.args.text.now)
+    (segment_front (expression_front c.args.levels) c.after_blanks-in-loop-alloc.result.now) c.in_err-segment.field-0.0 _
+    c.from_residual.ensures.1 c.in_err-segment.ensures
+    (λ none. goes_none (segments_turn (expression_front c.args.levels)) (segments_shortens c.args.levels) c.args.text.now held.0
+    c.loop-alloc.rest.now held.2
+    (segments_none (expression_front c.args.levels) c.loop-alloc.rest.now c.after_blanks.result.now
+    c.after_blanks-in-loop-alloc.result.now c.after_blanks.ensures begins
+    c.after_blanks-in-loop-alloc.ensures none))
+
+pub segments-returns : goal.segments-returns
+segments-returns t c =
+    let held = c.loop-alloc.invariant in
+    let ends : begins_segment c.after_blanks.result.now ≡ false = search rules in (
+      held.0,
+      goes_end (segments_turn (expression_front c.args.levels)) (segments_shortens c.args.levels) c.args.text.now held.0
+          c.loop-alloc.rest.now c.loop-alloc.rest.now held.2
+          (segments_end (expression_front c.args.levels) c.loop-alloc.rest.now c.after_blanks.result.now c.after_blanks.ensures ends),
+      held.1,
+    )
+
+pub segment-returns-then-first-eq91 : goal.segment-returns-then-first-eq91
+segment-returns-then-first-eq91 t c =
+    let s = c.in_ok-selectors.ensures in (
+      form.child s.0,
+      segment_bracket (expression_front c.args.levels) c.args.text.now _ c.in-Some.first.now s.0 _ c.in-Some.ensures.cases.0
+          c.if-first-eq91.true s.1,
+      (c.in_ok-selectors.selectors, refl, s.2),
+    )
+
+pub segment-returns : goal.segment-returns
+segment-returns t c =
+    let s = c.in_ok-selectors-2.ensures in (
+      form.child (form.plain s.0 ∷ []),
+      segment_short (expression_front c.args.levels) c.args.text.now _ _ c.in-Some.first.now c.in-Some-split_first.next.now s.0 _
+          c.in-Some.ensures.cases.0
+          c.if-first-ne46.false c.in-Some-split_first.ensures.cases.0 c.if-next-eq46.false s.1,
+      (c.in_ok-selectors-2.selectors, refl, one_selector (IsExpression c.args.levels) s.0 _ s.2),
+    )
+
+pub descendant-returns-then-first-eq91 : goal.descendant-returns-then-first-eq91
+descendant-returns-then-first-eq91 t c =
+    let s = c.in_ok-selectors.ensures in (
+      form.descendant s.0,
+      descendant_bracket (expression_front c.args.levels) c.args.text.now _ c.in-Some.first.now s.0 _ c.in-Some.ensures.cases.0
+          c.if-first-eq91.true s.1,
+      (c.in_ok-selectors.selectors, refl, s.2),
+    )
+
+pub descendant-returns : goal.descendant-returns
+descendant-returns t c =
+    let s = c.in_ok-selectors-2.ensures in (
+      form.descendant (form.plain s.0 ∷ []),
+      descendant_short (expression_front c.args.levels) c.args.text.now _ c.in-Some.first.now s.0 _ c.in-Some.ensures.cases.0
+          c.if-first-eq91.false s.1,
+      (c.in_ok-selectors-2.selectors, refl, one_selector (IsExpression c.args.levels) s.0 _ s.2),
+    )
+
+pub selection-loop-selectors-init : goal.selection-loop-selectors-init
+selection-loop-selectors-init t c = (
+  [],
+  each_none (IsSelector (IsExpression c.args.levels)) _ c.new-selectors.ensures.items,
+  goes_init (selection_turn (expression_front c.args.levels)) c.args.text.now,
+)
+
+pub selection-loop-selectors-smaller : goal.selection-loop-selectors-smaller
+selection-loop-selectors-smaller t c =
+    let s = c.in_ok-selector.ensures in
+    let fewer : length c.in_ok-selector.after.now < length c.loop-selectors.rest.now =
+    selector_smaller c.args.levels _ _ s.0 c.in_ok-selector.after.now c.after_blanks.ensures s.1 in
+    omega (arith, ap length c.in-Some.ensures.cases.0)
+
+pub selection-loop-selectors-preserved : goal.selection-loop-selectors-preserved
+selection-loop-selectors-preserved t c =
+    let held = c.loop-selectors.invariant in
+    let s = c.in_ok-selector.ensures in (
+      held.0 ++ s.0 ∷ [],
+      each_pushed (IsSelector (IsExpression c.args.levels)) held.0 s.0 _ _ _ c.in_ok-push.ensures.items held.1 s.2,
+      goes_more (selection_turn (expression_front c.args.levels)) (selection_shortens c.args.levels) c.args.text.now held.0
+          c.loop-selectors.rest.now s.0 c.in-Some.behind.now held.2
+          (selection_at (expression_front c.args.levels) c.loop-selectors.rest.now c.after_blanks.result.now s.0
+          c.in_ok-selector.after.now c.after_blanks.ensures s.1
+          ∙ separator_more s.0 _ _ c.in-Some.separator.now c.in-Some.ensures.cases.0 c.if-separator-ne44.false),
+    )
+
+pub selection-returns-then-separator-eq93 : goal.selection-returns-then-separator-eq93
+selection-returns-then-separator-eq93 t c =
+    let held = c.loop-selectors.invariant in
+    let s = c.in_ok-selector.ensures in (
+      held.0 ++ s.0 ∷ [],
+      goes_last (selection_turn (expression_front c.args.levels)) (selection_shortens c.args.levels) c.args.text.now held.0
+          c.loop-selectors.rest.now s.0 c.in-Some.behind.now held.2
+          (selection_at (expression_front c.args.levels) c.loop-selectors.rest.now c.after_blanks.result.now s.0
+          c.in_ok-selector.after.now c.after_blanks.ensures s.1
+          ∙ separator_closes s.0 _ _ c.in-Some.separator.now c.in-Some.ensures.cases.0 c.if-separator-eq93.true),
+      each_pushed (IsSelector (IsExpression c.args.levels)) held.0 s.0 _ _ _ c.in_ok-push.ensures.items held.1 s.2,
+    )
+
+pub selection-returns-in_err-selector : goal.selection-returns-in_err-selector
+selection-returns-in_err-selector t c =
+    let held = c.loop-selectors.invariant in
+    refused_as (AreSelectorsIn (IsExpression c.args.levels)) (selection_front (expression_front c.args.levels) c.args.text.now)
+    (selector_front (expression_front c.args.levels) c.after_blanks.result.now) c.in_err-selector.field-0.0 _
+    c.from_residual.ensures.1 c.in_err-selector.ensures
+    (λ none. goes_none (selection_turn (expression_front c.args.levels)) (selection_shortens c.args.levels) c.args.text.now held.0
+    c.loop-selectors.rest.now held.2
+    (selection_none (expression_front c.args.levels) c.loop-selectors.rest.now c.after_blanks.result.now c.after_blanks.ensures none))
+
+pub selection-returns-in_default : goal.selection-returns-in_default
+selection-returns-in_default t c = λ _.
+    let held = c.loop-selectors.invariant in
+    let s = c.in_ok-selector.ensures in
+    goes_none (selection_turn (expression_front c.args.levels)) (selection_shortens c.args.levels) c.args.text.now held.0
+    c.loop-selectors.rest.now held.2
+    (selection_at (expression_front c.args.levels) c.loop-selectors.rest.now c.after_blanks.result.now s.0 c.in_ok-selector.after.now
+    c.after_blanks.ensures s.1
+    ∙ separator_nothing s.0 _ c.in_default.ensures.cases)
+
+pub selection-returns-then-separator-ne44 : goal.selection-returns-then-separator-ne44
+selection-returns-then-separator-ne44 t c = λ _.
+    let held = c.loop-selectors.invariant in
+    let s = c.in_ok-selector.ensures in
+    goes_none (selection_turn (expression_front c.args.levels)) (selection_shortens c.args.levels) c.args.text.now held.0
+    c.loop-selectors.rest.now held.2
+    (selection_at (expression_front c.args.levels) c.loop-selectors.rest.now c.after_blanks.result.now s.0 c.in_ok-selector.after.now
+    c.after_blanks.ensures s.1
+    ∙ separator_other s.0 _ _ c.in-Some.separator.now c.in-Some.ensures.cases.0 c.if-separator-eq93.false c.if-separator-ne44.true)
+
+pub selector-returns-then-first-eq63 : goal.selector-returns-then-first-eq63
+selector-returns-then-first-eq63 t c =
+    let s = c.in_ok-condition.ensures in (
+      form.filter s.0,
+      filter_at (expression_front c.args.levels) c.args.text.now _ _ c.in-Some.first.now s.0 _ c.in-Some.ensures.cases.0
+          c.if-first-eq63.true c.after_blanks.ensures s.1,
+      (c.in_ok-condition.condition, refl, s.2),
+    )
+
+pub selector-returns : goal.selector-returns
+selector-returns t c =
+    fronts_map IsPlain (IsSelector (IsExpression c.args.levels)) form.plain _ _ c.plain_selector.result
+    (plain_from (expression_front c.args.levels) c.args.text.now _ c.in-Some.first.now c.in-Some.ensures.cases.0 c.if-first-eq63.false)
+    (λ v x h. h) c.plain_selector.ensures
+
+pub basic-returns-then-first-eq33 : goal.basic-returns-then-first-eq33
+basic-returns-then-first-eq33 t c =
+    let s = c.in_ok-condition.ensures in (
+      form.negated s.0,
+      negated_from (expression_front c.args.levels) c.args.text.now _ _ c.in-Some.first.now c.in-Some.ensures.cases.0
+          c.if-first-eq33.true c.after_blanks.ensures ∙ ap (option_map as_negated) s.1,
+      (c.in_ok-new.field-0, refl, subst (IsOperand (IsExpression c.args.levels) s.0) (sym c.in_ok-new.ensures.ok) s.2),
+    )
+
+pub basic-returns : goal.basic-returns
+basic-returns t c =
+    fronts_map (IsOperand (IsExpression c.args.levels)) (IsBasic (IsExpression c.args.levels)) form.affirmed _ _ c.operand-2.result
+    (affirmed_from (expression_front c.args.levels) c.args.text.now _ c.in-Some.first.now c.in-Some.ensures.cases.0 c.if-first-eq33.false)
+    (λ v x h. h) c.operand-2.ensures
+
+pub operand-returns-then-first-eq40 : goal.operand-returns-then-first-eq40
+operand-returns-then-first-eq40 t c =
+    let s = c.in_ok-condition.ensures in (
+      form.parenthesized s.0,
+      closed_at (expression_front c.args.levels) c.args.text.now _ _ _ _ _ c.in-Some.first.now s.0 c.in-Some.ensures.cases.0
+          c.if-first-eq40.true c.after_blanks.ensures s.1 c.in-Some-behind.ensures c.after_blanks-then-first-eq40.ensures,
+      s.2,
+    )
+
+pub operand-returns : goal.operand-returns
+operand-returns t c =
+    let s = c.in_ok-segments.ensures in (
+      form.test c.in-Some-origin.origin s.0,
+      tested_at (expression_front c.args.levels) c.args.text.now _ _ _ c.in-Some.first.now c.in-Some-origin.origin s.0
+          c.in-Some.ensures.cases.0 c.if-first-eq40.false (sym c.origin.ensures ∙ c.in-Some-origin.is) s.1 c.after_blanks-2.ensures,
+      (c.in_ok-segments.segments, refl, s.2),
+    )
+
+pub conjunction-loop-conditions-init : goal.conjunction-loop-conditions-init
+conjunction-loop-conditions-init t c = (
+  [],
+  each_none (IsBasic (IsExpression c.args.levels)) _ c.new-conditions.ensures.items,
+  goes_init (joined_turn 38 (basic_front (expression_front c.args.levels))) c.args.text.now,
+)
+
+pub conjunction-loop-conditions-smaller : goal.conjunction-loop-conditions-smaller
+conjunction-loop-conditions-smaller t c =
+    let s = c.in_ok-condition.ensures in
+    basic_smaller c.args.levels c.loop-conditions.rest.now s.0 c.in_ok-condition.after.now c.in-Some.more.now s.1
+    (subst (IsRest (behind_both 38 c.in_ok-condition.after.now)) c.in-Some.is c.behind_both.ensures)
+
+pub conjunction-loop-conditions-preserved : goal.conjunction-loop-conditions-preserved
+conjunction-loop-conditions-preserved t c =
+    let held = c.loop-conditions.invariant in
+    let s = c.in_ok-condition.ensures in
+    let more = subst (IsRest (behind_both 38 c.in_ok-condition.after.now)) c.in-Some.is c.behind_both.ensures in (
+      held.0 ++ s.0 ∷ [],
+      each_pushed (IsBasic (IsExpression c.args.levels)) held.0 s.0 _ _ _ c.in_ok-push.ensures.items held.1 s.2,
+      goes_more (joined_turn 38 (basic_front (expression_front c.args.levels))) (conjunction_shortens c.args.levels) c.args.text.now
+          held.0 c.loop-conditions.rest.now s.0 c.in-Some.more.now held.2
+          (joined_at (basic_front (expression_front c.args.levels)) 38 c.loop-conditions.rest.now s.0 c.in_ok-condition.after.now _
+          s.1 more),
+    )
+
+pub conjunction-returns-in_default : goal.conjunction-returns-in_default
+conjunction-returns-in_default t c =
+    let held = c.loop-conditions.invariant in
+    let s = c.in_ok-condition.ensures in
+    let none = subst (IsRest (behind_both 38 c.in_ok-condition.after.now)) c.in_default.is c.behind_both.ensures in (
+      held.0 ++ s.0 ∷ [],
+      goes_last (joined_turn 38 (basic_front (expression_front c.args.levels))) (conjunction_shortens c.args.levels) c.args.text.now
+          held.0
+          c.loop-conditions.rest.now s.0 c.in_ok-condition.after.now held.2
+          (joined_at (basic_front (expression_front c.args.levels)) 38 c.loop-conditions.rest.now s.0 c.in_ok-condition.after.now _
+          s.1 none),
+      (
+        c.push.new.self,
+        refl,
+        each_pushed (IsBasic (IsExpression c.args.levels)) held.0 s.0 _ _ _ c.in_ok-push.ensures.items held.1 s.2,
+      ),
+    )
+
+pub expression-loop-alternatives-init : goal.expression-loop-alternatives-init
+expression-loop-alternatives-init t c = (
+  [],
+  each_none (IsConjunction (IsExpression (c.args.levels - 1))) _ c.new-alternatives.ensures.items,
+  goes_init (joined_turn 124 (conjunction_front (expression_front (c.args.levels - 1)))) c.args.text.now,
+)
+
+pub expression-loop-alternatives-smaller : goal.expression-loop-alternatives-smaller
+expression-loop-alternatives-smaller t c =
+    let s = c.in_ok-alternative.ensures in
+    conjunction_smaller (c.args.levels - 1) c.loop-alternatives.rest.now s.0 c.in_ok-alternative.after.now c.in-Some.more.now s.1
+    (subst (IsRest (behind_both 124 c.in_ok-alternative.after.now)) c.in-Some.is c.behind_both.ensures)
+
+pub expression-loop-alternatives-preserved : goal.expression-loop-alternatives-preserved
+expression-loop-alternatives-preserved t c =
+    let held = c.loop-alternatives.invariant in
+    let s = c.in_ok-alternative.ensures in
+    let more = subst (IsRest (behind_both 124 c.in_ok-alternative.after.now)) c.in-Some.is c.behind_both.ensures in (
+      held.0 ++ s.0 ∷ [],
+      each_pushed (IsConjunction (IsExpression (c.args.levels - 1))) held.0 s.0 _ _ _ c.in_ok-push.ensures.items held.1 s.2,
+      goes_more (joined_turn 124 (conjunction_front (expression_front (c.args.levels - 1))))
+          (disjunction_shortens (c.args.levels - 1)) c.args.text.now held.0 c.loop-alternatives.rest.now s.0 c.in-Some.more.now held.2
+          (joined_at (conjunction_front (expression_front (c.args.levels - 1))) 124 c.loop-alternatives.rest.now s.0
+          c.in_ok-alternative.after.now _ s.1 more),
+    )
+
+pub expression-returns-in_default : goal.expression-returns-in_default
+expression-returns-in_default t c =
+    let held = c.loop-alternatives.invariant in
+    let s = c.in_ok-alternative.ensures in
+    let none = subst (IsRest (behind_both 124 c.in_ok-alternative.after.now)) c.in_default.is c.behind_both.ensures in
+    expression_at c.args.levels (c.args.levels - 1) c.args.text.now (held.0 ++ s.0 ∷ []) c.in_ok-alternative.after.now _
+    (omega (arith, c.if-levels-eq0.false))
+    (goes_last (joined_turn 124 (conjunction_front (expression_front (c.args.levels - 1)))) (disjunction_shortens (c.args.levels - 1))
+    c.args.text.now held.0 c.loop-alternatives.rest.now s.0 c.in_ok-alternative.after.now held.2
+    (joined_at (conjunction_front (expression_front (c.args.levels - 1))) 124 c.loop-alternatives.rest.now s.0
+    c.in_ok-alternative.after.now _ s.1 none)) (
+      c.push.new.self,
+      refl,
+      each_pushed (IsConjunction (IsExpression (c.args.levels - 1))) held.0 s.0 _ _ _ c.in_ok-push.ensures.items held.1 s.2,
+    )
+
+pub expression-returns-in_err-alternative : goal.expression-returns-in_err-alternative
+expression-returns-in_err-alternative t c =
+    let held = c.loop-alternatives.invariant in
+    refused_as (IsExpression c.args.levels) (expression_front c.args.levels c.args.text.now)
+    (conjunction_front (expression_front (c.args.levels - 1)) c.loop-alternatives.rest.now) c.in_err-alternative.field-0.0 _
+    c.from_residual.ensures.1 c.in_err-alternative.ensures
+    (λ none. expression_none c.args.levels (c.args.levels - 1) c.args.text.now (omega (arith, c.if-levels-eq0.false))
+    (goes_none (joined_turn 124 (conjunction_front (expression_front (c.args.levels - 1)))) (disjunction_shortens (c.args.levels - 1))
+    c.args.text.now held.0 c.loop-alternatives.rest.now held.2
+    (joined_none (conjunction_front (expression_front (c.args.levels - 1))) 124 c.loop-alternatives.rest.now none)))
