@@ -1,7 +1,7 @@
 -- The order of decimals by the place of their first digit, and by their digits.
 use Rattle.std.proofs.Common.{◌≡◌, ◌≢◌, ℕ, zero, suc, ◌+◌, ◌*◌, ◌^◌, ◌<◌, ◌≤◌, Bool, true, false, not, ◌&&◌, ◌==◌, nat_le, cond, List, []}
-use Rattle.std.proofs.Common.{◌∷◌, length, get_or, ℤ, pos, negsuc, neg_ℤ, int_le, int_lt, IsTrue, refl, sym, ap, ◌∙◌, subst, arith, Ordering}
-use Rattle.std.proofs.Common.{Less, Equal, Greater, ⊎_elim, ◌+ℤ◌, true≢false}
+use Rattle.std.proofs.Common.{◌∷◌, length, get_or, ℤ, pos, negsuc, neg_ℤ, int_le, int_lt, IsTrue, refl, sym, ap, ◌∙◌, subst, arith}
+use Rattle.std.proofs.Common.{Ordering, Less, Equal, Greater, ⊎_elim, ◌+ℤ◌, true≢false}
 use Rattle.std.specs.Cmp.{ranks}
 use Rattle.std.specs.Bool.{⊤}
 use Rattle.std.specs.Str.{all_ascii_digits}

@@ -1,11 +1,13 @@
 //! A patch, applied as a whole or not at all.
-ghost use Rattle.std.specs.Prelude.{◌≡◌};
+ghost use Rattle.std.specs.Prelude.{◌≡◌, Some};
 ghost use Rattle.tinyjson.specs.View.{view};
-ghost use Rattle.json_patch.specs.Patch.{actions_of, all_applied, AppliesAll, RunsAll};
+ghost use Rattle.json_patch_document.specs.Message.{apply_error_message};
+ghost use Rattle.json_patch_document.specs.Patch.{actions_of, all_applied, AppliesAll, RunsAll};
 
 use crate::operation::{Operation, OperationError, Reason};
 use std::alloc::{AllocError, Global};
-use std::mem;
+use std::error::Error;
+use std::{fmt, mem};
 use tinyjson::JsonValue;
 
 /// A JSON Patch (RFC 6902): operations that are applied one after the other.
@@ -24,7 +26,7 @@ pub enum ApplyError {
 }
 
 impl From<AllocError> for ApplyError {
-    ghost use Rattle.json_patch.specs.declared.patch.ApplyError.{ApplyError};
+    ghost use Rattle.json_patch_document.specs.declared.patch.ApplyError.{ApplyError};
 
     ghost from_gives = { λ _ e. e ≡ ApplyError.OutOfMemory };
 
@@ -32,6 +34,19 @@ impl From<AllocError> for ApplyError {
         ApplyError::OutOfMemory
     }
 }
+
+impl fmt::Display for ApplyError {
+    ghost output = { λ e. Some (apply_error_message e) };
+
+    fn fmt<W: fmt::Write>(&self, f: &mut fmt::Formatter<W>) -> fmt::Result {
+        match self {
+            ApplyError::Failed(number, reason) => write!(f, "operation {number}: {reason}"),
+            ApplyError::OutOfMemory => f.write_str("out of memory"),
+        }
+    }
+}
+
+impl Error for ApplyError {}
 
 impl Patch {
     /// Applies the operations to the value (RFC 6902, section 5), all or none: after an error the value is

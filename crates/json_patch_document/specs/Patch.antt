@@ -1,11 +1,11 @@
 -- The operations of a patch in turn (RFC 6902, section 5).
 use Rattle.std.specs.Prelude.{◌≡◌, ℕ, suc, List, [], ◌∷◌, Result, Ok, Err, map}
 use Rattle.tinyjson.specs.Tree.{Tree}
-use Rattle.json_patch.specs.Operation.{Action, action_of, applied}
-use Rattle.json_patch.specs.declared.operation.Reason.{Reason}
-use Rattle.json_patch.specs.declared.patch.ApplyError.{ApplyError}
-use Rattle.json_patch.specs.declared.patch.ApplyError.TheVariants.{Failed, OutOfMemory}
-use Rattle.json_patch.specs.declared.patch.Patch.{Patch}
+use Rattle.json_patch_document.specs.Operation.{Action, action_of, applied}
+use Rattle.json_patch_document.specs.declared.operation.Reason.{Reason}
+use Rattle.json_patch_document.specs.declared.patch.ApplyError.{ApplyError}
+use Rattle.json_patch_document.specs.declared.patch.ApplyError.TheVariants.{Failed, OutOfMemory}
+use Rattle.json_patch_document.specs.declared.patch.Patch.{Patch}
 
 abbrev pub actions_of : Patch → List Action
 actions_of p = map action_of p.operations.items

@@ -2,8 +2,8 @@
 ghost use Rattle.std.specs.Prelude.{◌≡◌, Some};
 ghost use Rattle.tinyjson.specs.View.{view};
 ghost use Rattle.json_pointer.specs.Tokens.{tokens_of};
-ghost use Rattle.json_patch.specs.Operation.{action_of, applied, added, removed, replaced, moved};
-ghost use Rattle.json_patch.specs.Operation.{stayed, copied, copy_of, tested, Applies, Copies};
+ghost use Rattle.json_patch_document.specs.Operation.{action_of, applied, added, removed, replaced, moved};
+ghost use Rattle.json_patch_document.specs.Operation.{stayed, copied, copy_of, tested, Applies, Copies};
 
 use json_pointer::{InsertError, Pointer};
 use std::alloc::{AllocError, Global};
@@ -46,7 +46,7 @@ pub enum Reason {
 }
 
 impl fmt::Display for Reason {
-    ghost use Rattle.json_patch.specs.Operation.{reason_message};
+    ghost use Rattle.json_patch_document.specs.Operation.{reason_message};
 
     ghost output = { λ r. Some (reason_message r) };
 
@@ -72,7 +72,7 @@ pub enum OperationError {
 }
 
 impl From<AllocError> for OperationError {
-    ghost use Rattle.json_patch.specs.declared.operation.OperationError.{OperationError};
+    ghost use Rattle.json_patch_document.specs.declared.operation.OperationError.{OperationError};
 
     ghost from_gives = { λ _ e. e ≡ OperationError.OutOfMemory };
 

@@ -7,12 +7,13 @@ use Rattle.tinyjson.specs.declared.value.JsonValue.{JsonValue}
 use Rattle.json_pointer.specs.Change.{with_new_part, without_part}
 use Rattle.json_pointer.specs.Tokens.{tokens_of, begins_with}
 use Rattle.json_pointer.specs.Walk.{part_at, with_part}
-use Rattle.json_patch.specs.declared.operation.Operation.{Operation}
-use Rattle.json_patch.specs.declared.operation.Operation.TheVariants as made
-use Rattle.json_patch.specs.declared.operation.OperationError.{OperationError}
-use Rattle.json_patch.specs.declared.operation.OperationError.TheVariants.{Failed, OutOfMemory}
-use Rattle.json_patch.specs.declared.operation.Reason.{Reason}
-use Rattle.json_patch.specs.declared.operation.Reason.TheVariants.{NoPlace, NoTarget, NoSource, WholeRemoved, IntoItself, Different}
+use Rattle.json_patch_document.specs.declared.operation.Operation.{Operation}
+use Rattle.json_patch_document.specs.declared.operation.Operation.TheVariants as made
+use Rattle.json_patch_document.specs.declared.operation.OperationError.{OperationError}
+use Rattle.json_patch_document.specs.declared.operation.OperationError.TheVariants.{Failed, OutOfMemory}
+use Rattle.json_patch_document.specs.declared.operation.Reason.{Reason}
+use Rattle.json_patch_document.specs.declared.operation.Reason.TheVariants.{NoPlace, NoTarget, NoSource, WholeRemoved}
+use Rattle.json_patch_document.specs.declared.operation.Reason.TheVariants.{IntoItself, Different}
 
 pub data Action : Type 0 where
   add : List (List ℕ) → Tree → Action

@@ -1,0 +1,93 @@
+-- What is written of the texts of a patch and of a value.
+use Rattle.std.specs.Prelude.{◌≡◌, ℕ, List, [], ◌∷◌, ◌++◌, Option, Some, None, Result, Ok, Err, ◌⊎◌, codes, encode_utf8_all}
+use Rattle.std.specs.Io.KnownBytes.{Appends}
+use Rattle.tinyjson.specs.Characters.{line_feed}
+use Rattle.tinyjson.specs.Error.{error_kind, error_message}
+use Rattle.tinyjson.specs.Grammar.{IsText, IsAccepted}
+use Rattle.tinyjson.specs.JsonParseErrorKind.TheVariants as kind
+use Rattle.tinyjson.specs.Parser.{ParsesText}
+use Rattle.tinyjson.specs.Text.{compact}
+use Rattle.tinyjson.specs.Tree.{Tree}
+use Rattle.tinyjson.specs.Written.{WrittenPart}
+use Rattle.json_patch_document.specs.Document.{IsPatch, ReadsPatch}
+use Rattle.json_patch_document.specs.Message.{patch_error_message, numbered_message}
+use Rattle.json_patch_document.specs.Operation.{Action, reason_message}
+use Rattle.json_patch_document.specs.Patch.{all_applied}
+use Rattle.json_patch_document.specs.declared.fault.PatchError.{PatchError}
+use Rattle.json_patch_document.specs.declared.fault.PatchError.TheVariants as document
+use Rattle.json_patch_document.specs.declared.operation.Reason.{Reason}
+use Rattle.json_patch.specs.declared.apply.PatchingError.{PatchingError}
+use Rattle.json_patch.specs.declared.apply.PatchingError.TheVariants.{BadText, BadPatch, Refused, Failed, OutOfMemory, Writing}
+use Rattle.tinyjson.specs.declared.parser.error.JsonParseError.{JsonParseError}
+
+abbrev pub status_of : PatchingError → ℕ
+status_of (Failed n r) = 1
+status_of (BadText e) = 2
+status_of (BadPatch e) = 2
+status_of (Refused e) = 3
+status_of OutOfMemory = 4
+status_of Writing = 4
+
+-- the message of an error; of a text that is refused its reader's
+abbrev pub patching_error_message : PatchingError → List ℕ
+patching_error_message (BadText e) = codes "the patch: " ++ error_message e
+patching_error_message (BadPatch e) = codes "the patch: " ++ patch_error_message e
+patching_error_message (Refused e) = error_message e
+patching_error_message (Failed n r) = numbered_message n (reason_message r)
+patching_error_message OutOfMemory = codes "out of memory"
+patching_error_message Writing = codes "writing failed"
+
+-- how many containers of a patch may be open at once
+abbrev pub patch_depth : Option ℕ
+patch_depth = Some 1000
+
+-- the compact text in UTF-8, and a line feed
+abbrev pub line_of : Tree → List ℕ
+line_of t = encode_utf8_all (compact t) ++ line_feed ∷ []
+
+-- a write failed; the error is out of memory where that was wanted
+abbrev pub IsFailedWrite : Type 0 → PatchingError → Type 0
+IsFailedWrite wanted error = (wanted × (error ≡ OutOfMemory)) ⊎ (¬ wanted × (error ≡ Writing))
+
+-- the reader refuses the text, which is none under the limit
+abbrev pub IsRefused : Option ℕ → List ℕ → JsonParseError → Type 0
+IsRefused limit text e = ParsesText limit text (Err e) × ¬ (error_kind e ≡ kind.OutOfMemory) × ¬ IsAccepted limit text
+
+-- the document is that of no patch, as its reader says
+abbrev pub IsNoPatch : Tree → PatchError → Type 0
+IsNoPatch d e = ReadsPatch d (Err e) × ¬ (e ≡ document.OutOfMemory)
+
+-- The line of the tree is written, or a prefix of it where that failed.
+abbrev pub WritesLine : Tree → Option (List ℕ) → Option (List ℕ) → Result (Unit {0}) PatchingError → Type 0
+WritesLine t old new (Ok _) = Appends old new (line_of t)
+WritesLine t old new (Err Writing) = WrittenPart old new (line_of t)
+WritesLine t old new (Err OutOfMemory) = WrittenPart old new (line_of t)
+WritesLine t old new (Err _) = ⊥
+
+-- So it is of the tree t after the operations; or one of them fails, or memory ran out, and nothing is written.
+abbrev pub AppliesTree : List Action → Tree → Option (List ℕ) → Option (List ℕ) → Result (Unit {0}) PatchingError → Type 0
+AppliesTree actions t old new (Err (Failed n r)) = (all_applied 0 actions t ≡ Err (n, r)) × (new ≡ old)
+AppliesTree actions t old new (Err OutOfMemory) =
+    (new ≡ old) ⊎ ((u : Tree) × (all_applied 0 actions t ≡ Ok u) × WritesLine u old new (Err OutOfMemory))
+AppliesTree actions t old new result = (u : Tree) × (all_applied 0 actions t ≡ Ok u) × WritesLine u old new result
+
+-- So it is of the tree of a text; or the text is none, as its reader says, or memory ran out, and nothing is written.
+abbrev pub AppliesText : List Action → List ℕ → Option (List ℕ) → Option (List ℕ) → Result (Unit {0}) PatchingError → Type 0
+AppliesText actions text old new (Err (Refused e)) = IsRefused None text e × (new ≡ old)
+AppliesText actions text old new (Err OutOfMemory) =
+    (new ≡ old) ⊎ ((t : Tree) × IsText None text t × AppliesTree actions t old new (Err OutOfMemory))
+AppliesText actions text old new result = (t : Tree) × IsText None text t × AppliesTree actions t old new result
+
+-- So it is of the operations of a document; or it is that of no patch, or memory ran out, and nothing is written.
+abbrev pub AppliesDocument : Tree → List ℕ → Option (List ℕ) → Option (List ℕ) → Result (Unit {0}) PatchingError → Type 0
+AppliesDocument d text old new (Err (BadPatch e)) = IsNoPatch d e × (new ≡ old)
+AppliesDocument d text old new (Err OutOfMemory) =
+    (new ≡ old) ⊎ ((actions : List Action) × IsPatch d actions × AppliesText actions text old new (Err OutOfMemory))
+AppliesDocument d text old new result = (actions : List Action) × IsPatch d actions × AppliesText actions text old new result
+
+-- So it is of the document of the patch's text; or that is none, as its reader says, or memory ran out, and nothing is written.
+abbrev pub WritesPatched : List ℕ → List ℕ → Option (List ℕ) → Option (List ℕ) → Result (Unit {0}) PatchingError → Type 0
+WritesPatched patch text old new (Err (BadText e)) = IsRefused patch_depth patch e × (new ≡ old)
+WritesPatched patch text old new (Err OutOfMemory) =
+    (new ≡ old) ⊎ ((d : Tree) × IsText patch_depth patch d × AppliesDocument d text old new (Err OutOfMemory))
+WritesPatched patch text old new result = (d : Tree) × IsText patch_depth patch d × AppliesDocument d text old new result

@@ -1,0 +1,5 @@
+pub mod Document
+pub mod Message
+pub mod Operation
+pub mod Patch
+pub mod Reading
