@@ -1,3 +1,4 @@
 pub mod Parts
 pub mod Items
 pub mod Values
+pub mod Writing

@@ -5,3 +5,4 @@ pub mod Queries
 pub mod Finding
 pub mod Paths
 pub mod Seen
+pub mod Lines

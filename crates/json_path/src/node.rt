@@ -9,11 +9,27 @@ use tinyjson::JsonValue;
 
 /// Where a node stands in the value that a query is asked of: its normalized path (RFC 9535, 2.7). A
 /// location shares the one of its parent.
-#[derive(Drop)]
 pub enum Location<'v> {
     Root,
     Member(Rc<Location<'v>>, &'v String),
     Item(Rc<Location<'v>>, usize),
+}
+
+/// Those above that no node shares are freed too, by a loop.
+impl Drop for Location<'_> {
+    fn drop(mut self) {
+        loop {
+            let up = match self {
+                Location::Root => return,
+                Location::Member(up, _) => up,
+                Location::Item(up, _) => up,
+            };
+            match Rc::into_inner(up) {
+                Some(location) => self = location,
+                None => return,
+            }
+        }
+    }
 }
 
 /// A node (RFC 9535, 1.1): a part of the value that a query is asked of, and its location there.

@@ -1,0 +1,81 @@
+-- What is written of a query and a text.
+use Rattle.std.specs.Prelude.{◌≡◌, ◌≢◌, ℕ, List, [], ◌∷◌, ◌++◌, Option, None, Result, Ok, Err, ◌⊎◌, true, false, codes}
+use Rattle.std.specs.Prelude.{encode_utf8_all}
+use Rattle.std.specs.Io.KnownBytes.{Appends}
+use Rattle.tinyjson.specs.Characters.{line_feed}
+use Rattle.tinyjson.specs.Error.{error_kind, error_message}
+use Rattle.tinyjson.specs.Grammar.{IsText, IsAccepted}
+use Rattle.tinyjson.specs.JsonParseErrorKind.TheVariants as kind
+use Rattle.tinyjson.specs.Parser.{ParsesText}
+use Rattle.tinyjson.specs.Text.{compact}
+use Rattle.tinyjson.specs.Tree.{Tree}
+use Rattle.tinyjson.specs.Written.{WrittenPart}
+use Rattle.json_path_query.specs.Message as query
+use Rattle.json_path_query.specs.Reading.{Reads}
+use Rattle.json_path_query.specs.declared.error.ParseErrorKind.TheVariants as refusal
+use Rattle.json_path_query.specs.declared.query.Query.{Query}
+use Rattle.json_path.specs.Nodes.{Part}
+use Rattle.json_path.specs.Paths.{path_text}
+use Rattle.json_path.specs.Queries.{query_parts, has_filter}
+use Rattle.json_path.specs.declared.lines.Form.{Form}
+use Rattle.json_path.specs.declared.lines.Form.TheVariants.{Value, Path}
+use Rattle.json_path.specs.declared.lines.PathError.{PathError}
+use Rattle.json_path.specs.declared.lines.PathError.TheVariants.{BadQuery, Filter, Refused, NoNode, OutOfMemory, Writing}
+
+abbrev pub status_of : PathError → ℕ
+status_of NoNode = 1
+status_of (BadQuery e) = 2
+status_of Filter = 2
+status_of (Refused e) = 3
+status_of OutOfMemory = 4
+status_of Writing = 4
+
+-- the message of an error; of a text that is no query and of a refused one its reader's
+abbrev pub path_error_message : PathError → List ℕ
+path_error_message (BadQuery e) = codes "the query: " ++ query.error_message e
+path_error_message Filter = codes "the query: filters are not supported"
+path_error_message (Refused e) = error_message e
+path_error_message NoNode = codes "the query selects no node"
+path_error_message OutOfMemory = codes "out of memory"
+path_error_message Writing = codes "writing failed"
+
+-- what is shown of a part: its compact text, or its normalized path
+abbrev pub form_text : Form → Part → List ℕ
+form_text Value p = compact p.tree
+form_text Path p = path_text p.path
+
+-- that in UTF-8, and a line feed
+abbrev pub line_of : Form → Part → List ℕ
+line_of form p = encode_utf8_all (form_text form p) ++ line_feed ∷ []
+
+abbrev pub lines_of : Form → List Part → List ℕ
+lines_of form [] = []
+lines_of form (p ∷ ps) = line_of form p ++ lines_of form ps
+
+-- a write failed; the error is out of memory where that was wanted
+abbrev pub IsFailedWrite : Type 0 → PathError → Type 0
+IsFailedWrite wanted error = (wanted × (error ≡ OutOfMemory)) ⊎ (¬ wanted × (error ≡ Writing))
+
+-- Of a tree the lines of the parts that the query selects are written, or a prefix of them where that failed; or it selects none.
+abbrev pub WritesNodes : Form → Query → Tree → Option (List ℕ) → Option (List ℕ) → Result (Unit {0}) PathError → Type 0
+WritesNodes form q t old new (Ok _) = (query_parts q t ≢ []) × (has_filter q ≡ false) × Appends old new (lines_of form (query_parts q t))
+WritesNodes form q t old new (Err NoNode) = (query_parts q t ≡ []) × (has_filter q ≡ false) × (new ≡ old)
+WritesNodes form q t old new (Err Filter) = (has_filter q ≡ true) × (new ≡ old)
+WritesNodes form q t old new (Err Writing) = (has_filter q ≡ false) × WrittenPart old new (lines_of form (query_parts q t))
+WritesNodes form q t old new (Err OutOfMemory) = (has_filter q ≡ false) × WrittenPart old new (lines_of form (query_parts q t))
+WritesNodes form q t old new (Err _) = ⊥
+
+-- So it is of the tree of a text; or the text is none, as its reader says, or memory ran out, and nothing is written.
+abbrev pub WritesOfText : Form → Query → List ℕ → Option (List ℕ) → Option (List ℕ) → Result (Unit {0}) PathError → Type 0
+WritesOfText form q text old new (Err (Refused e)) =
+    ParsesText None text (Err e) × ¬ (error_kind e ≡ kind.OutOfMemory) × ¬ IsAccepted None text × (new ≡ old)
+WritesOfText form q text old new (Err OutOfMemory) =
+    (new ≡ old) ⊎ ((t : Tree) × IsText None text t × WritesNodes form q t old new (Err OutOfMemory))
+WritesOfText form q text old new result = (t : Tree) × IsText None text t × WritesNodes form q t old new result
+
+-- So it is of the query of a text; or that is none, as its reader says, and nothing is written.
+abbrev pub WritesSelected : Form → List ℕ → List ℕ → Option (List ℕ) → Option (List ℕ) → Result (Unit {0}) PathError → Type 0
+WritesSelected form query text old new (Err (BadQuery e)) = Reads query (Err e) × (e.kind ≢ refusal.OutOfMemory) × (new ≡ old)
+WritesSelected form query text old new (Err OutOfMemory) =
+    (new ≡ old) ⊎ ((q : Query) × Reads query (Ok q) × WritesOfText form q text old new (Err OutOfMemory))
+WritesSelected form query text old new result = (q : Query) × Reads query (Ok q) × WritesOfText form q text old new result
