@@ -15,7 +15,6 @@ use Rattle.json_patch_document.specs.Operation.{Action, reason_message}
 use Rattle.json_patch_document.specs.Patch.{all_applied}
 use Rattle.json_patch_document.specs.declared.fault.PatchError.{PatchError}
 use Rattle.json_patch_document.specs.declared.fault.PatchError.TheVariants as document
-use Rattle.json_patch_document.specs.declared.operation.Reason.{Reason}
 use Rattle.json_patch.specs.declared.apply.PatchingError.{PatchingError}
 use Rattle.json_patch.specs.declared.apply.PatchingError.TheVariants.{BadText, BadPatch, Refused, Failed, OutOfMemory, Writing}
 use Rattle.tinyjson.specs.declared.parser.error.JsonParseError.{JsonParseError}

@@ -15,7 +15,7 @@ use Rattle.tinyjson.proofs.Callers.{view_ref, no_array, find_get_literal}
 use Rattle.tinyjson.specs.Access.{JsonMap, is_array, is_object, is_string}
 use Rattle.tinyjson.specs.Index.{tree_at_key, nth, item_count}
 use Rattle.tinyjson.specs.Tree.{Tree, string, array, object, Items, no_items, item}
-use Rattle.tinyjson.specs.View.{view, text, items_view, members_view}
+use Rattle.tinyjson.specs.View.{view, text, items_view}
 use Rattle.tinyjson.specs.declared.value.JsonValue.{JsonValue}
 use Rattle.tinyjson.specs.declared.value.JsonValue.TheVariants as is
 use Rattle.json_pointer.specs.Reading.{IsNoPointer, Reads}
@@ -30,7 +30,6 @@ use Rattle.json_patch_document.specs.Document.{NeedsPointer, NeedsString, Needs,
 use Rattle.json_patch_document.specs.Operation.{Action, add, remove, replace, move, copy, test, action_of}
 use Rattle.json_patch_document.specs.Patch.{actions_of}
 use Rattle.json_patch_document.specs.Reading.{IsNoOperation, Refused}
-use Rattle.json_patch_document.specs.declared.document.ReadError.{ReadError}
 use Rattle.json_patch_document.specs.declared.document.ReadError.TheVariants.{Malformed}
 use Rattle.json_patch_document.specs.declared.fault.Fault.{Fault}
 use Rattle.json_patch_document.specs.declared.fault.Fault.TheVariants as fault

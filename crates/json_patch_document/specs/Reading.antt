@@ -1,6 +1,6 @@
 -- What reading the parts of a patch document returns.
 use Rattle.std.specs.Borrow.{Bor}
-use Rattle.std.specs.Prelude.{◌≡◌, List, ℕ, Result, MatchResult, IsTrue, String, codes}
+use Rattle.std.specs.Prelude.{List, ℕ, Result, MatchResult, IsTrue, String, codes}
 use Rattle.std.specs.declared.alloc.Global.{Global}
 use Rattle.tinyjson.specs.Access.{is_object}
 use Rattle.tinyjson.specs.Tree.{Tree}
