@@ -1,4 +1,4 @@
-//! Numbers read from a source by their parts (RFC 8259, section 6).
+//! Numbers read piece by piece (RFC 8259, section 6).
 ghost use Rattle.std.specs.Prelude.{◌≡◌, ◌==◌, ◌<◌, ◌≤◌, [], ℕ, List, Bool};
 ghost use Rattle.std.specs.Prelude.{OnOk, Option, Some, None, length, true};
 ghost use Rattle.std.specs.Prelude.{if◌then◌else◌, option_map, string_bytes};
@@ -32,43 +32,9 @@ struct Marks {
 }
 
 impl<S: Tokens> TokenReader<S> {
-    /// Reads the number whose first character, a minus sign or a digit, comes next.
-    #[inline(always)]
-    pub fn number(&mut self) -> Result<JsonNumber, JsonParseErrorKind>
-        requires begins { BeginsNumber S.sight self.old.source }
-        ensures reads { (limit : Option ℕ) (fs : List Frame) →
-            Reads S.sight limit self.old.source (next fs awaited) result
-            (λ n. complete true fs (number n.decimal) true) self.new.source }
-        ensures left { OnOk result (S.left self.new.source < S.left self.old.source) }
-    {
-        if let Some((parts, after)) = self.source.numeral() {
-            if let Ok(number) = JsonNumber::from_parts(self.alloc, parts) {
-                self.source = after;
-                return Ok(number);
-            }
-        }
-        self.long_number()
-    }
-
-    /// Reads the number by its exponent, or piece by piece.
-    #[inline(never)]
-    fn long_number(&mut self) -> Result<JsonNumber, JsonParseErrorKind>
-        requires begins { BeginsNumber S.sight self.old.source }
-        ensures reads { (limit : Option ℕ) (fs : List Frame) →
-            Reads S.sight limit self.old.source (next fs awaited) result
-            (λ n. complete true fs (number n.decimal) true) self.new.source }
-        ensures left { OnOk result (S.left self.new.source < S.left self.old.source) }
-    {
-        if let Some((number, after)) = self.source.scientific(self.alloc) {
-            self.source = after;
-            return Ok(number);
-        }
-        self.gathered_number()
-    }
-
     /// Reads the number by its parts, whose digits are gathered.
     #[inline(always)]
-    fn gathered_number(&mut self) -> Result<JsonNumber, JsonParseErrorKind>
+    pub(crate) fn gathered_number(&mut self) -> Result<JsonNumber, JsonParseErrorKind>
         requires begins { BeginsNumber S.sight self.old.source }
         ensures reads { (limit : Option ℕ) (fs : List Frame) →
             Reads S.sight limit self.old.source (next fs awaited) result

@@ -1,11 +1,12 @@
-//! The reader of tokens: what it holds, white space, literals, and strings from their opening quote on.
+//! The reader of tokens, each read by one call, and by the shortest way where the source has its characters in memory.
 ghost use Rattle.std.specs.Prelude.{◌≡◌, ℕ, ◌<◌, ◌≤◌, List, [], ◌∷◌, true, false, OnOk, IfSome};
 ghost use Rattle.std.specs.Prelude.{Option, Some};
 ghost use Rattle.std.specs.Str.{chars};
 ghost use Rattle.tinyjson_grammar.specs.Characters.{is_white, quotation_mark, text};
-ghost use Rattle.tinyjson_grammar.specs.Machine.{Frame, awaited, complete, next};
+ghost use Rattle.tinyjson_grammar.specs.Machine.{Frame, awaited, complete, next, plain, quoted};
 ghost use Rattle.tinyjson_grammar.specs.Position.{position_at};
-ghost use Rattle.tinyjson_grammar.specs.Tree.{Tree, string};
+ghost use Rattle.tinyjson_grammar.specs.Tree.{Tree, number, string};
+ghost use Rattle.tinyjson_tokens.specs.NumberSteps.{BeginsNumber};
 ghost use Rattle.tinyjson_tokens.specs.Source.{Takes, Whites};
 ghost use Rattle.tinyjson_tokens.specs.Steps.{BeginsLiteral, NeedsNone, Reads, letters_left};
 ghost use Rattle.tinyjson_tokens.specs.Steps.{literal_tree};
@@ -13,6 +14,7 @@ ghost use Rattle.tinyjson_tokens.specs.Steps.{literal_tree};
 use crate::tokens::Tokens;
 use std::alloc::Global;
 use tinyjson_grammar::JsonParseErrorKind;
+use tinyjson_number::JsonNumber;
 
 /// Reads literals, strings and numbers from a source of characters.
 #[derive(Drop)]
@@ -73,7 +75,7 @@ impl<S: Tokens> TokenReader<S> {
 
     /// Reads the string whose opening quote comes next.
     #[inline(always)]
-    pub fn quoted_string(&mut self) -> Result<String, JsonParseErrorKind>
+    pub fn string(&mut self) -> Result<String, JsonParseErrorKind>
         requires shown { S.sight.shows self.old.source (Some quotation_mark) }
         ensures reads { (limit : Option ℕ) (fs : List Frame) →
             Reads S.sight limit self.old.source (next fs awaited) result
@@ -81,7 +83,57 @@ impl<S: Tokens> TokenReader<S> {
         ensures left { OnOk result (S.left self.new.source < S.left self.old.source) }
     {
         self.source.consume('"');
-        self.string()
+        self.after_quote()
+    }
+
+    /// Reads the rest of a string, after its opening quote.
+    #[inline(always)]
+    fn after_quote(&mut self) -> Result<String, JsonParseErrorKind>
+        ensures reads { (limit : Option ℕ) (fs : List Frame) →
+            Reads S.sight limit self.old.source (next fs (quoted plain [] [])) result
+            (λ s. complete true fs (string (text s)) true) self.new.source }
+        ensures left { S.left self.new.source ≤ S.left self.old.source }
+    {
+        self.buffer.clear();
+        match self.source.quoted(self.alloc, &mut self.buffer) {
+            Ok(Some(string)) => Ok(string),
+            Ok(None) => self.escaped(),
+            Err(_) => Err(JsonParseErrorKind::OutOfMemory),
+        }
+    }
+
+    /// Reads the number whose first character, a minus sign or a digit, comes next.
+    #[inline(always)]
+    pub fn number(&mut self) -> Result<JsonNumber, JsonParseErrorKind>
+        requires begins { BeginsNumber S.sight self.old.source }
+        ensures reads { (limit : Option ℕ) (fs : List Frame) →
+            Reads S.sight limit self.old.source (next fs awaited) result
+            (λ n. complete true fs (number n.decimal) true) self.new.source }
+        ensures left { OnOk result (S.left self.new.source < S.left self.old.source) }
+    {
+        if let Some((parts, after)) = self.source.numeral() {
+            if let Ok(number) = JsonNumber::from_parts(self.alloc, parts) {
+                self.source = after;
+                return Ok(number);
+            }
+        }
+        self.long_number()
+    }
+
+    /// Reads the number by its exponent, or piece by piece.
+    #[inline(never)]
+    fn long_number(&mut self) -> Result<JsonNumber, JsonParseErrorKind>
+        requires begins { BeginsNumber S.sight self.old.source }
+        ensures reads { (limit : Option ℕ) (fs : List Frame) →
+            Reads S.sight limit self.old.source (next fs awaited) result
+            (λ n. complete true fs (number n.decimal) true) self.new.source }
+        ensures left { OnOk result (S.left self.new.source < S.left self.old.source) }
+    {
+        if let Some((number, after)) = self.source.scientific(self.alloc) {
+            self.source = after;
+            return Ok(number);
+        }
+        self.gathered_number()
     }
 
     /// Reads the literal that begins with this letter, which comes next: a boolean, or `None` for `null`.

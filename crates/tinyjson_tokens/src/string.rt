@@ -1,4 +1,4 @@
-//! Strings (RFC 8259, section 7).
+//! Strings read piece by piece (RFC 8259, section 7).
 ghost use Rattle.std.specs.Prelude.{◌≡◌, ℕ, ◌<◌, ◌≤◌, List, [], ◌∷◌, ◌++◌, true, false};
 ghost use Rattle.std.specs.Prelude.{MatchResult, OnOk, Option, cond};
 ghost use Rattle.tinyjson_grammar.specs.Characters.{paired, decode, text};
@@ -16,25 +16,9 @@ use tinyjson_bytes::is_plain;
 use tinyjson_grammar::JsonParseErrorKind;
 
 impl<S: Tokens> TokenReader<S> {
-    /// Reads the rest of a string, after its opening quote.
-    #[inline(always)]
-    pub fn string(&mut self) -> Result<String, JsonParseErrorKind>
-        ensures reads { (limit : Option ℕ) (fs : List Frame) →
-            Reads S.sight limit self.old.source (next fs (quoted plain [] [])) result
-            (λ s. complete true fs (string (text s)) true) self.new.source }
-        ensures left { S.left self.new.source ≤ S.left self.old.source }
-    {
-        self.buffer.clear();
-        match self.source.quoted(self.alloc, &mut self.buffer) {
-            Ok(Some(string)) => Ok(string),
-            Ok(None) => self.escaped(),
-            Err(_) => Err(JsonParseErrorKind::OutOfMemory),
-        }
-    }
-
     /// Reads the rest of a string, after the plain characters in the buffer.
     #[inline(never)]
-    fn escaped(&mut self) -> Result<String, JsonParseErrorKind>
+    pub(crate) fn escaped(&mut self) -> Result<String, JsonParseErrorKind>
         ensures reads { (limit : Option ℕ) (fs : List Frame) →
             Reads S.sight limit self.old.source (within fs self.old.buffer [] false) result
             (λ s. complete true fs (string (text s)) true) self.new.source }

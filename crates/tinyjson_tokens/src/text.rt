@@ -8,11 +8,14 @@ ghost use Rattle.tinyjson_tokens.specs.Slice.{before, chars_after, run_end, Next
 ghost use Rattle.tinyjson_tokens.specs.Slice.Laws.{line_bound, column_bound, shown_once};
 ghost use Rattle.tinyjson_tokens.specs.Slice.Laws.{shown_first, nothing_left};
 
+use crate::escape::escape_at;
 use crate::place::place_after;
 use crate::source::Source;
+use crate::tokens::Tokens;
 use crate::utf16::push;
 use std::alloc::{AllocError, Global};
 use tinyjson_bytes::{digits_end, plain_end, white_end};
+use tinyjson_number::{JsonNumber, NumberParts, number_at, plain_number_at};
 
 /// A text, and how many of its bytes were consumed. Line and column are counted when they are asked for.
 #[derive(Drop)]
@@ -179,6 +182,39 @@ impl<'a> Source for TextBytes<'a> {
 
     fn position(&self) -> (usize, usize) {
         place_after(&self.text[..self.at])
+    }
+}
+
+impl<'a> Tokens for TextBytes<'a> {
+    fn escaped(&mut self, string: &mut String) -> Result<(), AllocError> {
+        self.plain(string)?;
+        while let Some((c, end)) = escape_at(self.text.as_bytes(), self.at) {
+            push(string, c)?;
+            self.at = end;
+            self.letters(string)?;
+        }
+        Ok(())
+    }
+
+    fn numeral(&self) -> Option<(NumberParts<'_>, Self)> {
+        let (parts, end) = plain_number_at(self.text.as_bytes(), self.at)?;
+        let after = TextBytes {
+            text: self.text,
+            at: end,
+        };
+        Some((parts, after))
+    }
+
+    fn scientific(&self, alloc: Global) -> Option<(JsonNumber, Self)> {
+        let (parts, end) = number_at(self.text.as_bytes(), self.at)?;
+        let after = TextBytes {
+            text: self.text,
+            at: end,
+        };
+        match JsonNumber::from_parts(alloc, parts) {
+            Ok(number) => Some((number, after)),
+            Err(_) => None,
+        }
     }
 }
 

@@ -6,12 +6,9 @@ ghost use Rattle.tinyjson_tokens.specs.Numerals.{TakesNumber, TakesParts};
 ghost use Rattle.tinyjson_tokens.specs.Steps.{Halts, Leads, within};
 
 use crate::cursor::Characters;
-use crate::escape::escape_at;
 use crate::source::Source;
-use crate::text::TextBytes;
-use crate::utf16::push;
 use std::alloc::{AllocError, Global};
-use tinyjson_number::{JsonNumber, NumberParts, number_at, plain_number_at};
+use tinyjson_number::{JsonNumber, NumberParts};
 
 /// A source of which the parser reads.
 pub trait Tokens: Source {
@@ -49,36 +46,3 @@ pub trait Tokens: Source {
 }
 
 impl<I: Iterator<Item = char>> Tokens for Characters<I> {}
-
-impl<'a> Tokens for TextBytes<'a> {
-    fn escaped(&mut self, string: &mut String) -> Result<(), AllocError> {
-        self.plain(string)?;
-        while let Some((c, end)) = escape_at(self.text.as_bytes(), self.at) {
-            push(string, c)?;
-            self.at = end;
-            self.letters(string)?;
-        }
-        Ok(())
-    }
-
-    fn numeral(&self) -> Option<(NumberParts<'_>, Self)> {
-        let (parts, end) = plain_number_at(self.text.as_bytes(), self.at)?;
-        let after = TextBytes {
-            text: self.text,
-            at: end,
-        };
-        Some((parts, after))
-    }
-
-    fn scientific(&self, alloc: Global) -> Option<(JsonNumber, Self)> {
-        let (parts, end) = number_at(self.text.as_bytes(), self.at)?;
-        let after = TextBytes {
-            text: self.text,
-            at: end,
-        };
-        match JsonNumber::from_parts(alloc, parts) {
-            Ok(number) => Some((number, after)),
-            Err(_) => None,
-        }
-    }
-}

@@ -168,7 +168,7 @@ impl<S: Tokens> Reader<S> {
     {
         match self.tokens.skip_white() {
             Some('"') => {
-                let key = self.tokens.quoted_string()?;
+                let key = self.tokens.string()?;
                 self.colon(stack, key)
             }
             _ => Ok(Progress::Awaits),

@@ -66,7 +66,7 @@ impl<S: Tokens> Reader<S> {
             (next (frames stack.old) awaited) result stack.new self.new.tokens.source }
         ensures left { OnOk result (S.left self.new.tokens.source < S.left self.old.tokens.source) }
     {
-        let string = self.tokens.quoted_string()?;
+        let string = self.tokens.string()?;
         self.complete(stack, JsonValue::String(string))
     }
 

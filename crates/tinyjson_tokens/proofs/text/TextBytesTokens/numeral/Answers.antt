@@ -2,7 +2,7 @@ use Rattle.std.proofs.Common.{arith, refl, subst}
 use Rattle.std.proofs.lemmas.Str.{IsUtf8-had}
 use Rattle.tinyjson_number.specs.Scan.{PartsAt}
 use Rattle.tinyjson_tokens.proofs.Reading.Numerals.{numeral_boundary, numeral_some, numeral_taken, parts_room}
-use Rattle.tinyjson_tokens.proofs.tokens.TextBytesTokens.numeral.Goals as goal
+use Rattle.tinyjson_tokens.proofs.text.TextBytesTokens.numeral.Goals as goal
 
 pub invariant_of-after : goal.invariant_of-after
 invariant_of-after c =

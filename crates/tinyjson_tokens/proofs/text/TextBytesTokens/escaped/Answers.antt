@@ -6,7 +6,7 @@ use Rattle.tinyjson_tokens.proofs.Reading.Escape.{escape_boundary, escape_added,
 use Rattle.tinyjson_tokens.proofs.Letters.{text_sight}
 use Rattle.tinyjson_tokens.proofs.Reading.Steps.{Halts_here}
 use Rattle.tinyjson_tokens.proofs.Reading.String.{plain_added, plain_halts}
-use Rattle.tinyjson_tokens.proofs.tokens.TextBytesTokens.escaped.Goals as goal
+use Rattle.tinyjson_tokens.proofs.text.TextBytesTokens.escaped.Goals as goal
 
 pub returns-in_err-plain-clause-reads : goal.returns-in_err-plain-clause-reads
 returns-in_err-plain-clause-reads c = λ limit fs.

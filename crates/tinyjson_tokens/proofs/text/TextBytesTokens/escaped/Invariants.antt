@@ -2,7 +2,7 @@ use Rattle.std.proofs.Common.{◌-◌, ◌≤◌, ℕ, Option, List, [], false, 
 use Rattle.tinyjson_grammar.specs.Machine.{Frame}
 use Rattle.tinyjson_tokens.proofs.Letters.{text_sight}
 use Rattle.tinyjson_tokens.specs.Steps.{Leads, within}
-use Rattle.tinyjson_tokens.proofs.tokens.TextBytesTokens.escaped.Given as goal
+use Rattle.tinyjson_tokens.proofs.text.TextBytesTokens.escaped.Given as goal
 
 abbrev pub invariant-loop-c : goal.invariant-loop-c
 invariant-loop-c l = record {
