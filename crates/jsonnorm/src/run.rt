@@ -1,16 +1,24 @@
 //! From the bytes of a reader to a value's normal text in a writer.
-ghost use Rattle.std.specs.Prelude.{None, Some};
+ghost use Rattle.std.specs.Prelude.{◌<◌, ◌∷◌, [], IfOk, None, Some, vec_len};
 ghost use Rattle.std.specs.Str.{chars};
+ghost use Rattle.tinyjson.specs.Characters.{line_feed};
 ghost use Rattle.tinyjson.specs.Parser.{ParsesText};
-ghost use Rattle.jsonnorm.specs.Run.{Runs};
+ghost use Rattle.tinyjson.specs.View.{view};
+ghost use Rattle.tinyjson.specs.Written.{WritesPrefix, WritesText};
+ghost use Rattle.jsonnorm.specs.Input.{ReadsToEnd};
+ghost use Rattle.jsonnorm.specs.Run.{Runs, line_of, normal_text};
 
 use crate::fault::{RunFault, refusal, writing_error};
-use crate::input::read_all;
-use crate::output::write_line;
-use std::alloc::Global;
-use std::io::{Read, Write};
+use std::alloc::{AllocError, Global};
+use std::io::{self, ErrorKind, Read, Write};
 use std::{mem, str};
 use tinyjson::{JsonParseResult, JsonValue};
+
+/// How many bytes are asked for at once.
+const PIECE_LEN: usize = 65_536;
+
+/// How many reads may give bytes.
+const MAX_READS: u32 = 1_073_741_824;
 
 /// How a text is read and written.
 #[derive(Clone, Copy, Debug, PartialEq, Eq)]
@@ -88,6 +96,35 @@ fn normalize<R: Read, W: Write>(
     }
 }
 
+/// Reads until a read gives nothing. An interruption is an error like any other.
+fn read_all<R: Read>(alloc: Global, input: &mut R) -> Result<Vec<u8>, RunFault>
+    ensures { ReadsToEnd (R.remaining input.old) (R.remaining input.new) result }
+{
+    let mut bytes = Vec::new(alloc);
+    let Ok(mut piece) = new_piece(alloc) else {
+        return Err(RunFault::OutOfMemory);
+    };
+    for _ in 0..MAX_READS {
+        let Ok(count) = input.read(piece.as_mut_slice()) else {
+            return Err(RunFault::Reading);
+        };
+        if count == 0 {
+            return Ok(bytes);
+        }
+        if bytes.extend_from_slice(&piece[..count]).is_err() {
+            return Err(RunFault::OutOfMemory);
+        }
+    }
+    Err(RunFault::Reading)
+}
+
+/// The place that a read fills.
+fn new_piece(alloc: Global) -> Result<Vec<u8>, AllocError>
+    ensures { IfOk result (λ piece. 0 < vec_len piece) }
+{
+    vec![in alloc; 0; PIECE_LEN]
+}
+
 fn parse(alloc: Global, text: &str, limit: Option<usize>) -> JsonParseResult
     ensures { ParsesText limit (chars text.now) result }
 {
@@ -95,4 +132,43 @@ fn parse(alloc: Global, text: &str, limit: Option<usize>) -> JsonParseResult
         None => JsonValue::from_str(alloc, text),
         Some(limit) => JsonValue::from_str_with_depth_limit(alloc, text, limit),
     }
+}
+
+/// Writes the text of the value and a line feed, and ends with the first error.
+fn write_line<W: Write>(
+    alloc: Global,
+    output: &mut W,
+    value: &JsonValue,
+    indented: bool,
+) -> io::Result<()>
+    ensures { WritesPrefix (W.contents output.old) (W.contents output.new)
+        (line_of indented (view value.now)) result }
+{
+    write_text(alloc, output, value, indented)?;
+    end_line(output)
+}
+
+fn write_text<W: Write>(
+    alloc: Global,
+    output: &mut W,
+    value: &JsonValue,
+    indented: bool,
+) -> io::Result<()>
+    ensures { WritesText (W.contents output.old) (W.contents output.new)
+        (normal_text indented (view value.now)) result }
+{
+    if indented {
+        value.format_to(alloc, output)
+    } else {
+        value.write_to(alloc, output)
+    }
+}
+
+fn end_line<W: Write>(output: &mut W) -> io::Result<()>
+    ensures { WritesPrefix (W.contents output.old) (W.contents output.new) (line_feed ∷ []) result }
+{
+    if output.write(b"\n")? == 0 {
+        return Err(io::Error::new(ErrorKind::WriteZero, "the writer took no byte"));
+    }
+    Ok(())
 }

@@ -1,6 +1,6 @@
 use Rattle.std.proofs.Common.{[], ◌∷◌}
 use Rattle.tinyjson.proofs.Callers.{begins, ends, fails, goes}
-use Rattle.jsonnorm.proofs.output.write_line.Goals as goal
+use Rattle.jsonnorm.proofs.run.write_line.Goals as goal
 
 pub returns-in_err-write_text : goal.returns-in_err-write_text
 returns-in_err-write_text g c = fails _ (10 ∷ []) c.from_residual.ensures.0 c.in_err-write_text.ensures begins

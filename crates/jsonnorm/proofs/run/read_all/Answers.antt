@@ -1,6 +1,6 @@
 use Rattle.std.proofs.Common.{◌++◌, inl, refl, take}
 use Rattle.std.proofs.KnownBytes.{Consumes-trans}
-use Rattle.jsonnorm.proofs.input.read_all.Goals as goal
+use Rattle.jsonnorm.proofs.run.read_all.Goals as goal
 
 pub returns-then-is_err : goal.returns-then-is_err
 returns-then-is_err g c = record {

@@ -1,6 +1,6 @@
 use Rattle.std.proofs.Common.{string_bytes, codes, sym}
 use Rattle.jsonnorm.proofs.Asking.{asks_indent, asks_limit, asks_indent_limit, asks_limit_indent, one, two, three}
-use Rattle.jsonnorm.proofs.options.options.Goals as goal
+use Rattle.jsonnorm.proofs.options.Goals as goal
 
 pub returns-in-len1-clause-asked : goal.returns-in-len1-clause-asked
 returns-in-len1-clause-asked c =

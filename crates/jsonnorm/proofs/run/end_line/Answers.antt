@@ -1,6 +1,6 @@
 use Rattle.tinyjson.proofs.Callers.{begins, stop, written_same, written_take}
 use Rattle.std.proofs.lemmas.Result.{MatchResult-from_err}
-use Rattle.jsonnorm.proofs.output.end_line.Goals as goal
+use Rattle.jsonnorm.proofs.run.end_line.Goals as goal
 
 pub returns-in_err-write : goal.returns-in_err-write
 returns-in_err-write g c = MatchResult-from_err _ _ _ c.from_residual.ensures.0

@@ -3,7 +3,7 @@ use Rattle.std.proofs.lemmas.Bool.Decides.{nat_tests}
 use Rattle.std.specs.Str.Parse.{digits_value}
 use Rattle.jsonnorm.specs.Options.{IsLimit}
 use Rattle.jsonnorm.proofs.Limits.{limit}
-use Rattle.jsonnorm.proofs.options.depth.Goals as goal
+use Rattle.jsonnorm.proofs.depth.Goals as goal
 
 pub returns : goal.returns
 returns c =
