@@ -6,10 +6,8 @@
 
 mod buffer;
 mod number;
-mod quick;
 mod strings;
 
-pub use buffer::{Buffer, flush, write_bytes};
+pub use buffer::{Buffer, flush, quick_key, quick_number, quick_text, quick_word, write_bytes};
 pub use number::write_number;
-pub use quick::{quick_key, quick_number, quick_text, quick_word};
 pub use strings::quote;

@@ -1,7 +1,7 @@
 use Rattle.std.proofs.Common.{◌++◌, ◌∷◌, [], sym, ◌∙◌, ap, append_assoc, arith}
 use Rattle.tinyjson_output.specs.Buffer.{buffered}
 use Rattle.tinyjson_output.proofs.Quotes.{all_plain}
-use Rattle.tinyjson_output.proofs.quick.quick_text.Goals as goal
+use Rattle.tinyjson_output.proofs.buffer.quick_text.Goals as goal
 
 pub returns : goal.returns
 returns c =

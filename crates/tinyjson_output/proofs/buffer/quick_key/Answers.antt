@@ -2,7 +2,7 @@ use Rattle.std.proofs.Common.{◌++◌, ◌∷◌, [], length, sym, ◌∙◌, a
 use Rattle.tinyjson_output.specs.Buffer.{buffered}
 use Rattle.tinyjson_grammar.specs.Text.{separator}
 use Rattle.tinyjson_output.proofs.Quotes.{all_plain, key_joined}
-use Rattle.tinyjson_output.proofs.quick.quick_key.Goals as goal
+use Rattle.tinyjson_output.proofs.buffer.quick_key.Goals as goal
 
 pub returns : goal.returns
 returns c =
