@@ -2,16 +2,17 @@
 use Rattle.std.proofs.Common.{zero, suc, ◌≡◌, ℕ, ◌<◌, ◌≤◌, Bool, true, false, List, [], ◌∷◌, ◌++◌, Option, Some, None, refl, ap, sym, ◌∙◌}
 use Rattle.std.proofs.Common.{cond, append_assoc, append-nil, arith, length, subst, ◌⊎◌, inl, inr, ⊎_elim, IsTrue, ◌==◌, ◌&&◌, ◌||◌, not}
 use Rattle.std.proofs.Common.{take}
-use Rattle.std.specs.Prelude.{slice_index, unwrap_or}
+use Rattle.std.specs.Prelude.{codes, slice_index, unwrap_or}
 use Rattle.std.specs.Char.{is_ascii_digit}
-use Rattle.std.proofs.lemmas.Bool.{and_parts, or_parts, not-true, cases_Bool, eqb-true, ne_eqb, lt-ltb}
+use Rattle.std.proofs.lemmas.Bool.{and_parts, or_parts, not-true, cases_Bool, eqb-true, eq-eqb, ne_eqb, lt-ltb}
 use Rattle.tinyjson_grammar.specs.Characters.{is_hex, short_escape, decode, paired, is_surrogate, is_high, is_low}
 use Rattle.tinyjson_grammar.specs.Prefix.{IsErrorFree}
 use Rattle.tinyjson_grammar.specs.Machine
 use Rattle.tinyjson_grammar.specs.Machine.{Rules, strictly, Frame, awaited, digits, quoted, refused, step_escape, step_digits, go_on}
 use Rattle.tinyjson_grammar.specs.Machine.{step, run, end, with_exponent, with_sign}
 use Rattle.tinyjson_grammar.specs.Refusal.{IsLiteral, IsHex, AreUnits, EndsRun, BeginsEscape, BeginsWithNone}
-use Rattle.tinyjson_grammar.specs.Syntax.{Syntax, text, Piece, plain, escape, unit, IsPiece, ArePieces, pieces_text, piece_codes}
+use Rattle.tinyjson_grammar.specs.Tree.{Tree, null, boolean}
+use Rattle.tinyjson_grammar.specs.Syntax.{Piece, plain, escape, unit, IsPiece, ArePieces, pieces_text, piece_codes}
 use Rattle.tinyjson_grammar.specs.Syntax.{unit_value}
 use Rattle.tinyjson_number.specs.Numeral.{numeral, Numeral, Exponent, IsNumeral, AreDigits, is_exponent_letter, is_sign, has_leading_zero}
 use Rattle.tinyjson_number.specs.Numeral.{minus_text, fraction_text, spelling}
@@ -29,74 +30,41 @@ differs c n h = ne_eqb c n (λ e. h (sym e))
 
 -- ---- a literal
 
-stop_null : (r : Rules) (fs : List Frame) (n c : ℕ) (rest : List ℕ) → 0 < n → n < 4 → (slice_index (text Syntax.null) n ≡ c → ⊥) →
-    run r fs awaited ((take n (text Syntax.null) ++ c ∷ []) ++ rest) ≡ refused (UnexpectedInLiteral c) rest
+-- among the letters that are left of a literal
+stops_in : (r : Rules) (fs : List Frame) (ls : List ℕ) (t : Tree) (n c : ℕ) (rest : List ℕ) → n < length ls → (slice_index ls n ≡ c → ⊥)
+    → run r fs (Machine.literal ls t) ((take n ls ++ c ∷ []) ++ rest) ≡ refused (UnexpectedInLiteral c) rest
 unfolding run step
-stop_null r fs zero c rest h k m = absurd (omega arith)
-stop_null r fs (suc zero) c rest h k m = rw (differs c 117 m) refl
-stop_null r fs (suc (suc zero)) c rest h k m = rw (differs c 108 m) refl
-stop_null r fs (suc (suc (suc zero))) c rest h k m = rw (differs c 108 m) refl
-stop_null r fs (suc (suc (suc (suc n)))) c rest h k m = absurd (omega arith)
+stops_in r fs [] t n c rest h m = absurd (omega arith)
+stops_in r fs (l ∷ []) t zero c rest h m = rw (differs c l m) refl
+stops_in r fs (l ∷ []) t (suc n) c rest h m = absurd (omega arith)
+stops_in r fs (l ∷ k ∷ ls) t zero c rest h m = rw (differs c l m) refl
+stops_in r fs (l ∷ k ∷ ls) t (suc n) c rest h m = rw (eq-eqb l l refl) (stops_in r fs (k ∷ ls) t n c rest (omega (arith, h)) m)
 
-stop_true : (r : Rules) (fs : List Frame) (n c : ℕ) (rest : List ℕ) → 0 < n → n < 4 → (slice_index (text (Syntax.boolean true)) n ≡ c → ⊥) →
-    run r fs awaited ((take n (text (Syntax.boolean true)) ++ c ∷ []) ++ rest) ≡ refused (UnexpectedInLiteral c) rest
-unfolding run step
-stop_true r fs zero c rest h k m = absurd (omega arith)
-stop_true r fs (suc zero) c rest h k m = rw (differs c 114 m) refl
-stop_true r fs (suc (suc zero)) c rest h k m = rw (differs c 117 m) refl
-stop_true r fs (suc (suc (suc zero))) c rest h k m = rw (differs c 101 m) refl
-stop_true r fs (suc (suc (suc (suc n)))) c rest h k m = absurd (omega arith)
-
-stop_false : (r : Rules) (fs : List Frame) (n c : ℕ) (rest : List ℕ) → 0 < n → n < 5
-    → (slice_index (text (Syntax.boolean false)) n ≡ c → ⊥) →
-    run r fs awaited ((take n (text (Syntax.boolean false)) ++ c ∷ []) ++ rest) ≡ refused (UnexpectedInLiteral c) rest
-unfolding run step
-stop_false r fs zero c rest h k m = absurd (omega arith)
-stop_false r fs (suc zero) c rest h k m = rw (differs c 97 m) refl
-stop_false r fs (suc (suc zero)) c rest h k m = rw (differs c 108 m) refl
-stop_false r fs (suc (suc (suc zero))) c rest h k m = rw (differs c 115 m) refl
-stop_false r fs (suc (suc (suc (suc zero)))) c rest h k m = rw (differs c 101 m) refl
-stop_false r fs (suc (suc (suc (suc (suc n))))) c rest h k m = absurd (omega arith)
+ends_in : (r : Rules) (fs : List Frame) (ls : List ℕ) (t : Tree) (n : ℕ) → n < length ls
+    → run r fs (Machine.literal ls t) (take n ls) ≡ refused UnexpectedEof []
+unfolding run step end
+ends_in r fs [] t n h = absurd (omega arith)
+ends_in r fs (l ∷ ls) t zero h = refl
+ends_in r fs (l ∷ []) t (suc n) h = absurd (omega arith)
+ends_in r fs (l ∷ k ∷ ls) t (suc n) h = rw (eq-eqb l l refl) (ends_in r fs (k ∷ ls) t n (omega (arith, h)))
 
 pub literal_stops : (r : Rules) (fs : List Frame) (l : List ℕ) (n c : ℕ) (rest : List ℕ) → IsLiteral l → 0 < n → n < length l
     → (slice_index l n ≡ c → ⊥) →
     run r fs awaited ((take n l ++ c ∷ []) ++ rest) ≡ refused (UnexpectedInLiteral c) rest
-literal_stops r fs l n c rest (inl e) h = rw e (λ k m. stop_null r fs n c rest h k m)
-literal_stops r fs l n c rest (inr (inl e)) h = rw e (λ k m. stop_true r fs n c rest h k m)
-literal_stops r fs l n c rest (inr (inr e)) h = rw e (λ k m. stop_false r fs n c rest h k m)
-
-end_null : (r : Rules) (fs : List Frame) (n : ℕ) → 0 < n → n < 4 → run r fs awaited (take n (text Syntax.null)) ≡ refused UnexpectedEof []
-unfolding run step end
-end_null r fs zero h k = absurd (omega arith)
-end_null r fs (suc zero) h k = refl
-end_null r fs (suc (suc zero)) h k = refl
-end_null r fs (suc (suc (suc zero))) h k = refl
-end_null r fs (suc (suc (suc (suc n)))) h k = absurd (omega arith)
-
-end_true : (r : Rules) (fs : List Frame) (n : ℕ) → 0 < n → n < 4
-    → run r fs awaited (take n (text (Syntax.boolean true))) ≡ refused UnexpectedEof []
-unfolding run step end
-end_true r fs zero h k = absurd (omega arith)
-end_true r fs (suc zero) h k = refl
-end_true r fs (suc (suc zero)) h k = refl
-end_true r fs (suc (suc (suc zero))) h k = refl
-end_true r fs (suc (suc (suc (suc n)))) h k = absurd (omega arith)
-
-end_false : (r : Rules) (fs : List Frame) (n : ℕ) → 0 < n → n < 5
-    → run r fs awaited (take n (text (Syntax.boolean false))) ≡ refused UnexpectedEof []
-unfolding run step end
-end_false r fs zero h k = absurd (omega arith)
-end_false r fs (suc zero) h k = refl
-end_false r fs (suc (suc zero)) h k = refl
-end_false r fs (suc (suc (suc zero))) h k = refl
-end_false r fs (suc (suc (suc (suc zero)))) h k = refl
-end_false r fs (suc (suc (suc (suc (suc n))))) h k = absurd (omega arith)
+unfolding run step
+literal_stops r fs l zero c rest i h = absurd (omega arith)
+literal_stops r fs l (suc n) c rest (inl e) h = rw e (λ k m. stops_in r fs (codes "ull") null n c rest (omega (arith, k)) m)
+literal_stops r fs l (suc n) c rest (inr (inl e)) h = rw e (λ k m. stops_in r fs (codes "rue") (boolean true) n c rest (omega (arith, k)) m)
+literal_stops r fs l (suc n) c rest (inr (inr e)) h =
+    rw e (λ k m. stops_in r fs (codes "alse") (boolean false) n c rest (omega (arith, k)) m)
 
 pub literal_ends : (r : Rules) (fs : List Frame) (l : List ℕ) (n : ℕ) → IsLiteral l → 0 < n → n < length l
     → run r fs awaited (take n l) ≡ refused UnexpectedEof []
-literal_ends r fs l n (inl e) h = rw e (λ k. end_null r fs n h k)
-literal_ends r fs l n (inr (inl e)) h = rw e (λ k. end_true r fs n h k)
-literal_ends r fs l n (inr (inr e)) h = rw e (λ k. end_false r fs n h k)
+unfolding run step
+literal_ends r fs l zero i h = absurd (omega arith)
+literal_ends r fs l (suc n) (inl e) h = rw e (λ k. ends_in r fs (codes "ull") null n (omega (arith, k)))
+literal_ends r fs l (suc n) (inr (inl e)) h = rw e (λ k. ends_in r fs (codes "rue") (boolean true) n (omega (arith, k)))
+literal_ends r fs l (suc n) (inr (inr e)) h = rw e (λ k. ends_in r fs (codes "alse") (boolean false) n (omega (arith, k)))
 
 -- ---- a string
 

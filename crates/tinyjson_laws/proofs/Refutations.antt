@@ -30,212 +30,162 @@ refuted {limit} {j} {others} {left} k used rest scalars e right differ wrong =
 
 -- ---- letters of a literal are no exponent
 
-exponent_in_true : ¬ RefusalSays None error.EmptyExponent (codes "true") (codes "x")
+literals_without_exponent :
+    ¬ RefusalSays None error.EmptyExponent (codes "true") (codes "x")
+    × ¬ RefusalSays None error.EmptyExponent (codes "[true") (codes "false]")
+    × ¬ RefusalSays None error.EmptyExponent (codes "[false") (codes "x")
+    × ¬ RefusalSays None error.EmptyExponent (codes "[true") []
 unfolding run step end value power_fits
-exponent_in_true = refuted (error.ExpectedEof 120) (codes "truex") [] refl refl refl (λ e. cc)
-
-exponent_in_an_item : ¬ RefusalSays None error.EmptyExponent (codes "[true") (codes "false]")
-unfolding run step end value power_fits
-exponent_in_an_item = refuted (error.ExpectedCommaOrBracket 102) (codes "[truef") (codes "alse]") refl refl refl (λ e. cc)
-
-exponent_in_false : ¬ RefusalSays None error.EmptyExponent (codes "[false") (codes "x")
-unfolding run step end value power_fits
-exponent_in_false = refuted (error.ExpectedCommaOrBracket 120) (codes "[falsex") [] refl refl refl (λ e. cc)
-
-exponent_at_the_end : ¬ RefusalSays None error.EmptyExponent (codes "[true") []
-unfolding run step end value power_fits
-exponent_at_the_end = refuted error.UnexpectedEof (codes "[true") [] refl refl refl (λ e. cc)
+literals_without_exponent = (
+  refuted (error.ExpectedEof 120) (codes "truex") [] refl refl refl (λ e. cc),
+  refuted (error.ExpectedCommaOrBracket 102) (codes "[truef") (codes "alse]") refl refl refl (λ e. cc),
+  refuted (error.ExpectedCommaOrBracket 120) (codes "[falsex") [] refl refl refl (λ e. cc),
+  refuted error.UnexpectedEof (codes "[true") [] refl refl refl (λ e. cc),
+)
 
 -- ---- digits of an escape are no number
 
-exponent_in_an_escape : ¬ RefusalSays None error.EmptyExponent (codes "\"\\u00e") (codes "\"")
+escapes_without_numbers :
+    ¬ RefusalSays None error.EmptyExponent (codes "\"\\u00e") (codes "\"")
+    × ¬ RefusalSays None error.EmptyExponent (codes "\"\\u0e") (codes "g1\"")
+    × ¬ RefusalSays None error.LeadingZero (codes "\"\\ud800\\u00") (codes "\"")
+    × ¬ RefusalSays None error.LeadingZero (codes "{[\"\\u00") (codes "g")
 unfolding run step end value power_fits
-exponent_in_an_escape = refuted (error.InvalidHexDigit 34) (codes "\"\\u00e\"") [] refl refl refl (λ e. cc)
-
-exponent_before_a_wrong_digit : ¬ RefusalSays None error.EmptyExponent (codes "\"\\u0e") (codes "g1\"")
-unfolding run step end value power_fits
-exponent_before_a_wrong_digit = refuted (error.InvalidHexDigit 103) (codes "\"\\u0eg") (codes "1\"") refl refl refl (λ e. cc)
-
-leading_zero_in_an_escape : ¬ RefusalSays None error.LeadingZero (codes "\"\\ud800\\u00") (codes "\"")
-unfolding run step end value power_fits
-leading_zero_in_an_escape = refuted (error.InvalidHexDigit 34) (codes "\"\\ud800\\u00\"") [] refl refl refl (λ e. cc)
-
-leading_zero_in_an_escape_of_a_key : ¬ RefusalSays None error.LeadingZero (codes "{[\"\\u00") (codes "g")
-unfolding run step end value power_fits
-leading_zero_in_an_escape_of_a_key = refuted (error.InvalidHexDigit 103) (codes "{[\"\\u00g") [] refl refl refl (λ e. cc)
+escapes_without_numbers = (
+  refuted (error.InvalidHexDigit 34) (codes "\"\\u00e\"") [] refl refl refl (λ e. cc),
+  refuted (error.InvalidHexDigit 103) (codes "\"\\u0eg") (codes "1\"") refl refl refl (λ e. cc),
+  refuted (error.InvalidHexDigit 34) (codes "\"\\ud800\\u00\"") [] refl refl refl (λ e. cc),
+  refuted (error.InvalidHexDigit 103) (codes "{[\"\\u00g") [] refl refl refl (λ e. cc),
+)
 
 -- ---- nothing is read past a key that is not a string
 
-colon_after_a_number : ¬ RefusalSays None (error.ExpectedColon 125) (codes "{1}") []
+nothing_past_a_wrong_key :
+    ¬ RefusalSays None (error.ExpectedColon 125) (codes "{1}") []
+    × ¬ RefusalSays None (error.ExpectedColon 44) (codes "{1,") (codes "2}")
+    × ¬ RefusalSays None (error.ExpectedColon 91) (codes "{null[") []
 unfolding run step end value power_fits
-colon_after_a_number = refuted (error.KeyNotString kind.Number) (codes "{1") (codes "}") refl refl refl (λ e. cc)
-
-comma_after_a_number : ¬ RefusalSays None (error.ExpectedColon 44) (codes "{1,") (codes "2}")
-unfolding run step end value power_fits
-comma_after_a_number = refuted (error.KeyNotString kind.Number) (codes "{1") (codes ",2}") refl refl refl (λ e. cc)
-
-bracket_after_null : ¬ RefusalSays None (error.ExpectedColon 91) (codes "{null[") []
-unfolding run step end value power_fits
-bracket_after_null = refuted (error.KeyNotString kind.Null) (codes "{null") (codes "[") refl refl refl (λ e. cc)
+nothing_past_a_wrong_key = (
+  refuted (error.KeyNotString kind.Number) (codes "{1") (codes "}") refl refl refl (λ e. cc),
+  refuted (error.KeyNotString kind.Number) (codes "{1") (codes ",2}") refl refl refl (λ e. cc),
+  refuted (error.KeyNotString kind.Null) (codes "{null") (codes "[") refl refl refl (λ e. cc),
+)
 
 -- ---- nothing is read past a surrogate without its partner
 
-escape_past_a_surrogate : ¬ RefusalSays None (error.InvalidEscape 113) (codes "\"\\ud800abc\\q") []
+nothing_past_a_surrogate :
+    ¬ RefusalSays None (error.InvalidEscape 113) (codes "\"\\ud800abc\\q") []
+    × ¬ RefusalSays None error.UnexpectedEof (codes "\"\\ud800abc") []
+    × ¬ RefusalSays None (error.ControlCharacter 1) (codes "\"\\udc00u\u{1}") []
+    × ¬ RefusalSays None error.InvalidUtf16 (codes "\"\\ud800") (codes "\\q")
 unfolding run step end value power_fits
-escape_past_a_surrogate = refuted error.InvalidUtf16 (codes "\"\\ud800a") (codes "bc\\q") refl refl refl (λ e. cc)
-
-end_past_a_surrogate : ¬ RefusalSays None error.UnexpectedEof (codes "\"\\ud800abc") []
-unfolding run step end value power_fits
-end_past_a_surrogate = refuted error.InvalidUtf16 (codes "\"\\ud800a") (codes "bc") refl refl refl (λ e. cc)
-
-control_character_past_a_surrogate : ¬ RefusalSays None (error.ControlCharacter 1) (codes "\"\\udc00u\u{1}") []
-unfolding run step end value power_fits
-control_character_past_a_surrogate = refuted error.InvalidUtf16 (codes "\"\\udc00u") (codes "\u{1}") refl refl refl (λ e. cc)
-
-surrogate_refused_at_once : ¬ RefusalSays None error.InvalidUtf16 (codes "\"\\ud800") (codes "\\q")
-unfolding run step end value power_fits
-surrogate_refused_at_once = refuted (error.InvalidEscape 113) (codes "\"\\ud800\\q") [] refl refl refl (λ e. cc)
+nothing_past_a_surrogate = (
+  refuted error.InvalidUtf16 (codes "\"\\ud800a") (codes "bc\\q") refl refl refl (λ e. cc),
+  refuted error.InvalidUtf16 (codes "\"\\ud800a") (codes "bc") refl refl refl (λ e. cc),
+  refuted error.InvalidUtf16 (codes "\"\\udc00u") (codes "\u{1}") refl refl refl (λ e. cc),
+  refuted (error.InvalidEscape 113) (codes "\"\\ud800\\q") [] refl refl refl (λ e. cc),
+)
 
 -- ---- nothing is read past a leading zero
 
-exponent_past_a_leading_zero : ¬ RefusalSays None error.EmptyExponent (codes "[01e+") (codes "x")
+nothing_past_a_leading_zero :
+    ¬ RefusalSays None error.EmptyExponent (codes "[01e+") (codes "x")
+    × ¬ RefusalSays None error.LeadingZero (codes "[01e00") (codes " x")
+    × ¬ RefusalSays None error.NumberOutOfRange (codes "[01e99999999999999999999") (codes "]")
+    × ¬ RefusalSays None (error.InvalidCharacter 120) (codes "[01,") (codes "x")
+    × ¬ RefusalSays None (error.KeyNotString kind.Number) (codes "{0") (codes "1:2}")
 unfolding run step end value power_fits
-exponent_past_a_leading_zero = refuted error.LeadingZero (codes "[01") (codes "e+x") refl refl refl (λ e. cc)
-
-digits_past_a_leading_zero : ¬ RefusalSays None error.LeadingZero (codes "[01e00") (codes " x")
-unfolding run step end value power_fits
-digits_past_a_leading_zero = refuted error.LeadingZero (codes "[01") (codes "e00 x") refl refl refl
-    (λ e. let n : 3 ≡ 6 = ap length e.1 in omega (arith, n))
-
-power_past_a_leading_zero : ¬ RefusalSays None error.NumberOutOfRange (codes "[01e99999999999999999999") (codes "]")
-unfolding run step end value power_fits
-power_past_a_leading_zero = refuted error.LeadingZero (codes "[01") (codes "e99999999999999999999]") refl refl refl (λ e. cc)
-
-comma_past_a_leading_zero : ¬ RefusalSays None (error.InvalidCharacter 120) (codes "[01,") (codes "x")
-unfolding run step end value power_fits
-comma_past_a_leading_zero = refuted error.LeadingZero (codes "[01") (codes ",x") refl refl refl (λ e. cc)
-
-key_that_is_half_a_number : ¬ RefusalSays None (error.KeyNotString kind.Number) (codes "{0") (codes "1:2}")
-unfolding run step end value power_fits
-key_that_is_half_a_number = refuted error.LeadingZero (codes "{01") (codes ":2}") refl refl refl (λ e. cc)
+nothing_past_a_leading_zero = (
+  refuted error.LeadingZero (codes "[01") (codes "e+x") refl refl refl (λ e. cc),
+  refuted error.LeadingZero (codes "[01") (codes "e00 x") refl refl refl (λ e. let n : 3 ≡ 6 = ap length e.1 in omega (arith, n)),
+  refuted error.LeadingZero (codes "[01") (codes "e99999999999999999999]") refl refl refl (λ e. cc),
+  refuted error.LeadingZero (codes "[01") (codes ",x") refl refl refl (λ e. cc),
+  refuted error.LeadingZero (codes "{01") (codes ":2}") refl refl refl (λ e. cc),
+)
 
 -- ---- a token is determined by where it begins
 
-sign_of_an_exponent : ¬ RefusalSays None error.EmptyInteger (codes "[1e-") (codes "]")
+tokens_by_their_beginnings :
+    ¬ RefusalSays None error.EmptyInteger (codes "[1e-") (codes "]")
+    × ¬ RefusalSays None error.EmptyInteger (codes "0e-") (codes "]")
+    × ¬ RefusalSays None (error.InvalidEscape 1) (codes "\"\\\\\u{1}") []
+    × ¬ RefusalSays None (error.InvalidHexDigit 1) (codes "\"\\\\u\u{1}") []
+    × ¬ RefusalSays None error.LeadingZero (codes "{[100") (codes "x")
+    × ¬ RefusalSays None (error.KeyNotString kind.Number) (codes "{[\"{1") []
+    × ¬ RefusalSays None error.NumberOutOfRange (codes "[0.01e9223372036854775808") (codes "x")
+    × ¬ RefusalSays None error.EmptyInteger (codes "\"a-") []
 unfolding run step end value power_fits
-sign_of_an_exponent = refuted error.EmptyExponent (codes "[1e-") (codes "]") refl refl refl (λ e. cc)
-
-sign_of_an_exponent_of_zero : ¬ RefusalSays None error.EmptyInteger (codes "0e-") (codes "]")
-unfolding run step end value power_fits
-sign_of_an_exponent_of_zero = refuted error.EmptyExponent (codes "0e-") (codes "]") refl refl refl (λ e. cc)
-
-escaped_backslash : ¬ RefusalSays None (error.InvalidEscape 1) (codes "\"\\\\\u{1}") []
-unfolding run step end value power_fits
-escaped_backslash = refuted (error.ControlCharacter 1) (codes "\"\\\\\u{1}") [] refl refl refl (λ e. cc)
-
-escaped_backslash_before_u : ¬ RefusalSays None (error.InvalidHexDigit 1) (codes "\"\\\\u\u{1}") []
-unfolding run step end value power_fits
-escaped_backslash_before_u = refuted (error.ControlCharacter 1) (codes "\"\\\\u\u{1}") [] refl refl refl (λ e. cc)
-
-zeros_at_the_end_of_a_number : ¬ RefusalSays None error.LeadingZero (codes "{[100") (codes "x")
-unfolding run step end value power_fits
-zeros_at_the_end_of_a_number = refuted (error.ExpectedCommaOrBracket 120) (codes "{[100x") [] refl refl refl (λ e. cc)
-
-brace_in_a_string : ¬ RefusalSays None (error.KeyNotString kind.Number) (codes "{[\"{1") []
-unfolding run step end value power_fits
-brace_in_a_string = refuted error.UnexpectedEof (codes "{[\"{1") [] refl refl refl (λ e. cc)
-
-number_from_its_middle : ¬ RefusalSays None error.NumberOutOfRange (codes "[0.01e9223372036854775808") (codes "x")
-unfolding run step end value power_fits
-number_from_its_middle = refuted (error.ExpectedCommaOrBracket 120) (codes "[0.01e9223372036854775808x") [] refl refl refl
-    (λ e. cc)
-
-minus_in_a_string : ¬ RefusalSays None error.EmptyInteger (codes "\"a-") []
-unfolding run step end value power_fits
-minus_in_a_string = refuted error.UnexpectedEof (codes "\"a-") [] refl refl refl (λ e. cc)
+tokens_by_their_beginnings = (
+  refuted error.EmptyExponent (codes "[1e-") (codes "]") refl refl refl (λ e. cc),
+  refuted error.EmptyExponent (codes "0e-") (codes "]") refl refl refl (λ e. cc),
+  refuted (error.ControlCharacter 1) (codes "\"\\\\\u{1}") [] refl refl refl (λ e. cc),
+  refuted (error.ControlCharacter 1) (codes "\"\\\\u\u{1}") [] refl refl refl (λ e. cc),
+  refuted (error.ExpectedCommaOrBracket 120) (codes "{[100x") [] refl refl refl (λ e. cc),
+  refuted error.UnexpectedEof (codes "{[\"{1") [] refl refl refl (λ e. cc),
+  refuted (error.ExpectedCommaOrBracket 120) (codes "[0.01e9223372036854775808x") [] refl refl refl (λ e. cc),
+  refuted error.UnexpectedEof (codes "\"a-") [] refl refl refl (λ e. cc),
+)
 
 -- ---- an end in the middle of a number, or after a wrong key
 
-end_after_a_minus : ¬ RefusalSays None error.UnexpectedEof (codes "-") []
+no_end :
+    ¬ RefusalSays None error.UnexpectedEof (codes "-") []
+    × ¬ RefusalSays None error.UnexpectedEof (codes "0.") []
+    × ¬ RefusalSays None error.UnexpectedEof (codes "0e") []
+    × ¬ RefusalSays None error.UnexpectedEof (codes "00") []
+    × ¬ RefusalSays None error.UnexpectedEof (codes "{1") []
 unfolding run step end value power_fits
-end_after_a_minus = refuted error.EmptyInteger (codes "-") [] refl refl refl (λ e. cc)
-
-end_after_a_point : ¬ RefusalSays None error.UnexpectedEof (codes "0.") []
-unfolding run step end value power_fits
-end_after_a_point = refuted error.EmptyFraction (codes "0.") [] refl refl refl (λ e. cc)
-
-end_after_an_exponent_letter : ¬ RefusalSays None error.UnexpectedEof (codes "0e") []
-unfolding run step end value power_fits
-end_after_an_exponent_letter = refuted error.EmptyExponent (codes "0e") [] refl refl refl (λ e. cc)
-
-end_after_a_leading_zero : ¬ RefusalSays None error.UnexpectedEof (codes "00") []
-unfolding run step end value power_fits
-end_after_a_leading_zero = refuted error.LeadingZero (codes "00") [] refl refl refl (λ e. cc)
-
-end_after_a_wrong_key : ¬ RefusalSays None error.UnexpectedEof (codes "{1") []
-unfolding run step end value power_fits
-end_after_a_wrong_key = refuted (error.KeyNotString kind.Number) (codes "{1") [] refl refl refl (λ e. cc)
+no_end = (
+  refuted error.EmptyInteger (codes "-") [] refl refl refl (λ e. cc),
+  refuted error.EmptyFraction (codes "0.") [] refl refl refl (λ e. cc),
+  refuted error.EmptyExponent (codes "0e") [] refl refl refl (λ e. cc),
+  refuted error.LeadingZero (codes "00") [] refl refl refl (λ e. cc),
+  refuted (error.KeyNotString kind.Number) (codes "{1") [] refl refl refl (λ e. cc),
+)
 
 -- ---- the place of an error
 
-read_to_the_end : ¬ RefusalSays None (error.UnexpectedInLiteral 120) (codes "trux true") []
+other_places :
+    ¬ RefusalSays None (error.UnexpectedInLiteral 120) (codes "trux true") []
+    × ¬ RefusalSays None (error.InvalidCharacter 93) [] (codes "[1,]")
+    × ¬ RefusalSays None error.LeadingZero [] (codes "0123]")
+    × ¬ RefusalSays None (error.InvalidCharacter 93) (codes "[1,]") []
+    × ¬ RefusalSays None (error.KeyNotString kind.Number) (codes "{1 ") []
 unfolding run step end value power_fits
-read_to_the_end = refuted (error.UnexpectedInLiteral 120) (codes "trux") (codes " true") refl refl refl
-    (λ e. let n : 4 ≡ 9 = ap length e.1 in omega (arith, n))
-
-item_refused_at_its_start : ¬ RefusalSays None (error.InvalidCharacter 93) [] (codes "[1,]")
-unfolding run step end value power_fits
-item_refused_at_its_start = refuted (error.InvalidCharacter 93) (codes "[1,") (codes "]") refl refl refl
-    (λ e. let n : 3 ≡ 0 = ap length e.1 in omega (arith, n))
-
-number_refused_at_its_start : ¬ RefusalSays None error.LeadingZero [] (codes "0123]")
-unfolding run step end value power_fits
-number_refused_at_its_start = refuted error.LeadingZero (codes "0123") (codes "]") refl refl refl
-    (λ e. let n : 4 ≡ 0 = ap length e.1 in omega (arith, n))
-
-bracket_consumed : ¬ RefusalSays None (error.InvalidCharacter 93) (codes "[1,]") []
-unfolding run step end value power_fits
-bracket_consumed = refuted (error.InvalidCharacter 93) (codes "[1,") (codes "]") refl refl refl
-    (λ e. let n : 3 ≡ 4 = ap length e.1 in omega (arith, n))
-
-space_after_a_wrong_key_consumed : ¬ RefusalSays None (error.KeyNotString kind.Number) (codes "{1 ") []
-unfolding run step end value power_fits
-space_after_a_wrong_key_consumed = refuted (error.KeyNotString kind.Number) (codes "{1") (codes " ") refl refl refl
-    (λ e. let n : 2 ≡ 3 = ap length e.1 in omega (arith, n))
+other_places = (
+  refuted (error.UnexpectedInLiteral 120) (codes "trux") (codes " true") refl refl refl (λ e. let n : 4 ≡ 9 = ap length e.1 in omega
+      (arith, n)),
+  refuted (error.InvalidCharacter 93) (codes "[1,") (codes "]") refl refl refl (λ e. let n : 3 ≡ 0 = ap length e.1 in omega (arith, n)),
+  refuted error.LeadingZero (codes "0123") (codes "]") refl refl refl (λ e. let n : 4 ≡ 0 = ap length e.1 in omega (arith, n)),
+  refuted (error.InvalidCharacter 93) (codes "[1,") (codes "]") refl refl refl (λ e. let n : 3 ≡ 4 = ap length e.1 in omega (arith, n)),
+  refuted (error.KeyNotString kind.Number) (codes "{1") (codes " ") refl refl refl (λ e. let n : 2 ≡ 3 = ap length e.1 in omega (
+    arith,
+    n,
+  )),
+)
 
 -- ---- kinds that stand for one another
 
-second_value_as_the_end : ¬ RefusalSays None error.UnexpectedEof (codes "1 2") []
+other_kinds :
+    ¬ RefusalSays None error.UnexpectedEof (codes "1 2") []
+    × ¬ RefusalSays None (error.InvalidCharacter 120) (codes "[1 ") (codes "x")
+    × ¬ RefusalSays None (error.InvalidCharacter 120) (codes "tru") (codes "x")
+    × ¬ RefusalSays None (error.ExpectedCommaOrBracket 120) (codes "[x") []
+    × ¬ RefusalSays None (error.ExpectedCommaOrBracket 1) (codes "[\"a\u{1}") []
+    × ¬ RefusalSays None (error.ExpectedCommaOrBrace 44) (codes "{\"a\",") []
+    × ¬ RefusalSays (Some 1) (error.InvalidCharacter 91) (codes "[") (codes "[1]]")
+    × ¬ RefusalSays None (error.TooDeep 91) (codes "[") (codes "[]x")
 unfolding run step end value power_fits
-second_value_as_the_end = refuted (error.ExpectedEof 50) (codes "1 2") [] refl refl refl (λ e. cc)
-
-missing_comma_as_a_wrong_character : ¬ RefusalSays None (error.InvalidCharacter 120) (codes "[1 ") (codes "x")
-unfolding run step end value power_fits
-missing_comma_as_a_wrong_character = refuted (error.ExpectedCommaOrBracket 120) (codes "[1 x") [] refl refl refl (λ e. cc)
-
-wrong_letter_as_a_wrong_character : ¬ RefusalSays None (error.InvalidCharacter 120) (codes "tru") (codes "x")
-unfolding run step end value power_fits
-wrong_letter_as_a_wrong_character = refuted (error.UnexpectedInLiteral 120) (codes "trux") [] refl refl refl (λ e. cc)
-
-wrong_character_as_a_missing_comma : ¬ RefusalSays None (error.ExpectedCommaOrBracket 120) (codes "[x") []
-unfolding run step end value power_fits
-wrong_character_as_a_missing_comma = refuted (error.InvalidCharacter 120) (codes "[") (codes "x") refl refl refl (λ e. cc)
-
-control_character_as_a_missing_comma : ¬ RefusalSays None (error.ExpectedCommaOrBracket 1) (codes "[\"a\u{1}") []
-unfolding run step end value power_fits
-control_character_as_a_missing_comma = refuted (error.ControlCharacter 1) (codes "[\"a\u{1}") [] refl refl refl (λ e. cc)
-
-colon_for_a_comma : ¬ RefusalSays None (error.ExpectedCommaOrBrace 44) (codes "{\"a\",") []
-unfolding run step end value power_fits
-colon_for_a_comma = refuted (error.ExpectedColon 44) (codes "{\"a\",") [] refl refl refl (λ e. cc)
-
-bracket_too_deep_as_a_wrong_character : ¬ RefusalSays (Some 1) (error.InvalidCharacter 91) (codes "[") (codes "[1]]")
-unfolding run step end value power_fits
-bracket_too_deep_as_a_wrong_character = refuted (error.TooDeep 91) (codes "[") (codes "[1]]") refl refl refl (λ e. cc)
-
-no_limit : ¬ RefusalSays None (error.TooDeep 91) (codes "[") (codes "[]x")
-unfolding run step end value power_fits
-no_limit = refuted (error.ExpectedCommaOrBracket 120) (codes "[[]x") [] refl refl refl (λ e. cc)
+other_kinds = (
+  refuted (error.ExpectedEof 50) (codes "1 2") [] refl refl refl (λ e. cc),
+  refuted (error.ExpectedCommaOrBracket 120) (codes "[1 x") [] refl refl refl (λ e. cc),
+  refuted (error.UnexpectedInLiteral 120) (codes "trux") [] refl refl refl (λ e. cc),
+  refuted (error.InvalidCharacter 120) (codes "[") (codes "x") refl refl refl (λ e. cc),
+  refuted (error.ControlCharacter 1) (codes "[\"a\u{1}") [] refl refl refl (λ e. cc),
+  refuted (error.ExpectedColon 44) (codes "{\"a\",") [] refl refl refl (λ e. cc),
+  refuted (error.TooDeep 91) (codes "[") (codes "[1]]") refl refl refl (λ e. cc),
+  refuted (error.ExpectedCommaOrBracket 120) (codes "[[]x") [] refl refl refl (λ e. cc),
+)
 
 -- ---- memory
 

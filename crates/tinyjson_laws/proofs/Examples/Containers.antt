@@ -28,18 +28,12 @@ keys_by_their_bytes : IsText None (codes "{\"\\ud83d\\ude00\":1,\"\\uff5e\":2}")
 unfolding run step end value power_fits encode
 keys_by_their_bytes = text_of refl refl
 
-equal_keys : IsText None (codes "{\"a\":1,\"a\":2}") (object ((codes "a", whole (codes "2")) ∷ []))
+containers_read :
+    IsText None (codes "{\"a\":1,\"a\":2}") (object ((codes "a", whole (codes "2")) ∷ []))
+    × IsText None (codes "{\"\\u0061\":1,\"a\":2}") (object ((codes "a", whole (codes "2")) ∷ []))
+    × IsText None (codes "{\"a\":1,\"b\":3,\"a\":[],\"a\":null}") (object ((codes "a", tree.null) ∷ (codes "b", whole (codes "3")) ∷ []))
 unfolding run step end value power_fits encode
-equal_keys = text_of refl refl
-
-equal_keys_after_their_escapes : IsText None (codes "{\"\\u0061\":1,\"a\":2}") (object ((codes "a", whole (codes "2")) ∷ []))
-unfolding run step end value power_fits encode
-equal_keys_after_their_escapes = text_of refl refl
-
-three_equal_keys : IsText None (codes "{\"a\":1,\"b\":3,\"a\":[],\"a\":null}")
-    (object ((codes "a", tree.null) ∷ (codes "b", whole (codes "3")) ∷ []))
-unfolding run step end value power_fits encode
-three_equal_keys = text_of refl refl
+containers_read = (text_of refl refl, text_of refl refl, text_of refl refl)
 
 empty_key : IsText None (codes "{\"\":1}") (object (([], whole (codes "1")) ∷ []))
 unfolding run step end value power_fits
@@ -56,102 +50,57 @@ last_of_equal_keys = refl
 
 -- ---- what is none
 
-no_text : IsRefusal None error.UnexpectedEof [] []
+containers_refused :
+    IsRefusal None error.UnexpectedEof [] []
+    × IsRefusal None error.UnexpectedEof (codes "[1, 2, 3") []
+    × IsRefusal None error.UnexpectedEof (codes "[") []
+    × IsRefusal None (error.InvalidCharacter 93) (codes "[1,") (codes "]")
+    × IsRefusal None (error.InvalidCharacter 125) (codes "{\"a\":1,") (codes "}")
+    × IsRefusal None (error.InvalidCharacter 44) (codes "{") (codes ",")
+    × IsRefusal None (error.InvalidCharacter 120) (codes "[\n") (codes "x")
+    × IsRefusal None (error.ExpectedEof 50) (codes "1 2") []
+    × IsRefusal None (error.ExpectedCommaOrBracket 50) (codes "[1 2") (codes "]")
+    × IsRefusal None (error.ExpectedCommaOrBracket 120) (codes "[1 x") []
+    × IsRefusal None (error.ExpectedCommaOrBracket 125) (codes "[1}") []
+    × IsRefusal None (error.ExpectedCommaOrBrace 93) (codes "{\"a\":1]") []
+    × IsRefusal None (error.ExpectedCommaOrBrace 59) (codes "{\"a\":1;") []
+    × IsRefusal None (error.ExpectedColon 49) (codes "{\"a\" 1") (codes "}")
+    × IsRefusal None (error.ExpectedColon 44) (codes "{\"a\",") []
+    × IsRefusal None (error.KeyNotString kind.Number) (codes "{1") (codes ":2}")
+    × IsRefusal None (error.KeyNotString kind.Number) (codes "{1") (codes " ")
+    × IsRefusal None (error.KeyNotString kind.Null) (codes "{null") (codes ":1}")
+    × IsRefusal None (error.KeyNotString kind.Boolean) (codes "{true") (codes ":1}")
+    × IsRefusal None (error.KeyNotString kind.Array) (codes "{[1]") (codes ":2}")
+    × IsRefusal None (error.KeyNotString kind.Object) (codes "{{}") (codes ":1}")
+    × IsRefusal None (error.KeyNotString kind.Number) (codes "{\"a\":1,2") (codes ":3}")
+    × IsRefusal None error.LeadingZero (codes "{[01") []
+    × IsRefusal None (error.KeyNotString kind.Number) (codes "{1") (codes ":01}")
+    × IsRefusal None (error.KeyNotString kind.Array) (codes "{[[]]") []
 unfolding run step end value power_fits
-no_text = refusal_of refl refl
-
-no_bracket_at_the_end : IsRefusal None error.UnexpectedEof (codes "[1, 2, 3") []
-unfolding run step end value power_fits
-no_bracket_at_the_end = refusal_of refl refl
-
-no_item : IsRefusal None error.UnexpectedEof (codes "[") []
-unfolding run step end value power_fits
-no_item = refusal_of refl refl
-
-comma_before_a_bracket : IsRefusal None (error.InvalidCharacter 93) (codes "[1,") (codes "]")
-unfolding run step end value power_fits
-comma_before_a_bracket = refusal_of refl refl
-
-comma_before_a_brace : IsRefusal None (error.InvalidCharacter 125) (codes "{\"a\":1,") (codes "}")
-unfolding run step end value power_fits
-comma_before_a_brace = refusal_of refl refl
-
-comma_in_place_of_a_key : IsRefusal None (error.InvalidCharacter 44) (codes "{") (codes ",")
-unfolding run step end value power_fits
-comma_in_place_of_a_key = refusal_of refl refl
-
-letter_on_a_new_line : IsRefusal None (error.InvalidCharacter 120) (codes "[\n") (codes "x")
-unfolding run step end value power_fits
-letter_on_a_new_line = refusal_of refl refl
-
-two_values : IsRefusal None (error.ExpectedEof 50) (codes "1 2") []
-unfolding run step end value power_fits
-two_values = refusal_of refl refl
-
-two_items_without_a_comma : IsRefusal None (error.ExpectedCommaOrBracket 50) (codes "[1 2") (codes "]")
-unfolding run step end value power_fits
-two_items_without_a_comma = refusal_of refl refl
-
-letter_after_an_item : IsRefusal None (error.ExpectedCommaOrBracket 120) (codes "[1 x") []
-unfolding run step end value power_fits
-letter_after_an_item = refusal_of refl refl
-
-brace_for_a_bracket : IsRefusal None (error.ExpectedCommaOrBracket 125) (codes "[1}") []
-unfolding run step end value power_fits
-brace_for_a_bracket = refusal_of refl refl
-
-bracket_for_a_brace : IsRefusal None (error.ExpectedCommaOrBrace 93) (codes "{\"a\":1]") []
-unfolding run step end value power_fits
-bracket_for_a_brace = refusal_of refl refl
-
-semicolon_after_a_member : IsRefusal None (error.ExpectedCommaOrBrace 59) (codes "{\"a\":1;") []
-unfolding run step end value power_fits
-semicolon_after_a_member = refusal_of refl refl
-
-no_colon : IsRefusal None (error.ExpectedColon 49) (codes "{\"a\" 1") (codes "}")
-unfolding run step end value power_fits
-no_colon = refusal_of refl refl
-
-comma_for_a_colon : IsRefusal None (error.ExpectedColon 44) (codes "{\"a\",") []
-unfolding run step end value power_fits
-comma_for_a_colon = refusal_of refl refl
-
-number_as_a_key : IsRefusal None (error.KeyNotString kind.Number) (codes "{1") (codes ":2}")
-unfolding run step end value power_fits
-number_as_a_key = refusal_of refl refl
-
-number_as_a_key_before_a_space : IsRefusal None (error.KeyNotString kind.Number) (codes "{1") (codes " ")
-unfolding run step end value power_fits
-number_as_a_key_before_a_space = refusal_of refl refl
-
-null_as_a_key : IsRefusal None (error.KeyNotString kind.Null) (codes "{null") (codes ":1}")
-unfolding run step end value power_fits
-null_as_a_key = refusal_of refl refl
-
-boolean_as_a_key : IsRefusal None (error.KeyNotString kind.Boolean) (codes "{true") (codes ":1}")
-unfolding run step end value power_fits
-boolean_as_a_key = refusal_of refl refl
-
-array_as_a_key : IsRefusal None (error.KeyNotString kind.Array) (codes "{[1]") (codes ":2}")
-unfolding run step end value power_fits
-array_as_a_key = refusal_of refl refl
-
-object_as_a_key : IsRefusal None (error.KeyNotString kind.Object) (codes "{{}") (codes ":1}")
-unfolding run step end value power_fits
-object_as_a_key = refusal_of refl refl
-
-second_key : IsRefusal None (error.KeyNotString kind.Number) (codes "{\"a\":1,2") (codes ":3}")
-unfolding run step end value power_fits
-second_key = refusal_of refl refl
-
-error_within_a_key : IsRefusal None error.LeadingZero (codes "{[01") []
-unfolding run step end value power_fits
-error_within_a_key = refusal_of refl refl
-
-number_as_a_key_before_an_error : IsRefusal None (error.KeyNotString kind.Number) (codes "{1") (codes ":01}")
-unfolding run step end value power_fits
-number_as_a_key_before_an_error = refusal_of refl refl
-
-array_of_an_array_as_a_key : IsRefusal None (error.KeyNotString kind.Array) (codes "{[[]]") []
-unfolding run step end value power_fits
-array_of_an_array_as_a_key = refusal_of refl refl
+containers_refused = (
+  refusal_of refl refl,
+  refusal_of refl refl,
+  refusal_of refl refl,
+  refusal_of refl refl,
+  refusal_of refl refl,
+  refusal_of refl refl,
+  refusal_of refl refl,
+  refusal_of refl refl,
+  refusal_of refl refl,
+  refusal_of refl refl,
+  refusal_of refl refl,
+  refusal_of refl refl,
+  refusal_of refl refl,
+  refusal_of refl refl,
+  refusal_of refl refl,
+  refusal_of refl refl,
+  refusal_of refl refl,
+  refusal_of refl refl,
+  refusal_of refl refl,
+  refusal_of refl refl,
+  refusal_of refl refl,
+  refusal_of refl refl,
+  refusal_of refl refl,
+  refusal_of refl refl,
+  refusal_of refl refl,
+)

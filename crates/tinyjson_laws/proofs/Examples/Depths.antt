@@ -14,57 +14,39 @@ use Rattle.tinyjson_laws.proofs.Examples.Reading.{text_of, refusal_of, whole}
 
 -- ---- with a limit
 
-scalar_at_no_depth : IsText (Some 0) (codes "7") (whole (codes "7"))
+within_a_limit :
+    IsText (Some 0) (codes "7") (whole (codes "7"))
+    × IsText (Some 1) (codes "[1]") (trees.array (whole (codes "1") ∷ []))
+    × IsText (Some 2) (codes "[[],[]]") (trees.array (trees.array [] ∷ trees.array [] ∷ []))
 unfolding run step end value power_fits
-scalar_at_no_depth = text_of refl refl
-
-one_container : IsText (Some 1) (codes "[1]") (trees.array (whole (codes "1") ∷ []))
-unfolding run step end value power_fits
-one_container = text_of refl refl
-
-side_by_side : IsText (Some 2) (codes "[[],[]]") (trees.array (trees.array [] ∷ trees.array [] ∷ []))
-unfolding run step end value power_fits
-side_by_side = text_of refl refl
+within_a_limit = (text_of refl refl, text_of refl refl, text_of refl refl)
 
 member_that_is_replaced : IsText (Some 4) (codes "{\"a\":[[[]]],\"a\":1}") (trees.object ((codes "a", whole (codes "1")) ∷ []))
 unfolding run step end value power_fits encode
 member_that_is_replaced = text_of refl refl
 
-one_too_many : IsRefusal (Some 1) (error.TooDeep 91) (codes "[") (codes "[1]]")
+beyond_a_limit :
+    IsRefusal (Some 1) (error.TooDeep 91) (codes "[") (codes "[1]]")
+    × IsRefusal (Some 0) (error.TooDeep 91) [] (codes "[[1]]")
+    × IsRefusal (Some 1) (error.TooDeep 123) (codes "{\"a\":") (codes "{\"b\":1}}")
+    × IsRefusal (Some 3) (error.TooDeep 91) (codes "{\"a\":[[") (codes "[]]],\"a\":1}")
+    × IsRefusal (Some 1) (error.TooDeep 91) (codes "{") (codes "[]:1}")
+    × IsRefusal (Some 2) (error.KeyNotString kind.Array) (codes "{[]") (codes ":1}")
+    × IsRefusal (Some 1) (error.TooDeep 91) (codes "[\n ") (codes "[]]")
+    × IsRefusal (Some 1) error.UnexpectedEof (codes "[") []
+    × IsRefusal (Some 1) (error.InvalidCharacter 93) (codes "[1,") (codes "]")
 unfolding run step end value power_fits
-one_too_many = refusal_of refl refl
-
-no_container_at_all : IsRefusal (Some 0) (error.TooDeep 91) [] (codes "[[1]]")
-unfolding run step end value power_fits
-no_container_at_all = refusal_of refl refl
-
-object_too_deep : IsRefusal (Some 1) (error.TooDeep 123) (codes "{\"a\":") (codes "{\"b\":1}}")
-unfolding run step end value power_fits
-object_too_deep = refusal_of refl refl
-
-too_deep_though_replaced : IsRefusal (Some 3) (error.TooDeep 91) (codes "{\"a\":[[") (codes "[]]],\"a\":1}")
-unfolding run step end value power_fits
-too_deep_though_replaced = refusal_of refl refl
-
-key_too_deep : IsRefusal (Some 1) (error.TooDeep 91) (codes "{") (codes "[]:1}")
-unfolding run step end value power_fits
-key_too_deep = refusal_of refl refl
-
-key_deep_enough : IsRefusal (Some 2) (error.KeyNotString kind.Array) (codes "{[]") (codes ":1}")
-unfolding run step end value power_fits
-key_deep_enough = refusal_of refl refl
-
-white_space_before_it : IsRefusal (Some 1) (error.TooDeep 91) (codes "[\n ") (codes "[]]")
-unfolding run step end value power_fits
-white_space_before_it = refusal_of refl refl
-
-limit_and_end : IsRefusal (Some 1) error.UnexpectedEof (codes "[") []
-unfolding run step end value power_fits
-limit_and_end = refusal_of refl refl
-
-limit_and_error : IsRefusal (Some 1) (error.InvalidCharacter 93) (codes "[1,") (codes "]")
-unfolding run step end value power_fits
-limit_and_error = refusal_of refl refl
+beyond_a_limit = (
+  refusal_of refl refl,
+  refusal_of refl refl,
+  refusal_of refl refl,
+  refusal_of refl refl,
+  refusal_of refl refl,
+  refusal_of refl refl,
+  refusal_of refl refl,
+  refusal_of refl refl,
+  refusal_of refl refl,
+)
 
 -- ---- keys that are containers, in the loose grammar
 

@@ -143,13 +143,11 @@ only_a_string : IsText None (codes "\"Hello world!\"") (tree.string (codes "Hell
 unfolding run step end value power_fits
 only_a_string = text_of refl refl
 
-only_a_number : IsText None (codes "42") (whole (codes "42"))
+small_texts :
+    IsText None (codes "42") (whole (codes "42"))
+    × IsText None (codes "true") (tree.boolean true)
 unfolding run step end value power_fits
-only_a_number = text_of refl refl
-
-only_a_literal : IsText None (codes "true") (tree.boolean true)
-unfolding run step end value power_fits
-only_a_literal = text_of refl refl
+small_texts = (text_of refl refl, text_of refl refl)
 
 -- ---- a document with each kind of value
 

@@ -13,10 +13,8 @@ the_three : IsText None (codes "[null,true,false]") (array (null ∷ boolean tru
 unfolding run step end value power_fits
 the_three = text_of refl refl
 
-another_letter : IsRefusal None (error.UnexpectedInLiteral 120) (codes "trux") []
+literals_refused :
+    IsRefusal None (error.UnexpectedInLiteral 120) (codes "trux") []
+    × IsRefusal None (error.UnexpectedInLiteral 10) (codes "tru\n") []
 unfolding run step end value power_fits
-another_letter = refusal_of refl refl
-
-line_feed_in_a_literal : IsRefusal None (error.UnexpectedInLiteral 10) (codes "tru\n") []
-unfolding run step end value power_fits
-line_feed_in_a_literal = refusal_of refl refl
+literals_refused = (refusal_of refl refl, refusal_of refl refl)

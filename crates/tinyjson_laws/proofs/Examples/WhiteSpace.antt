@@ -23,57 +23,34 @@ no_other_white :
     × (is_white 0xfeff ≡ false)
 no_other_white = (refl, refl, refl, refl, refl)
 
-spaces : IsText None (codes " [ 1 , 2 ] ") (array (whole (codes "1") ∷ whole (codes "2") ∷ []))
+white_around :
+    IsText None (codes " [ 1 , 2 ] ") (array (whole (codes "1") ∷ whole (codes "2") ∷ []))
+    × IsText None (codes "\t[\t1\t,\t2\t]\t") (array (whole (codes "1") ∷ whole (codes "2") ∷ []))
+    × IsText None (codes "\n[\n1\n,\n2\n]\n") (array (whole (codes "1") ∷ whole (codes "2") ∷ []))
+    × IsText None (codes "\r[\r1\r,\r2\r]\r") (array (whole (codes "1") ∷ whole (codes "2") ∷ []))
+    × IsText None (codes " \t\n\r0\r\n\t ") zero
+    × IsText None (codes "null") null
 unfolding run step end value power_fits
-spaces = text_of refl refl
+white_around = (text_of refl refl, text_of refl refl, text_of refl refl, text_of refl refl, text_of refl refl, text_of refl refl)
 
-tabs : IsText None (codes "\t[\t1\t,\t2\t]\t") (array (whole (codes "1") ∷ whole (codes "2") ∷ []))
+no_white_space :
+    IsRefusal None (error.InvalidCharacter 0x0b) [] (0x0b ∷ codes "0")
+    × IsRefusal None (error.InvalidCharacter 0x0c) [] (0x0c ∷ codes "0")
+    × IsRefusal None (error.InvalidCharacter 0x85) [] (0x85 ∷ codes "0")
+    × IsRefusal None (error.InvalidCharacter 0xa0) [] (0xa0 ∷ codes "0")
+    × IsRefusal None (error.InvalidCharacter 0xfeff) [] (0xfeff ∷ codes "1")
+    × IsRefusal None (error.ExpectedCommaOrBracket 0x0c) (codes "[1" ++ 0x0c ∷ []) (codes "]")
+    × IsRefusal None (error.ExpectedEof 0xa0) (codes "0" ++ 0xa0 ∷ []) []
 unfolding run step end value power_fits
-tabs = text_of refl refl
-
-line_feeds : IsText None (codes "\n[\n1\n,\n2\n]\n") (array (whole (codes "1") ∷ whole (codes "2") ∷ []))
-unfolding run step end value power_fits
-line_feeds = text_of refl refl
-
-carriage_returns : IsText None (codes "\r[\r1\r,\r2\r]\r") (array (whole (codes "1") ∷ whole (codes "2") ∷ []))
-unfolding run step end value power_fits
-carriage_returns = text_of refl refl
-
-all_around : IsText None (codes " \t\n\r0\r\n\t ") zero
-unfolding run step end value power_fits
-all_around = text_of refl refl
-
-none_needed : IsText None (codes "null") null
-unfolding run step end value power_fits
-none_needed = text_of refl refl
-
-vertical_tab : IsRefusal None (error.InvalidCharacter 0x0b) [] (0x0b ∷ codes "0")
-unfolding run step end value power_fits
-vertical_tab = refusal_of refl refl
-
-form_feed : IsRefusal None (error.InvalidCharacter 0x0c) [] (0x0c ∷ codes "0")
-unfolding run step end value power_fits
-form_feed = refusal_of refl refl
-
-next_line : IsRefusal None (error.InvalidCharacter 0x85) [] (0x85 ∷ codes "0")
-unfolding run step end value power_fits
-next_line = refusal_of refl refl
-
-no_break_space : IsRefusal None (error.InvalidCharacter 0xa0) [] (0xa0 ∷ codes "0")
-unfolding run step end value power_fits
-no_break_space = refusal_of refl refl
-
-byte_order_mark : IsRefusal None (error.InvalidCharacter 0xfeff) [] (0xfeff ∷ codes "1")
-unfolding run step end value power_fits
-byte_order_mark = refusal_of refl refl
-
-form_feed_in_an_array : IsRefusal None (error.ExpectedCommaOrBracket 0x0c) (codes "[1" ++ 0x0c ∷ []) (codes "]")
-unfolding run step end value power_fits
-form_feed_in_an_array = refusal_of refl refl
-
-no_break_space_at_the_end : IsRefusal None (error.ExpectedEof 0xa0) (codes "0" ++ 0xa0 ∷ []) []
-unfolding run step end value power_fits
-no_break_space_at_the_end = refusal_of refl refl
+no_white_space = (
+  refusal_of refl refl,
+  refusal_of refl refl,
+  refusal_of refl refl,
+  refusal_of refl refl,
+  refusal_of refl refl,
+  refusal_of refl refl,
+  refusal_of refl refl,
+)
 
 spaces_in_strings_stay : without_white (codes " [ 1 ,\n\t\" a\\\" \" ]") ≡ codes "[1,\" a\\\" \"]"
 spaces_in_strings_stay = refl
