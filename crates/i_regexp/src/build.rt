@@ -19,7 +19,7 @@ pub(crate) fn one_of(members: Class) -> Node
 }
 
 impl Node {
-    /// The same tree once more.
+    /// A copy of the tree.
     pub(crate) fn copy(&self, alloc: Global) -> Result<Node, AllocError>
         ensures { IfOk result (λ n. IsCopy self.now n) }
     {

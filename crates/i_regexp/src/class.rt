@@ -41,7 +41,7 @@ impl Class {
         })
     }
 
-    /// The same class once more.
+    /// A copy of the class.
     pub(crate) fn copy(&self, alloc: Global) -> Result<Class, AllocError>
         ensures negated { IfOk result (λ k. k.negated ≡ self.now.negated) }
         ensures ranges { IfOk result (λ k. k.ranges.items ≡ self.now.ranges.items) }

@@ -36,7 +36,8 @@ pub fn is_at_most(number: &JsonNumber, other: &JsonNumber) -> bool
     }
 }
 
-/// The same without the signs. Where the first digits do not stand at one place, that decides.
+/// Whether the number is at most the other, both without their signs. Where the first digits do not stand at one
+/// place, that decides.
 fn is_magnitude_at_most(number: &JsonNumber, other: &JsonNumber) -> bool
     ensures { result ≡ is_magnitude_at_most number.now.decimal other.now.decimal }
 {

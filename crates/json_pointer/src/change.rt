@@ -85,7 +85,8 @@ impl Pointer {
 /// Takes out the part that the tokens name, and puts null in its place.
 fn take_at(value: &mut JsonValue, tokens: &[String]) -> Option<JsonValue>
     ensures { MatchOption result
-        ((part_at (view value.old) (map text tokens.now) ≡ None) × (view value.new ≡ view value.old))
+        ((part_at (view value.old) (map text tokens.now) ≡ None)
+        × (view value.new ≡ view value.old))
         (λ part. (part_at (view value.old) (map text tokens.now) ≡ Some (view part))
         × (view value.new ≡ with_part (view value.old) (map text tokens.now) null)) }
 {

@@ -62,21 +62,21 @@ pub fn indented_and_read(
     }
 }
 
-/// The same with four spaces.
+/// What is read of a value's text that is indented with four spaces.
 pub fn four_spaces_and_read(alloc: Global, value: &JsonValue) -> io::Result<JsonParseResult>
     ensures { IfOk result (λ back. IsValueOf (view value.now) back) }
 {
     indented_and_read(alloc, value, "    ")
 }
 
-/// The same with a tab.
+/// What is read of a value's text that is indented with a tab.
 pub fn tab_and_read(alloc: Global, value: &JsonValue) -> io::Result<JsonParseResult>
     ensures { IfOk result (λ back. IsValueOf (view value.now) back) }
 {
     indented_and_read(alloc, value, "\t")
 }
 
-/// The same with the empty indent: each item stands on a line of its own, at its beginning.
+/// What is read of a value's text with the empty indent, where each item begins a line of its own.
 pub fn lines_and_read(alloc: Global, value: &JsonValue) -> io::Result<JsonParseResult>
     ensures { IfOk result (λ back. IsValueOf (view value.now) back) }
 {

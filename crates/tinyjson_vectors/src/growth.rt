@@ -147,7 +147,7 @@ fn is_written(alloc: Global, value: &JsonValue) -> Result<bool, Fail> {
     )
 }
 
-/// The same of the indented text.
+/// Whether the indented text is the same as a text, as bytes and by a generator, and is read as the value.
 fn is_indented(alloc: Global, value: &JsonValue) -> Result<bool, Fail> {
     let text = value.format(alloc)?;
     let mut bytes = Vec::new(alloc);
