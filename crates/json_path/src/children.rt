@@ -206,8 +206,7 @@ fn push_up<'v>(
     nodes: &mut Vec<Node<'v>>,
 ) -> Result<(), AllocError>
     ensures { OnOk result (parts_view nodes.new.items ≡ parts_view nodes.old.items
-        ++ taken (is_up bounds.low bounds.high bounds.step) (path_of node.now) 0
-        (items_view items.now)) }
+        ++ taken (is_up bounds.low bounds.high bounds.step) (path_of node.now) 0 (items_view items.now)) }
 {
     for (index, item) in items.iter().enumerate() {
         if is_up(bounds, index) {
@@ -226,8 +225,7 @@ fn push_down<'v>(
     nodes: &mut Vec<Node<'v>>,
 ) -> Result<(), AllocError>
     ensures { OnOk result (parts_view nodes.new.items ≡ parts_view nodes.old.items
-        ++ reverse (taken (is_down bounds.low bounds.high bounds.step) (path_of node.now) 0
-        (items_view items.now))) }
+        ++ reverse (taken (is_down bounds.low bounds.high bounds.step) (path_of node.now) 0 (items_view items.now))) }
 {
     let mut index = items.len();
     while index > 0 {

@@ -1,6 +1,8 @@
 -- Parts that are put into one container, or taken out of it.
-use Rattle.std.proofs.Common.{◌≡◌, ◌≤◌, ◌<◌, ◌^◌, ◌&&◌, ℕ, zero, suc, Bool, true, false, cond, bytes_eq, codes, List, [], ◌∷◌, ◌++◌, length, get_or}
-use Rattle.std.proofs.Common.{map, Option, Some, None, option_map, MatchOption, Result, String, Vec, Global, refl, sym, ap, ◌∙◌, subst, arith}
+use Rattle.std.proofs.Common.{◌≡◌, ◌≤◌, ◌<◌, ◌^◌, ◌&&◌, ℕ, zero, suc, Bool, true, false, cond, bytes_eq, codes, List}
+use Rattle.std.proofs.Common.{[], ◌∷◌, ◌++◌, length, get_or}
+use Rattle.std.proofs.Common.{map, Option, Some, None, option_map, MatchOption, Result, String, Vec, Global, refl, sym}
+use Rattle.std.proofs.Common.{ap, ◌∙◌, subst, arith}
 use Rattle.std.proofs.Common.{encode_utf8_all, true≢false}
 use Rattle.std.proofs.lemmas.Slice.Eq.{bytes_eq-Decides}
 use Rattle.std.proofs.lemmas.Str.{encodes-chars, encodes-IsAscii}
@@ -69,7 +71,8 @@ not_placed vs k u n e h =
 pub placed : (vs ws : List JsonValue) (k : List ℕ) (v : JsonValue) (n i : ℕ) → n ≡ length vs → place_of n k ≡ Some i → i ≤ n
     → ws ≡ insert vs i v → with_child (array (items_view vs)) k (view v) ≡ Some (array (items_view ws))
 placed vs ws k v n i e at within is =
-    ap (λ m. option_map array (option_and_then (λ j. with_item_before (items_view vs) j (view v)) (place_of m k))) (item_count_view vs ∙ sym e)
+    ap (λ m. option_map array (option_and_then (λ j. with_item_before (items_view vs) j (view v))
+    (place_of m k))) (item_count_view vs ∙ sym e)
     ∙ (ap (λ o. option_map array (option_and_then (λ j. with_item_before (items_view vs) j (view v)) o)) at
     ∙ (ap (option_map array) (items_inserted vs i v (omega arith)) ∙ ap (λ xs. Some (array (items_view xs))) (sym is)))
 
