@@ -2,42 +2,16 @@
 
 import re
 
-# The port's words of each kind of refusal that the crate has too; %s stands for what they show.
-KINDS = {
-    "UnexpectedEof": "Unexpected EOF",
-    "InvalidCharacter": "Invalid character: %s",
-    "ExpectedEof": "Expected EOF but got character '%s'",
-    "KeyNotString": "Key of object must be string but found %s",
-    "ExpectedColon": "':' is expected after key of object but actually found '%s'",
-    "ExpectedCommaOrBrace": "',' or '}' is expected for object but actually found '%s'",
-    "ExpectedCommaOrBracket": "',' or ']' is expected for array but actually found '%s'",
-    "InvalidUtf16": "Invalid UTF-16 sequence",
-    "InvalidHexDigit": "Unicode character must be \\uXXXX (X is hex character) format but found character '%s'",
-    "InvalidEscape": "'\\%s' is invalid escaped character",
-    "ControlCharacter": "String cannot contain control character %s",
-    "UnexpectedInLiteral": "Unexpected character '%s' while parsing a literal",
-    "EmptyInteger": "Integer part must not be empty in number literal",
-    "LeadingZero": "Integer part of number must not start with 0 except for '0'",
-    "EmptyFraction": "Fraction part of number must not be empty",
-    "EmptyExponent": "Exponent part must not be empty in number literal",
-}
+from texts import KINDS, NONE, SAME, shown
 
-# The crate's words, a group for what they show: those that say more than the port's, and the others.
-OWN = {
-    "KeyNotString": r"Key of object must be string but found (Null|Boolean|Number|Array|Object)\b.*",
-    "InvalidUtf16": r"Invalid UTF-16 sequence .+",
-    "UnexpectedInLiteral": r"Unexpected character '(.)' while parsing '(?:null|true|false)'",
-}
+# The crate's words of each kind of refusal that it has.
 WORDS = {
-    kind: re.compile(OWN.get(kind, re.escape(words).replace("%s", "(.+)")), re.DOTALL) for kind, words in KINDS.items()
+    kind: re.compile(re.escape(words).replace("%s", "(.+)") if theirs is SAME else theirs, re.DOTALL)
+    for kind, (words, theirs) in KINDS.items()
+    if theirs is not NONE
 }
 MESSAGE = re.compile(r"(Parse error at line:(\d+), col:(\d+): )(.*)", re.DOTALL)
 ESCAPES = {"\\0": "\0", "\\t": "\t", "\\n": "\n", "\\r": "\r", "\\'": "'", '\\"': '"', "\\\\": "\\"}
-
-
-def shown(character):
-    """A character as the port's words show it."""
-    return character if " " <= character <= "~" else f"U+{ord(character):04X}"
 
 
 def unescaped(character):
@@ -68,5 +42,5 @@ def port_message(text, message):
     place, _, _, words = MESSAGE.fullmatch(message).groups()
     for kind, theirs in WORDS.items():
         if found := theirs.fullmatch(words):
-            return kind, place + KINDS[kind] % parts_of(kind, found.groups(), text_before(text, message))
+            return kind, place + KINDS[kind][0] % parts_of(kind, found.groups(), text_before(text, message))
     return None, message

@@ -6,15 +6,45 @@ line, a column (how many characters of the line were read), a kind, and what its
 
 import itertools
 
-from crate_words import KINDS, shown
+# The words of each kind, where %s stands for what they show; and those of the original crate for the same refusal, as a pattern
+# with a group for what they show: SAME where it has the port's, NONE where it has no such refusal.
+SAME, NONE = "the same words", None
+KINDS = {
+    "UnexpectedEof": ("Unexpected EOF", SAME),
+    "InvalidCharacter": ("Invalid character: %s", SAME),
+    "ExpectedEof": ("Expected EOF but got character '%s'", SAME),
+    "KeyNotString": (
+        "Key of object must be string but found %s",
+        r"Key of object must be string but found (Null|Boolean|Number|Array|Object)\b.*",
+    ),
+    "ExpectedColon": ("':' is expected after key of object but actually found '%s'", SAME),
+    "ExpectedCommaOrBrace": ("',' or '}' is expected for object but actually found '%s'", SAME),
+    "ExpectedCommaOrBracket": ("',' or ']' is expected for array but actually found '%s'", SAME),
+    "InvalidUtf16": ("Invalid UTF-16 sequence", r"Invalid UTF-16 sequence .+"),
+    "InvalidHexDigit": ("Unicode character must be \\uXXXX (X is hex character) format but found character '%s'", SAME),
+    "InvalidEscape": ("'\\%s' is invalid escaped character", SAME),
+    "ControlCharacter": ("String cannot contain control character %s", SAME),
+    "UnexpectedInLiteral": (
+        "Unexpected character '%s' while parsing a literal",
+        r"Unexpected character '(.)' while parsing '(?:null|true|false)'",
+    ),
+    "EmptyInteger": ("Integer part must not be empty in number literal", SAME),
+    "LeadingZero": ("Integer part of number must not start with 0 except for '0'", SAME),
+    "EmptyFraction": ("Fraction part of number must not be empty", SAME),
+    "EmptyExponent": ("Exponent part must not be empty in number literal", SAME),
+    "NumberOutOfRange": ("Invalid number literal: power of ten out of range", NONE),
+    "TooDeep": ("Nesting is too deep at '%s'", NONE),
+}
 
-# The words of each kind, also of those that the crate doesn't have.
-WORDS = {**KINDS, "NumberOutOfRange": "Invalid number literal: power of ten out of range", "TooDeep": "Nesting is too deep at '%s'"}
+
+def shown(character):
+    """A character as the port's words show it."""
+    return character if " " <= character <= "~" else f"U+{ord(character):04X}"
 
 
 def words_of(kind, *what):
     """The words of a refusal that show a character, or the name of a kind of value."""
-    return WORDS[kind] % tuple(shown(it) if len(it) == 1 else it for it in what)
+    return KINDS[kind][0] % tuple(shown(it) if len(it) == 1 else it for it in what)
 
 
 # The first example of the crate's documentation, with its members in no order, and the two texts of its value.
