@@ -36,6 +36,12 @@ KINDS = {
     "TooDeep": ("Nesting is too deep at '%s'", NONE),
 }
 
+# The texts that the crate accepts and the port refuses: words of the message, what stands before its place, and the difference.
+KNOWN_REFUSALS = (
+    ("power of ten out of range", r"[0-9][eE][+-]?[0-9]{19,}\Z", "a literal whose power of ten is outside i64 is refused"),
+    ("format but found character '", r"\\u[0-9a-fA-F]{0,3}[ \n\t\r]\Z", "white space among the digits of \\u is refused"),
+)
+
 
 def shown(character):
     """A character as the port's words show it."""
