@@ -38,16 +38,10 @@ mutual
   compact_is (tree.boolean b) k = refl
   compact_is (tree.number d) k = refl
   compact_is (tree.string cs) k = refl
-  compact_is (tree.array ts) k = compact_in_array ts k
-  compact_is (tree.object ms) k = compact_in_object ms k
-
-  compact_in_array : (ts : Items) (k : ℕ) → text None k (tree.array ts) ≡ compact_text (tree.array ts)
-  compact_in_array tree.no_items k = refl
-  compact_in_array (tree.item t ts) k = compact_array k t ts (compact_is t (k + 1)) (items_compact ts (k + 1))
-
-  compact_in_object : (ms : Members) (k : ℕ) → text None k (tree.object ms) ≡ compact_text (tree.object ms)
-  compact_in_object tree.no_members k = refl
-  compact_in_object (tree.member l t ms) k = compact_object k l t ms (compact_is t (k + 1)) (members_compact ms (k + 1))
+  compact_is (tree.array tree.no_items) k = refl
+  compact_is (tree.array (tree.item t ts)) k = compact_array k t ts (compact_is t (k + 1)) (items_compact ts (k + 1))
+  compact_is (tree.object tree.no_members) k = refl
+  compact_is (tree.object (tree.member l t ms)) k = compact_object k l t ms (compact_is t (k + 1)) (members_compact ms (k + 1))
 
   items_compact : (ts : Items) (k : ℕ) → CompactItems k ts
   items_compact tree.no_items k = refl
@@ -98,16 +92,11 @@ module _ (indent : List ℕ) where
     indented_is (tree.boolean b) k = refl
     indented_is (tree.number d) k = refl
     indented_is (tree.string cs) k = refl
-    indented_is (tree.array ts) k = indented_in_array ts k
-    indented_is (tree.object ms) k = indented_in_object ms k
-
-    indented_in_array : (ts : Items) (k : ℕ) → text (Some indent) k (tree.array ts) ≡ indented_text indent k (tree.array ts)
-    indented_in_array tree.no_items k = refl
-    indented_in_array (tree.item t ts) k = indented_array k t ts (indented_is t (k + 1)) (items_indented ts (k + 1))
-
-    indented_in_object : (ms : Members) (k : ℕ) → text (Some indent) k (tree.object ms) ≡ indented_text indent k (tree.object ms)
-    indented_in_object tree.no_members k = refl
-    indented_in_object (tree.member l t ms) k = indented_object k l t ms (indented_is t (k + 1)) (members_indented ms (k + 1))
+    indented_is (tree.array tree.no_items) k = refl
+    indented_is (tree.array (tree.item t ts)) k = indented_array k t ts (indented_is t (k + 1)) (items_indented ts (k + 1))
+    indented_is (tree.object tree.no_members) k = refl
+    indented_is (tree.object (tree.member l t ms)) k =
+        indented_object k l t ms (indented_is t (k + 1)) (members_indented ms (k + 1))
 
     items_indented : (ts : Items) (k : ℕ) → IndentedItems k ts
     items_indented tree.no_items k = refl

@@ -269,41 +269,18 @@ pub record IsCloser (e : ℕ) : Type 0 where
   pub no_sign : ((e == 43) || (e == 45)) ≡ false
   pub no_letter : IsNoLetter e
 
+closer : (e : ℕ) → short_escape e ≡ None → (e == 117) ≡ false → is_hex e ≡ false → is_white e ≡ false → continues e ≡ false
+    → ((e == 43) || (e == 45)) ≡ false → IsNoLetter e → IsCloser e
+closer e a b c d f g h = record { no_escape = a; no_unit = b; no_hex = c; no_white = d; ends = f; no_sign = g; no_letter = h }
+
 pub closer_colon : IsCloser 58
-closer_colon = record {
-  no_escape = refl;
-  no_unit = refl;
-  no_hex = refl;
-  no_white = refl;
-  ends = refl;
-  no_sign = refl;
-  no_letter =
-      (refl, refl, refl);
-}
+closer_colon = closer 58 refl refl refl refl refl refl (refl, refl, refl)
 
 pub closer_bracket : IsCloser 93
-closer_bracket = record {
-  no_escape = refl;
-  no_unit = refl;
-  no_hex = refl;
-  no_white = refl;
-  ends = refl;
-  no_sign = refl;
-  no_letter =
-      (refl, refl, refl);
-}
+closer_bracket = closer 93 refl refl refl refl refl refl (refl, refl, refl)
 
 pub closer_brace : IsCloser 125
-closer_brace = record {
-  no_escape = refl;
-  no_unit = refl;
-  no_hex = refl;
-  no_white = refl;
-  ends = refl;
-  no_sign = refl;
-  no_letter =
-      (refl, refl, refl);
-}
+closer_brace = closer 125 refl refl refl refl refl refl (refl, refl, refl)
 
 escape_no : (limit : Option ℕ) (fs : List Frame) (cs us : List ℕ) (e : ℕ) → IsCloser e
     → IsPassed (step (strictly limit) fs (quoted Machine.backslash cs us) e) → ⊥

@@ -139,15 +139,12 @@ unfolding decimal_text natural_text
 places_written = refl
 
 -- three texts that are a value alone
-only_a_string : IsText None (codes "\"Hello world!\"") (tree.string (codes "Hello world!"))
-unfolding run step end value power_fits
-only_a_string = text_of refl refl
-
 small_texts :
-    IsText None (codes "42") (whole (codes "42"))
+    IsText None (codes "\"Hello world!\"") (tree.string (codes "Hello world!"))
+    × IsText None (codes "42") (whole (codes "42"))
     × IsText None (codes "true") (tree.boolean true)
 unfolding run step end value power_fits
-small_texts = (text_of refl refl, text_of refl refl)
+small_texts = (text_of refl refl, text_of refl refl, text_of refl refl)
 
 -- ---- a document with each kind of value
 
