@@ -38,7 +38,7 @@ impl fmt::Display for JsonNumberError {
 
 impl Error for JsonNumberError {}
 
-/// The same cause.
+/// The cause, out of range or out of memory.
 impl From<LiteralError> for JsonNumberError {
     ghost from_gives = { λ l e. e ≡ of_literal l };
 

@@ -6,7 +6,6 @@
 //! The crate `tinyjson` uses it and re-exports its names: a program takes `tinyjson` alone.
 #![tactic(auto)]
 
-mod buffer;
 mod digits;
 mod error;
 mod inline;
@@ -14,6 +13,7 @@ mod integer;
 mod number;
 mod parse;
 mod scan;
+mod short;
 mod text;
 
 pub use error::{JsonNumberError, LiteralError};

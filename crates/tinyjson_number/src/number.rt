@@ -81,7 +81,7 @@ impl JsonNumber {
         })
     }
 
-    /// The same of so few digits that they need no memory.
+    /// The number of the digits of both sides, so few that they need no memory.
     #[inline(always)]
     pub(crate) fn of_few(negative: bool, front: &[u8], back: &[u8], power: i64) -> JsonNumber
         requires few { length front.now + length back.now ≤ 24 }

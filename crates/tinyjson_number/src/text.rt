@@ -22,7 +22,7 @@ impl fmt::Display for JsonNumber {
     }
 }
 
-/// The same text as that of `Display`.
+/// The decimal as `Display` shows it.
 impl fmt::Debug for JsonNumber {
     ghost debug_output = { λ n. Some (decimal_text n.decimal) };
 
