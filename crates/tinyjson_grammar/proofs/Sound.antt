@@ -15,7 +15,7 @@ use Rattle.tinyjson_grammar.specs.declared.error.JsonParseErrorKind.TheVariants.
 use Rattle.tinyjson_grammar.specs.Refusal.{KindSays, IsNotTooLate, IsRefusal}
 use Rattle.tinyjson_grammar.proofs.Trace.Paths.{outside}
 use Rattle.tinyjson_grammar.proofs.Prefix.ErrorFree.{viable_before}
-use Rattle.tinyjson_grammar.proofs.Trace.State.{Ranges, Spells, at_awaited}
+use Rattle.tinyjson_grammar.proofs.Trace.State.{Ranges, Spells, at_awaited, after_read}
 use Rattle.tinyjson_grammar.proofs.Prefix.Viable.{read_viable}
 use Rattle.tinyjson_grammar.proofs.Step.Statement.{loosely, NoQuoteFrom, Denies, IsUnviable, Follows}
 use Rattle.tinyjson_grammar.proofs.Step.Character.{step_follows, end_follows, Ends}
@@ -238,7 +238,7 @@ run_results ranges limit (c ∷ cs) h used fs q s r =
 -- ---- from the start
 
 pub start_spells : (limit : Option ℕ) → Spells limit [] [] awaited
-start_spells limit = record { read = at_awaited (outside []); is = tt; whole = refl; frames = refl; phase = refl }
+start_spells limit = after_read (at_awaited (outside [])) tt refl
 
 pub run_sound : Ranges → (limit : Option ℕ) (xs : List ℕ) → All IsScalar xs → Results limit [] xs (run (strictly limit) [] awaited xs)
 run_sound ranges limit xs h = run_results ranges limit xs h [] [] awaited (start_spells limit) (λ b ys. refl)

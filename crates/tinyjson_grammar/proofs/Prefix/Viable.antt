@@ -5,8 +5,8 @@ use Rattle.std.specs.Prelude.{IfSome}
 use Rattle.std.specs.Char.{is_ascii_digit}
 use Rattle.std.proofs.lemmas.Bool.{eqb-true, le-ltb, lt-ltb, leb-true, and_parts, or_left, or_right, or_cases}
 use Rattle.tinyjson_grammar.specs.Characters.{is_hex, paired}
-use Rattle.tinyjson_number.specs.Numeral.{numeral, Exponent, IsNumeral, AreDigits, minus_text, fraction_text, sign_text, exponent_text}
-use Rattle.tinyjson_number.specs.Numeral.{value, is_sign, is_exponent_letter}
+use Rattle.tinyjson_number.specs.Numeral.{Numeral, numeral, Exponent, IsNumeral, AreDigits, minus_text, fraction_text, sign_text}
+use Rattle.tinyjson_number.specs.Numeral.{IsExponent, exponent_text, spelling, value, is_sign, is_exponent_letter}
 use Rattle.tinyjson_grammar.specs.Syntax.{Syntax, null, text, depth, Piece, unit, ArePieces, piece_codes, pieces_text}
 use Rattle.tinyjson_grammar.specs.Prefix.{IsErrorFree, IsValue, IsLooselyViable}
 use Rattle.tinyjson_grammar.specs.Machine.{Within}
@@ -20,94 +20,35 @@ use Rattle.tinyjson_grammar.proofs.Trace.State.{IsSettled, within_text, IsPartWi
 use Rattle.tinyjson_grammar.proofs.Trace.State.{in_quoted, at_after, read_text, IsRead, IsKeyed, flat_within, Ending, ends_loosely}
 use Rattle.tinyjson_grammar.proofs.Trace.State.{white_loosely, are_pieces_append, pieces_append}
 
+number_ending : (n : Numeral) (xs rest : List ℕ) → IsNumeral n → spelling n ≡ xs ++ rest → Ending xs
+number_ending n xs rest is e = record { value = Syntax.number n; spelled = is; flat = refl; rest = rest; whole = e }
+
+exponent_ending : (b : Bool) (d : ℕ) (ds f : List ℕ) (l : ℕ) (s : Option ℕ) (e : ℕ) (es : List ℕ) → IsPart (part_letter b d ds f l)
+    → IfSome s (λ c. IsTrue (is_sign c)) → AreDigits (e ∷ es) → (xs rest : List ℕ)
+    → spelling (numeral b (d ∷ ds) f (Some (exponent_with l s (e ∷ es)))) ≡ xs ++ rest → Ending xs
+exponent_ending b d ds f l s e es h i k xs rest w =
+    let power : IsExponent (exponent_with l s (e ∷ es)) = record { letter = h.2; sign = i; digits = k; some_digit = omega arith } in
+    number_ending (numeral b (d ∷ ds) f (Some (exponent_with l s (e ∷ es)))) xs rest
+    (record { integer = h.0.0; some_digit = omega arith; fraction = h.1; exponent = power }) w
+
 pub part_ending : (n : Part) → IsPart n → Ending (part_text n)
 part_ending part_minus h =
-    record {
-      value = Syntax.number (numeral true (48 ∷ []) [] None);
-      spelled =
-          record { integer = (refl, tt); some_digit = omega arith; fraction = tt; exponent = tt };
-      flat = refl;
-      rest = 48 ∷ [];
-      whole = refl;
-    }
+    number_ending (numeral true (48 ∷ []) [] None) _ (48 ∷ [])
+    (record { integer = (refl, tt); some_digit = omega arith; fraction = tt; exponent = tt }) refl
 part_ending (part_integer b d ds) h =
-    record {
-      value = Syntax.number (numeral b (d ∷ ds) [] None);
-      spelled =
-          record { integer = h; some_digit = omega arith; fraction = tt; exponent = tt };
-      flat = refl;
-      rest = [];
-      whole =
-          ap (λ xs. minus_text b ++ d ∷ xs) (append-nil ds) ∙ sym (append-nil (minus_text b ++ d ∷ ds));
-    }
+    number_ending (numeral b (d ∷ ds) [] None) _ [] (record { integer = h; some_digit = omega arith; fraction = tt; exponent = tt })
+    (ap (λ xs. minus_text b ++ d ∷ xs) (append-nil ds) ∙ sym (append-nil (minus_text b ++ d ∷ ds)))
 part_ending (part_point b d ds) h =
-    record {
-      value = Syntax.number (numeral b (d ∷ ds) (48 ∷ []) None);
-      spelled =
-          record { integer = h.0; some_digit = omega arith; fraction = (refl, tt); exponent = tt };
-      flat = refl;
-      rest = 48 ∷ [];
-      whole =
-          simp append_assoc;
-    }
+    number_ending (numeral b (d ∷ ds) (48 ∷ []) None) _ (48 ∷ [])
+    (record { integer = h.0; some_digit = omega arith; fraction = (refl, tt); exponent = tt }) (simp append_assoc)
 part_ending (part_fraction b d ds e es) h =
-    record {
-      value = Syntax.number (numeral b (d ∷ ds) (e ∷ es) None);
-      spelled =
-          record { integer = h.0.0; some_digit = omega arith; fraction = h.1; exponent = tt };
-      flat = refl;
-      rest = [];
-      whole =
-          simp (append_assoc, append-nil);
-    }
-part_ending (part_letter b d ds f l) h =
-    record {
-      value = Syntax.number (numeral b (d ∷ ds) f (Some (exponent_with l None (48 ∷ []))));
-      spelled =
-          record {
-            integer = h.0.0;
-            some_digit = omega arith;
-            fraction = h.1;
-            exponent =
-                record { letter = h.2; sign = tt; digits = (refl, tt); some_digit = omega arith };
-          };
-      flat = refl;
-      rest = 48 ∷ [];
-      whole =
-          simp append_assoc;
-    }
+    number_ending (numeral b (d ∷ ds) (e ∷ es) None) _ []
+    (record { integer = h.0.0; some_digit = omega arith; fraction = h.1; exponent = tt }) (simp (append_assoc, append-nil))
+part_ending (part_letter b d ds f l) h = exponent_ending b d ds f l None 48 [] h tt (refl, tt) _ (48 ∷ []) (simp append_assoc)
 part_ending (part_sign b d ds f l s) h =
-    record {
-      value = Syntax.number (numeral b (d ∷ ds) f (Some (exponent_with l (Some s) (48 ∷ []))));
-      spelled =
-          record {
-            integer = h.0.0;
-            some_digit = omega arith;
-            fraction = h.1;
-            exponent =
-                record { letter = h.2; sign = h.3; digits = (refl, tt); some_digit = omega arith };
-          };
-      flat = refl;
-      rest = 48 ∷ [];
-      whole =
-          simp append_assoc;
-    }
+    exponent_ending b d ds f l (Some s) 48 [] (h.0, h.1, h.2) h.3 (refl, tt) _ (48 ∷ []) (simp append_assoc)
 part_ending (part_exponent b d ds f l s e es) h =
-    record {
-      value = Syntax.number (numeral b (d ∷ ds) f (Some (exponent_with l s (e ∷ es))));
-      spelled =
-          record {
-            integer = h.0.0;
-            some_digit = omega arith;
-            fraction = h.1;
-            exponent =
-                record { letter = h.2; sign = h.3; digits = h.4; some_digit = omega arith };
-          };
-      flat = refl;
-      rest = [];
-      whole =
-          simp (append_assoc, append-nil);
-    }
+    exponent_ending b d ds f l s e es (h.0, h.1, h.2) h.3 h.4 _ [] (simp (append_assoc, append-nil))
 
 -- the piece that was begun, completed
 pub record Last (wi : Within) : Type 0 where
@@ -173,6 +114,13 @@ read_viable limit (in_quoted p ps cs qs wi) h = ends_loosely limit p h.0 _ (quot
 read_viable limit (at_after p s v) h = white_loosely limit p h.0 s h.1.spelled h.3 v h.4
 
 -- ---- no error, then late characters
+
+pub at_once : (limit : Option ℕ) (xs : List ℕ) → IsErrorFree limit xs → IsPromptly limit xs []
+at_once limit xs h = record { prefix = xs; late = []; whole = sym (append-nil xs); error_free = h; are_late = tt }
+
+then_late : (limit : Option ℕ) (prefix late xs : List ℕ) → xs ≡ prefix ++ (late ++ []) → IsErrorFree limit prefix → AreLate late
+    → IsPromptly limit xs []
+then_late limit prefix late xs e h i = record { prefix = prefix; late = late; whole = e; error_free = h; are_late = i }
 
 pub digit_hex : (c : ℕ) → IsTrue (is_ascii_digit c) → IsTrue (is_hex c)
 digit_hex c h =
@@ -284,67 +232,22 @@ module _ (ranges : Ranges) where
 
   pub part_prompt : (limit : Option ℕ) (p : Path) → IsPath limit p → (n : Part) → IsPart n
       → IsPromptly limit (path_text p ++ part_text n) []
-  part_prompt limit p hp part_minus h = record {
-    prefix = path_text p ++ 45 ∷ [];
-    late = [];
-    whole = simp append-nil;
-    error_free =
-        error_free_minus limit p hp;
-    are_late = tt;
-  }
+  part_prompt limit p hp part_minus h = at_once limit _ (error_free_minus limit p hp)
   part_prompt limit p hp (part_integer b d ds) h =
-      record {
-        prefix = path_text p ++ (minus_text b ++ d ∷ []);
-        late = ds;
-        whole = simp (append_assoc, append-nil);
-        error_free =
-            error_free_number limit p hp b d [] [] ((h.0, tt), refl) tt;
-        are_late = digits_late ds h.1;
-      }
-  part_prompt limit p hp (part_point b d ds) h = record {
-    prefix = path_text p ++ (minus_text b ++ d ∷ (ds ++ 46 ∷ []));
-    late = [];
-    whole =
-        simp append-nil;
-    error_free = error_free_point limit p hp b d ds h;
-    are_late = tt;
-  }
-  part_prompt limit p hp (part_fraction b d ds e es) h =
-      record {
-        prefix = path_text p ++ (minus_text b ++ d ∷ (ds ++ 46 ∷ e ∷ es));
-        late = [];
-        whole = simp append-nil;
-        error_free =
-            error_free_number limit p hp b d ds (e ∷ es) h.0 h.1;
-        are_late = tt;
-      }
+      then_late limit (path_text p ++ (minus_text b ++ d ∷ [])) ds _ (simp (append_assoc, append-nil))
+      (error_free_number limit p hp b d [] [] ((h.0, tt), refl) tt) (digits_late ds h.1)
+  part_prompt limit p hp (part_point b d ds) h = at_once limit _ (error_free_point limit p hp b d ds h)
+  part_prompt limit p hp (part_fraction b d ds e es) h = at_once limit _ (error_free_number limit p hp b d ds (e ∷ es) h.0 h.1)
   part_prompt limit p hp (part_letter b d ds f l) h =
-      record {
-        prefix = path_text p ++ (minus_text b ++ d ∷ (ds ++ fraction_text f));
-        late = l ∷ [];
-        whole =
-            simp append_assoc;
-        error_free = error_free_number limit p hp b d ds f h.0 h.1;
-        are_late = (letter_late l h.2, tt);
-      }
+      then_late limit (path_text p ++ (minus_text b ++ d ∷ (ds ++ fraction_text f))) (l ∷ []) _ (simp append_assoc)
+      (error_free_number limit p hp b d ds f h.0 h.1) (letter_late l h.2, tt)
   part_prompt limit p hp (part_sign b d ds f l s) h =
-      record {
-        prefix = path_text p ++ (minus_text b ++ d ∷ (ds ++ fraction_text f));
-        late = l ∷ s ∷ [];
-        whole =
-            simp append_assoc;
-        error_free = error_free_number limit p hp b d ds f h.0 h.1;
-        are_late =
-            (letter_late l h.2, (sign_late s h.3, tt));
-      }
+      then_late limit (path_text p ++ (minus_text b ++ d ∷ (ds ++ fraction_text f))) (l ∷ s ∷ []) _ (simp append_assoc)
+      (error_free_number limit p hp b d ds f h.0 h.1) (letter_late l h.2, (sign_late s h.3, tt))
   part_prompt limit p hp (part_exponent b d ds f l s e es) h =
-      record {
-        prefix = path_text p ++ (minus_text b ++ d ∷ (ds ++ fraction_text f));
-        late = l ∷ (sign_text s ++ e ∷ es);
-        whole = simp (append_assoc, append-nil);
-        error_free = error_free_number limit p hp b d ds f h.0 h.1;
-        are_late = (letter_late l h.2, late_append (sign_text s) (e ∷ es) (signs_late s h.3) (digits_late (e ∷ es) h.4));
-      }
+      then_late limit (path_text p ++ (minus_text b ++ d ∷ (ds ++ fraction_text f))) (l ∷ (sign_text s ++ e ∷ es)) _
+      (simp (append_assoc, append-nil)) (error_free_number limit p hp b d ds f h.0 h.1)
+      (letter_late l h.2, late_append (sign_text s) (e ∷ es) (signs_late s h.3) (digits_late (e ∷ es) h.4))
 
 -- ---- the other states
 
@@ -389,9 +292,6 @@ quoted_prompt limit p hp ps cs h i qs j late l end =
           error_free_open limit p hp ps cs h i;
       are_late = late_append _ _ (quads_late qs j) l;
     }
-
-pub at_once : (limit : Option ℕ) (xs : List ℕ) → IsErrorFree limit xs → IsPromptly limit xs []
-at_once limit xs h = record { prefix = xs; late = []; whole = sym (append-nil xs); error_free = h; are_late = tt }
 
 pub read_prompt : Ranges → (limit : Option ℕ) (x : Read) → IsRead limit x → IsPromptly limit (read_text x) []
 read_prompt ranges limit (at_first p) h = at_once limit _ (error_free_place limit p h.0)

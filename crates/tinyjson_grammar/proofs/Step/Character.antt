@@ -32,6 +32,7 @@ use Rattle.tinyjson_grammar.proofs.Step.Number.{digits_follows, minus_says, zero
 use Rattle.tinyjson_grammar.proofs.Step.Number.{IsDone, done_value, integer_done, fraction_done, exponent_done}
 use Rattle.tinyjson_grammar.proofs.Step.String.{quoted_follows, in_string}
 use Rattle.tinyjson_grammar.proofs.Step.First.{at_first_follows, awaited_follows}
+use Rattle.tinyjson_grammar.proofs.Trace.State.{after_read}
 
 shorter_front : (xs : List ℕ) (y : ℕ) (ys : List ℕ) → length xs < length (xs ++ y ∷ ys)
 shorter_front xs y ys = rw (length-append xs (y ∷ ys)) (omega arith)
@@ -93,26 +94,19 @@ literal_follows limit p hp s done (l ∷ []) h c =
     (λ e. literal_says limit p hp s done l [] h c e)
 literal_follows limit p hp s done (l ∷ m ∷ ls) h c =
     at_code limit _ _ _ c l _ _
-    (λ e. record {
-      read = in_literal p s (done ++ l ∷ []) (m ∷ ls);
-      is = (
-        hp,
-        record {
-          value = h.value;
-          flat = h.flat;
-          is_literal = h.is_literal;
-          whole = h.whole
-              ∙ sym (append_assoc done (l ∷ []) (m ∷ ls));
-          no_number = h.no_number;
-          begun =
-              rw (length-append done (l ∷ [])) (omega arith);
-          more = omega arith;
-        },
-      );
-      whole = append_assoc (path_text p) done (c ∷ []) ∙ ap (λ x. path_text p ++ (done ++ x ∷ [])) e;
-      frames = refl;
-      phase = refl;
-    })
+    (λ e. after_read (in_literal p s (done ++ l ∷ []) (m ∷ ls)) (
+      hp,
+      record {
+        value = h.value;
+        flat = h.flat;
+        is_literal = h.is_literal;
+        whole = h.whole ∙ sym (append_assoc done (l ∷ []) (m ∷ ls));
+        no_number = h.no_number;
+        begun = rw (length-append done (l ∷ [])) (omega arith);
+        more = omega arith;
+      },
+    )
+    (append_assoc (path_text p) done (c ∷ []) ∙ ap (λ x. path_text p ++ (done ++ x ∷ [])) e))
     (λ e. literal_says limit p hp s done l (m ∷ ls) h c e)
 
 -- each character is followed

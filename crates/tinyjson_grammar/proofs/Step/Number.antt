@@ -16,7 +16,7 @@ use Rattle.tinyjson_grammar.specs.declared.error.JsonParseErrorKind.TheVariants.
 use Rattle.tinyjson_grammar.specs.Refusal.{KindSays, BeginsWithNone}
 use Rattle.tinyjson_grammar.proofs.Trace.Paths.{Path, outside, item_in, key_in, value_in, path_text, path_frames, IsPath, members_from}
 use Rattle.tinyjson_grammar.proofs.Trace.State.{Part, part_point, part_fraction, part_letter, part_sign, part_exponent, part_text}
-use Rattle.tinyjson_grammar.proofs.Trace.State.{part_stage, part_numeral, IsPart, IsIntegerPart, Ranges, in_digits, part_minus}
+use Rattle.tinyjson_grammar.proofs.Trace.State.{part_stage, part_numeral, IsPart, IsIntegerPart, Ranges, in_digits, part_minus, after_read}
 use Rattle.tinyjson_grammar.proofs.Trace.State.{part_integer, Spells, flat_within, ends_loosely, exponent_with}
 use Rattle.tinyjson_grammar.proofs.Prefix.Viable.{part_ending, part_prompt, error_free_minus, error_free_point}
 use Rattle.tinyjson_grammar.proofs.Step.Statement.{Follows, either, key_says, loosely, NoQuoteFrom, Denies}
@@ -178,14 +178,8 @@ unless_either limit used gs q c fs n b x y = cond_both b x y (λ o. Follows limi
 
 goes : (limit : Option ℕ) (p : Path) → IsPath limit p → (n m : Part) → IsPart m → (c : ℕ) → part_text m ≡ part_text n ++ c ∷ []
     → Spells limit ((path_text p ++ part_text n) ++ c ∷ []) (path_frames p) (digits (part_stage m) (part_numeral m))
-goes limit p hp n m hm c e = record {
-  read = in_digits p m;
-  is = (hp, hm);
-  whole = append_assoc (path_text p) (part_text n) (c ∷ [])
-      ∙ ap (λ xs. path_text p ++ xs) (sym e);
-  frames = refl;
-  phase = refl;
-}
+goes limit p hp n m hm c e = after_read (in_digits p m) (hp, hm)
+    (append_assoc (path_text p) (part_text n) (c ∷ []) ∙ ap (λ xs. path_text p ++ xs) (sym e))
 
 pub integer_done : (b : Bool) (d : ℕ) (ds : List ℕ) → IsIntegerPart d ds → IsDone (part_integer b d ds)
 integer_done b d ds h = record {

@@ -14,7 +14,7 @@ use Rattle.tinyjson_grammar.specs.Refusal.{IsHex, AreUnits, EndsRun}
 use Rattle.tinyjson_grammar.specs.Refusal as refusal
 use Rattle.tinyjson_grammar.proofs.Trace.Paths.{Path, path_text, path_frames, IsPath}
 use Rattle.tinyjson_grammar.proofs.Trace.State.{pieces_append, are_pieces_append, within_text, IsPartWithin, IsSettled, Quad, quads}
-use Rattle.tinyjson_grammar.proofs.Trace.State.{values, in_quoted, Spells, flat_within, Ending, ends_loosely}
+use Rattle.tinyjson_grammar.proofs.Trace.State.{values, in_quoted, Spells, flat_within, Ending, ends_loosely, after_read}
 use Rattle.tinyjson_grammar.proofs.Prefix.Viable.{quoted_prompt, within_late, settled_strict}
 use Rattle.tinyjson_grammar.proofs.Step.Statement.{Follows, either, at_code}
 use Rattle.tinyjson_grammar.proofs.Step.Awaits.{begins_at}
@@ -57,15 +57,8 @@ pub string_goes : (limit : Option ℕ) (p : Path) (ps : List Piece) (cs : List �
     → (w v : Within) (c : ℕ) → IsPartWithin v → within_text v ≡ within_text w ++ c ∷ [] →
     Spells limit (string_text p ps qs (within_text w) ++ c ∷ []) (path_frames p) (quoted v cs (values qs))
 string_goes limit p ps cs qs h w v c hv e =
-    record {
-      read = in_quoted p ps cs qs v;
-      is = (h.path, h.pieces, h.settled, h.run, hv);
-      whole =
-          string_longer (path_text p) (pieces_text ps) (pieces_text (quads qs)) (within_text w) c
-          ∙ ap (string_text p ps qs) (sym e);
-      frames = refl;
-      phase = refl;
-    }
+    after_read (in_quoted p ps cs qs v) (h.path, h.pieces, h.settled, h.run, hv)
+    (string_longer (path_text p) (pieces_text ps) (pieces_text (quads qs)) (within_text w) c ∙ ap (string_text p ps qs) (sym e))
 
 -- a piece that was read after the run
 pub string_piece : (limit : Option ℕ) (p : Path) (ps : List Piece) (cs : List ℕ) (qs : List Quad) → InString limit p ps cs qs
@@ -73,21 +66,14 @@ pub string_piece : (limit : Option ℕ) (p : Path) (ps : List Piece) (cs : List 
     IsPiece e → w ++ c ∷ [] ≡ piece_text e → is_surrogate (code e) ≡ false →
     Spells limit (string_text p ps qs w ++ c ∷ []) (path_frames p) (quoted Machine.plain ((cs ++ decode (values qs)) ++ code e ∷ []) [])
 string_piece limit p ps cs qs h hd w c e he ht hc =
-    record {
-      read = in_quoted p (ps ++ (quads qs ++ e ∷ [])) ((cs ++ decode (values qs)) ++ code e ∷ []) [] Machine.plain;
-      is = (
-        h.path,
-        are_pieces_append ps _ h.pieces (are_pieces_append (quads qs) _ h.run (he, tt)),
-        settle_more ps cs h.settled qs hd e
-            hc,
-        tt,
-        tt,
-      );
-      whole = string_longer (path_text p) (pieces_text ps) (pieces_text (quads qs)) w c
-          ∙ (ap (string_text p ps qs) ht ∙ ap (λ xs. path_text p ++ 34 ∷ xs) (simp (pieces_append, append_assoc, append-nil)));
-      frames = refl;
-      phase = refl;
-    }
+    after_read (in_quoted p (ps ++ (quads qs ++ e ∷ [])) ((cs ++ decode (values qs)) ++ code e ∷ []) [] Machine.plain) (
+      h.path,
+      are_pieces_append ps _ h.pieces (are_pieces_append (quads qs) _ h.run (he, tt)),
+      settle_more ps cs h.settled qs hd e hc,
+      tt,
+      tt,
+    ) (string_longer (path_text p) (pieces_text ps) (pieces_text (quads qs)) w c ∙
+    (ap (string_text p ps qs) ht ∙ ap (λ xs. path_text p ++ 34 ∷ xs) (simp (pieces_append, append_assoc, append-nil))))
 
 pub flush_follows : (limit : Option ℕ) (used : List ℕ) (fs : List Frame) (q : Phase) (c : ℕ) (cs us : List ℕ) (go : List ℕ → Next) →
     (IsTrue (paired us) → Follows limit used fs q c (go (cs ++ decode us)))

@@ -17,7 +17,7 @@ use Rattle.tinyjson_grammar.proofs.Trace.Paths.{depth_of_items, depth_of_pairs, 
 use Rattle.tinyjson_grammar.proofs.Trace.Paths.{trees_push, members_push, deepest_push, pairs_deepest_push, AreElements_push}
 use Rattle.tinyjson_grammar.proofs.Trace.Paths.{ArePairs_push}
 use Rattle.tinyjson_grammar.proofs.Prefix.ErrorFree.{item_value, pair_value, error_free, error_free_from, placed}
-use Rattle.tinyjson_grammar.proofs.Trace.State.{at_awaited, at_after, after_frames, after_phase, IsRead, are_white_append}
+use Rattle.tinyjson_grammar.proofs.Trace.State.{at_awaited, at_after, after_frames, after_phase, IsRead, are_white_append, after_read}
 use Rattle.tinyjson_grammar.proofs.Prefix.Viable.{error_free_after, error_free_place}
 use Rattle.tinyjson_grammar.proofs.Step.Statement.{NoQuoteFrom, Follows, either, at_code, key_says}
 use Rattle.tinyjson_grammar.proofs.Accepts.Text.{no_text}
@@ -29,43 +29,18 @@ pub complete_follows : (limit : Option ℕ) (p : Path) → IsPath limit p → (s
     → used ++ c ∷ [] ≡ path_text p ++ text s →
     Follows limit used fs q c (complete true (path_frames p) (tree_of s) true)
 complete_follows limit (outside w) hp s hs hd nn used fs q c e =
-    record {
-      read = at_after (outside w) s [];
-      is = (hp, hs, tt, hd, tt);
-      whole = e
-          ∙ ap (λ xs. w ++ xs) (sym (append-nil (text s)));
-      frames = refl;
-      phase = refl;
-    }
+    after_read (at_after (outside w) s []) (hp, hs, tt, hd, tt) (e ∙ ap (λ xs. w ++ xs) (sym (append-nil (text s))))
 complete_follows limit (item_in p es w) hp s hs hd nn used fs q c e =
-    record {
-      read = at_after (item_in p es w) s [];
-      is = (hp, hs, tt, hd, tt);
-      whole = e
-          ∙ ap (λ xs. path_text (item_in p es w) ++ xs) (sym (append-nil (text s)));
-      frames = refl;
-      phase = refl;
-    }
+    after_read (at_after (item_in p es w) s []) (hp, hs, tt, hd, tt)
+    (e ∙ ap (λ xs. path_text (item_in p es w) ++ xs) (sym (append-nil (text s))))
 complete_follows limit (value_in p ps a k b w) hp s hs hd nn used fs q c e =
-    record {
-      read = at_after (value_in p ps a k b w) s [];
-      is = (hp, hs, tt, hd, tt);
-      whole = e
-          ∙ ap (λ xs. path_text (value_in p ps a k b w) ++ xs) (sym (append-nil (text s)));
-      frames = refl;
-      phase = refl;
-    }
+    after_read (at_after (value_in p ps a k b w) s []) (hp, hs, tt, hd, tt)
+    (e ∙ ap (λ xs. path_text (value_in p ps a k b w) ++ xs) (sym (append-nil (text s))))
 complete_follows limit (key_in p ps w) hp s hs hd nn used fs q c e =
     either limit used fs q c (not (is_string (tree_of s))) _ _
     (λ h more d x. key_says limit p ps w hp s hs (sym (string_key s) ∙ not-true _ h) hd _ e more (nn more) x.unviable)
-    (λ h. record {
-      read = at_after (key_in p ps w) s [];
-      is = (hp, hs, sym (string_key s) ∙ not-false _ h, hd, tt);
-      whole = e
-          ∙ ap (λ ys. path_text (key_in p ps w) ++ ys) (sym (append-nil (text s)));
-      frames = refl;
-      phase = refl;
-    })
+    (λ h. after_read (at_after (key_in p ps w) s []) (hp, hs, sym (string_key s) ∙ not-false _ h, hd, tt)
+    (e ∙ ap (λ ys. path_text (key_in p ps w) ++ ys) (sym (append-nil (text s)))))
 
 -- ---- after a value
 
@@ -116,14 +91,7 @@ pub after_follows : (limit : Option ℕ) (p : Path) (s : Syntax) (v : List ℕ) 
     Follows limit (path_text p ++ (text s ++ v)) fs q c (step_plain (strictly limit) (after_frames p s) (after_phase p s) c)
 after_follows limit (outside w) s v h fs q nq c =
     either limit _ _ _ c (is_white c) _ _
-    (λ hc. record {
-      read = at_after (outside w) s (v ++ c ∷ []);
-      is = more_white limit (outside w) s v h c hc;
-      whole =
-          longer w (text s) v c;
-      frames = refl;
-      phase = refl;
-    })
+    (λ hc. after_read (at_after (outside w) s (v ++ c ∷ [])) (more_white limit (outside w) s v h c hc) (longer w (text s) v c))
     (λ hc more d x. (
       (
         hc,
@@ -154,14 +122,8 @@ after_follows limit (outside w) s v h fs q nq c =
     ))
 after_follows limit (item_in p es w) s v h fs q nq c =
     either limit _ _ _ c (is_white c) _ _
-    (λ hc. record {
-      read = at_after (item_in p es w) s (v ++ c ∷ []);
-      is = more_white limit (item_in p es w) s v h c hc;
-      whole =
-          longer (path_text (item_in p es w)) (text s) v c;
-      frames = refl;
-      phase = refl;
-    })
+    (λ hc. after_read (at_after (item_in p es w) s (v ++ c ∷ [])) (more_white limit (item_in p es w) s v h c hc)
+    (longer (path_text (item_in p es w)) (text s) v c))
     (λ hw. at_code limit _ _ _ c 44 _ _
     (λ hc. record {
       read = at_awaited (item_in p (es ++ (record { before = w; value = s; after = v }) ∷ []) []);
@@ -200,22 +162,10 @@ after_follows limit (item_in p es w) s v h fs q nq c =
     ))))
 after_follows limit (key_in p ps w) s v h fs q nq c =
     either limit _ _ _ c (is_white c) _ _
-    (λ hc. record {
-      read = at_after (key_in p ps w) s (v ++ c ∷ []);
-      is = more_white limit (key_in p ps w) s v h c hc;
-      whole =
-          longer (path_text (key_in p ps w)) (text s) v c;
-      frames = refl;
-      phase = refl;
-    })
+    (λ hc. after_read (at_after (key_in p ps w) s (v ++ c ∷ [])) (more_white limit (key_in p ps w) s v h c hc)
+    (longer (path_text (key_in p ps w)) (text s) v c))
     (λ hw. at_code limit _ _ _ c 58 _ _
-    (λ hc. record {
-      read = at_awaited (value_in p ps w s v []);
-      is = (h.0.0, h.0.1, h.0.2, h.1, h.2, h.4, tt, h.0.3);
-      whole = rw hc (simp append_assoc);
-      frames = refl;
-      phase = refl;
-    })
+    (λ hc. after_read (at_awaited (value_in p ps w s v [])) (h.0.0, h.0.1, h.0.2, h.1, h.2, h.4, tt, h.0.3) (rw hc (simp append_assoc)))
     (λ hm more d x. (
       ((path_text (key_in p ps w) ++ (text s ++ v), refl), hw, (λ e. eqb-false c 58 hm e)),
       (
@@ -234,15 +184,8 @@ after_follows limit (key_in p ps w) s v h fs q nq c =
     )))
 after_follows limit (value_in p ps a k b w) s v h fs q nq c =
     either limit _ _ _ c (is_white c) _ _
-    (λ hc. record {
-      read = at_after (value_in p ps a k b w) s (v ++ c ∷ []);
-      is =
-          more_white limit (value_in p ps a k b w) s v h c hc;
-      whole = longer (path_text (value_in p ps a k b w)) (text s) v c;
-      frames =
-          refl;
-      phase = refl;
-    })
+    (λ hc. after_read (at_after (value_in p ps a k b w) s (v ++ c ∷ [])) (more_white limit (value_in p ps a k b w) s v h c hc)
+    (longer (path_text (value_in p ps a k b w)) (text s) v c))
     (λ hw. at_code limit _ _ _ c 44 _ _
     (λ hc. let q : Pair = record { before_key = a; key = k; after_key = b; before = w; value = s; after = v } in
     record {

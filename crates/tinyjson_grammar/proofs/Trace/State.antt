@@ -194,6 +194,11 @@ pub record Spells (limit : Option ℕ) (used : List ℕ) (fs : List Frame) (q : 
   pub frames : fs ≡ read_frames read
   pub phase : q ≡ read_phase read
 
+-- the state that was read
+pub after_read : {limit : Option ℕ} {used : List ℕ} (x : Read) → IsRead limit x → used ≡ read_text x
+    → Spells limit used (read_frames x) (read_phase x)
+after_read x is whole = record { read = x; is = is; whole = whole; frames = refl; phase = refl }
+
 -- ---- a state is viable
 
 pub path_within : (limit : Option ℕ) (p : Path) → IsPath limit p → IsWithin limit (level p + 0)
