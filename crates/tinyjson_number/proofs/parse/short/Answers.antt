@@ -7,21 +7,13 @@ use Rattle.tinyjson_number.proofs.DecimalTrip.{digits_join}
 use Rattle.tinyjson_number.proofs.Readings.{kept_is, zero_value, zero_in_range, value_exact, value_fits, power_few, power_few_fits}
 use Rattle.tinyjson_number.proofs.parse.short.Goals as goal
 
-pub returns-then-kept-eq0-clause-decimal : goal.returns-then-kept-eq0-clause-decimal
-returns-then-kept-eq0-clause-decimal c =
+pub returns-then-kept-eq0 : goal.returns-then-kept-eq0
+returns-then-kept-eq0 c =
     let n : Numeral = plain_numeral c.args.negative c.args.integer.now c.args.fraction.now in
     let empty : length (significant (n.integer ++ n.fraction)) ≡ 0 = omega
     (arith, ap length c.strip-kept.ensures.digits, length-append {A = ℕ}) in
     let none : significant (n.integer ++ n.fraction) ≡ [] = nil_from_length _ empty in
-    c.zero.ensures ∙ sym (zero_value n none)
-
-pub returns-then-kept-eq0-clause-fits : goal.returns-then-kept-eq0-clause-fits
-returns-then-kept-eq0-clause-fits c =
-    let n : Numeral = plain_numeral c.args.negative c.args.integer.now c.args.fraction.now in
-    let empty : length (significant (n.integer ++ n.fraction)) ≡ 0 = omega
-    (arith, ap length c.strip-kept.ensures.digits, length-append {A = ℕ}) in
-    let none : significant (n.integer ++ n.fraction) ≡ [] = nil_from_length _ empty in
-    zero_in_range n none
+    record { decimal = c.zero.ensures ∙ sym (zero_value n none); fits = zero_in_range n none }
 
 pub of_few-requires-clause-canonical : goal.of_few-requires-clause-canonical
 of_few-requires-clause-canonical c =
@@ -36,8 +28,8 @@ of_few-requires-clause-canonical c =
     (digits_join n.integer n.fraction c.requires.integer c.requires.fraction)
     (power_few_fits c.strip-kept.result.zeros (length n.fraction) few (omega (arith, c.requires.few))))
 
-pub returns-clause-decimal : goal.returns-clause-decimal
-returns-clause-decimal c =
+pub returns : goal.returns
+returns c =
     let n : Numeral = plain_numeral c.args.negative c.args.integer.now c.args.fraction.now in
     let s : List ℕ = c.strip-kept.result.integer.now ++ c.strip-kept.result.fraction.now in
     let some : 0 < length s = omega (arith, length-append {A = ℕ}) in
@@ -45,16 +37,8 @@ returns-clause-decimal c =
     let zeros = c.strip-kept.ensures.zeros found in
     let few : c.strip-kept.result.zeros ≤ 24 = omega (arith, zeros, length-append n.integer n.fraction, c.requires.few) in
     let power = power_few c.strip-kept.result.zeros (length n.fraction) few (omega (arith, c.requires.few)) in
-    (rw power at c.of_few.ensures) ∙ value_exact n s c.strip-kept.result.zeros c.strip-kept.ensures.digits some zeros _ refl
-
-pub returns-clause-fits : goal.returns-clause-fits
-returns-clause-fits c =
-    let n : Numeral = plain_numeral c.args.negative c.args.integer.now c.args.fraction.now in
-    let s : List ℕ = c.strip-kept.result.integer.now ++ c.strip-kept.result.fraction.now in
-    let some : 0 < length s = omega (arith, length-append {A = ℕ}) in
-    let found : 0 < length (significant (n.integer ++ n.fraction)) = omega (arith, ap length c.strip-kept.ensures.digits) in
-    let zeros = c.strip-kept.ensures.zeros found in
-    let few : c.strip-kept.result.zeros ≤ 24 = omega (arith, zeros, length-append n.integer n.fraction, c.requires.few) in
-    let power = power_few c.strip-kept.result.zeros (length n.fraction) few (omega (arith, c.requires.few)) in
-    value_fits n s c.strip-kept.result.zeros c.strip-kept.ensures.digits some zeros _ refl
-    (power_few_fits c.strip-kept.result.zeros (length n.fraction) few (omega (arith, c.requires.few)))
+    record {
+      decimal = (rw power at c.of_few.ensures) ∙ value_exact n s c.strip-kept.result.zeros c.strip-kept.ensures.digits some zeros _ refl;
+      fits = value_fits n s c.strip-kept.result.zeros c.strip-kept.ensures.digits some zeros _ refl
+          (power_few_fits c.strip-kept.result.zeros (length n.fraction) few (omega (arith, c.requires.few)));
+    }

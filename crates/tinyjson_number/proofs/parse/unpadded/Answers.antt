@@ -23,21 +23,16 @@ of_few-requires-clause-canonical c =
     rw power (kept_is n.negative (n.integer ++ n.fraction) _ some (n.integer ++ n.fraction) (bare_significant _ b.lead b.trail)
     (digits_join n.integer n.fraction c.requires.integer c.requires.fraction) (power_few_fits 0 (length n.fraction) (omega arith) few))
 
-pub returns-clause-decimal : goal.returns-clause-decimal
-returns-clause-decimal c =
+pub returns : goal.returns
+returns c =
     let n : Numeral = plain_numeral c.args.negative c.args.integer.now c.args.fraction.now in
     let b = c.requires in
     let few : length n.fraction ≤ 24 = omega (arith, c.requires.few) in
     let some : 0 < length (n.integer ++ n.fraction) = omega (arith, b.some, length-append n.integer n.fraction) in
     let power = power_few 0 (length n.fraction) (omega arith) few in
-    (rw power at c.of_few.ensures) ∙ value_exact n (n.integer ++ n.fraction) 0 (bare_significant _ b.lead b.trail) some
-    (bare_zeros _ b.trail) _ refl
-
-pub returns-clause-fits : goal.returns-clause-fits
-returns-clause-fits c =
-    let n : Numeral = plain_numeral c.args.negative c.args.integer.now c.args.fraction.now in
-    let b = c.requires in
-    let few : length n.fraction ≤ 24 = omega (arith, c.requires.few) in
-    let some : 0 < length (n.integer ++ n.fraction) = omega (arith, b.some, length-append n.integer n.fraction) in
-    value_fits n (n.integer ++ n.fraction) 0 (bare_significant _ b.lead b.trail) some (bare_zeros _ b.trail) _ refl
-    (power_few_fits 0 (length n.fraction) (omega arith) few)
+    record {
+      decimal = (rw power at c.of_few.ensures) ∙ value_exact n (n.integer ++ n.fraction) 0 (bare_significant _ b.lead b.trail) some
+          (bare_zeros _ b.trail) _ refl;
+      fits = value_fits n (n.integer ++ n.fraction) 0 (bare_significant _ b.lead b.trail) some (bare_zeros _ b.trail) _ refl
+          (power_few_fits 0 (length n.fraction) (omega arith) few);
+    }
