@@ -21,10 +21,14 @@ pub record UnitAt (text : List ℕ) (at unit : ℕ) : Type 0 where
   pub value : unit ≡ unit_of 0 digits
   pub stands : Stands text at (at + 6) (reverse_solidus ∷ letter_u ∷ digits)
 
--- Between two places stand escapes that spell a character, of which no unit waits for a partner.
-pub record EscapeAt (text : List ℕ) (at c to : ℕ) : Type 0 where
+-- From a place to another one stand escapes that spell these characters, of which no unit waits for a partner.
+pub record Spells (text : List ℕ) (at : ℕ) (ds : List ℕ) (to : ℕ) : Type 0 where
   pub taken : List ℕ
   pub stands : Stands text at to taken
-  pub some : at < to
   pub comes : (limit : Option ℕ) (fs : List Frame) (cs rest : List ℕ)
-      → Comes limit (next fs (quoted plain cs [])) taken (next fs (quoted plain (cs ++ c ∷ []) [])) rest
+      → Comes limit (next fs (quoted plain cs [])) taken (next fs (quoted plain (cs ++ ds) [])) rest
+
+-- from a place to one behind it stand escapes that spell a character
+pub record EscapeAt (text : List ℕ) (at c to : ℕ) : Type 0 where
+  pub some : at < to
+  pub spells : Spells text at (c ∷ []) to

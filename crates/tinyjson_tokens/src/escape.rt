@@ -1,48 +1,62 @@
 //! Escapes among the bytes of a text (RFC 8259, section 7).
-ghost use Rattle.std.specs.Prelude.{◌≡◌, ◌<◌, ◌≤◌, IfSome, true, length};
+ghost use Rattle.std.specs.Prelude.{◌≡◌, ℕ, ◌<◌, ◌≤◌, List, ◌++◌, IfOk, IfSome, true, length};
 ghost use Rattle.std.specs.Char.{digit_value};
-ghost use Rattle.tinyjson_grammar.specs.Characters.{short_escape, is_high};
-ghost use Rattle.tinyjson_tokens.specs.Escape.{EscapeAt, UnitAt};
+ghost use Rattle.tinyjson_grammar.specs.Characters.{short_escape, is_high, text};
+ghost use Rattle.tinyjson_tokens.specs.Escape.{EscapeAt, Spells, UnitAt};
 
-use crate::utf16::{is_high, is_low, pair};
+use crate::utf16::{is_high, is_low, pair, push};
+use std::alloc::AllocError;
 
-/// What the letter after a backslash stands for. Letters from `b` on are looked up in a small table, so
-/// that no jump has to be guessed for them.
+/// What the character after a backslash stands for, which is looked up: no jump has to be guessed.
 pub(crate) fn short_escape(c: char) -> Option<char>
     ensures { result ≡ short_escape c }
 {
-    if c < 'b' {
-        return match c {
-            '"' | '\\' | '/' => Some(c),
-            _ => None,
-        };
+    if c < '"' || c > 't' {
+        return None;
     }
-    match c {
-        'b' => Some('\x08'),
-        'f' => Some('\x0c'),
-        'n' => Some('\n'),
-        'r' => Some('\r'),
-        't' => Some('\t'),
-        _ => None,
+    match SHORT_ESCAPES[c as usize - '"' as usize] {
+        0 => None,
+        byte => Some(byte as char),
     }
+}
+
+/// What the characters from `"` to `t` stand for after a backslash, and 0 for those that stand for nothing.
+const SHORT_ESCAPES: [u8; 83] = [
+    b'"', 0, 0, 0, 0, 0, 0, 0, 0, 0, 0, 0, 0, b'/', 0, 0, 0, 0, 0, 0, 0, 0, 0, 0, 0, 0, 0, 0, 0, 0,
+    0, 0, 0, 0, 0, 0, 0, 0, 0, 0, 0, 0, 0, 0, 0, 0, 0, 0, 0, 0, 0, 0, 0, 0, 0, 0, 0, 0, b'\\', 0,
+    0, 0, 0, 0, 8, 0, 0, 0, 12, 0, 0, 0, 0, 0, 0, 0, b'\n', 0, 0, 0, b'\r', 0, b'\t',
+];
+
+/// Adds the characters of the escapes that stand side by side from a place on, and says where these end: at the
+/// place itself, where no escape stands, and before an error.
+#[inline(always)]
+pub(crate) fn escapes(bytes: &[u8], at: usize, string: &mut String) -> Result<usize, AllocError>
+    requires { at ≤ length bytes.now }
+    ensures { IfOk result (λ end. (ds : List ℕ) × Spells bytes.now at ds end
+        × (text string.new ≡ text string.old ++ ds)) }
+{
+    let mut end = at;
+    while let Some((c, next)) = escape_at(bytes, end) {
+        push(string, c)?;
+        end = next;
+    }
+    Ok(end)
 }
 
 /// The character that an escape spells at a place, or two that are a pair, and where they end. None where
 /// no escape stands, and where an error may stand.
 #[inline(always)]
-pub(crate) fn escape_at(bytes: &[u8], at: usize) -> Option<(char, usize)>
+fn escape_at(bytes: &[u8], at: usize) -> Option<(char, usize)>
     requires { at ≤ length bytes.now }
     ensures { IfSome result (λ r. EscapeAt bytes.now at r.0 r.1) }
 {
     if bytes.len() - at < 2 || bytes[at] != b'\\' {
         return None;
     }
-    let letter = bytes[at + 1];
-    if letter == b'u' {
-        return units_at(bytes, at);
+    match short_escape(bytes[at + 1] as char) {
+        Some(c) => Some((c, at + 2)),
+        None => units_at(bytes, at),
     }
-    let c = short_escape(letter as char)?;
-    Some((c, at + 2))
 }
 
 /// The same for a unit or two that spell a character.

@@ -8,7 +8,7 @@ ghost use Rattle.tinyjson_tokens.specs.Slice.{before, chars_after, run_end, Next
 ghost use Rattle.tinyjson_tokens.specs.Slice.Laws.{line_bound, column_bound, shown_once};
 ghost use Rattle.tinyjson_tokens.specs.Slice.Laws.{shown_first, nothing_left};
 
-use crate::escape::escape_at;
+use crate::escape::escapes;
 use crate::place::place_after;
 use crate::source::Source;
 use crate::tokens::Tokens;
@@ -188,12 +188,14 @@ impl<'a> Source for TextBytes<'a> {
 impl<'a> Tokens for TextBytes<'a> {
     fn escaped(&mut self, string: &mut String) -> Result<(), AllocError> {
         self.plain(string)?;
-        while let Some((c, end)) = escape_at(self.text.as_bytes(), self.at) {
-            push(string, c)?;
+        loop {
+            let end = escapes(self.text.as_bytes(), self.at, string)?;
+            if end == self.at {
+                return Ok(());
+            }
             self.at = end;
             self.letters(string)?;
         }
-        Ok(())
     }
 
     fn numeral(&self) -> Option<(NumberParts<'_>, Self)> {

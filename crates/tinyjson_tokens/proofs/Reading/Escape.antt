@@ -1,7 +1,7 @@
 -- Escapes among the bytes of a text.
 use Rattle.std.proofs.Common.{◌≡◌, ℕ, suc, ◌+◌, ◌*◌, ◌/◌, ◌%◌, ◌-◌, ◌||◌, ◌&&◌, ◌<◌, ◌≤◌, ◌==◌, Bool, true, false, true≢false, not, cond}
 use Rattle.std.proofs.Common.{List, [], ◌∷◌, ◌++◌, length, take, drop, get_or, Option, None, Some, inl, inr, Result, is_err, refl, sym, ap}
-use Rattle.std.proofs.Common.{ap₂, ◌∙◌, subst, arith, length-append, append-nil, append_assoc, drop-cons, add-zero}
+use Rattle.std.proofs.Common.{unwrap_or, ap₂, ◌∙◌, subst, arith, length-append, append-nil, append_assoc, drop-cons, add-zero}
 use Rattle.std.specs.Prelude.{nat_lt}
 use Rattle.std.specs.Int.Bits.{bit_and, bit_or}
 use Rattle.std.specs.Char.{is_ascii, digit_value}
@@ -13,11 +13,12 @@ use Rattle.std.proofs.lemmas.List.{drop-drop, get_or-drop}
 use Rattle.std.proofs.lemmas.Str.{IsCharBoundary-after_ascii, chars-IsAscii, IsUtf8-had}
 use Rattle.std.proofs.Math.Seq.{take-append_seam}
 use Rattle.tinyjson_grammar.specs.Characters.{is_hex, is_high, is_low, is_surrogate, pair_of, unit_of, paired, decode, short_escape}
-use Rattle.tinyjson_tokens.specs.Escape.{Stands, UnitAt, EscapeAt}
+use Rattle.tinyjson_tokens.specs.Escape.{Stands, UnitAt, Spells, EscapeAt}
 use Rattle.tinyjson_tokens.specs.Slice.{before, chars_after}
 use Rattle.tinyjson_bytes.specs.Scan.{is_plain}
 use Rattle.tinyjson_tokens.specs.Source.{TakesRun}
 use Rattle.tinyjson_grammar.specs.Position.{advance, origin}
+use Rattle.tinyjson_tokens.specs.declared.escape.TheConstants.{SHORT_ESCAPES}
 use Rattle.tinyjson_tokens.specs.declared.text.TextBytes.{TextBytes}
 use Rattle.tinyjson_grammar.specs.Machine.{step, Frame, Within, Next, next, stop, plain, backslash, hex, quoted}
 use Rattle.tinyjson_grammar.specs.declared.error.JsonParseErrorKind.TheVariants.{InvalidUtf16, InvalidHexDigit}
@@ -230,6 +231,22 @@ hex_of_bits b h t =
     let e = eqb-true (bit_and b 15 + 9 * (b / 64)) (digit_value b) k.0 in
     (e, rw e (ltb-true (digit_value b) 16 k.1))
 
+-- What a character after a backslash stands for is in the table, which has a 0 where it stands for nothing.
+is_tabled : ℕ → Bool
+is_tabled c = nat_lt c 34 || (get_or SHORT_ESCAPES (c - 34) 0 == unwrap_or (short_escape c) 0)
+
+pub tabled : (c v : ℕ) → 34 ≤ c → c ≤ 116 → v ≡ get_or SHORT_ESCAPES (c - 34) 0 → (v ≡ 0 → ⊥) → Some v ≡ short_escape c
+unfolding is_tabled
+tabled c v h k e n =
+    let a : is_tabled c ≡ true = agree_below_at is_tabled (λ _. true) 117 c refl (omega arith) in
+    let l : nat_lt c 34 ≡ false = grind (arith, nat_tests) in
+    let s = eqb-true _ _ (ap (λ b. b || (get_or SHORT_ESCAPES (c - 34) 0 == unwrap_or (short_escape c) 0)) (sym l) ∙ a) in
+    go (short_escape c) (e ∙ s)
+  where
+    go : (o : Option ℕ) → v ≡ unwrap_or o 0 → Some v ≡ o
+    go None z = absurd (n z)
+    go (Some d) z = ap Some z
+
 -- the value of four digits
 pub four_digits : (a b c d p q r s : ℕ) → p ≡ digit_value a → q ≡ digit_value b → r ≡ digit_value c → s ≡ digit_value d
     → ((p * 16 + q) * 16 + r) * 16 + s ≡ unit_of 0 (a ∷ b ∷ c ∷ d ∷ [])
@@ -263,13 +280,15 @@ module _ (text : List ℕ) (at u a b c d : ℕ) (h : at + 6 ≤ length text) whe
 pub short_at : (text : List ℕ) (at c d : ℕ) → at + 2 ≤ length text → get_or text at 0 ≡ 92 → get_or text (at + 1) 0 ≡ c
     → short_escape c ≡ Some d → EscapeAt text at d (at + 2)
 short_at text at c d h p q e = record {
-  taken = 92 ∷ c ∷ [];
-  stands =
-      stands_cons text at (at + 1) (at + 2) 92 (c ∷ []) (omega (arith, h)) refl p refl
-      (stands_cons text (at + 1) (at + 2) (at + 2) c [] (omega (arith, h)) (omega arith) q (short_ascii c d e)
-      (stands_nil text (at + 2) h));
   some = omega arith;
-  comes = λ limit fs cs rest. short_comes limit fs cs rest c d e;
+  spells = record {
+    taken = 92 ∷ c ∷ [];
+    stands =
+        stands_cons text at (at + 1) (at + 2) 92 (c ∷ []) (omega (arith, h)) refl p refl
+        (stands_cons text (at + 1) (at + 2) (at + 2) c [] (omega (arith, h)) (omega arith) q (short_ascii c d e)
+        (stands_nil text (at + 2) h));
+    comes = λ limit fs cs rest. short_comes limit fs cs rest c d e;
+  };
 }
   where
     short_ascii : (c d : ℕ) → short_escape c ≡ Some d → is_ascii c ≡ true
@@ -280,11 +299,13 @@ short_at text at c d h p q e = record {
 module _ (text : List ℕ) (at to : ℕ) where
   pub unit_escape : (u : ℕ) → UnitAt text at u → to ≡ at + 6 → is_surrogate u ≡ false → EscapeAt text at u to
   unit_escape u a e s = record {
-    taken = 92 ∷ 117 ∷ a.digits;
-    stands = subst (λ t. Stands text at t (92 ∷ 117 ∷ a.digits)) (sym e) a.stands;
     some = omega (arith, e);
-    comes = λ limit fs cs rest. Comes_known limit fs (next fs (quoted plain cs [])) cs (u ∷ []) (cs ++ u ∷ []) (92 ∷ 117 ∷ a.digits) rest
-        (unit_comes limit fs cs [] a.digits rest u a.four a.hex a.value) (ap not s) refl;
+    spells = record {
+      taken = 92 ∷ 117 ∷ a.digits;
+      stands = subst (λ t. Stands text at t (92 ∷ 117 ∷ a.digits)) (sym e) a.stands;
+      comes = λ limit fs cs rest. Comes_known limit fs (next fs (quoted plain cs [])) cs (u ∷ []) (cs ++ u ∷ []) (92 ∷ 117 ∷ a.digits) rest
+          (unit_comes limit fs cs [] a.digits rest u a.four a.hex a.value) (ap not s) refl;
+    };
   }
 
   pub pair_escape : (high low : ℕ) → UnitAt text at high → UnitAt text (at + 6) low → to ≡ at + 12 → is_high high ≡ true → is_low low ≡ true
@@ -294,18 +315,43 @@ module _ (text : List ℕ) (at to : ℕ) where
       let second = 92 ∷ 117 ∷ b.digits in
       let n : at + 6 + 6 ≡ to = omega (arith, e) in
       record {
-        taken = first ++ second;
-        stands = stands_append text at (at + 6) to first second a.stands (subst (λ t. Stands text (at + 6) t second) n b.stands);
         some = omega (arith, e);
-        comes = λ limit fs cs rest.
-            let n = next fs (quoted plain cs []) in
-            let m = next fs (quoted plain cs (high ∷ [])) in
-            let o = next fs (quoted plain cs (high ∷ low ∷ [])) in
-            Comes_known limit fs n cs (high ∷ low ∷ []) (cs ++ pair_of high low ∷ []) (first ++ second) rest
-            (Comes_trans limit n m o first second rest (unit_comes limit fs cs [] a.digits (second ++ rest) high a.four a.hex a.value)
-            (unit_comes limit fs cs (high ∷ []) b.digits rest low b.four b.hex b.value))
-            (rw (h, l) refl) (rw (h, l) refl);
+        spells = record {
+          taken = first ++ second;
+          stands = stands_append text at (at + 6) to first second a.stands (subst (λ t. Stands text (at + 6) t second) n b.stands);
+          comes = λ limit fs cs rest.
+              let n = next fs (quoted plain cs []) in
+              let m = next fs (quoted plain cs (high ∷ [])) in
+              let o = next fs (quoted plain cs (high ∷ low ∷ [])) in
+              Comes_known limit fs n cs (high ∷ low ∷ []) (cs ++ pair_of high low ∷ []) (first ++ second) rest
+              (Comes_trans limit n m o first second rest (unit_comes limit fs cs [] a.digits (second ++ rest) high a.four a.hex a.value)
+              (unit_comes limit fs cs (high ∷ []) b.digits rest low b.four b.hex b.value))
+              (rw (h, l) refl) (rw (h, l) refl);
+        };
       }
+
+-- ---- escapes side by side
+
+pub spells_none : (text : List ℕ) (at : ℕ) → at ≤ length text → Spells text at [] at
+spells_none text at h = record {
+  taken = [];
+  stands = stands_nil text at h;
+  comes = λ limit fs cs rest.
+      let n = next fs (quoted plain cs []) in
+      subst (λ xs. Comes limit n [] (next fs (quoted plain xs [])) rest) (sym (append-nil cs)) (Same_refl limit n rest, λ w. w);
+}
+
+pub spells_more : (text : List ℕ) (at mid to : ℕ) (xs ys : List ℕ) → Spells text at xs mid → Spells text mid ys to
+    → Spells text at (xs ++ ys) to
+spells_more text at mid to xs ys a b = record {
+  taken = a.taken ++ b.taken;
+  stands = stands_append text at mid to a.taken b.taken a.stands b.stands;
+  comes = λ limit fs cs rest.
+      let m : List ℕ → Next = λ zs. next fs (quoted plain zs []) in
+      subst (λ zs. Comes limit (m cs) (a.taken ++ b.taken) (m zs) rest) (append_assoc cs xs ys)
+      (Comes_trans limit (m cs) (m (cs ++ xs)) (m ((cs ++ xs) ++ ys)) a.taken b.taken rest (a.comes limit fs cs (b.taken ++ rest))
+      (b.comes limit fs (cs ++ xs) rest));
+}
 
 -- ---- what is taken
 
@@ -325,58 +371,64 @@ Stands_boundary text utf8 at to (x ∷ xs) b s =
     Stands_boundary text utf8 (at + 1) to xs (IsCharBoundary-after_ascii text at utf8 h
     (subst (λ y. y < 128) (sym byte) (ascii_small x s.ascii.0))) more
 
-module _ (text : List ℕ) (utf8 : IsUtf8 text) (at : ℕ) (first : IsCharBoundary text at) (c to : ℕ) (e : EscapeAt text at c to) where
-  pub escape_boundary : IsCharBoundary text to
-  escape_boundary = Stands_boundary text utf8 at to e.taken first e.stands
+module _ (text : List ℕ) (utf8 : IsUtf8 text) (at : ℕ) (first : IsCharBoundary text at) (ds : List ℕ) (to : ℕ)
+    (e : Spells text at ds to) where
+  pub escapes_boundary : IsCharBoundary text to
+  escapes_boundary = Stands_boundary text utf8 at to e.taken first e.stands
 
-  pub escape_between : between text at to ≡ e.taken
-  escape_between =
+  pub escapes_between : between text at to ≡ e.taken
+  escapes_between =
       let n : to - at ≡ length e.taken = omega (arith, e.stands.long) in
       ap chars (ap₂ (λ k bs. take k bs) n e.stands.here ∙ take-append_seam e.taken (drop to text))
       ∙ chars-IsAscii e.taken (small is_ascii ascii_small e.taken e.stands.ascii)
 
-  pub escape_comes : (limit : Option ℕ) (fs : List Frame) (cs : List ℕ)
-      → Comes limit (next fs (quoted plain cs [])) e.taken (next fs (quoted plain (cs ++ c ∷ []) [])) (chars_after text to)
-  escape_comes limit fs cs = e.comes limit fs cs (chars_after text to)
+  pub escapes_come : (limit : Option ℕ) (fs : List Frame) (cs : List ℕ)
+      → Comes limit (next fs (quoted plain cs [])) e.taken (next fs (quoted plain (cs ++ ds) [])) (chars_after text to)
+  escapes_come limit fs cs = e.comes limit fs cs (chars_after text to)
 
--- the escape at the place of a text is taken
-pub Leads_escape : (limit : Option ℕ) (fs : List Frame) (cs : List ℕ) (p q : TextBytes) (c : ℕ) → EscapeAt p.text.now p.at c q.at
+-- the escapes at the place of a text are taken
+Leads_escapes : (limit : Option ℕ) (fs : List Frame) (cs ds : List ℕ) (p q : TextBytes) → Spells p.text.now p.at ds q.at
     → q.text.now ≡ p.text.now
-    → Leads text_sight limit p (next fs (quoted plain cs [])) q (next fs (quoted plain (cs ++ c ∷ []) []))
-Leads_escape limit fs cs p q c e same =
+    → Leads text_sight limit p (next fs (quoted plain cs [])) q (next fs (quoted plain (cs ++ ds) []))
+Leads_escapes limit fs cs ds p q e same =
     let text = p.text.now in
     let utf8 = IsUtf8-had text p.utf8 in
-    let last = escape_boundary text utf8 p.at p.boundary c q.at e in
-    let one = escape_between text utf8 p.at p.boundary c q.at e in
-    let h : p.at ≤ q.at = omega (arith, e.some) in
+    let last = escapes_boundary text utf8 p.at p.boundary ds q.at e in
+    let one = escapes_between text utf8 p.at p.boundary ds q.at e in
+    let h : p.at ≤ q.at = omega (arith, e.stands.long) in
     record {
       taken = e.taken;
       gives = λ zs g.
           let x = step_gives text utf8 p.at q.at h p.boundary last e.taken one zs g in
           let n = next fs (quoted plain cs []) in
-          let m = next fs (quoted plain (cs ++ c ∷ []) []) in (
+          let m = next fs (quoted plain (cs ++ ds) []) in (
             x.0,
             x.1,
             x.2 ∙ ap (λ t. chars_after t q.at) (sym same),
             subst (Comes limit n e.taken m) (sym x.2)
-                (escape_comes text utf8 p.at p.boundary c q.at e limit fs cs),
+                (escapes_come text utf8 p.at p.boundary ds q.at e limit fs cs),
           );
       moves = ap (λ t. advance origin (before t q.at)) same ∙ step_moves text utf8 p.at q.at h p.boundary last e.taken one;
     }
 
--- an escape is taken, and the plain characters after it
-module _ {E : Type 0} (limit : Option ℕ) (fs : List Frame) (o p q r : TextBytes) (n : Next) (cs ds es : List ℕ) (c to : ℕ)
+pub escapes_go : (limit : Option ℕ) (fs : List Frame) (o p q : TextBytes) (n : Next) (cs ds xs : List ℕ) (to : ℕ)
+    → Leads text_sight limit o n p (next fs (quoted plain cs [])) → Spells p.text.now p.at xs to → q.text.now ≡ p.text.now → q.at ≡ to
+    → ds ≡ cs ++ xs → Leads text_sight limit o n q (next fs (quoted plain ds []))
+escapes_go limit fs o p q n cs ds xs to l e same at added =
+    let m : List ℕ → Next = λ ys. next fs (quoted plain ys []) in
+    Leads_trans text_sight limit o p q l (Leads_to text_sight limit p q
+    (Leads_escapes limit fs cs xs p q (subst (Spells p.text.now p.at xs) (sym at) e) same) (ap m (sym added)))
+
+-- escapes are taken, and the plain characters after them
+module _ {E : Type 0} (limit : Option ℕ) (fs : List Frame) (o p q r : TextBytes) (n : Next) (cs ds es xs : List ℕ) (to : ℕ)
     (v : Result (Unit {0}) E)
     (run : TakesRun text_sight is_plain q ds v es r) (l : Leads text_sight limit o n p (next fs (quoted plain cs [])))
-    (e : EscapeAt p.text.now p.at c to) (same : q.text.now ≡ p.text.now) (at : q.at ≡ to) (added : ds ≡ cs ++ c ∷ []) where
-  escape_goes : Leads text_sight limit o n q (next fs (quoted plain ds []))
-  escape_goes =
-      let m : List ℕ → Next = λ ys. next fs (quoted plain ys []) in
-      Leads_trans text_sight limit o p q l (Leads_to text_sight limit p q
-      (Leads_escape limit fs cs p q c (subst (EscapeAt p.text.now p.at c) (sym at) e) same) (ap m (sym added)))
+    (e : Spells p.text.now p.at xs to) (same : q.text.now ≡ p.text.now) (at : q.at ≡ to) (added : ds ≡ cs ++ xs) where
+  gone : Leads text_sight limit o n q (next fs (quoted plain ds []))
+  gone = escapes_go limit fs o p q n cs ds xs to l e same at added
 
-  pub escape_added : is_err v ≡ false → Leads text_sight limit o n r (next fs (quoted plain es []))
-  escape_added h = Leads_trans text_sight limit o q r escape_goes (plain_added text_sight limit q r fs ds es [] v refl h run)
+  pub escapes_added : is_err v ≡ false → Leads text_sight limit o n r (next fs (quoted plain es []))
+  escapes_added h = Leads_trans text_sight limit o q r gone (plain_added text_sight limit q r fs ds es [] v refl h run)
 
-  pub escape_halts : Halts text_sight limit o n r
-  escape_halts = Halts_trans text_sight limit o q r escape_goes (plain_halts text_sight limit q r fs ds es [] v refl run)
+  pub escapes_halt : Halts text_sight limit o n r
+  escapes_halt = Halts_trans text_sight limit o q r gone (plain_halts text_sight limit q r fs ds es [] v refl run)

@@ -1,9 +1,9 @@
-use Rattle.std.proofs.Common.{rules, arith, [], refl, ap, is_err}
+use Rattle.std.proofs.Common.{rules, arith, [], refl, ap, is_err, subst, sym}
 use Rattle.std.proofs.lemmas.Result.{err_from_is_err_and}
 use Rattle.std.proofs.lemmas.Str.{IsUtf8-had}
-use Rattle.tinyjson_tokens.specs.Escape.{EscapeAt}
-use Rattle.tinyjson_tokens.proofs.Reading.Escape.{escape_boundary, escape_added, escape_halts}
+use Rattle.tinyjson_tokens.proofs.Reading.Escape.{escapes_boundary, escapes_go, escapes_added, escapes_halt}
 use Rattle.tinyjson_tokens.proofs.Letters.{text_sight}
+use Rattle.tinyjson_tokens.specs.Escape.{Spells}
 use Rattle.tinyjson_tokens.proofs.Reading.Steps.{Halts_here}
 use Rattle.tinyjson_tokens.proofs.Reading.String.{plain_added, plain_halts}
 use Rattle.tinyjson_tokens.proofs.text.TextBytesTokens.escaped.Goals as goal
@@ -13,44 +13,50 @@ returns-in_err-plain-clause-reads c = λ limit fs.
     let p = err_from_is_err_and c.from_residual.result c.from_residual.ensures.1 in
     rw p.1 (plain_halts text_sight limit _ _ fs _ _ [] _ refl c.plain.ensures.plain)
 
-pub loop-c-init : goal.loop-c-init
-loop-c-init c = record {
+pub loop-end-init : goal.loop-end-init
+loop-end-init c = record {
   reads = λ limit fs. plain_added text_sight limit _ _ fs _ _ [] c.plain.result refl (ap is_err c.in_ok-plain.was) c.plain.ensures.plain;
   left = search (rules, arith);
 }
 
-pub returns-in_err-push-clause-reads : goal.returns-in_err-push-clause-reads
-returns-in_err-push-clause-reads c = λ limit fs.
-    let p = err_from_is_err_and c.from_residual-in_err-push.result c.from_residual-in_err-push.ensures.1 in
-    rw p.1 (Halts_here text_sight limit _ _ (c.loop-c.invariant.reads limit fs) tt tt)
+pub returns-in_err-end-clause-reads : goal.returns-in_err-end-clause-reads
+returns-in_err-end-clause-reads c = λ limit fs.
+    let p = err_from_is_err_and c.from_residual-in_err-end.result c.from_residual-in_err-end.ensures.1 in
+    rw p.1 (Halts_here text_sight limit _ _ (c.loop-end.invariant.reads limit fs) tt tt)
 
 pub invariant_of-self : goal.invariant_of-self
 invariant_of-self c =
-    let self = c.loop-c.self in
-    let e : EscapeAt self.text.now self.at c.in-Some.c c.in-Some.end = search rules in
+    let self = c.loop-end.self in
+    let e = c.in_ok-end.ensures in
+    let s = subst (λ t. Spells t self.at e.0 c.in_ok-end.end) c.as_bytes.ensures.value e.1 in
     record {
       utf8 = self.utf8;
-      boundary = escape_boundary self.text.now
-          (IsUtf8-had self.text.now self.utf8) self.at self.boundary c.in-Some.c c.in-Some.end e;
+      boundary = escapes_boundary self.text.now (IsUtf8-had self.text.now self.utf8) self.at self.boundary e.0 c.in_ok-end.end s;
     }
 
 pub returns-in_err-letters-clause-reads : goal.returns-in_err-letters-clause-reads
 returns-in_err-letters-clause-reads c = λ limit fs.
-    let self = c.loop-c.self in
+    let self = c.loop-end.self in
     let p = err_from_is_err_and c.from_residual-in_err-letters.result c.from_residual-in_err-letters.ensures.1 in
-    let e : EscapeAt self.text.now self.at c.in-Some.c c.in-Some.end = search rules in
-    rw p.1 (escape_halts limit fs _ self _ _ _ _ _ _ c.in-Some.c c.in-Some.end _ c.letters.ensures.plain
-    (c.loop-c.invariant.reads limit fs) e refl refl c.in_ok-push.ensures)
+    let e = c.in_ok-end.ensures in
+    let s = subst (λ t. Spells t self.at e.0 c.in_ok-end.end) c.as_bytes.ensures.value e.1 in
+    rw p.1 (escapes_halt limit fs _ self _ _ _ _ _ _ e.0 c.in_ok-end.end _ c.letters.ensures.plain
+    (c.loop-end.invariant.reads limit fs) s refl refl e.2)
 
-pub loop-c-preserved : goal.loop-c-preserved
-loop-c-preserved c =
-    let self = c.loop-c.self in
-    let e : EscapeAt self.text.now self.at c.in-Some.c c.in-Some.end = search rules in
+pub loop-end-preserved : goal.loop-end-preserved
+loop-end-preserved c =
+    let self = c.loop-end.self in
+    let e = c.in_ok-end.ensures in
+    let s = subst (λ t. Spells t self.at e.0 c.in_ok-end.end) c.as_bytes.ensures.value e.1 in
     record {
-      reads = λ limit fs. escape_added limit fs _ self _ _ _ _ _ _ c.in-Some.c c.in-Some.end _ c.letters.ensures.plain
-          (c.loop-c.invariant.reads limit fs) e refl refl c.in_ok-push.ensures (ap is_err c.in_ok-letters.was);
-      left = omega (arith, e.some, c.letters.ensures.left, c.loop-c.invariant.left);
+      reads = λ limit fs. escapes_added limit fs _ self _ _ _ _ _ _ e.0 c.in_ok-end.end _ c.letters.ensures.plain
+          (c.loop-end.invariant.reads limit fs) s refl refl e.2 (ap is_err c.in_ok-letters.was);
+      left = omega (arith, s.stands.long, c.letters.ensures.left, c.loop-end.invariant.left);
     }
 
-pub returns-clause-reads : goal.returns-clause-reads
-returns-clause-reads c = λ limit fs. c.loop-c.invariant.reads limit fs
+pub returns-then-end-self-clause-reads : goal.returns-then-end-self-clause-reads
+returns-then-end-self-clause-reads c = λ limit fs.
+    let self = c.loop-end.self in
+    let e = c.in_ok-end.ensures in
+    let s = subst (λ t. Spells t self.at e.0 c.in_ok-end.end) c.as_bytes.ensures.value e.1 in
+    escapes_go limit fs _ self self _ _ _ e.0 c.in_ok-end.end (c.loop-end.invariant.reads limit fs) s refl (sym c.if-end-self.true) e.2
