@@ -1,6 +1,7 @@
 -- The parser's functions, as steps of the machine.
 pub mod Containers
 pub mod Parse
+pub mod Building
 pub mod Stack
 pub mod Members
 pub mod Cursors

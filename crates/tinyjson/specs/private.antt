@@ -1,6 +1,7 @@
 -- What only private contracts and proofs cite.
 pub mod Comparison
 pub mod Steps
+pub mod Building
 pub mod Stack
 pub mod Encoding
 pub mod Sorted

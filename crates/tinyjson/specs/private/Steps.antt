@@ -6,9 +6,6 @@ use Rattle.tinyjson_tokens.specs.Source.{Sight}
 use Rattle.tinyjson_tokens.specs.Steps.{Leads, Refuses}
 use Rattle.tinyjson.specs.Error.{error_position}
 use Rattle.tinyjson.specs.View.{view}
-use Rattle.tinyjson.specs.private.Stack.{IsSound, at}
-use Rattle.tinyjson.specs.declared.parser.stack.Progress.{Progress}
-use Rattle.tinyjson.specs.declared.parser.stack.Stack.{Stack}
 use Rattle.tinyjson.specs.declared.parser.error.JsonParseError.{JsonParseError}
 use Rattle.tinyjson.specs.declared.value.JsonValue.{JsonValue}
 use Rattle.tinyjson_grammar.specs.declared.error.JsonParseErrorKind.{JsonParseErrorKind}
@@ -18,11 +15,6 @@ use Rattle.tinyjson_grammar.specs.declared.error.JsonParseErrorKind.TheVariants.
 abbrev pub ReadsText : {S : Type 0} → Sight S → Option ℕ → S → Result JsonValue JsonParseError → S → Type 0
 ReadsText sight limit p r q = MatchResult r (λ v. Leads sight limit p (next [] awaited) q (next [] (finished (view v))))
     (λ e. (error_position e ≡ sight.place q) × Refuses sight limit p (next [] awaited) e.kind q)
-
--- a part of a text: the machine went from n to where the stack stands, or it refuses, or there was no memory
-abbrev pub Continues : {S : Type 0} → Sight S → Option ℕ → S → Next → Result Progress JsonParseErrorKind → Stack → S → Type 0
-Continues sight limit p n r stack q = MatchResult r (λ v. Leads sight limit p n q (at stack v) × IsSound stack v)
-    (λ k. Refuses sight limit p n k q)
 
 -- what the source gives begins, after white space, with a string, a number or a container
 abbrev pub Grows : {S : Type 0} → Sight S → S → Type 0

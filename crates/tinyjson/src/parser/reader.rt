@@ -1,28 +1,34 @@
-//! The reader: values by their first character, and the loop over open containers.
-ghost use Rattle.std.specs.Prelude.{◌≡◌, ℕ, ◌<◌, [], false, OnOk, IfErr};
+//! The reader: values by their first character, arrays and objects (RFC 8259, sections 4 and 5), and the
+//! loop over open containers. What is built is a builder's matter.
+ghost use Rattle.std.specs.Prelude.{◌≡◌, ℕ, ◌<◌, ◌≤◌, List, [], ◌∷◌, false, OnOk, IfErr};
 ghost use Rattle.std.specs.Prelude.{IsTrue, Option, Some, None};
-ghost use Rattle.tinyjson_grammar.specs.Characters.{quotation_mark};
-ghost use Rattle.tinyjson_grammar.specs.Characters.{is_white};
+ghost use Rattle.tinyjson_grammar.specs.Characters.{begin_array, begin_object, is_white};
+ghost use Rattle.tinyjson_grammar.specs.Characters.{quotation_mark, text};
 ghost use Rattle.tinyjson_grammar.specs.Refusal.{begins_growth};
-ghost use Rattle.tinyjson_grammar.specs.Machine.{awaited, finished, next};
-ghost use Rattle.tinyjson.specs.private.Stack.{IsSound, at, frames, open_of};
-ghost use Rattle.tinyjson.specs.private.Steps.{Continues, Grows, GrowsFor, ReadsText};
+ghost use Rattle.tinyjson_grammar.specs.Machine.{Frame, Next, in_array, at_key, after, awaited};
+ghost use Rattle.tinyjson_grammar.specs.Machine.{colon, finished, fits, next};
+ghost use Rattle.tinyjson_grammar.specs.Tree.{Tree, Members};
+ghost use Rattle.tinyjson.specs.private.Building.{awaited_of, Builds, Continues, IsOpen, IsWithin};
+ghost use Rattle.tinyjson.specs.private.Building.{Stands};
+ghost use Rattle.tinyjson.specs.private.Stack.{holds, is};
+ghost use Rattle.tinyjson.specs.private.Steps.{Grows, GrowsFor, ReadsText};
 ghost use Rattle.tinyjson_tokens.specs.NumberSteps.{BeginsNumber};
 ghost use Rattle.tinyjson_tokens.specs.Steps.{BeginsLiteral, NeedsNone, Reads, literal_tree};
-ghost use Rattle.tinyjson_grammar.specs.Tree.{Tree};
 ghost use Rattle.tinyjson.specs.View.{view};
 ghost use Rattle.tinyjson_grammar.specs.declared.error.JsonParseErrorKind.TheVariants.{OutOfMemory};
-ghost use Rattle.tinyjson.specs.declared.parser.stack.Progress.TheVariants.{Awaits, Complete};
+ghost use Rattle.tinyjson.specs.declared.parser.builder.Awaited.{Awaited};
+ghost use Rattle.tinyjson.specs.declared.parser.builder.Progress.TheVariants.{Complete};
 
+use super::builder::{Awaited, Builder, Nest, Progress};
 use super::error::{JsonParseError, JsonParseErrorKind};
-use super::stack::{Progress, Stack};
+use super::stack::{Stack, literal_value};
 use crate::value::JsonValue;
 use std::alloc::Global;
 use tinyjson_tokens::{TokenReader, Tokens};
 
-/// Reads tokens and values from a source of characters.
+/// Reads values from a source of characters.
 #[derive(Drop)]
-pub(super) struct Reader<S>
+pub(crate) struct Reader<S>
 where
     S: Tokens,
 {
@@ -31,115 +37,12 @@ where
 }
 
 impl<S: Tokens> Reader<S> {
-    pub(super) fn new(alloc: Global, source: S) -> Self
+    pub(crate) fn new(alloc: Global, source: S) -> Self
         ensures { result.tokens.source ≡ source }
     {
         Reader {
             alloc,
             tokens: TokenReader::new(alloc, source),
-        }
-    }
-
-    /// Reads the literal that begins with this letter, and puts it where it belongs.
-    #[inline(always)]
-    fn literal(&mut self, stack: &mut Stack, first: char) -> Result<Progress, JsonParseErrorKind>
-        requires shown { S.sight.shows self.old.tokens.source (Some first) }
-        requires begins { BeginsLiteral first }
-        requires sound { IsSound stack.old Awaits }
-        ensures reads { (limit : Option ℕ) → Continues S.sight limit self.old.tokens.source
-            (next (frames stack.old) awaited) result stack.new self.new.tokens.source }
-        ensures left { OnOk result (S.left self.new.tokens.source < S.left self.old.tokens.source) }
-    {
-        let value = self.tokens.literal(first)?;
-        match value {
-            None => self.complete(stack, JsonValue::Null),
-            Some(boolean) => self.complete(stack, JsonValue::Boolean(boolean)),
-        }
-    }
-
-    /// Reads the string whose quote comes next, and puts it where it belongs.
-    #[inline(always)]
-    fn string(&mut self, stack: &mut Stack) -> Result<Progress, JsonParseErrorKind>
-        requires shown { S.sight.shows self.old.tokens.source (Some quotation_mark) }
-        requires sound { IsSound stack.old Awaits }
-        ensures reads { (limit : Option ℕ) → Continues S.sight limit self.old.tokens.source
-            (next (frames stack.old) awaited) result stack.new self.new.tokens.source }
-        ensures left { OnOk result (S.left self.new.tokens.source < S.left self.old.tokens.source) }
-    {
-        let string = self.tokens.string()?;
-        self.complete(stack, JsonValue::String(string))
-    }
-
-    /// Reads the number whose first character, a minus sign or a digit, comes next, and puts it
-    /// where it belongs.
-    #[inline(always)]
-    fn number(&mut self, stack: &mut Stack) -> Result<Progress, JsonParseErrorKind>
-        requires begins { BeginsNumber S.sight self.old.tokens.source }
-        requires sound { IsSound stack.old Awaits }
-        ensures reads { (limit : Option ℕ) → Continues S.sight limit self.old.tokens.source
-            (next (frames stack.old) awaited) result stack.new self.new.tokens.source }
-        ensures left { OnOk result (S.left self.new.tokens.source < S.left self.old.tokens.source) }
-    {
-        let number = self.tokens.number()?;
-        self.complete_number(stack, number)
-    }
-
-    /// Reads the value that begins with this character, or opens a container.
-    fn value(
-        &mut self,
-        limit: Option<usize>,
-        stack: &mut Stack,
-        first: char,
-    ) -> Result<Progress, JsonParseErrorKind>
-        requires shown { S.sight.shows self.old.tokens.source (Some first) }
-        requires no_white { is_white first ≡ false }
-        requires sound { IsSound stack.old Awaits }
-        ensures reads { Continues S.sight limit self.old.tokens.source
-            (next (frames stack.old) awaited) result stack.new self.new.tokens.source }
-        ensures left { OnOk result (S.left self.new.tokens.source < S.left self.old.tokens.source) }
-        ensures memory { ¬ (BeginsLiteral first) → GrowsFor first result }
-    {
-        match first {
-            'n' | 't' | 'f' => self.literal(stack, first),
-            '"' => self.string(stack),
-            '[' => self.array(limit, stack),
-            '{' => self.object(limit, stack),
-            c if c == '-' || c.is_ascii_digit() => self.number(stack),
-            c => Err(JsonParseErrorKind::InvalidCharacter(c)),
-        }
-    }
-
-    /// Reads white space and a value, or opens a container.
-    fn next(
-        &mut self,
-        limit: Option<usize>,
-        stack: &mut Stack,
-    ) -> Result<Progress, JsonParseErrorKind>
-        requires sound { IsSound stack.old Awaits }
-        ensures reads { Continues S.sight limit self.old.tokens.source
-            (next (frames stack.old) awaited) result stack.new self.new.tokens.source }
-        ensures left { OnOk result (S.left self.new.tokens.source < S.left self.old.tokens.source) }
-    {
-        match self.tokens.skip_white() {
-            Some(first) => self.value(limit, stack, first),
-            None => Err(JsonParseErrorKind::UnexpectedEof),
-        }
-    }
-
-    /// Reads white space and the end of the text.
-    fn end(&mut self) -> Result<(), JsonParseErrorKind>
-        ensures reads { (limit : Option ℕ) (t : Tree) →
-            Reads S.sight limit self.old.tokens.source (next [] (finished t)) result
-            (λ _. next [] (finished t)) self.new.tokens.source }
-        ensures end { OnOk result (S.sight.shows self.new.tokens.source None) }
-        ensures memory { NeedsNone result }
-    {
-        match self.tokens.skip_white() {
-            Some(c) => {
-                self.tokens.consume(c);
-                Err(JsonParseErrorKind::ExpectedEof(c))
-            }
-            None => Ok(()),
         }
     }
 
@@ -176,9 +79,9 @@ impl<S: Tokens> Reader<S> {
                 Ok(literal_value(literal))
             }
             Some(first) => {
-                let mut stack = Stack::new(self.alloc);
-                let read = self.values(limit, &mut stack, first);
-                stack.abandon();
+                let mut nest = Nest::new(self.alloc, Stack::new(self.alloc));
+                let read = self.values(limit, &mut nest, first);
+                nest.builder.abandon();
                 read
             }
             None => Err(JsonParseErrorKind::UnexpectedEof),
@@ -190,68 +93,373 @@ impl<S: Tokens> Reader<S> {
     fn values(
         &mut self,
         limit: Option<usize>,
-        stack: &mut Stack,
+        nest: &mut Nest<Stack>,
         first: char,
     ) -> Result<JsonValue, JsonParseErrorKind>
         requires shown { S.sight.shows self.old.tokens.source (Some first) }
         requires no_white { is_white first ≡ false }
         requires no_literal { ¬ (BeginsLiteral first) }
-        requires sound { IsSound stack.old Awaits }
-        ensures reads { Reads S.sight limit self.old.tokens.source
-            (next (frames stack.old) awaited) result (λ v. next [] (finished (view v)))
-            self.new.tokens.source }
+        requires open { IsOpen holds nest.old [] }
+        ensures reads { Reads S.sight limit self.old.tokens.source (next [] awaited) result
+            (λ v. next [] (finished (view v))) self.new.tokens.source }
         ensures end { OnOk result (S.sight.shows self.new.tokens.source None) }
         ensures memory { IfErr result (λ kind. kind ≡ OutOfMemory → IsTrue (begins_growth first)) }
     {
-        let progress = self.value(limit, stack, first)?;
-        self.rest(limit, stack, progress)
+        self.build(limit, nest, first)?;
+        Ok(nest.builder.take_complete())
+    }
+
+    /// Reads the text whose first value begins with this character into a builder.
+    pub(crate) fn build<B: Builder>(
+        &mut self,
+        limit: Option<usize>,
+        nest: &mut Nest<B>,
+        first: char,
+    ) -> Result<(), JsonParseErrorKind>
+        requires shown { S.sight.shows self.old.tokens.source (Some first) }
+        requires no_white { is_white first ≡ false }
+        requires no_literal { ¬ (BeginsLiteral first) }
+        requires open { IsOpen B.holds nest.old [] }
+        ensures reads { Builds B.holds B.is S.sight limit self.old.tokens.source (next [] awaited)
+            result nest.new self.new.tokens.source }
+        ensures end { OnOk result (S.sight.shows self.new.tokens.source None) }
+        ensures memory { IfErr result (λ kind. kind ≡ OutOfMemory → IsTrue (begins_growth first)) }
+    {
+        let progress = self.value(limit, nest, first)?;
+        self.rest(limit, nest, progress)
     }
 
     /// Reads what is left. One turn for each value that is read or container that is opened.
-    fn rest(
+    fn rest<B: Builder>(
         &mut self,
         limit: Option<usize>,
-        stack: &mut Stack,
+        nest: &mut Nest<B>,
         progress: Progress,
-    ) -> Result<JsonValue, JsonParseErrorKind>
-        requires sound { IsSound stack.old progress }
-        ensures reads { Reads S.sight limit self.old.tokens.source (at stack.old progress) result
-            (λ v. next [] (finished (view v))) self.new.tokens.source }
+    ) -> Result<(), JsonParseErrorKind>
+        requires sound { (n : Next) × Stands B.holds B.is nest.old progress n }
+        ensures reads { (n : Next) → Stands B.holds B.is nest.old progress n →
+            Builds B.holds B.is S.sight limit self.old.tokens.source n result nest.new
+            self.new.tokens.source }
         ensures end { OnOk result (S.sight.shows self.new.tokens.source None) }
     {
         let mut progress = progress;
         loop {
             progress = match progress {
-                Progress::Awaits => self.next(limit, stack)?,
-                Progress::Complete => match stack.innermost() {
-                    Some(frame) => self.after(stack, frame)?,
-                    None => return self.last(stack),
+                Progress::Awaits => self.next(limit, nest)?,
+                Progress::Complete => match nest.innermost() {
+                    Some(awaited) => self.after(nest, awaited)?,
+                    None => return self.end(),
                 },
             };
         }
     }
 
-    /// Reads the end of the text, and takes the value that is left on the stack.
-    fn last(&mut self, stack: &mut Stack) -> Result<JsonValue, JsonParseErrorKind>
-        requires sound { IsSound stack.old Complete }
-        requires none { open_of stack.old ≡ [] }
-        ensures reads { (limit : Option ℕ) → Reads S.sight limit self.old.tokens.source
-            (at stack.old Complete) result (λ v. next [] (finished (view v)))
-            self.new.tokens.source }
+    /// Reads white space and the end of the text.
+    pub(crate) fn end(&mut self) -> Result<(), JsonParseErrorKind>
+        ensures reads { (limit : Option ℕ) (t : Tree) →
+            Reads S.sight limit self.old.tokens.source (next [] (finished t)) result
+            (λ _. next [] (finished t)) self.new.tokens.source }
         ensures end { OnOk result (S.sight.shows self.new.tokens.source None) }
+        ensures memory { NeedsNone result }
     {
-        self.end()?;
-        Ok(stack.take_complete())
+        match self.tokens.skip_white() {
+            Some(c) => {
+                self.tokens.consume(c);
+                Err(JsonParseErrorKind::ExpectedEof(c))
+            }
+            None => Ok(()),
+        }
+    }
+
+    /// Reads white space and a value, or opens a container.
+    fn next<B: Builder>(
+        &mut self,
+        limit: Option<usize>,
+        nest: &mut Nest<B>,
+    ) -> Result<Progress, JsonParseErrorKind>
+        requires open { (fs : List Frame) × IsOpen B.holds nest.old fs }
+        ensures reads { (fs : List Frame) → IsOpen B.holds nest.old fs →
+            Continues B.holds B.is S.sight limit self.old.tokens.source (next fs awaited) result
+            nest.new self.new.tokens.source }
+        ensures left { OnOk result (S.left self.new.tokens.source < S.left self.old.tokens.source) }
+    {
+        match self.tokens.skip_white() {
+            Some(first) => self.value(limit, nest, first),
+            None => Err(JsonParseErrorKind::UnexpectedEof),
+        }
+    }
+
+    /// Reads the value that begins with this character, or opens a container.
+    fn value<B: Builder>(
+        &mut self,
+        limit: Option<usize>,
+        nest: &mut Nest<B>,
+        first: char,
+    ) -> Result<Progress, JsonParseErrorKind>
+        requires shown { S.sight.shows self.old.tokens.source (Some first) }
+        requires no_white { is_white first ≡ false }
+        requires open { (fs : List Frame) × IsOpen B.holds nest.old fs }
+        ensures reads { (fs : List Frame) → IsOpen B.holds nest.old fs →
+            Continues B.holds B.is S.sight limit self.old.tokens.source (next fs awaited) result
+            nest.new self.new.tokens.source }
+        ensures left { OnOk result (S.left self.new.tokens.source < S.left self.old.tokens.source) }
+        ensures memory { ¬ (BeginsLiteral first) → GrowsFor first result }
+    {
+        match first {
+            'n' | 't' | 'f' => self.literal(nest, first),
+            '"' => self.string(nest),
+            '[' => self.array(limit, nest),
+            '{' => self.object(limit, nest),
+            c if c == '-' || c.is_ascii_digit() => self.number(nest),
+            c => Err(JsonParseErrorKind::InvalidCharacter(c)),
+        }
+    }
+
+    /// Reads the literal that begins with this letter, and puts it where it belongs.
+    #[inline(always)]
+    fn literal<B: Builder>(
+        &mut self,
+        nest: &mut Nest<B>,
+        first: char,
+    ) -> Result<Progress, JsonParseErrorKind>
+        requires shown { S.sight.shows self.old.tokens.source (Some first) }
+        requires begins { BeginsLiteral first }
+        ensures reads { (limit : Option ℕ) (fs : List Frame) → IsOpen B.holds nest.old fs →
+            Continues B.holds B.is S.sight limit self.old.tokens.source (next fs awaited) result
+            nest.new self.new.tokens.source }
+        ensures left { OnOk result (S.left self.new.tokens.source < S.left self.old.tokens.source) }
+    {
+        let literal = self.tokens.literal(first)?;
+        nest.literal(literal)
+    }
+
+    /// Reads the string whose quote comes next: the key, or a value that it puts where it belongs.
+    #[inline(always)]
+    fn string<B: Builder>(&mut self, nest: &mut Nest<B>) -> Result<Progress, JsonParseErrorKind>
+        requires shown { S.sight.shows self.old.tokens.source (Some quotation_mark) }
+        requires open { (fs : List Frame) × IsOpen B.holds nest.old fs }
+        ensures reads { (limit : Option ℕ) (fs : List Frame) → IsOpen B.holds nest.old fs →
+            Continues B.holds B.is S.sight limit self.old.tokens.source (next fs awaited) result
+            nest.new self.new.tokens.source }
+        ensures left { OnOk result (S.left self.new.tokens.source < S.left self.old.tokens.source) }
+    {
+        let string = self.tokens.string()?;
+        if nest.awaits_key() {
+            return self.colon(nest, string);
+        }
+        nest.string(string)
+    }
+
+    /// Reads the number whose first character, a minus sign or a digit, comes next, and puts it
+    /// where it belongs.
+    #[inline(always)]
+    fn number<B: Builder>(&mut self, nest: &mut Nest<B>) -> Result<Progress, JsonParseErrorKind>
+        requires begins { BeginsNumber S.sight self.old.tokens.source }
+        ensures reads { (limit : Option ℕ) (fs : List Frame) → IsOpen B.holds nest.old fs →
+            Continues B.holds B.is S.sight limit self.old.tokens.source (next fs awaited) result
+            nest.new self.new.tokens.source }
+        ensures left { OnOk result (S.left self.new.tokens.source < S.left self.old.tokens.source) }
+    {
+        let number = self.tokens.number()?;
+        nest.number(number)
+    }
+
+    /// Opens the array whose bracket comes next, or reads all of it if it is empty.
+    fn array<B: Builder>(
+        &mut self,
+        limit: Option<usize>,
+        nest: &mut Nest<B>,
+    ) -> Result<Progress, JsonParseErrorKind>
+        requires shown { S.sight.shows self.old.tokens.source (Some begin_array) }
+        requires open { (fs : List Frame) × IsOpen B.holds nest.old fs }
+        ensures reads { (fs : List Frame) → IsOpen B.holds nest.old fs →
+            Continues B.holds B.is S.sight limit self.old.tokens.source (next fs awaited) result
+            nest.new self.new.tokens.source }
+        ensures left { OnOk result (S.left self.new.tokens.source < S.left self.old.tokens.source) }
+    {
+        if !fits(limit, nest.depth()) {
+            return Err(JsonParseErrorKind::TooDeep('['));
+        }
+        self.tokens.consume('[');
+        if nest.open_array().is_err() {
+            return Err(JsonParseErrorKind::OutOfMemory);
+        }
+        match self.tokens.skip_white() {
+            Some(']') => {
+                self.tokens.consume(']');
+                nest.close_array()
+            }
+            _ => Ok(Progress::Awaits),
+        }
+    }
+
+    /// Opens the object whose brace comes next, or reads all of it if it is empty.
+    fn object<B: Builder>(
+        &mut self,
+        limit: Option<usize>,
+        nest: &mut Nest<B>,
+    ) -> Result<Progress, JsonParseErrorKind>
+        requires shown { S.sight.shows self.old.tokens.source (Some begin_object) }
+        requires open { (fs : List Frame) × IsOpen B.holds nest.old fs }
+        ensures reads { (fs : List Frame) → IsOpen B.holds nest.old fs →
+            Continues B.holds B.is S.sight limit self.old.tokens.source (next fs awaited) result
+            nest.new self.new.tokens.source }
+        ensures left { OnOk result (S.left self.new.tokens.source < S.left self.old.tokens.source) }
+    {
+        if !fits(limit, nest.depth()) {
+            return Err(JsonParseErrorKind::TooDeep('{'));
+        }
+        self.tokens.consume('{');
+        if nest.open_object().is_err() {
+            return Err(JsonParseErrorKind::OutOfMemory);
+        }
+        match self.tokens.skip_white() {
+            Some('}') => {
+                self.tokens.consume('}');
+                nest.close_object()
+            }
+            _ => self.key(nest),
+        }
+    }
+
+    /// Reads a string as the key of its object, and the colon, if a string comes next.
+    #[inline(always)]
+    fn key<B: Builder>(&mut self, nest: &mut Nest<B>) -> Result<Progress, JsonParseErrorKind>
+        requires open { (ms : Members) × (fs : List Frame) ×
+            IsOpen B.holds nest.old (at_key ms ∷ fs) }
+        ensures reads { (limit : Option ℕ) (ms : Members) (fs : List Frame) →
+            IsOpen B.holds nest.old (at_key ms ∷ fs) →
+            Continues B.holds B.is S.sight limit self.old.tokens.source
+            (next (at_key ms ∷ fs) awaited) result nest.new self.new.tokens.source }
+        ensures left { OnOk result (S.left self.new.tokens.source ≤ S.left self.old.tokens.source) }
+    {
+        match self.tokens.skip_white() {
+            Some('"') => {
+                let key = self.tokens.string()?;
+                self.colon(nest, key)
+            }
+            _ => Ok(Progress::Awaits),
+        }
+    }
+
+    /// Reads the colon after a key.
+    #[inline(always)]
+    fn colon<B: Builder>(
+        &mut self,
+        nest: &mut Nest<B>,
+        key: String,
+    ) -> Result<Progress, JsonParseErrorKind>
+        requires open { (ms : Members) × (fs : List Frame) ×
+            IsOpen B.holds nest.old (at_key ms ∷ fs) }
+        ensures reads { (limit : Option ℕ) (ms : Members) (fs : List Frame) →
+            IsOpen B.holds nest.old (at_key ms ∷ fs) →
+            Continues B.holds B.is S.sight limit self.old.tokens.source
+            (next (at_key ms ∷ fs) (colon (text key))) result nest.new self.new.tokens.source }
+        ensures left { OnOk result (S.left self.new.tokens.source ≤ S.left self.old.tokens.source) }
+    {
+        match self.tokens.skip_white() {
+            Some(':') => {
+                self.tokens.consume(':');
+                if nest.key(key).is_err() {
+                    return Err(JsonParseErrorKind::OutOfMemory);
+                }
+                Ok(Progress::Awaits)
+            }
+            Some(c) => {
+                self.tokens.consume(c);
+                Err(JsonParseErrorKind::ExpectedColon(c))
+            }
+            None => Err(JsonParseErrorKind::UnexpectedEof),
+        }
+    }
+
+    /// Reads what follows a value in the innermost container, which awaited it.
+    fn after<B: Builder>(
+        &mut self,
+        nest: &mut Nest<B>,
+        awaited: Awaited,
+    ) -> Result<Progress, JsonParseErrorKind>
+        requires sound { (n : Next) × Stands B.holds B.is nest.old Complete n }
+        requires innermost { (os : List Awaited) × (awaited_of nest.old ≡ awaited ∷ os) }
+        ensures reads { (limit : Option ℕ) (n : Next) → Stands B.holds B.is nest.old Complete n →
+            Continues B.holds B.is S.sight limit self.old.tokens.source n result nest.new
+            self.new.tokens.source }
+        ensures left { OnOk result (S.left self.new.tokens.source < S.left self.old.tokens.source) }
+    {
+        match awaited {
+            Awaited::Item => self.after_item(nest),
+            Awaited::Value => self.after_member(nest),
+            Awaited::Key => unreachable!(),
+        }
+    }
+
+    /// Reads a comma or the bracket that closes the array, after an item.
+    fn after_item<B: Builder>(&mut self, nest: &mut Nest<B>) -> Result<Progress, JsonParseErrorKind>
+        requires open { (ts : List Tree) × (fs : List Frame) ×
+            IsOpen B.holds nest.old (in_array ts ∷ fs) }
+        ensures reads { (limit : Option ℕ) (ts : List Tree) (fs : List Frame) →
+            IsOpen B.holds nest.old (in_array ts ∷ fs) →
+            Continues B.holds B.is S.sight limit self.old.tokens.source
+            (next (in_array ts ∷ fs) after) result nest.new self.new.tokens.source }
+        ensures left { OnOk result (S.left self.new.tokens.source < S.left self.old.tokens.source) }
+    {
+        match self.tokens.skip_white() {
+            Some(',') => {
+                self.tokens.consume(',');
+                Ok(Progress::Awaits)
+            }
+            Some(']') => {
+                self.tokens.consume(']');
+                nest.close_array()
+            }
+            Some(c) => {
+                self.tokens.consume(c);
+                Err(JsonParseErrorKind::ExpectedCommaOrBracket(c))
+            }
+            None => Err(JsonParseErrorKind::UnexpectedEof),
+        }
+    }
+
+    /// Reads a comma or the brace that closes the object, after a member.
+    fn after_member<B: Builder>(
+        &mut self,
+        nest: &mut Nest<B>,
+    ) -> Result<Progress, JsonParseErrorKind>
+        requires within { (ms : Members) × (fs : List Frame) ×
+            IsWithin B.holds nest.old (at_key ms) fs }
+        ensures reads { (limit : Option ℕ) (ms : Members) (fs : List Frame) →
+            IsWithin B.holds nest.old (at_key ms) fs →
+            Continues B.holds B.is S.sight limit self.old.tokens.source
+            (next (at_key ms ∷ fs) after) result nest.new self.new.tokens.source }
+        ensures left { OnOk result (S.left self.new.tokens.source < S.left self.old.tokens.source) }
+    {
+        match self.tokens.skip_white() {
+            Some(',') => {
+                self.tokens.consume(',');
+                if nest.await_key().is_err() {
+                    return Err(JsonParseErrorKind::OutOfMemory);
+                }
+                self.key(nest)
+            }
+            Some('}') => {
+                self.tokens.consume('}');
+                nest.close_object()
+            }
+            Some(c) => {
+                self.tokens.consume(c);
+                Err(JsonParseErrorKind::ExpectedCommaOrBrace(c))
+            }
+            None => Err(JsonParseErrorKind::UnexpectedEof),
+        }
     }
 }
 
-/// The value of a literal.
-#[inline(always)]
-fn literal_value(literal: Option<bool>) -> JsonValue
-    ensures { view result ≡ literal_tree literal }
+/// Whether one more container may be opened.
+fn fits(limit: Option<usize>, depth: usize) -> bool
+    ensures { result ≡ fits limit depth }
 {
-    match literal {
-        None => JsonValue::Null,
-        Some(boolean) => JsonValue::Boolean(boolean),
+    match limit {
+        None => true,
+        Some(limit) => depth < limit,
     }
 }

@@ -1,92 +1,137 @@
-//! The containers that are open, and what they hold so far.
-ghost use Rattle.std.specs.Prelude.{◌≡◌, ◌+◌, ◌≤◌, List, [], ◌∷◌, ◌++◌, true, false};
-ghost use Rattle.std.specs.Prelude.{length, take, drop, reverse};
-ghost use Rattle.std.specs.Prelude.{OnOk, IfOk, MatchOption};
-ghost use Rattle.tinyjson_grammar.specs.Machine.{in_array, at_key, after, next, complete, finished};
-ghost use Rattle.tinyjson.specs.private.Stack.{at, frames, frames_over, gather, maps_of, open_of};
+//! The builder of values: a stack of what was read in open containers.
+ghost use Rattle.std.specs.Prelude.{◌≡◌, ◌+◌, ◌≤◌, List, [], ◌∷◌, ◌++◌};
+ghost use Rattle.std.specs.Prelude.{length, take, drop, reverse, OnOk, IfOk};
+ghost use Rattle.tinyjson_grammar.specs.Machine.{Frame, at_key};
+ghost use Rattle.tinyjson_grammar.specs.Tree.{Tree, Members, no_members};
+ghost use Rattle.tinyjson.specs.private.Building.{Puts};
+ghost use Rattle.tinyjson.specs.private.Stack.{gather, holds, is, maps_of};
 ghost use Rattle.tinyjson.specs.private.Stack.{other_maps, own_members};
-ghost use Rattle.tinyjson.specs.private.Stack.{AwaitsKey, BeginsMember, ClosesArray, ClosesObject};
-ghost use Rattle.tinyjson.specs.private.Stack.{Innermost, IsSound, Lies, TakesValue};
-ghost use Rattle.tinyjson_grammar.specs.Tree.{no_members, number};
-ghost use Rattle.tinyjson.specs.View.{view, text, members_view};
-ghost use Rattle.tinyjson.specs.declared.parser.stack.Frame.TheVariants as frame;
-ghost use Rattle.tinyjson.specs.declared.parser.stack.Progress.TheVariants.{Awaits, Complete};
+ghost use Rattle.tinyjson.specs.View.{view, members_view};
+ghost use Rattle.tinyjson_tokens.specs.Steps.{literal_tree};
 
+use super::builder::Builder;
 use crate::value::{JsonValue, add_member, insert_member};
 use std::alloc::{AllocError, Global};
 use std::collections::HashMap;
 use std::mem;
 use tinyjson_number::JsonNumber;
 
-/// A frame of the stack: a container that was opened and not closed, by where its values and its keys begin.
+/// Where the values and the keys of an open container begin.
 #[derive(Clone, Copy)]
-pub(super) enum Frame {
-    Array { values: usize },
-    /// An object that awaits a key.
-    Object { values: usize, keys: usize },
-    /// An object that awaits the value of its last key.
-    Member { values: usize, keys: usize },
-}
-
-/// How far the parser is between two tokens.
-#[derive(Clone, Copy)]
-pub(super) enum Progress {
-    /// A value is awaited.
-    Awaits,
-    /// A value is complete, and is the last on the stack.
-    Complete,
+struct Place {
+    values: usize,
+    keys: usize,
 }
 
 /// At most this many members of an object stand on the stack before they are put into its map.
 const MANY: usize = 64;
 
-/// The containers that are open, the innermost last, and the values and keys that were read in them.
+/// The values and the keys that were read in open containers, and where those of each container begin, the
+/// innermost last.
 #[derive(Drop)]
 pub(super) struct Stack {
     alloc: Global,
-    containers: Vec<Frame>,
+    places: Vec<Place>,
     values: Vec<JsonValue>,
     keys: Vec<String>,
     /// A map for each object, with its first members if it has many. The outermost objects may lack theirs.
     maps: Vec<HashMap<String, JsonValue>>,
 }
 
+impl Builder for Stack {
+    ghost use Rattle.tinyjson.specs.private.Stack.{holds, is};
+
+    ghost holds = { holds };
+
+    ghost is = { is };
+
+    #[inline(always)]
+    fn open_array(&mut self) -> Result<(), AllocError> {
+        let place = self.end();
+        self.places.push(place)?;
+        Ok(())
+    }
+
+    fn close_array(&mut self) -> Result<(), AllocError> {
+        let Some(place) = self.places.pop() else {
+            unreachable!()
+        };
+        let items = self.take_items(place.values)?;
+        self.push(JsonValue::Array(items))
+    }
+
+    #[inline(always)]
+    fn open_object(&mut self) -> Result<(), AllocError> {
+        let place = self.end();
+        self.open_map()?;
+        self.places.push(place)?;
+        Ok(())
+    }
+
+    fn close_object(&mut self) -> Result<(), AllocError> {
+        let Some(place) = self.places.pop() else {
+            unreachable!()
+        };
+        let mut members = self.take_members(place.values, place.keys)?;
+        trim(&mut members);
+        self.push(JsonValue::Object(members))
+    }
+
+    #[inline(always)]
+    fn key(&mut self, key: String) -> Result<(), AllocError> {
+        self.settle()?;
+        self.keys.push(key)?;
+        Ok(())
+    }
+
+    #[inline(always)]
+    fn string(&mut self, value: String) -> Result<(), AllocError> {
+        self.push(JsonValue::String(value))
+    }
+
+    #[inline(always)]
+    fn number(&mut self, value: JsonNumber) -> Result<(), AllocError> {
+        self.values.reserve(1)?;
+        self.values.push_reserved(JsonValue::Number(value));
+        Ok(())
+    }
+
+    #[inline(always)]
+    fn literal(&mut self, value: Option<bool>) -> Result<(), AllocError> {
+        self.push(literal_value(value))
+    }
+}
+
 impl Stack {
     pub(super) fn new(alloc: Global) -> Self
-        ensures frames { frames result ≡ [] }
-        ensures sound { IsSound result Awaits }
+        ensures { holds result [] }
     {
         Stack {
             alloc,
-            containers: Vec::new(alloc),
+            places: Vec::new(alloc),
             values: Vec::new(alloc),
             keys: Vec::new(alloc),
             maps: Vec::new(alloc),
         }
     }
 
-    /// How many containers are open.
-    pub(super) fn depth(&self) -> usize
-        ensures { result ≡ length (frames self.now) }
+    /// Where a container that is opened now begins.
+    #[inline(always)]
+    fn end(&self) -> Place
+        ensures values { result.values ≡ length self.now.values.items }
+        ensures keys { result.keys ≡ length self.now.keys.items }
     {
-        self.containers.len()
-    }
-
-    /// The container that was opened last.
-    pub(super) fn innermost(&self) -> Option<Frame>
-        ensures { MatchOption result (open_of self.now ≡ []) (Innermost self.now) }
-    {
-        self.containers.last().copied()
+        Place {
+            values: self.values.len(),
+            keys: self.keys.len(),
+        }
     }
 
     /// Puts a value on the stack.
     #[inline(always)]
-    pub(super) fn push(&mut self, value: JsonValue) -> Result<(), AllocError>
-        requires sound { IsSound self.old Awaits }
-        requires place { TakesValue (open_of self.old) }
-        ensures at { OnOk result (at self.new Complete
-            ≡ complete true (frames self.old) (view value) true) }
-        ensures sound { OnOk result (IsSound self.new Complete) }
+    fn push(&mut self, value: JsonValue) -> Result<(), AllocError>
+        ensures { (fs : List Frame) → holds self.old fs →
+            OnOk result (Puts holds is fs (view value) self.new) }
     {
         if self.values.reserve(1).is_err() {
             value.dismantle();
@@ -96,25 +141,10 @@ impl Stack {
         Ok(())
     }
 
-    /// Puts a number on the stack.
-    #[inline(always)]
-    pub(super) fn push_number(&mut self, decimal: JsonNumber) -> Result<(), AllocError>
-        requires sound { IsSound self.old Awaits }
-        requires place { TakesValue (open_of self.old) }
-        ensures at { OnOk result (at self.new Complete
-            ≡ complete true (frames self.old) (number decimal.decimal) true) }
-        ensures sound { OnOk result (IsSound self.new Complete) }
-    {
-        self.values.reserve(1)?;
-        self.values.push_reserved(JsonValue::Number(decimal));
-        Ok(())
-    }
-
     /// Takes the complete value, where no container is open.
     pub(super) fn take_complete(&mut self) -> JsonValue
-        requires sound { IsSound self.old Complete }
-        requires none { open_of self.old ≡ [] }
-        ensures { at self.old Complete ≡ next [] (finished (view result)) }
+        requires { (t : Tree) × is self.old t }
+        ensures { (t : Tree) → is self.old t → view result ≡ t }
     {
         match self.values.pop() {
             Some(value) => value,
@@ -122,35 +152,11 @@ impl Stack {
         }
     }
 
-    /// Opens an array.
-    pub(super) fn open_array(&mut self) -> Result<(), AllocError>
-        requires sound { IsSound self.old Awaits }
-        ensures frames { OnOk result (frames self.new ≡ in_array [] ∷ frames self.old) }
-        ensures sound { OnOk result (IsSound self.new Awaits) }
-    {
-        let values = self.values.len();
-        self.containers.push(Frame::Array { values })?;
-        Ok(())
-    }
-
-    /// Opens an object.
-    pub(super) fn open_object(&mut self) -> Result<(), AllocError>
-        requires sound { IsSound self.old Awaits }
-        ensures frames { OnOk result (frames self.new ≡ at_key no_members ∷ frames self.old) }
-        ensures sound { OnOk result (IsSound self.new Awaits) }
-        ensures awaits { OnOk result (AwaitsKey self.new) }
-    {
-        let (values, keys) = (self.values.len(), self.keys.len());
-        self.open_map()?;
-        self.containers.push(Frame::Object { values, keys })?;
-        Ok(())
-    }
-
     /// Gives an object that is opened an empty map, if an object around it has one.
     fn open_map(&mut self) -> Result<(), AllocError>
         ensures members { OnOk result (own_members (maps_of self.new) ≡ no_members) }
         ensures maps { OnOk result (other_maps (maps_of self.new) ≡ maps_of self.old) }
-        ensures containers { self.new.containers ≡ self.old.containers }
+        ensures places { self.new.places ≡ self.old.places }
         ensures values { self.new.values ≡ self.old.values }
         ensures keys { self.new.keys ≡ self.old.keys }
     {
@@ -161,75 +167,40 @@ impl Stack {
         Ok(())
     }
 
-    /// Gives the innermost object, which awaits a key, this key.
+    /// Puts the members of the innermost object that wait into its map, where they are many.
     #[inline(always)]
-    pub(super) fn begin_member(&mut self, key: String) -> Result<(), AllocError>
-        requires sound { IsSound self.old Awaits }
-        requires awaits { AwaitsKey self.old }
-        ensures begins { OnOk result (BeginsMember self.old self.new (text key)) }
-        ensures sound { OnOk result (IsSound self.new Awaits) }
+    fn settle(&mut self) -> Result<(), AllocError>
+        requires { (ms : Members) × (fs : List Frame) × holds self.old (at_key ms ∷ fs) }
+        ensures { (ms : Members) (fs : List Frame) → holds self.old (at_key ms ∷ fs) →
+            OnOk result (holds self.new (at_key ms ∷ fs)) }
     {
-        let Some(Frame::Object { values, keys }) = self.containers.pop() else {
+        let Some(place) = self.places.last().copied() else {
             unreachable!()
         };
-        self.keys.push(key)?;
-        self.containers.push(Frame::Member { values, keys })?;
-        Ok(())
-    }
-
-    /// Gives the last key of the innermost object the complete value.
-    pub(super) fn end_member(&mut self, values: usize, keys: usize) -> Result<(), AllocError>
-        requires sound { IsSound self.old Complete }
-        requires member { Innermost self.old (frame.Member values keys) }
-        ensures at { OnOk result (at self.old Complete ≡ next (frames self.new) after) }
-        ensures sound { OnOk result (IsSound self.new Awaits) }
-        ensures awaits { OnOk result (AwaitsKey self.new) }
-    {
-        self.containers.pop();
-        self.settle(values, keys)?;
-        self.containers.push(Frame::Object { values, keys })?;
-        Ok(())
-    }
-
-    /// Puts the members of the innermost object that wait into its map, where they are many. Its values and
-    /// its keys begin at these places.
-    fn settle(&mut self, values: usize, keys: usize) -> Result<(), AllocError>
-        requires values { values ≤ length self.old.values.items }
-        requires keys { keys ≤ length self.old.keys.items }
-        requires count { length self.old.keys.items + values ≡ length self.old.values.items + keys }
-        ensures frames { (os : List frame.the_data) →
-            OnOk result (frames_over (frame.Object values keys ∷ os) self.new.values.items
-            self.new.keys.items (maps_of self.new)
-            ≡ frames_over (frame.Object values keys ∷ os) self.old.values.items
-            self.old.keys.items (maps_of self.old)) }
-        ensures lies { (os : List frame.the_data) → Lies os values keys →
-            OnOk result (Lies (frame.Object values keys ∷ os) (length self.new.values.items)
-            (length self.new.keys.items)) }
-        ensures containers { self.new.containers ≡ self.old.containers }
-    {
-        if self.values.len() - values < MANY {
+        if self.values.len() - place.values < MANY {
             return Ok(());
         }
-        self.settle_many(values, keys)
+        self.settle_many(place)
     }
 
-    /// The same where they are many.
+    /// The same where they are many. This is where they begin.
     #[inline(never)]
-    fn settle_many(&mut self, values: usize, keys: usize) -> Result<(), AllocError>
-        requires values { values ≤ length self.old.values.items }
-        requires keys { keys ≤ length self.old.keys.items }
-        requires count { length self.old.keys.items + values ≡ length self.old.values.items + keys }
-        ensures frames { (os : List frame.the_data) →
-            OnOk result (frames_over (frame.Object values keys ∷ os) self.new.values.items
-            self.new.keys.items (maps_of self.new)
-            ≡ frames_over (frame.Object values keys ∷ os) self.old.values.items
-            self.old.keys.items (maps_of self.old)) }
-        ensures lies { (os : List frame.the_data) → Lies os values keys →
-            OnOk result (Lies (frame.Object values keys ∷ os) (length self.new.values.items)
-            (length self.new.keys.items)) }
-        ensures containers { self.new.containers ≡ self.old.containers }
+    fn settle_many(&mut self, place: Place) -> Result<(), AllocError>
+        requires values { place.values ≤ length self.old.values.items }
+        requires keys { place.keys ≤ length self.old.keys.items }
+        requires count { length self.old.keys.items + place.values
+            ≡ length self.old.values.items + place.keys }
+        ensures members { OnOk result (own_members (maps_of self.new)
+            ≡ gather (own_members (maps_of self.old)) (drop place.keys self.old.keys.items)
+            (drop place.values self.old.values.items)) }
+        ensures maps { OnOk result (other_maps (maps_of self.new)
+            ≡ other_maps (maps_of self.old)) }
+        ensures places { self.new.places ≡ self.old.places }
+        ensures values { OnOk result (self.new.values.items
+            ≡ take place.values self.old.values.items) }
+        ensures keys { OnOk result (self.new.keys.items ≡ take place.keys self.old.keys.items) }
     {
-        let members = self.take_members(values, keys)?;
+        let members = self.take_members(place.values, place.keys)?;
         if let Err(refused) = self.maps.push(members) {
             JsonValue::Object(refused.value).dismantle();
             return Err(AllocError);
@@ -237,22 +208,12 @@ impl Stack {
         Ok(())
     }
 
-    /// Closes the innermost array after its last item. It keeps no more memory than its items need.
-    pub(super) fn close_array(&mut self, values: usize) -> Result<JsonValue, AllocError>
-        requires sound { IsSound self.old Complete }
-        requires array { Innermost self.old (frame.Array values) }
-        ensures { IfOk result (ClosesArray self.old self.new) }
-    {
-        self.containers.pop();
-        Ok(JsonValue::Array(self.take_items(values)?))
-    }
-
     /// Takes the values from this place on.
     fn take_items(&mut self, values: usize) -> Result<Vec<JsonValue>, AllocError>
         requires { values ≤ length self.old.values.items }
         ensures items { IfOk result (λ v. v.items ≡ drop values self.old.values.items) }
         ensures values { OnOk result (self.new.values.items ≡ take values self.old.values.items) }
-        ensures containers { self.new.containers ≡ self.old.containers }
+        ensures places { self.new.places ≡ self.old.places }
         ensures keys { self.new.keys ≡ self.old.keys }
         ensures maps { self.new.maps ≡ self.old.maps }
     {
@@ -262,22 +223,6 @@ impl Stack {
         let mut items = mem::replace(&mut self.values, Vec::new(self.alloc));
         items.shrink_to_fit();
         Ok(items)
-    }
-
-    /// Closes the innermost object after its last member. Of equal keys the last member stays.
-    pub(super) fn close_object(
-        &mut self,
-        values: usize,
-        keys: usize,
-    ) -> Result<JsonValue, AllocError>
-        requires sound { IsSound self.old Complete }
-        requires member { Innermost self.old (frame.Member values keys) }
-        ensures { IfOk result (ClosesObject self.old self.new) }
-    {
-        self.containers.pop();
-        let mut members = self.take_members(values, keys)?;
-        trim(&mut members);
-        Ok(JsonValue::Object(members))
     }
 
     /// Takes the map of the innermost object, with the members that wait put into it.
@@ -293,7 +238,7 @@ impl Stack {
             ≡ gather (own_members (maps_of self.old)) (drop keys self.old.keys.items)
             (drop values self.old.values.items)) }
         ensures maps { maps_of self.new ≡ other_maps (maps_of self.old) }
-        ensures containers { self.new.containers ≡ self.old.containers }
+        ensures places { self.new.places ≡ self.old.places }
         ensures values { OnOk result (self.new.values.items ≡ take values self.old.values.items) }
         ensures keys { OnOk result (self.new.keys.items ≡ take keys self.old.keys.items) }
     {
@@ -312,7 +257,7 @@ impl Stack {
     fn take_map(&mut self) -> HashMap<String, JsonValue>
         ensures members { members_view result.entries ≡ own_members (maps_of self.old) }
         ensures maps { maps_of self.new ≡ other_maps (maps_of self.old) }
-        ensures containers { self.new.containers ≡ self.old.containers }
+        ensures places { self.new.places ≡ self.old.places }
         ensures values { self.new.values ≡ self.old.values }
         ensures keys { self.new.keys ≡ self.old.keys }
     {
@@ -335,7 +280,7 @@ impl Stack {
         ensures members { OnOk result (members_view members.new.entries
             ≡ gather (members_view members.old.entries) (drop keys self.old.keys.items)
             (drop values self.old.values.items)) }
-        ensures containers { self.new.containers ≡ self.old.containers }
+        ensures places { self.new.places ≡ self.old.places }
         ensures maps { self.new.maps ≡ self.old.maps }
         ensures values { OnOk result (self.new.values.items ≡ take values self.old.values.items) }
         ensures keys { OnOk result (self.new.keys.items ≡ take keys self.old.keys.items) }
@@ -360,7 +305,7 @@ impl Stack {
         ensures members { OnOk result (members_view members.new.entries
             ≡ gather (members_view members.old.entries) (drop keys self.old.keys.items)
             (drop values self.old.values.items)) }
-        ensures containers { self.new.containers ≡ self.old.containers }
+        ensures places { self.new.places ≡ self.old.places }
         ensures maps { self.new.maps ≡ self.old.maps }
         ensures values { OnOk result (self.new.values.items ≡ take values self.old.values.items) }
         ensures keys { OnOk result (self.new.keys.items ≡ take keys self.old.keys.items) }
@@ -388,7 +333,7 @@ impl Stack {
         ensures members { OnOk result (members_view members.new.entries
             ≡ gather (members_view members.old.entries) (drop keys self.old.keys.items)
             (drop values self.old.values.items)) }
-        ensures containers { self.new.containers ≡ self.old.containers }
+        ensures places { self.new.places ≡ self.old.places }
         ensures maps { self.new.maps ≡ self.old.maps }
         ensures values { OnOk result (self.new.values.items ≡ take values self.old.values.items) }
         ensures keys { OnOk result (self.new.keys.items ≡ take keys self.old.keys.items) }
@@ -439,5 +384,16 @@ fn trim(members: &mut HashMap<String, JsonValue>)
 {
     if members.capacity() > members.len() {
         members.shrink_to_fit();
+    }
+}
+
+/// The value of a literal.
+#[inline(always)]
+pub(super) fn literal_value(literal: Option<bool>) -> JsonValue
+    ensures { view result ≡ literal_tree literal }
+{
+    match literal {
+        None => JsonValue::Null,
+        Some(boolean) => JsonValue::Boolean(boolean),
     }
 }

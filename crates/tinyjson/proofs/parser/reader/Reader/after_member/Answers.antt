@@ -1,60 +1,47 @@
-use Rattle.std.proofs.Common.{rules, ◌≡◌}
-use Rattle.tinyjson_grammar.specs.Machine.{after, next}
-use Rattle.tinyjson.specs.private.Stack.{ClosesObject, at, frames}
+use Rattle.std.proofs.Common.{rules, ◌∷◌}
+use Rattle.tinyjson_grammar.specs.Machine.{at_key, after}
 use Rattle.tinyjson_grammar.specs.declared.error.JsonParseErrorKind.TheVariants.{UnexpectedEof, ExpectedCommaOrBrace}
-use Rattle.tinyjson_tokens.proofs.Callers.{end_after, Leads_one, Leads_end, Refuses_as, Refuses_memory, taken_complete}
-use Rattle.tinyjson.proofs.Reading.Containers.{object_closes, object_other}
-use Rattle.tinyjson.proofs.Reading.Stack.{member_complete, comma_read, after_white, after_halts}
-use Rattle.tinyjson.specs.declared.parser.stack.Progress.TheVariants.{Complete}
-use Rattle.tinyjson.proofs.Reading.Loop.{Continues_after}
+use Rattle.tinyjson_tokens.proofs.Callers.{end_after, white_after, Halts_here, Leads_whites, Leads_one, Leads_end, Refuses_as}
+use Rattle.tinyjson_tokens.proofs.Callers.{Refuses_memory, taken_complete}
+use Rattle.tinyjson.proofs.Reading.Containers.{object_comma, object_closes, object_other}
+use Rattle.tinyjson.proofs.Reading.Loop.{Continues_after, joined}
 use Rattle.tinyjson.proofs.parser.reader.Reader.after_member.Goals as goal
 
 pub returns-then-is_err-clause-reads : goal.returns-then-is_err-clause-reads
-returns-then-is_err-clause-reads g c = λ limit.
+returns-then-is_err-clause-reads g c = λ limit ms fs h.
     let sight = g.S.Source.sight in
-    let whole = member_complete c.args.stack.now c.requires.sound c.args.values c.args.keys _ c.requires.member.1 in
-    Refuses_memory sight limit _ _ (after_halts sight limit _ _ _ whole c.skip_white.ensures.white)
-
-pub returns-in_default-clause-reads : goal.returns-in_default-clause-reads
-returns-in_default-clause-reads g c = λ limit.
-    let sight = g.S.Source.sight in
-    let whole = member_complete c.args.stack.now c.requires.sound c.args.values c.args.keys _ c.requires.member.1 in
-    Refuses_memory sight limit _ _ (after_halts sight limit _ _ _ whole c.skip_white.ensures.white)
+    Refuses_memory sight limit _ _ (Halts_here sight limit _ _
+    (Leads_one sight limit _ _ _ 44 (Leads_whites sight limit _ _ _ c.skip_white.ensures.white tt (white_after limit _))
+    c.consume.ensures.takes tt (object_comma limit fs ms 44 (search rules)) tt) tt tt)
 
 pub returns-else-is_err-clause-reads : goal.returns-else-is_err-clause-reads
-returns-else-is_err-clause-reads g c = λ limit.
+returns-else-is_err-clause-reads g c = λ limit ms fs h.
     let sight = g.S.Source.sight in
-    let whole : at c.args.stack.now Complete ≡ next (frames c.end_member.new.self) after = search rules in
-    Continues_after sight limit _ _ _ _ _ _
-    (Leads_one sight limit _ _ _ 44 (after_white sight limit _ _ _ whole c.skip_white.ensures.white)
-    c.consume.ensures.takes tt
-    (comma_read limit c.end_member.new.self (search rules) 44 (search rules)) tt)
-    (c.key.ensures.reads limit)
+    Continues_after g.B.Builder.holds g.B.Builder.is sight limit _ _ _ _ c.key.new.nest
+    (Leads_one sight limit _ _ _ 44 (Leads_whites sight limit _ _ _ c.skip_white.ensures.white tt (white_after limit _))
+    c.consume.ensures.takes tt (object_comma limit fs ms 44 (search rules)) tt)
+    (c.key.ensures.reads limit ms fs (search rules))
 
-pub returns-in-Ok-clause-reads : goal.returns-in-Ok-clause-reads
-returns-in-Ok-clause-reads g c = λ limit.
+pub returns-in-Some-eq125-clause-reads : goal.returns-in-Some-eq125-clause-reads
+returns-in-Some-eq125-clause-reads g c = λ limit ms fs h.
     let sight = g.S.Source.sight in
-    let closed : ClosesObject c.args.stack.now c.close_object.new.self c.in-Ok.object = search rules in
-    Continues_after sight limit _ _ _ _ _ _
-    (Leads_one sight limit _ _ _ 125 (after_white sight limit _ _ _ closed.before c.skip_white.ensures.white)
-    c.consume-in-Some-eq125.ensures.takes tt
-    (object_closes limit _ _ _ 125 closed.value (search rules)) (taken_complete _ _))
-    (c.complete.ensures.reads limit)
+    joined g.B.Builder.holds g.B.Builder.is sight limit _ _ (at_key ms ∷ fs) after _ c.close_object.new.self
+    (Leads_one sight limit _ _ _ 125 (Leads_whites sight limit _ _ _ c.skip_white.ensures.white tt (white_after limit _))
+    c.consume-in-Some-eq125.ensures.takes tt (object_closes limit fs ms 125 (search rules)) (taken_complete _ _))
+    (c.close_object.ensures ms fs h)
 
 pub returns-in-Some-clause-reads : goal.returns-in-Some-clause-reads
-returns-in-Some-clause-reads g c = λ limit.
+returns-in-Some-clause-reads g c = λ limit ms fs h.
     let sight = g.S.Source.sight in
     let d = c.in-Some.c in
-    let whole = member_complete c.args.stack.now c.requires.sound c.args.values c.args.keys _ c.requires.member.1 in
     Refuses_as sight limit _ _ (ExpectedCommaOrBrace d)
-    (Leads_one sight limit _ _ _ d (after_white sight limit _ _ _ whole c.skip_white.ensures.white)
+    (Leads_one sight limit _ _ _ d (Leads_whites sight limit _ _ _ c.skip_white.ensures.white tt (white_after limit _))
     c.consume-in-Some.ensures.takes tt
-    (object_other limit _ _ d c.in-Some.ensures.stops (search rules) (search rules)) tt)
+    (object_other limit fs ms d c.in-Some.ensures.stops (search rules) (search rules)) tt)
 
 pub returns-in-None-clause-reads : goal.returns-in-None-clause-reads
-returns-in-None-clause-reads g c = λ limit.
+returns-in-None-clause-reads g c = λ limit ms fs h.
     let sight = g.S.Source.sight in
-    let whole = member_complete c.args.stack.now c.requires.sound c.args.values c.args.keys _ c.requires.member.1 in
     Refuses_as sight limit _ _ UnexpectedEof
-    (Leads_end sight limit _ _ (after_white sight limit _ _ _ whole c.skip_white.ensures.white) c.in-None.ensures.shows
-    (end_after limit _) tt)
+    (Leads_end sight limit _ _ (Leads_whites sight limit _ _ _ c.skip_white.ensures.white tt (white_after limit _))
+    c.in-None.ensures.shows (end_after limit _) tt)

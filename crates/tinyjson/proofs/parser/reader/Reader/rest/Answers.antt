@@ -1,55 +1,75 @@
-use Rattle.std.proofs.Common.{ap}
+use Rattle.std.proofs.Common.{Ok, Err}
 use Rattle.std.proofs.lemmas.Result.{err_from_is_err_and}
-use Rattle.tinyjson.specs.private.Stack.{at}
-use Rattle.tinyjson_tokens.proofs.Callers.{Leads_nil, Leads_to, Leads_trans, Refuses_after, Reads_after}
+use Rattle.tinyjson_tokens.proofs.Callers.{Leads_nil, Refuses_after}
+use Rattle.tinyjson.proofs.Reading.Loop.{Builds_after, Continues_after, Continues_from, complete_at, ends, open_at}
 use Rattle.tinyjson.proofs.parser.reader.Reader.rest.Goals as goal
 
 pub loop-progress-init : goal.loop-progress-init
-loop-progress-init g c = record {
-  reads = Leads_nil g.S.Source.sight c.args.limit _ _;
-  sound = c.requires.sound;
-}
+loop-progress-init g c = λ n h. (n, Leads_nil g.S.Source.sight c.args.limit _ n, h)
+
+pub next-requires : goal.next-requires
+next-requires g c =
+    let i = c.loop-progress.invariant c.requires.sound.0 c.requires.sound.1 in
+    let w = open_at g.B.Builder.holds g.B.Builder.is g.S.Source.sight c.args.limit c.loop-progress.nest _ _ c.in-Awaits.is i.2 in
+    record { «open» = (w.0, w.2) }
+
+pub after-requires-clause-sound : goal.after-requires-clause-sound
+after-requires-clause-sound g c =
+    let i = c.loop-progress.invariant c.requires.sound.0 c.requires.sound.1 in
+    (i.0, complete_at g.B.Builder.holds g.B.Builder.is g.S.Source.sight c.args.limit c.loop-progress.nest _ _ c.in-Complete.is i.2)
+
+pub returns-in_err-progress-in-Awaits-clause-reads : goal.returns-in_err-progress-in-Awaits-clause-reads
+returns-in_err-progress-in-Awaits-clause-reads g c = λ n h.
+    let holds = g.B.Builder.holds in
+    let is = g.B.Builder.is in
+    let sight = g.S.Source.sight in
+    let limit = c.args.limit in
+    let p = err_from_is_err_and c.from_residual.result c.from_residual.ensures.1 in
+    let i = c.loop-progress.invariant n h in
+    let w = open_at holds is sight limit c.loop-progress.nest _ _ c.in-Awaits.is i.2 in
+    rw (p.1, p.2) (Refuses_after sight limit _ _ _ _ i.1
+    (Continues_from holds is sight limit _ _ (Err _) c.next.new.nest w.1 (c.in_err-progress-in-Awaits.ensures.reads w.0 w.2)))
+
+pub loop-progress-preserved-in_ok-progress-in-Awaits : goal.loop-progress-preserved-in_ok-progress-in-Awaits
+loop-progress-preserved-in_ok-progress-in-Awaits g c = λ n h.
+    let holds = g.B.Builder.holds in
+    let is = g.B.Builder.is in
+    let sight = g.S.Source.sight in
+    let limit = c.args.limit in
+    let i = c.loop-progress.invariant n h in
+    let w = open_at holds is sight limit c.loop-progress.nest _ _ c.in-Awaits.is i.2 in
+    Continues_after holds is sight limit _ _ _ (Ok c.in_ok-progress-in-Awaits.progress) c.next.new.nest i.1
+    (Continues_from holds is sight limit _ _ (Ok c.in_ok-progress-in-Awaits.progress) c.next.new.nest w.1
+    (c.in_ok-progress-in-Awaits.ensures.reads w.0 w.2))
 
 pub returns-in_err-progress-in-Some-clause-reads : goal.returns-in_err-progress-in-Some-clause-reads
-returns-in_err-progress-in-Some-clause-reads g c =
+returns-in_err-progress-in-Some-clause-reads g c = λ n h.
     let sight = g.S.Source.sight in
     let limit = c.args.limit in
     let r = c.from_residual-in_err-progress-in-Some in
     let p = err_from_is_err_and r.result r.ensures.1 in
-    let l = Leads_to sight limit _ _ c.loop-progress.invariant.reads (ap (at c.loop-progress.stack) c.in-Complete.is) in
-    rw (p.1, p.2) (Refuses_after sight limit _ _ _ _ l (c.in_err-progress-in-Some.ensures.reads limit))
-
-pub returns-in-None-clause-reads : goal.returns-in-None-clause-reads
-returns-in-None-clause-reads g c =
-    let sight = g.S.Source.sight in
-    let limit = c.args.limit in
-    let l = Leads_to sight limit _ _ c.loop-progress.invariant.reads (ap (at c.loop-progress.stack) c.in-Complete.is) in
-    Reads_after sight limit _ _ _ _ _ l (c.last.ensures.reads limit)
-
-pub returns-in_err-progress-in-Awaits-clause-reads : goal.returns-in_err-progress-in-Awaits-clause-reads
-returns-in_err-progress-in-Awaits-clause-reads g c =
-    let sight = g.S.Source.sight in
-    let limit = c.args.limit in
-    let p = err_from_is_err_and c.from_residual.result c.from_residual.ensures.1 in
-    let l = Leads_to sight limit _ _ c.loop-progress.invariant.reads (ap (at c.loop-progress.stack) c.in-Awaits.is) in
-    rw (p.1, p.2) (Refuses_after sight limit _ _ _ _ l c.in_err-progress-in-Awaits.ensures.reads)
+    let i = c.loop-progress.invariant n h in
+    let w = complete_at g.B.Builder.holds g.B.Builder.is sight limit c.loop-progress.nest _ _ c.in-Complete.is i.2 in
+    rw (p.1, p.2) (Refuses_after sight limit _ _ _ _ i.1 (c.in_err-progress-in-Some.ensures.reads limit i.0 w))
 
 pub loop-progress-preserved : goal.loop-progress-preserved
-loop-progress-preserved g c =
+loop-progress-preserved g c = λ n h.
+    let holds = g.B.Builder.holds in
+    let is = g.B.Builder.is in
     let sight = g.S.Source.sight in
     let limit = c.args.limit in
-    let l = Leads_to sight limit _ _ c.loop-progress.invariant.reads (ap (at c.loop-progress.stack) c.in-Complete.is) in
-    record {
-      reads = Leads_trans sight limit _ _ _ l (c.in_ok-progress-in-Some.ensures.reads limit).0;
-      sound = (c.in_ok-progress-in-Some.ensures.reads limit).1;
-    }
+    let i = c.loop-progress.invariant n h in
+    let w = complete_at holds is sight limit c.loop-progress.nest _ _ c.in-Complete.is i.2 in
+    Continues_after holds is sight limit _ _ _ (Ok c.in_ok-progress-in-Some.progress) c.after.new.nest i.1
+    (c.in_ok-progress-in-Some.ensures.reads limit i.0 w)
 
-pub loop-progress-preserved-in_ok-progress-in-Awaits : goal.loop-progress-preserved-in_ok-progress-in-Awaits
-loop-progress-preserved-in_ok-progress-in-Awaits g c =
+pub returns-in-None-clause-reads : goal.returns-in-None-clause-reads
+returns-in-None-clause-reads g c = λ n h.
+    let holds = g.B.Builder.holds in
+    let is = g.B.Builder.is in
     let sight = g.S.Source.sight in
     let limit = c.args.limit in
-    let l = Leads_to sight limit _ _ c.loop-progress.invariant.reads (ap (at c.loop-progress.stack) c.in-Awaits.is) in
-    record {
-      reads = Leads_trans sight limit _ _ _ l c.in_ok-progress-in-Awaits.ensures.reads.0;
-      sound = c.in_ok-progress-in-Awaits.ensures.reads.1;
-    }
+    let i = c.loop-progress.invariant n h in
+    let w = complete_at holds is sight limit c.loop-progress.nest _ _ c.in-Complete.is i.2 in
+    Builds_after holds is sight limit _ _ _ _ c.loop-progress.nest i.1
+    (ends holds is sight limit _ _ i.0 c.end.result c.loop-progress.nest w c.in-None.ensures (c.end.ensures.reads limit))

@@ -1,13 +1,12 @@
-use Rattle.tinyjson.specs.private.Stack.{at, IsSound}
+use Rattle.tinyjson_grammar.specs.Machine.{Next}
+use Rattle.tinyjson.specs.private.Building.{Stands}
 use Rattle.tinyjson_tokens.specs.Steps.{Leads}
 use Rattle.tinyjson.proofs.parser.reader.Reader.rest.Given as goal
 
 abbrev pub invariant-loop-progress : goal.invariant-loop-progress
-invariant-loop-progress g l = record {
-  reads : Leads g.S.Source.sight l.fn.limit l.initial.self.tokens.source (at l.initial.stack l.initial.progress) l.self.tokens.source
-      (at l.stack l.progress);
-  sound : IsSound l.stack l.progress;
-}
+invariant-loop-progress g l = (n : Next) → Stands g.B.Builder.holds g.B.Builder.is l.initial.nest l.initial.progress n
+    → (m : Next) × Leads g.S.Source.sight l.fn.limit l.initial.self.tokens.source n l.self.tokens.source m
+    × Stands g.B.Builder.holds g.B.Builder.is l.nest l.progress m
 
 abbrev pub decreases-loop-progress : goal.decreases-loop-progress
 decreases-loop-progress g l = g.S.Source.left l.self.tokens.source

@@ -1,22 +1,26 @@
-use Rattle.std.proofs.Common.{true, ap, sym}
+use Rattle.std.proofs.Common.{rules, ◌≡◌, ◌∷◌, List, subst, sym, true}
 use Rattle.std.proofs.lemmas.Result.{err_from_is_err_and}
-use Rattle.tinyjson_grammar.specs.Machine.{complete}
-use Rattle.tinyjson.specs.private.Stack.{frames}
-use Rattle.tinyjson.proofs.Values.View.{view_String}
+use Rattle.tinyjson_grammar.specs.Machine.{Frame, at_key, awaited, complete, next, colon}
+use Rattle.tinyjson_grammar.specs.Tree.{Members, string}
+use Rattle.tinyjson.specs.View.{text}
+use Rattle.tinyjson.specs.private.Building.{TakesValue}
 use Rattle.tinyjson_tokens.proofs.Callers.{Leads_to}
-use Rattle.tinyjson.proofs.Reading.Loop.{Continues_after}
+use Rattle.tinyjson.proofs.Reading.Loop.{joined, string_at_key}
 use Rattle.tinyjson.proofs.parser.reader.Reader.string.Goals as goal
 
 pub returns-in_err-string-clause-reads : goal.returns-in_err-string-clause-reads
-returns-in_err-string-clause-reads g c = λ limit.
+returns-in_err-string-clause-reads g c = λ limit fs h.
     let p = err_from_is_err_and c.from_residual.result c.from_residual.ensures.1 in
-    rw (p.1, p.2) (c.in_err-string.ensures.reads limit _)
+    rw (p.1, p.2) (c.in_err-string.ensures.reads limit fs)
+
+pub returns-then-awaits_key-clause-reads : goal.returns-then-awaits_key-clause-reads
+returns-then-awaits_key-clause-reads g c = λ limit fs h.
+    let w : (ms : Members) × (gs : List Frame) × (fs ≡ at_key ms ∷ gs) = search rules in
+    string_at_key g.B.Builder.holds g.B.Builder.is g.S.Source.sight limit _ _ _ fs w.0 w.1 w.2 _ _ c.args.nest.now c.colon.new.nest
+    (c.in_ok-string.ensures.reads limit fs) h (c.colon.ensures.reads limit w.0 w.1)
 
 pub returns-clause-reads : goal.returns-clause-reads
-returns-clause-reads g c = λ limit.
-    let sight = g.S.Source.sight in
-    let fs = frames c.args.stack.now in
-    Continues_after sight limit _ _ _ _ _ _
-    (Leads_to sight limit _ _ (c.in_ok-string.ensures.reads limit fs)
-    (ap (λ t. complete true fs t true) (sym (view_String c.in_ok-string.string))))
-    (c.complete.ensures.reads limit)
+returns-clause-reads g c = λ limit fs h.
+    let w : TakesValue fs = search rules in
+    joined g.B.Builder.holds g.B.Builder.is g.S.Source.sight limit _ _ fs awaited _ c.string-2.new.self
+    (c.in_ok-string.ensures.reads limit fs) (c.string-2.ensures fs h w)

@@ -1,10 +1,9 @@
-use Rattle.std.proofs.Common.{[], ap, sym}
+use Rattle.std.proofs.Common.{[]}
 use Rattle.std.proofs.lemmas.Result.{err_from_is_err_and}
 use Rattle.tinyjson_tokens.specs.Steps.{literal_tree}
-use Rattle.tinyjson_grammar.specs.Machine.{next, awaited}
 use Rattle.tinyjson_grammar.specs.declared.error.JsonParseErrorKind.TheVariants.{UnexpectedEof}
 use Rattle.tinyjson.proofs.Reading.Memory.{grows_text}
-use Rattle.tinyjson_tokens.proofs.Callers.{end_awaited, Leads_end, Leads_to, Leads_trans, Leads_whites, Refuses_after, Refuses_as}
+use Rattle.tinyjson_tokens.proofs.Callers.{end_awaited, Leads_end, Leads_trans, Leads_whites, Refuses_after, Refuses_as}
 use Rattle.tinyjson_tokens.proofs.Callers.{Reads_after, white_awaited}
 use Rattle.tinyjson.proofs.parser.reader.Reader.text_value.Goals as goal
 
@@ -41,8 +40,7 @@ returns-in-Some-clause-reads g c =
     let sight = g.S.Source.sight in
     let limit = c.args.limit in
     let l = Leads_whites sight limit _ _ _ c.skip_white.ensures.white tt (white_awaited limit []) in
-    Reads_after sight limit _ _ _ _ _ (Leads_to sight limit _ _ l (ap (λ fs. next fs awaited) (sym c.new-stack.ensures.frames)))
-    c.values-read.ensures.reads
+    Reads_after sight limit _ _ _ _ _ l c.values-read.ensures.reads
 
 pub returns-in-Some-clause-memory : goal.returns-in-Some-clause-memory
 returns-in-Some-clause-memory g c = grows_text g.S.Source.sight _ _ c.in-Some.first c.values-read.result c.skip_white.ensures.white

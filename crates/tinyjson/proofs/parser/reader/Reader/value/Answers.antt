@@ -23,7 +23,7 @@ pub returns-in_default-clause-reads : goal.returns-in_default-clause-reads
 returns-in_default-clause-reads g c = c.number.ensures.reads c.args.limit
 
 pub returns-in_default-2-clause-reads : goal.returns-in_default-2-clause-reads
-returns-in_default-2-clause-reads g c =
+returns-in_default-2-clause-reads g c = λ fs h.
     let sight = g.S.Source.sight in
     let limit = c.args.limit in
     let d = c.args.first in

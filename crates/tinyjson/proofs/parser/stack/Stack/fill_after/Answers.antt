@@ -16,7 +16,7 @@ loop-self-init c =
       keys_least = omega (arith, keys, c.requires.keys);
       values_least = omega (arith, values, c.requires.values);
       count = omega (arith, keys, values, c.requires.count);
-      containers = refl;
+      places = refl;
       maps = refl;
     }
 

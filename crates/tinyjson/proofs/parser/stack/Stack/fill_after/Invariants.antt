@@ -16,7 +16,7 @@ invariant-loop-self l =
       keys_least : l.keys ≤ length l.self.keys.items;
       values_least : l.values ≤ length l.self.values.items;
       count : length l.self.keys.items + l.values ≡ length l.self.values.items + l.keys;
-      containers : l.self.containers ≡ old.containers;
+      places : l.self.places ≡ old.places;
       maps : l.self.maps ≡ old.maps;
     }
 

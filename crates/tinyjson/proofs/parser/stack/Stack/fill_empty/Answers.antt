@@ -19,7 +19,7 @@ loop-self-init c =
       keys_least = c.requires.keys;
       values_least = c.requires.values;
       count = c.requires.count;
-      containers = refl;
+      places = refl;
       maps = refl;
     }
 
@@ -48,7 +48,7 @@ loop-self-preserved c =
       keys_least = omega (arith, fewer_keys, fewer_values, more, i.count);
       values_least = omega (arith, fewer_values, more);
       count = omega (arith, fewer_keys, fewer_values, i.count);
-      containers = i.containers;
+      places = i.places;
       maps = i.maps;
     }
 

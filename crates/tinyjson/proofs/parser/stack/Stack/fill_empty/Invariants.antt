@@ -16,7 +16,7 @@ invariant-loop-self l =
       keys_least : l.keys ≤ m;
       values_least : l.values ≤ n;
       count : m + l.values ≡ n + l.keys;
-      containers : l.self.containers ≡ old.containers;
+      places : l.self.places ≡ old.places;
       maps : l.self.maps ≡ old.maps;
     }
 

@@ -1,5 +1,5 @@
 use Rattle.tinyjson.proofs.Values.View.{view_Null, view_Boolean}
-use Rattle.tinyjson.proofs.parser.reader.literal_value.Goals as goal
+use Rattle.tinyjson.proofs.parser.stack.literal_value.Goals as goal
 
 pub returns-in-None : goal.returns-in-None
 returns-in-None c = rw c.in-None.is view_Null

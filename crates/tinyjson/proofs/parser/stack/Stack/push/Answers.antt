@@ -1,0 +1,9 @@
+use Rattle.std.proofs.Common.{rules, refl, reverse}
+use Rattle.tinyjson.specs.private.Stack.{maps_of}
+use Rattle.tinyjson.proofs.Reading.Stack.{holds_value}
+use Rattle.tinyjson.proofs.parser.stack.Stack.push.Goals as goal
+
+pub returns : goal.returns
+returns c = λ fs h.
+    let s = c.args.self.now in
+    holds_value s.values.items c.args.value s.keys.items (maps_of s) (reverse s.places.items) fs _ _ h refl refl (search rules) refl refl

@@ -1,0 +1,8 @@
+use Rattle.std.proofs.Common.{OnOk, subst}
+use Rattle.tinyjson.specs.private.Building.{Puts}
+use Rattle.tinyjson.specs.private.Stack.{holds, is}
+use Rattle.tinyjson.proofs.Values.View.{view_String}
+use Rattle.tinyjson.proofs.parser.stack.StackBuilder.string.Goals as goal
+
+pub returns : goal.returns
+returns c = λ fs h. subst (λ t. OnOk c.push.result (Puts holds is fs t c.push.new.self)) (view_String c.args.value) (c.push.ensures fs h)

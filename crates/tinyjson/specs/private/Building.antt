@@ -1,0 +1,82 @@
+-- What a builder stands for while a text is read into it. For private contracts.
+use Rattle.std.specs.Prelude.{◌≡◌, ℕ, List, [], ◌∷◌, ◌++◌, reverse, Option, Result, MatchResult, ◌⊎◌, true, ⊤}
+use Rattle.tinyjson_grammar.specs.Tree.{Tree, Members, put}
+use Rattle.tinyjson_grammar.specs.Machine.{Frame, in_array, at_key, at_value, awaited, after, finished, Next, next, stop}
+use Rattle.tinyjson_grammar.specs.declared.error.JsonParseErrorKind.{JsonParseErrorKind}
+use Rattle.tinyjson_grammar.specs.declared.error.JsonParseErrorKind.TheVariants.{OutOfMemory}
+use Rattle.tinyjson_tokens.specs.Source.{Sight}
+use Rattle.tinyjson_tokens.specs.Steps.{IsNext, Leads, Refuses}
+use Rattle.tinyjson.specs.declared.parser.builder.Awaited.{Awaited}
+use Rattle.tinyjson.specs.declared.parser.builder.Awaited.TheVariants.{Item, Key, Value}
+use Rattle.tinyjson.specs.declared.parser.builder.Nest.{Nest}
+use Rattle.tinyjson.specs.declared.parser.builder.Progress.{Progress}
+use Rattle.tinyjson.specs.declared.parser.builder.Progress.TheVariants.{Awaits, Complete}
+
+-- A complete value is put where it belongs. Where a key is awaited, nothing is said: the parser refuses there what is no string.
+abbrev pub Puts : {B : Type 0} → (B → List Frame → Type 0) → (B → Tree → Type 0) → List Frame → Tree → B → Type 0
+Puts holds is [] t b = is b t
+Puts holds is (in_array ts ∷ fs) t b = holds b (in_array (ts ++ t ∷ []) ∷ fs)
+Puts holds is (at_key ms ∷ fs) t b = ⊤
+Puts holds is (at_value ms k ∷ fs) t b = holds b (at_key (put k t ms) ∷ fs)
+
+-- no key is awaited
+abbrev pub TakesValue : List Frame → Type 0
+TakesValue [] = ⊤
+TakesValue (in_array ts ∷ fs) = ⊤
+TakesValue (at_key ms ∷ fs) = ⊥
+TakesValue (at_value ms k ∷ fs) = ⊤
+
+-- what the open containers await, the innermost first
+abbrev pub Agree : List Awaited → List Frame → Type 0
+Agree [] [] = ⊤
+Agree (Item ∷ os) (in_array ts ∷ fs) = Agree os fs
+Agree (Key ∷ os) (at_key ms ∷ fs) = Agree os fs
+Agree (Value ∷ os) (at_value ms k ∷ fs) = Agree os fs
+Agree os fs = ⊥
+
+-- the same of the containers around the innermost
+abbrev pub AgreeAround : List Awaited → List Frame → Type 0
+AgreeAround [] fs = ⊥
+AgreeAround (o ∷ os) fs = Agree os fs
+
+-- the innermost first
+abbrev pub awaited_of : {B : Type 0} → Nest B → List Awaited
+awaited_of n = reverse n.awaited.items
+
+module _ {B : Type 0} (holds : B → List Frame → Type 0) where
+  -- these containers are open, and a value or a key is awaited
+  abbrev pub IsOpen : Nest B → List Frame → Type 0
+  IsOpen n fs = holds n.builder fs × Agree (awaited_of n) fs
+
+  -- the builder stands for these, and so do the containers around the innermost
+  abbrev pub IsWithin : Nest B → Frame → List Frame → Type 0
+  IsWithin n f fs = holds n.builder (f ∷ fs) × AgreeAround (awaited_of n) fs
+
+module _ {B : Type 0} (holds : B → List Frame → Type 0) (is : B → Tree → Type 0) where
+  -- a value is complete, and stands where it belongs: as an item of an array, or at a key
+  abbrev pub Completes : B → List Awaited → Next → Type 0
+  Completes b [] n = (t : Tree) × (n ≡ next [] (finished t)) × is b t
+  Completes b (Item ∷ os) n =
+      (ts : List Tree) × (fs : List Frame) × (n ≡ next (in_array ts ∷ fs) after) × holds b (in_array ts ∷ fs) × Agree os fs
+  Completes b (Key ∷ os) n = ⊥
+  Completes b (Value ∷ os) n =
+      (ms : Members) × (fs : List Frame) × (n ≡ next (at_key ms ∷ fs) after) × holds b (at_key ms ∷ fs) × Agree os fs
+
+  -- the state of the machine
+  abbrev pub Stands : Nest B → Progress → Next → Type 0
+  Stands s Awaits n = (fs : List Frame) × (n ≡ next fs awaited) × IsOpen holds s fs
+  Stands s Complete n = Completes s.builder (awaited_of s) n
+
+  -- what was put where it belongs leads to this state, or to a refusal; or there was no memory
+  abbrev pub Joins : Next → Result Progress JsonParseErrorKind → Nest B → Type 0
+  Joins n r s = MatchResult r (λ v. Stands s v n) (λ k. (n ≡ stop k true) ⊎ ((k ≡ OutOfMemory) × IsNext n))
+
+  -- a part of a text: the machine went from n to where the nest stands, or it refuses, or there was no memory
+  abbrev pub Continues : {S : Type 0} → Sight S → Option ℕ → S → Next → Result Progress JsonParseErrorKind → Nest B → S → Type 0
+  Continues sight limit p n r s q = MatchResult r (λ v. (m : Next) × Leads sight limit p n q m × Stands s v m)
+      (λ k. Refuses sight limit p n k q)
+
+  -- a text: the builder stands for its tree
+  abbrev pub Builds : {S : Type 0} → Sight S → Option ℕ → S → Next → Result (Unit {0}) JsonParseErrorKind → Nest B → S → Type 0
+  Builds sight limit p n r s q = MatchResult r
+      (λ _. (t : Tree) × Leads sight limit p n q (next [] (finished t)) × is s.builder t) (λ k. Refuses sight limit p n k q)

@@ -1,0 +1,277 @@
+//! What a text is read into: a builder, and what each open container awaits.
+ghost use Rattle.std.specs.Prelude.{◌≡◌, ◌∷◌, List, [], length, true, false, Ok, Err, OnOk};
+ghost use Rattle.std.specs.Prelude.{MatchOption, MatchResult};
+ghost use Rattle.std.specs.Bool.{MatchBool};
+ghost use Rattle.tinyjson_grammar.specs.Characters.{text};
+ghost use Rattle.tinyjson_grammar.specs.Kind.{kind_of};
+ghost use Rattle.tinyjson_grammar.specs.Machine.{Frame, in_array, at_key, at_value};
+ghost use Rattle.tinyjson_grammar.specs.Machine.{complete, stop};
+ghost use Rattle.tinyjson_grammar.specs.Tree.{Tree, Members, no_members, items_of, is_string};
+ghost use Rattle.tinyjson_grammar.specs.Tree.{array, object, string, number};
+ghost use Rattle.tinyjson_grammar.specs.declared.error.JsonParseErrorKind.TheVariants.{OutOfMemory};
+ghost use Rattle.tinyjson_tokens.specs.Steps.{literal_tree};
+ghost use Rattle.tinyjson.specs.private.Building.{Agree, awaited_of, IsOpen, IsWithin, Joins};
+ghost use Rattle.tinyjson.specs.private.Building.{Puts, TakesValue};
+ghost use Rattle.tinyjson.specs.declared.parser.builder.Awaited.{Awaited};
+ghost use Rattle.tinyjson.specs.declared.parser.builder.Progress.TheVariants.{Complete};
+
+use super::error::JsonParseErrorKind;
+use crate::value::JsonKind;
+use std::alloc::{AllocError, Global};
+use tinyjson_number::JsonNumber;
+
+/// What is built of a text.
+///
+/// `holds` says for which open containers a builder stands, where a value or a key is awaited, and
+/// `is` for which tree, once all are closed. After an error nothing is said of it.
+pub(crate) trait Builder: Drop {
+    ghost holds: { Self → List Frame → Type 0 };
+
+    ghost is: { Self → Tree → Type 0 };
+
+    /// Opens an array.
+    fn open_array(&mut self) -> Result<(), AllocError>
+        ensures { (fs : List Frame) → holds self.old fs →
+            OnOk result (holds self.new (in_array [] ∷ fs)) };
+
+    /// Closes the innermost container, an array.
+    fn close_array(&mut self) -> Result<(), AllocError>
+        requires { (ts : List Tree) × (fs : List Frame) × holds self.old (in_array ts ∷ fs) }
+        ensures { (ts : List Tree) (fs : List Frame) → holds self.old (in_array ts ∷ fs) →
+            OnOk result (Puts holds is fs (array (items_of ts)) self.new) };
+
+    /// Opens an object.
+    fn open_object(&mut self) -> Result<(), AllocError>
+        ensures { (fs : List Frame) → holds self.old fs →
+            OnOk result (holds self.new (at_key no_members ∷ fs)) };
+
+    /// Closes the innermost container, an object.
+    fn close_object(&mut self) -> Result<(), AllocError>
+        requires { (ms : Members) × (fs : List Frame) × holds self.old (at_key ms ∷ fs) }
+        ensures { (ms : Members) (fs : List Frame) → holds self.old (at_key ms ∷ fs) →
+            OnOk result (Puts holds is fs (object ms) self.new) };
+
+    /// Gives the innermost container, an object, a key.
+    fn key(&mut self, key: String) -> Result<(), AllocError>
+        requires { (ms : Members) × (fs : List Frame) × holds self.old (at_key ms ∷ fs) }
+        ensures { (ms : Members) (fs : List Frame) → holds self.old (at_key ms ∷ fs) →
+            OnOk result (holds self.new (at_value ms (text key) ∷ fs)) };
+
+    /// Puts a string where it belongs.
+    fn string(&mut self, value: String) -> Result<(), AllocError>
+        ensures { (fs : List Frame) → holds self.old fs →
+            OnOk result (Puts holds is fs (string (text value)) self.new) };
+
+    /// Puts a number where it belongs.
+    fn number(&mut self, value: JsonNumber) -> Result<(), AllocError>
+        ensures { (fs : List Frame) → holds self.old fs →
+            OnOk result (Puts holds is fs (number value.decimal) self.new) };
+
+    /// Puts a boolean, or null, where it belongs.
+    fn literal(&mut self, value: Option<bool>) -> Result<(), AllocError>
+        ensures { (fs : List Frame) → holds self.old fs →
+            OnOk result (Puts holds is fs (literal_tree value) self.new) };
+}
+
+/// What an open container awaits.
+#[derive(Clone, Copy)]
+pub(super) enum Awaited {
+    Item,
+    Key,
+    /// The value of a key. Once it is complete, a comma or a brace.
+    Value,
+}
+
+/// How far the parser is between two tokens.
+#[derive(Clone, Copy)]
+pub(super) enum Progress {
+    /// A value is awaited.
+    Awaits,
+    /// A value is complete, and stands where it belongs.
+    Complete,
+}
+
+/// A builder, and what each open container awaits, the innermost last.
+#[derive(Drop)]
+pub(super) struct Nest<B> {
+    pub(super) builder: B,
+    awaited: Vec<Awaited>,
+}
+
+impl<B: Builder> Nest<B> {
+    pub(super) fn new(alloc: Global, builder: B) -> Self
+        ensures builder { result.builder ≡ builder }
+        ensures none { awaited_of result ≡ [] }
+    {
+        Nest {
+            builder,
+            awaited: Vec::new(alloc),
+        }
+    }
+
+    /// How many containers are open.
+    pub(super) fn depth(&self) -> usize
+        ensures { (fs : List Frame) → Agree (awaited_of self.now) fs → result ≡ length fs }
+    {
+        self.awaited.len()
+    }
+
+    /// What the innermost container awaits.
+    #[inline(always)]
+    pub(super) fn innermost(&self) -> Option<Awaited>
+        ensures { MatchOption result (awaited_of self.now ≡ [])
+            (λ o. (os : List Awaited) × (awaited_of self.now ≡ o ∷ os)) }
+    {
+        self.awaited.last().copied()
+    }
+
+    /// Whether the innermost container awaits a key.
+    #[inline(always)]
+    pub(super) fn awaits_key(&self) -> bool
+        ensures { (fs : List Frame) → Agree (awaited_of self.now) fs → MatchBool result
+            ((ms : Members) × (gs : List Frame) × (fs ≡ at_key ms ∷ gs)) (TakesValue fs) }
+    {
+        matches!(self.innermost(), Some(Awaited::Key))
+    }
+
+    /// Refuses a value of this kind, which is no string, where a key is awaited.
+    #[inline(always)]
+    fn refuse_key(&self, kind: JsonKind) -> Result<(), JsonParseErrorKind>
+        ensures { (fs : List Frame) → Agree (awaited_of self.now) fs → MatchResult result
+            (λ _. TakesValue fs) (λ k. (t : Tree) → is_string t ≡ false → kind_of t ≡ kind →
+            complete true fs t true ≡ stop k true) }
+    {
+        if self.awaits_key() {
+            return Err(JsonParseErrorKind::KeyNotString(kind));
+        }
+        Ok(())
+    }
+
+    /// Lets the innermost container await this.
+    #[inline(always)]
+    fn set_innermost(&mut self, awaited: Awaited) -> Result<(), AllocError>
+        ensures awaited { (o : Awaited) (os : List Awaited) → awaited_of self.old ≡ o ∷ os →
+            OnOk result (awaited_of self.new ≡ awaited ∷ os) }
+        ensures builder { self.new.builder ≡ self.old.builder }
+    {
+        self.awaited.pop();
+        self.awaited.push(awaited)?;
+        Ok(())
+    }
+
+    /// Lets the innermost container, an object after a member, await a key.
+    #[inline(always)]
+    pub(super) fn await_key(&mut self) -> Result<(), AllocError>
+        ensures { (ms : Members) (fs : List Frame) → IsWithin B.holds self.old (at_key ms) fs →
+            OnOk result (IsOpen B.holds self.new (at_key ms ∷ fs)) }
+    {
+        self.set_innermost(Awaited::Key)
+    }
+
+    /// Gives the innermost container, an object, a key.
+    #[inline(always)]
+    pub(super) fn key(&mut self, key: String) -> Result<(), AllocError>
+        requires { (ms : Members) × (fs : List Frame) × B.holds self.old.builder (at_key ms ∷ fs) }
+        ensures { (ms : Members) (fs : List Frame) → IsWithin B.holds self.old (at_key ms) fs →
+            OnOk result (IsOpen B.holds self.new (at_value ms (text key) ∷ fs)) }
+    {
+        self.builder.key(key)?;
+        self.set_innermost(Awaited::Value)
+    }
+
+    /// Opens an array.
+    #[inline(always)]
+    pub(super) fn open_array(&mut self) -> Result<(), AllocError>
+        ensures { (fs : List Frame) → IsOpen B.holds self.old fs →
+            OnOk result (IsOpen B.holds self.new (in_array [] ∷ fs)) }
+    {
+        self.builder.open_array()?;
+        self.awaited.push(Awaited::Item)?;
+        Ok(())
+    }
+
+    /// Opens an object.
+    #[inline(always)]
+    pub(super) fn open_object(&mut self) -> Result<(), AllocError>
+        ensures { (fs : List Frame) → IsOpen B.holds self.old fs →
+            OnOk result (IsOpen B.holds self.new (at_key no_members ∷ fs)) }
+    {
+        self.builder.open_object()?;
+        self.awaited.push(Awaited::Key)?;
+        Ok(())
+    }
+
+    /// Closes the innermost container, an array, which is complete then.
+    pub(super) fn close_array(&mut self) -> Result<Progress, JsonParseErrorKind>
+        requires { (ts : List Tree) × (fs : List Frame) ×
+            B.holds self.old.builder (in_array ts ∷ fs) }
+        ensures { (ts : List Tree) (fs : List Frame) → IsWithin B.holds self.old (in_array ts) fs →
+            Joins B.holds B.is (complete true fs (array (items_of ts)) true) result self.new }
+    {
+        self.awaited.pop();
+        self.refuse_key(JsonKind::Array)?;
+        completed(self.builder.close_array())
+    }
+
+    /// Closes the innermost container, an object, which is complete then.
+    pub(super) fn close_object(&mut self) -> Result<Progress, JsonParseErrorKind>
+        requires { (ms : Members) × (fs : List Frame) × B.holds self.old.builder (at_key ms ∷ fs) }
+        ensures { (ms : Members) (fs : List Frame) → IsWithin B.holds self.old (at_key ms) fs →
+            Joins B.holds B.is (complete true fs (object ms) true) result self.new }
+    {
+        self.awaited.pop();
+        self.refuse_key(JsonKind::Object)?;
+        completed(self.builder.close_object())
+    }
+
+    /// Puts a string where it belongs, which is no key.
+    #[inline(always)]
+    pub(super) fn string(&mut self, value: String) -> Result<Progress, JsonParseErrorKind>
+        ensures { (fs : List Frame) → IsOpen B.holds self.old fs → TakesValue fs →
+            Joins B.holds B.is (complete true fs (string (text value)) true) result self.new }
+    {
+        completed(self.builder.string(value))
+    }
+
+    /// Puts a number where it belongs.
+    #[inline(always)]
+    pub(super) fn number(&mut self, value: JsonNumber) -> Result<Progress, JsonParseErrorKind>
+        ensures { (fs : List Frame) → IsOpen B.holds self.old fs →
+            Joins B.holds B.is (complete true fs (number value.decimal) true) result self.new }
+    {
+        self.refuse_key(JsonKind::Number)?;
+        completed(self.builder.number(value))
+    }
+
+    /// Puts a boolean, or null, where it belongs.
+    #[inline(always)]
+    pub(super) fn literal(&mut self, value: Option<bool>) -> Result<Progress, JsonParseErrorKind>
+        ensures { (fs : List Frame) → IsOpen B.holds self.old fs →
+            Joins B.holds B.is (complete true fs (literal_tree value) true) result self.new }
+    {
+        self.refuse_key(literal_kind(value))?;
+        completed(self.builder.literal(value))
+    }
+}
+
+/// The kind of a literal.
+#[inline(always)]
+fn literal_kind(literal: Option<bool>) -> JsonKind
+    ensures { result ≡ kind_of (literal_tree literal) }
+{
+    match literal {
+        None => JsonKind::Null,
+        Some(_) => JsonKind::Boolean,
+    }
+}
+
+/// A value is complete, if there was memory for it.
+#[inline(always)]
+fn completed(put: Result<(), AllocError>) -> Result<Progress, JsonParseErrorKind>
+    ensures { MatchResult put (λ _. result ≡ Ok Complete) (λ _. result ≡ Err OutOfMemory) }
+{
+    match put {
+        Ok(()) => Ok(Progress::Complete),
+        Err(_) => Err(JsonParseErrorKind::OutOfMemory),
+    }
+}
