@@ -1,6 +1,9 @@
 -- Items and members that are buffered one after another in compact text, and what is left of them.
 use Rattle.std.proofs.Common.{◌≡◌, ℕ, suc, ◌+◌, ◌-◌, ◌<◌, Bool, true, false, Option, None, Some, List, [], ◌∷◌, ◌++◌, length, take, drop}
-use Rattle.std.proofs.Common.{refl, sym, ◌∙◌, ap, subst, append_assoc, append-nil, length-append, MatchOption, arith}
+use Rattle.std.proofs.Common.{refl, sym, ◌∙◌, ap, subst, append_assoc, append-nil, length-append, arith}
+use Rattle.std.proofs.Common.{MatchOption, MatchResult, Result, Ok, Err}
+use Rattle.std.proofs.lemmas.Bool.{false≢true}
+use Rattle.std.specs.Prelude.{IsErr, IsOk}
 use Rattle.std.specs.Borrow.{Bor}
 use Rattle.std.specs.Str.{chars, IsUtf8}
 use Rattle.std.proofs.lemmas.Str.{encodes-append}
@@ -8,15 +11,15 @@ use Rattle.std.proofs.lemmas.List.{take_at}
 use Rattle.tinyjson.specs.declared.value.JsonValue.{JsonValue}
 use Rattle.tinyjson.specs.declared.generator.frames.Frame.{Frame}
 use Rattle.tinyjson.specs.declared.generator.frames.Frame.TheVariants.{Items, Member, Members}
-use Rattle.tinyjson.specs.private.Encoding.{Gathered, frame_text, others, unwritten, Opened, Finished}
-use Rattle.tinyjson_output.specs.Buffer.{Output, Sent, SentPart}
+use Rattle.tinyjson.specs.private.Encoding.{Gathered, frame_text, others, unwritten, BeginsFrom, Opened}
+use Rattle.tinyjson_output.specs.Buffer.{Output, Sent, SendsFrom}
 use Rattle.tinyjson.specs.private.Sorted.{sorted_view}
 use Rattle.tinyjson_grammar.specs.Text.{text, items_text, members_text, separator, quoted, escapes, newline, has_no_items}
 use Rattle.tinyjson_grammar.specs.Tree.{array, member, no_members}
 use Rattle.tinyjson.specs.View.{view, items_view}
-use Rattle.tinyjson_output.proofs.Callers.{enc, enc_cons, three, sent_begins as begins, sent_goes as goes, sent_stops as stops}
+use Rattle.tinyjson_output.proofs.Callers.{enc, enc_cons, three, sent_begins as begins, sent_goes as goes}
 use Rattle.tinyjson_output.proofs.Callers.{sent_buffered as buffers, sent_written_more as written_more}
-use Rattle.tinyjson.proofs.Writing.Containers.{compact_member, opened, array_begins}
+use Rattle.tinyjson.proofs.Writing.Containers.{begins_after, compact_member, opened, array_begins}
 use Rattle.tinyjson.proofs.Writing.Text.{member_text, enc_separator}
 
 -- what was appended to the buffer is taken back
@@ -166,18 +169,22 @@ module _ (w : Option (List ℕ)) where
       ap (λ i. enc (members_text w (k + 1) first (sorted_view (take i hs)) ++ (newline w k ++ 125 ∷ []))) e
       ∙ ap (λ i. enc (newline i k ++ 125 ∷ [])) n ∙ enc_cons 125 [] (omega arith)
 
-  -- all that it holds, so that only its bracket is left
-  pub closed_at_once : {old mid new : Output} {bytes : List ℕ} (k bracket : ℕ) (gs hs : List Gathered) (f : Frame)
-      → enc (frame_text w k f hs) ≡ bracket ∷ [] → others f hs ≡ hs
-      → Sent mid new (bracket ∷ []) [] → Opened w k old mid bytes gs f hs → Finished old new bytes gs hs
-  closed_at_once {old} {mid} {new} {bytes} k bracket gs hs f e same r o =
-      record {
-        written = goes {piece = bracket ∷ []} [] r (subst (Sent old mid bytes) (e ∙ sym (append-nil (bracket ∷ []))) o.written);
-        outside = sym same ∙ o.outside;
-      }
+  -- the bytes of a whole value were written, if the writer took them
+  pub complete_at_once : {E D : Type 0} (k : ℕ) (old new : Output) (bytes : List ℕ) (gs hs : List Gathered) (r : Result (Unit {0}) D)
+      (s : Result (Option Frame) E) → MatchResult s (λ o. (o ≡ None) × IsOk r) (λ e. IsErr r)
+      → SendsFrom old new bytes r → hs ≡ gs → BeginsFrom w k old new bytes gs s hs
+  complete_at_once k old new bytes gs hs (Ok u) (Ok None) c h e = record { written = h; outside = e }
+  complete_at_once k old new bytes gs hs (Ok u) (Ok (Some f)) c h e = absurd cc
+  complete_at_once k old new bytes gs hs (Err d) (Ok o) c h e = absurd (false≢true c.1)
+  complete_at_once k old new bytes gs hs (Ok u) (Err e) c h g = absurd (false≢true c)
+  complete_at_once k old new bytes gs hs (Err d) (Err e) c h g = h
 
-  pub stopped_at_once : {old mid new : Output} {bytes : List ℕ} (k bracket : ℕ) (gs hs : List Gathered) (f : Frame)
-      → enc (frame_text w k f hs) ≡ bracket ∷ []
-      → SentPart mid new (bracket ∷ []) → Opened w k old mid bytes gs f hs → SentPart old new bytes
-  stopped_at_once {old} {mid} {new} {bytes} k bracket gs hs f e r o = stops {piece = bracket ∷ []} [] r
-      (subst (Sent old mid bytes) (e ∙ sym (append-nil (bracket ∷ []))) o.written)
+  -- all that a container holds was written, so that only its bracket is left
+  pub closed_at_once : {E D : Type 0} {old mid : Output} {bytes : List ℕ} (new : Output) (k bracket : ℕ) (gs hs is : List Gathered)
+      (f : Frame) (r : Result (Unit {0}) D) (s : Result (Option Frame) E)
+      → enc (frame_text w k f hs) ≡ bracket ∷ [] → others f hs ≡ hs → is ≡ hs
+      → MatchResult s (λ o. (o ≡ None) × IsOk r) (λ e. IsErr r) → SendsFrom mid new (bracket ∷ []) r
+      → Opened w k old mid bytes gs f hs → BeginsFrom w k old new bytes gs s is
+  closed_at_once {old = old} {mid} {bytes} new k bracket gs hs is f r s e same kept c h o =
+      begins_after w k old mid new bytes (bracket ∷ []) gs is s (subst (Sent old mid bytes) e o.written)
+      (complete_at_once k mid new (bracket ∷ []) gs is r s c h (kept ∙ sym same ∙ o.outside))

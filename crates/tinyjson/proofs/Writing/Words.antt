@@ -7,7 +7,7 @@ use Rattle.tinyjson.specs.Indent.{indent_of}
 use Rattle.tinyjson.specs.View.{view, items_view, members_view}
 use Rattle.tinyjson_grammar.specs.Text.{text, after_colon, has_no_items, has_no_members}
 use Rattle.tinyjson_grammar.specs.Tree.{Items, no_items, item, Members, no_members, member, array, object}
-use Rattle.tinyjson_output.specs.Buffer.{Output, Sent, SentPart, SendsFrom}
+use Rattle.tinyjson_output.specs.Buffer.{Output, SentPart, SendsFrom}
 use Rattle.tinyjson_output.proofs.Callers.{enc, enc_cons}
 use Rattle.tinyjson.proofs.Values.View.{view_Boolean}
 
@@ -57,9 +57,6 @@ colon_spaced o i e = ap (λ z. enc (58 ∷ after_colon (indent_of z))) e ∙ two
 -- the same bytes are sent
 pub part_same : {old new : Output} {bs cs : List ℕ} → bs ≡ cs → SentPart old new cs → SentPart old new bs
 part_same {old} {new} e h = subst (SentPart old new) (sym e) h
-
-pub sent_same : {old new : Output} {bs cs : List ℕ} → bs ≡ cs → Sent old new cs [] → Sent old new bs []
-sent_same {old} {new} e h = subst (λ b. Sent old new b []) (sym e) h
 
 pub sends_same : {T E : Type 0} (old new : Output) (bs cs : List ℕ) (r : Result T E) → bs ≡ cs → SendsFrom old new cs r
     → SendsFrom old new bs r

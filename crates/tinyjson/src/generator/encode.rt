@@ -1,6 +1,6 @@
 //! Values, compact and indented.
-ghost use Rattle.std.specs.Prelude.{◌≡◌, ◌++◌, ◌∷◌, ◌+◌, ◌-◌, ◌<◌, ◌≤◌, ℕ, [], Some};
-ghost use Rattle.std.specs.Prelude.{length, take, drop};
+ghost use Rattle.std.specs.Prelude.{◌≡◌, ◌++◌, ◌∷◌, ◌+◌, ◌-◌, ◌<◌, ◌≤◌, ℕ, [], None, Some};
+ghost use Rattle.std.specs.Prelude.{IsErr, IsOk, MatchResult, length, take, drop};
 ghost use Rattle.std.specs.Str.{chars, encode_utf8_all};
 ghost use Rattle.tinyjson_grammar.specs.Characters.{name_separator};
 ghost use Rattle.tinyjson.specs.Indent.{indent_of};
@@ -289,14 +289,13 @@ impl<'a> Encoder<'a> {
         ensures indent { self.new.indent ≡ self.old.indent }
     {
         match value {
-            JsonValue::Null => write_bytes(out, &mut self.buffer, b"null")?,
-            JsonValue::Boolean(value) => write_boolean(out, &mut self.buffer, *value)?,
-            JsonValue::Number(number) => write_number(out, &mut self.buffer, number)?,
-            JsonValue::String(text) => quote(out, &mut self.buffer, text)?,
-            JsonValue::Array(items) => return self.begin_array(out, items),
-            JsonValue::Object(members) => return self.begin_object(out, members),
+            JsonValue::Null => complete(write_bytes(out, &mut self.buffer, b"null")),
+            JsonValue::Boolean(value) => complete(write_boolean(out, &mut self.buffer, *value)),
+            JsonValue::Number(number) => complete(write_number(out, &mut self.buffer, number)),
+            JsonValue::String(text) => complete(quote(out, &mut self.buffer, text)),
+            JsonValue::Array(items) => self.begin_array(out, items),
+            JsonValue::Object(members) => self.begin_object(out, members),
         }
-        Ok(None)
     }
 
     /// Writes the opening bracket and, in compact text, the items at the front that hold no others,
@@ -312,14 +311,12 @@ impl<'a> Encoder<'a> {
         ensures indent { self.new.indent ≡ self.old.indent }
     {
         if items.is_empty() {
-            write_bytes(out, &mut self.buffer, b"[]")?;
-            return Ok(None);
+            return complete(write_bytes(out, &mut self.buffer, b"[]"));
         }
         write_bytes(out, &mut self.buffer, b"[")?;
         let (rest, first) = self.run_of_items(items, true);
         if rest.is_empty() && self.indent.is_none() {
-            write_bytes(out, &mut self.buffer, b"]")?;
-            return Ok(None);
+            return complete(write_bytes(out, &mut self.buffer, b"]"));
         }
         Ok(Some(Frame::Items { rest, first }))
     }
@@ -341,14 +338,12 @@ impl<'a> Encoder<'a> {
             let flat = gather_sorted(self.alloc, &mut self.gathered, members)?;
             let (left, first) = self.run_of_members(members.len(), true, flat);
             if left == 0 && self.indent.is_none() {
-                write_bytes(out, &mut self.buffer, b"}")?;
-                return Ok(None);
+                return complete(write_bytes(out, &mut self.buffer, b"}"));
             }
             return Ok(Some(Frame::Members { left, first }));
         }
         let Some((key, value)) = members.iter().next() else {
-            write_bytes(out, &mut self.buffer, b"{}")?;
-            return Ok(None);
+            return complete(write_bytes(out, &mut self.buffer, b"{}"));
         };
         write_bytes(out, &mut self.buffer, b"{")?;
         let key = key.as_str();
@@ -360,8 +355,7 @@ impl<'a> Encoder<'a> {
             key,
             value,
         ) {
-            write_bytes(out, &mut self.buffer, b"}")?;
-            return Ok(None);
+            return complete(write_bytes(out, &mut self.buffer, b"}"));
         }
         Ok(Some(Frame::Member { key, value }))
     }
@@ -440,6 +434,15 @@ impl<'a> Encoder<'a> {
             Some(_) => write_bytes(out, &mut self.buffer, b": "),
         }
     }
+}
+
+/// That nothing of a value is left once this is written.
+#[inline(always)]
+fn complete<'a>(written: io::Result<()>) -> io::Result<Option<Frame<'a>>>
+    ensures { MatchResult result (λ left. (left ≡ None) × IsOk written) (λ _. IsErr written) }
+{
+    written?;
+    Ok(None)
 }
 
 /// Writes a line feed, and the indent of the next line.

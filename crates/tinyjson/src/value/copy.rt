@@ -28,7 +28,7 @@ impl JsonValue {
         let mut stack = Vec::new(alloc);
         let copied = copy(self, alloc, &mut stack);
         while let Some(partial) = stack.pop() {
-            partial.give_back();
+            partial.dismantle();
         }
         copied
     }
@@ -44,7 +44,7 @@ enum Partial<'v> {
 
 impl Partial<'_> {
     /// Frees what was copied.
-    fn give_back(self) {
+    fn dismantle(self) {
         match self {
             Partial::Array(copies, _) => JsonValue::Array(copies).dismantle(),
             Partial::Object(copies, _, _) => JsonValue::Object(copies).dismantle(),
@@ -200,7 +200,7 @@ fn suspend<'v>(
     match stack.push(partial) {
         Ok(()) => Ok(step),
         Err(refused) => {
-            refused.value.give_back();
+            refused.value.dismantle();
             Err(AllocError)
         }
     }

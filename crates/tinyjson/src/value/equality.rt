@@ -221,7 +221,7 @@ fn compare_all(rest: Rest<'_>, alloc: Global) -> bool
     }
 }
 
-/// The same by a recursion, without memory.
+/// Compares by a recursion, without memory.
 fn compare_deep(rest: Rest<'_>) -> bool
     ensures { result ≡ rest_eq rest.entry }
 {

@@ -8,8 +8,8 @@ use Rattle.tinyjson_grammar.specs.Tree.{object}
 use Rattle.tinyjson_output.specs.Buffer.{buffered}
 use Rattle.tinyjson_output.proofs.Callers.{enc}
 use Rattle.tinyjson.proofs.Writing.Containers.{object_stops, object_ungathered, members_open, member_opens, is_compact}
-use Rattle.tinyjson.proofs.Writing.Words.{empty_object, part_same, sent_same}
-use Rattle.tinyjson.proofs.Writing.Runs.{members_run, member_run, only_member_buffered, object_end, closed_at_once, stopped_at_once}
+use Rattle.tinyjson.proofs.Writing.Words.{empty_object, sends_same}
+use Rattle.tinyjson.proofs.Writing.Runs.{members_run, member_run, only_member_buffered, object_end, closed_at_once, complete_at_once}
 use Rattle.tinyjson.specs.declared.generator.frames.Frame.TheVariants.{Member, Members}
 use Rattle.tinyjson.proofs.generator.encode.Encoder.begin_object.Given.{Over}
 use Rattle.tinyjson.proofs.generator.encode.Encoder.begin_object.Goals as goal
@@ -43,19 +43,6 @@ module _ (g : Over) (c : After-run_of_members-left g) (k : ℕ) where
       (members_open w k c.len-then-len-gt1.result c.args.members.now.entries gs hs some c.len-then-len-gt1.ensures.len
       c.in_ok-flat.ensures.members c.in_ok-flat.ensures.before c.in_ok-write_bytes.ensures)
 
-pub returns-in_err-write_bytes-2-clause-sent : goal.returns-in_err-write_bytes-2-clause-sent
-returns-in_err-write_bytes-2-clause-sent g c = λ k.
-    let w = indent_of c.args.self.now.indent in
-    let is = gathered_in c.run_of_members-left.new.self in
-    let left = c.run_of_members-left.result.0 in
-    let first = c.run_of_members-left.result.1 in
-    let zero : left ≡ 0 = omega (arith, c.if-left-eq0.true) in
-    let none : w ≡ None = is_compact w c.args.self.now.indent c.is_none.result
-    (rw c.run_of_members-left.ensures.indent at c.is_none.ensures) c.if-is_none.true in
-    MatchResult-from_err _ _ _ c.from_residual-in_err-write_bytes-2.ensures.0
-    (λ _. stopped_at_once w k 125 _ is (Members left first) (object_end w k left first is zero none) c.in_err-write_bytes-2.ensures
-    (many_members g (goal.at.returns-in_err-write_bytes-2-clause-sent g c).After-run_of_members-left k))
-
 pub returns-then-is_none-clause-sent : goal.returns-then-is_none-clause-sent
 returns-then-is_none-clause-sent g c = λ k.
     let w = indent_of c.args.self.now.indent in
@@ -65,18 +52,18 @@ returns-then-is_none-clause-sent g c = λ k.
     let zero : left ≡ 0 = omega (arith, c.if-left-eq0.true) in
     let none : w ≡ None = is_compact w c.args.self.now.indent c.is_none.result
     (rw c.run_of_members-left.ensures.indent at c.is_none.ensures) c.if-is_none.true in
-    closed_at_once w k 125 _ is (Members left first) (object_end w k left first is zero none)
-    (ap (λ i. drop i is) zero) c.in_ok-write_bytes-2.ensures (many_members g
-    (goal.at.returns-then-is_none-clause-sent g c).After-run_of_members-left k)
+    closed_at_once w _ k 125 _ is is (Members left first) c.write_bytes-then-is_none.result c.complete.result
+    (object_end w k left first is zero none) (ap (λ i. drop i is) zero) refl c.complete.ensures c.write_bytes-then-is_none.ensures
+    (many_members g (goal.at.returns-then-is_none-clause-sent g c).After-run_of_members-left k)
 
 pub returns-then-len-gt1-clause-sent : goal.returns-then-len-gt1-clause-sent
 returns-then-len-gt1-clause-sent g c = λ k. many_members g (goal.at.returns-then-len-gt1-clause-sent g c).After-run_of_members-left k
 
-pub returns-in_err-write_bytes-4-clause-sent : goal.returns-in_err-write_bytes-4-clause-sent
-returns-in_err-write_bytes-4-clause-sent g c =
+pub returns-in_err-write_bytes-2-clause-sent : goal.returns-in_err-write_bytes-2-clause-sent
+returns-in_err-write_bytes-2-clause-sent g c =
     let some : 0 < length c.args.members.now.entries = omega (arith, ap length c.iter.ensures.rest, ap length c.in-Some.ensures.steps) in
-    λ k. MatchResult-from_err _ _ _ c.from_residual-in_err-write_bytes-4.ensures.0
-    (λ _. object_stops (indent_of c.args.self.now.indent) k c.args.members.now.entries some c.in_err-write_bytes-4.ensures)
+    λ k. MatchResult-from_err _ _ _ c.from_residual-in_err-write_bytes-2.ensures.0
+    (λ _. object_stops (indent_of c.args.self.now.indent) k c.args.members.now.entries some c.in_err-write_bytes-2.ensures)
 
 -- the brace is sent before the one member
 module _ (g : Over) (c : After-quick_member g) (k : ℕ) where
@@ -88,20 +75,7 @@ module _ (g : Over) (c : After-quick_member g) (k : ℕ) where
       let few : length c.args.members.now.entries < 2 = omega (arith, c.len.ensures.len, c.if-len-gt1.false) in
       member_opens (indent_of c.args.self.now.indent) k c.args.members.now.entries c.next.new.self (c.in-Some.key.now, c.in-Some.value.now)
       (gathered_in c.args.self.now) c.as_str-key.result c.in-Some.value
-      (sym c.iter.ensures.rest ∙ c.in-Some.ensures.steps) few c.as_str-key.ensures.value refl c.in_ok-write_bytes-4.ensures
-
-pub returns-in_err-write_bytes-5-clause-sent : goal.returns-in_err-write_bytes-5-clause-sent
-returns-in_err-write_bytes-5-clause-sent g c = λ k.
-    let w = indent_of c.args.self.now.indent in
-    let gs = gathered_in c.args.self.now in
-    let key = c.as_str-key.result in
-    let value = c.in-Some.value in
-    let quick = rw c.if-quick_member.true at (c.quick_member.ensures (k + 1)) in
-    let none : w ≡ None = is_compact w c.args.self.now.indent c.is_none-2.result c.is_none-2.ensures quick.0 in
-    let run = only_member_buffered w (g.W.Write.contents c.write_bytes-2.new.out) (k + 1) key value _ _ none quick.1 in
-    MatchResult-from_err _ _ _ c.from_residual-in_err-write_bytes-5.ensures.0
-    (λ _. stopped_at_once w k 125 gs gs (Members 0 false) (object_end w k 0 false gs refl none) c.in_err-write_bytes-5.ensures
-    (member_run w k gs key value run (one_member g (goal.at.returns-in_err-write_bytes-5-clause-sent g c).After-quick_member k)))
+      (sym c.iter.ensures.rest ∙ c.in-Some.ensures.steps) few c.as_str-key.ensures.value refl c.in_ok-write_bytes-2.ensures
 
 pub returns-then-quick_member-clause-sent : goal.returns-then-quick_member-clause-sent
 returns-then-quick_member-clause-sent g c = λ k.
@@ -112,7 +86,8 @@ returns-then-quick_member-clause-sent g c = λ k.
     let quick = rw c.if-quick_member.true at (c.quick_member.ensures (k + 1)) in
     let none : w ≡ None = is_compact w c.args.self.now.indent c.is_none-2.result c.is_none-2.ensures quick.0 in
     let run = only_member_buffered w (g.W.Write.contents c.write_bytes-2.new.out) (k + 1) key value _ _ none quick.1 in
-    closed_at_once w k 125 gs gs (Members 0 false) (object_end w k 0 false gs refl none) refl c.in_ok-write_bytes-5.ensures
+    closed_at_once w _ k 125 gs gs gs (Members 0 false) c.write_bytes-then-quick_member.result c.complete-then-quick_member.result
+    (object_end w k 0 false gs refl none) refl refl c.complete-then-quick_member.ensures c.write_bytes-then-quick_member.ensures
     (member_run w k gs key value run (one_member g (goal.at.returns-then-quick_member-clause-sent g c).After-quick_member k))
 
 pub returns-clause-sent : goal.returns-clause-sent
@@ -120,17 +95,9 @@ returns-clause-sent g c = λ k.
     let same = rw c.if-quick_member.false at (c.quick_member.ensures k) in
     rw same (one_member g (goal.at.returns-clause-sent g c).After-quick_member k)
 
-pub returns-in_err-write_bytes-3-clause-sent : goal.returns-in_err-write_bytes-3-clause-sent
-returns-in_err-write_bytes-3-clause-sent g c =
-    let none : length c.args.members.now.entries ≡ 0 = ap length (sym c.iter.ensures.rest ∙ c.in_default.ensures.steps.0) in
-    λ k. MatchResult-from_err _ _ _ c.from_residual-in_err-write_bytes-3.ensures.0
-    (λ _. part_same (empty_object (indent_of c.args.self.now.indent) k c.args.members.now.entries none) c.in_err-write_bytes-3.ensures)
-
 pub returns-in_default-clause-sent : goal.returns-in_default-clause-sent
 returns-in_default-clause-sent g c =
+    let w = indent_of c.args.self.now.indent in
     let none : length c.args.members.now.entries ≡ 0 = ap length (sym c.iter.ensures.rest ∙ c.in_default.ensures.steps.0) in
-    λ k. record {
-      written = sent_same (empty_object (indent_of c.args.self.now.indent) k c.args.members.now.entries none)
-          c.in_ok-write_bytes-3.ensures;
-      outside = refl;
-    }
+    λ k. complete_at_once w k _ _ _ _ _ c.write_bytes-in_default.result c.complete-in_default.result c.complete-in_default.ensures
+    (sends_same _ _ _ _ _ (empty_object w k c.args.members.now.entries none) c.write_bytes-in_default.ensures) refl
