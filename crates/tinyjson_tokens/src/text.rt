@@ -187,7 +187,6 @@ impl<'a> Source for TextBytes<'a> {
 
 impl<'a> Tokens for TextBytes<'a> {
     fn escaped(&mut self, string: &mut String) -> Result<(), AllocError> {
-        self.plain(string)?;
         loop {
             let end = escapes(self.text.as_bytes(), self.at, string)?;
             if end == self.at {

@@ -12,8 +12,8 @@ use tinyjson_number::{JsonNumber, NumberParts};
 
 /// A source of which the parser reads.
 pub trait Tokens: Source {
-    /// Within a string, with no unit waiting: takes plain characters, and escapes that spell a character
-    /// at once, and adds what they stand for. Where memory runs out, some of them may be taken.
+    /// Within a string, with no unit waiting, after plain characters: takes escapes that spell a character at
+    /// once, and plain characters, and adds what they stand for. Where memory runs out, some may be taken.
     fn escaped(&mut self, string: &mut String) -> Result<(), AllocError>
         ensures reads { (limit : Option ℕ) (fs : List Frame) → MatchResult result
             (λ _. Leads Self.sight limit self.old (within fs string.old [] false)

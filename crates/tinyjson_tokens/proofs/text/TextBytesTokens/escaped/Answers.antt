@@ -4,24 +4,15 @@ use Rattle.std.proofs.lemmas.Str.{IsUtf8-had}
 use Rattle.tinyjson_tokens.proofs.Reading.Escape.{escapes_boundary, escapes_go, escapes_added, escapes_halt}
 use Rattle.tinyjson_tokens.proofs.Letters.{text_sight}
 use Rattle.tinyjson_tokens.specs.Escape.{Spells}
-use Rattle.tinyjson_tokens.proofs.Reading.Steps.{Halts_here}
-use Rattle.tinyjson_tokens.proofs.Reading.String.{plain_added, plain_halts}
+use Rattle.tinyjson_tokens.proofs.Reading.Steps.{Halts_here, Leads_nil}
 use Rattle.tinyjson_tokens.proofs.text.TextBytesTokens.escaped.Goals as goal
 
-pub returns-in_err-plain-clause-reads : goal.returns-in_err-plain-clause-reads
-returns-in_err-plain-clause-reads c = λ limit fs.
-    let p = err_from_is_err_and c.from_residual.result c.from_residual.ensures.1 in
-    rw p.1 (plain_halts text_sight limit _ _ fs _ _ [] _ refl c.plain.ensures.plain)
-
 pub loop-end-init : goal.loop-end-init
-loop-end-init c = record {
-  reads = λ limit fs. plain_added text_sight limit _ _ fs _ _ [] c.plain.result refl (ap is_err c.in_ok-plain.was) c.plain.ensures.plain;
-  left = search (rules, arith);
-}
+loop-end-init c = record { reads = λ limit fs. Leads_nil text_sight limit _ _; left = search (rules, arith) }
 
 pub returns-in_err-end-clause-reads : goal.returns-in_err-end-clause-reads
 returns-in_err-end-clause-reads c = λ limit fs.
-    let p = err_from_is_err_and c.from_residual-in_err-end.result c.from_residual-in_err-end.ensures.1 in
+    let p = err_from_is_err_and c.from_residual.result c.from_residual.ensures.1 in
     rw p.1 (Halts_here text_sight limit _ _ (c.loop-end.invariant.reads limit fs) tt tt)
 
 pub invariant_of-self : goal.invariant_of-self
