@@ -7,3 +7,4 @@ pub mod Members
 pub mod Cursors
 pub mod Memory
 pub mod Loop
+pub mod Check

@@ -67,3 +67,13 @@ pub record ParsesText (limit : Option ℕ) (xs : List ℕ) (result : Result Json
       (λ v. (rest ≡ []) × IsText limit xs (view v))
       (λ e. (error_position e ≡ advance origin consumed) × RefusalSays limit (error_kind e) consumed rest)
   pub refused : IfErr result (λ e. ¬ (error_kind e ≡ kind.OutOfMemory) → ¬ IsAccepted limit xs)
+
+-- What a check of a text of these characters returns: nothing if it has a tree, or the error that a new parser returns.
+pub record ChecksText (limit : Option ℕ) (xs : List ℕ) (result : Result (Unit {0}) JsonParseError) : Type 0 where
+  pub consumed : List ℕ
+  pub rest : List ℕ
+  pub whole : xs ≡ consumed ++ rest
+  pub answer : MatchResult result
+      (λ _. (rest ≡ []) × IsAccepted limit xs)
+      (λ e. (error_position e ≡ advance origin consumed) × RefusalSays limit (error_kind e) consumed rest)
+  pub refused : IfErr result (λ e. ¬ (error_kind e ≡ kind.OutOfMemory) → ¬ IsAccepted limit xs)

@@ -22,7 +22,9 @@ pub mod value;
 
 pub use generator::{JsonGenerateError, JsonGenerateResult, JsonGenerator, format, stringify};
 pub use number::{JsonNumber, JsonNumberError};
-pub use parser::{JsonParseError, JsonParseErrorKind, JsonParseResult, JsonParser};
+pub use parser::{
+    JsonParseError, JsonParseErrorKind, JsonParseResult, JsonParser, check, check_with_depth_limit,
+};
 pub use value::{
     InnerAsRef, InnerAsRefMut, JsonKind, JsonValue, UnexpectedValue, discard_member, insert_member,
     remove_member, sorted_members,

@@ -2,10 +2,11 @@
 ghost use Rattle.std.specs.Prelude.{◌≡◌, ℕ, List, Option, None, Some};
 ghost use Rattle.std.specs.Iterator.{IsFinite};
 ghost use Rattle.std.specs.Str.{chars};
-ghost use Rattle.tinyjson.specs.Parser.{Provides, Remains, Parses, ParsesText};
+ghost use Rattle.tinyjson.specs.Parser.{ChecksText, Provides, Remains, Parses, ParsesText};
 ghost use Rattle.tinyjson_grammar.specs.Position.{origin};
 
 mod builder;
+mod checker;
 mod error;
 mod reader;
 mod stack;
@@ -165,4 +166,39 @@ fn parse_text(alloc: Global, text: &str, limit: Option<usize>) -> JsonParseResul
     ensures { ParsesText limit (chars text.now) result }
 {
     Reader::new(alloc, TextBytes::new(text)).text(limit)
+}
+
+/// Whether a text has a value: what [`JsonValue::from_str`] returns for it, without the value, of which
+/// nothing is built.
+///
+/// ```
+/// assert!(rt; check(alloc, "{\"a\": [1.5e0, null]}").is_ok());
+/// let result = check(alloc, "01");
+/// assert!(rt; result.is_err_and(|error| error.kind() == JsonParseErrorKind::LeadingZero));
+/// ```
+pub fn check(alloc: Global, text: &str) -> Result<(), JsonParseError>
+    ensures { ChecksText None (chars text.now) result }
+{
+    check_text(alloc, text, None)
+}
+
+/// Whether a text has a value in which at most `limit` containers are open at once: what
+/// [`JsonValue::from_str_with_depth_limit`] returns for it, without the value.
+///
+/// ```
+/// assert!(rt; check_with_depth_limit(alloc, "[[1]]", 2).is_ok());
+/// let result = check_with_depth_limit(alloc, "[[1]]", 1);
+/// assert!(rt; result.is_err_and(|error| error.kind() == JsonParseErrorKind::TooDeep('[')));
+/// ```
+pub fn check_with_depth_limit(alloc: Global, text: &str, limit: usize) -> Result<(), JsonParseError>
+    ensures { ChecksText (Some limit) (chars text.now) result }
+{
+    check_text(alloc, text, Some(limit))
+}
+
+/// The same, with this limit.
+fn check_text(alloc: Global, text: &str, limit: Option<usize>) -> Result<(), JsonParseError>
+    ensures { ChecksText limit (chars text.now) result }
+{
+    Reader::new(alloc, TextBytes::new(text)).check(limit)
 }

@@ -6,7 +6,7 @@ use Rattle.std.proofs.lemmas.Bool.{and_parts}
 use Rattle.std.specs.Char.{IsScalar}
 use Rattle.std.specs.Str.{all_scalars}
 use lib.Utf8.{scalar as is_scalar}
-use Rattle.tinyjson.specs.Parser.{Parser, Parses, ParsesText}
+use Rattle.tinyjson.specs.Parser.{Parser, Parses, ParsesText, ChecksText}
 use Rattle.tinyjson_tokens.specs.Source.{Sight}
 use Rattle.tinyjson.specs.Error.{error_position}
 use Rattle.tinyjson_grammar.specs.Grammar.{IsText, IsAccepted}
@@ -14,7 +14,7 @@ use Rattle.tinyjson_grammar.specs.Machine.{Frame, Phase, State, Next, next, stop
 use Rattle.tinyjson_grammar.specs.Machine.{reach, reach_on, strictly}
 use Rattle.tinyjson_grammar.specs.Position.{advance, origin}
 use Rattle.tinyjson_tokens.specs.Steps.{IsNext, IsLate, IsHeld, Leads, Halts, Refuses, after_all, onward, outcome}
-use Rattle.tinyjson.specs.private.Steps.{ReadsText, Grows}
+use Rattle.tinyjson.specs.private.Steps.{ReadsText, FindsText, Grows}
 use Rattle.tinyjson_grammar.specs.Refusal.{IsInterrupted, IsRefusal, MayGrow, RefusalSays}
 use Rattle.tinyjson_grammar.specs.Tree.{Tree}
 use Rattle.tinyjson.specs.View.{view}
@@ -85,8 +85,8 @@ module _ (limit : Option ℕ) where
   refused_list k used rest n r = r.refused
 
 -- an error that does not say that memory ran out: the characters have no tree
-pub refused_answer : (limit : Option ℕ) (xs used rest : List ℕ) (P : JsonValue → Type 0) (Q : JsonParseError → Type 0)
-    (r : Result JsonValue JsonParseError) → xs ≡ used ++ rest
+pub refused_answer : {T : Type 0} (limit : Option ℕ) (xs used rest : List ℕ) (P : T → Type 0) (Q : JsonParseError → Type 0)
+    (r : Result T JsonParseError) → xs ≡ used ++ rest
     → MatchResult r P (λ e. Q e × RefusalSays limit e.kind used rest) → IfErr r (λ e. ¬ (e.kind ≡ kind.OutOfMemory) → ¬ IsAccepted limit xs)
 refused_answer limit xs used rest P Q (Ok v) whole a = tt
 refused_answer limit xs used rest P Q (Err e) whole a = λ n. subst (λ ys. ¬ IsAccepted limit ys) (sym whole)
@@ -94,24 +94,24 @@ refused_answer limit xs used rest P Q (Err e) whole a = λ n. subst (λ ys. ¬ I
 
 -- ---- the whole call
 
-module _ {S : Type 0} (sight : Sight S) (limit : Option ℕ) where
+module _ {S T : Type 0} (sight : Sight S) (limit : Option ℕ) (xs : List ℕ) (P : T → Type 0) where
   -- What a reader that stood at p took of xs, and what it returned.
-  pub record Answered (p : S) (xs : List ℕ) (r : Result JsonValue JsonParseError) (q : S) : Type 0 where
+  pub record Answered (p : S) (r : Result T JsonParseError) (q : S) : Type 0 where
     pub consumed : List ℕ
     pub rest : List ℕ
     pub whole : xs ≡ consumed ++ rest
     pub gives : sight.gives q rest
     pub moves : sight.place q ≡ advance (sight.place p) consumed
     pub answer : MatchResult r
-        (λ v. (rest ≡ []) × IsText limit xs (view v))
+        (λ v. (rest ≡ []) × P v)
         (λ e. (error_position e ≡ sight.place q) × RefusalSays limit e.kind consumed rest)
 
-  answered_error : (p q : S) (e : JsonParseError) (xs : List ℕ) → sight.gives p xs → All IsScalar xs → error_position e ≡ sight.place q
+  answered_error : (p q : S) (e : JsonParseError) → sight.gives p xs → All IsScalar xs → error_position e ≡ sight.place q
       → Refuses sight limit p (next [] awaited) e.kind q
-      → (e.kind ≡ kind.OutOfMemory → Grows sight p) → Answered p xs (Err e) q
-  answered_error p q e xs g a h r m = ⊎_elim determined wanted r
+      → (e.kind ≡ kind.OutOfMemory → Grows sight p) → Answered p (Err e) q
+  answered_error p q e g a h r m = ⊎_elim determined wanted r
     where
-      determined : Leads sight limit p (next [] awaited) q (stop e.kind true) → Answered p xs (Err e) q
+      determined : Leads sight limit p (next [] awaited) q (stop e.kind true) → Answered p (Err e) q
       determined l =
           let x = l.gives xs g in
           let ran : run (strictly limit) [] awaited (l.taken ++ x.0) ≡ refused e.kind x.0 =
@@ -126,7 +126,7 @@ module _ {S : Type 0} (sight : Sight S) (limit : Option ℕ) where
             answer = (h, refusal_says limit e.kind l.taken x.0 s);
           }
 
-      wanted : (e.kind ≡ kind.OutOfMemory) × Halts sight limit p (next [] awaited) q → Answered p xs (Err e) q
+      wanted : (e.kind ≡ kind.OutOfMemory) × Halts sight limit p (next [] awaited) q → Answered p (Err e) q
       wanted w =
           let x = w.1.gives xs g in
           let i = held_interrupted limit w.1.taken (all_front w.1.taken x.0 (subst (All IsScalar) x.1 a)) x.3 in
@@ -140,37 +140,62 @@ module _ {S : Type 0} (sight : Sight S) (limit : Option ℕ) where
             answer = (h, subst (λ k. RefusalSays limit k w.1.taken x.0) (sym w.0) (i, n));
           }
 
-  pub answered : (p q : S) (r : Result JsonValue JsonParseError) → ReadsText sight limit p r q → OnOk r (sight.shows q None)
-      → IfErr r (λ e. e.kind ≡ kind.OutOfMemory → Grows sight p)
-      → (xs : List ℕ) → sight.gives p xs → All IsScalar xs → Answered p xs r q
-  answered p q (Ok v) l s m xs g a =
+  -- of each tree that the characters have, what is promised of the value holds
+  answered_value : (p q : S) (v : T) (t : Tree) → (IsText limit xs t → P v) → Leads sight limit p (next [] awaited) q (next [] (finished t))
+      → sight.shows q None → sight.gives p xs → All IsScalar xs → Answered p (Ok v) q
+  answered_value p q v t k l s g a =
       let x = l.gives xs g in
       let n = sight.none q x.0 s x.2 in
-      let w = next [] (finished (view v)) in
-      let ran : run (strictly limit) [] awaited xs ≡ accepted (view v) = ap (outcome limit (next [] awaited)) x.1
-      ∙ Comes_outcome limit (next [] awaited) w l.taken x.0 x.3 ∙ ap (outcome limit w) n ∙ end_finished limit (view v) in
+      let w = next [] (finished t) in
+      let ran : run (strictly limit) [] awaited xs ≡ accepted t = ap (outcome limit (next [] awaited)) x.1
+      ∙ Comes_outcome limit (next [] awaited) w l.taken x.0 x.3 ∙ ap (outcome limit w) n ∙ end_finished limit t in
       record {
         consumed = l.taken;
         rest = x.0;
         whole = x.1;
         gives = x.2;
         moves = l.moves;
-        answer =
-            (n, (accepts limit xs a (view v)).0 ran);
+        answer = (n, k ((accepts limit xs a t).0 ran));
       }
-  answered p q (Err e) l s m xs g a = answered_error p q e xs g a l.0 l.1 m
+
+module _ {S : Type 0} (sight : Sight S) (limit : Option ℕ) where
+  pub answered : (p q : S) (r : Result JsonValue JsonParseError) → ReadsText sight limit p r q → OnOk r (sight.shows q None)
+      → IfErr r (λ e. e.kind ≡ kind.OutOfMemory → Grows sight p)
+      → (xs : List ℕ) → sight.gives p xs → All IsScalar xs → Answered sight limit xs (λ v. IsText limit xs (view v)) p r q
+  answered p q (Ok v) l s m xs g a = answered_value sight limit xs _ p q v (view v) (λ i. i) l s g a
+  answered p q (Err e) l s m xs g a = answered_error sight limit xs _ p q e g a l.0 l.1 m
+
+  pub checked : {T : Type 0} (p q : S) (r : Result T JsonParseError) → FindsText sight limit p r q → OnOk r (sight.shows q None)
+      → IfErr r (λ e. e.kind ≡ kind.OutOfMemory → Grows sight p)
+      → (xs : List ℕ) → sight.gives p xs → All IsScalar xs → Answered sight limit xs (λ _. IsAccepted limit xs) p r q
+  checked p q (Ok v) l s m xs g a = answered_value sight limit xs _ p q v l.0 (λ i. (l.0, i)) l.1 s g a
+  checked p q (Err e) l s m xs g a = answered_error sight limit xs _ p q e g a l.0 l.1 m
 
   -- of a source that stands at the origin
-  pub answered_text : (p q : S) (xs : List ℕ) (r : Result JsonValue JsonParseError) → sight.place p ≡ origin → Answered p xs r q
-      → ParsesText limit xs r
-  answered_text p q xs (Ok v) h a = record { consumed = a.consumed; rest = a.rest; whole = a.whole; answer = a.answer; refused = tt }
-  answered_text p q xs (Err e) h a = record {
+  module _ {T : Type 0} (p q : S) (xs : List ℕ) (P : T → Type 0) (h : sight.place p ≡ origin) where
+    answer_text : (r : Result T JsonParseError) (a : Answered sight limit xs P p r q) → MatchResult r (λ v. (a.rest ≡ []) × P v)
+        (λ e. (error_position e ≡ advance origin a.consumed) × RefusalSays limit e.kind a.consumed a.rest)
+    answer_text (Ok v) a = a.answer
+    answer_text (Err e) a = (a.answer.0 ∙ a.moves ∙ ap (λ x. advance x a.consumed) h, a.answer.1)
+
+  pub answered_text : (p q : S) (xs : List ℕ) (r : Result JsonValue JsonParseError) → sight.place p ≡ origin
+      → Answered sight limit xs (λ v. IsText limit xs (view v)) p r q → ParsesText limit xs r
+  answered_text p q xs r h a = record {
     consumed = a.consumed;
     rest = a.rest;
     whole = a.whole;
-    answer = (a.answer.0 ∙ a.moves ∙ ap (λ x. advance x a.consumed) h, a.answer.1);
-    refused = refused_answer limit xs a.consumed a.rest (λ v. (a.rest ≡ []) × IsText limit xs (view v))
-        (λ e. error_position e ≡ sight.place q) (Err e) a.whole a.answer;
+    answer = answer_text p q xs _ h r a;
+    refused = refused_answer limit xs a.consumed a.rest _ _ r a.whole a.answer;
+  }
+
+  pub checked_text : (p q : S) (xs : List ℕ) (r : Result (Unit {0}) JsonParseError) → sight.place p ≡ origin
+      → Answered sight limit xs (λ _. IsAccepted limit xs) p r q → ChecksText limit xs r
+  checked_text p q xs r h a = record {
+    consumed = a.consumed;
+    rest = a.rest;
+    whole = a.whole;
+    answer = answer_text p q xs _ h r a;
+    refused = refused_answer limit xs a.consumed a.rest _ _ r a.whole a.answer;
   }
 
 pub all_are_scalars : (xs : List ℕ) → IsTrue (all_scalars xs) → All IsScalar xs

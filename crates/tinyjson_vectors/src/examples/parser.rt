@@ -4,7 +4,9 @@ use std::alloc::Global;
 use std::io::{self, ErrorKind};
 use std::string::ToString;
 use std::test::Fail;
-use tinyjson::{JsonParseErrorKind, JsonParseResult, JsonParser, JsonValue};
+use tinyjson::{
+    JsonParseErrorKind, JsonParseResult, JsonParser, JsonValue, check, check_with_depth_limit,
+};
 
 fn read(alloc: Global, text: &str) -> io::Result<JsonValue> {
     Ok(JsonValue::from_str(alloc, text)?)
@@ -40,6 +42,19 @@ fn limits(rt: HostRuntime) -> Result<(), Fail> {
     assert!(rt; result.is_err_and(|error| error.kind() == JsonParseErrorKind::TooDeep('[')));
 
     let result = JsonValue::from_str_with_depth_limit(alloc, "[[1]]", 1);
+    assert!(rt; result.is_err_and(|error| error.kind() == JsonParseErrorKind::TooDeep('[')));
+    Ok(())
+}
+
+#[test]
+fn checks(rt: HostRuntime) -> Result<(), Fail> {
+    let alloc = rt.alloc();
+    assert!(rt; check(alloc, "{\"a\": [1.5e0, null]}").is_ok());
+    let result = check(alloc, "01");
+    assert!(rt; result.is_err_and(|error| error.kind() == JsonParseErrorKind::LeadingZero));
+
+    assert!(rt; check_with_depth_limit(alloc, "[[1]]", 2).is_ok());
+    let result = check_with_depth_limit(alloc, "[[1]]", 1);
     assert!(rt; result.is_err_and(|error| error.kind() == JsonParseErrorKind::TooDeep('[')));
     Ok(())
 }

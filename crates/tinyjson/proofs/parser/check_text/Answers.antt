@@ -1,0 +1,17 @@
+use Rattle.std.proofs.Common.{sym, ap, ◌∙◌}
+use Rattle.std.proofs.lemmas.Str.{scalars-chars}
+use Rattle.std.specs.Str.{chars}
+use Rattle.tinyjson_grammar.specs.Position.{advance, origin}
+use Rattle.tinyjson_tokens.specs.Slice.{before, chars_after}
+use Rattle.tinyjson_tokens.specs.declared.text.TextBytes.{TextBytes}
+use Rattle.tinyjson.proofs.Reading.Parse.{checked, checked_text, all_are_scalars}
+use Rattle.tinyjson.proofs.parser.check_text.Goals as goal
+
+pub returns : goal.returns
+returns c =
+    let text = c.args.text.now in
+    let gives = sym (ap (λ (p : TextBytes). chars_after p.text.now p.at) c.new-2.ensures ∙ c.new.ensures.gives) in
+    let start = ap (λ (p : TextBytes). advance origin (before p.text.now p.at)) c.new-2.ensures ∙ c.new.ensures.start in
+    checked_text _ c.args.limit _ _ (chars text) c.check.result start
+    (checked _ c.args.limit _ _ c.check.result c.check.ensures.reads c.check.ensures.end c.check.ensures.memory (chars text) gives
+    (all_are_scalars (chars text) (scalars-chars text c.utf8.text)))
