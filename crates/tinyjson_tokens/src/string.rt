@@ -1,7 +1,7 @@
 //! Strings read piece by piece (RFC 8259, section 7).
 ghost use Rattle.std.specs.Prelude.{◌≡◌, ℕ, ◌<◌, ◌≤◌, List, [], ◌∷◌, ◌++◌, true, false};
-ghost use Rattle.std.specs.Prelude.{MatchResult, OnOk, Option, cond};
-ghost use Rattle.tinyjson_grammar.specs.Characters.{paired, decode, text};
+ghost use Rattle.std.specs.Prelude.{MatchResult, OnOk, Option, Some, cond};
+ghost use Rattle.tinyjson_grammar.specs.Characters.{paired, decode, quotation_mark, text};
 ghost use Rattle.tinyjson_grammar.specs.Machine.{Frame, plain, backslash, hex, quoted, next};
 ghost use Rattle.tinyjson_grammar.specs.Machine.{complete};
 ghost use Rattle.tinyjson_tokens.specs.Steps.{Reads, Fails, within};
@@ -25,9 +25,38 @@ impl<S: Tokens> TokenReader<S> {
         ensures left { S.left self.new.source ≤ S.left self.old.source }
     {
         match self.source.escaped(&mut self.buffer) {
-            Ok(_) => self.pieces(),
+            Ok(_) => self.rest(),
             Err(_) => Err(JsonParseErrorKind::OutOfMemory),
         }
+    }
+
+    /// Reads the rest of a string, after all in the buffer that the source takes at once.
+    #[inline(always)]
+    fn rest(&mut self) -> Result<String, JsonParseErrorKind>
+        ensures reads { (limit : Option ℕ) (fs : List Frame) →
+            Reads S.sight limit self.old.source (within fs self.old.buffer [] false) result
+            (λ s. complete true fs (string (text s)) true) self.new.source }
+        ensures left { S.left self.new.source ≤ S.left self.old.source }
+    {
+        match self.source.peek() {
+            Some(c) if c == '"' => self.close(),
+            _ => self.pieces(),
+        }
+    }
+
+    /// Makes the string of the characters in the buffer, and consumes the quote that comes next.
+    fn close(&mut self) -> Result<String, JsonParseErrorKind>
+        requires shown { S.sight.shows self.old.source (Some quotation_mark) }
+        ensures reads { (limit : Option ℕ) (fs : List Frame) →
+            Reads S.sight limit self.old.source (within fs self.old.buffer [] false) result
+            (λ s. complete true fs (string (text s)) true) self.new.source }
+        ensures left { S.left self.new.source ≤ S.left self.old.source }
+    {
+        let Ok(exact) = String::from_str(self.alloc, self.buffer.as_str()) else {
+            return Err(JsonParseErrorKind::OutOfMemory);
+        };
+        self.source.consume('"');
+        Ok(exact)
     }
 
     /// Reads the rest of a string piece by piece, after the characters in the buffer.
