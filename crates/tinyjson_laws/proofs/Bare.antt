@@ -10,14 +10,11 @@ use Rattle.tinyjson_laws.specs.WhiteSpace.{bare_value, bare_elements, bare_pairs
 
 mutual
   pub bare_spelled : (s : Syntax) → IsSpelled s → IsSpelled (bare_value s)
-  bare_spelled null h = tt
-  bare_spelled (boolean b) h = tt
   bare_spelled (number n) h = h
   bare_spelled (string ps) h = h
-  bare_spelled (empty_array w) h = tt
   bare_spelled (array es) h = bare_elements_spelled es h
-  bare_spelled (empty_object w) h = tt
   bare_spelled (object ps) h = bare_pairs_spelled ps h
+  bare_spelled _ h = tt
 
   bare_elements_spelled : (es : Elements) → AreElements es → AreElements (bare_elements es)
   bare_elements_spelled (last_element v s w) h = (tt, bare_spelled s h.1, tt)
@@ -29,14 +26,9 @@ mutual
 
 mutual
   pub bare_depth : (s : Syntax) → depth (bare_value s) ≡ depth s
-  bare_depth null = refl
-  bare_depth (boolean b) = refl
-  bare_depth (number n) = refl
-  bare_depth (string ps) = refl
-  bare_depth (empty_array w) = refl
   bare_depth (array es) = ap (λ n. 1 + n) (bare_elements_depth es)
-  bare_depth (empty_object w) = refl
   bare_depth (object ps) = ap (λ n. 1 + n) (bare_pairs_depth ps)
+  bare_depth _ = refl
 
   bare_elements_depth : (es : Elements) → elements_depth (bare_elements es) ≡ elements_depth es
   bare_elements_depth (last_element v s w) = bare_depth s
@@ -48,14 +40,9 @@ mutual
 
 mutual
   pub bare_tree : (s : Syntax) → tree_of (bare_value s) ≡ tree_of s
-  bare_tree null = refl
-  bare_tree (boolean b) = refl
-  bare_tree (number n) = refl
-  bare_tree (string ps) = refl
-  bare_tree (empty_array w) = refl
   bare_tree (array es) = ap (λ z. tree.array (tree.items_of z)) (bare_trees es)
-  bare_tree (empty_object w) = refl
   bare_tree (object ps) = ap tree.object (bare_members ps tree.no_members)
+  bare_tree _ = refl
 
   bare_trees : (es : Elements) → elements_trees (bare_elements es) ≡ elements_trees es
   bare_trees (last_element v s w) = ap (λ z. z ∷ []) (bare_tree s)
@@ -68,25 +55,14 @@ mutual
 
 pub bare_key : (s : Syntax) → is_key (bare_value s) ≡ is_key s
 bare_key null = refl
-bare_key (boolean b) = refl
-bare_key (number n) = refl
-bare_key (string ps) = refl
-bare_key (empty_array w) = refl
-bare_key (array es) = refl
-bare_key (empty_object w) = refl
-bare_key (object ps) = refl
+bare_key _ = refl
 
 -- what is strict without white space is so with it, and the reverse: the condition is the same type
 mutual
   pub bare_strict : (width : Width) (s : Syntax) → IsStrictAt width (bare_value s) ≡ IsStrictAt width s
-  bare_strict width null = refl
-  bare_strict width (boolean b) = refl
-  bare_strict width (number n) = refl
-  bare_strict width (string ps) = refl
-  bare_strict width (empty_array w) = refl
   bare_strict width (array es) = bare_elements_strict width es
-  bare_strict width (empty_object w) = refl
   bare_strict width (object ps) = bare_pairs_strict width ps
+  bare_strict width _ = refl
 
   bare_elements_strict : (width : Width) (es : Elements) → ElementsAreStrictAt width (bare_elements es) ≡ ElementsAreStrictAt width es
   bare_elements_strict width (last_element v s w) = bare_strict width s

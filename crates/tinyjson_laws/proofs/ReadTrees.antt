@@ -100,14 +100,12 @@ key_scalars width (object ps) h i s = absurd (false≢true i)
 
 mutual
   pub tree_is : (width : Width) (s : Syntax) → IsSpelled s → IsStrictAt width s → IsTreeAt width (tree_of s)
-  tree_is width null h s = tt
-  tree_is width (boolean b) h s = tt
   tree_is width (number n) h s = value_canonical width n h s.1
   tree_is width (string ps) h s = string_scalars ps h s
-  tree_is width (empty_array w) h s = tt
   tree_is width (array es) h s = items_are width es h s
   tree_is width (empty_object w) h s = (tt, tt)
   tree_is width (object ps) h s = members_are width ps tree.no_members h s tt tt
+  tree_is width _ h s = tt
 
   items_are : (width : Width) (es : Elements) → AreElements es → ElementsAreStrictAt width es
       → AreItemsAt width (tree.items_of (elements_trees es))

@@ -4,7 +4,7 @@ use Rattle.std.specs.Int.{Width, w32}
 use Rattle.tinyjson_number.specs.Numeral.{power_width}
 use Rattle.tinyjson_grammar.specs.Tree.{Tree, tree_depth}
 use Rattle.tinyjson_grammar.specs.Syntax.{depth, IsWithin}
-use Rattle.tinyjson_grammar.specs.Grammar.{IsTextAt}
+use Rattle.tinyjson_grammar.specs.Grammar.{IsLoose, IsTextAt}
 use Rattle.tinyjson_grammar.specs.Text as written
 use Rattle.tinyjson_grammar.specs.Soundness.{IsTreeAt}
 use Rattle.tinyjson_grammar.proofs.Callers.Laws.{only_tree, IsWhiteIndent, within_le, written_text}
@@ -34,23 +34,23 @@ texts_are_sound limit xs t h = sound_at power_width limit xs t h
 pub trees_have_texts : TreesHaveTexts
 trees_have_texts t = (λ h. (written.compact t, written_text power_width None None 0 t tt h tt), λ p. texts_are_sound None p.0 t p.1)
 
+-- a text of the loose grammar under another limit that it keeps
+abbrev pub loose_at : (limit other : Option ℕ) (xs : List ℕ) (h : IsLoose limit xs) → IsWithin other (depth h.value) → IsLoose other xs
+loose_at limit other xs h d = record {
+  before = h.before;
+  value = h.value;
+  after = h.after;
+  white_before = h.white_before;
+  spelled = h.spelled;
+  white_after = h.white_after;
+  shallow = d;
+  whole = h.whole;
+}
+
 at_limit : (width : Width) (limit other : Option ℕ) (xs : List ℕ) (t : Tree) → ((n : ℕ) → IsWithin limit n → IsWithin other n)
     → IsTextAt width limit xs t → IsTextAt width other xs t
-at_limit width limit other xs t f h = let l = h.loose in record {
-  loose = record {
-    before = l.before;
-    value = l.value;
-    after = l.after;
-    white_before = l.white_before;
-    spelled = l.spelled;
-    white_after =
-        l.white_after;
-    shallow = f (depth l.value) l.shallow;
-    whole = l.whole;
-  };
-  strict = h.strict;
-  tree = h.tree;
-}
+at_limit width limit other xs t f h =
+    record { loose = loose_at limit other xs h.loose (f _ h.loose.shallow); strict = h.strict; tree = h.tree }
 
 pub wider_limit : WiderLimit
 wider_limit m n xs t l h = (

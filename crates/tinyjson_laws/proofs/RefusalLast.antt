@@ -108,38 +108,29 @@ module _ (limit : Option ℕ) (fs : List Frame) where
   Goes_on o = (o ≡ None) ⊎ ((gs : List Frame) × (q : Phase) × (o ≡ Some (next gs q)))
 
   lasts_step : (s : Stage) (n : Numeral) → Lasts s n → (c : ℕ) → Goes_on (step_digits (strictly limit) fs s n c)
-  lasts_step Machine.minus n h c = elim h [ ]
   lasts_step Machine.integer n h c = cond_both (is_ascii_digit c) _ _ Goes_on (λ d. inr (_, _, refl))
       (λ d. rw h (cond_both (c == 46) _ _ Goes_on (λ p. inr (_, _, refl))
       (λ p. cond_both (is_exponent_letter c) _ _ Goes_on (λ l. inr (_, _, refl)) (λ l. inl refl))))
-  lasts_step Machine.point n h c = elim h [ ]
   lasts_step Machine.fraction n h c = cond_both (is_ascii_digit c) _ _ Goes_on (λ d. inr (_, _, refl))
       (λ d. cond_both (is_exponent_letter c) _ _ Goes_on (λ l. inr (_, _, refl)) (λ l. inl refl))
-  lasts_step Machine.letter n h c = elim h [ ]
-  lasts_step Machine.sign n h c = elim h [ ]
   lasts_step Machine.exponent n h c = cond_both (is_ascii_digit c) _ _ Goes_on (λ d. inr (_, _, refl)) (λ d. inl refl)
+  lasts_step _ n h c = elim h [ ]
 
   lasts_end : (s : Stage) (n : Numeral) → Lasts s n → end_digits (strictly limit) fs s n ≡ end_plain (finish (strictly limit) fs n)
-  lasts_end Machine.minus n h = elim h [ ]
   lasts_end Machine.integer n h = rw h refl
-  lasts_end Machine.point n h = elim h [ ]
   lasts_end Machine.fraction n h = refl
-  lasts_end Machine.letter n h = elim h [ ]
-  lasts_end Machine.sign n h = elim h [ ]
   lasts_end Machine.exponent n h = refl
+  lasts_end _ n h = elim h [ ]
 
   accepted_zero : (b : Bool) (k : JsonParseErrorKind) (o : Outcome) (t : Tree) → cond b (refused k []) o ≡ accepted t → b ≡ false
   accepted_zero true k o t e = absurd cc
   accepted_zero false k o t e = refl
 
   accepted_lasts : (s : Stage) (n : Numeral) (t : Tree) → end_digits (strictly limit) fs s n ≡ accepted t → Lasts s n
-  accepted_lasts Machine.minus n t e = absurd cc
   accepted_lasts Machine.integer n t e = accepted_zero (has_leading_zero n.integer) _ _ t e
-  accepted_lasts Machine.point n t e = absurd cc
   accepted_lasts Machine.fraction n t e = tt
-  accepted_lasts Machine.letter n t e = absurd cc
-  accepted_lasts Machine.sign n t e = absurd cc
   accepted_lasts Machine.exponent n t e = tt
+  accepted_lasts _ n t e = absurd cc
 
   passed_zero : (b : Bool) (n : Numeral) (e : ℕ) (k : JsonParseErrorKind) (o : Option Next) → (IsPassed (stop k false) → ⊥)
       → IsPassed (unless_ended (strictly limit) fs n e (cond b (Some (stop k false)) o)) → b ≡ false
@@ -201,12 +192,9 @@ module _ (limit : Option ℕ) (fs : List Frame) where
 quote_first : (limit : Option ℕ) (p : Path) → IsFresh p
     → step (strictly limit) (path_frames p) first 34 ≡ next (path_frames p) (quoted Machine.plain [] [])
 unfolding step
-quote_first limit (outside w) h = elim h [ ]
 quote_first limit (item_in p [] w) h = refl
-quote_first limit (item_in p (e ∷ es) w) h = elim h [ ]
 quote_first limit (key_in p [] w) h = refl
-quote_first limit (key_in p (q ∷ qs) w) h = elim h [ ]
-quote_first limit (value_in p ps a k b w) h = elim h [ ]
+quote_first limit _ h = elim h [ ]
 
 quote_awaited : (limit : Option ℕ) (fs : List Frame) → step (strictly limit) fs awaited 34 ≡ next fs (quoted Machine.plain [] [])
 unfolding step
@@ -443,24 +431,16 @@ number_text limit prefix c hc d hw p n s t e = at p s f (sym (ap end_plain f) �
         end_plain (complete true (path_frames p) (tree.number (value (part_numeral n))) false) ≡ accepted t
         → step (strictly limit) (path_frames p) (digits (part_stage n) (part_numeral n)) c ≡ stop (ExpectedEof c) true
     at (outside w) s f e = digits_step limit [] prefix (part_stage n) (part_numeral n) s l f c hc d ∙ rw hw refl
-    at (item_in p es w) s f e = absurd cc
-    at (key_in p ps w) s f e = absurd cc
-    at (value_in p ps a k b w) s f e = absurd cc
+    at _ s f e = absurd cc
 
 text_ends : (limit : Option ℕ) (prefix : List ℕ) (c : ℕ) → IsScalar c → ¬ IsLooselyViable limit (prefix ++ c ∷ []) → is_white c ≡ false
     → (x : Read) → IsRead limit x → Stands limit prefix (read_frames x) (read_phase x) → (t : Tree)
     → end (strictly limit) (read_frames x) (read_phase x) ≡ accepted t →
     step (strictly limit) (read_frames x) (read_phase x) c ≡ stop (ExpectedEof c) true
 unfolding step end
-text_ends limit prefix c hc d hw (at_first p) i s t e = absurd cc
-text_ends limit prefix c hc d hw (at_awaited p) i s t e = absurd cc
-text_ends limit prefix c hc d hw (in_literal p v done left) i s t e = absurd cc
 text_ends limit prefix c hc d hw (in_digits p n) i s t e = number_text limit prefix c hc d hw p n s t e
-text_ends limit prefix c hc d hw (in_quoted p ps cs qs wi) i s t e = absurd cc
 text_ends limit prefix c hc d hw (at_after (outside w) v u) i s t e = rw hw refl
-text_ends limit prefix c hc d hw (at_after (item_in p es w) v u) i s t e = absurd cc
-text_ends limit prefix c hc d hw (at_after (key_in p ps w) v u) i s t e = absurd cc
-text_ends limit prefix c hc d hw (at_after (value_in p ps a k b w) v u) i s t e = absurd cc
+text_ends limit prefix c hc d hw _ i s t e = absurd cc
 
 pub after_exact : (limit : Option ℕ) (used rest text : List ℕ) (c : ℕ) → All IsScalar used → is_white c ≡ false → used ≡ text ++ c ∷ []
     → IsAccepted limit text → ¬ IsLooselyViable limit used → Exact limit (ExpectedEof c) used rest
@@ -496,15 +476,9 @@ needs_end : (limit : Option ℕ) (e : ℕ) → IsCloser e → (x : Read) → IsR
     → IsPassed (step (strictly limit) (read_frames x) (read_phase x) e)
     → end (strictly limit) (read_frames x) (read_phase x) ≡ refused UnexpectedEof []
 unfolding step end
-needs_end limit e h (at_first p) i g = refl
-needs_end limit e h (at_awaited p) i g = refl
-needs_end limit e h (in_literal p v done left) i g = refl
 needs_end limit e h (in_digits p n) i g = number_needs limit e h p n (digits_settled limit e h p n g)
-needs_end limit e h (in_quoted p ps cs qs wi) i g = refl
 needs_end limit e h (at_after (outside w) v u) i g = elim (rw h.no_white at g) [ ]
-needs_end limit e h (at_after (item_in p es w) v u) i g = refl
-needs_end limit e h (at_after (key_in p ps w) v u) i g = refl
-needs_end limit e h (at_after (value_in p ps a k b w) v u) i g = refl
+needs_end limit e h _ i g = refl
 
 pub needs_exact : (limit : Option ℕ) (used : List ℕ) (e : ℕ) → All IsScalar used → IsCloser e → IsErrorFree limit (used ++ e ∷ [])
     → Exact limit UnexpectedEof used []

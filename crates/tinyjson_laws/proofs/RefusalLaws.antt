@@ -33,6 +33,7 @@ use Rattle.tinyjson_grammar.proofs.Callers.Laws.{part_stage, part_numeral, Read,
 use Rattle.tinyjson_grammar.proofs.Callers.Laws.{at_after, read_frames, read_phase, IsFresh, settle, fits_within, level_frames, rules}
 use Rattle.tinyjson_grammar.proofs.Callers.Laws.{only_tree, loose_accepted, Begins, begins_append, numeral_begins, text_begins, run_value}
 use Rattle.tinyjson_grammar.proofs.Callers.Laws.{ends, Ends, error_free_place, no_text}
+use Rattle.tinyjson_laws.proofs.ReadingLaws.{loose_at}
 use Rattle.tinyjson_laws.proofs.RefusalPlaces.{Goes, EndsKey, error_free_stands, stands_stop, run_stop, wide_stop, wide_step, Ready}
 use Rattle.tinyjson_laws.proofs.RefusalPlaces.{awaits_ready, ready_run, ready_free}
 use Rattle.tinyjson_laws.proofs.RefusalTokens.{has_some_digit, literal_stops, literal_ends, string_opens, control_stops, escape_stops}
@@ -223,23 +224,9 @@ module _ (limit : Option ℕ) (prefix : List ℕ) (r : Ready limit prefix) (ms :
   key_at (empty_object w) hs nk e d = key_other limit prefix r (empty_object w) hs nk (λ ys. tt) ms fs pf used rest e a f
   key_at (object ps) hs nk e d = key_other limit prefix r (object ps) hs nk (λ ys. tt) ms fs pf used rest e a f
 
-unlimited : (limit : Option ℕ) (xs : List ℕ) → IsLoose limit xs → IsLoose None xs
-unlimited limit xs h = record {
-  before = h.before;
-  value = h.value;
-  after = h.after;
-  white_before = h.white_before;
-  spelled =
-      h.spelled;
-  white_after = h.white_after;
-  shallow = tt;
-  whole = h.whole;
-}
-
 key_exact : (limit : Option ℕ) (used rest : List ℕ) (k : JsonKind) → All IsScalar used → EndsBadKey limit k used rest
     → IsErrorFree limit used → IsLooselyViable limit (used ++ 58 ∷ []) →
     ((c : ℕ) (more : List ℕ) → rest ≡ c ∷ more → ¬ IsErrorFree limit (used ++ c ∷ [])) → Exact limit (kind.KeyNotString k) used rest
-unfolding unlimited
 key_exact limit used rest k a (before, w, o, s, ho, hw, hs, hv, nk, kd, ud, aw, eb) f v soon =
     subst (λ j. Exact limit (kind.KeyNotString j) used rest) kd
     (key_at limit prefix r kf.0 kf.1 kf.2 used rest a f soon s (record { spelled = hs; strict = hv }) nk e eb)
@@ -254,7 +241,7 @@ key_exact limit used rest k a (before, w, o, s, ho, hw, hs, hv, nk, kd, ud, aw, 
     r = awaits_ready limit prefix (all_front prefix (text s) (subst (All IsScalar) e a)) aw
 
     l : run (rules false None) [] awaited ((used ++ 58 ∷ []) ++ v.0) ≡ accepted (tree_of v.1.value)
-    l = loose_accepted None ((used ++ 58 ∷ []) ++ v.0) (unlimited limit ((used ++ 58 ∷ []) ++ v.0) v.1)
+    l = loose_accepted None ((used ++ 58 ∷ []) ++ v.0) (loose_at limit None ((used ++ 58 ∷ []) ++ v.0) v.1 tt)
 
     regroup : (u x y : List ℕ) → ((u ++ x) ++ 58 ∷ []) ++ y ≡ u ++ (x ++ 58 ∷ y)
     regroup u x y = simp append_assoc

@@ -11,14 +11,11 @@ use Rattle.tinyjson_grammar.specs.Grammar.{IsTextAt}
 
 mutual
   wider_value : (s : Syntax) → IsStrictAt w32 s → IsStrictAt w64 s
-  wider_value null h = tt
-  wider_value (boolean b) h = tt
   wider_value (number n) h = (h.0, wider_fits (value n).power h.1)
   wider_value (string ps) h = h
-  wider_value (empty_array w) h = tt
   wider_value (array es) h = wider_elements es h
-  wider_value (empty_object w) h = tt
   wider_value (object ps) h = wider_pairs ps h
+  wider_value _ h = tt
 
   wider_elements : (es : Elements) → ElementsAreStrictAt w32 es → ElementsAreStrictAt w64 es
   wider_elements (last_element v s w) h = wider_value s h
