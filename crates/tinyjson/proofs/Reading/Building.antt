@@ -1,5 +1,5 @@
 -- Open containers, and what a builder stands for meanwhile.
-use Rattle.std.proofs.Common.{◌≡◌, ℕ, List, [], ◌∷◌, length, suc, Result, Ok, Err, OnOk, refl, sym, ap, subst}
+use Rattle.std.proofs.Common.{◌≡◌, List, [], ◌∷◌, length, suc, Result, Ok, Err, OnOk, refl, sym, ap, subst}
 use Rattle.tinyjson_grammar.specs.Machine.{Frame, in_array, at_key, at_value}
 use Rattle.tinyjson.specs.private.Building.{Agree, AgreeAround, IsOpen, IsWithin, awaited_of}
 use Rattle.tinyjson.specs.declared.parser.builder.Awaited.{Awaited}

@@ -2,15 +2,15 @@
 use Rattle.std.proofs.Common.{◌≡◌, ℕ, true, List, [], ◌∷◌, Option, Result, Ok, Err, inl, inr, refl, sym, ap, subst}
 use Rattle.tinyjson_grammar.specs.Tree.{Tree, Members, string}
 use Rattle.tinyjson_grammar.specs.Machine.{Frame, Phase, in_array, at_key, awaited, after, colon, complete, finished}
-use Rattle.tinyjson_grammar.specs.Machine.{Next, next, stop}
+use Rattle.tinyjson_grammar.specs.Machine.{Next, next}
 use Rattle.tinyjson_grammar.specs.declared.error.JsonParseErrorKind.{JsonParseErrorKind}
-use Rattle.tinyjson_tokens.specs.Source.{Sight, Whites}
-use Rattle.tinyjson_tokens.specs.Steps.{IsNext, Leads, Reads, Refuses}
-use Rattle.tinyjson_tokens.proofs.Callers.{Halts_here, Leads_nil, Leads_to, Leads_trans, Refuses_after, Refuses_as}
+use Rattle.tinyjson_tokens.specs.Source.{Sight}
+use Rattle.tinyjson_tokens.specs.Steps.{Leads, Reads, Refuses}
+use Rattle.tinyjson_tokens.proofs.Callers.{Halts_here, Leads_to, Leads_trans, Refuses_after, Refuses_as}
 use Rattle.tinyjson.specs.private.Building.{Builds, Continues, Joins, IsOpen, IsWithin, Stands, awaited_of}
 use Rattle.tinyjson.specs.private.Building.{Agree, AgreeAround, Completes}
 use Rattle.tinyjson.specs.declared.parser.builder.Awaited.{Awaited}
-use Rattle.tinyjson.specs.declared.parser.builder.Awaited.TheVariants.{Item, Key, Value}
+use Rattle.tinyjson.specs.declared.parser.builder.Awaited.TheVariants.{Item, Value}
 use Rattle.tinyjson.specs.declared.parser.builder.Nest.{Nest}
 use Rattle.tinyjson.specs.declared.parser.builder.Progress.{Progress}
 use Rattle.tinyjson.specs.declared.parser.builder.Progress.TheVariants.{Awaits, Complete}
@@ -83,6 +83,3 @@ module _ {S B : Type 0} (holds : B → List Frame → Type 0) (is : B → Tree �
   after_member s n os h e =
       let w = subst (λ ps. Completes holds is s.builder ps n) e h in
       (w.0, w.1, w.2, (w.3, subst (λ ps. AgreeAround ps w.1) (sym e) w.4))
-
-  pub after_key : (s : Nest B) (n : Next) (os : List Awaited) → Stands holds is s Complete n → awaited_of s ≡ Key ∷ os → ⊥
-  after_key s n os h e = subst (λ ps. Completes holds is s.builder ps n) e h

@@ -3,7 +3,7 @@ use Rattle.std.proofs.Common.{◌≡◌, ℕ, suc, ◌+◌, ◌-◌, ◌≤◌, 
 use Rattle.std.proofs.Common.{Global, refl, sym, ap, ap₂, ◌∙◌, subst, arith}
 use Rattle.std.proofs.Math.Seq.{drop-length, take-length, take-append_seam, drop-append_seam}
 use Rattle.std.proofs.lemmas.List.{reverse-append, reverse-reverse, map-append, length-drop, drop-append-le, take-append-le, length-take-le}
-use Rattle.std.proofs.lemmas.List.{length-append, length-reverse, take-append-drop, take_all, drop_all}
+use Rattle.std.proofs.lemmas.List.{length-append, length-reverse, take-append-drop, drop_all}
 use Rattle.tinyjson_grammar.specs.Tree.{Tree, Members, no_members, put}
 use Rattle.tinyjson.specs.View.{view, text}
 use Rattle.tinyjson.specs.Access.{JsonMap}
@@ -45,12 +45,15 @@ waiting_key (j ∷ ks) [] k h = absurd (omega (arith, h))
 waiting_key (j ∷ ks) (v ∷ vs) k h = waiting_key ks vs k (omega (arith, h))
 
 -- no value is left, so no member is put
+none_put : (ms : Members) (ks : Keys) → gather ms ks [] ≡ ms
+none_put ms [] = refl
+none_put ms (k ∷ ks) = refl
+
+pub none_waits : (ms : Members) (n : ℕ) (vs : List JsonValue) (ks : Keys) → length vs ≤ n → ms ≡ gather ms ks (drop n vs)
+none_waits ms n vs ks h = sym (none_put ms ks) ∙ ap (gather ms ks) (sym (drop_all n vs h))
+
 pub none_left : (ms : Members) (n : ℕ) (vs : List JsonValue) (ks : Keys) → length vs ≤ n → ms ≡ gather ms ks (reverse (drop n vs))
-none_left ms n vs ks h = none ks ∙ ap (λ us. gather ms ks (reverse us)) (sym (drop_all n vs h))
-  where
-    none : (js : Keys) → ms ≡ gather ms js []
-    none [] = refl
-    none (j ∷ js) = refl
+none_left ms n vs ks h = sym (none_put ms ks) ∙ ap (λ us. gather ms ks (reverse us)) (sym (drop_all n vs h))
 
 -- a list whose elements from a place on were put in the opposite order
 module _ {T : Type 0} (n : ℕ) (xs ys : List T) (h : n ≤ length xs) (e : ys ≡ take n xs ++ reverse (drop n xs)) where
@@ -101,10 +104,6 @@ holds_by s os fs vs ks ms h o e k m = subst (λ ps. Holds ps fs s.values.items s
 pub holds_at : (s : Stack) (os : List Place) (fs : List Frame) → holds s fs → reverse s.places.items ≡ os
     → Holds os fs s.values.items s.keys.items (maps_of s)
 holds_at s os fs h o = subst (λ ps. Holds ps fs s.values.items s.keys.items (maps_of s)) o h
-
--- where a container is open, a place is there
-pub has_place : (s : Stack) (f : Frame) (fs : List Frame) → holds s (f ∷ fs) → s.places.items ≡ [] → ⊥
-has_place s f fs h e = holds_at s [] (f ∷ fs) h (ap reverse e)
 
 -- ---- a container that begins
 
@@ -187,21 +186,3 @@ module _ (vs : List JsonValue) (v : JsonValue) (ks : Keys) (ms : List JsonMap) w
   holds_value os (at_key j ∷ fs) t s h w o e k m = tt
   holds_value os (at_value j i ∷ fs) t s h w o e k m = subst (λ u. holds s (at_key (put i u j) ∷ fs)) w
       (holds_by s os (at_key (put i (view v) j) ∷ fs) (vs ++ v ∷ []) ks ms (holds_member os fs j i h) o e k m)
-
--- ---- the members that wait, put into the map
-
-pub holds_settled : (o : Place) (os : List Place) (fs : List Frame) (t : Members) (vs us : List JsonValue) (ks js : Keys)
-    (ms ns : List JsonMap) → Holds (o ∷ os) (at_key t ∷ fs) vs ks ms → us ≡ take o.values vs → js ≡ take o.keys ks
-    → own_members ns ≡ gather (own_members ms) (drop o.keys ks) (drop o.values vs) → other_maps ns ≡ other_maps ms
-    → Holds (o ∷ os) (at_key t ∷ fs) us js ns
-holds_settled o os fs t vs us ks js ms ns h e k own others =
-    let n : length us ≡ o.values = ap length e ∙ length-take-le o.values vs h.0 in
-    let m : length js ≡ o.keys = ap length k ∙ length-take-le o.keys ks h.1 in (
-      omega (arith, n),
-      omega (arith, m),
-      omega (arith, n, m),
-      h.3 ∙ sym own ∙ sym (ap (λ xs. gather (own_members ns) xs (drop o.values us)) (drop_all o.keys js (omega (arith, m)))),
-      subst (λ xs. Holds os fs xs (take o.keys js) (other_maps ns)) (sym (take_all o.values us (omega (arith, n)) ∙ e))
-          (subst (λ xs. Holds os fs (take o.values vs) xs (other_maps ns)) (sym (take_all o.keys js (omega (arith, m)) ∙ k))
-          (subst (λ xs. Holds os fs (take o.values vs) (take o.keys ks) xs) (sym others) h.4)),
-    )

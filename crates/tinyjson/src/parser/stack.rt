@@ -1,10 +1,11 @@
 //! The builder of values: a stack of what was read in open containers.
 ghost use Rattle.std.specs.Prelude.{◌≡◌, ◌+◌, ◌≤◌, List, [], ◌∷◌, ◌++◌};
-ghost use Rattle.std.specs.Prelude.{length, take, drop, reverse, OnOk, IfOk};
+ghost use Rattle.std.specs.Prelude.{length, take, drop, reverse, OnOk, IfOk, ⊤};
+ghost use Rattle.std.specs.Bool.{MatchBool};
 ghost use Rattle.tinyjson_grammar.specs.Machine.{Frame, at_key};
-ghost use Rattle.tinyjson_grammar.specs.Tree.{Tree, Members, no_members};
+ghost use Rattle.tinyjson_grammar.specs.Tree.{Tree, Members, no_members, object};
 ghost use Rattle.tinyjson.specs.private.Building.{Puts};
-ghost use Rattle.tinyjson.specs.private.Stack.{gather, holds, is, maps_of};
+ghost use Rattle.tinyjson.specs.private.Stack.{Holds, gather, holds, is, maps_of};
 ghost use Rattle.tinyjson.specs.private.Stack.{other_maps, own_members};
 ghost use Rattle.tinyjson.specs.View.{view, members_view};
 ghost use Rattle.tinyjson_tokens.specs.Steps.{literal_tree};
@@ -72,6 +73,9 @@ impl Builder for Stack {
         let Some(place) = self.places.pop() else {
             unreachable!()
         };
+        if self.has_none(place.values) {
+            return self.push_map();
+        }
         let mut members = self.take_members(place.values, place.keys)?;
         trim(&mut members);
         self.push(JsonValue::Object(members))
@@ -86,7 +90,9 @@ impl Builder for Stack {
 
     #[inline(always)]
     fn string(&mut self, value: String) -> Result<(), AllocError> {
-        self.push(JsonValue::String(value))
+        self.values.reserve(1)?;
+        self.values.push_reserved(JsonValue::String(value));
+        Ok(())
     }
 
     #[inline(always)]
@@ -127,6 +133,14 @@ impl Stack {
         }
     }
 
+    /// Whether no values stand on the stack from this place on.
+    #[inline(always)]
+    fn has_none(&self, values: usize) -> bool
+        ensures { MatchBool result (length self.now.values.items ≤ values) ⊤ }
+    {
+        self.values.len() <= values
+    }
+
     /// Puts a value on the stack.
     #[inline(always)]
     fn push(&mut self, value: JsonValue) -> Result<(), AllocError>
@@ -139,6 +153,16 @@ impl Stack {
         }
         self.values.push_reserved(value);
         Ok(())
+    }
+
+    /// Puts the map of an object that was closed on the stack.
+    fn push_map(&mut self) -> Result<(), AllocError>
+        ensures { (fs : List Frame) → Holds (reverse self.old.places.items) fs
+            self.old.values.items self.old.keys.items (other_maps (maps_of self.old)) →
+            OnOk result (Puts holds is fs (object (own_members (maps_of self.old))) self.new) }
+    {
+        let members = self.take_map();
+        self.push(JsonValue::Object(members))
     }
 
     /// Takes the complete value, where no container is open.
@@ -217,6 +241,9 @@ impl Stack {
         ensures keys { self.new.keys ≡ self.old.keys }
         ensures maps { self.new.maps ≡ self.old.maps }
     {
+        if self.has_none(values) {
+            return Ok(Vec::new(self.alloc));
+        }
         if values > 0 {
             return self.values.split_off(values);
         }

@@ -1,5 +1,5 @@
-use Rattle.std.proofs.Common.{rules, ◌∙◌, ap, subst, sym, ◌∷◌}
-use Rattle.tinyjson.proofs.Reading.Loop.{after_item, after_member, after_key, Continues_from}
+use Rattle.std.proofs.Common.{◌∙◌, ap, ◌∷◌}
+use Rattle.tinyjson.proofs.Reading.Loop.{after_item, after_member, Continues_from}
 use Rattle.tinyjson.proofs.parser.reader.Reader.after.Goals as goal
 
 pub returns-in-Item-clause-reads : goal.returns-in-Item-clause-reads

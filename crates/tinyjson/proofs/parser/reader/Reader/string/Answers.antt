@@ -1,10 +1,8 @@
-use Rattle.std.proofs.Common.{rules, ◌≡◌, ◌∷◌, List, subst, sym, true}
+use Rattle.std.proofs.Common.{rules, ◌≡◌, ◌∷◌, List}
 use Rattle.std.proofs.lemmas.Result.{err_from_is_err_and}
-use Rattle.tinyjson_grammar.specs.Machine.{Frame, at_key, awaited, complete, next, colon}
-use Rattle.tinyjson_grammar.specs.Tree.{Members, string}
-use Rattle.tinyjson.specs.View.{text}
+use Rattle.tinyjson_grammar.specs.Machine.{Frame, at_key, awaited}
+use Rattle.tinyjson_grammar.specs.Tree.{Members}
 use Rattle.tinyjson.specs.private.Building.{TakesValue}
-use Rattle.tinyjson_tokens.proofs.Callers.{Leads_to}
 use Rattle.tinyjson.proofs.Reading.Loop.{joined, string_at_key}
 use Rattle.tinyjson.proofs.parser.reader.Reader.string.Goals as goal
 

@@ -1,10 +1,10 @@
-use Rattle.std.proofs.Common.{rules, ◌≡◌, ◌∷◌, ◌++◌, [], ◌∙◌, ap, refl, sym, subst, reverse, OnOk, List, take}
-use Rattle.tinyjson_grammar.specs.Machine.{Frame, in_array}
-use Rattle.tinyjson_grammar.specs.Tree.{Tree, array, items_of}
+use Rattle.std.proofs.Common.{rules, ◌≡◌, ◌∷◌, ◌++◌, [], ◌∙◌, ap, sym, subst, reverse, OnOk, take}
+use Rattle.tinyjson_grammar.specs.Machine.{in_array}
+use Rattle.tinyjson_grammar.specs.Tree.{array, items_of}
 use Rattle.tinyjson.specs.View.{items_view}
 use Rattle.tinyjson.specs.private.Building.{Puts}
 use Rattle.tinyjson.specs.private.Stack.{holds, is, maps_of}
-use Rattle.tinyjson.proofs.Reading.Stack.{pushed, has_place, holds_at, holds_by}
+use Rattle.tinyjson.proofs.Reading.Stack.{pushed, holds_at, holds_by}
 use Rattle.tinyjson.proofs.Values.View.{view_Array}
 use Rattle.tinyjson.proofs.parser.stack.StackBuilder.close_array.Goals as goal
 

@@ -1,4 +1,4 @@
-use Rattle.std.proofs.Common.{rules, ◌≡◌, ◌∷◌, ◌++◌, [], refl, reverse}
+use Rattle.std.proofs.Common.{rules, refl, reverse}
 use Rattle.tinyjson.specs.private.Stack.{maps_of}
 use Rattle.tinyjson.specs.declared.value.JsonValue.TheVariants as is
 use Rattle.tinyjson.proofs.Reading.Stack.{holds_value}
