@@ -13,7 +13,7 @@ use std::process::Abort;
 use std::test::Fail;
 use tinyjson::{
     JsonGenerateResult, JsonGenerator, JsonKind, JsonNumber, JsonNumberError, JsonParseError,
-    JsonParseErrorKind as Kind, JsonParseResult, JsonParser, JsonValue, insert_member,
+    JsonParseErrorKind as Kind, JsonParseResult, JsonParser, JsonValue, check, insert_member,
 };
 
 const TEXTS: &[(&str, Answer)] = &[
@@ -55,6 +55,17 @@ fn are_alike(one: JsonParseResult, other: JsonParseResult) -> bool {
     one.map_err(|e| e.kind()) == other.map_err(|e| e.kind())
 }
 
+/// Whether a check returned this, but for the value.
+fn is_answer(checked: Result<(), JsonParseError>, expected: Answer) -> bool {
+    match (checked, expected) {
+        (Ok(()), Answer::Text(_)) => true,
+        (Err(error), Answer::Refusal(kind, line, column)) => {
+            error.kind() == kind && (error.line(), error.column()) == (line, column)
+        }
+        _ => false,
+    }
+}
+
 #[test]
 fn parse_goes_on(rt: HostRuntime) -> Result<(), Fail> {
     let alloc = rt.alloc();
@@ -74,6 +85,21 @@ fn parse_goes_on(rt: HostRuntime) -> Result<(), Fail> {
 }
 
 #[test]
+fn checks_keep_their_errors(rt: HostRuntime) -> Result<(), Fail> {
+    let alloc = rt.alloc();
+    for &(text, expected) in TEXTS {
+        let checked = check(alloc, text);
+        if let Err(error) = checked {
+            if error.kind() == Kind::OutOfMemory {
+                return Err(Fail::from(error));
+            }
+        }
+        assert!(rt; is_answer(checked, expected), "{text}");
+    }
+    Ok(())
+}
+
+#[test]
 fn some_texts_take_no_memory(rt: HostRuntime) -> Result<(), Fail> {
     let alloc = rt.alloc();
     for (text, expected) in [
@@ -82,6 +108,7 @@ fn some_texts_take_no_memory(rt: HostRuntime) -> Result<(), Fail> {
         ("", Answer::Refusal(Kind::UnexpectedEof, 1, 0)),
     ] {
         assert!(rt; agrees(alloc, parsed(alloc, text), expected)?, "{text}");
+        assert!(rt; is_answer(check(alloc, text), expected), "{text}");
     }
     Ok(())
 }

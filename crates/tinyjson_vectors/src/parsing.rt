@@ -5,7 +5,9 @@ use crate::documentation::DOCUMENT;
 use std::alloc::Global;
 use std::iter;
 use std::test::Fail;
-use tinyjson::{JsonKind, JsonParseErrorKind as Kind, JsonParser, JsonValue};
+use tinyjson::{
+    JsonKind, JsonParseErrorKind as Kind, JsonParseResult, JsonParser, JsonValue, check,
+};
 
 /// Texts with each kind of token, and in them what no value is.
 const TEXTS: [&str; 6] = [
@@ -37,11 +39,20 @@ const ENDS: [&str; 16] = [
     " 😀",
 ];
 
-/// Whether the text and its characters have one answer, which memory has no part in.
+/// Whether the text and its characters have one answer, which memory has no part in, and so has a check of the text.
 fn is_alike(alloc: Global, text: &str) -> bool {
     let answer = parsed(alloc, text);
     let is_memory = answer.as_ref().is_err_and(|error| error.is_out_of_memory());
-    !is_memory && answer == JsonValue::from_str(alloc, text)
+    !is_memory && is_checked(alloc, text, &answer) && answer == JsonValue::from_str(alloc, text)
+}
+
+/// Whether a check of the text has this answer, but for the value.
+fn is_checked(alloc: Global, text: &str, answer: &JsonParseResult) -> bool {
+    match (check(alloc, text), answer) {
+        (Ok(()), Ok(_)) => true,
+        (Err(error), Err(expected)) => error == *expected,
+        _ => false,
+    }
 }
 
 #[test]
