@@ -7,6 +7,7 @@ pub mod Index
 pub mod Number
 pub mod Error
 pub mod Parser
+pub mod Events
 pub mod Indent
 pub mod Generator
 -- what they say of texts and trees, by the names of the crate `tinyjson_grammar`, so that callers name one crate

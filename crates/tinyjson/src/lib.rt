@@ -23,7 +23,8 @@ pub mod value;
 pub use generator::{JsonGenerateError, JsonGenerateResult, JsonGenerator, format, stringify};
 pub use number::{JsonNumber, JsonNumberError};
 pub use parser::{
-    JsonParseError, JsonParseErrorKind, JsonParseResult, JsonParser, check, check_with_depth_limit,
+    Events, JsonParseError, JsonParseErrorKind, JsonParseResult, JsonParser, check,
+    check_with_depth_limit, read_events,
 };
 pub use value::{
     InnerAsRef, InnerAsRefMut, JsonKind, JsonValue, UnexpectedValue, discard_member, insert_member,

@@ -1,18 +1,21 @@
 //! The parser.
-ghost use Rattle.std.specs.Prelude.{◌≡◌, ℕ, List, Option, None, Some};
+ghost use Rattle.std.specs.Prelude.{◌≡◌, ℕ, List, [], Option, None, Some};
 ghost use Rattle.std.specs.Iterator.{IsFinite};
 ghost use Rattle.std.specs.Str.{chars};
+ghost use Rattle.tinyjson.specs.Events.{TellsText};
 ghost use Rattle.tinyjson.specs.Parser.{ChecksText, Provides, Remains, Parses, ParsesText};
 ghost use Rattle.tinyjson_grammar.specs.Position.{origin};
 
 mod builder;
 mod checker;
 mod error;
+mod events;
 mod reader;
 mod stack;
 
 use crate::value::JsonValue;
 pub use error::{JsonParseError, JsonParseErrorKind};
+pub use events::Events;
 use reader::Reader;
 use std::alloc::Global;
 use std::marker::Model;
@@ -201,4 +204,18 @@ fn check_text(alloc: Global, text: &str, limit: Option<usize>) -> Result<(), Jso
     ensures { ChecksText limit (chars text.now) result }
 {
     Reader::new(alloc, TextBytes::new(text)).check(limit)
+}
+
+/// Tells a text to events, which are given back where it has a value. An error is that of
+/// [`JsonValue::from_str`], or says that memory ran out, also for an event that was refused.
+///
+/// ```
+/// let numbers = read_events(alloc, "[1, {\"a\": 2.5}]", Numbers { count: 0 })?;
+/// assert_eq!(rt; numbers.count, 2);
+/// ```
+pub fn read_events<E: Events>(alloc: Global, text: &str, events: E) -> Result<E, JsonParseError>
+    requires { E.holds events [] }
+    ensures { TellsText E.is None (chars text.now) result }
+{
+    Reader::new(alloc, TextBytes::new(text)).told(None, events)
 }

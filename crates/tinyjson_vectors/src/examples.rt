@@ -2,6 +2,7 @@
 
 mod access;
 mod conversions;
+mod events;
 mod generator;
 mod numbers;
 mod parser;

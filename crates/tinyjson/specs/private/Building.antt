@@ -6,6 +6,10 @@ use Rattle.tinyjson_grammar.specs.declared.error.JsonParseErrorKind.{JsonParseEr
 use Rattle.tinyjson_grammar.specs.declared.error.JsonParseErrorKind.TheVariants.{OutOfMemory}
 use Rattle.tinyjson_tokens.specs.Source.{Sight}
 use Rattle.tinyjson_tokens.specs.Steps.{IsNext, Leads, Refuses}
+use Rattle.tinyjson.specs.Error.{error_position}
+use Rattle.tinyjson.specs.Events.{Open}
+use Rattle.tinyjson.specs.Events as events
+use Rattle.tinyjson.specs.declared.parser.error.JsonParseError.{JsonParseError}
 use Rattle.tinyjson.specs.declared.parser.builder.Awaited.{Awaited}
 use Rattle.tinyjson.specs.declared.parser.builder.Awaited.TheVariants.{Item, Key, Value}
 use Rattle.tinyjson.specs.declared.parser.builder.Nest.{Nest}
@@ -80,3 +84,19 @@ module _ {B : Type 0} (holds : B → List Frame → Type 0) (is : B → Tree →
   abbrev pub Builds : {S : Type 0} → Sight S → Option ℕ → S → Next → Result (Unit {0}) JsonParseErrorKind → Nest B → S → Type 0
   Builds sight limit p n r s q = MatchResult r
       (λ _. (t : Tree) × Leads sight limit p n q (next [] (finished t)) × is s.builder t) (λ k. Refuses sight limit p n k q)
+
+-- a text told to a builder, which is given back: it stands for the tree
+abbrev pub Tells : {B S : Type 0} → (B → Tree → Type 0) → Sight S → Option ℕ → S → Next → Result B JsonParseErrorKind → S → Type 0
+Tells is sight limit p n r q = MatchResult r (λ b. (t : Tree) × Leads sight limit p n q (next [] (finished t)) × is b t)
+    (λ k. Refuses sight limit p n k q)
+
+-- the same, where an error says where the source stands
+abbrev pub TellsAll : {B S : Type 0} → (B → Tree → Type 0) → Sight S → Option ℕ → S → Result B JsonParseError → S → Type 0
+TellsAll is sight limit p r q = MatchResult r (λ b. (t : Tree) × Leads sight limit p (next [] awaited) q (next [] (finished t)) × is b t)
+    (λ e. (error_position e ≡ sight.place q) × Refuses sight limit p (next [] awaited) e.kind q)
+
+-- a frame of the machine, in the words of events
+abbrev pub open_of : Frame → Open
+open_of (in_array ts) = events.in_array ts
+open_of (at_key ms) = events.at_key ms
+open_of (at_value ms k) = events.at_value ms k

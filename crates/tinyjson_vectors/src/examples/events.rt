@@ -1,0 +1,64 @@
+//! Texts that are told event by event.
+ghost use Rattle.std.specs.Prelude.{⊤};
+
+use std::alloc::AllocError;
+use std::test::Fail;
+use tinyjson::{Events, JsonNumber, JsonParseErrorKind, read_events};
+
+/// How many numbers a text has.
+#[derive(Drop)]
+struct Numbers {
+    count: usize,
+}
+
+impl Events for Numbers {
+    ghost holds = { λ _ _. ⊤ };
+
+    ghost is = { λ _ _. ⊤ };
+
+    fn open_array(&mut self) -> Result<(), AllocError> {
+        Ok(())
+    }
+
+    fn close_array(&mut self) -> Result<(), AllocError> {
+        Ok(())
+    }
+
+    fn open_object(&mut self) -> Result<(), AllocError> {
+        Ok(())
+    }
+
+    fn close_object(&mut self) -> Result<(), AllocError> {
+        Ok(())
+    }
+
+    fn key(&mut self, _: String) -> Result<(), AllocError> {
+        Ok(())
+    }
+
+    fn string(&mut self, _: String) -> Result<(), AllocError> {
+        Ok(())
+    }
+
+    fn number(&mut self, _: JsonNumber) -> Result<(), AllocError> {
+        self.count = self.count.saturating_add(1);
+        Ok(())
+    }
+
+    fn literal(&mut self, _: Option<bool>) -> Result<(), AllocError> {
+        Ok(())
+    }
+}
+
+#[test]
+fn counted(rt: HostRuntime) -> Result<(), Fail> {
+    let alloc = rt.alloc();
+    let numbers = read_events(alloc, "[1, {\"a\": 2.5}]", Numbers { count: 0 })?;
+    assert_eq!(rt; numbers.count, 2);
+
+    let refused = read_events(alloc, "[1, 2,]", Numbers { count: 0 });
+    assert!(rt;
+        refused.is_err_and(|error| error.kind() == JsonParseErrorKind::InvalidCharacter(']'))
+    );
+    Ok(())
+}
