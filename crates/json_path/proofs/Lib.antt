@@ -2,3 +2,4 @@ pub mod Parts
 pub mod Items
 pub mod Values
 pub mod Writing
+pub mod Comparisons

@@ -1,5 +1,5 @@
 -- What is written of a query and a text.
-use Rattle.std.specs.Prelude.{◌≡◌, ◌≢◌, ℕ, List, [], ◌∷◌, ◌++◌, Option, None, Result, Ok, Err, ◌⊎◌, true, false, codes}
+use Rattle.std.specs.Prelude.{◌≡◌, ◌≢◌, ℕ, List, [], ◌∷◌, ◌++◌, Option, None, Result, Ok, Err, ◌⊎◌, codes}
 use Rattle.std.specs.Prelude.{encode_utf8_all}
 use Rattle.std.specs.Io.KnownBytes.{Appends}
 use Rattle.tinyjson.specs.Characters.{line_feed}
@@ -16,16 +16,15 @@ use Rattle.json_path_query.specs.declared.error.ParseErrorKind.TheVariants as re
 use Rattle.json_path_query.specs.declared.query.Query.{Query}
 use Rattle.json_path.specs.Nodes.{Part}
 use Rattle.json_path.specs.Paths.{path_text}
-use Rattle.json_path.specs.Queries.{query_parts, has_filter}
+use Rattle.json_path.specs.Queries.{query_parts}
 use Rattle.json_path.specs.declared.lines.Form.{Form}
 use Rattle.json_path.specs.declared.lines.Form.TheVariants.{Value, Path}
 use Rattle.json_path.specs.declared.lines.PathError.{PathError}
-use Rattle.json_path.specs.declared.lines.PathError.TheVariants.{BadQuery, Filter, Refused, NoNode, OutOfMemory, Writing}
+use Rattle.json_path.specs.declared.lines.PathError.TheVariants.{BadQuery, Refused, NoNode, OutOfMemory, Writing}
 
 abbrev pub status_of : PathError → ℕ
 status_of NoNode = 1
 status_of (BadQuery e) = 2
-status_of Filter = 2
 status_of (Refused e) = 3
 status_of OutOfMemory = 4
 status_of Writing = 4
@@ -33,7 +32,6 @@ status_of Writing = 4
 -- the message of an error; of a text that is no query and of a refused one its reader's
 abbrev pub path_error_message : PathError → List ℕ
 path_error_message (BadQuery e) = codes "the query: " ++ query.error_message e
-path_error_message Filter = codes "the query: filters are not supported"
 path_error_message (Refused e) = error_message e
 path_error_message NoNode = codes "the query selects no node"
 path_error_message OutOfMemory = codes "out of memory"
@@ -58,11 +56,10 @@ IsFailedWrite wanted error = (wanted × (error ≡ OutOfMemory)) ⊎ (¬ wanted 
 
 -- Of a tree the lines of the parts that the query selects are written, or a prefix of them where that failed; or it selects none.
 abbrev pub WritesNodes : Form → Query → Tree → Option (List ℕ) → Option (List ℕ) → Result (Unit {0}) PathError → Type 0
-WritesNodes form q t old new (Ok _) = (query_parts q t ≢ []) × (has_filter q ≡ false) × Appends old new (lines_of form (query_parts q t))
-WritesNodes form q t old new (Err NoNode) = (query_parts q t ≡ []) × (has_filter q ≡ false) × (new ≡ old)
-WritesNodes form q t old new (Err Filter) = (has_filter q ≡ true) × (new ≡ old)
-WritesNodes form q t old new (Err Writing) = (has_filter q ≡ false) × WrittenPart old new (lines_of form (query_parts q t))
-WritesNodes form q t old new (Err OutOfMemory) = (has_filter q ≡ false) × WrittenPart old new (lines_of form (query_parts q t))
+WritesNodes form q t old new (Ok _) = (query_parts q t ≢ []) × Appends old new (lines_of form (query_parts q t))
+WritesNodes form q t old new (Err NoNode) = (query_parts q t ≡ []) × (new ≡ old)
+WritesNodes form q t old new (Err Writing) = WrittenPart old new (lines_of form (query_parts q t))
+WritesNodes form q t old new (Err OutOfMemory) = WrittenPart old new (lines_of form (query_parts q t))
 WritesNodes form q t old new (Err _) = ⊥
 
 -- So it is of the tree of a text; or the text is none, as its reader says, or memory ran out, and nothing is written.

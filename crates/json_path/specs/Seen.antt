@@ -1,7 +1,12 @@
 -- What the types that are the program's own are seen as.
-use Rattle.std.specs.Prelude.{suc, ℤ, pos, negsuc, Option, Some, None}
-use Rattle.tinyjson.specs.View.{text}
+use Rattle.std.specs.Prelude.{suc, ℤ, pos, negsuc, Option, Some, None, option_map}
+use Rattle.std.specs.Borrow.{Bor}
+use Rattle.tinyjson.specs.Tree.{Tree}
+use Rattle.tinyjson.specs.View.{view, text}
+use Rattle.tinyjson.specs.declared.value.JsonValue.{JsonValue}
 use Rattle.json_path.specs.Nodes.{Step, at_key, at_index}
+use Rattle.json_path.specs.declared.operand.Operand.{Operand}
+use Rattle.json_path.specs.declared.operand.Operand.TheVariants.{Part, Own}
 use Rattle.json_path.specs.declared.path.Step as last
 use Rattle.json_path.specs.declared.path.Step.TheVariants.{Name, Index}
 use Rattle.json_path.specs.declared.slice.Steps.{Steps}
@@ -16,3 +21,11 @@ steps_of (Some (negsuc n)) = Down (suc n)
 abbrev pub step_view : last.Step → Step
 step_view (Name k) = at_key (text k.now)
 step_view (Index i) = at_index i
+
+-- the tree of a value that is compared
+abbrev pub operand_tree : Operand → Tree
+operand_tree (Part v) = view v.now
+operand_tree (Own v) = view v
+
+abbrev pub value_tree : Option (Bor JsonValue) → Option Tree
+value_tree o = option_map (λ v. view v.now) o

@@ -12,9 +12,9 @@ ghost use Rattle.json_path.specs.Paths.{path_text};
 
 use crate::node::{Location, Node};
 use crate::path::path_text;
-use crate::select::{FindError, find};
+use crate::select::find;
 use json_path_query::{ParseError, ParseErrorKind, Query};
-use std::alloc::Global;
+use std::alloc::{AllocError, Global};
 use std::fmt;
 use std::io::{self, ErrorKind, Write};
 use tinyjson::{JsonParseError, JsonValue};
@@ -33,8 +33,6 @@ pub enum Form {
 pub enum PathError {
     /// The query's text is that of no query.
     BadQuery(ParseError),
-    /// The query has a filter, which is not supported.
-    Filter,
     /// The text is no JSON text.
     Refused(JsonParseError),
     /// The query selects no node.
@@ -52,7 +50,7 @@ impl PathError {
     {
         match self {
             PathError::NoNode => 1,
-            PathError::BadQuery(_) | PathError::Filter => 2,
+            PathError::BadQuery(_) => 2,
             PathError::Refused(_) => 3,
             PathError::OutOfMemory | PathError::Writing => 4,
         }
@@ -66,7 +64,6 @@ impl fmt::Display for PathError {
     fn fmt<W: fmt::Write>(&self, f: &mut fmt::Formatter<W>) -> fmt::Result {
         match self {
             PathError::BadQuery(error) => write!(f, "the query: {error}"),
-            PathError::Filter => f.write_str("the query: filters are not supported"),
             PathError::Refused(error) => write!(f, "{error}"),
             PathError::NoNode => f.write_str("the query selects no node"),
             PathError::OutOfMemory => f.write_str("out of memory"),
@@ -148,8 +145,7 @@ fn write_found<W: Write>(
                 Err(error) => Err(writing_error(error)),
             }
         }
-        Err(FindError::Filter) => Err(PathError::Filter),
-        Err(FindError::OutOfMemory) => Err(PathError::OutOfMemory),
+        Err(AllocError) => Err(PathError::OutOfMemory),
     }
 }
 

@@ -11,6 +11,7 @@ ghost use Rattle.std.specs.Prelude.{None};
 mod children;
 mod lines;
 mod node;
+mod operand;
 mod path;
 mod select;
 mod slice;

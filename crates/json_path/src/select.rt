@@ -1,176 +1,143 @@
 //! The nodes that a query selects.
-ghost use Rattle.std.specs.Prelude.{◌≡◌, ◌++◌, reverse, OnOk, IfOk};
+ghost use Rattle.std.specs.Prelude.{◌≡◌, ◌++◌, reverse, OnOk, IfOk, option_map};
 ghost use Rattle.tinyjson.specs.View.{view};
-ghost use Rattle.json_path.specs.Finding.{Finds};
-ghost use Rattle.json_path.specs.Nodes.{path_of, part_view, parts_view, visited};
+ghost use Rattle.json_path.specs.Nodes.{path_of, part_view, parts_view, visited, children};
 ghost use Rattle.json_path.specs.Queries.{query_parts, segment_parts, selector_parts, selected_by};
-ghost use Rattle.json_path.specs.Queries.{has_filter, segment_has_filter, has_some_filter, is_filter};
+ghost use Rattle.json_path.specs.Queries.{found_by, holds_of, kept, comparable_value};
+ghost use Rattle.json_path.specs.Seen.{operand_tree};
 ghost use Rattle.json_path.specs.Selecting.{from_each};
 
 use crate::children::{children, push_children, push_indexed, push_named, push_slice};
 use crate::node::Node;
-use json_path_query::{Query, Segment, Selector};
+use crate::operand::{
+    self, Operand, compare, literal_value, only_value, release, singular_value, start,
+};
+use json_path_query::{Comparable, Expression, FunctionExpression, Query, Segment, Selector};
 use std::alloc::{AllocError, Global};
 use tinyjson::JsonValue;
 
-/// Why no nodes are found.
-#[derive(Clone, Copy, Debug, PartialEq, Eq)]
-pub enum FindError {
-    /// The query has a filter, which this does not evaluate.
-    Filter,
-    /// An allocation failed.
-    OutOfMemory,
-}
-
 /// The nodes that the query selects in the value, in order (RFC 9535, 2.1.2); one that is selected twice
 /// is there twice. The members of an object come in the order of their keys' bytes, which the RFC leaves
-/// open.
+/// open. The only error is out of memory.
+///
+/// It takes stack as expressions and queries stand in each other in the query, and none for the value's depth.
 pub fn find<'v>(
-    query: &Query,
-    alloc: Global,
-    value: &'v JsonValue,
-) -> Result<Vec<Node<'v>>, FindError>
-    ensures { Finds query.now (view value.now) result }
-{
-    if has_filter(query) {
-        return Err(FindError::Filter);
-    }
-    match find_all(query, alloc, value) {
-        Ok(nodes) => Ok(nodes),
-        Err(AllocError) => Err(FindError::OutOfMemory),
-    }
-}
-
-fn has_filter(query: &Query) -> bool
-    ensures { result ≡ has_filter query.now }
-{
-    for segment in &query.segments {
-        if segment_has_filter(segment) {
-            return true;
-        }
-    }
-    false
-}
-
-fn segment_has_filter(segment: &Segment) -> bool
-    ensures { result ≡ segment_has_filter segment.now }
-{
-    match segment {
-        Segment::Child(selectors) => has_some_filter(selectors.as_slice()),
-        Segment::Descendant(selectors) => has_some_filter(selectors.as_slice()),
-    }
-}
-
-fn has_some_filter(selectors: &[Selector]) -> bool
-    ensures { result ≡ has_some_filter selectors.now }
-{
-    for selector in selectors {
-        if is_filter(selector) {
-            return true;
-        }
-    }
-    false
-}
-
-fn is_filter(selector: &Selector) -> bool
-    ensures { result ≡ is_filter selector.now }
-{
-    match selector {
-        Selector::Filter(_) => true,
-        _ => false,
-    }
-}
-
-/// The nodes of a query without a filter.
-fn find_all<'v>(
     query: &Query,
     alloc: Global,
     value: &'v JsonValue,
 ) -> Result<Vec<Node<'v>>, AllocError>
     ensures { IfOk result (λ v. parts_view v.items ≡ query_parts query.now (view value.now)) }
 {
+    find_from(query.segments.as_slice(), alloc, value, value)
+}
+
+/// What the segments select, one after the other, from a value on.
+#[cycle(selecting)]
+fn find_from<'v>(
+    segments: &[Segment],
+    alloc: Global,
+    root: &'v JsonValue,
+    value: &'v JsonValue,
+) -> Result<Vec<Node<'v>>, AllocError>
+    ensures { IfOk result (λ v. parts_view v.items
+        ≡ found_by segments.now (view root.now) (view value.now)) }
+{
     let mut nodes = Vec::new(alloc);
     nodes.push(Node::root(alloc, value)?)?;
-    for segment in &query.segments {
-        nodes = apply(segment, alloc, nodes.as_slice())?;
+    for segment in segments {
+        nodes = apply(segment, alloc, root, nodes.as_slice())?;
     }
     Ok(nodes)
 }
 
 /// What the segment selects from each of the nodes.
+#[cycle(selecting)]
 fn apply<'v>(
     segment: &Segment,
     alloc: Global,
+    root: &'v JsonValue,
     nodes: &[Node<'v>],
 ) -> Result<Vec<Node<'v>>, AllocError>
     ensures { IfOk result (λ v. parts_view v.items
-        ≡ from_each (segment_parts segment.now) (parts_view nodes.now)) }
+        ≡ from_each (segment_parts segment.now (view root.now)) (parts_view nodes.now)) }
 {
     let mut selected = Vec::new(alloc);
     for node in nodes {
-        select_from(segment, alloc, node, &mut selected)?;
+        select_from(segment, alloc, root, node, &mut selected)?;
     }
     Ok(selected)
 }
 
+#[cycle(selecting)]
 fn select_from<'v>(
     segment: &Segment,
     alloc: Global,
+    root: &'v JsonValue,
     node: &Node<'v>,
     selected: &mut Vec<Node<'v>>,
 ) -> Result<(), AllocError>
     ensures { OnOk result (parts_view selected.new.items ≡ parts_view selected.old.items
-        ++ segment_parts segment.now (part_view node.now)) }
+        ++ segment_parts segment.now (view root.now) (part_view node.now)) }
 {
     match segment {
-        Segment::Child(selectors) => { select_each(selectors.as_slice(), alloc, node, selected) }
-        Segment::Descendant(selectors) => { descend(selectors.as_slice(), alloc, node, selected) }
+        Segment::Child(selectors) => {
+            select_each(selectors.as_slice(), alloc, root, node, selected)
+        }
+        Segment::Descendant(selectors) => {
+            descend(selectors.as_slice(), alloc, root, node, selected)
+        }
     }
 }
 
 /// From the node and each of its descendants, which wait on a stack.
+#[cycle(selecting)]
 fn descend<'v>(
     selectors: &[Selector],
     alloc: Global,
+    root: &'v JsonValue,
     node: &Node<'v>,
     selected: &mut Vec<Node<'v>>,
 ) -> Result<(), AllocError>
     ensures { OnOk result (parts_view selected.new.items ≡ parts_view selected.old.items
-        ++ from_each (selected_by selectors.now)
+        ++ from_each (selected_by selectors.now (view root.now))
         (visited (path_of node.now) (view node.now.value.now))) }
 {
     let mut waiting = Vec::new(alloc);
     waiting.push(node.try_clone()?)?;
     while let Some(node) = waiting.pop() {
-        select_each(selectors, alloc, &node, selected)?;
+        select_each(selectors, alloc, root, &node, selected)?;
         push_reversed(children(alloc, &node)?, &mut waiting)?;
     }
     Ok(())
 }
 
+#[cycle(selecting)]
 fn select_each<'v>(
     selectors: &[Selector],
     alloc: Global,
+    root: &'v JsonValue,
     node: &Node<'v>,
     selected: &mut Vec<Node<'v>>,
 ) -> Result<(), AllocError>
     ensures { OnOk result (parts_view selected.new.items ≡ parts_view selected.old.items
-        ++ selected_by selectors.now (part_view node.now)) }
+        ++ selected_by selectors.now (view root.now) (part_view node.now)) }
 {
     for selector in selectors {
-        select(selector, alloc, node, selected)?;
+        select(selector, alloc, root, node, selected)?;
     }
     Ok(())
 }
 
+#[cycle(selecting)]
 fn select<'v>(
     selector: &Selector,
     alloc: Global,
+    root: &'v JsonValue,
     node: &Node<'v>,
     selected: &mut Vec<Node<'v>>,
 ) -> Result<(), AllocError>
     ensures { OnOk result (parts_view selected.new.items ≡ parts_view selected.old.items
-        ++ selector_parts selector.now (part_view node.now)) }
+        ++ selector_parts selector.now (view root.now) (part_view node.now)) }
 {
     match selector {
         Selector::Name(name) => push_named(alloc, node, name.as_str(), selected),
@@ -179,8 +146,106 @@ fn select<'v>(
         Selector::Slice { start, end, step } => {
             push_slice(alloc, node, *start, *end, *step, selected)
         }
-        // `find` has refused it.
-        Selector::Filter(_) => Err(AllocError),
+        Selector::Filter(expression) => push_kept(expression, alloc, root, node, selected),
+    }
+}
+
+/// The children of which the expression holds (RFC 9535, 2.3.5).
+#[cycle(selecting)]
+fn push_kept<'v>(
+    expression: &Expression,
+    alloc: Global,
+    root: &'v JsonValue,
+    node: &Node<'v>,
+    selected: &mut Vec<Node<'v>>,
+) -> Result<(), AllocError>
+    ensures { OnOk result (parts_view selected.new.items ≡ parts_view selected.old.items
+        ++ kept (holds_of expression.now (view root.now))
+        (children (path_of node.now) (view node.now.value.now))) }
+{
+    let children = children(alloc, node)?;
+    for child in children.as_slice() {
+        if holds(expression, alloc, root, child.value)? {
+            selected.push(child.try_clone()?)?;
+        }
+    }
+    Ok(())
+}
+
+/// Whether the expression holds of the value.
+#[cycle(selecting)]
+fn holds<'v>(
+    expression: &Expression,
+    alloc: Global,
+    root: &'v JsonValue,
+    here: &'v JsonValue,
+) -> Result<bool, AllocError>
+    ensures { IfOk result (λ b. b ≡ holds_of expression.now (view root.now) (view here.now)) }
+{
+    match expression {
+        Expression::Or(expressions) => {
+            for choice in expressions {
+                if holds(choice, alloc, root, here)? {
+                    return Ok(true);
+                }
+            }
+            Ok(false)
+        }
+        Expression::And(expressions) => {
+            for condition in expressions {
+                if !holds(condition, alloc, root, here)? {
+                    return Ok(false);
+                }
+            }
+            Ok(true)
+        }
+        Expression::Not(expression) => Ok(!holds(expression, alloc, root, here)?),
+        Expression::Comparison(operator, left, right) => {
+            let left = compared(left, alloc, root, here)?;
+            match compared(right, alloc, root, here) {
+                Ok(right) => Ok(compare(*operator, left, right)),
+                Err(AllocError) => {
+                    release(left);
+                    Err(AllocError)
+                }
+            }
+        }
+        Expression::Test(query) => {
+            let start = start(query.origin, root, here);
+            Ok(!find_from(query.segments.as_slice(), alloc, root, start)?.is_empty())
+        }
+    }
+}
+
+/// The value that is compared, or nothing.
+#[cycle(selecting)]
+fn compared<'v>(
+    comparable: &Comparable,
+    alloc: Global,
+    root: &'v JsonValue,
+    here: &'v JsonValue,
+) -> Result<Option<Operand<'v>>, AllocError>
+    ensures { IfOk result (λ o. option_map operand_tree o
+        ≡ comparable_value comparable.now (view root.now) (view here.now)) }
+{
+    match comparable {
+        Comparable::Literal(literal) => literal_value(alloc, literal),
+        Comparable::SingularQuery(query) => Ok(singular_value(query, root, here)),
+        Comparable::Function(function) => match function {
+            FunctionExpression::Length(argument) => {
+                operand::length(alloc, compared(argument, alloc, root, here)?)
+            }
+            FunctionExpression::Count(query) => {
+                let start = start(query.origin, root, here);
+                let nodes = find_from(query.segments.as_slice(), alloc, root, start)?;
+                operand::count(alloc, nodes.as_slice())
+            }
+            FunctionExpression::Value(query) => {
+                let start = start(query.origin, root, here);
+                let nodes = find_from(query.segments.as_slice(), alloc, root, start)?;
+                Ok(only_value(nodes.as_slice()))
+            }
+        },
     }
 }
 
