@@ -1,6 +1,11 @@
 pub mod Depths
+pub mod Examples
 pub mod Forms
+pub mod Judges
+pub mod Listed
 pub mod Lookups
+pub mod Loops
 pub mod Parts
 pub mod Places
+pub mod Turns
 pub mod Validity

@@ -1,166 +1,232 @@
 -- Values that are valid, and places that are not.
-use Rattle.std.proofs.Common.{◌≡◌, ◌∷◌, ◌++◌, [], ℕ, ◌<◌, ◌+◌, ◌≤◌, Bool, true, false, true≢false, List, Option, Some, None, IsSome}
-use Rattle.std.proofs.Common.{option_map, Ok}
-use Rattle.std.proofs.Common.{Global, Vec, codes, refl, sym, ap, ◌∙◌, subst, arith, length, below_more, zero, suc, get_or}
-use Rattle.std.proofs.lemmas.Option.{slice_get_within}
-use Rattle.std.specs.Prelude.{slice_get, option_and_then}
-use Rattle.tinyjson.proofs.Callers.{Entry, IsRest, rest_next, rest_distinct, rest_ends, entry_from_find, find_entry}
-use Rattle.tinyjson.proofs.Callers.{nth_items_view, value_from_tree, no_object, no_array}
-use Rattle.tinyjson.specs.Access.{JsonMap}
-use Rattle.tinyjson.specs.declared.value.JsonValue.TheVariants as is
-use Rattle.tinyjson.specs.Tree.{Tree, Items, Members, array, object, find}
-use Rattle.tinyjson.specs.View.{view, text, items_view, members_view}
-use Rattle.tinyjson.specs.declared.value.JsonValue.{JsonValue}
+use Rattle.std.proofs.Common.{◌≡◌, ◌∷◌, ◌++◌, [], ℕ, zero, suc, ◌+◌, Bool, true, false, true≢false}
+use Rattle.std.proofs.Common.{not, ◌&&◌, ◌||◌, List, Option, Some, None}
+use Rattle.std.proofs.Common.{IsSome, is_some, cond, bytes_eq, Result, Ok, Err, refl, sym, ap, ◌∙◌, subst, arith}
+use Rattle.std.proofs.lemmas.Bool.{and_parts}
+use Rattle.std.proofs.lemmas.Slice.Eq.{bytes_eq-Decides}
+use Rattle.std.specs.Option.{option_map_or}
+use Rattle.std.specs.Prelude.{option_and_then}
+use Rattle.std.specs.declared.alloc.AllocError.{AllocError}
+use Rattle.tinyjson.specs.Index.{tree_at_key, nth}
+use Rattle.tinyjson.specs.Tree.{Tree, array, object, Items, no_items, item, Members, no_members, member, find}
 use Rattle.json_pointer.specs.Index.{index_of}
 use Rattle.json_pointer.specs.Tokens.{tokens_of}
-use Rattle.json_pointer.specs.Walk.{part_at, item_of}
+use Rattle.json_pointer.specs.Walk.{step, part_at, item_of}
+use Rattle.json_schema.specs.Applied.{Judge, schema_at, schemas_at, schema_map_at, all_accept, branch, branch_accepts, dependents_accept}
+use Rattle.json_schema.specs.Applied.{applies, apply_all, tests, demands, member_accepted, members_accepted, item_accepted, items_accepted}
+use Rattle.json_schema.specs.Applied.{parts_accepted}
 use Rattle.json_schema.specs.Keywords.{meets_all, assertions}
-use Rattle.json_schema.specs.Parts.{member_schema, item_schema}
+use Rattle.json_schema.specs.Names.{name}
+use Rattle.json_schema.specs.Parts.{member_schema, item_schema, part_schema}
 use Rattle.json_schema.specs.Places.{IsAt}
-use Rattle.json_schema.specs.Valid.{refuses_all, Validates, IsValid, valid, IsInvalidAt, refused, unmet, in_part}
+use Rattle.json_schema.specs.Valid.{refuses_all, Validates, Finds, is_valid, accepts_by, IsValid, IsInvalidAt}
+use Rattle.json_schema.specs.Valid.{refused, unmet, not_applied}
+use Rattle.json_schema.specs.Valid.{in_all_of, in_branch, in_dependent, in_part}
+use Rattle.json_schema.specs.declared.keyword.Keyword.{Keyword}
+use Rattle.json_schema.specs.declared.keyword.Keyword.TheVariants as kw
 use Rattle.json_schema.specs.declared.violation.Violation.{Violation}
+use Rattle.json_schema.proofs.Judges.{is_valid_by}
+
+-- ---- what a valid value meets
+
+pub record IsMet (s t : Tree) : Type 0 where
+  pub accepted : refuses_all s ≡ false
+  pub asserted : meets_all assertions s t ≡ true
+  pub tested : apply_all is_valid tests s t ≡ true
+  pub demanded : apply_all is_valid demands s t ≡ true
+  pub parts : parts_accepted is_valid s t ≡ true
+
+not_true : (b : Bool) → not b ≡ true → b ≡ false
+not_true true h = cc
+not_true false h = refl
+
+met : (s t : Tree) → IsValid s t → IsMet s t
+met s t h =
+    let a = and_parts _ _ (sym (is_valid_by s t) ∙ h) in
+    let b = and_parts _ _ a.1 in
+    let c = and_parts _ _ b.1 in
+    let d = and_parts _ _ c.1 in
+    record { accepted = not_true _ a.0; asserted = b.0; tested = c.0; demanded = d.0; parts = d.1 }
+
+pub valid_from : (s t : Tree) → IsMet s t → IsValid s t
+valid_from s t m = is_valid_by s t
+    ∙ (λ i. not (m.accepted i) && (m.asserted i && (m.tested i && (m.demanded i && m.parts i))))
+
+-- each keyword that applies schemas is met
+module _ (s t : Tree) where
+  first_met : (k : Keyword) (ks : List Keyword) → apply_all is_valid (k ∷ ks) s t ≡ true → applies is_valid k s t ≡ true
+  first_met k ks h = (and_parts (applies is_valid k s t) (apply_all is_valid ks s t) h).0
+
+  rest_met : (k : Keyword) (ks : List Keyword) → apply_all is_valid (k ∷ ks) s t ≡ true → apply_all is_valid ks s t ≡ true
+  rest_met k ks h = (and_parts (applies is_valid k s t) (apply_all is_valid ks s t) h).1
+
+abbrev from_names : List Keyword
+from_names = kw.PropertyNames ∷ kw.Contains ∷ []
+
+abbrev from_not : List Keyword
+from_not = kw.Not ∷ from_names
+
+applied : (s t : Tree) (k : Keyword) → IsMet s t → applies is_valid k s t ≡ true
+applied s t kw.AnyOf m = first_met s t kw.AnyOf from_not m.tested
+applied s t kw.Not m = first_met s t kw.Not from_names (rest_met s t kw.AnyOf from_not m.tested)
+applied s t kw.PropertyNames m = first_met s t kw.PropertyNames (kw.Contains ∷ [])
+    (rest_met s t kw.Not from_names (rest_met s t kw.AnyOf from_not m.tested))
+applied s t kw.Contains m = first_met s t kw.Contains [] (rest_met s t kw.PropertyNames (kw.Contains ∷ [])
+    (rest_met s t kw.Not from_names (rest_met s t kw.AnyOf from_not m.tested)))
+applied s t kw.AllOf m = first_met s t kw.AllOf (kw.If ∷ kw.DependentSchemas ∷ []) m.demanded
+applied s t kw.If m = first_met s t kw.If (kw.DependentSchemas ∷ []) (rest_met s t kw.AllOf (kw.If ∷ kw.DependentSchemas ∷ []) m.demanded)
+applied s t kw.DependentSchemas m = first_met s t kw.DependentSchemas []
+    (rest_met s t kw.If (kw.DependentSchemas ∷ []) (rest_met s t kw.AllOf (kw.If ∷ kw.DependentSchemas ∷ []) m.demanded))
+applied s t _ m = refl
+
+module _ (f : Judge) (t : Tree) where
+  one_accepts : (rs : Items) (i : ℕ) (r : Tree) → all_accept f rs t ≡ true → nth rs i ≡ Some r → f r t ≡ true
+  one_accepts no_items i r h e = cc
+  one_accepts (item q rs) zero r h e = let same : q ≡ r = cc in subst (λ x. f x t ≡ true) same (and_parts _ _ h).0
+  one_accepts (item q rs) (suc i) r h e = one_accepts rs i r (and_parts _ _ h).1 e
+
+  named_accepts : (rs : Items) (o : Option ℕ) (r : Tree) → all_accept f rs t ≡ true → item_of rs o ≡ Some r → f r t ≡ true
+  named_accepts rs None r h e = cc
+  named_accepts rs (Some i) r h e = one_accepts rs i r h e
+
+  here_accepts : (k : List ℕ) (q : Tree) → (not (is_some (tree_at_key t k)) || f q t) ≡ true → is_some (tree_at_key t k) ≡ true
+      → f q t ≡ true
+  here_accepts k q h e = sym (ap (λ b. not b || f q t) e) ∙ h
+
+  dependent_accepts : (rs : Members) (k : List ℕ) (r : Tree) → dependents_accept f rs t ≡ true → is_some (tree_at_key t k) ≡ true
+      → find k rs ≡ Some r → f r t ≡ true
+  dependent_accepts no_members k r h e g = cc
+  dependent_accepts (member l q rs) k r h e g = by (bytes_eq k l) refl g (λ g'. dependent_accepts rs k r (and_parts _ _ h).1 e g')
+    where
+      by : (b : Bool) → bytes_eq k l ≡ b → cond b (Some q) (find k rs) ≡ Some r → (find k rs ≡ Some r → f r t ≡ true) → f r t ≡ true
+      by true d g' later =
+          let same : q ≡ r = cc in
+          let key : k ≡ l = (bytes_eq-Decides k l).0 d in
+          subst (λ x. f x t ≡ true) same
+          (here_accepts l q (and_parts _ _ h).0 (subst (λ x. is_some (tree_at_key t x) ≡ true) key e))
+      by false d g' later = later g'
+
+module _ (f : Judge) (s : Tree) where
+  member_accepts : (ms : Members) (k : List ℕ) (u : Tree) → members_accepted f s ms ≡ true → find k ms ≡ Some u
+      → member_accepted f s k u ≡ true
+  member_accepts no_members k u h e = cc
+  member_accepts (member l v ms) k u h e = by (bytes_eq k l) refl e (λ g. member_accepts ms k u (and_parts _ _ h).1 g)
+    where
+      by : (b : Bool) → bytes_eq k l ≡ b → cond b (Some v) (find k ms) ≡ Some u → (find k ms ≡ Some u → member_accepted f s k u ≡ true)
+          → member_accepted f s k u ≡ true
+      by true d g later =
+          let same : v ≡ u = cc in
+          let key : l ≡ k = sym ((bytes_eq-Decides k l).0 d) in
+          subst (λ x. member_accepted f s k x ≡ true) same (subst (λ x. member_accepted f s x v ≡ true) key (and_parts _ _ h).0)
+      by false d g later = later g
+
+  item_accepts : (n : ℕ) (us : Items) (i : ℕ) (u : Tree) → items_accepted f s n us ≡ true → nth us i ≡ Some u
+      → item_accepted f s (n + i) u ≡ true
+  item_accepts n no_items i u h e = cc
+  item_accepts n (item v us) zero u h e =
+      let same : v ≡ u = cc in
+      let first : n ≡ n + 0 = omega arith in
+      subst (λ j. item_accepted f s j u ≡ true) first (subst (λ x. item_accepted f s n x ≡ true) same (and_parts _ _ h).0)
+  item_accepts n (item v us) (suc i) u h e =
+      let next : suc n + i ≡ n + suc i = omega arith in
+      subst (λ j. item_accepted f s j u ≡ true) next (item_accepts (suc n) us i u (and_parts _ _ h).1 e)
+
+  part_accepts : (t : Tree) (k : List ℕ) (r u : Tree) → parts_accepted f s t ≡ true → part_schema s t k ≡ Some r → step t k ≡ Some u
+      → f r u ≡ true
+  part_accepts (object ms) k r u h a b = sym (ap (λ o. option_map_or (λ q. f q u) o true) a) ∙ member_accepts ms k u h b
+  part_accepts (array us) k r u h a b = by (index_of k) a b
+    where
+      by : (o : Option ℕ) → option_and_then (item_schema s) o ≡ Some r → item_of us o ≡ Some u → f r u ≡ true
+      by None a' b' = cc
+      by (Some i) a' b' =
+          let first : 0 + i ≡ i = omega arith in
+          sym (ap (λ o. option_map_or (λ q. f q u) o true) a')
+          ∙ subst (λ j. item_accepted f s j u ≡ true) first (item_accepts 0 us i u h b')
+  part_accepts _ k r u h a b = cc
+
+branch_chosen : (s t c r : Tree) → applies is_valid kw.If s t ≡ true → schema_at s kw.If ≡ Some c
+    → schema_at s (branch (is_valid c t)) ≡ Some r → is_valid r t ≡ true
+branch_chosen s t c r h e g =
+    sym (ap (λ o. option_map_or (λ q. is_valid q t) o true) g)
+    ∙ (sym (ap (λ o. option_map_or (λ q. branch_accepts is_valid s t (is_valid q t)) o true) e) ∙ h)
+
+-- ---- places
 
 pub not_valid : {s t : Tree} {ks js : List (List ℕ)} → IsInvalidAt s t ks js → IsValid s t → ⊥
-not_valid (refused e) (valid r m p) = true≢false (sym e ∙ r)
-not_valid (unmet k e) (valid r m p) = true≢false (sym m ∙ e.1)
-not_valid (in_part ls a b c h) (valid r m p) = not_valid h (p _ _ _ a b)
+not_valid {s} {t} (refused e) v = true≢false (sym e ∙ (met s t v).accepted)
+not_valid {s} {t} (unmet k e) v = true≢false (sym (met s t v).asserted ∙ e.1)
+not_valid {s} {t} (not_applied k e) v = true≢false (sym (applied s t k (met s t v)) ∙ e)
+not_valid {s} {t} (in_all_of {r} {k} e h) v =
+    not_valid h (named_accepts is_valid t (schemas_at s kw.AllOf) (index_of k) r (applied s t kw.AllOf (met s t v)) e)
+not_valid {s} {t} (in_branch {c} {r} e g h) v = not_valid h (branch_chosen s t c r (applied s t kw.If (met s t v)) e g)
+not_valid {s} {t} (in_dependent {r} {k} e g h) v =
+    not_valid h (dependent_accepts is_valid t (schema_map_at s kw.DependentSchemas) k r (applied s t kw.DependentSchemas (met s t v)) e g)
+not_valid {s} {t} (in_part {r} {u} {k} ls a b c h) v = not_valid h (part_accepts is_valid s t k r u (met s t v).parts a b)
 
 pub there : {s t : Tree} {ks js : List (List ℕ)} → IsInvalidAt s t ks js → IsSome (part_at t js)
 there (refused e) = refl
 there (unmet k e) = refl
+there (not_applied k e) = refl
+there (in_all_of e h) = there h
+there (in_branch e g h) = there h
+there (in_dependent e g h) = there h
 there {t} {js = k ∷ js} (in_part {u} ls a b c h) = subst (λ o. IsSome (option_and_then (λ v. part_at v js) o)) (sym b) (there h)
 
--- The schema is not `false`, and the value meets its keywords.
-pub record MeetsOwn (s t : Tree) : Type 0 where
-  pub accepted : refuses_all s ≡ false
-  pub met : meets_all assertions s t ≡ true
+-- ---- results
 
-pub meets_own : (s t : Tree) → refuses_all s ≡ false → meets_all assertions s t ≡ true → MeetsOwn s t
-meets_own s t a m = record { accepted = a; met = m }
-
--- ---- objects
-
-abbrev pub EntryIsValid : Tree → Entry → Type 0
-EntryIsValid s e = (r : Tree) → member_schema s (text e.0) ≡ Some r → IsValid r (view e.1)
-
-abbrev pub EntriesAreValid : Tree → List Entry → Type 0
-EntriesAreValid s [] = Unit {0}
-EntriesAreValid s (e ∷ es) = EntryIsValid s e × EntriesAreValid s es
-
-pub entries_push : (s : Tree) (es : List Entry) (e : Entry) → EntriesAreValid s es → EntryIsValid s e → EntriesAreValid s (es ++ e ∷ [])
-entries_push s [] e h k = (k, tt)
-entries_push s (d ∷ es) e h k = (h.0, entries_push s es e h.1 k)
-
-entry_valid : (s : Tree) (done more : List Entry) (e : Entry) → EntriesAreValid s (done ++ e ∷ more) → EntryIsValid s e
-entry_valid s [] more e h = h.0
-entry_valid s (d ∷ done) more e h = entry_valid s done more e h.1
-
-pub object_valid : (s t : Tree) (es : List Entry) → t ≡ object (members_view es) → MeetsOwn s t → EntriesAreValid s es → IsValid s t
-object_valid s t es is m h = subst (IsValid s) (sym is) (valid m.accepted (subst (λ x. meets_all assertions s x ≡ true) is m.met) parts)
-  where
-    parts : (k : List ℕ) (r u : Tree) → member_schema s k ≡ Some r → find k (members_view es) ≡ Some u → IsValid r u
-    parts k r u a b =
-        let e = entry_from_find es k u b in
-        subst (IsValid r) e.tree (entry_valid s e.done e.more e.entry (subst (EntriesAreValid s) e.split h) r
-        (ap (member_schema s) (sym e.key) ∙ a))
-
-pub member_invalid : (s t r : Tree) (es rest more : List Entry) (e : Entry) (ls ks js : List (List ℕ)) → t ≡ object (members_view es)
-    → IsRest es rest → rest ≡ e ∷ more → member_schema s (text e.0) ≡ Some r → part_at s ls ≡ Some r → IsInvalidAt r (view e.1) ks js
-    → IsInvalidAt s t (ls ++ ks) (text e.0 ∷ js)
-member_invalid s t r es rest more e ls ks js is left f a b h =
-    subst (λ x. IsInvalidAt s x (ls ++ ks) (text e.0 ∷ js)) (sym is)
-    (in_part ls a (ap (λ x. find (text e.0) (members_view x)) (left.split ∙ ap (λ x. left.done ++ x) f)
-    ∙ find_entry left.done more e (rest_distinct es rest more e left f)) b h)
-
--- The entries before the rest are valid.
-pub record AreChecked (s : Tree) (es rest : List Entry) : Type 0 where
-  pub left : IsRest es rest
-  pub checked : EntriesAreValid s left.done
-
-pub one_checked : (s : Tree) (es rest more : List Entry) (e : Entry) → AreChecked s es rest → rest ≡ e ∷ more → EntryIsValid s e
-    → AreChecked s es more
-one_checked s es rest more e c f h = record {
-  left = rest_next es rest more e c.left f;
-  checked = entries_push s c.left.done e c.checked h;
-}
-
-pub all_checked : (s : Tree) (es rest : List Entry) → AreChecked s es rest → rest ≡ [] → EntriesAreValid s es
-all_checked s es rest c e = subst (EntriesAreValid s) (sym (rest_ends es rest c.left e)) c.checked
-
-none_some : (r : Tree) → None ≡ Some r → ⊥
-none_some r h = cc
-
-pub by_schema : (s p : Tree) (e : Entry) → member_schema s (text e.0) ≡ Some p → IsValid p (view e.1) → EntryIsValid s e
-by_schema s p e h g r a = let same : p ≡ r = cc in subst (λ x. IsValid x (view e.1)) same g
-
-pub by_none : (s : Tree) (e : Entry) → member_schema s (text e.0) ≡ None → EntryIsValid s e
-by_none s e h r a = absurd (none_some r (sym h ∙ a))
-
--- ---- arrays
-
-abbrev pub ItemIsValid : Tree → ℕ → JsonValue → Type 0
-ItemIsValid s i v = (r : Tree) → item_schema s i ≡ Some r → IsValid r (view v)
-
-abbrev pub ItemsAreValid : Tree → List JsonValue → ℕ → Type 0
-ItemsAreValid s vs n = (i : ℕ) → i < n → (v : JsonValue) → slice_get vs i ≡ Some v → ItemIsValid s i v
-
-pub item_by_schema : (s p : Tree) (i : ℕ) (v : JsonValue) → item_schema s i ≡ Some p → IsValid p (view v) → ItemIsValid s i v
-item_by_schema s p i v h g r a = let same : p ≡ r = cc in subst (λ x. IsValid x (view v)) same g
-
-pub item_by_none : (s : Tree) (i : ℕ) (v : JsonValue) → item_schema s i ≡ None → ItemIsValid s i v
-item_by_none s i v h r a = absurd (none_some r (sym h ∙ a))
-
-pub at_index : (vs : List JsonValue) (i : ℕ) (x : JsonValue) → i < length vs → x ≡ get_or vs i x → slice_get vs i ≡ Some x
-at_index [] i x h e = absurd (omega arith)
-at_index (v ∷ vs) zero x h e = ap Some (sym e)
-at_index (v ∷ vs) (suc i) x h e = at_index vs i x (omega arith) e
-
-pub items_more : (s : Tree) (vs : List JsonValue) (i : ℕ) (v : JsonValue) → ItemsAreValid s vs i → slice_get vs i ≡ Some v
-    → ItemIsValid s i v → ItemsAreValid s vs (i + 1)
-items_more s vs i v h g k = below_more (λ j. (w : JsonValue) → slice_get vs j ≡ Some w → ItemIsValid s j w) i h
-    (λ w e. let same : v ≡ w = cc in subst (ItemIsValid s i) same k)
-
-pub items_all : (s : Tree) (vs : List JsonValue) (n : ℕ) → ItemsAreValid s vs n → length vs ≤ n → ItemsAreValid s vs (length vs)
-items_all s vs n h g i l = h i (omega arith)
-
-item_named : (vs : List JsonValue) (i : ℕ) (u : Tree) → item_of (items_view vs) (Some i) ≡ Some u
-    → (v : JsonValue) × (slice_get vs i ≡ Some v) × (view v ≡ u)
-item_named vs i u h = let found = value_from_tree (slice_get vs i) u (sym (nth_items_view vs i) ∙ h)
-    in (found.0, found.1, found.2)
-
-pub array_valid : (s t : Tree) (vs : List JsonValue) → t ≡ array (items_view vs) → MeetsOwn s t → ItemsAreValid s vs (length vs)
-    → IsValid s t
-array_valid s t vs is m h = subst (IsValid s) (sym is) (valid m.accepted (subst (λ x. meets_all assertions s x ≡ true) is m.met)
-    (λ k q u b e. parts (index_of k) q u b e))
-  where
-    parts : (o : Option ℕ) (q u : Tree) → option_and_then (item_schema s) o ≡ Some q → item_of (items_view vs) o ≡ Some u → IsValid q u
-    parts None q u b e = absurd (none_some q b)
-    parts (Some i) q u b e =
-        let f = item_named vs i u e in
-        subst (IsValid q) f.2 (h i (slice_get_within vs i f.0 f.1) f.0 f.1 q b)
-
-pub item_invalid : (s t r : Tree) (vs : List JsonValue) (v : JsonValue) (i : ℕ) (k : List ℕ) (ls ks js : List (List ℕ))
-    → t ≡ array (items_view vs) → item_schema s i ≡ Some r → part_at s ls ≡ Some r → index_of k ≡ Some i → slice_get vs i ≡ Some v
-    → IsInvalidAt r (view v) ks js → IsInvalidAt s t (ls ++ ks) (k ∷ js)
-item_invalid s t r vs v i k ls ks js is a b n g h =
-    subst (λ x. IsInvalidAt s x (ls ++ ks) (k ∷ js)) (sym is)
-    (in_part ls (ap (option_and_then (item_schema s)) n ∙ a) (ap (item_of (items_view vs)) n
-    ∙ (nth_items_view vs i ∙ ap (option_map view) g)) b h)
-
--- ---- values with no parts that a schema speaks of
-
-pub leaf_valid : (s : Tree) (v : JsonValue) → MeetsOwn s (view v) → ((m : JsonMap) → v ≡ is.Object m → ⊥)
-    → ((l : Vec JsonValue Global) → v ≡ is.Array l → ⊥) → IsValid s (view v)
-leaf_valid s v m other_object other_array = by (view v) (no_object v other_object) (no_array v other_array) m
-  where
-    by : (t : Tree) → ((ms : Members) → t ≡ object ms → ⊥) → ((ts : Items) → t ≡ array ts → ⊥) → MeetsOwn s t → IsValid s t
-    by (object ms) n o h = absurd (n ms refl)
-    by (array ts) n o h = absurd (o ts refl)
-    by _ n o h = valid h.accepted h.met (λ k r u a b. absurd (none_some r a))
-
--- a result with its reasons
+-- a violation with its reasons
 pub reported : (s t : Tree) (v : Violation) (ks js : List (List ℕ)) → IsAt ks js v → IsInvalidAt s t ks js → Validates s t (Ok (Some v))
 reported s t v ks js at h =
     let moved : IsInvalidAt s t (tokens_of v.keyword_location) (tokens_of v.instance_location)
     = subst (λ x. IsInvalidAt s t (tokens_of v.keyword_location) x) (sym at.1) (subst (λ x. IsInvalidAt s t x js) (sym at.0) h) in
     (moved, there moved, not_valid moved)
+
+-- a violation that was found of the whole
+pub found : (is : Bool) (s t : Tree) (v : Violation) → Finds is s t (Ok (Some v)) → Validates s t (Ok (Some v))
+found is s t v h = (h, there h, not_valid h)
+
+-- the same at its tokens
+pub placed : (is : Bool) (s t : Tree) (v : Violation) (ks js : List (List ℕ)) → IsAt ks js v → IsInvalidAt s t ks js
+    → Finds is s t (Ok (Some v))
+placed is s t v ks js at h =
+    subst (λ x. IsInvalidAt s t (tokens_of v.keyword_location) x) (sym at.1) (subst (λ x. IsInvalidAt s t x js) (sym at.0) h)
+
+-- of a valid value nothing is found, and of another something
+pub verdict : (s t : Tree) (o : Option Violation) → Validates s t (Ok o) → not (is_some o) ≡ is_valid s t
+verdict s t None h = sym h
+verdict s t (Some v) h = by (is_valid s t) h.2
+  where
+    by : (b : Bool) → ¬ (b ≡ true) → false ≡ b
+    by true n = absurd (n refl)
+    by false n = refl
+
+-- the last step of the check
+pub last_found : (s t : Tree) (x : Result (Option Violation) AllocError) → refuses_all s ≡ false → meets_all assertions s t ≡ true
+    → apply_all is_valid tests s t ≡ true → applies is_valid kw.AllOf s t ≡ true → applies is_valid kw.If s t ≡ true
+    → applies is_valid kw.DependentSchemas s t ≡ true → Finds (parts_accepted is_valid s t) s t x → Validates s t x
+last_found s t (Ok None) a b c d e f h = valid_from s t (record {
+  accepted = a;
+  asserted = b;
+  tested = c;
+  demanded = λ i. d i && (e i && (f i && true));
+  parts = h;
+})
+last_found s t (Ok (Some v)) a b c d e f h = found (parts_accepted is_valid s t) s t v h
+last_found s t (Err x) a b c d e f h = tt
+
+-- ---- the schema that `if` chooses
+
+module _ (s t c : Tree) (k : Keyword) (test : Some c ≡ schema_at s kw.If) (chosen : k ≡ branch (is_valid c t)) where
+  by_branch : branch_accepts is_valid s t (is_valid c t) ≡ true → applies is_valid kw.If s t ≡ true
+  by_branch h = ap (λ o. option_map_or (λ r. branch_accepts is_valid s t (is_valid r t)) o true) (sym test) ∙ h
+
+  pub no_branch : None ≡ schema_at s k → applies is_valid kw.If s t ≡ true
+  no_branch h = by_branch (ap (λ o. option_map_or (λ r. is_valid r t) o true) (ap (schema_at s) (sym chosen) ∙ sym h))
+
+  pub branch_met : (r : Tree) → Some r ≡ schema_at s k → is_valid r t ≡ true → applies is_valid kw.If s t ≡ true
+  branch_met r h v = by_branch (ap (λ o. option_map_or (λ r. is_valid r t) o true) (ap (schema_at s) (sym chosen) ∙ sym h) ∙ v)
+
+  pub branch_place : (r : Tree) (ks js : List (List ℕ)) → Some r ≡ schema_at s k → IsInvalidAt r t ks js
+      → IsInvalidAt s t (name k ∷ ks) js
+  branch_place r ks js h v = subst (λ x. IsInvalidAt s t (name x ∷ ks) js) (sym chosen)
+      (in_branch (sym test) (ap (schema_at s) (sym chosen) ∙ sym h) v)

@@ -1,3 +1,4 @@
+pub mod Applied
 pub mod Forms
 pub mod Keywords
 pub mod Names

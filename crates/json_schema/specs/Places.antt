@@ -34,6 +34,15 @@ IsAt ks js v = (tokens_of v.keyword_location ≡ ks) × (tokens_of v.instance_lo
 abbrev pub IsUnder : List ℕ → Violation → Violation → Type 0
 IsUnder k old new = IsAt (k ∷ tokens_of old.keyword_location) (tokens_of old.instance_location) new
 
+-- The place in the schema has the keyword and a key in front, or a token of an index.
+abbrev pub IsUnderKey : Keyword → List ℕ → Violation → Violation → Type 0
+IsUnderKey a k old new = IsAt (name a ∷ k ∷ tokens_of old.keyword_location) (tokens_of old.instance_location) new
+
+pub record IsUnderIndex (a : Keyword) (i : ℕ) (old new : Violation) : Type 0 where
+  pub token : List ℕ
+  pub named : index_of token ≡ Some i
+  pub entered : IsUnderKey a token old new
+
 -- Both places begin one level further up: in the schema with the place that the applicator has for l, in the value with k.
 abbrev pub Enters : Keyword → List ℕ → List ℕ → Violation → Violation → Type 0
 Enters a l k old new = IsAt (place a l ++ tokens_of old.keyword_location) (k ∷ tokens_of old.instance_location) new

@@ -54,23 +54,14 @@ fn form_of(keyword: Keyword) -> Form
         | Keyword::ContentMediaType
         | Keyword::Title
         | Keyword::Description => Form::Text,
-        Keyword::Defs | Keyword::Properties => Form::SchemaMap,
+        Keyword::Defs | Keyword::Properties | Keyword::DependentSchemas => Form::SchemaMap,
         Keyword::Ref
         | Keyword::Anchor
         | Keyword::DynamicRef
         | Keyword::DynamicAnchor
         | Keyword::Vocabulary
-        | Keyword::AllOf
-        | Keyword::AnyOf
         | Keyword::OneOf
-        | Keyword::Not
-        | Keyword::If
-        | Keyword::Then
-        | Keyword::Else
-        | Keyword::DependentSchemas
-        | Keyword::Contains
         | Keyword::PatternProperties
-        | Keyword::PropertyNames
         | Keyword::UnevaluatedItems
         | Keyword::UnevaluatedProperties
         | Keyword::MultipleOf
@@ -78,8 +69,16 @@ fn form_of(keyword: Keyword) -> Form
         | Keyword::UniqueItems
         | Keyword::MaxContains
         | Keyword::MinContains => Form::Refused,
-        Keyword::PrefixItems => Form::Schemas,
-        Keyword::Items | Keyword::AdditionalProperties | Keyword::ContentSchema => Form::Schema,
+        Keyword::PrefixItems | Keyword::AllOf | Keyword::AnyOf => Form::Schemas,
+        Keyword::Not
+        | Keyword::If
+        | Keyword::Then
+        | Keyword::Else
+        | Keyword::Items
+        | Keyword::Contains
+        | Keyword::AdditionalProperties
+        | Keyword::PropertyNames
+        | Keyword::ContentSchema => Form::Schema,
         Keyword::Type => Form::Types,
         Keyword::Enum | Keyword::Examples => Form::List,
         Keyword::Const | Keyword::Default => Form::Anything,

@@ -7,6 +7,7 @@
 //! and 4 where memory, a read or a write failed.
 #![tactic(auto)]
 
+mod applied;
 mod assertions;
 mod failure;
 mod form;

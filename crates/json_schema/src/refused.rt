@@ -188,7 +188,7 @@ fn is_type_list(names: &[JsonValue]) -> bool
     are_type_names(names)
 }
 
-fn is_some_item(items: &[JsonValue]) -> bool
+pub fn is_some_item(items: &[JsonValue]) -> bool
     ensures { result ≡ is_some_item (items_view items.now) }
 {
     !items.is_empty()

@@ -1,22 +1,35 @@
 //! What a value does not meet of a schema.
-ghost use Rattle.std.specs.Prelude.{◌≡◌};
-ghost use Rattle.tinyjson.specs.View.{view};
-ghost use Rattle.json_schema.specs.Valid.{refuses_all, Validates};
+ghost use Rattle.std.specs.Prelude.{◌≡◌, IfOk, not, is_some};
+ghost use Rattle.tinyjson.specs.Tree.{array, object};
+ghost use Rattle.tinyjson.specs.View.{view, items_view, members_listed};
+ghost use Rattle.tinyjson_grammar.specs.Soundness.{IsSorted};
+ghost use Rattle.json_schema.specs.Applied.{any_of, some_accepts, applies};
+ghost use Rattle.json_schema.specs.Applied.{keys_pass, some_passes, tests};
+ghost use Rattle.json_schema.specs.Applied.{all_accept, dependents_accept, members_accepted};
+ghost use Rattle.json_schema.specs.Applied.{items_accepted, parts_accepted, schemas_at};
+ghost use Rattle.json_schema.specs.Valid.{refuses_all, is_valid, Validates, Finds, IsUnapplied};
+ghost use Rattle.json_schema.specs.declared.keyword.Keyword.TheVariants as kw;
 
+use crate::applied::{
+    branch, has_key, listed_members, name_of, schema_at, schema_map_at, schemas_at,
+};
 use crate::assertions::unmet;
+use crate::keyword::Keyword;
 use crate::part::{item_part, member_part};
+use crate::refused::is_some_item;
 use crate::violation::Violation;
 use std::alloc::{AllocError, Global};
-use tinyjson::JsonValue;
+use tinyjson::{JsonValue, sorted_members};
 
 /// What the value does not meet of the schema, if there is something; `None` says that the value is valid.
 /// The only error is out of memory.
 ///
-/// It calls itself once for each container around a part, so it takes stack as the value is deep.
+/// It calls itself for each schema that the schema applies, so it takes stack as the schema is deep.
 ///
 /// ```
 /// let violation = find_violation(&value, &schema, alloc)?;
 /// ```
+#[cycle(validate)]
 pub fn find_violation(
     value: &JsonValue,
     schema: &JsonValue,
@@ -30,31 +43,19 @@ pub fn find_violation(
     if let Some(keyword) = unmet(schema, value, alloc)? {
         return Ok(Some(Violation::of_keyword(alloc, keyword)?));
     }
-    match value {
-        JsonValue::Object(members) => {
-            for (key, member) in members {
-                if let Some(part) = member_part(schema, key.as_str()) {
-                    if let Some(mut found) = find_violation(member, part.schema, alloc)? {
-                        found.enter_member(alloc, part.applicator, key.as_str())?;
-                        return Ok(Some(found));
-                    }
-                }
-            }
-            Ok(None)
-        }
-        JsonValue::Array(items) => {
-            for (index, item) in items.iter().enumerate() {
-                if let Some(part) = item_part(schema, index) {
-                    if let Some(mut found) = find_violation(item, part.schema, alloc)? {
-                        found.enter_item(alloc, part.applicator, index)?;
-                        return Ok(Some(found));
-                    }
-                }
-            }
-            Ok(None)
-        }
-        _ => Ok(None),
+    if let Some(keyword) = unmet_test(value, schema, alloc)? {
+        return Ok(Some(Violation::of_keyword(alloc, keyword)?));
     }
+    if let Some(found) = in_all_of(value, schema, alloc)? {
+        return Ok(Some(found));
+    }
+    if let Some(found) = in_branch(value, schema, alloc)? {
+        return Ok(Some(found));
+    }
+    if let Some(found) = in_dependents(value, schema, alloc)? {
+        return Ok(Some(found));
+    }
+    in_parts(value, schema, alloc)
 }
 
 /// Whether it is the schema `false`.
@@ -65,4 +66,293 @@ fn refuses_all(schema: &JsonValue) -> bool
         JsonValue::Boolean(accepts) => !*accepts,
         _ => false,
     }
+}
+
+/// Whether the schema accepts the value.
+#[cycle(validate)]
+fn is_accepted(value: &JsonValue, schema: &JsonValue, alloc: Global) -> Result<bool, AllocError>
+    ensures { IfOk result (λ is. is ≡ is_valid (view schema.now) (view value.now)) }
+{
+    let found = find_violation(value, schema, alloc)?;
+    Ok(is_nothing(&found))
+}
+
+fn is_nothing(found: &Option<Violation>) -> bool
+    ensures { result ≡ not (is_some found.now) }
+{
+    match found {
+        Some(_) => false,
+        None => true,
+    }
+}
+
+/// A keyword that the value does not meet by what the schemas in it say of the value, or of what is in it.
+#[cycle(validate)]
+fn unmet_test(
+    value: &JsonValue,
+    schema: &JsonValue,
+    alloc: Global,
+) -> Result<Option<Keyword>, AllocError>
+    ensures { IfOk result
+        (λ found. IsUnapplied tests (view schema.now) (view value.now) found) }
+{
+    let any = is_any_met(value, schemas_at(schema, Keyword::AnyOf), alloc)?;
+    if !any {
+        return Ok(Some(Keyword::AnyOf));
+    }
+    let other = is_not_met(value, schema, alloc)?;
+    if !other {
+        return Ok(Some(Keyword::Not));
+    }
+    let names = are_names_met(value, schema, alloc)?;
+    if !names {
+        return Ok(Some(Keyword::PropertyNames));
+    }
+    let contains = is_found(value, schema, alloc)?;
+    if !contains {
+        return Ok(Some(Keyword::Contains));
+    }
+    Ok(None)
+}
+
+/// Whether some schema of the list accepts the value, or there is none in it.
+#[cycle(validate)]
+fn is_any_met(value: &JsonValue, schemas: &[JsonValue], alloc: Global) -> Result<bool, AllocError>
+    ensures { IfOk result
+        (λ is. is ≡ any_of is_valid (items_view schemas.now) (view value.now)) }
+{
+    if !is_some_item(schemas) {
+        return Ok(true);
+    }
+    let accepted = is_some_met(value, schemas, alloc)?;
+    Ok(accepted)
+}
+
+#[cycle(validate)]
+fn is_some_met(value: &JsonValue, schemas: &[JsonValue], alloc: Global) -> Result<bool, AllocError>
+    ensures { IfOk result
+        (λ is. is ≡ some_accepts is_valid (items_view schemas.now) (view value.now)) }
+{
+    for schema in schemas {
+        let accepted = is_accepted(value, schema, alloc)?;
+        if accepted {
+            return Ok(true);
+        }
+    }
+    Ok(false)
+}
+
+/// Whether the schema of `not` does not accept the value.
+#[cycle(validate)]
+fn is_not_met(value: &JsonValue, schema: &JsonValue, alloc: Global) -> Result<bool, AllocError>
+    ensures { IfOk result
+        (λ is. is ≡ applies is_valid kw.Not (view schema.now) (view value.now)) }
+{
+    match schema_at(schema, Keyword::Not) {
+        Some(part) => {
+            let accepted = is_accepted(value, part, alloc)?;
+            Ok(!accepted)
+        }
+        None => Ok(true),
+    }
+}
+
+/// Whether the schema of `propertyNames` accepts each key.
+#[cycle(validate)]
+fn are_names_met(value: &JsonValue, schema: &JsonValue, alloc: Global) -> Result<bool, AllocError>
+    ensures { IfOk result
+        (λ is. is ≡ applies is_valid kw.PropertyNames (view schema.now) (view value.now)) }
+{
+    match schema_at(schema, Keyword::PropertyNames) {
+        Some(part) => {
+            let members = listed_members(value, alloc)?;
+            let accepted = are_keys_met(members.as_slice(), part, alloc)?;
+            Ok(accepted)
+        }
+        None => Ok(true),
+    }
+}
+
+#[cycle(validate)]
+fn are_keys_met(
+    members: &[(&String, &JsonValue)],
+    schema: &JsonValue,
+    alloc: Global,
+) -> Result<bool, AllocError>
+    ensures { IfOk result
+        (λ is. is ≡ keys_pass (is_valid (view schema.now)) (members_listed members.now)) }
+{
+    for (key, _) in members {
+        let name = name_of(key, alloc)?;
+        let accepted = is_accepted(&name, schema, alloc)?;
+        if !accepted {
+            return Ok(false);
+        }
+    }
+    Ok(true)
+}
+
+/// Whether the schema of `contains` accepts an item of an array.
+#[cycle(validate)]
+fn is_found(value: &JsonValue, schema: &JsonValue, alloc: Global) -> Result<bool, AllocError>
+    ensures { IfOk result
+        (λ is. is ≡ applies is_valid kw.Contains (view schema.now) (view value.now)) }
+{
+    let Some(part) = schema_at(schema, Keyword::Contains) else {
+        return Ok(true);
+    };
+    match value {
+        JsonValue::Array(items) => {
+            let accepted = is_some_item_met(items.as_slice(), part, alloc)?;
+            Ok(accepted)
+        }
+        _ => Ok(true),
+    }
+}
+
+#[cycle(validate)]
+fn is_some_item_met(
+    items: &[JsonValue],
+    schema: &JsonValue,
+    alloc: Global,
+) -> Result<bool, AllocError>
+    ensures { IfOk result
+        (λ is. is ≡ some_passes (is_valid (view schema.now)) (items_view items.now)) }
+{
+    for item in items {
+        let accepted = is_accepted(item, schema, alloc)?;
+        if accepted {
+            return Ok(true);
+        }
+    }
+    Ok(false)
+}
+
+/// What the value does not meet of a schema of `allOf`.
+#[cycle(validate)]
+fn in_all_of(
+    value: &JsonValue,
+    schema: &JsonValue,
+    alloc: Global,
+) -> Result<Option<Violation>, AllocError>
+    ensures { Finds (applies is_valid kw.AllOf (view schema.now) (view value.now))
+        (view schema.now) (view value.now) result }
+{
+    let parts = schemas_at(schema, Keyword::AllOf);
+    for (index, part) in parts.iter().enumerate() {
+        if let Some(mut found) = find_violation(value, part, alloc)? {
+            found.enter_listed(alloc, Keyword::AllOf, index)?;
+            return Ok(Some(found));
+        }
+    }
+    Ok(None)
+}
+
+/// What the value does not meet of the schema that `if` chooses.
+#[cycle(validate)]
+fn in_branch(
+    value: &JsonValue,
+    schema: &JsonValue,
+    alloc: Global,
+) -> Result<Option<Violation>, AllocError>
+    ensures { Finds (applies is_valid kw.If (view schema.now) (view value.now))
+        (view schema.now) (view value.now) result }
+{
+    let Some(test) = schema_at(schema, Keyword::If) else {
+        return Ok(None);
+    };
+    let accepted = is_accepted(value, test, alloc)?;
+    let chosen = branch(accepted);
+    let Some(part) = schema_at(schema, chosen) else {
+        return Ok(None);
+    };
+    let Some(mut found) = find_violation(value, part, alloc)? else {
+        return Ok(None);
+    };
+    found.enter_keyword(alloc, chosen)?;
+    Ok(Some(found))
+}
+
+/// What the value does not meet of a schema of `dependentSchemas` whose key it has.
+#[cycle(validate)]
+fn in_dependents(
+    value: &JsonValue,
+    schema: &JsonValue,
+    alloc: Global,
+) -> Result<Option<Violation>, AllocError>
+    ensures { Finds (applies is_valid kw.DependentSchemas (view schema.now) (view value.now))
+        (view schema.now) (view value.now) result }
+{
+    let listed = schema_map_at(schema, Keyword::DependentSchemas, alloc)?;
+    let dependents = listed.as_slice();
+    for (key, part) in dependents {
+        if has_key(value, key.as_str()) {
+            if let Some(mut found) = find_violation(value, part, alloc)? {
+                found.enter_keyed(alloc, Keyword::DependentSchemas, key.as_str())?;
+                return Ok(Some(found));
+            }
+        }
+    }
+    Ok(None)
+}
+
+/// What a member or an item does not meet of the schema that there is for it.
+#[cycle(validate)]
+fn in_parts(
+    value: &JsonValue,
+    schema: &JsonValue,
+    alloc: Global,
+) -> Result<Option<Violation>, AllocError>
+    ensures { Finds (parts_accepted is_valid (view schema.now) (view value.now))
+        (view schema.now) (view value.now) result }
+{
+    match value {
+        JsonValue::Object(members) => {
+            let sorted = sorted_members(alloc, members)?;
+            in_members(sorted.as_slice(), schema, alloc)
+        }
+        JsonValue::Array(items) => in_items(items.as_slice(), schema, alloc),
+        _ => Ok(None),
+    }
+}
+
+#[cycle(validate)]
+fn in_members(
+    members: &[(&String, &JsonValue)],
+    schema: &JsonValue,
+    alloc: Global,
+) -> Result<Option<Violation>, AllocError>
+    requires { IsSorted (members_listed members.now) }
+    ensures { Finds (members_accepted is_valid (view schema.now) (members_listed members.now))
+        (view schema.now) (object (members_listed members.now)) result }
+{
+    for (key, member) in members {
+        if let Some(part) = member_part(schema, key.as_str()) {
+            if let Some(mut found) = find_violation(member, part.schema, alloc)? {
+                found.enter_member(alloc, part.applicator, key.as_str())?;
+                return Ok(Some(found));
+            }
+        }
+    }
+    Ok(None)
+}
+
+#[cycle(validate)]
+fn in_items(
+    items: &[JsonValue],
+    schema: &JsonValue,
+    alloc: Global,
+) -> Result<Option<Violation>, AllocError>
+    ensures { Finds (items_accepted is_valid (view schema.now) 0 (items_view items.now))
+        (view schema.now) (array (items_view items.now)) result }
+{
+    for (index, item) in items.iter().enumerate() {
+        if let Some(part) = item_part(schema, index) {
+            if let Some(mut found) = find_violation(item, part.schema, alloc)? {
+                found.enter_item(alloc, part.applicator, index)?;
+                return Ok(Some(found));
+            }
+        }
+    }
+    Ok(None)
 }

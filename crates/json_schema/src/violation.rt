@@ -4,7 +4,8 @@ ghost use Rattle.std.specs.Str.{chars};
 ghost use Rattle.json_pointer.specs.Tokens.{tokens_of};
 ghost use Rattle.json_schema.specs.Names.{name};
 ghost use Rattle.json_schema.specs.Parts.{is_by_part};
-ghost use Rattle.json_schema.specs.Places.{IsAt, IsUnder, Enters, EntersItem};
+ghost use Rattle.json_schema.specs.Places.{IsAt, IsUnder, IsUnderKey, IsUnderIndex};
+ghost use Rattle.json_schema.specs.Places.{Enters, EntersItem};
 
 use crate::keyword::Keyword;
 use json_pointer::Pointer;
@@ -39,6 +40,42 @@ impl Violation {
         Ok(violation)
     }
 
+    /// Makes what was found of a schema one of the schema that has it as the keyword's value.
+    pub fn enter_keyword(&mut self, alloc: Global, keyword: Keyword) -> Result<(), AllocError>
+        ensures { OnOk result (IsUnder (name keyword) self.old self.new) }
+    {
+        self.put_under(alloc, keyword.name())?;
+        Ok(())
+    }
+
+    /// The same of a schema in the keyword's list.
+    pub fn enter_listed(
+        &mut self,
+        alloc: Global,
+        keyword: Keyword,
+        index: usize,
+    ) -> Result<(), AllocError>
+        ensures { OnOk result (IsUnderIndex keyword index self.old self.new) }
+    {
+        self.keyword_location.prepend_index(alloc, index)?;
+        self.enter_keyword(alloc, keyword)?;
+        Ok(())
+    }
+
+    /// The same of a schema that the keyword has at a key.
+    pub fn enter_keyed(
+        &mut self,
+        alloc: Global,
+        keyword: Keyword,
+        key: &str,
+    ) -> Result<(), AllocError>
+        ensures { OnOk result (IsUnderKey keyword (chars key.now) self.old self.new) }
+    {
+        self.put_under(alloc, key)?;
+        self.enter_keyword(alloc, keyword)?;
+        Ok(())
+    }
+
     /// Puts a token before those of the place in the schema.
     fn put_under(&mut self, alloc: Global, token: &str) -> Result<(), AllocError>
         ensures { OnOk result (IsUnder (chars token.now) self.old self.new) }
@@ -56,7 +93,8 @@ impl Violation {
         applicator: Keyword,
         key: &str,
     ) -> Result<(), AllocError>
-        ensures { OnOk result (Enters applicator (chars key.now) (chars key.now) self.old self.new) }
+        ensures { OnOk result
+            (Enters applicator (chars key.now) (chars key.now) self.old self.new) }
     {
         let token = String::from_str(alloc, key)?;
         self.instance_location.prepend(token)?;

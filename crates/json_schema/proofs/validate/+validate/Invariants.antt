@@ -1,0 +1,84 @@
+use Rattle.std.proofs.Common.{◌≡◌, ◌+◌, ◌*◌, drop}
+use Rattle.tinyjson.specs.Tree.{tree_depth}
+use Rattle.tinyjson.specs.View.{view, items_view, members_listed}
+use Rattle.json_schema.specs.Applied.{all_accept, some_accepts, keys_pass, some_passes, dependents_accept, members_accepted}
+use Rattle.json_schema.specs.Applied.{items_accepted}
+use Rattle.json_schema.specs.Valid.{is_valid}
+use Rattle.json_schema.proofs.Depths.{list_size}
+use Rattle.json_schema.proofs.validate.+validate.Given as goal
+
+abbrev pub decreases-find_violation : goal.decreases-find_violation
+decreases-find_violation l = 8 * tree_depth (view l.schema.now) + 7
+
+abbrev pub decreases-is_accepted : goal.decreases-is_accepted
+decreases-is_accepted l = 8 * tree_depth (view l.schema.now) + 8
+
+abbrev pub decreases-unmet_test : goal.decreases-unmet_test
+decreases-unmet_test l = 8 * tree_depth (view l.schema.now) + 6
+
+abbrev pub decreases-is_any_met : goal.decreases-is_any_met
+decreases-is_any_met l = 8 * list_size (items_view l.schemas.now) + 5
+
+abbrev pub decreases-is_not_met : goal.decreases-is_not_met
+decreases-is_not_met l = 8 * tree_depth (view l.schema.now) + 5
+
+abbrev pub decreases-are_names_met : goal.decreases-are_names_met
+decreases-are_names_met l = 8 * tree_depth (view l.schema.now) + 5
+
+abbrev pub decreases-are_keys_met : goal.decreases-are_keys_met
+decreases-are_keys_met l = 8 * tree_depth (view l.schema.now) + 9
+
+abbrev pub decreases-is_some_met : goal.decreases-is_some_met
+decreases-is_some_met l = 8 * list_size (items_view l.schemas.now) + 4
+
+abbrev pub decreases-is_found : goal.decreases-is_found
+decreases-is_found l = 8 * tree_depth (view l.schema.now) + 5
+
+abbrev pub decreases-is_some_item_met : goal.decreases-is_some_item_met
+decreases-is_some_item_met l = 8 * tree_depth (view l.schema.now) + 9
+
+abbrev pub decreases-in_all_of : goal.decreases-in_all_of
+decreases-in_all_of l = 8 * tree_depth (view l.schema.now) + 5
+
+abbrev pub decreases-in_branch : goal.decreases-in_branch
+decreases-in_branch l = 8 * tree_depth (view l.schema.now) + 5
+
+abbrev pub decreases-in_dependents : goal.decreases-in_dependents
+decreases-in_dependents l = 8 * tree_depth (view l.schema.now) + 5
+
+abbrev pub decreases-in_parts : goal.decreases-in_parts
+decreases-in_parts l = 8 * tree_depth (view l.schema.now) + 5
+
+abbrev pub decreases-in_members : goal.decreases-in_members
+decreases-in_members l = 8 * tree_depth (view l.schema.now) + 4
+
+abbrev pub decreases-in_items : goal.decreases-in_items
+decreases-in_items l = 8 * tree_depth (view l.schema.now) + 4
+
+abbrev pub invariant-is_some_met-loop-schema : goal.invariant-is_some_met-loop-schema
+invariant-is_some_met-loop-schema l = some_accepts is_valid (items_view (drop l.schema-index l.schemas)) (view l.value)
+    ≡ some_accepts is_valid (items_view l.schemas) (view l.value)
+
+abbrev pub invariant-are_keys_met-loop-key : goal.invariant-are_keys_met-loop-key
+invariant-are_keys_met-loop-key l = keys_pass (is_valid (view l.schema)) (members_listed (drop l.key-index l.members))
+    ≡ keys_pass (is_valid (view l.schema)) (members_listed l.members)
+
+abbrev pub invariant-is_some_item_met-loop-item : goal.invariant-is_some_item_met-loop-item
+invariant-is_some_item_met-loop-item l = some_passes (is_valid (view l.schema)) (items_view (drop l.item-index l.items))
+    ≡ some_passes (is_valid (view l.schema)) (items_view l.items)
+
+abbrev pub invariant-in_all_of-loop-index : goal.invariant-in_all_of-loop-index
+invariant-in_all_of-loop-index l = all_accept is_valid (items_view (drop l.index l.parts)) (view l.value)
+    ≡ all_accept is_valid (items_view l.parts) (view l.value)
+
+abbrev pub invariant-in_dependents-loop-key : goal.invariant-in_dependents-loop-key
+invariant-in_dependents-loop-key l = dependents_accept is_valid (members_listed (drop l.key-index l.dependents)) (view l.value)
+    ≡ dependents_accept is_valid (members_listed l.dependents) (view l.value)
+
+abbrev pub invariant-in_members-loop-key : goal.invariant-in_members-loop-key
+invariant-in_members-loop-key l = members_accepted is_valid (view l.schema) (members_listed (drop l.key-index l.members))
+    ≡ members_accepted is_valid (view l.schema) (members_listed l.members)
+
+abbrev pub invariant-in_items-loop-index : goal.invariant-in_items-loop-index
+invariant-in_items-loop-index l = items_accepted is_valid (view l.schema) l.index (items_view (drop l.index l.items))
+    ≡ items_accepted is_valid (view l.schema) 0 (items_view l.items)

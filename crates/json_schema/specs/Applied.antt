@@ -1,0 +1,115 @@
+-- The keywords that apply schemas, by what those schemas say of values (JSON Schema 2020-12, Core, section 10).
+-- A keyword that is missing says nothing; nor does a list or an object of schemas that is empty, or has another form.
+use Rattle.std.specs.Prelude.{◌≡◌, ℕ, suc, Bool, true, false, not, ◌&&◌, ◌||◌, List}
+use Rattle.std.specs.Prelude.{[], ◌∷◌, Option, Some, None, cond, is_some}
+use Rattle.std.specs.Prelude.{option_and_then}
+use Rattle.std.specs.Option.{option_map_or}
+use Rattle.tinyjson.specs.Index.{tree_at_key}
+use Rattle.tinyjson.specs.Tree.{Tree, string, array, object, Items, no_items, item, Members, no_members, member}
+use Rattle.json_schema.specs.Forms.{is_some_item}
+use Rattle.json_schema.specs.Names.{name}
+use Rattle.json_schema.specs.Parts.{member_schema, item_schema}
+use Rattle.json_schema.specs.declared.keyword.Keyword.{Keyword}
+use Rattle.json_schema.specs.declared.keyword.Keyword.TheVariants as kw
+
+-- what each schema, the first tree, says of each value
+abbrev pub Judge : Type 0
+Judge = Tree → Tree → Bool
+
+abbrev pub schema_at : Tree → Keyword → Option Tree
+schema_at s k = tree_at_key s (name k)
+
+abbrev pub items_in : Tree → Items
+items_in (array ts) = ts
+items_in _ = no_items
+
+abbrev pub members_in : Tree → Members
+members_in (object ms) = ms
+members_in _ = no_members
+
+abbrev pub schemas_at : Tree → Keyword → Items
+schemas_at s k = option_map_or items_in (schema_at s k) no_items
+
+abbrev pub schema_map_at : Tree → Keyword → Members
+schema_map_at s k = option_map_or members_in (schema_at s k) no_members
+
+-- each of the schemas accepts the value, or some does
+abbrev pub all_accept : Judge → Items → Tree → Bool
+all_accept f no_items t = true
+all_accept f (item r rs) t = f r t && all_accept f rs t
+
+abbrev pub some_accepts : Judge → Items → Tree → Bool
+some_accepts f no_items t = false
+some_accepts f (item r rs) t = f r t || some_accepts f rs t
+
+abbrev pub any_of : Judge → Items → Tree → Bool
+any_of f rs t = not (is_some_item rs) || some_accepts f rs t
+
+-- what a test says of each key of an object
+abbrev pub keys_pass : (Tree → Bool) → Members → Bool
+keys_pass p no_members = true
+keys_pass p (member k u ms) = p (string k) && keys_pass p ms
+
+abbrev pub some_passes : (Tree → Bool) → Items → Bool
+some_passes p no_items = false
+some_passes p (item u us) = p u || some_passes p us
+
+-- some item passes a test, of an array
+abbrev pub item_passes : (Tree → Bool) → Tree → Bool
+item_passes p (array us) = some_passes p us
+item_passes p _ = true
+
+-- what `if` says chooses the keyword
+abbrev pub branch : Bool → Keyword
+branch accepted = cond accepted kw.Then kw.Else
+
+abbrev pub branch_accepts : Judge → Tree → Tree → Bool → Bool
+branch_accepts f s t accepted = option_map_or (λ r. f r t) (schema_at s (branch accepted)) true
+
+-- where a key is there, the schema that depends on it accepts the value
+abbrev pub dependents_accept : Judge → Members → Tree → Bool
+dependents_accept f no_members t = true
+dependents_accept f (member k r rs) t = (not (is_some (tree_at_key t k)) || f r t) && dependents_accept f rs t
+
+-- The value t meets the keyword of the schema s.
+abbrev pub applies : Judge → Keyword → Tree → Tree → Bool
+applies f kw.AllOf s t = all_accept f (schemas_at s kw.AllOf) t  -- 10.2.1.1
+applies f kw.AnyOf s t = any_of f (schemas_at s kw.AnyOf) t  -- 10.2.1.2
+applies f kw.Not s t = option_map_or (λ r. not (f r t)) (schema_at s kw.Not) true  -- 10.2.1.4
+applies f kw.If s t = option_map_or (λ r. branch_accepts f s t (f r t)) (schema_at s kw.If) true  -- 10.2.2.1 to 10.2.2.3
+applies f kw.DependentSchemas s t = dependents_accept f (schema_map_at s kw.DependentSchemas) t  -- 10.2.2.4
+applies f kw.Contains s t = option_map_or (λ r. item_passes (f r) t) (schema_at s kw.Contains) true  -- 10.3.1.3
+applies f kw.PropertyNames s t = option_map_or (λ r. keys_pass (f r) (members_in t)) (schema_at s kw.PropertyNames) true  -- 10.3.2.4
+applies f _ s t = true
+
+abbrev pub apply_all : Judge → List Keyword → Tree → Tree → Bool
+apply_all f [] s t = true
+apply_all f (k ∷ ks) s t = applies f k s t && apply_all f ks s t
+
+-- those that say only whether the value is accepted, and those that say where it is not
+abbrev pub tests : List Keyword
+tests = kw.AnyOf ∷ kw.Not ∷ kw.PropertyNames ∷ kw.Contains ∷ []
+
+abbrev pub demands : List Keyword
+demands = kw.AllOf ∷ kw.If ∷ kw.DependentSchemas ∷ []
+
+-- each member and each item is accepted by the schema that there is for it
+abbrev pub member_accepted : Judge → Tree → List ℕ → Tree → Bool
+member_accepted f s k u = option_map_or (λ r. f r u) (member_schema s k) true
+
+abbrev pub members_accepted : Judge → Tree → Members → Bool
+members_accepted f s no_members = true
+members_accepted f s (member k u ms) = member_accepted f s k u && members_accepted f s ms
+
+abbrev pub item_accepted : Judge → Tree → ℕ → Tree → Bool
+item_accepted f s i u = option_map_or (λ r. f r u) (item_schema s i) true
+
+-- of items of which the first has the index i
+abbrev pub items_accepted : Judge → Tree → ℕ → Items → Bool
+items_accepted f s i no_items = true
+items_accepted f s i (item u us) = item_accepted f s i u && items_accepted f s (suc i) us
+
+abbrev pub parts_accepted : Judge → Tree → Tree → Bool
+parts_accepted f s (object ms) = members_accepted f s ms
+parts_accepted f s (array us) = items_accepted f s 0 us
+parts_accepted f s _ = true
