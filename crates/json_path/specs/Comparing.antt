@@ -1,5 +1,6 @@
 -- What filters compare (RFC 9535, 2.3.5.2.2), and what their functions yield (2.4): a value, or nothing.
-use Rattle.std.specs.Prelude.{ℕ, suc, pos, Bool, true, false, ◌||◌, not, List, [], ◌∷◌, length, Option, Some, None, option_and_then, option_map}
+use Rattle.std.specs.Prelude.{ℕ, suc, pos, Bool, true, false, ◌||◌, not}
+use Rattle.std.specs.Prelude.{List, [], ◌∷◌, length, Option, Some, None, option_and_then, option_map}
 use Rattle.std.specs.Ordering.{is_lt}
 use Rattle.json_order.specs.Order.{is_less}
 use Rattle.tinyjson.specs.Equality.{tree_eq}

@@ -26,7 +26,8 @@ Puts holds is (at_value ms k ∷ os) t e = holds e (at_key (put k t ms) ∷ os)
 
 -- What a text of these characters returns that is told to events: they are of its tree, or the error that a new parser returns,
 -- unless memory ran out.
-pub record TellsText {E : Type 0} (is : E → Tree → Type 0) (limit : Option ℕ) (xs : List ℕ) (result : Result E JsonParseError) : Type 0 where
+pub record TellsText {E : Type 0} (is : E → Tree → Type 0) (limit : Option ℕ) (xs : List ℕ) (result : Result E JsonParseError)
+    : Type 0 where
   pub consumed : List ℕ
   pub rest : List ℕ
   pub whole : xs ≡ consumed ++ rest
