@@ -1,5 +1,6 @@
 //! The children of a node that a name, an index or a slice selects, and all of them.
-ghost use Rattle.std.specs.Prelude.{◌≡◌, ◌++◌, reverse, OnOk, IfOk, option_map, MatchOption, None, Some};
+ghost use Rattle.std.specs.Prelude.{◌≡◌, ◌++◌, reverse, OnOk, IfOk};
+ghost use Rattle.std.specs.Prelude.{option_map, MatchOption, None, Some};
 ghost use Rattle.std.specs.Str.{chars};
 ghost use Rattle.tinyjson.specs.Index.{tree_at, tree_at_key};
 ghost use Rattle.tinyjson.specs.View.{view, text, items_view, members_listed};
@@ -206,7 +207,8 @@ fn push_up<'v>(
     nodes: &mut Vec<Node<'v>>,
 ) -> Result<(), AllocError>
     ensures { OnOk result (parts_view nodes.new.items ≡ parts_view nodes.old.items
-        ++ taken (is_up bounds.low bounds.high bounds.step) (path_of node.now) 0 (items_view items.now)) }
+        ++ taken (is_up bounds.low bounds.high bounds.step) (path_of node.now) 0
+        (items_view items.now)) }
 {
     for (index, item) in items.iter().enumerate() {
         if is_up(bounds, index) {
@@ -225,7 +227,8 @@ fn push_down<'v>(
     nodes: &mut Vec<Node<'v>>,
 ) -> Result<(), AllocError>
     ensures { OnOk result (parts_view nodes.new.items ≡ parts_view nodes.old.items
-        ++ reverse (taken (is_down bounds.low bounds.high bounds.step) (path_of node.now) 0 (items_view items.now))) }
+        ++ reverse (taken (is_down bounds.low bounds.high bounds.step) (path_of node.now) 0
+        (items_view items.now))) }
 {
     let mut index = items.len();
     while index > 0 {

@@ -7,7 +7,7 @@ use Rattle.json_path_query.specs.declared.error.ParseErrorKind.TheVariants.{Inva
 
 -- the message of a kind
 abbrev pub kind_message : ParseErrorKind → List ℕ
-kind_message Invalid = codes "no query of RFC 9535"
+kind_message Invalid = codes "no query of RFC 9535 without comparisons and functions"
 kind_message TooDeep = codes "more than 64 logical expressions in each other"
 kind_message OutOfMemory = codes "out of memory"
 

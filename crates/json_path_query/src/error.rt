@@ -10,7 +10,7 @@ use std::fmt;
 /// Why a text is refused.
 #[derive(Clone, Copy, Debug, PartialEq, Eq)]
 pub enum ParseErrorKind {
-    /// The text is no query of RFC 9535.
+    /// The text is no query of RFC 9535, of which comparisons and functions are left out.
     Invalid,
     /// More than 64 logical expressions stand in each other.
     TooDeep,
@@ -23,7 +23,7 @@ impl fmt::Display for ParseErrorKind {
 
     fn fmt<W: fmt::Write>(&self, f: &mut fmt::Formatter<W>) -> fmt::Result {
         f.write_str(match self {
-            ParseErrorKind::Invalid => "no query of RFC 9535",
+            ParseErrorKind::Invalid => "no query of RFC 9535 without comparisons and functions",
             ParseErrorKind::TooDeep => "more than 64 logical expressions in each other",
             ParseErrorKind::OutOfMemory => "out of memory",
         })
@@ -36,7 +36,7 @@ impl fmt::Display for ParseErrorKind {
 /// if let Err(error) = Query::parse(alloc, "$.a[01]") {
 ///     assert_eq!(rt; error.place, 5);
 ///     let words = error.to_string(alloc)?;
-///     assert_eq!(rt; words.as_str(), "no query of RFC 9535 at character 5");
+///     assert_eq!(rt; words.as_str(), "no query of RFC 9535 without comparisons and functions at character 5");
 /// }
 /// ```
 #[derive(Clone, Copy, Debug, PartialEq, Eq)]

@@ -1,7 +1,8 @@
 use Rattle.std.proofs.Common.{◌≡◌, ◌++◌, length, map, drop}
 use Rattle.tinyjson.specs.View.{view}
 use Rattle.json_path.specs.Nodes.{path_of, part_view, parts_view, visited, children}
-use Rattle.json_path.specs.Queries.{one_by_one, found_by, union, segment_parts, selector_parts, selected_by, holds_of, kept, some_hold, all_hold}
+use Rattle.json_path.specs.Queries.{one_by_one, found_by, union, segment_parts, selector_parts, selected_by}
+use Rattle.json_path.specs.Queries.{holds_of, kept, some_hold, all_hold}
 use Rattle.json_path.specs.Selecting.{from_each}
 use Rattle.json_path.proofs.Parts.{left}
 use Rattle.json_path.proofs.select.+selecting.Given as goal
