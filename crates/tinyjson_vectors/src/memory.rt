@@ -50,9 +50,12 @@ fn consumed(text: &str, error: &JsonParseError) -> usize {
     text.chars().count()
 }
 
-/// Whether the results are equal values, or errors of one kind.
+/// Whether the results are equal values, or errors of one kind, if memory was refused to neither.
 fn are_alike(one: JsonParseResult, other: JsonParseResult) -> bool {
-    one.map_err(|e| e.kind()) == other.map_err(|e| e.kind())
+    match (one.map_err(|e| e.kind()), other.map_err(|e| e.kind())) {
+        (Err(Kind::OutOfMemory), _) | (_, Err(Kind::OutOfMemory)) => true,
+        (one, other) => one == other,
+    }
 }
 
 /// Whether a check returned this, but for the value.
