@@ -1,5 +1,6 @@
 -- What a schema says is by what the schemas in it say.
-use Rattle.std.proofs.Common.{◌≡◌, ◌∷◌, [], ℕ, zero, suc, ◌<◌, ◌≤◌, Bool, true, false, not, ◌&&◌, ◌||◌, List, Option, Some, None}
+use Rattle.std.proofs.Common.{◌≡◌, ◌∷◌, [], ℕ, zero, suc, ◌<◌, ◌≤◌, ◌+◌, ◌==◌, Bool, true, false, not, ◌&&◌, ◌||◌, List, Option}
+use Rattle.std.proofs.Common.{Some, None}
 use Rattle.std.proofs.Common.{cond, is_some, codes, refl, sym, ap, ◌∙◌, arith}
 use Rattle.std.specs.Option.{option_map_or}
 use Rattle.std.specs.Prelude.{option_and_then}
@@ -8,7 +9,7 @@ use Rattle.tinyjson.specs.Index.{tree_at, tree_at_key, nth}
 use Rattle.tinyjson.specs.Tree.{Tree, string, array, object, Items, no_items, item, Members, no_members, member}
 use Rattle.tinyjson.specs.Tree.{tree_depth, items_depth, members_depth}
 use Rattle.json_schema.specs.Applied.{Judge, schema_at, schemas_at, schema_map_at, items_in, members_in}
-use Rattle.json_schema.specs.Applied.{all_accept, some_accepts, any_of, keys_pass, item_passes}
+use Rattle.json_schema.specs.Applied.{all_accept, some_accepts, any_of, accepting, one_of, keys_pass, item_passes}
 use Rattle.json_schema.specs.Applied.{branch, branch_accepts, dependents_accept}
 use Rattle.json_schema.specs.Applied.{apply_all, tests, demands, member_accepted, members_accepted, item_accepted, items_accepted}
 use Rattle.json_schema.specs.Applied.{parts_accepted}
@@ -99,6 +100,10 @@ module _ (f g : Judge) (n : ℕ) (same : Agree n f g) where
   some_agree no_items t d = refl
   some_agree (item r rs) t d = λ i. same r t (omega (arith, d)) i || some_agree rs t (omega (arith, d)) i
 
+  accepting_agree : (rs : Items) (t : Tree) → items_depth rs < n → accepting f rs t ≡ accepting g rs t
+  accepting_agree no_items t d = refl
+  accepting_agree (item r rs) t d = λ i. cond (same r t (omega (arith, d)) i) 1 0 + accepting_agree rs t (omega (arith, d)) i
+
   dependents_agree : (rs : Members) (t : Tree) → members_depth rs < n → dependents_accept f rs t ≡ dependents_accept g rs t
   dependents_agree no_members t d = refl
   dependents_agree (member k r rs) t d =
@@ -111,6 +116,10 @@ module _ (f g : Judge) (s : Tree) (same : Agree (tree_depth s) f g) where
   any_agree : (t : Tree) → any_of f (schemas_at s kw.AnyOf) t ≡ any_of g (schemas_at s kw.AnyOf) t
   any_agree t = on_schemas (λ rs. any_of f rs t ≡ any_of g rs t) s kw.AnyOf refl
       (λ rs d. ap (λ b. not (is_some_item rs) || b) (some_agree f g (tree_depth s) same rs t d))
+
+  one_agree : (t : Tree) → one_of f (schemas_at s kw.OneOf) t ≡ one_of g (schemas_at s kw.OneOf) t
+  one_agree t = on_schemas (λ rs. one_of f rs t ≡ one_of g rs t) s kw.OneOf refl
+      (λ rs d. ap (λ n. not (is_some_item rs) || n == 1) (accepting_agree f g (tree_depth s) same rs t d))
 
   not_agree : (t : Tree) → option_map_or (λ r. not (f r t)) (schema_at s kw.Not) true
       ≡ option_map_or (λ r. not (g r t)) (schema_at s kw.Not) true
@@ -128,7 +137,7 @@ module _ (f g : Judge) (s : Tree) (same : Agree (tree_depth s) f g) where
       (λ r e. ap (λ p. item_passes p t) (λ i u. in_key kw.Contains r u e i))
 
   tests_agree : (t : Tree) → apply_all f tests s t ≡ apply_all g tests s t
-  tests_agree t = λ i. any_agree t i && (not_agree t i && (names_agree t i && (contains_agrees t i && true)))
+  tests_agree t = λ i. any_agree t i && (one_agree t i && (not_agree t i && (names_agree t i && (contains_agrees t i && true))))
 
   all_of_agree : (t : Tree) → all_accept f (schemas_at s kw.AllOf) t ≡ all_accept g (schemas_at s kw.AllOf) t
   all_of_agree t = on_schemas (λ rs. all_accept f rs t ≡ all_accept g rs t) s kw.AllOf refl

@@ -66,13 +66,24 @@ from_names = kw.PropertyNames ∷ kw.Contains ∷ []
 abbrev from_not : List Keyword
 from_not = kw.Not ∷ from_names
 
+abbrev from_one_of : List Keyword
+from_one_of = kw.OneOf ∷ from_not
+
+after_any_of : (s t : Tree) → IsMet s t → apply_all is_valid from_one_of s t ≡ true
+after_any_of s t m = rest_met s t kw.AnyOf from_one_of m.tested
+
+after_one_of : (s t : Tree) → IsMet s t → apply_all is_valid from_not s t ≡ true
+after_one_of s t m = rest_met s t kw.OneOf from_not (after_any_of s t m)
+
+after_not : (s t : Tree) → IsMet s t → apply_all is_valid from_names s t ≡ true
+after_not s t m = rest_met s t kw.Not from_names (after_one_of s t m)
+
 applied : (s t : Tree) (k : Keyword) → IsMet s t → applies is_valid k s t ≡ true
-applied s t kw.AnyOf m = first_met s t kw.AnyOf from_not m.tested
-applied s t kw.Not m = first_met s t kw.Not from_names (rest_met s t kw.AnyOf from_not m.tested)
-applied s t kw.PropertyNames m = first_met s t kw.PropertyNames (kw.Contains ∷ [])
-    (rest_met s t kw.Not from_names (rest_met s t kw.AnyOf from_not m.tested))
-applied s t kw.Contains m = first_met s t kw.Contains [] (rest_met s t kw.PropertyNames (kw.Contains ∷ [])
-    (rest_met s t kw.Not from_names (rest_met s t kw.AnyOf from_not m.tested)))
+applied s t kw.AnyOf m = first_met s t kw.AnyOf from_one_of m.tested
+applied s t kw.OneOf m = first_met s t kw.OneOf from_not (after_any_of s t m)
+applied s t kw.Not m = first_met s t kw.Not from_names (after_one_of s t m)
+applied s t kw.PropertyNames m = first_met s t kw.PropertyNames (kw.Contains ∷ []) (after_not s t m)
+applied s t kw.Contains m = first_met s t kw.Contains [] (rest_met s t kw.PropertyNames (kw.Contains ∷ []) (after_not s t m))
 applied s t kw.AllOf m = first_met s t kw.AllOf (kw.If ∷ kw.DependentSchemas ∷ []) m.demanded
 applied s t kw.If m = first_met s t kw.If (kw.DependentSchemas ∷ []) (rest_met s t kw.AllOf (kw.If ∷ kw.DependentSchemas ∷ []) m.demanded)
 applied s t kw.DependentSchemas m = first_met s t kw.DependentSchemas []

@@ -1,6 +1,6 @@
 -- The keywords that apply schemas, by what those schemas say of values (JSON Schema 2020-12, Core, section 10).
 -- A keyword that is missing says nothing; nor does a list or an object of schemas that is empty, or has another form.
-use Rattle.std.specs.Prelude.{◌≡◌, ℕ, suc, Bool, true, false, not, ◌&&◌, ◌||◌, List}
+use Rattle.std.specs.Prelude.{◌≡◌, ℕ, suc, ◌+◌, ◌==◌, Bool, true, false, not, ◌&&◌, ◌||◌, List}
 use Rattle.std.specs.Prelude.{[], ◌∷◌, Option, Some, None, cond, is_some}
 use Rattle.std.specs.Prelude.{option_and_then}
 use Rattle.std.specs.Option.{option_map_or}
@@ -45,6 +45,14 @@ some_accepts f (item r rs) t = f r t || some_accepts f rs t
 abbrev pub any_of : Judge → Items → Tree → Bool
 any_of f rs t = not (is_some_item rs) || some_accepts f rs t
 
+-- how many of the schemas accept the value
+abbrev pub accepting : Judge → Items → Tree → ℕ
+accepting f no_items t = 0
+accepting f (item r rs) t = cond (f r t) 1 0 + accepting f rs t
+
+abbrev pub one_of : Judge → Items → Tree → Bool
+one_of f rs t = not (is_some_item rs) || accepting f rs t == 1
+
 -- what a test says of each key of an object
 abbrev pub keys_pass : (Tree → Bool) → Members → Bool
 keys_pass p no_members = true
@@ -75,6 +83,7 @@ dependents_accept f (member k r rs) t = (not (is_some (tree_at_key t k)) || f r 
 abbrev pub applies : Judge → Keyword → Tree → Tree → Bool
 applies f kw.AllOf s t = all_accept f (schemas_at s kw.AllOf) t  -- 10.2.1.1
 applies f kw.AnyOf s t = any_of f (schemas_at s kw.AnyOf) t  -- 10.2.1.2
+applies f kw.OneOf s t = one_of f (schemas_at s kw.OneOf) t  -- 10.2.1.3
 applies f kw.Not s t = option_map_or (λ r. not (f r t)) (schema_at s kw.Not) true  -- 10.2.1.4
 applies f kw.If s t = option_map_or (λ r. branch_accepts f s t (f r t)) (schema_at s kw.If) true  -- 10.2.2.1 to 10.2.2.3
 applies f kw.DependentSchemas s t = dependents_accept f (schema_map_at s kw.DependentSchemas) t  -- 10.2.2.4
@@ -88,7 +97,7 @@ apply_all f (k ∷ ks) s t = applies f k s t && apply_all f ks s t
 
 -- those that say only whether the value is accepted, and those that say where it is not
 abbrev pub tests : List Keyword
-tests = kw.AnyOf ∷ kw.Not ∷ kw.PropertyNames ∷ kw.Contains ∷ []
+tests = kw.AnyOf ∷ kw.OneOf ∷ kw.Not ∷ kw.PropertyNames ∷ kw.Contains ∷ []
 
 abbrev pub demands : List Keyword
 demands = kw.AllOf ∷ kw.If ∷ kw.DependentSchemas ∷ []

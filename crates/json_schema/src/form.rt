@@ -60,7 +60,6 @@ fn form_of(keyword: Keyword) -> Form
         | Keyword::DynamicRef
         | Keyword::DynamicAnchor
         | Keyword::Vocabulary
-        | Keyword::OneOf
         | Keyword::PatternProperties
         | Keyword::UnevaluatedItems
         | Keyword::UnevaluatedProperties
@@ -69,7 +68,7 @@ fn form_of(keyword: Keyword) -> Form
         | Keyword::UniqueItems
         | Keyword::MaxContains
         | Keyword::MinContains => Form::Refused,
-        Keyword::PrefixItems | Keyword::AllOf | Keyword::AnyOf => Form::Schemas,
+        Keyword::PrefixItems | Keyword::AllOf | Keyword::AnyOf | Keyword::OneOf => Form::Schemas,
         Keyword::Not
         | Keyword::If
         | Keyword::Then

@@ -3,7 +3,7 @@ ghost use Rattle.std.specs.Prelude.{◌≡◌, IfOk, not, is_some};
 ghost use Rattle.tinyjson.specs.Tree.{array, object};
 ghost use Rattle.tinyjson.specs.View.{view, items_view, members_listed};
 ghost use Rattle.tinyjson_grammar.specs.Soundness.{IsSorted};
-ghost use Rattle.json_schema.specs.Applied.{any_of, some_accepts, applies};
+ghost use Rattle.json_schema.specs.Applied.{any_of, some_accepts, one_of, accepting, applies};
 ghost use Rattle.json_schema.specs.Applied.{keys_pass, some_passes, tests};
 ghost use Rattle.json_schema.specs.Applied.{all_accept, dependents_accept, members_accepted};
 ghost use Rattle.json_schema.specs.Applied.{items_accepted, parts_accepted, schemas_at};
@@ -100,6 +100,10 @@ fn unmet_test(
     if !any {
         return Ok(Some(Keyword::AnyOf));
     }
+    let one = is_one_met(value, schemas_at(schema, Keyword::OneOf), alloc)?;
+    if !one {
+        return Ok(Some(Keyword::OneOf));
+    }
     let other = is_not_met(value, schema, alloc)?;
     if !other {
         return Ok(Some(Keyword::Not));
@@ -140,6 +144,39 @@ fn is_some_met(value: &JsonValue, schemas: &[JsonValue], alloc: Global) -> Resul
         }
     }
     Ok(false)
+}
+
+/// Whether exactly one schema of the list accepts the value, or there is none in it.
+#[cycle(validate)]
+fn is_one_met(value: &JsonValue, schemas: &[JsonValue], alloc: Global) -> Result<bool, AllocError>
+    ensures { IfOk result
+        (λ is. is ≡ one_of is_valid (items_view schemas.now) (view value.now)) }
+{
+    if !is_some_item(schemas) {
+        return Ok(true);
+    }
+    let count = count_accepting(value, schemas, alloc)?;
+    Ok(count == 1)
+}
+
+/// How many schemas of the list accept the value.
+#[cycle(validate)]
+fn count_accepting(
+    value: &JsonValue,
+    schemas: &[JsonValue],
+    alloc: Global,
+) -> Result<usize, AllocError>
+    ensures { IfOk result
+        (λ count. count ≡ accepting is_valid (items_view schemas.now) (view value.now)) }
+{
+    let mut count = 0;
+    for schema in schemas {
+        let accepted = is_accepted(value, schema, alloc)?;
+        if accepted {
+            count += 1;
+        }
+    }
+    Ok(count)
 }
 
 /// Whether the schema of `not` does not accept the value.

@@ -13,7 +13,7 @@ use Rattle.json_pointer.specs.Index.{index_of}
 use Rattle.json_pointer.specs.Tokens.{tokens_of}
 use Rattle.json_pointer.specs.Walk.{item_of}
 use Rattle.json_schema.specs.Applied.{schemas_at, schema_map_at, all_accept, dependents_accept, members_accepted, items_accepted}
-use Rattle.json_schema.specs.Applied.{applies, parts_accepted, tests, any_of, branch, branch_accepts}
+use Rattle.json_schema.specs.Applied.{applies, parts_accepted, tests, any_of, one_of, branch, branch_accepts}
 use Rattle.json_schema.specs.Keywords.{IsUnmet}
 use Rattle.json_schema.specs.Names.{name}
 use Rattle.json_schema.specs.Parts.{item_schema}
@@ -48,6 +48,22 @@ unmet_test-is_any_met-requires t c =
     let vs = c.schemas_at.result.now in
     let same : list_size (items_view vs) ≡ list_size (schemas_at s kw.AnyOf) = ap list_size c.schemas_at.ensures in
     let smaller : 8 * list_size (items_view vs) + 5 < 8 * tree_depth s + 6 = omega (arith, same, schemas_less_deep s kw.AnyOf) in
+    search rules
+
+pub unmet_test-is_one_met-requires : goal.unmet_test-is_one_met-requires
+unmet_test-is_one_met-requires t c =
+    let s = view c.args.schema.now in
+    let vs = c.schemas_at-2.result.now in
+    let same : list_size (items_view vs) ≡ list_size (schemas_at s kw.OneOf) = ap list_size c.schemas_at-2.ensures in
+    let smaller : 8 * list_size (items_view vs) + 5 < 8 * tree_depth s + 6 = omega (arith, same, schemas_less_deep s kw.OneOf) in
+    search rules
+
+pub count_accepting-is_accepted-requires : goal.count_accepting-is_accepted-requires
+count_accepting-is_accepted-requires t c =
+    let vs = c.args.schemas.now in
+    let x = c.schema-item.result in
+    let smaller : 8 * tree_depth (view x) + 8 < 8 * list_size (items_view vs) + 4
+    = omega (arith, below_list_size vs c.loop-schema.schema-index x c.loop-schema-test.true c.schema-item.is) in
     search rules
 
 pub is_not_met-is_accepted-requires : goal.is_not_met-is_accepted-requires
@@ -198,10 +214,12 @@ unmet_test-returns t c =
     let v = view c.args.value.now in
     let any : applies is_valid kw.AnyOf s v ≡ true
     = sym (c.in_ok-any.ensures ∙ ap (λ rs. any_of is_valid rs v) c.schemas_at.ensures) ∙ c.if-not-any.false in
+    let one : applies is_valid kw.OneOf s v ≡ true
+    = sym (c.in_ok-one.ensures ∙ ap (λ rs. one_of is_valid rs v) c.schemas_at-2.ensures) ∙ c.if-not-one.false in
     let other : applies is_valid kw.Not s v ≡ true = sym c.in_ok-other.ensures ∙ c.if-not-other.false in
     let names : applies is_valid kw.PropertyNames s v ≡ true = sym c.in_ok-names.ensures ∙ c.if-not-names.false in
     let contains : applies is_valid kw.Contains s v ≡ true = sym c.in_ok-contains.ensures ∙ c.if-not-contains.false in
-    λ i. any i && (other i && (names i && (contains i && true)))
+    λ i. any i && (one i && (other i && (names i && (contains i && true))))
 
 -- ---- where a schema in this one is not met
 

@@ -1,8 +1,8 @@
-use Rattle.std.proofs.Common.{◌≡◌, ◌+◌, ◌*◌, drop}
+use Rattle.std.proofs.Common.{◌≡◌, ◌+◌, ◌*◌, ◌≤◌, drop}
 use Rattle.tinyjson.specs.Tree.{tree_depth}
 use Rattle.tinyjson.specs.View.{view, items_view, members_listed}
-use Rattle.json_schema.specs.Applied.{all_accept, some_accepts, keys_pass, some_passes, dependents_accept, members_accepted}
-use Rattle.json_schema.specs.Applied.{items_accepted}
+use Rattle.json_schema.specs.Applied.{all_accept, some_accepts, accepting, keys_pass, some_passes, dependents_accept}
+use Rattle.json_schema.specs.Applied.{members_accepted, items_accepted}
 use Rattle.json_schema.specs.Valid.{is_valid}
 use Rattle.json_schema.proofs.Depths.{list_size}
 use Rattle.json_schema.proofs.validate.+validate.Given as goal
@@ -18,6 +18,12 @@ decreases-unmet_test l = 8 * tree_depth (view l.schema.now) + 6
 
 abbrev pub decreases-is_any_met : goal.decreases-is_any_met
 decreases-is_any_met l = 8 * list_size (items_view l.schemas.now) + 5
+
+abbrev pub decreases-is_one_met : goal.decreases-is_one_met
+decreases-is_one_met l = 8 * list_size (items_view l.schemas.now) + 5
+
+abbrev pub decreases-count_accepting : goal.decreases-count_accepting
+decreases-count_accepting l = 8 * list_size (items_view l.schemas.now) + 4
 
 abbrev pub decreases-is_not_met : goal.decreases-is_not_met
 decreases-is_not_met l = 8 * tree_depth (view l.schema.now) + 5
@@ -58,6 +64,11 @@ decreases-in_items l = 8 * tree_depth (view l.schema.now) + 4
 abbrev pub invariant-is_some_met-loop-schema : goal.invariant-is_some_met-loop-schema
 invariant-is_some_met-loop-schema l = some_accepts is_valid (items_view (drop l.schema-index l.schemas)) (view l.value)
     ≡ some_accepts is_valid (items_view l.schemas) (view l.value)
+
+abbrev pub invariant-count_accepting-loop-schema : goal.invariant-count_accepting-loop-schema
+invariant-count_accepting-loop-schema l = (l.count ≤ l.schema-index)
+    × (l.count + accepting is_valid (items_view (drop l.schema-index l.schemas)) (view l.value)
+    ≡ accepting is_valid (items_view l.schemas) (view l.value))
 
 abbrev pub invariant-are_keys_met-loop-key : goal.invariant-are_keys_met-loop-key
 invariant-are_keys_met-loop-key l = keys_pass (is_valid (view l.schema)) (members_listed (drop l.key-index l.members))
