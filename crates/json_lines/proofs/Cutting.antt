@@ -4,7 +4,8 @@ use Rattle.std.proofs.Common.{subst, append_assoc}
 use Rattle.std.specs.Str.{chars}
 use Rattle.tinyjson.specs.Characters.{line_feed}
 use Rattle.tinyjson_grammar.proofs.Callers.Laws.{only_tree}
-use Rattle.json_lines.specs.Lines.{lines, onto_first, content, normal_line, Fate, HasFate, HaveFates, output_of, outputs_of}
+use Rattle.json_line.specs.Line.{line_of}
+use Rattle.json_lines.specs.Lines.{lines, onto_first, content, Fate, HasFate, HaveFates, output_of, outputs_of}
 use Rattle.json_lines.specs.Shares.{ended, LinesOfShares, OutputOfShares}
 use Rattle.json_lines.specs.declared.refusal.Cause.TheVariants.{NotUtf8, NotJson}
 
@@ -40,7 +41,7 @@ lines_of_shares (x ∷ xs) ys = shares_by (x == line_feed) x (lines (ended xs ++
 
 -- whatever a line gives, one thing is written for it
 one_output : (limit : Option ℕ) (line : List ℕ) (f g : Fate) → HasFate limit line f → HasFate limit line g → output_of f ≡ output_of g
-one_output limit line (Ok t) (Ok u) h k = ap normal_line (only_tree limit (chars (content line)) t u h.1 k.1)
+one_output limit line (Ok t) (Ok u) h k = ap line_of (only_tree limit (chars (content line)) t u h.1 k.1)
 one_output limit line (Ok t) (Err NotUtf8) h k = absurd (k h.0)
 one_output limit line (Ok t) (Err (NotJson e)) h k = absurd (k.1.2 (t, h.1))
 one_output limit line (Err NotUtf8) (Ok u) h k = absurd (h k.0)

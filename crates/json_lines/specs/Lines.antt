@@ -1,5 +1,5 @@
 -- The lines of an input, and what each of them gives.
-use Rattle.std.specs.Prelude.{◌≡◌, ℕ, suc, ◌==◌, List, [], ◌∷◌, ◌++◌, cond, Option, Result, Ok, Err, ⊤, encode_utf8_all}
+use Rattle.std.specs.Prelude.{◌≡◌, ℕ, suc, ◌==◌, List, [], ◌∷◌, ◌++◌, cond, Option, Result, Ok, Err, ⊤}
 use Rattle.std.specs.Io.BufRead.{strip_last}
 use Rattle.std.specs.Str.{IsUtf8, chars}
 use Rattle.tinyjson.specs.Characters.{line_feed}
@@ -7,9 +7,9 @@ use Rattle.tinyjson.specs.Error.{error_kind}
 use Rattle.tinyjson.specs.Grammar.{IsText, IsAccepted}
 use Rattle.tinyjson.specs.JsonParseErrorKind.TheVariants as kind
 use Rattle.tinyjson.specs.Parser.{ParsesText}
-use Rattle.tinyjson.specs.Text.{compact}
 use Rattle.tinyjson.specs.Tree.{Tree}
 use Rattle.tinyjson.specs.declared.parser.error.JsonParseError.{JsonParseError}
+use Rattle.json_line.specs.Line.{line_of}
 use Rattle.json_lines.specs.Refusal.{told_line}
 use Rattle.json_lines.specs.declared.lines.Outcome.{Outcome}
 use Rattle.json_lines.specs.declared.lines.Outcome.TheVariants.{AllWritten, SomeRefused}
@@ -29,10 +29,6 @@ lines (b ∷ bs) = cond (b == line_feed) ((b ∷ []) ∷ lines bs) (onto_first b
 -- a line without its line feed
 abbrev pub content : List ℕ → List ℕ
 content line = strip_last line_feed line
-
--- the compact text in UTF-8, and a line feed
-abbrev pub normal_line : Tree → List ℕ
-normal_line t = encode_utf8_all (compact t) ++ line_feed ∷ []
 
 -- what a line gives: the tree of its text, or the cause why it is refused
 abbrev pub Fate : Type 0
@@ -56,7 +52,7 @@ HaveFates limit _ _ = ⊥
 
 -- what is written for a line: its normal form, or nothing
 abbrev pub output_of : Fate → List ℕ
-output_of (Ok t) = normal_line t
+output_of (Ok t) = line_of t
 output_of (Err c) = []
 
 abbrev pub outputs_of : List Fate → List ℕ

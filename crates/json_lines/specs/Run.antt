@@ -4,7 +4,8 @@ use Rattle.std.specs.Io.KnownBytes.{Appends, Keeps}
 use Rattle.std.specs.declared.io.Error.{Error}
 use Rattle.tinyjson.specs.Tree.{Tree}
 use Rattle.tinyjson.specs.Written.{WrittenPart}
-use Rattle.json_lines.specs.Lines.{lines, Fate, HasFate, HaveFates, normal_line, output_of, outputs_of, telling_of, tellings_of, outcome_of}
+use Rattle.json_line.specs.Line.{line_of}
+use Rattle.json_lines.specs.Lines.{lines, Fate, HasFate, HaveFates, output_of, outputs_of, telling_of, tellings_of, outcome_of}
 use Rattle.json_lines.specs.declared.lines.Options.{Options}
 use Rattle.json_lines.specs.declared.lines.Outcome.{Outcome}
 use Rattle.json_lines.specs.declared.lines.Outcome.TheVariants.{AllWritten, SomeRefused}
@@ -66,7 +67,7 @@ Handles limit n line held holds told tells (Err e) =
 
 -- the same of writing it
 abbrev pub WritesLine : Option ℕ → List ℕ → Option (List ℕ) → Option (List ℕ) → Result (Option Cause) Error → Type 0
-WritesLine limit line held holds (Ok None) = (t : Tree) × HasFate limit line (Ok t) × Appends held holds (normal_line t)
+WritesLine limit line held holds (Ok None) = (t : Tree) × HasFate limit line (Ok t) × Appends held holds (line_of t)
 WritesLine limit line held holds (Ok (Some c)) = HasFate limit line (Err c) × Keeps held holds
 WritesLine limit line held holds (Err e) =
-    Keeps held holds ⊎ ((t : Tree) × HasFate limit line (Ok t) × WrittenPart held holds (normal_line t))
+    Keeps held holds ⊎ ((t : Tree) × HasFate limit line (Ok t) × WrittenPart held holds (line_of t))

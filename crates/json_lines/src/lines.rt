@@ -1,11 +1,8 @@
 //! The normal forms of the lines of an input.
 ghost use Rattle.std.specs.Prelude.{◌≡◌, [], ◌∷◌};
 ghost use Rattle.std.specs.Str.{chars};
-ghost use Rattle.tinyjson.specs.Characters.{line_feed};
 ghost use Rattle.tinyjson.specs.Parser.{ParsesText};
-ghost use Rattle.tinyjson.specs.View.{view};
-ghost use Rattle.tinyjson.specs.Written.{WritesPrefix};
-ghost use Rattle.json_lines.specs.Lines.{content as content_of, normal_line};
+ghost use Rattle.json_lines.specs.Lines.{content as content_of};
 ghost use Rattle.json_lines.specs.Run.{Runs, Handles, WritesLine};
 
 use crate::refusal::{Cause, Refusal, tell};
@@ -119,7 +116,7 @@ fn write_line<W: Write>(
     };
     match parse(alloc, text, limit) {
         Ok(value) => {
-            let written = write_value(alloc, output, &value);
+            let written = json_line::write_line(alloc, &value, output);
             value.dismantle();
             written?;
             Ok(None)
@@ -150,21 +147,4 @@ fn parse(alloc: Global, text: &str, limit: Option<usize>) -> JsonParseResult
         None => JsonValue::from_str(alloc, text),
         Some(limit) => JsonValue::from_str_with_depth_limit(alloc, text, limit),
     }
-}
-
-fn write_value<W: Write>(alloc: Global, output: &mut W, value: &JsonValue) -> io::Result<()>
-    ensures { WritesPrefix (W.contents output.old) (W.contents output.new)
-        (normal_line (view value.now)) result }
-{
-    value.write_to(alloc, output)?;
-    end_line(output)
-}
-
-fn end_line<W: Write>(output: &mut W) -> io::Result<()>
-    ensures { WritesPrefix (W.contents output.old) (W.contents output.new) (line_feed ∷ []) result }
-{
-    if output.write(b"\n")? == 0 {
-        return Err(io::Error::new(ErrorKind::WriteZero, "the writer took no byte"));
-    }
-    Ok(())
 }

@@ -4,9 +4,10 @@ ghost use Rattle.std.specs.Io.KnownBytes.{Appends};
 ghost use Rattle.tinyjson.specs.Written.{WritesPrefix};
 ghost use Rattle.json_lines.specs.Refusal.{refusal_message, told_line};
 
+use json_line::write_all;
 use std::alloc::Global;
 use std::fmt;
-use std::io::{self, ErrorKind, Write};
+use std::io::{self, Write};
 use tinyjson::JsonParseError;
 
 /// Why a line is refused.
@@ -52,19 +53,4 @@ pub(crate) fn tell<E: Write>(alloc: Global, errors: &mut E, refusal: Refusal) ->
 {
     let words = format!(in alloc; "json_lines: {refusal}\n")?;
     write_all(errors, words.as_bytes())
-}
-
-/// Writes the bytes, and ends with the writer's first error.
-fn write_all<W: Write>(output: &mut W, bytes: &[u8]) -> io::Result<()>
-    ensures { WritesPrefix (W.contents output.old) (W.contents output.new) bytes.now result }
-{
-    let mut rest = bytes;
-    while !rest.is_empty() {
-        let count = output.write(rest)?;
-        if count == 0 {
-            return Err(io::Error::new(ErrorKind::WriteZero, "the writer took no byte"));
-        }
-        rest = &rest[count..];
-    }
-    Ok(())
 }

@@ -1,16 +1,15 @@
 -- What is written of the texts of a patch and of a value.
-use Rattle.std.specs.Prelude.{◌≡◌, ℕ, List, [], ◌∷◌, ◌++◌, Option, Some, None, Result, Ok, Err, ◌⊎◌, codes, encode_utf8_all}
+use Rattle.std.specs.Prelude.{◌≡◌, ℕ, List, ◌++◌, Option, Some, None, Result, Ok, Err, ◌⊎◌, codes}
 use Rattle.std.specs.Io.KnownBytes.{Appends}
-use Rattle.tinyjson.specs.Characters.{line_feed}
 use Rattle.tinyjson.specs.Error.{error_kind, error_message}
 use Rattle.tinyjson.specs.Grammar.{IsText, IsAccepted}
 use Rattle.tinyjson.specs.JsonParseErrorKind.TheVariants as kind
 use Rattle.tinyjson.specs.Parser.{ParsesText}
-use Rattle.tinyjson.specs.Text.{compact}
 use Rattle.tinyjson.specs.Tree.{Tree}
 use Rattle.tinyjson.specs.Written.{WrittenPart}
 use Rattle.json_merge.specs.Merge.{merge_patch}
 use Rattle.tinyjson.specs.declared.parser.error.JsonParseError.{JsonParseError}
+use Rattle.json_line.specs.Line.{line_of}
 use Rattle.json_merge.specs.declared.apply.MergeError.{MergeError}
 use Rattle.json_merge.specs.declared.apply.MergeError.TheVariants.{BadPatch, Refused, OutOfMemory, Writing}
 
@@ -30,10 +29,6 @@ merge_error_message Writing = codes "writing failed"
 -- how many containers of a patch may be open at once
 abbrev pub patch_depth : Option ℕ
 patch_depth = Some 1000
-
--- the compact text in UTF-8, and a line feed
-abbrev pub line_of : Tree → List ℕ
-line_of t = encode_utf8_all (compact t) ++ line_feed ∷ []
 
 -- a write failed; the error is out of memory where that was wanted
 abbrev pub IsFailedWrite : Type 0 → MergeError → Type 0

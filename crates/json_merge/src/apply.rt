@@ -1,14 +1,13 @@
 //! The text of a patch, applied to the text of a value.
 ghost use Rattle.std.specs.IoError.{error_kind};
-ghost use Rattle.std.specs.Prelude.{◌≡◌, ◌∷◌, [], Some};
+ghost use Rattle.std.specs.Prelude.{◌≡◌, Some};
 ghost use Rattle.std.specs.Str.{chars};
-ghost use Rattle.tinyjson.specs.Characters.{line_feed};
 ghost use Rattle.tinyjson.specs.View.{view};
-ghost use Rattle.tinyjson.specs.Written.{WritesPrefix};
-ghost use Rattle.json_merge.specs.Apply.{status_of, merge_error_message, line_of, patch_depth};
+ghost use Rattle.json_merge.specs.Apply.{status_of, merge_error_message, patch_depth};
 ghost use Rattle.json_merge.specs.Apply.{IsFailedWrite, AppliesTree, Applies, WritesMerged};
 
 use crate::merge::merge;
+use json_line::write_line;
 use std::alloc::Global;
 use std::fmt;
 use std::io::{self, ErrorKind, Write};
@@ -134,21 +133,4 @@ pub(crate) fn writing_error(error: io::Error) -> MergeError
         return MergeError::OutOfMemory;
     }
     MergeError::Writing
-}
-
-fn write_line<W: Write>(alloc: Global, value: &JsonValue, output: &mut W) -> io::Result<()>
-    ensures { WritesPrefix (W.contents output.old) (W.contents output.new)
-        (line_of (view value.now)) result }
-{
-    value.write_to(alloc, output)?;
-    end_line(output)
-}
-
-fn end_line<W: Write>(output: &mut W) -> io::Result<()>
-    ensures { WritesPrefix (W.contents output.old) (W.contents output.new) (line_feed ∷ []) result }
-{
-    if output.write(b"\n")? == 0 {
-        return Err(io::Error::new(ErrorKind::WriteZero, "the writer took no byte"));
-    }
-    Ok(())
 }

@@ -1,18 +1,17 @@
 -- What is written of a text.
-use Rattle.std.specs.Prelude.{◌≡◌, ℕ, List, [], ◌∷◌, ◌++◌, Option, Some, None, Result, Ok, Err, ◌⊎◌, codes, encode_utf8_all}
+use Rattle.std.specs.Prelude.{◌≡◌, ℕ, List, Option, Some, None, Result, Ok, Err, ◌⊎◌, codes}
 use Rattle.std.specs.Io.KnownBytes.{Appends}
-use Rattle.tinyjson.specs.Characters.{line_feed}
 use Rattle.tinyjson.specs.Error.{error_kind, error_message}
 use Rattle.tinyjson.specs.Grammar.{IsText, IsAccepted}
 use Rattle.tinyjson.specs.JsonParseErrorKind.TheVariants as kind
 use Rattle.tinyjson.specs.Parser.{ParsesText}
-use Rattle.tinyjson.specs.Text.{compact}
 use Rattle.tinyjson.specs.Tree.{Tree}
 use Rattle.tinyjson.specs.Written.{WrittenPart}
 use Rattle.json_pointer.specs.Reading.{IsNoPointer, Reads, pointer_error_message}
 use Rattle.json_pointer.specs.Text.{pointer_text}
 use Rattle.json_pointer.specs.Walk.{part_at}
 use Rattle.json_pointer.specs.declared.pointer.PointerError.TheVariants as refusal
+use Rattle.json_line.specs.Line.{line_of}
 use Rattle.json_part.specs.declared.part.PartError.{PartError}
 use Rattle.json_part.specs.declared.part.PartError.TheVariants.{BadPointer, Refused, NoPart, OutOfMemory, Writing}
 
@@ -30,10 +29,6 @@ part_error_message (Refused e) = error_message e
 part_error_message NoPart = codes "the pointer names no part"
 part_error_message OutOfMemory = codes "out of memory"
 part_error_message Writing = codes "writing failed"
-
--- the compact text in UTF-8, and a line feed
-abbrev pub line_of : Tree → List ℕ
-line_of t = encode_utf8_all (compact t) ++ line_feed ∷ []
 
 -- the tokens name a part, and a prefix of its line is written
 abbrev pub WritesLinePrefix : List (List ℕ) → Tree → Option (List ℕ) → Option (List ℕ) → Type 0

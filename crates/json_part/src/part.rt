@@ -1,14 +1,13 @@
 //! The part of a text that a pointer names.
 ghost use Rattle.std.specs.IoError.{error_kind};
-ghost use Rattle.std.specs.Prelude.{◌≡◌, ◌∷◌, [], Some};
+ghost use Rattle.std.specs.Prelude.{◌≡◌, Some};
 ghost use Rattle.std.specs.Str.{chars};
-ghost use Rattle.tinyjson.specs.Characters.{line_feed};
 ghost use Rattle.tinyjson.specs.View.{view};
-ghost use Rattle.tinyjson.specs.Written.{WritesPrefix};
 ghost use Rattle.json_pointer.specs.Tokens.{tokens_of};
-ghost use Rattle.json_part.specs.Part.{status_of, part_error_message, line_of};
+ghost use Rattle.json_part.specs.Part.{status_of, part_error_message};
 ghost use Rattle.json_part.specs.Part.{IsFailedWrite, WritesFound, WritesPart};
 
+use json_line::write_line;
 use json_pointer::{Pointer, PointerError};
 use std::alloc::Global;
 use std::fmt;
@@ -122,21 +121,4 @@ pub(crate) fn writing_error(error: io::Error) -> PartError
         return PartError::OutOfMemory;
     }
     PartError::Writing
-}
-
-fn write_line<W: Write>(alloc: Global, value: &JsonValue, output: &mut W) -> io::Result<()>
-    ensures { WritesPrefix (W.contents output.old) (W.contents output.new)
-        (line_of (view value.now)) result }
-{
-    value.write_to(alloc, output)?;
-    end_line(output)
-}
-
-fn end_line<W: Write>(output: &mut W) -> io::Result<()>
-    ensures { WritesPrefix (W.contents output.old) (W.contents output.new) (line_feed ∷ []) result }
-{
-    if output.write(b"\n")? == 0 {
-        return Err(io::Error::new(ErrorKind::WriteZero, "the writer took no byte"));
-    }
-    Ok(())
 }

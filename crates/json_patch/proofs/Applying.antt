@@ -8,7 +8,8 @@ use Rattle.tinyjson.specs.Written.{Written, WrittenPart}
 use Rattle.json_patch_document.specs.Document.{IsPatch}
 use Rattle.json_patch_document.specs.Operation.{Action}
 use Rattle.json_patch_document.specs.Patch.{all_applied}
-use Rattle.json_patch.specs.Apply.{line_of, patch_depth, IsFailedWrite, WritesLine, AppliesTree, AppliesText}
+use Rattle.json_line.specs.Line.{line_of}
+use Rattle.json_patch.specs.Apply.{patch_depth, IsFailedWrite, WritesLine, AppliesTree, AppliesText}
 use Rattle.json_patch.specs.Apply.{AppliesDocument, WritesPatched}
 use Rattle.json_patch.specs.declared.apply.PatchingError.{PatchingError}
 use Rattle.json_patch.specs.declared.apply.PatchingError.TheVariants.{BadText, BadPatch, Refused, Failed, OutOfMemory, Writing}

@@ -1,7 +1,6 @@
 -- What is written of the texts of a patch and of a value.
 use Rattle.std.specs.Prelude.{◌≡◌, ℕ, List, [], ◌∷◌, ◌++◌, Option, Some, None, Result, Ok, Err, ◌⊎◌, codes, encode_utf8_all}
 use Rattle.std.specs.Io.KnownBytes.{Appends}
-use Rattle.tinyjson.specs.Characters.{line_feed}
 use Rattle.tinyjson.specs.Error.{error_kind, error_message}
 use Rattle.tinyjson.specs.Grammar.{IsText, IsAccepted}
 use Rattle.tinyjson.specs.JsonParseErrorKind.TheVariants as kind
@@ -15,6 +14,7 @@ use Rattle.json_patch_document.specs.Operation.{Action, reason_message}
 use Rattle.json_patch_document.specs.Patch.{all_applied}
 use Rattle.json_patch_document.specs.declared.fault.PatchError.{PatchError}
 use Rattle.json_patch_document.specs.declared.fault.PatchError.TheVariants as document
+use Rattle.json_line.specs.Line.{line_of}
 use Rattle.json_patch.specs.declared.apply.PatchingError.{PatchingError}
 use Rattle.json_patch.specs.declared.apply.PatchingError.TheVariants.{BadText, BadPatch, Refused, Failed, OutOfMemory, Writing}
 use Rattle.tinyjson.specs.declared.parser.error.JsonParseError.{JsonParseError}
@@ -39,10 +39,6 @@ patching_error_message Writing = codes "writing failed"
 -- how many containers of a patch may be open at once
 abbrev pub patch_depth : Option ℕ
 patch_depth = Some 1000
-
--- the compact text in UTF-8, and a line feed
-abbrev pub line_of : Tree → List ℕ
-line_of t = encode_utf8_all (compact t) ++ line_feed ∷ []
 
 -- a write failed; the error is out of memory where that was wanted
 abbrev pub IsFailedWrite : Type 0 → PatchingError → Type 0

@@ -1,15 +1,14 @@
 //! The text of a patch, applied to the text of a value.
 ghost use Rattle.std.specs.IoError.{error_kind};
-ghost use Rattle.std.specs.Prelude.{◌≡◌, ◌∷◌, [], Some};
+ghost use Rattle.std.specs.Prelude.{◌≡◌, Some};
 ghost use Rattle.std.specs.Str.{chars};
-ghost use Rattle.tinyjson.specs.Characters.{line_feed};
 ghost use Rattle.tinyjson.specs.View.{view};
-ghost use Rattle.tinyjson.specs.Written.{WritesPrefix};
 ghost use Rattle.json_patch_document.specs.Patch.{actions_of};
-ghost use Rattle.json_patch.specs.Apply.{status_of, patching_error_message, line_of, patch_depth};
+ghost use Rattle.json_patch.specs.Apply.{status_of, patching_error_message, patch_depth};
 ghost use Rattle.json_patch.specs.Apply.{IsFailedWrite, WritesLine, AppliesTree, AppliesText};
 ghost use Rattle.json_patch.specs.Apply.{AppliesDocument, WritesPatched};
 
+use json_line::write_line;
 use json_patch_document::{ApplyError, Patch, PatchError, Reason};
 use std::alloc::Global;
 use std::fmt;
@@ -184,21 +183,4 @@ pub(crate) fn writing_error(error: io::Error) -> PatchingError
         return PatchingError::OutOfMemory;
     }
     PatchingError::Writing
-}
-
-fn write_line<W: Write>(alloc: Global, value: &JsonValue, output: &mut W) -> io::Result<()>
-    ensures { WritesPrefix (W.contents output.old) (W.contents output.new)
-        (line_of (view value.now)) result }
-{
-    value.write_to(alloc, output)?;
-    end_line(output)
-}
-
-fn end_line<W: Write>(output: &mut W) -> io::Result<()>
-    ensures { WritesPrefix (W.contents output.old) (W.contents output.new) (line_feed ∷ []) result }
-{
-    if output.write(b"\n")? == 0 {
-        return Err(io::Error::new(ErrorKind::WriteZero, "the writer took no byte"));
-    }
-    Ok(())
 }

@@ -13,6 +13,7 @@ ghost use Rattle.json_path.specs.Paths.{path_text};
 use crate::node::{Location, Node};
 use crate::path::path_text;
 use crate::select::find;
+use json_line::write_all;
 use json_path_query::{ParseError, ParseErrorKind, Query};
 use std::alloc::{AllocError, Global};
 use std::fmt;
@@ -198,19 +199,4 @@ fn write_path<W: Write>(alloc: Global, location: &Location, output: &mut W) -> i
 {
     let path = path_text(alloc, location)?;
     write_all(output, path.as_bytes())
-}
-
-/// Writes the bytes, and ends with the writer's first error.
-fn write_all<W: Write>(output: &mut W, bytes: &[u8]) -> io::Result<()>
-    ensures { WritesPrefix (W.contents output.old) (W.contents output.new) bytes.now result }
-{
-    let mut rest = bytes;
-    while !rest.is_empty() {
-        let count = output.write(rest)?;
-        if count == 0 {
-            return Err(io::Error::new(ErrorKind::WriteZero, "the writer took no byte"));
-        }
-        rest = &rest[count..];
-    }
-    Ok(())
 }

@@ -9,6 +9,7 @@ ghost use Rattle.jsonnorm.specs.Input.{ReadsToEnd};
 ghost use Rattle.jsonnorm.specs.Run.{Runs, line_of, normal_text};
 
 use crate::fault::{RunFault, refusal, writing_error};
+use json_line::write_all;
 use std::alloc::{AllocError, Global};
 use std::io::{self, ErrorKind, Read, Write};
 use std::{mem, str};
@@ -145,7 +146,7 @@ fn write_line<W: Write>(
         (line_of indented (view value.now)) result }
 {
     write_text(alloc, output, value, indented)?;
-    end_line(output)
+    write_all(output, b"\n")
 }
 
 fn write_text<W: Write>(
@@ -162,13 +163,4 @@ fn write_text<W: Write>(
     } else {
         value.write_to(alloc, output)
     }
-}
-
-fn end_line<W: Write>(output: &mut W) -> io::Result<()>
-    ensures { WritesPrefix (W.contents output.old) (W.contents output.new) (line_feed ∷ []) result }
-{
-    if output.write(b"\n")? == 0 {
-        return Err(io::Error::new(ErrorKind::WriteZero, "the writer took no byte"));
-    }
-    Ok(())
 }

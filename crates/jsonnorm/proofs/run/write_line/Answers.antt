@@ -6,4 +6,4 @@ pub returns-in_err-write_text : goal.returns-in_err-write_text
 returns-in_err-write_text g c = fails _ (10 ∷ []) c.from_residual.ensures.0 c.in_err-write_text.ensures begins
 
 pub returns : goal.returns
-returns g c = ends _ _ _ _ _ c.end_line.result c.end_line.ensures (goes (10 ∷ []) c.in_ok-write_text.ensures begins)
+returns g c = ends _ _ _ _ _ c.write_all.result c.write_all.ensures (goes (10 ∷ []) c.in_ok-write_text.ensures begins)
