@@ -15,6 +15,29 @@ BOOKS = """
 """
 LETTERS = '["a","b","c","d","e","f","g"]'
 
+# 2.3.5.3: which comparisons hold of its document, whose two members a filter then selects.
+COMPARED = '{"obj": {"x": "y"}, "arr": [2, 3]}'
+BOTH = [("[2, 3]", "$['arr']"), ('{"x": "y"}', "$['obj']")]
+COMPARISONS = [
+    ("$.absent1 == $.absent2", True), ("$.absent1 <= $.absent2", True), ("$.absent == 'g'", False), ("$.absent1 != $.absent2", False),
+    ("$.absent != 'g'", True), ("1 <= 2", True), ("1 > 2", False), ("13 == '13'", False), ("'a' <= 'b'", True), ("'a' > 'b'", False),
+    ("$.obj == $.arr", False), ("$.obj != $.arr", True), ("$.obj == $.obj", True), ("$.obj != $.obj", False), ("$.arr == $.arr", True),
+    ("$.arr != $.arr", False), ("$.obj == 17", False), ("$.obj != 17", True), ("$.obj <= $.arr", False), ("$.obj < $.arr", False),
+    ("$.obj <= $.obj", True), ("$.arr <= $.arr", True), ("1 <= $.arr", False), ("1 >= $.arr", False), ("1 > $.arr", False), ("1 < $.arr", False),
+    ("true <= true", True), ("true > true", False),
+    # Each operator (2.3.5.2.2), with nothing and each type of value.
+    ("1 < 1", False), ("1 <= 1", True), ("1 >= 1", True), ("1 > 1", False), ("2 >= 1", True), ("2 > 1", True), ("1 != 1", False), ("1 != 2", True),
+    ("null == null", True), ("null <= null", True), ("null < null", False), ("null == $.absent", False), ("false == null", False), ("false != true", True),
+    ("false < true", False), ("$.absent < $.absent", False), ("$.absent >= $.absent", True), ("$.absent < 1", False), ("1 <= $.absent", False),
+    ("'' < 'a'", True), ("'a' < 'aa'", True), ("'B' < 'a'", True), ("'\\uffff' < '\\ud83d\\ude00'", True), ("'1' < 2", False), ("'x' == \"x\"", True),
+    # Numbers are their decimals: `number` of 2.3.5.1, which is not held in the range of integers of 2.1.
+    ("1 == 1.0", True), ("-0 == 0", True), ("-0.0 >= 0e5", True), ("1E2 == 100", True), ("1e-02 == 0.01", True), ("1e+2 == 100.0e0", True),
+    ("1e400 < 1e401", True), ("-1e400 < 1e-400", True), ("9007199254740993 > 9007199254740992", True), ("0.1 == 0.10000000000000000001", False),
+    # Singular queries: each notation, blanks between their segments, and around the operator.
+    ("$.arr[0] == 2", True), ("$['arr'][-1] == 3", True), ('$["obj"]["x"] == \'y\'', True), ("$ .obj\t['x']\n== 'y'", True), ("$.arr[2] == $.obj.y", True),
+    ("$.obj.x=='y'", True), ("'y'  ==\r$.obj.x", True), ("$.obj['x'] == @.none || 1 == 1", True), ("1 == 2 && 1 == 1 || 'a' < 'b'", True), ("!(1 == 2)", True), ("(1 == 1)", True),
+]
+
 # Each document, and for queries of it what is selected: each value, as RFC 9535 writes it, and its normalized path.
 # Where the RFC leaves the order of members open, they are in the order of their keys.
 SELECTED = [
@@ -54,6 +77,8 @@ SELECTED = [
         ("$[5:1:-2]", [('"f"', "$[5]"), ('"d"', "$[3]")]),
         ("$[::-1]", [(f'"{letter}"', f"$[{i}]") for i, letter in reversed(list(enumerate("abcdefg")))]),
     ]),
+    # 2.3.5.3
+    (COMPARED, [(f"$[?{comparison}]", BOTH if holds else []) for comparison, holds in COMPARISONS]),
     # 2.5.1.3
     (LETTERS, [
         ("$[0, 3]", [('"a"', "$[0]"), ('"d"', "$[3]")]),
@@ -184,9 +209,22 @@ SELECTED = [
         ("$.o[?!($.x || !@.u)]", [('{"u": 6}', "$['o']['t']")]),
         ("$.o[?@.u || $.x && $.y]", [('{"u": 6}', "$['o']['t']")]),
         ("$.o[?(@.u || $.x) && $.y]", []),
+        *((query, [('{"b": "kilo"}', "$['a'][9]")]) for query in ("$.a[?@.b == 'kilo']", "$.a[?(@.b == 'kilo')]")),
+        ("$.a[?@>3.5]", [("5", "$['a'][1]"), ("4", "$['a'][4]"), ("6", "$['a'][5]")]),
+        ("$.o[?@<3, ?@<3]", [("1", "$['o']['p']"), ("2", "$['o']['q']"), ("1", "$['o']['p']"), ("2", "$['o']['q']")]),
+        ('$.a[?@<2 || @.b == "k"]', [("1", "$['a'][2]"), ('{"b": "k"}', "$['a'][7]")]),
+        ("$.o[?@>1 && @<4]", [("2", "$['o']['q']"), ("3", "$['o']['r']")]),
+        ("$.a[?@.b == $.x]", [(value, f"$['a'][{i}]") for i, value in enumerate("351246")]),
+        ("$.a[?@ == @]", [(value, f"$['a'][{i}]") for i, value in enumerate(["3", "5", "1", "2", "4", "6", '{"b": "j"}', '{"b": "k"}', '{"b": {}}', '{"b": "kilo"}'])]),
+        ("$.a[?@.b == 'j', 5]", [('{"b": "j"}', "$['a'][6]"), ("6", "$['a'][5]")]),
+        ("$.a[?@[?@.b == 'j']]", []), ("$[?@[?@.b == 'j']]", [('[3, 5, 1, 2, 4, 6, {"b": "j"}, {"b": "k"}, {"b": {}}, {"b": "kilo"}]', "$['a']")]),
     ]),
-    ('{"a": null, "b": [null], "c": [{}], "null": 1}', [("$.b[?@]", [("null", "$['b'][0]")])]),
+    # 2.6.1
+    ('{"a": null, "b": [null], "c": [{}], "null": 1}', [
+        ("$.b[?@]", [("null", "$['b'][0]")]), ("$.b[?@==null]", [("null", "$['b'][0]")]), ("$.c[?@.d==null]", []),
+    ]),
     (BOOKS, [
+        ("$..book[?@.price<10].title", [('"Sayings of the Century"', "$['store']['book'][0]['title']"), ('"Moby Dick"', "$['store']['book'][2]['title']")]),
         ("$..book[?@.isbn].title", [('"Moby Dick"', "$['store']['book'][2]['title']"), ('"The Lord of the Rings"', "$['store']['book'][3]['title']")]),
     ]),
     ('{"a":{"b":false},"c":[null,{"a":1}],"n":1}', [
@@ -215,9 +253,20 @@ REFUSED = [
     # 2.3.5.1: a filter stands in brackets, and in it a test, parentheses, or `!` before one of these.
     ("$[?]", 3), ("$[? ]", 4), ("$[?a]", 3), ("$[?(@.a]", 7), ("$[?()]", 4), ("$[?!!@.a]", 4), ("$[?@.a)]", 6), ("$[?@.a && ]", 10), ("$[?@.a || ]", 10), ("$[?@.a,]", 7),
     ("$[?@.a ?@.b]", 7), ("$[?@.a", 6), ("$.a?@.b", 3), ("$?@.a", 1),
+    # 2.3.5.1: what is compared are literals and singular queries; no literal, no comparison of a test, and no chain stands alone.
+    ("$[?1]", 3), ("$[?'a']", 3), ("$[?true]", 3), ("$[?null]", 3), ("$[?1 == ]", 8), ("$[? == 1]", 4), ("$[?@.a = 1]", 7), ("$[?@.a === 1]", 9), ("$[?@.a == = 1]", 10),
+    ("$[?@.a = = 1]", 7), ("$[?@.a < = 1]", 9), ("$[?@.a =< 1]", 7), ("$[?@.a <> 1]", 8), ("$[?@.a ! = 1]", 7), ("$[?1 < @ < 3]", 9), ("$[?1 == 1 == 1]", 10),
+    ("$[?(@.a) == 1]", 9), ("$[?1 == (1)]", 8), ("$[?!@.a == 1]", 8), ("$[?!1 == 1]", 4), ("$[?1 && @.a]", 3), ("$[?1 == 1 && 1]", 13), ("$[?(1)]", 4), ("$[?@.a == 1)]", 11),
+    ("$[?@.a == @..b]", 11), ("$[?@..b == @.a]", 8), ("$[?@.* == 1]", 7), ("$[?@[*] == 1]", 8), ("$[?1 == @[*]]", 9), ("$[?@[0:1] == 1]", 10), ("$[?@[0,1] == 1]", 10),
+    ("$[?@['a','b'] == 1]", 14), ("$[?@[?@.a] == 1]", 11), ("$[?@[ 'a' ]==1]", 11), ("$[?@['a' ]==1]", 10), ("$[?@[ 0]==1]", 8), ("$[?1==@[ 0]]", 7), ("$[?$..a == 1]", 8), ("$[?1 == $.*]", 9),
+    # `number`, `true`, `false`, `null`
+    ("$[?@ == 01]", 8), ("$[?@ == -01]", 8), ("$[?@ == 1.]", 8), ("$[?@ == .5]", 8), ("$[?@ == +1]", 8), ("$[?@ == 1e]", 8), ("$[?@ == 1e+]", 8), ("$[?@ == -]", 8), ("$[?@ == 1.e1]", 8),
+    ("$[?@ == 1.5.5]", 8), ("$[?@ == --1]", 8), ("$[?@ == 1-1]", 8), ("$[?@ == 0x1]", 9), ("$[?@ == 1a]", 9), ("$[?01 == @]", 3), ("$[?@ == - 1]", 8), ("$[?@ == e]", 8), ("$[?@ == NaN]", 8),
+    ("$[?@ == True]", 8), ("$[?@ == TRUE]", 8), ("$[?@ == tru]", 8), ("$[?@ == nul]", 8), ("$[?@ == truee]", 12), ("$[?@ == nullnull]", 12), ("$[?@ == 'a]", 11), ("$[?@ == \"a']", 12), ("$[?@ == '\\x']", 10),
+    ("$[?@ == []]", 8), ("$[?@ == {}]", 8), ("$[?@.a=='a' 'b']", 12),
     # 2.3.4.1
     ("$[:::]", 4), ("$[1:2:3:4]", 7), ("$[1:a]", 4), ("$[1:'a']", 4), ("$[1:*]", 4), ("$['a':1]", 5), ("$[1::", 5), ("$[1:", 4), ("$[1:2:+1]", 6),
 ]
 
 # The message of such a text.
-NO_QUERY = "the query: no query of RFC 9535 without comparisons and functions at character %d"
+NO_QUERY = "the query: no query of RFC 9535 without functions at character %d"

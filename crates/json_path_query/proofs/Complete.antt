@@ -1,15 +1,23 @@
 -- What is in the grammar is found at the front of a text.
 use Rattle.std.proofs.Common.{◌≡◌, inl, inr, ℕ, zero, suc, ◌≤◌, Bool, true, false, not, ◌==◌, nat_le, cond}
 use Rattle.std.proofs.Common.{◌+◌, ◌*◌, List, [], ◌∷◌, Option, Some, None, option_map, option_and_then, refl, sym, ap, ◌∙◌}
-use Rattle.std.proofs.Common.{arith}
+use Rattle.std.proofs.Common.{subst, arith}
 use Rattle.std.proofs.lemmas.Bool.{cond-true, cond-false, ne_eqb, eqb-true, eq-eqb, leb-true, le-leb, and_parts, and_from, or_parts}
 use Rattle.std.proofs.lemmas.Bool.{or_from}
 use Rattle.std.proofs.lemmas.Bool.{or_cases, or_right, not-true}
+use Rattle.std.proofs.lemmas.Bool.Decides.{nat_tests}
 use Rattle.std.specs.Prelude.{ℤ}
-use Rattle.tinyjson.specs.Characters.{is_high, is_low, is_hex}
+use Rattle.tinyjson.specs.Characters.{is_high, is_low, is_hex, is_white}
+use Rattle.tinyjson.specs.Number.{Decimal}
+use Rattle.json_path_query.specs.declared.query.ComparisonOperator.{ComparisonOperator}
+use Rattle.json_path_query.specs.declared.query.ComparisonOperator.TheVariants.{Less, LessOrEqual, Greater, GreaterOrEqual}
+use Rattle.json_path_query.specs.declared.query.Origin.{Origin}
 use Rattle.json_path_query.specs.declared.query.Origin.TheVariants.{Root, CurrentNode}
-use Rattle.json_path_query.specs.Forms.{PlainSelector, Selector, Segment, Operand, Basic, Expression}
+use Rattle.json_path_query.specs.Forms.{PlainSelector, Selector, Segment, Comparable, Operand, Basic, Expression}
 use Rattle.json_path_query.specs.Forms as form
+use Rattle.json_path_query.specs.Values.{Literal, SingularSegment}
+use Rattle.json_path_query.specs.Values as value
+use Rattle.json_path_query.specs.Numerals.{spelled_decimal}
 use Rattle.json_path_query.specs.Grammar as is
 use Rattle.json_path_query.specs.Grammar.{
   after_blanks,
@@ -26,7 +34,8 @@ use Rattle.json_path_query.specs.Grammar.{QuotedText}
 use Rattle.json_path_query.specs.Grammar.{StringText, BoundText, StepText, PlainSelectorText, TextsOf, SelectorText, SelectionText}
 use Rattle.json_path_query.specs.Grammar.{ShorthandText}
 use Rattle.json_path_query.specs.Grammar.{SegmentText, SegmentsText, OperandText, BasicText, JoinedText, ConjunctionText}
-use Rattle.json_path_query.specs.Grammar.{DisjunctionText, ExpressionText, QueryText}
+use Rattle.json_path_query.specs.Grammar.{DisjunctionText, ExpressionText, QueryText, is_number_char, begins_with, NumberText}
+use Rattle.json_path_query.specs.Grammar.{LiteralText, SingularSegmentText, SingularSegmentsText, ComparableText, OperatorText}
 use Rattle.json_path_query.specs.Fronts.{exact_front, magnitude_front, int_front, hex_front, shifted, digit_on, code_front}
 use Rattle.json_path_query.specs.Fronts.{low_end}
 use Rattle.json_path_query.specs.Fronts.{unicode_end, escape_front, character_front, string_turn, quoted_front, begins_int}
@@ -37,13 +46,20 @@ use Rattle.json_path_query.specs.Fronts.{with_minus, unsigned, before, with_firs
 use Rattle.json_path_query.specs.Fronts.{child_of, descendant_of, alone, is_quote, end, last, more}
 use Rattle.json_path_query.specs.Fronts.{FrontOf, filtered, as_plain, selector_front, behind, closed, closing, tested, operand_front}
 use Rattle.json_path_query.specs.Fronts.{as_affirmed, as_negated, basic_front, behind_both, joint, joined, joined_turn, joined_front}
-use Rattle.json_path_query.specs.Fronts.{conjunction_front, disjunction_front, expression_front}
-use Rattle.json_path_query.proofs.Before.{Ends, ends_at, ends_no_segment}
-use Rattle.json_path_query.proofs.Finds.{none_some, finds_none}
+use Rattle.json_path_query.specs.Fronts.{conjunction_front, disjunction_front, expression_front, origin_of, numbered, number_front}
+use Rattle.json_path_query.specs.Fronts.{literal_front, as_string, name_before, index_before, bracketed_front}
+use Rattle.json_path_query.specs.Fronts.{singular_segment_front, singular_end, singular_turn, singular_front, as_singular, as_literal}
+use Rattle.json_path_query.specs.Fronts.{compared_front, comparable_front, or_equal, operator_front, as_comparison, operated_front}
+use Rattle.json_path_query.specs.Fronts.{left_end}
+use Rattle.json_path_query.proofs.Before.{Ends, ends_at, ends_no_segment, ends_no_operator}
+use Rattle.json_path_query.proofs.Numerals.{decimal_complete}
+use Rattle.json_path_query.proofs.Finds.{none_some, some_same, finds_none}
 use Rattle.json_path_query.proofs.Turns.{Shortens, turns_at}
 use Rattle.json_path_query.proofs.Shorter.{Shortening, basic_shorter, joined_shorter, string_falls, front_falls, selection_falls}
-use Rattle.json_path_query.proofs.Shorter.{segments_falls, joined_falls}
-use Rattle.json_path_query.proofs.Sound.{Sound, blanks_once, basic_sound, joined_sound}
+use Rattle.json_path_query.proofs.Shorter.{segments_falls, joined_falls, singular_falls}
+use Rattle.json_path_query.proofs.Compared.{singular_segment_sound}
+use Rattle.json_path_query.proofs.Conditions.{basic_sound, joined_sound}
+use Rattle.json_path_query.proofs.Sound.{Sound, blanks_once}
 
 -- ---- integers
 
@@ -77,12 +93,16 @@ record BeginsInt (xs : List ℕ) : Type 0 where
   no_quote : is_quote first ≡ false
   no_asterisk : (first == 42) ≡ false
   no_colon : (first == 58) ≡ false
+  no_blank : is_white first ≡ false
+
+digit_no_blank : (c : ℕ) → is_digit1 c ≡ true → is_white c ≡ false
+digit_no_blank c h = grind (arith, nat_tests)
 
 int_begins : (xs : List ℕ) (i : ℤ) (ys : List ℕ) → IntText xs i ys → BeginsInt xs
 int_begins xs i ys (is.nought {xs = cs}) =
-    record { first = 48; rest = cs; at = refl; begins = refl; no_quote = refl; no_asterisk = refl; no_colon = refl }
+    record { first = 48; rest = cs; at = refl; begins = refl; no_quote = refl; no_asterisk = refl; no_colon = refl; no_blank = refl }
 int_begins xs i ys (is.negative {xs = cs} m) =
-    record { first = 45; rest = cs; at = refl; begins = refl; no_quote = refl; no_asterisk = refl; no_colon = refl }
+    record { first = 45; rest = cs; at = refl; begins = refl; no_quote = refl; no_asterisk = refl; no_colon = refl; no_blank = refl }
 int_begins xs i ys (is.positive m) = by xs m
   where
     by : {n : ℕ} (zs : List ℕ) → MagnitudeText zs n ys → BeginsInt zs
@@ -97,6 +117,7 @@ int_begins xs i ys (is.positive m) = by xs m
           no_quote = or_from _ _ (above c 34 low (omega arith)) (above c 39 low (omega arith));
           no_asterisk = above c 42 low (omega arith);
           no_colon = ne_eqb c 58 (λ h. absurd (omega arith));
+          no_blank = digit_no_blank c d;
         }
 
 -- ---- strings
@@ -262,11 +283,11 @@ selection_complete : {E : Type 0} {T : TextsOf E} {F : FrontOf E} → Complete T
     (vs : List (Selector E)) (ys : List ℕ) → SelectionText T xs vs ys → selection_front F xs ≡ Some (vs, ys)
 selection_complete {F = F} t f xs vs ys (is.last {ys = zs} {v = v} s e) =
     turns_at (selection_turn F) f xs (last v ys)
-    (ap (option_and_then separated) (selector_complete t (after_blanks xs) v zs s (ends_at 93 zs ys e refl refl refl) refl refl
+    (ap (option_and_then separated) (selector_complete t (after_blanks xs) v zs s (ends_at 93 zs ys e refl refl refl refl) refl refl
     ∙ ap (λ us. Some (v, us)) e))
 selection_complete {F = F} t f xs vs ys (is.more {ys = zs} {zs = us} {v = v} {vs = ws} s e k) =
     turns_at (selection_turn F) f xs (more v us)
-    (ap (option_and_then separated) (selector_complete t (after_blanks xs) v zs s (ends_at 44 zs us e refl refl refl) refl refl
+    (ap (option_and_then separated) (selector_complete t (after_blanks xs) v zs s (ends_at 44 zs us e refl refl refl refl) refl refl
     ∙ ap (λ us. Some (v, us)) e))
     ∙ ap (option_map (with_first v)) (selection_complete t f us ws ys k)
 
@@ -321,38 +342,283 @@ segments_complete {F = F} t f g xs ss ys h (is.more {ys = zs} {s = s} {ss = ts} 
     ∙ ap (option_map more_of) (segment_complete t f (after_blanks xs) s zs m))
     ∙ ap (option_map (with_first s)) (segments_complete t f g zs ts ys h k)
 
+-- ---- what is compared
+
+number_not : (c k : ℕ) → is_number_char c ≡ true → is_number_char k ≡ false → (c == k) ≡ false
+number_not c k h n = ne_eqb c k (λ e. let t : is_number_char c ≡ false = ap is_number_char e ∙ n in absurd cc)
+
+number_complete : (xs : List ℕ) (d : Decimal) (ys : List ℕ) → NumberText xs d ys → number_front xs ≡ Some (value.number d, ys)
+number_complete xs d ys (is.run {ds = ds} e h) =
+    ap (λ p. option_map (numbered p.1) (spelled_decimal p.0)) e ∙ ap (option_map (numbered ys)) (decimal_complete ds d h)
+
+-- what a comparable begins with
+record BeginsComparable (xs : List ℕ) : Type 0 where
+  first : ℕ
+  rest : List ℕ
+  at : xs ≡ first ∷ rest
+  no_mark : (first == 33) ≡ false
+  no_parenthesis : (first == 40) ≡ false
+
+-- what a literal begins with
+record BeginsLiteral (xs : List ℕ) : Type 0 where
+  begins : BeginsComparable xs
+  no_origin : origin_of begins.first ≡ None
+
+-- what a number begins with
+record BeginsNumber (xs : List ℕ) : Type 0 where
+  first : ℕ
+  rest : List ℕ
+  at : xs ≡ first ∷ rest
+  number : is_number_char first ≡ true
+
+number_begins : (xs : List ℕ) (d : Decimal) (ys : List ℕ) → number_front xs ≡ Some (value.number d, ys) → BeginsNumber xs
+number_begins [] d ys e = none_some e
+number_begins (c ∷ cs) d ys e = by (is_number_char c) refl
+  where
+    by : (b : Bool) → is_number_char c ≡ b → BeginsNumber (c ∷ cs)
+    by true h = record { first = c; rest = cs; at = refl; number = h }
+    by false h =
+        let none : number_front (c ∷ cs) ≡ None =
+        ap {A = List ℕ × List ℕ} (λ p. option_map (numbered p.1) (spelled_decimal p.0)) (cond-false (is_number_char c) _ _ h) in
+        none_some (sym none ∙ e)
+
+number_begins_literal : (xs : List ℕ) → BeginsNumber xs → BeginsLiteral xs
+number_begins_literal xs b = record {
+  begins = record {
+    first = b.first;
+    rest = b.rest;
+    at = b.at;
+    no_mark = number_not b.first 33 b.number refl;
+    no_parenthesis = number_not b.first 40 b.number refl;
+  };
+  no_origin =
+      cond-false (b.first == 64) _ _ (number_not b.first 64 b.number refl)
+      ∙ cond-false (b.first == 36) _ _ (number_not b.first 36 b.number refl);
+}
+
+begins_literal : (c : ℕ) (cs : List ℕ) → (c == 33) ≡ false → (c == 40) ≡ false → origin_of c ≡ None → BeginsLiteral (c ∷ cs)
+begins_literal c cs e f o =
+    record { begins = record { first = c; rest = cs; at = refl; no_mark = e; no_parenthesis = f }; no_origin = o }
+
+literal_begins : (xs : List ℕ) (l : Literal) (ys : List ℕ) → LiteralText xs l ys → BeginsLiteral xs
+literal_begins xs l ys (is.number {d = d} m) = number_begins_literal xs (number_begins xs d ys (number_complete xs d ys m))
+literal_begins xs l ys (is.string (is.double {xs = zs} q)) = begins_literal 34 zs refl refl refl
+literal_begins xs l ys (is.string (is.single {xs = zs} q)) = begins_literal 39 zs refl refl refl
+literal_begins xs l ys is.is_true = begins_literal 116 _ refl refl refl
+literal_begins xs l ys is.is_false = begins_literal 102 _ refl refl refl
+literal_begins xs l ys is.is_null = begins_literal 110 _ refl refl refl
+
+literal_complete : (xs : List ℕ) (l : Literal) (ys : List ℕ) → LiteralText xs l ys → literal_front xs ≡ Some (l, ys)
+literal_complete xs l ys (is.number {d = d} m) =
+    let found = number_complete xs d ys m in
+    let b = number_begins xs d ys found in
+    ap literal_front b.at
+    ∙ (cond-false (is_quote b.first) _ _ (or_from _ _ (number_not b.first 34 b.number refl) (number_not b.first 39 b.number refl))
+    ∙ (cond-true (is_number_char b.first) _ _ b.number ∙ (ap number_front (sym b.at) ∙ found)))
+literal_complete xs l ys (is.string (is.double {xs = zs} {cs = cs} q)) =
+    ap (option_map as_string) (quoted_complete 34 zs cs ys refl q)
+literal_complete xs l ys (is.string (is.single {xs = zs} {cs = cs} q)) =
+    ap (option_map as_string) (quoted_complete 39 zs cs ys refl q)
+literal_complete xs l ys is.is_true = refl
+literal_complete xs l ys is.is_false = refl
+literal_complete xs l ys is.is_null = refl
+
+singular_segment_complete : (xs : List ℕ) (s : SingularSegment) (ys : List ℕ) → SingularSegmentText xs s ys
+    → singular_segment_front xs ≡ Some (s, ys)
+singular_segment_complete xs s ys (is.bracketed_name (is.double {xs = zs} {cs = cs} q)) =
+    ap (option_and_then name_before) (quoted_complete 34 zs cs (93 ∷ ys) refl q)
+singular_segment_complete xs s ys (is.bracketed_name (is.single {xs = zs} {cs = cs} q)) =
+    ap (option_and_then name_before) (quoted_complete 39 zs cs (93 ∷ ys) refl q)
+singular_segment_complete xs s ys (is.name c h e) =
+    cond-true (is_name_first c) _ _ h ∙ ap (λ p. Some (value.name (c ∷ p.0), p.1)) e
+singular_segment_complete xs s ys (is.index {xs = zs} {i = i} m) =
+    let b = int_begins zs i (93 ∷ ys) m in
+    ap bracketed_front b.at
+    ∙ (cond-false (is_quote b.first) _ _ b.no_quote
+    ∙ (ap (λ us. option_and_then index_before (int_front us)) (sym b.at)
+    ∙ ap (option_and_then index_before) (int_complete zs i (93 ∷ ys) m)))
+
+no_singular : (xs : List ℕ) → begins_segment xs ≡ false → singular_segment_front xs ≡ None
+no_singular [] h = refl
+no_singular (c ∷ cs) h =
+    let p = or_parts (c == 91) (c == 46) h in
+    cond-false (c == 91) _ _ p.0 ∙ cond-false (c == 46) _ _ p.1
+
+singular_complete : (xs : List ℕ) (ss : List SingularSegment) (ys : List ℕ) → begins_segment (after_blanks ys) ≡ false
+    → SingularSegmentsText xs ss ys → singular_front xs ≡ Some (ss, ys)
+singular_complete xs ss ys h is.none =
+    turns_at singular_turn singular_falls xs (end xs) (ap (λ o. Some (singular_end xs o)) (no_singular (after_blanks xs) h))
+singular_complete xs ss ys h (is.more {ys = zs} {s = s} {ss = ts} m k) =
+    turns_at singular_turn singular_falls xs (more s zs)
+    (ap (λ o. Some (singular_end xs o)) (singular_segment_complete (after_blanks xs) s zs m))
+    ∙ ap (option_map (with_first s)) (singular_complete zs ts ys h k)
+
+comparable_complete : (xs : List ℕ) (a : Comparable) (ys : List ℕ) → begins_segment (after_blanks ys) ≡ false → ComparableText xs a ys
+    → comparable_front xs ≡ Some (a, ys)
+comparable_complete xs a ys h (is.literal {l = l} m) =
+    let b = literal_begins xs l ys m in
+    ap comparable_front b.begins.at
+    ∙ (ap (compared_front (b.begins.first ∷ b.begins.rest) b.begins.rest) b.no_origin
+    ∙ (ap (λ us. option_map as_literal (literal_front us)) (sym b.begins.at) ∙ ap (option_map as_literal) (literal_complete xs l ys m)))
+comparable_complete xs a ys h (is.relative {xs = zs} {ss = ss} m) =
+    ap (option_map (as_singular CurrentNode)) (singular_complete zs ss ys h m)
+comparable_complete xs a ys h (is.absolute {xs = zs} {ss = ss} m) =
+    ap (option_map (as_singular Root)) (singular_complete zs ss ys h m)
+
+comparable_begins : (xs : List ℕ) (a : Comparable) (ys : List ℕ) → ComparableText xs a ys → BeginsComparable xs
+comparable_begins xs a ys (is.literal {l = l} m) = (literal_begins xs l ys m).begins
+comparable_begins xs a ys (is.relative {xs = zs} m) =
+    record { first = 64; rest = zs; at = refl; no_mark = refl; no_parenthesis = refl }
+comparable_begins xs a ys (is.absolute {xs = zs} m) =
+    record { first = 36; rest = zs; at = refl; no_mark = refl; no_parenthesis = refl }
+
+no_equals : (xs : List ℕ) → begins_with 61 xs ≡ false → behind 61 xs ≡ None
+no_equals [] e = refl
+no_equals (c ∷ cs) e = cond-false (c == 61) _ _ e
+
+operator_complete : (xs : List ℕ) (op : ComparisonOperator) (ys : List ℕ) → OperatorText xs op ys → operator_front xs ≡ Some (op, ys)
+operator_complete xs op ys is.equal = refl
+operator_complete xs op ys is.not_equal = refl
+operator_complete xs op ys is.less_or_equal = refl
+operator_complete xs op ys is.greater_or_equal = refl
+operator_complete xs op ys (is.less n) = ap (λ o. Some (or_equal Less LessOrEqual ys o)) (no_equals ys n)
+operator_complete xs op ys (is.greater n) = ap (λ o. Some (or_equal Greater GreaterOrEqual ys o)) (no_equals ys n)
+
+operator_begins : (xs : List ℕ) (op : ComparisonOperator) (ys : List ℕ) → OperatorText xs op ys → begins_segment xs ≡ false
+operator_begins xs op ys is.equal = refl
+operator_begins xs op ys is.not_equal = refl
+operator_begins xs op ys is.less_or_equal = refl
+operator_begins xs op ys is.greater_or_equal = refl
+operator_begins xs op ys (is.less n) = refl
+operator_begins xs op ys (is.greater n) = refl
+
+-- ---- a test is no comparison
+
+-- a segment of one selector is a segment
+as_segment : {E : Type 0} {T : TextsOf E} (xs : List ℕ) (s : SingularSegment) (ys : List ℕ) → SingularSegmentText xs s ys
+    → (t : Segment E) × SegmentText T xs t ys
+as_segment xs s ys (is.bracketed_name {cs = cs} (is.double q)) =
+    (form.child (form.plain (form.name cs) ∷ []), is.bracketed_child (is.last (is.plain (is.name (is.double q))) refl))
+as_segment xs s ys (is.bracketed_name {cs = cs} (is.single q)) =
+    (form.child (form.plain (form.name cs) ∷ []), is.bracketed_child (is.last (is.plain (is.name (is.single q))) refl))
+as_segment xs s ys (is.name {cs = cs} c h e) = (form.child (form.plain (form.name (c ∷ cs)) ∷ []), is.child (is.name c h e))
+as_segment {T = T} xs s ys (is.index {xs = zs} {i = i} m) =
+    let b = int_begins zs i (93 ∷ ys) m in
+    let settled : after_blanks zs ≡ zs = ap after_blanks b.at ∙ (cond-false (is_white b.first) _ _ b.no_blank ∙ sym b.at) in (
+      form.child (form.plain (form.index i) ∷ []),
+      is.bracketed_child (is.last (subst (λ us. SelectorText T us (form.plain (form.index i)) (93 ∷ ys)) (sym settled)
+          (is.plain (is.index m))) refl),
+    )
+
+segment_no_operator : {E : Type 0} {T : TextsOf E} (xs : List ℕ) (s : Segment E) (ys : List ℕ) → SegmentText T xs s ys
+    → operator_front xs ≡ None
+segment_no_operator xs s ys (is.bracketed_child m) = refl
+segment_no_operator xs s ys (is.child m) = refl
+segment_no_operator xs s ys (is.bracketed_descendant m) = refl
+segment_no_operator xs s ys (is.descendant m) = refl
+
+-- behind the segments of one selector at the front stands no operator
+record Stops (xs : List ℕ) : Type 0 where
+  found : List SingularSegment × List ℕ
+  at : singular_front xs ≡ Some found
+  none : operator_front (after_blanks found.1) ≡ None
+
+stops_at : (xs : List ℕ) → singular_segment_front (after_blanks xs) ≡ None → operator_front (after_blanks xs) ≡ None → Stops xs
+stops_at xs e o = record {
+  found = ([], xs);
+  at = turns_at singular_turn singular_falls xs (end xs) (ap (λ p. Some (singular_end xs p)) e);
+  none = o;
+}
+
+stops_behind : (xs zs : List ℕ) (p : SingularSegment × List ℕ) → singular_segment_front (after_blanks xs) ≡ Some p → zs ≡ p.1
+    → Stops zs → Stops xs
+stops_behind xs zs p e s k = record {
+  found = (p.0 ∷ k.found.0, k.found.1);
+  at =
+      turns_at singular_turn singular_falls xs (more p.0 p.1) (ap (λ o. Some (singular_end xs o)) e)
+      ∙ ap (option_map (with_first p.0)) (ap singular_front (sym s) ∙ k.at);
+  none = k.none;
+}
+
+test_stops : {E : Type 0} {T : TextsOf E} {F : FrontOf E} → Complete T F → Shortens (selection_turn F) → (xs : List ℕ)
+    (ss : List (Segment E)) (ys : List ℕ) → SegmentsText T xs ss ys → begins_segment (after_blanks ys) ≡ false
+    → operator_front (after_blanks ys) ≡ None → Stops xs
+test_stops t f xs ss ys is.none h o = stops_at xs (no_singular (after_blanks xs) h) o
+test_stops {E = E} {T = T} t f xs ss ys (is.more {ys = zs} {s = s} {ss = ts} m k) h o =
+    by (singular_segment_front (after_blanks xs)) refl (test_stops t f zs ts ys k h o)
+  where
+    by : (p : Option (SingularSegment × List ℕ)) → singular_segment_front (after_blanks xs) ≡ p → Stops zs → Stops xs
+    by None e r = stops_at xs e (segment_no_operator (after_blanks xs) s zs m)
+    by (Some p) e r =
+        let one = as_segment {E = E} {T = T} (after_blanks xs) p.0 p.1 ((singular_segment_sound (after_blanks xs)).at p e) in
+        let same : (s, zs) ≡ (one.0, p.1) =
+        some_same (sym (segment_complete t f (after_blanks xs) s zs m) ∙ segment_complete t f (after_blanks xs) one.0 p.1 one.1) in
+        stops_behind xs zs p e (ap (λ q. q.1) same) r
+
 -- ---- logical expressions
 
 operand_complete : {E : Type 0} {T : TextsOf E} {F : FrontOf E} → Complete T F → Shortens (selection_turn F)
     → Shortens (segments_turn F) → (xs : List ℕ) (o : Operand E) (ys : List ℕ) → OperandText T xs o ys → Ends ys
     → operand_front F xs ≡ Some (o, after_blanks ys)
 operand_complete t f g xs o ys (is.parenthesized {xs = us} {ys = zs} {e = e} m h) k =
-    ap (option_and_then closing) (t (after_blanks us) e zs m (ends_at 41 zs ys h refl refl refl) refl refl)
+    ap (option_and_then closing) (t (after_blanks us) e zs m (ends_at 41 zs ys h refl refl refl refl) refl refl)
     ∙ ap (λ ws. option_map (closed e) (behind 41 ws)) h
 operand_complete t f g xs o ys (is.relative {xs = us} {ss = ss} m) k =
     ap (option_map (tested CurrentNode)) (segments_complete t f g us ss ys (ends_no_segment ys k) m)
 operand_complete t f g xs o ys (is.absolute {xs = us} {ss = ss} m) k =
     ap (option_map (tested Root)) (segments_complete t f g us ss ys (ends_no_segment ys k) m)
 
-affirmed_complete : {E : Type 0} {T : TextsOf E} (F : FrontOf E) (xs : List ℕ) (o : Operand E) (ys : List ℕ) → OperandText T xs o ys
-    → operand_front F xs ≡ Some (o, after_blanks ys) → basic_front F xs ≡ Some (form.affirmed o, after_blanks ys)
-affirmed_complete F xs o ys (is.parenthesized m h) e = ap (option_map as_affirmed) e
-affirmed_complete F xs o ys (is.relative m) e = ap (option_map as_affirmed) e
-affirmed_complete F xs o ys (is.absolute m) e = ap (option_map as_affirmed) e
+-- a query that is tested
+tested_complete : {E : Type 0} (F : FrontOf E) (c : ℕ) (cs ys : List ℕ) (origin : Origin) (o : Operand E) → (c == 33) ≡ false
+    → (c == 40) ≡ false → origin_of c ≡ Some origin → Stops cs → operand_front F (c ∷ cs) ≡ Some (o, ys)
+    → basic_front F (c ∷ cs) ≡ Some (form.affirmed o, ys)
+tested_complete F c cs ys origin o m p g s e =
+    cond-false (c == 33) _ _ m
+    ∙ (cond-false (c == 40) _ _ p
+    ∙ (ap (λ q. option_and_then (left_end F (c ∷ cs)) (compared_front (c ∷ cs) cs q)) g
+    ∙ (ap (λ q. option_and_then (left_end F (c ∷ cs)) (option_map (as_singular origin) q)) s.at
+    ∙ (ap (operated_front F (c ∷ cs) (form.singular origin s.found.0)) s.none ∙ ap (option_map as_affirmed) e))))
+
+affirmed_complete : {E : Type 0} {T : TextsOf E} {F : FrontOf E} → Complete T F → Shortens (selection_turn F) → (xs : List ℕ)
+    (o : Operand E) (ys : List ℕ) → OperandText T xs o ys → Ends ys → operand_front F xs ≡ Some (o, after_blanks ys)
+    → basic_front F xs ≡ Some (form.affirmed o, after_blanks ys)
+affirmed_complete t f xs o ys (is.parenthesized m h) k e = ap (option_map as_affirmed) e
+affirmed_complete {F = F} t f xs o ys (is.relative {xs = us} {ss = ss} m) k e =
+    tested_complete F 64 us (after_blanks ys) CurrentNode o refl refl refl
+    (test_stops t f us ss ys m (ends_no_segment ys k) (ends_no_operator ys k)) e
+affirmed_complete {F = F} t f xs o ys (is.absolute {xs = us} {ss = ss} m) k e =
+    tested_complete F 36 us (after_blanks ys) Root o refl refl refl
+    (test_stops t f us ss ys m (ends_no_segment ys k) (ends_no_operator ys k)) e
+
+comparison_complete : {E : Type 0} (F : FrontOf E) (xs ys zs us : List ℕ) (l r : Comparable) (op : ComparisonOperator)
+    → ComparableText xs l ys → OperatorText (after_blanks ys) op zs → ComparableText (after_blanks zs) r us → Ends us
+    → basic_front F xs ≡ Some (form.comparison op l r, after_blanks us)
+comparison_complete F xs ys zs us l r op m n q k =
+    let b = comparable_begins xs l ys m in
+    ap (basic_front F) b.at
+    ∙ (cond-false (b.first == 33) _ _ b.no_mark
+    ∙ (cond-false (b.first == 40) _ _ b.no_parenthesis
+    ∙ (ap (λ ws. option_and_then (left_end F ws) (comparable_front ws)) (sym b.at)
+    ∙ (ap (option_and_then (left_end F xs)) (comparable_complete xs l ys (operator_begins (after_blanks ys) op zs n) m)
+    ∙ (ap (operated_front F xs l) (operator_complete (after_blanks ys) op zs n)
+    ∙ ap (option_map (as_comparison op l)) (comparable_complete (after_blanks zs) r us (ends_no_segment us k) q))))))
 
 pub basic_complete : {E : Type 0} {T : TextsOf E} {F : FrontOf E} → Complete T F → Shortens (selection_turn F)
     → Shortens (segments_turn F) → (xs : List ℕ) (v : Basic E) (ys : List ℕ) → BasicText T xs v ys → Ends ys
     → basic_front F xs ≡ Some (v, after_blanks ys)
-basic_complete {F = F} t f g xs v ys (is.affirmed {o = o} m) k =
-    affirmed_complete F xs o ys m (operand_complete t f g xs o ys m k)
+basic_complete t f g xs v ys (is.affirmed {o = o} m) k =
+    affirmed_complete t f xs o ys m k (operand_complete t f g xs o ys m k)
 basic_complete t f g xs v ys (is.negated {xs = us} {o = o} m) k =
     ap (option_map as_negated) (operand_complete t f g (after_blanks us) o ys m k)
+basic_complete {F = F} t f g xs v ys (is.comparison {ys = zs} {zs = us} {l = l} {r = r} {op = op} m n q) k =
+    comparison_complete F xs zs us ys l r op m n q k
 
 -- a sign that an expression may be followed by
 pub record Sign (sign : ℕ) : Type 0 where
   pub no_int : (zs : List ℕ) → begins_int (sign ∷ zs) ≡ false
   pub no_colon : (sign == 58) ≡ false
   pub no_segment : (zs : List ℕ) → begins_segment (sign ∷ zs) ≡ false
+  pub no_operator : (zs : List ℕ) → operator_front (sign ∷ zs) ≡ None
 
 both_none : (sign : ℕ) (ys : List ℕ) (k : Ends ys) → (k.sign == sign) ≡ false → behind_both sign (after_blanks ys) ≡ None
 both_none sign ys k n =
@@ -374,7 +640,7 @@ joined_complete {F = F} sign P s own t f xs as' ys (is.last {a = a} m) k p n =
 joined_complete {F = F} sign P s own t f xs as' ys (is.more {ys = zs} {zs = us} {a = a} {as' = bs} m h r) k p n =
     turns_at (joined_turn sign F) f xs (more a (after_blanks us))
     (ap (option_map (joined sign))
-    (t xs a zs m (ends_at sign zs (sign ∷ us) h (s.no_int (sign ∷ us)) s.no_colon (s.no_segment (sign ∷ us))) own)
+    (t xs a zs m (ends_at sign zs (sign ∷ us) h (s.no_int (sign ∷ us)) s.no_colon (s.no_segment (sign ∷ us)) (s.no_operator (sign ∷ us))) own)
     ∙ ap (λ o. Some (joint a (after_blanks zs) o)) (both_some sign (after_blanks zs) us h))
     ∙ ap (option_map (with_first a)) (joined_complete sign P s own t f (after_blanks us) bs ys r k p n)
 
@@ -392,8 +658,8 @@ disjunction_faithful {E = E} {T = T} {F = F} h = record {
   sound = joined_sound 124 many;
   shorter = joined_shorter 124 (joined_shorter 38 fewer);
   complete = λ xs e ys m k a o. joined_complete 124 (λ c. (c == 38) ≡ false)
-      (record { no_int = λ zs. refl; no_colon = refl; no_segment = λ zs. refl }) refl
-      (λ us b vs n j p. joined_complete 38 (λ c. Unit {0}) (record { no_int = λ zs. refl; no_colon = refl; no_segment = λ zs. refl }) tt
+      (record { no_int = λ zs. refl; no_colon = refl; no_segment = λ zs. refl; no_operator = λ zs. refl }) refl
+      (λ us b vs n j p. joined_complete 38 (λ c. Unit {0}) (record { no_int = λ zs. refl; no_colon = refl; no_segment = λ zs. refl; no_operator = λ zs. refl }) tt
       (λ ws d rs q i u. basic_complete h.complete (selection_falls h.sound h.shorter) (segments_falls h.sound h.shorter) ws d rs q i)
       (joined_falls 38 (front_falls one fewer)) us b vs n j tt p)
       (joined_falls 124 (front_falls many (joined_shorter 38 fewer))) xs e ys m k a o;

@@ -5,6 +5,8 @@ use Rattle.std.proofs.lemmas.Bool.{cond-true, cond-false, ne_eqb}
 use Rattle.json_path_query.specs.declared.query.Expression.{Expression as CodeExpression}
 use Rattle.json_path_query.specs.declared.query.Origin.{Origin}
 use Rattle.json_path_query.specs.declared.query.Selector.{Selector as CodeSelector}
+use Rattle.json_path_query.specs.declared.query.ComparisonOperator.{ComparisonOperator}
+use Rattle.json_path_query.specs.Forms.{Comparable}
 use Rattle.json_path_query.specs.Forms.{PlainSelector, Selector, Segment, Operand, Basic, Expression, Each, IsSelector, IsOneSelector}
 use Rattle.json_path_query.specs.Forms.{Disjunction, IsExpression, IsDisjunction}
 use Rattle.json_path_query.specs.Forms as form
@@ -14,12 +16,13 @@ use Rattle.json_path_query.specs.Fronts.{separated, selection_turn, selection_fr
 use Rattle.json_path_query.specs.Fronts.{descendant_front, descendant_of, alone, dotted_front, child_of, segments_turn, segments_front}
 use Rattle.json_path_query.specs.Fronts.{operand_front, closing, closed, behind, tested, tested_front, origin_of, basic_front, as_negated}
 use Rattle.json_path_query.specs.Fronts.{as_affirmed, behind_both, joint, joined, joined_turn, conjunction_front, disjunction_front}
-use Rattle.json_path_query.specs.Fronts.{expression_front, ended, query_front}
+use Rattle.json_path_query.specs.Fronts.{expression_front, ended, query_front, comparable_front, operator_front, left_end, operated_front}
+use Rattle.json_path_query.specs.Fronts.{as_comparison}
 use Rattle.json_path_query.proofs.Finds.{Finds}
 use Rattle.json_path_query.proofs.Turns.{Shortens}
 use Rattle.json_path_query.proofs.Shorter.{selector_falls, selection_falls, segment_falls, segments_falls, joined_falls, front_falls}
 use Rattle.json_path_query.proofs.Shorter.{both_shorter, basic_shorter, joined_shorter}
-use Rattle.json_path_query.proofs.Sound.{basic_sound, joined_sound}
+use Rattle.json_path_query.proofs.Conditions.{basic_sound, joined_sound}
 use Rattle.json_path_query.proofs.Complete.{expression_faithful}
 
 -- ---- what is left is shorter
@@ -173,10 +176,42 @@ module _ {E : Type 0} (F : FrontOf E) where
   negated_from xs cs zs c f g h =
       ap (basic_front F) (f ∙ ap (λ d. d ∷ cs) g) ∙ ap (λ us. option_map as_negated (operand_front F us)) (sym h)
 
-  pub affirmed_from : (xs cs : List ℕ) (c : ℕ) → xs ≡ c ∷ cs → c ≢ 33 → basic_front F xs ≡ option_map as_affirmed (operand_front F xs)
+  pub affirmed_from : (xs cs : List ℕ) (c : ℕ) → xs ≡ c ∷ cs → c ≡ 40 → basic_front F xs ≡ option_map as_affirmed (operand_front F xs)
   affirmed_from xs cs c f g =
+      let e : xs ≡ 40 ∷ cs = f ∙ ap (λ d. d ∷ cs) g in
+      ap (basic_front F) e ∙ ap (λ us. option_map as_affirmed (operand_front F us)) (sym e)
+
+  compared_from : (xs cs : List ℕ) (c : ℕ) → xs ≡ c ∷ cs → c ≢ 33 → c ≢ 40
+      → basic_front F xs ≡ option_and_then (left_end F xs) (comparable_front xs)
+  compared_from xs cs c f g h =
       ap (basic_front F) f
-      ∙ (cond-false (c == 33) _ _ (ne_eqb c 33 g) ∙ ap (λ us. option_map as_affirmed (operand_front F us)) (sym f))
+      ∙ (cond-false (c == 33) _ _ (ne_eqb c 33 g)
+      ∙ (cond-false (c == 40) _ _ (ne_eqb c 40 h) ∙ ap (λ us. option_and_then (left_end F us) (comparable_front us)) (sym f)))
+
+  pub operated_from : (xs cs : List ℕ) (c : ℕ) (l : Comparable) (ys zs : List ℕ) (o : Option (ComparisonOperator × List ℕ)) → xs ≡ c ∷ cs
+      → c ≢ 33 → c ≢ 40 → comparable_front xs ≡ Some (l, ys) → zs ≡ after_blanks ys → operator_front zs ≡ o
+      → basic_front F xs ≡ operated_front F xs l o
+  operated_from xs cs c l ys zs o f g h e k m =
+      compared_from xs cs c f g h
+      ∙ (ap (option_and_then (left_end F xs)) e ∙ ap (operated_front F xs l) (ap operator_front (sym k) ∙ m))
+
+  pub compared_at : (xs cs : List ℕ) (c : ℕ) (l r : Comparable) (op : ComparisonOperator) (ys zs us vs ws ts : List ℕ) → xs ≡ c ∷ cs
+      → c ≢ 33 → c ≢ 40 → comparable_front xs ≡ Some (l, ys) → zs ≡ after_blanks ys → operator_front zs ≡ Some (op, us)
+      → vs ≡ after_blanks us → comparable_front vs ≡ Some (r, ws) → ts ≡ after_blanks ws
+      → basic_front F xs ≡ Some (form.comparison op l r, ts)
+  compared_at xs cs c l r op ys zs us vs ws ts f g h e k m n q t =
+      operated_from xs cs c l ys zs (Some (op, us)) f g h e k m
+      ∙ (ap (option_map (as_comparison op l)) (ap comparable_front (sym n) ∙ q) ∙ ap (λ rs. Some (form.comparison op l r, rs)) (sym t))
+
+  pub left_none : (xs cs : List ℕ) (c : ℕ) → xs ≡ c ∷ cs → c ≢ 33 → c ≢ 40 → comparable_front xs ≡ None → basic_front F xs ≡ None
+  left_none xs cs c f g h e = compared_from xs cs c f g h ∙ ap (option_and_then (left_end F xs)) e
+
+  pub right_none : (xs cs : List ℕ) (c : ℕ) (l : Comparable) (op : ComparisonOperator) (ys zs us vs : List ℕ) → xs ≡ c ∷ cs
+      → c ≢ 33 → c ≢ 40 → comparable_front xs ≡ Some (l, ys) → zs ≡ after_blanks ys → operator_front zs ≡ Some (op, us)
+      → vs ≡ after_blanks us → comparable_front vs ≡ None → basic_front F xs ≡ None
+  right_none xs cs c l op ys zs us vs f g h e k m n q =
+      operated_from xs cs c l ys zs (Some (op, us)) f g h e k m
+      ∙ ap (option_map (as_comparison op l)) (ap comparable_front (sym n) ∙ q)
 
   pub joined_at : (sign : ℕ) (xs : List ℕ) (a : E) (ys : List ℕ) (o : Option (List ℕ)) → F xs ≡ Some (a, ys) → behind_both sign ys ≡ o
       → joined_turn sign F xs ≡ Some (joint a ys o)

@@ -1,11 +1,15 @@
 pub mod Finds
+pub mod Numerals
 pub mod Turns
 pub mod Before
 pub mod Sound
+pub mod Compared
+pub mod Conditions
 pub mod Shorter
 pub mod Complete
 pub mod Refusals
 pub mod Steps
+pub mod Literals
 pub mod Levels
 pub mod Digits
 pub mod Reading

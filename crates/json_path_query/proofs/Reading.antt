@@ -7,7 +7,7 @@ use Rattle.json_path_query.specs.declared.query.Query.{Query}
 use Rattle.json_path_query.specs.Forms.{nesting_limit}
 use Rattle.json_path_query.specs.Reading.{IsReading, IsRefused, ReadsQuery}
 use Rattle.json_path_query.proofs.Finds.{some_same, none_some}
-use Rattle.json_path_query.proofs.Sound.{query_sound}
+use Rattle.json_path_query.proofs.Conditions.{query_sound}
 use Rattle.json_path_query.proofs.Complete.{expression_faithful, query_complete}
 
 pub reading : (xs cs : List ℕ) (q : Query) → xs ≡ cs → ReadsQuery nesting_limit xs (Ok q) → IsReading cs q

@@ -1,17 +1,22 @@
 -- What follows a text of a rule is shorter.
-use Rattle.std.proofs.Common.{◌≡◌, ℕ, ◌<◌, ◌≤◌, ◌+◌, ◌*◌, ◌-◌, Bool, true, false, ◌==◌, cond, List, [], ◌∷◌, length, Option, Some, None}
-use Rattle.std.proofs.Common.{refl, ap, arith}
+use Rattle.std.proofs.Common.{◌≡◌, ℕ, ◌<◌, ◌≤◌, ◌+◌, ◌*◌, ◌-◌, Bool, true, false, ◌==◌, cond, List, [], ◌∷◌, ◌++◌, length, Option, Some}
+use Rattle.std.proofs.Common.{None, refl, ap, arith}
 use Rattle.std.specs.Prelude.{ℤ}
 use Rattle.tinyjson.specs.Characters.{is_white}
-use Rattle.json_path_query.specs.Forms.{PlainSelector, Selector, Segment}
+use Rattle.json_path_query.specs.declared.query.ComparisonOperator.{ComparisonOperator}
+use Rattle.json_path_query.specs.Forms.{PlainSelector, Selector, Segment, Comparable}
+use Rattle.json_path_query.specs.Values.{Literal, SingularSegment}
 use Rattle.json_path_query.specs.Grammar as is
 use Rattle.json_path_query.specs.Grammar.{after_blanks, is_name_char, name_chars, is_digit, digits_on, MagnitudeText, IntText, HexText}
 use Rattle.json_path_query.specs.Grammar.{CodeText}
 use Rattle.json_path_query.specs.Grammar.{EscapeText, CharacterText, QuotedText, StringText, BoundText, StepText, PlainSelectorText}
 use Rattle.json_path_query.specs.Grammar.{TextsOf, SelectorText, SelectionText, ShorthandText, SegmentText, SegmentsText}
-use Rattle.json_path_query.specs.Grammar.{OperandText, BasicText, JoinedText}
+use Rattle.json_path_query.specs.Grammar.{OperandText, BasicText, JoinedText, is_number_char, number_chars, LiteralText}
+use Rattle.json_path_query.specs.Grammar.{SingularSegmentText, SingularSegmentsText, ComparableText, OperatorText}
+use Rattle.json_path_query.specs.Fronts.{singular_segment_front, singular_end, singular_turn}
 use Rattle.json_path_query.specs.Fronts.{string_turn, selector_front, separator, separated, selection_turn, begins_segment, segments_turn}
 use Rattle.json_path_query.specs.Fronts.{more_of, character_front, segment_front, FrontOf, behind, behind_both, joint, joined, joined_turn}
+use Rattle.json_path_query.proofs.Compared.{singular_segment_sound}
 use Rattle.json_path_query.proofs.Finds.{Finds, finds_none, finds_some, finds_cond, finds_map, finds_then, finds_as}
 use Rattle.json_path_query.proofs.Turns.{Falls, Shortens}
 use Rattle.json_path_query.proofs.Sound.{Sound, character_sound, selector_sound, segment_sound}
@@ -172,11 +177,73 @@ operand_shorter k xs o ys (is.parenthesized {xs = us} {ys = zs} {e = e} m f) =
 operand_shorter k xs o ys (is.relative {xs = us} {ss = ss} m) = let a = segments_shorter k us ss ys m in omega arith
 operand_shorter k xs o ys (is.absolute {xs = us} {ss = ss} m) = let a = segments_shorter k us ss ys m in omega arith
 
+-- ---- comparisons
+
+numbers_shorter : (xs : List ℕ) → length (number_chars xs).1 ≤ length xs
+numbers_shorter [] = omega arith
+numbers_shorter (c ∷ cs) = by (is_number_char c) (numbers_shorter cs)
+  where
+    by : (b : Bool) → length (number_chars cs).1 ≤ length cs
+        → length (cond {A = List ℕ × List ℕ} b (c ∷ (number_chars cs).0, (number_chars cs).1) ([], c ∷ cs)).1 ≤ length (c ∷ cs)
+    by true h = omega arith
+    by false h = omega arith
+
+behind_no_longer : (ws xs : List ℕ) → length xs ≤ length (ws ++ xs)
+behind_no_longer [] xs = omega arith
+behind_no_longer (w ∷ ws) xs = let h = behind_no_longer ws xs in omega arith
+
+literal_shorter : (xs : List ℕ) (l : Literal) (ys : List ℕ) → LiteralText xs l ys → length ys ≤ length xs
+literal_shorter xs l ys (is.number (is.run e h)) =
+    let a = numbers_shorter xs in
+    let same : length (number_chars xs).1 ≡ length ys = ap (λ p. length p.1) e in
+    omega arith
+literal_shorter xs l ys (is.string {cs = cs} m) = let a = string_shorter xs cs ys m in omega arith
+literal_shorter xs l ys is.is_true = behind_no_longer is.true_word ys
+literal_shorter xs l ys is.is_false = behind_no_longer is.false_word ys
+literal_shorter xs l ys is.is_null = behind_no_longer is.null_word ys
+
+singular_segment_shorter : (xs : List ℕ) (s : SingularSegment) (ys : List ℕ) → SingularSegmentText xs s ys → length ys < length xs
+singular_segment_shorter xs s ys (is.bracketed_name {xs = zs} {cs = cs} m) = let a = string_shorter zs cs (93 ∷ ys) m in omega arith
+singular_segment_shorter xs s ys (is.name {xs = zs} c h e) =
+    let a = names_shorter zs in
+    let same : length (name_chars zs).1 ≡ length ys = ap (λ p. length p.1) e in
+    omega arith
+singular_segment_shorter xs s ys (is.index {xs = zs} {i = i} m) = let a = int_shorter zs i (93 ∷ ys) m in omega arith
+
+singular_segments_shorter : (xs : List ℕ) (ss : List SingularSegment) (ys : List ℕ) → SingularSegmentsText xs ss ys
+    → length ys ≤ length xs
+singular_segments_shorter xs ss ys is.none = omega arith
+singular_segments_shorter xs ss ys (is.more {ys = zs} {s = s} {ss = ts} m n) =
+    let a = singular_segment_shorter (after_blanks xs) s zs m in
+    let b = blanks_shorter xs in
+    let c = singular_segments_shorter zs ts ys n in
+    omega arith
+
+comparable_shorter : (xs : List ℕ) (a : Comparable) (ys : List ℕ) → ComparableText xs a ys → length ys ≤ length xs
+comparable_shorter xs a ys (is.literal {l = l} m) = literal_shorter xs l ys m
+comparable_shorter xs a ys (is.relative {xs = zs} {ss = ss} m) = let b = singular_segments_shorter zs ss ys m in omega arith
+comparable_shorter xs a ys (is.absolute {xs = zs} {ss = ss} m) = let b = singular_segments_shorter zs ss ys m in omega arith
+
+operator_shorter : (xs : List ℕ) (op : ComparisonOperator) (ys : List ℕ) → OperatorText xs op ys → length ys < length xs
+operator_shorter xs op ys is.equal = omega arith
+operator_shorter xs op ys is.not_equal = omega arith
+operator_shorter xs op ys is.less_or_equal = omega arith
+operator_shorter xs op ys is.greater_or_equal = omega arith
+operator_shorter xs op ys (is.less n) = omega arith
+operator_shorter xs op ys (is.greater n) = omega arith
+
 pub basic_shorter : {E : Type 0} {T : TextsOf E} → Shortening T → Shortening (BasicText T)
 basic_shorter k xs v ys (is.affirmed {o = o} m) = operand_shorter k xs o ys m
 basic_shorter k xs v ys (is.negated {xs = zs} {o = o} m) =
     let a = operand_shorter k (after_blanks zs) o ys m in
     let b = blanks_shorter zs in
+    omega arith
+basic_shorter k xs v ys (is.comparison {ys = zs} {zs = us} {l = l} {r = r} {op = op} m n q) =
+    let a = comparable_shorter xs l zs m in
+    let b = blanks_shorter zs in
+    let c = operator_shorter (after_blanks zs) op us n in
+    let d = blanks_shorter us in
+    let e = comparable_shorter (after_blanks us) r ys q in
     omega arith
 
 pub joined_shorter : {A : Type 0} {T : TextsOf A} (sign : ℕ) → Shortening T → Shortening (JoinedText sign T)
@@ -234,6 +301,18 @@ pub segments_falls : {E : Type 0} {T : TextsOf E} {F : FrontOf E} → Sound T F 
 segments_falls {F = F} s k xs =
     finds_cond (begins_segment (after_blanks xs)) (λ _. finds_map more_of _ (finds_as (segment_falls s k xs) (λ p h. h)))
     (λ _. finds_some tt)
+
+pub singular_falls : Shortens singular_turn
+singular_falls xs = by (singular_segment_front (after_blanks xs)) (singular_segment_sound (after_blanks xs))
+  where
+    by : (o : Option (SingularSegment × List ℕ)) → Finds o (λ p. SingularSegmentText (after_blanks xs) p.0 p.1)
+        → Finds (Some (singular_end xs o)) (Falls xs)
+    by None h = finds_some tt
+    by (Some p) h =
+        let a = singular_segment_shorter (after_blanks xs) p.0 p.1 (h.at p refl) in
+        let b = blanks_shorter xs in
+        let l : length p.1 < length xs = omega arith in
+        finds_some l
 
 behind_shorter : (sign : ℕ) (xs : List ℕ) → Finds (behind sign xs) (λ ys. length ys < length xs)
 behind_shorter sign [] = finds_none

@@ -4,7 +4,6 @@ use Rattle.std.proofs.Common.{◌+◌, ◌*◌, Option, Some, None, option_and_t
 use Rattle.std.proofs.lemmas.Bool.{eqb-true, eq-eqb, and_parts, or_cases, or_from, cond-false}
 use Rattle.std.specs.Prelude.{ℤ, pos, neg_ℤ}
 use Rattle.tinyjson.specs.Characters.{is_white, is_hex, is_high, is_low}
-use Rattle.json_path_query.specs.declared.query.Origin.TheVariants.{Root, CurrentNode}
 use Rattle.json_path_query.specs.Forms.{PlainSelector, Selector, Segment, Expression}
 use Rattle.json_path_query.specs.Forms as form
 use Rattle.json_path_query.specs.Grammar as is
@@ -19,14 +18,16 @@ use Rattle.json_path_query.specs.Fronts.{pair_front, unicode_front, unicode_end}
 use Rattle.json_path_query.specs.Fronts.{escape_front, character_front, turns, string_turn, quoted_front, begins_int, bound_front}
 use Rattle.json_path_query.specs.Fronts.{step_front, slice_front, slice_end, index_end, int_end, int_selector_front, plain_front}
 use Rattle.json_path_query.specs.Fronts.{separator, separated, selection_turn, selection_front, shorthand_front, descendant_front}
-use Rattle.json_path_query.specs.Fronts.{dotted_front, segment_front, begins_segment, segments_turn, segments_front, ended, query_front}
+use Rattle.json_path_query.specs.Fronts.{dotted_front, segment_front, begins_segment, segments_turn}
 use Rattle.json_path_query.specs.Fronts.{with_minus, unsigned, before, with_first, then_turn, more_of, present_bound, whole_slice, named}
-use Rattle.json_path_query.specs.Fronts.{FrontOf, filtered, as_plain, selector_front, behind, closed, closing, tested, origin_of}
-use Rattle.json_path_query.specs.Fronts.{tested_front, operand_front, as_affirmed, as_negated, basic_front, behind_both, joint, joined}
-use Rattle.json_path_query.specs.Fronts.{joined_turn, joined_front, expression_front}
+use Rattle.json_path_query.specs.Fronts.{FrontOf, filtered, as_plain, selector_front, behind}
 use Rattle.json_path_query.specs.Fronts.{child_of, descendant_of, alone, is_quote}
 use Rattle.json_path_query.proofs.Before.{Before}
 use Rattle.json_path_query.proofs.Finds.{Finds, finds_none, finds_some, finds_cond, finds_map, finds_then, finds_as, at_code}
+
+pub behind_sound : (sign : ℕ) (xs : List ℕ) → Finds (behind sign xs) (λ ys. xs ≡ sign ∷ ys)
+behind_sound sign [] = finds_none
+behind_sound sign (c ∷ cs) = finds_cond (c == sign) (λ e. finds_some (ap (λ x. x ∷ cs) (eqb-true c sign e))) (λ _. finds_none)
 
 magnitude_sound : (xs : List ℕ) → Finds (magnitude_front xs) (λ p. MagnitudeText xs p.0 p.1)
 magnitude_sound [] = finds_none
@@ -103,7 +104,7 @@ character_sound quote (c ∷ cs) =
     (λ e. finds_as (escape_sound quote cs) (λ p k. at_code (λ x. CharacterText quote (x ∷ cs) p.0 p.1) c 92 e (is.escaped k)))
     (λ _. finds_cond _ (λ h. finds_some (is.unescaped c h)) (λ _. finds_none))
 
-quoted_sound : (n quote : ℕ) (xs : List ℕ) → Finds (turns (string_turn quote) n xs) (λ p. QuotedText quote xs p.0 p.1)
+pub quoted_sound : (n quote : ℕ) (xs : List ℕ) → Finds (turns (string_turn quote) n xs) (λ p. QuotedText quote xs p.0 p.1)
 quoted_sound zero quote xs = finds_none
 quoted_sound (suc n) quote [] = finds_none
 quoted_sound (suc n) quote (c ∷ cs) =
@@ -167,13 +168,20 @@ int_selector_sound xs = finds_then int_end _ (finds_as (int_sound xs) (λ p m. b
         (λ h. slice_sound xs cs (Some i) (is.present m (e ∙ ap (λ x. x ∷ cs) (eqb-true c 58 h))))
         (λ _. finds_some (record { whole = ys; blanks = e; held = is.index m }))
 
+pub one_quote : (c : ℕ) (cs ds ys : List ℕ) → QuotedText c cs ds ys → is_quote c ≡ true → StringText (c ∷ cs) ds ys
+one_quote c cs ds ys m h = by (or_cases (c == 34) (c == 39) h) m
+  where
+    by : ((c == 34) ≡ true) ⊎ ((c == 39) ≡ true) → QuotedText c cs ds ys → StringText (c ∷ cs) ds ys
+    by (inl e) = at_code (λ x. QuotedText x cs ds ys → StringText (x ∷ cs) ds ys) c 34 e (λ q. is.double q)
+    by (inr e) = at_code (λ x. QuotedText x cs ds ys → StringText (x ∷ cs) ds ys) c 39 e (λ q. is.single q)
+
 pub plain_sound : (xs : List ℕ) → Finds (plain_front xs) (λ p. Before (PlainSelectorText xs p.0) p.1)
 plain_sound [] = finds_none
 plain_sound (c ∷ cs) =
     finds_cond (is_quote c) (λ h. finds_map named (quoted_front c cs) (finds_as (quoted_sound (suc (length cs)) c cs) (λ p m. record {
       whole = p.1;
       blanks = refl;
-      held = is.name (by p.0 p.1 m (or_cases (c == 34) (c == 39) h));
+      held = is.name (one_quote c cs p.0 p.1 m h);
     })))
     (λ _. finds_cond (c == 42) (λ e. finds_some (record {
       whole = cs;
@@ -186,10 +194,6 @@ plain_sound (c ∷ cs) =
   where
     sym_test : (a b : ℕ) → (a == b) ≡ true → (b == a) ≡ true
     sym_test a b e = eq-eqb b a (sym (eqb-true a b e))
-
-    by : (ds ys : List ℕ) → QuotedText c cs ds ys → ((c == 34) ≡ true) ⊎ ((c == 39) ≡ true) → StringText (c ∷ cs) ds ys
-    by ds ys m (inl e) = at_code (λ x. QuotedText x cs ds ys → StringText (x ∷ cs) ds ys) c 34 e (λ q. is.double q) m
-    by ds ys m (inr e) = at_code (λ x. QuotedText x cs ds ys → StringText (x ∷ cs) ds ys) c 39 e (λ q. is.single q) m
 
 -- ---- selectors and segments, where expressions are found as they are written
 
@@ -274,101 +278,3 @@ segments_sound {F = F} s (suc n) xs =
     (λ _. finds_map more_of _ (finds_as (segment_sound s (after_blanks xs))
     (λ p m. finds_map (with_first p.0) _ (finds_as (segments_sound s n p.1) (λ r k. is.more m k)))))
     (λ _. finds_some (finds_some is.none)))
-
--- ---- logical expressions
-
-behind_sound : (sign : ℕ) (xs : List ℕ) → Finds (behind sign xs) (λ ys. xs ≡ sign ∷ ys)
-behind_sound sign [] = finds_none
-behind_sound sign (c ∷ cs) = finds_cond (c == sign) (λ e. finds_some (ap (λ x. x ∷ cs) (eqb-true c sign e))) (λ _. finds_none)
-
--- what follows both signs, with the blanks
-record Both (sign : ℕ) (xs zs : List ℕ) : Type 0 where
-  rest : List ℕ
-  at : xs ≡ sign ∷ sign ∷ rest
-  blanks : after_blanks rest ≡ zs
-
-both_sound : (sign : ℕ) (xs : List ℕ) → Finds (behind_both sign xs) (Both sign xs)
-both_sound sign xs =
-    finds_map after_blanks _ (finds_then (behind sign) (behind sign xs) (finds_as (behind_sound sign xs) (λ ys e.
-    finds_as (behind_sound sign ys) (λ zs f. record { rest = zs; at = e ∙ ap (λ us. sign ∷ us) f; blanks = refl }))))
-
-operand_sound : {E : Type 0} {T : TextsOf E} {F : FrontOf E} → Sound T F → Sound (OperandText T) (operand_front F)
-operand_sound s [] = finds_none
-operand_sound {E = E} {T = T} {F = F} s (c ∷ cs) =
-    finds_cond (c == 40)
-    (λ e. finds_then closing (F (after_blanks cs)) (finds_as (s (after_blanks cs)) (λ p b.
-    finds_map (closed p.0) (behind 41 p.1) (finds_as (behind_sound 41 p.1) (λ ys f. record {
-      whole = ys;
-      blanks = refl;
-      held = at_code (λ x. OperandText T (x ∷ cs) (form.parenthesized p.0) ys) c 40 e (is.parenthesized b.held (b.blanks ∙ f));
-    })))))
-    (λ _. finds_then (tested_front F cs) (origin_of c)
-    (finds_cond (c == 64)
-    (λ e. finds_some (finds_map (tested CurrentNode) (segments_front F cs) (finds_as (segments_sound s (suc (length cs)) cs)
-    (λ p m. record {
-      whole = p.1;
-      blanks = refl;
-      held = at_code (λ x. OperandText T (x ∷ cs) (form.test CurrentNode p.0) p.1) c 64 e (is.relative m);
-    }))))
-    (λ _. finds_cond (c == 36)
-    (λ e. finds_some (finds_map (tested Root) (segments_front F cs) (finds_as (segments_sound s (suc (length cs)) cs)
-    (λ p m. record {
-      whole = p.1;
-      blanks = refl;
-      held = at_code (λ x. OperandText T (x ∷ cs) (form.test Root p.0) p.1) c 36 e (is.absolute m);
-    }))))
-    (λ _. finds_none))))
-
-pub basic_sound : {E : Type 0} {T : TextsOf E} {F : FrontOf E} → Sound T F → Sound (BasicText T) (basic_front F)
-basic_sound s [] = finds_none
-basic_sound {T = T} {F = F} s (c ∷ cs) =
-    finds_cond (c == 33)
-    (λ e. finds_map as_negated (operand_front F (after_blanks cs)) (finds_as (operand_sound s (after_blanks cs)) (λ p b. record {
-      whole = b.whole;
-      blanks = b.blanks;
-      held = at_code (λ x. BasicText T (x ∷ cs) (form.negated p.0) b.whole) c 33 e (is.negated b.held);
-    })))
-    (λ _. finds_map as_affirmed (operand_front F (c ∷ cs)) (finds_as (operand_sound s (c ∷ cs)) (λ p b. record {
-      whole = b.whole;
-      blanks = b.blanks;
-      held = is.affirmed b.held;
-    })))
-
-joined_turns_sound : {A : Type 0} {T : TextsOf A} {F : FrontOf A} (sign : ℕ) → Sound T F → (n : ℕ) (xs : List ℕ)
-    → Finds (turns (joined_turn sign F) n xs) (λ p. Before (JoinedText sign T xs p.0) p.1)
-joined_turns_sound sign s zero xs = finds_none
-joined_turns_sound {A = A} {T = T} {F = F} sign s (suc n) xs =
-    finds_then (then_turn (turns (joined_turn sign F) n)) (joined_turn sign F xs) (finds_map (joined sign) (F xs)
-    (finds_as (s xs) (λ p b. by p.0 p.1 b (behind_both sign p.1) (both_sound sign p.1) (joined_turns_sound sign s n))))
-  where
-    by : (a : A) (ys : List ℕ) → Before (T xs a) ys → (o : Option (List ℕ)) → Finds o (Both sign ys)
-        → ((zs : List ℕ) → Finds (turns (joined_turn sign F) n zs) (λ p. Before (JoinedText sign T zs p.0) p.1))
-        → Finds (then_turn (turns (joined_turn sign F) n) (joint a ys o)) (λ p. Before (JoinedText sign T xs p.0) p.1)
-    by a ys b None f rec = finds_some (record { whole = b.whole; blanks = b.blanks; held = is.last b.held })
-    by a ys b (Some zs) f rec =
-        let both = f.at zs refl in
-        finds_map (with_first a) (turns (joined_turn sign F) n zs) (finds_as (rec zs) (λ r k. record {
-          whole = k.whole;
-          blanks = k.blanks;
-          held = is.more b.held (b.blanks ∙ both.at) (subst (λ us. JoinedText sign T us r.0 k.whole) (sym both.blanks) k.held);
-        }))
-
-pub joined_sound : {A : Type 0} {T : TextsOf A} {F : FrontOf A} (sign : ℕ) → Sound T F
-    → Sound (JoinedText sign T) (joined_front sign F)
-joined_sound sign s xs = joined_turns_sound sign s (suc (length xs)) xs
-
--- ---- queries
-
-pub query_sound : (n : ℕ) → Sound (ExpressionText n) (expression_front n) → (xs : List ℕ)
-    → Finds (query_front n xs) (λ ss. QueryText n xs ss)
-query_sound n s [] = finds_none
-query_sound n s (c ∷ cs) =
-    finds_cond (c == 36)
-    (λ e. finds_then ended (segments_front (expression_front n) cs) (finds_as (segments_sound s (suc (length cs)) cs)
-    (λ p m. by p.0 p.1 m e)))
-    (λ _. finds_none)
-  where
-    by : (ss : List (Segment (Expression n))) (ys : List ℕ) → SegmentsText (ExpressionText n) cs ss ys → (c == 36) ≡ true
-        → Finds (ended (ss, ys)) (λ us. QueryText n (c ∷ cs) us)
-    by ss [] m e = finds_some (at_code (λ x. QueryText n (x ∷ cs) ss) c 36 e (is.query m))
-    by ss (y ∷ ys) m e = finds_none

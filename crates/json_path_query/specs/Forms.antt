@@ -5,6 +5,10 @@ use Rattle.std.specs.declared.boxed.Box.{Box}
 use Rattle.std.specs.declared.alloc.Global.{Global}
 use Rattle.tinyjson.specs.Characters.{text}
 use Rattle.json_path_query.specs.declared.query.Query.{Query}
+use Rattle.json_path_query.specs.declared.query.Comparable.{Comparable as CodeComparable}
+use Rattle.json_path_query.specs.declared.query.Comparable.TheVariants as compared
+use Rattle.json_path_query.specs.declared.query.ComparisonOperator.{ComparisonOperator}
+use Rattle.json_path_query.specs.declared.query.Literal.{Literal as CodeLiteral}
 use Rattle.json_path_query.specs.declared.query.Origin.{Origin}
 use Rattle.json_path_query.specs.declared.query.Expression.{Expression as CodeExpression}
 use Rattle.json_path_query.specs.declared.query.Segment.{Segment as CodeSegment}
@@ -12,6 +16,8 @@ use Rattle.json_path_query.specs.declared.query.Selector.{Selector as CodeSelect
 use Rattle.json_path_query.specs.declared.query.Expression.TheVariants as says
 use Rattle.json_path_query.specs.declared.query.Selector.TheVariants as is
 use Rattle.json_path_query.specs.declared.query.Segment.TheVariants as does
+use Rattle.json_path_query.specs.declared.query.SingularSegment.{SingularSegment as CodeSingularSegment}
+use Rattle.json_path_query.specs.Values.{Literal, SingularSegment, IsLiteral, IsSingularSegment}
 
 -- a member's name, all children, an index, or a slice
 pub data PlainSelector : Type 0 where
@@ -35,10 +41,16 @@ pub data Operand (E : Type 0) : Type 0 where
   parenthesized : E → Operand E
   test : Origin → List (Segment E) → Operand E
 
+-- what is compared
+pub data Comparable : Type 0 where
+  literal : Literal → Comparable
+  singular : Origin → List SingularSegment → Comparable
+
 -- what `&&` joins
 pub data Basic (E : Type 0) : Type 0 where
   affirmed : Operand E → Basic E
   negated : Operand E → Basic E
+  comparison : ComparisonOperator → (left right : Comparable) → Basic E
 
 -- one of these holds, of each of which all hold
 abbrev pub Disjunction : Type 0 → Type 0
@@ -89,10 +101,23 @@ IsOperand Is (parenthesized e) x = Is e x
 IsOperand Is (test o ss) x =
     (v : Vec CodeSegment Global) × (x ≡ says.Test (record { origin = o; segments = v })) × AreSegmentsIn Is ss v
 
+-- a vector of the code's segments of one selector
+abbrev pub AreSingularSegmentsIn : List SingularSegment → Vec CodeSingularSegment Global → Type 0
+AreSingularSegmentsIn ss v = Each IsSingularSegment ss v.items
+
+-- what the code compares is that
+abbrev pub IsComparable : Comparable → CodeComparable → Type 0
+IsComparable (literal l) x = (y : CodeLiteral) × (x ≡ compared.Literal y) × IsLiteral l y
+IsComparable (singular o ss) x =
+    (v : Vec CodeSingularSegment Global) × (x ≡ compared.SingularQuery (record { origin = o; segments = v }))
+    × AreSingularSegmentsIn ss v
+
 -- the code's expression is that one
 abbrev pub IsBasic : {E : Type 0} → (E → CodeExpression → Type 0) → Basic E → CodeExpression → Type 0
 IsBasic Is (affirmed o) x = IsOperand Is o x
 IsBasic Is (negated o) x = (b : Box CodeExpression Global) × (x ≡ says.Not b) × IsOperand Is o (box_value b)
+IsBasic Is (comparison op l r) x =
+    (a b : CodeComparable) × (x ≡ says.Comparison op a b) × IsComparable l a × IsComparable r b
 
 -- the code's expression is all of these
 abbrev pub IsConjunction : {E : Type 0} → (E → CodeExpression → Type 0) → List (Basic E) → CodeExpression → Type 0

@@ -1,15 +1,24 @@
 -- What stands at the front of a text, and what follows it; only private contracts use these words.
-use Rattle.std.specs.Prelude.{ℕ, zero, suc, ◌+◌, ◌-◌, ◌*◌, Bool, false, ◌&&◌, ◌||◌, ◌==◌, nat_le, cond, List, [], ◌∷◌}
+use Rattle.std.specs.Prelude.{ℕ, zero, suc, ◌+◌, ◌-◌, ◌*◌, Bool, true, false, ◌&&◌, ◌||◌, ◌==◌, nat_le, cond, List, [], ◌∷◌}
 use Rattle.std.specs.Prelude.{length}
 use Rattle.std.specs.Prelude.{Option, Some, None, option_map, option_and_then, ℤ, pos, neg_ℤ}
 use Rattle.std.specs.Char.{digit_value}
 use Rattle.tinyjson.specs.Characters.{minus_sign, digit_zero, begin_array, end_array, name_separator, value_separator}
 use Rattle.tinyjson.specs.Characters.{quotation_mark, reverse_solidus, decimal_point, letter_u}
 use Rattle.tinyjson.specs.Characters.{is_hex, is_high, is_low, pair_of}
+use Rattle.tinyjson.specs.Number.{Decimal}
+use Rattle.json_path_query.specs.declared.query.ComparisonOperator.{ComparisonOperator}
+use Rattle.json_path_query.specs.declared.query.ComparisonOperator.TheVariants.{Equal, NotEqual, Less, LessOrEqual, Greater, GreaterOrEqual}
 use Rattle.json_path_query.specs.declared.query.Origin.{Origin}
 use Rattle.json_path_query.specs.declared.query.Origin.TheVariants.{Root, CurrentNode}
 use Rattle.json_path_query.specs.Forms.{PlainSelector, name, wildcard, index, slice, Selector, plain, filter, Segment, child, descendant}
-use Rattle.json_path_query.specs.Forms.{Operand, parenthesized, test, Basic, affirmed, negated, Expression}
+use Rattle.json_path_query.specs.Forms.{Operand, parenthesized, test, Comparable, literal, singular}
+use Rattle.json_path_query.specs.Forms.{Basic, affirmed, negated, comparison, Expression}
+use Rattle.json_path_query.specs.Values.{Literal, SingularSegment}
+use Rattle.json_path_query.specs.Values as value
+use Rattle.json_path_query.specs.Numerals.{spelled_decimal}
+use Rattle.json_path_query.specs.Grammar.{number_chars, is_number_char, true_word, false_word, null_word}
+use Rattle.json_path_query.specs.Grammar.{equals_sign, less_than_sign, greater_than_sign}
 use Rattle.json_path_query.specs.Grammar.{root_identifier, apostrophe, asterisk, after_blanks, is_name_first, is_digit, is_digit1}
 use Rattle.json_path_query.specs.Grammar.{question_mark, current_node_identifier, exclamation_mark, left_parenthesis, right_parenthesis}
 use Rattle.json_path_query.specs.Grammar.{ampersand, vertical_line}
@@ -270,17 +279,131 @@ operand_front F (c ∷ cs) =
     cond (c == left_parenthesis) (option_and_then closing (F (after_blanks cs)))
     (option_and_then (tested_front F cs) (origin_of c))
 
+-- ---- comparisons
+
+abbrev pub numbered : List ℕ → Decimal → Literal × List ℕ
+numbered ys d = (value.number d, ys)
+
+abbrev pub number_front : List ℕ → Option (Literal × List ℕ)
+number_front xs = option_map (numbered (number_chars xs).1) (spelled_decimal (number_chars xs).0)
+
+-- the rest, behind a word
+abbrev pub behind_word : List ℕ → List ℕ → Option (List ℕ)
+behind_word [] xs = Some xs
+behind_word (w ∷ ws) xs = option_and_then (behind_word ws) (behind w xs)
+
+abbrev pub either : {A : Type 0} → Option A → Option A → Option A
+either None o = o
+either (Some a) o = Some a
+
+abbrev pub meaning : Literal → List ℕ → Literal × List ℕ
+meaning l ys = (l, ys)
+
+abbrev pub word_front : List ℕ → Option (Literal × List ℕ)
+word_front xs =
+    either (option_map (meaning (value.boolean true)) (behind_word true_word xs))
+    (either (option_map (meaning (value.boolean false)) (behind_word false_word xs))
+    (option_map (meaning value.null) (behind_word null_word xs)))
+
+abbrev pub as_string : List ℕ × List ℕ → Literal × List ℕ
+as_string p = (value.string p.0, p.1)
+
+abbrev pub literal_front : List ℕ → Option (Literal × List ℕ)
+literal_front [] = None
+literal_front (c ∷ cs) =
+    cond (is_quote c) (option_map as_string (quoted_front c cs))
+    (cond (is_number_char c) (number_front (c ∷ cs)) (word_front (c ∷ cs)))
+
+-- before the bracket that ends it
+abbrev pub name_before : List ℕ × List ℕ → Option (SingularSegment × List ℕ)
+name_before p = option_map (λ ys. (value.name p.0, ys)) (behind end_array p.1)
+
+abbrev pub index_before : ℤ × List ℕ → Option (SingularSegment × List ℕ)
+index_before p = option_map (λ ys. (value.index p.0, ys)) (behind end_array p.1)
+
+-- a segment of one selector behind its bracket
+abbrev pub bracketed_front : List ℕ → Option (SingularSegment × List ℕ)
+bracketed_front [] = None
+bracketed_front (c ∷ cs) =
+    cond (is_quote c) (option_and_then name_before (quoted_front c cs)) (option_and_then index_before (int_front (c ∷ cs)))
+
+-- and behind its point
+abbrev pub name_front : List ℕ → Option (SingularSegment × List ℕ)
+name_front [] = None
+name_front (c ∷ cs) = cond (is_name_first c) (Some (value.name (c ∷ (name_chars cs).0), (name_chars cs).1)) None
+
+abbrev pub singular_segment_front : List ℕ → Option (SingularSegment × List ℕ)
+singular_segment_front [] = None
+singular_segment_front (c ∷ cs) =
+    cond (c == begin_array) (bracketed_front cs) (cond (c == decimal_point) (name_front cs) None)
+
+-- one more segment, or the end where none stands
+abbrev pub singular_end : List ℕ → Option (SingularSegment × List ℕ) → Turn SingularSegment
+singular_end xs None = end xs
+singular_end xs (Some p) = more p.0 p.1
+
+abbrev pub singular_turn : List ℕ → Option (Turn SingularSegment)
+singular_turn xs = Some (singular_end xs (singular_segment_front (after_blanks xs)))
+
+abbrev pub singular_front : List ℕ → Option (List SingularSegment × List ℕ)
+singular_front xs = all_turns singular_turn xs
+
+abbrev pub as_singular : Origin → List SingularSegment × List ℕ → Comparable × List ℕ
+as_singular o p = (singular o p.0, p.1)
+
+abbrev pub as_literal : Literal × List ℕ → Comparable × List ℕ
+as_literal p = (literal p.0, p.1)
+
+abbrev pub compared_front : List ℕ → List ℕ → Option Origin → Option (Comparable × List ℕ)
+compared_front xs cs None = option_map as_literal (literal_front xs)
+compared_front xs cs (Some o) = option_map (as_singular o) (singular_front cs)
+
+abbrev pub comparable_front : List ℕ → Option (Comparable × List ℕ)
+comparable_front [] = None
+comparable_front (c ∷ cs) = compared_front (c ∷ cs) cs (origin_of c)
+
+-- the operator, by whether "=" follows its first sign
+abbrev pub or_equal : ComparisonOperator → ComparisonOperator → List ℕ → Option (List ℕ) → ComparisonOperator × List ℕ
+or_equal strict loose ys None = (strict, ys)
+or_equal strict loose ys (Some zs) = (loose, zs)
+
+abbrev pub with_operator : ComparisonOperator → List ℕ → ComparisonOperator × List ℕ
+with_operator op ys = (op, ys)
+
+abbrev pub operator_front : List ℕ → Option (ComparisonOperator × List ℕ)
+operator_front [] = None
+operator_front (c ∷ cs) =
+    cond (c == equals_sign) (option_map (with_operator Equal) (behind equals_sign cs))
+    (cond (c == exclamation_mark) (option_map (with_operator NotEqual) (behind equals_sign cs))
+    (cond (c == less_than_sign) (Some (or_equal Less LessOrEqual cs (behind equals_sign cs)))
+    (cond (c == greater_than_sign) (Some (or_equal Greater GreaterOrEqual cs (behind equals_sign cs))) None)))
+
+-- ---- conditions
+
 abbrev pub as_affirmed : {E : Type 0} → Operand E × List ℕ → Basic E × List ℕ
 as_affirmed p = (affirmed p.0, p.1)
 
 abbrev pub as_negated : {E : Type 0} → Operand E × List ℕ → Basic E × List ℕ
 as_negated p = (negated p.0, p.1)
 
+abbrev pub as_comparison : {E : Type 0} → ComparisonOperator → Comparable → Comparable × List ℕ → Basic E × List ℕ
+as_comparison op l p = (comparison op l p.0, after_blanks p.1)
+
+-- behind what may stand on the left: an operator and the right, or no operator
+abbrev pub operated_front : {E : Type 0} → FrontOf E → List ℕ → Comparable → Option (ComparisonOperator × List ℕ)
+    → Option (Basic E × List ℕ)
+operated_front F xs l None = option_map as_affirmed (operand_front F xs)
+operated_front F xs l (Some p) = option_map (as_comparison p.0 l) (comparable_front (after_blanks p.1))
+
+abbrev pub left_end : {E : Type 0} → FrontOf E → List ℕ → Comparable × List ℕ → Option (Basic E × List ℕ)
+left_end F xs p = operated_front F xs p.0 (operator_front (after_blanks p.1))
+
 abbrev pub basic_front : {E : Type 0} → FrontOf E → FrontOf (Basic E)
 basic_front F [] = None
 basic_front F (c ∷ cs) =
     cond (c == exclamation_mark) (option_map as_negated (operand_front F (after_blanks cs)))
-    (option_map as_affirmed (operand_front F (c ∷ cs)))
+    (cond (c == left_parenthesis) (option_map as_affirmed (operand_front F (c ∷ cs)))
+    (option_and_then (left_end F (c ∷ cs)) (comparable_front (c ∷ cs))))
 
 -- what follows a sign that is written twice, and the blanks after it
 abbrev pub behind_both : ℕ → List ℕ → Option (List ℕ)

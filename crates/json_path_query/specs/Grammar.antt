@@ -1,16 +1,22 @@
--- The grammar of RFC 9535 without comparisons and functions: which text is which query. A rule of the RFC's ABNF that has parts is a type
+-- The grammar of RFC 9535 without functions: which text is which query. A rule of the RFC's ABNF that has parts is a type
 -- here: `Rule xs v ys` says that the characters xs begin with a text of the rule, which means v, and that ys follow it. A run of blanks, of
 -- digits or of the characters of a name is taken whole; what may follow it in the RFC's rules never begins with one more of its characters.
 use Rattle.std.specs.Prelude.{◌≡◌, ℕ, zero, suc, ◌+◌, ◌-◌, ◌*◌, Bool, true, false, not, ◌&&◌, ◌||◌, ◌==◌, nat_le, cond, List, [], ◌∷◌}
-use Rattle.std.specs.Prelude.{Option, Some, None, ℤ, pos, neg_ℤ}
+use Rattle.std.specs.Prelude.{◌++◌, codes, Option, Some, None, ℤ, pos, neg_ℤ}
 use Rattle.std.specs.Char.{digit_value}
 use Rattle.tinyjson.specs.Characters.{minus_sign, digit_zero, begin_array, end_array, name_separator, value_separator, space, is_white}
 use Rattle.tinyjson.specs.Characters.{quotation_mark, reverse_solidus, solidus, backspace, form_feed, line_feed, carriage_return}
 use Rattle.tinyjson.specs.Characters.{horizontal_tab, decimal_point, letter_b, letter_f, letter_n, letter_r, letter_t, letter_u}
 use Rattle.tinyjson.specs.Characters.{is_hex, is_high, is_low, is_surrogate, pair_of}
+use Rattle.tinyjson.specs.Characters.{plus_sign, letter_e, capital_e}
+use Rattle.tinyjson.specs.Number.{Decimal, IsNumberText}
+use Rattle.json_path_query.specs.declared.query.ComparisonOperator.{ComparisonOperator}
+use Rattle.json_path_query.specs.declared.query.ComparisonOperator.TheVariants.{Equal, NotEqual, Less, LessOrEqual, Greater, GreaterOrEqual}
 use Rattle.json_path_query.specs.declared.query.Origin.TheVariants.{Root, CurrentNode}
-use Rattle.json_path_query.specs.Forms.{PlainSelector, Selector, Segment, Operand, Basic, Expression}
+use Rattle.json_path_query.specs.Forms.{PlainSelector, Selector, Segment, Comparable, Operand, Basic, Expression}
 use Rattle.json_path_query.specs.Forms as form
+use Rattle.json_path_query.specs.Values.{Literal, SingularSegment}
+use Rattle.json_path_query.specs.Values as value
 
 abbrev pub root_identifier : ℕ
 root_identifier = 36
@@ -44,6 +50,15 @@ ampersand = 38
 
 abbrev pub vertical_line : ℕ
 vertical_line = 124
+
+abbrev pub less_than_sign : ℕ
+less_than_sign = 60
+
+abbrev pub equals_sign : ℕ
+equals_sign = 61
+
+abbrev pub greater_than_sign : ℕ
+greater_than_sign = 62
 
 -- the runs
 
@@ -81,6 +96,30 @@ name_chars (c ∷ cs) = cond (is_name_char c) (c ∷ (name_chars cs).0, (name_ch
 abbrev pub digits_on : ℕ → List ℕ → ℕ × List ℕ
 digits_on n [] = (n, [])
 digits_on n (c ∷ cs) = cond (is_digit c) (digits_on (10 * n + (c - digit_zero)) cs) (n, c ∷ cs)
+
+-- DIGIT, "-", "+", "." and "e", which stands for both cases
+abbrev pub is_number_char : ℕ → Bool
+is_number_char c =
+    is_digit c || ((c == minus_sign) || ((c == plus_sign) || ((c == decimal_point) || ((c == letter_e) || (c == capital_e)))))
+
+-- the characters of a number at the front, and what follows them
+abbrev pub number_chars : List ℕ → List ℕ × List ℕ
+number_chars [] = ([], [])
+number_chars (c ∷ cs) = cond (is_number_char c) (c ∷ (number_chars cs).0, (number_chars cs).1) ([], c ∷ cs)
+
+abbrev pub true_word : List ℕ
+true_word = codes "true"
+
+abbrev pub false_word : List ℕ
+false_word = codes "false"
+
+abbrev pub null_word : List ℕ
+null_word = codes "null"
+
+-- whether the text begins with the character
+abbrev pub begins_with : ℕ → List ℕ → Bool
+begins_with c [] = false
+begins_with c (d ∷ ds) = d == c
 
 -- ---- integers (2.1)
 
@@ -210,6 +249,50 @@ pub data SegmentsText {E : Type 0} (T : TextsOf E) : List ℕ → List (Segment 
   more : {xs ys zs : List ℕ} {s : Segment E} {ss : List (Segment E)} → SegmentText T (after_blanks xs) s ys → SegmentsText T ys ss zs
       → SegmentsText T xs (s ∷ ss) zs
 
+-- ---- comparisons (2.3.5.1)
+
+-- number: (int / "-0") [ frac ] [ exp ], which is the number of RFC 8259, section 6, with that exact decimal; its power of ten fits an i64
+pub data NumberText : List ℕ → Decimal → List ℕ → Type 0 where
+  run : {xs ds ys : List ℕ} {d : Decimal} → number_chars xs ≡ (ds, ys) → IsNumberText ds d → NumberText xs d ys
+
+-- literal
+pub data LiteralText : List ℕ → Literal → List ℕ → Type 0 where
+  number : {xs ys : List ℕ} {d : Decimal} → NumberText xs d ys → LiteralText xs (value.number d) ys
+  string : {xs cs ys : List ℕ} → StringText xs cs ys → LiteralText xs (value.string cs) ys
+  is_true : {xs : List ℕ} → LiteralText (true_word ++ xs) (value.boolean true) xs
+  is_false : {xs : List ℕ} → LiteralText (false_word ++ xs) (value.boolean false) xs
+  is_null : {xs : List ℕ} → LiteralText (null_word ++ xs) value.null xs
+
+-- name-segment, index-segment
+pub data SingularSegmentText : List ℕ → SingularSegment → List ℕ → Type 0 where
+  bracketed_name : {xs cs ys : List ℕ} → StringText xs cs (end_array ∷ ys) → SingularSegmentText (begin_array ∷ xs) (value.name cs) ys
+  name : {xs cs ys : List ℕ} (c : ℕ) → is_name_first c ≡ true → name_chars xs ≡ (cs, ys)
+      → SingularSegmentText (decimal_point ∷ c ∷ xs) (value.name (c ∷ cs)) ys
+  index : {xs ys : List ℕ} {i : ℤ} → IntText xs i (end_array ∷ ys) → SingularSegmentText (begin_array ∷ xs) (value.index i) ys
+
+-- singular-query-segments = *(S (name-segment / index-segment))
+pub data SingularSegmentsText : List ℕ → List SingularSegment → List ℕ → Type 0 where
+  none : {xs : List ℕ} → SingularSegmentsText xs [] xs
+  more : {xs ys zs : List ℕ} {s : SingularSegment} {ss : List SingularSegment} → SingularSegmentText (after_blanks xs) s ys
+      → SingularSegmentsText ys ss zs → SingularSegmentsText xs (s ∷ ss) zs
+
+-- comparable: literal, rel-singular-query, abs-singular-query
+pub data ComparableText : List ℕ → Comparable → List ℕ → Type 0 where
+  literal : {xs ys : List ℕ} {l : Literal} → LiteralText xs l ys → ComparableText xs (form.literal l) ys
+  relative : {xs ys : List ℕ} {ss : List SingularSegment} → SingularSegmentsText xs ss ys
+      → ComparableText (current_node_identifier ∷ xs) (form.singular CurrentNode ss) ys
+  absolute : {xs ys : List ℕ} {ss : List SingularSegment} → SingularSegmentsText xs ss ys
+      → ComparableText (root_identifier ∷ xs) (form.singular Root ss) ys
+
+-- comparison-op; no comparable begins with "="
+pub data OperatorText : List ℕ → ComparisonOperator → List ℕ → Type 0 where
+  equal : {xs : List ℕ} → OperatorText (equals_sign ∷ equals_sign ∷ xs) Equal xs
+  not_equal : {xs : List ℕ} → OperatorText (exclamation_mark ∷ equals_sign ∷ xs) NotEqual xs
+  less_or_equal : {xs : List ℕ} → OperatorText (less_than_sign ∷ equals_sign ∷ xs) LessOrEqual xs
+  greater_or_equal : {xs : List ℕ} → OperatorText (greater_than_sign ∷ equals_sign ∷ xs) GreaterOrEqual xs
+  less : {xs : List ℕ} → begins_with equals_sign xs ≡ false → OperatorText (less_than_sign ∷ xs) Less xs
+  greater : {xs : List ℕ} → begins_with equals_sign xs ≡ false → OperatorText (greater_than_sign ∷ xs) Greater xs
+
 -- ---- logical expressions (2.3.5.1)
 
 -- paren-expr and test-expr, but for their logical-not-op
@@ -221,11 +304,13 @@ pub data OperandText {E : Type 0} (T : TextsOf E) : List ℕ → Operand E → L
   absolute : {xs ys : List ℕ} {ss : List (Segment E)} → SegmentsText T xs ss ys
       → OperandText T (root_identifier ∷ xs) (form.test Root ss) ys
 
--- basic-expr = paren-expr / test-expr
+-- basic-expr = paren-expr / comparison-expr / test-expr, where comparison-expr = comparable S comparison-op S comparable
 pub data BasicText {E : Type 0} (T : TextsOf E) : List ℕ → Basic E → List ℕ → Type 0 where
   affirmed : {xs ys : List ℕ} {o : Operand E} → OperandText T xs o ys → BasicText T xs (form.affirmed o) ys
   negated : {xs ys : List ℕ} {o : Operand E} → OperandText T (after_blanks xs) o ys
       → BasicText T (exclamation_mark ∷ xs) (form.negated o) ys
+  comparison : {xs ys zs us : List ℕ} {l r : Comparable} {op : ComparisonOperator} → ComparableText xs l ys
+      → OperatorText (after_blanks ys) op zs → ComparableText (after_blanks zs) r us → BasicText T xs (form.comparison op l r) us
 
 -- one or more of what T are the texts of, with the sign, written twice, between each two: *(S sign sign S ..)
 pub data JoinedText {A : Type 0} (sign : ℕ) (T : TextsOf A) : List ℕ → List A → List ℕ → Type 0 where

@@ -10,7 +10,7 @@ use Rattle.json_path_query.specs.declared.error.ParseErrorKind.TheVariants.{OutO
 use Rattle.json_path_query.specs.declared.query.Query.{Query}
 use Rattle.json_path_query.specs.Forms.{Segment, Expression, nesting_limit, QuerySegment, IsQuery, AreSegmentsIn, IsExpression}
 use Rattle.json_path_query.specs.Fronts.{query_front}
-use Rattle.json_path_query.specs.Grammar.{QueryText, name_chars}
+use Rattle.json_path_query.specs.Grammar.{QueryText, name_chars, number_chars}
 
 -- The text is this query, and no other.
 pub record IsReading (cs : List ℕ) (q : Query) : Type 0 where
@@ -43,6 +43,15 @@ FrontsAs o (Err e) = e.kind ≢ OutOfMemory → o ≡ None
 pub record PushesName (old xs new left : List ℕ) : Type 0 where
   pub name : new ≡ old ++ (name_chars xs).0
   pub rest : left ≡ (name_chars xs).1
+
+-- The characters of a number are appended, and what is left follows them.
+pub record PushesNumber (old xs new left : List ℕ) : Type 0 where
+  pub number : new ≡ old ++ (number_chars xs).0
+  pub rest : left ≡ (number_chars xs).1
+
+-- what was found is o, and what follows it
+abbrev pub FoundAs : {V : Type 0} → Option (V × List ℕ) → Option (V × Bor (List ℕ)) → Type 0
+FoundAs o r = o ≡ option_map (λ p. (p.0, p.1.now)) r
 
 -- the code's string has these characters
 abbrev pub IsText : List ℕ → String Global → Type 0

@@ -1,10 +1,11 @@
 //! Blanks, names and integers.
-ghost use Rattle.std.specs.Prelude.{◌≡◌, ◌≤◌, ◌++◌, ◌∷◌, [], IfOk};
+ghost use Rattle.std.specs.Prelude.{◌≡◌, ◌<◌, ◌≤◌, ◌++◌, ◌∷◌, [], IfOk, string_bytes};
 ghost use Rattle.tinyjson.specs.Characters.{is_white, text};
 ghost use Rattle.json_path_query.specs.Fronts.{begins_int, magnitude_front, int_front, behind, behind_both};
+ghost use Rattle.json_path_query.specs.Fronts.{behind_word, is_quote};
 ghost use Rattle.json_path_query.specs.Grammar.{after_blanks, is_name_first, is_name_char, name_chars};
-ghost use Rattle.json_path_query.specs.Grammar.{is_digit, greatest_exact};
-ghost use Rattle.json_path_query.specs.Reading.{FrontsAs, IsRest, PushesName};
+ghost use Rattle.json_path_query.specs.Grammar.{is_digit, is_number_char, number_chars, greatest_exact};
+ghost use Rattle.json_path_query.specs.Reading.{FrontsAs, IsRest, PushesName, PushesNumber};
 
 use crate::error::Refusal;
 use std::alloc::AllocError;
@@ -51,6 +52,19 @@ fn is_digit(c: char) -> bool
     '0' <= c && c <= '9'
 }
 
+/// Whether the character stands in numbers.
+pub(crate) fn is_number_char(c: char) -> bool
+    ensures { result ≡ is_number_char c }
+{
+    is_digit(c) || c == '-' || c == '+' || c == '.' || c == 'e' || c == 'E'
+}
+
+pub(crate) fn is_quote(c: char) -> bool
+    ensures { result ≡ is_quote c }
+{
+    c == '"' || c == '\''
+}
+
 /// What follows the sign, if it stands here.
 pub(crate) fn behind(sign: char, text: &[char]) -> Option<&[char]>
     ensures { IsRest (behind sign text.now) result }
@@ -66,6 +80,19 @@ pub(crate) fn behind_both(sign: char, text: &[char]) -> Option<&[char]>
     let second = behind(sign, text)?;
     let rest = behind(sign, second)?;
     Some(after_blanks(rest))
+}
+
+/// What follows the word, if it stands here.
+pub(crate) fn behind_word<'t>(word: &[char], text: &'t [char]) -> Option<&'t [char]>
+    ensures { IsRest (behind_word word.now text.now) result }
+{
+    let mut letters = word;
+    let mut rest = text;
+    while let Some((letter, others)) = letters.split_first() {
+        rest = behind(*letter, rest)?;
+        letters = others;
+    }
+    Some(rest)
 }
 
 /// Whether an integer begins here.
@@ -101,6 +128,33 @@ pub(crate) fn push_name_chars<'t>(
         rest = after;
     }
     Ok(rest)
+}
+
+/// Appends the characters of a number, and returns what follows them.
+pub(crate) fn push_number_chars<'t>(
+    number: &mut String,
+    all: &'t [char],
+) -> Result<&'t [char], AllocError>
+    ensures { IfOk result (λ rest.
+        PushesNumber (string_bytes number.old) all.now (string_bytes number.new) rest.now) }
+{
+    let mut rest = all;
+    while let Some((first, after)) = rest.split_first() {
+        if !is_number_char(*first) {
+            return Ok(rest);
+        }
+        push_ascii(number, *first)?;
+        rest = after;
+    }
+    Ok(rest)
+}
+
+/// Appends a character of one byte.
+fn push_ascii(string: &mut String, c: char) -> Result<(), AllocError>
+    requires { c < 128 }
+    ensures { IfOk result (λ _. string_bytes string.new ≡ string_bytes string.old ++ c ∷ []) }
+{
+    string.push(c)
 }
 
 /// Reads an integer.

@@ -5,6 +5,7 @@
 //! ```
 #![tactic(auto)]
 
+mod comparable;
 mod error;
 mod lexical;
 mod parse;

@@ -6,15 +6,16 @@ ghost use Rattle.json_path_query.specs.Forms.{IsOperand, IsBasic, IsConjunction,
 ghost use Rattle.json_path_query.specs.Fronts.{bound_front, step_front, slice_front, plain_front, int_selector_front};
 ghost use Rattle.json_path_query.specs.Fronts.{shorthand_front, selector_front, selection_front, descendant_front};
 ghost use Rattle.json_path_query.specs.Fronts.{begins_segment, segment_front, segments_front, operand_front};
-ghost use Rattle.json_path_query.specs.Fronts.{basic_front, conjunction_front, expression_front, origin_of};
+ghost use Rattle.json_path_query.specs.Fronts.{basic_front, conjunction_front, expression_front};
 ghost use Rattle.json_path_query.specs.Reading.{Reads, ReadsQuery, Fronts, FrontsAs};
 
+use crate::comparable::{comparable, operator, origin};
 use crate::error::{ParseError, ParseErrorKind, Refusal};
 use crate::lexical::{
     after_blanks, begins_integer, behind, behind_both, integer, is_name_first, push,
     push_name_chars,
 };
-use crate::query::{Expression, FilterQuery, Origin, Query, Segment, Selector};
+use crate::query::{Expression, FilterQuery, Query, Segment, Selector};
 use crate::string::quoted;
 use std::alloc::{AllocError, Global};
 
@@ -22,8 +23,8 @@ use std::alloc::{AllocError, Global};
 const NESTING_LIMIT: usize = 64;
 
 impl Query {
-    /// Reads the text of a query (RFC 9535), whose filters have no comparisons and no functions, and at most 64
-    /// logical expressions in each other. After an error nothing is left of what was read.
+    /// Reads the text of a query (RFC 9535), whose filters have no functions, and at most 64 logical
+    /// expressions in each other. After an error nothing is left of what was read.
     ///
     /// ```
     /// let query = Query::parse(alloc, "$.store.book[*].author")?;
@@ -292,7 +293,18 @@ fn basic<'t>(
         let (condition, after) = operand(alloc, levels, after_blanks(rest))?;
         return Ok((Expression::Not(Box::new(alloc, condition)?), after));
     }
-    operand(alloc, levels, text)
+    if *first == '(' {
+        return operand(alloc, levels, text);
+    }
+    let (left, after) = comparable(alloc, text)?;
+    let Some((operator, behind)) = operator(after_blanks(after)) else {
+        return operand(alloc, levels, text);
+    };
+    let (right, rest) = comparable(alloc, after_blanks(behind))?;
+    Ok((
+        Expression::Comparison(operator, left, right),
+        after_blanks(rest),
+    ))
 }
 
 /// Reads an expression in parentheses or a test of a query, and the blanks after it.
@@ -323,17 +335,6 @@ fn operand<'t>(
         Expression::Test(FilterQuery { origin, segments }),
         after_blanks(after),
     ))
-}
-
-/// Where a query inside a filter begins that begins with this character.
-fn origin(first: char) -> Option<Origin>
-    ensures { result ≡ origin_of first }
-{
-    match first {
-        '@' => Some(Origin::CurrentNode),
-        '$' => Some(Origin::Root),
-        _ => None,
-    }
 }
 
 /// Reads a selector that is no filter, and the blanks after it.

@@ -1,4 +1,4 @@
-use Rattle.std.proofs.Common.{◌≡◌, ◌∙◌, ◌∷◌, [], ◌++◌, ◌<◌, ◌-◌, true, false, length, sym, ap, refl, subst, rules, arith}
+use Rattle.std.proofs.Common.{◌≡◌, ◌∙◌, ◌∷◌, [], ◌++◌, ◌<◌, ◌-◌, true, false, None, length, sym, ap, refl, subst, rules, arith}
 use Rattle.std.specs.Prelude.{option_map}
 use Rattle.json_path_query.specs.Forms as form
 use Rattle.json_path_query.specs.Forms.{Each, IsPlain, IsSelector, AreSelectorsIn, IsSegment, AreSegmentsIn, IsOperand, IsBasic}
@@ -20,7 +20,7 @@ use Rattle.json_path_query.proofs.Levels.{
 use Rattle.json_path_query.proofs.Levels.{conjunction_smaller, segment_smaller, selector_smaller, filter_at, plain_from}
 use Rattle.json_path_query.proofs.Levels.{selection_at, selection_none, segments_end, segments_more, segments_none, descendant_bracket}
 use Rattle.json_path_query.proofs.Levels.{descendant_short, segment_bracket, segment_short, closed_at}
-use Rattle.json_path_query.proofs.Levels.{tested_at, negated_from, affirmed_from, joined_at, joined_none, separator_nothing}
+use Rattle.json_path_query.proofs.Levels.{operated_from, compared_at, tested_at, negated_from, affirmed_from, joined_at, joined_none, separator_nothing}
 use Rattle.json_path_query.proofs.Levels.{separator_closes, separator_more, separator_other, one_selector, expression_at, expression_none}
 use Rattle.json_path_query.proofs.parse.+reader.Goals as goal
 
@@ -207,11 +207,31 @@ basic-returns-then-first-eq33 t c =
       (c.in_ok-new.field-0, refl, subst (IsOperand (IsExpression c.args.levels) s.0) (sym c.in_ok-new.ensures.ok) s.2),
     )
 
+pub basic-returns-then-first-eq40 : goal.basic-returns-then-first-eq40
+basic-returns-then-first-eq40 t c =
+    fronts_map (IsOperand (IsExpression c.args.levels)) (IsBasic (IsExpression c.args.levels)) form.affirmed _ _ c.operand-then-first-eq40.result
+    (affirmed_from (expression_front c.args.levels) c.args.text.now _ c.in-Some.first.now c.in-Some.ensures.cases.0 c.if-first-eq40.true)
+    (λ v x h. h) c.operand-then-first-eq40.ensures
+
+pub basic-returns-in_default-operator : goal.basic-returns-in_default-operator
+basic-returns-in_default-operator t c =
+    let l = c.in_ok-left.ensures in
+    fronts_map (IsOperand (IsExpression c.args.levels)) (IsBasic (IsExpression c.args.levels)) form.affirmed _ _ c.operand-in_default-operator.result
+    (operated_from (expression_front c.args.levels) c.args.text.now _ c.in-Some.first.now l.0 c.in_ok-left.after.now _ None
+    c.in-Some.ensures.cases.0 c.if-first-eq33.false c.if-first-eq40.false l.1 c.after_blanks-2.ensures c.in_default-operator.ensures)
+    (λ v x h. h) c.operand-in_default-operator.ensures
+
 pub basic-returns : goal.basic-returns
 basic-returns t c =
-    fronts_map (IsOperand (IsExpression c.args.levels)) (IsBasic (IsExpression c.args.levels)) form.affirmed _ _ c.operand-2.result
-    (affirmed_from (expression_front c.args.levels) c.args.text.now _ c.in-Some.first.now c.in-Some.ensures.cases.0 c.if-first-eq33.false)
-    (λ v x h. h) c.operand-2.ensures
+    let l = c.in_ok-left.ensures in
+    let r = c.in_ok-right.ensures in (
+      form.comparison c.in-Some-operator.operator l.0 r.0,
+      compared_at (expression_front c.args.levels) c.args.text.now _ c.in-Some.first.now l.0 r.0 c.in-Some-operator.operator
+          c.in_ok-left.after.now _ c.in-Some-operator.behind.now _ c.in_ok-right.rest.now _ c.in-Some.ensures.cases.0
+          c.if-first-eq33.false c.if-first-eq40.false l.1 c.after_blanks-2.ensures c.in-Some-operator.ensures c.after_blanks-3.ensures
+          r.1 c.after_blanks-4.ensures,
+      (c.in_ok-left.left, c.in_ok-right.right, refl, l.2, r.2),
+    )
 
 pub operand-returns-then-first-eq40 : goal.operand-returns-then-first-eq40
 operand-returns-then-first-eq40 t c =

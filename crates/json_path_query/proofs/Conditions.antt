@@ -1,0 +1,132 @@
+-- Conditions and queries that are found at the front of a text are in the grammar.
+use Rattle.std.proofs.Common.{◌≡◌, ℕ, zero, suc, ◌==◌, List, [], ◌∷◌, length, Option, Some, None, refl, sym, ap, ◌∙◌}
+use Rattle.std.proofs.Common.{subst, true}
+use Rattle.json_path_query.specs.declared.query.ComparisonOperator.{ComparisonOperator}
+use Rattle.json_path_query.specs.declared.query.Origin.TheVariants.{Root, CurrentNode}
+use Rattle.json_path_query.specs.Forms.{Segment, Comparable, Expression}
+use Rattle.json_path_query.specs.Forms as form
+use Rattle.json_path_query.specs.Grammar as is
+use Rattle.json_path_query.specs.Grammar.{after_blanks, TextsOf, SegmentsText, ComparableText, OperatorText, OperandText, BasicText}
+use Rattle.json_path_query.specs.Grammar.{JoinedText, ExpressionText, QueryText}
+use Rattle.json_path_query.specs.Fronts.{turns, then_turn, with_first, FrontOf, segments_front, behind, closed, closing, tested, origin_of}
+use Rattle.json_path_query.specs.Fronts.{tested_front, operand_front, comparable_front, operator_front, as_affirmed, as_negated}
+use Rattle.json_path_query.specs.Fronts.{as_comparison, operated_front, left_end, basic_front, behind_both, joint, joined}
+use Rattle.json_path_query.specs.Fronts.{joined_turn, joined_front, expression_front, ended, query_front}
+use Rattle.json_path_query.proofs.Before.{Before}
+use Rattle.json_path_query.proofs.Compared.{comparable_sound, operator_sound}
+use Rattle.json_path_query.proofs.Finds.{Finds, finds_none, finds_some, finds_cond, finds_map, finds_then, finds_as, at_code}
+use Rattle.json_path_query.proofs.Sound.{Sound, behind_sound, segments_sound}
+
+-- ---- logical expressions
+
+-- what follows both signs, with the blanks
+record Both (sign : ℕ) (xs zs : List ℕ) : Type 0 where
+  rest : List ℕ
+  at : xs ≡ sign ∷ sign ∷ rest
+  blanks : after_blanks rest ≡ zs
+
+both_sound : (sign : ℕ) (xs : List ℕ) → Finds (behind_both sign xs) (Both sign xs)
+both_sound sign xs =
+    finds_map after_blanks _ (finds_then (behind sign) (behind sign xs) (finds_as (behind_sound sign xs) (λ ys e.
+    finds_as (behind_sound sign ys) (λ zs f. record { rest = zs; at = e ∙ ap (λ us. sign ∷ us) f; blanks = refl }))))
+
+operand_sound : {E : Type 0} {T : TextsOf E} {F : FrontOf E} → Sound T F → Sound (OperandText T) (operand_front F)
+operand_sound s [] = finds_none
+operand_sound {E = E} {T = T} {F = F} s (c ∷ cs) =
+    finds_cond (c == 40)
+    (λ e. finds_then closing (F (after_blanks cs)) (finds_as (s (after_blanks cs)) (λ p b.
+    finds_map (closed p.0) (behind 41 p.1) (finds_as (behind_sound 41 p.1) (λ ys f. record {
+      whole = ys;
+      blanks = refl;
+      held = at_code (λ x. OperandText T (x ∷ cs) (form.parenthesized p.0) ys) c 40 e (is.parenthesized b.held (b.blanks ∙ f));
+    })))))
+    (λ _. finds_then (tested_front F cs) (origin_of c)
+    (finds_cond (c == 64)
+    (λ e. finds_some (finds_map (tested CurrentNode) (segments_front F cs) (finds_as (segments_sound s (suc (length cs)) cs)
+    (λ p m. record {
+      whole = p.1;
+      blanks = refl;
+      held = at_code (λ x. OperandText T (x ∷ cs) (form.test CurrentNode p.0) p.1) c 64 e (is.relative m);
+    }))))
+    (λ _. finds_cond (c == 36)
+    (λ e. finds_some (finds_map (tested Root) (segments_front F cs) (finds_as (segments_sound s (suc (length cs)) cs)
+    (λ p m. record {
+      whole = p.1;
+      blanks = refl;
+      held = at_code (λ x. OperandText T (x ∷ cs) (form.test Root p.0) p.1) c 36 e (is.absolute m);
+    }))))
+    (λ _. finds_none))))
+
+-- behind what may stand on the left
+operated_sound : {E : Type 0} {T : TextsOf E} {F : FrontOf E} → Sound T F → (xs : List ℕ) (l : Comparable) (ys : List ℕ)
+    → ComparableText xs l ys → (o : Option (ComparisonOperator × List ℕ)) → Finds o (λ p. OperatorText (after_blanks ys) p.0 p.1)
+    → Finds (operated_front F xs l o) (λ p. Before (BasicText T xs p.0) p.1)
+operated_sound {F = F} s xs l ys m None f =
+    finds_map as_affirmed (operand_front F xs) (finds_as (operand_sound s xs) (λ p b. record {
+      whole = b.whole;
+      blanks = b.blanks;
+      held = is.affirmed b.held;
+    }))
+operated_sound s xs l ys m (Some p) f =
+    finds_map (as_comparison p.0 l) (comparable_front (after_blanks p.1)) (finds_as (comparable_sound (after_blanks p.1)) (λ q r. record {
+      whole = q.1;
+      blanks = refl;
+      held = is.comparison m (f.at p refl) r;
+    }))
+
+pub basic_sound : {E : Type 0} {T : TextsOf E} {F : FrontOf E} → Sound T F → Sound (BasicText T) (basic_front F)
+basic_sound s [] = finds_none
+basic_sound {T = T} {F = F} s (c ∷ cs) =
+    finds_cond (c == 33)
+    (λ e. finds_map as_negated (operand_front F (after_blanks cs)) (finds_as (operand_sound s (after_blanks cs)) (λ p b. record {
+      whole = b.whole;
+      blanks = b.blanks;
+      held = at_code (λ x. BasicText T (x ∷ cs) (form.negated p.0) b.whole) c 33 e (is.negated b.held);
+    })))
+    (λ _. finds_cond (c == 40)
+    (λ _. finds_map as_affirmed (operand_front F (c ∷ cs)) (finds_as (operand_sound s (c ∷ cs)) (λ p b. record {
+      whole = b.whole;
+      blanks = b.blanks;
+      held = is.affirmed b.held;
+    })))
+    (λ _. finds_then (left_end F (c ∷ cs)) (comparable_front (c ∷ cs)) (finds_as (comparable_sound (c ∷ cs)) (λ p m.
+    operated_sound s (c ∷ cs) p.0 p.1 m (operator_front (after_blanks p.1)) (operator_sound (after_blanks p.1))))))
+
+joined_turns_sound : {A : Type 0} {T : TextsOf A} {F : FrontOf A} (sign : ℕ) → Sound T F → (n : ℕ) (xs : List ℕ)
+    → Finds (turns (joined_turn sign F) n xs) (λ p. Before (JoinedText sign T xs p.0) p.1)
+joined_turns_sound sign s zero xs = finds_none
+joined_turns_sound {A = A} {T = T} {F = F} sign s (suc n) xs =
+    finds_then (then_turn (turns (joined_turn sign F) n)) (joined_turn sign F xs) (finds_map (joined sign) (F xs)
+    (finds_as (s xs) (λ p b. by p.0 p.1 b (behind_both sign p.1) (both_sound sign p.1) (joined_turns_sound sign s n))))
+  where
+    by : (a : A) (ys : List ℕ) → Before (T xs a) ys → (o : Option (List ℕ)) → Finds o (Both sign ys)
+        → ((zs : List ℕ) → Finds (turns (joined_turn sign F) n zs) (λ p. Before (JoinedText sign T zs p.0) p.1))
+        → Finds (then_turn (turns (joined_turn sign F) n) (joint a ys o)) (λ p. Before (JoinedText sign T xs p.0) p.1)
+    by a ys b None f rec = finds_some (record { whole = b.whole; blanks = b.blanks; held = is.last b.held })
+    by a ys b (Some zs) f rec =
+        let both = f.at zs refl in
+        finds_map (with_first a) (turns (joined_turn sign F) n zs) (finds_as (rec zs) (λ r k. record {
+          whole = k.whole;
+          blanks = k.blanks;
+          held = is.more b.held (b.blanks ∙ both.at) (subst (λ us. JoinedText sign T us r.0 k.whole) (sym both.blanks) k.held);
+        }))
+
+pub joined_sound : {A : Type 0} {T : TextsOf A} {F : FrontOf A} (sign : ℕ) → Sound T F
+    → Sound (JoinedText sign T) (joined_front sign F)
+joined_sound sign s xs = joined_turns_sound sign s (suc (length xs)) xs
+
+-- ---- queries
+
+pub query_sound : (n : ℕ) → Sound (ExpressionText n) (expression_front n) → (xs : List ℕ)
+    → Finds (query_front n xs) (λ ss. QueryText n xs ss)
+query_sound n s [] = finds_none
+query_sound n s (c ∷ cs) =
+    finds_cond (c == 36)
+    (λ e. finds_then ended (segments_front (expression_front n) cs) (finds_as (segments_sound s (suc (length cs)) cs)
+    (λ p m. by p.0 p.1 m e)))
+    (λ _. finds_none)
+  where
+    by : (ss : List (Segment (Expression n))) (ys : List ℕ) → SegmentsText (ExpressionText n) cs ss ys → (c == 36) ≡ true
+        → Finds (ended (ss, ys)) (λ us. QueryText n (c ∷ cs) us)
+    by ss [] m e = finds_some (at_code (λ x. QueryText n (x ∷ cs) ss) c 36 e (is.query m))
+    by ss (y ∷ ys) m e = finds_none
