@@ -1,6 +1,6 @@
 -- What the code's levels stand for, as tokens are taken.
-use Rattle.std.proofs.Common.{◌≡◌, ℕ, List, [], ◌∷◌, ◌++◌, length, map, Option, Some, None, Result, Ok, Err, refl, sym, ap, ◌∙◌, subst}
-use Rattle.std.proofs.Common.{arith, length-append}
+use Rattle.std.proofs.Common.{◌≡◌, ℕ, suc, ◌+◌, ◌-◌, ◌*◌, ◌<◌, ◌≤◌, List, [], ◌∷◌, ◌++◌, length, map, Option, Some, None, Result, Ok, Err}
+use Rattle.std.proofs.Common.{refl, sym, ap, ◌∙◌, subst, arith, length-append}
 use Rattle.std.proofs.lemmas.List.{map-append}
 use Rattle.i_regexp.specs.declared.error.IRegexpErrorKind.{IRegexpErrorKind}
 use Rattle.i_regexp.specs.declared.error.IRegexpErrorKind.TheVariants.{Invalid, UnsupportedCategory, TooDeep, TooLarge, OutOfMemory}
@@ -11,8 +11,11 @@ use Rattle.i_regexp.specs.Building.{Means, AllMean, sequence, choice, choice_fro
 use Rattle.i_regexp.specs.Grammar.{Token, closed, quantifier, Branch, Piece, once, times, Atom, group, regexp_form, branch_form, piece_form}
 use Rattle.i_regexp.specs.Grammar.{atom_form}
 use Rattle.i_regexp.specs.Levels.{Level, level, State, settled, settle, with_atom, branch_of, regexp_from, barred, regexp_of, quantified}
-use Rattle.i_regexp.specs.Levels.{in_state, close, advance, MeansEnd, StandsAt, Outer, Agrees, Quantifies, Takes}
+use Rattle.i_regexp.specs.Levels.{in_state, close, advance, MeansEnd, StandsAt, IsSized, Outer, Agrees, Quantifies, Takes, level_size}
+use Rattle.i_regexp.specs.Levels.{outer_size, state_size}
+use Rattle.i_regexp.specs.Limits.{size_limit, repeated, regexp_size}
 use Rattle.i_regexp.proofs.Building.{all_mean_push}
+use Rattle.i_regexp.proofs.Sizes.{regexp_of_size, put_sized, quantified_sized, quantified_more}
 
 pub all_mean_map_push : {A : Type 0} (form : A → Form) (ns ms : List Node) (n : Node) (xs : List A) (x : A) → ms ≡ ns ++ n ∷ []
     → AllMean ns (map form xs) → Means n (form x) → AllMean ms (map form (xs ++ x ∷ []))
@@ -22,6 +25,14 @@ all_mean_map_push form ns ms n xs x e a m =
 pub ended_none : (o : Option Node) (end : Option Atom) → o ≡ None → MeansEnd o end → end ≡ None
 ended_none o None e m = refl
 ended_none o (Some a) e m = absurd (subst (λ x. MeansEnd x (Some a)) e m)
+
+pub stands_same : (f g : CodeLevel) (l : Level) → g.branches ≡ f.branches → g.pieces ≡ f.pieces → g.last ≡ f.last → StandsAt f l
+    → StandsAt g l
+stands_same f g (level bs ps end) b p o s = record {
+  done = subst (λ v. AllMean v.items (map branch_form bs)) (sym b) s.done;
+  front = subst (λ v. AllMean v.items (map piece_form ps)) (sym p) s.front;
+  ended = subst (λ x. MeansEnd x end) (sym o) s.ended;
+}
 
 pub settle_stands : (f g : CodeLevel) (n : Node) (l : Level) → f.last ≡ Some n → g.branches ≡ f.branches
     → g.pieces.items ≡ f.pieces.items ++ n ∷ [] → g.last ≡ None → StandsAt f l → StandsAt g (settle l)
@@ -71,9 +82,10 @@ put_stands f g n (level bs ps end) a s m b p o = record {
 
 pub quantified_stands : (f g : CodeLevel) (n m : Node) (least : ℕ) (most : Option ℕ) (l : Level) → f.last ≡ Some n
     → ((h : Form) → Means n h → Means m (repetition h least most)) → g.branches ≡ f.branches → g.pieces.items ≡ f.pieces.items ++ m ∷ []
-    → g.last ≡ None → StandsAt f l → (l' : Level) × (quantified l least most ≡ Some l') × StandsAt g l'
-quantified_stands f g n m least most (level bs ps None) e r b p o s = absurd (subst (λ x. MeansEnd x None) e s.ended)
-quantified_stands f g n m least most (level bs ps (Some a)) e r b p o s = (
+    → g.last ≡ None → g.size ≡ f.size + repeated least most * f.last_size → g.size ≤ size_limit → StandsAt f l
+    → (l' : Level) × (quantified l least most ≡ Some l') × StandsAt g l' × ((ls : List Level) → IsSized f (l, ls) → IsSized g (l', ls))
+quantified_stands f g n m least most (level bs ps None) e r b p o z k s = absurd (subst (λ x. MeansEnd x None) e s.ended)
+quantified_stands f g n m least most (level bs ps (Some a)) e r b p o z k s = (
   level bs (ps ++ times a least most ∷ []) None,
   refl,
   record {
@@ -82,7 +94,15 @@ quantified_stands f g n m least most (level bs ps (Some a)) e r b p o s = (
         (r (atom_form a) (subst (λ x. MeansEnd x (Some a)) e s.ended));
     ended = subst (λ x. MeansEnd x None) (sym o) tt;
   },
+  λ ls i. quantified_sized f g bs ps a least most ls i z k,
 )
+
+pub quantified_large : (f : CodeLevel) (n : Node) (least : ℕ) (most : Option ℕ) (l : Level) → f.last ≡ Some n
+    → size_limit < f.size + repeated least most * f.last_size → StandsAt f l
+    → (l' : Level) × (quantified l least most ≡ Some l') × ((ls : List Level) → IsSized f (l, ls) → size_limit < state_size (l', ls))
+quantified_large f n least most (level bs ps None) e z s = absurd (subst (λ x. MeansEnd x None) e s.ended)
+quantified_large f n least most (level bs ps (Some a)) e z s =
+    (level bs (ps ++ times a least most ∷ []) None, refl, λ ls i. quantified_more f bs ps a least most ls i z)
 
 pub quantified_nothing : (f : CodeLevel) (least : ℕ) (most : Option ℕ) (l : Level) → f.last ≡ None → StandsAt f l
     → quantified l least most ≡ None
@@ -91,8 +111,8 @@ quantified_nothing f least most (level bs ps end) e s = ap (λ x. quantified (le
 -- ---- the levels around
 
 pub outer_push : (fs gs : List CodeLevel) (f : CodeLevel) (l : Level) (ls : List Level) → gs ≡ fs ++ f ∷ [] → Outer fs ls → StandsAt f l
-    → Outer gs (l ∷ ls)
-outer_push fs gs f l ls e o s = (fs, f, e, s, o)
+    → IsSized f (l, ls) → Outer gs (l ∷ ls)
+outer_push fs gs f l ls e o s z = (fs, f, e, s, z, o)
 
 front_of : (fs : List CodeLevel) → List CodeLevel
 front_of [] = []
@@ -115,7 +135,7 @@ front_push (g ∷ []) f = refl
 front_push (g ∷ h ∷ fs) f = ap (λ xs. g ∷ xs) (front_push (h ∷ fs) f)
 
 pub outer_pop : (fs gs : List CodeLevel) (f : CodeLevel) (ls : List Level) → gs ≡ fs ++ f ∷ [] → Outer gs ls
-    → (l : Level) × (ms : List Level) × (ls ≡ l ∷ ms) × StandsAt f l × Outer fs ms
+    → (l : Level) × (ms : List Level) × (ls ≡ l ∷ ms) × StandsAt f l × IsSized f (l, ms) × Outer fs ms
 outer_pop fs gs f [] e o =
     let none : length (fs ++ f ∷ []) ≡ 0 = ap length (sym e ∙ o) in
     let some = length-append fs (f ∷ []) in
@@ -123,8 +143,14 @@ outer_pop fs gs f [] e o =
 outer_pop fs gs f (l ∷ ls) e o =
     let same : o.0 ++ o.1 ∷ [] ≡ fs ++ f ∷ [] = sym o.2 ∙ e in
     let front : o.0 ≡ fs = sym (front_push o.0 o.1) ∙ (ap front_of same ∙ front_push fs f) in
-    let back : o.1 ≡ f = sym (last_push f o.0 o.1) ∙ (ap (last_of f) same ∙ last_push f fs f) in
-    (l, ls, refl, subst (λ x. StandsAt x l) back o.3, subst (λ x. Outer x ls) front o.4)
+    let back : o.1 ≡ f = sym (last_push f o.0 o.1) ∙ (ap (last_of f) same ∙ last_push f fs f) in (
+      l,
+      ls,
+      refl,
+      subst (λ x. StandsAt x l) back o.3,
+      subst (λ x. IsSized x (l, ls)) back o.4,
+      subst (λ x. Outer x ls) front o.5,
+    )
 
 pub outer_none : (fs : List CodeLevel) (ls : List Level) → fs ≡ [] → Outer fs ls → ls ≡ []
 outer_none fs [] e o = refl
@@ -138,20 +164,32 @@ pub quantifier_takes : (here here' : CodeLevel) (outer : List CodeLevel) (least 
     → Takes here outer t r here' outer
 quantifier_takes here here' outer least most t (Ok x) e q = λ s a.
     let k = q s.0 a.0 in
-    ((k.0, s.1), ap (advance s) e ∙ ap (in_state s.1) k.1, (k.2, a.1))
+    ((k.0, s.1), ap (advance s) e ∙ ap (in_state s.1) k.1, (k.2, k.3 s.1 a.1, a.2))
 quantifier_takes here here' outer least most t (Err Invalid) e q = λ s a. ap (advance s) e ∙ ap (in_state s.1) (q s.0 a.0)
 quantifier_takes here here' outer least most t (Err UnsupportedCategory) e q = absurd q
 quantifier_takes here here' outer least most t (Err TooDeep) e q = absurd q
-quantifier_takes here here' outer least most t (Err TooLarge) e q = tt
+quantifier_takes here here' outer least most t (Err TooLarge) e q = λ s a.
+    let k = q s.0 a.0 in
+    ((k.0, s.1), ap (advance s) e ∙ ap (in_state s.1) k.1, k.2 s.1 a.1)
 quantifier_takes here here' outer least most t (Err OutOfMemory) e q = tt
 
 pub closed_takes : (here here' around : CodeLevel) (outer outer' : List CodeLevel) (n : Node) (t : Token) → t ≡ closed
     → outer ≡ outer' ++ around ∷ [] → ((l : Level) → StandsAt here l → Means n (regexp_form (regexp_of l)))
-    → ((l : Level) (a : Atom) → StandsAt around l → Means n (atom_form a) → StandsAt here' (with_atom l a)) → (s : State)
-    → Agrees here outer s → (s' : State) × (advance s t ≡ Some s') × Agrees here' outer' s'
-closed_takes here here' around outer outer' n t e split whole put s a =
-    let p = outer_pop outer' outer around s.1 split a.1 in (
+    → ((l : Level) (a : Atom) → StandsAt around l → Means n (atom_form a) → StandsAt here' (with_atom l a)) → here'.size ≡ here.size
+    → here'.last_size ≡ here.size - around.size → (s : State) → Agrees here outer s
+    → (s' : State) × (advance s t ≡ Some s') × Agrees here' outer' s'
+closed_takes here here' around outer outer' n t e split whole put z k s a =
+    let p = outer_pop outer' outer around s.1 split a.2 in
+    let around_size : around.size ≡ level_size p.0 + outer_size p.1 = p.4.size in
+    let here_size : here.size ≡ level_size s.0 + outer_size s.1 = a.1.size in
+    let few : level_size s.0 + outer_size s.1 ≤ size_limit = a.1.few in
+    let outer_same : outer_size s.1 ≡ suc (level_size p.0 + outer_size p.1) = ap outer_size p.2 in
+    let same : regexp_size (regexp_of s.0) ≡ level_size s.0 = regexp_of_size s.0 in (
       (with_atom p.0 (group (regexp_of s.0)), p.1),
       ap (advance s) e ∙ ap (close s.0) p.2,
-      (put p.0 (group (regexp_of s.0)) p.3 (whole s.0 a.0), p.4),
+      (
+        put p.0 (group (regexp_of s.0)) p.3 (whole s.0 a.0),
+        put_sized around here' p.0 p.1 (group (regexp_of s.0)) p.4 (omega arith) (omega arith) (omega arith),
+        p.5,
+      ),
     )

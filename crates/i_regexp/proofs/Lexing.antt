@@ -1,8 +1,9 @@
 -- The fronts of texts are their tokens.
-use Rattle.std.proofs.Common.{◌≡◌, ◌⊎◌, inl, inr, ℕ, zero, suc, ◌+◌, ◌-◌, ◌*◌, ◌<◌, ◌≤◌, Bool, true, false, not, ◌==◌, nat_le, cond, List}
-use Rattle.std.proofs.Common.{[], ◌∷◌, ◌++◌, length, Option, Some, None, option_map, refl, sym, ap, ◌∙◌, subst, arith, true≢false}
+use Rattle.std.proofs.Common.{◌≡◌, ◌≢◌, ◌⊎◌, inl, inr, ℕ, zero, suc, ◌+◌, ◌-◌, ◌*◌, ◌<◌, ◌≤◌, Bool, true, false, not, ◌||◌, ◌==◌, nat_le, cond}
+use Rattle.std.proofs.Common.{List, [], ◌∷◌, ◌++◌, length, Option, Some, None, option_map, refl, sym, ap, ◌∙◌, subst, arith, true≢false}
 use Rattle.std.proofs.Common.{append_assoc, append-nil}
-use Rattle.std.proofs.lemmas.Bool.{cond-true, cond-false, eqb-false, ne_eqb, eqb-true, leb-true, and_parts, and_from, or_parts, not-true}
+use Rattle.std.proofs.lemmas.Bool.{cond-true, cond-false, eqb-false, ne_eqb, eqb-true, leb-true, and_parts, and_from, or_parts, or_left}
+use Rattle.std.proofs.lemmas.Bool.{not-true}
 use Rattle.std.specs.Prelude.{option_and_then}
 use Rattle.i_regexp.specs.Grammar as is
 use Rattle.i_regexp.specs.Grammar.{Token, characters, opened, closed, bar, quantifier, one, any, is_one_of, is_normal, is_plain, is_digit}
@@ -12,6 +13,7 @@ use Rattle.i_regexp.specs.Fronts.{escape_front, member_front, up_to, range_end, 
 use Rattle.i_regexp.specs.Fronts.{first_front, bracket_front, digits_front, number_front, most_end, most_front, least_end, counts_front}
 use Rattle.i_regexp.specs.Fronts.{one_front, token_front}
 use Rattle.i_regexp.specs.Levels.{IsFit}
+use Rattle.i_regexp.specs.Limits.{size_limit, LargeNumber, are_counts, LargeCount}
 use Rattle.i_regexp.proofs.TokenFronts.{item_shorter, tail_item, then_more, first_item, bracket_other}
 
 pub record Front (xs : List ℕ) (t : Token) (ys : List ℕ) : Type 0 where
@@ -329,6 +331,69 @@ number_sound (c ∷ xs) m ys e =
           record { first = c; cs = h.cs; split = ap (λ zs. c ∷ zs) h.split; digit = a.0; digits = h.digits; value = h.value }
       | inr b ↦ none_some b.1
     ]
+
+digits_grow : (n : ℕ) (xs : List ℕ) → n ≤ (digits_front n xs).0
+digits_grow n [] = omega arith
+digits_grow n (c ∷ xs) = by (is_digit c) (digits_grow (10 * n + (c - 48)) xs)
+  where
+    by : (b : Bool) → 10 * n + (c - 48) ≤ (digits_front (10 * n + (c - 48)) xs).0
+        → n ≤ (cond b (digits_front (10 * n + (c - 48)) xs) (n, c ∷ xs)).0
+    by true h = omega arith
+    by false h = omega arith
+
+-- the digits that were read are those of a number that is too large
+pub large_number : (text after rest end : List ℕ) (first next m : ℕ) → text ≡ first ∷ after → is_digit first ≡ true
+    → digits_front m rest ≡ digits_front (first - 48) after → rest ≡ next ∷ end → is_digit next ≡ true
+    → size_limit < 10 * m + (next - 48) → LargeNumber text
+large_number text after rest end first next m t d e f g l =
+    let whole : ℕ × List ℕ = digits_front (first - 48) after in
+    let all = digits_sound (first - 48) after whole.0 whole.1 refl in
+    let step : digits_front m rest ≡ digits_front (10 * m + (next - 48)) end = ap (digits_front m) f ∙ cond-true (is_digit next) _ _ g in
+    let low = digits_grow (10 * m + (next - 48)) end in
+    let same : (digits_front (10 * m + (next - 48)) end).0 ≡ whole.0 = ap (λ p. p.0) (sym step ∙ e) in
+    let value : whole.0 ≡ number_on (first - 48) all.cs = all.value in
+    record {
+      first = first;
+      digits = all.cs;
+      after = whole.1;
+      split = t ∙ ap (λ zs. first ∷ zs) all.split;
+      is_first = d;
+      are = all.digits;
+      large = omega arith;
+    }
+
+digits_counts : (cs : List ℕ) → are_digits cs ≡ true → are_counts (cs ++ 44 ∷ []) ≡ true
+digits_counts [] h = refl
+digits_counts (c ∷ cs) h =
+    let both = and_parts (is_digit c) (are_digits cs) h in
+    and_from (is_digit c || (c == 44)) (are_counts (cs ++ 44 ∷ [])) (or_left (is_digit c) (c == 44) both.0) (digits_counts cs both.1)
+
+regroup_counts : (cs ys : List ℕ) (a : ℕ) → a ∷ (cs ++ 44 ∷ ys) ≡ (a ∷ (cs ++ 44 ∷ [])) ++ ys
+regroup_counts cs ys a = simp append_assoc
+
+-- the second count of a quantifier is too large
+pub large_most : (xs : List ℕ) (n : ℕ) (rest after : List ℕ) (c : ℕ) → number_front xs ≡ Some (n, rest) → rest ≡ c ∷ after → c ≡ 44
+    → LargeNumber after → LargeCount (123 ∷ xs)
+large_most xs n rest after c e f g l =
+    let w = number_sound xs n rest e in
+    record {
+      before = w.first ∷ (w.cs ++ 44 ∷ []);
+      number = after;
+      split = ap (λ zs. 123 ∷ zs) (w.split ∙ (ap (λ zs. w.first ∷ (w.cs ++ zs)) (f ∙ ap (λ y. y ∷ after) g)
+          ∙ regroup_counts w.cs after w.first));
+      counts = digits_counts (w.first ∷ w.cs) (and_from (is_digit w.first) (are_digits w.cs) w.digit w.digits);
+      large = l;
+    }
+
+-- no second count stands behind the comma
+pub no_most : (xs : List ℕ) (n : ℕ) (rest after end : List ℕ) (c d : ℕ) → number_front xs ≡ Some (n, rest) → rest ≡ c ∷ after → c ≡ 44
+    → after ≡ d ∷ end → d ≢ 125 → number_front after ≡ None → counts_front xs ≡ None
+no_most xs n rest after end c d e f g h k none =
+    ap (option_and_then (λ p. least_end p.0 p.1)) e
+    ∙ (ap (least_end n) (f ∙ ap (λ y. y ∷ after) g)
+    ∙ (ap (most_front n) h
+    ∙ (cond-false (d == 125) _ _ (ne_eqb d 125 k)
+    ∙ ap (option_and_then (λ p. most_end n p.0 p.1)) (ap number_front (sym h) ∙ none))))
 
 -- ---- quantifiers
 

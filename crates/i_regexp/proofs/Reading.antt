@@ -1,7 +1,7 @@
 -- Reading a text token by token.
 use Rattle.std.proofs.lemmas.Bool.{eqb-true}
 use Rattle.std.proofs.lemmas.Bool.Decides.{nat_tests}
-use Rattle.std.proofs.Common.{Bool, true, false, ◌==◌, ◌≡◌, ℕ, ◌<◌, List, [], ◌∷◌, ◌++◌, length, Option, Some, None, refl, sym, ap}
+use Rattle.std.proofs.Common.{Bool, true, false, ◌==◌, ◌≡◌, ℕ, ◌<◌, ◌≤◌, List, [], ◌∷◌, ◌++◌, length, Option, Some, None, refl, sym, ap}
 use Rattle.std.proofs.Common.{◌∙◌, subst, arith, append-nil, length-append}
 use Rattle.std.specs.Prelude.{option_and_then}
 use Rattle.i_regexp.specs.declared.marked.Node.{Node}
@@ -10,10 +10,12 @@ use Rattle.i_regexp.specs.Building.{Means}
 use Rattle.i_regexp.specs.Fronts.{token_front}
 use Rattle.i_regexp.specs.Grammar as is
 use Rattle.i_regexp.specs.Grammar.{Token, Spells, Spelled, Regexp, regexp_tokens, regexp_form, IsText}
-use Rattle.i_regexp.specs.Levels.{Level, State, fresh, regexp_of, advance, StandsAt, Outer, Agrees}
+use Rattle.i_regexp.specs.Levels.{Level, State, fresh, regexp_of, advance, StandsAt, Outer, Agrees, state_size}
 use Rattle.i_regexp.proofs.Levels.{outer_none}
 use Rattle.i_regexp.proofs.Lexing.{spells_some, front_sound, front_complete}
+use Rattle.i_regexp.specs.Limits.{size_limit, regexp_size}
 use Rattle.i_regexp.proofs.Machine.{run, machine_sound, machine_complete}
+use Rattle.i_regexp.proofs.Sizes.{fresh_sized, regexp_of_size, run_grows}
 
 -- ---- tokens, one after the other
 
@@ -93,8 +95,9 @@ pub record Reading (text rest : List ℕ) (here : CodeLevel) (outer : List CodeL
   pub agrees : Agrees here outer state
 
 pub reading_init : (text : List ℕ) (here : CodeLevel) (outer : List CodeLevel) → StandsAt here fresh → outer ≡ []
-    → Reading text text here outer
-reading_init text here outer s o = record { tokens = []; state = (fresh, []); lexed = stop; ran = refl; agrees = (s, o) }
+    → here.size ≡ 0 → Reading text text here outer
+reading_init text here outer s o z =
+    record { tokens = []; state = (fresh, []); lexed = stop; ran = refl; agrees = (s, fresh_sized here [] z (omega arith), o) }
 
 pub reading_on : (text rest after : List ℕ) (here here' : CodeLevel) (outer outer' : List CodeLevel) (t : Token)
     → Reading text rest here outer → token_front rest ≡ Some (t, after)
@@ -113,12 +116,18 @@ reading_on text rest after here here' outer outer' t r e takes =
 
 pub reading_end : (text rest : List ℕ) (here : CodeLevel) (outer : List CodeLevel) (n : Node) → Reading text rest here outer → rest ≡ []
     → outer ≡ [] → ((l : Level) → StandsAt here l → Means n (regexp_form (regexp_of l)))
-    → (r : Regexp) × IsText text r × Means n (regexp_form r)
+    → (r : Regexp) × IsText text r × Means n (regexp_form r) × (regexp_size r ≤ size_limit)
 reading_end text rest here outer n r e o whole =
     let l = r.state.0 in
-    let alone : r.state.1 ≡ [] = outer_none outer r.state.1 o r.agrees.1 in
+    let alone : r.state.1 ≡ [] = outer_none outer r.state.1 o r.agrees.2 in
     let same : regexp_tokens (regexp_of l) ≡ r.tokens = machine_sound r.tokens l (r.ran ∙ ap (λ ls. Some (l, ls)) alone) in
-    (regexp_of l, record { spelled = subst (Spelled text) (sym same) (lexes_spelled r.lexed e) }, whole l r.agrees.0)
+    let size = regexp_of_size l in
+    let few = r.agrees.1.few in (
+      regexp_of l,
+      record { spelled = subst (Spelled text) (sym same) (lexes_spelled r.lexed e) },
+      whole l r.agrees.0,
+      omega arith,
+    )
 
 -- ---- refusals
 
@@ -174,7 +183,27 @@ no_end text rest here outer r e l x k =
     by vs split lexed =
         let whole = machine_complete x in
         let tokens : regexp_tokens x ≡ r.tokens = split ∙ (ap (λ us. r.tokens ++ us) (nothing_lexed lexed e) ∙ append-nil r.tokens) in
-        no_outer r.state whole.0 (sym r.ran ∙ (ap (run (fresh, [])) (sym tokens) ∙ whole.1)) r.agrees.1
+        no_outer r.state whole.0 (sym r.ran ∙ (ap (run (fresh, [])) (sym tokens) ∙ whole.1)) r.agrees.2
+
+-- what is larger than may be when the token is taken is so whatever follows
+pub goes_large : (text rest after : List ℕ) (here : CodeLevel) (outer : List CodeLevel) (t : Token) → Reading text rest here outer
+    → token_front rest ≡ Some (t, after)
+    → ((u : State) → Agrees here outer u → (s' : State) × (advance u t ≡ Some s') × (size_limit < state_size s'))
+    → (x : Regexp) → IsText text x → size_limit < regexp_size x
+goes_large text rest after here outer t r e takes x k =
+    let left = left_of text rest here outer x r k r in
+    let first = front_same left.rest [] e left.lexed refl in
+    let whole = machine_complete x in
+    let taken = takes r.state r.agrees in
+    let tokens : regexp_tokens x ≡ r.tokens ++ t ∷ first.0 = left.split ∙ ap (λ vs. r.tokens ++ vs) first.1 in
+    let ran : run (fresh, []) (r.tokens ++ t ∷ first.0) ≡ run taken.0 first.0 =
+    run_append r.tokens (t ∷ first.0) (fresh, [])
+    ∙ (ap (option_and_then (λ s'. run s' (t ∷ first.0))) r.ran
+    ∙ ap (option_and_then (λ s'. run s' first.0)) taken.1) in
+    let grows = run_grows first.0 taken.0 (whole.0, []) (sym ran ∙ (ap (run (fresh, [])) (sym tokens) ∙ whole.1)) in
+    let size = regexp_of_size whole.0 in
+    let same : regexp_size (regexp_of whole.0) ≡ regexp_size x = ap regexp_size whole.2 in
+    omega arith
 
 pub some_left : (b : Bool) (n : ℕ) → b ≡ (n == 0) → b ≡ false → 0 < n
 some_left b n e h = grind (arith, nat_tests)

@@ -1,6 +1,6 @@
 -- What an error says of the text, and of its place.
-use Rattle.std.proofs.Common.{◌≡◌, ℕ, ◌+◌, ◌-◌, ◌<◌, ◌≤◌, List, [], ◌∷◌, ◌++◌, length, Option, Some, None, Err}
-use Rattle.std.proofs.Common.{refl, sym, ap, ◌∙◌, subst, arith, append_assoc, length-append}
+use Rattle.std.proofs.Common.{◌≡◌, inl, inr, ℕ, ◌+◌, ◌-◌, ◌<◌, ◌≤◌, List, [], ◌∷◌, ◌++◌, length, Option, Some, None, Err}
+use Rattle.std.proofs.Common.{refl, sym, ap, ◌∙◌, subst, arith, append_assoc, append-nil, length-append}
 use Rattle.std.specs.Prelude.{option_and_then}
 use Rattle.i_regexp.specs.declared.error.IRegexpError.{IRegexpError}
 use Rattle.i_regexp.specs.declared.error.IRegexpErrorKind.{IRegexpErrorKind}
@@ -10,11 +10,13 @@ use Rattle.i_regexp.specs.Fronts.{Fronts, token_front, token_of}
 use Rattle.i_regexp.specs.Grammar as is
 use Rattle.i_regexp.specs.Grammar.{Token, characters, opened, closed, bar, quantifier, Spells, Spelled, Regexp, regexp_tokens, IsText}
 use Rattle.i_regexp.specs.Levels.{Level, State, fresh, with_atom, regexp_of, quantified, in_state, advance, Outer, Agrees, Takes}
-use Rattle.i_regexp.specs.Limits.{depth_limit, begins_group, ends_group, begun_groups, ended_groups}
-use Rattle.i_regexp.specs.Reading.{Begins, Stops, OpensTooMany, Says, Refused}
+use Rattle.i_regexp.specs.Levels.{state_size}
+use Rattle.i_regexp.specs.Limits.{depth_limit, size_limit, LargeCount, begins_group, ends_group, begun_groups, ended_groups}
+use Rattle.i_regexp.specs.Reading.{Begins, Stops, OpensTooMany, GrowsTooLarge, Says, Refused}
 use Rattle.i_regexp.proofs.Lexing.{spells_some, front_sound, front_complete}
 use Rattle.i_regexp.proofs.Machine.{run, machine_sound}
-use Rattle.i_regexp.proofs.Reading.{Lexes, stop, go, Reading, run_append, some_none, none_some, token_same, no_front, no_advance, no_end}
+use Rattle.i_regexp.proofs.Reading.{Lexes, stop, go, Reading, run_append, goes_large}
+use Rattle.i_regexp.proofs.Reading.{some_none, none_some, token_same, no_front, no_advance, no_end}
 
 -- ---- what stands before the place
 
@@ -106,7 +108,7 @@ run_depth (t ∷ ts) s u e = by (advance s t) refl e (λ v g. run_depth ts v u g
 outer_length : (fs : List CodeLevel) (ls : List Level) → Outer fs ls → length fs ≡ length ls
 outer_length fs [] o = ap length o
 outer_length fs (l ∷ ls) o =
-    let front = outer_length o.0 ls o.4 in
+    let front = outer_length o.0 ls o.5 in
     let whole : length fs ≡ length (o.0 ++ o.1 ∷ []) = ap length o.2 in
     let sum = length-append o.0 (o.1 ∷ []) in
     omega arith
@@ -131,7 +133,7 @@ too_deep : (text rest after : List ℕ) (here : CodeLevel) (outer : List CodeLev
 too_deep text rest after here outer t r e f h =
     let s = front_sound rest t after e in
     let run = run_depth r.tokens (fresh, []) r.state r.ran in
-    let len = outer_length outer r.state.1 r.agrees.1 in
+    let len = outer_length outer r.state.1 r.agrees.2 in
     record { after = after; begins = s.split ∙ ap (λ cs. cs ++ after) (begins_with s.cs t f s.spelled); full = omega arith }
 
 -- ---- what a kind of error says
@@ -148,13 +150,13 @@ first_token rest cs more t e s = ap token_front e ∙ front_complete cs t s more
 
 -- no token stands at the place
 pub says_no_token : (text rest : List ℕ) (here : CodeLevel) (outer : List CodeLevel) (k : IRegexpErrorKind)
-    → (r : Reading text rest here outer) → 0 < length rest → Fronts token_of rest (token_front rest) (Err k) → (front : List ℕ)
-    → Says text front r.tokens rest k
+    → (r : Reading text rest here outer) → 0 < length rest → Fronts (LargeCount rest) token_of rest (token_front rest) (Err k)
+    → (front : List ℕ) → Says text front r.tokens rest k
 says_no_token text rest here outer Invalid r l f front =
     (no_front text rest here outer r l f, λ cs more t e s b. some_none (sym (first_token rest cs more t e s) ∙ f))
 says_no_token text rest here outer UnsupportedCategory r l f front = f
 says_no_token text rest here outer TooDeep r l f front = absurd f
-says_no_token text rest here outer TooLarge r l f front = tt
+says_no_token text rest here outer TooLarge r l f front = inl f
 says_no_token text rest here outer OutOfMemory r l f front = tt
 
 -- the same reading of another text that begins in the same way
@@ -172,6 +174,31 @@ no_going_on text rest after here outer t r e takes front p cs more u split s b =
     no_advance (front ++ (cs ++ b.more)) (cs ++ b.more) b.more here outer t (other_reading text rest (cs ++ b.more) here outer r front p)
     (front_complete cs t moved b.more) takes b.regexp (subst (λ xs. IsText xs b.regexp) (append_assoc front cs b.more) b.text)
 
+-- with the token at the place, the regular expression is larger than may be
+grows_large : (text rest after : List ℕ) (here : CodeLevel) (outer : List CodeLevel) (t : Token) (r : Reading text rest here outer)
+    → token_front rest ≡ Some (t, after)
+    → ((s : State) → Agrees here outer s → (s' : State) × (advance s t ≡ Some s') × (size_limit < state_size s')) → (front : List ℕ)
+    → Spelled front r.tokens → GrowsTooLarge front rest
+grows_large text rest after here outer t r e takes front p =
+    let s = front_sound rest t after e in
+    let taken = takes r.state r.agrees in
+    let ran : run (fresh, []) (r.tokens ++ t ∷ []) ≡ Some taken.0 =
+    run_append r.tokens (t ∷ []) (fresh, [])
+    ∙ (ap (option_and_then (λ u. run u (t ∷ []))) r.ran ∙ ap (option_and_then (λ u. run u [])) taken.1) in
+    let one : Spelled s.cs (t ∷ []) = subst (λ xs. Spelled xs (t ∷ [])) (append-nil s.cs) (is.more s.spelled is.none) in
+    record {
+      token = t;
+      cs = s.cs;
+      after = after;
+      split = s.split;
+      spelled = s.spelled;
+      begun = begun (front ++ s.cs) (r.tokens ++ t ∷ []) taken.0 (spelled_append p one) ran;
+      large = λ more x k.
+          goes_large (front ++ (s.cs ++ more)) (s.cs ++ more) more here outer t
+          (other_reading text rest (s.cs ++ more) here outer r front p) (front_complete s.cs t s.spelled more) takes x
+          (subst (λ xs. IsText xs x) (append_assoc front s.cs more) k);
+    }
+
 -- a token stands at the place that is not taken
 pub says_no_take : (text rest after : List ℕ) (here here' : CodeLevel) (outer outer' : List CodeLevel) (t : Token) (k : IRegexpErrorKind)
     → (r : Reading text rest here outer) → token_front rest ≡ Some (t, after) → Takes here outer t (Err k) here' outer' → (front : List ℕ)
@@ -180,7 +207,7 @@ says_no_take text rest after here here' outer outer' t Invalid r e f front p =
     (no_advance text rest after here outer t r e f, no_going_on text rest after here outer t r e f front p)
 says_no_take text rest after here here' outer outer' t UnsupportedCategory r e f front p = absurd f
 says_no_take text rest after here here' outer outer' t TooDeep r e f front p = too_deep text rest after here outer t r e f.0 f.1
-says_no_take text rest after here here' outer outer' t TooLarge r e f front p = tt
+says_no_take text rest after here here' outer outer' t TooLarge r e f front p = inr (grows_large text rest after here outer t r e f front p)
 says_no_take text rest after here here' outer outer' t OutOfMemory r e f front p = tt
 
 -- the text ends in a group

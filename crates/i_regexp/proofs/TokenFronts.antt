@@ -140,16 +140,16 @@ class_of negated o = option_map (λ q. (characters negated q.0, q.1)) o
 
 -- ---- errors
 
-pub fronts_err : {U V U' V' : Type 0} (view : U → V) (view' : U' → V') (xs xs' : List ℕ) (o : Option (V × List ℕ))
+pub fronts_err : {U V U' V' L L' : Type 0} (view : U → V) (view' : U' → V') (xs xs' : List ℕ) (o : Option (V × List ℕ))
     (o' : Option (V' × List ℕ)) (e : IRegexpErrorKind) (r : Result (U × Bor (List ℕ)) IRegexpErrorKind)
-    → IsErrAnd r (λ d. d ≡ e) → Fronts view' xs' o' (Err e) → (has_category xs' ≡ true → has_category xs ≡ true)
-    → (o' ≡ None → o ≡ None) → Fronts view xs o r
-fronts_err view view' xs xs' o o' e (Ok x) h k g f = absurd h
-fronts_err view view' xs xs' o o' Invalid (Err d) h k g f = subst (λ x. Fronts view xs o (Err x)) (sym h) (f k)
-fronts_err view view' xs xs' o o' UnsupportedCategory (Err d) h k g f = subst (λ x. Fronts view xs o (Err x)) (sym h) (g k)
-fronts_err view view' xs xs' o o' TooDeep (Err d) h k g f = absurd k
-fronts_err view view' xs xs' o o' TooLarge (Err d) h k g f = subst (λ x. Fronts view xs o (Err x)) (sym h) tt
-fronts_err view view' xs xs' o o' OutOfMemory (Err d) h k g f = subst (λ x. Fronts view xs o (Err x)) (sym h) tt
+    → IsErrAnd r (λ d. d ≡ e) → Fronts L' view' xs' o' (Err e) → (has_category xs' ≡ true → has_category xs ≡ true) → (L' → L)
+    → (o' ≡ None → o ≡ None) → Fronts L view xs o r
+fronts_err view view' xs xs' o o' e (Ok x) h k g l f = absurd h
+fronts_err {L = L} view view' xs xs' o o' Invalid (Err d) h k g l f = subst (λ x. Fronts L view xs o (Err x)) (sym h) (f k)
+fronts_err {L = L} view view' xs xs' o o' UnsupportedCategory (Err d) h k g l f = subst (λ x. Fronts L view xs o (Err x)) (sym h) (g k)
+fronts_err view view' xs xs' o o' TooDeep (Err d) h k g l f = absurd k
+fronts_err {L = L} view view' xs xs' o o' TooLarge (Err d) h k g l f = subst (λ x. Fronts L view xs o (Err x)) (sym h) (l k)
+fronts_err {L = L} view view' xs xs' o o' OutOfMemory (Err d) h k g l f = subst (λ x. Fronts L view xs o (Err x)) (sym h) tt
 
 -- ---- a category in what is left stands in the text
 
@@ -238,12 +238,12 @@ bracket_other xs cs c e f =
     ∙ (ap (λ b. cond b (first_front (length cs) true cs) (first_front (suc (length cs)) false (c ∷ cs))) (ne_eqb c 94 f)
     ∙ ap (λ ys. first_front (length ys) false ys) (sym e))
 
-pub fronts_as : {U V : Type 0} (view : U → V) (xs xs' : List ℕ) (o o' : Option (V × List ℕ))
-    (r : Result (U × Bor (List ℕ)) IRegexpErrorKind) → (has_category xs' ≡ true → has_category xs ≡ true) → o ≡ o'
-    → Fronts view xs' o' r → Fronts view xs o r
-fronts_as view xs xs' o o' (Ok x) g e h = e ∙ h
-fronts_as view xs xs' o o' (Err Invalid) g e h = e ∙ h
-fronts_as view xs xs' o o' (Err UnsupportedCategory) g e h = g h
-fronts_as view xs xs' o o' (Err TooDeep) g e h = h
-fronts_as view xs xs' o o' (Err TooLarge) g e h = tt
-fronts_as view xs xs' o o' (Err OutOfMemory) g e h = tt
+pub fronts_as : {U V L L' : Type 0} (view : U → V) (xs xs' : List ℕ) (o o' : Option (V × List ℕ))
+    (r : Result (U × Bor (List ℕ)) IRegexpErrorKind) → (has_category xs' ≡ true → has_category xs ≡ true) → (L' → L) → o ≡ o'
+    → Fronts L' view xs' o' r → Fronts L view xs o r
+fronts_as view xs xs' o o' (Ok x) g l e h = e ∙ h
+fronts_as view xs xs' o o' (Err Invalid) g l e h = e ∙ h
+fronts_as view xs xs' o o' (Err UnsupportedCategory) g l e h = g h
+fronts_as view xs xs' o o' (Err TooDeep) g l e h = h
+fronts_as view xs xs' o o' (Err TooLarge) g l e h = l h
+fronts_as view xs xs' o o' (Err OutOfMemory) g l e h = tt

@@ -12,13 +12,14 @@ use Rattle.i_regexp.specs.declared.token.Token.{Token as CodeToken}
 use Rattle.i_regexp.specs.Grammar.{Token, characters, opened, closed, bar, quantifier, one, any, is_normal, is_plain, is_digit}
 use Rattle.i_regexp.specs.Grammar.{escape_of, has_category}
 
--- what a reading of the front of the text returns: o, if the text is not refused for another reason
-abbrev pub Fronts : {U V : Type 0} → (U → V) → List ℕ → Option (V × List ℕ) → Result (U × Bor (List ℕ)) IRegexpErrorKind → Type 0
-Fronts view xs o (Ok r) = o ≡ Some (view r.0, r.1.now)
-Fronts view xs o (Err kind.Invalid) = o ≡ None
-Fronts view xs o (Err kind.UnsupportedCategory) = has_category xs ≡ true
-Fronts view xs o (Err kind.TooDeep) = ⊥
-Fronts view xs o (Err e) = Unit {0}
+-- what a reading of the front of the text returns: o, if the text is not refused for another reason; it is too large only where `Large`
+abbrev pub Fronts : {U V : Type 0} → Type 0 → (U → V) → List ℕ → Option (V × List ℕ) → Result (U × Bor (List ℕ)) IRegexpErrorKind → Type 0
+Fronts Large view xs o (Ok r) = o ≡ Some (view r.0, r.1.now)
+Fronts Large view xs o (Err kind.Invalid) = o ≡ None
+Fronts Large view xs o (Err kind.UnsupportedCategory) = has_category xs ≡ true
+Fronts Large view xs o (Err kind.TooDeep) = ⊥
+Fronts Large view xs o (Err kind.TooLarge) = Large
+Fronts Large view xs o (Err kind.OutOfMemory) = Unit {0}
 
 -- a token of the code
 abbrev pub token_of : CodeToken → Token

@@ -1,12 +1,12 @@
 -- The machine that reads tokens; only private contracts use these words.
-use Rattle.std.specs.Prelude.{◌≡◌, ℕ, ◌≤◌, List, [], ◌∷◌, ◌++◌, length, map, Option, Some, None, Result, Ok, Err}
+use Rattle.std.specs.Prelude.{◌≡◌, ℕ, suc, ◌+◌, ◌≤◌, ◌<◌, List, [], ◌∷◌, ◌++◌, length, map, Option, Some, None, Result, Ok, Err}
 use Rattle.i_regexp.specs.declared.error.IRegexpErrorKind.{IRegexpErrorKind}
 use Rattle.i_regexp.specs.declared.error.IRegexpErrorKind.TheVariants as kind
 use Rattle.i_regexp.specs.declared.marked.Node.{Node}
 use Rattle.i_regexp.specs.declared.reader.Level.{Level as CodeLevel}
 use Rattle.i_regexp.specs.Forms.{AtMost}
 use Rattle.i_regexp.specs.Building.{Means, AllMean}
-use Rattle.i_regexp.specs.Limits.{depth_limit}
+use Rattle.i_regexp.specs.Limits.{depth_limit, size_limit, branch_size, piece_size, atom_size}
 use Rattle.i_regexp.specs.Grammar.{Token, characters, opened, closed, bar, quantifier, Regexp, last, branches, Branch, nothing, pieces}
 use Rattle.i_regexp.specs.Grammar.{Piece, once, times, Atom, character, group, branch_form, piece_form, atom_form}
 
@@ -76,6 +76,32 @@ advance s closed = close s.0 s.1
 advance s bar = Some (barred s.0, s.1)
 advance s (quantifier least most) = in_state s.1 (quantified s.0 least most)
 
+-- ---- how much was read
+
+abbrev pub pieces_size : List Piece → ℕ
+pieces_size [] = 0
+pieces_size (p ∷ ps) = piece_size p + pieces_size ps
+
+abbrev pub end_size : Option Atom → ℕ
+end_size None = 0
+end_size (Some a) = atom_size a
+
+-- branches, each with the bar behind it
+abbrev pub branches_size : List Branch → ℕ
+branches_size [] = 0
+branches_size (b ∷ bs) = branch_size b + suc (branches_size bs)
+
+abbrev pub level_size : Level → ℕ
+level_size (level bs ps end) = branches_size bs + (pieces_size ps + end_size end)
+
+-- levels, each with the parenthesis behind it
+abbrev pub outer_size : List Level → ℕ
+outer_size [] = 0
+outer_size (l ∷ ls) = suc (level_size l + outer_size ls)
+
+abbrev pub state_size : State → ℕ
+state_size s = level_size s.0 + outer_size s.1
+
 -- ---- the code's levels
 
 -- the node is the atom, or neither is there
@@ -95,23 +121,47 @@ pub record Stands (f : CodeLevel) (bs : List Branch) (ps : List Piece) (end : Op
 abbrev pub StandsAt : CodeLevel → Level → Type 0
 StandsAt f (level bs ps end) = Stands f bs ps end
 
+-- the size of the last atom, if there is one
+abbrev pub EndSized : ℕ → Option Atom → Type 0
+EndSized n None = Unit {0}
+EndSized n (Some a) = n ≡ atom_size a
+
+abbrev pub LastSized : CodeLevel → Level → Type 0
+LastSized f (level bs ps end) = EndSized f.last_size end
+
+-- The code's level knows how much was read up to its end, with those around it, and how large its last atom is.
+pub record IsSized (f : CodeLevel) (s : State) : Type 0 where
+  pub size : f.size ≡ state_size s
+  pub few : state_size s ≤ size_limit
+  pub ended : LastSized f s.0
+
 -- the levels around, the innermost of which is the last one of the list
 abbrev pub Outer : List CodeLevel → List Level → Type 0
 Outer fs [] = fs ≡ []
-Outer fs (l ∷ ls) = (gs : List CodeLevel) × (f : CodeLevel) × (fs ≡ gs ++ f ∷ []) × StandsAt f l × Outer gs ls
+Outer fs (l ∷ ls) = (gs : List CodeLevel) × (f : CodeLevel) × (fs ≡ gs ++ f ∷ []) × StandsAt f l × IsSized f (l, ls) × Outer gs ls
 
 -- the code's levels are that state
 abbrev pub Agrees : CodeLevel → List CodeLevel → State → Type 0
-Agrees here outer s = StandsAt here s.0 × Outer outer s.1
+Agrees here outer s = StandsAt here s.0 × IsSized here s × Outer outer s.1
+
+-- so much and that more, or nothing where it is larger than may be
+abbrev pub Grows : ℕ → ℕ → Option ℕ → Type 0
+Grows n more None = size_limit < n + more
+Grows n more (Some m) = (m ≡ n + more) × (m ≤ size_limit)
 
 -- what a quantifier does to a level
 abbrev pub Quantifies : CodeLevel → ℕ → Option ℕ → Result (Unit {0}) IRegexpErrorKind → CodeLevel → Type 0
 Quantifies old least most (Ok x) new =
-    (l : Level) → StandsAt old l → (l' : Level) × (quantified l least most ≡ Some l') × StandsAt new l'
+    (l : Level) → StandsAt old l
+    → (l' : Level) × (quantified l least most ≡ Some l') × StandsAt new l'
+    × ((ls : List Level) → IsSized old (l, ls) → IsSized new (l', ls))
 Quantifies old least most (Err kind.Invalid) new = (l : Level) → StandsAt old l → quantified l least most ≡ None
 Quantifies old least most (Err kind.UnsupportedCategory) new = ⊥
 Quantifies old least most (Err kind.TooDeep) new = ⊥
-Quantifies old least most (Err e) new = Unit {0}
+Quantifies old least most (Err kind.TooLarge) new =
+    (l : Level) → StandsAt old l
+    → (l' : Level) × (quantified l least most ≡ Some l') × ((ls : List Level) → IsSized old (l, ls) → size_limit < state_size (l', ls))
+Quantifies old least most (Err kind.OutOfMemory) new = Unit {0}
 
 -- what a token does to a state
 abbrev pub Takes : CodeLevel → List CodeLevel → Token → Result (Unit {0}) IRegexpErrorKind → CodeLevel → List CodeLevel → Type 0
@@ -120,7 +170,9 @@ Takes here outer t (Ok x) here' outer' =
 Takes here outer t (Err kind.Invalid) here' outer' = (s : State) → Agrees here outer s → advance s t ≡ None
 Takes here outer t (Err kind.UnsupportedCategory) here' outer' = ⊥
 Takes here outer t (Err kind.TooDeep) here' outer' = (t ≡ opened) × (depth_limit ≤ length outer)
-Takes here outer t (Err e) here' outer' = Unit {0}
+Takes here outer t (Err kind.TooLarge) here' outer' =
+    (s : State) → Agrees here outer s → (s' : State) × (advance s t ≡ Some s') × (size_limit < state_size s')
+Takes here outer t (Err kind.OutOfMemory) here' outer' = Unit {0}
 
 -- a quantifier's counts are in order
 abbrev pub IsFit : Token → Type 0

@@ -1,6 +1,8 @@
--- How deep a regular expression may be.
-use Rattle.std.specs.Prelude.{ℕ, ◌+◌, List, [], ◌∷◌}
-use Rattle.i_regexp.specs.Grammar.{Token, opened, closed}
+-- How deep and how large a regular expression may be.
+use Rattle.std.specs.Prelude.{◌≡◌, ℕ, suc, ◌+◌, ◌-◌, ◌*◌, ◌<◌, Bool, true, ◌&&◌, ◌||◌, ◌==◌, List, [], ◌∷◌, ◌++◌, Option, Some, None}
+use Rattle.i_regexp.specs.Characters.{left_brace, comma}
+use Rattle.i_regexp.specs.Grammar.{Token, opened, closed, is_digit, are_digits, count, Regexp, last, branches, Branch, nothing, pieces}
+use Rattle.i_regexp.specs.Grammar.{Piece, once, times, Atom, character, group}
 
 -- how many groups may be open at once
 abbrev pub depth_limit : ℕ
@@ -25,3 +27,54 @@ begun_groups (t ∷ ts) = begins_group t + begun_groups ts
 abbrev pub ended_groups : List Token → ℕ
 ended_groups [] = 0
 ended_groups (t ∷ ts) = ends_group t + ended_groups ts
+
+-- how large a regular expression may be
+abbrev pub size_limit : ℕ
+size_limit = 10000
+
+-- how many times more a part is written out that is repeated
+abbrev pub repeated : ℕ → Option ℕ → ℕ
+repeated least None = least
+repeated least (Some most) = most - 1
+
+-- How large it is: each character, class, group and bar is one, and a part that is repeated counts once for each time it is written out,
+-- which is n times for {m,n}, though once at least, and m + 1 times for {m,}.
+abbrev mutual
+  pub regexp_size : Regexp → ℕ
+  regexp_size (last b) = branch_size b
+  regexp_size (branches b r) = branch_size b + suc (regexp_size r)
+
+  pub branch_size : Branch → ℕ
+  branch_size nothing = 0
+  branch_size (pieces p b) = piece_size p + branch_size b
+
+  pub piece_size : Piece → ℕ
+  piece_size (once a) = atom_size a
+  piece_size (times a least most) = atom_size a + repeated least most * atom_size a
+
+  pub atom_size : Atom → ℕ
+  atom_size (character negated ranges) = 1
+  atom_size (group r) = suc (regexp_size r)
+
+-- A number stands at the front that is greater than the limit.
+pub record LargeNumber (cs : List ℕ) : Type 0 where
+  pub first : ℕ
+  pub digits : List ℕ
+  pub after : List ℕ
+  pub split : cs ≡ first ∷ (digits ++ after)
+  pub is_first : is_digit first ≡ true
+  pub are : are_digits digits ≡ true
+  pub large : size_limit < count first digits
+
+-- whether these are digits and commas
+abbrev pub are_counts : List ℕ → Bool
+are_counts [] = true
+are_counts (c ∷ cs) = (is_digit c || (c == comma)) && are_counts cs
+
+-- A brace begins the rest, and behind it, with at most digits and commas between, stands a number that is greater than the limit.
+pub record LargeCount (rest : List ℕ) : Type 0 where
+  pub before : List ℕ
+  pub number : List ℕ
+  pub split : rest ≡ left_brace ∷ (before ++ number)
+  pub counts : are_counts before ≡ true
+  pub large : LargeNumber number

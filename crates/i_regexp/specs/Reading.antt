@@ -1,5 +1,5 @@
 -- What is read of a text; `Reads` is for private contracts.
-use Rattle.std.specs.Prelude.{◌≡◌, ℕ, true, ◌≤◌, ◌+◌, List, ◌∷◌, ◌++◌, length, Result, Ok, Err}
+use Rattle.std.specs.Prelude.{◌≡◌, ℕ, true, ◌≤◌, ◌<◌, ◌+◌, List, ◌∷◌, ◌++◌, length, ◌⊎◌, Result, Ok, Err}
 use Rattle.i_regexp.specs.declared.error.IRegexpError.{IRegexpError}
 use Rattle.i_regexp.specs.declared.error.IRegexpErrorKind.{IRegexpErrorKind}
 use Rattle.i_regexp.specs.declared.error.IRegexpErrorKind.TheVariants as kind
@@ -7,7 +7,7 @@ use Rattle.i_regexp.specs.declared.marked.Node.{Node}
 use Rattle.i_regexp.specs.Building.{Means}
 use Rattle.i_regexp.specs.Characters.{left_parenthesis}
 use Rattle.i_regexp.specs.Grammar.{Token, Spells, Spelled, has_category, Regexp, IsText, regexp_form}
-use Rattle.i_regexp.specs.Limits.{depth_limit, begun_groups, ended_groups}
+use Rattle.i_regexp.specs.Limits.{depth_limit, begun_groups, ended_groups, size_limit, regexp_size, LargeCount}
 
 -- Some regular expression begins with these characters.
 pub record Begins (cs : List ℕ) : Type 0 where
@@ -25,12 +25,23 @@ pub record OpensTooMany (tokens : List Token) (rest : List ℕ) : Type 0 where
   pub begins : rest ≡ left_parenthesis ∷ after
   pub full : ended_groups tokens + depth_limit ≤ begun_groups tokens
 
+-- A token begins the rest with which some regular expression goes on, and each that does is larger than may be.
+pub record GrowsTooLarge (front rest : List ℕ) : Type 0 where
+  pub token : Token
+  pub cs : List ℕ
+  pub after : List ℕ
+  pub split : rest ≡ cs ++ after
+  pub spelled : Spells cs token
+  pub begun : Begins (front ++ cs)
+  pub large : (more : List ℕ) (r : Regexp) → IsText ((front ++ cs) ++ more) r → size_limit < regexp_size r
+
 -- what a kind of error says of a text that is these tokens, of which the characters are the front, and the rest
 abbrev pub Says : List ℕ → List ℕ → List Token → List ℕ → IRegexpErrorKind → Type 0
 Says cs front tokens rest kind.Invalid = ((r : Regexp) → IsText cs r → ⊥) × Stops front rest
 Says cs front tokens rest kind.UnsupportedCategory = has_category rest ≡ true
 Says cs front tokens rest kind.TooDeep = OpensTooMany tokens rest
-Says cs front tokens rest e = Unit {0}
+Says cs front tokens rest kind.TooLarge = LargeCount rest ⊎ GrowsTooLarge front rest
+Says cs front tokens rest kind.OutOfMemory = Unit {0}
 
 -- What stands before the place is tokens with which some regular expression begins, and what follows is what the kind says.
 pub record Refused (cs : List ℕ) (e : IRegexpError) : Type 0 where
@@ -45,5 +56,5 @@ pub record Refused (cs : List ℕ) (e : IRegexpError) : Type 0 where
 
 -- what reading a text into a tree returns
 abbrev pub Reads : List ℕ → Result Node IRegexpError → Type 0
-Reads cs (Ok n) = (r : Regexp) × IsText cs r × Means n (regexp_form r)
+Reads cs (Ok n) = (r : Regexp) × IsText cs r × Means n (regexp_form r) × (regexp_size r ≤ size_limit)
 Reads cs (Err e) = Refused cs e

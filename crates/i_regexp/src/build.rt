@@ -52,17 +52,6 @@ impl Node {
             }),
         }
     }
-
-    /// How many places a text can reach in this tree, at most.
-    pub(crate) fn size(&self) -> usize {
-        match self {
-            Node::Empty => 1,
-            Node::Class { .. } => 1,
-            Node::Concat { left, right, .. } => left.size().saturating_add(right.size()),
-            Node::Alternation { left, right } => left.size().saturating_add(right.size()),
-            Node::Star { body, .. } => body.size(),
-        }
-    }
 }
 
 /// One after the other.

@@ -22,8 +22,8 @@ pub enum IRegexpErrorKind {
     UnsupportedCategory,
     /// More than 200 groups are open at once.
     TooDeep,
-    /// With each repetition written out, there are more than 10,000 characters, classes and bars; or
-    /// a count is greater than 10,000.
+    /// With each repetition written out, there are more than 10,000 characters, classes, groups and
+    /// bars; or a count is greater than 10,000.
     TooLarge,
     /// An allocation failed.
     OutOfMemory,

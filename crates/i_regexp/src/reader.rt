@@ -1,12 +1,13 @@
 //! Reading the tokens of a text into a tree.
-ghost use Rattle.std.specs.Prelude.{◌≡◌, List, [], ◌∷◌, ◌<◌, IfOk, IfErr, OnOk, vec_len};
+ghost use Rattle.std.specs.Prelude.{◌≡◌, ◌-◌, List, [], ◌∷◌, ◌<◌, IfOk, OnOk, vec_len};
 ghost use Rattle.i_regexp.specs.Forms.{AtMost};
 ghost use Rattle.i_regexp.specs.Building.{Means};
 ghost use Rattle.i_regexp.specs.Fronts.{token_of};
 ghost use Rattle.i_regexp.specs.Grammar.{Branch, Piece, Atom, atom_form, regexp_form};
 ghost use Rattle.i_regexp.specs.Reading.{Reads};
 ghost use Rattle.i_regexp.specs.Levels.{Level as Read, Stands, StandsAt, fresh, settle, with_atom};
-ghost use Rattle.i_regexp.specs.Levels.{barred, regexp_of, Quantifies, Takes, IsFit};
+ghost use Rattle.i_regexp.specs.Levels.{barred, regexp_of, Quantifies, Takes, IsFit, Grows};
+ghost use Rattle.i_regexp.specs.Limits.{repeated};
 
 use crate::build::{choice_of, one_of, repeat, sequence_of};
 use crate::error::{IRegexpError, IRegexpErrorKind};
@@ -23,32 +24,57 @@ pub(crate) struct Level {
     branches: Vec<Node>,
     pieces: Vec<Node>,
     last: Option<Node>,
+    // how large what was read up to here is, with the groups around it, and how large the atom is
+    size: usize,
+    last_size: usize,
 }
 
 impl Level {
-    fn new(alloc: Global) -> Level
-        ensures { StandsAt result fresh }
+    /// A group in which nothing was read, where so much stands before.
+    fn new(alloc: Global, size: usize) -> Level
+        ensures read { StandsAt result fresh }
+        ensures size { result.size ≡ size }
     {
         Level {
             branches: Vec::new(alloc),
             pieces: Vec::new(alloc),
             last: None,
+            size,
+            last_size: 0,
         }
     }
 
-    /// Puts an atom at the end.
-    fn put(&mut self, node: Node) -> Result<(), AllocError>
-        ensures { OnOk result ((l : Read) (a : Atom) → StandsAt self.old l
+    /// How large what was read is with so much more, unless that is too large.
+    fn grown(&self, more: usize) -> Option<usize>
+        ensures { Grows self.now.size more result }
+    {
+        let size = self.size.saturating_add(more);
+        if size > SIZE {
+            return None;
+        }
+        Some(size)
+    }
+
+    /// Puts an atom at the end, up to which so much was read.
+    fn put(&mut self, node: Node, size: usize) -> Result<(), AllocError>
+        ensures read { OnOk result ((l : Read) (a : Atom) → StandsAt self.old l
             → Means node (atom_form a) → StandsAt self.new (with_atom l a)) }
+        ensures size { OnOk result (self.new.size ≡ size) }
+        ensures last_size { OnOk result (self.new.last_size ≡ size - self.old.size) }
     {
         self.settle()?;
         self.last = Some(node);
+        self.last_size = size.saturating_sub(self.size);
+        self.size = size;
         Ok(())
     }
 
     /// The last atom is not repeated.
     fn settle(&mut self) -> Result<(), AllocError>
-        ensures { OnOk result ((l : Read) → StandsAt self.old l → StandsAt self.new (settle l)) }
+        ensures read { OnOk result ((l : Read) → StandsAt self.old l
+            → StandsAt self.new (settle l)) }
+        ensures size { self.new.size ≡ self.old.size }
+        ensures last_size { self.new.last_size ≡ self.old.last_size }
     {
         if let Some(node) = self.last.take() {
             self.pieces.push(node)?;
@@ -78,13 +104,12 @@ impl Level {
         choice_of(alloc, branches)
     }
 
-    /// Repeats the last atom, and takes what it is written out from the budget.
+    /// Repeats the last atom.
     fn repeat_last(
         &mut self,
         alloc: Global,
         least: usize,
         most: Option<usize>,
-        budget: &mut usize,
     ) -> Result<(), IRegexpErrorKind>
         requires { AtMost least most }
         ensures { Quantifies self.old least most result self.new }
@@ -92,29 +117,24 @@ impl Level {
         let Some(node) = self.last.take() else {
             return Err(IRegexpErrorKind::Invalid);
         };
-        spend(budget, node.size().saturating_mul(copies(least, most)))?;
+        let more = repeated(least, most).saturating_mul(self.last_size);
+        let Some(size) = self.grown(more) else {
+            return Err(IRegexpErrorKind::TooLarge);
+        };
         self.pieces.push(repeat(alloc, &node, least, most)?)?;
+        self.size = size;
         Ok(())
     }
 }
 
-/// How many copies stand for so many times.
-fn copies(least: usize, most: Option<usize>) -> usize {
-    match most {
-        None => least.saturating_add(1),
-        Some(most) => most,
-    }
-}
-
-/// Takes so much from the budget.
-fn spend(budget: &mut usize, size: usize) -> Result<(), IRegexpErrorKind>
-    ensures { IfErr result (λ e. e ≡ IRegexpErrorKind.TooLarge) }
+/// How many times more a part is written out that is repeated.
+fn repeated(least: usize, most: Option<usize>) -> usize
+    ensures { result ≡ repeated least most }
 {
-    if *budget < size {
-        return Err(IRegexpErrorKind::TooLarge);
+    match most {
+        None => least,
+        Some(most) => most.saturating_sub(1),
     }
-    *budget -= size;
-    Ok(())
 }
 
 /// Takes a token: `here` is the innermost group, and `outer` are those around it.
@@ -123,39 +143,47 @@ fn take(
     outer: &mut Vec<Level>,
     here: &mut Level,
     token: Token,
-    budget: &mut usize,
 ) -> Result<(), IRegexpErrorKind>
     requires { IsFit (token_of token) }
     ensures { Takes here.old outer.old.items (token_of token) result here.new outer.new.items }
 {
     match token {
         Token::Characters(class) => {
-            spend(budget, 1)?;
-            here.put(one_of(class))?;
+            let Some(size) = here.grown(1) else {
+                return Err(IRegexpErrorKind::TooLarge);
+            };
+            here.put(one_of(class), size)?;
             Ok(())
         }
         Token::Open => {
             if outer.len() >= DEPTH {
                 return Err(IRegexpErrorKind::TooDeep);
             }
-            outer.push(mem::replace(here, Level::new(alloc)))?;
+            let Some(size) = here.grown(1) else {
+                return Err(IRegexpErrorKind::TooLarge);
+            };
+            outer.push(mem::replace(here, Level::new(alloc, size)))?;
             Ok(())
         }
         Token::Close => {
             let Some(around) = outer.pop() else {
                 return Err(IRegexpErrorKind::Invalid);
             };
+            let size = here.size;
             let group = here.finish(alloc)?;
             *here = around;
-            here.put(group)?;
+            here.put(group, size)?;
             Ok(())
         }
         Token::Bar => {
-            spend(budget, 1)?;
+            let Some(size) = here.grown(1) else {
+                return Err(IRegexpErrorKind::TooLarge);
+            };
             here.end_branch(alloc)?;
+            here.size = size;
             Ok(())
         }
-        Token::Quantifier { least, most } => here.repeat_last(alloc, least, most, budget),
+        Token::Quantifier { least, most } => here.repeat_last(alloc, least, most),
     }
 }
 
@@ -164,8 +192,7 @@ pub(crate) fn read(alloc: Global, text: &[char]) -> Result<Node, IRegexpError>
     ensures { Reads text.now result }
 {
     let mut outer = Vec::new(alloc);
-    let mut here = Level::new(alloc);
-    let mut budget = SIZE;
+    let mut here = Level::new(alloc, 0);
     let mut rest = text;
     while !rest.is_empty() {
         let place = text.len().saturating_sub(rest.len());
@@ -173,7 +200,7 @@ pub(crate) fn read(alloc: Global, text: &[char]) -> Result<Node, IRegexpError>
             Ok(pair) => pair,
             Err(kind) => return Err(IRegexpError { kind, place }),
         };
-        if let Err(kind) = take(alloc, &mut outer, &mut here, token, &mut budget) {
+        if let Err(kind) = take(alloc, &mut outer, &mut here, token) {
             return Err(IRegexpError { kind, place });
         }
         rest = after;

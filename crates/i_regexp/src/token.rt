@@ -1,6 +1,7 @@
 //! The tokens of a text.
 ghost use Rattle.std.specs.Prelude.{◌≡◌, ℕ, ◌<◌, ◌≤◌, [], ◌∷◌, length};
-ghost use Rattle.i_regexp.specs.Characters.{reverse_solidus};
+ghost use Rattle.i_regexp.specs.Characters.{reverse_solidus, left_brace};
+ghost use Rattle.i_regexp.specs.Limits.{LargeNumber, LargeCount};
 ghost use Rattle.i_regexp.specs.Grammar.{is_normal, is_plain, is_digit, escape_of};
 ghost use Rattle.i_regexp.specs.Fronts.{Fronts, token_of, escape_front, member_front, item_front};
 ghost use Rattle.i_regexp.specs.Fronts.{number_front, counts_front, class_front, first_front};
@@ -27,7 +28,7 @@ pub(crate) fn next_token<'t>(
     alloc: Global,
     text: &'t [char],
 ) -> Result<(Token, &'t [char]), IRegexpErrorKind>
-    ensures { Fronts token_of text.now (token_front text.now) result }
+    ensures { Fronts (LargeCount text.now) token_of text.now (token_front text.now) result }
 {
     let Some((first, rest)) = text.split_first() else {
         return Err(IRegexpErrorKind::Invalid);
@@ -108,7 +109,7 @@ fn escape(letter: char) -> Option<char>
 
 /// The character that stands behind a backslash.
 fn escaped(text: &[char]) -> Result<(char, &[char]), IRegexpErrorKind>
-    ensures { Fronts (λ c. c) (reverse_solidus ∷ text.now) (escape_front text.now) result }
+    ensures { Fronts ⊥ (λ c. c) (reverse_solidus ∷ text.now) (escape_front text.now) result }
 {
     let Some((first, rest)) = text.split_first() else {
         return Err(IRegexpErrorKind::Invalid);
@@ -127,7 +128,7 @@ fn escaped(text: &[char]) -> Result<(char, &[char]), IRegexpErrorKind>
 
 /// The quantifier of which the counts stand behind a brace.
 fn counts(text: &[char]) -> Result<(Token, &[char]), IRegexpErrorKind>
-    ensures { Fronts token_of [] (counts_front text.now) result }
+    ensures { Fronts (LargeCount (left_brace ∷ text.now)) token_of [] (counts_front text.now) result }
 {
     let (least, rest) = number(text)?;
     let Some((next, after)) = rest.split_first() else {
@@ -169,7 +170,7 @@ fn counts(text: &[char]) -> Result<(Token, &[char]), IRegexpErrorKind>
 
 /// The number that the digits at the front are.
 fn number(text: &[char]) -> Result<(usize, &[char]), IRegexpErrorKind>
-    ensures { Fronts (λ n. n) [] (number_front text.now) result }
+    ensures { Fronts (LargeNumber text.now) (λ n. n) [] (number_front text.now) result }
 {
     let Some((first, after)) = text.split_first() else {
         return Err(IRegexpErrorKind::Invalid);
@@ -200,7 +201,7 @@ fn is_digit(c: char) -> bool
 
 /// The class that stands behind an opening bracket.
 fn bracket<'t>(alloc: Global, text: &'t [char]) -> Result<(Token, &'t [char]), IRegexpErrorKind>
-    ensures { Fronts token_of text.now (bracket_front text.now) result }
+    ensures { Fronts ⊥ token_of text.now (bracket_front text.now) result }
 {
     let Some((next, after)) = text.split_first() else {
         return Err(IRegexpErrorKind::Invalid);
@@ -218,7 +219,7 @@ fn class<'t>(
     text: &'t [char],
 ) -> Result<(Token, &'t [char]), IRegexpErrorKind>
     ensures { (n : ℕ) → length text.now ≤ n
-        → Fronts token_of text.now (first_front n negated text.now) result }
+        → Fronts ⊥ token_of text.now (first_front n negated text.now) result }
 {
     let Some((next, after)) = text.split_first() else {
         return Err(IRegexpErrorKind::Invalid);
@@ -238,7 +239,7 @@ fn class_from<'t>(
     text: &'t [char],
 ) -> Result<(Token, &'t [char]), IRegexpErrorKind>
     ensures { (n : ℕ) → length text.now < n
-        → Fronts token_of text.now (class_front n negated (first, text.now)) result }
+        → Fronts ⊥ token_of text.now (class_front n negated (first, text.now)) result }
 {
     let mut ranges = Vec::new(alloc);
     ranges.push(first)?;
@@ -266,7 +267,7 @@ fn class_from<'t>(
 
 /// A character of a class, or a range of them.
 fn item(text: &[char]) -> Result<((char, char), &[char]), IRegexpErrorKind>
-    ensures { Fronts (λ r. r) text.now (item_front text.now) result }
+    ensures { Fronts ⊥ (λ r. r) text.now (item_front text.now) result }
 {
     let (first, rest) = member(text)?;
     let Some((next, after)) = rest.split_first() else {
@@ -291,7 +292,7 @@ fn item(text: &[char]) -> Result<((char, char), &[char]), IRegexpErrorKind>
 
 /// A character of a class, as it stands or behind a backslash.
 fn member(text: &[char]) -> Result<(char, &[char]), IRegexpErrorKind>
-    ensures { Fronts (λ c. c) text.now (member_front text.now) result }
+    ensures { Fronts ⊥ (λ c. c) text.now (member_front text.now) result }
 {
     let Some((first, rest)) = text.split_first() else {
         return Err(IRegexpErrorKind::Invalid);

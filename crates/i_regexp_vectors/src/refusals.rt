@@ -32,6 +32,8 @@ const ROWS: &[(&str, IRegexpErrorKind, usize)] = &[
     ("[a\\P{Lu}]", UnsupportedCategory, 0),
     ("a{10001}", TooLarge, 1),
     ("(a{101}){101}", TooLarge, 8),
+    // the first token with which it is too large
+    ("a{10000}b|", TooLarge, 8),
 ];
 
 #[test]

@@ -6,7 +6,9 @@ use Rattle.i_regexp.proofs.Refusing.{refused, refused_memory, says_no_token, say
 use Rattle.i_regexp.proofs.reader.read.Goals as goal
 
 pub loop-rest-init : goal.loop-rest-init
-loop-rest-init c = reading_init c.args.text.now c.new-here.result c.new-outer.result.items c.new-here.ensures c.new-outer.ensures.items
+loop-rest-init c =
+    reading_init c.args.text.now c.new-here.result c.new-outer.result.items c.new-here.ensures.read c.new-outer.ensures.items
+    c.new-here.ensures.size
 
 pub returns-in-Err : goal.returns-in-Err
 returns-in-Err c =

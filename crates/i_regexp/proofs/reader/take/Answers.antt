@@ -1,39 +1,77 @@
-use Rattle.std.proofs.Common.{◌∷◌, ap, sym, subst}
+use Rattle.std.proofs.Common.{◌∷◌, ◌∙◌, ap, refl, sym, subst}
 use Rattle.i_regexp.specs.Fronts.{token_of}
 use Rattle.i_regexp.specs.Grammar.{character}
-use Rattle.i_regexp.specs.Levels.{StandsAt, fresh, with_atom, barred, advance}
-use Rattle.i_regexp.proofs.Levels.{outer_push, quantifier_takes, closed_takes}
+use Rattle.i_regexp.specs.Levels.{StandsAt, IsSized, fresh, with_atom, barred, advance}
+use Rattle.i_regexp.proofs.Levels.{stands_same, outer_push, quantifier_takes, closed_takes}
+use Rattle.i_regexp.proofs.Sizes.{put_grown, put_large, opened_grown, opened_large, barred_grown, barred_large}
 use Rattle.i_regexp.proofs.reader.take.Goals as goal
+
+pub returns-in_default : goal.returns-in_default
+returns-in_default c = λ s a.
+    let k = c.in-Characters.class in
+    let atom = character k.negated k.ranges.items in (
+      (with_atom s.0 atom, s.1),
+      ap (λ t. advance s (token_of t)) c.in-Characters.is,
+      put_large c.args.here.now s.0 s.1 atom a.1 refl c.in_default.ensures,
+    )
 
 pub returns-in_ok-put-in-Characters : goal.returns-in_ok-put-in-Characters
 returns-in_ok-put-in-Characters c = λ s a.
-    let k = c.in-Characters.class in (
-      (with_atom s.0 (character k.negated k.ranges.items), s.1),
+    let k = c.in-Characters.class in
+    let atom = character k.negated k.ranges.items in (
+      (with_atom s.0 atom, s.1),
       ap (λ t. advance s (token_of t)) c.in-Characters.is,
-      (c.in_ok-put-in-Characters.ensures s.0 (character k.negated k.ranges.items) a.0 c.one_of.ensures, a.1),
+      (
+        c.in_ok-put-in-Characters.ensures.read s.0 atom a.0 c.one_of.ensures,
+        put_grown c.args.here.now c.put.new.self s.0 s.1 atom c.in-Some.size a.1 c.in-Some.ensures refl
+            c.in_ok-put-in-Characters.ensures.size c.in_ok-put-in-Characters.ensures.last_size,
+        a.2,
+      ),
     )
+
+pub returns-in_default-grown : goal.returns-in_default-grown
+returns-in_default-grown c = λ s a. (
+  (fresh, s.0 ∷ s.1),
+  ap (λ t. advance s (token_of t)) c.in-Open.is,
+  opened_large c.args.here.now s a.1 c.in_default-grown.ensures,
+)
 
 pub returns-in_ok-push-in-Open : goal.returns-in_ok-push-in-Open
 returns-in_ok-push-in-Open c = λ s a. (
   (fresh, s.0 ∷ s.1),
   ap (λ t. advance s (token_of t)) c.in-Open.is,
   (
-    subst (λ f. StandsAt f fresh) (sym c.replace.ensures.after) c.new.ensures,
-    outer_push _ _ c.replace.result s.0 s.1 c.in_ok-push-in-Open.ensures.items a.1
-        (subst (λ f. StandsAt f s.0) (sym c.replace.ensures.value) a.0),
+    subst (λ f. StandsAt f fresh) (sym c.replace.ensures.after) c.new.ensures.read,
+    opened_grown c.args.here.now _ s c.in-Some-grown.size a.1 c.in-Some-grown.ensures
+        (ap (λ f. f.size) c.replace.ensures.after ∙ c.new.ensures.size),
+    outer_push _ _ c.replace.result s.0 s.1 c.in_ok-push-in-Open.ensures.items a.2
+        (subst (λ f. StandsAt f s.0) (sym c.replace.ensures.value) a.0)
+        (subst (λ f. IsSized f s) (sym c.replace.ensures.value) a.1),
   ),
 )
 
 pub returns-in_ok-put-in-Close : goal.returns-in_ok-put-in-Close
 returns-in_ok-put-in-Close c =
-    closed_takes c.args.here.now _ c.in-Some.around c.args.outer.now.items _ c.in_ok-group-in-Close.group (token_of c.args.token)
-    (ap token_of c.in-Close.is) c.in-Some.ensures.items c.in_ok-group-in-Close.ensures c.in_ok-put-in-Close.ensures
+    closed_takes c.args.here.now _ c.in-Some-pop.around c.args.outer.now.items _ c.in_ok-group-in-Close.group (token_of c.args.token)
+    (ap token_of c.in-Close.is) c.in-Some-pop.ensures.items c.in_ok-group-in-Close.ensures c.in_ok-put-in-Close.ensures.read
+    c.in_ok-put-in-Close.ensures.size c.in_ok-put-in-Close.ensures.last_size
+
+pub returns-in_default-grown-2 : goal.returns-in_default-grown-2
+returns-in_default-grown-2 c = λ s a. (
+  (barred s.0, s.1),
+  ap (λ t. advance s (token_of t)) c.in-Bar.is,
+  barred_large c.args.here.now s.0 s.1 a.1 c.in_default-grown-2.ensures,
+)
 
 pub returns-in_ok-end_branch-in-Bar : goal.returns-in_ok-end_branch-in-Bar
 returns-in_ok-end_branch-in-Bar c = λ s a. (
   (barred s.0, s.1),
   ap (λ t. advance s (token_of t)) c.in-Bar.is,
-  (c.in_ok-end_branch-in-Bar.ensures.read s.0 a.0, a.1),
+  (
+    stands_same c.end_branch.new.self _ (barred s.0) refl refl refl (c.in_ok-end_branch-in-Bar.ensures.read s.0 a.0),
+    barred_grown c.args.here.now _ s.0 s.1 c.in-Some-grown-2.size a.1 c.in-Some-grown-2.ensures refl,
+    a.2,
+  ),
 )
 
 pub returns-in-Quantifier : goal.returns-in-Quantifier

@@ -5,12 +5,12 @@ use Rattle.i_regexp.proofs.token.bracket.Goals as goal
 
 pub returns-then-next-eq94 : goal.returns-then-next-eq94
 returns-then-next-eq94 c =
-    fronts_as token_of c.args.text.now c.in-Some.after.now _ _ c.class.result (category_in _ _ c.in-Some.next.now c.in-Some.ensures.cases.0)
+    fronts_as token_of c.args.text.now c.in-Some.after.now _ _ c.class.result (category_in _ _ c.in-Some.next.now c.in-Some.ensures.cases.0) (λ l. l)
     (bracket_caret _ _ c.in-Some.next.now c.in-Some.ensures.cases.0 c.if-next-eq94.true)
     (c.class.ensures (length c.in-Some.after.now) (omega arith))
 
 pub returns : goal.returns
 returns c =
-    fronts_as token_of c.args.text.now c.args.text.now _ _ c.class-2.result (λ h. h)
+    fronts_as token_of c.args.text.now c.args.text.now _ _ c.class-2.result (λ h. h) (λ l. l)
     (bracket_other _ _ c.in-Some.next.now c.in-Some.ensures.cases.0 c.if-next-eq94.false)
     (c.class-2.ensures (length c.args.text.now) (omega arith))

@@ -7,7 +7,7 @@ use Rattle.i_regexp.proofs.token.class.Goals as goal
 pub returns-then-next-eq45 : goal.returns-then-next-eq45
 returns-then-next-eq45 c = λ n h.
     fronts_as token_of c.args.text.now c.in-Some.after.now _ _ c.class_from.result
-    (category_in _ _ c.in-Some.next.now c.in-Some.ensures.cases.0)
+    (category_in _ _ c.in-Some.next.now c.in-Some.ensures.cases.0) (λ l. l)
     (first_dash n c.args.negated _ _ c.in-Some.next.now c.in-Some.ensures.cases.0 c.if-next-eq45.true)
     (c.class_from.ensures n (omega (arith, c.in-Some.ensures.cases.1)))
 
@@ -15,7 +15,7 @@ pub returns : goal.returns
 returns c = λ n h.
     let shorter = item_shorter c.args.text.now c.in_ok-range.range c.in_ok-range.after.now c.in_ok-range.ensures in
     fronts_as token_of c.args.text.now c.in_ok-range.after.now _ _ c.class_from-2.result
-    (item_category c.args.text.now c.in_ok-range.range c.in_ok-range.after.now c.in_ok-range.ensures)
+    (item_category c.args.text.now c.in_ok-range.range c.in_ok-range.after.now c.in_ok-range.ensures) (λ l. l)
     (first_item n c.args.negated _ _ c.in-Some.next.now c.in-Some.ensures.cases.0 c.if-next-eq45.false
     ∙ ap (option_and_then (class_front n c.args.negated)) c.in_ok-range.ensures)
     (c.class_from-2.ensures n (omega arith))

@@ -38,7 +38,7 @@ pub returns-in_err-range : goal.returns-in_err-range
 returns-in_err-range c = λ n h.
     fronts_err token_of (λ r. r) c.args.text.now c.loop-next.rest.now (class_front n c.args.negated (c.args.first, c.args.text.now))
     (item_front c.loop-next.rest.now) c.in_err-range.field-0.0 _ c.from_residual-in_err-range.ensures.1 c.in_err-range.ensures
-    c.loop-next.invariant.1
+    c.loop-next.invariant.1 (λ l. l)
     (λ none. ap (class_of c.args.negated)
     (goes_to _ _ _ _ _ c.loop-next.invariant.0
     (λ m l. tail_no_item m _ _ _ c.in-Some.next.now l c.in-Some.ensures.cases.0 c.if-next-eq93.false c.if-next-eq45.false none) n h))

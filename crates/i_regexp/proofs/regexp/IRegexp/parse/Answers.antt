@@ -20,6 +20,7 @@ returns-in-Ok-read c =
       regexp = r;
       text = text;
       only = λ q t. one_reading (chars c.args.text.now) q r t text;
+      small = c.in-Ok-read.ensures.3;
       same = λ ds. (means.sound ds, means.complete ds);
     }
 
