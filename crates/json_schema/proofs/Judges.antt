@@ -9,7 +9,8 @@ use Rattle.tinyjson.specs.Index.{tree_at, tree_at_key, nth}
 use Rattle.tinyjson.specs.Tree.{Tree, string, array, object, Items, no_items, item, Members, no_members, member}
 use Rattle.tinyjson.specs.Tree.{tree_depth, items_depth, members_depth}
 use Rattle.json_schema.specs.Applied.{Judge, schema_at, schemas_at, schema_map_at, items_in, members_in}
-use Rattle.json_schema.specs.Applied.{all_accept, some_accepts, any_of, accepting, one_of, keys_pass, item_passes}
+use Rattle.json_schema.specs.Applied.{all_accept, some_accepts, any_of, accepting, one_of, keys_pass}
+use Rattle.json_schema.specs.Applied.{items_passing, contained, contains_some, contains_at_most, contains_at_least, counts}
 use Rattle.json_schema.specs.Applied.{branch, branch_accepts, dependents_accept}
 use Rattle.json_schema.specs.Applied.{apply_all, tests, demands, member_accepted, members_accepted, item_accepted, items_accepted}
 use Rattle.json_schema.specs.Applied.{parts_accepted}
@@ -88,6 +89,11 @@ option_agree : {B : Type 0} (p q : Tree → B) (o : Option Tree) (d : B) → ((r
 option_agree p q None d h = refl
 option_agree p q (Some r) d h = h r refl
 
+and_then_agree : {B : Type 0} (p q : Tree → Option B) (o : Option Tree) → ((r : Tree) → o ≡ Some r → p r ≡ q r)
+    → option_and_then p o ≡ option_and_then q o
+and_then_agree p q None h = refl
+and_then_agree p q (Some r) h = h r refl
+
 abbrev Agree : ℕ → Judge → Judge → Type 0
 Agree n f g = (r u : Tree) → tree_depth r < n → f r u ≡ g r u
 
@@ -131,13 +137,16 @@ module _ (f g : Judge) (s : Tree) (same : Agree (tree_depth s) f g) where
       (schema_at s kw.PropertyNames) true
       (λ r e. ap (λ p. keys_pass p (members_in t)) (λ i u. in_key kw.PropertyNames r u e i))
 
-  contains_agrees : (t : Tree) → option_map_or (λ r. item_passes (f r) t) (schema_at s kw.Contains) true
-      ≡ option_map_or (λ r. item_passes (g r) t) (schema_at s kw.Contains) true
-  contains_agrees t = option_agree (λ r. item_passes (f r) t) (λ r. item_passes (g r) t) (schema_at s kw.Contains) true
-      (λ r e. ap (λ p. item_passes p t) (λ i u. in_key kw.Contains r u e i))
+  contained_agrees : (t : Tree) → contained f s t ≡ contained g s t
+  contained_agrees t = and_then_agree (λ r. items_passing (f r) t) (λ r. items_passing (g r) t) (schema_at s kw.Contains)
+      (λ r e. ap (λ p. items_passing p t) (λ i u. in_key kw.Contains r u e i))
+
+  counts_agree : (t : Tree) → apply_all f counts s t ≡ apply_all g counts s t
+  counts_agree t = λ i. contains_some (contained_agrees t i) s
+      && (contains_at_most (contained_agrees t i) s && (contains_at_least (contained_agrees t i) s && true))
 
   tests_agree : (t : Tree) → apply_all f tests s t ≡ apply_all g tests s t
-  tests_agree t = λ i. any_agree t i && (one_agree t i && (not_agree t i && (names_agree t i && (contains_agrees t i && true))))
+  tests_agree t = λ i. any_agree t i && (one_agree t i && (not_agree t i && (names_agree t i && counts_agree t i)))
 
   all_of_agree : (t : Tree) → all_accept f (schemas_at s kw.AllOf) t ≡ all_accept g (schemas_at s kw.AllOf) t
   all_of_agree t = on_schemas (λ rs. all_accept f rs t ≡ all_accept g rs t) s kw.AllOf refl

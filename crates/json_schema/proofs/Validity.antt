@@ -5,7 +5,7 @@ use Rattle.std.proofs.Common.{IsSome, is_some, cond, bytes_eq, Result, Ok, Err, 
 use Rattle.std.proofs.lemmas.Bool.{and_parts}
 use Rattle.std.proofs.lemmas.Slice.Eq.{bytes_eq-Decides}
 use Rattle.std.specs.Option.{option_map_or}
-use Rattle.std.specs.Prelude.{option_and_then}
+use Rattle.std.specs.Prelude.{option_and_then, IfOk}
 use Rattle.std.specs.declared.alloc.AllocError.{AllocError}
 use Rattle.tinyjson.specs.Index.{tree_at_key, nth}
 use Rattle.tinyjson.specs.Tree.{Tree, array, object, Items, no_items, item, Members, no_members, member, find}
@@ -13,13 +13,13 @@ use Rattle.json_pointer.specs.Index.{index_of}
 use Rattle.json_pointer.specs.Tokens.{tokens_of}
 use Rattle.json_pointer.specs.Walk.{step, part_at, item_of}
 use Rattle.json_schema.specs.Applied.{Judge, schema_at, schemas_at, schema_map_at, all_accept, branch, branch_accepts, dependents_accept}
-use Rattle.json_schema.specs.Applied.{applies, apply_all, tests, demands, member_accepted, members_accepted, item_accepted, items_accepted}
+use Rattle.json_schema.specs.Applied.{applies, apply_all, counts, tests, demands, member_accepted, members_accepted, item_accepted, items_accepted}
 use Rattle.json_schema.specs.Applied.{parts_accepted}
 use Rattle.json_schema.specs.Keywords.{meets_all, assertions}
 use Rattle.json_schema.specs.Names.{name}
 use Rattle.json_schema.specs.Parts.{member_schema, item_schema, part_schema}
 use Rattle.json_schema.specs.Places.{IsAt}
-use Rattle.json_schema.specs.Valid.{refuses_all, Validates, Finds, is_valid, accepts_by, IsValid, IsInvalidAt}
+use Rattle.json_schema.specs.Valid.{refuses_all, Validates, Finds, IsUnapplied, is_valid, accepts_by, IsValid, IsInvalidAt}
 use Rattle.json_schema.specs.Valid.{refused, unmet, not_applied}
 use Rattle.json_schema.specs.Valid.{in_all_of, in_branch, in_dependent, in_part}
 use Rattle.json_schema.specs.declared.keyword.Keyword.{Keyword}
@@ -61,13 +61,16 @@ module _ (s t : Tree) where
   rest_met k ks h = (and_parts (applies is_valid k s t) (apply_all is_valid ks s t) h).1
 
 abbrev from_names : List Keyword
-from_names = kw.PropertyNames ∷ kw.Contains ∷ []
+from_names = kw.PropertyNames ∷ counts
 
 abbrev from_not : List Keyword
 from_not = kw.Not ∷ from_names
 
 abbrev from_one_of : List Keyword
 from_one_of = kw.OneOf ∷ from_not
+
+abbrev from_max_contains : List Keyword
+from_max_contains = kw.MaxContains ∷ kw.MinContains ∷ []
 
 after_any_of : (s t : Tree) → IsMet s t → apply_all is_valid from_one_of s t ≡ true
 after_any_of s t m = rest_met s t kw.AnyOf from_one_of m.tested
@@ -78,12 +81,20 @@ after_one_of s t m = rest_met s t kw.OneOf from_not (after_any_of s t m)
 after_not : (s t : Tree) → IsMet s t → apply_all is_valid from_names s t ≡ true
 after_not s t m = rest_met s t kw.Not from_names (after_one_of s t m)
 
+after_names : (s t : Tree) → IsMet s t → apply_all is_valid counts s t ≡ true
+after_names s t m = rest_met s t kw.PropertyNames counts (after_not s t m)
+
+after_contains : (s t : Tree) → IsMet s t → apply_all is_valid from_max_contains s t ≡ true
+after_contains s t m = rest_met s t kw.Contains from_max_contains (after_names s t m)
+
 applied : (s t : Tree) (k : Keyword) → IsMet s t → applies is_valid k s t ≡ true
 applied s t kw.AnyOf m = first_met s t kw.AnyOf from_one_of m.tested
 applied s t kw.OneOf m = first_met s t kw.OneOf from_not (after_any_of s t m)
 applied s t kw.Not m = first_met s t kw.Not from_names (after_one_of s t m)
-applied s t kw.PropertyNames m = first_met s t kw.PropertyNames (kw.Contains ∷ []) (after_not s t m)
-applied s t kw.Contains m = first_met s t kw.Contains [] (rest_met s t kw.PropertyNames (kw.Contains ∷ []) (after_not s t m))
+applied s t kw.PropertyNames m = first_met s t kw.PropertyNames counts (after_not s t m)
+applied s t kw.Contains m = first_met s t kw.Contains from_max_contains (after_names s t m)
+applied s t kw.MaxContains m = first_met s t kw.MaxContains (kw.MinContains ∷ []) (after_contains s t m)
+applied s t kw.MinContains m = first_met s t kw.MinContains [] (rest_met s t kw.MaxContains (kw.MinContains ∷ []) (after_contains s t m))
 applied s t kw.AllOf m = first_met s t kw.AllOf (kw.If ∷ kw.DependentSchemas ∷ []) m.demanded
 applied s t kw.If m = first_met s t kw.If (kw.DependentSchemas ∷ []) (rest_met s t kw.AllOf (kw.If ∷ kw.DependentSchemas ∷ []) m.demanded)
 applied s t kw.DependentSchemas m = first_met s t kw.DependentSchemas []
@@ -210,6 +221,14 @@ verdict s t (Some v) h = by (is_valid s t) h.2
     by : (b : Bool) → ¬ (b ≡ true) → false ≡ b
     by true n = absurd (n refl)
     by false n = refl
+
+-- the last of the tests
+pub last_tested : (s t : Tree) (x : Result (Option Keyword) AllocError) → applies is_valid kw.AnyOf s t ≡ true
+    → applies is_valid kw.OneOf s t ≡ true → applies is_valid kw.Not s t ≡ true → applies is_valid kw.PropertyNames s t ≡ true
+    → IfOk x (λ o. IsUnapplied counts s t o) → IfOk x (λ o. IsUnapplied tests s t o)
+last_tested s t (Ok None) a b c d h = λ i. a i && (b i && (c i && (d i && h i)))
+last_tested s t (Ok (Some k)) a b c d h = h
+last_tested s t (Err e) a b c d h = tt
 
 -- the last step of the check
 pub last_found : (s t : Tree) (x : Result (Option Violation) AllocError) → refuses_all s ≡ false → meets_all assertions s t ≡ true

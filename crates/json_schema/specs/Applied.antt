@@ -1,12 +1,13 @@
 -- The keywords that apply schemas, by what those schemas say of values (JSON Schema 2020-12, Core, section 10).
 -- A keyword that is missing says nothing; nor does a list or an object of schemas that is empty, or has another form.
 use Rattle.std.specs.Prelude.{◌≡◌, ℕ, suc, ◌+◌, ◌==◌, Bool, true, false, not, ◌&&◌, ◌||◌, List}
-use Rattle.std.specs.Prelude.{[], ◌∷◌, Option, Some, None, cond, is_some}
+use Rattle.std.specs.Prelude.{[], ◌∷◌, Option, Some, None, cond, is_some, length}
 use Rattle.std.specs.Prelude.{option_and_then}
 use Rattle.std.specs.Option.{option_map_or}
 use Rattle.tinyjson.specs.Index.{tree_at_key}
-use Rattle.tinyjson.specs.Tree.{Tree, string, array, object, Items, no_items, item, Members, no_members, member}
+use Rattle.tinyjson.specs.Tree.{Tree, number, string, array, object, Items, no_items, item, Members, no_members, member}
 use Rattle.json_schema.specs.Forms.{is_some_item}
+use Rattle.json_schema.specs.Keywords.{is_count_at_most, is_count_at_least}
 use Rattle.json_schema.specs.Names.{name}
 use Rattle.json_schema.specs.Parts.{member_schema, item_schema}
 use Rattle.json_schema.specs.declared.keyword.Keyword.{Keyword}
@@ -58,14 +59,32 @@ abbrev pub keys_pass : (Tree → Bool) → Members → Bool
 keys_pass p no_members = true
 keys_pass p (member k u ms) = p (string k) && keys_pass p ms
 
-abbrev pub some_passes : (Tree → Bool) → Items → Bool
-some_passes p no_items = false
-some_passes p (item u us) = p u || some_passes p us
+-- how many items pass a test
+abbrev pub passing : (Tree → Bool) → Items → ℕ
+passing p no_items = 0
+passing p (item u us) = cond (p u) 1 0 + passing p us
 
--- some item passes a test, of an array
-abbrev pub item_passes : (Tree → Bool) → Tree → Bool
-item_passes p (array us) = some_passes p us
-item_passes p _ = true
+abbrev pub items_passing : (Tree → Bool) → Tree → Option ℕ
+items_passing p (array us) = Some (passing p us)
+items_passing p _ = None
+
+-- how many items of an array the schema of `contains` accepts; none are counted of another value, or without `contains`
+abbrev pub contained : Judge → Tree → Tree → Option ℕ
+contained f s t = option_and_then (λ r. items_passing (f r) t) (schema_at s kw.Contains)
+
+abbrev pub is_zero : Tree → Bool
+is_zero (number d) = length d.digits == 0
+is_zero _ = false
+
+-- the count is one at least, unless `minContains` is 0; at most `maxContains`; at least `minContains`
+abbrev pub contains_some : Option ℕ → Tree → Bool
+contains_some count s = option_map_or is_zero (schema_at s kw.MinContains) false || option_map_or (λ n. not (n == 0)) count true
+
+abbrev pub contains_at_most : Option ℕ → Tree → Bool
+contains_at_most count s = option_map_or (λ w. is_count_at_most count w) (schema_at s kw.MaxContains) true
+
+abbrev pub contains_at_least : Option ℕ → Tree → Bool
+contains_at_least count s = option_map_or (λ w. is_count_at_least count w) (schema_at s kw.MinContains) true
 
 -- what `if` says chooses the keyword
 abbrev pub branch : Bool → Keyword
@@ -87,7 +106,9 @@ applies f kw.OneOf s t = one_of f (schemas_at s kw.OneOf) t  -- 10.2.1.3
 applies f kw.Not s t = option_map_or (λ r. not (f r t)) (schema_at s kw.Not) true  -- 10.2.1.4
 applies f kw.If s t = option_map_or (λ r. branch_accepts f s t (f r t)) (schema_at s kw.If) true  -- 10.2.2.1 to 10.2.2.3
 applies f kw.DependentSchemas s t = dependents_accept f (schema_map_at s kw.DependentSchemas) t  -- 10.2.2.4
-applies f kw.Contains s t = option_map_or (λ r. item_passes (f r) t) (schema_at s kw.Contains) true  -- 10.3.1.3
+applies f kw.Contains s t = contains_some (contained f s t) s  -- 10.3.1.3
+applies f kw.MaxContains s t = contains_at_most (contained f s t) s  -- Validation, 6.4.4
+applies f kw.MinContains s t = contains_at_least (contained f s t) s  -- Validation, 6.4.5
 applies f kw.PropertyNames s t = option_map_or (λ r. keys_pass (f r) (members_in t)) (schema_at s kw.PropertyNames) true  -- 10.3.2.4
 applies f _ s t = true
 
@@ -96,8 +117,11 @@ apply_all f [] s t = true
 apply_all f (k ∷ ks) s t = applies f k s t && apply_all f ks s t
 
 -- those that say only whether the value is accepted, and those that say where it is not
+abbrev pub counts : List Keyword
+counts = kw.Contains ∷ kw.MaxContains ∷ kw.MinContains ∷ []
+
 abbrev pub tests : List Keyword
-tests = kw.AnyOf ∷ kw.OneOf ∷ kw.Not ∷ kw.PropertyNames ∷ kw.Contains ∷ []
+tests = kw.AnyOf ∷ kw.OneOf ∷ kw.Not ∷ kw.PropertyNames ∷ counts
 
 abbrev pub demands : List Keyword
 demands = kw.AllOf ∷ kw.If ∷ kw.DependentSchemas ∷ []

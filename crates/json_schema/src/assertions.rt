@@ -249,7 +249,7 @@ fn member_count(value: &JsonValue, alloc: Global) -> Result<Option<usize>, Alloc
 }
 
 /// Whether a count is at most the limit; `true` of none.
-fn is_count_at_most(
+pub fn is_count_at_most(
     found: Option<usize>,
     limit: &JsonValue,
     alloc: Global,
@@ -263,7 +263,7 @@ fn is_count_at_most(
 }
 
 /// Whether a count is at least the limit; `true` of none.
-fn is_count_at_least(
+pub fn is_count_at_least(
     found: Option<usize>,
     limit: &JsonValue,
     alloc: Global,

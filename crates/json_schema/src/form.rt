@@ -65,9 +65,7 @@ fn form_of(keyword: Keyword) -> Form
         | Keyword::UnevaluatedProperties
         | Keyword::MultipleOf
         | Keyword::Pattern
-        | Keyword::UniqueItems
-        | Keyword::MaxContains
-        | Keyword::MinContains => Form::Refused,
+        | Keyword::UniqueItems => Form::Refused,
         Keyword::PrefixItems | Keyword::AllOf | Keyword::AnyOf | Keyword::OneOf => Form::Schemas,
         Keyword::Not
         | Keyword::If
@@ -89,6 +87,8 @@ fn form_of(keyword: Keyword) -> Form
         | Keyword::MinLength
         | Keyword::MaxItems
         | Keyword::MinItems
+        | Keyword::MaxContains
+        | Keyword::MinContains
         | Keyword::MaxProperties
         | Keyword::MinProperties => Form::Count,
         Keyword::Required => Form::Keys,

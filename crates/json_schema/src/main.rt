@@ -9,6 +9,7 @@
 
 mod applied;
 mod assertions;
+mod contains;
 mod failure;
 mod form;
 mod keyword;

@@ -4,7 +4,7 @@ ghost use Rattle.tinyjson.specs.Tree.{array, object};
 ghost use Rattle.tinyjson.specs.View.{view, items_view, members_listed};
 ghost use Rattle.tinyjson_grammar.specs.Soundness.{IsSorted};
 ghost use Rattle.json_schema.specs.Applied.{any_of, some_accepts, one_of, accepting, applies};
-ghost use Rattle.json_schema.specs.Applied.{keys_pass, some_passes, tests};
+ghost use Rattle.json_schema.specs.Applied.{keys_pass, passing, contained, tests, counts};
 ghost use Rattle.json_schema.specs.Applied.{all_accept, dependents_accept, members_accepted};
 ghost use Rattle.json_schema.specs.Applied.{items_accepted, parts_accepted, schemas_at};
 ghost use Rattle.json_schema.specs.Valid.{refuses_all, is_valid, Validates, Finds, IsUnapplied};
@@ -14,6 +14,7 @@ use crate::applied::{
     branch, has_key, listed_members, name_of, schema_at, schema_map_at, schemas_at,
 };
 use crate::assertions::unmet;
+use crate::contains::{contains_at_least, contains_at_most, contains_some};
 use crate::keyword::Keyword;
 use crate::part::{item_part, member_part};
 use crate::refused::is_some_item;
@@ -112,9 +113,31 @@ fn unmet_test(
     if !names {
         return Ok(Some(Keyword::PropertyNames));
     }
-    let contains = is_found(value, schema, alloc)?;
-    if !contains {
+    unmet_count(value, schema, alloc)
+}
+
+/// A keyword that the value does not meet by how many items the schema of `contains` accepts.
+#[cycle(validate)]
+fn unmet_count(
+    value: &JsonValue,
+    schema: &JsonValue,
+    alloc: Global,
+) -> Result<Option<Keyword>, AllocError>
+    ensures { IfOk result
+        (λ found. IsUnapplied counts (view schema.now) (view value.now) found) }
+{
+    let count = contained(value, schema, alloc)?;
+    let some = contains_some(count, schema);
+    if !some {
         return Ok(Some(Keyword::Contains));
+    }
+    let most = contains_at_most(count, schema, alloc)?;
+    if !most {
+        return Ok(Some(Keyword::MaxContains));
+    }
+    let least = contains_at_least(count, schema, alloc)?;
+    if !least {
+        return Ok(Some(Keyword::MinContains));
     }
     Ok(None)
 }
@@ -229,40 +252,45 @@ fn are_keys_met(
     Ok(true)
 }
 
-/// Whether the schema of `contains` accepts an item of an array.
+/// How many items of an array the schema of `contains` accepts, if there is one.
 #[cycle(validate)]
-fn is_found(value: &JsonValue, schema: &JsonValue, alloc: Global) -> Result<bool, AllocError>
+fn contained(
+    value: &JsonValue,
+    schema: &JsonValue,
+    alloc: Global,
+) -> Result<Option<usize>, AllocError>
     ensures { IfOk result
-        (λ is. is ≡ applies is_valid kw.Contains (view schema.now) (view value.now)) }
+        (λ count. count ≡ contained is_valid (view schema.now) (view value.now)) }
 {
     let Some(part) = schema_at(schema, Keyword::Contains) else {
-        return Ok(true);
+        return Ok(None);
     };
     match value {
         JsonValue::Array(items) => {
-            let accepted = is_some_item_met(items.as_slice(), part, alloc)?;
-            Ok(accepted)
+            let count = count_passing(items.as_slice(), part, alloc)?;
+            Ok(Some(count))
         }
-        _ => Ok(true),
+        _ => Ok(None),
     }
 }
 
 #[cycle(validate)]
-fn is_some_item_met(
+fn count_passing(
     items: &[JsonValue],
     schema: &JsonValue,
     alloc: Global,
-) -> Result<bool, AllocError>
+) -> Result<usize, AllocError>
     ensures { IfOk result
-        (λ is. is ≡ some_passes (is_valid (view schema.now)) (items_view items.now)) }
+        (λ count. count ≡ passing (is_valid (view schema.now)) (items_view items.now)) }
 {
+    let mut count = 0;
     for item in items {
         let accepted = is_accepted(item, schema, alloc)?;
         if accepted {
-            return Ok(true);
+            count += 1;
         }
     }
-    Ok(false)
+    Ok(count)
 }
 
 /// What the value does not meet of a schema of `allOf`.

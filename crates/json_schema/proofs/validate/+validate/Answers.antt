@@ -13,7 +13,7 @@ use Rattle.json_pointer.specs.Index.{index_of}
 use Rattle.json_pointer.specs.Tokens.{tokens_of}
 use Rattle.json_pointer.specs.Walk.{item_of}
 use Rattle.json_schema.specs.Applied.{schemas_at, schema_map_at, all_accept, dependents_accept, members_accepted, items_accepted}
-use Rattle.json_schema.specs.Applied.{applies, parts_accepted, tests, any_of, one_of, branch, branch_accepts}
+use Rattle.json_schema.specs.Applied.{applies, parts_accepted, tests, contains_some, contains_at_most, contains_at_least, any_of, one_of, branch, branch_accepts}
 use Rattle.json_schema.specs.Keywords.{IsUnmet}
 use Rattle.json_schema.specs.Names.{name}
 use Rattle.json_schema.specs.Parts.{item_schema}
@@ -26,7 +26,7 @@ use Rattle.json_schema.proofs.Listed.{listed_found, listed_sorted}
 use Rattle.json_schema.proofs.Loops.{items_turn, items_end, item_passes, item_free, members_turn, member_passes, member_free}
 use Rattle.json_schema.proofs.Loops.{dependents_turn, dependent_passes, dependent_free, no_parts}
 use Rattle.json_schema.proofs.Turns.{turn_next, turn_end, nth_item}
-use Rattle.json_schema.proofs.Validity.{reported, found, verdict, placed, last_found, no_branch, branch_met, branch_place}
+use Rattle.json_schema.proofs.Validity.{reported, found, verdict, placed, last_tested, last_found, no_branch, branch_met, branch_place}
 use Rattle.json_schema.proofs.validate.+validate.Goals.{in_dependents-then-has_key+in_ok-found+in_default, in_dependents-else-has_key}
 use Rattle.json_schema.proofs.validate.+validate.Goals.{in_members-in-Some+in_ok-found+in_default-2, in_members-in_default}
 use Rattle.json_schema.proofs.validate.+validate.Goals.{in_items-in-Some+in_ok-found+in_default-2, in_items-in_default}
@@ -81,11 +81,11 @@ are_names_met-are_keys_met-requires t c =
     = omega (arith, key_less_deep s (name kw.PropertyNames) r (sym c.in-Some.ensures)) in
     search rules
 
-pub is_found-is_some_item_met-requires : goal.is_found-is_some_item_met-requires
-is_found-is_some_item_met-requires t c =
+pub contained-count_passing-requires : goal.contained-count_passing-requires
+contained-count_passing-requires t c =
     let s = view c.args.schema.now in
     let r = view c.in-Some.part.now in
-    let smaller : 8 * tree_depth r + 9 < 8 * tree_depth s + 5
+    let smaller : 8 * tree_depth r + 9 < 8 * tree_depth s + 4
     = omega (arith, key_less_deep s (name kw.Contains) r (sym c.in-Some.ensures)) in
     search rules
 
@@ -218,8 +218,18 @@ unmet_test-returns t c =
     = sym (c.in_ok-one.ensures ∙ ap (λ rs. one_of is_valid rs v) c.schemas_at-2.ensures) ∙ c.if-not-one.false in
     let other : applies is_valid kw.Not s v ≡ true = sym c.in_ok-other.ensures ∙ c.if-not-other.false in
     let names : applies is_valid kw.PropertyNames s v ≡ true = sym c.in_ok-names.ensures ∙ c.if-not-names.false in
-    let contains : applies is_valid kw.Contains s v ≡ true = sym c.in_ok-contains.ensures ∙ c.if-not-contains.false in
-    λ i. any i && (one i && (other i && (names i && (contains i && true))))
+    last_tested s v c.unmet_count.result any one other names c.unmet_count.ensures
+
+pub unmet_count-returns : goal.unmet_count-returns
+unmet_count-returns t c =
+    let s = view c.args.schema.now in
+    let counted = c.in_ok-count.ensures in
+    let some : contains_some c.in_ok-count.count s ≡ true = sym c.contains_some-some.ensures ∙ c.if-not-some.false in
+    let most : contains_at_most c.in_ok-count.count s ≡ true = sym c.in_ok-most.ensures ∙ c.if-not-most.false in
+    let least : contains_at_least c.in_ok-count.count s ≡ true = sym c.in_ok-least.ensures ∙ c.if-not-least.false in
+    let all : (contains_some c.in_ok-count.count s && (contains_at_most c.in_ok-count.count s
+    && (contains_at_least c.in_ok-count.count s && true))) ≡ true = λ i. some i && (most i && (least i && true)) in
+    ap (λ n. contains_some n s && (contains_at_most n s && (contains_at_least n s && true))) (sym counted) ∙ all
 
 -- ---- where a schema in this one is not met
 

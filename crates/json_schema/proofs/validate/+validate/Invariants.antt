@@ -1,7 +1,7 @@
 use Rattle.std.proofs.Common.{◌≡◌, ◌+◌, ◌*◌, ◌≤◌, drop}
 use Rattle.tinyjson.specs.Tree.{tree_depth}
 use Rattle.tinyjson.specs.View.{view, items_view, members_listed}
-use Rattle.json_schema.specs.Applied.{all_accept, some_accepts, accepting, keys_pass, some_passes, dependents_accept}
+use Rattle.json_schema.specs.Applied.{all_accept, some_accepts, accepting, keys_pass, passing, dependents_accept}
 use Rattle.json_schema.specs.Applied.{members_accepted, items_accepted}
 use Rattle.json_schema.specs.Valid.{is_valid}
 use Rattle.json_schema.proofs.Depths.{list_size}
@@ -37,11 +37,14 @@ decreases-are_keys_met l = 8 * tree_depth (view l.schema.now) + 9
 abbrev pub decreases-is_some_met : goal.decreases-is_some_met
 decreases-is_some_met l = 8 * list_size (items_view l.schemas.now) + 4
 
-abbrev pub decreases-is_found : goal.decreases-is_found
-decreases-is_found l = 8 * tree_depth (view l.schema.now) + 5
+abbrev pub decreases-unmet_count : goal.decreases-unmet_count
+decreases-unmet_count l = 8 * tree_depth (view l.schema.now) + 5
 
-abbrev pub decreases-is_some_item_met : goal.decreases-is_some_item_met
-decreases-is_some_item_met l = 8 * tree_depth (view l.schema.now) + 9
+abbrev pub decreases-contained : goal.decreases-contained
+decreases-contained l = 8 * tree_depth (view l.schema.now) + 4
+
+abbrev pub decreases-count_passing : goal.decreases-count_passing
+decreases-count_passing l = 8 * tree_depth (view l.schema.now) + 9
 
 abbrev pub decreases-in_all_of : goal.decreases-in_all_of
 decreases-in_all_of l = 8 * tree_depth (view l.schema.now) + 5
@@ -74,9 +77,10 @@ abbrev pub invariant-are_keys_met-loop-key : goal.invariant-are_keys_met-loop-ke
 invariant-are_keys_met-loop-key l = keys_pass (is_valid (view l.schema)) (members_listed (drop l.key-index l.members))
     ≡ keys_pass (is_valid (view l.schema)) (members_listed l.members)
 
-abbrev pub invariant-is_some_item_met-loop-item : goal.invariant-is_some_item_met-loop-item
-invariant-is_some_item_met-loop-item l = some_passes (is_valid (view l.schema)) (items_view (drop l.item-index l.items))
-    ≡ some_passes (is_valid (view l.schema)) (items_view l.items)
+abbrev pub invariant-count_passing-loop-item : goal.invariant-count_passing-loop-item
+invariant-count_passing-loop-item l = (l.count ≤ l.item-index)
+    × (l.count + passing (is_valid (view l.schema)) (items_view (drop l.item-index l.items))
+    ≡ passing (is_valid (view l.schema)) (items_view l.items))
 
 abbrev pub invariant-in_all_of-loop-index : goal.invariant-in_all_of-loop-index
 invariant-in_all_of-loop-index l = all_accept is_valid (items_view (drop l.index l.parts)) (view l.value)
