@@ -24,7 +24,7 @@ pub use generator::{JsonGenerateError, JsonGenerateResult, JsonGenerator, format
 pub use number::{JsonNumber, JsonNumberError};
 pub use parser::{
     Events, JsonParseError, JsonParseErrorKind, JsonParseResult, JsonParser, check,
-    check_with_depth_limit, read_events,
+    check_with_depth_limit, read_events, read_events_with_depth_limit,
 };
 pub use value::{
     InnerAsRef, InnerAsRefMut, JsonKind, JsonValue, UnexpectedValue, discard_member, insert_member,

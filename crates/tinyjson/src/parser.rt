@@ -217,5 +217,39 @@ pub fn read_events<E: Events>(alloc: Global, text: &str, events: E) -> Result<E,
     requires { E.holds events [] }
     ensures { TellsText E.is None (chars text.now) result }
 {
-    Reader::new(alloc, TextBytes::new(text)).told(None, events)
+    tell_text(alloc, text, None, events)
+}
+
+/// Tells a text to events as [`read_events`] does, if at most `limit` containers are open at once in it.
+/// An error is that of [`JsonValue::from_str_with_depth_limit`], or says that memory ran out.
+///
+/// ```
+/// let numbers = read_events_with_depth_limit(alloc, "[1, [2]]", 2, Numbers { count: 0 })?;
+/// assert_eq!(rt; numbers.count, 2);
+/// let result = read_events_with_depth_limit(alloc, "[1, [2]]", 1, Numbers { count: 0 });
+/// assert!(rt; result.is_err_and(|error| error.kind() == JsonParseErrorKind::TooDeep('[')));
+/// ```
+pub fn read_events_with_depth_limit<E: Events>(
+    alloc: Global,
+    text: &str,
+    limit: usize,
+    events: E,
+) -> Result<E, JsonParseError>
+    requires { E.holds events [] }
+    ensures { TellsText E.is (Some limit) (chars text.now) result }
+{
+    tell_text(alloc, text, Some(limit), events)
+}
+
+/// The same, with this limit.
+fn tell_text<E: Events>(
+    alloc: Global,
+    text: &str,
+    limit: Option<usize>,
+    events: E,
+) -> Result<E, JsonParseError>
+    requires { E.holds events [] }
+    ensures { TellsText E.is limit (chars text.now) result }
+{
+    Reader::new(alloc, TextBytes::new(text)).told(limit, events)
 }

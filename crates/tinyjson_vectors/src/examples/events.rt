@@ -3,7 +3,7 @@ ghost use Rattle.std.specs.Prelude.{⊤};
 
 use std::alloc::AllocError;
 use std::test::Fail;
-use tinyjson::{Events, JsonNumber, JsonParseErrorKind, read_events};
+use tinyjson::{Events, JsonNumber, JsonParseErrorKind, read_events, read_events_with_depth_limit};
 
 /// How many numbers a text has.
 #[derive(Drop)]
@@ -60,5 +60,15 @@ fn counted(rt: HostRuntime) -> Result<(), Fail> {
     assert!(rt;
         refused.is_err_and(|error| error.kind() == JsonParseErrorKind::InvalidCharacter(']'))
     );
+    Ok(())
+}
+
+#[test]
+fn counted_within_a_limit(rt: HostRuntime) -> Result<(), Fail> {
+    let alloc = rt.alloc();
+    let numbers = read_events_with_depth_limit(alloc, "[1, [2]]", 2, Numbers { count: 0 })?;
+    assert_eq!(rt; numbers.count, 2);
+    let result = read_events_with_depth_limit(alloc, "[1, [2]]", 1, Numbers { count: 0 });
+    assert!(rt; result.is_err_and(|error| error.kind() == JsonParseErrorKind::TooDeep('[')));
     Ok(())
 }

@@ -1,16 +1,16 @@
-use Rattle.std.proofs.Common.{None, sym, ap, ◌∙◌}
+use Rattle.std.proofs.Common.{sym, ap, ◌∙◌}
 use Rattle.std.proofs.lemmas.Str.{scalars-chars}
 use Rattle.std.specs.Str.{chars}
 use Rattle.tinyjson_grammar.specs.Position.{advance, origin}
 use Rattle.tinyjson_tokens.specs.Slice.{before, chars_after}
 use Rattle.tinyjson_tokens.specs.declared.text.TextBytes.{TextBytes}
 use Rattle.tinyjson.proofs.Reading.Parse.{told_text, all_are_scalars}
-use Rattle.tinyjson.proofs.parser.read_events.Goals as goal
+use Rattle.tinyjson.proofs.parser.tell_text.Goals as goal
 
 pub returns : goal.returns
 returns g c =
     let text = c.args.text.now in
     let gives = sym (ap (λ (p : TextBytes). chars_after p.text.now p.at) c.new-2.ensures ∙ c.new.ensures.gives) in
     let start = ap (λ (p : TextBytes). advance origin (before p.text.now p.at)) c.new-2.ensures ∙ c.new.ensures.start in
-    told_text _ None g.E.Events.is _ _ c.told.result c.told.ensures.reads c.told.ensures.end start (chars text) gives
+    told_text _ c.args.limit g.E.Events.is _ _ c.told.result c.told.ensures.reads c.told.ensures.end start (chars text) gives
     (all_are_scalars (chars text) (scalars-chars text c.utf8.text))
