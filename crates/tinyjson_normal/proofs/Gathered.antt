@@ -1,39 +1,8 @@
 -- The members that a sorted object keeps are those that `put` in turn gives.
-use Rattle.std.proofs.Common.{
-  ◌≡◌,
-  ℕ,
-  ◌+◌,
-  ◌-◌,
-  min,
-  suc,
-  Bool,
-  true,
-  false,
-  cond,
-  not,
-  ◌&&◌,
-  Option,
-  Some,
-  None,
-  List,
-  [],
-  ◌∷◌,
-  ◌++◌,
-  length,
-  take,
-  drop,
-  get_or,
-  bytes_eq,
-  refl,
-  sym,
-  ◌∙◌,
-  ap,
-  subst,
-  length-append,
-  arith,
-}
+use Rattle.std.proofs.Common.{◌≡◌, ℕ, ◌+◌, suc, Bool, true, false, cond, not, ◌&&◌, Option, Some, None, List}
+use Rattle.std.proofs.Common.{[], ◌∷◌, get_or, bytes_eq, refl, sym, ◌∙◌, ap, subst, arith}
 use Rattle.std.specs.Prelude.{⊤}
-use Rattle.std.specs.List.{filter, slice_range, All}
+use Rattle.std.specs.List.{filter, All}
 use Rattle.std.specs.List.Sorted.{IsStableBy, IsSortedBy, IsPermutation, ties}
 use Rattle.std.specs.Ordering.{is_lt, nat_cmp, ordering_reverse}
 use Rattle.std.specs.Str.{encode_utf8_all}
@@ -41,16 +10,15 @@ use Rattle.std.specs.declared.cmp.Ordering.{Ordering}
 use Rattle.std.specs.declared.cmp.Ordering.TheVariants.{Less, Equal, Greater}
 use Rattle.std.specs.Cmp.Lexicographic.{slice_cmp}
 use Rattle.std.proofs.lemmas.Cmp.{nat_list_cmp_total}
-use Rattle.std.proofs.lemmas.List.{take_at, drop_at}
 use Rattle.std.proofs.lemmas.List.Elements.{filter_agree, All-nil, All-cons, All-head, All-tail}
 use Rattle.std.proofs.lemmas.List.Sorted.{All-permutation}
 use Rattle.std.proofs.lemmas.Map.Lookups.{exact_bytes}
 use Rattle.std.proofs.lemmas.Slice.Eq.{bytes_eq-Decides}
 use Rattle.std.proofs.lemmas.Str.{encodes_same, encodes-chars}
-use Rattle.tinyjson_grammar.specs.Tree.{Tree, Members, no_members, member, put, find, key_cmp}
+use Rattle.tinyjson_grammar.specs.Tree.{Tree, Members, no_members, member, put, find}
 use Rattle.tinyjson_grammar.specs.Soundness.{IsBelow, IsSorted}
 use Rattle.tinyjson_grammar.proofs.Callers.{find_put, find_below, sorted_put, members_from_find}
-use Rattle.tinyjson_normal.specs.Node.{IsRun, IsText, Is, AreMembers}
+use Rattle.tinyjson_normal.specs.Node.{IsText, Is, AreMembers}
 use Rattle.tinyjson_normal.specs.Holding.{Entry, put_all, AreEntries}
 use Rattle.tinyjson_normal.specs.Order.{part, key_in, key_lt, paired, comes_again, lasts}
 use Rattle.tinyjson_normal.proofs.Slices.{run_part}

@@ -10,3 +10,5 @@ pub mod Order
 pub mod Gathered
 -- What a walk writes.
 pub mod Writing
+-- The characters of a compact text.
+pub mod Scalars

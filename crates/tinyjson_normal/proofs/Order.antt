@@ -1,52 +1,8 @@
 -- Members that are paired, sorted, and of equal keys the last: they are what `put` in turn gives.
-use Rattle.std.proofs.Common.{
-  ◌≡◌,
-  ℕ,
-  ◌+◌,
-  ◌-◌,
-  ◌≤◌,
-  ◌<◌,
-  min,
-  suc,
-  zero,
-  Bool,
-  true,
-  false,
-  cond,
-  not,
-  Option,
-  Some,
-  None,
-  List,
-  [],
-  ◌∷◌,
-  ◌++◌,
-  length,
-  take,
-  get_or,
-  bytes_eq,
-  refl,
-  sym,
-  ◌∙◌,
-  ap,
-  subst,
-  append_assoc,
-  append-nil,
-  length-take,
-  arith,
-}
-use Rattle.std.specs.List.{filter}
-use Rattle.std.specs.List.Sorted.{IsStableBy, IsSortedBy, ties}
-use Rattle.std.specs.Ordering.{is_lt, nat_cmp, ordering_reverse}
-use Rattle.std.specs.declared.cmp.Ordering.{Ordering}
-use Rattle.std.specs.declared.cmp.Ordering.TheVariants.{Less, Equal, Greater}
-use Rattle.std.specs.Cmp.Lexicographic.{slice_cmp}
-use Rattle.std.proofs.lemmas.Cmp.{nat_list_cmp_total}
+use Rattle.std.proofs.Common.{◌≡◌, ℕ, ◌+◌, ◌≤◌, ◌<◌, min, suc, zero, Bool, true, false, cond, List, [], ◌∷◌}
+use Rattle.std.proofs.Common.{◌++◌, length, take, get_or, refl, sym, ◌∙◌, ap, append_assoc, append-nil, length-take, arith}
 use Rattle.std.proofs.lemmas.List.{take_more, nil_from_length}
-use Rattle.std.proofs.lemmas.List.Elements.{filter_agree}
-use Rattle.std.proofs.lemmas.Map.Lookups.{exact_bytes}
-use Rattle.std.proofs.lemmas.Slice.Eq.{bytes_eq-Decides}
-use Rattle.tinyjson_normal.specs.Order.{part, key_in, key_lt, paired, comes_again, lasts}
+use Rattle.tinyjson_normal.specs.Order.{paired, comes_again, lasts}
 use Rattle.tinyjson_normal.specs.declared.store.Span.{Span}
 use Rattle.tinyjson_normal.specs.declared.store.Node.{Node}
 use Rattle.tinyjson_normal.specs.declared.store.Member.{Member}

@@ -2,20 +2,20 @@
 use Rattle.std.proofs.Common.{◌≡◌, ℕ, List, [], ◌∷◌, ◌++◌, length, take, drop, refl, sym, ◌∙◌, ap, subst, append_assoc, append-nil}
 use Rattle.std.proofs.lemmas.List.{take_at, drop_at, same_from_push}
 use Rattle.tinyjson_grammar.specs.Tree.{Tree, array, object, items_of, Members, no_members, put}
-use Rattle.tinyjson_grammar.specs.Machine.{Frame, in_array, at_key, at_value}
+use Rattle.tinyjson.specs.Events.{Open, in_array, at_key, at_value, Puts}
 use Rattle.tinyjson_normal.specs.Node.{IsRun, IsText, Is, Are, AreMembers, Grows}
 use Rattle.tinyjson_normal.specs.Holding.{
   Entry,
   put_all,
   AreEntries,
   Gathers,
-  IsFrame,
+  IsOpen,
   Waiting,
   Splits,
   HoldsIn,
   waiting_in,
   Holds,
-  Puts,
+  IsTree,
 }
 use Rattle.tinyjson_normal.specs.declared.store.Span.{Span}
 use Rattle.tinyjson_normal.specs.declared.store.Node.{Node}
@@ -75,7 +75,7 @@ gathers_still s r ms ks vs g h = record {
       entries_still s r h.entries ks vs g h.waiting;
 }
 
-frame_still : (s r : Store) (f : Frame) (ks : List Span) (vs : List Node) → Grows s r → IsFrame s f ks vs → IsFrame r f ks vs
+frame_still : (s r : Store) (f : Open) (ks : List Span) (vs : List Node) → Grows s r → IsOpen s f ks vs → IsOpen r f ks vs
 frame_still s r (in_array ts) ks vs g h = (h.0, are_still s r (items_of ts) vs g h.1)
 frame_still s r (at_key ms) ks vs g h = gathers_still s r ms ks vs g h
 frame_still s r (at_value ms k) ks vs g h =
@@ -88,7 +88,7 @@ frame_still s r (at_value ms k) ks vs g h =
           gathers_still s r ms h.before vs g h.gathered;
     }
 
-pub holds_still : (s r : Store) (w : Waiting) (fs : List Frame) → Grows s r → HoldsIn s w fs → HoldsIn r w fs
+pub holds_still : (s r : Store) (w : Waiting) (fs : List Open) → Grows s r → HoldsIn s w fs → HoldsIn r w fs
 holds_still s r w [] g h = h
 holds_still s r w (f ∷ fs) g h = (h.0, h.1, h.2, h.3, frame_still s r f h.1 h.2 g h.4, holds_still s r h.0 fs g h.5)
 
@@ -107,8 +107,8 @@ more_values w outer ks vs n h =
       first_value = h.first_value;
     }
 
-puts_in : (s : Store) (w : Waiting) (fs : List Frame) (t : Tree) (n : Node) (a : Arena) → HoldsIn s w fs → Is s t n → a.store ≡ s
-    → waiting_in a ≡ record { places = w.places; keys = w.keys; values = w.values ++ n ∷ [] } → Puts fs t a
+puts_in : (s : Store) (w : Waiting) (fs : List Open) (t : Tree) (n : Node) (a : Arena) → HoldsIn s w fs → Is s t n → a.store ≡ s
+    → waiting_in a ≡ record { places = w.places; keys = w.keys; values = w.values ++ n ∷ [] } → Puts Holds IsTree fs t a
 puts_in s w [] t n a h i es ew = (n, ap (λ x. x.values) ew ∙ ap (λ x. x ++ n ∷ []) h.2, subst (λ x. Is x t n) (sym es) i)
 puts_in s w (in_array ts ∷ fs) t n a h i es ew =
     let here : HoldsIn s (record { places = w.places; keys = w.keys; values = w.values ++ n ∷ [] }) (in_array (ts ++ t ∷ []) ∷ fs)
@@ -131,14 +131,14 @@ puts_in s w (at_value ms k ∷ fs) t n a h i es ew =
     (sym ew) here)
 
 -- the node that was pushed stands for the tree
-pub puts : (a b : Arena) (fs : List Frame) (t : Tree) (n : Node) → Holds a fs → Grows a.store b.store → Is b.store t n
-    → b.open.items ≡ a.open.items → b.keys.items ≡ a.keys.items → b.values.items ≡ a.values.items ++ n ∷ [] → Puts fs t b
+pub puts : (a b : Arena) (fs : List Open) (t : Tree) (n : Node) → Holds a fs → Grows a.store b.store → Is b.store t n
+    → b.open.items ≡ a.open.items → b.keys.items ≡ a.keys.items → b.values.items ≡ a.values.items ++ n ∷ [] → Puts Holds IsTree fs t b
 puts a b fs t n h g i o k v =
     puts_in b.store (waiting_in a) fs t n b (holds_still a.store b.store (waiting_in a) fs g h) i refl
     (λ x. record { places = o x; keys = k x; values = v x })
 
-pub puts_kept : (a b : Arena) (fs : List Frame) (t : Tree) (n : Node) → Holds a fs → b.store ≡ a.store → Is b.store t n
-    → b.open.items ≡ a.open.items → b.keys.items ≡ a.keys.items → b.values.items ≡ a.values.items ++ n ∷ [] → Puts fs t b
+pub puts_kept : (a b : Arena) (fs : List Open) (t : Tree) (n : Node) → Holds a fs → b.store ≡ a.store → Is b.store t n
+    → b.open.items ≡ a.open.items → b.keys.items ≡ a.keys.items → b.values.items ≡ a.values.items ++ n ∷ [] → Puts Holds IsTree fs t b
 puts_kept a b fs t n h e i o k v = puts a b fs t n h (subst (λ x. Grows a.store x) (sym e) (grows_none a.store)) i o k v
 
 -- ---- the innermost container is closed
@@ -167,13 +167,13 @@ innermost w outer ks vs place places h e =
     record { others = same.0; own_keys = k.0; own_values = v.0; outer_keys = k.1; outer_values = v.1 }
 
 -- an array is closed: what it had waits no more, and its items are in the store
-pub closes_array : (a b : Arena) (ts : List Tree) (fs : List Frame) (p : Span) (place : Place) (places : List Place)
+pub closes_array : (a b : Arena) (ts : List Tree) (fs : List Open) (p : Span) (place : Place) (places : List Place)
     (ns kept : List Node)
     → Holds a (in_array ts ∷ fs) → a.open.items ≡ places ++ place ∷ [] → ns ≡ drop place.values a.values.items
     → kept ≡ take place.values a.values.items
     → Grows a.store b.store → IsRun b.store.items.items p ns
     → b.open.items ≡ places → b.keys.items ≡ a.keys.items → b.values.items ≡ kept ++ node.Array p ∷ []
-    → Puts fs (array (items_of ts)) b
+    → Puts Holds IsTree fs (array (items_of ts)) b
 closes_array a b ts fs p place places ns kept h o e ekept g run eo ek ev =
     let inner = innermost (waiting_in a) h.0 h.1 h.2 place places h.3 o in
     let own : ns ≡ h.2 = e ∙ inner.own_values in
@@ -188,7 +188,7 @@ closes_array a b ts fs p place places ns kept h o e ekept g run eo ek ev =
     })
 
 -- an object is closed: its members are in the store, in order
-pub closes_object : (a b : Arena) (ms : Members) (fs : List Frame) (p : Span) (place : Place) (places : List Place)
+pub closes_object : (a b : Arena) (ms : Members) (fs : List Open) (p : Span) (place : Place) (places : List Place)
     (ks keys : List Span) (vs values : List Node) (ns : List Member)
     → Holds a (at_key ms ∷ fs) → a.open.items ≡ places ++ place ∷ []
     → ks ≡ drop place.keys a.keys.items → keys ≡ take place.keys a.keys.items
@@ -197,7 +197,7 @@ pub closes_object : (a b : Arena) (ms : Members) (fs : List Frame) (p : Span) (p
     → IsStableBy (key_lt a.store.texts.items) (paired ks vs) ns
     → Grows a.store b.store → IsRun b.store.members.items p (lasts a.store.texts.items ns)
     → b.open.items ≡ places → b.keys.items ≡ keys → b.values.items ≡ values ++ node.Object p ∷ []
-    → Puts fs (object ms) b
+    → Puts Holds IsTree fs (object ms) b
 closes_object a b ms fs p place places ks keys vs values ns h o dk tk dv tv permuted sorted stable g run eo ek ev =
     let inner = innermost (waiting_in a) h.0 h.1 h.2 place places h.3 o in
     let waiting : AreEntries a.store h.4.entries ks vs =
@@ -221,7 +221,7 @@ closes_object a b ms fs p place places ks keys vs values ns h o dk tk dv tv perm
     })
 
 -- a key comes
-pub awaits_value : (a b : Arena) (ms : Members) (fs : List Frame) (k : List ℕ) (p : Span) → Holds a (at_key ms ∷ fs)
+pub awaits_value : (a b : Arena) (ms : Members) (fs : List Open) (k : List ℕ) (p : Span) → Holds a (at_key ms ∷ fs)
     → Grows a.store b.store → IsText b.store k p
     → b.open.items ≡ a.open.items → b.keys.items ≡ a.keys.items ++ p ∷ [] → b.values.items ≡ a.values.items
     → Holds b (at_value ms k ∷ fs)

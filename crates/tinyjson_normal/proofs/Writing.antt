@@ -1,26 +1,6 @@
 -- What a walk writes, piece by piece.
-use Rattle.std.proofs.Common.{
-  ◌≡◌,
-  ℕ,
-  zero,
-  suc,
-  ◌+◌,
-  ◌-◌,
-  ◌<◌,
-  ◌≤◌,
-  Bool,
-  true,
-  false,
-  Option,
-  None,
-  Some,
-  Result,
-  Ok,
-  Err,
-  OnOk,
-  slice_get,
-  codes,
-}
+use Rattle.std.proofs.Common.{◌≡◌, ℕ, zero, suc, ◌+◌, ◌-◌, ◌<◌, ◌≤◌, Bool, true, false}
+use Rattle.std.proofs.Common.{Option, None, Some, Result, Ok, Err, OnOk, slice_get}
 use Rattle.std.proofs.Common.{
   List,
   [],
@@ -55,7 +35,7 @@ use Rattle.tinyjson_output.proofs.Callers.{
   sent_written_then as written_then,
   sent_stops_then as stops_then,
 }
-use Rattle.tinyjson_normal.specs.Node.{IsRun, IsText, IsNumberAt, Is, Are, AreMembers, IsBytes}
+use Rattle.tinyjson_normal.specs.Node.{IsNumberAt, Is, Are, AreMembers, IsBytes}
 use Rattle.tinyjson_normal.specs.Order.{part}
 use Rattle.tinyjson_normal.specs.Walking.{head, IsRest, AreLeft, Advanced, AdvancesFrom, cost, rest_cost, left_cost}
 use Rattle.tinyjson_normal.specs.declared.store.Span.{Span}

@@ -1,7 +1,7 @@
 -- For which open containers an arena stands, and for which tree, once all are closed.
 use Rattle.std.specs.Prelude.{◌≡◌, ℕ, List, [], ◌∷◌, ◌++◌, length, ⊤}
 use Rattle.tinyjson_grammar.specs.Tree.{Tree, items_of, Members, no_members, put}
-use Rattle.tinyjson_grammar.specs.Machine.{Frame, in_array, at_key, at_value}
+use Rattle.tinyjson.specs.Events.{Open, in_array, at_key, at_value}
 use Rattle.tinyjson_normal.specs.Node.{Is, Are, IsText}
 use Rattle.tinyjson_normal.specs.declared.store.Span.{Span}
 use Rattle.tinyjson_normal.specs.declared.store.Node.{Node}
@@ -42,10 +42,10 @@ pub record Awaits (s : Store) (ms : Members) (k : List ℕ) (ks : List Span) (vs
   pub gathered : Gathers s ms before vs
 
 -- an open container has these keys and values
-abbrev pub IsFrame : Store → Frame → List Span → List Node → Type 0
-IsFrame s (in_array ts) ks vs = (ks ≡ []) × Are s (items_of ts) vs
-IsFrame s (at_key ms) ks vs = Gathers s ms ks vs
-IsFrame s (at_value ms k) ks vs = Awaits s ms k ks vs
+abbrev pub IsOpen : Store → Open → List Span → List Node → Type 0
+IsOpen s (in_array ts) ks vs = (ks ≡ []) × Are s (items_of ts) vs
+IsOpen s (at_key ms) ks vs = Gathers s ms ks vs
+IsOpen s (at_value ms k) ks vs = Awaits s ms k ks vs
 
 -- what waits: the places where the open containers begin, keys and values
 pub record Waiting : Type 0 where
@@ -62,25 +62,18 @@ pub record Splits (all outer : Waiting) (ks : List Span) (vs : List Node) : Type
   pub first_key : place.keys ≡ length outer.keys
   pub first_value : place.values ≡ length outer.values
 
-abbrev pub HoldsIn : Store → Waiting → List Frame → Type 0
+abbrev pub HoldsIn : Store → Waiting → List Open → Type 0
 HoldsIn s w [] = (w.places ≡ []) × (w.keys ≡ []) × (w.values ≡ [])
-HoldsIn s w (f ∷ fs) =
-    (outer : Waiting) × (ks : List Span) × (vs : List Node) × Splits w outer ks vs × IsFrame s f ks vs × HoldsIn s outer fs
+HoldsIn s w (o ∷ os) =
+    (outer : Waiting) × (ks : List Span) × (vs : List Node) × Splits w outer ks vs × IsOpen s o ks vs × HoldsIn s outer os
 
 abbrev pub waiting_in : Arena → Waiting
 waiting_in a = record { places = a.open.items; keys = a.keys.items; values = a.values.items }
 
 -- the arena stands for these open containers, the innermost first
-abbrev pub Holds : Arena → List Frame → Type 0
-Holds a fs = HoldsIn a.store (waiting_in a) fs
+abbrev pub Holds : Arena → List Open → Type 0
+Holds a os = HoldsIn a.store (waiting_in a) os
 
 -- the arena stands for the tree: no container is open
 abbrev pub IsTree : Arena → Tree → Type 0
 IsTree a t = (n : Node) × (a.values.items ≡ n ∷ []) × Is a.store t n
-
--- the tree is put where it belongs; an object that awaits a key takes none
-abbrev pub Puts : List Frame → Tree → Arena → Type 0
-Puts [] t a = IsTree a t
-Puts (in_array ts ∷ fs) t a = Holds a (in_array (ts ++ t ∷ []) ∷ fs)
-Puts (at_value ms k ∷ fs) t a = Holds a (at_key (put k t ms) ∷ fs)
-Puts (at_key ms ∷ fs) t a = ⊤

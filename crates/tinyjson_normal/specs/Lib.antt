@@ -1,3 +1,5 @@
+-- What public contracts say.
+pub mod Normal
 -- Which tree a node stands for.
 pub mod Node
 -- For which open containers an arena stands.

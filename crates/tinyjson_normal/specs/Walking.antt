@@ -11,7 +11,6 @@ use Rattle.tinyjson_normal.specs.Node.{Are, AreMembers}
 use Rattle.tinyjson_normal.specs.Order.{part}
 use Rattle.tinyjson_normal.specs.declared.store.Node.{Node}
 use Rattle.tinyjson_normal.specs.declared.store.Node.TheVariants as node
-use Rattle.tinyjson_normal.specs.declared.store.Member.{Member}
 use Rattle.tinyjson_normal.specs.declared.store.Store.{Store}
 use Rattle.tinyjson_normal.specs.declared.walk.Rest.{Rest}
 use Rattle.tinyjson_normal.specs.declared.walk.Rest.TheVariants as rest

@@ -1,14 +1,13 @@
-//! JSON values in an arena, from which their text is written: it is built by events, in the order of a text, and no
-//! value has memory of its own.
-//!
-//! It is part of the inside of `tinyjson`, which a program takes alone.
+//! Normal text, with no value built: a text is read into an arena of nodes, from which the one compact text of
+//! its tree is written.
 #![tactic(auto)]
 
 mod arena;
+pub mod normal;
 mod sorting;
 mod store;
 #[cfg(test)]
 mod tests;
 mod walk;
 
-pub use arena::Arena;
+pub use normal::NormalText;

@@ -1,10 +1,8 @@
-use Rattle.std.proofs.Common.{◌≡◌, List, [], refl, sym, ◌∙◌, subst, reverse}
+use Rattle.std.proofs.Common.{[], refl, sym, subst, reverse}
 use Rattle.std.proofs.lemmas.Result.{MatchResult-from_err}
-use Rattle.tinyjson_grammar.specs.Tree.{Tree}
 use Rattle.tinyjson_output.proofs.Callers.{enc, sent_stops_then as stops_then, sent_written_then as written_then}
 use Rattle.tinyjson_normal.specs.Node.{Is}
 use Rattle.tinyjson_normal.specs.Walking.{AreLeft}
-use Rattle.tinyjson_normal.specs.Holding.{IsTree}
 use Rattle.tinyjson_normal.proofs.Writing.{root_is, flushed, part_flushed}
 use Rattle.tinyjson_normal.proofs.arena.Arena.write_to.Goals as goal
 

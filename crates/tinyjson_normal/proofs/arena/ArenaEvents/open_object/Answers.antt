@@ -1,7 +1,7 @@
-use Rattle.std.proofs.Common.{rules, refl, [], sym, append-nil, arith}
+use Rattle.std.proofs.Common.{refl, [], sym, append-nil, arith}
 use Rattle.tinyjson_normal.specs.Holding.{Gathers, waiting_in}
 use Rattle.tinyjson_grammar.specs.Tree.{no_members}
-use Rattle.tinyjson_normal.proofs.arena.Arena.open_object.Goals as goal
+use Rattle.tinyjson_normal.proofs.arena.ArenaEvents.open_object.Goals as goal
 
 pub returns : goal.returns
 returns c = λ fs h.

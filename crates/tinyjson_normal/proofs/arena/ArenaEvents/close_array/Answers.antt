@@ -1,7 +1,7 @@
 use Rattle.std.proofs.Common.{refl, ◌∙◌, ap, drop}
 use Rattle.tinyjson_normal.proofs.Slices.{slice_rest}
 use Rattle.tinyjson_normal.proofs.Waiting.{closes_array}
-use Rattle.tinyjson_normal.proofs.arena.Arena.close_array.Goals as goal
+use Rattle.tinyjson_normal.proofs.arena.ArenaEvents.close_array.Goals as goal
 
 pub returns : goal.returns
 returns c = λ ts fs h.

@@ -1,6 +1,6 @@
 use Rattle.std.proofs.Common.{refl}
 use Rattle.tinyjson_normal.proofs.Waiting.{puts}
-use Rattle.tinyjson_normal.proofs.arena.Arena.number.Goals as goal
+use Rattle.tinyjson_normal.proofs.arena.ArenaEvents.number.Goals as goal
 
 pub returns : goal.returns
 returns c = λ fs h. puts c.args.self.now _ fs _ _ h c.in_ok-index.ensures.grows

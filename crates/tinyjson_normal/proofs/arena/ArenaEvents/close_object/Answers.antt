@@ -4,7 +4,7 @@ use Rattle.tinyjson_normal.specs.Node.{IsRun}
 use Rattle.tinyjson_normal.specs.Order.{key_lt, paired, lasts}
 use Rattle.tinyjson_normal.proofs.Slices.{slice_rest}
 use Rattle.tinyjson_normal.proofs.Waiting.{closes_object}
-use Rattle.tinyjson_normal.proofs.arena.Arena.close_object.Goals as goal
+use Rattle.tinyjson_normal.proofs.arena.ArenaEvents.close_object.Goals as goal
 
 pub returns : goal.returns
 returns c = λ ms fs h.

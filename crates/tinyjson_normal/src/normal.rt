@@ -1,0 +1,82 @@
+//! A text whose normal text is asked for.
+ghost use Rattle.std.specs.Prelude.{◌≡◌, IfOk, None, string_bytes};
+ghost use Rattle.std.specs.Str.{chars};
+ghost use Rattle.tinyjson.specs.Events.{TellsText};
+ghost use Rattle.tinyjson.specs.Text.{compact};
+ghost use Rattle.tinyjson.specs.Tree.{Tree};
+ghost use Rattle.tinyjson.specs.Written.{WritesText};
+ghost use Rattle.tinyjson_normal.specs.Normal.{HasTree};
+
+use crate::arena::Arena;
+use std::alloc::Global;
+use std::io::{self, Write};
+use tinyjson::{JsonGenerateError, JsonGenerateResult, JsonParseError, read_events};
+
+/// The tree of a text, kept for its normal text, with no value built.
+///
+/// ```
+/// let normal = NormalText::read(alloc, r#"{"bool": true, "arr": [1, null]}"#)?;
+/// let text = normal.to_string(alloc)?;
+/// assert_eq!(rt; text.as_str(), r#"{"arr":[1,null],"bool":true}"#);
+/// ```
+#[derive(Drop)]
+pub struct NormalText {
+    pub(crate) arena: Arena,
+}
+
+impl NormalText {
+    /// Reads a text, as `JsonValue::from_str` does: a tree exactly where that gives a value, and else its error,
+    /// unless memory runs out.
+    ///
+    /// ```
+    /// let result = NormalText::read(alloc, "01");
+    /// assert!(rt; result.is_err_and(|error| error.kind() == JsonParseErrorKind::LeadingZero));
+    /// ```
+    pub fn read(alloc: Global, text: &str) -> Result<NormalText, JsonParseError>
+        ensures { TellsText HasTree None (chars text.now) result }
+    {
+        match read_events(alloc, text, Arena::new(alloc)) {
+            Ok(arena) => Ok(NormalText { arena }),
+            Err(error) => Err(error),
+        }
+    }
+
+    /// Writes the compact text of the tree, in UTF-8, and flushes nothing: the bytes that `JsonValue::write_to`
+    /// of the text's value writes.
+    ///
+    /// It ends with the first error: the writer's own, an interruption too; one of kind `WriteZero` where the
+    /// writer takes nothing; or one of kind `OutOfMemory` where there is no memory for the open containers. Then
+    /// a prefix of the text is written.
+    ///
+    /// ```
+    /// let mut bytes = Vec::new(alloc);
+    /// NormalText::read(alloc, "[1.50e1, null]")?.write_to(alloc, &mut bytes)?;
+    /// assert_eq!(rt; bytes.as_slice(), b"[15,null]".as_slice());
+    /// ```
+    pub fn write_to<W: Write>(&self, alloc: Global, out: &mut W) -> io::Result<()>
+        ensures { (t : Tree) → HasTree self.now t →
+            WritesText (W.contents out.old) (W.contents out.new) (compact t) result }
+    {
+        self.arena.write_to(alloc, out)
+    }
+
+    /// The compact text of the tree: what `stringify` of the text's value returns.
+    ///
+    /// ```
+    /// let normal = NormalText::read(alloc, "[1.50e1, null]")?;
+    /// assert_eq!(rt; normal.to_string(alloc)?.as_str(), "[15,null]");
+    /// ```
+    pub fn to_string(&self, alloc: Global) -> JsonGenerateResult
+        ensures { (t : Tree) → HasTree self.now t →
+            IfOk result (λ s. chars (string_bytes s) ≡ compact t) }
+    {
+        let mut bytes = Vec::new(alloc);
+        let Ok(()) = self.write_to(alloc, &mut bytes) else {
+            return Err(JsonGenerateError);
+        };
+        match String::from_utf8(bytes) {
+            Ok(text) => Ok(text),
+            Err(_) => Err(JsonGenerateError),
+        }
+    }
+}
