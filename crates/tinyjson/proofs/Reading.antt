@@ -8,3 +8,4 @@ pub mod Cursors
 pub mod Memory
 pub mod Loop
 pub mod Check
+pub mod Events

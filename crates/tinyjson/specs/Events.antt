@@ -1,12 +1,15 @@
 -- What stands while a text is read event by event, and what a reading into events returns.
-use Rattle.std.specs.Prelude.{◌≡◌, ℕ, List, [], ◌∷◌, ◌++◌, Option, Result, MatchResult, IfErr, ⊤}
+use Rattle.std.specs.Prelude.{◌≡◌, ℕ, List, [], ◌∷◌, ◌++◌, Option, Result, MatchResult, IfErr, ◌⊎◌, ⊤}
 use Rattle.tinyjson.specs.Error.{error_kind, error_position}
+use Rattle.tinyjson.specs.Parser.{Parser, Remains}
 use Rattle.tinyjson_grammar.specs.Grammar.{IsText, IsAccepted}
 use Rattle.tinyjson_grammar.specs.Position.{origin, advance}
-use Rattle.tinyjson_grammar.specs.Refusal.{RefusalSays}
+use Rattle.tinyjson_grammar.specs.Refusal.{IsInterrupted, MayGrow, RefusalSays}
+use Rattle.tinyjson_grammar.specs.Syntax.{AreWhite}
 use Rattle.tinyjson_grammar.specs.Tree.{Tree, Members, put}
 use Rattle.tinyjson.specs.declared.parser.error.JsonParseError.{JsonParseError}
 use Rattle.tinyjson_grammar.specs.declared.error.JsonParseErrorKind.TheVariants as kind
+use Rattle.tinyjson_tokens.specs.Steps.{BeginsLiteral}
 -- null, or a boolean
 pub use Rattle.tinyjson_tokens.specs.Steps.{literal_tree}
 
@@ -24,8 +27,22 @@ Puts holds is (in_array ts ∷ os) t e = holds e (in_array (ts ++ t ∷ []) ∷ 
 Puts holds is (at_key ms ∷ os) t e = ⊤
 Puts holds is (at_value ms k ∷ os) t e = holds e (at_key (put k t ms) ∷ os)
 
+-- The first character that is not white space begins a literal.
+pub record MeetsLiteral (xs : List ℕ) : Type 0 where
+  pub before : List ℕ
+  pub first : ℕ
+  pub more : List ℕ
+  pub whole : xs ≡ before ++ first ∷ more
+  pub white : AreWhite before
+  pub begins : BeginsLiteral first
+
+-- Memory ran out or an event was refused: where that may come. A literal alone takes no memory, so there it was the event.
+pub record IsBrokenOff (limit : Option ℕ) (consumed rest : List ℕ) : Type 0 where
+  pub place : IsInterrupted limit consumed
+  pub begun : MayGrow (consumed ++ rest) ⊎ MeetsLiteral (consumed ++ rest)
+
 -- What a text of these characters returns that is told to events: they are of its tree, or the error that a new parser returns,
--- unless memory ran out.
+-- unless memory ran out or an event was refused.
 pub record TellsText {E : Type 0} (is : E → Tree → Type 0) (limit : Option ℕ) (xs : List ℕ) (result : Result E JsonParseError)
     : Type 0 where
   pub consumed : List ℕ
@@ -36,3 +53,21 @@ pub record TellsText {E : Type 0} (is : E → Tree → Type 0) (limit : Option �
       (λ e. (error_position e ≡ advance origin consumed)
       × (¬ (error_kind e ≡ kind.OutOfMemory) → RefusalSays limit (error_kind e) consumed rest))
   pub refused : IfErr result (λ e. ¬ (error_kind e ≡ kind.OutOfMemory) → ¬ IsAccepted limit xs)
+  pub broken_off : IfErr result (λ e. error_kind e ≡ kind.OutOfMemory → IsBrokenOff limit consumed rest)
+
+-- The same of the characters xs that a parser p had left, of which q has the rest left.
+pub record TellsRest
+    {S E : Type 0} (steps : S → Option ℕ → S → Type 0) (is : E → Tree → Type 0)
+    (p : Parser S) (xs : List ℕ) (result : Result E JsonParseError) (q : Parser S)
+    : Type 0 where
+  pub consumed : List ℕ
+  pub rest : List ℕ
+  pub whole : xs ≡ consumed ++ rest
+  pub remains : Remains steps q rest
+  pub position : q.position ≡ advance p.position consumed
+  pub answer : MatchResult result
+      (λ e. (rest ≡ []) × (t : Tree) × IsText p.limit xs t × is e t)
+      (λ e. (error_position e ≡ q.position)
+      × (¬ (error_kind e ≡ kind.OutOfMemory) → RefusalSays p.limit (error_kind e) consumed rest))
+  pub refused : IfErr result (λ e. ¬ (error_kind e ≡ kind.OutOfMemory) → ¬ IsAccepted p.limit xs)
+  pub broken_off : IfErr result (λ e. error_kind e ≡ kind.OutOfMemory → IsBrokenOff p.limit consumed rest)

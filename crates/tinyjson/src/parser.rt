@@ -2,7 +2,7 @@
 ghost use Rattle.std.specs.Prelude.{◌≡◌, ℕ, List, [], Option, None, Some};
 ghost use Rattle.std.specs.Iterator.{IsFinite};
 ghost use Rattle.std.specs.Str.{chars};
-ghost use Rattle.tinyjson.specs.Events.{TellsText};
+ghost use Rattle.tinyjson.specs.Events.{TellsRest, TellsText};
 ghost use Rattle.tinyjson.specs.Parser.{ChecksText, Provides, Remains, Parses, ParsesText};
 ghost use Rattle.tinyjson_grammar.specs.Position.{origin};
 
@@ -132,6 +132,26 @@ impl<I: Iterator<Item = char>> JsonParser<I> {
         ensures limit { self.new.limit ≡ self.old.limit }
     {
         self.reader.text(self.limit)
+    }
+
+    /// Reads all characters that are left as one text, and tells it to events, which are given back where
+    /// it has a value, of which nothing is built: so a text larger than memory is read.
+    ///
+    /// An error is that of [`JsonParser::parse`], or says that memory ran out, also for an event that was
+    /// refused. The line, the column and what is left are those after `parse`.
+    ///
+    /// ```
+    /// let mut parser = JsonParser::new(alloc, "[1, {\"a\": 2.5}]".chars());
+    /// let numbers = parser.parse_events(Numbers { count: 0 })?;
+    /// assert_eq!(rt; numbers.count, 2);
+    /// ```
+    pub fn parse_events<E: Events>(&mut self, events: E) -> Result<E, JsonParseError>
+        requires { E.holds events [] }
+        ensures parses { (xs : List ℕ) → Remains I.next_gives self.old xs →
+            TellsRest I.next_gives E.is self.old xs result self.new }
+        ensures limit { self.new.limit ≡ self.old.limit }
+    {
+        self.reader.told(self.limit, events)
     }
 }
 

@@ -1,9 +1,13 @@
 //! Values that several tests make, and results that several tests compare.
+ghost use Rattle.std.specs.Prelude.{⊤};
 
 use std::alloc::{AllocError, Global};
 use std::io;
 use std::test::Fail;
-use tinyjson::{JsonKind, JsonParseErrorKind, JsonParseResult, JsonParser, JsonValue};
+use tinyjson::{
+    Events, JsonKind, JsonNumber, JsonParseError, JsonParseErrorKind, JsonParseResult, JsonParser,
+    JsonValue, read_events,
+};
 
 pub(crate) fn string(alloc: Global, text: &str) -> Result<JsonValue, AllocError> {
     Ok(JsonValue::from(String::from_str(alloc, text)?))
@@ -50,6 +54,65 @@ pub(crate) fn agrees(
         }
         _ => Ok(false),
     }
+}
+
+/// Whether a call that builds no value returned this, but for the value.
+pub(crate) fn is_answer(told: Result<(), JsonParseError>, expected: Answer) -> bool {
+    match (told, expected) {
+        (Ok(()), Answer::Text(_)) => true,
+        (Err(error), Answer::Refusal(kind, line, column)) => {
+            error.kind() == kind && (error.line(), error.column()) == (line, column)
+        }
+        _ => false,
+    }
+}
+
+/// What is told is forgotten.
+#[derive(Drop)]
+pub(crate) struct Forget;
+
+impl Events for Forget {
+    ghost holds = { λ _ _. ⊤ };
+
+    ghost is = { λ _ _. ⊤ };
+
+    fn open_array(&mut self) -> Result<(), AllocError> {
+        Ok(())
+    }
+
+    fn close_array(&mut self) -> Result<(), AllocError> {
+        Ok(())
+    }
+
+    fn open_object(&mut self) -> Result<(), AllocError> {
+        Ok(())
+    }
+
+    fn close_object(&mut self) -> Result<(), AllocError> {
+        Ok(())
+    }
+
+    fn key(&mut self, _: String) -> Result<(), AllocError> {
+        Ok(())
+    }
+
+    fn string(&mut self, _: String) -> Result<(), AllocError> {
+        Ok(())
+    }
+
+    fn number(&mut self, _: JsonNumber) -> Result<(), AllocError> {
+        Ok(())
+    }
+
+    fn literal(&mut self, _: Option<bool>) -> Result<(), AllocError> {
+        Ok(())
+    }
+}
+
+/// What telling a text returns.
+pub(crate) fn told(alloc: Global, text: &str) -> Result<(), JsonParseError> {
+    read_events(alloc, text, Forget)?;
+    Ok(())
 }
 
 /// Whether nothing failed, and a writer took the bytes of this text.

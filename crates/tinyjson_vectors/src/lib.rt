@@ -11,6 +11,8 @@ mod deep_memory;
 mod documentation;
 pub mod equality;
 #[cfg(test)]
+mod events;
+#[cfg(test)]
 mod examples;
 #[cfg(test)]
 mod growth;

@@ -4,7 +4,7 @@
 //! for memory refused: then a test passes too, or it ends with the out of memory that a call returned. It runs
 //! programs so too, which read texts and write values to the standard output.
 
-use crate::common::{Answer, agrees, parsed, string};
+use crate::common::{Answer, agrees, is_answer, parsed, string, told};
 use crate::documentation::{COMPACT, DOCUMENT, INDENTED};
 use std::alloc::{AllocError, Global};
 use std::collections::HashMap;
@@ -58,17 +58,6 @@ fn are_alike(one: JsonParseResult, other: JsonParseResult) -> bool {
     }
 }
 
-/// Whether a check returned this, but for the value.
-fn is_answer(checked: Result<(), JsonParseError>, expected: Answer) -> bool {
-    match (checked, expected) {
-        (Ok(()), Answer::Text(_)) => true,
-        (Err(error), Answer::Refusal(kind, line, column)) => {
-            error.kind() == kind && (error.line(), error.column()) == (line, column)
-        }
-        _ => false,
-    }
-}
-
 #[test]
 fn parse_goes_on(rt: HostRuntime) -> Result<(), Fail> {
     let alloc = rt.alloc();
@@ -103,6 +92,21 @@ fn checks_keep_their_errors(rt: HostRuntime) -> Result<(), Fail> {
 }
 
 #[test]
+fn events_keep_their_errors(rt: HostRuntime) -> Result<(), Fail> {
+    let alloc = rt.alloc();
+    for &(text, expected) in TEXTS {
+        let answer = told(alloc, text);
+        if let Err(error) = answer {
+            if error.kind() == Kind::OutOfMemory {
+                return Err(Fail::from(error));
+            }
+        }
+        assert!(rt; is_answer(answer, expected), "{text}");
+    }
+    Ok(())
+}
+
+#[test]
 fn some_texts_take_no_memory(rt: HostRuntime) -> Result<(), Fail> {
     let alloc = rt.alloc();
     for (text, expected) in [
@@ -112,6 +116,7 @@ fn some_texts_take_no_memory(rt: HostRuntime) -> Result<(), Fail> {
     ] {
         assert!(rt; agrees(alloc, parsed(alloc, text), expected)?, "{text}");
         assert!(rt; is_answer(check(alloc, text), expected), "{text}");
+        assert!(rt; is_answer(told(alloc, text), expected), "{text}");
     }
     Ok(())
 }

@@ -1,12 +1,13 @@
 //! What an iterator of characters is asked for, what it gives, and what a parser of it returns, call after call.
 
-use crate::common::{Answer, agrees, parsed};
+use crate::common::{Answer, Forget, agrees, is_answer, parsed, told};
 use crate::documentation::DOCUMENT;
 use std::alloc::Global;
 use std::iter;
 use std::test::Fail;
 use tinyjson::{
-    JsonKind, JsonParseErrorKind as Kind, JsonParseResult, JsonParser, JsonValue, check,
+    JsonKind, JsonParseError, JsonParseErrorKind as Kind, JsonParseResult, JsonParser, JsonValue,
+    check,
 };
 
 /// Texts with each kind of token, and in them what no value is.
@@ -39,16 +40,33 @@ const ENDS: [&str; 16] = [
     " 😀",
 ];
 
-/// Whether the text and its characters have one answer, which memory has no part in, and so has a check of the text.
+/// Whether the text and its characters have one answer, which memory has no part in, and so have a check of the text, and telling
+/// it or its characters to events.
 fn is_alike(alloc: Global, text: &str) -> bool {
     let answer = parsed(alloc, text);
     let is_memory = answer.as_ref().is_err_and(|error| error.is_out_of_memory());
-    !is_memory && is_checked(alloc, text, &answer) && answer == JsonValue::from_str(alloc, text)
+    !is_memory
+        && has_answer(check(alloc, text), &answer)
+        && has_answer(told(alloc, text), &answer)
+        && has_answer(
+            parsed_to_events(&mut JsonParser::new(alloc, text.chars())),
+            &answer,
+        )
+        && answer == JsonValue::from_str(alloc, text)
 }
 
-/// Whether a check of the text has this answer, but for the value.
-fn is_checked(alloc: Global, text: &str, answer: &JsonParseResult) -> bool {
-    match (check(alloc, text), answer) {
+/// What a parser returns that tells events.
+fn parsed_to_events<I>(parser: &mut JsonParser<I>) -> Result<(), JsonParseError>
+where
+    I: Iterator<Item = char>,
+{
+    parser.parse_events(Forget)?;
+    Ok(())
+}
+
+/// Whether this is the answer, but for the value.
+fn has_answer(other: Result<(), JsonParseError>, answer: &JsonParseResult) -> bool {
+    match (other, answer) {
         (Ok(()), Ok(_)) => true,
         (Err(error), Err(expected)) => error == *expected,
         _ => false,
@@ -295,8 +313,13 @@ fn a_parser_goes_on(rt: HostRuntime) -> Result<(), Fail> {
     let alloc = rt.alloc();
     for &(text, answers) in CALLS {
         let mut parser = JsonParser::new(alloc, text.chars());
+        let mut teller = JsonParser::new(alloc, text.chars());
         for &expected in answers {
             assert!(rt; agrees(alloc, parser.parse(), expected)?, "{text}");
+            assert!(rt;
+                is_answer(parsed_to_events(&mut teller), expected),
+                "{text}"
+            );
         }
     }
     Ok(())

@@ -9,7 +9,7 @@ use Rattle.tinyjson_grammar.specs.Syntax.{AreWhite}
 use Rattle.tinyjson_grammar.specs.declared.error.JsonParseErrorKind.{JsonParseErrorKind}
 use Rattle.tinyjson_grammar.specs.declared.error.JsonParseErrorKind.TheVariants.{OutOfMemory}
 
-white_list : (ws : List ℕ) → AllByRecursion (λ c. is_white c ≡ true) ws → AreWhite ws
+pub white_list : (ws : List ℕ) → AllByRecursion (λ c. is_white c ≡ true) ws → AreWhite ws
 white_list [] h = tt
 white_list (w ∷ ws) h = (h.0, white_list ws h.1)
 

@@ -14,8 +14,6 @@ use Rattle.tinyjson_grammar.specs.Machine.{Frame, Phase, State, Next, next, stop
 use Rattle.tinyjson_grammar.specs.Machine.{reach, reach_on, strictly}
 use Rattle.tinyjson_grammar.specs.Position.{advance, origin}
 use Rattle.tinyjson_tokens.specs.Steps.{IsNext, IsLate, IsHeld, Leads, Halts, Refuses, after_all, onward, outcome}
-use Rattle.tinyjson.specs.Events.{TellsText}
-use Rattle.tinyjson.specs.private.Building.{TellsAll}
 use Rattle.tinyjson.specs.private.Steps.{ReadsText, FindsText, Grows}
 use Rattle.tinyjson_grammar.specs.Refusal.{IsInterrupted, IsRefusal, MayGrow, RefusalSays}
 use Rattle.tinyjson_grammar.specs.Tree.{Tree}
@@ -61,7 +59,7 @@ all_rest [] ys h = h
 all_rest (x ∷ xs) ys h = all_rest xs ys (λ j e m. h (suc j) e (omega (arith, m)))
 
 module _ (limit : Option ℕ) where
-  held_interrupted : (xs : List ℕ) → All IsScalar xs → IsHeld limit (next [] awaited) xs → IsInterrupted limit xs
+  pub held_interrupted : (xs : List ℕ) → All IsScalar xs → IsHeld limit (next [] awaited) xs → IsInterrupted limit xs
   held_interrupted xs a h = go h.late h.whole h.ends
     where
       go : (late : List ℕ) → xs ≡ h.front ++ late → IsLate limit (after_all limit (next [] awaited) h.front) late → IsInterrupted limit xs
@@ -77,11 +75,11 @@ module _ (limit : Option ℕ) where
           (all_rest h.front (c ∷ []) b 0 0 (omega arith)) stops)
       go (c ∷ d ∷ ds) e s = absurd s
 
-  refusal_says : (k : JsonParseErrorKind) (used rest : List ℕ) → IsRefusal limit k used rest → RefusalSays limit k used rest
+  pub refusal_says : (k : JsonParseErrorKind) (used rest : List ℕ) → IsRefusal limit k used rest → RefusalSays limit k used rest
   refusal_says kind.OutOfMemory used rest r = absurd r.says
   refusal_says k used rest r = r
 
-  refused_list : (k : JsonParseErrorKind) (used rest : List ℕ) → ¬ (k ≡ kind.OutOfMemory) → RefusalSays limit k used rest
+  pub refused_list : (k : JsonParseErrorKind) (used rest : List ℕ) → ¬ (k ≡ kind.OutOfMemory) → RefusalSays limit k used rest
       → ¬ IsAccepted limit (used ++ rest)
   refused_list kind.OutOfMemory used rest n r = absurd (n refl)
   refused_list k used rest n r = r.refused
@@ -143,7 +141,7 @@ module _ {S T : Type 0} (sight : Sight S) (limit : Option ℕ) (xs : List ℕ) (
           }
 
   -- of each tree that the characters have, what is promised of the value holds
-  answered_value : (p q : S) (v : T) (t : Tree) → (IsText limit xs t → P v) → Leads sight limit p (next [] awaited) q (next [] (finished t))
+  pub answered_value : (p q : S) (v : T) (t : Tree) → (IsText limit xs t → P v) → Leads sight limit p (next [] awaited) q (next [] (finished t))
       → sight.shows q None → sight.gives p xs → All IsScalar xs → Answered p (Ok v) q
   answered_value p q v t k l s g a =
       let x = l.gives xs g in
@@ -172,39 +170,6 @@ module _ {S : Type 0} (sight : Sight S) (limit : Option ℕ) where
       → (xs : List ℕ) → sight.gives p xs → All IsScalar xs → Answered sight limit xs (λ _. IsAccepted limit xs) p r q
   checked p q (Ok v) l s m xs g a = answered_value sight limit xs _ p q v l.0 (λ i. (l.0, i)) l.1 s g a
   checked p q (Err e) l s m xs g a = answered_error sight limit xs _ p q e g a l.0 l.1 m
-
-  -- told to events: of out of memory no more is said than where the source stands
-  told_error : (p q : S) (e : JsonParseError) (xs : List ℕ) → sight.gives p xs → All IsScalar xs → sight.place p ≡ origin
-      → error_position e ≡ sight.place q → Refuses sight limit p (next [] awaited) e.kind q → {E : Type 0} (is : E → Tree → Type 0)
-      → TellsText is limit xs (Err e)
-  told_error p q e xs g a o h r is = ⊎_elim (λ l.
-      let x = l.gives xs g in
-      let ran : run (strictly limit) [] awaited (l.taken ++ x.0) ≡ refused e.kind x.0 =
-      Comes_outcome limit (next [] awaited) (stop e.kind true) l.taken x.0 x.3 in
-      let s = refusal_says limit e.kind l.taken x.0 (refuses limit l.taken x.0 (subst (All IsScalar) x.1 a) e.kind ran) in
-      record {
-        consumed = l.taken;
-        rest = x.0;
-        whole = x.1;
-        answer = (h ∙ l.moves ∙ ap (λ y. advance y l.taken) o, λ n. s);
-        refused = λ n. subst (λ ys. ¬ IsAccepted limit ys) (sym x.1) (refused_list limit e.kind l.taken x.0 n s);
-      }) (λ w.
-      let x = w.1.gives xs g in
-      record {
-        consumed = w.1.taken;
-        rest = x.0;
-        whole = x.1;
-        answer = (h ∙ w.1.moves ∙ ap (λ y. advance y w.1.taken) o, λ n. absurd (n w.0));
-        refused = λ n. absurd (n w.0);
-      }) r
-
-  pub told_text : {E : Type 0} (is : E → Tree → Type 0) (p q : S) (r : Result E JsonParseError) → TellsAll is sight limit p r q
-      → OnOk r (sight.shows q None) → sight.place p ≡ origin
-      → (xs : List ℕ) → sight.gives p xs → All IsScalar xs → TellsText is limit xs r
-  told_text is p q (Ok v) l s o xs g a =
-      let w = answered_value sight limit xs (λ v. (t : Tree) × IsText limit xs t × is v t) p q v l.0 (λ i. (l.0, i, l.2)) l.1 s g a in
-      record { consumed = w.consumed; rest = w.rest; whole = w.whole; answer = (w.answer.0, w.answer.1.0, w.answer.1.1, w.answer.1.2); refused = tt }
-  told_text is p q (Err e) l s o xs g a = told_error p q e xs g a o l.0 l.1 is
 
   -- of a source that stands at the origin
   module _ {T : Type 0} (p q : S) (xs : List ℕ) (P : T → Type 0) (h : sight.place p ≡ origin) where

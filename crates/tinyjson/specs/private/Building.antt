@@ -1,5 +1,6 @@
 -- What a builder stands for while a text is read into it. For private contracts.
 use Rattle.std.specs.Prelude.{◌≡◌, ℕ, List, [], ◌∷◌, ◌++◌, reverse, Option, Result, MatchResult, ◌⊎◌, true, ⊤}
+use Rattle.tinyjson_grammar.specs.Refusal.{MayGrow}
 use Rattle.tinyjson_grammar.specs.Tree.{Tree, Members, put}
 use Rattle.tinyjson_grammar.specs.Machine.{Frame, in_array, at_key, at_value, awaited, after, finished, Next, next, stop}
 use Rattle.tinyjson_grammar.specs.declared.error.JsonParseErrorKind.{JsonParseErrorKind}
@@ -7,7 +8,7 @@ use Rattle.tinyjson_grammar.specs.declared.error.JsonParseErrorKind.TheVariants.
 use Rattle.tinyjson_tokens.specs.Source.{Sight}
 use Rattle.tinyjson_tokens.specs.Steps.{IsNext, Leads, Refuses}
 use Rattle.tinyjson.specs.Error.{error_position}
-use Rattle.tinyjson.specs.Events.{Open}
+use Rattle.tinyjson.specs.Events.{Open, MeetsLiteral}
 use Rattle.tinyjson.specs.Events as events
 use Rattle.tinyjson.specs.declared.parser.error.JsonParseError.{JsonParseError}
 use Rattle.tinyjson.specs.declared.parser.builder.Awaited.{Awaited}
@@ -94,6 +95,10 @@ Tells is sight limit p n r q = MatchResult r (λ b. (t : Tree) × Leads sight li
 abbrev pub TellsAll : {B S : Type 0} → (B → Tree → Type 0) → Sight S → Option ℕ → S → Result B JsonParseError → S → Type 0
 TellsAll is sight limit p r q = MatchResult r (λ b. (t : Tree) × Leads sight limit p (next [] awaited) q (next [] (finished t)) × is b t)
     (λ e. (error_position e ≡ sight.place q) × Refuses sight limit p (next [] awaited) e.kind q)
+
+-- what the source gives begins, after white space, with a string, a number, a container or a literal
+abbrev pub Meets : {S : Type 0} → Sight S → S → Type 0
+Meets sight p = (zs : List ℕ) → sight.gives p zs → MayGrow zs ⊎ MeetsLiteral zs
 
 -- a frame of the machine, in the words of events
 abbrev pub open_of : Frame → Open

@@ -1,22 +1,28 @@
 //! A text told event by event.
-ghost use Rattle.std.specs.Prelude.{◌≡◌, ℕ, List, [], ◌∷◌, map, None, OnOk};
-ghost use Rattle.tinyjson_grammar.specs.Characters.{text};
+ghost use Rattle.std.specs.Prelude.{◌≡◌, ℕ, List, [], ◌∷◌, map, false, IfErr, IsTrue, None, OnOk, Option, Some};
+ghost use Rattle.tinyjson_grammar.specs.Characters.{is_white, text};
+ghost use Rattle.tinyjson_grammar.specs.Machine.{awaited, next};
+ghost use Rattle.tinyjson_grammar.specs.Refusal.{begins_growth};
 ghost use Rattle.tinyjson_grammar.specs.Tree.{Tree, Members, no_members, items_of};
 ghost use Rattle.tinyjson_grammar.specs.Tree.{array, object, string, number};
 ghost use Rattle.tinyjson.specs.Events.{Open, in_array, at_key, at_value, Puts, literal_tree};
-ghost use Rattle.tinyjson.specs.private.Building.{TellsAll};
+ghost use Rattle.tinyjson_grammar.specs.declared.error.JsonParseErrorKind.TheVariants.{OutOfMemory};
+ghost use Rattle.tinyjson_tokens.specs.Steps.{BeginsLiteral};
+ghost use Rattle.tinyjson.specs.private.Building.{Meets, Tells, TellsAll};
 
-use super::builder::Builder;
-use super::error::JsonParseError;
+use super::builder::{Builder, Nest};
+use super::error::{JsonParseError, JsonParseErrorKind};
 use super::reader::Reader;
 use std::alloc::AllocError;
 use tinyjson_number::JsonNumber;
 use tinyjson_tokens::Tokens;
 
-/// What a text is told to, event by event, by [`read_events`](crate::read_events), with no value built.
+/// What a text is told to, event by event, by [`read_events`](crate::read_events) or
+/// [`JsonParser::parse_events`](crate::JsonParser::parse_events), with no value built.
 ///
 /// `holds` says for which open containers it stands, the innermost first, and `is` for which tree, once all
-/// are closed: what is shown of each event holds of the text. After an error nothing is said of it.
+/// are closed: what is shown of each event holds of the text. An event that returns an error ends the
+/// reading, which says then that memory ran out. After an error nothing is said of what was told.
 ///
 /// ```
 /// fn number(&mut self, _: JsonNumber) -> Result<(), AllocError> {
@@ -124,7 +130,8 @@ impl<E: Events> Builder for Told<E> {
 }
 
 impl<S: Tokens> Reader<S> {
-    /// Tells a whole text to events, which it gives back; an error says where the source stands.
+    /// Tells a whole text to events, which it gives back; an error says where the source stands. Of a
+    /// literal alone it says that memory ran out only where its event was refused.
     pub(super) fn told<E: Events>(
         &mut self,
         limit: Option<usize>,
@@ -134,13 +141,69 @@ impl<S: Tokens> Reader<S> {
         ensures reads { TellsAll E.is S.sight limit self.old.tokens.source result
             self.new.tokens.source }
         ensures end { OnOk result (S.sight.shows self.new.tokens.source None) }
+        ensures memory { IfErr result (λ e.
+            e.kind ≡ OutOfMemory → Meets S.sight self.old.tokens.source) }
     {
-        match self.tell(limit, Told { events }) {
-            Ok(told) => Ok(told.events),
+        match self.tell(limit, events) {
+            Ok(events) => Ok(events),
             Err(kind) => {
                 let (line, column) = self.tokens.position();
                 Err(JsonParseError { kind, line, column })
             }
         }
+    }
+
+    /// Tells the value of a whole text, and reads the end after it.
+    fn tell<E: Events>(&mut self, limit: Option<usize>, events: E) -> Result<E, JsonParseErrorKind>
+        requires { E.holds events [] }
+        ensures reads { Tells E.is S.sight limit self.old.tokens.source (next [] awaited) result
+            self.new.tokens.source }
+        ensures end { OnOk result (S.sight.shows self.new.tokens.source None) }
+        ensures memory { IfErr result (λ kind.
+            kind ≡ OutOfMemory → Meets S.sight self.old.tokens.source) }
+    {
+        match self.tokens.skip_white() {
+            Some(first @ ('n' | 't' | 'f')) => self.tell_literal(first, events),
+            Some(first) => self.tell_value(limit, first, events),
+            None => Err(JsonParseErrorKind::UnexpectedEof),
+        }
+    }
+
+    /// Tells the literal that begins with this letter, and reads the end after it.
+    fn tell_literal<E: Events>(&mut self, first: char, events: E) -> Result<E, JsonParseErrorKind>
+        requires shown { S.sight.shows self.old.tokens.source (Some first) }
+        requires begins { BeginsLiteral first }
+        requires holds { E.holds events [] }
+        ensures reads { (limit : Option ℕ) → Tells E.is S.sight limit self.old.tokens.source
+            (next [] awaited) result self.new.tokens.source }
+        ensures end { OnOk result (S.sight.shows self.new.tokens.source None) }
+    {
+        let mut events = events;
+        let literal = self.tokens.literal(first)?;
+        if events.literal(literal).is_err() {
+            return Err(JsonParseErrorKind::OutOfMemory);
+        }
+        self.end()?;
+        Ok(events)
+    }
+    /// Tells the value that begins with this character, which is no literal, and reads the end after it.
+    fn tell_value<E: Events>(
+        &mut self,
+        limit: Option<usize>,
+        first: char,
+        events: E,
+    ) -> Result<E, JsonParseErrorKind>
+        requires shown { S.sight.shows self.old.tokens.source (Some first) }
+        requires no_white { is_white first ≡ false }
+        requires no_literal { ¬ (BeginsLiteral first) }
+        requires holds { E.holds events [] }
+        ensures reads { Tells E.is S.sight limit self.old.tokens.source (next [] awaited) result
+            self.new.tokens.source }
+        ensures end { OnOk result (S.sight.shows self.new.tokens.source None) }
+        ensures memory { IfErr result (λ kind. kind ≡ OutOfMemory → IsTrue (begins_growth first)) }
+    {
+        let mut nest = Nest::new(self.alloc, Told { events });
+        self.build(limit, &mut nest, first)?;
+        Ok(nest.builder.events)
     }
 }

@@ -9,7 +9,7 @@ ghost use Rattle.tinyjson_grammar.specs.Machine.{Frame, Next, in_array, at_key, 
 ghost use Rattle.tinyjson_grammar.specs.Machine.{colon, finished, fits, next};
 ghost use Rattle.tinyjson_grammar.specs.Tree.{Tree, Members};
 ghost use Rattle.tinyjson.specs.private.Building.{awaited_of, Builds, Continues, IsOpen, IsWithin};
-ghost use Rattle.tinyjson.specs.private.Building.{Stands, Tells};
+ghost use Rattle.tinyjson.specs.private.Building.{Stands};
 ghost use Rattle.tinyjson.specs.private.Stack.{holds, is};
 ghost use Rattle.tinyjson.specs.private.Steps.{Grows, GrowsFor, ReadsText};
 ghost use Rattle.tinyjson_tokens.specs.NumberSteps.{BeginsNumber};
@@ -127,23 +127,6 @@ impl<S: Tokens> Reader<S> {
     {
         let progress = self.value(limit, nest, first)?;
         self.rest(limit, nest, progress)
-    }
-
-    /// Reads a whole text into a builder, which it gives back.
-    pub(super) fn tell<B: Builder>(
-        &mut self,
-        limit: Option<usize>,
-        builder: B,
-    ) -> Result<B, JsonParseErrorKind>
-        requires { B.holds builder [] }
-        ensures reads { Tells B.is S.sight limit self.old.tokens.source (next [] awaited) result
-            self.new.tokens.source }
-        ensures end { OnOk result (S.sight.shows self.new.tokens.source None) }
-    {
-        let mut nest = Nest::new(self.alloc, builder);
-        let progress = self.next(limit, &mut nest)?;
-        self.rest(limit, &mut nest, progress)?;
-        Ok(nest.builder)
     }
 
     /// Reads what is left. One turn for each value that is read or container that is opened.

@@ -3,7 +3,9 @@ ghost use Rattle.std.specs.Prelude.{⊤};
 
 use std::alloc::AllocError;
 use std::test::Fail;
-use tinyjson::{Events, JsonNumber, JsonParseErrorKind, read_events, read_events_with_depth_limit};
+use tinyjson::{
+    Events, JsonNumber, JsonParseErrorKind, JsonParser, read_events, read_events_with_depth_limit,
+};
 
 /// How many numbers a text has.
 #[derive(Drop)]
@@ -60,6 +62,15 @@ fn counted(rt: HostRuntime) -> Result<(), Fail> {
     assert!(rt;
         refused.is_err_and(|error| error.kind() == JsonParseErrorKind::InvalidCharacter(']'))
     );
+    Ok(())
+}
+
+#[test]
+fn counted_by_a_parser(rt: HostRuntime) -> Result<(), Fail> {
+    let alloc = rt.alloc();
+    let mut parser = JsonParser::new(alloc, "[1, {\"a\": 2.5}]".chars());
+    let numbers = parser.parse_events(Numbers { count: 0 })?;
+    assert_eq!(rt; numbers.count, 2);
     Ok(())
 }
 
