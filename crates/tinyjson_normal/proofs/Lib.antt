@@ -12,3 +12,5 @@ pub mod Gathered
 pub mod Writing
 -- The characters of a compact text.
 pub mod Scalars
+-- Whether a text is the compact text of its tree.
+pub mod Comparing

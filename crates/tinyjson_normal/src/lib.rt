@@ -10,4 +10,4 @@ mod store;
 mod tests;
 mod walk;
 
-pub use normal::NormalText;
+pub use normal::{NormalText, is_normal};

@@ -1,16 +1,19 @@
 //! A text whose normal text is asked for.
-ghost use Rattle.std.specs.Prelude.{◌≡◌, IfOk, None, string_bytes};
+ghost use Rattle.std.specs.Prelude.{◌≡◌, ◌↔◌, None, Some, IfOk, IsTrue, string_bytes};
 ghost use Rattle.std.specs.Str.{chars};
 ghost use Rattle.tinyjson.specs.Events.{TellsText};
 ghost use Rattle.tinyjson.specs.Text.{compact};
 ghost use Rattle.tinyjson.specs.Tree.{Tree};
 ghost use Rattle.tinyjson.specs.Written.{WritesText};
-ghost use Rattle.tinyjson_normal.specs.Normal.{HasTree};
+ghost use Rattle.tinyjson_normal.specs.Normal.{HasTree, IsNormal};
 
 use crate::arena::Arena;
-use std::alloc::Global;
+use std::alloc::{AllocError, Global};
 use std::io::{self, Write};
-use tinyjson::{JsonGenerateError, JsonGenerateResult, JsonParseError, read_events};
+use tinyjson::{
+    JsonGenerateError, JsonGenerateResult, JsonParseError, read_events,
+    read_events_with_depth_limit,
+};
 
 /// The tree of a text, kept for its normal text, with no value built.
 ///
@@ -36,6 +39,27 @@ impl NormalText {
         ensures { TellsText HasTree None (chars text.now) result }
     {
         match read_events(alloc, text, Arena::new(alloc)) {
+            Ok(arena) => Ok(NormalText { arena }),
+            Err(error) => Err(error),
+        }
+    }
+
+    /// Reads a text in which at most `limit` containers are open at once, as
+    /// `JsonValue::from_str_with_depth_limit` does.
+    ///
+    /// ```
+    /// assert!(rt; NormalText::read_with_depth_limit(alloc, "[[1]]", 2).is_ok());
+    /// let result = NormalText::read_with_depth_limit(alloc, "[[1]]", 1);
+    /// assert!(rt; result.is_err_and(|error| error.kind() == JsonParseErrorKind::TooDeep('[')));
+    /// ```
+    pub fn read_with_depth_limit(
+        alloc: Global,
+        text: &str,
+        limit: usize,
+    ) -> Result<NormalText, JsonParseError>
+        ensures { TellsText HasTree (Some limit) (chars text.now) result }
+    {
+        match read_events_with_depth_limit(alloc, text, limit, Arena::new(alloc)) {
             Ok(arena) => Ok(NormalText { arena }),
             Err(error) => Err(error),
         }
@@ -78,5 +102,34 @@ impl NormalText {
             Ok(text) => Ok(text),
             Err(_) => Err(JsonGenerateError),
         }
+    }
+
+    /// Whether the compact text of the tree is this one.
+    fn is_written(&self, alloc: Global, text: &str) -> Result<bool, AllocError>
+        ensures { (t : Tree) → HasTree self.now t →
+            IfOk result (λ b. IsTrue b ↔ (chars text.now ≡ compact t)) }
+    {
+        match self.to_string(alloc) {
+            Ok(written) => Ok(written.as_str() == text),
+            Err(_) => Err(AllocError),
+        }
+    }
+}
+
+/// Whether a text is the compact text of its tree. One that has no tree is not.
+///
+/// The error says that memory ran out.
+///
+/// ```
+/// assert!(rt; is_normal(alloc, r#"{"a":1.5,"b":[]}"#)?);
+/// assert!(rt; !is_normal(alloc, r#"{"a":1.50,"b":[]}"#)?);
+/// ```
+pub fn is_normal(alloc: Global, text: &str) -> Result<bool, AllocError>
+    ensures { IfOk result (λ b. IsTrue b ↔ IsNormal (chars text.now)) }
+{
+    match NormalText::read(alloc, text) {
+        Ok(normal) => normal.is_written(alloc, text),
+        Err(error) if error.is_out_of_memory() => Err(AllocError),
+        Err(_) => Ok(false),
     }
 }

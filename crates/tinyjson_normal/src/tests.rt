@@ -1,7 +1,7 @@
 //! What no clause says: that a text is read and written where there is memory, by its bytes and its refusals.
 ghost use Rattle.std.specs.Prelude.{Some};
 
-use crate::NormalText;
+use crate::{NormalText, is_normal};
 use std::alloc::Global;
 use std::io::{self, ErrorKind, Write};
 use std::test::Fail;
@@ -50,6 +50,8 @@ fn texts_are_written(rt: HostRuntime) -> Result<(), Fail> {
     for &(text, expected) in WRITTEN {
         let written = NormalText::read(alloc, text)?.to_string(alloc)?;
         assert_eq!(rt; written.as_str(), expected);
+        assert_eq!(rt; is_normal(alloc, text)?, text == expected);
+        assert!(rt; is_normal(alloc, expected)?);
     }
     Ok(())
 }
@@ -188,11 +190,18 @@ fn examples(rt: HostRuntime) -> Result<(), Fail> {
     let result = NormalText::read(alloc, "01");
     assert!(rt; result.is_err_and(|error| error.kind() == JsonParseErrorKind::LeadingZero));
 
+    assert!(rt; NormalText::read_with_depth_limit(alloc, "[[1]]", 2).is_ok());
+    let result = NormalText::read_with_depth_limit(alloc, "[[1]]", 1);
+    assert!(rt; result.is_err_and(|error| error.kind() == JsonParseErrorKind::TooDeep('[')));
+
     let mut bytes = Vec::new(alloc);
     NormalText::read(alloc, "[1.50e1, null]")?.write_to(alloc, &mut bytes)?;
     assert_eq!(rt; bytes.as_slice(), b"[15,null]".as_slice());
 
     let normal = NormalText::read(alloc, "[1.50e1, null]")?;
     assert_eq!(rt; normal.to_string(alloc)?.as_str(), "[15,null]");
+
+    assert!(rt; is_normal(alloc, r#"{"a":1.5,"b":[]}"#)?);
+    assert!(rt; !is_normal(alloc, r#"{"a":1.50,"b":[]}"#)?);
     Ok(())
 }
