@@ -219,7 +219,7 @@ pub fn check_with_depth_limit(alloc: Global, text: &str, limit: usize) -> Result
     check_text(alloc, text, Some(limit))
 }
 
-/// The same, with this limit.
+/// Whether a text has a value in which no more containers are open at once than this limit allows.
 fn check_text(alloc: Global, text: &str, limit: Option<usize>) -> Result<(), JsonParseError>
     ensures { ChecksText limit (chars text.now) result }
 {

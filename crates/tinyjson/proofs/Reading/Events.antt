@@ -1,5 +1,5 @@
 -- What is returned where a text is told to events, from what the reader did.
-use Rattle.std.proofs.Common.{◌≡◌, IsTrue, ℕ, true, List, [], ◌∷◌, ◌++◌, Result, Ok, Err, OnOk, IfErr, Option, Some, None, MatchResult}
+use Rattle.std.proofs.Common.{◌≡◌, IsTrue, ℕ, true, List, [], ◌++◌, Result, Ok, Err, OnOk, IfErr, Option, Some, None, MatchResult}
 use Rattle.std.proofs.Common.{◌⊎◌, inl, inr, sym, ap, ◌∙◌, subst, ⊎_elim}
 use Rattle.std.specs.Prelude.{All}
 use Rattle.std.specs.Char.{IsScalar}

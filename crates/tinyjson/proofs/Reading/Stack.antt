@@ -49,9 +49,6 @@ none_put : (ms : Members) (ks : Keys) → gather ms ks [] ≡ ms
 none_put ms [] = refl
 none_put ms (k ∷ ks) = refl
 
-pub none_waits : (ms : Members) (n : ℕ) (vs : List JsonValue) (ks : Keys) → length vs ≤ n → ms ≡ gather ms ks (drop n vs)
-none_waits ms n vs ks h = sym (none_put ms ks) ∙ ap (gather ms ks) (sym (drop_all n vs h))
-
 pub none_left : (ms : Members) (n : ℕ) (vs : List JsonValue) (ks : Keys) → length vs ≤ n → ms ≡ gather ms ks (reverse (drop n vs))
 none_left ms n vs ks h = sym (none_put ms ks) ∙ ap (λ us. gather ms ks (reverse us)) (sym (drop_all n vs h))
 

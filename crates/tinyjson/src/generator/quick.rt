@@ -26,11 +26,12 @@ pub(super) fn quick_value(buffer: &mut Buffer, value: &JsonValue) -> bool
         JsonValue::Boolean(true) => quick_word(buffer, b"true"),
         JsonValue::Boolean(false) => quick_word(buffer, b"false"),
         JsonValue::Null => quick_word(buffer, b"null"),
-        _ => false,
+        JsonValue::Array(items) => items.is_empty() && quick_word(buffer, b"[]"),
+        JsonValue::Object(members) => members.is_empty() && quick_word(buffer, b"{}"),
     }
 }
 
-/// The items at the front that are not arrays or objects, in compact text, as far as they fit. Returns the
+/// The items at the front that hold no others, in compact text, as far as they fit. Returns the
 /// items that are left, and whether none stands before them.
 #[inline(always)]
 pub(super) fn quick_items<'a>(
@@ -137,23 +138,6 @@ pub(super) fn quick_member(
     if quick_value(buffer, value) {
         return true;
     }
-    if quick_empty(buffer, value) {
-        return true;
-    }
     buffer.truncate(len);
     false
-}
-
-/// Appends the text of an empty array or object to the buffer if it fits, and returns whether it did.
-#[inline(never)]
-fn quick_empty(buffer: &mut Buffer, value: &JsonValue) -> bool
-    ensures { (w : Option (List ℕ)) (k : ℕ) → MatchBool result
-        (buffered buffer.new ≡ buffered buffer.old ++ encode_utf8_all (text w k (view value.now)))
-        (buffered buffer.new ≡ buffered buffer.old) }
-{
-    match value {
-        JsonValue::Array(items) => items.is_empty() && quick_word(buffer, b"[]"),
-        JsonValue::Object(members) => members.is_empty() && quick_word(buffer, b"{}"),
-        _ => false,
-    }
 }

@@ -40,6 +40,17 @@ pub(crate) trait Builder: Drop {
         ensures { (ts : List Tree) (fs : List Frame) → holds self.old (in_array ts ∷ fs) →
             OnOk result (Puts holds is fs (array (items_of ts)) self.new) };
 
+    /// Puts an array that has no items where it belongs.
+    #[inline(always)]
+    fn empty_array(&mut self) -> Result<(), AllocError>
+        requires { (fs : List Frame) × holds self.old fs }
+        ensures { (fs : List Frame) → holds self.old fs →
+            OnOk result (Puts holds is fs (array (items_of [])) self.new) }
+    {
+        self.open_array()?;
+        self.close_array()
+    }
+
     /// Opens an object.
     fn open_object(&mut self) -> Result<(), AllocError>
         ensures { (fs : List Frame) → holds self.old fs →
@@ -50,6 +61,17 @@ pub(crate) trait Builder: Drop {
         requires { (ms : Members) × (fs : List Frame) × holds self.old (at_key ms ∷ fs) }
         ensures { (ms : Members) (fs : List Frame) → holds self.old (at_key ms ∷ fs) →
             OnOk result (Puts holds is fs (object ms) self.new) };
+
+    /// Puts an object that has no members where it belongs.
+    #[inline(always)]
+    fn empty_object(&mut self) -> Result<(), AllocError>
+        requires { (fs : List Frame) × holds self.old fs }
+        ensures { (fs : List Frame) → holds self.old fs →
+            OnOk result (Puts holds is fs (object no_members) self.new) }
+    {
+        self.open_object()?;
+        self.close_object()
+    }
 
     /// Gives the innermost container, an object, a key.
     fn key(&mut self, key: String) -> Result<(), AllocError>
@@ -149,23 +171,23 @@ impl<B: Builder> Nest<B> {
 
     /// Lets the innermost container await this.
     #[inline(always)]
-    fn set_innermost(&mut self, awaited: Awaited) -> Result<(), AllocError>
+    fn set_innermost(&mut self, awaited: Awaited)
         ensures awaited { (o : Awaited) (os : List Awaited) → awaited_of self.old ≡ o ∷ os →
-            OnOk result (awaited_of self.new ≡ awaited ∷ os) }
+            awaited_of self.new ≡ awaited ∷ os }
         ensures builder { self.new.builder ≡ self.old.builder }
     {
-        self.awaited.pop();
-        self.awaited.push(awaited)?;
-        Ok(())
+        if let Some(innermost) = self.awaited.last_mut() {
+            *innermost = awaited;
+        }
     }
 
     /// Lets the innermost container, an object after a member, await a key.
     #[inline(always)]
-    pub(super) fn await_key(&mut self) -> Result<(), AllocError>
+    pub(super) fn await_key(&mut self)
         ensures { (ms : Members) (fs : List Frame) → IsWithin B.holds self.old (at_key ms) fs →
-            OnOk result (IsOpen B.holds self.new (at_key ms ∷ fs)) }
+            IsOpen B.holds self.new (at_key ms ∷ fs) }
     {
-        self.set_innermost(Awaited::Key)
+        self.set_innermost(Awaited::Key);
     }
 
     /// Gives the innermost container, an object, a key.
@@ -176,7 +198,8 @@ impl<B: Builder> Nest<B> {
             OnOk result (IsOpen B.holds self.new (at_value ms (text key) ∷ fs)) }
     {
         self.builder.key(key)?;
-        self.set_innermost(Awaited::Value)
+        self.set_innermost(Awaited::Value);
+        Ok(())
     }
 
     /// Opens an array.
@@ -222,6 +245,28 @@ impl<B: Builder> Nest<B> {
         self.awaited.pop();
         self.refuse_key(JsonKind::Object)?;
         completed(self.builder.close_object())
+    }
+
+    /// Puts an array that has no items where it belongs.
+    #[inline(always)]
+    pub(super) fn empty_array(&mut self) -> Result<Progress, JsonParseErrorKind>
+        requires { (fs : List Frame) × B.holds self.old.builder fs }
+        ensures { (fs : List Frame) → IsOpen B.holds self.old fs →
+            Joins B.holds B.is (complete true fs (array (items_of [])) true) result self.new }
+    {
+        self.refuse_key(JsonKind::Array)?;
+        completed(self.builder.empty_array())
+    }
+
+    /// Puts an object that has no members where it belongs.
+    #[inline(always)]
+    pub(super) fn empty_object(&mut self) -> Result<Progress, JsonParseErrorKind>
+        requires { (fs : List Frame) × B.holds self.old.builder fs }
+        ensures { (fs : List Frame) → IsOpen B.holds self.old fs →
+            Joins B.holds B.is (complete true fs (object no_members) true) result self.new }
+    {
+        self.refuse_key(JsonKind::Object)?;
+        completed(self.builder.empty_object())
     }
 
     /// Puts a string where it belongs, which is no key.

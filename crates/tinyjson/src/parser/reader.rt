@@ -281,15 +281,17 @@ impl<S: Tokens> Reader<S> {
             return Err(JsonParseErrorKind::TooDeep('['));
         }
         self.tokens.consume('[');
-        if nest.open_array().is_err() {
-            return Err(JsonParseErrorKind::OutOfMemory);
-        }
         match self.tokens.skip_white() {
             Some(']') => {
                 self.tokens.consume(']');
-                nest.close_array()
+                nest.empty_array()
             }
-            _ => Ok(Progress::Awaits),
+            _ => {
+                if nest.open_array().is_err() {
+                    return Err(JsonParseErrorKind::OutOfMemory);
+                }
+                Ok(Progress::Awaits)
+            }
         }
     }
 
@@ -310,15 +312,17 @@ impl<S: Tokens> Reader<S> {
             return Err(JsonParseErrorKind::TooDeep('{'));
         }
         self.tokens.consume('{');
-        if nest.open_object().is_err() {
-            return Err(JsonParseErrorKind::OutOfMemory);
-        }
         match self.tokens.skip_white() {
             Some('}') => {
                 self.tokens.consume('}');
-                nest.close_object()
+                nest.empty_object()
             }
-            _ => self.key(nest),
+            _ => {
+                if nest.open_object().is_err() {
+                    return Err(JsonParseErrorKind::OutOfMemory);
+                }
+                self.key(nest)
+            }
         }
     }
 
@@ -436,9 +440,7 @@ impl<S: Tokens> Reader<S> {
         match self.tokens.skip_white() {
             Some(',') => {
                 self.tokens.consume(',');
-                if nest.await_key().is_err() {
-                    return Err(JsonParseErrorKind::OutOfMemory);
-                }
+                nest.await_key();
                 self.key(nest)
             }
             Some('}') => {

@@ -1,11 +1,10 @@
 //! The builder of values: a stack of what was read in open containers.
 ghost use Rattle.std.specs.Prelude.{◌≡◌, ◌+◌, ◌≤◌, List, [], ◌∷◌, ◌++◌};
-ghost use Rattle.std.specs.Prelude.{length, take, drop, reverse, OnOk, IfOk, ⊤};
-ghost use Rattle.std.specs.Bool.{MatchBool};
+ghost use Rattle.std.specs.Prelude.{length, take, drop, reverse, OnOk, IfOk};
 ghost use Rattle.tinyjson_grammar.specs.Machine.{Frame, at_key};
-ghost use Rattle.tinyjson_grammar.specs.Tree.{Tree, Members, no_members, object};
+ghost use Rattle.tinyjson_grammar.specs.Tree.{Tree, Members, no_members};
 ghost use Rattle.tinyjson.specs.private.Building.{Puts};
-ghost use Rattle.tinyjson.specs.private.Stack.{Holds, gather, holds, is, maps_of};
+ghost use Rattle.tinyjson.specs.private.Stack.{gather, holds, is, maps_of};
 ghost use Rattle.tinyjson.specs.private.Stack.{other_maps, own_members};
 ghost use Rattle.tinyjson.specs.View.{view, members_view};
 ghost use Rattle.tinyjson_tokens.specs.Steps.{literal_tree};
@@ -62,6 +61,14 @@ impl Builder for Stack {
     }
 
     #[inline(always)]
+    fn empty_array(&mut self) -> Result<(), AllocError> {
+        self.values.reserve(1)?;
+        self.values
+            .push_reserved(JsonValue::Array(Vec::new(self.alloc)));
+        Ok(())
+    }
+
+    #[inline(always)]
     fn open_object(&mut self) -> Result<(), AllocError> {
         let place = self.end();
         self.open_map()?;
@@ -73,12 +80,17 @@ impl Builder for Stack {
         let Some(place) = self.places.pop() else {
             unreachable!()
         };
-        if self.has_none(place.values) {
-            return self.push_map();
-        }
         let mut members = self.take_members(place.values, place.keys)?;
         trim(&mut members);
         self.push(JsonValue::Object(members))
+    }
+
+    #[inline(always)]
+    fn empty_object(&mut self) -> Result<(), AllocError> {
+        self.values.reserve(1)?;
+        self.values
+            .push_reserved(JsonValue::Object(HashMap::new(self.alloc)));
+        Ok(())
     }
 
     #[inline(always)]
@@ -104,7 +116,9 @@ impl Builder for Stack {
 
     #[inline(always)]
     fn literal(&mut self, value: Option<bool>) -> Result<(), AllocError> {
-        self.push(literal_value(value))
+        self.values.reserve(1)?;
+        self.values.push_reserved(literal_value(value));
+        Ok(())
     }
 }
 
@@ -133,14 +147,6 @@ impl Stack {
         }
     }
 
-    /// Whether no values stand on the stack from this place on.
-    #[inline(always)]
-    fn has_none(&self, values: usize) -> bool
-        ensures { MatchBool result (length self.now.values.items ≤ values) ⊤ }
-    {
-        self.values.len() <= values
-    }
-
     /// Puts a value on the stack.
     #[inline(always)]
     fn push(&mut self, value: JsonValue) -> Result<(), AllocError>
@@ -153,16 +159,6 @@ impl Stack {
         }
         self.values.push_reserved(value);
         Ok(())
-    }
-
-    /// Puts the map of an object that was closed on the stack.
-    fn push_map(&mut self) -> Result<(), AllocError>
-        ensures { (fs : List Frame) → Holds (reverse self.old.places.items) fs
-            self.old.values.items self.old.keys.items (other_maps (maps_of self.old)) →
-            OnOk result (Puts holds is fs (object (own_members (maps_of self.old))) self.new) }
-    {
-        let members = self.take_map();
-        self.push(JsonValue::Object(members))
     }
 
     /// Takes the complete value, where no container is open.
@@ -207,7 +203,7 @@ impl Stack {
         self.settle_many(place)
     }
 
-    /// The same where they are many. This is where they begin.
+    /// Puts the many members of the innermost object, which begin at this place, into its map.
     #[inline(never)]
     fn settle_many(&mut self, place: Place) -> Result<(), AllocError>
         requires values { place.values ≤ length self.old.values.items }
@@ -241,9 +237,6 @@ impl Stack {
         ensures keys { self.new.keys ≡ self.old.keys }
         ensures maps { self.new.maps ≡ self.old.maps }
     {
-        if self.has_none(values) {
-            return Ok(Vec::new(self.alloc));
-        }
         if values > 0 {
             return self.values.split_off(values);
         }
@@ -318,7 +311,8 @@ impl Stack {
         self.fill_after(members, values, keys)
     }
 
-    /// The same where the map has no members, the last member first, which is the last on the stack too.
+    /// Moves the values and the keys from these places on into a map that has no members, the last member
+    /// first, which is the last on the stack too.
     fn fill_empty(
         &mut self,
         members: &mut HashMap<String, JsonValue>,
@@ -346,7 +340,8 @@ impl Stack {
         Ok(())
     }
 
-    /// The same after the members that the map has, the first member first.
+    /// Moves the values and the keys from these places on into a map after the members that it has, the
+    /// first member first.
     #[inline(never)]
     fn fill_after(
         &mut self,

@@ -7,5 +7,5 @@ use Rattle.tinyjson.proofs.parser.builder.Nest.await_key.Goals as goal
 pub returns : goal.returns
 returns g c = λ ms fs h.
     let w = c.set_innermost.ensures in
-    renewed g.B.Builder.holds _ c.args.self.now c.set_innermost.new.self Key (at_key ms) fs
+    renewed g.B.Builder.holds c.args.self.now c.set_innermost.new.self Key (at_key ms) fs
     (subst (λ b. g.B.Builder.holds b (at_key ms ∷ fs)) (sym w.builder) h.0) h.1 w.awaited (λ os k. k)

@@ -9,5 +9,5 @@ pub returns : goal.returns
 returns g c = λ ms fs h.
     let w = c.set_innermost.ensures in
     let k = text c.args.key in
-    renewed g.B.Builder.holds _ (record c.args.self.now { builder = c.key.new.self }) c.set_innermost.new.self Value (at_value ms k) fs
+    renewed g.B.Builder.holds (record c.args.self.now { builder = c.key.new.self }) c.set_innermost.new.self Value (at_value ms k) fs
     (subst (λ b. g.B.Builder.holds b (at_value ms k ∷ fs)) (sym w.builder) (c.in_ok-key.ensures ms fs h.0)) h.1 w.awaited (λ os j. j)

@@ -1,21 +1,14 @@
 use Rattle.std.proofs.Common.{rules, ◌∷◌}
 use Rattle.tinyjson_grammar.specs.Machine.{at_key, after}
 use Rattle.tinyjson_grammar.specs.declared.error.JsonParseErrorKind.TheVariants.{UnexpectedEof, ExpectedCommaOrBrace}
-use Rattle.tinyjson_tokens.proofs.Callers.{end_after, white_after, Halts_here, Leads_whites, Leads_one, Leads_end, Refuses_as}
-use Rattle.tinyjson_tokens.proofs.Callers.{Refuses_memory, taken_complete}
+use Rattle.tinyjson_tokens.proofs.Callers.{end_after, white_after, Leads_whites, Leads_one, Leads_end, Refuses_as}
+use Rattle.tinyjson_tokens.proofs.Callers.{taken_complete}
 use Rattle.tinyjson.proofs.Reading.Containers.{object_comma, object_closes, object_other}
 use Rattle.tinyjson.proofs.Reading.Loop.{Continues_after, joined}
 use Rattle.tinyjson.proofs.parser.reader.Reader.after_member.Goals as goal
 
-pub returns-then-is_err-clause-reads : goal.returns-then-is_err-clause-reads
-returns-then-is_err-clause-reads g c = λ limit ms fs h.
-    let sight = g.S.Source.sight in
-    Refuses_memory sight limit _ _ (Halts_here sight limit _ _
-    (Leads_one sight limit _ _ _ 44 (Leads_whites sight limit _ _ _ c.skip_white.ensures.white tt (white_after limit _))
-    c.consume.ensures.takes tt (object_comma limit fs ms 44 (search rules)) tt) tt tt)
-
-pub returns-else-is_err-clause-reads : goal.returns-else-is_err-clause-reads
-returns-else-is_err-clause-reads g c = λ limit ms fs h.
+pub returns-in-Some-eq44-clause-reads : goal.returns-in-Some-eq44-clause-reads
+returns-in-Some-eq44-clause-reads g c = λ limit ms fs h.
     let sight = g.S.Source.sight in
     Continues_after g.B.Builder.holds g.B.Builder.is sight limit _ _ _ _ c.key.new.nest
     (Leads_one sight limit _ _ _ 44 (Leads_whites sight limit _ _ _ c.skip_white.ensures.white tt (white_after limit _))

@@ -4,10 +4,10 @@ use Rattle.tinyjson.specs.private.Building.{IsOpen}
 use Rattle.tinyjson_grammar.specs.declared.error.JsonParseErrorKind.TheVariants.{TooDeep}
 use Rattle.tinyjson_tokens.proofs.Callers.{Leads_trans, Leads_whites, Leads_one, Halts_here, Refuses_as, Refuses_memory}
 use Rattle.tinyjson_tokens.proofs.Callers.{white_first, taken_complete}
-use Rattle.tinyjson.proofs.Reading.Building.{within}
 use Rattle.tinyjson.proofs.Reading.Containers.{array_begins, array_too_deep, array_closes_first, array_goes_on}
 use Rattle.tinyjson.proofs.Reading.Loop.{awaits, Continues_after, joined}
 use Rattle.tinyjson.proofs.parser.reader.Reader.array.Goals as goal
+use Rattle.tinyjson.proofs.parser.reader.Reader.array.Goals.{in_default-via-in-Some+in_default, in_default-via-in_default}
 
 pub returns-then-not-fits-clause-reads : goal.returns-then-not-fits-clause-reads
 returns-then-not-fits-clause-reads g c = λ fs h.
@@ -17,14 +17,6 @@ returns-then-not-fits-clause-reads g c = λ fs h.
     Refuses_as sight limit _ _ (TooDeep 91)
     (array_too_deep sight limit _ c.args.self.now.tokens.source fs _ (c.depth.ensures fs h.1) w c.requires.shown)
 
-pub returns-then-is_err-clause-reads : goal.returns-then-is_err-clause-reads
-returns-then-is_err-clause-reads g c = λ fs h.
-    let sight = g.S.Source.sight in
-    let limit = c.args.limit in
-    let w : fits limit c.depth.result ≡ true = search rules in
-    Refuses_memory sight limit _ _
-    (Halts_here sight limit _ _ (array_begins sight limit _ _ fs _ (c.depth.ensures fs h.1) w c.consume.ensures.takes) tt tt)
-
 pub returns-in-Some-eq93-clause-reads : goal.returns-in-Some-eq93-clause-reads
 returns-in-Some-eq93-clause-reads g c = λ fs h.
     let sight = g.S.Source.sight in
@@ -32,20 +24,29 @@ returns-in-Some-eq93-clause-reads g c = λ fs h.
     let holds = g.B.Builder.holds in
     let is = g.B.Builder.is in
     let w : fits limit c.depth.result ≡ true = search rules in
-    let opened : IsOpen holds c.open_array.new.self (in_array [] ∷ fs) = search rules in
-    Continues_after holds is sight limit _ _ _ _ c.close_array.new.self
+    Continues_after holds is sight limit _ _ _ _ c.empty_array.new.self
     (array_begins sight limit _ _ fs _ (c.depth.ensures fs h.1) w c.consume.ensures.takes)
-    (joined holds is sight limit _ _ (in_array [] ∷ fs) first _ c.close_array.new.self
+    (joined holds is sight limit _ _ (in_array [] ∷ fs) first _ c.empty_array.new.self
     (Leads_one sight limit _ _ _ 93 (Leads_whites sight limit _ _ _ c.skip_white.ensures.white tt (white_first limit _))
     c.consume-in-Some-eq93.ensures.takes tt (array_closes_first limit fs 93 (search rules)) (taken_complete _ _))
-    (c.close_array.ensures [] fs (within holds c.open_array.new.self (in_array []) fs opened)))
+    (c.empty_array.ensures fs h))
 
-pub returns-in_default-clause-reads : goal.returns-in_default-clause-reads
-returns-in_default-clause-reads g c = λ fs h.
+pub returns-then-is_err-clause-reads : goal.returns-then-is_err-clause-reads
+returns-then-is_err-clause-reads g c = λ fs h.
     let sight = g.S.Source.sight in
     let limit = c.args.limit in
     let w : fits limit c.depth.result ≡ true = search rules in
-    let other : IfSome c.skip_white.result (λ d. d ≡ 93 → ⊥) = rw c.in_default.is (search rules) in
+    Refuses_memory sight limit _ _ (Halts_here sight limit _ _ (Leads_trans sight limit _ _ _
+    (array_begins sight limit _ _ fs _ (c.depth.ensures fs h.1) w c.consume.ensures.takes)
+    (Leads_whites sight limit _ _ _ c.skip_white.ensures.white tt (white_first limit _))) tt tt)
+
+pub returns-else-is_err-clause-reads : goal.returns-else-is_err-clause-reads
+returns-else-is_err-clause-reads g c = λ fs h.
+    let sight = g.S.Source.sight in
+    let limit = c.args.limit in
+    let w : fits limit c.depth.result ≡ true = search rules in
+    let other : IfSome c.skip_white.result (λ d. d ≡ 93 → ⊥) = elim c.in_default.branch
+    [ in_default-via-in-Some+in_default w ↦ rw w.in_default.is (search rules) | in_default-via-in_default w ↦ rw w.in_default.is tt ] in
     let opened : IsOpen g.B.Builder.holds c.open_array.new.self (in_array [] ∷ fs) = search rules in
     awaits g.B.Builder.holds g.B.Builder.is sight limit _ _ (in_array [] ∷ fs) c.open_array.new.self
     (Leads_trans sight limit _ _ _
@@ -54,16 +55,5 @@ returns-in_default-clause-reads g c = λ fs h.
     (white_first limit _)) c.skip_white.ensures.shows c.skip_white.ensures.stops other))
     opened
 
-pub returns-in_default-2-clause-reads : goal.returns-in_default-2-clause-reads
-returns-in_default-2-clause-reads g c = λ fs h.
-    let sight = g.S.Source.sight in
-    let limit = c.args.limit in
-    let w : fits limit c.depth.result ≡ true = search rules in
-    let other : IfSome c.skip_white.result (λ d. d ≡ 93 → ⊥) = rw c.in_default.is tt in
-    let opened : IsOpen g.B.Builder.holds c.open_array.new.self (in_array [] ∷ fs) = search rules in
-    awaits g.B.Builder.holds g.B.Builder.is sight limit _ _ (in_array [] ∷ fs) c.open_array.new.self
-    (Leads_trans sight limit _ _ _
-    (array_begins sight limit _ _ fs _ (c.depth.ensures fs h.1) w c.consume.ensures.takes)
-    (array_goes_on sight limit _ _ fs c.skip_white.result (Leads_whites sight limit _ _ _ c.skip_white.ensures.white tt
-    (white_first limit _)) c.skip_white.ensures.shows c.skip_white.ensures.stops other))
-    opened
+pub empty_array-requires : goal.empty_array-requires
+empty_array-requires g c = (c.requires.open.0, c.requires.open.1.0)

@@ -5,7 +5,6 @@ use Rattle.tinyjson.specs.private.Building.{IsOpen}
 use Rattle.tinyjson_grammar.specs.declared.error.JsonParseErrorKind.TheVariants.{TooDeep}
 use Rattle.tinyjson_tokens.proofs.Callers.{Leads_trans, Leads_whites, Leads_one, Halts_here, Refuses_as, Refuses_memory}
 use Rattle.tinyjson_tokens.proofs.Callers.{white_first, taken_complete}
-use Rattle.tinyjson.proofs.Reading.Building.{within}
 use Rattle.tinyjson.proofs.Reading.Containers.{object_begins, object_too_deep, object_closes_first, object_goes_on}
 use Rattle.tinyjson.proofs.Reading.Loop.{Continues_after, joined}
 use Rattle.tinyjson.proofs.parser.reader.Reader.object.Goals as goal
@@ -19,14 +18,6 @@ returns-then-not-fits-clause-reads g c = λ fs h.
     Refuses_as sight limit _ _ (TooDeep 123)
     (object_too_deep sight limit _ c.args.self.now.tokens.source fs _ (c.depth.ensures fs h.1) w c.requires.shown)
 
-pub returns-then-is_err-clause-reads : goal.returns-then-is_err-clause-reads
-returns-then-is_err-clause-reads g c = λ fs h.
-    let sight = g.S.Source.sight in
-    let limit = c.args.limit in
-    let w : fits limit c.depth.result ≡ true = search rules in
-    Refuses_memory sight limit _ _
-    (Halts_here sight limit _ _ (object_begins sight limit _ _ fs _ (c.depth.ensures fs h.1) w c.consume.ensures.takes) tt tt)
-
 pub returns-in-Some-eq125-clause-reads : goal.returns-in-Some-eq125-clause-reads
 returns-in-Some-eq125-clause-reads g c = λ fs h.
     let sight = g.S.Source.sight in
@@ -34,16 +25,24 @@ returns-in-Some-eq125-clause-reads g c = λ fs h.
     let holds = g.B.Builder.holds in
     let is = g.B.Builder.is in
     let w : fits limit c.depth.result ≡ true = search rules in
-    let opened : IsOpen holds c.open_object.new.self (at_key no_members ∷ fs) = search rules in
-    Continues_after holds is sight limit _ _ _ _ c.close_object.new.self
+    Continues_after holds is sight limit _ _ _ _ c.empty_object.new.self
     (object_begins sight limit _ _ fs _ (c.depth.ensures fs h.1) w c.consume.ensures.takes)
-    (joined holds is sight limit _ _ (at_key no_members ∷ fs) first _ c.close_object.new.self
+    (joined holds is sight limit _ _ (at_key no_members ∷ fs) first _ c.empty_object.new.self
     (Leads_one sight limit _ _ _ 125 (Leads_whites sight limit _ _ _ c.skip_white.ensures.white tt (white_first limit _))
     c.consume-in-Some-eq125.ensures.takes tt (object_closes_first limit fs 125 (search rules)) (taken_complete _ _))
-    (c.close_object.ensures no_members fs (within holds c.open_object.new.self (at_key no_members) fs opened)))
+    (c.empty_object.ensures fs h))
 
-pub returns-in_default-clause-reads : goal.returns-in_default-clause-reads
-returns-in_default-clause-reads g c = λ fs h.
+pub returns-then-is_err-clause-reads : goal.returns-then-is_err-clause-reads
+returns-then-is_err-clause-reads g c = λ fs h.
+    let sight = g.S.Source.sight in
+    let limit = c.args.limit in
+    let w : fits limit c.depth.result ≡ true = search rules in
+    Refuses_memory sight limit _ _ (Halts_here sight limit _ _ (Leads_trans sight limit _ _ _
+    (object_begins sight limit _ _ fs _ (c.depth.ensures fs h.1) w c.consume.ensures.takes)
+    (Leads_whites sight limit _ _ _ c.skip_white.ensures.white tt (white_first limit _))) tt tt)
+
+pub returns-else-is_err-clause-reads : goal.returns-else-is_err-clause-reads
+returns-else-is_err-clause-reads g c = λ fs h.
     let sight = g.S.Source.sight in
     let limit = c.args.limit in
     let w : fits limit c.depth.result ≡ true = search rules in
@@ -56,3 +55,6 @@ returns-in_default-clause-reads g c = λ fs h.
     (object_goes_on sight limit _ _ fs c.skip_white.result (Leads_whites sight limit _ _ _ c.skip_white.ensures.white tt
     (white_first limit _)) c.skip_white.ensures.shows c.skip_white.ensures.stops other))
     (c.key.ensures.reads limit no_members fs opened)
+
+pub empty_object-requires : goal.empty_object-requires
+empty_object-requires g c = (c.requires.open.0, c.requires.open.1.0)
