@@ -59,7 +59,7 @@ fn escape_at(bytes: &[u8], at: usize) -> Option<(char, usize)>
     }
 }
 
-/// The same for a unit or two that spell a character.
+/// The character that a unit at a place spells, or that two units spell as a pair, and where they end.
 fn units_at(bytes: &[u8], at: usize) -> Option<(char, usize)>
     requires { at ≤ length bytes.now }
     ensures { IfSome result (λ r. EscapeAt bytes.now at r.0 r.1) }
@@ -72,7 +72,7 @@ fn units_at(bytes: &[u8], at: usize) -> Option<(char, usize)>
     Some((c, at + 6))
 }
 
-/// The same for a pair, of which the first unit is known.
+/// The character of a pair of units, of which the first is known, and where the second ends.
 fn pair_at(bytes: &[u8], at: usize, high: u16) -> Option<(char, usize)>
     requires high { is_high high ≡ true }
     requires unit { UnitAt bytes.now at high }

@@ -84,7 +84,7 @@ pub trait Source: Drop {
         }
     }
 
-    /// The same, where few of them are awaited.
+    /// Takes a run of plain characters into a string, where few of them are awaited.
     fn letters(&mut self, string: &mut String) -> Result<(), AllocError>
         ensures plain { TakesRun sight is_plain self.old (text string.old) result
             (text string.new) self.new }

@@ -53,7 +53,7 @@ impl<'a> TextBytes<'a> {
         self.pass_run()
     }
 
-    /// The same for a run of any length.
+    /// Passes white space of any length, and sees the next character.
     #[inline(never)]
     fn pass_run(&mut self) -> Option<char>
         ensures text { self.new.text.now ≡ self.old.text.now }
