@@ -141,7 +141,8 @@ module _ {S T : Type 0} (sight : Sight S) (limit : Option ℕ) (xs : List ℕ) (
           }
 
   -- of each tree that the characters have, what is promised of the value holds
-  pub answered_value : (p q : S) (v : T) (t : Tree) → (IsText limit xs t → P v) → Leads sight limit p (next [] awaited) q (next [] (finished t))
+  pub answered_value : (p q : S) (v : T) (t : Tree) → (IsText limit xs t → P v)
+      → Leads sight limit p (next [] awaited) q (next [] (finished t))
       → sight.shows q None → sight.gives p xs → All IsScalar xs → Answered p (Ok v) q
   answered_value p q v t k l s g a =
       let x = l.gives xs g in
