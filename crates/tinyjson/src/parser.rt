@@ -261,7 +261,7 @@ pub fn read_events_with_depth_limit<E: Events>(
     tell_text(alloc, text, Some(limit), events)
 }
 
-/// The same, with this limit.
+/// Tells a text to events, with this limit on the containers that are open at once.
 fn tell_text<E: Events>(
     alloc: Global,
     text: &str,

@@ -1,6 +1,6 @@
 -- Open containers, and what a builder stands for meanwhile.
-use Rattle.std.proofs.Common.{◌≡◌, ℕ, ◌+◌, ◌-◌, List, [], ◌∷◌, ◌++◌, length, reverse, slice_set, suc, refl, sym, ap, ap₂, ◌∙◌, subst}
-use Rattle.std.proofs.Common.{arith}
+use Rattle.std.proofs.Common.{◌≡◌, ℕ, ◌+◌, ◌-◌, List, [], ◌∷◌, ◌++◌, length, reverse, slice_set, suc}
+use Rattle.std.proofs.Common.{refl, sym, ap, ap₂, ◌∙◌, subst, arith}
 use Rattle.std.proofs.Math.Seq.{set-append_seam}
 use Rattle.std.proofs.lemmas.List.{length-append, reverse-append, reverse-reverse}
 use Rattle.tinyjson_grammar.specs.Machine.{Frame, in_array, at_key, at_value}
@@ -55,7 +55,8 @@ module _ {B : Type 0} (holds : B → List Frame → Type 0) where
   within s f fs h = (h.0, agree_around (awaited_of s) f fs h.1)
 
   -- the innermost container awaits something else
-  pub renewed : (old new : Nest B) (a : Awaited) (f : Frame) (fs : List Frame) → holds new.builder (f ∷ fs) → AgreeAround (awaited_of old) fs
+  pub renewed : (old new : Nest B) (a : Awaited) (f : Frame) (fs : List Frame) → holds new.builder (f ∷ fs)
+      → AgreeAround (awaited_of old) fs
       → ((o : Awaited) (os : List Awaited) → awaited_of old ≡ o ∷ os → awaited_of new ≡ a ∷ os)
       → ((os : List Awaited) → Agree os fs → Agree (a ∷ os) (f ∷ fs)) → IsOpen holds new (f ∷ fs)
   renewed old new a f fs h around k same = by (awaited_of old) around k
