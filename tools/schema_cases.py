@@ -196,11 +196,11 @@ KEYWORDS = [
 # Schemas that can't be applied, each with the place.
 REFUSED = [
     ("5", ""), ("null", ""), ("[]", ""), ('"x"', ""),
-    ('{"$ref":"#"}', "/$ref"), ('{"properties":{"a":{"pattern":"x"}}}', "/properties/a/pattern"),
+    ('{"properties":{"a":{"pattern":"x"}}}', "/properties/a/pattern"),
     ('{"patternProperties":{}}', "/patternProperties"), ('{"unevaluatedProperties":true}', "/unevaluatedProperties"),
     ('{"unevaluatedItems":true}', "/unevaluatedItems"), ('{"$dynamicRef":"#a"}', "/$dynamicRef"), ('{"$dynamicAnchor":"a"}', "/$dynamicAnchor"),
     ('{"$schema":"http://json-schema.org/draft-07/schema#"}', "/$schema"), ('{"$schema":5}', "/$schema"),
-    ('{"$defs":{"a":{"$ref":"#"}}}', "/$defs/a/$ref"), ('{"$defs":{"a":5}}', "/$defs/a"), ('{"$defs":[]}', "/$defs"),
+    ('{"$anchor":"a"}', "/$anchor"), ('{"$defs":{"a":5}}', "/$defs/a"), ('{"$defs":[]}', "/$defs"),
     ('{"items":[]}', "/items"), ('{"items":[{"type":"string"}]}', "/items"), ('{"prefixItems":[]}', "/prefixItems"),
     ('{"prefixItems":[{},{"type":5}]}', "/prefixItems/1/type"), ('{"prefixItems":{}}', "/prefixItems"),
     ('{"properties":[]}', "/properties"), ('{"properties":{"a/b":{"a":1},"~":null}}', "/properties/~0"),
@@ -220,4 +220,62 @@ REFUSED = [
     ('{"title":1}', "/title"), ('{"deprecated":"yes"}', "/deprecated"), ('{"examples":{}}', "/examples"), ('{"format":1}', "/format"),
     ('{"contentSchema":{"type":"any"}}', "/contentSchema/type"), ('{"$id":1}', "/$id"),
     ('{"properties":{"x\\n\\u001b[2J":0}}', "/properties/xU+000AU+001B[2J"),
+]
+
+# Core, 8.2.3.1: references within the whole schema. Most are those of `ref.json` in the official suite.
+REFERENCES = [
+    ('{"$defs":{"a":{"type":"integer"}},"$ref":"#/$defs/a"}', ["1", "2.0"], [('"x"', "", "/$ref/type")]),
+    ('{"properties":{"foo":{"$ref":"#"}},"additionalProperties":false}', ['{"foo":false}', '{"foo":{"foo":false}}'],
+     [('{"bar":false}', "/bar", "/additionalProperties"), ('{"foo":{"bar":false}}', "/foo/bar", "/properties/foo/$ref/additionalProperties")]),
+    ('{"properties":{"foo":{"type":"integer"},"bar":{"$ref":"#/properties/foo"}}}', ['{"bar":3}'], [('{"bar":true}', "/bar", "/properties/bar/$ref/type")]),
+    ('{"prefixItems":[{"type":"integer"},{"$ref":"#/prefixItems/0"}]}', ["[1,2]"], [('[1,"foo"]', "/1", "/prefixItems/1/$ref/type")]),
+    ('{"$defs":{"tilde~field":{"type":"integer"},"slash/field":{"type":"integer"},"percent%field":{"type":"integer"}},"properties":'
+     '{"tilde":{"$ref":"#/$defs/tilde~0field"},"slash":{"$ref":"#/$defs/slash~1field"},"percent":{"$ref":"#/$defs/percent%25field"}}}',
+     ['{"slash":123}', '{"tilde":123}', '{"percent":123}'],
+     [('{"slash":"a"}', "/slash", "/properties/slash/$ref/type"), ('{"tilde":"a"}', "/tilde", "/properties/tilde/$ref/type"),
+      ('{"percent":"a"}', "/percent", "/properties/percent/$ref/type")]),
+    ('{"$defs":{"a":{"type":"integer"},"b":{"$ref":"#/$defs/a"},"c":{"$ref":"#/$defs/b"}},"$ref":"#/$defs/c"}', ["5"], [('"a"', "", "/$ref/$ref/$ref/type")]),
+    # What stands beside it applies too.
+    ('{"$defs":{"reffed":{"type":"array"}},"properties":{"foo":{"$ref":"#/$defs/reffed","maxItems":2}}}', ['{"foo":[]}'],
+     [('{"foo":[1,2,3]}', "/foo", "/properties/foo/maxItems"), ('{"foo":"string"}', "/foo", "/properties/foo/$ref/type")]),
+    # A property that is named so is none, nor is data.
+    ('{"properties":{"$ref":{"$ref":"#/$defs/is-string"}},"$defs":{"is-string":{"type":"string"}}}', ['{"$ref":"a"}'], [('{"$ref":2}', "/$ref", "/properties/$ref/$ref/type")]),
+    ('{"$defs":{"a_string":{"type":"string"}},"enum":[{"$ref":"#/$defs/a_string"}]}', ['{"$ref":"#/$defs/a_string"}'],
+     [('"this is a string"', "", "/enum"), ('{"type":"string"}', "", "/enum")]),
+    ('{"$ref":"#/$defs/bool","$defs":{"bool":true}}', ['"foo"', "{}"], []),
+    ('{"$ref":"#/$defs/bool","$defs":{"bool":false}}', [], [('"foo"', "", "/$ref")]),
+    ('{"properties":{"foo\\"bar":{"$ref":"#/$defs/foo%22bar"}},"$defs":{"foo\\"bar":{"type":"number"}}}', ['{"foo\\"bar":1}'], [('{"foo\\"bar":"1"}', '/foo"bar', '/properties/foo"bar/$ref/type')]),
+    ('{"$defs":{"":{"$defs":{"":{"type":"number"}}}},"allOf":[{"$ref":"#/$defs//$defs/"}]}', ["1"], [('"a"', "", "/allOf/0/$ref/type")]),
+    ('{"$defs":{"int":{"type":"integer"}},"allOf":[{"properties":{"foo":{"$ref":"#/$defs/int"}}},{"additionalProperties":{"$ref":"#/$defs/int"}}]}', ['{"foo":1}'],
+     [('{"foo":"a string"}', "/foo", "/allOf/0/properties/foo/$ref/type")]),
+    # First percent-decoded, and then a pointer (RFC 6901, section 6).
+    ('{"$defs":{"a~b":false,"c/d":false,"é":false,"%41":false},"properties":{"a":{"$ref":"#/$defs/a%7E0b"},"c":{"$ref":"#%2F%24defs/c%7e1d"},"e":{"$ref":"#/$defs/%C3%A9"},'
+     '"f":{"$ref":"#/$defs/%2541"},"g":{"$ref":"#/$defs/é"}}}', ["{}"],
+     [('{"a":1}', "/a", "/properties/a/$ref"), ('{"c":1}', "/c", "/properties/c/$ref"), ('{"e":1}', "/e", "/properties/e/$ref"), ('{"f":1}', "/f", "/properties/f/$ref"),
+      ('{"g":1}', "/g", "/properties/g/$ref")]),
+    # A tree, and references where the place is told of the keyword alone.
+    ('{"type":"object","required":["v"],"properties":{"v":{"type":"number"},"kids":{"type":"array","items":{"$ref":"#"}}}}',
+     ['{"v":1}', '{"v":1,"kids":[{"v":2,"kids":[]},{"v":3}]}'],
+     [('{"v":1,"kids":[{"v":2,"kids":[{"v":"x"}]}]}', "/kids/0/kids/0/v", "/properties/kids/items/$ref/properties/kids/items/$ref/properties/v/type"),
+      ('{"v":1,"kids":[{}]}', "/kids/0", "/properties/kids/items/$ref/required")]),
+    ('{"$defs":{"n":{"type":"null"}},"not":{"$ref":"#/$defs/n"}}', ["1"], [("null", "", "/not")]),
+    ('{"$defs":{"n":{"type":"null"},"s":{"type":"string"}},"anyOf":[{"$ref":"#/$defs/n"},{"$ref":"#/$defs/s"}]}', ["null", '"a"'], [("1", "", "/anyOf")]),
+    ('{"$defs":{"a":{"$ref":"#"}},"items":{"$ref":"#/$defs/a"}}', ["[[],[[1]]]"], []),
+    ('{"if":{"$ref":"#/$defs/n"},"then":true,"else":{"$ref":"#/$defs/n/not"},"$defs":{"n":{"type":"null","not":{"type":"string"}}}}', ["null", '"a"'], [("1", "", "/else/$ref/type")]),
+]
+
+# References that lead nowhere, elsewhere or in a circle, each with the place.
+REFUSED_REFERENCES = [
+    ('{"$ref":"#"}', "/$ref"), ('{"allOf":[{"$ref":"#"}]}', "/allOf/0/$ref"), ('{"anyOf":[true,{"$ref":"#"}]}', "/anyOf/1/$ref"), ('{"not":{"$ref":"#"}}', "/not/$ref"),
+    ('{"if":{"$ref":"#"}}', "/if/$ref"), ('{"else":{"not":{"$ref":"#"}}}', "/else/not/$ref"), ('{"dependentSchemas":{"a":{"$ref":"#"}}}', "/dependentSchemas/a/$ref"),
+    ('{"$ref":"#/$defs/a","$defs":{"a":{"$ref":"#/$defs/b"},"b":{"$ref":"#/$defs/a"}}}', "/$defs/a/$ref"),
+    ('{"$ref":"#/$defs/a"}', "/$ref"), ('{"$ref":"#/$defs","$defs":{}}', "/$ref"), ('{"$ref":"#/$defs/b","$defs":{"a":true}}', "/$ref"),
+    ('{"enum":[{}],"$ref":"#/enum/0"}', "/$ref"), ('{"const":{},"$ref":"#/const"}', "/$ref"), ('{"x":{},"$ref":"#/x"}', "/$ref"), ('{"items":{"$ref":"#/minimum"},"minimum":0}', "/items/$ref"),
+    ('{"prefixItems":[true,{"$ref":"#/prefixItems/2"}]}', "/prefixItems/1/$ref"), ('{"prefixItems":[true,{"$ref":"#/prefixItems/00"}]}', "/prefixItems/1/$ref"),
+    ('{"$ref":"https://json-schema.org/draft/2020-12/schema"}', "/$ref"), ('{"$ref":"a.json#"}', "/$ref"), ('{"$ref":"/$defs/a","$defs":{"a":true}}', "/$ref"), ('{"$ref":""}', "/$ref"),
+    ('{"$ref":5}', "/$ref"), ('{"$ref":{}}', "/$ref"), ('{"$ref":"#a"}', "/$ref"), ('{"$defs":{"~":true},"$ref":"#/$defs/~"}', "/$ref"), ('{"$defs":{"~":true},"$ref":"#/$defs/~2"}', "/$ref"),
+    ('{"$defs":{"%":true},"$ref":"#/$defs/%"}', "/$ref"), ('{"$defs":{"%4":true},"$ref":"#/$defs/%4"}', "/$ref"), ('{"$defs":{"%zz":true},"$ref":"#/$defs/%zz"}', "/$ref"),
+    ('{"$defs":{"a":true},"$ref":"#/$defs/%FF"}', "/$ref"),
+    # Another base would change what they lead to.
+    ('{"$defs":{"a":{"$id":"x"}}}', "/$defs/a/$id"), ('{"properties":{"a":{"$id":"https://example.com/b"}}}', "/properties/a/$id"),
 ]

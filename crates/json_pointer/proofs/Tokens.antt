@@ -1,16 +1,17 @@
 -- The text of a pointer, taken in character by character.
-use Rattle.std.proofs.Common.{◌≡◌, ◌≢◌, ◌↔◌, inl, inr, ℕ, Bool, true, false, cond, Result, Ok, Err, map, ◌==◌, List, [], ◌∷◌, ◌++◌, refl}
+use Rattle.std.proofs.Common.{◌≡◌, ◌≢◌, ◌↔◌, inl, inr, ℕ, Bool, true, false, cond, Result, Ok, Err, Option, Some, None, bytes_eq, map, ◌==◌, List, [], ◌∷◌, ◌++◌, refl}
 use Rattle.std.proofs.Common.{sym, ap, ◌∙◌, append_assoc, append-nil, subst, arith, String, Global, encode_utf8_all}
 use Rattle.std.proofs.lemmas.Bool.{eqb-true}
 use Rattle.std.proofs.lemmas.Bool.Decides.{nat_tests}
 use Rattle.std.proofs.lemmas.List.{map-append}
+use Rattle.std.proofs.lemmas.Slice.Eq.{bytes_eq-Decides}
 use Rattle.std.proofs.lemmas.Str.{encodes-append}
 use Rattle.std.specs.Result.{IsErrAnd}
 use Rattle.tinyjson.specs.View.{text}
 use Rattle.json_pointer.specs.Reading.{IsNoPointer, HasBadEscape, BeginsEscape, BeginsWithSlash, BeginsWithOther, Reads, ReadsTokens}
 use Rattle.json_pointer.specs.declared.pointer.PointerError.{PointerError}
 use Rattle.json_pointer.specs.declared.pointer.PointerError.TheVariants.{NoSlash, BadEscape, OutOfMemory}
-use Rattle.json_pointer.specs.Text.{escape_char, escape, pointer_text}
+use Rattle.json_pointer.specs.Text.{escape_char, escape, pointer_text, Split, longer, parted, split, pointer_tokens}
 
 -- a `~` that waits for the character after it
 abbrev pub waiting : Bool → List ℕ
@@ -65,25 +66,9 @@ stands_whole cs ts t h = h ∙ (ap (λ x. pointer_text ts ++ (47 ∷ x)) (append
 
 -- ---- each text has the tokens of at most one pointer
 
--- the first token and the others
-abbrev Split : Type 0
-Split = List ℕ × List (List ℕ)
-
-abbrev longer : ℕ → Split → Split
-longer c s = (c ∷ s.0, s.1)
-
 abbrev begun : List ℕ → Split → Split
 begun [] s = s
 begun (c ∷ t) s = longer c (begun t s)
-
-abbrev parted : Split → Split
-parted s = ([], s.0 ∷ s.1)
-
--- the tokens of a text, as far as it is one
-abbrev split : Bool → List ℕ → Split
-split tilde [] = ([], [])
-split true (c ∷ cs) = longer (cond (c == 48) 126 47) (split false cs)
-split false (c ∷ cs) = cond (c == 47) (parted (split false cs)) (cond (c == 126) (split true cs) (longer c (split false cs)))
 
 split_char : (c : ℕ) (xs : List ℕ) → split false (escape_char c ++ xs) ≡ longer c (split false xs)
 split_char c xs = by (c == 126) (c == 47) refl refl
@@ -113,6 +98,21 @@ one_pointer ts us h = ap (λ s. s.1) (sym (split_pointer ts) ∙ (ap (split fals
 
 pub exactly : (cs : List ℕ) (us : List (List ℕ)) → cs ≡ pointer_text us → (ts : List (List ℕ)) → (cs ≡ pointer_text ts) ↔ (ts ≡ us)
 exactly cs us h ts = (λ e. one_pointer ts us (sym e ∙ h), λ e. h ∙ ap pointer_text (sym e))
+
+-- reading gives the tokens whose text it is
+pub tokens_read : (cs : List ℕ) (ts : List (List ℕ)) → cs ≡ pointer_text ts → pointer_tokens cs ≡ Some ts
+tokens_read cs ts h =
+    let same : (split false cs).1 ≡ ts = ap (λ s. s.1) (ap (split false) h ∙ split_pointer ts) in
+    let text : pointer_text (split false cs).1 ≡ cs = ap pointer_text same ∙ sym h in
+    ap (λ b. cond b (Some (split false cs).1) None) ((bytes_eq-Decides (pointer_text (split false cs).1) cs).1 text)
+    ∙ ap (λ us. Some us) same
+
+pub no_tokens_read : (cs : List ℕ) → IsNoPointer cs → pointer_tokens cs ≡ None
+no_tokens_read cs h = by (bytes_eq (pointer_text (split false cs).1) cs) refl
+  where
+    by : (b : Bool) → bytes_eq (pointer_text (split false cs).1) cs ≡ b → cond b (Some (split false cs).1) None ≡ None
+    by true e = absurd (h (split false cs).1 (sym ((bytes_eq-Decides (pointer_text (split false cs).1) cs).0 e)))
+    by false e = refl
 
 -- ---- in the text of a pointer `0` or `1` is after each `~`
 

@@ -1,5 +1,6 @@
 //! A pointer: the tokens of its text.
-ghost use Rattle.std.specs.Prelude.{◌≡◌, ◌∷◌, [], Some, OnOk, OnErr, length, encode_utf8_all};
+ghost use Rattle.std.specs.Prelude.{◌≡◌, ◌∷◌, [], Some, OnOk, OnErr, length, map};
+ghost use Rattle.std.specs.Prelude.{encode_utf8_all};
 ghost use Rattle.std.specs.Fmt.{WritesOnOk};
 ghost use Rattle.std.specs.Str.{chars};
 ghost use Rattle.tinyjson.specs.View.{text};
@@ -68,6 +69,18 @@ impl Pointer {
         Pointer {
             tokens: Vec::new(alloc),
         }
+    }
+
+    /// The tokens: the keys and the texts of indices, from the whole to the part.
+    ///
+    /// ```
+    /// let pointer = Pointer::parse(alloc, "/a~1b/0")?;
+    /// let tokens = pointer.tokens(); // `a/b` and `0`
+    /// ```
+    pub fn tokens(&self) -> &[String]
+        ensures { map text result.now ≡ tokens_of self.now }
+    {
+        self.tokens.as_slice()
     }
 
     /// The number of tokens: how deep the part is that this names.

@@ -1,11 +1,12 @@
+pub mod Settling
 pub mod Depths
 pub mod Examples
 pub mod Forms
-pub mod Judges
 pub mod Listed
 pub mod Lookups
 pub mod Loops
 pub mod Parts
 pub mod Places
+pub mod References
 pub mod Turns
 pub mod Validity

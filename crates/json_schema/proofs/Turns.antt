@@ -10,7 +10,7 @@ drop_suc [] i x h e = absurd (omega arith)
 drop_suc (y ∷ xs) zero x h e = ap (λ z. z ∷ xs) (sym e)
 drop_suc (y ∷ xs) (suc i) x h e = drop_suc xs i x (omega arith) e
 
-drop_item : {X : Type 0} (xs : List X) (i : ℕ) (x : X) → i < length xs → x ≡ get_or xs i x → drop i xs ≡ x ∷ drop (i + 1) xs
+pub drop_item : {X : Type 0} (xs : List X) (i : ℕ) (x : X) → i < length xs → x ≡ get_or xs i x → drop i xs ≡ x ∷ drop (i + 1) xs
 drop_item xs i x h e = rw add-one (drop_suc xs i x h e)
 
 pub drop_end : {X : Type 0} (xs : List X) (i : ℕ) → length xs ≤ i → drop i xs ≡ []

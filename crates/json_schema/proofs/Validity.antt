@@ -6,9 +6,9 @@ use Rattle.std.proofs.lemmas.Bool.{and_parts}
 use Rattle.std.proofs.lemmas.Slice.Eq.{bytes_eq-Decides}
 use Rattle.std.specs.Option.{option_map_or}
 use Rattle.std.specs.Prelude.{option_and_then, IfOk}
-use Rattle.std.specs.declared.alloc.AllocError.{AllocError}
 use Rattle.tinyjson.specs.Index.{tree_at_key, nth}
 use Rattle.tinyjson.specs.Tree.{Tree, array, object, Items, no_items, item, Members, no_members, member, find}
+use Rattle.tinyjson.specs.View.{view}
 use Rattle.json_pointer.specs.Index.{index_of}
 use Rattle.json_pointer.specs.Tokens.{tokens_of}
 use Rattle.json_pointer.specs.Walk.{step, part_at, item_of}
@@ -19,46 +19,50 @@ use Rattle.json_schema.specs.Keywords.{meets_all, assertions}
 use Rattle.json_schema.specs.Names.{name}
 use Rattle.json_schema.specs.Parts.{member_schema, item_schema, part_schema}
 use Rattle.json_schema.specs.Places.{IsAt}
-use Rattle.json_schema.specs.Valid.{refuses_all, Validates, Finds, IsUnapplied, is_valid, accepts_by, IsValid, IsInvalidAt}
+use Rattle.json_schema.specs.References.{referenced}
+use Rattle.json_schema.specs.Valid.{refuses_all, judge, reference_accepts, accepts_by, Decides, Judges, IsDeeper, Finds, IsInvalidAt}
+use Rattle.json_schema.specs.Valid.{IsUnapplied}
 use Rattle.json_schema.specs.Valid.{refused, unmet, not_applied}
-use Rattle.json_schema.specs.Valid.{in_all_of, in_branch, in_dependent, in_part}
+use Rattle.json_schema.specs.Valid.{in_all_of, in_branch, in_dependent, in_reference, in_part}
 use Rattle.json_schema.specs.declared.keyword.Keyword.{Keyword}
 use Rattle.json_schema.specs.declared.keyword.Keyword.TheVariants as kw
 use Rattle.json_schema.specs.declared.violation.Violation.{Violation}
-use Rattle.json_schema.proofs.Judges.{is_valid_by}
+use Rattle.json_schema.specs.declared.walk.CheckError.{CheckError}
+use Rattle.json_schema.specs.declared.walk.Walk.{Walk}
 
 -- ---- what a valid value meets
 
-pub record IsMet (s t : Tree) : Type 0 where
+pub record IsMet (root : Tree) (f : Judge) (s t : Tree) : Type 0 where
   pub accepted : refuses_all s ≡ false
   pub asserted : meets_all assertions s t ≡ true
-  pub tested : apply_all is_valid tests s t ≡ true
-  pub demanded : apply_all is_valid demands s t ≡ true
-  pub parts : parts_accepted is_valid s t ≡ true
+  pub tested : apply_all f tests s t ≡ true
+  pub demanded : apply_all f demands s t ≡ true
+  pub referred : reference_accepts root f s t ≡ true
+  pub parts : parts_accepted f s t ≡ true
 
 not_true : (b : Bool) → not b ≡ true → b ≡ false
 not_true true h = cc
 not_true false h = refl
 
-met : (s t : Tree) → IsValid s t → IsMet s t
-met s t h =
-    let a = and_parts _ _ (sym (is_valid_by s t) ∙ h) in
+met : (root : Tree) (f : Judge) (s t : Tree) → accepts_by root f s t ≡ true → IsMet root f s t
+met root f s t h =
+    let a = and_parts _ _ h in
     let b = and_parts _ _ a.1 in
     let c = and_parts _ _ b.1 in
     let d = and_parts _ _ c.1 in
-    record { accepted = not_true _ a.0; asserted = b.0; tested = c.0; demanded = d.0; parts = d.1 }
+    let e = and_parts _ _ d.1 in
+    record { accepted = not_true _ a.0; asserted = b.0; tested = c.0; demanded = d.0; referred = e.0; parts = e.1 }
 
-pub valid_from : (s t : Tree) → IsMet s t → IsValid s t
-valid_from s t m = is_valid_by s t
-    ∙ (λ i. not (m.accepted i) && (m.asserted i && (m.tested i && (m.demanded i && m.parts i))))
+pub valid_from : (root : Tree) (f : Judge) (s t : Tree) → IsMet root f s t → accepts_by root f s t ≡ true
+valid_from root f s t m = λ i. not (m.accepted i) && (m.asserted i && (m.tested i && (m.demanded i && (m.referred i && m.parts i))))
 
 -- each keyword that applies schemas is met
-module _ (s t : Tree) where
-  first_met : (k : Keyword) (ks : List Keyword) → apply_all is_valid (k ∷ ks) s t ≡ true → applies is_valid k s t ≡ true
-  first_met k ks h = (and_parts (applies is_valid k s t) (apply_all is_valid ks s t) h).0
+module _ (f : Judge) (s t : Tree) where
+  first_met : (k : Keyword) (ks : List Keyword) → apply_all f (k ∷ ks) s t ≡ true → applies f k s t ≡ true
+  first_met k ks h = (and_parts (applies f k s t) (apply_all f ks s t) h).0
 
-  rest_met : (k : Keyword) (ks : List Keyword) → apply_all is_valid (k ∷ ks) s t ≡ true → apply_all is_valid ks s t ≡ true
-  rest_met k ks h = (and_parts (applies is_valid k s t) (apply_all is_valid ks s t) h).1
+  rest_met : (k : Keyword) (ks : List Keyword) → apply_all f (k ∷ ks) s t ≡ true → apply_all f ks s t ≡ true
+  rest_met k ks h = (and_parts (applies f k s t) (apply_all f ks s t) h).1
 
 abbrev from_names : List Keyword
 from_names = kw.PropertyNames ∷ counts
@@ -72,34 +76,36 @@ from_one_of = kw.OneOf ∷ from_not
 abbrev from_max_contains : List Keyword
 from_max_contains = kw.MaxContains ∷ kw.MinContains ∷ []
 
-after_any_of : (s t : Tree) → IsMet s t → apply_all is_valid from_one_of s t ≡ true
-after_any_of s t m = rest_met s t kw.AnyOf from_one_of m.tested
+after_any_of : (root : Tree) (f : Judge) (s t : Tree) → IsMet root f s t → apply_all f from_one_of s t ≡ true
+after_any_of root f s t m = rest_met f s t kw.AnyOf from_one_of m.tested
 
-after_one_of : (s t : Tree) → IsMet s t → apply_all is_valid from_not s t ≡ true
-after_one_of s t m = rest_met s t kw.OneOf from_not (after_any_of s t m)
+after_one_of : (root : Tree) (f : Judge) (s t : Tree) → IsMet root f s t → apply_all f from_not s t ≡ true
+after_one_of root f s t m = rest_met f s t kw.OneOf from_not (after_any_of root f s t m)
 
-after_not : (s t : Tree) → IsMet s t → apply_all is_valid from_names s t ≡ true
-after_not s t m = rest_met s t kw.Not from_names (after_one_of s t m)
+after_not : (root : Tree) (f : Judge) (s t : Tree) → IsMet root f s t → apply_all f from_names s t ≡ true
+after_not root f s t m = rest_met f s t kw.Not from_names (after_one_of root f s t m)
 
-after_names : (s t : Tree) → IsMet s t → apply_all is_valid counts s t ≡ true
-after_names s t m = rest_met s t kw.PropertyNames counts (after_not s t m)
+after_names : (root : Tree) (f : Judge) (s t : Tree) → IsMet root f s t → apply_all f counts s t ≡ true
+after_names root f s t m = rest_met f s t kw.PropertyNames counts (after_not root f s t m)
 
-after_contains : (s t : Tree) → IsMet s t → apply_all is_valid from_max_contains s t ≡ true
-after_contains s t m = rest_met s t kw.Contains from_max_contains (after_names s t m)
+after_contains : (root : Tree) (f : Judge) (s t : Tree) → IsMet root f s t → apply_all f from_max_contains s t ≡ true
+after_contains root f s t m = rest_met f s t kw.Contains from_max_contains (after_names root f s t m)
 
-applied : (s t : Tree) (k : Keyword) → IsMet s t → applies is_valid k s t ≡ true
-applied s t kw.AnyOf m = first_met s t kw.AnyOf from_one_of m.tested
-applied s t kw.OneOf m = first_met s t kw.OneOf from_not (after_any_of s t m)
-applied s t kw.Not m = first_met s t kw.Not from_names (after_one_of s t m)
-applied s t kw.PropertyNames m = first_met s t kw.PropertyNames counts (after_not s t m)
-applied s t kw.Contains m = first_met s t kw.Contains from_max_contains (after_names s t m)
-applied s t kw.MaxContains m = first_met s t kw.MaxContains (kw.MinContains ∷ []) (after_contains s t m)
-applied s t kw.MinContains m = first_met s t kw.MinContains [] (rest_met s t kw.MaxContains (kw.MinContains ∷ []) (after_contains s t m))
-applied s t kw.AllOf m = first_met s t kw.AllOf (kw.If ∷ kw.DependentSchemas ∷ []) m.demanded
-applied s t kw.If m = first_met s t kw.If (kw.DependentSchemas ∷ []) (rest_met s t kw.AllOf (kw.If ∷ kw.DependentSchemas ∷ []) m.demanded)
-applied s t kw.DependentSchemas m = first_met s t kw.DependentSchemas []
-    (rest_met s t kw.If (kw.DependentSchemas ∷ []) (rest_met s t kw.AllOf (kw.If ∷ kw.DependentSchemas ∷ []) m.demanded))
-applied s t _ m = refl
+applied : (root : Tree) (f : Judge) (s t : Tree) (k : Keyword) → IsMet root f s t → applies f k s t ≡ true
+applied root f s t kw.AnyOf m = first_met f s t kw.AnyOf from_one_of m.tested
+applied root f s t kw.OneOf m = first_met f s t kw.OneOf from_not (after_any_of root f s t m)
+applied root f s t kw.Not m = first_met f s t kw.Not from_names (after_one_of root f s t m)
+applied root f s t kw.PropertyNames m = first_met f s t kw.PropertyNames counts (after_not root f s t m)
+applied root f s t kw.Contains m = first_met f s t kw.Contains from_max_contains (after_names root f s t m)
+applied root f s t kw.MaxContains m = first_met f s t kw.MaxContains (kw.MinContains ∷ []) (after_contains root f s t m)
+applied root f s t kw.MinContains m = first_met f s t kw.MinContains []
+    (rest_met f s t kw.MaxContains (kw.MinContains ∷ []) (after_contains root f s t m))
+applied root f s t kw.AllOf m = first_met f s t kw.AllOf (kw.If ∷ kw.DependentSchemas ∷ []) m.demanded
+applied root f s t kw.If m = first_met f s t kw.If (kw.DependentSchemas ∷ [])
+    (rest_met f s t kw.AllOf (kw.If ∷ kw.DependentSchemas ∷ []) m.demanded)
+applied root f s t kw.DependentSchemas m = first_met f s t kw.DependentSchemas []
+    (rest_met f s t kw.If (kw.DependentSchemas ∷ []) (rest_met f s t kw.AllOf (kw.If ∷ kw.DependentSchemas ∷ []) m.demanded))
+applied root f s t _ m = refl
 
 module _ (f : Judge) (t : Tree) where
   one_accepts : (rs : Items) (i : ℕ) (r : Tree) → all_accept f rs t ≡ true → nth rs i ≡ Some r → f r t ≡ true
@@ -166,97 +172,133 @@ module _ (f : Judge) (s : Tree) where
           ∙ subst (λ j. item_accepted f s j u ≡ true) first (item_accepts 0 us i u h b')
   part_accepts _ k r u h a b = cc
 
-branch_chosen : (s t c r : Tree) → applies is_valid kw.If s t ≡ true → schema_at s kw.If ≡ Some c
-    → schema_at s (branch (is_valid c t)) ≡ Some r → is_valid r t ≡ true
-branch_chosen s t c r h e g =
-    sym (ap (λ o. option_map_or (λ q. is_valid q t) o true) g)
-    ∙ (sym (ap (λ o. option_map_or (λ q. branch_accepts is_valid s t (is_valid q t)) o true) e) ∙ h)
+branch_chosen : (f : Judge) (s t c r : Tree) → applies f kw.If s t ≡ true → schema_at s kw.If ≡ Some c
+    → schema_at s (branch (f c t)) ≡ Some r → f r t ≡ true
+branch_chosen f s t c r h e g =
+    sym (ap (λ o. option_map_or (λ q. f q t) o true) g)
+    ∙ (sym (ap (λ o. option_map_or (λ q. branch_accepts f s t (f q t)) o true) e) ∙ h)
+
+reference_chosen : (root : Tree) (f : Judge) (s t r : Tree) → reference_accepts root f s t ≡ true → referenced root s ≡ Some r → f r t ≡
+    true
+reference_chosen root f s t r h e = sym (ap (λ o. option_map_or (λ q. f q t) o true) e) ∙ h
 
 -- ---- places
 
-pub not_valid : {s t : Tree} {ks js : List (List ℕ)} → IsInvalidAt s t ks js → IsValid s t → ⊥
-not_valid {s} {t} (refused e) v = true≢false (sym e ∙ (met s t v).accepted)
-not_valid {s} {t} (unmet k e) v = true≢false (sym (met s t v).asserted ∙ e.1)
-not_valid {s} {t} (not_applied k e) v = true≢false (sym (applied s t k (met s t v)) ∙ e)
-not_valid {s} {t} (in_all_of {r} {k} e h) v =
-    not_valid h (named_accepts is_valid t (schemas_at s kw.AllOf) (index_of k) r (applied s t kw.AllOf (met s t v)) e)
-not_valid {s} {t} (in_branch {c} {r} e g h) v = not_valid h (branch_chosen s t c r (applied s t kw.If (met s t v)) e g)
-not_valid {s} {t} (in_dependent {r} {k} e g h) v =
-    not_valid h (dependent_accepts is_valid t (schema_map_at s kw.DependentSchemas) k r (applied s t kw.DependentSchemas (met s t v)) e g)
-not_valid {s} {t} (in_part {r} {u} {k} ls a b c h) v = not_valid h (part_accepts is_valid s t k r u (met s t v).parts a b)
+pub not_valid : {root : Tree} {n : ℕ} {s t : Tree} {ks js : List (List ℕ)} → IsInvalidAt root n s t ks js → judge root n s t ≡ true → ⊥
+not_valid {n = zero} x v = elim x [ ]
+not_valid {root} {n = suc n} {s} {t} (refused e) v = true≢false (sym e ∙ (met root (judge root n) s t v).accepted)
+not_valid {root} {n = suc n} {s} {t} (unmet k e) v = true≢false (sym (met root (judge root n) s t v).asserted ∙ e.1)
+not_valid {root} {n = suc n} {s} {t} (not_applied k e) v =
+    true≢false (sym (applied root (judge root n) s t k (met root (judge root n) s t v)) ∙ e)
+not_valid {root} {n = suc n} {s} {t} (in_all_of {r} {k} e h) v =
+    not_valid h (named_accepts (judge root n) t (schemas_at s kw.AllOf) (index_of k) r
+    (applied root (judge root n) s t kw.AllOf (met root (judge root n) s t v)) e)
+not_valid {root} {n = suc n} {s} {t} (in_branch {c} {r} e g h) v =
+    not_valid h (branch_chosen (judge root n) s t c r (applied root (judge root n) s t kw.If (met root (judge root n) s t v)) e g)
+not_valid {root} {n = suc n} {s} {t} (in_dependent {r} {k} e g h) v =
+    not_valid h (dependent_accepts (judge root n) t (schema_map_at s kw.DependentSchemas) k r
+    (applied root (judge root n) s t kw.DependentSchemas (met root (judge root n) s t v)) e g)
+not_valid {root} {n = suc n} {s} {t} (in_reference {r} e h) v =
+    not_valid h (reference_chosen root (judge root n) s t r (met root (judge root n) s t v).referred e)
+not_valid {root} {n = suc n} {s} {t} (in_part {r} {u} {k} ls a b c h) v =
+    not_valid h (part_accepts (judge root n) s t k r u (met root (judge root n) s t v).parts a b)
 
-pub there : {s t : Tree} {ks js : List (List ℕ)} → IsInvalidAt s t ks js → IsSome (part_at t js)
+pub there : {root : Tree} {n : ℕ} {s t : Tree} {ks js : List (List ℕ)} → IsInvalidAt root n s t ks js → IsSome (part_at t js)
 there (refused e) = refl
 there (unmet k e) = refl
 there (not_applied k e) = refl
 there (in_all_of e h) = there h
 there (in_branch e g h) = there h
 there (in_dependent e g h) = there h
+there (in_reference e h) = there h
 there {t} {js = k ∷ js} (in_part {u} ls a b c h) = subst (λ o. IsSome (option_and_then (λ v. part_at v js) o)) (sym b) (there h)
 
 -- ---- results
 
--- a violation with its reasons
-pub reported : (s t : Tree) (v : Violation) (ks js : List (List ℕ)) → IsAt ks js v → IsInvalidAt s t ks js → Validates s t (Ok (Some v))
-reported s t v ks js at h =
-    let moved : IsInvalidAt s t (tokens_of v.keyword_location) (tokens_of v.instance_location)
-    = subst (λ x. IsInvalidAt s t (tokens_of v.keyword_location) x) (sym at.1) (subst (λ x. IsInvalidAt s t x js) (sym at.0) h) in
-    (moved, there moved, not_valid moved)
+-- the tokens of a violation's places
+at_tokens : (root : Tree) (n : ℕ) (s t : Tree) (v : Violation) (ks js : List (List ℕ)) → IsAt ks js v → IsInvalidAt root n s t ks js
+    → IsInvalidAt root n s t (tokens_of v.keyword_location) (tokens_of v.instance_location)
+at_tokens root n s t v ks js at h = subst (λ x. IsInvalidAt root n s t (tokens_of v.keyword_location) x) (sym at.1)
+    (subst (λ x. IsInvalidAt root n s t x js) (sym at.0) h)
 
 -- a violation that was found of the whole
-pub found : (is : Bool) (s t : Tree) (v : Violation) → Finds is s t (Ok (Some v)) → Validates s t (Ok (Some v))
-found is s t v h = (h, there h, not_valid h)
+pub found : (root : Tree) (n : ℕ) (s t : Tree) (v : Violation)
+    → IsInvalidAt root n s t (tokens_of v.keyword_location) (tokens_of v.instance_location) → Decides root n s t (Ok (Some v))
+found root n s t v h = (h, there h, not_valid h)
+
+-- a violation with its reasons
+pub reported : (root : Tree) (n : ℕ) (s t : Tree) (v : Violation) (ks js : List (List ℕ)) → IsAt ks js v → IsInvalidAt root n s t ks js
+    → Decides root n s t (Ok (Some v))
+reported root n s t v ks js at h = found root n s t v (at_tokens root n s t v ks js at h)
 
 -- the same at its tokens
-pub placed : (is : Bool) (s t : Tree) (v : Violation) (ks js : List (List ℕ)) → IsAt ks js v → IsInvalidAt s t ks js
-    → Finds is s t (Ok (Some v))
-placed is s t v ks js at h =
-    subst (λ x. IsInvalidAt s t (tokens_of v.keyword_location) x) (sym at.1) (subst (λ x. IsInvalidAt s t x js) (sym at.0) h)
+pub placed : (w : Walk) (is : Bool) (s t : Tree) (v : Violation) (ks js : List (List ℕ)) → IsAt ks js v
+    → IsInvalidAt (view w.root.now) (suc w.steps) s t ks js → Finds w is s t (Ok (Some v))
+placed w is s t v ks js at h = at_tokens (view w.root.now) (suc w.steps) s t v ks js at h
 
 -- of a valid value nothing is found, and of another something
-pub verdict : (s t : Tree) (o : Option Violation) → Validates s t (Ok o) → not (is_some o) ≡ is_valid s t
-verdict s t None h = sym h
-verdict s t (Some v) h = by (is_valid s t) h.2
+pub verdict : (root : Tree) (n : ℕ) (s t : Tree) (o : Option Violation) → Decides root n s t (Ok o) → not (is_some o) ≡ judge root n s t
+verdict root n s t None h = sym h
+verdict root n s t (Some v) h = by (judge root n s t) h.2
   where
     by : (b : Bool) → ¬ (b ≡ true) → false ≡ b
     by true n = absurd (n refl)
     by false n = refl
 
 -- the last of the tests
-pub last_tested : (s t : Tree) (x : Result (Option Keyword) AllocError) → applies is_valid kw.AnyOf s t ≡ true
-    → applies is_valid kw.OneOf s t ≡ true → applies is_valid kw.Not s t ≡ true → applies is_valid kw.PropertyNames s t ≡ true
-    → IfOk x (λ o. IsUnapplied counts s t o) → IfOk x (λ o. IsUnapplied tests s t o)
-last_tested s t (Ok None) a b c d h = λ i. a i && (b i && (c i && (d i && h i)))
-last_tested s t (Ok (Some k)) a b c d h = h
-last_tested s t (Err e) a b c d h = tt
+pub last_tested : (f : Judge) (s t : Tree) (x : Result (Option Keyword) CheckError) → applies f kw.AnyOf s t ≡ true
+    → applies f kw.OneOf s t ≡ true → applies f kw.Not s t ≡ true → applies f kw.PropertyNames s t ≡ true
+    → IfOk x (λ o. IsUnapplied f counts s t o) → IfOk x (λ o. IsUnapplied f tests s t o)
+last_tested f s t (Ok None) a b c d h = λ i. a i && (b i && (c i && (d i && h i)))
+last_tested f s t (Ok (Some k)) a b c d h = h
+last_tested f s t (Err e) a b c d h = tt
 
 -- the last step of the check
-pub last_found : (s t : Tree) (x : Result (Option Violation) AllocError) → refuses_all s ≡ false → meets_all assertions s t ≡ true
-    → apply_all is_valid tests s t ≡ true → applies is_valid kw.AllOf s t ≡ true → applies is_valid kw.If s t ≡ true
-    → applies is_valid kw.DependentSchemas s t ≡ true → Finds (parts_accepted is_valid s t) s t x → Validates s t x
-last_found s t (Ok None) a b c d e f h = valid_from s t (record {
-  accepted = a;
-  asserted = b;
-  tested = c;
-  demanded = λ i. d i && (e i && (f i && true));
-  parts = h;
-})
-last_found s t (Ok (Some v)) a b c d e f h = found (parts_accepted is_valid s t) s t v h
-last_found s t (Err x) a b c d e f h = tt
+pub last_found : (w : Walk) (f : Judge) (s t : Tree) (x : Result (Option Violation) CheckError) → f ≡ judge (view w.root.now) w.steps
+    → refuses_all s ≡ false → meets_all assertions s t ≡ true → apply_all f tests s t ≡ true → applies f kw.AllOf s t ≡ true
+    → applies f kw.If s t ≡ true → applies f kw.DependentSchemas s t ≡ true → reference_accepts (view w.root.now) f s t ≡ true
+    → Finds w (parts_accepted f s t) s t x → Decides (view w.root.now) (suc w.steps) s t x
+last_found w f s t (Ok None) same a b c d e g r h = ap (λ q. accepts_by (view w.root.now) q s t) (sym same)
+    ∙ valid_from (view w.root.now) f s t (record {
+      accepted = a;
+      asserted = b;
+      tested = c;
+      demanded = λ i. d i && (e i && (g i && true));
+      referred = r;
+      parts = h;
+    })
+last_found w f s t (Ok (Some v)) same a b c d e g r h = found (view w.root.now) (suc w.steps) s t v h
+last_found w f s t (Err x) same a b c d e g r h = tt
+
+-- what is known of a schema in the walk, one step before
+pub before : (w inner : Walk) → IsDeeper w inner → (s t : Tree) (x : Result (Option Violation) CheckError)
+    → Decides (view inner.root.now) (suc inner.steps) s t x → Judges w s t x
+before w inner d s t x h = subst (λ n. Decides (view w.root.now) n s t x) (sym d.1)
+    (subst (λ r. Decides (view r.now) (suc inner.steps) s t x) d.0 h)
 
 -- ---- the schema that `if` chooses
 
-module _ (s t c : Tree) (k : Keyword) (test : Some c ≡ schema_at s kw.If) (chosen : k ≡ branch (is_valid c t)) where
-  by_branch : branch_accepts is_valid s t (is_valid c t) ≡ true → applies is_valid kw.If s t ≡ true
-  by_branch h = ap (λ o. option_map_or (λ r. branch_accepts is_valid s t (is_valid r t)) o true) (sym test) ∙ h
+module _ (root : Tree) (n : ℕ) (s t c : Tree) (k : Keyword) (test : Some c ≡ schema_at s kw.If) (chosen : k ≡ branch (judge root n c t))
+  where
+    by_branch : branch_accepts (judge root n) s t (judge root n c t) ≡ true → applies (judge root n) kw.If s t ≡ true
+    by_branch h = ap (λ o. option_map_or (λ r. branch_accepts (judge root n) s t (judge root n r t)) o true) (sym test) ∙ h
 
-  pub no_branch : None ≡ schema_at s k → applies is_valid kw.If s t ≡ true
-  no_branch h = by_branch (ap (λ o. option_map_or (λ r. is_valid r t) o true) (ap (schema_at s) (sym chosen) ∙ sym h))
+    pub no_branch : None ≡ schema_at s k → applies (judge root n) kw.If s t ≡ true
+    no_branch h = by_branch (ap (λ o. option_map_or (λ r. judge root n r t) o true) (ap (schema_at s) (sym chosen) ∙ sym h))
 
-  pub branch_met : (r : Tree) → Some r ≡ schema_at s k → is_valid r t ≡ true → applies is_valid kw.If s t ≡ true
-  branch_met r h v = by_branch (ap (λ o. option_map_or (λ r. is_valid r t) o true) (ap (schema_at s) (sym chosen) ∙ sym h) ∙ v)
+    pub branch_met : (r : Tree) → Some r ≡ schema_at s k → judge root n r t ≡ true → applies (judge root n) kw.If s t ≡ true
+    branch_met r h v = by_branch (ap (λ o. option_map_or (λ r. judge root n r t) o true) (ap (schema_at s) (sym chosen) ∙ sym h) ∙ v)
 
-  pub branch_place : (r : Tree) (ks js : List (List ℕ)) → Some r ≡ schema_at s k → IsInvalidAt r t ks js
-      → IsInvalidAt s t (name k ∷ ks) js
-  branch_place r ks js h v = subst (λ x. IsInvalidAt s t (name x ∷ ks) js) (sym chosen)
-      (in_branch (sym test) (ap (schema_at s) (sym chosen) ∙ sym h) v)
+    pub branch_place : (r : Tree) (ks js : List (List ℕ)) → Some r ≡ schema_at s k → IsInvalidAt root n r t ks js
+        → IsInvalidAt root (suc n) s t (name k ∷ ks) js
+    branch_place r ks js h v = subst (λ x. IsInvalidAt root (suc n) s t (name x ∷ ks) js) (sym chosen)
+        (in_branch (sym test) (ap (schema_at s) (sym chosen) ∙ sym h) v)
+
+-- ---- the schema that `$ref` leads to
+
+pub reference_met : (root : Tree) (f : Judge) (s t r : Tree) → Some r ≡ referenced root s → f r t ≡ true → reference_accepts root f s t ≡
+    true
+reference_met root f s t r e h = ap (λ o. option_map_or (λ q. f q t) o true) (sym e) ∙ h
+
+pub no_reference : (root : Tree) (f : Judge) (s t : Tree) → None ≡ referenced root s → reference_accepts root f s t ≡ true
+no_reference root f s t e = ap (λ o. option_map_or (λ q. f q t) o true) (sym e)

@@ -1,12 +1,9 @@
--- The forms that the values of keywords have, and which trees are schemas that can be applied.
-use Rattle.std.specs.Prelude.{◌≡◌, ℕ, pos, Bool, true, false, not, ◌&&◌, ◌||◌, List, Option, Some, None, Result, Ok, Err, int_le, codes}
-use Rattle.std.specs.Prelude.{encode_utf8_all}
-use Rattle.std.specs.declared.alloc.AllocError.{AllocError}
+-- The forms that the values of keywords have.
+use Rattle.std.specs.Prelude.{ℕ, pos, Bool, true, false, not, ◌&&◌, ◌||◌, List, int_le, codes, encode_utf8_all}
 use Rattle.std.specs.Option.{option_map_or}
 use Rattle.std.specs.Str.{bytes_eq}
 use Rattle.tinyjson.specs.Access.{is_boolean, is_number, is_string, is_array}
 use Rattle.tinyjson.specs.Tree.{Tree, boolean, number, string, array, object, Items, no_items, item, Members, no_members, member}
-use Rattle.json_pointer.specs.declared.pointer.Pointer.{Pointer}
 use Rattle.json_schema.specs.Keywords.{is_among}
 use Rattle.json_schema.specs.Names.{keywords, keyword_among}
 use Rattle.json_schema.specs.declared.form.Form.{Form}
@@ -16,10 +13,10 @@ use Rattle.json_schema.specs.declared.keyword.Keyword.TheVariants as kw
 
 abbrev pub form_of : Keyword → Form
 form_of kw.Schema = form.Dialect
-form_of kw.Id = form.Text
+form_of kw.Id = form.Base
 form_of kw.Comment = form.Text
 form_of kw.Defs = form.SchemaMap
-form_of kw.Ref = form.Refused
+form_of kw.Ref = form.Reference
 form_of kw.Anchor = form.Refused
 form_of kw.DynamicRef = form.Refused
 form_of kw.DynamicAnchor = form.Refused
@@ -124,57 +121,3 @@ is_key_map _ = false
 abbrev pub is_dialect : Tree → Bool
 is_dialect (string cs) = bytes_eq (encode_utf8_all cs) (codes "https://json-schema.org/draft/2020-12/schema")
 is_dialect _ = false
-
--- whether a keyword's value has the form, where it is known whether it is a schema, a list or a map of schemas
-abbrev pub has_form : Form → Tree → Bool → Bool → Bool → Bool
-has_form form.Anything w one list entries = true
-has_form form.Text w one list entries = is_string w
-has_form form.Truth w one list entries = is_boolean w
-has_form form.List w one list entries = is_array w
-has_form form.Types w one list entries = are_types w
-has_form form.Number w one list entries = is_number w
-has_form form.Count w one list entries = is_count w
-has_form form.Keys w one list entries = is_key_list w
-has_form form.KeyLists w one list entries = is_key_map w
-has_form form.Dialect w one list entries = is_dialect w
-has_form form.Schema w one list entries = one
-has_form form.Schemas w one list entries = list
-has_form form.SchemaMap w one list entries = entries
-has_form form.Refused w one list entries = false
-
-abbrev mutual
-  -- a schema whose keywords, and those of the schemas in it, can be applied
-  pub is_schema : Tree → Bool
-  is_schema (boolean accepts) = true
-  is_schema (object ms) = keywords_fit ms
-  is_schema _ = false
-
-  pub keywords_fit : Members → Bool
-  keywords_fit no_members = true
-  keywords_fit (member k w ms) = has_form (form_at (encode_utf8_all k)) w (is_schema w) (is_schema_list w) (is_schema_map w)
-      && keywords_fit ms
-
-  pub is_schema_list : Tree → Bool
-  is_schema_list (array ts) = is_some_item ts && are_schemas ts
-  is_schema_list _ = false
-
-  pub is_schema_map : Tree → Bool
-  is_schema_map (object ms) = have_schemas ms
-  is_schema_map _ = false
-
-  pub are_schemas : Items → Bool
-  are_schemas no_items = true
-  are_schemas (item t ts) = is_schema t && are_schemas ts
-
-  pub have_schemas : Members → Bool
-  have_schemas no_members = true
-  have_schemas (member k t ms) = is_schema t && have_schemas ms
-
-abbrev pub fits : Form → Tree → Bool
-fits f w = has_form f w (is_schema w) (is_schema_list w) (is_schema_map w)
-
--- No place, and what was asked is so; or a place, and it is not.
-abbrev pub Refuses : Bool → Result (Option Pointer) AllocError → Type 0
-Refuses is (Ok None) = is ≡ true
-Refuses is (Ok (Some p)) = is ≡ false
-Refuses is (Err e) = Unit {0}

@@ -1,7 +1,10 @@
 pub mod Applied
+pub mod Circles
 pub mod Forms
 pub mod Keywords
 pub mod Names
 pub mod Parts
 pub mod Places
+pub mod References
+pub mod Schemas
 pub mod Valid

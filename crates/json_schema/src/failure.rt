@@ -2,6 +2,7 @@
 ghost use Rattle.std.specs.Prelude.{None};
 
 use crate::shown::Shown;
+use crate::walk::CheckError;
 use std::alloc::AllocError;
 use std::fmt::{self, Write};
 use std::io::{self, ErrorKind};
@@ -22,6 +23,8 @@ pub enum Failure {
     Input(io::Error),
     /// The input is no JSON text.
     Text(JsonParseError),
+    /// The value goes through more schemas in one another than the limit.
+    TooDeep,
     /// Memory ran out while the arguments or the texts were read.
     Memory(io::Error),
     /// Memory ran out in the check.
@@ -36,13 +39,22 @@ impl From<AllocError> for Failure {
     }
 }
 
+impl From<CheckError> for Failure {
+    fn from(error: CheckError) -> Failure {
+        match error {
+            CheckError::TooDeep => Failure::TooDeep,
+            CheckError::OutOfMemory => Failure::OutOfMemory,
+        }
+    }
+}
+
 impl Failure {
     /// The status with which the program ends.
     pub fn status(&self) -> u8 {
         match self {
             Failure::Arguments | Failure::SchemaFile(_) => 2,
             Failure::SchemaText(_) | Failure::Refused(_) => 2,
-            Failure::Text(_) => 3,
+            Failure::Text(_) | Failure::TooDeep => 3,
             Failure::Input(error) if error.kind() == ErrorKind::InvalidData => 3,
             Failure::Input(_) | Failure::Memory(_) => 4,
             Failure::OutOfMemory | Failure::Writing(_) => 4,
@@ -68,6 +80,7 @@ impl fmt::Display for Failure {
             }
             Failure::Text(error) => write!(f, "{error}"),
             Failure::Input(error) | Failure::Memory(error) => write!(f, "{error}"),
+            Failure::TooDeep => f.write_str("too many schemas are applied in one another"),
             Failure::OutOfMemory => f.write_str("out of memory"),
             Failure::Writing(error) => write!(f, "{error}"),
         }

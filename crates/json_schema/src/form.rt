@@ -28,6 +28,10 @@ pub enum Form {
     Schemas,
     /// An object whose members are schemas.
     SchemaMap,
+    /// A string, in the whole schema alone: in another it would change what references lead to.
+    Base,
+    /// A reference to a schema in the whole schema.
+    Reference,
     /// The keyword can't be applied, whatever its value.
     Refused,
 }
@@ -47,16 +51,16 @@ fn form_of(keyword: Keyword) -> Form
 {
     match keyword {
         Keyword::Schema => Form::Dialect,
-        Keyword::Id
-        | Keyword::Comment
+        Keyword::Id => Form::Base,
+        Keyword::Ref => Form::Reference,
+        Keyword::Comment
         | Keyword::Format
         | Keyword::ContentEncoding
         | Keyword::ContentMediaType
         | Keyword::Title
         | Keyword::Description => Form::Text,
         Keyword::Defs | Keyword::Properties | Keyword::DependentSchemas => Form::SchemaMap,
-        Keyword::Ref
-        | Keyword::Anchor
+        Keyword::Anchor
         | Keyword::DynamicRef
         | Keyword::DynamicAnchor
         | Keyword::Vocabulary

@@ -9,16 +9,19 @@
 
 mod applied;
 mod assertions;
+mod circles;
 mod contains;
 mod failure;
 mod form;
 mod keyword;
 mod part;
+mod reference;
 mod refused;
 mod report;
 mod shown;
 mod validate;
 mod violation;
+mod walk;
 
 use failure::{Failure, input_error, schema_file_error, schema_text_error, text_error};
 use refused::refused_place;
@@ -33,6 +36,9 @@ use validate::find_violation;
 
 /// How many containers of a schema or a value may be open at once: the check takes stack as they are deep.
 const DEPTH_LIMIT: usize = 100;
+
+/// How many schemas may be applied in one another: so many take less than 256 KB of stack.
+const STEP_LIMIT: usize = 300;
 
 fn main(rt: HostRuntime) -> ExitCode {
     match check(&rt) {
@@ -55,7 +61,7 @@ fn check(rt: &(impl Env + Files + Input + Print + AllocGlobal)) -> Result<bool, 
     let value = JsonValue::from_str_with_depth_limit(alloc, text.as_str(), DEPTH_LIMIT).map_err(
         text_error,
     )?;
-    let Some(violation) = find_violation(&value, &schema, alloc)? else {
+    let Some(violation) = find_violation(&value, &schema, STEP_LIMIT, alloc)? else {
         return Ok(true);
     };
     let mut output = BufWriter::new(alloc, io::writer(rt)).map_err(Failure::Memory)?;

@@ -1,33 +1,47 @@
 //! Which schemas can be applied, and the place of what can't.
-ghost use Rattle.std.specs.Prelude.{◌≡◌, IfOk};
+ghost use Rattle.std.specs.Prelude.{◌≡◌, IfOk, true};
 ghost use Rattle.tinyjson.specs.Access.{is_string, is_boolean, is_array, is_number};
 ghost use Rattle.tinyjson.specs.View.{view, items_view, members_listed};
-ghost use Rattle.json_schema.specs.Forms.{Refuses, is_schema, keywords_fit, fits, is_schema_list};
-ghost use Rattle.json_schema.specs.Forms.{is_schema_map, are_schemas, have_schemas};
 ghost use Rattle.json_schema.specs.Forms.{is_count, is_type_name, are_type_names};
 ghost use Rattle.json_schema.specs.Forms.{are_types, are_keys, is_key_list, have_key_lists, is_key_map};
 ghost use Rattle.json_schema.specs.Forms.{is_dialect, is_name_of_type, is_type_list, is_some_item};
+ghost use Rattle.json_schema.specs.Schemas.{Refuses, is_schema, keywords_fit, fits};
+ghost use Rattle.json_schema.specs.Schemas.{is_schema_list, is_schema_map, are_schemas};
+ghost use Rattle.json_schema.specs.Schemas.{have_schemas};
 
 use crate::assertions::is_among;
+use crate::circles::leads;
 use crate::form::{Form, form_at};
 use json_pointer::Pointer;
 use std::alloc::{AllocError, Global};
 use tinyjson::{JsonValue, sorted_members};
 
 /// The place of what can't be applied in a schema: a keyword that is not supported or whose value has another form
-/// than the standard's, or a schema that is neither an object nor a truth value. `None` says that the schema can be
-/// applied. The only error is out of memory.
+/// than the standard's, a reference that leads to no schema in it, or in a circle, or a schema that is neither an object nor a truth
+/// value. `None` says that the schema can be applied. The only error is out of memory.
 ///
 /// It calls itself for each schema in the schema, so it takes stack as the schema is deep.
-#[cycle(refused)]
 pub fn refused_place(schema: &JsonValue, alloc: Global) -> Result<Option<Pointer>, AllocError>
-    ensures { Refuses (is_schema (view schema.now)) result }
+    ensures { Refuses (is_schema (view schema.now) true (view schema.now)) result }
+{
+    refused_in(schema, schema, true, alloc)
+}
+
+/// The same of a schema in the whole one, or of the whole one.
+#[cycle(refused)]
+fn refused_in(
+    schema: &JsonValue,
+    root: &JsonValue,
+    is_whole: bool,
+    alloc: Global,
+) -> Result<Option<Pointer>, AllocError>
+    ensures { Refuses (is_schema (view root.now) is_whole (view schema.now)) result }
 {
     match schema {
         JsonValue::Boolean(_) => Ok(None),
         JsonValue::Object(keywords) => {
             let sorted = sorted_members(alloc, keywords)?;
-            refused_keyword(sorted.as_slice(), alloc)
+            refused_keyword(sorted.as_slice(), root, is_whole, alloc)
         }
         _ => Ok(Some(Pointer::root(alloc))),
     }
@@ -36,12 +50,15 @@ pub fn refused_place(schema: &JsonValue, alloc: Global) -> Result<Option<Pointer
 #[cycle(refused)]
 fn refused_keyword(
     keywords: &[(&String, &JsonValue)],
+    root: &JsonValue,
+    is_whole: bool,
     alloc: Global,
 ) -> Result<Option<Pointer>, AllocError>
-    ensures { Refuses (keywords_fit (members_listed keywords.now)) result }
+    ensures { Refuses (keywords_fit (view root.now) is_whole (members_listed keywords.now))
+        result }
 {
     for (name, operand) in keywords {
-        if let Some(mut place) = misfit(form_at(name.as_str()), operand, alloc)? {
+        if let Some(mut place) = misfit(form_at(name.as_str()), operand, root, is_whole, alloc)? {
             place.prepend(String::from_str(alloc, name.as_str())?)?;
             return Ok(Some(place));
         }
@@ -51,8 +68,14 @@ fn refused_keyword(
 
 /// The place in a keyword's value of what has another form.
 #[cycle(refused)]
-fn misfit(form: Form, operand: &JsonValue, alloc: Global) -> Result<Option<Pointer>, AllocError>
-    ensures { Refuses (fits form (view operand.now)) result }
+fn misfit(
+    form: Form,
+    operand: &JsonValue,
+    root: &JsonValue,
+    is_whole: bool,
+    alloc: Global,
+) -> Result<Option<Pointer>, AllocError>
+    ensures { Refuses (fits (view root.now) is_whole form (view operand.now)) result }
 {
     match form {
         Form::Anything => Ok(None),
@@ -65,16 +88,22 @@ fn misfit(form: Form, operand: &JsonValue, alloc: Global) -> Result<Option<Point
         Form::Keys => unless(is_key_list(operand), alloc),
         Form::KeyLists => unless(is_key_map(operand, alloc)?, alloc),
         Form::Dialect => unless(is_dialect(operand), alloc),
-        Form::Schema => refused_place(operand, alloc),
-        Form::Schemas => refused_in_list(operand, alloc),
-        Form::SchemaMap => refused_in_map(operand, alloc),
+        Form::Schema => refused_in(operand, root, false, alloc),
+        Form::Schemas => refused_in_list(operand, root, alloc),
+        Form::SchemaMap => refused_in_map(operand, root, alloc),
+        Form::Base => unless(is_whole && is_string(operand), alloc),
+        Form::Reference => unless(leads(operand, root, alloc)?, alloc),
         Form::Refused => unless(false, alloc),
     }
 }
 
 #[cycle(refused)]
-fn refused_in_list(schemas: &JsonValue, alloc: Global) -> Result<Option<Pointer>, AllocError>
-    ensures { Refuses (is_schema_list (view schemas.now)) result }
+fn refused_in_list(
+    schemas: &JsonValue,
+    root: &JsonValue,
+    alloc: Global,
+) -> Result<Option<Pointer>, AllocError>
+    ensures { Refuses (is_schema_list (view root.now) (view schemas.now)) result }
 {
     let JsonValue::Array(schemas) = schemas else {
         return Ok(Some(Pointer::root(alloc)));
@@ -83,15 +112,19 @@ fn refused_in_list(schemas: &JsonValue, alloc: Global) -> Result<Option<Pointer>
     if !is_some_item(schemas) {
         return Ok(Some(Pointer::root(alloc)));
     }
-    refused_item(schemas, alloc)
+    refused_item(schemas, root, alloc)
 }
 
 #[cycle(refused)]
-fn refused_item(schemas: &[JsonValue], alloc: Global) -> Result<Option<Pointer>, AllocError>
-    ensures { Refuses (are_schemas (items_view schemas.now)) result }
+fn refused_item(
+    schemas: &[JsonValue],
+    root: &JsonValue,
+    alloc: Global,
+) -> Result<Option<Pointer>, AllocError>
+    ensures { Refuses (are_schemas (view root.now) (items_view schemas.now)) result }
 {
     for (index, schema) in schemas.iter().enumerate() {
-        if let Some(mut place) = refused_place(schema, alloc)? {
+        if let Some(mut place) = refused_in(schema, root, false, alloc)? {
             place.prepend_index(alloc, index)?;
             return Ok(Some(place));
         }
@@ -100,25 +133,30 @@ fn refused_item(schemas: &[JsonValue], alloc: Global) -> Result<Option<Pointer>,
 }
 
 #[cycle(refused)]
-fn refused_in_map(schemas: &JsonValue, alloc: Global) -> Result<Option<Pointer>, AllocError>
-    ensures { Refuses (is_schema_map (view schemas.now)) result }
+fn refused_in_map(
+    schemas: &JsonValue,
+    root: &JsonValue,
+    alloc: Global,
+) -> Result<Option<Pointer>, AllocError>
+    ensures { Refuses (is_schema_map (view root.now) (view schemas.now)) result }
 {
     let JsonValue::Object(schemas) = schemas else {
         return Ok(Some(Pointer::root(alloc)));
     };
     let sorted = sorted_members(alloc, schemas)?;
-    refused_member(sorted.as_slice(), alloc)
+    refused_member(sorted.as_slice(), root, alloc)
 }
 
 #[cycle(refused)]
 fn refused_member(
     schemas: &[(&String, &JsonValue)],
+    root: &JsonValue,
     alloc: Global,
 ) -> Result<Option<Pointer>, AllocError>
-    ensures { Refuses (have_schemas (members_listed schemas.now)) result }
+    ensures { Refuses (have_schemas (view root.now) (members_listed schemas.now)) result }
 {
     for (key, schema) in schemas {
-        if let Some(mut place) = refused_place(schema, alloc)? {
+        if let Some(mut place) = refused_in(schema, root, false, alloc)? {
             place.prepend(String::from_str(alloc, key.as_str())?)?;
             return Ok(Some(place));
         }

@@ -7,7 +7,8 @@ ghost use Rattle.json_schema.specs.Applied.{any_of, some_accepts, one_of, accept
 ghost use Rattle.json_schema.specs.Applied.{keys_pass, passing, contained, tests, counts};
 ghost use Rattle.json_schema.specs.Applied.{all_accept, dependents_accept, members_accepted};
 ghost use Rattle.json_schema.specs.Applied.{items_accepted, parts_accepted, schemas_at};
-ghost use Rattle.json_schema.specs.Valid.{refuses_all, is_valid, Validates, Finds, IsUnapplied};
+ghost use Rattle.json_schema.specs.Valid.{refuses_all, says, reference_accepts, Validates};
+ghost use Rattle.json_schema.specs.Valid.{Judges, Finds, IsUnapplied};
 ghost use Rattle.json_schema.specs.declared.keyword.Keyword.TheVariants as kw;
 
 use crate::applied::{
@@ -17,46 +18,70 @@ use crate::assertions::unmet;
 use crate::contains::{contains_at_least, contains_at_most, contains_some};
 use crate::keyword::Keyword;
 use crate::part::{item_part, member_part};
+use crate::reference::referenced;
 use crate::refused::is_some_item;
 use crate::violation::Violation;
-use std::alloc::{AllocError, Global};
+use crate::walk::{CheckError, Walk};
+use std::alloc::Global;
 use tinyjson::{JsonValue, sorted_members};
 
-/// What the value does not meet of the schema, if there is something; `None` says that the value is valid.
-/// The only error is out of memory.
+/// What the value does not meet of the schema, if there is something; `None` says that the value is valid. So many
+/// schemas may be applied in one another, by keywords and by references; where more would be, it returns `TooDeep`. The
+/// other error is out of memory.
 ///
-/// It calls itself for each schema that the schema applies, so it takes stack as the schema is deep.
+/// It calls itself for each schema that a schema applies, so it takes stack as these are applied in one another.
 ///
 /// ```
-/// let violation = find_violation(&value, &schema, alloc)?;
+/// let violation = find_violation(&value, &schema, 500, alloc)?;
 /// ```
-#[cycle(validate)]
 pub fn find_violation(
     value: &JsonValue,
     schema: &JsonValue,
+    steps: usize,
     alloc: Global,
-) -> Result<Option<Violation>, AllocError>
-    ensures { Validates (view schema.now) (view value.now) result }
+) -> Result<Option<Violation>, CheckError>
+    ensures { Validates steps (view schema.now) (view value.now) result }
 {
+    let walk = Walk {
+        root: schema,
+        steps,
+    };
+    violation_in(value, schema, walk, alloc)
+}
+
+/// The same of a schema in the whole one.
+#[cycle(validate)]
+fn violation_in(
+    value: &JsonValue,
+    schema: &JsonValue,
+    walk: Walk<'_>,
+    alloc: Global,
+) -> Result<Option<Violation>, CheckError>
+    ensures { Judges walk.entry (view schema.now) (view value.now) result }
+{
+    let inner = walk.deeper()?;
     if refuses_all(schema) {
         return Ok(Some(Violation::of_schema(alloc)));
     }
     if let Some(keyword) = unmet(schema, value, alloc)? {
         return Ok(Some(Violation::of_keyword(alloc, keyword)?));
     }
-    if let Some(keyword) = unmet_test(value, schema, alloc)? {
+    if let Some(keyword) = unmet_test(value, schema, inner, alloc)? {
         return Ok(Some(Violation::of_keyword(alloc, keyword)?));
     }
-    if let Some(found) = in_all_of(value, schema, alloc)? {
+    if let Some(found) = in_all_of(value, schema, inner, alloc)? {
         return Ok(Some(found));
     }
-    if let Some(found) = in_branch(value, schema, alloc)? {
+    if let Some(found) = in_branch(value, schema, inner, alloc)? {
         return Ok(Some(found));
     }
-    if let Some(found) = in_dependents(value, schema, alloc)? {
+    if let Some(found) = in_dependents(value, schema, inner, alloc)? {
         return Ok(Some(found));
     }
-    in_parts(value, schema, alloc)
+    if let Some(found) = in_reference(value, schema, inner, alloc)? {
+        return Ok(Some(found));
+    }
+    in_parts(value, schema, inner, alloc)
 }
 
 /// Whether it is the schema `false`.
@@ -71,10 +96,15 @@ fn refuses_all(schema: &JsonValue) -> bool
 
 /// Whether the schema accepts the value.
 #[cycle(validate)]
-fn is_accepted(value: &JsonValue, schema: &JsonValue, alloc: Global) -> Result<bool, AllocError>
-    ensures { IfOk result (λ is. is ≡ is_valid (view schema.now) (view value.now)) }
+fn is_accepted(
+    value: &JsonValue,
+    schema: &JsonValue,
+    walk: Walk<'_>,
+    alloc: Global,
+) -> Result<bool, CheckError>
+    ensures { IfOk result (λ is. is ≡ says walk.entry (view schema.now) (view value.now)) }
 {
-    let found = find_violation(value, schema, alloc)?;
+    let found = violation_in(value, schema, walk, alloc)?;
     Ok(is_nothing(&found))
 }
 
@@ -92,28 +122,29 @@ fn is_nothing(found: &Option<Violation>) -> bool
 fn unmet_test(
     value: &JsonValue,
     schema: &JsonValue,
+    walk: Walk<'_>,
     alloc: Global,
-) -> Result<Option<Keyword>, AllocError>
+) -> Result<Option<Keyword>, CheckError>
     ensures { IfOk result
-        (λ found. IsUnapplied tests (view schema.now) (view value.now) found) }
+        (λ found. IsUnapplied (says walk.entry) tests (view schema.now) (view value.now) found) }
 {
-    let any = is_any_met(value, schemas_at(schema, Keyword::AnyOf), alloc)?;
+    let any = is_any_met(value, schemas_at(schema, Keyword::AnyOf), walk, alloc)?;
     if !any {
         return Ok(Some(Keyword::AnyOf));
     }
-    let one = is_one_met(value, schemas_at(schema, Keyword::OneOf), alloc)?;
+    let one = is_one_met(value, schemas_at(schema, Keyword::OneOf), walk, alloc)?;
     if !one {
         return Ok(Some(Keyword::OneOf));
     }
-    let other = is_not_met(value, schema, alloc)?;
+    let other = is_not_met(value, schema, walk, alloc)?;
     if !other {
         return Ok(Some(Keyword::Not));
     }
-    let names = are_names_met(value, schema, alloc)?;
+    let names = are_names_met(value, schema, walk, alloc)?;
     if !names {
         return Ok(Some(Keyword::PropertyNames));
     }
-    unmet_count(value, schema, alloc)
+    unmet_count(value, schema, walk, alloc)
 }
 
 /// A keyword that the value does not meet by how many items the schema of `contains` accepts.
@@ -121,12 +152,13 @@ fn unmet_test(
 fn unmet_count(
     value: &JsonValue,
     schema: &JsonValue,
+    walk: Walk<'_>,
     alloc: Global,
-) -> Result<Option<Keyword>, AllocError>
+) -> Result<Option<Keyword>, CheckError>
     ensures { IfOk result
-        (λ found. IsUnapplied counts (view schema.now) (view value.now) found) }
+        (λ found. IsUnapplied (says walk.entry) counts (view schema.now) (view value.now) found) }
 {
-    let count = contained(value, schema, alloc)?;
+    let count = contained(value, schema, walk, alloc)?;
     let some = contains_some(count, schema);
     if !some {
         return Ok(Some(Keyword::Contains));
@@ -144,24 +176,34 @@ fn unmet_count(
 
 /// Whether some schema of the list accepts the value, or there is none in it.
 #[cycle(validate)]
-fn is_any_met(value: &JsonValue, schemas: &[JsonValue], alloc: Global) -> Result<bool, AllocError>
+fn is_any_met(
+    value: &JsonValue,
+    schemas: &[JsonValue],
+    walk: Walk<'_>,
+    alloc: Global,
+) -> Result<bool, CheckError>
     ensures { IfOk result
-        (λ is. is ≡ any_of is_valid (items_view schemas.now) (view value.now)) }
+        (λ is. is ≡ any_of (says walk.entry) (items_view schemas.now) (view value.now)) }
 {
     if !is_some_item(schemas) {
         return Ok(true);
     }
-    let accepted = is_some_met(value, schemas, alloc)?;
+    let accepted = is_some_met(value, schemas, walk, alloc)?;
     Ok(accepted)
 }
 
 #[cycle(validate)]
-fn is_some_met(value: &JsonValue, schemas: &[JsonValue], alloc: Global) -> Result<bool, AllocError>
+fn is_some_met(
+    value: &JsonValue,
+    schemas: &[JsonValue],
+    walk: Walk<'_>,
+    alloc: Global,
+) -> Result<bool, CheckError>
     ensures { IfOk result
-        (λ is. is ≡ some_accepts is_valid (items_view schemas.now) (view value.now)) }
+        (λ is. is ≡ some_accepts (says walk.entry) (items_view schemas.now) (view value.now)) }
 {
     for schema in schemas {
-        let accepted = is_accepted(value, schema, alloc)?;
+        let accepted = is_accepted(value, schema, walk, alloc)?;
         if accepted {
             return Ok(true);
         }
@@ -171,14 +213,19 @@ fn is_some_met(value: &JsonValue, schemas: &[JsonValue], alloc: Global) -> Resul
 
 /// Whether exactly one schema of the list accepts the value, or there is none in it.
 #[cycle(validate)]
-fn is_one_met(value: &JsonValue, schemas: &[JsonValue], alloc: Global) -> Result<bool, AllocError>
+fn is_one_met(
+    value: &JsonValue,
+    schemas: &[JsonValue],
+    walk: Walk<'_>,
+    alloc: Global,
+) -> Result<bool, CheckError>
     ensures { IfOk result
-        (λ is. is ≡ one_of is_valid (items_view schemas.now) (view value.now)) }
+        (λ is. is ≡ one_of (says walk.entry) (items_view schemas.now) (view value.now)) }
 {
     if !is_some_item(schemas) {
         return Ok(true);
     }
-    let count = count_accepting(value, schemas, alloc)?;
+    let count = count_accepting(value, schemas, walk, alloc)?;
     Ok(count == 1)
 }
 
@@ -187,14 +234,15 @@ fn is_one_met(value: &JsonValue, schemas: &[JsonValue], alloc: Global) -> Result
 fn count_accepting(
     value: &JsonValue,
     schemas: &[JsonValue],
+    walk: Walk<'_>,
     alloc: Global,
-) -> Result<usize, AllocError>
+) -> Result<usize, CheckError>
     ensures { IfOk result
-        (λ count. count ≡ accepting is_valid (items_view schemas.now) (view value.now)) }
+        (λ count. count ≡ accepting (says walk.entry) (items_view schemas.now) (view value.now)) }
 {
     let mut count = 0;
     for schema in schemas {
-        let accepted = is_accepted(value, schema, alloc)?;
+        let accepted = is_accepted(value, schema, walk, alloc)?;
         if accepted {
             count += 1;
         }
@@ -204,13 +252,18 @@ fn count_accepting(
 
 /// Whether the schema of `not` does not accept the value.
 #[cycle(validate)]
-fn is_not_met(value: &JsonValue, schema: &JsonValue, alloc: Global) -> Result<bool, AllocError>
+fn is_not_met(
+    value: &JsonValue,
+    schema: &JsonValue,
+    walk: Walk<'_>,
+    alloc: Global,
+) -> Result<bool, CheckError>
     ensures { IfOk result
-        (λ is. is ≡ applies is_valid kw.Not (view schema.now) (view value.now)) }
+        (λ is. is ≡ applies (says walk.entry) kw.Not (view schema.now) (view value.now)) }
 {
     match schema_at(schema, Keyword::Not) {
         Some(part) => {
-            let accepted = is_accepted(value, part, alloc)?;
+            let accepted = is_accepted(value, part, walk, alloc)?;
             Ok(!accepted)
         }
         None => Ok(true),
@@ -219,14 +272,19 @@ fn is_not_met(value: &JsonValue, schema: &JsonValue, alloc: Global) -> Result<bo
 
 /// Whether the schema of `propertyNames` accepts each key.
 #[cycle(validate)]
-fn are_names_met(value: &JsonValue, schema: &JsonValue, alloc: Global) -> Result<bool, AllocError>
+fn are_names_met(
+    value: &JsonValue,
+    schema: &JsonValue,
+    walk: Walk<'_>,
+    alloc: Global,
+) -> Result<bool, CheckError>
     ensures { IfOk result
-        (λ is. is ≡ applies is_valid kw.PropertyNames (view schema.now) (view value.now)) }
+        (λ is. is ≡ applies (says walk.entry) kw.PropertyNames (view schema.now) (view value.now)) }
 {
     match schema_at(schema, Keyword::PropertyNames) {
         Some(part) => {
             let members = listed_members(value, alloc)?;
-            let accepted = are_keys_met(members.as_slice(), part, alloc)?;
+            let accepted = are_keys_met(members.as_slice(), part, walk, alloc)?;
             Ok(accepted)
         }
         None => Ok(true),
@@ -237,14 +295,15 @@ fn are_names_met(value: &JsonValue, schema: &JsonValue, alloc: Global) -> Result
 fn are_keys_met(
     members: &[(&String, &JsonValue)],
     schema: &JsonValue,
+    walk: Walk<'_>,
     alloc: Global,
-) -> Result<bool, AllocError>
+) -> Result<bool, CheckError>
     ensures { IfOk result
-        (λ is. is ≡ keys_pass (is_valid (view schema.now)) (members_listed members.now)) }
+        (λ is. is ≡ keys_pass (says walk.entry (view schema.now)) (members_listed members.now)) }
 {
     for (key, _) in members {
         let name = name_of(key, alloc)?;
-        let accepted = is_accepted(&name, schema, alloc)?;
+        let accepted = is_accepted(&name, schema, walk, alloc)?;
         if !accepted {
             return Ok(false);
         }
@@ -257,17 +316,18 @@ fn are_keys_met(
 fn contained(
     value: &JsonValue,
     schema: &JsonValue,
+    walk: Walk<'_>,
     alloc: Global,
-) -> Result<Option<usize>, AllocError>
+) -> Result<Option<usize>, CheckError>
     ensures { IfOk result
-        (λ count. count ≡ contained is_valid (view schema.now) (view value.now)) }
+        (λ count. count ≡ contained (says walk.entry) (view schema.now) (view value.now)) }
 {
     let Some(part) = schema_at(schema, Keyword::Contains) else {
         return Ok(None);
     };
     match value {
         JsonValue::Array(items) => {
-            let count = count_passing(items.as_slice(), part, alloc)?;
+            let count = count_passing(items.as_slice(), part, walk, alloc)?;
             Ok(Some(count))
         }
         _ => Ok(None),
@@ -278,14 +338,15 @@ fn contained(
 fn count_passing(
     items: &[JsonValue],
     schema: &JsonValue,
+    walk: Walk<'_>,
     alloc: Global,
-) -> Result<usize, AllocError>
+) -> Result<usize, CheckError>
     ensures { IfOk result
-        (λ count. count ≡ passing (is_valid (view schema.now)) (items_view items.now)) }
+        (λ count. count ≡ passing (says walk.entry (view schema.now)) (items_view items.now)) }
 {
     let mut count = 0;
     for item in items {
-        let accepted = is_accepted(item, schema, alloc)?;
+        let accepted = is_accepted(item, schema, walk, alloc)?;
         if accepted {
             count += 1;
         }
@@ -298,14 +359,16 @@ fn count_passing(
 fn in_all_of(
     value: &JsonValue,
     schema: &JsonValue,
+    walk: Walk<'_>,
     alloc: Global,
-) -> Result<Option<Violation>, AllocError>
-    ensures { Finds (applies is_valid kw.AllOf (view schema.now) (view value.now))
+) -> Result<Option<Violation>, CheckError>
+    ensures { Finds walk.entry
+        (applies (says walk.entry) kw.AllOf (view schema.now) (view value.now))
         (view schema.now) (view value.now) result }
 {
     let parts = schemas_at(schema, Keyword::AllOf);
     for (index, part) in parts.iter().enumerate() {
-        if let Some(mut found) = find_violation(value, part, alloc)? {
+        if let Some(mut found) = violation_in(value, part, walk, alloc)? {
             found.enter_listed(alloc, Keyword::AllOf, index)?;
             return Ok(Some(found));
         }
@@ -318,20 +381,21 @@ fn in_all_of(
 fn in_branch(
     value: &JsonValue,
     schema: &JsonValue,
+    walk: Walk<'_>,
     alloc: Global,
-) -> Result<Option<Violation>, AllocError>
-    ensures { Finds (applies is_valid kw.If (view schema.now) (view value.now))
+) -> Result<Option<Violation>, CheckError>
+    ensures { Finds walk.entry (applies (says walk.entry) kw.If (view schema.now) (view value.now))
         (view schema.now) (view value.now) result }
 {
     let Some(test) = schema_at(schema, Keyword::If) else {
         return Ok(None);
     };
-    let accepted = is_accepted(value, test, alloc)?;
+    let accepted = is_accepted(value, test, walk, alloc)?;
     let chosen = branch(accepted);
     let Some(part) = schema_at(schema, chosen) else {
         return Ok(None);
     };
-    let Some(mut found) = find_violation(value, part, alloc)? else {
+    let Some(mut found) = violation_in(value, part, walk, alloc)? else {
         return Ok(None);
     };
     found.enter_keyword(alloc, chosen)?;
@@ -343,16 +407,18 @@ fn in_branch(
 fn in_dependents(
     value: &JsonValue,
     schema: &JsonValue,
+    walk: Walk<'_>,
     alloc: Global,
-) -> Result<Option<Violation>, AllocError>
-    ensures { Finds (applies is_valid kw.DependentSchemas (view schema.now) (view value.now))
+) -> Result<Option<Violation>, CheckError>
+    ensures { Finds walk.entry
+        (applies (says walk.entry) kw.DependentSchemas (view schema.now) (view value.now))
         (view schema.now) (view value.now) result }
 {
     let listed = schema_map_at(schema, Keyword::DependentSchemas, alloc)?;
     let dependents = listed.as_slice();
     for (key, part) in dependents {
         if has_key(value, key.as_str()) {
-            if let Some(mut found) = find_violation(value, part, alloc)? {
+            if let Some(mut found) = violation_in(value, part, walk, alloc)? {
                 found.enter_keyed(alloc, Keyword::DependentSchemas, key.as_str())?;
                 return Ok(Some(found));
             }
@@ -361,22 +427,46 @@ fn in_dependents(
     Ok(None)
 }
 
+/// What the value does not meet of the schema that `$ref` leads to.
+#[cycle(validate)]
+fn in_reference(
+    value: &JsonValue,
+    schema: &JsonValue,
+    walk: Walk<'_>,
+    alloc: Global,
+) -> Result<Option<Violation>, CheckError>
+    ensures { Finds walk.entry
+        (reference_accepts (view walk.entry.root.now) (says walk.entry) (view schema.now)
+        (view value.now))
+        (view schema.now) (view value.now) result }
+{
+    let Some(part) = referenced(walk.root, schema, alloc)? else {
+        return Ok(None);
+    };
+    let Some(mut found) = violation_in(value, part, walk, alloc)? else {
+        return Ok(None);
+    };
+    found.enter_keyword(alloc, Keyword::Ref)?;
+    Ok(Some(found))
+}
+
 /// What a member or an item does not meet of the schema that there is for it.
 #[cycle(validate)]
 fn in_parts(
     value: &JsonValue,
     schema: &JsonValue,
+    walk: Walk<'_>,
     alloc: Global,
-) -> Result<Option<Violation>, AllocError>
-    ensures { Finds (parts_accepted is_valid (view schema.now) (view value.now))
+) -> Result<Option<Violation>, CheckError>
+    ensures { Finds walk.entry (parts_accepted (says walk.entry) (view schema.now) (view value.now))
         (view schema.now) (view value.now) result }
 {
     match value {
         JsonValue::Object(members) => {
             let sorted = sorted_members(alloc, members)?;
-            in_members(sorted.as_slice(), schema, alloc)
+            in_members(sorted.as_slice(), schema, walk, alloc)
         }
-        JsonValue::Array(items) => in_items(items.as_slice(), schema, alloc),
+        JsonValue::Array(items) => in_items(items.as_slice(), schema, walk, alloc),
         _ => Ok(None),
     }
 }
@@ -385,15 +475,17 @@ fn in_parts(
 fn in_members(
     members: &[(&String, &JsonValue)],
     schema: &JsonValue,
+    walk: Walk<'_>,
     alloc: Global,
-) -> Result<Option<Violation>, AllocError>
+) -> Result<Option<Violation>, CheckError>
     requires { IsSorted (members_listed members.now) }
-    ensures { Finds (members_accepted is_valid (view schema.now) (members_listed members.now))
+    ensures { Finds walk.entry
+        (members_accepted (says walk.entry) (view schema.now) (members_listed members.now))
         (view schema.now) (object (members_listed members.now)) result }
 {
     for (key, member) in members {
         if let Some(part) = member_part(schema, key.as_str()) {
-            if let Some(mut found) = find_violation(member, part.schema, alloc)? {
+            if let Some(mut found) = violation_in(member, part.schema, walk, alloc)? {
                 found.enter_member(alloc, part.applicator, key.as_str())?;
                 return Ok(Some(found));
             }
@@ -406,14 +498,16 @@ fn in_members(
 fn in_items(
     items: &[JsonValue],
     schema: &JsonValue,
+    walk: Walk<'_>,
     alloc: Global,
-) -> Result<Option<Violation>, AllocError>
-    ensures { Finds (items_accepted is_valid (view schema.now) 0 (items_view items.now))
+) -> Result<Option<Violation>, CheckError>
+    ensures { Finds walk.entry
+        (items_accepted (says walk.entry) (view schema.now) 0 (items_view items.now))
         (view schema.now) (array (items_view items.now)) result }
 {
     for (index, item) in items.iter().enumerate() {
         if let Some(part) = item_part(schema, index) {
-            if let Some(mut found) = find_violation(item, part.schema, alloc)? {
+            if let Some(mut found) = violation_in(item, part.schema, walk, alloc)? {
                 found.enter_item(alloc, part.applicator, index)?;
                 return Ok(Some(found));
             }

@@ -1,12 +1,12 @@
 use Rattle.std.proofs.Common.{◌≡◌, ◌<◌, ◌+◌, ◌*◌, ◌∙◌, ◌∷◌, ◌&&◌, ◌||◌, Bool, true, false, not, Ok}
-use Rattle.std.proofs.Common.{Some, None, drop, is_some, arith, rules, refl}
+use Rattle.std.proofs.Common.{Some, None, drop, is_some, option_map, suc, arith, rules, refl}
 use Rattle.std.proofs.Common.{sym, ap, subst}
 use Rattle.std.specs.Option.{option_map_or}
 use Rattle.std.specs.Prelude.{option_and_then}
 use Rattle.std.specs.Str.{chars}
 use Rattle.tinyjson.proofs.Callers.{view_Object, view_Array}
 use Rattle.tinyjson.specs.Index.{nth, tree_at_key}
-use Rattle.tinyjson.specs.Tree.{object, array, find, tree_depth}
+use Rattle.tinyjson.specs.Tree.{object, array, find}
 use Rattle.tinyjson.specs.View.{view, text, items_view, members_listed}
 use Rattle.tinyjson_grammar.specs.Soundness.{IsSorted}
 use Rattle.json_pointer.specs.Index.{index_of}
@@ -18,207 +18,150 @@ use Rattle.json_schema.specs.Keywords.{IsUnmet}
 use Rattle.json_schema.specs.Names.{name}
 use Rattle.json_schema.specs.Parts.{item_schema}
 use Rattle.json_schema.specs.Places.{IsMemberPart, IsUnderKey, Enters, place}
-use Rattle.json_schema.specs.Valid.{is_valid, Validates, Finds, IsUnapplied, refused, unmet, not_applied, in_all_of, in_dependent, in_part}
+use Rattle.json_schema.specs.Valid.{says, reference_accepts, Judges, Finds, IsUnapplied, refused, unmet, not_applied, in_all_of}
+use Rattle.json_schema.specs.Valid.{in_dependent, in_reference, in_part}
 use Rattle.json_schema.specs.declared.keyword.Keyword.TheVariants as kw
-use Rattle.json_schema.proofs.Depths.{list_size, map_size, schemas_less_deep, schema_map_less_deep, below_list_size, below_map_size}
-use Rattle.json_schema.proofs.Judges.{key_less_deep, member_schema_less_deep, item_schema_less_deep}
 use Rattle.json_schema.proofs.Listed.{listed_found, listed_sorted}
 use Rattle.json_schema.proofs.Loops.{items_turn, items_end, item_passes, item_free, members_turn, member_passes, member_free}
 use Rattle.json_schema.proofs.Loops.{dependents_turn, dependent_passes, dependent_free, no_parts}
 use Rattle.json_schema.proofs.Turns.{turn_next, turn_end, nth_item}
-use Rattle.json_schema.proofs.Validity.{reported, found, verdict, placed, last_tested, last_found, no_branch, branch_met, branch_place}
+use Rattle.json_schema.proofs.Validity.{reported, found, verdict, placed, last_tested, last_found, before, no_branch, branch_met, branch_place}
+use Rattle.json_schema.proofs.Validity.{reference_met, no_reference}
 use Rattle.json_schema.proofs.validate.+validate.Goals.{in_dependents-then-has_key+in_ok-found+in_default, in_dependents-else-has_key}
 use Rattle.json_schema.proofs.validate.+validate.Goals.{in_members-in-Some+in_ok-found+in_default-2, in_members-in_default}
 use Rattle.json_schema.proofs.validate.+validate.Goals.{in_items-in-Some+in_ok-found+in_default-2, in_items-in_default}
 use Rattle.json_schema.proofs.validate.+validate.Goals as goal
 
--- ---- the schemas that are applied are less deep
+-- ---- each step takes one of the walk's
 
-pub is_some_met-is_accepted-requires : goal.is_some_met-is_accepted-requires
-is_some_met-is_accepted-requires t c =
-    let vs = c.args.schemas.now in
-    let x = c.schema-item.result in
-    let smaller : 8 * tree_depth (view x) + 8 < 8 * list_size (items_view vs) + 4
-    = omega (arith, below_list_size vs c.loop-schema.schema-index x c.loop-schema-test.true c.schema-item.is) in
+pub violation_in-unmet_test-requires : goal.violation_in-unmet_test-requires
+violation_in-unmet_test-requires t c =
+    let fewer : 16 * c.in_ok-inner.inner.steps + 15 < 16 * c.args.walk.steps + 7 = omega (arith, c.in_ok-inner.ensures.1) in
     search rules
 
-pub unmet_test-is_any_met-requires : goal.unmet_test-is_any_met-requires
-unmet_test-is_any_met-requires t c =
-    let s = view c.args.schema.now in
-    let vs = c.schemas_at.result.now in
-    let same : list_size (items_view vs) ≡ list_size (schemas_at s kw.AnyOf) = ap list_size c.schemas_at.ensures in
-    let smaller : 8 * list_size (items_view vs) + 5 < 8 * tree_depth s + 6 = omega (arith, same, schemas_less_deep s kw.AnyOf) in
+pub violation_in-in_all_of-requires : goal.violation_in-in_all_of-requires
+violation_in-in_all_of-requires t c =
+    let fewer : 16 * c.in_ok-inner.inner.steps + 10 < 16 * c.args.walk.steps + 7 = omega (arith, c.in_ok-inner.ensures.1) in
     search rules
 
-pub unmet_test-is_one_met-requires : goal.unmet_test-is_one_met-requires
-unmet_test-is_one_met-requires t c =
-    let s = view c.args.schema.now in
-    let vs = c.schemas_at-2.result.now in
-    let same : list_size (items_view vs) ≡ list_size (schemas_at s kw.OneOf) = ap list_size c.schemas_at-2.ensures in
-    let smaller : 8 * list_size (items_view vs) + 5 < 8 * tree_depth s + 6 = omega (arith, same, schemas_less_deep s kw.OneOf) in
+pub violation_in-in_branch-requires : goal.violation_in-in_branch-requires
+violation_in-in_branch-requires t c =
+    let fewer : 16 * c.in_ok-inner.inner.steps + 10 < 16 * c.args.walk.steps + 7 = omega (arith, c.in_ok-inner.ensures.1) in
     search rules
 
-pub count_accepting-is_accepted-requires : goal.count_accepting-is_accepted-requires
-count_accepting-is_accepted-requires t c =
-    let vs = c.args.schemas.now in
-    let x = c.schema-item.result in
-    let smaller : 8 * tree_depth (view x) + 8 < 8 * list_size (items_view vs) + 4
-    = omega (arith, below_list_size vs c.loop-schema.schema-index x c.loop-schema-test.true c.schema-item.is) in
+pub violation_in-in_dependents-requires : goal.violation_in-in_dependents-requires
+violation_in-in_dependents-requires t c =
+    let fewer : 16 * c.in_ok-inner.inner.steps + 10 < 16 * c.args.walk.steps + 7 = omega (arith, c.in_ok-inner.ensures.1) in
     search rules
 
-pub is_not_met-is_accepted-requires : goal.is_not_met-is_accepted-requires
-is_not_met-is_accepted-requires t c =
-    let s = view c.args.schema.now in
-    let r = view c.in-Some.part.now in
-    let smaller : 8 * tree_depth r + 8 < 8 * tree_depth s + 5 = omega (arith, key_less_deep s (name kw.Not) r (sym c.in-Some.ensures)) in
+pub violation_in-in_reference-requires : goal.violation_in-in_reference-requires
+violation_in-in_reference-requires t c =
+    let fewer : 16 * c.in_ok-inner.inner.steps + 10 < 16 * c.args.walk.steps + 7 = omega (arith, c.in_ok-inner.ensures.1) in
     search rules
 
-pub are_names_met-are_keys_met-requires : goal.are_names_met-are_keys_met-requires
-are_names_met-are_keys_met-requires t c =
-    let s = view c.args.schema.now in
-    let r = view c.in-Some.part.now in
-    let smaller : 8 * tree_depth r + 9 < 8 * tree_depth s + 5
-    = omega (arith, key_less_deep s (name kw.PropertyNames) r (sym c.in-Some.ensures)) in
-    search rules
-
-pub contained-count_passing-requires : goal.contained-count_passing-requires
-contained-count_passing-requires t c =
-    let s = view c.args.schema.now in
-    let r = view c.in-Some.part.now in
-    let smaller : 8 * tree_depth r + 9 < 8 * tree_depth s + 4
-    = omega (arith, key_less_deep s (name kw.Contains) r (sym c.in-Some.ensures)) in
-    search rules
-
-pub in_all_of-find_violation-requires : goal.in_all_of-find_violation-requires
-in_all_of-find_violation-requires t c =
-    let s = view c.args.schema.now in
-    let vs = c.schemas_at-parts.result.now in
-    let x = c.index-parts-index.result in
-    let same : list_size (items_view vs) ≡ list_size (schemas_at s kw.AllOf) = ap list_size c.schemas_at-parts.ensures in
-    let smaller : 8 * tree_depth (view x) + 7 < 8 * tree_depth s + 5
-    = omega (
-      arith,
-      same,
-      schemas_less_deep s kw.AllOf,
-      below_list_size vs c.loop-index.index x c.loop-index-test.true c.index-parts-index.is,
-    ) in
-    search rules
-
-pub in_branch-is_accepted-requires : goal.in_branch-is_accepted-requires
-in_branch-is_accepted-requires t c =
-    let s = view c.args.schema.now in
-    let r = view c.in-Some.test.now in
-    let smaller : 8 * tree_depth r + 8 < 8 * tree_depth s + 5 = omega (arith, key_less_deep s (name kw.If) r (sym c.in-Some.ensures)) in
-    search rules
-
-pub in_branch-find_violation-requires : goal.in_branch-find_violation-requires
-in_branch-find_violation-requires t c =
-    let s = view c.args.schema.now in
-    let r = view c.in-Some-schema_at.part.now in
-    let smaller : 8 * tree_depth r + 7 < 8 * tree_depth s + 5
-    = omega (arith, key_less_deep s (name c.branch-chosen.result) r (sym c.in-Some-schema_at.ensures)) in
-    search rules
-
-pub in_dependents-find_violation-requires : goal.in_dependents-find_violation-requires
-in_dependents-find_violation-requires t c =
-    let s = view c.args.schema.now in
-    let ps = c.as_slice-dependents.result.now in
-    let p = c.loop-key-item.result in
-    let same : map_size (members_listed ps) ≡ map_size (schema_map_at s kw.DependentSchemas)
-    = ap (λ xs. map_size (members_listed xs)) c.as_slice-dependents.ensures.value ∙ ap map_size c.in_ok-listed.ensures.listed in
-    let smaller : 8 * tree_depth (view p.1.now) + 7 < 8 * tree_depth s + 5
-    = omega (
-      arith,
-      same,
-      schema_map_less_deep s kw.DependentSchemas,
-      below_map_size ps c.loop-key.key-index p c.loop-key-test.true c.loop-key-item.is,
-    ) in
-    search rules
-
-pub in_members-find_violation-requires : goal.in_members-find_violation-requires
-in_members-find_violation-requires t c =
-    let s = view c.args.schema.now in
-    let r = view c.in-Some.part.schema.now in
-    let smaller : 8 * tree_depth r + 7 < 8 * tree_depth s + 4
-    = omega (arith, member_schema_less_deep s (chars c.as_str.result.now) r c.in-Some.ensures.0) in
-    search rules
-
-pub in_items-find_violation-requires : goal.in_items-find_violation-requires
-in_items-find_violation-requires t c =
-    let s = view c.args.schema.now in
-    let r = view c.in-Some.part.schema.now in
-    let smaller : 8 * tree_depth r + 7 < 8 * tree_depth s + 4
-    = omega (arith, item_schema_less_deep s c.loop-index.index r c.in-Some.ensures.0) in
+pub violation_in-in_parts-requires : goal.violation_in-in_parts-requires
+violation_in-in_parts-requires t c =
+    let fewer : 16 * c.in_ok-inner.inner.steps + 12 < 16 * c.args.walk.steps + 7 = omega (arith, c.in_ok-inner.ensures.1) in
     search rules
 
 -- ---- the whole check
 
-pub find_violation-returns-then-refuses_all : goal.find_violation-returns-then-refuses_all
-find_violation-returns-then-refuses_all t c = reported (view c.args.schema.now) (view c.args.value.now) c.of_schema.result _ _
-    c.of_schema.ensures (refused (sym c.refuses_all.ensures ∙ c.if-refuses_all.true))
-
-pub find_violation-returns-in-Some : goal.find_violation-returns-in-Some
-find_violation-returns-in-Some t c =
+pub violation_in-returns-then-refuses_all : goal.violation_in-returns-then-refuses_all
+violation_in-returns-then-refuses_all t c =
+    let inner = c.in_ok-inner.inner in
     let s = view c.args.schema.now in
     let v = view c.args.value.now in
-    reported s v c.in_ok-of_keyword.field-0 _ _ c.in_ok-of_keyword.ensures
-    (unmet c.in-Some.keyword (subst (λ o. IsUnmet s v o) c.in-Some.is c.in_ok-keyword.ensures))
+    before c.args.walk inner c.in_ok-inner.ensures s v (Ok (Some c.of_schema.result))
+    (reported (view inner.root.now) (suc inner.steps) s v c.of_schema.result _ _ c.of_schema.ensures
+    (refused (sym c.refuses_all.ensures ∙ c.if-refuses_all.true)))
 
-pub find_violation-returns-in-Some-2 : goal.find_violation-returns-in-Some-2
-find_violation-returns-in-Some-2 t c =
+pub violation_in-returns-in-Some : goal.violation_in-returns-in-Some
+violation_in-returns-in-Some t c =
+    let inner = c.in_ok-inner.inner in
     let s = view c.args.schema.now in
     let v = view c.args.value.now in
-    reported s v c.in_ok-of_keyword-2.field-0 _ _ c.in_ok-of_keyword-2.ensures
-    (not_applied c.in-Some-2.keyword (subst (λ o. IsUnapplied tests s v o) c.in-Some-2.is c.in_ok-keyword-2.ensures))
+    before c.args.walk inner c.in_ok-inner.ensures s v (Ok (Some c.in_ok-of_keyword.field-0))
+    (reported (view inner.root.now) (suc inner.steps) s v c.in_ok-of_keyword.field-0 _ _ c.in_ok-of_keyword.ensures
+    (unmet c.in-Some.keyword (subst (λ o. IsUnmet s v o) c.in-Some.is c.in_ok-keyword.ensures)))
 
-pub find_violation-returns-in-Some-3 : goal.find_violation-returns-in-Some-3
-find_violation-returns-in-Some-3 t c =
+pub violation_in-returns-in-Some-2 : goal.violation_in-returns-in-Some-2
+violation_in-returns-in-Some-2 t c =
+    let inner = c.in_ok-inner.inner in
     let s = view c.args.schema.now in
     let v = view c.args.value.now in
-    found (applies is_valid kw.AllOf s v) s v c.in-Some-3.found
-    (subst (λ o. Finds (applies is_valid kw.AllOf s v) s v (Ok o)) c.in-Some-3.is c.in_ok-found.ensures)
+    before c.args.walk inner c.in_ok-inner.ensures s v (Ok (Some c.in_ok-of_keyword-2.field-0))
+    (reported (view inner.root.now) (suc inner.steps) s v c.in_ok-of_keyword-2.field-0 _ _ c.in_ok-of_keyword-2.ensures
+    (not_applied c.in-Some-2.keyword (subst (λ o. IsUnapplied (says inner) tests s v o) c.in-Some-2.is c.in_ok-keyword-2.ensures)))
 
-pub find_violation-returns-in-Some-4 : goal.find_violation-returns-in-Some-4
-find_violation-returns-in-Some-4 t c =
+pub violation_in-returns-in-Some-3 : goal.violation_in-returns-in-Some-3
+violation_in-returns-in-Some-3 t c =
+    let inner = c.in_ok-inner.inner in
     let s = view c.args.schema.now in
     let v = view c.args.value.now in
-    found (applies is_valid kw.If s v) s v c.in-Some-4.found
-    (subst (λ o. Finds (applies is_valid kw.If s v) s v (Ok o)) c.in-Some-4.is c.in_ok-found-2.ensures)
+    before c.args.walk inner c.in_ok-inner.ensures s v (Ok (Some c.in-Some-3.found))
+    (found (view inner.root.now) (suc inner.steps) s v c.in-Some-3.found
+    (subst (λ o. Finds inner (applies (says inner) kw.AllOf s v) s v (Ok o)) c.in-Some-3.is c.in_ok-found.ensures))
 
-pub find_violation-returns-in-Some-5 : goal.find_violation-returns-in-Some-5
-find_violation-returns-in-Some-5 t c =
+pub violation_in-returns-in-Some-4 : goal.violation_in-returns-in-Some-4
+violation_in-returns-in-Some-4 t c =
+    let inner = c.in_ok-inner.inner in
     let s = view c.args.schema.now in
     let v = view c.args.value.now in
-    found (applies is_valid kw.DependentSchemas s v) s v c.in-Some-5.found
-    (subst (λ o. Finds (applies is_valid kw.DependentSchemas s v) s v (Ok o)) c.in-Some-5.is c.in_ok-found-3.ensures)
+    before c.args.walk inner c.in_ok-inner.ensures s v (Ok (Some c.in-Some-4.found))
+    (found (view inner.root.now) (suc inner.steps) s v c.in-Some-4.found
+    (subst (λ o. Finds inner (applies (says inner) kw.If s v) s v (Ok o)) c.in-Some-4.is c.in_ok-found-2.ensures))
 
-pub find_violation-returns : goal.find_violation-returns
-find_violation-returns t c =
+pub violation_in-returns-in-Some-5 : goal.violation_in-returns-in-Some-5
+violation_in-returns-in-Some-5 t c =
+    let inner = c.in_ok-inner.inner in
     let s = view c.args.schema.now in
     let v = view c.args.value.now in
-    last_found s v c.in_parts.result (sym c.refuses_all.ensures ∙ c.if-refuses_all.false)
+    before c.args.walk inner c.in_ok-inner.ensures s v (Ok (Some c.in-Some-5.found))
+    (found (view inner.root.now) (suc inner.steps) s v c.in-Some-5.found
+    (subst (λ o. Finds inner (applies (says inner) kw.DependentSchemas s v) s v (Ok o)) c.in-Some-5.is c.in_ok-found-3.ensures))
+
+pub violation_in-returns-in-Some-6 : goal.violation_in-returns-in-Some-6
+violation_in-returns-in-Some-6 t c =
+    let inner = c.in_ok-inner.inner in
+    let s = view c.args.schema.now in
+    let v = view c.args.value.now in
+    before c.args.walk inner c.in_ok-inner.ensures s v (Ok (Some c.in-Some-6.found))
+    (found (view inner.root.now) (suc inner.steps) s v c.in-Some-6.found
+    (subst (λ o. Finds inner (reference_accepts (view inner.root.now) (says inner) s v) s v (Ok o)) c.in-Some-6.is c.in_ok-found-4.ensures))
+
+pub violation_in-returns : goal.violation_in-returns
+violation_in-returns t c =
+    let inner = c.in_ok-inner.inner in
+    let s = view c.args.schema.now in
+    let v = view c.args.value.now in
+    before c.args.walk inner c.in_ok-inner.ensures s v c.in_parts.result
+    (last_found inner (says inner) s v c.in_parts.result refl (sym c.refuses_all.ensures ∙ c.if-refuses_all.false)
     (subst (λ o. IsUnmet s v o) c.in_default.is c.in_ok-keyword.ensures)
-    (subst (λ o. IsUnapplied tests s v o) c.in_default-2.is c.in_ok-keyword-2.ensures)
-    (subst (λ o. Finds (applies is_valid kw.AllOf s v) s v (Ok o)) c.in_default-3.is c.in_ok-found.ensures)
-    (subst (λ o. Finds (applies is_valid kw.If s v) s v (Ok o)) c.in_default-4.is c.in_ok-found-2.ensures)
-    (subst (λ o. Finds (applies is_valid kw.DependentSchemas s v) s v (Ok o)) c.in_default-5.is c.in_ok-found-3.ensures)
-    c.in_parts.ensures
+    (subst (λ o. IsUnapplied (says inner) tests s v o) c.in_default-2.is c.in_ok-keyword-2.ensures)
+    (subst (λ o. Finds inner (applies (says inner) kw.AllOf s v) s v (Ok o)) c.in_default-3.is c.in_ok-found.ensures)
+    (subst (λ o. Finds inner (applies (says inner) kw.If s v) s v (Ok o)) c.in_default-4.is c.in_ok-found-2.ensures)
+    (subst (λ o. Finds inner (applies (says inner) kw.DependentSchemas s v) s v (Ok o)) c.in_default-5.is c.in_ok-found-3.ensures)
+    (subst (λ o. Finds inner (reference_accepts (view inner.root.now) (says inner) s v) s v (Ok o)) c.in_default-6.is
+    c.in_ok-found-4.ensures)
+    c.in_parts.ensures)
 
 pub is_accepted-returns : goal.is_accepted-returns
 is_accepted-returns t c = c.is_nothing.ensures
-    ∙ verdict (view c.args.schema.now) (view c.args.value.now) c.in_ok-found.found c.in_ok-found.ensures
+    ∙ verdict (view c.args.walk.root.now) c.args.walk.steps (view c.args.schema.now) (view c.args.value.now) c.in_ok-found.found
+    c.in_ok-found.ensures
 
 pub unmet_test-returns : goal.unmet_test-returns
 unmet_test-returns t c =
+    let f = says c.args.walk in
     let s = view c.args.schema.now in
     let v = view c.args.value.now in
-    let any : applies is_valid kw.AnyOf s v ≡ true
-    = sym (c.in_ok-any.ensures ∙ ap (λ rs. any_of is_valid rs v) c.schemas_at.ensures) ∙ c.if-not-any.false in
-    let one : applies is_valid kw.OneOf s v ≡ true
-    = sym (c.in_ok-one.ensures ∙ ap (λ rs. one_of is_valid rs v) c.schemas_at-2.ensures) ∙ c.if-not-one.false in
-    let other : applies is_valid kw.Not s v ≡ true = sym c.in_ok-other.ensures ∙ c.if-not-other.false in
-    let names : applies is_valid kw.PropertyNames s v ≡ true = sym c.in_ok-names.ensures ∙ c.if-not-names.false in
-    last_tested s v c.unmet_count.result any one other names c.unmet_count.ensures
+    let any : applies f kw.AnyOf s v ≡ true
+    = sym (c.in_ok-any.ensures ∙ ap (λ rs. any_of f rs v) c.schemas_at.ensures) ∙ c.if-not-any.false in
+    let one : applies f kw.OneOf s v ≡ true
+    = sym (c.in_ok-one.ensures ∙ ap (λ rs. one_of f rs v) c.schemas_at-2.ensures) ∙ c.if-not-one.false in
+    let other : applies f kw.Not s v ≡ true = sym c.in_ok-other.ensures ∙ c.if-not-other.false in
+    let names : applies f kw.PropertyNames s v ≡ true = sym c.in_ok-names.ensures ∙ c.if-not-names.false in
+    last_tested f s v c.unmet_count.result any one other names c.unmet_count.ensures
 
 pub unmet_count-returns : goal.unmet_count-returns
 unmet_count-returns t c =
@@ -241,11 +184,11 @@ in_all_of-returns-in-Some t c =
     let i = c.loop-index.index in
     let x = c.index-parts-index.result in
     let old = c.in-Some.found in
-    let inner = subst (λ o. Validates (view x) v (Ok o)) c.in-Some.is c.in_ok-found.ensures in
+    let inner = subst (λ o. Judges c.args.walk (view x) v (Ok o)) c.in-Some.is c.in_ok-found.ensures in
     let entered = c.in_ok-enter_listed.ensures in
     let at : nth (schemas_at s kw.AllOf) i ≡ Some (view x)
     = ap (λ ts. nth ts i) (sym c.schemas_at-parts.ensures) ∙ nth_item vs i x c.loop-index-test.true c.index-parts-index.is in
-    placed (applies is_valid kw.AllOf s v) s v c.enter_listed.new.self _ _ entered.entered
+    placed c.args.walk (applies (says c.args.walk) kw.AllOf s v) s v c.enter_listed.new.self _ _ entered.entered
     (in_all_of {k = entered.token} (ap (item_of (schemas_at s kw.AllOf)) entered.named ∙ at) inner.0)
 
 pub in_all_of-loop-index-preserved : goal.in_all_of-loop-index-preserved
@@ -254,44 +197,46 @@ in_all_of-loop-index-preserved t c =
     let vs = c.schemas_at-parts.result.now in
     let i = c.loop-index.index in
     let x = c.index-parts-index.result in
-    let good = subst (λ o. Validates (view x) v (Ok o)) c.in_default.is c.in_ok-found.ensures in
-    turn_next (λ xs. all_accept is_valid (items_view xs) v) vs i x c.loop-index-test.true c.index-parts-index.is
-    (ap (λ b. b && all_accept is_valid (items_view (drop (i + 1) vs)) v) good) c.loop-index.invariant
+    let good = subst (λ o. Judges c.args.walk (view x) v (Ok o)) c.in_default.is c.in_ok-found.ensures in
+    turn_next (λ xs. all_accept (says c.args.walk) (items_view xs) v) vs i x c.loop-index-test.true c.index-parts-index.is
+    (ap (λ b. b && all_accept (says c.args.walk) (items_view (drop (i + 1) vs)) v) good) c.loop-index.invariant
 
 pub in_all_of-returns : goal.in_all_of-returns
 in_all_of-returns t c =
     let v = view c.args.value.now in
-    ap (λ rs. all_accept is_valid rs v) (sym c.schemas_at-parts.ensures)
-    ∙ turn_end (λ xs. all_accept is_valid (items_view xs) v) c.schemas_at-parts.result.now c.loop-index.index true
+    ap (λ rs. all_accept (says c.args.walk) rs v) (sym c.schemas_at-parts.ensures)
+    ∙ turn_end (λ xs. all_accept (says c.args.walk) (items_view xs) v) c.schemas_at-parts.result.now c.loop-index.index true
     c.loop-index-test.false refl c.loop-index.invariant
 
 pub in_branch-returns-in_default : goal.in_branch-returns-in_default
 in_branch-returns-in_default t c =
     let s = view c.args.schema.now in
     let v = view c.args.value.now in
-    ap (λ o. option_map_or (λ r. branch_accepts is_valid s v (is_valid r v)) o true) (sym c.in_default.ensures)
+    ap (λ o. option_map_or (λ r. branch_accepts (says c.args.walk) s v ((says c.args.walk) r v)) o true) (sym c.in_default.ensures)
 
 pub in_branch-returns-in_default-schema_at : goal.in_branch-returns-in_default-schema_at
 in_branch-returns-in_default-schema_at t c =
-    no_branch (view c.args.schema.now) (view c.args.value.now) (view c.in-Some.test.now) c.branch-chosen.result c.in-Some.ensures
+    no_branch (view c.args.walk.root.now) c.args.walk.steps (view c.args.schema.now) (view c.args.value.now) (view c.in-Some.test.now)
+    c.branch-chosen.result c.in-Some.ensures
     (c.branch-chosen.ensures ∙ ap branch c.in_ok-accepted.ensures) c.in_default-schema_at.ensures
 
 pub in_branch-returns-in_default-2 : goal.in_branch-returns-in_default-2
 in_branch-returns-in_default-2 t c =
     let v = view c.args.value.now in
     let r = view c.in-Some-schema_at.part.now in
-    branch_met (view c.args.schema.now) v (view c.in-Some.test.now) c.branch-chosen.result c.in-Some.ensures
+    branch_met (view c.args.walk.root.now) c.args.walk.steps (view c.args.schema.now) v (view c.in-Some.test.now) c.branch-chosen.result
+    c.in-Some.ensures
     (c.branch-chosen.ensures ∙ ap branch c.in_ok-accepted.ensures) r c.in-Some-schema_at.ensures
-    (subst (λ o. Validates r v (Ok o)) c.in_default-2.is c.in_ok-found.ensures)
+    (subst (λ o. Judges c.args.walk r v (Ok o)) c.in_default-2.is c.in_ok-found.ensures)
 
 pub in_branch-returns : goal.in_branch-returns
 in_branch-returns t c =
     let s = view c.args.schema.now in
     let v = view c.args.value.now in
     let r = view c.in-Some-schema_at.part.now in
-    let inner = subst (λ o. Validates r v (Ok o)) c.in-Some-2.is c.in_ok-found.ensures in
-    placed (applies is_valid kw.If s v) s v c.enter_keyword.new.self _ _ c.in_ok-enter_keyword.ensures
-    (branch_place s v (view c.in-Some.test.now) c.branch-chosen.result c.in-Some.ensures
+    let inner = subst (λ o. Judges c.args.walk r v (Ok o)) c.in-Some-2.is c.in_ok-found.ensures in
+    placed c.args.walk (applies (says c.args.walk) kw.If s v) s v c.enter_keyword.new.self _ _ c.in_ok-enter_keyword.ensures
+    (branch_place (view c.args.walk.root.now) c.args.walk.steps s v (view c.in-Some.test.now) c.branch-chosen.result c.in-Some.ensures
     (c.branch-chosen.ensures ∙ ap branch c.in_ok-accepted.ensures) r _ _ c.in-Some-schema_at.ensures inner.0)
 
 pub in_dependents-returns-in-Some : goal.in_dependents-returns-in-Some
@@ -304,7 +249,7 @@ in_dependents-returns-in-Some t c =
     let r = view p.1.now in
     let k = text p.0.now in
     let old = c.in-Some.found in
-    let inner = subst (λ o. Validates r v (Ok o)) c.in-Some.is c.in_ok-found.ensures in
+    let inner = subst (λ o. Judges c.args.walk r v (Ok o)) c.in-Some.is c.in_ok-found.ensures in
     let entered = subst (λ bs. IsUnderKey kw.DependentSchemas (chars bs) old c.enter_keyed.new.self) c.as_str-in-Some.ensures.value
     c.in_ok-enter_keyed.ensures in
     let here : is_some (tree_at_key v k) ≡ true = ap (λ bs. is_some (tree_at_key v (chars bs))) (sym c.as_str.ensures.value)
@@ -313,7 +258,8 @@ in_dependents-returns-in-Some t c =
     let at : find k (schema_map_at s kw.DependentSchemas) ≡ Some r
     = ap (find k) (sym (ap members_listed c.as_slice-dependents.ensures.value ∙ c.in_ok-listed.ensures.listed))
     ∙ listed_found ps i p sorted c.loop-key-test.true c.loop-key-item.is in
-    placed (applies is_valid kw.DependentSchemas s v) s v c.enter_keyed.new.self _ _ entered (in_dependent here at inner.0)
+    placed c.args.walk (applies (says c.args.walk) kw.DependentSchemas s v) s v c.enter_keyed.new.self _ _ entered
+    (in_dependent here at inner.0)
 
 pub in_dependents-loop-key-preserved : goal.in_dependents-loop-key-preserved
 in_dependents-loop-key-preserved t c =
@@ -325,20 +271,47 @@ in_dependents-loop-key-preserved t c =
     let k = text p.0.now in
     elim c.if-has_key.branch [
       | in_dependents-then-has_key+in_ok-found+in_default w ↦
-          dependents_turn v ps i p c.loop-key-test.true c.loop-key-item.is
-          (dependent_passes v k r (subst (λ o. Validates r v (Ok o)) w.in_default.is w.in_ok-found.ensures)) c.loop-key.invariant
+          dependents_turn (says c.args.walk) v ps i p c.loop-key-test.true c.loop-key-item.is
+          (dependent_passes (says c.args.walk) v k r (subst (λ o. Judges c.args.walk r v (Ok o)) w.in_default.is w.in_ok-found.ensures))
+          c.loop-key.invariant
       | in_dependents-else-has_key w ↦
-          dependents_turn v ps i p c.loop-key-test.true c.loop-key-item.is
-          (dependent_free v k r (ap (λ bs. is_some (tree_at_key v (chars bs))) (sym c.as_str.ensures.value)
+          dependents_turn (says c.args.walk) v ps i p c.loop-key-test.true c.loop-key-item.is
+          (dependent_free (says c.args.walk) v k r (ap (λ bs. is_some (tree_at_key v (chars bs))) (sym c.as_str.ensures.value)
           ∙ (sym c.has_key.ensures ∙ w.if-has_key.false))) c.loop-key.invariant
     ]
 
 pub in_dependents-returns : goal.in_dependents-returns
 in_dependents-returns t c =
     let v = view c.args.value.now in
-    ap (λ rs. dependents_accept is_valid rs v) (sym (ap members_listed c.as_slice-dependents.ensures.value ∙ c.in_ok-listed.ensures.listed))
-    ∙ turn_end (λ xs. dependents_accept is_valid (members_listed xs) v) c.as_slice-dependents.result.now c.loop-key.key-index true
+    ap (λ rs. dependents_accept (says c.args.walk) rs v)
+    (sym (ap members_listed c.as_slice-dependents.ensures.value ∙ c.in_ok-listed.ensures.listed))
+    ∙ turn_end (λ xs. dependents_accept (says c.args.walk) (members_listed xs) v) c.as_slice-dependents.result.now c.loop-key.key-index true
     c.loop-key-test.false refl c.loop-key.invariant
+
+pub in_reference-returns-in_default : goal.in_reference-returns-in_default
+in_reference-returns-in_default t c =
+    let w = c.args.walk in
+    no_reference (view w.root.now) (says w) (view c.args.schema.now) (view c.args.value.now)
+    (ap (option_map (λ x. view x.now)) (sym c.in_default.is) ∙ c.in_ok-part.ensures)
+
+pub in_reference-returns-in_default-2 : goal.in_reference-returns-in_default-2
+in_reference-returns-in_default-2 t c =
+    let w = c.args.walk in
+    let v = view c.args.value.now in
+    let r = view c.in-Some.part.now in
+    reference_met (view w.root.now) (says w) (view c.args.schema.now) v r
+    (ap (option_map (λ x. view x.now)) (sym c.in-Some.is) ∙ c.in_ok-part.ensures)
+    (subst (λ o. Judges w r v (Ok o)) c.in_default-2.is c.in_ok-found.ensures)
+
+pub in_reference-returns : goal.in_reference-returns
+in_reference-returns t c =
+    let w = c.args.walk in
+    let s = view c.args.schema.now in
+    let v = view c.args.value.now in
+    let r = view c.in-Some.part.now in
+    let inner = subst (λ o. Judges w r v (Ok o)) c.in-Some-2.is c.in_ok-found.ensures in
+    placed w (reference_accepts (view w.root.now) (says w) s v) s v c.enter_keyword.new.self _ _ c.in_ok-enter_keyword.ensures
+    (in_reference (sym (ap (option_map (λ x. view x.now)) (sym c.in-Some.is) ∙ c.in_ok-part.ensures)) inner.0)
 
 pub in_members-returns-in-Some-2 : goal.in_members-returns-in-Some-2
 in_members-returns-in-Some-2 t c =
@@ -351,10 +324,11 @@ in_members-returns-in-Some-2 t c =
     let r = view part.schema.now in
     let old = c.in-Some-2.found in
     let applied = subst (λ bs. IsMemberPart s (chars bs) (Some part)) c.as_str.ensures.value c.in-Some.ensures in
-    let inner = subst (λ o. Validates r (view p.1.now) (Ok o)) c.in-Some-2.is c.in_ok-found.ensures in
+    let inner = subst (λ o. Judges c.args.walk r (view p.1.now) (Ok o)) c.in-Some-2.is c.in_ok-found.ensures in
     let entered = subst (λ bs. Enters part.applicator (chars bs) (chars bs) old c.enter_member.new.self) c.as_str-in-Some-2.ensures.value
     c.in_ok-enter_member.ensures in
-    placed (members_accepted is_valid s (members_listed ps)) s (object (members_listed ps)) c.enter_member.new.self _ _ entered
+    placed c.args.walk (members_accepted (says c.args.walk) s (members_listed ps)) s (object (members_listed ps)) c.enter_member.new.self _
+    _ entered
     (in_part (place part.applicator k) applied.0 (listed_found ps i p c.requires c.loop-key-test.true c.loop-key-item.is) applied.1 inner.0)
 
 pub in_members-loop-key-preserved : goal.in_members-loop-key-preserved
@@ -370,19 +344,20 @@ in_members-loop-key-preserved t c =
           let part = w.in-Some.part in
           let r = view part.schema.now in
           let applied = subst (λ bs. IsMemberPart s (chars bs) (Some part)) c.as_str.ensures.value w.in-Some.ensures in
-          members_turn s ps i p c.loop-key-test.true c.loop-key-item.is
-          (member_passes s k r u applied.0 (subst (λ o. Validates r u (Ok o)) w.in_default-2.is w.in_ok-found.ensures))
+          members_turn (says c.args.walk) s ps i p c.loop-key-test.true c.loop-key-item.is
+          (member_passes (says c.args.walk) s k r u applied.0
+          (subst (λ o. Judges c.args.walk r u (Ok o)) w.in_default-2.is w.in_ok-found.ensures))
           c.loop-key.invariant
       | in_members-in_default w ↦
-          members_turn s ps i p c.loop-key-test.true c.loop-key-item.is
-          (member_free s k u (subst (λ bs. IsMemberPart s (chars bs) None) c.as_str.ensures.value w.in_default.ensures))
+          members_turn (says c.args.walk) s ps i p c.loop-key-test.true c.loop-key-item.is
+          (member_free (says c.args.walk) s k u (subst (λ bs. IsMemberPart s (chars bs) None) c.as_str.ensures.value w.in_default.ensures))
           c.loop-key.invariant
     ]
 
 pub in_members-returns : goal.in_members-returns
 in_members-returns t c =
     let s = view c.args.schema.now in
-    turn_end (λ xs. members_accepted is_valid s (members_listed xs)) c.args.members.now c.loop-key.key-index true
+    turn_end (λ xs. members_accepted (says c.args.walk) s (members_listed xs)) c.args.members.now c.loop-key.key-index true
     c.loop-key-test.false refl c.loop-key.invariant
 
 pub in_items-returns-in-Some-2 : goal.in_items-returns-in-Some-2
@@ -395,11 +370,12 @@ in_items-returns-in-Some-2 t c =
     let r = view part.schema.now in
     let old = c.in-Some-2.found in
     let applied = c.in-Some.ensures in
-    let inner = subst (λ o. Validates r (view x) (Ok o)) c.in-Some-2.is c.in_ok-found.ensures in
+    let inner = subst (λ o. Judges c.args.walk r (view x) (Ok o)) c.in-Some-2.is c.in_ok-found.ensures in
     let entered = c.in_ok-enter_item.ensures in
     let at : item_of (items_view vs) (index_of entered.token) ≡ Some (view x)
     = ap (item_of (items_view vs)) entered.named ∙ nth_item vs i x c.loop-index-test.true c.index-items-index.is in
-    placed (items_accepted is_valid s 0 (items_view vs)) s (array (items_view vs)) c.enter_item.new.self _ _ entered.entered
+    placed c.args.walk (items_accepted (says c.args.walk) s 0 (items_view vs)) s (array (items_view vs)) c.enter_item.new.self _ _
+    entered.entered
     (in_part {k = entered.token} (place part.applicator entered.schema_token)
     (ap (option_and_then (item_schema s)) entered.named ∙ applied.0) at
     (applied.1 entered.schema_token entered.schema_named) inner.0)
@@ -413,17 +389,19 @@ in_items-loop-index-preserved t c =
     elim c.match-item_part.branch [
       | in_items-in-Some+in_ok-found+in_default-2 w ↦
           let r = view w.in-Some.part.schema.now in
-          items_turn s vs i x c.loop-index-test.true c.index-items-index.is
-          (item_passes s i r (view x) w.in-Some.ensures.0
-          (subst (λ o. Validates r (view x) (Ok o)) w.in_default-2.is w.in_ok-found.ensures))
+          items_turn (says c.args.walk) s vs i x c.loop-index-test.true c.index-items-index.is
+          (item_passes (says c.args.walk) s i r (view x) w.in-Some.ensures.0
+          (subst (λ o. Judges c.args.walk r (view x) (Ok o)) w.in_default-2.is w.in_ok-found.ensures))
           c.loop-index.invariant
       | in_items-in_default w ↦
-          items_turn s vs i x c.loop-index-test.true c.index-items-index.is (item_free s i (view x) w.in_default.ensures)
+          items_turn (says c.args.walk) s vs i x c.loop-index-test.true c.index-items-index.is
+          (item_free (says c.args.walk) s i (view x) w.in_default.ensures)
           c.loop-index.invariant
     ]
 
 pub in_items-returns : goal.in_items-returns
-in_items-returns t c = items_end (view c.args.schema.now) c.args.items.now c.loop-index.index c.loop-index-test.false c.loop-index.invariant
+in_items-returns t c = items_end (says c.args.walk) (view c.args.schema.now) c.args.items.now c.loop-index.index c.loop-index-test.false
+    c.loop-index.invariant
 
 pub in_parts-in_members-requires : goal.in_parts-in_members-requires
 in_parts-in_members-requires t c =
@@ -437,14 +415,15 @@ in_parts-returns-in_ok-sorted-in-Object t c =
     let same : object (members_listed c.as_slice.result.now) ≡ view c.args.value.now
     = ap object (ap members_listed c.as_slice.ensures.value ∙ c.in_ok-sorted-in-Object.ensures)
     ∙ sym (ap view c.in-Object.is ∙ view_Object c.in-Object.members) in
-    subst (λ x. Finds (parts_accepted is_valid s x) s x c.in_members.result) same c.in_members.ensures
+    subst (λ x. Finds c.args.walk (parts_accepted (says c.args.walk) s x) s x c.in_members.result) same c.in_members.ensures
 
 pub in_parts-returns-in-Array : goal.in_parts-returns-in-Array
 in_parts-returns-in-Array t c =
     let s = view c.args.schema.now in
     let same : array (items_view c.as_slice-in-Array.result.now) ≡ view c.args.value.now
     = ap (λ xs. array (items_view xs)) c.as_slice-in-Array.ensures.value ∙ sym (ap view c.in-Array.is ∙ view_Array c.in-Array.items) in
-    subst (λ x. Finds (parts_accepted is_valid s x) s x c.in_items.result) same c.in_items.ensures
+    subst (λ x. Finds c.args.walk (parts_accepted (says c.args.walk) s x) s x c.in_items.result) same c.in_items.ensures
 
 pub in_parts-returns-in_default : goal.in_parts-returns-in_default
-in_parts-returns-in_default t c = no_parts (view c.args.schema.now) c.args.value.now c.in_default.not-Object c.in_default.not-Array
+in_parts-returns-in_default t c = no_parts (says c.args.walk) (view c.args.schema.now) c.args.value.now c.in_default.not-Object
+    c.in_default.not-Array

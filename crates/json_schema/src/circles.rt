@@ -1,0 +1,168 @@
+//! References that lead on and on.
+ghost use Rattle.std.specs.Prelude.{◌≡◌, true, IfOk};
+ghost use Rattle.std.specs.Option.{option_map_or};
+ghost use Rattle.tinyjson.specs.View.{view, items_view, members_listed};
+ghost use Rattle.json_schema.specs.Circles.{all_pass, map_passes, lists_pass, singles_pass};
+ghost use Rattle.json_schema.specs.Applied.{schema_at, schema_map_at};
+ghost use Rattle.json_schema.specs.Circles.{reference_passes, settles_in, leads};
+ghost use Rattle.json_schema.specs.declared.keyword.Keyword.TheVariants as kw;
+
+use crate::applied::{schema_at, schema_map_at, schemas_at};
+use crate::keyword::Keyword;
+use crate::reference::{referenced, target};
+use crate::walk::Walk;
+use std::alloc::{AllocError, Global};
+use tinyjson::JsonValue;
+
+/// The keywords that apply a list of schemas to the value itself.
+const IN_LISTS: [Keyword; 3] = [Keyword::AllOf, Keyword::AnyOf, Keyword::OneOf];
+
+/// Those that apply one schema to it.
+const IN_PLACE: [Keyword; 4] = [Keyword::Not, Keyword::If, Keyword::Then, Keyword::Else];
+
+/// How many schemas in one another are followed from a reference.
+const REFERENCE_STEPS: usize = 100;
+
+/// Whether the reference leads to a schema in the whole one, from which none leads back to the same value.
+pub fn leads(reference: &JsonValue, root: &JsonValue, alloc: Global) -> Result<bool, AllocError>
+    ensures { IfOk result (λ is. is ≡ leads (view root.now) (view reference.now)) }
+{
+    let Some(schema) = target(root, reference, alloc)? else {
+        return Ok(false);
+    };
+    let walk = Walk {
+        root,
+        steps: REFERENCE_STEPS,
+    };
+    settles(schema, walk, alloc)
+}
+
+/// Whether the schemas that are applied in one another to the value itself come to an end.
+#[cycle(circles)]
+fn settles(schema: &JsonValue, walk: Walk<'_>, alloc: Global) -> Result<bool, AllocError>
+    ensures { IfOk result
+        (λ is. is ≡ settles_in walk.entry (view schema.now)) }
+{
+    let Ok(inner) = walk.deeper() else {
+        return Ok(false);
+    };
+    let lists = lists_settle(&IN_LISTS, schema, inner, alloc)?;
+    if !lists {
+        return Ok(false);
+    }
+    let singles = singles_settle(&IN_PLACE, schema, inner, alloc)?;
+    if !singles {
+        return Ok(false);
+    }
+    let dependents = dependents_settle(schema, inner, alloc)?;
+    if !dependents {
+        return Ok(false);
+    }
+    reference_settles(schema, inner, alloc)
+}
+
+#[cycle(circles)]
+fn lists_settle(
+    keywords: &[Keyword],
+    schema: &JsonValue,
+    walk: Walk<'_>,
+    alloc: Global,
+) -> Result<bool, AllocError>
+    ensures { IfOk result (λ is. is
+        ≡ lists_pass (settles_in walk.entry) keywords.now (view schema.now)) }
+{
+    for keyword in keywords {
+        let settled = list_settles(schemas_at(schema, *keyword), walk, alloc)?;
+        if !settled {
+            return Ok(false);
+        }
+    }
+    Ok(true)
+}
+
+#[cycle(circles)]
+fn list_settles(schemas: &[JsonValue], walk: Walk<'_>, alloc: Global) -> Result<bool, AllocError>
+    ensures { IfOk result (λ is. is
+        ≡ all_pass (settles_in walk.entry) (items_view schemas.now)) }
+{
+    for schema in schemas {
+        let settled = settles(schema, walk, alloc)?;
+        if !settled {
+            return Ok(false);
+        }
+    }
+    Ok(true)
+}
+
+#[cycle(circles)]
+fn singles_settle(
+    keywords: &[Keyword],
+    schema: &JsonValue,
+    walk: Walk<'_>,
+    alloc: Global,
+) -> Result<bool, AllocError>
+    ensures { IfOk result (λ is. is
+        ≡ singles_pass (settles_in walk.entry) keywords.now (view schema.now)) }
+{
+    for keyword in keywords {
+        let settled = single_settles(*keyword, schema, walk, alloc)?;
+        if !settled {
+            return Ok(false);
+        }
+    }
+    Ok(true)
+}
+
+#[cycle(circles)]
+fn single_settles(
+    keyword: Keyword,
+    schema: &JsonValue,
+    walk: Walk<'_>,
+    alloc: Global,
+) -> Result<bool, AllocError>
+    ensures { IfOk result (λ is. is ≡ option_map_or
+        (settles_in walk.entry) (schema_at (view schema.now) keyword) true) }
+{
+    match schema_at(schema, keyword) {
+        Some(part) => settles(part, walk, alloc),
+        None => Ok(true),
+    }
+}
+
+#[cycle(circles)]
+fn dependents_settle(schema: &JsonValue, walk: Walk<'_>, alloc: Global) -> Result<bool, AllocError>
+    ensures { IfOk result (λ is. is ≡ map_passes (settles_in walk.entry)
+        (schema_map_at (view schema.now) kw.DependentSchemas)) }
+{
+    let listed = schema_map_at(schema, Keyword::DependentSchemas, alloc)?;
+    map_settles(listed.as_slice(), walk, alloc)
+}
+
+#[cycle(circles)]
+fn map_settles(
+    schemas: &[(&String, &JsonValue)],
+    walk: Walk<'_>,
+    alloc: Global,
+) -> Result<bool, AllocError>
+    ensures { IfOk result (λ is. is
+        ≡ map_passes (settles_in walk.entry) (members_listed schemas.now)) }
+{
+    for (_, schema) in schemas {
+        let settled = settles(schema, walk, alloc)?;
+        if !settled {
+            return Ok(false);
+        }
+    }
+    Ok(true)
+}
+
+#[cycle(circles)]
+fn reference_settles(schema: &JsonValue, walk: Walk<'_>, alloc: Global) -> Result<bool, AllocError>
+    ensures { IfOk result (λ is. is ≡ reference_passes (view walk.entry.root.now)
+        (settles_in walk.entry) (view schema.now)) }
+{
+    match referenced(walk.root, schema, alloc)? {
+        Some(part) => settles(part, walk, alloc),
+        None => Ok(true),
+    }
+}

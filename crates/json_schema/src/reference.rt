@@ -1,0 +1,169 @@
+//! The schemas that references lead to.
+ghost use Rattle.std.specs.Prelude.{◌≡◌, Some, None, option_map, map, IfOk, MatchOption};
+ghost use Rattle.tinyjson.specs.View.{view, text};
+ghost use Rattle.json_pointer.specs.Tokens.{tokens_of};
+ghost use Rattle.json_schema.specs.References.{percent_decoded, hex_byte, escape_front, byte_front};
+ghost use Rattle.json_schema.specs.References.{fragment_tokens};
+ghost use Rattle.json_schema.specs.References.{reference_tokens, form_in, form_after};
+ghost use Rattle.json_schema.specs.References.{is_schema_form, target, referenced};
+ghost use Rattle.json_schema.specs.declared.form.Form.TheVariants as form;
+
+use crate::applied::schema_at;
+use crate::form::{Form, form_at};
+use crate::keyword::Keyword;
+use json_pointer::{Pointer, PointerError};
+use std::alloc::{AllocError, Global};
+use std::str;
+use tinyjson::JsonValue;
+
+/// The schema that `$ref` of the schema leads to, in the whole schema.
+pub fn referenced<'s>(
+    root: &'s JsonValue,
+    schema: &JsonValue,
+    alloc: Global,
+) -> Result<Option<&'s JsonValue>, AllocError>
+    ensures { IfOk result (λ r.
+        option_map (λ x. view x.now) r ≡ referenced (view root.now) (view schema.now)) }
+{
+    match schema_at(schema, Keyword::Ref) {
+        Some(reference) => target(root, reference, alloc),
+        None => Ok(None),
+    }
+}
+
+/// The schema that a reference leads to: it has to be `#` and a JSON pointer, percent-encoded (Core, 8.2.3.1).
+pub fn target<'s>(
+    root: &'s JsonValue,
+    reference: &JsonValue,
+    alloc: Global,
+) -> Result<Option<&'s JsonValue>, AllocError>
+    ensures { IfOk result (λ r.
+        option_map (λ x. view x.now) r ≡ target (view root.now) (view reference.now)) }
+{
+    let JsonValue::String(reference) = reference else {
+        return Ok(None);
+    };
+    let Some(pointer) = read_reference(reference.as_str(), alloc)? else {
+        return Ok(None);
+    };
+    if !leads_to_schema(pointer.tokens()) {
+        return Ok(None);
+    }
+    Ok(pointer.find(root))
+}
+
+/// The pointer of a reference that is nothing but a fragment.
+fn read_reference(reference: &str, alloc: Global) -> Result<Option<Pointer>, AllocError>
+    ensures { IfOk result (λ p. option_map tokens_of p ≡ reference_tokens reference.now) }
+{
+    let Some((first, fragment)) = reference.as_bytes().split_first() else {
+        return Ok(None);
+    };
+    if *first != b'#' {
+        return Ok(None);
+    }
+    read_fragment(fragment, alloc)
+}
+
+fn read_fragment(fragment: &[u8], alloc: Global) -> Result<Option<Pointer>, AllocError>
+    ensures { IfOk result (λ p. option_map tokens_of p ≡ fragment_tokens fragment.now) }
+{
+    let Some(decoded) = percent_decoded(fragment, alloc)? else {
+        return Ok(None);
+    };
+    let Ok(text) = str::from_utf8(decoded.as_slice()) else {
+        return Ok(None);
+    };
+    match Pointer::parse(alloc, text) {
+        Ok(pointer) => Ok(Some(pointer)),
+        Err(PointerError::OutOfMemory) => Err(AllocError),
+        Err(_) => Ok(None),
+    }
+}
+
+/// The bytes that percent-encoded ones stand for (RFC 3986, section 2.1); `None` where two hexadecimal digits do not
+/// follow a `%`.
+fn percent_decoded(bytes: &[u8], alloc: Global) -> Result<Option<Vec<u8>>, AllocError>
+    ensures { IfOk result (λ d. option_map (λ v. v.items) d ≡ percent_decoded bytes.now) }
+{
+    let mut decoded = Vec::new(alloc);
+    let mut rest = bytes;
+    while let Some((first, more)) = rest.split_first() {
+        let Some((byte, after)) = decoded_byte(*first, more) else {
+            return Ok(None);
+        };
+        decoded.push(byte)?;
+        rest = after;
+    }
+    Ok(Some(decoded))
+}
+
+/// The byte that the first one stands for, and what follows; after a `%` two digits belong to it.
+fn decoded_byte(first: u8, more: &[u8]) -> Option<(u8, &[u8])>
+    ensures { MatchOption result (byte_front first more.now ≡ None)
+        (λ r. byte_front first more.now ≡ Some (r.0, r.1.now)) }
+{
+    if first == b'%' {
+        escaped_byte(more)
+    } else {
+        Some((first, more))
+    }
+}
+
+/// The byte of the two hexadecimal digits that come first.
+fn escaped_byte(text: &[u8]) -> Option<(u8, &[u8])>
+    ensures { MatchOption result (escape_front text.now ≡ None)
+        (λ r. escape_front text.now ≡ Some (r.0, r.1.now)) }
+{
+    let Some((high, rest)) = text.split_first() else {
+        return None;
+    };
+    let Some((low, after)) = rest.split_first() else {
+        return None;
+    };
+    match hex_byte(*high, *low) {
+        Some(byte) => Some((byte, after)),
+        None => None,
+    }
+}
+
+/// The byte of two hexadecimal digits.
+fn hex_byte(high: u8, low: u8) -> Option<u8>
+    ensures { result ≡ hex_byte high low }
+{
+    let Some(high) = char::from(high).to_digit(16) else {
+        return None;
+    };
+    let Some(low) = char::from(low).to_digit(16) else {
+        return None;
+    };
+    Some((high * 16 + low) as u8)
+}
+
+/// Whether what stands where the tokens lead is a schema, and no data.
+fn leads_to_schema(tokens: &[String]) -> bool
+    ensures { result ≡ is_schema_form (form_after form.Schema (map text tokens.now)) }
+{
+    let mut form = Form::Schema;
+    for token in tokens {
+        form = form_in(form, token);
+    }
+    is_schema_form(form)
+}
+
+/// What stands at a token, in a schema, or in a list or an object of schemas.
+fn form_in(form: Form, token: &String) -> Form
+    ensures { result ≡ form_in form (text token.now) }
+{
+    match form {
+        Form::Schema => form_at(token.as_str()),
+        Form::Schemas | Form::SchemaMap => Form::Schema,
+        _ => Form::Anything,
+    }
+}
+
+fn is_schema_form(form: Form) -> bool
+    ensures { result ≡ is_schema_form form }
+{
+    matches!(form, Form::Schema)
+}
