@@ -1,0 +1,9 @@
+use Rattle.std.proofs.Common.{refl}
+use Rattle.json_count.proofs.Counting.{added}
+use Rattle.tinyjson_grammar.specs.Characters.{text}
+use Rattle.tinyjson_grammar.specs.Tree.{string}
+use Rattle.tinyjson_grammar.specs.declared.kind.JsonKind.TheVariants as kind
+use Rattle.json_count.proofs.counts.CountsEvents.string.Goals as goal
+
+pub returns : goal.returns
+returns c = λ os h. added c.add.result c.args.self.now c.add.new.self os (string (text c.args.arg2)) kind.String (λ k. refl) c.add.ensures h

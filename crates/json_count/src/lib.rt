@@ -1,0 +1,13 @@
+//! How many values of each kind a JSON text has, with no value built.
+//!
+//! ```
+//! let counts = count_values(alloc, "[1, 2, {\"a\": null}]")?;
+//! assert_eq!(rt; counts.numbers, 2);
+//! ```
+#![tactic(auto)]
+
+mod counts;
+#[cfg(test)]
+mod tests;
+
+pub use counts::{Counts, count_values};
