@@ -98,6 +98,7 @@ APPLIED += [
     ('{"-":1}', patch(("remove", "/-")), "{}"),
     ('{"-":1}', patch(("replace", "/-", "2")), '{"-":2}'),
     ("[1,2]", patch(("replace", "/1", "[2.0]")), "[1,[2]]"),
+    ('{"a":1}', patch(("replace", "/a", "null")), '{"a":null}'),
     ("[1]", patch(("replace", "", "2")), "2"),
 ]
 FAILED += [
@@ -165,6 +166,11 @@ FAILED += [
     ('{"a":1,"b":2}', patch(("test", "", '{"a":1}')), 0, DIFFERENT),
     ('{"a":1}', patch(("test", "", '{"a":1,"b":2}')), 0, DIFFERENT),
     ("[1,2]", patch(("test", "", "[2,1]")), 0, DIFFERENT),
+    ("[1,2]", patch(("test", "", "[1]")), 0, DIFFERENT),
+    ("[1]", patch(("test", "", "[1,2]")), 0, DIFFERENT),
+    ('["A"]', patch(("test", "/0", '"a"')), 0, DIFFERENT),
+    ("[0]", patch(("test", "/0", "false")), 0, DIFFERENT),
+    ("[null]", patch(("test", "/0", "0")), 0, DIFFERENT),
     ("[9007199254740993]", patch(("test", "/0", "9007199254740992")), 0, DIFFERENT),
     ("{}", patch(("test", "/a", "null")), 0, NO_TARGET),
 ]
@@ -179,6 +185,34 @@ FAILED += [
     ("[]", patch(*[("add", "/-", "2")] * 11, ("remove", "")), 11, WHOLE_REMOVED),
 ]
 
+# Several operations in a row that put items in one array or take them out, and what stands among them.
+SIX = [("add", "/0", "1")] * 6
+APPLIED += [
+    ("[7]", patch(*SIX), "[1,1,1,1,1,1,7]"),
+    ("[7]", patch(*[("add", f"/{i}", str(i)) for i in range(6)]), "[0,1,2,3,4,5,7]"),
+    ("[7,8]", patch(*[("add", "/1", str(i)) for i in range(6)]), "[7,5,4,3,2,1,0,8]"),
+    ("[7]", patch(*SIX, ("add", "/-", "2"), ("remove", "/1"), ("add", "/7", "3")), "[1,1,1,1,1,7,2,3]"),
+    ("[1,2,3,4,5,6,7]", patch(*[("remove", "/1")] * 6), "[1]"),
+    ("[0]", patch(*[("add", "/-", "1"), ("remove", "/0")] * 6), "[1]"),
+    ('{"a":[7],"b":[8]}', patch(*[("add", "/a/0", "1")] * 6, *[("add", "/b/1", "2")] * 6), '{"a":[1,1,1,1,1,1,7],"b":[8,2,2,2,2,2,2]}'),
+    ("[[7],8]", patch(*[("add", "/0/-", "1")] * 6), "[[7,1,1,1,1,1,1],8]"),
+    ("[[],8]", patch(("add", "/0/0", "1"), *[("add", "/0/0", "2")] * 5, ("remove", "/0"), ("add", "/0", "3")), "[3,8]"),
+    ('{"a":{}}', patch(*[("add", f"/a/{i}", str(i)) for i in range(6)], ("remove", "/a/0")), '{"a":{"1":1,"2":2,"3":3,"4":4,"5":5}}'),
+    ("[7]", patch(*SIX, ("test", "", "[1,1,1,1,1,1,7]"), ("copy", "/0", "/6"), *SIX), "[1,1,1,1,1,1,7,1,1,1,1,1,1,7]"),
+    ("[7]", patch(*SIX, ("add", "", "[[]]"), *[("add", "/0/0", "2")] * 6), "[[2,2,2,2,2,2]]"),
+    ("[7]", patch(*SIX, ("add", "/0", "[8]"), *[("add", "/0/0", "9")] * 6), "[[9,9,9,9,9,9,8],1,1,1,1,1,1,7]"),
+]
+FAILED += [
+    ("[7]", patch(*SIX, ("remove", "/7")), 6, NO_TARGET),
+    ("[7]", patch(*SIX, ("add", "/8", "1")), 6, NO_PLACE),
+    ("[7]", patch(*SIX, ("add", "/a", "1"), ("remove", "")), 6, NO_PLACE),
+    ("[7,8,9]", patch(*[("remove", "/0")] * 6), 3, NO_TARGET),
+    ('{"a":1}', patch(*[("add", "/a/0", "1")] * 6), 0, NO_PLACE),
+    ("{}", patch(*[("remove", "/a/0")] * 6), 0, NO_TARGET),
+    ("[[7]]", patch(*[("add", "/0/0", "1")] * 6, ("remove", "/1")), 6, NO_TARGET),
+    ("[7]", patch(*SIX, *[("add", "", "1")] * 2, *SIX), 8, NO_PLACE),
+]
+
 # RFC 6901: the empty key, `%`, indices, and that nothing lies in a string.
 APPLIED += [
     ('{"":{"":1}}', patch(("replace", "//", "2")), '{"":{"":2}}'),
@@ -191,6 +225,10 @@ FAILED += [
     ("[1,2]", patch(("remove", "/01")), 0, NO_TARGET),
     ("[1,2]", patch(("add", "/+1", "3")), 0, NO_PLACE),
     ("[1,2]", patch(("add", "/1.0", "3")), 0, NO_PLACE),
+    ("[1,2]", patch(("add", "/1e0", "3")), 0, NO_PLACE),
+    ("[1,2]", patch(("add", "/-1", "3")), 0, NO_PLACE),
+    ("[1,2]", patch(("add", "/ 1", "3")), 0, NO_PLACE),
+    ("[1,2]", patch(("add", "/\u0661", "3")), 0, NO_PLACE),
     ("[1,2]", patch(("remove", "/4294967296")), 0, NO_TARGET),
     ("[1,2]", patch(("remove", "/18446744073709551616")), 0, NO_TARGET),
     ("[1,2]", patch(("add", "/18446744073709551617", "3")), 0, NO_PLACE),
@@ -262,13 +300,22 @@ LONG_MALFORMED = [
     (patch(*[("add", "/-", "1")] * 5_000)[:-1] + ",0]", "operation 5000: it is no object"),
 ]
 
-# As many operations as items. Each moves the items behind its place, and copies none.
+# As many operations as items, of which none copies the items, and none at an end moves them.
 MANY = 20_000
 ITEMS = "[%s]" % ",".join(map(str, range(MANY)))
-AT = "/%d" % (MANY * 3 // 4)
+ZEROS = ",".join(["0"] * MANY)
+
+
+def many(*operations):
+    """A patch of as many operations, these in turn."""
+    return patch(*operations * (MANY // len(operations)))
+
+
 MANY_OPERATIONS = [
-    (ITEMS, patch(*[("add", AT, "0"), ("remove", AT)] * (MANY // 2)), ITEMS),
-    (ITEMS, patch(*[("add", "/-", "0")] * MANY), "[%s%s]" % (ITEMS[1:-1], ",0" * MANY)),
+    (ITEMS, many(("add", "/0", "0")), f"[{ZEROS},{ITEMS[1:]}"),
+    (ITEMS, many(("add", "/-", "0")), f"{ITEMS[:-1]},{ZEROS}]"),
+    (ITEMS, many(("remove", "/0")), "[]"),
+    *((ITEMS, many(("add", f"/{at}", "0"), ("remove", f"/{at}")), ITEMS) for at in (0, MANY * 3 // 4)),
 ]
 
 # Forty copies of the whole to its end: more than fits.

@@ -3,3 +3,4 @@ pub mod Message
 pub mod Operation
 pub mod Patch
 pub mod Reading
+pub mod Running

@@ -11,6 +11,7 @@ mod document;
 mod fault;
 mod operation;
 mod patch;
+mod run;
 
 pub use fault::{Fault, Member, PatchError};
 pub use operation::{Operation, OperationError, Reason};

@@ -4,7 +4,8 @@ ghost use Rattle.tinyjson.specs.View.{view};
 ghost use Rattle.json_patch_document.specs.Message.{apply_error_message};
 ghost use Rattle.json_patch_document.specs.Patch.{actions_of, all_applied, AppliesAll, RunsAll};
 
-use crate::operation::{Operation, OperationError, Reason};
+use crate::operation::{Operation, Reason};
+use crate::run::{apply_beside, apply_one};
 use std::alloc::{AllocError, Global};
 use std::error::Error;
 use std::{fmt, mem};
@@ -80,14 +81,11 @@ impl Patch {
         ensures { RunsAll (all_applied 0 (actions_of self.now) (view value.old))
             result (view value.new) }
     {
-        for (number, operation) in self.operations.iter().enumerate() {
-            match operation.apply(alloc, value) {
-                Ok(()) => {}
-                Err(OperationError::Failed(reason)) => {
-                    return Err(ApplyError::Failed(number, reason));
-                }
-                Err(OperationError::OutOfMemory) => return Err(ApplyError::OutOfMemory),
-            }
+        let total = self.operations.len();
+        let mut rest = self.operations.as_slice();
+        while let Some((operation, others)) = rest.split_first() {
+            apply_one(alloc, operation, total - rest.len(), value)?;
+            rest = apply_beside(alloc, operation, others, total, value)?;
         }
         Ok(())
     }

@@ -82,7 +82,7 @@ with_part_step : (t p : Tree) (k : List ℕ) (ks : List (List ℕ)) (u : Tree) �
     → with_part t (k ∷ ks) u ≡ with_step t k (with_part p ks u)
 with_part_step t p k ks u e = ap (λ o. option_map_or (λ r. with_step t k (with_part r ks u)) o t) e
 
-part_put : (ks : List (List ℕ)) (t u x : Tree) → part_at t ks ≡ Some x → part_at (with_part t ks u) ks ≡ Some u
+pub part_put : (ks : List (List ℕ)) (t u x : Tree) → part_at t ks ≡ Some x → part_at (with_part t ks u) ks ≡ Some u
 part_put [] t u x h = refl
 part_put (k ∷ ks) t u x h = by (step t k) refl h (λ p g. part_put ks p u x g)
   where
@@ -94,7 +94,7 @@ part_put (k ∷ ks) t u x h = by (step t k) refl h (λ p g. part_put ks p u x g)
         ap (λ r. part_at r (k ∷ ks)) (with_part_step t p k ks u e)
         ∙ (ap (option_and_then (λ r. part_at r ks)) (step_put t k p (with_part p ks u) e) ∙ later p g)
 
-part_again : (ks : List (List ℕ)) (t u w x : Tree) → IsTree t → part_at t ks ≡ Some x
+pub part_again : (ks : List (List ℕ)) (t u w x : Tree) → IsTree t → part_at t ks ≡ Some x
     → with_part (with_part t ks u) ks w ≡ with_part t ks w
 part_again [] t u w x s h = refl
 part_again (k ∷ ks) t u w x s h = by (step t k) refl h (λ p sound g. part_again ks p u w x sound g)
@@ -110,7 +110,7 @@ part_again (k ∷ ks) t u w x s h = by (step t k) refl h (λ p sound g. part_aga
         ∙ (step_again t k q (with_part q ks w) s
         ∙ (ap (with_step t k) (later p (step_sound t k p s e) g) ∙ sym (with_part_step t p k ks w e))))
 
-part_back : (ks : List (List ℕ)) (t x : Tree) → IsTree t → part_at t ks ≡ Some x → with_part t ks x ≡ t
+pub part_back : (ks : List (List ℕ)) (t x : Tree) → IsTree t → part_at t ks ≡ Some x → with_part t ks x ≡ t
 part_back [] t x s h = cc
 part_back (k ∷ ks) t x s h = by (step t k) refl h (λ p sound g. part_back ks p x sound g)
   where
@@ -122,22 +122,22 @@ part_back (k ∷ ks) t x s h = by (step t k) refl h (λ p sound g. part_back ks 
 
 -- ---- all tokens but the last, and the last
 
-last_is : (j : List ℕ) (js : List (List ℕ)) (k : List ℕ) → last_of j (js ++ k ∷ []) ≡ k
+pub last_is : (j : List ℕ) (js : List (List ℕ)) (k : List ℕ) → last_of j (js ++ k ∷ []) ≡ k
 last_is j [] k = refl
 last_is j (i ∷ js) k = last_is i js k
 
-rest_is : (j : List ℕ) (js : List (List ℕ)) (k : List ℕ) → all_but_last j (js ++ k ∷ []) ≡ j ∷ js
+pub rest_is : (j : List ℕ) (js : List (List ℕ)) (k : List ℕ) → all_but_last j (js ++ k ∷ []) ≡ j ∷ js
 rest_is j [] k = refl
 rest_is j (i ∷ js) k = ap (λ x. j ∷ x) (rest_is i js k)
 
-new_part_at : (t : Tree) (js : List (List ℕ)) (k : List ℕ) (u : Tree)
+pub new_part_at : (t : Tree) (js : List (List ℕ)) (k : List ℕ) (u : Tree)
     → with_new_part t (js ++ k ∷ []) u ≡ changed_at (λ part. with_child part k u) t js
 new_part_at t [] k u = refl
 new_part_at t (j ∷ js) k u =
     ap (λ l. changed_at (λ part. with_child part l u) t (all_but_last j (js ++ k ∷ []))) (last_is j js k)
     ∙ ap (changed_at (λ part. with_child part k u) t) (rest_is j js k)
 
-without_part_at : (t : Tree) (js : List (List ℕ)) (k : List ℕ)
+pub without_part_at : (t : Tree) (js : List (List ℕ)) (k : List ℕ)
     → without_part t (js ++ k ∷ []) ≡ changed_at (λ part. without_child part k) t js
 without_part_at t [] k = refl
 without_part_at t (j ∷ js) k =
@@ -161,12 +161,12 @@ part_last (j ∷ js) t k = by (step t j) (λ u. part_last js u k)
 
 module _ (t c e t1 t2 : Tree) (js : List (List ℕ)) (s : IsTree t) (there : part_at t js ≡ Some c) (out : t1 ≡ with_part t js null)
     (back : IsSome (part_at t1 js) → t2 ≡ with_part t1 js e) where
-  is_back : t2 ≡ with_part t js e
+  pub is_back : t2 ≡ with_part t js e
   is_back =
       back (subst IsSome (sym (ap (λ r. part_at r js) out ∙ part_put js t null c there)) refl)
       ∙ (ap (λ r. with_part r js e) out ∙ part_again js t null e c s there)
 
-  unchanged : e ≡ c → t2 ≡ t
+  pub unchanged : e ≡ c → t2 ≡ t
   unchanged same = is_back ∙ (ap (with_part t js) same ∙ part_back js t c s there)
 
   changes : (f : Tree → Option Tree) → changed_at f t js ≡ option_map (with_part t js) (f c)

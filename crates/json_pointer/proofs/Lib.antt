@@ -4,3 +4,5 @@ pub mod Replacing
 pub mod Indices
 pub mod Changing
 pub mod Places
+pub mod Beside
+pub mod Callers

@@ -1,6 +1,6 @@
 -- Parts that are put into one container, or taken out of it.
 use Rattle.std.proofs.Common.{◌≡◌, ◌≤◌, ◌<◌, ◌^◌, ◌&&◌, ℕ, zero, suc, Bool, true, false, cond, bytes_eq, codes, List}
-use Rattle.std.proofs.Common.{[], ◌∷◌, ◌++◌, length, get_or}
+use Rattle.std.proofs.Common.{[], ◌∷◌, length, get_or}
 use Rattle.std.proofs.Common.{map, Option, Some, None, option_map, MatchOption, Result, String, Vec, Global, refl, sym}
 use Rattle.std.proofs.Common.{ap, ◌∙◌, subst, arith}
 use Rattle.std.proofs.Common.{encode_utf8_all, true≢false}
@@ -12,7 +12,6 @@ use Rattle.std.specs.Str.{IsUtf8, chars}
 use Rattle.std.specs.String.{string_eq}
 use Rattle.tinyjson.proofs.Callers.{text_eq, chars_literal, IsAscii_literal, item_count_view, nth_items_view, object_tree, view_Object}
 use Rattle.tinyjson.specs.Access.{JsonMap, object_part}
-use Rattle.tinyjson.specs.Index.{item_count}
 use Rattle.tinyjson.specs.Tree as tree
 use Rattle.tinyjson.specs.Tree.{Tree, array, object, Members, no_members, member, find}
 use Rattle.tinyjson.specs.View.{view, text, items_view, members_view}

@@ -13,7 +13,7 @@ use Rattle.tinyjson.specs.declared.value.JsonValue.TheVariants as is
 use Rattle.json_pointer.specs.Index.{index_of}
 use Rattle.json_pointer.specs.Walk.{step, item_of}
 
-nth_past : (vs : List JsonValue) (i : ℕ) → length vs ≤ i → nth (items_view vs) i ≡ None
+pub nth_past : (vs : List JsonValue) (i : ℕ) → length vs ≤ i → nth (items_view vs) i ≡ None
 nth_past [] i h = refl
 nth_past (v ∷ vs) zero h = absurd (omega arith)
 nth_past (v ∷ vs) (suc i) h = nth_past vs i (omega arith)

@@ -83,7 +83,7 @@ impl Pointer {
 }
 
 /// Takes out the part that the tokens name, and puts null in its place.
-fn take_at(value: &mut JsonValue, tokens: &[String]) -> Option<JsonValue>
+pub(crate) fn take_at(value: &mut JsonValue, tokens: &[String]) -> Option<JsonValue>
     ensures { MatchOption result
         ((part_at (view value.old) (map text tokens.now) ≡ None)
         × (view value.new ≡ view value.old))
@@ -97,7 +97,7 @@ fn take_at(value: &mut JsonValue, tokens: &[String]) -> Option<JsonValue>
 }
 
 /// Puts the part in the place of the one that the tokens name, and frees that.
-fn put_back(value: &mut JsonValue, tokens: &[String], part: JsonValue)
+pub(crate) fn put_back(value: &mut JsonValue, tokens: &[String], part: JsonValue)
     ensures { IsSome (part_at (view value.old) (map text tokens.now)) →
         view value.new ≡ with_part (view value.old) (map text tokens.now) (view part) }
 {
@@ -166,7 +166,7 @@ fn insert_item(items: &mut Vec<JsonValue>, token: &str, part: JsonValue) -> Resu
 }
 
 /// Where the token puts an item among so many.
-fn place(token: &str, count: usize) -> Option<usize>
+pub(crate) fn place(token: &str, count: usize) -> Option<usize>
     ensures { MatchOption result
         ((i : ℕ) → place_of count (chars token.now) ≡ Some i → count < i)
         (λ i. (place_of count (chars token.now) ≡ Some i) × (i ≤ count)) }

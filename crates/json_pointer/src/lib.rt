@@ -10,6 +10,7 @@ mod change;
 mod index;
 mod parse;
 mod pointer;
+mod siblings;
 mod walk;
 
 pub use change::InsertError;

@@ -1,6 +1,5 @@
 use Rattle.std.proofs.Common.{arith, ◌≡◌, ◌≤◌, ◌^◌, ℕ, length, Some, refl}
 use Rattle.std.specs.Str.{chars}
-use Rattle.tinyjson.specs.View.{items_view}
 use Rattle.json_pointer.proofs.Places.{none_removed, no_removal, removal}
 use Rattle.json_pointer.specs.Index.{index_of}
 use Rattle.json_pointer.proofs.change.remove_item.Goals as goal

@@ -1,0 +1,14 @@
+use Rattle.std.proofs.Common.{map}
+use Rattle.tinyjson.proofs.Callers.{view_IsTree}
+use Rattle.tinyjson.specs.View.{view}
+use Rattle.json_pointer.specs.Tokens.{tokens_of}
+use Rattle.json_patch_document.proofs.Turns.{beside_run}
+use Rattle.json_patch_document.specs.Operation.{action_of}
+use Rattle.json_patch_document.proofs.run.apply_beside.Goals as goal
+
+pub returns : goal.returns
+returns c =
+    beside_run c.args.total (map action_of c.args.others.now) (view c.args.value.now) (view c.take_items.new.value)
+    (view c.put_items.new.value) (tokens_of c.in-Some.path.now) c.in-Some-take_items.items.items
+    c.apply_among-answer.new.items.items c.apply_among-answer.result (view_IsTree c.args.value.now) c.in-Some-take_items.ensures
+    c.put_items.ensures c.apply_among-answer.ensures

@@ -1,0 +1,100 @@
+-- The container of a place that tokens name, and the items of an array apart from its value.
+use Rattle.std.proofs.Common.{◌≡◌, ◌<◌, ◌≤◌, ◌&&◌, ℕ, Bool, List, [], ◌∷◌, ◌++◌, length, map, Option, Some, None}
+use Rattle.std.proofs.Common.{IsSome, IfSome, IfNone, OnSome, String, Vec, Global, option_map, get_or, refl, sym, ap, ◌∙◌, subst, arith}
+use Rattle.std.proofs.lemmas.List.{map-append}
+use Rattle.std.specs.List.{remove, starts_with}
+use Rattle.std.specs.declared.collections.VecDeque.{VecDeque}
+use Rattle.std.specs.String.{string_eq}
+use Rattle.tinyjson.proofs.Callers.{view_Array}
+use Rattle.tinyjson.specs.Tree.{Tree, null, array}
+use Rattle.tinyjson.specs.View.{view, text, items_view}
+use Rattle.tinyjson.specs.declared.value.JsonValue.{JsonValue}
+use Rattle.tinyjson.specs.declared.value.JsonValue.TheVariants as is
+use Rattle.json_pointer.proofs.Changing.{last_is, rest_is}
+use Rattle.json_pointer.proofs.Places.{begins, removal}
+use Rattle.json_pointer.proofs.Steps.{nth_past}
+use Rattle.json_pointer.specs.Change.{all_but_last, without_child, without_step, Removes}
+use Rattle.json_pointer.specs.Index.{index_of}
+use Rattle.json_pointer.specs.Siblings.{container_at, with_container, child_name, are_beside, IsTaken}
+use Rattle.json_pointer.specs.Tokens.{begins_with}
+use Rattle.json_pointer.specs.Walk.{step, item_of, part_at, with_part}
+
+-- ---- of all tokens but the last, and the last
+
+pub container_is : (t : Tree) (js : List (List ℕ)) (k : List ℕ) → container_at t (js ++ k ∷ []) ≡ part_at t js
+container_is t [] k = refl
+container_is t (j ∷ js) k = ap (part_at t) (rest_is j js k)
+
+pub with_is : (t c : Tree) (js : List (List ℕ)) (k : List ℕ) → with_container t (js ++ k ∷ []) c ≡ with_part t js c
+with_is t c [] k = refl
+with_is t c (j ∷ js) k = ap (λ x. with_part t x c) (rest_is j js k)
+
+pub name_is : (js : List (List ℕ)) (k : List ℕ) → child_name (js ++ k ∷ []) ≡ k
+name_is [] k = refl
+name_is (j ∷ js) k = last_is j js k
+
+abbrev both_begin : List (List ℕ) → List (List ℕ) → Bool
+both_begin js is = begins_with js is && begins_with is js
+
+beside_is : (js is : List (List ℕ)) (k l : List ℕ) → are_beside (js ++ k ∷ []) (is ++ l ∷ []) ≡ both_begin js is
+beside_is [] [] k l = refl
+beside_is [] (i ∷ is) k l = ap (both_begin []) (rest_is i is l)
+beside_is (j ∷ js) [] k l = ap (λ x. both_begin x []) (rest_is j js k)
+beside_is (j ∷ js) (i ∷ is) k l =
+    ap (λ x. both_begin x (all_but_last i (is ++ l ∷ []))) (rest_is j js k) ∙ ap (both_begin (j ∷ js)) (rest_is i is l)
+
+pub split_tokens : (xs fs : List (String Global)) (l : String Global) → xs ≡ fs ++ l ∷ [] → map text xs ≡ map text fs ++ text l ∷ []
+split_tokens xs fs l e = ap (map text) e ∙ map-append text fs (l ∷ [])
+
+pub beside_both : (xs ys fs gs : List (String Global)) (k l : String Global) → xs ≡ fs ++ k ∷ [] → ys ≡ gs ++ l ∷ []
+    → are_beside (map text xs) (map text ys) ≡ (starts_with string_eq fs gs && starts_with string_eq gs fs)
+beside_both xs ys fs gs k l e f =
+    ap (λ ks. are_beside ks (map text ys)) (split_tokens xs fs k e)
+    ∙ (ap (are_beside (map text fs ++ text k ∷ [])) (split_tokens ys gs l f)
+    ∙ (beside_is (map text fs) (map text gs) (text k) (text l)
+    ∙ (ap (λ b. b && begins_with (map text gs) (map text fs)) (sym (begins fs gs))
+    ∙ ap (λ b. starts_with string_eq fs gs && b) (sym (begins gs fs)))))
+
+-- ---- the container is taken out, or another one put in its place
+
+pub taken : (t t' : Tree) (ks js : List (List ℕ)) (k : List ℕ) (v : JsonValue) (l : Vec JsonValue Global) (vs : List JsonValue)
+    → ks ≡ js ++ k ∷ [] → v ≡ is.Array l → vs ≡ l.items → part_at t js ≡ Some (view v) → t' ≡ with_part t js null
+    → IsTaken t ks (array (items_view vs)) t'
+taken t t' ks js k v l vs split e same there out = (
+  ap (container_at t) split ∙ (container_is t js k ∙ (there
+      ∙ ap Some (ap view e ∙ (view_Array l ∙ ap (λ xs. array (items_view xs)) (sym same))))),
+  out ∙ sym (ap (λ x. with_container t x null) split ∙ with_is t null js k),
+)
+
+pub put_in : (t t' c : Tree) (ks js : List (List ℕ)) (k : List ℕ) → ks ≡ js ++ k ∷ []
+    → (IsSome (part_at t js) → t' ≡ with_part t js c) → IsSome (container_at t ks) → t' ≡ with_container t ks c
+put_in t t' c ks js k split h there =
+    h (subst IsSome (ap (container_at t) split ∙ container_is t js k) there)
+    ∙ sym (ap (λ x. with_container t x c) split ∙ with_is t c js k)
+
+-- ---- items
+
+pub nothing_there : (vs : List JsonValue) (k : List ℕ) (o : Option ℕ) → index_of k ≡ o → ((i : ℕ) → o ≡ Some i → length vs ≤ i)
+    → without_child (array (items_view vs)) k ≡ None
+nothing_there vs k o at past =
+    ap (option_map (λ u. without_step (array (items_view vs)) k)) (ap (item_of (items_view vs)) at ∙ by o past)
+  where
+    by : (p : Option ℕ) → ((i : ℕ) → p ≡ Some i → length vs ≤ i) → item_of (items_view vs) p ≡ None
+    by None h = refl
+    by (Some i) h = nth_past vs i (h i refl)
+
+pub removes_at : (vs ws : List JsonValue) (k : List ℕ) (i : ℕ) (r : Option JsonValue) → index_of k ≡ Some i
+    → (IsSome r → i < length vs) → (i < length vs → IsSome r) → IfNone r (ws ≡ vs) → IfSome r (λ x. x ≡ get_or vs i x)
+    → OnSome r (ws ≡ remove vs i)
+    → Removes (step (array (items_view vs)) k) (without_child (array (items_view vs)) k) (array (items_view vs)) r
+    (array (items_view ws))
+removes_at vs ws k i None at within there same is out =
+    (nothing_there vs k (Some i) at (λ j e. let one : i ≡ j = cc in past j one), ap (λ xs. array (items_view xs)) same)
+  where
+    past : (j : ℕ) → i ≡ j → length vs ≤ j
+    past j e = grind (arith, there)
+removes_at vs ws k i (Some x) at within there same is out = removal vs ws k i x at (within refl) is out
+
+pub same_items : (p q : VecDeque JsonValue Global) (r : Option JsonValue) → IfNone r (q ≡ p) → IfNone r (q.items ≡ p.items)
+same_items p q None h = ap (λ x. x.items) h
+same_items p q (Some x) h = h

@@ -1,0 +1,81 @@
+-- What callers need of the container of a place, apart from the tree that holds it.
+use Rattle.std.proofs.Common.{◌≡◌, ◌&&◌, ℕ, Bool, true, false, bytes_eq, List, [], ◌∷◌, Option, Some, None, IsSome, option_map, refl}
+use Rattle.std.proofs.Common.{ap, ◌∙◌}
+use Rattle.std.proofs.lemmas.Slice.Eq.{bytes_eq-Decides}
+use Rattle.std.specs.Prelude.{option_and_then}
+use Rattle.tinyjson.specs.Soundness.{IsTree}
+use Rattle.tinyjson.specs.Tree.{Tree, null}
+use Rattle.json_pointer.proofs.Changing.{part_put, part_again, part_back, is_back}
+use Rattle.json_pointer.specs.Change.{with_child, without_child, changed_at, all_but_last, last_of, with_new_part, without_part}
+use Rattle.json_pointer.specs.Siblings.{container_at, with_container, child_name, are_beside}
+use Rattle.json_pointer.specs.Tokens.{begins_with}
+use Rattle.json_pointer.specs.Walk.{part_at, with_part}
+
+-- ---- a container that is taken out, and another one that is put in its place
+
+pub container_back : (t c : Tree) (ks : List (List ℕ)) → IsTree t → container_at t ks ≡ Some c → with_container t ks c ≡ t
+container_back t c [] s h = refl
+container_back t c (k ∷ ks) s h = part_back (all_but_last k ks) t c s h
+
+pub container_put : (t c d t1 t2 : Tree) (ks : List (List ℕ)) → IsTree t → container_at t ks ≡ Some c → t1 ≡ with_container t ks null
+    → (IsSome (container_at t1 ks) → t2 ≡ with_container t1 ks d) → t2 ≡ with_container t ks d
+container_put t c d t1 t2 [] s there out back = cc
+container_put t c d t1 t2 (k ∷ ks) s there out back = is_back t c d t1 t2 (all_but_last k ks) s there out back
+
+-- ---- a change of one child, where the container is another one
+
+both_true : (a b : Bool) → (a && b) ≡ true → (a ≡ true) × (b ≡ true)
+both_true true b h = (refl, h)
+both_true false b h = cc
+
+same_tokens : (xs ys : List (List ℕ)) → begins_with xs ys ≡ true → begins_with ys xs ≡ true → xs ≡ ys
+same_tokens [] [] g h = refl
+same_tokens [] (y ∷ ys) g h = cc
+same_tokens (x ∷ xs) [] g h = cc
+same_tokens (x ∷ xs) (y ∷ ys) g h =
+    let front = both_true (bytes_eq y x) (begins_with xs ys) g in
+    let back = both_true (bytes_eq x y) (begins_with ys xs) h in
+    ap (λ z. z ∷ xs) ((bytes_eq-Decides x y).0 back.0) ∙ ap (λ zs. y ∷ zs) (same_tokens xs ys front.1 back.1)
+
+again : (js : List (List ℕ)) (t d x : Tree) (o : Option Tree) → IsTree t → part_at t js ≡ Some x
+    → option_map (with_part (with_part t js d) js) o ≡ option_map (with_part t js) o
+again js t d x None s h = refl
+again js t d x (Some w) s h = ap Some (part_again js t d w x s h)
+
+changed_in : (f : Tree → Option Tree) (js is : List (List ℕ)) (t d x : Tree) → is ≡ js → IsTree t → part_at t js ≡ Some x
+    → changed_at f (with_part t js d) is ≡ option_map (with_part t js) (f d)
+changed_in f js is t d x same s h =
+    ap (changed_at f (with_part t js d)) same
+    ∙ (ap (option_and_then (λ part. option_map (with_part (with_part t js d) js) (f part))) (part_put js t d x h)
+    ∙ again js t d x (f d) s h)
+
+fronts_same : (k l : List ℕ) (ks ls : List (List ℕ)) → are_beside (l ∷ ls) (k ∷ ks) ≡ true → all_but_last l ls ≡ all_but_last k ks
+fronts_same k l ks ls h =
+    let both = both_true (begins_with (all_but_last l ls) (all_but_last k ks)) (begins_with (all_but_last k ks) (all_but_last l ls)) h in
+    same_tokens (all_but_last l ls) (all_but_last k ks) both.0 both.1
+
+-- putting in a part beside the place that the tokens name changes its container alone
+pub inserted_beside : (t d u : Tree) (ks ls : List (List ℕ)) → IsTree t → IsSome (container_at t ks) → are_beside ls ks ≡ true
+    → with_new_part (with_container t ks d) ls u ≡ option_map (with_container t ks) (with_child d (child_name ls) u)
+inserted_beside t d u ks [] s there h = cc
+inserted_beside t d u [] (l ∷ ls) s there h = cc
+inserted_beside t d u (k ∷ ks) (l ∷ ls) s there h = by (part_at t (all_but_last k ks)) refl there
+  where
+    by : (o : Option Tree) → part_at t (all_but_last k ks) ≡ o → IsSome o
+        → with_new_part (with_container t (k ∷ ks) d) (l ∷ ls) u ≡ option_map (with_container t (k ∷ ks)) (with_child d (last_of l ls) u)
+    by None e g = cc
+    by (Some x) e g =
+        changed_in (λ part. with_child part (last_of l ls) u) (all_but_last k ks) (all_but_last l ls) t d x (fronts_same k l ks ls h) s e
+
+-- so does taking one out
+pub removed_beside : (t d : Tree) (ks ls : List (List ℕ)) → IsTree t → IsSome (container_at t ks) → are_beside ls ks ≡ true
+    → without_part (with_container t ks d) ls ≡ option_map (with_container t ks) (without_child d (child_name ls))
+removed_beside t d ks [] s there h = cc
+removed_beside t d [] (l ∷ ls) s there h = cc
+removed_beside t d (k ∷ ks) (l ∷ ls) s there h = by (part_at t (all_but_last k ks)) refl there
+  where
+    by : (o : Option Tree) → part_at t (all_but_last k ks) ≡ o → IsSome o
+        → without_part (with_container t (k ∷ ks) d) (l ∷ ls) ≡ option_map (with_container t (k ∷ ks)) (without_child d (last_of l ls))
+    by None e g = cc
+    by (Some x) e g =
+        changed_in (λ part. without_child part (last_of l ls)) (all_but_last k ks) (all_but_last l ls) t d x (fronts_same k l ks ls h) s e
