@@ -219,6 +219,31 @@ SELECTED = [
         ("$.a[?@.b == 'j', 5]", [('{"b": "j"}', "$['a'][6]"), ("6", "$['a'][5]")]),
         ("$.a[?@[?@.b == 'j']]", []), ("$[?@[?@.b == 'j']]", [('[3, 5, 1, 2, 4, 6, {"b": "j"}, {"b": "k"}, {"b": {}}, {"b": "kilo"}]', "$['a']")]),
     ]),
+    # 2.4.4: how many characters, items or members; of other values, and of nothing, nothing.
+    ('["ab", [1,2,3], {"x":1}, 5, null, true, "\\ud83d\\ude00\u00e9", ""]', [
+        ("$[?length(@) == 2]", [('"ab"', "$[0]"), ('"\U0001F600\u00e9"', "$[6]")]), ("$[?length(@) == 3]", [("[1,2,3]", "$[1]")]),
+        ("$[?1 == length( @\t)]", [('{"x":1}', "$[2]")]), ("$[?length(@) == 0]", [('""', "$[7]")]), ("$[?length(@) > 2]", [("[1,2,3]", "$[1]")]),
+        ("$[?length(@) != length(@)]", []), ("$[?length(@) == $.x]", [("5", "$[3]"), ("null", "$[4]"), ("true", "$[5]")]),
+        ("$[?length('abc') == 3, 3]", [
+            *((value, f"$[{i}]") for i, value in enumerate(['"ab"', "[1,2,3]", '{"x":1}', "5", "null", "true", '"\U0001F600\u00e9"', '""'])), ("5", "$[3]"),
+        ]),
+        ("$[?length(length(@)) == length($.x) && length(@) == 0]", [('""', "$[7]")]), ("$[?length(@[2]) == 1]", []), ("$[?!(length(@) < 9)]", [
+            ("5", "$[3]"), ("null", "$[4]"), ("true", "$[5]"),
+        ]),
+    ]),
+    # 2.4.5: how many nodes, with duplicates.
+    ('{"a":[1,2,2],"b":{"x":[1]},"c":3}', [
+        ("$[?count(@.*) == 1]", [('{"x":[1]}', "$['b']")]), ("$[?count(@.*) == 3]", [("[1,2,2]", "$['a']")]), ("$[?count(@[0,0]) == 2]", [("[1,2,2]", "$['a']")]),
+        ("$[?count( @..* )==2]", [('{"x":[1]}', "$['b']")]), ("$[?count(@.x) < 1]", [("[1,2,2]", "$['a']"), ("3", "$['c']")]),
+        ("$[?count($.a[?@ == 2]) == 2 && count(@.x) == 1]", [('{"x":[1]}', "$['b']")]), ("$[?count($) == count(@) && @ == 3]", [("3", "$['c']")]),
+        ("$[?length(count(@)) == $.y && @ == 3]", [("3", "$['c']")]),
+    ]),
+    # 2.4.8: the value of the only node.
+    ('[{"color":"red"},{"a":{"color":"red"}},{"color":"red","b":{"color":"red"}},{"color":"blue"},{}]', [
+        ('$[?value(@..color) == "red"]', [('{"color":"red"}', "$[0]"), ('{"a":{"color":"red"}}', "$[1]")]),
+        ("$[?value(@..color) == $.x]", [('{"color":"red","b":{"color":"red"}}', "$[2]"), ("{}", "$[4]")]),
+        ("$[?length(value(@..color)) == 4]", [('{"color":"blue"}', "$[3]")]), ("$[?value(@) == $[3]]", [('{"color":"blue"}', "$[3]")]),
+    ]),
     # 2.6.1
     ('{"a": null, "b": [null], "c": [{}], "null": 1}', [
         ("$.b[?@]", [("null", "$['b'][0]")]), ("$.b[?@==null]", [("null", "$['b'][0]")]), ("$.c[?@.d==null]", []),
@@ -264,9 +289,26 @@ REFUSED = [
     ("$[?@ == 1.5.5]", 8), ("$[?@ == --1]", 8), ("$[?@ == 1-1]", 8), ("$[?@ == 0x1]", 9), ("$[?@ == 1a]", 9), ("$[?01 == @]", 3), ("$[?@ == - 1]", 8), ("$[?@ == e]", 8), ("$[?@ == NaN]", 8),
     ("$[?@ == True]", 8), ("$[?@ == TRUE]", 8), ("$[?@ == tru]", 8), ("$[?@ == nul]", 8), ("$[?@ == truee]", 12), ("$[?@ == nullnull]", 12), ("$[?@ == 'a]", 11), ("$[?@ == \"a']", 12), ("$[?@ == '\\x']", 10),
     ("$[?@ == []]", 8), ("$[?@ == {}]", 8), ("$[?@.a=='a' 'b']", 12),
+    # 2.4.3, 2.4.9: `length` takes a value, `count` and `value` a query, and none of them is a test; other functions are not known.
+    ("$[?length(@.*) < 3]", 11), ("$[?count(1) == 1]", 9), ("$[?count(foo(@.*)) == 1]", 9), ("$[?value(@..color)]", 3), ("$[?bar(@.a)]", 3), ("$[?bnl(@.*)]", 3), ("$[?blt(1==1)]", 3), ("$[?bal(1)]", 3),
+    ("$[?length(@)]", 3), ("$[?count(@)]", 3), ("$[?length(@) ]", 3), ("$[?!count(@)]", 4), ("$[?@.a && value(@)]", 10), ("$[?(length(@))]", 4), ("$[?foo(@) == 1]", 3), ("$[?1 == foo(@)]", 8),
+    ("$[?length() == 1]", 10), ("$[?length(@, @) == 1]", 11), ("$[?length (@) == 1]", 3), ("$[?Length(@) == 1]", 3), ("$[?length == 1]", 3), ("$[?lengths(@) == 1]", 3), ("$[?length(@ == 1]", 12),
+    ("$[?count((@.*)) == 1]", 9), ("$[?count(@.* == 1) == 1]", 13), ("$[?count(length(@)) == 1]", 9), ("$[?count('a') == 1]", 9), ("$[?count() == 1]", 9), ("$[?value(null) == 1]", 9), ("$[?count(@ .. a) == 1]", 13),
+    ("$[?length(@.a == 1) == 1]", 14), ("$[?length(@.a.*) == 1]", 13), ("$[?length(@[ 'a' ]) == 1]", 11), ("$[?length(!@) == 1]", 10), ("$[?length((@)) == 1]", 10), ("$[?length(01) == 1]", 10),
+    ("$[?count(@.a) == count(1)]", 23), ("$.count(@)", 7), ("$[?count(@[?count(1)]) == 1]", 18), ("$[?count(@.*) = 1]", 3), ("$[length(@)]", 2),
+    # The same of `match` and `search`, which take two values, and are tests.
+    ("$[?match(@.timezone, 'Europe/.*') == true]", 34), ("$[?true == match(@.timezone, 'Europe/.*')]", 11), ("$[?length(match(@.a, 'x')) == 1]", 10), ("$[?count(search(@.a, 'x')) == 1]", 9),
+    ("$[?match(@.a)]", 12), ("$[?match(@.a, 'x', 'y')]", 17), ("$[?match(@.*, 'x')]", 10), ("$[?search(@.a, @..b)]", 16), ("$[?match(1, )]", 12), ("$[?search()]", 10), ("$[?match (@, 'x')]", 3),
     # 2.3.4.1
     ("$[:::]", 4), ("$[1:2:3:4]", 7), ("$[1:a]", 4), ("$[1:'a']", 4), ("$[1:*]", 4), ("$['a':1]", 5), ("$[1::", 5), ("$[1:", 4), ("$[1:2:+1]", 6),
 ]
 
-# The message of such a text.
-NO_QUERY = "the query: no query of RFC 9535 without functions at character %d"
+# Queries that ask by `match` or `search` where they may (2.4.6, 2.4.7), and how many characters stand before the name.
+UNSUPPORTED = [
+    ("$.a[?match(@.b, \"[jk]\")]", 5), ("$.a[?search(@.b, \"[jk]\")]", 5), ("$[?match(@.timezone, 'Europe/.*')]", 3), ("$[?!search(@.a, @.b)]", 4), ("$[?@.a && match(@.b, 'x')]", 10),
+    ("$[?match( length(@) , value(@..a) ) || @.a]", 3), ("$[?(search(@, 'x'))]", 4), ("$[?@[?match(@, 'x')]]", 6),
+]
+
+# The messages of such a text and of such a query.
+NO_QUERY = "the query: no query of RFC 9535 at character %d"
+NO_PATTERNS = "the query: match and search are not supported at character %d"

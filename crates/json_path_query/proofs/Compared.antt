@@ -1,8 +1,12 @@
 -- What is compared: what is found at the front of a text is in the grammar, and what follows it is shorter.
-use Rattle.std.proofs.Common.{◌≡◌, ℕ, suc, zero, Bool, true, false, ◌==◌, cond, List, [], ◌∷◌, ◌++◌, length, Option, Some, None}
-use Rattle.std.proofs.Common.{option_map, refl, sym, ap, ◌∙◌, subst}
+use Rattle.std.proofs.Common.{◌≡◌, ℕ, ◌<◌, ◌≤◌, suc, zero, Bool, true, false, ◌==◌, cond, List, [], ◌∷◌, ◌++◌, length, Option, Some, None}
+use Rattle.std.proofs.Common.{option_map, refl, sym, ap, ◌∙◌, subst, arith}
+use Rattle.std.proofs.lemmas.Bool.{eqb-true, ne_eqb}
+use Rattle.std.specs.Prelude.{ℤ}
+use Rattle.tinyjson.specs.Number.{Decimal}
 use Rattle.json_path_query.specs.declared.query.ComparisonOperator.{ComparisonOperator}
 use Rattle.json_path_query.specs.declared.query.ComparisonOperator.TheVariants.{Equal, NotEqual, Less, LessOrEqual, Greater, GreaterOrEqual}
+use Rattle.json_path_query.specs.declared.query.Origin.{Origin}
 use Rattle.json_path_query.specs.declared.query.Origin.TheVariants.{Root, CurrentNode}
 use Rattle.json_path_query.specs.Forms.{Comparable}
 use Rattle.json_path_query.specs.Forms as form
@@ -14,16 +18,20 @@ use Rattle.json_path_query.specs.Grammar.{NumberText, LiteralText, SingularSegme
 use Rattle.json_path_query.specs.Fronts.{quoted_front, int_front, behind, behind_word, either, word_front, number_front, literal_front}
 use Rattle.json_path_query.specs.Fronts.{numbered, meaning, as_string, is_quote, name_before, index_before, bracketed_front, name_front}
 use Rattle.json_path_query.specs.Fronts.{singular_segment_front, singular_end, singular_turn, singular_front, as_singular, as_literal}
-use Rattle.json_path_query.specs.Fronts.{compared_front, comparable_front, or_equal, with_operator, operator_front, turns}
-use Rattle.json_path_query.specs.Fronts.{then_turn, with_first}
+use Rattle.json_path_query.specs.Fronts.{compared_front, comparable_front, or_equal, with_operator, operator_front, origin_of, turns}
+use Rattle.json_path_query.specs.Fronts.{then_turn, with_first, FrontOf, segments_front, as_query, begun_front, filter_query_front, held}
+use Rattle.json_path_query.specs.Fronts.{in_parentheses, closed_front, as_length, as_count, as_value, value_end, count_end, length_end}
+use Rattle.json_path_query.specs.Fronts.{function_front, begins_call, as_function}
+use Rattle.json_path_query.specs.Grammar.{TextsOf, FilterQueryText, ClosedText, FunctionText}
 use Rattle.json_path_query.proofs.Finds.{Finds, none_some, finds_none, finds_some, finds_cond, finds_map, finds_then, finds_as, at_code}
 use Rattle.json_path_query.proofs.Numerals.{decimal_sound}
-use Rattle.json_path_query.proofs.Sound.{behind_sound, int_sound, quoted_sound, one_quote}
+use Rattle.json_path_query.proofs.Sound.{Sound, behind_sound, int_sound, quoted_sound, one_quote, segments_sound}
 
 -- ---- literals
 
 number_sound : (xs : List ℕ) → Finds (number_front xs) (λ p. LiteralText xs p.0 p.1)
-number_sound xs = finds_map (numbered (number_chars xs).1) _ (finds_as (decimal_sound (number_chars xs).0) (λ d h. is.number (is.run refl h)))
+number_sound xs = finds_map (numbered (number_chars xs).1) _
+    (finds_as (decimal_sound (number_chars xs).0) (λ d h. is.number (is.run refl h)))
 
 word_sound : (word xs : List ℕ) → Finds (behind_word word xs) (λ ys. xs ≡ word ++ ys)
 word_sound [] xs = finds_some refl
@@ -91,21 +99,71 @@ singular_sound (suc n) xs =
     by (Some p) f rec =
         finds_map (with_first p.0) (turns singular_turn n p.1) (finds_as (rec p.1) (λ r k. is.more (f.at p refl) k))
 
-compared_sound : (c : ℕ) (cs : List ℕ) → Finds (comparable_front (c ∷ cs)) (λ p. ComparableText (c ∷ cs) p.0 p.1)
-compared_sound c cs = by (c == 64) (c == 36) refl refl
+-- ---- functions
+
+-- what is found is what T are the texts of, with no blanks behind it
+abbrev pub Exact : {A : Type 0} → TextsOf A → FrontOf A → Type 0
+Exact T G = (xs : List ℕ) → Finds (G xs) (λ p. T xs p.0 p.1)
+
+filter_query_sound : {E : Type 0} {T : TextsOf E} {F : FrontOf E} → Sound T F → Exact (FilterQueryText T) (filter_query_front F)
+filter_query_sound s [] = finds_none
+filter_query_sound {T = T} {F = F} s (c ∷ cs) = finds_then (begun_front F cs) (origin_of c) (finds_cond (c == 64)
+    (λ e. finds_some (finds_map (as_query CurrentNode) (segments_front F cs) (finds_as (segments_sound s (suc (length cs)) cs) (λ p m.
+    at_code (λ x. FilterQueryText T (x ∷ cs) (CurrentNode, p.0) p.1) c 64 e (is.relative m)))))
+    (λ _. finds_cond (c == 36)
+    (λ e. finds_some (finds_map (as_query Root) (segments_front F cs) (finds_as (segments_sound s (suc (length cs)) cs) (λ p m.
+    at_code (λ x. FilterQueryText T (x ∷ cs) (Root, p.0) p.1) c 36 e (is.absolute m)))))
+    (λ _. finds_none)))
+
+closed_sound : {A : Type 0} {T : TextsOf A} {G : FrontOf A} → Exact T G → Exact (ClosedText T) (closed_front G)
+closed_sound {G = G} s xs = finds_then in_parentheses (G (after_blanks xs)) (finds_as (s (after_blanks xs)) (λ p m.
+    finds_map (held p.0) (behind 41 (after_blanks p.1)) (finds_as (behind_sound 41 (after_blanks p.1)) (λ ys e. is.closed m e))))
+
+function_sound : {E C : Type 0} {T : TextsOf E} {A : TextsOf C} {F : FrontOf E} {G : FrontOf C} → Sound T F → Exact A G
+    → Exact (FunctionText T A) (function_front F G)
+function_sound {E = E} {C = C} {T = T} {A = A} {F = F} {G = G} s t xs =
+    length_by (behind_word is.length_call xs) (word_sound is.length_call xs)
+  where
+    value_by : (o : Option (List ℕ)) → Finds o (λ ys. xs ≡ is.value_call ++ ys)
+        → Finds (value_end F o) (λ p. FunctionText T A xs p.0 p.1)
+    value_by None h = finds_none
+    value_by (Some ys) h =
+        finds_map as_value (closed_front (filter_query_front F) ys) (finds_as (closed_sound (filter_query_sound s) ys) (λ p m.
+        subst (λ zs. FunctionText T A zs (form.value p.0.0 p.0.1) p.1) (sym (h.at ys refl)) (is.value_of m)))
+
+    count_by : (o : Option (List ℕ)) → Finds o (λ ys. xs ≡ is.count_call ++ ys)
+        → Finds (count_end F xs o) (λ p. FunctionText T A xs p.0 p.1)
+    count_by None h = value_by (behind_word is.value_call xs) (word_sound is.value_call xs)
+    count_by (Some ys) h =
+        finds_map as_count (closed_front (filter_query_front F) ys) (finds_as (closed_sound (filter_query_sound s) ys) (λ p m.
+        subst (λ zs. FunctionText T A zs (form.count p.0.0 p.0.1) p.1) (sym (h.at ys refl)) (is.count_of m)))
+
+    length_by : (o : Option (List ℕ)) → Finds o (λ ys. xs ≡ is.length_call ++ ys)
+        → Finds (length_end F G xs o) (λ p. FunctionText T A xs p.0 p.1)
+    length_by None h = count_by (behind_word is.count_call xs) (word_sound is.count_call xs)
+    length_by (Some ys) h = finds_map as_length (closed_front G ys) (finds_as (closed_sound t ys) (λ p m.
+        subst (λ zs. FunctionText T A zs (form.length p.0) p.1) (sym (h.at ys refl)) (is.length_of m)))
+
+compared_sound : {E C : Type 0} {T : TextsOf E} {A : TextsOf C} {F : FrontOf E} {G : FrontOf C} → Sound T F → Exact A G → (c : ℕ)
+    (cs : List ℕ) → Finds (comparable_front F G (c ∷ cs)) (λ p. ComparableText T A (c ∷ cs) p.0 p.1)
+compared_sound {T = T} {A = A} {F = F} {G = G} s t c cs = by (c == 64) (c == 36) refl refl
   where
     by : (b d : Bool) → (c == 64) ≡ b → (c == 36) ≡ d
-        → Finds (compared_front (c ∷ cs) cs (cond b (Some CurrentNode) (cond d (Some Root) None)))
-        (λ p. ComparableText (c ∷ cs) p.0 p.1)
+        → Finds (compared_front F G c cs (cond b (Some CurrentNode) (cond d (Some Root) None)))
+        (λ p. ComparableText T A (c ∷ cs) p.0 p.1)
     by true d e f = finds_map (as_singular CurrentNode) (singular_front cs) (finds_as (singular_sound (suc (length cs)) cs) (λ p m.
-        at_code (λ x. ComparableText (x ∷ cs) (form.singular CurrentNode p.0) p.1) c 64 e (is.relative m)))
+        at_code (λ x. ComparableText T A (x ∷ cs) (form.singular CurrentNode p.0) p.1) c 64 e (is.relative m)))
     by false true e f = finds_map (as_singular Root) (singular_front cs) (finds_as (singular_sound (suc (length cs)) cs) (λ p m.
-        at_code (λ x. ComparableText (x ∷ cs) (form.singular Root p.0) p.1) c 36 f (is.absolute m)))
-    by false false e f = finds_map as_literal (literal_front (c ∷ cs)) (finds_as (literal_sound (c ∷ cs)) (λ p m. is.literal m))
+        at_code (λ x. ComparableText T A (x ∷ cs) (form.singular Root p.0) p.1) c 36 f (is.absolute m)))
+    by false false e f =
+        finds_cond (begins_call c)
+        (λ _. finds_map as_function (function_front F G (c ∷ cs)) (finds_as (function_sound s t (c ∷ cs)) (λ p m. is.function m)))
+        (λ _. finds_map as_literal (literal_front (c ∷ cs)) (finds_as (literal_sound (c ∷ cs)) (λ p m. is.literal m)))
 
-pub comparable_sound : (xs : List ℕ) → Finds (comparable_front xs) (λ p. ComparableText xs p.0 p.1)
-comparable_sound [] = finds_none
-comparable_sound (c ∷ cs) = compared_sound c cs
+pub comparable_sound : {E C : Type 0} {T : TextsOf E} {A : TextsOf C} {F : FrontOf E} {G : FrontOf C} → Sound T F → Exact A G
+    → Exact (ComparableText T A) (comparable_front F G)
+comparable_sound s t [] = finds_none
+comparable_sound s t (c ∷ cs) = compared_sound s t c cs
 
 -- ---- operators
 

@@ -13,7 +13,7 @@ use Rattle.json_path_query.specs.declared.query.ComparisonOperator.{ComparisonOp
 use Rattle.json_path_query.specs.declared.query.ComparisonOperator.TheVariants.{Less, LessOrEqual, Greater, GreaterOrEqual}
 use Rattle.json_path_query.specs.declared.query.Origin.{Origin}
 use Rattle.json_path_query.specs.declared.query.Origin.TheVariants.{Root, CurrentNode}
-use Rattle.json_path_query.specs.Forms.{PlainSelector, Selector, Segment, Comparable, Operand, Basic, Expression}
+use Rattle.json_path_query.specs.Forms.{PlainSelector, Selector, Segment, Function, Comparable, Operand, Basic, Expression}
 use Rattle.json_path_query.specs.Forms as form
 use Rattle.json_path_query.specs.Values.{Literal, SingularSegment}
 use Rattle.json_path_query.specs.Values as value
@@ -36,6 +36,7 @@ use Rattle.json_path_query.specs.Grammar.{ShorthandText}
 use Rattle.json_path_query.specs.Grammar.{SegmentText, SegmentsText, OperandText, BasicText, JoinedText, ConjunctionText}
 use Rattle.json_path_query.specs.Grammar.{DisjunctionText, ExpressionText, QueryText, is_number_char, begins_with, NumberText}
 use Rattle.json_path_query.specs.Grammar.{LiteralText, SingularSegmentText, SingularSegmentsText, ComparableText, OperatorText}
+use Rattle.json_path_query.specs.Grammar.{FilterQueryText, ClosedText, FunctionText, ArgumentText}
 use Rattle.json_path_query.specs.Fronts.{exact_front, magnitude_front, int_front, hex_front, shifted, digit_on, code_front}
 use Rattle.json_path_query.specs.Fronts.{low_end}
 use Rattle.json_path_query.specs.Fronts.{unicode_end, escape_front, character_front, string_turn, quoted_front, begins_int}
@@ -50,14 +51,15 @@ use Rattle.json_path_query.specs.Fronts.{conjunction_front, disjunction_front, e
 use Rattle.json_path_query.specs.Fronts.{literal_front, as_string, name_before, index_before, bracketed_front}
 use Rattle.json_path_query.specs.Fronts.{singular_segment_front, singular_end, singular_turn, singular_front, as_singular, as_literal}
 use Rattle.json_path_query.specs.Fronts.{compared_front, comparable_front, or_equal, operator_front, as_comparison, operated_front}
-use Rattle.json_path_query.specs.Fronts.{left_end}
+use Rattle.json_path_query.specs.Fronts.{left_end, as_query, filter_query_front, held, in_parentheses, closed_front, as_length, as_count}
+use Rattle.json_path_query.specs.Fronts.{as_value, function_front, begins_call, as_function, argument_front}
 use Rattle.json_path_query.proofs.Before.{Ends, ends_at, ends_no_segment, ends_no_operator}
 use Rattle.json_path_query.proofs.Numerals.{decimal_complete}
 use Rattle.json_path_query.proofs.Finds.{none_some, some_same, finds_none}
 use Rattle.json_path_query.proofs.Turns.{Shortens, turns_at}
 use Rattle.json_path_query.proofs.Shorter.{Shortening, basic_shorter, joined_shorter, string_falls, front_falls, selection_falls}
-use Rattle.json_path_query.proofs.Shorter.{segments_falls, joined_falls, singular_falls}
-use Rattle.json_path_query.proofs.Compared.{singular_segment_sound}
+use Rattle.json_path_query.proofs.Shorter.{segments_falls, joined_falls, singular_falls, Keeping, comparable_shorter}
+use Rattle.json_path_query.proofs.Compared.{Exact, comparable_sound, singular_segment_sound}
 use Rattle.json_path_query.proofs.Conditions.{basic_sound, joined_sound}
 use Rattle.json_path_query.proofs.Sound.{Sound, blanks_once}
 
@@ -363,6 +365,7 @@ record BeginsComparable (xs : List ℕ) : Type 0 where
 record BeginsLiteral (xs : List ℕ) : Type 0 where
   begins : BeginsComparable xs
   no_origin : origin_of begins.first ≡ None
+  no_call : begins_call begins.first ≡ false
 
 -- what a number begins with
 record BeginsNumber (xs : List ℕ) : Type 0 where
@@ -394,19 +397,23 @@ number_begins_literal xs b = record {
   no_origin =
       cond-false (b.first == 64) _ _ (number_not b.first 64 b.number refl)
       ∙ cond-false (b.first == 36) _ _ (number_not b.first 36 b.number refl);
+  no_call =
+      or_from _ _ (number_not b.first 108 b.number refl)
+      (or_from _ _ (number_not b.first 99 b.number refl) (number_not b.first 118 b.number refl));
 }
 
-begins_literal : (c : ℕ) (cs : List ℕ) → (c == 33) ≡ false → (c == 40) ≡ false → origin_of c ≡ None → BeginsLiteral (c ∷ cs)
-begins_literal c cs e f o =
-    record { begins = record { first = c; rest = cs; at = refl; no_mark = e; no_parenthesis = f }; no_origin = o }
+begins_literal : (c : ℕ) (cs : List ℕ) → (c == 33) ≡ false → (c == 40) ≡ false → origin_of c ≡ None → begins_call c ≡ false
+    → BeginsLiteral (c ∷ cs)
+begins_literal c cs e f o k =
+    record { begins = record { first = c; rest = cs; at = refl; no_mark = e; no_parenthesis = f }; no_origin = o; no_call = k }
 
 literal_begins : (xs : List ℕ) (l : Literal) (ys : List ℕ) → LiteralText xs l ys → BeginsLiteral xs
 literal_begins xs l ys (is.number {d = d} m) = number_begins_literal xs (number_begins xs d ys (number_complete xs d ys m))
-literal_begins xs l ys (is.string (is.double {xs = zs} q)) = begins_literal 34 zs refl refl refl
-literal_begins xs l ys (is.string (is.single {xs = zs} q)) = begins_literal 39 zs refl refl refl
-literal_begins xs l ys is.is_true = begins_literal 116 _ refl refl refl
-literal_begins xs l ys is.is_false = begins_literal 102 _ refl refl refl
-literal_begins xs l ys is.is_null = begins_literal 110 _ refl refl refl
+literal_begins xs l ys (is.string (is.double {xs = zs} q)) = begins_literal 34 zs refl refl refl refl
+literal_begins xs l ys (is.string (is.single {xs = zs} q)) = begins_literal 39 zs refl refl refl refl
+literal_begins xs l ys is.is_true = begins_literal 116 _ refl refl refl refl
+literal_begins xs l ys is.is_false = begins_literal 102 _ refl refl refl refl
+literal_begins xs l ys is.is_null = begins_literal 110 _ refl refl refl refl
 
 literal_complete : (xs : List ℕ) (l : Literal) (ys : List ℕ) → LiteralText xs l ys → literal_front xs ≡ Some (l, ys)
 literal_complete xs l ys (is.number {d = d} m) =
@@ -453,19 +460,61 @@ singular_complete xs ss ys h (is.more {ys = zs} {s = s} {ss = ts} m k) =
     (ap (λ o. Some (singular_end xs o)) (singular_segment_complete (after_blanks xs) s zs m))
     ∙ ap (option_map (with_first s)) (singular_complete zs ts ys h k)
 
-comparable_complete : (xs : List ℕ) (a : Comparable) (ys : List ℕ) → begins_segment (after_blanks ys) ≡ false → ComparableText xs a ys
-    → comparable_front xs ≡ Some (a, ys)
-comparable_complete xs a ys h (is.literal {l = l} m) =
-    let b = literal_begins xs l ys m in
-    ap comparable_front b.begins.at
-    ∙ (ap (compared_front (b.begins.first ∷ b.begins.rest) b.begins.rest) b.no_origin
-    ∙ (ap (λ us. option_map as_literal (literal_front us)) (sym b.begins.at) ∙ ap (option_map as_literal) (literal_complete xs l ys m)))
-comparable_complete xs a ys h (is.relative {xs = zs} {ss = ss} m) =
-    ap (option_map (as_singular CurrentNode)) (singular_complete zs ss ys h m)
-comparable_complete xs a ys h (is.absolute {xs = zs} {ss = ss} m) =
-    ap (option_map (as_singular Root)) (singular_complete zs ss ys h m)
+-- G finds what T are the texts of, before what is no segment
+abbrev pub Reached : {A : Type 0} → TextsOf A → FrontOf A → Type 0
+Reached {A = A} T G = (xs : List ℕ) (a : A) (ys : List ℕ) → begins_segment (after_blanks ys) ≡ false → T xs a ys → G xs ≡ Some (a, ys)
 
-comparable_begins : (xs : List ℕ) (a : Comparable) (ys : List ℕ) → ComparableText xs a ys → BeginsComparable xs
+filter_query_complete : {E : Type 0} {T : TextsOf E} {F : FrontOf E} → Complete T F → Shortens (selection_turn F)
+    → Shortens (segments_turn F) → Reached (FilterQueryText T) (filter_query_front F)
+filter_query_complete t f g xs q ys h (is.relative {xs = zs} {ss = ss} m) =
+    ap (option_map (as_query CurrentNode)) (segments_complete t f g zs ss ys h m)
+filter_query_complete t f g xs q ys h (is.absolute {xs = zs} {ss = ss} m) =
+    ap (option_map (as_query Root)) (segments_complete t f g zs ss ys h m)
+
+closed_complete : {A : Type 0} {T : TextsOf A} {G : FrontOf A} → Reached T G → (xs : List ℕ) (a : A) (zs : List ℕ) → ClosedText T xs a zs
+    → closed_front G xs ≡ Some (a, zs)
+closed_complete k xs a zs (is.closed {ys = ys} m e) =
+    ap (option_and_then in_parentheses) (k (after_blanks xs) a ys (ap begins_segment e) m) ∙ ap (λ us. option_map (held a) (behind 41 us)) e
+
+function_complete : {E C : Type 0} {T : TextsOf E} {A : TextsOf C} {F : FrontOf E} {G : FrontOf C} → Complete T F
+    → Shortens (selection_turn F) → Shortens (segments_turn F) → Reached A G → (xs : List ℕ) (v : Function E C) (ys : List ℕ)
+    → FunctionText T A xs v ys → function_front F G xs ≡ Some (v, ys)
+function_complete t f g k xs v ys (is.length_of {xs = zs} {c = c} m) = ap (option_map as_length) (closed_complete k zs c ys m)
+function_complete t f g k xs v ys (is.count_of {xs = zs} {o = o} {ss = ss} m) =
+    ap (option_map as_count) (closed_complete (filter_query_complete t f g) zs (o, ss) ys m)
+function_complete t f g k xs v ys (is.value_of {xs = zs} {o = o} {ss = ss} m) =
+    ap (option_map as_value) (closed_complete (filter_query_complete t f g) zs (o, ss) ys m)
+
+call_complete : {E C : Type 0} {T : TextsOf E} {A : TextsOf C} (F : FrontOf E) (G : FrontOf C) (xs : List ℕ) (v : Function E C)
+    (ys : List ℕ) → FunctionText T A xs v ys → function_front F G xs ≡ Some (v, ys) → comparable_front F G xs ≡ Some (form.function v, ys)
+call_complete F G xs v ys (is.length_of m) e = ap (option_map as_function) e
+call_complete F G xs v ys (is.count_of m) e = ap (option_map as_function) e
+call_complete F G xs v ys (is.value_of m) e = ap (option_map as_function) e
+
+comparable_complete : {E C : Type 0} {T : TextsOf E} {A : TextsOf C} {F : FrontOf E} {G : FrontOf C} → Complete T F
+    → Shortens (selection_turn F) → Shortens (segments_turn F) → Reached A G → Reached (ComparableText T A) (comparable_front F G)
+comparable_complete {F = F} {G = G} t f g k xs a ys h (is.literal {l = l} m) =
+    let b = literal_begins xs l ys m in
+    ap (comparable_front F G) b.begins.at
+    ∙ (ap (compared_front F G b.begins.first b.begins.rest) b.no_origin
+    ∙ (cond-false (begins_call b.begins.first) _ _ b.no_call
+    ∙ (ap (λ us. option_map as_literal (literal_front us)) (sym b.begins.at) ∙ ap (option_map as_literal) (literal_complete xs l ys m))))
+comparable_complete t f g k xs a ys h (is.relative {xs = zs} {ss = ss} m) =
+    ap (option_map (as_singular CurrentNode)) (singular_complete zs ss ys h m)
+comparable_complete t f g k xs a ys h (is.absolute {xs = zs} {ss = ss} m) =
+    ap (option_map (as_singular Root)) (singular_complete zs ss ys h m)
+comparable_complete {F = F} {G = G} t f g k xs a ys h (is.function {f = v} m) =
+    call_complete F G xs v ys m (function_complete t f g k xs v ys m)
+
+function_begins : {E C : Type 0} {T : TextsOf E} {A : TextsOf C} (xs : List ℕ) (v : Function E C) (ys : List ℕ) → FunctionText T A xs v ys
+    → BeginsComparable xs
+function_begins xs v ys (is.length_of m) = record { first = 108; rest = _; at = refl; no_mark = refl; no_parenthesis = refl }
+function_begins xs v ys (is.count_of m) = record { first = 99; rest = _; at = refl; no_mark = refl; no_parenthesis = refl }
+function_begins xs v ys (is.value_of m) = record { first = 118; rest = _; at = refl; no_mark = refl; no_parenthesis = refl }
+
+comparable_begins : {E C : Type 0} {T : TextsOf E} {A : TextsOf C} (xs : List ℕ) (a : Comparable E C) (ys : List ℕ)
+    → ComparableText T A xs a ys → BeginsComparable xs
+comparable_begins xs a ys (is.function {f = v} m) = function_begins xs v ys m
 comparable_begins xs a ys (is.literal {l = l} m) = (literal_begins xs l ys m).begins
 comparable_begins xs a ys (is.relative {xs = zs} m) =
     record { first = 64; rest = zs; at = refl; no_mark = refl; no_parenthesis = refl }
@@ -569,49 +618,50 @@ operand_complete t f g xs o ys (is.absolute {xs = us} {ss = ss} m) k =
     ap (option_map (tested Root)) (segments_complete t f g us ss ys (ends_no_segment ys k) m)
 
 -- a query that is tested
-tested_complete : {E : Type 0} (F : FrontOf E) (c : ℕ) (cs ys : List ℕ) (origin : Origin) (o : Operand E) → (c == 33) ≡ false
-    → (c == 40) ≡ false → origin_of c ≡ Some origin → Stops cs → operand_front F (c ∷ cs) ≡ Some (o, ys)
-    → basic_front F (c ∷ cs) ≡ Some (form.affirmed o, ys)
-tested_complete F c cs ys origin o m p g s e =
+tested_complete : {E C : Type 0} (F : FrontOf E) (G : FrontOf C) (c : ℕ) (cs ys : List ℕ) (origin : Origin) (o : Operand E)
+    → (c == 33) ≡ false → (c == 40) ≡ false → origin_of c ≡ Some origin → Stops cs → operand_front F (c ∷ cs) ≡ Some (o, ys)
+    → basic_front F G (c ∷ cs) ≡ Some (form.affirmed o, ys)
+tested_complete F G c cs ys origin o m p g s e =
     cond-false (c == 33) _ _ m
     ∙ (cond-false (c == 40) _ _ p
-    ∙ (ap (λ q. option_and_then (left_end F (c ∷ cs)) (compared_front (c ∷ cs) cs q)) g
-    ∙ (ap (λ q. option_and_then (left_end F (c ∷ cs)) (option_map (as_singular origin) q)) s.at
-    ∙ (ap (operated_front F (c ∷ cs) (form.singular origin s.found.0)) s.none ∙ ap (option_map as_affirmed) e))))
+    ∙ (ap (λ q. option_and_then (left_end F G (c ∷ cs)) (compared_front F G c cs q)) g
+    ∙ (ap (λ q. option_and_then (left_end F G (c ∷ cs)) (option_map (as_singular origin) q)) s.at
+    ∙ (ap (operated_front F G (c ∷ cs) (form.singular origin s.found.0)) s.none ∙ ap (option_map as_affirmed) e))))
 
-affirmed_complete : {E : Type 0} {T : TextsOf E} {F : FrontOf E} → Complete T F → Shortens (selection_turn F) → (xs : List ℕ)
-    (o : Operand E) (ys : List ℕ) → OperandText T xs o ys → Ends ys → operand_front F xs ≡ Some (o, after_blanks ys)
-    → basic_front F xs ≡ Some (form.affirmed o, after_blanks ys)
-affirmed_complete t f xs o ys (is.parenthesized m h) k e = ap (option_map as_affirmed) e
-affirmed_complete {F = F} t f xs o ys (is.relative {xs = us} {ss = ss} m) k e =
-    tested_complete F 64 us (after_blanks ys) CurrentNode o refl refl refl
+affirmed_complete : {E C : Type 0} {T : TextsOf E} {F : FrontOf E} (G : FrontOf C) → Complete T F → Shortens (selection_turn F)
+    → (xs : List ℕ) (o : Operand E) (ys : List ℕ) → OperandText T xs o ys → Ends ys → operand_front F xs ≡ Some (o, after_blanks ys)
+    → basic_front F G xs ≡ Some (form.affirmed o, after_blanks ys)
+affirmed_complete G t f xs o ys (is.parenthesized m h) k e = ap (option_map as_affirmed) e
+affirmed_complete {F = F} G t f xs o ys (is.relative {xs = us} {ss = ss} m) k e =
+    tested_complete F G 64 us (after_blanks ys) CurrentNode o refl refl refl
     (test_stops t f us ss ys m (ends_no_segment ys k) (ends_no_operator ys k)) e
-affirmed_complete {F = F} t f xs o ys (is.absolute {xs = us} {ss = ss} m) k e =
-    tested_complete F 36 us (after_blanks ys) Root o refl refl refl
+affirmed_complete {F = F} G t f xs o ys (is.absolute {xs = us} {ss = ss} m) k e =
+    tested_complete F G 36 us (after_blanks ys) Root o refl refl refl
     (test_stops t f us ss ys m (ends_no_segment ys k) (ends_no_operator ys k)) e
 
-comparison_complete : {E : Type 0} (F : FrontOf E) (xs ys zs us : List ℕ) (l r : Comparable) (op : ComparisonOperator)
-    → ComparableText xs l ys → OperatorText (after_blanks ys) op zs → ComparableText (after_blanks zs) r us → Ends us
-    → basic_front F xs ≡ Some (form.comparison op l r, after_blanks us)
-comparison_complete F xs ys zs us l r op m n q k =
+comparison_complete : {E C : Type 0} {T : TextsOf E} {A : TextsOf C} (F : FrontOf E) (G : FrontOf C)
+    → Reached (ComparableText T A) (comparable_front F G) → (xs ys zs us : List ℕ) (l r : Comparable E C) (op : ComparisonOperator)
+    → ComparableText T A xs l ys → OperatorText (after_blanks ys) op zs → ComparableText T A (after_blanks zs) r us → Ends us
+    → basic_front F G xs ≡ Some (form.comparison op l r, after_blanks us)
+comparison_complete F G c xs ys zs us l r op m n q k =
     let b = comparable_begins xs l ys m in
-    ap (basic_front F) b.at
+    ap (basic_front F G) b.at
     ∙ (cond-false (b.first == 33) _ _ b.no_mark
     ∙ (cond-false (b.first == 40) _ _ b.no_parenthesis
-    ∙ (ap (λ ws. option_and_then (left_end F ws) (comparable_front ws)) (sym b.at)
-    ∙ (ap (option_and_then (left_end F xs)) (comparable_complete xs l ys (operator_begins (after_blanks ys) op zs n) m)
-    ∙ (ap (operated_front F xs l) (operator_complete (after_blanks ys) op zs n)
-    ∙ ap (option_map (as_comparison op l)) (comparable_complete (after_blanks zs) r us (ends_no_segment us k) q))))))
+    ∙ (ap (λ ws. option_and_then (left_end F G ws) (comparable_front F G ws)) (sym b.at)
+    ∙ (ap (option_and_then (left_end F G xs)) (c xs l ys (operator_begins (after_blanks ys) op zs n) m)
+    ∙ (ap (operated_front F G xs l) (operator_complete (after_blanks ys) op zs n)
+    ∙ ap (option_map (as_comparison op l)) (c (after_blanks zs) r us (ends_no_segment us k) q))))))
 
-pub basic_complete : {E : Type 0} {T : TextsOf E} {F : FrontOf E} → Complete T F → Shortens (selection_turn F)
-    → Shortens (segments_turn F) → (xs : List ℕ) (v : Basic E) (ys : List ℕ) → BasicText T xs v ys → Ends ys
-    → basic_front F xs ≡ Some (v, after_blanks ys)
-basic_complete t f g xs v ys (is.affirmed {o = o} m) k =
-    affirmed_complete t f xs o ys m k (operand_complete t f g xs o ys m k)
-basic_complete t f g xs v ys (is.negated {xs = us} {o = o} m) k =
+pub basic_complete : {E C : Type 0} {T : TextsOf E} {A : TextsOf C} {F : FrontOf E} {G : FrontOf C} → Complete T F
+    → Shortens (selection_turn F) → Shortens (segments_turn F) → Reached A G → (xs : List ℕ) (v : Basic E C) (ys : List ℕ)
+    → BasicText T A xs v ys → Ends ys → basic_front F G xs ≡ Some (v, after_blanks ys)
+basic_complete {G = G} t f g r xs v ys (is.affirmed {o = o} m) k =
+    affirmed_complete G t f xs o ys m k (operand_complete t f g xs o ys m k)
+basic_complete t f g r xs v ys (is.negated {xs = us} {o = o} m) k =
     ap (option_map as_negated) (operand_complete t f g (after_blanks us) o ys m k)
-basic_complete {F = F} t f g xs v ys (is.comparison {ys = zs} {zs = us} {l = l} {r = r} {op = op} m n q) k =
-    comparison_complete F xs zs us ys l r op m n q k
+basic_complete {F = F} {G = G} t f g r xs v ys (is.comparison {ys = zs} {zs = us} {l = l} {r = b} {op = op} m n q) k =
+    comparison_complete F G (comparable_complete t f g r) xs zs us ys l b op m n q k
 
 -- a sign that an expression may be followed by
 pub record Sign (sign : ℕ) : Type 0 where
@@ -640,7 +690,8 @@ joined_complete {F = F} sign P s own t f xs as' ys (is.last {a = a} m) k p n =
 joined_complete {F = F} sign P s own t f xs as' ys (is.more {ys = zs} {zs = us} {a = a} {as' = bs} m h r) k p n =
     turns_at (joined_turn sign F) f xs (more a (after_blanks us))
     (ap (option_map (joined sign))
-    (t xs a zs m (ends_at sign zs (sign ∷ us) h (s.no_int (sign ∷ us)) s.no_colon (s.no_segment (sign ∷ us)) (s.no_operator (sign ∷ us))) own)
+    (t xs a zs m (ends_at sign zs (sign ∷ us) h (s.no_int (sign ∷ us)) s.no_colon (s.no_segment (sign ∷ us))
+    (s.no_operator (sign ∷ us))) own)
     ∙ ap (λ o. Some (joint a (after_blanks zs) o)) (both_some sign (after_blanks zs) us h))
     ∙ ap (option_map (with_first a)) (joined_complete sign P s own t f (after_blanks us) bs ys r k p n)
 
@@ -652,37 +703,72 @@ pub record Faithful {E : Type 0} (T : TextsOf E) (F : FrontOf E) : Type 0 where
   pub shorter : Shortening T
   pub complete : Complete T F
 
-disjunction_faithful : {E : Type 0} {T : TextsOf E} {F : FrontOf E} → Faithful T F
-    → Faithful (DisjunctionText T) (disjunction_front F)
-disjunction_faithful {E = E} {T = T} {F = F} h = record {
+-- and of values
+pub record FaithfulArgument {C : Type 0} (A : TextsOf C) (G : FrontOf C) : Type 0 where
+  pub sound : Exact A G
+  pub shorter : Keeping A
+  pub complete : Reached A G
+
+disjunction_faithful : {E C : Type 0} {T : TextsOf E} {A : TextsOf C} {F : FrontOf E} {G : FrontOf C} → Faithful T F
+    → FaithfulArgument A G → Faithful (DisjunctionText T A) (disjunction_front F G)
+disjunction_faithful {E = E} {C = C} {T = T} {A = A} {F = F} {G = G} h j = record {
   sound = joined_sound 124 many;
   shorter = joined_shorter 124 (joined_shorter 38 fewer);
   complete = λ xs e ys m k a o. joined_complete 124 (λ c. (c == 38) ≡ false)
       (record { no_int = λ zs. refl; no_colon = refl; no_segment = λ zs. refl; no_operator = λ zs. refl }) refl
-      (λ us b vs n j p. joined_complete 38 (λ c. Unit {0}) (record { no_int = λ zs. refl; no_colon = refl; no_segment = λ zs. refl; no_operator = λ zs. refl }) tt
-      (λ ws d rs q i u. basic_complete h.complete (selection_falls h.sound h.shorter) (segments_falls h.sound h.shorter) ws d rs q i)
-      (joined_falls 38 (front_falls one fewer)) us b vs n j tt p)
+      (λ us b vs n i p. joined_complete 38 (λ c. Unit {0})
+      (record { no_int = λ zs. refl; no_colon = refl; no_segment = λ zs. refl; no_operator = λ zs. refl }) tt
+      (λ ws d rs q l u. basic_complete h.complete (selection_falls h.sound h.shorter) (segments_falls h.sound h.shorter) j.complete
+      ws d rs q l)
+      (joined_falls 38 (front_falls one fewer)) us b vs n i tt p)
       (joined_falls 124 (front_falls many (joined_shorter 38 fewer))) xs e ys m k a o;
 }
   where
-    one : Sound (BasicText T) (basic_front F)
-    one = basic_sound h.sound
+    one : Sound (BasicText T A) (basic_front F G)
+    one = basic_sound h.sound j.sound
 
-    fewer : Shortening (BasicText T)
-    fewer = basic_shorter h.shorter
+    fewer : Shortening (BasicText T A)
+    fewer = basic_shorter h.shorter j.shorter
 
-    many : Sound (ConjunctionText T) (conjunction_front F)
+    many : Sound (ConjunctionText T A) (conjunction_front F G)
     many = joined_sound 38 one
 
-pub expression_faithful : (n : ℕ) → Faithful (ExpressionText n) (expression_front n)
-expression_faithful zero = record {
-  sound = λ xs. finds_none;
-  shorter = λ xs e ys m. absurd m;
-  complete = λ xs e ys m. absurd m;
+argument_faithful : {E C : Type 0} {T : TextsOf E} {A : TextsOf C} {F : FrontOf E} {G : FrontOf C} → Faithful T F → FaithfulArgument A G
+    → FaithfulArgument (ComparableText T A) (comparable_front F G)
+argument_faithful h j = record {
+  sound = comparable_sound h.sound j.sound;
+  shorter = comparable_shorter h.shorter j.shorter;
+  complete =
+      comparable_complete h.complete (selection_falls h.sound h.shorter) (segments_falls h.sound h.shorter) j.complete;
 }
-expression_faithful (suc n) =
-    let f = disjunction_faithful (expression_faithful n) in
-    record { sound = f.sound; shorter = f.shorter; complete = f.complete }
+
+pub record FaithfulAt (n : ℕ) : Type 0 where
+  pub expression : Faithful (ExpressionText n) (expression_front n)
+  pub argument : FaithfulArgument (ArgumentText n) (argument_front n)
+
+pub level_faithful : (n : ℕ) → FaithfulAt n
+level_faithful zero = record {
+  expression = record {
+    sound = λ xs. finds_none;
+    shorter = λ xs e ys m. absurd m;
+    complete = λ xs e ys m. absurd m;
+  };
+  argument = record {
+    sound = λ xs. finds_none;
+    shorter = λ xs e ys m. absurd m;
+    complete = λ xs e ys h m. absurd m;
+  };
+}
+level_faithful (suc n) =
+    let h = level_faithful n in
+    let f = disjunction_faithful h.expression h.argument in
+    let g = argument_faithful h.expression h.argument in record {
+      expression = record { sound = f.sound; shorter = f.shorter; complete = f.complete };
+      argument = record { sound = g.sound; shorter = g.shorter; complete = g.complete };
+    }
+
+pub expression_faithful : (n : ℕ) → Faithful (ExpressionText n) (expression_front n)
+expression_faithful n = (level_faithful n).expression
 
 pub query_complete : (n : ℕ) (xs : List ℕ) (ss : List (Segment (Expression n))) → QueryText n xs ss → query_front n xs ≡ Some ss
 query_complete n xs ss (is.query {xs = cs} m) =

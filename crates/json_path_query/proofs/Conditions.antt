@@ -1,5 +1,5 @@
 -- Conditions and queries that are found at the front of a text are in the grammar.
-use Rattle.std.proofs.Common.{◌≡◌, ℕ, zero, suc, ◌==◌, List, [], ◌∷◌, length, Option, Some, None, refl, sym, ap, ◌∙◌}
+use Rattle.std.proofs.Common.{◌≡◌, ℕ, zero, suc, ◌==◌, List, [], ◌∷◌, length, Option, Some, None, option_and_then, refl, sym, ap, ◌∙◌}
 use Rattle.std.proofs.Common.{subst, true}
 use Rattle.json_path_query.specs.declared.query.ComparisonOperator.{ComparisonOperator}
 use Rattle.json_path_query.specs.declared.query.Origin.TheVariants.{Root, CurrentNode}
@@ -13,7 +13,7 @@ use Rattle.json_path_query.specs.Fronts.{tested_front, operand_front, comparable
 use Rattle.json_path_query.specs.Fronts.{as_comparison, operated_front, left_end, basic_front, behind_both, joint, joined}
 use Rattle.json_path_query.specs.Fronts.{joined_turn, joined_front, expression_front, ended, query_front}
 use Rattle.json_path_query.proofs.Before.{Before}
-use Rattle.json_path_query.proofs.Compared.{comparable_sound, operator_sound}
+use Rattle.json_path_query.proofs.Compared.{Exact, comparable_sound, operator_sound}
 use Rattle.json_path_query.proofs.Finds.{Finds, finds_none, finds_some, finds_cond, finds_map, finds_then, finds_as, at_code}
 use Rattle.json_path_query.proofs.Sound.{Sound, behind_sound, segments_sound}
 
@@ -58,30 +58,33 @@ operand_sound {E = E} {T = T} {F = F} s (c ∷ cs) =
     (λ _. finds_none))))
 
 -- behind what may stand on the left
-operated_sound : {E : Type 0} {T : TextsOf E} {F : FrontOf E} → Sound T F → (xs : List ℕ) (l : Comparable) (ys : List ℕ)
-    → ComparableText xs l ys → (o : Option (ComparisonOperator × List ℕ)) → Finds o (λ p. OperatorText (after_blanks ys) p.0 p.1)
-    → Finds (operated_front F xs l o) (λ p. Before (BasicText T xs p.0) p.1)
-operated_sound {F = F} s xs l ys m None f =
+operated_sound : {E C : Type 0} {T : TextsOf E} {A : TextsOf C} {F : FrontOf E} {G : FrontOf C} → Sound T F → Exact A G → (xs : List ℕ)
+    (l : Comparable E C) (ys : List ℕ) → ComparableText T A xs l ys → (o : Option (ComparisonOperator × List ℕ))
+    → Finds o (λ p. OperatorText (after_blanks ys) p.0 p.1)
+    → Finds (operated_front F G xs l o) (λ p. Before (BasicText T A xs p.0) p.1)
+operated_sound {F = F} s t xs l ys m None f =
     finds_map as_affirmed (operand_front F xs) (finds_as (operand_sound s xs) (λ p b. record {
       whole = b.whole;
       blanks = b.blanks;
       held = is.affirmed b.held;
     }))
-operated_sound s xs l ys m (Some p) f =
-    finds_map (as_comparison p.0 l) (comparable_front (after_blanks p.1)) (finds_as (comparable_sound (after_blanks p.1)) (λ q r. record {
+operated_sound {F = F} {G = G} s t xs l ys m (Some p) f =
+    finds_map (as_comparison p.0 l) (comparable_front F G (after_blanks p.1))
+    (finds_as (comparable_sound s t (after_blanks p.1)) (λ q r. record {
       whole = q.1;
       blanks = refl;
       held = is.comparison m (f.at p refl) r;
     }))
 
-pub basic_sound : {E : Type 0} {T : TextsOf E} {F : FrontOf E} → Sound T F → Sound (BasicText T) (basic_front F)
-basic_sound s [] = finds_none
-basic_sound {T = T} {F = F} s (c ∷ cs) =
+pub basic_sound : {E C : Type 0} {T : TextsOf E} {A : TextsOf C} {F : FrontOf E} {G : FrontOf C} → Sound T F → Exact A G
+    → Sound (BasicText T A) (basic_front F G)
+basic_sound s t [] = finds_none
+basic_sound {T = T} {A = A} {F = F} {G = G} s t (c ∷ cs) =
     finds_cond (c == 33)
     (λ e. finds_map as_negated (operand_front F (after_blanks cs)) (finds_as (operand_sound s (after_blanks cs)) (λ p b. record {
       whole = b.whole;
       blanks = b.blanks;
-      held = at_code (λ x. BasicText T (x ∷ cs) (form.negated p.0) b.whole) c 33 e (is.negated b.held);
+      held = at_code (λ x. BasicText T A (x ∷ cs) (form.negated p.0) b.whole) c 33 e (is.negated b.held);
     })))
     (λ _. finds_cond (c == 40)
     (λ _. finds_map as_affirmed (operand_front F (c ∷ cs)) (finds_as (operand_sound s (c ∷ cs)) (λ p b. record {
@@ -89,8 +92,8 @@ basic_sound {T = T} {F = F} s (c ∷ cs) =
       blanks = b.blanks;
       held = is.affirmed b.held;
     })))
-    (λ _. finds_then (left_end F (c ∷ cs)) (comparable_front (c ∷ cs)) (finds_as (comparable_sound (c ∷ cs)) (λ p m.
-    operated_sound s (c ∷ cs) p.0 p.1 m (operator_front (after_blanks p.1)) (operator_sound (after_blanks p.1))))))
+    (λ _. finds_then (left_end F G (c ∷ cs)) (comparable_front F G (c ∷ cs)) (finds_as (comparable_sound s t (c ∷ cs)) (λ p m.
+    operated_sound s t (c ∷ cs) p.0 p.1 m (operator_front (after_blanks p.1)) (operator_sound (after_blanks p.1))))))
 
 joined_turns_sound : {A : Type 0} {T : TextsOf A} {F : FrontOf A} (sign : ℕ) → Sound T F → (n : ℕ) (xs : List ℕ)
     → Finds (turns (joined_turn sign F) n xs) (λ p. Before (JoinedText sign T xs p.0) p.1)

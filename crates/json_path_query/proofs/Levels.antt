@@ -1,29 +1,51 @@
 -- Single turns over selectors, segments and conditions, at each depth.
-use Rattle.std.proofs.Common.{◌≡◌, ◌≢◌, ℕ, suc, ◌<◌, true, false, ◌==◌, List, [], ◌∷◌, length, Option, Some, None}
-use Rattle.std.proofs.Common.{option_map, option_and_then, refl, sym, ap, ◌∙◌, subst, arith}
-use Rattle.std.proofs.lemmas.Bool.{cond-true, cond-false, ne_eqb}
+use Rattle.std.proofs.Common.{◌≡◌, ◌≢◌, inl, inr, ℕ, suc, ◌<◌, true, false, ◌==◌, List, [], ◌∷◌, length, Option, Some, None}
+use Rattle.std.proofs.Common.{option_map, option_and_then, Result, Bor, refl, sym, ap, ◌∙◌, subst, arith}
+use Rattle.std.proofs.lemmas.Bool.{cond-true, cond-false, ne_eqb, eqb-true, or_cases}
 use Rattle.json_path_query.specs.declared.query.Expression.{Expression as CodeExpression}
 use Rattle.json_path_query.specs.declared.query.Origin.{Origin}
 use Rattle.json_path_query.specs.declared.query.Selector.{Selector as CodeSelector}
 use Rattle.json_path_query.specs.declared.query.ComparisonOperator.{ComparisonOperator}
-use Rattle.json_path_query.specs.Forms.{Comparable}
+use Rattle.json_path_query.specs.Forms.{Comparable, Function, Argument, IsArgument, IsComparable, IsBasic, IsConjunction}
 use Rattle.json_path_query.specs.Forms.{PlainSelector, Selector, Segment, Operand, Basic, Expression, Each, IsSelector, IsOneSelector}
 use Rattle.json_path_query.specs.Forms.{Disjunction, IsExpression, IsDisjunction}
 use Rattle.json_path_query.specs.Forms as form
-use Rattle.json_path_query.specs.Grammar.{after_blanks}
+use Rattle.json_path_query.specs.Grammar.{after_blanks, length_call, count_call, value_call}
+use Rattle.json_path_query.specs.Values.{Literal, SingularSegment}
+use Rattle.json_path_query.specs.declared.query.Comparable.{Comparable as CodeComparable}
+use Rattle.json_path_query.specs.declared.error.Refusal.{Refusal}
+use Rattle.json_path_query.specs.Reading.{Fronts}
 use Rattle.json_path_query.specs.Fronts.{FrontOf, end, last, more, more_of, selector_front, filtered, as_plain, plain_front, separator}
 use Rattle.json_path_query.specs.Fronts.{separated, selection_turn, selection_front, shorthand_front, begins_segment, segment_front}
 use Rattle.json_path_query.specs.Fronts.{descendant_front, descendant_of, alone, dotted_front, child_of, segments_turn, segments_front}
 use Rattle.json_path_query.specs.Fronts.{operand_front, closing, closed, behind, tested, tested_front, origin_of, basic_front, as_negated}
 use Rattle.json_path_query.specs.Fronts.{as_affirmed, behind_both, joint, joined, joined_turn, conjunction_front, disjunction_front}
 use Rattle.json_path_query.specs.Fronts.{expression_front, ended, query_front, comparable_front, operator_front, left_end, operated_front}
-use Rattle.json_path_query.specs.Fronts.{as_comparison}
+use Rattle.json_path_query.specs.Fronts.{as_comparison, argument_front, as_singular, as_function, as_literal, compared_front}
+use Rattle.json_path_query.specs.Fronts.{function_front, literal_front}
+use Rattle.json_path_query.specs.Fronts.{singular_front, begins_call, closed_front, in_parentheses, held, filter_query_front, as_query}
+use Rattle.json_path_query.specs.Fronts.{begun_front, begins_pattern, behind_word, as_length, as_count, as_value, length_end, count_end}
+use Rattle.json_path_query.specs.Fronts.{value_end}
 use Rattle.json_path_query.proofs.Finds.{Finds}
 use Rattle.json_path_query.proofs.Turns.{Shortens}
 use Rattle.json_path_query.proofs.Shorter.{selector_falls, selection_falls, segment_falls, segments_falls, joined_falls, front_falls}
 use Rattle.json_path_query.proofs.Shorter.{both_shorter, basic_shorter, joined_shorter}
 use Rattle.json_path_query.proofs.Conditions.{basic_sound, joined_sound}
-use Rattle.json_path_query.proofs.Complete.{expression_faithful}
+use Rattle.json_path_query.proofs.Complete.{expression_faithful, level_faithful}
+
+-- ---- conditions at a depth
+
+abbrev pub basics_at : (n : ℕ) → FrontOf (Basic (Expression n) (Argument n))
+basics_at n = basic_front (expression_front n) (argument_front n)
+
+abbrev pub conjunctions_at : (n : ℕ) → FrontOf (List (Basic (Expression n) (Argument n)))
+conjunctions_at n = conjunction_front (expression_front n) (argument_front n)
+
+abbrev pub IsBasicAt : (n : ℕ) → Basic (Expression n) (Argument n) → CodeExpression → Type 0
+IsBasicAt n = IsBasic (IsExpression n) (IsArgument n)
+
+abbrev pub IsConjunctionAt : (n : ℕ) → List (Basic (Expression n) (Argument n)) → CodeExpression → Type 0
+IsConjunctionAt n = IsConjunction (IsExpression n) (IsArgument n)
 
 -- ---- what is left is shorter
 
@@ -33,29 +55,34 @@ selection_shortens n = let h = expression_faithful n in selection_falls h.sound 
 pub segments_shortens : (n : ℕ) → Shortens (segments_turn (expression_front n))
 segments_shortens n = let h = expression_faithful n in segments_falls h.sound h.shorter
 
-basic_falls : (n : ℕ) (xs : List ℕ) → Finds (basic_front (expression_front n) xs) (λ p. length p.1 < length xs)
-basic_falls n xs = let h = expression_faithful n in front_falls (basic_sound h.sound) (basic_shorter h.shorter) xs
+basic_falls : (n : ℕ) (xs : List ℕ) → Finds (basic_front (expression_front n) (argument_front n) xs) (λ p. length p.1 < length xs)
+basic_falls n xs =
+    let h = level_faithful n in
+    front_falls (basic_sound h.expression.sound h.argument.sound) (basic_shorter h.expression.shorter h.argument.shorter) xs
 
-conjunction_falls : (n : ℕ) (xs : List ℕ) → Finds (conjunction_front (expression_front n) xs) (λ p. length p.1 < length xs)
+conjunction_falls : (n : ℕ) (xs : List ℕ)
+    → Finds (conjunction_front (expression_front n) (argument_front n) xs) (λ p. length p.1 < length xs)
 conjunction_falls n xs =
-    let h = expression_faithful n in
-    front_falls (joined_sound 38 (basic_sound h.sound)) (joined_shorter 38 (basic_shorter h.shorter)) xs
+    let h = level_faithful n in
+    front_falls (joined_sound 38 (basic_sound h.expression.sound h.argument.sound))
+    (joined_shorter 38 (basic_shorter h.expression.shorter h.argument.shorter)) xs
 
-pub conjunction_shortens : (n : ℕ) → Shortens (joined_turn 38 (basic_front (expression_front n)))
+pub conjunction_shortens : (n : ℕ) → Shortens (joined_turn 38 (basic_front (expression_front n) (argument_front n)))
 conjunction_shortens n = joined_falls 38 (basic_falls n)
 
-pub disjunction_shortens : (n : ℕ) → Shortens (joined_turn 124 (conjunction_front (expression_front n)))
+pub disjunction_shortens : (n : ℕ) → Shortens (joined_turn 124 (conjunction_front (expression_front n) (argument_front n)))
 disjunction_shortens n = joined_falls 124 (conjunction_falls n)
 
-pub basic_smaller : (n : ℕ) (xs : List ℕ) (v : Basic (Expression n)) (ys zs : List ℕ) → basic_front (expression_front n) xs ≡ Some (v, ys)
+pub basic_smaller : (n : ℕ) (xs : List ℕ) (v : Basic (Expression n) (Argument n)) (ys zs : List ℕ)
+    → basic_front (expression_front n) (argument_front n) xs ≡ Some (v, ys)
     → behind_both 38 ys ≡ Some zs → length zs < length xs
 basic_smaller n xs v ys zs e f =
     let a = (basic_falls n xs).at (v, ys) e in
     let b = (both_shorter 38 ys).at zs f in
     omega arith
 
-pub conjunction_smaller : (n : ℕ) (xs : List ℕ) (v : List (Basic (Expression n))) (ys zs : List ℕ)
-    → conjunction_front (expression_front n) xs ≡ Some (v, ys) → behind_both 124 ys ≡ Some zs → length zs < length xs
+pub conjunction_smaller : (n : ℕ) (xs : List ℕ) (v : List (Basic (Expression n) (Argument n))) (ys zs : List ℕ)
+    → conjunction_front (expression_front n) (argument_front n) xs ≡ Some (v, ys) → behind_both 124 ys ≡ Some zs → length zs < length xs
 conjunction_smaller n xs v ys zs e f =
     let a = (conjunction_falls n xs).at (v, ys) e in
     let b = (both_shorter 124 ys).at zs f in
@@ -171,54 +198,68 @@ module _ {E : Type 0} (F : FrontOf E) where
       ∙ (ap (option_and_then (tested_front F cs)) h
       ∙ (ap (option_map (tested o)) k ∙ ap (λ us. Some (form.test o ss, us)) (sym l))))
 
-  pub negated_from : (xs cs zs : List ℕ) (c : ℕ) → xs ≡ c ∷ cs → c ≡ 33 → zs ≡ after_blanks cs
-      → basic_front F xs ≡ option_map as_negated (operand_front F zs)
-  negated_from xs cs zs c f g h =
-      ap (basic_front F) (f ∙ ap (λ d. d ∷ cs) g) ∙ ap (λ us. option_map as_negated (operand_front F us)) (sym h)
-
-  pub affirmed_from : (xs cs : List ℕ) (c : ℕ) → xs ≡ c ∷ cs → c ≡ 40 → basic_front F xs ≡ option_map as_affirmed (operand_front F xs)
-  affirmed_from xs cs c f g =
-      let e : xs ≡ 40 ∷ cs = f ∙ ap (λ d. d ∷ cs) g in
-      ap (basic_front F) e ∙ ap (λ us. option_map as_affirmed (operand_front F us)) (sym e)
-
-  compared_from : (xs cs : List ℕ) (c : ℕ) → xs ≡ c ∷ cs → c ≢ 33 → c ≢ 40
-      → basic_front F xs ≡ option_and_then (left_end F xs) (comparable_front xs)
-  compared_from xs cs c f g h =
-      ap (basic_front F) f
-      ∙ (cond-false (c == 33) _ _ (ne_eqb c 33 g)
-      ∙ (cond-false (c == 40) _ _ (ne_eqb c 40 h) ∙ ap (λ us. option_and_then (left_end F us) (comparable_front us)) (sym f)))
-
-  pub operated_from : (xs cs : List ℕ) (c : ℕ) (l : Comparable) (ys zs : List ℕ) (o : Option (ComparisonOperator × List ℕ)) → xs ≡ c ∷ cs
-      → c ≢ 33 → c ≢ 40 → comparable_front xs ≡ Some (l, ys) → zs ≡ after_blanks ys → operator_front zs ≡ o
-      → basic_front F xs ≡ operated_front F xs l o
-  operated_from xs cs c l ys zs o f g h e k m =
-      compared_from xs cs c f g h
-      ∙ (ap (option_and_then (left_end F xs)) e ∙ ap (operated_front F xs l) (ap operator_front (sym k) ∙ m))
-
-  pub compared_at : (xs cs : List ℕ) (c : ℕ) (l r : Comparable) (op : ComparisonOperator) (ys zs us vs ws ts : List ℕ) → xs ≡ c ∷ cs
-      → c ≢ 33 → c ≢ 40 → comparable_front xs ≡ Some (l, ys) → zs ≡ after_blanks ys → operator_front zs ≡ Some (op, us)
-      → vs ≡ after_blanks us → comparable_front vs ≡ Some (r, ws) → ts ≡ after_blanks ws
-      → basic_front F xs ≡ Some (form.comparison op l r, ts)
-  compared_at xs cs c l r op ys zs us vs ws ts f g h e k m n q t =
-      operated_from xs cs c l ys zs (Some (op, us)) f g h e k m
-      ∙ (ap (option_map (as_comparison op l)) (ap comparable_front (sym n) ∙ q) ∙ ap (λ rs. Some (form.comparison op l r, rs)) (sym t))
-
-  pub left_none : (xs cs : List ℕ) (c : ℕ) → xs ≡ c ∷ cs → c ≢ 33 → c ≢ 40 → comparable_front xs ≡ None → basic_front F xs ≡ None
-  left_none xs cs c f g h e = compared_from xs cs c f g h ∙ ap (option_and_then (left_end F xs)) e
-
-  pub right_none : (xs cs : List ℕ) (c : ℕ) (l : Comparable) (op : ComparisonOperator) (ys zs us vs : List ℕ) → xs ≡ c ∷ cs
-      → c ≢ 33 → c ≢ 40 → comparable_front xs ≡ Some (l, ys) → zs ≡ after_blanks ys → operator_front zs ≡ Some (op, us)
-      → vs ≡ after_blanks us → comparable_front vs ≡ None → basic_front F xs ≡ None
-  right_none xs cs c l op ys zs us vs f g h e k m n q =
-      operated_from xs cs c l ys zs (Some (op, us)) f g h e k m
-      ∙ ap (option_map (as_comparison op l)) (ap comparable_front (sym n) ∙ q)
-
   pub joined_at : (sign : ℕ) (xs : List ℕ) (a : E) (ys : List ℕ) (o : Option (List ℕ)) → F xs ≡ Some (a, ys) → behind_both sign ys ≡ o
       → joined_turn sign F xs ≡ Some (joint a ys o)
   joined_at sign xs a ys o e f = ap (option_map (joined sign)) e ∙ ap (λ p. Some (joint a ys p)) f
 
   pub joined_none : (sign : ℕ) (xs : List ℕ) → F xs ≡ None → joined_turn sign F xs ≡ None
   joined_none sign xs e = ap (option_map (joined sign)) e
+
+module _ {E C : Type 0} (F : FrontOf E) (G : FrontOf C) where
+  pub negated_from : (xs cs zs : List ℕ) (c : ℕ) → xs ≡ c ∷ cs → c ≡ 33 → zs ≡ after_blanks cs
+      → basic_front F G xs ≡ option_map as_negated (operand_front F zs)
+  negated_from xs cs zs c f g h =
+      ap (basic_front F G) (f ∙ ap (λ d. d ∷ cs) g) ∙ ap (λ us. option_map as_negated (operand_front F us)) (sym h)
+
+  pub affirmed_from : (xs cs : List ℕ) (c : ℕ) → xs ≡ c ∷ cs → c ≡ 40 → basic_front F G xs ≡ option_map as_affirmed (operand_front F xs)
+  affirmed_from xs cs c f g =
+      let e : xs ≡ 40 ∷ cs = f ∙ ap (λ d. d ∷ cs) g in
+      ap (basic_front F G) e ∙ ap (λ us. option_map as_affirmed (operand_front F us)) (sym e)
+
+  -- where neither a query nor an expression in parentheses begins, and nothing that is compared
+  pub pattern_from : (xs cs : List ℕ) (c : ℕ) → xs ≡ c ∷ cs → begins_pattern c ≡ true
+      → basic_front F G xs ≡ option_map as_affirmed (operand_front F xs)
+  pattern_from xs cs c f h = elim (or_cases (c == 109) (c == 115) h) [
+    | inl e ↦ same 109 (f ∙ ap (λ d. d ∷ cs) (eqb-true c 109 e)) refl
+    | inr e ↦ same 115 (f ∙ ap (λ d. d ∷ cs) (eqb-true c 115 e)) refl
+  ]
+    where
+      same : (k : ℕ) → xs ≡ k ∷ cs → basic_front F G (k ∷ cs) ≡ option_map as_affirmed (operand_front F (k ∷ cs))
+          → basic_front F G xs ≡ option_map as_affirmed (operand_front F xs)
+      same k e r = ap (basic_front F G) e ∙ (r ∙ ap (λ us. option_map as_affirmed (operand_front F us)) (sym e))
+
+  compared_from : (xs cs : List ℕ) (c : ℕ) → xs ≡ c ∷ cs → c ≢ 33 → c ≢ 40
+      → basic_front F G xs ≡ option_and_then (left_end F G xs) (comparable_front F G xs)
+  compared_from xs cs c f g h =
+      ap (basic_front F G) f
+      ∙ (cond-false (c == 33) _ _ (ne_eqb c 33 g)
+      ∙ (cond-false (c == 40) _ _ (ne_eqb c 40 h) ∙ ap (λ us. option_and_then (left_end F G us) (comparable_front F G us)) (sym f)))
+
+  pub operated_from : (xs cs : List ℕ) (c : ℕ) (l : Comparable E C) (ys zs : List ℕ) (o : Option (ComparisonOperator × List ℕ))
+      → xs ≡ c ∷ cs → c ≢ 33 → c ≢ 40 → comparable_front F G xs ≡ Some (l, ys) → zs ≡ after_blanks ys → operator_front zs ≡ o
+      → basic_front F G xs ≡ operated_front F G xs l o
+  operated_from xs cs c l ys zs o f g h e k m =
+      compared_from xs cs c f g h
+      ∙ (ap (option_and_then (left_end F G xs)) e ∙ ap (operated_front F G xs l) (ap operator_front (sym k) ∙ m))
+
+  pub compared_at : (xs cs : List ℕ) (c : ℕ) (l r : Comparable E C) (op : ComparisonOperator) (ys zs us vs ws ts : List ℕ) → xs ≡ c ∷ cs
+      → c ≢ 33 → c ≢ 40 → comparable_front F G xs ≡ Some (l, ys) → zs ≡ after_blanks ys → operator_front zs ≡ Some (op, us)
+      → vs ≡ after_blanks us → comparable_front F G vs ≡ Some (r, ws) → ts ≡ after_blanks ws
+      → basic_front F G xs ≡ Some (form.comparison op l r, ts)
+  compared_at xs cs c l r op ys zs us vs ws ts f g h e k m n q t =
+      operated_from xs cs c l ys zs (Some (op, us)) f g h e k m
+      ∙ (ap (option_map (as_comparison op l)) (ap (comparable_front F G) (sym n) ∙ q) ∙ ap (λ rs. Some (form.comparison op l r, rs))
+      (sym t))
+
+  pub left_none : (xs cs : List ℕ) (c : ℕ) → xs ≡ c ∷ cs → c ≢ 33 → c ≢ 40 → comparable_front F G xs ≡ None → basic_front F G xs ≡ None
+  left_none xs cs c f g h e = compared_from xs cs c f g h ∙ ap (option_and_then (left_end F G xs)) e
+
+  pub right_none : (xs cs : List ℕ) (c : ℕ) (l : Comparable E C) (op : ComparisonOperator) (ys zs us vs : List ℕ) → xs ≡ c ∷ cs
+      → c ≢ 33 → c ≢ 40 → comparable_front F G xs ≡ Some (l, ys) → zs ≡ after_blanks ys → operator_front zs ≡ Some (op, us)
+      → vs ≡ after_blanks us → comparable_front F G vs ≡ None → basic_front F G xs ≡ None
+  right_none xs cs c l op ys zs us vs f g h e k m n q =
+      operated_from xs cs c l ys zs (Some (op, us)) f g h e k m
+      ∙ ap (option_map (as_comparison op l)) (ap (comparable_front F G) (sym n) ∙ q)
 
 module _ {E : Type 0} where
   pub separator_nothing : (v : Selector E) (ys : List ℕ) → length ys ≡ 0 → separator v ys ≡ None
@@ -250,13 +291,13 @@ module _ {E : Type 0} where
 -- ---- depths
 
 -- what is found one level below is found
-pub expression_at : (n m : ℕ) (xs : List ℕ) (e : Disjunction (Expression m)) (ys : List ℕ) (x : CodeExpression) → n ≡ suc m
-    → disjunction_front (expression_front m) xs ≡ Some (e, ys) → IsDisjunction (IsExpression m) e x
+pub expression_at : (n m : ℕ) (xs : List ℕ) (e : Disjunction (Expression m) (Argument m)) (ys : List ℕ) (x : CodeExpression) → n ≡ suc m
+    → disjunction_front (expression_front m) (argument_front m) xs ≡ Some (e, ys) → IsDisjunction (IsExpression m) (IsArgument m) e x
     → (f : Expression n) × (expression_front n xs ≡ Some (f, ys)) × IsExpression n f x
 expression_at n m xs e ys x s h k =
     subst (λ l. (f : Expression l) × (expression_front l xs ≡ Some (f, ys)) × IsExpression l f x) (sym s) (e, h, k)
 
-pub expression_none : (n m : ℕ) (xs : List ℕ) → n ≡ suc m → disjunction_front (expression_front m) xs ≡ None
+pub expression_none : (n m : ℕ) (xs : List ℕ) → n ≡ suc m → disjunction_front (expression_front m) (argument_front m) xs ≡ None
     → expression_front n xs ≡ None
 expression_none n m xs s h = subst (λ l. expression_front l xs ≡ None) (sym s) h
 
@@ -269,3 +310,68 @@ query_at n xs cs c ss ys e f h = ap (query_front n) (e ∙ ap (λ d. d ∷ cs) f
 pub query_none : (n : ℕ) (xs cs : List ℕ) (c : ℕ) → xs ≡ c ∷ cs → c ≡ 36 → segments_front (expression_front n) cs ≡ None
     → query_front n xs ≡ None
 query_none n xs cs c e f h = ap (query_front n) (e ∙ ap (λ d. d ∷ cs) f) ∙ ap (option_and_then ended) h
+
+-- ---- what is compared
+
+-- what is found one level below is found
+pub argument_at : (n m : ℕ) (xs : List ℕ) (r : Result (CodeComparable × Bor (List ℕ)) Refusal) → n ≡ suc m
+    → Fronts (IsComparable (IsExpression m) (IsArgument m)) (comparable_front (expression_front m) (argument_front m) xs) r
+    → Fronts (IsArgument n) (argument_front n xs) r
+argument_at n m xs r s h = subst (λ l. Fronts (IsArgument l) (argument_front l xs) r) (sym s) h
+
+module _ {E C : Type 0} (F : FrontOf E) (G : FrontOf C) where
+  pub query_from : (xs cs : List ℕ) (c : ℕ) (o : Origin) (p : Option (List SingularSegment × List ℕ)) → xs ≡ c ∷ cs
+      → origin_of c ≡ Some o → singular_front cs ≡ p → comparable_front F G xs ≡ option_map (as_singular o) p
+  query_from xs cs c o p e f h =
+      ap (comparable_front F G) e ∙ (ap (compared_front F G c cs) f ∙ ap (option_map (as_singular o)) h)
+
+  pub call_from : (xs cs : List ℕ) (c : ℕ) (p : Option (Function E C × List ℕ)) → xs ≡ c ∷ cs → origin_of c ≡ None
+      → begins_call c ≡ true → function_front F G xs ≡ p → comparable_front F G xs ≡ option_map as_function p
+  call_from xs cs c p e f b h =
+      ap (comparable_front F G) e
+      ∙ (ap (compared_front F G c cs) f
+      ∙ (cond-true (begins_call c) _ _ b
+      ∙ (ap (λ us. option_map as_function (function_front F G us)) (sym e) ∙ ap (option_map as_function) h)))
+
+  pub literal_from : (xs cs : List ℕ) (c : ℕ) (p : Option (Literal × List ℕ)) → xs ≡ c ∷ cs → origin_of c ≡ None
+      → begins_call c ≡ false → literal_front xs ≡ p → comparable_front F G xs ≡ option_map as_literal p
+  literal_from xs cs c p e f b h =
+      ap (comparable_front F G) e
+      ∙ (ap (compared_front F G c cs) f
+      ∙ (cond-false (begins_call c) _ _ b
+      ∙ (ap (λ us. option_map as_literal (literal_front us)) (sym e) ∙ ap (option_map as_literal) h)))
+
+  pub length_from : (xs ys : List ℕ) (p : Option (C × List ℕ)) → behind_word length_call xs ≡ Some ys → closed_front G ys ≡ p
+      → function_front F G xs ≡ option_map as_length p
+  length_from xs ys p e h = ap (length_end F G xs) e ∙ ap (option_map as_length) h
+
+  pub count_from : (xs ys : List ℕ) (p : Option ((Origin × List (Segment E)) × List ℕ)) → behind_word length_call xs ≡ None
+      → behind_word count_call xs ≡ Some ys → closed_front (filter_query_front F) ys ≡ p
+      → function_front F G xs ≡ option_map as_count p
+  count_from xs ys p e f h = ap (length_end F G xs) e ∙ (ap (count_end F xs) f ∙ ap (option_map as_count) h)
+
+  pub value_from : (xs ys : List ℕ) (p : Option ((Origin × List (Segment E)) × List ℕ)) → behind_word length_call xs ≡ None
+      → behind_word count_call xs ≡ None → behind_word value_call xs ≡ Some ys → closed_front (filter_query_front F) ys ≡ p
+      → function_front F G xs ≡ option_map as_value p
+  value_from xs ys p e f g h =
+      ap (length_end F G xs) e ∙ (ap (count_end F xs) f ∙ (ap (value_end F) g ∙ ap (option_map as_value) h))
+
+  pub no_function : (xs : List ℕ) → behind_word length_call xs ≡ None → behind_word count_call xs ≡ None
+      → behind_word value_call xs ≡ None → function_front F G xs ≡ None
+  no_function xs e f g = ap (length_end F G xs) e ∙ (ap (count_end F xs) f ∙ ap (value_end F) g)
+
+module _ {A : Type 0} (G : FrontOf A) where
+  pub closed_from : (xs zs ys us : List ℕ) (a : A) (o : Option (List ℕ)) → zs ≡ after_blanks xs → G zs ≡ Some (a, ys)
+      → us ≡ after_blanks ys → behind 41 us ≡ o → closed_front G xs ≡ option_map (held a) o
+  closed_from xs zs ys us a o e h f k =
+      ap (λ ws. option_and_then in_parentheses (G ws)) (sym e)
+      ∙ (ap (option_and_then in_parentheses) h ∙ ap (option_map (held a)) (ap (behind 41) (sym f) ∙ k))
+
+  pub closed_none : (xs zs : List ℕ) → zs ≡ after_blanks xs → G zs ≡ None → closed_front G xs ≡ None
+  closed_none xs zs e h = ap (λ ws. option_and_then in_parentheses (G ws)) (sym e) ∙ ap (option_and_then in_parentheses) h
+
+module _ {E : Type 0} (F : FrontOf E) where
+  pub begun_from : (xs cs : List ℕ) (c : ℕ) (o : Origin) (p : Option (List (Segment E) × List ℕ)) → xs ≡ c ∷ cs → origin_of c ≡ Some o
+      → segments_front F cs ≡ p → filter_query_front F xs ≡ option_map (as_query o) p
+  begun_from xs cs c o p e f h =
+      ap (filter_query_front F) e ∙ (ap (option_and_then (begun_front F cs)) f ∙ ap (option_map (as_query o)) h)

@@ -1,21 +1,20 @@
 -- Single literals, segments of one selector, and operators.
-use Rattle.std.proofs.Common.{◌≡◌, ℕ, true, false, List, ◌∷◌, Option, Some, None, option_map, option_and_then}
+use Rattle.std.proofs.Common.{◌≡◌, ◌≢◌, ℕ, true, false, ◌==◌, List, [], ◌∷◌, Option, Some, None, option_map, option_and_then}
 use Rattle.std.proofs.Common.{◌<◌, length, sym, ap, ◌∙◌}
-use Rattle.std.proofs.lemmas.Bool.{cond-true, cond-false}
+use Rattle.std.proofs.lemmas.Bool.{cond-true, cond-false, ne_eqb}
 use Rattle.std.specs.Prelude.{ℤ}
 use Rattle.tinyjson.specs.Number.{Decimal, IsNumberText}
 use Rattle.tinyjson_number.specs.Numeral.{Numeral, value as decimal_value, in_range}
 use Rattle.tinyjson_number.specs.NumberText.{Spells}
-use Rattle.json_path_query.specs.declared.query.Origin.{Origin}
 use Rattle.json_path_query.specs.Grammar.{after_blanks, is_name_first, name_chars, number_chars, true_word, false_word, null_word}
 use Rattle.json_path_query.specs.Grammar.{is_number_char}
 use Rattle.json_path_query.specs.Numerals.{spelled_decimal}
 use Rattle.json_path_query.specs.Values.{Literal, SingularSegment}
 use Rattle.json_path_query.specs.Values as value
-use Rattle.json_path_query.specs.Fronts.{numbered, number_front, behind_word, either, meaning, word_front, as_string, is_quote, quoted_front}
+use Rattle.json_path_query.specs.Fronts.{numbered, number_front, behind_word, either, meaning, word_front, as_string, is_quote}
+use Rattle.json_path_query.specs.Fronts.{quoted_front}
 use Rattle.json_path_query.specs.Fronts.{literal_front, behind, name_before, index_before, int_front, bracketed_front, name_front}
-use Rattle.json_path_query.specs.Fronts.{singular_segment_front, end, more, singular_end, singular_turn, singular_front, as_singular}
-use Rattle.json_path_query.specs.Fronts.{as_literal, compared_front, comparable_front, origin_of}
+use Rattle.json_path_query.specs.Fronts.{singular_segment_front, end, more, singular_end, singular_turn}
 use Rattle.json_path_query.proofs.Numerals.{decimal_complete, no_numeral, no_decimal}
 use Rattle.json_path_query.proofs.Shorter.{singular_falls}
 
@@ -128,19 +127,6 @@ singular_more xs zs s ys e h = ap (λ o. Some (singular_end xs o)) (ap singular_
 
 pub singular_stop : (xs zs : List ℕ) → zs ≡ after_blanks xs → singular_segment_front zs ≡ None → singular_turn xs ≡ Some (end xs)
 singular_stop xs zs e h = ap (λ o. Some (singular_end xs o)) (ap singular_segment_front (sym e) ∙ h)
-
--- ---- what is compared
-
-pub query_from : (xs cs : List ℕ) (c : ℕ) (o : Origin) (p : Option (List SingularSegment × List ℕ)) → xs ≡ c ∷ cs → origin_of c ≡ Some o
-    → singular_front cs ≡ p → comparable_front xs ≡ option_map (as_singular o) p
-query_from xs cs c o p e f h =
-    ap comparable_front e ∙ (ap (compared_front (c ∷ cs) cs) f ∙ ap (option_map (as_singular o)) h)
-
-pub literal_from : (xs cs : List ℕ) (c : ℕ) (p : Option (Literal × List ℕ)) → xs ≡ c ∷ cs → origin_of c ≡ None → literal_front xs ≡ p
-    → comparable_front xs ≡ option_map as_literal p
-literal_from xs cs c p e f h =
-    ap comparable_front e
-    ∙ (ap (compared_front (c ∷ cs) cs) f ∙ (ap (λ us. option_map as_literal (literal_front us)) (sym e) ∙ ap (option_map as_literal) h))
 
 pub singular_smaller : (xs zs : List ℕ) (s : SingularSegment) (ys : List ℕ) → zs ≡ after_blanks xs
     → singular_segment_front zs ≡ Some (s, ys) → length ys < length xs

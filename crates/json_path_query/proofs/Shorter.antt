@@ -12,7 +12,9 @@ use Rattle.json_path_query.specs.Grammar.{CodeText}
 use Rattle.json_path_query.specs.Grammar.{EscapeText, CharacterText, QuotedText, StringText, BoundText, StepText, PlainSelectorText}
 use Rattle.json_path_query.specs.Grammar.{TextsOf, SelectorText, SelectionText, ShorthandText, SegmentText, SegmentsText}
 use Rattle.json_path_query.specs.Grammar.{OperandText, BasicText, JoinedText, is_number_char, number_chars, LiteralText}
-use Rattle.json_path_query.specs.Grammar.{SingularSegmentText, SingularSegmentsText, ComparableText, OperatorText}
+use Rattle.json_path_query.specs.Grammar.{SingularSegmentText, SingularSegmentsText, ComparableText, OperatorText, FilterQueryText}
+use Rattle.json_path_query.specs.Grammar.{ClosedText}
+use Rattle.json_path_query.specs.Grammar.{FunctionText}
 use Rattle.json_path_query.specs.Fronts.{singular_segment_front, singular_end, singular_turn}
 use Rattle.json_path_query.specs.Fronts.{string_turn, selector_front, separator, separated, selection_turn, begins_segment, segments_turn}
 use Rattle.json_path_query.specs.Fronts.{more_of, character_front, segment_front, FrontOf, behind, behind_both, joint, joined, joined_turn}
@@ -219,10 +221,41 @@ singular_segments_shorter xs ss ys (is.more {ys = zs} {s = s} {ss = ts} m n) =
     let c = singular_segments_shorter zs ts ys n in
     omega arith
 
-comparable_shorter : (xs : List ℕ) (a : Comparable) (ys : List ℕ) → ComparableText xs a ys → length ys ≤ length xs
-comparable_shorter xs a ys (is.literal {l = l} m) = literal_shorter xs l ys m
-comparable_shorter xs a ys (is.relative {xs = zs} {ss = ss} m) = let b = singular_segments_shorter zs ss ys m in omega arith
-comparable_shorter xs a ys (is.absolute {xs = zs} {ss = ss} m) = let b = singular_segments_shorter zs ss ys m in omega arith
+-- what follows each of the texts is no longer
+abbrev pub Keeping : {A : Type 0} → TextsOf A → Type 0
+Keeping {A = A} T = (xs : List ℕ) (a : A) (ys : List ℕ) → T xs a ys → length ys ≤ length xs
+
+filter_query_shorter : {E : Type 0} {T : TextsOf E} → Shortening T → Keeping (FilterQueryText T)
+filter_query_shorter k xs q ys (is.relative {xs = zs} {ss = ss} m) = let a = segments_shorter k zs ss ys m in omega arith
+filter_query_shorter k xs q ys (is.absolute {xs = zs} {ss = ss} m) = let a = segments_shorter k zs ss ys m in omega arith
+
+closed_shorter : {A : Type 0} {T : TextsOf A} → Keeping T → Keeping (ClosedText T)
+closed_shorter k xs a zs (is.closed {ys = ys} m e) =
+    let b = k (after_blanks xs) a ys m in
+    let c = blanks_shorter xs in
+    let d = blanks_shorter ys in
+    let same : length (after_blanks ys) ≡ length (41 ∷ zs) = ap length e in
+    omega arith
+
+function_shorter : {E C : Type 0} {T : TextsOf E} {A : TextsOf C} → Shortening T → Keeping A → Keeping (FunctionText T A)
+function_shorter k j xs f ys (is.length_of {xs = zs} {c = c} m) =
+    let a = closed_shorter j zs c ys m in
+    let b = behind_no_longer is.length_call zs in
+    omega arith
+function_shorter k j xs f ys (is.count_of {xs = zs} {o = o} {ss = ss} m) =
+    let a = closed_shorter (filter_query_shorter k) zs (o, ss) ys m in
+    let b = behind_no_longer is.count_call zs in
+    omega arith
+function_shorter k j xs f ys (is.value_of {xs = zs} {o = o} {ss = ss} m) =
+    let a = closed_shorter (filter_query_shorter k) zs (o, ss) ys m in
+    let b = behind_no_longer is.value_call zs in
+    omega arith
+
+pub comparable_shorter : {E C : Type 0} {T : TextsOf E} {A : TextsOf C} → Shortening T → Keeping A → Keeping (ComparableText T A)
+comparable_shorter k j xs a ys (is.literal {l = l} m) = literal_shorter xs l ys m
+comparable_shorter k j xs a ys (is.relative {xs = zs} {ss = ss} m) = let b = singular_segments_shorter zs ss ys m in omega arith
+comparable_shorter k j xs a ys (is.absolute {xs = zs} {ss = ss} m) = let b = singular_segments_shorter zs ss ys m in omega arith
+comparable_shorter k j xs a ys (is.function {f = f} m) = function_shorter k j xs f ys m
 
 operator_shorter : (xs : List ℕ) (op : ComparisonOperator) (ys : List ℕ) → OperatorText xs op ys → length ys < length xs
 operator_shorter xs op ys is.equal = omega arith
@@ -232,18 +265,18 @@ operator_shorter xs op ys is.greater_or_equal = omega arith
 operator_shorter xs op ys (is.less n) = omega arith
 operator_shorter xs op ys (is.greater n) = omega arith
 
-pub basic_shorter : {E : Type 0} {T : TextsOf E} → Shortening T → Shortening (BasicText T)
-basic_shorter k xs v ys (is.affirmed {o = o} m) = operand_shorter k xs o ys m
-basic_shorter k xs v ys (is.negated {xs = zs} {o = o} m) =
+pub basic_shorter : {E C : Type 0} {T : TextsOf E} {A : TextsOf C} → Shortening T → Keeping A → Shortening (BasicText T A)
+basic_shorter k j xs v ys (is.affirmed {o = o} m) = operand_shorter k xs o ys m
+basic_shorter k j xs v ys (is.negated {xs = zs} {o = o} m) =
     let a = operand_shorter k (after_blanks zs) o ys m in
     let b = blanks_shorter zs in
     omega arith
-basic_shorter k xs v ys (is.comparison {ys = zs} {zs = us} {l = l} {r = r} {op = op} m n q) =
-    let a = comparable_shorter xs l zs m in
+basic_shorter k j xs v ys (is.comparison {ys = zs} {zs = us} {l = l} {r = r} {op = op} m n q) =
+    let a = comparable_shorter k j xs l zs m in
     let b = blanks_shorter zs in
     let c = operator_shorter (after_blanks zs) op us n in
     let d = blanks_shorter us in
-    let e = comparable_shorter (after_blanks us) r ys q in
+    let e = comparable_shorter k j (after_blanks us) r ys q in
     omega arith
 
 pub joined_shorter : {A : Type 0} {T : TextsOf A} (sign : ℕ) → Shortening T → Shortening (JoinedText sign T)

@@ -8,6 +8,9 @@ use Rattle.json_path_query.specs.declared.query.Query.{Query}
 use Rattle.json_path_query.specs.declared.query.Comparable.{Comparable as CodeComparable}
 use Rattle.json_path_query.specs.declared.query.Comparable.TheVariants as compared
 use Rattle.json_path_query.specs.declared.query.ComparisonOperator.{ComparisonOperator}
+use Rattle.json_path_query.specs.declared.query.FilterQuery.{FilterQuery}
+use Rattle.json_path_query.specs.declared.query.FunctionExpression.{FunctionExpression as CodeFunction}
+use Rattle.json_path_query.specs.declared.query.FunctionExpression.TheVariants as calls
 use Rattle.json_path_query.specs.declared.query.Literal.{Literal as CodeLiteral}
 use Rattle.json_path_query.specs.declared.query.Origin.{Origin}
 use Rattle.json_path_query.specs.declared.query.Expression.{Expression as CodeExpression}
@@ -41,25 +44,37 @@ pub data Operand (E : Type 0) : Type 0 where
   parenthesized : E → Operand E
   test : Origin → List (Segment E) → Operand E
 
+-- a function of a value, or of the nodes of a query (2.4); C are the values that are passed to functions
+pub data Function (E C : Type 0) : Type 0 where
+  length : C → Function E C
+  count : Origin → List (Segment E) → Function E C
+  value : Origin → List (Segment E) → Function E C
+
 -- what is compared
-pub data Comparable : Type 0 where
-  literal : Literal → Comparable
-  singular : Origin → List SingularSegment → Comparable
+pub data Comparable (E C : Type 0) : Type 0 where
+  literal : Literal → Comparable E C
+  singular : Origin → List SingularSegment → Comparable E C
+  function : Function E C → Comparable E C
 
 -- what `&&` joins
-pub data Basic (E : Type 0) : Type 0 where
-  affirmed : Operand E → Basic E
-  negated : Operand E → Basic E
-  comparison : ComparisonOperator → (left right : Comparable) → Basic E
+pub data Basic (E C : Type 0) : Type 0 where
+  affirmed : Operand E → Basic E C
+  negated : Operand E → Basic E C
+  comparison : ComparisonOperator → (left right : Comparable E C) → Basic E C
 
 -- one of these holds, of each of which all hold
-abbrev pub Disjunction : Type 0 → Type 0
-Disjunction E = List (List (Basic E))
+abbrev pub Disjunction : Type 0 → Type 0 → Type 0
+Disjunction E C = List (List (Basic E C))
 
--- logical expressions, in which fewer than n stand in each other
-abbrev pub Expression : ℕ → Type 0
-Expression zero = ⊥
-Expression (suc n) = Disjunction (Expression n)
+-- logical expressions and values that are passed to functions, of which fewer than n stand in each other
+abbrev mutual
+  pub Expression : ℕ → Type 0
+  Expression zero = ⊥
+  Expression (suc n) = Disjunction (Expression n) (Argument n)
+
+  pub Argument : ℕ → Type 0
+  Argument zero = ⊥
+  Argument (suc n) = Comparable (Expression n) (Argument n)
 
 -- ---- the values of the code
 
@@ -105,32 +120,52 @@ IsOperand Is (test o ss) x =
 abbrev pub AreSingularSegmentsIn : List SingularSegment → Vec CodeSingularSegment Global → Type 0
 AreSingularSegmentsIn ss v = Each IsSingularSegment ss v.items
 
+-- the code's query in a filter is that one
+abbrev pub IsFilterQuery : {E : Type 0} → (E → CodeExpression → Type 0) → Origin × List (Segment E) → FilterQuery → Type 0
+IsFilterQuery Is q x = (v : Vec CodeSegment Global) × (x ≡ record { origin = q.0; segments = v }) × AreSegmentsIn Is q.1 v
+
+-- the code's function is that one
+abbrev pub IsFunction : {E C : Type 0} → (E → CodeExpression → Type 0) → (C → CodeComparable → Type 0) → Function E C
+    → CodeFunction → Type 0
+IsFunction Is In (length c) x = (b : Box CodeComparable Global) × (x ≡ calls.Length b) × In c (box_value b)
+IsFunction Is In (count o ss) x = (q : FilterQuery) × (x ≡ calls.Count q) × IsFilterQuery Is (o, ss) q
+IsFunction Is In (value o ss) x = (q : FilterQuery) × (x ≡ calls.Value q) × IsFilterQuery Is (o, ss) q
+
 -- what the code compares is that
-abbrev pub IsComparable : Comparable → CodeComparable → Type 0
-IsComparable (literal l) x = (y : CodeLiteral) × (x ≡ compared.Literal y) × IsLiteral l y
-IsComparable (singular o ss) x =
+abbrev pub IsComparable : {E C : Type 0} → (E → CodeExpression → Type 0) → (C → CodeComparable → Type 0) → Comparable E C → CodeComparable
+    → Type 0
+IsComparable Is In (literal l) x = (y : CodeLiteral) × (x ≡ compared.Literal y) × IsLiteral l y
+IsComparable Is In (singular o ss) x =
     (v : Vec CodeSingularSegment Global) × (x ≡ compared.SingularQuery (record { origin = o; segments = v }))
     × AreSingularSegmentsIn ss v
+IsComparable Is In (function f) x = (y : CodeFunction) × (x ≡ compared.Function y) × IsFunction Is In f y
 
 -- the code's expression is that one
-abbrev pub IsBasic : {E : Type 0} → (E → CodeExpression → Type 0) → Basic E → CodeExpression → Type 0
-IsBasic Is (affirmed o) x = IsOperand Is o x
-IsBasic Is (negated o) x = (b : Box CodeExpression Global) × (x ≡ says.Not b) × IsOperand Is o (box_value b)
-IsBasic Is (comparison op l r) x =
-    (a b : CodeComparable) × (x ≡ says.Comparison op a b) × IsComparable l a × IsComparable r b
+abbrev pub IsBasic : {E C : Type 0} → (E → CodeExpression → Type 0) → (C → CodeComparable → Type 0) → Basic E C → CodeExpression → Type 0
+IsBasic Is In (affirmed o) x = IsOperand Is o x
+IsBasic Is In (negated o) x = (b : Box CodeExpression Global) × (x ≡ says.Not b) × IsOperand Is o (box_value b)
+IsBasic Is In (comparison op l r) x =
+    (a b : CodeComparable) × (x ≡ says.Comparison op a b) × IsComparable Is In l a × IsComparable Is In r b
 
 -- the code's expression is all of these
-abbrev pub IsConjunction : {E : Type 0} → (E → CodeExpression → Type 0) → List (Basic E) → CodeExpression → Type 0
-IsConjunction Is bs x = (v : Vec CodeExpression Global) × (x ≡ says.And v) × Each (IsBasic Is) bs v.items
+abbrev pub IsConjunction : {E C : Type 0} → (E → CodeExpression → Type 0) → (C → CodeComparable → Type 0) → List (Basic E C)
+    → CodeExpression → Type 0
+IsConjunction Is In bs x = (v : Vec CodeExpression Global) × (x ≡ says.And v) × Each (IsBasic Is In) bs v.items
 
 -- the code's expression is one of these
-abbrev pub IsDisjunction : {E : Type 0} → (E → CodeExpression → Type 0) → Disjunction E → CodeExpression → Type 0
-IsDisjunction Is cs x = (v : Vec CodeExpression Global) × (x ≡ says.Or v) × Each (IsConjunction Is) cs v.items
+abbrev pub IsDisjunction : {E C : Type 0} → (E → CodeExpression → Type 0) → (C → CodeComparable → Type 0) → Disjunction E C
+    → CodeExpression → Type 0
+IsDisjunction Is In cs x = (v : Vec CodeExpression Global) × (x ≡ says.Or v) × Each (IsConjunction Is In) cs v.items
 
--- the code's expression is that one
-abbrev pub IsExpression : (n : ℕ) → Expression n → CodeExpression → Type 0
-IsExpression zero e x = ⊥
-IsExpression (suc n) e x = IsDisjunction (IsExpression n) e x
+-- the code's expression, and what it passes to a function, is that one
+abbrev mutual
+  pub IsExpression : (n : ℕ) → Expression n → CodeExpression → Type 0
+  IsExpression zero e x = ⊥
+  IsExpression (suc n) e x = IsDisjunction (IsExpression n) (IsArgument n) e x
+
+  pub IsArgument : (n : ℕ) → Argument n → CodeComparable → Type 0
+  IsArgument zero c x = ⊥
+  IsArgument (suc n) c x = IsComparable (IsExpression n) (IsArgument n) c x
 
 -- ---- queries
 

@@ -12,12 +12,14 @@ use Rattle.json_path_query.specs.declared.query.ComparisonOperator.TheVariants.{
 use Rattle.json_path_query.specs.declared.query.Origin.{Origin}
 use Rattle.json_path_query.specs.declared.query.Origin.TheVariants.{Root, CurrentNode}
 use Rattle.json_path_query.specs.Forms.{PlainSelector, name, wildcard, index, slice, Selector, plain, filter, Segment, child, descendant}
-use Rattle.json_path_query.specs.Forms.{Operand, parenthesized, test, Comparable, literal, singular}
-use Rattle.json_path_query.specs.Forms.{Basic, affirmed, negated, comparison, Expression}
+use Rattle.json_path_query.specs.Forms.{Operand, parenthesized, test, Function, Comparable, literal, singular}
+use Rattle.json_path_query.specs.Forms.{Basic, affirmed, negated, comparison, Expression, Argument}
+use Rattle.json_path_query.specs.Forms as form
 use Rattle.json_path_query.specs.Values.{Literal, SingularSegment}
 use Rattle.json_path_query.specs.Values as value
 use Rattle.json_path_query.specs.Numerals.{spelled_decimal}
 use Rattle.json_path_query.specs.Grammar.{number_chars, is_number_char, true_word, false_word, null_word}
+use Rattle.json_path_query.specs.Grammar.{length_call, count_call, value_call}
 use Rattle.json_path_query.specs.Grammar.{equals_sign, less_than_sign, greater_than_sign}
 use Rattle.json_path_query.specs.Grammar.{root_identifier, apostrophe, asterisk, after_blanks, is_name_first, is_digit, is_digit1}
 use Rattle.json_path_query.specs.Grammar.{question_mark, current_node_identifier, exclamation_mark, left_parenthesis, right_parenthesis}
@@ -348,19 +350,76 @@ singular_turn xs = Some (singular_end xs (singular_segment_front (after_blanks x
 abbrev pub singular_front : List ℕ → Option (List SingularSegment × List ℕ)
 singular_front xs = all_turns singular_turn xs
 
-abbrev pub as_singular : Origin → List SingularSegment × List ℕ → Comparable × List ℕ
+abbrev pub as_query : {E : Type 0} → Origin → List (Segment E) × List ℕ → (Origin × List (Segment E)) × List ℕ
+as_query o p = ((o, p.0), p.1)
+
+abbrev pub begun_front : {E : Type 0} → FrontOf E → List ℕ → Origin → Option ((Origin × List (Segment E)) × List ℕ)
+begun_front F cs o = option_map (as_query o) (segments_front F cs)
+
+abbrev pub filter_query_front : {E : Type 0} → FrontOf E → FrontOf (Origin × List (Segment E))
+filter_query_front F [] = None
+filter_query_front F (c ∷ cs) = option_and_then (begun_front F cs) (origin_of c)
+
+abbrev pub held : {A : Type 0} → A → List ℕ → A × List ℕ
+held a ys = (a, ys)
+
+-- before the parenthesis that ends it
+abbrev pub in_parentheses : {A : Type 0} → A × List ℕ → Option (A × List ℕ)
+in_parentheses p = option_map (held p.0) (behind right_parenthesis (after_blanks p.1))
+
+abbrev pub closed_front : {A : Type 0} → FrontOf A → FrontOf A
+closed_front G xs = option_and_then in_parentheses (G (after_blanks xs))
+
+abbrev pub as_length : {E C : Type 0} → C × List ℕ → Function E C × List ℕ
+as_length p = (form.length p.0, p.1)
+
+abbrev pub as_count : {E C : Type 0} → (Origin × List (Segment E)) × List ℕ → Function E C × List ℕ
+as_count p = (form.count p.0.0 p.0.1, p.1)
+
+abbrev pub as_value : {E C : Type 0} → (Origin × List (Segment E)) × List ℕ → Function E C × List ℕ
+as_value p = (form.value p.0.0 p.0.1, p.1)
+
+-- by whether the name of the function stands there
+abbrev pub value_end : {E C : Type 0} → FrontOf E → Option (List ℕ) → Option (Function E C × List ℕ)
+value_end F None = None
+value_end F (Some ys) = option_map as_value (closed_front (filter_query_front F) ys)
+
+abbrev pub count_end : {E C : Type 0} → FrontOf E → List ℕ → Option (List ℕ) → Option (Function E C × List ℕ)
+count_end F xs None = value_end F (behind_word value_call xs)
+count_end F xs (Some ys) = option_map as_count (closed_front (filter_query_front F) ys)
+
+abbrev pub length_end : {E C : Type 0} → FrontOf E → FrontOf C → List ℕ → Option (List ℕ) → Option (Function E C × List ℕ)
+length_end F G xs None = count_end F xs (behind_word count_call xs)
+length_end F G xs (Some ys) = option_map as_length (closed_front G ys)
+
+abbrev pub function_front : {E C : Type 0} → FrontOf E → FrontOf C → FrontOf (Function E C)
+function_front F G xs = length_end F G xs (behind_word length_call xs)
+
+-- whether a name of a function begins with the character
+abbrev pub begins_call : ℕ → Bool
+begins_call c = (c == 108) || ((c == 99) || (c == 118))
+
+-- whether a name of a function of regular expressions begins with the character
+abbrev pub begins_pattern : ℕ → Bool
+begins_pattern c = (c == 109) || (c == 115)
+
+abbrev pub as_singular : {E C : Type 0} → Origin → List SingularSegment × List ℕ → Comparable E C × List ℕ
 as_singular o p = (singular o p.0, p.1)
 
-abbrev pub as_literal : Literal × List ℕ → Comparable × List ℕ
+abbrev pub as_literal : {E C : Type 0} → Literal × List ℕ → Comparable E C × List ℕ
 as_literal p = (literal p.0, p.1)
 
-abbrev pub compared_front : List ℕ → List ℕ → Option Origin → Option (Comparable × List ℕ)
-compared_front xs cs None = option_map as_literal (literal_front xs)
-compared_front xs cs (Some o) = option_map (as_singular o) (singular_front cs)
+abbrev pub as_function : {E C : Type 0} → Function E C × List ℕ → Comparable E C × List ℕ
+as_function p = (form.function p.0, p.1)
 
-abbrev pub comparable_front : List ℕ → Option (Comparable × List ℕ)
-comparable_front [] = None
-comparable_front (c ∷ cs) = compared_front (c ∷ cs) cs (origin_of c)
+abbrev pub compared_front : {E C : Type 0} → FrontOf E → FrontOf C → ℕ → List ℕ → Option Origin → Option (Comparable E C × List ℕ)
+compared_front F G c cs None =
+    cond (begins_call c) (option_map as_function (function_front F G (c ∷ cs))) (option_map as_literal (literal_front (c ∷ cs)))
+compared_front F G c cs (Some o) = option_map (as_singular o) (singular_front cs)
+
+abbrev pub comparable_front : {E C : Type 0} → FrontOf E → FrontOf C → FrontOf (Comparable E C)
+comparable_front F G [] = None
+comparable_front F G (c ∷ cs) = compared_front F G c cs (origin_of c)
 
 -- the operator, by whether "=" follows its first sign
 abbrev pub or_equal : ComparisonOperator → ComparisonOperator → List ℕ → Option (List ℕ) → ComparisonOperator × List ℕ
@@ -380,30 +439,30 @@ operator_front (c ∷ cs) =
 
 -- ---- conditions
 
-abbrev pub as_affirmed : {E : Type 0} → Operand E × List ℕ → Basic E × List ℕ
+abbrev pub as_affirmed : {E C : Type 0} → Operand E × List ℕ → Basic E C × List ℕ
 as_affirmed p = (affirmed p.0, p.1)
 
-abbrev pub as_negated : {E : Type 0} → Operand E × List ℕ → Basic E × List ℕ
+abbrev pub as_negated : {E C : Type 0} → Operand E × List ℕ → Basic E C × List ℕ
 as_negated p = (negated p.0, p.1)
 
-abbrev pub as_comparison : {E : Type 0} → ComparisonOperator → Comparable → Comparable × List ℕ → Basic E × List ℕ
+abbrev pub as_comparison : {E C : Type 0} → ComparisonOperator → Comparable E C → Comparable E C × List ℕ → Basic E C × List ℕ
 as_comparison op l p = (comparison op l p.0, after_blanks p.1)
 
 -- behind what may stand on the left: an operator and the right, or no operator
-abbrev pub operated_front : {E : Type 0} → FrontOf E → List ℕ → Comparable → Option (ComparisonOperator × List ℕ)
-    → Option (Basic E × List ℕ)
-operated_front F xs l None = option_map as_affirmed (operand_front F xs)
-operated_front F xs l (Some p) = option_map (as_comparison p.0 l) (comparable_front (after_blanks p.1))
+abbrev pub operated_front : {E C : Type 0} → FrontOf E → FrontOf C → List ℕ → Comparable E C → Option (ComparisonOperator × List ℕ)
+    → Option (Basic E C × List ℕ)
+operated_front F G xs l None = option_map as_affirmed (operand_front F xs)
+operated_front F G xs l (Some p) = option_map (as_comparison p.0 l) (comparable_front F G (after_blanks p.1))
 
-abbrev pub left_end : {E : Type 0} → FrontOf E → List ℕ → Comparable × List ℕ → Option (Basic E × List ℕ)
-left_end F xs p = operated_front F xs p.0 (operator_front (after_blanks p.1))
+abbrev pub left_end : {E C : Type 0} → FrontOf E → FrontOf C → List ℕ → Comparable E C × List ℕ → Option (Basic E C × List ℕ)
+left_end F G xs p = operated_front F G xs p.0 (operator_front (after_blanks p.1))
 
-abbrev pub basic_front : {E : Type 0} → FrontOf E → FrontOf (Basic E)
-basic_front F [] = None
-basic_front F (c ∷ cs) =
+abbrev pub basic_front : {E C : Type 0} → FrontOf E → FrontOf C → FrontOf (Basic E C)
+basic_front F G [] = None
+basic_front F G (c ∷ cs) =
     cond (c == exclamation_mark) (option_map as_negated (operand_front F (after_blanks cs)))
     (cond (c == left_parenthesis) (option_map as_affirmed (operand_front F (c ∷ cs)))
-    (option_and_then (left_end F (c ∷ cs)) (comparable_front (c ∷ cs))))
+    (option_and_then (left_end F G (c ∷ cs)) (comparable_front F G (c ∷ cs))))
 
 -- what follows a sign that is written twice, and the blanks after it
 abbrev pub behind_both : ℕ → List ℕ → Option (List ℕ)
@@ -424,15 +483,20 @@ joined_turn sign F xs = option_map (joined sign) (F xs)
 abbrev pub joined_front : {A : Type 0} → ℕ → FrontOf A → FrontOf (List A)
 joined_front sign F xs = all_turns (joined_turn sign F) xs
 
-abbrev pub conjunction_front : {E : Type 0} → FrontOf E → FrontOf (List (Basic E))
-conjunction_front F = joined_front ampersand (basic_front F)
+abbrev pub conjunction_front : {E C : Type 0} → FrontOf E → FrontOf C → FrontOf (List (Basic E C))
+conjunction_front F G = joined_front ampersand (basic_front F G)
 
-abbrev pub disjunction_front : {E : Type 0} → FrontOf E → FrontOf (List (List (Basic E)))
-disjunction_front F = joined_front vertical_line (conjunction_front F)
+abbrev pub disjunction_front : {E C : Type 0} → FrontOf E → FrontOf C → FrontOf (List (List (Basic E C)))
+disjunction_front F G = joined_front vertical_line (conjunction_front F G)
 
-abbrev pub expression_front : (n : ℕ) → FrontOf (Expression n)
-expression_front zero xs = None
-expression_front (suc n) xs = disjunction_front (expression_front n) xs
+abbrev mutual
+  pub expression_front : (n : ℕ) → FrontOf (Expression n)
+  expression_front zero xs = None
+  expression_front (suc n) xs = disjunction_front (expression_front n) (argument_front n) xs
+
+  pub argument_front : (n : ℕ) → FrontOf (Argument n)
+  argument_front zero xs = None
+  argument_front (suc n) xs = comparable_front (expression_front n) (argument_front n) xs
 
 -- ---- a whole query
 

@@ -1,6 +1,7 @@
--- The grammar of RFC 9535 without functions: which text is which query. A rule of the RFC's ABNF that has parts is a type
--- here: `Rule xs v ys` says that the characters xs begin with a text of the rule, which means v, and that ys follow it. A run of blanks, of
--- digits or of the characters of a name is taken whole; what may follow it in the RFC's rules never begins with one more of its characters.
+-- The grammar of RFC 9535, with the functions `length`, `count` and `value`: which text is which query. A rule of the RFC's ABNF that
+-- has parts is a type here: `Rule xs v ys` says that the characters xs begin with a text of the rule, which means v, and that ys follow
+-- it. A run of blanks, of digits, or of the characters of a name or of a number is taken whole; what may follow it in the RFC's rules
+-- never begins with one more of its characters.
 use Rattle.std.specs.Prelude.{◌≡◌, ℕ, zero, suc, ◌+◌, ◌-◌, ◌*◌, Bool, true, false, not, ◌&&◌, ◌||◌, ◌==◌, nat_le, cond, List, [], ◌∷◌}
 use Rattle.std.specs.Prelude.{◌++◌, codes, Option, Some, None, ℤ, pos, neg_ℤ}
 use Rattle.std.specs.Char.{digit_value}
@@ -12,8 +13,9 @@ use Rattle.tinyjson.specs.Characters.{plus_sign, letter_e, capital_e}
 use Rattle.tinyjson.specs.Number.{Decimal, IsNumberText}
 use Rattle.json_path_query.specs.declared.query.ComparisonOperator.{ComparisonOperator}
 use Rattle.json_path_query.specs.declared.query.ComparisonOperator.TheVariants.{Equal, NotEqual, Less, LessOrEqual, Greater, GreaterOrEqual}
+use Rattle.json_path_query.specs.declared.query.Origin.{Origin}
 use Rattle.json_path_query.specs.declared.query.Origin.TheVariants.{Root, CurrentNode}
-use Rattle.json_path_query.specs.Forms.{PlainSelector, Selector, Segment, Comparable, Operand, Basic, Expression}
+use Rattle.json_path_query.specs.Forms.{PlainSelector, Selector, Segment, Function, Comparable, Operand, Basic, Expression, Argument}
 use Rattle.json_path_query.specs.Forms as form
 use Rattle.json_path_query.specs.Values.{Literal, SingularSegment}
 use Rattle.json_path_query.specs.Values as value
@@ -115,6 +117,16 @@ false_word = codes "false"
 
 abbrev pub null_word : List ℕ
 null_word = codes "null"
+
+-- function names, each with the parenthesis behind it
+abbrev pub length_call : List ℕ
+length_call = codes "length("
+
+abbrev pub count_call : List ℕ
+count_call = codes "count("
+
+abbrev pub value_call : List ℕ
+value_call = codes "value("
 
 -- whether the text begins with the character
 abbrev pub begins_with : ℕ → List ℕ → Bool
@@ -276,13 +288,33 @@ pub data SingularSegmentsText : List ℕ → List SingularSegment → List ℕ �
   more : {xs ys zs : List ℕ} {s : SingularSegment} {ss : List SingularSegment} → SingularSegmentText (after_blanks xs) s ys
       → SingularSegmentsText ys ss zs → SingularSegmentsText xs (s ∷ ss) zs
 
--- comparable: literal, rel-singular-query, abs-singular-query
-pub data ComparableText : List ℕ → Comparable → List ℕ → Type 0 where
-  literal : {xs ys : List ℕ} {l : Literal} → LiteralText xs l ys → ComparableText xs (form.literal l) ys
+-- filter-query: rel-query, jsonpath-query
+pub data FilterQueryText {E : Type 0} (T : TextsOf E) : List ℕ → Origin × List (Segment E) → List ℕ → Type 0 where
+  relative : {xs ys : List ℕ} {ss : List (Segment E)} → SegmentsText T xs ss ys
+      → FilterQueryText T (current_node_identifier ∷ xs) (CurrentNode, ss) ys
+  absolute : {xs ys : List ℕ} {ss : List (Segment E)} → SegmentsText T xs ss ys
+      → FilterQueryText T (root_identifier ∷ xs) (Root, ss) ys
+
+-- an argument, and the parenthesis that ends a function: S argument S ")"
+pub data ClosedText {A : Type 0} (T : TextsOf A) : List ℕ → A → List ℕ → Type 0 where
+  closed : {xs ys zs : List ℕ} {a : A} → T (after_blanks xs) a ys → after_blanks ys ≡ right_parenthesis ∷ zs → ClosedText T xs a zs
+
+-- function-expr, as 2.4.3 to 2.4.8 have it, where A are the texts of a value: `length` takes a value, `count` and `value` take a query
+pub data FunctionText {E C : Type 0} (T : TextsOf E) (A : TextsOf C) : List ℕ → Function E C → List ℕ → Type 0 where
+  length_of : {xs ys : List ℕ} {c : C} → ClosedText A xs c ys → FunctionText T A (length_call ++ xs) (form.length c) ys
+  count_of : {xs ys : List ℕ} {o : Origin} {ss : List (Segment E)} → ClosedText (FilterQueryText T) xs (o, ss) ys
+      → FunctionText T A (count_call ++ xs) (form.count o ss) ys
+  value_of : {xs ys : List ℕ} {o : Origin} {ss : List (Segment E)} → ClosedText (FilterQueryText T) xs (o, ss) ys
+      → FunctionText T A (value_call ++ xs) (form.value o ss) ys
+
+-- comparable: literal, rel-singular-query, abs-singular-query, function-expr
+pub data ComparableText {E C : Type 0} (T : TextsOf E) (A : TextsOf C) : List ℕ → Comparable E C → List ℕ → Type 0 where
+  literal : {xs ys : List ℕ} {l : Literal} → LiteralText xs l ys → ComparableText T A xs (form.literal l) ys
   relative : {xs ys : List ℕ} {ss : List SingularSegment} → SingularSegmentsText xs ss ys
-      → ComparableText (current_node_identifier ∷ xs) (form.singular CurrentNode ss) ys
+      → ComparableText T A (current_node_identifier ∷ xs) (form.singular CurrentNode ss) ys
   absolute : {xs ys : List ℕ} {ss : List SingularSegment} → SingularSegmentsText xs ss ys
-      → ComparableText (root_identifier ∷ xs) (form.singular Root ss) ys
+      → ComparableText T A (root_identifier ∷ xs) (form.singular Root ss) ys
+  function : {xs ys : List ℕ} {f : Function E C} → FunctionText T A xs f ys → ComparableText T A xs (form.function f) ys
 
 -- comparison-op; no comparable begins with "="
 pub data OperatorText : List ℕ → ComparisonOperator → List ℕ → Type 0 where
@@ -305,12 +337,12 @@ pub data OperandText {E : Type 0} (T : TextsOf E) : List ℕ → Operand E → L
       → OperandText T (root_identifier ∷ xs) (form.test Root ss) ys
 
 -- basic-expr = paren-expr / comparison-expr / test-expr, where comparison-expr = comparable S comparison-op S comparable
-pub data BasicText {E : Type 0} (T : TextsOf E) : List ℕ → Basic E → List ℕ → Type 0 where
-  affirmed : {xs ys : List ℕ} {o : Operand E} → OperandText T xs o ys → BasicText T xs (form.affirmed o) ys
+pub data BasicText {E C : Type 0} (T : TextsOf E) (A : TextsOf C) : List ℕ → Basic E C → List ℕ → Type 0 where
+  affirmed : {xs ys : List ℕ} {o : Operand E} → OperandText T xs o ys → BasicText T A xs (form.affirmed o) ys
   negated : {xs ys : List ℕ} {o : Operand E} → OperandText T (after_blanks xs) o ys
-      → BasicText T (exclamation_mark ∷ xs) (form.negated o) ys
-  comparison : {xs ys zs us : List ℕ} {l r : Comparable} {op : ComparisonOperator} → ComparableText xs l ys
-      → OperatorText (after_blanks ys) op zs → ComparableText (after_blanks zs) r us → BasicText T xs (form.comparison op l r) us
+      → BasicText T A (exclamation_mark ∷ xs) (form.negated o) ys
+  comparison : {xs ys zs us : List ℕ} {l r : Comparable E C} {op : ComparisonOperator} → ComparableText T A xs l ys
+      → OperatorText (after_blanks ys) op zs → ComparableText T A (after_blanks zs) r us → BasicText T A xs (form.comparison op l r) us
 
 -- one or more of what T are the texts of, with the sign, written twice, between each two: *(S sign sign S ..)
 pub data JoinedText {A : Type 0} (sign : ℕ) (T : TextsOf A) : List ℕ → List A → List ℕ → Type 0 where
@@ -319,17 +351,22 @@ pub data JoinedText {A : Type 0} (sign : ℕ) (T : TextsOf A) : List ℕ → Lis
       → JoinedText sign T (after_blanks zs) as' us → JoinedText sign T xs (a ∷ as') us
 
 -- logical-and-expr = basic-expr *(S "&&" S basic-expr)
-abbrev pub ConjunctionText : {E : Type 0} → TextsOf E → TextsOf (List (Basic E))
-ConjunctionText T = JoinedText ampersand (BasicText T)
+abbrev pub ConjunctionText : {E C : Type 0} → TextsOf E → TextsOf C → TextsOf (List (Basic E C))
+ConjunctionText T A = JoinedText ampersand (BasicText T A)
 
 -- logical-or-expr = logical-and-expr *(S "||" S logical-and-expr)
-abbrev pub DisjunctionText : {E : Type 0} → TextsOf E → TextsOf (List (List (Basic E)))
-DisjunctionText T = JoinedText vertical_line (ConjunctionText T)
+abbrev pub DisjunctionText : {E C : Type 0} → TextsOf E → TextsOf C → TextsOf (List (List (Basic E C)))
+DisjunctionText T A = JoinedText vertical_line (ConjunctionText T A)
 
--- logical-expr, in which fewer than n stand in each other
-abbrev pub ExpressionText : (n : ℕ) → TextsOf (Expression n)
-ExpressionText zero xs e ys = ⊥
-ExpressionText (suc n) xs e ys = DisjunctionText (ExpressionText n) xs e ys
+-- logical-expr, and a function-argument that is a value, of which fewer than n stand in each other
+abbrev mutual
+  pub ExpressionText : (n : ℕ) → TextsOf (Expression n)
+  ExpressionText zero xs e ys = ⊥
+  ExpressionText (suc n) xs e ys = DisjunctionText (ExpressionText n) (ArgumentText n) xs e ys
+
+  pub ArgumentText : (n : ℕ) → TextsOf (Argument n)
+  ArgumentText zero xs c ys = ⊥
+  ArgumentText (suc n) xs c ys = ComparableText (ExpressionText n) (ArgumentText n) xs c ys
 
 -- jsonpath-query (2.1), where at most n logical expressions stand in each other
 pub data QueryText (n : ℕ) : List ℕ → List (Segment (Expression n)) → Type 0 where

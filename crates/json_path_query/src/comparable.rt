@@ -1,8 +1,9 @@
 //! Literals, and queries that select one node at most.
 ghost use Rattle.std.specs.Prelude.{◌≡◌};
-ghost use Rattle.json_path_query.specs.Forms.{IsComparable, AreSingularSegmentsIn};
+ghost use Rattle.json_path_query.specs.Forms.{AreSingularSegmentsIn};
 ghost use Rattle.json_path_query.specs.Fronts.{number_front, word_front, literal_front, bracketed_front, name_front};
-ghost use Rattle.json_path_query.specs.Fronts.{singular_segment_front, singular_front, comparable_front};
+ghost use Rattle.json_path_query.specs.Fronts.{singular_segment_front, singular_front, begins_call};
+ghost use Rattle.json_path_query.specs.Fronts.{begins_pattern};
 ghost use Rattle.json_path_query.specs.Fronts.{operator_front, or_equal, origin_of, behind};
 ghost use Rattle.json_path_query.specs.Reading.{Fronts, FoundAs};
 ghost use Rattle.json_path_query.specs.Values.{IsLiteral, IsSingularSegment};
@@ -12,30 +13,10 @@ use crate::lexical::{
     after_blanks, behind, behind_word, integer, is_name_first, is_number_char, is_quote, push,
     push_name_chars, push_number_chars,
 };
-use crate::query::{
-    Comparable, ComparisonOperator, Literal, Origin, SingularQuery, SingularSegment,
-};
+use crate::query::{ComparisonOperator, Literal, Origin, SingularSegment};
 use crate::string::quoted;
 use std::alloc::Global;
 use tinyjson::{JsonNumber, JsonNumberError};
-
-/// Reads what may stand beside an operator.
-pub(crate) fn comparable(alloc: Global, text: &[char]) -> Result<(Comparable, &[char]), Refusal>
-    ensures { Fronts IsComparable (comparable_front text.now) result }
-{
-    let Some((first, rest)) = text.split_first() else {
-        return Err(Refusal::invalid(text));
-    };
-    let Some(origin) = origin(*first) else {
-        let (literal, after) = literal(alloc, text)?;
-        return Ok((Comparable::Literal(literal), after));
-    };
-    let (segments, after) = singular_segments(alloc, rest)?;
-    Ok((
-        Comparable::SingularQuery(SingularQuery { origin, segments }),
-        after,
-    ))
-}
 
 /// Where a query inside a filter begins that begins with this character.
 pub(crate) fn origin(first: char) -> Option<Origin>
@@ -48,8 +29,22 @@ pub(crate) fn origin(first: char) -> Option<Origin>
     }
 }
 
+/// Whether the name of a function begins with the character.
+pub(crate) fn begins_call(first: char) -> bool
+    ensures { result ≡ begins_call first }
+{
+    first == 'l' || first == 'c' || first == 'v'
+}
+
+/// Whether `match` or `search` begins with the character, and nothing else that may stand in a filter.
+pub(crate) fn begins_pattern(first: char) -> bool
+    ensures { result ≡ begins_pattern first }
+{
+    first == 'm' || first == 's'
+}
+
 /// Reads segments of one selector up to where none stands.
-fn singular_segments(
+pub(crate) fn singular_segments(
     alloc: Global,
     text: &[char],
 ) -> Result<(Vec<SingularSegment>, &[char]), Refusal>
@@ -127,7 +122,7 @@ fn name(alloc: Global, text: &[char]) -> Result<(SingularSegment, &[char]), Refu
 }
 
 /// Reads a literal.
-fn literal(alloc: Global, text: &[char]) -> Result<(Literal, &[char]), Refusal>
+pub(crate) fn literal(alloc: Global, text: &[char]) -> Result<(Literal, &[char]), Refusal>
     ensures { Fronts IsLiteral (literal_front text.now) result }
 {
     let Some((first, rest)) = text.split_first() else {

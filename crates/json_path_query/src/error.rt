@@ -10,11 +10,13 @@ use std::fmt;
 /// Why a text is refused.
 #[derive(Clone, Copy, Debug, PartialEq, Eq)]
 pub enum ParseErrorKind {
-    /// The text is no query of RFC 9535, of which functions are left out.
+    /// The text is no query of RFC 9535.
     Invalid,
+    /// A test by `match` or `search`, which are not supported, stands where a test may stand.
+    Unsupported,
     /// The power of ten of a number that is compared is out of the range of `i64`.
     NumberOutOfRange,
-    /// More than 64 logical expressions stand in each other.
+    /// More than 64 logical expressions and arguments of functions stand in each other.
     TooDeep,
     /// An allocation failed.
     OutOfMemory,
@@ -25,9 +27,10 @@ impl fmt::Display for ParseErrorKind {
 
     fn fmt<W: fmt::Write>(&self, f: &mut fmt::Formatter<W>) -> fmt::Result {
         f.write_str(match self {
-            ParseErrorKind::Invalid => "no query of RFC 9535 without functions",
+            ParseErrorKind::Invalid => "no query of RFC 9535",
+            ParseErrorKind::Unsupported => "match and search are not supported",
             ParseErrorKind::NumberOutOfRange => "a number whose power of ten is out of range",
-            ParseErrorKind::TooDeep => "more than 64 logical expressions in each other",
+            ParseErrorKind::TooDeep => "more than 64 expressions in each other",
             ParseErrorKind::OutOfMemory => "out of memory",
         })
     }
@@ -39,7 +42,7 @@ impl fmt::Display for ParseErrorKind {
 /// if let Err(error) = Query::parse(alloc, "$.a[01]") {
 ///     assert_eq!(rt; error.place, 5);
 ///     let words = error.to_string(alloc)?;
-///     assert_eq!(rt; words.as_str(), "no query of RFC 9535 without functions at character 5");
+///     assert_eq!(rt; words.as_str(), "no query of RFC 9535 at character 5");
 /// }
 /// ```
 #[derive(Clone, Copy, Debug, PartialEq, Eq)]

@@ -2,29 +2,36 @@
 ghost use Rattle.std.specs.Prelude.{◌≡◌, ◌∷◌, [], IfOk};
 ghost use Rattle.std.specs.Str.{chars};
 ghost use Rattle.json_path_query.specs.Forms.{IsPlain, IsOneSelector, IsSelector, AreSelectorsIn, IsSegment, AreSegmentsIn};
-ghost use Rattle.json_path_query.specs.Forms.{IsOperand, IsBasic, IsConjunction, IsExpression};
+ghost use Rattle.json_path_query.specs.Forms.{IsOperand, IsBasic, IsConjunction, IsExpression, IsArgument};
+ghost use Rattle.json_path_query.specs.Forms.{IsComparable, IsFunction, IsFilterQuery};
 ghost use Rattle.json_path_query.specs.Fronts.{bound_front, step_front, slice_front, plain_front, int_selector_front};
 ghost use Rattle.json_path_query.specs.Fronts.{shorthand_front, selector_front, selection_front, descendant_front};
 ghost use Rattle.json_path_query.specs.Fronts.{begins_segment, segment_front, segments_front, operand_front};
-ghost use Rattle.json_path_query.specs.Fronts.{basic_front, conjunction_front, expression_front};
+ghost use Rattle.json_path_query.specs.Fronts.{basic_front, conjunction_front, expression_front, argument_front};
+ghost use Rattle.json_path_query.specs.Fronts.{comparable_front, function_front, filter_query_front, closed_front};
 ghost use Rattle.json_path_query.specs.Reading.{Reads, ReadsQuery, Fronts, FrontsAs};
 
-use crate::comparable::{comparable, operator, origin};
+use crate::comparable::{
+    begins_call, begins_pattern, literal, operator, origin, singular_segments,
+};
 use crate::error::{ParseError, ParseErrorKind, Refusal};
 use crate::lexical::{
-    after_blanks, begins_integer, behind, behind_both, integer, is_name_first, push,
+    after_blanks, begins_integer, behind, behind_both, behind_word, integer, is_name_first, push,
     push_name_chars,
 };
-use crate::query::{Expression, FilterQuery, Query, Segment, Selector};
+use crate::query::{
+    Comparable, Expression, FilterQuery, FunctionExpression, Query, Segment, Selector,
+    SingularQuery,
+};
 use crate::string::quoted;
 use std::alloc::{AllocError, Global};
 
-/// How many logical expressions may stand in each other.
+/// How many logical expressions and arguments of functions may stand in each other.
 const NESTING_LIMIT: usize = 64;
 
 impl Query {
-    /// Reads the text of a query (RFC 9535), whose filters have no functions, and at most 64 logical
-    /// expressions in each other. After an error nothing is left of what was read.
+    /// Reads the text of a query (RFC 9535), but for `match` and `search`, with at most 64 logical
+    /// expressions and arguments of functions in each other. After an error nothing is left of what was read.
     ///
     /// ```
     /// let query = Query::parse(alloc, "$.store.book[*].author")?;
@@ -60,7 +67,7 @@ fn characters(alloc: Global, text: &str) -> Result<Vec<char>, AllocError>
     Ok(all)
 }
 
-/// Reads a whole query, in which so many logical expressions may stand in each other.
+/// Reads a whole query, in which so many logical expressions and arguments may stand in each other.
 fn query(alloc: Global, levels: usize, text: &[char]) -> Result<Query, Refusal>
     ensures { ReadsQuery levels text.now result }
 {
@@ -261,8 +268,8 @@ fn conjunction<'t>(
     levels: usize,
     text: &'t [char],
 ) -> Result<(Expression, &'t [char]), Refusal>
-    ensures { Fronts (IsConjunction (IsExpression levels))
-        (conjunction_front (expression_front levels) text.now) result }
+    ensures { Fronts (IsConjunction (IsExpression levels) (IsArgument levels))
+        (conjunction_front (expression_front levels) (argument_front levels) text.now) result }
 {
     let mut conditions = Vec::new(alloc);
     let mut rest = text;
@@ -283,8 +290,8 @@ fn basic<'t>(
     levels: usize,
     text: &'t [char],
 ) -> Result<(Expression, &'t [char]), Refusal>
-    ensures { Fronts (IsBasic (IsExpression levels))
-        (basic_front (expression_front levels) text.now) result }
+    ensures { Fronts (IsBasic (IsExpression levels) (IsArgument levels))
+        (basic_front (expression_front levels) (argument_front levels) text.now) result }
 {
     let Some((first, rest)) = text.split_first() else {
         return Err(Refusal::invalid(text));
@@ -296,15 +303,189 @@ fn basic<'t>(
     if *first == '(' {
         return operand(alloc, levels, text);
     }
-    let (left, after) = comparable(alloc, text)?;
+    if begins_pattern(*first) {
+        return operand(alloc, levels, text);
+    }
+    let (left, after) = comparable(alloc, levels, text)?;
     let Some((operator, behind)) = operator(after_blanks(after)) else {
         return operand(alloc, levels, text);
     };
-    let (right, rest) = comparable(alloc, after_blanks(behind))?;
+    let (right, rest) = comparable(alloc, levels, after_blanks(behind))?;
     Ok((
         Expression::Comparison(operator, left, right),
         after_blanks(rest),
     ))
+}
+
+/// Why no test of a query or of an expression in parentheses stands here: it may be one by `match` or `search`.
+#[cycle(reader)]
+fn test_refused(alloc: Global, levels: usize, text: &[char]) -> Refusal {
+    let Some(arguments) = behind_pattern_name(text) else {
+        return Refusal::invalid(text);
+    };
+    match pattern_arguments(alloc, levels, arguments) {
+        Ok(after) => test_unsupported(text, after_blanks(after)),
+        Err(refusal) => refusal,
+    }
+}
+
+/// Why a test by `match` or `search` is refused that stands here, before the rest: no operator may follow it.
+fn test_unsupported(text: &[char], rest: &[char]) -> Refusal {
+    if operator(rest).is_some() {
+        return Refusal::invalid(rest);
+    }
+    Refusal {
+        kind: ParseErrorKind::Unsupported,
+        left: text.len(),
+    }
+}
+
+/// What follows the name of a function of regular expressions (RFC 9535, 2.4.6 and 2.4.7) and its parenthesis.
+fn behind_pattern_name(text: &[char]) -> Option<&[char]> {
+    if let Some(rest) = behind_word(&['m', 'a', 't', 'c', 'h', '('], text) {
+        return Some(rest);
+    }
+    behind_word(&['s', 'e', 'a', 'r', 'c', 'h', '('], text)
+}
+
+/// What follows the two values that such a function takes, and the parenthesis that ends it.
+#[cycle(reader)]
+fn pattern_arguments<'t>(
+    alloc: Global,
+    levels: usize,
+    text: &'t [char],
+) -> Result<&'t [char], Refusal> {
+    let (_value, after) = argument(alloc, levels, after_blanks(text))?;
+    let rest = after_blanks(after);
+    let Some(pattern) = behind(',', rest) else {
+        return Err(Refusal::invalid(rest));
+    };
+    let (_pattern, after) = value_argument(alloc, levels, pattern)?;
+    Ok(after)
+}
+
+/// Reads what may stand beside an operator.
+#[cycle(reader)]
+fn comparable<'t>(
+    alloc: Global,
+    levels: usize,
+    text: &'t [char],
+) -> Result<(Comparable, &'t [char]), Refusal>
+    ensures { Fronts (IsComparable (IsExpression levels) (IsArgument levels))
+        (comparable_front (expression_front levels) (argument_front levels) text.now) result }
+{
+    let Some((first, rest)) = text.split_first() else {
+        return Err(Refusal::invalid(text));
+    };
+    if let Some(origin) = origin(*first) {
+        let (segments, after) = singular_segments(alloc, rest)?;
+        let query = SingularQuery { origin, segments };
+        return Ok((Comparable::SingularQuery(query), after));
+    }
+    if begins_call(*first) {
+        let (function, after) = function(alloc, levels, text)?;
+        return Ok((Comparable::Function(function), after));
+    }
+    let (literal, after) = literal(alloc, text)?;
+    Ok((Comparable::Literal(literal), after))
+}
+
+/// Reads a function with its argument (RFC 9535, 2.4.4, 2.4.5 and 2.4.8).
+#[cycle(reader)]
+fn function<'t>(
+    alloc: Global,
+    levels: usize,
+    text: &'t [char],
+) -> Result<(FunctionExpression, &'t [char]), Refusal>
+    ensures { Fronts (IsFunction (IsExpression levels) (IsArgument levels))
+        (function_front (expression_front levels) (argument_front levels) text.now) result }
+{
+    if let Some(rest) = behind_word(&['l', 'e', 'n', 'g', 't', 'h', '('], text) {
+        let (value, after) = value_argument(alloc, levels, rest)?;
+        return Ok((FunctionExpression::Length(Box::new(alloc, value)?), after));
+    }
+    if let Some(rest) = behind_word(&['c', 'o', 'u', 'n', 't', '('], text) {
+        let (query, after) = query_argument(alloc, levels, rest)?;
+        return Ok((FunctionExpression::Count(query), after));
+    }
+    let Some(rest) = behind_word(&['v', 'a', 'l', 'u', 'e', '('], text) else {
+        return Err(Refusal::invalid(text));
+    };
+    let (query, after) = query_argument(alloc, levels, rest)?;
+    Ok((FunctionExpression::Value(query), after))
+}
+
+/// Reads the one argument of a function of a value, and the parenthesis that ends it.
+#[cycle(reader)]
+fn value_argument<'t>(
+    alloc: Global,
+    levels: usize,
+    text: &'t [char],
+) -> Result<(Comparable, &'t [char]), Refusal>
+    ensures { Fronts (IsArgument levels) (closed_front (argument_front levels) text.now) result }
+{
+    let (value, after) = argument(alloc, levels, after_blanks(text))?;
+    let rest = after_blanks(after);
+    let Some(behind) = behind(')', rest) else {
+        return Err(Refusal::invalid(rest));
+    };
+    Ok((value, behind))
+}
+
+/// Reads a value that is passed to a function, if one more may stand here in the others.
+#[cycle(reader)]
+fn argument<'t>(
+    alloc: Global,
+    levels: usize,
+    text: &'t [char],
+) -> Result<(Comparable, &'t [char]), Refusal>
+    ensures { Fronts (IsArgument levels) (argument_front levels text.now) result }
+{
+    if levels == 0 {
+        return Err(Refusal {
+            kind: ParseErrorKind::TooDeep,
+            left: text.len(),
+        });
+    }
+    comparable(alloc, levels - 1, text)
+}
+
+/// Reads the one argument of a function of nodes, and the parenthesis that ends it.
+#[cycle(reader)]
+fn query_argument<'t>(
+    alloc: Global,
+    levels: usize,
+    text: &'t [char],
+) -> Result<(FilterQuery, &'t [char]), Refusal>
+    ensures { Fronts (IsFilterQuery (IsExpression levels))
+        (closed_front (filter_query_front (expression_front levels)) text.now) result }
+{
+    let (query, after) = filter_query(alloc, levels, after_blanks(text))?;
+    let rest = after_blanks(after);
+    let Some(behind) = behind(')', rest) else {
+        return Err(Refusal::invalid(rest));
+    };
+    Ok((query, behind))
+}
+
+/// Reads a query inside a filter.
+#[cycle(reader)]
+fn filter_query<'t>(
+    alloc: Global,
+    levels: usize,
+    text: &'t [char],
+) -> Result<(FilterQuery, &'t [char]), Refusal>
+    ensures { Fronts (IsFilterQuery (IsExpression levels))
+        (filter_query_front (expression_front levels) text.now) result }
+{
+    let Some((first, rest)) = text.split_first() else {
+        return Err(Refusal::invalid(text));
+    };
+    let Some(origin) = origin(*first) else {
+        return Err(Refusal::invalid(text));
+    };
+    let (segments, after) = segments(alloc, levels, rest)?;
+    Ok((FilterQuery { origin, segments }, after))
 }
 
 /// Reads an expression in parentheses or a test of a query, and the blanks after it.
@@ -328,7 +509,7 @@ fn operand<'t>(
         return Ok((condition, after_blanks(behind)));
     }
     let Some(origin) = origin(*first) else {
-        return Err(Refusal::invalid(text));
+        return Err(test_refused(alloc, levels, text));
     };
     let (segments, after) = segments(alloc, levels, rest)?;
     Ok((

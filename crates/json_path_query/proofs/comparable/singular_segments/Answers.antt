@@ -1,4 +1,5 @@
-use Rattle.std.proofs.Common.{◌∷◌, [], ◌++◌}
+use Rattle.std.proofs.Common.{◌≡◌, ◌∷◌, [], ◌++◌, ◌<◌, length, refl, arith}
+use Rattle.json_path_query.specs.Forms.{Each}
 use Rattle.json_path_query.specs.Fronts.{singular_turn}
 use Rattle.json_path_query.specs.Values.{IsSingularSegment}
 use Rattle.json_path_query.proofs.Literals.{singular_smaller, singular_more}

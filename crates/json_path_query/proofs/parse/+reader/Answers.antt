@@ -1,12 +1,13 @@
-use Rattle.std.proofs.Common.{◌≡◌, ◌∙◌, ◌∷◌, [], ◌++◌, ◌<◌, ◌-◌, true, false, None, length, sym, ap, refl, subst, rules, arith}
+use Rattle.std.proofs.Common.{◌≡◌, ◌∙◌, ◌∷◌, [], ◌++◌, ◌<◌, ◌-◌, true, false, None, Some, length, sym, ap, refl, subst, rules, arith}
 use Rattle.std.specs.Prelude.{option_map}
 use Rattle.json_path_query.specs.Forms as form
 use Rattle.json_path_query.specs.Forms.{Each, IsPlain, IsSelector, AreSelectorsIn, IsSegment, AreSegmentsIn, IsOperand, IsBasic}
 use Rattle.json_path_query.specs.Forms.{IsConjunction}
-use Rattle.json_path_query.specs.Forms.{IsExpression, IsDisjunction}
+use Rattle.json_path_query.specs.Forms.{IsExpression, IsArgument, IsDisjunction}
 use Rattle.json_path_query.specs.Fronts.{begins_segment, selector_front, selection_turn, selection_front, segment_front, segments_turn}
 use Rattle.json_path_query.specs.Fronts.{segments_front, basic_front, joined_turn, conjunction_front}
-use Rattle.json_path_query.specs.Fronts.{expression_front, behind_both, as_negated}
+use Rattle.json_path_query.specs.Fronts.{expression_front, argument_front, behind_both, as_negated, begins_call, begins_pattern}
+use Rattle.json_path_query.specs.Fronts.{filter_query_front}
 use Rattle.json_path_query.specs.Reading.{IsRest}
 use Rattle.json_path_query.proofs.Turns.{goes_init, goes_more, goes_last, goes_end, goes_none}
 use Rattle.json_path_query.proofs.Refusals.{refused_as, fronts_map, each_none, each_pushed}
@@ -20,7 +21,10 @@ use Rattle.json_path_query.proofs.Levels.{
 use Rattle.json_path_query.proofs.Levels.{conjunction_smaller, segment_smaller, selector_smaller, filter_at, plain_from}
 use Rattle.json_path_query.proofs.Levels.{selection_at, selection_none, segments_end, segments_more, segments_none, descendant_bracket}
 use Rattle.json_path_query.proofs.Levels.{descendant_short, segment_bracket, segment_short, closed_at}
-use Rattle.json_path_query.proofs.Levels.{operated_from, compared_at, tested_at, negated_from, affirmed_from, joined_at, joined_none, separator_nothing}
+use Rattle.json_path_query.proofs.Levels.{query_from, call_from, literal_from, length_from, count_from, value_from, closed_from, begun_from}
+use Rattle.json_path_query.proofs.Levels.{argument_at, pattern_from, basics_at, conjunctions_at, IsBasicAt, IsConjunctionAt}
+use Rattle.json_path_query.proofs.Levels.{operated_from, compared_at, tested_at, negated_from, affirmed_from, joined_at, joined_none}
+use Rattle.json_path_query.proofs.Levels.{separator_nothing}
 use Rattle.json_path_query.proofs.Levels.{separator_closes, separator_more, separator_other, one_selector, expression_at, expression_none}
 use Rattle.json_path_query.proofs.parse.+reader.Goals as goal
 
@@ -202,22 +206,34 @@ pub basic-returns-then-first-eq33 : goal.basic-returns-then-first-eq33
 basic-returns-then-first-eq33 t c =
     let s = c.in_ok-condition.ensures in (
       form.negated s.0,
-      negated_from (expression_front c.args.levels) c.args.text.now _ _ c.in-Some.first.now c.in-Some.ensures.cases.0
+      negated_from (expression_front c.args.levels) (argument_front c.args.levels) c.args.text.now _ _ c.in-Some.first.now
+          c.in-Some.ensures.cases.0
           c.if-first-eq33.true c.after_blanks.ensures ∙ ap (option_map as_negated) s.1,
       (c.in_ok-new.field-0, refl, subst (IsOperand (IsExpression c.args.levels) s.0) (sym c.in_ok-new.ensures.ok) s.2),
     )
 
 pub basic-returns-then-first-eq40 : goal.basic-returns-then-first-eq40
 basic-returns-then-first-eq40 t c =
-    fronts_map (IsOperand (IsExpression c.args.levels)) (IsBasic (IsExpression c.args.levels)) form.affirmed _ _ c.operand-then-first-eq40.result
-    (affirmed_from (expression_front c.args.levels) c.args.text.now _ c.in-Some.first.now c.in-Some.ensures.cases.0 c.if-first-eq40.true)
+    fronts_map (IsOperand (IsExpression c.args.levels)) (IsBasicAt c.args.levels) form.affirmed _ _ c.operand-then-first-eq40.result
+    (affirmed_from (expression_front c.args.levels) (argument_front c.args.levels) c.args.text.now _ c.in-Some.first.now
+    c.in-Some.ensures.cases.0 c.if-first-eq40.true)
     (λ v x h. h) c.operand-then-first-eq40.ensures
+
+pub basic-returns-then-begins_pattern : goal.basic-returns-then-begins_pattern
+basic-returns-then-begins_pattern t c =
+    let pattern : begins_pattern c.in-Some.first.now ≡ true = search rules in
+    fronts_map (IsOperand (IsExpression c.args.levels)) (IsBasicAt c.args.levels) form.affirmed _ _
+    c.operand-then-begins_pattern.result
+    (pattern_from (expression_front c.args.levels) (argument_front c.args.levels) c.args.text.now _ c.in-Some.first.now
+    c.in-Some.ensures.cases.0 pattern)
+    (λ v x h. h) c.operand-then-begins_pattern.ensures
 
 pub basic-returns-in_default-operator : goal.basic-returns-in_default-operator
 basic-returns-in_default-operator t c =
     let l = c.in_ok-left.ensures in
-    fronts_map (IsOperand (IsExpression c.args.levels)) (IsBasic (IsExpression c.args.levels)) form.affirmed _ _ c.operand-in_default-operator.result
-    (operated_from (expression_front c.args.levels) c.args.text.now _ c.in-Some.first.now l.0 c.in_ok-left.after.now _ None
+    fronts_map (IsOperand (IsExpression c.args.levels)) (IsBasicAt c.args.levels) form.affirmed _ _ c.operand-in_default-operator.result
+    (operated_from (expression_front c.args.levels) (argument_front c.args.levels) c.args.text.now _ c.in-Some.first.now l.0
+    c.in_ok-left.after.now _ None
     c.in-Some.ensures.cases.0 c.if-first-eq33.false c.if-first-eq40.false l.1 c.after_blanks-2.ensures c.in_default-operator.ensures)
     (λ v x h. h) c.operand-in_default-operator.ensures
 
@@ -226,7 +242,8 @@ basic-returns t c =
     let l = c.in_ok-left.ensures in
     let r = c.in_ok-right.ensures in (
       form.comparison c.in-Some-operator.operator l.0 r.0,
-      compared_at (expression_front c.args.levels) c.args.text.now _ c.in-Some.first.now l.0 r.0 c.in-Some-operator.operator
+      compared_at (expression_front c.args.levels) (argument_front c.args.levels) c.args.text.now _ c.in-Some.first.now l.0 r.0
+          c.in-Some-operator.operator
           c.in_ok-left.after.now _ c.in-Some-operator.behind.now _ c.in_ok-right.rest.now _ c.in-Some.ensures.cases.0
           c.if-first-eq33.false c.if-first-eq40.false l.1 c.after_blanks-2.ensures c.in-Some-operator.ensures c.after_blanks-3.ensures
           r.1 c.after_blanks-4.ensures,
@@ -254,8 +271,8 @@ operand-returns t c =
 pub conjunction-loop-conditions-init : goal.conjunction-loop-conditions-init
 conjunction-loop-conditions-init t c = (
   [],
-  each_none (IsBasic (IsExpression c.args.levels)) _ c.new-conditions.ensures.items,
-  goes_init (joined_turn 38 (basic_front (expression_front c.args.levels))) c.args.text.now,
+  each_none (IsBasicAt c.args.levels) _ c.new-conditions.ensures.items,
+  goes_init (joined_turn 38 (basics_at c.args.levels)) c.args.text.now,
 )
 
 pub conjunction-loop-conditions-smaller : goal.conjunction-loop-conditions-smaller
@@ -270,10 +287,10 @@ conjunction-loop-conditions-preserved t c =
     let s = c.in_ok-condition.ensures in
     let more = subst (IsRest (behind_both 38 c.in_ok-condition.after.now)) c.in-Some.is c.behind_both.ensures in (
       held.0 ++ s.0 ∷ [],
-      each_pushed (IsBasic (IsExpression c.args.levels)) held.0 s.0 _ _ _ c.in_ok-push.ensures.items held.1 s.2,
-      goes_more (joined_turn 38 (basic_front (expression_front c.args.levels))) (conjunction_shortens c.args.levels) c.args.text.now
+      each_pushed (IsBasicAt c.args.levels) held.0 s.0 _ _ _ c.in_ok-push.ensures.items held.1 s.2,
+      goes_more (joined_turn 38 (basics_at c.args.levels)) (conjunction_shortens c.args.levels) c.args.text.now
           held.0 c.loop-conditions.rest.now s.0 c.in-Some.more.now held.2
-          (joined_at (basic_front (expression_front c.args.levels)) 38 c.loop-conditions.rest.now s.0 c.in_ok-condition.after.now _
+          (joined_at (basics_at c.args.levels) 38 c.loop-conditions.rest.now s.0 c.in_ok-condition.after.now _
           s.1 more),
     )
 
@@ -283,23 +300,23 @@ conjunction-returns-in_default t c =
     let s = c.in_ok-condition.ensures in
     let none = subst (IsRest (behind_both 38 c.in_ok-condition.after.now)) c.in_default.is c.behind_both.ensures in (
       held.0 ++ s.0 ∷ [],
-      goes_last (joined_turn 38 (basic_front (expression_front c.args.levels))) (conjunction_shortens c.args.levels) c.args.text.now
+      goes_last (joined_turn 38 (basics_at c.args.levels)) (conjunction_shortens c.args.levels) c.args.text.now
           held.0
           c.loop-conditions.rest.now s.0 c.in_ok-condition.after.now held.2
-          (joined_at (basic_front (expression_front c.args.levels)) 38 c.loop-conditions.rest.now s.0 c.in_ok-condition.after.now _
+          (joined_at (basics_at c.args.levels) 38 c.loop-conditions.rest.now s.0 c.in_ok-condition.after.now _
           s.1 none),
       (
         c.push.new.self,
         refl,
-        each_pushed (IsBasic (IsExpression c.args.levels)) held.0 s.0 _ _ _ c.in_ok-push.ensures.items held.1 s.2,
+        each_pushed (IsBasicAt c.args.levels) held.0 s.0 _ _ _ c.in_ok-push.ensures.items held.1 s.2,
       ),
     )
 
 pub expression-loop-alternatives-init : goal.expression-loop-alternatives-init
 expression-loop-alternatives-init t c = (
   [],
-  each_none (IsConjunction (IsExpression (c.args.levels - 1))) _ c.new-alternatives.ensures.items,
-  goes_init (joined_turn 124 (conjunction_front (expression_front (c.args.levels - 1)))) c.args.text.now,
+  each_none (IsConjunctionAt (c.args.levels - 1)) _ c.new-alternatives.ensures.items,
+  goes_init (joined_turn 124 (conjunctions_at (c.args.levels - 1))) c.args.text.now,
 )
 
 pub expression-loop-alternatives-smaller : goal.expression-loop-alternatives-smaller
@@ -314,10 +331,10 @@ expression-loop-alternatives-preserved t c =
     let s = c.in_ok-alternative.ensures in
     let more = subst (IsRest (behind_both 124 c.in_ok-alternative.after.now)) c.in-Some.is c.behind_both.ensures in (
       held.0 ++ s.0 ∷ [],
-      each_pushed (IsConjunction (IsExpression (c.args.levels - 1))) held.0 s.0 _ _ _ c.in_ok-push.ensures.items held.1 s.2,
-      goes_more (joined_turn 124 (conjunction_front (expression_front (c.args.levels - 1))))
+      each_pushed (IsConjunctionAt (c.args.levels - 1)) held.0 s.0 _ _ _ c.in_ok-push.ensures.items held.1 s.2,
+      goes_more (joined_turn 124 (conjunctions_at (c.args.levels - 1)))
           (disjunction_shortens (c.args.levels - 1)) c.args.text.now held.0 c.loop-alternatives.rest.now s.0 c.in-Some.more.now held.2
-          (joined_at (conjunction_front (expression_front (c.args.levels - 1))) 124 c.loop-alternatives.rest.now s.0
+          (joined_at (conjunctions_at (c.args.levels - 1)) 124 c.loop-alternatives.rest.now s.0
           c.in_ok-alternative.after.now _ s.1 more),
     )
 
@@ -328,22 +345,116 @@ expression-returns-in_default t c =
     let none = subst (IsRest (behind_both 124 c.in_ok-alternative.after.now)) c.in_default.is c.behind_both.ensures in
     expression_at c.args.levels (c.args.levels - 1) c.args.text.now (held.0 ++ s.0 ∷ []) c.in_ok-alternative.after.now _
     (omega (arith, c.if-levels-eq0.false))
-    (goes_last (joined_turn 124 (conjunction_front (expression_front (c.args.levels - 1)))) (disjunction_shortens (c.args.levels - 1))
+    (goes_last (joined_turn 124 (conjunctions_at (c.args.levels - 1))) (disjunction_shortens (c.args.levels - 1))
     c.args.text.now held.0 c.loop-alternatives.rest.now s.0 c.in_ok-alternative.after.now held.2
-    (joined_at (conjunction_front (expression_front (c.args.levels - 1))) 124 c.loop-alternatives.rest.now s.0
+    (joined_at (conjunctions_at (c.args.levels - 1)) 124 c.loop-alternatives.rest.now s.0
     c.in_ok-alternative.after.now _ s.1 none)) (
       c.push.new.self,
       refl,
-      each_pushed (IsConjunction (IsExpression (c.args.levels - 1))) held.0 s.0 _ _ _ c.in_ok-push.ensures.items held.1 s.2,
+      each_pushed (IsConjunctionAt (c.args.levels - 1)) held.0 s.0 _ _ _ c.in_ok-push.ensures.items held.1 s.2,
     )
 
 pub expression-returns-in_err-alternative : goal.expression-returns-in_err-alternative
 expression-returns-in_err-alternative t c =
     let held = c.loop-alternatives.invariant in
     refused_as (IsExpression c.args.levels) (expression_front c.args.levels c.args.text.now)
-    (conjunction_front (expression_front (c.args.levels - 1)) c.loop-alternatives.rest.now) c.in_err-alternative.field-0.0 _
+    (conjunctions_at (c.args.levels - 1) c.loop-alternatives.rest.now) c.in_err-alternative.field-0.0 _
     c.from_residual.ensures.1 c.in_err-alternative.ensures
     (λ none. expression_none c.args.levels (c.args.levels - 1) c.args.text.now (omega (arith, c.if-levels-eq0.false))
-    (goes_none (joined_turn 124 (conjunction_front (expression_front (c.args.levels - 1)))) (disjunction_shortens (c.args.levels - 1))
+    (goes_none (joined_turn 124 (conjunctions_at (c.args.levels - 1))) (disjunction_shortens (c.args.levels - 1))
     c.args.text.now held.0 c.loop-alternatives.rest.now held.2
-    (joined_none (conjunction_front (expression_front (c.args.levels - 1))) 124 c.loop-alternatives.rest.now none)))
+    (joined_none (conjunctions_at (c.args.levels - 1)) 124 c.loop-alternatives.rest.now none)))
+
+pub comparable-returns-in-Some-origin : goal.comparable-returns-in-Some-origin
+comparable-returns-in-Some-origin t c =
+    let s = c.in_ok-segments.ensures in (
+      form.singular c.in-Some-origin.origin s.0,
+      query_from (expression_front c.args.levels) (argument_front c.args.levels) c.args.text.now _ c.in-Some.first.now
+          c.in-Some-origin.origin
+          (Some (s.0, c.in_ok-segments.after.now)) c.in-Some.ensures.cases.0 (sym c.origin.ensures ∙ c.in-Some-origin.is) s.1,
+      (c.in_ok-segments.segments, refl, s.2),
+    )
+
+pub comparable-returns-then-begins_call : goal.comparable-returns-then-begins_call
+comparable-returns-then-begins_call t c =
+    let s = c.in_ok-function.ensures in
+    let call : begins_call c.in-Some.first.now ≡ true = search rules in (
+      form.function s.0,
+      call_from (expression_front c.args.levels) (argument_front c.args.levels) c.args.text.now _ c.in-Some.first.now
+          (Some (s.0, c.in_ok-function.after.now))
+          c.in-Some.ensures.cases.0 (sym c.origin.ensures ∙ c.in_default-origin.is) call s.1,
+      (c.in_ok-function.function, refl, s.2),
+    )
+
+pub comparable-returns : goal.comparable-returns
+comparable-returns t c =
+    let s = c.in_ok-literal.ensures in
+    let call : begins_call c.in-Some.first.now ≡ false = search rules in (
+      form.literal s.0,
+      literal_from (expression_front c.args.levels) (argument_front c.args.levels) c.args.text.now _ c.in-Some.first.now
+          (Some (s.0, c.in_ok-literal.after.now))
+          c.in-Some.ensures.cases.0 (sym c.origin.ensures ∙ c.in_default-origin.is) call s.1,
+      (c.in_ok-literal.literal, refl, s.2),
+    )
+
+pub function-returns-in-Some : goal.function-returns-in-Some
+function-returns-in-Some t c =
+    let s = c.in_ok-value.ensures in (
+      form.length s.0,
+      length_from (expression_front c.args.levels) (argument_front c.args.levels) c.args.text.now _
+          (Some (s.0, c.in_ok-value.after.now)) c.in-Some.ensures s.1,
+      (c.in_ok-new.field-0, refl, subst (IsArgument c.args.levels s.0) (sym c.in_ok-new.ensures.ok) s.2),
+    )
+
+pub function-returns-in-Some-behind_word : goal.function-returns-in-Some-behind_word
+function-returns-in-Some-behind_word t c =
+    let s = c.in_ok-query.ensures in (
+      form.count s.0.0 s.0.1,
+      count_from (expression_front c.args.levels) (argument_front c.args.levels) c.args.text.now _ (Some (s.0, c.in_ok-query.after.now))
+          c.in_default.ensures
+          c.in-Some-behind_word.ensures s.1,
+      (c.in_ok-query.query, refl, s.2),
+    )
+
+pub function-returns : goal.function-returns
+function-returns t c =
+    let s = c.in_ok-query-2.ensures in (
+      form.value s.0.0 s.0.1,
+      value_from (expression_front c.args.levels) (argument_front c.args.levels) c.args.text.now _
+          (Some (s.0, c.in_ok-query-2.after.now)) c.in_default.ensures
+          c.in_default-behind_word.ensures c.in-Some-behind_word-2.ensures s.1,
+      (c.in_ok-query-2.query, refl, s.2),
+    )
+
+pub value_argument-returns : goal.value_argument-returns
+value_argument-returns t c =
+    let s = c.in_ok-value.ensures in (
+      s.0,
+      closed_from (argument_front c.args.levels) c.args.text.now _ c.in_ok-value.after.now _ s.0 _ c.after_blanks.ensures s.1
+          c.after_blanks-rest.ensures c.in-Some.ensures,
+      s.2,
+    )
+
+pub query_argument-returns : goal.query_argument-returns
+query_argument-returns t c =
+    let s = c.in_ok-query.ensures in (
+      s.0,
+      closed_from (filter_query_front (expression_front c.args.levels)) c.args.text.now _ c.in_ok-query.after.now _ s.0 _
+          c.after_blanks.ensures s.1
+          c.after_blanks-rest.ensures c.in-Some.ensures,
+      s.2,
+    )
+
+pub filter_query-returns : goal.filter_query-returns
+filter_query-returns t c =
+    let s = c.in_ok-segments.ensures in (
+      (c.in-Some-origin.origin, s.0),
+      begun_from (expression_front c.args.levels) c.args.text.now _ c.in-Some.first.now c.in-Some-origin.origin
+          (Some (s.0, c.in_ok-segments.after.now)) c.in-Some.ensures.cases.0 (sym c.origin.ensures ∙ c.in-Some-origin.is) s.1,
+      (c.in_ok-segments.segments, refl, s.2),
+    )
+
+pub argument-returns : goal.argument-returns
+argument-returns t c =
+    argument_at c.args.levels (c.args.levels - 1) c.args.text.now c.comparable.result (omega (arith, c.if-levels-eq0.false))
+    c.comparable.ensures
