@@ -1,15 +1,21 @@
 //! The normal forms of the lines of an input.
 ghost use Rattle.std.specs.Prelude.{◌≡◌, [], ◌∷◌};
 ghost use Rattle.std.specs.Str.{chars};
-ghost use Rattle.tinyjson.specs.Parser.{ParsesText};
+ghost use Rattle.tinyjson.specs.Events.{TellsText};
+ghost use Rattle.tinyjson.specs.Tree.{Tree};
+ghost use Rattle.tinyjson.specs.Written.{WritesPrefix};
+ghost use Rattle.tinyjson_normal.specs.Normal.{HasTree};
+ghost use Rattle.json_line.specs.Line.{line_of};
 ghost use Rattle.json_lines.specs.Lines.{content as content_of};
 ghost use Rattle.json_lines.specs.Run.{Runs, Handles, WritesLine};
 
 use crate::refusal::{Cause, Refusal, tell};
+use json_line::write_all;
 use std::alloc::Global;
 use std::io::{self, BufRead, ErrorKind, Write};
 use std::str;
-use tinyjson::{JsonParseResult, JsonValue};
+use tinyjson::JsonParseError;
+use tinyjson_normal::NormalText;
 
 /// How lines are read.
 #[derive(Clone, Copy, Debug, PartialEq, Eq)]
@@ -114,11 +120,9 @@ fn write_line<W: Write>(
     let Ok(text) = str::from_utf8(content(line)) else {
         return Ok(Some(Cause::NotUtf8));
     };
-    match parse(alloc, text, limit) {
-        Ok(value) => {
-            let written = json_line::write_line(alloc, &value, output);
-            value.dismantle();
-            written?;
+    match read(alloc, text, limit) {
+        Ok(normal) => {
+            write_normal(alloc, &normal, output)?;
             Ok(None)
         }
         Err(error) => {
@@ -140,11 +144,20 @@ fn content(line: &[u8]) -> &[u8]
     line
 }
 
-fn parse(alloc: Global, text: &str, limit: Option<usize>) -> JsonParseResult
-    ensures { ParsesText limit (chars text.now) result }
+fn read(alloc: Global, text: &str, limit: Option<usize>) -> Result<NormalText, JsonParseError>
+    ensures { TellsText HasTree limit (chars text.now) result }
 {
     match limit {
-        None => JsonValue::from_str(alloc, text),
-        Some(limit) => JsonValue::from_str_with_depth_limit(alloc, text, limit),
+        None => NormalText::read(alloc, text),
+        Some(limit) => NormalText::read_with_depth_limit(alloc, text, limit),
     }
+}
+
+/// Writes the compact text of what was read, and a line feed.
+fn write_normal<W: Write>(alloc: Global, normal: &NormalText, output: &mut W) -> io::Result<()>
+    ensures { (t : Tree) → HasTree normal.now t →
+        WritesPrefix (W.contents output.old) (W.contents output.new) (line_of t) result }
+{
+    normal.write_to(alloc, output)?;
+    write_all(output, b"\n")
 }
