@@ -1,26 +1,27 @@
 -- Instances of the definitions, computed.
 use Rattle.std.proofs.Common.{◌≡◌, ◌≤◌, true, false, [], ◌∷◌, Some, None, inr, refl, arith}
 use Rattle.std.specs.Prelude.{codes}
+use Rattle.i_regexp.specs.declared.class.Item.TheVariants.{Range, In, NotIn}
 use Rattle.i_regexp.specs.Forms.{Form, empty, class, concat, alternation, repetition, is_in_class, Matches, Searches}
 use Rattle.i_regexp.specs.Fronts.{token_front}
-use Rattle.i_regexp.specs.Grammar.{characters, bar, quantifier, one, any, has_category, IsText, Spells, Spelled}
+use Rattle.i_regexp.specs.Grammar.{characters, bar, quantifier, one, any, IsText, Spells, Spelled}
 use Rattle.i_regexp.specs.Grammar as is
 
 -- ---- classes (RFC 9485, section 4)
 
-b_is_in_class : is_in_class false ((97, 99) ∷ []) 98 ≡ true
+b_is_in_class : is_in_class false (Range 97 99 ∷ []) 98 ≡ true
 b_is_in_class = refl
 
-d_is_in_no_class : is_in_class false ((97, 99) ∷ []) 100 ≡ false
+d_is_in_no_class : is_in_class false (Range 97 99 ∷ []) 100 ≡ false
 d_is_in_no_class = refl
 
-b_is_in_no_negated_class : is_in_class true ((97, 99) ∷ []) 98 ≡ false
+b_is_in_no_negated_class : is_in_class true (Range 97 99 ∷ []) 98 ≡ false
 b_is_in_no_negated_class = refl
 
 -- ---- what is matched
 
 a : Form
-a = class false ((97, 97) ∷ [])
+a = class false (Range 97 97 ∷ [])
 
 matches_a : Matches a (codes "a")
 unfolding a
@@ -45,10 +46,10 @@ is_found = record { before = codes "b"; part = codes "a"; after = codes "b"; spl
 
 -- ---- which text is which token (section 3)
 
-class_with_a_hyphen : token_front (codes "[^a-]b") ≡ Some (characters true ((97, 97) ∷ (45, 45) ∷ []), codes "b")
+class_with_a_hyphen : token_front (codes "[^a-]b") ≡ Some (characters true (Range 97 97 ∷ Range 45 45 ∷ []), codes "b")
 class_with_a_hyphen = refl
 
-class_of_a_range : token_front (codes "[a-c^]") ≡ Some (characters false ((97, 99) ∷ (94, 94) ∷ []), [])
+class_of_a_range : token_front (codes "[a-c^]") ≡ Some (characters false (Range 97 99 ∷ Range 94 94 ∷ []), [])
 class_of_a_range = refl
 
 falling_range : token_front (codes "[c-a]") ≡ None
@@ -81,14 +82,17 @@ dollar = refl
 shorthand : token_front (codes "\\d") ≡ None
 shorthand = refl
 
-category : has_category (codes "[a\\p{L}]") ≡ true
-category = refl
+capitals : token_front (codes "\\p{Lu}x") ≡ Some (characters false (In record { first = 0; last = 0 } ∷ []), codes "x")
+capitals = refl
 
-no_category : has_category (codes "p\\n") ≡ false
-no_category = refl
+others_than_numbers : token_front (codes "[a\\P{N}]") ≡ Some (characters false (Range 97 97 ∷ NotIn record { first = 8; last = 10 } ∷ []), [])
+others_than_numbers = refl
+
+surrogates : token_front (codes "\\p{Cs}") ≡ None
+surrogates = refl
 
 -- ---- which text is which regular expression
 
-two_branches : IsText (codes "a|.") (is.branches (is.pieces (is.once (is.character false ((97, 97) ∷ []))) is.nothing)
-    (is.last (is.pieces (is.once (is.character true ((10, 10) ∷ (13, 13) ∷ []))) is.nothing)))
+two_branches : IsText (codes "a|.") (is.branches (is.pieces (is.once (is.character false (Range 97 97 ∷ []))) is.nothing)
+    (is.last (is.pieces (is.once (is.character true (Range 10 10 ∷ Range 13 13 ∷ []))) is.nothing)))
 two_branches = record { spelled = is.more (is.normal 97 refl) (is.more is.parts (is.more is.dot is.none)) }

@@ -3,7 +3,7 @@ use Rattle.std.proofs.Common.{◌≡◌, ℕ, suc, ◌+◌, ◌-◌, ◌*◌, �
 use Rattle.std.proofs.Common.{refl, sym, ap, ◌∙◌, subst, arith, length-append}
 use Rattle.std.proofs.lemmas.List.{map-append}
 use Rattle.i_regexp.specs.declared.error.IRegexpErrorKind.{IRegexpErrorKind}
-use Rattle.i_regexp.specs.declared.error.IRegexpErrorKind.TheVariants.{Invalid, UnsupportedCategory, TooDeep, TooLarge, OutOfMemory}
+use Rattle.i_regexp.specs.declared.error.IRegexpErrorKind.TheVariants.{Invalid, TooDeep, TooLarge, OutOfMemory}
 use Rattle.i_regexp.specs.declared.marked.Node.{Node}
 use Rattle.i_regexp.specs.declared.reader.Level.{Level as CodeLevel}
 use Rattle.i_regexp.specs.Forms.{Form, concat, alternation, repetition}
@@ -143,7 +143,8 @@ outer_pop fs gs f [] e o =
 outer_pop fs gs f (l ∷ ls) e o =
     let same : o.0 ++ o.1 ∷ [] ≡ fs ++ f ∷ [] = sym o.2 ∙ e in
     let front : o.0 ≡ fs = sym (front_push o.0 o.1) ∙ (ap front_of same ∙ front_push fs f) in
-    let back : o.1 ≡ f = sym (last_push f o.0 o.1) ∙ (ap (last_of f) same ∙ last_push f fs f) in (
+    let back : o.1 ≡ f = sym (last_push f o.0 o.1) ∙ (ap (last_of f) same ∙ last_push f fs f) in
+    (
       l,
       ls,
       refl,
@@ -166,7 +167,6 @@ quantifier_takes here here' outer least most t (Ok x) e q = λ s a.
     let k = q s.0 a.0 in
     ((k.0, s.1), ap (advance s) e ∙ ap (in_state s.1) k.1, (k.2, k.3 s.1 a.1, a.2))
 quantifier_takes here here' outer least most t (Err Invalid) e q = λ s a. ap (advance s) e ∙ ap (in_state s.1) (q s.0 a.0)
-quantifier_takes here here' outer least most t (Err UnsupportedCategory) e q = absurd q
 quantifier_takes here here' outer least most t (Err TooDeep) e q = absurd q
 quantifier_takes here here' outer least most t (Err TooLarge) e q = λ s a.
     let k = q s.0 a.0 in

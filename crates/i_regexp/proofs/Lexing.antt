@@ -1,17 +1,22 @@
 -- The fronts of texts are their tokens.
-use Rattle.std.proofs.Common.{◌≡◌, ◌≢◌, ◌⊎◌, inl, inr, ℕ, zero, suc, ◌+◌, ◌-◌, ◌*◌, ◌<◌, ◌≤◌, Bool, true, false, not, ◌||◌, ◌==◌, nat_le, cond}
+use Rattle.std.proofs.Common.{◌≡◌, ◌≢◌, ◌⊎◌, inl, inr, ℕ, zero, suc, ◌+◌, ◌-◌, ◌*◌, ◌<◌, ◌≤◌, Bool, true, false, not, ◌&&◌, ◌||◌, ◌==◌, nat_le, cond}
 use Rattle.std.proofs.Common.{List, [], ◌∷◌, ◌++◌, length, Option, Some, None, option_map, refl, sym, ap, ◌∙◌, subst, arith, true≢false}
 use Rattle.std.proofs.Common.{append_assoc, append-nil}
 use Rattle.std.proofs.lemmas.Bool.{cond-true, cond-false, eqb-false, ne_eqb, eqb-true, leb-true, and_parts, and_from, or_parts, or_left}
 use Rattle.std.proofs.lemmas.Bool.{not-true}
 use Rattle.std.specs.Prelude.{option_and_then}
+use Rattle.general_category.specs.Categories.{from_to, named}
+use Rattle.general_category.specs.declared.Category.{Category}
+use Rattle.i_regexp.specs.declared.class.Item.{Item}
+use Rattle.i_regexp.specs.declared.class.Item.TheVariants.{Range, In, NotIn}
 use Rattle.i_regexp.specs.Grammar as is
 use Rattle.i_regexp.specs.Grammar.{Token, characters, opened, closed, bar, quantifier, one, any, is_one_of, is_normal, is_plain, is_digit}
-use Rattle.i_regexp.specs.Grammar.{are_digits, number_on, escape_of, MemberText, ItemText, ItemsText, FirstText, LastText, CaretText}
+use Rattle.i_regexp.specs.Grammar.{NameText, CategoryText, are_digits, number_on, escape_of, MemberText, ItemText, ItemsText, FirstText, LastText, CaretText}
 use Rattle.i_regexp.specs.Grammar.{begins_with_caret, Spells, Spelled}
 use Rattle.i_regexp.specs.Fronts.{escape_front, member_front, up_to, range_end, range_front, item_front, closing, tail_front, class_front}
 use Rattle.i_regexp.specs.Fronts.{first_front, bracket_front, digits_front, number_front, most_end, most_front, least_end, counts_front}
-use Rattle.i_regexp.specs.Fronts.{one_front, token_front}
+use Rattle.i_regexp.specs.Fronts.{characters_front, named_front, second_front, name_front, signed_front, category_front, is_category_letter}
+use Rattle.i_regexp.specs.Fronts.{begins_category, item_token, escape_token, one_front, token_front}
 use Rattle.i_regexp.specs.Levels.{IsFit}
 use Rattle.i_regexp.specs.Limits.{size_limit, LargeNumber, are_counts, LargeCount}
 use Rattle.i_regexp.proofs.TokenFronts.{item_shorter, tail_item, then_more, first_item, bracket_other}
@@ -29,6 +34,8 @@ spells_some cs t is.parts = omega arith
 spells_some cs t (is.normal c h) = omega arith
 spells_some cs t is.dot = omega arith
 spells_some cs t (is.escaped l c h) = omega arith
+spells_some cs t (is.category (is.of n)) = omega arith
+spells_some cs t (is.category (is.others n)) = omega arith
 spells_some cs t (is.bracket a b c d e) = omega arith
 spells_some cs t is.star = omega arith
 spells_some cs t is.plus = omega arith
@@ -93,35 +100,35 @@ member_sound (x ∷ cs) c ys e =
       ]
     ]
 
-record ItemFront (xs : List ℕ) (r : ℕ × ℕ) (ys : List ℕ) : Type 0 where
+record ItemFront (xs : List ℕ) (r : Item) (ys : List ℕ) : Type 0 where
   cs : List ℕ
   split : xs ≡ cs ++ ys
   item : ItemText cs r
 
-single_front : (xs : List ℕ) (c : ℕ) (zs : List ℕ) (r : ℕ × ℕ) (ys : List ℕ) → MemberFront xs c zs
-    → ◌≡◌ {A = (ℕ × ℕ) × List ℕ} ((c, c), zs) (r, ys) → ItemFront xs r ys
+single_front : (xs : List ℕ) (c : ℕ) (zs : List ℕ) (r : Item) (ys : List ℕ) → MemberFront xs c zs
+    → ◌≡◌ {A = Item × List ℕ} (Range c c, zs) (r, ys) → ItemFront xs r ys
 single_front xs c zs r ys m same = record {
   cs = m.cs;
   split = m.split ∙ ap (λ q. m.cs ++ q.1) same;
   item = subst (ItemText m.cs) (ap (λ q. q.0) same) (is.single m.member);
 }
 
-range_sound : (xs : List ℕ) (c : ℕ) (zs : List ℕ) (r : ℕ × ℕ) (ys : List ℕ) → MemberFront xs c zs → range_front c zs ≡ Some (r, ys)
+range_sound : (xs : List ℕ) (c : ℕ) (zs : List ℕ) (r : Item) (ys : List ℕ) → MemberFront xs c zs → range_front c zs ≡ Some (r, ys)
     → ItemFront xs r ys
 range_sound xs c [] r ys m e = single_front xs c [] r ys m (some_same e)
 range_sound xs c (d ∷ []) r ys m e =
-    elim (cond_cases (d == 45) None (Some ((c, c), d ∷ [])) (r, ys) e) [
+    elim (cond_cases (d == 45) None (Some (Range c c, d ∷ [])) (r, ys) e) [
       | inl a ↦ none_some a.1
       | inr b ↦ single_front xs c (d ∷ []) r ys m (some_same b.1)
     ]
 range_sound xs c (d ∷ f ∷ fs) r ys m e =
-    elim (cond_cases (d == 45) (range_end c (d ∷ f ∷ fs) (f ∷ fs)) (Some ((c, c), d ∷ f ∷ fs)) (r, ys) e) [
-      | inl a ↦ elim (cond_cases (f == 93) (Some ((c, c), d ∷ f ∷ fs)) (option_and_then (up_to c) (member_front (f ∷ fs))) (r, ys) a.1) [
+    elim (cond_cases (d == 45) (range_end c (d ∷ f ∷ fs) (f ∷ fs)) (Some (Range c c, d ∷ f ∷ fs)) (r, ys) e) [
+      | inl a ↦ elim (cond_cases (f == 93) (Some (Range c c, d ∷ f ∷ fs)) (option_and_then (up_to c) (member_front (f ∷ fs))) (r, ys) a.1) [
         | inl p ↦ single_front xs c (d ∷ f ∷ fs) r ys m (some_same p.1)
         | inr q ↦
             let t = then_cases (up_to c) (member_front (f ∷ fs)) (r, ys) q.1 in
             let k = member_sound (f ∷ fs) t.0.0 t.0.1 t.1 in
-            elim (cond_cases (nat_le c t.0.0) (Some ((c, t.0.0), t.0.1)) None (r, ys) t.2) [
+            elim (cond_cases (nat_le c t.0.0) (Some (Range c t.0.0, t.0.1)) None (r, ys) t.2) [
               | inl u ↦
                   let same = some_same u.1 in
                   record {
@@ -136,33 +143,124 @@ range_sound xs c (d ∷ f ∷ fs) r ys m e =
       | inr b ↦ single_front xs c (d ∷ f ∷ fs) r ys m (some_same b.1)
     ]
 
-item_sound : (xs : List ℕ) (r : ℕ × ℕ) (ys : List ℕ) → item_front xs ≡ Some (r, ys) → ItemFront xs r ys
-item_sound xs r ys e =
+characters_sound : (xs : List ℕ) (r : Item) (ys : List ℕ) → characters_front xs ≡ Some (r, ys) → ItemFront xs r ys
+characters_sound xs r ys e =
     let t = then_cases (λ p. range_front p.0 p.1) (member_front xs) (r, ys) e in
     range_sound xs t.0.0 t.0.1 r ys (member_sound xs t.0.0 t.0.1 t.1) t.2
 
-record TailFront (qs : List (ℕ × ℕ)) (xs : List ℕ) (ss : List (ℕ × ℕ)) (ys : List ℕ) : Type 0 where
+-- ---- categories
+
+record NameFront (xs : List ℕ) (k : Category) (ys : List ℕ) : Type 0 where
+  cs : List ℕ
+  split : xs ≡ 123 ∷ (cs ++ 125 ∷ ys)
+  name : NameText cs k
+
+second_sound : (b g l : ℕ) (xs : List ℕ) (k : Category) (ys : List ℕ) → b ≡ 123 → second_front g l xs ≡ Some (k, ys)
+    → NameFront (b ∷ g ∷ l ∷ xs) k ys
+second_sound b g l [] k ys f e = none_some e
+second_sound b g l (d ∷ cs) k ys f e =
+    elim (cond_cases (d == 125) (named_front g (Some l) cs) None (k, ys) e) [
+      | inl a ↦
+          let m = map_cases (λ x. let p : Category × List ℕ = (x, cs) in p) (named g (Some l)) (k, ys) a.1 in
+          record {
+            cs = g ∷ l ∷ [];
+            split = ap (λ y. y ∷ g ∷ l ∷ d ∷ cs) f ∙ (ap (λ y. 123 ∷ g ∷ l ∷ y ∷ cs) (eqb-true d 125 a.0)
+                ∙ ap (λ p. 123 ∷ g ∷ l ∷ 125 ∷ p.1) m.2);
+            name = is.category g l k (m.1 ∙ ap (λ p. Some p.0) m.2);
+          }
+      | inr n ↦ none_some n.1
+    ]
+
+name_sound : (xs : List ℕ) (k : Category) (ys : List ℕ) → name_front xs ≡ Some (k, ys) → NameFront xs k ys
+name_sound [] k ys e = none_some e
+name_sound (b ∷ []) k ys e = none_some e
+name_sound (b ∷ g ∷ []) k ys e = none_some e
+name_sound (b ∷ g ∷ l ∷ cs) k ys e =
+    elim (cond_cases (b == 123) (cond (l == 125) (named_front g None cs) (second_front g l cs)) None (k, ys) e) [
+      | inl a ↦ elim (cond_cases (l == 125) (named_front g None cs) (second_front g l cs) (k, ys) a.1) [
+        | inl d ↦
+            let m = map_cases (λ x. let p : Category × List ℕ = (x, cs) in p) (named g None) (k, ys) d.1 in
+            record {
+              cs = g ∷ [];
+              split = ap (λ y. y ∷ g ∷ l ∷ cs) (eqb-true b 123 a.0) ∙ (ap (λ y. 123 ∷ g ∷ y ∷ cs) (eqb-true l 125 d.0)
+                  ∙ ap (λ p. 123 ∷ g ∷ 125 ∷ p.1) m.2);
+              name = is.group g k (m.1 ∙ ap (λ p. Some p.0) m.2);
+            }
+        | inr n ↦ second_sound b g l cs k ys (eqb-true b 123 a.0) n.1
+      ]
+      | inr n ↦ none_some n.1
+    ]
+
+record CategoryFront (xs : List ℕ) (i : Item) (ys : List ℕ) : Type 0 where
+  cs : List ℕ
+  split : xs ≡ cs ++ ys
+  category : CategoryText cs i
+
+regroup_category : (ds ys : List ℕ) (a b c : ℕ) → a ∷ b ∷ c ∷ (ds ++ 125 ∷ ys) ≡ (a ∷ b ∷ c ∷ (ds ++ 125 ∷ [])) ++ ys
+regroup_category ds ys a b c = simp append_assoc
+
+category_sound : (c : ℕ) (xs : List ℕ) (i : Item) (ys : List ℕ) → c ≡ 92 → category_front xs ≡ Some (i, ys) → CategoryFront (c ∷ xs) i ys
+category_sound c [] i ys f e = none_some e
+category_sound c (p ∷ cs) i ys f e =
+    let t = then_cases (signed_front p) (name_front cs) (i, ys) e in
+    let k = t.0.0 in
+    let zs = t.0.1 in
+    let n = name_sound cs k zs t.1 in
+    elim (cond_cases (p == 112) (Some (In k, zs)) (cond (p == 80) (Some (NotIn k, zs)) None) (i, ys) t.2) [
+      | inl a ↦
+          let same : ◌≡◌ {A = Item × List ℕ} (In k, zs) (i, ys) = some_same a.1 in
+          record {
+            cs = 92 ∷ 112 ∷ 123 ∷ (n.cs ++ 125 ∷ []);
+            split = ap (λ y. y ∷ p ∷ cs) f ∙ (ap (λ y. 92 ∷ y ∷ cs) (eqb-true p 112 a.0) ∙ (ap (λ us. 92 ∷ 112 ∷ us) n.split
+                ∙ (ap (λ q. 92 ∷ 112 ∷ 123 ∷ (n.cs ++ 125 ∷ q.1)) same ∙ regroup_category n.cs ys 92 112 123)));
+            category = subst (CategoryText (92 ∷ 112 ∷ 123 ∷ (n.cs ++ 125 ∷ []))) (ap (λ q. q.0) same) (is.of n.name);
+          }
+      | inr b ↦ elim (cond_cases (p == 80) (Some (NotIn k, zs)) None (i, ys) b.1) [
+        | inl a ↦
+            let same : ◌≡◌ {A = Item × List ℕ} (NotIn k, zs) (i, ys) = some_same a.1 in
+            record {
+              cs = 92 ∷ 80 ∷ 123 ∷ (n.cs ++ 125 ∷ []);
+              split = ap (λ y. y ∷ p ∷ cs) f ∙ (ap (λ y. 92 ∷ y ∷ cs) (eqb-true p 80 a.0) ∙ (ap (λ us. 92 ∷ 80 ∷ us) n.split
+                  ∙ (ap (λ q. 92 ∷ 80 ∷ 123 ∷ (n.cs ++ 125 ∷ q.1)) same ∙ regroup_category n.cs ys 92 80 123)));
+              category = subst (CategoryText (92 ∷ 80 ∷ 123 ∷ (n.cs ++ 125 ∷ []))) (ap (λ q. q.0) same) (is.others n.name);
+            }
+        | inr n ↦ none_some n.1
+      ]
+    ]
+
+item_sound : (xs : List ℕ) (r : Item) (ys : List ℕ) → item_front xs ≡ Some (r, ys) → ItemFront xs r ys
+item_sound [] r ys e = characters_sound [] r ys e
+item_sound (c ∷ cs) r ys e =
+    elim (cond_cases ((c == 92) && is_category_letter cs) (category_front cs) (characters_front (c ∷ cs)) (r, ys) e) [
+      | inl a ↦
+          let both = and_parts (c == 92) (is_category_letter cs) a.0 in
+          let k = category_sound c cs r ys (eqb-true c 92 both.0) a.1 in
+          record { cs = k.cs; split = k.split; item = is.category k.category }
+      | inr b ↦ characters_sound (c ∷ cs) r ys b.1
+    ]
+
+record TailFront (qs : List Item) (xs : List ℕ) (ss : List Item) (ys : List ℕ) : Type 0 where
   cs : List ℕ
   ds : List ℕ
-  rs : List (ℕ × ℕ)
-  ls : List (ℕ × ℕ)
+  rs : List Item
+  ls : List Item
   split : xs ≡ cs ++ (ds ++ 93 ∷ ys)
   items : ItemsText cs rs
   ending : LastText ds ls
   whole : ss ≡ qs ++ (rs ++ ls)
 
-closing_sound : (qs : List (ℕ × ℕ)) (cs : List ℕ) (ss : List (ℕ × ℕ)) (ys : List ℕ) (c : ℕ) → c ≡ 45 → closing qs cs ≡ Some (ss, ys)
+closing_sound : (qs : List Item) (cs : List ℕ) (ss : List Item) (ys : List ℕ) (c : ℕ) → c ≡ 45 → closing qs cs ≡ Some (ss, ys)
     → TailFront qs (c ∷ cs) ss ys
 closing_sound qs [] ss ys c f e = none_some e
 closing_sound qs (d ∷ ds) ss ys c f e =
-    elim (cond_cases (d == 93) (Some (qs ++ (45, 45) ∷ [], ds)) None (ss, ys) e) [
+    elim (cond_cases (d == 93) (Some (qs ++ Range 45 45 ∷ [], ds)) None (ss, ys) e) [
       | inl a ↦
           let same = some_same a.1 in
           record {
             cs = [];
             ds = 45 ∷ [];
             rs = [];
-            ls = (45, 45) ∷ [];
+            ls = Range 45 45 ∷ [];
             split = ap (λ y. y ∷ d ∷ ds) f ∙ (ap (λ y. 45 ∷ y ∷ ds) (eqb-true d 93 a.0) ∙ ap (λ q. 45 ∷ 93 ∷ q.1) same);
             items = is.none;
             ending = is.dash;
@@ -171,10 +269,10 @@ closing_sound qs (d ∷ ds) ss ys c f e =
       | inr b ↦ none_some b.1
     ]
 
-tail_more : (qs ss rs ls : List (ℕ × ℕ)) (r : ℕ × ℕ) → ss ≡ (qs ++ r ∷ []) ++ (rs ++ ls) → ss ≡ qs ++ (r ∷ (rs ++ ls))
+tail_more : (qs ss rs ls : List Item) (r : Item) → ss ≡ (qs ++ r ∷ []) ++ (rs ++ ls) → ss ≡ qs ++ (r ∷ (rs ++ ls))
 tail_more qs ss rs ls r e = e ∙ append_assoc qs (r ∷ []) (rs ++ ls)
 
-tail_sound : (n : ℕ) (qs : List (ℕ × ℕ)) (xs : List ℕ) (ss : List (ℕ × ℕ)) (ys : List ℕ) → tail_front n qs xs ≡ Some (ss, ys)
+tail_sound : (n : ℕ) (qs : List Item) (xs : List ℕ) (ss : List Item) (ys : List ℕ) → tail_front n qs xs ≡ Some (ss, ys)
     → TailFront qs xs ss ys
 tail_sound zero qs xs ss ys e = none_some e
 tail_sound (suc n) qs [] ss ys e = none_some e
@@ -217,16 +315,16 @@ record ClassFront (negated : Bool) (xs : List ℕ) (t : Token) (ys : List ℕ) :
   bs : List ℕ
   cs : List ℕ
   ds : List ℕ
-  r : ℕ × ℕ
-  rs : List (ℕ × ℕ)
-  ls : List (ℕ × ℕ)
+  r : Item
+  rs : List Item
+  ls : List Item
   split : xs ≡ bs ++ (cs ++ (ds ++ 93 ∷ ys))
   begins : FirstText bs r
   items : ItemsText cs rs
   ending : LastText ds ls
   token : t ≡ characters negated (r ∷ (rs ++ ls))
 
-class_sound : (n : ℕ) (negated : Bool) (r : ℕ × ℕ) (bs xs zs : List ℕ) (t : Token) (ys : List ℕ) → FirstText bs r → xs ≡ bs ++ zs
+class_sound : (n : ℕ) (negated : Bool) (r : Item) (bs xs zs : List ℕ) (t : Token) (ys : List ℕ) → FirstText bs r → xs ≡ bs ++ zs
     → class_front n negated (r, zs) ≡ Some (t, ys) → ClassFront negated xs t ys
 class_sound n negated r bs xs zs t ys f split e =
     let m = map_cases (λ q. let p : Token × List ℕ = (characters negated q.0, q.1) in p) (tail_front n (r ∷ []) zs) (t, ys) e in
@@ -249,9 +347,9 @@ first_sound : (n : ℕ) (negated : Bool) (xs : List ℕ) (t : Token) (ys : List 
     → ClassFront negated xs t ys
 first_sound n negated [] t ys e = none_some e
 first_sound n negated (c ∷ cs) t ys e =
-    elim (cond_cases (c == 45) (class_front n negated ((45, 45), cs)) (option_and_then (class_front n negated) (item_front (c ∷ cs)))
+    elim (cond_cases (c == 45) (class_front n negated (Range 45 45, cs)) (option_and_then (class_front n negated) (item_front (c ∷ cs)))
     (t, ys) e) [
-      | inl a ↦ class_sound n negated (45, 45) (45 ∷ []) (c ∷ cs) cs t ys is.dash (ap (λ y. y ∷ cs) (eqb-true c 45 a.0)) a.1
+      | inl a ↦ class_sound n negated (Range 45 45) (45 ∷ []) (c ∷ cs) cs t ys is.dash (ap (λ y. y ∷ cs) (eqb-true c 45 a.0)) a.1
       | inr b ↦
           let k = then_cases (class_front n negated) (item_front (c ∷ cs)) (t, ys) b.1 in
           let i = item_sound (c ∷ cs) k.0.0 k.0.1 k.1 in
@@ -499,9 +597,9 @@ sign c k u t cs ys h e s f =
       fit = subst IsFit (ap (λ p. p.0) same) f;
     }
 
-escaped_sound : (c : ℕ) (cs : List ℕ) (t : Token) (ys : List ℕ) → (c == 92) ≡ true → one_front (escape_front cs) ≡ Some (t, ys)
+single_sound : (c : ℕ) (cs : List ℕ) (t : Token) (ys : List ℕ) → (c == 92) ≡ true → one_front (escape_front cs) ≡ Some (t, ys)
     → Front (c ∷ cs) t ys
-escaped_sound c cs t ys h e =
+single_sound c cs t ys h e =
     let m = map_cases (λ p. let q : Token × List ℕ = (one p.0, p.1) in q) (escape_front cs) (t, ys) e in
     let s = escape_sound cs m.0.0 m.0.1 m.1 in
     record {
@@ -510,6 +608,21 @@ escaped_sound c cs t ys h e =
       spelled = subst (Spells (92 ∷ s.0 ∷ [])) (ap (λ p. p.0) m.2) (is.escaped s.0 m.0.0 s.2);
       fit = subst IsFit (ap (λ p. p.0) m.2) tt;
     }
+
+escaped_sound : (c : ℕ) (cs : List ℕ) (t : Token) (ys : List ℕ) → (c == 92) ≡ true → escape_token cs ≡ Some (t, ys) → Front (c ∷ cs) t ys
+escaped_sound c cs t ys h e =
+    elim (cond_cases (is_category_letter cs) (item_token (category_front cs)) (one_front (escape_front cs)) (t, ys) e) [
+      | inl a ↦
+          let m = map_cases (λ p. let q : Token × List ℕ = (characters false (p.0 ∷ []), p.1) in q) (category_front cs) (t, ys) a.1 in
+          let k = category_sound c cs m.0.0 m.0.1 (eqb-true c 92 h) m.1 in
+          record {
+            cs = k.cs;
+            split = k.split ∙ ap (λ p. k.cs ++ p.1) m.2;
+            spelled = subst (Spells k.cs) (ap (λ p. p.0) m.2) (is.category k.category);
+            fit = subst IsFit (ap (λ p. p.0) m.2) tt;
+          }
+      | inr b ↦ single_sound c cs t ys h b.1
+    ]
 
 normal_sound : (c : ℕ) (cs : List ℕ) (t : Token) (ys : List ℕ)
     → ◌≡◌ {A = Option (Token × List ℕ)} (cond (is_normal c) (Some (one c, cs)) None) (Some (t, ys)) → Front (c ∷ cs) t ys
@@ -583,6 +696,48 @@ member_complete : (cs : List ℕ) (c : ℕ) → MemberText cs c → (ys : List �
 member_complete cs c (is.plain d h) ys = cond-false (d == 92) _ _ (not_equal d 92 (45 ∷ 91 ∷ []) (93 ∷ []) h) ∙ cond-true (is_plain d) _ _ h
 member_complete cs c (is.escaped l d h) ys = ap (option_map (λ x. let p : ℕ × List ℕ = (x, ys) in p)) h
 
+-- the letter of an escape begins no category
+escaped_letter : (l c : ℕ) → escape_of l ≡ Some c → ((l == 112) || (l == 80)) ≡ false
+escaped_letter l c h = by (l == 112) (l == 80) refl refl
+  where
+    by : (a b : Bool) → (l == 112) ≡ a → (l == 80) ≡ b → (a || b) ≡ false
+    by true b e f = none_some (sym (ap escape_of (eqb-true l 112 e)) ∙ h)
+    by false true e f = none_some (sym (ap escape_of (eqb-true l 80 f)) ∙ h)
+    by false false e f = refl
+
+member_no_category : (cs : List ℕ) (c : ℕ) → MemberText cs c → (ys : List ℕ) → begins_category (cs ++ ys) ≡ false
+member_no_category cs c (is.plain d h) ys = ap (λ b. b && is_category_letter ys) (not_equal d 92 (45 ∷ 91 ∷ []) (93 ∷ []) h)
+member_no_category cs c (is.escaped l d h) ys = escaped_letter l d h
+
+cond_none : {A : Type 0} (b : Bool) (o : Option A) → o ≡ None → cond b None o ≡ None
+cond_none true o e = refl
+cond_none false o e = e
+
+-- a brace is no letter of a category
+named_brace : (g : ℕ) → named g (Some 125) ≡ None
+named_brace g =
+    ap (option_map (λ n. from_to (n, n)))
+    (cond_none (g == 76) _ (cond_none (g == 77) _ (cond_none (g == 78) _ (cond_none (g == 80) _ (cond_none (g == 90) _
+    (cond_none (g == 83) _ (cond_none (g == 67) None refl)))))))
+
+not_brace : (g l : ℕ) (k : Category) → named g (Some l) ≡ Some k → (l == 125) ≡ false
+not_brace g l k h = by (l == 125) refl
+  where
+    by : (b : Bool) → (l == 125) ≡ b → b ≡ false
+    by true e = none_some (sym (named_brace g) ∙ (ap (λ x. named g (Some x)) (sym (eqb-true l 125 e)) ∙ h))
+    by false e = refl
+
+name_complete : (cs : List ℕ) (k : Category) → NameText cs k → (ys : List ℕ) → name_front (123 ∷ (cs ++ 125 ∷ ys)) ≡ Some (k, ys)
+name_complete cs k (is.group g m h) ys = ap (option_map (λ x. let p : Category × List ℕ = (x, ys) in p)) h
+name_complete cs k (is.category g l m h) ys =
+    cond-false (l == 125) _ _ (not_brace g l m h) ∙ ap (option_map (λ x. let p : Category × List ℕ = (x, ys) in p)) h
+
+signed_complete : (p : ℕ) (cs : List ℕ) (k : Category) (o : Option (Item × List ℕ)) → NameText cs k → (ys : List ℕ)
+    → signed_front p (k, ys) ≡ o → category_front (p ∷ 123 ∷ ((cs ++ 125 ∷ []) ++ ys)) ≡ o
+signed_complete p cs k o n ys e =
+    ap (λ zs. option_and_then (signed_front p) (name_front (123 ∷ zs))) (append_assoc cs (125 ∷ []) ys)
+    ∙ (ap (option_and_then (signed_front p)) (name_complete cs k n ys) ∙ e)
+
 -- the first character of an item
 record Starts (cs : List ℕ) : Type 0 where
   first : ℕ
@@ -611,12 +766,16 @@ starts_on cs ds s = record {
   not_dash = s.not_dash;
 }
 
-item_starts : (cs : List ℕ) (r : ℕ × ℕ) → ItemText cs r → Starts cs
+item_starts : (cs : List ℕ) (r : Item) → ItemText cs r → Starts cs
+item_starts cs r (is.category (is.of {cs = ds} n)) =
+    record { first = 92; rest = 112 ∷ 123 ∷ (ds ++ 125 ∷ []); split = refl; not_closing = refl; not_dash = refl }
+item_starts cs r (is.category (is.others {cs = ds} n)) =
+    record { first = 92; rest = 80 ∷ 123 ∷ (ds ++ 125 ∷ []); split = refl; not_closing = refl; not_dash = refl }
 item_starts cs r (is.single {cs = ds} {c = c} m) = member_starts ds c m
 item_starts cs r (is.range {cs = ds} {ds = es} {c = c} m k h) = starts_on ds (45 ∷ es) (member_starts ds c m)
 
 Ended : List ℕ → Type 0
-Ended ys = (c : ℕ) → range_front c ys ≡ Some ((c, c), ys)
+Ended ys = (c : ℕ) → range_front c ys ≡ Some (Range c c, ys)
 
 range_end_at : (c : ℕ) (ws xs : List ℕ) (p : ℕ × List ℕ) → Starts xs → member_front xs ≡ Some p → range_end c ws xs ≡ up_to c p
 range_end_at c ws xs p s m =
@@ -629,18 +788,24 @@ unfolding Ended
 range_front_at xs s c =
     ap (range_front c) s.split
     ∙ (cond-false (s.first == 45) _ _ s.not_dash
-    ∙ ap (λ ys. let o : Option ((ℕ × ℕ) × List ℕ) = Some ((c, c), ys) in o) (sym s.split))
+    ∙ ap (λ ys. let o : Option (Item × List ℕ) = Some (Range c c, ys) in o) (sym s.split))
 
-item_complete : (cs : List ℕ) (r : ℕ × ℕ) → ItemText cs r → (ys : List ℕ) → Ended ys → item_front (cs ++ ys) ≡ Some (r, ys)
+item_complete : (cs : List ℕ) (r : Item) → ItemText cs r → (ys : List ℕ) → Ended ys → item_front (cs ++ ys) ≡ Some (r, ys)
 unfolding Ended
-item_complete cs r (is.single {cs = ds} {c = c} m) ys e = ap (option_and_then (λ p. range_front p.0 p.1)) (member_complete ds c m ys) ∙ e c
+item_complete cs r (is.category (is.of {cs = ds} {k = k} n)) ys e = signed_complete 112 ds k (Some (In k, ys)) n ys refl
+item_complete cs r (is.category (is.others {cs = ds} {k = k} n)) ys e = signed_complete 80 ds k (Some (NotIn k, ys)) n ys refl
+item_complete cs r (is.single {cs = ds} {c = c} m) ys e =
+    cond-false (begins_category (ds ++ ys)) _ _ (member_no_category ds c m ys)
+    ∙ (ap (option_and_then (λ p. range_front p.0 p.1)) (member_complete ds c m ys) ∙ e c)
 item_complete cs r (is.range {cs = ds} {ds = es} {c = c} {d = d} m k h) ys e =
-    ap item_front (append_assoc ds (45 ∷ es) ys)
+    cond-false (begins_category ((ds ++ 45 ∷ es) ++ ys)) _ _
+    (ap begins_category (append_assoc ds (45 ∷ es) ys) ∙ member_no_category ds c m (45 ∷ (es ++ ys)))
+    ∙ (ap characters_front (append_assoc ds (45 ∷ es) ys)
     ∙ (ap (option_and_then (λ p. range_front p.0 p.1)) (member_complete ds c m (45 ∷ (es ++ ys)))
     ∙ (range_end_at c (45 ∷ (es ++ ys)) (es ++ ys) (d, ys) (starts_on es ys (member_starts es d k)) (member_complete es d k ys)
-    ∙ cond-true (nat_le c d) _ _ h))
+    ∙ cond-true (nat_le c d) _ _ h)))
 
-tail_ended : (cs : List ℕ) (rs : List (ℕ × ℕ)) (ds : List ℕ) (ls : List (ℕ × ℕ)) (ys : List ℕ) → ItemsText cs rs → LastText ds ls
+tail_ended : (cs : List ℕ) (rs : List Item) (ds : List ℕ) (ls : List Item) (ys : List ℕ) → ItemsText cs rs → LastText ds ls
     → Ended (cs ++ (ds ++ 93 ∷ ys))
 unfolding Ended
 tail_ended cs rs ds ls ys is.none is.none c = refl
@@ -648,13 +813,13 @@ tail_ended cs rs ds ls ys is.none is.dash c = refl
 tail_ended cs rs ds ls ys (is.more {cs = hs} {ds = ks} {r = r} i k) l c =
     range_front_at ((hs ++ ks) ++ (ds ++ 93 ∷ ys)) (starts_on (hs ++ ks) (ds ++ 93 ∷ ys) (starts_on hs ks (item_starts hs r i))) c
 
-last_complete : (n : ℕ) (qs : List (ℕ × ℕ)) (ds : List ℕ) (ls : List (ℕ × ℕ)) (ys : List ℕ) → LastText ds ls
+last_complete : (n : ℕ) (qs : List Item) (ds : List ℕ) (ls : List Item) (ys : List ℕ) → LastText ds ls
     → tail_front (suc n) qs (ds ++ 93 ∷ ys) ≡ Some (qs ++ ls, ys)
-last_complete n qs ds ls ys is.none = ap (λ rs. let o : Option (List (ℕ × ℕ) × List ℕ) = Some (rs, ys) in o) (sym (append-nil qs))
+last_complete n qs ds ls ys is.none = ap (λ rs. let o : Option (List Item × List ℕ) = Some (rs, ys) in o) (sym (append-nil qs))
 last_complete n qs ds ls ys is.dash = refl
 
-tail_complete : (cs : List ℕ) (rs : List (ℕ × ℕ)) → ItemsText cs rs
-    → (n : ℕ) (qs : List (ℕ × ℕ)) (ds : List ℕ) (ls : List (ℕ × ℕ)) (ys : List ℕ) → LastText ds ls → length (cs ++ (ds ++ 93 ∷ ys)) < n
+tail_complete : (cs : List ℕ) (rs : List Item) → ItemsText cs rs
+    → (n : ℕ) (qs : List Item) (ds : List ℕ) (ls : List Item) (ys : List ℕ) → LastText ds ls → length (cs ++ (ds ++ 93 ∷ ys)) < n
     → tail_front n qs (cs ++ (ds ++ 93 ∷ ys)) ≡ Some (qs ++ (rs ++ ls), ys)
 tail_complete cs rs is.none zero qs ds ls ys l h = absurd (omega arith)
 tail_complete cs rs is.none (suc n) qs ds ls ys l h = last_complete n qs ds ls ys l
@@ -670,18 +835,18 @@ tail_complete cs rs (is.more {cs = hs} {ds = ks} {r = r} {rs = ts} i k) (suc n) 
     ∙ (tail_item n qs (hs ++ rest) s.rest s.first s.split (eqb-false s.first 93 s.not_closing) (eqb-false s.first 45 s.not_dash)
     ∙ (ap (option_and_then (then_more n qs)) front
     ∙ (tail_complete ks ts k n (qs ++ r ∷ []) ds ls ys l (omega arith)
-    ∙ ap (λ us. let o : Option (List (ℕ × ℕ) × List ℕ) = Some (us, ys) in o) (append_assoc qs (r ∷ []) (ts ++ ls)))))
+    ∙ ap (λ us. let o : Option (List Item × List ℕ) = Some (us, ys) in o) (append_assoc qs (r ∷ []) (ts ++ ls)))))
 
-class_complete : (n : ℕ) (negated : Bool) (r : ℕ × ℕ) (cs : List ℕ) (rs : List (ℕ × ℕ)) (ds : List ℕ) (ls : List (ℕ × ℕ)) (ys : List ℕ)
+class_complete : (n : ℕ) (negated : Bool) (r : Item) (cs : List ℕ) (rs : List Item) (ds : List ℕ) (ls : List Item) (ys : List ℕ)
     → ItemsText cs rs → LastText ds ls → length (cs ++ (ds ++ 93 ∷ ys)) < n
     → class_front n negated (r, cs ++ (ds ++ 93 ∷ ys)) ≡ Some (characters negated (r ∷ (rs ++ ls)), ys)
 class_complete n negated r cs rs ds ls ys i l h =
     ap (option_map (λ q. let p : Token × List ℕ = (characters negated q.0, q.1) in p)) (tail_complete cs rs i n (r ∷ []) ds ls ys l h)
 
-first_complete : (n : ℕ) (negated : Bool) (bs : List ℕ) (r : ℕ × ℕ) (cs : List ℕ) (rs : List (ℕ × ℕ)) (ds : List ℕ) (ls : List (ℕ × ℕ))
+first_complete : (n : ℕ) (negated : Bool) (bs : List ℕ) (r : Item) (cs : List ℕ) (rs : List Item) (ds : List ℕ) (ls : List Item)
     (ys : List ℕ) → FirstText bs r → ItemsText cs rs → LastText ds ls → length (bs ++ (cs ++ (ds ++ 93 ∷ ys))) ≤ n
     → first_front n negated (bs ++ (cs ++ (ds ++ 93 ∷ ys))) ≡ Some (characters negated (r ∷ (rs ++ ls)), ys)
-first_complete n negated bs r cs rs ds ls ys is.dash i l h = class_complete n negated (45, 45) cs rs ds ls ys i l (omega arith)
+first_complete n negated bs r cs rs ds ls ys is.dash i l h = class_complete n negated (Range 45 45) cs rs ds ls ys i l (omega arith)
 first_complete n negated bs r cs rs ds ls ys (is.item {cs = hs} {r = q} f) i l h =
     let rest : List ℕ = cs ++ (ds ++ 93 ∷ ys) in
     let s = starts_on hs rest (item_starts hs q f) in
@@ -690,7 +855,7 @@ first_complete n negated bs r cs rs ds ls ys (is.item {cs = hs} {r = q} f) i l h
     first_item n negated (hs ++ rest) s.rest s.first s.split (eqb-false s.first 45 s.not_dash)
     ∙ (ap (option_and_then (class_front n negated)) front ∙ class_complete n negated q cs rs ds ls ys i l (omega arith))
 
-no_caret_first : (bs : List ℕ) (r : ℕ × ℕ) (zs : List ℕ) → FirstText bs r → begins_with_caret bs ≡ false
+no_caret_first : (bs : List ℕ) (r : Item) (zs : List ℕ) → FirstText bs r → begins_with_caret bs ≡ false
     → bracket_front (bs ++ zs) ≡ first_front (length (bs ++ zs)) false (bs ++ zs)
 unfolding starts_on item_starts
 no_caret_first bs r zs is.dash h = refl
@@ -699,8 +864,8 @@ no_caret_first bs r zs (is.item {cs = hs} {r = q} f) h =
     let t = starts_on hs zs s in
     bracket_other (hs ++ zs) t.rest t.first t.split (eqb-false t.first 94 (subst (λ xs. begins_with_caret xs ≡ false) s.split h))
 
-bracket_complete : (hs : List ℕ) (negated : Bool) (bs : List ℕ) (r : ℕ × ℕ) (cs : List ℕ) (rs : List (ℕ × ℕ)) (ds : List ℕ)
-    (ls : List (ℕ × ℕ)) (ys : List ℕ) → CaretText hs negated → FirstText bs r → (negated ≡ false → begins_with_caret bs ≡ false)
+bracket_complete : (hs : List ℕ) (negated : Bool) (bs : List ℕ) (r : Item) (cs : List ℕ) (rs : List Item) (ds : List ℕ)
+    (ls : List Item) (ys : List ℕ) → CaretText hs negated → FirstText bs r → (negated ≡ false → begins_with_caret bs ≡ false)
     → ItemsText cs rs → LastText ds ls
     → bracket_front ((hs ++ (bs ++ (cs ++ (ds ++ 93 ∷ [])))) ++ ys) ≡ Some (characters negated (r ∷ (rs ++ ls)), ys)
 bracket_complete hs negated bs r cs rs ds ls ys is.none f c i l =
@@ -748,7 +913,11 @@ front_complete cs t (is.normal c h) ys =
     ∙ (cond-false (c == 91) _ _ (not_equal c 91 (40 ∷ 41 ∷ 42 ∷ 43 ∷ 46 ∷ 63 ∷ []) (92 ∷ 93 ∷ 123 ∷ 124 ∷ 125 ∷ []) h)
     ∙ cond-true (is_normal c) _ _ h)))))))))
 front_complete cs t is.dot ys = refl
-front_complete cs t (is.escaped l c h) ys = ap (λ o. one_front (option_map (λ x. let p : ℕ × List ℕ = (x, ys) in p) o)) h
+front_complete cs t (is.category (is.of {cs = ds} {k = k} n)) ys = ap item_token (signed_complete 112 ds k (Some (In k, ys)) n ys refl)
+front_complete cs t (is.category (is.others {cs = ds} {k = k} n)) ys = ap item_token (signed_complete 80 ds k (Some (NotIn k, ys)) n ys refl)
+front_complete cs t (is.escaped l c h) ys =
+    cond-false (is_category_letter (l ∷ ys)) _ _ (escaped_letter l c h)
+    ∙ ap (λ o. one_front (option_map (λ x. let p : ℕ × List ℕ = (x, ys) in p) o)) h
 front_complete cs t (is.bracket {hs = hs} {bs = bs} {cs = us} {ds = ds} {negated = negated} {r = r} {rs = rs} {ls = ls} a f c i l) ys =
     bracket_complete hs negated bs r us rs ds ls ys a f c i l
 front_complete cs t is.star ys = refl

@@ -116,9 +116,9 @@ quantifier_taken l ls least most = by (quantified l least most) refl
         (in_outer ls l l' (quantifier least most ∷ []) (quantifier_put l l' least most e))
 
 taken : (l : Level) (ls : List Level) (t : Token) → Taken l ls t (advance (l, ls) t)
-taken l ls (characters negated ranges) =
-    some_state l ls (characters negated ranges) (with_atom l (character negated ranges), ls)
-    (in_outer ls l (with_atom l (character negated ranges)) (characters negated ranges ∷ []) (atom_put l (character negated ranges)))
+taken l ls (characters negated items) =
+    some_state l ls (characters negated items) (with_atom l (character negated items), ls)
+    (in_outer ls l (with_atom l (character negated items)) (characters negated items ∷ []) (atom_put l (character negated items)))
 taken l ls opened = some_state l ls opened (fresh, l ∷ ls) (opened_put l ls)
 taken l ls closed = close_taken l ls
 taken l ls bar = some_state l ls bar (barred l, ls) (in_outer ls l (barred l) (bar ∷ []) (bar_put l))
@@ -220,7 +220,7 @@ mutual
 
   runs_atom : (a : Atom) (bs : List Branch) (ps : List Piece) (end : Option Atom) (ls : List Level) (rest : List Token)
       → RunsAtom a bs ps end ls rest
-  runs_atom (character negated ranges) bs ps end ls rest = refl
+  runs_atom (character negated items) bs ps end ls rest = refl
   runs_atom (group r) bs ps end ls rest =
       let k = runs_regexp r [] (level bs ps end ∷ ls) (closed ∷ rest) in
       ap (run (fresh, level bs ps end ∷ ls)) (append_assoc (regexp_tokens r) (closed ∷ []) rest)

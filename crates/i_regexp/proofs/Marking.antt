@@ -147,7 +147,7 @@ pub shift_sound : (n : Node) (start : Bool) (c : ℕ) (ds : List ℕ) → IsKept
     → Continues n (c ∷ ds) ⊎ ((start ≡ true) × Matches (form_of n) (c ∷ ds))
 shift_sound Empty start c ds k h = absurd h
 shift_sound (Class cl mark) start c ds k h =
-    let both = and_parts start (is_in_class cl.negated cl.ranges.items c) h.0 in
+    let both = and_parts start (is_in_class cl.negated cl.items.items c) h.0 in
     inr (both.0, (c, ap (λ x. c ∷ x) h.1, both.1))
 shift_sound (Concat' p l q r le re ends) start c ds k h =
     elim h [
@@ -203,8 +203,8 @@ shift_complete (Class cl mark) start c ds k h =
           let e : c ∷ ds ≡ x.1.0 ∷ [] = x.1.1 in
           let head : x.1.0 ≡ c = cc in
           let tail : ds ≡ [] = cc in (
-            and_from start (is_in_class cl.negated cl.ranges.items c) x.0
-                (subst (λ y. is_in_class cl.negated cl.ranges.items y ≡ true) head x.1.2),
+            and_from start (is_in_class cl.negated cl.items.items c) x.0
+                (subst (λ y. is_in_class cl.negated cl.items.items y ≡ true) head x.1.2),
             tail,
           )
     ]

@@ -4,7 +4,7 @@ use Rattle.std.proofs.Common.{refl, sym, ap, ◌∙◌, subst, arith, append_ass
 use Rattle.std.specs.Prelude.{option_and_then}
 use Rattle.i_regexp.specs.declared.error.IRegexpError.{IRegexpError}
 use Rattle.i_regexp.specs.declared.error.IRegexpErrorKind.{IRegexpErrorKind}
-use Rattle.i_regexp.specs.declared.error.IRegexpErrorKind.TheVariants.{Invalid, UnsupportedCategory, TooDeep, TooLarge, OutOfMemory}
+use Rattle.i_regexp.specs.declared.error.IRegexpErrorKind.TheVariants.{Invalid, TooDeep, TooLarge, OutOfMemory}
 use Rattle.i_regexp.specs.declared.reader.Level.{Level as CodeLevel}
 use Rattle.i_regexp.specs.Fronts.{Fronts, token_front, token_of}
 use Rattle.i_regexp.specs.Grammar as is
@@ -81,7 +81,7 @@ some_state : {s u : State} → Some s ≡ Some u → s ≡ u
 some_state h = cc
 
 step_depth : (s : State) (t : Token) (u : State) → advance s t ≡ Some u → length s.1 + begins_group t ≡ length u.1 + ends_group t
-step_depth s (characters negated ranges) u e = let same = ap (λ x. length x.1) (some_state e) in omega arith
+step_depth s (characters negated items) u e = let same = ap (λ x. length x.1) (some_state e) in omega arith
 step_depth s opened u e = let same = ap (λ x. length x.1) (some_state e) in omega arith
 step_depth (l, []) closed u e = absurd (none_some e)
 step_depth (l, o ∷ ls) closed u e = let same = ap (λ x. length x.1) (some_state e) in omega arith
@@ -120,6 +120,7 @@ begins_with cs t e is.parts = cc
 begins_with cs t e (is.normal c h) = cc
 begins_with cs t e is.dot = cc
 begins_with cs t e (is.escaped l c h) = cc
+begins_with cs t e (is.category c) = cc
 begins_with cs t e (is.bracket a b c d f) = cc
 begins_with cs t e is.star = cc
 begins_with cs t e is.plus = cc
@@ -150,11 +151,10 @@ first_token rest cs more t e s = ap token_front e ∙ front_complete cs t s more
 
 -- no token stands at the place
 pub says_no_token : (text rest : List ℕ) (here : CodeLevel) (outer : List CodeLevel) (k : IRegexpErrorKind)
-    → (r : Reading text rest here outer) → 0 < length rest → Fronts (LargeCount rest) token_of rest (token_front rest) (Err k)
+    → (r : Reading text rest here outer) → 0 < length rest → Fronts (LargeCount rest) token_of (token_front rest) (Err k)
     → (front : List ℕ) → Says text front r.tokens rest k
 says_no_token text rest here outer Invalid r l f front =
     (no_front text rest here outer r l f, λ cs more t e s b. some_none (sym (first_token rest cs more t e s) ∙ f))
-says_no_token text rest here outer UnsupportedCategory r l f front = f
 says_no_token text rest here outer TooDeep r l f front = absurd f
 says_no_token text rest here outer TooLarge r l f front = inl f
 says_no_token text rest here outer OutOfMemory r l f front = tt
@@ -205,7 +205,6 @@ pub says_no_take : (text rest after : List ℕ) (here here' : CodeLevel) (outer 
     → Spelled front r.tokens → Says text front r.tokens rest k
 says_no_take text rest after here here' outer outer' t Invalid r e f front p =
     (no_advance text rest after here outer t r e f, no_going_on text rest after here outer t r e f front p)
-says_no_take text rest after here here' outer outer' t UnsupportedCategory r e f front p = absurd f
 says_no_take text rest after here here' outer outer' t TooDeep r e f front p = too_deep text rest after here outer t r e f.0 f.1
 says_no_take text rest after here here' outer outer' t TooLarge r e f front p = inr (grows_large text rest after here outer t r e f front p)
 says_no_take text rest after here here' outer outer' t OutOfMemory r e f front p = tt

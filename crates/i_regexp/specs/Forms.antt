@@ -1,21 +1,30 @@
 -- Regular expressions, and the texts that they match.
 use Rattle.std.specs.Prelude.{◌≡◌, ℕ, zero, suc, ◌≤◌, Bool, true, false, ◌&&◌, ◌||◌, not, nat_le, cond, List, [], ◌∷◌, ◌++◌}
 use Rattle.std.specs.Prelude.{Option, Some, None, ◌⊎◌}
+use Rattle.general_category.specs.Categories.{is_in}
+use Rattle.i_regexp.specs.declared.class.Item.{Item}
+use Rattle.i_regexp.specs.declared.class.Item.TheVariants.{Range, In, NotIn}
 
--- whether a character is in one of the ranges, each from its first to its last character
-abbrev pub is_within : List (ℕ × ℕ) → ℕ → Bool
+-- whether a character is one that an item of a class stands for: from the first to the last, in a category, or not in it
+abbrev pub is_item : Item → ℕ → Bool
+is_item (Range first last) c = nat_le first c && nat_le c last
+is_item (In k) c = is_in k.first k.last c
+is_item (NotIn k) c = not (is_in k.first k.last c)
+
+-- whether a character is one that an item of the class stands for
+abbrev pub is_within : List Item → ℕ → Bool
 is_within [] c = false
-is_within (r ∷ rs) c = (nat_le r.0 c && nat_le c r.1) || is_within rs c
+is_within (r ∷ rs) c = is_item r c || is_within rs c
 
--- whether a character is in a class: in one of the ranges, or, where it is negated, in none
-abbrev pub is_in_class : Bool → List (ℕ × ℕ) → ℕ → Bool
-is_in_class negated ranges c = cond negated (not (is_within ranges c)) (is_within ranges c)
+-- whether a character is in a class: one of its items stands for it, or, where it is negated, none
+abbrev pub is_in_class : Bool → List Item → ℕ → Bool
+is_in_class negated items c = cond negated (not (is_within items c)) (is_within items c)
 
 -- A regular expression: nothing, one character of a class, one part after another, one or the other, or a part at least and at most so
 -- many times, with no bound above where there is none.
 pub data Form : Type 0 where
   empty : Form
-  class : (negated : Bool) (ranges : List (ℕ × ℕ)) → Form
+  class : (negated : Bool) (items : List Item) → Form
   concat : (first second : Form) → Form
   alternation : (first second : Form) → Form
   repetition : (body : Form) (least : ℕ) (most : Option ℕ) → Form
@@ -33,7 +42,7 @@ AtMost n (Some most) = n ≤ most
 -- the regular expression matches the whole text
 abbrev pub Matches : Form → List ℕ → Type 0
 Matches empty cs = cs ≡ []
-Matches (class negated ranges) cs = (c : ℕ) × (cs ≡ c ∷ []) × (is_in_class negated ranges c ≡ true)
+Matches (class negated items) cs = (c : ℕ) × (cs ≡ c ∷ []) × (is_in_class negated items c ≡ true)
 Matches (concat r s) cs = (xs : List ℕ) × (ys : List ℕ) × (cs ≡ xs ++ ys) × Matches r xs × Matches s ys
 Matches (alternation r s) cs = Matches r cs ⊎ Matches s cs
 Matches (repetition r least most) cs = (n : ℕ) × (least ≤ n) × AtMost n most × Parts (Matches r) n cs

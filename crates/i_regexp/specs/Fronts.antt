@@ -1,29 +1,32 @@
 -- What stands at the front of a text, and what follows it; only private contracts use these words.
-use Rattle.std.specs.Prelude.{◌≡◌, ℕ, zero, suc, ◌+◌, ◌-◌, ◌*◌, Bool, true, false, ◌==◌, nat_le, cond, List, [], ◌∷◌, ◌++◌, length}
+use Rattle.std.specs.Prelude.{◌≡◌, ℕ, zero, suc, ◌+◌, ◌-◌, ◌*◌, Bool, true, false, ◌&&◌, ◌||◌, ◌==◌, nat_le, cond, List, [], ◌∷◌, ◌++◌, length}
 use Rattle.std.specs.Prelude.{Option, Some, None, option_map, option_and_then, Result, Ok, Err}
 use Rattle.std.specs.Borrow.{Bor}
 use Rattle.i_regexp.specs.Characters.{left_parenthesis, right_parenthesis, vertical_bar, asterisk, plus_sign, question_mark, left_brace}
 use Rattle.i_regexp.specs.Characters.{comma, right_brace, digit_zero, full_stop, left_bracket, circumflex, hyphen, right_bracket}
-use Rattle.i_regexp.specs.Characters.{reverse_solidus}
+use Rattle.general_category.specs.Categories.{named}
+use Rattle.general_category.specs.declared.Category.{Category}
+use Rattle.i_regexp.specs.Characters.{reverse_solidus, letter_p, capital_p}
+use Rattle.i_regexp.specs.declared.class.Item.{Item}
+use Rattle.i_regexp.specs.declared.class.Item.TheVariants.{Range, In, NotIn}
 use Rattle.i_regexp.specs.declared.error.IRegexpErrorKind.{IRegexpErrorKind}
 use Rattle.i_regexp.specs.declared.error.IRegexpErrorKind.TheVariants as kind
 use Rattle.i_regexp.specs.declared.token.Token.TheVariants as is
 use Rattle.i_regexp.specs.declared.token.Token.{Token as CodeToken}
 use Rattle.i_regexp.specs.Grammar.{Token, characters, opened, closed, bar, quantifier, one, any, is_normal, is_plain, is_digit}
-use Rattle.i_regexp.specs.Grammar.{escape_of, has_category}
+use Rattle.i_regexp.specs.Grammar.{escape_of}
 
 -- what a reading of the front of the text returns: o, if the text is not refused for another reason; it is too large only where `Large`
-abbrev pub Fronts : {U V : Type 0} → Type 0 → (U → V) → List ℕ → Option (V × List ℕ) → Result (U × Bor (List ℕ)) IRegexpErrorKind → Type 0
-Fronts Large view xs o (Ok r) = o ≡ Some (view r.0, r.1.now)
-Fronts Large view xs o (Err kind.Invalid) = o ≡ None
-Fronts Large view xs o (Err kind.UnsupportedCategory) = has_category xs ≡ true
-Fronts Large view xs o (Err kind.TooDeep) = ⊥
-Fronts Large view xs o (Err kind.TooLarge) = Large
-Fronts Large view xs o (Err kind.OutOfMemory) = Unit {0}
+abbrev pub Fronts : {U V : Type 0} → Type 0 → (U → V) → Option (V × List ℕ) → Result (U × Bor (List ℕ)) IRegexpErrorKind → Type 0
+Fronts Large view o (Ok r) = o ≡ Some (view r.0, r.1.now)
+Fronts Large view o (Err kind.Invalid) = o ≡ None
+Fronts Large view o (Err kind.TooDeep) = ⊥
+Fronts Large view o (Err kind.TooLarge) = Large
+Fronts Large view o (Err kind.OutOfMemory) = Unit {0}
 
 -- a token of the code
 abbrev pub token_of : CodeToken → Token
-token_of (is.Characters k) = characters k.negated k.ranges.items
+token_of (is.Characters k) = characters k.negated k.items.items
 token_of is.Open = opened
 token_of is.Close = closed
 token_of is.Bar = bar
@@ -40,50 +43,94 @@ member_front [] = None
 member_front (c ∷ cs) = cond (c == reverse_solidus) (escape_front cs) (cond (is_plain c) (Some (c, cs)) None)
 
 -- the range from c to the character that was read, if it does not end before it begins
-abbrev pub up_to : ℕ → ℕ × List ℕ → Option ((ℕ × ℕ) × List ℕ)
-up_to c p = cond (nat_le c p.0) (Some ((c, p.0), p.1)) None
+abbrev pub up_to : ℕ → ℕ × List ℕ → Option (Item × List ℕ)
+up_to c p = cond (nat_le c p.0) (Some (Range c p.0, p.1)) None
 
 -- what follows the `-` after c: the end of the class, before which this `-` stands for itself, or the last character of a range
-abbrev pub range_end : ℕ → List ℕ → List ℕ → Option ((ℕ × ℕ) × List ℕ)
+abbrev pub range_end : ℕ → List ℕ → List ℕ → Option (Item × List ℕ)
 range_end c ys [] = None
-range_end c ys (e ∷ zs) = cond (e == right_bracket) (Some ((c, c), ys)) (option_and_then (up_to c) (member_front (e ∷ zs)))
+range_end c ys (e ∷ zs) = cond (e == right_bracket) (Some (Range c c, ys)) (option_and_then (up_to c) (member_front (e ∷ zs)))
 
 -- what follows the character c of a class
-abbrev pub range_front : ℕ → List ℕ → Option ((ℕ × ℕ) × List ℕ)
-range_front c [] = Some ((c, c), [])
-range_front c (d ∷ ys) = cond (d == hyphen) (range_end c (d ∷ ys) ys) (Some ((c, c), d ∷ ys))
+abbrev pub range_front : ℕ → List ℕ → Option (Item × List ℕ)
+range_front c [] = Some (Range c c, [])
+range_front c (d ∷ ys) = cond (d == hyphen) (range_end c (d ∷ ys) ys) (Some (Range c c, d ∷ ys))
+
+-- a character, or a range
+abbrev pub characters_front : List ℕ → Option (Item × List ℕ)
+characters_front xs = option_and_then (λ p. range_front p.0 p.1) (member_front xs)
+
+-- what a name stands for, which the text follows
+abbrev pub named_front : ℕ → Option ℕ → List ℕ → Option (Category × List ℕ)
+named_front g l cs = option_map (λ k. (k, cs)) (named g l)
+
+-- the brace behind a name of two letters
+abbrev pub second_front : ℕ → ℕ → List ℕ → Option (Category × List ℕ)
+second_front g l [] = None
+second_front g l (c ∷ cs) = cond (c == right_brace) (named_front g (Some l) cs) None
+
+-- IsCategory in its braces
+abbrev pub name_front : List ℕ → Option (Category × List ℕ)
+name_front [] = None
+name_front (b ∷ []) = None
+name_front (b ∷ g ∷ []) = None
+name_front (b ∷ g ∷ l ∷ cs) = cond (b == left_brace) (cond (l == right_brace) (named_front g None cs) (second_front g l cs)) None
+
+-- the category, or all others, by the letter that stands before
+abbrev pub signed_front : ℕ → Category × List ℕ → Option (Item × List ℕ)
+signed_front p q = cond (p == letter_p) (Some (In q.0, q.1)) (cond (p == capital_p) (Some (NotIn q.0, q.1)) None)
+
+-- charClassEsc, behind its backslash
+abbrev pub category_front : List ℕ → Option (Item × List ℕ)
+category_front [] = None
+category_front (p ∷ cs) = option_and_then (signed_front p) (name_front cs)
+
+-- whether the letter of a category comes first
+abbrev pub is_category_letter : List ℕ → Bool
+is_category_letter [] = false
+is_category_letter (c ∷ cs) = (c == letter_p) || (c == capital_p)
+
+-- whether a category comes first
+abbrev pub begins_category : List ℕ → Bool
+begins_category [] = false
+begins_category (c ∷ cs) = (c == reverse_solidus) && is_category_letter cs
+
+-- what follows the first character
+abbrev pub behind : List ℕ → List ℕ
+behind [] = []
+behind (c ∷ cs) = cs
 
 -- CCE1
-abbrev pub item_front : List ℕ → Option ((ℕ × ℕ) × List ℕ)
-item_front xs = option_and_then (λ p. range_front p.0 p.1) (member_front xs)
+abbrev pub item_front : List ℕ → Option (Item × List ℕ)
+item_front xs = cond (begins_category xs) (category_front (behind xs)) (characters_front xs)
 
 -- the end of a class: its last `-`, and the bracket
-abbrev pub closing : List (ℕ × ℕ) → List ℕ → Option (List (ℕ × ℕ) × List ℕ)
+abbrev pub closing : List Item → List ℕ → Option (List Item × List ℕ)
 closing rs [] = None
-closing rs (c ∷ cs) = cond (c == right_bracket) (Some (rs ++ (hyphen, hyphen) ∷ [], cs)) None
+closing rs (c ∷ cs) = cond (c == right_bracket) (Some (rs ++ Range hyphen hyphen ∷ [], cs)) None
 
 -- what one step finds there, with `go` for what follows an item
-abbrev pub tail_step : (List (ℕ × ℕ) → List ℕ → Option (List (ℕ × ℕ) × List ℕ))
-    → List (ℕ × ℕ) → List ℕ → Option (List (ℕ × ℕ) × List ℕ)
+abbrev pub tail_step : (List Item → List ℕ → Option (List Item × List ℕ))
+    → List Item → List ℕ → Option (List Item × List ℕ)
 tail_step go rs [] = None
 tail_step go rs (c ∷ cs) =
     cond (c == right_bracket) (Some (rs, cs)) (cond (c == hyphen) (closing rs cs)
     (option_and_then (λ p. go (rs ++ p.0 ∷ []) p.1) (item_front (c ∷ cs))))
 
 -- the items of a class up to its end, of which there are fewer than n
-abbrev pub tail_front : ℕ → List (ℕ × ℕ) → List ℕ → Option (List (ℕ × ℕ) × List ℕ)
+abbrev pub tail_front : ℕ → List Item → List ℕ → Option (List Item × List ℕ)
 tail_front zero rs xs = None
 tail_front (suc n) rs xs = tail_step (tail_front n) rs xs
 
 -- the rest of a class that begins with this item, of which the text is not longer than n
-abbrev pub class_front : ℕ → Bool → (ℕ × ℕ) × List ℕ → Option (Token × List ℕ)
+abbrev pub class_front : ℕ → Bool → Item × List ℕ → Option (Token × List ℕ)
 class_front n negated p = option_map (λ q. (characters negated q.0, q.1)) (tail_front n (p.0 ∷ []) p.1)
 
 -- a class from its first item on
 abbrev pub first_front : ℕ → Bool → List ℕ → Option (Token × List ℕ)
 first_front n negated [] = None
 first_front n negated (c ∷ cs) =
-    cond (c == hyphen) (class_front n negated ((hyphen, hyphen), cs)) (option_and_then (class_front n negated) (item_front (c ∷ cs)))
+    cond (c == hyphen) (class_front n negated (Range hyphen hyphen, cs)) (option_and_then (class_front n negated) (item_front (c ∷ cs)))
 
 -- a class behind its bracket
 abbrev pub bracket_front : List ℕ → Option (Token × List ℕ)
@@ -124,6 +171,14 @@ counts_front xs = option_and_then (λ p. least_end p.0 p.1) (number_front xs)
 abbrev pub one_front : Option (ℕ × List ℕ) → Option (Token × List ℕ)
 one_front o = option_map (λ p. (one p.0, p.1)) o
 
+-- an item as a token
+abbrev pub item_token : Option (Item × List ℕ) → Option (Token × List ℕ)
+item_token o = option_map (λ p. (characters false (p.0 ∷ []), p.1)) o
+
+-- what stands behind a backslash, as a token
+abbrev pub escape_token : List ℕ → Option (Token × List ℕ)
+escape_token cs = cond (is_category_letter cs) (item_token (category_front cs)) (one_front (escape_front cs))
+
 -- the first token of a text
 abbrev pub token_front : List ℕ → Option (Token × List ℕ)
 token_front [] = None
@@ -136,6 +191,6 @@ token_front (c ∷ cs) =
     (cond (c == question_mark) (Some (quantifier 0 (Some 1), cs))
     (cond (c == left_brace) (counts_front cs)
     (cond (c == full_stop) (Some (any, cs))
-    (cond (c == reverse_solidus) (one_front (escape_front cs))
+    (cond (c == reverse_solidus) (escape_token cs)
     (cond (c == left_bracket) (bracket_front cs)
     (cond (is_normal c) (Some (one c, cs)) None))))))))))

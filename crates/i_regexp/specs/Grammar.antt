@@ -5,13 +5,17 @@ use Rattle.i_regexp.specs.Characters.{left_parenthesis, right_parenthesis, verti
 use Rattle.i_regexp.specs.Characters.{comma, right_brace, digit_zero, digit_nine, full_stop, left_bracket, circumflex, hyphen}
 use Rattle.i_regexp.specs.Characters.{right_bracket, reverse_solidus, letter_n, letter_r, letter_t, letter_p, capital_p, line_feed}
 use Rattle.i_regexp.specs.Characters.{carriage_return, horizontal_tab}
+use Rattle.general_category.specs.Categories.{named}
+use Rattle.general_category.specs.declared.Category.{Category}
+use Rattle.i_regexp.specs.declared.class.Item.{Item}
+use Rattle.i_regexp.specs.declared.class.Item.TheVariants.{Range, In, NotIn}
 use Rattle.i_regexp.specs.Forms.{Form, empty, class, concat, alternation, repetition}
 
 -- ---- tokens
 
 -- what a text is made of: one character of a class, the signs around groups and between branches, a quantifier with its counts
 pub data Token : Type 0 where
-  characters : (negated : Bool) (ranges : List (ℕ × ℕ)) → Token
+  characters : (negated : Bool) (items : List Item) → Token
   opened : Token
   closed : Token
   bar : Token
@@ -19,11 +23,11 @@ pub data Token : Type 0 where
 
 -- just this character
 abbrev pub one : ℕ → Token
-one c = characters false ((c, c) ∷ [])
+one c = characters false (Range c c ∷ [])
 
 -- every character but a line feed and a carriage return
 abbrev pub any : Token
-any = characters true ((line_feed, line_feed) ∷ (carriage_return, carriage_return) ∷ [])
+any = characters true (Range line_feed line_feed ∷ Range carriage_return carriage_return ∷ [])
 
 -- whether a character is in the list
 abbrev pub is_one_of : List ℕ → ℕ → Bool
@@ -69,25 +73,38 @@ pub data MemberText : List ℕ → ℕ → Type 0 where
   plain : (c : ℕ) → is_plain c ≡ true → MemberText (c ∷ []) c
   escaped : (letter c : ℕ) → escape_of letter ≡ Some c → MemberText (reverse_solidus ∷ letter ∷ []) c
 
--- CCE1: a character or a range, which does not end before it begins
-pub data ItemText : List ℕ → ℕ × ℕ → Type 0 where
-  single : {cs : List ℕ} {c : ℕ} → MemberText cs c → ItemText cs (c, c)
-  range : {cs ds : List ℕ} {c d : ℕ} → MemberText cs c → MemberText ds d → nat_le c d ≡ true → ItemText (cs ++ hyphen ∷ ds) (c, d)
+-- IsCategory: the name of a group, or of one of its categories
+pub data NameText : List ℕ → Category → Type 0 where
+  group : (letter : ℕ) (k : Category) → named letter None ≡ Some k → NameText (letter ∷ []) k
+  category : (letter own : ℕ) (k : Category) → named letter (Some own) ≡ Some k → NameText (letter ∷ own ∷ []) k
+
+-- charClassEsc: the characters of a category, or all others
+pub data CategoryText : List ℕ → Item → Type 0 where
+  of : {cs : List ℕ} {k : Category} → NameText cs k
+      → CategoryText (reverse_solidus ∷ letter_p ∷ left_brace ∷ (cs ++ right_brace ∷ [])) (In k)
+  others : {cs : List ℕ} {k : Category} → NameText cs k
+      → CategoryText (reverse_solidus ∷ capital_p ∷ left_brace ∷ (cs ++ right_brace ∷ [])) (NotIn k)
+
+-- CCE1: a character, a range, which does not end before it begins, or a category
+pub data ItemText : List ℕ → Item → Type 0 where
+  single : {cs : List ℕ} {c : ℕ} → MemberText cs c → ItemText cs (Range c c)
+  range : {cs ds : List ℕ} {c d : ℕ} → MemberText cs c → MemberText ds d → nat_le c d ≡ true → ItemText (cs ++ hyphen ∷ ds) (Range c d)
+  category : {cs : List ℕ} {i : Item} → CategoryText cs i → ItemText cs i
 
 -- characters and ranges, one after the other
-pub data ItemsText : List ℕ → List (ℕ × ℕ) → Type 0 where
+pub data ItemsText : List ℕ → List Item → Type 0 where
   none : ItemsText [] []
-  more : {cs ds : List ℕ} {r : ℕ × ℕ} {rs : List (ℕ × ℕ)} → ItemText cs r → ItemsText ds rs → ItemsText (cs ++ ds) (r ∷ rs)
+  more : {cs ds : List ℕ} {r : Item} {rs : List Item} → ItemText cs r → ItemsText ds rs → ItemsText (cs ++ ds) (r ∷ rs)
 
 -- what comes first in a class: a `-`, or as the others
-pub data FirstText : List ℕ → ℕ × ℕ → Type 0 where
-  dash : FirstText (hyphen ∷ []) (hyphen, hyphen)
-  item : {cs : List ℕ} {r : ℕ × ℕ} → ItemText cs r → FirstText cs r
+pub data FirstText : List ℕ → Item → Type 0 where
+  dash : FirstText (hyphen ∷ []) (Range hyphen hyphen)
+  item : {cs : List ℕ} {r : Item} → ItemText cs r → FirstText cs r
 
 -- what may come last in a class: a `-`
-pub data LastText : List ℕ → List (ℕ × ℕ) → Type 0 where
+pub data LastText : List ℕ → List Item → Type 0 where
   none : LastText [] []
-  dash : LastText (hyphen ∷ []) ((hyphen, hyphen) ∷ [])
+  dash : LastText (hyphen ∷ []) (Range hyphen hyphen ∷ [])
 
 -- what may stand before the first: a `^`, which negates
 pub data CaretText : List ℕ → Bool → Type 0 where
@@ -107,7 +124,8 @@ pub data Spells : List ℕ → Token → Type 0 where
   normal : (c : ℕ) → is_normal c ≡ true → Spells (c ∷ []) (one c)
   dot : Spells (full_stop ∷ []) any
   escaped : (letter c : ℕ) → escape_of letter ≡ Some c → Spells (reverse_solidus ∷ letter ∷ []) (one c)
-  bracket : {hs bs cs ds : List ℕ} {negated : Bool} {r : ℕ × ℕ} {rs ls : List (ℕ × ℕ)}
+  category : {cs : List ℕ} {i : Item} → CategoryText cs i → Spells cs (characters false (i ∷ []))
+  bracket : {hs bs cs ds : List ℕ} {negated : Bool} {r : Item} {rs ls : List Item}
       → CaretText hs negated → FirstText bs r → (negated ≡ false → begins_with_caret bs ≡ false) → ItemsText cs rs → LastText ds ls
       → Spells (left_bracket ∷ (hs ++ (bs ++ (cs ++ (ds ++ right_bracket ∷ []))))) (characters negated (r ∷ (rs ++ ls)))
   star : Spells (asterisk ∷ []) (quantifier 0 None)
@@ -126,16 +144,6 @@ pub data Spelled : List ℕ → List Token → Type 0 where
   none : Spelled [] []
   more : {cs ds : List ℕ} {t : Token} {ts : List Token} → Spells cs t → Spelled ds ts → Spelled (cs ++ ds) (t ∷ ts)
 
--- whether the letter of a category comes first
-abbrev pub begins_category : List ℕ → Bool
-begins_category [] = false
-begins_category (c ∷ cs) = (c == letter_p) || (c == capital_p)
-
--- whether a backslash and the letter of a category stand side by side somewhere, as in `\p{L}`
-abbrev pub has_category : List ℕ → Bool
-has_category [] = false
-has_category (c ∷ cs) = ((c == reverse_solidus) && begins_category cs) || has_category cs
-
 -- ---- expressions
 
 -- i-regexp: branches with a bar between them; branch: pieces; piece: an atom, which may have a quantifier
@@ -153,7 +161,7 @@ mutual
     times : Atom → (least : ℕ) (most : Option ℕ) → Piece
 
   pub data Atom : Type 0 where
-    character : (negated : Bool) (ranges : List (ℕ × ℕ)) → Atom
+    character : (negated : Bool) (items : List Item) → Atom
     group : Regexp → Atom
 
 -- the tokens of an expression, one after the other
@@ -171,7 +179,7 @@ abbrev mutual
   piece_tokens (times a least most) = atom_tokens a ++ quantifier least most ∷ []
 
   pub atom_tokens : Atom → List Token
-  atom_tokens (character negated ranges) = characters negated ranges ∷ []
+  atom_tokens (character negated items) = characters negated items ∷ []
   atom_tokens (group r) = opened ∷ (regexp_tokens r ++ closed ∷ [])
 
 -- what an expression matches, in the words of `Forms`
@@ -189,7 +197,7 @@ abbrev mutual
   piece_form (times a least most) = repetition (atom_form a) least most
 
   pub atom_form : Atom → Form
-  atom_form (character negated ranges) = class negated ranges
+  atom_form (character negated items) = class negated items
   atom_form (group r) = regexp_form r
 
 -- the text is in the grammar, and is this regular expression

@@ -70,7 +70,7 @@ close l (o ∷ ls) = Some (with_atom o (group (regexp_of l)), ls)
 
 -- a token is read
 abbrev pub advance : State → Token → Option State
-advance s (characters negated ranges) = Some (with_atom s.0 (character negated ranges), s.1)
+advance s (characters negated items) = Some (with_atom s.0 (character negated items), s.1)
 advance s opened = Some (fresh, s.0 ∷ s.1)
 advance s closed = close s.0 s.1
 advance s bar = Some (barred s.0, s.1)
@@ -156,7 +156,6 @@ Quantifies old least most (Ok x) new =
     → (l' : Level) × (quantified l least most ≡ Some l') × StandsAt new l'
     × ((ls : List Level) → IsSized old (l, ls) → IsSized new (l', ls))
 Quantifies old least most (Err kind.Invalid) new = (l : Level) → StandsAt old l → quantified l least most ≡ None
-Quantifies old least most (Err kind.UnsupportedCategory) new = ⊥
 Quantifies old least most (Err kind.TooDeep) new = ⊥
 Quantifies old least most (Err kind.TooLarge) new =
     (l : Level) → StandsAt old l
@@ -168,7 +167,6 @@ abbrev pub Takes : CodeLevel → List CodeLevel → Token → Result (Unit {0}) 
 Takes here outer t (Ok x) here' outer' =
     (s : State) → Agrees here outer s → (s' : State) × (advance s t ≡ Some s') × Agrees here' outer' s'
 Takes here outer t (Err kind.Invalid) here' outer' = (s : State) → Agrees here outer s → advance s t ≡ None
-Takes here outer t (Err kind.UnsupportedCategory) here' outer' = ⊥
 Takes here outer t (Err kind.TooDeep) here' outer' = (t ≡ opened) × (depth_limit ≤ length outer)
 Takes here outer t (Err kind.TooLarge) here' outer' =
     (s : State) → Agrees here outer s → (s' : State) × (advance s t ≡ Some s') × (size_limit < state_size s')

@@ -53,7 +53,7 @@ abbrev mutual
   piece_size (times a least most) = atom_size a + repeated least most * atom_size a
 
   pub atom_size : Atom → ℕ
-  atom_size (character negated ranges) = 1
+  atom_size (character negated items) = 1
   atom_size (group r) = suc (regexp_size r)
 
 -- A number stands at the front that is greater than the limit.

@@ -7,7 +7,7 @@ use Rattle.i_regexp.specs.Forms.{Form, empty, class, concat, alternation, repeti
 -- the regular expression that the tree is
 abbrev pub form_of : Node → Form
 form_of Empty = empty
-form_of (Class cl mark) = class cl.negated cl.ranges.items
+form_of (Class cl mark) = class cl.negated cl.items.items
 form_of (Concat' p l q r le re ends) = concat (form_of l) (form_of r)
 form_of (Alternation' p l q r) = alternation (form_of l) (form_of r)
 form_of (Star' p b ends) = repetition (form_of b) 0 None
@@ -49,7 +49,7 @@ Continues (Star' p b ends) ds =
 -- the tree once the marks are moved over a character, which a text can begin with where `start` is true
 abbrev pub shifted : Bool → ℕ → Node → Node
 shifted start c Empty = Empty
-shifted start c (Class cl mark) = Class cl (start && is_in_class cl.negated cl.ranges.items c)
+shifted start c (Class cl mark) = Class cl (start && is_in_class cl.negated cl.items.items c)
 shifted start c (Concat' p l q r le re ends) =
     Concat' p (shifted start c l) q (shifted (ends || (start && le)) c r) le re (ends_here (shifted start c l))
 shifted start c (Alternation' p l q r) = Alternation' p (shifted start c l) q (shifted start c r)

@@ -3,12 +3,11 @@ use Rattle.std.specs.Prelude.{ℕ, List, ◌++◌, codes}
 use Rattle.std.specs.Fmt.{decimal}
 use Rattle.i_regexp.specs.declared.error.IRegexpError.{IRegexpError}
 use Rattle.i_regexp.specs.declared.error.IRegexpErrorKind.{IRegexpErrorKind}
-use Rattle.i_regexp.specs.declared.error.IRegexpErrorKind.TheVariants.{Invalid, UnsupportedCategory, TooDeep, TooLarge, OutOfMemory}
+use Rattle.i_regexp.specs.declared.error.IRegexpErrorKind.TheVariants.{Invalid, TooDeep, TooLarge, OutOfMemory}
 
 -- the message of a kind
 abbrev pub kind_message : IRegexpErrorKind → List ℕ
 kind_message Invalid = codes "no regular expression of RFC 9485"
-kind_message UnsupportedCategory = codes "categories of characters are not supported"
 kind_message TooDeep = codes "the groups are too deep"
 kind_message TooLarge = codes "the regular expression is too large"
 kind_message OutOfMemory = codes "out of memory"

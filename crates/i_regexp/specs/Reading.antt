@@ -6,7 +6,7 @@ use Rattle.i_regexp.specs.declared.error.IRegexpErrorKind.TheVariants as kind
 use Rattle.i_regexp.specs.declared.marked.Node.{Node}
 use Rattle.i_regexp.specs.Building.{Means}
 use Rattle.i_regexp.specs.Characters.{left_parenthesis}
-use Rattle.i_regexp.specs.Grammar.{Token, Spells, Spelled, has_category, Regexp, IsText, regexp_form}
+use Rattle.i_regexp.specs.Grammar.{Token, Spells, Spelled, Regexp, IsText, regexp_form}
 use Rattle.i_regexp.specs.Limits.{depth_limit, begun_groups, ended_groups, size_limit, regexp_size, LargeCount}
 
 -- Some regular expression begins with these characters.
@@ -38,7 +38,6 @@ pub record GrowsTooLarge (front rest : List ℕ) : Type 0 where
 -- what a kind of error says of a text that is these tokens, of which the characters are the front, and the rest
 abbrev pub Says : List ℕ → List ℕ → List Token → List ℕ → IRegexpErrorKind → Type 0
 Says cs front tokens rest kind.Invalid = ((r : Regexp) → IsText cs r → ⊥) × Stops front rest
-Says cs front tokens rest kind.UnsupportedCategory = has_category rest ≡ true
 Says cs front tokens rest kind.TooDeep = OpensTooMany tokens rest
 Says cs front tokens rest kind.TooLarge = LargeCount rest ⊎ GrowsTooLarge front rest
 Says cs front tokens rest kind.OutOfMemory = Unit {0}

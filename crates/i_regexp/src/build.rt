@@ -10,7 +10,7 @@ use std::alloc::{AllocError, Global};
 
 /// One character of a class.
 pub(crate) fn one_of(members: Class) -> Node
-    ensures { Means result (class members.negated members.ranges.items) }
+    ensures { Means result (class members.negated members.items.items) }
 {
     Node::Class {
         class: members,

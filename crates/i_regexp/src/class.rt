@@ -1,71 +1,95 @@
 //! Classes of characters.
 ghost use Rattle.std.specs.Prelude.{◌≡◌, IfOk, [], ◌∷◌, Bool, true, false};
 ghost use Rattle.i_regexp.specs.Characters.{line_feed, carriage_return};
-ghost use Rattle.i_regexp.specs.Forms.{is_within, is_in_class};
+ghost use Rattle.i_regexp.specs.Forms.{is_item, is_within, is_in_class};
+ghost use Rattle.i_regexp.specs.declared.class.Item.TheVariants.{Range};
 
+use general_category::Category;
 use std::alloc::{AllocError, Global};
 
-/// Characters: those in one of the ranges, or, where it is negated, the others.
+/// What a class has: the characters from the first to the last, those of a category, or all that are
+/// not of one.
+#[derive(Clone, Copy)]
+pub(crate) enum Item {
+    Range(char, char),
+    In(Category),
+    NotIn(Category),
+}
+
+impl Item {
+    /// Whether it stands for the character.
+    fn has(&self, c: char) -> bool
+        ensures { result ≡ is_item self.now c }
+    {
+        match self {
+            Item::Range(first, last) => *first <= c && c <= *last,
+            Item::In(category) => category.contains(c),
+            Item::NotIn(category) => !category.contains(c),
+        }
+    }
+}
+
+/// Characters: those that an item stands for, or, where it is negated, the others.
 #[derive(Drop)]
 pub(crate) struct Class {
     pub(crate) negated: bool,
-    pub(crate) ranges: Vec<(char, char)>,
+    pub(crate) items: Vec<Item>,
 }
 
 impl Class {
-    /// One character.
-    pub(crate) fn single(alloc: Global, c: char) -> Result<Class, AllocError>
+    /// The characters of one item.
+    pub(crate) fn single(alloc: Global, item: Item) -> Result<Class, AllocError>
         ensures negated { IfOk result (λ k. k.negated ≡ false) }
-        ensures ranges { IfOk result (λ k. k.ranges.items ≡ (c, c) ∷ []) }
+        ensures items { IfOk result (λ k. k.items.items ≡ item ∷ []) }
     {
-        let mut ranges = Vec::new(alloc);
-        ranges.push((c, c))?;
+        let mut items = Vec::new(alloc);
+        items.push(item)?;
         Ok(Class {
             negated: false,
-            ranges,
+            items,
         })
     }
 
     /// Every character but the ends of lines.
     pub(crate) fn dot(alloc: Global) -> Result<Class, AllocError>
         ensures negated { IfOk result (λ k. k.negated ≡ true) }
-        ensures ranges { IfOk result (λ k. k.ranges.items
-            ≡ (line_feed, line_feed) ∷ (carriage_return, carriage_return) ∷ []) }
+        ensures items { IfOk result (λ k. k.items.items
+            ≡ Range line_feed line_feed ∷ Range carriage_return carriage_return ∷ []) }
     {
-        let mut ranges = Vec::new(alloc);
-        ranges.push(('\n', '\n'))?;
-        ranges.push(('\r', '\r'))?;
+        let mut items = Vec::new(alloc);
+        items.push(Item::Range('\n', '\n'))?;
+        items.push(Item::Range('\r', '\r'))?;
         Ok(Class {
             negated: true,
-            ranges,
+            items,
         })
     }
 
     /// A copy of the class.
     pub(crate) fn copy(&self, alloc: Global) -> Result<Class, AllocError>
         ensures negated { IfOk result (λ k. k.negated ≡ self.now.negated) }
-        ensures ranges { IfOk result (λ k. k.ranges.items ≡ self.now.ranges.items) }
+        ensures items { IfOk result (λ k. k.items.items ≡ self.now.items.items) }
     {
         Ok(Class {
             negated: self.negated,
-            ranges: Vec::from_slice(alloc, self.ranges.as_slice())?,
+            items: Vec::from_slice(alloc, self.items.as_slice())?,
         })
     }
 
     /// Whether the character is in the class.
     pub(crate) fn contains(&self, c: char) -> bool
-        ensures { result ≡ is_in_class self.now.negated self.now.ranges.items c }
+        ensures { result ≡ is_in_class self.now.negated self.now.items.items c }
     {
-        is_within(self.ranges.as_slice(), c) != self.negated
+        is_within(self.items.as_slice(), c) != self.negated
     }
 }
 
-/// Whether the character is in one of the ranges.
-fn is_within(ranges: &[(char, char)], c: char) -> bool
-    ensures { result ≡ is_within ranges.now c }
+/// Whether one of the items stands for the character.
+fn is_within(items: &[Item], c: char) -> bool
+    ensures { result ≡ is_within items.now c }
 {
-    for (first, last) in ranges {
-        if *first <= c && c <= *last {
+    for item in items {
+        if item.has(c) {
             return true;
         }
     }

@@ -18,8 +18,6 @@ pub enum IRegexpErrorKind {
     /// The text is not in the grammar (RFC 9485, section 3), or a range or a quantifier ends before
     /// it begins.
     Invalid,
-    /// A category of characters, `\p{..}` or `\P{..}`, which the grammar has and this crate has not.
-    UnsupportedCategory,
     /// More than 200 groups are open at once.
     TooDeep,
     /// With each repetition written out, there are more than 10,000 characters, classes, groups and
@@ -51,7 +49,6 @@ impl fmt::Display for IRegexpErrorKind {
     fn fmt<W: fmt::Write>(&self, f: &mut fmt::Formatter<W>) -> fmt::Result {
         f.write_str(match self {
             IRegexpErrorKind::Invalid => "no regular expression of RFC 9485",
-            IRegexpErrorKind::UnsupportedCategory => "categories of characters are not supported",
             IRegexpErrorKind::TooDeep => "the groups are too deep",
             IRegexpErrorKind::TooLarge => "the regular expression is too large",
             IRegexpErrorKind::OutOfMemory => "out of memory",

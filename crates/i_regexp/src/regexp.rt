@@ -27,9 +27,9 @@ pub struct IRegexp {
 impl IRegexp {
     ghost use Rattle.i_regexp.specs.Regexps.{form_in, ReadsRegexp};
 
-    /// Reads a regular expression: a text of the grammar (RFC 9485, section 3) with no category of
-    /// characters. `^` and `$` stand for themselves, but for a `^` behind `[`, which negates. After an
-    /// error nothing is left of what was read.
+    /// Reads a regular expression: a text of the grammar (RFC 9485, section 3). `^` and `$` stand for
+    /// themselves, but for a `^` behind `[`, which negates. After an error nothing is left of what was
+    /// read.
     ///
     /// ```
     /// let mut month = IRegexp::parse(alloc, "[0-9]{4}-[0-9]{2}")?;

@@ -1,15 +1,18 @@
 //! The tokens of a text.
 ghost use Rattle.std.specs.Prelude.{◌≡◌, ℕ, ◌<◌, ◌≤◌, [], ◌∷◌, length};
-ghost use Rattle.i_regexp.specs.Characters.{reverse_solidus, left_brace};
+ghost use Rattle.i_regexp.specs.Characters.{left_brace};
 ghost use Rattle.i_regexp.specs.Limits.{LargeNumber, LargeCount};
 ghost use Rattle.i_regexp.specs.Grammar.{is_normal, is_plain, is_digit, escape_of};
 ghost use Rattle.i_regexp.specs.Fronts.{Fronts, token_of, escape_front, member_front, item_front};
 ghost use Rattle.i_regexp.specs.Fronts.{number_front, counts_front, class_front, first_front};
-ghost use Rattle.i_regexp.specs.Fronts.{bracket_front, token_front};
+ghost use Rattle.i_regexp.specs.Fronts.{bracket_front, token_front, escape_token, category_front};
+ghost use Rattle.i_regexp.specs.Fronts.{is_category_letter, name_front, named_front};
+ghost use Rattle.i_regexp.specs.Fronts.{begins_category, characters_front};
 
-use crate::class::Class;
+use crate::class::{Class, Item};
 use crate::error::IRegexpErrorKind;
 use crate::limits::SIZE;
+use general_category::Category;
 use std::alloc::Global;
 
 /// A part of a text that has a meaning of its own.
@@ -28,7 +31,7 @@ pub(crate) fn next_token<'t>(
     alloc: Global,
     text: &'t [char],
 ) -> Result<(Token, &'t [char]), IRegexpErrorKind>
-    ensures { Fronts (LargeCount text.now) token_of text.now (token_front text.now) result }
+    ensures { Fronts (LargeCount text.now) token_of (token_front text.now) result }
 {
     let Some((first, rest)) = text.split_first() else {
         return Err(IRegexpErrorKind::Invalid);
@@ -60,14 +63,11 @@ pub(crate) fn next_token<'t>(
         )),
         '{' => counts(rest),
         '.' => Ok((Token::Characters(Class::dot(alloc)?), rest)),
-        '\\' => {
-            let (c, after) = escaped(rest)?;
-            Ok((Token::Characters(Class::single(alloc, c)?), after))
-        }
+        '\\' => escape_token(alloc, rest),
         '[' => bracket(alloc, rest),
         c => {
             if is_normal(c) {
-                Ok((Token::Characters(Class::single(alloc, c)?), rest))
+                Ok((Token::Characters(Class::single(alloc, Item::Range(c, c))?), rest))
             } else {
                 Err(IRegexpErrorKind::Invalid)
             }
@@ -109,26 +109,104 @@ fn escape(letter: char) -> Option<char>
 
 /// The character that stands behind a backslash.
 fn escaped(text: &[char]) -> Result<(char, &[char]), IRegexpErrorKind>
-    ensures { Fronts ⊥ (λ c. c) (reverse_solidus ∷ text.now) (escape_front text.now) result }
+    ensures { Fronts ⊥ (λ c. c) (escape_front text.now) result }
 {
     let Some((first, rest)) = text.split_first() else {
         return Err(IRegexpErrorKind::Invalid);
     };
     match escape(*first) {
         Some(c) => Ok((c, rest)),
-        None => {
-            if matches!(*first, 'p' | 'P') {
-                Err(IRegexpErrorKind::UnsupportedCategory)
-            } else {
-                Err(IRegexpErrorKind::Invalid)
-            }
-        }
+        None => Err(IRegexpErrorKind::Invalid),
+    }
+}
+
+/// The category or the character that stands behind a backslash.
+fn escape_token<'t>(
+    alloc: Global,
+    text: &'t [char],
+) -> Result<(Token, &'t [char]), IRegexpErrorKind>
+    ensures { Fronts ⊥ token_of (escape_token text.now) result }
+{
+    if is_category_letter(text) {
+        let (item, after) = category(text)?;
+        return Ok((Token::Characters(Class::single(alloc, item)?), after));
+    }
+    let (c, after) = escaped(text)?;
+    Ok((Token::Characters(Class::single(alloc, Item::Range(c, c))?), after))
+}
+
+/// Whether the letter of a category stands here.
+fn is_category_letter(text: &[char]) -> bool
+    ensures { result ≡ is_category_letter text.now }
+{
+    match text.split_first() {
+        Some((first, _)) => *first == 'p' || *first == 'P',
+        None => false,
+    }
+}
+
+/// The category that stands behind a backslash.
+fn category(text: &[char]) -> Result<(Item, &[char]), IRegexpErrorKind>
+    ensures { Fronts ⊥ (λ i. i) (category_front text.now) result }
+{
+    let Some((letter, rest)) = text.split_first() else {
+        return Err(IRegexpErrorKind::Invalid);
+    };
+    let (category, after) = name(rest)?;
+    if *letter == 'p' {
+        return Ok((Item::In(category), after));
+    }
+    if *letter == 'P' {
+        return Ok((Item::NotIn(category), after));
+    }
+    Err(IRegexpErrorKind::Invalid)
+}
+
+/// The category of which the name stands in braces here.
+fn name(text: &[char]) -> Result<(Category, &[char]), IRegexpErrorKind>
+    ensures { Fronts ⊥ (λ k. k) (name_front text.now) result }
+{
+    let Some((brace, rest)) = text.split_first() else {
+        return Err(IRegexpErrorKind::Invalid);
+    };
+    let Some((group, rest)) = rest.split_first() else {
+        return Err(IRegexpErrorKind::Invalid);
+    };
+    let Some((letter, after)) = rest.split_first() else {
+        return Err(IRegexpErrorKind::Invalid);
+    };
+    if *brace != '{' {
+        return Err(IRegexpErrorKind::Invalid);
+    }
+    if *letter == '}' {
+        return named(*group, None, after);
+    }
+    let Some((last, after)) = after.split_first() else {
+        return Err(IRegexpErrorKind::Invalid);
+    };
+    if *last != '}' {
+        return Err(IRegexpErrorKind::Invalid);
+    }
+    named(*group, Some(*letter), after)
+}
+
+/// The category of this name, which the text follows.
+fn named(
+    group: char,
+    letter: Option<char>,
+    after: &[char],
+) -> Result<(Category, &[char]), IRegexpErrorKind>
+    ensures { Fronts ⊥ (λ k. k) (named_front group letter after.now) result }
+{
+    match Category::named(group, letter) {
+        Some(category) => Ok((category, after)),
+        None => Err(IRegexpErrorKind::Invalid),
     }
 }
 
 /// The quantifier of which the counts stand behind a brace.
 fn counts(text: &[char]) -> Result<(Token, &[char]), IRegexpErrorKind>
-    ensures { Fronts (LargeCount (left_brace ∷ text.now)) token_of [] (counts_front text.now) result }
+    ensures { Fronts (LargeCount (left_brace ∷ text.now)) token_of (counts_front text.now) result }
 {
     let (least, rest) = number(text)?;
     let Some((next, after)) = rest.split_first() else {
@@ -170,7 +248,7 @@ fn counts(text: &[char]) -> Result<(Token, &[char]), IRegexpErrorKind>
 
 /// The number that the digits at the front are.
 fn number(text: &[char]) -> Result<(usize, &[char]), IRegexpErrorKind>
-    ensures { Fronts (LargeNumber text.now) (λ n. n) [] (number_front text.now) result }
+    ensures { Fronts (LargeNumber text.now) (λ n. n) (number_front text.now) result }
 {
     let Some((first, after)) = text.split_first() else {
         return Err(IRegexpErrorKind::Invalid);
@@ -201,7 +279,7 @@ fn is_digit(c: char) -> bool
 
 /// The class that stands behind an opening bracket.
 fn bracket<'t>(alloc: Global, text: &'t [char]) -> Result<(Token, &'t [char]), IRegexpErrorKind>
-    ensures { Fronts ⊥ token_of text.now (bracket_front text.now) result }
+    ensures { Fronts ⊥ token_of (bracket_front text.now) result }
 {
     let Some((next, after)) = text.split_first() else {
         return Err(IRegexpErrorKind::Invalid);
@@ -219,34 +297,34 @@ fn class<'t>(
     text: &'t [char],
 ) -> Result<(Token, &'t [char]), IRegexpErrorKind>
     ensures { (n : ℕ) → length text.now ≤ n
-        → Fronts ⊥ token_of text.now (first_front n negated text.now) result }
+        → Fronts ⊥ token_of (first_front n negated text.now) result }
 {
     let Some((next, after)) = text.split_first() else {
         return Err(IRegexpErrorKind::Invalid);
     };
     if *next == '-' {
-        return class_from(alloc, negated, ('-', '-'), after);
+        return class_from(alloc, negated, Item::Range('-', '-'), after);
     }
-    let (range, after) = item(text)?;
-    class_from(alloc, negated, range, after)
+    let (first, after) = item(text)?;
+    class_from(alloc, negated, first, after)
 }
 
 /// The class that begins with this item, and of which the others stand here.
 fn class_from<'t>(
     alloc: Global,
     negated: bool,
-    first: (char, char),
+    first: Item,
     text: &'t [char],
 ) -> Result<(Token, &'t [char]), IRegexpErrorKind>
     ensures { (n : ℕ) → length text.now < n
-        → Fronts ⊥ token_of text.now (class_front n negated (first, text.now)) result }
+        → Fronts ⊥ token_of (class_front n negated (first, text.now)) result }
 {
-    let mut ranges = Vec::new(alloc);
-    ranges.push(first)?;
+    let mut items = Vec::new(alloc);
+    items.push(first)?;
     let mut rest = text;
     while let Some((next, after)) = rest.split_first() {
         if *next == ']' {
-            return Ok((Token::Characters(Class { negated, ranges }), after));
+            return Ok((Token::Characters(Class { negated, items }), after));
         }
         if *next == '-' {
             let Some((last, end)) = after.split_first() else {
@@ -255,44 +333,67 @@ fn class_from<'t>(
             if *last != ']' {
                 return Err(IRegexpErrorKind::Invalid);
             }
-            ranges.push(('-', '-'))?;
-            return Ok((Token::Characters(Class { negated, ranges }), end));
+            items.push(Item::Range('-', '-'))?;
+            return Ok((Token::Characters(Class { negated, items }), end));
         }
-        let (range, after) = item(rest)?;
-        ranges.push(range)?;
+        let (item, after) = item(rest)?;
+        items.push(item)?;
         rest = after;
     }
     Err(IRegexpErrorKind::Invalid)
 }
 
+/// An item of a class: a character, a range, or a category.
+fn item(text: &[char]) -> Result<(Item, &[char]), IRegexpErrorKind>
+    ensures { Fronts ⊥ (λ i. i) (item_front text.now) result }
+{
+    if !begins_category(text) {
+        return characters(text);
+    }
+    let Some((_, rest)) = text.split_first() else {
+        return Err(IRegexpErrorKind::Invalid);
+    };
+    category(rest)
+}
+
+/// Whether a category stands here.
+fn begins_category(text: &[char]) -> bool
+    ensures { result ≡ begins_category text.now }
+{
+    match text.split_first() {
+        Some((first, rest)) => *first == '\\' && is_category_letter(rest),
+        None => false,
+    }
+}
+
 /// A character of a class, or a range of them.
-fn item(text: &[char]) -> Result<((char, char), &[char]), IRegexpErrorKind>
-    ensures { Fronts ⊥ (λ r. r) text.now (item_front text.now) result }
+fn characters(text: &[char]) -> Result<(Item, &[char]), IRegexpErrorKind>
+    ensures { Fronts ⊥ (λ r. r) (characters_front text.now) result }
 {
     let (first, rest) = member(text)?;
     let Some((next, after)) = rest.split_first() else {
-        return Ok(((first, first), rest));
+        return Ok((Item::Range(first, first), rest));
     };
     if *next != '-' {
-        return Ok(((first, first), rest));
+        return Ok((Item::Range(first, first), rest));
     }
     let Some((next, _)) = after.split_first() else {
         return Err(IRegexpErrorKind::Invalid);
     };
     // the last `-` of a class
     if *next == ']' {
-        return Ok(((first, first), rest));
+        return Ok((Item::Range(first, first), rest));
     }
     let (last, after) = member(after)?;
     if last < first {
         return Err(IRegexpErrorKind::Invalid);
     }
-    Ok(((first, last), after))
+    Ok((Item::Range(first, last), after))
 }
 
 /// A character of a class, as it stands or behind a backslash.
 fn member(text: &[char]) -> Result<(char, &[char]), IRegexpErrorKind>
-    ensures { Fronts ⊥ (λ c. c) text.now (member_front text.now) result }
+    ensures { Fronts ⊥ (λ c. c) (member_front text.now) result }
 {
     let Some((first, rest)) = text.split_first() else {
         return Err(IRegexpErrorKind::Invalid);

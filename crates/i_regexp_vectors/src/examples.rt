@@ -1,5 +1,6 @@
 //! The examples of the documentation, as they are written there.
 
+use general_category::Category;
 use i_regexp::{IRegexp, IRegexpErrorKind};
 use std::string::ToString;
 use std::test::Fail;
@@ -41,5 +42,21 @@ fn errors(rt: HostRuntime) -> Result<(), Fail> {
             "no regular expression of RFC 9485 at character 2"
         );
     }
+    Ok(())
+}
+
+#[test]
+fn categories(rt: HostRuntime) -> Result<(), Fail> {
+    let capital = Category::named('L', Some('u'));
+    assert!(rt; capital.is_some_and(|k| k.contains('É') && !k.contains('é')));
+
+    let digit = Category::named('N', Some('d'));
+    assert!(rt; digit.is_some_and(|k| k.contains('7') && !k.contains('x')));
+
+    assert!(rt; Category::named('N', Some('d')).is_some());
+    assert!(rt; Category::named('N', Some('x')).is_none());
+
+    let letter = Category::named('L', None);
+    assert!(rt; letter.is_some_and(|k| k.contains('é') && !k.contains('7')));
     Ok(())
 }

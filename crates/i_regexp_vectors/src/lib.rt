@@ -1,6 +1,9 @@
-//! Tests of `i_regexp`: the examples of its documentation, and what none of its contracts says.
+//! Tests of `i_regexp` and `general_category`: the examples of their documentation, and what none of
+//! their contracts says.
 #![tactic(auto)]
 
+#[cfg(test)]
+mod categories;
 #[cfg(test)]
 mod examples;
 #[cfg(test)]

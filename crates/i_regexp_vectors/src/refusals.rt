@@ -1,6 +1,6 @@
 //! Which texts are refused, why, and where.
 
-use i_regexp::IRegexpErrorKind::{Invalid, TooLarge, UnsupportedCategory};
+use i_regexp::IRegexpErrorKind::{Invalid, TooLarge};
 use i_regexp::{IRegexp, IRegexpErrorKind};
 use std::test::Fail;
 
@@ -28,8 +28,14 @@ const ROWS: &[(&str, IRegexpErrorKind, usize)] = &[
     ("a{,2}", Invalid, 1),
     ("a{3,2}", Invalid, 1),
     ("a{2", Invalid, 1),
-    ("\\p{L}", UnsupportedCategory, 0),
-    ("[a\\P{Lu}]", UnsupportedCategory, 0),
+    ("\\pL", Invalid, 0),
+    ("\\p{}", Invalid, 0),
+    ("\\p{L", Invalid, 0),
+    ("\\p{Lx}", Invalid, 0),
+    ("\\p{Cs}", Invalid, 0),
+    ("\\p{Lu }", Invalid, 0),
+    ("a\\P{IsBasicLatin}", Invalid, 1),
+    ("[a-\\p{L}]", Invalid, 0),
     ("a{10001}", TooLarge, 1),
     ("(a{101}){101}", TooLarge, 8),
     // the first token with which it is too large

@@ -9,7 +9,7 @@ use Rattle.i_regexp.proofs.reader.take.Goals as goal
 pub returns-in_default : goal.returns-in_default
 returns-in_default c = λ s a.
     let k = c.in-Characters.class in
-    let atom = character k.negated k.ranges.items in (
+    let atom = character k.negated k.items.items in (
       (with_atom s.0 atom, s.1),
       ap (λ t. advance s (token_of t)) c.in-Characters.is,
       put_large c.args.here.now s.0 s.1 atom a.1 refl c.in_default.ensures,
@@ -18,7 +18,7 @@ returns-in_default c = λ s a.
 pub returns-in_ok-put-in-Characters : goal.returns-in_ok-put-in-Characters
 returns-in_ok-put-in-Characters c = λ s a.
     let k = c.in-Characters.class in
-    let atom = character k.negated k.ranges.items in (
+    let atom = character k.negated k.items.items in (
       (with_atom s.0 atom, s.1),
       ap (λ t. advance s (token_of t)) c.in-Characters.is,
       (
