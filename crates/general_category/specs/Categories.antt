@@ -1,5 +1,5 @@
 -- The general categories of characters, and the names that RFC 9485 (section 3, IsCategory) has for them and for their groups.
-use Rattle.std.specs.Prelude.{◌≡◌, ℕ, ◌+◌, Bool, ◌&&◌, ◌==◌, nat_le, cond, List, [], ◌∷◌, Option, Some, None, option_map, codes}
+use Rattle.std.specs.Prelude.{ℕ, ◌+◌, Bool, ◌&&◌, ◌==◌, nat_le, cond, List, [], ◌∷◌, Option, Some, None, option_map, codes}
 use Rattle.general_category.specs.declared.Category.{Category}
 use Rattle.general_category.specs.declared.table.TheConstants.{RUNS}
 use Rattle.general_category.specs.Runs.{run_category}

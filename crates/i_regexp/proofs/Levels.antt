@@ -143,8 +143,7 @@ outer_pop fs gs f [] e o =
 outer_pop fs gs f (l ∷ ls) e o =
     let same : o.0 ++ o.1 ∷ [] ≡ fs ++ f ∷ [] = sym o.2 ∙ e in
     let front : o.0 ≡ fs = sym (front_push o.0 o.1) ∙ (ap front_of same ∙ front_push fs f) in
-    let back : o.1 ≡ f = sym (last_push f o.0 o.1) ∙ (ap (last_of f) same ∙ last_push f fs f) in
-    (
+    let back : o.1 ≡ f = sym (last_push f o.0 o.1) ∙ (ap (last_of f) same ∙ last_push f fs f) in (
       l,
       ls,
       refl,

@@ -1,9 +1,9 @@
 -- The marks of a tree stand for what may come next.
-use Rattle.std.proofs.Common.{◌≡◌, ℕ, zero, suc, ◌≤◌, Bool, true, ◌&&◌, ◌||◌, List, [], ◌∷◌, ◌++◌, None, ◌⊎◌, inl, inr, refl, sym, ap, ◌∙◌}
-use Rattle.std.proofs.Common.{subst, arith, true≢false}
-use Rattle.std.proofs.lemmas.Bool.{and_parts, and_from, or_cases, or_left, or_right}
+use Rattle.std.proofs.Common.{◌≡◌, ℕ, zero, suc, ◌≤◌, Bool, true, false, ◌&&◌, ◌||◌, List, [], ◌∷◌, ◌++◌, None, ◌⊎◌, inl, inr}
+use Rattle.std.proofs.Common.{refl, sym, ap, ◌∙◌, subst, arith, true≢false}
+use Rattle.std.proofs.lemmas.Bool.{and_parts, and_from, or_cases, or_parts, or_from, or_left, or_right}
 use Rattle.i_regexp.specs.Forms.{repetition, is_in_class, Matches, Parts}
-use Rattle.i_regexp.specs.Marked.{form_of, skips, ends_here, IsKept, Continues, shifted}
+use Rattle.i_regexp.specs.Marked.{form_of, skips, ends_here, is_marked, IsKept, Continues, shifted}
 use Rattle.i_regexp.specs.declared.marked.Node.{Node}
 use Rattle.i_regexp.specs.declared.marked.Node.TheVariants.{Empty, Class, Concat', Alternation', Star'}
 
@@ -22,7 +22,7 @@ back_empty (x ∷ xs) ys e = cc
 pub skips_sound : (n : Node) → skips n ≡ true → Matches (form_of n) []
 skips_sound Empty h = refl
 skips_sound (Class cl mark) h = absurd (true≢false (sym h))
-skips_sound (Concat' p l q r le re ends) h =
+skips_sound (Concat' p l q r le re ends m) h =
     let both = and_parts (skips l) (skips r) h in
     ([], [], refl, skips_sound l both.0, skips_sound r both.1)
 skips_sound (Alternation' p l q r) h =
@@ -32,7 +32,7 @@ skips_sound (Star' p b ends) h = (0, omega arith, tt, refl)
 pub skips_complete : (n : Node) → Matches (form_of n) [] → skips n ≡ true
 skips_complete Empty h = refl
 skips_complete (Class cl mark) h = let e : [] ≡ h.0 ∷ [] = h.1 in cc
-skips_complete (Concat' p l q r le re ends) h =
+skips_complete (Concat' p l q r le re ends m) h =
     and_from (skips l) (skips r)
     (skips_complete l (subst (Matches (form_of l)) (front_empty h.0 h.1 h.2) h.3))
     (skips_complete r (subst (Matches (form_of r)) (back_empty h.0 h.1 h.2) h.4))
@@ -45,7 +45,7 @@ skips_complete (Star' p b ends) h = refl
 pub ends_sound : (n : Node) → IsKept n → ends_here n ≡ true → Continues n []
 ends_sound Empty k h = absurd (true≢false (sym h))
 ends_sound (Class cl mark) k h = (h, refl)
-ends_sound (Concat' p l q r le re ends) k h =
+ends_sound (Concat' p l q r le re ends m) k h =
     elim (or_cases (ends_here r) (ends_here l && re) h) [
       | inl a ↦ inl (ends_sound r k.4 a)
       | inr b ↦
@@ -59,7 +59,7 @@ ends_sound (Star' p b ends) k h = ([], [], refl, ends_sound b k.1 h, (0, omega a
 pub ends_complete : (n : Node) → IsKept n → Continues n [] → ends_here n ≡ true
 ends_complete Empty k h = absurd h
 ends_complete (Class cl mark) k h = h.0
-ends_complete (Concat' p l q r le re ends) k h =
+ends_complete (Concat' p l q r le re ends m) k h =
     elim h [
       | inl a ↦ or_left (ends_here r) (ends_here l && re) (ends_complete r k.4 a)
       | inr b ↦
@@ -80,7 +80,7 @@ ends_complete (Star' p b ends) k h = ends_complete b k.1 (subst (Continues b) (f
 pub form_shifted : (n : Node) (start : Bool) (c : ℕ) → form_of (shifted start c n) ≡ form_of n
 form_shifted Empty start c = refl
 form_shifted (Class cl mark) start c = refl
-form_shifted (Concat' p l q r le re ends) start c =
+form_shifted (Concat' p l q r le re ends m) start c =
     let a = form_shifted l start c in
     let b = form_shifted r (ends || (start && le)) c in
     cc
@@ -93,7 +93,7 @@ form_shifted (Star' p b ends) start c = ap (λ f. repetition f 0 None) (form_shi
 pub skips_shifted : (n : Node) (start : Bool) (c : ℕ) → skips (shifted start c n) ≡ skips n
 skips_shifted Empty start c = refl
 skips_shifted (Class cl mark) start c = refl
-skips_shifted (Concat' p l q r le re ends) start c =
+skips_shifted (Concat' p l q r le re ends m) start c =
     let a = skips_shifted l start c in
     let b = skips_shifted r (ends || (start && le)) c in
     cc
@@ -106,15 +106,63 @@ skips_shifted (Star' p b ends) start c = refl
 pub kept_shifted : (n : Node) (start : Bool) (c : ℕ) → IsKept n → IsKept (shifted start c n)
 kept_shifted Empty start c k = tt
 kept_shifted (Class cl mark) start c k = tt
-kept_shifted (Concat' p l q r le re ends) start c k = (
+kept_shifted (Concat' p l q r le re ends m) start c k = (
   k.0 ∙ sym (skips_shifted l start c),
   k.1 ∙ sym (skips_shifted r (ends || (start && le)) c),
   refl,
   kept_shifted l start c k.3,
   kept_shifted r (ends || (start && le)) c k.4,
+  refl,
 )
 kept_shifted (Alternation' p l q r) start c k = (kept_shifted l start c k.0, kept_shifted r start c k.1)
 kept_shifted (Star' p b ends) start c k = (refl, kept_shifted b (start || ends) c k.1)
+
+-- ---- where no mark is, none moves
+
+ends_unmarked : (n : Node) → IsKept n → is_marked n ≡ false → ends_here n ≡ false
+ends_unmarked Empty k h = refl
+ends_unmarked (Class cl mark) k h = h
+ends_unmarked (Concat' p l q r le re ends m) k h =
+    let both = or_parts (is_marked l) (is_marked r) (sym k.5 ∙ h) in
+    or_from (ends_here r) (ends_here l && re) (ends_unmarked r k.4 both.1) (ap (λ b. b && re) (ends_unmarked l k.3 both.0))
+ends_unmarked (Alternation' p l q r) k h =
+    let both = or_parts (is_marked l) (is_marked r) h in
+    or_from (ends_here l) (ends_here r) (ends_unmarked l k.0 both.0) (ends_unmarked r k.1 both.1)
+ends_unmarked (Star' p b ends) k h = ends_unmarked b k.1 h
+
+pub shifted_unmarked : (n : Node) (c : ℕ) → IsKept n → is_marked n ≡ false → shifted false c n ≡ n
+shifted_unmarked Empty c k h = refl
+shifted_unmarked (Class cl mark) c k h = ap (Class cl) (sym h)
+shifted_unmarked (Concat' p l q r le re ends m) c k h =
+    let both = or_parts (is_marked l) (is_marked r) (sym k.5 ∙ h) in
+    let a = shifted_unmarked l c k.3 both.0 in
+    let none : ends ≡ false = k.2 ∙ ends_unmarked l k.3 both.0 in
+    let b = ap (λ s. shifted (s || (false && le)) c r) none ∙ shifted_unmarked r c k.4 both.1 in
+    let e = ap ends_here a ∙ sym k.2 in
+    let f = ap is_marked a in
+    let g = ap is_marked b in
+    let kept = k.5 in
+    cc
+shifted_unmarked (Alternation' p l q r) c k h =
+    let both = or_parts (is_marked l) (is_marked r) h in
+    let a = shifted_unmarked l c k.0 both.0 in
+    let b = shifted_unmarked r c k.1 both.1 in
+    cc
+shifted_unmarked (Star' p b ends) c k h =
+    let none : ends ≡ false = k.0 ∙ ends_unmarked b k.1 h in
+    let a = ap (λ s. shifted (false || s) c b) none ∙ shifted_unmarked b c k.1 h in
+    let e = ap ends_here a ∙ sym k.0 in
+    cc
+
+-- nothing is done where the text does not begin here and no mark is
+pub shifted_still : (n : Node) (start marked : Bool) (c : ℕ) → IsKept n → marked ≡ is_marked n → (start || marked) ≡ false
+    → n ≡ shifted start c n
+shifted_still n start marked c k e h =
+    let both = or_parts start marked h in
+    sym (ap (λ b. shifted b c n) both.0 ∙ shifted_unmarked n c k (sym e ∙ both.1))
+
+pub ends_still : (n : Node) (start marked : Bool) → IsKept n → marked ≡ is_marked n → (start || marked) ≡ false → false ≡ ends_here n
+ends_still n start marked k e h = sym (ends_unmarked n k (sym e ∙ (or_parts start marked h).1))
 
 -- ---- a repetition of any number
 
@@ -149,7 +197,7 @@ shift_sound Empty start c ds k h = absurd h
 shift_sound (Class cl mark) start c ds k h =
     let both = and_parts start (is_in_class cl.negated cl.items.items c) h.0 in
     inr (both.0, (c, ap (λ x. c ∷ x) h.1, both.1))
-shift_sound (Concat' p l q r le re ends) start c ds k h =
+shift_sound (Concat' p l q r le re ends m) start c ds k h =
     elim h [
       | inl a ↦ elim (shift_sound r (ends || (start && le)) c ds k.4 a) [
         | inl x ↦ inl (inl x)
@@ -208,7 +256,7 @@ shift_complete (Class cl mark) start c ds k h =
             tail,
           )
     ]
-shift_complete (Concat' p l q r le re ends) start c ds k h =
+shift_complete (Concat' p l q r le re ends m) start c ds k h =
     elim h [
       | inl x ↦ elim x [
         | inl a ↦ inl (shift_complete r (ends || (start && le)) c ds k.4 (inl a))

@@ -3,7 +3,7 @@ use Rattle.std.proofs.Common.{None, ◌≡◌, ◌↔◌, ℕ, Bool, true, false
 use Rattle.std.proofs.Common.{subst, true≢false}
 use Rattle.std.proofs.lemmas.Bool.{or_from}
 use Rattle.i_regexp.specs.Forms.{Form, Matches, Searches, repetition}
-use Rattle.i_regexp.specs.Marked.{form_of, skips, ends_here, IsKept, Continues, shifted, cleared}
+use Rattle.i_regexp.specs.Marked.{form_of, skips, ends_here, is_marked, IsKept, Continues, shifted, cleared}
 use Rattle.i_regexp.specs.declared.marked.Node.{Node}
 use Rattle.i_regexp.specs.declared.marked.Node.TheVariants.{Empty, Class, Concat', Alternation', Star'}
 use Rattle.i_regexp.proofs.Marking.{skips_sound, skips_complete, ends_sound, ends_complete, form_shifted, kept_shifted, shift_sound}
@@ -14,34 +14,42 @@ use Rattle.i_regexp.proofs.Marking.{shift_complete, front_empty}
 pub form_cleared : (n : Node) → form_of (cleared n) ≡ form_of n
 form_cleared Empty = refl
 form_cleared (Class cl mark) = refl
-form_cleared (Concat' p l q r le re ends) = let a = form_cleared l in let b = form_cleared r in cc
+form_cleared (Concat' p l q r le re ends m) = let a = form_cleared l in let b = form_cleared r in cc
 form_cleared (Alternation' p l q r) = let a = form_cleared l in let b = form_cleared r in cc
 form_cleared (Star' p b ends) = ap (λ f. repetition f 0 None) (form_cleared b)
 
 pub skips_cleared : (n : Node) → skips (cleared n) ≡ skips n
 skips_cleared Empty = refl
 skips_cleared (Class cl mark) = refl
-skips_cleared (Concat' p l q r le re ends) = let a = skips_cleared l in let b = skips_cleared r in cc
+skips_cleared (Concat' p l q r le re ends m) = let a = skips_cleared l in let b = skips_cleared r in cc
 skips_cleared (Alternation' p l q r) = let a = skips_cleared l in let b = skips_cleared r in cc
 skips_cleared (Star' p b ends) = refl
 
 ends_cleared : (n : Node) → ends_here (cleared n) ≡ false
 ends_cleared Empty = refl
 ends_cleared (Class cl mark) = refl
-ends_cleared (Concat' p l q r le re ends) =
+ends_cleared (Concat' p l q r le re ends m) =
     or_from (ends_here (cleared r)) (ends_here (cleared l) && re) (ends_cleared r) (ap (λ b. b && re) (ends_cleared l))
 ends_cleared (Alternation' p l q r) = or_from (ends_here (cleared l)) (ends_here (cleared r)) (ends_cleared l) (ends_cleared r)
 ends_cleared (Star' p b ends) = ends_cleared b
 
+marked_cleared : (n : Node) → is_marked (cleared n) ≡ false
+marked_cleared Empty = refl
+marked_cleared (Class cl mark) = refl
+marked_cleared (Concat' p l q r le re ends m) = refl
+marked_cleared (Alternation' p l q r) = or_from (is_marked (cleared l)) (is_marked (cleared r)) (marked_cleared l) (marked_cleared r)
+marked_cleared (Star' p b ends) = marked_cleared b
+
 pub kept_cleared : (n : Node) → IsKept n → IsKept (cleared n)
 kept_cleared Empty k = tt
 kept_cleared (Class cl mark) k = tt
-kept_cleared (Concat' p l q r le re ends) k = (
+kept_cleared (Concat' p l q r le re ends m) k = (
   k.0 ∙ sym (skips_cleared l),
   k.1 ∙ sym (skips_cleared r),
   sym (ends_cleared l),
   kept_cleared l k.3,
   kept_cleared r k.4,
+  sym (or_from (is_marked (cleared l)) (is_marked (cleared r)) (marked_cleared l) (marked_cleared r)),
 )
 kept_cleared (Alternation' p l q r) k = (kept_cleared l k.0, kept_cleared r k.1)
 kept_cleared (Star' p b ends) k = (sym (ends_cleared b), kept_cleared b k.1)
@@ -49,7 +57,7 @@ kept_cleared (Star' p b ends) k = (sym (ends_cleared b), kept_cleared b k.1)
 none_cleared : (n : Node) (ds : List ℕ) → Continues (cleared n) ds → ⊥
 none_cleared Empty ds h = h
 none_cleared (Class cl mark) ds h = true≢false (sym h.0)
-none_cleared (Concat' p l q r le re ends) ds h = elim h [ inl a ↦ none_cleared r ds a | inr b ↦ none_cleared l b.0 b.3 ]
+none_cleared (Concat' p l q r le re ends m) ds h = elim h [ inl a ↦ none_cleared r ds a | inr b ↦ none_cleared l b.0 b.3 ]
 none_cleared (Alternation' p l q r) ds h = elim h [ inl a ↦ none_cleared l ds a | inr b ↦ none_cleared r ds b ]
 none_cleared (Star' p b ends) ds h = none_cleared b h.0 h.3
 

@@ -1,12 +1,12 @@
 -- How much was read does not fall as tokens are read.
 use Rattle.std.proofs.Common.{◌≡◌, ℕ, suc, ◌+◌, ◌-◌, ◌*◌, ◌<◌, ◌≤◌, List, [], ◌∷◌, ◌++◌, Option, Some, None}
-use Rattle.std.proofs.Common.{refl, ap, ◌∙◌, arith}
+use Rattle.std.proofs.Common.{refl, ap, arith}
 use Rattle.std.specs.Prelude.{option_and_then, min, ◌^◌}
 use Rattle.i_regexp.specs.declared.reader.Level.{Level as CodeLevel}
 use Rattle.i_regexp.specs.Grammar.{Token, characters, opened, closed, bar, quantifier, Branch, Piece, once, times, Atom, character, group}
 use Rattle.i_regexp.specs.Levels.{Level, level, State, fresh, settled, with_atom, branch_of, regexp_from, barred, regexp_of, quantified}
 use Rattle.i_regexp.specs.Levels.{in_state, advance, pieces_size, end_size, branches_size, level_size, outer_size, state_size}
-use Rattle.i_regexp.specs.Levels.{EndSized, LastSized, IsSized}
+use Rattle.i_regexp.specs.Levels.{LastSized, IsSized}
 use Rattle.i_regexp.specs.Limits.{size_limit, repeated, regexp_size, branch_size, piece_size, atom_size}
 use Rattle.i_regexp.proofs.Machine.{run}
 

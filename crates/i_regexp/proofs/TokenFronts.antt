@@ -1,6 +1,6 @@
 -- The fronts of texts.
 use Rattle.std.proofs.Common.{◌≡◌, ◌≢◌, ℕ, zero, suc, ◌<◌, ◌≤◌, Bool, true, false, ◌==◌, nat_le, cond, List, [], ◌∷◌, ◌++◌, length, Option}
-use Rattle.std.proofs.Common.{◌&&◌, Some, None, option_map, option_and_then, Result, Ok, Err, Bor, refl, sym, ap, ◌∙◌, subst, arith}
+use Rattle.std.proofs.Common.{Some, None, option_map, option_and_then, Result, Ok, Err, Bor, refl, sym, ap, ◌∙◌, subst, arith}
 use Rattle.std.proofs.lemmas.Bool.{ne_eqb, cond-true, cond-false}
 use Rattle.std.specs.Result.{IsErrAnd}
 use Rattle.i_regexp.specs.declared.error.IRegexpErrorKind.{IRegexpErrorKind}
@@ -51,17 +51,21 @@ range_end_shorter c ys (d ∷ zs) p l e = by (d == 93) (member_front (d ∷ zs))
     by false (Some q) s e = let h = s q refl in upto (nat_le c q.0) e h
       where
         upto : (b : Bool) → cond b (Some (Range c q.0, q.1)) None ≡ Some p → length q.1 < length (d ∷ zs) → length p.1 ≤ length ys
-        upto true e h = let same : (Range c q.0, q.1) ≡ p = cc in let len : length q.1 ≡ length p.1 = ap (λ q. length q.1) same in omega arith
+        upto true e h = let same : (Range c q.0, q.1) ≡ p = cc in
+            let len : length q.1 ≡ length p.1 = ap (λ q. length q.1) same in omega arith
         upto false e h = no_some p e
 
 range_front_shorter : (c : ℕ) (ys : List ℕ) (p : Item × List ℕ) → range_front c ys ≡ Some p → length p.1 ≤ length ys
-range_front_shorter c [] p e = let same : (Range c c, []) ≡ p = cc in let len : length {A = ℕ} [] ≡ length p.1 = ap (λ q. length q.1) same in
+range_front_shorter c [] p e =
+    let same : (Range c c, []) ≡ p = cc in
+    let len : length {A = ℕ} [] ≡ length p.1 = ap (λ q. length q.1) same in
     omega arith
 range_front_shorter c (d ∷ ys) p e = by (d == 45) e
   where
     by : (a : Bool) → cond a (range_end c (d ∷ ys) ys) (Some (Range c c, d ∷ ys)) ≡ Some p → length p.1 ≤ length (d ∷ ys)
     by true e = range_end_shorter c (d ∷ ys) ys p (omega arith) e
-    by false e = let same : (Range c c, d ∷ ys) ≡ p = cc in let len : length (d ∷ ys) ≡ length p.1 = ap (λ q. length q.1) same in omega arith
+    by false e = let same : (Range c c, d ∷ ys) ≡ p = cc in
+        let len : length (d ∷ ys) ≡ length p.1 = ap (λ q. length q.1) same in omega arith
 
 characters_shorter : (xs : List ℕ) (r : Item) (ys : List ℕ) → characters_front xs ≡ Some (r, ys) → length ys < length xs
 characters_shorter xs r ys e = by (member_front xs) (member_shorter xs) e
@@ -103,7 +107,8 @@ category_shorter [] r ys e = no_some (r, ys) e
 category_shorter (c ∷ []) r ys e = no_some (r, ys) e
 category_shorter (c ∷ p ∷ cs) r ys e = by (name_front cs) (name_shorter cs) e
   where
-    by : (o : Option (Category × List ℕ)) → Shorter o cs → option_and_then (signed_front p) o ≡ Some (r, ys) → length ys < length (c ∷ p ∷ cs)
+    by : (o : Option (Category × List ℕ)) → Shorter o cs → option_and_then (signed_front p) o ≡ Some (r, ys)
+        → length ys < length (c ∷ p ∷ cs)
     by None s f = no_some (r, ys) f
     by (Some q) s f = signed (p == 112) (p == 80) f (s q refl)
       where
@@ -213,8 +218,8 @@ class_of negated o = option_map (λ q. (characters negated q.0, q.1)) o
 -- ---- errors
 
 pub fronts_err : {U V U' V' L L' : Type 0} (view : U → V) (view' : U' → V') (o : Option (V × List ℕ)) (o' : Option (V' × List ℕ))
-    (e : IRegexpErrorKind) (r : Result (U × Bor (List ℕ)) IRegexpErrorKind) → IsErrAnd r (λ d. d ≡ e) → Fronts L' view' o' (Err e) → (L' → L)
-    → (o' ≡ None → o ≡ None) → Fronts L view o r
+    (e : IRegexpErrorKind) (r : Result (U × Bor (List ℕ)) IRegexpErrorKind) → IsErrAnd r (λ d. d ≡ e) → Fronts L' view' o' (Err e)
+    → (L' → L) → (o' ≡ None → o ≡ None) → Fronts L view o r
 fronts_err view view' o o' e (Ok x) h k l f = absurd h
 fronts_err {L = L} view view' o o' Invalid (Err d) h k l f = subst (λ x. Fronts L view o (Err x)) (sym h) (f k)
 fronts_err view view' o o' TooDeep (Err d) h k l f = absurd k

@@ -2,7 +2,7 @@
 use Rattle.std.specs.Prelude.{◌≡◌, ℕ, false, List, [], ◌∷◌, ◌++◌, length}
 use Rattle.i_regexp.specs.declared.marked.Node.{Node}
 use Rattle.i_regexp.specs.Forms.{Form, empty, class, concat, alternation, Matches}
-use Rattle.i_regexp.specs.Marked.{form_of, skips, ends_here, IsKept}
+use Rattle.i_regexp.specs.Marked.{form_of, skips, ends_here, is_marked, IsKept}
 
 -- The tree, which has no mark at an end, matches what the regular expression matches.
 pub record Means (n : Node) (f : Form) : Type 0 where
@@ -16,6 +16,7 @@ pub record IsCopy (n m : Node) : Type 0 where
   pub form : form_of m ≡ form_of n
   pub skipped : skips m ≡ skips n
   pub ended : ends_here m ≡ ends_here n
+  pub marked : is_marked m ≡ is_marked n
   pub kept : IsKept n → IsKept m
 
 -- the trees match what the regular expressions match, one by one

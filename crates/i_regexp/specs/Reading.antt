@@ -1,5 +1,5 @@
 -- What is read of a text; `Reads` is for private contracts.
-use Rattle.std.specs.Prelude.{◌≡◌, ℕ, true, ◌≤◌, ◌<◌, ◌+◌, List, ◌∷◌, ◌++◌, length, ◌⊎◌, Result, Ok, Err}
+use Rattle.std.specs.Prelude.{◌≡◌, ℕ, ◌≤◌, ◌<◌, ◌+◌, List, ◌∷◌, ◌++◌, length, ◌⊎◌, Result, Ok, Err}
 use Rattle.i_regexp.specs.declared.error.IRegexpError.{IRegexpError}
 use Rattle.i_regexp.specs.declared.error.IRegexpErrorKind.{IRegexpErrorKind}
 use Rattle.i_regexp.specs.declared.error.IRegexpErrorKind.TheVariants as kind

@@ -35,12 +35,14 @@ impl Node {
                 left_empty,
                 right_empty,
                 left_ends,
+                marked,
             } => Ok(Node::Concat {
                 left: Box::new(alloc, left.copy(alloc)?)?,
                 right: Box::new(alloc, right.copy(alloc)?)?,
                 left_empty: *left_empty,
                 right_empty: *right_empty,
                 left_ends: *left_ends,
+                marked: *marked,
             }),
             Node::Alternation { left, right } => Ok(Node::Alternation {
                 left: Box::new(alloc, left.copy(alloc)?)?,
@@ -61,12 +63,14 @@ pub(crate) fn concat(alloc: Global, left: Node, right: Node) -> Result<Node, All
 {
     let left_empty = left.skips();
     let right_empty = right.skips();
+    let marked = left.is_marked() | right.is_marked();
     Ok(Node::Concat {
         left: Box::new(alloc, left)?,
         right: Box::new(alloc, right)?,
         left_empty,
         right_empty,
         left_ends: false,
+        marked,
     })
 }
 

@@ -1,6 +1,6 @@
 //! The tree of a regular expression, marked at the places that a text has reached.
 ghost use Rattle.std.specs.Prelude.{◌≡◌};
-ghost use Rattle.i_regexp.specs.Marked.{shifted, cleared, skips, ends_here};
+ghost use Rattle.i_regexp.specs.Marked.{IsKept, shifted, cleared, skips, is_marked, ends_here};
 
 use crate::class::Class;
 
@@ -20,6 +20,8 @@ pub(crate) enum Node {
         left_empty: bool,
         right_empty: bool,
         left_ends: bool,
+        // whether there is a mark in either
+        marked: bool,
     },
     Alternation {
         left: Box<Node>,
@@ -46,6 +48,19 @@ impl Node {
         }
     }
 
+    /// Whether there is a mark.
+    pub(crate) fn is_marked(&self) -> bool
+        ensures { result ≡ is_marked self.now }
+    {
+        match self {
+            Node::Empty => false,
+            Node::Class { mark, .. } => *mark,
+            Node::Concat { marked, .. } => *marked,
+            Node::Alternation { left, right } => left.is_marked() || right.is_marked(),
+            Node::Star { body, .. } => body.is_marked(),
+        }
+    }
+
     /// Takes all marks away.
     pub(crate) fn clear(&mut self)
         ensures { self.new ≡ cleared self.old }
@@ -57,11 +72,13 @@ impl Node {
                 left,
                 right,
                 left_ends,
+                marked,
                 ..
             } => {
                 left.clear();
                 right.clear();
                 *left_ends = false;
+                *marked = false;
             }
             Node::Alternation { left, right } => {
                 left.clear();
@@ -77,9 +94,13 @@ impl Node {
     /// Moves the marks over a character: each to the places that it leads to. With `start`, the
     /// text may also begin with this character. Returns whether the text can end after it.
     pub(crate) fn shift(&mut self, start: bool, c: char) -> bool
+        requires { IsKept self.old }
         ensures marks { self.new ≡ shifted start c self.old }
         ensures ends { result ≡ ends_here self.new }
     {
+        if !(start | self.is_marked()) {
+            return false;
+        }
         match self {
             Node::Empty => false,
             Node::Class { class, mark } => {
@@ -92,11 +113,14 @@ impl Node {
                 left_empty,
                 right_empty,
                 left_ends,
+                marked,
             } => {
                 let enters = *left_ends | (start & *left_empty);
                 let ends = left.shift(start, c);
                 *left_ends = ends;
-                right.shift(enters, c) | (ends & *right_empty)
+                let found = right.shift(enters, c);
+                *marked = left.is_marked() | right.is_marked();
+                found | (ends & *right_empty)
             }
             Node::Alternation { left, right } => left.shift(start, c) | right.shift(start, c),
             Node::Star { body, body_ends } => {
