@@ -50,8 +50,9 @@ fn rows(rt: HostRuntime) -> Result<(), Fail> {
         for c in members.chars() {
             for (other_group, other, _) in ROWS {
                 let same = group == other_group && letter == other;
-                assert!(rt; is_in(*other_group, Some(*other), c) == same, "{c} {other_group}{other}");
+                let of_category = is_in(*other_group, Some(*other), c);
                 let of_group = is_in(*other_group, None, c);
+                assert!(rt; of_category == same, "{c} {other_group}{other}");
                 assert!(rt; of_group == (group == other_group), "{c} {other_group}");
             }
         }
