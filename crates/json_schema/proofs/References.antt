@@ -58,11 +58,13 @@ front_decoded : (b : ℕ) (bs : List ℕ) → percent_decoded (b ∷ bs)
 front_decoded b bs = by (b == 37) refl
   where
     paired : (o : Option ℕ) (more : List ℕ) → option_and_then (λ d. option_map (λ ds. d ∷ ds) (percent_decoded more)) o
-        ≡ option_and_then (λ (p : ℕ × List ℕ). option_map (λ ds. p.0 ∷ ds) (percent_decoded p.1)) (option_map {U = ℕ × List ℕ} (λ d. (d, more)) o)
+        ≡ option_and_then (λ (p : ℕ × List ℕ). option_map (λ ds. p.0 ∷ ds) (percent_decoded p.1))
+        (option_map {U = ℕ × List ℕ} (λ d. (d, more)) o)
     paired None more = refl
     paired (Some d) more = refl
 
-    escaped : (xs : List ℕ) → after_percent xs ≡ option_and_then (λ (p : ℕ × List ℕ). option_map (λ ds. p.0 ∷ ds) (percent_decoded p.1)) (escape_front xs)
+    escaped : (xs : List ℕ) → after_percent xs ≡ option_and_then (λ (p : ℕ × List ℕ). option_map (λ ds. p.0 ∷ ds) (percent_decoded p.1))
+        (escape_front xs)
     escaped [] = refl
     escaped (x ∷ []) = refl
     escaped (x ∷ y ∷ xs) = paired (hex_byte x y) xs

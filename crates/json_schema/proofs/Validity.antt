@@ -13,7 +13,8 @@ use Rattle.json_pointer.specs.Index.{index_of}
 use Rattle.json_pointer.specs.Tokens.{tokens_of}
 use Rattle.json_pointer.specs.Walk.{step, part_at, item_of}
 use Rattle.json_schema.specs.Applied.{Judge, schema_at, schemas_at, schema_map_at, all_accept, branch, branch_accepts, dependents_accept}
-use Rattle.json_schema.specs.Applied.{applies, apply_all, counts, tests, demands, member_accepted, members_accepted, item_accepted, items_accepted}
+use Rattle.json_schema.specs.Applied.{applies, apply_all, counts, tests, demands, member_accepted, members_accepted, item_accepted}
+use Rattle.json_schema.specs.Applied.{items_accepted}
 use Rattle.json_schema.specs.Applied.{parts_accepted}
 use Rattle.json_schema.specs.Keywords.{meets_all, assertions}
 use Rattle.json_schema.specs.Names.{name}

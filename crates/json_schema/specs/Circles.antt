@@ -36,7 +36,7 @@ singles_pass p (k ∷ ks) s = option_map_or p (schema_at s k) true && singles_pa
 abbrev pub reference_passes : Tree → (Tree → Bool) → Tree → Bool
 reference_passes root p s = option_map_or p (referenced root s) true
 
--- Less than so many schemas are applied in one another to the value itself, whatever it is; where references lead in a
+-- No more than so many schemas are applied in one another to the value itself, whatever it is; where references lead in a
 -- circle, there is no end of them.
 abbrev pub settles : Tree → ℕ → Tree → Bool
 settles root zero s = false

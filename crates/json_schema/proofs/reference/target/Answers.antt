@@ -19,7 +19,8 @@ returns-then-not-leads_to_schema c =
     let root = view c.args.root.now in
     let bs = c.as_str.result.now in
     let ks = tokens_of c.in-Some.pointer in
-    let other : is_schema_form (form_after form.Schema ks) ≡ false = ap (λ xs. is_schema_form (form_after form.Schema xs)) (sym c.tokens.ensures)
+    let other : is_schema_form (form_after form.Schema ks) ≡ false = ap (λ xs. is_schema_form (form_after form.Schema xs))
+    (sym c.tokens.ensures)
     ∙ (sym c.leads_to_schema.ensures ∙ c.if-not-leads_to_schema.true) in
     no_schema_there root (view c.args.reference.now) bs
     (string_target root c.args.reference.now c.in-String.reference bs c.in-String.is c.as_str.ensures.value) ks

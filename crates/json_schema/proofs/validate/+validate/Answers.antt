@@ -13,7 +13,8 @@ use Rattle.json_pointer.specs.Index.{index_of}
 use Rattle.json_pointer.specs.Tokens.{tokens_of}
 use Rattle.json_pointer.specs.Walk.{item_of}
 use Rattle.json_schema.specs.Applied.{schemas_at, schema_map_at, all_accept, dependents_accept, members_accepted, items_accepted}
-use Rattle.json_schema.specs.Applied.{applies, parts_accepted, tests, contains_some, contains_at_most, contains_at_least, any_of, one_of, branch, branch_accepts}
+use Rattle.json_schema.specs.Applied.{applies, parts_accepted, tests, contains_some, contains_at_most, contains_at_least, any_of, one_of}
+use Rattle.json_schema.specs.Applied.{branch, branch_accepts}
 use Rattle.json_schema.specs.Keywords.{IsUnmet}
 use Rattle.json_schema.specs.Names.{name}
 use Rattle.json_schema.specs.Parts.{item_schema}
@@ -25,7 +26,8 @@ use Rattle.json_schema.proofs.Listed.{listed_found, listed_sorted}
 use Rattle.json_schema.proofs.Loops.{items_turn, items_end, item_passes, item_free, members_turn, member_passes, member_free}
 use Rattle.json_schema.proofs.Loops.{dependents_turn, dependent_passes, dependent_free, no_parts}
 use Rattle.json_schema.proofs.Turns.{turn_next, turn_end, nth_item}
-use Rattle.json_schema.proofs.Validity.{reported, found, verdict, placed, last_tested, last_found, before, no_branch, branch_met, branch_place}
+use Rattle.json_schema.proofs.Validity.{reported, found, verdict, placed, last_tested, last_found, before, no_branch, branch_met}
+use Rattle.json_schema.proofs.Validity.{branch_place}
 use Rattle.json_schema.proofs.Validity.{reference_met, no_reference}
 use Rattle.json_schema.proofs.validate.+validate.Goals.{in_dependents-then-has_key+in_ok-found+in_default, in_dependents-else-has_key}
 use Rattle.json_schema.proofs.validate.+validate.Goals.{in_members-in-Some+in_ok-found+in_default-2, in_members-in_default}
