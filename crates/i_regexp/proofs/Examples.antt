@@ -85,7 +85,7 @@ shorthand = refl
 capitals : token_front (codes "\\p{Lu}x") ≡ Some (characters false (In record { first = 0; last = 0 } ∷ []), codes "x")
 capitals = refl
 
-others_than_numbers : token_front (codes "[a\\P{N}]") 
+others_than_numbers : token_front (codes "[a\\P{N}]")
     ≡ Some (characters false (Range 97 97 ∷ NotIn record { first = 8; last = 10 } ∷ []), [])
 others_than_numbers = refl
 

@@ -67,7 +67,10 @@ pub(crate) fn next_token<'t>(
         '[' => bracket(alloc, rest),
         c => {
             if is_normal(c) {
-                Ok((Token::Characters(Class::single(alloc, Item::Range(c, c))?), rest))
+                Ok((
+                    Token::Characters(Class::single(alloc, Item::Range(c, c))?),
+                    rest,
+                ))
             } else {
                 Err(IRegexpErrorKind::Invalid)
             }
@@ -132,7 +135,10 @@ fn escape_token<'t>(
         return Ok((Token::Characters(Class::single(alloc, item)?), after));
     }
     let (c, after) = escaped(text)?;
-    Ok((Token::Characters(Class::single(alloc, Item::Range(c, c))?), after))
+    Ok((
+        Token::Characters(Class::single(alloc, Item::Range(c, c))?),
+        after,
+    ))
 }
 
 /// Whether the letter of a category stands here.
