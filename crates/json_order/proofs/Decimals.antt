@@ -19,7 +19,7 @@ use lib.Signed.{lt_z}
 use Rattle.tinyjson.specs.Number.{Decimal, IsDecimal, zero_decimal}
 use Rattle.json_order.specs.Order.{units, first_place, is_at_most, is_magnitude_at_most}
 
-abbrev AreDigits : List ℕ → Type 0
+abbrev pub AreDigits : List ℕ → Type 0
 AreDigits [] = ⊤
 AreDigits (d ∷ ds) = IsTrue (is_ascii_digit d) × AreDigits ds
 
@@ -28,7 +28,7 @@ digits_from [] h = tt
 digits_from (c ∷ cs) h = let k = and_parts (is_ascii_digit c) (all_ascii_digits cs) h in (k.0, digits_from cs k.1)
 
 -- the last of c and what follows it is not 0
-abbrev ends_nonzero : ℕ → List ℕ → Bool
+abbrev pub ends_nonzero : ℕ → List ℕ → Bool
 ends_nonzero c [] = not (c == 48)
 ends_nonzero c (d ∷ ds) = ends_nonzero d ds
 
@@ -62,7 +62,7 @@ padded_after n (c ∷ cs) i =
 padded_is : (cs : List ℕ) (i : ℕ) → digits_value 10 cs * 10 ^ i ≡ padded (length cs + i) cs
 padded_is cs i = padded_after 0 cs i ∙ omega arith
 
-digit_is : (c : ℕ) → IsTrue (is_ascii_digit c) → (digit_value c + 48 ≡ c) × (digit_value c ≤ 9)
+pub digit_is : (c : ℕ) → IsTrue (is_ascii_digit c) → (digit_value c + 48 ≡ c) × (digit_value c ≤ 9)
 digit_is c h = let r = range_from_digit c h in (omega (arith, digit_value_digit c r, r), omega (arith, digit_value_digit c r, r))
 
 -- ---- bounds
@@ -84,10 +84,15 @@ padded_below (suc k) (c ∷ cs) h =
 first_some : (d x p : ℕ) → 1 ≤ d → x ≤ d * x + p
 first_some d x p h = omega (arith, mul-le-mul_right {m = 1} {n = d} x h)
 
+pub value_below : (cs : List ℕ) → AreDigits cs → digits_value 10 cs < 10 ^ length cs
+value_below cs h =
+    let same : length cs + 0 ≡ length cs = omega arith in
+    subst (λ k. digits_value 10 cs < 10 ^ k) same (omega (arith, padded_is cs 0, padded_below (length cs + 0) cs h))
+
 padded_above : (k c : ℕ) (cs : List ℕ) → IsTrue (is_ascii_digit c) → c ≢ 48 → 10 ^ k ≤ padded (suc k) (c ∷ cs)
 padded_above k c cs h some = first_some (digit_value c) (10 ^ k) (padded k cs) (let d = digit_is c h in omega (arith, d.0, some))
 
-end_some : (c : ℕ) → IsTrue (not (c == 48)) → c ≢ 48
+pub end_some : (c : ℕ) → IsTrue (not (c == 48)) → c ≢ 48
 end_some c h = λ e. grind (arith, nat_tests)
 
 padded_some : (k c : ℕ) (cs : List ℕ) → AreDigits (c ∷ cs) → IsTrue (ends_nonzero c cs) → length (c ∷ cs) ≤ k → 0 < padded k (c ∷ cs)
@@ -150,7 +155,7 @@ lower_place k (suc l) b xs ys h d some lt =
 -- ---- decimals
 
 -- digits that neither begin nor end with 0
-record HasDigits (ds : List ℕ) : Type 0 where
+pub record HasDigits (ds : List ℕ) : Type 0 where
   pub are : AreDigits ds
   pub first : get_or ds 0 0 ≢ 48
   pub ends : IsTrue (ends_without_zero ds)
@@ -176,8 +181,15 @@ digits_in : (g : Bool) (ds : List ℕ) (p : ℤ) → IsDecimal (record { negativ
 digits_in g [] p h = record { are = tt; first = λ e. absurd (omega (arith, e)); ends = refl }
 digits_in g (c ∷ cs) p h = in_form g p c cs h
 
-has_digits : (d : Decimal) → IsDecimal d → HasDigits d.digits
+pub has_digits : (d : Decimal) → IsDecimal d → HasDigits d.digits
 has_digits d h = digits_in d.negative d.digits d.power h
+
+digits_test : (g : Bool) (ds : List ℕ) (p : ℤ) → IsDecimal (record { negative = g; digits = ds; power = p }) → IsTrue (all_ascii_digits ds)
+digits_test g [] p h = refl
+digits_test g (c ∷ cs) p h = (and_parts (all_ascii_digits (c ∷ cs)) _ (and_parts _ _ h).1).0
+
+pub are_digits : (d : Decimal) → IsDecimal d → IsTrue (all_ascii_digits d.digits)
+are_digits d h = digits_test d.negative d.digits d.power h
 
 none_is : (g : Bool) (ds : List ℕ) (p : ℤ) → IsDecimal (record { negative = g; digits = ds; power = p }) → length ds ≡ 0
     → record { negative = g; digits = ds; power = p } ≡ zero_decimal
@@ -186,7 +198,7 @@ none_is g [] p h e =
     λ i. record { negative = not-true g k.0 i; digits = []; power = (Decides-int_eq p (pos 0)).0 k.1 i }
 none_is g (c ∷ cs) p h e = absurd (omega (arith, e))
 
-some_digits : (d : Decimal) → IsDecimal d → ¬ (d ≡ zero_decimal) → 0 < length d.digits
+pub some_digits : (d : Decimal) → IsDecimal d → ¬ (d ≡ zero_decimal) → 0 < length d.digits
 some_digits d h some = ⊎_elim (λ lt. lt) (λ none. absurd (some (none_is d.negative d.digits d.power h (omega (arith, none)))))
     (cases_lt 0 (length d.digits))
 

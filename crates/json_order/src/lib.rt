@@ -5,6 +5,8 @@
 //! ```
 #![tactic(auto)]
 
+mod multiple;
 mod order;
 
+pub use multiple::{is_divisor, is_multiple};
 pub use order::{is_at_most, is_less};

@@ -4,6 +4,7 @@ use Rattle.std.specs.Option.{option_map_or}
 use Rattle.std.specs.Str.{bytes_eq}
 use Rattle.tinyjson.specs.Access.{is_boolean, is_number, is_string, is_array}
 use Rattle.tinyjson.specs.Tree.{Tree, boolean, number, string, array, object, Items, no_items, item, Members, no_members, member}
+use Rattle.json_order.specs.Multiples.{is_divisor}
 use Rattle.json_schema.specs.Keywords.{is_among}
 use Rattle.json_schema.specs.Names.{keywords, keyword_among}
 use Rattle.json_schema.specs.declared.form.Form.{Form}
@@ -41,7 +42,7 @@ form_of kw.UnevaluatedProperties = form.Refused
 form_of kw.Type = form.Types
 form_of kw.Enum = form.List
 form_of kw.Const = form.Anything
-form_of kw.MultipleOf = form.Refused
+form_of kw.MultipleOf = form.Divisor
 form_of kw.Maximum = form.Number
 form_of kw.ExclusiveMaximum = form.Number
 form_of kw.Minimum = form.Number
@@ -77,6 +78,10 @@ form_at key = option_map_or form_of (keyword_among keywords key) form.Anything
 abbrev pub is_count : Tree → Bool
 is_count (number d) = not d.negative && int_le (pos 0) d.power
 is_count _ = false
+
+abbrev pub is_divisor_number : Tree → Bool
+is_divisor_number (number e) = is_divisor e
+is_divisor_number _ = false
 
 abbrev pub is_name_of_type : List ℕ → Bool
 is_name_of_type bs = bytes_eq bs (codes "null") || (bytes_eq bs (codes "boolean") || (bytes_eq bs (codes "object")

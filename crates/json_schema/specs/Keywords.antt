@@ -11,6 +11,7 @@ use Rattle.tinyjson.specs.Kind.{kind_of, kind_name}
 use Rattle.tinyjson.specs.Number.{Decimal, integer_decimal}
 use Rattle.tinyjson.specs.Tree.{Tree, boolean, number, string, array, object, Items, no_items, item, Members, no_members, member, find}
 use Rattle.json_schema.specs.Names.{name}
+use Rattle.json_order.specs.Multiples.{is_divisor, is_multiple}
 use Rattle.json_order.specs.Order.{is_at_most}
 use Rattle.json_schema.specs.declared.keyword.Keyword.{Keyword}
 use Rattle.json_schema.specs.declared.keyword.Keyword.TheVariants as kw
@@ -80,6 +81,11 @@ abbrev pub are_apart : Tree → Tree → Bool
 are_apart (number d) (number e) = not (is_at_most e d)
 are_apart _ _ = true
 
+-- whether a number is a divisor's multiple; true of what is no number, or no divisor
+abbrev pub are_multiple : Tree → Tree → Bool
+are_multiple (number d) (number e) = not (is_divisor e) || is_multiple d e
+are_multiple _ _ = true
+
 -- what is counted of a value: a text's characters, an array's items, an object's members
 abbrev pub length_of : Tree → Option ℕ
 length_of (string cs) = Some (length cs)
@@ -115,6 +121,7 @@ abbrev pub accepts : Keyword → Tree → Tree → Bool
 accepts kw.Type w t = has_type w t  -- 6.1.1
 accepts kw.Enum w t = is_in w t  -- 6.1.2
 accepts kw.Const w t = tree_eq t w  -- 6.1.3
+accepts kw.MultipleOf w t = are_multiple t w  -- 6.2.1
 accepts kw.Maximum w t = are_ordered t w  -- 6.2.2
 accepts kw.ExclusiveMaximum w t = are_apart t w  -- 6.2.3
 accepts kw.Minimum w t = are_ordered w t  -- 6.2.4
@@ -134,8 +141,8 @@ abbrev pub meets : Keyword → Tree → Tree → Bool
 meets k s t = option_map_or (λ w. accepts k w t) (tree_at_key s (name k)) true
 
 abbrev pub assertions : List Keyword
-assertions = kw.Type ∷ kw.Enum ∷ kw.Const ∷ kw.Maximum ∷ kw.ExclusiveMaximum ∷ kw.Minimum ∷ kw.ExclusiveMinimum
-    ∷ kw.MaxLength ∷ kw.MinLength ∷ kw.MaxItems ∷ kw.MinItems ∷ kw.MaxProperties ∷ kw.MinProperties
+assertions = kw.Type ∷ kw.Enum ∷ kw.Const ∷ kw.MultipleOf ∷ kw.Maximum ∷ kw.ExclusiveMaximum ∷ kw.Minimum
+    ∷ kw.ExclusiveMinimum ∷ kw.MaxLength ∷ kw.MinLength ∷ kw.MaxItems ∷ kw.MinItems ∷ kw.MaxProperties ∷ kw.MinProperties
     ∷ kw.Required ∷ kw.DependentRequired ∷ []
 
 abbrev pub meets_all : List Keyword → Tree → Tree → Bool

@@ -4,7 +4,8 @@ use Rattle.std.specs.declared.alloc.AllocError.{AllocError}
 use Rattle.tinyjson.specs.Access.{is_boolean, is_number, is_string, is_array}
 use Rattle.tinyjson.specs.Tree.{Tree, boolean, array, object, Items, no_items, item, Members, no_members, member}
 use Rattle.json_pointer.specs.declared.pointer.Pointer.{Pointer}
-use Rattle.json_schema.specs.Forms.{form_at, is_count, are_types, is_key_list, is_key_map, is_dialect, is_some_item}
+use Rattle.json_schema.specs.Forms.{form_at, is_count, is_divisor_number, are_types, is_key_list, is_key_map, is_dialect}
+use Rattle.json_schema.specs.Forms.{is_some_item}
 use Rattle.json_schema.specs.Circles.{leads}
 use Rattle.json_schema.specs.declared.form.Form.{Form}
 use Rattle.json_schema.specs.declared.form.Form.TheVariants as form
@@ -18,6 +19,7 @@ has_form form.Truth w one list entries leads whole = is_boolean w
 has_form form.List w one list entries leads whole = is_array w
 has_form form.Types w one list entries leads whole = are_types w
 has_form form.Number w one list entries leads whole = is_number w
+has_form form.Divisor w one list entries leads whole = is_divisor_number w
 has_form form.Count w one list entries leads whole = is_count w
 has_form form.Keys w one list entries leads whole = is_key_list w
 has_form form.KeyLists w one list entries leads whole = is_key_map w

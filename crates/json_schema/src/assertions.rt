@@ -16,16 +16,18 @@ ghost use Rattle.json_schema.specs.Keywords.{length_of, items_count_of, members_
 ghost use Rattle.json_schema.specs.Keywords.{is_count_at_most, is_count_at_least};
 
 use crate::keyword::Keyword;
+use crate::multiple::are_multiple;
 use json_order::is_at_most;
 use std::alloc::{AllocError, Global};
 use std::collections::HashMap;
 use tinyjson::{JsonNumber, JsonValue, sorted_members};
 
 /// The keywords that speak of a value and not of its parts, in the order in which they are checked.
-const ASSERTIONS: [Keyword; 15] = [
+const ASSERTIONS: [Keyword; 16] = [
     Keyword::Type,
     Keyword::Enum,
     Keyword::Const,
+    Keyword::MultipleOf,
     Keyword::Maximum,
     Keyword::ExclusiveMaximum,
     Keyword::Minimum,
@@ -106,6 +108,7 @@ fn accepts(
         Keyword::Type => Ok(has_type(operand, value)),
         Keyword::Enum => Ok(is_in(operand, value)),
         Keyword::Const => Ok(value == operand),
+        Keyword::MultipleOf => Ok(are_multiple(value, operand)),
         Keyword::Maximum => Ok(are_ordered(value, operand)),
         Keyword::ExclusiveMaximum => Ok(are_apart(value, operand)),
         Keyword::Minimum => Ok(are_ordered(operand, value)),

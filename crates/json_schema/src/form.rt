@@ -15,6 +15,8 @@ pub enum Form {
     /// A name of a type, or an array of different ones.
     Types,
     Number,
+    /// A number above zero, with at most 19 digits.
+    Divisor,
     /// A whole number that is not negative.
     Count,
     /// An array of different strings.
@@ -67,7 +69,6 @@ fn form_of(keyword: Keyword) -> Form
         | Keyword::PatternProperties
         | Keyword::UnevaluatedItems
         | Keyword::UnevaluatedProperties
-        | Keyword::MultipleOf
         | Keyword::Pattern
         | Keyword::UniqueItems => Form::Refused,
         Keyword::PrefixItems | Keyword::AllOf | Keyword::AnyOf | Keyword::OneOf => Form::Schemas,
@@ -87,6 +88,7 @@ fn form_of(keyword: Keyword) -> Form
         | Keyword::ExclusiveMaximum
         | Keyword::Minimum
         | Keyword::ExclusiveMinimum => Form::Number,
+        Keyword::MultipleOf => Form::Divisor,
         Keyword::MaxLength
         | Keyword::MinLength
         | Keyword::MaxItems

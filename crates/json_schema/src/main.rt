@@ -14,6 +14,7 @@ mod contains;
 mod failure;
 mod form;
 mod keyword;
+mod multiple;
 mod part;
 mod reference;
 mod refused;

@@ -12,6 +12,7 @@ ghost use Rattle.json_schema.specs.Schemas.{have_schemas};
 use crate::assertions::is_among;
 use crate::circles::leads;
 use crate::form::{Form, form_at};
+use crate::multiple::is_divisor_number;
 use json_pointer::Pointer;
 use std::alloc::{AllocError, Global};
 use tinyjson::{JsonValue, sorted_members};
@@ -84,6 +85,7 @@ fn misfit(
         Form::List => unless(is_array(operand), alloc),
         Form::Types => unless(are_types(operand), alloc),
         Form::Number => unless(is_number(operand), alloc),
+        Form::Divisor => unless(is_divisor_number(operand), alloc),
         Form::Count => unless(is_count(operand), alloc),
         Form::Keys => unless(is_key_list(operand), alloc),
         Form::KeyLists => unless(is_key_map(operand, alloc)?, alloc),
