@@ -68,6 +68,13 @@ KEYWORDS = [
     ('{"maxItems":0.0}', ["[]", "{}"], [("[null]", "", "/maxItems")]),
     ('{"minItems":1}', ["[1,2]", "[[]]", '""', "{}"], [("[]", "", "/minItems")]),
     ('{"minItems":3}', ["[1,2,3]"], [("[1,2]", "", "/minItems"), ("[[1,2,3]]", "", "/minItems")]),
+    # 6.4.3: equal as values.
+    ('{"uniqueItems":true}', ["[]", "[1]", "[1,2]", '[1,true]', '[0,false]', '[[1],[true]]', '[{"a":false},{"a":0}]', '["1",1]', '[{"a":1},{"a":1,"b":2}]', '[[1,2],[2,1]]', '"aa"', '{"a":1,"b":1}', '["é","e\u0301"]', '[[[1],"foo"],[[2],"foo"]]', "[1e400,1e401]"],
+     [("[1,1]", "", "/uniqueItems"), ("[1.0,1.00,1]", "", "/uniqueItems"), ("[3,1,2,1]", "", "/uniqueItems"), ("[0,-0]", "", "/uniqueItems"), ("[null,1,null]", "", "/uniqueItems"),
+      ('[{"a":1,"b":[2]},{"b":[2.0],"a":1}]', "", "/uniqueItems"), ('["a","\\u0061"]', "", "/uniqueItems"), ("[10e399,1e400]", "", "/uniqueItems"), ('[{"a":1,"a":2},{"a":2}]', "", "/uniqueItems"), ("[[],[]]", "", "/uniqueItems")]),
+    ('{"uniqueItems":false}', ["[1,1]", "[[],[]]", "{}"], []),
+    ('{"prefixItems":[{"type":"boolean"},{"type":"boolean"}],"uniqueItems":true}', ["[false,true]", "[true,false,1,0]"], [("[true,true]", "", "/uniqueItems"), ("[false,true,3,3]", "", "/uniqueItems")]),
+    ('{"items":{"uniqueItems":true}}', ["[[1],[1]]"], [("[[1],[1,1]]", "/1", "/items/uniqueItems")]),
     # 6.5.1 to 6.5.4; of equal members the last one stands.
     ('{"maxProperties":2}', ['{"a":1}', '{"a":1,"b":2}', "[1,2,3]", '{"a":1,"b":2,"a":3}'], [('{"a":1,"b":2,"c":3}', "", "/maxProperties")]),
     ('{"maxProperties":0}', ["{}", '"x"'], [('{"a":1}', "", "/maxProperties")]),
@@ -223,6 +230,7 @@ REFUSED = [
     ('{"enum":1}', "/enum"), ('{"maximum":"1"}', "/maximum"), ('{"multipleOf":0}', "/multipleOf"), ('{"multipleOf":-0.0}', "/multipleOf"), ('{"multipleOf":-2}', "/multipleOf"),
     ('{"multipleOf":"2"}', "/multipleOf"), ('{"multipleOf":12345678901234567891}', "/multipleOf"), ('{"items":{"multipleOf":0.10000000000000000001}}', "/items/multipleOf"), ('{"minimum":null}', "/minimum"),
     ('{"maxLength":-1}', "/maxLength"), ('{"maxLength":1.5}', "/maxLength"), ('{"minLength":"1"}', "/minLength"), ('{"minItems":-1e400}', "/minItems"),
+    ('{"uniqueItems":1}', "/uniqueItems"), ('{"uniqueItems":null}', "/uniqueItems"),
     ('{"maxProperties":1e-1}', "/maxProperties"), ('{"required":"a"}', "/required"), ('{"required":["a","a"]}', "/required"), ('{"required":[1]}', "/required"),
     ('{"dependentRequired":{"a":["b","b"]}}', "/dependentRequired"), ('{"dependentRequired":{"a":"b"}}', "/dependentRequired"), ('{"dependentRequired":[]}', "/dependentRequired"),
     ('{"allOf":[]}', "/allOf"), ('{"allOf":{}}', "/allOf"), ('{"allOf":[{},{"type":"any"}]}', "/allOf/1/type"), ('{"anyOf":[]}', "/anyOf"), ('{"anyOf":[1]}', "/anyOf/0"),

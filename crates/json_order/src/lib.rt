@@ -1,12 +1,15 @@
-//! The order of JSON numbers as exact decimals: of any size, with any number of digits.
+//! The order of JSON numbers as exact decimals, and their multiples: of any size, with any number of digits. And
+//! whether values differ from each other.
 //!
 //! ```
 //! is_less(&small, &large) // true of 1e400 and 1e401
 //! ```
 #![tactic(auto)]
 
+mod distinct;
 mod multiple;
 mod order;
 
+pub use distinct::are_distinct;
 pub use multiple::{is_divisor, is_multiple};
 pub use order::{is_at_most, is_less};

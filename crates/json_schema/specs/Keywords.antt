@@ -11,6 +11,8 @@ use Rattle.tinyjson.specs.Kind.{kind_of, kind_name}
 use Rattle.tinyjson.specs.Number.{Decimal, integer_decimal}
 use Rattle.tinyjson.specs.Tree.{Tree, boolean, number, string, array, object, Items, no_items, item, Members, no_members, member, find}
 use Rattle.json_schema.specs.Names.{name}
+pub use Rattle.json_order.specs.Distinct.{is_among}
+use Rattle.json_order.specs.Distinct.{are_distinct}
 use Rattle.json_order.specs.Multiples.{is_divisor, is_multiple}
 use Rattle.json_order.specs.Order.{is_at_most}
 use Rattle.json_schema.specs.declared.keyword.Keyword.{Keyword}
@@ -33,10 +35,6 @@ has_some_type (item name names) t = is_type name t || has_some_type names t
 abbrev pub has_type : Tree → Tree → Bool
 has_type (array names) t = has_some_type names t
 has_type name t = is_type name t
-
-abbrev pub is_among : Items → Tree → Bool
-is_among no_items t = false
-is_among (item u us) t = tree_eq t u || is_among us t
 
 abbrev pub is_in : Tree → Tree → Bool
 is_in (array us) t = is_among us t
@@ -108,6 +106,11 @@ abbrev pub is_count_at_least : Option ℕ → Tree → Bool
 is_count_at_least (Some n) w = are_ordered w (number (count n))
 is_count_at_least None w = true
 
+-- no two items of an array are equal, where that is asked
+abbrev pub are_unique : Tree → Tree → Bool
+are_unique (boolean asked) (array ts) = not asked || are_distinct ts
+are_unique _ t = true
+
 abbrev pub has_required : Tree → Tree → Bool
 has_required w (object ms) = has_keys w ms
 has_required _ t = true
@@ -130,6 +133,7 @@ accepts kw.MaxLength w t = is_count_at_most (length_of t) w  -- 6.3.1
 accepts kw.MinLength w t = is_count_at_least (length_of t) w  -- 6.3.2
 accepts kw.MaxItems w t = is_count_at_most (items_count_of t) w  -- 6.4.1
 accepts kw.MinItems w t = is_count_at_least (items_count_of t) w  -- 6.4.2
+accepts kw.UniqueItems w t = are_unique w t  -- 6.4.3
 accepts kw.MaxProperties w t = is_count_at_most (members_count_of t) w  -- 6.5.1
 accepts kw.MinProperties w t = is_count_at_least (members_count_of t) w  -- 6.5.2
 accepts kw.Required w t = has_required w t  -- 6.5.3
@@ -142,8 +146,8 @@ meets k s t = option_map_or (λ w. accepts k w t) (tree_at_key s (name k)) true
 
 abbrev pub assertions : List Keyword
 assertions = kw.Type ∷ kw.Enum ∷ kw.Const ∷ kw.MultipleOf ∷ kw.Maximum ∷ kw.ExclusiveMaximum ∷ kw.Minimum
-    ∷ kw.ExclusiveMinimum ∷ kw.MaxLength ∷ kw.MinLength ∷ kw.MaxItems ∷ kw.MinItems ∷ kw.MaxProperties ∷ kw.MinProperties
-    ∷ kw.Required ∷ kw.DependentRequired ∷ []
+    ∷ kw.ExclusiveMinimum ∷ kw.MaxLength ∷ kw.MinLength ∷ kw.MaxItems ∷ kw.MinItems ∷ kw.UniqueItems
+    ∷ kw.MaxProperties ∷ kw.MinProperties ∷ kw.Required ∷ kw.DependentRequired ∷ []
 
 abbrev pub meets_all : List Keyword → Tree → Tree → Bool
 meets_all [] s t = true

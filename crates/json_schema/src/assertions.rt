@@ -17,13 +17,14 @@ ghost use Rattle.json_schema.specs.Keywords.{is_count_at_most, is_count_at_least
 
 use crate::keyword::Keyword;
 use crate::multiple::are_multiple;
+use crate::unique::are_unique;
 use json_order::is_at_most;
 use std::alloc::{AllocError, Global};
 use std::collections::HashMap;
 use tinyjson::{JsonNumber, JsonValue, sorted_members};
 
 /// The keywords that speak of a value and not of its parts, in the order in which they are checked.
-const ASSERTIONS: [Keyword; 16] = [
+const ASSERTIONS: [Keyword; 17] = [
     Keyword::Type,
     Keyword::Enum,
     Keyword::Const,
@@ -36,6 +37,7 @@ const ASSERTIONS: [Keyword; 16] = [
     Keyword::MinLength,
     Keyword::MaxItems,
     Keyword::MinItems,
+    Keyword::UniqueItems,
     Keyword::MaxProperties,
     Keyword::MinProperties,
     Keyword::Required,
@@ -117,6 +119,7 @@ fn accepts(
         Keyword::MinLength => is_count_at_least(length(value), operand, alloc),
         Keyword::MaxItems => is_count_at_most(item_count(value), operand, alloc),
         Keyword::MinItems => is_count_at_least(item_count(value), operand, alloc),
+        Keyword::UniqueItems => are_unique(operand, value, alloc),
         Keyword::MaxProperties => is_count_at_most(member_count(value, alloc)?, operand, alloc),
         Keyword::MinProperties => is_count_at_least(member_count(value, alloc)?, operand, alloc),
         Keyword::Required => Ok(has_required(operand, value)),

@@ -69,8 +69,7 @@ fn form_of(keyword: Keyword) -> Form
         | Keyword::PatternProperties
         | Keyword::UnevaluatedItems
         | Keyword::UnevaluatedProperties
-        | Keyword::Pattern
-        | Keyword::UniqueItems => Form::Refused,
+        | Keyword::Pattern => Form::Refused,
         Keyword::PrefixItems | Keyword::AllOf | Keyword::AnyOf | Keyword::OneOf => Form::Schemas,
         Keyword::Not
         | Keyword::If
@@ -99,6 +98,7 @@ fn form_of(keyword: Keyword) -> Form
         | Keyword::MinProperties => Form::Count,
         Keyword::Required => Form::Keys,
         Keyword::DependentRequired => Form::KeyLists,
-        Keyword::Deprecated | Keyword::ReadOnly | Keyword::WriteOnly => Form::Truth,
+        Keyword::UniqueItems | Keyword::Deprecated | Keyword::ReadOnly | Keyword::WriteOnly =>
+            Form::Truth,
     }
 }

@@ -20,6 +20,7 @@ mod reference;
 mod refused;
 mod report;
 mod shown;
+mod unique;
 mod validate;
 mod violation;
 mod walk;
