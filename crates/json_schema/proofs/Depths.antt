@@ -1,6 +1,6 @@
 -- How deep the schemas in a schema are.
-use Rattle.std.proofs.Common.{◌≡◌, ◌∷◌, [], ℕ, zero, suc, ◌<◌, ◌≤◌, List, String, Global, Bor, length, get_or, refl, ap, arith}
-use Rattle.tinyjson.specs.Tree.{Tree, Items, no_items, item, Members, no_members, member, tree_depth, items_depth, members_depth}
+use Rattle.std.proofs.Common.{◌≡◌, ◌∷◌, [], ℕ, zero, suc, ◌<◌, ◌≤◌, List, String, Global, Bor, length, get_or, ap, arith}
+use Rattle.tinyjson.specs.Tree.{tree_depth, items_depth, members_depth}
 use Rattle.tinyjson.specs.View.{view, items_view, members_listed}
 use Rattle.tinyjson.specs.declared.value.JsonValue.{JsonValue}
 

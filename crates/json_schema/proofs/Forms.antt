@@ -1,5 +1,5 @@
 -- Lists of schemas and of keywords, one after the other.
-use Rattle.std.proofs.Common.{◌≡◌, ◌∷◌, [], ℕ, zero, suc, ◌<◌, ◌+◌, ◌==◌, Bool, true, false, not, ◌&&◌, List, String, Global, Bor, Vec}
+use Rattle.std.proofs.Common.{◌≡◌, ◌∷◌, [], ℕ, zero, suc, ◌<◌, ◌+◌, ◌==◌, Bool, false, not, ◌&&◌, List, String, Global, Bor, Vec}
 use Rattle.std.proofs.Common.{length, get_or, drop, encode_utf8_all, refl, sym, ap, ◌∙◌, arith, add-one, ne_eqb}
 use Rattle.tinyjson.proofs.Callers.{view_Array}
 use Rattle.tinyjson.specs.Tree.{Tree}

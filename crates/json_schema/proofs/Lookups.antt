@@ -1,5 +1,5 @@
 -- Keywords and names, as bytes and as characters.
-use Rattle.std.proofs.Common.{◌≡◌, ℕ, Bool, true, false, ◌&&◌, ◌||◌, not, List, Option, Some, None, option_map, is_some, String}
+use Rattle.std.proofs.Common.{◌≡◌, ℕ, Bool, true, false, ◌&&◌, ◌||◌, List, Option, Some, None, option_map, is_some, String}
 use Rattle.std.proofs.Common.{[], ◌∷◌, suc, length, Vec, string_bytes, Global, Bor, bytes_eq, codes, encode_utf8_all, refl, sym, ap, ◌∙◌}
 use Rattle.std.proofs.lemmas.Slice.Eq.{bytes_eq-Decides}
 use Rattle.std.proofs.lemmas.Str.{encodes-chars, encodes-IsAscii, IsUtf8-string_bytes}
@@ -12,7 +12,7 @@ use Rattle.tinyjson.specs.Access.{JsonMap}
 use Rattle.tinyjson.specs.Index.{tree_at, tree_at_key}
 use Rattle.tinyjson.specs.Kind.{kind_of, kind_name}
 use Rattle.tinyjson.specs.Tree.{Tree, Items, array, find}
-use Rattle.tinyjson.specs.View.{view, text, items_view, members_view, members_listed}
+use Rattle.tinyjson.specs.View.{view, text, members_view, members_listed}
 use Rattle.tinyjson.specs.JsonKind.{JsonKind}
 use Rattle.tinyjson.specs.JsonKind.TheVariants as kind
 use Rattle.tinyjson.specs.declared.value.JsonValue.{JsonValue}

@@ -1,5 +1,5 @@
 -- Turns of the loops over members, items and schemas at keys.
-use Rattle.std.proofs.Common.{◌≡◌, ◌∷◌, ℕ, suc, ◌<◌, ◌≤◌, ◌+◌, Bool, true, false, not, ◌&&◌, ◌||◌}
+use Rattle.std.proofs.Common.{◌≡◌, ℕ, suc, ◌<◌, ◌≤◌, ◌+◌, true, false, not, ◌&&◌, ◌||◌}
 use Rattle.std.proofs.Common.{List, Some, None, length, get_or, drop, is_some}
 use Rattle.std.proofs.Common.{Vec, Global, refl, sym, ap, ◌∙◌, add-one}
 use Rattle.std.proofs.lemmas.Bool.{or_left, or_right}

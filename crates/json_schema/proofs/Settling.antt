@@ -1,5 +1,5 @@
 -- What a schema comes to, by what those come to that it applies to the value itself.
-use Rattle.std.proofs.Common.{◌≡◌, ◌∷◌, [], suc, Bool, true, false, ◌&&◌, refl, sym, ap, ◌∙◌}
+use Rattle.std.proofs.Common.{◌≡◌, suc, Bool, true, false, ◌&&◌, sym, ap, ◌∙◌}
 use Rattle.tinyjson.specs.Tree.{Tree}
 use Rattle.tinyjson.specs.View.{view}
 use Rattle.json_schema.specs.Applied.{schema_map_at}

@@ -1,5 +1,5 @@
 -- Values that are valid, and places that are not.
-use Rattle.std.proofs.Common.{◌≡◌, ◌∷◌, ◌++◌, [], ℕ, zero, suc, ◌+◌, Bool, true, false, true≢false}
+use Rattle.std.proofs.Common.{◌≡◌, ◌∷◌, [], ℕ, zero, suc, ◌+◌, Bool, true, false, true≢false}
 use Rattle.std.proofs.Common.{not, ◌&&◌, ◌||◌, List, Option, Some, None}
 use Rattle.std.proofs.Common.{IsSome, is_some, cond, bytes_eq, Result, Ok, Err, refl, sym, ap, ◌∙◌, subst, arith}
 use Rattle.std.proofs.lemmas.Bool.{and_parts}
@@ -18,7 +18,7 @@ use Rattle.json_schema.specs.Applied.{items_accepted}
 use Rattle.json_schema.specs.Applied.{parts_accepted}
 use Rattle.json_schema.specs.Keywords.{meets_all, assertions}
 use Rattle.json_schema.specs.Names.{name}
-use Rattle.json_schema.specs.Parts.{member_schema, item_schema, part_schema}
+use Rattle.json_schema.specs.Parts.{item_schema, part_schema}
 use Rattle.json_schema.specs.Places.{IsAt}
 use Rattle.json_schema.specs.References.{referenced}
 use Rattle.json_schema.specs.Valid.{refuses_all, judge, reference_accepts, accepts_by, Decides, Judges, IsDeeper, Finds, IsInvalidAt}

@@ -1,6 +1,6 @@
 -- The keywords that apply schemas, by what those schemas say of values (JSON Schema 2020-12, Core, section 10).
 -- A keyword that is missing says nothing; nor does a list or an object of schemas that is empty, or has another form.
-use Rattle.std.specs.Prelude.{◌≡◌, ℕ, suc, ◌+◌, ◌==◌, Bool, true, false, not, ◌&&◌, ◌||◌, List}
+use Rattle.std.specs.Prelude.{ℕ, suc, ◌+◌, ◌==◌, Bool, true, false, not, ◌&&◌, ◌||◌, List}
 use Rattle.std.specs.Prelude.{[], ◌∷◌, Option, Some, None, cond, is_some, length}
 use Rattle.std.specs.Prelude.{option_and_then}
 use Rattle.std.specs.Option.{option_map_or}

@@ -1,5 +1,5 @@
 -- References that lead on and on.
-use Rattle.std.specs.Prelude.{ℕ, zero, suc, Bool, true, false, ◌&&◌, List, [], ◌∷◌, Option}
+use Rattle.std.specs.Prelude.{ℕ, zero, suc, Bool, true, false, ◌&&◌, List, [], ◌∷◌}
 use Rattle.std.specs.Option.{option_map_or}
 use Rattle.tinyjson.specs.Tree.{Tree, Items, no_items, item, Members, no_members, member}
 use Rattle.tinyjson.specs.View.{view}

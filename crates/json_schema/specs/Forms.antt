@@ -2,8 +2,8 @@
 use Rattle.std.specs.Prelude.{ℕ, pos, Bool, true, false, not, ◌&&◌, ◌||◌, List, int_le, codes, encode_utf8_all}
 use Rattle.std.specs.Option.{option_map_or}
 use Rattle.std.specs.Str.{bytes_eq}
-use Rattle.tinyjson.specs.Access.{is_boolean, is_number, is_string, is_array}
-use Rattle.tinyjson.specs.Tree.{Tree, boolean, number, string, array, object, Items, no_items, item, Members, no_members, member}
+use Rattle.tinyjson.specs.Access.{is_string}
+use Rattle.tinyjson.specs.Tree.{Tree, number, string, array, object, Items, no_items, item, Members, no_members, member}
 use Rattle.json_order.specs.Multiples.{is_divisor}
 use Rattle.json_schema.specs.Keywords.{is_among}
 use Rattle.json_schema.specs.Names.{keywords, keyword_among}

@@ -1,5 +1,5 @@
 -- The schemas that there are for the parts of a value.
-use Rattle.std.specs.Prelude.{ℕ, Bool, true, false, List, [], ◌∷◌, Option, Some, None, option_and_then, codes}
+use Rattle.std.specs.Prelude.{ℕ, Bool, true, false, List, Option, Some, None, option_and_then, codes}
 use Rattle.tinyjson.specs.Index.{tree_at, tree_at_key}
 use Rattle.tinyjson.specs.Tree.{Tree, array, object}
 use Rattle.json_pointer.specs.Index.{index_of}

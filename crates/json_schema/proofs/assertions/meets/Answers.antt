@@ -1,4 +1,4 @@
-use Rattle.std.proofs.Common.{◌≡◌, ◌∙◌, true, Some, None, sym, ap, subst}
+use Rattle.std.proofs.Common.{◌≡◌, true, Some, None, sym, ap, subst}
 use Rattle.std.specs.Option.{option_map_or}
 use Rattle.std.specs.Prelude.{IfOk}
 use Rattle.tinyjson.specs.View.{view}

@@ -1,4 +1,4 @@
-use Rattle.std.proofs.Common.{◌≡◌, ◌<◌, ◌+◌, ◌*◌, ◌∙◌, arith, rules, refl, sym, ap, subst}
+use Rattle.std.proofs.Common.{◌≡◌, ◌<◌, ◌+◌, ◌*◌, ◌∙◌, arith, rules, refl, ap, subst}
 use Rattle.std.specs.Prelude.{IfOk}
 use Rattle.tinyjson.specs.View.{view, members_listed}
 use Rattle.json_schema.specs.Circles.{map_passes, reference_passes, settles_in}

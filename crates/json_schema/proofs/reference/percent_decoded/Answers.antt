@@ -1,4 +1,4 @@
-use Rattle.std.proofs.Common.{◌≡◌, ◌∷◌, [], ◌++◌, ◌∙◌, length, arith, rules, sym, ap, subst}
+use Rattle.std.proofs.Common.{◌≡◌, ◌∷◌, [], ◌++◌, length, arith, rules, sym, ap, subst}
 use Rattle.json_schema.proofs.References.{IsDecoded, none_decoded, all_decoded, next_decoded, bad_decoded, front_shorter}
 use Rattle.json_schema.proofs.reference.percent_decoded.Goals as goal
 

@@ -1,7 +1,7 @@
-use Rattle.std.proofs.Common.{◌≡◌, ◌∙◌, Some, None, true, false, option_map, sym, ap}
+use Rattle.std.proofs.Common.{◌≡◌, ◌∙◌, true, false, option_map, sym, ap}
 use Rattle.tinyjson.specs.View.{view}
 use Rattle.json_pointer.specs.Tokens.{tokens_of}
-use Rattle.json_schema.specs.References.{reference_tokens, form_after, is_schema_form}
+use Rattle.json_schema.specs.References.{form_after, is_schema_form}
 use Rattle.json_schema.specs.declared.form.Form.TheVariants as form
 use Rattle.json_schema.proofs.References.{string_target, no_reference_tokens, no_schema_there, schema_there}
 use Rattle.json_schema.proofs.reference.target.Goals as goal

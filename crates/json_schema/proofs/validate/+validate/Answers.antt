@@ -1,4 +1,4 @@
-use Rattle.std.proofs.Common.{◌≡◌, ◌<◌, ◌+◌, ◌*◌, ◌∙◌, ◌∷◌, ◌&&◌, ◌||◌, Bool, true, false, not, Ok}
+use Rattle.std.proofs.Common.{◌≡◌, ◌<◌, ◌+◌, ◌*◌, ◌∙◌, ◌&&◌, true, Ok}
 use Rattle.std.proofs.Common.{Some, None, drop, is_some, option_map, suc, arith, rules, refl}
 use Rattle.std.proofs.Common.{sym, ap, subst}
 use Rattle.std.specs.Option.{option_map_or}
@@ -10,13 +10,11 @@ use Rattle.tinyjson.specs.Tree.{object, array, find}
 use Rattle.tinyjson.specs.View.{view, text, items_view, members_listed}
 use Rattle.tinyjson_grammar.specs.Soundness.{IsSorted}
 use Rattle.json_pointer.specs.Index.{index_of}
-use Rattle.json_pointer.specs.Tokens.{tokens_of}
 use Rattle.json_pointer.specs.Walk.{item_of}
 use Rattle.json_schema.specs.Applied.{schemas_at, schema_map_at, all_accept, dependents_accept, members_accepted, items_accepted}
 use Rattle.json_schema.specs.Applied.{applies, parts_accepted, tests, contains_some, contains_at_most, contains_at_least, any_of, one_of}
 use Rattle.json_schema.specs.Applied.{branch, branch_accepts}
 use Rattle.json_schema.specs.Keywords.{IsUnmet}
-use Rattle.json_schema.specs.Names.{name}
 use Rattle.json_schema.specs.Parts.{item_schema}
 use Rattle.json_schema.specs.Places.{IsMemberPart, IsUnderKey, Enters, place}
 use Rattle.json_schema.specs.Valid.{says, reference_accepts, Judges, Finds, IsUnapplied, refused, unmet, not_applied, in_all_of}
