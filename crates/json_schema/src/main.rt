@@ -40,7 +40,7 @@ use validate::find_violation;
 const DEPTH_LIMIT: usize = 100;
 
 /// How many schemas may be applied in one another: so many take less than 256 KB of stack.
-const STEP_LIMIT: usize = 300;
+const STEP_LIMIT: usize = 250;
 
 fn main(rt: HostRuntime) -> ExitCode {
     match check(&rt) {

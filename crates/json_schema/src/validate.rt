@@ -1,4 +1,5 @@
-//! What a value does not meet of a schema.
+//! What a value does not meet of a schema. The tests that apply schemas are not inlined, so that a level of the
+//! recursion over schemas takes less than a kilobyte of stack.
 ghost use Rattle.std.specs.Prelude.{◌≡◌, IfOk, not, is_some};
 ghost use Rattle.tinyjson.specs.Tree.{array, object};
 ghost use Rattle.tinyjson.specs.View.{view, items_view, members_listed};
@@ -119,6 +120,7 @@ fn is_nothing(found: &Option<Violation>) -> bool
 
 /// A keyword that the value does not meet by what the schemas in it say of the value, or of what is in it.
 #[cycle(validate)]
+#[inline(never)]
 fn unmet_test(
     value: &JsonValue,
     schema: &JsonValue,
@@ -149,6 +151,7 @@ fn unmet_test(
 
 /// A keyword that the value does not meet by how many items the schema of `contains` accepts.
 #[cycle(validate)]
+#[inline(never)]
 fn unmet_count(
     value: &JsonValue,
     schema: &JsonValue,
@@ -176,6 +179,7 @@ fn unmet_count(
 
 /// Whether some schema of the list accepts the value, or there is none in it.
 #[cycle(validate)]
+#[inline(never)]
 fn is_any_met(
     value: &JsonValue,
     schemas: &[JsonValue],
@@ -193,6 +197,7 @@ fn is_any_met(
 }
 
 #[cycle(validate)]
+#[inline(never)]
 fn is_some_met(
     value: &JsonValue,
     schemas: &[JsonValue],
@@ -213,6 +218,7 @@ fn is_some_met(
 
 /// Whether exactly one schema of the list accepts the value, or there is none in it.
 #[cycle(validate)]
+#[inline(never)]
 fn is_one_met(
     value: &JsonValue,
     schemas: &[JsonValue],
@@ -252,6 +258,7 @@ fn count_accepting(
 
 /// Whether the schema of `not` does not accept the value.
 #[cycle(validate)]
+#[inline(never)]
 fn is_not_met(
     value: &JsonValue,
     schema: &JsonValue,
@@ -272,6 +279,7 @@ fn is_not_met(
 
 /// Whether the schema of `propertyNames` accepts each key.
 #[cycle(validate)]
+#[inline(never)]
 fn are_names_met(
     value: &JsonValue,
     schema: &JsonValue,
@@ -292,6 +300,7 @@ fn are_names_met(
 }
 
 #[cycle(validate)]
+#[inline(never)]
 fn are_keys_met(
     members: &[(&String, &JsonValue)],
     schema: &JsonValue,
@@ -313,6 +322,7 @@ fn are_keys_met(
 
 /// How many items of an array the schema of `contains` accepts, if there is one.
 #[cycle(validate)]
+#[inline(never)]
 fn contained(
     value: &JsonValue,
     schema: &JsonValue,
