@@ -172,6 +172,7 @@ impl<S: Tokens> Reader<S> {
     }
 
     /// Reads white space and a value, or opens a container.
+    #[inline(always)]
     fn next<B: Builder>(
         &mut self,
         limit: Option<usize>,
@@ -190,6 +191,7 @@ impl<S: Tokens> Reader<S> {
     }
 
     /// Reads the value that begins with this character, or opens a container.
+    #[inline(always)]
     fn value<B: Builder>(
         &mut self,
         limit: Option<usize>,
@@ -378,6 +380,7 @@ impl<S: Tokens> Reader<S> {
     }
 
     /// Reads what follows a value in the innermost container, which awaited it.
+    #[inline(always)]
     fn after<B: Builder>(
         &mut self,
         nest: &mut Nest<B>,
@@ -398,6 +401,7 @@ impl<S: Tokens> Reader<S> {
     }
 
     /// Reads a comma or the bracket that closes the array, after an item.
+    #[inline(always)]
     fn after_item<B: Builder>(&mut self, nest: &mut Nest<B>) -> Result<Progress, JsonParseErrorKind>
         requires open { (ts : List Tree) × (fs : List Frame) ×
             IsOpen B.holds nest.old (in_array ts ∷ fs) }
@@ -425,6 +429,7 @@ impl<S: Tokens> Reader<S> {
     }
 
     /// Reads a comma or the brace that closes the object, after a member.
+    #[inline(always)]
     fn after_member<B: Builder>(
         &mut self,
         nest: &mut Nest<B>,
