@@ -1,15 +1,35 @@
--- What callers need of the container of a place, apart from the tree that holds it.
-use Rattle.std.proofs.Common.{◌≡◌, ◌&&◌, ℕ, Bool, true, false, bytes_eq, List, [], ◌∷◌, Option, Some, None, IsSome, option_map, refl}
-use Rattle.std.proofs.Common.{ap, ◌∙◌}
+-- What callers need of the text of a pointer, and of the container of a place, apart from the tree that holds it.
+use Rattle.std.proofs.Common.{◌≡◌, ◌&&◌, ℕ, Bool, true, false, cond, bytes_eq, List, [], ◌∷◌, Option, Some, None, IsSome, option_map}
+use Rattle.std.proofs.Common.{refl, sym, ap, ◌∙◌}
 use Rattle.std.proofs.lemmas.Slice.Eq.{bytes_eq-Decides}
 use Rattle.std.specs.Prelude.{option_and_then}
 use Rattle.tinyjson.specs.Soundness.{IsTree}
 use Rattle.tinyjson.specs.Tree.{Tree, null}
 use Rattle.json_pointer.proofs.Changing.{part_put, part_again, part_back, is_back}
+use Rattle.json_pointer.proofs.Tokens.{split_pointer}
 use Rattle.json_pointer.specs.Change.{with_child, without_child, changed_at, all_but_last, last_of, with_new_part, without_part}
+use Rattle.json_pointer.specs.Reading.{IsNoPointer}
 use Rattle.json_pointer.specs.Siblings.{container_at, with_container, child_name, are_beside}
+use Rattle.json_pointer.specs.Text.{pointer_text, split, pointer_tokens}
 use Rattle.json_pointer.specs.Tokens.{begins_with}
 use Rattle.json_pointer.specs.Walk.{part_at, with_part}
+
+-- ---- the text of a pointer
+
+-- reading gives the tokens whose text it is
+pub tokens_read : (cs : List ℕ) (ts : List (List ℕ)) → cs ≡ pointer_text ts → pointer_tokens cs ≡ Some ts
+tokens_read cs ts h =
+    let same : (split false cs).1 ≡ ts = ap (λ s. s.1) (ap (split false) h ∙ split_pointer ts) in
+    let text : pointer_text (split false cs).1 ≡ cs = ap pointer_text same ∙ sym h in
+    ap (λ b. cond b (Some (split false cs).1) None) ((bytes_eq-Decides (pointer_text (split false cs).1) cs).1 text)
+    ∙ ap (λ us. Some us) same
+
+pub no_tokens_read : (cs : List ℕ) → IsNoPointer cs → pointer_tokens cs ≡ None
+no_tokens_read cs h = by (bytes_eq (pointer_text (split false cs).1) cs) refl
+  where
+    by : (b : Bool) → bytes_eq (pointer_text (split false cs).1) cs ≡ b → cond b (Some (split false cs).1) None ≡ None
+    by true e = absurd (h (split false cs).1 (sym ((bytes_eq-Decides (pointer_text (split false cs).1) cs).0 e)))
+    by false e = refl
 
 -- ---- a container that is taken out, and another one that is put in its place
 

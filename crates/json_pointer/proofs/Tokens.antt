@@ -90,7 +90,7 @@ begun_alone : (t : List ℕ) (ts : List (List ℕ)) → begun t ([], ts) ≡ (t,
 begun_alone [] ts = refl
 begun_alone (c ∷ t) ts = ap (longer c) (begun_alone t ts)
 
-split_pointer : (ts : List (List ℕ)) → split false (pointer_text ts) ≡ ([], ts)
+pub split_pointer : (ts : List (List ℕ)) → split false (pointer_text ts) ≡ ([], ts)
 split_pointer [] = refl
 split_pointer (t ∷ ts) = ap parted (split_escape t (pointer_text ts) ∙ (ap (begun t) (split_pointer ts) ∙ begun_alone t ts))
 
@@ -99,21 +99,6 @@ one_pointer ts us h = ap (λ s. s.1) (sym (split_pointer ts) ∙ (ap (split fals
 
 pub exactly : (cs : List ℕ) (us : List (List ℕ)) → cs ≡ pointer_text us → (ts : List (List ℕ)) → (cs ≡ pointer_text ts) ↔ (ts ≡ us)
 exactly cs us h ts = (λ e. one_pointer ts us (sym e ∙ h), λ e. h ∙ ap pointer_text (sym e))
-
--- reading gives the tokens whose text it is
-pub tokens_read : (cs : List ℕ) (ts : List (List ℕ)) → cs ≡ pointer_text ts → pointer_tokens cs ≡ Some ts
-tokens_read cs ts h =
-    let same : (split false cs).1 ≡ ts = ap (λ s. s.1) (ap (split false) h ∙ split_pointer ts) in
-    let text : pointer_text (split false cs).1 ≡ cs = ap pointer_text same ∙ sym h in
-    ap (λ b. cond b (Some (split false cs).1) None) ((bytes_eq-Decides (pointer_text (split false cs).1) cs).1 text)
-    ∙ ap (λ us. Some us) same
-
-pub no_tokens_read : (cs : List ℕ) → IsNoPointer cs → pointer_tokens cs ≡ None
-no_tokens_read cs h = by (bytes_eq (pointer_text (split false cs).1) cs) refl
-  where
-    by : (b : Bool) → bytes_eq (pointer_text (split false cs).1) cs ≡ b → cond b (Some (split false cs).1) None ≡ None
-    by true e = absurd (h (split false cs).1 (sym ((bytes_eq-Decides (pointer_text (split false cs).1) cs).0 e)))
-    by false e = refl
 
 -- ---- in the text of a pointer `0` or `1` is after each `~`
 

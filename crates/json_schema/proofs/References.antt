@@ -17,7 +17,7 @@ use Rattle.json_pointer.specs.Tokens.{tokens_of}
 use Rattle.json_pointer.specs.declared.pointer.Pointer.{Pointer}
 use Rattle.json_pointer.specs.declared.pointer.PointerError.{PointerError}
 use Rattle.json_pointer.specs.declared.pointer.PointerError.TheVariants.{NoSlash, BadEscape, OutOfMemory}
-use Rattle.json_pointer.proofs.Tokens.{tokens_read, no_tokens_read}
+use Rattle.json_pointer.proofs.Callers.{tokens_read, no_tokens_read}
 use Rattle.json_pointer.specs.Walk.{part_at}
 use Rattle.json_schema.specs.References.{percent_decoded, after_percent, hex_byte, escape_front, byte_front}
 use Rattle.json_schema.specs.References.{utf8_text, fragment_tokens, reference_tokens, form_in, form_after, is_schema_form}
