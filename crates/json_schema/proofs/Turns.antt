@@ -25,8 +25,25 @@ module _ {X B : Type 0} (F : List X → B) (xs : List X) (i : ℕ) where
       → F (drop (i + 1) xs) ≡ F xs
   turn_next x h e pass left = sym pass ∙ (sym (ap F (drop_item xs i x h e)) ∙ left)
 
+  -- it is told by the one that comes next
+  pub turn_stop : (b : B) (x : X) → i < length xs → x ≡ get_or xs i x → F (x ∷ drop (i + 1) xs) ≡ b → F (drop i xs) ≡ F xs → b ≡ F xs
+  turn_stop b x h e stop left = sym stop ∙ (sym (ap F (drop_item xs i x h e)) ∙ left)
+
   pub turn_end : (b : B) → length xs ≤ i → F [] ≡ b → F (drop i xs) ≡ F xs → F xs ≡ b
   turn_end b h e left = sym left ∙ (ap F (drop_end xs i h) ∙ e)
+
+-- n and what F counts in what is left are what it counts in all
+module _ {X : Type 0} (F : List X → ℕ) (xs : List X) (i n : ℕ) where
+  pub count_next : (x : X) (m k : ℕ) → i < length xs → x ≡ get_or xs i x → F (x ∷ drop (i + 1) xs) ≡ m + F (drop (i + 1) xs) → k ≡ n + m
+      → n + F (drop i xs) ≡ F xs → k + F (drop (i + 1) xs) ≡ F xs
+  count_next x m k h e one sum left =
+      let next : F (drop i xs) ≡ m + F (drop (i + 1) xs) = ap F (drop_item xs i x h e) ∙ one in
+      omega (arith, next, sum, left)
+
+  pub count_end : length xs ≤ i → F [] ≡ 0 → n + F (drop i xs) ≡ F xs → n ≡ F xs
+  count_end h e left =
+      let none : F (drop i xs) ≡ 0 = ap F (drop_end xs i h) ∙ e in
+      omega (arith, none, left)
 
 pub nth_item : (vs : List JsonValue) (i : ℕ) (x : JsonValue) → i < length vs → x ≡ get_or vs i x → nth (items_view vs) i ≡ Some (view x)
 nth_item [] i x h e = absurd (omega arith)

@@ -21,8 +21,8 @@ use Rattle.json_schema.specs.Names.{name}
 use Rattle.json_schema.specs.Parts.{item_schema, part_schema}
 use Rattle.json_schema.specs.Places.{IsAt}
 use Rattle.json_schema.specs.References.{referenced}
-use Rattle.json_schema.specs.Valid.{refuses_all, judge, reference_accepts, accepts_by, Decides, Judges, IsDeeper, Finds, IsInvalidAt}
-use Rattle.json_schema.specs.Valid.{IsUnapplied}
+use Rattle.json_schema.specs.Valid.{refuses_all, judge, reference_accepts, accepts_by, IsValid, MeetsRules, IsInvalidAt, Validates}
+use Rattle.json_schema.specs.Valid.{Agrees, says, Follows, Decides, Judges, IsDeeper, Finds, IsUnapplied}
 use Rattle.json_schema.specs.Valid.{refused, unmet, not_applied}
 use Rattle.json_schema.specs.Valid.{in_all_of, in_branch, in_dependent, in_reference, in_part}
 use Rattle.json_schema.specs.declared.keyword.Keyword.{Keyword}
@@ -185,31 +185,59 @@ reference_chosen root f s t r h e = sym (ap (λ o. option_map_or (λ q. f q t) o
 
 -- ---- places
 
-pub not_valid : {root : Tree} {n : ℕ} {s t : Tree} {ks js : List (List ℕ)} → IsInvalidAt root n s t ks js → judge root n s t ≡ true → ⊥
-not_valid {n = zero} x v = elim x [ ]
-not_valid {root} {n = suc n} {s} {t} (refused e) v = true≢false (sym e ∙ (met root (judge root n) s t v).accepted)
-not_valid {root} {n = suc n} {s} {t} (unmet k e) v = true≢false (sym (met root (judge root n) s t v).asserted ∙ e.1)
-not_valid {root} {n = suc n} {s} {t} (not_applied k e) v =
-    true≢false (sym (applied root (judge root n) s t k (met root (judge root n) s t v)) ∙ e)
-not_valid {root} {n = suc n} {s} {t} (in_all_of {r} {k} e h) v =
-    not_valid h (named_accepts (judge root n) t (schemas_at s kw.AllOf) (index_of k) r
-    (applied root (judge root n) s t kw.AllOf (met root (judge root n) s t v)) e)
-not_valid {root} {n = suc n} {s} {t} (in_branch {c} {r} e g h) v =
-    not_valid h (branch_chosen (judge root n) s t c r (applied root (judge root n) s t kw.If (met root (judge root n) s t v)) e g)
-not_valid {root} {n = suc n} {s} {t} (in_dependent {r} {k} e g h) v =
-    not_valid h (dependent_accepts (judge root n) t (schema_map_at s kw.DependentSchemas) k r
-    (applied root (judge root n) s t kw.DependentSchemas (met root (judge root n) s t v)) e g)
-not_valid {root} {n = suc n} {s} {t} (in_reference {r} e h) v =
-    not_valid h (reference_chosen root (judge root n) s t r (met root (judge root n) s t v).referred e)
-not_valid {root} {n = suc n} {s} {t} (in_part {r} {u} {k} ls a b c h) v =
-    not_valid h (part_accepts (judge root n) s t k r u (met root (judge root n) s t v).parts a b)
+-- what is not met is not accepted, whatever is said further in
+pub refuted : {root : Tree} {n : ℕ} {s t : Tree} {ks js : List (List ℕ)} → IsInvalidAt root n s t ks js → (g : Judge)
+    → judge root n g s t ≡ true → ⊥
+refuted {n = zero} x g v = elim x [ ]
+refuted {root} {n = suc n} {s} {t} (refused e) g v = true≢false (sym e ∙ (met root (judge root n g) s t v).accepted)
+refuted {root} {n = suc n} {s} {t} (unmet k e) g v = true≢false (sym (met root (judge root n g) s t v).asserted ∙ e.1)
+refuted {root} {n = suc n} {s} {t} (not_applied k e) g v =
+    true≢false (sym (applied root (judge root n g) s t k (met root (judge root n g) s t v)) ∙ e g)
+refuted {root} {n = suc n} {s} {t} (in_all_of {r} {k} e h) g v =
+    refuted h g (named_accepts (judge root n g) t (schemas_at s kw.AllOf) (index_of k) r
+    (applied root (judge root n g) s t kw.AllOf (met root (judge root n g) s t v)) e)
+refuted {root} {n = suc n} {s} {t} (in_branch {c} {r} {b} e a j h) g v =
+    refuted h g (branch_chosen (judge root n g) s t c r (applied root (judge root n g) s t kw.If (met root (judge root n g) s t v)) e
+    (ap (λ x. schema_at s (branch x)) (a g) ∙ j))
+refuted {root} {n = suc n} {s} {t} (in_dependent {r} {k} e a h) g v =
+    refuted h g (dependent_accepts (judge root n g) t (schema_map_at s kw.DependentSchemas) k r
+    (applied root (judge root n g) s t kw.DependentSchemas (met root (judge root n g) s t v)) e a)
+refuted {root} {n = suc n} {s} {t} (in_reference {r} e h) g v =
+    refuted h g (reference_chosen root (judge root n g) s t r (met root (judge root n g) s t v).referred e)
+refuted {root} {n = suc n} {s} {t} (in_part {r} {u} {k} ls a b c h) g v =
+    refuted h g (part_accepts (judge root n g) s t k r u (met root (judge root n g) s t v).parts a b)
+
+isnt_true : (b : Bool) → (b ≡ true → ⊥) → false ≡ b
+isnt_true true n = absurd (n refl)
+isnt_true false n = refl
+
+-- ---- more steps, and no end of them
+
+-- n steps, and m further in, are k
+further : (root : Tree) (n m k : ℕ) (g : Judge) → n + m ≡ k → judge root n (judge root m g) ≡ judge root k g
+further root zero m k g e = let same : m ≡ k = omega (arith, e) in ap (λ j. judge root j g) same
+further root (suc n) m zero g e = absurd (omega (arith, e))
+further root (suc n) m (suc k) g e = ap (accepts_by root) (further root n m k g (omega (arith, e)))
+
+pub not_valid : {s t : Tree} {n : ℕ} {ks js : List (List ℕ)} → IsInvalidAt s n s t ks js → IsValid s t → ⊥
+not_valid {s} {t} {n} h v =
+    let m = v.0 in
+    let g : Judge = λ r u. true in
+    let same : judge s n (judge s m g) ≡ judge s m (judge s n g)
+    = further s n m (n + m) g refl ∙ sym (further s m n (n + m) g (omega arith)) in
+    refuted h (judge s m g) (ap (λ f. f s t) same ∙ v.1 (judge s n g))
+
+-- what meets the rules says what any number of steps gives
+at_rest : (root : Tree) (f : Judge) (n : ℕ) → MeetsRules root f → f ≡ judge root n f
+at_rest root f zero e = refl
+at_rest root f (suc n) e = (λ i s t. e s t i) ∙ ap (accepts_by root) (at_rest root f n e)
 
 pub there : {root : Tree} {n : ℕ} {s t : Tree} {ks js : List (List ℕ)} → IsInvalidAt root n s t ks js → IsSome (part_at t js)
 there (refused e) = refl
 there (unmet k e) = refl
 there (not_applied k e) = refl
 there (in_all_of e h) = there h
-there (in_branch e g h) = there h
+there (in_branch e g j h) = there h
 there (in_dependent e g h) = there h
 there (in_reference e h) = there h
 there {t} {js = k ∷ js} (in_part {u} ls a b c h) = subst (λ o. IsSome (option_and_then (λ v. part_at v js) o)) (sym b) (there h)
@@ -222,54 +250,58 @@ at_tokens : (root : Tree) (n : ℕ) (s t : Tree) (v : Violation) (ks js : List (
 at_tokens root n s t v ks js at h = subst (λ x. IsInvalidAt root n s t (tokens_of v.keyword_location) x) (sym at.1)
     (subst (λ x. IsInvalidAt root n s t x js) (sym at.0) h)
 
--- a violation that was found of the whole
-pub found : (root : Tree) (n : ℕ) (s t : Tree) (v : Violation)
-    → IsInvalidAt root n s t (tokens_of v.keyword_location) (tokens_of v.instance_location) → Decides root n s t (Ok (Some v))
-found root n s t v h = (h, there h, not_valid h)
-
 -- a violation with its reasons
 pub reported : (root : Tree) (n : ℕ) (s t : Tree) (v : Violation) (ks js : List (List ℕ)) → IsAt ks js v → IsInvalidAt root n s t ks js
     → Decides root n s t (Ok (Some v))
-reported root n s t v ks js at h = found root n s t v (at_tokens root n s t v ks js at h)
+reported root n s t v ks js at h = at_tokens root n s t v ks js at h
 
 -- the same at its tokens
-pub placed : (w : Walk) (is : Bool) (s t : Tree) (v : Violation) (ks js : List (List ℕ)) → IsAt ks js v
-    → IsInvalidAt (view w.root.now) (suc w.steps) s t ks js → Finds w is s t (Ok (Some v))
-placed w is s t v ks js at h = at_tokens (view w.root.now) (suc w.steps) s t v ks js at h
+pub placed : (w : Walk) (q : Judge → Bool) (s t : Tree) (v : Violation) (ks js : List (List ℕ)) → IsAt ks js v
+    → IsInvalidAt (view w.root.now) (suc w.steps) s t ks js → Finds w q s t (Ok (Some v))
+placed w q s t v ks js at h = at_tokens (view w.root.now) (suc w.steps) s t v ks js at h
 
 -- of a valid value nothing is found, and of another something
-pub verdict : (root : Tree) (n : ℕ) (s t : Tree) (o : Option Violation) → Decides root n s t (Ok o) → not (is_some o) ≡ judge root n s t
-verdict root n s t None h = sym h
-verdict root n s t (Some v) h = by (judge root n s t) h.2
-  where
-    by : (b : Bool) → ¬ (b ≡ true) → false ≡ b
-    by true n = absurd (n refl)
-    by false n = refl
+pub verdict : (root : Tree) (n : ℕ) (s t : Tree) (o : Option Violation) → Decides root n s t (Ok o) → (g : Judge)
+    → not (is_some o) ≡ judge root n g s t
+verdict root n s t None h g = sym (h g)
+verdict root n s t (Some v) h g = isnt_true (judge root n g s t) (refuted h g)
+
+-- the answer to the caller
+pub answered : (n : ℕ) (s t : Tree) (x : Result (Option Violation) CheckError) → Decides s n s t x → Validates n s t x
+answered n s t (Ok None) h = (n, h)
+answered n s t (Ok (Some v)) h = (h, there h, not_valid h)
+answered n s t (Err e) h = tt
+
+pub agreed : (n : ℕ) (s t : Tree) (x : Result (Option Violation) CheckError) → Decides s n s t x → IfOk x (λ o. Agrees s t o)
+agreed n s t (Ok o) h = λ f e. ap (λ q. q s t) (at_rest s f n e) ∙ sym (verdict s n s t o h f)
+agreed n s t (Err e) h = tt
 
 -- the last of the tests
-pub last_tested : (f : Judge) (s t : Tree) (x : Result (Option Keyword) CheckError) → applies f kw.AnyOf s t ≡ true
-    → applies f kw.OneOf s t ≡ true → applies f kw.Not s t ≡ true → applies f kw.PropertyNames s t ≡ true
-    → IfOk x (λ o. IsUnapplied f counts s t o) → IfOk x (λ o. IsUnapplied f tests s t o)
-last_tested f s t (Ok None) a b c d h = λ i. a i && (b i && (c i && (d i && h i)))
-last_tested f s t (Ok (Some k)) a b c d h = h
-last_tested f s t (Err e) a b c d h = tt
+pub last_tested : (w : Walk) (s t : Tree) (x : Result (Option Keyword) CheckError)
+    → ((g : Judge) → (applies (says w g) kw.AnyOf s t ≡ true) × (applies (says w g) kw.OneOf s t ≡ true)
+    × (applies (says w g) kw.Not s t ≡ true) × (applies (says w g) kw.PropertyNames s t ≡ true))
+    → IfOk x (λ o. IsUnapplied w counts s t o) → IfOk x (λ o. IsUnapplied w tests s t o)
+last_tested w s t (Ok None) a h = λ g i. (a g).0 i && ((a g).1 i && ((a g).2 i && ((a g).3 i && h g i)))
+last_tested w s t (Ok (Some k)) a h = h
+last_tested w s t (Err e) a h = tt
 
 -- the last step of the check
-pub last_found : (w : Walk) (f : Judge) (s t : Tree) (x : Result (Option Violation) CheckError) → f ≡ judge (view w.root.now) w.steps
-    → refuses_all s ≡ false → meets_all assertions s t ≡ true → apply_all f tests s t ≡ true → applies f kw.AllOf s t ≡ true
-    → applies f kw.If s t ≡ true → applies f kw.DependentSchemas s t ≡ true → reference_accepts (view w.root.now) f s t ≡ true
-    → Finds w (parts_accepted f s t) s t x → Decides (view w.root.now) (suc w.steps) s t x
-last_found w f s t (Ok None) same a b c d e g r h = ap (λ q. accepts_by (view w.root.now) q s t) (sym same)
-    ∙ valid_from (view w.root.now) f s t (record {
-      accepted = a;
-      asserted = b;
-      tested = c;
-      demanded = λ i. d i && (e i && (g i && true));
-      referred = r;
-      parts = h;
-    })
-last_found w f s t (Ok (Some v)) same a b c d e g r h = found (view w.root.now) (suc w.steps) s t v h
-last_found w f s t (Err x) same a b c d e g r h = tt
+pub last_found : (w : Walk) (s t : Tree) (x : Result (Option Violation) CheckError)
+    → refuses_all s ≡ false → meets_all assertions s t ≡ true → ((g : Judge) → apply_all (says w g) tests s t ≡ true)
+    → ((g : Judge) → applies (says w g) kw.AllOf s t ≡ true) → ((g : Judge) → applies (says w g) kw.If s t ≡ true)
+    → ((g : Judge) → applies (says w g) kw.DependentSchemas s t ≡ true)
+    → ((g : Judge) → reference_accepts (view w.root.now) (says w g) s t ≡ true)
+    → Finds w (λ f. parts_accepted f s t) s t x → Decides (view w.root.now) (suc w.steps) s t x
+last_found w s t (Ok None) a b c d e k r h = λ g. valid_from (view w.root.now) (says w g) s t (record {
+  accepted = a;
+  asserted = b;
+  tested = c g;
+  demanded = λ i. d g i && (e g i && (k g i && true));
+  referred = r g;
+  parts = h g;
+})
+last_found w s t (Ok (Some v)) a b c d e k r h = h
+last_found w s t (Err x) a b c d e k r h = tt
 
 -- what is known of a schema in the walk, one step before
 pub before : (w inner : Walk) → IsDeeper w inner → (s t : Tree) (x : Result (Option Violation) CheckError)
@@ -279,21 +311,26 @@ before w inner d s t x h = subst (λ n. Decides (view w.root.now) n s t x) (sym 
 
 -- ---- the schema that `if` chooses
 
-module _ (root : Tree) (n : ℕ) (s t c : Tree) (k : Keyword) (test : Some c ≡ schema_at s kw.If) (chosen : k ≡ branch (judge root n c t))
+module _ (w : Walk) (s t c : Tree) (b : Bool) (k : Keyword) (test : Some c ≡ schema_at s kw.If)
+    (told : Follows w b (λ f. f c t)) (chosen : k ≡ branch b)
   where
-    by_branch : branch_accepts (judge root n) s t (judge root n c t) ≡ true → applies (judge root n) kw.If s t ≡ true
-    by_branch h = ap (λ o. option_map_or (λ r. branch_accepts (judge root n) s t (judge root n r t)) o true) (sym test) ∙ h
+    taken : (g : Judge) → schema_at s (branch (says w g c t)) ≡ schema_at s k
+    taken g = ap (λ x. schema_at s (branch x)) (sym (told g)) ∙ ap (schema_at s) (sym chosen)
 
-    pub no_branch : None ≡ schema_at s k → applies (judge root n) kw.If s t ≡ true
-    no_branch h = by_branch (ap (λ o. option_map_or (λ r. judge root n r t) o true) (ap (schema_at s) (sym chosen) ∙ sym h))
+    by_branch : (g : Judge) → branch_accepts (says w g) s t (says w g c t) ≡ true → applies (says w g) kw.If s t ≡ true
+    by_branch g h = ap (λ o. option_map_or (λ r. branch_accepts (says w g) s t (says w g r t)) o true) (sym test) ∙ h
 
-    pub branch_met : (r : Tree) → Some r ≡ schema_at s k → judge root n r t ≡ true → applies (judge root n) kw.If s t ≡ true
-    branch_met r h v = by_branch (ap (λ o. option_map_or (λ r. judge root n r t) o true) (ap (schema_at s) (sym chosen) ∙ sym h) ∙ v)
+    pub no_branch : None ≡ schema_at s k → (g : Judge) → applies (says w g) kw.If s t ≡ true
+    no_branch h g = by_branch g (ap (λ o. option_map_or (λ r. says w g r t) o true) (taken g ∙ sym h))
 
-    pub branch_place : (r : Tree) (ks js : List (List ℕ)) → Some r ≡ schema_at s k → IsInvalidAt root n r t ks js
-        → IsInvalidAt root (suc n) s t (name k ∷ ks) js
-    branch_place r ks js h v = subst (λ x. IsInvalidAt root (suc n) s t (name x ∷ ks) js) (sym chosen)
-        (in_branch (sym test) (ap (schema_at s) (sym chosen) ∙ sym h) v)
+    pub branch_met : (r : Tree) → Some r ≡ schema_at s k → ((g : Judge) → says w g r t ≡ true) → (g : Judge)
+        → applies (says w g) kw.If s t ≡ true
+    branch_met r h v g = by_branch g (ap (λ o. option_map_or (λ r. says w g r t) o true) (taken g ∙ sym h) ∙ v g)
+
+    pub branch_place : (r : Tree) (ks js : List (List ℕ)) → Some r ≡ schema_at s k → IsInvalidAt (view w.root.now) w.steps r t ks js
+        → IsInvalidAt (view w.root.now) (suc w.steps) s t (name k ∷ ks) js
+    branch_place r ks js h v = subst (λ x. IsInvalidAt (view w.root.now) (suc w.steps) s t (name x ∷ ks) js) (sym chosen)
+        (in_branch (sym test) (λ g. sym (told g)) (ap (schema_at s) (sym chosen) ∙ sym h) v)
 
 -- ---- the schema that `$ref` leads to
 

@@ -35,28 +35,33 @@ abbrev pub accepts_by : Tree → Judge → Judge
 accepts_by root f s t = not (refuses_all s) && (meets_all assertions s t
     && (apply_all f tests s t && (apply_all f demands s t && (reference_accepts root f s t && parts_accepted f s t))))
 
--- What the schemas of the whole schema root say, where so many are applied in one another: each by what those say that it
--- applies. One more, further in, accepts nothing; of a value that comes to it, the check returns `TooDeep`.
-abbrev pub judge : Tree → ℕ → Judge
-judge root zero s t = false
-judge root (suc n) s t = accepts_by root (judge root n) s t
+-- What the schemas of the whole schema root say, by the rules of all keywords, where so many are applied in one another. Of one
+-- that is applied further in, g says it.
+abbrev pub judge : Tree → ℕ → Judge → Judge
+judge root zero g s t = g s t
+judge root (suc n) g s t = accepts_by root (judge root n g) s t
 
--- The tree t is valid against the schema s.
-abbrev pub IsValid : ℕ → Tree → Tree → Type 0
-IsValid n s t = judge s n s t ≡ true
+-- The tree t is valid against the schema s: to some depth the rules of the keywords give that, whatever is said of the schemas
+-- that are applied further in. So no schema was left out that matters, and references are followed however deep they lead.
+abbrev pub IsValid : Tree → Tree → Type 0
+IsValid s t = (n : ℕ) × ((g : Judge) → judge s n g s t ≡ true)
+
+-- What is said of each schema and value meets the rules of all keywords.
+abbrev pub MeetsRules : Tree → Judge → Type 0
+MeetsRules root f = (s t : Tree) → f s t ≡ accepts_by root f s t
 
 -- What the first tokens name in the schema s is not met by what the others name in t: it is the schema `false`, or
 -- a keyword, of a schema that is applied to that part. A token `$ref` goes on in the schema that it leads to (Core, 12.3.2).
 pub data IsInvalidAt : Tree → ℕ → Tree → Tree → List (List ℕ) → List (List ℕ) → Type 0 where
   refused : {root s t : Tree} {n : ℕ} → refuses_all s ≡ true → IsInvalidAt root (suc n) s t [] []
   unmet : {root s t : Tree} {n : ℕ} (k : Keyword) → IsUnmet s t (Some k) → IsInvalidAt root (suc n) s t (name k ∷ []) []
-  not_applied : {root s t : Tree} {n : ℕ} (k : Keyword) → applies (judge root n) k s t ≡ false
+  not_applied : {root s t : Tree} {n : ℕ} (k : Keyword) → ((g : Judge) → applies (judge root n g) k s t ≡ false)
       → IsInvalidAt root (suc n) s t (name k ∷ []) []
   in_all_of : {root s t r : Tree} {n : ℕ} {k : List ℕ} {ks js : List (List ℕ)} → item_of (schemas_at s kw.AllOf) (index_of k) ≡ Some r
       → IsInvalidAt root n r t ks js → IsInvalidAt root (suc n) s t (name kw.AllOf ∷ k ∷ ks) js
-  in_branch : {root s t c r : Tree} {n : ℕ} {ks js : List (List ℕ)} → schema_at s kw.If ≡ Some c
-      → schema_at s (branch (judge root n c t)) ≡ Some r → IsInvalidAt root n r t ks js
-      → IsInvalidAt root (suc n) s t (name (branch (judge root n c t)) ∷ ks) js
+  in_branch : {root s t c r : Tree} {b : Bool} {n : ℕ} {ks js : List (List ℕ)} → schema_at s kw.If ≡ Some c
+      → ((g : Judge) → judge root n g c t ≡ b) → schema_at s (branch b) ≡ Some r → IsInvalidAt root n r t ks js
+      → IsInvalidAt root (suc n) s t (name (branch b) ∷ ks) js
   in_dependent : {root s t r : Tree} {n : ℕ} {k : List ℕ} {ks js : List (List ℕ)} → is_some (tree_at_key t k) ≡ true
       → find k (schema_map_at s kw.DependentSchemas) ≡ Some r → IsInvalidAt root n r t ks js
       → IsInvalidAt root (suc n) s t (name kw.DependentSchemas ∷ k ∷ ks) js
@@ -65,22 +70,32 @@ pub data IsInvalidAt : Tree → ℕ → Tree → Tree → List (List ℕ) → Li
   in_part : {root s t r u : Tree} {n : ℕ} {k : List ℕ} {ks js : List (List ℕ)} (ls : List (List ℕ)) → part_schema s t k ≡ Some r
       → step t k ≡ Some u → part_at s ls ≡ Some r → IsInvalidAt root n r u ks js → IsInvalidAt root (suc n) s t (ls ++ ks) (k ∷ js)
 
--- No violation, and s accepts t; or one, and it does not.
-abbrev pub Decides : Tree → ℕ → Tree → Tree → Result (Option Violation) CheckError → Type 0
-Decides root n s t (Ok None) = judge root n s t ≡ true
-Decides root n s t (Ok (Some v)) = IsInvalidAt root n s t (tokens_of v.keyword_location) (tokens_of v.instance_location)
-    × IsSome (part_at t (tokens_of v.instance_location)) × ¬ (judge root n s t ≡ true)
-Decides root n s t (Err e) = Unit {0}
-
--- The same of a schema that is the whole.
+-- No violation, and the whole schema s accepts t; or one, and it does not.
 abbrev pub Validates : ℕ → Tree → Tree → Result (Option Violation) CheckError → Type 0
-Validates n s t result = Decides s n s t result
+Validates n s t (Ok None) = IsValid s t
+Validates n s t (Ok (Some v)) = IsInvalidAt s n s t (tokens_of v.keyword_location) (tokens_of v.instance_location)
+    × IsSome (part_at t (tokens_of v.instance_location)) × ¬ IsValid s t
+Validates n s t (Err e) = Unit {0}
+
+-- Whatever meets the rules of the keywords gives the same answer.
+abbrev pub Agrees : Tree → Tree → Option Violation → Type 0
+Agrees s t o = (f : Judge) → MeetsRules s f → f s t ≡ not (is_some o)
 
 -- ---- words of private contracts
 
--- what schemas say in a walk
-abbrev pub says : Walk → Judge
-says w = judge (view w.root.now) w.steps
+-- what schemas say in a walk, where g speaks beyond its steps
+abbrev pub says : Walk → Judge → Judge
+says w g = judge (view w.root.now) w.steps g
+
+-- x is what q makes of what schemas say in the walk, whatever is said beyond its steps.
+abbrev pub Follows : {X : Type 0} → Walk → X → (Judge → X) → Type 0
+Follows w x q = (g : Judge) → x ≡ q (says w g)
+
+-- No violation, and s accepts t, within so many steps; or one, and it does not.
+abbrev pub Decides : Tree → ℕ → Tree → Tree → Result (Option Violation) CheckError → Type 0
+Decides root n s t (Ok None) = (g : Judge) → judge root n g s t ≡ true
+Decides root n s t (Ok (Some v)) = IsInvalidAt root n s t (tokens_of v.keyword_location) (tokens_of v.instance_location)
+Decides root n s t (Err e) = Unit {0}
 
 abbrev pub Judges : Walk → Tree → Tree → Result (Option Violation) CheckError → Type 0
 Judges w = Decides (view w.root.now) w.steps
@@ -90,13 +105,13 @@ abbrev pub IsDeeper : Walk → Walk → Type 0
 IsDeeper w inner = (inner.root ≡ w.root) × (w.steps ≡ suc inner.steps)
 
 -- No violation, and what was asked of t is so; or one, of t by s, in whose schemas the walk is.
-abbrev pub Finds : Walk → Bool → Tree → Tree → Result (Option Violation) CheckError → Type 0
-Finds w is s t (Ok None) = is ≡ true
-Finds w is s t (Ok (Some v)) = IsInvalidAt (view w.root.now) (suc w.steps) s t (tokens_of v.keyword_location)
+abbrev pub Finds : Walk → (Judge → Bool) → Tree → Tree → Result (Option Violation) CheckError → Type 0
+Finds w q s t (Ok None) = (g : Judge) → q (says w g) ≡ true
+Finds w q s t (Ok (Some v)) = IsInvalidAt (view w.root.now) (suc w.steps) s t (tokens_of v.keyword_location)
     (tokens_of v.instance_location)
-Finds w is s t (Err e) = Unit {0}
+Finds w q s t (Err e) = Unit {0}
 
 -- No keyword, and t meets all of these; or one that it does not meet.
-abbrev pub IsUnapplied : Judge → List Keyword → Tree → Tree → Option Keyword → Type 0
-IsUnapplied f ks s t None = apply_all f ks s t ≡ true
-IsUnapplied f ks s t (Some k) = applies f k s t ≡ false
+abbrev pub IsUnapplied : Walk → List Keyword → Tree → Tree → Option Keyword → Type 0
+IsUnapplied w ks s t None = (g : Judge) → apply_all (says w g) ks s t ≡ true
+IsUnapplied w ks s t (Some k) = (g : Judge) → applies (says w g) k s t ≡ false

@@ -8,8 +8,8 @@ ghost use Rattle.json_schema.specs.Applied.{any_of, some_accepts, one_of, accept
 ghost use Rattle.json_schema.specs.Applied.{keys_pass, passing, contained, tests, counts};
 ghost use Rattle.json_schema.specs.Applied.{all_accept, dependents_accept, members_accepted};
 ghost use Rattle.json_schema.specs.Applied.{items_accepted, parts_accepted, schemas_at};
-ghost use Rattle.json_schema.specs.Valid.{refuses_all, says, reference_accepts, Validates};
-ghost use Rattle.json_schema.specs.Valid.{Judges, Finds, IsUnapplied};
+ghost use Rattle.json_schema.specs.Valid.{refuses_all, reference_accepts, Validates, Agrees};
+ghost use Rattle.json_schema.specs.Valid.{Judges, Follows, Finds, IsUnapplied};
 ghost use Rattle.json_schema.specs.declared.keyword.Keyword.TheVariants as kw;
 
 use crate::applied::{
@@ -41,7 +41,8 @@ pub fn find_violation(
     steps: usize,
     alloc: Global,
 ) -> Result<Option<Violation>, CheckError>
-    ensures { Validates steps (view schema.now) (view value.now) result }
+    ensures judged { Validates steps (view schema.now) (view value.now) result }
+    ensures only { IfOk result (λ found. Agrees (view schema.now) (view value.now) found) }
 {
     let walk = Walk {
         root: schema,
@@ -103,7 +104,8 @@ fn is_accepted(
     walk: Walk<'_>,
     alloc: Global,
 ) -> Result<bool, CheckError>
-    ensures { IfOk result (λ is. is ≡ says walk.entry (view schema.now) (view value.now)) }
+    ensures { IfOk result
+        (λ is. Follows walk.entry is (λ f. f (view schema.now) (view value.now))) }
 {
     let found = violation_in(value, schema, walk, alloc)?;
     Ok(is_nothing(&found))
@@ -128,7 +130,7 @@ fn unmet_test(
     alloc: Global,
 ) -> Result<Option<Keyword>, CheckError>
     ensures { IfOk result
-        (λ found. IsUnapplied (says walk.entry) tests (view schema.now) (view value.now) found) }
+        (λ found. IsUnapplied walk.entry tests (view schema.now) (view value.now) found) }
 {
     let any = is_any_met(value, schemas_at(schema, Keyword::AnyOf), walk, alloc)?;
     if !any {
@@ -159,7 +161,7 @@ fn unmet_count(
     alloc: Global,
 ) -> Result<Option<Keyword>, CheckError>
     ensures { IfOk result
-        (λ found. IsUnapplied (says walk.entry) counts (view schema.now) (view value.now) found) }
+        (λ found. IsUnapplied walk.entry counts (view schema.now) (view value.now) found) }
 {
     let count = contained(value, schema, walk, alloc)?;
     let some = contains_some(count, schema);
@@ -187,7 +189,8 @@ fn is_any_met(
     alloc: Global,
 ) -> Result<bool, CheckError>
     ensures { IfOk result
-        (λ is. is ≡ any_of (says walk.entry) (items_view schemas.now) (view value.now)) }
+        (λ is. Follows walk.entry is
+        (λ f. any_of f (items_view schemas.now) (view value.now))) }
 {
     if !is_some_item(schemas) {
         return Ok(true);
@@ -205,7 +208,8 @@ fn is_some_met(
     alloc: Global,
 ) -> Result<bool, CheckError>
     ensures { IfOk result
-        (λ is. is ≡ some_accepts (says walk.entry) (items_view schemas.now) (view value.now)) }
+        (λ is. Follows walk.entry is
+        (λ f. some_accepts f (items_view schemas.now) (view value.now))) }
 {
     for schema in schemas {
         let accepted = is_accepted(value, schema, walk, alloc)?;
@@ -226,7 +230,8 @@ fn is_one_met(
     alloc: Global,
 ) -> Result<bool, CheckError>
     ensures { IfOk result
-        (λ is. is ≡ one_of (says walk.entry) (items_view schemas.now) (view value.now)) }
+        (λ is. Follows walk.entry is
+        (λ f. one_of f (items_view schemas.now) (view value.now))) }
 {
     if !is_some_item(schemas) {
         return Ok(true);
@@ -244,7 +249,8 @@ fn count_accepting(
     alloc: Global,
 ) -> Result<usize, CheckError>
     ensures { IfOk result
-        (λ count. count ≡ accepting (says walk.entry) (items_view schemas.now) (view value.now)) }
+        (λ count. Follows walk.entry count
+        (λ f. accepting f (items_view schemas.now) (view value.now))) }
 {
     let mut count = 0;
     for schema in schemas {
@@ -266,7 +272,8 @@ fn is_not_met(
     alloc: Global,
 ) -> Result<bool, CheckError>
     ensures { IfOk result
-        (λ is. is ≡ applies (says walk.entry) kw.Not (view schema.now) (view value.now)) }
+        (λ is. Follows walk.entry is
+        (λ f. applies f kw.Not (view schema.now) (view value.now))) }
 {
     match schema_at(schema, Keyword::Not) {
         Some(part) => {
@@ -287,7 +294,8 @@ fn are_names_met(
     alloc: Global,
 ) -> Result<bool, CheckError>
     ensures { IfOk result
-        (λ is. is ≡ applies (says walk.entry) kw.PropertyNames (view schema.now) (view value.now)) }
+        (λ is. Follows walk.entry is
+        (λ f. applies f kw.PropertyNames (view schema.now) (view value.now))) }
 {
     match schema_at(schema, Keyword::PropertyNames) {
         Some(part) => {
@@ -308,7 +316,8 @@ fn are_keys_met(
     alloc: Global,
 ) -> Result<bool, CheckError>
     ensures { IfOk result
-        (λ is. is ≡ keys_pass (says walk.entry (view schema.now)) (members_listed members.now)) }
+        (λ is. Follows walk.entry is
+        (λ f. keys_pass (f (view schema.now)) (members_listed members.now))) }
 {
     for (key, _) in members {
         let name = name_of(key, alloc)?;
@@ -330,7 +339,8 @@ fn contained(
     alloc: Global,
 ) -> Result<Option<usize>, CheckError>
     ensures { IfOk result
-        (λ count. count ≡ contained (says walk.entry) (view schema.now) (view value.now)) }
+        (λ count. Follows walk.entry count
+        (λ f. contained f (view schema.now) (view value.now))) }
 {
     let Some(part) = schema_at(schema, Keyword::Contains) else {
         return Ok(None);
@@ -352,7 +362,8 @@ fn count_passing(
     alloc: Global,
 ) -> Result<usize, CheckError>
     ensures { IfOk result
-        (λ count. count ≡ passing (says walk.entry (view schema.now)) (items_view items.now)) }
+        (λ count. Follows walk.entry count
+        (λ f. passing (f (view schema.now)) (items_view items.now))) }
 {
     let mut count = 0;
     for item in items {
@@ -373,7 +384,7 @@ fn in_all_of(
     alloc: Global,
 ) -> Result<Option<Violation>, CheckError>
     ensures { Finds walk.entry
-        (applies (says walk.entry) kw.AllOf (view schema.now) (view value.now))
+        (λ f. applies f kw.AllOf (view schema.now) (view value.now))
         (view schema.now) (view value.now) result }
 {
     let parts = schemas_at(schema, Keyword::AllOf);
@@ -394,7 +405,7 @@ fn in_branch(
     walk: Walk<'_>,
     alloc: Global,
 ) -> Result<Option<Violation>, CheckError>
-    ensures { Finds walk.entry (applies (says walk.entry) kw.If (view schema.now) (view value.now))
+    ensures { Finds walk.entry (λ f. applies f kw.If (view schema.now) (view value.now))
         (view schema.now) (view value.now) result }
 {
     let Some(test) = schema_at(schema, Keyword::If) else {
@@ -421,7 +432,7 @@ fn in_dependents(
     alloc: Global,
 ) -> Result<Option<Violation>, CheckError>
     ensures { Finds walk.entry
-        (applies (says walk.entry) kw.DependentSchemas (view schema.now) (view value.now))
+        (λ f. applies f kw.DependentSchemas (view schema.now) (view value.now))
         (view schema.now) (view value.now) result }
 {
     let listed = schema_map_at(schema, Keyword::DependentSchemas, alloc)?;
@@ -446,8 +457,7 @@ fn in_reference(
     alloc: Global,
 ) -> Result<Option<Violation>, CheckError>
     ensures { Finds walk.entry
-        (reference_accepts (view walk.entry.root.now) (says walk.entry) (view schema.now)
-        (view value.now))
+        (λ f. reference_accepts (view walk.entry.root.now) f (view schema.now) (view value.now))
         (view schema.now) (view value.now) result }
 {
     let Some(part) = referenced(walk.root, schema, alloc)? else {
@@ -468,7 +478,7 @@ fn in_parts(
     walk: Walk<'_>,
     alloc: Global,
 ) -> Result<Option<Violation>, CheckError>
-    ensures { Finds walk.entry (parts_accepted (says walk.entry) (view schema.now) (view value.now))
+    ensures { Finds walk.entry (λ f. parts_accepted f (view schema.now) (view value.now))
         (view schema.now) (view value.now) result }
 {
     match value {
@@ -490,7 +500,7 @@ fn in_members(
 ) -> Result<Option<Violation>, CheckError>
     requires { IsSorted (members_listed members.now) }
     ensures { Finds walk.entry
-        (members_accepted (says walk.entry) (view schema.now) (members_listed members.now))
+        (λ f. members_accepted f (view schema.now) (members_listed members.now))
         (view schema.now) (object (members_listed members.now)) result }
 {
     for (key, member) in members {
@@ -512,7 +522,7 @@ fn in_items(
     alloc: Global,
 ) -> Result<Option<Violation>, CheckError>
     ensures { Finds walk.entry
-        (items_accepted (says walk.entry) (view schema.now) 0 (items_view items.now))
+        (λ f. items_accepted f (view schema.now) 0 (items_view items.now))
         (view schema.now) (array (items_view items.now)) result }
 {
     for (index, item) in items.iter().enumerate() {

@@ -1,6 +1,6 @@
-use Rattle.std.proofs.Common.{◌≡◌, ◌<◌, ◌+◌, ◌*◌, ◌∙◌, ◌&&◌, true, Ok}
+use Rattle.std.proofs.Common.{◌≡◌, ◌==◌, ◌<◌, ◌+◌, ◌*◌, ◌∙◌, not, ◌&&◌, ◌||◌, true, false, Ok}
 use Rattle.std.proofs.Common.{Some, None, drop, is_some, option_map, suc, arith, rules, refl}
-use Rattle.std.proofs.Common.{sym, ap, subst}
+use Rattle.std.proofs.Common.{sym, ap, subst, cond}
 use Rattle.std.specs.Option.{option_map_or}
 use Rattle.std.specs.Prelude.{option_and_then}
 use Rattle.std.specs.Str.{chars}
@@ -13,7 +13,7 @@ use Rattle.json_pointer.specs.Index.{index_of}
 use Rattle.json_pointer.specs.Walk.{item_of}
 use Rattle.json_schema.specs.Applied.{schemas_at, schema_map_at, all_accept, dependents_accept, members_accepted, items_accepted}
 use Rattle.json_schema.specs.Applied.{applies, parts_accepted, tests, contains_some, contains_at_most, contains_at_least, any_of, one_of}
-use Rattle.json_schema.specs.Applied.{branch, branch_accepts}
+use Rattle.json_schema.specs.Applied.{branch, branch_accepts, some_accepts, accepting, keys_pass, passing, members_in, items_passing}
 use Rattle.json_schema.specs.Keywords.{IsUnmet}
 use Rattle.json_schema.specs.Parts.{item_schema}
 use Rattle.json_schema.specs.Places.{IsMemberPart, IsUnderKey, Enters, place}
@@ -23,12 +23,14 @@ use Rattle.json_schema.specs.declared.keyword.Keyword.TheVariants as kw
 use Rattle.json_schema.proofs.Listed.{listed_found, listed_sorted}
 use Rattle.json_schema.proofs.Loops.{items_turn, items_end, item_passes, item_free, members_turn, member_passes, member_free}
 use Rattle.json_schema.proofs.Loops.{dependents_turn, dependent_passes, dependent_free, no_parts}
-use Rattle.json_schema.proofs.Turns.{turn_next, turn_end, nth_item}
-use Rattle.json_schema.proofs.Validity.{reported, found, verdict, placed, last_tested, last_found, before, no_branch, branch_met}
+use Rattle.json_schema.proofs.Turns.{turn_next, turn_stop, turn_end, count_next, count_end, nth_item}
+use Rattle.json_schema.proofs.Validity.{reported, verdict, placed, last_tested, last_found, before, no_branch, branch_met}
 use Rattle.json_schema.proofs.Validity.{branch_place}
 use Rattle.json_schema.proofs.Validity.{reference_met, no_reference}
 use Rattle.json_schema.proofs.validate.+validate.Goals.{in_dependents-then-has_key+in_ok-found+in_default, in_dependents-else-has_key}
 use Rattle.json_schema.proofs.validate.+validate.Goals.{in_members-in-Some+in_ok-found+in_default-2, in_members-in_default}
+use Rattle.json_schema.proofs.validate.+validate.Goals.{count_accepting-then-accepted, count_accepting-else-accepted}
+use Rattle.json_schema.proofs.validate.+validate.Goals.{count_passing-then-accepted, count_passing-else-accepted}
 use Rattle.json_schema.proofs.validate.+validate.Goals.{in_items-in-Some+in_ok-found+in_default-2, in_items-in_default}
 use Rattle.json_schema.proofs.validate.+validate.Goals as goal
 
@@ -91,7 +93,7 @@ violation_in-returns-in-Some-2 t c =
     let v = view c.args.value.now in
     before c.args.walk inner c.in_ok-inner.ensures s v (Ok (Some c.in_ok-of_keyword-2.field-0))
     (reported (view inner.root.now) (suc inner.steps) s v c.in_ok-of_keyword-2.field-0 _ _ c.in_ok-of_keyword-2.ensures
-    (not_applied c.in-Some-2.keyword (subst (λ o. IsUnapplied (says inner) tests s v o) c.in-Some-2.is c.in_ok-keyword-2.ensures)))
+    (not_applied c.in-Some-2.keyword (subst (λ o. IsUnapplied inner tests s v o) c.in-Some-2.is c.in_ok-keyword-2.ensures)))
 
 pub violation_in-returns-in-Some-3 : goal.violation_in-returns-in-Some-3
 violation_in-returns-in-Some-3 t c =
@@ -99,8 +101,7 @@ violation_in-returns-in-Some-3 t c =
     let s = view c.args.schema.now in
     let v = view c.args.value.now in
     before c.args.walk inner c.in_ok-inner.ensures s v (Ok (Some c.in-Some-3.found))
-    (found (view inner.root.now) (suc inner.steps) s v c.in-Some-3.found
-    (subst (λ o. Finds inner (applies (says inner) kw.AllOf s v) s v (Ok o)) c.in-Some-3.is c.in_ok-found.ensures))
+    (subst (λ o. Finds inner (λ f. applies f kw.AllOf s v) s v (Ok o)) c.in-Some-3.is c.in_ok-found.ensures)
 
 pub violation_in-returns-in-Some-4 : goal.violation_in-returns-in-Some-4
 violation_in-returns-in-Some-4 t c =
@@ -108,8 +109,7 @@ violation_in-returns-in-Some-4 t c =
     let s = view c.args.schema.now in
     let v = view c.args.value.now in
     before c.args.walk inner c.in_ok-inner.ensures s v (Ok (Some c.in-Some-4.found))
-    (found (view inner.root.now) (suc inner.steps) s v c.in-Some-4.found
-    (subst (λ o. Finds inner (applies (says inner) kw.If s v) s v (Ok o)) c.in-Some-4.is c.in_ok-found-2.ensures))
+    (subst (λ o. Finds inner (λ f. applies f kw.If s v) s v (Ok o)) c.in-Some-4.is c.in_ok-found-2.ensures)
 
 pub violation_in-returns-in-Some-5 : goal.violation_in-returns-in-Some-5
 violation_in-returns-in-Some-5 t c =
@@ -117,8 +117,7 @@ violation_in-returns-in-Some-5 t c =
     let s = view c.args.schema.now in
     let v = view c.args.value.now in
     before c.args.walk inner c.in_ok-inner.ensures s v (Ok (Some c.in-Some-5.found))
-    (found (view inner.root.now) (suc inner.steps) s v c.in-Some-5.found
-    (subst (λ o. Finds inner (applies (says inner) kw.DependentSchemas s v) s v (Ok o)) c.in-Some-5.is c.in_ok-found-3.ensures))
+    (subst (λ o. Finds inner (λ f. applies f kw.DependentSchemas s v) s v (Ok o)) c.in-Some-5.is c.in_ok-found-3.ensures)
 
 pub violation_in-returns-in-Some-6 : goal.violation_in-returns-in-Some-6
 violation_in-returns-in-Some-6 t c =
@@ -126,8 +125,7 @@ violation_in-returns-in-Some-6 t c =
     let s = view c.args.schema.now in
     let v = view c.args.value.now in
     before c.args.walk inner c.in_ok-inner.ensures s v (Ok (Some c.in-Some-6.found))
-    (found (view inner.root.now) (suc inner.steps) s v c.in-Some-6.found
-    (subst (λ o. Finds inner (reference_accepts (view inner.root.now) (says inner) s v) s v (Ok o)) c.in-Some-6.is c.in_ok-found-4.ensures))
+    (subst (λ o. Finds inner (λ f. reference_accepts (view inner.root.now) f s v) s v (Ok o)) c.in-Some-6.is c.in_ok-found-4.ensures)
 
 pub violation_in-returns : goal.violation_in-returns
 violation_in-returns t c =
@@ -135,44 +133,217 @@ violation_in-returns t c =
     let s = view c.args.schema.now in
     let v = view c.args.value.now in
     before c.args.walk inner c.in_ok-inner.ensures s v c.in_parts.result
-    (last_found inner (says inner) s v c.in_parts.result refl (sym c.refuses_all.ensures ∙ c.if-refuses_all.false)
+    (last_found inner s v c.in_parts.result (sym c.refuses_all.ensures ∙ c.if-refuses_all.false)
     (subst (λ o. IsUnmet s v o) c.in_default.is c.in_ok-keyword.ensures)
-    (subst (λ o. IsUnapplied (says inner) tests s v o) c.in_default-2.is c.in_ok-keyword-2.ensures)
-    (subst (λ o. Finds inner (applies (says inner) kw.AllOf s v) s v (Ok o)) c.in_default-3.is c.in_ok-found.ensures)
-    (subst (λ o. Finds inner (applies (says inner) kw.If s v) s v (Ok o)) c.in_default-4.is c.in_ok-found-2.ensures)
-    (subst (λ o. Finds inner (applies (says inner) kw.DependentSchemas s v) s v (Ok o)) c.in_default-5.is c.in_ok-found-3.ensures)
-    (subst (λ o. Finds inner (reference_accepts (view inner.root.now) (says inner) s v) s v (Ok o)) c.in_default-6.is
+    (subst (λ o. IsUnapplied inner tests s v o) c.in_default-2.is c.in_ok-keyword-2.ensures)
+    (subst (λ o. Finds inner (λ f. applies f kw.AllOf s v) s v (Ok o)) c.in_default-3.is c.in_ok-found.ensures)
+    (subst (λ o. Finds inner (λ f. applies f kw.If s v) s v (Ok o)) c.in_default-4.is c.in_ok-found-2.ensures)
+    (subst (λ o. Finds inner (λ f. applies f kw.DependentSchemas s v) s v (Ok o)) c.in_default-5.is c.in_ok-found-3.ensures)
+    (subst (λ o. Finds inner (λ f. reference_accepts (view inner.root.now) f s v) s v (Ok o)) c.in_default-6.is
     c.in_ok-found-4.ensures)
     c.in_parts.ensures)
 
 pub is_accepted-returns : goal.is_accepted-returns
-is_accepted-returns t c = c.is_nothing.ensures
+is_accepted-returns t c g = c.is_nothing.ensures
     ∙ verdict (view c.args.walk.root.now) c.args.walk.steps (view c.args.schema.now) (view c.args.value.now) c.in_ok-found.found
-    c.in_ok-found.ensures
+    c.in_ok-found.ensures g
+
+pub unmet_test-returns-then-not-any : goal.unmet_test-returns-then-not-any
+unmet_test-returns-then-not-any t c g =
+    let f = says c.args.walk g in
+    let v = view c.args.value.now in
+    sym (c.in_ok-any.ensures g ∙ ap (λ rs. any_of f rs v) c.schemas_at.ensures) ∙ c.if-not-any.true
+
+pub unmet_test-returns-then-not-one : goal.unmet_test-returns-then-not-one
+unmet_test-returns-then-not-one t c g =
+    let f = says c.args.walk g in
+    let v = view c.args.value.now in
+    sym (c.in_ok-one.ensures g ∙ ap (λ rs. one_of f rs v) c.schemas_at-2.ensures) ∙ c.if-not-one.true
+
+pub unmet_test-returns-then-not-other : goal.unmet_test-returns-then-not-other
+unmet_test-returns-then-not-other t c g = sym (c.in_ok-other.ensures g) ∙ c.if-not-other.true
+
+pub unmet_test-returns-then-not-names : goal.unmet_test-returns-then-not-names
+unmet_test-returns-then-not-names t c g = sym (c.in_ok-names.ensures g) ∙ c.if-not-names.true
 
 pub unmet_test-returns : goal.unmet_test-returns
 unmet_test-returns t c =
-    let f = says c.args.walk in
+    let w = c.args.walk in
     let s = view c.args.schema.now in
     let v = view c.args.value.now in
-    let any : applies f kw.AnyOf s v ≡ true
-    = sym (c.in_ok-any.ensures ∙ ap (λ rs. any_of f rs v) c.schemas_at.ensures) ∙ c.if-not-any.false in
-    let one : applies f kw.OneOf s v ≡ true
-    = sym (c.in_ok-one.ensures ∙ ap (λ rs. one_of f rs v) c.schemas_at-2.ensures) ∙ c.if-not-one.false in
-    let other : applies f kw.Not s v ≡ true = sym c.in_ok-other.ensures ∙ c.if-not-other.false in
-    let names : applies f kw.PropertyNames s v ≡ true = sym c.in_ok-names.ensures ∙ c.if-not-names.false in
-    last_tested f s v c.unmet_count.result any one other names c.unmet_count.ensures
+    last_tested w s v c.unmet_count.result (λ g. (
+      sym (c.in_ok-any.ensures g ∙ ap (λ rs. any_of (says w g) rs v) c.schemas_at.ensures) ∙ c.if-not-any.false,
+      sym (c.in_ok-one.ensures g ∙ ap (λ rs. one_of (says w g) rs v) c.schemas_at-2.ensures) ∙ c.if-not-one.false,
+      sym (c.in_ok-other.ensures g) ∙ c.if-not-other.false,
+      sym (c.in_ok-names.ensures g) ∙ c.if-not-names.false,
+    )) c.unmet_count.ensures
 
 pub unmet_count-returns : goal.unmet_count-returns
-unmet_count-returns t c =
+unmet_count-returns t c g =
     let s = view c.args.schema.now in
-    let counted = c.in_ok-count.ensures in
+    let counted = c.in_ok-count.ensures g in
     let some : contains_some c.in_ok-count.count s ≡ true = sym c.contains_some-some.ensures ∙ c.if-not-some.false in
     let most : contains_at_most c.in_ok-count.count s ≡ true = sym c.in_ok-most.ensures ∙ c.if-not-most.false in
     let least : contains_at_least c.in_ok-count.count s ≡ true = sym c.in_ok-least.ensures ∙ c.if-not-least.false in
     let all : (contains_some c.in_ok-count.count s && (contains_at_most c.in_ok-count.count s
     && (contains_at_least c.in_ok-count.count s && true))) ≡ true = λ i. some i && (most i && (least i && true)) in
     ap (λ n. contains_some n s && (contains_at_most n s && (contains_at_least n s && true))) (sym counted) ∙ all
+
+-- ---- schemas and items that are counted
+
+pub is_any_met-returns : goal.is_any_met-returns
+is_any_met-returns t c g =
+    let rs = items_view c.args.schemas.now in
+    c.in_ok-accepted.ensures g ∙ sym (ap (λ b. not b || some_accepts (says c.args.walk g) rs (view c.args.value.now))
+    (sym c.is_some_item.ensures ∙ c.if-not-is_some_item.false))
+
+pub is_some_met-returns-then-accepted : goal.is_some_met-returns-then-accepted
+is_some_met-returns-then-accepted t c g =
+    let f = says c.args.walk g in
+    let v = view c.args.value.now in
+    let vs = c.args.schemas.now in
+    let i = c.loop-schema.schema-index in
+    turn_stop (λ xs. some_accepts f (items_view xs) v) vs i true c.schema-item.result c.loop-schema-test.true c.schema-item.is
+    (ap (λ b. b || some_accepts f (items_view (drop (i + 1) vs)) v) (sym (c.in_ok-accepted.ensures g) ∙ c.if-accepted.true))
+    (c.loop-schema.invariant g)
+
+pub is_some_met-loop-schema-preserved : goal.is_some_met-loop-schema-preserved
+is_some_met-loop-schema-preserved t c g =
+    let f = says c.args.walk g in
+    let v = view c.args.value.now in
+    let vs = c.args.schemas.now in
+    let i = c.loop-schema.schema-index in
+    turn_next (λ xs. some_accepts f (items_view xs) v) vs i c.schema-item.result c.loop-schema-test.true c.schema-item.is
+    (ap (λ b. b || some_accepts f (items_view (drop (i + 1) vs)) v) (sym (c.in_ok-accepted.ensures g) ∙ c.if-accepted.false))
+    (c.loop-schema.invariant g)
+
+pub is_some_met-returns : goal.is_some_met-returns
+is_some_met-returns t c g =
+    let v = view c.args.value.now in
+    sym (turn_end (λ xs. some_accepts (says c.args.walk g) (items_view xs) v) c.args.schemas.now c.loop-schema.schema-index false
+    c.loop-schema-test.false refl (c.loop-schema.invariant g))
+
+pub is_one_met-returns : goal.is_one_met-returns
+is_one_met-returns t c g =
+    let rs = items_view c.args.schemas.now in
+    ap (λ n. n == 1) (c.in_ok-count.ensures g) ∙ sym (ap (λ b. not b || accepting (says c.args.walk g) rs (view c.args.value.now) == 1)
+    (sym c.is_some_item.ensures ∙ c.if-not-is_some_item.false))
+
+pub count_accepting-loop-schema-preserved : goal.count_accepting-loop-schema-preserved
+count_accepting-loop-schema-preserved t c =
+    let v = view c.args.value.now in
+    let vs = c.args.schemas.now in
+    let i = c.loop-schema.schema-index in
+    let n = c.loop-schema.count in
+    let x = c.schema-item.result in
+    elim c.if-accepted.branch [
+      | count_accepting-then-accepted w ↦ (
+        omega (arith, w.count-is, c.loop-schema.invariant.0),
+        λ g. count_next (λ xs. accepting (says c.args.walk g) (items_view xs) v) vs i n x 1 c.if-accepted.count c.loop-schema-test.true
+            c.schema-item.is (ap (λ b. cond b 1 0 + accepting (says c.args.walk g) (items_view (drop (i + 1) vs)) v)
+            (sym (c.in_ok-accepted.ensures g) ∙ w.if-accepted.true)) w.count-is (c.loop-schema.invariant.1 g),
+      )
+      | count_accepting-else-accepted w ↦ (
+        omega (arith, w.count-is, c.loop-schema.invariant.0),
+        λ g. count_next (λ xs. accepting (says c.args.walk g) (items_view xs) v) vs i n x 0 c.if-accepted.count c.loop-schema-test.true
+            c.schema-item.is (ap (λ b. cond b 1 0 + accepting (says c.args.walk g) (items_view (drop (i + 1) vs)) v)
+            (sym (c.in_ok-accepted.ensures g) ∙ w.if-accepted.false)) (omega (arith, w.count-is)) (c.loop-schema.invariant.1 g),
+      )
+    ]
+
+pub count_accepting-returns : goal.count_accepting-returns
+count_accepting-returns t c g =
+    let v = view c.args.value.now in
+    count_end (λ xs. accepting (says c.args.walk g) (items_view xs) v) c.args.schemas.now c.loop-schema.schema-index c.loop-schema.count
+    c.loop-schema-test.false refl (c.loop-schema.invariant.1 g)
+
+pub are_names_met-returns-in_ok-accepted-in-Some : goal.are_names_met-returns-in_ok-accepted-in-Some
+are_names_met-returns-in_ok-accepted-in-Some t c g =
+    let f = says c.args.walk g in
+    let v = view c.args.value.now in
+    c.in_ok-accepted-in-Some.ensures g
+    ∙ (ap (keys_pass (f (view c.in-Some.part.now))) (ap members_listed c.as_slice.ensures.value ∙ c.in_ok-members-in-Some.ensures)
+    ∙ ap (λ o. option_map_or (λ r. keys_pass (f r) (members_in v)) o true) c.in-Some.ensures)
+
+pub are_keys_met-returns-then-not-accepted : goal.are_keys_met-returns-then-not-accepted
+are_keys_met-returns-then-not-accepted t c g =
+    let f = says c.args.walk g in
+    let s = view c.args.schema.now in
+    let ps = c.args.members.now in
+    let i = c.loop-key.key-index in
+    turn_stop (λ xs. keys_pass (f s) (members_listed xs)) ps i false c.loop-key-item.result c.loop-key-test.true c.loop-key-item.is
+    (ap (λ b. b && keys_pass (f s) (members_listed (drop (i + 1) ps)))
+    (ap (f s) (sym c.in_ok-name.ensures) ∙ (sym (c.in_ok-accepted.ensures g) ∙ c.if-not-accepted.true)))
+    (c.loop-key.invariant g)
+
+pub are_keys_met-loop-key-preserved : goal.are_keys_met-loop-key-preserved
+are_keys_met-loop-key-preserved t c g =
+    let f = says c.args.walk g in
+    let s = view c.args.schema.now in
+    let ps = c.args.members.now in
+    let i = c.loop-key.key-index in
+    turn_next (λ xs. keys_pass (f s) (members_listed xs)) ps i c.loop-key-item.result c.loop-key-test.true c.loop-key-item.is
+    (ap (λ b. b && keys_pass (f s) (members_listed (drop (i + 1) ps)))
+    (ap (f s) (sym c.in_ok-name.ensures) ∙ (sym (c.in_ok-accepted.ensures g) ∙ c.if-not-accepted.false)))
+    (c.loop-key.invariant g)
+
+pub are_keys_met-returns : goal.are_keys_met-returns
+are_keys_met-returns t c g =
+    let s = view c.args.schema.now in
+    sym (turn_end (λ xs. keys_pass (says c.args.walk g s) (members_listed xs)) c.args.members.now c.loop-key.key-index true
+    c.loop-key-test.false refl (c.loop-key.invariant g))
+
+pub contained-returns-in_ok-count-in-Array : goal.contained-returns-in_ok-count-in-Array
+contained-returns-in_ok-count-in-Array t c g =
+    let f = says c.args.walk g in
+    let v = view c.args.value.now in
+    let same : array (items_view c.as_slice.result.now) ≡ v
+    = ap (λ xs. array (items_view xs)) c.as_slice.ensures.value ∙ sym (ap view c.in-Array.is ∙ view_Array c.in-Array.items) in
+    ap Some (c.in_ok-count-in-Array.ensures g) ∙ (ap (items_passing (f (view c.in-Some.part.now))) same
+    ∙ ap (option_and_then (λ r. items_passing (f r) v)) c.in-Some.ensures)
+
+pub count_passing-loop-item-preserved : goal.count_passing-loop-item-preserved
+count_passing-loop-item-preserved t c =
+    let s = view c.args.schema.now in
+    let vs = c.args.items.now in
+    let i = c.loop-item.item-index in
+    let n = c.loop-item.count in
+    let x = c.item-item.result in
+    elim c.if-accepted.branch [
+      | count_passing-then-accepted w ↦ (
+        omega (arith, w.count-is, c.loop-item.invariant.0),
+        λ g. count_next (λ xs. passing (says c.args.walk g s) (items_view xs)) vs i n x 1 c.if-accepted.count c.loop-item-test.true
+            c.item-item.is (ap (λ b. cond b 1 0 + passing (says c.args.walk g s) (items_view (drop (i + 1) vs)))
+            (sym (c.in_ok-accepted.ensures g) ∙ w.if-accepted.true)) w.count-is (c.loop-item.invariant.1 g),
+      )
+      | count_passing-else-accepted w ↦ (
+        omega (arith, w.count-is, c.loop-item.invariant.0),
+        λ g. count_next (λ xs. passing (says c.args.walk g s) (items_view xs)) vs i n x 0 c.if-accepted.count c.loop-item-test.true
+            c.item-item.is (ap (λ b. cond b 1 0 + passing (says c.args.walk g s) (items_view (drop (i + 1) vs)))
+            (sym (c.in_ok-accepted.ensures g) ∙ w.if-accepted.false)) (omega (arith, w.count-is)) (c.loop-item.invariant.1 g),
+      )
+    ]
+
+pub count_passing-returns : goal.count_passing-returns
+count_passing-returns t c g =
+    let s = view c.args.schema.now in
+    count_end (λ xs. passing (says c.args.walk g s) (items_view xs)) c.args.items.now c.loop-item.item-index c.loop-item.count
+    c.loop-item-test.false refl (c.loop-item.invariant.1 g)
+
+pub unmet_count-returns-then-not-some : goal.unmet_count-returns-then-not-some
+unmet_count-returns-then-not-some t c g =
+    let s = view c.args.schema.now in
+    ap (λ n. contains_some n s) (sym (c.in_ok-count.ensures g)) ∙ (sym c.contains_some-some.ensures ∙ c.if-not-some.true)
+
+pub unmet_count-returns-then-not-most : goal.unmet_count-returns-then-not-most
+unmet_count-returns-then-not-most t c g =
+    let s = view c.args.schema.now in
+    ap (λ n. contains_at_most n s) (sym (c.in_ok-count.ensures g)) ∙ (sym c.in_ok-most.ensures ∙ c.if-not-most.true)
+
+pub unmet_count-returns-then-not-least : goal.unmet_count-returns-then-not-least
+unmet_count-returns-then-not-least t c g =
+    let s = view c.args.schema.now in
+    ap (λ n. contains_at_least n s) (sym (c.in_ok-count.ensures g)) ∙ (sym c.in_ok-least.ensures ∙ c.if-not-least.true)
 
 -- ---- where a schema in this one is not met
 
@@ -188,45 +359,46 @@ in_all_of-returns-in-Some t c =
     let entered = c.in_ok-enter_listed.ensures in
     let at : nth (schemas_at s kw.AllOf) i ≡ Some (view x)
     = ap (λ ts. nth ts i) (sym c.schemas_at-parts.ensures) ∙ nth_item vs i x c.loop-index-test.true c.index-parts-index.is in
-    placed c.args.walk (applies (says c.args.walk) kw.AllOf s v) s v c.enter_listed.new.self _ _ entered.entered
-    (in_all_of {k = entered.token} (ap (item_of (schemas_at s kw.AllOf)) entered.named ∙ at) inner.0)
+    placed c.args.walk (λ f. applies f kw.AllOf s v) s v c.enter_listed.new.self _ _ entered.entered
+    (in_all_of {k = entered.token} (ap (item_of (schemas_at s kw.AllOf)) entered.named ∙ at) inner)
 
 pub in_all_of-loop-index-preserved : goal.in_all_of-loop-index-preserved
-in_all_of-loop-index-preserved t c =
+in_all_of-loop-index-preserved t c g =
     let v = view c.args.value.now in
     let vs = c.schemas_at-parts.result.now in
     let i = c.loop-index.index in
     let x = c.index-parts-index.result in
+    let f = says c.args.walk g in
     let good = subst (λ o. Judges c.args.walk (view x) v (Ok o)) c.in_default.is c.in_ok-found.ensures in
-    turn_next (λ xs. all_accept (says c.args.walk) (items_view xs) v) vs i x c.loop-index-test.true c.index-parts-index.is
-    (ap (λ b. b && all_accept (says c.args.walk) (items_view (drop (i + 1) vs)) v) good) c.loop-index.invariant
+    turn_next (λ xs. all_accept f (items_view xs) v) vs i x c.loop-index-test.true c.index-parts-index.is
+    (ap (λ b. b && all_accept f (items_view (drop (i + 1) vs)) v) (good g)) (c.loop-index.invariant g)
 
 pub in_all_of-returns : goal.in_all_of-returns
-in_all_of-returns t c =
+in_all_of-returns t c g =
+    let f = says c.args.walk g in
     let v = view c.args.value.now in
-    ap (λ rs. all_accept (says c.args.walk) rs v) (sym c.schemas_at-parts.ensures)
-    ∙ turn_end (λ xs. all_accept (says c.args.walk) (items_view xs) v) c.schemas_at-parts.result.now c.loop-index.index true
-    c.loop-index-test.false refl c.loop-index.invariant
+    ap (λ rs. all_accept f rs v) (sym c.schemas_at-parts.ensures)
+    ∙ turn_end (λ xs. all_accept f (items_view xs) v) c.schemas_at-parts.result.now c.loop-index.index true
+    c.loop-index-test.false refl (c.loop-index.invariant g)
 
 pub in_branch-returns-in_default : goal.in_branch-returns-in_default
-in_branch-returns-in_default t c =
+in_branch-returns-in_default t c g =
+    let f = says c.args.walk g in
     let s = view c.args.schema.now in
     let v = view c.args.value.now in
-    ap (λ o. option_map_or (λ r. branch_accepts (says c.args.walk) s v ((says c.args.walk) r v)) o true) (sym c.in_default.ensures)
+    ap (λ o. option_map_or (λ r. branch_accepts f s v (f r v)) o true) (sym c.in_default.ensures)
 
 pub in_branch-returns-in_default-schema_at : goal.in_branch-returns-in_default-schema_at
 in_branch-returns-in_default-schema_at t c =
-    no_branch (view c.args.walk.root.now) c.args.walk.steps (view c.args.schema.now) (view c.args.value.now) (view c.in-Some.test.now)
-    c.branch-chosen.result c.in-Some.ensures
-    (c.branch-chosen.ensures ∙ ap branch c.in_ok-accepted.ensures) c.in_default-schema_at.ensures
+    no_branch c.args.walk (view c.args.schema.now) (view c.args.value.now) (view c.in-Some.test.now) c.in_ok-accepted.accepted
+    c.branch-chosen.result c.in-Some.ensures c.in_ok-accepted.ensures c.branch-chosen.ensures c.in_default-schema_at.ensures
 
 pub in_branch-returns-in_default-2 : goal.in_branch-returns-in_default-2
 in_branch-returns-in_default-2 t c =
     let v = view c.args.value.now in
     let r = view c.in-Some-schema_at.part.now in
-    branch_met (view c.args.walk.root.now) c.args.walk.steps (view c.args.schema.now) v (view c.in-Some.test.now) c.branch-chosen.result
-    c.in-Some.ensures
-    (c.branch-chosen.ensures ∙ ap branch c.in_ok-accepted.ensures) r c.in-Some-schema_at.ensures
+    branch_met c.args.walk (view c.args.schema.now) v (view c.in-Some.test.now) c.in_ok-accepted.accepted c.branch-chosen.result
+    c.in-Some.ensures c.in_ok-accepted.ensures c.branch-chosen.ensures r c.in-Some-schema_at.ensures
     (subst (λ o. Judges c.args.walk r v (Ok o)) c.in_default-2.is c.in_ok-found.ensures)
 
 pub in_branch-returns : goal.in_branch-returns
@@ -235,9 +407,9 @@ in_branch-returns t c =
     let v = view c.args.value.now in
     let r = view c.in-Some-schema_at.part.now in
     let inner = subst (λ o. Judges c.args.walk r v (Ok o)) c.in-Some-2.is c.in_ok-found.ensures in
-    placed c.args.walk (applies (says c.args.walk) kw.If s v) s v c.enter_keyword.new.self _ _ c.in_ok-enter_keyword.ensures
-    (branch_place (view c.args.walk.root.now) c.args.walk.steps s v (view c.in-Some.test.now) c.branch-chosen.result c.in-Some.ensures
-    (c.branch-chosen.ensures ∙ ap branch c.in_ok-accepted.ensures) r _ _ c.in-Some-schema_at.ensures inner.0)
+    placed c.args.walk (λ f. applies f kw.If s v) s v c.enter_keyword.new.self _ _ c.in_ok-enter_keyword.ensures
+    (branch_place c.args.walk s v (view c.in-Some.test.now) c.in_ok-accepted.accepted c.branch-chosen.result c.in-Some.ensures
+    c.in_ok-accepted.ensures c.branch-chosen.ensures r _ _ c.in-Some-schema_at.ensures inner)
 
 pub in_dependents-returns-in-Some : goal.in_dependents-returns-in-Some
 in_dependents-returns-in-Some t c =
@@ -258,11 +430,11 @@ in_dependents-returns-in-Some t c =
     let at : find k (schema_map_at s kw.DependentSchemas) ≡ Some r
     = ap (find k) (sym (ap members_listed c.as_slice-dependents.ensures.value ∙ c.in_ok-listed.ensures.listed))
     ∙ listed_found ps i p sorted c.loop-key-test.true c.loop-key-item.is in
-    placed c.args.walk (applies (says c.args.walk) kw.DependentSchemas s v) s v c.enter_keyed.new.self _ _ entered
-    (in_dependent here at inner.0)
+    placed c.args.walk (λ f. applies f kw.DependentSchemas s v) s v c.enter_keyed.new.self _ _ entered
+    (in_dependent here at inner)
 
 pub in_dependents-loop-key-preserved : goal.in_dependents-loop-key-preserved
-in_dependents-loop-key-preserved t c =
+in_dependents-loop-key-preserved t c g =
     let v = view c.args.value.now in
     let ps = c.as_slice-dependents.result.now in
     let i = c.loop-key.key-index in
@@ -271,37 +443,37 @@ in_dependents-loop-key-preserved t c =
     let k = text p.0.now in
     elim c.if-has_key.branch [
       | in_dependents-then-has_key+in_ok-found+in_default w ↦
-          dependents_turn (says c.args.walk) v ps i p c.loop-key-test.true c.loop-key-item.is
-          (dependent_passes (says c.args.walk) v k r (subst (λ o. Judges c.args.walk r v (Ok o)) w.in_default.is w.in_ok-found.ensures))
-          c.loop-key.invariant
+          dependents_turn (says c.args.walk g) v ps i p c.loop-key-test.true c.loop-key-item.is
+          (dependent_passes (says c.args.walk g) v k r (subst (λ o. Judges c.args.walk r v (Ok o)) w.in_default.is w.in_ok-found.ensures g))
+          (c.loop-key.invariant g)
       | in_dependents-else-has_key w ↦
-          dependents_turn (says c.args.walk) v ps i p c.loop-key-test.true c.loop-key-item.is
-          (dependent_free (says c.args.walk) v k r (ap (λ bs. is_some (tree_at_key v (chars bs))) (sym c.as_str.ensures.value)
-          ∙ (sym c.has_key.ensures ∙ w.if-has_key.false))) c.loop-key.invariant
+          dependents_turn (says c.args.walk g) v ps i p c.loop-key-test.true c.loop-key-item.is
+          (dependent_free (says c.args.walk g) v k r (ap (λ bs. is_some (tree_at_key v (chars bs))) (sym c.as_str.ensures.value)
+          ∙ (sym c.has_key.ensures ∙ w.if-has_key.false))) (c.loop-key.invariant g)
     ]
 
 pub in_dependents-returns : goal.in_dependents-returns
-in_dependents-returns t c =
+in_dependents-returns t c g =
     let v = view c.args.value.now in
-    ap (λ rs. dependents_accept (says c.args.walk) rs v)
+    ap (λ rs. dependents_accept (says c.args.walk g) rs v)
     (sym (ap members_listed c.as_slice-dependents.ensures.value ∙ c.in_ok-listed.ensures.listed))
-    ∙ turn_end (λ xs. dependents_accept (says c.args.walk) (members_listed xs) v) c.as_slice-dependents.result.now c.loop-key.key-index true
-    c.loop-key-test.false refl c.loop-key.invariant
+    ∙ turn_end (λ xs. dependents_accept (says c.args.walk g) (members_listed xs) v) c.as_slice-dependents.result.now c.loop-key.key-index
+    true c.loop-key-test.false refl (c.loop-key.invariant g)
 
 pub in_reference-returns-in_default : goal.in_reference-returns-in_default
-in_reference-returns-in_default t c =
+in_reference-returns-in_default t c g =
     let w = c.args.walk in
-    no_reference (view w.root.now) (says w) (view c.args.schema.now) (view c.args.value.now)
+    no_reference (view w.root.now) (says w g) (view c.args.schema.now) (view c.args.value.now)
     (ap (option_map (λ x. view x.now)) (sym c.in_default.is) ∙ c.in_ok-part.ensures)
 
 pub in_reference-returns-in_default-2 : goal.in_reference-returns-in_default-2
-in_reference-returns-in_default-2 t c =
+in_reference-returns-in_default-2 t c g =
     let w = c.args.walk in
     let v = view c.args.value.now in
     let r = view c.in-Some.part.now in
-    reference_met (view w.root.now) (says w) (view c.args.schema.now) v r
+    reference_met (view w.root.now) (says w g) (view c.args.schema.now) v r
     (ap (option_map (λ x. view x.now)) (sym c.in-Some.is) ∙ c.in_ok-part.ensures)
-    (subst (λ o. Judges w r v (Ok o)) c.in_default-2.is c.in_ok-found.ensures)
+    (subst (λ o. Judges w r v (Ok o)) c.in_default-2.is c.in_ok-found.ensures g)
 
 pub in_reference-returns : goal.in_reference-returns
 in_reference-returns t c =
@@ -310,8 +482,8 @@ in_reference-returns t c =
     let v = view c.args.value.now in
     let r = view c.in-Some.part.now in
     let inner = subst (λ o. Judges w r v (Ok o)) c.in-Some-2.is c.in_ok-found.ensures in
-    placed w (reference_accepts (view w.root.now) (says w) s v) s v c.enter_keyword.new.self _ _ c.in_ok-enter_keyword.ensures
-    (in_reference (sym (ap (option_map (λ x. view x.now)) (sym c.in-Some.is) ∙ c.in_ok-part.ensures)) inner.0)
+    placed w (λ f. reference_accepts (view w.root.now) f s v) s v c.enter_keyword.new.self _ _ c.in_ok-enter_keyword.ensures
+    (in_reference (sym (ap (option_map (λ x. view x.now)) (sym c.in-Some.is) ∙ c.in_ok-part.ensures)) inner)
 
 pub in_members-returns-in-Some-2 : goal.in_members-returns-in-Some-2
 in_members-returns-in-Some-2 t c =
@@ -327,12 +499,12 @@ in_members-returns-in-Some-2 t c =
     let inner = subst (λ o. Judges c.args.walk r (view p.1.now) (Ok o)) c.in-Some-2.is c.in_ok-found.ensures in
     let entered = subst (λ bs. Enters part.applicator (chars bs) (chars bs) old c.enter_member.new.self) c.as_str-in-Some-2.ensures.value
     c.in_ok-enter_member.ensures in
-    placed c.args.walk (members_accepted (says c.args.walk) s (members_listed ps)) s (object (members_listed ps)) c.enter_member.new.self _
+    placed c.args.walk (λ f. members_accepted f s (members_listed ps)) s (object (members_listed ps)) c.enter_member.new.self _
     _ entered
-    (in_part (place part.applicator k) applied.0 (listed_found ps i p c.requires c.loop-key-test.true c.loop-key-item.is) applied.1 inner.0)
+    (in_part (place part.applicator k) applied.0 (listed_found ps i p c.requires c.loop-key-test.true c.loop-key-item.is) applied.1 inner)
 
 pub in_members-loop-key-preserved : goal.in_members-loop-key-preserved
-in_members-loop-key-preserved t c =
+in_members-loop-key-preserved t c g =
     let s = view c.args.schema.now in
     let ps = c.args.members.now in
     let i = c.loop-key.key-index in
@@ -344,21 +516,22 @@ in_members-loop-key-preserved t c =
           let part = w.in-Some.part in
           let r = view part.schema.now in
           let applied = subst (λ bs. IsMemberPart s (chars bs) (Some part)) c.as_str.ensures.value w.in-Some.ensures in
-          members_turn (says c.args.walk) s ps i p c.loop-key-test.true c.loop-key-item.is
-          (member_passes (says c.args.walk) s k r u applied.0
-          (subst (λ o. Judges c.args.walk r u (Ok o)) w.in_default-2.is w.in_ok-found.ensures))
-          c.loop-key.invariant
+          members_turn (says c.args.walk g) s ps i p c.loop-key-test.true c.loop-key-item.is
+          (member_passes (says c.args.walk g) s k r u applied.0
+          (subst (λ o. Judges c.args.walk r u (Ok o)) w.in_default-2.is w.in_ok-found.ensures g))
+          (c.loop-key.invariant g)
       | in_members-in_default w ↦
-          members_turn (says c.args.walk) s ps i p c.loop-key-test.true c.loop-key-item.is
-          (member_free (says c.args.walk) s k u (subst (λ bs. IsMemberPart s (chars bs) None) c.as_str.ensures.value w.in_default.ensures))
-          c.loop-key.invariant
+          members_turn (says c.args.walk g) s ps i p c.loop-key-test.true c.loop-key-item.is
+          (member_free (says c.args.walk g) s k u
+          (subst (λ bs. IsMemberPart s (chars bs) None) c.as_str.ensures.value w.in_default.ensures))
+          (c.loop-key.invariant g)
     ]
 
 pub in_members-returns : goal.in_members-returns
-in_members-returns t c =
+in_members-returns t c g =
     let s = view c.args.schema.now in
-    turn_end (λ xs. members_accepted (says c.args.walk) s (members_listed xs)) c.args.members.now c.loop-key.key-index true
-    c.loop-key-test.false refl c.loop-key.invariant
+    turn_end (λ xs. members_accepted (says c.args.walk g) s (members_listed xs)) c.args.members.now c.loop-key.key-index true
+    c.loop-key-test.false refl (c.loop-key.invariant g)
 
 pub in_items-returns-in-Some-2 : goal.in_items-returns-in-Some-2
 in_items-returns-in-Some-2 t c =
@@ -374,14 +547,14 @@ in_items-returns-in-Some-2 t c =
     let entered = c.in_ok-enter_item.ensures in
     let at : item_of (items_view vs) (index_of entered.token) ≡ Some (view x)
     = ap (item_of (items_view vs)) entered.named ∙ nth_item vs i x c.loop-index-test.true c.index-items-index.is in
-    placed c.args.walk (items_accepted (says c.args.walk) s 0 (items_view vs)) s (array (items_view vs)) c.enter_item.new.self _ _
+    placed c.args.walk (λ f. items_accepted f s 0 (items_view vs)) s (array (items_view vs)) c.enter_item.new.self _ _
     entered.entered
     (in_part {k = entered.token} (place part.applicator entered.schema_token)
     (ap (option_and_then (item_schema s)) entered.named ∙ applied.0) at
-    (applied.1 entered.schema_token entered.schema_named) inner.0)
+    (applied.1 entered.schema_token entered.schema_named) inner)
 
 pub in_items-loop-index-preserved : goal.in_items-loop-index-preserved
-in_items-loop-index-preserved t c =
+in_items-loop-index-preserved t c g =
     let s = view c.args.schema.now in
     let vs = c.args.items.now in
     let i = c.loop-index.index in
@@ -389,19 +562,19 @@ in_items-loop-index-preserved t c =
     elim c.match-item_part.branch [
       | in_items-in-Some+in_ok-found+in_default-2 w ↦
           let r = view w.in-Some.part.schema.now in
-          items_turn (says c.args.walk) s vs i x c.loop-index-test.true c.index-items-index.is
-          (item_passes (says c.args.walk) s i r (view x) w.in-Some.ensures.0
-          (subst (λ o. Judges c.args.walk r (view x) (Ok o)) w.in_default-2.is w.in_ok-found.ensures))
-          c.loop-index.invariant
+          items_turn (says c.args.walk g) s vs i x c.loop-index-test.true c.index-items-index.is
+          (item_passes (says c.args.walk g) s i r (view x) w.in-Some.ensures.0
+          (subst (λ o. Judges c.args.walk r (view x) (Ok o)) w.in_default-2.is w.in_ok-found.ensures g))
+          (c.loop-index.invariant g)
       | in_items-in_default w ↦
-          items_turn (says c.args.walk) s vs i x c.loop-index-test.true c.index-items-index.is
-          (item_free (says c.args.walk) s i (view x) w.in_default.ensures)
-          c.loop-index.invariant
+          items_turn (says c.args.walk g) s vs i x c.loop-index-test.true c.index-items-index.is
+          (item_free (says c.args.walk g) s i (view x) w.in_default.ensures)
+          (c.loop-index.invariant g)
     ]
 
 pub in_items-returns : goal.in_items-returns
-in_items-returns t c = items_end (says c.args.walk) (view c.args.schema.now) c.args.items.now c.loop-index.index c.loop-index-test.false
-    c.loop-index.invariant
+in_items-returns t c g = items_end (says c.args.walk g) (view c.args.schema.now) c.args.items.now c.loop-index.index
+    c.loop-index-test.false (c.loop-index.invariant g)
 
 pub in_parts-in_members-requires : goal.in_parts-in_members-requires
 in_parts-in_members-requires t c =
@@ -415,15 +588,15 @@ in_parts-returns-in_ok-sorted-in-Object t c =
     let same : object (members_listed c.as_slice.result.now) ≡ view c.args.value.now
     = ap object (ap members_listed c.as_slice.ensures.value ∙ c.in_ok-sorted-in-Object.ensures)
     ∙ sym (ap view c.in-Object.is ∙ view_Object c.in-Object.members) in
-    subst (λ x. Finds c.args.walk (parts_accepted (says c.args.walk) s x) s x c.in_members.result) same c.in_members.ensures
+    subst (λ x. Finds c.args.walk (λ f. parts_accepted f s x) s x c.in_members.result) same c.in_members.ensures
 
 pub in_parts-returns-in-Array : goal.in_parts-returns-in-Array
 in_parts-returns-in-Array t c =
     let s = view c.args.schema.now in
     let same : array (items_view c.as_slice-in-Array.result.now) ≡ view c.args.value.now
     = ap (λ xs. array (items_view xs)) c.as_slice-in-Array.ensures.value ∙ sym (ap view c.in-Array.is ∙ view_Array c.in-Array.items) in
-    subst (λ x. Finds c.args.walk (parts_accepted (says c.args.walk) s x) s x c.in_items.result) same c.in_items.ensures
+    subst (λ x. Finds c.args.walk (λ f. parts_accepted f s x) s x c.in_items.result) same c.in_items.ensures
 
 pub in_parts-returns-in_default : goal.in_parts-returns-in_default
-in_parts-returns-in_default t c = no_parts (says c.args.walk) (view c.args.schema.now) c.args.value.now c.in_default.not-Object
+in_parts-returns-in_default t c g = no_parts (says c.args.walk g) (view c.args.schema.now) c.args.value.now c.in_default.not-Object
     c.in_default.not-Array

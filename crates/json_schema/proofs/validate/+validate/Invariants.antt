@@ -1,6 +1,6 @@
 use Rattle.std.proofs.Common.{◌≡◌, ◌+◌, ◌*◌, ◌≤◌, drop}
 use Rattle.tinyjson.specs.View.{view, items_view, members_listed}
-use Rattle.json_schema.specs.Applied.{all_accept, some_accepts, accepting, keys_pass, passing, dependents_accept}
+use Rattle.json_schema.specs.Applied.{Judge, all_accept, some_accepts, accepting, keys_pass, passing, dependents_accept}
 use Rattle.json_schema.specs.Applied.{members_accepted, items_accepted}
 use Rattle.json_schema.specs.Valid.{says}
 use Rattle.json_schema.proofs.validate.+validate.Given as goal
@@ -66,35 +66,37 @@ abbrev pub decreases-in_items : goal.decreases-in_items
 decreases-in_items l = 16 * l.walk.steps + 11
 
 abbrev pub invariant-is_some_met-loop-schema : goal.invariant-is_some_met-loop-schema
-invariant-is_some_met-loop-schema l = some_accepts (says l.walk) (items_view (drop l.schema-index l.schemas)) (view l.value)
-    ≡ some_accepts (says l.walk) (items_view l.schemas) (view l.value)
+invariant-is_some_met-loop-schema l = (g : Judge) → some_accepts (says l.walk g) (items_view (drop l.schema-index l.schemas)) (view l.value)
+    ≡ some_accepts (says l.walk g) (items_view l.schemas) (view l.value)
 
 abbrev pub invariant-count_accepting-loop-schema : goal.invariant-count_accepting-loop-schema
 invariant-count_accepting-loop-schema l = (l.count ≤ l.schema-index)
-    × (l.count + accepting (says l.walk) (items_view (drop l.schema-index l.schemas)) (view l.value)
-    ≡ accepting (says l.walk) (items_view l.schemas) (view l.value))
+    × ((g : Judge) → l.count + accepting (says l.walk g) (items_view (drop l.schema-index l.schemas)) (view l.value)
+    ≡ accepting (says l.walk g) (items_view l.schemas) (view l.value))
 
 abbrev pub invariant-are_keys_met-loop-key : goal.invariant-are_keys_met-loop-key
-invariant-are_keys_met-loop-key l = keys_pass (says l.walk (view l.schema)) (members_listed (drop l.key-index l.members))
-    ≡ keys_pass (says l.walk (view l.schema)) (members_listed l.members)
+invariant-are_keys_met-loop-key l = (g : Judge) → keys_pass (says l.walk g (view l.schema)) (members_listed (drop l.key-index l.members))
+    ≡ keys_pass (says l.walk g (view l.schema)) (members_listed l.members)
 
 abbrev pub invariant-count_passing-loop-item : goal.invariant-count_passing-loop-item
 invariant-count_passing-loop-item l = (l.count ≤ l.item-index)
-    × (l.count + passing (says l.walk (view l.schema)) (items_view (drop l.item-index l.items))
-    ≡ passing (says l.walk (view l.schema)) (items_view l.items))
+    × ((g : Judge) → l.count + passing (says l.walk g (view l.schema)) (items_view (drop l.item-index l.items))
+    ≡ passing (says l.walk g (view l.schema)) (items_view l.items))
 
 abbrev pub invariant-in_all_of-loop-index : goal.invariant-in_all_of-loop-index
-invariant-in_all_of-loop-index l = all_accept (says l.walk) (items_view (drop l.index l.parts)) (view l.value)
-    ≡ all_accept (says l.walk) (items_view l.parts) (view l.value)
+invariant-in_all_of-loop-index l = (g : Judge) → all_accept (says l.walk g) (items_view (drop l.index l.parts)) (view l.value)
+    ≡ all_accept (says l.walk g) (items_view l.parts) (view l.value)
 
 abbrev pub invariant-in_dependents-loop-key : goal.invariant-in_dependents-loop-key
-invariant-in_dependents-loop-key l = dependents_accept (says l.walk) (members_listed (drop l.key-index l.dependents)) (view l.value)
-    ≡ dependents_accept (says l.walk) (members_listed l.dependents) (view l.value)
+invariant-in_dependents-loop-key l = (g : Judge) →
+    dependents_accept (says l.walk g) (members_listed (drop l.key-index l.dependents)) (view l.value)
+    ≡ dependents_accept (says l.walk g) (members_listed l.dependents) (view l.value)
 
 abbrev pub invariant-in_members-loop-key : goal.invariant-in_members-loop-key
-invariant-in_members-loop-key l = members_accepted (says l.walk) (view l.schema) (members_listed (drop l.key-index l.members))
-    ≡ members_accepted (says l.walk) (view l.schema) (members_listed l.members)
+invariant-in_members-loop-key l = (g : Judge) →
+    members_accepted (says l.walk g) (view l.schema) (members_listed (drop l.key-index l.members))
+    ≡ members_accepted (says l.walk g) (view l.schema) (members_listed l.members)
 
 abbrev pub invariant-in_items-loop-index : goal.invariant-in_items-loop-index
-invariant-in_items-loop-index l = items_accepted (says l.walk) (view l.schema) l.index (items_view (drop l.index l.items))
-    ≡ items_accepted (says l.walk) (view l.schema) 0 (items_view l.items)
+invariant-in_items-loop-index l = (g : Judge) → items_accepted (says l.walk g) (view l.schema) l.index (items_view (drop l.index l.items))
+    ≡ items_accepted (says l.walk g) (view l.schema) 0 (items_view l.items)
