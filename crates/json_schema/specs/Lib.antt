@@ -5,6 +5,7 @@ pub mod Keywords
 pub mod Names
 pub mod Parts
 pub mod Places
+pub mod Reading
 pub mod References
 pub mod Schemas
 pub mod Valid

@@ -19,6 +19,7 @@ mod part;
 mod reference;
 mod refused;
 mod report;
+mod schema;
 mod shown;
 mod unique;
 mod validate;
@@ -26,15 +27,14 @@ mod violation;
 mod walk;
 
 use failure::{Failure, input_error, schema_file_error, schema_text_error, text_error};
-use refused::refused_place;
 use report::write_report;
+use schema::{Schema, SchemaError};
 use std::alloc::Global;
 use std::env::{self, Env};
 use std::fs::{self, Files};
 use std::io::{self, BufWriter, ErrorKind, Write};
 use std::process::ExitCode;
 use tinyjson::JsonValue;
-use validate::find_violation;
 
 /// How many containers of a schema or a value may be open at once: the check takes stack as they are deep.
 const DEPTH_LIMIT: usize = 100;
@@ -58,12 +58,15 @@ fn check(rt: &(impl Env + Files + Input + Print + AllocGlobal)) -> Result<bool, 
     let alloc = rt.alloc();
     let name = file_asked(rt)?;
     let schema = fs::read_to_string(rt, name.as_str()).map_err(schema_file_error)?;
-    let schema = read_schema(alloc, schema.as_str())?;
+    let schema = JsonValue::from_str_with_depth_limit(alloc, schema.as_str(), DEPTH_LIMIT).map_err(
+        schema_text_error,
+    )?;
+    let schema = read_schema(alloc, &schema)?;
     let text = io::read_to_string(alloc, rt.reader()).map_err(input_error)?;
     let value = JsonValue::from_str_with_depth_limit(alloc, text.as_str(), DEPTH_LIMIT).map_err(
         text_error,
     )?;
-    let Some(violation) = find_violation(&value, &schema, STEP_LIMIT, alloc)? else {
+    let Some(violation) = schema.invalid_place(&value, STEP_LIMIT, alloc)? else {
         return Ok(true);
     };
     let mut output = BufWriter::new(alloc, io::writer(rt)).map_err(Failure::Memory)?;
@@ -76,13 +79,11 @@ fn check(rt: &(impl Env + Files + Input + Print + AllocGlobal)) -> Result<bool, 
 }
 
 /// A schema that can be applied.
-fn read_schema(alloc: Global, text: &str) -> Result<JsonValue, Failure> {
-    let schema = JsonValue::from_str_with_depth_limit(alloc, text, DEPTH_LIMIT).map_err(
-        schema_text_error,
-    )?;
-    match refused_place(&schema, alloc)? {
-        None => Ok(schema),
-        Some(place) => Err(Failure::Refused(place.to_string(alloc)?)),
+fn read_schema(alloc: Global, tree: &JsonValue) -> Result<Schema<'_>, Failure> {
+    match Schema::read(tree, alloc) {
+        Ok(schema) => Ok(schema),
+        Err(SchemaError::Refused(place)) => Err(Failure::Refused(place.to_string(alloc)?)),
+        Err(SchemaError::OutOfMemory) => Err(Failure::OutOfMemory),
     }
 }
 

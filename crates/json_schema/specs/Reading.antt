@@ -1,0 +1,18 @@
+-- What reading a schema gives.
+use Rattle.std.specs.Prelude.{◌≡◌, true, false, Result, Ok, Err}
+use Rattle.tinyjson.specs.Tree.{Tree}
+use Rattle.tinyjson.specs.View.{view}
+use Rattle.json_schema.specs.Schemas.{is_schema}
+use Rattle.json_schema.specs.declared.schema.Schema.{Schema}
+use Rattle.json_schema.specs.declared.schema.SchemaError.{SchemaError}
+use Rattle.json_schema.specs.declared.schema.SchemaError.TheVariants.{Refused, OutOfMemory}
+
+-- the tree that a schema was read from
+abbrev pub tree_of : Schema → Tree
+tree_of s = view s.root.now
+
+-- The tree as a schema, which can be applied; or a place, and it can't.
+abbrev pub ReadsSchema : Tree → Result Schema SchemaError → Type 0
+ReadsSchema t (Ok s) = (tree_of s ≡ t) × (is_schema t true t ≡ true)
+ReadsSchema t (Err (Refused p)) = is_schema t true t ≡ false
+ReadsSchema t (Err OutOfMemory) = Unit {0}
