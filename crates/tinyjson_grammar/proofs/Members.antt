@@ -1,6 +1,6 @@
 -- Members in order: what `put` leaves to find, and that sorted members with the same finds are the same.
-use Rattle.std.proofs.Common.{◌≡◌, ℕ, Bool, true, false, List, Some, None, Ordering, Less, Equal, Greater, cond, bytes_eq, true≢false}
-use Rattle.std.proofs.Common.{refl, sym, ap, ◌∙◌, subst}
+use Rattle.std.proofs.Common.{◌≡◌, ℕ, Bool, true, false, List, Some, None, Ordering, Less, Equal, Greater, cond, bytes_eq, true≢false, refl}
+use Rattle.std.proofs.Common.{sym, ap, ◌∙◌, subst}
 use Rattle.std.proofs.lemmas.Cmp.{on_total, nat_list_cmp_total}
 use Rattle.std.proofs.lemmas.Map.Lookups.{exact_bytes}
 use Rattle.std.proofs.lemmas.Slice.Eq.{bytes_eq-Decides}
@@ -52,8 +52,7 @@ find_put_at : (o : Ordering) (q k l : List ℕ) (t u : Tree) (ms : Members) → 
     → find q (match_ordering o (member k t (member l u ms)) (member k t ms) (member l u (put k t ms)))
     ≡ cond (bytes_eq q k) (Some t) (cond (bytes_eq q l) (Some u) (find q ms))
 find_put_at Less q k l t u ms e later = refl
-find_put_at Equal q k l t u ms e later =
-    cond_twice (bytes_eq q k) (Some t) (Some u) (find q ms)
+find_put_at Equal q k l t u ms e later = cond_twice (bytes_eq q k) (Some t) (Some u) (find q ms)
     ∙ ap (λ x. cond (bytes_eq q k) (Some t) (cond (bytes_eq q x) (Some u) (find q ms))) (key_same k l e)
 find_put_at Greater q k l t u ms e later =
     let clash : bytes_eq q l ≡ true → bytes_eq q k ≡ true → ⊥
@@ -78,17 +77,15 @@ find_below k (member l u ms) b s =
 
 below_put_at : (o : Ordering) (j k l : List ℕ) (t u : Tree) (ms : Members) → key_cmp j k ≡ Less → key_cmp j l ≡ Less
     → IsBelow j (match_ordering o (member k t (member l u ms)) (member k t ms) (member l u (put k t ms)))
-below_put_at Less j k l t u ms a b = a
-below_put_at Equal j k l t u ms a b = a
 below_put_at Greater j k l t u ms a b = b
+below_put_at _ j k l t u ms a b = a
 
 below_put : (j k : List ℕ) (t : Tree) (ms : Members) → key_cmp j k ≡ Less → IsBelow j ms → IsBelow j (put k t ms)
 below_put j k t no_members a b = a
 below_put j k t (member l u ms) a b = below_put_at (key_cmp k l) j k l t u ms a b
 
 sorted_put_at : (o : Ordering) (k l : List ℕ) (t u : Tree) (ms : Members) → key_cmp k l ≡ o → IsSorted (member l u ms)
-    → IsSorted (put k t ms)
-    → IsSorted (match_ordering o (member k t (member l u ms)) (member k t ms) (member l u (put k t ms)))
+    → IsSorted (put k t ms) → IsSorted (match_ordering o (member k t (member l u ms)) (member k t ms) (member l u (put k t ms)))
 sorted_put_at Less k l t u ms e s later = (e, s)
 sorted_put_at Equal k l t u ms e s later = (subst (λ x. IsBelow x ms) (sym (key_same k l e)) s.0, s.1)
 sorted_put_at Greater k l t u ms e s later = (below_put l k t ms (flip k l e) s.0, later)
@@ -104,8 +101,7 @@ cond_itself false x = refl
 find_remove_at : (b : Bool) (q k l : List ℕ) (u : Tree) (ms : Members) → bytes_eq k l ≡ b
     → find q (remove k ms) ≡ cond (bytes_eq q k) None (find q ms)
     → find q (cond b (remove k ms) (member l u (remove k ms))) ≡ cond (bytes_eq q k) None (cond (bytes_eq q l) (Some u) (find q ms))
-find_remove_at true q k l u ms e later =
-    later ∙ (cond_twice (bytes_eq q k) None (Some u) (find q ms)
+find_remove_at true q k l u ms e later = later ∙ (cond_twice (bytes_eq q k) None (Some u) (find q ms)
     ∙ ap (λ x. cond (bytes_eq q k) None (cond (bytes_eq q x) (Some u) (find q ms))) ((bytes_eq-Decides k l).0 e))
 find_remove_at false q k l u ms e later =
     let clash : bytes_eq q l ≡ true → bytes_eq q k ≡ true → ⊥

@@ -3,8 +3,8 @@ use Rattle.std.proofs.Common.{suc, ◌≡◌, ℕ, Bool, true, false, List, [], 
 use Rattle.std.proofs.Common.{arith, subst, ◌⊎◌, inl, inr}
 use Rattle.std.specs.Prelude.{All}
 use Rattle.std.specs.Char.{IsScalar}
-use Rattle.tinyjson_grammar.specs.Machine.{strictly, Rules, Frame, Phase, awaited, Next, next, stop, Outcome, accepted, refused, step}
-use Rattle.tinyjson_grammar.specs.Machine.{end, run, go_on}
+use Rattle.tinyjson_grammar.specs.Machine.{strictly, Rules, Frame, Phase, awaited, Next, next, stop, Outcome, accepted, refused, step, end}
+use Rattle.tinyjson_grammar.specs.Machine.{run, go_on}
 use Rattle.tinyjson_grammar.specs.Kind.{kind_of}
 use Rattle.tinyjson_grammar.specs.Tree.{Tree}
 use Rattle.tinyjson_grammar.specs.Syntax.{tree_of}
@@ -48,8 +48,7 @@ pub reached_next : (limit : Option ℕ) (used : List ℕ) (fs gs : List Frame) (
     → step (strictly limit) fs q c ≡ next gs p → Reached limit (used ++ c ∷ []) gs p
 reached_next limit used fs gs q p c h e true ys = ap (run (rules true limit) [] awaited) (append_assoc used (c ∷ []) ys)
     ∙ (h true (c ∷ ys) ∙ run_next (rules true limit) fs gs q p c ys e)
-reached_next limit used fs gs q p c h e false ys =
-    ap (run (rules false limit) [] awaited) (append_assoc used (c ∷ []) ys)
+reached_next limit used fs gs q p c h e false ys = ap (run (rules false limit) [] awaited) (append_assoc used (c ∷ []) ys)
     ∙ (h false (c ∷ ys) ∙ run_next (rules false limit) fs gs q p c ys (strict_next limit fs gs q p c e))
 
 -- ---- what is unviable
@@ -87,16 +86,14 @@ turns_unviable limit used fs q c k h o e = loosely_unviable limit (used ++ c ∷
 pub denies : (limit : Option ℕ) (used : List ℕ) (fs : List Frame) (q : Phase) → Reached limit used fs q → Denies limit used fs q
 denies limit used fs q h = record {
   no_quote = no_quote_follows limit used fs q h;
-  unviable =
-      λ n. unviable limit used (λ ys t e. n ys t (sym (h true ys) ∙ e));
+  unviable = λ n. unviable limit used (λ ys t e. n ys t (sym (h true ys) ∙ e));
 }
 
 pub is_unviable : (limit : Option ℕ) (used : List ℕ) (fs : List Frame) (q : Phase) (c : ℕ) (k : JsonParseErrorKind)
     → Reached limit used fs q → step (strictly limit) fs q c ≡ stop k true → IsUnviable limit (used ++ c ∷ []) k
 is_unviable limit used fs q c k h e = record {
   unviable = taken_unviable limit used fs q c k h e;
-  loosely =
-      λ o. turns_unviable limit used fs q c k h o e;
+  loosely = λ o. turns_unviable limit used fs q c k h o e;
 }
 
 -- the next character is too many: not even the first key that is not a string is still to come
@@ -145,8 +142,7 @@ refuses limit xs rest k e a = no_text k rest a.0 (sym e ∙ text_accepted limit 
 
 refusal_taken : (limit : Option ℕ) (used : List ℕ) (fs : List Frame) (q : Phase) (c : ℕ) (k : JsonParseErrorKind) (rest : List ℕ)
     → Reached limit used fs q → IsLooselyViable limit used → step (strictly limit) fs q c ≡ stop k true
-    → Follows limit used fs q c (stop k true) →
-    IsRefusal limit k (used ++ c ∷ []) rest
+    → Follows limit used fs q c (stop k true) → IsRefusal limit k (used ++ c ∷ []) rest
 refusal_taken limit used fs q c k rest h a e f = record {
   says = f rest (denies limit used fs q h) (is_unviable limit used fs q c k h e);
   refused = refuses limit ((used ++ c ∷ []) ++ rest) rest k (taken_run true limit used fs q c k h e rest);
@@ -156,8 +152,7 @@ refusal_taken limit used fs q c k rest h a e f = record {
 
 refusal_left : (limit : Option ℕ) (used : List ℕ) (fs : List Frame) (q : Phase) (c : ℕ) (k : JsonParseErrorKind) (cs : List ℕ)
     → Reached limit used fs q → IsLooselyViable limit used → step (strictly limit) fs q c ≡ stop k false
-    → Follows limit used fs q c (stop k false) →
-    IsRefusal limit k used (c ∷ cs)
+    → Follows limit used fs q c (stop k false) → IsRefusal limit k used (c ∷ cs)
 refusal_left limit used fs q c k cs h a e f = record {
   says = f cs (denies limit used fs q h);
   refused = refuses limit (used ++ c ∷ cs) (c ∷ cs) k (h true (c ∷ cs) ∙ run_left (strictly limit) fs q c k cs e);
@@ -195,8 +190,7 @@ results_shift limit used c cs (refused k rest) h =
 
 go_results : (limit : Option ℕ) (used : List ℕ) (fs : List Frame) (q : Phase) (c : ℕ) (cs : List ℕ) (more : List Frame → Phase
     → Outcome) (n : Next) → step (strictly limit) fs q c ≡ n → Reached limit used fs q → Follows limit used fs q c n
-    → IsLooselyViable limit used →
-    ((gs : List Frame) (p : Phase) → Spells limit (used ++ c ∷ []) gs p → Reached limit (used ++ c ∷ []) gs p
+    → IsLooselyViable limit used → ((gs : List Frame) (p : Phase) → Spells limit (used ++ c ∷ []) gs p → Reached limit (used ++ c ∷ []) gs p
     → Results limit (used ++ c ∷ []) cs (more gs p)) → Results limit used (c ∷ cs) (go_on more n (c ∷ cs) cs)
 go_results limit used fs q c cs more (next gs p) e r h a on =
     results_shift limit used c cs (more gs p) (on gs p h (reached_next limit used fs gs q p c r e))
@@ -210,8 +204,7 @@ end_results limit used fs q (accepted t) e r h a = subst (λ xs. IsText limit xs
 end_results limit used fs q (refused k rest) e r h a = (
   [],
   sym h.0,
-  rw h.0 (subst (λ xs. IsRefusal limit k xs []) (sym (append-nil used))
-      (refusal_end limit used fs q k r a (e ∙ ap (refused k) h.0) h.1)),
+  rw h.0 (subst (λ xs. IsRefusal limit k xs []) (sym (append-nil used)) (refusal_end limit used fs q k r a (e ∙ ap (refused k) h.0) h.1)),
 )
 
 pub step_spells : Ranges → (limit : Option ℕ) (used : List ℕ) (fs : List Frame) (q : Phase) → Spells limit used fs q → (c : ℕ) → IsScalar c

@@ -1,8 +1,8 @@
 -- The value of a numeral has the one form.
-use Rattle.std.proofs.Common.{◌≢◌, ℕ, ◌-◌, Bool, List, [], ◌∷◌, ◌++◌, length, get_or, refl, IsTrue, ℤ}
+use Rattle.std.proofs.Common.{◌≢◌, ℕ, ◌-◌, Bool, List, [], ◌∷◌, length, get_or, refl, IsTrue, ℤ}
 use Rattle.std.specs.Int.{Width}
-use Rattle.tinyjson_number.specs.Decimal.{strip_leading, significant, decimal_of}
-use Rattle.tinyjson_number.specs.Numeral.{Numeral, IsNumeral, AreDigits, value, fits_in, power_of}
+use Rattle.tinyjson_number.specs.Decimal.{decimal_of}
+use Rattle.tinyjson_number.specs.Numeral.{Numeral, IsNumeral, AreDigits, value, fits_in}
 use Rattle.tinyjson_number.specs.Canonical.{IsDecimalAt}
 use Rattle.tinyjson_number.proofs.Strips.{first_leading, first_trailing, last_trailing, digits_leading, digits_trailing}
 use Rattle.tinyjson_number.proofs.DecimalTrip.{digits_join}
@@ -15,8 +15,12 @@ canonical width g (c ∷ cs) p d f l fits = formed width g c cs p (record { digi
 
 pub value_canonical : (width : Width) (n : Numeral) → IsNumeral n → IsTrue (fits_in width (value n)) → IsDecimalAt width (value n)
 unfolding value
-value_canonical width n h fits =
-    let ws = n.integer ++ n.fraction in
-    canonical width n.negative (significant ws) (power_of n) (digits_trailing _
-    (digits_leading ws (digits_join n.integer n.fraction h.integer h.fraction)))
-    (first_trailing (strip_leading ws) (first_leading ws)) (last_trailing (strip_leading ws)) fits
+value_canonical width n h fits = search (
+  canonical,
+  digits_trailing,
+  digits_leading,
+  digits_join,
+  first_trailing,
+  first_leading,
+  last_trailing,
+)

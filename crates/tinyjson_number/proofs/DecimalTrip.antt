@@ -36,37 +36,15 @@ module _ (ds : List ℕ) (some : 0 < length ds) (first : get_or ds 0 0 ≢ 48) (
   kept b = strip_trailing_append_none ds (replicate b 48) (strip_zeros b) ∙ strip_trailing_none ds last
 
   padded : (a b : ℕ) → significant (replicate a 48 ++ (ds ++ replicate b 48)) ≡ ds
-  padded a b =
-      ap strip_trailing (strip_leading_zeros a (ds ++ replicate b 48) ∙ strip_leading_none (ds ++ replicate b 48)
-      (λ e. first (sym (get_or_append_left ds (replicate b 48) 0 0 some) ∙ e)))
-      ∙ kept b
+  padded a b = grind (arith, strip_leading_zeros, strip_leading_none, get_or_append_left, kept)
 
   padding : (a b : ℕ) → trailing_zeros (replicate a 48 ++ (ds ++ replicate b 48)) ≡ b
-  padding a b =
-      let e : strip_trailing (replicate a 48 ++ (ds ++ replicate b 48)) ≡ replicate a 48 ++ ds =
-      strip_trailing_append_some (replicate a 48) (ds ++ replicate b 48) (omega (arith, ap length (kept b)))
-      ∙ ap (λ t. replicate a 48 ++ t) (kept b) in
-      omega (
-        arith,
-        ap length e,
-        length-append (replicate a 48) ds,
-        length-append (replicate a 48) (ds ++ replicate b 48),
-        length-append ds
-            (replicate b 48),
-        length-replicate {A = ℕ} b 48,
-      )
+  padding a b = grind (arith, strip_trailing_append_some, kept, length-append, length-replicate)
 
   valued : (g : Bool) (w f : List ℕ) (x : Option Exponent) (a b : ℕ) (p : ℤ) → w ++ f ≡ replicate a 48 ++ (ds ++ replicate b 48)
-      → p ≡ (exponent_value x -ℤ pos (length f)) +ℤ pos b →
-      value (numeral g w f x) ≡ record { negative = g; digits = ds; power = p }
+      → p ≡ (exponent_value x -ℤ pos (length f)) +ℤ pos b → value (numeral g w f x) ≡ record { negative = g; digits = ds; power = p }
   unfolding value
-  valued g w f x a b p e ep =
-      ap (λ z. decimal_of g (significant z) ((exponent_value x -ℤ pos (length f)) +ℤ pos (trailing_zeros z))) e
-      ∙ ap (λ z. decimal_of g z ((exponent_value x -ℤ pos (length f)) +ℤ pos (trailing_zeros (replicate a 48 ++ (ds ++ replicate b 48)))))
-      (padded a b)
-      ∙ ap (λ z. decimal_of g ds ((exponent_value x -ℤ pos (length f)) +ℤ pos z)) (padding a b)
-      ∙ ap (decimal_of g ds) (sym ep)
-      ∙ decimal_of_some g ds p some
+  valued g w f x a b p e ep = search (e, padded, padding, ep, decimal_of_some)
 
 -- ---- the four forms
 
@@ -97,9 +75,8 @@ digits_drop (suc n) [] h = tt
 digits_drop (suc n) (d ∷ xs) h = digits_drop n xs h.1
 
 no_leading : (xs : List ℕ) → get_or xs 0 0 ≢ 48 → has_leading_zero xs ≡ false
-no_leading [] h = refl
-no_leading (d ∷ []) h = refl
 no_leading (d ∷ e ∷ ds) h = grind (arith, nat_tests)
+no_leading _ h = refl
 
 pub fraction_some : (xs : List ℕ) → 0 < length xs → fraction_text xs ≡ 46 ∷ xs
 fraction_some [] h = absurd (omega arith)
@@ -145,8 +122,7 @@ module _ (g : Bool) (ds : List ℕ) (e : ℤ) (all : AreDigits ds) (some : 0 < l
       integer = digits_take 1 ds all;
       some_digit = omega (arith, short_take);
       fraction = digits_drop 1 ds all;
-      exponent =
-          scientific_is (p -ℤ pos 1);
+      exponent = scientific_is (p -ℤ pos 1);
     };
     plain = no_leading (take 1 ds) (first_take 1 (omega arith));
     value = valued ds some first last g (take 1 ds) (drop 1 ds) (Some (scientific_exponent (p -ℤ pos 1))) 0 0 e (integer_parts 1)
@@ -156,58 +132,36 @@ module _ (g : Bool) (ds : List ℕ) (e : ℤ) (all : AreDigits ds) (some : 0 < l
 
   spelled_small : int_lt e (pos 0) ≡ true → int_lt p (pos 1) ≡ true → SpellsDecimal d
       (minus_text g ++ (48 ∷ 46 ∷ (replicate (unsigned_abs p) 48 ++ ds)))
-  spelled_small low small =
-      let l : length (replicate (unsigned_abs p) 48 ++ ds) ≡ unsigned_abs p + length ds =
+  spelled_small low small = let l : length (replicate (unsigned_abs p) 48 ++ ds) ≡ unsigned_abs p + length ds =
       omega (arith, length-append (replicate (unsigned_abs p) 48) ds, length-replicate {A = ℕ} (unsigned_abs p) 48) in
       record {
         numeral = numeral g (48 ∷ []) (replicate (unsigned_abs p) 48 ++ ds) None;
-        is = record {
-          integer = (refl, tt);
-          some_digit = omega arith;
-          fraction =
-              digits_join _ _ (digits_replicate (unsigned_abs p)) all;
-          exponent = tt;
-        };
+        is = grind (arith, digits_join, digits_replicate);
         plain = refl;
         value = valued ds some first last g (48 ∷ []) (replicate (unsigned_abs p) 48 ++ ds) None (suc (unsigned_abs p)) 0 e
-            (ap (λ z. 48 ∷ (replicate (unsigned_abs p) 48 ++ z)) (sym (append-nil ds)))
-            (grind (arith, ints, l));
+            (ap (λ z. 48 ∷ (replicate (unsigned_abs p) 48 ++ z)) (sym (append-nil ds))) (grind (arith, ints, l));
         text = ap (λ z. minus_text g ++ (48 ∷ z)) (append-nil _ ∙ fraction_some _ (omega (arith, l, some)));
       }
 
   spelled_mid : int_lt e (pos 0) ≡ true → int_lt p (pos 1) ≡ false → SpellsDecimal d
       (minus_text g ++ (take (unsigned_abs p) ds ++ (46 ∷ drop (unsigned_abs p) ds)))
-  spelled_mid low big =
-      let n : ℕ = unsigned_abs p in
+  spelled_mid low big = let n : ℕ = unsigned_abs p in
       let is_pos : 0 < n = grind (arith, ints) in
       let below : n < length ds = grind (arith, ints) in
       let split : e ≡ (pos 0 -ℤ pos (length ds - n)) +ℤ pos 0 = grind (arith, ints) in
       record {
         numeral = numeral g (take n ds) (drop n ds) None;
-        is = record {
-          integer = digits_take n ds all;
-          some_digit = omega (arith, length-take-le n ds (omega arith));
-          fraction =
-              digits_drop n ds all;
-          exponent = tt;
-        };
+        is = grind (arith, digits_take, digits_drop);
         plain = no_leading (take n ds) (first_take n is_pos);
         value = valued ds some first last g (take n ds) (drop n ds) None 0 0 e (integer_parts n) (rw (length-drop n ds) split);
         text = ap (λ z. minus_text g ++ (take n ds ++ z)) (append-nil _ ∙ fraction_some (drop n ds) (omega (arith, length-drop n ds)));
       }
 
   spelled_whole : int_lt e (pos 0) ≡ false → SpellsDecimal d (minus_text g ++ (ds ++ replicate (unsigned_abs e) 48))
-  spelled_whole high =
-      let n : ℕ = unsigned_abs e in
+  spelled_whole high = let n : ℕ = unsigned_abs e in
       record {
         numeral = numeral g (ds ++ replicate n 48) [] None;
-        is = record {
-          integer = digits_join ds _ all (digits_replicate n);
-          some_digit =
-              omega (arith, length-append ds (replicate n 48));
-          fraction = tt;
-          exponent = tt;
-        };
+        is = grind (arith, digits_join, digits_replicate, length-append);
         plain = no_leading (ds ++ replicate n 48) (λ k. first (sym (get_or_append_left ds (replicate n 48) 0 0 some) ∙ k));
         value = valued ds some first last g (ds ++ replicate n 48) [] None 0 n e (append-nil _) (grind (arith, ints));
         text = ap (λ z. minus_text g ++ z) (append-nil _);
@@ -215,8 +169,7 @@ module _ (g : Bool) (ds : List ℕ) (e : ℤ) (all : AreDigits ds) (some : 0 < l
 
   pub spelled_some : SpellsDecimal d (minus_text g ++ magnitude_text ds e p)
   spelled_some = cond_both (is_far p) (scientific_text ds p) (plain_text ds e p) (λ z. SpellsDecimal d (minus_text g ++ z))
-      (λ far. spelled_far)
-      (λ near. cond_both (int_lt e (pos 0)) _ _ (λ z. SpellsDecimal d (minus_text g ++ z))
+      (λ far. spelled_far) (λ near. cond_both (int_lt e (pos 0)) _ _ (λ z. SpellsDecimal d (minus_text g ++ z))
       (λ low. cond_both (int_lt p (pos 1)) _ _ (λ z. SpellsDecimal d (minus_text g ++ z)) (spelled_small low) (spelled_mid low))
       spelled_whole)
 

@@ -41,16 +41,11 @@ from_first : (c : ℕ) → c ≢ 48 → IsTrue (not (c == 48))
 from_first c h = grind (arith, nat_tests)
 
 pub form : (width : Width) (g : Bool) (c : ℕ) (cs : List ℕ) (p : ℤ) → IsTrue (is_canonical_at width g (c ∷ cs) p) → HasForm width (c ∷ cs) p
-form width g c cs p h =
-    let k = and_parts (power_fits width p) _ h in
-    let d = and_parts (all_ascii_digits (c ∷ cs)) _ k.1 in
-    let f = and_parts (starts_without_zero (c ∷ cs)) (ends_without_zero (c ∷ cs)) d.1 in
-    record { digits = digits_from (c ∷ cs) d.0; first = first_from c f.0; last = last_from c cs f.1; fits = k.0 }
+form width g c cs p h = grind (arith, digits_from, last_from)
 
 pub formed : (width : Width) (g : Bool) (c : ℕ) (cs : List ℕ) (p : ℤ) → HasForm width (c ∷ cs) p
     → IsTrue (is_canonical_at width g (c ∷ cs) p)
-formed width g c cs p h =
-    and_from (power_fits width p) _ h.fits (and_from (all_ascii_digits (c ∷ cs)) _ (from_digits (c ∷ cs) h.digits)
+formed width g c cs p h = and_from (power_fits width p) _ h.fits (and_from (all_ascii_digits (c ∷ cs)) _ (from_digits (c ∷ cs) h.digits)
     (and_from (starts_without_zero (c ∷ cs)) (ends_without_zero (c ∷ cs)) (from_first c h.first) (from_last c cs h.last)))
 
 pub zero_form : (width : Width) (g : Bool) (p : ℤ) → IsTrue (is_canonical_at width g [] p) → (g ≡ false) × (p ≡ pos 0)

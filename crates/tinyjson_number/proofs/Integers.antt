@@ -25,7 +25,7 @@ use Rattle.tinyjson_number.proofs.Forms.{HasForm, form, zero_form}
 use Rattle.tinyjson_number.proofs.Runs.{digit_at, range_from_digit, digits_list_all, list_all_digits}
 use Rattle.tinyjson_number.proofs.Strips.{strip_trailing_append_none, strip_leading_none, strip_trailing_none, strip_trailing_some}
 use Rattle.tinyjson_number.proofs.Strips.{strip_zeros, tail_is}
-use Rattle.tinyjson_number.proofs.DecimalTrip.{decimal_of_some, digits_join, digits_replicate}
+use Rattle.tinyjson_number.proofs.DecimalTrip.{digits_join, digits_replicate}
 use Rattle.tinyjson_number.proofs.Readings.{kept_is}
 
 -- the whole number that a decimal is, where its power is not negative
@@ -64,12 +64,7 @@ module _ (n : ℕ) (some : 0 < n) (fits : n < 2 ^ 64) where
 
   pub whole_is : (negative : Bool) (s : List ℕ) (z : ℕ) → s ≡ strip_trailing (decimal n) → z ≡ length (decimal n) - length s
       → record { negative = negative; digits = s; power = pos z } ≡ whole_decimal negative n
-  whole_is negative s z is zeros =
-      let sig : s ≡ significant (decimal n) = is ∙ sym significant_is in
-      let power : z ≡ trailing_zeros (decimal n) = zeros ∙ ap (λ t. length (decimal n) - length t) is in
-      sym (decimal_of_some negative s (pos z) (omega (arith, ap length is, kept_some)))
-      ∙ (λ i. decimal_of negative (sig i) (pos (power i)))
-      ∙ whole_by_decimal negative n (omega (arith, fits))
+  whole_is negative s z is zeros = grind (arith, significant_is, kept_some, whole_by_decimal)
 
   pub whole_fits : (negative : Bool) (s : List ℕ) (z : ℕ) → s ≡ strip_trailing (decimal n) → z ≤ length (decimal n)
       → IsTrue (is_canonical negative s (pos z))
@@ -84,26 +79,21 @@ ten_more x k = rw pow-suc (omega arith)
 
 zeros_push : (ds : List ℕ) (k : ℕ) → digits_value 10 (ds ++ replicate k 48) ≡ digits_value 10 ds * 10 ^ k
 zeros_push ds zero = ap (digits_value 10) (append-nil ds) ∙ sym (mul-one (digits_value 10 ds))
-zeros_push ds (suc k) =
-    let next : suc k ≡ k + 1 = omega arith in
+zeros_push ds (suc k) = let next : suc k ≡ k + 1 = omega arith in
     let more : ds ++ replicate (suc k) 48 ≡ (ds ++ replicate k 48) ++ 48 ∷ [] =
     ap (λ t. ds ++ t) (ap (λ j. replicate j 48) next ∙ sym (replicate_more k 48)) ∙ sym (append_assoc ds (replicate k 48) (48 ∷ [])) in
-    ap (digits_value 10) more ∙ digits_value_push 10 (ds ++ replicate k 48) 48 ∙ ap (λ v. v * 10 + digit_value 48) (zeros_push ds k)
-    ∙ ten_more (digits_value 10 ds) k
+    search ((zeros_push ds k), more, digits_value_push, ten_more)
 
 -- ---- the whole number is found again
 
 pub magnitude_whole : (negative : Bool) (n : ℕ) → n < 2 ^ 64 → magnitude_of (whole_decimal negative n) ≡ n
-magnitude_whole negative n fits =
-    ⊎_elim
-    (λ some.
+magnitude_whole negative n fits = ⊎_elim (λ some.
     let s = strip_trailing (decimal n) in
     let d = whole_is n some fits negative s (trailing_zeros (decimal n)) refl refl in
     ap magnitude_of (sym d) ∙ sym (zeros_push s (trailing_zeros (decimal n))) ∙ ap (digits_value 10) (sym (tail_is (decimal n)))
     ∙ digits_value-decimal own n fits)
     (λ none. let is : n ≡ 0 = omega arith in ap (λ k. magnitude_of (whole_decimal negative k)) is ∙ ap magnitude_of (sym (zero_is negative))
-    ∙ sym is)
-    (cases_lt 0 n)
+    ∙ sym is) (cases_lt 0 n)
 
 some_form : (g : Bool) (ds : List ℕ) (p : ℤ) → IsTrue (is_canonical g ds p) → 0 < length ds → HasForm power_width ds p
 some_form g [] p h some = absurd (omega arith)
@@ -120,38 +110,23 @@ zero_from_none d valid none = none_form d.negative d.digits d.power valid (nil_f
 -- a decimal with a power of at least 0 is that of its whole number
 module _ (d : Decimal) (valid : IsDecimal d) (p : ℕ) (power : d.power ≡ pos p) (fits : magnitude_of d < 2 ^ 64) where
   from_some : 0 < length d.digits → d ≡ whole_decimal d.negative (magnitude_of d)
-  from_some some =
-      let ds = d.digits in
+  from_some some = let ds = d.digits in
       let has = some_form d.negative ds d.power valid some in
       let all : List ℕ = ds ++ replicate p 48 in
       let m : ℕ = magnitude_of d in
       let value : digits_value 10 all ≡ m = zeros_push ds p ∙ ap (λ z. digits_value 10 ds * 10 ^ unsigned_abs z) (sym power) in
       let first : get_or all 0 0 ≢ 48 = λ e. has.first (sym (get_or_append_left ds (replicate p 48) 0 0 some) ∙ e) in
-      let digits : list_all is_ascii_digit all ≡ true = list_all_digits all
-      (digits_join ds (replicate p 48) has.digits (digits_replicate p)) in
+      let digits : list_all is_ascii_digit all ≡ true = search (list_all_digits, digits_join, digits_replicate) in
       let long : 0 < length all = omega (arith, length-append ds (replicate p 48), some) in
       let text : decimal m ≡ all = ap decimal (sym value) ∙ decimal-digits_value own all digits long (λ e. absurd (first e))
       (omega (arith, value, fits)) in
-      let positive : 0 < m = ⊎_elim (λ h. h) (λ h. let is : m ≡ 0 = omega arith in
-      absurd (first (ap (λ l. get_or l 0 0) (sym text ∙ ap decimal is ∙ decimal_digit 0 (omega arith))))) (cases_lt 0 m) in
-      let kept : ds ≡ strip_trailing (decimal m) = sym (strip_trailing_none ds has.last)
-      ∙ sym (strip_trailing_append_none ds (replicate p 48) (strip_zeros p)) ∙ ap strip_trailing (sym text) in
-      let zeros : p ≡ length (decimal m) - length ds = omega (
-        arith,
-        ap length text,
-        length-append ds
-            (replicate p 48),
-        length-replicate {A = ℕ} p 48,
-      ) in
+      let positive : 0 < m = grind (arith, decimal_digit) in
+      let kept : ds ≡ strip_trailing (decimal m) = search (strip_trailing_none, strip_trailing_append_none, strip_zeros, text) in
+      let zeros : p ≡ length (decimal m) - length ds = grind (arith, length-append, length-replicate) in
       (λ i. record { negative = d.negative; digits = ds; power = power i }) ∙ whole_is m positive fits d.negative ds p kept zeros
 
   pub whole_magnitude : d ≡ whole_decimal d.negative (magnitude_of d)
-  whole_magnitude =
-      ⊎_elim from_some
-      (λ none.
-      let is = zero_from_none d valid (omega arith) in
-      is ∙ zero_is d.negative ∙ ap (whole_decimal d.negative) (sym (ap magnitude_of is)))
-      (cases_lt 0 (length d.digits))
+  whole_magnitude = grind (arith, from_some, zero_is)
 
 -- ---- what the calls return
 
@@ -229,10 +204,7 @@ pub no_positive : (d : Decimal) (m : ℕ) → d ≡ whole_decimal false m → m 
 no_positive d m is fits past (pos n) small same =
     let e : m ≡ n = sym (magnitude_whole false m fits) ∙ ap magnitude_of (sym is ∙ same) ∙ magnitude_integer (pos n) small in
     omega (arith, ints, e, small, past)
-no_positive d m is fits past (negsuc n) small same =
-    let sign : true ≡ false = sym (negative_whole true (suc n) (omega arith) (omega (arith, ints, small)))
-    ∙ ap (λ (d : Decimal). d.negative) (sym same ∙ is) ∙ negative_whole false m (omega (arith, past)) fits in
-    false≢true (sym sign)
+no_positive d m is fits past (negsuc n) small same = grind (arith, negative_whole)
 
 pub negated : (d : Decimal) (m : ℕ) → d ≡ whole_decimal true m → d.negative ≡ true → d ≡ integer_decimal (neg_ℤ (pos m))
 negated d zero is negative = absurd (false≢true (ap (λ (d : Decimal). d.negative) (zero_is true ∙ sym is) ∙ negative))
@@ -252,10 +224,7 @@ placed xs n d some within = let back : n - 1 + 1 ≡ n = omega arith in drop-set
 
 pub digit_placed : (xs : List ℕ) (n rest : ℕ) → 0 < n → n ≤ length xs → 10 ≤ rest → rest < 2 ^ 64
     → decimal (rest / 10) ++ drop (n - 1) (set xs (n - 1) (48 + rest % 10)) ≡ decimal rest ++ drop n xs
-digit_placed xs n rest some within ten fits =
-    ap (λ t. decimal (rest / 10) ++ t) (placed xs n (48 + rest % 10) some within)
-    ∙ sym (append_assoc (decimal (rest / 10)) ((48 + rest % 10) ∷ []) (drop n xs))
-    ∙ ap (λ t. t ++ drop n xs) (sym (decimal_step rest ten fits))
+digit_placed xs n rest some within ten fits = search (placed, append_assoc, decimal_step)
 
 pub last_placed : (xs : List ℕ) (n rest : ℕ) → 0 < n → n ≤ length xs → rest < 10
     → drop (n - 1) (set xs (n - 1) (48 + rest)) ≡ decimal rest ++ drop n xs

@@ -17,17 +17,7 @@ one_decimal v w text d e p q = sym p.2 ∙ ap value (one_numeral text p.0 q.0 p.
 
 -- the text of a decimal is a number of that decimal
 pub text_is_number : (width : Width) (d : Decimal) → IsDecimalAt width d → IsNumberTextAt width (decimal_text d) d
-text_is_number width d h = let s = decimal_spelled width d h in (
-  s.numeral,
-  record {
-    well_formed = s.is;
-    no_leading_zero =
-        s.plain;
-    spelled = s.text;
-  },
-  s.value,
-  decimal_fits width d h,
-)
+text_is_number width d h = grind (arith, decimal_spelled, decimal_fits)
 
 wider_bounds : (z : ℤ) → (int_le (neg_ℤ (pos (2 ^ 31))) z && int_lt z (pos (2 ^ 31))) ≡ true
     → (int_le (neg_ℤ (pos (2 ^ 63))) z && int_lt z (pos (2 ^ 63))) ≡ true

@@ -1,5 +1,5 @@
 -- A decimal's text is ASCII.
-use Rattle.std.proofs.Common.{ℕ, zero, suc, ◌<◌, Bool, true, false, List, [], ◌∷◌, ◌++◌, Option, None, Some, IfSome, subst, IsTrue, arith}
+use Rattle.std.proofs.Common.{ℕ, suc, Bool, true, false, List, [], ◌∷◌, ◌++◌, Option, None, Some, IfSome, subst, IsTrue, arith}
 use Rattle.std.specs.Str.{IsAscii}
 use Rattle.std.proofs.lemmas.Str.{IsAscii-append}
 use Rattle.std.proofs.lemmas.Str.Ascii.{IsAscii-nil, IsAscii-cons}
@@ -40,14 +40,11 @@ sign_ascii (Some c) h = IsAscii-cons c [] (grind (arith, nat_tests)) IsAscii-nil
 
 exponent_ascii : (e : Option Exponent) → IfSome e IsExponent → IsAscii (exponent_text e)
 exponent_ascii None h = IsAscii-nil
-exponent_ascii (Some e) h =
-    IsAscii-cons e.letter _ (let l = h.letter in grind (arith, nat_tests))
+exponent_ascii (Some e) h = IsAscii-cons e.letter _ (let l = h.letter in grind (arith, nat_tests))
     (IsAscii-append (sign_text e.sign) e.digits (sign_ascii e.sign h.sign) (digits_ascii e.digits h.digits))
 
 pub spelling_ascii : (n : Numeral) → IsNumeral n → IsAscii (spelling n)
-spelling_ascii n h =
-    IsAscii-append (minus_text n.negative) _ (minus_ascii n.negative) (IsAscii-append n.integer _ (digits_ascii n.integer h.integer)
-    (IsAscii-append (fraction_text n.fraction) _ (fraction_ascii n.fraction h.fraction) (exponent_ascii n.exponent h.exponent)))
+spelling_ascii n h = search (IsAscii-append, minus_ascii, digits_ascii, fraction_ascii, exponent_ascii)
 
 pub decimal_ascii : (d : Decimal) → IsDecimal d → IsAscii (decimal_text d)
 decimal_ascii d h = let s = decimal_spelled power_width d h in subst IsAscii s.text (spelling_ascii s.numeral s.is)

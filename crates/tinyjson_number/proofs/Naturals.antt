@@ -33,11 +33,7 @@ natural_one : (n : ℕ) → n < 10 → IsNatural n ((48 + n) ∷ [])
 natural_one n h = record { are = (digit_is n h, tt); some = omega arith; value = omega (arith, value_of_digit n h) }
 
 natural_more : (n : ℕ) (ds : List ℕ) → IsNatural (n / 10) ds → IsNatural n (ds ++ (48 + n % 10) ∷ [])
-natural_more n ds h = record {
-  are = digits_append ds (48 + n % 10) h.are (digit_is (n % 10) (omega arith));
-  some = omega (arith, length-append ds ((48 + n % 10) ∷ []));
-  value = after_append 0 ds ((48 + n % 10) ∷ []) ∙ omega (arith, h.value, value_of_digit (n % 10) (omega arith));
-}
+natural_more n ds h = grind (arith, digits_append, length-append, after_append, value_of_digit)
 
 natural_within : (b : Bool) (k n : ℕ) → nat_lt n 10 ≡ b → n ≤ k → IsNatural n (digits_within b k n)
 natural_within true k n e h = natural_one n (ltb-true n 10 e)

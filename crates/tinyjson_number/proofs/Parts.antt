@@ -4,7 +4,7 @@ use Rattle.std.proofs.Common.{Some, None, IfSome, Result, Ok, Err, refl, sym, ap
 use Rattle.std.specs.Prelude.{◌+ℤ◌, ◌-ℤ◌}
 use Rattle.tinyjson_number.specs.Decimal.{Decimal, decimal_of, significant, trailing_zeros}
 use Rattle.tinyjson_number.specs.Numeral.{Numeral, Exponent, IsNumeral, IsExponent, is_sign, signed, exponent_value, value, in_range}
-use Rattle.tinyjson_number.specs.Numeral.{minus_text, fraction_text, exponent_text, spelling}
+use Rattle.tinyjson_number.specs.Numeral.{fraction_text, spelling}
 use Rattle.tinyjson_number.specs.NumberText.{Spells}
 use Rattle.tinyjson_number.specs.Number.{Canonical}
 use Rattle.tinyjson_number.specs.Reading.{ReadsNumeral, numeral_of, plain, plain_sign, plain_exponent}
@@ -28,8 +28,7 @@ exponent_plain (Some e) = signed_plain e.sign _
 
 pub value_plain : (n : Numeral) → value (plain n) ≡ value n
 unfolding value
-value_plain n =
-    ap (λ z. decimal_of n.negative (significant (n.integer ++ n.fraction))
+value_plain n = ap (λ z. decimal_of n.negative (significant (n.integer ++ n.fraction))
     ((z -ℤ pos (length n.fraction)) +ℤ pos (trailing_zeros (n.integer ++ n.fraction)))) (exponent_plain n.exponent)
 
 sign_cases : (b : Bool) → IfSome (cond b (Some 45) None) (λ c. IsTrue (is_sign c))
@@ -45,13 +44,7 @@ is_exponent_plain None h = tt
 is_exponent_plain (Some e) h = record { letter = refl; sign = sign_plain e.sign; digits = h.digits; some_digit = h.some_digit }
 
 is_numeral_plain : (n : Numeral) → IsNumeral n → IsNumeral (plain n)
-is_numeral_plain n h = record {
-  integer = h.integer;
-  some_digit = h.some_digit;
-  fraction = h.fraction;
-  exponent =
-      is_exponent_plain n.exponent h.exponent;
-}
+is_numeral_plain n h = search is_exponent_plain
 
 -- ---- a text is as long as the digits that it spells
 
@@ -60,16 +53,7 @@ fraction_room [] = omega arith
 fraction_room (d ∷ ds) = omega arith
 
 pub spelling_room : (n : Numeral) → length n.integer + length n.fraction ≤ length (spelling n)
-spelling_room n =
-    let r : List ℕ = fraction_text n.fraction ++ exponent_text n.exponent in
-    omega (
-      arith,
-      length-append (minus_text n.negative) (n.integer ++ r),
-      length-append n.integer r,
-      length-append
-          (fraction_text n.fraction) (exponent_text n.exponent),
-      fraction_room n.fraction,
-    )
+spelling_room n = grind (arith, length-append)
 
 pub spelled_room : (n : Numeral) (text : List ℕ) → Spells n text → length n.integer + length n.fraction ≤ length text
 spelled_room n text h = subst (λ t. length n.integer + length n.fraction ≤ length t) h.spelled (spelling_room n)

@@ -1,7 +1,7 @@
 -- The decimal of a numeral, from what the code keeps of it.
-use Rattle.std.proofs.Common.{◌≡◌, ◌≢◌, ℕ, ◌-◌, ◌<◌, ◌≤◌, ◌^◌, min, get_or, Bool, true, false, List, [], ◌∷◌, ◌++◌, length, ℤ, pos, negsuc}
-use Rattle.std.proofs.Common.{neg_ℤ, IsTrue, ◌&&◌, ◌==◌, cond, refl, sym, ap, ◌∙◌, subst, ⊎_elim, arith, Option, Some, None, inl, inr, ◌⊎◌}
-use Rattle.std.proofs.Common.{Result, Ok, Err}
+use Rattle.std.proofs.Common.{◌≡◌, ℕ, ◌-◌, ◌<◌, ◌≤◌, ◌^◌, min, Bool, true, false, List, [], ◌∷◌, ◌++◌, length, ℤ, pos, negsuc, neg_ℤ}
+use Rattle.std.proofs.Common.{IsTrue, ◌&&◌, ◌==◌, cond, refl, sym, ap, ◌∙◌, subst, ⊎_elim, arith, Option, Some, None, inl, inr, ◌⊎◌, Result}
+use Rattle.std.proofs.Common.{Ok, Err}
 use mir.Val.{to_z, of_z}
 use Rattle.std.specs.Prelude.{FitsSigned, int_le, int_lt, ◌+ℤ◌, ◌-ℤ◌}
 use Rattle.std.specs.Result.{IsErrAnd}
@@ -9,7 +9,7 @@ use Rattle.std.specs.Int.{w64}
 use Rattle.std.specs.Str.Parse.{digits_value}
 use Rattle.std.proofs.lemmas.Bool.{cases_lt}
 use Rattle.std.proofs.lemmas.Int.{ints}
-use Rattle.tinyjson_number.specs.Decimal.{Decimal, decimal_of, strip_leading, significant, trailing_zeros, zero_decimal}
+use Rattle.tinyjson_number.specs.Decimal.{Decimal, decimal_of, significant, trailing_zeros, zero_decimal}
 use Rattle.tinyjson_number.specs.Numeral.{Exponent, Numeral, AreDigits, signed, exponent_value, power_of, value, power_fits, power_width}
 use Rattle.tinyjson_number.specs.Numeral.{in_range}
 use Rattle.tinyjson_number.specs.Canonical.{is_canonical}
@@ -85,12 +85,16 @@ cap_harmless (Some e) f t hf ht fits = cap_signed e.sign (digits_value 10 e.digi
 pub kept_is : (negative : Bool) (s : List ℕ) (power : ℤ) → 0 < length s → (ds : List ℕ) → s ≡ significant ds → AreDigits ds
     → FitsSigned w64 power → IsTrue (is_canonical negative s power)
 kept_is negative [] power some ds is all fits = absurd (omega arith)
-kept_is negative (c ∷ cs) power some ds is all fits = formed power_width negative c cs power (record {
-  digits = subst AreDigits (sym is) (digits_trailing (strip_leading ds) (digits_leading ds all));
-  first = subst (λ t. get_or t 0 0 ≢ 48) (sym is) (first_trailing (strip_leading ds) (first_leading ds));
-  last = subst (λ t. get_or t (length t - 1) 0 ≢ 48) (sym is) (last_trailing (strip_leading ds));
-  fits = fitting_power power fits;
-})
+kept_is negative (c ∷ cs) power some ds is all fits = search (
+  formed,
+  is,
+  digits_trailing,
+  digits_leading,
+  first_trailing,
+  first_leading,
+  last_trailing,
+  fitting_power,
+)
 
 pub zero_value : (n : Numeral) → significant (n.integer ++ n.fraction) ≡ [] → value n ≡ zero_decimal
 unfolding value

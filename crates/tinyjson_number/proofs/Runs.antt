@@ -1,6 +1,5 @@
 -- Runs of digits, and where a text may be cut.
-use Rattle.std.proofs.Common.{◌≡◌, ℕ, zero, suc, ◌<◌, ◌≤◌, true, List, [], ◌∷◌, ◌++◌, length, take, get_or, IsTrue, refl, arith, Result, Ok}
-use Rattle.std.proofs.Common.{Err}
+use Rattle.std.proofs.Common.{◌≡◌, ℕ, zero, suc, ◌<◌, true, List, [], ◌∷◌, ◌++◌, length, take, get_or, IsTrue, refl, arith, Result, Ok, Err}
 use Rattle.std.specs.Result.{MatchResult, IsOk}
 use Rattle.std.specs.List.{prefix_len, list_all}
 use Rattle.std.specs.Str.{IsAscii}
@@ -9,7 +8,6 @@ use Rattle.std.specs.Int.{IsInRange}
 use Rattle.std.proofs.lemmas.Str.Ascii.{IsAscii-nil, IsAscii-cons}
 use Rattle.std.proofs.lemmas.List.Sums.{prefix_len_passes, list_all-from_AllPass}
 use Rattle.std.proofs.lemmas.List.Folds.{length-prefix_len}
-use Rattle.std.proofs.lemmas.List.Elements.{All-from_get_or}
 use Rattle.std.proofs.lemmas.List.{get_or-take}
 use Rattle.std.proofs.lemmas.Bool.Decides.{nat_tests}
 use Rattle.std.proofs.lemmas.Bool.{and_parts, and_from}
@@ -46,11 +44,7 @@ digits_back (d ∷ xs) ys h = digits_back xs ys h.1
 
 -- the digits in front are digits
 pub front_digits : (xs : List ℕ) → AreDigits (take (prefix_len is_ascii_digit xs) xs)
-front_digits xs =
-    digits_list_all _ (list_all-from_AllPass is_ascii_digit _ (All-from_get_or (λ x. IsTrue (is_ascii_digit x))
-    (take (prefix_len is_ascii_digit xs) xs) 0 (λ i lt.
-    let within : i < prefix_len is_ascii_digit xs = omega (arith, lt, length-prefix_len is_ascii_digit xs) in
-    rw (get_or-take (prefix_len is_ascii_digit xs) xs i 0 within) (prefix_len_passes is_ascii_digit xs i 0 within))))
+front_digits xs = grind (arith, digits_list_all, list_all-from_AllPass, length-prefix_len, get_or-take, prefix_len_passes)
 
 -- digits are ASCII
 pub digits_ascii : (xs : List ℕ) → AreDigits xs → IsAscii xs

@@ -1,7 +1,7 @@
 -- A text begins with at most one number, and its parts are found from left to right.
-use Rattle.std.proofs.Common.{◌≡◌, ℕ, ◌+◌, ◌-◌, ◌<◌, cond, ⊎_elim, add-one, ◌≤◌, Bool, true, false, ◌==◌, ◌&&◌, ◌||◌, List, []}
-use Rattle.std.proofs.Common.{◌∷◌, ◌++◌, length, take, drop, get_or, IsTrue, Option, Some, None, IfSome, sym, refl, ap, ◌∙◌, subst, arith}
-use Rattle.std.proofs.Common.{suc, drop-cons, append_assoc, append-nil, take-append-drop}
+use Rattle.std.proofs.Common.{◌≡◌, ℕ, ◌+◌, ◌-◌, ◌<◌, cond, ⊎_elim, add-one, ◌≤◌, Bool, true, false, ◌==◌, List, [], ◌∷◌, ◌++◌, length, take}
+use Rattle.std.proofs.Common.{drop, get_or, IsTrue, Option, Some, None, IfSome, sym, refl, ap, ◌∙◌, subst, arith, suc, drop-cons}
+use Rattle.std.proofs.Common.{append_assoc, append-nil, take-append-drop}
 use Rattle.std.specs.Prelude.{if◌then◌else◌}
 use Rattle.std.specs.List.{prefix_len}
 use Rattle.std.specs.Char.{is_ascii_digit}
@@ -9,8 +9,8 @@ use Rattle.std.proofs.lemmas.Bool.Decides.{nat_tests}
 use Rattle.std.proofs.lemmas.Bool.{cases_lt, eqb-true}
 use Rattle.std.proofs.lemmas.List.{drop_all, drop-drop, length-drop, nil_from_length}
 use Rattle.std.proofs.lemmas.List.Sums.{prefix_len-le-length}
-use Rattle.tinyjson_number.specs.Numeral.{numeral, Exponent, Numeral, AreDigits, IsExponent, is_exponent_letter, is_sign, has_leading_zero}
-use Rattle.tinyjson_number.specs.Numeral.{sign_text, minus_text, fraction_text, exponent_text, spelling}
+use Rattle.tinyjson_number.specs.Numeral.{numeral, Exponent, Numeral, AreDigits, IsExponent, is_exponent_letter, is_sign, sign_text}
+use Rattle.tinyjson_number.specs.Numeral.{minus_text, fraction_text, exponent_text, spelling}
 use Rattle.tinyjson_number.specs.NumberText.{Spells}
 use Rattle.tinyjson_number.proofs.Runs.{front_digits}
 use Rattle.tinyjson_number.specs.Scan.{starts, is_point, EndsNumber, IsGrammatical, NumeralAt, PartsAt}
@@ -74,9 +74,7 @@ same_fraction : (f g text x y : List ℕ) → IsFraction f text x → IsFraction
 same_fraction [] [] text x y a b = (refl, sym a.spelled ∙ b.spelled)
 same_fraction [] (d ∷ g) text x y a b = absurd (both_starts is_point 46 ((d ∷ g) ++ y) x refl (sym a.spelled ∙ b.spelled) (a.point refl))
 same_fraction (d ∷ f) [] text x y a b = absurd (both_starts is_point 46 ((d ∷ f) ++ x) y refl (sym b.spelled ∙ a.spelled) (b.point refl))
-same_fraction (d ∷ f) (c ∷ g) text x y a b =
-    let e : ◌≡◌ {A = List ℕ} (46 ∷ ((d ∷ f) ++ x)) (46 ∷ ((c ∷ g) ++ y)) = sym a.spelled ∙ b.spelled in
-    same_digits (d ∷ f) (c ∷ g) x y a.are b.are a.digit b.digit (ap (drop 1) e)
+same_fraction (d ∷ f) (c ∷ g) text x y a b = grind (arith, same_digits)
 
 same_sign : (s t : Option ℕ) (x y : List ℕ) → IfSome s (λ c. IsTrue (is_sign c)) → IfSome t (λ c. IsTrue (is_sign c))
     → (s ≡ None → starts is_sign x ≡ false) → (t ≡ None → starts is_sign y ≡ false)
@@ -88,24 +86,14 @@ same_sign (Some d) (Some c) x y a b p q e = let head : d ≡ c = cc in (ap Some 
 
 module _ (b c : Bool) (ds es f g text x y : List ℕ) (m : IsMantissa b ds f text x) (n : IsMantissa c es g text y) where
   minus : (b ≡ c) × (ds ++ (fraction_text f ++ x) ≡ es ++ (fraction_text g ++ y))
-  minus = same_minus b c (ds ++ (fraction_text f ++ x)) (es ++ (fraction_text g ++ y))
-      (λ _. digits_no_minus ds (fraction_text f ++ x) m.integer_digits m.some_digit)
-      (λ _. digits_no_minus es (fraction_text g ++ y) n.integer_digits n.some_digit)
-      (sym m.spelled ∙ n.spelled)
+  minus = grind arith
 
   integer : (ds ≡ es) × (fraction_text f ++ x ≡ fraction_text g ++ y)
   integer = same_digits ds es (fraction_text f ++ x) (fraction_text g ++ y) m.integer_digits n.integer_digits (fraction_stops f x m.digit)
       (fraction_stops g y n.digit) minus.1
 
   fraction : (f ≡ g) × (x ≡ y)
-  fraction =
-      let of_f : IsFraction f (fraction_text f ++ x) x = record {
-        are = m.fraction_digits;
-        spelled = refl;
-        digit = m.digit;
-        point =
-            m.point;
-      } in
+  fraction = let of_f : IsFraction f (fraction_text f ++ x) x = grind arith in
       let of_g : IsFraction g (fraction_text f ++ x) y =
       record { are = n.fraction_digits; spelled = integer.1; digit = n.digit; point = n.point } in
       same_fraction f g (fraction_text f ++ x) x y of_f of_g
@@ -116,8 +104,7 @@ module _ (b c : Bool) (ds es f g text x y : List ℕ) (m : IsMantissa b ds f tex
 -- the sign and the digits of the code, which may have none, and those of an exponent
 power_digits : (s t : Option ℕ) (ds es x y : List ℕ) → IfSome s (λ c. IsTrue (is_sign c))
     → (s ≡ None → starts is_sign (ds ++ x) ≡ false) → AreDigits ds → starts is_ascii_digit x ≡ false → (text : List ℕ)
-    → text ≡ sign_text s ++ (ds ++ x)
-    → IsPower t es text y → (s ≡ t) × (ds ≡ es) × (x ≡ y)
+    → text ≡ sign_text s ++ (ds ++ x) → IsPower t es text y → (s ≡ t) × (ds ≡ es) × (x ≡ y)
 power_digits s t ds es x y known none are stops text spelled p =
     let sign = same_sign s t (ds ++ x) (es ++ y) known p.known none (λ _. digits_no_sign es y p.are p.some_digit)
     (sym spelled ∙ p.spelled) in
@@ -128,11 +115,7 @@ power_digits s t ds es x y known none are stops text spelled p =
 
 apart : (n : Numeral) (rest : List ℕ)
     → spelling n ++ rest ≡ minus_text n.negative ++ (n.integer ++ (fraction_text n.fraction ++ (exponent_text n.exponent ++ rest)))
-apart n rest =
-    let f : List ℕ = fraction_text n.fraction in
-    let e : List ℕ = exponent_text n.exponent in
-    append_assoc (minus_text n.negative) (n.integer ++ (f ++ e)) rest
-    ∙ ap (λ t. minus_text n.negative ++ t) (append_assoc n.integer (f ++ e) rest ∙ ap (λ t. n.integer ++ t) (append_assoc f e rest))
+apart n rest = search append_assoc
 
 module _ (n : Numeral) (text rest : List ℕ) (g : IsGrammatical n) (spelled : text ≡ spelling n ++ rest) (ends : EndsNumber n rest) where
   exponent_digit : (e : Option Exponent) → n.exponent ≡ e → IfSome e IsExponent → starts is_ascii_digit (exponent_text e ++ rest) ≡ false
@@ -145,34 +128,18 @@ module _ (n : Numeral) (text rest : List ℕ) (g : IsGrammatical n) (spelled : t
   exponent_point (Some x) e h f = letter_no_point x.letter h.letter
 
   mantissa_of : IsMantissa n.negative n.integer n.fraction text (exponent_text n.exponent ++ rest)
-  mantissa_of = record {
-    integer_digits = g.well_formed.integer;
-    some_digit = g.well_formed.some_digit;
-    no_leading_zero = g.no_leading_zero;
-    fraction_digits = g.well_formed.fraction;
-    spelled = spelled ∙ apart n rest;
-    digit = exponent_digit n.exponent refl g.well_formed.exponent;
-    point = exponent_point n.exponent refl g.well_formed.exponent;
-  }
+  mantissa_of = grind (arith, apart, exponent_point)
 
 power_of : (x : Exponent) (rest : List ℕ) → IsExponent x → starts is_ascii_digit rest ≡ false
     → IsPower x.sign x.digits ((sign_text x.sign ++ x.digits) ++ rest) rest
-power_of x rest h stops = record {
-  known = h.sign;
-  are = h.digits;
-  some_digit = h.some_digit;
-  spelled = append_assoc (sign_text x.sign) x.digits rest;
-  digit = stops;
-}
+power_of x rest h stops = search append_assoc
 
 -- after a letter the power of the exponent follows
 lettered : (e : Option Exponent) (c : ℕ) (cs rest : List ℕ) → IfSome e IsExponent → starts is_ascii_digit rest ≡ false
     → (e ≡ None → starts is_exponent_letter rest ≡ false) → is_exponent_letter c ≡ true → c ∷ cs ≡ exponent_text e ++ rest
     → (x : Exponent) × (e ≡ Some x) × (c ≡ x.letter) × IsPower x.sign x.digits cs rest
 lettered None c cs rest h stops none letter e = absurd (both_starts is_exponent_letter c cs rest letter (sym e) (none refl))
-lettered (Some x) c cs rest h stops none letter e =
-    let head : c ≡ x.letter = cc in
-    (x, refl, head, subst (λ t. IsPower x.sign x.digits t rest) (sym (ap (drop 1) e)) (power_of x rest h stops))
+lettered (Some x) c cs rest h stops none letter e = grind arith
 
 -- without a letter there is no exponent
 unlettered : (e : Option Exponent) (text rest : List ℕ) → IfSome e IsExponent → starts is_exponent_letter text ≡ false
@@ -252,8 +219,7 @@ shown_first : (test : ℕ → Bool) (text : List ℕ) (at : ℕ) → starts test
     → (at < length text) × (test (get_or text at 0) ≡ true) × (drop at text ≡ get_or text at 0 ∷ drop (at + 1) text)
 shown_first test text at h = ⊎_elim
     (λ lt. (lt, sym (starts_at test text at lt) ∙ h, drop-cons text at 0 lt ∙ ap (λ k. get_or text at 0 ∷ drop k text) (sym (add-one at))))
-    (λ past. let no = starts_past test text at past in absurd (cc))
-    (cases_lt at (length text))
+    (λ past. let no = starts_past test text at past in absurd (cc)) (cases_lt at (length text))
 
 rest_stops : (xs : List ℕ) → starts is_ascii_digit (drop (prefix_len is_ascii_digit xs) xs) ≡ false
 rest_stops [] = refl
@@ -280,10 +246,7 @@ module _ (text : List ℕ) (from to : ℕ) (e : to ≡ from + prefix_len is_asci
   digits_split = sym (take-append-drop (to - from) (drop from text)) ∙ ap (λ t. take (to - from) (drop from text) ++ t) rest_is
 
   pub digits_stop : starts is_ascii_digit (drop to text) ≡ false
-  digits_stop =
-      ap (starts is_ascii_digit) (sym rest_is)
-      ∙ ap (λ k. starts is_ascii_digit (drop k (drop from text))) count
-      ∙ rest_stops (drop from text)
+  digits_stop = grind (arith, rest_is, count, rest_stops)
 
   pub digits_within : from ≤ length text → to ≤ length text
   digits_within h = omega (arith, e, h, prefix_len-le-length is_ascii_digit (drop from text), length-drop from text)
@@ -343,12 +306,7 @@ module _ (text : List ℕ) (at : ℕ) (b : Bool) (from : ℕ) (minus : drop at t
       same_digits ds es (drop point text) (fraction_text g ++ y) are n.integer_digits stops (fraction_stops g y n.digit) (sym split ∙ m.1)
 
   pub fraction_lacks : NoFractionAt text point → NoMantissaAt text at
-  fraction_lacks lacks c es g y n = lacks g y (record {
-    are = n.fraction_digits;
-    spelled = (front c es g y n).1;
-    digit = n.digit;
-    point = n.point;
-  })
+  fraction_lacks lacks c es g y n = grind (arith, front)
 
 module _ (text : List ℕ) (at : ℕ) (negative : Bool) (from : ℕ) (x : SignAt text at negative from) (ds : List ℕ) (end : ℕ)
     (are : AreDigits ds) (split : drop from text ≡ ds ++ drop end text) (stops : starts is_ascii_digit (drop end text) ≡ false) where
@@ -363,15 +321,7 @@ module _ (text : List ℕ) (at : ℕ) (m : Mantissa) (end : ℕ) (x : MantissaAt
   number e = numeral m.negative m.integer.now m.fraction.now e
 
   grammatical_of : (e : Option Exponent) → IfSome e IsExponent → IsGrammatical (number e)
-  grammatical_of e h = record {
-    well_formed = record {
-      integer = x.0.integer_digits;
-      some_digit = x.0.some_digit;
-      fraction = x.0.fraction_digits;
-      exponent = h;
-    };
-    no_leading_zero = x.0.no_leading_zero;
-  }
+  grammatical_of e h = search integer
 
   joined : (e : Option Exponent) (rest : List ℕ) → drop end text ≡ exponent_text e ++ rest → drop at text ≡ spelling (number e) ++ rest
   joined e rest h =
@@ -396,20 +346,13 @@ module _ (text : List ℕ) (at : ℕ) (m : Mantissa) (end : ℕ) (x : MantissaAt
 
   pub scientific_between : (parts : ExponentParts) (last : ℕ) → starts is_exponent_letter (drop end text) ≡ true
       → ExponentAt text (end + 1) parts last → PartsAt text at (with_exponent (Some parts)) last
-  scientific_between parts last h e =
-      let s = shown_first is_exponent_letter text end h in
+  scientific_between parts last h e = let s = shown_first is_exponent_letter text end h in
       let exponent : Exponent = record { letter = get_or text end 0; sign = e.sign; digits = parts.digits.now } in
-      let power : drop (end + 1) text ≡ (sign_text e.sign ++ parts.digits.now) ++ drop last text = e.power.spelled ∙ sym
-      (append_assoc (sign_text e.sign) parts.digits.now (drop last text)) in (
+      let power : drop (end + 1) text ≡ (sign_text e.sign ++ parts.digits.now) ++ drop last text = search append_assoc in (
         number (Some exponent),
         ap (λ o. number (Some (record { letter = 101; sign = o; digits = parts.digits.now }))) e.minus,
         record {
-          grammatical = grammatical_of (Some exponent) (record {
-            letter = s.1;
-            sign = e.power.known;
-            digits = e.power.are;
-            some_digit = e.power.some_digit;
-          });
+          grammatical = search e.power.known;
           spelled = joined (Some exponent) (drop last text) (s.2 ∙ ap (λ t. get_or text end 0 ∷ t) power);
           within = e.within;
           ends = record { digit = e.power.digit; point = λ f o. absurd (cc); letter = λ o. absurd (cc) };
@@ -423,11 +366,7 @@ module _ (text : List ℕ) (at : ℕ) (m : Mantissa) (end : ℕ) (x : MantissaAt
         (exponent_text n.exponent ++ drop last text) x.0 (mantissa_of n (drop at text) (drop last text) y.grammatical y.spelled y.ends)).3
 
     pub letter_follows : starts is_exponent_letter (drop end text) ≡ true → n.exponent ≡ None → ⊥
-    letter_follows h e =
-        let same : drop end text ≡ drop last text = after_mantissa ∙ ap (λ o. exponent_text o ++ drop last text) e in
-        let t = ap (starts is_exponent_letter) same in
-        let stops = y.ends.letter e in
-        absurd (cc)
+    letter_follows h e = grind (arith, after_mantissa)
 
     pub exponent_lacks : starts is_exponent_letter (drop end text) ≡ true → NoExponentAt text (end + 1) → ⊥
     exponent_lacks h lacks =

@@ -1,10 +1,10 @@
 -- Zeros stripped from digits.
 use Rattle.std.proofs.Common.{◌≡◌, ◌≢◌, ℕ, zero, suc, ◌+◌, ◌-◌, ◌<◌, ◌≤◌, Bool, true, false, cond, eqb, List, [], ◌∷◌, ◌++◌, length, get_or}
-use Rattle.std.proofs.Common.{replicate, IsTrue, refl, sym, ap, ◌∙◌, ⊎_elim, arith, append-nil, length-append}
+use Rattle.std.proofs.Common.{replicate, IsTrue, refl, sym, ap, ◌∙◌, arith, append-nil, length-append}
 use Rattle.std.specs.Char.{is_ascii_digit}
-use Rattle.std.proofs.lemmas.Bool.{eqb-true, cases_lt, cond_both, false≢true}
+use Rattle.std.proofs.lemmas.Bool.{eqb-true, cond_both, false≢true}
 use Rattle.std.proofs.lemmas.Bool.Decides.{nat_tests}
-use Rattle.std.proofs.lemmas.List.{get_or-append_right, get_or-replicate, length-replicate}
+use Rattle.std.proofs.lemmas.List.{get_or-append_right, get_or-replicate}
 use Rattle.tinyjson_number.specs.Decimal.{strip_leading, strip_trailing, before_stripped, significant, trailing_zeros}
 use Rattle.tinyjson_number.specs.Numeral.{AreDigits}
 
@@ -38,8 +38,7 @@ before_some d (x ∷ xs) h = refl
 
 pub strip_trailing_append_some : (w f : List ℕ) → 0 < length (strip_trailing f) → strip_trailing (w ++ f) ≡ w ++ strip_trailing f
 strip_trailing_append_some [] f h = refl
-strip_trailing_append_some (d ∷ w) f h =
-    ap (before_stripped d) (strip_trailing_append_some w f h) ∙ before_some d (w ++ strip_trailing f)
+strip_trailing_append_some (d ∷ w) f h = ap (before_stripped d) (strip_trailing_append_some w f h) ∙ before_some d (w ++ strip_trailing f)
     (omega (arith, h, length-append w (strip_trailing f)))
 
 first_cases : (b : Bool) (d : ℕ) (xs : List ℕ) → eqb d 48 ≡ b → get_or (strip_leading xs) 0 0 ≢ 48
@@ -88,9 +87,7 @@ one_cases : (b : Bool) (d : ℕ) (xs : List ℕ) → eqb d 48 ≡ b → xs ≡ r
 one_cases true d xs e h =
     let all : suc (length xs) ≡ suc (length xs) - 0 = omega arith in
     (λ i. eqb-true d 48 e i ∷ h i) ∙ ap (λ k. replicate k 48) all
-one_cases false d xs e h =
-    let rest : length xs ≡ suc (length xs) - 1 = omega arith in
-    ap (λ t. d ∷ t) (h ∙ ap (λ k. replicate k 48) rest)
+one_cases false d xs e h = grind arith
 
 tail_cases : (d : ℕ) (xs kept : List ℕ) → xs ≡ kept ++ replicate (length xs - length kept) 48
     → d ∷ xs ≡ before_stripped d kept ++ replicate (suc (length xs) - length (before_stripped d kept)) 48
@@ -110,21 +107,11 @@ strip_zeros (suc k) = ap (before_stripped 48) (strip_zeros k)
 
 -- digits that do not end with 0
 pub strip_trailing_none : (xs : List ℕ) → get_or xs (length xs - 1) 0 ≢ 48 → strip_trailing xs ≡ xs
-strip_trailing_none xs h =
-    let kept = strip_trailing xs in
+strip_trailing_none xs h = let kept = strip_trailing xs in
     let t = trailing_zeros xs in
     let tail = tail_is xs in
-    let len : length xs ≡ length kept + t = ap length tail ∙ length-append kept (replicate t 48)
-    ∙ ap (λ k. length kept + k) (length-replicate t 48) in
-    ⊎_elim
-    (λ some.
-    let last : get_or xs (length xs - 1) 0 ≡ 48 =
-    ap (λ l. get_or l (length xs - 1) 0) tail
-    ∙ get_or-append_right kept (replicate t 48) (length kept) (length xs - 1) 0 refl (omega (arith, len, some))
-    ∙ get_or-replicate t (length xs - 1 - length kept) 48 0 (omega (arith, len, some))
-    in absurd (h last))
-    (λ none. let is : t ≡ 0 = omega arith in sym (tail ∙ ap (λ k. kept ++ replicate k 48) is ∙ append-nil kept))
-    (cases_lt 0 t)
+    let len : length xs ≡ length kept + t = grind (arith, length-append) in
+    grind (arith, get_or-append_right, get_or-replicate, append-nil)
 
 -- digits that do not begin with 0
 lead_cases : (b : Bool) (d : ℕ) (xs : List ℕ) → b ≡ false → cond b (strip_leading xs) (d ∷ xs) ≡ d ∷ xs
@@ -149,9 +136,7 @@ pub strip_trailing_push_zero : (xs : List ℕ) (d : ℕ) → d ≡ 48 → strip_
 strip_trailing_push_zero xs d h = strip_trailing_append_none xs (d ∷ []) (last_zero (eqb d 48) d (grind (arith, nat_tests)))
 
 pub strip_trailing_push_other : (xs : List ℕ) (d : ℕ) → d ≢ 48 → strip_trailing (xs ++ d ∷ []) ≡ xs ++ d ∷ []
-strip_trailing_push_other xs d h =
-    let kept = last_kept (eqb d 48) d (grind (arith, nat_tests)) in
-    strip_trailing_append_some xs (d ∷ []) (omega (arith, ap length kept)) ∙ ap (λ t. xs ++ t) kept
+strip_trailing_push_other xs d h = grind (arith, strip_trailing_append_some)
 
 some_cases : (d : ℕ) (xs : List ℕ) → d ≢ 48 → 0 < length (before_stripped d xs)
 some_cases d [] h = omega (arith, ap length (last_kept (eqb d 48) d (grind (arith, nat_tests))))
@@ -205,10 +190,7 @@ zeros_cases : (b : Bool) (d : ℕ) (xs : List ℕ) → (0 < length (significant 
     → 0 < length (strip_trailing (cond b (strip_leading xs) (d ∷ xs)))
     → suc (length xs) + length (strip_trailing (cond b (strip_leading xs) (d ∷ xs))) ≡ length (cond b (strip_leading xs) (d ∷ xs)) + length
     (before_stripped d (strip_trailing xs))
-zeros_cases true d xs more some =
-    let m = more some in
-    let kept : 0 < length (strip_trailing xs) = omega (arith, m, some, length_leading xs) in
-    omega (arith, m, ap length (before_some d (strip_trailing xs) kept))
+zeros_cases true d xs more some = grind (arith, length_leading)
 zeros_cases false d xs more some = refl
 
 zeros_same : (xs : List ℕ) → 0 < length (significant xs) → length xs + length (significant xs) ≡ length (strip_leading xs) + length
@@ -223,45 +205,23 @@ trailing_zeros_is xs h = omega (arith, zeros_same xs h, length_leading xs, lengt
 module _ (w f : List ℕ) where
   pub strip_fraction_alone : strip_leading w ≡ [] → (strip_trailing (strip_leading f) ≡ significant (w ++ f))
       × (0 < length (significant (w ++ f)) → length (strip_leading f) - length (strip_trailing (strip_leading f)) ≡ trailing_zeros (w ++ f))
-  strip_fraction_alone h =
-      let e = strip_leading_append_none w f h in
-      (ap strip_trailing (sym e), λ some. ap (λ t. length t - length (strip_trailing t)) (sym e) ∙ trailing_zeros_is (w ++ f) some)
+  strip_fraction_alone h = grind (arith, strip_leading_append_none, trailing_zeros_is)
 
   pub strip_integer_alone : 0 < length (strip_leading w) → strip_trailing f ≡ []
       → (strip_trailing (strip_leading w) ++ [] ≡ significant (w ++ f))
       × (0 < length (significant (w ++ f)) → (length (strip_leading w) - length (strip_trailing (strip_leading w))) + length f
       ≡ trailing_zeros (w ++ f))
-  strip_integer_alone some none =
-      let e = strip_leading_append_some w f some in
-      let s : significant (w ++ f) ≡ strip_trailing (strip_leading w) = ap strip_trailing e
-      ∙ strip_trailing_append_none (strip_leading w) f none in (
-        append-nil _ ∙ sym s,
-        λ h. omega (
-          arith,
-          ap length s,
-          ap length e,
-          length-append (strip_leading w) f,
-          trailing_zeros_is
-              (w ++ f) h,
-          length_trailing (strip_leading w),
-        ),
-      )
+  strip_integer_alone some none = grind (
+    arith,
+    strip_leading_append_some,
+    strip_trailing_append_none,
+    append-nil,
+    length-append,
+    trailing_zeros_is,
+    length_trailing,
+  )
 
   pub strip_both : 0 < length (strip_leading w) → 0 < length (strip_trailing f)
       → (strip_leading w ++ strip_trailing f ≡ significant (w ++ f)) ×
       (0 < length (significant (w ++ f)) → length f - length (strip_trailing f) ≡ trailing_zeros (w ++ f))
-  strip_both some kept =
-      let e = strip_leading_append_some w f some in
-      let s : significant (w ++ f) ≡ strip_leading w ++ strip_trailing f = ap strip_trailing e
-      ∙ strip_trailing_append_some (strip_leading w) f kept in (
-        sym s,
-        λ h. omega (
-          arith,
-          ap length s,
-          ap length e,
-          length-append (strip_leading w) f,
-          length-append (strip_leading w)
-              (strip_trailing f),
-          trailing_zeros_is (w ++ f) h,
-        ),
-      )
+  strip_both some kept = grind (arith, strip_leading_append_some, strip_trailing_append_some, length-append)

@@ -57,8 +57,7 @@ pub letter_no_point : (c : ℕ) → IsTrue (is_exponent_letter c) → (c == 46) 
 letter_no_point c h = grind arith
 
 power_digits : (r : Rules) (fs : List Frame) (g : Bool) (w f : List ℕ) (l : ℕ) (s : Option ℕ) (ds xs : List ℕ) → AreDigits ds
-    → 0 < length ds →
-    IfSome s (λ c. IsTrue ((c == 43) || (c == 45))) →
+    → 0 < length ds → IfSome s (λ c. IsTrue ((c == 43) || (c == 45))) →
     run r fs (digits letter (numeral g w f (power l None []))) ((sign_text s ++ ds) ++ xs)
     ≡ run r fs (digits exponent (numeral g w f (power l s ds))) xs
 unfolding run step
@@ -109,19 +108,17 @@ unfolding run step
 run_integer r fs true [] xs h p = absurd (omega (arith, p))
 run_integer r fs false [] xs h p = absurd (omega (arith, p))
 run_integer r fs true (c ∷ cs) xs h p = rw h.0 (integer_digits r fs true (c ∷ []) cs xs h.1)
-run_integer r fs false (c ∷ cs) xs h p =
-    rw (
-      digit_not_white c h.0,
-      digit_is_not c 110 h.0 refl,
-      digit_is_not c 116 h.0 refl,
-      digit_is_not c 102 h.0 refl,
-      digit_is_not c 34 h.0
-          refl,
-      digit_is_not c 91 h.0 refl,
-      digit_is_not c 123 h.0 refl,
-      digit_is_not c 45 h.0 refl,
-      h.0,
-    )
+run_integer r fs false (c ∷ cs) xs h p = rw (
+  digit_not_white c h.0,
+  digit_is_not c 110 h.0 refl,
+  digit_is_not c 116 h.0 refl,
+  digit_is_not c 102 h.0 refl,
+  digit_is_not c 34 h.0 refl,
+  digit_is_not c 91 h.0 refl,
+  digit_is_not c 123 h.0 refl,
+  digit_is_not c 45 h.0 refl,
+  h.0,
+)
     (integer_digits r fs false (c ∷ []) cs xs h.1)
 
 from_first : (r : Rules) (fs : List Frame) (g : Bool) (w f : List ℕ) (e : Option Exponent) (xs : List ℕ) →
@@ -167,5 +164,4 @@ run_numeral r fs n xs hn h d =
     let z = fine_zero r n.integer (λ e. (h e).0) in
     run_spelling r fs n xs hn z
     ∙ numeral_ends r fs (last_stage n) n xs (λ c hc. none_follows r fs n n.fraction n.exponent c z hc)
-    (end_finishes r fs n n.fraction n.exponent z)
-    (and_false r.strict (not (in_range (value n))) (λ e. ap not (h e).1)) d
+    (end_finishes r fs n n.fraction n.exponent z) (and_false r.strict (not (in_range (value n))) (λ e. ap not (h e).1)) d

@@ -7,8 +7,8 @@ use Rattle.tinyjson_grammar.specs.Kind.{kind_of}
 use Rattle.tinyjson_grammar.specs.Tree.{Tree, is_string, key_of}
 use Rattle.tinyjson_grammar.specs.Characters.{is_white}
 use Rattle.tinyjson_grammar.specs.Syntax.{AreWhite}
-use Rattle.tinyjson_grammar.specs.Machine.{Rules, Frame, in_array, at_key, at_value, Phase, awaited, first, after, finished, colon, Next}
-use Rattle.tinyjson_grammar.specs.Machine.{next, stop, Outcome, refused, complete, step, run, go_on, end, end_plain, then_step}
+use Rattle.tinyjson_grammar.specs.Machine.{Rules, Frame, at_key, Phase, awaited, first, after, finished, colon, Next, next, stop, Outcome}
+use Rattle.tinyjson_grammar.specs.Machine.{refused, complete, step, run, go_on, end, end_plain, then_step}
 use Rattle.tinyjson_grammar.specs.declared.error.JsonParseErrorKind.{JsonParseErrorKind}
 use Rattle.tinyjson_grammar.specs.declared.error.JsonParseErrorKind.TheVariants.{KeyNotString}
 use Rattle.tinyjson_number.specs.Numeral.{is_exponent_letter}
@@ -30,11 +30,9 @@ settle_cond r false k fs p c xs = refl
 -- a character that completes a value
 pub settle_complete : (r : Rules) (b : Bool) (fs : List Frame) (t : Tree) (c : ℕ) (xs : List ℕ) →
     go_on (λ gs q. run r gs q xs) (complete b fs t true) (c ∷ xs) xs ≡ settle r (complete b fs t true) xs
-settle_complete r b [] t c xs = refl
-settle_complete r b (in_array ts ∷ fs) t c xs = refl
 settle_complete r b (at_key ms ∷ fs) t c xs = settle_cond r (b && not (is_string t)) (KeyNotString (kind_of t)) (at_key ms ∷ fs)
     (colon (key_of t)) c xs
-settle_complete r b (at_value ms k ∷ fs) t c xs = refl
+settle_complete r b _ t c xs = refl
 
 -- a character after a complete numeral
 ends_cond : (r : Rules) (b : Bool) (k : JsonParseErrorKind) (fs : List Frame) (l : List ℕ) (c : ℕ) (xs : List ℕ) →
@@ -47,10 +45,8 @@ ends_cond r false k fs l c xs = refl
 pub ends_complete : (r : Rules) (b : Bool) (fs : List Frame) (t : Tree) (c : ℕ) (xs : List ℕ) →
     go_on (λ gs q. run r gs q xs) (then_step r (complete b fs t false) c) (c ∷ xs) xs ≡ settle r (complete b fs t true) (c ∷ xs)
 unfolding run step
-ends_complete r b [] t c xs = refl
-ends_complete r b (in_array ts ∷ fs) t c xs = refl
 ends_complete r b (at_key ms ∷ fs) t c xs = ends_cond r (b && not (is_string t)) (KeyNotString (kind_of t)) (at_key ms ∷ fs) (key_of t) c xs
-ends_complete r b (at_value ms k ∷ fs) t c xs = refl
+ends_complete r b _ t c xs = refl
 
 -- the end after a complete numeral
 end_cond : (r : Rules) (b : Bool) (k : JsonParseErrorKind) (fs : List Frame) (l : List ℕ) →
@@ -62,10 +58,8 @@ end_cond r false k fs l = refl
 pub end_complete : (r : Rules) (b : Bool) (fs : List Frame) (t : Tree)
     → end_plain (complete b fs t false) ≡ settle r (complete b fs t true) []
 unfolding run end
-end_complete r b [] t = refl
-end_complete r b (in_array ts ∷ fs) t = refl
 end_complete r b (at_key ms ∷ fs) t = end_cond r (b && not (is_string t)) (KeyNotString (kind_of t)) (at_key ms ∷ fs) (key_of t)
-end_complete r b (at_value ms k ∷ fs) t = refl
+end_complete r b _ t = refl
 
 -- ---- white space
 

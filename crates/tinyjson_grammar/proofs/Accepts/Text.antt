@@ -18,8 +18,7 @@ white_delimited w h = rw (append-nil w) at (delimited_white w [] h tt)
 
 pub run_text : (b : Bool) (limit : Option ℕ) (xs : List ℕ) (l : IsLoose limit xs) → (b ≡ true → IsStrict l.value)
     → run (rules b limit) [] awaited xs ≡ accepted (tree_of l.value)
-run_text b limit xs l h = rw l.whole
-    (run_white (rules b limit) [] l.before _ l.white_before
+run_text b limit xs l h = rw l.whole (run_white (rules b limit) [] l.before _ l.white_before
     ∙ run_value l.value (rules b limit) [] l.after l.spelled h (within_le limit _ _ l.shallow (omega arith))
     (ends l.value l.after (white_delimited l.after l.white_after))
     ∙ finished_white (rules b limit) [] (tree_of l.value) l.after l.white_after)

@@ -7,9 +7,9 @@ use Rattle.std.proofs.lemmas.Bool.{lt-ltb}
 use Rattle.tinyjson_grammar.specs.Tree as tree
 use Rattle.tinyjson_grammar.specs.Characters.{is_white}
 use Rattle.tinyjson_number.specs.Numeral.{minus_text, AreDigits}
-use Rattle.tinyjson_grammar.specs.Syntax.{Syntax, Elements, Pairs, null, boolean, number, string, empty_array, array, empty_object}
-use Rattle.tinyjson_grammar.specs.Syntax.{object, last_element, element, last_pair, pair, text, elements_text, pairs_text, AreWhite}
-use Rattle.tinyjson_grammar.specs.Syntax.{IsSpelled, AreElements, ArePairs, IsStrict, ElementsAreStrict, PairsAreStrict, is_key, tree_of}
+use Rattle.tinyjson_grammar.specs.Syntax.{Syntax, Elements, Pairs, null, boolean, number, string, empty_array, array, empty_object, object}
+use Rattle.tinyjson_grammar.specs.Syntax.{last_element, element, last_pair, pair, text, elements_text, pairs_text, AreWhite, IsSpelled}
+use Rattle.tinyjson_grammar.specs.Syntax.{AreElements, ArePairs, IsStrict, ElementsAreStrict, PairsAreStrict, is_key, tree_of}
 use Rattle.tinyjson_grammar.specs.Syntax.{elements_trees, pairs_members, depth, elements_depth, pairs_depth, IsWithin}
 use Rattle.tinyjson_grammar.specs.Machine.{Rules, Frame, in_array, at_key, at_value, awaited, first, complete, step, run, fits}
 use Rattle.tinyjson_grammar.proofs.Accepts.Runs.{settle, settle_complete, and_false, Delimited, delimited_white, run_white, first_white}
@@ -114,23 +114,11 @@ Ends (object ps) xs = ⊤
 
 pub ends : (s : Syntax) (xs : List ℕ) → Delimited xs → Ends s xs
 ends (number n) xs d = d
-ends null xs d = tt
-ends (boolean b) xs d = tt
-ends (string ps) xs d = tt
-ends (empty_array w) xs d = tt
-ends (array es) xs d = tt
-ends (empty_object w) xs d = tt
-ends (object ps) xs d = tt
+ends _ xs d = tt
 
 pub string_key : (s : Syntax) → tree.is_string (tree_of s) ≡ is_key s
 string_key null = refl
-string_key (boolean b) = refl
-string_key (number n) = refl
-string_key (string ps) = refl
-string_key (empty_array w) = refl
-string_key (array es) = refl
-string_key (empty_object w) = refl
-string_key (object ps) = refl
+string_key _ = refl
 
 fine_key : (r : Rules) (k : Syntax) → (r.strict ≡ true → IsTrue (is_key k)) → (r.strict && not (tree.is_string (tree_of k))) ≡ false
 fine_key r k h = rw (string_key k) (and_false r.strict (not (is_key k)) (λ e. ap not (h e)))
@@ -158,16 +146,14 @@ mutual
       (first_white r (in_array [] ∷ fs) w (93 ∷ xs) h ∙ settle_complete r r.strict fs (tree.array tree.no_items) 93 xs)
   run_value (array es) r fs xs h f m d = rw (
     append_assoc (elements_text es) (93 ∷ []) xs,
-    fits_within r.limit (length fs)
-        (elements_depth es) m,
+    fits_within r.limit (length fs) (elements_depth es) m,
   )
       (first_elements r [] fs es (93 ∷ xs) h ∙ run_elements es r [] fs xs h f (within_le r.limit _ _ m (omega arith)))
   run_value (empty_object w) r fs xs h f m d = rw (append_assoc w (125 ∷ []) xs, fits_within r.limit (length fs) 0 m)
       (first_white r (at_key tree.no_members ∷ fs) w (125 ∷ xs) h ∙ settle_complete r r.strict fs (tree.object tree.no_members) 125 xs)
   run_value (object ps) r fs xs h f m d = rw (
     append_assoc (pairs_text ps) (125 ∷ []) xs,
-    fits_within r.limit (length fs) (pairs_depth ps)
-        m,
+    fits_within r.limit (length fs) (pairs_depth ps) m,
   )
       (first_pairs r tree.no_members fs ps (125 ∷ xs) h ∙ run_pairs ps r tree.no_members fs xs h f (within_le r.limit _ _ m (omega arith)))
 

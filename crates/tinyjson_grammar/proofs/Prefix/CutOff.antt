@@ -4,9 +4,9 @@ use Rattle.std.specs.Prelude.{max}
 use Rattle.tinyjson_grammar.specs.Tree as tree
 use Rattle.tinyjson_grammar.specs.Characters.{decode}
 use Rattle.tinyjson_grammar.specs.Syntax.{Syntax, string, text, AreWhite, is_key, tree_of, depth, pieces_text, piece_codes}
-use Rattle.tinyjson_grammar.specs.Prefix.{Element, Pair, elements_before, pairs_before, IsValue, AreElementsBefore, ArePairsBefore}
-use Rattle.tinyjson_grammar.specs.Prefix.{CutOff, bad_key, in_key, in_member, in_item, cut_off_text, IsCutOff, elements_deepest}
-use Rattle.tinyjson_grammar.specs.Prefix.{pairs_deepest, cut_off_depth}
+use Rattle.tinyjson_grammar.specs.Prefix.{Element, Pair, elements_before, pairs_before, IsValue, AreElementsBefore, ArePairsBefore, CutOff}
+use Rattle.tinyjson_grammar.specs.Prefix.{bad_key, in_key, in_member, in_item, cut_off_text, IsCutOff, elements_deepest, pairs_deepest}
+use Rattle.tinyjson_grammar.specs.Prefix.{cut_off_depth}
 use Rattle.tinyjson_grammar.specs.Machine.{Rules, Frame, in_array, at_key, at_value, awaited, first, step, run}
 use Rattle.tinyjson_grammar.proofs.Accepts.Runs.{delimited_white, run_white, after_white}
 use Rattle.tinyjson_grammar.proofs.Accepts.Value.{last_element_assoc, run_value, fits_within, FitsDepth, ends, Begins, begins_append}
@@ -41,8 +41,7 @@ run_pairs_before : (ps : List Pair) (r : Rules) (ms : tree.Members) (fs : List F
 unfolding run step
 run_pairs_before [] r ms fs xs h m = refl
 run_pairs_before (p ∷ ps) r ms fs xs h m = rw (pair_before_assoc p.before_key (text p.key) p.after_key p.before (text p.value) p.after
-    (pairs_before ps) xs)
-    (run_white r (at_key ms ∷ fs) p.before_key _ h.0.before_key
+    (pairs_before ps) xs) (run_white r (at_key ms ∷ fs) p.before_key _ h.0.before_key
     ∙ run_value p.key r (at_key ms ∷ fs) _ h.0.key.spelled (λ e. h.0.key.strict) (within_le r.limit _ _ m (omega arith))
     (ends p.key _ (delimited_white p.after_key (58 ∷ _) h.0.after_key refl))
     ∙ key_and_colon r ms fs p.key p.after_key _ (λ e. h.0.is_key) h.0.after_key
@@ -101,9 +100,7 @@ member_assoc ps w k v u t ys = simp append_assoc
 
 cut_off_begins : (b : CutOff) → Begins (cut_off_text b)
 cut_off_begins (bad_key ps w s) = (_, _, refl, (refl, refl, refl))
-cut_off_begins (in_key ps w b) = (_, _, refl, (refl, refl, refl))
-cut_off_begins (in_member ps w k v u b) = (_, _, refl, (refl, refl, refl))
-cut_off_begins (in_item es w b) = (_, _, refl, (refl, refl, refl))
+cut_off_begins _ = (_, _, refl, (refl, refl, refl))
 
 pub with_bad_key : (b : CutOff) (r : Rules) (fs : List Frame) → IsCutOff b → FitsDepth r fs (cut_off_depth b) → BadKey r fs b
 with_bad_key (bad_key ps w s) r fs h m = record {

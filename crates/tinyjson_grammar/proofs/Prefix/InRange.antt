@@ -1,6 +1,6 @@
 -- Each numeral without exponent has an exponent with which its power is 0.
-use Rattle.std.proofs.Common.{◌≡◌, ℕ, ◌-◌, ◌<◌, ◌≤◌, Bool, List, [], ◌∷◌, ◌++◌, length, Some, None, ℤ, pos, ◌+ℤ◌, ◌-ℤ◌, neg_ℤ, refl}
-use Rattle.std.proofs.Common.{arith, IsTrue, ⊎_elim}
+use Rattle.std.proofs.Common.{◌≡◌, ℕ, ◌-◌, ◌<◌, ◌≤◌, Bool, List, [], ◌∷◌, ◌++◌, length, Some, None, ℤ, pos, ◌+ℤ◌, ◌-ℤ◌, neg_ℤ, refl, arith}
+use Rattle.std.proofs.Common.{IsTrue, ⊎_elim}
 use Rattle.std.specs.Str.Parse.{digits_value}
 use Rattle.std.proofs.lemmas.Bool.{cases_lt}
 use Rattle.std.proofs.lemmas.Int.{ints}

@@ -6,10 +6,10 @@ use Rattle.std.specs.Char.{is_ascii_digit}
 use Rattle.tinyjson_number.specs.Numeral.{Numeral, has_leading_zero, in_range, value}
 use Rattle.tinyjson_grammar.specs.Tree.{Tree, Members, key_of, is_string, array, object, string, number, items_of}
 use Rattle.tinyjson_grammar.specs.Characters.{is_white, short_escape, decode, paired}
-use Rattle.tinyjson_grammar.specs.Machine.{Frame, in_array, at_key, at_value, Phase, first, awaited, literal, digits, quoted, colon}
-use Rattle.tinyjson_grammar.specs.Machine.{after, finished, Stage, minus, integer, point, fraction, letter, sign, exponent, Within, plain}
-use Rattle.tinyjson_grammar.specs.Machine.{backslash, hex, Next, next, stop, complete, finish, step, step_plain, step_first, step_after}
-use Rattle.tinyjson_grammar.specs.Machine.{step_literal, step_quoted, step_escape, step_digits, then_step, unless_ended}
+use Rattle.tinyjson_grammar.specs.Machine.{Frame, in_array, at_key, at_value, Phase, first, literal, digits, quoted, colon, after, Stage}
+use Rattle.tinyjson_grammar.specs.Machine.{integer, Within, plain, backslash, hex, Next, next, stop, complete, finish, step, step_plain}
+use Rattle.tinyjson_grammar.specs.Machine.{step_first, step_after, step_literal, step_quoted, step_escape, step_digits, then_step}
+use Rattle.tinyjson_grammar.specs.Machine.{unless_ended}
 use Rattle.tinyjson_grammar.specs.declared.kind.JsonKind.{JsonKind}
 use Rattle.tinyjson_grammar.specs.declared.error.JsonParseErrorKind.{JsonParseErrorKind}
 use Rattle.tinyjson_grammar.specs.declared.error.JsonParseErrorKind.TheVariants.{KeyNotString, InvalidUtf16, LeadingZero, NumberOutOfRange}
@@ -46,9 +46,8 @@ same_own false k t m m' o g h = h
 
 same_complete : (fs : List Frame) (t : Tree) (b : Bool) → Same (complete true fs t b) (complete false fs t b)
 same_complete [] t b = same _
-same_complete (in_array ts ∷ fs) t b = same _
 same_complete (at_key ms ∷ fs) t b = same_own (not (is_string t)) _ b _ _ refl (λ e. (fs, ms, key_of t, refl)) (same _)
-same_complete (at_value ms k ∷ fs) t b = same _
+same_complete _ t b = same _
 
 same_first : (limit : Option ℕ) (fs : List Frame) (c : ℕ) → Same (step_first (rules true limit) fs c) (step_first (rules false limit) fs c)
 same_first limit [] c = same _
@@ -66,9 +65,8 @@ same_after limit (at_value ms k ∷ fs) c = same _
 
 same_literal : (limit : Option ℕ) (fs : List Frame) (ls : List ℕ) (t : Tree) (c : ℕ)
     → Same (step_literal (rules true limit) fs ls t c) (step_literal (rules false limit) fs ls t c)
-same_literal limit fs [] t c = same _
 same_literal limit fs (l ∷ []) t c = same_cond (c == l) _ _ _ _ (same_complete fs t true) (same _)
-same_literal limit fs (l ∷ m ∷ ls) t c = same _
+same_literal limit fs _ t c = same _
 
 same_escape : (limit : Option ℕ) (fs : List Frame) (cs us : List ℕ) (c : ℕ) (o : Option ℕ)
     → Same (step_escape (rules true limit) fs cs us c o) (step_escape (rules false limit) fs cs us c o)
@@ -77,10 +75,8 @@ same_escape limit fs cs us c (Some d) = same_own (not (paired us)) InvalidUtf16 
 
 same_quoted : (limit : Option ℕ) (fs : List Frame) (w : Within) (cs us : List ℕ) (c : ℕ)
     → Same (step_quoted (rules true limit) fs w cs us c) (step_quoted (rules false limit) fs w cs us c)
-same_quoted limit fs plain cs us c =
-    same_cond (c == 34) _ _ _ _ (same_own (not (paired us)) InvalidUtf16 true _ _ refl (λ e. tt)
-    (same_complete fs (string (cs ++ decode us)) true))
-    (same_cond (c == 92) _ _ _ _ (same _) (same_cond (nat_lt c 32) _ _ _ _ (same _)
+same_quoted limit fs plain cs us c = same_cond (c == 34) _ _ _ _ (same_own (not (paired us)) InvalidUtf16 true _ _ refl (λ e. tt)
+    (same_complete fs (string (cs ++ decode us)) true)) (same_cond (c == 92) _ _ _ _ (same _) (same_cond (nat_lt c 32) _ _ _ _ (same _)
     (same_own (not (paired us)) InvalidUtf16 true _ _ refl (λ e. tt) (same _))))
 same_quoted limit fs backslash cs us c = same_escape limit fs cs us c (short_escape c)
 same_quoted limit fs (hex ds) cs us c = same _
@@ -88,13 +84,10 @@ same_quoted limit fs (hex ds) cs us c = same _
 same_plain : (limit : Option ℕ) (fs : List Frame) (p : Phase) (c : ℕ)
     → Same (step_plain (rules true limit) fs p c) (step_plain (rules false limit) fs p c)
 same_plain limit fs first c = same_cond (is_white c) _ _ _ _ (same _) (same_first limit fs c)
-same_plain limit fs awaited c = same _
 same_plain limit fs (literal ls t) c = same_literal limit fs ls t c
-same_plain limit fs (digits s n) c = same _
 same_plain limit fs (quoted w cs us) c = same_quoted limit fs w cs us c
-same_plain limit fs (colon k) c = same _
 same_plain limit fs after c = same_cond (is_white c) _ _ _ _ (same _) (same_after limit fs c)
-same_plain limit fs (finished t) c = same _
+same_plain limit fs _ c = same _
 
 -- a numeral that ends does not take the character after it
 abbrev IsLeft : Next → Type 0
@@ -103,10 +96,8 @@ IsLeft (stop k true) = ⊥
 IsLeft (stop k false) = ⊤
 
 left_complete : (fs : List Frame) (t : Tree) → IsLeft (complete true fs t false)
-left_complete [] t = tt
-left_complete (in_array ts ∷ fs) t = tt
 left_complete (at_key ms ∷ fs) t = cond_both (not (is_string t)) _ _ IsLeft (λ _. tt) (λ _. tt)
-left_complete (at_value ms k ∷ fs) t = tt
+left_complete _ t = tt
 
 left_finish : (limit : Option ℕ) (fs : List Frame) (n : Numeral) → IsLeft (finish (rules true limit) fs n)
 left_finish limit fs n = cond_both (not (in_range (value n))) _ _ IsLeft (λ _. tt) (λ _. left_complete fs (number (value n)))
@@ -137,14 +128,9 @@ moves_own false k o h = same_moves o
 
 same_digits : (limit : Option ℕ) (fs : List Frame) (s : Stage) (n : Numeral) (c : ℕ)
     → Same_moves (step_digits (rules true limit) fs s n c) (step_digits (rules false limit) fs s n c)
-same_digits limit fs minus n c = same_moves _
 same_digits limit fs integer n c = moves_cond (is_ascii_digit c) _ _ _ _ (same_moves _)
     (moves_own (has_leading_zero n.integer) LeadingZero _ refl)
-same_digits limit fs point n c = same_moves _
-same_digits limit fs fraction n c = same_moves _
-same_digits limit fs letter n c = same_moves _
-same_digits limit fs sign n c = same_moves _
-same_digits limit fs exponent n c = same_moves _
+same_digits limit fs _ n c = same_moves _
 
 same_ended : (limit : Option ℕ) (fs : List Frame) (n : Numeral) (c : ℕ) (o o' : Option Next) → Same_moves o o'
     → Same (unless_ended (rules true limit) fs n c o) (unless_ended (rules false limit) fs n c o')
@@ -157,13 +143,11 @@ pub same_step : (limit : Option ℕ) (fs : List Frame) (p : Phase) (c : ℕ)
     → Same (step (rules true limit) fs p c) (step (rules false limit) fs p c)
 unfolding step
 same_step limit fs first c = same_plain limit fs first c
-same_step limit fs awaited c = same _
 same_step limit fs (literal ls t) c = same_literal limit fs ls t c
 same_step limit fs (digits s n) c = same_ended limit fs n c _ _ (same_digits limit fs s n c)
 same_step limit fs (quoted w cs us) c = same_quoted limit fs w cs us c
-same_step limit fs (colon k) c = same _
 same_step limit fs after c = same_plain limit fs after c
-same_step limit fs (finished t) c = same _
+same_step limit fs _ c = same _
 
 -- ---- what follows of it
 

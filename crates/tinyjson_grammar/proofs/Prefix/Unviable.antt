@@ -9,8 +9,8 @@ use Rattle.tinyjson_number.specs.Numeral.{Numeral, has_leading_zero, in_range, v
 use Rattle.tinyjson_grammar.specs.Syntax.{Syntax, text, is_key, tree_of, depth}
 use Rattle.tinyjson_grammar.specs.Prefix.{IsValue, IsCutOffText, cut_off_text}
 use Rattle.tinyjson_grammar.specs.Machine.{Rules, Frame, at_key, awaited, Next, next, stop, accepted, refused, complete, step, run, end}
-use Rattle.tinyjson_grammar.specs.Machine.{end_digits, step_digits, finish, unless_ended, go_on, digits, Stage, minus, integer, point}
-use Rattle.tinyjson_grammar.specs.Machine.{fraction, letter, sign, exponent}
+use Rattle.tinyjson_grammar.specs.Machine.{end_digits, step_digits, finish, unless_ended, go_on, digits, Stage, integer, fraction, letter}
+use Rattle.tinyjson_grammar.specs.Machine.{exponent}
 use Rattle.tinyjson_grammar.specs.declared.error.JsonParseErrorKind.{JsonParseErrorKind}
 use Rattle.tinyjson_grammar.specs.declared.error.JsonParseErrorKind.TheVariants.{KeyNotString, NumberOutOfRange, LeadingZero}
 use Rattle.tinyjson_grammar.proofs.Accepts.Runs.{run_white}
@@ -33,15 +33,12 @@ move_some : (fs : List Frame) (b : Bool) (x y : Next) → Move fs (Some x) → M
 move_some fs b x y p q = cond_both b x y (λ n. Move fs (Some n)) (λ _. p) (λ _. q)
 
 move : (r : Rules) (fs : List Frame) (s : Stage) (n : Numeral) (c : ℕ) → Move fs (step_digits r fs s n c)
-move r fs minus n c = move_some fs (is_ascii_digit c) _ _ (goes _ _) (stops _)
-move r fs integer n c = move_cond fs (is_ascii_digit c) _ _ (goes _ _)
-    (move_cond fs (r.strict && has_leading_zero n.integer) _ _ (stops _)
+move r fs integer n c = move_cond fs (is_ascii_digit c) _ _ (goes _ _) (move_cond fs (r.strict && has_leading_zero n.integer) _ _ (stops _)
     (move_cond fs (c == 46) _ _ (goes _ _) (move_cond fs (is_exponent_letter c) _ _ (goes _ _) ends_here)))
-move r fs point n c = move_some fs (is_ascii_digit c) _ _ (goes _ _) (stops _)
 move r fs fraction n c = move_cond fs (is_ascii_digit c) _ _ (goes _ _) (move_cond fs (is_exponent_letter c) _ _ (goes _ _) ends_here)
 move r fs letter n c = move_some fs (is_ascii_digit c) _ _ (goes _ _) (move_some fs ((c == 43) || (c == 45)) _ _ (goes _ _) (stops _))
-move r fs sign n c = move_some fs (is_ascii_digit c) _ _ (goes _ _) (stops _)
 move r fs exponent n c = move_cond fs (is_ascii_digit c) _ _ (goes _ _) ends_here
+move r fs _ n c = move_some fs (is_ascii_digit c) _ _ (goes _ _) (stops _)
 
 -- ---- a numeral as a key
 
@@ -57,18 +54,14 @@ finish_key r ms fs n h = rw h (stopped (not (in_range (value n))))
 
 end_key : (r : Rules) (ms : tree.Members) (fs : List Frame) (s : Stage) (n : Numeral) (t : tree.Tree) → r.strict ≡ true
     → end_digits r (at_key ms ∷ fs) s n ≡ accepted t → ⊥
-end_key r ms fs minus n t h e = cc
 end_key r ms fs integer n t h e = cond_both (r.strict && has_leading_zero n.integer) _ _ (λ o. o ≡ accepted t
     → ⊥) (λ _. no_text _ _ t) (λ _. no_text _ _ t) (rw (finish_key r ms fs n h).1 at e)
-end_key r ms fs point n t h e = cc
 end_key r ms fs fraction n t h e = no_text _ _ t (rw (finish_key r ms fs n h).1 at e)
-end_key r ms fs letter n t h e = cc
-end_key r ms fs sign n t h e = cc
 end_key r ms fs exponent n t h e = no_text _ _ t (rw (finish_key r ms fs n h).1 at e)
+end_key r ms fs _ n t h e = cc
 
 keeps : (o : Option Next) (r : Rules) (ms : tree.Members) (fs : List Frame) (n : Numeral) (t : tree.Tree) (c : ℕ) (cs : List ℕ)
-    → Move (at_key ms ∷ fs) o → r.strict ≡ true →
-    ((s : Stage) (m : Numeral) → run r (at_key ms ∷ fs) (digits s m) cs ≡ accepted t → ⊥) →
+    → Move (at_key ms ∷ fs) o → r.strict ≡ true → ((s : Stage) (m : Numeral) → run r (at_key ms ∷ fs) (digits s m) cs ≡ accepted t → ⊥) →
     go_on (λ gs q. run r gs q cs) (unless_ended r (at_key ms ∷ fs) n c o) (c ∷ cs) cs ≡ accepted t → ⊥
 keeps _ r ms fs n t c cs ends_here h g e = no_text _ _ t (rw (finish_key r ms fs n h).1 at e)
 keeps _ r ms fs n t c cs (goes s m) h g e = g s m e
@@ -84,9 +77,8 @@ key_unviable (c ∷ cs) r ms fs s n t h e = keeps _ r ms fs n t c cs (move r (at
 -- ---- a leading zero
 
 zero_more : (w : List ℕ) (d : ℕ) → has_leading_zero w ≡ true → has_leading_zero (w ++ d ∷ []) ≡ true
-zero_more [] d h = absurd (false≢true h)
-zero_more (a ∷ []) d h = absurd (false≢true h)
 zero_more (a ∷ b ∷ w) d h = h
+zero_more _ d h = absurd (false≢true h)
 
 zero_keeps : (b : Bool) (r : Rules) (fs : List Frame) (n m : Numeral) (t : tree.Tree) (c : ℕ) (cs : List ℕ)
     → (run r fs (digits integer m) cs ≡ accepted t → ⊥) →

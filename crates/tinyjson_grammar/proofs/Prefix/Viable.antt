@@ -12,7 +12,7 @@ use Rattle.tinyjson_grammar.specs.Prefix.{IsErrorFree, IsValue, IsLooselyViable}
 use Rattle.tinyjson_grammar.specs.Machine.{Within}
 use Rattle.tinyjson_grammar.specs.Machine
 use Rattle.tinyjson_grammar.specs.Refusal.{IsPromptly, AreLate, is_late, IsHex}
-use Rattle.tinyjson_grammar.proofs.Trace.Paths.{Path, outside, item_in, key_in, value_in, path_text, IsPath}
+use Rattle.tinyjson_grammar.proofs.Trace.Paths.{Path, key_in, path_text, IsPath}
 use Rattle.tinyjson_grammar.proofs.Prefix.ErrorFree.{error_free, error_free_from, placed, IsPlaced}
 use Rattle.tinyjson_grammar.proofs.Trace.State.{Part, part_minus, part_integer, part_point, part_fraction, part_letter, part_sign}
 use Rattle.tinyjson_grammar.proofs.Trace.State.{part_exponent, exponent_with, part_text, IsPart, IsIntegerPart, Ranges, Quad, quads}
@@ -32,17 +32,14 @@ exponent_ending b d ds f l s e es h i k xs rest w =
     (record { integer = h.0.0; some_digit = omega arith; fraction = h.1; exponent = power }) w
 
 pub part_ending : (n : Part) → IsPart n → Ending (part_text n)
-part_ending part_minus h =
-    number_ending (numeral true (48 ∷ []) [] None) _ (48 ∷ [])
+part_ending part_minus h = number_ending (numeral true (48 ∷ []) [] None) _ (48 ∷ [])
     (record { integer = (refl, tt); some_digit = omega arith; fraction = tt; exponent = tt }) refl
 part_ending (part_integer b d ds) h =
     number_ending (numeral b (d ∷ ds) [] None) _ [] (record { integer = h; some_digit = omega arith; fraction = tt; exponent = tt })
     (ap (λ xs. minus_text b ++ d ∷ xs) (append-nil ds) ∙ sym (append-nil (minus_text b ++ d ∷ ds)))
-part_ending (part_point b d ds) h =
-    number_ending (numeral b (d ∷ ds) (48 ∷ []) None) _ (48 ∷ [])
+part_ending (part_point b d ds) h = number_ending (numeral b (d ∷ ds) (48 ∷ []) None) _ (48 ∷ [])
     (record { integer = h.0; some_digit = omega arith; fraction = (refl, tt); exponent = tt }) (simp append_assoc)
-part_ending (part_fraction b d ds e es) h =
-    number_ending (numeral b (d ∷ ds) (e ∷ es) None) _ []
+part_ending (part_fraction b d ds e es) h = number_ending (numeral b (d ∷ ds) (e ∷ es) None) _ []
     (record { integer = h.0.0; some_digit = omega arith; fraction = h.1; exponent = tt }) (simp (append_assoc, append-nil))
 part_ending (part_letter b d ds f l) h = exponent_ending b d ds f l None 48 [] h tt (refl, tt) _ (48 ∷ []) (simp append_assoc)
 part_ending (part_sign b d ds f l s) h =
@@ -63,29 +60,25 @@ last_piece Machine.backslash h = record { pieces = Piece.escape 34 ∷ []; are =
 last_piece (Machine.hex []) h = record {
   pieces = unit 48 48 48 48 ∷ [];
   are = ((refl, refl, refl, refl), tt);
-  rest =
-      48 ∷ 48 ∷ 48 ∷ 48 ∷ [];
+  rest = 48 ∷ 48 ∷ 48 ∷ 48 ∷ [];
   whole = refl;
 }
 last_piece (Machine.hex (a ∷ [])) h = record {
   pieces = unit a 48 48 48 ∷ [];
   are = ((h.0.0, refl, refl, refl), tt);
-  rest =
-      48 ∷ 48 ∷ 48 ∷ [];
+  rest = 48 ∷ 48 ∷ 48 ∷ [];
   whole = refl;
 }
 last_piece (Machine.hex (a ∷ b ∷ [])) h = record {
   pieces = unit a b 48 48 ∷ [];
   are = ((h.0.0, h.0.1.0, refl, refl), tt);
-  rest =
-      48 ∷ 48 ∷ [];
+  rest = 48 ∷ 48 ∷ [];
   whole = refl;
 }
 last_piece (Machine.hex (a ∷ b ∷ c ∷ [])) h = record {
   pieces = unit a b c 48 ∷ [];
   are = ((h.0.0, h.0.1.0, h.0.1.1.0, refl), tt);
-  rest =
-      48 ∷ [];
+  rest = 48 ∷ [];
   whole = refl;
 }
 last_piece (Machine.hex (a ∷ b ∷ c ∷ d ∷ ds)) h = absurd (omega (arith, h.1))
@@ -156,13 +149,7 @@ pub quads_late : (qs : List Quad) → ArePieces (quads qs) → AreLate (pieces_t
 quads_late [] h = tt
 quads_late (q ∷ qs) h = (
   refl,
-  (
-    refl,
-    (
-      hex_late q.a h.0.0,
-      (hex_late q.b h.0.1, (hex_late q.c h.0.2, (hex_late q.d h.0.3, quads_late qs h.1))),
-    ),
-  ),
+  (refl, (hex_late q.a h.0.0, (hex_late q.b h.0.1, (hex_late q.c h.0.2, (hex_late q.d h.0.3, quads_late qs h.1))))),
 )
 
 pub within_late : (wi : Within) → IsPartWithin wi → AreLate (within_text wi)
@@ -183,25 +170,21 @@ module _ (ranges : Ranges) where
       let s : Syntax = Syntax.number (numeral b (d ∷ ds) f (Some r.0)) in
       record {
         exponent = r.0;
-        error_free = error_free limit p hp s
-            (record {
-              spelled = record { integer = h.0; some_digit = omega arith; fraction = i; exponent = r.1 };
-              strict =
-                  (rw h.1 refl, r.2);
-            }) (flat_within limit p s hp refl) [] tt (placed p s);
+        error_free = error_free limit p hp s (record {
+          spelled = record { integer = h.0; some_digit = omega arith; fraction = i; exponent = r.1 };
+          strict = (rw h.1 refl, r.2);
+        }) (flat_within limit p s hp refl) [] tt (placed p s);
       }
 
   pub error_free_number : (limit : Option ℕ) (p : Path) → IsPath limit p → (b : Bool) (d : ℕ) (ds f : List ℕ) → IsIntegerPart d ds
-      → AreDigits f →
-      IsErrorFree limit (path_text p ++ (minus_text b ++ d ∷ (ds ++ fraction_text f)))
+      → AreDigits f → IsErrorFree limit (path_text p ++ (minus_text b ++ d ∷ (ds ++ fraction_text f)))
   error_free_number limit p hp b d ds f h i =
       let n : Numbered limit p b (d ∷ ds) f = numbered limit p hp b d ds f h i in
       error_free_from limit (path_text p ++ (minus_text b ++ d ∷ (ds ++ fraction_text f))) (exponent_text (Some n.exponent)) _
       (simp (append_assoc, append-nil)) n.error_free
 
   pub error_free_minus : (limit : Option ℕ) (p : Path) → IsPath limit p → IsErrorFree limit (path_text p ++ 45 ∷ [])
-  error_free_minus limit p hp =
-      error_free_from limit (path_text p ++ 45 ∷ []) (48 ∷ []) (path_text p ++ 45 ∷ 48 ∷ []) (simp append_assoc)
+  error_free_minus limit p hp = error_free_from limit (path_text p ++ 45 ∷ []) (48 ∷ []) (path_text p ++ 45 ∷ 48 ∷ []) (simp append_assoc)
       (error_free_number limit p hp true 48 [] [] ((refl, tt), refl) tt)
 
   pub error_free_point : (limit : Option ℕ) (p : Path) → IsPath limit p → (b : Bool) (d : ℕ) (ds : List ℕ) → IsIntegerPart d ds
@@ -218,13 +201,11 @@ module _ (ranges : Ranges) where
       let r = ranges b (d ∷ ds) f h.0 i in
       let e : Exponent = exponent_with l r.0.sign r.0.digits in
       let s : Syntax = Syntax.number (numeral b (d ∷ ds) f (Some e)) in
-      let is : IsNumeral (numeral b (d ∷ ds) f (Some e)) =
-      record {
+      let is : IsNumeral (numeral b (d ∷ ds) f (Some e)) = record {
         integer = h.0;
         some_digit = omega arith;
         fraction = i;
-        exponent =
-            record { letter = hl; sign = r.1.sign; digits = r.1.digits; some_digit = r.1.some_digit };
+        exponent = record { letter = hl; sign = r.1.sign; digits = r.1.digits; some_digit = r.1.some_digit };
       } in
       error_free_from limit (path_text p ++ (minus_text b ++ d ∷ (ds ++ (fraction_text f ++ l ∷ [])))) (sign_text r.0.sign ++ r.0.digits)
       (path_text p ++ (text s ++ [])) (simp (append_assoc, append-nil))
@@ -258,15 +239,12 @@ error_free_value limit p hp s hs hd prefix rest e =
     (error_free limit p hp s hs (flat_within limit p s hp hd) [] tt (placed p s))
 
 pub error_free_place : (limit : Option ℕ) (p : Path) → IsPath limit p → IsErrorFree limit (path_text p)
-error_free_place limit p hp =
-    error_free_from limit (path_text p) (110 ∷ 117 ∷ 108 ∷ 108 ∷ []) (path_text p ++ (text null ++ [])) refl
+error_free_place limit p hp = error_free_from limit (path_text p) (110 ∷ 117 ∷ 108 ∷ 108 ∷ []) (path_text p ++ (text null ++ [])) refl
     (error_free limit p hp null (record { spelled = tt; strict = tt }) (flat_within limit p null hp refl) [] tt (placed p null))
 
 pub is_keyed_placed : (p : Path) (s : Syntax) (v : List ℕ) → IsKeyed p s → IsPlaced p s v
-is_keyed_placed (outside w) s v h = tt
-is_keyed_placed (item_in p es w) s v h = tt
 is_keyed_placed (key_in p ps w) s v h = inl h
-is_keyed_placed (value_in p ps a k b w) s v h = tt
+is_keyed_placed _ s v h = tt
 
 pub error_free_after : (limit : Option ℕ) (p : Path) (s : Syntax) (v : List ℕ) → IsRead limit (at_after p s v)
     → IsErrorFree limit (path_text p ++ (text s ++ v))
@@ -283,15 +261,13 @@ error_free_open limit p hp ps cs h i = error_free_value limit p hp (Syntax.strin
 pub quoted_prompt : (limit : Option ℕ) (p : Path) → IsPath limit p → (ps : List Piece) (cs : List ℕ) → ArePieces ps → IsSettled ps cs
     → (qs : List Quad) → ArePieces (quads qs) → (late : List ℕ) → AreLate late → (end : List ℕ) →
     IsPromptly limit (path_text p ++ 34 ∷ (pieces_text ps ++ (pieces_text (quads qs) ++ (late ++ end)))) end
-quoted_prompt limit p hp ps cs h i qs j late l end =
-    record {
-      prefix = path_text p ++ 34 ∷ pieces_text ps;
-      late = pieces_text (quads qs) ++ late;
-      whole = simp append_assoc;
-      error_free =
-          error_free_open limit p hp ps cs h i;
-      are_late = late_append _ _ (quads_late qs j) l;
-    }
+quoted_prompt limit p hp ps cs h i qs j late l end = record {
+  prefix = path_text p ++ 34 ∷ pieces_text ps;
+  late = pieces_text (quads qs) ++ late;
+  whole = simp append_assoc;
+  error_free = error_free_open limit p hp ps cs h i;
+  are_late = late_append _ _ (quads_late qs j) l;
+}
 
 pub read_prompt : Ranges → (limit : Option ℕ) (x : Read) → IsRead limit x → IsPromptly limit (read_text x) []
 read_prompt ranges limit (at_first p) h = at_once limit _ (error_free_place limit p h.0)

@@ -17,9 +17,7 @@ whiter (value_in p ps a k b w) c = value_in p ps a k b (w ++ c ∷ [])
 
 pub whiter_text : (p : Path) (c : ℕ) → path_text p ++ c ∷ [] ≡ path_text (whiter p c)
 whiter_text (outside w) c = refl
-whiter_text (item_in p es w) c = simp append_assoc
-whiter_text (key_in p ps w) c = simp append_assoc
-whiter_text (value_in p ps a k b w) c = simp append_assoc
+whiter_text _ c = simp append_assoc
 
 pub whiter_path : (limit : Option ℕ) (p : Path) → IsPath limit p → (c : ℕ) → IsTrue (is_white c) → IsPath limit (whiter p c)
 whiter_path limit (outside w) h c hc = are_white_append w (c ∷ []) h (hc, tt)

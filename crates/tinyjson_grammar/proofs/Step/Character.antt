@@ -15,9 +15,9 @@ use Rattle.tinyjson_grammar.specs.declared.error.JsonParseErrorKind.TheVariants.
 use Rattle.tinyjson_grammar.proofs.Trace.Paths.{Path, outside, item_in, key_in, value_in, path_text, path_frames, IsPath, within_le}
 use Rattle.tinyjson_grammar.proofs.Trace.Paths.{members_from}
 use Rattle.tinyjson_grammar.proofs.Trace.State.{Part, part_point, part_fraction, part_letter, part_sign, part_exponent, part_text}
-use Rattle.tinyjson_grammar.proofs.Trace.State.{part_stage, part_numeral, IsPart, Ranges, Read, at_first, at_awaited, in_literal}
-use Rattle.tinyjson_grammar.proofs.Trace.State.{in_digits, in_quoted, at_after, part_minus, part_integer, read_text, read_frames}
-use Rattle.tinyjson_grammar.proofs.Trace.State.{read_phase, IsRead, IsWithinLiteral, flat_within, quads, within_text, IsPartWithin}
+use Rattle.tinyjson_grammar.proofs.Trace.State.{part_stage, part_numeral, IsPart, Ranges, Read, at_first, at_awaited, in_literal, in_digits}
+use Rattle.tinyjson_grammar.proofs.Trace.State.{in_quoted, at_after, part_minus, part_integer, read_text, read_frames, read_phase, IsRead}
+use Rattle.tinyjson_grammar.proofs.Trace.State.{IsWithinLiteral, flat_within, quads, within_text, IsPartWithin, after_read}
 use Rattle.tinyjson_grammar.proofs.Prefix.Viable.{error_free_value, read_viable, read_prompt}
 use Rattle.tinyjson_grammar.proofs.Step.Statement.{Follows, at_code, key_says, NoQuoteFrom, Denies}
 use Rattle.tinyjson_grammar.proofs.Step.Awaits.{begins_at, awaits_value}
@@ -32,7 +32,6 @@ use Rattle.tinyjson_grammar.proofs.Step.Number.{digits_follows, minus_says, zero
 use Rattle.tinyjson_grammar.proofs.Step.Number.{IsDone, done_value, integer_done, fraction_done, exponent_done}
 use Rattle.tinyjson_grammar.proofs.Step.String.{quoted_follows, in_string}
 use Rattle.tinyjson_grammar.proofs.Step.First.{at_first_follows, awaited_follows}
-use Rattle.tinyjson_grammar.proofs.Trace.State.{after_read}
 
 shorter_front : (xs : List ℕ) (y : ℕ) (ys : List ℕ) → length xs < length (xs ++ y ∷ ys)
 shorter_front xs y ys = rw (length-append xs (y ∷ ys)) (omega arith)
@@ -92,8 +91,7 @@ literal_follows limit p hp s done (l ∷ []) h c =
     at_code limit _ _ _ c l _ _ (λ e. complete_follows limit p hp s h.value (flat_within limit p s hp h.flat) h.no_number _ _ _ c
     (append_assoc (path_text p) done (c ∷ []) ∙ ap (λ xs. path_text p ++ xs) (ap (λ x. done ++ x ∷ []) e ∙ sym h.whole)))
     (λ e. literal_says limit p hp s done l [] h c e)
-literal_follows limit p hp s done (l ∷ m ∷ ls) h c =
-    at_code limit _ _ _ c l _ _
+literal_follows limit p hp s done (l ∷ m ∷ ls) h c = at_code limit _ _ _ c l _ _
     (λ e. after_read (in_literal p s (done ++ l ∷ []) (m ∷ ls)) (
       hp,
       record {
@@ -120,12 +118,8 @@ step_follows ranges limit (in_digits p n) h c hc = digits_follows ranges limit p
 step_follows ranges limit (in_quoted p ps cs qs wi) h c hc =
     quoted_follows limit p ps cs qs (record { path = h.0; pieces = h.1; settled = h.2; run = h.3 }) wi h.4 c hc
 step_follows ranges limit (at_after (outside w) s v) h c hc = after_follows limit (outside w) s v h _ _ (quote_after limit (outside w) s) c
-step_follows ranges limit (at_after (item_in p es w) s v) h c hc =
-    after_follows limit (item_in p es w) s v h _ _ (quote_after limit (item_in p es w) s) c
-step_follows ranges limit (at_after (key_in p ps w) s v) h c hc =
-    after_follows limit (key_in p ps w) s v h _ _ (quote_after limit (key_in p ps w) s) c
-step_follows ranges limit (at_after (value_in p ps a k b w) s v) h c hc =
-    after_follows limit (value_in p ps a k b w) s v h _ _ (quote_after limit (value_in p ps a k b w) s) c
+step_follows ranges limit (at_after p s v) h c hc =
+    after_follows limit p s v h _ _ (quote_after limit p s) c
 
 -- ---- the end
 
@@ -147,16 +141,14 @@ begins_escape (Machine.hex ds) h = inr (inr (ds, h.1, h.0, refl))
 literal_needs : (limit : Option ℕ) (p : Path) → IsPath limit p → (s : Syntax) (done left : List ℕ) → IsWithinLiteral s done left
     → NeedsMore limit (path_text p ++ done)
 literal_needs limit p hp s done [] h = absurd (omega (arith, h.more))
-literal_needs limit p hp s done (l ∷ left) h =
-    inr (inr (inl (
-      text s,
-      length done,
-      h.is_literal,
-      h.begun,
-      rw h.whole (shorter_front done l left),
-      begins_at limit p hp _ _
-          (rw h.whole (rw (take-append_seam done (l ∷ left)) refl)),
-    )))
+literal_needs limit p hp s done (l ∷ left) h = inr (inr (inl (
+  text s,
+  length done,
+  h.is_literal,
+  h.begun,
+  rw h.whole (shorter_front done l left),
+  begins_at limit p hp _ _ (rw h.whole (rw (take-append_seam done (l ∷ left)) refl)),
+)))
 
 needs : (limit : Option ℕ) (x : Read) → IsRead limit x → Short x → NeedsMore limit (read_text x)
 needs limit (at_first p) h i = inl (awaits_value limit p h.0)
@@ -167,8 +159,7 @@ needs limit (in_quoted p ps cs qs wi) h i = inr (inl (
   quads qs,
   within_text wi,
   begins_escape wi h.4,
-  in_string limit p ps cs qs
-      (record { path = h.0; pieces = h.1; settled = h.2; run = h.3 }) _ _ refl,
+  in_string limit p ps cs qs (record { path = h.0; pieces = h.1; settled = h.2; run = h.3 }) _ _ refl,
 ))
 needs limit (at_after (outside w) s v) h i = elim i [ ]
 needs limit (at_after (item_in p es w) s v) h i = inr (inr (inr (inr (inl (closed_array limit p es w s v h)))))
@@ -195,8 +186,7 @@ ends_text limit w s v h = record {
     white_before = h.0;
     spelled = h.1.spelled;
     white_after = h.4;
-    shallow =
-        within_le limit _ _ h.3 (omega arith);
+    shallow = within_le limit _ _ h.3 (omega arith);
     whole = refl;
   };
   strict = h.1.strict;
@@ -207,8 +197,7 @@ number_ends : Ranges → (limit : Option ℕ) (p : Path) → IsPath limit p → 
     → IsTrue (in_range (value (part_numeral n))) →
     EndsPlain limit (path_text p ++ part_text n) (path_frames p) (digits (part_stage n) (part_numeral n))
     (complete true (path_frames p) (tree.number (value (part_numeral n))) false)
-number_ends ranges limit (outside w) hp n hn h e =
-    subst (λ xs. IsText limit (w ++ xs) (tree.number (value (part_numeral n)))) (append-nil _
+number_ends ranges limit (outside w) hp n hn h e = subst (λ xs. IsText limit (w ++ xs) (tree.number (value (part_numeral n)))) (append-nil _
     ∙ sym h.whole) (ends_text limit w (Syntax.number (part_numeral n)) []
     (hp, done_value n h e, tt, flat_within limit (outside w) (Syntax.number (part_numeral n)) hp refl, tt))
 number_ends ranges limit (item_in p es w) hp n hn h e =
@@ -237,8 +226,7 @@ number_ends ranges limit (value_in p ps a k b w) hp n hn h e =
 finish_ends : Ranges → (limit : Option ℕ) (p : Path) → IsPath limit p → (n : Part) → IsPart n → IsDone n
     → EndsPlain limit (path_text p ++ part_text n) (path_frames p) (digits (part_stage n) (part_numeral n))
     (finish (strictly limit) (path_frames p) (part_numeral n))
-finish_ends ranges limit p hp n hn h =
-    cond_both (not (in_range (value (part_numeral n)))) _ _ (EndsPlain limit _ _ _)
+finish_ends ranges limit p hp n hn h = cond_both (not (in_range (value (part_numeral n)))) _ _ (EndsPlain limit _ _ _)
     (λ e. (refl, (λ x. range_says ranges limit p hp n hn h.numeral h.no_zero h.whole (not-true _ e) [] tt x)))
     (λ e. number_ends ranges limit p hp n hn h (not-false _ e))
 
@@ -261,12 +249,6 @@ pub end_follows : Ranges → (limit : Option ℕ) (x : Read) → IsRead limit x
     → Ends limit (read_text x) (read_frames x) (read_phase x) (end (strictly limit) (read_frames x) (read_phase x))
 unfolding end
 end_follows ranges limit (at_first p) h = (refl, (λ x. eof ranges limit (at_first p) h tt))
-end_follows ranges limit (at_awaited p) h = (refl, (λ x. eof ranges limit (at_awaited p) h tt))
-end_follows ranges limit (in_literal p s done left) h = (refl, (λ x. eof ranges limit (in_literal p s done left) h tt))
 end_follows ranges limit (in_digits p n) h = digits_end ranges limit p h.0 n h.1
-end_follows ranges limit (in_quoted p ps cs qs wi) h = (refl, (λ x. eof ranges limit (in_quoted p ps cs qs wi) h tt))
 end_follows ranges limit (at_after (outside w) s v) h = ends_text limit w s v h
-end_follows ranges limit (at_after (item_in p es w) s v) h = (refl, (λ x. eof ranges limit (at_after (item_in p es w) s v) h tt))
-end_follows ranges limit (at_after (key_in p ps w) s v) h = (refl, (λ x. eof ranges limit (at_after (key_in p ps w) s v) h tt))
-end_follows ranges limit (at_after (value_in p ps a k b w) s v) h =
-    (refl, (λ x. eof ranges limit (at_after (value_in p ps a k b w) s v) h tt))
+end_follows ranges limit x h = (refl, (λ e. eof ranges limit x h tt))

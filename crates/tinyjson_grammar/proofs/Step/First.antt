@@ -20,18 +20,13 @@ use Rattle.tinyjson_grammar.proofs.Step.Value.{complete_follows}
 use Rattle.tinyjson_grammar.proofs.Step.Units.{settled_start}
 
 pub whiter_fresh : (p : Path) (c : ℕ) → IsFresh p → IsFresh (whiter p c)
-whiter_fresh (outside w) c h = h
 whiter_fresh (item_in p [] w) c h = tt
-whiter_fresh (item_in p (e ∷ es) w) c h = h
 whiter_fresh (key_in p [] w) c h = tt
-whiter_fresh (key_in p (q ∷ qs) w) c h = h
-whiter_fresh (value_in p ps a k b w) c h = h
+whiter_fresh _ c h = h
 
 pub whiter_frames : (p : Path) (c : ℕ) → path_frames p ≡ path_frames (whiter p c)
 whiter_frames (outside w) c = refl
-whiter_frames (item_in p es w) c = refl
-whiter_frames (key_in p ps w) c = refl
-whiter_frames (value_in p ps a k b w) c = refl
+whiter_frames _ c = refl
 
 pub level_frames : (p : Path) → length (path_frames p) ≡ level p
 level_frames (outside w) = refl
@@ -60,36 +55,29 @@ pub push_follows : (limit : Option ℕ) (p q : Path) (f : Frame) (c : ℕ) → I
     → path_frames q ≡ f ∷ path_frames p → path_text p ++ c ∷ [] ≡ path_text q → IsFresh q
     → (IsWithin limit (level p + (1 + 0)) → IsPath limit q) → (fs : List Frame) (a : Phase) →
     Follows limit (path_text p) fs a c (push_frame (strictly limit) (path_frames p) f c)
-push_follows limit p q f c hp hc hf ht hq h fs a =
-    either limit (path_text p) fs a c (fits limit (length (path_frames p))) _ _
+push_follows limit p q f c hp hc hf ht hq h fs a = either limit (path_text p) fs a c (fits limit (length (path_frames p))) _ _
     (λ e. record {
       read = at_first q;
       is = (h (rw (← level_frames p) (fits_within limit (length (path_frames p)) e)), hq);
-      whole =
-          ht;
+      whole = ht;
       frames = sym hf;
       phase = refl;
-    })
-    (λ e more d. (((more, refl), hc, limited limit (length (path_frames p)) e), awaits_value limit p hp))
+    }) (λ e more d. (((more, refl), hc, limited limit (length (path_frames p)) e), awaits_value limit p hp))
 
 -- a literal, of which one letter was read
 begun : (s : Syntax) (n : ℕ) (left : List ℕ) → IsValue s → depth s ≡ 0 → IsLiteral (text s) → text s ≡ n ∷ left
     → ((rest : List ℕ) → EndsBefore s rest) → 0 < length left → IsWithinLiteral s (n ∷ []) left
-begun s n left v f l w e m =
-    record { value = v; flat = f; is_literal = l; whole = w; no_number = e; begun = omega arith; more = m }
+begun s n left v f l w e m = record { value = v; flat = f; is_literal = l; whole = w; no_number = e; begun = omega arith; more = m }
 
 pub start_follows : (limit : Option ℕ) (p : Path) → IsPath limit p → (c : ℕ) → is_white c ≡ false → (fs : List Frame) (a : Phase)
     → Follows limit (path_text p) fs a c (start (strictly limit) (path_frames p) c)
-start_follows limit p hp c hw fs a =
-    at_code limit _ _ _ c 110 _ _ (λ e. literal_begun limit p hp null c 110 _
+start_follows limit p hp c hw fs a = at_code limit _ _ _ c 110 _ _ (λ e. literal_begun limit p hp null c 110 _
     (begun null 110 _ (record { spelled = tt; strict = tt }) refl (inl refl) refl (λ rest. tt) (omega arith)) e) (λ h0.
     at_code limit _ _ _ c 116 _ _ (λ e. literal_begun limit p hp (Syntax.boolean true) c 116 _
     (begun (Syntax.boolean true) 116 _ (record { spelled = tt; strict = tt }) refl (inr (inl refl)) refl (λ rest. tt) (omega arith)) e)
-    (λ h1.
-    at_code limit _ _ _ c 102 _ _ (λ e. literal_begun limit p hp (Syntax.boolean false) c 102 _
+    (λ h1. at_code limit _ _ _ c 102 _ _ (λ e. literal_begun limit p hp (Syntax.boolean false) c 102 _
     (begun (Syntax.boolean false) 102 _ (record { spelled = tt; strict = tt }) refl (inr (inr refl)) refl (λ rest. tt) (omega arith)) e)
-    (λ h2.
-    at_code limit _ _ _ c 34 _ _ (λ e. after_read (in_quoted p [] [] [] Machine.plain) (hp, tt, settled_start, tt, tt)
+    (λ h2. at_code limit _ _ _ c 34 _ _ (λ e. after_read (in_quoted p [] [] [] Machine.plain) (hp, tt, settled_start, tt, tt)
     (ap (λ x. path_text p ++ x ∷ []) e)) (λ h3.
     at_code limit _ _ _ c 91 _ _ (λ e. push_follows limit p (item_in p [] []) (Machine.in_array []) c hp (inl e) refl
     (ap (λ x. path_text p ++ x ∷ []) e) tt (λ i. (hp, tt, tt, i)) fs a) (λ h4.
@@ -104,8 +92,7 @@ pub white_follows : (limit : Option ℕ) (p : Path) → IsPath limit p → (c : 
 white_follows limit p hp c hc = record {
   read = at_awaited (whiter p c);
   is = whiter_path limit p hp c hc;
-  whole =
-      whiter_text p c;
+  whole = whiter_text p c;
   frames = whiter_frames p c;
   phase = refl;
 }
@@ -118,30 +105,20 @@ awaited_follows limit p hp c = either limit _ _ _ c (is_white c) _ _ (λ hc. whi
 pub first_follows : (limit : Option ℕ) (p : Path) → IsPath limit p → IsFresh p → (c : ℕ) → is_white c ≡ false
     → Follows limit (path_text p) (path_frames p) first c (step_first (strictly limit) (path_frames p) c)
 first_follows limit (outside w) hp hf c hc = elim hf [ ]
-first_follows limit (item_in p [] w) hp hf c hc =
-    at_code limit _ _ _ c 93 _ _
+first_follows limit (item_in p [] w) hp hf c hc = at_code limit _ _ _ c 93 _ _
     (λ e. complete_follows limit p hp.0 (empty_array w) (record { spelled = hp.2; strict = tt }) hp.3 (λ rest. tt) _ _ _ c
-    (rw e (simp append_assoc)))
-    (λ e. start_follows limit (item_in p [] w) hp c hc _ _)
-first_follows limit (item_in p (e ∷ es) w) hp hf c hc = elim hf [ ]
-first_follows limit (key_in p [] w) hp hf c hc =
-    at_code limit _ _ _ c 125 _ _
+    (rw e (simp append_assoc))) (λ e. start_follows limit (item_in p [] w) hp c hc _ _)
+first_follows limit (key_in p [] w) hp hf c hc = at_code limit _ _ _ c 125 _ _
     (λ e. complete_follows limit p hp.0 (empty_object w) (record { spelled = hp.2; strict = tt }) hp.3 (λ rest. tt) _ _ _ c
-    (rw e (simp append_assoc)))
-    (λ e. start_follows limit (key_in p [] w) hp c hc _ _)
-first_follows limit (key_in p (q ∷ qs) w) hp hf c hc = elim hf [ ]
-first_follows limit (value_in p ps a k b w) hp hf c hc = elim hf [ ]
+    (rw e (simp append_assoc))) (λ e. start_follows limit (key_in p [] w) hp c hc _ _)
+first_follows limit _ hp hf c hc = elim hf [ ]
 
 pub at_first_follows : (limit : Option ℕ) (p : Path) → IsPath limit p → IsFresh p → (c : ℕ)
     → Follows limit (path_text p) (path_frames p) first c (step_plain (strictly limit) (path_frames p) first c)
-at_first_follows limit p hp hf c =
-    either limit _ _ _ c (is_white c) _ _
-    (λ hc. record {
-      read = at_first (whiter p c);
-      is = (whiter_path limit p hp c hc, whiter_fresh p c hf);
-      whole =
-          whiter_text p c;
-      frames = whiter_frames p c;
-      phase = refl;
-    })
-    (λ hc. first_follows limit p hp hf c hc)
+at_first_follows limit p hp hf c = either limit _ _ _ c (is_white c) _ _ (λ hc. record {
+  read = at_first (whiter p c);
+  is = (whiter_path limit p hp c hc, whiter_fresh p c hf);
+  whole = whiter_text p c;
+  frames = whiter_frames p c;
+  phase = refl;
+}) (λ hc. first_follows limit p hp hf c hc)

@@ -93,8 +93,7 @@ key_says limit p ps w hp s hs hk hd used e rest b u =
         hk,
         refl,
         used_is,
-        subst (AwaitsValue limit) place_is
-            (awaits_value limit (key_in p ps w) hp),
+        subst (AwaitsValue limit) place_is (awaits_value limit (key_in p ps w) hp),
         b,
       ),
       (

@@ -13,8 +13,8 @@ use Rattle.tinyjson_grammar.specs.Machine
 use Rattle.tinyjson_grammar.specs.Refusal.{IsHex, AreUnits, EndsRun}
 use Rattle.tinyjson_grammar.specs.Refusal as refusal
 use Rattle.tinyjson_grammar.proofs.Trace.Paths.{Path, path_text, path_frames, IsPath}
-use Rattle.tinyjson_grammar.proofs.Trace.State.{pieces_append, are_pieces_append, within_text, IsPartWithin, IsSettled, Quad, quads}
-use Rattle.tinyjson_grammar.proofs.Trace.State.{values, in_quoted, Spells, flat_within, Ending, ends_loosely, after_read}
+use Rattle.tinyjson_grammar.proofs.Trace.State.{pieces_append, are_pieces_append, within_text, IsPartWithin, IsSettled, Quad, quads, values}
+use Rattle.tinyjson_grammar.proofs.Trace.State.{in_quoted, Spells, flat_within, Ending, ends_loosely, after_read}
 use Rattle.tinyjson_grammar.proofs.Prefix.Viable.{quoted_prompt, within_late, settled_strict}
 use Rattle.tinyjson_grammar.proofs.Step.Statement.{Follows, either, at_code}
 use Rattle.tinyjson_grammar.proofs.Step.Awaits.{begins_at}
@@ -56,8 +56,7 @@ in_string limit p ps cs qs h used end e = record {
 pub string_goes : (limit : Option ℕ) (p : Path) (ps : List Piece) (cs : List ℕ) (qs : List Quad) → InString limit p ps cs qs
     → (w v : Within) (c : ℕ) → IsPartWithin v → within_text v ≡ within_text w ++ c ∷ [] →
     Spells limit (string_text p ps qs (within_text w) ++ c ∷ []) (path_frames p) (quoted v cs (values qs))
-string_goes limit p ps cs qs h w v c hv e =
-    after_read (in_quoted p ps cs qs v) (h.path, h.pieces, h.settled, h.run, hv)
+string_goes limit p ps cs qs h w v c hv e = after_read (in_quoted p ps cs qs v) (h.path, h.pieces, h.settled, h.run, hv)
     (string_longer (path_text p) (pieces_text ps) (pieces_text (quads qs)) (within_text w) c ∙ ap (string_text p ps qs) (sym e))
 
 -- a piece that was read after the run
@@ -119,52 +118,43 @@ piece_ending ps qs h i e he end ht = subst (λ xs. Ending (34 ∷ (pieces_text p
 
 quote_ending : (ps : List Piece) (qs : List Quad) → ArePieces ps → ArePieces (quads qs)
     → Ending (34 ∷ (pieces_text ps ++ (pieces_text (quads qs) ++ 34 ∷ [])))
-quote_ending ps qs h i =
-    record {
-      value = Syntax.string (ps ++ quads qs);
-      spelled = are_pieces_append ps _ h i;
-      flat = refl;
-      rest = [];
-      whole = ap (λ xs. 34 ∷ xs) (simp (pieces_append, append_assoc, append-nil));
-    }
+quote_ending ps qs h i = record {
+  value = Syntax.string (ps ++ quads qs);
+  spelled = are_pieces_append ps _ h i;
+  flat = refl;
+  rest = [];
+  whole = ap (λ xs. 34 ∷ xs) (simp (pieces_append, append_assoc, append-nil));
+}
 
 quote_follows : (limit : Option ℕ) (p : Path) (ps : List Piece) (cs : List ℕ) (qs : List Quad) → InString limit p ps cs qs → (c : ℕ)
-    → c ≡ 34 → IsTrue (paired (values qs)) →
-    Follows limit (string_text p ps qs []) (path_frames p) (quoted Machine.plain cs (values qs)) c
+    → c ≡ 34 → IsTrue (paired (values qs)) → Follows limit (string_text p ps qs []) (path_frames p) (quoted Machine.plain cs (values qs)) c
     (complete true (path_frames p) (tree.string (cs ++ decode (values qs))) true)
 quote_follows limit p ps cs qs h c e hd =
     let s : Syntax = Syntax.string (ps ++ quads qs) in
     subst (λ xs. Follows limit (string_text p ps qs []) (path_frames p) (quoted Machine.plain cs (values qs)) c
-    (complete true (path_frames p) (tree.string xs) true)) (settle_end ps cs h.settled qs)
-    (complete_follows limit p h.path s (record {
+    (complete true (path_frames p) (tree.string xs) true)) (settle_end ps cs h.settled qs) (complete_follows limit p h.path s (record {
       spelled = are_pieces_append ps _ h.pieces h.run;
       strict = settle_paired ps cs h.settled qs
           ∙ hd;
-    }) (flat_within limit p s h.path refl) (λ rest. tt) _ _ _ c
-    (string_longer (path_text p) (pieces_text ps) (pieces_text (quads qs)) [] c
+    }) (flat_within limit p s h.path refl) (λ rest. tt) _ _ _ c (string_longer (path_text p) (pieces_text ps) (pieces_text (quads qs)) [] c
     ∙ ap (λ xs. path_text p ++ 34 ∷ xs) (rw e (simp (pieces_append, append_assoc)))))
 
 plain_piece : (c : ℕ) → IsScalar c → (c == 34) ≡ false → (c == 92) ≡ false → nat_lt c 32 ≡ false → IsPiece (Piece.plain c)
 plain_piece c h i j k = (h, ltb-false c 32 k, rw (i, j) refl)
 
 plain_follows : (limit : Option ℕ) (p : Path) (ps : List Piece) (cs : List ℕ) (qs : List Quad) → InString limit p ps cs qs → (c : ℕ)
-    → IsScalar c →
-    Follows limit (string_text p ps qs []) (path_frames p) (quoted Machine.plain cs (values qs)) c
+    → IsScalar c → Follows limit (string_text p ps qs []) (path_frames p) (quoted Machine.plain cs (values qs)) c
     (step_quoted (strictly limit) (path_frames p) Machine.plain cs (values qs) c)
-plain_follows limit p ps cs qs h c hc =
-    at_code limit _ _ _ c 34 _ _
+plain_follows limit p ps cs qs h c hc = at_code limit _ _ _ c 34 _ _
     (λ e. flush_follows limit _ _ _ c cs (values qs) (λ xs. complete true (path_frames p) (tree.string xs) true)
     (λ hd. quote_follows limit p ps cs qs h c e hd)
     (λ hd. utf16_says limit p ps cs qs h hd Machine.plain c tt _ _ (inl (ap (λ x. x ∷ []) e)) (rw e (quote_ending ps qs h.pieces h.run))))
-    (λ h0.
-    at_code limit _ _ _ c 92 _ _
+    (λ h0. at_code limit _ _ _ c 92 _ _
     (λ e. string_goes limit p ps cs qs h Machine.plain Machine.backslash c tt (ap (λ x. x ∷ []) (sym e))) (λ h1.
-    either limit _ _ _ c (nat_lt c 32) _ _
-    (λ e more d x. (
+    either limit _ _ _ c (nat_lt c 32) _ _ (λ e more d x. (
       (
         (quads qs, in_string limit p ps cs qs h _ _ (string_longer (path_text p) (pieces_text ps) (pieces_text (quads qs)) [] c)),
-        ltb-true
-            c 32 e,
+        ltb-true c 32 e,
       ),
       (
         rw (string_longer (path_text p) (pieces_text ps) (pieces_text (quads qs)) [] c)
@@ -178,8 +168,7 @@ plain_follows limit p ps cs qs h c hc =
               refl)),
         ),
       ),
-    )) (λ h2.
-    flush_follows limit _ _ _ c cs (values qs) (λ xs. next (path_frames p) (quoted Machine.plain (xs ++ c ∷ []) []))
+    )) (λ h2. flush_follows limit _ _ _ c cs (values qs) (λ xs. next (path_frames p) (quoted Machine.plain (xs ++ c ∷ []) []))
     (λ hd. string_piece limit p ps cs qs h hd [] c (Piece.plain c) (plain_piece c hc h0 h1 h2) refl (scalar_no_surrogate c hc))
     (λ hd. utf16_says limit p ps cs qs h hd Machine.plain c tt _ _ (inr (Piece.plain c, plain_piece c hc h0 h1 h2, refl, (λ n. n)))
     (piece_ending ps qs h.pieces h.run (Piece.plain c) (plain_piece c hc h0 h1 h2) _ refl)))))
@@ -188,8 +177,7 @@ escape_follows : (limit : Option ℕ) (p : Path) (ps : List Piece) (cs : List �
     → (o : Option ℕ) → short_escape c ≡ o →
     Follows limit (string_text p ps qs (92 ∷ [])) (path_frames p) (quoted Machine.backslash cs (values qs)) c
     (step_escape (strictly limit) (path_frames p) cs (values qs) c o)
-escape_follows limit p ps cs qs h c None i =
-    at_code limit _ _ _ c 117 _ _
+escape_follows limit p ps cs qs h c None i = at_code limit _ _ _ c 117 _ _
     (λ e. string_goes limit p ps cs qs h Machine.backslash (Machine.hex []) c (tt, omega arith) (ap (λ x. 92 ∷ x ∷ []) (sym e)))
     (λ hn more d x. (
       (
@@ -234,11 +222,7 @@ hex_says limit p ps cs qs h ds hw fs q c hc more d x = (
     hw.1,
     hw.0,
     hc,
-    (
-      quads qs,
-      in_string limit p ps cs qs h _ _
-          (string_longer (path_text p) (pieces_text ps) (pieces_text (quads qs)) (92 ∷ 117 ∷ ds) c),
-    ),
+    (quads qs, in_string limit p ps cs qs h _ _ (string_longer (path_text p) (pieces_text ps) (pieces_text (quads qs)) (92 ∷ 117 ∷ ds) c)),
   ),
   (
     rw (string_longer (path_text p) (pieces_text ps) (pieces_text (quads qs)) (92 ∷ 117 ∷ ds) c)
@@ -254,35 +238,28 @@ hex_goes limit p ps cs qs h ds hw hl c hc = string_goes limit p ps cs qs h (Mach
     (hex_append ds c hw.0 hc, rw (length-append ds (c ∷ [])) (omega arith)) refl
 
 unit_goes : (limit : Option ℕ) (p : Path) (ps : List Piece) (cs : List ℕ) (qs : List Quad) → InString limit p ps cs qs → (q : Quad)
-    → IsPiece (unit q.a q.b q.c q.d) →
-    Spells limit (string_text p ps qs (92 ∷ 117 ∷ q.a ∷ q.b ∷ q.c ∷ []) ++ q.d ∷ []) (path_frames p)
+    → IsPiece (unit q.a q.b q.c q.d) → Spells limit (string_text p ps qs (92 ∷ 117 ∷ q.a ∷ q.b ∷ q.c ∷ []) ++ q.d ∷ []) (path_frames p)
     (quoted Machine.plain cs (values qs ++ unit_of 0 (q.a ∷ q.b ∷ q.c ∷ q.d ∷ []) ∷ []))
-unit_goes limit p ps cs qs h q hq =
-    record {
-      read = in_quoted p ps cs (qs ++ q ∷ []) Machine.plain;
-      is = (h.path, h.pieces, h.settled, rw (quads_push qs q) (are_pieces_append (quads qs) _ h.run (hq, tt)), tt);
-      whole = string_longer (path_text p) (pieces_text ps) (pieces_text (quads qs)) (92 ∷ 117 ∷ q.a ∷ q.b ∷ q.c ∷ []) q.d
-          ∙ ap (λ xs. path_text p ++ 34 ∷ (pieces_text ps ++ xs)) (simp (quads_push, pieces_append, append_assoc, append-nil));
-      frames = refl;
-      phase = ap (quoted Machine.plain cs) (sym (values_push qs q));
-    }
+unit_goes limit p ps cs qs h q hq = record {
+  read = in_quoted p ps cs (qs ++ q ∷ []) Machine.plain;
+  is = (h.path, h.pieces, h.settled, rw (quads_push qs q) (are_pieces_append (quads qs) _ h.run (hq, tt)), tt);
+  whole = string_longer (path_text p) (pieces_text ps) (pieces_text (quads qs)) (92 ∷ 117 ∷ q.a ∷ q.b ∷ q.c ∷ []) q.d
+      ∙ ap (λ xs. path_text p ++ 34 ∷ (pieces_text ps ++ xs)) (simp (quads_push, pieces_append, append_assoc, append-nil));
+  frames = refl;
+  phase = ap (quoted Machine.plain cs) (sym (values_push qs q));
+}
 
 hex_follows : (limit : Option ℕ) (p : Path) (ps : List Piece) (cs : List ℕ) (qs : List Quad) → InString limit p ps cs qs → (ds : List ℕ)
     → IsPartWithin (Machine.hex ds) → (c : ℕ) →
     Follows limit (string_text p ps qs (92 ∷ 117 ∷ ds)) (path_frames p) (quoted (Machine.hex ds) cs (values qs)) c
     (step_quoted (strictly limit) (path_frames p) (Machine.hex ds) cs (values qs) c)
-hex_follows limit p ps cs qs h [] hw c = either limit _ _ _ c (is_hex c) _ _ (λ e. hex_goes limit p ps cs qs h [] hw (omega arith) c e)
-    (λ e. hex_says limit p ps cs qs h [] hw _ _ c e)
-hex_follows limit p ps cs qs h (x ∷ []) hw c = either limit _ _ _ c (is_hex c) _ _
-    (λ e. hex_goes limit p ps cs qs h (x ∷ []) hw (omega arith) c e) (λ e. hex_says limit p ps cs qs h (x ∷ []) hw _ _ c e)
-hex_follows limit p ps cs qs h (x ∷ y ∷ []) hw c =
-    either limit _ _ _ c (is_hex c) _ _ (λ e. hex_goes limit p ps cs qs h (x ∷ y ∷ []) hw (omega arith) c e)
-    (λ e. hex_says limit p ps cs qs h (x ∷ y ∷ []) hw _ _ c e)
-hex_follows limit p ps cs qs h (x ∷ y ∷ z ∷ []) hw c =
-    either limit _ _ _ c (is_hex c) _ _
+hex_follows limit p ps cs qs h (x ∷ y ∷ z ∷ []) hw c = either limit _ _ _ c (is_hex c) _ _
     (λ e. unit_goes limit p ps cs qs h (record { a = x; b = y; c = z; d = c }) (hw.0.0, hw.0.1.0, hw.0.1.1.0, e))
     (λ e. hex_says limit p ps cs qs h (x ∷ y ∷ z ∷ []) hw _ _ c e)
 hex_follows limit p ps cs qs h (x ∷ y ∷ z ∷ u ∷ us) hw c = absurd (omega (arith, hw.1))
+hex_follows limit p ps cs qs h x hw c =
+    either limit _ _ _ c (is_hex c) _ _ (λ e. hex_goes limit p ps cs qs h x hw (omega arith) c e)
+    (λ e. hex_says limit p ps cs qs h x hw _ _ c e)
 
 pub quoted_follows : (limit : Option ℕ) (p : Path) (ps : List Piece) (cs : List ℕ) (qs : List Quad) → InString limit p ps cs qs
     → (w : Within) → IsPartWithin w → (c : ℕ) → IsScalar c →

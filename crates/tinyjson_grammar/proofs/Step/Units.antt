@@ -27,8 +27,7 @@ regroup_characters xs ys y zs = simp append_assoc
 
 -- the pieces, a run and one more piece
 pub settle_more : (ps : List Piece) (cs : List ℕ) → IsSettled ps cs → (qs : List Quad) → IsTrue (paired (values qs)) → (e : Piece)
-    → is_surrogate (code e) ≡ false →
-    IsSettled (ps ++ (quads qs ++ e ∷ [])) ((cs ++ decode (values qs)) ++ code e ∷ [])
+    → is_surrogate (code e) ≡ false → IsSettled (ps ++ (quads qs ++ e ∷ [])) ((cs ++ decode (values qs)) ++ code e ∷ [])
 settle_more ps cs h qs hp e he rs = (
   ap (λ xs. decode (piece_codes xs)) (regroup ps (quads qs) e rs)
       ∙ ((h (quads qs ++ e ∷ rs)).0 ∙ (ap (λ xs. cs ++ decode xs) (run_codes qs (e ∷ rs))

@@ -52,8 +52,7 @@ itself : (c : ℕ) → IsScalar c → (c == 34) ≡ false → (c == 92) ≡ fals
 itself c s q b l = record { piece = plain c; is = (s, ltb-false c 32 l, rw (q, b)); code = refl; text = refl }
 
 escaped : (c : ℕ) → IsScalar c → StandsFor c (written.escape c)
-escaped c s =
-    cond_both (c == 8) _ _ (StandsFor c) (short c 98 8 refl refl) (λ _.
+escaped c s = cond_both (c == 8) _ _ (StandsFor c) (short c 98 8 refl refl) (λ _.
     cond_both (c == 9) _ _ (StandsFor c) (short c 116 9 refl refl) (λ _.
     cond_both (c == 10) _ _ (StandsFor c) (short c 110 10 refl refl) (λ _.
     cond_both (c == 12) _ _ (StandsFor c) (short c 102 12 refl refl) (λ _.

@@ -5,10 +5,10 @@ use Rattle.std.specs.Prelude.{⊤}
 use Rattle.std.specs.Int.{Width}
 use Rattle.std.specs.Str.{all_scalars}
 use Rattle.tinyjson_grammar.specs.Tree as tree
-use Rattle.tinyjson_grammar.specs.Syntax.{Syntax, Elements, Pairs, null, boolean, number, string, empty_array, array, empty_object}
-use Rattle.tinyjson_grammar.specs.Syntax.{object, last_element, element, last_pair, pair, text, elements_text, pairs_text, AreWhite}
-use Rattle.tinyjson_grammar.specs.Syntax.{IsSpelled, AreElements, ArePairs, IsStrictAt, ElementsAreStrictAt, PairsAreStrictAt, tree_of}
-use Rattle.tinyjson_grammar.specs.Syntax.{elements_trees, pairs_members, depth, elements_depth, pairs_depth}
+use Rattle.tinyjson_grammar.specs.Syntax.{Syntax, Elements, Pairs, null, boolean, number, string, empty_array, array, empty_object, object}
+use Rattle.tinyjson_grammar.specs.Syntax.{last_element, element, last_pair, pair, text, elements_text, pairs_text, AreWhite, IsSpelled}
+use Rattle.tinyjson_grammar.specs.Syntax.{AreElements, ArePairs, IsStrictAt, ElementsAreStrictAt, PairsAreStrictAt, tree_of, elements_trees}
+use Rattle.tinyjson_grammar.specs.Syntax.{pairs_members, depth, elements_depth, pairs_depth}
 use Rattle.tinyjson_grammar.specs.Characters.{decode}
 use Rattle.tinyjson_number.specs.Canonical.{IsDecimalAt}
 use Rattle.tinyjson_grammar.specs.Soundness.{IsSorted, IsTreeAt, AreItemsAt, AreMembersAt}
@@ -181,8 +181,7 @@ module _ (width : Width) (w : Option (List ℕ)) (i : IsWhiteIndent w) where
     pairs = pair (newline w (k + 1)) (string e.pieces) [] (after_colon w) s.value [] m.pairs;
     spelled = (white_newline w (k + 1) i, e.are, tt, white_colon w, s.spelled, tt, m.spelled);
     strict = (refl, rw e.codes (paired_scalars l hl), s.strict, m.strict);
-    members = λ ns above.
-        ap (λ z. pairs_members z m.pairs) ((λ j. tree.put ((ap decode e.codes ∙ decode_scalars l hl) j) (s.tree j) ns)
+    members = λ ns above. ap (λ z. pairs_members z m.pairs) ((λ j. tree.put ((ap decode e.codes ∙ decode_scalars l hl) j) (s.tree j) ns)
         ∙ put_above l t ns above)
         ∙ m.members (join ns (tree.member l t tree.no_members)) (above_join l o t ns r.0 above)
         ∙ join_join ns (tree.member l t tree.no_members) (tree.member o u ms);

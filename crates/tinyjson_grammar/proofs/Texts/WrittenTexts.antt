@@ -22,8 +22,7 @@ written_text width limit w k t i h d =
         white_before = tt;
         spelled = s.spelled;
         white_after = tt;
-        shallow =
-            rw s.depth d;
+        shallow = rw s.depth d;
         whole = sym (append-nil (text s.value) ∙ s.text);
       };
       strict = s.strict;

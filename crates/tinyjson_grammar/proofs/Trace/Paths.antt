@@ -3,13 +3,13 @@ use Rattle.std.proofs.Common.{suc, ◌≡◌, ℕ, ◌+◌, ◌≤◌, max, true
 use Rattle.std.proofs.Common.{append-nil, arith, subst, ◌⊎◌}
 use Rattle.std.proofs.lemmas.Bool.{false≢true, cases_Bool}
 use Rattle.tinyjson_grammar.specs.Tree.{key_of, Tree, Members, no_members, put}
-use Rattle.tinyjson_grammar.specs.Syntax.{Syntax, array, object, null, Elements, last_element, element, Pairs, last_pair, pair, text}
+use Rattle.tinyjson_grammar.specs.Syntax.{Syntax, array, object, Elements, last_element, element, Pairs, last_pair, pair, text}
 use Rattle.tinyjson_grammar.specs.Syntax.{elements_text, pairs_text, AreWhite, IsSpelled, AreElements, ArePairs, is_key, IsStrict}
 use Rattle.tinyjson_grammar.specs.Syntax.{ElementsAreStrict, PairsAreStrict, depth, elements_depth, pairs_depth, IsWithin, tree_of}
 use Rattle.tinyjson_grammar.specs.Syntax.{elements_trees, pairs_members}
 use Rattle.tinyjson_grammar.specs.Grammar.{IsLoose}
-use Rattle.tinyjson_grammar.specs.Prefix.{Element, Pair, element_text, pair_text, elements_before, pairs_before, IsValue, IsElement}
-use Rattle.tinyjson_grammar.specs.Prefix.{IsPair, AreElementsBefore, ArePairsBefore, elements_deepest, pairs_deepest}
+use Rattle.tinyjson_grammar.specs.Prefix.{Element, Pair, element_text, pair_text, elements_before, pairs_before, IsValue, IsElement, IsPair}
+use Rattle.tinyjson_grammar.specs.Prefix.{AreElementsBefore, ArePairsBefore, elements_deepest, pairs_deepest}
 use Rattle.tinyjson_grammar.specs.Machine
 use Rattle.tinyjson_grammar.specs.Machine.{Frame}
 
@@ -162,8 +162,7 @@ pairs_spelled (p ∷ ps) a k b c s d h ha hk hb hc hs hd = (
   h.0.before,
   h.0.value.spelled,
   h.0.after,
-  pairs_spelled ps a k b c s d h.1 ha hk hb hc
-      hs hd,
+  pairs_spelled ps a k b c s d h.1 ha hk hb hc hs hd,
 )
 
 pub pairs_strict : (ps : List Pair) (a : List ℕ) (k : Syntax) (b c : List ℕ) (s : Syntax) (d : List ℕ) →
@@ -172,14 +171,8 @@ pairs_strict [] a k b c s d h hk ht hs = (hk, ht, hs)
 pairs_strict (p ∷ ps) a k b c s d h hk ht hs = (h.0.is_key, h.0.key.strict, h.0.value.strict, pairs_strict ps a k b c s d h.1 hk ht hs)
 
 pub key_depth : (k : Syntax) → IsKey k → depth k ≡ 0
-key_depth null h = absurd (false≢true h)
-key_depth (Syntax.boolean b) h = absurd (false≢true h)
-key_depth (Syntax.number n) h = absurd (false≢true h)
 key_depth (Syntax.string ps) h = refl
-key_depth (Syntax.empty_array w) h = absurd (false≢true h)
-key_depth (array es) h = absurd (false≢true h)
-key_depth (Syntax.empty_object w) h = absurd (false≢true h)
-key_depth (object ps) h = absurd (false≢true h)
+key_depth _ h = absurd (false≢true h)
 
 pub key_or : (k : Syntax) → IsKey k ⊎ (is_key k ≡ false)
 key_or k = cases_Bool (is_key k)
@@ -193,32 +186,26 @@ closing (key_in p ps w) = 58 ∷ 48 ∷ 125 ∷ closing p
 closing (value_in p ps a k b w) = 125 ∷ closing p
 
 pub closes : (limit : Option ℕ) (p : Path) → IsPath limit p → (s : Syntax) → IsSpelled s → IsWithin limit (level p + depth s)
-    → (v : List ℕ) → AreWhite v →
-    IsLoose limit (path_text p ++ (text s ++ (v ++ closing p)))
-closes limit (outside w) hp s hs hd v hv =
-    record {
-      before = w;
-      value = s;
-      after = v;
-      white_before = hp;
-      spelled = hs;
-      white_after = hv;
-      shallow =
-          within_le limit _ _ hd (omega arith);
-      whole = simp append-nil;
-    }
-closes limit (item_in p es w) hp s hs hd v hv =
-    subst (IsLoose limit) (simp (text_of_items, append_assoc))
+    → (v : List ℕ) → AreWhite v → IsLoose limit (path_text p ++ (text s ++ (v ++ closing p)))
+closes limit (outside w) hp s hs hd v hv = record {
+  before = w;
+  value = s;
+  after = v;
+  white_before = hp;
+  spelled = hs;
+  white_after = hv;
+  shallow = within_le limit _ _ hd (omega arith);
+  whole = simp append-nil;
+}
+closes limit (item_in p es w) hp s hs hd v hv = subst (IsLoose limit) (simp (text_of_items, append_assoc))
     (closes limit p hp.0 (array (items_with es w s v)) (items_spelled es w s v hp.1 hp.2 hs hv)
     (within_max limit _ _ _ hp.3 hd (rw (depth_of_items es w s v) (omega arith))) [] tt)
 closes limit (key_in p ps w) hp s hs hd v hv =
     let zero_numeral : Syntax = Syntax.number (record { negative = false; integer = 48 ∷ []; fraction = []; exponent = None }) in
-    subst (IsLoose limit) (simp (text_of_pairs, append_assoc))
-    (closes limit p hp.0 (object (pairs_with ps w s v [] zero_numeral []))
+    subst (IsLoose limit) (simp (text_of_pairs, append_assoc)) (closes limit p hp.0 (object (pairs_with ps w s v [] zero_numeral []))
     (pairs_spelled ps w s v [] zero_numeral [] hp.1 hp.2 hs hv tt
     (record { integer = (refl, tt); some_digit = omega arith; fraction = tt; exponent = tt }) tt)
     (within_max limit _ _ _ hp.3 hd (rw (depth_of_pairs ps w s v [] zero_numeral []) (omega arith))) [] tt)
-closes limit (value_in p ps a k b w) hp s hs hd v hv =
-    subst (IsLoose limit) (simp (text_of_pairs, append_assoc))
+closes limit (value_in p ps a k b w) hp s hs hd v hv = subst (IsLoose limit) (simp (text_of_pairs, append_assoc))
     (closes limit p hp.0 (object (pairs_with ps a k b w s v)) (pairs_spelled ps a k b w s v hp.1 hp.2 hp.3.spelled hp.5 hp.6 hs hv)
     (within_max limit _ _ _ hp.7 hd (rw (depth_of_pairs ps a k b w s v) (rw (key_depth k hp.4) (omega arith)))) [] tt)

@@ -1,13 +1,13 @@
 -- What was read, in each state of the machine.
-use Rattle.std.proofs.Common.{◌≡◌, ℕ, ◌+◌, ◌<◌, ◌≤◌, Bool, true, false, List, [], ◌∷◌, ◌++◌, Option, Some, None, refl, append_assoc}
-use Rattle.std.proofs.Common.{arith, length, subst, IsTrue}
+use Rattle.std.proofs.Common.{◌≡◌, ℕ, ◌+◌, ◌<◌, ◌≤◌, Bool, true, false, List, [], ◌∷◌, ◌++◌, Option, Some, None, refl, append_assoc, arith}
+use Rattle.std.proofs.Common.{length, subst, IsTrue}
 use Rattle.std.specs.Prelude.{⊤, IfSome}
 use Rattle.tinyjson_grammar.specs.Tree.{key_of, no_members, put}
 use Rattle.tinyjson_grammar.specs.Characters.{unit_of, decode, paired}
 use Rattle.tinyjson_number.specs.Numeral.{numeral, Numeral, Exponent, IsExponent, AreDigits, has_leading_zero, minus_text, fraction_text}
 use Rattle.tinyjson_number.specs.Numeral.{sign_text, value, in_range, is_sign, is_exponent_letter}
-use Rattle.tinyjson_grammar.specs.Syntax.{Syntax, text, AreWhite, IsSpelled, depth, IsWithin, tree_of, Piece, unit, ArePieces}
-use Rattle.tinyjson_grammar.specs.Syntax.{piece_codes, pieces_text}
+use Rattle.tinyjson_grammar.specs.Syntax.{Syntax, text, AreWhite, IsSpelled, depth, IsWithin, tree_of, Piece, unit, ArePieces, piece_codes}
+use Rattle.tinyjson_grammar.specs.Syntax.{pieces_text}
 use Rattle.tinyjson_grammar.specs.Grammar.{IsLoose}
 use Rattle.tinyjson_grammar.specs.Prefix.{IsValue, IsLooselyViable}
 use Rattle.tinyjson_grammar.specs.Machine.{Frame, Phase, first, awaited, literal, digits, quoted, colon, after, finished, Stage, Within}
@@ -204,9 +204,8 @@ after_read x is whole = record { read = x; is = is; whole = whole; frames = refl
 pub path_within : (limit : Option ℕ) (p : Path) → IsPath limit p → IsWithin limit (level p + 0)
 path_within None p h = tt
 path_within (Some l) (outside w) h = omega arith
-path_within (Some l) (item_in p es w) h = omega (arith, h.3)
-path_within (Some l) (key_in p ps w) h = omega (arith, h.3)
 path_within (Some l) (value_in p ps a k b w) h = omega (arith, h.7)
+path_within (Some l) _ h = omega (arith, h.3)
 
 pub flat_within : (limit : Option ℕ) (p : Path) (s : Syntax) → IsPath limit p → depth s ≡ 0 → IsWithin limit (level p + depth s)
 flat_within limit p s h e = within_le limit _ _ (path_within limit p h) (rw e (omega arith))
@@ -236,8 +235,7 @@ pub record Ending (prefix : List ℕ) : Type 0 where
 
 pub ends_loosely : (limit : Option ℕ) (p : Path) → IsPath limit p → (prefix : List ℕ) → Ending prefix
     → IsLooselyViable limit (path_text p ++ prefix)
-ends_loosely limit p hp prefix e =
-    loosely_from limit (path_text p ++ prefix) (e.rest ++ closing p) (rw e.whole (simp append_assoc))
+ends_loosely limit p hp prefix e = loosely_from limit (path_text p ++ prefix) (e.rest ++ closing p) (rw e.whole (simp append_assoc))
     (closes limit p hp e.value e.spelled (flat_within limit p e.value hp e.flat) [] tt)
 
 pub white_loosely : (limit : Option ℕ) (p : Path) → IsPath limit p → (s : Syntax) → IsSpelled s → IsWithin limit (level p + depth s)

@@ -1,9 +1,9 @@
-use Rattle.std.proofs.Common.{◌≡◌, ◌<◌, ◌≤◌, ◌-◌, ◌^◌, ℕ, length, sym, ap, ◌∙◌, subst, arith, append-nil}
-use Rattle.std.specs.Prelude.{decimal, IfOk}
+use Rattle.std.proofs.Common.{◌≡◌, ◌<◌, ◌≤◌, ◌-◌, ◌^◌, ℕ, length, sym, ap, ◌∙◌, arith, append-nil}
+use Rattle.std.specs.Prelude.{decimal}
 use Rattle.std.specs.Int.{w64}
 use Rattle.std.proofs.lemmas.Int.{to_z_pos}
 use Rattle.std.proofs.lemmas.Fmt.{length-decimal-le}
-use Rattle.tinyjson_number.specs.Decimal.{Decimal, strip_trailing}
+use Rattle.tinyjson_number.specs.Decimal.{strip_trailing}
 use Rattle.tinyjson_number.specs.Integer.{whole_decimal}
 use Rattle.tinyjson_number.proofs.Integers.{zero_is, whole_is, whole_fits}
 use Rattle.tinyjson_number.proofs.integer.from_magnitude.Goals as goal
@@ -13,23 +13,16 @@ returns-then-value-eq0-clause-decimal c = c.zero.ensures ∙ zero_is c.args.nega
     ∙ ap (whole_decimal c.args.negative) (sym c.if-value-eq0.true)
 
 pub of_digits-requires-clause-canonical : goal.of_digits-requires-clause-canonical
-of_digits-requires-clause-canonical c =
-    let n = c.args.value in
+of_digits-requires-clause-canonical c = let n = c.args.value in
     let fits : n < 2 ^ 64 = omega arith in
     let s = c.strip_trailing-kept.result.now in
     let text = c.value_digits-digits.ensures in
     let is : s ≡ strip_trailing (decimal n) = c.strip_trailing-kept.ensures.value ∙ ap strip_trailing text in
     let few : length c.value_digits-digits.result.now - length s ≤ length (decimal n) = omega (arith, ap length text) in
-    rw (
-      append-nil s,
-      to_z_pos w64 (length c.value_digits-digits.result.now - length s)
-          (omega (arith, few, length-decimal-le 20 n (omega arith) (omega arith) fits)),
-    )
-    (whole_fits n (omega arith) fits c.args.negative s _ is few)
+    grind (arith, append-nil, whole_fits)
 
 pub returns-clause-decimal : goal.returns-clause-decimal
-returns-clause-decimal c =
-    let n = c.args.value in
+returns-clause-decimal c = let n = c.args.value in
     let fits : n < 2 ^ 64 = omega arith in
     let s = c.strip_trailing-kept.result.now in
     let z : ℕ = length c.value_digits-digits.result.now - length s in
@@ -38,8 +31,7 @@ returns-clause-decimal c =
     let few : z ≤ length (decimal n) = omega (arith, ap length text) in
     let power = to_z_pos w64 z (omega (arith, few, length-decimal-le 20 n (omega arith) (omega arith) fits)) in
     let same = whole_is n (omega arith) fits c.args.negative s z is (omega (arith, ap length text)) in
-    subst (λ (d : Decimal). IfOk c.of_digits.result (λ n. n.decimal ≡ d))
-    ((λ i. record { negative = c.args.negative; digits = append-nil s i; power = power i }) ∙ same) c.of_digits.ensures.decimal
+    grind (arith, append-nil)
 
 pub returns-clause-ok : goal.returns-clause-ok
 returns-clause-ok c =

@@ -1,4 +1,4 @@
-use Rattle.std.proofs.Common.{◌≡◌, ◌*◌, ◌^◌, ap, ◌∙◌, arith}
+use Rattle.std.proofs.Common.{arith}
 use Rattle.tinyjson_number.proofs.Integers.{ten_within, ten_next}
 use Rattle.tinyjson_number.proofs.integer.times_ten.Goals as goal
 
@@ -7,14 +7,7 @@ returns-in_default c = λ fits. c.in_default.ensures
     (omega (arith, c.loop-i.invariant.is, fits, ten_within c.args.number c.loop-i._i c.args.times (omega arith)))
 
 pub loop-i-preserved : goal.loop-i-preserved
-loop-i-preserved c = record {
-  is = omega (arith, c.in-Some.ensures.1, c.loop-i.invariant.is, ten_next c.args.number c.loop-i._i);
-  fits =
-      omega (arith, c.in-Some.ensures.0, c.in-Some.ensures.1);
-}
+loop-i-preserved c = search (c.in-Some.ensures.1, c.loop-i.invariant.is, ten_next)
 
 pub returns : goal.returns
-returns c =
-    let all : c.loop-i._i ≡ c.args.times = omega arith in
-    let e = c.loop-i.invariant.is ∙ ap (λ k. c.args.number * 10 ^ k) all in
-    (omega (arith, e, c.loop-i.invariant.fits), e)
+returns c = grind arith

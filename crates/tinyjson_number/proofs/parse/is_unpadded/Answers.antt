@@ -1,5 +1,4 @@
-use Rattle.std.proofs.Common.{◌≡◌, ◌≢◌, ◌<◌, ◌-◌, ◌++◌, ℕ, List, length, get_or, sym, ap, ◌∙◌, arith, append-nil, length-append, refl}
-use Rattle.std.proofs.lemmas.Bool.Decides.{nat_tests}
+use Rattle.std.proofs.Common.{◌≡◌, ◌≢◌, ◌<◌, ◌-◌, ◌++◌, ℕ, List, length, get_or, sym, ap, ◌∙◌, arith, append-nil, length-append}
 use Rattle.std.proofs.lemmas.List.{get_or_append_left, get_or-append_right, nil_from_length}
 use Rattle.tinyjson_number.proofs.Strips.{strip_leading_none, strip_trailing_none}
 use Rattle.tinyjson_number.proofs.parse.is_unpadded.Goals as goal
@@ -8,32 +7,13 @@ first_of : (w f : List ℕ) → 0 < length w → get_or w 0 0 ≢ 48 → get_or 
 first_of w f some h e = h (sym (get_or_append_left w f 0 0 some) ∙ e)
 
 last_of : (w f : List ℕ) → 0 < length f → get_or f (length f - 1) 0 ≢ 48 → get_or (w ++ f) (length (w ++ f) - 1) 0 ≢ 48
-last_of w f some h e =
-    let i : length (w ++ f) - 1 - length w ≡ length f - 1 = omega (arith, length-append w f, some) in
-    h (sym (get_or-append_right w f (length w) (length (w ++ f) - 1) 0 refl (omega (arith, length-append w f, some))
-    ∙ ap (λ k. get_or f k 0) i) ∙ e)
+last_of w f some h e = grind (arith, length-append, get_or-append_right)
 
 last_alone : (w f : List ℕ) → length f ≡ 0 → get_or w (length w - 1) 0 ≢ 48 → get_or (w ++ f) (length (w ++ f) - 1) 0 ≢ 48
 last_alone w f none h e = h (sym (ap (λ t. get_or t (length t - 1) 0) (ap (λ g. w ++ g) (nil_from_length f none) ∙ append-nil w)) ∙ e)
 
 pub returns-then-is_empty-2 : goal.returns-then-is_empty-2
-returns-then-is_empty-2 c = λ bare.
-    let w = c.args.integer.now in
-    let f = c.args.fraction.now in
-    let some : 0 < length w = grind (arith, nat_tests, c.if-is_empty.false, c.is_empty.ensures) in (
-      some,
-      strip_leading_none (w ++ f) (first_of w f some c.if-integer-eq48.false),
-      strip_trailing_none (w ++ f)
-          (last_alone w f (grind (arith, nat_tests)) (λ e. grind (arith, nat_tests, e, bare))),
-    )
+returns-then-is_empty-2 c = grind (arith, strip_leading_none, first_of, strip_trailing_none, last_alone)
 
 pub returns : goal.returns
-returns c = λ bare.
-    let w = c.args.integer.now in
-    let f = c.args.fraction.now in
-    let some : 0 < length w = grind (arith, nat_tests, c.if-is_empty.false, c.is_empty.ensures) in (
-      some,
-      strip_leading_none (w ++ f) (first_of w f some c.if-integer-eq48.false),
-      strip_trailing_none (w ++ f)
-          (last_of w f (grind (arith, nat_tests)) (λ e. grind (arith, nat_tests, e, bare))),
-    )
+returns c = grind (arith, strip_leading_none, first_of, strip_trailing_none, last_of)

@@ -1,11 +1,8 @@
-use Rattle.std.proofs.Common.{arith}
 use Rattle.tinyjson_number.proofs.Scans.{digits_pass, digits_split, digits_stop, digits_within}
 use Rattle.tinyjson_number.proofs.scan.digits_at.Goals as goal
 
 pub slice_bounds-result-end : goal.slice_bounds-result-end
-slice_bounds-result-end c =
-    let within = digits_within c.args.bytes.now c.args.from _ c.digits_end-end.ensures c.requires in
-    omega (arith, c.digits_end-end.ensures, within)
+slice_bounds-result-end c = search digits_within
 
 pub returns-clause-digits : goal.returns-clause-digits
 returns-clause-digits c = digits_pass c.args.bytes.now c.args.from _ c.digits_end-end.ensures

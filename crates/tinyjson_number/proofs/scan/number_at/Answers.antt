@@ -10,11 +10,9 @@ returns-then-not-has_letter c =
     subst (λ p. PartsAt c.args.bytes.now c.args.at p m.end) (sym c.with_exponent.ensures) x
 
 pub returns-in_err-exponent : goal.returns-in_err-exponent
-returns-in_err-exponent c =
-    let m = c.in_ok-front in
+returns-in_err-exponent c = let m = c.in_ok-front in
     let letter = sym c.if-not-has_letter.ensures in
-    rw c.from_residual-in_err-exponent.ensures
-    (λ n end x. exponent_lacks c.args.bytes.now c.args.at m.front m.end m.ensures n end x letter c.in_err-exponent.ensures)
+    search (c.from_residual-in_err-exponent.ensures, exponent_lacks, m.ensures, c.in_err-exponent.ensures)
 
 pub returns : goal.returns
 returns c =

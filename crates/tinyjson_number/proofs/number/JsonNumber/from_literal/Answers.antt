@@ -1,4 +1,4 @@
-use Rattle.std.proofs.Common.{◌+◌, length, sym, ap, subst, arith}
+use Rattle.std.proofs.Common.{sym, subst, arith}
 use Rattle.tinyjson_number.specs.Numeral.{Numeral}
 use Rattle.tinyjson_number.specs.NumberText.{Spells}
 use Rattle.tinyjson_number.specs.Reading.{ReadsNumeral}
@@ -7,16 +7,10 @@ use Rattle.tinyjson_number.proofs.Parts.{spelled_room, parts_numeral, parts_read
 use Rattle.tinyjson_number.proofs.number.JsonNumber.from_literal.Goals as goal
 
 pub from_parts-requires-clause-numeral : goal.from_parts-requires-clause-numeral
-from_parts-requires-clause-numeral c =
-    let t = c.as_bytes.result.now in
-    let k = c.in-Some.ensures in
-    parts_numeral k.0 c.in-Some.parts k.1 k.2.well_formed
+from_parts-requires-clause-numeral c = search (c.in-Some.ensures, parts_numeral)
 
 pub from_parts-requires-clause-room : goal.from_parts-requires-clause-room
-from_parts-requires-clause-room c =
-    let t = c.as_bytes.result.now in
-    let k = c.in-Some.ensures in
-    omega (arith, ap (λ (n : Numeral). length n.integer + length n.fraction) k.1, spelled_room k.0 t k.2, c.as_bytes.ensures.len)
+from_parts-requires-clause-room c = grind arith
 
 pub unreachable-requires : goal.unreachable-requires
 unreachable-requires c = c.in-None.ensures c.requires.0 (subst (Spells c.requires.0) (sym c.as_bytes.ensures.value) c.requires.1)
@@ -30,15 +24,4 @@ returns-clause-reads c = λ n s.
     subst (λ (m : Numeral). ReadsNumeral m c.from_parts.result) (one_numeral c.args.literal.now k.0 n spelled s) read
 
 pub returns-clause-short : goal.returns-clause-short
-returns-clause-short c = λ few is.
-    let t = c.as_bytes.result.now in
-    let k = c.in-Some.ensures in
-    let room = spelled_room k.0 t k.2 in
-    c.from_parts.ensures.short (omega (
-      arith,
-      few,
-      ap (λ (n : Numeral). length n.integer + length n.fraction) k.1,
-      room,
-      ap length
-          c.as_bytes.ensures.value,
-    )) is
+returns-clause-short c = grind (arith, spelled_room)
