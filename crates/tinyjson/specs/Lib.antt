@@ -8,7 +8,6 @@ pub mod Number
 pub mod Error
 pub mod Parser
 pub mod Events
-pub mod Indent
 pub mod Generator
 -- what they say of texts and trees, by the names of the crate `tinyjson_grammar`, so that callers name one crate
 pub use Rattle.tinyjson_grammar.specs.Tree
@@ -23,8 +22,9 @@ pub use Rattle.tinyjson_grammar.specs.Position
 pub use Rattle.tinyjson_grammar.specs.Text
 pub use Rattle.tinyjson_grammar.specs.declared.kind.JsonKind
 pub use Rattle.tinyjson_grammar.specs.declared.error.JsonParseErrorKind
--- what they say of a writer
+-- what they say of a writer, and of an indent
 pub use Rattle.tinyjson_output.specs.Written
+pub use Rattle.tinyjson_output.specs.Indent
 -- all of these that contracts of programs need most
 pub mod Words
 -- what private contracts alone say

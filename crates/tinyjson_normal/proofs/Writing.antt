@@ -1,6 +1,6 @@
 -- What a walk writes, piece by piece.
-use Rattle.std.proofs.Common.{◌≡◌, ℕ, zero, suc, ◌+◌, ◌-◌, ◌<◌, ◌≤◌, Bool, true, false}
-use Rattle.std.proofs.Common.{Option, None, Some, Result, Ok, Err, OnOk, slice_get}
+use Rattle.std.proofs.Common.{◌≡◌, ℕ, zero, suc, ◌+◌, ◌-◌, ◌<◌, ◌≤◌, Bool, true, false, ◌&&◌}
+use Rattle.std.proofs.Common.{Option, Some, Result, Ok, Err, OnOk, cond, slice_get}
 use Rattle.std.proofs.Common.{
   List,
   [],
@@ -25,11 +25,12 @@ use Rattle.std.proofs.lemmas.List.Sums.{sum_by-cons}
 use Rattle.std.proofs.lemmas.Str.{encodes-append}
 use Rattle.tinyjson_grammar.specs.Tree.{Tree, null, boolean, number, string, array, object}
 use Rattle.tinyjson_grammar.specs.Tree.{Items, no_items, item, Members, no_members, member}
-use Rattle.tinyjson_grammar.specs.Text.{text, items_text, members_text, quoted, separator, has_no_items, has_no_members, closing}
+use Rattle.tinyjson.specs.Indent.{indent_of}
+use Rattle.tinyjson_grammar.specs.Text.{text, items_text, members_text, quoted, before, after_colon, has_no_items, has_no_members, closing}
 use Rattle.tinyjson_output.specs.Buffer.{Output, Sent, SentPart, SendsFrom}
 use Rattle.tinyjson_output.specs.Written.{WrittenPart, WritesPrefix}
 use Rattle.tinyjson_output.proofs.Callers.{sent_flushes as flushes}
-use Rattle.tinyjson_output.proofs.Callers.{enc, enc_cons, sent_goes as goes, sent_stops as stops, sent_stop as stop}
+use Rattle.tinyjson_output.proofs.Callers.{closed, enc, three, sent_goes as goes, sent_stops as stops, sent_stop as stop}
 use Rattle.tinyjson_output.proofs.Callers.{
   sent_written_none as written_none,
   sent_written_then as written_then,
@@ -69,84 +70,69 @@ seen s (object ms) n h =
 
 -- ---- a text and its head
 
-items_closed : (k : ℕ) (ts : Items) → items_text None k true ts ++ closing None 0
-    (has_no_items ts) 93 ≡ items_text None k true ts ++ 93 ∷ []
-items_closed k no_items = refl
-items_closed k (item t ts) = refl
-
-members_closed : (k : ℕ) (ms : Members) → members_text None k true ms ++ closing None 0
-    (has_no_members ms) 125 ≡ members_text None k true ms ++ 125 ∷ []
-members_closed k no_members = refl
-members_closed k (member key t ms) = refl
-
-pub array_text : (k : ℕ) (ts : Items) → text None k (array ts) ≡ head (array ts) ++ (items_text None (k + 1) true ts ++ 93 ∷ [])
-array_text k ts = ap (λ z. 91 ∷ z) (items_closed (k + 1) ts)
-
-pub object_text : (k : ℕ) (ms : Members) → text None k (object ms) ≡ head (object ms) ++ (members_text None (k + 1) true ms ++ 125 ∷ [])
-object_text k ms = ap (λ z. 123 ∷ z) (members_closed (k + 1) ms)
-
-head_begins : (k : ℕ) (t : Tree) → (ys : List ℕ) × (text None k t ≡ head t ++ ys)
-head_begins k null = ([], sym (append-nil (head null)))
-head_begins k (boolean b) = ([], sym (append-nil (head (boolean b))))
-head_begins k (number d) = ([], sym (append-nil (head (number d))))
-head_begins k (string cs) = ([], sym (append-nil (head (string cs))))
-head_begins k (array ts) = (_, array_text k ts)
-head_begins k (object ms) = (_, object_text k ms)
-
 cut : (t h ys xs : List ℕ) → t ≡ h ++ ys → enc (t ++ xs) ≡ enc h ++ enc (ys ++ xs)
 cut t h ys xs e = ap (λ z. enc (z ++ xs)) e ∙ ap enc (append_assoc h ys xs) ∙ encodes-append h (ys ++ xs)
 
--- ---- a value is begun
+module _ (w : Option (List ℕ)) where
+  head_begins : (k : ℕ) (t : Tree) → (ys : List ℕ) × (text w k t ≡ head t ++ ys)
+  head_begins k null = ([], sym (append-nil (head null)))
+  head_begins k (boolean b) = ([], sym (append-nil (head (boolean b))))
+  head_begins k (number d) = ([], sym (append-nil (head (number d))))
+  head_begins k (string cs) = ([], sym (append-nil (head (string cs))))
+  head_begins k (array ts) = (_, refl)
+  head_begins k (object ms) = (_, refl)
 
-pub begin_fails : {old new : Output} (k : ℕ) (t : Tree) (xs : List ℕ) → SentPart old new (enc (head t))
-    → SentPart old new (enc (text None k t ++ xs))
-begin_fails {old} k t xs h =
-    let b = head_begins k t in stops {piece = enc (head t)} (enc (b.0 ++ xs)) h (written_none old _ _ (cut _ (head t) b.0 xs b.1))
+  -- ---- a value is begun
 
-pub begin_stops : {old new : Output} (k : ℕ) (t : Tree) (xs : List ℕ) → Sent old new (enc (head t)) []
-    → SentPart old new (enc (text None k t ++ xs))
-begin_stops {old} k t xs h =
-    let b = head_begins k t in stop (goes {piece = enc (head t)} (enc (b.0 ++ xs)) h (written_none old _ _ (cut _ (head t) b.0 xs b.1)))
+  pub begin_fails : {old new : Output} (k : ℕ) (t : Tree) (xs : List ℕ) → SentPart old new (enc (head t))
+      → SentPart old new (enc (text w k t ++ xs))
+  begin_fails {old} k t xs h =
+      let b = head_begins k t in stops {piece = enc (head t)} (enc (b.0 ++ xs)) h (written_none old _ _ (cut _ (head t) b.0 xs b.1))
 
-pub begin_opens : (s : Store) (old new : Output) (k : ℕ) (t : Tree) (xs ys : List ℕ) (r : Rest) (opened now : List Rest)
-    → Sent old new (enc (head t)) [] → text None k t ≡ head t ++ ys → IsRest s r ys → AreLeft s (reverse opened) xs
-    → now ≡ opened ++ r ∷ []
-    → Advanced s old new (text None k t ++ xs) (reverse now)
-begin_opens s old new k t xs ys r opened now h e i l n =
-    let last : reverse now ≡ r ∷ reverse opened = ap reverse n ∙ reverse-append opened (r ∷ []) in
-    subst (Advanced s old new (text None k t ++ xs)) (sym last) (record {
-      left = ys ++ xs;
-      are_left = (ys, xs, refl, i, l);
-      sent = goes {piece = enc (head t)} (enc (ys ++ xs)) h (written_none old _ _ (cut _ (head t) ys xs e));
-    })
+  pub begin_stops : {old new : Output} (k : ℕ) (t : Tree) (xs : List ℕ) → Sent old new (enc (head t)) []
+      → SentPart old new (enc (text w k t ++ xs))
+  begin_stops {old} k t xs h =
+      let b = head_begins k t in stop (goes {piece = enc (head t)} (enc (b.0 ++ xs)) h (written_none old _ _ (cut _ (head t) b.0 xs b.1)))
 
-pub begin_ends : (s : Store) (old new : Output) (k : ℕ) (t : Tree) (xs : List ℕ) (rs : List Rest)
-    → Sent old new (enc (head t)) [] → text None k t ≡ head t → AreLeft s rs xs → Advanced s old new (text None k t ++ xs) rs
-begin_ends s old new k t xs rs h e l = record {
-  left = xs;
-  are_left = l;
-  sent = goes {piece = enc (head t)} (enc xs) h (written_none old _ _ (ap (λ z. enc (z ++ xs)) e ∙ encodes-append (head t) xs));
-}
+  pub begin_opens : (s : Store) (old new : Output) (k : ℕ) (t : Tree) (xs ys : List ℕ) (r : Rest) (opened now : List Rest)
+      → length opened ≡ k → Sent old new (enc (head t)) [] → text w k t ≡ head t ++ ys → IsRest w k s r ys
+      → AreLeft w s (reverse opened) xs → now ≡ opened ++ r ∷ [] → Advanced w s old new (text w k t ++ xs) (reverse now)
+  begin_opens s old new k t xs ys r opened now d h e i l n =
+      let last : reverse now ≡ r ∷ reverse opened = ap reverse n ∙ reverse-append opened (r ∷ []) in
+      let here = subst (λ m. IsRest w m s r ys) (sym (length-reverse opened ∙ d)) i in
+      subst (Advanced w s old new (text w k t ++ xs)) (sym last) (record {
+        left = ys ++ xs;
+        are_left = (ys, xs, refl, here, l);
+        sent = goes {piece = enc (head t)} (enc (ys ++ xs)) h (written_none old _ _ (cut _ (head t) ys xs e));
+      })
+
+  pub begin_ends : (s : Store) (old new : Output) (k : ℕ) (t : Tree) (xs : List ℕ) (rs : List Rest)
+      → Sent old new (enc (head t)) [] → text w k t ≡ head t → AreLeft w s rs xs → Advanced w s old new (text w k t ++ xs) rs
+  begin_ends s old new k t xs rs h e l = record {
+    left = xs;
+    are_left = l;
+    sent = goes {piece = enc (head t)} (enc xs) h (written_none old _ _ (ap (λ z. enc (z ++ xs)) e ∙ encodes-append (head t) xs));
+  }
+
+  -- ---- what is left after an opening bracket
+
+  pub array_rest : (s : Store) (p : Span) (ns : List Node) (k : ℕ) (t : Tree) → ns ≡ part s.items.items p → Seen s (node.Array p) t
+      → (xs : List ℕ) × ((ts : Items) × Are s ts ns × (xs ≡ items_text w (k + 1) true ts ++ closing w k (true && has_no_items ts) 93))
+      × (text w k t ≡ head t ++ xs)
+  array_rest s p ns k t e v =
+      let xs = items_text w (k + 1) true v.0 ++ closing w k (has_no_items v.0) 93 in
+      (xs, (v.0, subst (Are s v.0) (sym e) v.2, refl), subst (λ z. text w k z ≡ head z ++ xs) (sym v.1) refl)
+
+  pub object_rest : (s : Store) (p : Span) (es : List Member) (k : ℕ) (t : Tree) → es ≡ part s.members.items p
+      → Seen s (node.Object p) t
+      → (xs : List ℕ)
+      × ((ms : Members) × AreMembers s ms es × (xs ≡ members_text w (k + 1) true ms ++ closing w k (true && has_no_members ms) 125))
+      × (text w k t ≡ head t ++ xs)
+  object_rest s p es k t e v =
+      let xs = members_text w (k + 1) true v.0 ++ closing w k (has_no_members v.0) 125 in
+      (xs, (v.0, subst (AreMembers s v.0) (sym e) v.2, refl), subst (λ z. text w k z ≡ head z ++ xs) (sym v.1) refl)
 
 -- ---- how many steps are left
-
-pub array_rest : (s : Store) (p : Span) (ns : List Node) (k : ℕ) (t : Tree) → ns ≡ part s.items.items p → Seen s (node.Array p) t
-    → (xs : List ℕ) × ((level : ℕ) × (ts : Items) × Are s ts ns × (xs ≡ items_text None level true ts ++ 93 ∷ [])) ×
-    (text None k t ≡ head t ++ xs)
-array_rest s p ns k t e v =
-    let xs = items_text None (k + 1) true v.0 ++ 93 ∷ [] in
-    (xs, (k + 1, v.0, subst (Are s v.0) (sym e) v.2, refl), subst (λ z. text None k z ≡ head z ++ xs) (sym v.1) (array_text k v.0))
-
-pub object_rest : (s : Store) (p : Span) (es : List Member) (k : ℕ) (t : Tree) → es ≡ part s.members.items p → Seen s (node.Object p) t
-    → (xs : List ℕ) × ((level : ℕ) × (ms : Members) × AreMembers s ms es × (xs ≡ members_text None level true ms ++ 125 ∷ [])) ×
-    (text None k t ≡ head t ++ xs)
-object_rest s p es k t e v =
-    let xs = members_text None (k + 1) true v.0 ++ 125 ∷ [] in (
-      xs,
-      (k + 1, v.0, subst (AreMembers s v.0) (sym e) v.2, refl),
-      subst (λ z. text None k z ≡ head z ++ xs) (sym v.1)
-          (object_text k v.0),
-    )
 
 cost_some : (s : Store) (f : ℕ) (n : Node) → 0 < cost s f n
 cost_some s zero n = omega arith
@@ -176,118 +162,143 @@ less_open s most n opened now r e room c =
 
 -- ---- what follows a first piece
 
-pub then_advances : {T E : Type 0} (s : Store) (old mid new : Output) (xs ys : List ℕ) (rs : List Rest) (r : Result T E)
-    → AdvancesFrom s mid new ys rs r → Sent old mid (enc xs) (enc ys) → AdvancesFrom s old new xs rs r
-then_advances s old mid new xs ys rs (Ok x) a h = record {
-  left = a.left;
-  are_left = a.are_left;
-  sent =
-      written_then (enc ys) (enc a.left) h a.sent;
-}
-then_advances s old mid new xs ys rs (Err e) a h = stops_then (enc ys) h a
-
 pub ok_map : {T E : Type 0} {A B : Type 0} (r : Result T E) → (A → B) → OnOk r A → OnOk r B
 ok_map (Ok x) f a = f a
 ok_map (Err e) f a = a
 
-pub closes : {T E : Type 0} (s : Store) (old new : Output) (xs own outer : List ℕ) (b : ℕ) (rs : List Rest) (r : Result T E) → b < 128
-    → xs ≡ own ++ outer → own ≡ b ∷ [] → AreLeft s rs outer → SendsFrom old new (b ∷ []) r → AdvancesFrom s old new xs rs r
-closes s old new xs own outer b rs (Ok x) low e o l h = record {
-  left = outer;
-  are_left = l;
-  sent = goes {piece = b ∷ []} (enc outer) h (written_none old _ _ (ap enc e ∙ ap (λ z. enc (z ++ outer)) o ∙ enc_cons b outer low));
-}
-closes s old new xs own outer b rs (Err x) low e o l h =
-    stops {piece = b ∷ []} (enc outer) h (written_none old _ _ (ap enc e ∙ ap (λ z. enc (z ++ outer)) o ∙ enc_cons b outer low))
+and_true : (b : Bool) → (b && true) ≡ b
+and_true true = refl
+and_true false = refl
 
--- ---- an item, a member
+and_false : (b : Bool) → (b && false) ≡ false
+and_false true = refl
+and_false false = refl
 
-first_item : (b t i c o : List ℕ) → (((b ++ []) ++ (t ++ i)) ++ c) ++ o ≡ b ++ (t ++ ((i ++ c) ++ o))
-first_item b t i c o = simp (append-nil, append_assoc)
+first_item : (b t i c o : List ℕ) → ((b ++ (t ++ i)) ++ c) ++ o ≡ b ++ (t ++ ((i ++ c) ++ o))
+first_item b t i c o = simp append_assoc
 
-first_member : (b q t m c o : List ℕ) → (((b ++ []) ++ ((q ++ (58 ∷ t)) ++ m)) ++ c) ++ o ≡ (b ++ (q ++ 58 ∷ [])) ++ (t ++
-    ((m ++ c) ++ o))
-first_member b q t m c o = simp (append-nil, append_assoc)
+first_member : (b q a t m c o : List ℕ)
+    → ((b ++ ((q ++ (58 ∷ (a ++ t))) ++ m)) ++ c) ++ o ≡ b ++ ((q ++ (58 ∷ a)) ++ (t ++ ((m ++ c) ++ o)))
+first_member b q a t m c o = simp append_assoc
 
--- the items that are left have a first one
-pub record NextItem (s : Store) (n : Node) (ns : List Node) (first : Bool) (rs : List Rest) (xs : List ℕ) : Type 0 where
-  pub level : ℕ
-  pub tree : Tree
-  pub is : Is s tree n
-  pub own : List ℕ
-  pub outer : List ℕ
-  pub rest : (level' : ℕ) × (ts : Items) × Are s ts ns × (own ≡ items_text None level' false ts ++ 93 ∷ [])
-  pub left : AreLeft s rs outer
-  pub split : enc xs ≡ enc (separator first) ++ enc (text None level tree ++ (own ++ outer))
+module _ (w : Option (List ℕ)) where
+  pub then_advances : {T E : Type 0} (s : Store) (old mid new : Output) (xs ys : List ℕ) (rs : List Rest) (r : Result T E)
+      → AdvancesFrom w s mid new ys rs r → Sent old mid (enc xs) (enc ys) → AdvancesFrom w s old new xs rs r
+  then_advances s old mid new xs ys rs (Ok x) a h = record {
+    left = a.left;
+    are_left = a.are_left;
+    sent =
+        written_then (enc ys) (enc a.left) h a.sent;
+  }
+  then_advances s old mid new xs ys rs (Err e) a h = stops_then (enc ys) h a
 
-pub next_item : (s : Store) (n : Node) (ns all : List Node) (first : Bool) (rs : List Rest) (xs : List ℕ) → all ≡ n ∷ ns
-    → (own : List ℕ) × (outer : List ℕ) × (xs ≡ own ++ outer)
-    × ((k : ℕ) × (ts : Items) × Are s ts all × (own ≡ items_text None k first ts ++ 93 ∷ [])) × AreLeft s rs outer
-    → NextItem s n ns first rs xs
-next_item s n ns all first rs xs e g = by g.3.1 (subst (Are s g.3.1) e g.3.2) g.3.3
-  where
-    by : (ts : Items) → Are s ts (n ∷ ns) → g.0 ≡ items_text None g.3.0 first ts ++ 93 ∷ [] → NextItem s n ns first rs xs
-    by no_items h o = absurd h
-    by (item t ts) h o = record {
-      level = g.3.0;
-      tree = t;
-      is = h.0;
-      own = items_text None g.3.0 false ts ++ 93 ∷ [];
-      outer = g.1;
-      rest = (g.3.0, ts, h.1, refl);
-      left = g.4;
-      split = ap enc (g.2 ∙ ap (λ z. z ++ g.1) o
-          ∙ first_item (separator first) (text None g.3.0 t) (items_text None g.3.0 false ts) (93 ∷ []) g.1)
-          ∙ encodes-append (separator first) (text None g.3.0 t ++ ((items_text None g.3.0 false ts ++ 93 ∷ []) ++ g.1));
-    }
+  pub closes : {T E : Type 0} (s : Store) (old new : Output) (xs own outer cs : List ℕ) (b : ℕ) (rs : List Rest) (r : Result T E)
+      → b < 128 → xs ≡ own ++ outer → own ≡ cs ++ b ∷ [] → AreLeft w s rs outer → SendsFrom old new (enc cs ++ b ∷ []) r
+      → AdvancesFrom w s old new xs rs r
+  closes s old new xs own outer cs b rs r low e o l h = by r h
+    where
+      split : enc xs ≡ (enc cs ++ b ∷ []) ++ enc outer
+      split = ap enc e ∙ ap (λ z. enc (z ++ outer)) o ∙ encodes-append (cs ++ b ∷ []) outer ∙ ap (λ z. z ++ enc outer) (closed cs b low)
 
-pub last_item : (s : Store) (all : List Node) (k : ℕ) (first : Bool) (ts : Items) → length all ≡ 0 → Are s ts all
-    → items_text None k first ts ++ 93 ∷ [] ≡ 93 ∷ []
-last_item s [] k first no_items e h = refl
-last_item s [] k first (item t ts) e h = absurd h
-last_item s (n ∷ ns) k first ts e h = absurd (omega (arith, e))
+      by : {T E : Type 0} (r : Result T E) → SendsFrom old new (enc cs ++ b ∷ []) r → AdvancesFrom w s old new xs rs r
+      by (Ok x) h = record { left = outer; are_left = l; sent = goes {piece = enc cs ++ b ∷ []} (enc outer) h (written_none old _ _ split) }
+      by (Err x) h = stops {piece = enc cs ++ b ∷ []} (enc outer) h (written_none old _ _ split)
 
-pub record NextMember (s : Store) (m : Member) (es : List Member) (first : Bool) (rs : List Rest) (xs : List ℕ) : Type 0 where
-  pub level : ℕ
-  pub key : List ℕ
-  pub is_key : IsBytes key (part s.texts.items m.key)
-  pub tree : Tree
-  pub is : Is s tree m.value
-  pub own : List ℕ
-  pub outer : List ℕ
-  pub rest : (level' : ℕ) × (ms : Members) × AreMembers s ms es × (own ≡ members_text None level' false ms ++ 125 ∷ [])
-  pub left : AreLeft s rs outer
-  pub split : enc xs ≡ enc (separator first ++ (quoted key ++ 58 ∷ [])) ++ enc (text None level tree ++ (own ++ outer))
+  -- the items that are left, at the level k, have a first one
+  pub record NextItem (s : Store) (n : Node) (ns : List Node) (first : Bool) (rs : List Rest) (k : ℕ) (xs : List ℕ) : Type 0 where
+    pub tree : Tree
+    pub is : Is s tree n
+    pub own : List ℕ
+    pub outer : List ℕ
+    pub rest : (ts : Items) × Are s ts ns
+        × (own ≡ items_text w (length rs + 1) false ts ++ closing w (length rs) (false && has_no_items ts) 93)
+    pub left : AreLeft w s rs outer
+    pub split : enc xs ≡ enc (before w k first) ++ enc (text w k tree ++ (own ++ outer))
 
-pub next_member : (s : Store) (m : Member) (es all : List Member) (first : Bool) (rs : List Rest) (xs : List ℕ) → all ≡ m ∷ es
-    → (own : List ℕ) × (outer : List ℕ) × (xs ≡ own ++ outer)
-    × ((k : ℕ) × (ms : Members) × AreMembers s ms all × (own ≡ members_text None k first ms ++ 125 ∷ [])) × AreLeft s rs outer
-    → NextMember s m es first rs xs
-next_member s m es all first rs xs e g = by g.3.1 (subst (AreMembers s g.3.1) e g.3.2) g.3.3
-  where
-    by : (ms : Members) → AreMembers s ms (m ∷ es) → g.0 ≡ members_text None g.3.0 first ms ++ 125 ∷ [] → NextMember s m es first rs xs
-    by no_members h o = absurd h
-    by (member key t ms) h o = record {
-      level = g.3.0;
-      key = key;
-      is_key = text_part s key m.key h.0;
-      tree = t;
-      is = h.1;
-      own = members_text None g.3.0 false ms ++ 125 ∷ [];
-      outer = g.1;
-      rest = (g.3.0, ms, h.2, refl);
-      left = g.4;
-      split = ap enc (g.2 ∙ ap (λ z. z ++ g.1) o
-          ∙ first_member (separator first) (quoted key) (text None g.3.0 t) (members_text None g.3.0 false ms) (125 ∷ []) g.1)
-          ∙ encodes-append (separator first ++ (quoted key ++ 58 ∷ [])) (text None g.3.0 t ++
-          ((members_text None g.3.0 false ms ++ 125 ∷ []) ++ g.1));
-    }
+  pub next_item : (s : Store) (n : Node) (ns all : List Node) (first : Bool) (rs : List Rest) (k : ℕ) (xs : List ℕ)
+      → length rs + 1 ≡ k → all ≡ n ∷ ns
+      → (own : List ℕ) × (outer : List ℕ) × (xs ≡ own ++ outer)
+      × ((ts : Items) × Are s ts all × (own ≡ items_text w (length rs + 1) first ts ++ closing w (length rs) (first && has_no_items ts) 93))
+      × AreLeft w s rs outer
+      → NextItem s n ns first rs k xs
+  next_item s n ns all first rs k xs d e g = by g.3.0 (subst (Are s g.3.0) e g.3.1) g.3.2
+    where
+      by : (ts : Items) → Are s ts (n ∷ ns)
+          → g.0 ≡ items_text w (length rs + 1) first ts ++ closing w (length rs) (first && has_no_items ts) 93
+          → NextItem s n ns first rs k xs
+      by no_items h o = absurd h
+      by (item t ts) h o =
+          let own = items_text w (length rs + 1) false ts ++ closing w (length rs) false 93 in
+          record {
+            tree = t;
+            is = h.0;
+            own = own;
+            outer = g.1;
+            rest = (ts, h.1, refl);
+            left = g.4;
+            split = ap enc (g.2 ∙ ap (λ z. z ++ g.1) (o
+                ∙ ap (λ b. items_text w (length rs + 1) first (item t ts) ++ closing w (length rs) b 93) (and_false first))
+                ∙ first_item (before w (length rs + 1) first) (text w (length rs + 1) t) (items_text w (length rs + 1) false ts)
+                (closing w (length rs) false 93) g.1)
+                ∙ encodes-append (before w (length rs + 1) first) (text w (length rs + 1) t ++ (own ++ g.1))
+                ∙ ap (λ m. enc (before w m first) ++ enc (text w m t ++ (own ++ g.1))) d;
+          }
 
-pub last_member : (s : Store) (all : List Member) (k : ℕ) (first : Bool) (ms : Members) → length all ≡ 0 → AreMembers s ms all
-    → members_text None k first ms ++ 125 ∷ [] ≡ 125 ∷ []
-last_member s [] k first no_members e h = refl
-last_member s [] k first (member key t ms) e h = absurd h
-last_member s (m ∷ es) k first ms e h = absurd (omega (arith, e))
+  pub last_item : (s : Store) (all : List Node) (k l : ℕ) (first : Bool) (ts : Items) → k ≡ l → length all ≡ 0 → Are s ts all
+      → items_text w (k + 1) first ts ++ closing w k (first && has_no_items ts) 93 ≡ closing w l first 93
+  last_item s [] k l first no_items d e h = ap (λ b. closing w k b 93) (and_true first) ∙ ap (λ m. closing w m first 93) d
+  last_item s [] k l first (item t ts) d e h = absurd h
+  last_item s (n ∷ ns) k l first ts d e h = absurd (omega (arith, e))
+
+  pub record NextMember (s : Store) (m : Member) (es : List Member) (first : Bool) (rs : List Rest) (k : ℕ) (xs : List ℕ) : Type 0 where
+    pub key : List ℕ
+    pub is_key : IsBytes key (part s.texts.items m.key)
+    pub tree : Tree
+    pub is : Is s tree m.value
+    pub own : List ℕ
+    pub outer : List ℕ
+    pub rest : (ms : Members) × AreMembers s ms es
+        × (own ≡ members_text w (length rs + 1) false ms ++ closing w (length rs) (false && has_no_members ms) 125)
+    pub left : AreLeft w s rs outer
+    pub split : enc xs ≡ enc (before w k first) ++ (enc (quoted key ++ (58 ∷ after_colon w)) ++ enc (text w k tree ++ (own ++ outer)))
+
+  pub next_member : (s : Store) (m : Member) (es all : List Member) (first : Bool) (rs : List Rest) (k : ℕ) (xs : List ℕ)
+      → length rs + 1 ≡ k → all ≡ m ∷ es
+      → (own : List ℕ) × (outer : List ℕ) × (xs ≡ own ++ outer)
+      × ((ms : Members) × AreMembers s ms all
+      × (own ≡ members_text w (length rs + 1) first ms ++ closing w (length rs) (first && has_no_members ms) 125)) × AreLeft w s rs outer
+      → NextMember s m es first rs k xs
+  next_member s m es all first rs k xs d e g = by g.3.0 (subst (AreMembers s g.3.0) e g.3.1) g.3.2
+    where
+      by : (ms : Members) → AreMembers s ms (m ∷ es)
+          → g.0 ≡ members_text w (length rs + 1) first ms ++ closing w (length rs) (first && has_no_members ms) 125
+          → NextMember s m es first rs k xs
+      by no_members h o = absurd h
+      by (member key t ms) h o =
+          let own = members_text w (length rs + 1) false ms ++ closing w (length rs) false 125 in
+          record {
+            key = key;
+            is_key = text_part s key m.key h.0;
+            tree = t;
+            is = h.1;
+            own = own;
+            outer = g.1;
+            rest = (ms, h.2, refl);
+            left = g.4;
+            split = ap enc (g.2 ∙ ap (λ z. z ++ g.1) (o
+                ∙ ap (λ b. members_text w (length rs + 1) first (member key t ms) ++ closing w (length rs) b 125) (and_false first))
+                ∙ first_member (before w (length rs + 1) first) (quoted key) (after_colon w) (text w (length rs + 1) t)
+                (members_text w (length rs + 1) false ms) (closing w (length rs) false 125) g.1)
+                ∙ three (before w (length rs + 1) first) (quoted key ++ (58 ∷ after_colon w)) (text w (length rs + 1) t ++ (own ++ g.1))
+                ∙ ap (λ n. enc (before w n first) ++ (enc (quoted key ++ (58 ∷ after_colon w)) ++ enc (text w n t ++ (own ++ g.1)))) d;
+          }
+
+  pub last_member : (s : Store) (all : List Member) (k l : ℕ) (first : Bool) (ms : Members) → k ≡ l → length all ≡ 0
+      → AreMembers s ms all
+      → members_text w (k + 1) first ms ++ closing w k (first && has_no_members ms) 125 ≡ closing w l first 125
+  last_member s [] k l first no_members d e h = ap (λ b. closing w k b 125) (and_true first) ∙ ap (λ m. closing w m first 125) d
+  last_member s [] k l first (member key t ms) d e h = absurd h
+  last_member s (m ∷ es) k l first ms d e h = absurd (omega (arith, e))
 
 -- ---- one step less
 
@@ -303,11 +314,11 @@ last_first : (stack pushed : List Rest) (r : Rest) → pushed ≡ stack ++ r ∷
 last_first stack pushed r e = ap reverse e ∙ reverse-append stack (r ∷ [])
 
 -- what is left after a container was put on the stack
-pub left_pushed : (s : Store) (stack pushed : List Rest) (r : Rest) (own outer : List ℕ) → pushed ≡ stack ++ r ∷ []
-    → IsRest s r own → AreLeft s (reverse stack) outer
-    → AreLeft s (reverse pushed) (own ++ outer)
-left_pushed s stack pushed r own outer e i l =
-    subst (λ z. AreLeft s z (own ++ outer)) (sym (last_first stack pushed r e)) (own, outer, refl, i, l)
+pub left_pushed : (w : Option (List ℕ)) (s : Store) (stack pushed : List Rest) (r : Rest) (own outer : List ℕ)
+    → pushed ≡ stack ++ r ∷ [] → IsRest w (length (reverse stack)) s r own → AreLeft w s (reverse stack) outer
+    → AreLeft w s (reverse pushed) (own ++ outer)
+left_pushed w s stack pushed r own outer e i l =
+    subst (λ z. AreLeft w s z (own ++ outer)) (sym (last_first stack pushed r e)) (own, outer, refl, i, l)
 
 pub less_item : (s : Store) (most now : ℕ) (n : Node) (ns all : Bor (List Node)) (first : Bool) (stack pushed : List Rest)
     → all.now ≡ n ∷ ns.now
@@ -346,14 +357,29 @@ less_member s most now m es all first stack pushed a e h =
 pub root_is : (values xs : List Node) (n m : Node) → Some m ≡ slice_get xs 0 → xs ≡ values → values ≡ n ∷ [] → n ≡ m
 root_is values xs n m a b c = let e : Some m ≡ Some n = a ∙ ap (λ z. slice_get z 0) (b ∙ c) in cc
 
-pub flushed : {T E : Type 0} (a b c : Option (List ℕ)) (p q : List ℕ) (t : Tree) (r : Result T E) → p ≡ []
-    → Sent (a, p) (b, q) (enc (text None 0 t ++ [])) [] → WritesPrefix b c q r → WritesPrefix a c (enc (text None 0 t)) r
-flushed a b c p q t r e h k =
-    flushes a b c q (enc (text None 0 t)) r (subst (λ z. Sent (a, z) (b, q) (enc (text None 0 t)) []) e
-    (subst (λ z. Sent (a, p) (b, q) (enc z) []) (append-nil (text None 0 t)) h)) k
+-- one more level than open containers
+pub one_more : (rs : List Rest) (l : ℕ) → l ≡ length rs → length (reverse rs) + 1 ≡ l + 1
+one_more rs l e = ap (λ k. k + 1) (length-reverse rs ∙ sym e)
 
-pub part_flushed : (a b : Option (List ℕ)) (p q : List ℕ) (t : Tree) → p ≡ [] → SentPart (a, p) (b, q) (enc (text None 0 t ++ []))
-    → WrittenPart a b (enc (text None 0 t))
-part_flushed a b p q t e h =
-    (subst (λ z. SentPart (a, z) (b, q) (enc (text None 0 t))) e (subst (λ z. SentPart (a, p) (b, q) (enc z)) (append-nil
-    (text None 0 t)) h)).part
+-- a closing bracket and what stands before it
+pub closing_line : (is_empty : Bool) (n b : List ℕ) → is_empty ≡ false → enc (cond is_empty [] n) ++ b ≡ enc n ++ b
+closing_line is_empty n b e = ap (λ z. enc (cond z [] n) ++ b) e
+
+pub closing_alone : (is_empty : Bool) (n b : List ℕ) → is_empty ≡ true → enc (cond is_empty [] n) ++ b ≡ b
+closing_alone is_empty n b e = ap (λ z. enc (cond z [] n) ++ b) e
+
+-- the same walk, said of another borrow
+pub left_moved : (i j : Option (Bor (List ℕ))) (a b : Bor Store) (rs : List Rest) (xs : List ℕ) → i ≡ j → a ≡ b
+    → AreLeft (indent_of i) a.now rs xs → AreLeft (indent_of j) b.now rs xs
+left_moved i j a b rs xs e d h = subst (λ k. AreLeft (indent_of k) b.now rs xs) e (subst (λ c. AreLeft (indent_of i) c.now rs xs) d h)
+
+pub flushed : {T E : Type 0} (a b c : Option (List ℕ)) (p q xs : List ℕ) (r : Result T E) → p ≡ []
+    → Sent (a, p) (b, q) (enc (xs ++ [])) [] → WritesPrefix b c q r → WritesPrefix a c (enc xs) r
+flushed a b c p q xs r e h k =
+    flushes a b c q (enc xs) r (subst (λ z. Sent (a, z) (b, q) (enc xs) []) e
+    (subst (λ z. Sent (a, p) (b, q) (enc z) []) (append-nil xs) h)) k
+
+pub part_flushed : (a b : Option (List ℕ)) (p q xs : List ℕ) → p ≡ [] → SentPart (a, p) (b, q) (enc (xs ++ []))
+    → WrittenPart a b (enc xs)
+part_flushed a b p q xs e h =
+    (subst (λ z. SentPart (a, z) (b, q) (enc xs)) e (subst (λ z. SentPart (a, p) (b, q) (enc z)) (append-nil xs) h)).part

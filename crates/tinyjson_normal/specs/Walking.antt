@@ -1,11 +1,12 @@
 -- What a walk has still to write, and how many steps that takes. For private contracts.
-use Rattle.std.specs.Prelude.{◌≡◌, ℕ, zero, suc, ◌+◌, ◌-◌, cond, codes, List, [], ◌∷◌, ◌++◌, Option, None, Result, MatchResult}
+use Rattle.std.specs.Prelude.{◌≡◌, ℕ, zero, suc, ◌+◌, ◌-◌, ◌&&◌, cond, codes, List, [], ◌∷◌, ◌++◌, Option, Result, MatchResult}
 use Rattle.std.specs.Prelude.{length, reverse, encode_utf8_all}
 use Rattle.std.specs.List.{sum_by}
 use Rattle.tinyjson_number.specs.Text.{decimal_text}
 use Rattle.tinyjson_grammar.specs.Characters.{begin_array, begin_object, end_array, end_object}
 use Rattle.tinyjson_grammar.specs.Tree.{Tree, null, boolean, number, string, array, object, Items, Members}
-use Rattle.tinyjson_grammar.specs.Text.{items_text, members_text, quoted}
+use Rattle.tinyjson.specs.Indent.{indent_of}
+use Rattle.tinyjson_grammar.specs.Text.{items_text, members_text, quoted, closing, has_no_items, has_no_members}
 use Rattle.tinyjson_output.specs.Buffer.{buffered, Output, Sent, SentPart}
 use Rattle.tinyjson_normal.specs.Node.{Are, AreMembers}
 use Rattle.tinyjson_normal.specs.Order.{part}
@@ -25,32 +26,35 @@ head (string cs) = quoted cs
 head (array ts) = begin_array ∷ []
 head (object ms) = begin_object ∷ []
 
--- what is left of a container; in compact text the level makes no difference
-abbrev pub IsRest : Store → Rest → List ℕ → Type 0
-IsRest s (rest.Items ns first) xs =
-    (k : ℕ) × (ts : Items) × Are s ts ns.now × (xs ≡ items_text None k first ts ++ end_array ∷ [])
-IsRest s (rest.Members es first) xs =
-    (k : ℕ) × (ms : Members) × AreMembers s ms es.now × (xs ≡ members_text None k first ms ++ end_object ∷ [])
+module _ (w : Option (List ℕ)) where
+  -- what is left of a container at the level k
+  abbrev pub IsRest : ℕ → Store → Rest → List ℕ → Type 0
+  IsRest k s (rest.Items ns first) xs =
+      (ts : Items) × Are s ts ns.now × (xs ≡ items_text w (k + 1) first ts ++ closing w k (first && has_no_items ts) end_array)
+  IsRest k s (rest.Members es first) xs =
+      (ms : Members) × AreMembers s ms es.now
+      × (xs ≡ members_text w (k + 1) first ms ++ closing w k (first && has_no_members ms) end_object)
 
--- what is left of the open containers, the innermost first
-abbrev pub AreLeft : Store → List Rest → List ℕ → Type 0
-AreLeft s [] xs = xs ≡ []
-AreLeft s (r ∷ rs) xs = (own : List ℕ) × (outer : List ℕ) × (xs ≡ own ++ outer) × IsRest s r own × AreLeft s rs outer
+  -- what is left of the open containers, the innermost first
+  abbrev pub AreLeft : Store → List Rest → List ℕ → Type 0
+  AreLeft s [] xs = xs ≡ []
+  AreLeft s (r ∷ rs) xs = (own : List ℕ) × (outer : List ℕ) × (xs ≡ own ++ outer) × IsRest (length rs) s r own × AreLeft s rs outer
 
--- of the text all is sent but what is left
-pub record Advanced (s : Store) (old new : Output) (xs : List ℕ) (rs : List Rest) : Type 0 where
-  pub left : List ℕ
-  pub are_left : AreLeft s rs left
-  pub sent : Sent old new (encode_utf8_all xs) (encode_utf8_all left)
+  -- of the text all is sent but what is left
+  pub record Advanced (s : Store) (old new : Output) (xs : List ℕ) (rs : List Rest) : Type 0 where
+    pub left : List ℕ
+    pub are_left : AreLeft s rs left
+    pub sent : Sent old new (encode_utf8_all xs) (encode_utf8_all left)
 
--- on `Ok` that, and on `Err` a prefix of it is written
-abbrev pub AdvancesFrom : {T E : Type 0} → Store → Output → Output → List ℕ → List Rest → Result T E → Type 0
-AdvancesFrom s old new xs rs result =
-    MatchResult result (λ _. Advanced s old new xs rs) (λ _. SentPart old new (encode_utf8_all xs))
+  -- on `Ok` that, and on `Err` a prefix of it is written
+  abbrev pub AdvancesFrom : {T E : Type 0} → Store → Output → Output → List ℕ → List Rest → Result T E → Type 0
+  AdvancesFrom s old new xs rs result =
+      MatchResult result (λ _. Advanced s old new xs rs) (λ _. SentPart old new (encode_utf8_all xs))
 
 abbrev pub Advances : {W T E : Type 0} → (W → Option (List ℕ)) → W → W → Walk → Walk → List ℕ → Result T E → Type 0
 Advances contents p q old new xs result =
-    AdvancesFrom old.store.now (contents p, buffered old.buffer) (contents q, buffered new.buffer) xs (reverse new.stack.items) result
+    AdvancesFrom (indent_of old.indent) old.store.now (contents p, buffered old.buffer) (contents q, buffered new.buffer) xs
+    (reverse new.stack.items) result
 
 -- the steps that a value takes in which no more than that many containers are nested
 abbrev pub cost : Store → ℕ → Node → ℕ

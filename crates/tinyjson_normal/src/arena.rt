@@ -1,7 +1,8 @@
 //! The arena, and the events that it is built by.
 ghost use Rattle.std.specs.Prelude.{[]};
 ghost use Rattle.tinyjson.specs.Events.{literal_tree};
-ghost use Rattle.tinyjson.specs.Text.{compact};
+ghost use Rattle.tinyjson.specs.Indent.{indent_of};
+ghost use Rattle.tinyjson.specs.Text.{text};
 ghost use Rattle.tinyjson.specs.Tree.{Tree};
 ghost use Rattle.tinyjson.specs.Written.{WritesText};
 ghost use Rattle.tinyjson_normal.specs.Holding.{Holds, IsTree};
@@ -51,15 +52,22 @@ impl Arena {
         }
     }
 
-    /// Writes the compact text of the tree, in UTF-8, by way of a buffer that is written out at the end.
-    pub(crate) fn write_to<W: Write>(&self, alloc: Global, out: &mut W) -> io::Result<()>
+    /// Writes the text of the tree, compact or indented by a text, in UTF-8, by way of a buffer that is written
+    /// out at the end.
+    pub(crate) fn write_to<'a, W: Write>(
+        &'a self,
+        alloc: Global,
+        indent: Option<&'a str>,
+        out: &mut W,
+    ) -> io::Result<()>
         ensures { (t : Tree) → IsTree self.now t →
-            WritesText (W.contents out.old) (W.contents out.new) (compact t) result }
+            WritesText (W.contents out.old) (W.contents out.new)
+            (text (indent_of indent.entry) 0 t) result }
     {
         let Some(root) = self.values.first() else {
             return Err(io::Error::from(ErrorKind::InvalidData));
         };
-        let mut walk = Walk::new(alloc, &self.store, self.deepest);
+        let mut walk = Walk::new(alloc, &self.store, indent, self.deepest);
         walk.begin(out, *root)?;
         walk.finish(out)?;
         flush(out, &mut walk.buffer)

@@ -1,8 +1,9 @@
 //! A text whose normal text is asked for.
-ghost use Rattle.std.specs.Prelude.{◌≡◌, ◌↔◌, None, Some, IfOk, IsTrue, string_bytes};
-ghost use Rattle.std.specs.Str.{chars};
+ghost use Rattle.std.specs.Prelude.{◌≡◌, ◌↔◌, None, Some, IfOk, IfSome, IsTrue, codes, string_bytes};
+ghost use Rattle.std.specs.Str.{all_scalars, chars};
 ghost use Rattle.tinyjson.specs.Events.{TellsText};
-ghost use Rattle.tinyjson.specs.Text.{compact};
+ghost use Rattle.tinyjson.specs.Indent.{indent_of};
+ghost use Rattle.tinyjson.specs.Text.{compact, indented, text};
 ghost use Rattle.tinyjson.specs.Tree.{Tree};
 ghost use Rattle.tinyjson.specs.Written.{WritesText};
 ghost use Rattle.tinyjson_normal.specs.Normal.{HasTree, IsNormal};
@@ -14,6 +15,9 @@ use tinyjson::{
     JsonGenerateError, JsonGenerateResult, JsonParseError, read_events,
     read_events_with_depth_limit,
 };
+
+/// The indent of [`NormalText::format`].
+const INDENT: &str = "  ";
 
 /// The tree of a text, kept for its normal text, with no value built.
 ///
@@ -81,7 +85,23 @@ impl NormalText {
         ensures { (t : Tree) → HasTree self.now t →
             WritesText (W.contents out.old) (W.contents out.new) (compact t) result }
     {
-        self.arena.write_to(alloc, out)
+        self.arena.write_to(alloc, None, out)
+    }
+
+    /// Writes the text of the tree indented with two spaces, in UTF-8, and flushes nothing: the bytes that
+    /// `JsonValue::format_to` of the text's value writes. The errors are those of [`NormalText::write_to`].
+    ///
+    /// ```
+    /// let mut bytes = Vec::new(alloc);
+    /// NormalText::read(alloc, "[1.50e1, []]")?.format_to(alloc, &mut bytes)?;
+    /// assert_eq!(rt; bytes.as_slice(), b"[\n  15,\n  []\n]".as_slice());
+    /// ```
+    pub fn format_to<W: Write>(&self, alloc: Global, out: &mut W) -> io::Result<()>
+        ensures { (t : Tree) → HasTree self.now t →
+            WritesText (W.contents out.old) (W.contents out.new)
+            (indented t (codes "  ") 0) result }
+    {
+        self.arena.write_to(alloc, Some(INDENT), out)
     }
 
     /// The compact text of the tree: what `stringify` of the text's value returns.
@@ -94,8 +114,31 @@ impl NormalText {
         ensures { (t : Tree) → HasTree self.now t →
             IfOk result (λ s. chars (string_bytes s) ≡ compact t) }
     {
+        self.written(alloc, None)
+    }
+
+    /// The text of the tree indented with two spaces: what `format` of the text's value returns.
+    ///
+    /// ```
+    /// let normal = NormalText::read(alloc, r#"{"b": {}, "a": null}"#)?;
+    /// let text = normal.format(alloc)?;
+    /// assert_eq!(rt; text.as_str(), "{\n  \"a\": null,\n  \"b\": {}\n}");
+    /// ```
+    pub fn format(&self, alloc: Global) -> JsonGenerateResult
+        ensures { (t : Tree) → HasTree self.now t →
+            IfOk result (λ s. chars (string_bytes s) ≡ indented t (codes "  ") 0) }
+    {
+        self.written(alloc, Some(INDENT))
+    }
+
+    /// The text, compact or indented by a text.
+    fn written(&self, alloc: Global, indent: Option<&str>) -> JsonGenerateResult
+        requires { IfSome (indent_of indent) (λ i. IsTrue (all_scalars i)) }
+        ensures { (t : Tree) → HasTree self.now t →
+            IfOk result (λ s. chars (string_bytes s) ≡ text (indent_of indent.entry) 0 t) }
+    {
         let mut bytes = Vec::new(alloc);
-        let Ok(()) = self.write_to(alloc, &mut bytes) else {
+        let Ok(()) = self.arena.write_to(alloc, indent, &mut bytes) else {
             return Err(JsonGenerateError);
         };
         match String::from_utf8(bytes) {

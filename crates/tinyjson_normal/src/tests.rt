@@ -56,6 +56,31 @@ fn texts_are_written(rt: HostRuntime) -> Result<(), Fail> {
     Ok(())
 }
 
+/// A text, and its text indented with two spaces.
+const INDENTED: &[(&str, &str)] = &[
+    (" 1.50 ", "1.5"),
+    ("[ ]", "[]"),
+    ("{ }", "{}"),
+    ("[[],{}]", "[\n  [],\n  {}\n]"),
+    (
+        "{\"b\":[1,[true]],\"a\":{\"c\":\"\\n\"}}",
+        "{\n  \"a\": {\n    \"c\": \"\\n\"\n  },\n  \"b\": [\n    1,\n    [\n      true\n    ]\n  ]\n}",
+    ),
+];
+
+#[test]
+fn texts_are_indented(rt: HostRuntime) -> Result<(), Fail> {
+    let alloc = rt.alloc();
+    for &(text, expected) in INDENTED {
+        let normal = NormalText::read(alloc, text)?;
+        assert_eq!(rt; normal.format(alloc)?.as_str(), expected);
+        let mut bytes = Vec::new(alloc);
+        normal.format_to(alloc, &mut bytes)?;
+        assert_eq!(rt; bytes.as_slice(), expected.as_bytes());
+    }
+    Ok(())
+}
+
 /// Texts with each kind of token, and in them what no value is.
 const TEXTS: [&str; 5] = [
     "\r\n[-0,12.50E+2 ,1e-2,[[]],{ \"a\" : { } , \"\\u0061\":false}]",
@@ -88,8 +113,11 @@ fn is_alike(alloc: Global, text: &str) -> Result<bool, Fail> {
         JsonValue::from_str(alloc, text),
     ) {
         (Ok(normal), Ok(value)) => {
-            let written = normal.to_string(alloc)?;
-            Ok(written.as_str() == value.stringify(alloc)?.as_str())
+            let (compact, indented) = (normal.to_string(alloc)?, normal.format(alloc)?);
+            Ok(
+                compact.as_str() == value.stringify(alloc)?.as_str()
+                    && indented.as_str() == value.format(alloc)?.as_str(),
+            )
         }
         (Err(error), Err(expected)) => Ok(error == expected && !error.is_out_of_memory()),
         _ => Ok(false),
@@ -158,23 +186,30 @@ impl Write for Few {
 #[test]
 fn ends_with_the_writers_error(rt: HostRuntime) -> Result<(), Fail> {
     let alloc = rt.alloc();
-    let expected = "{\"a\":[1,null],\"b\":\"c\"}";
+    let compact = "{\"a\":[1,null],\"b\":\"c\"}";
+    let indented = "{\n  \"a\": [\n    1,\n    null\n  ],\n  \"b\": \"c\"\n}";
     let normal = NormalText::read(alloc, "{\"b\":\"c\", \"a\":[1,null]}")?;
-    for count in 0..expected.len() {
-        for error in [
-            Some(ErrorKind::Interrupted),
-            Some(ErrorKind::BrokenPipe),
-            None,
-        ] {
-            let mut writer = Few {
-                bytes: Vec::new(alloc),
-                count,
-                error,
-            };
-            let answer = normal.write_to(alloc, &mut writer);
-            let kind = error.unwrap_or(ErrorKind::WriteZero);
-            assert!(rt; answer.is_err_and(|error| error.kind() == kind));
-            assert!(rt; expected.as_bytes().get(..count) == Some(writer.bytes.as_slice()));
+    for (expected, is_indented) in [(compact, false), (indented, true)] {
+        for count in 0..expected.len() {
+            for error in [
+                Some(ErrorKind::Interrupted),
+                Some(ErrorKind::BrokenPipe),
+                None,
+            ] {
+                let mut writer = Few {
+                    bytes: Vec::new(alloc),
+                    count,
+                    error,
+                };
+                let answer = if is_indented {
+                    normal.format_to(alloc, &mut writer)
+                } else {
+                    normal.write_to(alloc, &mut writer)
+                };
+                let kind = error.unwrap_or(ErrorKind::WriteZero);
+                assert!(rt; answer.is_err_and(|error| error.kind() == kind));
+                assert!(rt; expected.as_bytes().get(..count) == Some(writer.bytes.as_slice()));
+            }
         }
     }
     Ok(())
@@ -198,8 +233,16 @@ fn examples(rt: HostRuntime) -> Result<(), Fail> {
     NormalText::read(alloc, "[1.50e1, null]")?.write_to(alloc, &mut bytes)?;
     assert_eq!(rt; bytes.as_slice(), b"[15,null]".as_slice());
 
+    let mut bytes = Vec::new(alloc);
+    NormalText::read(alloc, "[1.50e1, []]")?.format_to(alloc, &mut bytes)?;
+    assert_eq!(rt; bytes.as_slice(), b"[\n  15,\n  []\n]".as_slice());
+
     let normal = NormalText::read(alloc, "[1.50e1, null]")?;
     assert_eq!(rt; normal.to_string(alloc)?.as_str(), "[15,null]");
+
+    let normal = NormalText::read(alloc, r#"{"b": {}, "a": null}"#)?;
+    let text = normal.format(alloc)?;
+    assert_eq!(rt; text.as_str(), "{\n  \"a\": null,\n  \"b\": {}\n}");
 
     assert!(rt; is_normal(alloc, r#"{"a":1.5,"b":[]}"#)?);
     assert!(rt; !is_normal(alloc, r#"{"a":1.50,"b":[]}"#)?);

@@ -1,19 +1,25 @@
 //! The text of a tree in an arena, written without recursion: what is left of the open containers is on a stack.
 ghost use Rattle.std.specs.Prelude.{◌≡◌, ◌≤◌, ◌<◌, ◌+◌, ◌-◌, ◌++◌, ◌∷◌, [], ℕ, List, suc, length};
-ghost use Rattle.std.specs.Prelude.{reverse, OnOk, MatchOption, IfSome, None};
+ghost use Rattle.std.specs.Prelude.{reverse, OnOk, MatchOption, IfSome, Option, cond};
 ghost use Rattle.std.specs.Str.{encode_utf8_all};
 ghost use Rattle.tinyjson_grammar.specs.Tree.{Tree};
-ghost use Rattle.tinyjson_grammar.specs.Text.{text, separator, quoted};
+ghost use Rattle.tinyjson.specs.Indent.{indent_of};
+ghost use Rattle.tinyjson_grammar.specs.Text.{text, before, quoted, newline, after_colon};
 ghost use Rattle.tinyjson_grammar.specs.Characters.{name_separator};
+ghost use Rattle.tinyjson_number.specs.Text.{decimal_text};
 ghost use Rattle.tinyjson_normal.specs.declared.walk.Rest.TheVariants.{Items, Members};
 ghost use Rattle.tinyjson_normal.specs.Node.{Is, IsBytes};
 ghost use Rattle.tinyjson_normal.specs.Walking.{head, IsRest, AreLeft, Advances, cost, rest_cost, left_cost};
-ghost use Rattle.tinyjson_output.specs.Buffer.{buffered, SendsText};
+ghost use Rattle.tinyjson_output.specs.Buffer.{buffered, Sends, SendsText};
 
 use crate::store::{Member, Node, Store, part};
 use std::alloc::{AllocError, Global};
 use std::io::{self, ErrorKind, Write};
-use tinyjson_output::{Buffer, quick_text, quote, write_bytes, write_number};
+use tinyjson_number::JsonNumber;
+use tinyjson_output::{
+    Buffer, quick_number, quick_text, quote, separate, write_bytes, write_colon, write_newline,
+    write_number,
+};
 
 /// What an open container has still to write before its closing bracket. `first` says that nothing of it is
 /// written yet.
@@ -23,23 +29,26 @@ pub(crate) enum Rest<'a> {
     Members { rest: &'a [Member], first: bool },
 }
 
-/// A walk over a tree, the innermost container last, with room for so many.
+/// A walk over a tree, compact or indented by a text, the innermost container last, with room for so many.
 #[derive(Drop)]
 pub(crate) struct Walk<'a> {
     pub(crate) store: &'a Store,
+    pub(crate) indent: Option<&'a str>,
     pub(crate) most: usize,
     pub(crate) buffer: Buffer,
     pub(crate) stack: Vec<Rest<'a>>,
 }
 
 impl<'a> Walk<'a> {
-    pub(crate) fn new(alloc: Global, store: &'a Store, most: usize) -> Self
+    pub(crate) fn new(alloc: Global, store: &'a Store, indent: Option<&'a str>, most: usize) -> Self
         ensures store { result.store ≡ store.entry }
+        ensures indent { result.indent ≡ indent.entry }
         ensures stack { result.stack.items ≡ [] }
         ensures buffer { buffered result.buffer ≡ [] }
     {
         Walk {
             store,
+            indent,
             most,
             buffer: Buffer::new(),
             stack: Vec::new(alloc),
@@ -49,14 +58,18 @@ impl<'a> Walk<'a> {
     /// Writes a value, or its opening bracket, and opens what is left of it.
     pub(crate) fn begin<W: Write>(&mut self, out: &mut W, node: Node) -> io::Result<()>
         ensures sent { (t : Tree) (k : ℕ) (xs : List ℕ) → Is self.old.store.now t node
-            → AreLeft self.old.store.now (reverse self.old.stack.items) xs
-            → Advances W.contents out.old out.new self.old self.new (text None k t ++ xs) result }
+            → length self.old.stack.items ≡ k
+            → AreLeft (indent_of self.old.indent) self.old.store.now
+            (reverse self.old.stack.items) xs
+            → Advances W.contents out.old out.new self.old self.new
+            (text (indent_of self.old.indent) k t ++ xs) result }
         ensures less { OnOk result
             (left_cost self.old.store.now self.old.most (reverse self.new.stack.items)
             < cost self.old.store.now (self.old.most - length self.old.stack.items) node
             + left_cost self.old.store.now self.old.most (reverse self.old.stack.items)) }
         ensures store { self.new.store ≡ self.old.store }
         ensures most { self.new.most ≡ self.old.most }
+        ensures indent { self.new.indent ≡ self.old.indent }
     {
         write_head(out, &mut self.buffer, self.store, node)?;
         match rest_of(self.store, node) {
@@ -67,7 +80,8 @@ impl<'a> Walk<'a> {
 
     /// Writes all that is left.
     pub(crate) fn finish<W: Write>(&mut self, out: &mut W) -> io::Result<()>
-        ensures { (xs : List ℕ) → AreLeft self.old.store.now (reverse self.old.stack.items) xs
+        ensures { (xs : List ℕ) → AreLeft (indent_of self.old.indent) self.old.store.now
+            (reverse self.old.stack.items) xs
             → SendsText W.contents out.old out.new self.old.buffer self.new.buffer xs result }
     {
         while let Some(rest) = self.stack.pop() {
@@ -79,8 +93,8 @@ impl<'a> Walk<'a> {
     /// Writes what comes next of what is left of a container: an item or a member, or how it begins, or the
     /// closing bracket.
     fn resume<W: Write>(&mut self, out: &mut W, rest: Rest<'a>) -> io::Result<()>
-        ensures sent { (xs : List ℕ)
-            → AreLeft self.old.store.now (rest.entry ∷ reverse self.old.stack.items) xs
+        ensures sent { (xs : List ℕ) → AreLeft (indent_of self.old.indent) self.old.store.now
+            (rest.entry ∷ reverse self.old.stack.items) xs
             → Advances W.contents out.old out.new self.old self.new xs result }
         ensures less { OnOk result
             (left_cost self.old.store.now self.old.most (reverse self.new.stack.items)
@@ -88,6 +102,7 @@ impl<'a> Walk<'a> {
             (rest.entry ∷ reverse self.old.stack.items)) }
         ensures store { self.new.store ≡ self.old.store }
         ensures most { self.new.most ≡ self.old.most }
+        ensures indent { self.new.indent ≡ self.old.indent }
     {
         match rest {
             Rest::Items { rest, first } => self.resume_items(out, rest, first),
@@ -101,8 +116,8 @@ impl<'a> Walk<'a> {
         items: &'a [Node],
         first: bool,
     ) -> io::Result<()>
-        ensures sent { (xs : List ℕ)
-            → AreLeft self.old.store.now (Items items.entry first ∷ reverse self.old.stack.items) xs
+        ensures sent { (xs : List ℕ) → AreLeft (indent_of self.old.indent) self.old.store.now
+            (Items items.entry first ∷ reverse self.old.stack.items) xs
             → Advances W.contents out.old out.new self.old self.new xs result }
         ensures less { OnOk result
             (left_cost self.old.store.now self.old.most (reverse self.new.stack.items)
@@ -110,11 +125,13 @@ impl<'a> Walk<'a> {
             (Items items.entry first ∷ reverse self.old.stack.items)) }
         ensures store { self.new.store ≡ self.old.store }
         ensures most { self.new.most ≡ self.old.most }
+        ensures indent { self.new.indent ≡ self.old.indent }
     {
+        let level = self.stack.len();
         let Some((node, rest)) = items.split_first() else {
-            return write_bytes(out, &mut self.buffer, b"]");
+            return close(out, &mut self.buffer, self.indent, level, first, b"]");
         };
-        separate(out, &mut self.buffer, first)?;
+        separate(out, &mut self.buffer, self.indent, level + 1, first)?;
         push(
             &mut self.stack,
             self.most,
@@ -129,7 +146,7 @@ impl<'a> Walk<'a> {
         members: &'a [Member],
         first: bool,
     ) -> io::Result<()>
-        ensures sent { (xs : List ℕ) → AreLeft self.old.store.now
+        ensures sent { (xs : List ℕ) → AreLeft (indent_of self.old.indent) self.old.store.now
             (Members members.entry first ∷ reverse self.old.stack.items) xs
             → Advances W.contents out.old out.new self.old self.new xs result }
         ensures less { OnOk result
@@ -138,12 +155,15 @@ impl<'a> Walk<'a> {
             (Members members.entry first ∷ reverse self.old.stack.items)) }
         ensures store { self.new.store ≡ self.old.store }
         ensures most { self.new.most ≡ self.old.most }
+        ensures indent { self.new.indent ≡ self.old.indent }
     {
+        let level = self.stack.len();
         let Some((member, rest)) = members.split_first() else {
-            return write_bytes(out, &mut self.buffer, b"}");
+            return close(out, &mut self.buffer, self.indent, level, first, b"}");
         };
+        separate(out, &mut self.buffer, self.indent, level + 1, first)?;
         let key = part(&self.store.texts, member.key);
-        write_key(out, &mut self.buffer, first, key)?;
+        write_key(out, &mut self.buffer, self.indent, key)?;
         push(
             &mut self.stack,
             self.most,
@@ -167,9 +187,9 @@ fn push<'a>(stack: &mut Vec<Rest<'a>>, most: usize, rest: Rest<'a>) -> Result<()
 
 /// What is left of a value after its opening bracket, if it has one.
 fn rest_of<'a>(store: &'a Store, node: Node) -> Option<Rest<'a>>
-    ensures rest { (t : Tree) (k : ℕ) → Is store.now t node →
-        MatchOption result (text None k t ≡ head t) (λ r. (xs : List ℕ)
-        × IsRest store.now r xs × (text None k t ≡ head t ++ xs)) }
+    ensures rest { (w : Option (List ℕ)) (t : Tree) (k : ℕ) → Is store.now t node →
+        MatchOption result (text w k t ≡ head t) (λ r. (xs : List ℕ)
+        × IsRest w k store.now r xs × (text w k t ≡ head t ++ xs)) }
     ensures less { (f : ℕ) → IfSome result
         (λ r. suc (rest_cost store.now f r) ≡ cost store.now (suc f) node) }
 {
@@ -201,13 +221,23 @@ fn write_head<W: Write>(
         Node::Boolean(true) => write_bytes(out, buffer, b"true"),
         Node::Boolean(false) => write_bytes(out, buffer, b"false"),
         Node::Number(index) => match store.numbers.get(index) {
-            Some(number) => write_number(out, buffer, number),
+            Some(number) => write_decimal(out, buffer, number),
             None => Err(io::Error::from(ErrorKind::InvalidData)),
         },
         Node::String(span) => write_text(out, buffer, part(&store.texts, span)),
         Node::Array(_) => write_bytes(out, buffer, b"["),
         Node::Object(_) => write_bytes(out, buffer, b"{"),
     }
+}
+
+fn write_decimal<W: Write>(out: &mut W, buffer: &mut Buffer, number: &JsonNumber) -> io::Result<()>
+    ensures { SendsText W.contents out.old out.new buffer.old buffer.new
+        (decimal_text number.now.decimal) result }
+{
+    if quick_number(buffer, number) {
+        return Ok(());
+    }
+    write_number(out, buffer, number)
 }
 
 /// Writes characters between quotes.
@@ -224,23 +254,37 @@ fn write_text<W: Write>(out: &mut W, buffer: &mut Buffer, bytes: &[u8]) -> io::R
     }
 }
 
-/// Writes what stands before the value of a member.
-fn write_key<W: Write>(out: &mut W, buffer: &mut Buffer, first: bool, key: &[u8]) -> io::Result<()>
+/// Writes the key of a member, and what stands between it and the value.
+fn write_key<W: Write>(
+    out: &mut W,
+    buffer: &mut Buffer,
+    indent: Option<&str>,
+    key: &[u8],
+) -> io::Result<()>
     ensures { (cs : List ℕ) → IsBytes cs key.now
         → SendsText W.contents out.old out.new buffer.old buffer.new
-        (separator first ++ (quoted cs ++ name_separator ∷ [])) result }
+        (quoted cs ++ (name_separator ∷ after_colon (indent_of indent.entry))) result }
 {
-    separate(out, buffer, first)?;
     write_text(out, buffer, key)?;
-    write_bytes(out, buffer, b":")
+    write_colon(out, buffer, indent)
 }
 
-/// Writes the comma before an item or a member, but none before the first.
-fn separate<W: Write>(out: &mut W, buffer: &mut Buffer, first: bool) -> io::Result<()>
-    ensures { SendsText W.contents out.old out.new buffer.old buffer.new (separator first) result }
+/// Writes the closing bracket of a container at the level, in indented text on a line of its own unless the
+/// container is empty.
+fn close<W: Write>(
+    out: &mut W,
+    buffer: &mut Buffer,
+    indent: Option<&str>,
+    level: usize,
+    is_empty: bool,
+    bracket: &[u8],
+) -> io::Result<()>
+    ensures { Sends W.contents out.old out.new buffer.old buffer.new
+        (encode_utf8_all (cond is_empty [] (newline (indent_of indent.entry) level))
+        ++ bracket.now) result }
 {
-    if first {
-        return Ok(());
+    if !is_empty {
+        write_newline(out, buffer, indent, level)?;
     }
-    write_bytes(out, buffer, b",")
+    write_bytes(out, buffer, bracket)
 }

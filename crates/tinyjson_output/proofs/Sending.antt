@@ -132,3 +132,8 @@ pub flushes : {T E : Type 0} (a b c : Option (List ℕ)) (q bytes : List ℕ) (r
     → WritesPrefix b c q r → WritesPrefix a c bytes r
 flushes a b c q bytes (Ok x) h k = written_on q [] (subst (λ w. Written a b w q) (sym (h.split ∙ append-nil h.done)) h.written) k
 flushes a b c q bytes (Err x) h k = part_on q (subst (λ w. Written a b w q) (sym (h.split ∙ append-nil h.done)) h.written) k
+
+-- the same bytes
+pub sends_same : {T E : Type 0} (old new : Output) (bs cs : List ℕ) (r : Result T E) → bs ≡ cs → SendsFrom old new cs r
+    → SendsFrom old new bs r
+sends_same old new bs cs r e h = subst (λ b. SendsFrom old new b r) (sym e) h

@@ -1,4 +1,6 @@
 -- What public contracts say of a writer.
 pub mod Written
+-- An indent as its characters.
+pub mod Indent
 -- What is buffered before it.
 pub mod Buffer

@@ -50,15 +50,15 @@ module _ (w : Option (List ℕ)) (indent : IfSome w AreScalars) where
   line None k h = refl
   line (Some i) k h = repeated_scalars k i h
 
-  before_scalars : (k : ℕ) (first : Bool) → AreScalars (before w k first)
+  pub before_scalars : (k : ℕ) (first : Bool) → AreScalars (before w k first)
   before_scalars k true = line w k indent
   before_scalars k false = line w k indent
 
-  closing_scalars : (k : ℕ) (is_empty : Bool) (bracket : ℕ) → AreScalars (bracket ∷ []) → AreScalars (closing w k is_empty bracket)
+  pub closing_scalars : (k : ℕ) (is_empty : Bool) (bracket : ℕ) → AreScalars (bracket ∷ []) → AreScalars (closing w k is_empty bracket)
   closing_scalars k true bracket h = h
   closing_scalars k false bracket h = scalars_append (newline w k) (bracket ∷ []) (line w k indent) h
 
-  colon_scalars : (v : Option (List ℕ)) (cs : List ℕ) → AreScalars cs → AreScalars (58 ∷ (after_colon v ++ cs))
+  pub colon_scalars : (v : Option (List ℕ)) (cs : List ℕ) → AreScalars cs → AreScalars (58 ∷ (after_colon v ++ cs))
   colon_scalars None cs h = h
   colon_scalars (Some i) cs h = h
 

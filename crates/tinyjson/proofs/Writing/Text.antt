@@ -1,26 +1,18 @@
 -- The texts of containers as bytes, piece by piece.
-use Rattle.std.proofs.Common.{◌≡◌, ℕ, suc, ◌+◌, Bool, true, false, Option, List, [], ◌∷◌, ◌++◌, length, ◌-◌, refl, ◌∙◌, ap, String}
-use Rattle.std.proofs.Common.{string_bytes, arith, ◌<◌}
+use Rattle.std.proofs.Common.{◌≡◌, ℕ, Bool, true, false, Option, List, [], ◌∷◌, ◌++◌, length, refl, String}
+use Rattle.std.proofs.Common.{string_bytes, arith}
 use Rattle.std.specs.declared.alloc.Global.{Global}
-use Rattle.std.specs.Str.{chars, IsUtf8}
+use Rattle.std.specs.Str.{chars}
 use Rattle.std.specs.Bool.{nat_eq}
-use Rattle.std.proofs.lemmas.Str.{encodes-append, encodes-chars}
 use Rattle.std.proofs.lemmas.Bool.Decides.{nat_tests}
 use Rattle.tinyjson.specs.declared.value.JsonValue.{JsonValue}
-use Rattle.tinyjson_grammar.specs.Text.{text, repeated, separator, after_colon, quoted, has_no_items, has_no_members}
+use Rattle.tinyjson_grammar.specs.Text.{text, separator, after_colon, quoted, has_no_items, has_no_members}
 use Rattle.std.specs.Ordering.{nat_cmp, match_ordering}
 use Rattle.std.specs.Cmp.Lexicographic.{slice_cmp}
 use Rattle.std.specs.declared.cmp.Ordering.TheVariants.{Less, Equal, Greater}
 use Rattle.tinyjson_grammar.specs.Tree.{Tree, Members, no_members, member, put}
 use Rattle.tinyjson.specs.View.{view, items_view, members_view}
 use Rattle.tinyjson_output.proofs.Callers.{enc, enc_cons}
-
--- what stands before an item
-pub comma_here : (first : Bool) (n : List ℕ) → first ≡ false → enc (separator first ++ n) ≡ 44 ∷ [] ++ enc n
-comma_here first n e = ap (λ b. enc (separator b ++ n)) e ∙ enc_cons 44 n (omega arith)
-
-pub no_comma : (first : Bool) (n : List ℕ) → first ≡ true → enc (separator first ++ n) ≡ enc n
-no_comma first n e = ap (λ b. enc (separator b ++ n)) e
 
 pub enc_separator : (first : Bool) → enc (separator first ++ []) ≡ separator first
 enc_separator true = refl
@@ -39,14 +31,6 @@ put_some k t no_members = refl
 put_some k t (member l u ms) = elim (slice_cmp nat_cmp (enc k) (enc l)) as
     (λ r. has_no_members (match_ordering r (member k t (member l u ms)) (member k t ms) (member l u (put k t ms))) ≡ false)
     [ Less ↦ refl | Equal ↦ refl | Greater ↦ refl ]
-
--- one more indent of a line
-pub line_here : (level done : ℕ) (bs : List ℕ) → IsUtf8 bs → done < level
-    → enc (repeated (level - done) (chars bs)) ≡ bs ++ enc (repeated (level - (done + 1)) (chars bs))
-line_here level done bs u h =
-    let r = repeated (level - (done + 1)) (chars bs) in
-    let e : level - done ≡ suc (level - (done + 1)) = omega arith in
-    ap (λ n. enc (repeated n (chars bs))) e ∙ encodes-append (chars bs) r ∙ ap (λ w. w ++ enc r) (encodes-chars bs u)
 
 pub some_members : (es : List (String Global × JsonValue)) (b : Bool) → (length es ≡ 0 → b ≡ true) → b ≡ false
     → has_no_members (members_view es) ≡ false

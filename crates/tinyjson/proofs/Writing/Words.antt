@@ -1,18 +1,14 @@
 -- The bytes of words, and of containers that are empty.
-use Rattle.std.proofs.Common.{◌≡◌, ℕ, Bool, true, false, Option, None, Some, List, [], ◌∷◌, length, Result, Bor, refl, sym, ◌∙◌, ap, subst}
-use Rattle.std.proofs.Common.{arith, ◌<◌, String, Global}
+use Rattle.std.proofs.Common.{◌≡◌, ℕ, Bool, true, false, Option, List, [], ◌∷◌, length, refl, sym, ◌∙◌, ap, subst}
+use Rattle.std.proofs.Common.{arith, String, Global}
 use Rattle.tinyjson.specs.declared.value.JsonValue.{JsonValue}
 use Rattle.tinyjson.specs.declared.value.JsonValue.TheVariants as is
-use Rattle.tinyjson.specs.Indent.{indent_of}
 use Rattle.tinyjson.specs.View.{view, items_view, members_view}
-use Rattle.tinyjson_grammar.specs.Text.{text, after_colon, has_no_items, has_no_members}
+use Rattle.tinyjson_grammar.specs.Text.{text, has_no_items, has_no_members}
 use Rattle.tinyjson_grammar.specs.Tree.{Items, no_items, item, Members, no_members, member, array, object}
-use Rattle.tinyjson_output.specs.Buffer.{Output, SentPart, SendsFrom}
-use Rattle.tinyjson_output.proofs.Callers.{enc, enc_cons}
+use Rattle.tinyjson_output.specs.Buffer.{Output, SentPart}
+use Rattle.tinyjson_output.proofs.Callers.{enc, enc_cons, two_bytes}
 use Rattle.tinyjson.proofs.Values.View.{view_Boolean}
-
-two_bytes : (a b : ℕ) → a < 128 → b < 128 → enc (a ∷ b ∷ []) ≡ a ∷ b ∷ []
-two_bytes a b h k = enc_cons a (b ∷ []) h ∙ ap (λ z. a ∷ z) (enc_cons b [] k)
 
 true_bytes : enc (116 ∷ 114 ∷ 117 ∷ 101 ∷ []) ≡ 116 ∷ 114 ∷ 117 ∷ 101 ∷ []
 true_bytes =
@@ -48,16 +44,6 @@ module _ (w : Option (List ℕ)) (k : ℕ) where
   empty_object [] h = empty_members no_members refl
   empty_object (e ∷ es) h = absurd (omega arith)
 
-pub colon_alone : (o : Option (Bor (List ℕ))) → o ≡ None → enc (58 ∷ after_colon (indent_of o)) ≡ 58 ∷ []
-colon_alone o e = ap (λ z. enc (58 ∷ after_colon (indent_of z))) e ∙ enc_cons 58 [] (omega arith)
-
-pub colon_spaced : (o : Option (Bor (List ℕ))) (i : Bor (List ℕ)) → o ≡ Some i → enc (58 ∷ after_colon (indent_of o)) ≡ 58 ∷ 32 ∷ []
-colon_spaced o i e = ap (λ z. enc (58 ∷ after_colon (indent_of z))) e ∙ two_bytes 58 32 (omega arith) (omega arith)
-
 -- the same bytes are sent
 pub part_same : {old new : Output} {bs cs : List ℕ} → bs ≡ cs → SentPart old new cs → SentPart old new bs
 part_same {old} {new} e h = subst (SentPart old new) (sym e) h
-
-pub sends_same : {T E : Type 0} (old new : Output) (bs cs : List ℕ) (r : Result T E) → bs ≡ cs → SendsFrom old new cs r
-    → SendsFrom old new bs r
-sends_same old new bs cs r e h = subst (λ b. SendsFrom old new b r) (sym e) h

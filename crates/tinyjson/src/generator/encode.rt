@@ -1,5 +1,5 @@
 //! Values, compact and indented.
-ghost use Rattle.std.specs.Prelude.{◌≡◌, ◌++◌, ◌∷◌, ◌+◌, ◌-◌, ◌<◌, ◌≤◌, ℕ, [], None, Some};
+ghost use Rattle.std.specs.Prelude.{◌≡◌, ◌++◌, ◌∷◌, ◌+◌, ◌-◌, ◌<◌, ◌≤◌, ℕ, [], None};
 ghost use Rattle.std.specs.Prelude.{IsErr, IsOk, MatchResult, length, take, drop};
 ghost use Rattle.std.specs.Str.{chars, encode_utf8_all};
 ghost use Rattle.tinyjson_grammar.specs.Characters.{name_separator};
@@ -24,7 +24,10 @@ use crate::value::JsonValue;
 use std::alloc::Global;
 use std::collections::HashMap;
 use std::io::{self, Write};
-use tinyjson_output::{Buffer, flush, quick_key, quote, write_bytes, write_number};
+use tinyjson_output::{
+    Buffer, flush, quick_key, quote, separate, write_bytes, write_colon, write_newline,
+    write_number,
+};
 
 /// Writes the text of the value, by way of a buffer that is flushed at the end. After an error a
 /// prefix of the text is written.
@@ -405,10 +408,7 @@ impl<'a> Encoder<'a> {
             (before (indent_of self.old.indent) level first) result }
         ensures kept { OnlyBuffers self.old self.new }
     {
-        if !first {
-            write_bytes(out, &mut self.buffer, b",")?;
-        }
-        self.newline(out, level)
+        separate(out, &mut self.buffer, self.indent, level, first)
     }
 
     #[inline(always)]
@@ -417,10 +417,7 @@ impl<'a> Encoder<'a> {
             (newline (indent_of self.old.indent) level) result }
         ensures kept { OnlyBuffers self.old self.new }
     {
-        match self.indent {
-            None => Ok(()),
-            Some(indent) => write_line(out, &mut self.buffer, indent, level),
-        }
+        write_newline(out, &mut self.buffer, self.indent, level)
     }
 
     #[inline(always)]
@@ -429,10 +426,7 @@ impl<'a> Encoder<'a> {
             (name_separator ∷ after_colon (indent_of self.old.indent)) result }
         ensures kept { OnlyBuffers self.old self.new }
     {
-        match self.indent {
-            None => write_bytes(out, &mut self.buffer, b":"),
-            Some(_) => write_bytes(out, &mut self.buffer, b": "),
-        }
+        write_colon(out, &mut self.buffer, self.indent)
     }
 }
 
@@ -443,24 +437,6 @@ fn complete<'a>(written: io::Result<()>) -> io::Result<Option<Frame<'a>>>
 {
     written?;
     Ok(None)
-}
-
-/// Writes a line feed, and the indent of the next line.
-#[inline(never)]
-fn write_line<W: Write>(
-    out: &mut W,
-    buffer: &mut Buffer,
-    indent: &str,
-    level: usize,
-) -> io::Result<()>
-    ensures { SendsText W.contents out.old out.new buffer.old buffer.new
-        (newline (Some (chars indent.now)) level) result }
-{
-    write_bytes(out, buffer, b"\n")?;
-    for _level in 0..level {
-        write_bytes(out, buffer, indent.as_bytes())?;
-    }
-    Ok(())
 }
 
 fn write_boolean<W: Write>(out: &mut W, buffer: &mut Buffer, value: bool) -> io::Result<()>

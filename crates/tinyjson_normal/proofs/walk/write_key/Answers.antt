@@ -1,9 +1,9 @@
-use Rattle.std.proofs.Common.{◌≡◌, ℕ, Bool, List, [], ◌∷◌, ◌++◌, ◌∙◌, ap, arith}
-use Rattle.tinyjson_grammar.specs.Text.{quoted, separator}
+use Rattle.std.proofs.Common.{◌∷◌}
+use Rattle.std.proofs.lemmas.Str.{encodes-append}
+use Rattle.tinyjson.specs.Indent.{indent_of}
+use Rattle.tinyjson_grammar.specs.Text.{quoted, after_colon}
 use Rattle.tinyjson_output.proofs.Callers.{
   enc,
-  enc_cons,
-  three,
   sent_ends as ends,
   sent_fails as fails,
   sent_goes as goes,
@@ -11,22 +11,14 @@ use Rattle.tinyjson_output.proofs.Callers.{
 }
 use Rattle.tinyjson_normal.proofs.walk.write_key.Goals as goal
 
-pieces : (first : Bool) (cs : List ℕ) → enc (separator first ++ (quoted cs ++ 58 ∷ [])) ≡ enc (separator first) ++ (enc
-    (quoted cs) ++ 58 ∷ [])
-pieces first cs = three (separator first) (quoted cs) (58 ∷ [])
-    ∙ ap (λ z. enc (separator first) ++ (enc (quoted cs) ++ z)) (enc_cons 58 [] (omega arith))
-
-pub returns-in_err-separate : goal.returns-in_err-separate
-returns-in_err-separate g c = λ cs h.
-    fails _ (enc (quoted cs) ++ 58 ∷ []) c.from_residual.ensures.0 c.in_err-separate.ensures (written_none _ _ _
-    (pieces c.args.first cs))
-
 pub returns-in_err-write_text : goal.returns-in_err-write_text
 returns-in_err-write_text g c = λ cs h.
-    fails _ (58 ∷ []) c.from_residual-in_err-write_text.ensures.0 (c.in_err-write_text.ensures cs h)
-    (goes (enc (quoted cs) ++ 58 ∷ []) c.in_ok-separate.ensures (written_none _ _ _ (pieces c.args.first cs)))
+    let colon = 58 ∷ after_colon (indent_of c.args.indent) in
+    fails _ (enc colon) c.from_residual.ensures.0 (c.in_err-write_text.ensures cs h) (written_none _ _ _
+    (encodes-append (quoted cs) colon))
 
 pub returns : goal.returns
 returns g c = λ cs h.
-    ends _ _ _ _ _ _ c.write_bytes.ensures (goes (58 ∷ []) (c.in_ok-write_text.ensures cs h)
-    (goes (enc (quoted cs) ++ 58 ∷ []) c.in_ok-separate.ensures (written_none _ _ _ (pieces c.args.first cs))))
+    let colon = 58 ∷ after_colon (indent_of c.args.indent) in
+    ends _ _ _ _ _ _ c.write_colon.ensures (goes (enc colon) (c.in_ok-write_text.ensures cs h) (written_none _ _ _
+    (encodes-append (quoted cs) colon)))

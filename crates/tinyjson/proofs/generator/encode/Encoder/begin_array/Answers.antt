@@ -5,9 +5,9 @@ use Rattle.tinyjson.specs.private.Encoding.{gathered_in}
 use Rattle.tinyjson.specs.View.{items_view}
 use Rattle.tinyjson_grammar.specs.Text.{has_no_items}
 use Rattle.tinyjson.specs.declared.generator.frames.Frame.TheVariants.{Items}
-use Rattle.tinyjson_output.proofs.Callers.{sent_stops as stops, sent_written_none as written_none}
+use Rattle.tinyjson_output.proofs.Callers.{sends_same, sent_stops as stops, sent_written_none as written_none}
 use Rattle.tinyjson.proofs.Writing.Text.{no_items_is}
-use Rattle.tinyjson.proofs.Writing.Words.{empty_array, sends_same}
+use Rattle.tinyjson.proofs.Writing.Words.{empty_array}
 use Rattle.tinyjson.proofs.Writing.Containers.{array_begins, is_compact}
 use Rattle.tinyjson.proofs.Writing.Runs.{array_run, array_end, closed_at_once, complete_at_once}
 use Rattle.tinyjson.proofs.generator.encode.Encoder.begin_array.Goals as goal

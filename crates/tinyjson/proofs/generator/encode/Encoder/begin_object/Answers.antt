@@ -6,9 +6,9 @@ use Rattle.tinyjson.specs.private.Encoding.{Opened, gathered_in}
 use Rattle.tinyjson_grammar.specs.Text.{text}
 use Rattle.tinyjson_grammar.specs.Tree.{object}
 use Rattle.tinyjson_output.specs.Buffer.{buffered}
-use Rattle.tinyjson_output.proofs.Callers.{enc}
+use Rattle.tinyjson_output.proofs.Callers.{enc, sends_same}
 use Rattle.tinyjson.proofs.Writing.Containers.{object_stops, object_ungathered, members_open, member_opens, is_compact}
-use Rattle.tinyjson.proofs.Writing.Words.{empty_object, sends_same}
+use Rattle.tinyjson.proofs.Writing.Words.{empty_object}
 use Rattle.tinyjson.proofs.Writing.Runs.{members_run, member_run, only_member_buffered, object_end, closed_at_once, complete_at_once}
 use Rattle.tinyjson.specs.declared.generator.frames.Frame.TheVariants.{Member, Members}
 use Rattle.tinyjson.proofs.generator.encode.Encoder.begin_object.Given.{Over}

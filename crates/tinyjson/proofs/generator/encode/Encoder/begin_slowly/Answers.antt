@@ -1,9 +1,8 @@
 use Rattle.std.proofs.Common.{refl}
 use Rattle.tinyjson.specs.Indent.{indent_of}
-use Rattle.tinyjson_output.proofs.Callers.{null_bytes}
+use Rattle.tinyjson_output.proofs.Callers.{null_bytes, sends_same}
 use Rattle.tinyjson.proofs.Values.View.{view_Null, view_Boolean, view_Number, view_Array, view_String, view_Object}
 use Rattle.tinyjson.proofs.Writing.Runs.{complete_at_once}
-use Rattle.tinyjson.proofs.Writing.Words.{sends_same}
 use Rattle.tinyjson.proofs.generator.encode.Encoder.begin_slowly.Goals as goal
 
 pub returns-in-Null-clause-sent : goal.returns-in-Null-clause-sent

@@ -2,7 +2,7 @@ use Rattle.std.proofs.Common.{◌-◌, Some}
 use Rattle.std.specs.Str.{encode_utf8_all, chars}
 use Rattle.tinyjson_output.specs.Buffer.{buffered, Sent}
 use Rattle.tinyjson_grammar.specs.Text.{newline, repeated}
-use Rattle.tinyjson.proofs.generator.encode.write_line.Given as goal
+use Rattle.tinyjson_output.proofs.layout.begin_line.Given as goal
 
 abbrev pub invariant-loop-level : goal.invariant-loop-level
 invariant-loop-level g l =

@@ -1,9 +1,9 @@
 use Rattle.std.proofs.Common.{◌≡◌, ◌+◌, ◌-◌, arith}
 use Rattle.std.specs.Str.{chars}
 use Rattle.tinyjson_grammar.specs.Text.{repeated}
-use Rattle.tinyjson_output.proofs.Callers.{sent_goes as goes, sent_fails as fails, sent_written_none as written_none, enc, enc_cons}
-use Rattle.tinyjson.proofs.Writing.Text.{line_here}
-use Rattle.tinyjson.proofs.generator.encode.write_line.Goals as goal
+use Rattle.tinyjson_output.proofs.Bytes.{enc, enc_cons, line_here}
+use Rattle.tinyjson_output.proofs.Sending.{goes, fails, written_none}
+use Rattle.tinyjson_output.proofs.layout.begin_line.Goals as goal
 
 pub returns-in_err-write_bytes : goal.returns-in_err-write_bytes
 returns-in_err-write_bytes g c =
