@@ -4,11 +4,7 @@ use Rattle.std.specs.Prelude.{option_and_then}
 use Rattle.i_regexp.specs.Grammar.{Token, characters, opened, closed, bar, quantifier, Regexp, last, branches, Branch, nothing, pieces}
 use Rattle.i_regexp.specs.Grammar.{Piece, once, times, Atom, character, group, regexp_tokens, branch_tokens, piece_tokens, atom_tokens}
 use Rattle.i_regexp.specs.Levels.{Level, level, State, fresh, settled, with_atom, branch_of, regexp_from, barred, regexp_of, quantified}
-use Rattle.i_regexp.specs.Levels.{in_state, close, advance}
-
-abbrev pub run : State → List Token → Option State
-run s [] = Some s
-run s (t ∷ ts) = option_and_then (λ s'. run s' ts) (advance s t)
+use Rattle.i_regexp.specs.Levels.{in_state, close, advance, run}
 
 -- ---- the tokens that were taken
 

@@ -10,11 +10,11 @@ use Rattle.i_regexp.specs.Building.{Means}
 use Rattle.i_regexp.specs.Fronts.{token_front}
 use Rattle.i_regexp.specs.Grammar as is
 use Rattle.i_regexp.specs.Grammar.{Token, Spells, Spelled, Regexp, regexp_tokens, regexp_form, IsText}
-use Rattle.i_regexp.specs.Levels.{Level, State, fresh, regexp_of, advance, StandsAt, Outer, Agrees, state_size}
+use Rattle.i_regexp.specs.Levels.{Level, State, fresh, regexp_of, advance, run, StandsAt, Outer, Agrees, state_size}
 use Rattle.i_regexp.proofs.Levels.{outer_none}
 use Rattle.i_regexp.proofs.Lexing.{spells_some, front_sound, front_complete}
 use Rattle.i_regexp.specs.Limits.{size_limit, regexp_size}
-use Rattle.i_regexp.proofs.Machine.{run, machine_sound, machine_complete}
+use Rattle.i_regexp.proofs.Machine.{machine_sound, machine_complete}
 use Rattle.i_regexp.proofs.Sizes.{fresh_sized, regexp_of_size, run_grows}
 
 -- ---- tokens, one after the other
@@ -35,13 +35,13 @@ front_shorter xs t ys e =
     let sum = length-append f.cs ys in
     omega arith
 
-lexes_spelled : {xs zs : List ℕ} {ts : List Token} → Lexes xs ts zs → zs ≡ [] → Spelled xs ts
+pub lexes_spelled : {xs zs : List ℕ} {ts : List Token} → Lexes xs ts zs → zs ≡ [] → Spelled xs ts
 lexes_spelled stop e = subst (λ xs. Spelled xs []) (sym e) is.none
 lexes_spelled (go {xs} {ys} {zs} {t} {ts} f k) e =
     let s = front_sound xs t ys f in
     subst (λ cs. Spelled cs (t ∷ ts)) (sym s.split) (is.more s.spelled (lexes_spelled k e))
 
-spelled_lexes : {xs : List ℕ} {ts : List Token} → Spelled xs ts → Lexes xs ts []
+pub spelled_lexes : {xs : List ℕ} {ts : List Token} → Spelled xs ts → Lexes xs ts []
 spelled_lexes is.none = stop
 spelled_lexes (is.more {cs} {ds} {t} {ts} s k) = go (front_complete cs t s ds) (spelled_lexes k)
 
@@ -50,7 +50,7 @@ record Rest (us ts : List Token) (ys : List ℕ) : Type 0 where
   split : us ≡ ts ++ rest
   lexed : Lexes ys rest []
 
-some_same : {A : Type 0} {x y : A} → Some x ≡ Some y → x ≡ y
+pub some_same : {A : Type 0} {x y : A} → Some x ≡ Some y → x ≡ y
 some_same h = cc
 
 pub token_same : {a b : Token} {c d : List ℕ} → ◌≡◌ {A = Option (Token × List ℕ)} (Some (a, c)) (Some (b, d)) → a ≡ b

@@ -10,11 +10,11 @@ use Rattle.i_regexp.specs.Fronts.{Fronts, token_front, token_of}
 use Rattle.i_regexp.specs.Grammar as is
 use Rattle.i_regexp.specs.Grammar.{Token, characters, opened, closed, bar, quantifier, Spells, Spelled, Regexp, regexp_tokens, IsText}
 use Rattle.i_regexp.specs.Levels.{Level, State, fresh, with_atom, regexp_of, quantified, in_state, advance, Outer, Agrees, Takes}
-use Rattle.i_regexp.specs.Levels.{state_size}
+use Rattle.i_regexp.specs.Levels.{run, state_size}
 use Rattle.i_regexp.specs.Limits.{depth_limit, size_limit, LargeCount, begins_group, ends_group, begun_groups, ended_groups}
 use Rattle.i_regexp.specs.Reading.{Begins, Stops, OpensTooMany, GrowsTooLarge, Says, Refused}
 use Rattle.i_regexp.proofs.Lexing.{spells_some, front_sound, front_complete}
-use Rattle.i_regexp.proofs.Machine.{run, machine_sound}
+use Rattle.i_regexp.proofs.Machine.{machine_sound}
 use Rattle.i_regexp.proofs.Reading.{Lexes, stop, go, Reading, run_append, goes_large}
 use Rattle.i_regexp.proofs.Reading.{some_none, none_some, token_same, no_front, no_advance, no_end}
 

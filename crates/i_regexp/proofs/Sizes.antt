@@ -6,9 +6,8 @@ use Rattle.i_regexp.specs.declared.reader.Level.{Level as CodeLevel}
 use Rattle.i_regexp.specs.Grammar.{Token, characters, opened, closed, bar, quantifier, Branch, Piece, once, times, Atom, character, group}
 use Rattle.i_regexp.specs.Levels.{Level, level, State, fresh, settled, with_atom, branch_of, regexp_from, barred, regexp_of, quantified}
 use Rattle.i_regexp.specs.Levels.{in_state, advance, pieces_size, end_size, branches_size, level_size, outer_size, state_size}
-use Rattle.i_regexp.specs.Levels.{LastSized, IsSized}
+use Rattle.i_regexp.specs.Levels.{LastSized, IsSized, run}
 use Rattle.i_regexp.specs.Limits.{size_limit, repeated, regexp_size, branch_size, piece_size, atom_size}
-use Rattle.i_regexp.proofs.Machine.{run}
 
 pieces_push : (ps : List Piece) (p : Piece) → pieces_size (ps ++ p ∷ []) ≡ pieces_size ps + piece_size p
 pieces_push [] p = omega arith

@@ -1,5 +1,6 @@
 -- The machine that reads tokens; only private contracts use these words.
-use Rattle.std.specs.Prelude.{◌≡◌, ℕ, suc, ◌+◌, ◌≤◌, ◌<◌, List, [], ◌∷◌, ◌++◌, length, map, Option, Some, None, Result, Ok, Err}
+use Rattle.std.specs.Prelude.{◌≡◌, ℕ, suc, ◌+◌, ◌≤◌, ◌<◌, List, [], ◌∷◌, ◌++◌, length, map, Option, Some, None}
+use Rattle.std.specs.Prelude.{option_and_then, Result, Ok, Err}
 use Rattle.i_regexp.specs.declared.error.IRegexpErrorKind.{IRegexpErrorKind}
 use Rattle.i_regexp.specs.declared.error.IRegexpErrorKind.TheVariants as kind
 use Rattle.i_regexp.specs.declared.marked.Node.{Node}
@@ -75,6 +76,11 @@ advance s opened = Some (fresh, s.0 ∷ s.1)
 advance s closed = close s.0 s.1
 advance s bar = Some (barred s.0, s.1)
 advance s (quantifier least most) = in_state s.1 (quantified s.0 least most)
+
+-- the tokens are read, one after the other
+abbrev pub run : State → List Token → Option State
+run s [] = Some s
+run s (t ∷ ts) = option_and_then (λ s'. run s' ts) (advance s t)
 
 -- ---- how much was read
 

@@ -6,6 +6,7 @@ pub mod Grammar
 pub mod Limits
 pub mod Fronts
 pub mod Levels
+pub mod Deciding
 pub mod Message
 pub mod Reading
 pub mod Regexps

@@ -1,0 +1,71 @@
+-- Lemmas for crates that call this one.
+use Rattle.std.proofs.Common.{◌≡◌, ◌↔◌, ℕ, Bool, true, false, IsTrue, List, refl, sym, subst, true≢false}
+use Rattle.i_regexp.specs.declared.error.IRegexpError.{IRegexpError}
+use Rattle.i_regexp.specs.declared.error.IRegexpErrorKind.TheVariants.{Invalid}
+use Rattle.i_regexp.specs.declared.regexp.IRegexp.{IRegexp}
+use Rattle.i_regexp.specs.Deciding.{matches, searches, pattern_matches, pattern_searches}
+use Rattle.i_regexp.specs.Forms.{Form, Matches, Searches}
+use Rattle.i_regexp.specs.Grammar.{Regexp, IsText, regexp_form}
+use Rattle.i_regexp.specs.Reading.{Says, Refused}
+use Rattle.i_regexp.specs.Regexps.{form_in, IsReading}
+use Rattle.i_regexp.proofs.Deciding.{matches_decides, searches_decides}
+pub use Rattle.i_regexp.proofs.Deciding.{pattern_matches_sound, pattern_matches_complete}
+pub use Rattle.i_regexp.proofs.Deciding.{pattern_searches_sound, pattern_searches_complete}
+
+same_answer : {A : Type 0} (b c : Bool) → (IsTrue b → A) → (A → IsTrue b) → (IsTrue c → A) → (A → IsTrue c) → b ≡ c
+same_answer true c k l m n = sym (n (k refl))
+same_answer false true k l m n = l (m refl)
+same_answer false false k l m n = refl
+
+-- an answer to whether a text is matched, as the test
+pub matched_as : (f : Form) (cs : List ℕ) (b : Bool) → (IsTrue b ↔ Matches f cs) → b ≡ matches f cs
+matched_as f cs b h =
+    let d = matches_decides f in same_answer b (matches f cs) h.0 h.1 (d.sound cs) (d.complete cs)
+
+pub searched_as : (f : Form) (cs : List ℕ) (b : Bool) → (IsTrue b ↔ Searches f cs) → b ≡ searches f cs
+searched_as f cs b h =
+    let d = searches_decides f in same_answer b (searches f cs) h.0 h.1 (d.sound cs) (d.complete cs)
+
+-- what a text that was read matches is what the text says
+pub reads_matches : (ps cs : List ℕ) (x : IRegexp) → IsReading ps x → pattern_matches ps cs ≡ matches (form_in x) cs
+reads_matches ps cs x r =
+    let d = matches_decides (form_in x) in
+    same_answer (pattern_matches ps cs) (matches (form_in x) cs)
+    (λ t. let k = pattern_matches_sound ps cs t in
+    (r.same cs).1 (subst (λ q. Matches (regexp_form q) cs) (r.only k.regexp k.text) k.matched))
+    (λ m. pattern_matches_complete ps cs (record { regexp = r.regexp; text = r.text; matched = (r.same cs).0 m }))
+    (d.sound cs) (d.complete cs)
+
+pub reads_searches : (ps cs : List ℕ) (x : IRegexp) → IsReading ps x → pattern_searches ps cs ≡ searches (form_in x) cs
+reads_searches ps cs x r =
+    let d = searches_decides (form_in x) in
+    same_answer (pattern_searches ps cs) (searches (form_in x) cs)
+    (λ t. let k = pattern_searches_sound ps cs t in let m = k.matched in record {
+      before = m.before;
+      part = m.part;
+      after = m.after;
+      split = m.split;
+      matched = (r.same m.part).1 (subst (λ q. Matches (regexp_form q) m.part) (r.only k.regexp k.text) m.matched);
+    })
+    (λ s. pattern_searches_complete ps cs (record {
+      regexp = r.regexp;
+      text = r.text;
+      matched =
+          record { before = s.before; part = s.part; after = s.after; split = s.split; matched = (r.same s.part).0 s.matched };
+    }))
+    (d.sound cs) (d.complete cs)
+
+-- what is no regular expression matches nothing
+pub nothing_matches : (ps cs : List ℕ) → ((r : Regexp) → IsText ps r → ⊥) → pattern_matches ps cs ≡ false
+nothing_matches ps cs n =
+    same_answer (pattern_matches ps cs) false (λ t. let m = pattern_matches_sound ps cs t in n m.regexp m.text) (λ k. absurd k)
+    (λ t. true≢false (sym t)) (λ k. absurd k)
+
+pub nothing_searches : (ps cs : List ℕ) → ((r : Regexp) → IsText ps r → ⊥) → pattern_searches ps cs ≡ false
+nothing_searches ps cs n =
+    same_answer (pattern_searches ps cs) false (λ t. let m = pattern_searches_sound ps cs t in n m.regexp m.text) (λ k. absurd k)
+    (λ t. true≢false (sym t)) (λ k. absurd k)
+
+-- what is refused as invalid is no regular expression
+pub refused_invalid : (ps : List ℕ) (e : IRegexpError) → Refused ps e → e.kind ≡ Invalid → (r : Regexp) → IsText ps r → ⊥
+refused_invalid ps e f k = (subst (Says ps f.front f.tokens f.rest) k f.says).0
