@@ -241,6 +241,9 @@ REFUSED = [
     ('{"maxContains":-1}', "/maxContains"), ('{"maxContains":"1"}', "/maxContains"), ('{"contains":{},"maxContains":15e-1}', "/maxContains"),
     ('{"propertyNames":[]}', "/propertyNames"), ('{"propertyNames":{"pattern":"a"}}', "/propertyNames/pattern"),
     ('{"title":1}', "/title"), ('{"deprecated":"yes"}', "/deprecated"), ('{"examples":{}}', "/examples"), ('{"format":1}', "/format"),
+    ('{"$comment":1}', "/$comment"), ('{"description":["a"]}', "/description"), ('{"readOnly":0}', "/readOnly"), ('{"writeOnly":null}', "/writeOnly"),
+    ('{"contentEncoding":64}', "/contentEncoding"), ('{"contentMediaType":{}}', "/contentMediaType"), ('{"examples":"a"}', "/examples"), ('{"deprecated":1}', "/deprecated"),
+    ('{"$defs":{"a":{"$comment":null}}}', "/$defs/a/$comment"), ('{"not":{"title":false}}', "/not/title"), ('{"maxProperties":"1"}', "/maxProperties"),
     ('{"contentSchema":{"type":"any"}}', "/contentSchema/type"), ('{"$id":1}', "/$id"),
     ('{"properties":{"x\\n\\u001b[2J":0}}', "/properties/xU+000AU+001B[2J"),
 ]
