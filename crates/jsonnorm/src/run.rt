@@ -2,9 +2,10 @@
 ghost use Rattle.std.specs.Prelude.{◌<◌, ◌∷◌, [], IfOk, None, Some, vec_len};
 ghost use Rattle.std.specs.Str.{chars};
 ghost use Rattle.tinyjson.specs.Characters.{line_feed};
-ghost use Rattle.tinyjson.specs.Parser.{ParsesText};
-ghost use Rattle.tinyjson.specs.View.{view};
+ghost use Rattle.tinyjson.specs.Events.{TellsText};
+ghost use Rattle.tinyjson.specs.Tree.{Tree};
 ghost use Rattle.tinyjson.specs.Written.{WritesPrefix, WritesText};
+ghost use Rattle.tinyjson_normal.specs.Normal.{HasTree};
 ghost use Rattle.jsonnorm.specs.Input.{ReadsToEnd};
 ghost use Rattle.jsonnorm.specs.Run.{Runs, line_of, normal_text};
 
@@ -13,7 +14,8 @@ use json_line::write_all;
 use std::alloc::{AllocError, Global};
 use std::io::{self, ErrorKind, Read, Write};
 use std::{mem, str};
-use tinyjson::{JsonParseResult, JsonValue};
+use tinyjson::JsonParseError;
+use tinyjson_normal::NormalText;
 
 /// How many bytes are asked for at once.
 const PIECE_LEN: usize = 65_536;
@@ -36,7 +38,7 @@ pub struct Options {
 /// All is read and parsed before anything is written. After an error of writing a prefix of the
 /// line is written, and nothing is flushed.
 ///
-/// The memory of the value is not given back: the program ends soon after.
+/// No value is built. The memory of what was read is not given back: the program ends soon after.
 ///
 /// ```
 /// let mut output = Vec::new(alloc);
@@ -84,15 +86,18 @@ fn normalize<R: Read, W: Write>(
         return Err(RunFault::NotUtf8);
     };
     let parsed = parse(alloc, text, options.limit);
-    // The value alone is needed from here on.
+    // What was read of it is all that is needed from here on.
     drop(bytes);
     match parsed {
         Err(error) => Err(refusal(error)),
-        Ok(value) => {
-            let written = write_line(alloc, output, &value, options.indented);
-            // The program ends soon, and walking the value only to free it would cost time.
-            mem::forget(value);
-            written.map_err(writing_error)
+        Ok(normal) => {
+            let written = write_line(alloc, output, &normal, options.indented);
+            // The program ends soon, and walking the numbers only to free them would cost time.
+            mem::forget(normal);
+            match written {
+                Ok(()) => Ok(()),
+                Err(error) => Err(writing_error(error)),
+            }
         }
     }
 }
@@ -126,41 +131,42 @@ fn new_piece(alloc: Global) -> Result<Vec<u8>, AllocError>
     vec![in alloc; 0; PIECE_LEN]
 }
 
-fn parse(alloc: Global, text: &str, limit: Option<usize>) -> JsonParseResult
-    ensures { ParsesText limit (chars text.now) result }
+fn parse(alloc: Global, text: &str, limit: Option<usize>) -> Result<NormalText, JsonParseError>
+    ensures { TellsText HasTree limit (chars text.now) result }
 {
     match limit {
-        None => JsonValue::from_str(alloc, text),
-        Some(limit) => JsonValue::from_str_with_depth_limit(alloc, text, limit),
+        None => NormalText::read(alloc, text),
+        Some(limit) => NormalText::read_with_depth_limit(alloc, text, limit),
     }
 }
 
-/// Writes the text of the value and a line feed, and ends with the first error.
+/// Writes the text of what was read and a line feed, and ends with the first error.
 fn write_line<W: Write>(
     alloc: Global,
     output: &mut W,
-    value: &JsonValue,
+    normal: &NormalText,
     indented: bool,
 ) -> io::Result<()>
-    ensures { WritesPrefix (W.contents output.old) (W.contents output.new)
-        (line_of indented (view value.now)) result }
+    ensures { (t : Tree) → HasTree normal.now t →
+        WritesPrefix (W.contents output.old) (W.contents output.new) (line_of indented t) result }
 {
-    write_text(alloc, output, value, indented)?;
+    write_text(alloc, output, normal, indented)?;
     write_all(output, b"\n")
 }
 
 fn write_text<W: Write>(
     alloc: Global,
     output: &mut W,
-    value: &JsonValue,
+    normal: &NormalText,
     indented: bool,
 ) -> io::Result<()>
-    ensures { WritesText (W.contents output.old) (W.contents output.new)
-        (normal_text indented (view value.now)) result }
+    ensures { (t : Tree) → HasTree normal.now t →
+        WritesText (W.contents output.old) (W.contents output.new)
+        (normal_text indented t) result }
 {
     if indented {
-        value.format_to(alloc, output)
+        normal.format_to(alloc, output)
     } else {
-        value.write_to(alloc, output)
+        normal.write_to(alloc, output)
     }
 }
