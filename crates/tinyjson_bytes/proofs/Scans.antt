@@ -77,8 +77,7 @@ each_byte f p all (x ∷ xs) fits = ap₂ (λ a b. a ∷ b) (same_is _ _ (upto_s
 
 -- a mask that is computed lane by lane is that of a test, as each of the 256 bytes shows
 pub masked : (f : ℕ → ℕ) (p : ℕ → Bool) (v z : List ℕ) → length v ≤ 64 → Each1 (Fits w8) v → z ≡ map f v
-    → T (upto (λ x. same (top 7 (f x)) (p x)) 256)
-    → mask_l (map (top 7) z) % 2 ^ 64 ≡ mask_l (map p v)
+    → T (upto (λ x. same (top 7 (f x)) (p x)) 256) → mask_l (map (top 7) z) % 2 ^ 64 ≡ mask_l (map p v)
 masked f p v z short fits e all =
     ap (λ l. mask_l l % 2 ^ 64) (ap (map (top 7)) e ∙ each_byte f p all v fits) ∙ mask_l-mod (map p v) 64 (omega (arith, length-map v p))
 

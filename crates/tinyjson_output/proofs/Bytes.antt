@@ -26,8 +26,7 @@ pub two_bytes : (a b : ℕ) → a < 128 → b < 128 → enc (a ∷ b ∷ []) ≡
 two_bytes a b h k = enc_cons a (b ∷ []) h ∙ ap (λ z. a ∷ z) (enc_cons b [] k)
 
 pub null_bytes : enc (110 ∷ 117 ∷ 108 ∷ 108 ∷ []) ≡ 110 ∷ 117 ∷ 108 ∷ 108 ∷ []
-null_bytes =
-    enc_cons 110 (117 ∷ 108 ∷ 108 ∷ []) (omega arith) ∙ ap (λ z. 110 ∷ z) (enc_cons 117 (108 ∷ 108 ∷ []) (omega arith)
+null_bytes = enc_cons 110 (117 ∷ 108 ∷ 108 ∷ []) (omega arith) ∙ ap (λ z. 110 ∷ z) (enc_cons 117 (108 ∷ 108 ∷ []) (omega arith)
     ∙ ap (λ z. 117 ∷ z) (enc_cons 108 (108 ∷ []) (omega arith) ∙ ap (λ z. 108 ∷ z) (enc_cons 108 [] (omega arith))))
 
 -- one more indent of a line

@@ -8,8 +8,7 @@ use Rattle.std.proofs.lemmas.Int.{ints}
 
 -- the digits of a number
 pub natural_more : (n : ℕ) → 10 ≤ n → n < 2 ^ 128 → natural_text n ≡ natural_text (n / 10) ++ (48 + n % 10) ∷ []
-natural_more n h s =
-    natural_decimal n (omega arith) ∙ decimal_step_wide n h (omega arith)
+natural_more n h s = natural_decimal n (omega arith) ∙ decimal_step_wide n h (omega arith)
     ∙ ap (λ w. w ++ (48 + n % 10) ∷ []) (sym (natural_decimal (n / 10) (omega arith)))
 
 pub natural_one : (n : ℕ) → n < 10 → natural_text n ≡ (48 + n % 10) ∷ []

@@ -82,8 +82,7 @@ pub two_ascii : (a b : ℕ) → a < 128 → b < 128 → IsAscii (a ∷ b ∷ [])
 two_ascii a b h k = IsAscii-cons a (b ∷ []) h (IsAscii-cons b [] k IsAscii-nil)
 
 hex_ascii : (a b : ℕ) → a < 128 → b < 128 → IsAscii (92 ∷ 117 ∷ 48 ∷ 48 ∷ a ∷ b ∷ [])
-hex_ascii a b h k =
-    IsAscii-append (92 ∷ 117 ∷ []) (48 ∷ 48 ∷ a ∷ b ∷ []) (two_ascii 92 117 (lit< tt) (lit< tt))
+hex_ascii a b h k = IsAscii-append (92 ∷ 117 ∷ []) (48 ∷ 48 ∷ a ∷ b ∷ []) (two_ascii 92 117 (lit< tt) (lit< tt))
     (IsAscii-append (48 ∷ 48 ∷ []) (a ∷ b ∷ []) (two_ascii 48 48 (lit< tt) (lit< tt)) (two_ascii a b h k))
 
 pub escape_ascii : (c : ℕ) → c < 128 → IsAscii (escape c)
@@ -91,12 +90,9 @@ escape_ascii c h =
     let short : (d : ℕ) → d < 128 → IsAscii (92 ∷ d ∷ []) = λ d l. two_ascii 92 d (lit< tt) l in
     let hex = hex_ascii (digit_char (c / 16)) (digit_char (c % 16)) (digit_ascii (c / 16) (omega arith))
     (digit_ascii (c % 16) (omega arith)) in
-    cond_both (c == 8) _ _ IsAscii (λ _. short 98 (lit< tt)) (λ _.
-    cond_both (c == 9) _ _ IsAscii (λ _. short 116 (lit< tt)) (λ _.
-    cond_both (c == 10) _ _ IsAscii (λ _. short 110 (lit< tt)) (λ _.
-    cond_both (c == 12) _ _ IsAscii (λ _. short 102 (lit< tt)) (λ _.
-    cond_both (c == 13) _ _ IsAscii (λ _. short 114 (lit< tt)) (λ _.
-    cond_both (c == 34) _ _ IsAscii (λ _. short 34 (lit< tt)) (λ _.
+    cond_both (c == 8) _ _ IsAscii (λ _. short 98 (lit< tt)) (λ _. cond_both (c == 9) _ _ IsAscii (λ _. short 116 (lit< tt)) (λ _.
+    cond_both (c == 10) _ _ IsAscii (λ _. short 110 (lit< tt)) (λ _. cond_both (c == 12) _ _ IsAscii (λ _. short 102 (lit< tt)) (λ _.
+    cond_both (c == 13) _ _ IsAscii (λ _. short 114 (lit< tt)) (λ _. cond_both (c == 34) _ _ IsAscii (λ _. short 34 (lit< tt)) (λ _.
     cond_both (c == 92) _ _ IsAscii (λ _. short 92 (lit< tt)) (λ _.
     cond_both (nat_lt c 32) _ _ IsAscii (λ _. hex) (λ _. IsAscii-cons c [] h IsAscii-nil))))))))
 

@@ -112,8 +112,7 @@ pub waits_alone : {a b : Option (List ℕ)} {p : List ℕ} (q bytes : List ℕ) 
 waits_alone {a} {b} {p} q bytes h e = record {
   done = bytes;
   split = sym (append-nil bytes);
-  written =
-      subst (λ w. Written a b (p ++ bytes) w) (sym e) (with_more bytes h);
+  written = subst (λ w. Written a b (p ++ bytes) w) (sym e) (with_more bytes h);
 }
 
 -- both are written
@@ -122,8 +121,7 @@ pub far : {T E : Type 0} (a b c : Option (List ℕ)) (p q bytes : List ℕ) (r :
 far a b c p q bytes (Ok x) h e k = record {
   done = bytes;
   split = sym (append-nil bytes);
-  written =
-      subst (λ w. Written a c (p ++ bytes) w) (sym e) (written_on bytes [] (with_more bytes h) k);
+  written = subst (λ w. Written a c (p ++ bytes) w) (sym e) (written_on bytes [] (with_more bytes h) k);
 }
 far a b c p q bytes (Err x) h e k = record { part = part_on bytes (with_more bytes h) k }
 

@@ -36,8 +36,7 @@ pub written_same : {old mid new : Option (List ℕ)} {bytes rest : List ℕ} →
 written_same {old} {mid} {new} {bytes} {rest} h k = record {
   done = h.done;
   split = h.split;
-  appended =
-      Appends-kept old mid new h.done h.appended k;
+  appended = Appends-kept old mid new h.done h.appended k;
 }
 
 -- a piece is written

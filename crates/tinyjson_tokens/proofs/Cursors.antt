@@ -29,8 +29,7 @@ none_shown p (Some x) n f s = true≢false (ap is_some (sym s.peeked ∙ n))
 module _ {S : Type 0} (steps : S → Option ℕ → S → Type 0) where
   -- what the iterator returns goes into the one place that is looked at
   pub filled : (p : Cursor S) (r : Option ℕ) (t : S) (d : Bool) (zs : List ℕ) → p.peeked ≡ None → p.done ≡ false → steps p.it r t
-      → d ≡ not (is_some r) → Gives steps p zs
-      → Gives steps (record { it = t; peeked = r; done = d; line = p.line; column = p.column }) zs
+      → d ≡ not (is_some r) → Gives steps p zs → Gives steps (record { it = t; peeked = r; done = d; line = p.line; column = p.column }) zs
   filled p None t d zs n f s e g =
       let k : zs ≡ g.later = g.is ∙ ap (λ o. option_to_list o ++ g.later) n in
       let last : (l : List ℕ) → Begins steps p.it l → l ≡ [] = elim [ [] ↦ λ b. refl | y ∷ ys ↦ λ b. absurd (b.0 t s) ] in
@@ -48,13 +47,7 @@ module _ {S : Type 0} (steps : S → Option ℕ → S → Type 0) where
   taken p c l k zs e g = (
     g.later,
     g.is ∙ ap (λ o. option_to_list o ++ g.later) e,
-    record {
-      later = g.later;
-      is = refl;
-      source =
-          g.source;
-      ended = g.ended;
-    },
+    record { later = g.later; is = refl; source = g.source; ended = g.ended },
   )
 
   -- where nothing was looked at and the end did not come, nothing is known
@@ -96,8 +89,7 @@ module _ {S : Type 0} (steps : S → Option ℕ → S → Type 0) where
 
   -- the iterator's next character is looked at
   pub Goes_filled : (p q : Cursor S) (xs : List ℕ) (r : Option ℕ) (t : S) (d : Bool) → Goes steps p xs q → q.peeked ≡ None → q.done ≡ false
-      → steps q.it r t → d ≡ not (is_some r)
-      → Goes steps p xs (record { it = t; peeked = r; done = d; line = q.line; column = q.column })
+      → steps q.it r t → d ≡ not (is_some r) → Goes steps p xs (record { it = t; peeked = r; done = d; line = q.line; column = q.column })
   Goes_filled p q xs r t d a n f s e = record {
     gives = λ zs g. let x = a.gives zs g in
         (x.0, x.1, filled steps q r t d x.0 n f s e x.2);

@@ -55,8 +55,7 @@ Takes_ascii p q b h e low same at =
 pub run_ascii : {E : Type 0} (o p q : TextBytes) (old new more : List ℕ) (b : ℕ)
     → TakesRun text_sight is_plain {E = Unit {0}} o old (Ok tt) new p
     → p.at < length p.text.now → get_or p.text.now p.at 0 ≡ b → b < 128 → q.text.now ≡ p.text.now → q.at ≡ p.at + 1 → is_plain b ≡ true
-    → more ≡ new ++ b ∷ []
-    → TakesRun text_sight is_plain {E = E} o old (Ok tt) more q
+    → more ≡ new ++ b ∷ [] → TakesRun text_sight is_plain {E = E} o old (Ok tt) more q
 run_ascii o p q old new more b t h e low same at printed added = record {
   taken = t.taken ++ b ∷ [];
   pass = All_append (λ c. is_plain c ≡ true) t.taken (b ∷ []) t.pass (printed, tt);

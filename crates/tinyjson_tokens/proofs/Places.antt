@@ -1,6 +1,6 @@
 -- The line and the column after a text, by its bytes.
-use Rattle.std.proofs.Common.{◌≡◌, ℕ, zero, suc, ◌+◌, ◌/◌, ◌-◌, ◌%◌, ◌==◌, ◌<◌, ◌≤◌, Bool, true, false, cond, not, List, []}
-use Rattle.std.proofs.Common.{◌∷◌, ◌++◌, length, take, drop, map, get_or, refl, sym, ap, ap₂, ◌∙◌, inl, inr, arith, true≢false}
+use Rattle.std.proofs.Common.{◌≡◌, ℕ, zero, suc, ◌+◌, ◌/◌, ◌-◌, ◌%◌, ◌==◌, ◌<◌, ◌≤◌, Bool, true, false, cond, not, List, [], ◌∷◌, ◌++◌}
+use Rattle.std.proofs.Common.{length, take, drop, map, get_or, refl, sym, ap, ap₂, ◌∙◌, inl, inr, arith, true≢false}
 use Rattle.std.specs.Prelude.{nat_lt, count_ones}
 use Rattle.std.specs.Fmt.{is_char_start}
 use Rattle.std.specs.List.{count_by, filter}
@@ -23,14 +23,12 @@ use Rattle.tinyjson_grammar.proofs.Callers.{advance_append, advance_nil}
 -- sixteen bytes, by the mask of those that pass
 count_vector : (p : ℕ → Bool) (xs : List ℕ) (i : ℕ)
     → count_by p (drop i xs) ≡ count_ones (mask_l (map p (chunk i 16 xs))) + count_by p (drop (i + 16) xs)
-count_vector p xs i =
-    ap (count_by p) (chunk-drop i 16 xs) ∙ sum_by-append (λ x. cond (p x) 1 0) (chunk i 16 xs) (drop (i + 16) xs)
+count_vector p xs i = ap (count_by p) (chunk-drop i 16 xs) ∙ sum_by-append (λ x. cond (p x) 1 0) (chunk i 16 xs) (drop (i + 16) xs)
     ∙ ap (λ n. n + count_by p (drop (i + 16) xs)) (sym (ones-mask_l p (chunk i 16 xs)))
 
 -- the count goes on by a vector
 pub count_on : (p : ℕ → Bool) (xs : List ℕ) (i count mask : ℕ) → mask ≡ mask_l (map p (chunk i 16 xs))
-    → count + count_by p (drop i xs) ≡ count_by p xs
-    → (count + count_ones mask) + count_by p (drop (i + 16) xs) ≡ count_by p xs
+    → count + count_by p (drop i xs) ≡ count_by p xs → (count + count_ones mask) + count_by p (drop (i + 16) xs) ≡ count_by p xs
 count_on p xs i count mask e h = omega (arith, h, count_vector p xs i, ap count_ones e)
 
 -- no line feed in a vector, whose mask is zero
@@ -98,8 +96,7 @@ advance_first p c = elim (cases_lt c 128) [
 
 advance_starts : (p : Position) (cs : List ℕ) → advance p cs ≡ advance p (starts (encodes cs))
 advance_starts p [] = refl
-advance_starts p (c ∷ cs) =
-    sym (advance_append p (c ∷ []) cs) ∙ ap (λ q. advance q cs) (advance_first p c)
+advance_starts p (c ∷ cs) = sym (advance_append p (c ∷ []) cs) ∙ ap (λ q. advance q cs) (advance_first p c)
     ∙ advance_starts (advance p (starts (encode c))) cs ∙ advance_append p (starts (encode c)) (starts (encodes cs))
     ∙ ap (advance p) (sym (filter-append is_char_start (encode c) (encodes cs)))
 
@@ -155,8 +152,7 @@ column_on q ys none e =
     let k : q.column + length (starts ys) ≡ count_by is_char_start ys = omega (arith, e, length-filter is_char_start ys) in
     ap (λ m. capped (cond (m == 0) (q.column + length (starts ys)) (after_line_feed (starts ys)))) n ∙ ap capped k
 
-pub place_is : (bs : List ℕ) (s : ℕ) → IsUtf8 bs → s ≤ length bs → line_feeds (drop s bs) ≡ 0
-    → (0 < s → get_or bs (s - 1) 0 ≡ 10)
+pub place_is : (bs : List ℕ) (s : ℕ) → IsUtf8 bs → s ≤ length bs → line_feeds (drop s bs) ≡ 0 → (0 < s → get_or bs (s - 1) 0 ≡ 10)
     → advance origin (chars bs) ≡ position_at (capped (1 + line_feeds bs)) (capped (count_by is_char_start (drop s bs)))
 place_is bs s utf8 h none after =
     let front = take s bs in

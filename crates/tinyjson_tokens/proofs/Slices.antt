@@ -34,8 +34,7 @@ module _ (text : List ℕ) (utf8 : IsUtf8 text) (i j : ℕ) (h : i ≤ j) (first
   rest = drop-drop (j - i) i text ∙ ap (λ n. drop n text) (omega arith)
 
   after_between : chars_after text i ≡ between text i j ++ chars_after text j
-  after_between =
-      ap chars (sym (take-append-drop (j - i) (drop i text))) ∙ chars-append slice (drop (j - i) (drop i text))
+  after_between = ap chars (sym (take-append-drop (j - i) (drop i text))) ∙ chars-append slice (drop (j - i) (drop i text))
       (IsUtf8-between text i j utf8 h first last)
       ∙ ap (λ bs. chars slice ++ chars bs) rest
 
@@ -215,8 +214,7 @@ module _ (p : ℕ → Bool) (ascii : (b : ℕ) → p b ≡ true → b < 128) whe
       ascii_ends = (
         slice_get (chars_after text to) 0,
         refl,
-        ascii_stops (slice_get (chars_after text to) 0)
-            (next_of text utf8 to ascii_boundary),
+        ascii_stops (slice_get (chars_after text to) 0) (next_of text utf8 to ascii_boundary),
       )
 
 pub digit_small : (c : ℕ) → is_ascii_digit c ≡ true → c < 128
@@ -239,18 +237,15 @@ module _ (p : ℕ → Bool) (high : (b : ℕ) → 128 ≤ b → p b ≡ true) wh
   chars_pass [] a = tt
   chars_pass (c ∷ cs) a = (
     char_passes c (encode_utf8_all cs) a,
-    chars_pass cs
-        (AllByRecursion_right (λ b. p b ≡ true) (encode_utf8 c) (encode_utf8_all cs) a),
+    chars_pass cs (AllByRecursion_right (λ b. p b ≡ true) (encode_utf8 c) (encode_utf8_all cs) a),
   )
 
   module _ (text : List ℕ) (utf8 : IsUtf8 text) (at : ℕ) (first : IsCharBoundary text at) (to : ℕ) (e : to ≡ run_end p text at) where
     pub plain_boundary : IsCharBoundary text to
-    plain_boundary = ⊎_elim
-        (λ h. IsCharBoundary-before_ascii text to h (low (get_or text to 0)
+    plain_boundary = ⊎_elim (λ h. IsCharBoundary-before_ascii text to h (low (get_or text to 0)
         (ap (λ k. p (get_or text k 0)) e ∙ run_stops p text at (omega (arith, e, h)))))
         (λ h. let k : length text ≡ to = omega (arith, h, e, run_within p text at first.0) in
-        subst (IsCharBoundary text) k (IsCharBoundary-end text))
-        (cases_lt to (length text))
+        subst (IsCharBoundary text) k (IsCharBoundary-end text)) (cases_lt to (length text))
 
     pub plain_between : AllByRecursion (λ c. p c ≡ true) (between text at to)
     plain_between =

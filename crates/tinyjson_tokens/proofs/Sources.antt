@@ -16,8 +16,7 @@ module _ {S : Type 0} (sight : Sight S) where
   pub Takes_nil : (p : S) → Takes sight p [] p
   Takes_nil p = record {
     gives = λ zs g. (zs, refl, g);
-    moves = sym (advance_nil (sight.place p).line (sight.place p).column
-        (sight.line_fits p) (sight.column_fits p));
+    moves = sym (advance_nil (sight.place p).line (sight.place p).column (sight.line_fits p) (sight.column_fits p));
   }
 
   pub Takes_append : (p q r : S) (xs ys : List ℕ) → Takes sight p xs q → Takes sight q ys r → Takes sight p (xs ++ ys) r
@@ -53,6 +52,5 @@ module _ {S : Type 0} (sight : Sight S) where
       record {
         taken = h.taken ++ c ∷ [];
         white = AllByRecursion_push (λ d. is_white d ≡ true) h.taken c h.white w;
-        takes =
-            Takes_append p r s h.taken (c ∷ []) h.takes (Takes_shown r s c o e m);
+        takes = Takes_append p r s h.taken (c ∷ []) h.takes (Takes_shown r s c o e m);
       }

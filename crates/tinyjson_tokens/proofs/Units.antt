@@ -13,8 +13,7 @@ use Rattle.tinyjson_grammar.specs.Characters.{text, is_high, is_low, is_surrogat
 
 pub text_push : (new old : String Global) (c : ℕ) → IsScalar c → string_bytes new ≡ string_bytes old ++ encode_utf8 c
     → text new ≡ text old ++ c ∷ []
-text_push new old c h e =
-    ap chars e ∙ chars-append (string_bytes old) (encode_utf8 c) (IsUtf8-string_bytes old)
+text_push new old c h e = ap chars e ∙ chars-append (string_bytes old) (encode_utf8 c) (IsUtf8-string_bytes old)
     ∙ ap (λ bs. text old ++ chars bs) (sym (append-nil (encode_utf8 c))) ∙ ap (λ cs. text old ++ cs) (chars-encodes (c ∷ []) (rw h refl))
 
 pub paired_pair : (h l : ℕ) (us : List ℕ) → is_high h ≡ true → is_low l ≡ true → paired (h ∷ l ∷ us) ≡ paired us
@@ -50,8 +49,7 @@ paired_either false true x y v w z f g h = g h
 paired_either false false x y v w z f g h = absurd (true≢false (sym h))
 
 decode_either : (b n x y : Bool) (p u : ℕ) (xs ys vs ws zs : List ℕ) → (x ≡ true → vs ≡ xs ++ zs) → (y ≡ true → ws ≡ ys ++ zs)
-    → cond b x (n && y) ≡ true
-    → cond b (p ∷ vs) (u ∷ ws) ≡ cond b (p ∷ xs) (u ∷ ys) ++ zs
+    → cond b x (n && y) ≡ true → cond b (p ∷ vs) (u ∷ ws) ≡ cond b (p ∷ xs) (u ∷ ys) ++ zs
 decode_either true n x y p u xs ys vs ws zs f g h = ap (λ cs. p ∷ cs) (f h)
 decode_either false true x y p u xs ys vs ws zs f g h = ap (λ cs. u ∷ cs) (g h)
 decode_either false false x y p u xs ys vs ws zs f g h = absurd (true≢false (sym h))
@@ -61,16 +59,14 @@ paired_append [] vs h = refl
 paired_append (u ∷ []) vs h = paired_plain u vs (not-true (is_surrogate u) h) (alone_high u h)
 paired_append (u ∷ v ∷ us) vs h =
     paired_either (is_high u && is_low v) (not (is_surrogate u)) (paired us) (paired (v ∷ us)) (paired (us ++ vs)) (paired (v ∷ us ++ vs))
-    (paired vs)
-    (paired_append us vs) (paired_append (v ∷ us) vs) h
+    (paired vs) (paired_append us vs) (paired_append (v ∷ us) vs) h
 
 pub decode_append : (us vs : List ℕ) → paired us ≡ true → decode (us ++ vs) ≡ decode us ++ decode vs
 decode_append [] vs h = refl
 decode_append (u ∷ []) vs h = decode_plain u vs (alone_high u h)
 decode_append (u ∷ v ∷ us) vs h =
     decode_either (is_high u && is_low v) (not (is_surrogate u)) (paired us) (paired (v ∷ us)) (pair_of u v) u (decode us) (decode (v ∷ us))
-    (decode (us ++ vs))
-    (decode (v ∷ us ++ vs)) (decode vs) (decode_append us vs) (decode_append (v ∷ us) vs) h
+    (decode (us ++ vs)) (decode (v ∷ us ++ vs)) (decode vs) (decode_append us vs) (decode_append (v ∷ us) vs) h
 
 -- ---- a unit in its list
 
@@ -98,8 +94,7 @@ module _ (us : List ℕ) (i : ℕ) (h : i < length us) where
   module _ (high : Option ℕ) (s t : List ℕ) (p : s ++ decode (option_to_list high ++ drop i us) ≡ t ++ decode us) where
     pub pair_text : (first : ℕ) → high ≡ Some first → is_high first ≡ true → is_low (slice_index us i) ≡ true
         → (s ++ pair_of first (slice_index us i) ∷ []) ++ decode (drop (i + 1) us) ≡ t ++ decode us
-    pair_text first e a b =
-        append_assoc s (pair_of first (slice_index us i) ∷ []) (decode (drop (i + 1) us))
+    pair_text first e a b = append_assoc s (pair_of first (slice_index us i) ∷ []) (decode (drop (i + 1) us))
         ∙ ap (λ ds. s ++ ds) (sym (decode_pair first (slice_index us i) (drop (i + 1) us) a b) ∙ ap (λ ds. decode (first ∷ ds)) (sym front)
         ∙ ap (λ o. decode (option_to_list o ++ drop i us)) (sym e)) ∙ p
 
@@ -108,8 +103,7 @@ module _ (us : List ℕ) (i : ℕ) (h : i < length us) where
 
     pub plain_text : high ≡ None → is_high (slice_index us i) ≡ false → (s ++ slice_index us i ∷ []) ++ decode (drop (i + 1) us)
         ≡ t ++ decode us
-    plain_text e b =
-        append_assoc s (slice_index us i ∷ []) (decode (drop (i + 1) us))
+    plain_text e b = append_assoc s (slice_index us i ∷ []) (decode (drop (i + 1) us))
         ∙ ap (λ ds. s ++ ds) (sym (decode_plain (slice_index us i) (drop (i + 1) us) b)) ∙ high_text e
 
 pub not_scalar : (u : ℕ) → u < 65536 → OutOfScalarRange u → is_surrogate u ≡ true

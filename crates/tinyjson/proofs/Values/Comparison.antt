@@ -114,8 +114,7 @@ Within_same ms ns s r h le = members_from_find ms ns s r (λ q. by q (find q ms)
 
 -- the key of an entry is not among the later ones
 fresh : (e : Entry) (es : List Entry) → IsDistinct string_eq (keys_of (e ∷ es)) → find (text e.0) (members_view es) ≡ None
-fresh e es h =
-    find_members_of e.0 (seen_entries es)
+fresh e es h = find_members_of e.0 (seen_entries es)
     ∙ (view_lookup e.0 es ∙ ap (option_map view) (lookup-none (string_eq e.0) es
     (none_past_head string_eq_equiv e.0 e es h (string_eq_equiv.refl e.0))))
 
@@ -143,8 +142,7 @@ Within_entries (e ∷ es) ns h q t g = by (bytes_eq q (text e.0)) refl (Within_e
     g' = sym (find_put q (text e.0) (view e.1) (members_view es)) ∙ g
 
     by : (b : Bool) → bytes_eq q (text e.0) ≡ b → (find q (members_view es) ≡ Some t → find q ns ≡ Some t) → find q ns ≡ Some t
-    by true d rest =
-        ap (λ x. find x ns) ((bytes_eq-Decides q (text e.0)).0 d)
+    by true d rest = ap (λ x. find x ns) ((bytes_eq-Decides q (text e.0)).0 d)
         ∙ (has_found (view e.1) (find (text e.0) ns) (and_parts (has_entry ns e) _ h).0
         ∙ (sym (ap (λ b. cond b (Some (view e.1)) (find q (members_view es))) d) ∙ g'))
     by false d rest = rest (sym (ap (λ b. cond b (Some (view e.1)) (find q (members_view es))) d) ∙ g')
@@ -191,8 +189,7 @@ module _ (es fs : List Entry) (d : IsDistinct string_eq (keys_of es)) where
 
 pub rests_eq_last : (rs : List Rest) (r : Rest) → rests_eq (rs ++ r ∷ []) ≡ rest_eq r && rests_eq rs
 rests_eq_last [] r = refl
-rests_eq_last (s ∷ rs) r =
-    ap (λ b. rest_eq s && b) (rests_eq_last rs r)
+rests_eq_last (s ∷ rs) r = ap (λ b. rest_eq s && b) (rests_eq_last rs r)
     ∙ (sym (and_assoc (rest_eq s) (rest_eq r) (rests_eq rs)) ∙ (ap (λ b. b && rests_eq rs) (and_comm (rest_eq s) (rest_eq r))
     ∙ and_assoc (rest_eq r) (rest_eq s) (rests_eq rs)))
 

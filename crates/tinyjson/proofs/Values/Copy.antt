@@ -29,8 +29,7 @@ weight_Object m = search (rules, the_lemmas)
 pub put_all_append : (done more : List Entry) → IsDistinct string_eq (keys_of (done ++ more))
     → put_all more (members_view done) ≡ members_view (done ++ more)
 put_all_append done [] h = ap members_view (sym (append-nil done))
-put_all_append done (e ∷ more) h =
-    ap (put_all more) (sym (members_view_last done e more h)) ∙ (put_all_append (done ++ e ∷ []) more
+put_all_append done (e ∷ more) h = ap (put_all more) (sym (members_view_last done e more h)) ∙ (put_all_append (done ++ e ∷ []) more
     (subst (λ es. IsDistinct string_eq (keys_of es)) (sym (append_assoc done (e ∷ []) more)) h)
     ∙ ap members_view (append_assoc done (e ∷ []) more))
 

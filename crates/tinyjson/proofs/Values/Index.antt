@@ -53,8 +53,7 @@ items_view_set (v ∷ vs) (suc i) w = ap (item (view v)) (items_view_set vs i w)
 -- the array that a value is, after an item was set
 pub tree_with_item : (v : JsonValue) (list : Vec JsonValue Global) (i : ℕ) (w : JsonValue) → array_part v ≡ Some list
     → view (made.Array (with_item list i w)) ≡ with_tree_at (view v) i (view w)
-tree_with_item v list i w held =
-    view_Array (with_item list i w) ∙ (ap array (items_view_set list.items i w)
+tree_with_item v list i w held = view_Array (with_item list i w) ∙ (ap array (items_view_set list.items i w)
     ∙ ap (λ t. with_tree_at t i (view w)) (sym (ap view (sym (put_of_array v list held)) ∙ view_Array list)))
 
 -- the object that a value is, after a member was written
@@ -62,8 +61,7 @@ pub tree_with_member : (v : JsonValue) (m n : JsonMap) (bs : List ℕ) (w : Json
     → IsSome (get_by_text m bs)
     → ((q : String Global) → lookup (string_eq q) n.entries ≡ cond (bytes_eq bs (string_bytes q)) (Some w) (lookup (string_eq q) m.entries))
     → view (made.Object n) ≡ with_tree_at_key (view v) (chars bs) (view w)
-tree_with_member v m n bs w u held there updates =
-    view_Object n ∙ (ap object (members_view_writes m.entries n.entries bs w u there updates)
+tree_with_member v m n bs w u held there updates = view_Object n ∙ (ap object (members_view_writes m.entries n.entries bs w u there updates)
     ∙ ap (λ t. with_tree_at_key t (chars bs) (view w)) (sym (ap view (sym (put_of_object v m held)) ∙ view_Object m)))
 
 pub is_member_at : (v : JsonValue) (bs : List ℕ) (x : JsonValue) → IsUtf8 bs → member_at v bs ≡ Some x → IsMemberAt v bs x

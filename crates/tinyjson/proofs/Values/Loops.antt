@@ -19,16 +19,14 @@ pub find_done : (done more : List Entry) (e : Entry) → IsDistinct string_eq (k
     → find (text e.0) (members_view done) ≡ None
 unfolding IsDistinct
 find_done [] more e h = refl
-find_done (d ∷ done) more e h =
-    find_put (text e.0) (text d.0) (view d.1) (members_view done)
+find_done (d ∷ done) more e h = find_put (text e.0) (text d.0) (view d.1) (members_view done)
     ∙ (ap (λ b. cond b (Some (view d.1)) (find (text e.0) (members_view done)))
     (text_eq e.0 d.0 ∙ (string_eq_equiv.symm e.0 d.0 ∙ differs_later d.0 done e more h.0)) ∙ find_done done more e h.1)
 
 find_apart : (e : Entry) (es : List Entry) → AllByRecursion (λ y. string_eq e.0 y ≡ false) (keys_of es)
     → find (text e.0) (members_view es) ≡ None
 find_apart e [] h = refl
-find_apart e (d ∷ es) h =
-    find_put (text e.0) (text d.0) (view d.1) (members_view es)
+find_apart e (d ∷ es) h = find_put (text e.0) (text d.0) (view d.1) (members_view es)
     ∙ (ap (λ b. cond b (Some (view d.1)) (find (text e.0) (members_view es))) (text_eq e.0 d.0 ∙ h.0) ∙ find_apart e es h.1)
 
 -- nor in any after it

@@ -54,8 +54,7 @@ layer_sound JsonValue-F.Null = tt
 layer_sound (JsonValue-F.Array v) = items_sound v.items
 layer_sound (JsonValue-F.Object m) = (
   members_sound m.entries,
-  members_of_sorted
-      (seen_entries (map (λ (e : String Global × Sound). (e.0, e.1.0)) m.entries)),
+  members_of_sorted (seen_entries (map (λ (e : String Global × Sound). (e.0, e.1.0)) m.entries)),
 )
 
 -- the tree of every value is sound

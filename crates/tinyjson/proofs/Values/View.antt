@@ -59,8 +59,7 @@ view_lookup k (e ∷ es) = seen_value (string_eq k e.0) e.1 _ _ (view_lookup k e
 pub members_view_updates : (old new : List Entry) (k : String Global) (v : JsonValue)
     → ((q : String Global) → lookup (string_eq q) new ≡ cond (string_eq k q) (Some v) (lookup (string_eq q) old))
     → members_view new ≡ put (text k) (view v) (members_view old)
-members_view_updates old new k v h =
-    members_from_lookups (seen_entries new) ((k, view v) ∷ seen_entries old) (λ q.
+members_view_updates old new k v h = members_from_lookups (seen_entries new) ((k, view v) ∷ seen_entries old) (λ q.
     let side : cond (string_eq k q) (Some v) (lookup (string_eq q) old) ≡ cond (string_eq q k) (Some v) (lookup (string_eq q) old)
     = ap (λ b. cond b (Some v) (lookup (string_eq q) old)) (string_eq_equiv.symm k q) in
     view_lookup q new ∙ (ap (λ r. option_map view r) (h q ∙ side) ∙ sym (seen_value (string_eq q k) v _ _ (view_lookup q old))))
@@ -89,8 +88,7 @@ lookup_last q (d ∷ done) e more h =
 -- one more entry, whose key is new
 pub members_view_last : (done : List Entry) (e : Entry) (more : List Entry) → IsDistinct string_eq (keys_of (done ++ e ∷ more))
     → members_view (done ++ e ∷ []) ≡ put (text e.0) (view e.1) (members_view done)
-members_view_last done e more h =
-    members_view_updates done (done ++ e ∷ []) e.0 e.1 (λ q.
+members_view_last done e more h = members_view_updates done (done ++ e ∷ []) e.0 e.1 (λ q.
     lookup_last q done e more h ∙ ap (λ b. cond b (Some e.1) (lookup (string_eq q) done)) (string_eq_equiv.symm q e.0))
 
 -- a borrowed key that is text is found where the map finds it
@@ -100,15 +98,13 @@ key_eq bs k u =
     let bytes = bytes_eq-Decides bs (string_bytes k) in
     same_from_decides _ _ both (
       λ e. ap chars (bytes.0 e),
-      λ e. bytes.1
-          (sym (encodes-chars bs u) ∙ (ap encode_utf8_all e ∙ encodes-chars (string_bytes k) (IsUtf8-string_bytes k))),
+      λ e. bytes.1 (sym (encodes-chars bs u) ∙ (ap encode_utf8_all e ∙ encodes-chars (string_bytes k) (IsUtf8-string_bytes k))),
     )
 
 pub find_members_view : (bs : List ℕ) → IsUtf8 bs → (es : List Entry) → find (chars bs) (members_view es) ≡ option_map view
     (lookup (λ k. bytes_eq bs (string_bytes k)) es)
 find_members_view bs u [] = refl
-find_members_view bs u (e ∷ es) =
-    find_put (chars bs) (text e.0) (view e.1) (members_view es)
+find_members_view bs u (e ∷ es) = find_put (chars bs) (text e.0) (view e.1) (members_view es)
     ∙ (ap (λ b. cond b (Some (view e.1)) (find (chars bs) (members_view es))) (key_eq bs e.0 u)
     ∙ seen_value (bytes_eq bs (string_bytes e.0)) e.1 _ _ (find_members_view bs u es))
 
@@ -122,13 +118,11 @@ module _ (old new : List Entry) (bs : List ℕ) (o : Option JsonValue) (ms : Mem
     (finds : (q : List ℕ) → find q ms ≡ cond (bytes_eq q (chars bs)) (option_map view o) (find q (members_view old)))
     (absent : find (chars bs) (members_view old) ≡ None → o ≡ None) where
   key_eq_flip : (k : String Global) → bytes_eq bs (string_bytes k) ≡ bytes_eq (text k) (chars bs)
-  key_eq_flip k =
-      sym (key_eq bs k u) ∙ same_from_decides _ _ (bytes_eq-Decides (chars bs) (text k))
+  key_eq_flip k = sym (key_eq bs k u) ∙ same_from_decides _ _ (bytes_eq-Decides (chars bs) (text k))
       (λ e. sym ((bytes_eq-Decides (text k) (chars bs)).0 e), λ e. (bytes_eq-Decides (text k) (chars bs)).1 (sym e))
 
   changed_key : (k : String Global) → find (text k) (members_view new) ≡ find (text k) ms
-  changed_key k =
-      find_members_of k (seen_entries new)
+  changed_key k = find_members_of k (seen_entries new)
       ∙ (view_lookup k new
       ∙ (ap (λ r. option_map view r) (updates k)
       ∙ (option_map_cond (bytes_eq bs (string_bytes k)) o (lookup (string_eq k) old)
@@ -167,18 +161,15 @@ pub members_view_writes : (old new : List Entry) (bs : List ℕ) (v : JsonValue)
     → members_view new ≡ put (chars bs) (view v) (members_view old)
 members_view_writes old new bs v u there updates =
     members_view_changes old new bs (Some v) (put (chars bs) (view v) (members_view old)) u updates
-    (λ q. find_put q (chars bs) (view v) (members_view old))
-    (λ n. absurd (none_there _ there (sym (find_members_view bs u old) ∙ n)))
+    (λ q. find_put q (chars bs) (view v) (members_view old)) (λ n. absurd (none_there _ there (sym (find_members_view bs u old) ∙ n)))
     (sorted_put (chars bs) (view v) (members_view old) (members_of_sorted (seen_entries old)))
 
 -- a map without the entry at a key, and at other keys what it had
 pub members_view_removes : (old new : List Entry) (bs : List ℕ) → IsUtf8 bs
     → ((q : String Global) → lookup (string_eq q) new ≡ cond (bytes_eq bs (string_bytes q)) None (lookup (string_eq q) old))
     → members_view new ≡ remove (chars bs) (members_view old)
-members_view_removes old new bs u updates =
-    members_view_changes old new bs None (remove (chars bs) (members_view old)) u updates
-    (λ q. find_remove q (chars bs) (members_view old))
-    (λ n. refl)
+members_view_removes old new bs u updates = members_view_changes old new bs None (remove (chars bs) (members_view old)) u updates
+    (λ q. find_remove q (chars bs) (members_view old)) (λ n. refl)
     (sorted_remove (chars bs) (members_view old) (members_of_sorted (seen_entries old)))
 
 -- the tree of a reference that may be there
@@ -193,8 +184,7 @@ find_text k es = find_members_view (string_bytes k) (IsUtf8-string_bytes k) es
 pub members_view_added : (old new : List Entry) (k : String Global) (v : JsonValue) → lookup (string_eq k) old ≡ None
     → ((q : String Global) → lookup (string_eq q) new ≡ cond (string_eq k q) (Some v) (lookup (string_eq q) old))
     → members_view new ≡ add (text k) (view v) (members_view old)
-members_view_added old new k v none h =
-    members_view_updates old new k v h
+members_view_added old new k v none h = members_view_updates old new k v h
     ∙ ap (λ o. cond (is_some o) (members_view old) (put (text k) (view v) (members_view old)))
     (sym (find_text k old ∙ ap (option_map view) none))
 

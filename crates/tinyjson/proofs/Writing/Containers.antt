@@ -68,8 +68,7 @@ module _ (w : Option (List ℕ)) where
       record {
         written = goes {piece = bracket ∷ []} (enc (frame_text w k f hs)) h (written_none old bytes _ e);
         outside = o;
-        less =
-            omega (arith, n);
+        less = omega (arith, n);
       }
 
   -- ---- an item or a member comes next
@@ -130,8 +129,7 @@ module _ (w : Option (List ℕ)) where
 
   -- a container was begun inside the outer one
   pub advanced_open : {old mid new : Output} {bytes piece : List ℕ} (fs : List Frame) (gs₀ gs hs : List Gathered) (level : ℕ) (f g : Frame)
-      (s₀ s₂ : Stack)
-      → bytes ≡ enc (unwritten w fs gs₀) → IsStack s₂ → frames s₂ ≡ f ∷ g ∷ frames s₀ → level ≡ length (frames s₀) + 1
+      (s₀ s₂ : Stack) → bytes ≡ enc (unwritten w fs gs₀) → IsStack s₂ → frames s₂ ≡ f ∷ g ∷ frames s₀ → level ≡ length (frames s₀) + 1
       → Opened w level mid new piece gs f hs → Sent old mid bytes (piece ++ enc (unwritten w (g ∷ frames s₀) gs))
       → Advanced w old new fs gs₀ s₂ hs
   advanced_open {old} {mid} {new} {bytes} {piece} fs gs₀ gs hs level f g s₀ s₂ whole is e l o h =
@@ -155,8 +153,7 @@ module _ (w : Option (List ℕ)) where
   stopped_open gs hs level f rest o h = stop (written_more rest h o.written)
 
   closed_rest : {old mid : Output} {bytes : List ℕ} (fs₁ : List Frame) (gs₁ hs : List Gathered) (line : List ℕ) (bracket : ℕ) (s : Stack)
-      → frames s ≡ fs₁ → hs ≡ gs₁
-      → Sent old mid bytes (line ++ (bracket ∷ [] ++ enc (unwritten w fs₁ gs₁)))
+      → frames s ≡ fs₁ → hs ≡ gs₁ → Sent old mid bytes (line ++ (bracket ∷ [] ++ enc (unwritten w fs₁ gs₁)))
       → Sent old mid bytes ((line ++ bracket ∷ []) ++ enc (unwritten w (frames s) hs))
   closed_rest {old} {mid} {bytes} fs₁ gs₁ hs line bracket s ef eg h =
       let e : enc (unwritten w fs₁ gs₁) ≡ enc (unwritten w (frames s) hs) = ap (λ z. enc (unwritten w z gs₁)) (sym ef)
@@ -175,8 +172,7 @@ module _ (w : Option (List ℕ)) where
       record {
         stack = is;
         written = goes {piece = line ++ bracket ∷ []} rest k whole;
-        less =
-            shorter (line ++ bracket ∷ []) [] rest whole (omega (arith, length-append line (bracket ∷ [])));
+        less = shorter (line ++ bracket ∷ []) [] rest whole (omega (arith, length-append line (bracket ∷ [])));
       }
   closes old mid new fs fs₁ gs gs₁ hs line bracket s (Err e) is ef eg k h =
       stops {piece = line ++ bracket ∷ []} (enc (unwritten w (frames s) hs)) k (closed_rest fs₁ gs₁ hs line bracket s ef eg h)
@@ -194,8 +190,7 @@ module _ (w : Option (List ℕ)) where
   pub compact_member : (level : ℕ) (first : Bool) (key v : List ℕ) → IsUtf8 key → w ≡ None
       → enc (before w level first) ++ enc (quoted (chars key) ++ (58 ∷ (after_colon w ++ v))) ≡
       (separator first ++ ((34 ∷ [] ++ (escapes key ++ 34 ∷ [])) ++ 58 ∷ [])) ++ enc v
-  compact_member level first key v u e =
-      ap (λ i. enc (before i level first) ++ enc (quoted (chars key) ++ (58 ∷ (after_colon i ++ v)))) e
+  compact_member level first key v u e = ap (λ i. enc (before i level first) ++ enc (quoted (chars key) ++ (58 ∷ (after_colon i ++ v)))) e
       ∙ ap (λ z. z ++ enc (quoted (chars key) ++ (58 ∷ v))) (enc_separator first)
       ∙ ap (λ z. separator first ++ z) (three (quoted (chars key)) (58 ∷ []) v)
       ∙ ap (λ q. separator first ++ (q ++ (enc (58 ∷ []) ++ enc v))) (quoted_bytes key u)
@@ -205,12 +200,10 @@ module _ (w : Option (List ℕ)) where
   -- ---- what begins after what was written
 
   pub begins_after : {E : Type 0} (k : ℕ) (old mid new : Output) (bytes piece : List ℕ) (gs hs : List Gathered)
-      (r : Result (Option Frame) E)
-      → Sent old mid bytes piece → BeginsFrom w k mid new piece gs r hs → BeginsFrom w k old new bytes gs r hs
+      (r : Result (Option Frame) E) → Sent old mid bytes piece → BeginsFrom w k mid new piece gs r hs → BeginsFrom w k old new bytes gs r hs
   begins_after k old mid new bytes piece gs hs (Err e) h b = stops {piece = piece} [] b (rw append-nil h)
   begins_after k old mid new bytes piece gs hs (Ok None) h b = record {
-    written =
-        goes {piece = piece} [] b.written (rw append-nil h);
+    written = goes {piece = piece} [] b.written (rw append-nil h);
     outside = b.outside;
   }
   begins_after k old mid new bytes piece gs hs (Ok (Some f)) h b =
@@ -218,8 +211,7 @@ module _ (w : Option (List ℕ)) where
       let rest = enc (frame_text w k f hs) in
       record {
         written = subst (Sent old new bytes) (append-nil rest) (written_more {piece = piece} [] (rw append-nil h) b.written);
-        outside
-            = b.outside;
+        outside = b.outside;
         less = omega (arith, n, length-append h.done piece, b.less);
       }
 
@@ -244,15 +236,12 @@ module _ (w : Option (List ℕ)) where
   pub members_open : {old new : Output} (k n : ℕ) (es : List Entry) (gs hs : List Gathered) → 0 < length es → n ≡ length es
       → sorted_view (take (length es) hs) ≡ members_view es → drop (length es) hs ≡ gs
       → Sent old new (123 ∷ []) [] → Opened w k old new (enc (text w k (object (members_view es)))) gs (Members n true) hs
-  members_open k n es gs hs some is seen outside h =
-      opened 123 k (Members n true) gs hs
+  members_open k n es gs hs some is seen outside h = opened 123 k (Members n true) gs hs
       (object_start k es some ∙ ap (λ ms. 123 ∷ [] ++ enc (members_text w (k + 1) true ms ++ (newline w k ++ 125 ∷ [])))
-      (sym seen ∙ ap (λ m. sorted_view (take m hs)) (sym is)))
-      (ap (λ m. drop m hs) is ∙ outside) h
+      (sym seen ∙ ap (λ m. sorted_view (take m hs)) (sym is))) (ap (λ m. drop m hs) is ∙ outside) h
 
   pub member_opens : {old new : Output} (k : ℕ) (es rest : List Entry) (e : Entry) (gs : List Gathered) (key : Bor (List ℕ))
-      (value : Bor JsonValue) → es ≡ e ∷ rest → length es < 2
-      → key.now ≡ string_bytes e.0 → value.now ≡ e.1
+      (value : Bor JsonValue) → es ≡ e ∷ rest → length es < 2 → key.now ≡ string_bytes e.0 → value.now ≡ e.1
       → Sent old new (123 ∷ []) [] → Opened w k old new (enc (text w k (object (members_view es)))) gs (Member key value) gs
   member_opens k es (f ∷ rest) e gs key value is n a b h = absurd (let m = ap length is in omega arith)
   member_opens k es [] e gs key value is n a b h =
@@ -263,5 +252,4 @@ module _ (w : Option (List ℕ)) where
       ∙ ap (λ c. 123 ∷ [] ++ enc (members_text w (k + 1) true (member (chars c) (view e.1) no_members) ++ (newline w k ++ 125 ∷ [])))
       (sym a)
       ∙ ap (λ v. 123 ∷ [] ++ enc (members_text w (k + 1) true (member (chars key.now) (view v) no_members) ++ (newline w k ++ 125 ∷ [])))
-      (sym b))
-      refl h
+      (sym b)) refl h

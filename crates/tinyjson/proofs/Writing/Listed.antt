@@ -47,8 +47,7 @@ sorted_pairs (e ∷ es) s k d low h =
 -- the sorted list has the map's members
 pub members_listed_sorted : (es : List Entry) (xs ys : List Lent)
     → IsDistinct string_eq (keys_of es) → map listed_pair xs ≡ map bytes_pair es → IsPermutation xs ys
-    → IsSortedBy (λ a b. is_lt (bytes_cmp (key_bytes a) (key_bytes b))) ys
-    → members_listed ys ≡ members_view es
+    → IsSortedBy (λ a b. is_lt (bytes_cmp (key_bytes a) (key_bytes b))) ys → members_listed ys ≡ members_view es
 members_listed_sorted es xs ys d same p s =
     let q : IsPermutation (map bytes_pair es) (map now_pair (map as_pair ys))
     = subst (λ w. IsPermutation w (map now_pair (map as_pair ys))) same

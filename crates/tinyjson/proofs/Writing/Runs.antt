@@ -1,7 +1,6 @@
 -- Items and members that are buffered one after another in compact text, and what is left of them.
 use Rattle.std.proofs.Common.{◌≡◌, ℕ, suc, ◌+◌, ◌-◌, ◌<◌, Bool, true, false, Option, None, Some, List, [], ◌∷◌, ◌++◌, length, take, drop}
-use Rattle.std.proofs.Common.{refl, sym, ◌∙◌, ap, subst, append_assoc, length-append, arith}
-use Rattle.std.proofs.Common.{MatchOption, MatchResult, Result, Ok, Err}
+use Rattle.std.proofs.Common.{refl, sym, ◌∙◌, ap, subst, append_assoc, length-append, arith, MatchOption, MatchResult, Result, Ok, Err}
 use Rattle.std.proofs.lemmas.Bool.{false≢true}
 use Rattle.std.specs.Prelude.{IsErr, IsOk}
 use Rattle.std.specs.Borrow.{Bor}
@@ -17,8 +16,8 @@ use Rattle.tinyjson.specs.private.Sorted.{sorted_view}
 use Rattle.tinyjson_grammar.specs.Text.{text, items_text, members_text, separator, quoted, escapes, newline, has_no_items}
 use Rattle.tinyjson_grammar.specs.Tree.{array, member, no_members}
 use Rattle.tinyjson.specs.View.{view, items_view}
-use Rattle.tinyjson_output.proofs.Callers.{enc, enc_cons, three, sent_begins as begins, sent_goes as goes}
-use Rattle.tinyjson_output.proofs.Callers.{sent_buffered as buffers, sent_written_more as written_more}
+use Rattle.tinyjson_output.proofs.Callers.{enc, enc_cons, three, sent_begins as begins, sent_goes as goes, sent_buffered as buffers}
+use Rattle.tinyjson_output.proofs.Callers.{sent_written_more as written_more}
 use Rattle.tinyjson.proofs.Writing.Containers.{begins_after, compact_member, opened, array_begins}
 use Rattle.tinyjson.proofs.Writing.Text.{member_text, enc_separator}
 
@@ -43,8 +42,7 @@ item_on {old} {bytes} held k first xs ys x p q e w h =
     (subst (Sent old (held, p) bytes) (ap (λ zs. enc (items_text None k first (items_view zs))) e ∙ piece_first first t r) h)
 
 pub member_on : {old : Output} {bytes : List ℕ} (held : Option (List ℕ)) (k : ℕ) (first : Bool) (gs hs : List Gathered) (x : Gathered)
-    (left more : ℕ) (p q : List ℕ) → gs ≡ x ∷ hs → left ≡ suc more
-    → q ≡ p ++ (separator first ++ enc (member_text None k x.0.now x.1.now))
+    (left more : ℕ) (p q : List ℕ) → gs ≡ x ∷ hs → left ≡ suc more → q ≡ p ++ (separator first ++ enc (member_text None k x.0.now x.1.now))
     → Sent old (held, p) bytes (enc (members_text None k first (sorted_view (take left gs))))
     → Sent old (held, q) bytes (enc (members_text None k false (sorted_view (take more hs))))
 member_on {old} {bytes} held k first gs hs x left more p q e n w h =
@@ -92,8 +90,7 @@ empty_items (x ∷ xs) h = absurd (cc)
 module _ (w : Option (List ℕ)) where
   -- a run of the gathered members of the innermost container
   pub members_on : {old mid new : Output} {bytes : List ℕ} (fs : List Frame) (count left : ℕ) (first next : Bool) (hs is : List Gathered)
-      → drop left is ≡ drop count hs
-      → Sent mid new (enc (members_text w (length fs + 1) first (sorted_view (take count hs))))
+      → drop left is ≡ drop count hs → Sent mid new (enc (members_text w (length fs + 1) first (sorted_view (take count hs))))
       (enc (members_text w (length fs + 1) next (sorted_view (take left is))))
       → Sent old mid bytes (enc (unwritten w (Members count first ∷ fs) hs))
       → Sent old new bytes (enc (unwritten w (Members left next ∷ fs) is))
@@ -121,8 +118,7 @@ module _ (w : Option (List ℕ)) where
           ap length before,
           ap length after,
           length-append (enc a) (enc c),
-          length-append (enc b)
-              (enc c),
+          length-append (enc b) (enc c),
           length-append r.done (enc b),
         );
       }
@@ -136,8 +132,7 @@ module _ (w : Option (List ℕ)) where
       (opened w 91 k (Items items true) gs gs (array_begins w k items gs some) refl h)
 
   pub members_run : {old mid new : Output} {bytes : List ℕ} (k count left : ℕ) (first : Bool) (gs hs is : List Gathered)
-      → drop left is ≡ drop count hs
-      → Sent mid new (enc (members_text w (k + 1) true (sorted_view (take count hs))))
+      → drop left is ≡ drop count hs → Sent mid new (enc (members_text w (k + 1) true (sorted_view (take count hs))))
       (enc (members_text w (k + 1) first (sorted_view (take left is)))) → Opened w k old mid bytes gs (Members count true) hs
       → Opened w k old new bytes gs (Members left first) is
   members_run k count left first gs hs is e r o = opened_run k gs hs is (Members count true) (Members left first) _ _
@@ -165,8 +160,7 @@ module _ (w : Option (List ℕ)) where
 
   pub object_end : (k left : ℕ) (first : Bool) (hs : List Gathered) → left ≡ 0 → w ≡ None
       → enc (frame_text w k (Members left first) hs) ≡ 125 ∷ []
-  object_end k left first hs e n =
-      ap (λ i. enc (members_text w (k + 1) first (sorted_view (take i hs)) ++ (newline w k ++ 125 ∷ []))) e
+  object_end k left first hs e n = ap (λ i. enc (members_text w (k + 1) first (sorted_view (take i hs)) ++ (newline w k ++ 125 ∷ []))) e
       ∙ ap (λ i. enc (newline i k ++ 125 ∷ [])) n ∙ enc_cons 125 [] (omega arith)
 
   -- the bytes of a whole value were written, if the writer took them

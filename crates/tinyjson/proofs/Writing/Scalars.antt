@@ -28,8 +28,7 @@ ascii_scalars (c ∷ cs) h = and_from _ _ (let l = h 0 in grind (arith, nat_test
 escape_scalars : (c : ℕ) → AreScalars (c ∷ []) → AreScalars (escape c)
 escape_scalars c h = elim (cases_lt c 128) [
   | inr k ↦ subst AreScalars (sym (high c k)) h
-  | inl k ↦ ascii_scalars (escape c)
-      (escape_ascii c k)
+  | inl k ↦ ascii_scalars (escape c) (escape_ascii c k)
 ]
 
 escapes_scalars : (cs : List ℕ) → AreScalars cs → AreScalars (escapes cs)
@@ -81,8 +80,7 @@ module _ (w : Option (List ℕ)) (indent : IfSome w AreScalars) where
 
     members_scalars : (k : ℕ) (first : Bool) (ms : Members) → AreMembersAt power_width ms → AreScalars (members_text w k first ms)
     members_scalars k first no_members h = refl
-    members_scalars k first (member key t ms) h =
-        scalars_append (before w k first) _ (before_scalars k first)
+    members_scalars k first (member key t ms) h = scalars_append (before w k first) _ (before_scalars k first)
         (scalars_append (quoted key ++ (58 ∷ (after_colon w ++ text w k t))) _
         (scalars_append (quoted key) _ (quoted_scalars key h.0) (colon_scalars w (text w k t) (text_of_scalars k t h.1)))
         (members_scalars k false ms h.2))

@@ -86,8 +86,7 @@ same_option (Some x) b f g = sym (f x refl)
 
 carried : (es fs : List Seen) → IsDistinct bytes_eq (keys_of fs) → IsPermutation es fs → (q : List ℕ) (t : Tree)
     → lookup (bytes_eq q) es ≡ Some t → lookup (bytes_eq q) fs ≡ Some t
-carried es fs d p q t h =
-    lookup-from_Contains nat_list_eq_equiv q t fs d (Contains-permutation es fs (q, t) p
+carried es fs d p q t h = lookup-from_Contains nat_list_eq_equiv q t fs d (Contains-permutation es fs (q, t) p
     (Contains-from_lookup (λ x y. (bytes_eq-Decides x y).0) q t es h))
 
 -- members whose keys differ may be put in any order
@@ -157,8 +156,7 @@ in_order [] us s = tt
 in_order (p ∷ ps) us s =
     let others = All-tail IsUtf8 (key p) (map key ps) us in (
       below_next p ps (All-head IsUtf8 (key p) (map key ps) us) others (sorted_head bytes_cmp (key p) (map key ps) s),
-      in_order ps others
-          (sorted_tail bytes_cmp (key p) (map key ps) s),
+      in_order ps others (sorted_tail bytes_cmp (key p) (map key ps) s),
     )
 
 keys_utf8 : (es : List Entry) → All IsUtf8 (keys_of (map bytes_pair es))
@@ -177,8 +175,7 @@ sorted_back ps s k d low h =
 -- the sorted pairs are the map's members
 pub sorted_members_view : (es : List Entry) (ps : List Pair)
     → IsDistinct string_eq (keys_of es) → IsPermutation (map bytes_pair es) (map now_pair ps)
-    → IsSortedBy (λ a b. is_lt (bytes_cmp (key a) (key b))) ps
-    → sorted_view ps ≡ members_view es
+    → IsSortedBy (λ a b. is_lt (bytes_cmp (key a) (key b))) ps → sorted_view ps ≡ members_view es
 sorted_members_view es ps d p s =
     let q : IsPermutation (keys_of (map bytes_pair es)) (map key ps) = subst (IsPermutation (keys_of (map bytes_pair es))) (keys_now ps)
     (IsPermutation-map (λ e. e.0) (map bytes_pair es) (map now_pair ps) p) in

@@ -11,13 +11,11 @@ use Rattle.tinyjson_output.proofs.Callers.{enc, enc_cons, two_bytes}
 use Rattle.tinyjson.proofs.Values.View.{view_Boolean}
 
 true_bytes : enc (116 ∷ 114 ∷ 117 ∷ 101 ∷ []) ≡ 116 ∷ 114 ∷ 117 ∷ 101 ∷ []
-true_bytes =
-    enc_cons 116 (114 ∷ 117 ∷ 101 ∷ []) (omega arith)
+true_bytes = enc_cons 116 (114 ∷ 117 ∷ 101 ∷ []) (omega arith)
     ∙ ap (λ z. 116 ∷ z) (enc_cons 114 (117 ∷ 101 ∷ []) (omega arith) ∙ ap (λ z. 114 ∷ z) (two_bytes 117 101 (omega arith) (omega arith)))
 
 false_bytes : enc (102 ∷ 97 ∷ 108 ∷ 115 ∷ 101 ∷ []) ≡ 102 ∷ 97 ∷ 108 ∷ 115 ∷ 101 ∷ []
-false_bytes =
-    enc_cons 102 (97 ∷ 108 ∷ 115 ∷ 101 ∷ []) (omega arith)
+false_bytes = enc_cons 102 (97 ∷ 108 ∷ 115 ∷ 101 ∷ []) (omega arith)
     ∙ ap (λ z. 102 ∷ z) (enc_cons 97 (108 ∷ 115 ∷ 101 ∷ []) (omega arith)
     ∙ ap (λ z. 97 ∷ z) (enc_cons 108 (115 ∷ 101 ∷ []) (omega arith) ∙ ap (λ z. 108 ∷ z) (two_bytes 115 101 (omega arith) (omega arith))))
 

@@ -40,8 +40,7 @@ module _ {S : Type 0} (sight : Sight S) (limit : Option ℕ) (p q : S) (fs : Lis
   -- the first letter of a literal is taken
   pub Leads_literal : (v : Option Bool) (c : ℕ) → c ≡ first_of v → Takes sight p (c ∷ []) q
       → Leads sight limit p (next fs awaited) q (letters_left fs (chars (rest_of v)) (literal_tree v))
-  Leads_literal v c e k = Leads_to sight limit p q
-      (Leads_one sight limit p p q c (Leads_nil sight limit p (next fs awaited)) k tt
+  Leads_literal v c e k = Leads_to sight limit p q (Leads_one sight limit p p q c (Leads_nil sight limit p (next fs awaited)) k tt
       (ap (onward limit (next fs awaited)) e ∙ literal_begins limit fs v) (rest_taken fs v))
       (ap (λ ls. letters_left fs ls (literal_tree v)) (sym (rest_chars v)))
 

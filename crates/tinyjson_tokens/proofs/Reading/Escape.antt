@@ -166,13 +166,11 @@ module _ (limit : Option ℕ) (fs : List Frame) where
   units_known w cs us vs [] p = end_quoted limit fs w cs (us ++ vs) ∙ sym (end_quoted limit fs w (cs ++ decode us) vs)
   units_known plain cs us vs (c ∷ rest) p = plain_known cs us vs p c rest (units_known backslash cs us vs rest p)
   units_known backslash cs us vs (c ∷ rest) p = backslash_known cs us vs p c rest (units_known (hex []) cs us vs rest p)
-  units_known (hex ds) cs us vs (c ∷ rest) p =
-      hex_known cs us vs p ds c rest (units_known (hex (ds ++ c ∷ [])) cs us vs rest p)
+  units_known (hex ds) cs us vs (c ∷ rest) p = hex_known cs us vs p ds c rest (units_known (hex (ds ++ c ∷ [])) cs us vs rest p)
       (units_known plain cs us (vs ++ unit_of 0 (ds ++ c ∷ []) ∷ []) rest p)
 
   pub Comes_known : (n : Next) (cs us xs taken rest : List ℕ) → Comes limit n taken (next fs (quoted plain cs us)) rest → paired us ≡ true
-      → xs ≡ cs ++ decode us
-      → Comes limit n taken (next fs (quoted plain xs [])) rest
+      → xs ≡ cs ++ decode us → Comes limit n taken (next fs (quoted plain xs [])) rest
   Comes_known n cs us xs taken rest a p e =
       let m = next fs (quoted plain cs us) in
       let o = next fs (quoted plain xs []) in
@@ -217,8 +215,7 @@ hex_digit c h = grind (arith, nat_tests)
 
 -- The bytes that are taken for hexadecimal digits are those, and the number that is computed of them is their value.
 is_hex_by_bits : ℕ → Bool
-is_hex_by_bits b =
-    not (nat_lt ((b + 208) % 256) 10 || nat_lt ((bit_or b 32 + 159) % 256) 6)
+is_hex_by_bits b = not (nat_lt ((b + 208) % 256) 10 || nat_lt ((bit_or b 32 + 159) % 256) 6)
     || ((bit_and b 15 + 9 * (b / 64) == digit_value b) && nat_lt (digit_value b) 16)
 
 pub hex_of_bits : (b : ℕ) → b < 256 → (nat_lt ((b + 208) % 256) 10 || nat_lt ((bit_or b 32 + 159) % 256) 6) ≡ true
@@ -266,8 +263,7 @@ module _ (text : List ℕ) (at u a b c d : ℕ) (h : at + 6 ≤ length text) whe
     four = refl;
     hex = (hex_digit a i, (hex_digit b j, (hex_digit c k, (hex_digit d l, tt))));
     value = e;
-    stands =
-        stands_cons text at (at + 1) (at + 6) 92 (117 ∷ a ∷ b ∷ c ∷ d ∷ []) (omega (arith, h)) refl p refl
+    stands = stands_cons text at (at + 1) (at + 6) 92 (117 ∷ a ∷ b ∷ c ∷ d ∷ []) (omega (arith, h)) refl p refl
         (stands_cons text (at + 1) (at + 2) (at + 6) 117 (a ∷ b ∷ c ∷ d ∷ []) (omega (arith, h)) (omega arith) q refl
         (stands_cons text (at + 2) (at + 3) (at + 6) a (b ∷ c ∷ d ∷ []) (omega (arith, h)) (omega arith) r (hex_ascii a i)
         (stands_cons text (at + 3) (at + 4) (at + 6) b (c ∷ d ∷ []) (omega (arith, h)) (omega arith) s (hex_ascii b j)
@@ -325,8 +321,7 @@ module _ (text : List ℕ) (at to : ℕ) where
               let o = next fs (quoted plain cs (high ∷ low ∷ [])) in
               Comes_known limit fs n cs (high ∷ low ∷ []) (cs ++ pair_of high low ∷ []) (first ++ second) rest
               (Comes_trans limit n m o first second rest (unit_comes limit fs cs [] a.digits (second ++ rest) high a.four a.hex a.value)
-              (unit_comes limit fs cs (high ∷ []) b.digits rest low b.four b.hex b.value))
-              (rw (h, l) refl) (rw (h, l) refl);
+              (unit_comes limit fs cs (high ∷ []) b.digits rest low b.four b.hex b.value)) (rw (h, l) refl) (rw (h, l) refl);
         };
       }
 
@@ -388,8 +383,7 @@ module _ (text : List ℕ) (utf8 : IsUtf8 text) (at : ℕ) (first : IsCharBounda
 
 -- the escapes at the place of a text are taken
 Leads_escapes : (limit : Option ℕ) (fs : List Frame) (cs ds : List ℕ) (p q : TextBytes) → Spells p.text.now p.at ds q.at
-    → q.text.now ≡ p.text.now
-    → Leads text_sight limit p (next fs (quoted plain cs [])) q (next fs (quoted plain (cs ++ ds) []))
+    → q.text.now ≡ p.text.now → Leads text_sight limit p (next fs (quoted plain cs [])) q (next fs (quoted plain (cs ++ ds) []))
 Leads_escapes limit fs cs ds p q e same =
     let text = p.text.now in
     let utf8 = IsUtf8-had text p.utf8 in
@@ -405,8 +399,7 @@ Leads_escapes limit fs cs ds p q e same =
             x.0,
             x.1,
             x.2 ∙ ap (λ t. chars_after t q.at) (sym same),
-            subst (Comes limit n e.taken m) (sym x.2)
-                (escapes_come text utf8 p.at p.boundary ds q.at e limit fs cs),
+            subst (Comes limit n e.taken m) (sym x.2) (escapes_come text utf8 p.at p.boundary ds q.at e limit fs cs),
           );
       moves = ap (λ t. advance origin (before t q.at)) same ∙ step_moves text utf8 p.at q.at h p.boundary last e.taken one;
     }

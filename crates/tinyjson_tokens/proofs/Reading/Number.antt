@@ -61,8 +61,7 @@ gathered_exponent b ds f l s xs old new h i j a n e = record {
   well_formed = record {
     integer = h.well_formed.integer;
     some_digit = h.well_formed.some_digit;
-    fraction =
-        h.well_formed.fraction;
+    fraction = h.well_formed.fraction;
     exponent = record { letter = i; sign = j; digits = a; some_digit = n };
   };
   no_leading_zero = h.no_leading_zero;
@@ -83,16 +82,14 @@ module _ {S : Type 0} (sight : Sight S) {E : Type 0} (empty : JsonParseErrorKind
 
   -- there was none
   pub digits_none : (r : Result (Unit {0}) E) → TakesRun sight is_ascii_digit p old r new q → OnOk r (Stops sight is_ascii_digit q)
-      → OnOk r (new ≡ old → Still sight p q) → is_err r ≡ false → length new ≡ length old
-      → Digits sight empty p old (Err empty) new q
+      → OnOk r (new ≡ old → Still sight p q) → is_err r ≡ false → length new ≡ length old → Digits sight empty p old (Err empty) new q
   digits_none (Ok v) t s w h l =
       let n = same_length old new t.taken t.added l in
       record {
         ds = [];
         digits = tt;
         takes = subst (λ xs. Takes sight p xs q) n t.takes;
-        result =
-            inl (refl, refl, s, w (t.added ∙ ap (λ xs. old ++ xs) n ∙ append-nil old));
+        result = inl (refl, refl, s, w (t.added ∙ ap (λ xs. old ++ xs) n ∙ append-nil old));
       }
   digits_none (Err v) t s w h l = absurd (true≢false h)
 
@@ -103,8 +100,7 @@ module _ {S : Type 0} (sight : Sight S) {E : Type 0} (empty : JsonParseErrorKind
     ds = t.taken;
     digits = t.pass;
     takes = t.takes;
-    result =
-        (t.added, omega (arith, l, ap length t.added, length-append old t.taken), s);
+    result = (t.added, omega (arith, l, ap length t.added, length-append old t.taken), s);
   }
   digits_some (Err v) t s h l = absurd (true≢false h)
 
@@ -181,8 +177,7 @@ module _ (limit : Option ℕ) where
         ne_eqb c 34 e34,
         ne_eqb c 91 e91,
         ne_eqb c 123 e123,
-        ne_eqb c 45
-            e45,
+        ne_eqb c 45 e45,
       ) refl
 
   pub minus_begins : (fs : List Frame) (c : ℕ) → c ≡ 45 → onward limit (next fs awaited) c ≡ begun fs true []
@@ -364,8 +359,6 @@ module _ {S : Type 0} (sight : Sight S) where
           → Digits sight empty q old (Err k) new r
           → ((o : Option ℕ) → sight.shows r o → IfSome o (λ c. is_ascii_digit c ≡ false) → Still sight q r
           → Alike limit (K []) (stop empty true) o) → Refuses sight limit p n k r
-      Refuses_digits empty old new k i g f = ⊎_elim
-          (λ w. rw w.0 (Refuses_as sight limit p r empty (Leads_rest p r (stop empty true) w.2.0
+      Refuses_digits empty old new k i g f = ⊎_elim (λ w. rw w.0 (Refuses_as sight limit p r empty (Leads_rest p r (stop empty true) w.2.0
           (Leads_peek sight limit p q r l (subst (λ ds. Takes sight q ds r) w.1 g.takes)) w.2.1 (h []) (f w.2.0 w.2.1 w.2.2 w.3))))
-          (λ w. rw w (Refuses_memory sight limit p r (Halts_here sight limit p r (Leads_digits g.ds g.digits g.takes) i (h g.ds))))
-          g.result
+          (λ w. rw w (Refuses_memory sight limit p r (Halts_here sight limit p r (Leads_digits g.ds g.digits g.takes) i (h g.ds)))) g.result

@@ -94,8 +94,7 @@ module _ {S : Type 0} (sight : Sight S) (p q : S) where
       has = s;
       answers = refl;
       ends = (x.0, x.1, x.2);
-      leads = λ limit fs.
-          Leads_rest sight limit p q (next fs (digits fraction (numeral b ds [] None))) x.0
+      leads = λ limit fs. Leads_rest sight limit p q (next fs (digits fraction (numeral b ds [] None))) x.0
           (Leads_peek sight limit p p q (Leads_nil sight limit p (next fs (digits integer (numeral b ds [] None)))) d.takes) x.1 tt
           (no_point limit fs b ds x.0 s.no_leading_zero x.2 x.3);
     }
@@ -132,8 +131,7 @@ module _ {S : Type 0} (sight : Sight S) (p q : S) where
       has = s;
       answers = refl;
       ends = (x.0, x.1, x.2);
-      leads = λ limit fs.
-          Leads_rest sight limit p q (next fs (digits exponent (numeral b ds f None))) x.0
+      leads = λ limit fs. Leads_rest sight limit p q (next fs (digits exponent (numeral b ds f None))) x.0
           (Leads_peek sight limit p p q (Leads_nil sight limit p (next fs (digits fraction (numeral b ds f None)))) d.takes) x.1 tt
           (no_letter limit fs (numeral b ds f None) x.0 x.2 x.3);
     }
@@ -173,8 +171,7 @@ module _ {S : Type 0} (sight : Sight S) (p q : S) where
 
       pub Refuses_exponent : (k : JsonParseErrorKind) → Digits sight EmptyExponent r old (Err k) new t
           → (limit : Option ℕ) (fs : List Frame) → Refuses sight limit p (next fs (digits fraction (numeral b ds f None))) k t
-      Refuses_exponent k g limit fs =
-          Refuses_digits sight limit (powered fs b ds f a.c x.sign) (powered_next fs b ds f a.c x.sign)
+      Refuses_exponent k g limit fs = Refuses_digits sight limit (powered fs b ds f a.c x.sign) (powered_next fs b ds f a.c x.sign)
           (powered_digit limit fs b ds f a.c x.sign) p r t (sign_leads limit fs) EmptyExponent old new k tt g
           (λ o h d i. no_exponent limit fs b ds f a.c x.sign o d (unsigned h i))
 
@@ -187,8 +184,7 @@ front_marks n = (n.negative, length n.integer)
 module _ {S : Type 0} (sight : Sight S) (p q r : S) (mid new : List ℕ) where
   -- a part, and the next
   pub Part_fraction : {v : Bool} → Part sight (λ n. n.negative) (λ (x : Bool × List ℕ). numeral x.0 x.1 [] None) integer p
-      (λ fs. next fs awaited) v mid q
-      → (k : ℕ) → k ≡ length mid
+      (λ fs. next fs awaited) v mid q → (k : ℕ) → k ≡ length mid
       → ((b : Bool) (ds : List ℕ) → Gathered (numeral b ds [] None) mid → Ends sight q
       → Part sight (λ _. tt {0}) (λ f. numeral b ds f None) fraction q (λ fs. next fs (digits integer (numeral b ds [] None))) tt new r)
       → Part sight front_marks (λ (x : Bool × List ℕ × List ℕ). numeral x.0 x.1 x.2 None) fraction p (λ fs. next fs awaited) (v, k) new r
@@ -200,17 +196,14 @@ module _ {S : Type 0} (sight : Sight S) (p q r : S) (mid new : List ℕ) where
         has = x.has;
         answers = λ x. (i.answers x, n x);
         ends = x.ends;
-        leads =
-            λ limit fs. Leads_trans sight limit p q r (i.leads limit fs) (x.leads limit fs);
+        leads = λ limit fs. Leads_trans sight limit p q r (i.leads limit fs) (x.leads limit fs);
       }
 
   pub Part_number : {v : Bool} {m : ℕ} {w : Option Bool} → Part sight front_marks
-      (λ (x : Bool × List ℕ × List ℕ). numeral x.0 x.1 x.2 None) fraction p (λ fs. next fs awaited) (v, m) mid q
-      → (k : ℕ) → k ≡ length mid
+      (λ (x : Bool × List ℕ × List ℕ). numeral x.0 x.1 x.2 None) fraction p (λ fs. next fs awaited) (v, m) mid q → (k : ℕ) → k ≡ length mid
       → ((b : Bool) (ds f : List ℕ) → Gathered (numeral b ds f None) mid → Ends sight q
       → Part sight (λ n. is_below_zero n.exponent) (numeral b ds f) exponent q
-      (λ fs. next fs (digits fraction (numeral b ds f None))) w new r)
-      → Part sight marks_of (λ n. n) exponent p (λ fs. next fs awaited)
+      (λ fs. next fs (digits fraction (numeral b ds f None))) w new r) → Part sight marks_of (λ n. n) exponent p (λ fs. next fs awaited)
       (record { negative = v; integer = m; fraction = k; exponent = w }) new r
   Part_number i k l e =
       let x = e i.part.0 i.part.1 i.part.2 i.has i.ends in
@@ -278,8 +271,7 @@ module _ (n : Numeral) (text : List ℕ) (m : Marks) (has : Gathered n text) (at
       arith,
       to_fraction,
       ap length has.gathered,
-      length-append n.integer
-          (n.fraction ++ exponent_digits n.exponent),
+      length-append n.integer (n.fraction ++ exponent_digits n.exponent),
       length-append n.fraction (exponent_digits n.exponent),
     ),
   )
@@ -298,8 +290,7 @@ module _ {S : Type 0} (sight : Sight S) (limit : Option ℕ) (fs : List Frame) (
       → Leads sight limit p (next fs awaited) q (complete true fs (number x.decimal) true)
   Leads_number x r = let e = n.ends in
       Leads_to sight limit p q (Leads_rest sight limit p q (complete true fs (number (value n.part)) true) e.0 (n.leads limit fs) e.1 tt
-      (number_ends limit fs n.part e.0 r.1 e.2))
-      (ap (λ d. complete true fs (number d) true) (sym r.0))
+      (number_ends limit fs n.part e.0 r.1 e.2)) (ap (λ d. complete true fs (number d) true) (sym r.0))
 
   pub Refuses_range : in_range (value n.part) ≡ false → Refuses sight limit p (next fs awaited) NumberOutOfRange q
   Refuses_range r = let e = n.ends in

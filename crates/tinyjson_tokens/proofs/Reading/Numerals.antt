@@ -55,8 +55,7 @@ module _ (text : List ℕ) (at : ℕ) (first : at ≤ length text) (n : Numeral)
   numeral_count = omega (
     arith,
     ap length x.spelled,
-    length-append (spelling n)
-        (drop end text),
+    length-append (spelling n) (drop end text),
     length-drop at text,
     length-drop end text,
     x.within,
@@ -102,20 +101,16 @@ module _ (text : List ℕ) (utf8 : IsUtf8 text) (at : ℕ) (first : IsCharBounda
 
   numeral_ends : (o : Option ℕ) → NextChar text end o → IfSome o (EndsBefore n)
   numeral_ends None h = tt
-  numeral_ends (Some c) k = ⊎_elim
-      (λ l.
+  numeral_ends (Some c) k = ⊎_elim (λ l.
       let some : 0 < length (drop end text) = omega (
         arith,
         ap length k,
-        length-append (encode_utf8 c)
-            (drop (end + len_utf8 c) text),
+        length-append (encode_utf8 c) (drop (end + len_utf8 c) text),
         length-encode c,
         (len_utf8_bounds c).0,
       ) in
       let byte : get_or (drop end text) 0 0 ≡ c = byte_from_char (drop end text) (drop (end + len_utf8 c) text) c k l in
-      ends_first n (drop end text) c some byte x.ends)
-      (λ h. high_ends n c h)
-      (cases_lt c 128)
+      ends_first n (drop end text) c some byte x.ends) (λ h. high_ends n c h) (cases_lt c 128)
 
   numeral_follows : (o : Option ℕ) × (slice_get (chars_after text end) 0 ≡ o) × IfSome o (EndsBefore n)
   numeral_follows = let o = slice_get (chars_after text end) 0 in (o, refl, numeral_ends o (next_of text utf8 end numeral_boundary))
@@ -163,8 +158,7 @@ module _ (limit : Option ℕ) (fs : List Frame) where
   one_comes n m c rest h k e = (
     h,
     subst IsTaken (sym e) (held m k),
-    subst (λ z. Comes limit z [] m rest) (sym e)
-        (Same_refl limit m rest, λ w. w),
+    subst (λ z. Comes limit z [] m rest) (sym e) (Same_refl limit m rest, λ w. w),
   )
 
   minus_comes : (b : Bool) (rest : List ℕ) → Comes limit (next fs awaited) (minus_text b) (begun fs b []) rest
@@ -184,8 +178,7 @@ module _ (limit : Option ℕ) (fs : List Frame) where
       → Comes limit (next fs awaited) (minus_text b ++ ds) (next fs (digits integer (numeral b ds [] None))) rest
   integer_comes b ds rest a l =
       Comes_trans limit (next fs awaited) (begun fs b []) (next fs (digits integer (numeral b ds [] None))) (minus_text b) ds rest
-      (minus_comes b (ds ++ rest))
-      (subst (λ z. Comes limit (begun fs b []) ds z rest) (begun_integer fs b ds l)
+      (minus_comes b (ds ++ rest)) (subst (λ z. Comes limit (begun fs b []) ds z rest) (begun_integer fs b ds l)
       (digits_come limit (begun fs b) (begun_next fs b) (begun_digit limit fs b) [] ds rest (all_pass ds a)))
 
   fraction_comes : (b : Bool) (ds f rest : List ℕ) → has_leading_zero ds ≡ false → AreDigits f
@@ -193,8 +186,7 @@ module _ (limit : Option ℕ) (fs : List Frame) where
   fraction_comes b ds [] rest z a = (Same_refl limit (next fs (digits integer (numeral b ds [] None))) rest, λ w. w)
   fraction_comes b ds (x ∷ xs) rest z a =
       Comes_trans limit (next fs (digits integer (numeral b ds [] None))) (pointed fs b ds []) (reached b ds (x ∷ xs)) (46 ∷ [])
-      (x ∷ xs) rest
-      (one_comes (next fs (digits integer (numeral b ds [] None))) (pointed fs b ds []) 46 (x ∷ xs ++ rest) tt tt
+      (x ∷ xs) rest (one_comes (next fs (digits integer (numeral b ds [] None))) (pointed fs b ds []) 46 (x ∷ xs ++ rest) tt tt
       (point_read limit fs b ds 46 z refl))
       (digits_come limit (pointed fs b ds) (pointed_next fs b ds) (pointed_digit limit fs b ds) [] (x ∷ xs) rest (all_pass (x ∷ xs) a))
 

@@ -12,8 +12,8 @@ use Rattle.tinyjson_grammar.specs.declared.error.JsonParseErrorKind.TheVariants.
 use Rattle.tinyjson_grammar.specs.Position.{advance}
 use Rattle.tinyjson_grammar.specs.Characters.{is_white}
 use Rattle.tinyjson_tokens.specs.Source.{Sight, Takes, Whites}
-use Rattle.tinyjson_grammar.specs.Machine.{strictly, Within, quoted, end, colon, Frame, in_array, at_key, at_value, first, awaited, after}
-use Rattle.tinyjson_grammar.specs.Machine.{finished, Next, next, stop, refused, complete, step, run, go_on}
+use Rattle.tinyjson_grammar.specs.Machine.{strictly, Within, quoted, end, colon, Frame, at_key, first, awaited, after, finished, Next, next}
+use Rattle.tinyjson_grammar.specs.Machine.{stop, refused, complete, step, run, go_on}
 use Rattle.tinyjson_tokens.specs.Steps.{onward, ending, outcome, IsNext, IsTaken, after_all, letters_left, Same, Comes, IsLate, IsHeld}
 use Rattle.tinyjson_tokens.specs.Steps.{Leads, Halts, Refuses, Reads}
 use Rattle.tinyjson_tokens.proofs.Sources.{Takes_nil}
@@ -33,8 +33,7 @@ module _ (limit : Option ℕ) where
   Same_trans n m o (c ∷ cs) (inr a) (inl b) = inr (rw (sym b) a)
   Same_trans n m o (c ∷ cs) (inr a) (inr b) = inr (
     (a.0.0, b.0.1),
-    Same_trans (onward limit n c) (onward limit m c)
-        (onward limit o c) cs a.1 b.1,
+    Same_trans (onward limit n c) (onward limit m c) (onward limit o c) cs a.1 b.1,
   )
 
   IsNext_taken : (n : Next) → IsNext n → IsTaken n
@@ -48,8 +47,7 @@ module _ (limit : Option ℕ) where
   Comes_same n m o (c ∷ cs) rest (inr a) k b = (
     k b.0,
     IsNext_taken (onward limit n c) a.0.0,
-    Comes_same (onward limit n c)
-        (onward limit m c) o cs rest a.1 (λ h. a.0.0) b.2,
+    Comes_same (onward limit n c) (onward limit m c) o cs rest a.1 (λ h. a.0.0) b.2,
   )
 
   pub Comes_trans : (n m o : Next) (xs ys rest : List ℕ) → Comes limit n xs m (ys ++ rest) → Comes limit m ys o rest
@@ -139,8 +137,7 @@ module _ (limit : Option ℕ) where
         late = k.late;
         whole = k.whole;
         goes = held_goes n m k.front (k.late ++ rest) h s k.goes;
-        ends =
-            held_late n m k.front k.late rest s k.ends;
+        ends = held_late n m k.front k.late rest s k.ends;
       }
 
   pub Comes_halts : (n m : Next) (xs ys rest : List ℕ) → Comes limit n xs m (ys ++ rest) → IsHeld limit m ys → IsHeld limit n (xs ++ ys)
@@ -152,11 +149,9 @@ taken_if true n m h k = h
 taken_if false n m h k = k
 
 pub taken_complete : (fs : List Frame) (t : Tree) → IsTaken (complete true fs t true)
-taken_complete [] t = tt
-taken_complete (in_array ts ∷ fs) t = tt
 taken_complete (at_key ms ∷ fs) t = taken_if (not (is_string t)) (stop (KeyNotString (kind_of t)) true)
     (next (at_key ms ∷ fs) (colon (key_of t))) tt tt
-taken_complete (at_value ms k ∷ fs) t = tt
+taken_complete _ t = tt
 
 pub taken_letters_left : (fs : List Frame) (ls : List ℕ) (t : Tree) → IsTaken (letters_left fs ls t)
 taken_letters_left fs [] t = taken_complete fs t
@@ -195,8 +190,7 @@ module _ (limit : Option ℕ) where
       let e : letters_left fs xs t ≡ onward limit (letters_left fs (x ∷ xs) t) x = sym (letter_yes fs t (x ∷ xs) x xs refl x refl) in (
         tt,
         subst IsTaken e (taken_letters_left fs xs t),
-        subst (λ z. Comes limit z xs (complete true fs t true) rest) e
-            (letters_come fs t xs rest),
+        subst (λ z. Comes limit z xs (complete true fs t true) rest) e (letters_come fs t xs rest),
       )
 
 -- ---- the machine and the cursor
@@ -222,8 +216,7 @@ module _ {S : Type 0} (sight : Sight S) (limit : Option ℕ) where
           y.0,
           x.1 ∙ ap (λ t. a.taken ++ t) y.1 ∙ sym (append_assoc a.taken b.taken y.0),
           y.2,
-          Comes_trans limit n m o a.taken b.taken y.0
-              (subst (λ z. Comes limit n a.taken m z) y.1 x.3) y.3,
+          Comes_trans limit n m o a.taken b.taken y.0 (subst (λ z. Comes limit n a.taken m z) y.1 x.3) y.3,
         );
     moves = b.moves ∙ ap (λ t. advance t b.taken) a.moves ∙ advance_append (sight.place p) a.taken b.taken;
   }
@@ -237,8 +230,7 @@ module _ {S : Type 0} (sight : Sight S) (limit : Option ℕ) where
           y.0,
           x.1 ∙ ap (λ t. a.taken ++ t) y.1 ∙ sym (append_assoc a.taken b.taken y.0),
           y.2,
-          Comes_halts limit n m a.taken b.taken y.0
-              (subst (λ z. Comes limit n a.taken m z) y.1 x.3) y.3,
+          Comes_halts limit n m a.taken b.taken y.0 (subst (λ z. Comes limit n a.taken m z) y.1 x.3) y.3,
         );
     moves = b.moves ∙ ap (λ t. advance t b.taken) a.moves ∙ advance_append (sight.place p) a.taken b.taken;
   }
@@ -286,12 +278,7 @@ module _ {S : Type 0} (sight : Sight S) (limit : Option ℕ) where
       x.0,
       x.1,
       x.2,
-      (
-        h,
-        subst IsTaken (sym e) k,
-        subst (λ z. Comes limit z [] o x.0) (sym e)
-            (Same_refl limit o x.0, λ w. w),
-      ),
+      (h, subst IsTaken (sym e) k, subst (λ z. Comes limit z [] o x.0) (sym e) (Same_refl limit o x.0, λ w. w)),
     );
     moves = t.moves;
   })
@@ -314,8 +301,7 @@ module _ {S : Type 0} (sight : Sight S) (limit : Option ℕ) where
           x.0,
           x.1,
           x.2,
-          subst (λ ys. Comes limit n ys o x.0) (append-nil a.taken)
-              (Comes_trans limit n m o a.taken [] x.0 x.3 (h x.0 x.2, λ w. k)),
+          subst (λ ys. Comes limit n ys o x.0) (append-nil a.taken) (Comes_trans limit n m o a.taken [] x.0 x.3 (h x.0 x.2, λ w. k)),
         );
     moves = a.moves;
   }

@@ -1,7 +1,7 @@
 -- Strings, as the machine reads them.
-use Rattle.std.proofs.Common.{◌≡◌, ℕ, ◌+◌, ◌*◌, ◌^◌, ◌<◌, ◌≤◌, Bool, true, false, not, cond, List, [], ◌∷◌, ◌++◌, length, suc, zero, Option}
-use Rattle.std.proofs.Common.{Some, None, Result, Ok, Err, MatchResult, String, Global, refl, sym, ap, ap₂, ◌∙◌, subst, arith}
-use Rattle.std.proofs.Common.{length-append, add-one, ⊎_elim, append_assoc, append-nil, true≢false, is_err}
+use Rattle.std.proofs.Common.{◌≡◌, ℕ, ◌+◌, ◌*◌, ◌^◌, ◌<◌, ◌≤◌, Bool, true, false, not, cond, List, [], ◌∷◌, ◌++◌, length, suc, Option, Some}
+use Rattle.std.proofs.Common.{None, Result, Ok, Err, MatchResult, String, Global, refl, sym, ap, ap₂, ◌∙◌, subst, arith, length-append}
+use Rattle.std.proofs.Common.{add-one, ⊎_elim, append_assoc, append-nil, true≢false, is_err}
 use Rattle.std.specs.List.{AllByRecursion}
 use Rattle.std.proofs.Math.Nat.{pow-suc}
 use Rattle.std.specs.Prelude.{nat_lt}
@@ -45,8 +45,7 @@ module _ {S : Type 0} (sight : Sight S) (limit : Option ℕ) where
       (c d : ℕ) → Leads sight limit p n q m → Takes sight q (c ∷ []) r → IsNext n → IsNext m
       → onward limit m c ≡ cond (not (paired us)) (stop InvalidUtf16 true) (next fs (quoted plain ((text old ++ decode us) ++ d ∷ []) []))
       → MatchResult v (λ done. (done ≡ false) × (paired us ≡ true) × (text new ≡ (text old ++ decode us) ++ d ∷ []) × (vs ≡ []))
-      (Fails (paired us))
-      → Reads sight limit p n v (within fs new vs) r
+      (Fails (paired us)) → Reads sight limit p n v (within fs new vs) r
   Reads_add p q r {n} {m} fs (Ok done) old new us vs c d l t i h s f =
       let o : Next = next fs (quoted plain ((text old ++ decode us) ++ d ∷ []) []) in
       let e : within fs new vs done ≡ o = ap (within fs new vs) f.0 ∙ ap₂ (λ x y. next fs (quoted plain x y)) f.2 f.3 in
@@ -67,11 +66,8 @@ pub unit_grows : (ds : List ℕ) (c u d v : ℕ) → u ≡ unit_of 0 ds → d �
 unit_grows ds c u d v a b e = e ∙ ap₂ (λ x y. x * 16 + y) a b ∙ sym (unit_of_push 0 ds c)
 
 pub sixteen_small : (n : ℕ) → n < 4 → 16 ^ n ≤ 4096
-sixteen_small zero h = omega arith
-sixteen_small (suc zero) h = omega arith
-sixteen_small (suc (suc zero)) h = omega arith
-sixteen_small (suc (suc (suc zero))) h = omega arith
 sixteen_small (suc (suc (suc (suc n)))) h = absurd (omega (arith, h))
+sixteen_small _ h = omega arith
 
 pub hex_next : (fs : List Frame) (cs us ds : List ℕ) → length ds < 4 → IsNext (hexing fs cs us ds)
 hex_next fs cs us ds h = let b : nat_lt (length ds) 4 ≡ true = grind (arith, nat_tests) in rw b tt
@@ -143,8 +139,7 @@ plain_one limit fs cs c h = plain_follows limit fs cs [] c h ∙ ap (λ ys. next
 
 -- at a plain character the units end: each has its partner, or it is refused
 pub units_added : (limit : Option ℕ) (fs : List Frame) (cs us xs : List ℕ) (c : ℕ) → is_plain c ≡ true → paired us ≡ true
-    → xs ≡ cs ++ decode us
-    → onward limit (next fs (quoted plain cs us)) c ≡ onward limit (next fs (quoted plain xs [])) c
+    → xs ≡ cs ++ decode us → onward limit (next fs (quoted plain cs us)) c ≡ onward limit (next fs (quoted plain xs [])) c
 units_added limit fs cs us xs c h p x =
     let m : List ℕ → Next = λ ys. next fs (quoted plain (ys ++ c ∷ []) []) in
     plain_follows limit fs cs us c h ∙ ap (λ b. cond (not b) (stop InvalidUtf16 true) (m (cs ++ decode us))) p ∙ ap m (sym x)
@@ -152,8 +147,7 @@ units_added limit fs cs us xs c h p x =
 
 pub units_refused : (limit : Option ℕ) (fs : List Frame) (cs us : List ℕ) (c : ℕ) → is_plain c ≡ true → paired us ≡ false
     → onward limit (next fs (quoted plain cs us)) c ≡ stop InvalidUtf16 true
-units_refused limit fs cs us c h p =
-    plain_follows limit fs cs us c h ∙ ap (λ b. cond (not b) (stop InvalidUtf16 true)
+units_refused limit fs cs us c h p = plain_follows limit fs cs us c h ∙ ap (λ b. cond (not b) (stop InvalidUtf16 true)
     (next fs (quoted plain ((cs ++ decode us) ++ c ∷ []) []))) p
 
 plain_comes : (limit : Option ℕ) (fs : List Frame) (cs xs rest : List ℕ) → AllByRecursion (λ c. is_plain c ≡ true) xs
@@ -253,8 +247,7 @@ Leads_quoted sight limit p q fs xs a t =
           let ends : Comes limit m (34 ∷ []) o x.0 = (
             tt,
             subst IsTaken e (taken_complete fs (string xs)),
-            subst
-                (λ z. Comes limit z [] o x.0) e (Same_refl limit o x.0, λ w. w),
+            subst (λ z. Comes limit z [] o x.0) e (Same_refl limit o x.0, λ w. w),
           ) in
           (x.0, x.1, x.2, Comes_trans limit n m o xs (34 ∷ []) x.0 (plain_comes limit fs [] xs (34 ∷ x.0) a) ends);
       moves = t.moves;

@@ -17,8 +17,7 @@ module _ {M : Type 1} {𝓤 : Ura M} (𝓛 : Logic 𝓤) (R T U : RattleType) (F
   unfolding such_by follows_by
   follows_so_then γ γ' γ'' at_some at_none =
       qed 𝓛 (‵ (follows R T γ γ' F) ∷ ‵ (follows_so T U γ' (maybe.some γ'') P P₀) ∷ []) ∵ move ! (1 ∷ 0 ∷ []) $ fpick !
-      (λ s. move ! (1 ∷ 0 ∷ []) $
-      use2 𝓛 (‵ (follows R U γ γ'' (λ w. F (s.0.0 w)))) (follows_then 𝓛 R T U F s.0.0 γ γ' γ'') $
+      (λ s. move ! (1 ∷ 0 ∷ []) $ use2 𝓛 (‵ (follows R U γ γ'' (λ w. F (s.0.0 w)))) (follows_then 𝓛 R T U F s.0.0 γ γ' γ'') $
       fpack ! ((s' : (U.Denot → R.Denot) × R.Denot) × ((w : U.Denot) → Q w (s'.0 w)) × Q₀ s'.1)
       (λ s'. follows_by R.Denot U.Denot R.coded.code U.coded.code γ (maybe.some γ'') s'.0.0 s'.0.1)
       ((λ w. F (s.0.0 w), F s.0.1), λ w. at_some w (s.0.0 w) (s.1 w), at_none s.0.1 s.2) $ done !)

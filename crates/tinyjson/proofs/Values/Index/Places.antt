@@ -24,8 +24,7 @@ module _ {M : Type 1} {𝓤 : Ura M} (𝓛 : Logic 𝓤) (R : RattleType) (κ : 
   -- the machine value of a place that is there
   pub place_out : (x : MutBor R.Denot) (v : Val) → ent 𝓤 (sem 𝓛 (Place.own_val (Some x) (v ∷ [])))
       (sem 𝓛 (fsep (feq (List Val) (v ∷ []) (place_val x ∷ [])) ((MutRef (named 0) κ R).own_val x (vptr x.ref_ptr.0 x.ref_ptr.1 ∷ []))))
-  place_out x v =
-      qed 𝓛 (‵ (Place.own_val (Some x) (v ∷ [])) ∷ []) ∵ fpick ! (λ us. fsplit ! $ feq_l !
+  place_out x v = qed 𝓛 (‵ (Place.own_val (Some x) (v ∷ [])) ∷ []) ∵ fpick ! (λ us. fsplit ! $ feq_l !
       (λ is. fpick ! (λ vss. fsplit ! $ feq_l ! (λ flat. fsplit ! $ move ! (1 ∷ []) $ drop ! $
       fsplit3 ! $ feq_l ! (λ at. feq_i ! (List Val) (vptr x.ref_ptr.0 x.ref_ptr.1 ∷ [])
       (vptr x.ref_ptr.0 x.ref_ptr.1 ∷ []) refl $ fjoin3 ! $

@@ -9,5 +9,4 @@ returns c =
     let v = c.args.v in
     let long = c.fits-v.0 in
     masked _ (fails is_plain) v _ (omega arith) c.fits-v.1
-    (either _ _ v (either _ _ v (zip2_splat hit v 4 34 long) (zip2_splat hit v 4 92 long))
-    (zip2_splat below v 4 32 long)) tt
+    (either _ _ v (either _ _ v (zip2_splat hit v 4 34 long) (zip2_splat hit v 4 92 long)) (zip2_splat below v 4 32 long)) tt

@@ -14,8 +14,7 @@ pub returns : goal.returns
 returns g t c =
     let n = c.args.number in
     elim c.if-number-ge10.branch [
-      | then-number-ge10+in_ok-write_natural w ↦
-          ends _ _ _ _ _ _ c.write_bytes.ensures (rw (w.out-is, w.buffer-is)
+      | then-number-ge10+in_ok-write_natural w ↦ ends _ _ _ _ _ _ c.write_bytes.ensures (rw (w.out-is, w.buffer-is)
           (goes ((48 + n % 10) ∷ []) w.in_ok-write_natural.ensures
           (written_none _ _ _ (natural_more n w.if-number-ge10.true c.ranges.number.fits))))
       | else-number-ge10 w ↦ ends _ _ _ _ _ _ c.write_bytes.ensures (rw (w.out-is, w.buffer-is)

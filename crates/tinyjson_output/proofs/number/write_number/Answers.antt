@@ -43,19 +43,15 @@ returns-in_err-write_bytes g c =
     c.layout-layout.ensures _)
 
 pub returns-in_err-write_bytes-2 : goal.returns-in_err-write_bytes-2
-returns-in_err-write_bytes-2 g c =
-    fails _ _ c.from_residual-in_err-write_bytes-2.ensures.0 c.in_err-write_bytes-2.ensures
+returns-in_err-write_bytes-2 g c = fails _ _ c.from_residual-in_err-write_bytes-2.ensures.0 c.in_err-write_bytes-2.ensures
     (at_front c.args.number.now c.layout-layout.result c.layout-layout.ensures c.in_ok-write_bytes.ensures)
 
 pub returns-in_err-write_bytes-3 : goal.returns-in_err-write_bytes-3
-returns-in_err-write_bytes-3 g c =
-    fails _ _ c.from_residual-in_err-write_bytes-3.ensures.0 c.in_err-write_bytes-3.ensures
-    (at_middle c.args.number.now c.layout-layout.result c.layout-layout.ensures c.in_ok-write_bytes.ensures
-    c.in_ok-write_bytes-2.ensures)
+returns-in_err-write_bytes-3 g c = fails _ _ c.from_residual-in_err-write_bytes-3.ensures.0 c.in_err-write_bytes-3.ensures
+    (at_middle c.args.number.now c.layout-layout.result c.layout-layout.ensures c.in_ok-write_bytes.ensures c.in_ok-write_bytes-2.ensures)
 
 pub returns-in_err-write_bytes-4 : goal.returns-in_err-write_bytes-4
-returns-in_err-write_bytes-4 g c =
-    fails _ _ c.from_residual-in_err-write_bytes-4.ensures.0 c.in_err-write_bytes-4.ensures
+returns-in_err-write_bytes-4 g c = fails _ _ c.from_residual-in_err-write_bytes-4.ensures.0 c.in_err-write_bytes-4.ensures
     (at_back c.args.number.now c.layout-layout.result c.layout-layout.ensures c.in_ok-write_bytes.ensures c.in_ok-write_bytes-2.ensures
     c.in_ok-write_bytes-3.ensures)
 

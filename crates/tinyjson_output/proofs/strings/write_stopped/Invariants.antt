@@ -6,8 +6,7 @@ use Rattle.tinyjson_output.specs.Buffer.{buffered, Sent}
 use Rattle.tinyjson_output.proofs.strings.write_stopped.Given as goal
 
 abbrev pub invariant-loop-byte : goal.invariant-loop-byte
-invariant-loop-byte g l =
-    (prefix_len is_plain l.rest ≡ 0) × Sent (g.W.Write.contents l.initial.out, buffered l.initial.buffer)
+invariant-loop-byte g l = (prefix_len is_plain l.rest ≡ 0) × Sent (g.W.Write.contents l.initial.out, buffered l.initial.buffer)
     (g.W.Write.contents l.out, buffered l.buffer) (escapes l.bytes) (escapes l.rest)
 
 abbrev pub decreases-loop-byte : goal.decreases-loop-byte

@@ -4,9 +4,7 @@ use Rattle.tinyjson_tokens.proofs.Reading.Escape.{spells_none, spells_more}
 use Rattle.tinyjson_tokens.proofs.escape.escapes.Goals as goal
 
 pub loop-c-init : goal.loop-c-init
-loop-c-init c = record {
-  spelled = ([], spells_none c.args.bytes.now c.args.at c.requires, sym (append-nil _));
-}
+loop-c-init c = record { spelled = ([], spells_none c.args.bytes.now c.args.at c.requires, sym (append-nil _)) }
 
 pub loop-c-preserved : goal.loop-c-preserved
 loop-c-preserved c =

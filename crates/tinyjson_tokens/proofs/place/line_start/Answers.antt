@@ -9,6 +9,5 @@ loop-start-preserved c =
     let l = c.loop-start in
     let at : l.start ≡ (l.start - 16) + 16 = omega arith in (
       omega arith,
-      none_on bytes (l.start - 16) _ c.feeds.ensures (omega arith)
-          (subst (λ n. line_feeds (drop n bytes) ≡ 0) at l.invariant.1),
+      none_on bytes (l.start - 16) _ c.feeds.ensures (omega arith) (subst (λ n. line_feeds (drop n bytes) ≡ 0) at l.invariant.1),
     )

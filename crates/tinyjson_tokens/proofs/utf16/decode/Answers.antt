@@ -28,8 +28,7 @@ loop-unit-preserved c =
           rw (w.high-is, w.string-is) (record {
             high = tt;
             paired = pair_goes us i h _ v.paired w.in-Some.first w.in-Some.is a b;
-            text =
-                ap (λ s. s ++ decode (drop (i + 1) us)) (w.in_ok-push-in-Some.ensures
+            text = ap (λ s. s ++ decode (drop (i + 1) us)) (w.in_ok-push-in-Some.ensures
                 ∙ ap (λ x. text c.loop-unit.string ++ x ∷ []) w.pair.ensures)
                 ∙ pair_text us i h c.loop-unit.high (text c.loop-unit.string)
                 (text c.args.string.now) v.text w.in-Some.first w.in-Some.is a b;
@@ -47,8 +46,7 @@ loop-unit-preserved c =
           rw (w.high-is, w.string-is, w.in-None.is) (record {
             high = tt;
             paired = plain_goes us i h c.loop-unit.high v.paired w.in-None.is (scalar_plain u w.in-Some-from_u32.ensures.cases) a;
-            text =
-                ap (λ s. s ++ decode (drop (i + 1) us)) (w.in_ok-push-in-None-2.ensures ∙ ap (λ x. text c.loop-unit.string ++ x ∷ []) e)
+            text = ap (λ s. s ++ decode (drop (i + 1) us)) (w.in_ok-push-in-None-2.ensures ∙ ap (λ x. text c.loop-unit.string ++ x ∷ []) e)
                 ∙ plain_text us i h c.loop-unit.high (text c.loop-unit.string) (text c.args.string.now) v.text w.in-None.is a;
           })
     ]

@@ -16,8 +16,7 @@ permuted_part c = IsPermutation-trans _ _ _ c.presort.ensures c.sort_unstable_by
 
 permuted : (c : goal.After-gathered-1) → IsPermutation (drop (length c.args.gathered.now.items) c.gather.new.gathered.items)
     c.sort_unstable_by.new.self
-permuted c =
-    regathered_IsPermutation c.len-start.result c.args.gathered.now.items c.gather.new.gathered.items c.deref_mut.result.now
+permuted c = regathered_IsPermutation c.len-start.result c.args.gathered.now.items c.gather.new.gathered.items c.deref_mut.result.now
     c.sort_unstable_by.new.self c.deref_mut.ensures.value (start c) (permuted_part c)
 
 pub returns-clause-members : goal.returns-clause-members

@@ -17,11 +17,9 @@ returns-clause-old c =
     ∙ ap Some (sym c.replace.ensures.value))
 
 pub returns-clause-new : goal.returns-clause-new
-returns-clause-new c =
-    ap (λ w. made.Array (with_item c.array_mut.result.now c.args.index w)) c.replace.ensures.after
+returns-clause-new c = ap (λ w. made.Array (with_item c.array_mut.result.now c.args.index w)) c.replace.ensures.after
     ∙ ap (λ o. option_map_or (λ m. made.Array (with_item m c.args.index c.args.value)) o c.args.self.now) (sym c.array_mut.ensures.value)
 
 pub returns-clause-tree : goal.returns-clause-tree
-returns-clause-tree c =
-    ap (λ w. view (made.Array (with_item c.array_mut.result.now c.args.index w))) c.replace.ensures.after
+returns-clause-tree c = ap (λ w. view (made.Array (with_item c.array_mut.result.now c.args.index w))) c.replace.ensures.after
     ∙ tree_with_item c.args.self.now c.array_mut.result.now c.args.index c.args.value c.array_mut.ensures.value

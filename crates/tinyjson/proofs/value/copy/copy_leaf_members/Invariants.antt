@@ -4,6 +4,5 @@ use Rattle.tinyjson.specs.private.Copy.{put_all, entries_weight}
 use Rattle.tinyjson.specs.View.{members_view}
 
 abbrev pub invariant-loop-key : goal.invariant-loop-key
-invariant-loop-key l =
-    (put_all l.rest (members_view l.copies.entries) ≡ put_all l.initial.rest (members_view l.initial.copies.entries))
+invariant-loop-key l = (put_all l.rest (members_view l.copies.entries) ≡ put_all l.initial.rest (members_view l.initial.copies.entries))
     × (entries_weight l.rest ≤ entries_weight l.initial.rest)

@@ -9,6 +9,5 @@ returns-then-len-clause-same c = apart_entries c.args.a.now.entries c.args.b.now
     (search rules)
 
 pub returns-clause-same : goal.returns-clause-same
-returns-clause-same c =
-    ap (has_entries (members_view c.args.b.now.entries)) c.iter.ensures.rest
+returns-clause-same c = ap (has_entries (members_view c.args.b.now.entries)) c.iter.ensures.rest
     ∙ same_entries c.args.a.now.entries c.args.b.now.entries c.iter.ensures.unique (search rules)

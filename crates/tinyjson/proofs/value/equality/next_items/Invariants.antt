@@ -6,7 +6,6 @@ use Rattle.tinyjson.specs.View.{items_view}
 use Rattle.tinyjson.proofs.value.equality.next_items.Given as goal
 
 abbrev pub invariant-loop-item : goal.invariant-loop-item
-invariant-loop-item l =
-    (items_eq (items_view (iter_rest l.a)) (items_view (iter_rest l.b)) ≡ items_eq (items_view (iter_rest l.initial.a))
+invariant-loop-item l = (items_eq (items_view (iter_rest l.a)) (items_view (iter_rest l.b)) ≡ items_eq (items_view (iter_rest l.initial.a))
     (items_view (iter_rest l.initial.b)))
     × (items_weight (iter_rest l.a) ≤ items_weight (iter_rest l.initial.a))

@@ -18,8 +18,7 @@ loop-key-preserved c =
     let same : true ≡ same_tree c.in-Some.member.now c.in-Some-get.other.now = search rules in (
       turn_same (same_tree c.in-Some.member.now c.in-Some-get.other.now)
           (has_entries (members_view c.args.b.now.entries) c.next.new.self) _ turn same,
-      omega
-          (arith, c.loop-key.invariant.1, ap entries_weight step),
+      omega (arith, c.loop-key.invariant.1, ap entries_weight step),
     )
 
 pub returns-in-Known-false-clause-same : goal.returns-in-Known-false-clause-same

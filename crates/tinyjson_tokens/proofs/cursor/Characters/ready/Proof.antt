@@ -13,9 +13,7 @@ use Rattle.tinyjson_tokens.proofs.cursor.Characters.ready.Reads as reads
 use Rattle.tinyjson_tokens.proofs.cursor.Characters.ready.Tie as tie
 
 pub ready_spec : {M : Type 1} → statement M
-ready_spec {M} =
-    tie.close (λ I L g d dd w met dropped 𝓤 𝓛 𝓣 y.
-    ∥∥₁_elim y.0.3.0.now.ready (Entails-prop 𝓤.op _ _) (λ is.
+ready_spec {M} = tie.close (λ I L g d dd w met dropped 𝓤 𝓛 𝓣 y. ∥∥₁_elim y.0.3.0.now.ready (Entails-prop 𝓤.op _ _) (λ is.
     via 𝓤 _ (mono_r 𝓤 (on_entry 𝓛 (sig_of 2 (lts.ps I L g d dd) (lts.r I L g d dd)) y.0.0 y.0.1 y.0.3 y.0.4)
     (fact_mono 𝓤 _ (Ready g.can_next g.remaining y.0.3.0.now.cursor) (λ _. is)))
     (lts.spec I L g d dd (λ κs a. Ready g.can_next g.remaining a.0.now.cursor) (reads.Post I L g d dd) (λ c. c.requires) 𝓤 𝓛 𝓣 y)))

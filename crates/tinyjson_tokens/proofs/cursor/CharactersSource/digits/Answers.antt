@@ -14,8 +14,7 @@ returns-then-not-is_ascii_digit-clause-digits g c =
       taken = [];
       pass = tt;
       takes = record { gives = n.gives; moves = n.moves };
-      added =
-          sym (append-nil (string_bytes c.args.buffer.now));
+      added = sym (append-nil (string_bytes c.args.buffer.now));
     }
 
 pub returns-in_err-push-clause-digits : goal.returns-in_err-push-clause-digits

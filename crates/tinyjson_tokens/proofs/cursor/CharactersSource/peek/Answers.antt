@@ -6,8 +6,7 @@ use Rattle.tinyjson_tokens.proofs.cursor.CharactersSource.peek.Goals as goal
 pub returns-then-is_some-clause-takes : goal.returns-then-is_some-clause-takes
 returns-then-is_some-clause-takes g c = let p = c.args.self.now in record {
   gives = λ zs h. (zs, refl, h);
-  moves =
-      sym (advance_nil p.cursor.line p.cursor.column p.line_fits p.column_fits);
+  moves = sym (advance_nil p.cursor.line p.cursor.column p.line_fits p.column_fits);
 }
 
 pub invariant_of-self-clause-ready : goal.invariant_of-self-clause-ready
@@ -23,8 +22,7 @@ returns-clause-takes g c =
       gives = λ zs h. (
         zs,
         refl,
-        filled g.I.Iterator.next_gives p.cursor _ _ _ zs n (search rules) c.next-next.ensures.steps
-            (search rules) h,
+        filled g.I.Iterator.next_gives p.cursor _ _ _ zs n (search rules) c.next-next.ensures.steps (search rules) h,
       );
       moves = sym (advance_nil p.cursor.line p.cursor.column p.line_fits p.column_fits);
     }

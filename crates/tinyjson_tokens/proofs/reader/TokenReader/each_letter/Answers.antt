@@ -5,8 +5,8 @@ use Rattle.std.specs.Str.{IsUtf8, chars}
 use Rattle.std.specs.Str.Iter.{chars_rest}
 use Rattle.tinyjson_grammar.specs.declared.error.JsonParseErrorKind.TheVariants.{UnexpectedEof, UnexpectedInLiteral}
 use Rattle.tinyjson_tokens.specs.Steps.{letters_left}
-use Rattle.tinyjson_tokens.proofs.Reading.Steps.{Leads_to, Leads_nil, Leads_one, Leads_none, Refuses_as}
-use Rattle.tinyjson_tokens.proofs.Reading.Steps.{taken_letters_left, letter_next, letter_yes, letter_no, letter_end}
+use Rattle.tinyjson_tokens.proofs.Reading.Steps.{Leads_to, Leads_nil, Leads_one, Leads_none, Refuses_as, taken_letters_left, letter_next}
+use Rattle.tinyjson_tokens.proofs.Reading.Steps.{letter_yes, letter_no, letter_end}
 use Rattle.tinyjson_tokens.proofs.reader.TokenReader.each_letter.Goals as goal
 
 pub loop-letter-init : goal.loop-letter-init

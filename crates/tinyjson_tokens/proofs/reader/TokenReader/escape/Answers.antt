@@ -15,17 +15,14 @@ pub returns-in-Some-short_escape-clause-reads : goal.returns-in-Some-short_escap
 returns-in-Some-short_escape-clause-reads g c = λ limit fs.
     let sight = g.S.Source.sight in
     Reads_add sight limit _ _ _ fs c.add.result c.args.string.now c.add.new.string c.args.units.now.items c.add.new.units.items c.in-Some.c
-    c.in-Some-short_escape.d
-    (Leads_nil sight limit _ _) c.in-Some.ensures.takes tt tt
+    c.in-Some-short_escape.d (Leads_nil sight limit _ _) c.in-Some.ensures.takes tt tt
     (short_read limit fs _ _ c.in-Some.c c.in-Some-short_escape.d (sym c.short_escape.ensures ∙ c.in-Some-short_escape.is)) c.add.ensures
 
 pub returns-in-None-clause-reads : goal.returns-in-None-clause-reads
 returns-in-None-clause-reads g c = λ limit fs.
     let sight = g.S.Source.sight in
-    Reads_after sight limit _ _ _ _ _
-    (Leads_one sight limit _ _ _ c.in-Some.c (Leads_nil sight limit _ _) c.in-Some.ensures.takes tt
-    (u_read limit fs _ _ c.in-Some.c c.if-c-eq117.true) tt)
-    (c.unit.ensures.reads limit fs _)
+    Reads_after sight limit _ _ _ _ _ (Leads_one sight limit _ _ _ c.in-Some.c (Leads_nil sight limit _ _) c.in-Some.ensures.takes tt
+    (u_read limit fs _ _ c.in-Some.c c.if-c-eq117.true) tt) (c.unit.ensures.reads limit fs _)
 
 pub returns-in-None-2-clause-reads : goal.returns-in-None-2-clause-reads
 returns-in-None-2-clause-reads g c = λ limit fs.

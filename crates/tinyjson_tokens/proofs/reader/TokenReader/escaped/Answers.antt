@@ -6,5 +6,4 @@ returns-in-Ok-clause-reads g c = λ limit fs. Reads_after g.S.Source.sight limit
     (c.rest.ensures.reads limit fs)
 
 pub returns-in-Err-clause-reads : goal.returns-in-Err-clause-reads
-returns-in-Err-clause-reads g c = λ limit fs.
-    Refuses_memory g.S.Source.sight limit _ _ (c.in-Err.ensures.reads limit fs)
+returns-in-Err-clause-reads g c = λ limit fs. Refuses_memory g.S.Source.sight limit _ _ (c.in-Err.ensures.reads limit fs)

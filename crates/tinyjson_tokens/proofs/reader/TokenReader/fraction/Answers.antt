@@ -15,5 +15,4 @@ pub returns-clause-reads : goal.returns-clause-reads
 returns-clause-reads g c = λ b ds s e.
     let has = subst (λ l. Gathered (numeral b ds [] None) (string_bytes l)) (sym c.accept.ensures.kept) s in
     Reads_fraction g.S.Source.sight _ _ b ds _ has _ _ (was_accepted g.S.Source.sight
-    (λ x. x == 46) _ _ c.accept.result c.accept.ensures.accepts c.if-not-accept.false)
-    c.digits.result c.digits.ensures.reads
+    (λ x. x == 46) _ _ c.accept.result c.accept.ensures.accepts c.if-not-accept.false) c.digits.result c.digits.ensures.reads

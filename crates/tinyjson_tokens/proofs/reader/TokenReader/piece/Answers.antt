@@ -35,10 +35,8 @@ returns-in_ok-flush-in-34-clause-reads g c = λ limit fs.
 pub returns-in-92-clause-reads : goal.returns-in-92-clause-reads
 returns-in-92-clause-reads g c = λ limit fs.
     let sight = g.S.Source.sight in
-    Reads_after sight limit _ _ _ _ _
-    (Leads_one sight limit _ _ _ c.in-Some.c (Leads_nil sight limit _ _) c.in-Some.ensures.takes tt
-    (backslash_read limit fs (text c.args.string.now) c.args.units.now.items c.in-Some.c c.in-92.is) tt)
-    (c.escape.ensures.reads limit fs)
+    Reads_after sight limit _ _ _ _ _ (Leads_one sight limit _ _ _ c.in-Some.c (Leads_nil sight limit _ _) c.in-Some.ensures.takes tt
+    (backslash_read limit fs (text c.args.string.now) c.args.units.now.items c.in-Some.c c.in-92.is) tt) (c.escape.ensures.reads limit fs)
 
 pub returns-in_default-c-clause-reads : goal.returns-in_default-c-clause-reads
 returns-in_default-c-clause-reads g c = λ limit fs.
@@ -51,7 +49,6 @@ pub returns-in_default-2-clause-reads : goal.returns-in_default-2-clause-reads
 returns-in_default-2-clause-reads g c = λ limit fs.
     let sight = g.S.Source.sight in
     Reads_add sight limit _ _ _ fs c.add.result c.args.string.now c.add.new.string c.args.units.now.items c.add.new.units.items c.in-Some.c
-    c.in-Some.c
-    (Leads_nil sight limit _ _) c.in-Some.ensures.takes tt tt
+    c.in-Some.c (Leads_nil sight limit _ _) c.in-Some.ensures.takes tt tt
     (plain_read limit fs (text c.args.string.now) c.args.units.now.items c.in-Some.c (search rules) (search rules) (search rules))
     c.add.ensures

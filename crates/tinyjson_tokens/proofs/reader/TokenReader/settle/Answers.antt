@@ -41,8 +41,7 @@ returns-in-Ok-false-clause-reads g c = λ limit fs.
     (units_refused limit fs (text c.args.string.now) us c.in-Some.c plainly unpaired) tt)
 
 pub returns-in-Err-clause-reads : goal.returns-in-Err-clause-reads
-returns-in-Err-clause-reads g c = λ limit fs.
-    Refuses_memory g.S.Source.sight limit _ _
+returns-in-Err-clause-reads g c = λ limit fs. Refuses_memory g.S.Source.sight limit _ _
     (Halts_here g.S.Source.sight limit _ _ (Leads_peek g.S.Source.sight limit _ _ _
     (Leads_nil g.S.Source.sight limit _ _) c.in-Some.ensures.takes) tt tt)
 

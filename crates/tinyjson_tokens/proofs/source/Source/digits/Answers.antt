@@ -14,8 +14,7 @@ loop-c-init g c = record {
     taken = [];
     pass = tt;
     takes = Takes_nil g.Self.Source.sight c.args.self.now;
-    added =
-        sym (append-nil (string_bytes c.args.buffer.now));
+    added = sym (append-nil (string_bytes c.args.buffer.now));
   };
   still = λ e o h. h;
   left = omega arith;
@@ -29,8 +28,7 @@ returns-in_err-push-in-Some-clause-digits g c =
       taken = t.taken;
       pass = t.pass;
       takes = Takes_peek g.Self.Source.sight _ _ _ t.taken t.takes c.peek.ensures.takes;
-      added =
-          rw p.1 tt;
+      added = rw p.1 tt;
     }
 
 pub loop-c-preserved : goal.loop-c-preserved
@@ -68,8 +66,7 @@ returns-in_default-clause-digits g c =
       taken = t.taken;
       pass = t.pass;
       takes = Takes_peek g.Self.Source.sight _ _ _ t.taken t.takes c.peek.ensures.takes;
-      added =
-          t.added;
+      added = t.added;
     }
 
 pub returns-in_default-2-clause-digits : goal.returns-in_default-2-clause-digits
@@ -79,8 +76,7 @@ returns-in_default-2-clause-digits g c =
       taken = t.taken;
       pass = t.pass;
       takes = Takes_peek g.Self.Source.sight _ _ _ t.taken t.takes c.peek.ensures.takes;
-      added =
-          t.added;
+      added = t.added;
     }
 
 pub returns-in_default-clause-still : goal.returns-in_default-clause-still

@@ -11,8 +11,7 @@ loop-c-init g c = record {
     taken = [];
     pass = tt;
     takes = Takes_nil g.Self.Source.sight c.args.self.now;
-    added =
-        sym (append-nil (text c.args.string.now));
+    added = sym (append-nil (text c.args.string.now));
   };
   left = search rules;
 }
@@ -25,8 +24,7 @@ returns-in_err-push-in-Some-clause-plain g c =
       taken = t.taken;
       pass = t.pass;
       takes = Takes_peek g.Self.Source.sight _ _ _ t.taken t.takes c.peek.ensures.takes;
-      added =
-          rw p.1 tt;
+      added = rw p.1 tt;
     }
 
 pub loop-c-preserved : goal.loop-c-preserved
@@ -52,8 +50,7 @@ returns-in_default-clause-plain g c =
       taken = t.taken;
       pass = t.pass;
       takes = Takes_peek g.Self.Source.sight _ _ _ t.taken t.takes c.peek.ensures.takes;
-      added =
-          t.added;
+      added = t.added;
     }
 
 pub returns-in_default-2-clause-plain : goal.returns-in_default-2-clause-plain
@@ -63,6 +60,5 @@ returns-in_default-2-clause-plain g c =
       taken = t.taken;
       pass = t.pass;
       takes = Takes_peek g.Self.Source.sight _ _ _ t.taken t.takes c.peek.ensures.takes;
-      added =
-          t.added;
+      added = t.added;
     }

@@ -3,10 +3,7 @@ use Rattle.tinyjson_tokens.proofs.Sources.{Whites_nil, Whites_peek, Whites_bump}
 use Rattle.tinyjson_tokens.proofs.source.Source.skip_white.Goals as goal
 
 pub loop-c-init : goal.loop-c-init
-loop-c-init g c = let p = c.args.self.now in record {
-  white = Whites_nil g.Self.Source.sight p;
-  left = search rules;
-}
+loop-c-init g c = let p = c.args.self.now in record { white = Whites_nil g.Self.Source.sight p; left = search rules }
 
 pub loop-c-preserved : goal.loop-c-preserved
 loop-c-preserved g c = record {

@@ -13,6 +13,5 @@ invariant_of-self c =
     ∙ ap (λ bs. self.at + prefix_len is_white (drop self.at bs)) c.as_bytes.ensures.value in
     record {
       utf8 = self.utf8;
-      boundary = ascii_boundary is_white white_small self.text.now
-          (IsUtf8-had self.text.now self.utf8) self.at self.boundary _ e;
+      boundary = ascii_boundary is_white white_small self.text.now (IsUtf8-had self.text.now self.utf8) self.at self.boundary _ e;
     }

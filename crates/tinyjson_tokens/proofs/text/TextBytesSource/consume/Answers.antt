@@ -9,10 +9,7 @@ invariant_of-self c =
     let self = c.args.self.now in
     let utf8 = IsUtf8-had self.text.now self.utf8 in
     let next = subst (NextChar self.text.now self.at) c.requires.shown (next_of self.text.now utf8 self.at self.boundary) in
-    record {
-      utf8 = self.utf8;
-      boundary = char_boundary self.text.now utf8 self.at self.boundary c.args.c _ next c.width.ensures;
-    }
+    record { utf8 = self.utf8; boundary = char_boundary self.text.now utf8 self.at self.boundary c.args.c _ next c.width.ensures }
 
 pub returns-clause-takes : goal.returns-clause-takes
 returns-clause-takes c =

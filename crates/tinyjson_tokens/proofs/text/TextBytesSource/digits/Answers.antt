@@ -33,8 +33,7 @@ invariant_of-self c =
     ∙ ap (λ bs. self.at + prefix_len is_ascii_digit (drop self.at bs)) c.as_bytes.ensures.value in
     record {
       utf8 = self.utf8;
-      boundary = ascii_boundary is_ascii_digit digit_small self.text.now
-          (IsUtf8-had self.text.now self.utf8) self.at self.boundary _ e;
+      boundary = ascii_boundary is_ascii_digit digit_small self.text.now (IsUtf8-had self.text.now self.utf8) self.at self.boundary _ e;
     }
 
 pub returns-clause-digits : goal.returns-clause-digits
@@ -75,8 +74,7 @@ returns-clause-still c = λ e o h.
       arith,
       ap length bytes,
       ap length e,
-      length-append
-          (string_bytes c.args.buffer.now) c.range.result.now,
+      length-append (string_bytes c.args.buffer.now) c.range.result.now,
     ) in
     let here : self.at ≡ to = omega (arith, none, c.range.ensures.len, is) in
     subst (λ k. slice_get (chars_after self.text.now k) 0 ≡ o) here h

@@ -34,8 +34,7 @@ invariant_of-self c =
     ∙ ap (λ bs. self.at + prefix_len is_plain (drop self.at bs)) c.as_bytes.ensures.value in
     record {
       utf8 = self.utf8;
-      boundary = plain_boundary is_plain plain_high self.text.now
-          (IsUtf8-had self.text.now self.utf8) self.at self.boundary _ e;
+      boundary = plain_boundary is_plain plain_high self.text.now (IsUtf8-had self.text.now self.utf8) self.at self.boundary _ e;
     }
 
 pub returns-clause-plain : goal.returns-clause-plain

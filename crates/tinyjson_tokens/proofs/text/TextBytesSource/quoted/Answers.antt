@@ -29,15 +29,13 @@ invariant_of-self c =
     let some : c.plain_end-end.result < length self.text.now = omega (
       arith,
       c.plain_end-end.ensures.within,
-      ap length
-          c.as_bytes-bytes.ensures.value,
+      ap length c.as_bytes-bytes.ensures.value,
     ) in
     let quote : get_or self.text.now c.plain_end-end.result 0 ≡ 34 = ap (λ bs. get_or bs c.plain_end-end.result 0)
     (sym c.as_bytes-bytes.ensures.value) ∙ c.if-bytes-end-ne34.false in
     record {
       utf8 = self.utf8;
-      boundary = quote_boundary self.text.now
-          (IsUtf8-had self.text.now self.utf8) self.at self.boundary _ e some quote;
+      boundary = quote_boundary self.text.now (IsUtf8-had self.text.now self.utf8) self.at self.boundary _ e some quote;
     }
 
 pub returns-clause-quoted : goal.returns-clause-quoted

@@ -10,11 +10,7 @@ use Rattle.tinyjson_tokens.proofs.text.TextBytesSource.skip_white.Goals as goal
 pub returns-then-bytes-self-lt128-clause-white : goal.returns-then-bytes-self-lt128-clause-white
 returns-then-bytes-self-lt128-clause-white c =
     let self = c.args.self.now in
-    record {
-      taken = [];
-      white = tt;
-      takes = record { gives = λ zs h. (zs, refl, h); moves = stay_moves (before self.text.now self.at) };
-    }
+    record { taken = []; white = tt; takes = record { gives = λ zs h. (zs, refl, h); moves = stay_moves (before self.text.now self.at) } }
 
 pub returns-then-bytes-self-lt128-clause-shows : goal.returns-then-bytes-self-lt128-clause-shows
 returns-then-bytes-self-lt128-clause-shows c =

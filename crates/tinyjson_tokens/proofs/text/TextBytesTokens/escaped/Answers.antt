@@ -1,4 +1,4 @@
-use Rattle.std.proofs.Common.{rules, arith, [], refl, ap, is_err, subst, sym}
+use Rattle.std.proofs.Common.{rules, arith, refl, ap, is_err, subst, sym}
 use Rattle.std.proofs.lemmas.Result.{err_from_is_err_and}
 use Rattle.std.proofs.lemmas.Str.{IsUtf8-had}
 use Rattle.tinyjson_tokens.proofs.Reading.Escape.{escapes_boundary, escapes_go, escapes_added, escapes_halt}

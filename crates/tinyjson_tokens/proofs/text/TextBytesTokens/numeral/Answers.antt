@@ -11,8 +11,7 @@ invariant_of-after c =
     let x = subst (λ t. PartsAt t self.at r.parts r.end) c.as_bytes.ensures.value r.ensures.0 in
     record {
       utf8 = self.utf8;
-      boundary = numeral_boundary self.text.now
-          (IsUtf8-had self.text.now self.utf8) self.at self.boundary x.0 r.end x.2;
+      boundary = numeral_boundary self.text.now (IsUtf8-had self.text.now self.utf8) self.at self.boundary x.0 r.end x.2;
     }
 
 pub returns-clause-takes : goal.returns-clause-takes

@@ -5,8 +5,7 @@ use Rattle.tinyjson.proofs.generator.encode.Encoder.begin.Goals as goal
 
 pub returns-then-quick_value-clause-sent : goal.returns-then-quick_value-clause-sent
 returns-then-quick_value-clause-sent g c = λ k. record {
-  written = buffers _ _ _ _
-      (rw c.if-quick_value.true at (c.quick_value.ensures (indent_of c.args.self.now.indent) k));
+  written = buffers _ _ _ _ (rw c.if-quick_value.true at (c.quick_value.ensures (indent_of c.args.self.now.indent) k));
   outside = refl;
 }
 

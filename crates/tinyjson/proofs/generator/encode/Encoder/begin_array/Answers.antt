@@ -16,8 +16,7 @@ pub returns-in_err-write_bytes-clause-sent : goal.returns-in_err-write_bytes-cla
 returns-in_err-write_bytes-clause-sent g c =
     let some : has_no_items (items_view c.args.items.now) ≡ false = no_items_is c.args.items.now ∙ sym c.is_empty.ensures
     ∙ c.if-is_empty.false in
-    λ k. MatchResult-from_err _ _ _ c.from_residual.ensures.0
-    (λ _. stops _ c.in_err-write_bytes.ensures (written_none _ _ _
+    λ k. MatchResult-from_err _ _ _ c.from_residual.ensures.0 (λ _. stops _ c.in_err-write_bytes.ensures (written_none _ _ _
     (array_begins (indent_of c.args.self.now.indent) k c.args.items (gathered_in c.args.self.now) some)))
 
 pub returns-then-is_none-clause-sent : goal.returns-then-is_none-clause-sent

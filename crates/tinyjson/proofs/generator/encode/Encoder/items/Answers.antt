@@ -17,8 +17,7 @@ loop-item-init g c =
       refl,
       ap (λ v. reverse v.items) c.run_of_items-first.ensures.kept.1,
       c.run_of_items-first.ensures.kept.0,
-      run_on _ _
-          (newline w (length fs) ++ 93 ∷ []) (unwritten w fs (reverse c.args.self.now.gathered.items))
+      run_on _ _ (newline w (length fs) ++ 93 ∷ []) (unwritten w fs (reverse c.args.self.now.gathered.items))
           (c.run_of_items-first.ensures.buffers (length fs + 1) (g.W.Write.contents c.args.out.now)) begins,
     )
 
@@ -71,8 +70,7 @@ loop-item-preserved g c =
       ap (λ v. reverse v.items) c.run_of_items.ensures.kept.1 ∙ done.outside
           ∙ c.loop-item.invariant.1,
       c.run_of_items.ensures.kept.0 ∙ same,
-      run_on _ _ (newline w (length fs) ++ 93 ∷ [])
-          (unwritten w fs gs) run (goes _ done.written h),
+      run_on _ _ (newline w (length fs) ++ 93 ∷ []) (unwritten w fs gs) run (goes _ done.written h),
     )
 
 pub returns-clause-sent : goal.returns-clause-sent

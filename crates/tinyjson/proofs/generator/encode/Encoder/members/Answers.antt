@@ -72,8 +72,7 @@ loop-key-preserved g c =
     let run = rw same at (c.run_of_members.ensures.buffers (length fs + 1) (g.W.Write.contents c.member.new.out)) in (
       l.invariant.0,
       c.run_of_members.ensures.indent ∙ same,
-      members_on w fs
-          (l.left - 1) c.run_of_members.result.0 false c.run_of_members.result.1 _ _ c.run_of_members.ensures.others run
+      members_on w fs (l.left - 1) c.run_of_members.result.0 false c.run_of_members.result.1 _ _ c.run_of_members.ensures.others run
           (rw done.outside (goes _ done.written h)),
     )
 

@@ -32,8 +32,7 @@ returns-in_ok-enter-in-Some-clause-sent g c =
     let o = rw c.in-Some.is at c.in_ok-begun.ensures.sent in
     advanced_open w (Member c.args.key c.args.value ∷ fs) gs gs _ c.args.level c.in-Some.inner
     (Members 0 false) c.args.stack.now c.enter.new.self refl c.in_ok-enter-in-Some.ensures.stack c.in_ok-enter-in-Some.ensures.frames
-    c.requires.level
-    o (written_none _ _ _ (member_next w fs gs c.args.level c.args.key c.args.value c.requires.level))
+    c.requires.level o (written_none _ _ _ (member_next w fs gs c.args.level c.args.key c.args.value c.requires.level))
 
 pub returns-in-None-clause-sent : goal.returns-in-None-clause-sent
 returns-in-None-clause-sent g c =
