@@ -1,18 +1,17 @@
 -- The text of a pointer, taken in character by character.
-use Rattle.std.proofs.Common.{◌≡◌, ◌≢◌, ◌↔◌, inl, inr, ℕ, Bool, true, false, cond, Result, Ok, Err, Option, Some, None, bytes_eq, map, ◌==◌}
+use Rattle.std.proofs.Common.{◌≡◌, ◌≢◌, ◌↔◌, inl, inr, ℕ, Bool, true, false, cond, Result, Ok, Err, map, ◌==◌}
 use Rattle.std.proofs.Common.{List, [], ◌∷◌, ◌++◌, refl}
 use Rattle.std.proofs.Common.{sym, ap, ◌∙◌, append_assoc, append-nil, subst, arith, String, Global, encode_utf8_all}
 use Rattle.std.proofs.lemmas.Bool.{eqb-true}
 use Rattle.std.proofs.lemmas.Bool.Decides.{nat_tests}
 use Rattle.std.proofs.lemmas.List.{map-append}
-use Rattle.std.proofs.lemmas.Slice.Eq.{bytes_eq-Decides}
 use Rattle.std.proofs.lemmas.Str.{encodes-append}
 use Rattle.std.specs.Result.{IsErrAnd}
 use Rattle.tinyjson.specs.View.{text}
 use Rattle.json_pointer.specs.Reading.{IsNoPointer, HasBadEscape, BeginsEscape, BeginsWithSlash, BeginsWithOther, Reads, ReadsTokens}
 use Rattle.json_pointer.specs.declared.pointer.PointerError.{PointerError}
 use Rattle.json_pointer.specs.declared.pointer.PointerError.TheVariants.{NoSlash, BadEscape, OutOfMemory}
-use Rattle.json_pointer.specs.Text.{escape_char, escape, pointer_text, Split, longer, parted, split, pointer_tokens}
+use Rattle.json_pointer.specs.Text.{escape_char, escape, pointer_text, Split, longer, parted, split}
 
 -- a `~` that waits for the character after it
 abbrev pub waiting : Bool → List ℕ
