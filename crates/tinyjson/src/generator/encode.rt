@@ -98,6 +98,7 @@ impl<'a> Encoder<'a> {
     }
 
     /// Writes what is left of a container, up to the next bracket.
+    #[inline(always)]
     fn resume<W: Write>(
         &mut self,
         out: &mut W,
@@ -120,6 +121,7 @@ impl<'a> Encoder<'a> {
 
     /// Writes the one member of an object, and the closing brace unless the member's value stays
     /// open.
+    #[inline(always)]
     fn only_member<W: Write>(
         &mut self,
         out: &mut W,
@@ -149,6 +151,7 @@ impl<'a> Encoder<'a> {
 
     /// Writes the items that are left to an array, up to one that stays open or to the closing
     /// bracket.
+    #[inline(always)]
     fn items<W: Write>(
         &mut self,
         out: &mut W,
@@ -179,6 +182,7 @@ impl<'a> Encoder<'a> {
 
     /// Writes the members that are left to an object, up to one whose value stays open or to the
     /// closing brace.
+    #[inline(always)]
     fn members<W: Write>(
         &mut self,
         out: &mut W,
@@ -250,6 +254,7 @@ impl<'a> Encoder<'a> {
     }
 
     /// Writes the bracket of a container whose items stand at the level.
+    #[inline(always)]
     fn close<W: Write>(&mut self, out: &mut W, level: usize, bracket: &[u8]) -> io::Result<()>
         requires { 0 < level }
         ensures sent { Sends W.contents out.old out.new self.old.buffer self.new.buffer

@@ -225,6 +225,7 @@ impl<B: Builder> Nest<B> {
     }
 
     /// Closes the innermost container, an array, which is complete then.
+    #[inline(always)]
     pub(super) fn close_array(&mut self) -> Result<Progress, JsonParseErrorKind>
         requires { (ts : List Tree) × (fs : List Frame) ×
             B.holds self.old.builder (in_array ts ∷ fs) }
@@ -237,6 +238,7 @@ impl<B: Builder> Nest<B> {
     }
 
     /// Closes the innermost container, an object, which is complete then.
+    #[inline(always)]
     pub(super) fn close_object(&mut self) -> Result<Progress, JsonParseErrorKind>
         requires { (ms : Members) × (fs : List Frame) × B.holds self.old.builder (at_key ms ∷ fs) }
         ensures { (ms : Members) (fs : List Frame) → IsWithin B.holds self.old (at_key ms) fs →

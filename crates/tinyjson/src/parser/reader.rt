@@ -267,6 +267,7 @@ impl<S: Tokens> Reader<S> {
     }
 
     /// Opens the array whose bracket comes next, or reads all of it if it is empty.
+    #[inline(always)]
     fn array<B: Builder>(
         &mut self,
         limit: Option<usize>,
@@ -298,6 +299,7 @@ impl<S: Tokens> Reader<S> {
     }
 
     /// Opens the object whose brace comes next, or reads all of it if it is empty.
+    #[inline(always)]
     fn object<B: Builder>(
         &mut self,
         limit: Option<usize>,

@@ -52,6 +52,7 @@ impl Builder for Stack {
         Ok(())
     }
 
+    #[inline(always)]
     fn close_array(&mut self) -> Result<(), AllocError> {
         let Some(place) = self.places.pop() else {
             unreachable!()
