@@ -1,5 +1,7 @@
 //! A few digits in the number itself.
-ghost use Rattle.std.specs.Prelude.{◌≡◌, ◌+◌, ◌≤◌, ◌++◌, length, take};
+ghost use Rattle.std.specs.Prelude.{◌≡◌, ◌+◌, ◌≤◌, ◌++◌, IfSome, length, take, drop};
+
+use tinyjson_bytes::put;
 
 /// The most digits that a number keeps in itself.
 pub(crate) const INLINE_DIGITS: usize = 24;
@@ -26,6 +28,36 @@ impl Inline {
             bytes[front.len()..len].copy_from_slice(back);
         }
         Inline { bytes, len }
+    }
+
+    /// The digits of a number whose text begins with those of its integer part, and goes on after those of
+    /// its fraction, if they are few.
+    #[inline(always)]
+    pub(crate) fn of_text(text: &[u8], integer: usize, fraction: usize) -> Option<Inline>
+        requires { integer + fraction + 17 ≤ length text.now }
+        ensures { IfSome result (λ d. (integer + fraction ≤ 24) × (take d.len d.bytes
+            ≡ take integer text.now ++ take fraction (drop (integer + 1) text.now))) }
+    {
+        let mut bytes = [0; INLINE_DIGITS];
+        if fraction == 0 {
+            if integer > 16 {
+                return None;
+            }
+            put::<16>(&mut bytes, 0, text);
+            return Some(Inline {
+                bytes,
+                len: integer,
+            });
+        }
+        if integer > 8 || fraction > 16 {
+            return None;
+        }
+        put::<8>(&mut bytes, 0, text);
+        put::<16>(&mut bytes, integer, &text[integer + 1..]);
+        Some(Inline {
+            bytes,
+            len: integer + fraction,
+        })
     }
 
     /// How many bytes are digits.

@@ -18,7 +18,9 @@ mod text;
 
 pub use error::{JsonNumberError, LiteralError};
 pub use number::JsonNumber;
+#[doc(hidden)]
+pub use parse::short_number_at;
 pub use parse::{ExponentParts, NumberParts};
 #[doc(hidden)]
-pub use scan::{has_leading_zero, number_at, plain_number_at};
+pub use scan::{has_leading_zero, number_at};
 pub use text::Layout;

@@ -89,9 +89,22 @@ impl JsonNumber {
         ensures { result.decimal
             ≡ record { negative = negative; digits = front.now ++ back.now; power = power } }
     {
+        JsonNumber::of_inline(negative, Inline::joined(front, back), power)
+    }
+
+    /// The number of these digits.
+    #[inline(always)]
+    pub(crate) fn of_inline(negative: bool, digits: Inline, power: i64) -> JsonNumber
+        requires { IsTrue (is_canonical negative (take digits.len digits.bytes) power) }
+        ensures { result.decimal ≡ record {
+          negative = negative;
+          digits = take digits.len digits.bytes;
+          power = power;
+        } }
+    {
         JsonNumber {
             negative,
-            digits: Digits::Short(Inline::joined(front, back)),
+            digits: Digits::Short(digits),
             power,
         }
     }

@@ -1,7 +1,7 @@
 //! The number that a text spells (RFC 8259, section 6).
 ghost use Rattle.std.specs.Prelude.{◌≡◌, ◌+◌, ◌<◌, ◌≤◌, ◌^◌, ◌++◌, length, take, drop, min, pos};
 ghost use Rattle.std.specs.Prelude.{neg_ℤ, ◌≤ℤ◌, None};
-ghost use Rattle.std.specs.Prelude.{IfSome, IsOk, MatchOption, FitsSigned, IsTrue, Err};
+ghost use Rattle.std.specs.Prelude.{IfSome, IsOk, MatchOption, FitsSigned, IsTrue, Err, Ok};
 ghost use Rattle.std.specs.Int.{w64};
 ghost use Rattle.std.specs.Str.Parse.{digits_value};
 ghost use Rattle.tinyjson_number.specs.Decimal.{strip_leading, strip_trailing, significant};
@@ -11,13 +11,15 @@ ghost use Rattle.tinyjson_number.specs.NumberText.{Spells};
 ghost use Rattle.tinyjson_number.specs.private.Power.{capped, exponent_cap, shifted};
 ghost use Rattle.tinyjson_number.specs.Reading.{Reads, ReadsNumeral, exponent_of, numeral_of};
 ghost use Rattle.tinyjson_number.specs.Reading.{plain, plain_numeral};
+ghost use Rattle.tinyjson_number.specs.Scan.{PartsAt};
+ghost use Rattle.tinyjson_number.specs.declared.parse.NumberParts.{NumberParts};
 ghost use Rattle.tinyjson_number.specs.declared.error.LiteralError.TheVariants as literal_error;
 ghost use Rattle.tinyjson_number.specs.declared.error.JsonNumberError.TheVariants as number_error;
 
 use crate::error::{JsonNumberError, LiteralError};
-use crate::inline::INLINE_DIGITS;
+use crate::inline::{INLINE_DIGITS, Inline};
 use crate::number::JsonNumber;
-use crate::scan::number_at;
+use crate::scan::{number_at, plain_number_at};
 use std::alloc::Global;
 
 /// The parts of a number, as a parser finds them in a text (RFC 8259, section 6).
@@ -129,7 +131,8 @@ impl JsonNumber {
             && parts.integer.len() + parts.fraction.len() <= INLINE_DIGITS
             && is_unpadded(parts.integer, parts.fraction)
         {
-            return Ok(unpadded(parts.negative, parts.integer, parts.fraction));
+            let digits = Inline::joined(parts.integer, parts.fraction);
+            return Ok(unpadded(parts.negative, parts.integer, parts.fraction, digits));
         }
         // Taken apart, so that the number above needs no place in memory.
         match padded(alloc, parts) {
@@ -139,19 +142,41 @@ impl JsonNumber {
     }
 }
 
+/// The number at a place of a text, and the place after it, if it has no exponent, and few digits that
+/// neither begin nor end with `0`, and some text follows. It may find none.
+#[doc(hidden)]
+#[inline(always)]
+pub fn short_number_at(bytes: &[u8], at: usize) -> Option<(JsonNumber, usize)>
+    requires { at ≤ length bytes.now }
+    ensures { IfSome result (λ r. (p : NumberParts) × PartsAt bytes.now at p r.1
+        × ReadsNumeral (numeral_of p) (Ok r.0)) }
+{
+    let (parts, end) = plain_number_at(bytes, at)?;
+    if bytes.len() - end < 17 || !is_unpadded(parts.integer, parts.fraction) {
+        return None;
+    }
+    let text = &bytes[at + parts.negative as usize..];
+    let digits = Inline::of_text(text, parts.integer.len(), parts.fraction.len())?;
+    Some((
+        unpadded(parts.negative, parts.integer, parts.fraction, digits),
+        end,
+    ))
+}
+
 /// The number of few digits, which neither begin nor end with `0`.
 #[inline(always)]
-fn unpadded(negative: bool, integer: &[u8], fraction: &[u8]) -> JsonNumber
+fn unpadded(negative: bool, integer: &[u8], fraction: &[u8], digits: Inline) -> JsonNumber
     requires integer { AreDigits integer.now }
     requires fraction { AreDigits fraction.now }
     requires few { length integer.now + length fraction.now ≤ 24 }
     requires some { 0 < length integer.now }
     requires lead { strip_leading (integer.now ++ fraction.now) ≡ integer.now ++ fraction.now }
     requires trail { strip_trailing (integer.now ++ fraction.now) ≡ integer.now ++ fraction.now }
+    requires digits { take digits.len digits.bytes ≡ integer.now ++ fraction.now }
     ensures decimal { result.decimal ≡ value (plain_numeral negative integer.now fraction.now) }
     ensures fits { IsTrue (in_range (value (plain_numeral negative integer.now fraction.now))) }
 {
-    JsonNumber::of_few(negative, integer, fraction, -(fraction.len() as i64))
+    JsonNumber::of_inline(negative, digits, -(fraction.len() as i64))
 }
 
 /// The number of these parts, which may begin and end with zeros.

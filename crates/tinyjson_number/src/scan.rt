@@ -30,9 +30,8 @@ pub fn number_at(bytes: &[u8], at: usize) -> Option<(NumberParts<'_>, usize)>
 
 /// The parts of the number at a place of a text, and the place after it; none exactly where no number
 /// without an exponent stands there.
-#[doc(hidden)]
 #[inline(always)]
-pub fn plain_number_at(bytes: &[u8], at: usize) -> Option<(NumberParts<'_>, usize)>
+pub(crate) fn plain_number_at(bytes: &[u8], at: usize) -> Option<(NumberParts<'_>, usize)>
     requires { at ≤ length bytes.now }
     ensures { MatchOption result
         ((n : Numeral) (end : ℕ) → n.exponent ≡ None → ¬ NumeralAt bytes.now at n end)

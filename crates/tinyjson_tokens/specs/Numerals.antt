@@ -2,9 +2,7 @@
 use Rattle.std.specs.Prelude.{◌≡◌, ℕ, [], ◌∷◌, Option, IfSome, IsTrue}
 use Rattle.tinyjson_number.specs.Numeral.{Numeral, spelling, value, in_range}
 use Rattle.tinyjson_number.specs.Number.{Canonical}
-use Rattle.tinyjson_number.specs.Reading.{plain, numeral_of}
 use Rattle.tinyjson_number.specs.Scan.{EndsNumber, IsGrammatical}
-use Rattle.tinyjson_number.specs.declared.parse.NumberParts.{NumberParts}
 use Rattle.tinyjson_tokens.specs.Source.{Sight, Takes}
 
 -- a number does not go on with this character
@@ -16,10 +14,6 @@ pub record TakesNumeral {S : Type 0} (sight : Sight S) (p : S) (n : Numeral) (q 
   pub grammatical : IsGrammatical n
   pub takes : Takes sight p (spelling n) q
   pub ends : (o : Option ℕ) × sight.shows q o × IfSome o (EndsBefore n)
-
--- the source p gives the number of these parts first, and q is the source after it
-abbrev pub TakesParts : {S : Type 0} → Sight S → S → NumberParts → S → Type 0
-TakesParts sight p parts q = (n : Numeral) × (numeral_of parts ≡ plain n) × TakesNumeral sight p n q
 
 -- the source p gives this number first, and q is the source after it
 abbrev pub TakesNumber : {S : Type 0} → Sight S → S → Canonical → S → Type 0

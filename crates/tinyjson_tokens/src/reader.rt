@@ -111,11 +111,9 @@ impl<S: Tokens> TokenReader<S> {
             (λ n. complete true fs (number n.decimal) true) self.new.source }
         ensures left { OnOk result (S.left self.new.source < S.left self.old.source) }
     {
-        if let Some((parts, after)) = self.source.numeral() {
-            if let Ok(number) = JsonNumber::from_parts(self.alloc, parts) {
-                self.source = after;
-                return Ok(number);
-            }
+        if let Some((number, after)) = self.source.short_number() {
+            self.source = after;
+            return Ok(number);
         }
         self.long_number()
     }

@@ -15,7 +15,7 @@ use crate::tokens::Tokens;
 use crate::utf16::push;
 use std::alloc::{AllocError, Global};
 use tinyjson_bytes::{digits_end, plain_end, white_end};
-use tinyjson_number::{JsonNumber, NumberParts, number_at, plain_number_at};
+use tinyjson_number::{JsonNumber, number_at, short_number_at};
 
 /// A text, and how many of its bytes were consumed. Line and column are counted when they are asked for.
 #[derive(Drop)]
@@ -197,13 +197,14 @@ impl<'a> Tokens for TextBytes<'a> {
         }
     }
 
-    fn numeral(&self) -> Option<(NumberParts<'_>, Self)> {
-        let (parts, end) = plain_number_at(self.text.as_bytes(), self.at)?;
+    #[inline(always)]
+    fn short_number(&self) -> Option<(JsonNumber, Self)> {
+        let (number, end) = short_number_at(self.text.as_bytes(), self.at)?;
         let after = TextBytes {
             text: self.text,
             at: end,
         };
-        Some((parts, after))
+        Some((number, after))
     }
 
     fn scientific(&self, alloc: Global) -> Option<(JsonNumber, Self)> {

@@ -1,14 +1,13 @@
 //! What a source reads at once, if it has its characters in memory: escapes and numbers.
-ghost use Rattle.std.specs.Prelude.{ℕ, ◌+◌, ◌^◌, ◌<◌, ◌≤◌, List, [], false, IfSome};
-ghost use Rattle.std.specs.Prelude.{MatchResult, Option, length};
+ghost use Rattle.std.specs.Prelude.{ℕ, ◌<◌, ◌≤◌, List, [], false, IfSome, MatchResult, Option};
 ghost use Rattle.tinyjson_grammar.specs.Machine.{Frame};
-ghost use Rattle.tinyjson_tokens.specs.Numerals.{TakesNumber, TakesParts};
+ghost use Rattle.tinyjson_tokens.specs.Numerals.{TakesNumber};
 ghost use Rattle.tinyjson_tokens.specs.Steps.{Halts, Leads, within};
 
 use crate::cursor::Characters;
 use crate::source::Source;
 use std::alloc::{AllocError, Global};
-use tinyjson_number::{JsonNumber, NumberParts};
+use tinyjson_number::JsonNumber;
 
 /// A source of which the parser reads.
 pub trait Tokens: Source {
@@ -24,12 +23,10 @@ pub trait Tokens: Source {
         self.plain(string)
     }
 
-    /// The parts of the number that comes next, and the source after it, if this source finds it at once, and
-    /// it has no exponent. It may find none.
-    fn numeral(&self) -> Option<(NumberParts<'_>, Self)>
-        ensures takes { IfSome result (λ r. TakesParts Self.sight self.now r.0 r.1) }
-        ensures room { IfSome result (λ r.
-            length r.0.integer.now + length r.0.fraction.now < 2 ^ 64) }
+    /// The number that comes next, and the source after it, if this source finds it at once, and it has few
+    /// digits and no exponent. It may find none.
+    fn short_number(&self) -> Option<(JsonNumber, Self)>
+        ensures takes { IfSome result (λ r. TakesNumber Self.sight self.now r.0 r.1) }
         ensures left { IfSome result (λ r. Self.left r.1 < Self.left self.now) }
     {
         None
