@@ -2,10 +2,9 @@
 use Rattle.std.proofs.Common.{◌≡◌, ◌+◌, max, ◌∷◌, [], refl, ap, ◌∙◌, IsTrue}
 use Rattle.std.specs.Int.{Width}
 use Rattle.tinyjson_grammar.specs.Tree as tree
-use Rattle.tinyjson_grammar.specs.Syntax.{Syntax, Elements, Pairs, null, boolean, number, string, empty_array, array, empty_object}
-use Rattle.tinyjson_grammar.specs.Syntax.{object, last_element, element, last_pair, pair, is_key, tree_of, elements_trees, pairs_members}
-use Rattle.tinyjson_grammar.specs.Syntax.{IsStrictAt, ElementsAreStrictAt, PairsAreStrictAt, IsSpelled, AreElements, ArePairs, depth}
-use Rattle.tinyjson_grammar.specs.Syntax.{elements_depth, pairs_depth}
+use Rattle.tinyjson_grammar.specs.Syntax.{Syntax, Elements, Pairs, null, number, string, array, object, last_element, element, last_pair}
+use Rattle.tinyjson_grammar.specs.Syntax.{pair, is_key, tree_of, elements_trees, pairs_members, IsStrictAt, ElementsAreStrictAt}
+use Rattle.tinyjson_grammar.specs.Syntax.{PairsAreStrictAt, IsSpelled, AreElements, ArePairs, depth, elements_depth, pairs_depth}
 use Rattle.tinyjson_laws.specs.WhiteSpace.{bare_value, bare_elements, bare_pairs}
 
 mutual

@@ -9,21 +9,17 @@ use Rattle.tinyjson_grammar.proofs.Callers.Laws.{closing, loosely_from, viable_b
 
 cut_off_loosely : (limit : Option ℕ) (b : CutOff) (p : Path) → IsPath limit p → IsCutOff b → IsWithin limit (level p + cut_off_depth b)
     → IsLooselyViable limit (path_text p ++ cut_off_text b)
-cut_off_loosely limit (bad_key ps w s) p hp h hd =
-    loosely_from limit _ (closing (key_in p ps w)) (simp append_assoc)
+cut_off_loosely limit (bad_key ps w s) p hp h hd = loosely_from limit _ (closing (key_in p ps w)) (simp append_assoc)
     (closes limit (key_in p ps w) (hp, h.0, h.1, within_le limit _ _ hd (omega arith)) s h.2.spelled (within_le limit _ _ hd (omega arith))
     [] tt)
-cut_off_loosely limit (in_key ps w b) p hp h hd =
-    subst (IsLooselyViable limit) (simp append_assoc)
+cut_off_loosely limit (in_key ps w b) p hp h hd = subst (IsLooselyViable limit) (simp append_assoc)
     (cut_off_loosely limit b (key_in p ps w) (hp, h.0, h.1, within_le limit _ _ hd (omega arith)) h.2
     (within_le limit _ _ hd (omega arith)))
-cut_off_loosely limit (in_member ps a k v u b) p hp h hd =
-    subst (IsLooselyViable limit) (simp append_assoc)
+cut_off_loosely limit (in_member ps a k v u b) p hp h hd = subst (IsLooselyViable limit) (simp append_assoc)
     (cut_off_loosely limit b (value_in p ps a (string k) v u)
     (hp, h.0, h.1, record { spelled = h.2; strict = h.3 }, refl, h.4, h.5, within_le limit _ _ hd (omega arith)) h.6
     (within_le limit _ _ hd (omega arith)))
-cut_off_loosely limit (in_item es w b) p hp h hd =
-    subst (IsLooselyViable limit) (simp append_assoc)
+cut_off_loosely limit (in_item es w b) p hp h hd = subst (IsLooselyViable limit) (simp append_assoc)
     (cut_off_loosely limit b (item_in p es w) (hp, h.0, h.1, within_le limit _ _ hd (omega arith)) h.2
     (within_le limit _ _ hd (omega arith)))
 

@@ -46,6 +46,5 @@ pub timely : (limit : Option ℕ) (xs : List ℕ) (r : Result JsonValue JsonPars
 timely limit xs (Ok v) p = tt
 timely limit xs (Err e) p = (
   length p.consumed,
-  subst (λ ys. StopsAt limit ys e (length p.consumed)) (sym p.whole)
-      (stops_at limit e p.consumed p.rest p.answer.1 p.answer.0),
+  subst (λ ys. StopsAt limit ys e (length p.consumed)) (sym p.whole) (stops_at limit e p.consumed p.rest p.answer.1 p.answer.0),
 )

@@ -35,13 +35,9 @@ compact_object k l t ms h hs = (λ i. 123 ∷ (((quoted l ++ 58 ∷ h i) ++ hs i
 mutual
   compact_is : (t : Tree) (k : ℕ) → text None k t ≡ compact_text t
   compact_is tree.null k = refl
-  compact_is (tree.boolean b) k = refl
-  compact_is (tree.number d) k = refl
-  compact_is (tree.string cs) k = refl
-  compact_is (tree.array tree.no_items) k = refl
   compact_is (tree.array (tree.item t ts)) k = compact_array k t ts (compact_is t (k + 1)) (items_compact ts (k + 1))
-  compact_is (tree.object tree.no_members) k = refl
   compact_is (tree.object (tree.member l t ms)) k = compact_object k l t ms (compact_is t (k + 1)) (members_compact ms (k + 1))
+  compact_is _ k = refl
 
   items_compact : (ts : Items) (k : ℕ) → CompactItems k ts
   items_compact tree.no_items k = refl
@@ -65,8 +61,7 @@ module _ (indent : List ℕ) where
 
   indented_array : (k : ℕ) (t : Tree) (ts : Items) → text (Some indent) (k + 1) t ≡ indented_text indent (k + 1) t
       → IndentedItems (k + 1) ts → text (Some indent) k (tree.array (tree.item t ts)) ≡ indented_text indent k (tree.array (tree.item t ts))
-  indented_array k t ts h hs =
-      (λ i. 91 ∷ ((line indent (k + 1) ++ (h i ++ hs i)) ++ (line indent k ++ 93 ∷ [])))
+  indented_array k t ts h hs = (λ i. 91 ∷ ((line indent (k + 1) ++ (h i ++ hs i)) ++ (line indent k ++ 93 ∷ [])))
       ∙ ap (λ z. 91 ∷ z) (regroup [] (line indent (k + 1)) (indented_text indent (k + 1) t) (commas (indented_items indent (k + 1) ts))
       (line indent k) 93)
       ∙ ap (λ z. 91 ∷ ((z ++ line indent k) ++ 93 ∷ []))
@@ -89,14 +84,9 @@ module _ (indent : List ℕ) where
   mutual
     indented_is : (t : Tree) (k : ℕ) → text (Some indent) k t ≡ indented_text indent k t
     indented_is tree.null k = refl
-    indented_is (tree.boolean b) k = refl
-    indented_is (tree.number d) k = refl
-    indented_is (tree.string cs) k = refl
-    indented_is (tree.array tree.no_items) k = refl
     indented_is (tree.array (tree.item t ts)) k = indented_array k t ts (indented_is t (k + 1)) (items_indented ts (k + 1))
-    indented_is (tree.object tree.no_members) k = refl
-    indented_is (tree.object (tree.member l t ms)) k =
-        indented_object k l t ms (indented_is t (k + 1)) (members_indented ms (k + 1))
+    indented_is (tree.object (tree.member l t ms)) k = indented_object k l t ms (indented_is t (k + 1)) (members_indented ms (k + 1))
+    indented_is _ k = refl
 
     items_indented : (ts : Items) (k : ℕ) → IndentedItems k ts
     items_indented tree.no_items k = refl

@@ -42,8 +42,7 @@ found_put k l t ms = find_put k l t ms ∙ first (bytes_eq k l) t (find k ms)
 
 found : (k : List ℕ) (ps : Pairs) (ms : Members) → find k (pairs_members ms ps) ≡ option_or (last_value k (entries_of ps)) (find k ms)
 found k (last_pair a l b c s d) ms = found_put k (key_of (tree_of l)) (tree_of s) ms
-found k (pair a l b c s d ps) ms =
-    found k ps (tree.put (key_of (tree_of l)) (tree_of s) ms)
+found k (pair a l b c s d ps) ms = found k ps (tree.put (key_of (tree_of l)) (tree_of s) ms)
     ∙ ap (option_or (last_value k (entries_of ps))) (found_put k (key_of (tree_of l)) (tree_of s) ms)
     ∙ option_or_assoc (last_value k (entries_of ps)) (value_at k (key_of (tree_of l), tree_of s)) (find k ms)
 
@@ -60,8 +59,7 @@ here : (k : List ℕ) (e : Entry) (b : Bool) → bytes_eq k e.0 ≡ b
 here k e true h = (λ t i. (sym ((bytes_eq-Decides k e.0).0 h), same_Some e.1 t i), λ i. absurd (some≢none e.1 i))
 here k e false h = (
   λ t i. absurd (some≢none t (sym i)),
-  λ i j. let r : bytes_eq k e.0 ≡ true =
-      (bytes_eq-Decides k e.0).1 (sym j) in let f : true ≡ false = sym r ∙ h in cc,
+  λ i j. let r : bytes_eq k e.0 ≡ true = (bytes_eq-Decides k e.0).1 (sym j) in let f : true ≡ false = sym r ∙ h in cc,
 )
 
 none_by : (k : List ℕ) (e : Entry) (es : List Entry) (o : Option Tree) → last_value k es ≡ o → option_or o (value_at k e) ≡ None

@@ -25,7 +25,6 @@ decimals_have_texts d = (λ h. (decimal_text d, decimal_reads_back d h), λ p. s
 
 pub same_decimal : SameDecimal
 same_decimal d e h j = (
-  λ i. one_decimal (decimal_text e) d e (subst (λ t. IsNumberText t d) i (decimal_reads_back d h))
-      (decimal_reads_back e j),
+  λ i. one_decimal (decimal_text e) d e (subst (λ t. IsNumberText t d) i (decimal_reads_back d h)) (decimal_reads_back e j),
   λ i. ap decimal_text i,
 )

@@ -1,7 +1,6 @@
 -- Prefixes of texts, and where an error comes.
 use Rattle.std.proofs.Common.{◌≡◌, ℕ, zero, suc, ◌+◌, ◌<◌, ◌≤◌, Bool, true, false, List, [], ◌∷◌, ◌++◌, Option, Some, None, refl, ap, sym}
-use Rattle.std.proofs.Common.{◌∙◌, subst, append_assoc, arith, length, take, drop, ◌⊎◌, inl, inr, ⊎_elim, IsTrue, ◌==◌, ◌||◌}
-use Rattle.std.proofs.Common.{length-append}
+use Rattle.std.proofs.Common.{◌∙◌, subst, append_assoc, arith, length, take, drop, ◌⊎◌, inl, inr, ⊎_elim, IsTrue, ◌==◌, ◌||◌, length-append}
 use Rattle.std.specs.Char.{is_ascii_digit}
 use Rattle.std.proofs.Math.Seq.{take-append_seam}
 use Rattle.std.proofs.lemmas.Bool.{false≢true, cases_lt, or_right, eqb-true}
@@ -9,7 +8,7 @@ use Rattle.std.proofs.lemmas.List.{take-append-le, take-append-drop, length-drop
 use Rattle.tinyjson_number.specs.Numeral.{AreDigits, minus_text, Numeral, value, power_fits, in_range}
 use Rattle.tinyjson_grammar.specs.Tree as tree
 use Rattle.tinyjson_grammar.specs.Characters.{is_white}
-use Rattle.tinyjson_grammar.specs.Syntax.{Syntax, null, boolean, number, string, empty_array, array, empty_object, object, text, AreWhite}
+use Rattle.tinyjson_grammar.specs.Syntax.{Syntax, null, boolean, number, string, empty_array, array, empty_object, text, AreWhite}
 use Rattle.tinyjson_grammar.specs.Syntax.{IsSpelled, IsStrict, IsWithin}
 use Rattle.tinyjson_grammar.specs.Grammar.{IsLoose, IsAccepted}
 use Rattle.tinyjson_grammar.specs.Prefix.{IsViable, IsErrorFree, IsCutOffText, IsLooselyViable}
@@ -45,8 +44,7 @@ null_accepted limit = (
       white_before = tt;
       spelled = tt;
       white_after = tt;
-      shallow =
-          scalar_within limit;
+      shallow = scalar_within limit;
       whole = refl;
     };
     strict = tt;
@@ -95,8 +93,7 @@ literal_or_growth (number n) h = inr (numeral_first n.negative n.integer _ h.som
 literal_or_growth (string ps) h = inr (34, _, refl, refl)
 literal_or_growth (empty_array w) h = inr (91, _, refl, refl)
 literal_or_growth (array es) h = inr (91, _, refl, refl)
-literal_or_growth (empty_object w) h = inr (123, _, refl, refl)
-literal_or_growth (object ps) h = inr (123, _, refl, refl)
+literal_or_growth _ h = inr (123, _, refl, refl)
 
 literal_first : (xs : List ℕ) → IsLiteral xs → FirstOf begins_value xs
 literal_first xs (inl e) = (110, _, e, refl)
@@ -122,13 +119,7 @@ begun_digit : (c : ℕ) → IsTrue (is_ascii_digit c) → BeginsStrictly c
 begun_digit c h = (
   number (digit c),
   [],
-  record {
-    integer = (h, tt);
-    some_digit = omega arith;
-    fraction = tt;
-    exponent =
-        tt;
-  },
+  record { integer = (h, tt); some_digit = omega arith; fraction = tt; exponent = tt },
   (refl, digit_fits c (c == 48) refl),
   refl,
 )
@@ -143,15 +134,13 @@ either true d P h f g = f refl
 either false d P h f g = g h
 
 begun_growth : (c : ℕ) → IsTrue (begins_growth c) → BeginsStrictly c
-begun_growth c h =
-    either (c == 34) _ (BeginsStrictly c) h (begun_by (string []) 34 _ tt refl refl c) (λ h.
+begun_growth c h = either (c == 34) _ (BeginsStrictly c) h (begun_by (string []) 34 _ tt refl refl c) (λ h.
     either (c == 91) _ (BeginsStrictly c) h (begun_by (empty_array []) 91 _ tt tt refl c) (λ h.
     either (c == 123) _ (BeginsStrictly c) h (begun_by (empty_object []) 123 _ tt tt refl c) (λ h.
     either (c == 45) _ (BeginsStrictly c) h (begun_minus c) (begun_digit c))))
 
 begun : (c : ℕ) → IsTrue (begins_value c) → BeginsStrictly c
-begun c h =
-    either (c == 110) _ (BeginsStrictly c) h (begun_by null 110 _ tt tt refl c) (λ h.
+begun c h = either (c == 110) _ (BeginsStrictly c) h (begun_by null 110 _ tt tt refl c) (λ h.
     either (c == 116) _ (BeginsStrictly c) h (begun_by (boolean true) 116 _ tt tt refl c) (λ h.
     either (c == 102) _ (BeginsStrictly c) h (begun_by (boolean false) 102 _ tt tt refl c) (begun_growth c)))
 
@@ -238,8 +227,7 @@ module _ (P : List ℕ → Type 0) (used : List ℕ) where
 
   never_too_soon : (rest : List ℕ) → FailsNext rest → (n : ℕ) → IsShortest P (used ++ rest) n → n ≤ length used + 1
   never_too_soon [] f n h = let l = length-append used [] in omega (arith, h.within, l)
-  never_too_soon (c ∷ more) f n h = ⊎_elim
-      (λ l. absurd (h.least (length (used ++ c ∷ [])) l (fails_next c more f)))
+  never_too_soon (c ∷ more) f n h = ⊎_elim (λ l. absurd (h.least (length (used ++ c ∷ [])) l (fails_next c more f)))
       (λ l. let e = length-append used (c ∷ []) in omega (arith, l, e)) (cases_lt (length (used ++ c ∷ [])) n)
 
   at_end : (rest : List ℕ) → FailsNext rest → ((n : ℕ) → n ≤ length (used ++ rest) → ¬ ¬ P (take n (used ++ rest))) → rest ≡ []
@@ -331,8 +319,5 @@ promptly limit used rest last short p m h =
 pub interrupted_not_too_late : InterruptedNotTooLate
 interrupted_not_too_late limit used rest r = (
   λ l h. holds_before (IsLooselyViable limit) (viable_before (IsLoose limit)) used rest l r.0.viable h,
-  ⊎_elim
-      (λ p. promptly limit used rest [] (omega arith) p)
-      (λ k. promptly limit used rest (k.1.0.0 ∷ []) (omega arith) k.1.0.1)
-      r.0.place,
+  ⊎_elim (λ p. promptly limit used rest [] (omega arith) p) (λ k. promptly limit used rest (k.1.0.0 ∷ []) (omega arith) k.1.0.1) r.0.place,
 )

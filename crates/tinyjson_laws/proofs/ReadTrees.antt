@@ -5,16 +5,15 @@ use Rattle.std.specs.Int.{Width}
 use Rattle.std.specs.Char.{IsScalar, digit_value}
 use Rattle.std.specs.Str.{all_scalars}
 use Rattle.std.specs.declared.cmp.Ordering.{Ordering}
-use Rattle.std.specs.declared.cmp.Ordering.TheVariants.{Less, Equal, Greater}
+use Rattle.std.specs.declared.cmp.Ordering.TheVariants.{Less}
 use Rattle.std.proofs.lemmas.Bool.{false≢true, and_from, and_parts, ltb-true}
 use Rattle.tinyjson_grammar.specs.Characters.{short_escape, is_hex, is_high, is_low, is_surrogate, pair_of, decode, paired}
 use Rattle.tinyjson_grammar.specs.Tree as tree
 use Rattle.tinyjson_grammar.specs.Tree.{key_cmp, tree_depth, items_depth, members_depth}
-use Rattle.tinyjson_grammar.specs.Syntax.{Syntax, Elements, Pairs, null, boolean, number, string, empty_array, array, empty_object}
-use Rattle.tinyjson_grammar.specs.Syntax.{object, last_element, element, last_pair, pair, Piece, plain, escape, unit, IsPiece, ArePieces}
-use Rattle.tinyjson_grammar.specs.Syntax.{code, piece_codes, unit_value, IsSpelled, AreElements, ArePairs, IsStrictAt}
-use Rattle.tinyjson_grammar.specs.Syntax.{ElementsAreStrictAt, PairsAreStrictAt, is_key, tree_of, elements_trees, pairs_members, depth}
-use Rattle.tinyjson_grammar.specs.Syntax.{elements_depth, pairs_depth}
+use Rattle.tinyjson_grammar.specs.Syntax.{Syntax, Elements, Pairs, null, number, string, array, empty_object, object, last_element, element}
+use Rattle.tinyjson_grammar.specs.Syntax.{last_pair, pair, Piece, plain, escape, unit, IsPiece, ArePieces, code, piece_codes, unit_value}
+use Rattle.tinyjson_grammar.specs.Syntax.{IsSpelled, AreElements, ArePairs, IsStrictAt, ElementsAreStrictAt, PairsAreStrictAt, is_key}
+use Rattle.tinyjson_grammar.specs.Syntax.{tree_of, elements_trees, pairs_members, depth, elements_depth, pairs_depth}
 use Rattle.tinyjson_grammar.specs.Soundness.{IsSorted, IsTreeAt, AreItemsAt, AreMembersAt}
 use Rattle.tinyjson.proofs.Callers.{sorted_put}
 use Rattle.tinyjson.proofs.Callers.Laws.{are_put}
@@ -34,8 +33,7 @@ unit_code a b c d ha hb hc hd = omega (
   arith,
   ltb-true (digit_value a) 16 ha,
   ltb-true (digit_value b) 16 hb,
-  ltb-true (digit_value c) 16
-      hc,
+  ltb-true (digit_value c) 16 hc,
   ltb-true (digit_value d) 16 hd,
 )
 
@@ -65,8 +63,7 @@ choose false x y p q e f g = g refl e
 decoded : (us : List ℕ) → AreCodes us → IsTrue (paired us) → IsTrue (all_scalars (decode us))
 decoded [] h e = refl
 decoded (u ∷ []) h e = and_from _ _ (alone_scalar u h.0 e) refl
-decoded (u ∷ v ∷ us) h e = choose (is_high u && is_low v) _ _ _ _ e
-    (λ b p. and_from _ _ (pair_scalar u v b) (decoded us h.1.1 p))
+decoded (u ∷ v ∷ us) h e = choose (is_high u && is_low v) _ _ _ _ e (λ b p. and_from _ _ (pair_scalar u v b) (decoded us h.1.1 p))
     (λ b p. let k = and_parts _ _ p in and_from _ _ (alone_scalar u h.0 k.0) (decoded (v ∷ us) h.1 k.1))
 
 pub string_scalars : (ps : List Piece) → ArePieces ps → IsTrue (paired (piece_codes ps)) → IsTrue (all_scalars (decode (piece_codes ps)))
@@ -78,8 +75,7 @@ depth_put_at : (o : Ordering) (k : List ℕ) (t : tree.Tree) (l : List ℕ) (u :
     → members_depth more ≤ max (tree_depth t) (members_depth ms)
     → members_depth (tree.put_at o k t l u ms more) ≤ max (tree_depth t) (max (tree_depth u) (members_depth ms))
 depth_put_at Less k t l u ms more h = omega arith
-depth_put_at Equal k t l u ms more h = omega arith
-depth_put_at Greater k t l u ms more h = omega arith
+depth_put_at _ k t l u ms more h = omega arith
 
 depth_put : (k : List ℕ) (t : tree.Tree) (ms : tree.Members) → members_depth (tree.put k t ms) ≤ max (tree_depth t) (members_depth ms)
 depth_put k t tree.no_members = omega arith
@@ -91,12 +87,7 @@ key_scalars : (width : Width) (k : Syntax) → IsSpelled k → IsTrue (is_key k)
     → IsTrue (all_scalars (tree.key_of (tree_of k)))
 key_scalars width (string ps) h i s = string_scalars ps h s
 key_scalars width null h i s = absurd (false≢true i)
-key_scalars width (boolean b) h i s = absurd (false≢true i)
-key_scalars width (number n) h i s = absurd (false≢true i)
-key_scalars width (empty_array w) h i s = absurd (false≢true i)
-key_scalars width (array es) h i s = absurd (false≢true i)
-key_scalars width (empty_object w) h i s = absurd (false≢true i)
-key_scalars width (object ps) h i s = absurd (false≢true i)
+key_scalars width _ h i s = absurd (false≢true i)
 
 mutual
   pub tree_is : (width : Width) (s : Syntax) → IsSpelled s → IsStrictAt width s → IsTreeAt width (tree_of s)
@@ -125,13 +116,9 @@ mutual
 mutual
   pub depth_is : (s : Syntax) → tree_depth (tree_of s) ≤ depth s
   depth_is null = omega arith
-  depth_is (boolean b) = omega arith
-  depth_is (number n) = omega arith
-  depth_is (string ps) = omega arith
-  depth_is (empty_array w) = omega arith
   depth_is (array es) = omega (arith, depth_of_items es)
-  depth_is (empty_object w) = omega arith
   depth_is (object ps) = omega (arith, depth_of_members ps tree.no_members)
+  depth_is _ = omega arith
 
   depth_of_items : (es : Elements) → items_depth (tree.items_of (elements_trees es)) ≤ elements_depth es
   depth_of_items (last_element v s w) = omega (arith, depth_is s)
@@ -143,6 +130,5 @@ mutual
     arith,
     depth_put (tree.key_of (tree_of k)) (tree_of s) ms,
     depth_is s,
-    depth_of_members ps
-        (tree.put (tree.key_of (tree_of k)) (tree_of s) ms),
+    depth_of_members ps (tree.put (tree.key_of (tree_of k)) (tree_of s) ms),
   )

@@ -55,8 +55,7 @@ at_limit width limit other xs t f h =
 pub wider_limit : WiderLimit
 wider_limit m n xs t l h = (
   at_limit power_width (Some m) (Some n) xs t (λ k d. omega arith) h,
-  at_limit power_width (Some m) None xs t
-      (λ k d. tt) h,
+  at_limit power_width (Some m) None xs t (λ k d. tt) h,
 )
 
 pub wider_range : WiderRange

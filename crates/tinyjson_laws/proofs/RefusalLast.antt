@@ -9,9 +9,9 @@ use Rattle.tinyjson_grammar.specs.Prefix.{IsErrorFree, IsLooselyViable, IsCutOff
 use Rattle.tinyjson_grammar.specs.Grammar.{IsAccepted}
 use Rattle.tinyjson_grammar.specs.Kind.{kind_of}
 use Rattle.tinyjson_grammar.specs.Machine
-use Rattle.tinyjson_grammar.specs.Machine.{Rules, strictly, Frame, Phase, first, awaited, literal, digits, quoted, Stage, Next, next}
-use Rattle.tinyjson_grammar.specs.Machine.{stop, Outcome, accepted, refused, rest_of, complete, finish, then_step, unless_ended}
-use Rattle.tinyjson_grammar.specs.Machine.{step_digits, step_escape, end_digits, end_plain, step, run, end}
+use Rattle.tinyjson_grammar.specs.Machine.{Rules, strictly, Frame, Phase, first, awaited, literal, digits, quoted, Stage, Next, next, stop}
+use Rattle.tinyjson_grammar.specs.Machine.{Outcome, accepted, refused, rest_of, complete, finish, then_step, unless_ended, step_digits}
+use Rattle.tinyjson_grammar.specs.Machine.{step_escape, end_digits, end_plain, step, run, end}
 use Rattle.tinyjson_grammar.specs.Refusal.{AwaitsAt}
 use Rattle.tinyjson_grammar.specs.Syntax.{Syntax}
 use Rattle.tinyjson_grammar.specs.Tree as tree
@@ -20,13 +20,13 @@ use Rattle.tinyjson_number.specs.Numeral.{Numeral, has_leading_zero, is_exponent
 use Rattle.tinyjson_grammar.specs.declared.kind.JsonKind.{JsonKind}
 use Rattle.tinyjson_grammar.specs.declared.error.JsonParseErrorKind.{JsonParseErrorKind}
 use Rattle.tinyjson_grammar.specs.declared.error.JsonParseErrorKind.TheVariants.{UnexpectedEof, ExpectedEof, KeyNotString, ExpectedColon}
-use Rattle.tinyjson_grammar.specs.declared.error.JsonParseErrorKind.TheVariants.{ExpectedCommaOrBrace, ExpectedCommaOrBracket}
-use Rattle.tinyjson_grammar.specs.declared.error.JsonParseErrorKind.TheVariants.{InvalidUtf16, NumberOutOfRange}
+use Rattle.tinyjson_grammar.specs.declared.error.JsonParseErrorKind.TheVariants.{ExpectedCommaOrBrace, ExpectedCommaOrBracket, InvalidUtf16}
+use Rattle.tinyjson_grammar.specs.declared.error.JsonParseErrorKind.TheVariants.{NumberOutOfRange}
 use Rattle.tinyjson.proofs.Callers.Laws.{all_front, all_rest}
 use Rattle.tinyjson_grammar.proofs.Callers.Laws.{cut_off_end, Path, outside, item_in, key_in, value_in, path_frames, continues}
-use Rattle.tinyjson_grammar.proofs.Callers.Laws.{continues_digit, continues_point, continues_letter, Read, at_first, at_awaited}
-use Rattle.tinyjson_grammar.proofs.Callers.Laws.{in_literal, in_digits, in_quoted, at_after, Part, part_stage, part_numeral, read_frames}
-use Rattle.tinyjson_grammar.proofs.Callers.Laws.{read_phase, IsRead, IsFresh, values, text_accepted, denies, is_unviable, Follows}
+use Rattle.tinyjson_grammar.proofs.Callers.Laws.{continues_digit, continues_point, continues_letter, Read, at_first, at_awaited, in_literal}
+use Rattle.tinyjson_grammar.proofs.Callers.Laws.{in_digits, in_quoted, at_after, Part, part_stage, part_numeral, read_frames, read_phase}
+use Rattle.tinyjson_grammar.proofs.Callers.Laws.{IsRead, IsFresh, values, text_accepted, denies, is_unviable, Follows}
 use Rattle.tinyjson_laws.proofs.RefusalPlaces.{Stands, Goes, Halts, goes_or_halts, halts_run, stands_viable, stands_next, stands_stop}
 use Rattle.tinyjson_laws.proofs.RefusalPlaces.{stands_follows, IsNoLetter, within_lacks, accepted_refused}
 
@@ -73,8 +73,7 @@ module _ (limit : Option ℕ) (prefix : List ℕ) (c : ℕ) (f : IsErrorFree lim
       → (IsAccepted limit ((prefix ++ c ∷ []) ++ f.0) ⊎ IsCutOffText limit ((prefix ++ c ∷ []) ++ f.0))
       → IsPassed (step (strictly limit) fs q c)
   passed_by fs q s (next gs p) i g = subst IsPassed (sym i) tt
-  passed_by fs q s (stop k b) i (inl t) =
-      absurd (accepted_refused t.0 _ _ (sym (text_accepted limit ((prefix ++ c ∷ []) ++ f.0) t.0 t.1)
+  passed_by fs q s (stop k b) i (inl t) = absurd (accepted_refused t.0 _ _ (sym (text_accepted limit ((prefix ++ c ∷ []) ++ f.0) t.0 t.1)
       ∙ (ap (run (strictly limit) [] awaited) same_list ∙ stands_stop limit prefix fs q s c k b i f.0)))
   passed_by fs q s (stop k b) i (inr t) =
       let e = cut_off_end limit ((prefix ++ c ∷ []) ++ f.0) t in
@@ -184,8 +183,7 @@ module _ (limit : Option ℕ) (fs : List Frame) where
   digits_step prefix s n st h f c hc d = ⊎_elim
       (λ e. ap (unless_ended (strictly limit) fs n c) e ∙ ap (λ m. then_step (strictly limit) m c) f)
       (λ e. absurd (d (stands_viable limit (prefix ++ c ∷ []) e.0 e.1
-      (stands_next limit prefix fs e.0 (digits s n) e.1 c hc st (ap (unless_ended (strictly limit) fs n c) e.2)))))
-      (lasts_step s n h c)
+      (stands_next limit prefix fs e.0 (digits s n) e.1 c hc st (ap (unless_ended (strictly limit) fs n c) e.2))))) (lasts_step s n h c)
 
 -- ---- a quote may follow
 
@@ -230,14 +228,12 @@ quote_closes limit p cs us = split p (paired us)
 
 quote_string : (limit : Option ℕ) (prefix : List ℕ) (p : Path) (cs us : List ℕ)
     → Stands limit prefix (path_frames p) (quoted Machine.plain cs us) → ¬ IsLooselyViable limit (prefix ++ 34 ∷ []) → ⊥
-quote_string limit prefix p cs us s n = ⊎_elim
-    (λ e. quote_next limit prefix (path_frames p) e.0 (quoted Machine.plain cs us) e.1 s e.2 n)
+quote_string limit prefix p cs us s n = ⊎_elim (λ e. quote_next limit prefix (path_frames p) e.0 (quoted Machine.plain cs us) e.1 s e.2 n)
     (λ e. let f : Follows limit prefix (path_frames p) (quoted Machine.plain cs us) 34 (stop InvalidUtf16 true) =
     subst (Follows limit prefix (path_frames p) (quoted Machine.plain cs us) 34) e
     (stands_follows limit prefix (path_frames p) (quoted Machine.plain cs us) s 34 quote_scalar) in
     n (f [] (denies limit prefix (path_frames p) (quoted Machine.plain cs us) s.reached)
-    (is_unviable limit prefix (path_frames p) (quoted Machine.plain cs us) 34 InvalidUtf16 s.reached e)).1.1)
-    (quote_closes limit p cs us)
+    (is_unviable limit prefix (path_frames p) (quoted Machine.plain cs us) 34 InvalidUtf16 s.reached e)).1.1) (quote_closes limit p cs us)
 
 -- ---- the colon, the brace and the bracket
 
@@ -321,41 +317,29 @@ module _ (limit : Option ℕ) (prefix : List ℕ) (c : ℕ) (hc : IsScalar c) (d
       → step (strictly limit) (read_frames x) (read_phase x) c ≡ stop (ExpectedColon c) true
   unfolding step
   colon_at _ (digits_end (outside w) n l f g) s a = elim g [ ]
-  colon_at _ (digits_end (item_in p es w) n l f g) s a = elim g [ ]
-  colon_at _ (digits_end (key_in p ps w) n l f g) s a = elim g [ ]
-  colon_at _ (digits_end (value_in p ps k j b w) n l f g) s a = elim g [ ]
-  colon_at _ (value_ends (outside w) v u g) s a = elim g [ ]
-  colon_at _ (value_ends (item_in p es w) v u g) s a = elim g [ ]
   colon_at _ (value_ends (key_in p ps w) v u g) s a = rw (hw, ne_eqb c 58 a) refl
-  colon_at _ (value_ends (value_in p ps k j b w) v u g) s a = elim g [ ]
+  colon_at _ (digits_end _ n l f g) s a = elim g [ ]
+  colon_at _ (value_ends _ v u g) s a = elim g [ ]
 
   brace_at : (x : Read) → Settled limit 125 x → Stands limit prefix (read_frames x) (read_phase x) → (c ≡ 44 → ⊥) → (c ≡ 125 → ⊥)
       → step (strictly limit) (read_frames x) (read_phase x) c ≡ stop (ExpectedCommaOrBrace c) true
   unfolding step
-  brace_at _ (digits_end (outside w) n l f g) s a b = elim g [ ]
-  brace_at _ (digits_end (item_in p es w) n l f g) s a b = elim g [ ]
-  brace_at _ (digits_end (key_in p ps w) n l f g) s a b = elim g [ ]
   brace_at _ (digits_end (value_in p ps k j m w) n l f g) s a b =
       digits_step limit (path_frames (value_in p ps k j m w)) prefix (part_stage n) (part_numeral n) s l f c hc d
       ∙ rw (hw, ne_eqb c 44 a, ne_eqb c 125 b) refl
-  brace_at _ (value_ends (outside w) v u g) s a b = elim g [ ]
-  brace_at _ (value_ends (item_in p es w) v u g) s a b = elim g [ ]
-  brace_at _ (value_ends (key_in p ps w) v u g) s a b = elim g [ ]
   brace_at _ (value_ends (value_in p ps k j m w) v u g) s a b = rw (hw, ne_eqb c 44 a, ne_eqb c 125 b) refl
+  brace_at _ (digits_end _ n l f g) s a b = elim g [ ]
+  brace_at _ (value_ends _ v u g) s a b = elim g [ ]
 
   bracket_at : (x : Read) → Settled limit 93 x → Stands limit prefix (read_frames x) (read_phase x) → (c ≡ 44 → ⊥) → (c ≡ 93 → ⊥)
       → step (strictly limit) (read_frames x) (read_phase x) c ≡ stop (ExpectedCommaOrBracket c) true
   unfolding step
-  bracket_at _ (digits_end (outside w) n l f g) s a b = elim g [ ]
   bracket_at _ (digits_end (item_in p es w) n l f g) s a b =
       digits_step limit (path_frames (item_in p es w)) prefix (part_stage n) (part_numeral n) s l f c hc d
       ∙ rw (hw, ne_eqb c 44 a, ne_eqb c 93 b) refl
-  bracket_at _ (digits_end (key_in p ps w) n l f g) s a b = elim g [ ]
-  bracket_at _ (digits_end (value_in p ps k j m w) n l f g) s a b = elim g [ ]
-  bracket_at _ (value_ends (outside w) v u g) s a b = elim g [ ]
   bracket_at _ (value_ends (item_in p es w) v u g) s a b = rw (hw, ne_eqb c 44 a, ne_eqb c 93 b) refl
-  bracket_at _ (value_ends (key_in p ps w) v u g) s a b = elim g [ ]
-  bracket_at _ (value_ends (value_in p ps k j m w) v u g) s a b = elim g [ ]
+  bracket_at _ (digits_end _ n l f g) s a b = elim g [ ]
+  bracket_at _ (value_ends _ v u g) s a b = elim g [ ]
 
 -- ---- of an error
 
@@ -375,8 +359,7 @@ taken_exact limit prefix fs q s c k used rest e i =
 
 -- the place of c, where another one may stand
 awaits_exact : (limit : Option ℕ) (used rest : List ℕ) (c e : ℕ) → All IsScalar used → IsCloser e → (h : AwaitsAt limit used c e)
-    → (k : JsonParseErrorKind) →
-    (IsScalar c → (x : Read) → Settled limit e x → Stands limit h.place.prefix (read_frames x) (read_phase x)
+    → (k : JsonParseErrorKind) → (IsScalar c → (x : Read) → Settled limit e x → Stands limit h.place.prefix (read_frames x) (read_phase x)
     → step (strictly limit) (read_frames x) (read_phase x) c ≡ stop k true) → Exact limit k used rest
 awaits_exact limit used rest c e a i h k g =
     let b = all_front_of used h.place.prefix c h.place.ends a in
@@ -466,11 +449,9 @@ after_exact limit used rest text c a w e t d = ⊎_elim goes halts (goes_or_halt
 number_needs : (limit : Option ℕ) (e : ℕ) → IsCloser e → (p : Path) (n : Part) → Settled limit e (in_digits p n)
     → end_digits (strictly limit) (path_frames p) (part_stage n) (part_numeral n) ≡ refused UnexpectedEof []
 number_needs limit e h _ _ (digits_end (outside w) n l f g) = elim (rw h.no_white at g) [ ]
-number_needs limit e h _ _ (digits_end (item_in p es w) n l f g) =
-    lasts_end limit (path_frames (item_in p es w)) (part_stage n) (part_numeral n) l ∙ ap end_plain f
 number_needs limit e h _ _ (digits_end (key_in p ps w) n l f g) = elim g [ ]
-number_needs limit e h _ _ (digits_end (value_in p ps a k b w) n l f g) =
-    lasts_end limit (path_frames (value_in p ps a k b w)) (part_stage n) (part_numeral n) l ∙ ap end_plain f
+number_needs limit e h _ _ (digits_end p n l f g) =
+    lasts_end limit (path_frames p) (part_stage n) (part_numeral n) l ∙ ap end_plain f
 
 needs_end : (limit : Option ℕ) (e : ℕ) → IsCloser e → (x : Read) → IsRead limit x
     → IsPassed (step (strictly limit) (read_frames x) (read_phase x) e)

@@ -7,16 +7,16 @@ use Rattle.std.specs.Prelude.{All}
 use Rattle.std.specs.Char.{IsScalar, is_ascii_digit}
 use Rattle.tinyjson_grammar.specs.Characters.{is_white, paired}
 use Rattle.tinyjson_grammar.specs.Prefix.{IsErrorFree, IsLooselyViable, IsValue}
-use Rattle.tinyjson_grammar.specs.Grammar.{IsLoose, IsAccepted}
+use Rattle.tinyjson_grammar.specs.Grammar.{IsAccepted}
 use Rattle.tinyjson_grammar.specs.Kind.{kind_of}
 use Rattle.tinyjson_grammar.specs.Machine
 use Rattle.tinyjson_grammar.specs.Machine.{Rules, strictly, Frame, at_key, Phase, first, awaited, digits, quoted, colon, finished, Next}
-use Rattle.tinyjson_grammar.specs.Machine.{next, stop, accepted, refused, complete, finish, then_step, unless_ended, step_digits}
-use Rattle.tinyjson_grammar.specs.Machine.{end_plain, fits, push_frame, start, step, run, end}
+use Rattle.tinyjson_grammar.specs.Machine.{next, stop, accepted, refused, complete, finish, then_step, unless_ended, step_digits, end_plain}
+use Rattle.tinyjson_grammar.specs.Machine.{fits, push_frame, start, step, run, end}
 use Rattle.tinyjson_grammar.specs.Refusal.{IsRefusal, EndsBadKey, EndsExponent, BeginsAt, InString, NeedsMore, EndsBefore, BeginsWithNone}
 use Rattle.tinyjson_grammar.specs.Refusal.{IsLiteral, begins_value, RefusalSays}
-use Rattle.tinyjson_grammar.specs.Syntax.{Syntax, null, boolean, number, string, empty_array, array, empty_object, object, text, is_key}
-use Rattle.tinyjson_grammar.specs.Syntax.{tree_of, Piece, pieces_text, piece_codes, IsSpelled, IsWithin}
+use Rattle.tinyjson_grammar.specs.Syntax.{Syntax, number, string, empty_array, empty_object, text, is_key, tree_of, Piece, pieces_text}
+use Rattle.tinyjson_grammar.specs.Syntax.{piece_codes, IsSpelled, IsWithin}
 use Rattle.tinyjson_grammar.specs.Tree as tree
 use Rattle.tinyjson_grammar.specs.Tree.{Tree, Members}
 use Rattle.tinyjson.specs.View.{view}
@@ -28,11 +28,11 @@ use Rattle.tinyjson_grammar.specs.declared.error.JsonParseErrorKind.TheVariants 
 use Rattle.tinyjson.proofs.Callers.Laws.{all_front}
 use Rattle.tinyjson_grammar.proofs.Callers.Laws.{error_free, placed, refused_key, run_spelling, last_stage, end_finishes, Path, outside}
 use Rattle.tinyjson_grammar.proofs.Callers.Laws.{item_in, key_in, value_in, path_text, path_frames, level, IsPath, Part, part_minus}
-use Rattle.tinyjson_grammar.proofs.Callers.Laws.{part_integer, part_point, part_fraction, part_letter, part_sign, part_exponent}
-use Rattle.tinyjson_grammar.proofs.Callers.Laws.{part_stage, part_numeral, Read, at_first, at_awaited, in_literal, in_digits, in_quoted}
-use Rattle.tinyjson_grammar.proofs.Callers.Laws.{at_after, read_frames, read_phase, IsFresh, settle, fits_within, level_frames, rules}
-use Rattle.tinyjson_grammar.proofs.Callers.Laws.{only_tree, loose_accepted, Begins, begins_append, numeral_begins, text_begins, run_value}
-use Rattle.tinyjson_grammar.proofs.Callers.Laws.{ends, Ends, error_free_place, no_text}
+use Rattle.tinyjson_grammar.proofs.Callers.Laws.{part_integer, part_point, part_fraction, part_letter, part_sign, part_exponent, part_stage}
+use Rattle.tinyjson_grammar.proofs.Callers.Laws.{part_numeral, Read, at_first, at_awaited, in_literal, in_digits, in_quoted, at_after}
+use Rattle.tinyjson_grammar.proofs.Callers.Laws.{read_frames, read_phase, IsFresh, settle, fits_within, level_frames, rules, only_tree}
+use Rattle.tinyjson_grammar.proofs.Callers.Laws.{loose_accepted, Begins, begins_append, numeral_begins, text_begins, run_value, ends, Ends}
+use Rattle.tinyjson_grammar.proofs.Callers.Laws.{error_free_place, no_text}
 use Rattle.tinyjson_laws.proofs.ReadingLaws.{loose_at}
 use Rattle.tinyjson_laws.proofs.RefusalPlaces.{Goes, EndsKey, error_free_stands, stands_stop, run_stop, wide_stop, wide_step, Ready}
 use Rattle.tinyjson_laws.proofs.RefusalPlaces.{awaits_ready, ready_run, ready_free}
@@ -56,20 +56,16 @@ begun_run limit used token rest a h b =
     ∙ ready_run limit h.prefix (begun limit used token a h) (token ++ rest) (begins_append token rest b)
 
 token_exact : (limit : Option ℕ) (k : JsonParseErrorKind) (used token rest : List ℕ) → All IsScalar used → BeginsAt limit used token
-    → Begins token →
-    ((fs : List Frame) → run (strictly limit) fs awaited (token ++ rest) ≡ refused k rest) → Exact limit k used rest
+    → Begins token → ((fs : List Frame) → run (strictly limit) fs awaited (token ++ rest) ≡ refused k rest) → Exact limit k used rest
 token_exact limit k used token rest a h b g = begun_run limit used token rest a h b ∙ g (path_frames (begun limit used token a h).path)
 
 string_assoc : (a b c d : List ℕ) → (34 ∷ (a ++ (b ++ c))) ++ d ≡ 34 ∷ (a ++ (b ++ (c ++ d)))
 string_assoc a b c d = simp append_assoc
 
 string_exact : (limit : Option ℕ) (k : JsonParseErrorKind) (used : List ℕ) (units : List Piece) (tail rest : List ℕ) → All IsScalar used
-    → InString limit used units tail →
-    ((fs : List Frame) (cs us : List ℕ) → IsTrue (paired us)
-    → run (strictly limit) fs (quoted Machine.plain cs (us ++ piece_codes units)) (tail ++ rest) ≡ refused k rest)
-    → Exact limit k used rest
-string_exact limit k used units tail rest a h g =
-    token_exact limit k used _ rest a h.begins (_, _, refl, (refl, refl, refl))
+    → InString limit used units tail → ((fs : List Frame) (cs us : List ℕ) → IsTrue (paired us)
+    → run (strictly limit) fs (quoted Machine.plain cs (us ++ piece_codes units)) (tail ++ rest) ≡ refused k rest) → Exact limit k used rest
+string_exact limit k used units tail rest a h g = token_exact limit k used _ rest a h.begins (_, _, refl, (refl, refl, refl))
     (λ fs. let o = string_opens limit fs h.pieces units h.are_pieces h.are_paired h.are_units in
     ap (run (strictly limit) fs awaited) (string_assoc (pieces_text h.pieces) (pieces_text units) tail rest)
     ∙ (o.3 (tail ++ rest) ∙ g fs o.0 o.1 o.2))
@@ -216,13 +212,8 @@ module _ (limit : Option ℕ) (prefix : List ℕ) (r : Ready limit prefix) (ms :
       number_exact limit prefix r n hs.spelled (not-true (has_leading_zero n.integer) hs.strict.0) used rest e d soon
       (kind.KeyNotString (kind_of (tree.number (value n))))
       (ap (λ gs. finish (strictly limit) gs n) pf ∙ key_finish limit ms fs n hs.strict.1)
-  key_at null hs nk e d = key_other limit prefix r null hs nk (λ ys. tt) ms fs pf used rest e a f
-  key_at (boolean b) hs nk e d = key_other limit prefix r (boolean b) hs nk (λ ys. tt) ms fs pf used rest e a f
   key_at (string ps) hs nk e d = absurd (true≢false nk)
-  key_at (empty_array w) hs nk e d = key_other limit prefix r (empty_array w) hs nk (λ ys. tt) ms fs pf used rest e a f
-  key_at (array es) hs nk e d = key_other limit prefix r (array es) hs nk (λ ys. tt) ms fs pf used rest e a f
-  key_at (empty_object w) hs nk e d = key_other limit prefix r (empty_object w) hs nk (λ ys. tt) ms fs pf used rest e a f
-  key_at (object ps) hs nk e d = key_other limit prefix r (object ps) hs nk (λ ys. tt) ms fs pf used rest e a f
+  key_at x hs nk e d = key_other limit prefix r x hs nk (λ ys. tt) ms fs pf used rest e a f
 
 key_exact : (limit : Option ℕ) (used rest : List ℕ) (k : JsonKind) → All IsScalar used → EndsBadKey limit k used rest
     → IsErrorFree limit used → IsLooselyViable limit (used ++ 58 ∷ []) →
@@ -260,12 +251,9 @@ awaited_start r fs c h = rw h refl
 first_start : (r : Rules) (p : Path) (c : ℕ) → IsFresh p → is_white c ≡ false → (c == 93) ≡ false → (c == 125) ≡ false
     → step r (path_frames p) first c ≡ start r (path_frames p) c
 unfolding step
-first_start r (outside w) c f h i j = elim f [ ]
 first_start r (item_in p [] w) c f h i j = rw (h, i) refl
-first_start r (item_in p (e ∷ es) w) c f h i j = elim f [ ]
 first_start r (key_in p [] w) c f h i j = rw (h, j) refl
-first_start r (key_in p (q ∷ qs) w) c f h i j = elim f [ ]
-first_start r (value_in p ps a k b w) c f h i j = elim f [ ]
+first_start r _ c f h i j = elim f [ ]
 
 ready_start : (limit : Option ℕ) (xs : List ℕ) (r : Ready limit xs) (c : ℕ) → is_white c ≡ false → (c == 93) ≡ false → (c == 125) ≡ false
     → step (strictly limit) (path_frames r.path) r.phase c ≡ start (strictly limit) (path_frames r.path) c
@@ -314,13 +302,11 @@ first_none limit (item_in p [] w) hp f c h i n = ⊎_elim
     (λ e. absurd (n (subst (λ x. IsErrorFree limit (path_text (item_in p [] w) ++ x ∷ [])) (sym (eqb-true c 93 e))
     (array_error_free limit p w hp))))
     (λ (e : (c == 93) ≡ false). rw (h, e) (start_none (strictly limit) (path_frames (item_in p [] w)) c i)) (cases_Bool (c == 93))
-first_none limit (item_in p (e ∷ es) w) hp f c h i n = elim f [ ]
 first_none limit (key_in p [] w) hp f c h i n = ⊎_elim
     (λ e. absurd (n (subst (λ x. IsErrorFree limit (path_text (key_in p [] w) ++ x ∷ [])) (sym (eqb-true c 125 e))
     (object_error_free limit p w hp))))
     (λ (e : (c == 125) ≡ false). rw (h, e) (start_none (strictly limit) (path_frames (key_in p [] w)) c i)) (cases_Bool (c == 125))
-first_none limit (key_in p (q ∷ qs) w) hp f c h i n = elim f [ ]
-first_none limit (value_in p ps a k b w) hp f c h i n = elim f [ ]
+first_none limit _ hp f c h i n = elim f [ ]
 
 left_exact : (limit : Option ℕ) (used : List ℕ) (r : Ready limit used) (c : ℕ) (more rest : List ℕ) (k : JsonParseErrorKind)
     → rest ≡ c ∷ more → step (strictly limit) (path_frames r.path) r.phase c ≡ stop k false → Exact limit k used rest
@@ -373,8 +359,7 @@ ended limit used a (inl h) =
     let r = awaits_ready limit used a h in
     r.stands.reached true [] ∙ (run_end (strictly limit) (path_frames r.path) r.phase
     ∙ awaited_end (strictly limit) (path_frames r.path) r.phase r.path r.ready)
-ended limit used a (inr (inl (us, e, b, h))) =
-    string_exact limit kind.UnexpectedEof used us e [] a h
+ended limit used a (inr (inl (us, e, b, h))) = string_exact limit kind.UnexpectedEof used us e [] a h
     (λ fs cs vs i. ap (run (strictly limit) fs (quoted Machine.plain cs (vs ++ piece_codes us))) (append-nil e)
     ∙ escape_ends (strictly limit) fs cs (vs ++ piece_codes us) e b)
 ended limit used a (inr (inr (inl (l, n, h, p, q, b)))) =
@@ -412,33 +397,26 @@ exact limit (kind.ExpectedCommaOrBrace c) used rest a r =
     brace_exact limit used rest c a r.says.0.1 r.says.0.2 r.says.0.3 r.says.1.0 r.says.1.1
 exact limit (kind.ExpectedCommaOrBracket c) used rest a r =
     bracket_exact limit used rest c a r.says.0.1 r.says.0.2 r.says.0.3 r.says.1.0 r.says.1.1
-exact limit kind.InvalidUtf16 used rest a r =
-    string_exact limit kind.InvalidUtf16 used r.says.0.0 r.says.0.1 rest a r.says.0.4
+exact limit kind.InvalidUtf16 used rest a r = string_exact limit kind.InvalidUtf16 used r.says.0.0 r.says.0.1 rest a r.says.0.4
     (λ fs cs vs i. run_stops limit fs cs (vs ++ piece_codes r.says.0.0) (unpaired_after vs (piece_codes r.says.0.0) i r.says.0.2)
     r.says.0.1 rest r.says.0.3)
-exact limit (kind.InvalidHexDigit c) used rest a r =
-    string_exact limit (kind.InvalidHexDigit c) used r.says.0.4.0 _ rest a r.says.0.4.1
+exact limit (kind.InvalidHexDigit c) used rest a r = string_exact limit (kind.InvalidHexDigit c) used r.says.0.4.0 _ rest a r.says.0.4.1
     (λ fs cs vs i. ap (run (strictly limit) fs (quoted Machine.plain cs (vs ++ piece_codes r.says.0.4.0))) (hex_assoc r.says.0.0 c rest)
     ∙ hex_stops (strictly limit) fs cs (vs ++ piece_codes r.says.0.4.0) r.says.0.0 c rest r.says.0.1 r.says.0.2 r.says.0.3)
-exact limit (kind.InvalidEscape c) used rest a r =
-    string_exact limit (kind.InvalidEscape c) used r.says.0.0.0 _ rest a r.says.0.0.1
+exact limit (kind.InvalidEscape c) used rest a r = string_exact limit (kind.InvalidEscape c) used r.says.0.0.0 _ rest a r.says.0.0.1
     (λ fs cs vs i. escape_stops (strictly limit) fs cs (vs ++ piece_codes r.says.0.0.0) c rest r.says.0.1 r.says.0.2)
-exact limit (kind.ControlCharacter c) used rest a r =
-    string_exact limit (kind.ControlCharacter c) used r.says.0.0.0 _ rest a r.says.0.0.1
+exact limit (kind.ControlCharacter c) used rest a r = string_exact limit (kind.ControlCharacter c) used r.says.0.0.0 _ rest a r.says.0.0.1
     (λ fs cs vs i. control_stops (strictly limit) fs cs (vs ++ piece_codes r.says.0.0.0) c rest r.says.0.1)
-exact limit (kind.UnexpectedInLiteral c) used rest a r =
-    token_exact limit (kind.UnexpectedInLiteral c) used _ rest a r.says.0.5
+exact limit (kind.UnexpectedInLiteral c) used rest a r = token_exact limit (kind.UnexpectedInLiteral c) used _ rest a r.says.0.5
     (literal_begins r.says.0.0 r.says.0.1 (c ∷ []) r.says.0.2 r.says.0.3)
     (λ fs. literal_stops (strictly limit) fs r.says.0.0 r.says.0.1 c rest r.says.0.2 r.says.0.3 r.says.0.4 r.says.0.6)
 exact limit kind.EmptyInteger used rest a r = token_exact limit kind.EmptyInteger used _ rest a r.says.0.0 (_, _, refl, (refl, refl, refl))
     (λ fs. minus_stops (strictly limit) fs rest r.says.0.1)
-exact limit kind.LeadingZero used rest a r =
-    token_exact limit kind.LeadingZero used _ rest a r.says.0.4
+exact limit kind.LeadingZero used rest a r = token_exact limit kind.LeadingZero used _ rest a r.says.0.4
     (subst (λ xs. Begins (minus_text r.says.0.0 ++ xs)) (append-nil r.says.0.1)
     (numeral_begins r.says.0.0 r.says.0.1 [] (has_some_digit r.says.0.1 r.says.0.2) r.says.0.3))
     (λ fs. zero_stops limit fs r.says.0.0 r.says.0.1 rest r.says.0.2 r.says.0.3 r.says.0.5)
-exact limit kind.EmptyFraction used rest a r =
-    token_exact limit kind.EmptyFraction used _ rest a r.says.0.3
+exact limit kind.EmptyFraction used rest a r = token_exact limit kind.EmptyFraction used _ rest a r.says.0.3
     (numeral_begins r.says.0.0 r.says.0.1 (46 ∷ []) r.says.0.2.1 r.says.0.2.0)
     (λ fs. fraction_stops limit fs r.says.0.0 r.says.0.1 rest r.says.0.2.0 r.says.0.2.1 r.says.0.2.2 r.says.0.4)
 exact limit kind.EmptyExponent used rest a r = exponent_exact limit used rest a r.says.0

@@ -20,13 +20,12 @@ use Rattle.tinyjson_grammar.specs.declared.kind.JsonKind.{JsonKind}
 use Rattle.tinyjson_grammar.specs.declared.error.JsonParseErrorKind.{JsonParseErrorKind}
 use Rattle.tinyjson_grammar.specs.declared.error.JsonParseErrorKind.TheVariants.{KeyNotString, TooDeep}
 use Rattle.tinyjson_grammar.proofs.Callers.{ranges}
-use Rattle.tinyjson_grammar.proofs.Callers.Laws.{cut_off_end, Path, outside, item_in, key_in, value_in, path_text, path_frames, IsPath}
-use Rattle.tinyjson_grammar.proofs.Callers.Laws.{strict_key, Reached, reached_next, step_spells, spells_viable, start_spells, run_next}
-use Rattle.tinyjson_grammar.proofs.Callers.Laws.{Read, at_first, at_awaited, in_literal, in_digits, in_quoted, at_after, Part, part_minus}
-use Rattle.tinyjson_grammar.proofs.Callers.Laws.{part_integer, part_point, part_fraction, part_letter, part_sign, part_exponent}
-use Rattle.tinyjson_grammar.proofs.Callers.Laws.{part_stage, part_numeral, read_text, read_frames, read_phase, IsRead, IsFresh}
-use Rattle.tinyjson_grammar.proofs.Callers.Laws.{IsWithinLiteral, Spells, exponent_with, rules, text_accepted, loose_accepted, Follows}
-use Rattle.tinyjson_grammar.proofs.Callers.Laws.{loosely, Begins, first_array, first_object, no_text}
+use Rattle.tinyjson_grammar.proofs.Callers.Laws.{cut_off_end, Path, outside, item_in, key_in, path_text, path_frames, IsPath, strict_key}
+use Rattle.tinyjson_grammar.proofs.Callers.Laws.{Reached, reached_next, step_spells, spells_viable, start_spells, run_next, Read, at_first}
+use Rattle.tinyjson_grammar.proofs.Callers.Laws.{at_awaited, in_literal, in_digits, in_quoted, at_after, Part, part_minus, part_integer}
+use Rattle.tinyjson_grammar.proofs.Callers.Laws.{part_fraction, part_exponent, part_stage, part_numeral, read_text, read_frames, read_phase}
+use Rattle.tinyjson_grammar.proofs.Callers.Laws.{IsRead, IsFresh, IsWithinLiteral, Spells, exponent_with, rules, text_accepted}
+use Rattle.tinyjson_grammar.proofs.Callers.Laws.{loose_accepted, Follows, loosely, Begins, first_array, first_object, no_text}
 
 -- ---- with no limit the machine does the same, but where a container is one too many
 
@@ -44,16 +43,14 @@ wide_push false c m = deep c m
 
 module _ (limit : Option ℕ) where
   wide_start : (fs : List Frame) (c : ℕ) → Wide (start (strictly limit) fs c) (start (strictly None) fs c)
-  wide_start fs c =
-      wide_cond (c == 110) _ _ _ _ (wide _) (wide_cond (c == 116) _ _ _ _ (wide _)
+  wide_start fs c = wide_cond (c == 110) _ _ _ _ (wide _) (wide_cond (c == 116) _ _ _ _ (wide _)
       (wide_cond (c == 102) _ _ _ _ (wide _) (wide_cond (c == 34) _ _ _ _ (wide _)
       (wide_cond (c == 91) _ _ _ _ (wide_push _ c _) (wide_cond (c == 123) _ _ _ _ (wide_push _ c _) (wide _))))))
 
   wide_first : (fs : List Frame) (c : ℕ) → Wide (step_first (strictly limit) fs c) (step_first (strictly None) fs c)
-  wide_first [] c = wide_start [] c
   wide_first (in_array ts ∷ fs) c = wide_cond (c == 93) _ _ _ _ (wide _) (wide_start (in_array ts ∷ fs) c)
   wide_first (at_key ms ∷ fs) c = wide_cond (c == 125) _ _ _ _ (wide _) (wide_start (at_key ms ∷ fs) c)
-  wide_first (at_value ms k ∷ fs) c = wide_start (at_value ms k ∷ fs) c
+  wide_first x c = wide_start x c
 
   wide_plain : (fs : List Frame) (p : Phase) (c : ℕ) → Wide (step_plain (strictly limit) fs p c) (step_plain (strictly None) fs p c)
   wide_plain fs first c = wide_cond (is_white c) _ _ _ _ (wide _) (wide_first fs c)
@@ -100,13 +97,8 @@ module _ (limit : Option ℕ) where
   pub wide_step : (fs : List Frame) (p : Phase) (c : ℕ) → Wide (step (strictly limit) fs p c) (step (strictly None) fs p c)
   unfolding step
   wide_step fs first c = wide_plain fs first c
-  wide_step fs awaited c = wide_plain fs awaited c
-  wide_step fs (literal ls t) c = wide_plain fs (literal ls t) c
   wide_step fs (digits s n) c = wide_digits fs s n c
-  wide_step fs (quoted w cs us) c = wide_plain fs (quoted w cs us) c
-  wide_step fs (colon k) c = wide_plain fs (colon k) c
-  wide_step fs after c = wide_plain fs after c
-  wide_step fs (finished t) c = wide_plain fs (finished t) c
+  wide_step fs x c = wide_plain fs x c
 
 wide_next : (m m' : Next) (gs : List Frame) (p : Phase) → Wide m m' → m ≡ next gs p → m' ≡ next gs p
 wide_next _ _ gs p (wide m) e = e
@@ -171,8 +163,7 @@ travel_on limit zs c cs a used fs q s e (stop k b) i on = inr (used, c, cs, e, f
 travel : (limit : Option ℕ) (zs xs : List ℕ) → All IsScalar xs → (used : List ℕ) (fs : List Frame) (q : Phase) → Stands limit used fs q
     → zs ≡ used ++ xs → Goes limit zs ⊎ Halts limit zs
 travel limit zs [] a used fs q s e = inl (fs, q, subst (λ xs. Stands limit xs fs q) (sym (e ∙ append-nil used)) s)
-travel limit zs (c ∷ cs) a used fs q s e =
-    travel_on limit zs c cs (a 0 0 (omega arith)) used fs q s e (step (strictly limit) fs q c) refl
+travel limit zs (c ∷ cs) a used fs q s e = travel_on limit zs c cs (a 0 0 (omega arith)) used fs q s e (step (strictly limit) fs q c) refl
     (λ gs p i. travel limit zs cs (λ k d l. a (suc k) d (omega (arith, l))) (used ++ c ∷ []) gs p i (e
     ∙ sym (append_assoc used (c ∷ []) cs)))
 
@@ -187,8 +178,7 @@ halts_run limit xs h ys = rw h.3 (rw (append_assoc h.0 (h.1 ∷ h.2) ys) (stands
 
 -- its last character is the end of a key that is not a string
 abbrev pub EndsKey : Option ℕ → List ℕ → Type 0
-EndsKey limit xs =
-    (prefix : List ℕ) × (c : ℕ) × (xs ≡ prefix ++ c ∷ []) × (fs : List Frame) × (q : Phase) × Stands limit prefix fs q
+EndsKey limit xs = (prefix : List ℕ) × (c : ℕ) × (xs ≡ prefix ++ c ∷ []) × (fs : List Frame) × (q : Phase) × Stands limit prefix fs q
     × (k : JsonKind) × (step (strictly limit) fs q c ≡ stop (KeyNotString k) true)
 
 pub accepted_refused : (t : Tree) (k : JsonParseErrorKind) (xs : List ℕ) → accepted t ≡ refused k xs → ⊥
@@ -251,34 +241,27 @@ line_ends : (limit : Option ℕ) (p : Path) (n : Numeral) (ys : List ℕ) (t : T
     (10 ∷ 34 ∷ ys) (34 ∷ ys) ≡ accepted t → ⊥
 unfolding run step
 line_ends limit (outside w) n ys t e = no_text _ _ t e
-line_ends limit (item_in p es w) n ys t e = no_text _ _ t e
-line_ends limit (key_in p ps w) n ys t e = no_text _ _ t e
-line_ends limit (value_in p ps a k b w) n ys t e = no_text _ _ t e
+line_ends limit _ n ys t e = no_text _ _ t e
 
 line_digits : (limit : Option ℕ) (p : Path) (n : Part) → NoLine limit (path_frames p) (digits (part_stage n) (part_numeral n))
 unfolding run step
 line_digits limit p part_minus ys t e = no_text _ _ t e
 line_digits limit p (part_integer b d ds) ys t e = line_ends limit p (numeral b (d ∷ ds) [] None) ys t e
-line_digits limit p (part_point b d ds) ys t e = no_text _ _ t e
 line_digits limit p (part_fraction b d ds x xs) ys t e = line_ends limit p (numeral b (d ∷ ds) (x ∷ xs) None) ys t e
-line_digits limit p (part_letter b d ds f l) ys t e = no_text _ _ t e
-line_digits limit p (part_sign b d ds f l s) ys t e = no_text _ _ t e
 line_digits limit p (part_exponent b d ds f l s x xs) ys t e =
     line_ends limit p (numeral b (d ∷ ds) f (Some (exponent_with l s (x ∷ xs)))) ys t e
+line_digits limit p _ ys t e = no_text _ _ t e
 
 line_quoted : (limit : Option ℕ) (fs : List Frame) (w : Machine.Within) (cs us : List ℕ) → NoLine limit fs (quoted w cs us)
 unfolding run step
 line_quoted limit fs Machine.plain cs us ys t e = no_text _ _ t e
-line_quoted limit fs Machine.backslash cs us ys t e = no_text _ _ t e
-line_quoted limit fs (Machine.hex ds) cs us ys t e = no_text _ _ t e
+line_quoted limit fs _ cs us ys t e = no_text _ _ t e
 
 line_after : (limit : Option ℕ) (p : Path) (s : Syntax) (v : List ℕ)
     → NoLine limit (read_frames (at_after p s v)) (read_phase (at_after p s v))
 unfolding run step
 line_after limit (outside w) s v ys t e = no_text _ _ t e
-line_after limit (item_in p es w) s v ys t e = no_text _ _ t e
-line_after limit (key_in p ps w) s v ys t e = no_text _ _ t e
-line_after limit (value_in p ps a k b w) s v ys t e = no_text _ _ t e
+line_after limit _ s v ys t e = no_text _ _ t e
 
 line_colon : (limit : Option ℕ) (fs : List Frame) (ms : Members) (l : List ℕ) → NoLine limit (at_key ms ∷ fs) (colon l)
 unfolding run step
@@ -321,12 +304,10 @@ awaits_ready limit xs a h = ⊎_elim goes bad (error_free_stands limit xs a h.0)
 
     bad : EndsKey limit xs → Ready limit xs
     bad b =
-        let e : run (loosely limit) b.3 b.4 (b.1 ∷ 10 ∷ 34 ∷ h.1.0) ≡ accepted t =
-        sym (b.5.reached false (b.1 ∷ 10 ∷ 34 ∷ h.1.0))
+        let e : run (loosely limit) b.3 b.4 (b.1 ∷ 10 ∷ 34 ∷ h.1.0) ≡ accepted t = sym (b.5.reached false (b.1 ∷ 10 ∷ 34 ∷ h.1.0))
         ∙ (sym (ap (run (loosely limit) [] awaited) (ap (λ zs. zs ++ 10 ∷ 34 ∷ h.1.0) b.2
         ∙ append_assoc b.0 (b.1 ∷ []) (10 ∷ 34 ∷ h.1.0))) ∙ runs) in
-        absurd (⊎_elim
-        (λ i. no_text _ _ t (sym (run_stop (loosely limit) b.3 b.4 b.1 _ true (10 ∷ 34 ∷ h.1.0) i) ∙ e))
+        absurd (⊎_elim (λ i. no_text _ _ t (sym (run_stop (loosely limit) b.3 b.4 b.1 _ true (10 ∷ 34 ∷ h.1.0) i) ∙ e))
         (λ i. line_colon limit i.0 i.1 i.2 h.1.0 t
         (sym (run_next (loosely limit) b.3 (at_key i.1 ∷ i.0) b.4 (colon i.2) b.1 (10 ∷ 34 ∷ h.1.0) i.3) ∙ e))
         (strict_key limit b.3 b.4 b.1 b.6 b.7))
@@ -336,10 +317,8 @@ from_first : (r : Rules) (p : Path) (ys : List ℕ) → IsFresh p → Begins ys
     → run r (path_frames p) first ys ≡ run r (path_frames p) awaited ys
 from_first r (outside w) ys f b = elim f [ ]
 from_first r (item_in p [] w) ys f b = first_array r [] (path_frames p) [] ys tt b
-from_first r (item_in p (e ∷ es) w) ys f b = elim f [ ]
 from_first r (key_in p [] w) ys f b = first_object r _ (path_frames p) [] ys tt b
-from_first r (key_in p (q ∷ qs) w) ys f b = elim f [ ]
-from_first r (value_in p ps a k c w) ys f b = elim f [ ]
+from_first r _ ys f b = elim f [ ]
 
 pub from_ready : (limit : Option ℕ) (xs : List ℕ) (h : Ready limit xs) (r : Rules) (ys : List ℕ) → Begins ys
     → run r (path_frames h.path) h.phase ys ≡ run r (path_frames h.path) awaited ys

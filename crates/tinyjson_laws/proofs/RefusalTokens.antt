@@ -8,12 +8,11 @@ use Rattle.std.proofs.lemmas.Bool.{and_parts, or_parts, not-true, cases_Bool, eq
 use Rattle.tinyjson_grammar.specs.Characters.{is_hex, short_escape, decode, paired, is_surrogate, is_high, is_low}
 use Rattle.tinyjson_grammar.specs.Prefix.{IsErrorFree}
 use Rattle.tinyjson_grammar.specs.Machine
-use Rattle.tinyjson_grammar.specs.Machine.{Rules, strictly, Frame, awaited, digits, quoted, refused, step_escape, step_digits, go_on}
-use Rattle.tinyjson_grammar.specs.Machine.{step, run, end, with_exponent, with_sign}
+use Rattle.tinyjson_grammar.specs.Machine.{Rules, strictly, Frame, awaited, digits, quoted, refused, step_escape, step_digits, go_on, step}
+use Rattle.tinyjson_grammar.specs.Machine.{run, end, with_exponent, with_sign}
 use Rattle.tinyjson_grammar.specs.Refusal.{IsLiteral, IsHex, AreUnits, EndsRun, BeginsEscape, BeginsWithNone}
 use Rattle.tinyjson_grammar.specs.Tree.{Tree, null, boolean}
-use Rattle.tinyjson_grammar.specs.Syntax.{Piece, plain, escape, unit, IsPiece, ArePieces, pieces_text, piece_codes}
-use Rattle.tinyjson_grammar.specs.Syntax.{unit_value}
+use Rattle.tinyjson_grammar.specs.Syntax.{Piece, plain, escape, unit, IsPiece, ArePieces, pieces_text, piece_codes, unit_value}
 use Rattle.tinyjson_number.specs.Numeral.{numeral, Numeral, Exponent, IsNumeral, AreDigits, is_exponent_letter, is_sign, has_leading_zero}
 use Rattle.tinyjson_number.specs.Numeral.{minus_text, fraction_text, spelling}
 use Rattle.tinyjson_grammar.specs.declared.error.JsonParseErrorKind.TheVariants.{UnexpectedEof, InvalidUtf16, InvalidHexDigit}
@@ -22,8 +21,7 @@ use Rattle.tinyjson_grammar.specs.declared.error.JsonParseErrorKind.TheVariants.
 use Rattle.tinyjson_grammar.proofs.Callers.{ranges, letter_no_digit, letter_no_point, sign_no_digit}
 use Rattle.tinyjson_grammar.proofs.Callers.Laws.{run_integer, run_spelling, last_stage, stage_of, Path, path_text, path_frames, IsPath}
 use Rattle.tinyjson_grammar.proofs.Callers.Laws.{paired_cons, paired_append, scalar_no_surrogate, escape_no_surrogate, some_unwrap}
-use Rattle.tinyjson_grammar.proofs.Callers.Laws.{plain_no_quote, plain_no_backslash, plain_no_control, error_free_point}
-use Rattle.tinyjson_grammar.proofs.Callers.Laws.{error_free_letter}
+use Rattle.tinyjson_grammar.proofs.Callers.Laws.{plain_no_quote, plain_no_backslash, plain_no_control, error_free_point, error_free_letter}
 
 differs : (c n : ℕ) → (n ≡ c → ⊥) → (c == n) ≡ false
 differs c n h = ne_eqb c n (λ e. h (sym e))
@@ -119,17 +117,15 @@ open_units : (r : Rules) (fs : List Frame) (cs us : List ℕ) (ps : List Piece) 
     → run r fs (quoted Machine.plain cs us) (pieces_text ps ++ xs) ≡ run r fs (quoted Machine.plain cs (us ++ piece_codes ps)) xs
 unfolding run step
 open_units r fs cs us [] h xs = rw (append-nil us) refl
-open_units r fs cs us (plain c ∷ ps) h xs = elim h [ ]
-open_units r fs cs us (escape c ∷ ps) h xs = elim h [ ]
 open_units r fs cs us (unit a b c d ∷ ps) h xs =
     let u = unit_value a b c d in
     rw (h.0.0, h.0.1, h.0.2, h.0.3) (open_units r fs cs (us ++ u ∷ []) ps h.1 xs
     ∙ ap (λ vs. run r fs (quoted Machine.plain cs vs) xs) (append_assoc us (u ∷ []) (piece_codes ps)))
+open_units r fs cs us _ h xs = elim h [ ]
 
 -- the state after a string that was begun
 abbrev pub StringOpens : Option ℕ → List Frame → List Piece → List Piece → Type 0
-StringOpens limit fs ps qs =
-    (ds vs : List ℕ) × IsTrue (paired vs) × ((xs : List ℕ)
+StringOpens limit fs ps qs = (ds vs : List ℕ) × IsTrue (paired vs) × ((xs : List ℕ)
     → run (strictly limit) fs awaited (34 ∷ (pieces_text ps ++ (pieces_text qs ++ xs)))
     ≡ run (strictly limit) fs (quoted Machine.plain ds (vs ++ piece_codes qs)) xs)
 
@@ -261,8 +257,7 @@ module _ (limit : Option ℕ) (fs : List Frame) where
   plain_numeral b ds f h i j = record { integer = h; some_digit = i; fraction = j; exponent = tt }
 
   to_letter : (b : Bool) (ds f : List ℕ) (l : ℕ) (xs : List ℕ) → AreDigits ds → 0 < length ds → has_leading_zero ds ≡ false → AreDigits f
-      → IsTrue (is_exponent_letter l) →
-      run (strictly limit) fs awaited (minus_text b ++ (ds ++ (fraction_text f ++ l ∷ xs)))
+      → IsTrue (is_exponent_letter l) → run (strictly limit) fs awaited (minus_text b ++ (ds ++ (fraction_text f ++ l ∷ xs)))
       ≡ run (strictly limit) fs (digits Machine.letter (with_exponent (numeral b ds f None) l)) xs
   to_letter b ds f l xs h i z j k =
       ap (run (strictly limit) fs awaited) (regroup (minus_text b) ds (fraction_text f) (l ∷ xs))

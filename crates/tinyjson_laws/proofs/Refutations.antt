@@ -22,16 +22,14 @@ use Rattle.tinyjson_laws.proofs.RefusalLaws.{one_refusal}
 
 -- the right error k of the list, which has consumed `used`, rules out another one
 refuted : {limit : Option ℕ} {j : JsonParseErrorKind} {others left : List ℕ} (k : JsonParseErrorKind) (used rest : List ℕ) →
-    all_scalars (used ++ rest) ≡ true → used ++ rest ≡ others ++ left →
-    run (strictly limit) [] awaited (used ++ rest) ≡ refused k rest →
+    all_scalars (used ++ rest) ≡ true → used ++ rest ≡ others ++ left → run (strictly limit) [] awaited (used ++ rest) ≡ refused k rest →
     ((k ≡ j) × (used ≡ others) → ⊥) → ¬ IsRefusal limit j others left
 refuted {limit} {j} {others} {left} k used rest scalars e right differ wrong =
     differ (one_refusal limit k j used rest others left (all_are_scalars (used ++ rest) scalars) e (refusal_of scalars right) wrong)
 
 -- ---- letters of a literal are no exponent
 
-literals_without_exponent :
-    ¬ RefusalSays None error.EmptyExponent (codes "true") (codes "x")
+literals_without_exponent : ¬ RefusalSays None error.EmptyExponent (codes "true") (codes "x")
     × ¬ RefusalSays None error.EmptyExponent (codes "[true") (codes "false]")
     × ¬ RefusalSays None error.EmptyExponent (codes "[false") (codes "x")
     × ¬ RefusalSays None error.EmptyExponent (codes "[true") []
@@ -45,8 +43,7 @@ literals_without_exponent = (
 
 -- ---- digits of an escape are no number
 
-escapes_without_numbers :
-    ¬ RefusalSays None error.EmptyExponent (codes "\"\\u00e") (codes "\"")
+escapes_without_numbers : ¬ RefusalSays None error.EmptyExponent (codes "\"\\u00e") (codes "\"")
     × ¬ RefusalSays None error.EmptyExponent (codes "\"\\u0e") (codes "g1\"")
     × ¬ RefusalSays None error.LeadingZero (codes "\"\\ud800\\u00") (codes "\"")
     × ¬ RefusalSays None error.LeadingZero (codes "{[\"\\u00") (codes "g")
@@ -60,8 +57,7 @@ escapes_without_numbers = (
 
 -- ---- nothing is read past a key that is not a string
 
-nothing_past_a_wrong_key :
-    ¬ RefusalSays None (error.ExpectedColon 125) (codes "{1}") []
+nothing_past_a_wrong_key : ¬ RefusalSays None (error.ExpectedColon 125) (codes "{1}") []
     × ¬ RefusalSays None (error.ExpectedColon 44) (codes "{1,") (codes "2}")
     × ¬ RefusalSays None (error.ExpectedColon 91) (codes "{null[") []
 unfolding run step end value power_fits
@@ -73,8 +69,7 @@ nothing_past_a_wrong_key = (
 
 -- ---- nothing is read past a surrogate without its partner
 
-nothing_past_a_surrogate :
-    ¬ RefusalSays None (error.InvalidEscape 113) (codes "\"\\ud800abc\\q") []
+nothing_past_a_surrogate : ¬ RefusalSays None (error.InvalidEscape 113) (codes "\"\\ud800abc\\q") []
     × ¬ RefusalSays None error.UnexpectedEof (codes "\"\\ud800abc") []
     × ¬ RefusalSays None (error.ControlCharacter 1) (codes "\"\\udc00u\u{1}") []
     × ¬ RefusalSays None error.InvalidUtf16 (codes "\"\\ud800") (codes "\\q")
@@ -88,8 +83,7 @@ nothing_past_a_surrogate = (
 
 -- ---- nothing is read past a leading zero
 
-nothing_past_a_leading_zero :
-    ¬ RefusalSays None error.EmptyExponent (codes "[01e+") (codes "x")
+nothing_past_a_leading_zero : ¬ RefusalSays None error.EmptyExponent (codes "[01e+") (codes "x")
     × ¬ RefusalSays None error.LeadingZero (codes "[01e00") (codes " x")
     × ¬ RefusalSays None error.NumberOutOfRange (codes "[01e99999999999999999999") (codes "]")
     × ¬ RefusalSays None (error.InvalidCharacter 120) (codes "[01,") (codes "x")
@@ -105,8 +99,7 @@ nothing_past_a_leading_zero = (
 
 -- ---- a token is determined by where it begins
 
-tokens_by_their_beginnings :
-    ¬ RefusalSays None error.EmptyInteger (codes "[1e-") (codes "]")
+tokens_by_their_beginnings : ¬ RefusalSays None error.EmptyInteger (codes "[1e-") (codes "]")
     × ¬ RefusalSays None error.EmptyInteger (codes "0e-") (codes "]")
     × ¬ RefusalSays None (error.InvalidEscape 1) (codes "\"\\\\\u{1}") []
     × ¬ RefusalSays None (error.InvalidHexDigit 1) (codes "\"\\\\u\u{1}") []
@@ -128,8 +121,7 @@ tokens_by_their_beginnings = (
 
 -- ---- an end in the middle of a number, or after a wrong key
 
-no_end :
-    ¬ RefusalSays None error.UnexpectedEof (codes "-") []
+no_end : ¬ RefusalSays None error.UnexpectedEof (codes "-") []
     × ¬ RefusalSays None error.UnexpectedEof (codes "0.") []
     × ¬ RefusalSays None error.UnexpectedEof (codes "0e") []
     × ¬ RefusalSays None error.UnexpectedEof (codes "00") []
@@ -145,8 +137,7 @@ no_end = (
 
 -- ---- the place of an error
 
-other_places :
-    ¬ RefusalSays None (error.UnexpectedInLiteral 120) (codes "trux true") []
+other_places : ¬ RefusalSays None (error.UnexpectedInLiteral 120) (codes "trux true") []
     × ¬ RefusalSays None (error.InvalidCharacter 93) [] (codes "[1,]")
     × ¬ RefusalSays None error.LeadingZero [] (codes "0123]")
     × ¬ RefusalSays None (error.InvalidCharacter 93) (codes "[1,]") []
@@ -158,16 +149,12 @@ other_places = (
   refuted (error.InvalidCharacter 93) (codes "[1,") (codes "]") refl refl refl (λ e. let n : 3 ≡ 0 = ap length e.1 in omega (arith, n)),
   refuted error.LeadingZero (codes "0123") (codes "]") refl refl refl (λ e. let n : 4 ≡ 0 = ap length e.1 in omega (arith, n)),
   refuted (error.InvalidCharacter 93) (codes "[1,") (codes "]") refl refl refl (λ e. let n : 3 ≡ 4 = ap length e.1 in omega (arith, n)),
-  refuted (error.KeyNotString kind.Number) (codes "{1") (codes " ") refl refl refl (λ e. let n : 2 ≡ 3 = ap length e.1 in omega (
-    arith,
-    n,
-  )),
+  refuted (error.KeyNotString kind.Number) (codes "{1") (codes " ") refl refl refl (λ e. let n : 2 ≡ 3 = ap length e.1 in omega (arith, n)),
 )
 
 -- ---- kinds that stand for one another
 
-other_kinds :
-    ¬ RefusalSays None error.UnexpectedEof (codes "1 2") []
+other_kinds : ¬ RefusalSays None error.UnexpectedEof (codes "1 2") []
     × ¬ RefusalSays None (error.InvalidCharacter 120) (codes "[1 ") (codes "x")
     × ¬ RefusalSays None (error.InvalidCharacter 120) (codes "tru") (codes "x")
     × ¬ RefusalSays None (error.ExpectedCommaOrBracket 120) (codes "[x") []
@@ -261,8 +248,7 @@ memory_past_a_leading_zero : ¬ RefusalSays None error.OutOfMemory (codes "[01,"
 unfolding run step end value power_fits
 memory_past_a_leading_zero r =
     let right : IsRefusal None error.LeadingZero (codes "[01") (codes ",2]") = refusal_of refl refl in
-    ⊎_elim
-    (λ p. right.not_too_soon 44 (codes "2]") refl (error_free_at_once (codes "[01") 44 refl p))
+    ⊎_elim (λ p. right.not_too_soon 44 (codes "2]") refl (error_free_at_once (codes "[01") 44 refl p))
     (λ k. let begins = k.0.4.begins in in_no_string (codes "[01,") begins.prefix _ (refl, (refl, (refl, (refl, tt)))) begins.whole)
     r.0.place
 

@@ -6,10 +6,9 @@ use Rattle.std.specs.Char.{is_ascii_digit}
 use Rattle.tinyjson_grammar.specs.Characters.{is_white, is_hex}
 use Rattle.tinyjson_number.specs.Numeral.{Numeral, Exponent, IsNumeral, IsExponent, AreDigits, minus_text, sign_text, fraction_text}
 use Rattle.tinyjson_number.specs.Numeral.{exponent_text, spelling, power_width}
-use Rattle.tinyjson_grammar.specs.Syntax.{Syntax, Elements, Pairs, null, boolean, number, string, empty_array, array, empty_object}
-use Rattle.tinyjson_grammar.specs.Syntax.{object, last_element, element, last_pair, pair, Piece, plain, escape, unit, pieces_text}
-use Rattle.tinyjson_grammar.specs.Syntax.{ArePieces, text, elements_text, pairs_text, AreWhite, IsSpelled, IsStrictAt, tree_of}
-use Rattle.tinyjson_grammar.specs.Syntax.{AreElements, ArePairs}
+use Rattle.tinyjson_grammar.specs.Syntax.{Syntax, Elements, Pairs, null, boolean, number, string, empty_array, array, empty_object, object}
+use Rattle.tinyjson_grammar.specs.Syntax.{last_element, element, last_pair, pair, Piece, plain, escape, unit, pieces_text, ArePieces, text}
+use Rattle.tinyjson_grammar.specs.Syntax.{elements_text, pairs_text, AreWhite, IsSpelled, IsStrictAt, tree_of, AreElements, ArePairs}
 use Rattle.tinyjson_laws.specs.WhiteSpace.{bare_value, bare_elements, bare_pairs, outside, in_string, kept_from, without_white}
 use Rattle.tinyjson_laws.specs.WhiteSpace.{WhiteRemoved, SameButWhite, WhiteChangesNothing}
 use Rattle.tinyjson_grammar.specs.Grammar.{IsLoose, IsText}
@@ -70,13 +69,11 @@ exponent_stays : (e : Option Exponent) → IfSome e IsExponent → AllStay (expo
 exponent_stays None h = tt
 exponent_stays (Some e) h = (
   letter_stays e.letter h.letter,
-  stay_join (sign_text e.sign) e.digits (sign_text_stays e.sign h.sign)
-      (digits_stay e.digits h.digits),
+  stay_join (sign_text e.sign) e.digits (sign_text_stays e.sign h.sign) (digits_stay e.digits h.digits),
 )
 
 numeral_stays : (n : Numeral) → IsNumeral n → AllStay (spelling n)
-numeral_stays n h = stay_join (minus_text n.negative) _ (minus_stays n.negative)
-    (stay_join n.integer _ (digits_stay n.integer h.integer)
+numeral_stays n h = stay_join (minus_text n.negative) _ (minus_stays n.negative) (stay_join n.integer _ (digits_stay n.integer h.integer)
     (stay_join (fraction_text n.fraction) _ (fraction_stays n.fraction h.fraction) (exponent_stays n.exponent h.exponent)))
 
 -- ---- strings stay
@@ -103,8 +100,7 @@ pieces_stay (unit a b c d ∷ ps) xs h =
 
 string_kept : (ps : List Piece) (xs : List ℕ) → ArePieces ps
     → kept_from outside ((34 ∷ (pieces_text ps ++ 34 ∷ [])) ++ xs) ≡ (34 ∷ (pieces_text ps ++ 34 ∷ [])) ++ kept_from outside xs
-string_kept ps xs h =
-    ap (λ z. 34 ∷ kept_from in_string z) (append_assoc (pieces_text ps) (34 ∷ []) xs)
+string_kept ps xs h = ap (λ z. 34 ∷ kept_from in_string z) (append_assoc (pieces_text ps) (34 ∷ []) xs)
     ∙ ap (λ z. 34 ∷ z) (pieces_stay ps xs h ∙ sym (append_assoc (pieces_text ps) (34 ∷ []) (kept_from outside xs)))
 
 mutual
@@ -128,25 +124,21 @@ mutual
 
   elements_kept : (es : Elements) (xs : List ℕ) → AreElements es
       → kept_from outside (elements_text es ++ xs) ≡ elements_text (bare_elements es) ++ kept_from outside xs
-  elements_kept (last_element v s w) xs h =
-      ap (kept_from outside) (last_element_assoc v (text s) w xs)
+  elements_kept (last_element v s w) xs h = ap (kept_from outside) (last_element_assoc v (text s) w xs)
       ∙ white_goes v _ h.0 ∙ value_kept s (w ++ xs) h.1 ∙ ap (λ z. text (bare_value s) ++ z) (white_goes w xs h.2)
       ∙ sym (last_element_assoc [] (text (bare_value s)) [] (kept_from outside xs))
-  elements_kept (element v s w es) xs h =
-      ap (kept_from outside) (element_assoc v (text s) w (elements_text es) xs)
+  elements_kept (element v s w es) xs h = ap (kept_from outside) (element_assoc v (text s) w (elements_text es) xs)
       ∙ white_goes v _ h.0 ∙ value_kept s _ h.1 ∙ ap (λ z. text (bare_value s) ++ z) (white_goes w _ h.2
       ∙ ap (λ z. 44 ∷ z) (elements_kept es xs h.3))
       ∙ sym (element_assoc [] (text (bare_value s)) [] (elements_text (bare_elements es)) (kept_from outside xs))
 
   pairs_kept : (ps : Pairs) (xs : List ℕ) → ArePairs ps
       → kept_from outside (pairs_text ps ++ xs) ≡ pairs_text (bare_pairs ps) ++ kept_from outside xs
-  pairs_kept (last_pair a k b c s d) xs h =
-      ap (kept_from outside) (last_pair_assoc a (text k) b c (text s) d xs)
+  pairs_kept (last_pair a k b c s d) xs h = ap (kept_from outside) (last_pair_assoc a (text k) b c (text s) d xs)
       ∙ white_goes a _ h.0 ∙ value_kept k _ h.1 ∙ ap (λ z. text (bare_value k) ++ z) (white_goes b _ h.2
       ∙ ap (λ z. 58 ∷ z) (white_goes c _ h.3 ∙ value_kept s _ h.4 ∙ ap (λ z. text (bare_value s) ++ z) (white_goes d xs h.5)))
       ∙ sym (last_pair_assoc [] (text (bare_value k)) [] [] (text (bare_value s)) [] (kept_from outside xs))
-  pairs_kept (pair a k b c s d ps) xs h =
-      ap (kept_from outside) (pair_assoc a (text k) b c (text s) d (pairs_text ps) xs)
+  pairs_kept (pair a k b c s d ps) xs h = ap (kept_from outside) (pair_assoc a (text k) b c (text s) d (pairs_text ps) xs)
       ∙ white_goes a _ h.0 ∙ value_kept k _ h.1 ∙ ap (λ z. text (bare_value k) ++ z) (white_goes b _ h.2
       ∙ ap (λ z. 58 ∷ z) (white_goes c _ h.3 ∙ value_kept s _ h.4
       ∙ ap (λ z. text (bare_value s) ++ z) (white_goes d _ h.5 ∙ ap (λ z. 44 ∷ z) (pairs_kept ps xs h.6))))
@@ -155,8 +147,7 @@ mutual
 -- ---- texts
 
 text_without_white : (limit : Option ℕ) (xs : List ℕ) (l : IsLoose limit xs) → without_white xs ≡ text (bare_value l.value)
-text_without_white limit xs l =
-    ap without_white l.whole
+text_without_white limit xs l = ap without_white l.whole
     ∙ white_goes l.before _ l.white_before
     ∙ value_kept l.value l.after l.spelled
     ∙ ap (λ z. text (bare_value l.value) ++ z) (ap (kept_from outside) (sym (append-nil l.after)) ∙ white_goes l.after [] l.white_after)
@@ -170,12 +161,10 @@ white_removed limit xs t h =
         value = bare_value l.value;
         after = [];
         white_before = tt;
-        spelled =
-            bare_spelled l.value l.spelled;
+        spelled = bare_spelled l.value l.spelled;
         white_after = tt;
         shallow = rw (bare_depth l.value) l.shallow;
-        whole =
-            text_without_white limit xs l ∙ sym (append-nil (text (bare_value l.value)));
+        whole = text_without_white limit xs l ∙ sym (append-nil (text (bare_value l.value)));
       };
       strict = subst (λ T. T) (sym (bare_strict power_width l.value)) h.strict;
       tree = h.tree ∙ sym (bare_tree l.value);

@@ -3,9 +3,8 @@ use Rattle.std.proofs.Common.{ℕ, List, Option}
 use Rattle.std.specs.Int.{w32, w64}
 use Rattle.tinyjson_number.specs.Numeral.{value}
 use Rattle.tinyjson_number.proofs.Callers.{wider_fits}
-use Rattle.tinyjson_grammar.specs.Syntax.{Syntax, Elements, Pairs, null, boolean, number, string, empty_array, array, empty_object}
-use Rattle.tinyjson_grammar.specs.Syntax.{object, last_element, element, last_pair, pair, IsStrictAt, ElementsAreStrictAt}
-use Rattle.tinyjson_grammar.specs.Syntax.{PairsAreStrictAt}
+use Rattle.tinyjson_grammar.specs.Syntax.{Syntax, Elements, Pairs, number, string, array, object, last_element, element, last_pair, pair}
+use Rattle.tinyjson_grammar.specs.Syntax.{IsStrictAt, ElementsAreStrictAt, PairsAreStrictAt}
 use Rattle.tinyjson_grammar.specs.Tree.{Tree}
 use Rattle.tinyjson_grammar.specs.Grammar.{IsTextAt}
 

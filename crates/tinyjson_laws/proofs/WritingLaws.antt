@@ -25,8 +25,7 @@ same_compact t u h j = (one_compact t u h j, λ e. ap written.compact e)
 pub same_indented : SameIndented
 same_indented t u indent i h j = (
   from_text t u _ _ (indented_reads_back t indent i h) (indented_reads_back u indent i j),
-  λ e. ap
-      (λ v. written.indented v indent 0) e,
+  λ e. ap (λ v. written.indented v indent 0) e,
 )
 
 pub limit_kept : LimitKept
@@ -43,8 +42,7 @@ compact_within t n h = (tree_within power_width (Some n) (written.compact t) t, 
 pub indented_within : IndentedWithin
 indented_within t indent n i h = (
   tree_within power_width (Some n) (written.indented t indent 0) t,
-  written_text power_width (Some n)
-      (Some indent) 0 t i h,
+  written_text power_width (Some n) (Some indent) 0 t i h,
 )
 
 pub texts_are_utf8 : TextsAreUtf8
