@@ -185,32 +185,81 @@ FAILED += [
     ("[]", patch(*[("add", "/-", "2")] * 11, ("remove", "")), 11, WHOLE_REMOVED),
 ]
 
-# Several operations in a row that put items in one array or take them out, and what stands among them.
-SIX = [("add", "/0", "1")] * 6
+# So many operations in a row on the items of one array that these are put in a queue, and what stands among them.
+RUN = 40
+LAST = f"/{RUN - 1}"
+ONES = [("add", "/0", "1")] * RUN
+KNOWN = [("add", "/-", str(i)) for i in range(RUN)]
+
+
+def array(*items):
+    """The text of an array of these items, of which some are ranges or lists of items."""
+    return "[%s]" % ",".join(",".join(map(str, item)) if isinstance(item, (list, range)) else str(item) for item in items)
+
+
 APPLIED += [
-    ("[7]", patch(*SIX), "[1,1,1,1,1,1,7]"),
-    ("[7]", patch(*[("add", f"/{i}", str(i)) for i in range(6)]), "[0,1,2,3,4,5,7]"),
-    ("[7,8]", patch(*[("add", "/1", str(i)) for i in range(6)]), "[7,5,4,3,2,1,0,8]"),
-    ("[7]", patch(*SIX, ("add", "/-", "2"), ("remove", "/1"), ("add", "/7", "3")), "[1,1,1,1,1,7,2,3]"),
-    ("[1,2,3,4,5,6,7]", patch(*[("remove", "/1")] * 6), "[1]"),
-    ("[0]", patch(*[("add", "/-", "1"), ("remove", "/0")] * 6), "[1]"),
-    ('{"a":[7],"b":[8]}', patch(*[("add", "/a/0", "1")] * 6, *[("add", "/b/1", "2")] * 6), '{"a":[1,1,1,1,1,1,7],"b":[8,2,2,2,2,2,2]}'),
-    ("[[7],8]", patch(*[("add", "/0/-", "1")] * 6), "[[7,1,1,1,1,1,1],8]"),
-    ("[[],8]", patch(("add", "/0/0", "1"), *[("add", "/0/0", "2")] * 5, ("remove", "/0"), ("add", "/0", "3")), "[3,8]"),
-    ('{"a":{}}', patch(*[("add", f"/a/{i}", str(i)) for i in range(6)], ("remove", "/a/0")), '{"a":{"1":1,"2":2,"3":3,"4":4,"5":5}}'),
-    ("[7]", patch(*SIX, ("test", "", "[1,1,1,1,1,1,7]"), ("copy", "/0", "/6"), *SIX), "[1,1,1,1,1,1,7,1,1,1,1,1,1,7]"),
-    ("[7]", patch(*SIX, ("add", "", "[[]]"), *[("add", "/0/0", "2")] * 6), "[[2,2,2,2,2,2]]"),
-    ("[7]", patch(*SIX, ("add", "/0", "[8]"), *[("add", "/0/0", "9")] * 6), "[[9,9,9,9,9,9,8],1,1,1,1,1,1,7]"),
+    ("[7]", patch(*ONES), array([1] * RUN, 7)),
+    ("[7]", patch(*[("add", f"/{i}", str(i)) for i in range(RUN)]), array(range(RUN), 7)),
+    ("[7,8]", patch(*[("add", "/1", str(i)) for i in range(RUN)]), array(7, range(RUN - 1, -1, -1), 8)),
+    ("[7]", patch(*ONES, ("add", "/-", "2"), ("remove", "/1"), ("add", f"/{RUN + 1}", "3")), array([1] * (RUN - 1), 7, 2, 3)),
+    (array(range(RUN + 1)), patch(*[("remove", "/1")] * RUN), "[0]"),
+    ("[0]", patch(*[("add", "/-", "1"), ("remove", "/0")] * RUN), "[1]"),
+    (
+        '{"a":[7],"b":[8]}',
+        patch(*[("add", "/a/0", "1")] * RUN, *[("add", "/b/1", "2")] * RUN),
+        '{"a":%s,"b":%s}' % (array([1] * RUN, 7), array(8, [2] * RUN)),
+    ),
+    ("[[7],8]", patch(*[("add", "/0/-", "1")] * RUN), array(array(7, [1] * RUN), 8)),
+    ("[[],8]", patch(("add", "/0/0", "1"), *[("add", "/0/0", "2")] * RUN, ("remove", "/0"), ("add", "/0", "3")), "[3,8]"),
+    ('{"a":{}}', patch(*[("add", "/a/0", "1")] * RUN, ("add", "/a/-", "2")), '{"a":{"-":2,"0":1}}'),
+    ("[7]", patch(*ONES, ("test", "", array([1] * RUN, 7)), ("copy", "/1", ""), *ONES), array([1] * (RUN + 1), array([1] * RUN, 7), [1] * (RUN - 1), 7)),
+    ("[7]", patch(*ONES, ("add", "", "[[]]"), *[("add", "/0/0", "2")] * RUN), array(array([2] * RUN))),
+    ("[7]", patch(*ONES, ("add", "/0", "[8]"), *[("add", "/0/0", "9")] * RUN), array(array([9] * RUN, 8), [1] * RUN, 7)),
+    # A move: to both ends, to `-`, behind its own place, and to it.
+    ("[]", patch(*KNOWN, ("move", "/0", LAST)), array(RUN - 1, range(RUN - 1))),
+    ("[]", patch(*KNOWN, ("move", LAST, "/0")), array(range(1, RUN), 0)),
+    ("[]", patch(*KNOWN, ("move", "/-", "/0")), array(range(1, RUN), 0)),
+    ("[]", patch(*KNOWN, ("move", "/3", "/1")), array(0, 2, 3, 1, range(4, RUN))),
+    ("[]", patch(*KNOWN, ("move", "/5", "/5"), ("remove", "/5")), array(range(5), range(6, RUN))),
+    # A copy: of the first to the front and to both names of the end; of what was just added, and is changed then.
+    ("[]", patch(*KNOWN, ("copy", "/0", "/0")), array(0, range(RUN))),
+    ("[]", patch(*KNOWN, ("copy", f"/{RUN}", "/1"), ("copy", "/-", "/2")), array(range(RUN), 1, 2)),
+    ("[]", patch(*KNOWN, ("add", "/0", "[8]"), ("copy", "/-", "/0"), ("replace", "/0", "9")), array(9, range(RUN), "[8]")),
+    # Replaced and tested at both ends, by value.
+    ("[]", patch(*KNOWN, ("replace", "/0", "[]"), ("replace", LAST, "{}")), array("[]", range(1, RUN - 1), "{}")),
+    ("[]", patch(*KNOWN, ("test", "/0", "-0"), ("test", LAST, f"{RUN - 1}.0"), ("remove", "/0")), array(range(1, RUN))),
+    # Out of an item of the array, and from another array, which the queue does not have.
+    ("[]", patch(*KNOWN, ("add", "/0", "[8]"), ("move", "/1", "/0/0"), ("remove", "/0")), array(8, range(RUN))),
+    (
+        '{"a":[],"b":[7]}',
+        patch(*[("add", "/a/-", "1")] * RUN, ("move", "/a/0", "/b/0"), ("copy", "/b/0", "/a/1")),
+        '{"a":%s,"b":[1]}' % array(7, [1] * RUN),
+    ),
 ]
 FAILED += [
-    ("[7]", patch(*SIX, ("remove", "/7")), 6, NO_TARGET),
-    ("[7]", patch(*SIX, ("add", "/8", "1")), 6, NO_PLACE),
-    ("[7]", patch(*SIX, ("add", "/a", "1"), ("remove", "")), 6, NO_PLACE),
-    ("[7,8,9]", patch(*[("remove", "/0")] * 6), 3, NO_TARGET),
-    ('{"a":1}', patch(*[("add", "/a/0", "1")] * 6), 0, NO_PLACE),
-    ("{}", patch(*[("remove", "/a/0")] * 6), 0, NO_TARGET),
-    ("[[7]]", patch(*[("add", "/0/0", "1")] * 6, ("remove", "/1")), 6, NO_TARGET),
-    ("[7]", patch(*SIX, *[("add", "", "1")] * 2, *SIX), 8, NO_PLACE),
+    ("[7]", patch(*ONES, ("remove", f"/{RUN + 1}")), RUN, NO_TARGET),
+    ("[7]", patch(*ONES, ("add", f"/{RUN + 2}", "1")), RUN, NO_PLACE),
+    ("[7]", patch(*ONES, ("add", "/a", "1"), ("remove", "")), RUN, NO_PLACE),
+    ("[7,8,9]", patch(*[("remove", "/0")] * RUN), 3, NO_TARGET),
+    ('{"a":1}', patch(*[("add", "/a/0", "1")] * RUN), 0, NO_PLACE),
+    ("{}", patch(*[("remove", "/a/0")] * RUN), 0, NO_TARGET),
+    ("[[7]]", patch(*[("add", "/0/0", "1")] * RUN, ("remove", "/1")), RUN, NO_TARGET),
+    ("[7]", patch(*ONES, *[("add", "", "1")] * 2, *ONES), RUN + 2, NO_PLACE),
+    ("[]", patch(*KNOWN, ("move", f"/{RUN}", "/0"), *KNOWN), RUN, NO_PLACE),
+    ("[]", patch(*KNOWN, ("move", "/0", LAST), ("move", "/0", f"/{RUN}"), *KNOWN), RUN + 1, NO_SOURCE),
+    ("[]", patch(*KNOWN, ("move", "/0", "/-")), RUN, NO_SOURCE),
+    ("[]", patch(*KNOWN, ("move", "/-", "/-")), RUN, NO_SOURCE),
+    ("[]", patch(*KNOWN, ("move", f"/{RUN}", f"/{RUN}")), RUN, NO_SOURCE),
+    ("[]", patch(*KNOWN, ("move", "/0/1", "/0")), RUN, INTO_ITSELF),
+    ("[]", patch(*KNOWN, ("copy", f"/{RUN + 1}", "/0")), RUN, NO_PLACE),
+    ("[]", patch(*KNOWN, ("copy", "/0", f"/{RUN}")), RUN, NO_SOURCE),
+    ("[]", patch(*KNOWN, ("copy", "/0", "/-")), RUN, NO_SOURCE),
+    ("[]", patch(*KNOWN, ("replace", f"/{RUN}", "1")), RUN, NO_TARGET),
+    ("[]", patch(*KNOWN, ("replace", "/-", "1")), RUN, NO_TARGET),
+    ("[]", patch(*KNOWN, ("replace", "/00", "1")), RUN, NO_TARGET),
+    ("[]", patch(*KNOWN, ("test", "/0", "false"), *KNOWN), RUN, DIFFERENT),
+    ("[]", patch(*KNOWN, ("test", f"/{RUN}", "1")), RUN, NO_TARGET),
+    ("[]", patch(*KNOWN, ("test", "/-", "1")), RUN, NO_TARGET),
 ]
 
 # RFC 6901: the empty key, `%`, indices, and that nothing lies in a string.
@@ -300,10 +349,10 @@ LONG_MALFORMED = [
     (patch(*[("add", "/-", "1")] * 5_000)[:-1] + ",0]", "operation 5000: it is no object"),
 ]
 
-# As many operations as items, of which none copies the items, and none at an end moves them.
+# As many operations as items, each kind of them where most items lie on both sides, and all kinds in turn.
 MANY = 20_000
-ITEMS = "[%s]" % ",".join(map(str, range(MANY)))
-ZEROS = ",".join(["0"] * MANY)
+HALF = MANY // 2
+ITEMS = array(range(MANY))
 
 
 def many(*operations):
@@ -312,10 +361,32 @@ def many(*operations):
 
 
 MANY_OPERATIONS = [
-    (ITEMS, many(("add", "/0", "0")), f"[{ZEROS},{ITEMS[1:]}"),
-    (ITEMS, many(("add", "/-", "0")), f"{ITEMS[:-1]},{ZEROS}]"),
+    (ITEMS, many(("add", "/0", "0")), array([0] * MANY, range(MANY))),
+    (ITEMS, many(("add", "/-", "0")), array(range(MANY), [0] * MANY)),
+    (ITEMS, many(("add", f"/{HALF}", "0")), array(range(HALF), [0] * MANY, range(HALF, MANY))),
     (ITEMS, many(("remove", "/0")), "[]"),
+    (ITEMS, patch(*[("remove", f"/{i // 2}") for i in range(MANY - 1, -1, -1)]), "[]"),
     *((ITEMS, many(("add", f"/{at}", "0"), ("remove", f"/{at}")), ITEMS) for at in (0, MANY * 3 // 4)),
+    (ITEMS, many(("replace", f"/{HALF}", "[]")), array(range(HALF), "[]", range(HALF + 1, MANY))),
+    (ITEMS, many(("move", "/0", f"/{MANY - 1}")), ITEMS),
+    (ITEMS, many(("move", f"/{HALF}", f"/{HALF + 1}")), ITEMS),
+    (ITEMS, many(("copy", "/0", "/0")), array([0] * MANY, range(MANY))),
+    (ITEMS, many(("copy", f"/{HALF}", "/0")), array(range(HALF), [0] * MANY, range(HALF, MANY))),
+    (ITEMS, many(("test", f"/{HALF}", f"{HALF}.0")), ITEMS),
+    (
+        ITEMS,
+        many(
+            ("add", f"/{HALF}", "0"),
+            ("test", f"/{HALF}", "-0"),
+            ("copy", f"/{HALF}", "/1"),
+            ("move", f"/{HALF}", f"/{HALF + 1}"),
+            ("replace", f"/{HALF}", "[]"),
+            ("remove", f"/{HALF}"),
+            ("test", f"/{HALF}", "1"),
+            ("remove", f"/{HALF}"),
+        ),
+        ITEMS,
+    ),
 ]
 
 # Forty copies of the whole to its end: more than fits.

@@ -32,7 +32,7 @@ COMPARISONS = [
     ("'' < 'a'", True), ("'a' < 'aa'", True), ("'B' < 'a'", True), ("'\\uffff' < '\\ud83d\\ude00'", True), ("'1' < 2", False), ("'x' == \"x\"", True),
     # Numbers are their decimals: `number` of 2.3.5.1, which is not held in the range of integers of 2.1.
     ("1 == 1.0", True), ("-0 == 0", True), ("-0.0 >= 0e5", True), ("1E2 == 100", True), ("1e-02 == 0.01", True), ("1e+2 == 100.0e0", True),
-    ("1e400 < 1e401", True), ("-1e400 < 1e-400", True), ("9007199254740993 > 9007199254740992", True), ("0.1 == 0.10000000000000000001", False),
+    ("1e400 < 1e401", True), ("-1e400 < 1e-400", True), ("1e9223372036854775807 > 1e400", True), ("9007199254740993 > 9007199254740992", True), ("0.1 == 0.10000000000000000001", False),
     # Singular queries: each notation, blanks between their segments, and around the operator.
     ("$.arr[0] == 2", True), ("$['arr'][-1] == 3", True), ('$["obj"]["x"] == \'y\'', True), ("$ .obj\t['x']\n== 'y'", True), ("$.arr[2] == $.obj.y", True),
     ("$.obj.x=='y'", True), ("'y'  ==\r$.obj.x", True), ("$.obj['x'] == @.none || 1 == 1", True), ("1 == 2 && 1 == 1 || 'a' < 'b'", True), ("!(1 == 2)", True), ("(1 == 1)", True),
@@ -309,6 +309,13 @@ UNSUPPORTED = [
     ("$[?match( length(@) , value(@..a) ) || @.a]", 3), ("$[?(search(@, 'x'))]", 4), ("$[?@[?match(@, 'x')]]", 6),
 ]
 
-# The messages of such a text and of such a query.
+# 2.3.5.1: a number in a comparison whose power of ten is out of `i64`, and how many characters stand before it.
+OUT_OF_RANGE = [
+    ("$[?@ == 1e9223372036854775808]", 8), ("$[?-1e-9223372036854775809 < @]", 3), ("$[?length(1E+9223372036854775808) == 1]", 10),
+    ("$[?@.a || @ == 1e99999999999999999999]", 15),
+]
+
+# The messages of such texts and queries.
 NO_QUERY = "the query: no query of RFC 9535 at character %d"
 NO_PATTERNS = "the query: match and search are not supported at character %d"
+NO_POWER = "the query: a number whose power of ten is out of range at character %d"

@@ -1,2 +1,3 @@
 pub mod Documents
+pub mod Siblings
 pub mod Turns

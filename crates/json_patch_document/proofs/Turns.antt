@@ -1,20 +1,22 @@
 -- Operations in turn, and operations on the items of one array.
-use Rattle.std.proofs.Common.{◌≡◌, ◌≤◌, ◌-◌, ℕ, suc, Bool, true, false, List, [], ◌∷◌, length, map, Some, None, IsSome, Result, Ok, Err}
-use Rattle.std.proofs.Common.{option_map, refl, sym, ap, ◌∙◌, subst, arith}
+use Rattle.std.proofs.Common.{◌≡◌, ◌≤◌, ◌-◌, ℕ, suc, Bool, true, List, [], ◌∷◌, length, map, IsSome, Result, Ok, Err}
+use Rattle.std.proofs.Common.{refl, sym, ap, ◌∙◌, subst, arith}
 use Rattle.std.specs.Borrow.{Bor}
+use Rattle.std.specs.Box.{box_value}
+use Rattle.std.specs.declared.alloc.Global.{Global}
+use Rattle.std.specs.declared.boxed.Box.{Box}
 use Rattle.tinyjson.specs.Soundness.{IsTree}
 use Rattle.tinyjson.specs.Tree.{Tree, array}
 use Rattle.tinyjson.specs.View.{items_view}
 use Rattle.tinyjson.specs.declared.value.JsonValue.{JsonValue}
-use Rattle.json_pointer.proofs.Callers.{inserted_beside, removed_beside, container_back, container_put}
-use Rattle.json_pointer.specs.Change.{with_child, without_child, without_part}
-use Rattle.json_pointer.specs.Siblings.{container_at, with_container, child_name, are_beside, IsTaken}
-use Rattle.json_patch_document.specs.Operation.{Action, action_of, applied, or_fail, added, removed}
+use Rattle.json_pointer.proofs.Callers.{container_back, container_put}
+use Rattle.json_pointer.specs.Siblings.{container_at, with_container, IsTaken}
+use Rattle.json_patch_document.specs.Operation.{Action, action_of, applied}
 use Rattle.json_patch_document.specs.Patch.{after, all_applied, RunsAll}
-use Rattle.json_patch_document.specs.Running.{last_applied, with_items, Changes, Follows, RunsFirst}
+use Rattle.json_patch_document.specs.Running.{last_applied, with_items, with_boxes, is_among, AppliesAmong, Follows, RunsFirst}
 use Rattle.json_patch_document.specs.declared.operation.Operation.{Operation}
+use Rattle.json_patch_document.specs.declared.operation.OperationError.TheVariants as one
 use Rattle.json_patch_document.specs.declared.operation.Reason.{Reason}
-use Rattle.json_patch_document.specs.declared.operation.Reason.TheVariants.{NoPlace, NoTarget}
 use Rattle.json_patch_document.specs.declared.patch.ApplyError.{ApplyError}
 use Rattle.json_patch_document.specs.declared.patch.ApplyError.TheVariants.{Failed, OutOfMemory}
 
@@ -50,91 +52,45 @@ one_failed total n o os t r same e =
 -- ---- some are left
 
 -- What is left of all operations makes of the tree with an array of the items ws what all make of it with vs.
-abbrev pub Remains : ℕ → List Operation → List Operation → List (List ℕ) → List JsonValue → List JsonValue → Type 0
+abbrev pub Remains : ℕ → List Operation → List Operation → List (List ℕ) → (vs ws : List (Box JsonValue Global)) → Type 0
 Remains total all rest ks vs ws =
     (length rest ≤ length all)
     × ((t : Tree) → IsTree t → IsSome (container_at t ks)
-    → last_applied total (map action_of all) (with_items t ks vs) ≡ last_applied total (map action_of rest) (with_items t ks ws))
+    → last_applied total (map action_of all) (with_boxes t ks vs) ≡ last_applied total (map action_of rest) (with_boxes t ks ws))
 
-module _ (total : ℕ) (all rest others : List Operation) (o : Operation) (ks : List (List ℕ)) (vs ws : List JsonValue)
-    (fits : length all ≤ total) (split : rest ≡ o ∷ others) (left : Remains total all rest ks vs ws) where
+module _ (total : ℕ) (all rest others : List Operation) (o : Operation) (ks : List (List ℕ)) (vs ws : List (Box JsonValue Global))
+    (fits : length all ≤ total) (split : rest ≡ o ∷ others) (left : Remains total all rest ks vs ws) (b : Bool)
+    (same : b ≡ is_among ks (action_of o)) (among : b ≡ true) where
   one_less : length rest ≡ suc (length others)
   one_less = ap length split
 
   first_of : (t : Tree) → IsTree t → IsSome (container_at t ks)
-      → last_applied total (map action_of all) (with_items t ks vs) ≡ last_applied total (map action_of (o ∷ others)) (with_items t ks ws)
-  first_of t s there = left.1 t s there ∙ ap (λ os. last_applied total (map action_of os) (with_items t ks ws)) split
+      → last_applied total (map action_of all) (with_boxes t ks vs) ≡ last_applied total (map action_of (o ∷ others)) (with_boxes t ks ws)
+  first_of t s there = left.1 t s there ∙ ap (λ os. last_applied total (map action_of os) (with_boxes t ks ws)) split
 
-  pub remains_after : (us : List JsonValue) (b : Bool) → b ≡ true
-      → ((t : Tree) → IsTree t → IsSome (container_at t ks)
-      → Changes (applied (action_of o) (with_items t ks ws)) (with_items t ks ws) (Ok b) (with_items t ks us))
-      → Remains total all others ks vs us
-  remains_after us true e h = (
+  pub remains_after : (us : List (Box JsonValue Global)) → AppliesAmong (action_of o) ws (Ok tt) us → Remains total all others ks vs us
+  remains_after us h = (
     omega (arith, one_less, left.0),
     λ t s there.
         first_of t s there
-        ∙ one_applied total o others (with_items t ks ws) (with_items t ks us) (omega (arith, one_less, left.0, fits)) (h t s there),
+        ∙ one_applied total o others (with_boxes t ks ws) (with_boxes t ks us) (omega (arith, one_less, left.0, fits))
+        (h t ks s there (sym same ∙ among)),
   )
-  remains_after us false e h = cc
 
-  pub remains_here : (us : List JsonValue) (b : Bool) → b ≡ false
-      → ((t : Tree) → IsTree t → IsSome (container_at t ks)
-      → Changes (applied (action_of o) (with_items t ks ws)) (with_items t ks ws) (Ok b) (with_items t ks us))
-      → Remains total all rest ks vs us
-  remains_here us true e h = cc
-  remains_here us false e h =
-      (left.0, λ t s there. left.1 t s there ∙ ap (last_applied total (map action_of rest)) (sym (h t s there)))
-
-  pub remains_failed : (r : Reason) (t : Tree) → IsTree t → IsSome (container_at t ks)
-      → applied (action_of o) (with_items t ks ws) ≡ Err r
-      → last_applied total (map action_of all) (with_items t ks vs) ≡ Err (total - length rest, r)
-  remains_failed r t s there e =
+  pub remains_failed : (us : List (Box JsonValue Global)) (r : Reason) → AppliesAmong (action_of o) ws (Err (one.Failed r)) us
+      → (t : Tree) → IsTree t → IsSome (container_at t ks)
+      → last_applied total (map action_of all) (with_boxes t ks vs) ≡ Err (total - length rest, r)
+  remains_failed us r h t s there =
       first_of t s there
-      ∙ one_failed total (total - length rest) o others (with_items t ks ws) r (ap (λ n. total - n) one_less) e
+      ∙ one_failed total (total - length rest) o others (with_boxes t ks ws) r (ap (λ n. total - n) one_less)
+      (h t ks s there (sym same ∙ among))
 
-pub remains_told : (total : ℕ) (all rest : List Operation) (ks : List (List ℕ)) (vs ws : List JsonValue)
+pub remains_told : (total : ℕ) (all rest : List Operation) (ks : List (List ℕ)) (vs ws : List (Box JsonValue Global))
     → Remains total all rest ks vs ws → (t : Tree) → IsTree t → IsSome (container_at t ks)
     → (length rest ≤ length (map action_of all))
-    × (last_applied total (map action_of all) (with_items t ks vs) ≡ last_applied total (map action_of rest) (with_items t ks ws))
+    × (last_applied total (map action_of all) (with_boxes t ks vs) ≡ last_applied total (map action_of rest) (with_boxes t ks ws))
 remains_told total all rest ks vs ws left t s there =
     (subst (λ n. length rest ≤ n) (sym (as_many all)) left.0, left.1 t s there)
-
--- ---- among the items of one array
-
-module _ (t : Tree) (ks ls : List (List ℕ)) (s : IsTree t) (there : IsSome (container_at t ks)) (beside : are_beside ls ks ≡ true) where
-  pub added_among : (u : Tree) (vs ws : List JsonValue)
-      → with_child (array (items_view vs)) (child_name ls) u ≡ Some (array (items_view ws))
-      → added ls u (with_items t ks vs) ≡ Ok (with_items t ks ws)
-  added_among u vs ws h =
-      ap (λ o. or_fail o NoPlace)
-      (inserted_beside t (array (items_view vs)) u ks ls s there beside ∙ ap (option_map (with_container t ks)) h)
-
-  pub no_place_among : (u : Tree) (vs : List JsonValue) → with_child (array (items_view vs)) (child_name ls) u ≡ None
-      → added ls u (with_items t ks vs) ≡ Err NoPlace
-  no_place_among u vs h =
-      ap (λ o. or_fail o NoPlace)
-      (inserted_beside t (array (items_view vs)) u ks ls s there beside ∙ ap (option_map (with_container t ks)) h)
-
-  not_whole : (v : Tree) → removed ls v ≡ or_fail (without_part v ls) NoTarget
-  not_whole v = by ls beside
-    where
-      by : (js : List (List ℕ)) → are_beside js ks ≡ true → removed js v ≡ or_fail (without_part v js) NoTarget
-      by [] h = cc
-      by (j ∷ js) h = refl
-
-  pub removed_among : (vs ws : List JsonValue) → without_child (array (items_view vs)) (child_name ls) ≡ Some (array (items_view ws))
-      → removed ls (with_items t ks vs) ≡ Ok (with_items t ks ws)
-  removed_among vs ws h =
-      not_whole (with_items t ks vs)
-      ∙ ap (λ o. or_fail o NoTarget)
-      (removed_beside t (array (items_view vs)) ks ls s there beside ∙ ap (option_map (with_container t ks)) h)
-
-  pub no_target_among : (vs : List JsonValue) → without_child (array (items_view vs)) (child_name ls) ≡ None
-      → removed ls (with_items t ks vs) ≡ Err NoTarget
-  no_target_among vs h =
-      not_whole (with_items t ks vs)
-      ∙ ap (λ o. or_fail o NoTarget)
-      (removed_beside t (array (items_view vs)) ks ls s there beside ∙ ap (option_map (with_container t ks)) h)
 
 -- ---- the whole run
 
@@ -143,11 +99,15 @@ pub all_remain : (total : ℕ) (os : List Operation) (t t' : Tree) → t' ≡ t
 all_remain total os t t' e = (omega (arith, as_many os), ap (last_applied total (map action_of os)) (sym e))
 
 pub beside_run : (total : ℕ) (actions : List Action) (t t1 t2 : Tree) (ks : List (List ℕ)) (vs ws : List JsonValue)
-    (r : Result (Bor (List Operation)) ApplyError) → IsTree t → IsTaken t ks (array (items_view vs)) t1
-    → (IsSome (container_at t1 ks) → t2 ≡ with_container t1 ks (array (items_view ws)))
-    → ((s : Tree) → IsTree s → IsSome (container_at s ks) → RunsFirst total actions (with_items s ks vs) r (with_items s ks ws))
+    (bs cs : List (Box JsonValue Global)) (r : Result (Bor (List Operation)) ApplyError) → IsTree t
+    → IsTaken t ks (array (items_view vs)) t1 → (IsSome (container_at t1 ks) → t2 ≡ with_container t1 ks (array (items_view ws)))
+    → map box_value bs ≡ vs → ws ≡ map box_value cs
+    → ((s : Tree) → IsTree s → IsSome (container_at s ks) → RunsFirst total actions (with_boxes s ks bs) r (with_boxes s ks cs))
     → RunsFirst total actions t r t2
-beside_run total actions t t1 t2 ks vs ws r sound out put h =
+beside_run total actions t t1 t2 ks vs ws bs cs r sound out put boxed unboxed told =
+    let h : (s : Tree) → IsTree s → IsSome (container_at s ks) → RunsFirst total actions (with_items s ks vs) r (with_items s ks ws)
+    = λ s k there. subst (λ us. RunsFirst total actions (with_items s ks us) r (with_items s ks ws)) boxed
+    (subst (λ us. RunsFirst total actions (with_items s ks (map box_value bs)) r (with_items s ks us)) (sym unboxed) (told s k there)) in
     let back : with_items t ks vs ≡ t = container_back t (array (items_view vs)) ks sound out.0 in
     let there : t2 ≡ with_items t ks ws =
     container_put t (array (items_view vs)) (array (items_view ws)) t1 t2 ks sound out.0 out.1 put in

@@ -1,15 +1,18 @@
 -- Operations in turn, of which some are left: what only private contracts cite.
-use Rattle.std.specs.Prelude.{◌≡◌, ◌≤◌, ◌-◌, ℕ, Bool, true, false, List, Result, Ok, Err, length, map}
 use Rattle.std.specs.Borrow.{Bor}
+use Rattle.std.specs.Box.{box_value}
+use Rattle.std.specs.Prelude.{◌≡◌, ◌≤◌, ◌-◌, ℕ, Bool, true, ◌&&◌, IsSome, List, Result, Ok, Err, length, map}
+use Rattle.std.specs.declared.alloc.Global.{Global}
+use Rattle.std.specs.declared.boxed.Box.{Box}
+use Rattle.tinyjson.specs.Soundness.{IsTree}
 use Rattle.tinyjson.specs.Tree.{Tree, array}
 use Rattle.tinyjson.specs.View.{items_view}
 use Rattle.tinyjson.specs.declared.value.JsonValue.{JsonValue}
-use Rattle.json_pointer.specs.Siblings.{with_container}
-use Rattle.json_patch_document.specs.Operation.{Action, action_of}
+use Rattle.json_pointer.specs.Siblings.{container_at, with_container, are_beside}
+use Rattle.json_patch_document.specs.Operation.{Action, add, remove, replace, move, copy, test, action_of, applied, Applies}
 use Rattle.json_patch_document.specs.Patch.{all_applied}
 use Rattle.json_patch_document.specs.declared.operation.Operation.{Operation}
 use Rattle.json_patch_document.specs.declared.operation.OperationError.{OperationError}
-use Rattle.json_patch_document.specs.declared.operation.OperationError.TheVariants as one
 use Rattle.json_patch_document.specs.declared.operation.Reason.{Reason}
 use Rattle.json_patch_document.specs.declared.patch.ApplyError.{ApplyError}
 use Rattle.json_patch_document.specs.declared.patch.ApplyError.TheVariants.{Failed, OutOfMemory}
@@ -35,9 +38,21 @@ RunsFirst total actions t (Err OutOfMemory) t' = Unit {0}
 abbrev pub with_items : Tree → List (List ℕ) → List JsonValue → Tree
 with_items t ks vs = with_container t ks (array (items_view vs))
 
--- The operation was applied, or nothing is changed.
-abbrev pub Changes : Result Tree Reason → Tree → Result Bool OperationError → Tree → Type 0
-Changes outcome t (Ok true) t' = outcome ≡ Ok t'
-Changes outcome t (Ok false) t' = t' ≡ t
-Changes outcome t (Err (one.Failed r)) t' = outcome ≡ Err r
-Changes outcome t (Err one.OutOfMemory) t' = Unit {0}
+-- the same of items in boxes
+abbrev pub with_boxes : Tree → List (List ℕ) → List (Box JsonValue Global) → Tree
+with_boxes t ks bs = with_items t ks (map box_value bs)
+
+-- whether all that the operation names are places beside this one
+abbrev pub is_among : List (List ℕ) → Action → Bool
+is_among ks (add path u) = are_beside path ks
+is_among ks (remove path) = are_beside path ks
+is_among ks (replace path u) = are_beside path ks
+is_among ks (move from path) = are_beside from ks && are_beside path ks
+is_among ks (copy from path) = are_beside from ks && are_beside path ks
+is_among ks (test path u) = are_beside path ks
+
+-- What is done to the items is what the operation does to each tree that has an array of them among which it is.
+abbrev pub AppliesAmong : Action → List (Box JsonValue Global) → Result (Unit {0}) OperationError → List (Box JsonValue Global) → Type 0
+AppliesAmong a bs result bs' =
+    (t : Tree) (ks : List (List ℕ)) → IsTree t → IsSome (container_at t ks) → is_among ks a ≡ true
+    → Applies (applied a (with_boxes t ks bs)) result (with_boxes t ks bs')

@@ -7,6 +7,8 @@
 //! ```
 #![tactic(auto)]
 
+mod among;
+mod boxes;
 mod document;
 mod fault;
 mod operation;

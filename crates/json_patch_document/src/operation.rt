@@ -3,6 +3,7 @@ ghost use Rattle.std.specs.Prelude.{◌≡◌, Some};
 ghost use Rattle.tinyjson.specs.View.{view};
 ghost use Rattle.json_pointer.specs.Tokens.{tokens_of};
 ghost use Rattle.json_patch_document.specs.Operation.{action_of, applied, added, removed, replaced, moved};
+ghost use Rattle.json_patch_document.specs.Running.{is_among};
 ghost use Rattle.json_patch_document.specs.Operation.{stayed, copied, copy_of, tested, Applies, Copies};
 
 use json_pointer::{InsertError, Pointer};
@@ -94,6 +95,33 @@ impl Operation {
             Operation::Move { from, path } => move_part(alloc, target, from, path),
             Operation::Copy { from, path } => copy(alloc, target, from, path),
             Operation::Test { path, value } => test(target, path, value),
+        }
+    }
+
+    /// The place that this is on, or puts a part at.
+    pub(crate) fn path(&self) -> &Pointer {
+        match self {
+            Operation::Add { path, .. }
+            | Operation::Remove { path }
+            | Operation::Replace { path, .. }
+            | Operation::Move { path, .. }
+            | Operation::Copy { path, .. }
+            | Operation::Test { path, .. } => path,
+        }
+    }
+
+    /// Whether all that this names are places in the container in which the pointer names one.
+    pub(crate) fn is_among(&self, place: &Pointer) -> bool
+        ensures { result ≡ is_among (tokens_of place.now) (action_of self.now) }
+    {
+        match self {
+            Operation::Move { from, path } | Operation::Copy { from, path } => {
+                from.is_beside(place) && path.is_beside(place)
+            }
+            Operation::Add { path, .. }
+            | Operation::Remove { path }
+            | Operation::Replace { path, .. }
+            | Operation::Test { path, .. } => path.is_beside(place),
         }
     }
 }

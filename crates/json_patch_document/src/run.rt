@@ -1,5 +1,4 @@
-//! Operations in turn. Those that put items in one array or take them out, one after the other, find its items
-//! apart in a queue, of which the shorter side moves.
+//! Operations in turn. Many in a row on the items of one array find these apart, in a queue of boxes.
 ghost use Rattle.std.specs.Prelude.{◌≡◌, ◌≤◌, IsSome, map, length};
 ghost use Rattle.tinyjson.specs.Soundness.{IsTree};
 ghost use Rattle.tinyjson.specs.Tree.{Tree};
@@ -7,17 +6,20 @@ ghost use Rattle.tinyjson.specs.View.{view};
 ghost use Rattle.json_pointer.specs.Siblings.{container_at};
 ghost use Rattle.json_pointer.specs.Tokens.{tokens_of};
 ghost use Rattle.json_patch_document.specs.Operation.{action_of, applied};
-ghost use Rattle.json_patch_document.specs.Running.{Follows, RunsFirst, Changes, with_items};
+ghost use Rattle.json_patch_document.specs.Running.{Follows, RunsFirst, with_boxes};
 
-use crate::operation::{Operation, OperationError, Reason};
+use crate::among::apply_to_items;
+use crate::boxes::{boxed, unboxed};
+use crate::operation::{Operation, OperationError};
 use crate::patch::ApplyError;
-use json_pointer::{InsertError, Pointer};
+use json_pointer::Pointer;
 use std::alloc::Global;
 use std::collections::VecDeque;
 use tinyjson::JsonValue;
 
-/// How many operations in a row have to change one array before its items are taken out for them.
-const FEW: usize = 4;
+/// How many operations in a row have to be on the items of one array before these are put into boxes for them,
+/// which takes the time of some of them.
+const MANY: usize = 32;
 
 /// Applies the operation of this number.
 pub(crate) fn apply_one(
@@ -36,8 +38,8 @@ pub(crate) fn apply_one(
     }
 }
 
-/// Applies the first of the operations, where several change the items of the array that this one changes. The
-/// others are returned. There are so many operations in all.
+/// Applies the first of the operations, where many are on the items of the array in which this one names a place.
+/// The others are returned. There are so many operations in all.
 pub(crate) fn apply_beside<'o>(
     alloc: Global,
     operation: &Operation,
@@ -49,63 +51,54 @@ pub(crate) fn apply_beside<'o>(
     ensures { RunsFirst total (map action_of others.now) (view value.old)
         result (view value.new) }
 {
-    let Some(path) = changed_place(operation) else {
-        return Ok(others);
-    };
-    if !are_many_beside(path, others) {
+    let place = operation.path();
+    if !are_many_among(place, others) {
         return Ok(others);
     }
-    let Some(items) = path.take_items(value) else {
+    let Some(items) = place.take_items(value) else {
         return Ok(others);
     };
-    let mut items = items;
-    let answer = apply_among(alloc, path, others, total, &mut items);
-    path.put_items(value, items);
+    let mut boxes = boxed(alloc, items)?;
+    let answer = apply_among(alloc, place, others, total, &mut boxes);
+    place.put_items(value, unboxed(alloc, boxes)?);
     answer
 }
 
-/// The place at which the operation puts a part in, or takes one out.
-fn changed_place(operation: &Operation) -> Option<&Pointer> {
-    match operation {
-        Operation::Add { path, .. } | Operation::Remove { path } => Some(path),
-        _ => None,
-    }
-}
-
-/// Whether several operations in a row change parts beside the place.
-fn are_many_beside(place: &Pointer, operations: &[Operation]) -> bool {
-    let Some(first) = operations.get(..FEW) else {
+/// Whether many operations in a row are on the items of the array in which the pointer names a place.
+fn are_many_among(place: &Pointer, operations: &[Operation]) -> bool {
+    let Some(first) = operations.get(..MANY) else {
         return false;
     };
     for operation in first {
-        match changed_place(operation) {
-            Some(path) if path.is_beside(place) => {}
-            _ => return false,
+        if !operation.is_among(place) {
+            return false;
         }
     }
     true
 }
 
-/// Applies the operations to the items of the array in which the pointer names a place, up to one that changes
+/// Applies the operations to the items of the array in which the pointer names a place, up to one that is on
 /// something else.
 fn apply_among<'o>(
     alloc: Global,
     place: &Pointer,
     operations: &'o [Operation],
     total: usize,
-    items: &mut VecDeque<JsonValue>,
+    items: &mut VecDeque<Box<JsonValue>>,
 ) -> Result<&'o [Operation], ApplyError>
     requires { length operations.now ≤ total }
     ensures { (t : Tree) → IsTree t → IsSome (container_at t (tokens_of place.now)) →
         RunsFirst total (map action_of operations.now)
-        (with_items t (tokens_of place.now) items.old.items) result
-        (with_items t (tokens_of place.now) items.new.items) }
+        (with_boxes t (tokens_of place.now) items.old.items) result
+        (with_boxes t (tokens_of place.now) items.new.items) }
 {
     let mut rest = operations;
     while let Some((operation, others)) = rest.split_first() {
-        match change(alloc, place, operation, items) {
-            Ok(true) => rest = others,
-            Ok(false) => return Ok(rest),
+        if !operation.is_among(place) {
+            return Ok(rest);
+        }
+        match apply_to_items(alloc, operation, items) {
+            Ok(()) => rest = others,
             Err(OperationError::Failed(reason)) => {
                 return Err(ApplyError::Failed(total - rest.len(), reason));
             }
@@ -113,44 +106,4 @@ fn apply_among<'o>(
         }
     }
     Ok(rest)
-}
-
-/// Applies the operation to the items, if it puts one in or takes one out.
-fn change(
-    alloc: Global,
-    place: &Pointer,
-    operation: &Operation,
-    items: &mut VecDeque<JsonValue>,
-) -> Result<bool, OperationError>
-    ensures { (t : Tree) → IsTree t → IsSome (container_at t (tokens_of place.now)) →
-        Changes (applied (action_of operation.now)
-        (with_items t (tokens_of place.now) items.old.items))
-        (with_items t (tokens_of place.now) items.old.items) result
-        (with_items t (tokens_of place.now) items.new.items) }
-{
-    match operation {
-        Operation::Add { path, value } => {
-            if !path.is_beside(place) {
-                return Ok(false);
-            }
-            match path.insert_in(items, value.try_clone(alloc)?) {
-                Ok(()) => Ok(true),
-                Err(InsertError::NoPlace) => Err(OperationError::Failed(Reason::NoPlace)),
-                Err(InsertError::OutOfMemory) => Err(OperationError::OutOfMemory),
-            }
-        }
-        Operation::Remove { path } => {
-            if !path.is_beside(place) {
-                return Ok(false);
-            }
-            match path.remove_from(items) {
-                Some(old) => {
-                    old.dismantle();
-                    Ok(true)
-                }
-                None => Err(OperationError::Failed(Reason::NoTarget)),
-            }
-        }
-        _ => Ok(false),
-    }
 }

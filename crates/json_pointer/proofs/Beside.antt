@@ -1,21 +1,23 @@
 -- The container of a place that tokens name, and the items of an array apart from its value.
-use Rattle.std.proofs.Common.{◌≡◌, ◌<◌, ◌≤◌, ◌&&◌, ℕ, Bool, List, [], ◌∷◌, ◌++◌, length, map, Option, Some, None}
-use Rattle.std.proofs.Common.{IsSome, IfSome, IfNone, OnSome, String, Vec, Global, option_map, get_or, refl, sym, ap, ◌∙◌, subst, arith}
-use Rattle.std.proofs.lemmas.List.{map-append}
-use Rattle.std.specs.List.{remove, starts_with}
+use Rattle.std.proofs.Common.{◌≡◌, ◌<◌, ◌≤◌, ◌&&◌, ℕ, zero, suc, Bool, List, [], ◌∷◌, ◌++◌, length, map, Option, Some, None}
+use Rattle.std.proofs.Common.{IsSome, IfSome, IfNone, OnSome, Bor, String, Vec, Global, option_map, get_or, refl, sym, ap, ◌∙◌, subst, arith}
+use Rattle.std.proofs.lemmas.List.{map-append, length-map}
+use Rattle.std.specs.Box.{box_value}
+use Rattle.std.specs.List.{insert, remove, starts_with}
+use Rattle.std.specs.declared.boxed.Box.{Box}
 use Rattle.std.specs.declared.collections.VecDeque.{VecDeque}
 use Rattle.std.specs.String.{string_eq}
-use Rattle.tinyjson.proofs.Callers.{view_Array}
+use Rattle.tinyjson.proofs.Callers.{view_Array, nth_items_view}
 use Rattle.tinyjson.specs.Tree.{Tree, null, array}
 use Rattle.tinyjson.specs.View.{view, text, items_view}
 use Rattle.tinyjson.specs.declared.value.JsonValue.{JsonValue}
 use Rattle.tinyjson.specs.declared.value.JsonValue.TheVariants as is
 use Rattle.json_pointer.proofs.Changing.{last_is, rest_is}
-use Rattle.json_pointer.proofs.Places.{begins, removal}
+use Rattle.json_pointer.proofs.Places.{begins, removal, at_index}
 use Rattle.json_pointer.proofs.Steps.{nth_past}
 use Rattle.json_pointer.specs.Change.{all_but_last, without_child, without_step, Removes}
 use Rattle.json_pointer.specs.Index.{index_of}
-use Rattle.json_pointer.specs.Siblings.{container_at, with_container, child_name, are_beside, IsTaken}
+use Rattle.json_pointer.specs.Siblings.{container_at, with_container, child_name, are_beside, IsTaken, boxes_view}
 use Rattle.json_pointer.specs.Tokens.{begins_with}
 use Rattle.json_pointer.specs.Walk.{step, item_of, part_at, with_part}
 
@@ -95,6 +97,78 @@ removes_at vs ws k i None at within there same is out =
     past j e = grind (arith, there)
 removes_at vs ws k i (Some x) at within there same is out = removal vs ws k i x at (within refl) is out
 
-pub same_items : (p q : VecDeque JsonValue Global) (r : Option JsonValue) → IfNone r (q ≡ p) → IfNone r (q.items ≡ p.items)
-same_items p q None h = ap (λ x. x.items) h
-same_items p q (Some x) h = h
+pub same_items : (p q : VecDeque (Box JsonValue Global) Global) (r : Option (Box JsonValue Global)) → IfNone r (q ≡ p)
+    → IfNone (option_map box_value r) (map box_value q.items ≡ map box_value p.items)
+same_items p q None h = ap (λ x. map box_value x.items) h
+same_items p q (Some x) h = tt
+
+-- ---- items in boxes
+
+pub boxes_inserted : (bs cs : List (Box JsonValue Global)) (i : ℕ) (b : Box JsonValue Global) → cs ≡ insert bs i b
+    → map box_value cs ≡ insert (map box_value bs) i (box_value b)
+boxes_inserted bs cs i b e = ap (map box_value) e ∙ by bs i
+  where
+    by : (xs : List (Box JsonValue Global)) (j : ℕ) → map box_value (insert xs j b) ≡ insert (map box_value xs) j (box_value b)
+    by [] zero = refl
+    by [] (suc j) = refl
+    by (x ∷ xs) zero = refl
+    by (x ∷ xs) (suc j) = ap (λ ys. box_value x ∷ ys) (by xs j)
+
+boxes_removed : (xs : List (Box JsonValue Global)) (j : ℕ) → map box_value (remove xs j) ≡ remove (map box_value xs) j
+boxes_removed [] zero = refl
+boxes_removed [] (suc j) = refl
+boxes_removed (x ∷ xs) zero = refl
+boxes_removed (x ∷ xs) (suc j) = ap (λ ys. box_value x ∷ ys) (boxes_removed xs j)
+
+boxed_at : (xs : List (Box JsonValue Global)) (i : ℕ) (b : Box JsonValue Global) → b ≡ get_or xs i b
+    → box_value b ≡ get_or (map box_value xs) i (box_value b)
+boxed_at xs i b e = ap box_value e ∙ by xs i
+  where
+    by : (ys : List (Box JsonValue Global)) (j : ℕ) → box_value (get_or ys j b) ≡ get_or (map box_value ys) j (box_value b)
+    by [] j = refl
+    by (y ∷ ys) zero = refl
+    by (y ∷ ys) (suc j) = by ys j
+
+-- what `remove` says of boxes, of what they hold
+pub box_none : (r : Option (Box JsonValue Global)) → r ≡ None → option_map box_value r ≡ None
+box_none r e = ap (option_map box_value) e
+
+pub held_in : (r : Option (Box JsonValue Global)) → IsSome (option_map box_value r) → IsSome r
+held_in None h = h
+held_in (Some b) h = refl
+
+pub held_out : (r : Option (Box JsonValue Global)) → IsSome r → IsSome (option_map box_value r)
+held_out None h = h
+held_out (Some b) h = refl
+
+pub held_at : (xs : List (Box JsonValue Global)) (i : ℕ) (r : Option (Box JsonValue Global)) → IfSome r (λ b. b ≡ get_or xs i b)
+    → IfSome (option_map box_value r) (λ v. v ≡ get_or (map box_value xs) i v)
+held_at xs i None h = tt
+held_at xs i (Some b) h = boxed_at xs i b h
+
+pub held_left : (xs ys : List (Box JsonValue Global)) (i : ℕ) (r : Option (Box JsonValue Global)) → OnSome r (ys ≡ remove xs i)
+    → OnSome (option_map box_value r) (map box_value ys ≡ remove (map box_value xs) i)
+held_left xs ys i None h = tt
+held_left xs ys i (Some b) h = ap (map box_value) h ∙ boxes_removed xs i
+
+item_missing : (bs : List (Box JsonValue Global)) (o : Option ℕ) → ((i : ℕ) → o ≡ Some i → length bs ≤ i) → item_of (boxes_view bs) o ≡ None
+item_missing bs None h = refl
+item_missing bs (Some i) h = nth_past (map box_value bs) i (omega (arith, length-map bs box_value, h i refl))
+
+pub item_past : (bs : List (Box JsonValue Global)) (k : List ℕ) (r : Option (Bor JsonValue)) → r ≡ None
+    → ((i : ℕ) → index_of k ≡ Some i → length bs ≤ i) → option_map (λ x. view x.now) r ≡ step (array (boxes_view bs)) k
+item_past bs k r e h = ap (option_map (λ x. view x.now)) e ∙ sym (item_missing bs (index_of k) h)
+
+pub item_gone : (bs : List (Box JsonValue Global)) (k : List ℕ) (i : ℕ) (r : Option (Bor JsonValue)) → r ≡ None → index_of k ≡ Some i
+    → length bs ≤ i → option_map (λ x. view x.now) r ≡ step (array (boxes_view bs)) k
+item_gone bs k i r e at h =
+    ap (option_map (λ x. view x.now)) e
+    ∙ sym (ap (item_of (boxes_view bs)) at ∙ nth_past (map box_value bs) i (omega (arith, length-map bs box_value, h)))
+
+pub item_is : (bs : List (Box JsonValue Global)) (k : List ℕ) (i : ℕ) (b : Box JsonValue Global) → index_of k ≡ Some i → i < length bs
+    → b ≡ get_or bs i b → Some (view (box_value b)) ≡ step (array (boxes_view bs)) k
+item_is bs k i b at within e =
+    let n : length (map box_value bs) ≡ length bs = length-map bs box_value in
+    sym (ap (item_of (boxes_view bs)) at
+    ∙ (nth_items_view (map box_value bs) i
+    ∙ ap (option_map view) (at_index (map box_value bs) i (box_value b) (omega (arith, n, within)) (boxed_at bs i b e))))

@@ -1,18 +1,21 @@
 -- What callers need of the text of a pointer, and of the container of a place, apart from the tree that holds it.
-use Rattle.std.proofs.Common.{◌≡◌, ◌&&◌, ℕ, Bool, true, false, cond, bytes_eq, List, [], ◌∷◌, Option, Some, None, IsSome, option_map}
-use Rattle.std.proofs.Common.{refl, sym, ap, ◌∙◌}
+use Rattle.std.proofs.Common.{◌≡◌, ◌&&◌, ℕ, zero, suc, Bool, true, false, cond, bytes_eq, codes, List, [], ◌∷◌, ◌++◌}
+use Rattle.std.proofs.Common.{Option, Some, None, IsSome, option_map, refl, sym, ap, ◌∙◌}
 use Rattle.std.proofs.lemmas.Slice.Eq.{bytes_eq-Decides}
 use Rattle.std.specs.Prelude.{option_and_then}
 use Rattle.tinyjson.specs.Soundness.{IsTree}
-use Rattle.tinyjson.specs.Tree.{Tree, null}
-use Rattle.json_pointer.proofs.Changing.{part_put, part_again, part_back, is_back}
+use Rattle.tinyjson.specs.Index.{nth, with_nth, item_count}
+use Rattle.tinyjson.specs.Tree.{Tree, null, array, Items, no_items, item}
+use Rattle.json_pointer.proofs.Changing.{part_put, part_again, part_back, part_last, with_last, is_back}
 use Rattle.json_pointer.proofs.Tokens.{split_pointer}
-use Rattle.json_pointer.specs.Change.{with_child, without_child, changed_at, all_but_last, last_of, with_new_part, without_part}
+use Rattle.json_pointer.specs.Change.{with_item_before, without_nth, with_child, without_child, without_item, without_step}
+use Rattle.json_pointer.specs.Change.{changed_at, all_but_last, last_of, with_new_part, without_part}
+use Rattle.json_pointer.specs.Index.{index_of}
 use Rattle.json_pointer.specs.Reading.{IsNoPointer}
 use Rattle.json_pointer.specs.Siblings.{container_at, with_container, child_name, are_beside}
 use Rattle.json_pointer.specs.Text.{pointer_text, split, pointer_tokens}
 use Rattle.json_pointer.specs.Tokens.{begins_with}
-use Rattle.json_pointer.specs.Walk.{part_at, with_part}
+use Rattle.json_pointer.specs.Walk.{step, item_of, with_item_of, with_step, part_at, with_part}
 
 -- ---- the text of a pointer
 
@@ -99,3 +102,66 @@ removed_beside t d (k ∷ ks) (l ∷ ls) s there h = by (part_at t (all_but_last
     by None e g = cc
     by (Some x) e g =
         changed_in (λ part. without_child part (last_of l ls)) (all_but_last k ks) (all_but_last l ls) t d x (fronts_same k l ks ls h) s e
+
+-- ---- the part beside the place, and another one in its stead
+
+last_apart : (l : List ℕ) (ls : List (List ℕ)) → l ∷ ls ≡ all_but_last l ls ++ last_of l ls ∷ []
+last_apart l [] = refl
+last_apart l (m ∷ ls) = ap (λ xs. l ∷ xs) (last_apart m ls)
+
+pub found_beside : (t d : Tree) (ks ls : List (List ℕ)) → IsSome (container_at t ks) → are_beside ls ks ≡ true
+    → part_at (with_container t ks d) ls ≡ step d (child_name ls)
+found_beside t d ks [] there h = cc
+found_beside t d [] (l ∷ ls) there h = cc
+found_beside t d (k ∷ ks) (l ∷ ls) there h = by (part_at t (all_but_last k ks)) refl there
+  where
+    by : (o : Option Tree) → part_at t (all_but_last k ks) ≡ o → IsSome o
+        → part_at (with_container t (k ∷ ks) d) (l ∷ ls) ≡ step d (last_of l ls)
+    by None e g = cc
+    by (Some x) e g =
+        let u : Tree = with_container t (k ∷ ks) d in
+        ap (part_at u) (last_apart l ls)
+        ∙ (part_last (all_but_last l ls) u (last_of l ls)
+        ∙ (ap (λ js. option_and_then (λ c. step c (last_of l ls)) (part_at u js)) (fronts_same k l ks ls h)
+        ∙ ap (option_and_then (λ c. step c (last_of l ls))) (part_put (all_but_last k ks) t d x e)))
+
+pub replaced_beside : (t d old u : Tree) (ks ls : List (List ℕ)) → IsTree t → IsSome (container_at t ks) → are_beside ls ks ≡ true
+    → step d (child_name ls) ≡ Some old → with_part (with_container t ks d) ls u ≡ with_container t ks (with_step d (child_name ls) u)
+replaced_beside t d old u ks [] s there h at = cc
+replaced_beside t d old u [] (l ∷ ls) s there h at = cc
+replaced_beside t d old u (k ∷ ks) (l ∷ ls) s there h at = by (part_at t (all_but_last k ks)) refl there
+  where
+    by : (o : Option Tree) → part_at t (all_but_last k ks) ≡ o → IsSome o
+        → with_part (with_container t (k ∷ ks) d) (l ∷ ls) u ≡ with_container t (k ∷ ks) (with_step d (last_of l ls) u)
+    by None e g = cc
+    by (Some x) e g =
+        let js : List (List ℕ) = all_but_last k ks in
+        let v : Tree = with_part t js d in
+        ap (λ is. with_part v is u) (last_apart l ls ∙ ap (λ is. is ++ last_of l ls ∷ []) (fronts_same k l ks ls h))
+        ∙ (with_last js v d old u (last_of l ls) (part_put js t d x e) at
+        ∙ part_again js t d (with_step d (last_of l ls) u) x s e)
+
+-- ---- an item that is taken out, and one that is put in where it was
+
+nth_back : (ts : Items) (i : ℕ) (old u : Tree) → nth ts i ≡ Some old → with_item_before (without_nth ts i) i u ≡ Some (with_nth ts i u)
+nth_back no_items i old u h = cc
+nth_back (item t ts) zero old u h = refl
+nth_back (item t ts) (suc i) old u h = ap (option_map (item t)) (nth_back ts i old u h)
+
+pub item_in_its_place : (ts : Items) (k : List ℕ) (old u : Tree) → step (array ts) k ≡ Some old
+    → with_child (without_step (array ts) k) k u ≡ Some (with_step (array ts) k u)
+item_in_its_place ts k old u h = by (index_of k) refl h (bytes_eq k (codes "-")) refl
+  where
+    count : ℕ
+    count = item_count (without_item ts (index_of k))
+
+    by : (o : Option ℕ) → index_of k ≡ o → item_of ts o ≡ Some old → (b : Bool) → bytes_eq k (codes "-") ≡ b
+        → with_child (without_step (array ts) k) k u ≡ Some (with_step (array ts) k u)
+    by None at g b e = cc
+    by (Some i) at g true e =
+        let none : index_of k ≡ None = ap index_of ((bytes_eq-Decides k (codes "-")).0 e) in cc
+    by (Some i) at g false e =
+        ap (λ b. option_map array (option_and_then (λ j. with_item_before (without_item ts (index_of k)) j u)
+        (cond b (Some count) (index_of k)))) e
+        ∙ (ap (λ o. option_map array (option_and_then (λ j. with_item_before (without_item ts o) j u) o)) at
+        ∙ (ap (option_map array) (nth_back ts i old u g) ∙ ap (λ o. Some (array (with_item_of ts o u))) (sym at)))

@@ -82,6 +82,23 @@ with_part_step : (t p : Tree) (k : List ℕ) (ks : List (List ℕ)) (u : Tree) �
     → with_part t (k ∷ ks) u ≡ with_step t k (with_part p ks u)
 with_part_step t p k ks u e = ap (λ o. option_map_or (λ r. with_step t k (with_part r ks u)) o t) e
 
+-- a part of the part that the tokens name is put in
+pub with_last : (js : List (List ℕ)) (t c old u : Tree) (k : List ℕ) → part_at t js ≡ Some c → step c k ≡ Some old
+    → with_part t (js ++ k ∷ []) u ≡ with_part t js (with_step c k u)
+with_last [] t c old u k h e =
+    let same : t ≡ c = cc in
+    subst (λ x. with_part t (k ∷ []) u ≡ with_step x k u) same
+    (with_part_step t old k [] u (subst (λ x. step x k ≡ Some old) (sym same) e))
+with_last (j ∷ js) t c old u k h e = by (step t j) refl h (λ p g. with_last js p c old u k g e)
+  where
+    by : (o : Option Tree) → step t j ≡ o → option_and_then (λ p. part_at p js) o ≡ Some c
+        → ((p : Tree) → part_at p js ≡ Some c → with_part p (js ++ k ∷ []) u ≡ with_part p js (with_step c k u))
+        → with_part t (j ∷ (js ++ k ∷ [])) u ≡ with_part t (j ∷ js) (with_step c k u)
+    by None f g later = cc
+    by (Some p) f g later =
+        with_part_step t p j (js ++ k ∷ []) u f
+        ∙ (ap (with_step t j) (later p g) ∙ sym (with_part_step t p j js (with_step c k u) f))
+
 pub part_put : (ks : List (List ℕ)) (t u x : Tree) → part_at t ks ≡ Some x → part_at (with_part t ks u) ks ≡ Some u
 part_put [] t u x h = refl
 part_put (k ∷ ks) t u x h = by (step t k) refl h (λ p g. part_put ks p u x g)
@@ -144,7 +161,7 @@ without_part_at t (j ∷ js) k =
     ap (λ l. changed_at (λ part. without_child part l) t (all_but_last j (js ++ k ∷ []))) (last_is j js k)
     ∙ ap (changed_at (λ part. without_child part k) t) (rest_is j js k)
 
-part_last : (js : List (List ℕ)) (t : Tree) (k : List ℕ) → part_at t (js ++ k ∷ []) ≡ option_and_then (λ c. step c k) (part_at t js)
+pub part_last : (js : List (List ℕ)) (t : Tree) (k : List ℕ) → part_at t (js ++ k ∷ []) ≡ option_and_then (λ c. step c k) (part_at t js)
 part_last [] t k = by (step t k)
   where
     by : (o : Option Tree) → option_and_then (λ u. part_at u []) o ≡ o

@@ -84,7 +84,7 @@ pub no_removal : (l : Vec JsonValue Global) (k : List ℕ) → ((i : ℕ) → in
     → without_child (array (items_view l.items)) k ≡ None
 no_removal l k h = ap (option_map (λ u. without_step (array (items_view l.items)) k)) (sym (no_item l (index_of k) h))
 
-at_index : (vs : List JsonValue) (i : ℕ) (x : JsonValue) → i < length vs → x ≡ get_or vs i x → slice_get vs i ≡ Some x
+pub at_index : (vs : List JsonValue) (i : ℕ) (x : JsonValue) → i < length vs → x ≡ get_or vs i x → slice_get vs i ≡ Some x
 at_index [] i x h e = absurd (omega arith)
 at_index (v ∷ vs) zero x h e = ap Some (sym e)
 at_index (v ∷ vs) (suc i) x h e = at_index vs i x (omega arith) e

@@ -1,6 +1,11 @@
 -- The container of a place that tokens name, apart from the value that holds it.
-use Rattle.std.specs.Prelude.{◌≡◌, Bool, false, ◌&&◌, ℕ, List, [], ◌∷◌, Option, Some, None}
-use Rattle.tinyjson.specs.Tree.{Tree, null}
+use Rattle.std.specs.Box.{box_value}
+use Rattle.std.specs.Prelude.{◌≡◌, Bool, false, ◌&&◌, ℕ, List, [], ◌∷◌, Option, Some, None, map}
+use Rattle.std.specs.declared.alloc.Global.{Global}
+use Rattle.std.specs.declared.boxed.Box.{Box}
+use Rattle.tinyjson.specs.Tree.{Tree, Items, null}
+use Rattle.tinyjson.specs.View.{items_view}
+use Rattle.tinyjson.specs.declared.value.JsonValue.{JsonValue}
 use Rattle.json_pointer.specs.Change.{all_but_last, last_of}
 use Rattle.json_pointer.specs.Tokens.{begins_with}
 use Rattle.json_pointer.specs.Walk.{part_at, with_part}
@@ -29,3 +34,7 @@ are_beside _ _ = false
 -- The container c is taken out of t, and null stands in its place in t'.
 abbrev pub IsTaken : Tree → List (List ℕ) → Tree → Tree → Type 0
 IsTaken t ks c t' = (container_at t ks ≡ Some c) × (t' ≡ with_container t ks null)
+
+-- the trees of items that each are in a box
+abbrev pub boxes_view : List (Box JsonValue Global) → Items
+boxes_view bs = items_view (map box_value bs)

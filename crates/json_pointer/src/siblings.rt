@@ -1,10 +1,13 @@
-//! The items of an array, apart from the value that holds them, so that many are put in or taken out in turn.
-ghost use Rattle.std.specs.Prelude.{◌≡◌, IsSome, MatchOption};
+//! The items of an array, apart from the value that holds them, so that many are put in or taken out in turn:
+//! each in a box, so that what moves where one is put in are pointers.
+ghost use Rattle.std.specs.Box.{box_value};
+ghost use Rattle.std.specs.Prelude.{◌≡◌, IsSome, MatchOption, option_map};
 ghost use Rattle.std.specs.Str.{chars};
 ghost use Rattle.tinyjson.specs.Tree.{array};
 ghost use Rattle.tinyjson.specs.View.{view, items_view};
 ghost use Rattle.json_pointer.specs.Change.{with_child, without_child, Inserts, Removes};
 ghost use Rattle.json_pointer.specs.Siblings.{container_at, with_container, child_name, are_beside, IsTaken};
+ghost use Rattle.json_pointer.specs.Siblings.{boxes_view};
 ghost use Rattle.json_pointer.specs.Tokens.{tokens_of};
 ghost use Rattle.json_pointer.specs.Walk.{step};
 
@@ -34,8 +37,8 @@ impl Pointer {
     /// ```
     /// let place = Pointer::parse(alloc, "/a/0")?;
     /// let mut items = place.take_items(&mut value).unwrap(); // {"a":[7,8]} is then {"a":null}
-    /// place.insert_in(&mut items, JsonValue::Null)?;
-    /// place.put_items(&mut value, items); // and then {"a":[null,7,8]}
+    /// items.push_back(JsonValue::Null)?;
+    /// place.put_items(&mut value, items); // and then {"a":[7,8,null]}
     /// ```
     pub fn take_items(&self, value: &mut JsonValue) -> Option<VecDeque<JsonValue>>
         ensures { MatchOption result (view value.new ≡ view value.old)
@@ -66,65 +69,90 @@ impl Pointer {
         }
     }
 
+    /// The item that the last token names among these, as [`Pointer::find`] does in an array of them.
+    pub fn find_in<'i>(&self, items: &'i VecDeque<Box<JsonValue>>) -> Option<&'i JsonValue>
+        ensures { option_map (λ x. view x.now) result
+            ≡ step (array (boxes_view items.now.items)) (child_name (tokens_of self.now)) }
+    {
+        let (last, _) = self.tokens.as_slice().split_last()?;
+        item_at(items, last.as_str())
+    }
+
     /// Puts the part at the place that the last token names among the items, as [`Pointer::insert`] does.
     /// After an error the items are as they were, and the part is freed.
+    ///
+    /// ```
+    /// place.insert_in(&mut items, Box::new(alloc, JsonValue::Null)?)?; // by /0 7, 8 are then null, 7, 8
+    /// ```
     pub fn insert_in(
         &self,
-        items: &mut VecDeque<JsonValue>,
-        part: JsonValue,
+        items: &mut VecDeque<Box<JsonValue>>,
+        part: Box<JsonValue>,
     ) -> Result<(), InsertError>
         ensures { Inserts
-            (with_child (array (items_view items.old.items)) (child_name (tokens_of self.now))
-            (view part))
-            (array (items_view items.old.items)) result (array (items_view items.new.items)) }
+            (with_child (array (boxes_view items.old.items)) (child_name (tokens_of self.now))
+            (view part.value))
+            (array (boxes_view items.old.items)) result (array (boxes_view items.new.items)) }
     {
         match self.tokens.as_slice().split_last() {
             Some((last, _)) => insert_at(items, last.as_str(), part),
             None => {
-                part.dismantle();
+                Box::into_inner(part).dismantle();
                 Err(InsertError::NoPlace)
             }
         }
     }
 
     /// Takes out the item that the last token names among these, as [`Pointer::remove`] does.
-    pub fn remove_from(&self, items: &mut VecDeque<JsonValue>) -> Option<JsonValue>
+    pub fn remove_from(&self, items: &mut VecDeque<Box<JsonValue>>) -> Option<Box<JsonValue>>
         ensures { Removes
-            (step (array (items_view items.old.items)) (child_name (tokens_of self.now)))
-            (without_child (array (items_view items.old.items)) (child_name (tokens_of self.now)))
-            (array (items_view items.old.items)) result (array (items_view items.new.items)) }
+            (step (array (boxes_view items.old.items)) (child_name (tokens_of self.now)))
+            (without_child (array (boxes_view items.old.items)) (child_name (tokens_of self.now)))
+            (array (boxes_view items.old.items)) (option_map box_value result)
+            (array (boxes_view items.new.items)) }
     {
         let (last, _) = self.tokens.as_slice().split_last()?;
         remove_at(items, last.as_str())
     }
 }
 
+fn item_at<'i>(items: &'i VecDeque<Box<JsonValue>>, token: &str) -> Option<&'i JsonValue>
+    ensures { option_map (λ x. view x.now) result
+        ≡ step (array (boxes_view items.now.items)) (chars token.now) }
+{
+    match items.get(index(token)?) {
+        Some(item) => Some(&**item),
+        None => None,
+    }
+}
+
 fn insert_at(
-    items: &mut VecDeque<JsonValue>,
+    items: &mut VecDeque<Box<JsonValue>>,
     token: &str,
-    part: JsonValue,
+    part: Box<JsonValue>,
 ) -> Result<(), InsertError>
     ensures { Inserts
-        (with_child (array (items_view items.old.items)) (chars token.now) (view part))
-        (array (items_view items.old.items)) result (array (items_view items.new.items)) }
+        (with_child (array (boxes_view items.old.items)) (chars token.now) (view part.value))
+        (array (boxes_view items.old.items)) result (array (boxes_view items.new.items)) }
 {
     let Some(at) = place(token, items.len()) else {
-        part.dismantle();
+        Box::into_inner(part).dismantle();
         return Err(InsertError::NoPlace);
     };
     match items.insert(at, part) {
         Ok(()) => Ok(()),
         Err(refused) => {
-            refused.value.dismantle();
+            Box::into_inner(refused.value).dismantle();
             Err(InsertError::OutOfMemory)
         }
     }
 }
 
-fn remove_at(items: &mut VecDeque<JsonValue>, token: &str) -> Option<JsonValue>
-    ensures { Removes (step (array (items_view items.old.items)) (chars token.now))
-        (without_child (array (items_view items.old.items)) (chars token.now))
-        (array (items_view items.old.items)) result (array (items_view items.new.items)) }
+fn remove_at(items: &mut VecDeque<Box<JsonValue>>, token: &str) -> Option<Box<JsonValue>>
+    ensures { Removes (step (array (boxes_view items.old.items)) (chars token.now))
+        (without_child (array (boxes_view items.old.items)) (chars token.now))
+        (array (boxes_view items.old.items)) (option_map box_value result)
+        (array (boxes_view items.new.items)) }
 {
     items.remove(index(token)?)
 }

@@ -1,10 +1,11 @@
-use Rattle.std.proofs.Common.{sym, ap, ◌∙◌, subst, map}
+use Rattle.std.proofs.Common.{sym, ap, ◌∙◌, subst, map, option_map}
+use Rattle.std.specs.Box.{box_value}
 use Rattle.std.specs.Str.{chars}
 use Rattle.tinyjson.specs.Tree.{array}
-use Rattle.tinyjson.specs.View.{text, items_view}
+use Rattle.tinyjson.specs.View.{text}
 use Rattle.json_pointer.proofs.Beside.{split_tokens, name_is}
 use Rattle.json_pointer.specs.Change.{without_child, Removes}
-use Rattle.json_pointer.specs.Siblings.{child_name}
+use Rattle.json_pointer.specs.Siblings.{child_name, boxes_view}
 use Rattle.json_pointer.specs.Walk.{step}
 use Rattle.json_pointer.proofs.pointer.Pointer.remove_from.Goals as goal
 
@@ -12,9 +13,9 @@ pub returns : goal.returns
 returns c =
     let front = c.in_ok-last.field-0-1.now in
     let last = c.in_ok-last.last.now in
-    let whole = array (items_view c.args.items.now.items) in
-    let left = array (items_view c.remove_at.new.items.items) in
-    subst (λ k. Removes (step whole k) (without_child whole k) whole c.remove_at.result left)
+    let whole = array (boxes_view c.args.items.now.items) in
+    let left = array (boxes_view c.remove_at.new.items.items) in
+    subst (λ k. Removes (step whole k) (without_child whole k) whole (option_map box_value c.remove_at.result) left)
     (ap chars c.as_str.ensures.value
     ∙ sym (ap child_name
     (split_tokens c.args.self.now.tokens.items front last (sym c.as_slice.ensures.value ∙ c.in_ok-last.ensures.cases.0))
