@@ -305,3 +305,42 @@ REFUSED_REFERENCES = [
     # Another base would change what they lead to.
     ('{"$defs":{"a":{"$id":"x"}}}', "/$defs/a/$id"), ('{"properties":{"a":{"$id":"https://example.com/b"}}}', "/properties/a/$id"),
 ]
+
+# Schemas with names that are no keywords, and those that are told: each once, in the order of bytes.
+UNKNOWN = [
+    ('{"maximun":3,"type":"integer"}', ["maximun"]),
+    ('{"z":1,"items":{"z":{"w":2},"allOf":[{"y":0,"z":3},{"a":[]}]}}', ["a", "y", "z"]),
+    # Names of older drafts, and other spellings.
+    ('{"definitions":{"a":{"b":1}},"dependencies":{},"additionalItems":true,"id":"a","Type":1,"type ":1}', ["Type", "additionalItems", "definitions", "dependencies", "id", "type "]),
+    # In the schemas of each keyword that has some.
+    ('{"not":{"a":1,"type":"null"},"if":{"b":1},"then":{"c":1},"else":{"d":1},"items":{"e":1},"contains":{"f":1},"additionalProperties":{"g":1},"propertyNames":{"h":1},"contentSchema":{"i":1}}', list("abcdefghi")),
+    ('{"allOf":[{"a":1},{"b":1}],"anyOf":[true,{"c":1}],"oneOf":[{"d":1},false],"prefixItems":[{},{"e":{}}]}', list("abcde")),
+    ('{"$defs":{"k":{"a":1}},"properties":{"k":{"b":1},"l":{"c":1}},"dependentSchemas":{"k":{"d":1}}}', list("abcd")),
+    # A schema stands there alone: other names are those of members, and data has none.
+    ('{"properties":{"x":{}},"$defs":{"y":true},"dependentSchemas":{"w":{}},"dependentRequired":{"v":["u"]},"required":["t"],"enum":[1,{"s":1}],'
+     '"const":1,"default":{"r":1},"examples":[{"q":1}],"p":{"o":1}}', ["p"]),
+    # Shown as one line.
+    ('{"":1,"b\\nvalid\\u001b\\u007f\\u009b":2,"\u00e9\\"":3}', ["", "bU+000AvalidU+001BU+007FU+009B", '\u00e9"']),
+]
+
+# A schema, the lines of an input, the reports of it as the line, the place in the value and the keyword's, what is told of lines
+# that can't be checked, and the status.
+BY_LINES = [
+    ("false", b"", [], [], 0),
+    ('{"type":"integer"}', b"1\n2.0\n-3", [], [], 0),
+    ('{"type":"integer"}', b'1\n"a"\n2\ntrue', [(2, "", "/type"), (4, "", "/type")], [], 1),
+    ('{"type":"integer"}', b'"a"\n', [(1, "", "/type")], [], 1),
+    # A carriage return is white space of the text, and an empty line is no text.
+    ('{"type":"integer"}', b'1\r\n"a"\r\n\r2\r', [(2, "", "/type")], [], 1),
+    ('{"type":"integer"}', b'1\n\n"a"\n \n', [(3, "", "/type")], ["line 2, col 0: Unexpected EOF", "line 4, col 1: Unexpected EOF"], 3),
+    ("true", b"\n", [], ["line 1, col 0: Unexpected EOF"], 3),
+    # After a line that can't be checked it goes on.
+    ('{"type":"integer"}', b'[1,]\n"a"\n{\n3\n', [(2, "", "/type")], ["line 1, col 3: Invalid character: ]", "line 3, col 1: Unexpected EOF"], 3),
+    ("true", b'1\n"\xff"\n[]\n\xc3', [], ["line 2: not UTF-8", "line 4: not UTF-8"], 3),
+    ("true", b"[" * 101 + b"\n" + b"[" * 100 + b"]" * 100, [], ["line 1, col 100: Nesting is too deep at '['"], 3),
+    ('{"items":{"allOf":[{"$ref":"#"}]}}', b"[" * 85 + b"]" * 85 + b"\n" + b"[" * 84 + b"]" * 84, [], ["line 1: too many schemas are applied in one another"], 3),
+    # Nothing in a value ends a line.
+    ('{"additionalProperties":false}', b'{"x\\nvalid":1}\n{"\\u001b":1}', [(1, "/x\nvalid", "/additionalProperties"), (2, "/\x1b", "/additionalProperties")], [], 1),
+    ('{"items":{"properties":{"a":{"minimum":0}}}}', b'[{"a":0}]\n[{},{"a":-1}]', [(2, "/1/a", "/items/properties/a/minimum")], [], 1),
+    ('{"minimum":0}', b"0\n" * 20_000 + b"-1\n" + b"1", [(20_001, "", "/minimum")], [], 1),
+]

@@ -1,4 +1,4 @@
-//! Lines over any writer: where a write fails, a prefix was written.
+//! Lines over any reader and any writer: one is read, and where a write fails, a prefix was written.
 //!
 //! ```
 //! write_line(alloc, &value, &mut output)?; // {"a":1} and a line feed
@@ -6,5 +6,7 @@
 #![tactic(auto)]
 
 mod line;
+mod lines;
 
 pub use line::{write_all, write_line};
+pub use lines::{content, read_line};

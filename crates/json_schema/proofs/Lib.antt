@@ -2,11 +2,16 @@ pub mod Settling
 pub mod Depths
 pub mod Examples
 pub mod Forms
+pub mod Handling
 pub mod Listed
 pub mod Lookups
 pub mod Loops
+pub mod Outcomes
 pub mod Parts
 pub mod Places
 pub mod References
+pub mod Reports
+pub mod Running
 pub mod Turns
 pub mod Validity
+pub mod Words

@@ -1,10 +1,13 @@
 //! Checks a JSON text against a JSON Schema (2020-12).
 //!
-//! The one argument names the file of the schema, and the text comes from standard input. The status is 0 for a valid
+//! The argument names the file of the schema, and the text comes from standard input. The status is 0 for a valid
 //! value, and nothing is printed; 1 for another, of which one line of JSON is printed: the place in the schema
 //! and the place in the value that does not meet it; 2 for other arguments, or a schema that is no JSON text, is
 //! deeper than the limit, can't be read or can't be applied; 3 for no JSON text, or one deeper than the limit;
 //! and 4 where memory, a read or a write failed.
+//!
+//! After `-l` each line of standard input is a text, and the reports have its number. Names in the schema that are no
+//! keywords are told on standard error, and lines that can't be checked.
 #![tactic(auto)]
 
 mod applied;
@@ -14,38 +17,40 @@ mod contains;
 mod failure;
 mod form;
 mod keyword;
+mod lines;
 mod multiple;
+mod options;
 mod part;
 mod reference;
+mod refusal;
 mod refused;
 mod report;
 mod schema;
 mod shown;
 mod unique;
+mod unknown;
 mod validate;
+mod verdict;
 mod violation;
 mod walk;
 
-use failure::{Failure, input_error, schema_file_error, schema_text_error, text_error};
+use failure::{Failure, input_error, schema_file_error, schema_text_error};
+use lines::{Outcome, check_lines};
+use options::{Request, asked};
 use report::write_report;
 use schema::{Schema, SchemaError};
 use std::alloc::Global;
 use std::env::{self, Env};
 use std::fs::{self, Files};
-use std::io::{self, BufWriter, ErrorKind, Write};
+use std::io::{self, BufReader, BufWriter, ErrorKind, Write};
 use std::process::ExitCode;
 use tinyjson::JsonValue;
-
-/// How many containers of a schema or a value may be open at once: the check takes stack as they are deep.
-const DEPTH_LIMIT: usize = 100;
-
-/// How many schemas may be applied in one another: so many take less than 256 KB of stack.
-const STEP_LIMIT: usize = 250;
+use unknown::{tell_words, unknown_words};
+use verdict::{DEPTH_LIMIT, Verdict, check_text};
 
 fn main(rt: HostRuntime) -> ExitCode {
-    match check(&rt) {
-        Ok(true) => ExitCode::SUCCESS,
-        Ok(false) => ExitCode::from(1),
+    match answer(&rt) {
+        Ok(outcome) => ExitCode::from(outcome.status()),
         Err(failure) => {
             let _ = eprintln!(rt; "json_schema: {failure}");
             ExitCode::from(failure.status())
@@ -53,32 +58,36 @@ fn main(rt: HostRuntime) -> ExitCode {
     }
 }
 
-/// Whether the text of standard input is valid; what it does not meet is printed.
-fn check(rt: &(impl Env + Files + Input + Print + AllocGlobal)) -> Result<bool, Failure> {
+/// Reads the schema, tells of its unknown words, and checks what was asked for.
+fn answer(rt: &HostRuntime) -> Result<Outcome, Failure> {
     let alloc = rt.alloc();
-    let name = file_asked(rt)?;
-    let schema = fs::read_to_string(rt, name.as_str()).map_err(schema_file_error)?;
-    let schema = JsonValue::from_str_with_depth_limit(alloc, schema.as_str(), DEPTH_LIMIT).map_err(
+    let words = arguments(rt)?;
+    let Some(Request { by_lines, file }) = asked(words.as_slice()) else {
+        return Err(Failure::Arguments);
+    };
+    let text = fs::read_to_string(rt, file).map_err(schema_file_error)?;
+    let tree = JsonValue::from_str_with_depth_limit(alloc, text.as_str(), DEPTH_LIMIT).map_err(
         schema_text_error,
     )?;
-    let schema = read_schema(alloc, &schema)?;
-    let text = io::read_to_string(alloc, rt.reader()).map_err(input_error)?;
-    let value = JsonValue::from_str_with_depth_limit(alloc, text.as_str(), DEPTH_LIMIT).map_err(
-        text_error,
-    )?;
-    let Some(violation) = schema.invalid_place(&value, STEP_LIMIT, alloc)? else {
-        return Ok(true);
+    let schema = read_schema(alloc, &tree)?;
+    tell_words(alloc, &mut rt.stderr(), &unknown_words(&tree, alloc)?).map_err(Failure::Stream)?;
+    let outcome = if by_lines {
+        by_lines_of(rt, schema)
+    } else {
+        of_whole(rt, schema)
     };
-    let mut output = BufWriter::new(alloc, io::writer(rt)).map_err(Failure::Memory)?;
-    let answer = write_report(alloc, &violation, &mut output);
-    let answer = answer.and_then(|()| output.flush());
-    // Dropped, the gathered bytes would be written, also after a write that failed.
-    let (_output, _gathered) = output.into_parts();
-    answer.map_err(Failure::Writing)?;
-    Ok(false)
+    tree.dismantle();
+    outcome
 }
 
-/// A schema that can be applied.
+fn arguments(rt: &(impl Env + AllocGlobal)) -> Result<Vec<String>, Failure> {
+    match env::args(rt) {
+        Ok(words) => Ok(words.skip(1).collect::<Vec<String>>(rt.alloc())?),
+        Err(error) if error.kind() == ErrorKind::OutOfMemory => Err(Failure::OutOfMemory),
+        Err(_) => Err(Failure::Arguments),
+    }
+}
+
 fn read_schema(alloc: Global, tree: &JsonValue) -> Result<Schema<'_>, Failure> {
     match Schema::read(tree, alloc) {
         Ok(schema) => Ok(schema),
@@ -87,15 +96,31 @@ fn read_schema(alloc: Global, tree: &JsonValue) -> Result<Schema<'_>, Failure> {
     }
 }
 
-/// The one argument.
-fn file_asked(rt: &(impl Env + AllocGlobal)) -> Result<String, Failure> {
-    let mut words = match env::args(rt) {
-        Ok(words) => words.skip(1),
-        Err(error) if error.kind() == ErrorKind::OutOfMemory => return Err(Failure::Memory(error)),
-        Err(_) => return Err(Failure::Arguments),
-    };
-    match (words.next(), words.next()) {
-        (Some(name), None) => Ok(name),
-        _ => Err(Failure::Arguments),
+/// Checks the text of standard input; what it does not meet is printed.
+fn of_whole(rt: &HostRuntime, schema: Schema<'_>) -> Result<Outcome, Failure> {
+    let alloc = rt.alloc();
+    let text = io::read_to_string(alloc, rt.reader()).map_err(input_error)?;
+    match check_text(alloc, schema, text.as_str())? {
+        Verdict::Valid => Ok(Outcome::AllValid),
+        Verdict::Refused(cause) => Err(Failure::Text(cause)),
+        Verdict::Invalid(violation) => {
+            let mut output = BufWriter::new(alloc, rt.stdout()).map_err(Failure::Stream)?;
+            let answer = write_report(alloc, None, &violation, &mut output);
+            let answer = answer.and_then(|()| output.flush());
+            // Dropped, the gathered bytes would be written, also after a write that failed.
+            let (_output, _gathered) = output.into_parts();
+            answer.map_err(Failure::Stream)?;
+            Ok(Outcome::SomeInvalid)
+        }
     }
+}
+
+/// Checks each line of standard input. After a failure nothing more is written, though some bytes may be gathered.
+fn by_lines_of(rt: &HostRuntime, schema: Schema<'_>) -> Result<Outcome, Failure> {
+    let alloc = rt.alloc();
+    let mut input = BufReader::new(alloc, rt.reader()).map_err(Failure::Stream)?;
+    let mut output = BufWriter::new(alloc, rt.stdout()).map_err(Failure::Stream)?;
+    let answer = check_lines(alloc, schema, &mut input, &mut output, &mut rt.stderr());
+    let (_output, _gathered) = output.into_parts();
+    answer.map_err(Failure::Stream)
 }

@@ -1,37 +1,92 @@
 //! The line that is printed of a value that is not valid.
+ghost use Rattle.std.specs.Prelude.{◌≡◌, IfOk, OnOk};
+ghost use Rattle.std.specs.Str.{chars};
+ghost use Rattle.tinyjson.specs.Tree.{put};
+ghost use Rattle.tinyjson.specs.View.{view, members_view};
+ghost use Rattle.tinyjson.specs.Written.{WritesPrefix};
+ghost use Rattle.json_line.specs.Line.{line_of};
+ghost use Rattle.json_schema.specs.Report.{report_tree, place_tree, with_line};
 
 use crate::violation::Violation;
+use json_line::write_line;
+use json_pointer::Pointer;
 use std::alloc::{AllocError, Global};
 use std::collections::HashMap;
 use std::io::{self, Write};
-use tinyjson::{JsonValue, insert_member};
+use tinyjson::{JsonNumber, JsonValue, insert_member};
 
-/// Writes an output unit (Core, 12.4.2) as one line in normal form.
-pub fn write_report<W: Write>(alloc: Global, violation: &Violation, w: &mut W) -> io::Result<()> {
-    output_unit(alloc, violation)?.write_to(alloc, w)?;
-    w.write_all(b"\n")
+/// Writes an output unit (Core, 12.4.2) as one line in normal form, with the number of the value's line if it
+/// has one.
+///
+/// The first error ends it, and a prefix of the line was written then. Nothing is flushed.
+pub fn write_report<W: Write>(
+    alloc: Global,
+    line: Option<u64>,
+    violation: &Violation,
+    w: &mut W,
+) -> io::Result<()>
+    ensures { WritesPrefix (W.contents w.old) (W.contents w.new)
+        (line_of (report_tree line violation.now)) result }
+{
+    let unit = output_unit(alloc, line, violation)?;
+    write_line(alloc, &unit, w)
 }
 
-fn output_unit(alloc: Global, violation: &Violation) -> Result<JsonValue, AllocError> {
+fn output_unit(
+    alloc: Global,
+    line: Option<u64>,
+    violation: &Violation,
+) -> Result<JsonValue, AllocError>
+    ensures { IfOk result (λ unit. view unit ≡ report_tree line violation.now) }
+{
     let mut members = HashMap::new(alloc);
     let error = String::from_str(alloc, "the value does not meet the schema at this place")?;
     put(alloc, &mut members, "error", JsonValue::String(error))?;
-    let instance = violation.instance_location.to_string(alloc)?;
-    put(
+    put_place(
         alloc,
         &mut members,
         "instanceLocation",
-        JsonValue::String(instance),
+        &violation.instance_location,
     )?;
-    let keyword = violation.keyword_location.to_string(alloc)?;
-    put(
+    put_place(
         alloc,
         &mut members,
         "keywordLocation",
-        JsonValue::String(keyword),
+        &violation.keyword_location,
     )?;
+    put_line(alloc, &mut members, line)?;
     put(alloc, &mut members, "valid", JsonValue::Boolean(false))?;
     Ok(JsonValue::Object(members))
+}
+
+fn put_line(
+    alloc: Global,
+    members: &mut HashMap<String, JsonValue>,
+    line: Option<u64>,
+) -> Result<(), AllocError>
+    ensures { OnOk result (members_view members.new.entries
+        ≡ with_line line (members_view members.old.entries)) }
+{
+    match line {
+        Some(number) => {
+            let number = JsonNumber::from_u64(alloc, number)?;
+            put(alloc, members, "line", JsonValue::Number(number))
+        }
+        None => Ok(()),
+    }
+}
+
+fn put_place(
+    alloc: Global,
+    members: &mut HashMap<String, JsonValue>,
+    key: &str,
+    place: &Pointer,
+) -> Result<(), AllocError>
+    ensures { OnOk result (members_view members.new.entries
+        ≡ put (chars key.now) (place_tree place.now) (members_view members.old.entries)) }
+{
+    let text = place.to_string(alloc)?;
+    put(alloc, members, key, JsonValue::String(text))
 }
 
 fn put(
@@ -39,6 +94,9 @@ fn put(
     members: &mut HashMap<String, JsonValue>,
     key: &str,
     value: JsonValue,
-) -> Result<(), AllocError> {
+) -> Result<(), AllocError>
+    ensures { OnOk result (members_view members.new.entries
+        ≡ put (chars key.now) (view value) (members_view members.old.entries)) }
+{
     insert_member(members, String::from_str(alloc, key)?, value)
 }

@@ -1,0 +1,43 @@
+-- What a check says of a text.
+use Rattle.std.specs.Prelude.{◌≡◌, ℕ, List, Option, Some, None, Result, Ok, Err}
+use Rattle.std.specs.Str.{IsUtf8, chars}
+use Rattle.tinyjson.specs.Error.{error_kind}
+use Rattle.tinyjson.specs.Grammar.{IsText, IsAccepted}
+use Rattle.tinyjson.specs.JsonParseErrorKind.TheVariants as kind
+use Rattle.tinyjson.specs.Parser.{ParsesText}
+use Rattle.tinyjson.specs.Tree.{Tree}
+use Rattle.tinyjson.specs.declared.parser.error.JsonParseError.{JsonParseError}
+use Rattle.json_line.specs.Lines.{content}
+use Rattle.json_schema.specs.Valid.{Validates}
+use Rattle.json_schema.specs.declared.verdict.Cause.TheVariants as cause
+use Rattle.json_schema.specs.declared.verdict.Verdict.{Verdict}
+use Rattle.json_schema.specs.declared.verdict.Verdict.TheVariants.{Valid, Invalid, Refused}
+use Rattle.json_schema.specs.declared.walk.CheckError.TheVariants as check
+
+-- how many containers may be open at once, and how many schemas may be applied in one another
+abbrev pub depth_limit : Option ℕ
+depth_limit = Some 100
+
+abbrev pub step_limit : ℕ
+step_limit = 250
+
+-- what the check of the tree t by the schema s says
+abbrev pub ValueGives : Tree → Tree → Verdict → Type 0
+ValueGives s t Valid = Validates step_limit s t (Ok None)
+ValueGives s t (Invalid v) = Validates step_limit s t (Ok (Some v))
+ValueGives s t (Refused cause.TooDeep) = Validates step_limit s t (Err check.TooDeep)
+ValueGives s t (Refused _) = ⊥
+
+-- the characters are no text, and this is what the parser says of them
+abbrev pub IsNoText : List ℕ → JsonParseError → Type 0
+IsNoText xs e = ParsesText depth_limit xs (Err e) × ¬ (error_kind e ≡ kind.OutOfMemory) × ¬ IsAccepted depth_limit xs
+
+-- the characters are the text of a value, of which the check says this; or they are no text
+abbrev pub TextGives : Tree → List ℕ → Verdict → Type 0
+TextGives s xs (Refused (cause.NotJson e)) = IsNoText xs e
+TextGives s xs v = (t : Tree) × IsText depth_limit xs t × ValueGives s t v
+
+-- the same of a line's, without its line feed; or they are not UTF-8
+abbrev pub LineGives : Tree → List ℕ → Verdict → Type 0
+LineGives s line (Refused cause.NotUtf8) = ¬ IsUtf8 (content line)
+LineGives s line v = IsUtf8 (content line) × TextGives s (chars (content line)) v

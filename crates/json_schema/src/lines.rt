@@ -1,0 +1,110 @@
+//! The check of each line of an input.
+ghost use Rattle.std.specs.Prelude.{◌≡◌};
+ghost use Rattle.json_schema.specs.Reading.{tree_of};
+ghost use Rattle.json_schema.specs.Run.{Runs, Handles, both, status};
+
+use crate::refusal::{Refusal, tell};
+use crate::report::write_report;
+use crate::schema::Schema;
+use crate::verdict::{Verdict, check_line};
+use json_line::read_line;
+use std::alloc::Global;
+use std::io::{self, BufRead, ErrorKind, Write};
+
+/// What became of the texts that were checked.
+#[derive(Clone, Copy, Debug, PartialEq, Eq)]
+pub enum Outcome {
+    /// Each is valid.
+    AllValid,
+    /// Each has a value, and some are not valid.
+    SomeInvalid,
+    /// Some have no value, or it is not known whether they are valid.
+    SomeRefused,
+}
+
+impl Outcome {
+    /// The status with which the program ends.
+    pub fn status(self) -> u8
+        ensures { result ≡ status self }
+    {
+        match self {
+            Outcome::AllValid => 0,
+            Outcome::SomeInvalid => 1,
+            Outcome::SomeRefused => 3,
+        }
+    }
+
+    /// What became of these texts and of others.
+    fn and(self, other: Outcome) -> Outcome
+        ensures { result ≡ both self other }
+    {
+        match (self, other) {
+            (Outcome::AllValid, outcome) => outcome,
+            (Outcome::SomeInvalid, Outcome::SomeRefused) => Outcome::SomeRefused,
+            (Outcome::SomeInvalid, _) => Outcome::SomeInvalid,
+            (Outcome::SomeRefused, _) => Outcome::SomeRefused,
+        }
+    }
+}
+
+/// Checks the text on each line of the input. Of one that is not valid it writes a report with the line's number to
+/// `output`; of one that can't be checked it tells `errors` the number and why, and goes on.
+///
+/// A line ends after its line feed, and the last one where the input ends. Memory that runs out, a read or a
+/// write that fails is an error. Then of what was to be written of the lines so far, and of what was to be told, a
+/// prefix was.
+///
+/// ```
+/// let mut input = b"1\n\"a\"\n{".as_slice();
+/// check_lines(alloc, schema, &mut input, &mut output, &mut errors)?; // of {"type":"integer"}: writes of line 2, tells of line 3
+/// ```
+pub fn check_lines<R: BufRead, W: Write, E: Write>(
+    alloc: Global,
+    schema: Schema<'_>,
+    input: &mut R,
+    output: &mut W,
+    errors: &mut E,
+) -> io::Result<Outcome>
+    ensures { Runs (tree_of schema.entry) (R.remaining input.old) (R.remaining input.new)
+        (W.contents output.old) (W.contents output.new)
+        (E.contents errors.old) (E.contents errors.new) result }
+{
+    let mut line = Vec::new(alloc);
+    let mut outcome = Outcome::AllValid;
+    for number in 1..u64::MAX {
+        if !read_line(input, &mut line)? {
+            output.flush()?;
+            return Ok(outcome);
+        }
+        let of_line = handle(alloc, schema, number, line.as_slice(), output, errors)?;
+        outcome = outcome.and(of_line);
+    }
+    Err(io::Error::new(ErrorKind::InvalidData, "too many lines"))
+}
+
+/// Checks one line, and writes or tells of it, after what was written before it.
+fn handle<W: Write, E: Write>(
+    alloc: Global,
+    schema: Schema<'_>,
+    number: u64,
+    line: &[u8],
+    output: &mut W,
+    errors: &mut E,
+) -> io::Result<Outcome>
+    ensures { Handles (tree_of schema.entry) number line.now
+        (W.contents output.old) (W.contents output.new)
+        (E.contents errors.old) (E.contents errors.new) result }
+{
+    match check_line(alloc, schema, line)? {
+        Verdict::Valid => Ok(Outcome::AllValid),
+        Verdict::Invalid(violation) => {
+            write_report(alloc, Some(number), &violation, output)?;
+            Ok(Outcome::SomeInvalid)
+        }
+        Verdict::Refused(cause) => {
+            output.flush()?;
+            tell(alloc, errors, Refusal { number, cause })?;
+            Ok(Outcome::SomeRefused)
+        }
+    }
+}

@@ -1,0 +1,82 @@
+//! What a check says of a text.
+ghost use Rattle.std.specs.Prelude.{IfOk};
+ghost use Rattle.std.specs.Str.{chars};
+ghost use Rattle.tinyjson.specs.View.{view};
+ghost use Rattle.json_schema.specs.Reading.{tree_of};
+ghost use Rattle.json_schema.specs.Verdicts.{ValueGives, TextGives, LineGives};
+
+use crate::schema::Schema;
+use crate::violation::Violation;
+use crate::walk::CheckError;
+use json_line::content;
+use std::alloc::{AllocError, Global};
+use std::str;
+use tinyjson::{JsonParseError, JsonValue};
+
+/// How many containers of a schema or a value may be open at once: the check takes stack as they are deep.
+pub const DEPTH_LIMIT: usize = 100;
+
+/// How many schemas may be applied in one another: so many take less than 256 KB of stack.
+const STEP_LIMIT: usize = 250;
+
+/// What a check says of a text.
+#[derive(Debug, Drop)]
+pub enum Verdict {
+    /// The text has a value, which is valid.
+    Valid,
+    /// The text has a value, which does not meet the schema there.
+    Invalid(Violation),
+    /// The text has no value, or it is not known whether that is valid.
+    Refused(Cause),
+}
+
+/// Why a text is not checked.
+#[derive(Clone, Copy, Debug, PartialEq, Eq)]
+pub enum Cause {
+    /// It is not UTF-8.
+    NotUtf8,
+    /// It is no JSON text, or more than 100 containers are open in it at once.
+    NotJson(JsonParseError),
+    /// Its value goes through more than 250 schemas in one another.
+    TooDeep,
+}
+
+/// What the check of a text's value says. The only error is out of memory.
+pub fn check_text(alloc: Global, schema: Schema<'_>, text: &str) -> Result<Verdict, AllocError>
+    ensures { IfOk result (TextGives (tree_of schema.entry) (chars text.now)) }
+{
+    match JsonValue::from_str_with_depth_limit(alloc, text, DEPTH_LIMIT) {
+        Ok(value) => {
+            let verdict = check_value(alloc, schema, &value);
+            value.dismantle();
+            verdict
+        }
+        Err(error) => {
+            if error.is_out_of_memory() {
+                return Err(AllocError);
+            }
+            Ok(Verdict::Refused(Cause::NotJson(error)))
+        }
+    }
+}
+
+fn check_value(alloc: Global, schema: Schema<'_>, value: &JsonValue) -> Result<Verdict, AllocError>
+    ensures { IfOk result (ValueGives (tree_of schema.entry) (view value.now)) }
+{
+    match schema.invalid_place(value, STEP_LIMIT, alloc) {
+        Ok(None) => Ok(Verdict::Valid),
+        Ok(Some(violation)) => Ok(Verdict::Invalid(violation)),
+        Err(CheckError::TooDeep) => Ok(Verdict::Refused(Cause::TooDeep)),
+        Err(CheckError::OutOfMemory) => Err(AllocError),
+    }
+}
+
+/// The same of the text on a line, without its line feed.
+pub fn check_line(alloc: Global, schema: Schema<'_>, line: &[u8]) -> Result<Verdict, AllocError>
+    ensures { IfOk result (LineGives (tree_of schema.entry) line.now) }
+{
+    match str::from_utf8(content(line)) {
+        Ok(text) => check_text(alloc, schema, text),
+        Err(_) => Ok(Verdict::Refused(Cause::NotUtf8)),
+    }
+}
