@@ -1,6 +1,7 @@
 -- The container of a place that tokens name, and the items of an array apart from its value.
 use Rattle.std.proofs.Common.{◌≡◌, ◌<◌, ◌≤◌, ◌&&◌, ℕ, zero, suc, Bool, List, [], ◌∷◌, ◌++◌, length, map, Option, Some, None}
-use Rattle.std.proofs.Common.{IsSome, IfSome, IfNone, OnSome, Bor, String, Vec, Global, option_map, get_or, refl, sym, ap, ◌∙◌, subst, arith}
+use Rattle.std.proofs.Common.{IsSome, IfSome, IfNone, OnSome, Bor, String, Vec, Global, option_map, get_or, refl, sym, ap, ◌∙◌, subst}
+use Rattle.std.proofs.Common.{arith}
 use Rattle.std.proofs.lemmas.List.{map-append, length-map}
 use Rattle.std.specs.Box.{box_value}
 use Rattle.std.specs.List.{insert, remove, starts_with}

@@ -31,8 +31,8 @@ returns c =
     let some : 0 < length (n.integer ++ n.fraction) = omega (arith, b.some, length-append n.integer n.fraction) in
     let power = power_few 0 (length n.fraction) (omega arith) few in
     record {
-      decimal = (rw (b.digits, power) at c.of_inline.ensures) ∙ value_exact n (n.integer ++ n.fraction) 0 (bare_significant _ b.lead b.trail) some
-          (bare_zeros _ b.trail) _ refl;
+      decimal = (rw (b.digits, power) at c.of_inline.ensures) ∙ value_exact n (n.integer ++ n.fraction) 0
+          (bare_significant _ b.lead b.trail) some (bare_zeros _ b.trail) _ refl;
       fits = value_fits n (n.integer ++ n.fraction) 0 (bare_significant _ b.lead b.trail) some (bare_zeros _ b.trail) _ refl
           (power_few_fits 0 (length n.fraction) (omega arith) few);
     }
