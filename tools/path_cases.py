@@ -1,4 +1,5 @@
 """Queries and values for `json_path`: what RFC 9535 selects, with normalized paths, and the texts that are no query."""
+import json
 
 # The document of RFC 9535, 1.5.
 BOOKS = """
@@ -14,6 +15,19 @@ BOOKS = """
 }
 """
 LETTERS = '["a","b","c","d","e","f","g"]'
+
+# Texts, each beside a regular expression, and what is none.
+PATTERNS = """[
+    {"a":"ab","p":"a.*"}, {"a":"xab","p":"b"}, {"a":"a\\nb","p":"a.b"}, {"a":"a\\rb","p":"a.b"}, {"a":"a\\u2028b","p":"a.b"}, {"a":1,"p":"1"},
+    {"a":"","p":""}, {"a":"x","p":"("}, {"a":"x"}, {"p":"x"}, {"a":"x","p":1}, null
+]"""
+
+
+def of_items(document, queries):
+    """The document, with queries that each select items of it, by their indices."""
+    items = json.loads(document)
+    yield document, [(query, [(json.dumps(items[i]), f"$[{i}]") for i in places]) for query, places in queries]
+
 
 # 2.3.5.3: which comparisons hold of its document, whose two members a filter then selects.
 COMPARED = '{"obj": {"x": "y"}, "arr": [2, 3]}'
@@ -210,6 +224,8 @@ SELECTED = [
         ("$.o[?@.u || $.x && $.y]", [('{"u": 6}', "$['o']['t']")]),
         ("$.o[?(@.u || $.x) && $.y]", []),
         *((query, [('{"b": "kilo"}', "$['a'][9]")]) for query in ("$.a[?@.b == 'kilo']", "$.a[?(@.b == 'kilo')]")),
+        ('$.a[?match(@.b, "[jk]")]', [('{"b": "j"}', "$['a'][6]"), ('{"b": "k"}', "$['a'][7]")]),
+        ('$.a[?search(@.b, "[jk]")]', [('{"b": "j"}', "$['a'][6]"), ('{"b": "k"}', "$['a'][7]"), ('{"b": "kilo"}', "$['a'][9]")]),
         ("$.a[?@>3.5]", [("5", "$['a'][1]"), ("4", "$['a'][4]"), ("6", "$['a'][5]")]),
         ("$.o[?@<3, ?@<3]", [("1", "$['o']['p']"), ("2", "$['o']['q']"), ("1", "$['o']['p']"), ("2", "$['o']['q']")]),
         ('$.a[?@<2 || @.b == "k"]', [("1", "$['a'][2]"), ('{"b": "k"}', "$['a'][7]")]),
@@ -237,6 +253,29 @@ SELECTED = [
         ("$[?count( @..* )==2]", [('{"x":[1]}', "$['b']")]), ("$[?count(@.x) < 1]", [("[1,2,2]", "$['a']"), ("3", "$['c']")]),
         ("$[?count($.a[?@ == 2]) == 2 && count(@.x) == 1]", [('{"x":[1]}', "$['b']")]), ("$[?count($) == count(@) && @ == 3]", [("3", "$['c']")]),
         ("$[?length(count(@)) == $.y && @ == 3]", [("3", "$['c']")]),
+    ]),
+    # 2.4.6, 2.4.7: `match` asks of the whole string, `search` of a part; `.` is no line feed and no carriage return, `^` and `$` stand for
+    # themselves. What is no string, or no regular expression of RFC 9485, makes both false.
+    *of_items(PATTERNS, [
+        ("$[?match(@.a, @.p)]", [0, 4, 6]), ("$[?search(@.a, @.p)]", [0, 1, 4, 6]), ("$[?!match(@.a, @.p)]", [1, 2, 3, 5, 7, 8, 9, 10, 11]), ("$[?match(@.a, 'a.*')]", [0, 4]),
+        ("$[?search(@.a, 'b')]", [0, 1, 2, 3, 4]), ("$[?match(@.a, '(')]", []), ("$[?search(@.a, '[b-a]')]", []), ("$[?!search(@.a, '(')]", list(range(12))), ("$[?match(@.a, 1)]", []),
+        ("$[?match(1, '1')]", []), ("$[?match(null, '')]", []), ("$[?search(@, '')]", []), ("$[?match('ab', @.p)]", [0]), ("$[?search('xab', @.p)]", [0, 1, 6, 9]),
+        ("$[?match(@.a, $[0].p)]", [0, 4]), ("$[?match(value(@.a), value(@..p))]", [0, 4, 6]), ("$[?match( length(@) , value(@..a) ) || @.a]", [0, 1, 2, 3, 4, 5, 6, 7, 8, 10]),
+        ("$[?match(@.a, 'x') || search(@.a, 'ab')]", [0, 1, 7, 8, 10]), ("$[?(match(@.a, 'x')) && @.p]", [7, 10]), ("$[?match(@.a,\t''\n)]", [6]),
+        ("$[?match(@.a,'x'),?search(@.a,'ab')]", [7, 8, 10, 0, 1]), ("$[?match(@.a, 'ab') || search(@.a, 'ab') && !match(@.a, 'ab')]", [0, 1]), ("$[?search(@.p, @.a)]", [6]),
+        ("$[?match(@.a, 'ab') || match(@.a, 'x') || match(@.a, 'ab.*|1')]", [0, 7, 8, 10]), ("$[?search(@.absent, '')]", []), ("$[?match(@.a, @.absent)]", []),
+    ]),
+    *of_items('["ab","^ab$","xaby","\\u00e9","A","7","\\ud83d\\ude00","a-b"]', [
+        ("$[?match(@, '^ab$')]", [1]), ("$[?search(@, '^ab$')]", [1]), ("$[?search(@, 'ab')]", [0, 1, 2]), ("$[?match(@, 'ab|A|7')]", [0, 4, 5]), ("$[?match(@, '\\\\p{L}')]", [3, 4]),
+        ("$[?match(@, '.')]", [3, 4, 5, 6]), ("$[?match(@, '[^A-Z]{1}')]", [3, 5, 6]), ("$[?match(@, \"[a\\\\-b]+\")]", [0, 7]), ("$[?match(@, '\\ud83d\\ude00')]", [6]), ("$[?match(@, '\\\\d')]", []),
+        ("$[?match(@, '(a|b|-){2,3}')]", [0, 7]),
+    ]),
+    # RFC 9535, 2.4.6 and 2.4.7, and 2.4.9.
+    ('[{"date":"1974-05-11","author":"Bob"},{"date":"1974-05-1","author":"Rob B."},{"date":"x1974-05-11","author":"bob"},{"timezone":"Europe/Paris"}]', [
+        ('$[?match(@.date, "1974-05-..")]', [('{"date":"1974-05-11","author":"Bob"}', "$[0]")]),
+        ('$[?search(@.author, "[BR]ob")]', [('{"date":"1974-05-11","author":"Bob"}', "$[0]"), ('{"date":"1974-05-1","author":"Rob B."}', "$[1]")]),
+        ("$[?match(@.timezone, 'Europe/.*')]", [('{"timezone":"Europe/Paris"}', "$[3]")]),
+        ("$[?@[?match(@, 'bob')]]", [('{"date":"x1974-05-11","author":"bob"}', "$[2]")]), ("$..[?match(@, '.ob')]", [('"Bob"', "$[0]['author']"), ('"bob"', "$[2]['author']")]),
     ]),
     # 2.4.8: the value of the only node.
     ('[{"color":"red"},{"a":{"color":"red"}},{"color":"red","b":{"color":"red"}},{"color":"blue"},{}]', [
@@ -299,14 +338,11 @@ REFUSED = [
     # The same of `match` and `search`, which take two values, and are tests.
     ("$[?match(@.timezone, 'Europe/.*') == true]", 34), ("$[?true == match(@.timezone, 'Europe/.*')]", 11), ("$[?length(match(@.a, 'x')) == 1]", 10), ("$[?count(search(@.a, 'x')) == 1]", 9),
     ("$[?match(@.a)]", 12), ("$[?match(@.a, 'x', 'y')]", 17), ("$[?match(@.*, 'x')]", 10), ("$[?search(@.a, @..b)]", 16), ("$[?match(1, )]", 12), ("$[?search()]", 10), ("$[?match (@, 'x')]", 3),
+    ("$[?!match(@.a, 'x') == true]", 20), ("$[?match(@.a, 'x' == 'x')]", 18), ("$[?match((@), 'x')]", 9), ("$[?match(!@, 'x')]", 9), ("$[?match(@ 'x')]", 11), ("$[?match(@[0:1], 'x')]", 10),
+    ("$[?search(@.a, search(@.b, 'x'))]", 15), ("$[?match(true == true, 'x')]", 14), ("$[?matches(@, 'x')]", 3), ("$[?Search(@, 'x')]", 3), ("$[?search(@, 'x']", 16), ("$[?match]", 3),
+    ("$[?match(@.a, @.*)]", 17), ("$[?match('(', ')]", 17), ("$[?search(@, 'x') < 1]", 18), ("$[match(@, 'x')]", 2), ("$[?(match(@, 'x') == true)]", 18), ("$[?count(match(@, 'x')) == 1]", 9),
     # 2.3.4.1
     ("$[:::]", 4), ("$[1:2:3:4]", 7), ("$[1:a]", 4), ("$[1:'a']", 4), ("$[1:*]", 4), ("$['a':1]", 5), ("$[1::", 5), ("$[1:", 4), ("$[1:2:+1]", 6),
-]
-
-# Queries that ask by `match` or `search` where they may (2.4.6, 2.4.7), and how many characters stand before the name.
-UNSUPPORTED = [
-    ("$.a[?match(@.b, \"[jk]\")]", 5), ("$.a[?search(@.b, \"[jk]\")]", 5), ("$[?match(@.timezone, 'Europe/.*')]", 3), ("$[?!search(@.a, @.b)]", 4), ("$[?@.a && match(@.b, 'x')]", 10),
-    ("$[?match( length(@) , value(@..a) ) || @.a]", 3), ("$[?(search(@, 'x'))]", 4), ("$[?@[?match(@, 'x')]]", 6),
 ]
 
 # 2.3.5.1: a number in a comparison whose power of ten is out of `i64`, and how many characters stand before it.
@@ -317,5 +353,4 @@ OUT_OF_RANGE = [
 
 # The messages of such texts and queries.
 NO_QUERY = "the query: no query of RFC 9535 at character %d"
-NO_PATTERNS = "the query: match and search are not supported at character %d"
 NO_POWER = "the query: a number whose power of ten is out of range at character %d"

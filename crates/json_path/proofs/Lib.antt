@@ -3,3 +3,4 @@ pub mod Items
 pub mod Values
 pub mod Writing
 pub mod Comparisons
+pub mod Judging

@@ -2,6 +2,7 @@ pub mod Nodes
 pub mod Slices
 pub mod Selecting
 pub mod Comparing
+pub mod Patterns
 pub mod Queries
 pub mod Paths
 pub mod Seen

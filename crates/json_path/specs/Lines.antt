@@ -16,24 +16,33 @@ use Rattle.json_path_query.specs.declared.error.ParseErrorKind.TheVariants as re
 use Rattle.json_path_query.specs.declared.query.Query.{Query}
 use Rattle.json_path.specs.Nodes.{Part}
 use Rattle.json_path.specs.Paths.{path_text}
+use Rattle.json_path.specs.Patterns.{Judge, IsRight}
 use Rattle.json_path.specs.Queries.{query_parts}
 use Rattle.json_path.specs.declared.lines.Form.{Form}
 use Rattle.json_path.specs.declared.lines.Form.TheVariants.{Value, Path}
 use Rattle.json_path.specs.declared.lines.PathError.{PathError}
-use Rattle.json_path.specs.declared.lines.PathError.TheVariants.{BadQuery, Refused, NoNode, OutOfMemory, Writing}
+use Rattle.json_path.specs.declared.lines.PathError.TheVariants.{BadQuery, Refused, NoNode, Pattern, OutOfMemory, Writing}
+use Rattle.json_path.specs.declared.patterns.PatternLimit.{PatternLimit}
+use Rattle.json_path.specs.declared.patterns.PatternLimit.TheVariants.{TooDeep, TooLarge}
 
 abbrev pub status_of : PathError → ℕ
 status_of NoNode = 1
 status_of (BadQuery e) = 2
 status_of (Refused e) = 3
+status_of (Pattern l) = 4
 status_of OutOfMemory = 4
 status_of Writing = 4
+
+abbrev pub limit_message : PatternLimit → List ℕ
+limit_message TooDeep = codes "the groups of a regular expression are too deep"
+limit_message TooLarge = codes "a regular expression is too large"
 
 -- the message of an error; of a text that is no query and of a refused one its reader's
 abbrev pub path_error_message : PathError → List ℕ
 path_error_message (BadQuery e) = codes "the query: " ++ query.error_message e
 path_error_message (Refused e) = error_message e
 path_error_message NoNode = codes "the query selects no node"
+path_error_message (Pattern l) = limit_message l
 path_error_message OutOfMemory = codes "out of memory"
 path_error_message Writing = codes "writing failed"
 
@@ -54,25 +63,32 @@ lines_of form (p ∷ ps) = line_of form p ++ lines_of form ps
 abbrev pub IsFailedWrite : Type 0 → PathError → Type 0
 IsFailedWrite wanted error = (wanted × (error ≡ OutOfMemory)) ⊎ (¬ wanted × (error ≡ Writing))
 
--- Of a tree the lines of the parts that the query selects are written, or a prefix of them where that failed; or it selects none.
-abbrev pub WritesNodes : Form → Query → Tree → Option (List ℕ) → Option (List ℕ) → Result (Unit {0}) PathError → Type 0
-WritesNodes form q t old new (Ok _) = (query_parts q t ≢ []) × Appends old new (lines_of form (query_parts q t))
-WritesNodes form q t old new (Err NoNode) = (query_parts q t ≡ []) × (new ≡ old)
-WritesNodes form q t old new (Err Writing) = WrittenPart old new (lines_of form (query_parts q t))
-WritesNodes form q t old new (Err OutOfMemory) = WrittenPart old new (lines_of form (query_parts q t))
-WritesNodes form q t old new (Err _) = ⊥
+-- Of a tree the lines of the parts that the query selects are written, or a prefix of them where that failed; or it selects none, or a
+-- regular expression is too deep or too large, and nothing is written.
+abbrev pub WritesNodes : Judge → Form → Query → Tree → Option (List ℕ) → Option (List ℕ) → Result (Unit {0}) PathError → Type 0
+WritesNodes judge form q t old new (Ok _) = (query_parts judge q t ≢ []) × Appends old new (lines_of form (query_parts judge q t))
+WritesNodes judge form q t old new (Err NoNode) = (query_parts judge q t ≡ []) × (new ≡ old)
+WritesNodes judge form q t old new (Err (Pattern l)) = new ≡ old
+WritesNodes judge form q t old new (Err Writing) = WrittenPart old new (lines_of form (query_parts judge q t))
+WritesNodes judge form q t old new (Err OutOfMemory) = WrittenPart old new (lines_of form (query_parts judge q t))
+WritesNodes judge form q t old new (Err _) = ⊥
 
 -- So it is of the tree of a text; or the text is none, as its reader says, or memory ran out, and nothing is written.
-abbrev pub WritesOfText : Form → Query → List ℕ → Option (List ℕ) → Option (List ℕ) → Result (Unit {0}) PathError → Type 0
-WritesOfText form q text old new (Err (Refused e)) =
+abbrev pub WritesOfText : Judge → Form → Query → List ℕ → Option (List ℕ) → Option (List ℕ) → Result (Unit {0}) PathError → Type 0
+WritesOfText judge form q text old new (Err (Refused e)) =
     ParsesText None text (Err e) × ¬ (error_kind e ≡ kind.OutOfMemory) × ¬ IsAccepted None text × (new ≡ old)
-WritesOfText form q text old new (Err OutOfMemory) =
-    (new ≡ old) ⊎ ((t : Tree) × IsText None text t × WritesNodes form q t old new (Err OutOfMemory))
-WritesOfText form q text old new result = (t : Tree) × IsText None text t × WritesNodes form q t old new result
+WritesOfText judge form q text old new (Err OutOfMemory) =
+    (new ≡ old) ⊎ ((t : Tree) × IsText None text t × WritesNodes judge form q t old new (Err OutOfMemory))
+WritesOfText judge form q text old new result = (t : Tree) × IsText None text t × WritesNodes judge form q t old new result
 
 -- So it is of the query of a text; or that is none, as its reader says, and nothing is written.
+abbrev pub WritesOfQuery : Judge → Form → List ℕ → List ℕ → Option (List ℕ) → Option (List ℕ) → Result (Unit {0}) PathError → Type 0
+WritesOfQuery judge form query text old new (Err (BadQuery e)) = Reads query (Err e) × (e.kind ≢ refusal.OutOfMemory) × (new ≡ old)
+WritesOfQuery judge form query text old new (Err OutOfMemory) =
+    (new ≡ old) ⊎ ((q : Query) × Reads query (Ok q) × WritesOfText judge form q text old new (Err OutOfMemory))
+WritesOfQuery judge form query text old new result = (q : Query) × Reads query (Ok q) × WritesOfText judge form q text old new result
+
+-- So it is with right answers for patterns.
 abbrev pub WritesSelected : Form → List ℕ → List ℕ → Option (List ℕ) → Option (List ℕ) → Result (Unit {0}) PathError → Type 0
-WritesSelected form query text old new (Err (BadQuery e)) = Reads query (Err e) × (e.kind ≢ refusal.OutOfMemory) × (new ≡ old)
-WritesSelected form query text old new (Err OutOfMemory) =
-    (new ≡ old) ⊎ ((q : Query) × Reads query (Ok q) × WritesOfText form q text old new (Err OutOfMemory))
-WritesSelected form query text old new result = (q : Query) × Reads query (Ok q) × WritesOfText form q text old new result
+WritesSelected form query text old new result =
+    (judge : Judge) × IsRight judge × WritesOfQuery judge form query text old new result

@@ -4,6 +4,7 @@ use Rattle.tinyjson.specs.Tree.{Tree}
 use Rattle.tinyjson.specs.View.{text}
 use Rattle.json_path.specs.Comparing.{compares, literal_tree, origin_tree, one_tree, length_of, count_of, value_of}
 use Rattle.json_path.specs.Nodes.{Part, root_part, children, visited}
+use Rattle.json_path.specs.Patterns.{Judge, pattern_holds, judged}
 use Rattle.json_path.specs.Selecting.{from_each, by_name, by_index, by_slice}
 use Rattle.json_path_query.specs.declared.query.Query.{Query}
 use Rattle.json_path_query.specs.declared.query.Comparable.{Comparable, fold-Comparable, Comparable-F}
@@ -66,12 +67,13 @@ selector_step (Selector-F.Index z) root p = by_index p.path z p.tree
 selector_step (Selector-F.Slice start end step) root p = by_slice p.path start end step p.tree
 selector_step (Selector-F.Filter holds) root p = kept (holds root) (children p.path p.tree)
 
-abbrev pub expression_step : Expression-F Yields Holds Yields Selects Selects Finds → Holds
-expression_step (Expression-F.Or hs) root here = some_hold hs.items root here
-expression_step (Expression-F.And hs) root here = all_hold hs.items root here
-expression_step (Expression-F.Not h) root here = not (h.value root here)
-expression_step (Expression-F.Comparison operator l r) root here = compares operator (l root here) (r root here)
-expression_step (Expression-F.Test q) root here = is_some_part (q root here)
+abbrev pub expression_step : Judge → Expression-F Yields Holds Yields Selects Selects Finds → Holds
+expression_step judge (Expression-F.Or hs) root here = some_hold hs.items root here
+expression_step judge (Expression-F.And hs) root here = all_hold hs.items root here
+expression_step judge (Expression-F.Not h) root here = not (h.value root here)
+expression_step judge (Expression-F.Comparison operator l r) root here = compares operator (l root here) (r root here)
+expression_step judge (Expression-F.Test q) root here = is_some_part (q root here)
+expression_step judge (Expression-F.Pattern f v p) root here = pattern_holds judge f (v root here) (p root here)
 
 abbrev pub comparable_step : Comparable-F Yields Holds Yields Selects Selects Finds → Yields
 comparable_step (Comparable-F.Literal l) root here = Some (literal_tree l)
@@ -86,30 +88,39 @@ function_step (FunctionExpression-F.Value q) root here = value_of (q root here)
 abbrev pub filter_query_step : FilterQuery-F Yields Holds Yields Selects Selects Finds → Finds
 filter_query_step q root here = one_by_one root q.segments.items (root_part (origin_tree q.origin root here) ∷ [])
 
-abbrev pub segment_parts : Segment → Selects
-segment_parts =
-    fold-Segment Yields Holds Yields Selects Selects Finds comparable_step expression_step function_step segment_step selector_step
+abbrev pub segment_parts_by : Judge → Segment → Selects
+segment_parts_by judge =
+    fold-Segment Yields Holds Yields Selects Selects Finds comparable_step (expression_step judge) function_step segment_step selector_step
     filter_query_step
+
+-- the parts that a query selects in a tree, in order, where this answers for patterns
+abbrev pub query_parts : Judge → Query → Tree → List Part
+query_parts judge q t = one_by_one t (map (segment_parts_by judge) q.segments.items) (root_part t ∷ [])
+
+-- ---- the same with the answer of the code, and what each part of a query says; only private contracts use these words
+
+abbrev pub segment_parts : Segment → Selects
+segment_parts = segment_parts_by judged
 
 abbrev pub selector_parts : Selector → Selects
 selector_parts =
-    fold-Selector Yields Holds Yields Selects Selects Finds comparable_step expression_step function_step segment_step selector_step
-    filter_query_step
+    fold-Selector Yields Holds Yields Selects Selects Finds comparable_step (expression_step judged) function_step segment_step
+    selector_step filter_query_step
 
 abbrev pub holds_of : Expression → Holds
 holds_of =
-    fold-Expression Yields Holds Yields Selects Selects Finds comparable_step expression_step function_step segment_step selector_step
-    filter_query_step
+    fold-Expression Yields Holds Yields Selects Selects Finds comparable_step (expression_step judged) function_step segment_step
+    selector_step filter_query_step
 
 abbrev pub comparable_value : Comparable → Yields
 comparable_value =
-    fold-Comparable Yields Holds Yields Selects Selects Finds comparable_step expression_step function_step segment_step selector_step
-    filter_query_step
+    fold-Comparable Yields Holds Yields Selects Selects Finds comparable_step (expression_step judged) function_step segment_step
+    selector_step filter_query_step
 
 abbrev pub filter_parts : FilterQuery → Finds
 filter_parts =
-    fold-FilterQuery Yields Holds Yields Selects Selects Finds comparable_step expression_step function_step segment_step selector_step
-    filter_query_step
+    fold-FilterQuery Yields Holds Yields Selects Selects Finds comparable_step (expression_step judged) function_step segment_step
+    selector_step filter_query_step
 
 abbrev pub selected_by : List Selector → Selects
 selected_by ss = union (map selector_parts ss)
@@ -117,7 +128,3 @@ selected_by ss = union (map selector_parts ss)
 -- what segments select, one after the other, from a tree in a value with this root
 abbrev pub found_by : List Segment → Tree → Tree → List Part
 found_by ss root t = one_by_one root (map segment_parts ss) (root_part t ∷ [])
-
--- the parts that a query selects in a tree, in order
-abbrev pub query_parts : Query → Tree → List Part
-query_parts q t = found_by q.segments.items t t

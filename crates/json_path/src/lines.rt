@@ -6,16 +6,18 @@ ghost use Rattle.tinyjson.specs.Characters.{line_feed};
 ghost use Rattle.tinyjson.specs.View.{view};
 ghost use Rattle.tinyjson.specs.Written.{WritesPrefix};
 ghost use Rattle.json_path.specs.Lines.{status_of, path_error_message, form_text, line_of, lines_of};
-ghost use Rattle.json_path.specs.Lines.{IsFailedWrite, WritesNodes, WritesOfText, WritesSelected};
+ghost use Rattle.json_path.specs.Lines.{IsFailedWrite, WritesNodes, WritesOfText, WritesOfQuery, WritesSelected};
 ghost use Rattle.json_path.specs.Nodes.{path_view, part_view, parts_view};
 ghost use Rattle.json_path.specs.Paths.{path_text};
+ghost use Rattle.json_path.specs.Patterns.{judged};
 
 use crate::node::{Location, Node};
 use crate::path::path_text;
+use crate::patterns::{FindError, PatternLimit};
 use crate::select::find;
 use json_line::write_all;
 use json_path_query::{ParseError, ParseErrorKind, Query};
-use std::alloc::{AllocError, Global};
+use std::alloc::Global;
 use std::fmt;
 use std::io::{self, ErrorKind, Write};
 use tinyjson::{JsonParseError, JsonValue};
@@ -38,6 +40,8 @@ pub enum PathError {
     Refused(JsonParseError),
     /// The query selects no node.
     NoNode,
+    /// A regular expression that `match` or `search` asks for is too deep or too large.
+    Pattern(PatternLimit),
     /// An allocation failed.
     OutOfMemory,
     /// A write failed.
@@ -53,7 +57,7 @@ impl PathError {
             PathError::NoNode => 1,
             PathError::BadQuery(_) => 2,
             PathError::Refused(_) => 3,
-            PathError::OutOfMemory | PathError::Writing => 4,
+            PathError::Pattern(_) | PathError::OutOfMemory | PathError::Writing => 4,
         }
     }
 }
@@ -67,6 +71,7 @@ impl fmt::Display for PathError {
             PathError::BadQuery(error) => write!(f, "the query: {error}"),
             PathError::Refused(error) => write!(f, "{error}"),
             PathError::NoNode => f.write_str("the query selects no node"),
+            PathError::Pattern(limit) => write!(f, "{limit}"),
             PathError::OutOfMemory => f.write_str("out of memory"),
             PathError::Writing => f.write_str("writing failed"),
         }
@@ -92,6 +97,19 @@ pub fn write_selected<W: Write>(
     ensures { WritesSelected form (chars query.now) (chars text.now)
         (W.contents output.old) (W.contents output.new) result }
 {
+    write_of_query(alloc, query, text, form, output)
+}
+
+fn write_of_query<W: Write>(
+    alloc: Global,
+    query: &str,
+    text: &str,
+    form: Form,
+    output: &mut W,
+) -> Result<(), PathError>
+    ensures { WritesOfQuery judged form (chars query.now) (chars text.now)
+        (W.contents output.old) (W.contents output.new) result }
+{
     match Query::parse(alloc, query) {
         Ok(query) => write_of_text(alloc, &query, text, form, output),
         Err(error) => match error.kind {
@@ -108,7 +126,7 @@ fn write_of_text<W: Write>(
     form: Form,
     output: &mut W,
 ) -> Result<(), PathError>
-    ensures { WritesOfText form query.now (chars text.now)
+    ensures { WritesOfText judged form query.now (chars text.now)
         (W.contents output.old) (W.contents output.new) result }
 {
     match JsonValue::from_str(alloc, text) {
@@ -133,7 +151,7 @@ fn write_found<W: Write>(
     form: Form,
     output: &mut W,
 ) -> Result<(), PathError>
-    ensures { WritesNodes form query.now (view value.now)
+    ensures { WritesNodes judged form query.now (view value.now)
         (W.contents output.old) (W.contents output.new) result }
 {
     match find(query, alloc, value) {
@@ -146,7 +164,8 @@ fn write_found<W: Write>(
                 Err(error) => Err(writing_error(error)),
             }
         }
-        Err(AllocError) => Err(PathError::OutOfMemory),
+        Err(FindError::Pattern(limit)) => Err(PathError::Pattern(limit)),
+        Err(FindError::OutOfMemory) => Err(PathError::OutOfMemory),
     }
 }
 

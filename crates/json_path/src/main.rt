@@ -3,7 +3,7 @@
 //!
 //! The query is the last argument, and the text comes from standard input. The status is 0 where something
 //! is selected, 1 where nothing is, 2 for other arguments or no query, 3 for no JSON text, and 4 where
-//! memory, a read or a write failed.
+//! memory, a read or a write failed, or a regular expression is too deep or too large.
 #![tactic(auto)]
 
 ghost use Rattle.std.specs.Prelude.{None};
@@ -13,6 +13,7 @@ mod lines;
 mod node;
 mod operand;
 mod path;
+mod patterns;
 mod select;
 mod slice;
 

@@ -21,7 +21,7 @@ pub(crate) enum Operand<'v> {
 }
 
 /// The value, if there is one.
-fn value_of<'a>(operand: &'a Option<Operand>) -> Option<&'a JsonValue>
+pub(crate) fn value_of<'a>(operand: &'a Option<Operand>) -> Option<&'a JsonValue>
     ensures { value_tree result ≡ option_map operand_tree operand.now }
 {
     match operand {

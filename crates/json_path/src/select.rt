@@ -4,6 +4,7 @@ ghost use Rattle.tinyjson.specs.View.{view};
 ghost use Rattle.json_path.specs.Nodes.{path_of, part_view, parts_view, visited, children};
 ghost use Rattle.json_path.specs.Queries.{query_parts, segment_parts, selector_parts, selected_by};
 ghost use Rattle.json_path.specs.Queries.{found_by, holds_of, kept, comparable_value};
+ghost use Rattle.json_path.specs.Patterns.{judged};
 ghost use Rattle.json_path.specs.Seen.{operand_tree};
 ghost use Rattle.json_path.specs.Selecting.{from_each};
 
@@ -12,23 +13,34 @@ use crate::node::Node;
 use crate::operand::{
     self, Operand, compare, literal_value, only_value, release, singular_value, start,
 };
+use crate::patterns::{FindError, Patterns};
 use json_path_query::{Comparable, Expression, FunctionExpression, Query, Segment, Selector};
 use std::alloc::{AllocError, Global};
 use tinyjson::JsonValue;
 
 /// The nodes that the query selects in the value, in order (RFC 9535, 2.1.2); one that is selected twice
 /// is there twice. The members of an object come in the order of their keys' bytes, which the RFC leaves
-/// open. The only error is out of memory.
+/// open. The errors are out of memory, and a regular expression that is too deep or too large.
 ///
-/// It takes stack as expressions and queries stand in each other in the query, and none for the value's depth.
+/// A regular expression that stands in the query is read once, where it is first asked for, and one from the
+/// value each time. It takes stack as expressions and queries stand in each other in the query, and none for
+/// the value's depth.
 pub fn find<'v>(
     query: &Query,
     alloc: Global,
     value: &'v JsonValue,
-) -> Result<Vec<Node<'v>>, AllocError>
-    ensures { IfOk result (λ v. parts_view v.items ≡ query_parts query.now (view value.now)) }
+) -> Result<Vec<Node<'v>>, FindError>
+    ensures { IfOk result (λ v. parts_view v.items
+        ≡ query_parts judged query.now (view value.now)) }
 {
-    find_from(query.segments.as_slice(), alloc, value, value)
+    let mut patterns = Patterns::new(alloc);
+    find_from(
+        query.segments.as_slice(),
+        alloc,
+        value,
+        value,
+        &mut patterns,
+    )
 }
 
 /// What the segments select, one after the other, from a value on.
@@ -38,14 +50,15 @@ fn find_from<'v>(
     alloc: Global,
     root: &'v JsonValue,
     value: &'v JsonValue,
-) -> Result<Vec<Node<'v>>, AllocError>
+    patterns: &mut Patterns,
+) -> Result<Vec<Node<'v>>, FindError>
     ensures { IfOk result (λ v. parts_view v.items
         ≡ found_by segments.now (view root.now) (view value.now)) }
 {
     let mut nodes = Vec::new(alloc);
     nodes.push(Node::root(alloc, value)?)?;
     for segment in segments {
-        nodes = apply(segment, alloc, root, nodes.as_slice())?;
+        nodes = apply(segment, alloc, root, nodes.as_slice(), patterns)?;
     }
     Ok(nodes)
 }
@@ -57,13 +70,14 @@ fn apply<'v>(
     alloc: Global,
     root: &'v JsonValue,
     nodes: &[Node<'v>],
-) -> Result<Vec<Node<'v>>, AllocError>
+    patterns: &mut Patterns,
+) -> Result<Vec<Node<'v>>, FindError>
     ensures { IfOk result (λ v. parts_view v.items
         ≡ from_each (segment_parts segment.now (view root.now)) (parts_view nodes.now)) }
 {
     let mut selected = Vec::new(alloc);
     for node in nodes {
-        select_from(segment, alloc, root, node, &mut selected)?;
+        select_from(segment, alloc, root, node, &mut selected, patterns)?;
     }
     Ok(selected)
 }
@@ -75,16 +89,17 @@ fn select_from<'v>(
     root: &'v JsonValue,
     node: &Node<'v>,
     selected: &mut Vec<Node<'v>>,
-) -> Result<(), AllocError>
+    patterns: &mut Patterns,
+) -> Result<(), FindError>
     ensures { OnOk result (parts_view selected.new.items ≡ parts_view selected.old.items
         ++ segment_parts segment.now (view root.now) (part_view node.now)) }
 {
     match segment {
         Segment::Child(selectors) => {
-            select_each(selectors.as_slice(), alloc, root, node, selected)
+            select_each(selectors.as_slice(), alloc, root, node, selected, patterns)
         }
         Segment::Descendant(selectors) => {
-            descend(selectors.as_slice(), alloc, root, node, selected)
+            descend(selectors.as_slice(), alloc, root, node, selected, patterns)
         }
     }
 }
@@ -97,7 +112,8 @@ fn descend<'v>(
     root: &'v JsonValue,
     node: &Node<'v>,
     selected: &mut Vec<Node<'v>>,
-) -> Result<(), AllocError>
+    patterns: &mut Patterns,
+) -> Result<(), FindError>
     ensures { OnOk result (parts_view selected.new.items ≡ parts_view selected.old.items
         ++ from_each (selected_by selectors.now (view root.now))
         (visited (path_of node.now) (view node.now.value.now))) }
@@ -105,7 +121,7 @@ fn descend<'v>(
     let mut waiting = Vec::new(alloc);
     waiting.push(node.try_clone()?)?;
     while let Some(node) = waiting.pop() {
-        select_each(selectors, alloc, root, &node, selected)?;
+        select_each(selectors, alloc, root, &node, selected, patterns)?;
         push_reversed(children(alloc, &node)?, &mut waiting)?;
     }
     Ok(())
@@ -118,12 +134,13 @@ fn select_each<'v>(
     root: &'v JsonValue,
     node: &Node<'v>,
     selected: &mut Vec<Node<'v>>,
-) -> Result<(), AllocError>
+    patterns: &mut Patterns,
+) -> Result<(), FindError>
     ensures { OnOk result (parts_view selected.new.items ≡ parts_view selected.old.items
         ++ selected_by selectors.now (view root.now) (part_view node.now)) }
 {
     for selector in selectors {
-        select(selector, alloc, root, node, selected)?;
+        select(selector, alloc, root, node, selected, patterns)?;
     }
     Ok(())
 }
@@ -135,19 +152,23 @@ fn select<'v>(
     root: &'v JsonValue,
     node: &Node<'v>,
     selected: &mut Vec<Node<'v>>,
-) -> Result<(), AllocError>
+    patterns: &mut Patterns,
+) -> Result<(), FindError>
     ensures { OnOk result (parts_view selected.new.items ≡ parts_view selected.old.items
         ++ selector_parts selector.now (view root.now) (part_view node.now)) }
 {
     match selector {
-        Selector::Name(name) => push_named(alloc, node, name.as_str(), selected),
-        Selector::Wildcard => push_children(alloc, node, selected),
-        Selector::Index(index) => push_indexed(alloc, node, *index, selected),
+        Selector::Name(name) => push_named(alloc, node, name.as_str(), selected)?,
+        Selector::Wildcard => push_children(alloc, node, selected)?,
+        Selector::Index(index) => push_indexed(alloc, node, *index, selected)?,
         Selector::Slice { start, end, step } => {
-            push_slice(alloc, node, *start, *end, *step, selected)
+            push_slice(alloc, node, *start, *end, *step, selected)?
         }
-        Selector::Filter(expression) => push_kept(expression, alloc, root, node, selected),
+        Selector::Filter(expression) => {
+            push_kept(expression, alloc, root, node, selected, patterns)?
+        }
     }
+    Ok(())
 }
 
 /// The children of which the expression holds (RFC 9535, 2.3.5).
@@ -158,14 +179,15 @@ fn push_kept<'v>(
     root: &'v JsonValue,
     node: &Node<'v>,
     selected: &mut Vec<Node<'v>>,
-) -> Result<(), AllocError>
+    patterns: &mut Patterns,
+) -> Result<(), FindError>
     ensures { OnOk result (parts_view selected.new.items ≡ parts_view selected.old.items
         ++ kept (holds_of expression.now (view root.now))
         (children (path_of node.now) (view node.now.value.now))) }
 {
     let children = children(alloc, node)?;
     for child in children.as_slice() {
-        if holds(expression, alloc, root, child.value)? {
+        if holds(expression, alloc, root, child.value, patterns)? {
             selected.push(child.try_clone()?)?;
         }
     }
@@ -179,13 +201,14 @@ fn holds<'v>(
     alloc: Global,
     root: &'v JsonValue,
     here: &'v JsonValue,
-) -> Result<bool, AllocError>
+    patterns: &mut Patterns,
+) -> Result<bool, FindError>
     ensures { IfOk result (λ b. b ≡ holds_of expression.now (view root.now) (view here.now)) }
 {
     match expression {
         Expression::Or(expressions) => {
             for choice in expressions {
-                if holds(choice, alloc, root, here)? {
+                if holds(choice, alloc, root, here, patterns)? {
                     return Ok(true);
                 }
             }
@@ -193,26 +216,37 @@ fn holds<'v>(
         }
         Expression::And(expressions) => {
             for condition in expressions {
-                if !holds(condition, alloc, root, here)? {
+                if !holds(condition, alloc, root, here, patterns)? {
                     return Ok(false);
                 }
             }
             Ok(true)
         }
-        Expression::Not(expression) => Ok(!holds(expression, alloc, root, here)?),
+        Expression::Not(expression) => Ok(!holds(expression, alloc, root, here, patterns)?),
         Expression::Comparison(operator, left, right) => {
-            let left = compared(left, alloc, root, here)?;
-            match compared(right, alloc, root, here) {
+            let left = compared(left, alloc, root, here, patterns)?;
+            match compared(right, alloc, root, here, patterns) {
                 Ok(right) => Ok(compare(*operator, left, right)),
-                Err(AllocError) => {
+                Err(error) => {
                     release(left);
-                    Err(AllocError)
+                    Err(error)
                 }
             }
         }
         Expression::Test(query) => {
             let start = start(query.origin, root, here);
-            Ok(!find_from(query.segments.as_slice(), alloc, root, start)?.is_empty())
+            Ok(!find_from(query.segments.as_slice(), alloc, root, start, patterns)?.is_empty())
+        }
+        Expression::Pattern(function, value, pattern) => {
+            let stays = matches!(pattern, Comparable::Literal(_));
+            let value = compared(value, alloc, root, here, patterns)?;
+            match compared(pattern, alloc, root, here, patterns) {
+                Ok(pattern) => Ok(patterns.test(alloc, *function, stays, value, pattern)?),
+                Err(error) => {
+                    release(value);
+                    Err(error)
+                }
+            }
         }
     }
 }
@@ -224,25 +258,26 @@ fn compared<'v>(
     alloc: Global,
     root: &'v JsonValue,
     here: &'v JsonValue,
-) -> Result<Option<Operand<'v>>, AllocError>
+    patterns: &mut Patterns,
+) -> Result<Option<Operand<'v>>, FindError>
     ensures { IfOk result (λ o. option_map operand_tree o
         ≡ comparable_value comparable.now (view root.now) (view here.now)) }
 {
     match comparable {
-        Comparable::Literal(literal) => literal_value(alloc, literal),
+        Comparable::Literal(literal) => Ok(literal_value(alloc, literal)?),
         Comparable::SingularQuery(query) => Ok(singular_value(query, root, here)),
         Comparable::Function(function) => match function {
             FunctionExpression::Length(argument) => {
-                operand::length(alloc, compared(argument, alloc, root, here)?)
+                Ok(operand::length(alloc, compared(argument, alloc, root, here, patterns)?)?)
             }
             FunctionExpression::Count(query) => {
                 let start = start(query.origin, root, here);
-                let nodes = find_from(query.segments.as_slice(), alloc, root, start)?;
-                operand::count(alloc, nodes.as_slice())
+                let nodes = find_from(query.segments.as_slice(), alloc, root, start, patterns)?;
+                Ok(operand::count(alloc, nodes.as_slice())?)
             }
             FunctionExpression::Value(query) => {
                 let start = start(query.origin, root, here);
-                let nodes = find_from(query.segments.as_slice(), alloc, root, start)?;
+                let nodes = find_from(query.segments.as_slice(), alloc, root, start, patterns)?;
                 Ok(only_value(nodes.as_slice()))
             }
         },

@@ -33,7 +33,7 @@ number_sound : (xs : List ℕ) → Finds (number_front xs) (λ p. LiteralText xs
 number_sound xs = finds_map (numbered (number_chars xs).1) _
     (finds_as (decimal_sound (number_chars xs).0) (λ d h. is.number (is.run refl h)))
 
-word_sound : (word xs : List ℕ) → Finds (behind_word word xs) (λ ys. xs ≡ word ++ ys)
+pub word_sound : (word xs : List ℕ) → Finds (behind_word word xs) (λ ys. xs ≡ word ++ ys)
 word_sound [] xs = finds_some refl
 word_sound (w ∷ ws) xs = finds_then (behind_word ws) (behind w xs) (finds_as (behind_sound w xs) (λ ys e.
     finds_as (word_sound ws ys) (λ zs f. e ∙ ap (λ us. w ∷ us) f)))
@@ -115,7 +115,7 @@ filter_query_sound {T = T} {F = F} s (c ∷ cs) = finds_then (begun_front F cs) 
     at_code (λ x. FilterQueryText T (x ∷ cs) (Root, p.0) p.1) c 36 e (is.absolute m)))))
     (λ _. finds_none)))
 
-closed_sound : {A : Type 0} {T : TextsOf A} {G : FrontOf A} → Exact T G → Exact (ClosedText T) (closed_front G)
+pub closed_sound : {A : Type 0} {T : TextsOf A} {G : FrontOf A} → Exact T G → Exact (ClosedText T) (closed_front G)
 closed_sound {G = G} s xs = finds_then in_parentheses (G (after_blanks xs)) (finds_as (s (after_blanks xs)) (λ p m.
     finds_map (held p.0) (behind 41 (after_blanks p.1)) (finds_as (behind_sound 41 (after_blanks p.1)) (λ ys e. is.closed m e))))
 

@@ -1,6 +1,6 @@
 -- What is in the grammar is found at the front of a text.
 use Rattle.std.proofs.Common.{◌≡◌, inl, inr, ℕ, zero, suc, ◌≤◌, Bool, true, false, not, ◌==◌, nat_le, cond}
-use Rattle.std.proofs.Common.{◌+◌, ◌*◌, List, [], ◌∷◌, Option, Some, None, option_map, option_and_then, refl, sym, ap, ◌∙◌}
+use Rattle.std.proofs.Common.{◌+◌, ◌*◌, ◌++◌, List, [], ◌∷◌, Option, Some, None, option_map, option_and_then, refl, sym, ap, ◌∙◌}
 use Rattle.std.proofs.Common.{subst, arith}
 use Rattle.std.proofs.lemmas.Bool.{cond-true, cond-false, ne_eqb, eqb-true, eq-eqb, leb-true, le-leb, and_parts, and_from, or_parts}
 use Rattle.std.proofs.lemmas.Bool.{or_from}
@@ -13,6 +13,8 @@ use Rattle.json_path_query.specs.declared.query.ComparisonOperator.{ComparisonOp
 use Rattle.json_path_query.specs.declared.query.ComparisonOperator.TheVariants.{Less, LessOrEqual, Greater, GreaterOrEqual}
 use Rattle.json_path_query.specs.declared.query.Origin.{Origin}
 use Rattle.json_path_query.specs.declared.query.Origin.TheVariants.{Root, CurrentNode}
+use Rattle.json_path_query.specs.declared.query.PatternFunction.{PatternFunction}
+use Rattle.json_path_query.specs.declared.query.PatternFunction.TheVariants.{Match, Search}
 use Rattle.json_path_query.specs.Forms.{PlainSelector, Selector, Segment, Function, Comparable, Operand, Basic, Expression}
 use Rattle.json_path_query.specs.Forms as form
 use Rattle.json_path_query.specs.Values.{Literal, SingularSegment}
@@ -52,7 +54,8 @@ use Rattle.json_path_query.specs.Fronts.{literal_front, as_string, name_before, 
 use Rattle.json_path_query.specs.Fronts.{singular_segment_front, singular_end, singular_turn, singular_front, as_singular, as_literal}
 use Rattle.json_path_query.specs.Fronts.{compared_front, comparable_front, or_equal, operator_front, as_comparison, operated_front}
 use Rattle.json_path_query.specs.Fronts.{left_end, as_query, filter_query_front, held, in_parentheses, closed_front, as_length, as_count}
-use Rattle.json_path_query.specs.Fronts.{as_value, function_front, begins_call, as_function, argument_front}
+use Rattle.json_path_query.specs.Fronts.{as_value, function_front, begins_call, as_function, argument_front, as_pattern}
+use Rattle.json_path_query.specs.Fronts.{second_front, first_end, arguments_front, begins_pattern}
 use Rattle.json_path_query.proofs.Before.{Ends, ends_at, ends_no_segment, ends_no_operator}
 use Rattle.json_path_query.proofs.Numerals.{decimal_complete}
 use Rattle.json_path_query.proofs.Finds.{none_some, some_same, finds_none}
@@ -360,6 +363,7 @@ record BeginsComparable (xs : List ℕ) : Type 0 where
   at : xs ≡ first ∷ rest
   no_mark : (first == 33) ≡ false
   no_parenthesis : (first == 40) ≡ false
+  no_pattern : begins_pattern first ≡ false
 
 -- what a literal begins with
 record BeginsLiteral (xs : List ℕ) : Type 0 where
@@ -393,6 +397,7 @@ number_begins_literal xs b = record {
     at = b.at;
     no_mark = number_not b.first 33 b.number refl;
     no_parenthesis = number_not b.first 40 b.number refl;
+    no_pattern = or_from _ _ (number_not b.first 109 b.number refl) (number_not b.first 115 b.number refl);
   };
   no_origin =
       cond-false (b.first == 64) _ _ (number_not b.first 64 b.number refl)
@@ -402,18 +407,21 @@ number_begins_literal xs b = record {
       (or_from _ _ (number_not b.first 99 b.number refl) (number_not b.first 118 b.number refl));
 }
 
-begins_literal : (c : ℕ) (cs : List ℕ) → (c == 33) ≡ false → (c == 40) ≡ false → origin_of c ≡ None → begins_call c ≡ false
-    → BeginsLiteral (c ∷ cs)
-begins_literal c cs e f o k =
-    record { begins = record { first = c; rest = cs; at = refl; no_mark = e; no_parenthesis = f }; no_origin = o; no_call = k }
+begins_literal : (c : ℕ) (cs : List ℕ) → (c == 33) ≡ false → (c == 40) ≡ false → begins_pattern c ≡ false → origin_of c ≡ None
+    → begins_call c ≡ false → BeginsLiteral (c ∷ cs)
+begins_literal c cs e f p o k = record {
+  begins = record { first = c; rest = cs; at = refl; no_mark = e; no_parenthesis = f; no_pattern = p };
+  no_origin = o;
+  no_call = k;
+}
 
 literal_begins : (xs : List ℕ) (l : Literal) (ys : List ℕ) → LiteralText xs l ys → BeginsLiteral xs
 literal_begins xs l ys (is.number {d = d} m) = number_begins_literal xs (number_begins xs d ys (number_complete xs d ys m))
-literal_begins xs l ys (is.string (is.double {xs = zs} q)) = begins_literal 34 zs refl refl refl refl
-literal_begins xs l ys (is.string (is.single {xs = zs} q)) = begins_literal 39 zs refl refl refl refl
-literal_begins xs l ys is.is_true = begins_literal 116 _ refl refl refl refl
-literal_begins xs l ys is.is_false = begins_literal 102 _ refl refl refl refl
-literal_begins xs l ys is.is_null = begins_literal 110 _ refl refl refl refl
+literal_begins xs l ys (is.string (is.double {xs = zs} q)) = begins_literal 34 zs refl refl refl refl refl
+literal_begins xs l ys (is.string (is.single {xs = zs} q)) = begins_literal 39 zs refl refl refl refl refl
+literal_begins xs l ys is.is_true = begins_literal 116 _ refl refl refl refl refl
+literal_begins xs l ys is.is_false = begins_literal 102 _ refl refl refl refl refl
+literal_begins xs l ys is.is_null = begins_literal 110 _ refl refl refl refl refl
 
 literal_complete : (xs : List ℕ) (l : Literal) (ys : List ℕ) → LiteralText xs l ys → literal_front xs ≡ Some (l, ys)
 literal_complete xs l ys (is.number {d = d} m) =
@@ -508,18 +516,21 @@ comparable_complete {F = F} {G = G} t f g k xs a ys h (is.function {f = v} m) =
 
 function_begins : {E C : Type 0} {T : TextsOf E} {A : TextsOf C} (xs : List ℕ) (v : Function E C) (ys : List ℕ) → FunctionText T A xs v ys
     → BeginsComparable xs
-function_begins xs v ys (is.length_of m) = record { first = 108; rest = _; at = refl; no_mark = refl; no_parenthesis = refl }
-function_begins xs v ys (is.count_of m) = record { first = 99; rest = _; at = refl; no_mark = refl; no_parenthesis = refl }
-function_begins xs v ys (is.value_of m) = record { first = 118; rest = _; at = refl; no_mark = refl; no_parenthesis = refl }
+function_begins xs v ys (is.length_of m) =
+    record { first = 108; rest = _; at = refl; no_mark = refl; no_parenthesis = refl; no_pattern = refl }
+function_begins xs v ys (is.count_of m) =
+    record { first = 99; rest = _; at = refl; no_mark = refl; no_parenthesis = refl; no_pattern = refl }
+function_begins xs v ys (is.value_of m) =
+    record { first = 118; rest = _; at = refl; no_mark = refl; no_parenthesis = refl; no_pattern = refl }
 
 comparable_begins : {E C : Type 0} {T : TextsOf E} {A : TextsOf C} (xs : List ℕ) (a : Comparable E C) (ys : List ℕ)
     → ComparableText T A xs a ys → BeginsComparable xs
 comparable_begins xs a ys (is.function {f = v} m) = function_begins xs v ys m
 comparable_begins xs a ys (is.literal {l = l} m) = (literal_begins xs l ys m).begins
 comparable_begins xs a ys (is.relative {xs = zs} m) =
-    record { first = 64; rest = zs; at = refl; no_mark = refl; no_parenthesis = refl }
+    record { first = 64; rest = zs; at = refl; no_mark = refl; no_parenthesis = refl; no_pattern = refl }
 comparable_begins xs a ys (is.absolute {xs = zs} m) =
-    record { first = 36; rest = zs; at = refl; no_mark = refl; no_parenthesis = refl }
+    record { first = 36; rest = zs; at = refl; no_mark = refl; no_parenthesis = refl; no_pattern = refl }
 
 no_equals : (xs : List ℕ) → begins_with 61 xs ≡ false → behind 61 xs ≡ None
 no_equals [] e = refl
@@ -606,38 +617,57 @@ test_stops {E = E} {T = T} t f xs ss ys (is.more {ys = zs} {s = s} {ss = ts} m k
 
 -- ---- logical expressions
 
-operand_complete : {E : Type 0} {T : TextsOf E} {F : FrontOf E} → Complete T F → Shortens (selection_turn F)
-    → Shortens (segments_turn F) → (xs : List ℕ) (o : Operand E) (ys : List ℕ) → OperandText T xs o ys → Ends ys
-    → operand_front F xs ≡ Some (o, after_blanks ys)
-operand_complete t f g xs o ys (is.parenthesized {xs = us} {ys = zs} {e = e} m h) k =
+arguments_complete : {E C : Type 0} {A : TextsOf C} {G : FrontOf C} → Reached A G → (f : PatternFunction) (xs ys zs us : List ℕ) (v p : C)
+    → A (after_blanks xs) v ys → after_blanks ys ≡ 44 ∷ zs → ClosedText A zs p us
+    → arguments_front {E = E} G f xs ≡ Some (form.pattern f v p, after_blanks us)
+arguments_complete {E = E} {G = G} r f xs ys zs us v p m e n =
+    ap (option_and_then (first_end {E = E} G f)) (r (after_blanks xs) v ys (ap begins_segment e) m)
+    ∙ (ap (λ ws. option_and_then (second_front {E = E} G f v) (behind 44 ws)) e
+    ∙ ap (option_map (as_pattern {E = E} f v)) (closed_complete r zs p us n))
+
+pattern_complete : {E C : Type 0} {A : TextsOf C} (F : FrontOf E) {G : FrontOf C} → Reached A G → (f : PatternFunction)
+    (xs ys zs us : List ℕ) (v p : C) → A (after_blanks xs) v ys → after_blanks ys ≡ 44 ∷ zs → ClosedText A zs p us
+    → operand_front F G (is.pattern_call f ++ xs) ≡ Some (form.pattern f v p, after_blanks us)
+pattern_complete F r Match xs ys zs us v p m e n = arguments_complete r Match xs ys zs us v p m e n
+pattern_complete F r Search xs ys zs us v p m e n = arguments_complete r Search xs ys zs us v p m e n
+
+operand_complete : {E C : Type 0} {T : TextsOf E} {A : TextsOf C} {F : FrontOf E} {G : FrontOf C} → Complete T F
+    → Shortens (selection_turn F) → Shortens (segments_turn F) → Reached A G → (xs : List ℕ) (o : Operand E C) (ys : List ℕ)
+    → OperandText T A xs o ys → Ends ys → operand_front F G xs ≡ Some (o, after_blanks ys)
+operand_complete t f g r xs o ys (is.parenthesized {xs = us} {ys = zs} {e = e} m h) k =
     ap (option_and_then closing) (t (after_blanks us) e zs m (ends_at 41 zs ys h refl refl refl refl) refl refl)
     ∙ ap (λ ws. option_map (closed e) (behind 41 ws)) h
-operand_complete t f g xs o ys (is.relative {xs = us} {ss = ss} m) k =
+operand_complete t f g r xs o ys (is.relative {xs = us} {ss = ss} m) k =
     ap (option_map (tested CurrentNode)) (segments_complete t f g us ss ys (ends_no_segment ys k) m)
-operand_complete t f g xs o ys (is.absolute {xs = us} {ss = ss} m) k =
+operand_complete t f g r xs o ys (is.absolute {xs = us} {ss = ss} m) k =
     ap (option_map (tested Root)) (segments_complete t f g us ss ys (ends_no_segment ys k) m)
+operand_complete {F = F} t f g r xs o ys (is.pattern call us {ys = zs} {zs = vs} {v = v} {p = p} m e n) k =
+    pattern_complete F r call us zs vs ys v p m e n
 
 -- a query that is tested
-tested_complete : {E C : Type 0} (F : FrontOf E) (G : FrontOf C) (c : ℕ) (cs ys : List ℕ) (origin : Origin) (o : Operand E)
-    → (c == 33) ≡ false → (c == 40) ≡ false → origin_of c ≡ Some origin → Stops cs → operand_front F (c ∷ cs) ≡ Some (o, ys)
-    → basic_front F G (c ∷ cs) ≡ Some (form.affirmed o, ys)
-tested_complete F G c cs ys origin o m p g s e =
+tested_complete : {E C : Type 0} (F : FrontOf E) (G : FrontOf C) (c : ℕ) (cs ys : List ℕ) (origin : Origin) (o : Operand E C)
+    → (c == 33) ≡ false → (c == 40) ≡ false → begins_pattern c ≡ false → origin_of c ≡ Some origin → Stops cs
+    → operand_front F G (c ∷ cs) ≡ Some (o, ys) → basic_front F G (c ∷ cs) ≡ Some (form.affirmed o, ys)
+tested_complete F G c cs ys origin o m p b g s e =
     cond-false (c == 33) _ _ m
     ∙ (cond-false (c == 40) _ _ p
+    ∙ (cond-false (begins_pattern c) _ _ b
     ∙ (ap (λ q. option_and_then (left_end F G (c ∷ cs)) (compared_front F G c cs q)) g
     ∙ (ap (λ q. option_and_then (left_end F G (c ∷ cs)) (option_map (as_singular origin) q)) s.at
-    ∙ (ap (operated_front F G (c ∷ cs) (form.singular origin s.found.0)) s.none ∙ ap (option_map as_affirmed) e))))
+    ∙ (ap (operated_front F G (c ∷ cs) (form.singular origin s.found.0)) s.none ∙ ap (option_map as_affirmed) e)))))
 
-affirmed_complete : {E C : Type 0} {T : TextsOf E} {F : FrontOf E} (G : FrontOf C) → Complete T F → Shortens (selection_turn F)
-    → (xs : List ℕ) (o : Operand E) (ys : List ℕ) → OperandText T xs o ys → Ends ys → operand_front F xs ≡ Some (o, after_blanks ys)
-    → basic_front F G xs ≡ Some (form.affirmed o, after_blanks ys)
+affirmed_complete : {E C : Type 0} {T : TextsOf E} {A : TextsOf C} {F : FrontOf E} (G : FrontOf C) → Complete T F
+    → Shortens (selection_turn F) → (xs : List ℕ) (o : Operand E C) (ys : List ℕ) → OperandText T A xs o ys → Ends ys
+    → operand_front F G xs ≡ Some (o, after_blanks ys) → basic_front F G xs ≡ Some (form.affirmed o, after_blanks ys)
 affirmed_complete G t f xs o ys (is.parenthesized m h) k e = ap (option_map as_affirmed) e
 affirmed_complete {F = F} G t f xs o ys (is.relative {xs = us} {ss = ss} m) k e =
-    tested_complete F G 64 us (after_blanks ys) CurrentNode o refl refl refl
+    tested_complete F G 64 us (after_blanks ys) CurrentNode o refl refl refl refl
     (test_stops t f us ss ys m (ends_no_segment ys k) (ends_no_operator ys k)) e
 affirmed_complete {F = F} G t f xs o ys (is.absolute {xs = us} {ss = ss} m) k e =
-    tested_complete F G 36 us (after_blanks ys) Root o refl refl refl
+    tested_complete F G 36 us (after_blanks ys) Root o refl refl refl refl
     (test_stops t f us ss ys m (ends_no_segment ys k) (ends_no_operator ys k)) e
+affirmed_complete G t f xs o ys (is.pattern Match us m h n) k e = ap (option_map as_affirmed) e
+affirmed_complete G t f xs o ys (is.pattern Search us m h n) k e = ap (option_map as_affirmed) e
 
 comparison_complete : {E C : Type 0} {T : TextsOf E} {A : TextsOf C} (F : FrontOf E) (G : FrontOf C)
     → Reached (ComparableText T A) (comparable_front F G) → (xs ys zs us : List ℕ) (l r : Comparable E C) (op : ComparisonOperator)
@@ -648,18 +678,19 @@ comparison_complete F G c xs ys zs us l r op m n q k =
     ap (basic_front F G) b.at
     ∙ (cond-false (b.first == 33) _ _ b.no_mark
     ∙ (cond-false (b.first == 40) _ _ b.no_parenthesis
+    ∙ (cond-false (begins_pattern b.first) _ _ b.no_pattern
     ∙ (ap (λ ws. option_and_then (left_end F G ws) (comparable_front F G ws)) (sym b.at)
     ∙ (ap (option_and_then (left_end F G xs)) (c xs l ys (operator_begins (after_blanks ys) op zs n) m)
     ∙ (ap (operated_front F G xs l) (operator_complete (after_blanks ys) op zs n)
-    ∙ ap (option_map (as_comparison op l)) (c (after_blanks zs) r us (ends_no_segment us k) q))))))
+    ∙ ap (option_map (as_comparison op l)) (c (after_blanks zs) r us (ends_no_segment us k) q)))))))
 
 pub basic_complete : {E C : Type 0} {T : TextsOf E} {A : TextsOf C} {F : FrontOf E} {G : FrontOf C} → Complete T F
     → Shortens (selection_turn F) → Shortens (segments_turn F) → Reached A G → (xs : List ℕ) (v : Basic E C) (ys : List ℕ)
     → BasicText T A xs v ys → Ends ys → basic_front F G xs ≡ Some (v, after_blanks ys)
 basic_complete {G = G} t f g r xs v ys (is.affirmed {o = o} m) k =
-    affirmed_complete G t f xs o ys m k (operand_complete t f g xs o ys m k)
+    affirmed_complete G t f xs o ys m k (operand_complete t f g r xs o ys m k)
 basic_complete t f g r xs v ys (is.negated {xs = us} {o = o} m) k =
-    ap (option_map as_negated) (operand_complete t f g (after_blanks us) o ys m k)
+    ap (option_map as_negated) (operand_complete t f g r (after_blanks us) o ys m k)
 basic_complete {F = F} {G = G} t f g r xs v ys (is.comparison {ys = zs} {zs = us} {l = l} {r = b} {op = op} m n q) k =
     comparison_complete F G (comparable_complete t f g r) xs zs us ys l b op m n q k
 

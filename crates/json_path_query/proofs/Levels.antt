@@ -4,13 +4,15 @@ use Rattle.std.proofs.Common.{option_map, option_and_then, Result, Bor, refl, sy
 use Rattle.std.proofs.lemmas.Bool.{cond-true, cond-false, ne_eqb, eqb-true, or_cases}
 use Rattle.json_path_query.specs.declared.query.Expression.{Expression as CodeExpression}
 use Rattle.json_path_query.specs.declared.query.Origin.{Origin}
+use Rattle.json_path_query.specs.declared.query.PatternFunction.{PatternFunction}
+use Rattle.json_path_query.specs.declared.query.PatternFunction.TheVariants.{Match, Search}
 use Rattle.json_path_query.specs.declared.query.Selector.{Selector as CodeSelector}
 use Rattle.json_path_query.specs.declared.query.ComparisonOperator.{ComparisonOperator}
-use Rattle.json_path_query.specs.Forms.{Comparable, Function, Argument, IsArgument, IsComparable, IsBasic, IsConjunction}
+use Rattle.json_path_query.specs.Forms.{Comparable, Function, Argument, IsArgument, IsComparable, IsOperand, IsBasic, IsConjunction}
 use Rattle.json_path_query.specs.Forms.{PlainSelector, Selector, Segment, Operand, Basic, Expression, Each, IsSelector, IsOneSelector}
 use Rattle.json_path_query.specs.Forms.{Disjunction, IsExpression, IsDisjunction}
 use Rattle.json_path_query.specs.Forms as form
-use Rattle.json_path_query.specs.Grammar.{after_blanks, length_call, count_call, value_call}
+use Rattle.json_path_query.specs.Grammar.{after_blanks, length_call, count_call, value_call, pattern_call}
 use Rattle.json_path_query.specs.Values.{Literal, SingularSegment}
 use Rattle.json_path_query.specs.declared.query.Comparable.{Comparable as CodeComparable}
 use Rattle.json_path_query.specs.declared.error.Refusal.{Refusal}
@@ -25,7 +27,8 @@ use Rattle.json_path_query.specs.Fronts.{as_comparison, argument_front, as_singu
 use Rattle.json_path_query.specs.Fronts.{function_front, literal_front}
 use Rattle.json_path_query.specs.Fronts.{singular_front, begins_call, closed_front, in_parentheses, held, filter_query_front, as_query}
 use Rattle.json_path_query.specs.Fronts.{begun_front, begins_pattern, behind_word, as_length, as_count, as_value, length_end, count_end}
-use Rattle.json_path_query.specs.Fronts.{value_end}
+use Rattle.json_path_query.specs.Fronts.{value_end, as_pattern, second_front, first_end, arguments_front, search_end, match_end}
+use Rattle.json_path_query.specs.Fronts.{pattern_front}
 use Rattle.json_path_query.proofs.Finds.{Finds}
 use Rattle.json_path_query.proofs.Turns.{Shortens}
 use Rattle.json_path_query.proofs.Shorter.{selector_falls, selection_falls, segment_falls, segments_falls, joined_falls, front_falls}
@@ -40,6 +43,9 @@ basics_at n = basic_front (expression_front n) (argument_front n)
 
 abbrev pub conjunctions_at : (n : ℕ) → FrontOf (List (Basic (Expression n) (Argument n)))
 conjunctions_at n = conjunction_front (expression_front n) (argument_front n)
+
+abbrev pub IsOperandAt : (n : ℕ) → Operand (Expression n) (Argument n) → CodeExpression → Type 0
+IsOperandAt n = IsOperand (IsExpression n) (IsArgument n)
 
 abbrev pub IsBasicAt : (n : ℕ) → Basic (Expression n) (Argument n) → CodeExpression → Type 0
 IsBasicAt n = IsBasic (IsExpression n) (IsArgument n)
@@ -170,34 +176,6 @@ module _ {E : Type 0} (F : FrontOf E) where
 
   -- ---- conditions
 
-  pub closed_at : (xs cs zs ys us vs : List ℕ) (c : ℕ) (e : E) → xs ≡ c ∷ cs → c ≡ 40 → zs ≡ after_blanks cs → F zs ≡ Some (e, ys)
-      → behind 41 ys ≡ Some us → vs ≡ after_blanks us → operand_front F xs ≡ Some (form.parenthesized e, vs)
-  closed_at xs cs zs ys us vs c e f g h k l m =
-      ap (operand_front F) (f ∙ ap (λ d. d ∷ cs) g)
-      ∙ (ap (λ ws. option_and_then closing (F ws)) (sym h)
-      ∙ (ap (option_and_then closing) k
-      ∙ (ap (option_map (closed e)) l ∙ ap (λ ws. Some (form.parenthesized e, ws)) (sym m))))
-
-  pub unclosed : (xs cs zs ys : List ℕ) (c : ℕ) (e : E) → xs ≡ c ∷ cs → c ≡ 40 → zs ≡ after_blanks cs → F zs ≡ Some (e, ys)
-      → behind 41 ys ≡ None → operand_front F xs ≡ None
-  unclosed xs cs zs ys c e f g h k l =
-      ap (operand_front F) (f ∙ ap (λ d. d ∷ cs) g)
-      ∙ (ap (λ ws. option_and_then closing (F ws)) (sym h) ∙ (ap (option_and_then closing) k ∙ ap (option_map (closed e)) l))
-
-  pub parenthesized_none : (xs cs zs : List ℕ) (c : ℕ) → xs ≡ c ∷ cs → c ≡ 40 → zs ≡ after_blanks cs → F zs ≡ None
-      → operand_front F xs ≡ None
-  parenthesized_none xs cs zs c f g h k =
-      ap (operand_front F) (f ∙ ap (λ d. d ∷ cs) g)
-      ∙ (ap (λ ws. option_and_then closing (F ws)) (sym h) ∙ ap (option_and_then closing) k)
-
-  pub tested_at : (xs cs ys zs : List ℕ) (c : ℕ) (o : Origin) (ss : List (Segment E)) → xs ≡ c ∷ cs → c ≢ 40 → origin_of c ≡ Some o
-      → segments_front F cs ≡ Some (ss, ys) → zs ≡ after_blanks ys → operand_front F xs ≡ Some (form.test o ss, zs)
-  tested_at xs cs ys zs c o ss f g h k l =
-      ap (operand_front F) f
-      ∙ (cond-false (c == 40) _ _ (ne_eqb c 40 g)
-      ∙ (ap (option_and_then (tested_front F cs)) h
-      ∙ (ap (option_map (tested o)) k ∙ ap (λ us. Some (form.test o ss, us)) (sym l))))
-
   pub joined_at : (sign : ℕ) (xs : List ℕ) (a : E) (ys : List ℕ) (o : Option (List ℕ)) → F xs ≡ Some (a, ys) → behind_both sign ys ≡ o
       → joined_turn sign F xs ≡ Some (joint a ys o)
   joined_at sign xs a ys o e f = ap (option_map (joined sign)) e ∙ ap (λ p. Some (joint a ys p)) f
@@ -206,59 +184,92 @@ module _ {E : Type 0} (F : FrontOf E) where
   joined_none sign xs e = ap (option_map (joined sign)) e
 
 module _ {E C : Type 0} (F : FrontOf E) (G : FrontOf C) where
-  pub negated_from : (xs cs zs : List ℕ) (c : ℕ) → xs ≡ c ∷ cs → c ≡ 33 → zs ≡ after_blanks cs
-      → basic_front F G xs ≡ option_map as_negated (operand_front F zs)
-  negated_from xs cs zs c f g h =
-      ap (basic_front F G) (f ∙ ap (λ d. d ∷ cs) g) ∙ ap (λ us. option_map as_negated (operand_front F us)) (sym h)
+  pub closed_at : (xs cs zs ys us vs : List ℕ) (c : ℕ) (e : E) → xs ≡ c ∷ cs → c ≡ 40 → zs ≡ after_blanks cs → F zs ≡ Some (e, ys)
+      → behind 41 ys ≡ Some us → vs ≡ after_blanks us → operand_front F G xs ≡ Some (form.parenthesized e, vs)
+  closed_at xs cs zs ys us vs c e f g h k l m =
+      ap (operand_front F G) (f ∙ ap (λ d. d ∷ cs) g)
+      ∙ (ap (λ ws. option_and_then closing (F ws)) (sym h)
+      ∙ (ap (option_and_then closing) k
+      ∙ (ap (option_map (closed e)) l ∙ ap (λ ws. Some (form.parenthesized e, ws)) (sym m))))
 
-  pub affirmed_from : (xs cs : List ℕ) (c : ℕ) → xs ≡ c ∷ cs → c ≡ 40 → basic_front F G xs ≡ option_map as_affirmed (operand_front F xs)
+  pub unclosed : (xs cs zs ys : List ℕ) (c : ℕ) (e : E) → xs ≡ c ∷ cs → c ≡ 40 → zs ≡ after_blanks cs → F zs ≡ Some (e, ys)
+      → behind 41 ys ≡ None → operand_front F G xs ≡ None
+  unclosed xs cs zs ys c e f g h k l =
+      ap (operand_front F G) (f ∙ ap (λ d. d ∷ cs) g)
+      ∙ (ap (λ ws. option_and_then closing (F ws)) (sym h) ∙ (ap (option_and_then closing) k ∙ ap (option_map (closed e)) l))
+
+  pub parenthesized_none : (xs cs zs : List ℕ) (c : ℕ) → xs ≡ c ∷ cs → c ≡ 40 → zs ≡ after_blanks cs → F zs ≡ None
+      → operand_front F G xs ≡ None
+  parenthesized_none xs cs zs c f g h k =
+      ap (operand_front F G) (f ∙ ap (λ d. d ∷ cs) g)
+      ∙ (ap (λ ws. option_and_then closing (F ws)) (sym h) ∙ ap (option_and_then closing) k)
+
+  pub tested_at : (xs cs ys zs : List ℕ) (c : ℕ) (o : Origin) (ss : List (Segment E)) → xs ≡ c ∷ cs → c ≢ 40 → origin_of c ≡ Some o
+      → segments_front F cs ≡ Some (ss, ys) → zs ≡ after_blanks ys → operand_front F G xs ≡ Some (form.test o ss, zs)
+  tested_at xs cs ys zs c o ss f g h k l =
+      ap (operand_front F G) f
+      ∙ (cond-false (c == 40) _ _ (ne_eqb c 40 g)
+      ∙ (ap (tested_front F G c cs) h ∙ (ap (option_map (tested o)) k ∙ ap (λ us. Some (form.test o ss, us)) (sym l))))
+
+  pub pattern_at : (xs cs : List ℕ) (c : ℕ) → xs ≡ c ∷ cs → c ≢ 40 → origin_of c ≡ None → operand_front F G xs ≡ pattern_front G xs
+  pattern_at xs cs c f g h =
+      ap (operand_front F G) f
+      ∙ (cond-false (c == 40) _ _ (ne_eqb c 40 g) ∙ (ap (tested_front F G c cs) h ∙ ap (pattern_front G) (sym f)))
+
+  pub negated_from : (xs cs zs : List ℕ) (c : ℕ) → xs ≡ c ∷ cs → c ≡ 33 → zs ≡ after_blanks cs
+      → basic_front F G xs ≡ option_map as_negated (operand_front F G zs)
+  negated_from xs cs zs c f g h =
+      ap (basic_front F G) (f ∙ ap (λ d. d ∷ cs) g) ∙ ap (λ us. option_map as_negated (operand_front F G us)) (sym h)
+
+  pub affirmed_from : (xs cs : List ℕ) (c : ℕ) → xs ≡ c ∷ cs → c ≡ 40 → basic_front F G xs ≡ option_map as_affirmed (operand_front F G xs)
   affirmed_from xs cs c f g =
       let e : xs ≡ 40 ∷ cs = f ∙ ap (λ d. d ∷ cs) g in
-      ap (basic_front F G) e ∙ ap (λ us. option_map as_affirmed (operand_front F us)) (sym e)
+      ap (basic_front F G) e ∙ ap (λ us. option_map as_affirmed (operand_front F G us)) (sym e)
 
-  -- where neither a query nor an expression in parentheses begins, and nothing that is compared
-  pub pattern_from : (xs cs : List ℕ) (c : ℕ) → xs ≡ c ∷ cs → begins_pattern c ≡ true
-      → basic_front F G xs ≡ option_map as_affirmed (operand_front F xs)
-  pattern_from xs cs c f h = elim (or_cases (c == 109) (c == 115) h) [
-    | inl e ↦ same 109 (f ∙ ap (λ d. d ∷ cs) (eqb-true c 109 e)) refl
-    | inr e ↦ same 115 (f ∙ ap (λ d. d ∷ cs) (eqb-true c 115 e)) refl
-  ]
-    where
-      same : (k : ℕ) → xs ≡ k ∷ cs → basic_front F G (k ∷ cs) ≡ option_map as_affirmed (operand_front F (k ∷ cs))
-          → basic_front F G xs ≡ option_map as_affirmed (operand_front F xs)
-      same k e r = ap (basic_front F G) e ∙ (r ∙ ap (λ us. option_map as_affirmed (operand_front F us)) (sym e))
-
-  compared_from : (xs cs : List ℕ) (c : ℕ) → xs ≡ c ∷ cs → c ≢ 33 → c ≢ 40
-      → basic_front F G xs ≡ option_and_then (left_end F G xs) (comparable_front F G xs)
-  compared_from xs cs c f g h =
+  pub pattern_from : (xs cs : List ℕ) (c : ℕ) → xs ≡ c ∷ cs → c ≢ 33 → c ≢ 40 → begins_pattern c ≡ true
+      → basic_front F G xs ≡ option_map as_affirmed (operand_front F G xs)
+  pattern_from xs cs c f g h k =
       ap (basic_front F G) f
       ∙ (cond-false (c == 33) _ _ (ne_eqb c 33 g)
-      ∙ (cond-false (c == 40) _ _ (ne_eqb c 40 h) ∙ ap (λ us. option_and_then (left_end F G us) (comparable_front F G us)) (sym f)))
+      ∙ (cond-false (c == 40) _ _ (ne_eqb c 40 h)
+      ∙ (cond-true (begins_pattern c) _ _ k ∙ ap (λ us. option_map as_affirmed (operand_front F G us)) (sym f))))
+
+  compared_from : (xs cs : List ℕ) (c : ℕ) → xs ≡ c ∷ cs → c ≢ 33 → c ≢ 40 → begins_pattern c ≡ false
+      → basic_front F G xs ≡ option_and_then (left_end F G xs) (comparable_front F G xs)
+  compared_from xs cs c f g h k =
+      ap (basic_front F G) f
+      ∙ (cond-false (c == 33) _ _ (ne_eqb c 33 g)
+      ∙ (cond-false (c == 40) _ _ (ne_eqb c 40 h)
+      ∙ (cond-false (begins_pattern c) _ _ k ∙ ap (λ us. option_and_then (left_end F G us) (comparable_front F G us)) (sym f))))
 
   pub operated_from : (xs cs : List ℕ) (c : ℕ) (l : Comparable E C) (ys zs : List ℕ) (o : Option (ComparisonOperator × List ℕ))
-      → xs ≡ c ∷ cs → c ≢ 33 → c ≢ 40 → comparable_front F G xs ≡ Some (l, ys) → zs ≡ after_blanks ys → operator_front zs ≡ o
+      → xs ≡ c ∷ cs → c ≢ 33 → c ≢ 40 → begins_pattern c ≡ false
+      → comparable_front F G xs ≡ Some (l, ys) → zs ≡ after_blanks ys → operator_front zs ≡ o
       → basic_front F G xs ≡ operated_front F G xs l o
-  operated_from xs cs c l ys zs o f g h e k m =
-      compared_from xs cs c f g h
+  operated_from xs cs c l ys zs o f g h b e k m =
+      compared_from xs cs c f g h b
       ∙ (ap (option_and_then (left_end F G xs)) e ∙ ap (operated_front F G xs l) (ap operator_front (sym k) ∙ m))
 
   pub compared_at : (xs cs : List ℕ) (c : ℕ) (l r : Comparable E C) (op : ComparisonOperator) (ys zs us vs ws ts : List ℕ) → xs ≡ c ∷ cs
-      → c ≢ 33 → c ≢ 40 → comparable_front F G xs ≡ Some (l, ys) → zs ≡ after_blanks ys → operator_front zs ≡ Some (op, us)
+      → c ≢ 33 → c ≢ 40 → begins_pattern c ≡ false
+      → comparable_front F G xs ≡ Some (l, ys) → zs ≡ after_blanks ys → operator_front zs ≡ Some (op, us)
       → vs ≡ after_blanks us → comparable_front F G vs ≡ Some (r, ws) → ts ≡ after_blanks ws
       → basic_front F G xs ≡ Some (form.comparison op l r, ts)
-  compared_at xs cs c l r op ys zs us vs ws ts f g h e k m n q t =
-      operated_from xs cs c l ys zs (Some (op, us)) f g h e k m
+  compared_at xs cs c l r op ys zs us vs ws ts f g h b e k m n q t =
+      operated_from xs cs c l ys zs (Some (op, us)) f g h b e k m
       ∙ (ap (option_map (as_comparison op l)) (ap (comparable_front F G) (sym n) ∙ q) ∙ ap (λ rs. Some (form.comparison op l r, rs))
       (sym t))
 
-  pub left_none : (xs cs : List ℕ) (c : ℕ) → xs ≡ c ∷ cs → c ≢ 33 → c ≢ 40 → comparable_front F G xs ≡ None → basic_front F G xs ≡ None
-  left_none xs cs c f g h e = compared_from xs cs c f g h ∙ ap (option_and_then (left_end F G xs)) e
+  pub left_none : (xs cs : List ℕ) (c : ℕ) → xs ≡ c ∷ cs → c ≢ 33 → c ≢ 40 → begins_pattern c ≡ false
+      → comparable_front F G xs ≡ None → basic_front F G xs ≡ None
+  left_none xs cs c f g h b e = compared_from xs cs c f g h b ∙ ap (option_and_then (left_end F G xs)) e
 
   pub right_none : (xs cs : List ℕ) (c : ℕ) (l : Comparable E C) (op : ComparisonOperator) (ys zs us vs : List ℕ) → xs ≡ c ∷ cs
-      → c ≢ 33 → c ≢ 40 → comparable_front F G xs ≡ Some (l, ys) → zs ≡ after_blanks ys → operator_front zs ≡ Some (op, us)
+      → c ≢ 33 → c ≢ 40 → begins_pattern c ≡ false
+      → comparable_front F G xs ≡ Some (l, ys) → zs ≡ after_blanks ys → operator_front zs ≡ Some (op, us)
       → vs ≡ after_blanks us → comparable_front F G vs ≡ None → basic_front F G xs ≡ None
-  right_none xs cs c l op ys zs us vs f g h e k m n q =
-      operated_from xs cs c l ys zs (Some (op, us)) f g h e k m
+  right_none xs cs c l op ys zs us vs f g h b e k m n q =
+      operated_from xs cs c l ys zs (Some (op, us)) f g h b e k m
       ∙ ap (option_map (as_comparison op l)) (ap (comparable_front F G) (sym n) ∙ q)
 
 module _ {E : Type 0} where
@@ -359,6 +370,45 @@ module _ {E C : Type 0} (F : FrontOf E) (G : FrontOf C) where
   pub no_function : (xs : List ℕ) → behind_word length_call xs ≡ None → behind_word count_call xs ≡ None
       → behind_word value_call xs ≡ None → function_front F G xs ≡ None
   no_function xs e f g = ap (length_end F G xs) e ∙ (ap (count_end F xs) f ∙ ap (value_end F) g)
+
+module _ {E C : Type 0} (G : FrontOf C) where
+  pub match_from : (xs ys : List ℕ) (o : Option (Operand E C × List ℕ)) → behind_word (pattern_call Match) xs ≡ Some ys
+      → arguments_front G Match ys ≡ o → pattern_front G xs ≡ o
+  match_from xs ys o e h = ap (match_end {E = E} G xs) e ∙ h
+
+  pub search_from : (xs ys : List ℕ) (o : Option (Operand E C × List ℕ)) → behind_word (pattern_call Match) xs ≡ None
+      → behind_word (pattern_call Search) xs ≡ Some ys → arguments_front G Search ys ≡ o → pattern_front G xs ≡ o
+  search_from xs ys o e f h = ap (match_end {E = E} G xs) e ∙ (ap (search_end {E = E} G) f ∙ h)
+
+  pub no_pattern : (xs : List ℕ) → behind_word (pattern_call Match) xs ≡ None → behind_word (pattern_call Search) xs ≡ None
+      → pattern_front {E = E} G xs ≡ None
+  no_pattern xs e f = ap (match_end {E = E} G xs) e ∙ ap (search_end {E = E} G) f
+
+  pub arguments_at : (f : PatternFunction) (xs zs ys ws us rs vs : List ℕ) (v p : C) → zs ≡ after_blanks xs → G zs ≡ Some (v, ys)
+      → ws ≡ after_blanks ys → behind 44 ws ≡ Some us → closed_front G us ≡ Some (p, rs) → vs ≡ after_blanks rs
+      → arguments_front {E = E} G f xs ≡ Some (form.pattern f v p, vs)
+  arguments_at f xs zs ys ws us rs vs v p e g h k m n =
+      ap (λ ts. option_and_then (first_end {E = E} G f) (G ts)) (sym e)
+      ∙ (ap (option_and_then (first_end {E = E} G f)) g
+      ∙ (ap (option_and_then (second_front {E = E} G f v)) (ap (behind 44) (sym h) ∙ k)
+      ∙ (ap (option_map (as_pattern {E = E} f v)) m ∙ ap (λ ts. Some (form.pattern f v p, ts)) (sym n))))
+
+  pub first_none : (f : PatternFunction) (xs zs : List ℕ) → zs ≡ after_blanks xs → G zs ≡ None → arguments_front {E = E} G f xs ≡ None
+  first_none f xs zs e g =
+      ap (λ ts. option_and_then (first_end {E = E} G f) (G ts)) (sym e) ∙ ap (option_and_then (first_end {E = E} G f)) g
+
+  pub no_second : (f : PatternFunction) (xs zs ys ws : List ℕ) (v : C) → zs ≡ after_blanks xs → G zs ≡ Some (v, ys)
+      → ws ≡ after_blanks ys → behind 44 ws ≡ None → arguments_front {E = E} G f xs ≡ None
+  no_second f xs zs ys ws v e g h k =
+      ap (λ ts. option_and_then (first_end {E = E} G f) (G ts)) (sym e)
+      ∙ (ap (option_and_then (first_end {E = E} G f)) g ∙ ap (option_and_then (second_front {E = E} G f v)) (ap (behind 44) (sym h) ∙ k))
+
+  pub second_none : (f : PatternFunction) (xs zs ys ws us : List ℕ) (v : C) → zs ≡ after_blanks xs → G zs ≡ Some (v, ys)
+      → ws ≡ after_blanks ys → behind 44 ws ≡ Some us → closed_front G us ≡ None → arguments_front {E = E} G f xs ≡ None
+  second_none f xs zs ys ws us v e g h k m =
+      ap (λ ts. option_and_then (first_end {E = E} G f) (G ts)) (sym e)
+      ∙ (ap (option_and_then (first_end {E = E} G f)) g
+      ∙ (ap (option_and_then (second_front {E = E} G f v)) (ap (behind 44) (sym h) ∙ k) ∙ ap (option_map (as_pattern {E = E} f v)) m))
 
 module _ {A : Type 0} (G : FrontOf A) where
   pub closed_from : (xs zs ys us : List ℕ) (a : A) (o : Option (List ℕ)) → zs ≡ after_blanks xs → G zs ≡ Some (a, ys)

@@ -169,16 +169,6 @@ segments_shorter k xs ss ys (is.more {ys = zs} {s = s} {ss = ts} m n) =
     let c = segments_shorter k zs ts ys n in
     omega arith
 
-operand_shorter : {E : Type 0} {T : TextsOf E} → Shortening T → Shortening (OperandText T)
-operand_shorter k xs o ys (is.parenthesized {xs = us} {ys = zs} {e = e} m f) =
-    let a = k (after_blanks us) e zs m in
-    let b = blanks_shorter us in
-    let c = blanks_shorter zs in
-    let same : length (after_blanks zs) ≡ length (41 ∷ ys) = ap length f in
-    omega arith
-operand_shorter k xs o ys (is.relative {xs = us} {ss = ss} m) = let a = segments_shorter k us ss ys m in omega arith
-operand_shorter k xs o ys (is.absolute {xs = us} {ss = ss} m) = let a = segments_shorter k us ss ys m in omega arith
-
 -- ---- comparisons
 
 numbers_shorter : (xs : List ℕ) → length (number_chars xs).1 ≤ length xs
@@ -265,10 +255,30 @@ operator_shorter xs op ys is.greater_or_equal = omega arith
 operator_shorter xs op ys (is.less n) = omega arith
 operator_shorter xs op ys (is.greater n) = omega arith
 
+-- ---- logical expressions
+
+operand_shorter : {E C : Type 0} {T : TextsOf E} {A : TextsOf C} → Shortening T → Keeping A → Shortening (OperandText T A)
+operand_shorter k j xs o ys (is.parenthesized {xs = us} {ys = zs} {e = e} m f) =
+    let a = k (after_blanks us) e zs m in
+    let b = blanks_shorter us in
+    let c = blanks_shorter zs in
+    let same : length (after_blanks zs) ≡ length (41 ∷ ys) = ap length f in
+    omega arith
+operand_shorter k j xs o ys (is.relative {xs = us} {ss = ss} m) = let a = segments_shorter k us ss ys m in omega arith
+operand_shorter k j xs o ys (is.absolute {xs = us} {ss = ss} m) = let a = segments_shorter k us ss ys m in omega arith
+operand_shorter k j xs o ys (is.pattern f us {ys = zs} {zs = vs} {v = v} {p = p} m e n) =
+    let a = j (after_blanks us) v zs m in
+    let b = blanks_shorter us in
+    let c = blanks_shorter zs in
+    let same : length (after_blanks zs) ≡ length (44 ∷ vs) = ap length e in
+    let d = closed_shorter j vs p ys n in
+    let g = behind_no_longer (is.pattern_call f) us in
+    omega arith
+
 pub basic_shorter : {E C : Type 0} {T : TextsOf E} {A : TextsOf C} → Shortening T → Keeping A → Shortening (BasicText T A)
-basic_shorter k j xs v ys (is.affirmed {o = o} m) = operand_shorter k xs o ys m
+basic_shorter k j xs v ys (is.affirmed {o = o} m) = operand_shorter k j xs o ys m
 basic_shorter k j xs v ys (is.negated {xs = zs} {o = o} m) =
-    let a = operand_shorter k (after_blanks zs) o ys m in
+    let a = operand_shorter k j (after_blanks zs) o ys m in
     let b = blanks_shorter zs in
     omega arith
 basic_shorter k j xs v ys (is.comparison {ys = zs} {zs = us} {l = l} {r = r} {op = op} m n q) =

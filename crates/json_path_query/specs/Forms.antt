@@ -13,6 +13,7 @@ use Rattle.json_path_query.specs.declared.query.FunctionExpression.{FunctionExpr
 use Rattle.json_path_query.specs.declared.query.FunctionExpression.TheVariants as calls
 use Rattle.json_path_query.specs.declared.query.Literal.{Literal as CodeLiteral}
 use Rattle.json_path_query.specs.declared.query.Origin.{Origin}
+use Rattle.json_path_query.specs.declared.query.PatternFunction.{PatternFunction}
 use Rattle.json_path_query.specs.declared.query.Expression.{Expression as CodeExpression}
 use Rattle.json_path_query.specs.declared.query.Segment.{Segment as CodeSegment}
 use Rattle.json_path_query.specs.declared.query.Selector.{Selector as CodeSelector}
@@ -39,12 +40,14 @@ pub data Segment (E : Type 0) : Type 0 where
   child : List (Selector E) → Segment E
   descendant : List (Selector E) → Segment E
 
--- what may stand behind `!`: an expression in parentheses, or a query of which some node is to be there
-pub data Operand (E : Type 0) : Type 0 where
-  parenthesized : E → Operand E
-  test : Origin → List (Segment E) → Operand E
+-- What may stand behind `!`: an expression in parentheses, a query of which some node is to be there, or `match` or `search` of a value
+-- and a pattern. C are the values that are passed to functions.
+pub data Operand (E C : Type 0) : Type 0 where
+  parenthesized : E → Operand E C
+  test : Origin → List (Segment E) → Operand E C
+  pattern : PatternFunction → (value pattern : C) → Operand E C
 
--- a function of a value, or of the nodes of a query (2.4); C are the values that are passed to functions
+-- a function of a value, or of the nodes of a query (2.4), that yields a value
 pub data Function (E C : Type 0) : Type 0 where
   length : C → Function E C
   count : Origin → List (Segment E) → Function E C
@@ -58,8 +61,8 @@ pub data Comparable (E C : Type 0) : Type 0 where
 
 -- what `&&` joins
 pub data Basic (E C : Type 0) : Type 0 where
-  affirmed : Operand E → Basic E C
-  negated : Operand E → Basic E C
+  affirmed : Operand E C → Basic E C
+  negated : Operand E C → Basic E C
   comparison : ComparisonOperator → (left right : Comparable E C) → Basic E C
 
 -- one of these holds, of each of which all hold
@@ -111,10 +114,12 @@ abbrev pub AreSegmentsIn : {E : Type 0} → (E → CodeExpression → Type 0) �
 AreSegmentsIn Is ss v = Each (IsSegment Is) ss v.items
 
 -- the code's expression is that operand
-abbrev pub IsOperand : {E : Type 0} → (E → CodeExpression → Type 0) → Operand E → CodeExpression → Type 0
-IsOperand Is (parenthesized e) x = Is e x
-IsOperand Is (test o ss) x =
+abbrev pub IsOperand : {E C : Type 0} → (E → CodeExpression → Type 0) → (C → CodeComparable → Type 0) → Operand E C → CodeExpression
+    → Type 0
+IsOperand Is In (parenthesized e) x = Is e x
+IsOperand Is In (test o ss) x =
     (v : Vec CodeSegment Global) × (x ≡ says.Test (record { origin = o; segments = v })) × AreSegmentsIn Is ss v
+IsOperand Is In (pattern f v p) x = (a b : CodeComparable) × (x ≡ says.Pattern f a b) × In v a × In p b
 
 -- a vector of the code's segments of one selector
 abbrev pub AreSingularSegmentsIn : List SingularSegment → Vec CodeSingularSegment Global → Type 0
@@ -142,8 +147,8 @@ IsComparable Is In (function f) x = (y : CodeFunction) × (x ≡ compared.Functi
 
 -- the code's expression is that one
 abbrev pub IsBasic : {E C : Type 0} → (E → CodeExpression → Type 0) → (C → CodeComparable → Type 0) → Basic E C → CodeExpression → Type 0
-IsBasic Is In (affirmed o) x = IsOperand Is o x
-IsBasic Is In (negated o) x = (b : Box CodeExpression Global) × (x ≡ says.Not b) × IsOperand Is o (box_value b)
+IsBasic Is In (affirmed o) x = IsOperand Is In o x
+IsBasic Is In (negated o) x = (b : Box CodeExpression Global) × (x ≡ says.Not b) × IsOperand Is In o (box_value b)
 IsBasic Is In (comparison op l r) x =
     (a b : CodeComparable) × (x ≡ says.Comparison op a b) × IsComparable Is In l a × IsComparable Is In r b
 

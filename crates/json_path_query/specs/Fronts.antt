@@ -11,6 +11,8 @@ use Rattle.json_path_query.specs.declared.query.ComparisonOperator.{ComparisonOp
 use Rattle.json_path_query.specs.declared.query.ComparisonOperator.TheVariants.{Equal, NotEqual, Less, LessOrEqual, Greater, GreaterOrEqual}
 use Rattle.json_path_query.specs.declared.query.Origin.{Origin}
 use Rattle.json_path_query.specs.declared.query.Origin.TheVariants.{Root, CurrentNode}
+use Rattle.json_path_query.specs.declared.query.PatternFunction.{PatternFunction}
+use Rattle.json_path_query.specs.declared.query.PatternFunction.TheVariants.{Match, Search}
 use Rattle.json_path_query.specs.Forms.{PlainSelector, name, wildcard, index, slice, Selector, plain, filter, Segment, child, descendant}
 use Rattle.json_path_query.specs.Forms.{Operand, parenthesized, test, Function, Comparable, literal, singular}
 use Rattle.json_path_query.specs.Forms.{Basic, affirmed, negated, comparison, Expression, Argument}
@@ -19,7 +21,7 @@ use Rattle.json_path_query.specs.Values.{Literal, SingularSegment}
 use Rattle.json_path_query.specs.Values as value
 use Rattle.json_path_query.specs.Numerals.{spelled_decimal}
 use Rattle.json_path_query.specs.Grammar.{number_chars, is_number_char, true_word, false_word, null_word}
-use Rattle.json_path_query.specs.Grammar.{length_call, count_call, value_call}
+use Rattle.json_path_query.specs.Grammar.{length_call, count_call, value_call, pattern_call}
 use Rattle.json_path_query.specs.Grammar.{equals_sign, less_than_sign, greater_than_sign}
 use Rattle.json_path_query.specs.Grammar.{root_identifier, apostrophe, asterisk, after_blanks, is_name_first, is_digit, is_digit1}
 use Rattle.json_path_query.specs.Grammar.{question_mark, current_node_identifier, exclamation_mark, left_parenthesis, right_parenthesis}
@@ -259,27 +261,70 @@ abbrev pub behind : ℕ → List ℕ → Option (List ℕ)
 behind sign [] = None
 behind sign (c ∷ cs) = cond (c == sign) (Some cs) None
 
-abbrev pub closed : {E : Type 0} → E → List ℕ → Operand E × List ℕ
+abbrev pub closed : {E C : Type 0} → E → List ℕ → Operand E C × List ℕ
 closed e ys = (parenthesized e, after_blanks ys)
 
-abbrev pub closing : {E : Type 0} → E × List ℕ → Option (Operand E × List ℕ)
+abbrev pub closing : {E C : Type 0} → E × List ℕ → Option (Operand E C × List ℕ)
 closing p = option_map (closed p.0) (behind right_parenthesis p.1)
 
-abbrev pub tested : {E : Type 0} → Origin → List (Segment E) × List ℕ → Operand E × List ℕ
+abbrev pub tested : {E C : Type 0} → Origin → List (Segment E) × List ℕ → Operand E C × List ℕ
 tested o p = (test o p.0, after_blanks p.1)
 
 -- where a query in a filter begins, by its first character
 abbrev pub origin_of : ℕ → Option Origin
 origin_of c = cond (c == current_node_identifier) (Some CurrentNode) (cond (c == root_identifier) (Some Root) None)
 
-abbrev pub tested_front : {E : Type 0} → FrontOf E → List ℕ → Origin → Option (Operand E × List ℕ)
-tested_front F cs o = option_map (tested o) (segments_front F cs)
+-- the rest, behind a word
+abbrev pub behind_word : List ℕ → List ℕ → Option (List ℕ)
+behind_word [] xs = Some xs
+behind_word (w ∷ ws) xs = option_and_then (behind_word ws) (behind w xs)
 
-abbrev pub operand_front : {E : Type 0} → FrontOf E → FrontOf (Operand E)
-operand_front F [] = None
-operand_front F (c ∷ cs) =
-    cond (c == left_parenthesis) (option_and_then closing (F (after_blanks cs)))
-    (option_and_then (tested_front F cs) (origin_of c))
+abbrev pub held : {A : Type 0} → A → List ℕ → A × List ℕ
+held a ys = (a, ys)
+
+-- before the parenthesis that ends it
+abbrev pub in_parentheses : {A : Type 0} → A × List ℕ → Option (A × List ℕ)
+in_parentheses p = option_map (held p.0) (behind right_parenthesis (after_blanks p.1))
+
+abbrev pub closed_front : {A : Type 0} → FrontOf A → FrontOf A
+closed_front G xs = option_and_then in_parentheses (G (after_blanks xs))
+
+abbrev pub as_pattern : {E C : Type 0} → PatternFunction → C → C × List ℕ → Operand E C × List ℕ
+as_pattern f v p = (form.pattern f v p.0, after_blanks p.1)
+
+-- behind the comma after the value
+abbrev pub second_front : {E C : Type 0} → FrontOf C → PatternFunction → C → FrontOf (Operand E C)
+second_front G f v ys = option_map (as_pattern f v) (closed_front G ys)
+
+-- behind the value
+abbrev pub first_end : {E C : Type 0} → FrontOf C → PatternFunction → C × List ℕ → Option (Operand E C × List ℕ)
+first_end G f p = option_and_then (second_front G f p.0) (behind value_separator (after_blanks p.1))
+
+-- behind the name of a function of a value and a pattern, and its parenthesis
+abbrev pub arguments_front : {E C : Type 0} → FrontOf C → PatternFunction → FrontOf (Operand E C)
+arguments_front G f xs = option_and_then (first_end G f) (G (after_blanks xs))
+
+-- by whether the name of the function stands there
+abbrev pub search_end : {E C : Type 0} → FrontOf C → Option (List ℕ) → Option (Operand E C × List ℕ)
+search_end G None = None
+search_end G (Some ys) = arguments_front G Search ys
+
+abbrev pub match_end : {E C : Type 0} → FrontOf C → List ℕ → Option (List ℕ) → Option (Operand E C × List ℕ)
+match_end G xs None = search_end G (behind_word (pattern_call Search) xs)
+match_end G xs (Some ys) = arguments_front G Match ys
+
+abbrev pub pattern_front : {E C : Type 0} → FrontOf C → FrontOf (Operand E C)
+pattern_front G xs = match_end G xs (behind_word (pattern_call Match) xs)
+
+-- a query that begins there, or no query
+abbrev pub tested_front : {E C : Type 0} → FrontOf E → FrontOf C → ℕ → List ℕ → Option Origin → Option (Operand E C × List ℕ)
+tested_front F G c cs None = pattern_front G (c ∷ cs)
+tested_front F G c cs (Some o) = option_map (tested o) (segments_front F cs)
+
+abbrev pub operand_front : {E C : Type 0} → FrontOf E → FrontOf C → FrontOf (Operand E C)
+operand_front F G [] = None
+operand_front F G (c ∷ cs) =
+    cond (c == left_parenthesis) (option_and_then closing (F (after_blanks cs))) (tested_front F G c cs (origin_of c))
 
 -- ---- comparisons
 
@@ -288,11 +333,6 @@ numbered ys d = (value.number d, ys)
 
 abbrev pub number_front : List ℕ → Option (Literal × List ℕ)
 number_front xs = option_map (numbered (number_chars xs).1) (spelled_decimal (number_chars xs).0)
-
--- the rest, behind a word
-abbrev pub behind_word : List ℕ → List ℕ → Option (List ℕ)
-behind_word [] xs = Some xs
-behind_word (w ∷ ws) xs = option_and_then (behind_word ws) (behind w xs)
 
 abbrev pub either : {A : Type 0} → Option A → Option A → Option A
 either None o = o
@@ -359,16 +399,6 @@ begun_front F cs o = option_map (as_query o) (segments_front F cs)
 abbrev pub filter_query_front : {E : Type 0} → FrontOf E → FrontOf (Origin × List (Segment E))
 filter_query_front F [] = None
 filter_query_front F (c ∷ cs) = option_and_then (begun_front F cs) (origin_of c)
-
-abbrev pub held : {A : Type 0} → A → List ℕ → A × List ℕ
-held a ys = (a, ys)
-
--- before the parenthesis that ends it
-abbrev pub in_parentheses : {A : Type 0} → A × List ℕ → Option (A × List ℕ)
-in_parentheses p = option_map (held p.0) (behind right_parenthesis (after_blanks p.1))
-
-abbrev pub closed_front : {A : Type 0} → FrontOf A → FrontOf A
-closed_front G xs = option_and_then in_parentheses (G (after_blanks xs))
 
 abbrev pub as_length : {E C : Type 0} → C × List ℕ → Function E C × List ℕ
 as_length p = (form.length p.0, p.1)
@@ -439,10 +469,10 @@ operator_front (c ∷ cs) =
 
 -- ---- conditions
 
-abbrev pub as_affirmed : {E C : Type 0} → Operand E × List ℕ → Basic E C × List ℕ
+abbrev pub as_affirmed : {E C : Type 0} → Operand E C × List ℕ → Basic E C × List ℕ
 as_affirmed p = (affirmed p.0, p.1)
 
-abbrev pub as_negated : {E C : Type 0} → Operand E × List ℕ → Basic E C × List ℕ
+abbrev pub as_negated : {E C : Type 0} → Operand E C × List ℕ → Basic E C × List ℕ
 as_negated p = (negated p.0, p.1)
 
 abbrev pub as_comparison : {E C : Type 0} → ComparisonOperator → Comparable E C → Comparable E C × List ℕ → Basic E C × List ℕ
@@ -451,7 +481,7 @@ as_comparison op l p = (comparison op l p.0, after_blanks p.1)
 -- behind what may stand on the left: an operator and the right, or no operator
 abbrev pub operated_front : {E C : Type 0} → FrontOf E → FrontOf C → List ℕ → Comparable E C → Option (ComparisonOperator × List ℕ)
     → Option (Basic E C × List ℕ)
-operated_front F G xs l None = option_map as_affirmed (operand_front F xs)
+operated_front F G xs l None = option_map as_affirmed (operand_front F G xs)
 operated_front F G xs l (Some p) = option_map (as_comparison p.0 l) (comparable_front F G (after_blanks p.1))
 
 abbrev pub left_end : {E C : Type 0} → FrontOf E → FrontOf C → List ℕ → Comparable E C × List ℕ → Option (Basic E C × List ℕ)
@@ -460,9 +490,10 @@ left_end F G xs p = operated_front F G xs p.0 (operator_front (after_blanks p.1)
 abbrev pub basic_front : {E C : Type 0} → FrontOf E → FrontOf C → FrontOf (Basic E C)
 basic_front F G [] = None
 basic_front F G (c ∷ cs) =
-    cond (c == exclamation_mark) (option_map as_negated (operand_front F (after_blanks cs)))
-    (cond (c == left_parenthesis) (option_map as_affirmed (operand_front F (c ∷ cs)))
-    (option_and_then (left_end F G (c ∷ cs)) (comparable_front F G (c ∷ cs))))
+    cond (c == exclamation_mark) (option_map as_negated (operand_front F G (after_blanks cs)))
+    (cond (c == left_parenthesis) (option_map as_affirmed (operand_front F G (c ∷ cs)))
+    (cond (begins_pattern c) (option_map as_affirmed (operand_front F G (c ∷ cs)))
+    (option_and_then (left_end F G (c ∷ cs)) (comparable_front F G (c ∷ cs)))))
 
 -- what follows a sign that is written twice, and the blanks after it
 abbrev pub behind_both : ℕ → List ℕ → Option (List ℕ)

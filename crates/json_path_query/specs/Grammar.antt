@@ -1,4 +1,4 @@
--- The grammar of RFC 9535, with the functions `length`, `count` and `value`: which text is which query. A rule of the RFC's ABNF that
+-- The grammar of RFC 9535, with its five functions: which text is which query. A rule of the RFC's ABNF that
 -- has parts is a type here: `Rule xs v ys` says that the characters xs begin with a text of the rule, which means v, and that ys follow
 -- it. A run of blanks, of digits, or of the characters of a name or of a number is taken whole; what may follow it in the RFC's rules
 -- never begins with one more of its characters.
@@ -15,6 +15,8 @@ use Rattle.json_path_query.specs.declared.query.ComparisonOperator.{ComparisonOp
 use Rattle.json_path_query.specs.declared.query.ComparisonOperator.TheVariants.{Equal, NotEqual, Less, LessOrEqual, Greater, GreaterOrEqual}
 use Rattle.json_path_query.specs.declared.query.Origin.{Origin}
 use Rattle.json_path_query.specs.declared.query.Origin.TheVariants.{Root, CurrentNode}
+use Rattle.json_path_query.specs.declared.query.PatternFunction.{PatternFunction}
+use Rattle.json_path_query.specs.declared.query.PatternFunction.TheVariants.{Match, Search}
 use Rattle.json_path_query.specs.Forms.{PlainSelector, Selector, Segment, Function, Comparable, Operand, Basic, Expression, Argument}
 use Rattle.json_path_query.specs.Forms as form
 use Rattle.json_path_query.specs.Values.{Literal, SingularSegment}
@@ -127,6 +129,10 @@ count_call = codes "count("
 
 abbrev pub value_call : List ℕ
 value_call = codes "value("
+
+abbrev pub pattern_call : PatternFunction → List ℕ
+pattern_call Match = codes "match("
+pattern_call Search = codes "search("
 
 -- whether the text begins with the character
 abbrev pub begins_with : ℕ → List ℕ → Bool
@@ -327,19 +333,21 @@ pub data OperatorText : List ℕ → ComparisonOperator → List ℕ → Type 0 
 
 -- ---- logical expressions (2.3.5.1)
 
--- paren-expr and test-expr, but for their logical-not-op
-pub data OperandText {E : Type 0} (T : TextsOf E) : List ℕ → Operand E → List ℕ → Type 0 where
+-- paren-expr and test-expr, but for their logical-not-op; of the functions `match` and `search` are tests, of two values (2.4.6, 2.4.7)
+pub data OperandText {E C : Type 0} (T : TextsOf E) (A : TextsOf C) : List ℕ → Operand E C → List ℕ → Type 0 where
   parenthesized : {xs ys zs : List ℕ} {e : E} → T (after_blanks xs) e ys → after_blanks ys ≡ right_parenthesis ∷ zs
-      → OperandText T (left_parenthesis ∷ xs) (form.parenthesized e) zs
+      → OperandText T A (left_parenthesis ∷ xs) (form.parenthesized e) zs
   relative : {xs ys : List ℕ} {ss : List (Segment E)} → SegmentsText T xs ss ys
-      → OperandText T (current_node_identifier ∷ xs) (form.test CurrentNode ss) ys
+      → OperandText T A (current_node_identifier ∷ xs) (form.test CurrentNode ss) ys
   absolute : {xs ys : List ℕ} {ss : List (Segment E)} → SegmentsText T xs ss ys
-      → OperandText T (root_identifier ∷ xs) (form.test Root ss) ys
+      → OperandText T A (root_identifier ∷ xs) (form.test Root ss) ys
+  pattern : (f : PatternFunction) (xs : List ℕ) {ys zs us : List ℕ} {v p : C} → A (after_blanks xs) v ys
+      → after_blanks ys ≡ value_separator ∷ zs → ClosedText A zs p us → OperandText T A (pattern_call f ++ xs) (form.pattern f v p) us
 
 -- basic-expr = paren-expr / comparison-expr / test-expr, where comparison-expr = comparable S comparison-op S comparable
 pub data BasicText {E C : Type 0} (T : TextsOf E) (A : TextsOf C) : List ℕ → Basic E C → List ℕ → Type 0 where
-  affirmed : {xs ys : List ℕ} {o : Operand E} → OperandText T xs o ys → BasicText T A xs (form.affirmed o) ys
-  negated : {xs ys : List ℕ} {o : Operand E} → OperandText T (after_blanks xs) o ys
+  affirmed : {xs ys : List ℕ} {o : Operand E C} → OperandText T A xs o ys → BasicText T A xs (form.affirmed o) ys
+  negated : {xs ys : List ℕ} {o : Operand E C} → OperandText T A (after_blanks xs) o ys
       → BasicText T A (exclamation_mark ∷ xs) (form.negated o) ys
   comparison : {xs ys zs us : List ℕ} {l r : Comparable E C} {op : ComparisonOperator} → ComparableText T A xs l ys
       → OperatorText (after_blanks ys) op zs → ComparableText T A (after_blanks zs) r us → BasicText T A xs (form.comparison op l r) us

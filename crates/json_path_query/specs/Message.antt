@@ -3,12 +3,11 @@ use Rattle.std.specs.Prelude.{ℕ, List, ◌++◌, codes}
 use Rattle.std.specs.Fmt.{decimal}
 use Rattle.json_path_query.specs.declared.error.ParseError.{ParseError}
 use Rattle.json_path_query.specs.declared.error.ParseErrorKind.{ParseErrorKind}
-use Rattle.json_path_query.specs.declared.error.ParseErrorKind.TheVariants.{Invalid, Unsupported, NumberOutOfRange, TooDeep, OutOfMemory}
+use Rattle.json_path_query.specs.declared.error.ParseErrorKind.TheVariants.{Invalid, NumberOutOfRange, TooDeep, OutOfMemory}
 
 -- the message of a kind
 abbrev pub kind_message : ParseErrorKind → List ℕ
 kind_message Invalid = codes "no query of RFC 9535"
-kind_message Unsupported = codes "match and search are not supported"
 kind_message NumberOutOfRange = codes "a number whose power of ten is out of range"
 kind_message TooDeep = codes "more than 64 expressions in each other"
 kind_message OutOfMemory = codes "out of memory"

@@ -36,7 +36,7 @@ pub(crate) fn begins_call(first: char) -> bool
     first == 'l' || first == 'c' || first == 'v'
 }
 
-/// Whether `match` or `search` begins with the character, and nothing else that may stand in a filter.
+/// Whether `match` or `search` begins with the character, and no value.
 pub(crate) fn begins_pattern(first: char) -> bool
     ensures { result ≡ begins_pattern first }
 {

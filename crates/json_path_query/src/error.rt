@@ -12,8 +12,6 @@ use std::fmt;
 pub enum ParseErrorKind {
     /// The text is no query of RFC 9535.
     Invalid,
-    /// A test by `match` or `search`, which are not supported, stands where a test may stand.
-    Unsupported,
     /// The power of ten of a number that is compared is out of the range of `i64`.
     NumberOutOfRange,
     /// More than 64 logical expressions and arguments of functions stand in each other.
@@ -28,7 +26,6 @@ impl fmt::Display for ParseErrorKind {
     fn fmt<W: fmt::Write>(&self, f: &mut fmt::Formatter<W>) -> fmt::Result {
         f.write_str(match self {
             ParseErrorKind::Invalid => "no query of RFC 9535",
-            ParseErrorKind::Unsupported => "match and search are not supported",
             ParseErrorKind::NumberOutOfRange => "a number whose power of ten is out of range",
             ParseErrorKind::TooDeep => "more than 64 expressions in each other",
             ParseErrorKind::OutOfMemory => "out of memory",

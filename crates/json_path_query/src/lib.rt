@@ -15,5 +15,5 @@ mod string;
 pub use error::{ParseError, ParseErrorKind};
 pub use query::{
     Comparable, ComparisonOperator, Expression, FilterQuery, FunctionExpression, Literal, Origin,
-    Query, Segment, Selector, SingularQuery, SingularSegment,
+    PatternFunction, Query, Segment, Selector, SingularQuery, SingularSegment,
 };

@@ -9,6 +9,7 @@ ghost use Rattle.json_path_query.specs.Fronts.{shorthand_front, selector_front, 
 ghost use Rattle.json_path_query.specs.Fronts.{begins_segment, segment_front, segments_front, operand_front};
 ghost use Rattle.json_path_query.specs.Fronts.{basic_front, conjunction_front, expression_front, argument_front};
 ghost use Rattle.json_path_query.specs.Fronts.{comparable_front, function_front, filter_query_front, closed_front};
+ghost use Rattle.json_path_query.specs.Fronts.{pattern_front, arguments_front};
 ghost use Rattle.json_path_query.specs.Reading.{Reads, ReadsQuery, Fronts, FrontsAs};
 
 use crate::comparable::{
@@ -20,8 +21,8 @@ use crate::lexical::{
     push_name_chars,
 };
 use crate::query::{
-    Comparable, Expression, FilterQuery, FunctionExpression, Query, Segment, Selector,
-    SingularQuery,
+    Comparable, Expression, FilterQuery, FunctionExpression, PatternFunction, Query, Segment,
+    Selector, SingularQuery,
 };
 use crate::string::quoted;
 use std::alloc::{AllocError, Global};
@@ -30,8 +31,8 @@ use std::alloc::{AllocError, Global};
 const NESTING_LIMIT: usize = 64;
 
 impl Query {
-    /// Reads the text of a query (RFC 9535), but for `match` and `search`, with at most 64 logical
-    /// expressions and arguments of functions in each other. After an error nothing is left of what was read.
+    /// Reads the text of a query (RFC 9535), with at most 64 logical expressions and arguments of
+    /// functions in each other. After an error nothing is left of what was read.
     ///
     /// ```
     /// let query = Query::parse(alloc, "$.store.book[*].author")?;
@@ -317,51 +318,46 @@ fn basic<'t>(
     ))
 }
 
-/// Why no test of a query or of an expression in parentheses stands here: it may be one by `match` or `search`.
+/// Reads a test by `match` or `search` (RFC 9535, 2.4.6 and 2.4.7), and the blanks after it.
 #[cycle(reader)]
-fn test_refused(alloc: Global, levels: usize, text: &[char]) -> Refusal {
-    let Some(arguments) = behind_pattern_name(text) else {
-        return Refusal::invalid(text);
-    };
-    match pattern_arguments(alloc, levels, arguments) {
-        Ok(after) => test_unsupported(text, after_blanks(after)),
-        Err(refusal) => refusal,
-    }
-}
-
-/// Why a test by `match` or `search` is refused that stands here, before the rest: no operator may follow it.
-fn test_unsupported(text: &[char], rest: &[char]) -> Refusal {
-    if operator(rest).is_some() {
-        return Refusal::invalid(rest);
-    }
-    Refusal {
-        kind: ParseErrorKind::Unsupported,
-        left: text.len(),
-    }
-}
-
-/// What follows the name of a function of regular expressions (RFC 9535, 2.4.6 and 2.4.7) and its parenthesis.
-fn behind_pattern_name(text: &[char]) -> Option<&[char]> {
+fn pattern_test<'t>(
+    alloc: Global,
+    levels: usize,
+    text: &'t [char],
+) -> Result<(Expression, &'t [char]), Refusal>
+    ensures { Fronts (IsOperand (IsExpression levels) (IsArgument levels))
+        (pattern_front (argument_front levels) text.now) result }
+{
     if let Some(rest) = behind_word(&['m', 'a', 't', 'c', 'h', '('], text) {
-        return Some(rest);
+        return pattern_arguments(alloc, levels, PatternFunction::Match, rest);
     }
-    behind_word(&['s', 'e', 'a', 'r', 'c', 'h', '('], text)
+    let Some(rest) = behind_word(&['s', 'e', 'a', 'r', 'c', 'h', '('], text) else {
+        return Err(Refusal::invalid(text));
+    };
+    pattern_arguments(alloc, levels, PatternFunction::Search, rest)
 }
 
-/// What follows the two values that such a function takes, and the parenthesis that ends it.
+/// Reads the two values that such a function takes, the parenthesis that ends it, and the blanks after it.
 #[cycle(reader)]
 fn pattern_arguments<'t>(
     alloc: Global,
     levels: usize,
+    function: PatternFunction,
     text: &'t [char],
-) -> Result<&'t [char], Refusal> {
-    let (_value, after) = argument(alloc, levels, after_blanks(text))?;
+) -> Result<(Expression, &'t [char]), Refusal>
+    ensures { Fronts (IsOperand (IsExpression levels) (IsArgument levels))
+        (arguments_front (argument_front levels) function text.now) result }
+{
+    let (value, after) = argument(alloc, levels, after_blanks(text))?;
     let rest = after_blanks(after);
-    let Some(pattern) = behind(',', rest) else {
+    let Some(second) = behind(',', rest) else {
         return Err(Refusal::invalid(rest));
     };
-    let (_pattern, after) = value_argument(alloc, levels, pattern)?;
-    Ok(after)
+    let (pattern, behind) = value_argument(alloc, levels, second)?;
+    Ok((
+        Expression::Pattern(function, value, pattern),
+        after_blanks(behind),
+    ))
 }
 
 /// Reads what may stand beside an operator.
@@ -488,15 +484,15 @@ fn filter_query<'t>(
     Ok((FilterQuery { origin, segments }, after))
 }
 
-/// Reads an expression in parentheses or a test of a query, and the blanks after it.
+/// Reads an expression in parentheses or a test, and the blanks after it.
 #[cycle(reader)]
 fn operand<'t>(
     alloc: Global,
     levels: usize,
     text: &'t [char],
 ) -> Result<(Expression, &'t [char]), Refusal>
-    ensures { Fronts (IsOperand (IsExpression levels))
-        (operand_front (expression_front levels) text.now) result }
+    ensures { Fronts (IsOperand (IsExpression levels) (IsArgument levels))
+        (operand_front (expression_front levels) (argument_front levels) text.now) result }
 {
     let Some((first, rest)) = text.split_first() else {
         return Err(Refusal::invalid(text));
@@ -509,7 +505,7 @@ fn operand<'t>(
         return Ok((condition, after_blanks(behind)));
     }
     let Some(origin) = origin(*first) else {
-        return Err(test_refused(alloc, levels, text));
+        return pattern_test(alloc, levels, text);
     };
     let (segments, after) = segments(alloc, levels, rest)?;
     Ok((

@@ -51,6 +51,17 @@ pub enum Expression {
     Comparison(ComparisonOperator, Comparable, Comparable),
     /// Holds if the query selects some node.
     Test(FilterQuery),
+    /// `match` or `search` (RFC 9535, 2.4.6 and 2.4.7) of a value and, behind it, a regular expression.
+    Pattern(PatternFunction, Comparable, Comparable),
+}
+
+/// A function of regular expressions (RFC 9485), which is a test.
+#[derive(Clone, Copy)]
+pub enum PatternFunction {
+    /// `match`: holds if the whole of a string is matched.
+    Match,
+    /// `search`: holds if a part of it is.
+    Search,
 }
 
 #[derive(Clone, Copy)]

@@ -1,7 +1,7 @@
 use Rattle.std.proofs.Common.{◌≡◌, ◌∙◌, ◌∷◌, [], ◌++◌, ◌<◌, ◌-◌, true, false, None, Some, length, sym, ap, refl, subst, rules, arith}
 use Rattle.std.specs.Prelude.{option_map}
 use Rattle.json_path_query.specs.Forms as form
-use Rattle.json_path_query.specs.Forms.{Each, IsPlain, IsSelector, AreSelectorsIn, IsSegment, AreSegmentsIn, IsOperand, IsBasic}
+use Rattle.json_path_query.specs.Forms.{Each, IsPlain, IsSelector, AreSelectorsIn, IsSegment, AreSegmentsIn, IsBasic}
 use Rattle.json_path_query.specs.Forms.{IsConjunction}
 use Rattle.json_path_query.specs.Forms.{IsExpression, IsArgument, IsDisjunction}
 use Rattle.json_path_query.specs.Fronts.{begins_segment, selector_front, selection_turn, selection_front, segment_front, segments_turn}
@@ -10,7 +10,7 @@ use Rattle.json_path_query.specs.Fronts.{expression_front, argument_front, behin
 use Rattle.json_path_query.specs.Fronts.{filter_query_front}
 use Rattle.json_path_query.specs.Reading.{IsRest}
 use Rattle.json_path_query.proofs.Turns.{goes_init, goes_more, goes_last, goes_end, goes_none}
-use Rattle.json_path_query.proofs.Refusals.{refused_as, fronts_map, each_none, each_pushed}
+use Rattle.json_path_query.proofs.Refusals.{refused_as, fronts_from, fronts_map, each_none, each_pushed}
 use Rattle.json_path_query.proofs.Levels.{
   selection_shortens,
   segments_shortens,
@@ -22,7 +22,8 @@ use Rattle.json_path_query.proofs.Levels.{conjunction_smaller, segment_smaller, 
 use Rattle.json_path_query.proofs.Levels.{selection_at, selection_none, segments_end, segments_more, segments_none, descendant_bracket}
 use Rattle.json_path_query.proofs.Levels.{descendant_short, segment_bracket, segment_short, closed_at}
 use Rattle.json_path_query.proofs.Levels.{query_from, call_from, literal_from, length_from, count_from, value_from, closed_from, begun_from}
-use Rattle.json_path_query.proofs.Levels.{argument_at, pattern_from, basics_at, conjunctions_at, IsBasicAt, IsConjunctionAt}
+use Rattle.json_path_query.proofs.Levels.{argument_at, pattern_from, basics_at, conjunctions_at, IsOperandAt, IsBasicAt, IsConjunctionAt}
+use Rattle.json_path_query.proofs.Levels.{pattern_at, match_from, search_from, arguments_at}
 use Rattle.json_path_query.proofs.Levels.{operated_from, compared_at, tested_at, negated_from, affirmed_from, joined_at, joined_none}
 use Rattle.json_path_query.proofs.Levels.{separator_nothing}
 use Rattle.json_path_query.proofs.Levels.{separator_closes, separator_more, separator_other, one_selector, expression_at, expression_none}
@@ -209,12 +210,12 @@ basic-returns-then-first-eq33 t c =
       negated_from (expression_front c.args.levels) (argument_front c.args.levels) c.args.text.now _ _ c.in-Some.first.now
           c.in-Some.ensures.cases.0
           c.if-first-eq33.true c.after_blanks.ensures ∙ ap (option_map as_negated) s.1,
-      (c.in_ok-new.field-0, refl, subst (IsOperand (IsExpression c.args.levels) s.0) (sym c.in_ok-new.ensures.ok) s.2),
+      (c.in_ok-new.field-0, refl, subst (IsOperandAt c.args.levels s.0) (sym c.in_ok-new.ensures.ok) s.2),
     )
 
 pub basic-returns-then-first-eq40 : goal.basic-returns-then-first-eq40
 basic-returns-then-first-eq40 t c =
-    fronts_map (IsOperand (IsExpression c.args.levels)) (IsBasicAt c.args.levels) form.affirmed _ _ c.operand-then-first-eq40.result
+    fronts_map (IsOperandAt c.args.levels) (IsBasicAt c.args.levels) form.affirmed _ _ c.operand-then-first-eq40.result
     (affirmed_from (expression_front c.args.levels) (argument_front c.args.levels) c.args.text.now _ c.in-Some.first.now
     c.in-Some.ensures.cases.0 c.if-first-eq40.true)
     (λ v x h. h) c.operand-then-first-eq40.ensures
@@ -222,31 +223,32 @@ basic-returns-then-first-eq40 t c =
 pub basic-returns-then-begins_pattern : goal.basic-returns-then-begins_pattern
 basic-returns-then-begins_pattern t c =
     let pattern : begins_pattern c.in-Some.first.now ≡ true = search rules in
-    fronts_map (IsOperand (IsExpression c.args.levels)) (IsBasicAt c.args.levels) form.affirmed _ _
-    c.operand-then-begins_pattern.result
+    fronts_map (IsOperandAt c.args.levels) (IsBasicAt c.args.levels) form.affirmed _ _ c.operand-then-begins_pattern.result
     (pattern_from (expression_front c.args.levels) (argument_front c.args.levels) c.args.text.now _ c.in-Some.first.now
-    c.in-Some.ensures.cases.0 pattern)
+    c.in-Some.ensures.cases.0 c.if-first-eq33.false c.if-first-eq40.false pattern)
     (λ v x h. h) c.operand-then-begins_pattern.ensures
 
 pub basic-returns-in_default-operator : goal.basic-returns-in_default-operator
 basic-returns-in_default-operator t c =
     let l = c.in_ok-left.ensures in
-    fronts_map (IsOperand (IsExpression c.args.levels)) (IsBasicAt c.args.levels) form.affirmed _ _ c.operand-in_default-operator.result
+    let other : begins_pattern c.in-Some.first.now ≡ false = search rules in
+    fronts_map (IsOperandAt c.args.levels) (IsBasicAt c.args.levels) form.affirmed _ _ c.operand-in_default-operator.result
     (operated_from (expression_front c.args.levels) (argument_front c.args.levels) c.args.text.now _ c.in-Some.first.now l.0
     c.in_ok-left.after.now _ None
-    c.in-Some.ensures.cases.0 c.if-first-eq33.false c.if-first-eq40.false l.1 c.after_blanks-2.ensures c.in_default-operator.ensures)
+    c.in-Some.ensures.cases.0 c.if-first-eq33.false c.if-first-eq40.false other l.1 c.after_blanks-2.ensures c.in_default-operator.ensures)
     (λ v x h. h) c.operand-in_default-operator.ensures
 
 pub basic-returns : goal.basic-returns
 basic-returns t c =
     let l = c.in_ok-left.ensures in
-    let r = c.in_ok-right.ensures in (
+    let r = c.in_ok-right.ensures in
+    let other : begins_pattern c.in-Some.first.now ≡ false = search rules in (
       form.comparison c.in-Some-operator.operator l.0 r.0,
       compared_at (expression_front c.args.levels) (argument_front c.args.levels) c.args.text.now _ c.in-Some.first.now l.0 r.0
           c.in-Some-operator.operator
           c.in_ok-left.after.now _ c.in-Some-operator.behind.now _ c.in_ok-right.rest.now _ c.in-Some.ensures.cases.0
-          c.if-first-eq33.false c.if-first-eq40.false l.1 c.after_blanks-2.ensures c.in-Some-operator.ensures c.after_blanks-3.ensures
-          r.1 c.after_blanks-4.ensures,
+          c.if-first-eq33.false c.if-first-eq40.false other l.1 c.after_blanks-2.ensures c.in-Some-operator.ensures
+          c.after_blanks-3.ensures r.1 c.after_blanks-4.ensures,
       (c.in_ok-left.left, c.in_ok-right.right, refl, l.2, r.2),
     )
 
@@ -254,7 +256,8 @@ pub operand-returns-then-first-eq40 : goal.operand-returns-then-first-eq40
 operand-returns-then-first-eq40 t c =
     let s = c.in_ok-condition.ensures in (
       form.parenthesized s.0,
-      closed_at (expression_front c.args.levels) c.args.text.now _ _ _ _ _ c.in-Some.first.now s.0 c.in-Some.ensures.cases.0
+      closed_at (expression_front c.args.levels) (argument_front c.args.levels) c.args.text.now _ _ _ _ _ c.in-Some.first.now s.0
+          c.in-Some.ensures.cases.0
           c.if-first-eq40.true c.after_blanks.ensures s.1 c.in-Some-behind.ensures c.after_blanks-then-first-eq40.ensures,
       s.2,
     )
@@ -263,10 +266,17 @@ pub operand-returns : goal.operand-returns
 operand-returns t c =
     let s = c.in_ok-segments.ensures in (
       form.test c.in-Some-origin.origin s.0,
-      tested_at (expression_front c.args.levels) c.args.text.now _ _ _ c.in-Some.first.now c.in-Some-origin.origin s.0
+      tested_at (expression_front c.args.levels) (argument_front c.args.levels) c.args.text.now _ _ _ c.in-Some.first.now
+          c.in-Some-origin.origin s.0
           c.in-Some.ensures.cases.0 c.if-first-eq40.false (sym c.origin.ensures ∙ c.in-Some-origin.is) s.1 c.after_blanks-2.ensures,
       (c.in_ok-segments.segments, refl, s.2),
     )
+
+pub operand-returns-in_default-origin : goal.operand-returns-in_default-origin
+operand-returns-in_default-origin t c =
+    fronts_from (IsOperandAt c.args.levels) _ _ c.pattern_test.result
+    (pattern_at (expression_front c.args.levels) (argument_front c.args.levels) c.args.text.now _ c.in-Some.first.now
+    c.in-Some.ensures.cases.0 c.if-first-eq40.false (sym c.origin.ensures ∙ c.in_default-origin.is)) c.pattern_test.ensures
 
 pub conjunction-loop-conditions-init : goal.conjunction-loop-conditions-init
 conjunction-loop-conditions-init t c = (
@@ -364,6 +374,27 @@ expression-returns-in_err-alternative t c =
     (goes_none (joined_turn 124 (conjunctions_at (c.args.levels - 1))) (disjunction_shortens (c.args.levels - 1))
     c.args.text.now held.0 c.loop-alternatives.rest.now held.2
     (joined_none (conjunctions_at (c.args.levels - 1)) 124 c.loop-alternatives.rest.now none)))
+
+pub pattern_test-returns-in-Some : goal.pattern_test-returns-in-Some
+pattern_test-returns-in-Some t c =
+    fronts_from (IsOperandAt c.args.levels) _ _ c.pattern_arguments.result
+    (match_from (argument_front c.args.levels) c.args.text.now _ _ c.in-Some.ensures refl) c.pattern_arguments.ensures
+
+pub pattern_test-returns : goal.pattern_test-returns
+pattern_test-returns t c =
+    fronts_from (IsOperandAt c.args.levels) _ _ c.pattern_arguments-2.result
+    (search_from (argument_front c.args.levels) c.args.text.now _ _ c.in_default.ensures c.in-Some-behind_word.ensures refl)
+    c.pattern_arguments-2.ensures
+
+pub pattern_arguments-returns : goal.pattern_arguments-returns
+pattern_arguments-returns t c =
+    let v = c.in_ok-value.ensures in
+    let p = c.in_ok-pattern.ensures in (
+      form.pattern c.args.function v.0 p.0,
+      arguments_at (argument_front c.args.levels) c.args.function c.args.text.now _ c.in_ok-value.after.now _ _ c.in_ok-pattern.behind.now
+          _ v.0 p.0 c.after_blanks.ensures v.1 c.after_blanks-rest.ensures c.in-Some.ensures p.1 c.after_blanks-2.ensures,
+      (c.in_ok-value.value, c.in_ok-pattern.pattern, refl, v.2, p.2),
+    )
 
 pub comparable-returns-in-Some-origin : goal.comparable-returns-in-Some-origin
 comparable-returns-in-Some-origin t c =

@@ -16,8 +16,8 @@ decreases-conjunction l = 20 * l.levels + 18
 abbrev pub decreases-basic : goal.decreases-basic
 decreases-basic l = 20 * l.levels + 17
 
-abbrev pub decreases-test_refused : goal.decreases-test_refused
-decreases-test_refused l = 20 * l.levels + 15
+abbrev pub decreases-pattern_test : goal.decreases-pattern_test
+decreases-pattern_test l = 20 * l.levels + 15
 
 abbrev pub decreases-pattern_arguments : goal.decreases-pattern_arguments
 decreases-pattern_arguments l = 20 * l.levels + 14
