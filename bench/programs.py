@@ -131,16 +131,21 @@ def original(folder, work):
     return {mode: [built, mode] for mode in ("text", "indented", "lines")}
 
 
-def built(name, work, text):
-    """A program of this repository, proved and built where it stands; the text is for its first run."""
+def built(name, work, text, *words):
+    """A program of this repository, proved and built where it stands; the text and the words are for its first run."""
     crate = TOP / "crates" / name
-    quietly(["rt", "run"], crate, text)
+    quietly(["rt", "run", "--", *words], crate, text)
     return str(shutil.copy2(crate / "out" / name, work / name))
 
 
 def ours(work):
     """The programs of this repository: `jsonnorm`, and for lines `json_lines`."""
     return of_command([built("jsonnorm", work, "null")]) | {"lines": [built("json_lines", work, "null\n")]}
+
+
+def values(work):
+    """A text read into a value that is written again and freed: `json_part`, asked for the whole."""
+    return {"text": [built("json_part", work, "null", ""), ""]}
 
 
 def of_command(command):

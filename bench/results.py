@@ -116,9 +116,10 @@ def document(tables, names, runs):
     for title, rows in tables.items():
         parts += [f"## {title}", markdown(rows, names)]
         parts += [f"Times as long: {line}." for line in growth(title, rows, names)]
-        below = [f"{row.name} {row.speed('jsonnorm'):.2f} (memory {row.memory('jsonnorm'):.2f})" for row in slower(rows, "jsonnorm")]
-        if below:
-            parts.append("Slower than the original: " + "; ".join(below) + ".")
+        for name in ("jsonnorm", "values"):
+            below = [f"{row.name} {row.speed(name):.2f} (memory {row.memory(name):.2f})" for row in slower(rows, name)]
+            if below:
+                parts.append(f"Of `{name}` slower than the original: " + "; ".join(below) + ".")
     return "\n\n".join(parts) + "\n"
 
 
