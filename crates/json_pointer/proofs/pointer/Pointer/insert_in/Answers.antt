@@ -13,7 +13,7 @@ returns-in-Some c =
     let last = c.in-Some.last.now in
     let whole = array (boxes_view c.args.items.now.items) in
     subst (λ k. Inserts (with_child whole k (view c.args.part.value)) whole c.insert_at.result
-        (array (boxes_view c.insert_at.new.items.items)))
+    (array (boxes_view c.insert_at.new.items.items)))
     (ap chars c.as_str.ensures.value
     ∙ sym (ap child_name (split_tokens c.args.self.now.tokens.items front last (sym c.as_slice.ensures.value ∙ c.in-Some.ensures.cases.0))
     ∙ name_is (map text front) (text last)))
