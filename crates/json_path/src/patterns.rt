@@ -119,6 +119,8 @@ impl Patterns {
 
     /// Whether the function holds of the value and the pattern, which is kept if it stands in the query.
     /// Both are given up.
+    // Inlined, it would double what each level of a filter takes of the stack.
+    #[inline(never)]
     pub(crate) fn test(
         &mut self,
         alloc: Global,
@@ -161,6 +163,7 @@ impl Patterns {
     }
 
     /// A pattern that is kept is read if it was not before.
+    #[inline(never)]
     fn of_strings(
         &mut self,
         alloc: Global,
