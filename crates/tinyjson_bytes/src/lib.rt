@@ -10,6 +10,6 @@ mod runs;
 mod sorting;
 
 pub use copies::{copy, put};
-pub use plain::{is_plain, plain_end};
-pub use runs::{digits_end, is_white, white_end};
+pub use plain::{Plain, is_plain, plain_end};
+pub use runs::{Class, Digit, digits_end, is_white, white_end};
 pub use sorting::presort;

@@ -8,7 +8,7 @@ use crate::runs::{Class, Lanes, bytes_end, run_end};
 use std::simd::prelude::*;
 
 /// What a string shows as it is: no quotation mark, backslash or control character.
-struct Plain;
+pub struct Plain;
 
 impl Class for Plain {
     ghost test = { is_plain };

@@ -9,7 +9,7 @@ ghost use Rattle.tinyjson_bytes.specs.Scan.{fails};
 use std::simd::prelude::*;
 
 /// A class of characters.
-pub(crate) trait Class {
+pub trait Class {
     ghost test: { ℕ → Bool };
 
     /// Whether the character is of the class.
@@ -37,7 +37,7 @@ pub(crate) trait Lanes: Class {
 struct White;
 
 /// The digits 0 to 9.
-struct Digit;
+pub struct Digit;
 
 impl Class for White {
     ghost test = { is_white };

@@ -1,11 +1,9 @@
 -- How a cursor over an iterator goes on.
-use Rattle.std.proofs.Common.{◌≡◌, ℕ, Bool, true, false, not, is_some, List, [], ◌∷◌, ◌++◌, Option, Some, None, refl, sym, ap, ◌∙◌, ◌<◌}
+use Rattle.std.proofs.Common.{◌≡◌, ℕ, Bool, true, false, not, is_some, List, [], ◌∷◌, ◌++◌, Option, Some, None, refl, sym, ap, ◌∙◌, ◌<◌, ◌≢◌}
 use Rattle.std.proofs.Common.{◌+◌, arith, true≢false, append_assoc, subst, Result, Ok, Err, OnOk}
-use Rattle.std.specs.Char.{is_ascii_digit}
 use Rattle.std.specs.Option.{option_to_list}
 use Rattle.std.specs.Iterator.{Count, MakesProgress}
 use Rattle.std.proofs.lemmas.Bool.Decides.{nat_tests}
-use Rattle.tinyjson_bytes.specs.Scan.{is_plain}
 use Rattle.tinyjson_tokens.specs.declared.cursor.Cursor.{Cursor}
 use Rattle.tinyjson_tokens.specs.Cursor.{Ready, Gives, Begins, Shows, Goes, place}
 use Rattle.tinyjson_grammar.specs.Position.{advance, capped, position_at}
@@ -56,23 +54,19 @@ module _ {S : Type 0} (steps : S → Option ℕ → S → Type 0) where
 
 -- ---- what calls took
 
--- nor is a digit
-pub digit_column : (l k c n : ℕ) → l < 18446744073709551616 → is_ascii_digit c ≡ true → n ≡ capped (k + 1)
+-- in a class without the line feed each character takes one column
+pub run_column : (test : ℕ → Bool) (l k c n : ℕ) → l < 18446744073709551616 → test 10 ≡ false → test c ≡ true → n ≡ capped (k + 1)
     → position_at l n ≡ advance (position_at l k) (c ∷ [])
 unfolding advance
-digit_column l k c n h p e = grind (arith, nat_tests)
+run_column test l k c n h line p e =
+    let other : c ≢ 10 = λ is. true≢false (sym p ∙ ap test is ∙ line) in
+    grind (arith, nat_tests)
 
 -- what was added to a text that grew before
 pub OnOk_append : {E : Type 0} (r : Result (Unit {0}) E) (new ys old xs mid : List ℕ) → mid ≡ old ++ xs → OnOk r (new ≡ mid ++ ys)
     → OnOk r (new ≡ old ++ (xs ++ ys))
 OnOk_append (Ok u) new ys old xs mid m h = h ∙ ap (λ t. t ++ ys) m ∙ append_assoc old xs ys
 OnOk_append (Err e) new ys old xs mid m h = tt
-
--- a plain character is no line feed
-pub plain_column : (l k c n : ℕ) → l < 18446744073709551616 → is_plain c ≡ true → n ≡ capped (k + 1)
-    → position_at l n ≡ advance (position_at l k) (c ∷ [])
-unfolding advance
-plain_column l k c n h p e = grind (arith, nat_tests)
 
 module _ {S : Type 0} (steps : S → Option ℕ → S → Type 0) where
   pub Goes_nil : (p : Cursor S) → p.line < 18446744073709551616 → p.column < 18446744073709551616 → Goes steps p [] p

@@ -15,7 +15,10 @@ use Rattle.std.proofs.lemmas.Str.{chars_past_char, drop_past_char, IsUtf8-take, 
 use Rattle.std.proofs.lemmas.Str.{IsCharBoundary-after_ascii, length-encode, len_utf8_bounds}
 use Rattle.std.proofs.Math.Seq.{take-append_seam}
 use Rattle.std.proofs.lemmas.Bool.Decides.{nat_tests}
-use Rattle.tinyjson_grammar.specs.Characters.{is_white}
+use Rattle.std.proofs.lemmas.Str.{encodes-append, encodes-IsAscii, IsUtf8-string_bytes}
+use Rattle.std.specs.declared.alloc.Global.{Global}
+use Rattle.std.specs.Prelude.{OnOk, Result, Ok, Err, String, string_bytes}
+use Rattle.tinyjson_grammar.specs.Characters.{is_white, text}
 use Rattle.tinyjson_bytes.specs.Scan.{is_plain}
 use Rattle.tinyjson_grammar.specs.Position.{advance, origin}
 use Rattle.tinyjson_tokens.specs.Slice.{before, chars_after, run_end, NextChar}
@@ -219,6 +222,28 @@ module _ (p : ℕ → Bool) (ascii : (b : ℕ) → p b ≡ true → b < 128) whe
 
 pub digit_small : (c : ℕ) → is_ascii_digit c ≡ true → c < 128
 digit_small c h = grind (arith, nat_tests)
+
+-- digits that were added to a text were added to its bytes
+module _ (s t : String Global) (ds : List ℕ) (all : AllByRecursion (λ c. is_ascii_digit c ≡ true) ds) where
+  digits_added : text t ≡ text s ++ ds → string_bytes t ≡ string_bytes s ++ ds
+  digits_added e =
+      sym (encodes-chars (string_bytes t) (IsUtf8-string_bytes t)) ∙ ap encode_utf8_all e ∙ encodes-append (text s) ds
+      ∙ (ap (λ bs. bs ++ encode_utf8_all ds) (encodes-chars (string_bytes s) (IsUtf8-string_bytes s))
+      ∙ ap (λ bs. string_bytes s ++ bs) (encodes-IsAscii ds (small is_ascii_digit digit_small ds all)))
+
+  pub OnOk_digits : {E : Type 0} (r : Result (Unit {0}) E) → OnOk r (text t ≡ text s ++ ds) → OnOk r (string_bytes t ≡ string_bytes s ++ ds)
+  OnOk_digits (Ok u) e = digits_added e
+  OnOk_digits (Err x) e = tt
+
+  pub OnOk_fewer : {E : Type 0} (r : Result (Unit {0}) E) (m n : ℕ) → OnOk r (text t ≡ text s ++ ds)
+      → OnOk r (m + length (text t) ≤ n + length (text s)) → OnOk r (m + length (string_bytes t) ≤ n + length (string_bytes s))
+  OnOk_fewer (Ok u) m n e h = omega (
+    arith,
+    h,
+    ap length e ∙ length-append (text s) ds,
+    ap length (digits_added e) ∙ length-append (string_bytes s) ds,
+  )
+  OnOk_fewer (Err x) m n e h = tt
 
 pub white_small : (c : ℕ) → is_white c ≡ true → c < 128
 white_small c h = grind (arith, nat_tests)

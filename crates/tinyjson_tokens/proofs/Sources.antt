@@ -1,10 +1,8 @@
 -- How a source goes on.
-use Rattle.std.proofs.Common.{◌≡◌, ℕ, true, List, [], ◌∷◌, ◌++◌, Option, Some, None, MatchOption, refl, sym, ap, ◌∙◌, subst, append_assoc}
-use Rattle.std.proofs.Common.{append-nil}
+use Rattle.std.proofs.Common.{◌≡◌, ℕ, List, [], ◌∷◌, ◌++◌, Option, Some, None, MatchOption, refl, sym, ap, ◌∙◌, subst, append_assoc}
 use Rattle.std.specs.List.{AllByRecursion}
-use Rattle.tinyjson_grammar.specs.Characters.{is_white}
 use Rattle.tinyjson_grammar.specs.Position.{advance}
-use Rattle.tinyjson_tokens.specs.Source.{Sight, Takes, Whites}
+use Rattle.tinyjson_tokens.specs.Source.{Sight, Takes}
 use Rattle.tinyjson_grammar.proofs.Callers.{advance_append, advance_nil}
 
 pub AllByRecursion_push : (P : ℕ → Type 0) (xs : List ℕ) (y : ℕ) → AllByRecursion P xs → P y → AllByRecursion P (xs ++ y ∷ [])
@@ -32,25 +30,3 @@ module _ {S : Type 0} (sight : Sight S) where
   pub Takes_shown : (p q : S) (c : ℕ) (o : Option ℕ) → o ≡ Some c → MatchOption o (Takes sight p [] q × sight.shows q None)
       (λ d. Takes sight p (d ∷ []) q) → Takes sight p (c ∷ []) q
   Takes_shown p q c o e m = subst (λ u. MatchOption u (Takes sight p [] q × sight.shows q None) (λ d. Takes sight p (d ∷ []) q)) e m
-
-  -- a look ahead
-  pub Takes_peek : (p q r : S) (xs : List ℕ) → Takes sight p xs q → Takes sight q [] r → Takes sight p xs r
-  Takes_peek p q r xs a b = subst (λ t. Takes sight p t r) (append-nil xs) (Takes_append p q r xs [] a b)
-
-  -- white space, and nothing more, was taken
-  pub Whites_nil : (p : S) → Whites sight p p
-  Whites_nil p = record { taken = []; white = tt; takes = Takes_nil p }
-
-  pub Whites_peek : (p q r : S) → Whites sight p q → Takes sight q [] r → Whites sight p r
-  Whites_peek p q r a b = record { taken = a.taken; white = a.white; takes = Takes_peek p q r a.taken a.takes b }
-
-  -- the character that was shown, white space, was taken too
-  pub Whites_bump : (p q r s : S) (c : ℕ) (o : Option ℕ) → Whites sight p q → Takes sight q [] r → is_white c ≡ true → o ≡ Some c
-      → MatchOption o (Takes sight r [] s × sight.shows s None) (λ d. Takes sight r (d ∷ []) s) → Whites sight p s
-  Whites_bump p q r s c o a b w e m =
-      let h = Whites_peek p q r a b in
-      record {
-        taken = h.taken ++ c ∷ [];
-        white = AllByRecursion_push (λ d. is_white d ≡ true) h.taken c h.white w;
-        takes = Takes_append p r s h.taken (c ∷ []) h.takes (Takes_shown r s c o e m);
-      }

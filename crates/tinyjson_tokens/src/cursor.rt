@@ -1,19 +1,17 @@
 //! The place among the characters of an iterator.
 ghost use Rattle.std.specs.Prelude.{◌≡◌, ◌+◌, ◌<◌, ◌≤◌, ◌∷◌, [], List, ℕ, false, None, IfSome};
-ghost use Rattle.std.specs.Prelude.{OnOk, Option, length, string_bytes};
-ghost use Rattle.std.specs.Char.{is_ascii_digit};
+ghost use Rattle.std.specs.Prelude.{OnOk, Option, length};
 ghost use Rattle.std.specs.Iterator.{IsFinite};
 ghost use Rattle.tinyjson_tokens.specs.Cursor.{Ready, Begins, Gives, Goes, HasPlace, Runs, Skips};
 ghost use Rattle.tinyjson_tokens.specs.Cursor.{EndsRun, Shows, left, place};
 ghost use Rattle.tinyjson_tokens.specs.Cursor.Laws.{nothing_left, shown_first, shown_once};
 ghost use Rattle.tinyjson_grammar.specs.Characters.{is_white, text};
-ghost use Rattle.tinyjson_bytes.specs.Scan.{is_plain};
 ghost use Rattle.tinyjson_grammar.specs.Position.{advance, position_at, origin};
 
 use crate::source::Source;
 use crate::utf16::push;
 use std::alloc::AllocError;
-use tinyjson_bytes::{is_plain, is_white};
+use tinyjson_bytes::{Class, Digit, Plain, is_white};
 
 /// The characters that are left, one of which may have been looked at, and the position.
 #[derive(Drop)]
@@ -50,60 +48,28 @@ fn advance(line: usize, column: usize, c: char) -> (usize, usize)
 }
 
 impl<I: Iterator<Item = char>> Cursor<I> {
-    /// Takes plain characters straight from the iterator, and looks at the character after them.
-    fn draw_plain(&mut self, string: &mut String) -> Result<(), AllocError>
+    /// Takes characters of a class straight from the iterator, and looks at the character after them.
+    fn draw_run<C: Class>(&mut self, string: &mut String) -> Result<(), AllocError>
         requires ready { Ready I.can_next I.remaining self.old }
         requires place { HasPlace self.old }
         requires none { self.old.peeked ≡ None }
         requires more { self.old.done ≡ false }
+        requires line { C.test 10 ≡ false }
         ensures ready { Ready I.can_next I.remaining self.new }
         ensures place { HasPlace self.new }
-        ensures run { Runs I.next_gives is_plain self.old (text string.old) result
+        ensures run { Runs I.next_gives C.test self.old (text string.old) result
             (text string.new) self.new }
+        ensures stops { OnOk result (EndsRun C.test self.new) }
         ensures left { left I.remaining self.new ≤ left I.remaining self.old }
+        ensures fewer { OnOk result (left I.remaining self.new + length (text string.new)
+            ≤ left I.remaining self.old + length (text string.old)) }
     {
         let mut column = self.column;
         loop {
             let next = self.it.next();
             match next {
-                Some(c) if is_plain(c) => {
+                Some(c) if C::passes(c) => {
                     if push(string, c).is_err() {
-                        self.peeked = next;
-                        self.column = column;
-                        return Err(AllocError);
-                    }
-                    column = column.saturating_add(1);
-                }
-                _ => {
-                    self.peeked = next;
-                    self.done = next.is_none();
-                    self.column = column;
-                    return Ok(());
-                }
-            }
-        }
-    }
-
-    /// Takes digits straight from the iterator, and looks at the character after them.
-    fn draw_digits(&mut self, buffer: &mut String) -> Result<(), AllocError>
-        requires ready { Ready I.can_next I.remaining self.old }
-        requires place { HasPlace self.old }
-        requires none { self.old.peeked ≡ None }
-        requires more { self.old.done ≡ false }
-        ensures ready { Ready I.can_next I.remaining self.new }
-        ensures place { HasPlace self.new }
-        ensures run { Runs I.next_gives is_ascii_digit self.old (string_bytes buffer.old) result
-            (string_bytes buffer.new) self.new }
-        ensures stops { OnOk result (EndsRun is_ascii_digit self.new) }
-        ensures left { OnOk result (left I.remaining self.new + length (string_bytes buffer.new)
-            ≤ left I.remaining self.old + length (string_bytes buffer.old)) }
-    {
-        let mut column = self.column;
-        loop {
-            let next = self.it.next();
-            match next {
-                Some(c) if c.is_ascii_digit() => {
-                    if buffer.push(c).is_err() {
                         self.peeked = next;
                         self.column = column;
                         return Err(AllocError);
@@ -190,36 +156,48 @@ impl<I: Iterator<Item = char>> Characters<I> {
         self.cursor.column = column;
     }
 
-    /// Takes the plain characters that come next, none of which was looked at.
-    fn take_plain(&mut self, string: &mut String) -> Result<(), AllocError>
-        requires { self.old.cursor.peeked ≡ None }
-        ensures run { Runs I.next_gives is_plain self.old.cursor (text string.old) result
+    /// Takes the characters of a class that come next, none of which was looked at.
+    fn take_run<C: Class>(&mut self, string: &mut String) -> Result<(), AllocError>
+        requires none { self.old.cursor.peeked ≡ None }
+        requires line { C.test 10 ≡ false }
+        ensures run { Runs I.next_gives C.test self.old.cursor (text string.old) result
             (text string.new) self.new.cursor }
+        ensures stops { OnOk result (EndsRun C.test self.new.cursor) }
+        ensures still { (o : Option ℕ) → Shows self.old.cursor o → Shows self.new.cursor o }
         ensures left { left I.remaining self.new.cursor ≤ left I.remaining self.old.cursor }
+        ensures fewer { OnOk result
+            (left I.remaining self.new.cursor + length (text string.new)
+            ≤ left I.remaining self.old.cursor + length (text string.old)) }
     {
         self.ready();
         if self.cursor.done {
             return Ok(());
         }
-        self.cursor.draw_plain(string)
+        self.cursor.draw_run::<C>(string)
     }
 
-    /// Takes the digits that come next, none of which was looked at.
-    fn take_digits(&mut self, buffer: &mut String) -> Result<(), AllocError>
-        requires { self.old.cursor.peeked ≡ None }
-        ensures run { Runs I.next_gives is_ascii_digit self.old.cursor (string_bytes buffer.old)
-            result (string_bytes buffer.new) self.new.cursor }
-        ensures stops { OnOk result (EndsRun is_ascii_digit self.new.cursor) }
-        ensures still { (o : Option ℕ) → Shows self.old.cursor o → Shows self.new.cursor o }
-        ensures left { OnOk result
-            (left I.remaining self.new.cursor + length (string_bytes buffer.new)
-            ≤ left I.remaining self.old.cursor + length (string_bytes buffer.old)) }
+    /// Takes the characters of a class that come next.
+    fn run<C: Class>(&mut self, string: &mut String) -> Result<(), AllocError>
+        requires line { C.test 10 ≡ false }
+        ensures run { Runs I.next_gives C.test self.old.cursor (text string.old) result
+            (text string.new) self.new.cursor }
+        ensures stops { OnOk result (EndsRun C.test self.new.cursor) }
+        ensures still { OnOk result (text string.new ≡ text string.old →
+            (o : Option ℕ) → Shows self.old.cursor o → Shows self.new.cursor o) }
+        ensures left { left I.remaining self.new.cursor ≤ left I.remaining self.old.cursor }
+        ensures fewer { OnOk result
+            (left I.remaining self.new.cursor + length (text string.new)
+            ≤ left I.remaining self.old.cursor + length (text string.old)) }
     {
-        self.ready();
-        if self.cursor.done {
+        let Some(c) = self.cursor.peeked else {
+            return self.take_run::<C>(string);
+        };
+        if !C::passes(c) {
             return Ok(());
         }
-        self.cursor.draw_digits(buffer)
+        push(string, c)?;
+        self.pass(c);
+        self.take_run::<C>(string)
     }
 
     /// Passes over the white space that comes next, none of which was looked at, and shows what follows it.
@@ -284,27 +262,11 @@ impl<I: Iterator<Item = char>> Source for Characters<I> {
     }
 
     fn plain(&mut self, string: &mut String) -> Result<(), AllocError> {
-        let Some(c) = self.cursor.peeked else {
-            return self.take_plain(string);
-        };
-        if !is_plain(c) {
-            return Ok(());
-        }
-        push(string, c)?;
-        self.pass(c);
-        self.take_plain(string)
+        self.run::<Plain>(string)
     }
 
     fn digits(&mut self, buffer: &mut String) -> Result<(), AllocError> {
-        let Some(c) = self.cursor.peeked else {
-            return self.take_digits(buffer);
-        };
-        if !c.is_ascii_digit() {
-            return Ok(());
-        }
-        buffer.push(c)?;
-        self.pass(c);
-        self.take_digits(buffer)
+        self.run::<Digit>(buffer)
     }
 
     fn position(&self) -> (usize, usize) {

@@ -12,9 +12,7 @@ ghost use Rattle.tinyjson_grammar.specs.Position.{position_at};
 ghost use Rattle.tinyjson_tokens.specs.Source.{Sight, Still, Stops, Takes, TakesQuoted, TakesRun};
 ghost use Rattle.tinyjson_tokens.specs.Source.{Whites};
 
-use crate::utf16::push;
 use std::alloc::{AllocError, Global};
-use tinyjson_bytes::{is_plain, is_white};
 
 /// A source of characters, of which the next one can be looked at.
 ///
@@ -53,36 +51,14 @@ pub trait Source: Drop {
         ensures white { Whites sight self.old self.new }
         ensures shows { sight.shows self.new result }
         ensures stops { IfSome result (λ c. is_white c ≡ false) }
-        ensures left { left self.new ≤ left self.old }
-    {
-        loop {
-            let next = self.peek();
-            match next {
-                Some(c) if is_white(c) => {
-                    self.bump();
-                }
-                _ => return next,
-            }
-        }
-    }
+        ensures left { left self.new ≤ left self.old };
 
     /// Takes the plain characters of a string that come next, and adds them to it. Where memory runs out,
     /// some of them may be taken.
     fn plain(&mut self, string: &mut String) -> Result<(), AllocError>
         ensures plain { TakesRun sight is_plain self.old (text string.old) result
             (text string.new) self.new }
-        ensures left { left self.new ≤ left self.old }
-    {
-        loop {
-            match self.peek() {
-                Some(c) if is_plain(c) => {
-                    push(string, c)?;
-                    self.bump();
-                }
-                _ => return Ok(()),
-            }
-        }
-    }
+        ensures left { left self.new ≤ left self.old };
 
     /// Takes a run of plain characters into a string, where few of them are awaited.
     fn letters(&mut self, string: &mut String) -> Result<(), AllocError>
@@ -122,18 +98,7 @@ pub trait Source: Drop {
         ensures still { OnOk result (string_bytes buffer.new ≡ string_bytes buffer.old
             → Still sight self.old self.new) }
         ensures left { OnOk result (left self.new + length (string_bytes buffer.new)
-            ≤ left self.old + length (string_bytes buffer.old)) }
-    {
-        loop {
-            match self.peek() {
-                Some(c) if c.is_ascii_digit() => {
-                    buffer.push(c)?;
-                    self.bump();
-                }
-                _ => return Ok(()),
-            }
-        }
-    }
+            ≤ left self.old + length (string_bytes buffer.old)) };
 
     /// The line and the column after what was consumed.
     fn position(&self) -> (usize, usize)

@@ -1,11 +1,11 @@
-use Rattle.std.proofs.Common.{rules, ◌≡◌, ◌∙◌, ◌∷◌, ◌++◌, [], true, sym, ap, append-nil, append_assoc, subst}
+use Rattle.std.proofs.Common.{rules, ◌≡◌, ◌∙◌, ◌∷◌, ◌++◌, [], true, sym, ap, append-nil, append_assoc, subst, arith, length, length-append, ◌<◌}
 use Rattle.tinyjson_grammar.specs.Position.{advance, position_at}
-use Rattle.tinyjson_bytes.specs.Scan.{is_plain}
 use Rattle.tinyjson_grammar.specs.Characters.{text}
-use Rattle.tinyjson_tokens.proofs.Cursors.{Goes_nil, Goes_filled, Goes_drawn, Ready_filled, plain_column}
+use Rattle.tinyjson_tokens.proofs.Cursors.{Goes_nil, Goes_filled, Goes_drawn, Ready_filled, run_column}
+use Rattle.tinyjson_tokens.specs.Cursor.{left}
 use Rattle.tinyjson_tokens.proofs.Sources.{AllByRecursion_push}
-use Rattle.tinyjson_tokens.proofs.cursor.Cursor.draw_plain.Goals as goal
-use Rattle.tinyjson_tokens.proofs.cursor.Cursor.draw_plain.Goals.{in_default-via-in-Some+else-is_plain, in_default-via-in_default}
+use Rattle.tinyjson_tokens.proofs.cursor.Cursor.draw_run.Goals as goal
+use Rattle.tinyjson_tokens.proofs.cursor.Cursor.draw_run.Goals.{in_default-via-in-Some+else-passes, in_default-via-in_default}
 
 pub loop-c-init : goal.loop-c-init
 loop-c-init g c = let p = c.args.self.now in record {
@@ -18,6 +18,7 @@ loop-c-init g c = let p = c.args.self.now in record {
   column = c.requires.place.1;
   none = c.requires.none;
   more = c.requires.more;
+  fewer = search rules;
   left = search rules;
 }
 
@@ -41,26 +42,29 @@ loop-c-preserved g c =
     let x = c.in-Some.c in
     let i = c.loop-c.invariant in
     let t = i.run.skips in
-    let plain : is_plain x ≡ true = search rules in
+    let passes : g.C.Class.test x ≡ true = search rules in
     let steps = c.in-Some.ensures.steps in
     let place : position_at p.line c.saturating_add-column.result ≡ advance (position_at p.line c.loop-c.column) (x ∷ []) =
-    plain_column p.line c.loop-c.column x c.saturating_add-column.result i.line plain (search rules) in
-    let bytes : text c.push.new.string ≡ text c.loop-c.string ++ x ∷ [] = search rules in
+    run_column g.C.Class.test p.line c.loop-c.column x c.saturating_add-column.result i.line c.requires.line passes (search rules) in
+    let after = record p { it = c.next-next.new.self; column = c.saturating_add-column.result } in
+    let fewer : left g.I.Iterator.remaining after < left g.I.Iterator.remaining p = search rules in
+    let added : text c.push.new.string ≡ text c.loop-c.string ++ x ∷ [] = search rules in
     record {
       ready = Ready_filled g.I.Iterator.can_next g.I.Iterator.remaining p _ _ p.done i.ready i.more i.more c.in-Some.ensures.goes;
       run = record {
         skips = record {
           taken = t.taken ++ x ∷ [];
-          pass = AllByRecursion_push (λ d. is_plain d ≡ true) t.taken x t.pass plain;
+          pass = AllByRecursion_push (λ d. g.C.Class.test d ≡ true) t.taken x t.pass passes;
           goes = Goes_drawn g.I.Iterator.next_gives c.args.self.now (record p { column = c.loop-c.column }) t.taken x _ _ _ t.goes i.none
               i.more steps place;
         };
-        added = bytes ∙ ap (λ cs. cs ++ x ∷ []) i.run.added ∙ append_assoc (text c.args.string.now) t.taken (x ∷ []);
+        added = added ∙ ap (λ cs. cs ++ x ∷ []) i.run.added ∙ append_assoc (text c.args.string.now) t.taken (x ∷ []);
       };
       line = search rules;
       column = search rules;
       none = i.none;
       more = i.more;
+      fewer = omega (arith, fewer, ap length added ∙ length-append (text c.loop-c.string) (x ∷ []), i.fewer);
       left = search rules;
     }
 
@@ -69,7 +73,7 @@ returns-in_default-clause-run g c =
     let p = c.loop-c.self in
     let t = c.loop-c.invariant.run.skips in
     let same : c.in_default.next ≡ c.next-next.result = elim c.in_default.branch [
-      | in_default-via-in-Some+else-is_plain w ↦ w.next-is
+      | in_default-via-in-Some+else-passes w ↦ w.next-is
           ∙ sym w.in-Some.is
       | in_default-via-in_default w ↦ w.next-is
     ] in
