@@ -6,6 +6,7 @@ use Rattle.std.proofs.Common.{
   ◌-◌,
   min,
   List,
+  [],
   ◌++◌,
   length,
   take,
@@ -39,6 +40,12 @@ run_part xs p ys h =
     let low : min p.from (min p.to (length xs)) ≡ f = omega (arith, long, h.to, h.from) in
     ap (λ a. slice_range xs a (min p.to (length xs))) low ∙ ap (slice_range xs f) high ∙ ap (λ z. slice_range z f (f + y)) h.whole
     ∙ ap (take (f + y - f)) (drop_at h.front (ys ++ h.back) f refl) ∙ take_at ys h.back (f + y - f) (omega arith)
+
+pub part_empty : {A : Type 0} (xs : List A) (p : Span) → p.from ≡ p.to → part xs p ≡ []
+part_empty xs p e =
+    let from = min p.from (min p.to (length xs)) in
+    let none : min p.to (length xs) - from ≡ 0 = omega (arith, e) in
+    ap (λ n. take n (drop from xs)) none
 
 -- the text that stands there, as bytes
 pub text_part : (s : Store) (cs : List ℕ) (p : Span) → IsText s cs p → IsBytes cs (part s.texts.items p)

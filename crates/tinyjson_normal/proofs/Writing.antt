@@ -30,7 +30,7 @@ use Rattle.tinyjson_grammar.specs.Text.{text, items_text, members_text, quoted, 
 use Rattle.tinyjson_output.specs.Buffer.{Output, Sent, SentPart, SendsFrom}
 use Rattle.tinyjson_output.specs.Written.{WrittenPart, WritesPrefix}
 use Rattle.tinyjson_output.proofs.Callers.{sent_flushes as flushes}
-use Rattle.tinyjson_output.proofs.Callers.{closed, enc, three, sent_goes as goes, sent_stops as stops, sent_stop as stop}
+use Rattle.tinyjson_output.proofs.Callers.{closed, enc, three, two_bytes, sent_goes as goes, sent_stops as stops, sent_stop as stop}
 use Rattle.tinyjson_output.proofs.Callers.{
   sent_written_none as written_none,
   sent_written_then as written_then,
@@ -46,7 +46,7 @@ use Rattle.tinyjson_normal.specs.declared.store.Member.{Member}
 use Rattle.tinyjson_normal.specs.declared.store.Store.{Store}
 use Rattle.tinyjson_normal.specs.declared.walk.Rest.{Rest}
 use Rattle.tinyjson_normal.specs.declared.walk.Rest.TheVariants as rest
-use Rattle.tinyjson_normal.proofs.Slices.{run_part, text_part}
+use Rattle.tinyjson_normal.proofs.Slices.{part_empty, run_part, text_part}
 
 -- ---- which trees a node may stand for
 
@@ -67,6 +67,14 @@ seen s (array ts) n h =
     subst (λ m. Seen s m (array ts)) (sym h.1) (ts, refl, subst (Are s ts) (sym (run_part s.items.items h.0 h.2 h.3)) h.4)
 seen s (object ms) n h =
     subst (λ m. Seen s m (object ms)) (sym h.1) (ms, refl, subst (AreMembers s ms) (sym (run_part s.members.items h.0 h.2 h.3)) h.4)
+
+no_items_there : (s : Store) (ts : Items) → Are s ts [] → ts ≡ no_items
+no_items_there s no_items h = refl
+no_items_there s (item t ts) h = absurd h
+
+no_members_there : (s : Store) (ms : Members) → AreMembers s ms [] → ms ≡ no_members
+no_members_there s no_members h = refl
+no_members_there s (member k t ms) h = absurd h
 
 -- ---- a text and its head
 
@@ -113,6 +121,29 @@ module _ (w : Option (List ℕ)) where
     are_left = l;
     sent = goes {piece = enc (head t)} (enc xs) h (written_none old _ _ (ap (λ z. enc (z ++ xs)) e ∙ encodes-append (head t) xs));
   }
+
+  -- a value of which all is written
+  pub begin_whole : {T E : Type 0} (s : Store) (old new : Output) (k : ℕ) (t : Tree) (xs b : List ℕ) (rs : List Rest) (r : Result T E)
+      → enc (text w k t) ≡ b → AreLeft w s rs xs → SendsFrom old new b r → AdvancesFrom w s old new (text w k t ++ xs) rs r
+  begin_whole s old new k t xs b rs r e l h = by r h
+    where
+      split : enc (text w k t ++ xs) ≡ b ++ enc xs
+      split = encodes-append (text w k t) xs ∙ ap (λ z. z ++ enc xs) e
+
+      by : {T E : Type 0} (r : Result T E) → SendsFrom old new b r → AdvancesFrom w s old new (text w k t ++ xs) rs r
+      by (Ok x) h = record { left = xs; are_left = l; sent = goes {piece = b} (enc xs) h (written_none old _ _ split) }
+      by (Err x) h = stops {piece = b} (enc xs) h (written_none old _ _ split)
+
+  pub empty_array : (s : Store) (k : ℕ) (t : Tree) (p : Span) → p.from ≡ p.to → Seen s (node.Array p) t
+      → enc (text w k t) ≡ 91 ∷ 93 ∷ []
+  empty_array s k t p e v = ap (λ z. enc (text w k z)) v.1 ∙ ap (λ z. enc (text w k (array z)))
+      (no_items_there s v.0 (subst (Are s v.0) (part_empty s.items.items p e) v.2)) ∙ two_bytes 91 93 (omega arith) (omega arith)
+
+  pub empty_object : (s : Store) (k : ℕ) (t : Tree) (p : Span) → p.from ≡ p.to → Seen s (node.Object p) t
+      → enc (text w k t) ≡ 123 ∷ 125 ∷ []
+  empty_object s k t p e v = ap (λ z. enc (text w k z)) v.1 ∙ ap (λ z. enc (text w k (object z)))
+      (no_members_there s v.0 (subst (AreMembers s v.0) (part_empty s.members.items p e) v.2))
+      ∙ two_bytes 123 125 (omega arith) (omega arith)
 
   -- ---- what is left after an opening bracket
 

@@ -94,11 +94,7 @@ impl Events for Arena {
         let Some(place) = self.open.pop() else {
             return Err(AllocError);
         };
-        let Some(items) = self.values.get(place.values..) else {
-            return Err(AllocError);
-        };
-        let span = self.store.add_items(items)?;
-        self.values.truncate(place.values);
+        let span = self.store.take_items(&mut self.values, place.values)?;
         self.values.push(Node::Array(span))?;
         Ok(())
     }

@@ -1,11 +1,12 @@
 //! Nodes, and what they stand on: vectors that only grow.
-ghost use Rattle.std.specs.Prelude.{◌≡◌, IfOk, OnOk};
+ghost use Rattle.std.specs.Prelude.{◌≡◌, [], IfOk, OnOk, drop, take};
 ghost use Rattle.std.specs.Str.{chars};
 ghost use Rattle.tinyjson_normal.specs.Node.{IsRun, IsText, IsNumberAt, Grows};
 ghost use Rattle.tinyjson_normal.specs.Order.{lasts, part};
 
 use crate::sorting::push_lasts;
 use std::alloc::{AllocError, Global};
+use std::mem;
 use tinyjson_number::JsonNumber;
 
 /// The places of a vector from `from` up to `to`.
@@ -96,6 +97,43 @@ impl Store {
             from,
             to: self.items.len(),
         })
+    }
+
+    /// Moves the items of an array here, which are the last of the values that wait. The first items of all are
+    /// not copied.
+    pub(crate) fn take_items(
+        &mut self,
+        values: &mut Vec<Node>,
+        from: usize,
+    ) -> Result<Span, AllocError>
+        ensures items { IfOk result (λ span.
+            IsRun self.new.items.items span (drop from values.old.items)) }
+        ensures rest { OnOk result (values.new.items ≡ take from values.old.items) }
+        ensures grows { OnOk result (Grows self.old self.new) }
+    {
+        if from == 0 && self.items.is_empty() {
+            return Ok(self.swap_items(values));
+        }
+        let Some(items) = values.get(from..) else {
+            return Err(AllocError);
+        };
+        let span = self.add_items(items)?;
+        values.truncate(from);
+        Ok(span)
+    }
+
+    /// Makes all values that wait the items, where there are none.
+    fn swap_items(&mut self, values: &mut Vec<Node>) -> Span
+        requires none { self.old.items.items ≡ [] }
+        ensures items { IsRun self.new.items.items result values.old.items }
+        ensures rest { values.new.items ≡ [] }
+        ensures grows { Grows self.old self.new }
+    {
+        mem::swap(&mut self.items, values);
+        Span {
+            from: 0,
+            to: self.items.len(),
+        }
     }
 
     /// Appends the members of an object, which are sorted: of those with one key the last.

@@ -9,6 +9,7 @@ ghost use Rattle.tinyjson_grammar.specs.Characters.{name_separator};
 ghost use Rattle.tinyjson_number.specs.Text.{decimal_text};
 ghost use Rattle.tinyjson_normal.specs.declared.walk.Rest.TheVariants.{Items, Members};
 ghost use Rattle.tinyjson_normal.specs.Node.{Is, IsBytes};
+ghost use Rattle.tinyjson_normal.specs.declared.store.Store.{Store as Nodes};
 ghost use Rattle.tinyjson_normal.specs.Walking.{head, IsRest, AreLeft, Advances, cost, rest_cost, left_cost};
 ghost use Rattle.tinyjson_output.specs.Buffer.{buffered, Sends, SendsText};
 
@@ -55,8 +56,31 @@ impl<'a> Walk<'a> {
         }
     }
 
-    /// Writes a value, or its opening bracket, and opens what is left of it.
+    /// Writes a value, or its opening bracket, and opens what is left of it. A container that is empty is not opened.
     pub(crate) fn begin<W: Write>(&mut self, out: &mut W, node: Node) -> io::Result<()>
+        ensures sent { (t : Tree) (k : ℕ) (xs : List ℕ) → Is self.old.store.now t node
+            → length self.old.stack.items ≡ k
+            → AreLeft (indent_of self.old.indent) self.old.store.now
+            (reverse self.old.stack.items) xs
+            → Advances W.contents out.old out.new self.old self.new
+            (text (indent_of self.old.indent) k t ++ xs) result }
+        ensures less { OnOk result
+            (left_cost self.old.store.now self.old.most (reverse self.new.stack.items)
+            < cost self.old.store.now (self.old.most - length self.old.stack.items) node
+            + left_cost self.old.store.now self.old.most (reverse self.old.stack.items)) }
+        ensures store { self.new.store ≡ self.old.store }
+        ensures most { self.new.most ≡ self.old.most }
+        ensures indent { self.new.indent ≡ self.old.indent }
+    {
+        match empty_text(node) {
+            Some(brackets) => write_bytes(out, &mut self.buffer, brackets),
+            None => self.open(out, node),
+        }
+    }
+
+    /// Writes a value, or its opening bracket, and opens what is left of it.
+    #[inline(always)]
+    fn open<W: Write>(&mut self, out: &mut W, node: Node) -> io::Result<()>
         ensures sent { (t : Tree) (k : ℕ) (xs : List ℕ) → Is self.old.store.now t node
             → length self.old.stack.items ≡ k
             → AreLeft (indent_of self.old.indent) self.old.store.now
@@ -202,6 +226,19 @@ fn rest_of<'a>(store: &'a Store, node: Node) -> Option<Rest<'a>>
             rest: part(&store.members, span),
             first: true,
         }),
+        _ => None,
+    }
+}
+
+/// The whole text of a container that is empty.
+#[inline(always)]
+fn empty_text(node: Node) -> Option<&'static [u8]>
+    ensures { (s : Nodes) (w : Option (List ℕ)) (k : ℕ) (t : Tree) → Is s t node →
+        IfSome result (λ brackets. encode_utf8_all (text w k t) ≡ brackets.now) }
+{
+    match node {
+        Node::Array(span) if span.from == span.to => Some(b"[]"),
+        Node::Object(span) if span.from == span.to => Some(b"{}"),
         _ => None,
     }
 }
