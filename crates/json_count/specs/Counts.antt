@@ -2,10 +2,10 @@
 use Rattle.std.specs.Prelude.{ℕ, ◌+◌, ◌≤◌, Bool, true, false, List, [], ◌∷◌, cond}
 use Rattle.json_count.specs.declared.counts.Counts.{Counts}
 use Rattle.tinyjson.specs.Events.{Open, in_array, at_key, at_value}
-use Rattle.tinyjson_grammar.specs.Tree.{Tree, Items, Members, null, boolean, number, string, array, object}
-use Rattle.tinyjson_grammar.specs.Tree.{no_items, item, no_members, member, items_of}
-use Rattle.tinyjson_grammar.specs.declared.kind.JsonKind.{JsonKind}
-use Rattle.tinyjson_grammar.specs.declared.kind.JsonKind.TheVariants as kind
+use Rattle.tinyjson.specs.Tree.{Tree, Items, Members, null, boolean, number, string, array, object}
+use Rattle.tinyjson.specs.Tree.{no_items, item, no_members, member, items_of}
+use Rattle.tinyjson.specs.JsonKind.{JsonKind}
+use Rattle.tinyjson.specs.JsonKind.TheVariants as kind
 
 -- a value of the kind j, counted among those of the kind k
 abbrev pub one : JsonKind → JsonKind → ℕ

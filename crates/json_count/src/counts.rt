@@ -2,7 +2,7 @@
 ghost use Rattle.std.specs.Prelude.{◌≡◌, ◌+◌, None, IfOk, OnOk};
 ghost use Rattle.std.specs.Str.{chars};
 ghost use Rattle.tinyjson.specs.Events.{TellsText};
-ghost use Rattle.tinyjson_grammar.specs.declared.kind.JsonKind.{JsonKind};
+ghost use Rattle.tinyjson.specs.JsonKind.{JsonKind};
 ghost use Rattle.json_count.specs.Counts.{AtLeast, counted, one};
 
 use std::alloc::{AllocError, Global};
@@ -61,7 +61,7 @@ fn one_more(count: u64) -> Result<u64, AllocError>
 
 impl Events for Counts {
     ghost use Rattle.std.specs.Prelude.{◌≤◌, ℕ};
-    ghost use Rattle.tinyjson_grammar.specs.declared.kind.JsonKind.{JsonKind};
+    ghost use Rattle.tinyjson.specs.JsonKind.{JsonKind};
     ghost use Rattle.json_count.specs.Counts.{AtLeast, counted, open_count};
 
     ghost holds = { λ e os. (k : JsonKind) → open_count k os ≤ counted e k };

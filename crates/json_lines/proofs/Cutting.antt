@@ -3,7 +3,7 @@ use Rattle.std.proofs.Common.{◌≡◌, ℕ, ◌==◌, Bool, true, false, cond,
 use Rattle.std.proofs.Common.{subst, append_assoc}
 use Rattle.std.specs.Str.{chars}
 use Rattle.tinyjson.specs.Characters.{line_feed}
-use Rattle.tinyjson_grammar.proofs.Callers.Laws.{only_tree}
+use Rattle.tinyjson.proofs.Callers.{only_tree}
 use Rattle.json_line.specs.Line.{line_of}
 use Rattle.json_lines.specs.Lines.{lines, onto_first, content, Fate, HasFate, HaveFates, output_of, outputs_of}
 use Rattle.json_lines.specs.Shares.{ended, LinesOfShares, OutputOfShares}

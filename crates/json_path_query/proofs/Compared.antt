@@ -1,20 +1,15 @@
 -- What is compared: what is found at the front of a text is in the grammar, and what follows it is shorter.
-use Rattle.std.proofs.Common.{◌≡◌, ℕ, ◌<◌, ◌≤◌, suc, zero, Bool, true, false, ◌==◌, cond, List, [], ◌∷◌, ◌++◌, length, Option, Some, None}
-use Rattle.std.proofs.Common.{option_map, refl, sym, ap, ◌∙◌, subst, arith}
-use Rattle.std.proofs.lemmas.Bool.{eqb-true, ne_eqb}
-use Rattle.std.specs.Prelude.{ℤ}
-use Rattle.tinyjson.specs.Number.{Decimal}
+use Rattle.std.proofs.Common.{◌≡◌, ℕ, suc, zero, Bool, true, false, ◌==◌, cond, List, [], ◌∷◌, ◌++◌, length, Option, Some, None}
+use Rattle.std.proofs.Common.{option_map, refl, sym, ap, ◌∙◌, subst}
 use Rattle.json_path_query.specs.declared.query.ComparisonOperator.{ComparisonOperator}
 use Rattle.json_path_query.specs.declared.query.ComparisonOperator.TheVariants.{Equal, NotEqual, Less, LessOrEqual, Greater, GreaterOrEqual}
-use Rattle.json_path_query.specs.declared.query.Origin.{Origin}
 use Rattle.json_path_query.specs.declared.query.Origin.TheVariants.{Root, CurrentNode}
-use Rattle.json_path_query.specs.Forms.{Comparable}
 use Rattle.json_path_query.specs.Forms as form
 use Rattle.json_path_query.specs.Values.{Literal, SingularSegment}
 use Rattle.json_path_query.specs.Values as value
 use Rattle.json_path_query.specs.Grammar as is
-use Rattle.json_path_query.specs.Grammar.{after_blanks, is_name_first, name_chars, is_number_char, number_chars, begins_with}
-use Rattle.json_path_query.specs.Grammar.{NumberText, LiteralText, SingularSegmentText, SingularSegmentsText, ComparableText, OperatorText}
+use Rattle.json_path_query.specs.Grammar.{after_blanks, is_name_first, is_number_char, number_chars, begins_with}
+use Rattle.json_path_query.specs.Grammar.{LiteralText, SingularSegmentText, SingularSegmentsText, ComparableText, OperatorText}
 use Rattle.json_path_query.specs.Fronts.{quoted_front, int_front, behind, behind_word, either, word_front, number_front, literal_front}
 use Rattle.json_path_query.specs.Fronts.{numbered, meaning, as_string, is_quote, name_before, index_before, bracketed_front, name_front}
 use Rattle.json_path_query.specs.Fronts.{singular_segment_front, singular_end, singular_turn, singular_front, as_singular, as_literal}

@@ -1,5 +1,5 @@
 -- Conditions and queries that are found at the front of a text are in the grammar.
-use Rattle.std.proofs.Common.{◌≡◌, ℕ, zero, suc, ◌==◌, List, [], ◌∷◌, length, Option, Some, None, option_and_then, refl, sym, ap, ◌∙◌}
+use Rattle.std.proofs.Common.{◌≡◌, ℕ, zero, suc, ◌==◌, List, [], ◌∷◌, length, Option, Some, None, refl, sym, ap, ◌∙◌}
 use Rattle.std.proofs.Common.{◌++◌, Bool, true, false, cond, option_map, subst}
 use Rattle.json_path_query.specs.declared.query.ComparisonOperator.{ComparisonOperator}
 use Rattle.json_path_query.specs.declared.query.Origin.TheVariants.{Root, CurrentNode}

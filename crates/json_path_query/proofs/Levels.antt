@@ -1,7 +1,7 @@
 -- Single turns over selectors, segments and conditions, at each depth.
-use Rattle.std.proofs.Common.{◌≡◌, ◌≢◌, inl, inr, ℕ, suc, ◌<◌, true, false, ◌==◌, List, [], ◌∷◌, length, Option, Some, None}
+use Rattle.std.proofs.Common.{◌≡◌, ◌≢◌, ℕ, suc, ◌<◌, true, false, ◌==◌, List, [], ◌∷◌, length, Option, Some, None}
 use Rattle.std.proofs.Common.{option_map, option_and_then, Result, Bor, refl, sym, ap, ◌∙◌, subst, arith}
-use Rattle.std.proofs.lemmas.Bool.{cond-true, cond-false, ne_eqb, eqb-true, or_cases}
+use Rattle.std.proofs.lemmas.Bool.{cond-true, cond-false, ne_eqb}
 use Rattle.json_path_query.specs.declared.query.Expression.{Expression as CodeExpression}
 use Rattle.json_path_query.specs.declared.query.Origin.{Origin}
 use Rattle.json_path_query.specs.declared.query.PatternFunction.{PatternFunction}
@@ -9,7 +9,7 @@ use Rattle.json_path_query.specs.declared.query.PatternFunction.TheVariants.{Mat
 use Rattle.json_path_query.specs.declared.query.Selector.{Selector as CodeSelector}
 use Rattle.json_path_query.specs.declared.query.ComparisonOperator.{ComparisonOperator}
 use Rattle.json_path_query.specs.Forms.{Comparable, Function, Argument, IsArgument, IsComparable, IsOperand, IsBasic, IsConjunction}
-use Rattle.json_path_query.specs.Forms.{PlainSelector, Selector, Segment, Operand, Basic, Expression, Each, IsSelector, IsOneSelector}
+use Rattle.json_path_query.specs.Forms.{PlainSelector, Selector, Segment, Operand, Basic, Expression, Each, IsSelector}
 use Rattle.json_path_query.specs.Forms.{Disjunction, IsExpression, IsDisjunction}
 use Rattle.json_path_query.specs.Forms as form
 use Rattle.json_path_query.specs.Grammar.{after_blanks, length_call, count_call, value_call, pattern_call}

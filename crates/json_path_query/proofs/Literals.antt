@@ -1,15 +1,14 @@
 -- Single literals, segments of one selector, and operators.
-use Rattle.std.proofs.Common.{◌≡◌, ◌≢◌, ℕ, true, false, ◌==◌, List, [], ◌∷◌, Option, Some, None, option_map, option_and_then}
+use Rattle.std.proofs.Common.{◌≡◌, ℕ, true, false, List, ◌∷◌, Option, Some, None, option_map, option_and_then}
 use Rattle.std.proofs.Common.{◌<◌, length, sym, ap, ◌∙◌}
-use Rattle.std.proofs.lemmas.Bool.{cond-true, cond-false, ne_eqb}
+use Rattle.std.proofs.lemmas.Bool.{cond-true, cond-false}
 use Rattle.std.specs.Prelude.{ℤ}
-use Rattle.tinyjson.specs.Number.{Decimal, IsNumberText}
-use Rattle.tinyjson_number.specs.Numeral.{Numeral, value as decimal_value, in_range}
-use Rattle.tinyjson_number.specs.NumberText.{Spells}
+use Rattle.tinyjson.specs.Number.{Decimal, IsNumberText, Spells}
+use Rattle.tinyjson.specs.Numeral.{Numeral, value as decimal_value, in_range}
 use Rattle.json_path_query.specs.Grammar.{after_blanks, is_name_first, name_chars, number_chars, true_word, false_word, null_word}
 use Rattle.json_path_query.specs.Grammar.{is_number_char}
 use Rattle.json_path_query.specs.Numerals.{spelled_decimal}
-use Rattle.json_path_query.specs.Values.{Literal, SingularSegment}
+use Rattle.json_path_query.specs.Values.{SingularSegment}
 use Rattle.json_path_query.specs.Values as value
 use Rattle.json_path_query.specs.Fronts.{numbered, number_front, behind_word, either, meaning, word_front, as_string, is_quote}
 use Rattle.json_path_query.specs.Fronts.{quoted_front}

@@ -1,15 +1,13 @@
 -- A text is a number exactly where one is found in it.
 use Rattle.std.proofs.Common.{◌≡◌, ℕ, ◌<◌, Bool, true, false, ◌==◌, cond, List, [], ◌∷◌, ◌++◌, length, Option, Some, None}
 use Rattle.std.proofs.Common.{IsTrue, refl, sym, ap, ◌∙◌, subst, arith, append-nil, option_and_then}
-use Rattle.std.proofs.lemmas.Bool.{cond-true, cond-false, eqb-true, ne_eqb}
+use Rattle.std.proofs.lemmas.Bool.{cond-true, cond-false, eqb-true}
 use Rattle.std.proofs.lemmas.Bool.Decides.{nat_tests}
 use Rattle.std.specs.Prelude.{IfSome}
 use Rattle.std.specs.Char.{is_ascii_digit}
-use Rattle.tinyjson_number.specs.Decimal.{Decimal}
-use Rattle.tinyjson_number.specs.Numeral.{Numeral, Exponent, numeral, AreDigits, IsExponent, IsNumeral, has_leading_zero}
-use Rattle.tinyjson_number.specs.Numeral.{is_exponent_letter, is_sign, sign_text, fraction_text, exponent_text, minus_text, value, in_range}
-use Rattle.tinyjson_number.specs.NumberText.{Spells, IsNumberText}
-use Rattle.tinyjson_number.specs.Scan.{starts}
+use Rattle.tinyjson.specs.Numeral.{Numeral, Exponent, numeral, AreDigits, IsExponent, IsNumeral, has_leading_zero}
+use Rattle.tinyjson.specs.Numeral.{is_exponent_letter, is_sign, sign_text, fraction_text, exponent_text, minus_text, value, in_range}
+use Rattle.tinyjson.specs.Number.{Decimal, Spells, IsNumberText}
 use Rattle.json_path_query.specs.Numerals.{digit_run, power_end, signed_end, exponent_end, fraction_end, point_end, whole_end}
 use Rattle.json_path_query.specs.Numerals.{spelled_numeral, ranged, spelled_decimal}
 use Rattle.json_path_query.proofs.Finds.{Finds, finds_none, finds_some, finds_cond, finds_then, finds_as}
@@ -144,6 +142,11 @@ decimal_sound xs = finds_then ranged _ (finds_as (numeral_sound xs) (λ n h.
     finds_cond (in_range (value n)) (λ r. finds_some (n, h, refl, r)) (λ _. finds_none)))
 
 -- ---- each number is found
+
+-- whether the text begins with a character that passes the test
+abbrev starts : (ℕ → Bool) → List ℕ → Bool
+starts test [] = false
+starts test (c ∷ cs) = test c
 
 run_before : (ds rest : List ℕ) → AreDigits ds → starts is_ascii_digit rest ≡ false → digit_run (ds ++ rest) ≡ (ds, rest)
 run_before [] [] h e = refl

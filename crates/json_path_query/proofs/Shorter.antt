@@ -4,7 +4,7 @@ use Rattle.std.proofs.Common.{None, refl, ap, arith}
 use Rattle.std.specs.Prelude.{ℤ}
 use Rattle.tinyjson.specs.Characters.{is_white}
 use Rattle.json_path_query.specs.declared.query.ComparisonOperator.{ComparisonOperator}
-use Rattle.json_path_query.specs.Forms.{PlainSelector, Selector, Segment, Comparable}
+use Rattle.json_path_query.specs.Forms.{PlainSelector, Selector, Segment}
 use Rattle.json_path_query.specs.Values.{Literal, SingularSegment}
 use Rattle.json_path_query.specs.Grammar as is
 use Rattle.json_path_query.specs.Grammar.{after_blanks, is_name_char, name_chars, is_digit, digits_on, MagnitudeText, IntText, HexText}

@@ -4,26 +4,22 @@ use Rattle.std.proofs.Common.{◌+◌, ◌*◌, Option, Some, None, option_and_t
 use Rattle.std.proofs.lemmas.Bool.{eqb-true, eq-eqb, and_parts, or_cases, or_from, cond-false}
 use Rattle.std.specs.Prelude.{ℤ, pos, neg_ℤ}
 use Rattle.tinyjson.specs.Characters.{is_white, is_hex, is_high, is_low}
-use Rattle.json_path_query.specs.declared.query.Origin.TheVariants.{Root, CurrentNode}
-use Rattle.json_path_query.specs.Forms.{PlainSelector, Selector, Segment, Expression}
+use Rattle.json_path_query.specs.Forms.{Selector}
 use Rattle.json_path_query.specs.Forms as form
 use Rattle.json_path_query.specs.Grammar as is
-use Rattle.json_path_query.specs.Grammar.{after_blanks, name_chars, digits_on, is_digit1, greatest_exact, is_name_first, is_unescaped}
-use Rattle.json_path_query.specs.Grammar.{escape_of, MagnitudeText, IntText, HexText, CodeText, EscapeText, CharacterText, QuotedText}
+use Rattle.json_path_query.specs.Grammar.{after_blanks, is_digit1}
+use Rattle.json_path_query.specs.Grammar.{MagnitudeText, IntText, HexText, CodeText, EscapeText, CharacterText, QuotedText}
 use Rattle.json_path_query.specs.Grammar.{StringText}
 use Rattle.json_path_query.specs.Grammar.{BoundText, StepText, PlainSelectorText, TextsOf, SelectorText, SelectionText, ShorthandText}
 use Rattle.json_path_query.specs.Grammar.{SegmentText, SegmentsText}
-use Rattle.json_path_query.specs.Grammar.{OperandText, BasicText, JoinedText, ExpressionText, QueryText}
 use Rattle.json_path_query.specs.Fronts.{magnitude_front, int_front, hex_front, shifted, digit_on, code_front, low_end}
 use Rattle.json_path_query.specs.Fronts.{pair_front, unicode_front, unicode_end}
 use Rattle.json_path_query.specs.Fronts.{escape_front, character_front, turns, string_turn, quoted_front, begins_int, bound_front}
 use Rattle.json_path_query.specs.Fronts.{step_front, slice_front, slice_end, index_end, int_end, int_selector_front, plain_front}
 use Rattle.json_path_query.specs.Fronts.{separator, separated, selection_turn, selection_front, shorthand_front, descendant_front}
-use Rattle.json_path_query.specs.Fronts.{dotted_front, segment_front, begins_segment, segments_turn, segments_front, ended, query_front}
+use Rattle.json_path_query.specs.Fronts.{dotted_front, segment_front, begins_segment, segments_turn}
 use Rattle.json_path_query.specs.Fronts.{with_minus, unsigned, before, with_first, then_turn, more_of, present_bound, whole_slice, named}
-use Rattle.json_path_query.specs.Fronts.{FrontOf, filtered, as_plain, selector_front, behind, closed, closing, tested, origin_of}
-use Rattle.json_path_query.specs.Fronts.{tested_front, operand_front, as_affirmed, as_negated, basic_front, behind_both, joint, joined}
-use Rattle.json_path_query.specs.Fronts.{joined_turn, joined_front, expression_front}
+use Rattle.json_path_query.specs.Fronts.{FrontOf, filtered, as_plain, selector_front, behind, closed}
 use Rattle.json_path_query.specs.Fronts.{child_of, descendant_of, alone, is_quote}
 use Rattle.json_path_query.proofs.Before.{Before}
 use Rattle.json_path_query.proofs.Finds.{Finds, finds_none, finds_some, finds_cond, finds_map, finds_then, finds_as, at_code}

@@ -1,9 +1,9 @@
 -- Which number a whole text is, found from left to right; only private contracts use these words.
 use Rattle.std.specs.Prelude.{ℕ, Bool, true, false, ◌==◌, cond, List, [], ◌∷◌, Option, Some, None, option_and_then}
 use Rattle.std.specs.Char.{is_ascii_digit}
-use Rattle.tinyjson_number.specs.Characters.{minus_sign, decimal_point}
-use Rattle.tinyjson_number.specs.Decimal.{Decimal}
-use Rattle.tinyjson_number.specs.Numeral.{Numeral, numeral, has_leading_zero, is_exponent_letter, is_sign, value, in_range}
+use Rattle.tinyjson.specs.Characters.{minus_sign, decimal_point}
+use Rattle.tinyjson.specs.Number.{Decimal}
+use Rattle.tinyjson.specs.Numeral.{Numeral, numeral, has_leading_zero, is_exponent_letter, is_sign, value, in_range}
 
 -- the digits at the front, and what follows them
 abbrev pub digit_run : List ℕ → List ℕ × List ℕ

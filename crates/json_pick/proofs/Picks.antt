@@ -3,7 +3,7 @@ use Rattle.std.proofs.Common.{◌≡◌, Bool, true, false, ℕ, List, Option, S
 use Rattle.std.proofs.lemmas.Slice.Eq.{bytes_eq-Decides}
 use Rattle.json_pick.specs.Picking.{is_scalar, picked_at, Picks, scalar_of, stored}
 use Rattle.tinyjson.proofs.Callers.{find_put, find_remove}
-use Rattle.tinyjson_grammar.specs.Tree.{Tree, Members, array, find, no_items, put, remove}
+use Rattle.tinyjson.specs.Tree.{Tree, Members, array, find, no_items, put, remove}
 
 -- ---- at one key: b says whether it is the key that was put, w whether it is wanted
 

@@ -6,7 +6,7 @@ use Rattle.json_pick.proofs.Picks.{other_picks, removed_picks, stored_picks}
 use Rattle.json_pick.specs.declared.picking.Picking.{Picking}
 use Rattle.tinyjson.specs.View.{members_view, text}
 use Rattle.tinyjson.specs.Events.{Open, in_array, at_key, at_value, Puts}
-use Rattle.tinyjson_grammar.specs.Tree.{Tree, Members, null, boolean, number, string, array, object, no_items, no_members, put}
+use Rattle.tinyjson.specs.Tree.{Tree, Members, null, boolean, number, string, array, object, no_items, no_members, put}
 
 scalar_members : (t : Tree) → is_scalar t ≡ true → members_of t ≡ no_members
 scalar_members null s = refl

@@ -1,8 +1,8 @@
 -- Which members of the outermost object are picked, and what stands meanwhile.
 use Rattle.std.specs.Prelude.{◌≡◌, ℕ, List, [], ◌∷◌, length, Bool, true, false, cond, Option, Some, None, ⊤}
 use Rattle.tinyjson.specs.Events.{Open, in_array, at_key, at_value}
-use Rattle.tinyjson_grammar.specs.Tree.{Tree, Members, null, boolean, number, string, array, object, no_items, no_members}
-use Rattle.tinyjson_grammar.specs.Tree.{find, put, remove}
+use Rattle.tinyjson.specs.Tree.{Tree, Members, null, boolean, number, string, array, object, no_items, no_members}
+use Rattle.tinyjson.specs.Tree.{find, put, remove}
 
 -- a value that holds no others
 abbrev pub is_scalar : Tree → Bool

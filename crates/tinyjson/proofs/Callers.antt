@@ -2,6 +2,7 @@
 pub mod Laws
 pub use Rattle.std.proofs.lemmas.Str.{scalars-chars, IsUtf8-string_bytes}
 pub use Rattle.tinyjson.proofs.Reading.Parse.{all_are_scalars, parses_text}
+pub use Rattle.tinyjson_grammar.proofs.Callers.Laws.{only_tree}
 pub use Rattle.tinyjson.proofs.Values.Entries.{same_text, text_eq}
 pub use Rattle.tinyjson.proofs.Values.Depths.{item_less_deep, member_less_deep, item_count_view, nth_past}
 pub use Rattle.tinyjson.proofs.Values.Loops.{members_view_IsSorted, find_done, find_more, IsRest, rest_begins, rest_next, rest_distinct}

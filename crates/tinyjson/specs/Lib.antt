@@ -22,6 +22,8 @@ pub use Rattle.tinyjson_grammar.specs.Position
 pub use Rattle.tinyjson_grammar.specs.Text
 pub use Rattle.tinyjson_grammar.specs.declared.kind.JsonKind
 pub use Rattle.tinyjson_grammar.specs.declared.error.JsonParseErrorKind
+-- the parts of a number's text, by the names of the crate `tinyjson_number`
+pub use Rattle.tinyjson_number.specs.Numeral
 -- what they say of a writer, and of an indent
 pub use Rattle.tinyjson_output.specs.Written
 pub use Rattle.tinyjson_output.specs.Indent

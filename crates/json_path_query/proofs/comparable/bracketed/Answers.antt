@@ -1,4 +1,4 @@
-use Rattle.std.proofs.Common.{◌≡◌, ◌∙◌, true, false, sym, ap, refl, subst, rules, w64, SFits}
+use Rattle.std.proofs.Common.{◌≡◌, ◌∙◌, true, false, ap, refl, subst, rules, w64, SFits}
 use Rattle.std.proofs.lemmas.Int.{to_z-of_z}
 use Rattle.std.specs.Prelude.{option_map}
 use Rattle.json_path_query.specs.declared.query.SingularSegment.TheVariants as does

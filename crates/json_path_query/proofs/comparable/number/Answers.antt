@@ -1,5 +1,5 @@
 use Rattle.std.proofs.Common.{◌∙◌, ◌++◌, Err, ap, refl, subst}
-use Rattle.tinyjson_number.specs.Reading.{Reads}
+use Rattle.tinyjson.specs.Number.{Reads}
 use Rattle.json_path_query.specs.Grammar.{number_chars}
 use Rattle.json_path_query.specs.Values as value
 use Rattle.json_path_query.proofs.Literals.{number_at, number_none, number_far}

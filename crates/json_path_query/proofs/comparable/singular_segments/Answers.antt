@@ -1,5 +1,4 @@
-use Rattle.std.proofs.Common.{◌≡◌, ◌∷◌, [], ◌++◌, ◌<◌, length, refl, arith}
-use Rattle.json_path_query.specs.Forms.{Each}
+use Rattle.std.proofs.Common.{◌∷◌, [], ◌++◌}
 use Rattle.json_path_query.specs.Fronts.{singular_turn}
 use Rattle.json_path_query.specs.Values.{IsSingularSegment}
 use Rattle.json_path_query.proofs.Literals.{singular_smaller, singular_more}

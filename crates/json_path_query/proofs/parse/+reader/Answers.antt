@@ -1,11 +1,10 @@
 use Rattle.std.proofs.Common.{◌≡◌, ◌∙◌, ◌∷◌, [], ◌++◌, ◌<◌, ◌-◌, true, false, None, Some, length, sym, ap, refl, subst, rules, arith}
 use Rattle.std.specs.Prelude.{option_map}
 use Rattle.json_path_query.specs.Forms as form
-use Rattle.json_path_query.specs.Forms.{Each, IsPlain, IsSelector, AreSelectorsIn, IsSegment, AreSegmentsIn, IsBasic}
-use Rattle.json_path_query.specs.Forms.{IsConjunction}
-use Rattle.json_path_query.specs.Forms.{IsExpression, IsArgument, IsDisjunction}
+use Rattle.json_path_query.specs.Forms.{IsPlain, IsSelector, AreSelectorsIn, IsSegment, AreSegmentsIn}
+use Rattle.json_path_query.specs.Forms.{IsExpression, IsArgument}
 use Rattle.json_path_query.specs.Fronts.{begins_segment, selector_front, selection_turn, selection_front, segment_front, segments_turn}
-use Rattle.json_path_query.specs.Fronts.{segments_front, basic_front, joined_turn, conjunction_front}
+use Rattle.json_path_query.specs.Fronts.{segments_front, joined_turn}
 use Rattle.json_path_query.specs.Fronts.{expression_front, argument_front, behind_both, as_negated, begins_call, begins_pattern}
 use Rattle.json_path_query.specs.Fronts.{filter_query_front}
 use Rattle.json_path_query.specs.Reading.{IsRest}

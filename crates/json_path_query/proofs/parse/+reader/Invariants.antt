@@ -1,8 +1,7 @@
 use Rattle.std.proofs.Common.{◌+◌, ◌*◌, ◌-◌, List, length}
-use Rattle.json_path_query.specs.Forms.{Selector, Segment, Basic, Expression, Each, IsSelector, IsSegment, IsBasic, IsConjunction}
-use Rattle.json_path_query.specs.Forms.{IsExpression, IsArgument, Argument}
-use Rattle.json_path_query.specs.Fronts.{selection_turn, segments_turn, joined_turn, basic_front, conjunction_front, expression_front}
-use Rattle.json_path_query.specs.Fronts.{argument_front}
+use Rattle.json_path_query.specs.Forms.{Selector, Segment, Basic, Expression, Each, IsSelector, IsSegment}
+use Rattle.json_path_query.specs.Forms.{IsExpression, Argument}
+use Rattle.json_path_query.specs.Fronts.{selection_turn, segments_turn, joined_turn, expression_front}
 use Rattle.json_path_query.proofs.Levels.{basics_at, conjunctions_at, IsBasicAt, IsConjunctionAt}
 use Rattle.json_path_query.proofs.Turns.{Goes}
 use Rattle.json_path_query.proofs.parse.+reader.Given as goal

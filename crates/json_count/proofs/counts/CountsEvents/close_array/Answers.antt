@@ -1,5 +1,5 @@
 use Rattle.json_count.proofs.Counting.{puts_counted}
-use Rattle.tinyjson_grammar.specs.Tree.{array, items_of}
+use Rattle.tinyjson.specs.Tree.{array, items_of}
 use Rattle.json_count.proofs.counts.CountsEvents.close_array.Goals as goal
 
 pub returns : goal.returns

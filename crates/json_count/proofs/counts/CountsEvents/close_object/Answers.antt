@@ -1,5 +1,5 @@
 use Rattle.json_count.proofs.Counting.{puts_counted}
-use Rattle.tinyjson_grammar.specs.Tree.{object}
+use Rattle.tinyjson.specs.Tree.{object}
 use Rattle.json_count.proofs.counts.CountsEvents.close_object.Goals as goal
 
 pub returns : goal.returns

@@ -2,7 +2,7 @@ use Rattle.std.proofs.Common.{ap}
 use Rattle.json_count.proofs.Counting.{added}
 use Rattle.json_count.specs.Counts.{count}
 use Rattle.tinyjson.specs.Events.{literal_tree}
-use Rattle.tinyjson_grammar.specs.declared.kind.JsonKind.TheVariants as kind
+use Rattle.tinyjson.specs.JsonKind.TheVariants as kind
 use Rattle.json_count.proofs.counts.CountsEvents.literal.Goals as goal
 
 pub returns-in-None : goal.returns-in-None

@@ -1,7 +1,7 @@
 use Rattle.std.proofs.Common.{refl}
 use Rattle.json_count.proofs.Counting.{added}
-use Rattle.tinyjson_grammar.specs.Tree.{number}
-use Rattle.tinyjson_grammar.specs.declared.kind.JsonKind.TheVariants as kind
+use Rattle.tinyjson.specs.Tree.{number}
+use Rattle.tinyjson.specs.JsonKind.TheVariants as kind
 use Rattle.json_count.proofs.counts.CountsEvents.number.Goals as goal
 
 pub returns : goal.returns

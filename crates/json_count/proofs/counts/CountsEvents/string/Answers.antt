@@ -1,8 +1,8 @@
 use Rattle.std.proofs.Common.{refl}
 use Rattle.json_count.proofs.Counting.{added}
-use Rattle.tinyjson_grammar.specs.Characters.{text}
-use Rattle.tinyjson_grammar.specs.Tree.{string}
-use Rattle.tinyjson_grammar.specs.declared.kind.JsonKind.TheVariants as kind
+use Rattle.tinyjson.specs.Characters.{text}
+use Rattle.tinyjson.specs.Tree.{string}
+use Rattle.tinyjson.specs.JsonKind.TheVariants as kind
 use Rattle.json_count.proofs.counts.CountsEvents.string.Goals as goal
 
 pub returns : goal.returns

@@ -2,7 +2,7 @@ use Rattle.std.proofs.Common.{option_map, refl, ap}
 use Rattle.json_pick.proofs.Told.{closed, depth_of, key_of, picked_of}
 use Rattle.tinyjson.specs.Events.{in_array}
 use Rattle.tinyjson.specs.View.{members_view, text}
-use Rattle.tinyjson_grammar.specs.Tree.{array, items_of}
+use Rattle.tinyjson.specs.Tree.{array, items_of}
 use Rattle.json_pick.proofs.picking.PickingEvents.close_array.Goals as goal
 
 pub returns : goal.returns

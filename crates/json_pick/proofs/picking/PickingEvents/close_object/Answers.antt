@@ -2,7 +2,7 @@ use Rattle.std.proofs.Common.{option_map, refl, ap}
 use Rattle.json_pick.proofs.Told.{closed, depth_of, key_of, picked_of}
 use Rattle.tinyjson.specs.Events.{at_key}
 use Rattle.tinyjson.specs.View.{members_view, text}
-use Rattle.tinyjson_grammar.specs.Tree.{object}
+use Rattle.tinyjson.specs.Tree.{object}
 use Rattle.json_pick.proofs.picking.PickingEvents.close_object.Goals as goal
 
 pub returns : goal.returns

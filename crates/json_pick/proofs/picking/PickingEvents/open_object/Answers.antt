@@ -2,7 +2,7 @@ use Rattle.std.proofs.Common.{ap, option_map}
 use Rattle.json_pick.proofs.Told.{opened, depth_of, key_of, picked_of}
 use Rattle.tinyjson.specs.Events.{at_key}
 use Rattle.tinyjson.specs.View.{text}
-use Rattle.tinyjson_grammar.specs.Tree.{no_members}
+use Rattle.tinyjson.specs.Tree.{no_members}
 use Rattle.json_pick.proofs.picking.PickingEvents.open_object.Goals as goal
 
 pub returns : goal.returns

@@ -2,7 +2,7 @@ use Rattle.std.proofs.Common.{option_map, refl, ap}
 use Rattle.json_pick.proofs.Told.{value_told, depth_of, key_of, picked_of}
 use Rattle.tinyjson.proofs.Callers.{view_String}
 use Rattle.tinyjson.specs.View.{text}
-use Rattle.tinyjson_grammar.specs.Tree.{string}
+use Rattle.tinyjson.specs.Tree.{string}
 use Rattle.json_pick.proofs.picking.PickingEvents.string.Goals as goal
 
 pub returns : goal.returns
