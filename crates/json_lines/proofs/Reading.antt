@@ -1,59 +1,21 @@
 -- Reading, writing and telling line by line.
-use Rattle.std.proofs.Common.{◌≡◌, ◌<◌, ◌==◌, ℕ, suc, ◌+◌, Bool, true, false, cond, List, [], ◌∷◌, ◌++◌, length, Option, None}
-use Rattle.std.proofs.Common.{Some, IfSome, Result, Ok, Err, ⊎_elim, refl, sym, ap, ◌∙◌, subst, append_assoc, append-nil}
+use Rattle.std.proofs.Common.{◌≡◌, ℕ, suc, ◌+◌, Bool, true, false, List, [], ◌∷◌, ◌++◌, length, Option, None}
+use Rattle.std.proofs.Common.{Some, Result, Ok, Err, ⊎_elim, refl, sym, ap, ◌∙◌, subst, append_assoc, append-nil}
 use Rattle.std.proofs.Common.{length-append, arith}
 use Rattle.std.proofs.KnownBytes.{Appends-nil, Appends-trans}
 use Rattle.std.proofs.lemmas.Bool.{false≢true}
-use Rattle.std.specs.Io.BufRead.{take_through, drop_through, DropsThrough}
-use Rattle.std.specs.Io.KnownBytes.{Appends, IsAtEnd, Keeps}
-use Rattle.std.specs.Prelude.{if◌then◌else◌}
+use Rattle.std.specs.Io.KnownBytes.{Appends, Keeps}
 use Rattle.std.specs.Result.{IsErr}
 use Rattle.std.specs.declared.io.Error.{Error}
 use Rattle.tinyjson.proofs.Callers.{Appends_keeps, stop, stops_then, written_same}
 use Rattle.tinyjson.specs.Written.{Written, WrittenPart}
+use Rattle.json_line.proofs.Callers.{lines_read_next, all_read, first_lines}
 use Rattle.json_lines.proofs.Cutting.{both_fates, both_outputs}
-use Rattle.json_lines.specs.Lines.{lines, onto_first, Fate, HasFate, HaveFates, output_of, outputs_of, telling_of, tellings_of, outcome_of}
+use Rattle.json_lines.specs.Lines.{Fate, HasFate, HaveFates, output_of, outputs_of, telling_of, tellings_of, outcome_of}
 use Rattle.json_lines.specs.Run.{LinesRead, AllRead, EndsRefused, Reaches, AnswersLines, StopsAmongLines, Handles, Runs}
 use Rattle.json_lines.specs.declared.lines.Options.{Options}
 use Rattle.json_lines.specs.declared.lines.Outcome.{Outcome}
 use Rattle.json_lines.specs.declared.lines.Outcome.TheVariants.{AllWritten, SomeRefused}
-
--- ---- lines of known bytes
-
-first_by : (b : Bool) (x : ℕ) (xs : List ℕ) → cond b ((x ∷ []) ∷ lines xs) (onto_first x (lines xs)) ≡
-    (if b then x ∷ [] else x ∷ take_through 10 xs) ∷ lines (if b then xs else drop_through 10 xs)
-first_by true x xs = refl
-first_by false x [] = refl
-first_by false x (y ∷ ys) = ap (onto_first x) (first_by (y == 10) y ys)
-
-first_line : (xs : List ℕ) → 0 < length (take_through 10 xs) → lines xs ≡ take_through 10 xs ∷ lines (drop_through 10 xs)
-first_line [] h = absurd (omega (arith, h))
-first_line (x ∷ xs) h = first_by (x == 10) x xs
-
--- one more line is read
-lines_read_next : (unread left after : Option (List ℕ)) (read : List (List ℕ)) (line : List ℕ) → LinesRead unread left read
-    → IfSome left (λ xs. line ≡ take_through 10 xs) → DropsThrough left after 10 → 0 < length line
-    → LinesRead unread after (read ++ line ∷ [])
-lines_read_next None left after read line h is rest some = tt
-lines_read_next (Some xs) None after read line h is rest some = absurd h
-lines_read_next (Some xs) (Some ys) after read line h is rest some =
-    subst (λ o. LinesRead (Some xs) o (read ++ line ∷ [])) (sym rest)
-    (h ∙ ap (λ ls. read ++ ls) (first_line ys (subst (λ l. 0 < length l) is some) ∙ ap (λ l. l ∷ lines (drop_through 10 ys)) (sym is))
-    ∙ sym (append_assoc read (line ∷ []) (lines (drop_through 10 ys))))
-
--- at the end nothing more is read
-all_read : (unread left after : Option (List ℕ)) (read : List (List ℕ)) → LinesRead unread left read → IsAtEnd left
-    → DropsThrough left after 10 → AllRead unread after read
-all_read None left after read h end rest = tt
-all_read (Some xs) None after read h end rest = absurd h
-all_read (Some xs) (Some ys) after read h end rest =
-    (h ∙ (ap (λ l. read ++ lines l) end ∙ append-nil read), rest ∙ ap (λ l. Some (drop_through 10 l)) end)
-
-first_lines : (unread left : Option (List ℕ)) (read : List (List ℕ)) → LinesRead unread left read
-    → IfSome unread (λ xs. (more : List (List ℕ)) × (lines xs ≡ read ++ more))
-first_lines None left read h = tt
-first_lines (Some xs) None read h = absurd h
-first_lines (Some xs) (Some ys) read h = (lines ys, h)
 
 -- ---- what they give
 
@@ -117,12 +79,6 @@ pub record Progress (options : Options) (unread left held holds told tells : Opt
   pub is : outcome ≡ outcome_of fates
   pub unless : options.goes_on ≡ false → outcome ≡ AllWritten
 
--- the bytes of the line, which the buffer was cleared for
-line_is : (left : Option (List ℕ)) (cleared filled line : List ℕ) → cleared ≡ [] → line ≡ filled
-    → IfSome left (λ xs. filled ≡ cleared ++ take_through 10 xs) → IfSome left (λ xs. line ≡ take_through 10 xs)
-line_is None cleared filled line e is h = tt
-line_is (Some xs) cleared filled line e is h = is ∙ h ∙ ap (λ l. l ++ take_through 10 xs) e
-
 pub begun : (options : Options) (unread held told : Option (List ℕ)) → Progress options unread unread held held told told 1 AllWritten
 begun options unread held told = record {
   read = [];
@@ -156,24 +112,22 @@ module _ (options : Options) (unread left held holds told tells : Option (List �
     telling = stop (written_same (all_written told tells (tellings_of 1 p.fates) p.telling) l);
   }
 
-  pub ended : (after new : Option (List ℕ)) → IsAtEnd left → DropsThrough left after 10 → Keeps holds new
+  pub ended : (after new : Option (List ℕ)) → AllRead left after [] → Keeps holds new
       → AnswersLines options unread after held new told tells o
-  ended after new end rest k = record {
+  ended after new end k = record {
     read = p.read;
     fates = p.fates;
     are = p.are;
-    reaches = reaches_all options.goes_on unread after p.read p.fates o p.unless (all_read unread left after p.read p.lines_read end rest);
+    reaches = reaches_all options.goes_on unread after p.read p.fates o p.unless (all_read unread left after p.read p.lines_read end);
     written = Appends_keeps held holds new (outputs_of p.fates) p.written k;
     telling = p.telling;
     is = p.is;
   }
 
   -- one more line is read
-  module _ (after new news : Option (List ℕ)) (cleared filled line : List ℕ) (empty : cleared ≡ []) (is : line ≡ filled)
-      (taken : IfSome left (λ xs. filled ≡ cleared ++ take_through 10 xs)) (rest : DropsThrough left after 10)
-      (some : 0 < length line) where
+  module _ (after new news : Option (List ℕ)) (line : List ℕ) (one : LinesRead left after (line ∷ [])) where
     one_more : LinesRead unread after (p.read ++ line ∷ [])
-    one_more = lines_read_next unread left after p.read line p.lines_read (line_is left cleared filled line empty is taken) rest some
+    one_more = lines_read_next unread left after p.read line p.lines_read one
 
     next_written : (f : Fate) → Appends holds new (output_of f) → Appends held new (outputs_of (p.fates ++ f ∷ []))
     next_written f w = subst (Appends held new) (sym (outputs_next p.fates f)) (Appends-trans held holds new (outputs_of p.fates)

@@ -1,8 +1,6 @@
 -- The lines of an input, and what each of them gives.
-use Rattle.std.specs.Prelude.{◌≡◌, ℕ, suc, ◌==◌, List, [], ◌∷◌, ◌++◌, cond, Option, Result, Ok, Err, ⊤}
-use Rattle.std.specs.Io.BufRead.{strip_last}
+use Rattle.std.specs.Prelude.{◌≡◌, ℕ, suc, List, [], ◌∷◌, ◌++◌, Option, Result, Ok, Err, ⊤}
 use Rattle.std.specs.Str.{IsUtf8, chars}
-use Rattle.tinyjson.specs.Characters.{line_feed}
 use Rattle.tinyjson.specs.Error.{error_kind}
 use Rattle.tinyjson.specs.Grammar.{IsText, IsAccepted}
 use Rattle.tinyjson.specs.JsonParseErrorKind.TheVariants as kind
@@ -10,25 +8,13 @@ use Rattle.tinyjson.specs.Parser.{ParsesText}
 use Rattle.tinyjson.specs.Tree.{Tree}
 use Rattle.tinyjson.specs.declared.parser.error.JsonParseError.{JsonParseError}
 use Rattle.json_line.specs.Line.{line_of}
+-- the lines of the bytes, and a line without its line feed
+pub use Rattle.json_line.specs.Lines.{lines, onto_first, content}
 use Rattle.json_lines.specs.Refusal.{told_line}
 use Rattle.json_lines.specs.declared.lines.Outcome.{Outcome}
 use Rattle.json_lines.specs.declared.lines.Outcome.TheVariants.{AllWritten, SomeRefused}
 use Rattle.json_lines.specs.declared.refusal.Cause.{Cause}
 use Rattle.json_lines.specs.declared.refusal.Cause.TheVariants.{NotUtf8, NotJson}
-
--- puts a byte before the first line
-abbrev pub onto_first : ℕ → List (List ℕ) → List (List ℕ)
-onto_first b [] = (b ∷ []) ∷ []
-onto_first b (line ∷ more) = (b ∷ line) ∷ more
-
--- the lines of the bytes, each with its line feed, which the last may lack
-abbrev pub lines : List ℕ → List (List ℕ)
-lines [] = []
-lines (b ∷ bs) = cond (b == line_feed) ((b ∷ []) ∷ lines bs) (onto_first b (lines bs))
-
--- a line without its line feed
-abbrev pub content : List ℕ → List ℕ
-content line = strip_last line_feed line
 
 -- what a line gives: the tree of its text, or the cause why it is refused
 abbrev pub Fate : Type 0

@@ -1,25 +1,17 @@
 -- What a run does.
-use Rattle.std.specs.Prelude.{◌≡◌, ℕ, Bool, false, List, [], ◌∷◌, ◌++◌, Option, None, Some, IfSome, Result, Ok, Err, ◌⊎◌, ⊤}
+use Rattle.std.specs.Prelude.{◌≡◌, ℕ, Bool, false, List, [], ◌∷◌, ◌++◌, Option, None, Some, IfSome, Result, Ok, Err, ◌⊎◌}
 use Rattle.std.specs.Io.KnownBytes.{Appends, Keeps}
 use Rattle.std.specs.declared.io.Error.{Error}
 use Rattle.tinyjson.specs.Tree.{Tree}
 use Rattle.tinyjson.specs.Written.{WrittenPart}
 use Rattle.json_line.specs.Line.{line_of}
+-- of the known bytes these lines are read; these are all, and nothing is left
+pub use Rattle.json_line.specs.Lines.{LinesRead, AllRead}
 use Rattle.json_lines.specs.Lines.{lines, Fate, HasFate, HaveFates, output_of, outputs_of, telling_of, tellings_of, outcome_of}
 use Rattle.json_lines.specs.declared.lines.Options.{Options}
 use Rattle.json_lines.specs.declared.lines.Outcome.{Outcome}
 use Rattle.json_lines.specs.declared.lines.Outcome.TheVariants.{AllWritten, SomeRefused}
 use Rattle.json_lines.specs.declared.refusal.Cause.{Cause}
-
--- of the known bytes these lines are read
-abbrev pub LinesRead : Option (List ℕ) → Option (List ℕ) → List (List ℕ) → Type 0
-LinesRead None left read = ⊤
-LinesRead (Some xs) None read = ⊥
-LinesRead (Some xs) (Some ys) read = lines xs ≡ read ++ lines ys
-
--- these lines are all, and nothing is left
-abbrev pub AllRead : Option (List ℕ) → Option (List ℕ) → List (List ℕ) → Type 0
-AllRead unread left read = IfSome unread (λ xs. (lines xs ≡ read) × (left ≡ Some []))
 
 -- only the last is refused
 abbrev pub EndsRefused : List Fate → Type 0

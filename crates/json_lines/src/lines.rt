@@ -1,16 +1,15 @@
 //! The normal forms of the lines of an input.
-ghost use Rattle.std.specs.Prelude.{◌≡◌, [], ◌∷◌};
+ghost use Rattle.std.specs.Prelude.{[], ◌∷◌};
 ghost use Rattle.std.specs.Str.{chars};
 ghost use Rattle.tinyjson.specs.Events.{TellsText};
 ghost use Rattle.tinyjson.specs.Tree.{Tree};
 ghost use Rattle.tinyjson.specs.Written.{WritesPrefix};
 ghost use Rattle.tinyjson_normal.specs.Normal.{HasTree};
 ghost use Rattle.json_line.specs.Line.{line_of};
-ghost use Rattle.json_lines.specs.Lines.{content as content_of};
 ghost use Rattle.json_lines.specs.Run.{Runs, Handles, WritesLine};
 
 use crate::refusal::{Cause, Refusal, tell};
-use json_line::write_all;
+use json_line::{content, read_line, write_all};
 use std::alloc::Global;
 use std::io::{self, BufRead, ErrorKind, Write};
 use std::str;
@@ -64,8 +63,7 @@ pub fn run<R: BufRead, W: Write, E: Write>(
     let mut line = Vec::new(alloc);
     let mut outcome = Outcome::AllWritten;
     for number in 1..u64::MAX {
-        line.clear();
-        if input.read_until(b'\n', &mut line)? == 0 {
+        if !read_line(input, &mut line)? {
             output.flush()?;
             return Ok(outcome);
         }
@@ -132,16 +130,6 @@ fn write_line<W: Write>(
             Ok(Some(Cause::NotJson(error)))
         }
     }
-}
-
-/// The line without its line feed.
-fn content(line: &[u8]) -> &[u8]
-    ensures { result.now ≡ content_of line.now }
-{
-    if !line.is_empty() && line[line.len() - 1] == b'\n' {
-        return &line[..line.len() - 1];
-    }
-    line
 }
 
 fn read(alloc: Global, text: &str, limit: Option<usize>) -> Result<NormalText, JsonParseError>

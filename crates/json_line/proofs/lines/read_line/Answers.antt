@@ -1,4 +1,4 @@
-use Rattle.std.proofs.Common.{◌<◌, length, ap, arith}
+use Rattle.std.proofs.Common.{◌<◌, length, arith}
 use Rattle.json_line.proofs.Callers.{line_read, none_read}
 use Rattle.json_line.proofs.lines.read_line.Goals as goal
 
