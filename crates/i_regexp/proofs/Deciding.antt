@@ -9,8 +9,8 @@ use Rattle.i_regexp.specs.Deciding.{splits, is_empty, is_one_in, are_parts, is_a
 use Rattle.i_regexp.specs.Deciding.{with_token, tokens_in, whole_of, regexp_in, is_regexp, pattern_matches, pattern_searches}
 use Rattle.i_regexp.specs.Forms.{Form, empty, class, concat, alternation, repetition, is_in_class, Parts, AtMost, Matches, Searches}
 use Rattle.i_regexp.specs.Fronts.{token_front}
-use Rattle.i_regexp.specs.Grammar.{Token, Spelled, Regexp, regexp_tokens, regexp_form, IsText}
-use Rattle.i_regexp.specs.Levels.{Level, State, fresh, regexp_of, run}
+use Rattle.i_regexp.specs.Grammar.{Token, Spelled, Regexp, regexp_form, IsText}
+use Rattle.i_regexp.specs.Levels.{State, fresh, run}
 use Rattle.i_regexp.specs.Regexps.{PatternMatches, PatternSearches}
 use Rattle.i_regexp.proofs.Machine.{machine_sound, machine_complete}
 use Rattle.i_regexp.proofs.Reading.{Lexes, stop, go, some_same, none_some, front_shorter, lexes_spelled, spelled_lexes}

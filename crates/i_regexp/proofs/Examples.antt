@@ -2,10 +2,14 @@
 use Rattle.std.proofs.Common.{◌≡◌, ◌≤◌, true, false, [], ◌∷◌, Some, None, inr, refl, arith}
 use Rattle.std.specs.Prelude.{codes}
 use Rattle.i_regexp.specs.declared.class.Item.TheVariants.{Range, In, NotIn}
-use Rattle.i_regexp.specs.Forms.{Form, empty, class, concat, alternation, repetition, is_in_class, Matches, Searches}
+use Rattle.i_regexp.specs.Forms.{Form, empty, class, concat, alternation, repetition, is_within, is_in_class, Matches, Searches}
 use Rattle.i_regexp.specs.Fronts.{token_front}
 use Rattle.i_regexp.specs.Grammar.{characters, bar, quantifier, one, any, IsText, Spells, Spelled}
 use Rattle.i_regexp.specs.Grammar as is
+use Rattle.i_regexp.specs.declared.letter.Letter.TheVariants.{Plain}
+use Rattle.i_regexp.specs.declared.letter.Set.TheVariants as set
+use Rattle.i_regexp.specs.Patterns.{class_items, set_items, token}
+use Rattle.i_regexp.specs.PatternFronts.{mark_front}
 
 -- ---- classes (RFC 9485, section 4)
 
@@ -97,3 +101,23 @@ surrogates = refl
 two_branches : IsText (codes "a|.") (is.branches (is.pieces (is.once (is.character false (Range 97 97 ∷ []))) is.nothing)
     (is.last (is.pieces (is.once (is.character true (Range 10 10 ∷ Range 13 13 ∷ []))) is.nothing)))
 two_branches = record { spelled = is.more (is.normal 97 refl) (is.more is.parts (is.more is.dot is.none)) }
+
+-- ---- patterns of schemas: `*?` is `*`, and no `?` follows it; `[a-c-]`; `\w` has `_`, and `\W` has not; U+FEFF is white space
+
+lazy_star : mark_front (42 ∷ 63 ∷ 97 ∷ []) ≡ Some (token (quantifier 0 None), 97 ∷ [])
+lazy_star = refl
+
+lazy_twice : mark_front (42 ∷ 63 ∷ 63 ∷ []) ≡ None
+lazy_twice = refl
+
+range_and_dash : class_items (Plain 97 ∷ Plain 45 ∷ Plain 99 ∷ Plain 45 ∷ []) ≡ Some (Range 97 99 ∷ Range 45 45 ∷ [])
+range_and_dash = refl
+
+underscore : is_within (set_items set.Words) 95 ≡ true
+underscore = refl
+
+no_underscore : is_within (set_items set.NoWords) 95 ≡ false
+no_underscore = refl
+
+byte_order_mark : is_within (set_items set.Spaces) 65279 ≡ true
+byte_order_mark = refl

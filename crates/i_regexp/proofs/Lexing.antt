@@ -47,23 +47,23 @@ spells_some cs t (is.between c cs' d ds h k l m n) = omega arith
 
 -- ---- what a front that is there comes from
 
-some_same : {A : Type 0} {x y : A} → Some x ≡ Some y → x ≡ y
+pub some_same : {A : Type 0} {x y : A} → Some x ≡ Some y → x ≡ y
 some_same h = cc
 
-none_some : {A P : Type 0} {x : A} → None ≡ Some x → P
+pub none_some : {A P : Type 0} {x : A} → None ≡ Some x → P
 none_some h = cc
 
-cond_cases : {A : Type 0} (b : Bool) (x y : Option A) (v : A) → cond b x y ≡ Some v
+pub cond_cases : {A : Type 0} (b : Bool) (x y : Option A) (v : A) → cond b x y ≡ Some v
     → ((b ≡ true) × (x ≡ Some v)) ⊎ ((b ≡ false) × (y ≡ Some v))
 cond_cases true x y v e = inl (refl, e)
 cond_cases false x y v e = inr (refl, e)
 
-then_cases : {A B : Type 0} (f : A → Option B) (o : Option A) (v : B) → option_and_then f o ≡ Some v
+pub then_cases : {A B : Type 0} (f : A → Option B) (o : Option A) (v : B) → option_and_then f o ≡ Some v
     → (p : A) × (o ≡ Some p) × (f p ≡ Some v)
 then_cases f None v e = none_some e
 then_cases f (Some p) v e = (p, refl, e)
 
-map_cases : {A B : Type 0} (f : A → B) (o : Option A) (v : B) → option_map f o ≡ Some v → (p : A) × (o ≡ Some p) × (f p ≡ v)
+pub map_cases : {A B : Type 0} (f : A → B) (o : Option A) (v : B) → option_map f o ≡ Some v → (p : A) × (o ≡ Some p) × (f p ≡ v)
 map_cases f None v e = none_some e
 map_cases f (Some p) v e = (p, refl, some_same e)
 
@@ -360,7 +360,7 @@ first_sound n negated (c ∷ cs) t ys e =
 regroup_class : (bs cs ds ys : List ℕ) → bs ++ (cs ++ (ds ++ 93 ∷ ys)) ≡ (bs ++ (cs ++ (ds ++ 93 ∷ []))) ++ ys
 regroup_class bs cs ds ys = simp append_assoc
 
-no_caret : (bs zs cs : List ℕ) (c : ℕ) → c ∷ cs ≡ bs ++ zs → (c == 94) ≡ false → begins_with_caret bs ≡ false
+pub no_caret : (bs zs cs : List ℕ) (c : ℕ) → c ∷ cs ≡ bs ++ zs → (c == 94) ≡ false → begins_with_caret bs ≡ false
 no_caret [] zs cs c e h = refl
 no_caret (b ∷ bs) zs cs c e h = let same : c ≡ b = cc in subst (λ x. (x == 94) ≡ false) same h
 
@@ -687,7 +687,7 @@ front_sound (c ∷ cs) t ys e =
 
 -- ---- each spelling is its front
 
-not_equal : (c k : ℕ) (ds es : List ℕ) → not (is_one_of (ds ++ k ∷ es) c) ≡ true → (c == k) ≡ false
+pub not_equal : (c k : ℕ) (ds es : List ℕ) → not (is_one_of (ds ++ k ∷ es) c) ≡ true → (c == k) ≡ false
 not_equal c k [] es h = (or_parts (c == k) (is_one_of es c) (not-true (is_one_of (k ∷ es) c) h)).0
 not_equal c k (d ∷ ds) es h =
     let rest = (or_parts (c == d) (is_one_of (ds ++ k ∷ es) c) (not-true (is_one_of ((d ∷ ds) ++ k ∷ es) c) h)).1 in

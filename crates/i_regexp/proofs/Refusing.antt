@@ -80,7 +80,7 @@ begun front tokens s p r =
 some_state : {s u : State} → Some s ≡ Some u → s ≡ u
 some_state h = cc
 
-step_depth : (s : State) (t : Token) (u : State) → advance s t ≡ Some u → length s.1 + begins_group t ≡ length u.1 + ends_group t
+pub step_depth : (s : State) (t : Token) (u : State) → advance s t ≡ Some u → length s.1 + begins_group t ≡ length u.1 + ends_group t
 step_depth s (characters negated items) u e = let same = ap (λ x. length x.1) (some_state e) in omega arith
 step_depth s opened u e = let same = ap (λ x. length x.1) (some_state e) in omega arith
 step_depth (l, []) closed u e = absurd (none_some e)
@@ -105,7 +105,7 @@ run_depth (t ∷ ts) s u e = by (advance s t) refl e (λ v g. run_depth ts v u g
         let rest = rec v g in
         omega arith
 
-outer_length : (fs : List CodeLevel) (ls : List Level) → Outer fs ls → length fs ≡ length ls
+pub outer_length : (fs : List CodeLevel) (ls : List Level) → Outer fs ls → length fs ≡ length ls
 outer_length fs [] o = ap length o
 outer_length fs (l ∷ ls) o =
     let front = outer_length o.0 ls o.5 in

@@ -10,3 +10,8 @@ pub mod Deciding
 pub mod Message
 pub mod Reading
 pub mod Regexps
+pub mod Patterns
+pub mod PatternFronts
+pub mod PatternMachine
+pub mod PatternReading
+pub mod PatternMessage

@@ -1,4 +1,5 @@
-//! Regular expressions of RFC 9485 (I-Regexp), matched in one pass over a text.
+//! Regular expressions of RFC 9485 (I-Regexp), matched in one pass over a text, and the patterns that
+//! JSON Schema asks schemas to keep to.
 //!
 //! ```
 //! let mut months = IRegexp::parse(alloc, "[0-9]{4}-[0-9]{2}")?;
@@ -6,15 +7,23 @@
 //! ```
 #![tactic(auto)]
 
+mod branches;
 mod build;
 mod class;
 mod error;
+mod letter;
 mod limits;
+mod mark;
 mod marked;
+mod pattern;
+mod pattern_error;
 mod reader;
+mod refusal;
 mod regexp;
 mod run;
 mod token;
 
 pub use error::{IRegexpError, IRegexpErrorKind};
+pub use pattern::SchemaPattern;
+pub use pattern_error::{SchemaPatternError, SchemaPatternErrorKind};
 pub use regexp::IRegexp;

@@ -8,6 +8,7 @@ ghost use Rattle.i_regexp.specs.Reading.{Reads};
 ghost use Rattle.i_regexp.specs.Levels.{Level as Read, Stands, StandsAt, fresh, settle, with_atom};
 ghost use Rattle.i_regexp.specs.Levels.{barred, regexp_of, Quantifies, Takes, IsFit, Grows};
 ghost use Rattle.i_regexp.specs.Limits.{repeated};
+ghost use Rattle.i_regexp.specs.PatternMachine.{is_blank};
 
 use crate::build::{choice_of, one_of, repeat, sequence_of};
 use crate::error::{IRegexpError, IRegexpErrorKind};
@@ -31,7 +32,7 @@ pub(crate) struct Level {
 
 impl Level {
     /// A group in which nothing was read, where so much stands before.
-    fn new(alloc: Global, size: usize) -> Level
+    pub(crate) fn new(alloc: Global, size: usize) -> Level
         ensures read { StandsAt result fresh }
         ensures size { result.size ≡ size }
     {
@@ -95,13 +96,26 @@ impl Level {
     }
 
     /// The whole.
-    fn finish(&mut self, alloc: Global) -> Result<Node, AllocError>
+    pub(crate) fn finish(&mut self, alloc: Global) -> Result<Node, AllocError>
         ensures { IfOk result (λ n. (l : Read) → StandsAt self.old l
             → Means n (regexp_form (regexp_of l))) }
     {
         self.end_branch(alloc)?;
         let branches = mem::replace(&mut self.branches, Vec::new(alloc));
         choice_of(alloc, branches)
+    }
+
+    /// Whether nothing was read.
+    pub(crate) fn is_blank(&self) -> bool
+        ensures { (l : Read) → StandsAt self.now l → result ≡ is_blank l }
+    {
+        if !self.branches.is_empty() {
+            return false;
+        }
+        if !self.pieces.is_empty() {
+            return false;
+        }
+        self.last.is_none()
     }
 
     /// Repeats the last atom.
@@ -138,7 +152,7 @@ fn repeated(least: usize, most: Option<usize>) -> usize
 }
 
 /// Takes a token: `here` is the innermost group, and `outer` are those around it.
-fn take(
+pub(crate) fn take(
     alloc: Global,
     outer: &mut Vec<Level>,
     here: &mut Level,

@@ -81,7 +81,7 @@ impl IRegexp {
 }
 
 /// The characters of a text.
-fn characters(alloc: Global, text: &str) -> Result<Vec<char>, AllocError>
+pub(crate) fn characters(alloc: Global, text: &str) -> Result<Vec<char>, AllocError>
     ensures { IfOk result (λ v. v.items ≡ chars text.now) }
 {
     let mut all = Vec::new(alloc);

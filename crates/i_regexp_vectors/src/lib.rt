@@ -9,4 +9,6 @@ mod examples;
 #[cfg(test)]
 mod matching;
 #[cfg(test)]
+mod patterns;
+#[cfg(test)]
 mod refusals;

@@ -1,0 +1,150 @@
+-- What stands at the front of a pattern's text, and what follows it; only private contracts use these words.
+use Rattle.std.specs.Prelude.{◌≡◌, ℕ, zero, suc, Bool, true, false, ◌&&◌, ◌==◌, cond, List, [], ◌∷◌, ◌++◌, length, Option, Some, None}
+use Rattle.std.specs.Prelude.{option_map, option_and_then, Result, Ok, Err}
+use Rattle.std.specs.Borrow.{Bor}
+use Rattle.std.specs.declared.alloc.Global.{Global}
+use Rattle.std.specs.declared.vec.Vec.{Vec}
+use Rattle.i_regexp.specs.declared.error.IRegexpErrorKind.{IRegexpErrorKind}
+use Rattle.i_regexp.specs.declared.error.IRegexpErrorKind.TheVariants as kind
+use Rattle.i_regexp.specs.Characters.{left_parenthesis, right_parenthesis, vertical_bar, question_mark, full_stop, left_bracket, circumflex}
+use Rattle.i_regexp.specs.Characters.{reverse_solidus}
+use Rattle.i_regexp.specs.declared.class.Item.{Item}
+use Rattle.i_regexp.specs.declared.letter.Letter.{Letter}
+use Rattle.i_regexp.specs.declared.letter.Letter.TheVariants.{Plain, Literal}
+use Rattle.i_regexp.specs.declared.mark.Mark.TheVariants as code
+use Rattle.i_regexp.specs.declared.mark.Mark.{Mark as CodeMark}
+use Rattle.i_regexp.specs.Fronts.{token_of, token_front}
+use Rattle.i_regexp.specs.Grammar.{Token, characters, opened, closed, bar, quantifier, one}
+use Rattle.i_regexp.specs.Patterns.{dollar_sign, colon, letter_x, letter_u, letter_items, named_letter, byte_of, unit_of, ends_class, is_dash}
+use Rattle.i_regexp.specs.Patterns.{class_items, Mark, start, end, token, dot, is_normal, fits}
+
+-- a mark of the code
+abbrev pub mark_of : CodeMark → Mark
+mark_of code.Start = start
+mark_of code.End = end
+mark_of (code.Token t) = token (token_of t)
+
+-- a character that was read by its code
+abbrev pub literal_front : List ℕ → Option ℕ → Option (Letter × List ℕ)
+literal_front cs o = option_map (λ n. (Literal n, cs)) o
+
+abbrev pub byte_front : List ℕ → Option (Letter × List ℕ)
+byte_front [] = None
+byte_front (a ∷ []) = None
+byte_front (a ∷ b ∷ cs) = literal_front cs (byte_of a b)
+
+abbrev pub unit_front : List ℕ → Option (Letter × List ℕ)
+unit_front [] = None
+unit_front (a ∷ []) = None
+unit_front (a ∷ b ∷ []) = None
+unit_front (a ∷ b ∷ c ∷ []) = None
+unit_front (a ∷ b ∷ c ∷ d ∷ cs) = literal_front cs (unit_of a b c d)
+
+-- what stands behind a backslash
+abbrev pub escape_front : List ℕ → Option (Letter × List ℕ)
+escape_front [] = None
+escape_front (l ∷ cs) =
+    cond (l == letter_x) (byte_front cs) (cond (l == letter_u) (unit_front cs) (option_map (λ x. (x, cs)) (named_letter l)))
+
+abbrev pub letter_front : List ℕ → Option (Letter × List ℕ)
+letter_front [] = None
+letter_front (c ∷ cs) = cond (c == reverse_solidus) (escape_front cs) (Some (Plain c, cs))
+
+-- what one step finds, with `go` for what follows
+abbrev pub letters_step : (List Letter → List ℕ → Option (List Letter × List ℕ)) → List Letter → Letter × List ℕ
+    → Option (List Letter × List ℕ)
+letters_step go xs p = cond (ends_class p.0) (Some (xs, p.1)) (go (xs ++ p.0 ∷ []) p.1)
+
+-- the letters of a class up to its end, of which there are fewer than n
+abbrev pub letters_front : ℕ → List Letter → List ℕ → Option (List Letter × List ℕ)
+letters_front zero xs cs = None
+letters_front (suc n) xs cs = option_and_then (letters_step (letters_front n) xs) (letter_front cs)
+
+-- a `^` that negates, and what follows
+abbrev pub caret_front : List ℕ → Bool × List ℕ
+caret_front [] = (false, [])
+caret_front (c ∷ cs) = cond (c == circumflex) (true, cs) (false, c ∷ cs)
+
+-- the class of these letters
+abbrev pub class_of : Bool → List Letter × List ℕ → Option (Token × List ℕ)
+class_of negated p = option_map (λ is. (characters negated is, p.1)) (class_items p.0)
+
+-- a class from its first letter on
+abbrev pub class_from : Bool × List ℕ → Option (Token × List ℕ)
+class_from p = option_and_then (class_of p.0) (letters_front (suc (length p.1)) [] p.1)
+
+-- a class behind its bracket
+abbrev pub class_front : List ℕ → Option (Token × List ℕ)
+class_front cs = class_from (caret_front cs)
+
+-- what follows the `-` of a range: its last letter, and the rest
+abbrev pub range_behind : List Letter → Option (Letter × List Letter)
+range_behind [] = None
+range_behind (y ∷ []) = None
+range_behind (y ∷ z ∷ xs) = cond (is_dash y) (Some (z, xs)) None
+
+-- what follows `(`, without `?:`
+abbrev pub silent : List ℕ → List ℕ
+silent [] = []
+silent (c ∷ []) = c ∷ []
+silent (c ∷ d ∷ cs) = cond ((c == question_mark) && (d == colon)) cs (c ∷ d ∷ cs)
+
+-- what follows a quantifier, without its `?`
+abbrev pub eager : List ℕ → List ℕ
+eager [] = []
+eager (c ∷ cs) = cond (c == question_mark) cs (c ∷ cs)
+
+-- a quantifier
+abbrev pub repeat_front : Token × List ℕ → Option (Mark × List ℕ)
+repeat_front (quantifier least most, cs) = Some (token (quantifier least most), eager cs)
+repeat_front (characters negated is, cs) = None
+repeat_front (opened, cs) = None
+repeat_front (closed, cs) = None
+repeat_front (bar, cs) = None
+
+abbrev pub letter_mark : Letter × List ℕ → Mark × List ℕ
+letter_mark p = (token (characters false (letter_items p.0)), p.1)
+
+abbrev pub token_mark : Token × List ℕ → Mark × List ℕ
+token_mark p = (token p.0, p.1)
+
+-- the first mark of a text, whatever follows
+abbrev pub sign_front : List ℕ → Option (Mark × List ℕ)
+sign_front [] = None
+sign_front (c ∷ cs) =
+    cond (c == circumflex) (Some (start, cs))
+    (cond (c == dollar_sign) (Some (end, cs))
+    (cond (c == left_parenthesis) (Some (token opened, silent cs))
+    (cond (c == right_parenthesis) (Some (token closed, cs))
+    (cond (c == vertical_bar) (Some (token bar, cs))
+    (cond (c == full_stop) (Some (token dot, cs))
+    (cond (c == reverse_solidus) (option_map letter_mark (escape_front cs))
+    (cond (c == left_bracket) (option_map token_mark (class_front cs))
+    (cond (is_normal c) (Some (token (one c), cs))
+    (option_and_then repeat_front (token_front (c ∷ cs)))))))))))
+
+-- the same, if it may stand before what follows
+abbrev pub fitting : Mark × List ℕ → Option (Mark × List ℕ)
+fitting p = cond (fits p.0 p.1) (Some p) None
+
+-- the first mark of a text
+abbrev pub mark_front : List ℕ → Option (Mark × List ℕ)
+mark_front cs = option_and_then fitting (sign_front cs)
+
+-- ---- what the code returns
+
+-- of the items of a class: if there are any, those
+abbrev pub ReadsItems : List Letter → Result (Vec Item Global) IRegexpErrorKind → Type 0
+ReadsItems xs (Ok v) = class_items xs ≡ Some v.items
+ReadsItems xs (Err kind.Invalid) = class_items xs ≡ None
+ReadsItems xs (Err kind.TooDeep) = ⊥
+ReadsItems xs (Err kind.TooLarge) = ⊥
+ReadsItems xs (Err kind.OutOfMemory) = Unit {0}
+
+abbrev pub RangeBehind : List Letter → Option (Letter × Bor (List Letter)) → Type 0
+RangeBehind xs None = range_behind xs ≡ None
+RangeBehind xs (Some p) = range_behind xs ≡ Some (p.0, p.1.now)
+
+abbrev pub RangeOf : Option Item → Result Item IRegexpErrorKind → Type 0
+RangeOf o (Ok i) = o ≡ Some i
+RangeOf o (Err k) = (k ≡ kind.Invalid) × (o ≡ None)

@@ -1,0 +1,131 @@
+-- What is read of a pattern's text; `ReadsTree` and `Refused` are for private contracts.
+use Rattle.std.specs.Prelude.{◌≡◌, ℕ, ◌≤◌, ◌+◌, ◌↔◌, Bool, true, false, ◌&&◌, ◌||◌, ◌==◌, cond, List, [], ◌∷◌, ◌++◌, length, ◌⊎◌, Result, Ok, Err}
+use Rattle.i_regexp.specs.Characters.{left_parenthesis, question_mark, circumflex, reverse_solidus, letter_p, capital_p}
+use Rattle.i_regexp.specs.declared.error.IRegexpError.{IRegexpError}
+use Rattle.i_regexp.specs.declared.error.IRegexpErrorKind.{IRegexpErrorKind}
+use Rattle.i_regexp.specs.declared.error.IRegexpErrorKind.TheVariants as kind
+use Rattle.i_regexp.specs.declared.marked.Node.{Node}
+use Rattle.i_regexp.specs.declared.pattern.SchemaPattern.{SchemaPattern}
+use Rattle.i_regexp.specs.declared.pattern_error.SchemaPatternError.{SchemaPatternError}
+use Rattle.i_regexp.specs.declared.pattern_error.SchemaPatternErrorKind.{SchemaPatternErrorKind}
+use Rattle.i_regexp.specs.declared.pattern_error.SchemaPatternErrorKind.TheVariants as reason
+use Rattle.i_regexp.specs.Building.{Means}
+use Rattle.i_regexp.specs.Forms.{Form, Matches}
+use Rattle.i_regexp.specs.Grammar.{is_digit, is_one_of}
+use Rattle.i_regexp.specs.Limits.{depth_limit, begins_group, ends_group, LargeCount}
+use Rattle.i_regexp.specs.Marked.{form_of}
+use Rattle.i_regexp.specs.Patterns.{dollar_sign, letter_u, Mark, token, Spelled, Pattern, IsText, IsSmall, IsFound}
+use Rattle.i_regexp.specs.PatternMachine.{pattern_form}
+
+-- 1 for the mark that begins a group, and 0 for others
+abbrev pub begins_one : Mark → ℕ
+begins_one (token t) = begins_group t
+begins_one m = 0
+
+-- 1 for the mark that ends a group, and 0 for others
+abbrev pub ends_one : Mark → ℕ
+ends_one (token t) = ends_group t
+ends_one m = 0
+
+-- how many groups begin in these marks
+abbrev pub begun_groups : List Mark → ℕ
+begun_groups [] = 0
+begun_groups (m ∷ ms) = begins_one m + begun_groups ms
+
+-- how many groups end in these marks
+abbrev pub ended_groups : List Mark → ℕ
+ended_groups [] = 0
+ended_groups (m ∷ ms) = ends_one m + ended_groups ms
+
+-- A group begins the rest, and as many are open before it as may be.
+pub record OpensTooMany (marks : List Mark) (rest : List ℕ) : Type 0 where
+  pub after : List ℕ
+  pub begins : rest ≡ left_parenthesis ∷ after
+  pub full : ended_groups marks + depth_limit ≤ begun_groups marks
+
+-- the text is no pattern
+abbrev pub IsNone : List ℕ → Type 0
+IsNone cs = (p : Pattern) → IsText cs p → ⊥
+
+-- a count stands here that is too large, or each pattern that the text is has a branch that is
+abbrev pub IsLarge : List ℕ → List ℕ → Type 0
+IsLarge cs rest = LargeCount rest ⊎ ((p : Pattern) → IsText cs p → IsSmall p → ⊥)
+
+-- what a kind of error says of a text that is these marks, and the rest
+abbrev pub Says : List ℕ → List Mark → List ℕ → IRegexpErrorKind → Type 0
+Says cs marks rest kind.Invalid = IsNone cs
+Says cs marks rest kind.TooDeep = OpensTooMany marks rest
+Says cs marks rest kind.TooLarge = IsLarge cs rest
+Says cs marks rest kind.OutOfMemory = Unit {0}
+
+-- What stands before the place is marks, and what follows is what the kind says.
+pub record Refused (cs : List ℕ) (e : IRegexpError) : Type 0 where
+  pub front : List ℕ
+  pub marks : List Mark
+  pub rest : List ℕ
+  pub split : cs ≡ front ++ rest
+  pub placed : e.place ≡ length front
+  pub spelled : Spelled front marks
+  pub says : Says cs marks rest e.kind
+
+-- what reading a text into a tree returns
+abbrev pub ReadsTree : List ℕ → Result Node IRegexpError → Type 0
+ReadsTree cs (Ok n) = (p : Pattern) × IsText cs p × IsSmall p × Means n (pattern_form p)
+ReadsTree cs (Err e) = Refused cs e
+
+-- ---- patterns that were read
+
+-- the letters behind a backslash of what ECMA-262 has besides: \b \B \k \p \P \c \u and digits
+abbrev pub is_other_escape : ℕ → Bool
+is_other_escape c = is_digit c || is_one_of (98 ∷ 66 ∷ 107 ∷ letter_p ∷ capital_p ∷ 99 ∷ letter_u ∷ []) c
+
+-- whether something begins the text that ECMA-262 has and these patterns have not, or not everywhere: `^`, `$`, a group that begins with
+-- `(?`, as a look-around, or an escape, as a back-reference
+abbrev pub is_outside : List ℕ → Bool
+is_outside [] = false
+is_outside (c ∷ []) = (c == circumflex) || (c == dollar_sign)
+is_outside (c ∷ d ∷ cs) =
+    ((c == circumflex) || (c == dollar_sign))
+    || (((c == left_parenthesis) && (d == question_mark)) || ((c == reverse_solidus) && is_other_escape d))
+
+-- the kind of an error, by what stands at its place
+abbrev pub kind_at : List ℕ → IRegexpErrorKind → SchemaPatternErrorKind
+kind_at rest kind.Invalid = cond (is_outside rest) reason.Outside reason.Invalid
+kind_at rest kind.TooDeep = reason.TooDeep
+kind_at rest kind.TooLarge = reason.TooLarge
+kind_at rest kind.OutOfMemory = reason.OutOfMemory
+
+-- what a kind of error says of a text that is these marks, and the rest
+abbrev pub SaysOf : List ℕ → List Mark → List ℕ → SchemaPatternErrorKind → Type 0
+SaysOf cs marks rest reason.Invalid = IsNone cs
+SaysOf cs marks rest reason.Outside = IsNone cs × (is_outside rest ≡ true)
+SaysOf cs marks rest reason.TooDeep = OpensTooMany marks rest
+SaysOf cs marks rest reason.TooLarge = IsLarge cs rest
+SaysOf cs marks rest reason.OutOfMemory = Unit {0}
+
+-- What stands before the place is marks, and what follows is what the kind says.
+pub record IsRefused (cs : List ℕ) (e : SchemaPatternError) : Type 0 where
+  pub front : List ℕ
+  pub marks : List Mark
+  pub rest : List ℕ
+  pub split : cs ≡ front ++ rest
+  pub placed : e.place ≡ length front
+  pub spelled : Spelled front marks
+  pub says : SaysOf cs marks rest e.kind
+
+-- the texts in which the pattern is found, as a regular expression
+abbrev pub texts_of : SchemaPattern → Form
+texts_of x = form_of x.root
+
+-- The text is this pattern, and no other, none of whose branches is too large, and what was read is found in the same texts.
+pub record IsReading (cs : List ℕ) (x : SchemaPattern) : Type 0 where
+  pub meant : Pattern
+  pub text : IsText cs meant
+  pub only : (q : Pattern) → IsText cs q → q ≡ meant
+  pub small : IsSmall meant
+  pub same : (ds : List ℕ) → Matches (texts_of x) ds ↔ IsFound meant ds
+
+-- what reading a text returns
+abbrev pub ReadsPattern : List ℕ → Result SchemaPattern SchemaPatternError → Type 0
+ReadsPattern cs (Ok x) = IsReading cs x
+ReadsPattern cs (Err e) = IsRefused cs e

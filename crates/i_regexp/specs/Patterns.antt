@@ -1,0 +1,253 @@
+-- The grammar of the patterns of schemas (JSON Schema Core 2020-12, 6.4, with escapes of ECMA-262, 22.2.1): which text is which pattern.
+use Rattle.std.specs.Prelude.{◌≡◌, ℕ, ◌+◌, ◌-◌, ◌*◌, Bool, true, false, not, ◌&&◌, ◌||◌, ◌==◌, nat_le, cond, List, [], ◌∷◌, ◌++◌, ◌⊎◌}
+use Rattle.std.specs.Prelude.{Option, Some, None, option_map, option_and_then, map, ◌≤◌}
+use Rattle.i_regexp.specs.Characters.{left_parenthesis, right_parenthesis, vertical_bar, asterisk, plus_sign, question_mark, left_brace}
+use Rattle.i_regexp.specs.Characters.{right_brace, full_stop, left_bracket, circumflex, hyphen, right_bracket, reverse_solidus, line_feed}
+use Rattle.i_regexp.specs.Characters.{carriage_return, letter_n, letter_r, letter_t, horizontal_tab}
+use Rattle.i_regexp.specs.declared.class.Item.{Item}
+use Rattle.i_regexp.specs.declared.class.Item.TheVariants.{Range}
+use Rattle.i_regexp.specs.declared.letter.Letter.{Letter}
+use Rattle.i_regexp.specs.declared.letter.Letter.TheVariants.{Plain, Literal, Named}
+use Rattle.i_regexp.specs.declared.letter.Set.{Set}
+use Rattle.i_regexp.specs.declared.letter.Set.TheVariants as set
+use Rattle.i_regexp.specs.Forms.{Matches}
+use Rattle.i_regexp.specs.Grammar.{Token, characters, opened, closed, bar, quantifier, one, is_one_of, CaretText, begins_with_caret}
+use Rattle.i_regexp.specs.Grammar as regexp
+use Rattle.i_regexp.specs.Grammar.{Branch, branch_tokens, branch_form}
+use Rattle.i_regexp.specs.Limits.{size_limit, branch_size}
+
+-- ---- characters
+
+-- where a text begins, and where it ends
+abbrev pub dollar_sign : ℕ
+dollar_sign = 36
+
+abbrev pub colon : ℕ
+colon = 58
+
+-- the letters of escapes that give the code of a character
+abbrev pub letter_x : ℕ
+letter_x = 120
+
+abbrev pub letter_u : ℕ
+letter_u = 117
+
+-- the characters of a set that has a name: digits, what stands in words, white space with the ends of lines, and all others
+abbrev pub set_items : Set → List Item
+set_items set.Digits = Range 48 57 ∷ []
+set_items set.NoDigits = Range 0 47 ∷ Range 58 1114111 ∷ []
+set_items set.Words = Range 48 57 ∷ Range 65 90 ∷ Range 95 95 ∷ Range 97 122 ∷ []
+set_items set.NoWords = Range 0 47 ∷ Range 58 64 ∷ Range 91 94 ∷ Range 96 96 ∷ Range 123 1114111 ∷ []
+set_items set.Spaces =
+    Range 9 13 ∷ Range 32 32 ∷ Range 160 160 ∷ Range 5760 5760 ∷ Range 8192 8202 ∷ Range 8232 8233 ∷ Range 8239 8239 ∷ Range 8287 8287
+    ∷ Range 12288 12288 ∷ Range 65279 65279 ∷ []
+set_items set.NoSpaces =
+    Range 0 8 ∷ Range 14 31 ∷ Range 33 159 ∷ Range 161 5759 ∷ Range 5761 8191 ∷ Range 8203 8231 ∷ Range 8234 8238 ∷ Range 8240 8286
+    ∷ Range 8288 12287 ∷ Range 12289 65278 ∷ Range 65280 1114111 ∷ []
+
+-- the characters that a letter of a pattern stands for
+abbrev pub letter_items : Letter → List Item
+letter_items (Plain c) = Range c c ∷ []
+letter_items (Literal c) = Range c c ∷ []
+letter_items (Named s) = set_items s
+
+-- the signs of ASCII, which are neither letters nor digits
+abbrev pub is_sign : ℕ → Bool
+is_sign c =
+    (nat_le 33 c && nat_le c 47) || ((nat_le 58 c && nat_le c 64) || ((nat_le 91 c && nat_le c 96) || (nat_le 123 c && nat_le c 126)))
+
+-- what the character behind a backslash stands for: \d \D \w \W \s \S, \t \n \v \f \r, and each sign for itself
+abbrev pub named_letter : ℕ → Option Letter
+named_letter c =
+    cond (c == 100) (Some (Named set.Digits)) (cond (c == 68) (Some (Named set.NoDigits)) (cond (c == 119) (Some (Named set.Words))
+    (cond (c == 87) (Some (Named set.NoWords)) (cond (c == 115) (Some (Named set.Spaces)) (cond (c == 83) (Some (Named set.NoSpaces))
+    (cond (c == letter_t) (Some (Literal horizontal_tab)) (cond (c == letter_n) (Some (Literal line_feed))
+    (cond (c == 118) (Some (Literal 11)) (cond (c == 102) (Some (Literal 12)) (cond (c == letter_r) (Some (Literal carriage_return))
+    (cond (is_sign c) (Some (Literal c)) None)))))))))))
+
+-- the value of a hexadecimal digit
+abbrev pub hex_digit : ℕ → Option ℕ
+hex_digit c =
+    cond (nat_le 48 c && nat_le c 57) (Some (c - 48)) (cond (nat_le 97 c && nat_le c 102) (Some (c - 87))
+    (cond (nat_le 65 c && nat_le c 70) (Some (c - 55)) None))
+
+-- the value of two of them
+abbrev pub byte_of : ℕ → ℕ → Option ℕ
+byte_of a b = option_and_then (λ x. option_map (λ y. 16 * x + y) (hex_digit b)) (hex_digit a)
+
+-- half of a pair of UTF-16, which is no character
+abbrev pub is_surrogate : ℕ → Bool
+is_surrogate n = nat_le 55296 n && nat_le n 57343
+
+-- the character of which this is the code
+abbrev pub scalar : ℕ → Option ℕ
+scalar n = cond (is_surrogate n) None (Some n)
+
+-- the character of which four hexadecimal digits are the code
+abbrev pub unit_of : ℕ → ℕ → ℕ → ℕ → Option ℕ
+unit_of a b c d =
+    option_and_then (λ x. option_and_then (λ y. scalar (256 * x + y)) (byte_of c d)) (byte_of a b)
+
+-- the text is this letter: a character that stands for itself, or an escape
+pub data LetterText : List ℕ → Letter → Type 0 where
+  plain : (c : ℕ) → (c == reverse_solidus) ≡ false → LetterText (c ∷ []) (Plain c)
+  named : (c : ℕ) (x : Letter) → named_letter c ≡ Some x → LetterText (reverse_solidus ∷ c ∷ []) x
+  byte : (a b n : ℕ) → byte_of a b ≡ Some n → LetterText (reverse_solidus ∷ letter_x ∷ a ∷ b ∷ []) (Literal n)
+  unit : (a b c d n : ℕ) → unit_of a b c d ≡ Some n → LetterText (reverse_solidus ∷ letter_u ∷ a ∷ b ∷ c ∷ d ∷ []) (Literal n)
+
+-- ---- classes
+
+-- whether the letter ends a class
+abbrev pub ends_class : Letter → Bool
+ends_class (Plain c) = c == right_bracket
+ends_class (Literal c) = false
+ends_class (Named s) = false
+
+-- whether it is the `-` of a range
+abbrev pub is_dash : Letter → Bool
+is_dash (Plain c) = c == hyphen
+is_dash (Literal c) = false
+is_dash (Named s) = false
+
+-- letters of a class, one after the other
+pub data LettersText : List ℕ → List Letter → Type 0 where
+  none : LettersText [] []
+  more : {cs ds : List ℕ} {x : Letter} {xs : List Letter} → LetterText cs x → ends_class x ≡ false → LettersText ds xs
+      → LettersText (cs ++ ds) (x ∷ xs)
+
+-- the one character that a letter stands for, if it is no set
+abbrev pub character_of : Letter → Option ℕ
+character_of (Plain c) = Some c
+character_of (Literal c) = Some c
+character_of (Named s) = None
+
+-- the range from one character to another, if it does not end before it begins
+abbrev pub ordered : ℕ → ℕ → Option Item
+ordered c d = cond (nat_le c d) (Some (Range c d)) None
+
+abbrev pub range_of : Letter → Letter → Option Item
+range_of x y = option_and_then (λ c. option_and_then (ordered c) (character_of y)) (character_of x)
+
+-- The items of a class: a `-` between two letters makes a range of them, which both are to be characters; each other letter stands alone.
+abbrev pub class_items : List Letter → Option (List Item)
+class_items [] = Some []
+class_items (x ∷ []) = Some (letter_items x)
+class_items (x ∷ y ∷ []) = Some (letter_items x ++ letter_items y)
+class_items (x ∷ y ∷ z ∷ xs) =
+    cond (is_dash y) (option_and_then (λ i. option_map (λ is. i ∷ is) (class_items xs)) (range_of x z))
+    (option_map (λ is. letter_items x ++ is) (class_items (y ∷ z ∷ xs)))
+
+-- ---- marks
+
+-- what a pattern is made of: the beginning of the text, its end, or a token
+pub data Mark : Type 0 where
+  start : Mark
+  end : Mark
+  token : Token → Mark
+
+-- every character but a line feed, a carriage return, and the ends of lines and paragraphs of Unicode
+abbrev pub dot : Token
+dot = characters true (Range line_feed line_feed ∷ Range carriage_return carriage_return ∷ Range 8232 8233 ∷ [])
+
+-- a character that stands for itself outside of classes
+abbrev pub is_normal : ℕ → Bool
+is_normal c = not (is_one_of (circumflex ∷ dollar_sign ∷ left_parenthesis ∷ right_parenthesis ∷ vertical_bar ∷ full_stop
+    ∷ reverse_solidus ∷ left_bracket ∷ asterisk ∷ plus_sign ∷ question_mark ∷ left_brace ∷ right_bracket ∷ right_brace ∷ []) c)
+
+-- The text is this mark. The lazy form of a quantifier is the same token as the other.
+pub data Spells : List ℕ → Mark → Type 0 where
+  begins : Spells (circumflex ∷ []) start
+  finishes : Spells (dollar_sign ∷ []) end
+  opens : Spells (left_parenthesis ∷ []) (token opened)
+  opens_silently : Spells (left_parenthesis ∷ question_mark ∷ colon ∷ []) (token opened)
+  closes : Spells (right_parenthesis ∷ []) (token closed)
+  parts : Spells (vertical_bar ∷ []) (token bar)
+  any : Spells (full_stop ∷ []) (token dot)
+  normal : (c : ℕ) → is_normal c ≡ true → Spells (c ∷ []) (token (one c))
+  escape : {cs : List ℕ} {x : Letter} → LetterText (reverse_solidus ∷ cs) x
+      → Spells (reverse_solidus ∷ cs) (token (characters false (letter_items x)))
+  bracket : {hs cs : List ℕ} {negated : Bool} {xs : List Letter} {is : List Item}
+      → CaretText hs negated → LettersText cs xs → (negated ≡ false → begins_with_caret cs ≡ false) → class_items xs ≡ Some is
+      → Spells (left_bracket ∷ (hs ++ (cs ++ right_bracket ∷ []))) (token (characters negated is))
+  greedy : {cs : List ℕ} {least : ℕ} {most : Option ℕ} → regexp.Spells cs (quantifier least most)
+      → Spells cs (token (quantifier least most))
+  lazy : {cs : List ℕ} {least : ℕ} {most : Option ℕ} → regexp.Spells cs (quantifier least most)
+      → Spells (cs ++ question_mark ∷ []) (token (quantifier least most))
+
+-- whether a `?` behind it would belong to it
+abbrev pub takes_question : Mark → Bool
+takes_question (token opened) = true
+takes_question (token (quantifier least most)) = true
+takes_question m = false
+
+abbrev pub begins_with_question : List ℕ → Bool
+begins_with_question [] = false
+begins_with_question (c ∷ cs) = c == question_mark
+
+-- whether the mark may stand before the text: behind `(` and behind a quantifier no `?` stands but their own
+abbrev pub fits : Mark → List ℕ → Bool
+fits m cs = not (takes_question m && begins_with_question cs)
+
+-- the text is these marks, one after the other
+pub data Spelled : List ℕ → List Mark → Type 0 where
+  none : Spelled [] []
+  more : {cs ds : List ℕ} {m : Mark} {ms : List Mark} → Spells cs m → fits m ds ≡ true → Spelled ds ms → Spelled (cs ++ ds) (m ∷ ms)
+
+-- ---- patterns
+
+-- A branch of the outermost choice, and whether it begins where the text begins, and ends where it ends.
+pub record Part : Type 0 where
+  pub starts : Bool
+  pub branch : Branch
+  pub ends : Bool
+
+-- the branches of the outermost choice
+pub record Pattern : Type 0 where
+  pub before : List Part
+  pub last : Part
+
+abbrev pub mark_if : Bool → Mark → List Mark
+mark_if true m = m ∷ []
+mark_if false m = []
+
+abbrev pub part_marks : Part → List Mark
+part_marks q = mark_if q.starts start ++ (map token (branch_tokens q.branch) ++ mark_if q.ends end)
+
+-- branches, each with the bar behind it
+abbrev pub barred_marks : List Part → List Mark
+barred_marks [] = []
+barred_marks (q ∷ qs) = part_marks q ++ token bar ∷ barred_marks qs
+
+abbrev pub pattern_marks : Pattern → List Mark
+pattern_marks p = barred_marks p.before ++ part_marks p.last
+
+-- the text is in the grammar, and is this pattern
+pub record IsText (cs : List ℕ) (p : Pattern) : Type 0 where
+  pub spelled : Spelled cs (pattern_marks p)
+
+-- the branch matches a part of the text, which begins where the text begins, and ends where it ends, if the branch says so
+pub record Finds (q : Part) (cs : List ℕ) : Type 0 where
+  pub before : List ℕ
+  pub part : List ℕ
+  pub after : List ℕ
+  pub split : cs ≡ before ++ (part ++ after)
+  pub matched : Matches (branch_form q.branch) part
+  pub starts : q.starts ≡ true → before ≡ []
+  pub ends : q.ends ≡ true → after ≡ []
+
+-- one of the branches does
+abbrev pub FindsOne : List Part → List ℕ → Type 0
+FindsOne [] cs = ⊥
+FindsOne (q ∷ qs) cs = Finds q cs ⊎ FindsOne qs cs
+
+-- the pattern is found in the text
+abbrev pub IsFound : Pattern → List ℕ → Type 0
+IsFound p cs = FindsOne (p.before ++ p.last ∷ []) cs
+
+-- each branch is not too large
+abbrev pub AreSmall : List Part → Type 0
+AreSmall [] = Unit {0}
+AreSmall (q ∷ qs) = (branch_size q.branch ≤ size_limit) × AreSmall qs
+
+abbrev pub IsSmall : Pattern → Type 0
+IsSmall p = AreSmall (p.before ++ p.last ∷ [])

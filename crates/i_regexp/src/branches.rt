@@ -1,0 +1,193 @@
+//! Reading the marks of a schema's pattern into a tree.
+ghost use Rattle.std.specs.Prelude.{◌≡◌, ◌<◌, OnOk, IfOk, true, vec_len};
+ghost use Rattle.i_regexp.specs.Building.{Means};
+ghost use Rattle.i_regexp.specs.Fronts.{token_of};
+ghost use Rattle.i_regexp.specs.Levels.{IsFit};
+ghost use Rattle.i_regexp.specs.Patterns.{start, end, token};
+ghost use Rattle.i_regexp.specs.PatternFronts.{mark_of};
+ghost use Rattle.i_regexp.specs.PatternMachine.{TakesMark, Finishes, EndsPart, AgreesAt, initial};
+ghost use Rattle.i_regexp.specs.PatternMachine.{open_form, is_bar, no_levels, next_part};
+ghost use Rattle.i_regexp.specs.PatternMachine.{PatternState, IsFitMark};
+ghost use Rattle.i_regexp.specs.PatternReading.{ReadsTree};
+
+use crate::build::{choice_of, concat, one_of, star};
+use crate::class::Class;
+use crate::error::{IRegexpError, IRegexpErrorKind};
+use crate::mark::{Mark, next_mark};
+use crate::marked::Node;
+use crate::reader::{Level, take};
+use crate::token::Token;
+use std::alloc::{AllocError, Global};
+use std::mem;
+
+/// What was read of a pattern: the branches that have ended, whether the last one begins and ends
+/// where the text does, and what was read of it.
+#[derive(Drop)]
+pub(crate) struct Branches {
+    parts: Vec<Node>,
+    starts: bool,
+    ends: bool,
+    outer: Vec<Level>,
+    here: Level,
+}
+
+impl Branches {
+    /// Nothing read.
+    fn new(alloc: Global) -> Branches
+        ensures { AgreesAt result initial }
+    {
+        Branches {
+            parts: Vec::new(alloc),
+            starts: false,
+            ends: false,
+            outer: Vec::new(alloc),
+            here: Level::new(alloc, 0),
+        }
+    }
+
+    /// Ends a branch, which is a node with what stands before and after it in a text.
+    fn end_part(&mut self, alloc: Global) -> Result<(), AllocError>
+        ensures part { OnOk result (EndsPart self.old self.new.parts.items) }
+        ensures some { OnOk result (0 < vec_len self.new.parts) }
+    {
+        let node = self.here.finish(alloc)?;
+        let behind = concat(alloc, node, open_end(alloc, self.ends)?)?;
+        let part = concat(alloc, open_end(alloc, self.starts)?, behind)?;
+        self.parts.push(part)?;
+        Ok(())
+    }
+
+    /// Takes a bar outside of groups.
+    fn take_bar(&mut self, alloc: Global) -> Result<(), AllocError>
+        ensures { OnOk result ((s : PatternState) → AgreesAt self.old s
+            → no_levels s.state.1 ≡ true → AgreesAt self.new (next_part s)) }
+    {
+        self.end_part(alloc)?;
+        self.starts = false;
+        self.ends = false;
+        self.outer = Vec::new(alloc);
+        self.here = Level::new(alloc, 0);
+        Ok(())
+    }
+
+    /// Takes a `^`.
+    fn take_start(&mut self) -> Result<(), IRegexpErrorKind>
+        ensures { TakesMark self.old start result self.new }
+    {
+        if self.ends {
+            return Err(IRegexpErrorKind::Invalid);
+        }
+        if self.starts {
+            return Err(IRegexpErrorKind::Invalid);
+        }
+        if !self.outer.is_empty() {
+            return Err(IRegexpErrorKind::Invalid);
+        }
+        if !self.here.is_blank() {
+            return Err(IRegexpErrorKind::Invalid);
+        }
+        self.starts = true;
+        Ok(())
+    }
+
+    /// Takes a `$`.
+    fn take_end(&mut self) -> Result<(), IRegexpErrorKind>
+        ensures { TakesMark self.old end result self.new }
+    {
+        if self.ends {
+            return Err(IRegexpErrorKind::Invalid);
+        }
+        if !self.outer.is_empty() {
+            return Err(IRegexpErrorKind::Invalid);
+        }
+        self.ends = true;
+        Ok(())
+    }
+
+    /// Takes a token.
+    fn take_token(&mut self, alloc: Global, taken: Token) -> Result<(), IRegexpErrorKind>
+        requires { IsFit (token_of taken) }
+        ensures { TakesMark self.old (token (token_of taken)) result self.new }
+    {
+        let next = self.outer.is_empty() & is_bar(&taken);
+        if next {
+            self.take_bar(alloc)?;
+            return Ok(());
+        }
+        if self.ends {
+            return Err(IRegexpErrorKind::Invalid);
+        }
+        take(alloc, &mut self.outer, &mut self.here, taken)
+    }
+
+    /// Takes a mark.
+    fn take_mark(&mut self, alloc: Global, mark: Mark) -> Result<(), IRegexpErrorKind>
+        requires { IsFitMark (mark_of mark) }
+        ensures { TakesMark self.old (mark_of mark) result self.new }
+    {
+        match mark {
+            Mark::Start => self.take_start(),
+            Mark::End => self.take_end(),
+            Mark::Token(taken) => self.take_token(alloc, taken),
+        }
+    }
+
+    /// The whole.
+    fn finish(&mut self, alloc: Global) -> Result<Node, IRegexpErrorKind>
+        ensures { Finishes self.old result }
+    {
+        if !self.outer.is_empty() {
+            return Err(IRegexpErrorKind::Invalid);
+        }
+        self.end_part(alloc)?;
+        let parts = mem::replace(&mut self.parts, Vec::new(alloc));
+        Ok(choice_of(alloc, parts)?)
+    }
+}
+
+/// Whether it is a bar.
+fn is_bar(token: &Token) -> bool
+    ensures { result ≡ is_bar (token_of token.now) }
+{
+    matches!(token, Token::Bar)
+}
+
+/// Any text, where a branch need not begin or end with the text.
+fn open_end(alloc: Global, closed: bool) -> Result<Node, AllocError>
+    ensures { IfOk result (λ n. Means n (open_form closed)) }
+{
+    if closed {
+        return Ok(Node::Empty);
+    }
+    star(
+        alloc,
+        one_of(Class {
+            negated: true,
+            items: Vec::new(alloc),
+        }),
+    )
+}
+
+/// Reads a whole text.
+pub(crate) fn read_pattern(alloc: Global, text: &[char]) -> Result<Node, IRegexpError>
+    ensures { ReadsTree text.now result }
+{
+    let mut branches = Branches::new(alloc);
+    let mut rest = text;
+    while !rest.is_empty() {
+        let place = text.len().saturating_sub(rest.len());
+        let (mark, after) = match next_mark(alloc, rest) {
+            Ok(pair) => pair,
+            Err(kind) => return Err(IRegexpError { kind, place }),
+        };
+        if let Err(kind) = branches.take_mark(alloc, mark) {
+            return Err(IRegexpError { kind, place });
+        }
+        rest = after;
+    }
+    let place = text.len();
+    match branches.finish(alloc) {
+        Ok(node) => Ok(node),
+        Err(kind) => Err(IRegexpError { kind, place }),
+    }
+}

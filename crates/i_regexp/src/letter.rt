@@ -1,0 +1,290 @@
+//! The letters of a schema's pattern: characters, escapes, and sets that have a name.
+ghost use Rattle.std.specs.Prelude.{◌≡◌, ◌++◌, ◌<◌, [], OnOk, IfSome, length};
+ghost use Rattle.i_regexp.specs.Fronts.{Fronts};
+ghost use Rattle.i_regexp.specs.Patterns.{set_items, letter_items, is_sign, named_letter, hex_digit};
+ghost use Rattle.i_regexp.specs.Patterns.{byte_of, unit_of, ends_class, is_dash};
+ghost use Rattle.i_regexp.specs.Patterns.{character_of, scalar};
+ghost use Rattle.i_regexp.specs.PatternFronts.{byte_front, unit_front, escape_front, letter_front};
+
+use crate::class::Item;
+use crate::error::IRegexpErrorKind;
+use std::alloc::AllocError;
+
+/// A set of characters that has a name (ECMA-262, 22.2.2.9).
+#[derive(Clone, Copy)]
+pub(crate) enum Set {
+    Digits,
+    NoDigits,
+    Words,
+    NoWords,
+    Spaces,
+    NoSpaces,
+}
+
+impl Set {
+    /// Adds its characters.
+    fn add_to(self, items: &mut Vec<Item>) -> Result<(), AllocError>
+        ensures { OnOk result (items.new.items ≡ items.old.items ++ set_items self) }
+    {
+        match self {
+            Set::Digits => items.extend_from_slice(&DIGITS),
+            Set::NoDigits => items.extend_from_slice(&NO_DIGITS),
+            Set::Words => items.extend_from_slice(&WORDS),
+            Set::NoWords => items.extend_from_slice(&NO_WORDS),
+            Set::Spaces => items.extend_from_slice(&SPACES),
+            Set::NoSpaces => items.extend_from_slice(&NO_SPACES),
+        }
+    }
+}
+
+const DIGITS: [Item; 1] = [Item::Range('0', '9')];
+
+const NO_DIGITS: [Item; 2] = [Item::Range('\0', '/'), Item::Range(':', '\u{10ffff}')];
+
+const WORDS: [Item; 4] = [
+    Item::Range('0', '9'),
+    Item::Range('A', 'Z'),
+    Item::Range('_', '_'),
+    Item::Range('a', 'z'),
+];
+
+const NO_WORDS: [Item; 5] = [
+    Item::Range('\0', '/'),
+    Item::Range(':', '@'),
+    Item::Range('[', '^'),
+    Item::Range('`', '`'),
+    Item::Range('{', '\u{10ffff}'),
+];
+
+const SPACES: [Item; 10] = [
+    Item::Range('\t', '\r'),
+    Item::Range(' ', ' '),
+    Item::Range('\u{a0}', '\u{a0}'),
+    Item::Range('\u{1680}', '\u{1680}'),
+    Item::Range('\u{2000}', '\u{200a}'),
+    Item::Range('\u{2028}', '\u{2029}'),
+    Item::Range('\u{202f}', '\u{202f}'),
+    Item::Range('\u{205f}', '\u{205f}'),
+    Item::Range('\u{3000}', '\u{3000}'),
+    Item::Range('\u{feff}', '\u{feff}'),
+];
+
+const NO_SPACES: [Item; 11] = [
+    Item::Range('\0', '\u{8}'),
+    Item::Range('\u{e}', '\u{1f}'),
+    Item::Range('!', '\u{9f}'),
+    Item::Range('\u{a1}', '\u{167f}'),
+    Item::Range('\u{1681}', '\u{1fff}'),
+    Item::Range('\u{200b}', '\u{2027}'),
+    Item::Range('\u{202a}', '\u{202e}'),
+    Item::Range('\u{2030}', '\u{205e}'),
+    Item::Range('\u{2060}', '\u{2fff}'),
+    Item::Range('\u{3001}', '\u{fefe}'),
+    Item::Range('\u{ff00}', '\u{10ffff}'),
+];
+
+/// A letter: a character that stands for itself, one that an escape stands for, or a set.
+#[derive(Clone, Copy)]
+pub(crate) enum Letter {
+    Plain(char),
+    Literal(char),
+    Named(Set),
+}
+
+impl Letter {
+    /// Adds the characters that it stands for.
+    pub(crate) fn add_to(self, items: &mut Vec<Item>) -> Result<(), AllocError>
+        ensures { OnOk result (items.new.items ≡ items.old.items ++ letter_items self) }
+    {
+        match self {
+            Letter::Plain(c) => Ok(items.push(Item::Range(c, c))?),
+            Letter::Literal(c) => Ok(items.push(Item::Range(c, c))?),
+            Letter::Named(set) => set.add_to(items),
+        }
+    }
+
+    /// Whether it ends a class.
+    pub(crate) fn ends_class(self) -> bool
+        ensures { result ≡ ends_class self }
+    {
+        match self {
+            Letter::Plain(c) => c == ']',
+            Letter::Literal(_) => false,
+            Letter::Named(_) => false,
+        }
+    }
+
+    /// Whether it is the `-` of a range.
+    pub(crate) fn is_dash(self) -> bool
+        ensures { result ≡ is_dash self }
+    {
+        match self {
+            Letter::Plain(c) => c == '-',
+            Letter::Literal(_) => false,
+            Letter::Named(_) => false,
+        }
+    }
+
+    /// The one character that it stands for.
+    pub(crate) fn character(self) -> Option<char>
+        ensures { result ≡ character_of self }
+    {
+        match self {
+            Letter::Plain(c) => Some(c),
+            Letter::Literal(c) => Some(c),
+            Letter::Named(_) => None,
+        }
+    }
+}
+
+/// Whether it is a sign of ASCII.
+fn is_sign(c: char) -> bool
+    ensures { result ≡ is_sign c }
+{
+    '!' <= c && c <= '/' || ':' <= c && c <= '@' || '[' <= c && c <= '`' || '{' <= c && c <= '~'
+}
+
+/// What this character stands for behind a backslash.
+fn named(letter: char) -> Option<Letter>
+    ensures { result ≡ named_letter letter }
+{
+    match letter {
+        'd' => Some(Letter::Named(Set::Digits)),
+        'D' => Some(Letter::Named(Set::NoDigits)),
+        'w' => Some(Letter::Named(Set::Words)),
+        'W' => Some(Letter::Named(Set::NoWords)),
+        's' => Some(Letter::Named(Set::Spaces)),
+        'S' => Some(Letter::Named(Set::NoSpaces)),
+        't' => Some(Letter::Literal('\t')),
+        'n' => Some(Letter::Literal('\n')),
+        'v' => Some(Letter::Literal('\u{b}')),
+        'f' => Some(Letter::Literal('\u{c}')),
+        'r' => Some(Letter::Literal('\r')),
+        c => {
+            if is_sign(c) {
+                return Some(Letter::Literal(c));
+            }
+            None
+        }
+    }
+}
+
+/// The value of a hexadecimal digit.
+fn hex_digit(c: char) -> Option<u32>
+    ensures value { result ≡ hex_digit c }
+    ensures few { IfSome result (λ n. n < 16) }
+{
+    if '0' <= c && c <= '9' {
+        return Some(c as u32 - 48);
+    }
+    if 'a' <= c && c <= 'f' {
+        return Some(c as u32 - 87);
+    }
+    if 'A' <= c && c <= 'F' {
+        return Some(c as u32 - 55);
+    }
+    None
+}
+
+/// The value of two hexadecimal digits.
+fn byte_of(first: char, second: char) -> Option<u32>
+    ensures value { result ≡ byte_of first second }
+    ensures few { IfSome result (λ n. n < 256) }
+{
+    let high = hex_digit(first)?;
+    let low = hex_digit(second)?;
+    Some(16 * high + low)
+}
+
+/// The character of which this is the code.
+fn scalar(code: u32) -> Option<char>
+    requires { code < 65536 }
+    ensures { result ≡ scalar code }
+{
+    if 0xd800 <= code && code <= 0xdfff {
+        return None;
+    }
+    char::from_u32(code)
+}
+
+/// The character of which four hexadecimal digits are the code.
+fn unit_of(a: char, b: char, c: char, d: char) -> Option<char>
+    ensures { result ≡ unit_of a b c d }
+{
+    let high = byte_of(a, b)?;
+    let low = byte_of(c, d)?;
+    scalar(256 * high + low)
+}
+
+/// The character of which the code stands here, by two digits.
+fn byte(text: &[char]) -> Result<(Letter, &[char]), IRegexpErrorKind>
+    ensures { Fronts ⊥ (λ x. x) (byte_front text.now) result }
+{
+    let Some((a, rest)) = text.split_first() else {
+        return Err(IRegexpErrorKind::Invalid);
+    };
+    let Some((b, rest)) = rest.split_first() else {
+        return Err(IRegexpErrorKind::Invalid);
+    };
+    let Some(code) = byte_of(*a, *b) else {
+        return Err(IRegexpErrorKind::Invalid);
+    };
+    let Some(c) = scalar(code) else {
+        return Err(IRegexpErrorKind::Invalid);
+    };
+    Ok((Letter::Literal(c), rest))
+}
+
+/// The character of which the code stands here, by four digits.
+fn unit(text: &[char]) -> Result<(Letter, &[char]), IRegexpErrorKind>
+    ensures { Fronts ⊥ (λ x. x) (unit_front text.now) result }
+{
+    let Some((a, rest)) = text.split_first() else {
+        return Err(IRegexpErrorKind::Invalid);
+    };
+    let Some((b, rest)) = rest.split_first() else {
+        return Err(IRegexpErrorKind::Invalid);
+    };
+    let Some((c, rest)) = rest.split_first() else {
+        return Err(IRegexpErrorKind::Invalid);
+    };
+    let Some((d, rest)) = rest.split_first() else {
+        return Err(IRegexpErrorKind::Invalid);
+    };
+    let Some(c) = unit_of(*a, *b, *c, *d) else {
+        return Err(IRegexpErrorKind::Invalid);
+    };
+    Ok((Letter::Literal(c), rest))
+}
+
+/// What stands behind a backslash.
+pub(crate) fn escape(text: &[char]) -> Result<(Letter, &[char]), IRegexpErrorKind>
+    ensures { Fronts ⊥ (λ x. x) (escape_front text.now) result }
+{
+    let Some((first, rest)) = text.split_first() else {
+        return Err(IRegexpErrorKind::Invalid);
+    };
+    if *first == 'x' {
+        return byte(rest);
+    }
+    if *first == 'u' {
+        return unit(rest);
+    }
+    match named(*first) {
+        Some(letter) => Ok((letter, rest)),
+        None => Err(IRegexpErrorKind::Invalid),
+    }
+}
+
+/// The letter that stands here.
+pub(crate) fn next_letter(text: &[char]) -> Result<(Letter, &[char]), IRegexpErrorKind>
+    ensures { Fronts ⊥ (λ x. x) (letter_front text.now) result }
+{
+    let Some((first, rest)) = text.split_first() else {
+        return Err(IRegexpErrorKind::Invalid);
+    };
+    if *first == '\\' {
+        return escape(rest);
+    }
+    Ok((Letter::Plain(*first), rest))
+}

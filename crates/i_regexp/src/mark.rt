@@ -1,0 +1,259 @@
+//! The marks of a schema's pattern.
+ghost use Rattle.std.specs.Prelude.{◌≡◌, ℕ, ◌<◌, [], IfOk, length, option_map, option_and_then};
+ghost use Rattle.i_regexp.specs.Limits.{LargeCount};
+ghost use Rattle.i_regexp.specs.Fronts.{Fronts, token_of, token_front};
+ghost use Rattle.i_regexp.specs.declared.token.Token.TheVariants.{Characters};
+ghost use Rattle.i_regexp.specs.Patterns.{is_normal, class_items, begins_with_question, dot};
+ghost use Rattle.i_regexp.specs.Patterns.{takes_question, range_of};
+ghost use Rattle.i_regexp.specs.PatternFronts.{mark_of, mark_front, sign_front, class_front};
+ghost use Rattle.i_regexp.specs.PatternFronts.{letters_front, caret_front, range_behind, silent};
+ghost use Rattle.i_regexp.specs.PatternFronts.{eager, letter_mark, escape_front, repeat_front};
+ghost use Rattle.i_regexp.specs.PatternFronts.{ReadsItems, RangeBehind, RangeOf};
+
+use crate::class::{Class, Item};
+use crate::error::IRegexpErrorKind;
+use crate::letter::{Letter, escape, next_letter};
+use crate::token::{Token, next_token};
+use std::alloc::{AllocError, Global};
+
+/// A part of a pattern's text that has a meaning of its own: the beginning of the text that is
+/// searched, its end, or a token.
+#[derive(Drop)]
+pub(crate) enum Mark {
+    Start,
+    End,
+    Token(Token),
+}
+
+impl Mark {
+    /// Whether a `?` behind it would belong to it.
+    fn takes_question(&self) -> bool
+        ensures { result ≡ takes_question (mark_of self.now) }
+    {
+        matches!(self, Mark::Token(Token::Open | Token::Quantifier { .. }))
+    }
+}
+
+/// The first mark of a text, and what stands after it.
+pub(crate) fn next_mark<'t>(
+    alloc: Global,
+    text: &'t [char],
+) -> Result<(Mark, &'t [char]), IRegexpErrorKind>
+    ensures { Fronts (LargeCount text.now) mark_of (mark_front text.now) result }
+{
+    let (mark, rest) = sign(alloc, text)?;
+    if mark.takes_question() && begins_with_question(rest) {
+        return Err(IRegexpErrorKind::Invalid);
+    }
+    Ok((mark, rest))
+}
+
+/// Whether a `?` stands here.
+fn begins_with_question(text: &[char]) -> bool
+    ensures { result ≡ begins_with_question text.now }
+{
+    match text.split_first() {
+        Some((first, _)) => *first == '?',
+        None => false,
+    }
+}
+
+/// The first mark of a text, whatever stands after it.
+fn sign<'t>(alloc: Global, text: &'t [char]) -> Result<(Mark, &'t [char]), IRegexpErrorKind>
+    ensures { Fronts (LargeCount text.now) mark_of (sign_front text.now) result }
+{
+    let Some((first, rest)) = text.split_first() else {
+        return Err(IRegexpErrorKind::Invalid);
+    };
+    match *first {
+        '^' => Ok((Mark::Start, rest)),
+        '$' => Ok((Mark::End, rest)),
+        '(' => Ok((Mark::Token(Token::Open), silent(rest))),
+        ')' => Ok((Mark::Token(Token::Close), rest)),
+        '|' => Ok((Mark::Token(Token::Bar), rest)),
+        '.' => Ok((Mark::Token(Token::Characters(dot(alloc)?)), rest)),
+        '\\' => escaped(alloc, rest),
+        '[' => {
+            let (token, after) = class(alloc, rest)?;
+            Ok((Mark::Token(token), after))
+        }
+        c => {
+            if is_normal(c) {
+                let one = Class::single(alloc, Item::Range(c, c))?;
+                return Ok((Mark::Token(Token::Characters(one)), rest));
+            }
+            repeated(alloc, text)
+        }
+    }
+}
+
+/// Whether the character stands for itself outside of classes.
+fn is_normal(c: char) -> bool
+    ensures { result ≡ is_normal c }
+{
+    !matches!(
+        c,
+        '^' | '$' | '(' | ')' | '|' | '.' | '\\' | '[' | '*' | '+' | '?' | '{' | ']' | '}'
+    )
+}
+
+/// What stands behind an opening parenthesis, without `?:`.
+fn silent(text: &[char]) -> &[char]
+    ensures { result.now ≡ silent text.now }
+{
+    let Some((first, rest)) = text.split_first() else {
+        return text;
+    };
+    let Some((second, after)) = rest.split_first() else {
+        return text;
+    };
+    if *first == '?' && *second == ':' {
+        return after;
+    }
+    text
+}
+
+/// What stands behind a quantifier, without its `?`.
+fn eager(text: &[char]) -> &[char]
+    ensures { result.now ≡ eager text.now }
+{
+    match text.split_first() {
+        Some((first, rest)) => if *first == '?' { rest } else { text },
+        None => text,
+    }
+}
+
+/// Every character but the ends of lines.
+fn dot(alloc: Global) -> Result<Class, AllocError>
+    ensures { IfOk result (λ k. token_of (Characters k) ≡ dot) }
+{
+    let mut items = Vec::new(alloc);
+    items.push(Item::Range('\n', '\n'))?;
+    items.push(Item::Range('\r', '\r'))?;
+    items.push(Item::Range('\u{2028}', '\u{2029}'))?;
+    Ok(Class {
+        negated: true,
+        items,
+    })
+}
+
+/// The characters of an escape, behind its backslash.
+fn escaped<'t>(alloc: Global, text: &'t [char]) -> Result<(Mark, &'t [char]), IRegexpErrorKind>
+    ensures { Fronts ⊥ mark_of (option_map letter_mark (escape_front text.now)) result }
+{
+    let (letter, after) = escape(text)?;
+    let mut items = Vec::new(alloc);
+    letter.add_to(&mut items)?;
+    let class = Class {
+        negated: false,
+        items,
+    };
+    Ok((Mark::Token(Token::Characters(class)), after))
+}
+
+/// A quantifier, with a `?` behind it that makes it lazy.
+fn repeated<'t>(alloc: Global, text: &'t [char]) -> Result<(Mark, &'t [char]), IRegexpErrorKind>
+    ensures { Fronts (LargeCount text.now) mark_of
+        (option_and_then repeat_front (token_front text.now)) result }
+{
+    let (token, rest) = next_token(alloc, text)?;
+    match token {
+        Token::Quantifier { least, most } => Ok((
+            Mark::Token(Token::Quantifier { least, most }),
+            eager(rest),
+        )),
+        _ => Err(IRegexpErrorKind::Invalid),
+    }
+}
+
+/// The class that stands behind an opening bracket.
+fn class<'t>(alloc: Global, text: &'t [char]) -> Result<(Token, &'t [char]), IRegexpErrorKind>
+    ensures { Fronts ⊥ token_of (class_front text.now) result }
+{
+    let (negated, inner) = caret(text);
+    let (letters, rest) = letters(alloc, inner)?;
+    let items = items(alloc, letters.as_slice())?;
+    Ok((Token::Characters(Class { negated, items }), rest))
+}
+
+/// Whether a `^` stands here, and what stands after it.
+fn caret(text: &[char]) -> (bool, &[char])
+    ensures negated { result.0 ≡ (caret_front text.now).0 }
+    ensures rest { result.1.now ≡ (caret_front text.now).1 }
+{
+    match text.split_first() {
+        Some((first, rest)) => if *first == '^' {
+            (true, rest)
+        } else {
+            (false, text)
+        },
+        None => (false, text),
+    }
+}
+
+/// The letters of a class up to its end.
+fn letters<'t>(
+    alloc: Global,
+    text: &'t [char],
+) -> Result<(Vec<Letter>, &'t [char]), IRegexpErrorKind>
+    ensures { (n : ℕ) → length text.now < n
+        → Fronts ⊥ (λ v. v.items) (letters_front n [] text.now) result }
+{
+    let mut all = Vec::new(alloc);
+    let mut rest = text;
+    while !rest.is_empty() {
+        let (next, after) = next_letter(rest)?;
+        if next.ends_class() {
+            return Ok((all, after));
+        }
+        all.push(next)?;
+        rest = after;
+    }
+    Err(IRegexpErrorKind::Invalid)
+}
+
+/// The items of a class that has these letters.
+fn items(alloc: Global, letters: &[Letter]) -> Result<Vec<Item>, IRegexpErrorKind>
+    ensures { ReadsItems letters.now result }
+{
+    let mut all = Vec::new(alloc);
+    let mut rest = letters;
+    while let Some((first, after)) = rest.split_first() {
+        if let Some((last, end)) = range_behind(after) {
+            all.push(range_of(*first, last)?)?;
+            rest = end;
+            continue;
+        }
+        first.add_to(&mut all)?;
+        rest = after;
+    }
+    Ok(all)
+}
+
+/// The last letter of a range of which the `-` stands here, and what stands after it.
+fn range_behind(letters: &[Letter]) -> Option<(Letter, &[Letter])>
+    ensures { RangeBehind letters.now result }
+{
+    let (dash, rest) = letters.split_first()?;
+    let (last, after) = rest.split_first()?;
+    if !dash.is_dash() {
+        return None;
+    }
+    Some((*last, after))
+}
+
+/// The range from one letter to another.
+fn range_of(first: Letter, last: Letter) -> Result<Item, IRegexpErrorKind>
+    ensures { RangeOf (range_of first last) result }
+{
+    let Some(low) = first.character() else {
+        return Err(IRegexpErrorKind::Invalid);
+    };
+    let Some(high) = last.character() else {
+        return Err(IRegexpErrorKind::Invalid);
+    };
+    if high < low {
+        return Err(IRegexpErrorKind::Invalid);
+    }
+    Ok(Item::Range(low, high))
+}

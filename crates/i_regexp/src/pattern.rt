@@ -1,0 +1,69 @@
+//! A pattern of a schema that is ready to be searched for.
+ghost use Rattle.std.specs.Prelude.{◌≡◌, ◌↔◌, true, IsTrue};
+ghost use Rattle.std.specs.Str.{chars};
+ghost use Rattle.i_regexp.specs.Forms.{Matches};
+ghost use Rattle.i_regexp.specs.Marked.{is_kept};
+
+use crate::branches::read_pattern;
+use crate::marked::Node;
+use crate::pattern_error::{SchemaPatternError, SchemaPatternErrorKind};
+use crate::refusal::refusal;
+use crate::regexp::characters;
+use crate::run::matches_whole;
+use std::alloc::Global;
+
+/// A pattern of JSON Schema, in the dialect that the standard asks schemas to keep to (Core 2020-12,
+/// 6.4), with the escapes of ECMA-262. It is mutable for the marks that move over a text; between two
+/// calls they have no meaning.
+///
+/// ```
+/// let mut code = SchemaPattern::parse(alloc, "^[A-Z]{2}\\d+$")?;
+/// assert!(rt; code.is_found_in("GB42"));
+/// assert!(rt; !code.is_found_in("GB42\n"));
+/// ```
+#[derive(Drop)]
+pub struct SchemaPattern {
+    root: Node,
+    ghost kept: { is_kept root ≡ true },
+}
+
+impl SchemaPattern {
+    ghost use Rattle.i_regexp.specs.PatternReading.{ReadsPattern, texts_of};
+
+    /// Reads a pattern: a text of the grammar (`specs/Patterns.antt`). After an error nothing is left
+    /// of what was read.
+    ///
+    /// ```
+    /// let mut name = SchemaPattern::parse(alloc, "^x-")?;
+    /// assert!(rt; name.is_found_in("x-rate"));
+    /// ```
+    pub fn parse(alloc: Global, text: &str) -> Result<SchemaPattern, SchemaPatternError>
+        ensures { ReadsPattern (chars text.now) result }
+    {
+        let Ok(all) = characters(alloc, text) else {
+            return Err(SchemaPatternError {
+                kind: SchemaPatternErrorKind::OutOfMemory,
+                place: 0,
+            });
+        };
+        match read_pattern(alloc, all.as_slice()) {
+            Ok(root) => Ok(SchemaPattern { root }),
+            Err(error) => Err(refusal(all.as_slice(), error)),
+        }
+    }
+
+    /// Whether the pattern is found in the text: a branch of it matches a part, which begins where the
+    /// text begins if the branch begins with `^`, and ends where it ends if the branch ends with `$`. It
+    /// takes time by the product of the two sizes, and no memory.
+    ///
+    /// ```
+    /// let mut digits = SchemaPattern::parse(alloc, "\\d{3}")?;
+    /// assert!(rt; digits.is_found_in("no 404 here"));
+    /// ```
+    pub fn is_found_in(&mut self, text: &str) -> bool
+        ensures found { IsTrue result ↔ Matches (texts_of self.old) (chars text.now) }
+        ensures same { texts_of self.new ≡ texts_of self.old }
+    {
+        matches_whole(&mut self.root, text)
+    }
+}

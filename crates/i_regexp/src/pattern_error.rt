@@ -1,0 +1,71 @@
+//! Why a text is no pattern of a schema.
+ghost use Rattle.std.specs.Prelude.{◌≡◌, Some};
+ghost use Rattle.i_regexp.specs.PatternMessage.{reason_message, refusal_message};
+
+use std::error::Error;
+use std::fmt;
+
+/// Why a pattern is refused.
+///
+/// ```
+/// let error = SchemaPattern::parse(alloc, "a{3,2}").err();
+/// assert!(rt; error.is_some_and(|e| e.kind == SchemaPatternErrorKind::Invalid));
+/// ```
+#[derive(Clone, Copy, Debug, PartialEq, Eq)]
+pub enum SchemaPatternErrorKind {
+    /// The text is not in the grammar.
+    Invalid,
+    /// Nor is it, and at the place stands something that ECMA-262 has and these patterns have not: a
+    /// group that begins with `(?` and not with `(?:`, an escape such as `\b` or `\1`, or a `^` or `$`
+    /// that is not at the beginning or the end of a branch outside of all groups.
+    Outside,
+    /// More than 200 groups are open at once.
+    TooDeep,
+    /// With each repetition written out, there are more than 10,000 characters, classes, groups and
+    /// bars in a branch; or a count is greater than 10,000.
+    TooLarge,
+    /// An allocation failed.
+    OutOfMemory,
+}
+
+impl fmt::Display for SchemaPatternErrorKind {
+    ghost output = { λ k. Some (reason_message k) };
+
+    fn fmt<W: fmt::Write>(&self, f: &mut fmt::Formatter<W>) -> fmt::Result {
+        f.write_str(match self {
+            SchemaPatternErrorKind::Invalid => "no pattern",
+            SchemaPatternErrorKind::Outside => "not supported in a pattern",
+            SchemaPatternErrorKind::TooDeep => "the groups are too deep",
+            SchemaPatternErrorKind::TooLarge => "the pattern is too large",
+            SchemaPatternErrorKind::OutOfMemory => "out of memory",
+        })
+    }
+}
+
+/// Why a pattern is refused, and where.
+///
+/// ```
+/// if let Err(error) = SchemaPattern::parse(alloc, "ab(?=c)") {
+///     assert_eq!(rt; error.place, 2);
+///     let words = error.to_string(alloc)?;
+///     assert_eq!(rt; words.as_str(), "not supported in a pattern at character 2");
+/// }
+/// ```
+#[derive(Clone, Copy, Debug, PartialEq, Eq)]
+pub struct SchemaPatternError {
+    pub kind: SchemaPatternErrorKind,
+    /// How many characters stand before what is refused, which is a character, an escape, a class, a
+    /// parenthesis, a bar, a quantifier, `^` or `$`. All of them, where the text ends in a group.
+    pub place: usize,
+}
+
+impl fmt::Display for SchemaPatternError {
+    ghost output = { λ e. Some (refusal_message e) };
+
+    fn fmt<W: fmt::Write>(&self, f: &mut fmt::Formatter<W>) -> fmt::Result {
+        let SchemaPatternError { kind, place } = *self;
+        write!(f, "{kind} at character {place}")
+    }
+}
+
+impl Error for SchemaPatternError {}

@@ -1,0 +1,58 @@
+//! What is said of a schema's pattern that is refused.
+ghost use Rattle.std.specs.Prelude.{◌≡◌};
+ghost use Rattle.i_regexp.specs.PatternReading.{Refused, IsRefused, kind_at, is_outside};
+ghost use Rattle.i_regexp.specs.PatternReading.{is_other_escape};
+
+use crate::error::{IRegexpError, IRegexpErrorKind};
+use crate::pattern_error::{SchemaPatternError, SchemaPatternErrorKind};
+
+/// The error, by what stands at its place.
+pub(crate) fn refusal(text: &[char], error: IRegexpError) -> SchemaPatternError
+    requires { Refused text.now error }
+    ensures { IsRefused text.now result }
+{
+    SchemaPatternError {
+        kind: kind_at(&text[error.place..], error.kind),
+        place: error.place,
+    }
+}
+
+/// The kind of an error, by what stands at its place.
+fn kind_at(rest: &[char], kind: IRegexpErrorKind) -> SchemaPatternErrorKind
+    ensures { result ≡ kind_at rest.now kind }
+{
+    match kind {
+        IRegexpErrorKind::Invalid => {
+            if is_outside(rest) {
+                return SchemaPatternErrorKind::Outside;
+            }
+            SchemaPatternErrorKind::Invalid
+        }
+        IRegexpErrorKind::TooDeep => SchemaPatternErrorKind::TooDeep,
+        IRegexpErrorKind::TooLarge => SchemaPatternErrorKind::TooLarge,
+        IRegexpErrorKind::OutOfMemory => SchemaPatternErrorKind::OutOfMemory,
+    }
+}
+
+/// Whether something stands here that ECMA-262 has and these patterns have not, or not everywhere.
+fn is_outside(text: &[char]) -> bool
+    ensures { result ≡ is_outside text.now }
+{
+    let Some((first, rest)) = text.split_first() else {
+        return false;
+    };
+    let Some((second, _)) = rest.split_first() else {
+        return *first == '^' || *first == '$';
+    };
+    *first == '^'
+        || *first == '$'
+        || *first == '(' && *second == '?'
+        || *first == '\\' && is_other_escape(*second)
+}
+
+/// Whether ECMA-262 has another meaning for this character behind a backslash.
+fn is_other_escape(c: char) -> bool
+    ensures { result ≡ is_other_escape c }
+{
+    '0' <= c && c <= '9' || matches!(c, 'b' | 'B' | 'k' | 'p' | 'P' | 'c' | 'u')
+}

@@ -1,0 +1,225 @@
+//! Where patterns of schemas are found, as ECMA-262 says and JSON Schema's own tests do, and which are
+//! refused, why, and where.
+
+use i_regexp::SchemaPatternErrorKind::{Invalid, Outside, TooLarge};
+use i_regexp::{SchemaPattern, SchemaPatternErrorKind};
+use std::string::ToString;
+use std::test::Fail;
+
+/// Of each row the pattern, a text, and whether the pattern is found in it.
+const ROWS: &[(&str, &str, bool)] = &[
+    // of JSON Schema's tests of `pattern`, and of its guide
+    ("^a*$", "aaa", true),
+    ("^a*$", "abc", false),
+    ("a+", "xxaayy", true),
+    ("^abc$", "abc", true),
+    ("^abc$", "abc\n", false),
+    ("^\\t$", "\\t", false),
+    ("^\\t$", "\t", true),
+    ("^\\d$", "0", true),
+    ("^\\d$", "\u{7c0}", false),
+    ("^\\d$", "\u{9e6}", false),
+    ("^\\D$", "0", false),
+    ("^\\D$", "\u{7c0}", true),
+    ("^\\w$", "a", true),
+    ("^\\w$", "\u{e9}", false),
+    ("^\\W$", "a", false),
+    ("^\\W$", "\u{e9}", true),
+    ("^\\s$", " ", true),
+    ("^\\s$", "\t", true),
+    ("^\\s$", "\u{b}", true),
+    ("^\\s$", "\u{c}", true),
+    ("^\\s$", "\u{a0}", true),
+    ("^\\s$", "\u{feff}", true),
+    ("^\\s$", "\n", true),
+    ("^\\s$", "\u{2029}", true),
+    ("^\\s$", "\u{2003}", true),
+    ("^\\s$", "\u{1}", false),
+    ("^\\s$", "\u{2013}", false),
+    ("^\\S$", " ", false),
+    ("^\\S$", "\u{2029}", false),
+    ("^\\S$", "\u{1}", true),
+    ("^\\S$", "\u{2013}", true),
+    ("[a-z]cole", "l'ecole", true),
+    ("[a-z]cole", "l'\u{e9}cole", false),
+    ("^(\\([0-9]{3}\\))?[0-9]{3}-[0-9]{4}$", "555-1212", true),
+    (
+        "^(\\([0-9]{3}\\))?[0-9]{3}-[0-9]{4}$",
+        "(888)555-1212",
+        true,
+    ),
+    (
+        "^(\\([0-9]{3}\\))?[0-9]{3}-[0-9]{4}$",
+        "(888)555-1212 ext. 532",
+        false,
+    ),
+    (
+        "^(\\([0-9]{3}\\))?[0-9]{3}-[0-9]{4}$",
+        "(800)FLOWERS",
+        false,
+    ),
+    // the ends of a text belong to one branch each
+    ("", "", true),
+    ("", "a", true),
+    ("^$", "", true),
+    ("^$", "a", false),
+    ("^a|b$", "ax", true),
+    ("^a|b$", "xb", true),
+    ("^a|b$", "xax", false),
+    ("^a|b$", "bx", false),
+    ("^(a|b)$", "b", true),
+    ("^(a|b)$", "ab", false),
+    ("^(?:a|b)+?$", "abba", true),
+    ("^x-", "x-rate", true),
+    ("^x-", "ax-", false),
+    ("a|", "b", true),
+    ("^a||b$", "c", true),
+    ("\n$", "a\n", true),
+    ("a$", "a\n", false),
+    ("^b", "a\nb", false),
+    // lazy quantifiers
+    ("^a*?$", "aaa", true),
+    ("^a+?b$", "aab", true),
+    ("^a+?b$", "b", false),
+    ("^a??b$", "b", true),
+    ("^a??b$", "aab", false),
+    ("^a{2}?$", "aa", true),
+    ("^a{2}?$", "aaa", false),
+    ("^a{1,2}?b$", "aab", true),
+    ("^a{2,}?$", "a", false),
+    ("^a{2,}?$", "aaaa", true),
+    // classes
+    ("^[\\w.-]+$", "a_b-c.9", true),
+    ("^[\\w.-]+$", "a b", false),
+    ("^[^\\d\\s]$", "5", false),
+    ("^[^\\d\\s]$", "x", true),
+    ("^[\\D]$", "5", false),
+    ("^[\\D5]$", "5", true),
+    ("^[^\\D]$", "5", true),
+    ("^[^\\W]$", "_", true),
+    ("^[\\W_]$", "_", true),
+    ("^[\\W]$", "_", false),
+    ("^[\\S]$", "\u{feff}", false),
+    ("^[a-c-e]$", "-", true),
+    ("^[a-c-e]$", "d", false),
+    ("^[--a]$", ".", true),
+    ("^[+--]$", ",", true),
+    ("^[a\\-c]$", "b", false),
+    ("^[a\\-c]$", "-", true),
+    ("^[[(.]$", "[", true),
+    ("^[^]$", "\n", true),
+    ("[]", "a", false),
+    ("^[\\]\\^]$", "^", true),
+    ("^[\\x41-\\x43]$", "B", true),
+    // escapes
+    ("^\\x41\\u0042$", "AB", true),
+    ("^\\u20aC$", "\u{20ac}", true),
+    ("^\\n\\r\\t\\v\\f$", "\n\r\t\u{b}\u{c}", true),
+    ("^\\/\\-\\^\\$\\.\\@$", "/-^$.@", true),
+    ("^\\.$", "a", false),
+    // every character but the ends of lines
+    ("^.$", "\u{1f600}", true),
+    ("^.$", "\n", false),
+    ("^.$", "\r", false),
+    ("^.$", "\u{2028}", false),
+    ("^.$", "\u{2029}", false),
+    ("^.$", "\u{85}", true),
+];
+
+#[test]
+fn rows(rt: HostRuntime) -> Result<(), Fail> {
+    for (text, searched, found) in ROWS {
+        let mut pattern = SchemaPattern::parse(rt.alloc(), text)?;
+        assert_eq!(rt;
+            pattern.is_found_in(searched),
+            *found,
+            "{text} in {searched}"
+        );
+        assert_eq!(rt; pattern.is_found_in(searched), *found, "{text} again");
+    }
+    Ok(())
+}
+
+/// Of each row a text that is refused, why, and how many characters stand before what is refused.
+const REFUSED: &[(&str, SchemaPatternErrorKind, usize)] = &[
+    ("*", Invalid, 0),
+    ("^*", Invalid, 1),
+    ("a**", Invalid, 2),
+    ("a*??", Invalid, 1),
+    ("(a", Invalid, 2),
+    ("a)", Invalid, 1),
+    ("a]", Invalid, 1),
+    ("a}", Invalid, 1),
+    ("a{", Invalid, 1),
+    ("a{,2}", Invalid, 1),
+    ("a{3,2}", Invalid, 1),
+    ("[a", Invalid, 0),
+    ("[b-a]", Invalid, 0),
+    ("[\\d-x]", Invalid, 0),
+    ("[x-\\d]", Invalid, 0),
+    ("\\", Invalid, 0),
+    ("\\q", Invalid, 0),
+    ("\\x4", Invalid, 0),
+    ("ab(?=c)", Outside, 2),
+    ("(?!a)", Outside, 0),
+    ("(?<=a)b", Outside, 0),
+    ("(?<n>a)", Outside, 0),
+    ("(?i:a)", Outside, 0),
+    ("a\\b", Outside, 1),
+    ("a\\B", Outside, 1),
+    ("(a)\\1", Outside, 3),
+    ("\\k<n>", Outside, 0),
+    ("\\p{L}", Outside, 0),
+    ("\\0", Outside, 0),
+    ("\\cC", Outside, 0),
+    ("\\ud83d\\ude00", Outside, 0),
+    ("\\u{1f600}", Outside, 0),
+    ("a^b", Outside, 1),
+    ("^^a", Outside, 1),
+    ("(^a)", Outside, 1),
+    ("(a$)", Outside, 2),
+    ("a$$", Outside, 2),
+    ("a$*", Invalid, 2),
+    ("a$b", Invalid, 2),
+    ("a{10001}", TooLarge, 1),
+    ("(a{101}){101}", TooLarge, 8),
+];
+
+#[test]
+fn refusals(rt: HostRuntime) -> Result<(), Fail> {
+    for (text, kind, place) in REFUSED {
+        match SchemaPattern::parse(rt.alloc(), text) {
+            Ok(_) => assert!(rt; false, "{text}"),
+            Err(error) => {
+                assert!(rt; error.kind == *kind, "{text}: {error}");
+                assert_eq!(rt; error.place, *place, "{text}: {error}");
+            }
+        }
+    }
+    Ok(())
+}
+
+/// The examples of the documentation, as they are written there.
+#[test]
+fn examples(rt: HostRuntime) -> Result<(), Fail> {
+    let alloc = rt.alloc();
+    let mut code = SchemaPattern::parse(alloc, "^[A-Z]{2}\\d+$")?;
+    assert!(rt; code.is_found_in("GB42"));
+    assert!(rt; !code.is_found_in("GB42\n"));
+
+    let mut name = SchemaPattern::parse(alloc, "^x-")?;
+    assert!(rt; name.is_found_in("x-rate"));
+
+    let mut digits = SchemaPattern::parse(alloc, "\\d{3}")?;
+    assert!(rt; digits.is_found_in("no 404 here"));
+
+    let error = SchemaPattern::parse(alloc, "a{3,2}").err();
+    assert!(rt; error.is_some_and(|e| e.kind == SchemaPatternErrorKind::Invalid));
+
+    if let Err(error) = SchemaPattern::parse(alloc, "ab(?=c)") {
+        assert_eq!(rt; error.place, 2);
+        let words = error.to_string(alloc)?;
+        assert_eq!(rt; words.as_str(), "not supported in a pattern at character 2");
+    }
+    Ok(())
+}
