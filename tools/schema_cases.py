@@ -6,6 +6,9 @@ KEYWORDS = [
     ("true", ["null", "[1]", "{}"], []),
     ("{}", ["null", "[1]", "{}"], []),
     ("false", [], [("null", "", ""), ("{}", "", "")]),
+    # Core, 8.1.2: outside of meta-schemas it is ignored.
+    ('{"$vocabulary":{"https://example.com/vocab":true},"type":"null"}', ["null"], [("1", "", "/type")]),
+    ('{"items":{"$vocabulary":{"$ref":"#"},"type":"null"}}', ["[null]"], [("[1]", "/0", "/items/type")]),
     # Validation, 6.1.1: a name or a list of names; `integer` is any number with a zero fraction.
     ('{"type":"integer"}', ["1", "1.0", "-0", "1e400", "10e-1"], [("1.5", "", "/type"), ('"1"', "", "/type"), ("true", "", "/type")]),
     ('{"type":"number"}', ["1", "1.5", "-0"], [('"1"', "", "/type"), ("true", "", "/type"), ("null", "", "/type")]),
@@ -245,6 +248,7 @@ REFUSED = [
     ('{"contentEncoding":64}', "/contentEncoding"), ('{"contentMediaType":{}}', "/contentMediaType"), ('{"examples":"a"}', "/examples"), ('{"deprecated":1}', "/deprecated"),
     ('{"$defs":{"a":{"$comment":null}}}', "/$defs/a/$comment"), ('{"not":{"title":false}}', "/not/title"), ('{"maxProperties":"1"}', "/maxProperties"),
     ('{"contentSchema":{"type":"any"}}', "/contentSchema/type"), ('{"$id":1}', "/$id"),
+    ('{"exclusiveMaximum":"3"}', "/exclusiveMaximum"), ('{"exclusiveMinimum":[0]}', "/exclusiveMinimum"), ('{"maxItems":"1"}', "/maxItems"), ('{"maxItems":-1}', "/maxItems"), ('{"minProperties":1.5}', "/minProperties"),
     ('{"properties":{"x\\n\\u001b[2J":0}}', "/properties/xU+000AU+001B[2J"),
 ]
 

@@ -4,6 +4,7 @@ use Rattle.std.specs.Option.{option_map_or}
 use Rattle.std.specs.Str.{bytes_eq}
 use Rattle.tinyjson.specs.Access.{is_string}
 use Rattle.tinyjson.specs.Tree.{Tree, number, string, array, object, Items, no_items, item, Members, no_members, member}
+use Rattle.json_order.specs.Distinct.{are_distinct}
 use Rattle.json_order.specs.Multiples.{is_divisor}
 use Rattle.json_schema.specs.Keywords.{is_among}
 use Rattle.json_schema.specs.Names.{keywords, keyword_among}
@@ -21,7 +22,7 @@ form_of kw.Ref = form.Reference
 form_of kw.Anchor = form.Refused
 form_of kw.DynamicRef = form.Refused
 form_of kw.DynamicAnchor = form.Refused
-form_of kw.Vocabulary = form.Refused
+form_of kw.Vocabulary = form.Anything
 form_of kw.AllOf = form.Schemas
 form_of kw.AnyOf = form.Schemas
 form_of kw.OneOf = form.Schemas
@@ -106,10 +107,13 @@ abbrev pub are_types : Tree → Bool
 are_types (array ts) = is_type_list ts
 are_types t = is_type_name t
 
+abbrev pub are_strings : Items → Bool
+are_strings no_items = true
+are_strings (item t ts) = is_string t && are_strings ts
+
 -- different strings
 abbrev pub are_keys : Items → Bool
-are_keys no_items = true
-are_keys (item t ts) = is_string t && (not (is_among ts t) && are_keys ts)
+are_keys ts = are_strings ts && are_distinct ts
 
 abbrev pub is_key_list : Tree → Bool
 is_key_list (array ts) = are_keys ts

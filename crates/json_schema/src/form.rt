@@ -65,7 +65,6 @@ fn form_of(keyword: Keyword) -> Form
         Keyword::Anchor
         | Keyword::DynamicRef
         | Keyword::DynamicAnchor
-        | Keyword::Vocabulary
         | Keyword::PatternProperties
         | Keyword::UnevaluatedItems
         | Keyword::UnevaluatedProperties
@@ -82,7 +81,7 @@ fn form_of(keyword: Keyword) -> Form
         | Keyword::ContentSchema => Form::Schema,
         Keyword::Type => Form::Types,
         Keyword::Enum | Keyword::Examples => Form::List,
-        Keyword::Const | Keyword::Default => Form::Anything,
+        Keyword::Const | Keyword::Default | Keyword::Vocabulary => Form::Anything,
         Keyword::Maximum
         | Keyword::ExclusiveMaximum
         | Keyword::Minimum

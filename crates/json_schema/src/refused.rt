@@ -3,7 +3,8 @@ ghost use Rattle.std.specs.Prelude.{◌≡◌, IfOk, true};
 ghost use Rattle.tinyjson.specs.Access.{is_string, is_boolean, is_array, is_number};
 ghost use Rattle.tinyjson.specs.View.{view, items_view, members_listed};
 ghost use Rattle.json_schema.specs.Forms.{is_count, is_type_name, are_type_names};
-ghost use Rattle.json_schema.specs.Forms.{are_types, are_keys, is_key_list, have_key_lists, is_key_map};
+ghost use Rattle.json_schema.specs.Forms.{are_types, are_strings, are_keys, is_key_list, have_key_lists};
+ghost use Rattle.json_schema.specs.Forms.{is_key_map};
 ghost use Rattle.json_schema.specs.Forms.{is_dialect, is_name_of_type, is_type_list, is_some_item};
 ghost use Rattle.json_schema.specs.Schemas.{Refuses, is_schema, keywords_fit, fits};
 ghost use Rattle.json_schema.specs.Schemas.{is_schema_list, is_schema_map, are_schemas};
@@ -13,6 +14,7 @@ use crate::assertions::is_among;
 use crate::circles::leads;
 use crate::form::{Form, form_at};
 use crate::multiple::is_divisor_number;
+use json_order::are_distinct;
 use json_pointer::Pointer;
 use std::alloc::{AllocError, Global};
 use tinyjson::{JsonValue, sorted_members};
@@ -87,7 +89,7 @@ fn misfit(
         Form::Number => unless(is_number(operand), alloc),
         Form::Divisor => unless(is_divisor_number(operand), alloc),
         Form::Count => unless(is_count(operand), alloc),
-        Form::Keys => unless(is_key_list(operand), alloc),
+        Form::Keys => unless(is_key_list(operand, alloc)?, alloc),
         Form::KeyLists => unless(is_key_map(operand, alloc)?, alloc),
         Form::Dialect => unless(is_dialect(operand), alloc),
         Form::Schema => refused_in(operand, root, false, alloc),
@@ -268,24 +270,32 @@ fn is_name_of_type(name: &str) -> bool
         || name == "integer"
 }
 
-fn is_key_list(value: &JsonValue) -> bool
-    ensures { result ≡ is_key_list (view value.now) }
+fn is_key_list(value: &JsonValue, alloc: Global) -> Result<bool, AllocError>
+    ensures { IfOk result (λ is. is ≡ is_key_list (view value.now)) }
 {
     match value {
-        JsonValue::Array(keys) => are_keys(keys.as_slice()),
-        _ => false,
+        JsonValue::Array(keys) => are_keys(keys.as_slice(), alloc),
+        _ => Ok(false),
     }
 }
 
-fn are_keys(keys: &[JsonValue]) -> bool
-    ensures { result ≡ are_keys (items_view keys.now) }
+/// Whether they are different strings. The time grows with the strings, and not with the pairs of them.
+fn are_keys(keys: &[JsonValue], alloc: Global) -> Result<bool, AllocError>
+    ensures { IfOk result (λ are. are ≡ are_keys (items_view keys.now)) }
 {
-    let mut rest = keys;
-    while let Some((key, more)) = rest.split_first() {
-        if !is_string(key) || is_among(more, key) {
+    if !are_strings(keys) {
+        return Ok(false);
+    }
+    are_distinct(keys, alloc)
+}
+
+fn are_strings(values: &[JsonValue]) -> bool
+    ensures { result ≡ are_strings (items_view values.now) }
+{
+    for value in values {
+        if !is_string(value) {
             return false;
         }
-        rest = more;
     }
     true
 }
@@ -296,21 +306,22 @@ fn is_key_map(value: &JsonValue, alloc: Global) -> Result<bool, AllocError>
     match value {
         JsonValue::Object(lists) => {
             let sorted = sorted_members(alloc, lists)?;
-            Ok(have_key_lists(sorted.as_slice()))
+            have_key_lists(sorted.as_slice(), alloc)
         }
         _ => Ok(false),
     }
 }
 
-fn have_key_lists(lists: &[(&String, &JsonValue)]) -> bool
-    ensures { result ≡ have_key_lists (members_listed lists.now) }
+fn have_key_lists(lists: &[(&String, &JsonValue)], alloc: Global) -> Result<bool, AllocError>
+    ensures { IfOk result (λ have. have ≡ have_key_lists (members_listed lists.now)) }
 {
     for (_, keys) in lists {
-        if !is_key_list(keys) {
-            return false;
+        let is = is_key_list(keys, alloc)?;
+        if !is {
+            return Ok(false);
         }
     }
-    true
+    Ok(true)
 }
 
 fn is_dialect(value: &JsonValue) -> bool
