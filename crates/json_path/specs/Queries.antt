@@ -71,9 +71,9 @@ abbrev pub expression_step : Judge → Expression-F Yields Holds Yields Selects 
 expression_step judge (Expression-F.Or hs) root here = some_hold hs.items root here
 expression_step judge (Expression-F.And hs) root here = all_hold hs.items root here
 expression_step judge (Expression-F.Not h) root here = not (h.value root here)
-expression_step judge (Expression-F.Comparison operator l r) root here = compares operator (l root here) (r root here)
+expression_step judge (Expression-F.Comparison operator l r) root here = compares operator (l.value root here) (r.value root here)
 expression_step judge (Expression-F.Test q) root here = is_some_part (q root here)
-expression_step judge (Expression-F.Pattern f v p) root here = pattern_holds judge f (v root here) (p root here)
+expression_step judge (Expression-F.Pattern f v p) root here = pattern_holds judge f (v.value root here) (p.value root here)
 
 abbrev pub comparable_step : Comparable-F Yields Holds Yields Selects Selects Finds → Yields
 comparable_step (Comparable-F.Literal l) root here = Some (literal_tree l)

@@ -1,6 +1,7 @@
 -- What the types that are the program's own are seen as.
 use Rattle.std.specs.Prelude.{suc, ℤ, pos, negsuc, Option, Some, None, option_map}
 use Rattle.std.specs.Borrow.{Bor}
+use Rattle.std.specs.Box.{box_value}
 use Rattle.tinyjson.specs.Tree.{Tree}
 use Rattle.tinyjson.specs.View.{view, text}
 use Rattle.tinyjson.specs.declared.value.JsonValue.{JsonValue}
@@ -25,7 +26,7 @@ step_view (Index i) = at_index i
 -- the tree of a value that is compared
 abbrev pub operand_tree : Operand → Tree
 operand_tree (Part v) = view v.now
-operand_tree (Own v) = view v
+operand_tree (Own b) = view (box_value b)
 
 abbrev pub value_tree : Option (Bor JsonValue) → Option Tree
 value_tree o = option_map (λ v. view v.now) o

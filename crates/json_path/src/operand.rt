@@ -17,7 +17,8 @@ use tinyjson::{JsonNumber, JsonValue, sorted_members};
 /// A value that is compared: one of the input's, or one of the filter's own.
 pub(crate) enum Operand<'v> {
     Part(&'v JsonValue),
-    Own(JsonValue),
+    // In a box, for the stack that a filter in a filter takes.
+    Own(Box<JsonValue>),
 }
 
 /// The value, if there is one.
@@ -32,17 +33,20 @@ pub(crate) fn value_of<'a>(operand: &'a Option<Operand>) -> Option<&'a JsonValue
 }
 
 /// Frees what is the filter's own.
+// Inlined, this and `compare` would take half as much again of the stack at each level of a filter.
+#[inline(never)]
 pub(crate) fn release(operand: Option<Operand>) {
     let Some(operand) = operand else {
         return;
     };
     match operand {
-        Operand::Own(value) => value.dismantle(),
+        Operand::Own(value) => Box::into_inner(value).dismantle(),
         Operand::Part(_) => {}
     }
 }
 
 /// Whether the two compare so; both are given up.
+#[inline(never)]
 pub(crate) fn compare(
     operator: ComparisonOperator,
     left: Option<Operand>,
@@ -115,7 +119,7 @@ pub(crate) fn literal_value<'v>(
         Literal::Number(number) => JsonValue::Number(number.try_clone(alloc)?),
         Literal::String(text) => JsonValue::String(String::from_str(alloc, text.as_str())?),
     };
-    Ok(Some(Operand::Own(value)))
+    Ok(Some(Operand::Own(Box::new(alloc, value)?)))
 }
 
 /// Where a query inside a filter begins.
@@ -205,7 +209,8 @@ fn size(alloc: Global, value: &JsonValue) -> Result<Option<usize>, AllocError>
 fn whole<'v>(alloc: Global, value: usize) -> Result<Option<Operand<'v>>, AllocError>
     ensures { IfOk result (λ o. option_map operand_tree o ≡ Some (whole value)) }
 {
-    Ok(Some(Operand::Own(JsonValue::Number(JsonNumber::from_u64(alloc, value as u64)?))))
+    let number = JsonValue::Number(JsonNumber::from_u64(alloc, value as u64)?);
+    Ok(Some(Operand::Own(Box::new(alloc, number)?)))
 }
 
 /// `count` (RFC 9535, 2.4.5) of the nodes.

@@ -238,7 +238,7 @@ fn holds<'v>(
             Ok(!find_from(query.segments.as_slice(), alloc, root, start, patterns)?.is_empty())
         }
         Expression::Pattern(function, value, pattern) => {
-            let stays = matches!(pattern, Comparable::Literal(_));
+            let stays = matches!(&**pattern, Comparable::Literal(_));
             let value = compared(value, alloc, root, here, patterns)?;
             match compared(pattern, alloc, root, here, patterns) {
                 Ok(pattern) => Ok(patterns.test(alloc, *function, stays, value, pattern)?),

@@ -47,6 +47,9 @@ conjunctions_at n = conjunction_front (expression_front n) (argument_front n)
 abbrev pub IsOperandAt : (n : ℕ) → Operand (Expression n) (Argument n) → CodeExpression → Type 0
 IsOperandAt n = IsOperand (IsExpression n) (IsArgument n)
 
+abbrev pub IsComparableAt : (n : ℕ) → Comparable (Expression n) (Argument n) → CodeComparable → Type 0
+IsComparableAt n = IsComparable (IsExpression n) (IsArgument n)
+
 abbrev pub IsBasicAt : (n : ℕ) → Basic (Expression n) (Argument n) → CodeExpression → Type 0
 IsBasicAt n = IsBasic (IsExpression n) (IsArgument n)
 

@@ -119,7 +119,8 @@ abbrev pub IsOperand : {E C : Type 0} → (E → CodeExpression → Type 0) → 
 IsOperand Is In (parenthesized e) x = Is e x
 IsOperand Is In (test o ss) x =
     (v : Vec CodeSegment Global) × (x ≡ says.Test (record { origin = o; segments = v })) × AreSegmentsIn Is ss v
-IsOperand Is In (pattern f v p) x = (a b : CodeComparable) × (x ≡ says.Pattern f a b) × In v a × In p b
+IsOperand Is In (pattern f v p) x =
+    (a b : Box CodeComparable Global) × (x ≡ says.Pattern f a b) × In v (box_value a) × In p (box_value b)
 
 -- a vector of the code's segments of one selector
 abbrev pub AreSingularSegmentsIn : List SingularSegment → Vec CodeSingularSegment Global → Type 0
@@ -150,7 +151,8 @@ abbrev pub IsBasic : {E C : Type 0} → (E → CodeExpression → Type 0) → (C
 IsBasic Is In (affirmed o) x = IsOperand Is In o x
 IsBasic Is In (negated o) x = (b : Box CodeExpression Global) × (x ≡ says.Not b) × IsOperand Is In o (box_value b)
 IsBasic Is In (comparison op l r) x =
-    (a b : CodeComparable) × (x ≡ says.Comparison op a b) × IsComparable Is In l a × IsComparable Is In r b
+    (a b : Box CodeComparable Global) × (x ≡ says.Comparison op a b) × IsComparable Is In l (box_value a)
+    × IsComparable Is In r (box_value b)
 
 -- the code's expression is all of these
 abbrev pub IsConjunction : {E C : Type 0} → (E → CodeExpression → Type 0) → (C → CodeComparable → Type 0) → List (Basic E C)

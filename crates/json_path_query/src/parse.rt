@@ -313,7 +313,7 @@ fn basic<'t>(
     };
     let (right, rest) = comparable(alloc, levels, after_blanks(behind))?;
     Ok((
-        Expression::Comparison(operator, left, right),
+        Expression::Comparison(operator, Box::new(alloc, left)?, Box::new(alloc, right)?),
         after_blanks(rest),
     ))
 }
@@ -355,7 +355,7 @@ fn pattern_arguments<'t>(
     };
     let (pattern, behind) = value_argument(alloc, levels, second)?;
     Ok((
-        Expression::Pattern(function, value, pattern),
+        Expression::Pattern(function, Box::new(alloc, value)?, Box::new(alloc, pattern)?),
         after_blanks(behind),
     ))
 }

@@ -38,6 +38,7 @@ pub enum Selector {
 
 /// A logical expression (RFC 9535, 2.3.5.1). How deep expressions, functions and the queries in them stand
 /// in each other is bounded in a query that was read from a text.
+// What is compared stands in boxes, for the stack that calls take which recurse over expressions.
 #[derive(Drop)]
 #[cycle(segments)]
 pub enum Expression {
@@ -48,11 +49,11 @@ pub enum Expression {
     /// `!`: holds if this one does not.
     Not(Box<Expression>),
     /// The value on the left beside the one on the right (RFC 9535, 2.3.5.2.2).
-    Comparison(ComparisonOperator, Comparable, Comparable),
+    Comparison(ComparisonOperator, Box<Comparable>, Box<Comparable>),
     /// Holds if the query selects some node.
     Test(FilterQuery),
     /// `match` or `search` (RFC 9535, 2.4.6 and 2.4.7) of a value and, behind it, a regular expression.
-    Pattern(PatternFunction, Comparable, Comparable),
+    Pattern(PatternFunction, Box<Comparable>, Box<Comparable>),
 }
 
 /// A function of regular expressions (RFC 9485), which is a test.

@@ -21,7 +21,8 @@ use Rattle.json_path_query.proofs.Levels.{conjunction_smaller, segment_smaller, 
 use Rattle.json_path_query.proofs.Levels.{selection_at, selection_none, segments_end, segments_more, segments_none, descendant_bracket}
 use Rattle.json_path_query.proofs.Levels.{descendant_short, segment_bracket, segment_short, closed_at}
 use Rattle.json_path_query.proofs.Levels.{query_from, call_from, literal_from, length_from, count_from, value_from, closed_from, begun_from}
-use Rattle.json_path_query.proofs.Levels.{argument_at, pattern_from, basics_at, conjunctions_at, IsOperandAt, IsBasicAt, IsConjunctionAt}
+use Rattle.json_path_query.proofs.Levels.{argument_at, pattern_from, basics_at, conjunctions_at, IsOperandAt, IsComparableAt, IsBasicAt}
+use Rattle.json_path_query.proofs.Levels.{IsConjunctionAt}
 use Rattle.json_path_query.proofs.Levels.{pattern_at, match_from, search_from, arguments_at}
 use Rattle.json_path_query.proofs.Levels.{operated_from, compared_at, tested_at, negated_from, affirmed_from, joined_at, joined_none}
 use Rattle.json_path_query.proofs.Levels.{separator_nothing}
@@ -248,7 +249,13 @@ basic-returns t c =
           c.in_ok-left.after.now _ c.in-Some-operator.behind.now _ c.in_ok-right.rest.now _ c.in-Some.ensures.cases.0
           c.if-first-eq33.false c.if-first-eq40.false other l.1 c.after_blanks-2.ensures c.in-Some-operator.ensures
           c.after_blanks-3.ensures r.1 c.after_blanks-4.ensures,
-      (c.in_ok-left.left, c.in_ok-right.right, refl, l.2, r.2),
+      (
+        c.in_ok-new-2.field-0,
+        c.in_ok-new-3.field-0,
+        refl,
+        subst (IsComparableAt c.args.levels l.0) (sym c.in_ok-new-2.ensures.ok) l.2,
+        subst (IsComparableAt c.args.levels r.0) (sym c.in_ok-new-3.ensures.ok) r.2,
+      ),
     )
 
 pub operand-returns-then-first-eq40 : goal.operand-returns-then-first-eq40
@@ -392,7 +399,13 @@ pattern_arguments-returns t c =
       form.pattern c.args.function v.0 p.0,
       arguments_at (argument_front c.args.levels) c.args.function c.args.text.now _ c.in_ok-value.after.now _ _ c.in_ok-pattern.behind.now
           _ v.0 p.0 c.after_blanks.ensures v.1 c.after_blanks-rest.ensures c.in-Some.ensures p.1 c.after_blanks-2.ensures,
-      (c.in_ok-value.value, c.in_ok-pattern.pattern, refl, v.2, p.2),
+      (
+        c.in_ok-new.field-0,
+        c.in_ok-new-2.field-0,
+        refl,
+        subst (IsArgument c.args.levels v.0) (sym c.in_ok-new.ensures.ok) v.2,
+        subst (IsArgument c.args.levels p.0) (sym c.in_ok-new-2.ensures.ok) p.2,
+      ),
     )
 
 pub comparable-returns-in-Some-origin : goal.comparable-returns-in-Some-origin
