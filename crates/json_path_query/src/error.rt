@@ -14,7 +14,7 @@ pub enum ParseErrorKind {
     Invalid,
     /// The power of ten of a number that is compared is out of the range of `i64`.
     NumberOutOfRange,
-    /// More than 64 logical expressions and arguments of functions stand in each other.
+    /// More than 64 logical expressions and values passed to functions stand in each other.
     TooDeep,
     /// An allocation failed.
     OutOfMemory,

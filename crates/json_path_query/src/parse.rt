@@ -27,12 +27,12 @@ use crate::query::{
 use crate::string::quoted;
 use std::alloc::{AllocError, Global};
 
-/// How many logical expressions and arguments of functions may stand in each other.
+/// How many logical expressions and values passed to functions may stand in each other.
 const NESTING_LIMIT: usize = 64;
 
 impl Query {
-    /// Reads the text of a query (RFC 9535), with at most 64 logical expressions and arguments of
-    /// functions in each other. After an error nothing is left of what was read.
+    /// Reads the text of a query (RFC 9535), with at most 64 logical expressions and values
+    /// passed to functions in each other. After an error nothing is left of what was read.
     ///
     /// ```
     /// let query = Query::parse(alloc, "$.store.book[*].author")?;
@@ -68,7 +68,7 @@ fn characters(alloc: Global, text: &str) -> Result<Vec<char>, AllocError>
     Ok(all)
 }
 
-/// Reads a whole query, in which so many logical expressions and arguments may stand in each other.
+/// Reads a whole query, in which so many expressions and values passed to functions may stand in each other.
 fn query(alloc: Global, levels: usize, text: &[char]) -> Result<Query, Refusal>
     ensures { ReadsQuery levels text.now result }
 {
