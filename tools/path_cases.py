@@ -14,6 +14,8 @@ BOOKS = """
   }
 }
 """
+BOOK = ["store", "book"]
+BICYCLE = ["store", "bicycle"]
 LETTERS = '["a","b","c","d","e","f","g"]'
 
 # Texts, each beside a regular expression, and what is none.
@@ -21,6 +23,17 @@ PATTERNS = """[
     {"a":"ab","p":"a.*"}, {"a":"xab","p":"b"}, {"a":"a\\nb","p":"a.b"}, {"a":"a\\rb","p":"a.b"}, {"a":"a\\u2028b","p":"a.b"}, {"a":1,"p":"1"},
     {"a":"","p":""}, {"a":"x","p":"("}, {"a":"x"}, {"p":"x"}, {"a":"x","p":1}, null
 ]"""
+
+
+def of_books(query, *places):
+    """The query, with what stands at these places of the books' document, each a list of steps."""
+    parts = []
+    for steps in places:
+        part = json.loads(BOOKS)
+        for step in steps:
+            part = part[step]
+        parts.append((json.dumps(part), "$" + "".join(f"[{step!r}]" for step in steps)))
+    return query, parts
 
 
 def of_items(document, queries):
@@ -134,27 +147,23 @@ SELECTED = [
         ("$[1]", [("1", "$[1]")]),
         ("$[-3]", [("2", "$[2]")]),
     ]),
-    # 1.5
+    # 1.5. `$..*` selects the children of each node, one node after the other.
     (BOOKS, [
-        ("$.store.book[*].author", [
-            ('"Nigel Rees"', "$['store']['book'][0]['author']"), ('"Evelyn Waugh"', "$['store']['book'][1]['author']"),
-            ('"Herman Melville"', "$['store']['book'][2]['author']"), ('"J. R. R. Tolkien"', "$['store']['book'][3]['author']"),
-        ]),
-        ("$..author", [
-            ('"Nigel Rees"', "$['store']['book'][0]['author']"), ('"Evelyn Waugh"', "$['store']['book'][1]['author']"),
-            ('"Herman Melville"', "$['store']['book'][2]['author']"), ('"J. R. R. Tolkien"', "$['store']['book'][3]['author']"),
-        ]),
-        ("$.store..price", [
-            ("399", "$['store']['bicycle']['price']"), ("8.95", "$['store']['book'][0]['price']"),
-            ("12.99", "$['store']['book'][1]['price']"), ("8.99", "$['store']['book'][2]['price']"),
-            ("22.99", "$['store']['book'][3]['price']"),
-        ]),
-        ("$..book[2].author", [('"Herman Melville"', "$['store']['book'][2]['author']")]),
-        ("$..book[2].publisher", []),
-        ("$..book[-1].title", [('"The Lord of the Rings"', "$['store']['book'][3]['title']")]),
-        *((query, [('"Sayings of the Century"', "$['store']['book'][0]['title']"), ('"Sword of Honour"', "$['store']['book'][1]['title']")])
-          for query in ("$..book[0,1].title", "$..book[:2].title")),
-        ("$.store.*.color", [('"red"', "$['store']['bicycle']['color']")]),
+        *(of_books(query, *([*BOOK, i, "author"] for i in range(4))) for query in ("$.store.book[*].author", "$..author")),
+        of_books("$.store.*", BICYCLE, BOOK),
+        of_books("$.store..price", [*BICYCLE, "price"], *([*BOOK, i, "price"] for i in range(4))),
+        of_books("$..book[2]", [*BOOK, 2]),
+        of_books("$..book[2].author", [*BOOK, 2, "author"]),
+        of_books("$..book[2].publisher"),
+        of_books("$..book[-1]", [*BOOK, 3]),
+        *(of_books(query, [*BOOK, 0], [*BOOK, 1]) for query in ("$..book[0,1]", "$..book[:2]")),
+        of_books("$..book[?@.isbn]", [*BOOK, 2], [*BOOK, 3]),
+        of_books("$..book[?@.price<10]", [*BOOK, 0], [*BOOK, 2]),
+        of_books(
+            "$..*", ["store"], BICYCLE, BOOK, [*BICYCLE, "color"], [*BICYCLE, "price"], *([*BOOK, i] for i in range(4)),
+            *([*BOOK, i, name] for i in range(4) for name in ("author", "category", *["isbn"] * (i > 1), "price", "title")),
+        ),
+        of_books("$.store.*.color", [*BICYCLE, "color"]),
     ]),
     # The kinds of values that a name, an index, a slice and a wildcard speak of (2.3).
     ('{"0":1,"a":[2],"s":"x"}', [
@@ -239,7 +248,9 @@ SELECTED = [
     # 2.4.4: how many characters, items or members; of other values, and of nothing, nothing.
     ('["ab", [1,2,3], {"x":1}, 5, null, true, "\\ud83d\\ude00\u00e9", ""]', [
         ("$[?length(@) == 2]", [('"ab"', "$[0]"), ('"\U0001F600\u00e9"', "$[6]")]), ("$[?length(@) == 3]", [("[1,2,3]", "$[1]")]),
-        ("$[?1 == length( @\t)]", [('{"x":1}', "$[2]")]), ("$[?length(@) == 0]", [('""', "$[7]")]), ("$[?length(@) > 2]", [("[1,2,3]", "$[1]")]),
+        ("$[?1 == length( @\t)]", [('{"x":1}', "$[2]")]), ("$[?length(@) == 0]", [('""', "$[7]")]), ("$[?length(@) < 3]", [
+            ('"ab"', "$[0]"), ('{"x":1}', "$[2]"), ('"\U0001F600\u00e9"', "$[6]"), ('""', "$[7]"),
+        ]), ("$[?length(@) > 2]", [("[1,2,3]", "$[1]")]),
         ("$[?length(@) != length(@)]", []), ("$[?length(@) == $.x]", [("5", "$[3]"), ("null", "$[4]"), ("true", "$[5]")]),
         ("$[?length('abc') == 3, 3]", [
             *((value, f"$[{i}]") for i, value in enumerate(['"ab"', "[1,2,3]", '{"x":1}', "5", "null", "true", '"\U0001F600\u00e9"', '""'])), ("5", "$[3]"),
@@ -288,10 +299,6 @@ SELECTED = [
     ('{"a": null, "b": [null], "c": [{}], "null": 1}', [
         ("$.b[?@]", [("null", "$['b'][0]")]), ("$.b[?@==null]", [("null", "$['b'][0]")]), ("$.c[?@.d==null]", []),
     ]),
-    (BOOKS, [
-        ("$..book[?@.price<10].title", [('"Sayings of the Century"', "$['store']['book'][0]['title']"), ('"Moby Dick"', "$['store']['book'][2]['title']")]),
-        ("$..book[?@.isbn].title", [('"Moby Dick"', "$['store']['book'][2]['title']"), ('"The Lord of the Rings"', "$['store']['book'][3]['title']")]),
-    ]),
     ('{"a":{"b":false},"c":[null,{"a":1}],"n":1}', [
         ("$[?@.b]", [('{"b":false}', "$['a']")]), ("$[?@[?@.a]]", [('[null,{"a":1}]', "$['c']")]), ("$..[?@.a]", [('{"a":1}', "$['c'][1]")]),
         ("$.n[?@]", []), ("$.c[?$.n]", [("null", "$['c'][0]"), ('{"a":1}', "$['c'][1]")]), ("$.c[?$.m]", []),
@@ -330,7 +337,7 @@ REFUSED = [
     ("$[?@ == True]", 8), ("$[?@ == TRUE]", 8), ("$[?@ == tru]", 8), ("$[?@ == nul]", 8), ("$[?@ == truee]", 12), ("$[?@ == nullnull]", 12), ("$[?@ == 'a]", 11), ("$[?@ == \"a']", 12), ("$[?@ == '\\x']", 10),
     ("$[?@ == []]", 8), ("$[?@ == {}]", 8), ("$[?@.a=='a' 'b']", 12),
     # 2.4.3, 2.4.9: `length` takes a value, `count` and `value` a query, and none of them is a test; other functions are not known.
-    ("$[?length(@.*) < 3]", 11), ("$[?count(1) == 1]", 9), ("$[?count(foo(@.*)) == 1]", 9), ("$[?value(@..color)]", 3), ("$[?bar(@.a)]", 3), ("$[?bnl(@.*)]", 3), ("$[?blt(1==1)]", 3), ("$[?bal(1)]", 3),
+    ("$[?length(@.*) < 3]", 11), ("$[?count(1) == 1]", 9), ("$[?count(foo(@.*)) == 1]", 9), ("$[?value(@..color)]", 3), ("$[?bar(@.a)]", 3), ("$[?bnl(@.*)]", 3), ("$[?blt(1==1)]", 3), ("$[?blt(1)]", 3), ("$[?bal(1)]", 3),
     ("$[?length(@)]", 3), ("$[?count(@)]", 3), ("$[?length(@) ]", 3), ("$[?!count(@)]", 4), ("$[?@.a && value(@)]", 10), ("$[?(length(@))]", 4), ("$[?foo(@) == 1]", 3), ("$[?1 == foo(@)]", 8),
     ("$[?length() == 1]", 10), ("$[?length(@, @) == 1]", 11), ("$[?length (@) == 1]", 3), ("$[?Length(@) == 1]", 3), ("$[?length == 1]", 3), ("$[?lengths(@) == 1]", 3), ("$[?length(@ == 1]", 12),
     ("$[?count((@.*)) == 1]", 9), ("$[?count(@.* == 1) == 1]", 13), ("$[?count(length(@)) == 1]", 9), ("$[?count('a') == 1]", 9), ("$[?count() == 1]", 9), ("$[?value(null) == 1]", 9), ("$[?count(@ .. a) == 1]", 13),
