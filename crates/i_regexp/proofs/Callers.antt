@@ -1,16 +1,26 @@
 -- Lemmas for crates that call this one.
-use Rattle.std.proofs.Common.{◌≡◌, ◌↔◌, ℕ, Bool, true, false, IsTrue, List, refl, sym, subst, true≢false}
+use Rattle.std.proofs.Common.{◌≡◌, ◌↔◌, ℕ, Bool, true, false, IsTrue, List, refl, sym, ◌∙◌, subst, true≢false}
 use Rattle.i_regexp.specs.declared.error.IRegexpError.{IRegexpError}
 use Rattle.i_regexp.specs.declared.error.IRegexpErrorKind.TheVariants.{Invalid}
+use Rattle.i_regexp.specs.declared.pattern.SchemaPattern.{SchemaPattern}
+use Rattle.i_regexp.specs.declared.pattern_error.SchemaPatternError.{SchemaPatternError}
+use Rattle.i_regexp.specs.declared.pattern_error.SchemaPatternErrorKind.TheVariants as reason
 use Rattle.i_regexp.specs.declared.regexp.IRegexp.{IRegexp}
 use Rattle.i_regexp.specs.Deciding.{matches, searches, pattern_matches, pattern_searches}
 use Rattle.i_regexp.specs.Forms.{Form, Matches, Searches}
 use Rattle.i_regexp.specs.Grammar.{Regexp, IsText, regexp_form}
+use Rattle.i_regexp.specs.PatternDeciding.{is_pattern, is_found}
+use Rattle.i_regexp.specs.PatternMachine.{pattern_form}
+use Rattle.i_regexp.specs.PatternReading as patterns
 use Rattle.i_regexp.specs.Reading.{Says, Refused}
 use Rattle.i_regexp.specs.Regexps.{form_in, IsReading}
 use Rattle.i_regexp.proofs.Deciding.{matches_decides, searches_decides}
+use Rattle.i_regexp.proofs.PatternDeciding.{is_found_as}
+use Rattle.i_regexp.proofs.PatternForms.{found_to, found_from}
 pub use Rattle.i_regexp.proofs.Deciding.{pattern_matches_sound, pattern_matches_complete}
 pub use Rattle.i_regexp.proofs.Deciding.{pattern_searches_sound, pattern_searches_complete}
+pub use Rattle.i_regexp.proofs.PatternDeciding.{is_pattern_sound, is_pattern_complete, is_pattern_none}
+pub use Rattle.i_regexp.proofs.PatternDeciding.{is_found_sound, is_found_complete, is_found_none}
 
 same_answer : {A : Type 0} (b c : Bool) → (IsTrue b → A) → (A → IsTrue b) → (IsTrue c → A) → (A → IsTrue c) → b ≡ c
 same_answer true c k l m n = sym (n (k refl))
@@ -69,3 +79,27 @@ nothing_searches ps cs n =
 -- what is refused as invalid is no regular expression
 pub refused_invalid : (ps : List ℕ) (e : IRegexpError) → Refused ps e → e.kind ≡ Invalid → (r : Regexp) → IsText ps r → ⊥
 refused_invalid ps e f k = (subst (Says ps f.front f.tokens f.rest) k f.says).0
+
+-- ---- patterns of schemas
+
+-- a text that was read as a pattern is one
+pub reads_pattern : (ps : List ℕ) (x : SchemaPattern) → patterns.IsReading ps x → is_pattern ps ≡ true
+reads_pattern ps x r = is_pattern_complete ps r.meant r.text
+
+-- and what was read is found where the text is
+pub reads_found : (ps cs : List ℕ) (x : SchemaPattern) → patterns.IsReading ps x → is_found ps cs ≡ matches (patterns.texts_of x) cs
+reads_found ps cs x r =
+    let d = matches_decides (patterns.texts_of x) in
+    let e = matches_decides (pattern_form r.meant) in
+    is_found_as ps cs r.meant r.text
+    ∙ same_answer (matches (pattern_form r.meant) cs) (matches (patterns.texts_of x) cs)
+    (λ t. (r.same cs).1 (found_to r.meant cs (e.sound cs t)))
+    (λ m. e.complete cs (found_from r.meant cs ((r.same cs).0 m)))
+    (d.sound cs) (d.complete cs)
+
+-- what is refused as invalid, or as outside of the dialect, is no pattern
+pub refused_pattern : (ps : List ℕ) (e : SchemaPatternError) → patterns.IsRefused ps e → e.kind ≡ reason.Invalid → patterns.IsNone ps
+refused_pattern ps e f k = subst (patterns.SaysOf ps f.marks f.rest) k f.says
+
+pub outside_pattern : (ps : List ℕ) (e : SchemaPatternError) → patterns.IsRefused ps e → e.kind ≡ reason.Outside → patterns.IsNone ps
+outside_pattern ps e f k = (subst (patterns.SaysOf ps f.marks f.rest) k f.says).0

@@ -9,6 +9,7 @@ use Rattle.i_regexp.specs.Grammar as is
 use Rattle.i_regexp.specs.declared.letter.Letter.TheVariants.{Plain}
 use Rattle.i_regexp.specs.declared.letter.Set.TheVariants as set
 use Rattle.i_regexp.specs.Patterns.{class_items, set_items, token}
+use Rattle.i_regexp.specs.PatternDeciding.{is_pattern, is_found as is_found_in}
 use Rattle.i_regexp.specs.PatternFronts.{mark_front}
 
 -- ---- classes (RFC 9485, section 4)
@@ -121,3 +122,26 @@ no_underscore = refl
 
 byte_order_mark : is_within (set_items set.Spaces) 65279 ≡ true
 byte_order_mark = refl
+
+-- ---- a pattern is found anywhere, unless `^` and `$` say where; what is none is found nowhere
+
+within : is_found_in (codes "b") (codes "abc") ≡ true
+within = refl
+
+not_at_the_beginning : is_found_in (codes "^b") (codes "abc") ≡ false
+not_at_the_beginning = refl
+
+at_the_end : is_found_in (codes "^b|c$") (codes "abc") ≡ true
+at_the_end = refl
+
+nothing_in_nothing : is_found_in [] [] ≡ true
+nothing_in_nothing = refl
+
+more_than_nothing : is_found_in (codes "^$") (codes "a") ≡ false
+more_than_nothing = refl
+
+open_group : is_found_in (codes "(") (codes "(") ≡ false
+open_group = refl
+
+look_ahead : is_pattern (codes "a(?=b)") ≡ false
+look_ahead = refl

@@ -39,13 +39,13 @@ lexes_push : {xs ys zs : List ℕ} {ms : List Mark} {m : Mark} → Lexes xs ms y
 lexes_push stop e = go e stop
 lexes_push (go f k) e = go f (lexes_push k e)
 
-lexes_spelled : {xs zs : List ℕ} {ms : List Mark} → Lexes xs ms zs → zs ≡ [] → Spelled xs ms
+pub lexes_spelled : {xs zs : List ℕ} {ms : List Mark} → Lexes xs ms zs → zs ≡ [] → Spelled xs ms
 lexes_spelled stop e = subst (λ xs. Spelled xs []) (sym e) is.none
 lexes_spelled (go {xs} {ys} {zs} {m} {ms} f k) e =
     let s = mark_sound xs m ys f in
     subst (λ cs. Spelled cs (m ∷ ms)) (sym s.0.split) (is.more s.0.spelled s.1 (lexes_spelled k e))
 
-spelled_lexes : {xs : List ℕ} {ms : List Mark} → Spelled xs ms → Lexes xs ms []
+pub spelled_lexes : {xs : List ℕ} {ms : List Mark} → Spelled xs ms → Lexes xs ms []
 spelled_lexes is.none = stop
 spelled_lexes (is.more {cs} {ds} {m} {ms} s f k) = go (mark_complete cs m s ds f) (spelled_lexes k)
 

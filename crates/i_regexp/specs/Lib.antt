@@ -13,5 +13,6 @@ pub mod Regexps
 pub mod Patterns
 pub mod PatternFronts
 pub mod PatternMachine
+pub mod PatternDeciding
 pub mod PatternReading
 pub mod PatternMessage

@@ -1,0 +1,126 @@
+-- The tests of patterns hold where the grammar does, and what is found, and nowhere else.
+use Rattle.std.proofs.Common.{◌≡◌, ◌≤◌, ◌∷◌, [], ℕ, zero, suc, Bool, true, false, cond, List, length, Option, Some, None, option_map}
+use Rattle.std.proofs.Common.{is_some, refl, sym, ap, ◌∙◌, subst, arith, true≢false}
+use Rattle.std.specs.Option.{option_map_or}
+use Rattle.std.specs.Prelude.{option_and_then}
+use Rattle.i_regexp.specs.Deciding.{matches}
+use Rattle.i_regexp.specs.Patterns.{Mark, Spelled, Pattern, IsText}
+use Rattle.i_regexp.specs.PatternDeciding.{PatternFound, with_mark, marks_in, whole_pattern, pattern_of, is_pattern, is_found}
+use Rattle.i_regexp.specs.PatternFronts.{mark_front}
+use Rattle.i_regexp.specs.PatternMachine.{PatternState, initial, no_levels, pattern_in, run_marks, pattern_form}
+use Rattle.i_regexp.specs.PatternReading.{IsNone}
+use Rattle.i_regexp.proofs.Deciding.{matches_decides}
+use Rattle.i_regexp.proofs.Lexing.{none_some, some_same}
+use Rattle.i_regexp.proofs.PatternForms.{found_to, found_from}
+use Rattle.i_regexp.proofs.PatternLexing.{mark_shorter}
+use Rattle.i_regexp.proofs.PatternMachine.{pattern_sound, pattern_complete}
+use Rattle.i_regexp.proofs.PatternReading.{Lexes, stop, go, lexes_spelled, spelled_lexes}
+
+-- ---- marks
+
+marks_sound : (n : ℕ) (cs : List ℕ) (ms : List Mark) → marks_in n cs ≡ Some ms → Lexes cs ms []
+marks_sound zero [] ms e = subst (λ us. Lexes [] us []) (some_same e) stop
+marks_sound zero (c ∷ cs) ms e = absurd (none_some e)
+marks_sound (suc n) [] ms e = subst (λ us. Lexes [] us []) (some_same e) stop
+marks_sound (suc n) (c ∷ cs) ms e = by (mark_front (c ∷ cs)) refl e (marks_sound n)
+  where
+    on : (m : Mark) (ys : List ℕ) (o : Option (List Mark)) → mark_front (c ∷ cs) ≡ Some (m, ys) → option_map (with_mark m) o ≡ Some ms
+        → ((us : List Mark) → o ≡ Some us → Lexes ys us []) → Lexes (c ∷ cs) ms []
+    on m ys None f g rec = absurd (none_some g)
+    on m ys (Some us) f g rec = subst (λ vs. Lexes (c ∷ cs) vs []) (some_same g) (go f (rec us refl))
+
+    by : (o : Option (Mark × List ℕ)) → mark_front (c ∷ cs) ≡ o
+        → option_and_then (λ p. option_map (with_mark p.0) (marks_in n p.1)) o ≡ Some ms
+        → ((ys : List ℕ) (us : List Mark) → marks_in n ys ≡ Some us → Lexes ys us []) → Lexes (c ∷ cs) ms []
+    by None f g rec = absurd (none_some g)
+    by (Some p) f g rec = on p.0 p.1 (marks_in n p.1) f g (rec p.1)
+
+marks_nothing : (n : ℕ) → marks_in n [] ≡ Some []
+marks_nothing zero = refl
+marks_nothing (suc n) = refl
+
+marks_on : (n : ℕ) (cs ys : List ℕ) (m : Mark) (ms : List Mark) → mark_front cs ≡ Some (m, ys) → length cs ≤ n
+    → ((k : ℕ) → length ys ≤ k → marks_in k ys ≡ Some ms) → marks_in n cs ≡ Some (m ∷ ms)
+marks_on n [] ys m ms f l rec = absurd (none_some f)
+marks_on zero (c ∷ cs) ys m ms f l rec = absurd (omega arith)
+marks_on (suc n) (c ∷ cs) ys m ms f l rec =
+    let s = mark_shorter (c ∷ cs) m ys f in
+    ap (option_and_then (λ p. option_map (with_mark p.0) (marks_in n p.1))) f ∙ ap (option_map (with_mark m)) (rec n (omega arith))
+
+marks_complete : {cs zs : List ℕ} {ms : List Mark} → Lexes cs ms zs → zs ≡ [] → (n : ℕ) → length cs ≤ n → marks_in n cs ≡ Some ms
+marks_complete stop e n l = ap (marks_in n) e ∙ marks_nothing n
+marks_complete (go {xs} {ys} {zs} {m} {ms} f k) e n l = marks_on n xs ys m ms f l (λ j g. marks_complete k e j g)
+
+-- ---- patterns
+
+pattern_of_sound : (cs : List ℕ) (p : Pattern) → pattern_of cs ≡ Some p → IsText cs p
+pattern_of_sound cs p e = by (marks_in (length cs) cs) (marks_sound (length cs) cs) e
+  where
+    closed : (ms : List Mark) → Lexes cs ms [] → (s : PatternState) → run_marks initial ms ≡ Some s → (b : Bool)
+        → no_levels s.state.1 ≡ b → cond b (Some (pattern_in s)) None ≡ Some p → IsText cs p
+    closed ms k s f true n g =
+        subst (IsText cs) (some_same g)
+        (record { spelled = subst (Spelled cs) (sym (pattern_sound ms s f n)) (lexes_spelled k refl) })
+    closed ms k s f false n g = absurd (none_some g)
+
+    state_by : (ms : List Mark) → Lexes cs ms [] → (o : Option PatternState) → run_marks initial ms ≡ o
+        → option_and_then whole_pattern o ≡ Some p → IsText cs p
+    state_by ms k None f g = absurd (none_some g)
+    state_by ms k (Some s) f g = closed ms k s f (no_levels s.state.1) refl g
+
+    by : (o : Option (List Mark)) → ((ms : List Mark) → o ≡ Some ms → Lexes cs ms [])
+        → option_and_then whole_pattern (option_and_then (run_marks initial) o) ≡ Some p → IsText cs p
+    by None k g = absurd (none_some g)
+    by (Some ms) k g = state_by ms (k ms refl) (run_marks initial ms) refl g
+
+pattern_of_complete : (cs : List ℕ) (p : Pattern) → IsText cs p → pattern_of cs ≡ Some p
+pattern_of_complete cs p x =
+    let ms = marks_complete (spelled_lexes x.spelled) refl (length cs) (omega arith) in
+    let r = pattern_complete p in
+    ap (λ o. option_and_then whole_pattern (option_and_then (run_marks initial) o)) ms
+    ∙ (ap (option_and_then whole_pattern) r.runs
+    ∙ (ap (λ b. cond b (Some (pattern_in r.last)) None) r.closed ∙ ap (λ q. Some q) r.whole))
+
+-- a text that is a pattern, and one that is none
+pub is_pattern_complete : (ps : List ℕ) (p : Pattern) → IsText ps p → is_pattern ps ≡ true
+is_pattern_complete ps p x = ap is_some (pattern_of_complete ps p x)
+
+pub is_pattern_sound : (ps : List ℕ) → is_pattern ps ≡ true → (p : Pattern) × IsText ps p
+is_pattern_sound ps h = by (pattern_of ps) refl h
+  where
+    by : (o : Option Pattern) → pattern_of ps ≡ o → is_some o ≡ true → (p : Pattern) × IsText ps p
+    by None e g = absurd (true≢false (sym g))
+    by (Some p) e g = (p, pattern_of_sound ps p e)
+
+none_read : (ps : List ℕ) → IsNone ps → pattern_of ps ≡ None
+none_read ps n = by (pattern_of ps) refl
+  where
+    by : (o : Option Pattern) → pattern_of ps ≡ o → o ≡ None
+    by None e = refl
+    by (Some p) e = absurd (n p (pattern_of_sound ps p e))
+
+pub is_pattern_none : (ps : List ℕ) → IsNone ps → is_pattern ps ≡ false
+is_pattern_none ps n = ap is_some (none_read ps n)
+
+pub is_found_none : (ps cs : List ℕ) → IsNone ps → is_found ps cs ≡ false
+is_found_none ps cs n = ap (λ o. option_map_or (λ p. matches (pattern_form p) cs) o false) (none_read ps n)
+
+-- what is found is found by the pattern that the text is
+pub is_found_as : (ps cs : List ℕ) (p : Pattern) → IsText ps p → is_found ps cs ≡ matches (pattern_form p) cs
+is_found_as ps cs p x = ap (λ o. option_map_or (λ q. matches (pattern_form q) cs) o false) (pattern_of_complete ps p x)
+
+pub is_found_sound : (ps cs : List ℕ) → is_found ps cs ≡ true → PatternFound ps cs
+is_found_sound ps cs h = by (pattern_of ps) refl h
+  where
+    by : (o : Option Pattern) → pattern_of ps ≡ o → option_map_or (λ p. matches (pattern_form p) cs) o false ≡ true → PatternFound ps cs
+    by None e g = absurd (true≢false (sym g))
+    by (Some p) e g = record {
+      pattern = p;
+      text = pattern_of_sound ps p e;
+      found = found_to p cs ((matches_decides (pattern_form p)).sound cs g);
+    }
+
+pub is_found_complete : (ps cs : List ℕ) → PatternFound ps cs → is_found ps cs ≡ true
+is_found_complete ps cs h =
+    is_found_as ps cs h.pattern h.text
+    ∙ (matches_decides (pattern_form h.pattern)).complete cs (found_from h.pattern cs h.found)
