@@ -15,8 +15,8 @@ use Rattle.i_regexp.specs.declared.mark.Mark.TheVariants as code
 use Rattle.i_regexp.specs.declared.mark.Mark.{Mark as CodeMark}
 use Rattle.i_regexp.specs.Fronts.{token_of, token_front}
 use Rattle.i_regexp.specs.Grammar.{Token, characters, opened, closed, bar, quantifier, one}
-use Rattle.i_regexp.specs.Patterns.{dollar_sign, colon, letter_x, letter_u, letter_items, named_letter, byte_of, unit_of, ends_class, is_dash}
-use Rattle.i_regexp.specs.Patterns.{class_items, Mark, start, end, token, dot, is_normal, fits}
+use Rattle.i_regexp.specs.Patterns.{dollar_sign, colon, letter_x, letter_u, letter_items, named_letter, byte_of, unit_of}
+use Rattle.i_regexp.specs.Patterns.{ends_class, is_dash, class_items, Mark, start, end, token, dot, is_normal, fits}
 
 -- a mark of the code
 abbrev pub mark_of : CodeMark → Mark

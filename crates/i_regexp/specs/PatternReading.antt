@@ -1,5 +1,6 @@
 -- What is read of a pattern's text; `ReadsTree` and `Refused` are for private contracts.
-use Rattle.std.specs.Prelude.{◌≡◌, ℕ, ◌≤◌, ◌+◌, ◌↔◌, Bool, true, false, ◌&&◌, ◌||◌, ◌==◌, cond, List, [], ◌∷◌, ◌++◌, length, ◌⊎◌, Result, Ok, Err}
+use Rattle.std.specs.Prelude.{◌≡◌, ℕ, ◌≤◌, ◌+◌, ◌↔◌, Bool, true, false, ◌&&◌, ◌||◌, ◌==◌, cond, List, [], ◌∷◌, ◌++◌, length, ◌⊎◌}
+use Rattle.std.specs.Prelude.{Result, Ok, Err}
 use Rattle.i_regexp.specs.Characters.{left_parenthesis, question_mark, circumflex, reverse_solidus, letter_p, capital_p}
 use Rattle.i_regexp.specs.declared.error.IRegexpError.{IRegexpError}
 use Rattle.i_regexp.specs.declared.error.IRegexpErrorKind.{IRegexpErrorKind}
