@@ -1,55 +1,70 @@
-//! Reads an array from standard input, and prints for each item how many equal items have come so far,
-//! with itself, and its text.
+//! Reads JSON texts from standard input, one on a line, and prints for each how many equal values have come so far,
+//! with itself, and its normal form. The first line that is refused ends the run, and is told on standard error.
 //!
-//! The status is 0 after success, 1 where the input is no array, and 2 where it isn't UTF-8, or memory,
-//! a read or a write failed.
+//! The status is 0 where all lines are JSON texts, 1 where one is refused, and 4 where memory, a read or a write
+//! failed.
 #![tactic(auto)]
 
+pub mod refusal;
 pub mod store;
 
-use std::io;
+use json_line::{content, read_line};
+use refusal::{Cause, Refusal};
+use std::io::{self, BufReader, ErrorKind};
 use std::process::ExitCode;
+use std::str;
 use store::Store;
-use tinyjson::JsonValue;
+use tinyjson_normal::NormalText;
 
 fn main(rt: HostRuntime) -> ExitCode {
-    match count_items(&rt) {
-        Ok(true) => ExitCode::SUCCESS,
-        Ok(false) => {
-            let _ = eprintln!(rt; "json_store: the input is no array");
+    match count_lines(&rt) {
+        Ok(None) => ExitCode::SUCCESS,
+        Ok(Some(refusal)) => {
+            let _ = eprintln!(rt; "json_store: {refusal}");
             ExitCode::from(1)
         }
-        Err(_) => {
-            let _ = eprintln!(rt; "json_store: memory, a read or a write failed");
-            ExitCode::from(2)
+        Err(error) => {
+            let _ = eprintln!(rt; "json_store: {error}");
+            ExitCode::from(4)
         }
     }
 }
 
-/// Whether the input is an array; then its items are counted.
-fn count_items(rt: &(impl Input + Print + AllocGlobal)) -> io::Result<bool> {
+/// Counts the value of each line, up to the first that is refused, which it returns.
+fn count_lines(rt: &(impl Input + Print + AllocGlobal)) -> io::Result<Option<Refusal>> {
     let alloc = rt.alloc();
-    let text = io::read_to_string(alloc, rt.reader())?;
-    let value = match JsonValue::from_str(alloc, text.as_str()) {
-        Ok(value) => value,
-        Err(error) if error.is_out_of_memory() => return Err(error.into()),
-        Err(_) => return Ok(false),
-    };
-    let answer = print_counts(rt, &value);
-    value.dismantle();
-    answer
+    let mut input = BufReader::new(alloc, rt.reader())?;
+    let mut line = Vec::new(alloc);
+    let mut store = Store::new(alloc);
+    for number in 1..u64::MAX {
+        if !read_line(&mut input, &mut line)? {
+            return Ok(None);
+        }
+        if let Some(cause) = count_line(rt, &mut store, line.as_slice())? {
+            return Ok(Some(Refusal { number, cause }));
+        }
+    }
+    Err(io::Error::new(ErrorKind::InvalidData, "too many lines"))
 }
 
-/// Whether the value is an array; then a line is printed for each item.
-fn print_counts(rt: &(impl Print + AllocGlobal), value: &JsonValue) -> io::Result<bool> {
+/// Counts the value of a line and prints it with its count; or returns why the line is refused.
+fn count_line(
+    rt: &(impl Print + AllocGlobal),
+    store: &mut Store,
+    line: &[u8],
+) -> io::Result<Option<Cause>> {
     let alloc = rt.alloc();
-    let Some(items) = value.get::<Vec<JsonValue>>() else {
-        return Ok(false);
+    let Ok(text) = str::from_utf8(content(line)) else {
+        return Ok(Some(Cause::NotUtf8));
     };
-    let mut store = Store::new(alloc);
-    for item in items {
-        store.add(alloc, item)?;
-        println!(rt; "{} {}", store.count(alloc, item)?, item.stringify(alloc)?)?;
+    match NormalText::read(alloc, text) {
+        Ok(value) => {
+            store.add(alloc, &value)?;
+            let count = store.count(alloc, &value)?;
+            println!(rt; "{count} {}", value.to_string(alloc)?)?;
+            Ok(None)
+        }
+        Err(error) if error.is_out_of_memory() => Err(error.into()),
+        Err(error) => Ok(Some(Cause::NotJson(error))),
     }
-    Ok(true)
 }

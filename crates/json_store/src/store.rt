@@ -1,8 +1,12 @@
-//! Counts of values: equal values share one count.
+//! Counts of values by their normal text: equal values share one count.
+ghost use Rattle.std.specs.Prelude.{◌≡◌, IfOk, OnOk, OnErr};
+ghost use Rattle.tinyjson.specs.Tree.{Tree};
+ghost use Rattle.tinyjson_normal.specs.Normal.{HasTree};
+ghost use Rattle.json_store.specs.Store.{count_of, CountsOnce, CountsTheSame};
 
 use std::alloc::{AllocError, Global};
 use std::collections::HashMap;
-use tinyjson::JsonValue;
+use tinyjson_normal::NormalText;
 
 /// How often each value was added.
 ///
@@ -14,13 +18,9 @@ pub struct Store {
 }
 
 impl Store {
-    ghost use Rattle.std.specs.Prelude.{◌≡◌, IfOk, OnOk, OnErr};
-    ghost use Rattle.tinyjson.specs.declared.value.JsonValue.{JsonValue};
-    ghost use Rattle.json_store.specs.Store.{count_of, CountsOnce, CountsTheSame};
-
     /// A store that has counted nothing.
     pub fn new(alloc: Global) -> Store
-        ensures { (v : JsonValue) → count_of result v ≡ 0 }
+        ensures { (t : Tree) → count_of result t ≡ 0 }
     {
         Store {
             counts: HashMap::new(alloc),
@@ -28,10 +28,10 @@ impl Store {
     }
 
     /// How often values equal to this one were added. The only error is out of memory.
-    pub fn count(&self, alloc: Global, value: &JsonValue) -> Result<u64, AllocError>
-        ensures { IfOk result (λ n. n ≡ count_of self.now value.now) }
+    pub fn count(&self, alloc: Global, value: &NormalText) -> Result<u64, AllocError>
+        ensures { (t : Tree) → HasTree value.now t → IfOk result (λ n. n ≡ count_of self.now t) }
     {
-        let Ok(key) = value.stringify(alloc) else {
+        let Ok(key) = value.to_string(alloc) else {
             return Err(AllocError);
         };
         Ok(self.counts.get(key.as_str()).copied().unwrap_or(0))
@@ -41,14 +41,15 @@ impl Store {
     /// were.
     ///
     /// ```
-    /// store.add(alloc, &JsonValue::from_str(alloc, r#"{"a": 1, "b": 2.0}"#)?)?;
-    /// store.count(alloc, &JsonValue::from_str(alloc, r#"{"b": 2, "a": 10e-1}"#)?)?; // 1
+    /// store.add(alloc, &NormalText::read(alloc, r#"{"a": 1, "b": 2.0}"#)?)?;
+    /// store.count(alloc, &NormalText::read(alloc, r#"{"b": 2, "a": 10e-1}"#)?)?; // 1
     /// ```
-    pub fn add(&mut self, alloc: Global, value: &JsonValue) -> Result<(), AllocError>
-        ensures ok { OnOk result (CountsOnce self.old value.now self.new) }
+    pub fn add(&mut self, alloc: Global, value: &NormalText) -> Result<(), AllocError>
+        ensures ok { (t : Tree) → HasTree value.now t →
+            OnOk result (CountsOnce self.old t self.new) }
         ensures err { OnErr result (CountsTheSame self.old self.new) }
     {
-        let Ok(key) = value.stringify(alloc) else {
+        let Ok(key) = value.to_string(alloc) else {
             return Err(AllocError);
         };
         let count = self.counts.get(key.as_str()).copied().unwrap_or(0);
