@@ -217,6 +217,15 @@ KEYWORDS = [
     ('{"default":{"$ref":"#"},"enum":[{"allOf":[]}],"examples":[{"type":5}],"const":{"allOf":[]}}', ['{"allOf":[]}'], [("{}", "", "/enum")]),
 ]
 
+# Keywords that say nothing, each beside one that does, and values that it would be thought to speak of (Core, 8.2.1 to 8.2.4;
+# Validation, 7 to 9).
+SILENT = [
+    '"$schema":"https://json-schema.org/draft/2020-12/schema"', '"$id":"https://example.com/a"', '"$comment":"string"', '"$defs":{"a":false}', '"$defs":{}',
+    '"format":"date-time"', '"format":"regex"', '"format":"none"', '"contentEncoding":"base64"', '"contentMediaType":"application/json"', '"contentSchema":false',
+    '"title":"array"', '"description":""', '"default":[]', '"default":1', '"deprecated":true', '"deprecated":false', '"readOnly":true', '"writeOnly":true', '"examples":[[]]', '"examples":[]',
+]
+KEYWORDS += [('{%s,"type":"string"}' % word, ['""', '"["', '"{\\"a\\":1}"', '"2020-13-45T25:00:00Z"'], [("1", "", "/type"), ("[]", "", "/type"), ("null", "", "/type")]) for word in SILENT]
+
 # Schemas that can't be applied, each with the place.
 REFUSED = [
     ("5", ""), ("null", ""), ("[]", ""), ('"x"', ""),
@@ -247,7 +256,7 @@ REFUSED = [
     ('{"$comment":1}', "/$comment"), ('{"description":["a"]}', "/description"), ('{"readOnly":0}', "/readOnly"), ('{"writeOnly":null}', "/writeOnly"),
     ('{"contentEncoding":64}', "/contentEncoding"), ('{"contentMediaType":{}}', "/contentMediaType"), ('{"examples":"a"}', "/examples"), ('{"deprecated":1}', "/deprecated"),
     ('{"$defs":{"a":{"$comment":null}}}', "/$defs/a/$comment"), ('{"not":{"title":false}}', "/not/title"), ('{"maxProperties":"1"}', "/maxProperties"),
-    ('{"contentSchema":{"type":"any"}}', "/contentSchema/type"), ('{"$id":1}', "/$id"),
+    ('{"contentSchema":{"type":"any"}}', "/contentSchema/type"), ('{"contentSchema":[]}', "/contentSchema"), ('{"then":5}', "/then"), ('{"title":null}', "/title"), ('{"contentEncoding":null}', "/contentEncoding"), ('{"$id":1}', "/$id"),
     ('{"exclusiveMaximum":"3"}', "/exclusiveMaximum"), ('{"exclusiveMinimum":[0]}', "/exclusiveMinimum"), ('{"maxItems":"1"}', "/maxItems"), ('{"maxItems":-1}', "/maxItems"), ('{"minProperties":1.5}', "/minProperties"),
     ('{"properties":{"x\\n\\u001b[2J":0}}', "/properties/xU+000AU+001B[2J"),
 ]
