@@ -8,6 +8,7 @@ pub mod Lookups
 pub mod Loops
 pub mod Outcomes
 pub mod Parts
+pub mod Patterns
 pub mod Places
 pub mod References
 pub mod Reports

@@ -1,5 +1,5 @@
 -- Turns of the loops over members, items and schemas at keys.
-use Rattle.std.proofs.Common.{◌≡◌, ℕ, suc, ◌<◌, ◌≤◌, ◌+◌, true, false, not, ◌&&◌, ◌||◌}
+use Rattle.std.proofs.Common.{◌≡◌, ℕ, suc, ◌<◌, ◌≤◌, ◌+◌, Bool, true, false, not, ◌&&◌, ◌||◌}
 use Rattle.std.proofs.Common.{List, Some, None, length, get_or, drop, is_some}
 use Rattle.std.proofs.Common.{Vec, Global, refl, sym, ap, ◌∙◌, add-one}
 use Rattle.std.proofs.lemmas.Bool.{or_left, or_right}
@@ -12,7 +12,8 @@ use Rattle.tinyjson.specs.View.{view, text, items_view, members_listed}
 use Rattle.tinyjson.specs.declared.value.JsonValue.{JsonValue}
 use Rattle.tinyjson.specs.declared.value.JsonValue.TheVariants as is
 use Rattle.json_schema.specs.Applied.{Judge, dependents_accept, member_accepted, members_accepted, item_accepted, items_accepted}
-use Rattle.json_schema.specs.Applied.{parts_accepted}
+use Rattle.i_regexp.specs.PatternDeciding.{is_found}
+use Rattle.json_schema.specs.Applied.{parts_accepted, found_pass}
 use Rattle.json_schema.specs.Parts.{member_schema, item_schema}
 use Rattle.json_schema.proofs.Listed.{Listed}
 use Rattle.json_schema.proofs.Turns.{drop_suc, drop_end, turn_next}
@@ -62,6 +63,21 @@ pub dependents_turn : (f : Judge) (t : Tree) (ps : List Listed) (i : ℕ) (p : L
     → dependents_accept f (members_listed (drop (i + 1) ps)) t ≡ dependents_accept f (members_listed ps) t
 dependents_turn f t ps i p h e good left = turn_next (λ xs. dependents_accept f (members_listed xs) t) ps i p h e
     (ap (λ b. b && dependents_accept f (members_listed (drop (i + 1) ps)) t) good) left
+
+-- ---- members in whose key a pattern is found
+
+pub found_holds : (q : Tree → Bool) (p k : List ℕ) (u : Tree) → q u ≡ true → (not (is_found p k) || q u) ≡ true
+found_holds q p k u h = or_right _ _ h
+
+pub not_found : (q : Tree → Bool) (p k : List ℕ) (u : Tree) → is_found p k ≡ false → (not (is_found p k) || q u) ≡ true
+not_found q p k u h = or_left _ _ (ap not h)
+
+pub found_turn : (q : Tree → Bool) (p : List ℕ) (ps : List Listed) (i : ℕ) (m : Listed) → i < length ps → m ≡ get_or ps i m
+    → (not (is_found p (text m.0.now)) || q (view m.1.now)) ≡ true
+    → found_pass q p (members_listed (drop i ps)) ≡ found_pass q p (members_listed ps)
+    → found_pass q p (members_listed (drop (i + 1) ps)) ≡ found_pass q p (members_listed ps)
+found_turn q p ps i m h e good left = turn_next (λ xs. found_pass q p (members_listed xs)) ps i m h e
+    (ap (λ b. b && found_pass q p (members_listed (drop (i + 1) ps))) good) left
 
 -- ---- values with no parts
 

@@ -1,11 +1,11 @@
 -- The schemas that there are for parts, and where they stand.
-use Rattle.std.proofs.Common.{◌≡◌, ◌∷◌, [], ℕ, List, Option, Some, None, codes, refl, ap, ◌∙◌}
+use Rattle.std.proofs.Common.{◌≡◌, ◌∷◌, [], ℕ, Bool, true, false, cond, List, Option, Some, None, codes, refl, ap, ◌∙◌}
 use Rattle.std.specs.Prelude.{option_and_then}
 use Rattle.tinyjson.specs.Index.{tree_at, tree_at_key}
 use Rattle.tinyjson.specs.Tree.{Tree, array, object}
 use Rattle.json_pointer.specs.Index.{index_of}
 use Rattle.json_pointer.specs.Walk.{step, part_at, item_of}
-use Rattle.json_schema.specs.Parts.{property, prefix_item, member_schema, item_schema, or_else}
+use Rattle.json_schema.specs.Parts.{property, prefix_item, is_patterned, additional, member_schema, item_schema, or_else}
 use Rattle.json_schema.specs.Places.{place}
 use Rattle.json_schema.specs.declared.keyword.Keyword.TheVariants as kw
 
@@ -33,19 +33,37 @@ module _ (s : Tree) (k : List ℕ) where
   pub by_property : (r : Tree) → property s k ≡ Some r → (member_schema s k ≡ Some r) × (part_at s (place kw.Properties k) ≡ Some r)
   by_property r h =
       let f = some_before (tree_at_key s (codes "properties")) (λ p. tree_at_key p k) r h in (
-        ap (λ o. or_else o (tree_at_key s (codes "additionalProperties"))) h,
+        ap (λ o. or_else o (additional s k)) h,
         two_steps s f.0 r (codes "properties") k f.1 (key_step f.0 k r f.2),
       )
 
-  pub by_additional : (r : Tree) → property s k ≡ None → tree_at_key s (codes "additionalProperties") ≡ Some r
+  -- what `additionalProperties` has for the key is all that it has
+  additional_some : (r : Tree) (b : Bool) → cond b None (tree_at_key s (codes "additionalProperties")) ≡ Some r
+      → tree_at_key s (codes "additionalProperties") ≡ Some r
+  additional_some r true h = cc
+  additional_some r false h = h
+
+  pub by_additional : (r : Tree) → property s k ≡ None → additional s k ≡ Some r
       → (member_schema s k ≡ Some r) × (part_at s (place kw.AdditionalProperties k) ≡ Some r)
   by_additional r h g = (
-    ap (λ o. or_else o (tree_at_key s (codes "additionalProperties"))) h ∙ g,
-    one_step s r (codes "additionalProperties") g,
+    ap (λ o. or_else o (additional s k)) h ∙ g,
+    one_step s r (codes "additionalProperties") (additional_some r (is_patterned s k) g),
   )
 
-  pub no_member : property s k ≡ None → tree_at_key s (codes "additionalProperties") ≡ None → member_schema s k ≡ None
-  no_member h g = ap (λ o. or_else o (tree_at_key s (codes "additionalProperties"))) h ∙ g
+  pub no_member : property s k ≡ None → additional s k ≡ None → member_schema s k ≡ None
+  no_member h g = ap (λ o. or_else o (additional s k)) h ∙ g
+
+  none_left : (o : Option Tree) (b : Bool) → None ≡ o → None ≡ cond b None o
+  none_left o true h = refl
+  none_left o false h = h
+
+  pub no_additional : None ≡ tree_at_key s (codes "additionalProperties") → None ≡ additional s k
+  no_additional h = none_left (tree_at_key s (codes "additionalProperties")) (is_patterned s k) h
+
+  -- whether a pattern is found in the key decides
+  pub by_patterned : (o : Option Tree) (b : Bool) → b ≡ is_patterned s k → o ≡ tree_at_key s (codes "additionalProperties")
+      → cond b None o ≡ additional s k
+  by_patterned o b h g = ap (λ x. cond x None o) h ∙ ap (cond (is_patterned s k) None) g
 
 module _ (s : Tree) (i : ℕ) where
   pub by_prefix : (r : Tree) → prefix_item s i ≡ Some r

@@ -14,7 +14,8 @@ use Rattle.json_pointer.specs.Tokens.{tokens_of}
 use Rattle.json_pointer.specs.Walk.{step, part_at, item_of}
 use Rattle.json_schema.specs.Applied.{Judge, schema_at, schemas_at, schema_map_at, all_accept, branch, branch_accepts, dependents_accept}
 use Rattle.json_schema.specs.Applied.{applies, apply_all, counts, tests, demands, member_accepted, members_accepted, item_accepted}
-use Rattle.json_schema.specs.Applied.{items_accepted}
+use Rattle.i_regexp.specs.PatternDeciding.{is_found}
+use Rattle.json_schema.specs.Applied.{items_accepted, members_in, found_pass, patterns_accept}
 use Rattle.json_schema.specs.Applied.{parts_accepted}
 use Rattle.json_schema.specs.Keywords.{meets_all, assertions}
 use Rattle.json_schema.specs.Names.{name}
@@ -24,7 +25,7 @@ use Rattle.json_schema.specs.References.{referenced}
 use Rattle.json_schema.specs.Valid.{refuses_all, judge, reference_accepts, accepts_by, IsValid, MeetsRules, IsInvalidAt, Validates}
 use Rattle.json_schema.specs.Valid.{Agrees, says, Follows, Decides, Judges, IsDeeper, Finds, IsUnapplied}
 use Rattle.json_schema.specs.Valid.{refused, unmet, not_applied}
-use Rattle.json_schema.specs.Valid.{in_all_of, in_branch, in_dependent, in_reference, in_part}
+use Rattle.json_schema.specs.Valid.{in_all_of, in_branch, in_dependent, in_patterned, in_reference, in_part}
 use Rattle.json_schema.specs.declared.keyword.Keyword.{Keyword}
 use Rattle.json_schema.specs.declared.keyword.Keyword.TheVariants as kw
 use Rattle.json_schema.specs.declared.violation.Violation.{Violation}
@@ -77,6 +78,12 @@ from_one_of = kw.OneOf ∷ from_not
 abbrev from_max_contains : List Keyword
 from_max_contains = kw.MaxContains ∷ kw.MinContains ∷ []
 
+abbrev from_dependents : List Keyword
+from_dependents = kw.DependentSchemas ∷ kw.PatternProperties ∷ []
+
+abbrev from_if : List Keyword
+from_if = kw.If ∷ from_dependents
+
 after_any_of : (root : Tree) (f : Judge) (s t : Tree) → IsMet root f s t → apply_all f from_one_of s t ≡ true
 after_any_of root f s t m = rest_met f s t kw.AnyOf from_one_of m.tested
 
@@ -92,6 +99,12 @@ after_names root f s t m = rest_met f s t kw.PropertyNames counts (after_not roo
 after_contains : (root : Tree) (f : Judge) (s t : Tree) → IsMet root f s t → apply_all f from_max_contains s t ≡ true
 after_contains root f s t m = rest_met f s t kw.Contains from_max_contains (after_names root f s t m)
 
+after_all_of : (root : Tree) (f : Judge) (s t : Tree) → IsMet root f s t → apply_all f from_if s t ≡ true
+after_all_of root f s t m = rest_met f s t kw.AllOf from_if m.demanded
+
+after_if : (root : Tree) (f : Judge) (s t : Tree) → IsMet root f s t → apply_all f from_dependents s t ≡ true
+after_if root f s t m = rest_met f s t kw.If from_dependents (after_all_of root f s t m)
+
 applied : (root : Tree) (f : Judge) (s t : Tree) (k : Keyword) → IsMet root f s t → applies f k s t ≡ true
 applied root f s t kw.AnyOf m = first_met f s t kw.AnyOf from_one_of m.tested
 applied root f s t kw.OneOf m = first_met f s t kw.OneOf from_not (after_any_of root f s t m)
@@ -101,11 +114,11 @@ applied root f s t kw.Contains m = first_met f s t kw.Contains from_max_contains
 applied root f s t kw.MaxContains m = first_met f s t kw.MaxContains (kw.MinContains ∷ []) (after_contains root f s t m)
 applied root f s t kw.MinContains m = first_met f s t kw.MinContains []
     (rest_met f s t kw.MaxContains (kw.MinContains ∷ []) (after_contains root f s t m))
-applied root f s t kw.AllOf m = first_met f s t kw.AllOf (kw.If ∷ kw.DependentSchemas ∷ []) m.demanded
-applied root f s t kw.If m = first_met f s t kw.If (kw.DependentSchemas ∷ [])
-    (rest_met f s t kw.AllOf (kw.If ∷ kw.DependentSchemas ∷ []) m.demanded)
-applied root f s t kw.DependentSchemas m = first_met f s t kw.DependentSchemas []
-    (rest_met f s t kw.If (kw.DependentSchemas ∷ []) (rest_met f s t kw.AllOf (kw.If ∷ kw.DependentSchemas ∷ []) m.demanded))
+applied root f s t kw.AllOf m = first_met f s t kw.AllOf from_if m.demanded
+applied root f s t kw.If m = first_met f s t kw.If from_dependents (after_all_of root f s t m)
+applied root f s t kw.DependentSchemas m = first_met f s t kw.DependentSchemas (kw.PatternProperties ∷ []) (after_if root f s t m)
+applied root f s t kw.PatternProperties m = first_met f s t kw.PatternProperties []
+    (rest_met f s t kw.DependentSchemas (kw.PatternProperties ∷ []) (after_if root f s t m))
 applied root f s t _ m = refl
 
 module _ (f : Judge) (t : Tree) where
@@ -134,6 +147,39 @@ module _ (f : Judge) (t : Tree) where
           subst (λ x. f x t ≡ true) same
           (here_accepts l q (and_parts _ _ h).0 (subst (λ x. is_some (tree_at_key t x) ≡ true) key e))
       by false d g' later = later g'
+
+-- the members in whose key a pattern is found
+module _ (q : Tree → Bool) (p : List ℕ) where
+  here_found : (k : List ℕ) (u : Tree) → (not (is_found p k) || q u) ≡ true → is_found p k ≡ true → q u ≡ true
+  here_found k u h e = sym (ap (λ b. not b || q u) e) ∙ h
+
+  found_passes : (ms : Members) (k : List ℕ) (u : Tree) → found_pass q p ms ≡ true → is_found p k ≡ true → find k ms ≡ Some u → q u ≡ true
+  found_passes no_members k u h e g = cc
+  found_passes (member l v ms) k u h e g = by (bytes_eq k l) refl g (λ g'. found_passes ms k u (and_parts _ _ h).1 e g')
+    where
+      by : (b : Bool) → bytes_eq k l ≡ b → cond b (Some v) (find k ms) ≡ Some u → (find k ms ≡ Some u → q u ≡ true) → q u ≡ true
+      by true d g' later =
+          let same : v ≡ u = cc in
+          let key : k ≡ l = (bytes_eq-Decides k l).0 d in
+          subst (λ x. q x ≡ true) same (here_found l v (and_parts _ _ h).0 (subst (λ x. is_found p x ≡ true) key e))
+      by false d g' later = later g'
+
+pattern_accepts : (f : Judge) (ms rs : Members) (p : List ℕ) (r : Tree) → patterns_accept f rs ms ≡ true → find p rs ≡ Some r
+    → found_pass (f r) p ms ≡ true
+pattern_accepts f ms no_members p r h g = cc
+pattern_accepts f ms (member l q rs) p r h g = by (bytes_eq p l) refl g (λ g'. pattern_accepts f ms rs p r (and_parts _ _ h).1 g')
+  where
+    by : (b : Bool) → bytes_eq p l ≡ b → cond b (Some q) (find p rs) ≡ Some r → (find p rs ≡ Some r → found_pass (f r) p ms ≡ true)
+        → found_pass (f r) p ms ≡ true
+    by true d g' later =
+        let same : q ≡ r = cc in
+        let key : l ≡ p = sym ((bytes_eq-Decides p l).0 d) in
+        subst (λ x. found_pass (f x) p ms ≡ true) same (subst (λ x. found_pass (f q) x ms ≡ true) key (and_parts _ _ h).0)
+    by false d g' later = later g'
+
+member_step : (t : Tree) (k : List ℕ) (u : Tree) → find k (members_in t) ≡ Some u → step t k ≡ Some u
+member_step (object ms) k u h = h
+member_step _ k u h = cc
 
 module _ (f : Judge) (s : Tree) where
   member_accepts : (ms : Members) (k : List ℕ) (u : Tree) → members_accepted f s ms ≡ true → find k ms ≡ Some u
@@ -202,6 +248,10 @@ refuted {root} {n = suc n} {s} {t} (in_branch {c} {r} {b} e a j h) g v =
 refuted {root} {n = suc n} {s} {t} (in_dependent {r} {k} e a h) g v =
     refuted h g (dependent_accepts (judge root n g) t (schema_map_at s kw.DependentSchemas) k r
     (applied root (judge root n g) s t kw.DependentSchemas (met root (judge root n g) s t v)) e a)
+refuted {root} {n = suc n} {s} {t} (in_patterned {r} {u} {p} {k} a b c h) g v =
+    refuted h g (found_passes (judge root n g r) p (members_in t) k u
+    (pattern_accepts (judge root n g) (members_in t) (schema_map_at s kw.PatternProperties) p r
+    (applied root (judge root n g) s t kw.PatternProperties (met root (judge root n g) s t v)) a) b c)
 refuted {root} {n = suc n} {s} {t} (in_reference {r} e h) g v =
     refuted h g (reference_chosen root (judge root n g) s t r (met root (judge root n g) s t v).referred e)
 refuted {root} {n = suc n} {s} {t} (in_part {r} {u} {k} ls a b c h) g v =
@@ -239,6 +289,8 @@ there (not_applied k e) = refl
 there (in_all_of e h) = there h
 there (in_branch e g j h) = there h
 there (in_dependent e g h) = there h
+there {t} {js = k ∷ js} (in_patterned {u} a b c h) =
+    subst (λ o. IsSome (option_and_then (λ v. part_at v js) o)) (sym (member_step t k u c)) (there h)
 there (in_reference e h) = there h
 there {t} {js = k ∷ js} (in_part {u} ls a b c h) = subst (λ o. IsSome (option_and_then (λ v. part_at v js) o)) (sym b) (there h)
 
@@ -290,18 +342,19 @@ pub last_found : (w : Walk) (s t : Tree) (x : Result (Option Violation) CheckErr
     → refuses_all s ≡ false → meets_all assertions s t ≡ true → ((g : Judge) → apply_all (says w g) tests s t ≡ true)
     → ((g : Judge) → applies (says w g) kw.AllOf s t ≡ true) → ((g : Judge) → applies (says w g) kw.If s t ≡ true)
     → ((g : Judge) → applies (says w g) kw.DependentSchemas s t ≡ true)
+    → ((g : Judge) → applies (says w g) kw.PatternProperties s t ≡ true)
     → ((g : Judge) → reference_accepts (view w.root.now) (says w g) s t ≡ true)
     → Finds w (λ f. parts_accepted f s t) s t x → Decides (view w.root.now) (suc w.steps) s t x
-last_found w s t (Ok None) a b c d e k r h = λ g. valid_from (view w.root.now) (says w g) s t (record {
+last_found w s t (Ok None) a b c d e k p r h = λ g. valid_from (view w.root.now) (says w g) s t (record {
   accepted = a;
   asserted = b;
   tested = c g;
-  demanded = λ i. d g i && (e g i && (k g i && true));
+  demanded = λ i. d g i && (e g i && (k g i && (p g i && true)));
   referred = r g;
   parts = h g;
 })
-last_found w s t (Ok (Some v)) a b c d e k r h = h
-last_found w s t (Err x) a b c d e k r h = tt
+last_found w s t (Ok (Some v)) a b c d e k p r h = h
+last_found w s t (Err x) a b c d e k p r h = tt
 
 -- what is known of a schema in the walk, one step before
 pub before : (w inner : Walk) → IsDeeper w inner → (s t : Tree) (x : Result (Option Violation) CheckError)

@@ -9,6 +9,8 @@ use Rattle.tinyjson.specs.Tree.{Tree, number, string, array, object, Items, no_i
 use Rattle.json_schema.specs.Forms.{is_some_item}
 use Rattle.json_schema.specs.Keywords.{is_count_at_most, is_count_at_least}
 use Rattle.json_schema.specs.Names.{name}
+use Rattle.i_regexp.specs.PatternDeciding.{is_found}
+pub use Rattle.json_schema.specs.Parts.{members_in}
 use Rattle.json_schema.specs.Parts.{member_schema, item_schema}
 use Rattle.json_schema.specs.declared.keyword.Keyword.{Keyword}
 use Rattle.json_schema.specs.declared.keyword.Keyword.TheVariants as kw
@@ -23,10 +25,6 @@ schema_at s k = tree_at_key s (name k)
 abbrev pub items_in : Tree → Items
 items_in (array ts) = ts
 items_in _ = no_items
-
-abbrev pub members_in : Tree → Members
-members_in (object ms) = ms
-members_in _ = no_members
 
 abbrev pub schemas_at : Tree → Keyword → Items
 schemas_at s k = option_map_or items_in (schema_at s k) no_items
@@ -98,6 +96,16 @@ abbrev pub dependents_accept : Judge → Members → Tree → Bool
 dependents_accept f no_members t = true
 dependents_accept f (member k r rs) t = (not (is_some (tree_at_key t k)) || f r t) && dependents_accept f rs t
 
+-- each of the members in whose key the pattern p is found passes a test
+abbrev pub found_pass : (Tree → Bool) → List ℕ → Members → Bool
+found_pass q p no_members = true
+found_pass q p (member k u ms) = (not (is_found p k) || q u) && found_pass q p ms
+
+-- of each pattern, the schema that it has accepts those
+abbrev pub patterns_accept : Judge → Members → Members → Bool
+patterns_accept f no_members ms = true
+patterns_accept f (member p r rs) ms = found_pass (f r) p ms && patterns_accept f rs ms
+
 -- The value t meets the keyword of the schema s.
 abbrev pub applies : Judge → Keyword → Tree → Tree → Bool
 applies f kw.AllOf s t = all_accept f (schemas_at s kw.AllOf) t  -- 10.2.1.1
@@ -109,6 +117,7 @@ applies f kw.DependentSchemas s t = dependents_accept f (schema_map_at s kw.Depe
 applies f kw.Contains s t = contains_some (contained f s t) s  -- 10.3.1.3
 applies f kw.MaxContains s t = contains_at_most (contained f s t) s  -- Validation, 6.4.4
 applies f kw.MinContains s t = contains_at_least (contained f s t) s  -- Validation, 6.4.5
+applies f kw.PatternProperties s t = patterns_accept f (schema_map_at s kw.PatternProperties) (members_in t)  -- 10.3.2.2
 applies f kw.PropertyNames s t = option_map_or (λ r. keys_pass (f r) (members_in t)) (schema_at s kw.PropertyNames) true  -- 10.3.2.4
 applies f _ s t = true
 
@@ -124,7 +133,7 @@ abbrev pub tests : List Keyword
 tests = kw.AnyOf ∷ kw.OneOf ∷ kw.Not ∷ kw.PropertyNames ∷ counts
 
 abbrev pub demands : List Keyword
-demands = kw.AllOf ∷ kw.If ∷ kw.DependentSchemas ∷ []
+demands = kw.AllOf ∷ kw.If ∷ kw.DependentSchemas ∷ kw.PatternProperties ∷ []
 
 -- each member and each item is accepted by the schema that there is for it
 abbrev pub member_accepted : Judge → Tree → List ℕ → Tree → Bool

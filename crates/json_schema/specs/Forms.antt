@@ -2,6 +2,7 @@
 use Rattle.std.specs.Prelude.{ℕ, pos, Bool, true, false, not, ◌&&◌, ◌||◌, List, int_le, codes, encode_utf8_all}
 use Rattle.std.specs.Option.{option_map_or}
 use Rattle.std.specs.Str.{bytes_eq}
+use Rattle.i_regexp.specs.PatternDeciding.{is_pattern}
 use Rattle.tinyjson.specs.Access.{is_string}
 use Rattle.tinyjson.specs.Tree.{Tree, number, string, array, object, Items, no_items, item, Members, no_members, member}
 use Rattle.json_order.specs.Distinct.{are_distinct}
@@ -35,7 +36,7 @@ form_of kw.PrefixItems = form.Schemas
 form_of kw.Items = form.Schema
 form_of kw.Contains = form.Schema
 form_of kw.Properties = form.SchemaMap
-form_of kw.PatternProperties = form.Refused
+form_of kw.PatternProperties = form.PatternMap
 form_of kw.AdditionalProperties = form.Schema
 form_of kw.PropertyNames = form.Schema
 form_of kw.UnevaluatedItems = form.Refused
@@ -50,7 +51,7 @@ form_of kw.Minimum = form.Number
 form_of kw.ExclusiveMinimum = form.Number
 form_of kw.MaxLength = form.Count
 form_of kw.MinLength = form.Count
-form_of kw.Pattern = form.Refused
+form_of kw.Pattern = form.Pattern
 form_of kw.MaxItems = form.Count
 form_of kw.MinItems = form.Count
 form_of kw.UniqueItems = form.Truth
@@ -126,6 +127,20 @@ have_key_lists (member k t ms) = is_key_list t && have_key_lists ms
 abbrev pub is_key_map : Tree → Bool
 is_key_map (object ms) = have_key_lists ms
 is_key_map _ = false
+
+-- a text that is a pattern (Core, 6.4)
+abbrev pub is_pattern_text : Tree → Bool
+is_pattern_text (string ps) = is_pattern ps
+is_pattern_text _ = false
+
+-- each key is one
+abbrev pub are_patterns : Members → Bool
+are_patterns no_members = true
+are_patterns (member k t ms) = is_pattern k && are_patterns ms
+
+abbrev pub has_patterns : Tree → Bool
+has_patterns (object ms) = are_patterns ms
+has_patterns _ = false
 
 abbrev pub is_dialect : Tree → Bool
 is_dialect (string cs) = bytes_eq (encode_utf8_all cs) (codes "https://json-schema.org/draft/2020-12/schema")

@@ -1,10 +1,11 @@
 -- The keywords that speak of a value and not of its parts (JSON Schema 2020-12, Validation).
 -- One whose own value has another form than the standard's says nothing, but a type of another form, or with no name of a
--- type in it, accepts nothing, and no value is in an `enum` that is no array.
+-- type in it, accepts nothing, no value is in an `enum` that is no array, and a string that is no pattern is found in no text.
 use Rattle.std.specs.Prelude.{◌≡◌, ℕ, suc, pos, Bool, true, false, not, ◌&&◌, ◌||◌, List, [], ◌∷◌, Option, Some, None, is_some, int_le}
 use Rattle.std.specs.Prelude.{codes, length}
 use Rattle.std.specs.Option.{option_map_or}
 use Rattle.std.specs.Str.{bytes_eq}
+use Rattle.i_regexp.specs.PatternDeciding.{is_found}
 use Rattle.tinyjson.specs.Equality.{tree_eq}
 use Rattle.tinyjson.specs.Index.{tree_at_key, item_count}
 use Rattle.tinyjson.specs.Kind.{kind_of, kind_name}
@@ -106,6 +107,11 @@ abbrev pub is_count_at_least : Option ℕ → Tree → Bool
 is_count_at_least (Some n) w = are_ordered w (number (count n))
 is_count_at_least None w = true
 
+-- the pattern, the first, is found in the text
+abbrev pub has_pattern : Tree → Tree → Bool
+has_pattern (string ps) (string cs) = is_found ps cs
+has_pattern _ t = true
+
 -- no two items of an array are equal, where that is asked
 abbrev pub are_unique : Tree → Tree → Bool
 are_unique (boolean asked) (array ts) = not asked || are_distinct ts
@@ -131,6 +137,7 @@ accepts kw.Minimum w t = are_ordered w t  -- 6.2.4
 accepts kw.ExclusiveMinimum w t = are_apart w t  -- 6.2.5
 accepts kw.MaxLength w t = is_count_at_most (length_of t) w  -- 6.3.1
 accepts kw.MinLength w t = is_count_at_least (length_of t) w  -- 6.3.2
+accepts kw.Pattern w t = has_pattern w t  -- 6.3.3
 accepts kw.MaxItems w t = is_count_at_most (items_count_of t) w  -- 6.4.1
 accepts kw.MinItems w t = is_count_at_least (items_count_of t) w  -- 6.4.2
 accepts kw.UniqueItems w t = are_unique w t  -- 6.4.3
@@ -146,7 +153,7 @@ meets k s t = option_map_or (λ w. accepts k w t) (tree_at_key s (name k)) true
 
 abbrev pub assertions : List Keyword
 assertions = kw.Type ∷ kw.Enum ∷ kw.Const ∷ kw.MultipleOf ∷ kw.Maximum ∷ kw.ExclusiveMaximum ∷ kw.Minimum
-    ∷ kw.ExclusiveMinimum ∷ kw.MaxLength ∷ kw.MinLength ∷ kw.MaxItems ∷ kw.MinItems ∷ kw.UniqueItems
+    ∷ kw.ExclusiveMinimum ∷ kw.MaxLength ∷ kw.MinLength ∷ kw.Pattern ∷ kw.MaxItems ∷ kw.MinItems ∷ kw.UniqueItems
     ∷ kw.MaxProperties ∷ kw.MinProperties ∷ kw.Required ∷ kw.DependentRequired ∷ []
 
 abbrev pub meets_all : List Keyword → Tree → Tree → Bool

@@ -6,6 +6,7 @@ pub mod Keywords
 pub mod Names
 pub mod Options
 pub mod Parts
+pub mod Patterns
 pub mod Places
 pub mod Reading
 pub mod References

@@ -34,6 +34,10 @@ IsAt ks js v = (tokens_of v.keyword_location ≡ ks) × (tokens_of v.instance_lo
 abbrev pub IsUnder : List ℕ → Violation → Violation → Type 0
 IsUnder k old new = IsAt (k ∷ tokens_of old.keyword_location) (tokens_of old.instance_location) new
 
+-- The place in the value has one.
+abbrev pub IsWithin : List ℕ → Violation → Violation → Type 0
+IsWithin k old new = IsAt (tokens_of old.keyword_location) (k ∷ tokens_of old.instance_location) new
+
 -- The place in the schema has the keyword and a key in front, or a token of an index.
 abbrev pub IsUnderKey : Keyword → List ℕ → Violation → Violation → Type 0
 IsUnderKey a k old new = IsAt (name a ∷ k ∷ tokens_of old.keyword_location) (tokens_of old.instance_location) new

@@ -60,6 +60,7 @@ abbrev pub form_in : Form → List ℕ → Form
 form_in form.Schema k = form_at (encode_utf8_all k)
 form_in form.Schemas k = form.Schema
 form_in form.SchemaMap k = form.Schema
+form_in form.PatternMap k = form.Schema
 form_in _ k = form.Anything
 
 -- what stands where the tokens lead

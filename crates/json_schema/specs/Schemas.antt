@@ -5,7 +5,7 @@ use Rattle.tinyjson.specs.Access.{is_boolean, is_number, is_string, is_array}
 use Rattle.tinyjson.specs.Tree.{Tree, boolean, array, object, Items, no_items, item, Members, no_members, member}
 use Rattle.json_pointer.specs.declared.pointer.Pointer.{Pointer}
 use Rattle.json_schema.specs.Forms.{form_at, is_count, is_divisor_number, are_types, is_key_list, is_key_map, is_dialect}
-use Rattle.json_schema.specs.Forms.{is_some_item}
+use Rattle.json_schema.specs.Forms.{is_some_item, is_pattern_text, has_patterns}
 use Rattle.json_schema.specs.Circles.{leads}
 use Rattle.json_schema.specs.declared.form.Form.{Form}
 use Rattle.json_schema.specs.declared.form.Form.TheVariants as form
@@ -23,10 +23,12 @@ has_form form.Divisor w one list entries leads whole = is_divisor_number w
 has_form form.Count w one list entries leads whole = is_count w
 has_form form.Keys w one list entries leads whole = is_key_list w
 has_form form.KeyLists w one list entries leads whole = is_key_map w
+has_form form.Pattern w one list entries leads whole = is_pattern_text w
 has_form form.Dialect w one list entries leads whole = is_dialect w
 has_form form.Schema w one list entries leads whole = one
 has_form form.Schemas w one list entries leads whole = list
 has_form form.SchemaMap w one list entries leads whole = entries
+has_form form.PatternMap w one list entries leads whole = has_patterns w && entries
 has_form form.Base w one list entries leads whole = whole && is_string w
 has_form form.Reference w one list entries leads whole = leads
 has_form form.Refused w one list entries leads whole = false

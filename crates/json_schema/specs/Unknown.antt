@@ -20,6 +20,7 @@ abbrev pub words_by : Form → List (List ℕ) → List (List ℕ) → List (Lis
 words_by form.Schema one list entries = one
 words_by form.Schemas one list entries = list
 words_by form.SchemaMap one list entries = entries
+words_by form.PatternMap one list entries = entries
 words_by _ one list entries = []
 
 -- in UTF-8, those of a schema and of the schemas in it

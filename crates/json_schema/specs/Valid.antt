@@ -3,13 +3,14 @@ use Rattle.std.specs.Prelude.{◌≡◌, ℕ, zero, suc, Bool, true, false, not,
 use Rattle.std.specs.Prelude.{Result, Ok, Err}
 use Rattle.std.specs.Option.{option_map_or}
 use Rattle.tinyjson.specs.Index.{tree_at_key}
-use Rattle.tinyjson.specs.Tree.{Tree, boolean, find}
+use Rattle.tinyjson.specs.Tree.{Tree, boolean, Members, find}
 use Rattle.tinyjson.specs.View.{view}
 use Rattle.json_pointer.specs.Index.{index_of}
 use Rattle.json_pointer.specs.Tokens.{tokens_of}
 use Rattle.json_pointer.specs.Walk.{step, part_at, item_of}
 use Rattle.json_schema.specs.Applied.{Judge, schema_at, schemas_at, schema_map_at, applies, apply_all, tests, demands}
-use Rattle.json_schema.specs.Applied.{branch, parts_accepted}
+use Rattle.i_regexp.specs.PatternDeciding.{is_found}
+use Rattle.json_schema.specs.Applied.{branch, parts_accepted, members_in, found_pass}
 use Rattle.json_schema.specs.Keywords.{meets_all, assertions, IsUnmet}
 use Rattle.json_schema.specs.Names.{name}
 use Rattle.json_schema.specs.Parts.{part_schema}
@@ -65,6 +66,9 @@ pub data IsInvalidAt : Tree → ℕ → Tree → Tree → List (List ℕ) → Li
   in_dependent : {root s t r : Tree} {n : ℕ} {k : List ℕ} {ks js : List (List ℕ)} → is_some (tree_at_key t k) ≡ true
       → find k (schema_map_at s kw.DependentSchemas) ≡ Some r → IsInvalidAt root n r t ks js
       → IsInvalidAt root (suc n) s t (name kw.DependentSchemas ∷ k ∷ ks) js
+  in_patterned : {root s t r u : Tree} {n : ℕ} {p k : List ℕ} {ks js : List (List ℕ)}
+      → find p (schema_map_at s kw.PatternProperties) ≡ Some r → is_found p k ≡ true → find k (members_in t) ≡ Some u
+      → IsInvalidAt root n r u ks js → IsInvalidAt root (suc n) s t (name kw.PatternProperties ∷ p ∷ ks) (k ∷ js)
   in_reference : {root s t r : Tree} {n : ℕ} {ks js : List (List ℕ)} → referenced root s ≡ Some r → IsInvalidAt root n r t ks js
       → IsInvalidAt root (suc n) s t (name kw.Ref ∷ ks) js
   in_part : {root s t r u : Tree} {n : ℕ} {k : List ℕ} {ks js : List (List ℕ)} (ls : List (List ℕ)) → part_schema s t k ≡ Some r
@@ -110,6 +114,22 @@ Finds w q s t (Ok None) = (g : Judge) → q (says w g) ≡ true
 Finds w q s t (Ok (Some v)) = IsInvalidAt (view w.root.now) (suc w.steps) s t (tokens_of v.keyword_location)
     (tokens_of v.instance_location)
 Finds w q s t (Err e) = Unit {0}
+
+-- The place is in the member at the key k, in which the pattern p is found, and which the schema r does not accept.
+pub record InFound (w : Walk) (p : List ℕ) (r : Tree) (ms : Members) (v : Violation) : Type 0 where
+  pub key : List ℕ
+  pub value : Tree
+  pub rest : List (List ℕ)
+  pub found : is_found p key ≡ true
+  pub at : find key ms ≡ Some value
+  pub placed : tokens_of v.instance_location ≡ key ∷ rest
+  pub invalid : IsInvalidAt (view w.root.now) w.steps r value (tokens_of v.keyword_location) rest
+
+-- No violation, and r accepts each of the members in whose key p is found; or one, in such a member.
+abbrev pub FindsFound : Walk → List ℕ → Tree → Members → Result (Option Violation) CheckError → Type 0
+FindsFound w p r ms (Ok None) = (g : Judge) → found_pass (says w g r) p ms ≡ true
+FindsFound w p r ms (Ok (Some v)) = InFound w p r ms v
+FindsFound w p r ms (Err e) = Unit {0}
 
 -- No keyword, and t meets all of these; or one that it does not meet.
 abbrev pub IsUnapplied : Walk → List Keyword → Tree → Tree → Option Keyword → Type 0

@@ -57,8 +57,9 @@ pub fn listed_members(
     value: &JsonValue,
     alloc: Global,
 ) -> Result<Vec<(&String, &JsonValue)>, AllocError>
-    ensures { IfOk result
+    ensures listed { IfOk result
         (λ listed. members_listed listed.items ≡ members_in (view value.now)) }
+    ensures sorted { IfOk result (λ listed. IsSorted (members_listed listed.items)) }
 {
     match value {
         JsonValue::Object(members) => sorted_members(alloc, members),

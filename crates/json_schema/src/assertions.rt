@@ -14,9 +14,11 @@ ghost use Rattle.json_schema.specs.Keywords.{has_dependents, has_dependents_of};
 ghost use Rattle.json_schema.specs.Keywords.{has_required, has_dependent_required};
 ghost use Rattle.json_schema.specs.Keywords.{length_of, items_count_of, members_count_of};
 ghost use Rattle.json_schema.specs.Keywords.{is_count_at_most, is_count_at_least};
+ghost use Rattle.json_schema.specs.Keywords.{has_pattern};
 
 use crate::keyword::Keyword;
 use crate::multiple::are_multiple;
+use crate::pattern::Pattern;
 use crate::unique::are_unique;
 use json_order::is_at_most;
 use std::alloc::{AllocError, Global};
@@ -24,7 +26,7 @@ use std::collections::HashMap;
 use tinyjson::{JsonNumber, JsonValue, sorted_members};
 
 /// The keywords that speak of a value and not of its parts, in the order in which they are checked.
-const ASSERTIONS: [Keyword; 17] = [
+const ASSERTIONS: [Keyword; 18] = [
     Keyword::Type,
     Keyword::Enum,
     Keyword::Const,
@@ -35,6 +37,7 @@ const ASSERTIONS: [Keyword; 17] = [
     Keyword::ExclusiveMinimum,
     Keyword::MaxLength,
     Keyword::MinLength,
+    Keyword::Pattern,
     Keyword::MaxItems,
     Keyword::MinItems,
     Keyword::UniqueItems,
@@ -119,6 +122,7 @@ fn accepts(
         Keyword::ExclusiveMinimum => Ok(are_apart(operand, value)),
         Keyword::MaxLength => is_count_at_most(length(value), operand, alloc),
         Keyword::MinLength => is_count_at_least(length(value), operand, alloc),
+        Keyword::Pattern => has_pattern(operand, value, alloc),
         Keyword::MaxItems => is_count_at_most(item_count(value), operand, alloc),
         Keyword::MinItems => is_count_at_least(item_count(value), operand, alloc),
         Keyword::UniqueItems => are_unique(operand, value, alloc),
@@ -233,6 +237,19 @@ fn length(value: &JsonValue) -> Option<usize>
     match value {
         JsonValue::String(text) => Some(text.as_str().chars().count()),
         _ => None,
+    }
+}
+
+/// Whether a pattern is found in a text; `true` of other values. The pattern is read for each text.
+fn has_pattern(pattern: &JsonValue, value: &JsonValue, alloc: Global) -> Result<bool, AllocError>
+    ensures { IfOk result (λ has. has ≡ has_pattern (view pattern.now) (view value.now)) }
+{
+    match (pattern, value) {
+        (JsonValue::String(pattern), JsonValue::String(text)) => {
+            let mut pattern = Pattern::read(alloc, pattern.as_str())?;
+            Ok(pattern.is_found_in(text.as_str()))
+        }
+        _ => Ok(true),
     }
 }
 

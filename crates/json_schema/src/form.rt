@@ -23,6 +23,8 @@ pub enum Form {
     Keys,
     /// An object whose members are arrays of different strings.
     KeyLists,
+    /// A text that is a pattern (Core, 6.4).
+    Pattern,
     /// The name of this version of the standard.
     Dialect,
     Schema,
@@ -30,6 +32,8 @@ pub enum Form {
     Schemas,
     /// An object whose members are schemas.
     SchemaMap,
+    /// An object whose members are schemas, and whose keys are patterns.
+    PatternMap,
     /// A string, in the whole schema alone: in another it would change what references lead to.
     Base,
     /// A reference to a schema in the whole schema.
@@ -65,10 +69,10 @@ fn form_of(keyword: Keyword) -> Form
         Keyword::Anchor
         | Keyword::DynamicRef
         | Keyword::DynamicAnchor
-        | Keyword::PatternProperties
         | Keyword::UnevaluatedItems
-        | Keyword::UnevaluatedProperties
-        | Keyword::Pattern => Form::Refused,
+        | Keyword::UnevaluatedProperties => Form::Refused,
+        Keyword::PatternProperties => Form::PatternMap,
+        Keyword::Pattern => Form::Pattern,
         Keyword::PrefixItems | Keyword::AllOf | Keyword::AnyOf | Keyword::OneOf => Form::Schemas,
         Keyword::Not
         | Keyword::If

@@ -21,6 +21,7 @@ mod lines;
 mod multiple;
 mod options;
 mod part;
+mod pattern;
 mod reference;
 mod refusal;
 mod refused;

@@ -1,12 +1,16 @@
 //! The schema that there is for a member or an item.
-ghost use Rattle.std.specs.Prelude.{◌≡◌, option_map};
+ghost use Rattle.std.specs.Prelude.{◌≡◌, option_map, IfOk};
 ghost use Rattle.std.specs.Str.{chars};
-ghost use Rattle.tinyjson.specs.View.{view};
+ghost use Rattle.tinyjson.specs.View.{view, members_listed};
 ghost use Rattle.json_schema.specs.Parts.{property, prefix_item};
+ghost use Rattle.json_schema.specs.Parts.{some_found, is_patterned, additional};
 ghost use Rattle.json_schema.specs.Places.{IsMemberPart, IsItemPart};
 
+use crate::applied::schema_map_at;
 use crate::assertions::operand;
 use crate::keyword::Keyword;
+use crate::pattern::Pattern;
+use std::alloc::{AllocError, Global};
 use tinyjson::JsonValue;
 
 /// The schema for a part of the value, and what applies it.
@@ -16,22 +20,27 @@ pub struct Part<'s> {
     pub schema: &'s JsonValue,
 }
 
-/// The schema for the member at the key: that of `properties`, or else `additionalProperties`.
-pub fn member_part<'s>(schema: &'s JsonValue, key: &str) -> Option<Part<'s>>
-    ensures { IsMemberPart (view schema.now) (chars key.now) result }
+/// The schema for the member at the key: that of `properties`, or else `additionalProperties`, unless
+/// a pattern of `patternProperties` is found in the key.
+pub fn member_part<'s>(
+    schema: &'s JsonValue,
+    key: &str,
+    alloc: Global,
+) -> Result<Option<Part<'s>>, AllocError>
+    ensures { IfOk result (λ part. IsMemberPart (view schema.now) (chars key.now) part) }
 {
     if let Some(part) = property(schema, key) {
-        return Some(Part {
+        return Ok(Some(Part {
             applicator: Keyword::Properties,
             schema: part,
-        });
+        }));
     }
-    match operand(schema, "additionalProperties") {
-        Some(part) => Some(Part {
+    match additional(schema, key, alloc)? {
+        Some(part) => Ok(Some(Part {
             applicator: Keyword::AdditionalProperties,
             schema: part,
-        }),
-        None => None,
+        })),
+        None => Ok(None),
     }
 }
 
@@ -59,6 +68,53 @@ fn property<'s>(schema: &'s JsonValue, key: &str) -> Option<&'s JsonValue>
     ensures { option_map (λ x. view x.now) result ≡ property (view schema.now) (chars key.now) }
 {
     operand(operand(schema, "properties")?, key)
+}
+
+/// The schema that `additionalProperties` has for a key in which no pattern is found.
+fn additional<'s>(
+    schema: &'s JsonValue,
+    key: &str,
+    alloc: Global,
+) -> Result<Option<&'s JsonValue>, AllocError>
+    ensures { IfOk result (λ part.
+        option_map (λ x. view x.now) part ≡ additional (view schema.now) (chars key.now)) }
+{
+    let Some(part) = operand(schema, "additionalProperties") else {
+        return Ok(None);
+    };
+    let patterned = is_patterned(schema, key, alloc)?;
+    if patterned {
+        return Ok(None);
+    }
+    Ok(Some(part))
+}
+
+/// Whether a pattern of `patternProperties` is found in the key. Not inlined, since the recursion over
+/// schemas calls it at each level.
+#[inline(never)]
+fn is_patterned(schema: &JsonValue, key: &str, alloc: Global) -> Result<bool, AllocError>
+    ensures { IfOk result (λ is. is ≡ is_patterned (view schema.now) (chars key.now)) }
+{
+    let patterns = schema_map_at(schema, Keyword::PatternProperties, alloc)?;
+    some_found(patterns.as_slice(), key, alloc)
+}
+
+fn some_found(
+    patterns: &[(&String, &JsonValue)],
+    key: &str,
+    alloc: Global,
+) -> Result<bool, AllocError>
+    ensures { IfOk result
+        (λ some. some ≡ some_found (members_listed patterns.now) (chars key.now)) }
+{
+    for (pattern, _) in patterns {
+        let mut pattern = Pattern::read(alloc, pattern.as_str())?;
+        let found = pattern.is_found_in(key);
+        if found {
+            return Ok(true);
+        }
+    }
+    Ok(false)
 }
 
 /// The schema that `prefixItems` has at an index.

@@ -157,7 +157,7 @@ fn form_in(form: Form, token: &String) -> Form
 {
     match form {
         Form::Schema => form_at(token.as_str()),
-        Form::Schemas | Form::SchemaMap => Form::Schema,
+        Form::Schemas | Form::SchemaMap | Form::PatternMap => Form::Schema,
         _ => Form::Anything,
     }
 }

@@ -1,10 +1,10 @@
 //! Which schemas can be applied, and the place of what can't.
-ghost use Rattle.std.specs.Prelude.{◌≡◌, IfOk, true};
+ghost use Rattle.std.specs.Prelude.{◌≡◌, ◌&&◌, IfOk, true};
 ghost use Rattle.tinyjson.specs.Access.{is_string, is_boolean, is_array, is_number};
 ghost use Rattle.tinyjson.specs.View.{view, items_view, members_listed};
 ghost use Rattle.json_schema.specs.Forms.{is_count, is_type_name, are_type_names};
 ghost use Rattle.json_schema.specs.Forms.{are_types, are_strings, are_keys, is_key_list, have_key_lists};
-ghost use Rattle.json_schema.specs.Forms.{is_key_map};
+ghost use Rattle.json_schema.specs.Forms.{is_key_map, is_pattern_text, are_patterns, has_patterns};
 ghost use Rattle.json_schema.specs.Forms.{is_dialect, is_name_of_type, is_type_list, is_some_item};
 ghost use Rattle.json_schema.specs.Schemas.{Refuses, is_schema, keywords_fit, fits};
 ghost use Rattle.json_schema.specs.Schemas.{is_schema_list, is_schema_map, are_schemas};
@@ -14,6 +14,7 @@ use crate::assertions::is_among;
 use crate::circles::leads;
 use crate::form::{Form, form_at};
 use crate::multiple::is_divisor_number;
+use crate::pattern::is_pattern;
 use json_order::are_distinct;
 use json_pointer::Pointer;
 use std::alloc::{AllocError, Global};
@@ -91,10 +92,12 @@ fn misfit(
         Form::Count => unless(is_count(operand), alloc),
         Form::Keys => unless(is_key_list(operand, alloc)?, alloc),
         Form::KeyLists => unless(is_key_map(operand, alloc)?, alloc),
+        Form::Pattern => unless(is_pattern_text(operand, alloc)?, alloc),
         Form::Dialect => unless(is_dialect(operand), alloc),
         Form::Schema => refused_in(operand, root, false, alloc),
         Form::Schemas => refused_in_list(operand, root, alloc),
         Form::SchemaMap => refused_in_map(operand, root, alloc),
+        Form::PatternMap => refused_in_patterns(operand, root, alloc),
         Form::Base => unless(is_whole && is_string(operand), alloc),
         Form::Reference => unless(leads(operand, root, alloc)?, alloc),
         Form::Refused => unless(false, alloc),
@@ -161,6 +164,52 @@ fn refused_member(
 {
     for (key, schema) in schemas {
         if let Some(mut place) = refused_in(schema, root, false, alloc)? {
+            place.prepend(String::from_str(alloc, key.as_str())?)?;
+            return Ok(Some(place));
+        }
+    }
+    Ok(None)
+}
+
+/// The place of a key that is no pattern, or else of what is refused in a schema.
+#[cycle(refused)]
+fn refused_in_patterns(
+    schemas: &JsonValue,
+    root: &JsonValue,
+    alloc: Global,
+) -> Result<Option<Pointer>, AllocError>
+    ensures { Refuses
+        (has_patterns (view schemas.now) && is_schema_map (view root.now) (view schemas.now))
+        result }
+{
+    if let Some(place) = refused_pattern(schemas, alloc)? {
+        return Ok(Some(place));
+    }
+    refused_in_map(schemas, root, alloc)
+}
+
+fn refused_pattern(schemas: &JsonValue, alloc: Global) -> Result<Option<Pointer>, AllocError>
+    ensures { Refuses (has_patterns (view schemas.now)) result }
+{
+    match schemas {
+        JsonValue::Object(schemas) => {
+            let sorted = sorted_members(alloc, schemas)?;
+            refused_key(sorted.as_slice(), alloc)
+        }
+        _ => Ok(Some(Pointer::root(alloc))),
+    }
+}
+
+fn refused_key(
+    schemas: &[(&String, &JsonValue)],
+    alloc: Global,
+) -> Result<Option<Pointer>, AllocError>
+    ensures { Refuses (are_patterns (members_listed schemas.now)) result }
+{
+    for (key, _) in schemas {
+        let is = is_pattern(alloc, key.as_str())?;
+        if !is {
+            let mut place = Pointer::root(alloc);
             place.prepend(String::from_str(alloc, key.as_str())?)?;
             return Ok(Some(place));
         }
@@ -322,6 +371,15 @@ fn have_key_lists(lists: &[(&String, &JsonValue)], alloc: Global) -> Result<bool
         }
     }
     Ok(true)
+}
+
+fn is_pattern_text(value: &JsonValue, alloc: Global) -> Result<bool, AllocError>
+    ensures { IfOk result (λ is. is ≡ is_pattern_text (view value.now)) }
+{
+    match value {
+        JsonValue::String(pattern) => is_pattern(alloc, pattern.as_str()),
+        _ => Ok(false),
+    }
 }
 
 fn is_dialect(value: &JsonValue) -> bool

@@ -86,7 +86,7 @@ fn gather_within(
     match form {
         Form::Schema => gather(operand, alloc, words),
         Form::Schemas => gather_in_list(operand, alloc, words),
-        Form::SchemaMap => gather_in_map(operand, alloc, words),
+        Form::SchemaMap | Form::PatternMap => gather_in_map(operand, alloc, words),
         _ => Ok(()),
     }
 }

@@ -6,10 +6,12 @@ ghost use Rattle.tinyjson.specs.View.{view, items_view, members_listed};
 ghost use Rattle.tinyjson_grammar.specs.Soundness.{IsSorted};
 ghost use Rattle.json_schema.specs.Applied.{any_of, some_accepts, one_of, accepting, applies};
 ghost use Rattle.json_schema.specs.Applied.{keys_pass, passing, contained, tests, counts};
+ghost use Rattle.std.specs.Str.{chars};
 ghost use Rattle.json_schema.specs.Applied.{all_accept, dependents_accept, members_accepted};
+ghost use Rattle.json_schema.specs.Applied.{members_in};
 ghost use Rattle.json_schema.specs.Applied.{items_accepted, parts_accepted, schemas_at};
 ghost use Rattle.json_schema.specs.Valid.{refuses_all, reference_accepts, Validates, Agrees};
-ghost use Rattle.json_schema.specs.Valid.{Judges, Follows, Finds, IsUnapplied};
+ghost use Rattle.json_schema.specs.Valid.{Judges, Follows, Finds, FindsFound, IsUnapplied};
 ghost use Rattle.json_schema.specs.declared.keyword.Keyword.TheVariants as kw;
 
 use crate::applied::{
@@ -19,6 +21,7 @@ use crate::assertions::unmet;
 use crate::contains::{contains_at_least, contains_at_most, contains_some};
 use crate::keyword::Keyword;
 use crate::part::{item_part, member_part};
+use crate::pattern::Pattern;
 use crate::reference::referenced;
 use crate::refused::is_some_item;
 use crate::violation::Violation;
@@ -78,6 +81,9 @@ fn violation_in(
         return Ok(Some(found));
     }
     if let Some(found) = in_dependents(value, schema, inner, alloc)? {
+        return Ok(Some(found));
+    }
+    if let Some(found) = in_patterned(value, schema, inner, alloc)? {
         return Ok(Some(found));
     }
     if let Some(found) = in_reference(value, schema, inner, alloc)? {
@@ -448,6 +454,58 @@ fn in_dependents(
     Ok(None)
 }
 
+/// What the value does not meet of a schema of `patternProperties`.
+#[cycle(validate)]
+#[inline(never)]
+fn in_patterned(
+    value: &JsonValue,
+    schema: &JsonValue,
+    walk: Walk<'_>,
+    alloc: Global,
+) -> Result<Option<Violation>, CheckError>
+    ensures { Finds walk.entry
+        (λ f. applies f kw.PatternProperties (view schema.now) (view value.now))
+        (view schema.now) (view value.now) result }
+{
+    let listed = schema_map_at(schema, Keyword::PatternProperties, alloc)?;
+    let patterns = listed.as_slice();
+    for (pattern, part) in patterns {
+        if let Some(mut found) = in_found(value, pattern.as_str(), part, walk, alloc)? {
+            found.enter_keyed(alloc, Keyword::PatternProperties, pattern.as_str())?;
+            return Ok(Some(found));
+        }
+    }
+    Ok(None)
+}
+
+/// What a member of the value does not meet of the schema, if the pattern is found in its key.
+#[cycle(validate)]
+#[inline(never)]
+fn in_found(
+    value: &JsonValue,
+    pattern: &str,
+    schema: &JsonValue,
+    walk: Walk<'_>,
+    alloc: Global,
+) -> Result<Option<Violation>, CheckError>
+    ensures { FindsFound walk.entry (chars pattern.now) (view schema.now)
+        (members_in (view value.now)) result }
+{
+    let mut code = Pattern::read(alloc, pattern)?;
+    let listed = listed_members(value, alloc)?;
+    let members = listed.as_slice();
+    for (key, member) in members {
+        let is_found = code.is_found_in(key.as_str());
+        if is_found {
+            if let Some(mut found) = violation_in(member, schema, walk, alloc)? {
+                found.enter_value(alloc, key.as_str())?;
+                return Ok(Some(found));
+            }
+        }
+    }
+    Ok(None)
+}
+
 /// What the value does not meet of the schema that `$ref` leads to.
 #[cycle(validate)]
 fn in_reference(
@@ -504,7 +562,7 @@ fn in_members(
         (view schema.now) (object (members_listed members.now)) result }
 {
     for (key, member) in members {
-        if let Some(part) = member_part(schema, key.as_str()) {
+        if let Some(part) = member_part(schema, key.as_str(), alloc)? {
             if let Some(mut found) = violation_in(member, part.schema, walk, alloc)? {
                 found.enter_member(alloc, part.applicator, key.as_str())?;
                 return Ok(Some(found));

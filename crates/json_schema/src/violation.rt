@@ -5,7 +5,7 @@ ghost use Rattle.json_pointer.specs.Tokens.{tokens_of};
 ghost use Rattle.json_schema.specs.Names.{name};
 ghost use Rattle.json_schema.specs.Parts.{is_by_part};
 ghost use Rattle.json_schema.specs.Places.{IsAt, IsUnder, IsUnderKey, IsUnderIndex};
-ghost use Rattle.json_schema.specs.Places.{Enters, EntersItem};
+ghost use Rattle.json_schema.specs.Places.{Enters, EntersItem, IsWithin};
 
 use crate::keyword::Keyword;
 use json_pointer::Pointer;
@@ -104,6 +104,15 @@ impl Violation {
             return Ok(());
         }
         self.put_under(alloc, applicator.name())?;
+        Ok(())
+    }
+
+    /// Makes what was found of a member one of the object.
+    pub fn enter_value(&mut self, alloc: Global, key: &str) -> Result<(), AllocError>
+        ensures { OnOk result (IsWithin (chars key.now) self.old self.new) }
+    {
+        let token = String::from_str(alloc, key)?;
+        self.instance_location.prepend(token)?;
         Ok(())
     }
 

@@ -1,8 +1,8 @@
 use Rattle.std.proofs.Common.{◌≡◌, ◌<◌, ◌+◌, ◌*◌, ◌∙◌, ◌&&◌, true, false, Ok, drop, encode_utf8_all, arith, rules, sym, ap, subst}
 use Rattle.tinyjson.specs.Tree.{tree_depth, items_depth, members_depth}
 use Rattle.tinyjson.specs.View.{view, text, items_view, members_listed}
-use Rattle.json_schema.specs.Forms.{form_at, is_some_item}
-use Rattle.json_schema.specs.Schemas.{Refuses, fits, keywords_fit, are_schemas}
+use Rattle.json_schema.specs.Forms.{form_at, is_some_item, has_patterns}
+use Rattle.json_schema.specs.Schemas.{Refuses, fits, keywords_fit, are_schemas, is_schema_map}
 use Rattle.json_schema.proofs.Depths.{listed_depth, items_depth_at}
 use Rattle.json_schema.proofs.Forms.{keyword_turn, list_part}
 use Rattle.json_schema.proofs.Lookups.{text_bytes}
@@ -78,3 +78,16 @@ refused_in_list-returns t c =
     (sym (ap (λ b. b && are_schemas (view c.args.root.now) (items_view ys)) some)
     ∙ list_part (view c.args.root.now) c.args.schemas.now c.in-Array.schemas ys c.in-Array.is c.as_slice-schemas.ensures.value)
     c.refused_item.ensures
+
+pub refused_in_patterns-returns-in-Some : goal.refused_in_patterns-returns-in-Some
+refused_in_patterns-returns-in-Some t c =
+    let w = view c.args.schemas.now in
+    let none : has_patterns w ≡ false = subst (λ o. Refuses (has_patterns w) (Ok o)) c.in-Some.is c.in_ok-place.ensures in
+    ap (λ b. b && is_schema_map (view c.args.root.now) w) none
+
+pub refused_in_patterns-returns : goal.refused_in_patterns-returns
+refused_in_patterns-returns t c =
+    let w = view c.args.schemas.now in
+    let all : has_patterns w ≡ true = subst (λ o. Refuses (has_patterns w) (Ok o)) c.in_default.is c.in_ok-place.ensures in
+    subst (λ b. Refuses b c.refused_in_map.result) (sym (ap (λ b. b && is_schema_map (view c.args.root.now) w) all))
+    c.refused_in_map.ensures

@@ -17,7 +17,10 @@ abbrev pub decreases-refused_in_list : goal.decreases-refused_in_list
 decreases-refused_in_list l = 3 * tree_depth (view l.schemas.now) + 1
 
 abbrev pub decreases-refused_in_map : goal.decreases-refused_in_map
-decreases-refused_in_map l = 3 * tree_depth (view l.schemas.now) + 1
+decreases-refused_in_map l = 3 * tree_depth (view l.schemas.now)
+
+abbrev pub decreases-refused_in_patterns : goal.decreases-refused_in_patterns
+decreases-refused_in_patterns l = 3 * tree_depth (view l.schemas.now) + 1
 
 abbrev pub decreases-refused_member : goal.decreases-refused_member
 decreases-refused_member l = 3 * members_depth (members_listed l.schemas.now) + 2

@@ -1,6 +1,6 @@
 use Rattle.std.proofs.Common.{◌≡◌, ◌==◌, ◌<◌, ◌+◌, ◌*◌, ◌∙◌, not, ◌&&◌, ◌||◌, true, false, Ok}
 use Rattle.std.proofs.Common.{Some, None, drop, is_some, option_map, suc, arith, rules, refl}
-use Rattle.std.proofs.Common.{sym, ap, subst, cond}
+use Rattle.std.proofs.Common.{sym, ap, ap₂, subst, cond}
 use Rattle.std.specs.Option.{option_map_or}
 use Rattle.std.specs.Prelude.{option_and_then}
 use Rattle.std.specs.Str.{chars}
@@ -10,24 +10,28 @@ use Rattle.tinyjson.specs.Tree.{object, array, find}
 use Rattle.tinyjson.specs.View.{view, text, items_view, members_listed}
 use Rattle.tinyjson_grammar.specs.Soundness.{IsSorted}
 use Rattle.json_pointer.specs.Index.{index_of}
+use Rattle.json_pointer.specs.Tokens.{tokens_of}
 use Rattle.json_pointer.specs.Walk.{item_of}
 use Rattle.json_schema.specs.Applied.{schemas_at, schema_map_at, all_accept, dependents_accept, members_accepted, items_accepted}
+use Rattle.i_regexp.specs.PatternDeciding.{is_found}
+use Rattle.json_schema.specs.Applied.{found_pass, patterns_accept}
 use Rattle.json_schema.specs.Applied.{applies, parts_accepted, tests, contains_some, contains_at_most, contains_at_least, any_of, one_of}
 use Rattle.json_schema.specs.Applied.{branch, branch_accepts, some_accepts, accepting, keys_pass, passing, members_in, items_passing}
 use Rattle.json_schema.specs.Keywords.{IsUnmet}
 use Rattle.json_schema.specs.Parts.{item_schema}
-use Rattle.json_schema.specs.Places.{IsMemberPart, IsUnderKey, Enters, place}
+use Rattle.json_schema.specs.Places.{IsMemberPart, IsUnderKey, IsWithin, Enters, place}
 use Rattle.json_schema.specs.Valid.{says, reference_accepts, Judges, Finds, IsUnapplied, refused, unmet, not_applied, in_all_of}
-use Rattle.json_schema.specs.Valid.{in_dependent, in_reference, in_part}
+use Rattle.json_schema.specs.Valid.{in_dependent, in_patterned, in_reference, in_part, IsInvalidAt, FindsFound}
 use Rattle.json_schema.specs.declared.keyword.Keyword.TheVariants as kw
 use Rattle.json_schema.proofs.Listed.{listed_found, listed_sorted}
 use Rattle.json_schema.proofs.Loops.{items_turn, items_end, item_passes, item_free, members_turn, member_passes, member_free}
-use Rattle.json_schema.proofs.Loops.{dependents_turn, dependent_passes, dependent_free, no_parts}
+use Rattle.json_schema.proofs.Loops.{dependents_turn, dependent_passes, dependent_free, no_parts, found_holds, not_found, found_turn}
 use Rattle.json_schema.proofs.Turns.{turn_next, turn_stop, turn_end, count_next, count_end, nth_item}
 use Rattle.json_schema.proofs.Validity.{reported, verdict, placed, last_tested, last_found, before, no_branch, branch_met}
 use Rattle.json_schema.proofs.Validity.{branch_place}
 use Rattle.json_schema.proofs.Validity.{reference_met, no_reference}
 use Rattle.json_schema.proofs.validate.+validate.Goals.{in_dependents-then-has_key+in_ok-found+in_default, in_dependents-else-has_key}
+use Rattle.json_schema.proofs.validate.+validate.Goals.{in_found-then-is_found+in_ok-found+in_default, in_found-else-is_found}
 use Rattle.json_schema.proofs.validate.+validate.Goals.{in_members-in-Some+in_ok-found+in_default-2, in_members-in_default}
 use Rattle.json_schema.proofs.validate.+validate.Goals.{count_accepting-then-accepted, count_accepting-else-accepted}
 use Rattle.json_schema.proofs.validate.+validate.Goals.{count_passing-then-accepted, count_passing-else-accepted}
@@ -53,6 +57,11 @@ violation_in-in_branch-requires t c =
 
 pub violation_in-in_dependents-requires : goal.violation_in-in_dependents-requires
 violation_in-in_dependents-requires t c =
+    let fewer : 16 * c.in_ok-inner.inner.steps + 10 < 16 * c.args.walk.steps + 7 = omega (arith, c.in_ok-inner.ensures.1) in
+    search rules
+
+pub violation_in-in_patterned-requires : goal.violation_in-in_patterned-requires
+violation_in-in_patterned-requires t c =
     let fewer : 16 * c.in_ok-inner.inner.steps + 10 < 16 * c.args.walk.steps + 7 = omega (arith, c.in_ok-inner.ensures.1) in
     search rules
 
@@ -125,7 +134,15 @@ violation_in-returns-in-Some-6 t c =
     let s = view c.args.schema.now in
     let v = view c.args.value.now in
     before c.args.walk inner c.in_ok-inner.ensures s v (Ok (Some c.in-Some-6.found))
-    (subst (λ o. Finds inner (λ f. reference_accepts (view inner.root.now) f s v) s v (Ok o)) c.in-Some-6.is c.in_ok-found-4.ensures)
+    (subst (λ o. Finds inner (λ f. applies f kw.PatternProperties s v) s v (Ok o)) c.in-Some-6.is c.in_ok-found-4.ensures)
+
+pub violation_in-returns-in-Some-7 : goal.violation_in-returns-in-Some-7
+violation_in-returns-in-Some-7 t c =
+    let inner = c.in_ok-inner.inner in
+    let s = view c.args.schema.now in
+    let v = view c.args.value.now in
+    before c.args.walk inner c.in_ok-inner.ensures s v (Ok (Some c.in-Some-7.found))
+    (subst (λ o. Finds inner (λ f. reference_accepts (view inner.root.now) f s v) s v (Ok o)) c.in-Some-7.is c.in_ok-found-5.ensures)
 
 pub violation_in-returns : goal.violation_in-returns
 violation_in-returns t c =
@@ -139,8 +156,9 @@ violation_in-returns t c =
     (subst (λ o. Finds inner (λ f. applies f kw.AllOf s v) s v (Ok o)) c.in_default-3.is c.in_ok-found.ensures)
     (subst (λ o. Finds inner (λ f. applies f kw.If s v) s v (Ok o)) c.in_default-4.is c.in_ok-found-2.ensures)
     (subst (λ o. Finds inner (λ f. applies f kw.DependentSchemas s v) s v (Ok o)) c.in_default-5.is c.in_ok-found-3.ensures)
-    (subst (λ o. Finds inner (λ f. reference_accepts (view inner.root.now) f s v) s v (Ok o)) c.in_default-6.is
-    c.in_ok-found-4.ensures)
+    (subst (λ o. Finds inner (λ f. applies f kw.PatternProperties s v) s v (Ok o)) c.in_default-6.is c.in_ok-found-4.ensures)
+    (subst (λ o. Finds inner (λ f. reference_accepts (view inner.root.now) f s v) s v (Ok o)) c.in_default-7.is
+    c.in_ok-found-5.ensures)
     c.in_parts.ensures)
 
 pub is_accepted-returns : goal.is_accepted-returns
@@ -262,7 +280,7 @@ are_names_met-returns-in_ok-accepted-in-Some t c g =
     let f = says c.args.walk g in
     let v = view c.args.value.now in
     c.in_ok-accepted-in-Some.ensures g
-    ∙ (ap (keys_pass (f (view c.in-Some.part.now))) (ap members_listed c.as_slice.ensures.value ∙ c.in_ok-members-in-Some.ensures)
+    ∙ (ap (keys_pass (f (view c.in-Some.part.now))) (ap members_listed c.as_slice.ensures.value ∙ c.in_ok-members-in-Some.ensures.listed)
     ∙ ap (λ o. option_map_or (λ r. keys_pass (f r) (members_in v)) o true) c.in-Some.ensures)
 
 pub are_keys_met-returns-then-not-accepted : goal.are_keys_met-returns-then-not-accepted
@@ -460,6 +478,108 @@ in_dependents-returns t c g =
     ∙ turn_end (λ xs. dependents_accept (says c.args.walk g) (members_listed xs) v) c.as_slice-dependents.result.now c.loop-key.key-index
     true c.loop-key-test.false refl (c.loop-key.invariant g)
 
+pub in_patterned-returns-in-Some : goal.in_patterned-returns-in-Some
+in_patterned-returns-in-Some t c =
+    let s = view c.args.schema.now in
+    let v = view c.args.value.now in
+    let ps = c.as_slice-patterns.result.now in
+    let i = c.loop-pattern.pattern-index in
+    let p = c.loop-pattern-item.result in
+    let r = view p.1.now in
+    let k = text p.0.now in
+    let old = c.in-Some.found in
+    let told = subst (λ o. FindsFound c.args.walk (chars c.as_str.result.now) r (members_in v) (Ok o)) c.in-Some.is c.in_ok-found.ensures in
+    let inner = subst (λ bs. FindsFound c.args.walk (chars bs) r (members_in v) (Ok (Some old))) c.as_str.ensures.value told in
+    let entered = subst (λ bs. IsUnderKey kw.PatternProperties (chars bs) old c.enter_keyed.new.self) c.as_str-in-Some.ensures.value
+    c.in_ok-enter_keyed.ensures in
+    let sorted = subst (λ xs. IsSorted (members_listed xs)) (sym c.as_slice-patterns.ensures.value) c.in_ok-listed.ensures.sorted in
+    let at : find k (schema_map_at s kw.PatternProperties) ≡ Some r
+    = ap (find k) (sym (ap members_listed c.as_slice-patterns.ensures.value ∙ c.in_ok-listed.ensures.listed))
+    ∙ listed_found ps i p sorted c.loop-pattern-test.true c.loop-pattern-item.is in
+    placed c.args.walk (λ f. applies f kw.PatternProperties s v) s v c.enter_keyed.new.self _ _ (entered.0, entered.1 ∙ inner.placed)
+    (in_patterned at inner.found inner.at inner.invalid)
+
+pub in_patterned-loop-pattern-preserved : goal.in_patterned-loop-pattern-preserved
+in_patterned-loop-pattern-preserved t c g =
+    let v = view c.args.value.now in
+    let ps = c.as_slice-patterns.result.now in
+    let i = c.loop-pattern.pattern-index in
+    let p = c.loop-pattern-item.result in
+    let r = view p.1.now in
+    let told = subst (λ o. FindsFound c.args.walk (chars c.as_str.result.now) r (members_in v) (Ok o)) c.in_default.is
+    c.in_ok-found.ensures in
+    let good = subst (λ bs. FindsFound c.args.walk (chars bs) r (members_in v) (Ok None)) c.as_str.ensures.value told in
+    turn_next (λ xs. patterns_accept (says c.args.walk g) (members_listed xs) (members_in v)) ps i p c.loop-pattern-test.true
+    c.loop-pattern-item.is
+    (ap (λ b. b && patterns_accept (says c.args.walk g) (members_listed (drop (i + 1) ps)) (members_in v)) (good g))
+    (c.loop-pattern.invariant g)
+
+pub in_patterned-returns : goal.in_patterned-returns
+in_patterned-returns t c g =
+    let ms = members_in (view c.args.value.now) in
+    ap (λ rs. patterns_accept (says c.args.walk g) rs ms)
+    (sym (ap members_listed c.as_slice-patterns.ensures.value ∙ c.in_ok-listed.ensures.listed))
+    ∙ turn_end (λ xs. patterns_accept (says c.args.walk g) (members_listed xs) ms) c.as_slice-patterns.result.now
+    c.loop-pattern.pattern-index true c.loop-pattern-test.false refl (c.loop-pattern.invariant g)
+
+pub in_found-returns-in-Some : goal.in_found-returns-in-Some
+in_found-returns-in-Some t c =
+    let w = c.args.walk in
+    let r = view c.args.schema.now in
+    let ms = members_in (view c.args.value.now) in
+    let ps = c.as_slice-members.result.now in
+    let i = c.loop-key.key-index in
+    let p = c.loop-key-item.result in
+    let k = text p.0.now in
+    let old = c.in-Some.found in
+    let inner = subst (λ o. Judges w r (view p.1.now) (Ok o)) c.in-Some.is c.in_ok-found.ensures in
+    let entered = subst (λ bs. IsWithin (chars bs) old c.enter_value.new.self) c.as_str-in-Some.ensures.value
+    c.in_ok-enter_value.ensures in
+    let sorted = subst (λ xs. IsSorted (members_listed xs)) (sym c.as_slice-members.ensures.value) c.in_ok-listed.ensures.sorted in
+    record {
+      key = k;
+      value = view p.1.now;
+      rest = tokens_of old.instance_location;
+      found = ap₂ is_found (sym c.loop-key.invariant.0) (ap chars (sym c.as_str.ensures.value))
+          ∙ (sym c.is_found_in-is_found.ensures.found ∙ c.if-is_found.true);
+      at = ap (find k) (sym (ap members_listed c.as_slice-members.ensures.value ∙ c.in_ok-listed.ensures.listed))
+          ∙ listed_found ps i p sorted c.loop-key-test.true c.loop-key-item.is;
+      placed = entered.1;
+      invalid = subst (λ xs. IsInvalidAt (view w.root.now) w.steps r (view p.1.now) xs (tokens_of old.instance_location))
+          (sym entered.0) inner;
+    }
+
+pub in_found-loop-key-preserved : goal.in_found-loop-key-preserved
+in_found-loop-key-preserved t c =
+    let r = view c.args.schema.now in
+    let pattern = chars c.args.pattern.now in
+    let ps = c.as_slice-members.result.now in
+    let i = c.loop-key.key-index in
+    let p = c.loop-key-item.result in
+    let k = text p.0.now in
+    let u = view p.1.now in
+    let answer : c.is_found_in-is_found.result ≡ is_found pattern k
+    = c.is_found_in-is_found.ensures.found ∙ ap₂ is_found c.loop-key.invariant.0 (ap chars c.as_str.ensures.value) in (
+      ap text c.is_found_in-is_found.ensures.same ∙ c.loop-key.invariant.0,
+      λ g. elim c.if-is_found.branch [
+        | in_found-then-is_found+in_ok-found+in_default w ↦
+            found_turn (says c.args.walk g r) pattern ps i p c.loop-key-test.true c.loop-key-item.is
+            (found_holds (says c.args.walk g r) pattern k u
+            (subst (λ o. Judges c.args.walk r u (Ok o)) w.in_default.is w.in_ok-found.ensures g)) (c.loop-key.invariant.1 g)
+        | in_found-else-is_found w ↦
+            found_turn (says c.args.walk g r) pattern ps i p c.loop-key-test.true c.loop-key-item.is
+            (not_found (says c.args.walk g r) pattern k u (sym answer ∙ w.if-is_found.false)) (c.loop-key.invariant.1 g)
+      ],
+    )
+
+pub in_found-returns : goal.in_found-returns
+in_found-returns t c g =
+    let q = says c.args.walk g (view c.args.schema.now) in
+    let ps = chars c.args.pattern.now in
+    ap (found_pass q ps) (sym (ap members_listed c.as_slice-members.ensures.value ∙ c.in_ok-listed.ensures.listed))
+    ∙ turn_end (λ xs. found_pass q ps (members_listed xs)) c.as_slice-members.result.now c.loop-key.key-index true
+    c.loop-key-test.false refl (c.loop-key.invariant.1 g)
+
 pub in_reference-returns-in_default : goal.in_reference-returns-in_default
 in_reference-returns-in_default t c g =
     let w = c.args.walk in
@@ -495,7 +615,8 @@ in_members-returns-in-Some-2 t c =
     let part = c.in-Some.part in
     let r = view part.schema.now in
     let old = c.in-Some-2.found in
-    let applied = subst (λ bs. IsMemberPart s (chars bs) (Some part)) c.as_str.ensures.value c.in-Some.ensures in
+    let applied = subst (λ bs. IsMemberPart s (chars bs) (Some part)) c.as_str.ensures.value
+    (subst (λ o. IsMemberPart s (chars c.as_str.result.now) o) c.in-Some.is c.in_ok-part.ensures) in
     let inner = subst (λ o. Judges c.args.walk r (view p.1.now) (Ok o)) c.in-Some-2.is c.in_ok-found.ensures in
     let entered = subst (λ bs. Enters part.applicator (chars bs) (chars bs) old c.enter_member.new.self) c.as_str-in-Some-2.ensures.value
     c.in_ok-enter_member.ensures in
@@ -511,11 +632,12 @@ in_members-loop-key-preserved t c g =
     let p = c.loop-key-item.result in
     let u = view p.1.now in
     let k = text p.0.now in
-    elim c.match-member_part.branch [
+    elim c.match-branch-2.branch [
       | in_members-in-Some+in_ok-found+in_default-2 w ↦
           let part = w.in-Some.part in
           let r = view part.schema.now in
-          let applied = subst (λ bs. IsMemberPart s (chars bs) (Some part)) c.as_str.ensures.value w.in-Some.ensures in
+          let applied = subst (λ bs. IsMemberPart s (chars bs) (Some part)) c.as_str.ensures.value
+          (subst (λ o. IsMemberPart s (chars c.as_str.result.now) o) w.in-Some.is c.in_ok-part.ensures) in
           members_turn (says c.args.walk g) s ps i p c.loop-key-test.true c.loop-key-item.is
           (member_passes (says c.args.walk g) s k r u applied.0
           (subst (λ o. Judges c.args.walk r u (Ok o)) w.in_default-2.is w.in_ok-found.ensures g))
@@ -523,7 +645,8 @@ in_members-loop-key-preserved t c g =
       | in_members-in_default w ↦
           members_turn (says c.args.walk g) s ps i p c.loop-key-test.true c.loop-key-item.is
           (member_free (says c.args.walk g) s k u
-          (subst (λ bs. IsMemberPart s (chars bs) None) c.as_str.ensures.value w.in_default.ensures))
+          (subst (λ bs. IsMemberPart s (chars bs) None) c.as_str.ensures.value
+          (subst (λ o. IsMemberPart s (chars c.as_str.result.now) o) w.in_default.is c.in_ok-part.ensures)))
           (c.loop-key.invariant g)
     ]
 

@@ -1,7 +1,8 @@
 use Rattle.std.proofs.Common.{◌≡◌, ◌+◌, ◌*◌, ◌≤◌, drop}
-use Rattle.tinyjson.specs.View.{view, items_view, members_listed}
+use Rattle.std.specs.Str.{chars}
+use Rattle.tinyjson.specs.View.{view, text, items_view, members_listed}
 use Rattle.json_schema.specs.Applied.{Judge, all_accept, some_accepts, accepting, keys_pass, passing, dependents_accept}
-use Rattle.json_schema.specs.Applied.{members_accepted, items_accepted}
+use Rattle.json_schema.specs.Applied.{members_accepted, items_accepted, members_in, found_pass, patterns_accept}
 use Rattle.json_schema.specs.Valid.{says}
 use Rattle.json_schema.proofs.validate.+validate.Given as goal
 
@@ -53,6 +54,12 @@ decreases-in_branch l = 16 * l.walk.steps + 10
 abbrev pub decreases-in_dependents : goal.decreases-in_dependents
 decreases-in_dependents l = 16 * l.walk.steps + 10
 
+abbrev pub decreases-in_patterned : goal.decreases-in_patterned
+decreases-in_patterned l = 16 * l.walk.steps + 10
+
+abbrev pub decreases-in_found : goal.decreases-in_found
+decreases-in_found l = 16 * l.walk.steps + 9
+
 abbrev pub decreases-in_reference : goal.decreases-in_reference
 decreases-in_reference l = 16 * l.walk.steps + 10
 
@@ -91,6 +98,16 @@ abbrev pub invariant-in_dependents-loop-key : goal.invariant-in_dependents-loop-
 invariant-in_dependents-loop-key l = (g : Judge) →
     dependents_accept (says l.walk g) (members_listed (drop l.key-index l.dependents)) (view l.value)
     ≡ dependents_accept (says l.walk g) (members_listed l.dependents) (view l.value)
+
+abbrev pub invariant-in_patterned-loop-pattern : goal.invariant-in_patterned-loop-pattern
+invariant-in_patterned-loop-pattern l = (g : Judge) →
+    patterns_accept (says l.walk g) (members_listed (drop l.pattern-index l.patterns)) (members_in (view l.value))
+    ≡ patterns_accept (says l.walk g) (members_listed l.patterns) (members_in (view l.value))
+
+abbrev pub invariant-in_found-loop-key : goal.invariant-in_found-loop-key
+invariant-in_found-loop-key l = (text l.code.pattern ≡ chars l.pattern)
+    × ((g : Judge) → found_pass (says l.walk g (view l.schema)) (chars l.pattern) (members_listed (drop l.key-index l.members))
+    ≡ found_pass (says l.walk g (view l.schema)) (chars l.pattern) (members_listed l.members))
 
 abbrev pub invariant-in_members-loop-key : goal.invariant-in_members-loop-key
 invariant-in_members-loop-key l = (g : Judge) →

@@ -1,0 +1,67 @@
+//! Patterns in schemas (Core, 6.4).
+ghost use Rattle.std.specs.Prelude.{◌≡◌, ℕ, List, IfOk, is_some};
+ghost use Rattle.std.specs.Str.{chars};
+ghost use Rattle.tinyjson.specs.View.{text};
+ghost use Rattle.i_regexp.specs.PatternDeciding.{is_pattern, is_found};
+ghost use Rattle.json_schema.specs.Patterns.{answer_of};
+
+use i_regexp::{SchemaPattern, SchemaPatternErrorKind};
+use std::alloc::{AllocError, Global};
+
+/// A text that was read as a pattern.
+#[derive(Drop)]
+pub struct Pattern {
+    pattern: String,
+    /// Nothing where the text is no pattern.
+    code: Option<SchemaPattern>,
+    ghost read: { (cs : List ℕ) → is_found (text pattern) cs ≡ answer_of code cs },
+}
+
+impl Pattern {
+    /// Reads a text; one that is no pattern is found nowhere. A pattern that is too deep or too large to
+    /// be read takes more memory than there is.
+    pub fn read(alloc: Global, pattern: &str) -> Result<Pattern, AllocError>
+        ensures { IfOk result (λ p. text p.pattern ≡ chars pattern.now) }
+    {
+        let code = code_of(alloc, pattern)?;
+        let pattern = String::from_str(alloc, pattern)?;
+        Ok(Pattern { pattern, code })
+    }
+
+    /// Whether the pattern is found in the text: anywhere, unless it says where.
+    pub fn is_found_in(&mut self, value: &str) -> bool
+        ensures found { result ≡ is_found (text self.old.pattern) (chars value.now) }
+        ensures same { self.new.pattern ≡ self.old.pattern }
+    {
+        match &mut self.code {
+            Some(code) => code.is_found_in(value),
+            None => false,
+        }
+    }
+}
+
+/// The pattern that the text is, if it is one.
+fn code_of(alloc: Global, pattern: &str) -> Result<Option<SchemaPattern>, AllocError>
+    ensures is { IfOk result (λ o. is_some o ≡ is_pattern (chars pattern.now)) }
+    ensures found { IfOk result
+        (λ o. (cs : List ℕ) → is_found (chars pattern.now) cs ≡ answer_of o cs) }
+{
+    match SchemaPattern::parse(alloc, pattern) {
+        Ok(code) => Ok(Some(code)),
+        Err(error) => match error.kind {
+            SchemaPatternErrorKind::Invalid => Ok(None),
+            SchemaPatternErrorKind::Outside => Ok(None),
+            SchemaPatternErrorKind::TooDeep
+            | SchemaPatternErrorKind::TooLarge
+            | SchemaPatternErrorKind::OutOfMemory => Err(AllocError),
+        },
+    }
+}
+
+/// Whether the text is a pattern.
+pub fn is_pattern(alloc: Global, text: &str) -> Result<bool, AllocError>
+    ensures { IfOk result (λ is. is ≡ is_pattern (chars text.now)) }
+{
+    let code = code_of(alloc, text)?;
+    Ok(code.is_some())
+}
