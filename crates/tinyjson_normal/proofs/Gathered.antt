@@ -43,7 +43,7 @@ itself k = by (cmp k k) refl
     by Equal e = refl
     by Greater e = let f : Greater ≡ Less = sym e ∙ (nat_list_cmp_total.antisymm k k ∙ ap ordering_reverse e) in cc
 
-apart : (a b : List ℕ) (o : Ordering) → cmp a b ≡ o → (o ≡ Equal → ⊥) → bytes_eq a b ≡ false
+pub apart : (a b : List ℕ) (o : Ordering) → cmp a b ≡ o → (o ≡ Equal → ⊥) → bytes_eq a b ≡ false
 apart a b o e differ = by (bytes_eq a b) refl
   where
     by : (c : Bool) → bytes_eq a b ≡ c → c ≡ false

@@ -8,8 +8,12 @@ pub mod Slices
 pub mod Order
 -- What a sorted object keeps.
 pub mod Gathered
+-- Members whose keys rise.
+pub mod Rising
 -- What a walk writes.
 pub mod Writing
+-- Values that hold no others.
+pub mod Passing
 -- The characters of a compact text.
 pub mod Scalars
 -- Whether a text is the compact text of its tree.

@@ -1,6 +1,7 @@
 -- Members in the order of their keys, of equal keys the last. For private contracts.
-use Rattle.std.specs.Prelude.{ℕ, Bool, false, cond, min, List, [], ◌∷◌, length}
+use Rattle.std.specs.Prelude.{ℕ, Bool, true, false, ◌&&◌, cond, min, List, [], ◌∷◌, length}
 use Rattle.std.specs.List.{slice_range}
+use Rattle.std.specs.List.Sorted.{IsPermutation, IsSortedBy, IsStableBy}
 use Rattle.std.specs.Str.{bytes_eq}
 use Rattle.std.specs.Cmp.Lexicographic.{slice_cmp}
 use Rattle.std.specs.Ordering.{nat_cmp, is_lt}
@@ -35,3 +36,19 @@ comes_again xs m (n ∷ ns) = bytes_eq (key_in xs m) (key_in xs n)
 abbrev pub lasts : List ℕ → List Member → List Member
 lasts xs [] = []
 lasts xs (m ∷ ms) = cond (comes_again xs m ms) (lasts xs ms) (m ∷ lasts xs ms)
+
+-- the first of the members has a key above that one
+abbrev pub is_below_next : List ℕ → Member → List Member → Bool
+is_below_next xs m [] = true
+is_below_next xs m (n ∷ ns) = key_lt xs m n
+
+-- each key is below the next one
+abbrev pub rise : List ℕ → List Member → Bool
+rise xs [] = true
+rise xs (m ∷ ms) = is_below_next xs m ms && rise xs ms
+
+-- the members in the order of their keys, those of equal keys in their own
+pub record IsOrdered (xs : List ℕ) (ms ns : List Member) : Type 0 where
+  pub permuted : IsPermutation ms ns
+  pub sorted : IsSortedBy (key_lt xs) ns
+  pub stable : IsStableBy (key_lt xs) ms ns

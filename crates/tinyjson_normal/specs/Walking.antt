@@ -1,5 +1,5 @@
 -- What a walk has still to write, and how many steps that takes. For private contracts.
-use Rattle.std.specs.Prelude.{◌≡◌, ℕ, zero, suc, ◌+◌, ◌-◌, ◌&&◌, cond, codes, List, [], ◌∷◌, ◌++◌, Option, Result, MatchResult}
+use Rattle.std.specs.Prelude.{◌≡◌, ℕ, zero, suc, ◌+◌, ◌-◌, nat_eq, Bool, false, not, ◌&&◌, cond, codes, List, [], ◌∷◌, ◌++◌, Option, Result, MatchResult}
 use Rattle.std.specs.Prelude.{length, reverse, encode_utf8_all}
 use Rattle.std.specs.List.{sum_by}
 use Rattle.tinyjson_number.specs.Text.{decimal_text}
@@ -25,6 +25,12 @@ head (number d) = decimal_text d
 head (string cs) = quoted cs
 head (array ts) = begin_array ∷ []
 head (object ms) = begin_object ∷ []
+
+-- a container that is not empty
+abbrev pub holds_others : Node → Bool
+holds_others (node.Array p) = not (nat_eq p.from p.to)
+holds_others (node.Object p) = not (nat_eq p.from p.to)
+holds_others _ = false
 
 module _ (w : Option (List ℕ)) where
   -- what is left of a container at the level k
@@ -55,6 +61,14 @@ abbrev pub Advances : {W T E : Type 0} → (W → Option (List ℕ)) → W → W
 Advances contents p q old new xs result =
     AdvancesFrom (indent_of old.indent) old.store.now (contents p, buffered old.buffer) (contents q, buffered new.buffer) xs
     (reverse new.stack.items) result
+
+-- The same of what is left of the innermost container, which is not on the stack.
+abbrev pub Passes : {W E : Type 0} → (W → Option (List ℕ)) → W → W → Walk → Walk → List ℕ → Result Rest E → Type 0
+Passes contents p q old new xs result =
+    let before : Output = (contents p, buffered old.buffer) in
+    let after : Output = (contents q, buffered new.buffer) in
+    MatchResult result (λ r. Advanced (indent_of old.indent) old.store.now before after xs (r ∷ reverse old.stack.items))
+    (λ _. SentPart before after (encode_utf8_all xs))
 
 -- the steps that a value takes in which no more than that many containers are nested
 abbrev pub cost : Store → ℕ → Node → ℕ

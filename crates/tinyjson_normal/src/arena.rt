@@ -9,7 +9,7 @@ ghost use Rattle.tinyjson_normal.specs.Holding.{Holds, IsTree};
 ghost use Rattle.tinyjson_normal.specs.Node.{Is};
 ghost use Rattle.tinyjson_normal.specs.declared.store.Store.{Store as Nodes};
 
-use crate::sorting::{pair, sort};
+use crate::sorting::pair;
 use crate::store::{Member, Node, Span, Store};
 use crate::walk::Walk;
 use std::alloc::{AllocError, Global};
@@ -120,8 +120,7 @@ impl Events for Arena {
             return Err(AllocError);
         };
         pair(&mut self.sorted, keys, values)?;
-        sort(&self.store.texts, &mut self.sorted)?;
-        let span = self.store.add_members(&self.sorted)?;
+        let span = self.store.add_object(&mut self.sorted)?;
         self.keys.truncate(place.keys);
         self.values.truncate(place.values);
         self.values.push(Node::Object(span))?;

@@ -1,7 +1,7 @@
 //! The members of an object in the order of their keys.
 ghost use Rattle.std.specs.Prelude.{◌≡◌, ◌++◌, ◌∷◌, [], cond, OnOk};
 ghost use Rattle.std.specs.List.Sorted.{IsPermutation, IsSortedBy, IsStableBy};
-ghost use Rattle.tinyjson_normal.specs.Order.{comes_again, key_lt, lasts, paired};
+ghost use Rattle.tinyjson_normal.specs.Order.{comes_again, is_below_next, key_lt, lasts, paired, rise};
 
 use crate::store::{Member, Node, Span, part};
 use std::alloc::AllocError;
@@ -34,6 +34,30 @@ pub(crate) fn sort(texts: &[u8], members: &mut Vec<Member>) -> Result<(), AllocE
 {
     members.sort_by(|a, b| part(texts, a.key).cmp(part(texts, b.key)))?;
     Ok(())
+}
+
+/// Whether each key is below the next one.
+pub(crate) fn rise(texts: &[u8], members: &[Member]) -> bool
+    ensures { result ≡ rise texts.now members.now }
+{
+    let mut rest = members;
+    while let Some((member, others)) = rest.split_first() {
+        if !is_below_next(texts, *member, others) {
+            return false;
+        }
+        rest = others;
+    }
+    true
+}
+
+/// Whether the key of a member is below that of the first of the others.
+fn is_below_next(texts: &[u8], member: Member, others: &[Member]) -> bool
+    ensures { result ≡ is_below_next texts.now member others.now }
+{
+    match others.first() {
+        Some(next) => part(texts, member.key).cmp(part(texts, next.key)).is_lt(),
+        None => true,
+    }
 }
 
 /// Pushes the sorted members, of those with one key the last.

@@ -1,10 +1,11 @@
 //! Nodes, and what they stand on: vectors that only grow.
-ghost use Rattle.std.specs.Prelude.{◌≡◌, [], IfOk, OnOk, drop, take};
+ghost use Rattle.std.specs.Prelude.{◌≡◌, [], List, IfOk, OnOk, drop, take};
 ghost use Rattle.std.specs.Str.{chars};
 ghost use Rattle.tinyjson_normal.specs.Node.{IsRun, IsText, IsNumberAt, Grows};
-ghost use Rattle.tinyjson_normal.specs.Order.{lasts, part};
+ghost use Rattle.tinyjson_normal.specs.declared.store.Member.{Member};
+ghost use Rattle.tinyjson_normal.specs.Order.{IsOrdered, lasts, part};
 
-use crate::sorting::push_lasts;
+use crate::sorting::{push_lasts, rise, sort};
 use std::alloc::{AllocError, Global};
 use std::mem;
 use tinyjson_number::JsonNumber;
@@ -134,6 +135,34 @@ impl Store {
             from: 0,
             to: self.items.len(),
         }
+    }
+
+    /// Appends the members of an object in the order of their keys, of those with one key the last.
+    pub(crate) fn add_object(&mut self, members: &mut Vec<Member>) -> Result<Span, AllocError>
+        ensures members { IfOk result (λ span. (ns : List Member)
+            × IsOrdered self.old.texts.items members.old.items ns
+            × IsRun self.new.members.items span (lasts self.old.texts.items ns)) }
+        ensures grows { OnOk result (Grows self.old self.new) }
+    {
+        if rise(&self.texts, members) {
+            return self.add_rising(members);
+        }
+        sort(&self.texts, members)?;
+        self.add_members(members)
+    }
+
+    /// Appends the members of an object, whose keys rise.
+    fn add_rising(&mut self, members: &[Member]) -> Result<Span, AllocError>
+        ensures members { IfOk result (λ span.
+            IsRun self.new.members.items span members.now) }
+        ensures grows { OnOk result (Grows self.old self.new) }
+    {
+        let from = self.members.len();
+        self.members.extend_from_slice(members)?;
+        Ok(Span {
+            from,
+            to: self.members.len(),
+        })
     }
 
     /// Appends the members of an object, which are sorted: of those with one key the last.

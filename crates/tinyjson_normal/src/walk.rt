@@ -1,6 +1,6 @@
 //! The text of a tree in an arena, written without recursion: what is left of the open containers is on a stack.
 ghost use Rattle.std.specs.Prelude.{◌≡◌, ◌≤◌, ◌<◌, ◌+◌, ◌-◌, ◌++◌, ◌∷◌, [], ℕ, List, suc, length};
-ghost use Rattle.std.specs.Prelude.{reverse, OnOk, MatchOption, IfSome, Option, cond};
+ghost use Rattle.std.specs.Prelude.{reverse, false, IfOk, OnOk, MatchOption, IfSome, Option, cond};
 ghost use Rattle.std.specs.Str.{encode_utf8_all};
 ghost use Rattle.tinyjson_grammar.specs.Tree.{Tree};
 ghost use Rattle.tinyjson.specs.Indent.{indent_of};
@@ -10,7 +10,8 @@ ghost use Rattle.tinyjson_number.specs.Text.{decimal_text};
 ghost use Rattle.tinyjson_normal.specs.declared.walk.Rest.TheVariants.{Items, Members};
 ghost use Rattle.tinyjson_normal.specs.Node.{Is, IsBytes};
 ghost use Rattle.tinyjson_normal.specs.declared.store.Store.{Store as Nodes};
-ghost use Rattle.tinyjson_normal.specs.Walking.{head, IsRest, AreLeft, Advances, cost, rest_cost, left_cost};
+ghost use Rattle.tinyjson_normal.specs.Walking.{head, holds_others, IsRest, AreLeft, Advances, Passes, cost};
+ghost use Rattle.tinyjson_normal.specs.Walking.{rest_cost, left_cost};
 ghost use Rattle.tinyjson_output.specs.Buffer.{buffered, Sends, SendsText};
 
 use crate::store::{Member, Node, Store, part};
@@ -128,10 +129,93 @@ impl<'a> Walk<'a> {
         ensures most { self.new.most ≡ self.old.most }
         ensures indent { self.new.indent ≡ self.old.indent }
     {
+        let rest = self.pass(out, rest)?;
         match rest {
             Rest::Items { rest, first } => self.resume_items(out, rest, first),
             Rest::Members { rest, first } => self.resume_members(out, rest, first),
         }
+    }
+
+    /// Writes the items or members up to the first whose value holds others, and returns what is left.
+    fn pass<W: Write>(&mut self, out: &mut W, rest: Rest<'a>) -> io::Result<Rest<'a>>
+        ensures sent { (xs : List ℕ) → AreLeft (indent_of self.old.indent) self.old.store.now
+            (rest.entry ∷ reverse self.old.stack.items) xs
+            → Passes W.contents out.old out.new self.old self.new xs result }
+        ensures less { IfOk result (λ r. (f : ℕ) →
+            rest_cost self.old.store.now f r ≤ rest_cost self.old.store.now f rest.entry) }
+        ensures stack { self.new.stack.items ≡ self.old.stack.items }
+        ensures store { self.new.store ≡ self.old.store }
+        ensures most { self.new.most ≡ self.old.most }
+        ensures indent { self.new.indent ≡ self.old.indent }
+    {
+        match rest {
+            Rest::Items { rest, first } => self.pass_items(out, rest, first),
+            Rest::Members { rest, first } => self.pass_members(out, rest, first),
+        }
+    }
+
+    fn pass_items<W: Write>(
+        &mut self,
+        out: &mut W,
+        items: &'a [Node],
+        first: bool,
+    ) -> io::Result<Rest<'a>>
+        ensures sent { (xs : List ℕ) → AreLeft (indent_of self.old.indent) self.old.store.now
+            (Items items.entry first ∷ reverse self.old.stack.items) xs
+            → Passes W.contents out.old out.new self.old self.new xs result }
+        ensures less { IfOk result (λ r. (f : ℕ) → rest_cost self.old.store.now f r
+            ≤ rest_cost self.old.store.now f (Items items.entry first)) }
+        ensures stack { self.new.stack.items ≡ self.old.stack.items }
+        ensures store { self.new.store ≡ self.old.store }
+        ensures most { self.new.most ≡ self.old.most }
+        ensures indent { self.new.indent ≡ self.old.indent }
+    {
+        let (store, indent, level) = (self.store, self.indent, self.stack.len());
+        let mut rest = items;
+        let mut first = first;
+        while let Some((node, others)) = rest.split_first() {
+            if holds_others(*node) {
+                return Ok(Rest::Items { rest, first });
+            }
+            separate(out, &mut self.buffer, indent, level + 1, first)?;
+            write_leaf(out, &mut self.buffer, store, *node)?;
+            rest = others;
+            first = false;
+        }
+        Ok(Rest::Items { rest, first })
+    }
+
+    fn pass_members<W: Write>(
+        &mut self,
+        out: &mut W,
+        members: &'a [Member],
+        first: bool,
+    ) -> io::Result<Rest<'a>>
+        ensures sent { (xs : List ℕ) → AreLeft (indent_of self.old.indent) self.old.store.now
+            (Members members.entry first ∷ reverse self.old.stack.items) xs
+            → Passes W.contents out.old out.new self.old self.new xs result }
+        ensures less { IfOk result (λ r. (f : ℕ) → rest_cost self.old.store.now f r
+            ≤ rest_cost self.old.store.now f (Members members.entry first)) }
+        ensures stack { self.new.stack.items ≡ self.old.stack.items }
+        ensures store { self.new.store ≡ self.old.store }
+        ensures most { self.new.most ≡ self.old.most }
+        ensures indent { self.new.indent ≡ self.old.indent }
+    {
+        let (store, indent, level) = (self.store, self.indent, self.stack.len());
+        let mut rest = members;
+        let mut first = first;
+        while let Some((member, others)) = rest.split_first() {
+            if holds_others(member.value) {
+                return Ok(Rest::Members { rest, first });
+            }
+            separate(out, &mut self.buffer, indent, level + 1, first)?;
+            let key = part(&store.texts, member.key);
+            write_key(out, &mut self.buffer, indent, key)?;
+            write_leaf(out, &mut self.buffer, store, member.value)?;
+            rest = others;
+            first = false;
+        }
+        Ok(Rest::Members { rest, first })
     }
 
     fn resume_items<W: Write>(
@@ -194,6 +278,34 @@ impl<'a> Walk<'a> {
             Rest::Members { rest, first: false },
         )?;
         self.begin(out, member.value)
+    }
+}
+
+/// Whether a value is a container that is not empty.
+fn holds_others(node: Node) -> bool
+    ensures { result ≡ holds_others node }
+{
+    match node {
+        Node::Array(span) | Node::Object(span) => span.from != span.to,
+        _ => false,
+    }
+}
+
+/// Writes a value that holds no others.
+fn write_leaf<W: Write>(
+    out: &mut W,
+    buffer: &mut Buffer,
+    store: &Store,
+    node: Node,
+) -> io::Result<()>
+    ensures { (w : Option (List ℕ)) (k : ℕ) (t : Tree) → holds_others node ≡ false
+        → Is store.now t node
+        → SendsText W.contents out.old out.new buffer.old buffer.new (text w k t) result }
+{
+    match node {
+        Node::Array(_) => write_bytes(out, buffer, b"[]"),
+        Node::Object(_) => write_bytes(out, buffer, b"{}"),
+        _ => write_head(out, buffer, store, node),
     }
 }
 
