@@ -19,7 +19,7 @@ abbrev pub depth_limit : Option ℕ
 depth_limit = Some 100
 
 abbrev pub step_limit : ℕ
-step_limit = 250
+step_limit = 220
 
 -- what the check of the tree t by the schema s says
 abbrev pub ValueGives : Tree → Tree → Verdict → Type 0

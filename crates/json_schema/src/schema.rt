@@ -66,7 +66,7 @@ impl<'s> Schema<'s> {
     /// It calls itself for each schema that a schema applies, so it takes stack as these are applied in one another.
     ///
     /// ```
-    /// let place = schema.invalid_place(&value, 250, alloc)?;
+    /// let place = schema.invalid_place(&value, 220, alloc)?;
     /// ```
     pub fn invalid_place(
         &self,
