@@ -5,13 +5,12 @@ use Rattle.std.proofs.Common.{Result, Ok, Err, Vec}
 use Rattle.std.proofs.lemmas.Slice.Eq.{bytes_eq-Decides}
 use Rattle.std.specs.Prelude.{IfOk}
 use Rattle.std.specs.declared.alloc.AllocError.{AllocError}
-use Rattle.tinyjson.proofs.Callers.{members_view_IsSorted}
+use Rattle.tinyjson.proofs.Callers.{members_view_IsSorted, find_below, found_first, some_none}
+use Rattle.tinyjson.specs.Soundness.{IsSorted}
 use Rattle.tinyjson.specs.Access.{JsonMap}
 use Rattle.tinyjson.specs.Tree.{find}
 use Rattle.tinyjson.specs.View.{view, text, members_view, members_listed}
 use Rattle.tinyjson.specs.declared.value.JsonValue.{JsonValue}
-use Rattle.tinyjson_grammar.proofs.Callers.{find_below, found_first, some_none}
-use Rattle.tinyjson_grammar.specs.Soundness.{IsSorted}
 
 abbrev pub Listed : Type 0
 Listed = Bor (String Global) × Bor JsonValue

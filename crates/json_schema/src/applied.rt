@@ -4,7 +4,7 @@ ghost use Rattle.std.specs.Str.{chars};
 ghost use Rattle.tinyjson.specs.Index.{tree_at_key};
 ghost use Rattle.tinyjson.specs.Tree.{string};
 ghost use Rattle.tinyjson.specs.View.{view, text, items_view, members_listed};
-ghost use Rattle.tinyjson_grammar.specs.Soundness.{IsSorted};
+ghost use Rattle.tinyjson.specs.Soundness.{IsSorted};
 ghost use Rattle.json_schema.specs.Applied.{schema_at, schemas_at, schema_map_at, members_in};
 ghost use Rattle.json_schema.specs.Applied.{branch};
 

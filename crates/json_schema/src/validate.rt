@@ -3,7 +3,7 @@
 ghost use Rattle.std.specs.Prelude.{◌≡◌, IfOk, not, is_some};
 ghost use Rattle.tinyjson.specs.Tree.{array, object};
 ghost use Rattle.tinyjson.specs.View.{view, items_view, members_listed};
-ghost use Rattle.tinyjson_grammar.specs.Soundness.{IsSorted};
+ghost use Rattle.tinyjson.specs.Soundness.{IsSorted};
 ghost use Rattle.json_schema.specs.Applied.{any_of, some_accepts, one_of, accepting, applies};
 ghost use Rattle.json_schema.specs.Applied.{keys_pass, passing, contained, tests, counts};
 ghost use Rattle.std.specs.Str.{chars};

@@ -9,12 +9,11 @@ use Rattle.std.specs.HashMap.{HashMap, get_by_text, Updates}
 use Rattle.std.specs.Option.{unwrap_or}
 use Rattle.std.specs.Str.{chars, encode_utf8_all}
 use Rattle.std.specs.String.{string_eq}
-use Rattle.tinyjson.proofs.Callers.{IsUtf8-string_bytes, encoded_chars, text_of_scalars}
+use Rattle.tinyjson.proofs.Callers.{IsUtf8-string_bytes, encoded_chars, one_compact, text_of_scalars}
 use Rattle.tinyjson.specs.Equality.{tree_eq, tree_eq_Decides}
 use Rattle.tinyjson.specs.Soundness.{IsTree}
 use Rattle.tinyjson.specs.Text.{compact}
 use Rattle.tinyjson.specs.Tree.{Tree}
-use Rattle.tinyjson_grammar.proofs.Callers.{one_compact}
 use Rattle.json_store.specs.Store.{key_of}
 
 -- a string with the characters of the compact text has its bytes

@@ -9,7 +9,9 @@ pub use Rattle.tinyjson.proofs.Values.Loops.{members_view_IsSorted, find_done, f
 pub use Rattle.tinyjson.proofs.Values.Loops.{rest_ends}
 pub use Rattle.tinyjson.specs.Access.Laws.{put_of_array, put_of_object}
 pub use Rattle.tinyjson.proofs.Values.Index.{items_view_set, tree_with_item, tree_with_member}
-pub use Rattle.tinyjson_grammar.proofs.Callers.{find_below, find_put, find_remove, key_same, sorted_put, sorted_remove, members_from_find}
+pub use Rattle.tinyjson_grammar.proofs.Callers.{find_below, find_put, find_remove, found_first, key_same, sorted_put, sorted_remove}
+pub use Rattle.tinyjson_grammar.proofs.Callers.{members_from_find, one_compact, some_none}
+pub use Rattle.tinyjson_grammar.proofs.Messages.{code_point_text}
 pub use Rattle.tinyjson.proofs.Writing.Scalars.{encoded_chars, encoded_utf8, text_of_scalars}
 pub use Rattle.tinyjson.proofs.Values.Trees.{view_IsTree, text_scalars}
 pub use Rattle.tinyjson.proofs.Values.View.{view_Null, view_Boolean, view_Number, view_String, view_Array, view_Object, Entry}
@@ -37,7 +39,7 @@ use Rattle.tinyjson.proofs.Values.View.{view_lookup, members_view_updates, membe
 use Rattle.tinyjson.specs.Access.{JsonMap, number_in, boolean_in, string_in, null_in, array_in, object_in, number_part, boolean_part}
 use Rattle.tinyjson.specs.Access.{string_part, null_part, array_part, object_part, is_null, is_boolean, is_number, is_string, is_array}
 use Rattle.tinyjson.specs.Access.{is_object}
-use Rattle.tinyjson_grammar.proofs.Callers.{compact_text, one_compact}
+use Rattle.tinyjson_grammar.proofs.Callers.{compact_text}
 use Rattle.tinyjson.specs.Equality.{same_tree, tree_eq_Decides}
 use Rattle.tinyjson.specs.Error.{error_kind}
 use Rattle.tinyjson_grammar.specs.Grammar.{IsText, IsAccepted}

@@ -1,6 +1,6 @@
 use Rattle.std.proofs.Common.{◌≡◌, cond, [], ◌∷◌, encode_utf8_all, sym, ap, ◌∙◌}
-use Rattle.tinyjson_grammar.proofs.Messages.{code_point_text}
-use Rattle.tinyjson_grammar.specs.Message.{code_point}
+use Rattle.tinyjson.proofs.Callers.{code_point_text}
+use Rattle.tinyjson.specs.Error.{code_point}
 use Rattle.json_schema.specs.Told.{shown_char}
 use Rattle.json_schema.proofs.shown.write_shown_char.Goals as goal
 

@@ -8,7 +8,7 @@ use Rattle.tinyjson.proofs.Callers.{view_Object, view_Array}
 use Rattle.tinyjson.specs.Index.{nth, tree_at_key}
 use Rattle.tinyjson.specs.Tree.{object, array, find}
 use Rattle.tinyjson.specs.View.{view, text, items_view, members_listed}
-use Rattle.tinyjson_grammar.specs.Soundness.{IsSorted}
+use Rattle.tinyjson.specs.Soundness.{IsSorted}
 use Rattle.json_pointer.specs.Index.{index_of}
 use Rattle.json_pointer.specs.Tokens.{tokens_of}
 use Rattle.json_pointer.specs.Walk.{item_of}
