@@ -7,6 +7,8 @@
 
 mod line;
 mod lines;
+mod refusal;
 
 pub use line::{write_all, write_line};
 pub use lines::{content, read_line};
+pub use refusal::{Cause, Refusal};

@@ -13,8 +13,8 @@ pub use Rattle.json_line.specs.Lines.{lines, onto_first, content}
 use Rattle.json_lines.specs.Refusal.{told_line}
 use Rattle.json_lines.specs.declared.lines.Outcome.{Outcome}
 use Rattle.json_lines.specs.declared.lines.Outcome.TheVariants.{AllWritten, SomeRefused}
-use Rattle.json_lines.specs.declared.refusal.Cause.{Cause}
-use Rattle.json_lines.specs.declared.refusal.Cause.TheVariants.{NotUtf8, NotJson}
+use Rattle.json_line.specs.declared.refusal.Cause.{Cause}
+use Rattle.json_line.specs.declared.refusal.Cause.TheVariants.{NotUtf8, NotJson}
 
 -- what a line gives: the tree of its text, or the cause why it is refused
 abbrev pub Fate : Type 0

@@ -11,7 +11,7 @@ use Rattle.json_lines.specs.Lines.{lines, Fate, HasFate, HaveFates, output_of, o
 use Rattle.json_lines.specs.declared.lines.Options.{Options}
 use Rattle.json_lines.specs.declared.lines.Outcome.{Outcome}
 use Rattle.json_lines.specs.declared.lines.Outcome.TheVariants.{AllWritten, SomeRefused}
-use Rattle.json_lines.specs.declared.refusal.Cause.{Cause}
+use Rattle.json_line.specs.declared.refusal.Cause.{Cause}
 
 -- only the last is refused
 abbrev pub EndsRefused : List Fate → Type 0

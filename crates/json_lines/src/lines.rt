@@ -8,8 +8,8 @@ ghost use Rattle.tinyjson_normal.specs.Normal.{HasTree};
 ghost use Rattle.json_line.specs.Line.{line_of};
 ghost use Rattle.json_lines.specs.Run.{Runs, Handles, WritesLine};
 
-use crate::refusal::{Cause, Refusal, tell};
-use json_line::{content, read_line, write_all};
+use crate::refusal::tell;
+use json_line::{Cause, Refusal, content, read_line, write_all};
 use std::alloc::Global;
 use std::io::{self, BufRead, ErrorKind, Write};
 use std::str;

@@ -5,11 +5,9 @@
 //! failed.
 #![tactic(auto)]
 
-pub mod refusal;
 pub mod store;
 
-use json_line::{content, read_line};
-use refusal::{Cause, Refusal};
+use json_line::{Cause, Refusal, content, read_line};
 use std::io::{self, BufReader, ErrorKind};
 use std::process::ExitCode;
 use std::str;

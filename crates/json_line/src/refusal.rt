@@ -1,6 +1,6 @@
 //! Why a line is refused.
 ghost use Rattle.std.specs.Prelude.{Some};
-ghost use Rattle.json_store.specs.Refusal.{refusal_message};
+ghost use Rattle.json_line.specs.Refusal.{refusal_message};
 
 use std::fmt;
 use tinyjson::JsonParseError;
@@ -10,7 +10,8 @@ use tinyjson::JsonParseError;
 pub enum Cause {
     /// The line is not UTF-8.
     NotUtf8,
-    /// The line is no JSON text. The column of the error is that within the line.
+    /// The line is no JSON text, or is nested deeper than the limit, where there is one. The column of the error is that
+    /// within the line.
     NotJson(JsonParseError),
 }
 

@@ -2,9 +2,9 @@
 use Rattle.std.specs.Prelude.{ℕ, List, ◌++◌, codes}
 use Rattle.std.specs.Fmt.{decimal}
 use Rattle.tinyjson.specs.Error.{error_kind, error_position, kind_message}
-use Rattle.json_store.specs.declared.refusal.Cause.{Cause}
-use Rattle.json_store.specs.declared.refusal.Cause.TheVariants.{NotUtf8, NotJson}
-use Rattle.json_store.specs.declared.refusal.Refusal.{Refusal}
+use Rattle.json_line.specs.declared.refusal.Cause.{Cause}
+use Rattle.json_line.specs.declared.refusal.Cause.TheVariants.{NotUtf8, NotJson}
+use Rattle.json_line.specs.declared.refusal.Refusal.{Refusal}
 
 -- why a line is refused, after its number: where in it the parser stopped, and the message of the error's kind
 abbrev pub cause_message : Cause → List ℕ
