@@ -1,6 +1,5 @@
 -- What is written of trees is what is written of their texts.
 use Rattle.std.proofs.Common.{◌≡◌, ℕ, List, [], Option, None, Result, Ok, Err, inr, ⊎_elim}
-use Rattle.std.specs.Io.KnownBytes.{Appends}
 use Rattle.tinyjson.proofs.Callers.{Appends_written}
 use Rattle.tinyjson.specs.Grammar.{IsText}
 use Rattle.tinyjson.specs.Tree.{Tree}

@@ -1,11 +1,10 @@
 -- What is written of the texts of a patch and of a value.
-use Rattle.std.specs.Prelude.{◌≡◌, ℕ, List, [], ◌∷◌, ◌++◌, Option, Some, None, Result, Ok, Err, ◌⊎◌, codes, encode_utf8_all}
+use Rattle.std.specs.Prelude.{◌≡◌, ℕ, List, ◌++◌, Option, Some, None, Result, Ok, Err, ◌⊎◌, codes}
 use Rattle.std.specs.Io.KnownBytes.{Appends}
 use Rattle.tinyjson.specs.Error.{error_kind, error_message}
 use Rattle.tinyjson.specs.Grammar.{IsText, IsAccepted}
 use Rattle.tinyjson.specs.JsonParseErrorKind.TheVariants as kind
 use Rattle.tinyjson.specs.Parser.{ParsesText}
-use Rattle.tinyjson.specs.Text.{compact}
 use Rattle.tinyjson.specs.Tree.{Tree}
 use Rattle.tinyjson.specs.Written.{WrittenPart}
 use Rattle.json_patch_document.specs.Document.{IsPatch, ReadsPatch}

@@ -1,5 +1,6 @@
 -- What patterns answer is right.
-use Rattle.std.proofs.Common.{◌≡◌, ◌↔◌, ℕ, Bool, IsTrue, List, Option, Some, None, Global, String, string_bytes, bytes_eq, sym, ap, ap₂, ◌∙◌}
+use Rattle.std.proofs.Common.{◌≡◌, ◌↔◌, ℕ, Bool, IsTrue, List, Option, Some, None, Global, String, string_bytes, bytes_eq, sym, ap, ap₂}
+use Rattle.std.proofs.Common.{◌∙◌}
 use Rattle.std.proofs.lemmas.Slice.Eq.{bytes_eq-Decides}
 use Rattle.std.specs.Str.{chars}
 use Rattle.i_regexp.proofs.Callers.{matched_as, searched_as, reads_matches, reads_searches, nothing_matches, nothing_searches}

@@ -1,5 +1,5 @@
 -- `match` and `search` (RFC 9535, 2.4.6 and 2.4.7).
-use Rattle.std.specs.Prelude.{◌≡◌, ◌↔◌, ℕ, Bool, false, IsTrue, List, Option, Some, None}
+use Rattle.std.specs.Prelude.{◌↔◌, ℕ, Bool, false, IsTrue, List, Option, Some, None}
 use Rattle.i_regexp.specs.Deciding.{matches, searches, pattern_matches, pattern_searches}
 use Rattle.i_regexp.specs.Regexps.{form_in, PatternMatches, PatternSearches}
 use Rattle.i_regexp.specs.declared.regexp.IRegexp.{IRegexp}

@@ -19,7 +19,7 @@ use Rattle.json_path_query.specs.Fronts.{step_front, slice_front, slice_end, ind
 use Rattle.json_path_query.specs.Fronts.{separator, separated, selection_turn, selection_front, shorthand_front, descendant_front}
 use Rattle.json_path_query.specs.Fronts.{dotted_front, segment_front, begins_segment, segments_turn}
 use Rattle.json_path_query.specs.Fronts.{with_minus, unsigned, before, with_first, then_turn, more_of, present_bound, whole_slice, named}
-use Rattle.json_path_query.specs.Fronts.{FrontOf, filtered, as_plain, selector_front, behind, closed}
+use Rattle.json_path_query.specs.Fronts.{FrontOf, filtered, as_plain, selector_front, behind}
 use Rattle.json_path_query.specs.Fronts.{child_of, descendant_of, alone, is_quote}
 use Rattle.json_path_query.proofs.Before.{Before}
 use Rattle.json_path_query.proofs.Finds.{Finds, finds_none, finds_some, finds_cond, finds_map, finds_then, finds_as, at_code}

@@ -1,5 +1,5 @@
 -- Values that hold no others, written one after the other.
-use Rattle.std.proofs.Common.{◌≡◌, ℕ, ◌+◌, ◌≤◌, Bool, true, false, not, ◌&&◌, nat_eq, Option, Result, List, [], ◌∷◌, ◌++◌}
+use Rattle.std.proofs.Common.{◌≡◌, ℕ, ◌+◌, ◌≤◌, Bool, false, not, ◌&&◌, nat_eq, Option, Result, List, [], ◌∷◌, ◌++◌}
 use Rattle.std.proofs.Common.{length, reverse, refl, sym, ap, subst, arith, ◌∙◌}
 use Rattle.std.proofs.lemmas.Bool.Decides.{nat_tests}
 use Rattle.std.specs.Borrow.{Bor}
@@ -11,9 +11,9 @@ use Rattle.tinyjson_grammar.specs.Text.{text, items_text, members_text, quoted, 
 use Rattle.tinyjson.specs.Indent.{indent_of}
 use Rattle.tinyjson_output.specs.Buffer.{Output, Sent, SentPart, SendsFrom}
 use Rattle.tinyjson_output.proofs.Callers.{enc, sent_goes as goes, sent_stops as stops}
-use Rattle.tinyjson_output.proofs.Callers.{sent_written_none as written_none, sent_written_then as written_then, sent_stops_then as stops_then}
-use Rattle.tinyjson_normal.specs.Node.{Is, Are, AreMembers, IsBytes}
-use Rattle.tinyjson_normal.specs.Order.{part}
+use Rattle.tinyjson_output.proofs.Callers.{sent_written_none as written_none, sent_written_then as written_then}
+use Rattle.tinyjson_output.proofs.Callers.{sent_stops_then as stops_then}
+use Rattle.tinyjson_normal.specs.Node.{Are, AreMembers}
 use Rattle.tinyjson_normal.specs.Walking.{holds_others, AreLeft, Advanced, AdvancesFrom, cost}
 use Rattle.tinyjson_normal.specs.declared.store.Span.{Span}
 use Rattle.tinyjson_normal.specs.declared.store.Node.{Node}

@@ -1,5 +1,6 @@
 -- What a walk has still to write, and how many steps that takes. For private contracts.
-use Rattle.std.specs.Prelude.{◌≡◌, ℕ, zero, suc, ◌+◌, ◌-◌, nat_eq, Bool, false, not, ◌&&◌, cond, codes, List, [], ◌∷◌, ◌++◌, Option, Result, MatchResult}
+use Rattle.std.specs.Prelude.{◌≡◌, ℕ, zero, suc, ◌+◌, ◌-◌, nat_eq, Bool, false, not, ◌&&◌, cond, codes, List, [], ◌∷◌, ◌++◌, Option, Result}
+use Rattle.std.specs.Prelude.{MatchResult}
 use Rattle.std.specs.Prelude.{length, reverse, encode_utf8_all}
 use Rattle.std.specs.List.{sum_by}
 use Rattle.tinyjson_number.specs.Text.{decimal_text}

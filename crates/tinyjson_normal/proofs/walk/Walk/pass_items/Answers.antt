@@ -50,8 +50,8 @@ loop-node-preserved g c =
           let k = c.len-level.result + 1 in
           let l : c.len-level.result ≡ length a.stack.items = omega (arith, a.stack.ok.0, c.len-level.ensures) in
           let p = c.loop-node.invariant.4 xs h in
-          let n = next_item (indent_of a.indent) a.store.now c.in-Some.node.now c.in-Some.others.now c.loop-node.rest.now c.loop-node.first _ k
-          p.left (one_more a.stack.items c.len-level.result l) c.in-Some.ensures.cases.0 p.are_left in
+          let n = next_item (indent_of a.indent) a.store.now c.in-Some.node.now c.in-Some.others.now c.loop-node.rest.now
+          c.loop-node.first _ k p.left (one_more a.stack.items c.len-level.result l) c.in-Some.ensures.cases.0 p.are_left in
           let leaf : holds_others c.in-Some.node.now ≡ false = sym c.holds_others.ensures ∙ c.if-holds_others.false in
           item_passed (indent_of a.indent) a.store.now xs _ _ _ _ _ k p n c.in_ok-separate.ensures
           (c.in_ok-write_leaf.ensures (indent_of a.indent) k n.tree leaf n.is),

@@ -70,7 +70,8 @@ loop-member-preserved g c =
           let p = c.loop-member.invariant.4 xs h in
           let n = next_member (indent_of a.indent) a.store.now c.in-Some.member.now c.in-Some.others.now c.loop-member.rest.now
           c.loop-member.first _ k p.left (one_more a.stack.items c.len-level.result l) c.in-Some.ensures.cases.0 p.are_left in
-          let key = subst (IsBytes n.key) (sym (c.part-key.ensures ∙ ap (λ z. part z c.in-Some.member.now.key) c.deref.ensures.value)) n.is_key in
+          let is = c.part-key.ensures ∙ ap (λ z. part z c.in-Some.member.now.key) c.deref.ensures.value in
+          let key = subst (IsBytes n.key) (sym is) n.is_key in
           let leaf : holds_others c.in-Some.member.now.value ≡ false = sym c.holds_others.ensures ∙ c.if-holds_others.false in
           member_passed (indent_of a.indent) a.store.now xs _ _ _ _ _ k p n c.in_ok-separate.ensures
           (c.in_ok-write_key.ensures n.key key) (c.in_ok-write_leaf.ensures (indent_of a.indent) k n.tree leaf n.is),

@@ -10,7 +10,8 @@ abbrev pub invariant-loop-member : goal.invariant-loop-member
 invariant-loop-member g l =
     (l.self.store ≡ l.fn.self.store) × (l.self.most ≡ l.fn.self.most) × (l.self.indent ≡ l.fn.self.indent)
     × (l.self.stack.items ≡ l.fn.self.stack.items)
-    × ((xs : List ℕ) → MembersLeft (indent_of l.fn.self.indent) l.fn.self.store.now l.fn.members l.fn.first (reverse l.fn.self.stack.items) xs
+    × ((xs : List ℕ) → MembersLeft (indent_of l.fn.self.indent) l.fn.self.store.now l.fn.members l.fn.first
+    (reverse l.fn.self.stack.items) xs
     → MembersPassed (indent_of l.fn.self.indent) l.fn.self.store.now (g.W.Write.contents l.fn.out, buffered l.fn.self.buffer)
     (g.W.Write.contents l.out, buffered l.self.buffer)
     xs l.rest l.first (reverse l.fn.self.stack.items))

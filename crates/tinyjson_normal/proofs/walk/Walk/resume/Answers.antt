@@ -18,5 +18,5 @@ returns-in-Members-clause-sent g c = λ xs h.
     let m = c.pass.new.self in
     let e = c.in_ok-rest.ensures in
     then_resumes s.indent m.indent s.store m.store _ _ _ xs c.in_ok-rest.rest (Members c.in-Members.rest c.in-Members.first) s.stack.items
-    m.stack.items (reverse c.resume_members.new.self.stack.items) c.resume_members.result e.indent e.store e.stack c.in-Members.is (e.sent xs h)
-    c.resume_members.ensures.sent
+    m.stack.items (reverse c.resume_members.new.self.stack.items) c.resume_members.result e.indent e.store e.stack c.in-Members.is
+    (e.sent xs h) c.resume_members.ensures.sent
