@@ -1,7 +1,7 @@
 -- The fronts of patterns' texts are their marks.
-use Rattle.std.proofs.Common.{◌≡◌, inl, inr, ℕ, zero, suc, ◌<◌, Bool, true, false, ◌&&◌, ◌==◌, cond, List, [], ◌∷◌, ◌++◌, length}
+use Rattle.std.proofs.Common.{◌≡◌, inl, inr, ℕ, zero, suc, ◌+◌, ◌*◌, ◌<◌, ◌≤◌, Bool, true, false, not, ◌&&◌, ◌||◌, ◌==◌, nat_le, cond, List, [], ◌∷◌, ◌++◌, length}
 use Rattle.std.proofs.Common.{Option, Some, None, option_map, refl, sym, ap, ◌∙◌, subst, arith, append_assoc, append-nil, true≢false, length-append}
-use Rattle.std.proofs.lemmas.Bool.{cond-true, cond-false, eqb-true, and_parts, not-true}
+use Rattle.std.proofs.lemmas.Bool.{cond-true, cond-false, eqb-true, and_parts, not-true, leb-true, le-leb}
 use Rattle.std.specs.Prelude.{option_and_then}
 use Rattle.i_regexp.specs.declared.class.Item.{Item}
 use Rattle.i_regexp.specs.declared.letter.Letter.{Letter}
@@ -12,9 +12,12 @@ use Rattle.i_regexp.specs.Grammar.{Token, characters, opened, closed, bar, quant
 use Rattle.i_regexp.specs.Levels.{IsFit}
 use Rattle.i_regexp.specs.PatternMachine.{IsFitMark}
 use Rattle.i_regexp.specs.Patterns as is
-use Rattle.i_regexp.specs.Patterns.{letter_items, named_letter, byte_of, unit_of, LetterText, ends_class, LettersText, class_items, Mark, start}
-use Rattle.i_regexp.specs.Patterns.{end, token, dot, is_normal, Spells, takes_question, begins_with_question, fits, Spelled}
-use Rattle.i_regexp.specs.PatternFronts.{literal_front, byte_front, unit_front, escape_front, letter_front, letters_step, letters_front}
+use Rattle.i_regexp.specs.Patterns.{letter_items, named_letter, hex_digit, byte_of, code_of, value_of, is_high, is_low, is_surrogate, scalar}
+use Rattle.i_regexp.specs.Patterns.{pair_of, control_of, LetterText, begins_with_digit, is_null, follows, ends_class, LettersText}
+use Rattle.i_regexp.specs.Patterns.{class_items, Mark, start, end, token, dot, is_normal, Spells, takes_question, begins_with_question, fits}
+use Rattle.i_regexp.specs.Patterns.{Spelled}
+use Rattle.i_regexp.specs.PatternFronts.{literal_front, byte_front, code_front, low_front, half_front, value_front, braced_front, unit_front}
+use Rattle.i_regexp.specs.PatternFronts.{control_front, null_front, escape_front, letter_front, letters_step, letters_front}
 use Rattle.i_regexp.specs.PatternFronts.{caret_front, class_of, class_from, class_front, silent, eager, repeat_front, letter_mark, token_mark}
 use Rattle.i_regexp.specs.PatternFronts.{sign_front, fitting, mark_front}
 use Rattle.i_regexp.proofs.Lexing.{cond_cases, then_cases, map_cases, none_some, some_same, not_equal, no_caret, front_sound, front_complete}
@@ -26,11 +29,13 @@ pub record LetterFront (xs : List ℕ) (x : Letter) (ys : List ℕ) : Type 0 whe
   pub cs : List ℕ
   pub split : xs ≡ cs ++ ys
   pub text : LetterText cs x
+  pub after : follows cs ys ≡ true
 
 record EscapeFront (xs : List ℕ) (x : Letter) (ys : List ℕ) : Type 0 where
   cs : List ℕ
   split : xs ≡ cs ++ ys
   text : LetterText (92 ∷ cs) x
+  after : follows (92 ∷ cs) ys ≡ true
 
 abbrev literal : List ℕ → ℕ → Letter × List ℕ
 literal cs n = (Literal n, cs)
@@ -44,20 +49,171 @@ byte_sound (a ∷ b ∷ cs) x ys e =
       cs = 120 ∷ a ∷ b ∷ [];
       split = ap (λ p. 120 ∷ a ∷ b ∷ p.1) m.2;
       text = subst (LetterText (92 ∷ 120 ∷ a ∷ b ∷ [])) (ap (λ p. p.0) m.2) (is.byte a b m.0 m.1);
+      after = refl;
     }
+
+record CodeFront (xs : List ℕ) (n : ℕ) (ys : List ℕ) : Type 0 where
+  a : ℕ
+  b : ℕ
+  c : ℕ
+  d : ℕ
+  split : xs ≡ a ∷ b ∷ c ∷ d ∷ ys
+  code : code_of a b c d ≡ Some n
+
+code_sound : (xs : List ℕ) (n : ℕ) (ys : List ℕ) → code_front xs ≡ Some (n, ys) → CodeFront xs n ys
+code_sound [] n ys e = none_some e
+code_sound (a ∷ []) n ys e = none_some e
+code_sound (a ∷ b ∷ []) n ys e = none_some e
+code_sound (a ∷ b ∷ c ∷ []) n ys e = none_some e
+code_sound (a ∷ b ∷ c ∷ d ∷ cs) n ys e =
+    let m = map_cases (λ k. let p : ℕ × List ℕ = (k, cs) in p) (code_of a b c d) (n, ys) e in
+    record {
+      a = a;
+      b = b;
+      c = c;
+      d = d;
+      split = ap (λ p. a ∷ b ∷ c ∷ d ∷ p.1) m.2;
+      code = m.1 ∙ ap (λ p. Some p.0) m.2;
+    }
+
+one_unit : (xs : List ℕ) (n : ℕ) (zs : List ℕ) (x : Letter) (ys : List ℕ) → CodeFront xs n zs
+    → literal_front zs (scalar n) ≡ Some (x, ys) → EscapeFront (117 ∷ xs) x ys
+one_unit xs n zs x ys f e =
+    let m = map_cases (literal zs) (scalar n) (x, ys) e in
+    record {
+      cs = 117 ∷ f.a ∷ f.b ∷ f.c ∷ f.d ∷ [];
+      split = ap (λ us. 117 ∷ us) f.split ∙ ap (λ p. 117 ∷ f.a ∷ f.b ∷ f.c ∷ f.d ∷ p.1) m.2;
+      text = subst (LetterText (92 ∷ 117 ∷ f.a ∷ f.b ∷ f.c ∷ f.d ∷ [])) (ap (λ p. p.0) m.2)
+          (is.unit f.a f.b f.c f.d n m.0 f.code m.1);
+      after = refl;
+    }
+
+two_units : (xs : List ℕ) (n : ℕ) (zs : List ℕ) (x : Letter) (ys : List ℕ) → CodeFront xs n zs
+    → low_front n zs ≡ Some (x, ys) → EscapeFront (117 ∷ xs) x ys
+two_units xs n [] x ys f e = none_some e
+two_units xs n (k ∷ []) x ys f e = none_some e
+two_units xs n (k ∷ l ∷ zs) x ys f e =
+    elim (cond_cases ((k == 92) && (l == 117)) _ _ (x, ys) e) [
+      | inl h ↦
+          let both = and_parts (k == 92) (l == 117) h.0 in
+          let t = then_cases (λ p. literal_front p.1 (pair_of n p.0)) (code_front zs) (x, ys) h.1 in
+          let g = code_sound zs t.0.0 t.0.1 t.1 in
+          let m = map_cases (literal t.0.1) (pair_of n t.0.0) (x, ys) t.2 in
+          record {
+            cs = 117 ∷ f.a ∷ f.b ∷ f.c ∷ f.d ∷ 92 ∷ 117 ∷ g.a ∷ g.b ∷ g.c ∷ g.d ∷ [];
+            split = ap (λ us. 117 ∷ us) f.split
+                ∙ (ap (λ y. 117 ∷ f.a ∷ f.b ∷ f.c ∷ f.d ∷ y ∷ l ∷ zs) (eqb-true k 92 both.0)
+                ∙ (ap (λ y. 117 ∷ f.a ∷ f.b ∷ f.c ∷ f.d ∷ 92 ∷ y ∷ zs) (eqb-true l 117 both.1)
+                ∙ (ap (λ us. 117 ∷ f.a ∷ f.b ∷ f.c ∷ f.d ∷ 92 ∷ 117 ∷ us) g.split
+                ∙ ap (λ p. 117 ∷ f.a ∷ f.b ∷ f.c ∷ f.d ∷ 92 ∷ 117 ∷ g.a ∷ g.b ∷ g.c ∷ g.d ∷ p.1) m.2)));
+            text = subst (LetterText (92 ∷ 117 ∷ f.a ∷ f.b ∷ f.c ∷ f.d ∷ 92 ∷ 117 ∷ g.a ∷ g.b ∷ g.c ∷ g.d ∷ [])) (ap (λ p. p.0) m.2)
+                (is.pair f.a f.b f.c f.d g.a g.b g.c g.d n t.0.0 m.0 f.code g.code m.1);
+            after = refl;
+          }
+      | inr h ↦ none_some h.1
+    ]
+
+half_sound : (xs : List ℕ) (n : ℕ) (zs : List ℕ) (x : Letter) (ys : List ℕ) → CodeFront xs n zs
+    → half_front (n, zs) ≡ Some (x, ys) → EscapeFront (117 ∷ xs) x ys
+half_sound xs n zs x ys f e =
+    elim (cond_cases (is_high n) _ _ (x, ys) e) [
+      | inl a ↦ two_units xs n zs x ys f a.1
+      | inr b ↦ one_unit xs n zs x ys f b.1
+    ]
+
+abbrev head_is : List ℕ → Bool
+head_is [] = false
+head_is (c ∷ cs) = c == 125
+
+record ValueFront (k : ℕ) (xs : List ℕ) (n : ℕ) (ys : List ℕ) : Type 0 where
+  ds : List ℕ
+  split : xs ≡ ds ++ 125 ∷ ys
+  value : value_of k ds ≡ Some n
+
+value_sound : (xs : List ℕ) (k n : ℕ) (ys : List ℕ) → value_front k xs ≡ Some (n, ys) → ValueFront k xs n ys
+value_sound [] k n ys e = none_some e
+value_sound (c ∷ cs) k n ys e =
+    elim (cond_cases (c == 125) _ _ (n, ys) e) [
+      | inl a ↦
+          let same = some_same a.1 in
+          record {
+            ds = [];
+            split = ap (λ d. d ∷ cs) (eqb-true c 125 a.0) ∙ ap (λ p. 125 ∷ p.1) same;
+            value = ap (λ p. Some p.0) same;
+          }
+      | inr b ↦
+          let t = then_cases (λ x. cond (nat_le (16 * k + x) 1114111) (value_front (16 * k + x) cs) None) (hex_digit c) (n, ys) b.1 in
+          elim (cond_cases (nat_le (16 * k + t.0) 1114111) _ _ (n, ys) t.2) [
+            | inl f ↦
+                let s = value_sound cs (16 * k + t.0) n ys f.1 in
+                record {
+                  ds = c ∷ s.ds;
+                  split = ap (λ us. c ∷ us) s.split;
+                  value = ap (option_and_then (λ x. value_of (16 * k + x) s.ds)) t.1 ∙ s.value;
+                }
+            | inr g ↦ none_some g.1
+          ]
+    ]
+
+braced_sound : (xs : List ℕ) (x : Letter) (ys : List ℕ) → braced_front xs ≡ Some (x, ys) → EscapeFront (117 ∷ 123 ∷ xs) x ys
+braced_sound [] x ys e = none_some e
+braced_sound (c ∷ cs) x ys e =
+    elim (cond_cases (c == 125) _ _ (x, ys) e) [
+      | inl a ↦ none_some a.1
+      | inr b ↦
+          let t = then_cases (λ p. literal_front p.1 (scalar p.0)) (value_front 0 (c ∷ cs)) (x, ys) b.1 in
+          let s = value_sound (c ∷ cs) 0 t.0.0 t.0.1 t.1 in
+          by b.0 s.ds t.0.0 t.0.1 s.split s.value t.2
+    ]
+  where
+    by : (c == 125) ≡ false → (ds : List ℕ) (m : ℕ) (zs : List ℕ) → c ∷ cs ≡ ds ++ 125 ∷ zs → value_of 0 ds ≡ Some m
+        → literal_front zs (scalar m) ≡ Some (x, ys) → EscapeFront (117 ∷ 123 ∷ c ∷ cs) x ys
+    by h [] m zs split v e = absurd (true≢false (sym (ap (λ us. head_is us) split) ∙ h))
+    by h (d ∷ ds) m zs split v e =
+        let k = map_cases (literal zs) (scalar m) (x, ys) e in
+        record {
+          cs = 117 ∷ 123 ∷ d ∷ (ds ++ 125 ∷ []);
+          split = ap (λ us. 117 ∷ 123 ∷ us) split
+              ∙ (sym (ap (λ us. 117 ∷ 123 ∷ d ∷ us) (append_assoc ds (125 ∷ []) zs))
+              ∙ ap (λ p. 117 ∷ 123 ∷ d ∷ ((ds ++ 125 ∷ []) ++ p.1)) k.2);
+          text = subst (LetterText (92 ∷ 117 ∷ 123 ∷ d ∷ (ds ++ 125 ∷ []))) (ap (λ p. p.0) k.2) (is.braced d ds m k.0 v k.1);
+          after = refl;
+        }
 
 unit_sound : (xs : List ℕ) (x : Letter) (ys : List ℕ) → unit_front xs ≡ Some (x, ys) → EscapeFront (117 ∷ xs) x ys
 unit_sound [] x ys e = none_some e
-unit_sound (a ∷ []) x ys e = none_some e
-unit_sound (a ∷ b ∷ []) x ys e = none_some e
-unit_sound (a ∷ b ∷ c ∷ []) x ys e = none_some e
-unit_sound (a ∷ b ∷ c ∷ d ∷ cs) x ys e =
-    let m = map_cases (literal cs) (unit_of a b c d) (x, ys) e in
+unit_sound (c ∷ cs) x ys e =
+    elim (cond_cases (c == 123) _ _ (x, ys) e) [
+      | inl a ↦ subst (λ d. EscapeFront (117 ∷ d ∷ cs) x ys) (sym (eqb-true c 123 a.0)) (braced_sound cs x ys a.1)
+      | inr b ↦
+          let t = then_cases half_front (code_front (c ∷ cs)) (x, ys) b.1 in
+          half_sound (c ∷ cs) t.0.0 t.0.1 x ys (code_sound (c ∷ cs) t.0.0 t.0.1 t.1) t.2
+    ]
+
+control_sound : (xs : List ℕ) (x : Letter) (ys : List ℕ) → control_front xs ≡ Some (x, ys) → EscapeFront (99 ∷ xs) x ys
+control_sound [] x ys e = none_some e
+control_sound (c ∷ cs) x ys e =
+    let m = map_cases (literal cs) (control_of c) (x, ys) e in
     record {
-      cs = 117 ∷ a ∷ b ∷ c ∷ d ∷ [];
-      split = ap (λ p. 117 ∷ a ∷ b ∷ c ∷ d ∷ p.1) m.2;
-      text = subst (LetterText (92 ∷ 117 ∷ a ∷ b ∷ c ∷ d ∷ [])) (ap (λ p. p.0) m.2) (is.unit a b c d m.0 m.1);
+      cs = 99 ∷ c ∷ [];
+      split = ap (λ p. 99 ∷ c ∷ p.1) m.2;
+      text = subst (LetterText (92 ∷ 99 ∷ c ∷ [])) (ap (λ p. p.0) m.2) (is.control c m.0 m.1);
+      after = refl;
     }
+
+null_sound : (xs : List ℕ) (x : Letter) (ys : List ℕ) → null_front xs ≡ Some (x, ys) → EscapeFront (48 ∷ xs) x ys
+null_sound xs x ys e =
+    elim (cond_cases (begins_with_digit xs) _ _ (x, ys) e) [
+      | inl a ↦ none_some a.1
+      | inr b ↦
+          let same = some_same b.1 in
+          record {
+            cs = 48 ∷ [];
+            split = ap (λ p. 48 ∷ p.1) same;
+            text = subst (LetterText (92 ∷ 48 ∷ [])) (ap (λ p. p.0) same) is.null;
+            after = ap (λ p. not (begins_with_digit p.1)) (sym same) ∙ ap not b.0;
+          }
+    ]
 
 escape_sound : (xs : List ℕ) (x : Letter) (ys : List ℕ) → escape_front xs ≡ Some (x, ys) → EscapeFront xs x ys
 escape_sound [] x ys e = none_some e
@@ -66,13 +222,20 @@ escape_sound (l ∷ cs) x ys e =
       | inl a ↦ subst (λ k. EscapeFront (k ∷ cs) x ys) (sym (eqb-true l 120 a.0)) (byte_sound cs x ys a.1)
       | inr b ↦ elim (cond_cases (l == 117) _ _ (x, ys) b.1) [
         | inl a ↦ subst (λ k. EscapeFront (k ∷ cs) x ys) (sym (eqb-true l 117 a.0)) (unit_sound cs x ys a.1)
-        | inr n ↦
-            let m = map_cases (λ y. let p : Letter × List ℕ = (y, cs) in p) (named_letter l) (x, ys) n.1 in
-            record {
-              cs = l ∷ [];
-              split = ap (λ p. l ∷ p.1) m.2;
-              text = subst (LetterText (92 ∷ l ∷ [])) (ap (λ p. p.0) m.2) (is.named l m.0 m.1);
-            }
+        | inr n ↦ elim (cond_cases (l == 99) _ _ (x, ys) n.1) [
+          | inl a ↦ subst (λ k. EscapeFront (k ∷ cs) x ys) (sym (eqb-true l 99 a.0)) (control_sound cs x ys a.1)
+          | inr o ↦ elim (cond_cases (l == 48) _ _ (x, ys) o.1) [
+            | inl a ↦ subst (λ k. EscapeFront (k ∷ cs) x ys) (sym (eqb-true l 48 a.0)) (null_sound cs x ys a.1)
+            | inr z ↦
+                let m = map_cases (λ y. let p : Letter × List ℕ = (y, cs) in p) (named_letter l) (x, ys) z.1 in
+                record {
+                  cs = l ∷ [];
+                  split = ap (λ p. l ∷ p.1) m.2;
+                  text = subst (LetterText (92 ∷ l ∷ [])) (ap (λ p. p.0) m.2) (is.named l m.0 m.1);
+                  after = ap (λ b. not (b && begins_with_digit ys)) z.0;
+                }
+          ]
+        ]
       ]
     ]
 
@@ -82,13 +245,19 @@ letter_sound (c ∷ cs) x ys e =
     elim (cond_cases (c == 92) _ _ (x, ys) e) [
       | inl a ↦
           let s = escape_sound cs x ys a.1 in
-          record { cs = 92 ∷ s.cs; split = ap (λ y. y ∷ cs) (eqb-true c 92 a.0) ∙ ap (λ zs. 92 ∷ zs) s.split; text = s.text }
+          record {
+            cs = 92 ∷ s.cs;
+            split = ap (λ y. y ∷ cs) (eqb-true c 92 a.0) ∙ ap (λ zs. 92 ∷ zs) s.split;
+            text = s.text;
+            after = s.after;
+          }
       | inr b ↦
           let same = some_same b.1 in
           record {
             cs = c ∷ [];
             split = ap (λ p. c ∷ p.1) same;
             text = subst (LetterText (c ∷ [])) (ap (λ p. p.0) same) (is.plain c b.0);
+            after = refl;
           }
     ]
 
@@ -99,19 +268,110 @@ named_not c k x n h = by (c == k) refl
     by true e = none_some (sym n ∙ (ap named_letter (sym (eqb-true c k e)) ∙ h))
     by false e = refl
 
-pub letter_complete : (cs : List ℕ) (x : Letter) → LetterText cs x → (ys : List ℕ) → letter_front (cs ++ ys) ≡ Some (x, ys)
-letter_complete cs x (is.plain c h) ys = cond-false (c == 92) _ _ h
-letter_complete cs x (is.named c y h) ys =
+-- a greater value comes of more digits
+value_grows : (ds : List ℕ) (k n : ℕ) → value_of k ds ≡ Some n → k ≤ n
+value_grows [] k n e = let same : k ≡ n = some_same e in omega arith
+value_grows (d ∷ ds) k n e =
+    let t = then_cases (λ x. value_of (16 * k + x) ds) (hex_digit d) n e in
+    let more = value_grows ds (16 * k + t.0) n t.2 in
+    omega arith
+
+no_brace : (c x : ℕ) → hex_digit c ≡ Some x → (c == 125) ≡ false
+no_brace c x h = by (c == 125) refl
+  where
+    by : (b : Bool) → (c == 125) ≡ b → b ≡ false
+    by true e = none_some (ap hex_digit (sym (eqb-true c 125 e)) ∙ h)
+    by false e = refl
+
+value_complete : (ds : List ℕ) (k n : ℕ) (ys : List ℕ) → value_of k ds ≡ Some n → n ≤ 1114111
+    → value_front k (ds ++ 125 ∷ ys) ≡ Some (n, ys)
+value_complete [] k n ys e l = ap (λ m. let o : Option (ℕ × List ℕ) = Some (m, ys) in o) (some_same e)
+value_complete (d ∷ ds) k n ys e l =
+    let t = then_cases (λ x. value_of (16 * k + x) ds) (hex_digit d) n e in
+    let more = value_grows ds (16 * k + t.0) n t.2 in
+    let small : nat_le (16 * k + t.0) 1114111 ≡ true = le-leb (16 * k + t.0) 1114111 (omega arith) in
+    cond-false (d == 125) _ _ (no_brace d t.0 t.1)
+    ∙ (ap (option_and_then (λ x. cond (nat_le (16 * k + x) 1114111) (value_front (16 * k + x) (ds ++ 125 ∷ ys)) None)) t.1
+    ∙ (cond-true (nat_le (16 * k + t.0) 1114111) _ _ small ∙ value_complete ds (16 * k + t.0) n ys t.2 l))
+
+-- a character is no half of a pair, and its code no greater than the last
+scalar_parts : (m n : ℕ) → scalar m ≡ Some n → (is_high m ≡ false) × (m ≤ 1114111)
+scalar_parts m n e = by (is_surrogate m) (nat_le m 1114111) refl refl e
+  where
+    high : (b : Bool) → is_high m ≡ b → is_surrogate m ≡ false → b ≡ false
+    high true h s =
+        let both = and_parts (nat_le 55296 m) (nat_le m 56319) h in
+        let low = leb-true m 56319 both.1 in
+        let whole : is_surrogate m ≡ true = ap (λ b. b && nat_le m 57343) both.0 ∙ le-leb m 57343 (omega arith) in
+        absurd (true≢false (sym whole ∙ s))
+    high false h s = refl
+
+    by : (s l : Bool) → is_surrogate m ≡ s → nat_le m 1114111 ≡ l → ◌≡◌ {A = Option ℕ} (cond (s || not l) None (Some m)) (Some n)
+        → (is_high m ≡ false) × (m ≤ 1114111)
+    by true l f g e = none_some e
+    by false true f g e = (high (is_high m) refl f, leb-true m 1114111 g)
+    by false false f g e = none_some e
+
+-- the value of four digits, the first of which has the value o
+abbrev code_by : Option ℕ → ℕ → ℕ → ℕ → Option ℕ
+code_by o b c d =
+    option_and_then (λ x. option_map (λ y. 256 * x + y) (byte_of c d)) (option_and_then (λ x. option_map (λ y. 16 * x + y) (hex_digit b)) o)
+
+no_digit : (a b c d m x : ℕ) → hex_digit x ≡ None → code_of a b c d ≡ Some m → (a == x) ≡ false
+no_digit a b c d m x n h = by (a == x) refl
+  where
+    by : (t : Bool) → (a == x) ≡ t → t ≡ false
+    by true e =
+        let same : hex_digit a ≡ None = ap hex_digit (eqb-true a x e) ∙ n in
+        none_some (sym (ap (λ o. code_by o b c d) same) ∙ h)
+    by false e = refl
+
+code_complete : (a b c d m : ℕ) (ys : List ℕ) → code_of a b c d ≡ Some m → unit_front (a ∷ b ∷ c ∷ d ∷ ys) ≡ half_front (m, ys)
+code_complete a b c d m ys h =
+    cond-false (a == 123) _ _ (no_digit a b c d m 123 refl h)
+    ∙ ap (λ o. option_and_then half_front (option_map (λ k. let p : ℕ × List ℕ = (k, ys) in p) o)) h
+
+pair_parts : (m n k : ℕ) → pair_of m n ≡ Some k → is_high m ≡ true
+pair_parts m n k e =
+    elim (cond_cases (is_high m && is_low n) _ _ k e) [
+      | inl a ↦ (and_parts (is_high m) (is_low n) a.0).0
+      | inr b ↦ none_some b.1
+    ]
+
+pub letter_complete : (cs : List ℕ) (x : Letter) → LetterText cs x → (ys : List ℕ) → follows cs ys ≡ true
+    → letter_front (cs ++ ys) ≡ Some (x, ys)
+letter_complete cs x (is.plain c h) ys f = cond-false (c == 92) _ _ h
+letter_complete cs x (is.named c y h) ys f =
     cond-false (c == 120) _ _ (named_not c 120 y refl h)
-    ∙ (cond-false (c == 117) _ _ (named_not c 117 y refl h) ∙ ap (option_map (λ z. let p : Letter × List ℕ = (z, ys) in p)) h)
-letter_complete cs x (is.byte a b n h) ys = ap (literal_front ys) h
-letter_complete cs x (is.unit a b c d n h) ys = ap (literal_front ys) h
+    ∙ (cond-false (c == 117) _ _ (named_not c 117 y refl h)
+    ∙ (cond-false (c == 99) _ _ (named_not c 99 y refl h)
+    ∙ (cond-false (c == 48) _ _ (named_not c 48 y refl h) ∙ ap (option_map (λ z. let p : Letter × List ℕ = (z, ys) in p)) h)))
+letter_complete cs x is.null ys f = cond-false (begins_with_digit ys) _ _ (not-true (begins_with_digit ys) f)
+letter_complete cs x (is.control c n h) ys f = ap (literal_front ys) h
+letter_complete cs x (is.byte a b n h) ys f = ap (literal_front ys) h
+letter_complete cs x (is.unit a b c d m n h k) ys f =
+    code_complete a b c d m ys h ∙ (cond-false (is_high m) _ _ (scalar_parts m n k).0 ∙ ap (literal_front ys) k)
+letter_complete cs x (is.pair a b c d e f g h k m n i j l) ys after =
+    code_complete a b c d k (92 ∷ 117 ∷ e ∷ f ∷ g ∷ h ∷ ys) i
+    ∙ (cond-true (is_high k) _ _ (pair_parts k m n l)
+    ∙ (ap (λ o. option_and_then (λ p. literal_front p.1 (pair_of k p.0)) (option_map (λ u. let p : ℕ × List ℕ = (u, ys) in p) o)) j
+    ∙ ap (literal_front ys) l))
+letter_complete cs x (is.braced d ds m n h k) ys f =
+    let t = then_cases (λ y. value_of (16 * 0 + y) ds) (hex_digit d) m h in
+    ap (λ us. braced_front (d ∷ us)) (append_assoc ds (125 ∷ []) ys)
+    ∙ (cond-false (d == 125) _ _ (no_brace d t.0 t.1)
+    ∙ (ap (option_and_then (λ p. literal_front p.1 (scalar p.0))) (value_complete (d ∷ ds) 0 m ys h (scalar_parts m n k).1)
+    ∙ ap (literal_front ys) k))
 
 letter_some : (cs : List ℕ) (x : Letter) → LetterText cs x → 0 < length cs
 letter_some cs x (is.plain c h) = omega arith
 letter_some cs x (is.named c y h) = omega arith
+letter_some cs x is.null = omega arith
+letter_some cs x (is.control c n h) = omega arith
 letter_some cs x (is.byte a b n h) = omega arith
-letter_some cs x (is.unit a b c d n h) = omega arith
+letter_some cs x (is.unit a b c d m n h k) = omega arith
+letter_some cs x (is.pair a b c d e f g h k m n i j l) = omega arith
+letter_some cs x (is.braced d ds m n h k) = omega arith
 
 pub letter_shorter : (xs : List ℕ) (x : Letter) (ys : List ℕ) → letter_front xs ≡ Some (x, ys) → length ys < length xs
 letter_shorter xs x ys e =
@@ -152,8 +412,17 @@ named_opens c =
 closing : (cs : List ℕ) (x : Letter) → LetterText cs x → ends_class x ≡ true → cs ≡ 93 ∷ []
 closing cs x (is.plain c h) e = ap (λ d. d ∷ []) (eqb-true c 93 e)
 closing cs x (is.named c y h) e = absurd (true≢false (sym e ∙ named_opens c y h))
+closing cs x is.null e = absurd (true≢false (sym e))
+closing cs x (is.control c n h) e = absurd (true≢false (sym e))
 closing cs x (is.byte a b n h) e = absurd (true≢false (sym e))
-closing cs x (is.unit a b c d n h) e = absurd (true≢false (sym e))
+closing cs x (is.unit a b c d m n h k) e = absurd (true≢false (sym e))
+closing cs x (is.pair a b c d f g h i k m n j l o) e = absurd (true≢false (sym e))
+closing cs x (is.braced d ds m n h k) e = absurd (true≢false (sym e))
+
+-- what follows a letter of a class may be its end, which is no digit
+follows_closed : (cs ds ys : List ℕ) → follows cs (ds ++ 93 ∷ ys) ≡ follows cs ds
+follows_closed cs [] ys = refl
+follows_closed cs (d ∷ ds) ys = refl
 
 record LettersFront (xs : List Letter) (cs : List ℕ) (zs : List Letter) (ys : List ℕ) : Type 0 where
   ds : List ℕ
@@ -184,7 +453,7 @@ letters_sound (suc n) xs cs zs ys e =
             ds = s.cs ++ h.ds;
             us = t.0.0 ∷ h.us;
             split = s.split ∙ (ap (λ ks. s.cs ++ ks) h.split ∙ sym (append_assoc s.cs h.ds (93 ∷ ys)));
-            text = is.more s.text b.0 h.text;
+            text = is.more s.text b.0 (sym (follows_closed s.cs h.ds ys) ∙ (ap (follows s.cs) (sym h.split) ∙ s.after)) h.text;
             whole = h.whole ∙ append_assoc xs (t.0.0 ∷ []) h.us;
           }
     ]
@@ -194,14 +463,14 @@ letters_complete : (ds : List ℕ) (us : List Letter) → LettersText ds us → 
 letters_complete ds us is.none zero xs ys l = absurd (omega arith)
 letters_complete ds us is.none (suc n) xs ys l =
     ap (λ vs. let o : Option (List Letter × List ℕ) = Some (vs, ys) in o) (sym (append-nil xs))
-letters_complete ds us (is.more t c k) zero xs ys l = absurd (omega arith)
-letters_complete ds us (is.more {cs = hs} {ds = ks} {x = x} {xs = vs} t c k) (suc n) xs ys l =
+letters_complete ds us (is.more t c f k) zero xs ys l = absurd (omega arith)
+letters_complete ds us (is.more {cs = hs} {ds = ks} {x = x} {xs = vs} t c f k) (suc n) xs ys l =
     let some = letter_some hs x t in
     let same : (hs ++ ks) ++ 93 ∷ ys ≡ hs ++ (ks ++ 93 ∷ ys) = append_assoc hs ks (93 ∷ ys) in
     let len : length ((hs ++ ks) ++ 93 ∷ ys) ≡ length (hs ++ (ks ++ 93 ∷ ys)) = ap length same in
     let sum = length-append hs (ks ++ 93 ∷ ys) in
     ap (letters_front (suc n) xs) same
-    ∙ (ap (option_and_then (letters_step (letters_front n) xs)) (letter_complete hs x t (ks ++ 93 ∷ ys))
+    ∙ (ap (option_and_then (letters_step (letters_front n) xs)) (letter_complete hs x t (ks ++ 93 ∷ ys) (follows_closed hs ks ys ∙ f))
     ∙ (cond-false (ends_class x) _ _ c
     ∙ (letters_complete ks vs k n (xs ++ x ∷ []) ys (omega arith)
     ∙ ap (λ ws. let o : Option (List Letter × List ℕ) = Some (ws, ys) in o) (append_assoc xs (x ∷ []) vs))))
@@ -253,6 +522,12 @@ pub record MarkFront (xs : List ℕ) (m : Mark) (ys : List ℕ) : Type 0 where
   pub split : xs ≡ cs ++ ys
   pub spelled : Spells cs m
   pub fit : IsFitMark m
+  pub after : follows cs ys ≡ true
+
+other_follows : (c : ℕ) (cs ys : List ℕ) → (c == 92) ≡ false → follows (c ∷ cs) ys ≡ true
+other_follows c [] ys h = refl
+other_follows c (d ∷ []) ys h = ap (λ b. not ((b && (d == 48)) && begins_with_digit ys)) h
+other_follows c (d ∷ e ∷ cs) ys h = refl
 
 sign : (c k : ℕ) (u m : Mark) (cs ys : List ℕ) → (c == k) ≡ true → ◌≡◌ {A = Option (Mark × List ℕ)} (Some (u, cs)) (Some (m, ys))
     → Spells (k ∷ []) u → IsFitMark u → MarkFront (c ∷ cs) m ys
@@ -263,6 +538,7 @@ sign c k u m cs ys h e s f =
       split = ap (λ y. y ∷ cs) (eqb-true c k h) ∙ ap (λ p. k ∷ p.1) same;
       spelled = subst (Spells (k ∷ [])) (ap (λ p. p.0) same) s;
       fit = subst IsFitMark (ap (λ p. p.0) same) f;
+      after = refl;
     }
 
 regroup_class : (hs cs ys : List ℕ) → 91 ∷ (hs ++ (cs ++ 93 ∷ ys)) ≡ (91 ∷ (hs ++ (cs ++ 93 ∷ []))) ++ ys
@@ -279,6 +555,7 @@ bracket_front negated hs xs t ys m zs h first e same =
       split = ap (λ us. 91 ∷ (hs ++ us)) k.split ∙ (regroup_class hs k.cs ys ∙ ap (λ p. (91 ∷ (hs ++ (k.cs ++ 93 ∷ []))) ++ p.1) same);
       spelled = subst (Spells (91 ∷ (hs ++ (k.cs ++ 93 ∷ [])))) whole (is.bracket h k.text (first k.cs ys k.split) k.items);
       fit = subst IsFitMark whole tt;
+      after = other_follows 91 (hs ++ (k.cs ++ 93 ∷ [])) zs refl;
     }
 
 no_caret_in : (c : ℕ) (xs cs ks : List ℕ) → (c == 94) ≡ false → c ∷ xs ≡ cs ++ 93 ∷ ks → begins_with_caret cs ≡ false
@@ -321,8 +598,34 @@ opened_sound (c ∷ d ∷ cs) m ys e = by ((c == 63) && (d == 58)) refl e
               ∙ (ap (λ x. 40 ∷ 63 ∷ x ∷ cs) (eqb-true d 58 both.1) ∙ ap (λ p. 40 ∷ 63 ∷ 58 ∷ p.1) same);
           spelled = subst (Spells (40 ∷ 63 ∷ 58 ∷ [])) (ap (λ p. p.0) same) is.opens_silently;
           fit = subst IsFitMark (ap (λ p. p.0) same) tt;
+          after = refl;
         }
     by false h e = sign 40 40 (token opened) m (c ∷ d ∷ cs) ys refl e is.opens tt
+
+quantifier_follows : (cs : List ℕ) (t : Token) (least : ℕ) (most : Option ℕ) → regexp.Spells cs t → t ≡ quantifier least most
+    → (zs ys : List ℕ) → follows (cs ++ zs) ys ≡ true
+quantifier_follows cs t least most regexp.opens e zs ys = cc
+quantifier_follows cs t least most regexp.closes e zs ys = cc
+quantifier_follows cs t least most regexp.parts e zs ys = cc
+quantifier_follows cs t least most (regexp.normal c h) e zs ys = cc
+quantifier_follows cs t least most regexp.dot e zs ys = cc
+quantifier_follows cs t least most (regexp.escaped l c h) e zs ys = cc
+quantifier_follows cs t least most (regexp.category c) e zs ys = cc
+quantifier_follows cs t least most (regexp.bracket a b c d f) e zs ys = cc
+quantifier_follows cs t least most regexp.star e zs ys = other_follows 42 zs ys refl
+quantifier_follows cs t least most regexp.plus e zs ys = other_follows 43 zs ys refl
+quantifier_follows cs t least most regexp.question e zs ys = other_follows 63 zs ys refl
+quantifier_follows cs t least most (regexp.exactly c ds h k) e zs ys =
+    other_follows 123 ((c ∷ (ds ++ 125 ∷ [])) ++ zs) ys refl
+quantifier_follows cs t least most (regexp.at_least c ds h k) e zs ys =
+    other_follows 123 ((c ∷ (ds ++ 44 ∷ 125 ∷ [])) ++ zs) ys refl
+quantifier_follows cs t least most (regexp.between c cs' d ds h k l m n) e zs ys =
+    other_follows 123 ((c ∷ (cs' ++ 44 ∷ d ∷ (ds ++ 125 ∷ []))) ++ zs) ys refl
+
+greedy_follows : (cs : List ℕ) (least : ℕ) (most : Option ℕ) → regexp.Spells cs (quantifier least most) → (ys : List ℕ)
+    → follows cs ys ≡ true
+greedy_follows cs least most s ys =
+    ap (λ us. follows us ys) (sym (append-nil cs)) ∙ quantifier_follows cs (quantifier least most) least most s refl [] ys
 
 quantifier_sound : (xs : List ℕ) (least : ℕ) (most : Option ℕ) (cs zs : List ℕ) (m : Mark) (ys : List ℕ) → xs ≡ cs ++ zs
     → regexp.Spells cs (quantifier least most) → IsFit (quantifier least most)
@@ -334,6 +637,7 @@ quantifier_sound xs least most cs [] m ys split s f e =
       split = split ∙ ap (λ p. cs ++ p.1) same;
       spelled = subst (Spells cs) (ap (λ p. p.0) same) (is.greedy s);
       fit = subst IsFitMark (ap (λ p. p.0) same) f;
+      after = greedy_follows cs least most s ys;
     }
 quantifier_sound xs least most cs (d ∷ zs) m ys split s f e = by (d == 63) refl e
   where
@@ -347,6 +651,7 @@ quantifier_sound xs least most cs (d ∷ zs) m ys split s f e = by (d == 63) ref
               ∙ (sym (append_assoc cs (63 ∷ []) zs) ∙ ap (λ p. (cs ++ 63 ∷ []) ++ p.1) same));
           spelled = subst (Spells (cs ++ 63 ∷ [])) (ap (λ p. p.0) same) (is.lazy s);
           fit = subst IsFitMark (ap (λ p. p.0) same) f;
+          after = quantifier_follows cs (quantifier least most) least most s refl (63 ∷ []) ys;
         }
     by false h e =
         let same = some_same e in
@@ -355,6 +660,7 @@ quantifier_sound xs least most cs (d ∷ zs) m ys split s f e = by (d == 63) ref
           split = split ∙ ap (λ p. cs ++ p.1) same;
           spelled = subst (Spells cs) (ap (λ p. p.0) same) (is.greedy s);
           fit = subst IsFitMark (ap (λ p. p.0) same) f;
+          after = greedy_follows cs least most s ys;
         }
 
 repeat_sound : (xs : List ℕ) (m : Mark) (ys : List ℕ) → option_and_then repeat_front (token_front xs) ≡ Some (m, ys) → MarkFront xs m ys
@@ -380,6 +686,7 @@ escaped_sound cs m ys e =
       split = ap (λ zs. 92 ∷ zs) s.split ∙ ap (λ p. 92 ∷ (s.cs ++ p.1)) k.2;
       spelled = subst (Spells (92 ∷ s.cs)) (ap (λ p. p.0) k.2) (is.escape s.text);
       fit = subst IsFitMark (ap (λ p. p.0) k.2) tt;
+      after = subst (λ us. follows (92 ∷ s.cs) us ≡ true) (ap (λ p. p.1) k.2) s.after;
     }
 
 normal_sound : (c : ℕ) (cs : List ℕ) (m : Mark) (ys : List ℕ) → is_normal c ≡ true
@@ -391,6 +698,7 @@ normal_sound c cs m ys h e =
       split = ap (λ p. c ∷ p.1) same;
       spelled = subst (Spells (c ∷ [])) (ap (λ p. p.0) same) (is.normal c h);
       fit = subst IsFitMark (ap (λ p. p.0) same) tt;
+      after = refl;
     }
 
 at : (c k : ℕ) (cs : List ℕ) (m : Mark) (ys : List ℕ) → (c == k) ≡ true → MarkFront (k ∷ cs) m ys → MarkFront (c ∷ cs) m ys
@@ -480,15 +788,16 @@ regroup_bracket hs cs ys = simp append_assoc
 with_rest : (m : Mark) (xs ys : List ℕ) → xs ≡ ys → ◌≡◌ {A = Option (Mark × List ℕ)} (Some (m, xs)) (Some (m, ys))
 with_rest m xs ys e = ap (λ zs. let o : Option (Mark × List ℕ) = Some (m, zs) in o) e
 
-sign_complete : (cs : List ℕ) (m : Mark) → Spells cs m → (ys : List ℕ) → fits m ys ≡ true → sign_front (cs ++ ys) ≡ Some (m, ys)
-sign_complete cs m is.begins ys f = refl
-sign_complete cs m is.finishes ys f = refl
-sign_complete cs m is.opens ys f = with_rest (token opened) (silent ys) ys (silent_other ys (not-true (begins_with_question ys) f))
-sign_complete cs m is.opens_silently ys f = refl
-sign_complete cs m is.closes ys f = refl
-sign_complete cs m is.parts ys f = refl
-sign_complete cs m is.any ys f = refl
-sign_complete cs m (is.normal c h) ys f =
+sign_complete : (cs : List ℕ) (m : Mark) → Spells cs m → (ys : List ℕ) → fits m ys ≡ true → follows cs ys ≡ true
+    → sign_front (cs ++ ys) ≡ Some (m, ys)
+sign_complete cs m is.begins ys f after = refl
+sign_complete cs m is.finishes ys f after = refl
+sign_complete cs m is.opens ys f after = with_rest (token opened) (silent ys) ys (silent_other ys (not-true (begins_with_question ys) f))
+sign_complete cs m is.opens_silently ys f after = refl
+sign_complete cs m is.closes ys f after = refl
+sign_complete cs m is.parts ys f after = refl
+sign_complete cs m is.any ys f after = refl
+sign_complete cs m (is.normal c h) ys f after =
     cond-false (c == 94) _ _ (not_equal c 94 [] (36 ∷ 40 ∷ 41 ∷ 124 ∷ 46 ∷ 92 ∷ 91 ∷ 42 ∷ 43 ∷ 63 ∷ 123 ∷ 93 ∷ 125 ∷ []) h)
     ∙ (cond-false (c == 36) _ _ (not_equal c 36 (94 ∷ []) (40 ∷ 41 ∷ 124 ∷ 46 ∷ 92 ∷ 91 ∷ 42 ∷ 43 ∷ 63 ∷ 123 ∷ 93 ∷ 125 ∷ []) h)
     ∙ (cond-false (c == 40) _ _ (not_equal c 40 (94 ∷ 36 ∷ []) (41 ∷ 124 ∷ 46 ∷ 92 ∷ 91 ∷ 42 ∷ 43 ∷ 63 ∷ 123 ∷ 93 ∷ 125 ∷ []) h)
@@ -498,18 +807,19 @@ sign_complete cs m (is.normal c h) ys f =
     ∙ (cond-false (c == 92) _ _ (not_equal c 92 (94 ∷ 36 ∷ 40 ∷ 41 ∷ 124 ∷ 46 ∷ []) (91 ∷ 42 ∷ 43 ∷ 63 ∷ 123 ∷ 93 ∷ 125 ∷ []) h)
     ∙ (cond-false (c == 91) _ _ (not_equal c 91 (94 ∷ 36 ∷ 40 ∷ 41 ∷ 124 ∷ 46 ∷ 92 ∷ []) (42 ∷ 43 ∷ 63 ∷ 123 ∷ 93 ∷ 125 ∷ []) h)
     ∙ cond-true (is_normal c) _ _ h)))))))
-sign_complete cs m (is.escape {cs = ds} {x = x} t) ys f = ap (option_map letter_mark) (letter_complete (92 ∷ ds) x t ys)
-sign_complete cs m (is.bracket {hs = hs} {cs = ds} {negated = negated} {xs = xs} {is = js} h t first e) ys f =
+sign_complete cs m (is.escape {cs = ds} {x = x} t) ys f after = ap (option_map letter_mark) (letter_complete (92 ∷ ds) x t ys after)
+sign_complete cs m (is.bracket {hs = hs} {cs = ds} {negated = negated} {xs = xs} {is = js} h t first e) ys f after =
     ap (λ zs. option_map token_mark (class_front zs)) (regroup_bracket hs ds ys)
     ∙ ap (option_map token_mark) (class_complete hs negated ds xs js ys h t first e)
-sign_complete cs m (is.greedy {least = least} {most = most} s) ys f =
+sign_complete cs m (is.greedy {least = least} {most = most} s) ys f after =
     repeat_complete cs least most s ys
     ∙ with_rest (token (quantifier least most)) (eager ys) ys (eager_other ys (not-true (begins_with_question ys) f))
-sign_complete cs m (is.lazy {cs = ds} {least = least} {most = most} s) ys f =
+sign_complete cs m (is.lazy {cs = ds} {least = least} {most = most} s) ys f after =
     ap sign_front (append_assoc ds (63 ∷ []) ys) ∙ repeat_complete ds least most s (63 ∷ ys)
 
-pub mark_complete : (cs : List ℕ) (m : Mark) → Spells cs m → (ys : List ℕ) → fits m ys ≡ true → mark_front (cs ++ ys) ≡ Some (m, ys)
-mark_complete cs m s ys f = ap (option_and_then fitting) (sign_complete cs m s ys f) ∙ cond-true (fits m ys) _ _ f
+pub mark_complete : (cs : List ℕ) (m : Mark) → Spells cs m → (ys : List ℕ) → fits m ys ≡ true → follows cs ys ≡ true
+    → mark_front (cs ++ ys) ≡ Some (m, ys)
+mark_complete cs m s ys f after = ap (option_and_then fitting) (sign_complete cs m s ys f after) ∙ cond-true (fits m ys) _ _ f
 
 pub mark_some : (cs : List ℕ) (m : Mark) → Spells cs m → 0 < length cs
 mark_some cs m is.begins = omega arith

@@ -14,7 +14,7 @@ use Rattle.i_regexp.specs.Grammar.{opened}
 use Rattle.i_regexp.specs.Levels.{advance, state_size}
 use Rattle.i_regexp.specs.Limits.{depth_limit, size_limit, LargeCount, begins_group, ends_group}
 use Rattle.i_regexp.specs.Patterns as is
-use Rattle.i_regexp.specs.Patterns.{Mark, start, end, token, Spells, fits, Spelled, Pattern, pattern_marks, IsText, IsSmall, AreSmall}
+use Rattle.i_regexp.specs.Patterns.{Mark, start, end, token, Spells, fits, follows, Spelled, Pattern, pattern_marks, IsText, IsSmall, AreSmall}
 use Rattle.i_regexp.specs.PatternFronts.{mark_of, mark_front}
 use Rattle.i_regexp.specs.PatternMachine.{PatternState, initial, no_levels, is_unread, is_bar, pattern_in, with_state, advance_mark, run_marks}
 use Rattle.i_regexp.specs.PatternMachine.{pattern_form, AgreesAt, TakesMark, Finishes, part_in}
@@ -43,11 +43,11 @@ pub lexes_spelled : {xs zs : List ℕ} {ms : List Mark} → Lexes xs ms zs → z
 lexes_spelled stop e = subst (λ xs. Spelled xs []) (sym e) is.none
 lexes_spelled (go {xs} {ys} {zs} {m} {ms} f k) e =
     let s = mark_sound xs m ys f in
-    subst (λ cs. Spelled cs (m ∷ ms)) (sym s.0.split) (is.more s.0.spelled s.1 (lexes_spelled k e))
+    subst (λ cs. Spelled cs (m ∷ ms)) (sym s.0.split) (is.more s.0.spelled s.1 s.0.after (lexes_spelled k e))
 
 pub spelled_lexes : {xs : List ℕ} {ms : List Mark} → Spelled xs ms → Lexes xs ms []
 spelled_lexes is.none = stop
-spelled_lexes (is.more {cs} {ds} {m} {ms} s f k) = go (mark_complete cs m s ds f) (spelled_lexes k)
+spelled_lexes (is.more {cs} {ds} {m} {ms} s f a k) = go (mark_complete cs m s ds f a) (spelled_lexes k)
 
 record Rest (us ms : List Mark) (ys : List ℕ) : Type 0 where
   rest : List Mark
@@ -273,13 +273,20 @@ record Front (text : List ℕ) (marks : List Mark) (rest : List ℕ) : Type 0 wh
   split : text ≡ cs ++ rest
   spelled : Spelled cs marks
 
+nothing_behind : (b : Bool) → not (b && false) ≡ true
+nothing_behind true = refl
+nothing_behind false = refl
+
 fits_front : (m : Mark) (xs ys : List ℕ) → fits m (xs ++ ys) ≡ true → fits m xs ≡ true
-fits_front m [] ys h = no_question (is.takes_question m)
-  where
-    no_question : (b : Bool) → not (b && false) ≡ true
-    no_question true = refl
-    no_question false = refl
-fits_front m (x ∷ xs) ys h = h
+fits_front start xs ys h = refl
+fits_front end [] ys h = refl
+fits_front end (x ∷ xs) ys h = h
+fits_front (token t) [] ys h = nothing_behind (is.takes_question (token t))
+fits_front (token t) (x ∷ xs) ys h = h
+
+follows_front : (cs xs ys : List ℕ) → follows cs (xs ++ ys) ≡ true → follows cs xs ≡ true
+follows_front cs [] ys h = nothing_behind (is.is_null cs)
+follows_front cs (x ∷ xs) ys h = h
 
 front_of : {xs zs : List ℕ} {ms : List Mark} → Lexes xs ms zs → Front xs ms zs
 front_of stop = record { cs = []; split = refl; spelled = is.none }
@@ -289,7 +296,8 @@ front_of (go {xs} {ys} {zs} {m} {ms} e k) =
     record {
       cs = s.0.cs ++ f.cs;
       split = s.0.split ∙ (ap (λ us. s.0.cs ++ us) f.split ∙ sym (append_assoc s.0.cs f.cs zs));
-      spelled = is.more s.0.spelled (fits_front m f.cs zs (subst (λ us. fits m us ≡ true) f.split s.1)) f.spelled;
+      spelled = is.more s.0.spelled (fits_front m f.cs zs (subst (λ us. fits m us ≡ true) f.split s.1))
+          (follows_front s.0.cs f.cs zs (subst (λ us. follows s.0.cs us ≡ true) f.split s.0.after)) f.spelled;
     }
 
 pub refused : (text rest : List ℕ) (b : Branches) (e : IRegexpError) (r : Reading text rest b)

@@ -1,5 +1,5 @@
 -- What stands at the front of a pattern's text, and what follows it; only private contracts use these words.
-use Rattle.std.specs.Prelude.{◌≡◌, ℕ, zero, suc, Bool, true, false, ◌&&◌, ◌==◌, cond, List, [], ◌∷◌, ◌++◌, length, Option, Some, None}
+use Rattle.std.specs.Prelude.{◌≡◌, ℕ, zero, suc, ◌+◌, ◌*◌, Bool, true, false, ◌&&◌, ◌==◌, nat_le, cond, List, [], ◌∷◌, ◌++◌, length, Option, Some, None}
 use Rattle.std.specs.Prelude.{option_map, option_and_then, Result, Ok, Err}
 use Rattle.std.specs.Borrow.{Bor}
 use Rattle.std.specs.declared.alloc.Global.{Global}
@@ -7,7 +7,7 @@ use Rattle.std.specs.declared.vec.Vec.{Vec}
 use Rattle.i_regexp.specs.declared.error.IRegexpErrorKind.{IRegexpErrorKind}
 use Rattle.i_regexp.specs.declared.error.IRegexpErrorKind.TheVariants as kind
 use Rattle.i_regexp.specs.Characters.{left_parenthesis, right_parenthesis, vertical_bar, question_mark, full_stop, left_bracket, circumflex}
-use Rattle.i_regexp.specs.Characters.{reverse_solidus}
+use Rattle.i_regexp.specs.Characters.{reverse_solidus, left_brace, right_brace, digit_zero}
 use Rattle.i_regexp.specs.declared.class.Item.{Item}
 use Rattle.i_regexp.specs.declared.letter.Letter.{Letter}
 use Rattle.i_regexp.specs.declared.letter.Letter.TheVariants.{Plain, Literal}
@@ -15,7 +15,8 @@ use Rattle.i_regexp.specs.declared.mark.Mark.TheVariants as code
 use Rattle.i_regexp.specs.declared.mark.Mark.{Mark as CodeMark}
 use Rattle.i_regexp.specs.Fronts.{token_of, token_front}
 use Rattle.i_regexp.specs.Grammar.{Token, characters, opened, closed, bar, quantifier, one}
-use Rattle.i_regexp.specs.Patterns.{dollar_sign, colon, letter_x, letter_u, letter_items, named_letter, byte_of, unit_of}
+use Rattle.i_regexp.specs.Patterns.{dollar_sign, colon, letter_c, letter_x, letter_u, letter_items, named_letter, hex_digit, byte_of}
+use Rattle.i_regexp.specs.Patterns.{code_of, is_high, scalar, pair_of, control_of, begins_with_digit}
 use Rattle.i_regexp.specs.Patterns.{ends_class, is_dash, class_items, Mark, start, end, token, dot, is_normal, fits}
 
 -- a mark of the code
@@ -33,18 +34,56 @@ byte_front [] = None
 byte_front (a ∷ []) = None
 byte_front (a ∷ b ∷ cs) = literal_front cs (byte_of a b)
 
+-- the code of four digits
+abbrev pub code_front : List ℕ → Option (ℕ × List ℕ)
+code_front [] = None
+code_front (a ∷ []) = None
+code_front (a ∷ b ∷ []) = None
+code_front (a ∷ b ∷ c ∷ []) = None
+code_front (a ∷ b ∷ c ∷ d ∷ cs) = option_map (λ n. (n, cs)) (code_of a b c d)
+
+-- the second half of a pair behind its first, m
+abbrev pub low_front : ℕ → List ℕ → Option (Letter × List ℕ)
+low_front m [] = None
+low_front m (c ∷ []) = None
+low_front m (c ∷ d ∷ cs) =
+    cond ((c == reverse_solidus) && (d == letter_u)) (option_and_then (λ p. literal_front p.1 (pair_of m p.0)) (code_front cs)) None
+
+-- what a code begins
+abbrev pub half_front : ℕ × List ℕ → Option (Letter × List ℕ)
+half_front p = cond (is_high p.0) (low_front p.0 p.1) (literal_front p.1 (scalar p.0))
+
+-- the value of the digits up to a brace, behind others that have the value n, if it is no greater than the last code
+abbrev pub value_front : ℕ → List ℕ → Option (ℕ × List ℕ)
+value_front n [] = None
+value_front n (c ∷ cs) =
+    cond (c == right_brace) (Some (n, cs))
+    (option_and_then (λ x. cond (nat_le (16 * n + x) 1114111) (value_front (16 * n + x) cs) None) (hex_digit c))
+
+-- a code behind a brace
+abbrev pub braced_front : List ℕ → Option (Letter × List ℕ)
+braced_front [] = None
+braced_front (c ∷ cs) =
+    cond (c == right_brace) None (option_and_then (λ p. literal_front p.1 (scalar p.0)) (value_front 0 (c ∷ cs)))
+
 abbrev pub unit_front : List ℕ → Option (Letter × List ℕ)
 unit_front [] = None
-unit_front (a ∷ []) = None
-unit_front (a ∷ b ∷ []) = None
-unit_front (a ∷ b ∷ c ∷ []) = None
-unit_front (a ∷ b ∷ c ∷ d ∷ cs) = literal_front cs (unit_of a b c d)
+unit_front (c ∷ cs) = cond (c == left_brace) (braced_front cs) (option_and_then half_front (code_front (c ∷ cs)))
+
+-- what stands behind `\c` and `\0`
+abbrev pub control_front : List ℕ → Option (Letter × List ℕ)
+control_front [] = None
+control_front (c ∷ cs) = literal_front cs (control_of c)
+
+abbrev pub null_front : List ℕ → Option (Letter × List ℕ)
+null_front cs = cond (begins_with_digit cs) None (Some (Literal 0, cs))
 
 -- what stands behind a backslash
 abbrev pub escape_front : List ℕ → Option (Letter × List ℕ)
 escape_front [] = None
 escape_front (l ∷ cs) =
-    cond (l == letter_x) (byte_front cs) (cond (l == letter_u) (unit_front cs) (option_map (λ x. (x, cs)) (named_letter l)))
+    cond (l == letter_x) (byte_front cs) (cond (l == letter_u) (unit_front cs) (cond (l == letter_c) (control_front cs)
+    (cond (l == digit_zero) (null_front cs) (option_map (λ x. (x, cs)) (named_letter l)))))
 
 abbrev pub letter_front : List ℕ → Option (Letter × List ℕ)
 letter_front [] = None

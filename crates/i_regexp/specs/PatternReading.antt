@@ -76,9 +76,9 @@ ReadsTree cs (Err e) = Refused cs e
 
 -- ---- patterns that were read
 
--- the letters behind a backslash of what ECMA-262 has besides: \b \B \k \p \P \c \u and digits
+-- the letters behind a backslash of what ECMA-262 has besides: \b \B \k \p \P \u and digits
 abbrev pub is_other_escape : ℕ → Bool
-is_other_escape c = is_digit c || is_one_of (98 ∷ 66 ∷ 107 ∷ letter_p ∷ capital_p ∷ 99 ∷ letter_u ∷ []) c
+is_other_escape c = is_digit c || is_one_of (98 ∷ 66 ∷ 107 ∷ letter_p ∷ capital_p ∷ letter_u ∷ []) c
 
 -- whether something begins the text that ECMA-262 has and these patterns have not, or not everywhere: `^`, `$`, a group that begins with
 -- `(?`, as a look-around, or an escape, as a back-reference

@@ -3,7 +3,7 @@ use Rattle.std.specs.Prelude.{◌≡◌, ℕ, ◌+◌, ◌-◌, ◌*◌, Bool, t
 use Rattle.std.specs.Prelude.{Option, Some, None, option_map, option_and_then, map, ◌≤◌}
 use Rattle.i_regexp.specs.Characters.{left_parenthesis, right_parenthesis, vertical_bar, asterisk, plus_sign, question_mark, left_brace}
 use Rattle.i_regexp.specs.Characters.{right_brace, full_stop, left_bracket, circumflex, hyphen, right_bracket, reverse_solidus, line_feed}
-use Rattle.i_regexp.specs.Characters.{carriage_return, letter_n, letter_r, letter_t, horizontal_tab}
+use Rattle.i_regexp.specs.Characters.{carriage_return, letter_n, letter_r, letter_t, horizontal_tab, digit_zero}
 use Rattle.i_regexp.specs.declared.class.Item.{Item}
 use Rattle.i_regexp.specs.declared.class.Item.TheVariants.{Range}
 use Rattle.i_regexp.specs.declared.letter.Letter.{Letter}
@@ -11,7 +11,8 @@ use Rattle.i_regexp.specs.declared.letter.Letter.TheVariants.{Plain, Literal, Na
 use Rattle.i_regexp.specs.declared.letter.Set.{Set}
 use Rattle.i_regexp.specs.declared.letter.Set.TheVariants as set
 use Rattle.i_regexp.specs.Forms.{Matches}
-use Rattle.i_regexp.specs.Grammar.{Token, characters, opened, closed, bar, quantifier, one, is_one_of, CaretText, begins_with_caret}
+use Rattle.i_regexp.specs.Grammar.{Token, characters, opened, closed, bar, quantifier, one, is_one_of, is_digit}
+use Rattle.i_regexp.specs.Grammar.{CaretText, begins_with_caret}
 use Rattle.i_regexp.specs.Grammar as regexp
 use Rattle.i_regexp.specs.Grammar.{Branch, branch_tokens, branch_form}
 use Rattle.i_regexp.specs.Limits.{size_limit, branch_size}
@@ -26,6 +27,9 @@ abbrev pub colon : ℕ
 colon = 58
 
 -- the letters of escapes that give the code of a character
+abbrev pub letter_c : ℕ
+letter_c = 99
+
 abbrev pub letter_x : ℕ
 letter_x = 120
 
@@ -75,25 +79,63 @@ hex_digit c =
 abbrev pub byte_of : ℕ → ℕ → Option ℕ
 byte_of a b = option_and_then (λ x. option_map (λ y. 16 * x + y) (hex_digit b)) (hex_digit a)
 
--- half of a pair of UTF-16, which is no character
+-- the value of four of them
+abbrev pub code_of : ℕ → ℕ → ℕ → ℕ → Option ℕ
+code_of a b c d = option_and_then (λ x. option_map (λ y. 256 * x + y) (byte_of c d)) (byte_of a b)
+
+-- the value of any number of them, behind others that have the value n
+abbrev pub value_of : ℕ → List ℕ → Option ℕ
+value_of n [] = Some n
+value_of n (c ∷ cs) = option_and_then (λ x. value_of (16 * n + x) cs) (hex_digit c)
+
+-- the first or the second half of a pair of UTF-16, or either, which is no character
+abbrev pub is_high : ℕ → Bool
+is_high n = nat_le 55296 n && nat_le n 56319
+
+abbrev pub is_low : ℕ → Bool
+is_low n = nat_le 56320 n && nat_le n 57343
+
 abbrev pub is_surrogate : ℕ → Bool
 is_surrogate n = nat_le 55296 n && nat_le n 57343
 
 -- the character of which this is the code
 abbrev pub scalar : ℕ → Option ℕ
-scalar n = cond (is_surrogate n) None (Some n)
+scalar n = cond (is_surrogate n || not (nat_le n 1114111)) None (Some n)
 
--- the character of which four hexadecimal digits are the code
-abbrev pub unit_of : ℕ → ℕ → ℕ → ℕ → Option ℕ
-unit_of a b c d =
-    option_and_then (λ x. option_and_then (λ y. scalar (256 * x + y)) (byte_of c d)) (byte_of a b)
+-- the character of which two codes are the halves
+abbrev pub pair_of : ℕ → ℕ → Option ℕ
+pair_of m n = cond (is_high m && is_low n) (Some (1024 * (m - 55296) + (n - 56320) + 65536)) None
+
+-- the control character of a letter of ASCII, by the last five bits of the letter
+abbrev pub control_of : ℕ → Option ℕ
+control_of c = cond (nat_le 65 c && nat_le c 90) (Some (c - 64)) (cond (nat_le 97 c && nat_le c 122) (Some (c - 96)) None)
 
 -- the text is this letter: a character that stands for itself, or an escape
 pub data LetterText : List ℕ → Letter → Type 0 where
   plain : (c : ℕ) → (c == reverse_solidus) ≡ false → LetterText (c ∷ []) (Plain c)
   named : (c : ℕ) (x : Letter) → named_letter c ≡ Some x → LetterText (reverse_solidus ∷ c ∷ []) x
+  null : LetterText (reverse_solidus ∷ digit_zero ∷ []) (Literal 0)
+  control : (c n : ℕ) → control_of c ≡ Some n → LetterText (reverse_solidus ∷ letter_c ∷ c ∷ []) (Literal n)
   byte : (a b n : ℕ) → byte_of a b ≡ Some n → LetterText (reverse_solidus ∷ letter_x ∷ a ∷ b ∷ []) (Literal n)
-  unit : (a b c d n : ℕ) → unit_of a b c d ≡ Some n → LetterText (reverse_solidus ∷ letter_u ∷ a ∷ b ∷ c ∷ d ∷ []) (Literal n)
+  unit : (a b c d m n : ℕ) → code_of a b c d ≡ Some m → scalar m ≡ Some n
+      → LetterText (reverse_solidus ∷ letter_u ∷ a ∷ b ∷ c ∷ d ∷ []) (Literal n)
+  pair : (a b c d e f g h k m n : ℕ) → code_of a b c d ≡ Some k → code_of e f g h ≡ Some m → pair_of k m ≡ Some n
+      → LetterText (reverse_solidus ∷ letter_u ∷ a ∷ b ∷ c ∷ d ∷ reverse_solidus ∷ letter_u ∷ e ∷ f ∷ g ∷ h ∷ []) (Literal n)
+  braced : (d : ℕ) (ds : List ℕ) (m n : ℕ) → value_of 0 (d ∷ ds) ≡ Some m → scalar m ≡ Some n
+      → LetterText (reverse_solidus ∷ letter_u ∷ left_brace ∷ d ∷ (ds ++ right_brace ∷ [])) (Literal n)
+
+abbrev pub begins_with_digit : List ℕ → Bool
+begins_with_digit [] = false
+begins_with_digit (c ∷ cs) = is_digit c
+
+-- whether the text is `\0`
+abbrev pub is_null : List ℕ → Bool
+is_null (c ∷ d ∷ []) = (c == reverse_solidus) && (d == digit_zero)
+is_null cs = false
+
+-- whether the second text may follow the first: no digit follows `\0`
+abbrev pub follows : List ℕ → List ℕ → Bool
+follows cs ds = not (is_null cs && begins_with_digit ds)
 
 -- ---- classes
 
@@ -112,8 +154,8 @@ is_dash (Named s) = false
 -- letters of a class, one after the other
 pub data LettersText : List ℕ → List Letter → Type 0 where
   none : LettersText [] []
-  more : {cs ds : List ℕ} {x : Letter} {xs : List Letter} → LetterText cs x → ends_class x ≡ false → LettersText ds xs
-      → LettersText (cs ++ ds) (x ∷ xs)
+  more : {cs ds : List ℕ} {x : Letter} {xs : List Letter} → LetterText cs x → ends_class x ≡ false → follows cs ds ≡ true
+      → LettersText ds xs → LettersText (cs ++ ds) (x ∷ xs)
 
 -- the one character that a letter stands for, if it is no set
 abbrev pub character_of : Letter → Option ℕ
@@ -184,14 +226,22 @@ abbrev pub begins_with_question : List ℕ → Bool
 begins_with_question [] = false
 begins_with_question (c ∷ cs) = c == question_mark
 
--- whether the mark may stand before the text: behind `(` and behind a quantifier no `?` stands but their own
+-- whether a branch may end before the text
+abbrev pub ends_branch : List ℕ → Bool
+ends_branch [] = true
+ends_branch (c ∷ cs) = c == vertical_bar
+
+-- whether the mark may stand before the text: behind `(` and behind a quantifier no `?` stands but their own, and behind `$` a branch ends
 abbrev pub fits : Mark → List ℕ → Bool
-fits m cs = not (takes_question m && begins_with_question cs)
+fits start cs = true
+fits end cs = ends_branch cs
+fits (token t) cs = not (takes_question (token t) && begins_with_question cs)
 
 -- the text is these marks, one after the other
 pub data Spelled : List ℕ → List Mark → Type 0 where
   none : Spelled [] []
-  more : {cs ds : List ℕ} {m : Mark} {ms : List Mark} → Spells cs m → fits m ds ≡ true → Spelled ds ms → Spelled (cs ++ ds) (m ∷ ms)
+  more : {cs ds : List ℕ} {m : Mark} {ms : List Mark} → Spells cs m → fits m ds ≡ true → follows cs ds ≡ true → Spelled ds ms
+      → Spelled (cs ++ ds) (m ∷ ms)
 
 -- ---- patterns
 

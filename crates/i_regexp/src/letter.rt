@@ -1,13 +1,17 @@
 //! The letters of a schema's pattern: characters, escapes, and sets that have a name.
-ghost use Rattle.std.specs.Prelude.{◌≡◌, ◌++◌, ◌<◌, [], OnOk, IfSome, length};
+ghost use Rattle.std.specs.Prelude.{◌≡◌, ◌++◌, ◌<◌, [], OnOk, IfOk, IfSome, length};
 ghost use Rattle.i_regexp.specs.Fronts.{Fronts};
 ghost use Rattle.i_regexp.specs.Patterns.{set_items, letter_items, is_sign, named_letter, hex_digit};
-ghost use Rattle.i_regexp.specs.Patterns.{byte_of, unit_of, ends_class, is_dash};
-ghost use Rattle.i_regexp.specs.Patterns.{character_of, scalar};
-ghost use Rattle.i_regexp.specs.PatternFronts.{byte_front, unit_front, escape_front, letter_front};
+ghost use Rattle.i_regexp.specs.Patterns.{byte_of, code_of, ends_class, is_dash, character_of};
+ghost use Rattle.i_regexp.specs.Patterns.{scalar, is_high, is_low, pair_of, control_of};
+ghost use Rattle.i_regexp.specs.Patterns.{begins_with_digit};
+ghost use Rattle.i_regexp.specs.PatternFronts.{byte_front, code_front, low_front, value_front};
+ghost use Rattle.i_regexp.specs.PatternFronts.{braced_front, half_front, unit_front, control_front};
+ghost use Rattle.i_regexp.specs.PatternFronts.{null_front, escape_front, letter_front};
 
 use crate::class::Item;
 use crate::error::IRegexpErrorKind;
+use crate::token::is_digit;
 use std::alloc::AllocError;
 
 /// A set of characters that has a name (ECMA-262, 22.2.2.9).
@@ -196,24 +200,61 @@ fn byte_of(first: char, second: char) -> Option<u32>
     Some(16 * high + low)
 }
 
+/// Whether it is the code of the first half of a pair.
+fn is_high(code: u32) -> bool
+    ensures { result ≡ is_high code }
+{
+    0xd800 <= code && code <= 0xdbff
+}
+
+/// Whether it is the code of the second half of a pair.
+fn is_low(code: u32) -> bool
+    ensures { result ≡ is_low code }
+{
+    0xdc00 <= code && code <= 0xdfff
+}
+
 /// The character of which this is the code.
 fn scalar(code: u32) -> Option<char>
-    requires { code < 65536 }
     ensures { result ≡ scalar code }
 {
-    if 0xd800 <= code && code <= 0xdfff {
-        return None;
-    }
     char::from_u32(code)
 }
 
-/// The character of which four hexadecimal digits are the code.
-fn unit_of(a: char, b: char, c: char, d: char) -> Option<char>
-    ensures { result ≡ unit_of a b c d }
+/// The character of which these are the halves.
+fn pair_of(first: u32, second: u32) -> Option<char>
+    ensures { result ≡ pair_of first second }
+{
+    if !is_high(first) {
+        return None;
+    }
+    if !is_low(second) {
+        return None;
+    }
+    scalar(1024 * (first - 0xd800) + (second - 0xdc00) + 0x10000)
+}
+
+/// The value of four hexadecimal digits.
+fn code_of(a: char, b: char, c: char, d: char) -> Option<u32>
+    ensures value { result ≡ code_of a b c d }
+    ensures few { IfSome result (λ n. n < 65536) }
 {
     let high = byte_of(a, b)?;
     let low = byte_of(c, d)?;
-    scalar(256 * high + low)
+    Some(256 * high + low)
+}
+
+/// The control character of this letter.
+fn control_of(letter: char) -> Option<char>
+    ensures { result ≡ control_of letter }
+{
+    if 'A' <= letter && letter <= 'Z' {
+        return scalar(letter as u32 - 64);
+    }
+    if 'a' <= letter && letter <= 'z' {
+        return scalar(letter as u32 - 96);
+    }
+    None
 }
 
 /// The character of which the code stands here, by two digits.
@@ -235,9 +276,9 @@ fn byte(text: &[char]) -> Result<(Letter, &[char]), IRegexpErrorKind>
     Ok((Letter::Literal(c), rest))
 }
 
-/// The character of which the code stands here, by four digits.
-fn unit(text: &[char]) -> Result<(Letter, &[char]), IRegexpErrorKind>
-    ensures { Fronts ⊥ (λ x. x) (unit_front text.now) result }
+/// The code that stands here by four digits.
+fn code(text: &[char]) -> Result<(u32, &[char]), IRegexpErrorKind>
+    ensures { Fronts ⊥ (λ n. n) (code_front text.now) result }
 {
     let Some((a, rest)) = text.split_first() else {
         return Err(IRegexpErrorKind::Invalid);
@@ -251,10 +292,130 @@ fn unit(text: &[char]) -> Result<(Letter, &[char]), IRegexpErrorKind>
     let Some((d, rest)) = rest.split_first() else {
         return Err(IRegexpErrorKind::Invalid);
     };
-    let Some(c) = unit_of(*a, *b, *c, *d) else {
+    match code_of(*a, *b, *c, *d) {
+        Some(code) => Ok((code, rest)),
+        None => Err(IRegexpErrorKind::Invalid),
+    }
+}
+
+/// The character of which the second half stands here, behind the first.
+fn low(first: u32, text: &[char]) -> Result<(Letter, &[char]), IRegexpErrorKind>
+    ensures { Fronts ⊥ (λ x. x) (low_front first text.now) result }
+{
+    let Some((backslash, rest)) = text.split_first() else {
         return Err(IRegexpErrorKind::Invalid);
     };
-    Ok((Letter::Literal(c), rest))
+    let Some((letter, rest)) = rest.split_first() else {
+        return Err(IRegexpErrorKind::Invalid);
+    };
+    if *backslash == '\\' && *letter == 'u' {
+        let (second, after) = code(rest)?;
+        return match pair_of(first, second) {
+            Some(c) => Ok((Letter::Literal(c), after)),
+            None => Err(IRegexpErrorKind::Invalid),
+        };
+    }
+    Err(IRegexpErrorKind::Invalid)
+}
+
+/// The value of the digits up to a brace, if it is no greater than that of the last character.
+fn value(text: &[char]) -> Result<(u32, &[char]), IRegexpErrorKind>
+    ensures { Fronts ⊥ (λ n. n) (value_front 0 text.now) result }
+{
+    let mut value = 0;
+    let mut rest = text;
+    while let Some((next, after)) = rest.split_first() {
+        if *next == '}' {
+            return Ok((value, after));
+        }
+        let Some(digit) = hex_digit(*next) else {
+            return Err(IRegexpErrorKind::Invalid);
+        };
+        value = 16 * value + digit;
+        if value > 0x10ffff {
+            return Err(IRegexpErrorKind::Invalid);
+        }
+        rest = after;
+    }
+    Err(IRegexpErrorKind::Invalid)
+}
+
+/// The character of which the code stands here, behind a brace.
+fn braced(text: &[char]) -> Result<(Letter, &[char]), IRegexpErrorKind>
+    ensures { Fronts ⊥ (λ x. x) (braced_front text.now) result }
+{
+    let Some((first, _)) = text.split_first() else {
+        return Err(IRegexpErrorKind::Invalid);
+    };
+    if *first == '}' {
+        return Err(IRegexpErrorKind::Invalid);
+    }
+    let (code, after) = value(text)?;
+    match scalar(code) {
+        Some(c) => Ok((Letter::Literal(c), after)),
+        None => Err(IRegexpErrorKind::Invalid),
+    }
+}
+
+/// The character of which this is the code, or the first half, if the text that follows has the
+/// second.
+fn half(code: u32, text: &[char]) -> Result<(Letter, &[char]), IRegexpErrorKind>
+    ensures { Fronts ⊥ (λ x. x) (half_front (code, text.now)) result }
+{
+    if is_high(code) {
+        return low(code, text);
+    }
+    match scalar(code) {
+        Some(c) => Ok((Letter::Literal(c), text)),
+        None => Err(IRegexpErrorKind::Invalid),
+    }
+}
+
+/// The character of which the code stands here, by four digits, by two times four, or in braces.
+fn unit(text: &[char]) -> Result<(Letter, &[char]), IRegexpErrorKind>
+    ensures { Fronts ⊥ (λ x. x) (unit_front text.now) result }
+{
+    let Some((first, rest)) = text.split_first() else {
+        return Err(IRegexpErrorKind::Invalid);
+    };
+    if *first == '{' {
+        return braced(rest);
+    }
+    let (code, after) = code(text)?;
+    half(code, after)
+}
+
+/// The control character of the letter that stands here.
+fn control(text: &[char]) -> Result<(Letter, &[char]), IRegexpErrorKind>
+    ensures { Fronts ⊥ (λ x. x) (control_front text.now) result }
+{
+    let Some((letter, rest)) = text.split_first() else {
+        return Err(IRegexpErrorKind::Invalid);
+    };
+    match control_of(*letter) {
+        Some(c) => Ok((Letter::Literal(c), rest)),
+        None => Err(IRegexpErrorKind::Invalid),
+    }
+}
+
+/// Whether a digit stands here.
+fn begins_with_digit(text: &[char]) -> bool
+    ensures { result ≡ begins_with_digit text.now }
+{
+    match text.split_first() {
+        Some((first, _)) => is_digit(*first),
+        None => false,
+    }
+}
+
+/// The character of code 0, if no digit stands here.
+fn null(text: &[char]) -> Result<(Letter, &[char]), IRegexpErrorKind>
+    ensures { Fronts ⊥ (λ x. x) (null_front text.now) result }
+{
+    if begins_with_digit(text) {
+        return Err(IRegexpErrorKind::Invalid);
+    }
+    Ok((Letter::Literal('\0'), text))
 }
 
 /// What stands behind a backslash.
@@ -269,6 +430,12 @@ pub(crate) fn escape(text: &[char]) -> Result<(Letter, &[char]), IRegexpErrorKin
     }
     if *first == 'u' {
         return unit(rest);
+    }
+    if *first == 'c' {
+        return control(rest);
+    }
+    if *first == '0' {
+        return null(rest);
     }
     match named(*first) {
         Some(letter) => Ok((letter, rest)),

@@ -4,7 +4,8 @@ ghost use Rattle.i_regexp.specs.Limits.{LargeCount};
 ghost use Rattle.i_regexp.specs.Fronts.{Fronts, token_of, token_front};
 ghost use Rattle.i_regexp.specs.declared.token.Token.TheVariants.{Characters};
 ghost use Rattle.i_regexp.specs.Patterns.{is_normal, class_items, begins_with_question, dot};
-ghost use Rattle.i_regexp.specs.Patterns.{takes_question, range_of};
+ghost use Rattle.i_regexp.specs.Patterns.{takes_question, ends_branch, fits, range_of};
+ghost use Rattle.i_regexp.specs.Patterns.{token as with_token};
 ghost use Rattle.i_regexp.specs.PatternFronts.{mark_of, mark_front, sign_front, class_front};
 ghost use Rattle.i_regexp.specs.PatternFronts.{letters_front, caret_front, range_behind, silent};
 ghost use Rattle.i_regexp.specs.PatternFronts.{eager, letter_mark, escape_front, repeat_front};
@@ -26,11 +27,15 @@ pub(crate) enum Mark {
 }
 
 impl Mark {
-    /// Whether a `?` behind it would belong to it.
-    fn takes_question(&self) -> bool
-        ensures { result ≡ takes_question (mark_of self.now) }
+    /// Whether it may stand before the text.
+    fn fits(&self, text: &[char]) -> bool
+        ensures { result ≡ fits (mark_of self.now) text.now }
     {
-        matches!(self, Mark::Token(Token::Open | Token::Quantifier { .. }))
+        match self {
+            Mark::Start => true,
+            Mark::End => ends_branch(text),
+            Mark::Token(token) => !(takes_question(token) && begins_with_question(text)),
+        }
     }
 }
 
@@ -42,10 +47,27 @@ pub(crate) fn next_mark<'t>(
     ensures { Fronts (LargeCount text.now) mark_of (mark_front text.now) result }
 {
     let (mark, rest) = sign(alloc, text)?;
-    if mark.takes_question() && begins_with_question(rest) {
+    if !mark.fits(rest) {
         return Err(IRegexpErrorKind::Invalid);
     }
     Ok((mark, rest))
+}
+
+/// Whether a `?` behind the token would belong to it.
+fn takes_question(token: &Token) -> bool
+    ensures { result ≡ takes_question (with_token (token_of token.now)) }
+{
+    matches!(token, Token::Open | Token::Quantifier { .. })
+}
+
+/// Whether a branch may end here.
+fn ends_branch(text: &[char]) -> bool
+    ensures { result ≡ ends_branch text.now }
+{
+    match text.split_first() {
+        Some((first, _)) => *first == '|',
+        None => true,
+    }
 }
 
 /// Whether a `?` stands here.

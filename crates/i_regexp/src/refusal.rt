@@ -54,5 +54,5 @@ fn is_outside(text: &[char]) -> bool
 fn is_other_escape(c: char) -> bool
     ensures { result ≡ is_other_escape c }
 {
-    '0' <= c && c <= '9' || matches!(c, 'b' | 'B' | 'k' | 'p' | 'P' | 'c' | 'u')
+    '0' <= c && c <= '9' || matches!(c, 'b' | 'B' | 'k' | 'p' | 'P' | 'u')
 }

@@ -277,7 +277,8 @@ fn number(text: &[char]) -> Result<(usize, &[char]), IRegexpErrorKind>
     Ok((value, rest))
 }
 
-fn is_digit(c: char) -> bool
+/// Whether it is a digit.
+pub(crate) fn is_digit(c: char) -> bool
     ensures { result ≡ is_digit c }
 {
     '0' <= c && c <= '9'
