@@ -145,3 +145,32 @@ open_group = refl
 
 look_ahead : is_pattern (codes "a(?=b)") ≡ false
 look_ahead = refl
+
+-- ---- `\0` has no digit behind it, also in a class; two halves are one character, and one alone is none; `$` is in no branch
+
+null_and_digit : is_pattern (codes "\\01") ≡ false
+null_and_digit = refl
+
+null_and_letter : is_found_in (codes "^\\0a$") (0 ∷ 97 ∷ []) ≡ true
+null_and_letter = refl
+
+null_and_digit_in_class : is_pattern (codes "[\\01]") ≡ false
+null_and_digit_in_class = refl
+
+control_letter : is_found_in (codes "^\\cJ\\cj$") (10 ∷ 10 ∷ []) ≡ true
+control_letter = refl
+
+two_halves : is_found_in (codes "^\\ud83d\\ude00$") (128512 ∷ []) ≡ true
+two_halves = refl
+
+one_half : is_pattern (codes "\\ud83d") ≡ false
+one_half = refl
+
+in_braces : is_found_in (codes "^\\u{01F600}$") (128512 ∷ []) ≡ true
+in_braces = refl
+
+past_the_last : is_pattern (codes "\\u{110000}") ≡ false
+past_the_last = refl
+
+end_in_branch : is_pattern (codes "a$b") ≡ false
+end_in_branch = refl

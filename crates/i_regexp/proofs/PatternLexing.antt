@@ -16,7 +16,7 @@ use Rattle.i_regexp.specs.Patterns.{letter_items, named_letter, hex_digit, byte_
 use Rattle.i_regexp.specs.Patterns.{pair_of, control_of, LetterText, begins_with_digit, is_null, follows, ends_class, LettersText}
 use Rattle.i_regexp.specs.Patterns.{class_items, Mark, start, end, token, dot, is_normal, Spells, takes_question, begins_with_question, fits}
 use Rattle.i_regexp.specs.Patterns.{Spelled}
-use Rattle.i_regexp.specs.PatternFronts.{literal_front, byte_front, code_front, low_front, half_front, value_front, braced_front, unit_front}
+use Rattle.i_regexp.specs.PatternFronts.{literal_front, byte_front, four_front, low_front, half_front, value_front, braced_front, unit_front}
 use Rattle.i_regexp.specs.PatternFronts.{control_front, null_front, escape_front, letter_front, letters_step, letters_front}
 use Rattle.i_regexp.specs.PatternFronts.{caret_front, class_of, class_from, class_front, silent, eager, repeat_front, letter_mark, token_mark}
 use Rattle.i_regexp.specs.PatternFronts.{sign_front, fitting, mark_front}
@@ -52,7 +52,7 @@ byte_sound (a ∷ b ∷ cs) x ys e =
       after = refl;
     }
 
-record CodeFront (xs : List ℕ) (n : ℕ) (ys : List ℕ) : Type 0 where
+record FourFront (xs : List ℕ) (n : ℕ) (ys : List ℕ) : Type 0 where
   a : ℕ
   b : ℕ
   c : ℕ
@@ -60,12 +60,12 @@ record CodeFront (xs : List ℕ) (n : ℕ) (ys : List ℕ) : Type 0 where
   split : xs ≡ a ∷ b ∷ c ∷ d ∷ ys
   code : code_of a b c d ≡ Some n
 
-code_sound : (xs : List ℕ) (n : ℕ) (ys : List ℕ) → code_front xs ≡ Some (n, ys) → CodeFront xs n ys
-code_sound [] n ys e = none_some e
-code_sound (a ∷ []) n ys e = none_some e
-code_sound (a ∷ b ∷ []) n ys e = none_some e
-code_sound (a ∷ b ∷ c ∷ []) n ys e = none_some e
-code_sound (a ∷ b ∷ c ∷ d ∷ cs) n ys e =
+four_sound : (xs : List ℕ) (n : ℕ) (ys : List ℕ) → four_front xs ≡ Some (n, ys) → FourFront xs n ys
+four_sound [] n ys e = none_some e
+four_sound (a ∷ []) n ys e = none_some e
+four_sound (a ∷ b ∷ []) n ys e = none_some e
+four_sound (a ∷ b ∷ c ∷ []) n ys e = none_some e
+four_sound (a ∷ b ∷ c ∷ d ∷ cs) n ys e =
     let m = map_cases (λ k. let p : ℕ × List ℕ = (k, cs) in p) (code_of a b c d) (n, ys) e in
     record {
       a = a;
@@ -76,7 +76,7 @@ code_sound (a ∷ b ∷ c ∷ d ∷ cs) n ys e =
       code = m.1 ∙ ap (λ p. Some p.0) m.2;
     }
 
-one_unit : (xs : List ℕ) (n : ℕ) (zs : List ℕ) (x : Letter) (ys : List ℕ) → CodeFront xs n zs
+one_unit : (xs : List ℕ) (n : ℕ) (zs : List ℕ) (x : Letter) (ys : List ℕ) → FourFront xs n zs
     → literal_front zs (scalar n) ≡ Some (x, ys) → EscapeFront (117 ∷ xs) x ys
 one_unit xs n zs x ys f e =
     let m = map_cases (literal zs) (scalar n) (x, ys) e in
@@ -88,7 +88,7 @@ one_unit xs n zs x ys f e =
       after = refl;
     }
 
-two_units : (xs : List ℕ) (n : ℕ) (zs : List ℕ) (x : Letter) (ys : List ℕ) → CodeFront xs n zs
+two_units : (xs : List ℕ) (n : ℕ) (zs : List ℕ) (x : Letter) (ys : List ℕ) → FourFront xs n zs
     → low_front n zs ≡ Some (x, ys) → EscapeFront (117 ∷ xs) x ys
 two_units xs n [] x ys f e = none_some e
 two_units xs n (k ∷ []) x ys f e = none_some e
@@ -96,8 +96,8 @@ two_units xs n (k ∷ l ∷ zs) x ys f e =
     elim (cond_cases ((k == 92) && (l == 117)) _ _ (x, ys) e) [
       | inl h ↦
           let both = and_parts (k == 92) (l == 117) h.0 in
-          let t = then_cases (λ p. literal_front p.1 (pair_of n p.0)) (code_front zs) (x, ys) h.1 in
-          let g = code_sound zs t.0.0 t.0.1 t.1 in
+          let t = then_cases (λ p. literal_front p.1 (pair_of n p.0)) (four_front zs) (x, ys) h.1 in
+          let g = four_sound zs t.0.0 t.0.1 t.1 in
           let m = map_cases (literal t.0.1) (pair_of n t.0.0) (x, ys) t.2 in
           record {
             cs = 117 ∷ f.a ∷ f.b ∷ f.c ∷ f.d ∷ 92 ∷ 117 ∷ g.a ∷ g.b ∷ g.c ∷ g.d ∷ [];
@@ -113,7 +113,7 @@ two_units xs n (k ∷ l ∷ zs) x ys f e =
       | inr h ↦ none_some h.1
     ]
 
-half_sound : (xs : List ℕ) (n : ℕ) (zs : List ℕ) (x : Letter) (ys : List ℕ) → CodeFront xs n zs
+half_sound : (xs : List ℕ) (n : ℕ) (zs : List ℕ) (x : Letter) (ys : List ℕ) → FourFront xs n zs
     → half_front (n, zs) ≡ Some (x, ys) → EscapeFront (117 ∷ xs) x ys
 half_sound xs n zs x ys f e =
     elim (cond_cases (is_high n) _ _ (x, ys) e) [
@@ -155,22 +155,19 @@ value_sound (c ∷ cs) k n ys e =
           ]
     ]
 
-braced_sound : (xs : List ℕ) (x : Letter) (ys : List ℕ) → braced_front xs ≡ Some (x, ys) → EscapeFront (117 ∷ 123 ∷ xs) x ys
-braced_sound [] x ys e = none_some e
-braced_sound (c ∷ cs) x ys e =
-    elim (cond_cases (c == 125) _ _ (x, ys) e) [
+braced_sound : (xs : List ℕ) (m : ℕ) (zs : List ℕ) (x : Letter) (ys : List ℕ) → braced_front xs ≡ Some (m, zs)
+    → literal_front zs (scalar m) ≡ Some (x, ys) → EscapeFront (117 ∷ 123 ∷ xs) x ys
+braced_sound [] m zs x ys e f = none_some e
+braced_sound (c ∷ cs) m zs x ys e f =
+    elim (cond_cases (c == 125) _ _ (m, zs) e) [
       | inl a ↦ none_some a.1
-      | inr b ↦
-          let t = then_cases (λ p. literal_front p.1 (scalar p.0)) (value_front 0 (c ∷ cs)) (x, ys) b.1 in
-          let s = value_sound (c ∷ cs) 0 t.0.0 t.0.1 t.1 in
-          by b.0 s.ds t.0.0 t.0.1 s.split s.value t.2
+      | inr b ↦ let s = value_sound (c ∷ cs) 0 m zs b.1 in by b.0 s.ds s.split s.value
     ]
   where
-    by : (c == 125) ≡ false → (ds : List ℕ) (m : ℕ) (zs : List ℕ) → c ∷ cs ≡ ds ++ 125 ∷ zs → value_of 0 ds ≡ Some m
-        → literal_front zs (scalar m) ≡ Some (x, ys) → EscapeFront (117 ∷ 123 ∷ c ∷ cs) x ys
-    by h [] m zs split v e = absurd (true≢false (sym (ap (λ us. head_is us) split) ∙ h))
-    by h (d ∷ ds) m zs split v e =
-        let k = map_cases (literal zs) (scalar m) (x, ys) e in
+    by : (c == 125) ≡ false → (ds : List ℕ) → c ∷ cs ≡ ds ++ 125 ∷ zs → value_of 0 ds ≡ Some m → EscapeFront (117 ∷ 123 ∷ c ∷ cs) x ys
+    by h [] split v = absurd (true≢false (sym (ap (λ us. head_is us) split) ∙ h))
+    by h (d ∷ ds) split v =
+        let k = map_cases (literal zs) (scalar m) (x, ys) f in
         record {
           cs = 117 ∷ 123 ∷ d ∷ (ds ++ 125 ∷ []);
           split = ap (λ us. 117 ∷ 123 ∷ us) split
@@ -184,10 +181,12 @@ unit_sound : (xs : List ℕ) (x : Letter) (ys : List ℕ) → unit_front xs ≡ 
 unit_sound [] x ys e = none_some e
 unit_sound (c ∷ cs) x ys e =
     elim (cond_cases (c == 123) _ _ (x, ys) e) [
-      | inl a ↦ subst (λ d. EscapeFront (117 ∷ d ∷ cs) x ys) (sym (eqb-true c 123 a.0)) (braced_sound cs x ys a.1)
+      | inl a ↦
+          let t = then_cases (λ p. literal_front p.1 (scalar p.0)) (braced_front cs) (x, ys) a.1 in
+          subst (λ d. EscapeFront (117 ∷ d ∷ cs) x ys) (sym (eqb-true c 123 a.0)) (braced_sound cs t.0.0 t.0.1 x ys t.1 t.2)
       | inr b ↦
-          let t = then_cases half_front (code_front (c ∷ cs)) (x, ys) b.1 in
-          half_sound (c ∷ cs) t.0.0 t.0.1 x ys (code_sound (c ∷ cs) t.0.0 t.0.1 t.1) t.2
+          let t = then_cases half_front (four_front (c ∷ cs)) (x, ys) b.1 in
+          half_sound (c ∷ cs) t.0.0 t.0.1 x ys (four_sound (c ∷ cs) t.0.0 t.0.1 t.1) t.2
     ]
 
 control_sound : (xs : List ℕ) (x : Letter) (ys : List ℕ) → control_front xs ≡ Some (x, ys) → EscapeFront (99 ∷ xs) x ys
@@ -358,10 +357,10 @@ letter_complete cs x (is.pair a b c d e f g h k m n i j l) ys after =
     ∙ ap (literal_front ys) l))
 letter_complete cs x (is.braced d ds m n h k) ys f =
     let t = then_cases (λ y. value_of (16 * 0 + y) ds) (hex_digit d) m h in
-    ap (λ us. braced_front (d ∷ us)) (append_assoc ds (125 ∷ []) ys)
-    ∙ (cond-false (d == 125) _ _ (no_brace d t.0 t.1)
-    ∙ (ap (option_and_then (λ p. literal_front p.1 (scalar p.0))) (value_complete (d ∷ ds) 0 m ys h (scalar_parts m n k).1)
-    ∙ ap (literal_front ys) k))
+    ap (λ us. option_and_then (λ p. literal_front p.1 (scalar p.0)) (braced_front (d ∷ us))) (append_assoc ds (125 ∷ []) ys)
+    ∙ (ap (option_and_then (λ p. literal_front p.1 (scalar p.0)))
+    (cond-false (d == 125) _ _ (no_brace d t.0 t.1) ∙ value_complete (d ∷ ds) 0 m ys h (scalar_parts m n k).1)
+    ∙ ap (literal_front ys) k)
 
 letter_some : (cs : List ℕ) (x : Letter) → LetterText cs x → 0 < length cs
 letter_some cs x (is.plain c h) = omega arith

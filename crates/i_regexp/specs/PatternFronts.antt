@@ -35,19 +35,19 @@ byte_front (a ∷ []) = None
 byte_front (a ∷ b ∷ cs) = literal_front cs (byte_of a b)
 
 -- the code of four digits
-abbrev pub code_front : List ℕ → Option (ℕ × List ℕ)
-code_front [] = None
-code_front (a ∷ []) = None
-code_front (a ∷ b ∷ []) = None
-code_front (a ∷ b ∷ c ∷ []) = None
-code_front (a ∷ b ∷ c ∷ d ∷ cs) = option_map (λ n. (n, cs)) (code_of a b c d)
+abbrev pub four_front : List ℕ → Option (ℕ × List ℕ)
+four_front [] = None
+four_front (a ∷ []) = None
+four_front (a ∷ b ∷ []) = None
+four_front (a ∷ b ∷ c ∷ []) = None
+four_front (a ∷ b ∷ c ∷ d ∷ cs) = option_map (λ n. (n, cs)) (code_of a b c d)
 
 -- the second half of a pair behind its first, m
 abbrev pub low_front : ℕ → List ℕ → Option (Letter × List ℕ)
 low_front m [] = None
 low_front m (c ∷ []) = None
 low_front m (c ∷ d ∷ cs) =
-    cond ((c == reverse_solidus) && (d == letter_u)) (option_and_then (λ p. literal_front p.1 (pair_of m p.0)) (code_front cs)) None
+    cond ((c == reverse_solidus) && (d == letter_u)) (option_and_then (λ p. literal_front p.1 (pair_of m p.0)) (four_front cs)) None
 
 -- what a code begins
 abbrev pub half_front : ℕ × List ℕ → Option (Letter × List ℕ)
@@ -61,14 +61,21 @@ value_front n (c ∷ cs) =
     (option_and_then (λ x. cond (nat_le (16 * n + x) 1114111) (value_front (16 * n + x) cs) None) (hex_digit c))
 
 -- a code behind a brace
-abbrev pub braced_front : List ℕ → Option (Letter × List ℕ)
+abbrev pub braced_front : List ℕ → Option (ℕ × List ℕ)
 braced_front [] = None
-braced_front (c ∷ cs) =
-    cond (c == right_brace) None (option_and_then (λ p. literal_front p.1 (scalar p.0)) (value_front 0 (c ∷ cs)))
+braced_front (c ∷ cs) = cond (c == right_brace) None (value_front 0 (c ∷ cs))
 
+-- a code behind `\u`, by four digits or in braces
+abbrev pub code_front : List ℕ → Option (ℕ × List ℕ)
+code_front [] = None
+code_front (c ∷ cs) = cond (c == left_brace) (braced_front cs) (four_front (c ∷ cs))
+
+-- what stands behind `\u`
 abbrev pub unit_front : List ℕ → Option (Letter × List ℕ)
 unit_front [] = None
-unit_front (c ∷ cs) = cond (c == left_brace) (braced_front cs) (option_and_then half_front (code_front (c ∷ cs)))
+unit_front (c ∷ cs) =
+    cond (c == left_brace) (option_and_then (λ p. literal_front p.1 (scalar p.0)) (braced_front cs))
+    (option_and_then half_front (four_front (c ∷ cs)))
 
 -- what stands behind `\c` and `\0`
 abbrev pub control_front : List ℕ → Option (Letter × List ℕ)
@@ -171,6 +178,11 @@ abbrev pub mark_front : List ℕ → Option (Mark × List ℕ)
 mark_front cs = option_and_then fitting (sign_front cs)
 
 -- ---- what the code returns
+
+-- of the front of a text: the code that stands there, if one does
+abbrev pub CodeFront : Option (ℕ × List ℕ) → Option (ℕ × Bor (List ℕ)) → Type 0
+CodeFront o None = o ≡ None
+CodeFront o (Some p) = o ≡ Some (p.0, p.1.now)
 
 -- of the items of a class: if there are any, those
 abbrev pub ReadsItems : List Letter → Result (Vec Item Global) IRegexpErrorKind → Type 0

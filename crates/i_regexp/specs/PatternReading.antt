@@ -1,6 +1,7 @@
 -- What is read of a pattern's text; `ReadsTree` and `Refused` are for private contracts.
 use Rattle.std.specs.Prelude.{◌≡◌, ℕ, ◌≤◌, ◌+◌, ◌↔◌, Bool, true, false, ◌&&◌, ◌||◌, ◌==◌, cond, List, [], ◌∷◌, ◌++◌, length, ◌⊎◌}
-use Rattle.std.specs.Prelude.{Result, Ok, Err}
+use Rattle.std.specs.Prelude.{nat_le, Result, Ok, Err}
+use Rattle.std.specs.Option.{option_map_or}
 use Rattle.i_regexp.specs.Characters.{left_parenthesis, question_mark, circumflex, reverse_solidus, letter_p, capital_p}
 use Rattle.i_regexp.specs.declared.error.IRegexpError.{IRegexpError}
 use Rattle.i_regexp.specs.declared.error.IRegexpErrorKind.{IRegexpErrorKind}
@@ -12,10 +13,11 @@ use Rattle.i_regexp.specs.declared.pattern_error.SchemaPatternErrorKind.{SchemaP
 use Rattle.i_regexp.specs.declared.pattern_error.SchemaPatternErrorKind.TheVariants as reason
 use Rattle.i_regexp.specs.Building.{Means}
 use Rattle.i_regexp.specs.Forms.{Form, Matches}
-use Rattle.i_regexp.specs.Grammar.{is_digit, is_one_of}
+use Rattle.i_regexp.specs.Grammar.{is_one_of}
 use Rattle.i_regexp.specs.Limits.{depth_limit, begins_group, ends_group, LargeCount}
 use Rattle.i_regexp.specs.Marked.{form_of}
-use Rattle.i_regexp.specs.Patterns.{dollar_sign, letter_u, Mark, token, Spelled, Pattern, IsText, IsSmall, IsFound}
+use Rattle.i_regexp.specs.PatternFronts.{code_front}
+use Rattle.i_regexp.specs.Patterns.{dollar_sign, letter_u, is_surrogate, Mark, token, Spelled, Pattern, IsText, IsSmall, IsFound}
 use Rattle.i_regexp.specs.PatternMachine.{pattern_form}
 
 -- 1 for the mark that begins a group, and 0 for others
@@ -76,18 +78,23 @@ ReadsTree cs (Err e) = Refused cs e
 
 -- ---- patterns that were read
 
--- the letters behind a backslash of what ECMA-262 has besides: \b \B \k \p \P \u and digits
+-- the letters behind a backslash of what ECMA-262 has besides: \b \B \k \p \P and digits but `0`
 abbrev pub is_other_escape : ℕ → Bool
-is_other_escape c = is_digit c || is_one_of (98 ∷ 66 ∷ 107 ∷ letter_p ∷ capital_p ∷ letter_u ∷ []) c
+is_other_escape c = (nat_le 49 c && nat_le c 57) || is_one_of (98 ∷ 66 ∷ 107 ∷ letter_p ∷ capital_p ∷ []) c
+
+-- whether the code of a half of a pair stands behind `\u`
+abbrev pub is_half : List ℕ → Bool
+is_half cs = option_map_or (λ p. is_surrogate p.0) (code_front cs) false
 
 -- whether something begins the text that ECMA-262 has and these patterns have not, or not everywhere: `^`, `$`, a group that begins with
--- `(?`, as a look-around, or an escape, as a back-reference
+-- `(?`, as a look-around, or an escape, as a back-reference or half of a pair
 abbrev pub is_outside : List ℕ → Bool
 is_outside [] = false
 is_outside (c ∷ []) = (c == circumflex) || (c == dollar_sign)
 is_outside (c ∷ d ∷ cs) =
     ((c == circumflex) || (c == dollar_sign))
-    || (((c == left_parenthesis) && (d == question_mark)) || ((c == reverse_solidus) && is_other_escape d))
+    || (((c == left_parenthesis) && (d == question_mark))
+    || ((c == reverse_solidus) && (is_other_escape d || ((d == letter_u) && is_half cs))))
 
 -- the kind of an error, by what stands at its place
 abbrev pub kind_at : List ℕ → IRegexpErrorKind → SchemaPatternErrorKind

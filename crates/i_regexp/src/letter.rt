@@ -1,13 +1,14 @@
 //! The letters of a schema's pattern: characters, escapes, and sets that have a name.
-ghost use Rattle.std.specs.Prelude.{◌≡◌, ◌++◌, ◌<◌, [], OnOk, IfOk, IfSome, length};
+ghost use Rattle.std.specs.Prelude.{◌≡◌, ◌++◌, ◌<◌, [], OnOk, IfSome, length};
 ghost use Rattle.i_regexp.specs.Fronts.{Fronts};
 ghost use Rattle.i_regexp.specs.Patterns.{set_items, letter_items, is_sign, named_letter, hex_digit};
 ghost use Rattle.i_regexp.specs.Patterns.{byte_of, code_of, ends_class, is_dash, character_of};
 ghost use Rattle.i_regexp.specs.Patterns.{scalar, is_high, is_low, pair_of, control_of};
 ghost use Rattle.i_regexp.specs.Patterns.{begins_with_digit};
-ghost use Rattle.i_regexp.specs.PatternFronts.{byte_front, code_front, low_front, value_front};
-ghost use Rattle.i_regexp.specs.PatternFronts.{braced_front, half_front, unit_front, control_front};
-ghost use Rattle.i_regexp.specs.PatternFronts.{null_front, escape_front, letter_front};
+ghost use Rattle.i_regexp.specs.PatternFronts.{literal_front, byte_front, four_front, low_front};
+ghost use Rattle.i_regexp.specs.PatternFronts.{value_front, braced_front, code_front, half_front};
+ghost use Rattle.i_regexp.specs.PatternFronts.{unit_front, control_front, null_front, escape_front};
+ghost use Rattle.i_regexp.specs.PatternFronts.{letter_front, CodeFront};
 
 use crate::class::Item;
 use crate::error::IRegexpErrorKind;
@@ -236,8 +237,7 @@ fn pair_of(first: u32, second: u32) -> Option<char>
 
 /// The value of four hexadecimal digits.
 fn code_of(a: char, b: char, c: char, d: char) -> Option<u32>
-    ensures value { result ≡ code_of a b c d }
-    ensures few { IfSome result (λ n. n < 65536) }
+    ensures { result ≡ code_of a b c d }
 {
     let high = byte_of(a, b)?;
     let low = byte_of(c, d)?;
@@ -277,25 +277,56 @@ fn byte(text: &[char]) -> Result<(Letter, &[char]), IRegexpErrorKind>
 }
 
 /// The code that stands here by four digits.
-fn code(text: &[char]) -> Result<(u32, &[char]), IRegexpErrorKind>
-    ensures { Fronts ⊥ (λ n. n) (code_front text.now) result }
+fn four_digits(text: &[char]) -> Option<(u32, &[char])>
+    ensures { CodeFront (four_front text.now) result }
 {
-    let Some((a, rest)) = text.split_first() else {
-        return Err(IRegexpErrorKind::Invalid);
-    };
-    let Some((b, rest)) = rest.split_first() else {
-        return Err(IRegexpErrorKind::Invalid);
-    };
-    let Some((c, rest)) = rest.split_first() else {
-        return Err(IRegexpErrorKind::Invalid);
-    };
-    let Some((d, rest)) = rest.split_first() else {
-        return Err(IRegexpErrorKind::Invalid);
-    };
-    match code_of(*a, *b, *c, *d) {
-        Some(code) => Ok((code, rest)),
-        None => Err(IRegexpErrorKind::Invalid),
+    let (a, rest) = text.split_first()?;
+    let (b, rest) = rest.split_first()?;
+    let (c, rest) = rest.split_first()?;
+    let (d, rest) = rest.split_first()?;
+    let code = code_of(*a, *b, *c, *d)?;
+    Some((code, rest))
+}
+
+/// The value of the digits up to a brace, if it is no greater than that of the last character.
+fn value(text: &[char]) -> Option<(u32, &[char])>
+    ensures { CodeFront (value_front 0 text.now) result }
+{
+    let mut value = 0;
+    let mut rest = text;
+    while let Some((next, after)) = rest.split_first() {
+        if *next == '}' {
+            return Some((value, after));
+        }
+        value = 16 * value + hex_digit(*next)?;
+        if value > 0x10ffff {
+            return None;
+        }
+        rest = after;
     }
+    None
+}
+
+/// The code that stands here, behind a brace.
+fn braced(text: &[char]) -> Option<(u32, &[char])>
+    ensures { CodeFront (braced_front text.now) result }
+{
+    let (first, _) = text.split_first()?;
+    if *first == '}' {
+        return None;
+    }
+    value(text)
+}
+
+/// The code that stands here, by four digits or in braces.
+pub(crate) fn code(text: &[char]) -> Option<(u32, &[char])>
+    ensures { CodeFront (code_front text.now) result }
+{
+    let (first, rest) = text.split_first()?;
+    if *first == '{' {
+        return braced(rest);
+    }
+    four_digits(text)
 }
 
 /// The character of which the second half stands here, behind the first.
@@ -309,50 +340,20 @@ fn low(first: u32, text: &[char]) -> Result<(Letter, &[char]), IRegexpErrorKind>
         return Err(IRegexpErrorKind::Invalid);
     };
     if *backslash == '\\' && *letter == 'u' {
-        let (second, after) = code(rest)?;
-        return match pair_of(first, second) {
-            Some(c) => Ok((Letter::Literal(c), after)),
-            None => Err(IRegexpErrorKind::Invalid),
+        let Some((second, after)) = four_digits(rest) else {
+            return Err(IRegexpErrorKind::Invalid);
         };
+        return literal(pair_of(first, second), after);
     }
     Err(IRegexpErrorKind::Invalid)
 }
 
-/// The value of the digits up to a brace, if it is no greater than that of the last character.
-fn value(text: &[char]) -> Result<(u32, &[char]), IRegexpErrorKind>
-    ensures { Fronts ⊥ (λ n. n) (value_front 0 text.now) result }
+/// The character, which the text follows.
+fn literal(c: Option<char>, text: &[char]) -> Result<(Letter, &[char]), IRegexpErrorKind>
+    ensures { Fronts ⊥ (λ x. x) (literal_front text.now c) result }
 {
-    let mut value = 0;
-    let mut rest = text;
-    while let Some((next, after)) = rest.split_first() {
-        if *next == '}' {
-            return Ok((value, after));
-        }
-        let Some(digit) = hex_digit(*next) else {
-            return Err(IRegexpErrorKind::Invalid);
-        };
-        value = 16 * value + digit;
-        if value > 0x10ffff {
-            return Err(IRegexpErrorKind::Invalid);
-        }
-        rest = after;
-    }
-    Err(IRegexpErrorKind::Invalid)
-}
-
-/// The character of which the code stands here, behind a brace.
-fn braced(text: &[char]) -> Result<(Letter, &[char]), IRegexpErrorKind>
-    ensures { Fronts ⊥ (λ x. x) (braced_front text.now) result }
-{
-    let Some((first, _)) = text.split_first() else {
-        return Err(IRegexpErrorKind::Invalid);
-    };
-    if *first == '}' {
-        return Err(IRegexpErrorKind::Invalid);
-    }
-    let (code, after) = value(text)?;
-    match scalar(code) {
-        Some(c) => Ok((Letter::Literal(c), after)),
+    match c {
+        Some(c) => Ok((Letter::Literal(c), text)),
         None => Err(IRegexpErrorKind::Invalid),
     }
 }
@@ -365,10 +366,7 @@ fn half(code: u32, text: &[char]) -> Result<(Letter, &[char]), IRegexpErrorKind>
     if is_high(code) {
         return low(code, text);
     }
-    match scalar(code) {
-        Some(c) => Ok((Letter::Literal(c), text)),
-        None => Err(IRegexpErrorKind::Invalid),
-    }
+    literal(scalar(code), text)
 }
 
 /// The character of which the code stands here, by four digits, by two times four, or in braces.
@@ -379,9 +377,14 @@ fn unit(text: &[char]) -> Result<(Letter, &[char]), IRegexpErrorKind>
         return Err(IRegexpErrorKind::Invalid);
     };
     if *first == '{' {
-        return braced(rest);
+        let Some((code, after)) = braced(rest) else {
+            return Err(IRegexpErrorKind::Invalid);
+        };
+        return literal(scalar(code), after);
     }
-    let (code, after) = code(text)?;
+    let Some((code, after)) = four_digits(text) else {
+        return Err(IRegexpErrorKind::Invalid);
+    };
     half(code, after)
 }
 
@@ -392,10 +395,7 @@ fn control(text: &[char]) -> Result<(Letter, &[char]), IRegexpErrorKind>
     let Some((letter, rest)) = text.split_first() else {
         return Err(IRegexpErrorKind::Invalid);
     };
-    match control_of(*letter) {
-        Some(c) => Ok((Letter::Literal(c), rest)),
-        None => Err(IRegexpErrorKind::Invalid),
-    }
+    literal(control_of(*letter), rest)
 }
 
 /// Whether a digit stands here.

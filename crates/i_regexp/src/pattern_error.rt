@@ -16,8 +16,9 @@ pub enum SchemaPatternErrorKind {
     /// The text is not in the grammar.
     Invalid,
     /// Nor is it, and at the place stands something that ECMA-262 has and these patterns have not: a
-    /// group that begins with `(?` and not with `(?:`, an escape such as `\b` or `\1`, or a `^` or `$`
-    /// that is not at the beginning or the end of a branch outside of all groups.
+    /// group that begins with `(?` and not with `(?:`, an escape such as `\b` or `\1`, half of a pair
+    /// of UTF-16, or a `^` or `$` that is not at the beginning or the end of a branch outside of all
+    /// groups.
     Outside,
     /// More than 200 groups are open at once.
     TooDeep,

@@ -1,9 +1,11 @@
 //! What is said of a schema's pattern that is refused.
 ghost use Rattle.std.specs.Prelude.{◌≡◌};
 ghost use Rattle.i_regexp.specs.PatternReading.{Refused, IsRefused, kind_at, is_outside};
-ghost use Rattle.i_regexp.specs.PatternReading.{is_other_escape};
+ghost use Rattle.i_regexp.specs.PatternReading.{is_other_escape, is_half};
+ghost use Rattle.i_regexp.specs.Patterns.{is_surrogate};
 
 use crate::error::{IRegexpError, IRegexpErrorKind};
+use crate::letter::code;
 use crate::pattern_error::{SchemaPatternError, SchemaPatternErrorKind};
 
 /// The error, by what stands at its place.
@@ -41,18 +43,35 @@ fn is_outside(text: &[char]) -> bool
     let Some((first, rest)) = text.split_first() else {
         return false;
     };
-    let Some((second, _)) = rest.split_first() else {
+    let Some((second, after)) = rest.split_first() else {
         return *first == '^' || *first == '$';
     };
     *first == '^'
         || *first == '$'
         || *first == '(' && *second == '?'
-        || *first == '\\' && is_other_escape(*second)
+        || *first == '\\' && (is_other_escape(*second) || *second == 'u' && is_half(after))
 }
 
 /// Whether ECMA-262 has another meaning for this character behind a backslash.
 fn is_other_escape(c: char) -> bool
     ensures { result ≡ is_other_escape c }
 {
-    '0' <= c && c <= '9' || matches!(c, 'b' | 'B' | 'k' | 'p' | 'P' | 'u')
+    '1' <= c && c <= '9' || matches!(c, 'b' | 'B' | 'k' | 'p' | 'P')
+}
+
+/// Whether the code of a half of a pair stands here.
+fn is_half(text: &[char]) -> bool
+    ensures { result ≡ is_half text.now }
+{
+    match code(text) {
+        Some((code, _)) => is_surrogate(code),
+        None => false,
+    }
+}
+
+/// Whether it is the code of a half of a pair.
+fn is_surrogate(code: u32) -> bool
+    ensures { result ≡ is_surrogate code }
+{
+    0xd800 <= code && code <= 0xdfff
 }
