@@ -92,20 +92,19 @@ impl Node {
     }
 
     /// Moves the marks over a character: each to the places that it leads to. With `start`, the
-    /// text may also begin with this character. Returns whether the text can end after it.
-    pub(crate) fn shift(&mut self, start: bool, c: char) -> bool
+    /// text may also begin with this character. Returns whether the text can end after it, and whether
+    /// there is a mark.
+    pub(crate) fn shift(&mut self, start: bool, c: char) -> (bool, bool)
         requires { IsKept self.old }
         ensures marks { self.new ≡ shifted start c self.old }
-        ensures ends { result ≡ ends_here self.new }
+        ensures ends { result.0 ≡ ends_here self.new }
+        ensures marked { result.1 ≡ is_marked self.new }
     {
-        if !(start | self.is_marked()) {
-            return false;
-        }
         match self {
-            Node::Empty => false,
+            Node::Empty => (false, false),
             Node::Class { class, mark } => {
-                *mark = start & class.contains(c);
-                *mark
+                *mark = start && class.contains(c);
+                (*mark, *mark)
             }
             Node::Concat {
                 left,
@@ -115,18 +114,25 @@ impl Node {
                 left_ends,
                 marked,
             } => {
+                if !(start | *marked) {
+                    return (false, false);
+                }
                 let enters = *left_ends | (start & *left_empty);
-                let ends = left.shift(start, c);
+                let (ends, left_marked) = left.shift(start, c);
                 *left_ends = ends;
-                let found = right.shift(enters, c);
-                *marked = left.is_marked() | right.is_marked();
-                found | (ends & *right_empty)
+                let (found, right_marked) = right.shift(enters, c);
+                *marked = left_marked | right_marked;
+                (found | (ends & *right_empty), *marked)
             }
-            Node::Alternation { left, right } => left.shift(start, c) | right.shift(start, c),
+            Node::Alternation { left, right } => {
+                let (left_ends, left_marked) = left.shift(start, c);
+                let (right_ends, right_marked) = right.shift(start, c);
+                (left_ends | right_ends, left_marked | right_marked)
+            }
             Node::Star { body, body_ends } => {
-                let ends = body.shift(start | *body_ends, c);
+                let (ends, marked) = body.shift(start | *body_ends, c);
                 *body_ends = ends;
-                ends
+                (ends, marked)
             }
         }
     }
