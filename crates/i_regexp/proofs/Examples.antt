@@ -4,7 +4,7 @@ use Rattle.std.specs.Prelude.{codes}
 use Rattle.i_regexp.specs.declared.class.Item.TheVariants.{Range, In, NotIn}
 use Rattle.i_regexp.specs.Forms.{Form, empty, class, concat, alternation, repetition, is_within, is_in_class, Matches, Searches}
 use Rattle.i_regexp.specs.Fronts.{token_front}
-use Rattle.i_regexp.specs.Grammar.{characters, bar, quantifier, one, any, IsText, Spells, Spelled}
+use Rattle.i_regexp.specs.Grammar.{characters, quantifier, one, IsText}
 use Rattle.i_regexp.specs.Grammar as is
 use Rattle.i_regexp.specs.declared.letter.Letter.TheVariants.{Plain}
 use Rattle.i_regexp.specs.declared.letter.Set.TheVariants as set

@@ -1,6 +1,8 @@
 -- The fronts of texts are their tokens.
-use Rattle.std.proofs.Common.{◌≡◌, ◌≢◌, ◌⊎◌, inl, inr, ℕ, zero, suc, ◌+◌, ◌-◌, ◌*◌, ◌<◌, ◌≤◌, Bool, true, false, not, ◌&&◌, ◌||◌, ◌==◌, nat_le}
-use Rattle.std.proofs.Common.{cond, List, [], ◌∷◌, ◌++◌, length, Option, Some, None, option_map, refl, sym, ap, ◌∙◌, subst, arith, true≢false}
+use Rattle.std.proofs.Common.{◌≡◌, ◌≢◌, ◌⊎◌, inl, inr, ℕ, zero, suc, ◌+◌, ◌-◌, ◌*◌, ◌<◌, ◌≤◌, Bool, true, false, not, ◌&&◌, ◌||◌, ◌==◌}
+use Rattle.std.proofs.Common.{nat_le}
+use Rattle.std.proofs.Common.{cond, List, [], ◌∷◌, ◌++◌, length, Option, Some, None, option_map, refl, sym, ap, ◌∙◌, subst, arith}
+use Rattle.std.proofs.Common.{true≢false}
 use Rattle.std.proofs.Common.{append_assoc, append-nil}
 use Rattle.std.proofs.lemmas.Bool.{cond-true, cond-false, eqb-false, ne_eqb, eqb-true, leb-true, and_parts, and_from, or_parts, or_left}
 use Rattle.std.proofs.lemmas.Bool.{not-true}
@@ -11,9 +13,10 @@ use Rattle.i_regexp.specs.declared.class.Item.{Item}
 use Rattle.i_regexp.specs.declared.class.Item.TheVariants.{Range, In, NotIn}
 use Rattle.i_regexp.specs.Grammar as is
 use Rattle.i_regexp.specs.Grammar.{Token, characters, opened, closed, bar, quantifier, one, any, is_one_of, is_normal, is_plain, is_digit}
-use Rattle.i_regexp.specs.Grammar.{NameText, CategoryText, are_digits, number_on, escape_of, MemberText, ItemText, ItemsText, FirstText, LastText}
+use Rattle.i_regexp.specs.Grammar.{NameText, CategoryText, are_digits, number_on, escape_of, MemberText, ItemText, ItemsText, FirstText}
+use Rattle.i_regexp.specs.Grammar.{LastText}
 use Rattle.i_regexp.specs.Grammar.{CaretText}
-use Rattle.i_regexp.specs.Grammar.{begins_with_caret, Spells, Spelled}
+use Rattle.i_regexp.specs.Grammar.{begins_with_caret, Spells}
 use Rattle.i_regexp.specs.Fronts.{escape_front, member_front, up_to, range_end, range_front, item_front, closing, tail_front, class_front}
 use Rattle.i_regexp.specs.Fronts.{first_front, bracket_front, digits_front, number_front, most_end, most_front, least_end, counts_front}
 use Rattle.i_regexp.specs.Fronts.{characters_front, named_front, second_front, name_front, signed_front, category_front, is_category_letter}

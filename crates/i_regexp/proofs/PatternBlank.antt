@@ -1,5 +1,6 @@
 -- A level of the code in which nothing was read.
-use Rattle.std.proofs.Common.{◌≡◌, ◌<◌, Bool, true, false, List, [], ◌∷◌, length, Option, Some, None, refl, subst, arith, not, sym, true≢false}
+use Rattle.std.proofs.Common.{◌≡◌, ◌<◌, Bool, true, false, List, [], ◌∷◌, length, Option, Some, None, refl, subst, arith, not, sym}
+use Rattle.std.proofs.Common.{true≢false}
 use Rattle.std.specs.Prelude.{is_some}
 use Rattle.i_regexp.specs.declared.marked.Node.{Node}
 use Rattle.i_regexp.specs.declared.reader.Level.{Level as CodeLevel}

@@ -11,7 +11,8 @@ use Rattle.i_regexp.specs.Forms.{Form, concat}
 use Rattle.i_regexp.specs.Grammar.{Token, regexp_form, branch_form}
 use Rattle.i_regexp.specs.Levels.{Level, level, fresh, regexp_of, advance, StandsAt, IsSized, Outer, Takes}
 use Rattle.i_regexp.specs.Patterns.{start, end, token}
-use Rattle.i_regexp.specs.PatternMachine.{PatternState, initial, no_levels, is_blank, is_unread, is_bar, branch_in, part_in, next_part, with_state}
+use Rattle.i_regexp.specs.PatternMachine.{PatternState, initial, no_levels, is_blank, is_unread, is_bar, branch_in, part_in, next_part}
+use Rattle.i_regexp.specs.PatternMachine.{with_state}
 use Rattle.i_regexp.specs.PatternMachine.{take_token, advance_mark, no_done, is_bare, open_form, part_form, AgreesAt}
 use Rattle.i_regexp.specs.PatternMachine.{TakesMark, EndsPart, Finishes}
 use Rattle.i_regexp.proofs.Levels.{all_mean_map_push, outer_none}

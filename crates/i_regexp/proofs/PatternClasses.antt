@@ -1,5 +1,6 @@
 -- The letters and the items of a class, as the code reads them.
-use Rattle.std.proofs.Common.{◌≡◌, inl, inr, ℕ, zero, suc, ◌<◌, Bool, true, false, cond, List, [], ◌∷◌, ◌++◌, length, Option, Some, None, option_map, refl, sym}
+use Rattle.std.proofs.Common.{◌≡◌, inl, inr, ℕ, zero, suc, ◌<◌, Bool, true, false, cond, List, [], ◌∷◌, ◌++◌, length, Option, Some, None}
+use Rattle.std.proofs.Common.{option_map, refl, sym}
 use Rattle.std.proofs.Common.{subst, ap, ◌∙◌, arith, append_assoc, append-nil}
 use Rattle.std.proofs.lemmas.Bool.{cond-true, cond-false}
 use Rattle.std.specs.Prelude.{option_and_then}
@@ -12,7 +13,8 @@ use Rattle.i_regexp.specs.declared.error.IRegexpErrorKind.{IRegexpErrorKind}
 use Rattle.i_regexp.specs.declared.error.IRegexpErrorKind.TheVariants.{Invalid, TooDeep, TooLarge, OutOfMemory}
 use Rattle.i_regexp.specs.Fronts.{Fronts}
 use Rattle.i_regexp.specs.Grammar.{Token, characters}
-use Rattle.i_regexp.specs.PatternFronts.{letter_front, letters_step, letters_front, range_behind, caret_front, class_of, class_from, class_front}
+use Rattle.i_regexp.specs.PatternFronts.{letter_front, letters_step, letters_front, range_behind, caret_front, class_of, class_from}
+use Rattle.i_regexp.specs.PatternFronts.{class_front}
 use Rattle.i_regexp.specs.PatternFronts.{ReadsItems}
 use Rattle.i_regexp.proofs.Lexing.{cond_cases, none_some, some_same}
 use Rattle.i_regexp.proofs.PatternLexing.{letter_shorter}

@@ -1,6 +1,8 @@
 -- The fronts of patterns' texts are their marks.
-use Rattle.std.proofs.Common.{◌≡◌, inl, inr, ℕ, zero, suc, ◌+◌, ◌*◌, ◌<◌, ◌≤◌, Bool, true, false, not, ◌&&◌, ◌||◌, ◌==◌, nat_le, cond, List, [], ◌∷◌, ◌++◌, length}
-use Rattle.std.proofs.Common.{Option, Some, None, option_map, refl, sym, ap, ◌∙◌, subst, arith, append_assoc, append-nil, true≢false, length-append}
+use Rattle.std.proofs.Common.{◌≡◌, inl, inr, ℕ, zero, suc, ◌+◌, ◌*◌, ◌<◌, ◌≤◌, Bool, true, false, not, ◌&&◌, ◌||◌, ◌==◌, nat_le, cond, List}
+use Rattle.std.proofs.Common.{[], ◌∷◌, ◌++◌, length}
+use Rattle.std.proofs.Common.{Option, Some, None, option_map, refl, sym, ap, ◌∙◌, subst, arith, append_assoc, append-nil, true≢false}
+use Rattle.std.proofs.Common.{length-append}
 use Rattle.std.proofs.lemmas.Bool.{cond-true, cond-false, eqb-true, and_parts, not-true, leb-true, le-leb}
 use Rattle.std.specs.Prelude.{option_and_then}
 use Rattle.i_regexp.specs.declared.class.Item.{Item}
@@ -12,15 +14,17 @@ use Rattle.i_regexp.specs.Grammar.{Token, characters, opened, closed, bar, quant
 use Rattle.i_regexp.specs.Levels.{IsFit}
 use Rattle.i_regexp.specs.PatternMachine.{IsFitMark}
 use Rattle.i_regexp.specs.Patterns as is
-use Rattle.i_regexp.specs.Patterns.{letter_items, named_letter, hex_digit, byte_of, code_of, value_of, is_high, is_low, is_surrogate, scalar}
-use Rattle.i_regexp.specs.Patterns.{pair_of, control_of, LetterText, begins_with_digit, is_null, follows, ends_class, LettersText}
-use Rattle.i_regexp.specs.Patterns.{class_items, Mark, start, end, token, dot, is_normal, Spells, takes_question, begins_with_question, fits}
-use Rattle.i_regexp.specs.Patterns.{Spelled}
-use Rattle.i_regexp.specs.PatternFronts.{literal_front, byte_front, four_front, low_front, half_front, value_front, braced_front, unit_front}
+use Rattle.i_regexp.specs.Patterns.{named_letter, hex_digit, byte_of, code_of, value_of, is_high, is_low, is_surrogate, scalar}
+use Rattle.i_regexp.specs.Patterns.{pair_of, control_of, LetterText, begins_with_digit, follows, ends_class, LettersText}
+use Rattle.i_regexp.specs.Patterns.{class_items, Mark, start, end, token, dot, is_normal, Spells, begins_with_question, fits}
+use Rattle.i_regexp.specs.PatternFronts.{literal_front, byte_front, four_front, low_front, half_front, value_front, braced_front}
+use Rattle.i_regexp.specs.PatternFronts.{unit_front}
 use Rattle.i_regexp.specs.PatternFronts.{control_front, null_front, escape_front, letter_front, letters_step, letters_front}
-use Rattle.i_regexp.specs.PatternFronts.{caret_front, class_of, class_from, class_front, silent, eager, repeat_front, letter_mark, token_mark}
+use Rattle.i_regexp.specs.PatternFronts.{caret_front, class_of, class_from, class_front, silent, eager, repeat_front, letter_mark}
+use Rattle.i_regexp.specs.PatternFronts.{token_mark}
 use Rattle.i_regexp.specs.PatternFronts.{sign_front, fitting, mark_front}
-use Rattle.i_regexp.proofs.Lexing.{cond_cases, then_cases, map_cases, none_some, some_same, not_equal, no_caret, front_sound, front_complete}
+use Rattle.i_regexp.proofs.Lexing.{cond_cases, then_cases, map_cases, none_some, some_same, not_equal, no_caret, front_sound}
+use Rattle.i_regexp.proofs.Lexing.{front_complete}
 use Rattle.i_regexp.proofs.Lexing.{spells_some}
 
 -- ---- letters

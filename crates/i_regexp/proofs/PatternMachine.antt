@@ -5,12 +5,13 @@ use Rattle.std.proofs.lemmas.Bool.{cond-false, or_parts, and_parts}
 use Rattle.std.proofs.lemmas.List.{map-append}
 use Rattle.std.specs.Prelude.{option_and_then}
 use Rattle.i_regexp.specs.Grammar as regexp
-use Rattle.i_regexp.specs.Grammar.{Token, characters, opened, closed, bar, quantifier, Regexp, last, branches, Branch, Piece, Atom}
-use Rattle.i_regexp.specs.Grammar.{regexp_tokens, branch_tokens}
+use Rattle.i_regexp.specs.Grammar.{Token, characters, opened, closed, bar, quantifier, last, branches, Branch, Piece, Atom}
+use Rattle.i_regexp.specs.Grammar.{branch_tokens}
 use Rattle.i_regexp.specs.Levels.{Level, level, State, fresh, with_atom, regexp_of, quantified, in_state, advance, run, state_size}
 use Rattle.i_regexp.specs.Levels.{level_size, outer_size}
 use Rattle.i_regexp.specs.Limits.{size_limit, branch_size}
-use Rattle.i_regexp.specs.Patterns.{Mark, start, end, token, Part, Pattern, mark_if, part_marks, barred_marks, pattern_marks, AreSmall, IsSmall}
+use Rattle.i_regexp.specs.Patterns.{Mark, start, end, token, Part, Pattern, mark_if, part_marks, barred_marks, pattern_marks, AreSmall}
+use Rattle.i_regexp.specs.Patterns.{IsSmall}
 use Rattle.i_regexp.specs.PatternMachine.{PatternState, initial, no_levels, is_blank, is_unread, is_bar, branch_in, part_in, pattern_in}
 use Rattle.i_regexp.specs.PatternMachine.{next_part, with_state, take_token, advance_mark, run_marks, no_done, is_bare}
 use Rattle.i_regexp.proofs.Lexing.{cond_cases, map_cases, none_some, some_same}

@@ -1,6 +1,7 @@
 -- Reading a pattern mark by mark.
 use Rattle.std.proofs.Common.{◌≡◌, inl, inr, ℕ, ◌+◌, ◌-◌, ◌<◌, ◌≤◌, Bool, true, false, not, ◌&&◌, ◌||◌, cond, List, [], ◌∷◌, ◌++◌, length}
-use Rattle.std.proofs.Common.{Option, Some, None, Err, refl, sym, ap, ◌∙◌, subst, arith, append-nil, append_assoc, length-append, true≢false}
+use Rattle.std.proofs.Common.{Option, Some, None, Err, refl, sym, ap, ◌∙◌, subst, arith, append-nil, append_assoc, length-append}
+use Rattle.std.proofs.Common.{true≢false}
 use Rattle.std.proofs.lemmas.Bool.{and_parts}
 use Rattle.std.specs.Prelude.{option_and_then}
 use Rattle.i_regexp.specs.declared.branches.Branches.{Branches}
@@ -14,9 +15,11 @@ use Rattle.i_regexp.specs.Grammar.{opened}
 use Rattle.i_regexp.specs.Levels.{advance, state_size}
 use Rattle.i_regexp.specs.Limits.{depth_limit, size_limit, LargeCount, begins_group, ends_group}
 use Rattle.i_regexp.specs.Patterns as is
-use Rattle.i_regexp.specs.Patterns.{Mark, start, end, token, Spells, fits, follows, Spelled, Pattern, pattern_marks, IsText, IsSmall, AreSmall}
+use Rattle.i_regexp.specs.Patterns.{Mark, start, end, token, Spells, fits, follows, Spelled, Pattern, pattern_marks, IsText, IsSmall}
+use Rattle.i_regexp.specs.Patterns.{AreSmall}
 use Rattle.i_regexp.specs.PatternFronts.{mark_of, mark_front}
-use Rattle.i_regexp.specs.PatternMachine.{PatternState, initial, no_levels, is_unread, is_bar, pattern_in, with_state, advance_mark, run_marks}
+use Rattle.i_regexp.specs.PatternMachine.{PatternState, initial, no_levels, is_unread, is_bar, pattern_in, with_state, advance_mark}
+use Rattle.i_regexp.specs.PatternMachine.{run_marks}
 use Rattle.i_regexp.specs.PatternMachine.{pattern_form, AgreesAt, TakesMark, Finishes, part_in}
 use Rattle.i_regexp.specs.PatternReading.{begins_one, ends_one, begun_groups, ended_groups, OpensTooMany, IsNone, Says, Refused}
 use Rattle.std.proofs.Common.{drop, take}

@@ -9,7 +9,7 @@ use Rattle.i_regexp.specs.declared.reader.Level.{Level as CodeLevel}
 use Rattle.i_regexp.specs.Building.{Means}
 use Rattle.i_regexp.specs.Fronts.{token_front}
 use Rattle.i_regexp.specs.Grammar as is
-use Rattle.i_regexp.specs.Grammar.{Token, Spells, Spelled, Regexp, regexp_tokens, regexp_form, IsText}
+use Rattle.i_regexp.specs.Grammar.{Token, Spelled, Regexp, regexp_tokens, regexp_form, IsText}
 use Rattle.i_regexp.specs.Levels.{Level, State, fresh, regexp_of, advance, run, StandsAt, Outer, Agrees, state_size}
 use Rattle.i_regexp.proofs.Levels.{outer_none}
 use Rattle.i_regexp.proofs.Lexing.{spells_some, front_sound, front_complete}

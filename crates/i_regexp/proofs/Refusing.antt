@@ -8,7 +8,7 @@ use Rattle.i_regexp.specs.declared.error.IRegexpErrorKind.TheVariants.{Invalid, 
 use Rattle.i_regexp.specs.declared.reader.Level.{Level as CodeLevel}
 use Rattle.i_regexp.specs.Fronts.{Fronts, token_front, token_of}
 use Rattle.i_regexp.specs.Grammar as is
-use Rattle.i_regexp.specs.Grammar.{Token, characters, opened, closed, bar, quantifier, Spells, Spelled, Regexp, regexp_tokens, IsText}
+use Rattle.i_regexp.specs.Grammar.{Token, characters, opened, closed, bar, quantifier, Spells, Spelled, IsText}
 use Rattle.i_regexp.specs.Levels.{Level, State, fresh, with_atom, regexp_of, quantified, in_state, advance, Outer, Agrees, Takes}
 use Rattle.i_regexp.specs.Levels.{run, state_size}
 use Rattle.i_regexp.specs.Limits.{depth_limit, size_limit, LargeCount, begins_group, ends_group, begun_groups, ended_groups}
