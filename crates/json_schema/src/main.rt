@@ -59,7 +59,7 @@ fn main(rt: HostRuntime) -> ExitCode {
     }
 }
 
-/// Reads the schema, tells of its unknown words, and checks what was asked for.
+/// Reads the schema, and answers what was asked for.
 fn answer(rt: &HostRuntime) -> Result<Outcome, Failure> {
     let alloc = rt.alloc();
     let words = arguments(rt)?;
@@ -70,15 +70,21 @@ fn answer(rt: &HostRuntime) -> Result<Outcome, Failure> {
     let tree = JsonValue::from_str_with_depth_limit(alloc, text.as_str(), DEPTH_LIMIT).map_err(
         schema_text_error,
     )?;
-    let schema = read_schema(alloc, &tree)?;
-    tell_words(alloc, &mut rt.stderr(), &unknown_words(&tree, alloc)?).map_err(Failure::Stream)?;
-    let outcome = if by_lines {
+    let outcome = answer_by(rt, &tree, by_lines);
+    tree.dismantle();
+    outcome
+}
+
+/// Tells of the unknown words of the schema, and checks what was asked for.
+fn answer_by(rt: &HostRuntime, tree: &JsonValue, by_lines: bool) -> Result<Outcome, Failure> {
+    let alloc = rt.alloc();
+    let schema = read_schema(alloc, tree)?;
+    tell_words(alloc, &mut rt.stderr(), &unknown_words(tree, alloc)?).map_err(Failure::Stream)?;
+    if by_lines {
         by_lines_of(rt, schema)
     } else {
         of_whole(rt, schema)
-    };
-    tree.dismantle();
-    outcome
+    }
 }
 
 fn arguments(rt: &(impl Env + AllocGlobal)) -> Result<Vec<String>, Failure> {
