@@ -6,6 +6,7 @@ pub mod Handling
 pub mod Listed
 pub mod Lookups
 pub mod Loops
+pub mod Naming
 pub mod Outcomes
 pub mod Parts
 pub mod Patterns

@@ -19,9 +19,10 @@ use Rattle.json_pointer.specs.declared.pointer.PointerError.{PointerError}
 use Rattle.json_pointer.specs.declared.pointer.PointerError.TheVariants.{NoSlash, BadEscape, OutOfMemory}
 use Rattle.json_pointer.proofs.Callers.{tokens_read, no_tokens_read}
 use Rattle.json_pointer.specs.Walk.{part_at}
+use Rattle.json_schema.specs.Anchors.{anchors_in, anchored, is_plain_name}
 use Rattle.json_schema.specs.References.{percent_decoded, after_percent, hex_byte, escape_front, byte_front}
-use Rattle.json_schema.specs.References.{utf8_text, fragment_tokens, reference_tokens, form_in, form_after, is_schema_form}
-use Rattle.json_schema.specs.References.{schema_from, target}
+use Rattle.json_schema.specs.References.{reference_bytes, form_in, form_after, is_schema_form}
+use Rattle.json_schema.specs.References.{schema_from, at_pointer, at_text, at_fragment, target}
 use Rattle.json_schema.specs.declared.form.Form.{Form}
 use Rattle.json_schema.specs.declared.form.Form.TheVariants as form
 use Rattle.json_schema.proofs.Lookups.{text_bytes}
@@ -108,33 +109,15 @@ front_shorter b more after d h = by (b == 37) h
     by true e = escaped more e
     by false e = omega (arith, ap length (ap rest_of e))
 
--- ---- the tokens of a fragment
+-- ---- the tokens of a pointer
 
-module _ (fragment decoded : List ℕ) (read : Some decoded ≡ percent_decoded fragment) where
-  of_decoded : (o : Option (List ℕ)) → utf8_text decoded ≡ o → fragment_tokens fragment ≡ option_and_then pointer_tokens o
-  of_decoded o h = ap (λ x. option_and_then pointer_tokens (option_and_then utf8_text x)) (sym read) ∙ ap (option_and_then pointer_tokens) h
+pub read_tokens : (cs : List ℕ) (p : Pointer) → Reads cs (Ok p) → Some (tokens_of p) ≡ pointer_tokens cs
+read_tokens cs p h = sym (tokens_read cs (tokens_of p) ((h (tokens_of p)).1 refl))
 
-  utf8_read : IsUtf8 decoded → fragment_tokens fragment ≡ pointer_tokens (chars decoded)
-  utf8_read u = of_decoded (Some (chars decoded)) (ap (λ b. cond b (Some (chars decoded)) None) (is_utf8-from_IsUtf8 decoded u))
-
-  pub no_text : ¬ IsUtf8 decoded → None ≡ fragment_tokens fragment
-  no_text n = sym (of_decoded None (by (is_utf8 decoded) refl))
-    where
-      by : (b : Bool) → is_utf8 decoded ≡ b → cond b (Some (chars decoded)) None ≡ None
-      by true e = absurd (n (IsUtf8-from_is_utf8 decoded e))
-      by false e = refl
-
-  pub read_tokens : IsUtf8 decoded → (p : Pointer) → Reads (chars decoded) (Ok p) → Some (tokens_of p) ≡ fragment_tokens fragment
-  read_tokens u p h = sym (utf8_read u ∙ tokens_read (chars decoded) (tokens_of p) ((h (tokens_of p)).1 refl))
-
-  pub no_pointer : IsUtf8 decoded → (e : PointerError) → Reads (chars decoded) (Err e) → (e ≡ OutOfMemory → ⊥) → None ≡ fragment_tokens
-      fragment
-  no_pointer u NoSlash h n = sym (utf8_read u ∙ no_tokens_read (chars decoded) h.1)
-  no_pointer u BadEscape h n = sym (utf8_read u ∙ no_tokens_read (chars decoded) h.2)
-  no_pointer u OutOfMemory h n = absurd (n refl)
-
-pub none_decoded_read : (fragment : List ℕ) → None ≡ percent_decoded fragment → None ≡ fragment_tokens fragment
-none_decoded_read fragment h = ap (λ x. option_and_then pointer_tokens (option_and_then utf8_text x)) h
+pub no_pointer : (cs : List ℕ) (e : PointerError) → Reads cs (Err e) → (e ≡ OutOfMemory → ⊥) → None ≡ pointer_tokens cs
+no_pointer cs NoSlash h n = sym (no_tokens_read cs h.1)
+no_pointer cs BadEscape h n = sym (no_tokens_read cs h.2)
+no_pointer cs OutOfMemory h n = absurd (n refl)
 
 -- ---- what stands where tokens lead
 
@@ -150,19 +133,39 @@ form_end tokens i f g h left = sym (ap (λ xs. form_after f (map text xs)) (drop
 
 -- ---- the schema that a reference leads to
 
-module _ (root t : Tree) (bs : List ℕ) (same : target root t ≡ option_and_then (schema_from root) (reference_tokens bs)) where
-  pub no_reference_tokens : None ≡ reference_tokens bs → None ≡ target root t
-  no_reference_tokens e = sym (same ∙ ap (option_and_then (schema_from root)) (sym e))
+module _ (root : Tree) (cs : List ℕ) where
+  pub no_tokens_there : None ≡ pointer_tokens cs → None ≡ at_pointer root cs
+  no_tokens_there e = ap (option_and_then (schema_from root)) e
 
-  pub no_schema_there : (ks : List (List ℕ)) → Some ks ≡ reference_tokens bs → is_schema_form (form_after form.Schema ks) ≡ false
-      → None ≡ target root t
-  no_schema_there ks e f = sym (same ∙ (ap (option_and_then (schema_from root)) (sym e) ∙ ap (λ b. cond b (part_at root ks) None) f))
+  pub no_schema_there : (ks : List (List ℕ)) → Some ks ≡ pointer_tokens cs → is_schema_form (form_after form.Schema ks) ≡ false
+      → None ≡ at_pointer root cs
+  no_schema_there ks e f = sym (ap (option_and_then (schema_from root)) (sym e) ∙ ap (λ b. cond b (part_at root ks) None) f)
 
-  pub schema_there : (ks : List (List ℕ)) (o : Option Tree) → Some ks ≡ reference_tokens bs
-      → is_schema_form (form_after form.Schema ks) ≡ true → o ≡ part_at root ks → o ≡ target root t
-  schema_there ks o e f h = h ∙ sym (same ∙ (ap (option_and_then (schema_from root)) (sym e) ∙ ap (λ b. cond b (part_at root ks) None) f))
+  pub schema_there : (ks : List (List ℕ)) (o : Option Tree) → Some ks ≡ pointer_tokens cs
+      → is_schema_form (form_after form.Schema ks) ≡ true → o ≡ part_at root ks → o ≡ at_pointer root cs
+  schema_there ks o e f h = h
+      ∙ sym (ap (option_and_then (schema_from root)) (sym e) ∙ ap (λ b. cond b (part_at root ks) None) f)
+
+module _ (root : Tree) (bs : List ℕ) where
+  pub no_text : ¬ IsUtf8 bs → None ≡ at_fragment root bs
+  no_text n = by (is_utf8 bs) refl
+    where
+      by : (b : Bool) → is_utf8 bs ≡ b → None ≡ cond b (at_text root bs) None
+      by true e = absurd (n (IsUtf8-from_is_utf8 bs e))
+      by false e = refl
+
+  text_there : (o : Option Tree) → IsUtf8 bs → o ≡ at_text root bs → o ≡ at_fragment root bs
+  text_there o u h = h ∙ ap (λ b. cond b (at_text root bs) None) (sym (is_utf8-from_IsUtf8 bs u))
+
+  pub name_there : (o : Option Tree) → IsUtf8 bs → is_plain_name bs ≡ true → o ≡ anchored (anchors_in root) bs → o ≡ at_fragment root bs
+  name_there o u n h =
+      text_there o u (h ∙ ap (λ b. cond b (anchored (anchors_in root) bs) (at_pointer root (chars bs))) (sym n))
+
+  pub pointer_there : IsUtf8 bs → is_plain_name bs ≡ false → at_pointer root (chars bs) ≡ at_fragment root bs
+  pointer_there u n =
+      text_there _ u (ap (λ b. cond b (anchored (anchors_in root) bs) (at_pointer root (chars bs))) (sym n))
 
 pub string_target : (root : Tree) (v : JsonValue) (s : String Global) (bs : List ℕ) → v ≡ is.String s → bs ≡ string_bytes s
-    → target root (view v) ≡ option_and_then (schema_from root) (reference_tokens bs)
+    → target root (view v) ≡ option_and_then (at_fragment root) (reference_bytes bs)
 string_target root v s bs e h = ap (target root) (ap view e ∙ view_String s)
-    ∙ ap (λ xs. option_and_then (schema_from root) (reference_tokens xs)) (sym (text_bytes s bs h))
+    ∙ ap (λ xs. option_and_then (at_fragment root) (reference_bytes xs)) (sym (text_bytes s bs h))

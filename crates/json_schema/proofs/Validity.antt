@@ -22,6 +22,7 @@ use Rattle.json_schema.specs.Names.{name}
 use Rattle.json_schema.specs.Parts.{item_schema, part_schema}
 use Rattle.json_schema.specs.Places.{IsAt}
 use Rattle.json_schema.specs.References.{referenced}
+use Rattle.json_schema.specs.Valid.{is_reference, target_accepts}
 use Rattle.json_schema.specs.Valid.{refuses_all, judge, reference_accepts, accepts_by, IsValid, MeetsRules, IsInvalidAt, Validates}
 use Rattle.json_schema.specs.Valid.{Agrees, says, Follows, Decides, Judges, IsDeeper, Finds, IsUnapplied}
 use Rattle.json_schema.specs.Valid.{refused, unmet, not_applied}
@@ -225,9 +226,15 @@ branch_chosen f s t c r h e g =
     sym (ap (λ o. option_map_or (λ q. f q t) o true) g)
     ∙ (sym (ap (λ o. option_map_or (λ q. branch_accepts f s t (f q t)) o true) e) ∙ h)
 
-reference_chosen : (root : Tree) (f : Judge) (s t r : Tree) → reference_accepts root f s t ≡ true → referenced root s ≡ Some r → f r t ≡
-    true
-reference_chosen root f s t r h e = sym (ap (λ o. option_map_or (λ q. f q t) o true) e) ∙ h
+reference_met_at : (root : Tree) (f : Judge) (s t : Tree) (k : Keyword) → is_reference k ≡ true → reference_accepts root f s t ≡ true
+    → target_accepts root k f s t ≡ true
+reference_met_at root f s t kw.Ref i h = (and_parts _ _ h).0
+reference_met_at root f s t kw.DynamicRef i h = (and_parts _ _ h).1
+reference_met_at root f s t _ i h = cc
+
+reference_chosen : (root : Tree) (f : Judge) (s t r : Tree) (k : Keyword) → target_accepts root k f s t ≡ true
+    → referenced root k s ≡ Some r → f r t ≡ true
+reference_chosen root f s t r k h e = sym (ap (λ o. option_map_or (λ q. f q t) o true) e) ∙ h
 
 -- ---- places
 
@@ -252,8 +259,9 @@ refuted {root} {n = suc n} {s} {t} (in_patterned {r} {u} {p} {k} a b c h) g v =
     refuted h g (found_passes (judge root n g r) p (members_in t) k u
     (pattern_accepts (judge root n g) (members_in t) (schema_map_at s kw.PatternProperties) p r
     (applied root (judge root n g) s t kw.PatternProperties (met root (judge root n g) s t v)) a) b c)
-refuted {root} {n = suc n} {s} {t} (in_reference {r} e h) g v =
-    refuted h g (reference_chosen root (judge root n g) s t r (met root (judge root n g) s t v).referred e)
+refuted {root} {n = suc n} {s} {t} (in_reference {r} k i e h) g v =
+    refuted h g (reference_chosen root (judge root n g) s t r k
+    (reference_met_at root (judge root n g) s t k i (met root (judge root n g) s t v).referred) e)
 refuted {root} {n = suc n} {s} {t} (in_part {r} {u} {k} ls a b c h) g v =
     refuted h g (part_accepts (judge root n g) s t k r u (met root (judge root n g) s t v).parts a b)
 
@@ -291,7 +299,7 @@ there (in_branch e g j h) = there h
 there (in_dependent e g h) = there h
 there {t} {js = k ∷ js} (in_patterned {u} a b c h) =
     subst (λ o. IsSome (option_and_then (λ v. part_at v js) o)) (sym (member_step t k u c)) (there h)
-there (in_reference e h) = there h
+there (in_reference k i e h) = there h
 there {t} {js = k ∷ js} (in_part {u} ls a b c h) = subst (λ o. IsSome (option_and_then (λ v. part_at v js) o)) (sym b) (there h)
 
 -- ---- results
@@ -385,11 +393,20 @@ module _ (w : Walk) (s t c : Tree) (b : Bool) (k : Keyword) (test : Some c ≡ s
     branch_place r ks js h v = subst (λ x. IsInvalidAt (view w.root.now) (suc w.steps) s t (name x ∷ ks) js) (sym chosen)
         (in_branch (sym test) (λ g. sym (told g)) (ap (schema_at s) (sym chosen) ∙ sym h) v)
 
--- ---- the schema that `$ref` leads to
+-- ---- the schema that a reference leads to
 
-pub reference_met : (root : Tree) (f : Judge) (s t r : Tree) → Some r ≡ referenced root s → f r t ≡ true → reference_accepts root f s t ≡
-    true
-reference_met root f s t r e h = ap (λ o. option_map_or (λ q. f q t) o true) (sym e) ∙ h
+pub reference_met : (root : Tree) (f : Judge) (s t r : Tree) (k : Keyword) → Some r ≡ referenced root k s → f r t ≡ true
+    → target_accepts root k f s t ≡ true
+reference_met root f s t r k e h = ap (λ o. option_map_or (λ q. f q t) o true) (sym e) ∙ h
 
-pub no_reference : (root : Tree) (f : Judge) (s t : Tree) → None ≡ referenced root s → reference_accepts root f s t ≡ true
-no_reference root f s t e = ap (λ o. option_map_or (λ q. f q t) o true) (sym e)
+pub no_reference : (root : Tree) (f : Judge) (s t : Tree) (k : Keyword) → None ≡ referenced root k s → target_accepts root k f s t ≡ true
+no_reference root f s t k e = ap (λ o. option_map_or (λ q. f q t) o true) (sym e)
+
+-- the second of the references is met, or not
+pub both_met : (w : Walk) (s t : Tree) (x : Result (Option Violation) CheckError)
+    → ((g : Judge) → target_accepts (view w.root.now) kw.Ref (says w g) s t ≡ true)
+    → Finds w (λ f. target_accepts (view w.root.now) kw.DynamicRef f s t) s t x
+    → Finds w (λ f. reference_accepts (view w.root.now) f s t) s t x
+both_met w s t (Ok None) a h = λ g i. a g i && h g i
+both_met w s t (Ok (Some v)) a h = h
+both_met w s t (Err e) a h = tt

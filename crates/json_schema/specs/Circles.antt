@@ -34,7 +34,7 @@ singles_pass p [] s = true
 singles_pass p (k ∷ ks) s = option_map_or p (schema_at s k) true && singles_pass p ks s
 
 abbrev pub reference_passes : Tree → (Tree → Bool) → Tree → Bool
-reference_passes root p s = option_map_or p (referenced root s) true
+reference_passes root p s = option_map_or p (referenced root kw.Ref s) true && option_map_or p (referenced root kw.DynamicRef s) true
 
 -- No more than so many schemas are applied in one another to the value itself, whatever it is; where references lead in a
 -- circle, there is no end of them.

@@ -1,3 +1,4 @@
+pub mod Anchors
 pub mod Applied
 pub mod Circles
 pub mod Failures

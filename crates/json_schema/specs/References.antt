@@ -1,4 +1,4 @@
--- Where references lead (JSON Schema 2020-12, Core, sections 8.2.3.1 and 9.2).
+-- Where references lead (JSON Schema 2020-12, Core, sections 8.2.2, 8.2.3 and 9.2).
 use Rattle.std.specs.Char.{digit_value}
 use Rattle.std.specs.Prelude.{ℕ, Bool, true, false, ◌&&◌, ◌==◌, ◌+◌, ◌*◌, List, [], ◌∷◌, Option, Some, None, cond, option_map}
 use Rattle.std.specs.Prelude.{option_and_then, encode_utf8_all}
@@ -7,11 +7,12 @@ use Rattle.tinyjson.specs.Characters.{is_hex}
 use Rattle.tinyjson.specs.Tree.{Tree, string}
 use Rattle.json_pointer.specs.Text.{pointer_tokens}
 use Rattle.json_pointer.specs.Walk.{part_at}
+use Rattle.json_schema.specs.Anchors.{anchors_in, anchored, is_plain_name}
 use Rattle.json_schema.specs.Applied.{schema_at}
 use Rattle.json_schema.specs.Forms.{form_at}
 use Rattle.json_schema.specs.declared.form.Form.{Form}
 use Rattle.json_schema.specs.declared.form.Form.TheVariants as form
-use Rattle.json_schema.specs.declared.keyword.Keyword.TheVariants as kw
+use Rattle.json_schema.specs.declared.keyword.Keyword.{Keyword}
 
 -- `%` and `#`
 abbrev pub percent : ℕ
@@ -42,18 +43,10 @@ abbrev mutual
   after_percent (a ∷ b ∷ bs) = option_and_then (λ d. option_map (λ ds. d ∷ ds) (percent_decoded bs)) (hex_byte a b)
   after_percent _ = None
 
--- the text of bytes that are UTF-8
-abbrev pub utf8_text : List ℕ → Option (List ℕ)
-utf8_text bs = cond (is_utf8 bs) (Some (chars bs)) None
-
--- the tokens of the pointer that is a fragment (RFC 6901, section 6)
-abbrev pub fragment_tokens : List ℕ → Option (List (List ℕ))
-fragment_tokens bs = option_and_then pointer_tokens (option_and_then utf8_text (percent_decoded bs))
-
--- those of a reference that is nothing but a fragment
-abbrev pub reference_tokens : List ℕ → Option (List (List ℕ))
-reference_tokens [] = None
-reference_tokens (b ∷ bs) = cond (b == number_sign) (fragment_tokens bs) None
+-- the bytes of a reference that is nothing but a fragment
+abbrev pub reference_bytes : List ℕ → Option (List ℕ)
+reference_bytes [] = None
+reference_bytes (b ∷ bs) = cond (b == number_sign) (percent_decoded bs) None
 
 -- what stands at a token, in a schema, or in a list or an object of schemas
 abbrev pub form_in : Form → List ℕ → Form
@@ -76,11 +69,22 @@ is_schema_form _ = false
 abbrev pub schema_from : Tree → List (List ℕ) → Option Tree
 schema_from root ks = cond (is_schema_form (form_after form.Schema ks)) (part_at root ks) None
 
+-- the schema that a pointer leads to (RFC 6901, section 6)
+abbrev pub at_pointer : Tree → List ℕ → Option Tree
+at_pointer root cs = option_and_then (schema_from root) (pointer_tokens cs)
+
+-- the schema that bytes in UTF-8 lead to: a plain name (8.2.2), or else a pointer
+abbrev pub at_text : Tree → List ℕ → Option Tree
+at_text root bs = cond (is_plain_name bs) (anchored (anchors_in root) bs) (at_pointer root (chars bs))
+
+abbrev pub at_fragment : Tree → List ℕ → Option Tree
+at_fragment root bs = cond (is_utf8 bs) (at_text root bs) None
+
 -- the schema that a reference leads to, if it leads to one in the whole schema
 abbrev pub target : Tree → Tree → Option Tree
-target root (string cs) = option_and_then (schema_from root) (reference_tokens (encode_utf8_all cs))
+target root (string cs) = option_and_then (at_fragment root) (reference_bytes (encode_utf8_all cs))
 target root _ = None
 
--- the one that `$ref` of the schema s leads to
-abbrev pub referenced : Tree → Tree → Option Tree
-referenced root s = option_and_then (target root) (schema_at s kw.Ref)
+-- the one that the keyword, `$ref` or `$dynamicRef`, of the schema s leads to
+abbrev pub referenced : Tree → Keyword → Tree → Option Tree
+referenced root k s = option_and_then (target root) (schema_at s k)

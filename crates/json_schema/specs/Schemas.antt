@@ -6,32 +6,34 @@ use Rattle.tinyjson.specs.Tree.{Tree, boolean, array, object, Items, no_items, i
 use Rattle.json_pointer.specs.declared.pointer.Pointer.{Pointer}
 use Rattle.json_schema.specs.Forms.{form_at, is_count, is_divisor_number, are_types, is_key_list, is_key_map, is_dialect}
 use Rattle.json_schema.specs.Forms.{is_some_item, is_pattern_text, has_patterns}
+use Rattle.json_schema.specs.Anchors.{is_own_name}
 use Rattle.json_schema.specs.Circles.{leads}
 use Rattle.json_schema.specs.declared.form.Form.{Form}
 use Rattle.json_schema.specs.declared.form.Form.TheVariants as form
 
 -- Whether a keyword's value has the form, where it is known whether it is a schema, a list or a map of schemas, whether it
--- is a reference that leads to a schema and in no circle, and whether the keyword is one of the whole schema.
-abbrev pub has_form : Form → Tree → Bool → Bool → Bool → Bool → Bool → Bool
-has_form form.Anything w one list entries leads whole = true
-has_form form.Text w one list entries leads whole = is_string w
-has_form form.Truth w one list entries leads whole = is_boolean w
-has_form form.List w one list entries leads whole = is_array w
-has_form form.Types w one list entries leads whole = are_types w
-has_form form.Number w one list entries leads whole = is_number w
-has_form form.Divisor w one list entries leads whole = is_divisor_number w
-has_form form.Count w one list entries leads whole = is_count w
-has_form form.Keys w one list entries leads whole = is_key_list w
-has_form form.KeyLists w one list entries leads whole = is_key_map w
-has_form form.Pattern w one list entries leads whole = is_pattern_text w
-has_form form.Dialect w one list entries leads whole = is_dialect w
-has_form form.Schema w one list entries leads whole = one
-has_form form.Schemas w one list entries leads whole = list
-has_form form.SchemaMap w one list entries leads whole = entries
-has_form form.PatternMap w one list entries leads whole = has_patterns w && entries
-has_form form.Base w one list entries leads whole = whole && is_string w
-has_form form.Reference w one list entries leads whole = leads
-has_form form.Refused w one list entries leads whole = false
+-- is a reference that leads to a schema and in no circle, and a name of its own, and whether the keyword is one of the whole schema.
+abbrev pub has_form : Form → Tree → Bool → Bool → Bool → Bool → Bool → Bool → Bool
+has_form form.Anything w one list entries leads own whole = true
+has_form form.Text w one list entries leads own whole = is_string w
+has_form form.Truth w one list entries leads own whole = is_boolean w
+has_form form.List w one list entries leads own whole = is_array w
+has_form form.Types w one list entries leads own whole = are_types w
+has_form form.Number w one list entries leads own whole = is_number w
+has_form form.Divisor w one list entries leads own whole = is_divisor_number w
+has_form form.Count w one list entries leads own whole = is_count w
+has_form form.Keys w one list entries leads own whole = is_key_list w
+has_form form.KeyLists w one list entries leads own whole = is_key_map w
+has_form form.Pattern w one list entries leads own whole = is_pattern_text w
+has_form form.Dialect w one list entries leads own whole = is_dialect w
+has_form form.Schema w one list entries leads own whole = one
+has_form form.Schemas w one list entries leads own whole = list
+has_form form.SchemaMap w one list entries leads own whole = entries
+has_form form.PatternMap w one list entries leads own whole = has_patterns w && entries
+has_form form.Base w one list entries leads own whole = whole && is_string w
+has_form form.Reference w one list entries leads own whole = leads
+has_form form.Anchor w one list entries leads own whole = own
+has_form form.Refused w one list entries leads own whole = false
 
 abbrev mutual
   -- a schema whose keywords, and those of the schemas in it, can be applied; in the whole schema root, or the whole itself
@@ -43,7 +45,7 @@ abbrev mutual
   pub keywords_fit : Tree → Bool → Members → Bool
   keywords_fit root whole no_members = true
   keywords_fit root whole (member k w ms) = has_form (form_at (encode_utf8_all k)) w (is_schema root false w) (is_schema_list root w)
-      (is_schema_map root w) (leads root w) whole && keywords_fit root whole ms
+      (is_schema_map root w) (leads root w) (is_own_name root w) whole && keywords_fit root whole ms
 
   pub is_schema_list : Tree → Tree → Bool
   is_schema_list root (array ts) = is_some_item ts && are_schemas root ts
@@ -62,7 +64,7 @@ abbrev mutual
   have_schemas root (member k t ms) = is_schema root false t && have_schemas root ms
 
 abbrev pub fits : Tree → Bool → Form → Tree → Bool
-fits root whole f w = has_form f w (is_schema root false w) (is_schema_list root w) (is_schema_map root w) (leads root w) whole
+fits root whole f w = has_form f w (is_schema root false w) (is_schema_list root w) (is_schema_map root w) (leads root w) (is_own_name root w) whole
 
 -- No place, and what was asked is so; or a place, and it is not.
 abbrev pub Refuses : Bool → Result (Option Pointer) AllocError → Type 0

@@ -26,9 +26,17 @@ abbrev pub refuses_all : Tree → Bool
 refuses_all (boolean accepts) = not accepts
 refuses_all _ = false
 
--- the schema that `$ref` leads to accepts the value, whatever stands beside it (Core, 8.2.3.1)
+-- the schemas that `$ref` and `$dynamicRef` lead to accept the value, whatever stands beside them (Core, 8.2.3)
+abbrev pub is_reference : Keyword → Bool
+is_reference kw.Ref = true
+is_reference kw.DynamicRef = true
+is_reference _ = false
+
+abbrev pub target_accepts : Tree → Keyword → Judge → Tree → Tree → Bool
+target_accepts root k f s t = option_map_or (λ r. f r t) (referenced root k s) true
+
 abbrev pub reference_accepts : Tree → Judge → Tree → Tree → Bool
-reference_accepts root f s t = option_map_or (λ r. f r t) (referenced root s) true
+reference_accepts root f s t = target_accepts root kw.Ref f s t && target_accepts root kw.DynamicRef f s t
 
 -- The tree t meets the keywords of the schema s that speak of it, those that apply schemas to it, and each part is accepted by the
 -- schema that there is for it: by what f says of the schemas that s applies, in s or elsewhere in the whole schema root.
@@ -52,7 +60,7 @@ abbrev pub MeetsRules : Tree → Judge → Type 0
 MeetsRules root f = (s t : Tree) → f s t ≡ accepts_by root f s t
 
 -- What the first tokens name in the schema s is not met by what the others name in t: it is the schema `false`, or
--- a keyword, of a schema that is applied to that part. A token `$ref` goes on in the schema that it leads to (Core, 12.3.2).
+-- a keyword, of a schema that is applied to that part. A token of a reference goes on in the schema that it leads to (Core, 12.3.2).
 pub data IsInvalidAt : Tree → ℕ → Tree → Tree → List (List ℕ) → List (List ℕ) → Type 0 where
   refused : {root s t : Tree} {n : ℕ} → refuses_all s ≡ true → IsInvalidAt root (suc n) s t [] []
   unmet : {root s t : Tree} {n : ℕ} (k : Keyword) → IsUnmet s t (Some k) → IsInvalidAt root (suc n) s t (name k ∷ []) []
@@ -69,8 +77,8 @@ pub data IsInvalidAt : Tree → ℕ → Tree → Tree → List (List ℕ) → Li
   in_patterned : {root s t r u : Tree} {n : ℕ} {p k : List ℕ} {ks js : List (List ℕ)}
       → find p (schema_map_at s kw.PatternProperties) ≡ Some r → is_found p k ≡ true → find k (members_in t) ≡ Some u
       → IsInvalidAt root n r u ks js → IsInvalidAt root (suc n) s t (name kw.PatternProperties ∷ p ∷ ks) (k ∷ js)
-  in_reference : {root s t r : Tree} {n : ℕ} {ks js : List (List ℕ)} → referenced root s ≡ Some r → IsInvalidAt root n r t ks js
-      → IsInvalidAt root (suc n) s t (name kw.Ref ∷ ks) js
+  in_reference : {root s t r : Tree} {n : ℕ} {ks js : List (List ℕ)} (k : Keyword) → is_reference k ≡ true
+      → referenced root k s ≡ Some r → IsInvalidAt root n r t ks js → IsInvalidAt root (suc n) s t (name k ∷ ks) js
   in_part : {root s t r u : Tree} {n : ℕ} {k : List ℕ} {ks js : List (List ℕ)} (ls : List (List ℕ)) → part_schema s t k ≡ Some r
       → step t k ≡ Some u → part_at s ls ≡ Some r → IsInvalidAt root n r u ks js → IsInvalidAt root (suc n) s t (ls ++ ks) (k ∷ js)
 

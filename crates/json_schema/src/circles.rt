@@ -5,9 +5,11 @@ ghost use Rattle.tinyjson.specs.View.{view, items_view, members_listed};
 ghost use Rattle.json_schema.specs.Circles.{all_pass, map_passes, lists_pass, singles_pass};
 ghost use Rattle.json_schema.specs.Applied.{schema_at, schema_map_at};
 ghost use Rattle.json_schema.specs.Circles.{reference_passes, settles_in, leads};
+ghost use Rattle.json_schema.specs.References.{referenced};
 ghost use Rattle.json_schema.specs.declared.keyword.Keyword.TheVariants as kw;
 
 use crate::applied::{schema_at, schema_map_at, schemas_at};
+use crate::document::Document;
 use crate::keyword::Keyword;
 use crate::reference::{referenced, target};
 use crate::walk::Walk;
@@ -24,22 +26,28 @@ const IN_PLACE: [Keyword; 4] = [Keyword::Not, Keyword::If, Keyword::Then, Keywor
 const REFERENCE_STEPS: usize = 100;
 
 /// Whether the reference leads to a schema in the whole one, from which none leads back to the same value.
-pub fn leads(reference: &JsonValue, root: &JsonValue, alloc: Global) -> Result<bool, AllocError>
-    ensures { IfOk result (λ is. is ≡ leads (view root.now) (view reference.now)) }
+pub fn leads(
+    reference: &JsonValue,
+    document: Document<'_, '_>,
+    alloc: Global,
+) -> Result<bool, AllocError>
+    ensures { IfOk result
+        (λ is. is ≡ leads (view document.entry.root.now) (view reference.now)) }
 {
-    let Some(schema) = target(root, reference, alloc)? else {
-        return Ok(false);
-    };
     let walk = Walk {
-        root,
+        root: document.root,
+        anchors: document.anchors,
         steps: REFERENCE_STEPS,
+    };
+    let Some(schema) = target(reference, walk, alloc)? else {
+        return Ok(false);
     };
     settles(schema, walk, alloc)
 }
 
 /// Whether the schemas that are applied in one another to the value itself come to an end.
 #[cycle(circles)]
-fn settles(schema: &JsonValue, walk: Walk<'_>, alloc: Global) -> Result<bool, AllocError>
+fn settles(schema: &JsonValue, walk: Walk<'_, '_>, alloc: Global) -> Result<bool, AllocError>
     ensures { IfOk result
         (λ is. is ≡ settles_in walk.entry (view schema.now)) }
 {
@@ -65,7 +73,7 @@ fn settles(schema: &JsonValue, walk: Walk<'_>, alloc: Global) -> Result<bool, Al
 fn lists_settle(
     keywords: &[Keyword],
     schema: &JsonValue,
-    walk: Walk<'_>,
+    walk: Walk<'_, '_>,
     alloc: Global,
 ) -> Result<bool, AllocError>
     ensures { IfOk result (λ is. is
@@ -81,7 +89,7 @@ fn lists_settle(
 }
 
 #[cycle(circles)]
-fn list_settles(schemas: &[JsonValue], walk: Walk<'_>, alloc: Global) -> Result<bool, AllocError>
+fn list_settles(schemas: &[JsonValue], walk: Walk<'_, '_>, alloc: Global) -> Result<bool, AllocError>
     ensures { IfOk result (λ is. is
         ≡ all_pass (settles_in walk.entry) (items_view schemas.now)) }
 {
@@ -98,7 +106,7 @@ fn list_settles(schemas: &[JsonValue], walk: Walk<'_>, alloc: Global) -> Result<
 fn singles_settle(
     keywords: &[Keyword],
     schema: &JsonValue,
-    walk: Walk<'_>,
+    walk: Walk<'_, '_>,
     alloc: Global,
 ) -> Result<bool, AllocError>
     ensures { IfOk result (λ is. is
@@ -117,7 +125,7 @@ fn singles_settle(
 fn single_settles(
     keyword: Keyword,
     schema: &JsonValue,
-    walk: Walk<'_>,
+    walk: Walk<'_, '_>,
     alloc: Global,
 ) -> Result<bool, AllocError>
     ensures { IfOk result (λ is. is ≡ option_map_or
@@ -130,7 +138,7 @@ fn single_settles(
 }
 
 #[cycle(circles)]
-fn dependents_settle(schema: &JsonValue, walk: Walk<'_>, alloc: Global) -> Result<bool, AllocError>
+fn dependents_settle(schema: &JsonValue, walk: Walk<'_, '_>, alloc: Global) -> Result<bool, AllocError>
     ensures { IfOk result (λ is. is ≡ map_passes (settles_in walk.entry)
         (schema_map_at (view schema.now) kw.DependentSchemas)) }
 {
@@ -141,7 +149,7 @@ fn dependents_settle(schema: &JsonValue, walk: Walk<'_>, alloc: Global) -> Resul
 #[cycle(circles)]
 fn map_settles(
     schemas: &[(&String, &JsonValue)],
-    walk: Walk<'_>,
+    walk: Walk<'_, '_>,
     alloc: Global,
 ) -> Result<bool, AllocError>
     ensures { IfOk result (λ is. is
@@ -157,11 +165,28 @@ fn map_settles(
 }
 
 #[cycle(circles)]
-fn reference_settles(schema: &JsonValue, walk: Walk<'_>, alloc: Global) -> Result<bool, AllocError>
+fn reference_settles(schema: &JsonValue, walk: Walk<'_, '_>, alloc: Global) -> Result<bool, AllocError>
     ensures { IfOk result (λ is. is ≡ reference_passes (view walk.entry.root.now)
         (settles_in walk.entry) (view schema.now)) }
 {
-    match referenced(walk.root, schema, alloc)? {
+    let plain = target_settles(Keyword::Ref, schema, walk, alloc)?;
+    if !plain {
+        return Ok(false);
+    }
+    target_settles(Keyword::DynamicRef, schema, walk, alloc)
+}
+
+#[cycle(circles)]
+fn target_settles(
+    keyword: Keyword,
+    schema: &JsonValue,
+    walk: Walk<'_, '_>,
+    alloc: Global,
+) -> Result<bool, AllocError>
+    ensures { IfOk result (λ is. is ≡ option_map_or (settles_in walk.entry)
+        (referenced (view walk.entry.root.now) keyword (view schema.now)) true) }
+{
+    match referenced(schema, keyword, walk, alloc)? {
         Some(part) => settles(part, walk, alloc),
         None => Ok(true),
     }

@@ -38,6 +38,8 @@ pub enum Form {
     Base,
     /// A reference to a schema in the whole schema.
     Reference,
+    /// A plain name that no other schema has.
+    Anchor,
     /// The keyword can't be applied, whatever its value.
     Refused,
 }
@@ -58,7 +60,8 @@ fn form_of(keyword: Keyword) -> Form
     match keyword {
         Keyword::Schema => Form::Dialect,
         Keyword::Id => Form::Base,
-        Keyword::Ref => Form::Reference,
+        Keyword::Ref | Keyword::DynamicRef => Form::Reference,
+        Keyword::Anchor | Keyword::DynamicAnchor => Form::Anchor,
         Keyword::Comment
         | Keyword::Format
         | Keyword::ContentEncoding
@@ -66,11 +69,7 @@ fn form_of(keyword: Keyword) -> Form
         | Keyword::Title
         | Keyword::Description => Form::Text,
         Keyword::Defs | Keyword::Properties | Keyword::DependentSchemas => Form::SchemaMap,
-        Keyword::Anchor
-        | Keyword::DynamicRef
-        | Keyword::DynamicAnchor
-        | Keyword::UnevaluatedItems
-        | Keyword::UnevaluatedProperties => Form::Refused,
+        Keyword::UnevaluatedItems | Keyword::UnevaluatedProperties => Form::Refused,
         Keyword::PatternProperties => Form::PatternMap,
         Keyword::Pattern => Form::Pattern,
         Keyword::PrefixItems | Keyword::AllOf | Keyword::AnyOf | Keyword::OneOf => Form::Schemas,

@@ -56,16 +56,16 @@ impl Outcome {
 ///
 /// ```
 /// let mut input = b"1\n\"a\"\n{".as_slice();
-/// check_lines(alloc, schema, &mut input, &mut output, &mut errors)?; // of {"type":"integer"}: writes of line 2, tells of line 3
+/// check_lines(alloc, &schema, &mut input, &mut output, &mut errors)?; // of {"type":"integer"}: writes of line 2, tells of line 3
 /// ```
 pub fn check_lines<R: BufRead, W: Write, E: Write>(
     alloc: Global,
-    schema: Schema<'_>,
+    schema: &Schema<'_>,
     input: &mut R,
     output: &mut W,
     errors: &mut E,
 ) -> io::Result<Outcome>
-    ensures { Runs (tree_of schema.entry) (R.remaining input.old) (R.remaining input.new)
+    ensures { Runs (tree_of schema.now) (R.remaining input.old) (R.remaining input.new)
         (W.contents output.old) (W.contents output.new)
         (E.contents errors.old) (E.contents errors.new) result }
 {
@@ -85,13 +85,13 @@ pub fn check_lines<R: BufRead, W: Write, E: Write>(
 /// Checks one line, and writes or tells of it, after what was written before it.
 fn handle<W: Write, E: Write>(
     alloc: Global,
-    schema: Schema<'_>,
+    schema: &Schema<'_>,
     number: u64,
     line: &[u8],
     output: &mut W,
     errors: &mut E,
 ) -> io::Result<Outcome>
-    ensures { Handles (tree_of schema.entry) number line.now
+    ensures { Handles (tree_of schema.now) number line.now
         (W.contents output.old) (W.contents output.new)
         (E.contents errors.old) (E.contents errors.new) result }
 {

@@ -10,10 +10,12 @@
 //! keywords are told on standard error, and lines that can't be checked.
 #![tactic(auto)]
 
+mod anchor;
 mod applied;
 mod assertions;
 mod circles;
 mod contains;
+mod document;
 mod failure;
 mod form;
 mod keyword;
@@ -81,9 +83,9 @@ fn answer_by(rt: &HostRuntime, tree: &JsonValue, by_lines: bool) -> Result<Outco
     let schema = read_schema(alloc, tree)?;
     tell_words(alloc, &mut rt.stderr(), &unknown_words(tree, alloc)?).map_err(Failure::Stream)?;
     if by_lines {
-        by_lines_of(rt, schema)
+        by_lines_of(rt, &schema)
     } else {
-        of_whole(rt, schema)
+        of_whole(rt, &schema)
     }
 }
 
@@ -104,7 +106,7 @@ fn read_schema(alloc: Global, tree: &JsonValue) -> Result<Schema<'_>, Failure> {
 }
 
 /// Checks the text of standard input; what it does not meet is printed.
-fn of_whole(rt: &HostRuntime, schema: Schema<'_>) -> Result<Outcome, Failure> {
+fn of_whole(rt: &HostRuntime, schema: &Schema<'_>) -> Result<Outcome, Failure> {
     let alloc = rt.alloc();
     let text = io::read_to_string(alloc, rt.reader()).map_err(input_error)?;
     match check_text(alloc, schema, text.as_str())? {
@@ -123,7 +125,7 @@ fn of_whole(rt: &HostRuntime, schema: Schema<'_>) -> Result<Outcome, Failure> {
 }
 
 /// Checks each line of standard input. After a failure nothing more is written, though some bytes may be gathered.
-fn by_lines_of(rt: &HostRuntime, schema: Schema<'_>) -> Result<Outcome, Failure> {
+fn by_lines_of(rt: &HostRuntime, schema: &Schema<'_>) -> Result<Outcome, Failure> {
     let alloc = rt.alloc();
     let mut input = BufReader::new(alloc, rt.reader()).map_err(Failure::Stream)?;
     let mut output = BufWriter::new(alloc, rt.stdout()).map_err(Failure::Stream)?;

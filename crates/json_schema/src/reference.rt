@@ -1,49 +1,88 @@
 //! The schemas that references lead to.
 ghost use Rattle.std.specs.Prelude.{◌≡◌, Some, None, option_map, map, IfOk, MatchOption};
+ghost use Rattle.std.specs.Str.{chars};
 ghost use Rattle.tinyjson.specs.View.{view, text};
+ghost use Rattle.json_pointer.specs.Text.{pointer_tokens};
 ghost use Rattle.json_pointer.specs.Tokens.{tokens_of};
 ghost use Rattle.json_schema.specs.References.{percent_decoded, hex_byte, escape_front, byte_front};
-ghost use Rattle.json_schema.specs.References.{fragment_tokens};
-ghost use Rattle.json_schema.specs.References.{reference_tokens, form_in, form_after};
+ghost use Rattle.json_schema.specs.References.{reference_bytes, at_fragment, at_pointer};
+ghost use Rattle.json_schema.specs.References.{form_in, form_after};
 ghost use Rattle.json_schema.specs.References.{is_schema_form, target, referenced};
 ghost use Rattle.json_schema.specs.declared.form.Form.TheVariants as form;
 
+use crate::anchor::{anchored, is_plain_name};
 use crate::applied::schema_at;
 use crate::form::{Form, form_at};
 use crate::keyword::Keyword;
+use crate::walk::Walk;
 use json_pointer::{Pointer, PointerError};
 use std::alloc::{AllocError, Global};
 use std::str;
 use tinyjson::JsonValue;
 
-/// The schema that `$ref` of the schema leads to, in the whole schema.
+/// The schema that the keyword, `$ref` or `$dynamicRef`, of the schema leads to, in the whole schema.
 pub fn referenced<'s>(
-    root: &'s JsonValue,
     schema: &JsonValue,
+    keyword: Keyword,
+    walk: Walk<'_, 's>,
     alloc: Global,
 ) -> Result<Option<&'s JsonValue>, AllocError>
-    ensures { IfOk result (λ r.
-        option_map (λ x. view x.now) r ≡ referenced (view root.now) (view schema.now)) }
+    ensures { IfOk result (λ r. option_map (λ x. view x.now) r
+        ≡ referenced (view walk.entry.root.now) keyword (view schema.now)) }
 {
-    match schema_at(schema, Keyword::Ref) {
-        Some(reference) => target(root, reference, alloc),
+    match schema_at(schema, keyword) {
+        Some(reference) => target(reference, walk, alloc),
         None => Ok(None),
     }
 }
 
-/// The schema that a reference leads to: it has to be `#` and a JSON pointer, percent-encoded (Core, 8.2.3.1).
+/// The schema that a reference leads to: it has to be `#`, and percent-encoded a plain name or a JSON pointer (Core,
+/// 8.2.3).
 pub fn target<'s>(
-    root: &'s JsonValue,
     reference: &JsonValue,
+    walk: Walk<'_, 's>,
     alloc: Global,
 ) -> Result<Option<&'s JsonValue>, AllocError>
-    ensures { IfOk result (λ r.
-        option_map (λ x. view x.now) r ≡ target (view root.now) (view reference.now)) }
+    ensures { IfOk result (λ r. option_map (λ x. view x.now) r
+        ≡ target (view walk.entry.root.now) (view reference.now)) }
 {
     let JsonValue::String(reference) = reference else {
         return Ok(None);
     };
-    let Some(pointer) = read_reference(reference.as_str(), alloc)? else {
+    let Some(fragment) = read_reference(reference.as_str(), alloc)? else {
+        return Ok(None);
+    };
+    at_fragment(fragment.as_slice(), walk, alloc)
+}
+
+/// The schema that a fragment leads to, if its bytes are UTF-8.
+fn at_fragment<'s>(
+    fragment: &[u8],
+    walk: Walk<'_, 's>,
+    alloc: Global,
+) -> Result<Option<&'s JsonValue>, AllocError>
+    ensures { IfOk result (λ r. option_map (λ x. view x.now) r
+        ≡ at_fragment (view walk.entry.root.now) fragment.now) }
+{
+    let Ok(text) = str::from_utf8(fragment) else {
+        return Ok(None);
+    };
+    if is_plain_name(text) {
+        return Ok(anchored(walk.anchors, text));
+    }
+    at_pointer(walk.root, text, alloc)
+}
+
+/// The schema that a pointer leads to.
+fn at_pointer<'s>(
+    root: &'s JsonValue,
+    text: &str,
+    alloc: Global,
+) -> Result<Option<&'s JsonValue>, AllocError>
+    ensures { IfOk result (λ r.
+        option_map (λ x. view x.now) r ≡ at_pointer (view root.now) (chars text.now)) }
+{
+    let Some(pointer) = read_pointer(text, alloc)? else {
         return Ok(None);
     };
     if !leads_to_schema(pointer.tokens()) {
@@ -52,9 +91,19 @@ pub fn target<'s>(
     Ok(pointer.find(root))
 }
 
-/// The pointer of a reference that is nothing but a fragment.
-fn read_reference(reference: &str, alloc: Global) -> Result<Option<Pointer>, AllocError>
-    ensures { IfOk result (λ p. option_map tokens_of p ≡ reference_tokens reference.now) }
+fn read_pointer(text: &str, alloc: Global) -> Result<Option<Pointer>, AllocError>
+    ensures { IfOk result (λ p. option_map tokens_of p ≡ pointer_tokens (chars text.now)) }
+{
+    match Pointer::parse(alloc, text) {
+        Ok(pointer) => Ok(Some(pointer)),
+        Err(PointerError::OutOfMemory) => Err(AllocError),
+        Err(_) => Ok(None),
+    }
+}
+
+/// The bytes of a reference that is nothing but a fragment.
+fn read_reference(reference: &str, alloc: Global) -> Result<Option<Vec<u8>>, AllocError>
+    ensures { IfOk result (λ d. option_map (λ v. v.items) d ≡ reference_bytes reference.now) }
 {
     let Some((first, fragment)) = reference.as_bytes().split_first() else {
         return Ok(None);
@@ -62,23 +111,7 @@ fn read_reference(reference: &str, alloc: Global) -> Result<Option<Pointer>, All
     if *first != b'#' {
         return Ok(None);
     }
-    read_fragment(fragment, alloc)
-}
-
-fn read_fragment(fragment: &[u8], alloc: Global) -> Result<Option<Pointer>, AllocError>
-    ensures { IfOk result (λ p. option_map tokens_of p ≡ fragment_tokens fragment.now) }
-{
-    let Some(decoded) = percent_decoded(fragment, alloc)? else {
-        return Ok(None);
-    };
-    let Ok(text) = str::from_utf8(decoded.as_slice()) else {
-        return Ok(None);
-    };
-    match Pointer::parse(alloc, text) {
-        Ok(pointer) => Ok(Some(pointer)),
-        Err(PointerError::OutOfMemory) => Err(AllocError),
-        Err(_) => Ok(None),
-    }
+    percent_decoded(fragment, alloc)
 }
 
 /// The bytes that percent-encoded ones stand for (RFC 3986, section 2.1); `None` where two hexadecimal digits do not

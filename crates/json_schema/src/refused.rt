@@ -1,7 +1,9 @@
 //! Which schemas can be applied, and the place of what can't.
-ghost use Rattle.std.specs.Prelude.{◌≡◌, ◌&&◌, IfOk, true};
+ghost use Rattle.std.specs.Prelude.{◌≡◌, ◌&&◌, IfOk, true, option_map};
+ghost use Rattle.std.specs.String.{string_bytes};
 ghost use Rattle.tinyjson.specs.Access.{is_string, is_boolean, is_array, is_number};
 ghost use Rattle.tinyjson.specs.View.{view, items_view, members_listed};
+ghost use Rattle.json_schema.specs.Anchors.{is_own_name, is_name};
 ghost use Rattle.json_schema.specs.Forms.{is_count, is_type_name, are_type_names};
 ghost use Rattle.json_schema.specs.Forms.{are_types, are_strings, are_keys, is_key_list, have_key_lists};
 ghost use Rattle.json_schema.specs.Forms.{is_key_map, is_pattern_text, are_patterns, has_patterns};
@@ -10,8 +12,10 @@ ghost use Rattle.json_schema.specs.Schemas.{Refuses, is_schema, keywords_fit, fi
 ghost use Rattle.json_schema.specs.Schemas.{is_schema_list, is_schema_map, are_schemas};
 ghost use Rattle.json_schema.specs.Schemas.{have_schemas};
 
+use crate::anchor::is_plain_name;
 use crate::assertions::is_among;
 use crate::circles::leads;
+use crate::document::Document;
 use crate::form::{Form, form_at};
 use crate::multiple::is_divisor_number;
 use crate::pattern::is_pattern;
@@ -25,27 +29,31 @@ use tinyjson::{JsonValue, sorted_members};
 /// value. `None` says that the schema can be applied. The only error is out of memory.
 ///
 /// It calls itself for each schema in the schema, so it takes stack as the schema is deep.
-pub fn refused_place(schema: &JsonValue, alloc: Global) -> Result<Option<Pointer>, AllocError>
-    ensures { Refuses (is_schema (view schema.now) true (view schema.now)) result }
+pub fn refused_place(
+    document: Document<'_, '_>,
+    alloc: Global,
+) -> Result<Option<Pointer>, AllocError>
+    ensures { Refuses
+        (is_schema (view document.entry.root.now) true (view document.entry.root.now)) result }
 {
-    refused_in(schema, schema, true, alloc)
+    refused_in(document.root, document, true, alloc)
 }
 
 /// The same of a schema in the whole one, or of the whole one.
 #[cycle(refused)]
 fn refused_in(
     schema: &JsonValue,
-    root: &JsonValue,
+    document: Document<'_, '_>,
     is_whole: bool,
     alloc: Global,
 ) -> Result<Option<Pointer>, AllocError>
-    ensures { Refuses (is_schema (view root.now) is_whole (view schema.now)) result }
+    ensures { Refuses (is_schema (view document.entry.root.now) is_whole (view schema.now)) result }
 {
     match schema {
         JsonValue::Boolean(_) => Ok(None),
         JsonValue::Object(keywords) => {
             let sorted = sorted_members(alloc, keywords)?;
-            refused_keyword(sorted.as_slice(), root, is_whole, alloc)
+            refused_keyword(sorted.as_slice(), document, is_whole, alloc)
         }
         _ => Ok(Some(Pointer::root(alloc))),
     }
@@ -54,15 +62,15 @@ fn refused_in(
 #[cycle(refused)]
 fn refused_keyword(
     keywords: &[(&String, &JsonValue)],
-    root: &JsonValue,
+    document: Document<'_, '_>,
     is_whole: bool,
     alloc: Global,
 ) -> Result<Option<Pointer>, AllocError>
-    ensures { Refuses (keywords_fit (view root.now) is_whole (members_listed keywords.now))
+    ensures { Refuses (keywords_fit (view document.entry.root.now) is_whole (members_listed keywords.now))
         result }
 {
     for (name, operand) in keywords {
-        if let Some(mut place) = misfit(form_at(name.as_str()), operand, root, is_whole, alloc)? {
+        if let Some(mut place) = misfit(form_at(name.as_str()), operand, document, is_whole, alloc)? {
             place.prepend(String::from_str(alloc, name.as_str())?)?;
             return Ok(Some(place));
         }
@@ -75,11 +83,11 @@ fn refused_keyword(
 fn misfit(
     form: Form,
     operand: &JsonValue,
-    root: &JsonValue,
+    document: Document<'_, '_>,
     is_whole: bool,
     alloc: Global,
 ) -> Result<Option<Pointer>, AllocError>
-    ensures { Refuses (fits (view root.now) is_whole form (view operand.now)) result }
+    ensures { Refuses (fits (view document.entry.root.now) is_whole form (view operand.now)) result }
 {
     match form {
         Form::Anything => Ok(None),
@@ -94,12 +102,13 @@ fn misfit(
         Form::KeyLists => unless(is_key_map(operand, alloc)?, alloc),
         Form::Pattern => unless(is_pattern_text(operand, alloc)?, alloc),
         Form::Dialect => unless(is_dialect(operand), alloc),
-        Form::Schema => refused_in(operand, root, false, alloc),
-        Form::Schemas => refused_in_list(operand, root, alloc),
-        Form::SchemaMap => refused_in_map(operand, root, alloc),
-        Form::PatternMap => refused_in_patterns(operand, root, alloc),
+        Form::Schema => refused_in(operand, document, false, alloc),
+        Form::Schemas => refused_in_list(operand, document, alloc),
+        Form::SchemaMap => refused_in_map(operand, document, alloc),
+        Form::PatternMap => refused_in_patterns(operand, document, alloc),
         Form::Base => unless(is_whole && is_string(operand), alloc),
-        Form::Reference => unless(leads(operand, root, alloc)?, alloc),
+        Form::Reference => unless(leads(operand, document, alloc)?, alloc),
+        Form::Anchor => unless(is_own_name(operand, document), alloc),
         Form::Refused => unless(false, alloc),
     }
 }
@@ -107,10 +116,10 @@ fn misfit(
 #[cycle(refused)]
 fn refused_in_list(
     schemas: &JsonValue,
-    root: &JsonValue,
+    document: Document<'_, '_>,
     alloc: Global,
 ) -> Result<Option<Pointer>, AllocError>
-    ensures { Refuses (is_schema_list (view root.now) (view schemas.now)) result }
+    ensures { Refuses (is_schema_list (view document.entry.root.now) (view schemas.now)) result }
 {
     let JsonValue::Array(schemas) = schemas else {
         return Ok(Some(Pointer::root(alloc)));
@@ -119,19 +128,19 @@ fn refused_in_list(
     if !is_some_item(schemas) {
         return Ok(Some(Pointer::root(alloc)));
     }
-    refused_item(schemas, root, alloc)
+    refused_item(schemas, document, alloc)
 }
 
 #[cycle(refused)]
 fn refused_item(
     schemas: &[JsonValue],
-    root: &JsonValue,
+    document: Document<'_, '_>,
     alloc: Global,
 ) -> Result<Option<Pointer>, AllocError>
-    ensures { Refuses (are_schemas (view root.now) (items_view schemas.now)) result }
+    ensures { Refuses (are_schemas (view document.entry.root.now) (items_view schemas.now)) result }
 {
     for (index, schema) in schemas.iter().enumerate() {
-        if let Some(mut place) = refused_in(schema, root, false, alloc)? {
+        if let Some(mut place) = refused_in(schema, document, false, alloc)? {
             place.prepend_index(alloc, index)?;
             return Ok(Some(place));
         }
@@ -142,28 +151,28 @@ fn refused_item(
 #[cycle(refused)]
 fn refused_in_map(
     schemas: &JsonValue,
-    root: &JsonValue,
+    document: Document<'_, '_>,
     alloc: Global,
 ) -> Result<Option<Pointer>, AllocError>
-    ensures { Refuses (is_schema_map (view root.now) (view schemas.now)) result }
+    ensures { Refuses (is_schema_map (view document.entry.root.now) (view schemas.now)) result }
 {
     let JsonValue::Object(schemas) = schemas else {
         return Ok(Some(Pointer::root(alloc)));
     };
     let sorted = sorted_members(alloc, schemas)?;
-    refused_member(sorted.as_slice(), root, alloc)
+    refused_member(sorted.as_slice(), document, alloc)
 }
 
 #[cycle(refused)]
 fn refused_member(
     schemas: &[(&String, &JsonValue)],
-    root: &JsonValue,
+    document: Document<'_, '_>,
     alloc: Global,
 ) -> Result<Option<Pointer>, AllocError>
-    ensures { Refuses (have_schemas (view root.now) (members_listed schemas.now)) result }
+    ensures { Refuses (have_schemas (view document.entry.root.now) (members_listed schemas.now)) result }
 {
     for (key, schema) in schemas {
-        if let Some(mut place) = refused_in(schema, root, false, alloc)? {
+        if let Some(mut place) = refused_in(schema, document, false, alloc)? {
             place.prepend(String::from_str(alloc, key.as_str())?)?;
             return Ok(Some(place));
         }
@@ -175,17 +184,17 @@ fn refused_member(
 #[cycle(refused)]
 fn refused_in_patterns(
     schemas: &JsonValue,
-    root: &JsonValue,
+    document: Document<'_, '_>,
     alloc: Global,
 ) -> Result<Option<Pointer>, AllocError>
     ensures { Refuses
-        (has_patterns (view schemas.now) && is_schema_map (view root.now) (view schemas.now))
+        (has_patterns (view schemas.now) && is_schema_map (view document.entry.root.now) (view schemas.now))
         result }
 {
     if let Some(place) = refused_pattern(schemas, alloc)? {
         return Ok(Some(place));
     }
-    refused_in_map(schemas, root, alloc)
+    refused_in_map(schemas, document, alloc)
 }
 
 fn refused_pattern(schemas: &JsonValue, alloc: Global) -> Result<Option<Pointer>, AllocError>
@@ -225,6 +234,26 @@ fn unless(fits: bool, alloc: Global) -> Result<Option<Pointer>, AllocError>
         Ok(None)
     } else {
         Ok(Some(Pointer::root(alloc)))
+    }
+}
+
+/// Whether it is a plain name, and not the first one that the document has twice.
+fn is_own_name(value: &JsonValue, document: Document<'_, '_>) -> bool
+    ensures { result ≡ is_own_name (view document.entry.root.now) (view value.now) }
+{
+    match value {
+        JsonValue::String(name) =>
+            is_plain_name(name.as_str()) && !is_name(document.again, name.as_str()),
+        _ => false,
+    }
+}
+
+fn is_name(again: Option<&String>, name: &str) -> bool
+    ensures { result ≡ is_name (option_map (λ x. string_bytes x.now) again.entry) name.now }
+{
+    match again {
+        Some(other) => other.as_str() == name,
+        None => false,
     }
 }
 

@@ -1,31 +1,36 @@
 //! Schemas, which are looked through before a value is checked.
 ghost use Rattle.std.specs.Prelude.{◌≡◌, true, IfOk};
 ghost use Rattle.tinyjson.specs.View.{view};
+ghost use Rattle.json_schema.specs.Anchors.{has_anchors};
 ghost use Rattle.json_schema.specs.Schemas.{is_schema};
 ghost use Rattle.json_schema.specs.declared.schema.SchemaError.{SchemaError};
 
+use crate::anchor::{Anchor, anchors_of, repeated};
+use crate::document::Document;
 use crate::refused::refused_place;
 use crate::validate::find_violation;
 use crate::violation::Violation;
-use crate::walk::CheckError;
+use crate::walk::{CheckError, Walk};
 use json_pointer::Pointer;
 use std::alloc::{AllocError, Global};
 use tinyjson::JsonValue;
 
 /// A schema that can be applied: each keyword in it has a value of the standard's form, and is one that is applied or
 /// says nothing, and each reference leads to a schema in it, and not in a circle.
-#[derive(Clone, Copy, Debug)]
+#[derive(Debug, Drop)]
 pub struct Schema<'s> {
     root: &'s JsonValue,
+    anchors: Vec<Anchor<'s>>,
     ghost checked: { is_schema (view root.now) true (view root.now) ≡ true },
+    ghost gathered: { has_anchors (view root.now) anchors.items ≡ true },
 }
 
 /// Why a tree is not taken as a schema.
 #[derive(Debug, Drop)]
 pub enum SchemaError {
     /// What stands at this place can't be applied: a keyword that is not supported, one whose value has another form
-    /// than the standard's, a reference that leads to no schema in the tree, or in a circle, or a schema that is neither
-    /// an object nor a truth value.
+    /// than the standard's, a reference that leads to no schema in the tree, or in a circle, a name that another schema
+    /// has, or a schema that is neither an object nor a truth value.
     Refused(Pointer),
     /// An allocation failed.
     OutOfMemory,
@@ -53,8 +58,18 @@ impl<'s> Schema<'s> {
     pub fn read(tree: &'s JsonValue, alloc: Global) -> Result<Schema<'s>, SchemaError>
         ensures { ReadsSchema (view tree.now) result }
     {
-        match refused_place(tree, alloc)? {
-            None => Ok(Schema { root: tree }),
+        let anchors = anchors_of(tree, alloc)?;
+        let again = repeated(anchors.as_slice(), alloc)?;
+        let document = Document {
+            root: tree,
+            anchors: anchors.as_slice(),
+            again,
+        };
+        match refused_place(document, alloc)? {
+            None => Ok(Schema {
+                root: tree,
+                anchors,
+            }),
             Some(place) => Err(SchemaError::Refused(place)),
         }
     }
@@ -77,6 +92,11 @@ impl<'s> Schema<'s> {
         ensures judged { Validates steps (tree_of self.now) (view value.now) result }
         ensures only { IfOk result (λ found. Agrees (tree_of self.now) (view value.now) found) }
     {
-        find_violation(value, self.root, steps, alloc)
+        let walk = Walk {
+            root: self.root,
+            anchors: self.anchors.as_slice(),
+            steps,
+        };
+        find_violation(value, walk, alloc)
     }
 }

@@ -1,6 +1,6 @@
 //! What a value does not meet of a schema. The tests that apply schemas are not inlined, so that a level of the
 //! recursion over schemas takes less than a kilobyte of stack.
-ghost use Rattle.std.specs.Prelude.{◌≡◌, IfOk, not, is_some};
+ghost use Rattle.std.specs.Prelude.{◌≡◌, IfOk, not, is_some, true};
 ghost use Rattle.tinyjson.specs.Tree.{array, object};
 ghost use Rattle.tinyjson.specs.View.{view, items_view, members_listed};
 ghost use Rattle.tinyjson.specs.Soundness.{IsSorted};
@@ -12,6 +12,7 @@ ghost use Rattle.json_schema.specs.Applied.{members_in};
 ghost use Rattle.json_schema.specs.Applied.{items_accepted, parts_accepted, schemas_at};
 ghost use Rattle.json_schema.specs.Valid.{refuses_all, reference_accepts, Validates, Agrees};
 ghost use Rattle.json_schema.specs.Valid.{Judges, Follows, Finds, FindsFound, IsUnapplied};
+ghost use Rattle.json_schema.specs.Valid.{is_reference, target_accepts};
 ghost use Rattle.json_schema.specs.declared.keyword.Keyword.TheVariants as kw;
 
 use crate::applied::{
@@ -29,29 +30,25 @@ use crate::walk::{CheckError, Walk};
 use std::alloc::Global;
 use tinyjson::{JsonValue, sorted_members};
 
-/// What the value does not meet of the schema, if there is something; `None` says that the value is valid. So many
-/// schemas may be applied in one another, by keywords and by references; where more would be, it returns `TooDeep`. The
-/// other error is out of memory.
+/// What the value does not meet of the whole schema, if there is something; `None` says that the value is valid. So many
+/// schemas may be applied in one another as the walk has steps, by keywords and by references; where more would be, it
+/// returns `TooDeep`. The other error is out of memory.
 ///
 /// It calls itself for each schema that a schema applies, so it takes stack as these are applied in one another.
 ///
 /// ```
-/// let violation = find_violation(&value, &schema, 500, alloc)?;
+/// let violation = find_violation(&value, walk, alloc)?;
 /// ```
 pub fn find_violation(
     value: &JsonValue,
-    schema: &JsonValue,
-    steps: usize,
+    walk: Walk<'_, '_>,
     alloc: Global,
 ) -> Result<Option<Violation>, CheckError>
-    ensures judged { Validates steps (view schema.now) (view value.now) result }
-    ensures only { IfOk result (λ found. Agrees (view schema.now) (view value.now) found) }
+    ensures judged { Validates walk.entry.steps (view walk.entry.root.now) (view value.now) result }
+    ensures only { IfOk result
+        (λ found. Agrees (view walk.entry.root.now) (view value.now) found) }
 {
-    let walk = Walk {
-        root: schema,
-        steps,
-    };
-    violation_in(value, schema, walk, alloc)
+    violation_in(value, walk.root, walk, alloc)
 }
 
 /// The same of a schema in the whole one.
@@ -59,7 +56,7 @@ pub fn find_violation(
 fn violation_in(
     value: &JsonValue,
     schema: &JsonValue,
-    walk: Walk<'_>,
+    walk: Walk<'_, '_>,
     alloc: Global,
 ) -> Result<Option<Violation>, CheckError>
     ensures { Judges walk.entry (view schema.now) (view value.now) result }
@@ -107,7 +104,7 @@ fn refuses_all(schema: &JsonValue) -> bool
 fn is_accepted(
     value: &JsonValue,
     schema: &JsonValue,
-    walk: Walk<'_>,
+    walk: Walk<'_, '_>,
     alloc: Global,
 ) -> Result<bool, CheckError>
     ensures { IfOk result
@@ -132,7 +129,7 @@ fn is_nothing(found: &Option<Violation>) -> bool
 fn unmet_test(
     value: &JsonValue,
     schema: &JsonValue,
-    walk: Walk<'_>,
+    walk: Walk<'_, '_>,
     alloc: Global,
 ) -> Result<Option<Keyword>, CheckError>
     ensures { IfOk result
@@ -163,7 +160,7 @@ fn unmet_test(
 fn unmet_count(
     value: &JsonValue,
     schema: &JsonValue,
-    walk: Walk<'_>,
+    walk: Walk<'_, '_>,
     alloc: Global,
 ) -> Result<Option<Keyword>, CheckError>
     ensures { IfOk result
@@ -191,7 +188,7 @@ fn unmet_count(
 fn is_any_met(
     value: &JsonValue,
     schemas: &[JsonValue],
-    walk: Walk<'_>,
+    walk: Walk<'_, '_>,
     alloc: Global,
 ) -> Result<bool, CheckError>
     ensures { IfOk result
@@ -210,7 +207,7 @@ fn is_any_met(
 fn is_some_met(
     value: &JsonValue,
     schemas: &[JsonValue],
-    walk: Walk<'_>,
+    walk: Walk<'_, '_>,
     alloc: Global,
 ) -> Result<bool, CheckError>
     ensures { IfOk result
@@ -232,7 +229,7 @@ fn is_some_met(
 fn is_one_met(
     value: &JsonValue,
     schemas: &[JsonValue],
-    walk: Walk<'_>,
+    walk: Walk<'_, '_>,
     alloc: Global,
 ) -> Result<bool, CheckError>
     ensures { IfOk result
@@ -251,7 +248,7 @@ fn is_one_met(
 fn count_accepting(
     value: &JsonValue,
     schemas: &[JsonValue],
-    walk: Walk<'_>,
+    walk: Walk<'_, '_>,
     alloc: Global,
 ) -> Result<usize, CheckError>
     ensures { IfOk result
@@ -274,7 +271,7 @@ fn count_accepting(
 fn is_not_met(
     value: &JsonValue,
     schema: &JsonValue,
-    walk: Walk<'_>,
+    walk: Walk<'_, '_>,
     alloc: Global,
 ) -> Result<bool, CheckError>
     ensures { IfOk result
@@ -296,7 +293,7 @@ fn is_not_met(
 fn are_names_met(
     value: &JsonValue,
     schema: &JsonValue,
-    walk: Walk<'_>,
+    walk: Walk<'_, '_>,
     alloc: Global,
 ) -> Result<bool, CheckError>
     ensures { IfOk result
@@ -318,7 +315,7 @@ fn are_names_met(
 fn are_keys_met(
     members: &[(&String, &JsonValue)],
     schema: &JsonValue,
-    walk: Walk<'_>,
+    walk: Walk<'_, '_>,
     alloc: Global,
 ) -> Result<bool, CheckError>
     ensures { IfOk result
@@ -341,7 +338,7 @@ fn are_keys_met(
 fn contained(
     value: &JsonValue,
     schema: &JsonValue,
-    walk: Walk<'_>,
+    walk: Walk<'_, '_>,
     alloc: Global,
 ) -> Result<Option<usize>, CheckError>
     ensures { IfOk result
@@ -364,7 +361,7 @@ fn contained(
 fn count_passing(
     items: &[JsonValue],
     schema: &JsonValue,
-    walk: Walk<'_>,
+    walk: Walk<'_, '_>,
     alloc: Global,
 ) -> Result<usize, CheckError>
     ensures { IfOk result
@@ -386,7 +383,7 @@ fn count_passing(
 fn in_all_of(
     value: &JsonValue,
     schema: &JsonValue,
-    walk: Walk<'_>,
+    walk: Walk<'_, '_>,
     alloc: Global,
 ) -> Result<Option<Violation>, CheckError>
     ensures { Finds walk.entry
@@ -408,7 +405,7 @@ fn in_all_of(
 fn in_branch(
     value: &JsonValue,
     schema: &JsonValue,
-    walk: Walk<'_>,
+    walk: Walk<'_, '_>,
     alloc: Global,
 ) -> Result<Option<Violation>, CheckError>
     ensures { Finds walk.entry (λ f. applies f kw.If (view schema.now) (view value.now))
@@ -434,7 +431,7 @@ fn in_branch(
 fn in_dependents(
     value: &JsonValue,
     schema: &JsonValue,
-    walk: Walk<'_>,
+    walk: Walk<'_, '_>,
     alloc: Global,
 ) -> Result<Option<Violation>, CheckError>
     ensures { Finds walk.entry
@@ -460,7 +457,7 @@ fn in_dependents(
 fn in_patterned(
     value: &JsonValue,
     schema: &JsonValue,
-    walk: Walk<'_>,
+    walk: Walk<'_, '_>,
     alloc: Global,
 ) -> Result<Option<Violation>, CheckError>
     ensures { Finds walk.entry
@@ -485,7 +482,7 @@ fn in_found(
     value: &JsonValue,
     pattern: &str,
     schema: &JsonValue,
-    walk: Walk<'_>,
+    walk: Walk<'_, '_>,
     alloc: Global,
 ) -> Result<Option<Violation>, CheckError>
     ensures { FindsFound walk.entry (chars pattern.now) (view schema.now)
@@ -506,25 +503,44 @@ fn in_found(
     Ok(None)
 }
 
-/// What the value does not meet of the schema that `$ref` leads to.
+/// What the value does not meet of the schemas that `$ref` and `$dynamicRef` lead to.
 #[cycle(validate)]
 fn in_reference(
     value: &JsonValue,
     schema: &JsonValue,
-    walk: Walk<'_>,
+    walk: Walk<'_, '_>,
     alloc: Global,
 ) -> Result<Option<Violation>, CheckError>
     ensures { Finds walk.entry
         (λ f. reference_accepts (view walk.entry.root.now) f (view schema.now) (view value.now))
         (view schema.now) (view value.now) result }
 {
-    let Some(part) = referenced(walk.root, schema, alloc)? else {
+    if let Some(found) = in_target(value, schema, Keyword::Ref, walk, alloc)? {
+        return Ok(Some(found));
+    }
+    in_target(value, schema, Keyword::DynamicRef, walk, alloc)
+}
+
+/// What the value does not meet of the schema that the reference leads to.
+#[cycle(validate)]
+fn in_target(
+    value: &JsonValue,
+    schema: &JsonValue,
+    keyword: Keyword,
+    walk: Walk<'_, '_>,
+    alloc: Global,
+) -> Result<Option<Violation>, CheckError>
+    requires { is_reference keyword ≡ true }
+    ensures { Finds walk.entry (λ f. target_accepts (view walk.entry.root.now) keyword f
+        (view schema.now) (view value.now)) (view schema.now) (view value.now) result }
+{
+    let Some(part) = referenced(schema, keyword, walk, alloc)? else {
         return Ok(None);
     };
     let Some(mut found) = violation_in(value, part, walk, alloc)? else {
         return Ok(None);
     };
-    found.enter_keyword(alloc, Keyword::Ref)?;
+    found.enter_keyword(alloc, keyword)?;
     Ok(Some(found))
 }
 
@@ -533,7 +549,7 @@ fn in_reference(
 fn in_parts(
     value: &JsonValue,
     schema: &JsonValue,
-    walk: Walk<'_>,
+    walk: Walk<'_, '_>,
     alloc: Global,
 ) -> Result<Option<Violation>, CheckError>
     ensures { Finds walk.entry (λ f. parts_accepted f (view schema.now) (view value.now))
@@ -553,7 +569,7 @@ fn in_parts(
 fn in_members(
     members: &[(&String, &JsonValue)],
     schema: &JsonValue,
-    walk: Walk<'_>,
+    walk: Walk<'_, '_>,
     alloc: Global,
 ) -> Result<Option<Violation>, CheckError>
     requires { IsSorted (members_listed members.now) }
@@ -576,7 +592,7 @@ fn in_members(
 fn in_items(
     items: &[JsonValue],
     schema: &JsonValue,
-    walk: Walk<'_>,
+    walk: Walk<'_, '_>,
     alloc: Global,
 ) -> Result<Option<Violation>, CheckError>
     ensures { Finds walk.entry

@@ -42,8 +42,8 @@ pub enum Cause {
 }
 
 /// What the check of a text's value says. The only error is out of memory.
-pub fn check_text(alloc: Global, schema: Schema<'_>, text: &str) -> Result<Verdict, AllocError>
-    ensures { IfOk result (TextGives (tree_of schema.entry) (chars text.now)) }
+pub fn check_text(alloc: Global, schema: &Schema<'_>, text: &str) -> Result<Verdict, AllocError>
+    ensures { IfOk result (TextGives (tree_of schema.now) (chars text.now)) }
 {
     match JsonValue::from_str_with_depth_limit(alloc, text, DEPTH_LIMIT) {
         Ok(value) => {
@@ -60,8 +60,8 @@ pub fn check_text(alloc: Global, schema: Schema<'_>, text: &str) -> Result<Verdi
     }
 }
 
-fn check_value(alloc: Global, schema: Schema<'_>, value: &JsonValue) -> Result<Verdict, AllocError>
-    ensures { IfOk result (ValueGives (tree_of schema.entry) (view value.now)) }
+fn check_value(alloc: Global, schema: &Schema<'_>, value: &JsonValue) -> Result<Verdict, AllocError>
+    ensures { IfOk result (ValueGives (tree_of schema.now) (view value.now)) }
 {
     match schema.invalid_place(value, STEP_LIMIT, alloc) {
         Ok(None) => Ok(Verdict::Valid),
@@ -72,8 +72,8 @@ fn check_value(alloc: Global, schema: Schema<'_>, value: &JsonValue) -> Result<V
 }
 
 /// The same of the text on a line, without its line feed.
-pub fn check_line(alloc: Global, schema: Schema<'_>, line: &[u8]) -> Result<Verdict, AllocError>
-    ensures { IfOk result (LineGives (tree_of schema.entry) line.now) }
+pub fn check_line(alloc: Global, schema: &Schema<'_>, line: &[u8]) -> Result<Verdict, AllocError>
+    ensures { IfOk result (LineGives (tree_of schema.now) line.now) }
 {
     match str::from_utf8(content(line)) {
         Ok(text) => check_text(alloc, schema, text),

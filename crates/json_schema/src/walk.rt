@@ -1,7 +1,9 @@
 //! How far a check has come into schemas that apply one another.
-ghost use Rattle.std.specs.Prelude.{◌≡◌, MatchResult};
-ghost use Rattle.json_schema.specs.Valid.{IsDeeper};
+ghost use Rattle.std.specs.Prelude.{◌≡◌, true};
+ghost use Rattle.tinyjson.specs.View.{view};
+ghost use Rattle.json_schema.specs.Anchors.{has_anchors};
 
+use crate::anchor::Anchor;
 use std::alloc::{AllocError, AllocFailed};
 use tinyjson::JsonValue;
 
@@ -22,20 +24,26 @@ impl From<AllocError> for CheckError {
 
 /// Where references lead, and how many schemas more may be applied in one another.
 #[derive(Clone, Copy)]
-pub struct Walk<'s> {
+pub struct Walk<'d, 's> {
     pub root: &'s JsonValue,
+    pub anchors: &'d [Anchor<'s>],
     pub steps: usize,
+    ghost gathered: { has_anchors (view root.now) anchors.now ≡ true },
 }
 
-impl<'s> Walk<'s> {
+impl<'d, 's> Walk<'d, 's> {
+    ghost use Rattle.std.specs.Prelude.{MatchResult};
+    ghost use Rattle.json_schema.specs.Valid.{IsDeeper};
+
     /// The walk inside a schema.
-    pub fn deeper(self) -> Result<Walk<'s>, CheckError>
+    pub fn deeper(self) -> Result<Walk<'d, 's>, CheckError>
         ensures { MatchResult result
             (λ inner. IsDeeper self.entry inner) (λ _. self.entry.steps ≡ 0) }
     {
         match self.steps.checked_sub(1) {
             Some(steps) => Ok(Walk {
                 root: self.root,
+                anchors: self.anchors,
                 steps,
             }),
             None => Err(CheckError::TooDeep),

@@ -22,7 +22,7 @@ settles-dependents_settle-requires t c =
 
 pub settles-reference_settles-requires : goal.settles-reference_settles-requires
 settles-reference_settles-requires t c =
-    let fewer : 8 * c.in-Ok.inner.steps + 5 < 8 * c.args.walk.steps + 3 = omega (arith, c.in-Ok.ensures.1) in
+    let fewer : 8 * c.in-Ok.inner.steps + 6 < 8 * c.args.walk.steps + 3 = omega (arith, c.in-Ok.ensures.1) in
     search rules
 
 pub settles-returns-in_default : goal.settles-returns-in_default

@@ -25,7 +25,10 @@ abbrev pub decreases-map_settles : goal.decreases-map_settles
 decreases-map_settles l = 8 * l.walk.steps + 5
 
 abbrev pub decreases-reference_settles : goal.decreases-reference_settles
-decreases-reference_settles l = 8 * l.walk.steps + 5
+decreases-reference_settles l = 8 * l.walk.steps + 6
+
+abbrev pub decreases-target_settles : goal.decreases-target_settles
+decreases-target_settles l = 8 * l.walk.steps + 5
 
 abbrev pub invariant-lists_settle-loop-keyword : goal.invariant-lists_settle-loop-keyword
 invariant-lists_settle-loop-keyword l = lists_pass (settles_in l.walk) (drop l.keyword-index l.keywords) (view l.schema)

@@ -1,39 +1,22 @@
-use Rattle.std.proofs.Common.{◌≡◌, ◌∙◌, true, false, option_map, sym, ap}
+use Rattle.std.proofs.Common.{◌≡◌, ◌∙◌, ℕ, Vec, Global, option_map, sym, ap, subst}
+use Rattle.std.specs.Prelude.{option_and_then, IfOk}
 use Rattle.tinyjson.specs.View.{view}
-use Rattle.json_pointer.specs.Tokens.{tokens_of}
-use Rattle.json_schema.specs.References.{form_after, is_schema_form}
-use Rattle.json_schema.specs.declared.form.Form.TheVariants as form
-use Rattle.json_schema.proofs.References.{string_target, no_reference_tokens, no_schema_there, schema_there}
+use Rattle.json_schema.specs.References.{at_fragment}
+use Rattle.json_schema.proofs.References.{string_target}
 use Rattle.json_schema.proofs.reference.target.Goals as goal
 
 pub returns-in_default-2 : goal.returns-in_default-2
 returns-in_default-2 c =
-    let root = view c.args.root.now in
-    let bs = c.as_str.result.now in
-    no_reference_tokens root (view c.args.reference.now) bs
-    (string_target root c.args.reference.now c.in-String.reference bs c.in-String.is c.as_str.ensures.value)
-    (ap (option_map tokens_of) (sym c.in_default-2.is) ∙ c.in_ok-pointer.ensures)
-
-pub returns-then-not-leads_to_schema : goal.returns-then-not-leads_to_schema
-returns-then-not-leads_to_schema c =
-    let root = view c.args.root.now in
-    let bs = c.as_str.result.now in
-    let ks = tokens_of c.in-Some.pointer in
-    let other : is_schema_form (form_after form.Schema ks) ≡ false = ap (λ xs. is_schema_form (form_after form.Schema xs))
-    (sym c.tokens.ensures)
-    ∙ (sym c.leads_to_schema.ensures ∙ c.if-not-leads_to_schema.true) in
-    no_schema_there root (view c.args.reference.now) bs
-    (string_target root c.args.reference.now c.in-String.reference bs c.in-String.is c.as_str.ensures.value) ks
-    (ap (option_map tokens_of) (sym c.in-Some.is) ∙ c.in_ok-pointer.ensures) other
+    let root = view c.args.walk.root.now in
+    let read = ap (option_map (λ (v : Vec ℕ Global). v.items)) (sym c.in_default-2.is) ∙ c.in_ok-fragment.ensures in
+    ap (option_and_then (at_fragment root)) read
+    ∙ sym (string_target root c.args.reference.now c.in-String.reference c.as_str.result.now c.in-String.is c.as_str.ensures.value)
 
 pub returns : goal.returns
 returns c =
-    let root = view c.args.root.now in
-    let bs = c.as_str.result.now in
-    let ks = tokens_of c.in-Some.pointer in
-    let schema : is_schema_form (form_after form.Schema ks) ≡ true
-    = ap (λ xs. is_schema_form (form_after form.Schema xs)) (sym c.tokens.ensures)
-    ∙ (sym c.leads_to_schema.ensures ∙ c.if-not-leads_to_schema.false) in
-    schema_there root (view c.args.reference.now) bs
-    (string_target root c.args.reference.now c.in-String.reference bs c.in-String.is c.as_str.ensures.value) ks _
-    (ap (option_map tokens_of) (sym c.in-Some.is) ∙ c.in_ok-pointer.ensures) schema c.find.ensures
+    let root = view c.args.walk.root.now in
+    let read = ap (option_map (λ (v : Vec ℕ Global). v.items)) (sym c.in-Some.is) ∙ c.in_ok-fragment.ensures in
+    subst (λ o. IfOk c.at_fragment.result (λ r. option_map (λ x. view x.now) r ≡ o))
+    (ap (at_fragment root) c.as_slice.ensures.value ∙ (ap (option_and_then (at_fragment root)) read
+    ∙ sym (string_target root c.args.reference.now c.in-String.reference c.as_str.result.now c.in-String.is c.as_str.ensures.value)))
+    c.at_fragment.ensures

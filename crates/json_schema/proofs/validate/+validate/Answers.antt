@@ -20,7 +20,7 @@ use Rattle.json_schema.specs.Applied.{branch, branch_accepts, some_accepts, acce
 use Rattle.json_schema.specs.Keywords.{IsUnmet}
 use Rattle.json_schema.specs.Parts.{item_schema}
 use Rattle.json_schema.specs.Places.{IsMemberPart, IsUnderKey, IsWithin, Enters, place}
-use Rattle.json_schema.specs.Valid.{says, reference_accepts, Judges, Finds, IsUnapplied, refused, unmet, not_applied, in_all_of}
+use Rattle.json_schema.specs.Valid.{says, reference_accepts, target_accepts, Judges, Finds, IsUnapplied, refused, unmet, not_applied, in_all_of}
 use Rattle.json_schema.specs.Valid.{in_dependent, in_patterned, in_reference, in_part, IsInvalidAt, FindsFound}
 use Rattle.json_schema.specs.declared.keyword.Keyword.TheVariants as kw
 use Rattle.json_schema.proofs.Listed.{listed_found, listed_sorted}
@@ -29,7 +29,7 @@ use Rattle.json_schema.proofs.Loops.{dependents_turn, dependent_passes, dependen
 use Rattle.json_schema.proofs.Turns.{turn_next, turn_stop, turn_end, count_next, count_end, nth_item}
 use Rattle.json_schema.proofs.Validity.{reported, verdict, placed, last_tested, last_found, before, no_branch, branch_met}
 use Rattle.json_schema.proofs.Validity.{branch_place}
-use Rattle.json_schema.proofs.Validity.{reference_met, no_reference}
+use Rattle.json_schema.proofs.Validity.{reference_met, no_reference, both_met}
 use Rattle.json_schema.proofs.validate.+validate.Goals.{in_dependents-then-has_key+in_ok-found+in_default, in_dependents-else-has_key}
 use Rattle.json_schema.proofs.validate.+validate.Goals.{in_found-then-is_found+in_ok-found+in_default, in_found-else-is_found}
 use Rattle.json_schema.proofs.validate.+validate.Goals.{in_members-in-Some+in_ok-found+in_default-2, in_members-in_default}
@@ -67,7 +67,7 @@ violation_in-in_patterned-requires t c =
 
 pub violation_in-in_reference-requires : goal.violation_in-in_reference-requires
 violation_in-in_reference-requires t c =
-    let fewer : 16 * c.in_ok-inner.inner.steps + 10 < 16 * c.args.walk.steps + 7 = omega (arith, c.in_ok-inner.ensures.1) in
+    let fewer : 16 * c.in_ok-inner.inner.steps + 11 < 16 * c.args.walk.steps + 7 = omega (arith, c.in_ok-inner.ensures.1) in
     search rules
 
 pub violation_in-in_parts-requires : goal.violation_in-in_parts-requires
@@ -580,30 +580,30 @@ in_found-returns t c g =
     ∙ turn_end (λ xs. found_pass q ps (members_listed xs)) c.as_slice-members.result.now c.loop-key.key-index true
     c.loop-key-test.false refl (c.loop-key.invariant.1 g)
 
-pub in_reference-returns-in_default : goal.in_reference-returns-in_default
-in_reference-returns-in_default t c g =
+pub in_target-returns-in_default : goal.in_target-returns-in_default
+in_target-returns-in_default t c g =
     let w = c.args.walk in
-    no_reference (view w.root.now) (says w g) (view c.args.schema.now) (view c.args.value.now)
+    no_reference (view w.root.now) (says w g) (view c.args.schema.now) (view c.args.value.now) c.args.keyword
     (ap (option_map (λ x. view x.now)) (sym c.in_default.is) ∙ c.in_ok-part.ensures)
 
-pub in_reference-returns-in_default-2 : goal.in_reference-returns-in_default-2
-in_reference-returns-in_default-2 t c g =
+pub in_target-returns-in_default-2 : goal.in_target-returns-in_default-2
+in_target-returns-in_default-2 t c g =
     let w = c.args.walk in
     let v = view c.args.value.now in
     let r = view c.in-Some.part.now in
-    reference_met (view w.root.now) (says w g) (view c.args.schema.now) v r
+    reference_met (view w.root.now) (says w g) (view c.args.schema.now) v r c.args.keyword
     (ap (option_map (λ x. view x.now)) (sym c.in-Some.is) ∙ c.in_ok-part.ensures)
     (subst (λ o. Judges w r v (Ok o)) c.in_default-2.is c.in_ok-found.ensures g)
 
-pub in_reference-returns : goal.in_reference-returns
-in_reference-returns t c =
+pub in_target-returns : goal.in_target-returns
+in_target-returns t c =
     let w = c.args.walk in
     let s = view c.args.schema.now in
     let v = view c.args.value.now in
     let r = view c.in-Some.part.now in
     let inner = subst (λ o. Judges w r v (Ok o)) c.in-Some-2.is c.in_ok-found.ensures in
-    placed w (λ f. reference_accepts (view w.root.now) f s v) s v c.enter_keyword.new.self _ _ c.in_ok-enter_keyword.ensures
-    (in_reference (sym (ap (option_map (λ x. view x.now)) (sym c.in-Some.is) ∙ c.in_ok-part.ensures)) inner)
+    placed w (λ f. target_accepts (view w.root.now) c.args.keyword f s v) s v c.enter_keyword.new.self _ _ c.in_ok-enter_keyword.ensures
+    (in_reference c.args.keyword c.requires (sym (ap (option_map (λ x. view x.now)) (sym c.in-Some.is) ∙ c.in_ok-part.ensures)) inner)
 
 pub in_members-returns-in-Some-2 : goal.in_members-returns-in-Some-2
 in_members-returns-in-Some-2 t c =

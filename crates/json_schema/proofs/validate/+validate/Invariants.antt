@@ -61,7 +61,10 @@ abbrev pub decreases-in_found : goal.decreases-in_found
 decreases-in_found l = 16 * l.walk.steps + 9
 
 abbrev pub decreases-in_reference : goal.decreases-in_reference
-decreases-in_reference l = 16 * l.walk.steps + 10
+decreases-in_reference l = 16 * l.walk.steps + 11
+
+abbrev pub decreases-in_target : goal.decreases-in_target
+decreases-in_target l = 16 * l.walk.steps + 10
 
 abbrev pub decreases-in_parts : goal.decreases-in_parts
 decreases-in_parts l = 16 * l.walk.steps + 12
