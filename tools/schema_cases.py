@@ -280,9 +280,9 @@ REFUSED = [
     ('{"patternProperties":{"a":true,"(":true}}', "/patternProperties/("), ('{"patternProperties":{"a/b":true,"a/(?!~)":true}}', "/patternProperties/a~1(?!~0)"),
     ('{"items":{"patternProperties":{"b+":{"pattern":"[a"}}}}', "/items/patternProperties/b+/pattern"), ('{"additionalProperties":{"patternProperties":{"\\\\B":{}}}}', "/additionalProperties/patternProperties/\\B"),
     ('{"unevaluatedProperties":true}', "/unevaluatedProperties"),
-    ('{"unevaluatedItems":true}', "/unevaluatedItems"), ('{"$dynamicRef":"#a"}', "/$dynamicRef"), ('{"$dynamicAnchor":"a"}', "/$dynamicAnchor"),
+    ('{"unevaluatedItems":true}', "/unevaluatedItems"), ('{"$dynamicRef":"#a"}', "/$dynamicRef"),
     ('{"$schema":"http://json-schema.org/draft-07/schema#"}', "/$schema"), ('{"$schema":5}', "/$schema"),
-    ('{"$anchor":"a"}', "/$anchor"), ('{"$defs":{"a":5}}', "/$defs/a"), ('{"$defs":[]}', "/$defs"),
+    ('{"$defs":{"a":5}}', "/$defs/a"), ('{"$defs":[]}', "/$defs"),
     ('{"items":[]}', "/items"), ('{"items":[{"type":"string"}]}', "/items"), ('{"prefixItems":[]}', "/prefixItems"),
     ('{"prefixItems":[{},{"type":5}]}', "/prefixItems/1/type"), ('{"prefixItems":{}}', "/prefixItems"),
     ('{"properties":[]}', "/properties"), ('{"properties":{"a/b":{"a":1},"~":null}}', "/properties/~0"),
@@ -369,6 +369,63 @@ REFUSED_REFERENCES = [
     ('{"$defs":{"a":true},"$ref":"#/$defs/%FF"}', "/$ref"),
     # Another base would change what they lead to.
     ('{"$defs":{"a":{"$id":"x"}}}', "/$defs/a/$id"), ('{"properties":{"a":{"$id":"https://example.com/b"}}}', "/properties/a/$id"),
+]
+
+# Core, 8.2.2 and 8.2.3.2: plain names. Most are those of `anchor.json` and `dynamicRef.json` in the official suite that have one resource.
+ANCHORS = [
+    ('{"$ref":"#foo","$defs":{"A":{"$anchor":"foo","type":"integer"}}}', ["1"], [('"a"', "", "/$ref/type")]),
+    ('{"$defs":{"anchor_in_enum":{"enum":[{"$anchor":"my_anchor","type":"null"}]},"real_identifier_in_schema":{"$anchor":"my_anchor","type":"string"},'
+     '"zzz_anchor_in_const":{"const":{"$anchor":"my_anchor","type":"null"}}},"anyOf":[{"$ref":"#/$defs/anchor_in_enum"},{"$ref":"#my_anchor"}]}',
+     ['{"type":"null","$anchor":"my_anchor"}', '"a string to match #/$defs/anchor_in_enum"'], [("1", "", "/anyOf"), ("null", "", "/anyOf")]),
+    ('{"$id":"https://test.json-schema.org/dynamicRef-dynamicAnchor-same-schema/root","type":"array","items":{"$dynamicRef":"#items"},"$defs":{"foo":{"$dynamicAnchor":"items","type":"string"}}}',
+     ['["foo","bar"]', "[]"], [('["foo",42]', "/1", "/items/$dynamicRef/type")]),
+    ('{"$id":"https://test.json-schema.org/dynamicRef-anchor-same-schema/root","type":"array","items":{"$dynamicRef":"#items"},"$defs":{"foo":{"$anchor":"items","type":"string"}}}',
+     ['["foo","bar"]'], [('["foo",42]', "/1", "/items/$dynamicRef/type")]),
+    ('{"$id":"https://test.json-schema.org/ref-dynamicAnchor-same-schema/root","type":"array","items":{"$ref":"#items"},"$defs":{"foo":{"$dynamicAnchor":"items","type":"string"}}}',
+     ['["foo","bar"]'], [('["foo",42]', "/1", "/items/$ref/type")]),
+    # A tree, whose name is that of the whole schema.
+    ('{"$dynamicAnchor":"node","type":"object","properties":{"data":true,"children":{"type":"array","items":{"$dynamicRef":"#node"}}},"additionalProperties":false}',
+     ['{"children":[{"data":1}]}', '{"data":[],"children":[{"children":[{}]}]}'],
+     [('{"children":[{"daat":1}]}', "/children/0/daat", "/properties/children/items/$dynamicRef/additionalProperties"), ('{"children":[1]}', "/children/0", "/properties/children/items/$dynamicRef/type")]),
+    # A pointer, and the whole schema.
+    ('{"$defs":{"a":{"type":"null"}},"items":{"$dynamicRef":"#/$defs/a"}}', ["[null]"], [("[1]", "/0", "/items/$dynamicRef/type")]),
+    ('{"type":"array","items":{"$dynamicRef":"#"}}', ["[[],[[]]]"], [("[[1]]", "/0/0", "/items/$dynamicRef/items/$dynamicRef/type")]),
+    # Letters and `_` first, and digits, `-` and `.` after them; large and small letters differ.
+    ('{"$defs":{"a":{"$anchor":"_","type":"null"},"b":{"$anchor":"Zz-0._9","minimum":1},"c":{"$anchor":"zz-0._9","maximum":5}},"prefixItems":[{"$ref":"#_"},{"$ref":"#Zz-0._9"},{"$ref":"#zz-0._9"}]}',
+     ["[null,1,5]"], [("[1]", "/0", "/prefixItems/0/$ref/type"), ("[null,0]", "/1", "/prefixItems/1/$ref/minimum"), ("[null,1,6]", "/2", "/prefixItems/2/$ref/maximum")]),
+    # First percent-decoded.
+    ('{"$defs":{"a":{"$anchor":"foo","type":"null"}},"items":{"$ref":"#%66o%6f"},"contains":{"$dynamicRef":"#f%6Fo"}}', ["[null]"], [("[1,null]", "/0", "/items/$ref/type"), ("[]", "", "/contains")]),
+    # What stands beside it applies too, `$ref` first.
+    ('{"$defs":{"a":{"$anchor":"a","type":"integer"},"b":{"$dynamicAnchor":"b","minimum":0}},"$ref":"#a","$dynamicRef":"#b","maximum":9}', ["5", "0.0"],
+     [('"a"', "", "/$ref/type"), ("-1.5", "", "/$ref/type"), ("-1", "", "/$dynamicRef/minimum"), ("10", "", "/maximum")]),
+    ('{"$defs":{"n":{"$anchor":"n","type":"null"}},"not":{"$dynamicRef":"#n"}}', ["1"], [("null", "", "/not")]),
+    ('{"$defs":{"a":{"$anchor":"a","$dynamicRef":"#b"},"b":{"$anchor":"b","$ref":"#c"},"c":{"$dynamicAnchor":"c","type":"null"}},"$ref":"#a"}', ["null"], [("1", "", "/$ref/$dynamicRef/$ref/type")]),
+    # In each schema in the schema.
+    *(("{" + schema % '{"$anchor":"x","type":"null"}' + ',"properties":{"k":{"$ref":"#x"}}}', ['{"k":null}'], [('{"k":1}', "/k", "/properties/k/$ref/type")])
+      for schema in ('"$defs":{"a":%s}', '"allOf":[true,{"items":%s}]', '"anyOf":[true,%s]', '"oneOf":[true,%s]', '"not":%s', '"if":%s', '"then":%s', '"else":%s', '"items":%s', '"prefixItems":[{},%s]',
+                     '"contains":%s', '"additionalProperties":%s', '"propertyNames":{"items":%s}', '"dependentSchemas":{"z":%s}', '"patternProperties":{"^z":%s}', '"contentSchema":%s')),
+    # A property that is named so is none, nor is data, nor what is in a name that is no keyword.
+    ('{"properties":{"$anchor":{"type":"string"}}}', ['{"$anchor":"a"}'], [('{"$anchor":1}', "/$anchor", "/properties/$anchor/type")]),
+    ('{"$anchor":"x","const":{"$anchor":"x"}}', ['{"$anchor":"x"}'], [("1", "", "/const")]),
+    ('{"$anchor":"x","type":"null","examples":[{"$anchor":"x"}],"default":{"$dynamicAnchor":"x"},"enum":[null,{"$anchor":"x"}]}', ["null"], [('{"$anchor":"x"}', "", "/type")]),
+]
+
+# Names that lead nowhere or in a circle, that are none, and that two schemas have, each with a place.
+REFUSED_ANCHORS = [
+    ('{"$ref":"#x","enum":[{"$anchor":"x"}]}', "/$ref"), ('{"$ref":"#x","const":{"$anchor":"x"}}', "/$ref"), ('{"$dynamicRef":"#x","default":{"$dynamicAnchor":"x"}}', "/$dynamicRef"),
+    ('{"$ref":"#x","y":{"$anchor":"x"}}', "/$ref"), ('{"$ref":"#x","examples":[{"$anchor":"x"}]}', "/$ref"), ('{"$ref":"#x","properties":{"$anchor":{"const":"x"}}}', "/$ref"),
+    ('{"items":{"$ref":"#X"},"$anchor":"x"}', "/items/$ref"), ('{"items":{"$ref":"#x%20"},"$anchor":"x"}', "/items/$ref"), ('{"items":{"$ref":"#%78%"},"$anchor":"x"}', "/items/$ref"),
+    ('{"items":{"$ref":"x"},"$anchor":"x"}', "/items/$ref"), ('{"items":{"$ref":"a.json#x"},"$anchor":"x"}', "/items/$ref"), ('{"items":{"$ref":"#x/type"},"$anchor":"x"}', "/items/$ref"),
+    ('{"items":{"$dynamicRef":5},"$anchor":"x"}', "/items/$dynamicRef"), ('{"$dynamicRef":"#/$defs/a"}', "/$dynamicRef"), ('{"$dynamicRef":"https://example.com/a#x"}', "/$dynamicRef"),
+    ('{"$anchor":"x","$ref":"#x"}', "/$ref"), ('{"$dynamicAnchor":"x","allOf":[{"$dynamicRef":"#x"}]}', "/allOf/0/$dynamicRef"), ('{"$dynamicRef":"#"}', "/$dynamicRef"),
+    ('{"$defs":{"a":{"$anchor":"a","$dynamicRef":"#b"},"b":{"$anchor":"b","$ref":"#a"}}}', "/$defs/a/$dynamicRef"),
+    # Not of the form.
+    *((f'{{"items":{{"{keyword}":{name}}}}}', f"/items/{keyword}") for keyword in ("$anchor", "$dynamicAnchor")
+      for name in ('""', '"1a"', '"-a"', '".a"', '"a b"', '"a/b"', '"/a"', '"#a"', '"#/a"', '"a:b"', '"\u00e9"', '"a\u00e9"', '"a%62"', '"a\\n"', "5", "null", "true", '["a"]', "{}")),
+    # Of two schemas, or twice of one.
+    ('{"$defs":{"a":{"$anchor":"x"},"b":{"$anchor":"x"}}}', "/$defs/a/$anchor"), ('{"$anchor":"x","$dynamicAnchor":"x"}', "/$anchor"), ('{"$dynamicAnchor":"x","items":{"$anchor":"x"}}', "/$dynamicAnchor"),
+    ('{"$defs":{"a":{"$anchor":"y"},"b":{"$anchor":"x"},"c":{"$dynamicAnchor":"x"}}}', "/$defs/b/$anchor"), ('{"allOf":[{"$anchor":"x"},{"$anchor":"y"},{"$anchor":"x"}]}', "/allOf/0/$anchor"),
+    ('{"properties":{"a":{"$anchor":"z"},"b":{"$anchor":"y"},"c":{"$anchor":"y"},"d":{"$anchor":"z"}}}', "/properties/a/$anchor"), ('{"$anchor":"x","items":{"$anchor":"\\u0078"}}', "/$anchor"),
 ]
 
 # Schemas with names that are no keywords, and those that are told: each once, in the order of bytes.

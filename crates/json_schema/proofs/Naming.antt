@@ -1,6 +1,6 @@
 -- Anchors that are gathered, one after the other, and their names.
-use Rattle.std.proofs.Common.{◌≡◌, ◌∷◌, [], ◌++◌, ℕ, suc, ◌<◌, ◌≤◌, ◌+◌, ◌-◌, Bool, true, false, not, ◌&&◌, ◌||◌, cond, List, Option, Some, None}
-use Rattle.std.proofs.Common.{String, Global, length, get_or, bytes_eq, drop, map, is_some, option_map, encode_utf8_all, string_bytes}
+use Rattle.std.proofs.Common.{◌≡◌, ◌∷◌, [], ◌++◌, ℕ, suc, ◌<◌, ◌≤◌, ◌+◌, ◌-◌, Bool, true, false, not, ◌&&◌, cond, List, Option, Some}
+use Rattle.std.proofs.Common.{String, Global, length, get_or, bytes_eq, drop, is_some, encode_utf8_all, string_bytes}
 use Rattle.std.proofs.Common.{refl, sym, ap, ◌∙◌, subst, append_assoc, append-nil, arith}
 use Rattle.std.proofs.lemmas.Bool.{and_parts}
 use Rattle.std.proofs.lemmas.List.{map-append}
@@ -149,26 +149,26 @@ repeated_later n ns s h c = sym (ap (λ b. cond b (Some n.0) (repeated ns)) (sym
 module _ (xs : List Anchor) (n : ℕ) (a : Anchor) (more : 0 < n) (among : n ≤ length xs) (is : a ≡ get_or xs (n - 1) a)
     (s : BTreeSet (String Global)) (h : HasNames (all_named (drop n xs)) s)
   where
-  front : all_named (drop (n - 1) xs) ≡ named a ∷ all_named (drop n xs)
-  front =
-      let here : n - 1 < length xs = omega (arith, more, among) in
-      let next : suc (n - 1) ≡ n = omega (arith, more) in
-      ap all_named (drop_suc xs (n - 1) a here is) ∙ ap (λ m. named a ∷ all_named (drop m xs)) next
+    front : all_named (drop (n - 1) xs) ≡ named a ∷ all_named (drop n xs)
+    front =
+        let here : n - 1 < length xs = omega (arith, more, among) in
+        let next : suc (n - 1) ≡ n = omega (arith, more) in
+        ap all_named (drop_suc xs (n - 1) a here is) ∙ ap (λ m. named a ∷ all_named (drop m xs)) next
 
-  pub kept_back : sorted.contains_text s (string_bytes a.name.now) ≡ true → HasNames (all_named (drop (n - 1) xs)) s
-  kept_back c = subst (λ ns. HasNames ns s) (sym front) (name_kept (named a) (all_named (drop n xs)) s c h)
+    pub kept_back : sorted.contains_text s (string_bytes a.name.now) ≡ true → HasNames (all_named (drop (n - 1) xs)) s
+    kept_back c = subst (λ ns. HasNames ns s) (sym front) (name_kept (named a) (all_named (drop n xs)) s c h)
 
-  pub found_back : sorted.contains_text s (string_bytes a.name.now) ≡ true
-      → Some (string_bytes a.name.now) ≡ repeated (all_named (drop (n - 1) xs))
-  found_back c = repeated_here (named a) (all_named (drop n xs)) s h c ∙ ap repeated (sym front)
+    pub found_back : sorted.contains_text s (string_bytes a.name.now) ≡ true
+        → Some (string_bytes a.name.now) ≡ repeated (all_named (drop (n - 1) xs))
+    found_back c = repeated_here (named a) (all_named (drop n xs)) s h c ∙ ap repeated (sym front)
 
-  pub put_back : (key : String Global) (new : BTreeSet (String Global)) → string_bytes key ≡ string_bytes a.name.now
-      → sorted.Updates string_cmp s new key true → HasNames (all_named (drop (n - 1) xs)) new
-  put_back key new e u = subst (λ ns. HasNames ns new) (sym front) (name_put (named a) (all_named (drop n xs)) key s new e u h)
+    pub put_back : (key : String Global) (new : BTreeSet (String Global)) → string_bytes key ≡ string_bytes a.name.now
+        → sorted.Updates string_cmp s new key true → HasNames (all_named (drop (n - 1) xs)) new
+    put_back key new e u = subst (λ ns. HasNames ns new) (sym front) (name_put (named a) (all_named (drop n xs)) key s new e u h)
 
-  pub later_back : (o : Option (List ℕ)) → sorted.contains_text s (string_bytes a.name.now) ≡ false
-      → o ≡ repeated (all_named (drop n xs)) → o ≡ repeated (all_named (drop (n - 1) xs))
-  later_back o c e = e ∙ (repeated_later (named a) (all_named (drop n xs)) s h c ∙ ap repeated (sym front))
+    pub later_back : (o : Option (List ℕ)) → sorted.contains_text s (string_bytes a.name.now) ≡ false
+        → o ≡ repeated (all_named (drop n xs)) → o ≡ repeated (all_named (drop (n - 1) xs))
+    later_back o c e = e ∙ (repeated_later (named a) (all_named (drop n xs)) s h c ∙ ap repeated (sym front))
 
 -- ---- a name that is taken
 

@@ -214,10 +214,7 @@ pub fn anchored<'s>(anchors: &[Anchor<'s>], name: &str) -> Option<&'s JsonValue>
 }
 
 /// The first name that an anchor after it has too. The time grows with the names, and not with the pairs of them.
-pub fn repeated<'s>(
-    anchors: &[Anchor<'s>],
-    alloc: Global,
-) -> Result<Option<&'s String>, AllocError>
+pub fn repeated<'s>(anchors: &[Anchor<'s>], alloc: Global) -> Result<Option<&'s String>, AllocError>
     ensures { IfOk result
         (λ name. option_map (λ x. string_bytes x.now) name ≡ repeated (all_named anchors.now)) }
 {

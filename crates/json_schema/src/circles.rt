@@ -89,7 +89,11 @@ fn lists_settle(
 }
 
 #[cycle(circles)]
-fn list_settles(schemas: &[JsonValue], walk: Walk<'_, '_>, alloc: Global) -> Result<bool, AllocError>
+fn list_settles(
+    schemas: &[JsonValue],
+    walk: Walk<'_, '_>,
+    alloc: Global,
+) -> Result<bool, AllocError>
     ensures { IfOk result (λ is. is
         ≡ all_pass (settles_in walk.entry) (items_view schemas.now)) }
 {
@@ -138,7 +142,11 @@ fn single_settles(
 }
 
 #[cycle(circles)]
-fn dependents_settle(schema: &JsonValue, walk: Walk<'_, '_>, alloc: Global) -> Result<bool, AllocError>
+fn dependents_settle(
+    schema: &JsonValue,
+    walk: Walk<'_, '_>,
+    alloc: Global,
+) -> Result<bool, AllocError>
     ensures { IfOk result (λ is. is ≡ map_passes (settles_in walk.entry)
         (schema_map_at (view schema.now) kw.DependentSchemas)) }
 {
@@ -165,7 +173,11 @@ fn map_settles(
 }
 
 #[cycle(circles)]
-fn reference_settles(schema: &JsonValue, walk: Walk<'_, '_>, alloc: Global) -> Result<bool, AllocError>
+fn reference_settles(
+    schema: &JsonValue,
+    walk: Walk<'_, '_>,
+    alloc: Global,
+) -> Result<bool, AllocError>
     ensures { IfOk result (λ is. is ≡ reference_passes (view walk.entry.root.now)
         (settles_in walk.entry) (view schema.now)) }
 {

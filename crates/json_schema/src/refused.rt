@@ -70,7 +70,13 @@ fn refused_keyword(
         result }
 {
     for (name, operand) in keywords {
-        if let Some(mut place) = misfit(form_at(name.as_str()), operand, document, is_whole, alloc)? {
+        if let Some(mut place) = misfit(
+            form_at(name.as_str()),
+            operand,
+            document,
+            is_whole,
+            alloc,
+        )? {
             place.prepend(String::from_str(alloc, name.as_str())?)?;
             return Ok(Some(place));
         }
@@ -242,8 +248,8 @@ fn is_own_name(value: &JsonValue, document: Document<'_, '_>) -> bool
     ensures { result ≡ is_own_name (view document.entry.root.now) (view value.now) }
 {
     match value {
-        JsonValue::String(name) =>
-            is_plain_name(name.as_str()) && !is_name(document.again, name.as_str()),
+        JsonValue::String(name) => is_plain_name(name.as_str())
+            && !is_name(document.again, name.as_str()),
         _ => false,
     }
 }

@@ -4,7 +4,7 @@ use Rattle.tinyjson.specs.View.{view, items_view, members_listed}
 use Rattle.json_schema.specs.Anchors.{Gathers, anchors_by_form}
 use Rattle.json_schema.proofs.Depths.{listed_depth, items_depth_at}
 use Rattle.json_schema.proofs.Lookups.{text_bytes}
-use Rattle.json_schema.proofs.Naming.{item_gathered, items_gathered, member_gathered, members_gathered, keyword_gathered, keywords_gathered}
+use Rattle.json_schema.proofs.Naming.{item_gathered, member_gathered, keyword_gathered}
 use Rattle.json_schema.proofs.anchor.+anchors.Goals as goal
 
 pub gather_items-gather-requires : goal.gather_items-gather-requires

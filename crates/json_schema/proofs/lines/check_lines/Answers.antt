@@ -1,4 +1,4 @@
-use Rattle.std.proofs.Common.{◌≡◌, ◌∷◌, [], true, false, Ok, sym, subst}
+use Rattle.std.proofs.Common.{◌∷◌, [], Ok, sym, subst}
 use Rattle.std.proofs.KnownBytes.{Keeps-refl}
 use Rattle.json_line.proofs.Callers as run
 use Rattle.json_line.specs.Lines.{LinesRead, AllRead, ReadsLine}

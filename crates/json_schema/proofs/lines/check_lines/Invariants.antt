@@ -4,7 +4,7 @@ use Rattle.json_schema.proofs.lines.check_lines.Given as goal
 
 abbrev pub invariant-loop-number : goal.invariant-loop-number
 invariant-loop-number g l = record {
-  progress : Progress (tree_of l.fn.schema.now) (g.R.Read.remaining l.initial.input) (g.R.Read.remaining l.input)
+  progress : Progress (tree_of l.fn.schema) (g.R.Read.remaining l.initial.input) (g.R.Read.remaining l.input)
       (g.W.Write.contents l.initial.output) (g.W.Write.contents l.output)
       (g.E.Write.contents l.initial.errors) (g.E.Write.contents l.errors) l.number l.outcome;
 }

@@ -1,6 +1,6 @@
 use Rattle.std.proofs.Common.{◌≡◌, ◌∙◌, option_map, sym, ap, subst}
 use Rattle.std.specs.Prelude.{IfOk}
-use Rattle.std.specs.Str.{IsUtf8, chars}
+use Rattle.std.specs.Str.{chars}
 use Rattle.tinyjson.specs.View.{view}
 use Rattle.json_schema.specs.Anchors.{is_plain_name, anchored, anchors_in}
 use Rattle.json_schema.specs.References.{at_pointer}

@@ -1,6 +1,5 @@
-use Rattle.std.proofs.Common.{sym, ap, ◌∙◌}
+use Rattle.std.proofs.Common.{sym, ◌∙◌}
 use Rattle.tinyjson.specs.View.{view}
-use Rattle.json_schema.specs.Anchors.{is_plain_name}
 use Rattle.json_schema.proofs.Naming.{no_plain_name, plain_name}
 use Rattle.json_schema.proofs.refused.is_own_name.Goals as goal
 

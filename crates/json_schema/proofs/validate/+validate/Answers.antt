@@ -16,7 +16,7 @@ use Rattle.json_schema.specs.Applied.{schemas_at, schema_map_at, all_accept, dep
 use Rattle.i_regexp.specs.PatternDeciding.{is_found}
 use Rattle.json_schema.specs.Applied.{found_pass, patterns_accept}
 use Rattle.json_schema.specs.Applied.{applies, parts_accepted, tests, contains_some, contains_at_most, contains_at_least, any_of, one_of}
-use Rattle.json_schema.specs.Applied.{branch, branch_accepts, some_accepts, accepting, keys_pass, passing, members_in, items_passing}
+use Rattle.json_schema.specs.Applied.{branch_accepts, some_accepts, accepting, keys_pass, passing, members_in, items_passing}
 use Rattle.json_schema.specs.Keywords.{IsUnmet}
 use Rattle.json_schema.specs.Parts.{item_schema}
 use Rattle.json_schema.specs.Places.{IsMemberPart, IsUnderKey, IsWithin, Enters, place}
@@ -579,6 +579,15 @@ in_found-returns t c g =
     ap (found_pass q ps) (sym (ap members_listed c.as_slice-members.ensures.value ∙ c.in_ok-listed.ensures.listed))
     ∙ turn_end (λ xs. found_pass q ps (members_listed xs)) c.as_slice-members.result.now c.loop-key.key-index true
     c.loop-key-test.false refl (c.loop-key.invariant.1 g)
+
+pub in_reference-returns : goal.in_reference-returns
+in_reference-returns t c =
+    let w = c.args.walk in
+    let s = view c.args.schema.now in
+    let v = view c.args.value.now in
+    both_met w s v c.in_target-2.result
+    (subst (λ o. Finds w (λ f. target_accepts (view w.root.now) kw.Ref f s v) s v (Ok o)) c.in_default.is c.in_ok-found.ensures)
+    c.in_target-2.ensures
 
 pub in_target-returns-in_default : goal.in_target-returns-in_default
 in_target-returns-in_default t c g =

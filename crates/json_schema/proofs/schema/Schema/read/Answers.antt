@@ -1,0 +1,12 @@
+use Rattle.std.proofs.Common.{ap, ◌∙◌}
+use Rattle.tinyjson.specs.View.{view}
+use Rattle.json_schema.specs.Anchors.{all_named, repeated}
+use Rattle.json_schema.proofs.Naming.{anchors_had}
+use Rattle.json_schema.proofs.schema.Schema.read.Goals as goal
+
+pub invariant_of-document : goal.invariant_of-document
+invariant_of-document c = record {
+  gathered = anchors_had (view c.args.tree.now) c.as_slice-2.result.now
+      (ap all_named c.as_slice-2.ensures.value ∙ c.in_ok-anchors.ensures);
+  twice = c.in_ok-again.ensures ∙ ap repeated (ap all_named c.as_slice.ensures.value ∙ c.in_ok-anchors.ensures);
+}
