@@ -268,6 +268,97 @@ SILENT = [
 ]
 KEYWORDS += [('{%s,"type":"string"}' % word, ['""', '"["', '"{\\"a\\":1}"', '"2020-13-45T25:00:00Z"'], [("1", "", "/type"), ("[]", "", "/type"), ("null", "", "/type")]) for word in SILENT]
 
+# Core, 11.3: members that no other keyword evaluates, in the schema or in one that it applies to the object.
+FOO = '"properties":{"foo":{"type":"string"}}'
+UNEVALUATED_PROPERTIES = [
+    ('{"unevaluatedProperties":true}', ["{}", '{"foo":"foo"}', "1"], []),
+    ('{"unevaluatedProperties":{"type":"string","minLength":3}}', ["{}", '{"foo":"foo"}'], [('{"foo":"fo"}', "/foo", "/unevaluatedProperties/minLength")]),
+    ('{"unevaluatedProperties":false}', ["{}", "null", "1", '"foo"', "[1]"], [('{"foo":"foo"}', "/foo", "/unevaluatedProperties")]),
+    ("{%s,\"unevaluatedProperties\":false}" % FOO, ['{"foo":"foo"}'], [('{"bar":1,"foo":"foo"}', "/bar", "/unevaluatedProperties"), ('{"foo":1}', "/foo", "/properties/foo/type")]),
+    ('{"patternProperties":{"^foo":true},"unevaluatedProperties":false}', ['{"foo":1,"foo2":1}'], [('{"foo":1,"bar":2}', "/bar", "/unevaluatedProperties")]),
+    ("{%s,\"additionalProperties\":true,\"unevaluatedProperties\":false}" % FOO, ['{"foo":"a","bar":1}'], []),
+    ('{"additionalProperties":{"unevaluatedProperties":false}}', ['{"a":{}}', '{"a":1}'], [('{"a":{"b":1}}', "/a/b", "/additionalProperties/unevaluatedProperties")]),
+    ('{"propertyNames":{"maxLength":1},"unevaluatedProperties":{"type":"number"}}', ['{"a":1}'], [('{"a":"b"}', "/a", "/unevaluatedProperties/type")]),
+    ('{"required":["a"],"unevaluatedProperties":false}', [], [('{"a":1}', "/a", "/unevaluatedProperties")]),
+    # In `allOf`, with each of the keywords, and one in another.
+    ("{%s,\"allOf\":[{\"properties\":{\"bar\":true}}],\"unevaluatedProperties\":false}" % FOO, ['{"foo":"a","bar":1}'], [('{"foo":"a","bar":1,"baz":1}', "/baz", "/unevaluatedProperties")]),
+    ("{%s,\"allOf\":[{\"patternProperties\":{\"^bar\":true}}],\"unevaluatedProperties\":false}" % FOO, ['{"foo":"a","bars":1}'], [('{"foo":"a","baz":1}', "/baz", "/unevaluatedProperties")]),
+    ("{%s,\"allOf\":[{\"additionalProperties\":true}],\"unevaluatedProperties\":false}" % FOO, ['{"foo":"a","bar":1}'], []),
+    ("{%s,\"allOf\":[{\"unevaluatedProperties\":true}],\"unevaluatedProperties\":{\"maxLength\":2}}" % FOO, ['{"foo":"abc"}', '{"foo":"abc","bar":"abc"}'], []),
+    ("{%s,\"allOf\":[{\"unevaluatedProperties\":true}],\"unevaluatedProperties\":false}" % FOO, ['{"foo":"a","bar":1}'], []),
+    ("{%s,\"allOf\":[{\"unevaluatedProperties\":false}],\"unevaluatedProperties\":true}" % FOO, ["{}"], [('{"foo":"a"}', "/foo", "/allOf/0/unevaluatedProperties")]),
+    ('{"allOf":[{"allOf":[{"properties":{"a":true}}]},true],"unevaluatedProperties":false}', ['{"a":1}'], [('{"a":1,"b":1}', "/b", "/unevaluatedProperties")]),
+    ("{%s,\"allOf\":[true],\"unevaluatedProperties\":false}" % FOO, ['{"foo":"a"}'], [('{"bar":1}', "/bar", "/unevaluatedProperties")]),
+    # All schemas of `anyOf` that accept the object, and the one of `oneOf`.
+    ('{"properties":{"foo":true},"anyOf":[%s],"unevaluatedProperties":false}' % ",".join('{"properties":{"%s":{"const":"%s"}},"required":["%s"]}' % (k, k, k) for k in ("bar", "baz", "quux")),
+     ['{"foo":1,"bar":"bar"}', '{"foo":1,"bar":"bar","baz":"baz"}', '{"quux":"quux","baz":"baz"}'],
+     [('{"foo":1,"bar":"bar","baz":"no"}', "/baz", "/unevaluatedProperties"), ('{"bar":"bar","baz":"baz","quux":"no"}', "/quux", "/unevaluatedProperties")]),
+    ('{"properties":{"foo":true},"oneOf":[%s],"unevaluatedProperties":false}' % ",".join('{"properties":{"%s":{"const":1}},"required":["%s"]}' % (k, k) for k in ("bar", "baz")),
+     ['{"foo":1,"bar":1}', '{"baz":1}'], [('{"foo":1,"bar":1,"quux":1}', "/quux", "/unevaluatedProperties"), ('{"bar":1,"baz":2}', "/baz", "/unevaluatedProperties")]),
+    # `not` gives nothing, not even twice.
+    ("{%s,\"not\":{\"not\":{\"properties\":{\"bar\":{\"const\":1}},\"required\":[\"bar\"]}},\"unevaluatedProperties\":false}" % FOO, [], [('{"foo":"a","bar":1}', "/bar", "/unevaluatedProperties")]),
+    # `if`, also with no `then` and no `else`.
+    ('{"if":{"properties":{"foo":{"const":1}},"required":["foo"]},"then":{"properties":{"bar":true}},"else":{"properties":{"baz":true}},"unevaluatedProperties":false}',
+     ['{"foo":1,"bar":1}', '{"baz":1}', "{}"],
+     [('{"foo":1,"bar":1,"baz":1}', "/baz", "/unevaluatedProperties"), ('{"baz":1,"foo":2}', "/foo", "/unevaluatedProperties"), ('{"bar":1}', "/bar", "/unevaluatedProperties")]),
+    ('{"if":{"properties":{"foo":{"const":1}},"required":["foo"]},"else":{"properties":{"baz":true}},"unevaluatedProperties":false}',
+     ['{"foo":1}', '{"baz":1}'], [('{"foo":1,"bar":1}', "/bar", "/unevaluatedProperties"), ('{"foo":1,"baz":1}', "/baz", "/unevaluatedProperties")]),
+    ('{"if":{"properties":{"foo":{"const":1}},"required":["foo"]},"then":{"properties":{"bar":true}},"unevaluatedProperties":false}',
+     ['{"foo":1,"bar":1}', "{}"], [('{"baz":1}', "/baz", "/unevaluatedProperties"), ('{"foo":2}', "/foo", "/unevaluatedProperties")]),
+    ('{"if":{"patternProperties":{"foo":{"type":"string"}}},"unevaluatedProperties":false}', ['{"foo":"a"}'], [('{"bar":"a"}', "/bar", "/unevaluatedProperties"), ('{"foo":1}', "/foo", "/unevaluatedProperties")]),
+    ('{"then":{"properties":{"a":true}},"else":{"properties":{"b":true}},"unevaluatedProperties":false}', ["{}"], [('{"a":1}', "/a", "/unevaluatedProperties"), ('{"b":1}', "/b", "/unevaluatedProperties")]),
+    # `dependentSchemas` of a key that is there, and `$ref`.
+    ("{%s,\"dependentSchemas\":{\"foo\":{\"properties\":{\"bar\":{\"const\":1}}}},\"unevaluatedProperties\":false}" % FOO, ['{"foo":"a","bar":1}', '{"foo":"a"}'],
+     [('{"bar":1}', "/bar", "/unevaluatedProperties"), ('{"foo":"a","bar":1,"baz":1}', "/baz", "/unevaluatedProperties")]),
+    ('{"$ref":"#/$defs/bar","properties":{"foo":true},"unevaluatedProperties":false,"$defs":{"bar":{"properties":{"bar":true}}}}', ['{"foo":1,"bar":1}'], [('{"foo":1,"bar":1,"baz":1}', "/baz", "/unevaluatedProperties")]),
+    ('{"allOf":[{"$ref":"#/$defs/a"}],"unevaluatedProperties":false,"$defs":{"a":{"anyOf":[{"required":["x"]},{"$ref":"#/$defs/b"}]},"b":{"properties":{"y":true}}}}', ['{"y":1}', "{}"], [('{"x":1,"y":1}', "/x", "/unevaluatedProperties")]),
+    ('{"properties":{"x":{"$ref":"#"}},"unevaluatedProperties":false}', ["{}", '{"x":{}}', '{"x":{"x":{}}}'],
+     [('{"x":{},"y":{}}', "/y", "/unevaluatedProperties"), ('{"x":{"x":{},"y":1}}', "/x/y", "/properties/x/$ref/unevaluatedProperties")]),
+    # Cousins see nothing of each other, nor do schemas of another value.
+    ('{"allOf":[{"properties":{"foo":true}},{"unevaluatedProperties":false}]}', ["{}"], [('{"foo":1}', "/foo", "/allOf/1/unevaluatedProperties")]),
+    ('{"allOf":[{"unevaluatedProperties":false},{"properties":{"foo":true}}]}', ["{}"], [('{"foo":1}', "/foo", "/allOf/0/unevaluatedProperties")]),
+    ('{"allOf":[{"properties":{"foo":true},"unevaluatedProperties":false}],"anyOf":[{"properties":{"bar":true}}]}', ['{"foo":1}'], [('{"bar":1}', "/bar", "/allOf/0/unevaluatedProperties")]),
+    ('{"allOf":[{"properties":{"foo":true}}],"anyOf":[{"properties":{"bar":true},"unevaluatedProperties":false}]}', ['{"bar":1}'], [('{"foo":1,"bar":1}', "", "/anyOf")]),
+    ('{"properties":{"foo":{"properties":{"bar":true},"unevaluatedProperties":false}},"anyOf":[{"properties":{"foo":{"properties":{"faz":true}}}}]}',
+     ['{"foo":{"bar":1}}'], [('{"foo":{"bar":1,"faz":1}}', "/foo/faz", "/properties/foo/unevaluatedProperties")]),
+    ('{"not":{"properties":{"a":true},"unevaluatedProperties":false}}', ['{"a":1,"b":1}'], [('{"a":1}', "", "/not")]),
+]
+# Core, 11.2: the same of items.
+UNEVALUATED_ITEMS = [
+    ('{"unevaluatedItems":true}', ["[]", "[1]", "{}"], []),
+    ('{"unevaluatedItems":{"type":"string"}}', ["[]", '["a"]'], [("[42]", "/0", "/unevaluatedItems/type")]),
+    ('{"unevaluatedItems":false}', ["[]", "true", "1", '"foo"', '{"0":1}'], [("[null]", "/0", "/unevaluatedItems")]),
+    ('{"items":{"type":"string"},"unevaluatedItems":false}', ['["a","b"]'], [("[1]", "/0", "/items/type")]),
+    ('{"items":{"type":"number"},"unevaluatedItems":{"type":"string"}}', ["[5,6]"], [('["a"]', "/0", "/items/type")]),
+    ('{"prefixItems":[true],"unevaluatedItems":false}', ["[]", "[1]"], [("[1,2]", "/1", "/unevaluatedItems")]),
+    ('{"prefixItems":[true],"items":true,"unevaluatedItems":false}', ["[1,2,3]"], []),
+    ('{"items":{"unevaluatedItems":false}}', ["[[],1]"], [("[[],[1]]", "/1/0", "/items/unevaluatedItems")]),
+    ('{"prefixItems":[true],"allOf":[{"prefixItems":[true,{"type":"number"}]}],"unevaluatedItems":false}', ["[1,2]"], [("[1,2,3]", "/2", "/unevaluatedItems")]),
+    ('{"allOf":[{"prefixItems":[true],"items":true}],"unevaluatedItems":false}', ["[1,2]"], []),
+    ('{"allOf":[{"prefixItems":[true]},{"unevaluatedItems":true}],"unevaluatedItems":false}', ["[1,2]"], []),
+    ('{"allOf":[{"prefixItems":[true]},{"unevaluatedItems":false}]}', ["[]"], [("[1]", "/0", "/allOf/1/unevaluatedItems")]),
+    ('{"unevaluatedItems":{"type":"boolean"},"anyOf":[{"items":{"type":"string"}},true]}', ["[true,false]", '["a","b"]'], [('["a",false]', "/0", "/unevaluatedItems/type")]),
+    ('{"prefixItems":[true],"anyOf":[{"prefixItems":[true,{"const":1}]},{"prefixItems":[true,true,{"const":2}]}],"unevaluatedItems":false}', ["[0,1]", "[0,1,2]", "[0,5,2]"],
+     [("[0,1,5]", "/2", "/unevaluatedItems"), ("[0,1,2,3]", "/3", "/unevaluatedItems")]),
+    ('{"prefixItems":[true],"oneOf":[{"prefixItems":[true,{"const":1}]},{"prefixItems":[true,{"const":2}]}],"unevaluatedItems":false}', ["[0,1]", "[0,2]"], [("[0,1,5]", "/2", "/unevaluatedItems")]),
+    ('{"prefixItems":[true],"not":{"not":{"prefixItems":[true,{"const":1}]}},"unevaluatedItems":false}', ["[0]"], [("[0,1]", "/1", "/unevaluatedItems")]),
+    ('{"prefixItems":[true],"if":{"prefixItems":[true,{"const":1}]},"then":{"prefixItems":[true,true,{"const":2}]},"else":{"prefixItems":[true,true,true,{"const":3}]},"unevaluatedItems":false}',
+     ["[0,1,2]", "[0]", "[0,5,5,3]"], [("[0,1,2,3]", "/3", "/unevaluatedItems"), ("[0,5,5,3,5]", "/4", "/unevaluatedItems")]),
+    ('{"$ref":"#/$defs/a","prefixItems":[true],"unevaluatedItems":false,"$defs":{"a":{"prefixItems":[true,true]}}}', ["[1,2]"], [("[1,2,3]", "/2", "/unevaluatedItems")]),
+    # What `contains` accepts is evaluated, whatever `minContains` says.
+    ('{"prefixItems":[true],"contains":{"type":"string"},"unevaluatedItems":false}', ['[1,"a"]', '[1,"a","b"]'], [("[1,2]", "", "/contains"), ('[1,2,"a"]', "/1", "/unevaluatedItems")]),
+    ('{"allOf":[{"contains":{"multipleOf":2}},{"contains":{"multipleOf":3}}],"unevaluatedItems":{"multipleOf":5}}', ["[2,3,4,5,6]"], [("[2,3,4,7,8]", "/3", "/unevaluatedItems/multipleOf")]),
+    ('{"if":{"contains":{"const":"a"}},"then":{"if":{"contains":{"const":"b"}},"then":{"if":{"contains":{"const":"c"}}}},"unevaluatedItems":false}',
+     ["[]", '["a","a"]', '["a","b","a","b","a"]', '["c","a","c","c","b","a"]'],
+     [('["b","b"]', "/0", "/unevaluatedItems"), ('["c","c"]', "/0", "/unevaluatedItems"), ('["c","b","c","b","c"]', "/0", "/unevaluatedItems"), ('["c","a","c","a","c"]', "/0", "/unevaluatedItems")]),
+    ('{"contains":{"type":"string"},"minContains":0,"unevaluatedItems":false}', ["[]", '["a"]', '["a","b"]'], [("[0]", "/0", "/unevaluatedItems"), ('["a",0]', "/1", "/unevaluatedItems")]),
+    ('{"anyOf":[{"contains":{"type":"null"},"maxContains":1},{"prefixItems":[true]}],"unevaluatedItems":false}', ["[null]", "[1,null]"], [("[null,null]", "/1", "/unevaluatedItems")]),
+    ('{"properties":{"foo":{"prefixItems":[true],"unevaluatedItems":false}},"anyOf":[{"properties":{"foo":{"prefixItems":[true,true]}}}]}',
+     ['{"foo":[1]}'], [('{"foo":[1,2]}', "/foo/1", "/properties/foo/unevaluatedItems")]),
+    ('{"dependentSchemas":{"a":{"prefixItems":[true]}},"unevaluatedItems":false,"unevaluatedProperties":{"type":"null"}}', ["[]", '{"a":null}'], [("[1]", "/0", "/unevaluatedItems"), ('{"a":1}', "/a", "/unevaluatedProperties/type")]),
+]
+KEYWORDS += UNEVALUATED_PROPERTIES + UNEVALUATED_ITEMS
+
 # Schemas that can't be applied, each with the place.
 REFUSED = [
     ("5", ""), ("null", ""), ("[]", ""), ('"x"', ""),
@@ -279,8 +370,8 @@ REFUSED = [
     ('{"patternProperties":[]}', "/patternProperties"), ('{"patternProperties":{"a":5}}', "/patternProperties/a"), ('{"patternProperties":{"a":{"type":"any"}}}', "/patternProperties/a/type"),
     ('{"patternProperties":{"a":true,"(":true}}', "/patternProperties/("), ('{"patternProperties":{"a/b":true,"a/(?!~)":true}}', "/patternProperties/a~1(?!~0)"),
     ('{"items":{"patternProperties":{"b+":{"pattern":"[a"}}}}', "/items/patternProperties/b+/pattern"), ('{"additionalProperties":{"patternProperties":{"\\\\B":{}}}}', "/additionalProperties/patternProperties/\\B"),
-    ('{"unevaluatedProperties":true}', "/unevaluatedProperties"),
-    ('{"unevaluatedItems":true}', "/unevaluatedItems"), ('{"$dynamicRef":"#a"}', "/$dynamicRef"),
+    ('{"unevaluatedProperties":1}', "/unevaluatedProperties"), ('{"unevaluatedProperties":{"type":5}}', "/unevaluatedProperties/type"),
+    ('{"unevaluatedItems":[true]}', "/unevaluatedItems"), ('{"$dynamicRef":"#a"}', "/$dynamicRef"),
     ('{"$schema":"http://json-schema.org/draft-07/schema#"}', "/$schema"), ('{"$schema":5}', "/$schema"),
     ('{"$defs":{"a":5}}', "/$defs/a"), ('{"$defs":[]}', "/$defs"),
     ('{"items":[]}', "/items"), ('{"items":[{"type":"string"}]}', "/items"), ('{"prefixItems":[]}', "/prefixItems"),

@@ -14,6 +14,7 @@ pub mod Places
 pub mod References
 pub mod Reports
 pub mod Running
+pub mod Sourcing
 pub mod Turns
 pub mod Validity
 pub mod Words

@@ -17,6 +17,8 @@ use Rattle.json_schema.specs.Applied.{applies, apply_all, counts, tests, demands
 use Rattle.i_regexp.specs.PatternDeciding.{is_found}
 use Rattle.json_schema.specs.Applied.{items_accepted, members_in, found_pass, patterns_accept}
 use Rattle.json_schema.specs.Applied.{parts_accepted}
+use Rattle.json_schema.specs.Evaluated.{Child, member_at, item_at, value_of, IsChild, Answers, rest_keyword, others_evaluate}
+use Rattle.json_schema.specs.Evaluated.{rest_accepts, rest_accepted, members_pass, items_pass, children_pass}
 use Rattle.json_schema.specs.Keywords.{meets_all, assertions}
 use Rattle.json_schema.specs.Names.{name}
 use Rattle.json_schema.specs.Parts.{item_schema, part_schema}
@@ -24,6 +26,7 @@ use Rattle.json_schema.specs.Places.{IsAt}
 use Rattle.json_schema.specs.References.{referenced}
 use Rattle.json_schema.specs.Valid.{is_reference, target_accepts}
 use Rattle.json_schema.specs.Valid.{refuses_all, judge, reference_accepts, accepts_by, IsValid, MeetsRules, IsInvalidAt, Validates}
+use Rattle.json_schema.specs.Valid.{by_rules, answers, answers_in, FindsRest, in_rest}
 use Rattle.json_schema.specs.Valid.{Agrees, says, Follows, Decides, Judges, IsDeeper, Finds, IsUnapplied}
 use Rattle.json_schema.specs.Valid.{refused, unmet, not_applied}
 use Rattle.json_schema.specs.Valid.{in_all_of, in_branch, in_dependent, in_patterned, in_reference, in_part}
@@ -35,29 +38,40 @@ use Rattle.json_schema.specs.declared.walk.Walk.{Walk}
 
 -- ---- what a valid value meets
 
-pub record IsMet (root : Tree) (f : Judge) (s t : Tree) : Type 0 where
+pub record IsMet (root : Tree) (a : Answers) (s t : Tree) : Type 0 where
   pub accepted : refuses_all s ≡ false
   pub asserted : meets_all assertions s t ≡ true
-  pub tested : apply_all f tests s t ≡ true
-  pub demanded : apply_all f demands s t ≡ true
-  pub referred : reference_accepts root f s t ≡ true
-  pub parts : parts_accepted f s t ≡ true
+  pub tested : apply_all a.accepts tests s t ≡ true
+  pub demanded : apply_all a.accepts demands s t ≡ true
+  pub referred : reference_accepts root a.accepts s t ≡ true
+  pub parts : parts_accepted a.accepts s t ≡ true
+  pub rest : rest_accepted root a s t ≡ true
 
 not_true : (b : Bool) → not b ≡ true → b ≡ false
 not_true true h = cc
 not_true false h = refl
 
-met : (root : Tree) (f : Judge) (s t : Tree) → accepts_by root f s t ≡ true → IsMet root f s t
+met : (root : Tree) (a : Answers) (s t : Tree) → accepts_by root a s t ≡ true → IsMet root a s t
 met root f s t h =
     let a = and_parts _ _ h in
     let b = and_parts _ _ a.1 in
     let c = and_parts _ _ b.1 in
     let d = and_parts _ _ c.1 in
     let e = and_parts _ _ d.1 in
-    record { accepted = not_true _ a.0; asserted = b.0; tested = c.0; demanded = d.0; referred = e.0; parts = e.1 }
+    let l = and_parts _ _ e.1 in
+    record {
+      accepted = not_true _ a.0;
+      asserted = b.0;
+      tested = c.0;
+      demanded = d.0;
+      referred = e.0;
+      parts = l.0;
+      rest = l.1;
+    }
 
-pub valid_from : (root : Tree) (f : Judge) (s t : Tree) → IsMet root f s t → accepts_by root f s t ≡ true
-valid_from root f s t m = λ i. not (m.accepted i) && (m.asserted i && (m.tested i && (m.demanded i && (m.referred i && m.parts i))))
+pub valid_from : (root : Tree) (a : Answers) (s t : Tree) → IsMet root a s t → accepts_by root a s t ≡ true
+valid_from root a s t m = λ i. not (m.accepted i) && (m.asserted i && (m.tested i && (m.demanded i && (m.referred i
+    && (m.parts i && m.rest i)))))
 
 -- each keyword that applies schemas is met
 module _ (f : Judge) (s t : Tree) where
@@ -85,42 +99,42 @@ from_dependents = kw.DependentSchemas ∷ kw.PatternProperties ∷ []
 abbrev from_if : List Keyword
 from_if = kw.If ∷ from_dependents
 
-after_any_of : (root : Tree) (f : Judge) (s t : Tree) → IsMet root f s t → apply_all f from_one_of s t ≡ true
-after_any_of root f s t m = rest_met f s t kw.AnyOf from_one_of m.tested
+after_any_of : (root : Tree) (a : Answers) (s t : Tree) → IsMet root a s t → apply_all a.accepts from_one_of s t ≡ true
+after_any_of root a s t m = rest_met a.accepts s t kw.AnyOf from_one_of m.tested
 
-after_one_of : (root : Tree) (f : Judge) (s t : Tree) → IsMet root f s t → apply_all f from_not s t ≡ true
-after_one_of root f s t m = rest_met f s t kw.OneOf from_not (after_any_of root f s t m)
+after_one_of : (root : Tree) (a : Answers) (s t : Tree) → IsMet root a s t → apply_all a.accepts from_not s t ≡ true
+after_one_of root a s t m = rest_met a.accepts s t kw.OneOf from_not (after_any_of root a s t m)
 
-after_not : (root : Tree) (f : Judge) (s t : Tree) → IsMet root f s t → apply_all f from_names s t ≡ true
-after_not root f s t m = rest_met f s t kw.Not from_names (after_one_of root f s t m)
+after_not : (root : Tree) (a : Answers) (s t : Tree) → IsMet root a s t → apply_all a.accepts from_names s t ≡ true
+after_not root a s t m = rest_met a.accepts s t kw.Not from_names (after_one_of root a s t m)
 
-after_names : (root : Tree) (f : Judge) (s t : Tree) → IsMet root f s t → apply_all f counts s t ≡ true
-after_names root f s t m = rest_met f s t kw.PropertyNames counts (after_not root f s t m)
+after_names : (root : Tree) (a : Answers) (s t : Tree) → IsMet root a s t → apply_all a.accepts counts s t ≡ true
+after_names root a s t m = rest_met a.accepts s t kw.PropertyNames counts (after_not root a s t m)
 
-after_contains : (root : Tree) (f : Judge) (s t : Tree) → IsMet root f s t → apply_all f from_max_contains s t ≡ true
-after_contains root f s t m = rest_met f s t kw.Contains from_max_contains (after_names root f s t m)
+after_contains : (root : Tree) (a : Answers) (s t : Tree) → IsMet root a s t → apply_all a.accepts from_max_contains s t ≡ true
+after_contains root a s t m = rest_met a.accepts s t kw.Contains from_max_contains (after_names root a s t m)
 
-after_all_of : (root : Tree) (f : Judge) (s t : Tree) → IsMet root f s t → apply_all f from_if s t ≡ true
-after_all_of root f s t m = rest_met f s t kw.AllOf from_if m.demanded
+after_all_of : (root : Tree) (a : Answers) (s t : Tree) → IsMet root a s t → apply_all a.accepts from_if s t ≡ true
+after_all_of root a s t m = rest_met a.accepts s t kw.AllOf from_if m.demanded
 
-after_if : (root : Tree) (f : Judge) (s t : Tree) → IsMet root f s t → apply_all f from_dependents s t ≡ true
-after_if root f s t m = rest_met f s t kw.If from_dependents (after_all_of root f s t m)
+after_if : (root : Tree) (a : Answers) (s t : Tree) → IsMet root a s t → apply_all a.accepts from_dependents s t ≡ true
+after_if root a s t m = rest_met a.accepts s t kw.If from_dependents (after_all_of root a s t m)
 
-applied : (root : Tree) (f : Judge) (s t : Tree) (k : Keyword) → IsMet root f s t → applies f k s t ≡ true
-applied root f s t kw.AnyOf m = first_met f s t kw.AnyOf from_one_of m.tested
-applied root f s t kw.OneOf m = first_met f s t kw.OneOf from_not (after_any_of root f s t m)
-applied root f s t kw.Not m = first_met f s t kw.Not from_names (after_one_of root f s t m)
-applied root f s t kw.PropertyNames m = first_met f s t kw.PropertyNames counts (after_not root f s t m)
-applied root f s t kw.Contains m = first_met f s t kw.Contains from_max_contains (after_names root f s t m)
-applied root f s t kw.MaxContains m = first_met f s t kw.MaxContains (kw.MinContains ∷ []) (after_contains root f s t m)
-applied root f s t kw.MinContains m = first_met f s t kw.MinContains []
-    (rest_met f s t kw.MaxContains (kw.MinContains ∷ []) (after_contains root f s t m))
-applied root f s t kw.AllOf m = first_met f s t kw.AllOf from_if m.demanded
-applied root f s t kw.If m = first_met f s t kw.If from_dependents (after_all_of root f s t m)
-applied root f s t kw.DependentSchemas m = first_met f s t kw.DependentSchemas (kw.PatternProperties ∷ []) (after_if root f s t m)
-applied root f s t kw.PatternProperties m = first_met f s t kw.PatternProperties []
-    (rest_met f s t kw.DependentSchemas (kw.PatternProperties ∷ []) (after_if root f s t m))
-applied root f s t _ m = refl
+applied : (root : Tree) (a : Answers) (s t : Tree) (k : Keyword) → IsMet root a s t → applies a.accepts k s t ≡ true
+applied root a s t kw.AnyOf m = first_met a.accepts s t kw.AnyOf from_one_of m.tested
+applied root a s t kw.OneOf m = first_met a.accepts s t kw.OneOf from_not (after_any_of root a s t m)
+applied root a s t kw.Not m = first_met a.accepts s t kw.Not from_names (after_one_of root a s t m)
+applied root a s t kw.PropertyNames m = first_met a.accepts s t kw.PropertyNames counts (after_not root a s t m)
+applied root a s t kw.Contains m = first_met a.accepts s t kw.Contains from_max_contains (after_names root a s t m)
+applied root a s t kw.MaxContains m = first_met a.accepts s t kw.MaxContains (kw.MinContains ∷ []) (after_contains root a s t m)
+applied root a s t kw.MinContains m = first_met a.accepts s t kw.MinContains []
+    (rest_met a.accepts s t kw.MaxContains (kw.MinContains ∷ []) (after_contains root a s t m))
+applied root a s t kw.AllOf m = first_met a.accepts s t kw.AllOf from_if m.demanded
+applied root a s t kw.If m = first_met a.accepts s t kw.If from_dependents (after_all_of root a s t m)
+applied root a s t kw.DependentSchemas m = first_met a.accepts s t kw.DependentSchemas (kw.PatternProperties ∷ []) (after_if root a s t m)
+applied root a s t kw.PatternProperties m = first_met a.accepts s t kw.PatternProperties []
+    (rest_met a.accepts s t kw.DependentSchemas (kw.PatternProperties ∷ []) (after_if root a s t m))
+applied root a s t _ m = refl
 
 module _ (f : Judge) (t : Tree) where
   one_accepts : (rs : Items) (i : ℕ) (r : Tree) → all_accept f rs t ≡ true → nth rs i ≡ Some r → f r t ≡ true
@@ -236,34 +250,86 @@ reference_chosen : (root : Tree) (f : Judge) (s t r : Tree) (k : Keyword) → ta
     → referenced root k s ≡ Some r → f r t ≡ true
 reference_chosen root f s t r k h e = sym (ap (λ o. option_map_or (λ q. f q t) o true) e) ∙ h
 
+-- ---- the members and items that no other keyword evaluates
+
+module _ (q : Child → Bool) where
+  member_passes : (ms : Members) (k : List ℕ) (u : Tree) → members_pass q ms ≡ true → find k ms ≡ Some u → q (member_at k u) ≡ true
+  member_passes no_members k u h e = cc
+  member_passes (member l v ms) k u h e = by (bytes_eq k l) refl e (λ g. member_passes ms k u (and_parts _ _ h).1 g)
+    where
+      by : (b : Bool) → bytes_eq k l ≡ b → cond b (Some v) (find k ms) ≡ Some u → (find k ms ≡ Some u → q (member_at k u) ≡ true)
+          → q (member_at k u) ≡ true
+      by true d g later =
+          let same : v ≡ u = cc in
+          let key : l ≡ k = sym ((bytes_eq-Decides k l).0 d) in
+          subst (λ x. q (member_at k x) ≡ true) same (subst (λ x. q (member_at x v) ≡ true) key (and_parts _ _ h).0)
+      by false d g later = later g
+
+  item_passes : (n : ℕ) (us : Items) (i : ℕ) (u : Tree) → items_pass q n us ≡ true → nth us i ≡ Some u → q (item_at (n + i) u) ≡ true
+  item_passes n no_items i u h e = cc
+  item_passes n (item v us) zero u h e =
+      let same : v ≡ u = cc in
+      let first : n ≡ n + 0 = omega arith in
+      subst (λ j. q (item_at j u) ≡ true) first (subst (λ x. q (item_at n x) ≡ true) same (and_parts _ _ h).0)
+  item_passes n (item v us) (suc i) u h e =
+      let next : suc n + i ≡ n + suc i = omega arith in
+      subst (λ j. q (item_at j u) ≡ true) next (item_passes (suc n) us i u (and_parts _ _ h).1 e)
+
+  child_passes : (t : Tree) (k : List ℕ) (c : Child) → children_pass q t ≡ true → IsChild t k c → q c ≡ true
+  child_passes (object ms) k (member_at l u) h e = member_passes ms l u h e.1
+  child_passes (object ms) k (item_at i u) h e = let none = e.1 in cc
+  child_passes (array us) k (member_at l u) h e = let none = e.1 in cc
+  child_passes (array us) k (item_at i u) h e =
+      let first : 0 + i ≡ i = omega arith in
+      subst (λ j. q (item_at j u) ≡ true) first (item_passes 0 us i u h e.1)
+  child_passes _ k (member_at l u) h e = let none = e.1 in cc
+  child_passes _ k (item_at i u) h e = let none = e.1 in cc
+
+rest_passes : (root : Tree) (a : Answers) (s t : Tree) (c : Child) (k : List ℕ) (r : Tree) → rest_accepted root a s t ≡ true
+    → schema_at s (rest_keyword c) ≡ Some r → IsChild t k c → others_evaluate root a s t c ≡ false → a.accepts r (value_of c) ≡ true
+rest_passes root a s t c k r h e g n =
+    sym (ap (λ b. b || a.accepts r (value_of c)) n)
+    ∙ (sym (ap (λ o. option_map_or (λ q. others_evaluate root a s t c || a.accepts q (value_of c)) o true) e)
+    ∙ child_passes (rest_accepts root a s t) t k c h g)
+
+child_step : (t : Tree) (k : List ℕ) (c : Child) → IsChild t k c → step t k ≡ Some (value_of c)
+child_step (object ms) k (member_at l u) e = ap (λ x. find x ms) e.0 ∙ e.1
+child_step (object ms) k (item_at i u) e = let none = e.1 in cc
+child_step (array us) k (member_at l u) e = let none = e.1 in cc
+child_step (array us) k (item_at i u) e = ap (item_of us) e.0 ∙ e.1
+child_step _ k (member_at l u) e = let none = e.1 in cc
+child_step _ k (item_at i u) e = let none = e.1 in cc
+
 -- ---- places
 
 -- what is not met is not accepted, whatever is said further in
-pub refuted : {root : Tree} {n : ℕ} {s t : Tree} {ks js : List (List ℕ)} → IsInvalidAt root n s t ks js → (g : Judge)
+pub refuted : {root : Tree} {n : ℕ} {s t : Tree} {ks js : List (List ℕ)} → IsInvalidAt root n s t ks js → (g : Answers)
     → judge root n g s t ≡ true → ⊥
 refuted {n = zero} x g v = elim x [ ]
-refuted {root} {n = suc n} {s} {t} (refused e) g v = true≢false (sym e ∙ (met root (judge root n g) s t v).accepted)
-refuted {root} {n = suc n} {s} {t} (unmet k e) g v = true≢false (sym (met root (judge root n g) s t v).asserted ∙ e.1)
+refuted {root} {n = suc n} {s} {t} (refused e) g v = true≢false (sym e ∙ (met root (answers root n g) s t v).accepted)
+refuted {root} {n = suc n} {s} {t} (unmet k e) g v = true≢false (sym (met root (answers root n g) s t v).asserted ∙ e.1)
 refuted {root} {n = suc n} {s} {t} (not_applied k e) g v =
-    true≢false (sym (applied root (judge root n g) s t k (met root (judge root n g) s t v)) ∙ e g)
+    true≢false (sym (applied root (answers root n g) s t k (met root (answers root n g) s t v)) ∙ e g)
 refuted {root} {n = suc n} {s} {t} (in_all_of {r} {k} e h) g v =
     refuted h g (named_accepts (judge root n g) t (schemas_at s kw.AllOf) (index_of k) r
-    (applied root (judge root n g) s t kw.AllOf (met root (judge root n g) s t v)) e)
+    (applied root (answers root n g) s t kw.AllOf (met root (answers root n g) s t v)) e)
 refuted {root} {n = suc n} {s} {t} (in_branch {c} {r} {b} e a j h) g v =
-    refuted h g (branch_chosen (judge root n g) s t c r (applied root (judge root n g) s t kw.If (met root (judge root n g) s t v)) e
+    refuted h g (branch_chosen (judge root n g) s t c r (applied root (answers root n g) s t kw.If (met root (answers root n g) s t v)) e
     (ap (λ x. schema_at s (branch x)) (a g) ∙ j))
 refuted {root} {n = suc n} {s} {t} (in_dependent {r} {k} e a h) g v =
     refuted h g (dependent_accepts (judge root n g) t (schema_map_at s kw.DependentSchemas) k r
-    (applied root (judge root n g) s t kw.DependentSchemas (met root (judge root n g) s t v)) e a)
+    (applied root (answers root n g) s t kw.DependentSchemas (met root (answers root n g) s t v)) e a)
 refuted {root} {n = suc n} {s} {t} (in_patterned {r} {u} {p} {k} a b c h) g v =
     refuted h g (found_passes (judge root n g r) p (members_in t) k u
     (pattern_accepts (judge root n g) (members_in t) (schema_map_at s kw.PatternProperties) p r
-    (applied root (judge root n g) s t kw.PatternProperties (met root (judge root n g) s t v)) a) b c)
+    (applied root (answers root n g) s t kw.PatternProperties (met root (answers root n g) s t v)) a) b c)
 refuted {root} {n = suc n} {s} {t} (in_reference {r} k i e h) g v =
     refuted h g (reference_chosen root (judge root n g) s t r k
-    (reference_met_at root (judge root n g) s t k i (met root (judge root n g) s t v).referred) e)
+    (reference_met_at root (judge root n g) s t k i (met root (answers root n g) s t v).referred) e)
 refuted {root} {n = suc n} {s} {t} (in_part {r} {u} {k} ls a b c h) g v =
-    refuted h g (part_accepts (judge root n g) s t k r u (met root (judge root n g) s t v).parts a b)
+    refuted h g (part_accepts (judge root n g) s t k r u (met root (answers root n g) s t v).parts a b)
+refuted {root} {n = suc n} {s} {t} (in_rest {r} {k} c a b d h) g v =
+    refuted h g (rest_passes root (answers root n g) s t c k r (met root (answers root n g) s t v).rest a b (d g))
 
 isnt_true : (b : Bool) → (b ≡ true → ⊥) → false ≡ b
 isnt_true true n = absurd (n refl)
@@ -272,23 +338,25 @@ isnt_true false n = refl
 -- ---- more steps, and no end of them
 
 -- n steps, and m further in, are k
-further : (root : Tree) (n m k : ℕ) (g : Judge) → n + m ≡ k → judge root n (judge root m g) ≡ judge root k g
-further root zero m k g e = let same : m ≡ k = omega (arith, e) in ap (λ j. judge root j g) same
+further : (root : Tree) (n m k : ℕ) (g : Answers) → n + m ≡ k → answers root n (answers root m g) ≡ answers root k g
+further root zero m k g e = let same : m ≡ k = omega (arith, e) in ap (λ j. answers root j g) same
 further root (suc n) m zero g e = absurd (omega (arith, e))
-further root (suc n) m (suc k) g e = ap (accepts_by root) (further root n m k g (omega (arith, e)))
+further root (suc n) m (suc k) g e = ap (by_rules root) (further root n m k g (omega (arith, e)))
 
 pub not_valid : {s t : Tree} {n : ℕ} {ks js : List (List ℕ)} → IsInvalidAt s n s t ks js → IsValid s t → ⊥
 not_valid {s} {t} {n} h v =
     let m = v.0 in
-    let g : Judge = λ r u. true in
-    let same : judge s n (judge s m g) ≡ judge s m (judge s n g)
+    let g : Answers = record { accepts = λ r u. true; evaluates = λ r u c. true } in
+    let same : answers s n (answers s m g) ≡ answers s m (answers s n g)
     = further s n m (n + m) g refl ∙ sym (further s m n (n + m) g (omega arith)) in
-    refuted h (judge s m g) (ap (λ f. f s t) same ∙ v.1 (judge s n g))
+    refuted h (answers s m g) (ap (λ (a : Answers). a.accepts s t) same ∙ v.1 (answers s n g))
 
 -- what meets the rules says what any number of steps gives
-at_rest : (root : Tree) (f : Judge) (n : ℕ) → MeetsRules root f → f ≡ judge root n f
-at_rest root f zero e = refl
-at_rest root f (suc n) e = (λ i s t. e s t i) ∙ ap (accepts_by root) (at_rest root f n e)
+at_rest : (root : Tree) (a : Answers) (n : ℕ) → MeetsRules root a → a ≡ answers root n a
+at_rest root a zero m = refl
+at_rest root a (suc n) m =
+    (λ i. record { accepts = λ s t. m.accepts s t i; evaluates = λ s t c. m.evaluates s t c i })
+    ∙ ap (by_rules root) (at_rest root a n m)
 
 pub there : {root : Tree} {n : ℕ} {s t : Tree} {ks js : List (List ℕ)} → IsInvalidAt root n s t ks js → IsSome (part_at t js)
 there (refused e) = refl
@@ -301,6 +369,8 @@ there {t} {js = k ∷ js} (in_patterned {u} a b c h) =
     subst (λ o. IsSome (option_and_then (λ v. part_at v js) o)) (sym (member_step t k u c)) (there h)
 there (in_reference k i e h) = there h
 there {t} {js = k ∷ js} (in_part {u} ls a b c h) = subst (λ o. IsSome (option_and_then (λ v. part_at v js) o)) (sym b) (there h)
+there {t} {js = k ∷ js} (in_rest c a b d h) =
+    subst (λ o. IsSome (option_and_then (λ v. part_at v js) o)) (sym (child_step t k c b)) (there h)
 
 -- ---- results
 
@@ -321,7 +391,7 @@ pub placed : (w : Walk) (q : Judge → Bool) (s t : Tree) (v : Violation) (ks js
 placed w q s t v ks js at h = at_tokens (view w.root.now) (suc w.steps) s t v ks js at h
 
 -- of a valid value nothing is found, and of another something
-pub verdict : (root : Tree) (n : ℕ) (s t : Tree) (o : Option Violation) → Decides root n s t (Ok o) → (g : Judge)
+pub verdict : (root : Tree) (n : ℕ) (s t : Tree) (o : Option Violation) → Decides root n s t (Ok o) → (g : Answers)
     → not (is_some o) ≡ judge root n g s t
 verdict root n s t None h g = sym (h g)
 verdict root n s t (Some v) h g = isnt_true (judge root n g s t) (refuted h g)
@@ -333,12 +403,12 @@ answered n s t (Ok (Some v)) h = (h, there h, not_valid h)
 answered n s t (Err e) h = tt
 
 pub agreed : (n : ℕ) (s t : Tree) (x : Result (Option Violation) CheckError) → Decides s n s t x → IfOk x (λ o. Agrees s t o)
-agreed n s t (Ok o) h = λ f e. ap (λ q. q s t) (at_rest s f n e) ∙ sym (verdict s n s t o h f)
+agreed n s t (Ok o) h = λ a m. ap (λ (b : Answers). b.accepts s t) (at_rest s a n m) ∙ sym (verdict s n s t o h a)
 agreed n s t (Err e) h = tt
 
 -- the last of the tests
 pub last_tested : (w : Walk) (s t : Tree) (x : Result (Option Keyword) CheckError)
-    → ((g : Judge) → (applies (says w g) kw.AnyOf s t ≡ true) × (applies (says w g) kw.OneOf s t ≡ true)
+    → ((g : Answers) → (applies (says w g) kw.AnyOf s t ≡ true) × (applies (says w g) kw.OneOf s t ≡ true)
     × (applies (says w g) kw.Not s t ≡ true) × (applies (says w g) kw.PropertyNames s t ≡ true))
     → IfOk x (λ o. IsUnapplied w counts s t o) → IfOk x (λ o. IsUnapplied w tests s t o)
 last_tested w s t (Ok None) a h = λ g i. (a g).0 i && ((a g).1 i && ((a g).2 i && ((a g).3 i && h g i)))
@@ -347,22 +417,24 @@ last_tested w s t (Err e) a h = tt
 
 -- the last step of the check
 pub last_found : (w : Walk) (s t : Tree) (x : Result (Option Violation) CheckError)
-    → refuses_all s ≡ false → meets_all assertions s t ≡ true → ((g : Judge) → apply_all (says w g) tests s t ≡ true)
-    → ((g : Judge) → applies (says w g) kw.AllOf s t ≡ true) → ((g : Judge) → applies (says w g) kw.If s t ≡ true)
-    → ((g : Judge) → applies (says w g) kw.DependentSchemas s t ≡ true)
-    → ((g : Judge) → applies (says w g) kw.PatternProperties s t ≡ true)
-    → ((g : Judge) → reference_accepts (view w.root.now) (says w g) s t ≡ true)
-    → Finds w (λ f. parts_accepted f s t) s t x → Decides (view w.root.now) (suc w.steps) s t x
-last_found w s t (Ok None) a b c d e k p r h = λ g. valid_from (view w.root.now) (says w g) s t (record {
+    → refuses_all s ≡ false → meets_all assertions s t ≡ true → ((g : Answers) → apply_all (says w g) tests s t ≡ true)
+    → ((g : Answers) → applies (says w g) kw.AllOf s t ≡ true) → ((g : Answers) → applies (says w g) kw.If s t ≡ true)
+    → ((g : Answers) → applies (says w g) kw.DependentSchemas s t ≡ true)
+    → ((g : Answers) → applies (says w g) kw.PatternProperties s t ≡ true)
+    → ((g : Answers) → reference_accepts (view w.root.now) (says w g) s t ≡ true)
+    → ((g : Answers) → parts_accepted (says w g) s t ≡ true)
+    → FindsRest w s t x → Decides (view w.root.now) (suc w.steps) s t x
+last_found w s t (Ok None) a b c d e k p r l h = λ g. valid_from (view w.root.now) (answers_in w g) s t (record {
   accepted = a;
   asserted = b;
   tested = c g;
   demanded = λ i. d g i && (e g i && (k g i && (p g i && true)));
   referred = r g;
-  parts = h g;
+  parts = l g;
+  rest = h g;
 })
-last_found w s t (Ok (Some v)) a b c d e k p r h = h
-last_found w s t (Err x) a b c d e k p r h = tt
+last_found w s t (Ok (Some v)) a b c d e k p r l h = h
+last_found w s t (Err x) a b c d e k p r l h = tt
 
 -- what is known of a schema in the walk, one step before
 pub before : (w inner : Walk) → IsDeeper w inner → (s t : Tree) (x : Result (Option Violation) CheckError)
@@ -375,16 +447,16 @@ before w inner d s t x h = subst (λ n. Decides (view w.root.now) n s t x) (sym 
 module _ (w : Walk) (s t c : Tree) (b : Bool) (k : Keyword) (test : Some c ≡ schema_at s kw.If)
     (told : Follows w b (λ f. f c t)) (chosen : k ≡ branch b)
   where
-    taken : (g : Judge) → schema_at s (branch (says w g c t)) ≡ schema_at s k
+    taken : (g : Answers) → schema_at s (branch (says w g c t)) ≡ schema_at s k
     taken g = ap (λ x. schema_at s (branch x)) (sym (told g)) ∙ ap (schema_at s) (sym chosen)
 
-    by_branch : (g : Judge) → branch_accepts (says w g) s t (says w g c t) ≡ true → applies (says w g) kw.If s t ≡ true
+    by_branch : (g : Answers) → branch_accepts (says w g) s t (says w g c t) ≡ true → applies (says w g) kw.If s t ≡ true
     by_branch g h = ap (λ o. option_map_or (λ r. branch_accepts (says w g) s t (says w g r t)) o true) (sym test) ∙ h
 
-    pub no_branch : None ≡ schema_at s k → (g : Judge) → applies (says w g) kw.If s t ≡ true
+    pub no_branch : None ≡ schema_at s k → (g : Answers) → applies (says w g) kw.If s t ≡ true
     no_branch h g = by_branch g (ap (λ o. option_map_or (λ r. says w g r t) o true) (taken g ∙ sym h))
 
-    pub branch_met : (r : Tree) → Some r ≡ schema_at s k → ((g : Judge) → says w g r t ≡ true) → (g : Judge)
+    pub branch_met : (r : Tree) → Some r ≡ schema_at s k → ((g : Answers) → says w g r t ≡ true) → (g : Answers)
         → applies (says w g) kw.If s t ≡ true
     branch_met r h v g = by_branch g (ap (λ o. option_map_or (λ r. says w g r t) o true) (taken g ∙ sym h) ∙ v g)
 
@@ -404,7 +476,7 @@ no_reference root f s t k e = ap (λ o. option_map_or (λ q. f q t) o true) (sym
 
 -- the second of the references is met, or not
 pub both_met : (w : Walk) (s t : Tree) (x : Result (Option Violation) CheckError)
-    → ((g : Judge) → target_accepts (view w.root.now) kw.Ref (says w g) s t ≡ true)
+    → ((g : Answers) → target_accepts (view w.root.now) kw.Ref (says w g) s t ≡ true)
     → Finds w (λ f. target_accepts (view w.root.now) kw.DynamicRef f s t) s t x
     → Finds w (λ f. reference_accepts (view w.root.now) f s t) s t x
 both_met w s t (Ok None) a h = λ g i. a g i && h g i

@@ -1,6 +1,7 @@
 pub mod Anchors
 pub mod Applied
 pub mod Circles
+pub mod Evaluated
 pub mod Failures
 pub mod Forms
 pub mod Keywords
@@ -14,6 +15,7 @@ pub mod References
 pub mod Report
 pub mod Run
 pub mod Schemas
+pub mod Sources
 pub mod Told
 pub mod Unknown
 pub mod Valid

@@ -33,7 +33,6 @@ has_form form.PatternMap w one list entries leads own whole = has_patterns w && 
 has_form form.Base w one list entries leads own whole = whole && is_string w
 has_form form.Reference w one list entries leads own whole = leads
 has_form form.Anchor w one list entries leads own whole = own
-has_form form.Refused w one list entries leads own whole = false
 
 abbrev mutual
   -- a schema whose keywords, and those of the schemas in it, can be applied; in the whole schema root, or the whole itself

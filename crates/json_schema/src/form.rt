@@ -40,8 +40,6 @@ pub enum Form {
     Reference,
     /// A plain name that no other schema has.
     Anchor,
-    /// The keyword can't be applied, whatever its value.
-    Refused,
 }
 
 /// The form of the keyword of a name; a name that is none says nothing.
@@ -69,7 +67,6 @@ fn form_of(keyword: Keyword) -> Form
         | Keyword::Title
         | Keyword::Description => Form::Text,
         Keyword::Defs | Keyword::Properties | Keyword::DependentSchemas => Form::SchemaMap,
-        Keyword::UnevaluatedItems | Keyword::UnevaluatedProperties => Form::Refused,
         Keyword::PatternProperties => Form::PatternMap,
         Keyword::Pattern => Form::Pattern,
         Keyword::PrefixItems | Keyword::AllOf | Keyword::AnyOf | Keyword::OneOf => Form::Schemas,
@@ -81,6 +78,8 @@ fn form_of(keyword: Keyword) -> Form
         | Keyword::Contains
         | Keyword::AdditionalProperties
         | Keyword::PropertyNames
+        | Keyword::UnevaluatedItems
+        | Keyword::UnevaluatedProperties
         | Keyword::ContentSchema => Form::Schema,
         Keyword::Type => Form::Types,
         Keyword::Enum | Keyword::Examples => Form::List,

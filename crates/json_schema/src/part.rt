@@ -92,7 +92,7 @@ fn additional<'s>(
 /// Whether a pattern of `patternProperties` is found in the key. Not inlined, since the recursion over
 /// schemas calls it at each level.
 #[inline(never)]
-fn is_patterned(schema: &JsonValue, key: &str, alloc: Global) -> Result<bool, AllocError>
+pub fn is_patterned(schema: &JsonValue, key: &str, alloc: Global) -> Result<bool, AllocError>
     ensures { IfOk result (λ is. is ≡ is_patterned (view schema.now) (chars key.now)) }
 {
     let patterns = schema_map_at(schema, Keyword::PatternProperties, alloc)?;

@@ -115,7 +115,6 @@ fn misfit(
         Form::Base => unless(is_whole && is_string(operand), alloc),
         Form::Reference => unless(leads(operand, document, alloc)?, alloc),
         Form::Anchor => unless(is_own_name(operand, document), alloc),
-        Form::Refused => unless(false, alloc),
     }
 }
 

@@ -15,6 +15,8 @@ ghost use Rattle.json_schema.specs.Valid.{Judges, Follows, Finds, FindsFound, Is
 ghost use Rattle.json_schema.specs.Valid.{is_reference, target_accepts};
 ghost use Rattle.json_schema.specs.declared.keyword.Keyword.TheVariants as kw;
 
+mod unevaluated;
+
 use crate::applied::{
     branch, has_key, listed_members, name_of, schema_at, schema_map_at, schemas_at,
 };
@@ -25,6 +27,7 @@ use crate::part::{item_part, member_part};
 use crate::pattern::Pattern;
 use crate::reference::referenced;
 use crate::refused::is_some_item;
+use crate::validate::unevaluated::in_rest;
 use crate::violation::Violation;
 use crate::walk::{CheckError, Walk};
 use std::alloc::Global;
@@ -86,7 +89,10 @@ fn violation_in(
     if let Some(found) = in_reference(value, schema, inner, alloc)? {
         return Ok(Some(found));
     }
-    in_parts(value, schema, inner, alloc)
+    if let Some(found) = in_parts(value, schema, inner, alloc)? {
+        return Ok(Some(found));
+    }
+    in_rest(value, schema, inner, alloc)
 }
 
 /// Whether it is the schema `false`.

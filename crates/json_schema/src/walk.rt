@@ -22,6 +22,12 @@ impl From<AllocError> for CheckError {
     }
 }
 
+impl<T: Drop> From<AllocFailed<T>> for CheckError {
+    fn from(_: AllocFailed<T>) -> CheckError {
+        CheckError::OutOfMemory
+    }
+}
+
 /// Where references lead, and how many schemas more may be applied in one another.
 #[derive(Clone, Copy)]
 pub struct Walk<'d, 's> {

@@ -1,31 +1,41 @@
-use Rattle.std.proofs.Common.{◌≡◌, ◌==◌, ◌<◌, ◌+◌, ◌*◌, ◌∙◌, not, ◌&&◌, ◌||◌, true, false, Ok}
+use Rattle.std.proofs.Common.{◌≡◌, ◌==◌, ◌<◌, ◌≤◌, ◌+◌, ◌*◌, ◌∙◌, ◌∷◌, ◌++◌, [], not, ◌&&◌, ◌||◌, Bool, true, false, Ok}
 use Rattle.std.proofs.Common.{Some, None, drop, is_some, option_map, suc, arith, rules, refl}
 use Rattle.std.proofs.Common.{sym, ap, ap₂, subst, cond}
+use Rattle.std.proofs.lemmas.Bool.{or_left, or_right}
 use Rattle.std.specs.Option.{option_map_or}
 use Rattle.std.specs.Prelude.{option_and_then}
 use Rattle.std.specs.Str.{chars}
 use Rattle.tinyjson.proofs.Callers.{view_Object, view_Array}
 use Rattle.tinyjson.specs.Index.{nth, tree_at_key}
 use Rattle.tinyjson.specs.Tree.{object, array, find}
-use Rattle.tinyjson.specs.View.{view, text, items_view, members_listed}
+use Rattle.tinyjson.specs.View.{view, text, items_view, members_view, members_listed}
 use Rattle.tinyjson.specs.Soundness.{IsSorted}
 use Rattle.json_pointer.specs.Index.{index_of}
 use Rattle.json_pointer.specs.Tokens.{tokens_of}
 use Rattle.json_pointer.specs.Walk.{item_of}
-use Rattle.json_schema.specs.Applied.{schemas_at, schema_map_at, all_accept, dependents_accept, members_accepted, items_accepted}
+use Rattle.json_schema.specs.Applied.{schema_at, schemas_at, schema_map_at, all_accept, dependents_accept, members_accepted, items_accepted}
 use Rattle.i_regexp.specs.PatternDeciding.{is_found}
 use Rattle.json_schema.specs.Applied.{found_pass, patterns_accept}
 use Rattle.json_schema.specs.Applied.{applies, parts_accepted, tests, contains_some, contains_at_most, contains_at_least, any_of, one_of}
 use Rattle.json_schema.specs.Applied.{branch_accepts, some_accepts, accepting, keys_pass, passing, members_in, items_passing}
+use Rattle.json_schema.specs.Evaluated.{Answers, Child, member_at, item_at, value_of, others_evaluate, rest_accepted, members_pass, items_pass}
+use Rattle.json_schema.specs.Evaluated.{some_evaluate, accepting_evaluate, branch_evaluates, dependents_evaluate, target_evaluates}
 use Rattle.json_schema.specs.Keywords.{IsUnmet}
 use Rattle.json_schema.specs.Parts.{item_schema}
 use Rattle.json_schema.specs.Places.{IsMemberPart, IsUnderKey, IsWithin, Enters, place}
+use Rattle.json_schema.specs.Sources.{sources_evaluate, AreWithin}
+use Rattle.json_schema.specs.Valid.{answers_in, FindsRest}
 use Rattle.json_schema.specs.Valid.{says, reference_accepts, target_accepts, Judges, Finds, IsUnapplied, refused, unmet, not_applied, in_all_of}
 use Rattle.json_schema.specs.Valid.{in_dependent, in_patterned, in_reference, in_part, IsInvalidAt, FindsFound}
 use Rattle.json_schema.specs.declared.keyword.Keyword.TheVariants as kw
+use Rattle.json_schema.specs.declared.validate.unevaluated.Source.{Source}
 use Rattle.json_schema.proofs.Listed.{listed_found, listed_sorted}
 use Rattle.json_schema.proofs.Loops.{items_turn, items_end, item_passes, item_free, members_turn, member_passes, member_free}
 use Rattle.json_schema.proofs.Loops.{dependents_turn, dependent_passes, dependent_free, no_parts, found_holds, not_found, found_turn}
+use Rattle.json_schema.proofs.Sourcing.{adds_none, adds_both, adds_as, adds_turn, adds_end, within_pushed, within_at, schema_added, inner_added}
+use Rattle.json_schema.proofs.Sourcing.{asking_added, branch_none, branch_some, no_branch_added, target_added, no_target_added}
+use Rattle.json_schema.proofs.Sourcing.{left_turn, left_end, no_member_rest, no_item_rest, no_rest, members_found, items_found, evaluated_by}
+use Rattle.json_schema.proofs.Sourcing.{item_applied}
 use Rattle.json_schema.proofs.Turns.{turn_next, turn_stop, turn_end, count_next, count_end, nth_item}
 use Rattle.json_schema.proofs.Validity.{reported, verdict, placed, last_tested, last_found, before, no_branch, branch_met}
 use Rattle.json_schema.proofs.Validity.{branch_place}
@@ -36,6 +46,10 @@ use Rattle.json_schema.proofs.validate.+validate.Goals.{in_members-in-Some+in_ok
 use Rattle.json_schema.proofs.validate.+validate.Goals.{count_accepting-then-accepted, count_accepting-else-accepted}
 use Rattle.json_schema.proofs.validate.+validate.Goals.{count_passing-then-accepted, count_passing-else-accepted}
 use Rattle.json_schema.proofs.validate.+validate.Goals.{in_items-in-Some+in_ok-found+in_default-2, in_items-in_default}
+use Rattle.json_schema.proofs.validate.+validate.Goals.{unevaluated::in_members_left-then-not-evaluated+in_ok-found+in_default}
+use Rattle.json_schema.proofs.validate.+validate.Goals.{unevaluated::in_members_left-else-not-evaluated}
+use Rattle.json_schema.proofs.validate.+validate.Goals.{unevaluated::in_items_left-then-not-evaluated+in_ok-found+in_default}
+use Rattle.json_schema.proofs.validate.+validate.Goals.{unevaluated::in_items_left-else-not-evaluated}
 use Rattle.json_schema.proofs.validate.+validate.Goals as goal
 
 -- ---- each step takes one of the walk's
@@ -72,6 +86,16 @@ violation_in-in_reference-requires t c =
 
 pub violation_in-in_parts-requires : goal.violation_in-in_parts-requires
 violation_in-in_parts-requires t c =
+    let fewer : 16 * c.in_ok-inner.inner.steps + 12 < 16 * c.args.walk.steps + 7 = omega (arith, c.in_ok-inner.ensures.1) in
+    search rules
+
+pub violation_in-in_rest-requires : goal.violation_in-in_rest-requires
+violation_in-in_rest-requires t c =
+    let fewer : 16 * c.in_ok-inner.inner.steps + 14 < 16 * c.args.walk.steps + 7 = omega (arith, c.in_ok-inner.ensures.1) in
+    search rules
+
+pub unevaluated::add_schema-add_inner-requires : goal.unevaluated::add_schema-add_inner-requires
+unevaluated::add_schema-add_inner-requires t c =
     let fewer : 16 * c.in_ok-inner.inner.steps + 12 < 16 * c.args.walk.steps + 7 = omega (arith, c.in_ok-inner.ensures.1) in
     search rules
 
@@ -144,13 +168,21 @@ violation_in-returns-in-Some-7 t c =
     before c.args.walk inner c.in_ok-inner.ensures s v (Ok (Some c.in-Some-7.found))
     (subst (λ o. Finds inner (λ f. reference_accepts (view inner.root.now) f s v) s v (Ok o)) c.in-Some-7.is c.in_ok-found-5.ensures)
 
+pub violation_in-returns-in-Some-8 : goal.violation_in-returns-in-Some-8
+violation_in-returns-in-Some-8 t c =
+    let inner = c.in_ok-inner.inner in
+    let s = view c.args.schema.now in
+    let v = view c.args.value.now in
+    before c.args.walk inner c.in_ok-inner.ensures s v (Ok (Some c.in-Some-8.found))
+    (subst (λ o. Finds inner (λ f. parts_accepted f s v) s v (Ok o)) c.in-Some-8.is c.in_ok-found-6.ensures)
+
 pub violation_in-returns : goal.violation_in-returns
 violation_in-returns t c =
     let inner = c.in_ok-inner.inner in
     let s = view c.args.schema.now in
     let v = view c.args.value.now in
-    before c.args.walk inner c.in_ok-inner.ensures s v c.in_parts.result
-    (last_found inner s v c.in_parts.result (sym c.refuses_all.ensures ∙ c.if-refuses_all.false)
+    before c.args.walk inner c.in_ok-inner.ensures s v c.in_rest.result
+    (last_found inner s v c.in_rest.result (sym c.refuses_all.ensures ∙ c.if-refuses_all.false)
     (subst (λ o. IsUnmet s v o) c.in_default.is c.in_ok-keyword.ensures)
     (subst (λ o. IsUnapplied inner tests s v o) c.in_default-2.is c.in_ok-keyword-2.ensures)
     (subst (λ o. Finds inner (λ f. applies f kw.AllOf s v) s v (Ok o)) c.in_default-3.is c.in_ok-found.ensures)
@@ -159,7 +191,8 @@ violation_in-returns t c =
     (subst (λ o. Finds inner (λ f. applies f kw.PatternProperties s v) s v (Ok o)) c.in_default-6.is c.in_ok-found-4.ensures)
     (subst (λ o. Finds inner (λ f. reference_accepts (view inner.root.now) f s v) s v (Ok o)) c.in_default-7.is
     c.in_ok-found-5.ensures)
-    c.in_parts.ensures)
+    (subst (λ o. Finds inner (λ f. parts_accepted f s v) s v (Ok o)) c.in_default-8.is c.in_ok-found-6.ensures)
+    c.in_rest.ensures)
 
 pub is_accepted-returns : goal.is_accepted-returns
 is_accepted-returns t c g = c.is_nothing.ensures
@@ -732,3 +765,429 @@ in_parts-returns-in-Array t c =
 pub in_parts-returns-in_default : goal.in_parts-returns-in_default
 in_parts-returns-in_default t c g = no_parts (says c.args.walk g) (view c.args.schema.now) c.args.value.now c.in_default.not-Object
     c.in_default.not-Array
+
+-- ---- what is not evaluated
+
+pub unevaluated::in_members_left-returns-in-Some : goal.unevaluated::in_members_left-returns-in-Some
+unevaluated::in_members_left-returns-in-Some t c =
+    let w = c.args.walk in
+    let xs = c.args.sources.now in
+    let ps = c.args.members.now in
+    let p = c.loop-key-item.result in
+    let k = text p.0.now in
+    let u = view p.1.now in
+    let r = view c.args.rest.now in
+    let old = c.in-Some.found in
+    record {
+      child = member_at k u;
+      token = k;
+      location = tokens_of old.keyword_location;
+      within = tokens_of old.instance_location;
+      keyword = refl;
+      named = (refl, listed_found ps c.loop-key.key-index p c.requires c.loop-key-test.true c.loop-key-item.is);
+      left = λ g. ap (λ bs. sources_evaluate g xs (member_at (chars bs) u)) (sym c.as_str.ensures.value)
+          ∙ (sym (c.in_ok-evaluated.ensures g u) ∙ c.if-not-evaluated.true);
+      placed = subst (λ bs. Enters kw.UnevaluatedProperties (chars bs) (chars bs) old c.enter_member.new.self)
+          c.as_str-in-Some.ensures.value c.in_ok-enter_member.ensures;
+      invalid = subst (λ o. Judges w r u (Ok o)) c.in-Some.is c.in_ok-found.ensures;
+    }
+
+pub unevaluated::in_members_left-loop-key-preserved : goal.unevaluated::in_members_left-loop-key-preserved
+unevaluated::in_members_left-loop-key-preserved t c g =
+    let w = c.args.walk in
+    let xs = c.args.sources.now in
+    let ps = c.args.members.now in
+    let i = c.loop-key.key-index in
+    let p = c.loop-key-item.result in
+    let k = text p.0.now in
+    let u = view p.1.now in
+    let r = view c.args.rest.now in
+    let q : Child → Bool = λ k. sources_evaluate g xs k || says w g r (value_of k) in
+    let told : c.in_ok-evaluated.evaluated ≡ sources_evaluate g xs (member_at k u)
+    = c.in_ok-evaluated.ensures g u ∙ ap (λ bs. sources_evaluate g xs (member_at (chars bs) u)) c.as_str.ensures.value in
+    elim c.if-not-evaluated.branch [
+      | unevaluated::in_members_left-then-not-evaluated+in_ok-found+in_default w ↦
+          turn_next (λ ys. members_pass q (members_listed ys)) ps i p c.loop-key-test.true c.loop-key-item.is
+          (ap (λ b. b && members_pass q (members_listed (drop (i + 1) ps))) (or_right _ _
+          (subst (λ o. Judges c.args.walk r u (Ok o)) w.in_default.is w.in_ok-found.ensures g))) (c.loop-key.invariant g)
+      | unevaluated::in_members_left-else-not-evaluated w ↦
+          turn_next (λ ys. members_pass q (members_listed ys)) ps i p c.loop-key-test.true c.loop-key-item.is
+          (ap (λ b. b && members_pass q (members_listed (drop (i + 1) ps))) (or_left _ _ (sym told ∙ w.if-not-evaluated.false)))
+          (c.loop-key.invariant g)
+    ]
+
+pub unevaluated::in_members_left-returns : goal.unevaluated::in_members_left-returns
+unevaluated::in_members_left-returns t c g =
+    let q : Child → Bool = λ k. sources_evaluate g c.args.sources.now k || says c.args.walk g (view c.args.rest.now) (value_of k) in
+    turn_end (λ ys. members_pass q (members_listed ys)) c.args.members.now c.loop-key.key-index true c.loop-key-test.false refl
+    (c.loop-key.invariant g)
+
+pub unevaluated::in_items_left-returns-in-Some : goal.unevaluated::in_items_left-returns-in-Some
+unevaluated::in_items_left-returns-in-Some t c =
+    let w = c.args.walk in
+    let vs = c.args.items.now in
+    let i = c.loop-index.index in
+    let x = c.index-items-index.result in
+    let r = view c.args.rest.now in
+    let old = c.in-Some.found in
+    let entered = c.in_ok-enter_item.ensures in
+    record {
+      child = item_at i (view x);
+      token = entered.token;
+      location = tokens_of old.keyword_location;
+      within = tokens_of old.instance_location;
+      keyword = refl;
+      named = (entered.named, nth_item vs i x c.loop-index-test.true c.index-items-index.is);
+      left = λ g. sym (c.in_ok-evaluated.ensures g) ∙ c.if-not-evaluated.true;
+      placed = entered.entered;
+      invalid = subst (λ o. Judges w r (view x) (Ok o)) c.in-Some.is c.in_ok-found.ensures;
+    }
+
+pub unevaluated::in_items_left-loop-index-preserved : goal.unevaluated::in_items_left-loop-index-preserved
+unevaluated::in_items_left-loop-index-preserved t c g =
+    let vs = c.args.items.now in
+    let i = c.loop-index.index in
+    let x = c.index-items-index.result in
+    let r = view c.args.rest.now in
+    let q : Child → Bool = λ k. sources_evaluate g c.args.sources.now k || says c.args.walk g r (value_of k) in
+    elim c.if-not-evaluated.branch [
+      | unevaluated::in_items_left-then-not-evaluated+in_ok-found+in_default w ↦
+          left_turn q vs i x c.loop-index-test.true c.index-items-index.is
+          (or_right _ _ (subst (λ o. Judges c.args.walk r (view x) (Ok o)) w.in_default.is w.in_ok-found.ensures g))
+          (c.loop-index.invariant g)
+      | unevaluated::in_items_left-else-not-evaluated w ↦
+          left_turn q vs i x c.loop-index-test.true c.index-items-index.is
+          (or_left _ _ (sym (c.in_ok-evaluated.ensures g) ∙ w.if-not-evaluated.false)) (c.loop-index.invariant g)
+    ]
+
+pub unevaluated::in_items_left-returns : goal.unevaluated::in_items_left-returns
+unevaluated::in_items_left-returns t c g =
+    let q : Child → Bool = λ k. sources_evaluate g c.args.sources.now k || says c.args.walk g (view c.args.rest.now) (value_of k) in
+    left_end q c.args.items.now c.loop-index.index c.loop-index-test.false (c.loop-index.invariant g)
+
+pub unevaluated::is_item_evaluated-evaluates_item-requires : goal.unevaluated::is_item_evaluated-evaluates_item-requires
+unevaluated::is_item_evaluated-evaluates_item-requires t c =
+    let x = c.source-item.result in
+    let within : x.walk.steps ≤ c.args.walk.steps
+    = within_at c.args.walk.steps c.args.sources.now c.loop-source.source-index x c.requires c.loop-source-test.true c.source-item.is in
+    let fewer : 16 * x.walk.steps + 11 < 16 * c.args.walk.steps + 12 = omega (arith, within) in
+    search rules
+
+pub unevaluated::is_item_evaluated-returns-then-evaluates : goal.unevaluated::is_item_evaluated-returns-then-evaluates
+unevaluated::is_item_evaluated-returns-then-evaluates t c g =
+    let k = item_at c.args.index (view c.args.item.now) in
+    let xs = c.args.sources.now in
+    let i = c.loop-source.source-index in
+    turn_stop (λ ys. sources_evaluate g ys k) xs i true c.source-item.result c.loop-source-test.true c.source-item.is
+    (ap (λ b. b || sources_evaluate g (drop (i + 1) xs) k) (sym (c.in_ok-evaluates.ensures g) ∙ c.if-evaluates.true))
+    (c.loop-source.invariant g)
+
+pub unevaluated::is_item_evaluated-loop-source-preserved : goal.unevaluated::is_item_evaluated-loop-source-preserved
+unevaluated::is_item_evaluated-loop-source-preserved t c g =
+    let k = item_at c.args.index (view c.args.item.now) in
+    let xs = c.args.sources.now in
+    let i = c.loop-source.source-index in
+    turn_next (λ ys. sources_evaluate g ys k) xs i c.source-item.result c.loop-source-test.true c.source-item.is
+    (ap (λ b. b || sources_evaluate g (drop (i + 1) xs) k) (sym (c.in_ok-evaluates.ensures g) ∙ c.if-evaluates.false))
+    (c.loop-source.invariant g)
+
+pub unevaluated::is_item_evaluated-returns : goal.unevaluated::is_item_evaluated-returns
+unevaluated::is_item_evaluated-returns t c g =
+    let k = item_at c.args.index (view c.args.item.now) in
+    sym (turn_end (λ ys. sources_evaluate g ys k) c.args.sources.now c.loop-source.source-index false c.loop-source-test.false refl
+    (c.loop-source.invariant g))
+
+pub unevaluated::evaluates_item-returns-then-has_rest : goal.unevaluated::evaluates_item-returns-then-has_rest
+unevaluated::evaluates_item-returns-then-has_rest t c g =
+    sym (or_left _ _ (sym c.counts_rest-has_rest.ensures ∙ c.if-has_rest.true))
+
+pub unevaluated::evaluates_item-returns-then-is_some : goal.unevaluated::evaluates_item-returns-then-is_some
+unevaluated::evaluates_item-returns-then-is_some t c g =
+    let x = c.args.source.now in
+    let s = view x.schema.now in
+    sym (or_right _ _ (or_left _ _ (sym (item_applied s c.args.index c.item_part-applied.result c.item_part-applied.ensures)
+    ∙ (sym c.is_some.ensures ∙ c.if-is_some.true))))
+
+pub unevaluated::evaluates_item-returns-in_default : goal.unevaluated::evaluates_item-returns-in_default
+unevaluated::evaluates_item-returns-in_default t c g =
+    let x = c.args.source.now in
+    let s = view x.schema.now in
+    evaluated_by _ _ _ false (sym c.counts_rest-has_rest.ensures ∙ c.if-has_rest.false)
+    (sym (item_applied s c.args.index c.item_part-applied.result c.item_part-applied.ensures)
+    ∙ (sym c.is_some.ensures ∙ c.if-is_some.false))
+    (ap (λ o. option_map_or (λ r. says x.walk g r (view c.args.item.now)) o false) c.in_default.ensures)
+
+pub unevaluated::evaluates_item-returns : goal.unevaluated::evaluates_item-returns
+unevaluated::evaluates_item-returns t c g =
+    let x = c.args.source.now in
+    let s = view x.schema.now in
+    evaluated_by _ _ _ c.in_ok-accepted.accepted (sym c.counts_rest-has_rest.ensures ∙ c.if-has_rest.false)
+    (sym (item_applied s c.args.index c.item_part-applied.result c.item_part-applied.ensures)
+    ∙ (sym c.is_some.ensures ∙ c.if-is_some.false))
+    (c.in_ok-accepted.ensures g ∙ ap (λ o. option_map_or (λ r. says x.walk g r (view c.args.item.now)) o false) c.in-Some.ensures)
+
+-- ---- the whole of it
+
+pub unevaluated::in_rest-in_members_left-requires : goal.unevaluated::in_rest-in_members_left-requires
+unevaluated::in_rest-in_members_left-requires t c =
+    let rises : IsSorted (members_listed c.as_slice.result.now) = subst (λ xs. IsSorted (members_listed xs)) (sym c.as_slice.ensures.value)
+    (listed_sorted c.in_ok-sorted-in-Object.sorted.items c.in-Object.members c.in_ok-sorted-in-Object.ensures) in
+    let fewer : 16 * c.args.walk.steps + 13 < 16 * c.args.walk.steps + 14 = omega arith in
+    search rules
+
+pub unevaluated::in_rest-in_items_left-requires : goal.unevaluated::in_rest-in_items_left-requires
+unevaluated::in_rest-in_items_left-requires t c =
+    let inside : AreWithin c.args.walk.steps c.as_slice-in-Array-2.result.now
+    = subst (AreWithin c.args.walk.steps) (sym c.as_slice-in-Array-2.ensures.value) c.in_ok-sources-in-Array.ensures.within in
+    let fewer : 16 * c.args.walk.steps + 13 < 16 * c.args.walk.steps + 14 = omega arith in
+    search rules
+
+pub unevaluated::in_rest-returns-in_default-schema_at : goal.unevaluated::in_rest-returns-in_default-schema_at
+unevaluated::in_rest-returns-in_default-schema_at t c g =
+    let w = c.args.walk in
+    let s = view c.args.schema.now in
+    let same : object (members_view c.in-Object.members.entries) ≡ view c.args.value.now
+    = sym (ap view c.in-Object.is ∙ view_Object c.in-Object.members) in
+    subst (λ x. rest_accepted (view w.root.now) (answers_in w g) s x ≡ true) same
+    (no_member_rest (view w.root.now) (answers_in w g) s (members_view c.in-Object.members.entries) c.in_default-schema_at.ensures)
+
+pub unevaluated::in_rest-returns-in_default-schema_at-2 : goal.unevaluated::in_rest-returns-in_default-schema_at-2
+unevaluated::in_rest-returns-in_default-schema_at-2 t c g =
+    let w = c.args.walk in
+    let s = view c.args.schema.now in
+    let same : array (items_view c.in-Array.items.items) ≡ view c.args.value.now
+    = sym (ap view c.in-Array.is ∙ view_Array c.in-Array.items) in
+    subst (λ x. rest_accepted (view w.root.now) (answers_in w g) s x ≡ true) same
+    (no_item_rest (view w.root.now) (answers_in w g) s (items_view c.in-Array.items.items) c.in_default-schema_at-2.ensures)
+
+pub unevaluated::in_rest-returns-in_ok-sorted-in-Object : goal.unevaluated::in_rest-returns-in_ok-sorted-in-Object
+unevaluated::in_rest-returns-in_ok-sorted-in-Object t c =
+    let w = c.args.walk in
+    let s = view c.args.schema.now in
+    let v = view c.args.value.now in
+    let xs = c.as_slice-in-Object.result.now in
+    let ms = members_listed c.as_slice.result.now in
+    let same : object ms ≡ v = ap object (ap members_listed c.as_slice.ensures.value ∙ c.in_ok-sorted-in-Object.ensures)
+    ∙ sym (ap view c.in-Object.is ∙ view_Object c.in-Object.members) in
+    let told : (g : Answers) (k : Child) → sources_evaluate g xs k ≡ others_evaluate (view w.root.now) (answers_in w g) s v k
+    = λ g k. ap (λ l. sources_evaluate g l k) c.as_slice-in-Object.ensures.value ∙ c.in_ok-sources-in-Object.ensures.evaluated g k in
+    subst (λ x. FindsRest w s x c.in_members_left.result) same
+    (members_found w s (view c.in-Some.rest.now) ms xs c.in_members_left.result
+    (subst (λ x. (g : Answers) (k : Child) → sources_evaluate g xs k ≡ others_evaluate (view w.root.now) (answers_in w g) s x k) (sym same)
+    told) c.in-Some.ensures c.in_members_left.ensures)
+
+pub unevaluated::in_rest-returns-in_ok-sources-in-Array : goal.unevaluated::in_rest-returns-in_ok-sources-in-Array
+unevaluated::in_rest-returns-in_ok-sources-in-Array t c =
+    let w = c.args.walk in
+    let s = view c.args.schema.now in
+    let v = view c.args.value.now in
+    let xs = c.as_slice-in-Array-2.result.now in
+    let us = items_view c.as_slice-in-Array.result.now in
+    let same : array us ≡ v = ap (λ ys. array (items_view ys)) c.as_slice-in-Array.ensures.value
+    ∙ sym (ap view c.in-Array.is ∙ view_Array c.in-Array.items) in
+    let told : (g : Answers) (k : Child) → sources_evaluate g xs k ≡ others_evaluate (view w.root.now) (answers_in w g) s v k
+    = λ g k. ap (λ l. sources_evaluate g l k) c.as_slice-in-Array-2.ensures.value ∙ c.in_ok-sources-in-Array.ensures.evaluated g k in
+    subst (λ x. FindsRest w s x c.in_items_left.result) same
+    (items_found w s (view c.in-Some-schema_at.rest.now) us xs c.in_items_left.result
+    (subst (λ x. (g : Answers) (k : Child) → sources_evaluate g xs k ≡ others_evaluate (view w.root.now) (answers_in w g) s x k) (sym same)
+    told) c.in-Some-schema_at.ensures c.in_items_left.ensures)
+
+-- ---- schemas that evaluate
+
+pub unevaluated::sources_of-returns-clause-evaluated : goal.unevaluated::sources_of-returns-clause-evaluated
+unevaluated::sources_of-returns-clause-evaluated t c =
+    let x : Source = record { schema = c.args.schema; walk = c.args.walk; asks = true } in
+    asking_added c.args.walk x (view c.args.value.now) c.push.new.self.items c.add_inner.new.sources.items refl refl
+    (c.in_ok-push.ensures.items ∙ ap (λ ys. ys ++ x ∷ []) c.new-sources.ensures.items) c.in_ok-add_inner.ensures.evaluated
+
+pub unevaluated::sources_of-returns-clause-within : goal.unevaluated::sources_of-returns-clause-within
+unevaluated::sources_of-returns-clause-within t c =
+    let w = c.args.walk in
+    let x : Source = record { schema = c.args.schema; walk = w; asks = true } in
+    let one : c.push.new.self.items ≡ x ∷ [] = c.in_ok-push.ensures.items ∙ ap (λ ys. ys ++ x ∷ []) c.new-sources.ensures.items in
+    let same : w.steps ≤ w.steps = omega arith in
+    c.in_ok-add_inner.ensures.within w.steps same (subst (AreWithin w.steps) (sym one) (same, tt))
+
+pub unevaluated::add_schema-returns-clause-evaluated : goal.unevaluated::add_schema-returns-clause-evaluated
+unevaluated::add_schema-returns-clause-evaluated t c =
+    let inner = c.in_ok-inner.inner in
+    schema_added c.args.walk inner (record { schema = c.args.schema; walk = inner; asks = false }) (view c.args.value.now)
+    c.args.sources.now.items c.push.new.self.items c.add_inner.new.sources.items c.in_ok-inner.ensures refl refl
+    c.in_ok-push.ensures.items c.in_ok-add_inner.ensures.evaluated
+
+pub unevaluated::add_schema-returns-clause-within : goal.unevaluated::add_schema-returns-clause-within
+unevaluated::add_schema-returns-clause-within t c n h k =
+    let inner = c.in_ok-inner.inner in
+    let x : Source = record { schema = c.args.schema; walk = inner; asks = false } in
+    let less : inner.steps ≤ n = omega (arith, c.in_ok-inner.ensures.1, h) in
+    c.in_ok-add_inner.ensures.within n less
+    (subst (AreWithin n) (sym c.in_ok-push.ensures.items) (within_pushed n c.args.sources.now.items x k less))
+
+pub unevaluated::add_inner-returns-clause-evaluated : goal.unevaluated::add_inner-returns-clause-evaluated
+unevaluated::add_inner-returns-clause-evaluated t c =
+    inner_added c.args.walk (view c.args.schema.now) (view c.args.value.now) (items_view c.schemas_at.result.now)
+    (items_view c.schemas_at-2.result.now) (items_view c.schemas_at-3.result.now) c.args.sources.now.items
+    c.add_listed.new.sources.items c.add_accepting.new.sources.items c.add_accepting-2.new.sources.items
+    c.add_branch.new.sources.items c.add_dependents.new.sources.items c.add_reference.new.sources.items c.schemas_at.ensures
+    c.schemas_at-2.ensures c.schemas_at-3.ensures c.in_ok-add_listed.ensures.evaluated c.in_ok-add_accepting.ensures.evaluated
+    c.in_ok-add_accepting-2.ensures.evaluated c.in_ok-add_branch.ensures.evaluated c.in_ok-add_dependents.ensures.evaluated
+    c.in_ok-add_reference.ensures.evaluated
+
+pub unevaluated::add_inner-returns-clause-within : goal.unevaluated::add_inner-returns-clause-within
+unevaluated::add_inner-returns-clause-within t c n h k =
+    c.in_ok-add_reference.ensures.within n h (c.in_ok-add_dependents.ensures.within n h (c.in_ok-add_branch.ensures.within n h
+    (c.in_ok-add_accepting-2.ensures.within n h (c.in_ok-add_accepting.ensures.within n h (c.in_ok-add_listed.ensures.within n h k)))))
+
+pub unevaluated::add_listed-loop-schema-preserved : goal.unevaluated::add_listed-loop-schema-preserved
+unevaluated::add_listed-loop-schema-preserved t c = (
+  λ g k. adds_turn (λ ys. some_evaluate (answers_in c.args.walk g) (items_view ys) (view c.args.value.now) k) c.args.schemas.now
+      c.loop-schema.schema-index c.schema-item.result _ _ _ _ c.loop-schema-test.true c.schema-item.is refl
+      (c.in_ok-add_schema.ensures.evaluated g k) (c.loop-schema.invariant.0 g k),
+  λ n h k. c.in_ok-add_schema.ensures.within n h (c.loop-schema.invariant.1 n h k),
+)
+
+pub unevaluated::add_listed-returns-clause-evaluated : goal.unevaluated::add_listed-returns-clause-evaluated
+unevaluated::add_listed-returns-clause-evaluated t c g k =
+    adds_end (λ ys. some_evaluate (answers_in c.args.walk g) (items_view ys) (view c.args.value.now) k) c.args.schemas.now
+    c.loop-schema.schema-index _ _ c.loop-schema-test.false refl (c.loop-schema.invariant.0 g k)
+
+pub unevaluated::add_accepting-loop-schema-preserved : goal.unevaluated::add_accepting-loop-schema-preserved
+unevaluated::add_accepting-loop-schema-preserved t c = (
+  λ g k. adds_turn (λ ys. accepting_evaluate (answers_in c.args.walk g) (items_view ys) (view c.args.value.now) k) c.args.schemas.now
+      c.loop-schema.schema-index c.schema-item.result _ _ _ _ c.loop-schema-test.true c.schema-item.is refl
+      (c.in_ok-add_if_accepting.ensures.evaluated g k) (c.loop-schema.invariant.0 g k),
+  λ n h k. c.in_ok-add_if_accepting.ensures.within n h (c.loop-schema.invariant.1 n h k),
+)
+
+pub unevaluated::add_accepting-returns-clause-evaluated : goal.unevaluated::add_accepting-returns-clause-evaluated
+unevaluated::add_accepting-returns-clause-evaluated t c g k =
+    adds_end (λ ys. accepting_evaluate (answers_in c.args.walk g) (items_view ys) (view c.args.value.now) k) c.args.schemas.now
+    c.loop-schema.schema-index _ _ c.loop-schema-test.false refl (c.loop-schema.invariant.0 g k)
+
+pub unevaluated::add_if_accepting-returns-then-not-accepted-clause-accepted : goal.unevaluated::add_if_accepting-returns-then-not-accepted-clause-accepted
+unevaluated::add_if_accepting-returns-then-not-accepted-clause-accepted t c g = sym c.if-not-accepted.true ∙ c.in_ok-accepted.ensures g
+
+pub unevaluated::add_if_accepting-returns-then-not-accepted-clause-evaluated : goal.unevaluated::add_if_accepting-returns-then-not-accepted-clause-evaluated
+unevaluated::add_if_accepting-returns-then-not-accepted-clause-evaluated t c =
+    let s = view c.args.schema.now in
+    let v = view c.args.value.now in
+    adds_none c.args.walk (λ a k. a.accepts s v && a.evaluates s v k) _
+    (λ g k. ap (λ b. b && (answers_in c.args.walk g).evaluates s v k) (sym (c.in_ok-accepted.ensures g) ∙ c.if-not-accepted.true))
+
+pub unevaluated::add_if_accepting-returns-clause-accepted : goal.unevaluated::add_if_accepting-returns-clause-accepted
+unevaluated::add_if_accepting-returns-clause-accepted t c g = sym c.if-not-accepted.false ∙ c.in_ok-accepted.ensures g
+
+pub unevaluated::add_if_accepting-returns-clause-evaluated : goal.unevaluated::add_if_accepting-returns-clause-evaluated
+unevaluated::add_if_accepting-returns-clause-evaluated t c =
+    let s = view c.args.schema.now in
+    let v = view c.args.value.now in
+    adds_as c.args.walk (λ a k. a.evaluates s v k) (λ a k. a.accepts s v && a.evaluates s v k) _ _
+    (λ g k. sym (ap (λ b. b && (answers_in c.args.walk g).evaluates s v k) (sym (c.in_ok-accepted.ensures g) ∙ c.if-not-accepted.false)))
+    c.in_ok-add_schema.ensures.evaluated
+
+pub unevaluated::add_branch-returns-in_default-clause-evaluated : goal.unevaluated::add_branch-returns-in_default-clause-evaluated
+unevaluated::add_branch-returns-in_default-clause-evaluated t c =
+    let s = view c.args.schema.now in
+    let v = view c.args.value.now in
+    adds_none c.args.walk (λ a k. branch_evaluates a s v k) _
+    (λ g k. no_branch_added (answers_in c.args.walk g) s v k c.in_default.ensures)
+
+pub unevaluated::add_branch-returns-in_default-schema_at-clause-evaluated : goal.unevaluated::add_branch-returns-in_default-schema_at-clause-evaluated
+unevaluated::add_branch-returns-in_default-schema_at-clause-evaluated t c =
+    let w = c.args.walk in
+    let s = view c.args.schema.now in
+    let v = view c.args.value.now in
+    let r = view c.in-Some.test.now in
+    let b = c.in_ok-accepted.accepted in
+    adds_as w (λ a k. a.accepts r v && a.evaluates r v k) (λ a k. branch_evaluates a s v k) _ _
+    (branch_none w s v r c.in-Some.ensures b c.in_ok-accepted.ensures.accepted
+    (c.in_default-schema_at.ensures ∙ ap (schema_at s) c.branch-chosen.ensures)) c.in_ok-accepted.ensures.evaluated
+
+pub unevaluated::add_branch-returns-clause-evaluated : goal.unevaluated::add_branch-returns-clause-evaluated
+unevaluated::add_branch-returns-clause-evaluated t c =
+    let w = c.args.walk in
+    let s = view c.args.schema.now in
+    let v = view c.args.value.now in
+    let r = view c.in-Some.test.now in
+    let u = view c.in-Some-schema_at.part.now in
+    let b = c.in_ok-accepted.accepted in
+    adds_as w (λ a k. (a.accepts r v && a.evaluates r v k) || a.evaluates u v k) (λ a k. branch_evaluates a s v k) _ _
+    (branch_some w s v r c.in-Some.ensures b c.in_ok-accepted.ensures.accepted u
+    (c.in-Some-schema_at.ensures ∙ ap (schema_at s) c.branch-chosen.ensures))
+    (adds_both w (λ a k. a.accepts r v && a.evaluates r v k) (λ a k. a.evaluates u v k) c.args.sources.now.items
+    c.add_if_accepting.new.sources.items c.add_schema.new.sources.items c.in_ok-accepted.ensures.evaluated
+    c.in_ok-add_schema.ensures.evaluated)
+
+pub unevaluated::add_branch-returns-clause-within : goal.unevaluated::add_branch-returns-clause-within
+unevaluated::add_branch-returns-clause-within t c n h k = c.in_ok-add_schema.ensures.within n h (c.in_ok-accepted.ensures.within n h k)
+
+pub unevaluated::add_dependents-loop-key-preserved : goal.unevaluated::add_dependents-loop-key-preserved
+unevaluated::add_dependents-loop-key-preserved t c =
+    let w = c.args.walk in
+    let v = view c.args.value.now in
+    let ps = c.as_slice-dependents.result.now in
+    let i = c.loop-key.key-index in
+    let p = c.loop-key-item.result in
+    let r = view p.1.now in (
+      λ g k. adds_turn (λ ys. dependents_evaluate (answers_in w g) (members_listed ys) v k) ps i p _ _ _ _ c.loop-key-test.true
+          c.loop-key-item.is (ap (λ bs. (is_some (tree_at_key v (chars bs)) && (answers_in w g).evaluates r v k)
+          || dependents_evaluate (answers_in w g) (members_listed (drop (i + 1) ps)) v k) (sym c.as_str.ensures.value))
+          (c.in_ok-add_dependent.ensures.evaluated g k) (c.loop-key.invariant.0 g k),
+      λ n h k. c.in_ok-add_dependent.ensures.within n h (c.loop-key.invariant.1 n h k),
+    )
+
+pub unevaluated::add_dependents-returns-clause-evaluated : goal.unevaluated::add_dependents-returns-clause-evaluated
+unevaluated::add_dependents-returns-clause-evaluated t c g k =
+    let v = view c.args.value.now in
+    adds_end (λ ys. dependents_evaluate (answers_in c.args.walk g) (members_listed ys) v k) c.as_slice-dependents.result.now
+    c.loop-key.key-index _ _ c.loop-key-test.false refl (c.loop-key.invariant.0 g k)
+    ∙ ap (λ rs. sources_evaluate g c.args.sources.now.items k || dependents_evaluate (answers_in c.args.walk g) rs v k)
+    (ap members_listed c.as_slice-dependents.ensures.value ∙ c.in_ok-listed.ensures.listed)
+
+pub unevaluated::add_dependent-returns-then-not-has_key-clause-evaluated : goal.unevaluated::add_dependent-returns-then-not-has_key-clause-evaluated
+unevaluated::add_dependent-returns-then-not-has_key-clause-evaluated t c =
+    let s = view c.args.schema.now in
+    let v = view c.args.value.now in
+    let here = is_some (tree_at_key v (chars c.args.key.now)) in
+    adds_none c.args.walk (λ a k. here && a.evaluates s v k) _
+    (λ g k. ap (λ b. b && (answers_in c.args.walk g).evaluates s v k) (sym c.has_key.ensures ∙ c.if-not-has_key.true))
+
+pub unevaluated::add_dependent-returns-clause-evaluated : goal.unevaluated::add_dependent-returns-clause-evaluated
+unevaluated::add_dependent-returns-clause-evaluated t c =
+    let s = view c.args.schema.now in
+    let v = view c.args.value.now in
+    let here = is_some (tree_at_key v (chars c.args.key.now)) in
+    adds_as c.args.walk (λ a k. a.evaluates s v k) (λ a k. here && a.evaluates s v k) _ _
+    (λ g k. sym (ap (λ b. b && (answers_in c.args.walk g).evaluates s v k) (sym c.has_key.ensures ∙ c.if-not-has_key.false)))
+    c.in_ok-add_schema.ensures.evaluated
+
+pub unevaluated::add_reference-returns-clause-evaluated : goal.unevaluated::add_reference-returns-clause-evaluated
+unevaluated::add_reference-returns-clause-evaluated t c =
+    let root = view c.args.walk.root.now in
+    let s = view c.args.schema.now in
+    let v = view c.args.value.now in
+    adds_both c.args.walk (λ a k. target_evaluates root kw.Ref a s v k) (λ a k. target_evaluates root kw.DynamicRef a s v k)
+    c.args.sources.now.items c.add_target.new.sources.items c.add_target-2.new.sources.items c.in_ok-add_target.ensures.evaluated
+    c.in_ok-add_target-2.ensures.evaluated
+
+pub unevaluated::add_reference-returns-clause-within : goal.unevaluated::add_reference-returns-clause-within
+unevaluated::add_reference-returns-clause-within t c n h k = c.in_ok-add_target-2.ensures.within n h (c.in_ok-add_target.ensures.within n h k)
+
+pub unevaluated::add_target-returns-in_default-clause-evaluated : goal.unevaluated::add_target-returns-in_default-clause-evaluated
+unevaluated::add_target-returns-in_default-clause-evaluated t c =
+    let root = view c.args.walk.root.now in
+    let s = view c.args.schema.now in
+    let v = view c.args.value.now in
+    adds_none c.args.walk (λ a k. target_evaluates root c.args.keyword a s v k) _
+    (λ g k. no_target_added root (answers_in c.args.walk g) s v c.args.keyword k
+    (ap (option_map (λ x. view x.now)) (sym c.in_default.is) ∙ c.in_ok-part.ensures))
+
+pub unevaluated::add_target-returns-clause-evaluated : goal.unevaluated::add_target-returns-clause-evaluated
+unevaluated::add_target-returns-clause-evaluated t c =
+    let root = view c.args.walk.root.now in
+    let s = view c.args.schema.now in
+    let v = view c.args.value.now in
+    let r = view c.in-Some.part.now in
+    adds_as c.args.walk (λ a k. a.evaluates r v k) (λ a k. target_evaluates root c.args.keyword a s v k) _ _
+    (λ g k. target_added root (answers_in c.args.walk g) s v r c.args.keyword k
+    (ap (option_map (λ x. view x.now)) (sym c.in-Some.is) ∙ c.in_ok-part.ensures)) c.in_ok-add_schema.ensures.evaluated
