@@ -1,6 +1,7 @@
 -- What a tree that is built means; only private contracts use these words.
-use Rattle.std.specs.Prelude.{◌≡◌, ℕ, false, List, [], ◌∷◌, ◌++◌, length}
+use Rattle.std.specs.Prelude.{◌≡◌, ℕ, Bool, true, false, List, [], ◌∷◌, ◌++◌, length}
 use Rattle.i_regexp.specs.declared.marked.Node.{Node}
+use Rattle.i_regexp.specs.declared.marked.Node.TheVariants.{Empty, Class, Concat', Alternation', Star'}
 use Rattle.i_regexp.specs.Forms.{Form, empty, class, concat, alternation, Matches}
 use Rattle.i_regexp.specs.Marked.{form_of, skips, ends_here, is_marked, IsKept}
 
@@ -18,6 +19,14 @@ pub record IsCopy (n m : Node) : Type 0 where
   pub ended : ends_here m ≡ ends_here n
   pub marked : is_marked m ≡ is_marked n
   pub kept : IsKept n → IsKept m
+
+-- whether it is the tree of nothing
+abbrev pub is_empty : Node → Bool
+is_empty Empty = true
+is_empty (Class cl mark) = false
+is_empty (Concat' p l q r le re ends m) = false
+is_empty (Alternation' p l q r) = false
+is_empty (Star' p b ends) = false
 
 -- the trees match what the regular expressions match, one by one
 abbrev pub AllMean : List Node → List Form → Type 0

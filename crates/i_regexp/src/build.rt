@@ -2,7 +2,7 @@
 ghost use Rattle.std.specs.Prelude.{◌≡◌, ◌≤◌, ◌<◌, List, IfOk, vec_len};
 ghost use Rattle.i_regexp.specs.Forms.{Form, class, concat, alternation, repetition, AtMost};
 ghost use Rattle.i_regexp.specs.Building.{Means, IsCopy, AllMean, sequence, choice};
-ghost use Rattle.i_regexp.specs.Building.{TakesSequence, TakesChoice};
+ghost use Rattle.i_regexp.specs.Building.{TakesSequence, TakesChoice, is_empty};
 
 use crate::class::Class;
 use crate::marked::Node;
@@ -19,6 +19,13 @@ pub(crate) fn one_of(members: Class) -> Node
 }
 
 impl Node {
+    /// Whether it is the empty tree.
+    fn is_empty(&self) -> bool
+        ensures { result ≡ is_empty self.now }
+    {
+        matches!(self, Node::Empty)
+    }
+
     /// A copy of the tree.
     pub(crate) fn copy(&self, alloc: Global) -> Result<Node, AllocError>
         ensures { IfOk result (λ n. IsCopy self.now n) }
@@ -61,6 +68,12 @@ pub(crate) fn concat(alloc: Global, left: Node, right: Node) -> Result<Node, All
     ensures { IfOk result (λ n. (f g : Form) → Means left f → Means right g
         → Means n (concat f g)) }
 {
+    if left.is_empty() {
+        return Ok(right);
+    }
+    if right.is_empty() {
+        return Ok(left);
+    }
     let left_empty = left.skips();
     let right_empty = right.skips();
     let marked = left.is_marked() | right.is_marked();
