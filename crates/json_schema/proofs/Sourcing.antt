@@ -1,6 +1,7 @@
 -- The schemas that evaluate for one that asks, one after the other.
 use Rattle.std.proofs.Common.{◌≡◌, ◌∷◌, [], ◌++◌, ℕ, zero, suc, ◌<◌, ◌≤◌, ◌+◌, Bool, true, false, not, ◌&&◌, ◌||◌, List, Some, None}
-use Rattle.std.proofs.Common.{Option, Result, Ok, Err, Vec, Global, is_some, length, get_or, drop, refl, sym, ap, ◌∙◌, subst, arith, add-one}
+use Rattle.std.proofs.Common.{Option, Result, Ok, Err, Vec, Global, is_some, length, get_or, drop}
+use Rattle.std.proofs.Common.{refl, sym, ap, ◌∙◌, subst, arith, add-one}
 use Rattle.std.specs.Option.{option_map_or}
 use Rattle.tinyjson.proofs.Callers.{no_object, no_array}
 use Rattle.tinyjson.specs.Access.{JsonMap}
@@ -40,7 +41,8 @@ or_false false = refl
 -- ---- what is added
 
 module _ (w : Walk) where
-  pub adds_none : (q : Answers → Child → Bool) (xs : List Source) → ((g : Answers) (c : Child) → q (answers_in w g) c ≡ false) → Adds w q xs xs
+  pub adds_none : (q : Answers → Child → Bool) (xs : List Source) → ((g : Answers) (c : Child) → q (answers_in w g) c ≡ false)
+      → Adds w q xs xs
   adds_none q xs n g c = sym (ap (λ b. sources_evaluate g xs c || b) (n g c) ∙ or_false (sources_evaluate g xs c))
 
   pub adds_both : (p q : Answers → Child → Bool) (xs ys zs : List Source) → Adds w p xs ys → Adds w q ys zs
@@ -48,7 +50,8 @@ module _ (w : Walk) where
   adds_both p q xs ys zs h k g c = k g c ∙ (ap (λ b. b || q (answers_in w g) c) (h g c)
       ∙ or_assoc (sources_evaluate g xs c) (p (answers_in w g) c) (q (answers_in w g) c))
 
-  pub adds_as : (p q : Answers → Child → Bool) (xs ys : List Source) → ((g : Answers) (c : Child) → p (answers_in w g) c ≡ q (answers_in w g) c)
+  pub adds_as : (p q : Answers → Child → Bool) (xs ys : List Source)
+      → ((g : Answers) (c : Child) → p (answers_in w g) c ≡ q (answers_in w g) c)
       → Adds w p xs ys → Adds w q xs ys
   adds_as p q xs ys e h g c = h g c ∙ ap (λ b. sources_evaluate g xs c || b) (e g c)
 

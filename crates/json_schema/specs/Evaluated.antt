@@ -84,7 +84,8 @@ evaluates_by root a s t c = is_some (schema_at s (rest_keyword c)) || others_eva
 
 -- what the others do not evaluate is accepted by the schema of `unevaluatedProperties`, or `unevaluatedItems` (11.2 and 11.3)
 abbrev pub rest_accepts : Tree → Answers → Tree → Tree → Child → Bool
-rest_accepts root a s t c = option_map_or (λ r. others_evaluate root a s t c || a.accepts r (value_of c)) (schema_at s (rest_keyword c)) true
+rest_accepts root a s t c =
+    option_map_or (λ r. others_evaluate root a s t c || a.accepts r (value_of c)) (schema_at s (rest_keyword c)) true
 
 -- what a test says of each member, and of each item, of which the first has the index i
 abbrev pub members_pass : (Child → Bool) → Members → Bool

@@ -24,8 +24,8 @@ use json_pointer::Pointer;
 use std::alloc::{AllocError, Global};
 use tinyjson::{JsonValue, sorted_members};
 
-/// The place of what can't be applied in a schema: a keyword that is not supported or whose value has another form
-/// than the standard's, a reference that leads to no schema in it, or in a circle, or a schema that is neither an object nor a truth
+/// The place of what can't be applied in a schema: a keyword whose value has another form than the standard's,
+/// a reference that leads to no schema in it, or in a circle, or a schema that is neither an object nor a truth
 /// value. `None` says that the schema can be applied. The only error is out of memory.
 ///
 /// It calls itself for each schema in the schema, so it takes stack as the schema is deep.

@@ -28,8 +28,8 @@ pub struct Schema<'s> {
 /// Why a tree is not taken as a schema.
 #[derive(Debug, Drop)]
 pub enum SchemaError {
-    /// What stands at this place can't be applied: a keyword that is not supported, one whose value has another form
-    /// than the standard's, a reference that leads to no schema in the tree, or in a circle, a name that another schema
+    /// What stands at this place can't be applied: a keyword whose value has another form than the standard's,
+    /// a reference that leads to no schema in the tree, or in a circle, a name that another schema
     /// has, or a schema that is neither an object nor a truth value.
     Refused(Pointer),
     /// An allocation failed.

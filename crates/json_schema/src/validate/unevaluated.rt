@@ -281,9 +281,12 @@ fn add_inner<'d, 's>(
         sources.old.items sources.new.items) }
     ensures within { OnOk result (StaysWithin walk.entry sources.old.items sources.new.items) }
 {
-    add_listed(value, schemas_at(schema, Keyword::AllOf), walk, alloc, sources)?;
-    add_accepting(value, schemas_at(schema, Keyword::AnyOf), walk, alloc, sources)?;
-    add_accepting(value, schemas_at(schema, Keyword::OneOf), walk, alloc, sources)?;
+    let all = schemas_at(schema, Keyword::AllOf);
+    add_listed(value, all, walk, alloc, sources)?;
+    let any = schemas_at(schema, Keyword::AnyOf);
+    add_accepting(value, any, walk, alloc, sources)?;
+    let one = schemas_at(schema, Keyword::OneOf);
+    add_accepting(value, one, walk, alloc, sources)?;
     add_branch(value, schema, walk, alloc, sources)?;
     add_dependents(value, schema, walk, alloc, sources)?;
     add_reference(value, schema, walk, alloc, sources)?;

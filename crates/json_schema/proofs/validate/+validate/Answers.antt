@@ -18,23 +18,27 @@ use Rattle.i_regexp.specs.PatternDeciding.{is_found}
 use Rattle.json_schema.specs.Applied.{found_pass, patterns_accept}
 use Rattle.json_schema.specs.Applied.{applies, parts_accepted, tests, contains_some, contains_at_most, contains_at_least, any_of, one_of}
 use Rattle.json_schema.specs.Applied.{branch_accepts, some_accepts, accepting, keys_pass, passing, members_in, items_passing}
-use Rattle.json_schema.specs.Evaluated.{Answers, Child, member_at, item_at, value_of, others_evaluate, rest_accepted, members_pass, items_pass}
+use Rattle.json_schema.specs.Evaluated.{Answers, Child, member_at, item_at, value_of, others_evaluate, rest_accepted}
+use Rattle.json_schema.specs.Evaluated.{members_pass, items_pass}
 use Rattle.json_schema.specs.Evaluated.{some_evaluate, accepting_evaluate, branch_evaluates, dependents_evaluate, target_evaluates}
 use Rattle.json_schema.specs.Keywords.{IsUnmet}
 use Rattle.json_schema.specs.Parts.{item_schema}
 use Rattle.json_schema.specs.Places.{IsMemberPart, IsUnderKey, IsWithin, Enters, place}
 use Rattle.json_schema.specs.Sources.{sources_evaluate, AreWithin}
 use Rattle.json_schema.specs.Valid.{answers_in, FindsRest}
-use Rattle.json_schema.specs.Valid.{says, reference_accepts, target_accepts, Judges, Finds, IsUnapplied, refused, unmet, not_applied, in_all_of}
+use Rattle.json_schema.specs.Valid.{reference_accepts, target_accepts}
+use Rattle.json_schema.specs.Valid.{says, Judges, Finds, IsUnapplied, refused, unmet, not_applied, in_all_of}
 use Rattle.json_schema.specs.Valid.{in_dependent, in_patterned, in_reference, in_part, IsInvalidAt, FindsFound}
 use Rattle.json_schema.specs.declared.keyword.Keyword.TheVariants as kw
 use Rattle.json_schema.specs.declared.validate.unevaluated.Source.{Source}
 use Rattle.json_schema.proofs.Listed.{listed_found, listed_sorted}
 use Rattle.json_schema.proofs.Loops.{items_turn, items_end, item_passes, item_free, members_turn, member_passes, member_free}
 use Rattle.json_schema.proofs.Loops.{dependents_turn, dependent_passes, dependent_free, no_parts, found_holds, not_found, found_turn}
-use Rattle.json_schema.proofs.Sourcing.{adds_none, adds_both, adds_as, adds_turn, adds_end, within_pushed, within_at, schema_added, inner_added}
+use Rattle.json_schema.proofs.Sourcing.{adds_none, adds_both, adds_as, adds_turn, adds_end}
+use Rattle.json_schema.proofs.Sourcing.{within_pushed, within_at, schema_added, inner_added}
 use Rattle.json_schema.proofs.Sourcing.{asking_added, branch_none, branch_some, no_branch_added, target_added, no_target_added}
-use Rattle.json_schema.proofs.Sourcing.{left_turn, left_end, no_member_rest, no_item_rest, no_rest, members_found, items_found, evaluated_by}
+use Rattle.json_schema.proofs.Sourcing.{left_turn, left_end, no_member_rest, no_item_rest}
+use Rattle.json_schema.proofs.Sourcing.{members_found, items_found, evaluated_by}
 use Rattle.json_schema.proofs.Sourcing.{item_applied}
 use Rattle.json_schema.proofs.Turns.{turn_next, turn_stop, turn_end, count_next, count_end, nth_item}
 use Rattle.json_schema.proofs.Validity.{reported, verdict, placed, last_tested, last_found, before, no_branch, branch_met}
@@ -1025,11 +1029,11 @@ unevaluated::add_schema-returns-clause-within t c n h k =
 
 pub unevaluated::add_inner-returns-clause-evaluated : goal.unevaluated::add_inner-returns-clause-evaluated
 unevaluated::add_inner-returns-clause-evaluated t c =
-    inner_added c.args.walk (view c.args.schema.now) (view c.args.value.now) (items_view c.schemas_at.result.now)
-    (items_view c.schemas_at-2.result.now) (items_view c.schemas_at-3.result.now) c.args.sources.now.items
+    inner_added c.args.walk (view c.args.schema.now) (view c.args.value.now) (items_view c.schemas_at-all.result.now)
+    (items_view c.schemas_at-any.result.now) (items_view c.schemas_at-one.result.now) c.args.sources.now.items
     c.add_listed.new.sources.items c.add_accepting.new.sources.items c.add_accepting-2.new.sources.items
-    c.add_branch.new.sources.items c.add_dependents.new.sources.items c.add_reference.new.sources.items c.schemas_at.ensures
-    c.schemas_at-2.ensures c.schemas_at-3.ensures c.in_ok-add_listed.ensures.evaluated c.in_ok-add_accepting.ensures.evaluated
+    c.add_branch.new.sources.items c.add_dependents.new.sources.items c.add_reference.new.sources.items c.schemas_at-all.ensures
+    c.schemas_at-any.ensures c.schemas_at-one.ensures c.in_ok-add_listed.ensures.evaluated c.in_ok-add_accepting.ensures.evaluated
     c.in_ok-add_accepting-2.ensures.evaluated c.in_ok-add_branch.ensures.evaluated c.in_ok-add_dependents.ensures.evaluated
     c.in_ok-add_reference.ensures.evaluated
 
@@ -1064,10 +1068,12 @@ unevaluated::add_accepting-returns-clause-evaluated t c g k =
     adds_end (λ ys. accepting_evaluate (answers_in c.args.walk g) (items_view ys) (view c.args.value.now) k) c.args.schemas.now
     c.loop-schema.schema-index _ _ c.loop-schema-test.false refl (c.loop-schema.invariant.0 g k)
 
-pub unevaluated::add_if_accepting-returns-then-not-accepted-clause-accepted : goal.unevaluated::add_if_accepting-returns-then-not-accepted-clause-accepted
+pub unevaluated::add_if_accepting-returns-then-not-accepted-clause-accepted
+    : goal.unevaluated::add_if_accepting-returns-then-not-accepted-clause-accepted
 unevaluated::add_if_accepting-returns-then-not-accepted-clause-accepted t c g = sym c.if-not-accepted.true ∙ c.in_ok-accepted.ensures g
 
-pub unevaluated::add_if_accepting-returns-then-not-accepted-clause-evaluated : goal.unevaluated::add_if_accepting-returns-then-not-accepted-clause-evaluated
+pub unevaluated::add_if_accepting-returns-then-not-accepted-clause-evaluated
+    : goal.unevaluated::add_if_accepting-returns-then-not-accepted-clause-evaluated
 unevaluated::add_if_accepting-returns-then-not-accepted-clause-evaluated t c =
     let s = view c.args.schema.now in
     let v = view c.args.value.now in
@@ -1092,7 +1098,8 @@ unevaluated::add_branch-returns-in_default-clause-evaluated t c =
     adds_none c.args.walk (λ a k. branch_evaluates a s v k) _
     (λ g k. no_branch_added (answers_in c.args.walk g) s v k c.in_default.ensures)
 
-pub unevaluated::add_branch-returns-in_default-schema_at-clause-evaluated : goal.unevaluated::add_branch-returns-in_default-schema_at-clause-evaluated
+pub unevaluated::add_branch-returns-in_default-schema_at-clause-evaluated
+    : goal.unevaluated::add_branch-returns-in_default-schema_at-clause-evaluated
 unevaluated::add_branch-returns-in_default-schema_at-clause-evaluated t c =
     let w = c.args.walk in
     let s = view c.args.schema.now in
@@ -1144,7 +1151,8 @@ unevaluated::add_dependents-returns-clause-evaluated t c g k =
     ∙ ap (λ rs. sources_evaluate g c.args.sources.now.items k || dependents_evaluate (answers_in c.args.walk g) rs v k)
     (ap members_listed c.as_slice-dependents.ensures.value ∙ c.in_ok-listed.ensures.listed)
 
-pub unevaluated::add_dependent-returns-then-not-has_key-clause-evaluated : goal.unevaluated::add_dependent-returns-then-not-has_key-clause-evaluated
+pub unevaluated::add_dependent-returns-then-not-has_key-clause-evaluated
+    : goal.unevaluated::add_dependent-returns-then-not-has_key-clause-evaluated
 unevaluated::add_dependent-returns-then-not-has_key-clause-evaluated t c =
     let s = view c.args.schema.now in
     let v = view c.args.value.now in
@@ -1171,7 +1179,8 @@ unevaluated::add_reference-returns-clause-evaluated t c =
     c.in_ok-add_target-2.ensures.evaluated
 
 pub unevaluated::add_reference-returns-clause-within : goal.unevaluated::add_reference-returns-clause-within
-unevaluated::add_reference-returns-clause-within t c n h k = c.in_ok-add_target-2.ensures.within n h (c.in_ok-add_target.ensures.within n h k)
+unevaluated::add_reference-returns-clause-within t c n h k =
+    c.in_ok-add_target-2.ensures.within n h (c.in_ok-add_target.ensures.within n h k)
 
 pub unevaluated::add_target-returns-in_default-clause-evaluated : goal.unevaluated::add_target-returns-in_default-clause-evaluated
 unevaluated::add_target-returns-in_default-clause-evaluated t c =

@@ -79,7 +79,8 @@ abbrev pub decreases-in_items : goal.decreases-in_items
 decreases-in_items l = 16 * l.walk.steps + 11
 
 abbrev pub invariant-is_some_met-loop-schema : goal.invariant-is_some_met-loop-schema
-invariant-is_some_met-loop-schema l = (g : Answers) → some_accepts (says l.walk g) (items_view (drop l.schema-index l.schemas)) (view l.value)
+invariant-is_some_met-loop-schema l = (g : Answers) →
+    some_accepts (says l.walk g) (items_view (drop l.schema-index l.schemas)) (view l.value)
     ≡ some_accepts (says l.walk g) (items_view l.schemas) (view l.value)
 
 abbrev pub invariant-count_accepting-loop-schema : goal.invariant-count_accepting-loop-schema
