@@ -387,8 +387,8 @@ reported root n s t v ks js at h = at_tokens root n s t v ks js at h
 
 -- the same at its tokens
 pub placed : (w : Walk) (q : Judge → Bool) (s t : Tree) (v : Violation) (ks js : List (List ℕ)) → IsAt ks js v
-    → IsInvalidAt (view w.root.now) (suc w.steps) s t ks js → Finds w q s t (Ok (Some v))
-placed w q s t v ks js at h = at_tokens (view w.root.now) (suc w.steps) s t v ks js at h
+    → IsInvalidAt (view w.whole.now.root.now) (suc w.steps) s t ks js → Finds w q s t (Ok (Some v))
+placed w q s t v ks js at h = at_tokens (view w.whole.now.root.now) (suc w.steps) s t v ks js at h
 
 -- of a valid value nothing is found, and of another something
 pub verdict : (root : Tree) (n : ℕ) (s t : Tree) (o : Option Violation) → Decides root n s t (Ok o) → (g : Answers)
@@ -421,10 +421,10 @@ pub last_found : (w : Walk) (s t : Tree) (x : Result (Option Violation) CheckErr
     → ((g : Answers) → applies (says w g) kw.AllOf s t ≡ true) → ((g : Answers) → applies (says w g) kw.If s t ≡ true)
     → ((g : Answers) → applies (says w g) kw.DependentSchemas s t ≡ true)
     → ((g : Answers) → applies (says w g) kw.PatternProperties s t ≡ true)
-    → ((g : Answers) → reference_accepts (view w.root.now) (says w g) s t ≡ true)
+    → ((g : Answers) → reference_accepts (view w.whole.now.root.now) (says w g) s t ≡ true)
     → ((g : Answers) → parts_accepted (says w g) s t ≡ true)
-    → FindsRest w s t x → Decides (view w.root.now) (suc w.steps) s t x
-last_found w s t (Ok None) a b c d e k p r l h = λ g. valid_from (view w.root.now) (answers_in w g) s t (record {
+    → FindsRest w s t x → Decides (view w.whole.now.root.now) (suc w.steps) s t x
+last_found w s t (Ok None) a b c d e k p r l h = λ g. valid_from (view w.whole.now.root.now) (answers_in w g) s t (record {
   accepted = a;
   asserted = b;
   tested = c g;
@@ -438,9 +438,9 @@ last_found w s t (Err x) a b c d e k p r l h = tt
 
 -- what is known of a schema in the walk, one step before
 pub before : (w inner : Walk) → IsDeeper w inner → (s t : Tree) (x : Result (Option Violation) CheckError)
-    → Decides (view inner.root.now) (suc inner.steps) s t x → Judges w s t x
-before w inner d s t x h = subst (λ n. Decides (view w.root.now) n s t x) (sym d.1)
-    (subst (λ r. Decides (view r.now) (suc inner.steps) s t x) d.0 h)
+    → Decides (view inner.whole.now.root.now) (suc inner.steps) s t x → Judges w s t x
+before w inner d s t x h = subst (λ n. Decides (view w.whole.now.root.now) n s t x) (sym d.1)
+    (subst (λ r. Decides (view r.now.root.now) (suc inner.steps) s t x) d.0 h)
 
 -- ---- the schema that `if` chooses
 
@@ -460,9 +460,9 @@ module _ (w : Walk) (s t c : Tree) (b : Bool) (k : Keyword) (test : Some c ≡ s
         → applies (says w g) kw.If s t ≡ true
     branch_met r h v g = by_branch g (ap (λ o. option_map_or (λ r. says w g r t) o true) (taken g ∙ sym h) ∙ v g)
 
-    pub branch_place : (r : Tree) (ks js : List (List ℕ)) → Some r ≡ schema_at s k → IsInvalidAt (view w.root.now) w.steps r t ks js
-        → IsInvalidAt (view w.root.now) (suc w.steps) s t (name k ∷ ks) js
-    branch_place r ks js h v = subst (λ x. IsInvalidAt (view w.root.now) (suc w.steps) s t (name x ∷ ks) js) (sym chosen)
+    pub branch_place : (r : Tree) (ks js : List (List ℕ)) → Some r ≡ schema_at s k → IsInvalidAt (view w.whole.now.root.now) w.steps r t ks js
+        → IsInvalidAt (view w.whole.now.root.now) (suc w.steps) s t (name k ∷ ks) js
+    branch_place r ks js h v = subst (λ x. IsInvalidAt (view w.whole.now.root.now) (suc w.steps) s t (name x ∷ ks) js) (sym chosen)
         (in_branch (sym test) (λ g. sym (told g)) (ap (schema_at s) (sym chosen) ∙ sym h) v)
 
 -- ---- the schema that a reference leads to
@@ -476,9 +476,9 @@ no_reference root f s t k e = ap (λ o. option_map_or (λ q. f q t) o true) (sym
 
 -- the second of the references is met, or not
 pub both_met : (w : Walk) (s t : Tree) (x : Result (Option Violation) CheckError)
-    → ((g : Answers) → target_accepts (view w.root.now) kw.Ref (says w g) s t ≡ true)
-    → Finds w (λ f. target_accepts (view w.root.now) kw.DynamicRef f s t) s t x
-    → Finds w (λ f. reference_accepts (view w.root.now) f s t) s t x
+    → ((g : Answers) → target_accepts (view w.whole.now.root.now) kw.Ref (says w g) s t ≡ true)
+    → Finds w (λ f. target_accepts (view w.whole.now.root.now) kw.DynamicRef f s t) s t x
+    → Finds w (λ f. reference_accepts (view w.whole.now.root.now) f s t) s t x
 both_met w s t (Ok None) a h = λ g i. a g i && h g i
 both_met w s t (Ok (Some v)) a h = h
 both_met w s t (Err e) a h = tt

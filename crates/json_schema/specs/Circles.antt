@@ -53,4 +53,4 @@ leads root w = option_map_or (settles root reference_steps) (target root w) fals
 
 -- the same of a schema in a walk
 abbrev pub settles_in : Walk → Tree → Bool
-settles_in w = settles (view w.root.now) w.steps
+settles_in w = settles (view w.whole.now.root.now) w.steps

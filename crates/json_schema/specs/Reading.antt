@@ -9,7 +9,7 @@ use Rattle.json_schema.specs.declared.schema.SchemaError.TheVariants.{Refused, O
 
 -- the tree that a schema was read from
 abbrev pub tree_of : Schema → Tree
-tree_of s = view s.root.now
+tree_of s = view s.whole.root.now
 
 -- The tree as a schema, which can be applied; or a place, and it can't.
 abbrev pub ReadsSchema : Tree → Result Schema SchemaError → Type 0

@@ -45,7 +45,7 @@ pub record InRest (w : Walk) (a : Keyword) (xs : List Source) (r t : Tree) (v : 
   pub named : IsChild t token child
   pub left : (g : Answers) → sources_evaluate g xs child ≡ false
   pub placed : IsAt (name a ∷ location) (token ∷ within) v
-  pub invalid : IsInvalidAt (view w.root.now) w.steps r (value_of child) location within
+  pub invalid : IsInvalidAt (view w.whole.now.root.now) w.steps r (value_of child) location within
 
 -- No violation, and r accepts each child that they do not evaluate; or one, in such a child.
 abbrev pub FindsLeft : Walk → Keyword → List Source → Tree → Tree → Result (Option Violation) CheckError → Type 0

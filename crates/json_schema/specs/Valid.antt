@@ -110,10 +110,10 @@ Agrees s t o = (a : Answers) → MeetsRules s a → a.accepts s t ≡ not (is_so
 
 -- what schemas say in a walk, where g speaks beyond its steps
 abbrev pub answers_in : Walk → Answers → Answers
-answers_in w g = answers (view w.root.now) w.steps g
+answers_in w g = answers (view w.whole.now.root.now) w.steps g
 
 abbrev pub says : Walk → Answers → Judge
-says w g = judge (view w.root.now) w.steps g
+says w g = judge (view w.whole.now.root.now) w.steps g
 
 -- x is what q makes of what schemas say in the walk, whatever is said beyond its steps.
 abbrev pub Follows : {X : Type 0} → Walk → X → (Judge → X) → Type 0
@@ -126,23 +126,23 @@ Decides root n s t (Ok (Some v)) = IsInvalidAt root n s t (tokens_of v.keyword_l
 Decides root n s t (Err e) = Unit {0}
 
 abbrev pub Judges : Walk → Tree → Tree → Result (Option Violation) CheckError → Type 0
-Judges w = Decides (view w.root.now) w.steps
+Judges w = Decides (view w.whole.now.root.now) w.steps
 
 -- The walk in a schema has one step less.
 abbrev pub IsDeeper : Walk → Walk → Type 0
-IsDeeper w inner = (inner.root ≡ w.root) × (w.steps ≡ suc inner.steps)
+IsDeeper w inner = (inner.whole ≡ w.whole) × (w.steps ≡ suc inner.steps)
 
 -- No violation, and what was asked of t is so; or one, of t by s, in whose schemas the walk is.
 abbrev pub Finds : Walk → (Judge → Bool) → Tree → Tree → Result (Option Violation) CheckError → Type 0
 Finds w q s t (Ok None) = (g : Answers) → q (says w g) ≡ true
-Finds w q s t (Ok (Some v)) = IsInvalidAt (view w.root.now) (suc w.steps) s t (tokens_of v.keyword_location)
+Finds w q s t (Ok (Some v)) = IsInvalidAt (view w.whole.now.root.now) (suc w.steps) s t (tokens_of v.keyword_location)
     (tokens_of v.instance_location)
 Finds w q s t (Err e) = Unit {0}
 
 -- No violation, and what the others of s leave is accepted; or one.
 abbrev pub FindsRest : Walk → Tree → Tree → Result (Option Violation) CheckError → Type 0
-FindsRest w s t (Ok None) = (g : Answers) → rest_accepted (view w.root.now) (answers_in w g) s t ≡ true
-FindsRest w s t (Ok (Some v)) = IsInvalidAt (view w.root.now) (suc w.steps) s t (tokens_of v.keyword_location)
+FindsRest w s t (Ok None) = (g : Answers) → rest_accepted (view w.whole.now.root.now) (answers_in w g) s t ≡ true
+FindsRest w s t (Ok (Some v)) = IsInvalidAt (view w.whole.now.root.now) (suc w.steps) s t (tokens_of v.keyword_location)
     (tokens_of v.instance_location)
 FindsRest w s t (Err e) = Unit {0}
 
@@ -154,7 +154,7 @@ pub record InFound (w : Walk) (p : List ℕ) (r : Tree) (ms : Members) (v : Viol
   pub found : is_found p key ≡ true
   pub at : find key ms ≡ Some value
   pub placed : tokens_of v.instance_location ≡ key ∷ rest
-  pub invalid : IsInvalidAt (view w.root.now) w.steps r value (tokens_of v.keyword_location) rest
+  pub invalid : IsInvalidAt (view w.whole.now.root.now) w.steps r value (tokens_of v.keyword_location) rest
 
 -- No violation, and r accepts each of the members in whose key p is found; or one, in such a member.
 abbrev pub FindsFound : Walk → List ℕ → Tree → Members → Result (Option Violation) CheckError → Type 0

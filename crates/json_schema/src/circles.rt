@@ -32,11 +32,10 @@ pub fn leads(
     alloc: Global,
 ) -> Result<bool, AllocError>
     ensures { IfOk result
-        (λ is. is ≡ leads (view document.entry.root.now) (view reference.now)) }
+        (λ is. is ≡ leads (view document.entry.whole.now.root.now) (view reference.now)) }
 {
     let walk = Walk {
-        root: document.root,
-        anchors: document.anchors,
+        whole: document.whole,
         steps: REFERENCE_STEPS,
     };
     let Some(schema) = target(reference, walk, alloc)? else {
@@ -178,7 +177,7 @@ fn reference_settles(
     walk: Walk<'_, '_>,
     alloc: Global,
 ) -> Result<bool, AllocError>
-    ensures { IfOk result (λ is. is ≡ reference_passes (view walk.entry.root.now)
+    ensures { IfOk result (λ is. is ≡ reference_passes (view walk.entry.whole.now.root.now)
         (settles_in walk.entry) (view schema.now)) }
 {
     let plain = target_settles(Keyword::Ref, schema, walk, alloc)?;
@@ -189,6 +188,7 @@ fn reference_settles(
 }
 
 #[cycle(circles)]
+#[inline(never)]
 fn target_settles(
     keyword: Keyword,
     schema: &JsonValue,
@@ -196,7 +196,7 @@ fn target_settles(
     alloc: Global,
 ) -> Result<bool, AllocError>
     ensures { IfOk result (λ is. is ≡ option_map_or (settles_in walk.entry)
-        (referenced (view walk.entry.root.now) keyword (view schema.now)) true) }
+        (referenced (view walk.entry.whole.now.root.now) keyword (view schema.now)) true) }
 {
     match referenced(schema, keyword, walk, alloc)? {
         Some(part) => settles(part, walk, alloc),

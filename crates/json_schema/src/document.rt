@@ -7,13 +7,19 @@ ghost use Rattle.json_schema.specs.Anchors.{anchors_in, repeated, has_anchors};
 use crate::anchor::Anchor;
 use tinyjson::JsonValue;
 
-/// A whole schema, its anchors, and the first name that two of them have.
+/// A whole schema, and its anchors.
+#[derive(Debug, Drop)]
+pub struct Whole<'s> {
+    pub root: &'s JsonValue,
+    pub anchors: Vec<Anchor<'s>>,
+    ghost gathered: { has_anchors (view root.now) anchors.items ≡ true },
+}
+
+/// A whole schema, and the first name that two of its anchors have.
 #[derive(Clone, Copy)]
 pub struct Document<'d, 's> {
-    pub root: &'s JsonValue,
-    pub anchors: &'d [Anchor<'s>],
+    pub whole: &'d Whole<'s>,
     pub again: Option<&'s String>,
-    ghost gathered: { has_anchors (view root.now) anchors.now ≡ true },
     ghost twice: { option_map (λ x. string_bytes x.now) again
-        ≡ repeated (anchors_in (view root.now)) },
+        ≡ repeated (anchors_in (view whole.now.root.now)) },
 }

@@ -28,7 +28,7 @@ pub fn referenced<'s>(
     alloc: Global,
 ) -> Result<Option<&'s JsonValue>, AllocError>
     ensures { IfOk result (λ r. option_map (λ x. view x.now) r
-        ≡ referenced (view walk.entry.root.now) keyword (view schema.now)) }
+        ≡ referenced (view walk.entry.whole.now.root.now) keyword (view schema.now)) }
 {
     match schema_at(schema, keyword) {
         Some(reference) => target(reference, walk, alloc),
@@ -37,14 +37,15 @@ pub fn referenced<'s>(
 }
 
 /// The schema that a reference leads to: it has to be `#`, and percent-encoded a plain name or a JSON pointer (Core,
-/// 8.2.3).
+/// 8.2.3). Not inlined, since the recursion over schemas calls it at each level.
+#[inline(never)]
 pub fn target<'s>(
     reference: &JsonValue,
     walk: Walk<'_, 's>,
     alloc: Global,
 ) -> Result<Option<&'s JsonValue>, AllocError>
     ensures { IfOk result (λ r. option_map (λ x. view x.now) r
-        ≡ target (view walk.entry.root.now) (view reference.now)) }
+        ≡ target (view walk.entry.whole.now.root.now) (view reference.now)) }
 {
     let JsonValue::String(reference) = reference else {
         return Ok(None);
@@ -62,15 +63,15 @@ fn at_fragment<'s>(
     alloc: Global,
 ) -> Result<Option<&'s JsonValue>, AllocError>
     ensures { IfOk result (λ r. option_map (λ x. view x.now) r
-        ≡ at_fragment (view walk.entry.root.now) fragment.now) }
+        ≡ at_fragment (view walk.entry.whole.now.root.now) fragment.now) }
 {
     let Ok(text) = str::from_utf8(fragment) else {
         return Ok(None);
     };
     if is_plain_name(text) {
-        return Ok(anchored(walk.anchors, text));
+        return Ok(anchored(walk.whole.anchors.as_slice(), text));
     }
-    at_pointer(walk.root, text, alloc)
+    at_pointer(walk.whole.root, text, alloc)
 }
 
 /// The schema that a pointer leads to.

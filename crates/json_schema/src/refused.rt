@@ -34,9 +34,9 @@ pub fn refused_place(
     alloc: Global,
 ) -> Result<Option<Pointer>, AllocError>
     ensures { Refuses
-        (is_schema (view document.entry.root.now) true (view document.entry.root.now)) result }
+        (is_schema (view document.entry.whole.now.root.now) true (view document.entry.whole.now.root.now)) result }
 {
-    refused_in(document.root, document, true, alloc)
+    refused_in(document.whole.root, document, true, alloc)
 }
 
 /// The same of a schema in the whole one, or of the whole one.
@@ -47,7 +47,7 @@ fn refused_in(
     is_whole: bool,
     alloc: Global,
 ) -> Result<Option<Pointer>, AllocError>
-    ensures { Refuses (is_schema (view document.entry.root.now) is_whole (view schema.now)) result }
+    ensures { Refuses (is_schema (view document.entry.whole.now.root.now) is_whole (view schema.now)) result }
 {
     match schema {
         JsonValue::Boolean(_) => Ok(None),
@@ -66,7 +66,7 @@ fn refused_keyword(
     is_whole: bool,
     alloc: Global,
 ) -> Result<Option<Pointer>, AllocError>
-    ensures { Refuses (keywords_fit (view document.entry.root.now) is_whole (members_listed keywords.now))
+    ensures { Refuses (keywords_fit (view document.entry.whole.now.root.now) is_whole (members_listed keywords.now))
         result }
 {
     for (name, operand) in keywords {
@@ -93,7 +93,7 @@ fn misfit(
     is_whole: bool,
     alloc: Global,
 ) -> Result<Option<Pointer>, AllocError>
-    ensures { Refuses (fits (view document.entry.root.now) is_whole form (view operand.now)) result }
+    ensures { Refuses (fits (view document.entry.whole.now.root.now) is_whole form (view operand.now)) result }
 {
     match form {
         Form::Anything => Ok(None),
@@ -124,7 +124,7 @@ fn refused_in_list(
     document: Document<'_, '_>,
     alloc: Global,
 ) -> Result<Option<Pointer>, AllocError>
-    ensures { Refuses (is_schema_list (view document.entry.root.now) (view schemas.now)) result }
+    ensures { Refuses (is_schema_list (view document.entry.whole.now.root.now) (view schemas.now)) result }
 {
     let JsonValue::Array(schemas) = schemas else {
         return Ok(Some(Pointer::root(alloc)));
@@ -142,7 +142,7 @@ fn refused_item(
     document: Document<'_, '_>,
     alloc: Global,
 ) -> Result<Option<Pointer>, AllocError>
-    ensures { Refuses (are_schemas (view document.entry.root.now) (items_view schemas.now)) result }
+    ensures { Refuses (are_schemas (view document.entry.whole.now.root.now) (items_view schemas.now)) result }
 {
     for (index, schema) in schemas.iter().enumerate() {
         if let Some(mut place) = refused_in(schema, document, false, alloc)? {
@@ -159,7 +159,7 @@ fn refused_in_map(
     document: Document<'_, '_>,
     alloc: Global,
 ) -> Result<Option<Pointer>, AllocError>
-    ensures { Refuses (is_schema_map (view document.entry.root.now) (view schemas.now)) result }
+    ensures { Refuses (is_schema_map (view document.entry.whole.now.root.now) (view schemas.now)) result }
 {
     let JsonValue::Object(schemas) = schemas else {
         return Ok(Some(Pointer::root(alloc)));
@@ -174,7 +174,7 @@ fn refused_member(
     document: Document<'_, '_>,
     alloc: Global,
 ) -> Result<Option<Pointer>, AllocError>
-    ensures { Refuses (have_schemas (view document.entry.root.now) (members_listed schemas.now)) result }
+    ensures { Refuses (have_schemas (view document.entry.whole.now.root.now) (members_listed schemas.now)) result }
 {
     for (key, schema) in schemas {
         if let Some(mut place) = refused_in(schema, document, false, alloc)? {
@@ -193,7 +193,7 @@ fn refused_in_patterns(
     alloc: Global,
 ) -> Result<Option<Pointer>, AllocError>
     ensures { Refuses
-        (has_patterns (view schemas.now) && is_schema_map (view document.entry.root.now) (view schemas.now))
+        (has_patterns (view schemas.now) && is_schema_map (view document.entry.whole.now.root.now) (view schemas.now))
         result }
 {
     if let Some(place) = refused_pattern(schemas, alloc)? {
@@ -244,7 +244,7 @@ fn unless(fits: bool, alloc: Global) -> Result<Option<Pointer>, AllocError>
 
 /// Whether it is a plain name, and not the first one that the document has twice.
 fn is_own_name(value: &JsonValue, document: Document<'_, '_>) -> bool
-    ensures { result ≡ is_own_name (view document.entry.root.now) (view value.now) }
+    ensures { result ≡ is_own_name (view document.entry.whole.now.root.now) (view value.now) }
 {
     match value {
         JsonValue::String(name) => is_plain_name(name.as_str())

@@ -1,12 +1,11 @@
 //! Schemas, which are looked through before a value is checked.
 ghost use Rattle.std.specs.Prelude.{◌≡◌, true, IfOk};
 ghost use Rattle.tinyjson.specs.View.{view};
-ghost use Rattle.json_schema.specs.Anchors.{has_anchors};
 ghost use Rattle.json_schema.specs.Schemas.{is_schema};
 ghost use Rattle.json_schema.specs.declared.schema.SchemaError.{SchemaError};
 
-use crate::anchor::{Anchor, anchors_of, repeated};
-use crate::document::Document;
+use crate::anchor::{anchors_of, repeated};
+use crate::document::{Document, Whole};
 use crate::refused::refused_place;
 use crate::validate::find_violation;
 use crate::violation::Violation;
@@ -19,10 +18,8 @@ use tinyjson::JsonValue;
 /// says nothing, and each reference leads to a schema in it, and not in a circle.
 #[derive(Debug, Drop)]
 pub struct Schema<'s> {
-    root: &'s JsonValue,
-    anchors: Vec<Anchor<'s>>,
-    ghost checked: { is_schema (view root.now) true (view root.now) ≡ true },
-    ghost gathered: { has_anchors (view root.now) anchors.items ≡ true },
+    whole: Whole<'s>,
+    ghost checked: { is_schema (view whole.root.now) true (view whole.root.now) ≡ true },
 }
 
 /// Why a tree is not taken as a schema.
@@ -60,16 +57,16 @@ impl<'s> Schema<'s> {
     {
         let anchors = anchors_of(tree, alloc)?;
         let again = repeated(anchors.as_slice(), alloc)?;
-        let document = Document {
+        let whole = Whole {
             root: tree,
-            anchors: anchors.as_slice(),
+            anchors,
+        };
+        let document = Document {
+            whole: &whole,
             again,
         };
         match refused_place(document, alloc)? {
-            None => Ok(Schema {
-                root: tree,
-                anchors,
-            }),
+            None => Ok(Schema { whole }),
             Some(place) => Err(SchemaError::Refused(place)),
         }
     }
@@ -93,8 +90,7 @@ impl<'s> Schema<'s> {
         ensures only { IfOk result (λ found. Agrees (tree_of self.now) (view value.now) found) }
     {
         let walk = Walk {
-            root: self.root,
-            anchors: self.anchors.as_slice(),
+            whole: &self.whole,
             steps,
         };
         find_violation(value, walk, alloc)

@@ -47,11 +47,11 @@ pub fn find_violation(
     walk: Walk<'_, '_>,
     alloc: Global,
 ) -> Result<Option<Violation>, CheckError>
-    ensures judged { Validates walk.entry.steps (view walk.entry.root.now) (view value.now) result }
+    ensures judged { Validates walk.entry.steps (view walk.entry.whole.now.root.now) (view value.now) result }
     ensures only { IfOk result
-        (λ found. Agrees (view walk.entry.root.now) (view value.now) found) }
+        (λ found. Agrees (view walk.entry.whole.now.root.now) (view value.now) found) }
 {
-    violation_in(value, walk.root, walk, alloc)
+    violation_in(value, walk.whole.root, walk, alloc)
 }
 
 /// The same of a schema in the whole one.
@@ -518,7 +518,7 @@ fn in_reference(
     alloc: Global,
 ) -> Result<Option<Violation>, CheckError>
     ensures { Finds walk.entry
-        (λ f. reference_accepts (view walk.entry.root.now) f (view schema.now) (view value.now))
+        (λ f. reference_accepts (view walk.entry.whole.now.root.now) f (view schema.now) (view value.now))
         (view schema.now) (view value.now) result }
 {
     if let Some(found) = in_target(value, schema, Keyword::Ref, walk, alloc)? {
@@ -529,6 +529,7 @@ fn in_reference(
 
 /// What the value does not meet of the schema that the reference leads to.
 #[cycle(validate)]
+#[inline(never)]
 fn in_target(
     value: &JsonValue,
     schema: &JsonValue,
@@ -537,7 +538,7 @@ fn in_target(
     alloc: Global,
 ) -> Result<Option<Violation>, CheckError>
     requires { is_reference keyword ≡ true }
-    ensures { Finds walk.entry (λ f. target_accepts (view walk.entry.root.now) keyword f
+    ensures { Finds walk.entry (λ f. target_accepts (view walk.entry.whole.now.root.now) keyword f
         (view schema.now) (view value.now)) (view schema.now) (view value.now) result }
 {
     let Some(part) = referenced(schema, keyword, walk, alloc)? else {

@@ -1,11 +1,9 @@
 //! How far a check has come into schemas that apply one another.
-ghost use Rattle.std.specs.Prelude.{◌≡◌, true};
-ghost use Rattle.tinyjson.specs.View.{view};
-ghost use Rattle.json_schema.specs.Anchors.{has_anchors};
+ghost use Rattle.std.specs.Prelude.{◌≡◌, MatchResult};
+ghost use Rattle.json_schema.specs.Valid.{IsDeeper};
 
-use crate::anchor::Anchor;
+use crate::document::Whole;
 use std::alloc::{AllocError, AllocFailed};
-use tinyjson::JsonValue;
 
 /// Why it is not known whether a value is valid.
 #[derive(Clone, Copy, Debug, PartialEq, Eq)]
@@ -31,16 +29,11 @@ impl<T: Drop> From<AllocFailed<T>> for CheckError {
 /// Where references lead, and how many schemas more may be applied in one another.
 #[derive(Clone, Copy)]
 pub struct Walk<'d, 's> {
-    pub root: &'s JsonValue,
-    pub anchors: &'d [Anchor<'s>],
+    pub whole: &'d Whole<'s>,
     pub steps: usize,
-    ghost gathered: { has_anchors (view root.now) anchors.now ≡ true },
 }
 
 impl<'d, 's> Walk<'d, 's> {
-    ghost use Rattle.std.specs.Prelude.{MatchResult};
-    ghost use Rattle.json_schema.specs.Valid.{IsDeeper};
-
     /// The walk inside a schema.
     pub fn deeper(self) -> Result<Walk<'d, 's>, CheckError>
         ensures { MatchResult result
@@ -48,8 +41,7 @@ impl<'d, 's> Walk<'d, 's> {
     {
         match self.steps.checked_sub(1) {
             Some(steps) => Ok(Walk {
-                root: self.root,
-                anchors: self.anchors,
+                whole: self.whole,
                 steps,
             }),
             None => Err(CheckError::TooDeep),

@@ -227,7 +227,7 @@ fn sources_of<'d, 's>(
 ) -> Result<Vec<Source<'d, 's>>, CheckError>
     ensures evaluated { IfOk result (λ sources. (g : Answers) (c : Child) →
         sources_evaluate g sources.items c
-        ≡ others_evaluate (view walk.entry.root.now) (answers_in walk.entry g)
+        ≡ others_evaluate (view walk.entry.whole.now.root.now) (answers_in walk.entry g)
         (view schema.now) (view value.now) c) }
     ensures within { IfOk result (λ sources. AreWithin walk.entry.steps sources.items) }
 {
@@ -277,7 +277,8 @@ fn add_inner<'d, 's>(
     sources: &mut Vec<Source<'d, 's>>,
 ) -> Result<(), CheckError>
     ensures evaluated { OnOk result (Adds walk.entry
-        (λ a c. inner_evaluate (view walk.entry.root.now) a (view schema.now) (view value.now) c)
+        (λ a c. inner_evaluate (view walk.entry.whole.now.root.now) a (view schema.now)
+        (view value.now) c)
         sources.old.items sources.new.items) }
     ensures within { OnOk result (StaysWithin walk.entry sources.old.items sources.new.items) }
 {
@@ -448,7 +449,7 @@ fn add_reference<'d, 's>(
     sources: &mut Vec<Source<'d, 's>>,
 ) -> Result<(), CheckError>
     ensures evaluated { OnOk result (Adds walk.entry
-        (λ a c. reference_evaluates (view walk.entry.root.now) a (view schema.now)
+        (λ a c. reference_evaluates (view walk.entry.whole.now.root.now) a (view schema.now)
         (view value.now) c)
         sources.old.items sources.new.items) }
     ensures within { OnOk result (StaysWithin walk.entry sources.old.items sources.new.items) }
@@ -470,7 +471,7 @@ fn add_target<'d, 's>(
     sources: &mut Vec<Source<'d, 's>>,
 ) -> Result<(), CheckError>
     ensures evaluated { OnOk result (Adds walk.entry
-        (λ a c. target_evaluates (view walk.entry.root.now) keyword a (view schema.now)
+        (λ a c. target_evaluates (view walk.entry.whole.now.root.now) keyword a (view schema.now)
         (view value.now) c)
         sources.old.items sources.new.items) }
     ensures within { OnOk result (StaysWithin walk.entry sources.old.items sources.new.items) }

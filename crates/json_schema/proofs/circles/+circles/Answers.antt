@@ -47,7 +47,7 @@ settles-returns t c =
     let inner = c.in-Ok.inner in
     let s = view c.args.schema.now in
     subst (λ b. IfOk c.reference_settles.result (λ is. is ≡ b)) (all_settled w inner c.in-Ok.ensures s c.in_ok-lists.lists
-    c.in_ok-singles.singles c.in_ok-dependents.dependents (reference_passes (view inner.root.now) (settles_in inner) s)
+    c.in_ok-singles.singles c.in_ok-dependents.dependents (reference_passes (view inner.whole.now.root.now) (settles_in inner) s)
     c.in_ok-lists.ensures c.in_ok-singles.ensures c.in_ok-dependents.ensures refl c.if-not-lists.false c.if-not-singles.false
     c.if-not-dependents.false) c.reference_settles.ensures
 

@@ -40,12 +40,12 @@ refused_keyword-returns-in-Some t c =
     let f = c.form_at.result in
     let named : f ≡ form_at (encode_utf8_all (text p.0.now)) = c.form_at.ensures
     ∙ ap form_at (text_bytes p.0.now c.as_str.result.now c.as_str.ensures.value) in
-    let misfits : fits (view c.args.document.root.now) c.args.is_whole f (view p.1.now) ≡ false = subst
-    (λ o. Refuses (fits (view c.args.document.root.now) c.args.is_whole f (view p.1.now)) (Ok o)) c.in-Some.is c.in_ok-place.ensures in
-    sym c.loop-name.invariant ∙ (keyword_turn (view c.args.document.root.now) c.args.is_whole ps i p c.loop-name-test.true c.loop-name-item.is
-    ∙ (ap (λ g. fits (view c.args.document.root.now) c.args.is_whole g (view p.1.now) && keywords_fit (view c.args.document.root.now) c.args.is_whole
+    let misfits : fits (view c.args.document.whole.now.root.now) c.args.is_whole f (view p.1.now) ≡ false = subst
+    (λ o. Refuses (fits (view c.args.document.whole.now.root.now) c.args.is_whole f (view p.1.now)) (Ok o)) c.in-Some.is c.in_ok-place.ensures in
+    sym c.loop-name.invariant ∙ (keyword_turn (view c.args.document.whole.now.root.now) c.args.is_whole ps i p c.loop-name-test.true c.loop-name-item.is
+    ∙ (ap (λ g. fits (view c.args.document.whole.now.root.now) c.args.is_whole g (view p.1.now) && keywords_fit (view c.args.document.whole.now.root.now) c.args.is_whole
     (members_listed (drop (i + 1) ps))) (sym named)
-    ∙ ap (λ b. b && keywords_fit (view c.args.document.root.now) c.args.is_whole (members_listed (drop (i + 1) ps))) misfits))
+    ∙ ap (λ b. b && keywords_fit (view c.args.document.whole.now.root.now) c.args.is_whole (members_listed (drop (i + 1) ps))) misfits))
 
 pub refused_keyword-loop-name-preserved : goal.refused_keyword-loop-name-preserved
 refused_keyword-loop-name-preserved t c =
@@ -55,39 +55,39 @@ refused_keyword-loop-name-preserved t c =
     let f = c.form_at.result in
     let named : f ≡ form_at (encode_utf8_all (text p.0.now)) = c.form_at.ensures
     ∙ ap form_at (text_bytes p.0.now c.as_str.result.now c.as_str.ensures.value) in
-    let good : fits (view c.args.document.root.now) c.args.is_whole f (view p.1.now) ≡ true = subst
-    (λ o. Refuses (fits (view c.args.document.root.now) c.args.is_whole f (view p.1.now)) (Ok o)) c.in_default.is c.in_ok-place.ensures in
-    sym (keyword_turn (view c.args.document.root.now) c.args.is_whole ps i p c.loop-name-test.true c.loop-name-item.is
-    ∙ (ap (λ g. fits (view c.args.document.root.now) c.args.is_whole g (view p.1.now) && keywords_fit (view c.args.document.root.now) c.args.is_whole
+    let good : fits (view c.args.document.whole.now.root.now) c.args.is_whole f (view p.1.now) ≡ true = subst
+    (λ o. Refuses (fits (view c.args.document.whole.now.root.now) c.args.is_whole f (view p.1.now)) (Ok o)) c.in_default.is c.in_ok-place.ensures in
+    sym (keyword_turn (view c.args.document.whole.now.root.now) c.args.is_whole ps i p c.loop-name-test.true c.loop-name-item.is
+    ∙ (ap (λ g. fits (view c.args.document.whole.now.root.now) c.args.is_whole g (view p.1.now) && keywords_fit (view c.args.document.whole.now.root.now) c.args.is_whole
     (members_listed (drop (i + 1) ps))) (sym named)
-    ∙ ap (λ b. b && keywords_fit (view c.args.document.root.now) c.args.is_whole (members_listed (drop (i + 1) ps))) good))
+    ∙ ap (λ b. b && keywords_fit (view c.args.document.whole.now.root.now) c.args.is_whole (members_listed (drop (i + 1) ps))) good))
     ∙ c.loop-name.invariant
 
 pub refused_in_list-returns-then-not-is_some_item : goal.refused_in_list-returns-then-not-is_some_item
 refused_in_list-returns-then-not-is_some_item t c =
     let ys = c.as_slice-schemas.result.now in
     let none : is_some_item (items_view ys) ≡ false = sym c.is_some_item.ensures ∙ c.if-not-is_some_item.true in
-    sym (list_part (view c.args.document.root.now) c.args.schemas.now c.in-Array.schemas ys c.in-Array.is c.as_slice-schemas.ensures.value)
-    ∙ ap (λ b. b && are_schemas (view c.args.document.root.now) (items_view ys)) none
+    sym (list_part (view c.args.document.whole.now.root.now) c.args.schemas.now c.in-Array.schemas ys c.in-Array.is c.as_slice-schemas.ensures.value)
+    ∙ ap (λ b. b && are_schemas (view c.args.document.whole.now.root.now) (items_view ys)) none
 
 pub refused_in_list-returns : goal.refused_in_list-returns
 refused_in_list-returns t c =
     let ys = c.as_slice-schemas.result.now in
     let some : is_some_item (items_view ys) ≡ true = sym c.is_some_item.ensures ∙ c.if-not-is_some_item.false in
     subst (λ b. Refuses b c.refused_item.result)
-    (sym (ap (λ b. b && are_schemas (view c.args.document.root.now) (items_view ys)) some)
-    ∙ list_part (view c.args.document.root.now) c.args.schemas.now c.in-Array.schemas ys c.in-Array.is c.as_slice-schemas.ensures.value)
+    (sym (ap (λ b. b && are_schemas (view c.args.document.whole.now.root.now) (items_view ys)) some)
+    ∙ list_part (view c.args.document.whole.now.root.now) c.args.schemas.now c.in-Array.schemas ys c.in-Array.is c.as_slice-schemas.ensures.value)
     c.refused_item.ensures
 
 pub refused_in_patterns-returns-in-Some : goal.refused_in_patterns-returns-in-Some
 refused_in_patterns-returns-in-Some t c =
     let w = view c.args.schemas.now in
     let none : has_patterns w ≡ false = subst (λ o. Refuses (has_patterns w) (Ok o)) c.in-Some.is c.in_ok-place.ensures in
-    ap (λ b. b && is_schema_map (view c.args.document.root.now) w) none
+    ap (λ b. b && is_schema_map (view c.args.document.whole.now.root.now) w) none
 
 pub refused_in_patterns-returns : goal.refused_in_patterns-returns
 refused_in_patterns-returns t c =
     let w = view c.args.schemas.now in
     let all : has_patterns w ≡ true = subst (λ o. Refuses (has_patterns w) (Ok o)) c.in_default.is c.in_ok-place.ensures in
-    subst (λ b. Refuses b c.refused_in_map.result) (sym (ap (λ b. b && is_schema_map (view c.args.document.root.now) w) all))
+    subst (λ b. Refuses b c.refused_in_map.result) (sym (ap (λ b. b && is_schema_map (view c.args.document.whole.now.root.now) w) all))
     c.refused_in_map.ensures

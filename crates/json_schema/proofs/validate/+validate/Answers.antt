@@ -111,7 +111,7 @@ violation_in-returns-then-refuses_all t c =
     let s = view c.args.schema.now in
     let v = view c.args.value.now in
     before c.args.walk inner c.in_ok-inner.ensures s v (Ok (Some c.of_schema.result))
-    (reported (view inner.root.now) (suc inner.steps) s v c.of_schema.result _ _ c.of_schema.ensures
+    (reported (view inner.whole.now.root.now) (suc inner.steps) s v c.of_schema.result _ _ c.of_schema.ensures
     (refused (sym c.refuses_all.ensures ∙ c.if-refuses_all.true)))
 
 pub violation_in-returns-in-Some : goal.violation_in-returns-in-Some
@@ -120,7 +120,7 @@ violation_in-returns-in-Some t c =
     let s = view c.args.schema.now in
     let v = view c.args.value.now in
     before c.args.walk inner c.in_ok-inner.ensures s v (Ok (Some c.in_ok-of_keyword.field-0))
-    (reported (view inner.root.now) (suc inner.steps) s v c.in_ok-of_keyword.field-0 _ _ c.in_ok-of_keyword.ensures
+    (reported (view inner.whole.now.root.now) (suc inner.steps) s v c.in_ok-of_keyword.field-0 _ _ c.in_ok-of_keyword.ensures
     (unmet c.in-Some.keyword (subst (λ o. IsUnmet s v o) c.in-Some.is c.in_ok-keyword.ensures)))
 
 pub violation_in-returns-in-Some-2 : goal.violation_in-returns-in-Some-2
@@ -129,7 +129,7 @@ violation_in-returns-in-Some-2 t c =
     let s = view c.args.schema.now in
     let v = view c.args.value.now in
     before c.args.walk inner c.in_ok-inner.ensures s v (Ok (Some c.in_ok-of_keyword-2.field-0))
-    (reported (view inner.root.now) (suc inner.steps) s v c.in_ok-of_keyword-2.field-0 _ _ c.in_ok-of_keyword-2.ensures
+    (reported (view inner.whole.now.root.now) (suc inner.steps) s v c.in_ok-of_keyword-2.field-0 _ _ c.in_ok-of_keyword-2.ensures
     (not_applied c.in-Some-2.keyword (subst (λ o. IsUnapplied inner tests s v o) c.in-Some-2.is c.in_ok-keyword-2.ensures)))
 
 pub violation_in-returns-in-Some-3 : goal.violation_in-returns-in-Some-3
@@ -170,7 +170,7 @@ violation_in-returns-in-Some-7 t c =
     let s = view c.args.schema.now in
     let v = view c.args.value.now in
     before c.args.walk inner c.in_ok-inner.ensures s v (Ok (Some c.in-Some-7.found))
-    (subst (λ o. Finds inner (λ f. reference_accepts (view inner.root.now) f s v) s v (Ok o)) c.in-Some-7.is c.in_ok-found-5.ensures)
+    (subst (λ o. Finds inner (λ f. reference_accepts (view inner.whole.now.root.now) f s v) s v (Ok o)) c.in-Some-7.is c.in_ok-found-5.ensures)
 
 pub violation_in-returns-in-Some-8 : goal.violation_in-returns-in-Some-8
 violation_in-returns-in-Some-8 t c =
@@ -193,14 +193,14 @@ violation_in-returns t c =
     (subst (λ o. Finds inner (λ f. applies f kw.If s v) s v (Ok o)) c.in_default-4.is c.in_ok-found-2.ensures)
     (subst (λ o. Finds inner (λ f. applies f kw.DependentSchemas s v) s v (Ok o)) c.in_default-5.is c.in_ok-found-3.ensures)
     (subst (λ o. Finds inner (λ f. applies f kw.PatternProperties s v) s v (Ok o)) c.in_default-6.is c.in_ok-found-4.ensures)
-    (subst (λ o. Finds inner (λ f. reference_accepts (view inner.root.now) f s v) s v (Ok o)) c.in_default-7.is
+    (subst (λ o. Finds inner (λ f. reference_accepts (view inner.whole.now.root.now) f s v) s v (Ok o)) c.in_default-7.is
     c.in_ok-found-5.ensures)
     (subst (λ o. Finds inner (λ f. parts_accepted f s v) s v (Ok o)) c.in_default-8.is c.in_ok-found-6.ensures)
     c.in_rest.ensures)
 
 pub is_accepted-returns : goal.is_accepted-returns
 is_accepted-returns t c g = c.is_nothing.ensures
-    ∙ verdict (view c.args.walk.root.now) c.args.walk.steps (view c.args.schema.now) (view c.args.value.now) c.in_ok-found.found
+    ∙ verdict (view c.args.walk.whole.now.root.now) c.args.walk.steps (view c.args.schema.now) (view c.args.value.now) c.in_ok-found.found
     c.in_ok-found.ensures g
 
 pub unmet_test-returns-then-not-any : goal.unmet_test-returns-then-not-any
@@ -582,7 +582,7 @@ in_found-returns-in-Some t c =
       at = ap (find k) (sym (ap members_listed c.as_slice-members.ensures.value ∙ c.in_ok-listed.ensures.listed))
           ∙ listed_found ps i p sorted c.loop-key-test.true c.loop-key-item.is;
       placed = entered.1;
-      invalid = subst (λ xs. IsInvalidAt (view w.root.now) w.steps r (view p.1.now) xs (tokens_of old.instance_location))
+      invalid = subst (λ xs. IsInvalidAt (view w.whole.now.root.now) w.steps r (view p.1.now) xs (tokens_of old.instance_location))
           (sym entered.0) inner;
     }
 
@@ -623,13 +623,13 @@ in_reference-returns t c =
     let s = view c.args.schema.now in
     let v = view c.args.value.now in
     both_met w s v c.in_target-2.result
-    (subst (λ o. Finds w (λ f. target_accepts (view w.root.now) kw.Ref f s v) s v (Ok o)) c.in_default.is c.in_ok-found.ensures)
+    (subst (λ o. Finds w (λ f. target_accepts (view w.whole.now.root.now) kw.Ref f s v) s v (Ok o)) c.in_default.is c.in_ok-found.ensures)
     c.in_target-2.ensures
 
 pub in_target-returns-in_default : goal.in_target-returns-in_default
 in_target-returns-in_default t c g =
     let w = c.args.walk in
-    no_reference (view w.root.now) (says w g) (view c.args.schema.now) (view c.args.value.now) c.args.keyword
+    no_reference (view w.whole.now.root.now) (says w g) (view c.args.schema.now) (view c.args.value.now) c.args.keyword
     (ap (option_map (λ x. view x.now)) (sym c.in_default.is) ∙ c.in_ok-part.ensures)
 
 pub in_target-returns-in_default-2 : goal.in_target-returns-in_default-2
@@ -637,7 +637,7 @@ in_target-returns-in_default-2 t c g =
     let w = c.args.walk in
     let v = view c.args.value.now in
     let r = view c.in-Some.part.now in
-    reference_met (view w.root.now) (says w g) (view c.args.schema.now) v r c.args.keyword
+    reference_met (view w.whole.now.root.now) (says w g) (view c.args.schema.now) v r c.args.keyword
     (ap (option_map (λ x. view x.now)) (sym c.in-Some.is) ∙ c.in_ok-part.ensures)
     (subst (λ o. Judges w r v (Ok o)) c.in_default-2.is c.in_ok-found.ensures g)
 
@@ -648,7 +648,7 @@ in_target-returns t c =
     let v = view c.args.value.now in
     let r = view c.in-Some.part.now in
     let inner = subst (λ o. Judges w r v (Ok o)) c.in-Some-2.is c.in_ok-found.ensures in
-    placed w (λ f. target_accepts (view w.root.now) c.args.keyword f s v) s v c.enter_keyword.new.self _ _ c.in_ok-enter_keyword.ensures
+    placed w (λ f. target_accepts (view w.whole.now.root.now) c.args.keyword f s v) s v c.enter_keyword.new.self _ _ c.in_ok-enter_keyword.ensures
     (in_reference c.args.keyword c.requires (sym (ap (option_map (λ x. view x.now)) (sym c.in-Some.is) ∙ c.in_ok-part.ensures)) inner)
 
 pub in_members-returns-in-Some-2 : goal.in_members-returns-in-Some-2
@@ -952,8 +952,8 @@ unevaluated::in_rest-returns-in_default-schema_at t c g =
     let s = view c.args.schema.now in
     let same : object (members_view c.in-Object.members.entries) ≡ view c.args.value.now
     = sym (ap view c.in-Object.is ∙ view_Object c.in-Object.members) in
-    subst (λ x. rest_accepted (view w.root.now) (answers_in w g) s x ≡ true) same
-    (no_member_rest (view w.root.now) (answers_in w g) s (members_view c.in-Object.members.entries) c.in_default-schema_at.ensures)
+    subst (λ x. rest_accepted (view w.whole.now.root.now) (answers_in w g) s x ≡ true) same
+    (no_member_rest (view w.whole.now.root.now) (answers_in w g) s (members_view c.in-Object.members.entries) c.in_default-schema_at.ensures)
 
 pub unevaluated::in_rest-returns-in_default-schema_at-2 : goal.unevaluated::in_rest-returns-in_default-schema_at-2
 unevaluated::in_rest-returns-in_default-schema_at-2 t c g =
@@ -961,8 +961,8 @@ unevaluated::in_rest-returns-in_default-schema_at-2 t c g =
     let s = view c.args.schema.now in
     let same : array (items_view c.in-Array.items.items) ≡ view c.args.value.now
     = sym (ap view c.in-Array.is ∙ view_Array c.in-Array.items) in
-    subst (λ x. rest_accepted (view w.root.now) (answers_in w g) s x ≡ true) same
-    (no_item_rest (view w.root.now) (answers_in w g) s (items_view c.in-Array.items.items) c.in_default-schema_at-2.ensures)
+    subst (λ x. rest_accepted (view w.whole.now.root.now) (answers_in w g) s x ≡ true) same
+    (no_item_rest (view w.whole.now.root.now) (answers_in w g) s (items_view c.in-Array.items.items) c.in_default-schema_at-2.ensures)
 
 pub unevaluated::in_rest-returns-in_ok-sorted-in-Object : goal.unevaluated::in_rest-returns-in_ok-sorted-in-Object
 unevaluated::in_rest-returns-in_ok-sorted-in-Object t c =
@@ -973,11 +973,11 @@ unevaluated::in_rest-returns-in_ok-sorted-in-Object t c =
     let ms = members_listed c.as_slice.result.now in
     let same : object ms ≡ v = ap object (ap members_listed c.as_slice.ensures.value ∙ c.in_ok-sorted-in-Object.ensures)
     ∙ sym (ap view c.in-Object.is ∙ view_Object c.in-Object.members) in
-    let told : (g : Answers) (k : Child) → sources_evaluate g xs k ≡ others_evaluate (view w.root.now) (answers_in w g) s v k
+    let told : (g : Answers) (k : Child) → sources_evaluate g xs k ≡ others_evaluate (view w.whole.now.root.now) (answers_in w g) s v k
     = λ g k. ap (λ l. sources_evaluate g l k) c.as_slice-in-Object.ensures.value ∙ c.in_ok-sources-in-Object.ensures.evaluated g k in
     subst (λ x. FindsRest w s x c.in_members_left.result) same
     (members_found w s (view c.in-Some.rest.now) ms xs c.in_members_left.result
-    (subst (λ x. (g : Answers) (k : Child) → sources_evaluate g xs k ≡ others_evaluate (view w.root.now) (answers_in w g) s x k) (sym same)
+    (subst (λ x. (g : Answers) (k : Child) → sources_evaluate g xs k ≡ others_evaluate (view w.whole.now.root.now) (answers_in w g) s x k) (sym same)
     told) c.in-Some.ensures c.in_members_left.ensures)
 
 pub unevaluated::in_rest-returns-in_ok-sources-in-Array : goal.unevaluated::in_rest-returns-in_ok-sources-in-Array
@@ -989,11 +989,11 @@ unevaluated::in_rest-returns-in_ok-sources-in-Array t c =
     let us = items_view c.as_slice-in-Array.result.now in
     let same : array us ≡ v = ap (λ ys. array (items_view ys)) c.as_slice-in-Array.ensures.value
     ∙ sym (ap view c.in-Array.is ∙ view_Array c.in-Array.items) in
-    let told : (g : Answers) (k : Child) → sources_evaluate g xs k ≡ others_evaluate (view w.root.now) (answers_in w g) s v k
+    let told : (g : Answers) (k : Child) → sources_evaluate g xs k ≡ others_evaluate (view w.whole.now.root.now) (answers_in w g) s v k
     = λ g k. ap (λ l. sources_evaluate g l k) c.as_slice-in-Array-2.ensures.value ∙ c.in_ok-sources-in-Array.ensures.evaluated g k in
     subst (λ x. FindsRest w s x c.in_items_left.result) same
     (items_found w s (view c.in-Some-schema_at.rest.now) us xs c.in_items_left.result
-    (subst (λ x. (g : Answers) (k : Child) → sources_evaluate g xs k ≡ others_evaluate (view w.root.now) (answers_in w g) s x k) (sym same)
+    (subst (λ x. (g : Answers) (k : Child) → sources_evaluate g xs k ≡ others_evaluate (view w.whole.now.root.now) (answers_in w g) s x k) (sym same)
     told) c.in-Some-schema_at.ensures c.in_items_left.ensures)
 
 -- ---- schemas that evaluate
@@ -1171,7 +1171,7 @@ unevaluated::add_dependent-returns-clause-evaluated t c =
 
 pub unevaluated::add_reference-returns-clause-evaluated : goal.unevaluated::add_reference-returns-clause-evaluated
 unevaluated::add_reference-returns-clause-evaluated t c =
-    let root = view c.args.walk.root.now in
+    let root = view c.args.walk.whole.now.root.now in
     let s = view c.args.schema.now in
     let v = view c.args.value.now in
     adds_both c.args.walk (λ a k. target_evaluates root kw.Ref a s v k) (λ a k. target_evaluates root kw.DynamicRef a s v k)
@@ -1184,7 +1184,7 @@ unevaluated::add_reference-returns-clause-within t c n h k =
 
 pub unevaluated::add_target-returns-in_default-clause-evaluated : goal.unevaluated::add_target-returns-in_default-clause-evaluated
 unevaluated::add_target-returns-in_default-clause-evaluated t c =
-    let root = view c.args.walk.root.now in
+    let root = view c.args.walk.whole.now.root.now in
     let s = view c.args.schema.now in
     let v = view c.args.value.now in
     adds_none c.args.walk (λ a k. target_evaluates root c.args.keyword a s v k) _
@@ -1193,7 +1193,7 @@ unevaluated::add_target-returns-in_default-clause-evaluated t c =
 
 pub unevaluated::add_target-returns-clause-evaluated : goal.unevaluated::add_target-returns-clause-evaluated
 unevaluated::add_target-returns-clause-evaluated t c =
-    let root = view c.args.walk.root.now in
+    let root = view c.args.walk.whole.now.root.now in
     let s = view c.args.schema.now in
     let v = view c.args.value.now in
     let r = view c.in-Some.part.now in

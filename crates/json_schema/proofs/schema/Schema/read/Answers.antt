@@ -4,9 +4,12 @@ use Rattle.json_schema.specs.Anchors.{all_named, repeated}
 use Rattle.json_schema.proofs.Naming.{anchors_had}
 use Rattle.json_schema.proofs.schema.Schema.read.Goals as goal
 
+pub invariant_of-whole : goal.invariant_of-whole
+invariant_of-whole c = record {
+  gathered = anchors_had (view c.args.tree.now) c.in_ok-anchors.anchors.items c.in_ok-anchors.ensures;
+}
+
 pub invariant_of-document : goal.invariant_of-document
 invariant_of-document c = record {
-  gathered = anchors_had (view c.args.tree.now) c.as_slice-2.result.now
-      (ap all_named c.as_slice-2.ensures.value ∙ c.in_ok-anchors.ensures);
   twice = c.in_ok-again.ensures ∙ ap repeated (ap all_named c.as_slice.ensures.value ∙ c.in_ok-anchors.ensures);
 }
