@@ -1,5 +1,5 @@
 -- One line that can't be checked, or is cut off.
-use Rattle.std.proofs.Common.{◌≡◌, ℕ, [], List, Option, Some, Result, Ok, Err, inl, inr, refl}
+use Rattle.std.proofs.Common.{ℕ, [], List, Option, Some, Result, Ok, Err, inl, inr, refl}
 use Rattle.std.proofs.KnownBytes.{Appends-nil, Keeps-refl}
 use Rattle.std.proofs.lemmas.Bool.{false≢true}
 use Rattle.std.specs.Io.KnownBytes.{Appends, Keeps}
@@ -10,7 +10,7 @@ use Rattle.tinyjson.specs.Tree.{Tree}
 use Rattle.tinyjson.specs.Written.{Written, WrittenPart}
 use Rattle.json_line.specs.Line.{line_of}
 use Rattle.json_schema.specs.Report.{report_tree}
-use Rattle.json_schema.specs.Run.{Handles, report_of, telling_of, outcome_of}
+use Rattle.json_schema.specs.Run.{Handles}
 use Rattle.json_schema.specs.Told.{told_line}
 use Rattle.json_schema.specs.Verdicts.{LineGives}
 use Rattle.json_schema.specs.declared.lines.Outcome.{Outcome}

@@ -1,5 +1,5 @@
 -- What patterns answer is right.
-use Rattle.std.proofs.Common.{◌≡◌, ◌↔◌, ℕ, Bool, true, false, IsTrue, List, Option, Some, None, is_some, Global, String, string_bytes}
+use Rattle.std.proofs.Common.{◌≡◌, ◌↔◌, ℕ, Bool, true, false, IsTrue, List, Option, Some, None, Global, String, string_bytes}
 use Rattle.std.proofs.Common.{sym, ap, ap₂, ◌∙◌}
 use Rattle.std.specs.Str.{chars}
 use Rattle.i_regexp.proofs.Callers.{matched_as, reads_pattern, reads_found, is_pattern_none, is_found_none}

@@ -1,6 +1,6 @@
 -- The report of a violation, from the members that are put together.
 use Rattle.std.proofs.Common.{◌≡◌, ℕ, ◌==◌, Bool, true, false, cond, List, [], ◌∷◌, ◌++◌, Option, Some, None, String, Global, codes, map}
-use Rattle.std.proofs.Common.{IsTrue, encode_utf8_all, string_bytes, refl, sym, ap, ◌∙◌}
+use Rattle.std.proofs.Common.{IsTrue, encode_utf8_all, string_bytes, refl, ap, ◌∙◌}
 use Rattle.std.proofs.lemmas.Bool.{and_parts, and_from}
 use Rattle.std.proofs.Math.Utf8.{encode}
 use Rattle.std.specs.Str.{all_scalars, chars}

@@ -5,7 +5,6 @@ use Rattle.std.proofs.Common.{refl, sym, ap, ◌∙◌, subst, arith, add-one}
 use Rattle.std.specs.Option.{option_map_or}
 use Rattle.tinyjson.proofs.Callers.{no_object, no_array}
 use Rattle.tinyjson.specs.Access.{JsonMap}
-use Rattle.tinyjson.specs.Index.{tree_at_key}
 use Rattle.tinyjson.specs.Tree.{Tree, array, object, Items, no_items, item, Members, no_members, member}
 use Rattle.tinyjson.specs.View.{view, items_view}
 use Rattle.tinyjson.specs.declared.value.JsonValue.{JsonValue}

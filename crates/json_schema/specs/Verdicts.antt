@@ -1,5 +1,5 @@
 -- What a check says of a text.
-use Rattle.std.specs.Prelude.{◌≡◌, ℕ, List, Option, Some, None, Result, Ok, Err}
+use Rattle.std.specs.Prelude.{◌≡◌, ℕ, List, Option, Some, None, Ok, Err}
 use Rattle.std.specs.Str.{IsUtf8, chars}
 use Rattle.tinyjson.specs.Error.{error_kind}
 use Rattle.tinyjson.specs.Grammar.{IsText, IsAccepted}
@@ -19,7 +19,7 @@ abbrev pub depth_limit : Option ℕ
 depth_limit = Some 100
 
 abbrev pub step_limit : ℕ
-step_limit = 220
+step_limit = 200
 
 -- what the check of the tree t by the schema s says
 abbrev pub ValueGives : Tree → Tree → Verdict → Type 0

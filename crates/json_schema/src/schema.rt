@@ -78,7 +78,7 @@ impl<'s> Schema<'s> {
     /// It calls itself for each schema that a schema applies, so it takes stack as these are applied in one another.
     ///
     /// ```
-    /// let place = schema.invalid_place(&value, 220, alloc)?;
+    /// let place = schema.invalid_place(&value, 200, alloc)?;
     /// ```
     pub fn invalid_place(
         &self,

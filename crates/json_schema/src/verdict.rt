@@ -17,7 +17,7 @@ use tinyjson::{JsonParseError, JsonValue};
 pub const DEPTH_LIMIT: usize = 100;
 
 /// How many schemas may be applied in one another: so many take less than 256 KB of stack.
-const STEP_LIMIT: usize = 220;
+const STEP_LIMIT: usize = 200;
 
 /// What a check says of a text.
 #[derive(Debug, Drop)]
@@ -37,7 +37,7 @@ pub enum Cause {
     NotUtf8,
     /// It is no JSON text, or more than 100 containers are open in it at once.
     NotJson(JsonParseError),
-    /// Its value goes through more than 220 schemas in one another.
+    /// Its value goes through more than 200 schemas in one another.
     TooDeep,
 }
 

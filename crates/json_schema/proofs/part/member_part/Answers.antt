@@ -1,4 +1,4 @@
-use Rattle.std.proofs.Common.{◌≡◌, Some, None, option_map, sym, ap, ◌∙◌}
+use Rattle.std.proofs.Common.{option_map, sym, ap, ◌∙◌}
 use Rattle.std.specs.Str.{chars}
 use Rattle.tinyjson.specs.View.{view}
 use Rattle.json_schema.proofs.Parts.{by_property, by_additional, no_member}

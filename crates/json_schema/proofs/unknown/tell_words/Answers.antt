@@ -1,4 +1,4 @@
-use Rattle.std.proofs.Common.{◌≡◌, ◌++◌, ◌∙◌, List, ℕ, map, sym, ap, subst}
+use Rattle.std.proofs.Common.{◌≡◌, ◌++◌, ◌∙◌, map, sym, ap, subst}
 use Rattle.std.specs.Str.{chars}
 use Rattle.tinyjson.proofs.Callers.{fails, goes}
 use Rattle.tinyjson.specs.View.{text}

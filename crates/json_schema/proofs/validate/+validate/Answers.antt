@@ -19,7 +19,7 @@ use Rattle.json_schema.specs.Applied.{found_pass, patterns_accept}
 use Rattle.json_schema.specs.Applied.{applies, parts_accepted, tests, contains_some, contains_at_most, contains_at_least, any_of, one_of}
 use Rattle.json_schema.specs.Applied.{branch_accepts, some_accepts, accepting, keys_pass, passing, members_in, items_passing}
 use Rattle.json_schema.specs.Evaluated.{Answers, Child, member_at, item_at, value_of, others_evaluate, rest_accepted}
-use Rattle.json_schema.specs.Evaluated.{members_pass, items_pass}
+use Rattle.json_schema.specs.Evaluated.{members_pass}
 use Rattle.json_schema.specs.Evaluated.{some_evaluate, accepting_evaluate, branch_evaluates, dependents_evaluate, target_evaluates}
 use Rattle.json_schema.specs.Keywords.{IsUnmet}
 use Rattle.json_schema.specs.Parts.{item_schema}
