@@ -551,7 +551,7 @@ BY_LINES = [
     ('{"type":"integer"}', b'[1,]\n"a"\n{\n3\n', [(2, "", "/type")], ["line 1, col 3: Invalid character: ]", "line 3, col 1: Unexpected EOF"], 3),
     ("true", b'1\n"\xff"\n[]\n\xc3', [], ["line 2: not UTF-8", "line 4: not UTF-8"], 3),
     ("true", b"[" * 101 + b"\n" + b"[" * 100 + b"]" * 100, [], ["line 1, col 100: Nesting is too deep at '['"], 3),
-    ('{"items":{"allOf":[{"$ref":"#"}]}}', b"[" * 75 + b"]" * 75 + b"\n" + b"[" * 74 + b"]" * 74, [], ["line 1: too many schemas are applied in one another"], 3),
+    ('{"items":{"allOf":[{"$ref":"#"}]}}', b"[" * 68 + b"]" * 68 + b"\n" + b"[" * 67 + b"]" * 67, [], ["line 1: too many schemas are applied in one another"], 3),
     # Nothing in a value ends a line.
     ('{"additionalProperties":false}', b'{"x\\nvalid":1}\n{"\\u001b":1}', [(1, "/x\nvalid", "/additionalProperties"), (2, "/\x1b", "/additionalProperties")], [], 1),
     ('{"items":{"properties":{"a":{"minimum":0}}}}', b'[{"a":0}]\n[{},{"a":-1}]', [(2, "/1/a", "/items/properties/a/minimum")], [], 1),
