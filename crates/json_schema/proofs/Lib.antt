@@ -12,6 +12,7 @@ pub mod Parts
 pub mod Patterns
 pub mod Places
 pub mod References
+pub mod Refusals
 pub mod Reports
 pub mod Running
 pub mod Sourcing

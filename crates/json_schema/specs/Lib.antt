@@ -12,6 +12,7 @@ pub mod Patterns
 pub mod Places
 pub mod Reading
 pub mod References
+pub mod Refused
 pub mod Report
 pub mod Run
 pub mod Schemas

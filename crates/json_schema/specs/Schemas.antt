@@ -1,9 +1,7 @@
 -- Which trees are schemas that can be applied.
-use Rattle.std.specs.Prelude.{◌≡◌, Bool, true, false, ◌&&◌, Option, Some, None, Result, Ok, Err, encode_utf8_all}
-use Rattle.std.specs.declared.alloc.AllocError.{AllocError}
+use Rattle.std.specs.Prelude.{Bool, true, false, ◌&&◌, encode_utf8_all}
 use Rattle.tinyjson.specs.Access.{is_boolean, is_number, is_string, is_array}
 use Rattle.tinyjson.specs.Tree.{Tree, boolean, array, object, Items, no_items, item, Members, no_members, member}
-use Rattle.json_pointer.specs.declared.pointer.Pointer.{Pointer}
 use Rattle.json_schema.specs.Forms.{form_at, is_count, is_divisor_number, are_types, is_key_list, is_key_map, is_dialect}
 use Rattle.json_schema.specs.Forms.{is_some_item, is_pattern_text, has_patterns}
 use Rattle.json_schema.specs.Anchors.{is_own_name}
@@ -63,10 +61,5 @@ abbrev mutual
   have_schemas root (member k t ms) = is_schema root false t && have_schemas root ms
 
 abbrev pub fits : Tree → Bool → Form → Tree → Bool
-fits root whole f w = has_form f w (is_schema root false w) (is_schema_list root w) (is_schema_map root w) (leads root w) (is_own_name root w) whole
-
--- No place, and what was asked is so; or a place, and it is not.
-abbrev pub Refuses : Bool → Result (Option Pointer) AllocError → Type 0
-Refuses is (Ok None) = is ≡ true
-Refuses is (Ok (Some p)) = is ≡ false
-Refuses is (Err e) = Unit {0}
+fits root whole f w =
+    has_form f w (is_schema root false w) (is_schema_list root w) (is_schema_map root w) (leads root w) (is_own_name root w) whole

@@ -1,16 +1,20 @@
 //! Which schemas can be applied, and the place of what can't.
-ghost use Rattle.std.specs.Prelude.{◌≡◌, ◌&&◌, IfOk, true, option_map};
+ghost use Rattle.std.specs.Prelude.{◌≡◌, ◌&&◌, IfOk, true, false, [], option_map};
 ghost use Rattle.std.specs.String.{string_bytes};
 ghost use Rattle.tinyjson.specs.Access.{is_string, is_boolean, is_array, is_number};
+ghost use Rattle.tinyjson.specs.Soundness.{IsSorted};
+ghost use Rattle.tinyjson.specs.Tree.{Tree, array, object};
 ghost use Rattle.tinyjson.specs.View.{view, items_view, members_listed};
 ghost use Rattle.json_schema.specs.Anchors.{is_own_name, is_name};
 ghost use Rattle.json_schema.specs.Forms.{is_count, is_type_name, are_type_names};
 ghost use Rattle.json_schema.specs.Forms.{are_types, are_strings, are_keys, is_key_list, have_key_lists};
 ghost use Rattle.json_schema.specs.Forms.{is_key_map, is_pattern_text, are_patterns, has_patterns};
 ghost use Rattle.json_schema.specs.Forms.{is_dialect, is_name_of_type, is_type_list, is_some_item};
-ghost use Rattle.json_schema.specs.Schemas.{Refuses, is_schema, keywords_fit, fits};
+ghost use Rattle.json_schema.specs.Refused.{Refuses, IsRefusedAt, whole_for, whole_of};
+ghost use Rattle.json_schema.specs.Schemas.{is_schema, keywords_fit, fits};
 ghost use Rattle.json_schema.specs.Schemas.{is_schema_list, is_schema_map, are_schemas};
 ghost use Rattle.json_schema.specs.Schemas.{have_schemas};
+ghost use Rattle.json_schema.specs.declared.form.Form.TheVariants as form;
 
 use crate::anchor::is_plain_name;
 use crate::assertions::is_among;
@@ -34,7 +38,8 @@ pub fn refused_place(
     alloc: Global,
 ) -> Result<Option<Pointer>, AllocError>
     ensures { Refuses
-        (is_schema (view document.entry.whole.now.root.now) true (view document.entry.whole.now.root.now)) result }
+        (is_schema (whole_of document.entry) true (whole_of document.entry))
+        (IsRefusedAt (whole_of document.entry) true form.Schema (whole_of document.entry)) result }
 {
     refused_in(document.whole.root, document, true, alloc)
 }
@@ -47,7 +52,8 @@ fn refused_in(
     is_whole: bool,
     alloc: Global,
 ) -> Result<Option<Pointer>, AllocError>
-    ensures { Refuses (is_schema (view document.entry.whole.now.root.now) is_whole (view schema.now)) result }
+    ensures { Refuses (is_schema (whole_of document.entry) is_whole (view schema.now))
+        (IsRefusedAt (whole_of document.entry) is_whole form.Schema (view schema.now)) result }
 {
     match schema {
         JsonValue::Boolean(_) => Ok(None),
@@ -66,8 +72,11 @@ fn refused_keyword(
     is_whole: bool,
     alloc: Global,
 ) -> Result<Option<Pointer>, AllocError>
-    ensures { Refuses (keywords_fit (view document.entry.whole.now.root.now) is_whole (members_listed keywords.now))
-        result }
+    requires { IsSorted (members_listed keywords.now) }
+    ensures { Refuses
+        (keywords_fit (whole_of document.entry) is_whole (members_listed keywords.now))
+        (IsRefusedAt (whole_of document.entry) is_whole form.Schema
+        (object (members_listed keywords.now))) result }
 {
     for (name, operand) in keywords {
         if let Some(mut place) = misfit(
@@ -93,7 +102,9 @@ fn misfit(
     is_whole: bool,
     alloc: Global,
 ) -> Result<Option<Pointer>, AllocError>
-    ensures { Refuses (fits (view document.entry.whole.now.root.now) is_whole form (view operand.now)) result }
+    ensures { Refuses (fits (whole_of document.entry) is_whole form (view operand.now))
+        (IsRefusedAt (whole_of document.entry) (whole_for is_whole form) form
+        (view operand.now)) result }
 {
     match form {
         Form::Anything => Ok(None),
@@ -112,7 +123,7 @@ fn misfit(
         Form::Schemas => refused_in_list(operand, document, alloc),
         Form::SchemaMap => refused_in_map(operand, document, alloc),
         Form::PatternMap => refused_in_patterns(operand, document, alloc),
-        Form::Base => unless(is_whole && is_string(operand), alloc),
+        Form::Base => unless(is_base(operand, is_whole), alloc),
         Form::Reference => unless(leads(operand, document, alloc)?, alloc),
         Form::Anchor => unless(is_own_name(operand, document), alloc),
     }
@@ -124,7 +135,8 @@ fn refused_in_list(
     document: Document<'_, '_>,
     alloc: Global,
 ) -> Result<Option<Pointer>, AllocError>
-    ensures { Refuses (is_schema_list (view document.entry.whole.now.root.now) (view schemas.now)) result }
+    ensures { Refuses (is_schema_list (whole_of document.entry) (view schemas.now))
+        (IsRefusedAt (whole_of document.entry) false form.Schemas (view schemas.now)) result }
 {
     let JsonValue::Array(schemas) = schemas else {
         return Ok(Some(Pointer::root(alloc)));
@@ -142,7 +154,9 @@ fn refused_item(
     document: Document<'_, '_>,
     alloc: Global,
 ) -> Result<Option<Pointer>, AllocError>
-    ensures { Refuses (are_schemas (view document.entry.whole.now.root.now) (items_view schemas.now)) result }
+    ensures { Refuses (are_schemas (whole_of document.entry) (items_view schemas.now))
+        (IsRefusedAt (whole_of document.entry) false form.Schemas
+        (array (items_view schemas.now))) result }
 {
     for (index, schema) in schemas.iter().enumerate() {
         if let Some(mut place) = refused_in(schema, document, false, alloc)? {
@@ -159,7 +173,8 @@ fn refused_in_map(
     document: Document<'_, '_>,
     alloc: Global,
 ) -> Result<Option<Pointer>, AllocError>
-    ensures { Refuses (is_schema_map (view document.entry.whole.now.root.now) (view schemas.now)) result }
+    ensures { Refuses (is_schema_map (whole_of document.entry) (view schemas.now))
+        (IsRefusedAt (whole_of document.entry) false form.SchemaMap (view schemas.now)) result }
 {
     let JsonValue::Object(schemas) = schemas else {
         return Ok(Some(Pointer::root(alloc)));
@@ -174,7 +189,10 @@ fn refused_member(
     document: Document<'_, '_>,
     alloc: Global,
 ) -> Result<Option<Pointer>, AllocError>
-    ensures { Refuses (have_schemas (view document.entry.whole.now.root.now) (members_listed schemas.now)) result }
+    requires { IsSorted (members_listed schemas.now) }
+    ensures { Refuses (have_schemas (whole_of document.entry) (members_listed schemas.now))
+        (IsRefusedAt (whole_of document.entry) false form.SchemaMap
+        (object (members_listed schemas.now))) result }
 {
     for (key, schema) in schemas {
         if let Some(mut place) = refused_in(schema, document, false, alloc)? {
@@ -193,8 +211,9 @@ fn refused_in_patterns(
     alloc: Global,
 ) -> Result<Option<Pointer>, AllocError>
     ensures { Refuses
-        (has_patterns (view schemas.now) && is_schema_map (view document.entry.whole.now.root.now) (view schemas.now))
-        result }
+        (has_patterns (view schemas.now)
+        && is_schema_map (whole_of document.entry) (view schemas.now))
+        (IsRefusedAt (whole_of document.entry) false form.PatternMap (view schemas.now)) result }
 {
     if let Some(place) = refused_pattern(schemas, alloc)? {
         return Ok(Some(place));
@@ -203,7 +222,8 @@ fn refused_in_patterns(
 }
 
 fn refused_pattern(schemas: &JsonValue, alloc: Global) -> Result<Option<Pointer>, AllocError>
-    ensures { Refuses (has_patterns (view schemas.now)) result }
+    ensures { (root : Tree) → Refuses (has_patterns (view schemas.now))
+        (IsRefusedAt root false form.PatternMap (view schemas.now)) result }
 {
     match schemas {
         JsonValue::Object(schemas) => {
@@ -218,7 +238,9 @@ fn refused_key(
     schemas: &[(&String, &JsonValue)],
     alloc: Global,
 ) -> Result<Option<Pointer>, AllocError>
-    ensures { Refuses (are_patterns (members_listed schemas.now)) result }
+    requires { IsSorted (members_listed schemas.now) }
+    ensures { (root : Tree) → Refuses (are_patterns (members_listed schemas.now))
+        (IsRefusedAt root false form.PatternMap (object (members_listed schemas.now))) result }
 {
     for (key, _) in schemas {
         let is = is_pattern(alloc, key.as_str())?;
@@ -233,7 +255,7 @@ fn refused_key(
 
 /// The place of the whole, unless it fits.
 fn unless(fits: bool, alloc: Global) -> Result<Option<Pointer>, AllocError>
-    ensures { Refuses fits result }
+    ensures { Refuses fits (λ ks. ks ≡ []) result }
 {
     if fits {
         Ok(None)
@@ -244,7 +266,7 @@ fn unless(fits: bool, alloc: Global) -> Result<Option<Pointer>, AllocError>
 
 /// Whether it is a plain name, and not the first one that the document has twice.
 fn is_own_name(value: &JsonValue, document: Document<'_, '_>) -> bool
-    ensures { result ≡ is_own_name (view document.entry.whole.now.root.now) (view value.now) }
+    ensures { result ≡ is_own_name (whole_of document.entry) (view value.now) }
 {
     match value {
         JsonValue::String(name) => is_plain_name(name.as_str())
@@ -260,6 +282,13 @@ fn is_name(again: Option<&String>, name: &str) -> bool
         Some(other) => other.as_str() == name,
         None => false,
     }
+}
+
+/// Whether the value may be that of `$id`: a string, in the whole schema alone.
+fn is_base(value: &JsonValue, is_whole: bool) -> bool
+    ensures { result ≡ is_whole && is_string (view value.now) }
+{
+    is_whole && is_string(value)
 }
 
 fn is_string(value: &JsonValue) -> bool

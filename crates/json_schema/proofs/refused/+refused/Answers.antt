@@ -1,11 +1,21 @@
-use Rattle.std.proofs.Common.{◌≡◌, ◌<◌, ◌+◌, ◌*◌, ◌∙◌, ◌&&◌, true, false, Ok, drop, encode_utf8_all, arith, rules, sym, ap, subst}
-use Rattle.tinyjson.specs.Tree.{tree_depth, items_depth, members_depth}
+use Rattle.std.proofs.Common.{◌≡◌, ◌<◌, ◌+◌, ◌*◌, ◌∙◌, ◌∷◌, ◌&&◌, Bool, true, false, Ok, drop, encode_utf8_all, arith, rules, sym, ap, subst}
+use Rattle.std.specs.Str.{chars}
+use Rattle.tinyjson.proofs.Callers.{view_Array, view_Object}
+use Rattle.tinyjson.specs.Soundness.{IsSorted}
+use Rattle.tinyjson.specs.Tree.{tree_depth, items_depth, members_depth, array, object}
 use Rattle.tinyjson.specs.View.{view, text, items_view, members_listed}
+use Rattle.json_pointer.specs.Tokens.{tokens_of}
 use Rattle.json_schema.specs.Forms.{form_at, is_some_item, has_patterns}
-use Rattle.json_schema.specs.Schemas.{Refuses, fits, keywords_fit, are_schemas, is_schema_map}
+use Rattle.json_schema.specs.Refused.{Refuses, IsRefusedAt, is_some_list, whole_for, whole_of}
+use Rattle.json_schema.specs.Schemas.{fits, is_schema, keywords_fit, are_schemas, have_schemas, is_schema_map}
+use Rattle.json_schema.specs.declared.form.Form.{Form}
+use Rattle.json_schema.specs.declared.form.Form.TheVariants as form
 use Rattle.json_schema.proofs.Depths.{listed_depth, items_depth_at}
 use Rattle.json_schema.proofs.Forms.{keyword_turn, list_part}
+use Rattle.json_schema.proofs.Listed.{listed_sorted}
 use Rattle.json_schema.proofs.Lookups.{text_bytes}
+use Rattle.json_schema.proofs.Refusals.{own_misfit, own_place, in_keyword, in_member, in_item, no_schema, no_list, no_map, refuses_in_patterns}
+use Rattle.json_schema.proofs.Turns.{nth_item, turn_stop}
 use Rattle.json_schema.proofs.refused.+refused.Goals as goal
 
 pub refused_item-refused_in-requires : goal.refused_item-refused_in-requires
@@ -32,20 +42,213 @@ refused_keyword-misfit-requires t c =
     = omega (arith, listed_depth ps c.loop-name.name-index p c.loop-name-test.true c.loop-name-item.is) in
     search rules
 
+pub misfit-returns-in-Text : goal.misfit-returns-in-Text
+misfit-returns-in-Text t c =
+    own_misfit (whole_of c.args.document) c.args.is_whole c.args.form form.Text (view c.args.operand.now) _ _ c.in-Text.is
+    (sym c.is_string.ensures) (sym c.is_string.ensures) c.unless.ensures
+
+pub misfit-returns-in-Truth : goal.misfit-returns-in-Truth
+misfit-returns-in-Truth t c =
+    own_misfit (whole_of c.args.document) c.args.is_whole c.args.form form.Truth (view c.args.operand.now) _ _ c.in-Truth.is
+    (sym c.is_boolean.ensures) (sym c.is_boolean.ensures) c.unless-in-Truth.ensures
+
+pub misfit-returns-in-List : goal.misfit-returns-in-List
+misfit-returns-in-List t c =
+    own_misfit (whole_of c.args.document) c.args.is_whole c.args.form form.List (view c.args.operand.now) _ _ c.in-List.is
+    (sym c.is_array.ensures) (sym c.is_array.ensures) c.unless-in-List.ensures
+
+pub misfit-returns-in-Types : goal.misfit-returns-in-Types
+misfit-returns-in-Types t c =
+    own_misfit (whole_of c.args.document) c.args.is_whole c.args.form form.Types (view c.args.operand.now) _ _ c.in-Types.is
+    (sym c.are_types.ensures) (sym c.are_types.ensures) c.unless-in-Types.ensures
+
+pub misfit-returns-in-Number : goal.misfit-returns-in-Number
+misfit-returns-in-Number t c =
+    own_misfit (whole_of c.args.document) c.args.is_whole c.args.form form.Number (view c.args.operand.now) _ _ c.in-Number.is
+    (sym c.is_number.ensures) (sym c.is_number.ensures) c.unless-in-Number.ensures
+
+pub misfit-returns-in-Divisor : goal.misfit-returns-in-Divisor
+misfit-returns-in-Divisor t c =
+    own_misfit (whole_of c.args.document) c.args.is_whole c.args.form form.Divisor (view c.args.operand.now) _ _ c.in-Divisor.is
+    (sym c.is_divisor_number.ensures) (sym c.is_divisor_number.ensures) c.unless-in-Divisor.ensures
+
+pub misfit-returns-in-Count : goal.misfit-returns-in-Count
+misfit-returns-in-Count t c =
+    own_misfit (whole_of c.args.document) c.args.is_whole c.args.form form.Count (view c.args.operand.now) _ _ c.in-Count.is
+    (sym c.is_count.ensures) (sym c.is_count.ensures) c.unless-in-Count.ensures
+
+pub misfit-returns-in-Dialect : goal.misfit-returns-in-Dialect
+misfit-returns-in-Dialect t c =
+    own_misfit (whole_of c.args.document) c.args.is_whole c.args.form form.Dialect (view c.args.operand.now) _ _ c.in-Dialect.is
+    (sym c.is_dialect.ensures) (sym c.is_dialect.ensures) c.unless-in-Dialect.ensures
+
+pub misfit-returns-in-Base : goal.misfit-returns-in-Base
+misfit-returns-in-Base t c =
+    own_misfit (whole_of c.args.document) c.args.is_whole c.args.form form.Base (view c.args.operand.now) _ _ c.in-Base.is
+    (sym c.is_base.ensures) (sym c.is_base.ensures) c.unless-in-Base.ensures
+
+pub misfit-returns-in-Anchor : goal.misfit-returns-in-Anchor
+misfit-returns-in-Anchor t c =
+    own_misfit (whole_of c.args.document) c.args.is_whole c.args.form form.Anchor (view c.args.operand.now) _ _ c.in-Anchor.is
+    (sym c.is_own_name.ensures) (sym c.is_own_name.ensures) c.unless-in-Anchor.ensures
+
+pub misfit-returns-in_ok-is_key_list-in-Keys : goal.misfit-returns-in_ok-is_key_list-in-Keys
+misfit-returns-in_ok-is_key_list-in-Keys t c =
+    own_misfit (whole_of c.args.document) c.args.is_whole c.args.form form.Keys (view c.args.operand.now) _ _ c.in-Keys.is
+    (sym c.in_ok-is_key_list-in-Keys.ensures) (sym c.in_ok-is_key_list-in-Keys.ensures) c.unless-in-Keys.ensures
+
+pub misfit-returns-in_ok-is_key_map-in-KeyLists : goal.misfit-returns-in_ok-is_key_map-in-KeyLists
+misfit-returns-in_ok-is_key_map-in-KeyLists t c =
+    own_misfit (whole_of c.args.document) c.args.is_whole c.args.form form.KeyLists (view c.args.operand.now) _ _ c.in-KeyLists.is
+    (sym c.in_ok-is_key_map-in-KeyLists.ensures) (sym c.in_ok-is_key_map-in-KeyLists.ensures) c.unless-in-KeyLists.ensures
+
+pub misfit-returns-in_ok-is_pattern_text-in-Pattern : goal.misfit-returns-in_ok-is_pattern_text-in-Pattern
+misfit-returns-in_ok-is_pattern_text-in-Pattern t c =
+    own_misfit (whole_of c.args.document) c.args.is_whole c.args.form form.Pattern (view c.args.operand.now) _ _ c.in-Pattern.is
+    (sym c.in_ok-is_pattern_text-in-Pattern.ensures) (sym c.in_ok-is_pattern_text-in-Pattern.ensures) c.unless-in-Pattern.ensures
+
+pub misfit-returns-in_ok-leads-in-Reference : goal.misfit-returns-in_ok-leads-in-Reference
+misfit-returns-in_ok-leads-in-Reference t c =
+    own_misfit (whole_of c.args.document) c.args.is_whole c.args.form form.Reference (view c.args.operand.now) _ _ c.in-Reference.is
+    (sym c.in_ok-leads-in-Reference.ensures) (sym c.in_ok-leads-in-Reference.ensures) c.unless-in-Reference.ensures
+
+pub refused_in-refused_keyword-requires : goal.refused_in-refused_keyword-requires
+refused_in-refused_keyword-requires t c =
+    let ms = members_listed c.as_slice.result.now in
+    let same : object ms ≡ view c.args.schema.now
+    = ap object (ap members_listed c.as_slice.ensures.value ∙ c.in_ok-sorted-in-Object.ensures)
+    ∙ sym (ap view c.in-Object.is ∙ view_Object c.in-Object.keywords) in
+    let rises : IsSorted ms = subst (λ xs. IsSorted (members_listed xs)) (sym c.as_slice.ensures.value)
+    (listed_sorted c.in_ok-sorted-in-Object.sorted.items c.in-Object.keywords c.in_ok-sorted-in-Object.ensures) in
+    let smaller : 3 * members_depth ms + 3 < 3 * tree_depth (view c.args.schema.now) + 1
+    = subst (λ x. 3 * members_depth ms + 3 < 3 * tree_depth x + 1) same (omega arith) in
+    search rules
+
+pub refused_in-returns-in_ok-sorted-in-Object : goal.refused_in-returns-in_ok-sorted-in-Object
+refused_in-returns-in_ok-sorted-in-Object t c =
+    let same : object (members_listed c.as_slice.result.now) ≡ view c.args.schema.now
+    = ap object (ap members_listed c.as_slice.ensures.value ∙ c.in_ok-sorted-in-Object.ensures)
+    ∙ sym (ap view c.in-Object.is ∙ view_Object c.in-Object.keywords) in
+    subst (λ x. Refuses (is_schema (whole_of c.args.document) c.args.is_whole x) (IsRefusedAt (whole_of c.args.document) c.args.is_whole form.Schema x)
+    c.refused_keyword.result) same c.refused_keyword.ensures
+
+pub refused_in-returns-in_default : goal.refused_in-returns-in_default
+refused_in-returns-in_default t c =
+    no_schema (whole_of c.args.document) c.args.is_whole c.args.schema.now _ c.in_default.not-Boolean c.in_default.not-Object c.root.ensures
+
+pub refused_in_list-returns-in_default : goal.refused_in_list-returns-in_default
+refused_in_list-returns-in_default t c =
+    no_list (whole_of c.args.document) c.args.schemas.now _ c.in_default.not-Array c.root.ensures
+
+pub refused_in_map-returns-in_default : goal.refused_in_map-returns-in_default
+refused_in_map-returns-in_default t c =
+    no_map (whole_of c.args.document) c.args.schemas.now _ c.in_default.not-Object c.root.ensures
+
+pub refused_in_map-refused_member-requires : goal.refused_in_map-refused_member-requires
+refused_in_map-refused_member-requires t c =
+    let ms = members_listed c.as_slice.result.now in
+    let same : object ms ≡ view c.args.schemas.now
+    = ap object (ap members_listed c.as_slice.ensures.value ∙ c.in_ok-sorted.ensures)
+    ∙ sym (ap view c.in-Object.is ∙ view_Object c.in-Object.schemas) in
+    let rises : IsSorted ms = subst (λ xs. IsSorted (members_listed xs)) (sym c.as_slice.ensures.value)
+    (listed_sorted c.in_ok-sorted.sorted.items c.in-Object.schemas c.in_ok-sorted.ensures) in
+    let smaller : 3 * members_depth ms + 2 < 3 * tree_depth (view c.args.schemas.now)
+    = subst (λ x. 3 * members_depth ms + 2 < 3 * tree_depth x) same (omega arith) in
+    search rules
+
+pub refused_in_map-returns : goal.refused_in_map-returns
+refused_in_map-returns t c =
+    let same : object (members_listed c.as_slice.result.now) ≡ view c.args.schemas.now
+    = ap object (ap members_listed c.as_slice.ensures.value ∙ c.in_ok-sorted.ensures)
+    ∙ sym (ap view c.in-Object.is ∙ view_Object c.in-Object.schemas) in
+    subst (λ x. Refuses (is_schema_map (whole_of c.args.document) x) (IsRefusedAt (whole_of c.args.document) false form.SchemaMap x) c.refused_member.result) same
+    c.refused_member.ensures
+
+pub refused_in_list-returns-then-not-is_some_item : goal.refused_in_list-returns-then-not-is_some_item
+refused_in_list-returns-then-not-is_some_item t c =
+    let ys = c.as_slice-schemas.result.now in
+    let none : is_some_item (items_view ys) ≡ false = sym c.is_some_item.ensures ∙ c.if-not-is_some_item.true in
+    let same : array (items_view ys) ≡ view c.args.schemas.now = ap (λ xs. array (items_view xs)) c.as_slice-schemas.ensures.value
+    ∙ sym (ap view c.in-Array.is ∙ view_Array c.in-Array.schemas) in (
+      sym (list_part (whole_of c.args.document) c.args.schemas.now c.in-Array.schemas ys c.in-Array.is c.as_slice-schemas.ensures.value)
+          ∙ ap (λ b. b && are_schemas (whole_of c.args.document) (items_view ys)) none,
+      own_place (whole_of c.args.document) false form.Schemas (view c.args.schemas.now) _ c.root-then-not-is_some_item.ensures
+          (subst (λ x. is_some_list x ≡ false) same none),
+    )
+
+pub refused_in_list-returns : goal.refused_in_list-returns
+refused_in_list-returns t c =
+    let ys = c.as_slice-schemas.result.now in
+    let some : is_some_item (items_view ys) ≡ true = sym c.is_some_item.ensures ∙ c.if-not-is_some_item.false in
+    let same : array (items_view ys) ≡ view c.args.schemas.now = ap (λ xs. array (items_view xs)) c.as_slice-schemas.ensures.value
+    ∙ sym (ap view c.in-Array.is ∙ view_Array c.in-Array.schemas) in
+    let at = subst (λ x. Refuses (are_schemas (whole_of c.args.document) (items_view ys)) (IsRefusedAt (whole_of c.args.document) false form.Schemas x) c.refused_item.result) same
+    c.refused_item.ensures in
+    subst (λ b. Refuses b (IsRefusedAt (whole_of c.args.document) false form.Schemas (view c.args.schemas.now)) c.refused_item.result)
+    (sym (ap (λ b. b && are_schemas (whole_of c.args.document) (items_view ys)) some)
+    ∙ list_part (whole_of c.args.document) c.args.schemas.now c.in-Array.schemas ys c.in-Array.is c.as_slice-schemas.ensures.value) at
+
+pub refused_in_patterns-returns-in-Some : goal.refused_in_patterns-returns-in-Some
+refused_in_patterns-returns-in-Some t c =
+    let w = view c.args.schemas.now in
+    let none = subst (λ o. Refuses (has_patterns w) (IsRefusedAt (whole_of c.args.document) false form.PatternMap w) (Ok o)) c.in-Some.is
+    (c.in_ok-place.ensures (whole_of c.args.document)) in
+    (ap (λ b. b && is_schema_map (whole_of c.args.document) w) none.0, none.1)
+
+pub refused_in_patterns-returns : goal.refused_in_patterns-returns
+refused_in_patterns-returns t c =
+    let w = view c.args.schemas.now in
+    let all : has_patterns w ≡ true = subst (λ o. Refuses (has_patterns w) (IsRefusedAt (whole_of c.args.document) false form.PatternMap w) (Ok o)) c.in_default.is
+    (c.in_ok-place.ensures (whole_of c.args.document)) in
+    subst (λ b. Refuses b (IsRefusedAt (whole_of c.args.document) false form.PatternMap w) c.refused_in_map.result)
+    (sym (ap (λ b. b && is_schema_map (whole_of c.args.document) w) all))
+    (refuses_in_patterns (whole_of c.args.document) w _ c.refused_in_map.result c.refused_in_map.ensures)
+
+pub refused_item-returns-in-Some : goal.refused_item-returns-in-Some
+refused_item-returns-in-Some t c =
+    let vs = c.args.schemas.now in
+    let i = c.loop-index.index in
+    let x = c.index-schemas-index.result in
+    let at = subst (λ o. Refuses (is_schema (whole_of c.args.document) false (view x))
+    (IsRefusedAt (whole_of c.args.document) false form.Schema (view x)) (Ok o)) c.in-Some.is c.in_ok-place.ensures in
+    let others = are_schemas (whole_of c.args.document) (items_view (drop (i + 1) vs)) in (
+      sym (turn_stop (λ xs. are_schemas (whole_of c.args.document) (items_view xs)) vs i false x c.loop-index-test.true
+          c.index-schemas-index.is (ap (λ b. b && others) at.0) c.loop-index.invariant),
+      in_item (whole_of c.args.document) (view x) (items_view vs) i _ _ c.in_ok-prepend_index.ensures.ok
+          (nth_item vs i x c.loop-index-test.true c.index-schemas-index.is) at.1,
+    )
+
 pub refused_keyword-returns-in-Some : goal.refused_keyword-returns-in-Some
 refused_keyword-returns-in-Some t c =
     let ps = c.args.keywords.now in
     let i = c.loop-name.name-index in
     let p = c.loop-name-item.result in
     let f = c.form_at.result in
+    let fit : Form → Bool = λ g. fits (whole_of c.args.document) c.args.is_whole g (view p.1.now) in
+    let others = keywords_fit (whole_of c.args.document) c.args.is_whole (members_listed (drop (i + 1) ps)) in
     let named : f ≡ form_at (encode_utf8_all (text p.0.now)) = c.form_at.ensures
     ∙ ap form_at (text_bytes p.0.now c.as_str.result.now c.as_str.ensures.value) in
-    let misfits : fits (view c.args.document.whole.now.root.now) c.args.is_whole f (view p.1.now) ≡ false = subst
-    (λ o. Refuses (fits (view c.args.document.whole.now.root.now) c.args.is_whole f (view p.1.now)) (Ok o)) c.in-Some.is c.in_ok-place.ensures in
-    sym c.loop-name.invariant ∙ (keyword_turn (view c.args.document.whole.now.root.now) c.args.is_whole ps i p c.loop-name-test.true c.loop-name-item.is
-    ∙ (ap (λ g. fits (view c.args.document.whole.now.root.now) c.args.is_whole g (view p.1.now) && keywords_fit (view c.args.document.whole.now.root.now) c.args.is_whole
-    (members_listed (drop (i + 1) ps))) (sym named)
-    ∙ ap (λ b. b && keywords_fit (view c.args.document.whole.now.root.now) c.args.is_whole (members_listed (drop (i + 1) ps))) misfits))
+    let at = subst (λ o. Refuses (fit f) (IsRefusedAt (whole_of c.args.document) (whole_for c.args.is_whole f) f (view p.1.now)) (Ok o)) c.in-Some.is
+    c.in_ok-place.ensures in (
+      sym c.loop-name.invariant ∙ (keyword_turn (whole_of c.args.document) c.args.is_whole ps i p c.loop-name-test.true c.loop-name-item.is
+          ∙ (ap (λ g. fit g && others) (sym named) ∙ ap (λ b. b && others) at.0)),
+      in_keyword (whole_of c.args.document) c.args.is_whole ps i p f _ _ c.requires c.loop-name-test.true c.loop-name-item.is named at.1
+          (c.in_ok-prepend.ensures.ok ∙ ap (λ k. k ∷ tokens_of c.in-Some.place) (ap chars (c.in_ok-from_str.ensures.ok ∙ c.as_str-in-Some.ensures.value))),
+    )
+
+pub refused_member-returns-in-Some : goal.refused_member-returns-in-Some
+refused_member-returns-in-Some t c =
+    let ps = c.args.schemas.now in
+    let i = c.loop-key.key-index in
+    let p = c.loop-key-item.result in
+    let at = subst (λ o. Refuses (is_schema (whole_of c.args.document) false (view p.1.now))
+    (IsRefusedAt (whole_of c.args.document) false form.Schema (view p.1.now)) (Ok o)) c.in-Some.is c.in_ok-place.ensures in
+    let others = have_schemas (whole_of c.args.document) (members_listed (drop (i + 1) ps)) in (
+      sym (turn_stop (λ xs. have_schemas (whole_of c.args.document) (members_listed xs)) ps i false p c.loop-key-test.true
+          c.loop-key-item.is (ap (λ b. b && others) at.0) c.loop-key.invariant),
+      in_member (whole_of c.args.document) ps i p _ _ c.requires c.loop-key-test.true c.loop-key-item.is at.1
+          (c.in_ok-prepend.ensures.ok ∙ ap (λ k. k ∷ tokens_of c.in-Some.place) (ap chars (c.in_ok-from_str.ensures.ok ∙ c.as_str.ensures.value))),
+    )
 
 pub refused_keyword-loop-name-preserved : goal.refused_keyword-loop-name-preserved
 refused_keyword-loop-name-preserved t c =
@@ -53,41 +256,12 @@ refused_keyword-loop-name-preserved t c =
     let i = c.loop-name.name-index in
     let p = c.loop-name-item.result in
     let f = c.form_at.result in
+    let fit : Form → Bool = λ g. fits (whole_of c.args.document) c.args.is_whole g (view p.1.now) in
+    let others = keywords_fit (whole_of c.args.document) c.args.is_whole (members_listed (drop (i + 1) ps)) in
     let named : f ≡ form_at (encode_utf8_all (text p.0.now)) = c.form_at.ensures
     ∙ ap form_at (text_bytes p.0.now c.as_str.result.now c.as_str.ensures.value) in
-    let good : fits (view c.args.document.whole.now.root.now) c.args.is_whole f (view p.1.now) ≡ true = subst
-    (λ o. Refuses (fits (view c.args.document.whole.now.root.now) c.args.is_whole f (view p.1.now)) (Ok o)) c.in_default.is c.in_ok-place.ensures in
-    sym (keyword_turn (view c.args.document.whole.now.root.now) c.args.is_whole ps i p c.loop-name-test.true c.loop-name-item.is
-    ∙ (ap (λ g. fits (view c.args.document.whole.now.root.now) c.args.is_whole g (view p.1.now) && keywords_fit (view c.args.document.whole.now.root.now) c.args.is_whole
-    (members_listed (drop (i + 1) ps))) (sym named)
-    ∙ ap (λ b. b && keywords_fit (view c.args.document.whole.now.root.now) c.args.is_whole (members_listed (drop (i + 1) ps))) good))
+    let good : fit f ≡ true = subst (λ o. Refuses (fit f) (IsRefusedAt (whole_of c.args.document) (whole_for c.args.is_whole f) f (view p.1.now)) (Ok o))
+    c.in_default.is c.in_ok-place.ensures in
+    sym (keyword_turn (whole_of c.args.document) c.args.is_whole ps i p c.loop-name-test.true c.loop-name-item.is
+    ∙ (ap (λ g. fit g && others) (sym named) ∙ ap (λ b. b && others) good))
     ∙ c.loop-name.invariant
-
-pub refused_in_list-returns-then-not-is_some_item : goal.refused_in_list-returns-then-not-is_some_item
-refused_in_list-returns-then-not-is_some_item t c =
-    let ys = c.as_slice-schemas.result.now in
-    let none : is_some_item (items_view ys) ≡ false = sym c.is_some_item.ensures ∙ c.if-not-is_some_item.true in
-    sym (list_part (view c.args.document.whole.now.root.now) c.args.schemas.now c.in-Array.schemas ys c.in-Array.is c.as_slice-schemas.ensures.value)
-    ∙ ap (λ b. b && are_schemas (view c.args.document.whole.now.root.now) (items_view ys)) none
-
-pub refused_in_list-returns : goal.refused_in_list-returns
-refused_in_list-returns t c =
-    let ys = c.as_slice-schemas.result.now in
-    let some : is_some_item (items_view ys) ≡ true = sym c.is_some_item.ensures ∙ c.if-not-is_some_item.false in
-    subst (λ b. Refuses b c.refused_item.result)
-    (sym (ap (λ b. b && are_schemas (view c.args.document.whole.now.root.now) (items_view ys)) some)
-    ∙ list_part (view c.args.document.whole.now.root.now) c.args.schemas.now c.in-Array.schemas ys c.in-Array.is c.as_slice-schemas.ensures.value)
-    c.refused_item.ensures
-
-pub refused_in_patterns-returns-in-Some : goal.refused_in_patterns-returns-in-Some
-refused_in_patterns-returns-in-Some t c =
-    let w = view c.args.schemas.now in
-    let none : has_patterns w ≡ false = subst (λ o. Refuses (has_patterns w) (Ok o)) c.in-Some.is c.in_ok-place.ensures in
-    ap (λ b. b && is_schema_map (view c.args.document.whole.now.root.now) w) none
-
-pub refused_in_patterns-returns : goal.refused_in_patterns-returns
-refused_in_patterns-returns t c =
-    let w = view c.args.schemas.now in
-    let all : has_patterns w ≡ true = subst (λ o. Refuses (has_patterns w) (Ok o)) c.in_default.is c.in_ok-place.ensures in
-    subst (λ b. Refuses b c.refused_in_map.result) (sym (ap (λ b. b && is_schema_map (view c.args.document.whole.now.root.now) w) all))
-    c.refused_in_map.ensures

@@ -1,6 +1,7 @@
 use Rattle.std.proofs.Common.{◌≡◌, ◌+◌, ◌*◌, drop}
 use Rattle.tinyjson.specs.Tree.{tree_depth, items_depth, members_depth}
 use Rattle.tinyjson.specs.View.{view, items_view, members_listed}
+use Rattle.json_schema.specs.Refused.{whole_of}
 use Rattle.json_schema.specs.Schemas.{keywords_fit, are_schemas, have_schemas}
 use Rattle.json_schema.proofs.refused.+refused.Given as goal
 
@@ -26,17 +27,18 @@ abbrev pub decreases-refused_member : goal.decreases-refused_member
 decreases-refused_member l = 3 * members_depth (members_listed l.schemas.now) + 2
 
 abbrev pub invariant-refused_keyword-loop-name : goal.invariant-refused_keyword-loop-name
-invariant-refused_keyword-loop-name l = keywords_fit (view l.document.whole.now.root.now) l.is_whole (members_listed (drop l.name-index l.keywords)) ≡
-    keywords_fit (view l.document.whole.now.root.now) l.is_whole
-    (members_listed l.keywords)
+invariant-refused_keyword-loop-name l =
+    keywords_fit (whole_of l.document) l.is_whole (members_listed (drop l.name-index l.keywords))
+    ≡ keywords_fit (whole_of l.document) l.is_whole (members_listed l.keywords)
 
 abbrev pub decreases-refused_item : goal.decreases-refused_item
 decreases-refused_item l = 3 * items_depth (items_view l.schemas.now) + 2
 
 abbrev pub invariant-refused_item-loop-index : goal.invariant-refused_item-loop-index
-invariant-refused_item-loop-index l = are_schemas (view l.document.whole.now.root.now) (items_view (drop l.index l.schemas)) ≡ are_schemas (view l.document.whole.now.root.now)
-    (items_view l.schemas)
+invariant-refused_item-loop-index l =
+    are_schemas (whole_of l.document) (items_view (drop l.index l.schemas)) ≡ are_schemas (whole_of l.document) (items_view l.schemas)
 
 abbrev pub invariant-refused_member-loop-key : goal.invariant-refused_member-loop-key
-invariant-refused_member-loop-key l = have_schemas (view l.document.whole.now.root.now) (members_listed (drop l.key-index l.schemas)) ≡ have_schemas (view l.document.whole.now.root.now)
-    (members_listed l.schemas)
+invariant-refused_member-loop-key l =
+    have_schemas (whole_of l.document) (members_listed (drop l.key-index l.schemas))
+    ≡ have_schemas (whole_of l.document) (members_listed l.schemas)

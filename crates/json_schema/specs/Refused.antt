@@ -1,0 +1,54 @@
+-- Where in a schema something stands that can't be applied.
+use Rattle.std.specs.Prelude.{◌≡◌, ℕ, Bool, true, false, ◌||◌, List, [], ◌∷◌, Option, Some, None, Result, Ok, Err}
+use Rattle.std.specs.declared.alloc.AllocError.{AllocError}
+use Rattle.i_regexp.specs.PatternDeciding.{is_pattern}
+use Rattle.tinyjson.specs.Access.{is_boolean, is_object}
+use Rattle.tinyjson.specs.Tree.{Tree, array}
+use Rattle.tinyjson.specs.View.{view}
+use Rattle.json_pointer.specs.Tokens.{tokens_of}
+use Rattle.json_pointer.specs.Walk.{step}
+use Rattle.json_pointer.specs.declared.pointer.Pointer.{Pointer}
+use Rattle.json_schema.specs.Forms.{is_some_item}
+use Rattle.json_schema.specs.References.{form_in}
+use Rattle.json_schema.specs.Schemas.{fits}
+use Rattle.json_schema.specs.declared.document.Document.{Document}
+use Rattle.json_schema.specs.declared.form.Form.{Form}
+use Rattle.json_schema.specs.declared.form.Form.TheVariants as form
+
+abbrev pub is_some_list : Tree → Bool
+is_some_list (array ts) = is_some_item ts
+is_some_list _ = false
+
+-- A schema, or a keyword's value, has the form that it needs, whatever the schemas in it are.
+abbrev pub has_own_form : Tree → Bool → Form → Tree → Bool
+has_own_form root whole form.Schema w = is_boolean w || is_object w
+has_own_form root whole form.Schemas w = is_some_list w
+has_own_form root whole form.SchemaMap w = is_object w
+has_own_form root whole form.PatternMap w = is_object w
+has_own_form root whole f w = fits root whole f w
+
+-- of what is said of keywords of the whole schema, what concerns a value: that its `$id` may stand there
+abbrev pub whole_for : Bool → Form → Bool
+whole_for whole form.Base = whole
+whole_for whole _ = false
+
+-- What the tokens name in w, which needs the form f, can't be applied, but for the schemas in it: it lacks the form, or is a
+-- key that is no pattern. They lead through keywords that have schemas.
+pub data IsRefusedAt : Tree → Bool → Form → Tree → List (List ℕ) → Type 0 where
+  itself : {root w : Tree} {whole : Bool} {f : Form} → has_own_form root whole f w ≡ false → IsRefusedAt root whole f w []
+  no_pattern : {root w v : Tree} {whole : Bool} {k : List ℕ} → step w k ≡ Some v → is_pattern k ≡ false
+      → IsRefusedAt root whole form.PatternMap w (k ∷ [])
+  inside : {root w v : Tree} {whole : Bool} {f : Form} {k : List ℕ} {ks : List (List ℕ)} → step w k ≡ Some v
+      → IsRefusedAt root (whole_for whole (form_in f k)) (form_in f k) v ks → IsRefusedAt root whole f w (k ∷ ks)
+
+-- ---- words of private contracts
+
+-- No place, and what was asked is so; or one of which At says more, and it is not.
+abbrev pub Refuses : Bool → (List (List ℕ) → Type 0) → Result (Option Pointer) AllocError → Type 0
+Refuses is At (Ok None) = is ≡ true
+Refuses is At (Ok (Some p)) = (is ≡ false) × At (tokens_of p)
+Refuses is At (Err e) = Unit {0}
+
+-- the whole schema that a document has
+abbrev pub whole_of : Document → Tree
+whole_of d = view d.whole.now.root.now
