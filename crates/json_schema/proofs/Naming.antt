@@ -84,7 +84,8 @@ module _ (ps : List Listed) (i : ℕ) (s a : List Anchor)
   pub member_gathered : (p : Listed) (b : List Anchor) → i < length ps → p ≡ get_or ps i p → Gathers (anchors_in (view p.1.now)) a b
       → IsLeft (anchors_of_members (members_listed ps)) (anchors_of_members (members_listed (drop (i + 1) ps))) s b
   member_gathered p b l e h = turn _ (anchors_in (view p.1.now)) (anchors_of_members (members_listed (drop (i + 1) ps))) s a b
-      (subst (λ xs. IsLeft (anchors_of_members (members_listed ps)) (anchors_of_members (members_listed xs)) s a) (drop_item ps i p l e) g) h
+      (subst (λ xs. IsLeft (anchors_of_members (members_listed ps)) (anchors_of_members (members_listed xs)) s a) (drop_item ps i p l e) g)
+      h
 
   pub members_gathered : length ps ≤ i → Gathers (anchors_of_members (members_listed ps)) s a
   members_gathered l = ended _ _ s a g (ap (λ xs. anchors_of_members (members_listed xs)) (drop_end ps i l))

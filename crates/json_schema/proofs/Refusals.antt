@@ -59,7 +59,8 @@ no_schema root whole v ks other another e =
 
 pub no_list : (root : Tree) (v : JsonValue) (ks : List (List ℕ)) → ((l : Vec JsonValue Global) → v ≡ is.Array l → ⊥) → ks ≡ []
     → (is_schema_list root (view v) ≡ false) × IsRefusedAt root false form.Schemas (view v) ks
-no_list root v ks other e = (by (view v) (no_array v other), own_place root false form.Schemas (view v) ks e (own (view v) (no_array v other)))
+no_list root v ks other e =
+    (by (view v) (no_array v other), own_place root false form.Schemas (view v) ks e (own (view v) (no_array v other)))
   where
     by : (t : Tree) → ((ts : Items) → t ≡ array ts → ⊥) → is_schema_list root t ≡ false
     by (array ts) n = absurd (n ts refl)
@@ -103,7 +104,8 @@ pub in_keyword : (root : Tree) (whole : Bool) (ps : List Listed) (i : ℕ) (p : 
     → IsSorted (members_listed ps) → i < length ps → p ≡ get_or ps i p → f ≡ form_at (encode_utf8_all (text p.0.now))
     → IsRefusedAt root (whole_for whole f) f (view p.1.now) ks → js ≡ text p.0.now ∷ ks
     → IsRefusedAt root whole form.Schema (object (members_listed ps)) js
-in_keyword root whole ps i p f ks js s h g named at joined = subst (IsRefusedAt root whole form.Schema (object (members_listed ps))) (sym joined)
+in_keyword root whole ps i p f ks js s h g named at joined = subst (IsRefusedAt root whole form.Schema (object (members_listed ps)))
+    (sym joined)
     (inside (listed_found ps i p s h g) (subst (λ x. IsRefusedAt root (whole_for whole x) x (view p.1.now) ks) named at))
 
 -- a place in a schema of an object of them
@@ -121,7 +123,8 @@ in_item root t ts i ks js h e at =
     subst (IsRefusedAt root false form.Schemas (array ts)) (sym h.joined) (inside {k = h.token} (ap (item_of ts) h.named ∙ e) at)
 
 -- what has schemas at its keys has them where the keys are patterns, too
-pub in_patterns : (root w : Tree) (ks : List (List ℕ)) → IsRefusedAt root false form.SchemaMap w ks → IsRefusedAt root false form.PatternMap w ks
+pub in_patterns : (root w : Tree) (ks : List (List ℕ)) → IsRefusedAt root false form.SchemaMap w ks
+    → IsRefusedAt root false form.PatternMap w ks
 in_patterns root w [] (itself h) = itself h
 in_patterns root w (k ∷ ks) (inside e at) = inside e at
 

@@ -17,7 +17,8 @@ module _ (w inner : Walk) (d : IsDeeper w inner) (s : Tree) where
 
   pub no_lists : (a : Bool) → a ≡ lists_pass (settles_in inner) in_lists s → a ≡ false → false ≡ settles_in w s
   no_lists a lists f = ap (λ x. x && (singles_pass (settles_in inner) in_place s && (map_passes (settles_in inner)
-      (schema_map_at s kw.DependentSchemas) && reference_passes (view inner.whole.now.root.now) (settles_in inner) s))) (sym f ∙ lists) ∙ sym inside
+      (schema_map_at s kw.DependentSchemas) && reference_passes (view inner.whole.now.root.now) (settles_in inner) s))) (sym f ∙ lists)
+      ∙ sym inside
 
   pub no_singles : (a b : Bool) → a ≡ lists_pass (settles_in inner) in_lists s → b ≡ singles_pass (settles_in inner) in_place s → a ≡ true
       → b ≡ false → false ≡ settles_in w s

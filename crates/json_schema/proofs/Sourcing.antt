@@ -107,7 +107,8 @@ pub inner_added : (w : Walk) (s t : Tree) (us vs ws : Items) (l m n o p q r : Li
     → Adds w (λ a c. accepting_evaluate a vs t c) m n → Adds w (λ a c. accepting_evaluate a ws t c) n o
     → Adds w (λ a c. branch_evaluates a s t c) o p
     → Adds w (λ a c. dependents_evaluate a (schema_map_at s kw.DependentSchemas) t c) p q
-    → Adds w (λ a c. reference_evaluates (view w.whole.now.root.now) a s t c) q r → Adds w (λ a c. inner_evaluate (view w.whole.now.root.now) a s t c) l r
+    → Adds w (λ a c. reference_evaluates (view w.whole.now.root.now) a s t c) q r
+    → Adds w (λ a c. inner_evaluate (view w.whole.now.root.now) a s t c) l r
 inner_added w s t us vs ws l m n o p q r all any one x1 x2 x3 x4 x5 x6 =
     let root = view w.whole.now.root.now in
     let referred : Answers → Child → Bool = λ a c. reference_evaluates root a s t c in
@@ -253,8 +254,10 @@ pub members_found : (w : Walk) (s r : Tree) (ms : Members) (xs : List Source) (x
     → ((g : Answers) (c : Child) → sources_evaluate g xs c ≡ others_evaluate (view w.whole.now.root.now) (answers_in w g) s (object ms) c)
     → Some r ≡ schema_at s kw.UnevaluatedProperties → FindsLeft w kw.UnevaluatedProperties xs r (object ms) x → FindsRest w s (object ms) x
 members_found w s r ms xs (Ok None) sources e h = λ g.
-    members_same (rest_accepts (view w.whole.now.root.now) (answers_in w g) s (object ms)) (λ c. sources_evaluate g xs c || says w g r (value_of c))
-    (λ k u. ap (λ o. option_map_or (λ q. others_evaluate (view w.whole.now.root.now) (answers_in w g) s (object ms) (member_at k u) || says w g q u) o
+    members_same (rest_accepts (view w.whole.now.root.now) (answers_in w g) s (object ms))
+    (λ c. sources_evaluate g xs c || says w g r (value_of c))
+    (λ k u. ap (λ o. option_map_or (λ q. others_evaluate (view w.whole.now.root.now) (answers_in w g) s (object ms) (member_at k u)
+    || says w g q u) o
     true) (sym e) ∙ ap (λ b. b || says w g r u) (sym (sources g (member_at k u)))) ms ∙ h g
 members_found w s r ms xs (Ok (Some v)) sources e h = rest_place w s (object ms) r xs kw.UnevaluatedProperties v sources e h
 members_found w s r ms xs (Err x) sources e h = tt
@@ -263,8 +266,10 @@ pub items_found : (w : Walk) (s r : Tree) (us : Items) (xs : List Source) (x : R
     → ((g : Answers) (c : Child) → sources_evaluate g xs c ≡ others_evaluate (view w.whole.now.root.now) (answers_in w g) s (array us) c)
     → Some r ≡ schema_at s kw.UnevaluatedItems → FindsLeft w kw.UnevaluatedItems xs r (array us) x → FindsRest w s (array us) x
 items_found w s r us xs (Ok None) sources e h = λ g.
-    items_same (rest_accepts (view w.whole.now.root.now) (answers_in w g) s (array us)) (λ c. sources_evaluate g xs c || says w g r (value_of c))
-    (λ i u. ap (λ o. option_map_or (λ q. others_evaluate (view w.whole.now.root.now) (answers_in w g) s (array us) (item_at i u) || says w g q u) o
+    items_same (rest_accepts (view w.whole.now.root.now) (answers_in w g) s (array us))
+    (λ c. sources_evaluate g xs c || says w g r (value_of c))
+    (λ i u. ap (λ o. option_map_or (λ q. others_evaluate (view w.whole.now.root.now) (answers_in w g) s (array us) (item_at i u)
+    || says w g q u) o
     true) (sym e) ∙ ap (λ b. b || says w g r u) (sym (sources g (item_at i u)))) 0 us ∙ h g
 items_found w s r us xs (Ok (Some v)) sources e h = rest_place w s (array us) r xs kw.UnevaluatedItems v sources e h
 items_found w s r us xs (Err x) sources e h = tt

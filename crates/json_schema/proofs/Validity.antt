@@ -460,7 +460,8 @@ module _ (w : Walk) (s t c : Tree) (b : Bool) (k : Keyword) (test : Some c ≡ s
         → applies (says w g) kw.If s t ≡ true
     branch_met r h v g = by_branch g (ap (λ o. option_map_or (λ r. says w g r t) o true) (taken g ∙ sym h) ∙ v g)
 
-    pub branch_place : (r : Tree) (ks js : List (List ℕ)) → Some r ≡ schema_at s k → IsInvalidAt (view w.whole.now.root.now) w.steps r t ks js
+    pub branch_place : (r : Tree) (ks js : List (List ℕ)) → Some r ≡ schema_at s k
+        → IsInvalidAt (view w.whole.now.root.now) w.steps r t ks js
         → IsInvalidAt (view w.whole.now.root.now) (suc w.steps) s t (name k ∷ ks) js
     branch_place r ks js h v = subst (λ x. IsInvalidAt (view w.whole.now.root.now) (suc w.steps) s t (name x ∷ ks) js) (sym chosen)
         (in_branch (sym test) (λ g. sym (told g)) (ap (schema_at s) (sym chosen) ∙ sym h) v)

@@ -47,7 +47,8 @@ pub fn find_violation(
     walk: Walk<'_, '_>,
     alloc: Global,
 ) -> Result<Option<Violation>, CheckError>
-    ensures judged { Validates walk.entry.steps (view walk.entry.whole.now.root.now) (view value.now) result }
+    ensures judged { Validates walk.entry.steps (view walk.entry.whole.now.root.now)
+        (view value.now) result }
     ensures only { IfOk result
         (λ found. Agrees (view walk.entry.whole.now.root.now) (view value.now) found) }
 {
@@ -518,7 +519,8 @@ fn in_reference(
     alloc: Global,
 ) -> Result<Option<Violation>, CheckError>
     ensures { Finds walk.entry
-        (λ f. reference_accepts (view walk.entry.whole.now.root.now) f (view schema.now) (view value.now))
+        (λ f. reference_accepts (view walk.entry.whole.now.root.now) f (view schema.now)
+        (view value.now))
         (view schema.now) (view value.now) result }
 {
     if let Some(found) = in_target(value, schema, Keyword::Ref, walk, alloc)? {

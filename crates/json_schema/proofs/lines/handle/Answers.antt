@@ -7,7 +7,8 @@ use Rattle.json_schema.proofs.lines.handle.Goals as goal
 
 pub returns-in_err-check_line : goal.returns-in_err-check_line
 returns-in_err-check_line g c =
-    unhandled (tree_of c.args.schema.now) c.args.number c.args.line.now _ _ _ c.from_residual.result c.from_residual.ensures.0 (Keeps-refl _)
+    unhandled (tree_of c.args.schema.now) c.args.number c.args.line.now _ _ _ c.from_residual.result c.from_residual.ensures.0
+    (Keeps-refl _)
 
 pub returns-in_err-write_report-in-Invalid : goal.returns-in_err-write_report-in-Invalid
 returns-in_err-write_report-in-Invalid g c =

@@ -17,7 +17,9 @@ returns-then-is_plain_name c =
     let w = c.args.walk in
     name_there (view w.whole.now.root.now) c.args.fragment.now _ c.in-Ok.ensures.cases.1
     (ap is_plain_name (sym same) ∙ (sym c.is_plain_name.ensures ∙ c.if-is_plain_name.true))
-    (c.anchored.ensures ∙ (ap (λ ns. anchored ns c.in-Ok.text.now) (ap all_named c.as_slice.ensures.value ∙ anchors_known (view w.whole.now.root.now) w.whole.now.anchors.items w.whole.now.gathered) ∙ ap (anchored (anchors_in (view w.whole.now.root.now))) same))
+    (c.anchored.ensures ∙ (ap (λ ns. anchored ns c.in-Ok.text.now)
+    (ap all_named c.as_slice.ensures.value ∙ anchors_known (view w.whole.now.root.now) w.whole.now.anchors.items w.whole.now.gathered)
+    ∙ ap (anchored (anchors_in (view w.whole.now.root.now))) same))
 
 pub returns : goal.returns
 returns c =

@@ -1,4 +1,5 @@
-use Rattle.std.proofs.Common.{◌≡◌, ◌<◌, ◌+◌, ◌*◌, ◌∙◌, ◌∷◌, ◌&&◌, Bool, true, false, Ok, drop, encode_utf8_all, arith, rules, sym, ap, subst}
+use Rattle.std.proofs.Common.{◌≡◌, ◌<◌, ◌+◌, ◌*◌, ◌∙◌, ◌∷◌, ◌&&◌, Bool, true, false, Ok, drop, encode_utf8_all, arith, rules, sym, ap}
+use Rattle.std.proofs.Common.{subst}
 use Rattle.std.specs.Str.{chars}
 use Rattle.tinyjson.proofs.Callers.{view_Array, view_Object}
 use Rattle.tinyjson.specs.Soundness.{IsSorted}
@@ -14,7 +15,8 @@ use Rattle.json_schema.proofs.Depths.{listed_depth, items_depth_at}
 use Rattle.json_schema.proofs.Forms.{keyword_turn, list_part}
 use Rattle.json_schema.proofs.Listed.{listed_sorted}
 use Rattle.json_schema.proofs.Lookups.{text_bytes}
-use Rattle.json_schema.proofs.Refusals.{own_misfit, own_place, in_keyword, in_member, in_item, no_schema, no_list, no_map, refuses_in_patterns}
+use Rattle.json_schema.proofs.Refusals.{own_misfit, own_place, in_keyword, in_member, in_item, no_schema, no_list, no_map}
+use Rattle.json_schema.proofs.Refusals.{refuses_in_patterns}
 use Rattle.json_schema.proofs.Turns.{nth_item, turn_stop}
 use Rattle.json_schema.proofs.refused.+refused.Goals as goal
 
@@ -129,7 +131,8 @@ refused_in-returns-in_ok-sorted-in-Object t c =
     let same : object (members_listed c.as_slice.result.now) ≡ view c.args.schema.now
     = ap object (ap members_listed c.as_slice.ensures.value ∙ c.in_ok-sorted-in-Object.ensures)
     ∙ sym (ap view c.in-Object.is ∙ view_Object c.in-Object.keywords) in
-    subst (λ x. Refuses (is_schema (whole_of c.args.document) c.args.is_whole x) (IsRefusedAt (whole_of c.args.document) c.args.is_whole form.Schema x)
+    subst (λ x. Refuses (is_schema (whole_of c.args.document) c.args.is_whole x)
+    (IsRefusedAt (whole_of c.args.document) c.args.is_whole form.Schema x)
     c.refused_keyword.result) same c.refused_keyword.ensures
 
 pub refused_in-returns-in_default : goal.refused_in-returns-in_default
@@ -161,7 +164,8 @@ refused_in_map-returns t c =
     let same : object (members_listed c.as_slice.result.now) ≡ view c.args.schemas.now
     = ap object (ap members_listed c.as_slice.ensures.value ∙ c.in_ok-sorted.ensures)
     ∙ sym (ap view c.in-Object.is ∙ view_Object c.in-Object.schemas) in
-    subst (λ x. Refuses (is_schema_map (whole_of c.args.document) x) (IsRefusedAt (whole_of c.args.document) false form.SchemaMap x) c.refused_member.result) same
+    subst (λ x. Refuses (is_schema_map (whole_of c.args.document) x) (IsRefusedAt (whole_of c.args.document) false form.SchemaMap x)
+    c.refused_member.result) same
     c.refused_member.ensures
 
 pub refused_in_list-returns-then-not-is_some_item : goal.refused_in_list-returns-then-not-is_some_item
@@ -182,7 +186,8 @@ refused_in_list-returns t c =
     let some : is_some_item (items_view ys) ≡ true = sym c.is_some_item.ensures ∙ c.if-not-is_some_item.false in
     let same : array (items_view ys) ≡ view c.args.schemas.now = ap (λ xs. array (items_view xs)) c.as_slice-schemas.ensures.value
     ∙ sym (ap view c.in-Array.is ∙ view_Array c.in-Array.schemas) in
-    let at = subst (λ x. Refuses (are_schemas (whole_of c.args.document) (items_view ys)) (IsRefusedAt (whole_of c.args.document) false form.Schemas x) c.refused_item.result) same
+    let at = subst (λ x. Refuses (are_schemas (whole_of c.args.document) (items_view ys))
+    (IsRefusedAt (whole_of c.args.document) false form.Schemas x) c.refused_item.result) same
     c.refused_item.ensures in
     subst (λ b. Refuses b (IsRefusedAt (whole_of c.args.document) false form.Schemas (view c.args.schemas.now)) c.refused_item.result)
     (sym (ap (λ b. b && are_schemas (whole_of c.args.document) (items_view ys)) some)
@@ -198,7 +203,8 @@ refused_in_patterns-returns-in-Some t c =
 pub refused_in_patterns-returns : goal.refused_in_patterns-returns
 refused_in_patterns-returns t c =
     let w = view c.args.schemas.now in
-    let all : has_patterns w ≡ true = subst (λ o. Refuses (has_patterns w) (IsRefusedAt (whole_of c.args.document) false form.PatternMap w) (Ok o)) c.in_default.is
+    let all : has_patterns w ≡ true = subst (λ o. Refuses (has_patterns w) (IsRefusedAt (whole_of c.args.document) false form.PatternMap w)
+    (Ok o)) c.in_default.is
     (c.in_ok-place.ensures (whole_of c.args.document)) in
     subst (λ b. Refuses b (IsRefusedAt (whole_of c.args.document) false form.PatternMap w) c.refused_in_map.result)
     (sym (ap (λ b. b && is_schema_map (whole_of c.args.document) w) all))
@@ -228,12 +234,14 @@ refused_keyword-returns-in-Some t c =
     let others = keywords_fit (whole_of c.args.document) c.args.is_whole (members_listed (drop (i + 1) ps)) in
     let named : f ≡ form_at (encode_utf8_all (text p.0.now)) = c.form_at.ensures
     ∙ ap form_at (text_bytes p.0.now c.as_str.result.now c.as_str.ensures.value) in
-    let at = subst (λ o. Refuses (fit f) (IsRefusedAt (whole_of c.args.document) (whole_for c.args.is_whole f) f (view p.1.now)) (Ok o)) c.in-Some.is
+    let at = subst (λ o. Refuses (fit f) (IsRefusedAt (whole_of c.args.document) (whole_for c.args.is_whole f) f (view p.1.now)) (Ok o))
+    c.in-Some.is
     c.in_ok-place.ensures in (
       sym c.loop-name.invariant ∙ (keyword_turn (whole_of c.args.document) c.args.is_whole ps i p c.loop-name-test.true c.loop-name-item.is
           ∙ (ap (λ g. fit g && others) (sym named) ∙ ap (λ b. b && others) at.0)),
       in_keyword (whole_of c.args.document) c.args.is_whole ps i p f _ _ c.requires c.loop-name-test.true c.loop-name-item.is named at.1
-          (c.in_ok-prepend.ensures.ok ∙ ap (λ k. k ∷ tokens_of c.in-Some.place) (ap chars (c.in_ok-from_str.ensures.ok ∙ c.as_str-in-Some.ensures.value))),
+          (c.in_ok-prepend.ensures.ok ∙ ap (λ k. k ∷ tokens_of c.in-Some.place)
+          (ap chars (c.in_ok-from_str.ensures.ok ∙ c.as_str-in-Some.ensures.value))),
     )
 
 pub refused_member-returns-in-Some : goal.refused_member-returns-in-Some
@@ -247,7 +255,8 @@ refused_member-returns-in-Some t c =
       sym (turn_stop (λ xs. have_schemas (whole_of c.args.document) (members_listed xs)) ps i false p c.loop-key-test.true
           c.loop-key-item.is (ap (λ b. b && others) at.0) c.loop-key.invariant),
       in_member (whole_of c.args.document) ps i p _ _ c.requires c.loop-key-test.true c.loop-key-item.is at.1
-          (c.in_ok-prepend.ensures.ok ∙ ap (λ k. k ∷ tokens_of c.in-Some.place) (ap chars (c.in_ok-from_str.ensures.ok ∙ c.as_str.ensures.value))),
+          (c.in_ok-prepend.ensures.ok ∙ ap (λ k. k ∷ tokens_of c.in-Some.place)
+          (ap chars (c.in_ok-from_str.ensures.ok ∙ c.as_str.ensures.value))),
     )
 
 pub refused_keyword-loop-name-preserved : goal.refused_keyword-loop-name-preserved
@@ -260,7 +269,8 @@ refused_keyword-loop-name-preserved t c =
     let others = keywords_fit (whole_of c.args.document) c.args.is_whole (members_listed (drop (i + 1) ps)) in
     let named : f ≡ form_at (encode_utf8_all (text p.0.now)) = c.form_at.ensures
     ∙ ap form_at (text_bytes p.0.now c.as_str.result.now c.as_str.ensures.value) in
-    let good : fit f ≡ true = subst (λ o. Refuses (fit f) (IsRefusedAt (whole_of c.args.document) (whole_for c.args.is_whole f) f (view p.1.now)) (Ok o))
+    let good : fit f ≡ true = subst (λ o. Refuses (fit f) (IsRefusedAt (whole_of c.args.document) (whole_for c.args.is_whole f) f
+    (view p.1.now)) (Ok o))
     c.in_default.is c.in_ok-place.ensures in
     sym (keyword_turn (whole_of c.args.document) c.args.is_whole ps i p c.loop-name-test.true c.loop-name-item.is
     ∙ (ap (λ g. fit g && others) (sym named) ∙ ap (λ b. b && others) good))

@@ -18,6 +18,7 @@ returns-then-not-is c = λ root.
       sym (turn_stop (λ xs. are_patterns (members_listed xs)) ps c.loop-key.key-index false p c.loop-key-test.true
           c.loop-key-item.is (ap (λ b. b && others) none) c.loop-key.invariant),
       at_key root ps c.loop-key.key-index p _ c.requires c.loop-key-test.true c.loop-key-item.is none
-          (c.in_ok-prepend.ensures.ok ∙ (ap (λ k. k ∷ tokens_of c.root-place.result) (ap chars (c.in_ok-from_str.ensures.ok ∙ c.as_str-then-not-is.ensures.value))
+          (c.in_ok-prepend.ensures.ok ∙ (ap (λ k. k ∷ tokens_of c.root-place.result)
+          (ap chars (c.in_ok-from_str.ensures.ok ∙ c.as_str-then-not-is.ensures.value))
           ∙ ap (λ ks. text p.0.now ∷ ks) c.root-place.ensures)),
     )

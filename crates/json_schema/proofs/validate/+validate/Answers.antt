@@ -170,7 +170,8 @@ violation_in-returns-in-Some-7 t c =
     let s = view c.args.schema.now in
     let v = view c.args.value.now in
     before c.args.walk inner c.in_ok-inner.ensures s v (Ok (Some c.in-Some-7.found))
-    (subst (λ o. Finds inner (λ f. reference_accepts (view inner.whole.now.root.now) f s v) s v (Ok o)) c.in-Some-7.is c.in_ok-found-5.ensures)
+    (subst (λ o. Finds inner (λ f. reference_accepts (view inner.whole.now.root.now) f s v) s v (Ok o)) c.in-Some-7.is
+    c.in_ok-found-5.ensures)
 
 pub violation_in-returns-in-Some-8 : goal.violation_in-returns-in-Some-8
 violation_in-returns-in-Some-8 t c =
@@ -648,7 +649,8 @@ in_target-returns t c =
     let v = view c.args.value.now in
     let r = view c.in-Some.part.now in
     let inner = subst (λ o. Judges w r v (Ok o)) c.in-Some-2.is c.in_ok-found.ensures in
-    placed w (λ f. target_accepts (view w.whole.now.root.now) c.args.keyword f s v) s v c.enter_keyword.new.self _ _ c.in_ok-enter_keyword.ensures
+    placed w (λ f. target_accepts (view w.whole.now.root.now) c.args.keyword f s v) s v c.enter_keyword.new.self _ _
+    c.in_ok-enter_keyword.ensures
     (in_reference c.args.keyword c.requires (sym (ap (option_map (λ x. view x.now)) (sym c.in-Some.is) ∙ c.in_ok-part.ensures)) inner)
 
 pub in_members-returns-in-Some-2 : goal.in_members-returns-in-Some-2
@@ -953,7 +955,8 @@ unevaluated::in_rest-returns-in_default-schema_at t c g =
     let same : object (members_view c.in-Object.members.entries) ≡ view c.args.value.now
     = sym (ap view c.in-Object.is ∙ view_Object c.in-Object.members) in
     subst (λ x. rest_accepted (view w.whole.now.root.now) (answers_in w g) s x ≡ true) same
-    (no_member_rest (view w.whole.now.root.now) (answers_in w g) s (members_view c.in-Object.members.entries) c.in_default-schema_at.ensures)
+    (no_member_rest (view w.whole.now.root.now) (answers_in w g) s (members_view c.in-Object.members.entries)
+    c.in_default-schema_at.ensures)
 
 pub unevaluated::in_rest-returns-in_default-schema_at-2 : goal.unevaluated::in_rest-returns-in_default-schema_at-2
 unevaluated::in_rest-returns-in_default-schema_at-2 t c g =
@@ -977,7 +980,8 @@ unevaluated::in_rest-returns-in_ok-sorted-in-Object t c =
     = λ g k. ap (λ l. sources_evaluate g l k) c.as_slice-in-Object.ensures.value ∙ c.in_ok-sources-in-Object.ensures.evaluated g k in
     subst (λ x. FindsRest w s x c.in_members_left.result) same
     (members_found w s (view c.in-Some.rest.now) ms xs c.in_members_left.result
-    (subst (λ x. (g : Answers) (k : Child) → sources_evaluate g xs k ≡ others_evaluate (view w.whole.now.root.now) (answers_in w g) s x k) (sym same)
+    (subst (λ x. (g : Answers) (k : Child) → sources_evaluate g xs k ≡ others_evaluate (view w.whole.now.root.now) (answers_in w g) s x k)
+    (sym same)
     told) c.in-Some.ensures c.in_members_left.ensures)
 
 pub unevaluated::in_rest-returns-in_ok-sources-in-Array : goal.unevaluated::in_rest-returns-in_ok-sources-in-Array
@@ -993,7 +997,8 @@ unevaluated::in_rest-returns-in_ok-sources-in-Array t c =
     = λ g k. ap (λ l. sources_evaluate g l k) c.as_slice-in-Array-2.ensures.value ∙ c.in_ok-sources-in-Array.ensures.evaluated g k in
     subst (λ x. FindsRest w s x c.in_items_left.result) same
     (items_found w s (view c.in-Some-schema_at.rest.now) us xs c.in_items_left.result
-    (subst (λ x. (g : Answers) (k : Child) → sources_evaluate g xs k ≡ others_evaluate (view w.whole.now.root.now) (answers_in w g) s x k) (sym same)
+    (subst (λ x. (g : Answers) (k : Child) → sources_evaluate g xs k ≡ others_evaluate (view w.whole.now.root.now) (answers_in w g) s x k)
+    (sym same)
     told) c.in-Some-schema_at.ensures c.in_items_left.ensures)
 
 -- ---- schemas that evaluate
