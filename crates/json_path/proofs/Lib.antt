@@ -4,3 +4,7 @@ pub mod Values
 pub mod Writing
 pub mod Comparisons
 pub mod Judging
+pub mod Within
+pub mod Selected
+pub mod Stated
+pub mod Errors

@@ -4,6 +4,7 @@ pub mod Selecting
 pub mod Comparing
 pub mod Patterns
 pub mod Queries
+pub mod Strings
 pub mod Paths
 pub mod Seen
 pub mod Lines

@@ -1,6 +1,6 @@
 -- What is written of a query and a text.
 use Rattle.std.specs.Prelude.{◌≡◌, ◌≢◌, ℕ, List, [], ◌∷◌, ◌++◌, Option, None, Result, Ok, Err, ◌⊎◌, codes}
-use Rattle.std.specs.Prelude.{encode_utf8_all}
+use Rattle.std.specs.Prelude.{encode_utf8_all, Any}
 use Rattle.std.specs.Io.KnownBytes.{Appends}
 use Rattle.tinyjson.specs.Characters.{line_feed}
 use Rattle.tinyjson.specs.Error.{error_kind, error_message}
@@ -18,6 +18,7 @@ use Rattle.json_path.specs.Nodes.{Part}
 use Rattle.json_path.specs.Paths.{path_text}
 use Rattle.json_path.specs.Patterns.{Judge, IsRight}
 use Rattle.json_path.specs.Queries.{query_parts}
+use Rattle.json_path.specs.Strings.{strings_in, query_strings, Exceeds}
 use Rattle.json_path.specs.declared.lines.Form.{Form}
 use Rattle.json_path.specs.declared.lines.Form.TheVariants.{Value, Path}
 use Rattle.json_path.specs.declared.lines.PathError.{PathError}
@@ -63,12 +64,12 @@ lines_of form (p ∷ ps) = line_of form p ++ lines_of form ps
 abbrev pub IsFailedWrite : Type 0 → PathError → Type 0
 IsFailedWrite wanted error = (wanted × (error ≡ OutOfMemory)) ⊎ (¬ wanted × (error ≡ Writing))
 
--- Of a tree the lines of the parts that the query selects are written, or a prefix of them where that failed; or it selects none, or a
--- regular expression is too deep or too large, and nothing is written.
+-- Of a tree the lines of the parts that the query selects are written, or a prefix of them where that failed; or it selects none, or one
+-- of the strings of the query and the tree goes beyond a limit of regular expressions, and nothing is written.
 abbrev pub WritesNodes : Judge → Form → Query → Tree → Option (List ℕ) → Option (List ℕ) → Result (Unit {0}) PathError → Type 0
 WritesNodes judge form q t old new (Ok _) = (query_parts judge q t ≢ []) × Appends old new (lines_of form (query_parts judge q t))
 WritesNodes judge form q t old new (Err NoNode) = (query_parts judge q t ≡ []) × (new ≡ old)
-WritesNodes judge form q t old new (Err (Pattern l)) = new ≡ old
+WritesNodes judge form q t old new (Err (Pattern l)) = Any (Exceeds l) (query_strings q ++ strings_in t) × (new ≡ old)
 WritesNodes judge form q t old new (Err Writing) = WrittenPart old new (lines_of form (query_parts judge q t))
 WritesNodes judge form q t old new (Err OutOfMemory) = WrittenPart old new (lines_of form (query_parts judge q t))
 WritesNodes judge form q t old new (Err _) = ⊥

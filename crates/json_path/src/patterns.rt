@@ -1,10 +1,13 @@
 //! Regular expressions that `match` and `search` ask for (RFC 9535, 2.4.6 and 2.4.7).
-ghost use Rattle.std.specs.Prelude.{◌≡◌, ◌≤◌, ℕ, Bool, List, Some, IfOk, option_map, vec_len};
+ghost use Rattle.std.specs.Prelude.{◌≡◌, ◌≤◌, ℕ, Bool, List, [], ◌∷◌, Some, IfOk, IfErr};
+ghost use Rattle.std.specs.Prelude.{option_map, vec_len};
 ghost use Rattle.std.specs.Str.{chars};
 ghost use Rattle.tinyjson.specs.View.{view, text};
 ghost use Rattle.json_path.specs.Lines.{limit_message};
 ghost use Rattle.json_path.specs.Patterns.{judged, answer_of, holds_of_trees, pattern_holds};
 ghost use Rattle.json_path.specs.Seen.{operand_tree, value_tree};
+ghost use Rattle.json_path.specs.Strings.{strings_in, strings_at, IsFrom};
+ghost use Rattle.json_path.specs.declared.patterns.FindError.{FindError};
 ghost use Rattle.json_path_query.specs.declared.query.PatternFunction.{PatternFunction};
 
 use crate::operand::{Operand, release, value_of};
@@ -44,12 +47,16 @@ pub enum FindError {
 }
 
 impl From<AllocError> for FindError {
+    ghost from_gives = { λ _ e. e ≡ FindError.OutOfMemory };
+
     fn from(_: AllocError) -> FindError {
         FindError::OutOfMemory
     }
 }
 
 impl<T: Drop> From<AllocFailed<T>> for FindError {
+    ghost from_gives = { λ _ e. e ≡ FindError.OutOfMemory };
+
     fn from(_: AllocFailed<T>) -> FindError {
         FindError::OutOfMemory
     }
@@ -67,8 +74,9 @@ struct Pattern {
 
 /// The regular expression that the text is, if it is one.
 fn regexp_of(alloc: Global, pattern: &str) -> Result<Option<IRegexp>, FindError>
-    ensures { IfOk result (λ o. (f : PatternFunction) (cs : List ℕ)
+    ensures ok { IfOk result (λ o. (f : PatternFunction) (cs : List ℕ)
         → judged f (chars pattern.now) cs ≡ answer_of o f cs) }
+    ensures err { IfErr result (IsFrom (chars pattern.now ∷ [])) }
 {
     match IRegexp::parse(alloc, pattern) {
         Ok(regexp) => Ok(Some(regexp)),
@@ -83,7 +91,8 @@ fn regexp_of(alloc: Global, pattern: &str) -> Result<Option<IRegexp>, FindError>
 
 impl Pattern {
     fn read(alloc: Global, pattern: &str) -> Result<Pattern, FindError>
-        ensures { IfOk result (λ p. text p.pattern ≡ chars pattern.now) }
+        ensures ok { IfOk result (λ p. text p.pattern ≡ chars pattern.now) }
+        ensures err { IfErr result (IsFrom (chars pattern.now ∷ [])) }
     {
         let regexp = regexp_of(alloc, pattern)?;
         let pattern = String::from_str(alloc, pattern)?;
@@ -129,8 +138,10 @@ impl Patterns {
         value: Option<Operand>,
         pattern: Option<Operand>,
     ) -> Result<bool, FindError>
-        ensures { IfOk result (λ b. b ≡ pattern_holds judged function
+        ensures ok { IfOk result (λ b. b ≡ pattern_holds judged function
             (option_map operand_tree value.entry) (option_map operand_tree pattern.entry)) }
+        ensures err { IfErr result
+            (IsFrom (strings_at (option_map operand_tree pattern.entry))) }
     {
         let answer = match (value_of(&value), value_of(&pattern)) {
             (Some(value), Some(pattern)) => self.of_values(
@@ -151,8 +162,9 @@ impl Patterns {
         value: &JsonValue,
         pattern: &JsonValue,
     ) -> Result<bool, FindError>
-        ensures { IfOk result (λ b. b
+        ensures ok { IfOk result (λ b. b
             ≡ holds_of_trees judged function (view value.now) (view pattern.now)) }
+        ensures err { IfErr result (IsFrom (strings_in (view pattern.now))) }
     {
         match (value, pattern) {
             (JsonValue::String(value), JsonValue::String(pattern)) => {
@@ -172,7 +184,9 @@ impl Patterns {
         value: &str,
         pattern: &str,
     ) -> Result<bool, FindError>
-        ensures { IfOk result (λ b. b ≡ judged function (chars pattern.now) (chars value.now)) }
+        ensures ok { IfOk result (λ b. b
+            ≡ judged function (chars pattern.now) (chars value.now)) }
+        ensures err { IfErr result (IsFrom (chars pattern.now ∷ [])) }
     {
         if !is_kept {
             let mut read = Pattern::read(alloc, pattern)?;

@@ -1,5 +1,5 @@
 //! The nodes that a query selects.
-ghost use Rattle.std.specs.Prelude.{◌≡◌, ◌++◌, reverse, OnOk, IfOk, option_map};
+ghost use Rattle.std.specs.Prelude.{◌≡◌, ◌++◌, reverse, OnOk, IfOk, IfErr, option_map};
 ghost use Rattle.tinyjson.specs.View.{view};
 ghost use Rattle.json_path.specs.Nodes.{path_of, part_view, parts_view, visited, children};
 ghost use Rattle.json_path.specs.Queries.{query_parts, segment_parts, selector_parts, selected_by};
@@ -7,6 +7,9 @@ ghost use Rattle.json_path.specs.Queries.{found_by, holds_of, kept, comparable_v
 ghost use Rattle.json_path.specs.Patterns.{judged};
 ghost use Rattle.json_path.specs.Seen.{operand_tree};
 ghost use Rattle.json_path.specs.Selecting.{from_each};
+ghost use Rattle.json_path.specs.Strings.{query_strings, strings_in, strings_of, IsFrom, IsFromAny};
+ghost use Rattle.json_path.specs.Strings.{segments_strings, segment_strings, selectors_strings};
+ghost use Rattle.json_path.specs.Strings.{selector_strings, expression_strings, comparable_strings};
 
 use crate::children::{children, push_children, push_indexed, push_named, push_slice};
 use crate::node::Node;
@@ -30,8 +33,9 @@ pub fn find<'v>(
     alloc: Global,
     value: &'v JsonValue,
 ) -> Result<Vec<Node<'v>>, FindError>
-    ensures { IfOk result (λ v. parts_view v.items
+    ensures ok { IfOk result (λ v. parts_view v.items
         ≡ query_parts judged query.now (view value.now)) }
+    ensures err { IfErr result (IsFrom (query_strings query.now ++ strings_in (view value.now))) }
 {
     let mut patterns = Patterns::new(alloc);
     find_from(
@@ -52,8 +56,10 @@ fn find_from<'v>(
     value: &'v JsonValue,
     patterns: &mut Patterns,
 ) -> Result<Vec<Node<'v>>, FindError>
-    ensures { IfOk result (λ v. parts_view v.items
+    ensures ok { IfOk result (λ v. parts_view v.items
         ≡ found_by segments.now (view root.now) (view value.now)) }
+    ensures err { IfErr result (IsFromAny (segments_strings segments.now) (view root.now)
+        (strings_in (view value.now))) }
 {
     let mut nodes = Vec::new(alloc);
     nodes.push(Node::root(alloc, value)?)?;
@@ -72,8 +78,10 @@ fn apply<'v>(
     nodes: &[Node<'v>],
     patterns: &mut Patterns,
 ) -> Result<Vec<Node<'v>>, FindError>
-    ensures { IfOk result (λ v. parts_view v.items
+    ensures ok { IfOk result (λ v. parts_view v.items
         ≡ from_each (segment_parts segment.now (view root.now)) (parts_view nodes.now)) }
+    ensures err { IfErr result (IsFromAny (segment_strings segment.now) (view root.now)
+        (strings_of (parts_view nodes.now))) }
 {
     let mut selected = Vec::new(alloc);
     for node in nodes {
@@ -91,8 +99,10 @@ fn select_from<'v>(
     selected: &mut Vec<Node<'v>>,
     patterns: &mut Patterns,
 ) -> Result<(), FindError>
-    ensures { OnOk result (parts_view selected.new.items ≡ parts_view selected.old.items
+    ensures ok { OnOk result (parts_view selected.new.items ≡ parts_view selected.old.items
         ++ segment_parts segment.now (view root.now) (part_view node.now)) }
+    ensures err { IfErr result (IsFromAny (segment_strings segment.now) (view root.now)
+        (strings_in (view node.now.value.now))) }
 {
     match segment {
         Segment::Child(selectors) => {
@@ -114,9 +124,11 @@ fn descend<'v>(
     selected: &mut Vec<Node<'v>>,
     patterns: &mut Patterns,
 ) -> Result<(), FindError>
-    ensures { OnOk result (parts_view selected.new.items ≡ parts_view selected.old.items
+    ensures ok { OnOk result (parts_view selected.new.items ≡ parts_view selected.old.items
         ++ from_each (selected_by selectors.now (view root.now))
         (visited (path_of node.now) (view node.now.value.now))) }
+    ensures err { IfErr result (IsFromAny (selectors_strings selectors.now) (view root.now)
+        (strings_in (view node.now.value.now))) }
 {
     let mut waiting = Vec::new(alloc);
     waiting.push(node.try_clone()?)?;
@@ -136,8 +148,10 @@ fn select_each<'v>(
     selected: &mut Vec<Node<'v>>,
     patterns: &mut Patterns,
 ) -> Result<(), FindError>
-    ensures { OnOk result (parts_view selected.new.items ≡ parts_view selected.old.items
+    ensures ok { OnOk result (parts_view selected.new.items ≡ parts_view selected.old.items
         ++ selected_by selectors.now (view root.now) (part_view node.now)) }
+    ensures err { IfErr result (IsFromAny (selectors_strings selectors.now) (view root.now)
+        (strings_in (view node.now.value.now))) }
 {
     for selector in selectors {
         select(selector, alloc, root, node, selected, patterns)?;
@@ -154,8 +168,10 @@ fn select<'v>(
     selected: &mut Vec<Node<'v>>,
     patterns: &mut Patterns,
 ) -> Result<(), FindError>
-    ensures { OnOk result (parts_view selected.new.items ≡ parts_view selected.old.items
+    ensures ok { OnOk result (parts_view selected.new.items ≡ parts_view selected.old.items
         ++ selector_parts selector.now (view root.now) (part_view node.now)) }
+    ensures err { IfErr result (IsFromAny (selector_strings selector.now) (view root.now)
+        (strings_in (view node.now.value.now))) }
 {
     match selector {
         Selector::Name(name) => push_named(alloc, node, name.as_str(), selected)?,
@@ -181,9 +197,11 @@ fn push_kept<'v>(
     selected: &mut Vec<Node<'v>>,
     patterns: &mut Patterns,
 ) -> Result<(), FindError>
-    ensures { OnOk result (parts_view selected.new.items ≡ parts_view selected.old.items
+    ensures ok { OnOk result (parts_view selected.new.items ≡ parts_view selected.old.items
         ++ kept (holds_of expression.now (view root.now))
         (children (path_of node.now) (view node.now.value.now))) }
+    ensures err { IfErr result (IsFromAny (expression_strings expression.now) (view root.now)
+        (strings_in (view node.now.value.now))) }
 {
     let children = children(alloc, node)?;
     for child in children.as_slice() {
@@ -203,7 +221,10 @@ fn holds<'v>(
     here: &'v JsonValue,
     patterns: &mut Patterns,
 ) -> Result<bool, FindError>
-    ensures { IfOk result (λ b. b ≡ holds_of expression.now (view root.now) (view here.now)) }
+    ensures ok { IfOk result (λ b. b
+        ≡ holds_of expression.now (view root.now) (view here.now)) }
+    ensures err { IfErr result (IsFromAny (expression_strings expression.now) (view root.now)
+        (strings_in (view here.now))) }
 {
     match expression {
         Expression::Or(expressions) => {
@@ -260,8 +281,10 @@ fn compared<'v>(
     here: &'v JsonValue,
     patterns: &mut Patterns,
 ) -> Result<Option<Operand<'v>>, FindError>
-    ensures { IfOk result (λ o. option_map operand_tree o
+    ensures ok { IfOk result (λ o. option_map operand_tree o
         ≡ comparable_value comparable.now (view root.now) (view here.now)) }
+    ensures err { IfErr result (IsFromAny (comparable_strings comparable.now) (view root.now)
+        (strings_in (view here.now))) }
 {
     match comparable {
         Comparable::Literal(literal) => Ok(literal_value(alloc, literal)?),

@@ -4,13 +4,18 @@ use Rattle.json_path.specs.Nodes.{path_of, part_view, parts_view, visited, child
 use Rattle.json_path.specs.Queries.{one_by_one, found_by, union, segment_parts, selector_parts, selected_by}
 use Rattle.json_path.specs.Queries.{holds_of, kept, some_hold, all_hold}
 use Rattle.json_path.specs.Selecting.{from_each}
+use Rattle.json_path.specs.Strings.{strings_in}
 use Rattle.json_path.proofs.Parts.{left}
+use Rattle.json_path.proofs.Selected.{AreWithin}
 use Rattle.json_path.proofs.select.+selecting.Given as goal
 
 abbrev pub invariant-find_from-loop-segment : goal.invariant-find_from-loop-segment
-invariant-find_from-loop-segment l =
-    one_by_one (view l.root) (map segment_parts (drop l.segment-index l.segments)) (parts_view l.nodes.items)
-    ≡ found_by l.segments (view l.root) (view l.value)
+invariant-find_from-loop-segment l = record {
+  left :
+      one_by_one (view l.root) (map segment_parts (drop l.segment-index l.segments)) (parts_view l.nodes.items)
+      ≡ found_by l.segments (view l.root) (view l.value);
+  within : AreWithin (strings_in (view l.value)) (parts_view l.nodes.items);
+}
 
 abbrev pub invariant-apply-loop-node : goal.invariant-apply-loop-node
 invariant-apply-loop-node l =
@@ -18,10 +23,13 @@ invariant-apply-loop-node l =
     ≡ from_each (segment_parts l.segment (view l.root)) (parts_view l.nodes)
 
 abbrev pub invariant-descend-loop-node : goal.invariant-descend-loop-node
-invariant-descend-loop-node l =
-    parts_view l.selected.items ++ from_each (selected_by l.selectors (view l.root)) (left (parts_view l.waiting.items))
-    ≡ parts_view l.fn.selected.items
-    ++ from_each (selected_by l.selectors (view l.root)) (visited (path_of l.fn.node) (view l.fn.node.value.now))
+invariant-descend-loop-node l = record {
+  left :
+      parts_view l.selected.items ++ from_each (selected_by l.selectors (view l.root)) (left (parts_view l.waiting.items))
+      ≡ parts_view l.fn.selected.items
+      ++ from_each (selected_by l.selectors (view l.root)) (visited (path_of l.fn.node) (view l.fn.node.value.now));
+  within : AreWithin (strings_in (view l.fn.node.value.now)) (parts_view l.waiting.items);
+}
 
 abbrev pub decreases-descend-loop-node : goal.decreases-descend-loop-node
 decreases-descend-loop-node l = length (left (parts_view l.waiting.items))
