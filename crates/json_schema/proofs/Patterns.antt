@@ -9,10 +9,9 @@ use Rattle.i_regexp.specs.PatternDeciding.{is_pattern, is_found}
 use Rattle.i_regexp.specs.PatternReading.{IsNone, IsReading, texts_of}
 use Rattle.i_regexp.specs.declared.pattern.SchemaPattern.{SchemaPattern}
 use Rattle.tinyjson.proofs.Callers.{view_String}
-use Rattle.tinyjson.specs.View.{view, text}
+use Rattle.tinyjson.specs.View.{view}
 use Rattle.tinyjson.specs.declared.value.JsonValue.{JsonValue}
 use Rattle.tinyjson.specs.declared.value.JsonValue.TheVariants as is
-use Rattle.json_schema.specs.Forms.{is_pattern_text}
 use Rattle.json_schema.specs.Keywords.{has_pattern}
 use Rattle.json_schema.specs.Patterns.{answer_of}
 
@@ -49,7 +48,3 @@ pub strings_found : (v w : JsonValue) (s t : String Global) (a b : List ℕ) →
 strings_found v w s t a b e g h k =
     ap₂ (λ x y. is_found (chars x) (chars y)) h k
     ∙ ap₂ has_pattern (sym (ap view e ∙ view_String s)) (sym (ap view g ∙ view_String t))
-
-pub string_pattern : (v : JsonValue) (s : String Global) (a : List ℕ) → v ≡ is.String s → a ≡ string_bytes s
-    → is_pattern (chars a) ≡ is_pattern_text (view v)
-string_pattern v s a e h = ap (λ x. is_pattern (chars x)) h ∙ ap is_pattern_text (sym (ap view e ∙ view_String s))

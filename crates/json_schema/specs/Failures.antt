@@ -20,6 +20,7 @@ status_of is.Arguments = 2
 status_of (is.SchemaFile e) = 2
 status_of (is.SchemaText e) = 2
 status_of (is.Refused place) = 2
+status_of (is.PatternLimit place) = 2
 status_of (is.Input e) = input_status (io_kind e)
 status_of (is.Text c) = 3
 status_of is.OutOfMemory = 4
@@ -31,6 +32,8 @@ failure_message is.Arguments = Some (codes "usage: json_schema [-l] SCHEMA-FILE"
 failure_message (is.SchemaText e) = Some (codes "the schema: " ++ error_message e)
 failure_message (is.Refused place) =
     Some (codes "the schema: can't be applied at \"" ++ (shown (text place) ++ codes "\""))
+failure_message (is.PatternLimit place) =
+    Some (codes "the schema: the pattern at \"" ++ (shown (text place) ++ codes "\" is too deep or too large"))
 failure_message (is.Text cause.NotUtf8) = Some (codes "not UTF-8")
 failure_message (is.Text (cause.NotJson e)) = Some (error_message e)
 failure_message (is.Text cause.TooDeep) = Some too_deep

@@ -3,19 +3,20 @@ use Rattle.std.specs.Prelude.{◌≡◌, true, false, Result, Ok, Err}
 use Rattle.tinyjson.specs.Tree.{Tree}
 use Rattle.tinyjson.specs.View.{view}
 use Rattle.json_pointer.specs.Tokens.{tokens_of}
-use Rattle.json_schema.specs.Refused.{IsRefusedAt}
+use Rattle.json_schema.specs.Refused.{IsRefusedAt, IsAboveAt}
 use Rattle.json_schema.specs.Schemas.{is_schema}
 use Rattle.json_schema.specs.declared.form.Form.TheVariants as form
 use Rattle.json_schema.specs.declared.schema.Schema.{Schema}
 use Rattle.json_schema.specs.declared.schema.SchemaError.{SchemaError}
-use Rattle.json_schema.specs.declared.schema.SchemaError.TheVariants.{Refused, OutOfMemory}
+use Rattle.json_schema.specs.declared.schema.SchemaError.TheVariants.{Refused, PatternLimit, OutOfMemory}
 
 -- the tree that a schema was read from
 abbrev pub tree_of : Schema → Tree
 tree_of s = view s.whole.root.now
 
--- The tree as a schema, which can be applied; or the place of what can't be.
+-- The tree as a schema, which can be applied; or the place of what can't be, or of a pattern that is too deep or too large.
 abbrev pub ReadsSchema : Tree → Result Schema SchemaError → Type 0
 ReadsSchema t (Ok s) = (tree_of s ≡ t) × (is_schema t true t ≡ true)
 ReadsSchema t (Err (Refused p)) = (is_schema t true t ≡ false) × IsRefusedAt t true form.Schema t (tokens_of p)
+ReadsSchema t (Err (PatternLimit p)) = IsAboveAt form.Schema t (tokens_of p)
 ReadsSchema t (Err OutOfMemory) = Unit {0}

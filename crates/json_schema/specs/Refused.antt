@@ -3,17 +3,20 @@ use Rattle.std.specs.Prelude.{◌≡◌, ℕ, Bool, true, false, ◌||◌, List,
 use Rattle.std.specs.declared.alloc.AllocError.{AllocError}
 use Rattle.i_regexp.specs.PatternDeciding.{is_pattern}
 use Rattle.tinyjson.specs.Access.{is_boolean, is_object}
-use Rattle.tinyjson.specs.Tree.{Tree, array}
+use Rattle.tinyjson.specs.Tree.{Tree, string, array}
 use Rattle.tinyjson.specs.View.{view}
 use Rattle.json_pointer.specs.Tokens.{tokens_of}
 use Rattle.json_pointer.specs.Walk.{step}
-use Rattle.json_pointer.specs.declared.pointer.Pointer.{Pointer}
 use Rattle.json_schema.specs.Forms.{is_some_item}
+use Rattle.json_schema.specs.Patterns.{IsAboveLimits}
 use Rattle.json_schema.specs.References.{form_in}
 use Rattle.json_schema.specs.Schemas.{fits}
 use Rattle.json_schema.specs.declared.document.Document.{Document}
 use Rattle.json_schema.specs.declared.form.Form.{Form}
 use Rattle.json_schema.specs.declared.form.Form.TheVariants as form
+use Rattle.json_schema.specs.declared.refused.Reason.{Reason}
+use Rattle.json_schema.specs.declared.refused.Reason.TheVariants.{Misfit, PatternLimit}
+use Rattle.json_schema.specs.declared.refused.RefusedPlace.{RefusedPlace}
 
 abbrev pub is_some_list : Tree → Bool
 is_some_list (array ts) = is_some_item ts
@@ -41,13 +44,42 @@ pub data IsRefusedAt : Tree → Bool → Form → Tree → List (List ℕ) → T
   inside : {root w v : Tree} {whole : Bool} {f : Form} {k : List ℕ} {ks : List (List ℕ)} → step w k ≡ Some v
       → IsRefusedAt root (whole_for whole (form_in f k)) (form_in f k) v ks → IsRefusedAt root whole f w (k ∷ ks)
 
+-- What the tokens name in w, which needs the form f, is a pattern that is too deep or too large, or a key that is one. They
+-- lead through keywords that have schemas.
+pub data IsAboveAt : Form → Tree → List (List ℕ) → Type 0 where
+  value : {cs : List ℕ} → IsAboveLimits cs → IsAboveAt form.Pattern (string cs) []
+  key : {w v : Tree} {k : List ℕ} → step w k ≡ Some v → IsAboveLimits k → IsAboveAt form.PatternMap w (k ∷ [])
+  within : {w v : Tree} {f : Form} {k : List ℕ} {ks : List (List ℕ)} → step w k ≡ Some v → IsAboveAt (form_in f k) v ks
+      → IsAboveAt f w (k ∷ ks)
+
 -- ---- words of private contracts
 
--- No place, and what was asked is so; or one of which At says more, and it is not.
-abbrev pub Refuses : Bool → (List (List ℕ) → Type 0) → Result (Option Pointer) AllocError → Type 0
-Refuses is At (Ok None) = is ≡ true
-Refuses is At (Ok (Some p)) = (is ≡ false) × At (tokens_of p)
-Refuses is At (Err e) = Unit {0}
+-- What was asked of w is not so, and something in it can't be applied; or a pattern in it is too deep or too large.
+abbrev pub IsReason : Bool → Tree → Bool → Form → Tree → Reason → List (List ℕ) → Type 0
+IsReason is root whole f w Misfit ks = (is ≡ false) × IsRefusedAt root whole f w ks
+IsReason is root whole f w PatternLimit ks = IsAboveAt f w ks
+
+-- No place, and what was asked is so; or one, with its reason.
+abbrev pub Refuses : Bool → Tree → Bool → Form → Tree → Result (Option RefusedPlace) AllocError → Type 0
+Refuses is root whole f w (Ok None) = is ≡ true
+Refuses is root whole f w (Ok (Some p)) = IsReason is root whole f w p.reason (tokens_of p.pointer)
+Refuses is root whole f w (Err e) = Unit {0}
+
+-- the place of the whole, with the reason
+abbrev pub IsWhole : Reason → RefusedPlace → Type 0
+IsWhole x p = (p.reason ≡ x) × (tokens_of p.pointer ≡ [])
+
+-- No place, and what was asked is so; or that of the whole.
+abbrev pub RefusesWhole : Bool → Result (Option RefusedPlace) AllocError → Type 0
+RefusesWhole is (Ok None) = is ≡ true
+RefusesWhole is (Ok (Some p)) = (is ≡ false) × IsWhole Misfit p
+RefusesWhole is (Err e) = Unit {0}
+
+-- why a text can't be applied as a pattern; or it can be
+abbrev pub IsTextReason : List ℕ → Option Reason → Type 0
+IsTextReason cs None = is_pattern cs ≡ true
+IsTextReason cs (Some Misfit) = is_pattern cs ≡ false
+IsTextReason cs (Some PatternLimit) = IsAboveLimits cs
 
 -- the whole schema that a document has
 abbrev pub whole_of : Document → Tree

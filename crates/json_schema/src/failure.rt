@@ -23,6 +23,8 @@ pub enum Failure {
     SchemaText(JsonParseError),
     /// The schema can't be applied at the place with this pointer.
     Refused(String),
+    /// The pattern at the place with this pointer is too deep or too large.
+    PatternLimit(String),
     /// Standard input can't be read, or is not UTF-8.
     Input(io::Error),
     /// The input is no JSON text, or its value goes through too many schemas in one another.
@@ -48,7 +50,7 @@ impl Failure {
     {
         match self {
             Failure::Arguments | Failure::SchemaFile(_) => 2,
-            Failure::SchemaText(_) | Failure::Refused(_) => 2,
+            Failure::SchemaText(_) | Failure::Refused(_) | Failure::PatternLimit(_) => 2,
             Failure::Text(_) => 3,
             Failure::Input(error) if error.kind() == ErrorKind::InvalidData => 3,
             Failure::Input(_) | Failure::OutOfMemory | Failure::Stream(_) => 4,
@@ -68,6 +70,13 @@ impl fmt::Display for Failure {
             Failure::Refused(place) => {
                 let place = Shown(place.as_str());
                 write!(f, "the schema: can't be applied at \"{place}\"")
+            }
+            Failure::PatternLimit(place) => {
+                let place = Shown(place.as_str());
+                write!(
+                    f,
+                    "the schema: the pattern at \"{place}\" is too deep or too large"
+                )
             }
             Failure::Input(error) => write!(f, "{error}"),
             Failure::Text(Cause::NotUtf8) => f.write_str("not UTF-8"),

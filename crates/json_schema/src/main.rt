@@ -101,6 +101,9 @@ fn read_schema(alloc: Global, tree: &JsonValue) -> Result<Schema<'_>, Failure> {
     match Schema::read(tree, alloc) {
         Ok(schema) => Ok(schema),
         Err(SchemaError::Refused(place)) => Err(Failure::Refused(place.to_string(alloc)?)),
+        Err(SchemaError::PatternLimit(place)) => {
+            Err(Failure::PatternLimit(place.to_string(alloc)?))
+        }
         Err(SchemaError::OutOfMemory) => Err(Failure::OutOfMemory),
     }
 }

@@ -1,5 +1,6 @@
 //! Which schemas can be applied, and the place of what can't.
-ghost use Rattle.std.specs.Prelude.{◌≡◌, ◌&&◌, IfOk, true, false, [], option_map};
+ghost use Rattle.std.specs.Prelude.{◌≡◌, ◌&&◌, IfOk, true, false, option_map};
+ghost use Rattle.std.specs.Str.{chars};
 ghost use Rattle.std.specs.String.{string_bytes};
 ghost use Rattle.tinyjson.specs.Access.{is_string, is_boolean, is_array, is_number};
 ghost use Rattle.tinyjson.specs.Soundness.{IsSorted};
@@ -10,7 +11,8 @@ ghost use Rattle.json_schema.specs.Forms.{is_count, is_type_name, are_type_names
 ghost use Rattle.json_schema.specs.Forms.{are_types, are_strings, are_keys, is_key_list, have_key_lists};
 ghost use Rattle.json_schema.specs.Forms.{is_key_map, is_pattern_text, are_patterns, has_patterns};
 ghost use Rattle.json_schema.specs.Forms.{is_dialect, is_name_of_type, is_type_list, is_some_item};
-ghost use Rattle.json_schema.specs.Refused.{Refuses, IsRefusedAt, whole_for, whole_of};
+ghost use Rattle.json_schema.specs.Refused.{Refuses, RefusesWhole, IsWhole, IsTextReason};
+ghost use Rattle.json_schema.specs.Refused.{whole_for, whole_of};
 ghost use Rattle.json_schema.specs.Schemas.{is_schema, keywords_fit, fits};
 ghost use Rattle.json_schema.specs.Schemas.{is_schema_list, is_schema_map, are_schemas};
 ghost use Rattle.json_schema.specs.Schemas.{have_schemas};
@@ -22,24 +24,40 @@ use crate::circles::leads;
 use crate::document::Document;
 use crate::form::{Form, form_at};
 use crate::multiple::is_divisor_number;
-use crate::pattern::is_pattern;
+use crate::pattern::{PatternError, is_pattern};
 use json_order::are_distinct;
 use json_pointer::Pointer;
 use std::alloc::{AllocError, Global};
 use tinyjson::{JsonValue, sorted_members};
 
+/// A place in a schema that is refused, and why.
+#[derive(Debug, Drop)]
+pub struct RefusedPlace {
+    pub pointer: Pointer,
+    pub reason: Reason,
+}
+
+/// Why a place is refused.
+#[derive(Clone, Copy, Debug, PartialEq, Eq)]
+pub enum Reason {
+    /// What stands there can't be applied.
+    Misfit,
+    /// It is a pattern that is too deep or too large.
+    PatternLimit,
+}
+
 /// The place of what can't be applied in a schema: a keyword whose value has another form than the standard's,
 /// a reference that leads to no schema in it, or in a circle, or a schema that is neither an object nor a truth
-/// value. `None` says that the schema can be applied. The only error is out of memory.
+/// value; or that of a pattern that is too deep or too large. `None` says that the schema can be applied. The only
+/// error is out of memory.
 ///
 /// It calls itself for each schema in the schema, so it takes stack as the schema is deep.
 pub fn refused_place(
     document: Document<'_, '_>,
     alloc: Global,
-) -> Result<Option<Pointer>, AllocError>
-    ensures { Refuses
-        (is_schema (whole_of document.entry) true (whole_of document.entry))
-        (IsRefusedAt (whole_of document.entry) true form.Schema (whole_of document.entry)) result }
+) -> Result<Option<RefusedPlace>, AllocError>
+    ensures { let root = whole_of document.entry in
+        Refuses (is_schema root true root) root true form.Schema root result }
 {
     refused_in(document.whole.root, document, true, alloc)
 }
@@ -51,9 +69,9 @@ fn refused_in(
     document: Document<'_, '_>,
     is_whole: bool,
     alloc: Global,
-) -> Result<Option<Pointer>, AllocError>
+) -> Result<Option<RefusedPlace>, AllocError>
     ensures { Refuses (is_schema (whole_of document.entry) is_whole (view schema.now))
-        (IsRefusedAt (whole_of document.entry) is_whole form.Schema (view schema.now)) result }
+        (whole_of document.entry) is_whole form.Schema (view schema.now) result }
 {
     match schema {
         JsonValue::Boolean(_) => Ok(None),
@@ -61,7 +79,7 @@ fn refused_in(
             let sorted = sorted_members(alloc, keywords)?;
             refused_keyword(sorted.as_slice(), document, is_whole, alloc)
         }
-        _ => Ok(Some(Pointer::root(alloc))),
+        _ => Ok(Some(whole_place(alloc, Reason::Misfit))),
     }
 }
 
@@ -71,12 +89,12 @@ fn refused_keyword(
     document: Document<'_, '_>,
     is_whole: bool,
     alloc: Global,
-) -> Result<Option<Pointer>, AllocError>
+) -> Result<Option<RefusedPlace>, AllocError>
     requires { IsSorted (members_listed keywords.now) }
     ensures { Refuses
         (keywords_fit (whole_of document.entry) is_whole (members_listed keywords.now))
-        (IsRefusedAt (whole_of document.entry) is_whole form.Schema
-        (object (members_listed keywords.now))) result }
+        (whole_of document.entry) is_whole form.Schema
+        (object (members_listed keywords.now)) result }
 {
     for (name, operand) in keywords {
         if let Some(mut place) = misfit(
@@ -86,7 +104,9 @@ fn refused_keyword(
             is_whole,
             alloc,
         )? {
-            place.prepend(String::from_str(alloc, name.as_str())?)?;
+            place
+                .pointer
+                .prepend(String::from_str(alloc, name.as_str())?)?;
             return Ok(Some(place));
         }
     }
@@ -101,10 +121,9 @@ fn misfit(
     document: Document<'_, '_>,
     is_whole: bool,
     alloc: Global,
-) -> Result<Option<Pointer>, AllocError>
+) -> Result<Option<RefusedPlace>, AllocError>
     ensures { Refuses (fits (whole_of document.entry) is_whole form (view operand.now))
-        (IsRefusedAt (whole_of document.entry) (whole_for is_whole form) form
-        (view operand.now)) result }
+        (whole_of document.entry) (whole_for is_whole form) form (view operand.now) result }
 {
     match form {
         Form::Anything => Ok(None),
@@ -117,7 +136,7 @@ fn misfit(
         Form::Count => unless(is_count(operand), alloc),
         Form::Keys => unless(is_key_list(operand, alloc)?, alloc),
         Form::KeyLists => unless(is_key_map(operand, alloc)?, alloc),
-        Form::Pattern => unless(is_pattern_text(operand, alloc)?, alloc),
+        Form::Pattern => refused_text(operand, alloc),
         Form::Dialect => unless(is_dialect(operand), alloc),
         Form::Schema => refused_in(operand, document, false, alloc),
         Form::Schemas => refused_in_list(operand, document, alloc),
@@ -134,16 +153,16 @@ fn refused_in_list(
     schemas: &JsonValue,
     document: Document<'_, '_>,
     alloc: Global,
-) -> Result<Option<Pointer>, AllocError>
+) -> Result<Option<RefusedPlace>, AllocError>
     ensures { Refuses (is_schema_list (whole_of document.entry) (view schemas.now))
-        (IsRefusedAt (whole_of document.entry) false form.Schemas (view schemas.now)) result }
+        (whole_of document.entry) false form.Schemas (view schemas.now) result }
 {
     let JsonValue::Array(schemas) = schemas else {
-        return Ok(Some(Pointer::root(alloc)));
+        return Ok(Some(whole_place(alloc, Reason::Misfit)));
     };
     let schemas = schemas.as_slice();
     if !is_some_item(schemas) {
-        return Ok(Some(Pointer::root(alloc)));
+        return Ok(Some(whole_place(alloc, Reason::Misfit)));
     }
     refused_item(schemas, document, alloc)
 }
@@ -153,14 +172,13 @@ fn refused_item(
     schemas: &[JsonValue],
     document: Document<'_, '_>,
     alloc: Global,
-) -> Result<Option<Pointer>, AllocError>
+) -> Result<Option<RefusedPlace>, AllocError>
     ensures { Refuses (are_schemas (whole_of document.entry) (items_view schemas.now))
-        (IsRefusedAt (whole_of document.entry) false form.Schemas
-        (array (items_view schemas.now))) result }
+        (whole_of document.entry) false form.Schemas (array (items_view schemas.now)) result }
 {
     for (index, schema) in schemas.iter().enumerate() {
         if let Some(mut place) = refused_in(schema, document, false, alloc)? {
-            place.prepend_index(alloc, index)?;
+            place.pointer.prepend_index(alloc, index)?;
             return Ok(Some(place));
         }
     }
@@ -172,12 +190,12 @@ fn refused_in_map(
     schemas: &JsonValue,
     document: Document<'_, '_>,
     alloc: Global,
-) -> Result<Option<Pointer>, AllocError>
+) -> Result<Option<RefusedPlace>, AllocError>
     ensures { Refuses (is_schema_map (whole_of document.entry) (view schemas.now))
-        (IsRefusedAt (whole_of document.entry) false form.SchemaMap (view schemas.now)) result }
+        (whole_of document.entry) false form.SchemaMap (view schemas.now) result }
 {
     let JsonValue::Object(schemas) = schemas else {
-        return Ok(Some(Pointer::root(alloc)));
+        return Ok(Some(whole_place(alloc, Reason::Misfit)));
     };
     let sorted = sorted_members(alloc, schemas)?;
     refused_member(sorted.as_slice(), document, alloc)
@@ -188,32 +206,34 @@ fn refused_member(
     schemas: &[(&String, &JsonValue)],
     document: Document<'_, '_>,
     alloc: Global,
-) -> Result<Option<Pointer>, AllocError>
+) -> Result<Option<RefusedPlace>, AllocError>
     requires { IsSorted (members_listed schemas.now) }
     ensures { Refuses (have_schemas (whole_of document.entry) (members_listed schemas.now))
-        (IsRefusedAt (whole_of document.entry) false form.SchemaMap
-        (object (members_listed schemas.now))) result }
+        (whole_of document.entry) false form.SchemaMap
+        (object (members_listed schemas.now)) result }
 {
     for (key, schema) in schemas {
         if let Some(mut place) = refused_in(schema, document, false, alloc)? {
-            place.prepend(String::from_str(alloc, key.as_str())?)?;
+            place
+                .pointer
+                .prepend(String::from_str(alloc, key.as_str())?)?;
             return Ok(Some(place));
         }
     }
     Ok(None)
 }
 
-/// The place of a key that is no pattern, or else of what is refused in a schema.
+/// The place of a key that is no pattern, or one above the limits, or else of what is refused in a schema.
 #[cycle(refused)]
 fn refused_in_patterns(
     schemas: &JsonValue,
     document: Document<'_, '_>,
     alloc: Global,
-) -> Result<Option<Pointer>, AllocError>
+) -> Result<Option<RefusedPlace>, AllocError>
     ensures { Refuses
         (has_patterns (view schemas.now)
         && is_schema_map (whole_of document.entry) (view schemas.now))
-        (IsRefusedAt (whole_of document.entry) false form.PatternMap (view schemas.now)) result }
+        (whole_of document.entry) false form.PatternMap (view schemas.now) result }
 {
     if let Some(place) = refused_pattern(schemas, alloc)? {
         return Ok(Some(place));
@@ -221,46 +241,83 @@ fn refused_in_patterns(
     refused_in_map(schemas, document, alloc)
 }
 
-fn refused_pattern(schemas: &JsonValue, alloc: Global) -> Result<Option<Pointer>, AllocError>
+fn refused_pattern(schemas: &JsonValue, alloc: Global) -> Result<Option<RefusedPlace>, AllocError>
     ensures { (root : Tree) → Refuses (has_patterns (view schemas.now))
-        (IsRefusedAt root false form.PatternMap (view schemas.now)) result }
+        root false form.PatternMap (view schemas.now) result }
 {
     match schemas {
         JsonValue::Object(schemas) => {
             let sorted = sorted_members(alloc, schemas)?;
             refused_key(sorted.as_slice(), alloc)
         }
-        _ => Ok(Some(Pointer::root(alloc))),
+        _ => Ok(Some(whole_place(alloc, Reason::Misfit))),
     }
 }
 
 fn refused_key(
     schemas: &[(&String, &JsonValue)],
     alloc: Global,
-) -> Result<Option<Pointer>, AllocError>
+) -> Result<Option<RefusedPlace>, AllocError>
     requires { IsSorted (members_listed schemas.now) }
     ensures { (root : Tree) → Refuses (are_patterns (members_listed schemas.now))
-        (IsRefusedAt root false form.PatternMap (object (members_listed schemas.now))) result }
+        root false form.PatternMap (object (members_listed schemas.now)) result }
 {
     for (key, _) in schemas {
-        let is = is_pattern(alloc, key.as_str())?;
-        if !is {
-            let mut place = Pointer::root(alloc);
-            place.prepend(String::from_str(alloc, key.as_str())?)?;
+        if let Some(reason) = text_reason(key.as_str(), alloc)? {
+            let mut place = whole_place(alloc, reason);
+            place
+                .pointer
+                .prepend(String::from_str(alloc, key.as_str())?)?;
             return Ok(Some(place));
         }
     }
     Ok(None)
 }
 
+/// The place of the whole, unless it is a text that is a pattern.
+fn refused_text(value: &JsonValue, alloc: Global) -> Result<Option<RefusedPlace>, AllocError>
+    ensures { (root : Tree) → Refuses (is_pattern_text (view value.now))
+        root false form.Pattern (view value.now) result }
+{
+    match value {
+        JsonValue::String(pattern) => match text_reason(pattern.as_str(), alloc)? {
+            Some(reason) => Ok(Some(whole_place(alloc, reason))),
+            None => Ok(None),
+        },
+        _ => Ok(Some(whole_place(alloc, Reason::Misfit))),
+    }
+}
+
+/// Why the text can't be applied as a pattern; `None` says that it can be.
+fn text_reason(text: &str, alloc: Global) -> Result<Option<Reason>, AllocError>
+    ensures { IfOk result (λ reason. IsTextReason (chars text.now) reason) }
+{
+    match is_pattern(alloc, text) {
+        Ok(true) => Ok(None),
+        Ok(false) => Ok(Some(Reason::Misfit)),
+        Err(PatternError::AboveLimits) => Ok(Some(Reason::PatternLimit)),
+        Err(PatternError::OutOfMemory) => Err(AllocError),
+    }
+}
+
+/// The place of the whole.
+fn whole_place(alloc: Global, reason: Reason) -> RefusedPlace
+    ensures { IsWhole reason result }
+{
+    RefusedPlace {
+        pointer: Pointer::root(alloc),
+        reason,
+    }
+}
+
 /// The place of the whole, unless it fits.
-fn unless(fits: bool, alloc: Global) -> Result<Option<Pointer>, AllocError>
-    ensures { Refuses fits (λ ks. ks ≡ []) result }
+fn unless(fits: bool, alloc: Global) -> Result<Option<RefusedPlace>, AllocError>
+    ensures { RefusesWhole fits result }
 {
     if fits {
         Ok(None)
     } else {
-        Ok(Some(Pointer::root(alloc)))
+        Ok(Some(whole_place(alloc, Reason::Misfit)))
     }
 }
 
@@ -434,15 +491,6 @@ fn have_key_lists(lists: &[(&String, &JsonValue)], alloc: Global) -> Result<bool
         }
     }
     Ok(true)
-}
-
-fn is_pattern_text(value: &JsonValue, alloc: Global) -> Result<bool, AllocError>
-    ensures { IfOk result (λ is. is ≡ is_pattern_text (view value.now)) }
-{
-    match value {
-        JsonValue::String(pattern) => is_pattern(alloc, pattern.as_str()),
-        _ => Ok(false),
-    }
 }
 
 fn is_dialect(value: &JsonValue) -> bool

@@ -6,7 +6,7 @@ ghost use Rattle.json_schema.specs.declared.schema.SchemaError.{SchemaError};
 
 use crate::anchor::{anchors_of, repeated};
 use crate::document::{Document, Whole};
-use crate::refused::refused_place;
+use crate::refused::{Reason, refused_place};
 use crate::validate::find_violation;
 use crate::violation::Violation;
 use crate::walk::{CheckError, Walk};
@@ -29,6 +29,8 @@ pub enum SchemaError {
     /// a reference that leads to no schema in the tree, or in a circle, a name that another schema
     /// has, or a schema that is neither an object nor a truth value.
     Refused(Pointer),
+    /// A pattern at this place is too deep or too large.
+    PatternLimit(Pointer),
     /// An allocation failed.
     OutOfMemory,
 }
@@ -45,7 +47,8 @@ impl<'s> Schema<'s> {
     ghost use Rattle.json_schema.specs.Reading.{ReadsSchema, tree_of};
     ghost use Rattle.json_schema.specs.Valid.{Validates, Agrees};
 
-    /// Looks a tree through, and gives it as a schema, or the place of what can't be applied in it (Core, 4.3).
+    /// Looks a tree through, and gives it as a schema, or the place of what can't be applied in it (Core, 4.3), or of a pattern that is too
+    /// deep or too large.
     ///
     /// It calls itself for each schema in the tree, so it takes stack as the tree is deep.
     ///
@@ -67,7 +70,10 @@ impl<'s> Schema<'s> {
         };
         match refused_place(document, alloc)? {
             None => Ok(Schema { whole }),
-            Some(place) => Err(SchemaError::Refused(place)),
+            Some(place) => match place.reason {
+                Reason::Misfit => Err(SchemaError::Refused(place.pointer)),
+                Reason::PatternLimit => Err(SchemaError::PatternLimit(place.pointer)),
+            },
         }
     }
 

@@ -1,3 +1,4 @@
+use Rattle.std.proofs.Common.{inl, inr}
 use Rattle.std.specs.Str.{chars}
 use Rattle.i_regexp.proofs.Callers.{refused_pattern, outside_pattern}
 use Rattle.json_schema.proofs.Patterns.{answers_read, is_read, answers_nothing, is_nothing}
@@ -24,3 +25,9 @@ returns-in-Outside-clause-is c =
 pub returns-in-Outside-clause-found : goal.returns-in-Outside-clause-found
 returns-in-Outside-clause-found c =
     answers_nothing (chars c.args.pattern.now) (outside_pattern (chars c.args.pattern.now) c.in-Err.error c.in-Err.ensures c.in-Outside.is)
+
+pub returns-in-TooDeep-clause-error : goal.returns-in-TooDeep-clause-error
+returns-in-TooDeep-clause-error c = record { error = c.in-Err.error; refused = c.in-Err.ensures; limit = inl c.in-TooDeep.is }
+
+pub returns-in-TooLarge-clause-error : goal.returns-in-TooLarge-clause-error
+returns-in-TooLarge-clause-error c = record { error = c.in-Err.error; refused = c.in-Err.ensures; limit = inr c.in-TooLarge.is }

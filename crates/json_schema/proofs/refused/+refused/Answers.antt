@@ -7,7 +7,7 @@ use Rattle.tinyjson.specs.Tree.{tree_depth, items_depth, members_depth, array, o
 use Rattle.tinyjson.specs.View.{view, text, items_view, members_listed}
 use Rattle.json_pointer.specs.Tokens.{tokens_of}
 use Rattle.json_schema.specs.Forms.{form_at, is_some_item, has_patterns}
-use Rattle.json_schema.specs.Refused.{Refuses, IsRefusedAt, is_some_list, whole_for, whole_of}
+use Rattle.json_schema.specs.Refused.{Refuses, is_some_list, whole_for, whole_of}
 use Rattle.json_schema.specs.Schemas.{fits, is_schema, keywords_fit, are_schemas, have_schemas, is_schema_map}
 use Rattle.json_schema.specs.declared.form.Form.{Form}
 use Rattle.json_schema.specs.declared.form.Form.TheVariants as form
@@ -16,7 +16,7 @@ use Rattle.json_schema.proofs.Forms.{keyword_turn, list_part}
 use Rattle.json_schema.proofs.Listed.{listed_sorted}
 use Rattle.json_schema.proofs.Lookups.{text_bytes}
 use Rattle.json_schema.proofs.Refusals.{own_misfit, own_place, in_keyword, in_member, in_item, no_schema, no_list, no_map}
-use Rattle.json_schema.proofs.Refusals.{refuses_in_patterns}
+use Rattle.json_schema.proofs.Refusals.{refuses_in_patterns, refuses_more}
 use Rattle.json_schema.proofs.Turns.{nth_item, turn_stop}
 use Rattle.json_schema.proofs.refused.+refused.Goals as goal
 
@@ -104,10 +104,11 @@ misfit-returns-in_ok-is_key_map-in-KeyLists t c =
     own_misfit (whole_of c.args.document) c.args.is_whole c.args.form form.KeyLists (view c.args.operand.now) _ _ c.in-KeyLists.is
     (sym c.in_ok-is_key_map-in-KeyLists.ensures) (sym c.in_ok-is_key_map-in-KeyLists.ensures) c.unless-in-KeyLists.ensures
 
-pub misfit-returns-in_ok-is_pattern_text-in-Pattern : goal.misfit-returns-in_ok-is_pattern_text-in-Pattern
-misfit-returns-in_ok-is_pattern_text-in-Pattern t c =
-    own_misfit (whole_of c.args.document) c.args.is_whole c.args.form form.Pattern (view c.args.operand.now) _ _ c.in-Pattern.is
-    (sym c.in_ok-is_pattern_text-in-Pattern.ensures) (sym c.in_ok-is_pattern_text-in-Pattern.ensures) c.unless-in-Pattern.ensures
+pub misfit-returns-in-Pattern : goal.misfit-returns-in-Pattern
+misfit-returns-in-Pattern t c =
+    let root = whole_of c.args.document in
+    subst (λ f. Refuses (fits root c.args.is_whole f (view c.args.operand.now)) root (whole_for c.args.is_whole f) f
+    (view c.args.operand.now) c.refused_text.result) (sym c.in-Pattern.is) (c.refused_text.ensures root)
 
 pub misfit-returns-in_ok-leads-in-Reference : goal.misfit-returns-in_ok-leads-in-Reference
 misfit-returns-in_ok-leads-in-Reference t c =
@@ -128,24 +129,25 @@ refused_in-refused_keyword-requires t c =
 
 pub refused_in-returns-in_ok-sorted-in-Object : goal.refused_in-returns-in_ok-sorted-in-Object
 refused_in-returns-in_ok-sorted-in-Object t c =
+    let root = whole_of c.args.document in
     let same : object (members_listed c.as_slice.result.now) ≡ view c.args.schema.now
     = ap object (ap members_listed c.as_slice.ensures.value ∙ c.in_ok-sorted-in-Object.ensures)
     ∙ sym (ap view c.in-Object.is ∙ view_Object c.in-Object.keywords) in
-    subst (λ x. Refuses (is_schema (whole_of c.args.document) c.args.is_whole x)
-    (IsRefusedAt (whole_of c.args.document) c.args.is_whole form.Schema x)
-    c.refused_keyword.result) same c.refused_keyword.ensures
+    subst (λ x. Refuses (is_schema root c.args.is_whole x) root c.args.is_whole form.Schema x c.refused_keyword.result) same
+    c.refused_keyword.ensures
 
 pub refused_in-returns-in_default : goal.refused_in-returns-in_default
 refused_in-returns-in_default t c =
-    no_schema (whole_of c.args.document) c.args.is_whole c.args.schema.now _ c.in_default.not-Boolean c.in_default.not-Object c.root.ensures
+    no_schema (whole_of c.args.document) c.args.is_whole c.args.schema.now c.whole_place.result c.in_default.not-Boolean
+    c.in_default.not-Object c.whole_place.ensures
 
 pub refused_in_list-returns-in_default : goal.refused_in_list-returns-in_default
 refused_in_list-returns-in_default t c =
-    no_list (whole_of c.args.document) c.args.schemas.now _ c.in_default.not-Array c.root.ensures
+    no_list (whole_of c.args.document) c.args.schemas.now c.whole_place.result c.in_default.not-Array c.whole_place.ensures
 
 pub refused_in_map-returns-in_default : goal.refused_in_map-returns-in_default
 refused_in_map-returns-in_default t c =
-    no_map (whole_of c.args.document) c.args.schemas.now _ c.in_default.not-Object c.root.ensures
+    no_map (whole_of c.args.document) c.args.schemas.now c.whole_place.result c.in_default.not-Object c.whole_place.ensures
 
 pub refused_in_map-refused_member-requires : goal.refused_in_map-refused_member-requires
 refused_in_map-refused_member-requires t c =
@@ -161,117 +163,120 @@ refused_in_map-refused_member-requires t c =
 
 pub refused_in_map-returns : goal.refused_in_map-returns
 refused_in_map-returns t c =
+    let root = whole_of c.args.document in
     let same : object (members_listed c.as_slice.result.now) ≡ view c.args.schemas.now
     = ap object (ap members_listed c.as_slice.ensures.value ∙ c.in_ok-sorted.ensures)
     ∙ sym (ap view c.in-Object.is ∙ view_Object c.in-Object.schemas) in
-    subst (λ x. Refuses (is_schema_map (whole_of c.args.document) x) (IsRefusedAt (whole_of c.args.document) false form.SchemaMap x)
-    c.refused_member.result) same
+    subst (λ x. Refuses (is_schema_map root x) root false form.SchemaMap x c.refused_member.result) same
     c.refused_member.ensures
 
 pub refused_in_list-returns-then-not-is_some_item : goal.refused_in_list-returns-then-not-is_some_item
 refused_in_list-returns-then-not-is_some_item t c =
+    let root = whole_of c.args.document in
     let ys = c.as_slice-schemas.result.now in
     let none : is_some_item (items_view ys) ≡ false = sym c.is_some_item.ensures ∙ c.if-not-is_some_item.true in
     let same : array (items_view ys) ≡ view c.args.schemas.now = ap (λ xs. array (items_view xs)) c.as_slice-schemas.ensures.value
-    ∙ sym (ap view c.in-Array.is ∙ view_Array c.in-Array.schemas) in (
-      sym (list_part (whole_of c.args.document) c.args.schemas.now c.in-Array.schemas ys c.in-Array.is c.as_slice-schemas.ensures.value)
-          ∙ ap (λ b. b && are_schemas (whole_of c.args.document) (items_view ys)) none,
-      own_place (whole_of c.args.document) false form.Schemas (view c.args.schemas.now) _ c.root-then-not-is_some_item.ensures
-          (subst (λ x. is_some_list x ≡ false) same none),
-    )
+    ∙ sym (ap view c.in-Array.is ∙ view_Array c.in-Array.schemas) in
+    own_place root false form.Schemas (view c.args.schemas.now) _ c.whole_place-then-not-is_some_item.result
+    c.whole_place-then-not-is_some_item.ensures
+    (sym (list_part root c.args.schemas.now c.in-Array.schemas ys c.in-Array.is c.as_slice-schemas.ensures.value)
+    ∙ ap (λ b. b && are_schemas root (items_view ys)) none) (subst (λ x. is_some_list x ≡ false) same none)
 
 pub refused_in_list-returns : goal.refused_in_list-returns
 refused_in_list-returns t c =
+    let root = whole_of c.args.document in
     let ys = c.as_slice-schemas.result.now in
     let some : is_some_item (items_view ys) ≡ true = sym c.is_some_item.ensures ∙ c.if-not-is_some_item.false in
     let same : array (items_view ys) ≡ view c.args.schemas.now = ap (λ xs. array (items_view xs)) c.as_slice-schemas.ensures.value
     ∙ sym (ap view c.in-Array.is ∙ view_Array c.in-Array.schemas) in
-    let at = subst (λ x. Refuses (are_schemas (whole_of c.args.document) (items_view ys))
-    (IsRefusedAt (whole_of c.args.document) false form.Schemas x) c.refused_item.result) same
+    let at = subst (λ x. Refuses (are_schemas root (items_view ys)) root false form.Schemas x c.refused_item.result) same
     c.refused_item.ensures in
-    subst (λ b. Refuses b (IsRefusedAt (whole_of c.args.document) false form.Schemas (view c.args.schemas.now)) c.refused_item.result)
-    (sym (ap (λ b. b && are_schemas (whole_of c.args.document) (items_view ys)) some)
-    ∙ list_part (whole_of c.args.document) c.args.schemas.now c.in-Array.schemas ys c.in-Array.is c.as_slice-schemas.ensures.value) at
+    subst (λ b. Refuses b root false form.Schemas (view c.args.schemas.now) c.refused_item.result)
+    (sym (ap (λ b. b && are_schemas root (items_view ys)) some)
+    ∙ list_part root c.args.schemas.now c.in-Array.schemas ys c.in-Array.is c.as_slice-schemas.ensures.value) at
 
 pub refused_in_patterns-returns-in-Some : goal.refused_in_patterns-returns-in-Some
 refused_in_patterns-returns-in-Some t c =
+    let root = whole_of c.args.document in
     let w = view c.args.schemas.now in
-    let none = subst (λ o. Refuses (has_patterns w) (IsRefusedAt (whole_of c.args.document) false form.PatternMap w) (Ok o)) c.in-Some.is
-    (c.in_ok-place.ensures (whole_of c.args.document)) in
-    (ap (λ b. b && is_schema_map (whole_of c.args.document) w) none.0, none.1)
+    let others = is_schema_map root w in
+    let at = subst (λ o. Refuses (has_patterns w) root false form.PatternMap w (Ok o)) c.in-Some.is (c.in_ok-place.ensures root) in
+    refuses_more root w _ _ _ _ (λ e. ap (λ b. b && others) e) at
 
 pub refused_in_patterns-returns : goal.refused_in_patterns-returns
 refused_in_patterns-returns t c =
+    let root = whole_of c.args.document in
     let w = view c.args.schemas.now in
-    let all : has_patterns w ≡ true = subst (λ o. Refuses (has_patterns w) (IsRefusedAt (whole_of c.args.document) false form.PatternMap w)
-    (Ok o)) c.in_default.is
-    (c.in_ok-place.ensures (whole_of c.args.document)) in
-    subst (λ b. Refuses b (IsRefusedAt (whole_of c.args.document) false form.PatternMap w) c.refused_in_map.result)
-    (sym (ap (λ b. b && is_schema_map (whole_of c.args.document) w) all))
-    (refuses_in_patterns (whole_of c.args.document) w _ c.refused_in_map.result c.refused_in_map.ensures)
+    let all : has_patterns w ≡ true = subst (λ o. Refuses (has_patterns w) root false form.PatternMap w (Ok o)) c.in_default.is
+    (c.in_ok-place.ensures root) in
+    subst (λ b. Refuses b root false form.PatternMap w c.refused_in_map.result)
+    (sym (ap (λ b. b && is_schema_map root w) all))
+    (refuses_in_patterns root w _ c.refused_in_map.result c.refused_in_map.ensures)
 
 pub refused_item-returns-in-Some : goal.refused_item-returns-in-Some
 refused_item-returns-in-Some t c =
+    let root = whole_of c.args.document in
     let vs = c.args.schemas.now in
     let i = c.loop-index.index in
     let x = c.index-schemas-index.result in
-    let at = subst (λ o. Refuses (is_schema (whole_of c.args.document) false (view x))
-    (IsRefusedAt (whole_of c.args.document) false form.Schema (view x)) (Ok o)) c.in-Some.is c.in_ok-place.ensures in
-    let others = are_schemas (whole_of c.args.document) (items_view (drop (i + 1) vs)) in (
-      sym (turn_stop (λ xs. are_schemas (whole_of c.args.document) (items_view xs)) vs i false x c.loop-index-test.true
-          c.index-schemas-index.is (ap (λ b. b && others) at.0) c.loop-index.invariant),
-      in_item (whole_of c.args.document) (view x) (items_view vs) i _ _ c.in_ok-prepend_index.ensures.ok
-          (nth_item vs i x c.loop-index-test.true c.index-schemas-index.is) at.1,
-    )
+    let at = subst (λ o. Refuses (is_schema root false (view x)) root false form.Schema (view x) (Ok o)) c.in-Some.is
+    c.in_ok-place.ensures in
+    let others = are_schemas root (items_view (drop (i + 1) vs)) in
+    let none : is_schema root false (view x) ≡ false → are_schemas root (items_view vs) ≡ false
+    = λ e. sym (turn_stop (λ xs. are_schemas root (items_view xs)) vs i false x c.loop-index-test.true c.index-schemas-index.is
+    (ap (λ b. b && others) e) c.loop-index.invariant) in
+    in_item root (view x) _ _ (items_view vs) i _ _ _ c.in_ok-prepend_index.ensures.ok
+    (nth_item vs i x c.loop-index-test.true c.index-schemas-index.is) none at
 
 pub refused_keyword-returns-in-Some : goal.refused_keyword-returns-in-Some
 refused_keyword-returns-in-Some t c =
+    let root = whole_of c.args.document in
     let ps = c.args.keywords.now in
     let i = c.loop-name.name-index in
     let p = c.loop-name-item.result in
     let f = c.form_at.result in
-    let fit : Form → Bool = λ g. fits (whole_of c.args.document) c.args.is_whole g (view p.1.now) in
-    let others = keywords_fit (whole_of c.args.document) c.args.is_whole (members_listed (drop (i + 1) ps)) in
+    let fit : Form → Bool = λ g. fits root c.args.is_whole g (view p.1.now) in
+    let others = keywords_fit root c.args.is_whole (members_listed (drop (i + 1) ps)) in
     let named : f ≡ form_at (encode_utf8_all (text p.0.now)) = c.form_at.ensures
     ∙ ap form_at (text_bytes p.0.now c.as_str.result.now c.as_str.ensures.value) in
-    let at = subst (λ o. Refuses (fit f) (IsRefusedAt (whole_of c.args.document) (whole_for c.args.is_whole f) f (view p.1.now)) (Ok o))
-    c.in-Some.is
-    c.in_ok-place.ensures in (
-      sym c.loop-name.invariant ∙ (keyword_turn (whole_of c.args.document) c.args.is_whole ps i p c.loop-name-test.true c.loop-name-item.is
-          ∙ (ap (λ g. fit g && others) (sym named) ∙ ap (λ b. b && others) at.0)),
-      in_keyword (whole_of c.args.document) c.args.is_whole ps i p f _ _ c.requires c.loop-name-test.true c.loop-name-item.is named at.1
-          (c.in_ok-prepend.ensures.ok ∙ ap (λ k. k ∷ tokens_of c.in-Some.place)
-          (ap chars (c.in_ok-from_str.ensures.ok ∙ c.as_str-in-Some.ensures.value))),
-    )
+    let at = subst (λ o. Refuses (fit f) root (whole_for c.args.is_whole f) f (view p.1.now) (Ok o)) c.in-Some.is
+    c.in_ok-place.ensures in
+    let none : fit f ≡ false → keywords_fit root c.args.is_whole (members_listed ps) ≡ false
+    = λ e. sym c.loop-name.invariant ∙ (keyword_turn root c.args.is_whole ps i p c.loop-name-test.true c.loop-name-item.is
+    ∙ (ap (λ g. fit g && others) (sym named) ∙ ap (λ b. b && others) e)) in
+    in_keyword root c.args.is_whole _ _ ps i p f _ _ _ c.requires c.loop-name-test.true c.loop-name-item.is named none at
+    (c.in_ok-prepend.ensures.ok ∙ ap (λ k. k ∷ tokens_of c.in-Some.place.pointer)
+    (ap chars (c.in_ok-from_str.ensures.ok ∙ c.as_str-in-Some.ensures.value)))
 
 pub refused_member-returns-in-Some : goal.refused_member-returns-in-Some
 refused_member-returns-in-Some t c =
+    let root = whole_of c.args.document in
     let ps = c.args.schemas.now in
     let i = c.loop-key.key-index in
     let p = c.loop-key-item.result in
-    let at = subst (λ o. Refuses (is_schema (whole_of c.args.document) false (view p.1.now))
-    (IsRefusedAt (whole_of c.args.document) false form.Schema (view p.1.now)) (Ok o)) c.in-Some.is c.in_ok-place.ensures in
-    let others = have_schemas (whole_of c.args.document) (members_listed (drop (i + 1) ps)) in (
-      sym (turn_stop (λ xs. have_schemas (whole_of c.args.document) (members_listed xs)) ps i false p c.loop-key-test.true
-          c.loop-key-item.is (ap (λ b. b && others) at.0) c.loop-key.invariant),
-      in_member (whole_of c.args.document) ps i p _ _ c.requires c.loop-key-test.true c.loop-key-item.is at.1
-          (c.in_ok-prepend.ensures.ok ∙ ap (λ k. k ∷ tokens_of c.in-Some.place)
-          (ap chars (c.in_ok-from_str.ensures.ok ∙ c.as_str.ensures.value))),
-    )
+    let at = subst (λ o. Refuses (is_schema root false (view p.1.now)) root false form.Schema (view p.1.now) (Ok o)) c.in-Some.is
+    c.in_ok-place.ensures in
+    let others = have_schemas root (members_listed (drop (i + 1) ps)) in
+    let none : is_schema root false (view p.1.now) ≡ false → have_schemas root (members_listed ps) ≡ false
+    = λ e. sym (turn_stop (λ xs. have_schemas root (members_listed xs)) ps i false p c.loop-key-test.true c.loop-key-item.is
+    (ap (λ b. b && others) e) c.loop-key.invariant) in
+    in_member root _ _ ps i p _ _ _ c.requires c.loop-key-test.true c.loop-key-item.is none at
+    (c.in_ok-prepend.ensures.ok ∙ ap (λ k. k ∷ tokens_of c.in-Some.place.pointer)
+    (ap chars (c.in_ok-from_str.ensures.ok ∙ c.as_str.ensures.value)))
 
 pub refused_keyword-loop-name-preserved : goal.refused_keyword-loop-name-preserved
 refused_keyword-loop-name-preserved t c =
+    let root = whole_of c.args.document in
     let ps = c.args.keywords.now in
     let i = c.loop-name.name-index in
     let p = c.loop-name-item.result in
     let f = c.form_at.result in
-    let fit : Form → Bool = λ g. fits (whole_of c.args.document) c.args.is_whole g (view p.1.now) in
-    let others = keywords_fit (whole_of c.args.document) c.args.is_whole (members_listed (drop (i + 1) ps)) in
+    let fit : Form → Bool = λ g. fits root c.args.is_whole g (view p.1.now) in
+    let others = keywords_fit root c.args.is_whole (members_listed (drop (i + 1) ps)) in
     let named : f ≡ form_at (encode_utf8_all (text p.0.now)) = c.form_at.ensures
     ∙ ap form_at (text_bytes p.0.now c.as_str.result.now c.as_str.ensures.value) in
-    let good : fit f ≡ true = subst (λ o. Refuses (fit f) (IsRefusedAt (whole_of c.args.document) (whole_for c.args.is_whole f) f
-    (view p.1.now)) (Ok o))
+    let good : fit f ≡ true = subst (λ o. Refuses (fit f) root (whole_for c.args.is_whole f) f (view p.1.now) (Ok o))
     c.in_default.is c.in_ok-place.ensures in
-    sym (keyword_turn (whole_of c.args.document) c.args.is_whole ps i p c.loop-name-test.true c.loop-name-item.is
+    sym (keyword_turn root c.args.is_whole ps i p c.loop-name-test.true c.loop-name-item.is
     ∙ (ap (λ g. fit g && others) (sym named) ∙ ap (λ b. b && others) good))
     ∙ c.loop-name.invariant

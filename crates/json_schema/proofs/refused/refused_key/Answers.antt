@@ -1,24 +1,32 @@
-use Rattle.std.proofs.Common.{◌≡◌, ◌∷◌, ◌∙◌, ◌&&◌, ◌+◌, false, drop, sym, ap}
+use Rattle.std.proofs.Common.{◌≡◌, ◌∷◌, ◌∙◌, ◌&&◌, ◌+◌, false, Some, drop, sym, ap, subst}
 use Rattle.std.specs.Str.{chars}
 use Rattle.i_regexp.specs.PatternDeciding.{is_pattern}
+use Rattle.tinyjson.specs.Tree.{object}
 use Rattle.tinyjson.specs.View.{text, members_listed}
 use Rattle.json_pointer.specs.Tokens.{tokens_of}
 use Rattle.json_schema.specs.Forms.{are_patterns}
+use Rattle.json_schema.specs.Refused.{IsReason, IsTextReason}
+use Rattle.json_schema.specs.declared.form.Form.TheVariants as form
 use Rattle.json_schema.proofs.Refusals.{at_key}
 use Rattle.json_schema.proofs.Turns.{turn_stop}
 use Rattle.json_schema.proofs.refused.refused_key.Goals as goal
 
-pub returns-then-not-is : goal.returns-then-not-is
-returns-then-not-is c = λ root.
+pub returns-in-Some : goal.returns-in-Some
+returns-in-Some c = λ root.
     let ps = c.args.schemas.now in
+    let i = c.loop-key.key-index in
     let p = c.loop-key-item.result in
-    let none : is_pattern (text p.0.now) ≡ false
-    = ap is_pattern (ap chars (sym c.as_str.ensures.value)) ∙ (sym c.in_ok-is.ensures ∙ c.if-not-is.true) in
-    let others = are_patterns (members_listed (drop (c.loop-key.key-index + 1) ps)) in (
-      sym (turn_stop (λ xs. are_patterns (members_listed xs)) ps c.loop-key.key-index false p c.loop-key-test.true
-          c.loop-key-item.is (ap (λ b. b && others) none) c.loop-key.invariant),
-      at_key root ps c.loop-key.key-index p _ c.requires c.loop-key-test.true c.loop-key-item.is none
-          (c.in_ok-prepend.ensures.ok ∙ (ap (λ k. k ∷ tokens_of c.root-place.result)
-          (ap chars (c.in_ok-from_str.ensures.ok ∙ c.as_str-then-not-is.ensures.value))
-          ∙ ap (λ ks. text p.0.now ∷ ks) c.root-place.ensures)),
-    )
+    let all = are_patterns (members_listed ps) in
+    let why : IsTextReason (text p.0.now) (Some c.in-Some.reason)
+    = subst (λ cs. IsTextReason cs (Some c.in-Some.reason)) (ap chars c.as_str.ensures.value)
+    (subst (IsTextReason (chars c.as_str.result.now)) c.in-Some.is c.in_ok-reason.ensures) in
+    let others = are_patterns (members_listed (drop (i + 1) ps)) in
+    let none : is_pattern (text p.0.now) ≡ false → all ≡ false
+    = λ e. sym (turn_stop (λ xs. are_patterns (members_listed xs)) ps i false p c.loop-key-test.true c.loop-key-item.is
+    (ap (λ b. b && others) e) c.loop-key.invariant) in
+    subst (λ x. IsReason all root false form.PatternMap (object (members_listed ps)) x (tokens_of c.prepend.new.self))
+    (sym c.whole_place-place.ensures.0)
+    (at_key root ps i p c.in-Some.reason _ c.requires c.loop-key-test.true c.loop-key-item.is why none
+    (c.in_ok-prepend.ensures.ok ∙ (ap (λ k. k ∷ tokens_of c.whole_place-place.result.pointer)
+    (ap chars (c.in_ok-from_str.ensures.ok ∙ c.as_str-in-Some.ensures.value))
+    ∙ ap (λ ks. text p.0.now ∷ ks) c.whole_place-place.ensures.1)))

@@ -4,7 +4,7 @@ use Rattle.tinyjson.specs.Soundness.{IsSorted}
 use Rattle.tinyjson.specs.Tree.{object}
 use Rattle.tinyjson.specs.View.{view, members_listed}
 use Rattle.json_schema.specs.Forms.{has_patterns}
-use Rattle.json_schema.specs.Refused.{Refuses, IsRefusedAt}
+use Rattle.json_schema.specs.Refused.{Refuses}
 use Rattle.json_schema.specs.declared.form.Form.TheVariants as form
 use Rattle.json_schema.proofs.Listed.{listed_sorted}
 use Rattle.json_schema.proofs.Refusals.{no_patterns}
@@ -19,7 +19,7 @@ returns-in_ok-sorted-in-Object c = λ root.
     let same : object (members_listed c.as_slice.result.now) ≡ view c.args.schemas.now
     = ap object (ap members_listed c.as_slice.ensures.value ∙ c.in_ok-sorted-in-Object.ensures)
     ∙ sym (ap view c.in-Object.is ∙ view_Object c.in-Object.schemas) in
-    subst (λ x. Refuses (has_patterns x) (IsRefusedAt root false form.PatternMap x) c.refused_key.result) same (c.refused_key.ensures root)
+    subst (λ x. Refuses (has_patterns x) root false form.PatternMap x c.refused_key.result) same (c.refused_key.ensures root)
 
 pub returns-in_default : goal.returns-in_default
-returns-in_default c = λ root. no_patterns root c.args.schemas.now _ c.in_default.not-Object c.root.ensures
+returns-in_default c = λ root. no_patterns root c.args.schemas.now c.whole_place.result c.in_default.not-Object c.whole_place.ensures
