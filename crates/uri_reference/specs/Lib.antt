@@ -1,0 +1,5 @@
+pub mod Letters
+pub mod Parts
+pub mod Dots
+pub mod Resolving
+pub mod Splitting

@@ -1,0 +1,16 @@
+//! URI references (RFC 3986), split and resolved on their letters alone.
+//!
+//! ```
+//! let target = resolve(alloc, "http://example.com/a/b", "../c#d")?;
+//! assert_eq!(rt; target.as_str(), "http://example.com/c#d");
+//! ```
+#![tactic(auto)]
+
+mod cutting;
+mod dots;
+mod parts;
+mod resolving;
+#[cfg(test)]
+mod tests;
+
+pub use resolving::{fragment, resolve, without_fragment};
