@@ -1,5 +1,7 @@
 pub mod Cuts
 mod Examples
 pub mod Fronts
+pub mod Marks
 pub mod Slashes
 pub mod Steps
+pub mod Whole
