@@ -19,7 +19,8 @@ use Rattle.tinyjson_grammar.specs.Tree.{Tree, Members, no_members, member, put, 
 use Rattle.tinyjson_grammar.specs.Soundness.{IsBelow, IsSorted}
 use Rattle.tinyjson_grammar.proofs.Callers.{find_put, find_below, sorted_put, members_from_find}
 use Rattle.tinyjson_normal.specs.Node.{IsText, Is, AreMembers}
-use Rattle.tinyjson_normal.specs.Holding.{Entry, put_all, AreEntries}
+use Rattle.tinyjson_normal.specs.Order.{AreMembersBy}
+use Rattle.tinyjson_normal.specs.Holding.{Entry, put_all, AreEntries, AreEntriesBy}
 use Rattle.tinyjson_normal.specs.Order.{part, key_in, key_lt, paired, comes_again, lasts}
 use Rattle.tinyjson_normal.proofs.Slices.{run_part}
 use Rattle.tinyjson_normal.specs.declared.store.Span.{Span}
@@ -187,16 +188,17 @@ sorted_put_all : (ms : Members) (es : List Entry) → IsSorted ms → IsSorted (
 sorted_put_all ms [] h = h
 sorted_put_all ms (e ∷ es) h = sorted_put_all (put e.0 e.1 ms) es (sorted_put e.0 e.1 ms h)
 
-module _ (s : Store) where
+-- what a value stands for at its key
+module _ (s : Store) (R : List ℕ → Tree → Node → Type 0) where
   abbrev xs : List ℕ
   xs = s.texts.items
 
   -- what is found at a key is what the last member with it stands for
   abbrev Agrees : List ℕ → Option Tree → Option Member → Option Tree → Type 0
   Agrees q o None base = o ≡ base
-  Agrees q o (Some m) base = (t : Tree) × (o ≡ Some t) × IsText s q m.key × Is s t m.value
+  Agrees q o (Some m) base = (t : Tree) × (o ≡ Some t) × IsText s q m.key × R q t m.value
 
-  agrees : (es : List Entry) (ks : List Span) (vs : List Node) (ms : Members) → AreEntries s es ks vs → (q : List ℕ)
+  agrees : (es : List Entry) (ks : List Span) (vs : List Node) (ms : Members) → AreEntriesBy s R es ks vs → (q : List ℕ)
       → Agrees q (find q (put_all ms es)) (last_at xs (enc q) (paired ks vs)) (find q ms)
   agrees [] [] [] ms h q = refl
   agrees [] [] (v ∷ vs) ms h q = absurd h
@@ -216,7 +218,7 @@ module _ (s : Store) where
             a ∙ find_put q e.0 e.1 ms ∙ ap (λ z. cond z (Some e.1) (find q ms)) here,
             subst (λ z. IsText s z k) (sym
                 ((bytes_eq-Decides q e.0).0 here)) h.0,
-            h.1,
+            subst (λ z. R z e.1 v) (sym ((bytes_eq-Decides q e.0).0 here)) h.1,
           )
       at false g a = a ∙ find_put q e.0 e.1 ms ∙ ap (λ z. cond z (Some e.1) (find q ms)) (same false g)
 
@@ -232,7 +234,7 @@ module _ (s : Store) where
   abbrev HasText : Member → Type 0
   HasText m = (k : List ℕ) × IsText s k m.key
 
-  have_texts : (es : List Entry) (ks : List Span) (vs : List Node) → AreEntries s es ks vs → All HasText (paired ks vs)
+  have_texts : (es : List Entry) (ks : List Span) (vs : List Node) → AreEntriesBy s R es ks vs → All HasText (paired ks vs)
   have_texts [] [] [] h = All-nil HasText
   have_texts [] [] (v ∷ vs) h = absurd h
   have_texts [] (k ∷ ks) vs h = absurd h
@@ -252,11 +254,11 @@ module _ (s : Store) where
   module _ (G : List ℕ → Option Tree) where
     abbrev Stands : List Member → Type 0
     Stands zs = (q : List ℕ) (m : Member) → last_at xs (enc q) zs ≡ Some m
-        → (t : Tree) × (G q ≡ Some t) × IsText s q m.key × Is s t m.value
+        → (t : Tree) × (G q ≡ Some t) × IsText s q m.key × R q t m.value
 
     pub record Kept (zs : List Member) : Type 0 where
       pub members : Members
-      pub are : AreMembers s members (lasts xs zs)
+      pub are : AreMembersBy s R members (lasts xs zs)
       pub sorted : IsSorted members
       pub first : IsFirst zs members
       pub finds : (q : List ℕ) (m : Member) → last_at xs (enc q) zs ≡ Some m → find q members ≡ G q
@@ -268,7 +270,7 @@ module _ (s : Store) where
         let same = (bytes_eq-Decides (key_in xs z) (key_in xs y)).0 e in
         record {
           members = k.members;
-          are = subst (AreMembers s k.members) (sym (ap (λ b. cond b (lasts xs (y ∷ ys)) (z ∷ lasts xs (y ∷ ys))) e)) k.are;
+          are = subst (AreMembersBy s R k.members) (sym (ap (λ b. cond b (lasts xs (y ∷ ys)) (z ∷ lasts xs (y ∷ ys))) e)) k.are;
           sorted = k.sorted;
           first = (k.first.0, k.first.1, k.first.2, k.first.3, k.first.4 ∙ sym same);
           finds = λ q m f. k.finds q m (sym (last_again xs (enc q) z y ys same) ∙ f);
@@ -295,7 +297,7 @@ module _ (s : Store) where
         let got = h key z here in
         record {
           members = member key got.0 k.members;
-          are = subst (AreMembers s (member key got.0 k.members)) (sym (ap (λ c. cond c (lasts xs zs) (z ∷ lasts xs zs)) e))
+          are = subst (AreMembersBy s R (member key got.0 k.members)) (sym (ap (λ c. cond c (lasts xs zs) (z ∷ lasts xs zs)) e))
               (got.2, got.3, k.are);
           sorted = (under, k.sorted);
           first = (key, got.0, k.members, refl, b);
@@ -346,13 +348,13 @@ module _ (s : Store) where
         by false e k = new_kept z zs r e (All-head HasText z zs a) k others h
 
   -- the members of the sorted list are those that were put in turn
-  pub gathered : (es : List Entry) (ks : List Span) (vs : List Node) (ns : List Member) → AreEntries s es ks vs
+  pub gathered_by : (es : List Entry) (ks : List Span) (vs : List Node) (ns : List Member) → AreEntriesBy s R es ks vs
       → IsPermutation (paired ks vs) ns
-      → IsSortedBy (key_lt xs) ns → IsStableBy (key_lt xs) (paired ks vs) ns → AreMembers s (put_all no_members es) (lasts xs ns)
-  gathered es ks vs ns h permuted sorted stable =
+      → IsSortedBy (key_lt xs) ns → IsStableBy (key_lt xs) (paired ks vs) ns → AreMembersBy s R (put_all no_members es) (lasts xs ns)
+  gathered_by es ks vs ns h permuted sorted stable =
       let k = kept (λ q. find q (put_all no_members es)) ns (rises xs ns sorted) (All-permutation HasText (paired ks vs) ns permuted
       (have_texts es ks vs h)) stands in
-      subst (λ m. AreMembers s m (lasts xs ns)) (members_from_find k.members (put_all no_members es) k.sorted
+      subst (λ m. AreMembersBy s R m (lasts xs ns)) (members_from_find k.members (put_all no_members es) k.sorted
       (sorted_put_all no_members es tt) (λ q. same k q (last_at xs (enc q) ns) refl)) k.are
     where
       now : (q : List ℕ) (o : Option Member) → last_at xs (enc q) ns ≡ o → Agrees q (find q (put_all no_members es)) o None
@@ -366,3 +368,17 @@ module _ (s : Store) where
           → find q k.members ≡ find q (put_all no_members es)
       same k q (Some m) e = k.finds q m e
       same k q None e = k.lacks q e ∙ sym (now q None e)
+
+-- of values in an arena
+
+are_members : (s : Store) (ms : Members) (es : List Member) → AreMembersBy s (λ k t n. Is s t n) ms es → AreMembers s ms es
+are_members s no_members [] h = h
+are_members s no_members (e ∷ es) h = h
+are_members s (member k t ms) [] h = h
+are_members s (member k t ms) (e ∷ es) h = (h.0, h.1, are_members s ms es h.2)
+
+pub gathered : (s : Store) (es : List Entry) (ks : List Span) (vs : List Node) (ns : List Member) → AreEntries s es ks vs
+    → IsPermutation (paired ks vs) ns → IsSortedBy (key_lt s.texts.items) ns → IsStableBy (key_lt s.texts.items) (paired ks vs) ns
+    → AreMembers s (put_all no_members es) (lasts s.texts.items ns)
+gathered s es ks vs ns h permuted sorted stable =
+    are_members s _ _ (gathered_by s (λ k t n. Is s t n) es ks vs ns h permuted sorted stable)

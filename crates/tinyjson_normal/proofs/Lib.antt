@@ -10,6 +10,8 @@ pub mod Order
 pub mod Gathered
 -- Members whose keys rise.
 pub mod Rising
+-- What stands in compact text.
+pub mod Compacting
 -- What a walk writes.
 pub mod Writing
 -- Values that hold no others.

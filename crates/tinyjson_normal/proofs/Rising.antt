@@ -35,7 +35,7 @@ module _ (xs : List ℕ) where
   not_again m (n ∷ ns) h = apart (key_in xs m) (key_in xs n) Less (less_from (cmp (key_in xs m) (key_in xs n)) h) (λ e. cc)
 
   -- none is left out
-  rise_lasts : (ms : List Member) → rise xs ms ≡ true → lasts xs ms ≡ ms
+  pub rise_lasts : (ms : List Member) → rise xs ms ≡ true → lasts xs ms ≡ ms
   rise_lasts [] h = refl
   rise_lasts (m ∷ ms) h =
       let p = and_parts (is_below_next xs m ms) (rise xs ms) h in
@@ -50,7 +50,7 @@ module _ (xs : List ℕ) where
       subst (λ j. key_lt xs (get_or (m ∷ n ∷ ms) j d) (get_or (n ∷ ms) k d) ≡ false) (further k)
       (rise_sorted (n ∷ ms) (and_parts (is_below_next xs m (n ∷ ms)) (rise xs (n ∷ ms)) h).1 k d (omega arith) (omega arith))
 
-  rise_ordered : (ms : List Member) → rise xs ms ≡ true → IsOrdered xs ms ms
+  pub rise_ordered : (ms : List Member) → rise xs ms ≡ true → IsOrdered xs ms ms
   rise_ordered ms h = record { permuted = IsPermutation-refl ms; sorted = rise_sorted ms h; stable = λ x. refl }
 
   -- those that rise were added as they are

@@ -9,6 +9,9 @@ use Rattle.tinyjson_grammar.specs.Tree.{Items, no_items, item, Members, no_membe
 use Rattle.tinyjson_number.specs.Canonical.{IsDecimalAt}
 use Rattle.tinyjson_number.specs.Numeral.{power_width}
 use Rattle.tinyjson_normal.specs.Node.{IsText, Is, Are, AreMembers}
+use Rattle.tinyjson_normal.specs.Normal.{IsKept}
+use Rattle.tinyjson_normal.specs.declared.normal.Content.{Content}
+use Rattle.tinyjson_normal.specs.declared.normal.Content.TheVariants as content
 use Rattle.tinyjson_normal.specs.declared.store.Member.{Member}
 use Rattle.tinyjson_normal.specs.declared.store.Node.{Node}
 use Rattle.tinyjson_normal.specs.declared.store.Span.{Span}
@@ -47,3 +50,8 @@ module _ (w : Option (List ℕ)) (indent : IfSome w AreScalars) (s : Store) wher
         (scalars_append (quoted key ++ (58 ∷ (after_colon w ++ text w k t))) _ (scalars_append (quoted key) _
         (quoted_scalars key e.key h.0) (colon_scalars w indent w (text w k t) (normal_scalars k t e.value h.1)))
         (members_scalars k false ms es h.2))
+
+-- those of what is kept of a text
+pub kept_scalars : (w : Option (List ℕ)) → IfSome w AreScalars → (c : Content) (t : Tree) → IsKept c t → AreScalars (text w 0 t)
+kept_scalars w indent (content.Text v) t h = text_of_scalars w indent 0 t h.1
+kept_scalars w indent (content.Arena a) t h = normal_scalars w indent a.store 0 t h.0 h.2

@@ -47,7 +47,7 @@ more_entries s (e ∷ es) [] vs k p t n h x i = absurd h
 more_entries s (e ∷ es) (q ∷ ks) [] k p t n h x i = absurd h
 more_entries s (e ∷ es) (q ∷ ks) (v ∷ vs) k p t n h x i = (h.0, h.1, more_entries s es ks vs k p t n h.2 x i)
 
-put_last : (ms : Members) (es : List Entry) (k : List ℕ) (t : Tree) → put k t (put_all ms es) ≡ put_all ms (es ++ (k, t) ∷ [])
+pub put_last : (ms : Members) (es : List Entry) (k : List ℕ) (t : Tree) → put k t (put_all ms es) ≡ put_all ms (es ++ (k, t) ∷ [])
 put_last ms [] k t = refl
 put_last ms (e ∷ es) k t = put_last (put e.0 e.1 ms) es k t
 

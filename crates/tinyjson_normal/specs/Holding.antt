@@ -18,14 +18,17 @@ abbrev pub put_all : Members → List Entry → Members
 put_all ms [] = ms
 put_all ms (e ∷ es) = put_all (put e.0 e.1 ms) es
 
--- keys and values that wait, in the order of the text
+-- keys and values that wait, in the order of the text, where R says what a value stands for at its key
+abbrev pub AreEntriesBy : Store → (List ℕ → Tree → Node → Type 0) → List Entry → List Span → List Node → Type 0
+AreEntriesBy s R [] [] [] = ⊤
+AreEntriesBy s R [] [] (v ∷ vs) = ⊥
+AreEntriesBy s R [] (k ∷ ks) vs = ⊥
+AreEntriesBy s R (e ∷ es) [] vs = ⊥
+AreEntriesBy s R (e ∷ es) (k ∷ ks) [] = ⊥
+AreEntriesBy s R (e ∷ es) (k ∷ ks) (v ∷ vs) = IsText s e.0 k × R e.0 e.1 v × AreEntriesBy s R es ks vs
+
 abbrev pub AreEntries : Store → List Entry → List Span → List Node → Type 0
-AreEntries s [] [] [] = ⊤
-AreEntries s [] [] (v ∷ vs) = ⊥
-AreEntries s [] (k ∷ ks) vs = ⊥
-AreEntries s (e ∷ es) [] vs = ⊥
-AreEntries s (e ∷ es) (k ∷ ks) [] = ⊥
-AreEntries s (e ∷ es) (k ∷ ks) (v ∷ vs) = IsText s e.0 k × Is s e.1 v × AreEntries s es ks vs
+AreEntries s es ks vs = AreEntriesBy s (λ k t n. Is s t n) es ks vs
 
 -- the members of an object, from its keys and values
 pub record Gathers (s : Store) (ms : Members) (ks : List Span) (vs : List Node) : Type 0 where

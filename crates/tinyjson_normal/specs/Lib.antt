@@ -6,5 +6,7 @@ pub mod Node
 pub mod Holding
 -- The order of members.
 pub mod Order
+-- For which open containers compact text stands.
+pub mod Compacting
 -- What a walk writes.
 pub mod Walking

@@ -1,5 +1,5 @@
 -- Members in the order of their keys, of equal keys the last. For private contracts.
-use Rattle.std.specs.Prelude.{ℕ, Bool, true, false, ◌&&◌, cond, min, List, [], ◌∷◌, length}
+use Rattle.std.specs.Prelude.{⊤, ℕ, Bool, true, false, ◌&&◌, cond, min, List, [], ◌∷◌, length}
 use Rattle.std.specs.List.{slice_range}
 use Rattle.std.specs.List.Sorted.{IsPermutation, IsSortedBy, IsStableBy}
 use Rattle.std.specs.Str.{bytes_eq}
@@ -8,6 +8,9 @@ use Rattle.std.specs.Ordering.{nat_cmp, is_lt}
 use Rattle.tinyjson_normal.specs.declared.store.Span.{Span}
 use Rattle.tinyjson_normal.specs.declared.store.Node.{Node}
 use Rattle.tinyjson_normal.specs.declared.store.Member.{Member}
+use Rattle.tinyjson_normal.specs.declared.store.Store.{Store}
+use Rattle.tinyjson_normal.specs.Node.{IsText}
+use Rattle.tinyjson_grammar.specs.Tree.{Tree, Members, no_members, member}
 
 -- what stands from the one place to the other, as far as there is any
 abbrev pub part : {A : Type 0} → List A → Span → List A
@@ -52,3 +55,10 @@ pub record IsOrdered (xs : List ℕ) (ms ns : List Member) : Type 0 where
   pub permuted : IsPermutation ms ns
   pub sorted : IsSortedBy (key_lt xs) ns
   pub stable : IsStableBy (key_lt xs) ms ns
+
+-- the members of an object, where R says what a value stands for at its key
+abbrev pub AreMembersBy : Store → (List ℕ → Tree → Node → Type 0) → Members → List Member → Type 0
+AreMembersBy s R no_members [] = ⊤
+AreMembersBy s R no_members (e ∷ es) = ⊥
+AreMembersBy s R (member k t ms) [] = ⊥
+AreMembersBy s R (member k t ms) (e ∷ es) = IsText s k e.key × R k t e.value × AreMembersBy s R ms es

@@ -1,8 +1,9 @@
-//! Normal text, with no value built: a text is read into an arena of nodes, from which the one compact text of
-//! its tree is written.
+//! Normal text, with no value built: the one compact text of a text's tree is made while the text is read, or of
+//! an arena of nodes where members would be moved too often.
 #![tactic(auto)]
 
 mod arena;
+mod compact;
 pub mod normal;
 mod sorting;
 mod store;

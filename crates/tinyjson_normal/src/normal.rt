@@ -1,23 +1,42 @@
 //! A text whose normal text is asked for.
-ghost use Rattle.std.specs.Prelude.{◌≡◌, ◌↔◌, None, Some, IfOk, IfSome, IsTrue, codes, string_bytes};
+ghost use Rattle.std.specs.Prelude.{◌≡◌, ◌↔◌, [], None, Some, IfOk, IfSome, IsTrue, codes};
+ghost use Rattle.std.specs.Prelude.{encode_utf8_all, string_bytes};
 ghost use Rattle.std.specs.Str.{all_scalars, chars};
 ghost use Rattle.tinyjson.specs.Events.{TellsText};
 ghost use Rattle.tinyjson.specs.Indent.{indent_of};
 ghost use Rattle.tinyjson.specs.Text.{compact, indented, text};
 ghost use Rattle.tinyjson.specs.Tree.{Tree};
-ghost use Rattle.tinyjson.specs.Written.{WritesText};
+ghost use Rattle.tinyjson.specs.Written.{WritesPrefix, WritesText};
+ghost use Rattle.tinyjson_grammar.specs.Soundness.{IsTree};
+ghost use Rattle.tinyjson_normal.specs.Compacting.{Holds, IsOf};
 ghost use Rattle.tinyjson_normal.specs.Normal.{HasTree, IsNormal};
 
 use crate::arena::Arena;
+use crate::compact::Compact;
 use std::alloc::{AllocError, Global};
-use std::io::{self, Write};
+use std::io::{self, ErrorKind, Write};
+use std::str;
 use tinyjson::{
     JsonGenerateError, JsonGenerateResult, JsonParseError, read_events,
     read_events_with_depth_limit,
 };
+use tinyjson_output::{Buffer, flush, write_bytes};
 
 /// The indent of [`NormalText::format`].
 const INDENT: &str = "  ";
+
+/// How many times the length of a text may be moved for the order of members.
+const MOVES: usize = 8;
+
+/// What is kept of a text.
+#[derive(Drop)]
+pub(crate) enum Content {
+    /// The compact text of the tree.
+    Text(Vec<u8>),
+    /// Nodes, where the objects with members out of order are so large and so deep that their texts would be
+    /// moved too often.
+    Arena(Arena),
+}
 
 /// The tree of a text, kept for its normal text, with no value built.
 ///
@@ -28,7 +47,7 @@ const INDENT: &str = "  ";
 /// ```
 #[derive(Drop)]
 pub struct NormalText {
-    pub(crate) arena: Arena,
+    pub(crate) content: Content,
 }
 
 impl NormalText {
@@ -42,8 +61,9 @@ impl NormalText {
     pub fn read(alloc: Global, text: &str) -> Result<NormalText, JsonParseError>
         ensures { TellsText HasTree None (chars text.now) result }
     {
-        match read_events(alloc, text, Arena::new(alloc)) {
-            Ok(arena) => Ok(NormalText { arena }),
+        match read_events(alloc, text, begin(alloc, text)) {
+            Ok(compact) => Ok(of_compact(compact)),
+            Err(error) if error.is_out_of_memory() => of_nodes(alloc, text),
             Err(error) => Err(error),
         }
     }
@@ -63,8 +83,9 @@ impl NormalText {
     ) -> Result<NormalText, JsonParseError>
         ensures { TellsText HasTree (Some limit) (chars text.now) result }
     {
-        match read_events_with_depth_limit(alloc, text, limit, Arena::new(alloc)) {
-            Ok(arena) => Ok(NormalText { arena }),
+        match read_events_with_depth_limit(alloc, text, limit, begin(alloc, text)) {
+            Ok(compact) => Ok(of_compact(compact)),
+            Err(error) if error.is_out_of_memory() => of_nodes_within(alloc, text, limit),
             Err(error) => Err(error),
         }
     }
@@ -85,7 +106,7 @@ impl NormalText {
         ensures { (t : Tree) → HasTree self.now t →
             WritesText (W.contents out.old) (W.contents out.new) (compact t) result }
     {
-        self.arena.write_to(alloc, None, out)
+        self.write(alloc, None, out)
     }
 
     /// Writes the text of the tree indented with two spaces, in UTF-8, and flushes nothing: the bytes that
@@ -101,7 +122,7 @@ impl NormalText {
             WritesText (W.contents out.old) (W.contents out.new)
             (indented t (codes "  ") 0) result }
     {
-        self.arena.write_to(alloc, Some(INDENT), out)
+        self.write(alloc, Some(INDENT), out)
     }
 
     /// The compact text of the tree: what `stringify` of the text's value returns.
@@ -131,6 +152,19 @@ impl NormalText {
         self.written(alloc, Some(INDENT))
     }
 
+    /// Writes the text, compact or indented by a text.
+    fn write<W: Write>(&self, alloc: Global, indent: Option<&str>, out: &mut W) -> io::Result<()>
+        ensures { (t : Tree) → HasTree self.now t →
+            WritesText (W.contents out.old) (W.contents out.new)
+            (text (indent_of indent.entry) 0 t) result }
+    {
+        match (&self.content, indent) {
+            (Content::Text(bytes), None) => write_whole(out, bytes),
+            (Content::Text(bytes), Some(_)) => write_indented(alloc, indent, out, bytes),
+            (Content::Arena(arena), _) => arena.write_to(alloc, indent, out),
+        }
+    }
+
     /// The text, compact or indented by a text.
     fn written(&self, alloc: Global, indent: Option<&str>) -> JsonGenerateResult
         requires { IfSome (indent_of indent) (λ i. IsTrue (all_scalars i)) }
@@ -138,7 +172,7 @@ impl NormalText {
             IfOk result (λ s. chars (string_bytes s) ≡ text (indent_of indent.entry) 0 t) }
     {
         let mut bytes = Vec::new(alloc);
-        let Ok(()) = self.arena.write_to(alloc, indent, &mut bytes) else {
+        let Ok(()) = self.write(alloc, indent, &mut bytes) else {
             return Err(JsonGenerateError);
         };
         match String::from_utf8(bytes) {
@@ -156,6 +190,78 @@ impl NormalText {
             Ok(written) => Ok(written.as_str() == text),
             Err(_) => Err(AllocError),
         }
+    }
+}
+
+/// No text yet, where one of this length is read.
+fn begin(alloc: Global, text: &str) -> Compact
+    ensures { Holds result [] }
+{
+    let len = text.len();
+    Compact::new(alloc, len, len.saturating_mul(MOVES))
+}
+
+/// What was built, without the comma behind it.
+fn of_compact(compact: Compact) -> NormalText
+    ensures { (t : Tree) → IsOf compact t → IsTree t → HasTree result t }
+{
+    let mut text = compact.text;
+    text.truncate(text.len().saturating_sub(1));
+    NormalText {
+        content: Content::Text(text),
+    }
+}
+
+/// A text that is read into nodes.
+fn of_nodes(alloc: Global, text: &str) -> Result<NormalText, JsonParseError>
+    ensures { TellsText HasTree None (chars text.now) result }
+{
+    match read_events(alloc, text, Arena::new(alloc)) {
+        Ok(arena) => Ok(NormalText {
+            content: Content::Arena(arena),
+        }),
+        Err(error) => Err(error),
+    }
+}
+
+/// One in which at most `limit` containers are open at once.
+fn of_nodes_within(alloc: Global, text: &str, limit: usize) -> Result<NormalText, JsonParseError>
+    ensures { TellsText HasTree (Some limit) (chars text.now) result }
+{
+    match read_events_with_depth_limit(alloc, text, limit, Arena::new(alloc)) {
+        Ok(arena) => Ok(NormalText {
+            content: Content::Arena(arena),
+        }),
+        Err(error) => Err(error),
+    }
+}
+
+/// Writes these bytes, and no others.
+fn write_whole<W: Write>(out: &mut W, bytes: &[u8]) -> io::Result<()>
+    ensures { WritesPrefix (W.contents out.old) (W.contents out.new) bytes.now result }
+{
+    let mut buffer = Buffer::new();
+    write_bytes(out, &mut buffer, bytes)?;
+    flush(out, &mut buffer)
+}
+
+/// Writes the text of the tree that a compact text has, indented by a text: it is read again.
+fn write_indented<W: Write>(
+    alloc: Global,
+    indent: Option<&str>,
+    out: &mut W,
+    bytes: &[u8],
+) -> io::Result<()>
+    ensures { (t : Tree) → bytes.now ≡ encode_utf8_all (compact t) → IsTree t →
+        WritesText (W.contents out.old) (W.contents out.new)
+        (text (indent_of indent.entry) 0 t) result }
+{
+    let Ok(compact) = str::from_utf8(bytes) else {
+        return Err(io::Error::from(ErrorKind::InvalidData));
+    };
+    match read_events(alloc, compact, Arena::new(alloc)) {
+        Ok(arena) => arena.write_to(alloc, indent, out),
+        Err(_) => Err(io::Error::from(ErrorKind::OutOfMemory)),
     }
 }
 

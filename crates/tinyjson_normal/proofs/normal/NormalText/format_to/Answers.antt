@@ -2,4 +2,4 @@ use Rattle.tinyjson.proofs.Callers.Laws.{two_spaces}
 use Rattle.tinyjson_normal.proofs.normal.NormalText.format_to.Goals as goal
 
 pub returns : goal.returns
-returns g c = rw two_spaces at c.write_to.ensures
+returns g c = rw two_spaces at c.write.ensures

@@ -1,11 +1,7 @@
+use Rattle.std.proofs.Common.{None}
+use Rattle.std.specs.Str.{chars}
+use Rattle.tinyjson_normal.proofs.Compacting.{told_kept}
 use Rattle.tinyjson_normal.proofs.normal.NormalText.read.Goals as goal
 
 pub returns-in-Ok : goal.returns-in-Ok
-returns-in-Ok c =
-    let h = c.in-Ok.ensures in
-    record { consumed = h.consumed; rest = h.rest; whole = h.whole; answer = h.answer; refused = h.refused; broken_off = h.broken_off }
-
-pub returns-in-Err : goal.returns-in-Err
-returns-in-Err c =
-    let h = c.in-Err.ensures in
-    record { consumed = h.consumed; rest = h.rest; whole = h.whole; answer = h.answer; refused = h.refused; broken_off = h.broken_off }
+returns-in-Ok c = told_kept None (chars c.args.text.now) c.in-Ok.compact c.of_compact.result c.of_compact.ensures c.in-Ok.ensures

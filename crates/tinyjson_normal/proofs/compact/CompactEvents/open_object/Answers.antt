@@ -1,0 +1,13 @@
+use Rattle.std.proofs.Common.{refl, sym, arith, []}
+use Rattle.tinyjson.specs.Events.{at_key}
+use Rattle.tinyjson_grammar.specs.Tree.{no_members}
+use Rattle.tinyjson_normal.specs.Compacting.{Has}
+use Rattle.tinyjson_normal.proofs.Compacting.{opens}
+use Rattle.tinyjson_normal.proofs.compact.CompactEvents.open_object.Goals as goal
+
+pub returns : goal.returns
+returns c = λ os h.
+    let a = c.args.self.now in
+    opens a (record a { text = c.push.new.self; opened = c.push-2.new.self }) os (at_key no_members) 123 _ h refl
+    (record { entries = []; members = refl; written = refl; begun = tt })
+    c.in_ok-push-2.ensures.items refl c.in_ok-push.ensures.items (omega (arith, c.push.new.self.ok.0)) (omega (arith, a.begun.ok.0))

@@ -1,0 +1,322 @@
+//! Compact text that is built by the events of a text, with no tree.
+ghost use Rattle.std.specs.Prelude.{◌≡◌, ◌==◌, ◌++◌, ◌∷◌, [], ℕ, List, false, OnOk, take};
+ghost use Rattle.std.specs.Prelude.{encode_utf8_all};
+ghost use Rattle.std.specs.Str.{chars};
+ghost use Rattle.tinyjson_grammar.specs.Characters.{value_separator};
+ghost use Rattle.tinyjson_grammar.specs.Text.{quoted};
+ghost use Rattle.tinyjson.specs.Events.{literal_tree};
+ghost use Rattle.tinyjson_normal.specs.Compacting.{Holds, all_placed, members_of, next_from};
+ghost use Rattle.tinyjson_normal.specs.Compacting.{placed, value_bytes};
+ghost use Rattle.tinyjson_normal.specs.Order.{IsOrdered, lasts};
+ghost use Rattle.tinyjson_normal.specs.declared.store.Member.{Member as Pair};
+ghost use Rattle.tinyjson_number.specs.Text.{decimal_text};
+
+use crate::sorting::{push_lasts, rise, sort};
+use crate::store::{Member, Node, Span, Store, part};
+use std::alloc::{AllocError, Global};
+use tinyjson::{Events, JsonNumber};
+use tinyjson_bytes::plain_end;
+use tinyjson_output::{Buffer, flush, quote, write_number};
+
+/// Where an open container begins: what is inside of it in the text, and its members among those of all.
+#[derive(Clone, Copy)]
+pub(crate) struct Start {
+    pub(crate) inside: usize,
+    pub(crate) members: usize,
+}
+
+/// A member of an open object: its key, and where it begins in the text.
+#[derive(Clone, Copy)]
+pub(crate) struct Begun {
+    pub(crate) key: Span,
+    pub(crate) from: usize,
+}
+
+/// Compact text as far as a text was read, with a comma behind each complete value. The members of an object
+/// are put in order when it is closed.
+#[derive(Drop)]
+pub(crate) struct Compact {
+    /// The characters of keys.
+    store: Store,
+    pub(crate) text: Vec<u8>,
+    opened: Vec<Start>,
+    begun: Vec<Begun>,
+    /// The members of the object that is being closed, those of them that stay, and their texts.
+    members: Vec<Member>,
+    kept: Vec<Member>,
+    moved: Vec<u8>,
+    /// What is quoted or written piece by piece.
+    buffer: Buffer,
+    /// How many bytes may still be moved.
+    left: usize,
+}
+
+impl Compact {
+    /// With no text yet, room for so many bytes if there is memory for them, and so many bytes that may be
+    /// moved.
+    pub(crate) fn new(alloc: Global, room: usize, left: usize) -> Self
+        ensures { Holds result [] }
+    {
+        Compact {
+            store: Store::new(alloc),
+            text: Vec::with_capacity(alloc, room).unwrap_or(Vec::new(alloc)),
+            opened: Vec::new(alloc),
+            begun: Vec::new(alloc),
+            members: Vec::new(alloc),
+            kept: Vec::new(alloc),
+            moved: Vec::new(alloc),
+            buffer: Buffer::new(),
+            left,
+        }
+    }
+
+    /// Puts the members of the object that is being closed in order, of those with one key the last. What
+    /// they have been written as begins at `inside`.
+    fn order(&mut self, inside: usize) -> Result<(), AllocError>
+        ensures text { self.old.text.items ≡ take inside self.old.text.items
+            ++ all_placed self.old.text.items self.old.members.items →
+            OnOk result ((ns : List Pair)
+            × IsOrdered self.old.store.texts.items self.old.members.items ns
+            × (self.new.text.items ≡ take inside self.old.text.items
+            ++ all_placed self.old.text.items (lasts self.old.store.texts.items ns))) }
+        ensures store { self.new.store ≡ self.old.store }
+        ensures opened { self.new.opened ≡ self.old.opened }
+        ensures begun { self.new.begun ≡ self.old.begun }
+    {
+        if rise(&self.store.texts, &self.members) {
+            return Ok(());
+        }
+        let count = self.text.len().saturating_sub(inside);
+        if count > self.left {
+            return Err(AllocError);
+        }
+        self.left -= count;
+        sort(&self.store.texts, &mut self.members)?;
+        self.kept.clear();
+        push_lasts(&self.store.texts, &mut self.kept, &self.members)?;
+        self.moved.clear();
+        copy_placed(&self.text, &mut self.moved, &self.kept)?;
+        self.text.truncate(inside);
+        self.text.extend_from_slice(&self.moved)?;
+        Ok(())
+    }
+}
+
+impl Events for Compact {
+    ghost use Rattle.tinyjson_normal.specs.Compacting.{Holds, IsOf};
+
+    ghost holds = { Holds };
+
+    ghost is = { IsOf };
+
+    fn open_array(&mut self) -> Result<(), AllocError> {
+        self.text.push(b'[')?;
+        self.opened.push(Start {
+            inside: self.text.len(),
+            members: self.begun.len(),
+        })?;
+        Ok(())
+    }
+
+    fn close_array(&mut self) -> Result<(), AllocError> {
+        let Some(_) = self.opened.pop() else {
+            return Err(AllocError);
+        };
+        push_closing(&mut self.text, b']')
+    }
+
+    fn open_object(&mut self) -> Result<(), AllocError> {
+        self.text.push(b'{')?;
+        self.opened.push(Start {
+            inside: self.text.len(),
+            members: self.begun.len(),
+        })?;
+        Ok(())
+    }
+
+    fn close_object(&mut self) -> Result<(), AllocError> {
+        let Some(start) = self.opened.pop() else {
+            return Err(AllocError);
+        };
+        let Some(begun) = self.begun.get(start.members..) else {
+            return Err(AllocError);
+        };
+        pair_begun(&mut self.members, begun, self.text.len())?;
+        self.begun.truncate(start.members);
+        self.order(start.inside)?;
+        push_closing(&mut self.text, b'}')
+    }
+
+    fn key(&mut self, key: String) -> Result<(), AllocError> {
+        let from = self.text.len();
+        let span = self.store.add_text(key.as_str())?;
+        self.begun.push(Begun { key: span, from })?;
+        push_quoted(&mut self.text, &mut self.buffer, key.as_str(), b':')
+    }
+
+    fn string(&mut self, value: String) -> Result<(), AllocError> {
+        push_quoted(&mut self.text, &mut self.buffer, value.as_str(), b',')
+    }
+
+    fn number(&mut self, value: JsonNumber) -> Result<(), AllocError> {
+        push_number(&mut self.text, &mut self.buffer, &value)?;
+        self.text.push(b',')?;
+        Ok(())
+    }
+
+    fn literal(&mut self, value: Option<bool>) -> Result<(), AllocError> {
+        self.text.extend_from_slice(literal_word(value))?;
+        Ok(())
+    }
+}
+
+/// The text of a boolean, or of `null`, and a comma.
+fn literal_word(literal: Option<bool>) -> &'static [u8]
+    ensures { result.now ≡ value_bytes (literal_tree literal) }
+{
+    match literal {
+        None => b"null,",
+        Some(true) => b"true,",
+        Some(false) => b"false,",
+    }
+}
+
+/// Appends a closing bracket, in place of a comma that comes last, and a comma.
+fn push_closing(text: &mut Vec<u8>, bracket: u8) -> Result<(), AllocError>
+    ensures some { (xs : List ℕ) → text.old.items ≡ xs ++ value_separator ∷ [] →
+        OnOk result (text.new.items ≡ xs ++ bracket ∷ value_separator ∷ []) }
+    ensures none { (xs : List ℕ) (x : ℕ) → text.old.items ≡ xs ++ x ∷ [] →
+        (x == value_separator) ≡ false →
+        OnOk result (text.new.items ≡ xs ++ x ∷ bracket ∷ value_separator ∷ []) }
+{
+    if let Some(b',') = text.last() {
+        text.pop();
+    }
+    text.push(bracket)?;
+    text.push(b',')?;
+    Ok(())
+}
+
+/// Appends the characters between quotes, and a byte behind them.
+fn push_quoted(
+    text: &mut Vec<u8>,
+    buffer: &mut Buffer,
+    value: &str,
+    behind: u8,
+) -> Result<(), AllocError>
+    ensures { OnOk result (text.new.items ≡ text.old.items
+        ++ (encode_utf8_all (quoted (chars value.now)) ++ behind ∷ [])) }
+{
+    let bytes = value.as_bytes();
+    if plain_end(bytes, 0) < bytes.len() {
+        push_escaped(text, buffer, value)?;
+        text.push(behind)?;
+        return Ok(());
+    }
+    text.push(b'"')?;
+    text.extend_from_slice(bytes)?;
+    text.extend_from_slice(&[b'"', behind])?;
+    Ok(())
+}
+
+/// Appends the characters between quotes, with escapes.
+#[inline(never)]
+fn push_escaped(text: &mut Vec<u8>, buffer: &mut Buffer, value: &str) -> Result<(), AllocError>
+    ensures { OnOk result (text.new.items
+        ≡ text.old.items ++ encode_utf8_all (quoted (chars value.now))) }
+{
+    buffer.truncate(0);
+    let Ok(()) = quote(text, buffer, value) else {
+        return Err(AllocError);
+    };
+    let Ok(()) = flush(text, buffer) else {
+        return Err(AllocError);
+    };
+    Ok(())
+}
+
+/// Appends the text of a number.
+fn push_number(
+    text: &mut Vec<u8>,
+    buffer: &mut Buffer,
+    number: &JsonNumber,
+) -> Result<(), AllocError>
+    ensures { OnOk result (text.new.items
+        ≡ text.old.items ++ encode_utf8_all (decimal_text number.now.decimal)) }
+{
+    let mut short = [0; 32];
+    match number.write_short(&mut short) {
+        Some(count) => {
+            text.extend_from_slice(&short[..count])?;
+            Ok(())
+        }
+        None => push_long(text, buffer, number),
+    }
+}
+
+#[inline(never)]
+fn push_long(text: &mut Vec<u8>, buffer: &mut Buffer, number: &JsonNumber) -> Result<(), AllocError>
+    ensures { OnOk result (text.new.items
+        ≡ text.old.items ++ encode_utf8_all (decimal_text number.now.decimal)) }
+{
+    buffer.truncate(0);
+    let Ok(()) = write_number(text, buffer, number) else {
+        return Err(AllocError);
+    };
+    let Ok(()) = flush(text, buffer) else {
+        return Err(AllocError);
+    };
+    Ok(())
+}
+
+/// Makes a member of each that was begun, with its place in the text, which ends at `end`.
+fn pair_begun(members: &mut Vec<Member>, begun: &[Begun], end: usize) -> Result<(), AllocError>
+    ensures { OnOk result (members.new.items ≡ members_of begun.now end) }
+{
+    members.clear();
+    let mut rest = begun;
+    while let Some((first, others)) = rest.split_first() {
+        let to = next_from(others, end);
+        members.push(Member {
+            key: first.key,
+            value: Node::String(Span {
+                from: first.from,
+                to,
+            }),
+        })?;
+        rest = others;
+    }
+    Ok(())
+}
+
+/// Where the first one begins, or the text ends.
+fn next_from(begun: &[Begun], end: usize) -> usize
+    ensures { result ≡ next_from begun.now end }
+{
+    match begun.first() {
+        Some(next) => next.from,
+        None => end,
+    }
+}
+
+/// Appends what stands in the text at the places of the members, one after the other.
+fn copy_placed(text: &[u8], moved: &mut Vec<u8>, members: &[Member]) -> Result<(), AllocError>
+    ensures { OnOk result (moved.new.items ≡ moved.old.items ++ all_placed text.now members.now) }
+{
+    let mut rest = members;
+    while let Some((member, others)) = rest.split_first() {
+        moved.extend_from_slice(placed(text, member.value))?;
+        rest = others;
+    }
+    Ok(())
+}
+
+/// What stands in the text at the place of a member.
+fn placed(text: &[u8], value: Node) -> &[u8]
+    ensures { result.now ≡ placed text.now value }
+{
+    match value {
+        Node::String(span) => part(text, span),
+        _ => b"",
+    }
+}
