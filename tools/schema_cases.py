@@ -458,8 +458,6 @@ REFUSED_REFERENCES = [
     ('{"$ref":5}', "/$ref"), ('{"$ref":{}}', "/$ref"), ('{"$ref":"#a"}', "/$ref"), ('{"$defs":{"~":true},"$ref":"#/$defs/~"}', "/$ref"), ('{"$defs":{"~":true},"$ref":"#/$defs/~2"}', "/$ref"),
     ('{"$defs":{"%":true},"$ref":"#/$defs/%"}', "/$ref"), ('{"$defs":{"%4":true},"$ref":"#/$defs/%4"}', "/$ref"), ('{"$defs":{"%zz":true},"$ref":"#/$defs/%zz"}', "/$ref"),
     ('{"$defs":{"a":true},"$ref":"#/$defs/%FF"}', "/$ref"),
-    # Another base would change what they lead to.
-    ('{"$defs":{"a":{"$id":"x"}}}', "/$defs/a/$id"), ('{"properties":{"a":{"$id":"https://example.com/b"}}}', "/properties/a/$id"),
 ]
 
 # Core, 8.2.2 and 8.2.3.2: plain names. Most are those of `anchor.json` and `dynamicRef.json` in the official suite that have one resource.
@@ -517,6 +515,73 @@ REFUSED_ANCHORS = [
     ('{"$defs":{"a":{"$anchor":"x"},"b":{"$anchor":"x"}}}', "/$defs/a/$anchor"), ('{"$anchor":"x","$dynamicAnchor":"x"}', "/$anchor"), ('{"$dynamicAnchor":"x","items":{"$anchor":"x"}}', "/$dynamicAnchor"),
     ('{"$defs":{"a":{"$anchor":"y"},"b":{"$anchor":"x"},"c":{"$dynamicAnchor":"x"}}}', "/$defs/b/$anchor"), ('{"allOf":[{"$anchor":"x"},{"$anchor":"y"},{"$anchor":"x"}]}', "/allOf/0/$anchor"),
     ('{"properties":{"a":{"$anchor":"z"},"b":{"$anchor":"y"},"c":{"$anchor":"y"},"d":{"$anchor":"z"}}}', "/properties/a/$anchor"), ('{"$anchor":"x","items":{"$anchor":"\\u0078"}}', "/$anchor"),
+]
+
+# Core, appendix A: a document, each schema with a constant of its own, and the URIs that lead to it.
+IDENTIFIED = (
+    '{"$id":"https://example.com/root.json","items":{"$ref":%s},"$defs":{"A":{"$anchor":"foo","const":"A"},"B":{"$id":"other.json","const":"B",'
+    '"$defs":{"X":{"$anchor":"bar","const":"X"},"Y":{"$id":"t/inner.json","$anchor":"bar","const":"Y"}}},"C":{"$id":"urn:uuid:ee564b8a-7a87-4125-8c96-e9f123d6766f","const":"C"}}}'
+)
+IDENTIFIERS = [
+    ("A", "https://example.com/root.json#foo", "https://example.com/root.json#/$defs/A"),
+    ("B", "https://example.com/other.json", "https://example.com/other.json#", "https://example.com/root.json#/$defs/B"),
+    ("X", "https://example.com/other.json#bar", "https://example.com/other.json#/$defs/X", "https://example.com/root.json#/$defs/B/$defs/X"),
+    ("Y", "https://example.com/t/inner.json", "https://example.com/t/inner.json#bar", "https://example.com/t/inner.json#", "https://example.com/other.json#/$defs/Y",
+     "https://example.com/root.json#/$defs/B/$defs/Y"),
+    ("C", "urn:uuid:ee564b8a-7a87-4125-8c96-e9f123d6766f", "urn:uuid:ee564b8a-7a87-4125-8c96-e9f123d6766f#", "https://example.com/root.json#/$defs/C"),
+]
+
+# Core, 8.2.1 and 9.3: schema resources in a document. Most are those of `ref.json`, `anchor.json` and `refRemote.json` in the official suite whose
+# resources stand in one document.
+RESOURCES = [
+    *((IDENTIFIED % f'"{uri}"', [f'["{name}"]'], [('["Z"]', "/0", "/items/$ref/const")]) for name, *uris in IDENTIFIERS for uri in uris),
+    *(('{"$id":"https://example.com/root.json","type":"array","items":{"$ref":"%s"},"$defs":{"a":{"$id":"b"}}}' % uri, ["[[],[[]]]"], [("[[1]]", "/0/0", "/items/$ref/items/$ref/type")])
+      for uri in ("https://example.com/root.json", "https://example.com/root.json#", "root.json", "./a/../root.json#", "", "#")),
+    ('{"$id":"http://example.com/schema-relative-uri-defs1.json","properties":{"foo":{"$id":"schema-relative-uri-defs2.json","$defs":{"inner":{"properties":{"bar":{"type":"string"}}}},"$ref":"#/$defs/inner"}},'
+     '"$ref":"schema-relative-uri-defs2.json"}', ['{"foo":{"bar":"a"},"bar":"a"}'],
+     [('{"foo":{"bar":1},"bar":"a"}', "/foo/bar", "/properties/foo/$ref/properties/bar/type"), ('{"foo":{"bar":"a"},"bar":1}', "/bar", "/$ref/$ref/properties/bar/type")]),
+    ('{"$id":"http://example.com/a.json","$defs":{"x":{"$id":"http://example.com/b/c.json","not":{"$defs":{"y":{"$id":"d.json","type":"number"}}}}},"allOf":[{"$ref":"http://example.com/b/d.json"}]}',
+     ["1"], [('"a"', "", "/allOf/0/$ref/type")]),
+    ('{"$id":"https://example.com/draft2020-12/ref-and-id1/base.json","$ref":"int.json","$defs":{"bigint":{"$id":"/draft2020-12/ref-and-id1/int.json","maximum":10},'
+     '"smallint":{"$id":"/draft2020-12/ref-and-id1-int.json","maximum":2}}}', ["5"], [("50", "", "/$ref/maximum")]),
+    ('{"$id":"https://example.com/draft2020-12/ref-and-id2/base.json","$ref":"#bigint","$defs":{"bigint":{"$anchor":"bigint","maximum":10},"smallint":{"$id":"https://example.com/draft2020-12/ref-and-id2/",'
+     '"$anchor":"bigint","maximum":2}}}', ["5"], [("50", "", "/$ref/maximum")]),
+    ('{"$id":"http://example.com/ref/absref.json","$defs":{"a":{"$id":"http://example.com/ref/absref/foobar.json","type":"number"},"b":{"$id":"http://example.com/absref/foobar.json","type":"string"}},'
+     '"$ref":"/absref/foobar.json"}', ['"a"'], [("1", "", "/$ref/type")]),
+    ('{"$id":"urn:uuid:deadbeef-1234-ff00-00ff-4321feebdaed","properties":{"foo":{"$ref":"urn:uuid:deadbeef-1234-ff00-00ff-4321feebdaed#something"}},"$defs":{"bar":{"$anchor":"something","type":"string"}}}',
+     ['{"foo":"a"}'], [('{"foo":1}', "/foo", "/properties/foo/$ref/type")]),
+    ('{"$ref":"http://localhost:1234/draft2020-12/bar#foo","$defs":{"A":{"$id":"http://localhost:1234/draft2020-12/bar","$anchor":"foo","type":"integer"}}}', ["1"], [('"a"', "", "/$ref/type")]),
+    ('{"$id":"http://localhost:1234/draft2020-12/root","$ref":"http://localhost:1234/draft2020-12/nested.json#foo","$defs":{"A":{"$id":"nested.json","$defs":{"B":{"$anchor":"foo","type":"integer"}}}}}',
+     ["1"], [('"a"', "", "/$ref/type")]),
+    ('{"$id":"http://localhost:1234/draft2020-12/foobar","$defs":{"A":{"$id":"child1","allOf":[{"$id":"child2","$anchor":"my_anchor","type":"number"},{"$anchor":"my_anchor","type":"string"}]}},"$ref":"child1#my_anchor"}',
+     ['"a"'], [("1", "", "/$ref/type")]),
+    # Without a base: the names of the resources are resolved from one another.
+    ('{"prefixItems":[{"$ref":"a/b"},{"$ref":"a/c#/$defs/d"},{"$ref":"#/$defs/x/$defs/y"}],"$defs":{"x":{"$id":"a/b","$defs":{"y":{"$id":"c","$defs":{"d":{"type":"string"}},"maximum":9}},"$ref":"c"}}}',
+     ['[9,"a",9]'], [("[10]", "/0", "/prefixItems/0/$ref/$ref/maximum"), ("[1,1]", "/1", "/prefixItems/1/$ref/type"), ("[1,\"a\",10]", "/2", "/prefixItems/2/$ref/maximum")]),
+    # A fragment alone stays in its resource, also below keys that are escaped; what is percent-encoded is decoded once.
+    ('{"$defs":{"a/b~c%25":{"$id":"x","$defs":{"~/%":{"type":"null"}},"items":{"$ref":"#/$defs/~0~1%25"},"contains":{"$ref":"x#%2F$defs%2F%7E0%7E1%25"}}},"$ref":"x"}',
+     ["[null]"], [("[1,null]", "/0", "/$ref/items/$ref/type"), ("[]", "", "/$ref/contains")]),
+    ('{"$id":"https://example.com/a","$defs":{"n":{"$anchor":"n","type":"null"},"b":{"$id":"b","$defs":{"n":{"$anchor":"n","type":"string"}},"items":{"$ref":"#%6E"}}},"prefixItems":[{"$ref":"b"},{"$ref":"#n"}]}',
+     ['[["a"],null]'], [("[[null]]", "/0/0", "/prefixItems/0/$ref/items/$ref/type"), ('[[],"a"]', "/1", "/prefixItems/1/$ref/type")]),
+    # A pointer of `$dynamicRef`, which leads where `$ref` would.
+    ('{"$defs":{"a":{"$id":"a","$defs":{"n":{"type":"null"}},"items":{"$dynamicRef":"#/$defs/n"}}},"$dynamicRef":"a"}', ["[null]"], [("[1]", "/0", "/$dynamicRef/items/$dynamicRef/type")]),
+    # In each schema in the schema.
+    *(("{" + schema % '{"$id":"x","type":"null"}' + ',"properties":{"k":{"$ref":"x"}}}', ['{"k":null}'], [('{"k":1}', "/k", "/properties/k/$ref/type")])
+      for schema in ('"$defs":{"a":%s}', '"allOf":[true,{"items":%s}]', '"anyOf":[true,%s]', '"oneOf":[true,%s]', '"not":%s', '"if":%s', '"then":%s', '"else":%s', '"items":%s', '"prefixItems":[{},%s]',
+                     '"contains":%s', '"additionalProperties":%s', '"propertyNames":{"items":%s}', '"dependentSchemas":{"z":%s}', '"patternProperties":{"^z":%s}', '"contentSchema":%s')),
+]
+
+# Two resources with one URI, an `$id` with a fragment or that is no text, a name that a resource has twice, and references that lead to none in the document.
+REFUSED_RESOURCES = [
+    ('{"$defs":{"a":{"$id":"x"},"b":{"$id":"x"}}}', "/$defs/b/$id"), ('{"$id":"https://example.com/a","$defs":{"a":{"$id":"a"}}}', "/$defs/a/$id"), ('{"$defs":{"a":{"$id":""}}}', "/$defs/a/$id"),
+    ('{"$defs":{"a":{"$id":"x#y"}}}', "/$defs/a/$id"), ('{"$defs":{"a":{"$id":5}}}', "/$defs/a/$id"), ('{"$defs":{"a":{"$id":5},"b":{"$id":"b"}}}', "/$defs/a/$id"),
+    ('{"$defs":{"a":{"$id":"x","$defs":{"b":{"$anchor":"n"},"c":{"$anchor":"n"}}}}}', "/$defs/a/$defs/c/$anchor"), ('{"$defs":{"a":{"$id":"x","$anchor":"1"}}}', "/$defs/a/$anchor"),
+    ('{"$defs":{"a":{"$id":"x","$anchor":5}}}', "/$defs/a/$anchor"),
+    ('{"$ref":"#n","$defs":{"a":{"$id":"x","$anchor":"n"}}}', "/$ref"), ('{"$defs":{"a":{"$anchor":"n"},"b":{"$id":"b","$ref":"#n"}}}', "/$defs/b/$ref"),
+    ('{"$id":"https://example.com/a","$ref":"b#/$defs/z","$defs":{"b":{"$id":"b"}}}', "/$ref"), ('{"$id":"https://example.com/a","$ref":"c","$defs":{"b":{"$id":"b"}}}', "/$ref"),
+    ('{"$defs":{"a":{"type":"null"},"b":{"$id":"b","$ref":"#/$defs/a"}}}', "/$defs/b/$ref"), ('{"$defs":{"b":{"$id":"b","$ref":"#"}}}', "/$defs/b/$ref"),
+    ('{"$defs":{"a":{"$id":"a","$dynamicAnchor":"n"}},"$dynamicRef":"a#n"}', "/$dynamicRef"), ('{"$ref":"x","enum":[{"$id":"x"}]}', "/$ref"), ('{"$ref":"x","const":{"$id":"x"}}', "/$ref"), ('{"$ref":"x","properties":{"$id":{"$anchor":"x"}}}', "/$ref"),
+    ('{"$ref":"x#y z","$defs":{"a":{"$id":"x"}}}', "/$ref"), ('{"$ref":"x#1","allOf":[{"$id":"x"}]}', "/$ref"), ('{"$ref":"x#%FF","$defs":{"a":{"$id":"x"}}}', "/$ref"), ('{"$ref":"x#%2","$defs":{"a":{"$id":"x"}}}', "/$ref"),
 ]
 
 # Schemas with names that are no keywords, and those that are told: each once, in the order of bytes.

@@ -6,11 +6,14 @@ pub mod Handling
 pub mod Listed
 pub mod Lookups
 pub mod Loops
+pub mod Marking
 pub mod Naming
 pub mod Outcomes
 pub mod Parts
 pub mod Patterns
 pub mod Places
+pub mod Placing
+pub mod Pointing
 pub mod References
 pub mod Refusals
 pub mod Reports

@@ -1,5 +1,6 @@
 pub mod Anchors
 pub mod Applied
+pub mod Bundles
 pub mod Circles
 pub mod Evaluated
 pub mod Failures

@@ -13,6 +13,7 @@
 mod anchor;
 mod applied;
 mod assertions;
+mod bundle;
 mod circles;
 mod contains;
 mod document;
@@ -20,10 +21,12 @@ mod failure;
 mod form;
 mod keyword;
 mod lines;
+mod mark;
 mod multiple;
 mod options;
 mod part;
 mod pattern;
+mod place;
 mod reference;
 mod refusal;
 mod refused;
@@ -37,6 +40,7 @@ mod verdict;
 mod violation;
 mod walk;
 
+use bundle::bundled;
 use failure::{Failure, input_error, schema_file_error, schema_text_error};
 use lines::{Outcome, check_lines};
 use options::{Request, asked};
@@ -72,8 +76,11 @@ fn answer(rt: &HostRuntime) -> Result<Outcome, Failure> {
     let tree = JsonValue::from_str_with_depth_limit(alloc, text.as_str(), DEPTH_LIMIT).map_err(
         schema_text_error,
     )?;
-    let outcome = answer_by(rt, &tree, by_lines);
+    let schema = bundled(&tree, alloc);
     tree.dismantle();
+    let schema = schema?;
+    let outcome = answer_by(rt, &schema, by_lines);
+    schema.dismantle();
     outcome
 }
 

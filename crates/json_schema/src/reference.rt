@@ -117,7 +117,7 @@ fn read_reference(reference: &str, alloc: Global) -> Result<Option<Vec<u8>>, All
 
 /// The bytes that percent-encoded ones stand for (RFC 3986, section 2.1); `None` where two hexadecimal digits do not
 /// follow a `%`.
-fn percent_decoded(bytes: &[u8], alloc: Global) -> Result<Option<Vec<u8>>, AllocError>
+pub fn percent_decoded(bytes: &[u8], alloc: Global) -> Result<Option<Vec<u8>>, AllocError>
     ensures { IfOk result (λ d. option_map (λ v. v.items) d ≡ percent_decoded bytes.now) }
 {
     let mut decoded = Vec::new(alloc);

@@ -1,0 +1,278 @@
+-- A document with schema resources in it, with each reference as a pointer from its root (JSON Schema 2020-12, Core, 8.2.1,
+-- 8.2.3.1, 9.1.2, 9.2 and 9.3).
+use Rattle.std.specs.BTreeMap as tree
+use Rattle.std.specs.BTreeMap.{BTreeMap}
+use Rattle.std.specs.Fmt.{decimal}
+use Rattle.std.specs.Global.{Global}
+use Rattle.std.specs.Prelude.{◌≡◌, ℕ, suc, Bool, true, false, not, ◌&&◌, ◌||◌, ◌==◌, List, [], ◌∷◌, ◌++◌, Option, Some, None, cond}
+use Rattle.std.specs.Prelude.{codes, option_map, option_and_then, unwrap_or, encode_utf8_all, map, String, string_bytes}
+use Rattle.std.specs.Option.{option_map_or}
+use Rattle.std.specs.Str.{bytes_eq, chars, is_utf8}
+use Rattle.tinyjson.specs.Access.{is_string}
+use Rattle.tinyjson.specs.Characters.{solidus, tilde}
+use Rattle.tinyjson.specs.Tree.{Tree, string, array, object, Items, no_items, item, Members, no_members, member, put}
+use Rattle.uri_reference.specs.Resolving.{resolved, without_fragment, fragment_of}
+use Rattle.json_schema.specs.Anchors.{is_plain_name}
+use Rattle.json_schema.specs.Applied.{schema_at}
+use Rattle.json_schema.specs.Forms.{form_at}
+use Rattle.json_schema.specs.Names.{name}
+use Rattle.json_schema.specs.References.{percent, number_sign, percent_decoded}
+use Rattle.json_schema.specs.declared.form.Form.{Form}
+use Rattle.json_schema.specs.declared.form.Form.TheVariants as form
+use Rattle.json_schema.specs.declared.keyword.Keyword.TheVariants as kw
+use Rattle.json_schema.specs.declared.mark.Kind.{Kind}
+use Rattle.json_schema.specs.declared.mark.Kind.TheVariants as kind
+use Rattle.json_schema.specs.declared.mark.Mark.{Mark}
+
+-- ---- places: pointers from the root, in UTF-8, as they stand in a fragment
+
+-- a character of a token (RFC 6901, sections 3 and 6)
+abbrev pub token_char : ℕ → List ℕ
+token_char c = cond (c == percent) (codes "%25") (cond (c == tilde) (codes "~0") (cond (c == solidus) (codes "~1")
+    (encode_utf8_all (c ∷ []))))
+
+abbrev pub token_text : List ℕ → List ℕ
+token_text [] = []
+token_text (c ∷ cs) = token_char c ++ token_text cs
+
+-- what stands at the key, or at the index, in what stands at p
+abbrev pub at_key : List ℕ → List ℕ → List ℕ
+at_key p k = p ++ solidus ∷ token_text k
+
+abbrev pub at_index : List ℕ → ℕ → List ℕ
+at_index p i = p ++ solidus ∷ decimal i
+
+-- ---- what a document has: its resources and the names in them, each with its place
+
+abbrev pub is_empty : List ℕ → Bool
+is_empty [] = true
+is_empty (b ∷ bs) = false
+
+-- a text with its place
+abbrev pub Marked : Type 0
+Marked = Kind × List ℕ × List ℕ
+
+-- the URI of a name in the resource u
+abbrev pub with_name : List ℕ → List ℕ → List ℕ
+with_name u bs = u ++ number_sign ∷ bs
+
+-- the base URI in a schema, in one whose base URI is b, by its `$id`
+abbrev pub base_by : List ℕ → Option Tree → List ℕ
+base_by b (Some (string cs)) = without_fragment (resolved b (encode_utf8_all cs))
+base_by b _ = b
+
+abbrev pub base_in : List ℕ → Tree → List ℕ
+base_in b s = base_by b (schema_at s kw.Id)
+
+-- The whole is a resource, and so is each schema with an `$id`. Its URI is the base URI in it.
+abbrev pub is_resource : List ℕ → Tree → Bool
+is_resource p s = is_empty p || option_map_or is_string (schema_at s kw.Id) false
+
+abbrev pub resource_marks : List ℕ → List ℕ → Tree → List Marked
+resource_marks b p s = cond (is_resource p s) ((kind.Resource, b, p) ∷ []) []
+
+abbrev pub name_marks : List ℕ → List ℕ → Tree → List Marked
+name_marks b p (string cs) = (kind.Name, with_name b (encode_utf8_all cs), p) ∷ []
+name_marks b p _ = []
+
+-- a reference that is more than a fragment
+abbrev pub is_fragment : List ℕ → Bool
+is_fragment [] = false
+is_fragment (b ∷ bs) = b == number_sign
+
+abbrev pub outside_marks : List ℕ → Tree → List Marked
+outside_marks p (string cs) = cond (is_fragment (encode_utf8_all cs)) [] ((kind.Outside, encode_utf8_all cs, p) ∷ [])
+outside_marks p _ = []
+
+-- of a keyword's value: of itself, or of the schemas in it
+abbrev pub marks_by : Form → List Marked → List Marked → List Marked → List Marked → List Marked → List Marked
+marks_by form.Anchor names outside one list entries = names
+marks_by form.Reference names outside one list entries = outside
+marks_by form.Schema names outside one list entries = one
+marks_by form.Schemas names outside one list entries = list
+marks_by form.SchemaMap names outside one list entries = entries
+marks_by form.PatternMap names outside one list entries = entries
+marks_by _ names outside one list entries = []
+
+abbrev mutual
+  -- those of a schema at p and of the schemas in it, with members in the order of their keys; b is the base URI around it
+  pub marks_in : List ℕ → List ℕ → Tree → List Marked
+  marks_in b p (object ms) = resource_marks (base_in b (object ms)) p (object ms) ++ marks_among (base_in b (object ms)) p ms
+  marks_in b p _ = []
+
+  pub marks_among : List ℕ → List ℕ → Members → List Marked
+  marks_among b p no_members = []
+  marks_among b p (member k w ms) = marks_by (form_at (encode_utf8_all k)) (name_marks b p w) (outside_marks p w)
+      (marks_in b (at_key p k) w) (marks_in_list b (at_key p k) w) (marks_in_map b (at_key p k) w) ++ marks_among b p ms
+
+  pub marks_in_list : List ℕ → List ℕ → Tree → List Marked
+  marks_in_list b p (array ts) = marks_of_items b p 0 ts
+  marks_in_list b p _ = []
+
+  pub marks_in_map : List ℕ → List ℕ → Tree → List Marked
+  marks_in_map b p (object ms) = marks_of_members b p ms
+  marks_in_map b p _ = []
+
+  pub marks_of_items : List ℕ → List ℕ → ℕ → Items → List Marked
+  marks_of_items b p i no_items = []
+  marks_of_items b p i (item t ts) = marks_in b (at_index p i) t ++ marks_of_items b p (suc i) ts
+
+  pub marks_of_members : List ℕ → List ℕ → Members → List Marked
+  marks_of_members b p no_members = []
+  marks_of_members b p (member k t ms) = marks_in b (at_key p k) t ++ marks_of_members b p ms
+
+-- the base URI of a document is empty, unless its `$id` says another
+abbrev pub marks_of : Tree → List Marked
+marks_of t = marks_in [] [] t
+
+-- A document whose references have to be changed has a resource in it, or a reference that is more than a fragment.
+abbrev pub is_bundled_by : Kind → List ℕ → Bool
+is_bundled_by kind.Resource p = not (is_empty p)
+is_bundled_by kind.Name p = false
+is_bundled_by kind.Outside p = true
+
+abbrev pub is_bundle : List Marked → Bool
+is_bundle [] = false
+is_bundle (m ∷ ms) = is_bundled_by m.0 m.2 || is_bundle ms
+
+abbrev pub is_place : Kind → Bool
+is_place kind.Outside = false
+is_place _ = true
+
+-- the place of the first resource or name with the URI
+abbrev pub place_of : List Marked → List ℕ → Option (List ℕ)
+place_of [] u = None
+place_of (m ∷ ms) u = cond (is_place m.0 && bytes_eq m.1 u) (Some m.2) (place_of ms u)
+
+-- ---- where references lead
+
+-- the place of a URI
+abbrev pub Places : Type 0
+Places = List ℕ → Option (List ℕ)
+
+abbrev pub begins_pointer : List ℕ → Bool
+begins_pointer [] = true
+begins_pointer (b ∷ bs) = b == solidus
+
+-- In the resource u, the fragment f is a pointer, or the name ds, which it is percent-encoded. A dynamic reference to a name
+-- is not followed.
+abbrev pub leads_in : Places → Bool → List ℕ → List ℕ → List ℕ → Option (List ℕ)
+leads_in at dynamic u f ds = cond (begins_pointer ds) (option_map (λ p. p ++ f) (at u)) (cond dynamic None (at (with_name u ds)))
+
+abbrev pub leads_by : Places → Bool → List ℕ → List ℕ → List ℕ → Option (List ℕ)
+leads_by at dynamic u f ds = cond (is_utf8 ds) (leads_in at dynamic u f ds) None
+
+abbrev pub leads_from : Places → Bool → List ℕ → List ℕ → Option (List ℕ)
+leads_from at dynamic u f = option_and_then (leads_by at dynamic u f) (percent_decoded f)
+
+-- the place that the URI t leads to
+abbrev pub destination : Places → Bool → List ℕ → Option (List ℕ)
+destination at dynamic t = leads_from at dynamic (without_fragment t) (unwrap_or (fragment_of t) [])
+
+-- ---- the document with pointers
+
+-- the text of bytes in UTF-8
+abbrev pub string_of : List ℕ → Tree
+string_of bs = string (chars bs)
+
+-- a reference as a pointer; one that leads nowhere stays
+abbrev pub pointing : Places → Bool → List ℕ → Tree → Tree
+pointing at dynamic b (string cs) =
+    option_map_or (λ p. string_of (number_sign ∷ p)) (destination at dynamic (resolved b (encode_utf8_all cs))) (string cs)
+pointing at dynamic b w = w
+
+-- the URI has the place p
+abbrev pub is_here : Option (List ℕ) → List ℕ → Bool
+is_here o p = option_map_or (λ q. bytes_eq q p) o false
+
+-- An `$id` of a resource in the whole is left out; not one with a fragment, nor one that an earlier resource has.
+abbrev pub is_own_id : Places → List ℕ → List ℕ → List ℕ → Bool
+is_own_id at b p bs = not (is_empty p) && (is_empty (unwrap_or (fragment_of bs) []) && is_here (at b) p)
+
+abbrev pub kept_id : Places → List ℕ → List ℕ → Tree → Option Tree
+kept_id at b p (string cs) = cond (is_own_id at b p (encode_utf8_all cs)) None (Some (string cs))
+kept_id at b p w = Some w
+
+-- A name is left out. One that is no plain name, or that the resource has before, is made a text that is none.
+abbrev pub is_own_anchor : Places → List ℕ → List ℕ → List ℕ → Bool
+is_own_anchor at b p bs = is_plain_name bs && is_here (at (with_name b bs)) p
+
+abbrev pub kept_anchor : Places → List ℕ → List ℕ → Tree → Option Tree
+kept_anchor at b p (string cs) = cond (is_own_anchor at b p (encode_utf8_all cs)) None (Some (string_of (with_name b (encode_utf8_all cs))))
+kept_anchor at b p w = Some w
+
+-- what stays of a keyword's value w, or comes in its place
+abbrev pub kept_by : Form → Tree → Option Tree → Option Tree → Tree → Tree → Tree → Tree → Option Tree
+kept_by form.Base w id anchor reference one list entries = id
+kept_by form.Anchor w id anchor reference one list entries = anchor
+kept_by form.Reference w id anchor reference one list entries = Some reference
+kept_by form.Schema w id anchor reference one list entries = Some one
+kept_by form.Schemas w id anchor reference one list entries = Some list
+kept_by form.SchemaMap w id anchor reference one list entries = Some entries
+kept_by form.PatternMap w id anchor reference one list entries = Some entries
+kept_by _ w id anchor reference one list entries = Some w
+
+abbrev pub put_some : List ℕ → Option Tree → Members → Members
+put_some k None ms = ms
+put_some k (Some w) ms = put k w ms
+
+abbrev pub is_dynamic : List ℕ → Bool
+is_dynamic key = bytes_eq key (name kw.DynamicRef)
+
+abbrev mutual
+  -- a schema at p, b is the base URI around it
+  pub pointed : Places → List ℕ → List ℕ → Tree → Tree
+  pointed at b p (object ms) = object (pointed_among at (base_in b (object ms)) p ms)
+  pointed at b p t = t
+
+  pub pointed_among : Places → List ℕ → List ℕ → Members → Members
+  pointed_among at b p no_members = no_members
+  pointed_among at b p (member k w ms) = put_some k (kept_by (form_at (encode_utf8_all k)) w (kept_id at b p w) (kept_anchor at b p w)
+      (pointing at (is_dynamic (encode_utf8_all k)) b w) (pointed at b (at_key p k) w) (pointed_list at b (at_key p k) w)
+      (pointed_map at b (at_key p k) w)) (pointed_among at b p ms)
+
+  pub pointed_list : Places → List ℕ → List ℕ → Tree → Tree
+  pointed_list at b p (array ts) = array (pointed_items at b p 0 ts)
+  pointed_list at b p t = t
+
+  pub pointed_map : Places → List ℕ → List ℕ → Tree → Tree
+  pointed_map at b p (object ms) = object (pointed_members at b p ms)
+  pointed_map at b p t = t
+
+  pub pointed_items : Places → List ℕ → List ℕ → ℕ → Items → Items
+  pointed_items at b p i no_items = no_items
+  pointed_items at b p i (item t ts) = item (pointed at b (at_index p i) t) (pointed_items at b p (suc i) ts)
+
+  pub pointed_members : Places → List ℕ → List ℕ → Members → Members
+  pointed_members at b p no_members = no_members
+  pointed_members at b p (member k t ms) = put k (pointed at b (at_key p k) t) (pointed_members at b p ms)
+
+-- The document, in which each reference to a schema in it is a pointer from its root.
+abbrev pub bundled : Tree → Tree
+bundled t = cond (is_bundle (marks_of t)) (pointed (place_of (marks_of t)) [] [] t) t
+
+-- ---- words of private contracts
+
+abbrev pub marks_by_form : Form → List ℕ → List ℕ → List ℕ → Tree → List Marked
+marks_by_form f b p q w = marks_by f (name_marks b p w) (outside_marks p w) (marks_in b q w) (marks_in_list b q w) (marks_in_map b q w)
+
+abbrev pub kept_of : Places → List ℕ → List ℕ → List ℕ → List ℕ → Tree → Option Tree
+kept_of at key b p q w = kept_by (form_at key) w (kept_id at b p w) (kept_anchor at b p w) (pointing at (is_dynamic key) b w)
+    (pointed at b q w) (pointed_list at b q w) (pointed_map at b q w)
+
+abbrev pub marked : Mark → Marked
+marked m = (m.kind, string_bytes m.uri, string_bytes m.place)
+
+abbrev pub all_marked : List Mark → List Marked
+all_marked marks = map marked marks
+
+-- The list has these beside those that it had, after them.
+abbrev pub Gathers : List Marked → List Mark → List Mark → Type 0
+Gathers ms old new = all_marked new ≡ all_marked old ++ ms
+
+abbrev pub places_in : BTreeMap (String Global) (String Global) → Places
+places_in m u = option_map string_bytes (tree.get_by_text m u)
+
+-- The map has the places of these.
+abbrev pub HasPlaces : List Marked → BTreeMap (String Global) (String Global) → Type 0
+HasPlaces ms m = (u : List ℕ) → places_in m u ≡ place_of ms u
