@@ -30,7 +30,9 @@ use uri_reference::{fragment, resolve, without_fragment};
 /// changed so, as a reference that leads elsewhere, stays, so that [`Schema::read`](crate::schema::Schema::read) refuses
 /// it at its place. The only error is out of memory.
 ///
-/// It calls itself for each schema in the schema, so it takes stack as the schema is deep.
+/// It calls itself for each schema in the schema, so it takes stack as the schema is deep. Not inlined, so that a check
+/// that comes after it has the stack.
+#[inline(never)]
 pub fn bundled(document: &JsonValue, alloc: Global) -> Result<JsonValue, AllocError>
     ensures { IfOk result (λ v. view v ≡ bundled (view document.now)) }
 {
