@@ -72,7 +72,7 @@ fn answer(rt: &HostRuntime) -> Result<Outcome, Failure> {
     let Some(Request { by_lines, file }) = asked(words.as_slice()) else {
         return Err(Failure::Arguments);
     };
-    let text = fs::read_to_string(rt, file).map_err(schema_file_error)?;
+    let text = file_text(rt, file)?;
     let tree = JsonValue::from_str_with_depth_limit(alloc, text.as_str(), DEPTH_LIMIT).map_err(
         schema_text_error,
     )?;
@@ -82,6 +82,14 @@ fn answer(rt: &HostRuntime) -> Result<Outcome, Failure> {
     let outcome = answer_by(rt, &schema, by_lines);
     schema.dismantle();
     outcome
+}
+
+/// The text of a file.
+// Neither this is inlined nor the reading of standard input, the check of it or that of lines, so that a check has
+// the buffers of no other one below it on the stack.
+#[inline(never)]
+fn file_text(rt: &HostRuntime, file: &str) -> Result<String, Failure> {
+    fs::read_to_string(rt, file).map_err(schema_file_error)
 }
 
 /// Tells of the unknown words of the schema, and checks what was asked for.
@@ -115,10 +123,17 @@ fn read_schema(alloc: Global, tree: &JsonValue) -> Result<Schema<'_>, Failure> {
     }
 }
 
+/// The text of standard input.
+#[inline(never)]
+fn input_text(rt: &HostRuntime) -> Result<String, Failure> {
+    io::read_to_string(rt.alloc(), rt.reader()).map_err(input_error)
+}
+
 /// Checks the text of standard input; what it does not meet is printed.
+#[inline(never)]
 fn of_whole(rt: &HostRuntime, schema: &Schema<'_>) -> Result<Outcome, Failure> {
     let alloc = rt.alloc();
-    let text = io::read_to_string(alloc, rt.reader()).map_err(input_error)?;
+    let text = input_text(rt)?;
     match check_text(alloc, schema, text.as_str())? {
         Verdict::Valid => Ok(Outcome::AllValid),
         Verdict::Refused(cause) => Err(Failure::Text(cause)),
@@ -135,6 +150,7 @@ fn of_whole(rt: &HostRuntime, schema: &Schema<'_>) -> Result<Outcome, Failure> {
 }
 
 /// Checks each line of standard input. After a failure nothing more is written, though some bytes may be gathered.
+#[inline(never)]
 fn by_lines_of(rt: &HostRuntime, schema: &Schema<'_>) -> Result<Outcome, Failure> {
     let alloc = rt.alloc();
     let mut input = BufReader::new(alloc, rt.reader()).map_err(Failure::Stream)?;
