@@ -1,12 +1,12 @@
 -- What stands in compact text that is being built, when a value comes or a container is closed.
-use Rattle.std.proofs.Common.{◌≡◌, ℕ, ◌+◌, suc, Bool, true, false, ◌==◌, cond, List, [], ◌∷◌, ◌++◌, length, take, drop, refl, sym, ◌∙◌}
+use Rattle.std.proofs.Common.{◌≡◌, ℕ, ◌+◌, Bool, true, false, ◌==◌, List, [], ◌∷◌, ◌++◌, length, take, drop, refl, sym, ◌∙◌}
 use Rattle.std.proofs.Common.{ap, subst, append_assoc, append-nil, length-append, arith, Option, None, Result, Ok, Err, OnOk}
 use Rattle.std.proofs.lemmas.List.{take_at, drop_at, same_from_push}
 use Rattle.std.proofs.lemmas.Str.{encodes-append, chars_from_encodes}
-use Rattle.std.specs.List.Sorted.{IsPermutation}
 use Rattle.tinyjson.specs.Events.{Open, in_array, at_key, at_value, Puts, TellsText}
 use Rattle.tinyjson_grammar.specs.Grammar as grammar
-use Rattle.tinyjson_grammar.specs.Text.{text, escapes, items_text, members_text, compact, quoted, before, closing, has_no_items, has_no_members}
+use Rattle.tinyjson_grammar.specs.Text.{text, escapes, items_text, members_text, compact}
+use Rattle.tinyjson_grammar.specs.Text.{quoted, before, closing, has_no_items, has_no_members}
 use Rattle.tinyjson_grammar.specs.Tree.{Tree, null, boolean, number, string, array, object, items_of, put}
 use Rattle.tinyjson_grammar.specs.Tree.{Items, no_items, item, Members, no_members, member}
 use Rattle.std.specs.Str.{IsUtf8, chars}
@@ -23,8 +23,8 @@ use Rattle.tinyjson_normal.specs.Compacting.{value_bytes, items_bytes, key_bytes
 use Rattle.tinyjson_normal.specs.Compacting.{next_from, members_of, placed, all_placed, AreBegun, Has, HasKey, IsOpen}
 use Rattle.tinyjson_normal.specs.Compacting.{Standing, Splits, HoldsIn, standing, Holds, IsOf}
 use Rattle.tinyjson_normal.specs.Holding.{Entry, put_all, AreEntriesBy}
-use Rattle.tinyjson_normal.specs.Node.{IsText, IsRun, Grows}
-use Rattle.tinyjson_normal.specs.Order.{IsOrdered, AreMembersBy, lasts, paired, part}
+use Rattle.tinyjson_normal.specs.Node.{IsText, Grows}
+use Rattle.tinyjson_normal.specs.Order.{IsOrdered, AreMembersBy, lasts, paired}
 use Rattle.tinyjson_normal.specs.Normal.{HasTree}
 use Rattle.tinyjson_normal.specs.declared.normal.NormalText.{NormalText}
 use Rattle.tinyjson_normal.specs.declared.compact.Begun.{Begun}
@@ -123,7 +123,8 @@ module _ {T E : Type 0} (r : Result T E) (close : ℕ) (old new outer : List ℕ
   closes begin inside bytes o c e h =
       let whole : old ≡ (outer ++ begin ∷ enc inside) ++ 44 ∷ [] =
       h ∙ ap (λ z. outer ++ begin ∷ z) (sym e) ∙ sym (append_assoc outer (begin ∷ enc inside) (44 ∷ [])) in
-      on_ok r (λ k. k ∙ append_assoc outer (begin ∷ enc inside) (close ∷ 44 ∷ []) ∙ ap (λ z. outer ++ z) (sym (between begin close inside o c)))
+      on_ok r (λ k. k ∙ append_assoc outer (begin ∷ enc inside) (close ∷ 44 ∷ [])
+      ∙ ap (λ z. outer ++ z) (sym (between begin close inside o c)))
       (some (outer ++ begin ∷ enc inside) whole)
 
   closes_empty : (begin : ℕ) → enc (begin ∷ []) ≡ begin ∷ [] → enc (close ∷ []) ≡ close ∷ [] → (begin == 44) ≡ false
@@ -134,9 +135,11 @@ pub array_closed : {T E : Type 0} (r : Result T E) (old new outer : List ℕ) (t
     → ((xs : List ℕ) → old ≡ xs ++ 44 ∷ [] → OnOk r (new ≡ xs ++ 93 ∷ 44 ∷ []))
     → ((xs : List ℕ) (x : ℕ) → old ≡ xs ++ x ∷ [] → (x == 44) ≡ false → OnOk r (new ≡ xs ++ x ∷ 93 ∷ 44 ∷ []))
     → old ≡ outer ++ 91 ∷ items_bytes ts → OnOk r (new ≡ outer ++ value_bytes (array (items_of ts)))
-array_closed r old new outer [] some none h = closes_empty r 93 old new outer some none 91 (enc_cons 91 [] (omega arith)) (enc_cons 93 [] (omega arith)) refl h
+array_closed r old new outer [] some none h = closes_empty r 93 old new outer some none 91 (enc_cons 91 [] (omega arith))
+    (enc_cons 93 [] (omega arith)) refl h
 array_closed r old new outer (t ∷ ts) some none h =
-    closes r 93 old new outer some none 91 (items_text None 1 true (items_of (t ∷ ts))) (items_bytes (t ∷ ts)) (enc_cons 91 [] (omega arith))
+    closes r 93 old new outer some none 91 (items_text None 1 true (items_of (t ∷ ts))) (items_bytes (t ∷ ts)) (enc_cons 91 []
+    (omega arith))
     (enc_cons 93 [] (omega arith))
     (items_all 1 t ts) h
 
@@ -144,7 +147,8 @@ pub object_closed : {T E : Type 0} (r : Result T E) (old new outer : List ℕ) (
     → ((xs : List ℕ) → old ≡ xs ++ 44 ∷ [] → OnOk r (new ≡ xs ++ 125 ∷ 44 ∷ []))
     → ((xs : List ℕ) (x : ℕ) → old ≡ xs ++ x ∷ [] → (x == 44) ≡ false → OnOk r (new ≡ xs ++ x ∷ 125 ∷ 44 ∷ []))
     → old ≡ outer ++ 123 ∷ members_bytes ms → OnOk r (new ≡ outer ++ value_bytes (object ms))
-object_closed r old new outer no_members some none h = closes_empty r 125 old new outer some none 123 (enc_cons 123 [] (omega arith)) (enc_cons 125 [] (omega arith)) refl h
+object_closed r old new outer no_members some none h = closes_empty r 125 old new outer some none 123 (enc_cons 123 [] (omega arith))
+    (enc_cons 125 [] (omega arith)) refl h
 object_closed r old new outer (member k t ms) some none h =
     closes r 125 old new outer some none 123 (members_text None 1 true (member k t ms)) (members_bytes (member k t ms))
     (enc_cons 123 [] (omega arith)) (enc_cons 125 [] (omega arith))
@@ -403,7 +407,8 @@ module _ (s : Store) (text : List ℕ) where
 
   stand : (front : List ℕ) (at : ℕ) (es : List Entry) (bs : List Begun) → AreBegun s at es bs → text ≡ front ++ entries_bytes es
       → at ≡ length front
-      → AreEntriesBy s Stands es (keys_of bs) (spans_of bs (length text)) × (all_placed text (members_of bs (length text)) ≡ entries_bytes es)
+      → AreEntriesBy s Stands es (keys_of bs) (spans_of bs (length text)) × (all_placed text (members_of bs
+      (length text)) ≡ entries_bytes es)
   stand front at [] [] h w f = (tt, refl)
   stand front at [] (b ∷ bs) h w f = absurd h
   stand front at (e ∷ es) [] h w f = absurd h
@@ -507,6 +512,8 @@ told_kept limit xs c n f h = record {
 }
 
 -- a compact text has no other tree
-pub read_again : (bytes : List ℕ) (t u : Tree) → IsUtf8 bytes → bytes ≡ enc (compact t) → sound.IsTree t → grammar.IsText None (chars bytes) u → u ≡ t
+pub read_again : (bytes : List ℕ) (t u : Tree) → IsUtf8 bytes → bytes ≡ enc (compact t) → sound.IsTree t
+    → grammar.IsText None (chars bytes) u → u ≡ t
 read_again bytes t u utf8 e k h =
-    only_tree None (compact t) u t (subst (λ z. grammar.IsText None z u) (sym (chars_from_encodes (compact t) bytes utf8 (sym e))) h) (compact_text t k)
+    only_tree None (compact t) u t (subst (λ z. grammar.IsText None z u) (sym (chars_from_encodes (compact t) bytes utf8 (sym e))) h)
+    (compact_text t k)

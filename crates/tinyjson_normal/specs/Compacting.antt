@@ -13,7 +13,6 @@ use Rattle.tinyjson_normal.specs.declared.compact.Start.{Start}
 use Rattle.tinyjson_normal.specs.declared.store.Member.{Member}
 use Rattle.tinyjson_normal.specs.declared.store.Node.{Node}
 use Rattle.tinyjson_normal.specs.declared.store.Node.TheVariants as node
-use Rattle.tinyjson_normal.specs.declared.store.Span.{Span}
 use Rattle.tinyjson_normal.specs.declared.store.Store.{Store}
 
 -- ---- a comma stands behind each complete value

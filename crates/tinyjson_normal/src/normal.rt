@@ -28,6 +28,9 @@ const INDENT: &str = "  ";
 /// How many times the length of a text may be moved for the order of members.
 const MOVES: usize = 8;
 
+/// How many bytes are written at once.
+const PIECE: usize = 4096;
+
 /// What is kept of a text.
 #[derive(Drop)]
 pub(crate) enum Content {
@@ -236,12 +239,17 @@ fn of_nodes_within(alloc: Global, text: &str, limit: usize) -> Result<NormalText
     }
 }
 
-/// Writes these bytes, and no others.
+/// Writes these bytes, and no others, so many at once that a writer which gathers them takes them in.
 fn write_whole<W: Write>(out: &mut W, bytes: &[u8]) -> io::Result<()>
     ensures { WritesPrefix (W.contents out.old) (W.contents out.new) bytes.now result }
 {
     let mut buffer = Buffer::new();
-    write_bytes(out, &mut buffer, bytes)?;
+    let mut rest = bytes;
+    while !rest.is_empty() {
+        let count = rest.len().min(PIECE);
+        write_bytes(out, &mut buffer, &rest[..count])?;
+        rest = &rest[count..];
+    }
     flush(out, &mut buffer)
 }
 

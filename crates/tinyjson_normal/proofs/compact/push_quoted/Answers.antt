@@ -1,8 +1,5 @@
-use Rattle.std.proofs.Common.{◌≡◌, ℕ, List, ◌++◌, ◌∷◌, [], sym, ◌∙◌, ap, append_assoc, arith}
-use Rattle.tinyjson_output.proofs.Callers.{enc, quoted_bytes}
+use Rattle.std.proofs.Common.{◌++◌, ◌∷◌, [], ◌∙◌, ap, arith}
 use Rattle.tinyjson_output.proofs.Quotes.{all_plain}
-use Rattle.std.specs.Str.{chars}
-use Rattle.tinyjson_grammar.specs.Text.{quoted}
 use Rattle.tinyjson_normal.proofs.Compacting.{plain_quoted}
 use Rattle.tinyjson_normal.proofs.compact.push_quoted.Goals as goal
 
@@ -11,6 +8,7 @@ returns c =
     let bytes = c.args.value.now in
     let b = c.as_bytes-bytes.result.now in
     let plain = all_plain b c.plain_end.result c.plain_end.ensures.end (omega arith) in
-    plain_quoted c.args.text.now.items c.extend_from_slice-2.new.self.items bytes b c.args.behind c.utf8.value c.as_bytes-bytes.ensures.value plain
+    plain_quoted c.args.text.now.items c.extend_from_slice-2.new.self.items bytes b c.args.behind c.utf8.value
+    c.as_bytes-bytes.ensures.value plain
     (c.in_ok-extend_from_slice-2.ensures.items ∙ ap (λ z. z ++ 34 ∷ c.args.behind ∷ []) (c.in_ok-extend_from_slice.ensures.items
     ∙ ap (λ z. z ++ b) c.in_ok-push-2.ensures.items))

@@ -11,7 +11,8 @@ use Rattle.tinyjson_normal.proofs.normal.write_indented.Goals as goal
 pub returns-in-Ok-read_events : goal.returns-in-Ok-read_events
 returns-in-Ok-read_events g c = λ t e k.
     let u = c.in-Ok-read_events.ensures.answer in
-    subst (λ z. WritesText (g.W.Write.contents c.args.out.now) (g.W.Write.contents c.write_to.new.out) (text (indent_of c.args.indent) 0 z) c.write_to.result)
+    subst (λ z. WritesText (g.W.Write.contents c.args.out.now) (g.W.Write.contents c.write_to.new.out) (text
+    (indent_of c.args.indent) 0 z) c.write_to.result)
     (read_again c.args.bytes.now t u.1 c.in-Ok.ensures.cases.1 e k
     (subst (λ z. IsText None (chars z) u.1) c.in-Ok.ensures.cases.0 u.2)) (c.write_to.ensures u.1 u.3)
 

@@ -1,4 +1,4 @@
-use Rattle.std.proofs.Common.{◌≡◌, true, refl, sym, ap, ◌∙◌, ◌++◌, take}
+use Rattle.std.proofs.Common.{◌≡◌, true, sym, ap, ◌∙◌, ◌++◌, take}
 use Rattle.tinyjson_normal.specs.Compacting.{all_placed}
 use Rattle.tinyjson_normal.specs.Order.{rise}
 use Rattle.tinyjson_normal.proofs.Rising.{rise_lasts, rise_ordered}

@@ -1,4 +1,4 @@
-use Rattle.std.proofs.Common.{◌≡◌, refl, sym, ap, ◌∙◌, drop, length, arith}
+use Rattle.std.proofs.Common.{◌≡◌, ap, ◌∙◌, drop, length, arith}
 use Rattle.tinyjson_normal.specs.Compacting.{members_of}
 use Rattle.tinyjson_normal.proofs.Compacting.{closes_object, placed_now}
 use Rattle.tinyjson_normal.proofs.Slices.{slice_rest}

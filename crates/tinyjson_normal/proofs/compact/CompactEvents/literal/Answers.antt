@@ -1,4 +1,4 @@
-use Rattle.std.proofs.Common.{refl, sym, ap, ◌∙◌, ◌++◌}
+use Rattle.std.proofs.Common.{refl, ap, ◌∙◌, ◌++◌}
 use Rattle.tinyjson_normal.proofs.Compacting.{puts}
 use Rattle.tinyjson_normal.proofs.compact.CompactEvents.literal.Goals as goal
 

@@ -1,4 +1,4 @@
-use Rattle.std.proofs.Common.{refl, sym, ap, ◌∙◌, ◌++◌, ◌∷◌, [], append_assoc}
+use Rattle.std.proofs.Common.{refl, ap, ◌∙◌, ◌++◌, ◌∷◌, [], append_assoc}
 use Rattle.tinyjson_grammar.specs.Tree.{number}
 use Rattle.tinyjson_number.specs.Text.{decimal_text}
 use Rattle.tinyjson_output.proofs.Callers.{enc}

@@ -1,4 +1,4 @@
-use Rattle.std.proofs.Common.{refl, sym, arith, []}
+use Rattle.std.proofs.Common.{refl, arith, []}
 use Rattle.tinyjson.specs.Events.{in_array}
 use Rattle.tinyjson_normal.proofs.Compacting.{opens}
 use Rattle.tinyjson_normal.proofs.compact.CompactEvents.open_array.Goals as goal

@@ -1,7 +1,6 @@
-use Rattle.std.proofs.Common.{refl, sym, arith, []}
+use Rattle.std.proofs.Common.{refl, arith, []}
 use Rattle.tinyjson.specs.Events.{at_key}
 use Rattle.tinyjson_grammar.specs.Tree.{no_members}
-use Rattle.tinyjson_normal.specs.Compacting.{Has}
 use Rattle.tinyjson_normal.proofs.Compacting.{opens}
 use Rattle.tinyjson_normal.proofs.compact.CompactEvents.open_object.Goals as goal
 

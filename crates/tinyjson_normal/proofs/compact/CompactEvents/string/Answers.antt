@@ -1,4 +1,4 @@
-use Rattle.std.proofs.Common.{◌≡◌, refl, sym, ap, subst, ◌∙◌, ◌++◌, ◌∷◌, [], OnOk}
+use Rattle.std.proofs.Common.{◌≡◌, refl, subst, ◌++◌, ◌∷◌, [], OnOk}
 use Rattle.std.specs.Str.{chars}
 use Rattle.tinyjson_grammar.specs.Text.{quoted}
 use Rattle.tinyjson_output.proofs.Callers.{enc}
