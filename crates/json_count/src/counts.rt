@@ -84,11 +84,11 @@ impl Events for Counts {
         Ok(())
     }
 
-    fn key(&mut self, _: String) -> Result<(), AllocError> {
+    fn key(&mut self, _: &str) -> Result<(), AllocError> {
         Ok(())
     }
 
-    fn string(&mut self, _: String) -> Result<(), AllocError> {
+    fn string(&mut self, _: &str) -> Result<(), AllocError> {
         self.add(JsonKind::String)
     }
 

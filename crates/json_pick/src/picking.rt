@@ -34,6 +34,7 @@ struct Picking<W>
 where
     W: Wanted,
 {
+    alloc: Global,
     wanted: W,
     /// How many containers are open.
     depth: usize,
@@ -117,14 +118,15 @@ impl<W: Wanted> Events for Picking<W> {
         Ok(())
     }
 
-    fn key(&mut self, key: String) -> Result<(), AllocError> {
+    fn key(&mut self, key: &str) -> Result<(), AllocError> {
         if self.depth == 1 {
-            self.key = Some(key);
+            self.key = Some(String::from_str(self.alloc, key)?);
         }
         Ok(())
     }
 
-    fn string(&mut self, value: String) -> Result<(), AllocError> {
+    fn string(&mut self, value: &str) -> Result<(), AllocError> {
+        let value = String::from_str(self.alloc, value)?;
         self.value(JsonValue::String(value))
     }
 
@@ -153,6 +155,7 @@ pub fn pick_members<W: Wanted>(
         (chars text.now) result }
 {
     let start = Picking {
+        alloc,
         wanted,
         depth: 0,
         key: None,

@@ -1,9 +1,8 @@
 -- What a source of characters still gives, and what a call took from it. For private contracts.
 use Rattle.std.specs.Prelude.{◌≡◌, ℕ, ◌<◌, Bool, true, false, List, [], ◌∷◌, ◌++◌}
-use Rattle.std.specs.Prelude.{Option, Some, None, Result, Ok, Err, OnOk, IfSome, String}
+use Rattle.std.specs.Prelude.{Option, Some, None, Result, Ok, Err, OnOk, IfSome}
 use Rattle.std.specs.List.{AllByRecursion}
-use Rattle.std.specs.declared.alloc.Global.{Global}
-use Rattle.tinyjson_grammar.specs.Characters.{text, is_white, quotation_mark}
+use Rattle.tinyjson_grammar.specs.Characters.{is_white, quotation_mark}
 use Rattle.tinyjson_grammar.specs.Position.{Position, advance}
 
 -- How a source is seen: the list that it still gives, the first character of that list, or none, and where it stands.
@@ -44,8 +43,9 @@ module _ {S : Type 0} (sight : Sight S) where
   abbrev pub Stops : (ℕ → Bool) → S → Type 0
   Stops test q = (o : Option ℕ) × sight.shows q o × IfSome o (λ c. test c ≡ false)
 
-  -- A call took a string of characters that pass a test, and the quote after it; or a run of them, as above.
-  abbrev pub TakesQuoted : (test : ℕ → Bool) {E : Type 0} → S → List ℕ → Result (Option (String Global)) E → List ℕ → S → Type 0
-  TakesQuoted test p old (Ok (Some s)) new q = AllByRecursion (λ c. test c ≡ true) (text s) × Takes p (text s ++ quotation_mark ∷ []) q
-  TakesQuoted test p old (Ok None) new q = TakesRun test {E = Unit {0}} p old (Ok tt) new q
+  -- A call took a run, added it to a text, and took the quote after it; or it took a run alone, as above.
+  abbrev pub TakesQuoted : (test : ℕ → Bool) {E : Type 0} → S → List ℕ → Result Bool E → List ℕ → S → Type 0
+  TakesQuoted test p old (Ok true) new q = (cs : List ℕ) × AllByRecursion (λ c. test c ≡ true) cs
+      × Takes p (cs ++ quotation_mark ∷ []) q × (new ≡ old ++ cs)
+  TakesQuoted test p old (Ok false) new q = TakesRun test {E = Unit {0}} p old (Ok tt) new q
   TakesQuoted test p old (Err e) new q = TakesRun test p old (Err e) new q

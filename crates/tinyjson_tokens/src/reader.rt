@@ -26,8 +26,7 @@ where
     pub(crate) source: S,
     /// The digits of the number that is being read.
     pub(crate) digit_buffer: String,
-    /// The characters of a string that is read piece by piece, and the units after them.
-    pub(crate) buffer: String,
+    /// The units after the characters of a string that is read piece by piece.
     pub(crate) units: Vec<u16>,
 }
 
@@ -40,7 +39,6 @@ impl<S: Tokens> TokenReader<S> {
             alloc,
             source,
             digit_buffer: String::new(alloc),
-            buffer: String::new(alloc),
             units: Vec::new(alloc),
         }
     }
@@ -73,31 +71,31 @@ impl<S: Tokens> TokenReader<S> {
         self.source.position()
     }
 
-    /// Reads the string whose opening quote comes next.
+    /// Reads the string whose opening quote comes next, in place of what the buffer holds.
     #[inline(always)]
-    pub fn string(&mut self) -> Result<String, JsonParseErrorKind>
+    pub fn string(&mut self, buffer: &mut String) -> Result<(), JsonParseErrorKind>
         requires shown { S.sight.shows self.old.source (Some quotation_mark) }
         ensures reads { (limit : Option ℕ) (fs : List Frame) →
             Reads S.sight limit self.old.source (next fs awaited) result
-            (λ s. complete true fs (string (text s)) true) self.new.source }
+            (λ _. complete true fs (string (text buffer.new)) true) self.new.source }
         ensures left { OnOk result (S.left self.new.source < S.left self.old.source) }
     {
         self.source.consume('"');
-        self.after_quote()
+        self.after_quote(buffer)
     }
 
     /// Reads the rest of a string, after its opening quote.
     #[inline(always)]
-    fn after_quote(&mut self) -> Result<String, JsonParseErrorKind>
+    fn after_quote(&mut self, buffer: &mut String) -> Result<(), JsonParseErrorKind>
         ensures reads { (limit : Option ℕ) (fs : List Frame) →
             Reads S.sight limit self.old.source (next fs (quoted plain [] [])) result
-            (λ s. complete true fs (string (text s)) true) self.new.source }
+            (λ _. complete true fs (string (text buffer.new)) true) self.new.source }
         ensures left { S.left self.new.source ≤ S.left self.old.source }
     {
-        self.buffer.clear();
-        match self.source.quoted(self.alloc, &mut self.buffer) {
-            Ok(Some(string)) => Ok(string),
-            Ok(None) => self.escaped(),
+        buffer.clear();
+        match self.source.quoted(buffer) {
+            Ok(true) => Ok(()),
+            Ok(false) => self.escaped(buffer),
             Err(_) => Err(JsonParseErrorKind::OutOfMemory),
         }
     }

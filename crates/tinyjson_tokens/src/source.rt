@@ -12,7 +12,7 @@ ghost use Rattle.tinyjson_grammar.specs.Position.{position_at};
 ghost use Rattle.tinyjson_tokens.specs.Source.{Sight, Still, Stops, Takes, TakesQuoted, TakesRun};
 ghost use Rattle.tinyjson_tokens.specs.Source.{Whites};
 
-use std::alloc::{AllocError, Global};
+use std::alloc::AllocError;
 
 /// A source of characters, of which the next one can be looked at.
 ///
@@ -69,15 +69,15 @@ pub trait Source: Drop {
         self.plain(string)
     }
 
-    /// After the quote that opens a string: the string, if the source finds that no escape stands in it.
-    /// Otherwise takes the plain characters that come next, and adds them to the buffer.
-    fn quoted(&mut self, alloc: Global, buffer: &mut String) -> Result<Option<String>, AllocError>
-        ensures quoted { TakesQuoted sight is_plain self.old (text buffer.old) result
-            (text buffer.new) self.new }
+    /// Takes the plain characters of a string that come next, and adds them to it; and then the quote that closes
+    /// it, if the source finds at once that it is next: only then it says `true`.
+    fn quoted(&mut self, string: &mut String) -> Result<bool, AllocError>
+        ensures quoted { TakesQuoted sight is_plain self.old (text string.old) result
+            (text string.new) self.new }
         ensures left { left self.new ≤ left self.old }
     {
-        self.plain(buffer)?;
-        Ok(None)
+        self.plain(string)?;
+        Ok(false)
     }
 
     /// Consumes these characters, if the source finds at once that they come next. It may decline.

@@ -18,67 +18,50 @@ use tinyjson_grammar::JsonParseErrorKind;
 impl<S: Tokens> TokenReader<S> {
     /// Reads the rest of a string, after the plain characters in the buffer.
     #[inline(never)]
-    pub(crate) fn escaped(&mut self) -> Result<String, JsonParseErrorKind>
+    pub(crate) fn escaped(&mut self, buffer: &mut String) -> Result<(), JsonParseErrorKind>
         ensures reads { (limit : Option ℕ) (fs : List Frame) →
-            Reads S.sight limit self.old.source (within fs self.old.buffer [] false) result
-            (λ s. complete true fs (string (text s)) true) self.new.source }
+            Reads S.sight limit self.old.source (within fs buffer.old [] false) result
+            (λ _. complete true fs (string (text buffer.new)) true) self.new.source }
         ensures left { S.left self.new.source ≤ S.left self.old.source }
     {
-        match self.source.escaped(&mut self.buffer) {
-            Ok(_) => self.rest(),
+        match self.source.escaped(buffer) {
+            Ok(_) => self.rest(buffer),
             Err(_) => Err(JsonParseErrorKind::OutOfMemory),
         }
     }
 
     /// Reads the rest of a string, after all in the buffer that the source takes at once.
     #[inline(always)]
-    fn rest(&mut self) -> Result<String, JsonParseErrorKind>
+    fn rest(&mut self, buffer: &mut String) -> Result<(), JsonParseErrorKind>
         ensures reads { (limit : Option ℕ) (fs : List Frame) →
-            Reads S.sight limit self.old.source (within fs self.old.buffer [] false) result
-            (λ s. complete true fs (string (text s)) true) self.new.source }
+            Reads S.sight limit self.old.source (within fs buffer.old [] false) result
+            (λ _. complete true fs (string (text buffer.new)) true) self.new.source }
         ensures left { S.left self.new.source ≤ S.left self.old.source }
     {
         match self.source.peek() {
-            Some(c) if c == '"' => self.close(),
-            _ => self.pieces(),
+            Some(c) if c == '"' => {
+                self.source.consume('"');
+                Ok(())
+            }
+            _ => self.pieces(buffer),
         }
-    }
-
-    /// Makes the string of the characters in the buffer, and consumes the quote that comes next.
-    fn close(&mut self) -> Result<String, JsonParseErrorKind>
-        requires shown { S.sight.shows self.old.source (Some quotation_mark) }
-        ensures reads { (limit : Option ℕ) (fs : List Frame) →
-            Reads S.sight limit self.old.source (within fs self.old.buffer [] false) result
-            (λ s. complete true fs (string (text s)) true) self.new.source }
-        ensures left { S.left self.new.source ≤ S.left self.old.source }
-    {
-        let Ok(exact) = String::from_str(self.alloc, self.buffer.as_str()) else {
-            return Err(JsonParseErrorKind::OutOfMemory);
-        };
-        self.source.consume('"');
-        Ok(exact)
     }
 
     /// Reads the rest of a string piece by piece, after the characters in the buffer.
-    fn pieces(&mut self) -> Result<String, JsonParseErrorKind>
+    fn pieces(&mut self, buffer: &mut String) -> Result<(), JsonParseErrorKind>
         ensures reads { (limit : Option ℕ) (fs : List Frame) →
-            Reads S.sight limit self.old.source (within fs self.old.buffer [] false) result
-            (λ s. complete true fs (string (text s)) true) self.new.source }
+            Reads S.sight limit self.old.source (within fs buffer.old [] false) result
+            (λ _. complete true fs (string (text buffer.new)) true) self.new.source }
         ensures left { S.left self.new.source ≤ S.left self.old.source }
     {
-        let mut string = mem::replace(&mut self.buffer, String::new(self.alloc));
         let mut units = mem::replace(&mut self.units, Vec::new(self.alloc));
         units.clear();
-        while !self.piece(&mut string, &mut units)? {
-            self.settle(&mut string, &mut units)?;
-            self.plain(&mut string, units.as_slice())?;
+        while !self.piece(buffer, &mut units)? {
+            self.settle(buffer, &mut units)?;
+            self.plain(buffer, units.as_slice())?;
         }
-        let Ok(exact) = String::from_str(self.alloc, string.as_str()) else {
-            return Err(JsonParseErrorKind::OutOfMemory);
-        };
-        self.buffer = string;
         self.units = units;
-        Ok(exact)
+        Ok(())
     }
 
     /// Adds the characters that the units spell, if a plain character comes next.

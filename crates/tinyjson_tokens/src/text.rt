@@ -147,16 +147,16 @@ impl<'a> Source for TextBytes<'a> {
     }
 
     #[inline(always)]
-    fn quoted(&mut self, alloc: Global, buffer: &mut String) -> Result<Option<String>, AllocError> {
+    fn quoted(&mut self, string: &mut String) -> Result<bool, AllocError> {
         let bytes = self.text.as_bytes();
         let end = plain_end(bytes, self.at);
+        string.push_str(&self.text[self.at..end])?;
         if end == bytes.len() || bytes[end] != b'"' {
-            self.plain(buffer)?;
-            return Ok(None);
+            self.at = end;
+            return Ok(false);
         }
-        let string = String::from_str(alloc, &self.text[self.at..end])?;
         self.at = end + 1;
-        Ok(Some(string))
+        Ok(true)
     }
 
     #[inline(always)]

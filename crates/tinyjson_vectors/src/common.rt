@@ -92,11 +92,11 @@ impl Events for Forget {
         Ok(())
     }
 
-    fn key(&mut self, _: String) -> Result<(), AllocError> {
+    fn key(&mut self, _: &str) -> Result<(), AllocError> {
         Ok(())
     }
 
-    fn string(&mut self, _: String) -> Result<(), AllocError> {
+    fn string(&mut self, _: &str) -> Result<(), AllocError> {
         Ok(())
     }
 

@@ -53,14 +53,14 @@ impl Events for Record {
         self.tell("}")
     }
 
-    fn key(&mut self, key: String) -> Result<(), AllocError> {
-        self.told.push_str(key.as_str())?;
+    fn key(&mut self, key: &str) -> Result<(), AllocError> {
+        self.told.push_str(key)?;
         self.tell(":")
     }
 
-    fn string(&mut self, value: String) -> Result<(), AllocError> {
+    fn string(&mut self, value: &str) -> Result<(), AllocError> {
         self.told.push_str("\"")?;
-        self.told.push_str(value.as_str())?;
+        self.told.push_str(value)?;
         self.tell("\"")
     }
 
@@ -136,11 +136,11 @@ impl Events for NoNumber {
         Ok(())
     }
 
-    fn key(&mut self, _: String) -> Result<(), AllocError> {
+    fn key(&mut self, _: &str) -> Result<(), AllocError> {
         Ok(())
     }
 
-    fn string(&mut self, _: String) -> Result<(), AllocError> {
+    fn string(&mut self, _: &str) -> Result<(), AllocError> {
         Ok(())
     }
 

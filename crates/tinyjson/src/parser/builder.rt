@@ -2,7 +2,7 @@
 ghost use Rattle.std.specs.Prelude.{◌≡◌, ◌∷◌, List, [], length, true, false, Ok, Err, OnOk};
 ghost use Rattle.std.specs.Prelude.{MatchOption, MatchResult};
 ghost use Rattle.std.specs.Bool.{MatchBool};
-ghost use Rattle.tinyjson_grammar.specs.Characters.{text};
+ghost use Rattle.std.specs.Str.{chars};
 ghost use Rattle.tinyjson_grammar.specs.Kind.{kind_of};
 ghost use Rattle.tinyjson_grammar.specs.Machine.{Frame, in_array, at_key, at_value};
 ghost use Rattle.tinyjson_grammar.specs.Machine.{complete, stop};
@@ -74,15 +74,15 @@ pub(crate) trait Builder: Drop {
     }
 
     /// Gives the innermost container, an object, a key.
-    fn key(&mut self, key: String) -> Result<(), AllocError>
+    fn key(&mut self, key: &str) -> Result<(), AllocError>
         requires { (ms : Members) × (fs : List Frame) × holds self.old (at_key ms ∷ fs) }
         ensures { (ms : Members) (fs : List Frame) → holds self.old (at_key ms ∷ fs) →
-            OnOk result (holds self.new (at_value ms (text key) ∷ fs)) };
+            OnOk result (holds self.new (at_value ms (chars key.now) ∷ fs)) };
 
     /// Puts a string where it belongs.
-    fn string(&mut self, value: String) -> Result<(), AllocError>
+    fn string(&mut self, value: &str) -> Result<(), AllocError>
         ensures { (fs : List Frame) → holds self.old fs →
-            OnOk result (Puts holds is fs (string (text value)) self.new) };
+            OnOk result (Puts holds is fs (string (chars value.now)) self.new) };
 
     /// Puts a number where it belongs.
     fn number(&mut self, value: JsonNumber) -> Result<(), AllocError>
@@ -192,10 +192,10 @@ impl<B: Builder> Nest<B> {
 
     /// Gives the innermost container, an object, a key.
     #[inline(always)]
-    pub(super) fn key(&mut self, key: String) -> Result<(), AllocError>
+    pub(super) fn key(&mut self, key: &str) -> Result<(), AllocError>
         requires { (ms : Members) × (fs : List Frame) × B.holds self.old.builder (at_key ms ∷ fs) }
         ensures { (ms : Members) (fs : List Frame) → IsWithin B.holds self.old (at_key ms) fs →
-            OnOk result (IsOpen B.holds self.new (at_value ms (text key) ∷ fs)) }
+            OnOk result (IsOpen B.holds self.new (at_value ms (chars key.now) ∷ fs)) }
     {
         self.builder.key(key)?;
         self.set_innermost(Awaited::Value);
@@ -273,9 +273,9 @@ impl<B: Builder> Nest<B> {
 
     /// Puts a string where it belongs, which is no key.
     #[inline(always)]
-    pub(super) fn string(&mut self, value: String) -> Result<Progress, JsonParseErrorKind>
+    pub(super) fn string(&mut self, value: &str) -> Result<Progress, JsonParseErrorKind>
         ensures { (fs : List Frame) → IsOpen B.holds self.old fs → TakesValue fs →
-            Joins B.holds B.is (complete true fs (string (text value)) true) result self.new }
+            Joins B.holds B.is (complete true fs (string (chars value.now)) true) result self.new }
     {
         completed(self.builder.string(value))
     }

@@ -41,12 +41,12 @@ impl Builder for Nothing {
     }
 
     #[inline(always)]
-    fn key(&mut self, _key: String) -> Result<(), AllocError> {
+    fn key(&mut self, _key: &str) -> Result<(), AllocError> {
         Ok(())
     }
 
     #[inline(always)]
-    fn string(&mut self, _value: String) -> Result<(), AllocError> {
+    fn string(&mut self, _value: &str) -> Result<(), AllocError> {
         Ok(())
     }
 

@@ -1,6 +1,7 @@
 //! A text told event by event.
 ghost use Rattle.std.specs.Prelude.{◌≡◌, ℕ, List, [], ◌∷◌, map, false, IfErr, IsTrue, None, OnOk, Option, Some};
-ghost use Rattle.tinyjson_grammar.specs.Characters.{is_white, text};
+ghost use Rattle.std.specs.Str.{chars};
+ghost use Rattle.tinyjson_grammar.specs.Characters.{is_white};
 ghost use Rattle.tinyjson_grammar.specs.Machine.{awaited, next};
 ghost use Rattle.tinyjson_grammar.specs.Refusal.{begins_growth};
 ghost use Rattle.tinyjson_grammar.specs.Tree.{Tree, Members, no_members, items_of};
@@ -22,7 +23,8 @@ use tinyjson_tokens::Tokens;
 ///
 /// `holds` says for which open containers it stands, the innermost first, and `is` for which tree, once all
 /// are closed: what is shown of each event holds of the text. An event that returns an error ends the
-/// reading, which says then that memory ran out. After an error nothing is said of what was told.
+/// reading, which says then that memory ran out. After an error nothing is said of what was told. A key or
+/// a string is lent for the call, so what keeps it makes a copy.
 ///
 /// ```
 /// fn number(&mut self, _: JsonNumber) -> Result<(), AllocError> {
@@ -58,15 +60,15 @@ pub trait Events: Drop {
             OnOk result (Puts holds is os (object ms) self.new) };
 
     /// The innermost container, an object, is given a key.
-    fn key(&mut self, key: String) -> Result<(), AllocError>
+    fn key(&mut self, key: &str) -> Result<(), AllocError>
         requires { (ms : Members) × (os : List Open) × holds self.old (at_key ms ∷ os) }
         ensures { (ms : Members) (os : List Open) → holds self.old (at_key ms ∷ os) →
-            OnOk result (holds self.new (at_value ms (text key) ∷ os)) };
+            OnOk result (holds self.new (at_value ms (chars key.now) ∷ os)) };
 
     /// A string is complete.
-    fn string(&mut self, value: String) -> Result<(), AllocError>
+    fn string(&mut self, value: &str) -> Result<(), AllocError>
         ensures { (os : List Open) → holds self.old os →
-            OnOk result (Puts holds is os (string (text value)) self.new) };
+            OnOk result (Puts holds is os (string (chars value.now)) self.new) };
 
     /// A number is complete.
     fn number(&mut self, value: JsonNumber) -> Result<(), AllocError>
@@ -112,11 +114,11 @@ impl<E: Events> Builder for Told<E> {
         self.events.close_object()
     }
 
-    fn key(&mut self, key: String) -> Result<(), AllocError> {
+    fn key(&mut self, key: &str) -> Result<(), AllocError> {
         self.events.key(key)
     }
 
-    fn string(&mut self, value: String) -> Result<(), AllocError> {
+    fn string(&mut self, value: &str) -> Result<(), AllocError> {
         self.events.string(value)
     }
 

@@ -34,6 +34,8 @@ where
 {
     pub(super) alloc: Global,
     pub(super) tokens: TokenReader<S>,
+    /// The characters of the last string that was read.
+    string: String,
 }
 
 impl<S: Tokens> Reader<S> {
@@ -43,6 +45,7 @@ impl<S: Tokens> Reader<S> {
         Reader {
             alloc,
             tokens: TokenReader::new(alloc, source),
+            string: String::new(alloc),
         }
     }
 
@@ -245,11 +248,11 @@ impl<S: Tokens> Reader<S> {
             nest.new self.new.tokens.source }
         ensures left { OnOk result (S.left self.new.tokens.source < S.left self.old.tokens.source) }
     {
-        let string = self.tokens.string()?;
+        self.tokens.string(&mut self.string)?;
         if nest.awaits_key() {
-            return self.colon(nest, string);
+            return self.colon(nest);
         }
-        nest.string(string)
+        nest.string(self.string.as_str())
     }
 
     /// Reads the number whose first character, a minus sign or a digit, comes next, and puts it
@@ -343,32 +346,28 @@ impl<S: Tokens> Reader<S> {
     {
         match self.tokens.skip_white() {
             Some('"') => {
-                let key = self.tokens.string()?;
-                self.colon(nest, key)
+                self.tokens.string(&mut self.string)?;
+                self.colon(nest)
             }
             _ => Ok(Progress::Awaits),
         }
     }
 
-    /// Reads the colon after a key.
+    /// Reads the colon after a key, the last string that was read.
     #[inline(always)]
-    fn colon<B: Builder>(
-        &mut self,
-        nest: &mut Nest<B>,
-        key: String,
-    ) -> Result<Progress, JsonParseErrorKind>
+    fn colon<B: Builder>(&mut self, nest: &mut Nest<B>) -> Result<Progress, JsonParseErrorKind>
         requires open { (ms : Members) × (fs : List Frame) ×
             IsOpen B.holds nest.old (at_key ms ∷ fs) }
         ensures reads { (limit : Option ℕ) (ms : Members) (fs : List Frame) →
             IsOpen B.holds nest.old (at_key ms ∷ fs) →
             Continues B.holds B.is S.sight limit self.old.tokens.source
-            (next (at_key ms ∷ fs) (colon (text key))) result nest.new self.new.tokens.source }
+            (next (at_key ms ∷ fs) (colon (text self.old.string))) result nest.new self.new.tokens.source }
         ensures left { OnOk result (S.left self.new.tokens.source ≤ S.left self.old.tokens.source) }
     {
         match self.tokens.skip_white() {
             Some(':') => {
                 self.tokens.consume(':');
-                if nest.key(key).is_err() {
+                if nest.key(self.string.as_str()).is_err() {
                     return Err(JsonParseErrorKind::OutOfMemory);
                 }
                 Ok(Progress::Awaits)

@@ -95,14 +95,16 @@ impl Builder for Stack {
     }
 
     #[inline(always)]
-    fn key(&mut self, key: String) -> Result<(), AllocError> {
+    fn key(&mut self, key: &str) -> Result<(), AllocError> {
+        let key = String::from_str(self.alloc, key)?;
         self.settle()?;
         self.keys.push(key)?;
         Ok(())
     }
 
     #[inline(always)]
-    fn string(&mut self, value: String) -> Result<(), AllocError> {
+    fn string(&mut self, value: &str) -> Result<(), AllocError> {
+        let value = String::from_str(self.alloc, value)?;
         self.values.reserve(1)?;
         self.values.push_reserved(JsonValue::String(value));
         Ok(())

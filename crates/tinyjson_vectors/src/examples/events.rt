@@ -34,11 +34,11 @@ impl Events for Numbers {
         Ok(())
     }
 
-    fn key(&mut self, _: String) -> Result<(), AllocError> {
+    fn key(&mut self, _: &str) -> Result<(), AllocError> {
         Ok(())
     }
 
-    fn string(&mut self, _: String) -> Result<(), AllocError> {
+    fn string(&mut self, _: &str) -> Result<(), AllocError> {
         Ok(())
     }
 

@@ -1,9 +1,9 @@
 use Rattle.std.proofs.Common.{refl}
 use Rattle.json_count.proofs.Counting.{added}
-use Rattle.tinyjson.specs.Characters.{text}
+use Rattle.std.specs.Str.{chars}
 use Rattle.tinyjson.specs.Tree.{string}
 use Rattle.tinyjson.specs.JsonKind.TheVariants as kind
 use Rattle.json_count.proofs.counts.CountsEvents.string.Goals as goal
 
 pub returns : goal.returns
-returns c = λ os h. added c.add.result c.args.self.now c.add.new.self os (string (text c.args.arg2)) kind.String (λ k. refl) c.add.ensures h
+returns c = λ os h. added c.add.result c.args.self.now c.add.new.self os (string (chars c.args.arg2.now)) kind.String (λ k. refl) c.add.ensures h

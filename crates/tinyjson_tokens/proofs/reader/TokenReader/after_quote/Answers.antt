@@ -6,16 +6,18 @@ use Rattle.tinyjson_tokens.proofs.Reading.Steps.{Reads_after, Refuses_memory}
 use Rattle.tinyjson_tokens.proofs.Reading.String.{Leads_quoted, plain_added, plain_halts}
 use Rattle.tinyjson_tokens.proofs.reader.TokenReader.after_quote.Goals as goal
 
-pub returns-in-Ok-Some-clause-reads : goal.returns-in-Ok-Some-clause-reads
-returns-in-Ok-Some-clause-reads g c = λ limit fs.
-    let h = rw c.in-Ok-Some.field-0-is at c.in-Ok-Some.ensures in
-    Leads_quoted g.S.Source.sight limit _ _ fs (text c.in-Ok-Some.string) h.quoted.0 h.quoted.1
+pub returns-in-Ok-true-clause-reads : goal.returns-in-Ok-true-clause-reads
+returns-in-Ok-true-clause-reads g c = λ limit fs.
+    let none : text c.clear.new.self ≡ [] = ap chars c.clear.ensures.bytes ∙ chars-nil in
+    let h = rw c.in-Ok-true.field-0-test at c.in-Ok-true.ensures in
+    let w = rw none at h.quoted in
+    rw w.3 (Leads_quoted g.S.Source.sight limit _ _ fs w.0 w.1 w.2)
 
-pub returns-in-Ok-None-clause-reads : goal.returns-in-Ok-None-clause-reads
-returns-in-Ok-None-clause-reads g c = λ limit fs.
+pub returns-in-Ok-false-clause-reads : goal.returns-in-Ok-false-clause-reads
+returns-in-Ok-false-clause-reads g c = λ limit fs.
     let sight = g.S.Source.sight in
     let none : text c.clear.new.self ≡ [] = ap chars c.clear.ensures.bytes ∙ chars-nil in
-    let h = rw c.in-Ok-None.field-0-is at c.in-Ok-None.ensures in
+    let h = rw c.in-Ok-false.field-0-test at c.in-Ok-false.ensures in
     let t = rw none at h.quoted in
     Reads_after sight limit _ _ _ _ _ (plain_added sight limit _ _ fs [] _ [] _ refl refl t) (c.escaped.ensures.reads limit fs)
 

@@ -1,12 +1,9 @@
-use Rattle.std.proofs.Common.{rules, arith, ◌≡◌, ◌∙◌, sym, [], ap, ap₂, true}
+use Rattle.std.proofs.Common.{rules, arith, ◌≡◌, sym, [], ap}
 use Rattle.std.proofs.lemmas.Result.{err_from_is_err_and}
-use Rattle.std.specs.Str.{chars}
 use Rattle.tinyjson_grammar.specs.Characters.{text}
-use Rattle.tinyjson_grammar.specs.Tree.{string}
-use Rattle.tinyjson_grammar.specs.Machine.{next, quoted, plain, complete}
+use Rattle.tinyjson_grammar.specs.Machine.{next, quoted, plain}
 use Rattle.tinyjson_tokens.specs.Steps.{within}
-use Rattle.tinyjson_tokens.proofs.Reading.Steps.{Halts_here, Leads_nil, Leads_to, Leads_trans, Refuses_after, Refuses_memory}
-use Rattle.tinyjson_tokens.proofs.Reading.String.{quote_goes}
+use Rattle.tinyjson_tokens.proofs.Reading.Steps.{Leads_nil, Leads_to, Leads_trans, Refuses_after}
 use Rattle.tinyjson_tokens.proofs.reader.TokenReader.pieces.Goals as goal
 
 pub loop-units-init : goal.loop-units-init
@@ -15,7 +12,7 @@ loop-units-init g c =
     let b : c.clear.new.self.items ≡ [] = search rules in
     record {
       reads = λ limit fs. Leads_to sight limit _ _ (Leads_nil sight limit _ _)
-          (ap₂ (λ x y. next fs (quoted plain x y)) (ap text (sym c.replace-string.ensures.value)) (sym b));
+          (ap (λ y. next fs (quoted plain (text c.args.buffer.now) y)) (sym b));
       left = search rules;
     }
 
@@ -60,19 +57,9 @@ loop-units-preserved g c =
       left = omega (arith, c.piece.ensures.left, c.settle.ensures.left, c.plain.ensures.left, c.loop-units.invariant.left);
     }
 
-pub returns-in_default-clause-reads : goal.returns-in_default-clause-reads
-returns-in_default-clause-reads g c = λ limit fs.
-    let sight = g.S.Source.sight in
-    let a = ap (within fs c.piece.new.string c.piece.new.units.items) c.if-not-branch.false in
-    let l = Leads_trans sight limit _ _ _ (c.loop-units.invariant.reads limit fs)
-    (Leads_to sight limit _ _ (c.in_ok-piece.ensures.reads limit fs) a) in
-    Refuses_memory sight limit _ _ (Halts_here sight limit _ _ l tt (quote_goes fs _))
-
 pub returns-clause-reads : goal.returns-clause-reads
 returns-clause-reads g c = λ limit fs.
     let sight = g.S.Source.sight in
-    let a = ap (within fs c.piece.new.string c.piece.new.units.items) c.if-not-branch.false in
-    let b : text c.piece.new.string ≡ text c.in-Ok.exact = ap chars (sym c.as_str.ensures.value ∙ sym c.in-Ok.ensures.ok) in
-    let d = ap (λ t. complete true fs (string t) true) b in
     Leads_trans sight limit _ _ _ (c.loop-units.invariant.reads limit fs)
-    (Leads_to sight limit _ _ (c.in_ok-piece.ensures.reads limit fs) (a ∙ d))
+    (Leads_to sight limit _ _ (c.in_ok-piece.ensures.reads limit fs)
+    (ap (within fs c.piece.new.string c.piece.new.units.items) c.if-not-branch.false))

@@ -6,7 +6,7 @@ use Rattle.tinyjson_tokens.proofs.reader.TokenReader.pieces.Given as goal
 abbrev pub invariant-loop-units : goal.invariant-loop-units
 invariant-loop-units g l = record {
   reads : (limit : Option ℕ) (fs : List Frame) → Leads g.S.Source.sight limit l.fn.self.source
-      (within fs l.fn.self.buffer [] false) l.self.source (within fs l.string l.units.items false);
+      (within fs l.fn.buffer [] false) l.self.source (within fs l.buffer l.units.items false);
   left : g.S.Source.left l.self.source ≤ g.S.Source.left l.fn.self.source;
 }
 

@@ -1,19 +1,26 @@
-use Rattle.std.proofs.Common.{◌≡◌, ◌+◌, ◌<◌, [], length, get_or, ap, sym, refl, drop, ◌∙◌, arith}
+use Rattle.std.proofs.Common.{◌≡◌, ◌+◌, ◌++◌, ◌<◌, [], length, get_or, ap, sym, refl, drop, ◌∙◌, arith, rules, string_bytes}
 use Rattle.std.proofs.lemmas.Result.{err_from_is_err_and}
-use Rattle.std.proofs.lemmas.Str.{IsUtf8-had}
+use Rattle.std.proofs.lemmas.Str.{chars-append, IsUtf8-had, IsUtf8-string_bytes}
 use Rattle.std.specs.List.{prefix_len}
 use Rattle.std.specs.Str.{chars}
 use Rattle.tinyjson_bytes.specs.Scan.{is_plain}
 use Rattle.tinyjson_tokens.specs.Slice.{before, run_end}
 use Rattle.tinyjson_grammar.specs.Characters.{text}
-use Rattle.tinyjson_tokens.proofs.Slices.{between, plain_high, plain_between, quote_boundary, quote_between, stay_moves, step_gives}
+use Rattle.tinyjson_tokens.proofs.Slices.{between, plain_high, plain_boundary, plain_between, quote_boundary, quote_between, stay_moves, step_gives}
 use Rattle.tinyjson_tokens.proofs.Slices.{step_moves}
 use Rattle.tinyjson_tokens.proofs.text.TextBytesSource.quoted.Goals as goal
 
-pub returns-in_err-string-clause-quoted : goal.returns-in_err-string-clause-quoted
-returns-in_err-string-clause-quoted c =
+pub range-requires-clause-end_boundary : goal.range-requires-clause-end_boundary
+range-requires-clause-end_boundary c =
     let self = c.args.self.now in
-    let p = err_from_is_err_and c.from_residual-in_err-string.result c.from_residual-in_err-string.ensures.1 in
+    let e : c.plain_end-end.result ≡ run_end is_plain self.text.now self.at = c.plain_end-end.ensures.end
+    ∙ ap (λ bs. self.at + prefix_len is_plain (drop self.at bs)) c.as_bytes-bytes.ensures.value in
+    plain_boundary is_plain plain_high self.text.now (IsUtf8-had self.text.now self.utf8) self.at self.boundary _ e
+
+pub returns-in_err-push_str-clause-quoted : goal.returns-in_err-push_str-clause-quoted
+returns-in_err-push_str-clause-quoted c =
+    let self = c.args.self.now in
+    let p = err_from_is_err_and c.from_residual.result c.from_residual.ensures.1 in
     rw p.1 (record {
       taken = [];
       pass = tt;
@@ -26,8 +33,40 @@ invariant_of-self c =
     let self = c.args.self.now in
     let e : c.plain_end-end.result ≡ run_end is_plain self.text.now self.at = c.plain_end-end.ensures.end
     ∙ ap (λ bs. self.at + prefix_len is_plain (drop self.at bs)) c.as_bytes-bytes.ensures.value in
+    record {
+      utf8 = self.utf8;
+      boundary = plain_boundary is_plain plain_high self.text.now (IsUtf8-had self.text.now self.utf8) self.at self.boundary _ e;
+    }
+
+pub returns-then-end-bytes-clause-quoted : goal.returns-then-end-bytes-clause-quoted
+returns-then-end-bytes-clause-quoted c =
+    let self = c.args.self.now in
+    let old = c.args.string.now in
+    let utf8 = IsUtf8-had self.text.now self.utf8 in
+    let to = c.plain_end-end.result in
+    let e : to ≡ run_end is_plain self.text.now self.at = c.plain_end-end.ensures.end
+    ∙ ap (λ bs. self.at + prefix_len is_plain (drop self.at bs)) c.as_bytes-bytes.ensures.value in
+    let last = plain_boundary is_plain plain_high self.text.now utf8 self.at self.boundary to e in
+    let bytes : string_bytes c.push_str.new.self ≡ string_bytes old ++ c.range.result.now = search rules in
+    record {
+      taken = between self.text.now self.at to;
+      pass = plain_between is_plain plain_high self.text.now utf8 self.at self.boundary to e;
+      takes = record {
+        gives = step_gives self.text.now utf8 self.at to (omega (arith, e)) self.boundary last _ refl;
+        moves = step_moves self.text.now utf8 self.at to (omega (arith, e)) self.boundary last _ refl;
+      };
+      added = ap chars bytes ∙ chars-append (string_bytes old) c.range.result.now (IsUtf8-string_bytes old)
+          ∙ ap (λ bs. text old ++ chars bs) c.range.ensures.value;
+    }
+
+pub invariant_of-self-2 : goal.invariant_of-self-2
+invariant_of-self-2 c =
+    let self = c.args.self.now in
+    let e : c.plain_end-end.result ≡ run_end is_plain self.text.now self.at = c.plain_end-end.ensures.end
+    ∙ ap (λ bs. self.at + prefix_len is_plain (drop self.at bs)) c.as_bytes-bytes.ensures.value in
     let some : c.plain_end-end.result < length self.text.now = omega (
       arith,
+      c.if-end-bytes.false,
       c.plain_end-end.ensures.within,
       ap length c.as_bytes-bytes.ensures.value,
     ) in
@@ -41,21 +80,28 @@ invariant_of-self c =
 pub returns-clause-quoted : goal.returns-clause-quoted
 returns-clause-quoted c =
     let self = c.args.self.now in
+    let old = c.args.string.now in
     let utf8 = IsUtf8-had self.text.now self.utf8 in
     let to = c.plain_end-end.result in
     let e : to ≡ run_end is_plain self.text.now self.at = c.plain_end-end.ensures.end
     ∙ ap (λ bs. self.at + prefix_len is_plain (drop self.at bs)) c.as_bytes-bytes.ensures.value in
-    let some : to < length self.text.now = omega (arith, c.plain_end-end.ensures.within, ap length c.as_bytes-bytes.ensures.value) in
+    let some : to < length self.text.now = omega (
+      arith,
+      c.if-end-bytes.false,
+      c.plain_end-end.ensures.within,
+      ap length c.as_bytes-bytes.ensures.value,
+    ) in
     let quote : get_or self.text.now to 0 ≡ 34 = ap (λ bs. get_or bs to 0) (sym c.as_bytes-bytes.ensures.value)
     ∙ c.if-bytes-end-ne34.false in
     let last = quote_boundary self.text.now utf8 self.at self.boundary to e some quote in
-    let whole : text c.in_ok-string.string ≡ between self.text.now self.at to =
-    ap chars (c.in_ok-string.ensures.ok ∙ c.range.ensures.value) in
     let step = quote_between self.text.now utf8 self.at self.boundary to e some quote in
-    rw whole (
+    let bytes : string_bytes c.push_str.new.self ≡ string_bytes old ++ c.range.result.now = search rules in (
+      between self.text.now self.at to,
       plain_between is_plain plain_high self.text.now utf8 self.at self.boundary to e,
       record {
         gives = step_gives self.text.now utf8 self.at (to + 1) (omega (arith, e)) self.boundary last _ step;
         moves = step_moves self.text.now utf8 self.at (to + 1) (omega (arith, e)) self.boundary last _ step;
       },
+      ap chars bytes ∙ chars-append (string_bytes old) c.range.result.now (IsUtf8-string_bytes old)
+          ∙ ap (λ bs. text old ++ chars bs) c.range.ensures.value,
     )

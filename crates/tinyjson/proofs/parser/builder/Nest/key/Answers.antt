@@ -1,6 +1,6 @@
 use Rattle.std.proofs.Common.{◌∷◌, sym, subst}
 use Rattle.tinyjson_grammar.specs.Machine.{at_value}
-use Rattle.tinyjson.specs.View.{text}
+use Rattle.std.specs.Str.{chars}
 use Rattle.tinyjson.specs.declared.parser.builder.Awaited.TheVariants.{Value}
 use Rattle.tinyjson.proofs.Reading.Building.{renewed}
 use Rattle.tinyjson.proofs.parser.builder.Nest.key.Goals as goal
@@ -8,6 +8,6 @@ use Rattle.tinyjson.proofs.parser.builder.Nest.key.Goals as goal
 pub returns : goal.returns
 returns g c = λ ms fs h.
     let w = c.set_innermost.ensures in
-    let k = text c.args.key in
+    let k = chars c.args.key.now in
     renewed g.B.Builder.holds (record c.args.self.now { builder = c.key.new.self }) c.set_innermost.new.self Value (at_value ms k) fs
     (subst (λ b. g.B.Builder.holds b (at_value ms k ∷ fs)) (sym w.builder) (c.in_ok-key.ensures ms fs h.0)) h.1 w.awaited (λ os j. j)

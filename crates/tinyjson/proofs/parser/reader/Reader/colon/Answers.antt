@@ -13,14 +13,14 @@ returns-then-is_err-clause-reads g c = λ limit ms fs h.
     let sight = g.S.Source.sight in
     Refuses_memory sight limit _ _ (Halts_here sight limit _ _
     (Leads_one sight limit _ _ _ 58 (Leads_whites sight limit _ _ _ c.skip_white.ensures.white tt (white_colon limit _ _))
-    c.consume.ensures.takes tt (colon_read limit fs ms (text c.args.key) 58 (search rules)) tt) tt tt)
+    c.consume.ensures.takes tt (colon_read limit fs ms (text c.args.self.now.string) 58 (search rules)) tt) tt tt)
 
 pub returns-else-is_err-clause-reads : goal.returns-else-is_err-clause-reads
 returns-else-is_err-clause-reads g c = λ limit ms fs h.
     let sight = g.S.Source.sight in
-    awaits g.B.Builder.holds g.B.Builder.is sight limit _ _ (at_value ms (text c.args.key) ∷ fs) c.key.new.self
+    awaits g.B.Builder.holds g.B.Builder.is sight limit _ _ (at_value ms (text c.args.self.now.string) ∷ fs) c.key.new.self
     (Leads_one sight limit _ _ _ 58 (Leads_whites sight limit _ _ _ c.skip_white.ensures.white tt (white_colon limit _ _))
-    c.consume.ensures.takes tt (colon_read limit fs ms (text c.args.key) 58 (search rules)) tt)
+    c.consume.ensures.takes tt (colon_read limit fs ms (text c.args.self.now.string) 58 (search rules)) tt)
     (search rules)
 
 pub returns-in-Some-clause-reads : goal.returns-in-Some-clause-reads
@@ -30,7 +30,7 @@ returns-in-Some-clause-reads g c = λ limit ms fs h.
     Refuses_as sight limit _ _ (ExpectedColon d)
     (Leads_one sight limit _ _ _ d (Leads_whites sight limit _ _ _ c.skip_white.ensures.white tt (white_colon limit _ _))
     c.consume-in-Some.ensures.takes tt
-    (colon_other limit fs ms (text c.args.key) d c.in-Some.ensures.stops (search rules)) tt)
+    (colon_other limit fs ms (text c.args.self.now.string) d c.in-Some.ensures.stops (search rules)) tt)
 
 pub returns-in-None-clause-reads : goal.returns-in-None-clause-reads
 returns-in-None-clause-reads g c = λ limit ms fs h.

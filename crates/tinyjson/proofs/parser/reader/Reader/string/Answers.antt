@@ -21,4 +21,4 @@ pub returns-clause-reads : goal.returns-clause-reads
 returns-clause-reads g c = λ limit fs h.
     let w : TakesValue fs = search rules in
     joined g.B.Builder.holds g.B.Builder.is g.S.Source.sight limit _ _ fs awaited _ c.string-2.new.self
-    (c.in_ok-string.ensures.reads limit fs) (c.string-2.ensures fs h w)
+    (c.in_ok-string.ensures.reads limit fs) (rw c.as_str.ensures.value at c.string-2.ensures fs h w)
