@@ -127,14 +127,14 @@ impl Events for Arena {
         Ok(())
     }
 
-    fn key(&mut self, key: String) -> Result<(), AllocError> {
-        let span = self.store.add_text(key.as_str())?;
+    fn key(&mut self, key: &str) -> Result<(), AllocError> {
+        let span = self.store.add_text(key)?;
         self.keys.push(span)?;
         Ok(())
     }
 
-    fn string(&mut self, value: String) -> Result<(), AllocError> {
-        let span = self.store.add_text(value.as_str())?;
+    fn string(&mut self, value: &str) -> Result<(), AllocError> {
+        let span = self.store.add_text(value)?;
         self.values.push(Node::String(span))?;
         Ok(())
     }

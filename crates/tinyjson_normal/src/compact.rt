@@ -147,15 +147,15 @@ impl Events for Compact {
         push_closing(&mut self.text, b'}')
     }
 
-    fn key(&mut self, key: String) -> Result<(), AllocError> {
+    fn key(&mut self, key: &str) -> Result<(), AllocError> {
         let from = self.text.len();
-        let span = self.store.add_text(key.as_str())?;
+        let span = self.store.add_text(key)?;
         self.begun.push(Begun { key: span, from })?;
-        push_quoted(&mut self.text, &mut self.buffer, key.as_str(), b':')
+        push_quoted(&mut self.text, &mut self.buffer, key, b':')
     }
 
-    fn string(&mut self, value: String) -> Result<(), AllocError> {
-        push_quoted(&mut self.text, &mut self.buffer, value.as_str(), b',')
+    fn string(&mut self, value: &str) -> Result<(), AllocError> {
+        push_quoted(&mut self.text, &mut self.buffer, value, b',')
     }
 
     fn number(&mut self, value: JsonNumber) -> Result<(), AllocError> {
