@@ -10,6 +10,8 @@ pub mod Order
 pub mod Gathered
 -- Members whose keys rise.
 pub mod Rising
+-- Members that were picked from others.
+pub mod Picked
 -- What stands in compact text.
 pub mod Compacting
 -- What a walk writes.

@@ -41,7 +41,7 @@ module _ (xs : List ℕ) where
       let p = and_parts (is_below_next xs m ms) (rise xs ms) h in
       ap (λ b. cond b (lasts xs ms) (m ∷ lasts xs ms)) (not_again m ms p.0) ∙ ap (λ z. m ∷ z) (rise_lasts ms p.1)
 
-  rise_sorted : (ms : List Member) → rise xs ms ≡ true → IsSortedBy (key_lt xs) ms
+  pub rise_sorted : (ms : List Member) → rise xs ms ≡ true → IsSortedBy (key_lt xs) ms
   rise_sorted [] h k d a b = absurd (omega arith)
   rise_sorted (m ∷ []) h k d a b = absurd (omega arith)
   rise_sorted (m ∷ n ∷ ms) h zero d a b =

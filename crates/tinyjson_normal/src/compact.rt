@@ -11,7 +11,8 @@ ghost use Rattle.tinyjson_normal.specs.Order.{IsOrdered, lasts};
 ghost use Rattle.tinyjson_normal.specs.declared.store.Member.{Member as Pair};
 ghost use Rattle.tinyjson_number.specs.Text.{decimal_text};
 
-use crate::sorting::{push_lasts, rise, sort};
+use crate::ranking::keep_ordered;
+use crate::sorting::rise;
 use crate::store::{Member, Node, Span, Store, part};
 use std::alloc::{AllocError, Global};
 use tinyjson::{Events, JsonNumber};
@@ -41,8 +42,10 @@ pub(crate) struct Compact {
     pub(crate) text: Vec<u8>,
     opened: Vec<Start>,
     begun: Vec<Begun>,
-    /// The members of the object that is being closed, those of them that stay, and their texts.
+    /// The members of the object that is being closed, what they are ordered by, those of them that stay, and
+    /// their texts.
     members: Vec<Member>,
+    ranks: Vec<u64>,
     kept: Vec<Member>,
     moved: Vec<u8>,
     /// What is quoted or written piece by piece.
@@ -63,6 +66,7 @@ impl Compact {
             opened: Vec::new(alloc),
             begun: Vec::new(alloc),
             members: Vec::new(alloc),
+            ranks: Vec::new(alloc),
             kept: Vec::new(alloc),
             moved: Vec::new(alloc),
             buffer: Buffer::new(),
@@ -91,10 +95,14 @@ impl Compact {
             return Err(AllocError);
         }
         self.left -= count;
-        sort(&self.store.texts, &mut self.members)?;
-        self.kept.clear();
-        push_lasts(&self.store.texts, &mut self.kept, &self.members)?;
+        keep_ordered(
+            &self.store.texts,
+            &mut self.members,
+            &mut self.ranks,
+            &mut self.kept,
+        )?;
         self.moved.clear();
+        self.moved.reserve(count)?;
         copy_placed(&self.text, &mut self.moved, &self.kept)?;
         self.text.truncate(inside);
         self.text.extend_from_slice(&self.moved)?;
@@ -274,6 +282,7 @@ fn pair_begun(members: &mut Vec<Member>, begun: &[Begun], end: usize) -> Result<
     ensures { OnOk result (members.new.items ≡ members_of begun.now end) }
 {
     members.clear();
+    members.reserve(begun.len())?;
     let mut rest = begun;
     while let Some((first, others)) = rest.split_first() {
         let to = next_from(others, end);

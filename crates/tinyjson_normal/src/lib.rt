@@ -5,6 +5,7 @@
 mod arena;
 mod compact;
 pub mod normal;
+mod ranking;
 mod sorting;
 mod store;
 #[cfg(test)]
