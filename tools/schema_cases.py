@@ -531,6 +531,65 @@ IDENTIFIERS = [
     ("C", "urn:uuid:ee564b8a-7a87-4125-8c96-e9f123d6766f", "urn:uuid:ee564b8a-7a87-4125-8c96-e9f123d6766f#", "https://example.com/root.json#/$defs/C"),
 ]
 
+# Core, 8.2.3.2 and appendix C: a tree that others extend, by the keyword that names its node, and a stricter one.
+TREE = '"$id":"%stree","%s":"node","type":"object","properties":{"data":true,"children":{"type":"array","items":{"$dynamicRef":"#node"}}}'
+STRICT_TREE = '{"$id":"https://example.com/strict-tree","%s":"node","$ref":"tree","unevaluatedProperties":false,"$defs":{"tree":{%s}}}'
+
+# Three of `dynamicRef.json` in the official suite, in one document each: a list whose items others name, a schema with a part that leads to what
+# extends it, and lists of two kinds.
+LIST = (
+    '{"$id":"https://test.json-schema.org/dynamic-resolution/root","$ref":"%s","$defs":{"foo":{"%s":"items","type":"string"},'
+    '"between":{"$id":"between","$ref":"list"},"list":{"$id":"list","type":"array","items":{"$dynamicRef":"#items"},"$defs":{"items":{%s}}}}}'
+)
+EXTENDED = (
+    '{"$id":"https://test.json-schema.org/relative-dynamic-reference/root","$dynamicAnchor":"meta","type":"object","properties":{"foo":{"const":"pass"}},"$ref":"extended",'
+    '"$defs":{"extended":{"$id":"extended","%s":"meta","type":"object","properties":{"bar":{"$ref":"bar"}}},"bar":{"$id":"bar","type":"object","properties":{"baz":{"$dynamicRef":"extended#meta"}}}}}'
+)
+KINDS = (
+    '{"$id":"https://test.json-schema.org/dynamic-ref-with-multiple-paths/main","if":{"properties":{"kindOfList":{"const":"numbers"}},"required":["kindOfList"]},"then":{"$ref":"numberList"},'
+    '"else":{"$ref":"stringList"},"$defs":{"genericList":{"$id":"genericList","properties":{"list":{"items":{"$dynamicRef":"#itemType"}}},"$defs":{"defaultItemType":{"$dynamicAnchor":"itemType"}}},'
+    '"numberList":{"$id":"numberList","$defs":{"itemType":{"$dynamicAnchor":"itemType","type":"number"}},"$ref":"genericList"},'
+    '"stringList":{"$id":"stringList","$defs":{"itemType":{"$dynamicAnchor":"itemType","type":"string"}},"$ref":"genericList"}}}'
+)
+
+# Core, 8.2.3.2: dynamic references to names in a document with resources.
+DYNAMIC = [
+    # The strict tree's node is taken in the tree, too, unless it or the tree's has the name by `$anchor`.
+    (STRICT_TREE % ("$dynamicAnchor", TREE % ("", "$dynamicAnchor")), ['{"children":[{"data":1}]}', '{"children":[{"children":[{}]}]}'],
+     [('{"children":[{"daat":1}]}', "/children/0/daat", "/$ref/properties/children/items/$dynamicRef/unevaluatedProperties"), ('{"daat":1}', "/daat", "/unevaluatedProperties"),
+      ('{"children":[1]}', "/children/0", "/$ref/properties/children/items/$dynamicRef/$ref/type")]),
+    ("{" + TREE % ("https://example.com/", "$dynamicAnchor") + "}", ['{"children":[{"daat":1}]}'], [('{"children":[1]}', "/children/0", "/properties/children/items/$dynamicRef/type")]),
+    *((STRICT_TREE % (strict, TREE % ("", tree)), ['{"children":[{"daat":1}]}'],
+       [('{"daat":1}', "/daat", "/unevaluatedProperties"), ('{"children":[1]}', "/children/0", "/$ref/properties/children/items/$dynamicRef/type")])
+      for strict, tree in (("$anchor", "$dynamicAnchor"), ("$dynamicAnchor", "$anchor"), ("$anchor", "$anchor"))),
+    (LIST % ("list", "$dynamicAnchor", '"$dynamicAnchor":"items"'), ['["foo","bar"]'], [('["foo",42]', "/1", "/$ref/items/$dynamicRef/type")]),
+    (LIST % ("between", "$dynamicAnchor", '"$dynamicAnchor":"items"'), ['["foo","bar"]'], [('["foo",42]', "/1", "/$ref/$ref/items/$dynamicRef/type")]),
+    (LIST % ("list", "$anchor", '"$dynamicAnchor":"items"'), ['["foo",42]'], [("1", "", "/$ref/type")]),
+    (LIST % ("list", "$dynamicAnchor", '"$anchor":"items"'), ['["foo",42]'], [("1", "", "/$ref/type")]),
+    (LIST % ("list", "$dynamicAnchor", '"$anchor":"items","$dynamicAnchor":"foo"'), ['["foo",42]'], [("1", "", "/$ref/type")]),
+    (EXTENDED % "$dynamicAnchor", ['{"foo":"pass","bar":{"baz":{"foo":"pass"}}}'],
+     [('{"foo":"pass","bar":{"baz":{"foo":"fail"}}}', "/bar/baz/foo", "/$ref/properties/bar/$ref/properties/baz/$dynamicRef/properties/foo/const")]),
+    (EXTENDED % "$anchor", ['{"foo":"pass","bar":{"baz":{"foo":"fail"}}}'], [('{"foo":"fail"}', "/foo", "/properties/foo/const")]),
+    ('{"$id":"http://localhost:1234/draft2020-12/strict-extendible.json","$ref":"extendible-dynamic-ref.json","$defs":{"elements":{"$dynamicAnchor":"elements","properties":{"a":true},"required":["a"],'
+     '"additionalProperties":false},"extendible":{"$id":"extendible-dynamic-ref.json","type":"object","properties":{"elements":{"type":"array","items":{"$dynamicRef":"#elements"}}},"required":["elements"],'
+     '"additionalProperties":false,"$defs":{"elements":{"$dynamicAnchor":"elements"}}}}}', ['{"elements":[{"a":1}]}'],
+     [('{"a":true}', "", "/$ref/required"), ('{"elements":[{"b":1}]}', "/elements/0", "/$ref/properties/elements/items/$dynamicRef/required")]),
+    # The only schema with the name, in a resource within.
+    ('{"$ref":"http://localhost:1234/draft2020-12/detached-dynamicref.json#/$defs/foo","$defs":{"a":{"$id":"http://localhost:1234/draft2020-12/detached-dynamicref.json",'
+     '"$defs":{"foo":{"$dynamicRef":"#detached"},"detached":{"$dynamicAnchor":"detached","type":"integer"}}}}}', ["1"], [('"a"', "", "/$ref/$dynamicRef/type")]),
+    ('{"$defs":{"a":{"$id":"a","$dynamicAnchor":"n","type":"null"}},"$dynamicRef":"a#n"}', ["null"], [("1", "", "/$dynamicRef/type")]),
+    # Another name of the whole is not taken.
+    ('{"$id":"https://example.com/a","items":{"$ref":"b"},"$defs":{"m":{"$dynamicAnchor":"m","type":"integer"},"b":{"$id":"b","items":{"$dynamicRef":"#n"},"$defs":{"n":{"$dynamicAnchor":"n","type":"string"}}}}}',
+     ['[["a"]]'], [("[[1]]", "/0/0", "/items/$ref/items/$dynamicRef/type")]),
+    # By a URI, and percent-encoded; with no resource within, too.
+    ('{"$id":"https://example.com/a","prefixItems":[{"$ref":"b"},{"$dynamicRef":"https://example.com/b#n"}],"$defs":{"n":{"$dynamicAnchor":"n","type":"integer"},'
+     '"b":{"$id":"b","$dynamicAnchor":"n","type":"array","items":{"$dynamicRef":"#%6E"}}}}', ["[[1],2]"],
+     [('[["a"]]', "/0/0", "/prefixItems/0/$ref/items/$dynamicRef/type"), ('[[],"a"]', "/1", "/prefixItems/1/$dynamicRef/type")]),
+    ('{"$id":"https://example.com/a","items":{"$dynamicRef":"a#n"},"$defs":{"n":{"$dynamicAnchor":"n","type":"null"}}}', ["[null]"], [("[1]", "/0", "/items/$dynamicRef/type")]),
+    # A `$ref` leads to the name that it says.
+    ('{"$id":"https://example.com/a","items":{"$ref":"b#n"},"$defs":{"n":{"$dynamicAnchor":"n","type":"integer"},"b":{"$id":"b","$dynamicAnchor":"n","type":"string"}}}', ['["a"]'], [("[1]", "/0", "/items/$ref/type")]),
+]
+
 # Core, 8.2.1 and 9.3: schema resources in a document. Most are those of `ref.json`, `anchor.json` and `refRemote.json` in the official suite whose
 # resources stand in one document.
 RESOURCES = [
@@ -580,7 +639,10 @@ REFUSED_RESOURCES = [
     ('{"$ref":"#n","$defs":{"a":{"$id":"x","$anchor":"n"}}}', "/$ref"), ('{"$defs":{"a":{"$anchor":"n"},"b":{"$id":"b","$ref":"#n"}}}', "/$defs/b/$ref"),
     ('{"$id":"https://example.com/a","$ref":"b#/$defs/z","$defs":{"b":{"$id":"b"}}}', "/$ref"), ('{"$id":"https://example.com/a","$ref":"c","$defs":{"b":{"$id":"b"}}}', "/$ref"),
     ('{"$defs":{"a":{"type":"null"},"b":{"$id":"b","$ref":"#/$defs/a"}}}', "/$defs/b/$ref"), ('{"$defs":{"b":{"$id":"b","$ref":"#"}}}', "/$defs/b/$ref"),
-    ('{"$defs":{"a":{"$id":"a","$dynamicAnchor":"n"}},"$dynamicRef":"a#n"}', "/$dynamicRef"), ('{"$ref":"x","enum":[{"$id":"x"}]}', "/$ref"), ('{"$ref":"x","const":{"$id":"x"}}', "/$ref"), ('{"$ref":"x","properties":{"$id":{"$anchor":"x"}}}', "/$ref"),
+    ('{"$ref":"x","enum":[{"$id":"x"}]}', "/$ref"), ('{"$ref":"x","const":{"$id":"x"}}', "/$ref"), ('{"$ref":"x","properties":{"$id":{"$anchor":"x"}}}', "/$ref"),
+    # Of two schemas with the name none is in the whole's resource; there is none with the name; a resource has it twice.
+    (KINDS, "/$defs/genericList/properties/list/items/$dynamicRef"), ('{"$defs":{"a":{"$id":"a","$dynamicAnchor":"n"}},"$dynamicRef":"a#m"}', "/$dynamicRef"),
+    ('{"$defs":{"a":{"$id":"a","$dynamicAnchor":"n"}},"$dynamicRef":"#n"}', "/$dynamicRef"), ('{"$defs":{"n":{"$anchor":"n"},"o":{"$dynamicAnchor":"n"},"b":{"$id":"b"}}}', "/$defs/o/$dynamicAnchor"),
     ('{"$ref":"x#y z","$defs":{"a":{"$id":"x"}}}', "/$ref"), ('{"$ref":"x#1","allOf":[{"$id":"x"}]}', "/$ref"), ('{"$ref":"x#%FF","$defs":{"a":{"$id":"x"}}}', "/$ref"), ('{"$ref":"x#%2","$defs":{"a":{"$id":"x"}}}', "/$ref"),
 ]
 

@@ -10,9 +10,9 @@ use Rattle.tinyjson.specs.declared.value.JsonValue.{JsonValue}
 use Rattle.tinyjson.specs.declared.value.JsonValue.TheVariants as is
 use Rattle.uri_reference.specs.Resolving.{resolved, without_fragment}
 use Rattle.json_schema.specs.Bundles.{Marked, base_by, with_name, is_fragment, is_resource, resource_marks, name_marks, outside_marks}
-use Rattle.json_schema.specs.Bundles.{at_key, at_index, marks_in, marks_among, marks_of_items, marks_of_members, marks_by_form}
+use Rattle.json_schema.specs.Bundles.{at_key, at_index, marks_in, marks_among, marks_of_items, marks_of_members, marks_of_keyword}
 use Rattle.json_schema.specs.Bundles.{marked, all_marked, Gathers}
-use Rattle.json_schema.specs.Forms.{form_at}
+use Rattle.json_schema.specs.declared.mark.Kind.{Kind}
 use Rattle.json_schema.specs.declared.mark.Kind.TheVariants as kind
 use Rattle.json_schema.specs.declared.mark.Mark.{Mark}
 use Rattle.json_schema.proofs.Listed.{Listed}
@@ -43,12 +43,12 @@ resource_marked b p s m old r e =
 pub no_resource : (b p : List ℕ) (s : Tree) (old : List Mark) → is_resource p s ≡ false → Gathers (resource_marks b p s) old old
 no_resource b p s old r = subst (λ ms. Gathers ms old old) (ap (λ t. cond t ((kind.Resource, b, p) ∷ []) []) (sym r)) (none_marked old)
 
-pub name_marked : (v : JsonValue) (s : String Global) (b p bs : List ℕ) (m : Mark) (old : List Mark) → v ≡ is.String s
-    → bs ≡ string_bytes s → marked m ≡ (kind.Name, with_name b bs, p) → Gathers (name_marks b p (view v)) old (old ++ m ∷ [])
-name_marked v s b p bs m old e h f =
+pub name_marked : (v : JsonValue) (s : String Global) (k : Kind) (b p bs : List ℕ) (m : Mark) (old : List Mark) → v ≡ is.String s
+    → bs ≡ string_bytes s → marked m ≡ (k, with_name b bs, p) → Gathers (name_marks k b p (view v)) old (old ++ m ∷ [])
+name_marked v s k b p bs m old e h f =
     subst (λ ms. Gathers ms old (old ++ m ∷ []))
-    (ap (λ x. x ∷ []) (f ∙ ap (λ xs. (kind.Name, with_name b xs, p)) (text_bytes s bs h))
-    ∙ ap (name_marks b p) (sym (ap view e ∙ view_String s))) (one_marked m old)
+    (ap (λ x. x ∷ []) (f ∙ ap (λ xs. (k, with_name b xs, p)) (text_bytes s bs h))
+    ∙ ap (name_marks k b p) (sym (ap view e ∙ view_String s))) (one_marked m old)
 
 module _ (v : JsonValue) (s : String Global) (p bs : List ℕ) (old : List Mark) (e : v ≡ is.String s) (h : bs ≡ string_bytes s) where
   outside : (t : Bool) → is_fragment bs ≡ t → cond t [] ((kind.Outside, bs, p) ∷ []) ≡ outside_marks p (view v)
@@ -111,15 +111,15 @@ module _ (b p : List ℕ) (ps : List Listed) (i : ℕ) (s a : List Mark)
     (g : IsLeft (marks_among b p (members_listed ps)) (marks_among b p (members_listed (drop i ps))) s a) where
   -- the name of a keyword and the bytes that it has
   pub keyword_marked : (x : Listed) (key : List ℕ) (c : List Mark) → i < length ps → x ≡ get_or ps i x
-      → key ≡ encode_utf8_all (text x.0.now) → Gathers (marks_by_form (form_at key) b p (at_key p (text x.0.now)) (view x.1.now)) a c
+      → key ≡ encode_utf8_all (text x.0.now) → Gathers (marks_of_keyword key b p (at_key p (text x.0.now)) (view x.1.now)) a c
       → IsLeft (marks_among b p (members_listed ps)) (marks_among b p (members_listed (drop (i + 1) ps))) s c
   keyword_marked x key c l e is h =
       let q = at_key p (text x.0.now) in
       let rest = marks_among b p (members_listed (drop (i + 1) ps)) in
-      turn _ (marks_by_form (form_at key) b p q (view x.1.now)) rest s a c
+      turn _ (marks_of_keyword key b p q (view x.1.now)) rest s a c
       (subst (λ ns. IsLeft (marks_among b p (members_listed ps)) ns s a)
       (ap (λ xs. marks_among b p (members_listed xs)) (drop_item ps i x l e)
-      ∙ ap (λ bs. marks_by_form (form_at bs) b p q (view x.1.now) ++ rest) (sym is)) g) h
+      ∙ ap (λ bs. marks_of_keyword bs b p q (view x.1.now) ++ rest) (sym is)) g) h
 
   pub keywords_marked : length ps ≤ i → Gathers (marks_among b p (members_listed ps)) s a
   keywords_marked l = ended _ _ s a g (ap (λ xs. marks_among b p (members_listed xs)) (drop_end ps i l))

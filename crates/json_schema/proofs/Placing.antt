@@ -15,7 +15,7 @@ use Rattle.tinyjson.specs.View.{view}
 use Rattle.tinyjson.specs.declared.value.JsonValue.{JsonValue}
 use Rattle.tinyjson.specs.declared.value.JsonValue.TheVariants as made
 use Rattle.uri_reference.specs.Resolving.{resolved, without_fragment, fragment_of}
-use Rattle.json_schema.specs.Bundles.{Places, begins_pointer, leads_in, leads_by, leads_from, destination, with_name, string_of, pointing}
+use Rattle.json_schema.specs.Bundles.{Places, Leads, begins_pointer, leads_in, leads_by, leads_from, destination, with_name, string_of, pointing}
 use Rattle.json_schema.specs.Bundles.{is_own_id, kept_id, is_own_anchor, kept_anchor}
 use Rattle.json_schema.specs.References.{number_sign, percent_decoded}
 use Rattle.json_schema.specs.Bundles.{Marked, is_place, place_of, places_in, HasPlaces, marked, all_marked}
@@ -65,50 +65,50 @@ module _ (xs : List Mark) (n : ℕ) (a : Mark) (more : 0 < n) (among : n ≤ len
 
 -- ---- where a URI leads, by its fragment f
 
-module _ (at : Places) (dynamic : Bool) (t f : List ℕ) (same : f ≡ unwrap_or (fragment_of t) []) where
-  pub no_bytes : None ≡ percent_decoded f → None ≡ destination at dynamic t
-  no_bytes h = ap (option_and_then (leads_by at dynamic (without_fragment t) f)) h ∙ ap (leads_from at dynamic (without_fragment t)) same
+module _ (to : Leads) (dynamic : Bool) (t f : List ℕ) (same : f ≡ unwrap_or (fragment_of t) []) where
+  pub no_bytes : None ≡ percent_decoded f → None ≡ destination to dynamic t
+  no_bytes h = ap (option_and_then (leads_by to dynamic (without_fragment t) f)) h ∙ ap (leads_from to dynamic (without_fragment t)) same
 
   module _ (ds : List ℕ) (is : Some ds ≡ percent_decoded f) where
-    decoded : leads_by at dynamic (without_fragment t) f ds ≡ destination at dynamic t
-    decoded = ap (option_and_then (leads_by at dynamic (without_fragment t) f)) is ∙ ap (leads_from at dynamic (without_fragment t)) same
+    decoded : leads_by to dynamic (without_fragment t) f ds ≡ destination to dynamic t
+    decoded = ap (option_and_then (leads_by to dynamic (without_fragment t) f)) is ∙ ap (leads_from to dynamic (without_fragment t)) same
 
-    pub no_text : ¬ IsUtf8 ds → None ≡ destination at dynamic t
+    pub no_text : ¬ IsUtf8 ds → None ≡ destination to dynamic t
     no_text n = by (is_utf8 ds) refl ∙ decoded
       where
-        by : (b : Bool) → is_utf8 ds ≡ b → None ≡ cond b (leads_in at dynamic (without_fragment t) f ds) None
+        by : (b : Bool) → is_utf8 ds ≡ b → None ≡ cond b (leads_in to dynamic (without_fragment t) f ds) None
         by true e = absurd (n (IsUtf8-from_is_utf8 ds e))
         by false e = refl
 
-    leads : IsUtf8 ds → leads_in at dynamic (without_fragment t) f ds ≡ destination at dynamic t
-    leads u = ap (λ b. cond b (leads_in at dynamic (without_fragment t) f ds) None) (sym (is_utf8-from_IsUtf8 ds u)) ∙ decoded
+    leads : IsUtf8 ds → leads_in to dynamic (without_fragment t) f ds ≡ destination to dynamic t
+    leads u = ap (λ b. cond b (leads_in to dynamic (without_fragment t) f ds) None) (sym (is_utf8-from_IsUtf8 ds u)) ∙ decoded
 
-    pub pointer_leads : IsUtf8 ds → begins_pointer ds ≡ true → option_map (λ q. q ++ f) (at (without_fragment t)) ≡ destination at dynamic t
-    pointer_leads u b = ap (λ x. cond x (option_map (λ q. q ++ f) (at (without_fragment t)))
-        (cond dynamic None (at (with_name (without_fragment t) ds)))) (sym b) ∙ leads u
+    pub pointer_leads : IsUtf8 ds → begins_pointer ds ≡ true → option_map (λ q. q ++ f) (to.0 (without_fragment t)) ≡ destination to dynamic t
+    pointer_leads u b = ap (λ x. cond x (option_map (λ q. q ++ f) (to.0 (without_fragment t)))
+        (cond dynamic (to.1 (without_fragment t) ds) (to.0 (with_name (without_fragment t) ds)))) (sym b) ∙ leads u
 
     pub name_leads : IsUtf8 ds → begins_pointer ds ≡ false
-        → cond dynamic None (at (with_name (without_fragment t) ds)) ≡ destination at dynamic t
-    name_leads u b = ap (λ x. cond x (option_map (λ q. q ++ f) (at (without_fragment t)))
-        (cond dynamic None (at (with_name (without_fragment t) ds)))) (sym b) ∙ leads u
+        → cond dynamic (to.1 (without_fragment t) ds) (to.0 (with_name (without_fragment t) ds)) ≡ destination to dynamic t
+    name_leads u b = ap (λ x. cond x (option_map (λ q. q ++ f) (to.0 (without_fragment t)))
+        (cond dynamic (to.1 (without_fragment t) ds) (to.0 (with_name (without_fragment t) ds)))) (sym b) ∙ leads u
 
 -- ---- a text, as it stays
 
-module _ (at : Places) (v : JsonValue) (s : String Global) (bs : List ℕ) (e : v ≡ made.String s) (h : bs ≡ string_bytes s) where
-  pub reference_pointed : (dynamic : Bool) (b : List ℕ) (o : Option (List ℕ)) → o ≡ destination at dynamic (resolved b bs)
-      → option_map_or (λ p. string_of (number_sign ∷ p)) o (view v) ≡ pointing at dynamic b (view v)
-  reference_pointed dynamic b o g =
+module _ (v : JsonValue) (s : String Global) (bs : List ℕ) (e : v ≡ made.String s) (h : bs ≡ string_bytes s) where
+  pub reference_pointed : (to : Leads) (dynamic : Bool) (b : List ℕ) (o : Option (List ℕ)) → o ≡ destination to dynamic (resolved b bs)
+      → option_map_or (λ p. string_of (number_sign ∷ p)) o (view v) ≡ pointing to dynamic b (view v)
+  reference_pointed to dynamic b o g =
       ap (λ w. option_map_or (λ p. string_of (number_sign ∷ p)) o w) (ap view e ∙ view_String s)
       ∙ (ap (λ x. option_map_or (λ p. string_of (number_sign ∷ p)) x (string (chars (string_bytes s))))
-      (g ∙ ap (λ xs. destination at dynamic (resolved b xs)) (text_bytes s bs h))
-      ∙ ap (pointing at dynamic b) (sym (ap view e ∙ view_String s)))
+      (g ∙ ap (λ xs. destination to dynamic (resolved b xs)) (text_bytes s bs h))
+      ∙ ap (pointing to dynamic b) (sym (ap view e ∙ view_String s)))
 
-  pub id_said : (b p : List ℕ) → cond (is_own_id at b p bs) None (Some (view v)) ≡ kept_id at b p (view v)
-  id_said b p = ap (λ t. cond (is_own_id at b p bs) None (Some t)) (ap view e ∙ view_String s)
+  pub id_said : (at : Places) (b p : List ℕ) → cond (is_own_id at b p bs) None (Some (view v)) ≡ kept_id at b p (view v)
+  id_said at b p = ap (λ t. cond (is_own_id at b p bs) None (Some t)) (ap view e ∙ view_String s)
       ∙ (ap (λ xs. cond (is_own_id at b p xs) None (Some (string (chars (string_bytes s))))) (text_bytes s bs h)
       ∙ ap (kept_id at b p) (sym (ap view e ∙ view_String s)))
 
-  pub anchor_said : (b p : List ℕ)
+  pub anchor_said : (at : Places) (b p : List ℕ)
       → cond (is_own_anchor at b p bs) None (Some (string_of (with_name b bs))) ≡ kept_anchor at b p (view v)
-  anchor_said b p = ap (λ xs. cond (is_own_anchor at b p xs) None (Some (string_of (with_name b xs)))) (text_bytes s bs h)
+  anchor_said at b p = ap (λ xs. cond (is_own_anchor at b p xs) None (Some (string_of (with_name b xs)))) (text_bytes s bs h)
       ∙ ap (kept_anchor at b p) (sym (ap view e ∙ view_String s))

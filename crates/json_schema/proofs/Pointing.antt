@@ -4,8 +4,8 @@ use Rattle.std.proofs.Common.{true, false, cond, get_or, drop, chars, encode_utf
 use Rattle.tinyjson.specs.Tree.{Tree, Items, no_items, item, Members, put}
 use Rattle.tinyjson.specs.View.{view, text, items_view, members_listed}
 use Rattle.tinyjson.specs.declared.value.JsonValue.{JsonValue}
-use Rattle.json_schema.specs.Bundles.{Places, at_key, at_index, kept_of, put_some, pointed, pointed_among, pointed_items, pointed_members}
-use Rattle.json_schema.specs.Bundles.{Marked, marks_of, is_bundle, place_of, bundled}
+use Rattle.json_schema.specs.Bundles.{Places, Leads, leads_of, at_key, at_index, kept_of, put_some, pointed, pointed_among, pointed_items, pointed_members}
+use Rattle.json_schema.specs.Bundles.{Marked, base_in, marks_of, is_bundle, place_of, bundled}
 use Rattle.json_schema.proofs.Listed.{Listed}
 use Rattle.json_schema.proofs.Lookups.{text_bytes}
 use Rattle.json_schema.proofs.Turns.{drop_suc, drop_item, drop_end}
@@ -25,25 +25,25 @@ joined_none : (ts : Items) → joined ts no_items ≡ ts
 joined_none no_items = refl
 joined_none (item t ts) = ap (item t) (joined_none ts)
 
-module _ (at : Places) (b p : List ℕ) where
+module _ (to : Leads) (b p : List ℕ) where
   -- what was made and what is left give the whole
   abbrev pub AreMade : List JsonValue → List JsonValue → ℕ → Type 0
-  AreMade all made i = joined (items_view made) (pointed_items at b p i (items_view (drop i all))) ≡ pointed_items at b p 0 (items_view all)
+  AreMade all made i = joined (items_view made) (pointed_items to b p i (items_view (drop i all))) ≡ pointed_items to b p 0 (items_view all)
 
   pub item_made : (vs made : List JsonValue) (i : ℕ) (x y : JsonValue) → i < length vs → x ≡ get_or vs i x
-      → view y ≡ pointed at b (at_index p i) (view x) → AreMade vs made i → AreMade vs (made ++ y ∷ []) (i + 1)
+      → view y ≡ pointed to b (at_index p i) (view x) → AreMade vs made i → AreMade vs (made ++ y ∷ []) (i + 1)
   item_made vs made i x y l e h g =
-      let rest = λ (k : ℕ). pointed_items at b p k (items_view (drop (i + 1) vs)) in
+      let rest = λ (k : ℕ). pointed_items to b p k (items_view (drop (i + 1) vs)) in
       let next : suc i ≡ i + 1 = omega arith in
       pushed made y (rest (i + 1))
       ∙ (ap (λ t. joined (items_view made) (item t (rest (i + 1)))) h
-      ∙ (ap (λ k. joined (items_view made) (item (pointed at b (at_index p i) (view x)) (rest k))) (sym next)
-      ∙ (ap (λ xs. joined (items_view made) (pointed_items at b p i (items_view xs))) (sym (drop_item vs i x l e)) ∙ g)))
+      ∙ (ap (λ k. joined (items_view made) (item (pointed to b (at_index p i) (view x)) (rest k))) (sym next)
+      ∙ (ap (λ xs. joined (items_view made) (pointed_items to b p i (items_view xs))) (sym (drop_item vs i x l e)) ∙ g)))
 
   pub items_made : (vs made : List JsonValue) (i : ℕ) → length vs ≤ i → AreMade vs made i
-      → items_view made ≡ pointed_items at b p 0 (items_view vs)
+      → items_view made ≡ pointed_items to b p 0 (items_view vs)
   items_made vs made i l g = sym (joined_none (items_view made))
-      ∙ (ap (λ xs. joined (items_view made) (pointed_items at b p i (items_view xs))) (sym (drop_end vs i l)) ∙ g)
+      ∙ (ap (λ xs. joined (items_view made) (pointed_items to b p i (items_view xs))) (sym (drop_end vs i l)) ∙ g)
 
   -- ---- members, from the last one on
 
@@ -59,34 +59,36 @@ module _ (at : Places) (b p : List ℕ) where
       name : chars key ≡ text x.0.now
       name = ap chars same
 
-      pub keyword_back : (now next : Members) (o : Option Tree) → now ≡ pointed_among at b p (members_listed (drop n ps))
-          → o ≡ kept_of at key b p (at_key p (chars key)) (view x.1.now) → next ≡ put_some (chars key) o now
-          → next ≡ pointed_among at b p (members_listed (drop (n - 1) ps))
+      pub keyword_back : (now next : Members) (o : Option Tree) → now ≡ pointed_among to b p (members_listed (drop n ps))
+          → o ≡ kept_of to key b p (at_key p (chars key)) (view x.1.now) → next ≡ put_some (chars key) o now
+          → next ≡ pointed_among to b p (members_listed (drop (n - 1) ps))
       keyword_back now next o g h f =
           f ∙ (ap (λ k. put_some k o now) name
-          ∙ (ap (λ w. put_some (text x.0.now) w now) (h ∙ (ap (λ k. kept_of at key b p (at_key p k) (view x.1.now)) name
-          ∙ ap (λ bs. kept_of at bs b p (at_key p (text x.0.now)) (view x.1.now)) (text_bytes x.0.now key same)))
-          ∙ (ap (put_some (text x.0.now) (kept_of at (encode_utf8_all (text x.0.now)) b p (at_key p (text x.0.now)) (view x.1.now))) g
-          ∙ ap (λ xs. pointed_among at b p (members_listed xs)) (sym front))))
+          ∙ (ap (λ w. put_some (text x.0.now) w now) (h ∙ (ap (λ k. kept_of to key b p (at_key p k) (view x.1.now)) name
+          ∙ ap (λ bs. kept_of to bs b p (at_key p (text x.0.now)) (view x.1.now)) (text_bytes x.0.now key same)))
+          ∙ (ap (put_some (text x.0.now) (kept_of to (encode_utf8_all (text x.0.now)) b p (at_key p (text x.0.now)) (view x.1.now))) g
+          ∙ ap (λ xs. pointed_among to b p (members_listed xs)) (sym front))))
 
-      pub member_back : (now next : Members) (t : Tree) → now ≡ pointed_members at b p (members_listed (drop n ps))
-          → t ≡ pointed at b (at_key p (chars key)) (view x.1.now) → next ≡ put (chars key) t now
-          → next ≡ pointed_members at b p (members_listed (drop (n - 1) ps))
+      pub member_back : (now next : Members) (t : Tree) → now ≡ pointed_members to b p (members_listed (drop n ps))
+          → t ≡ pointed to b (at_key p (chars key)) (view x.1.now) → next ≡ put (chars key) t now
+          → next ≡ pointed_members to b p (members_listed (drop (n - 1) ps))
       member_back now next t g h f =
           f ∙ (ap (λ k. put k t now) name
-          ∙ (ap (λ w. put (text x.0.now) w now) (h ∙ ap (λ k. pointed at b (at_key p k) (view x.1.now)) name)
-          ∙ (ap (put (text x.0.now) (pointed at b (at_key p (text x.0.now)) (view x.1.now))) g
-          ∙ ap (λ xs. pointed_members at b p (members_listed xs)) (sym front))))
+          ∙ (ap (λ w. put (text x.0.now) w now) (h ∙ ap (λ k. pointed to b (at_key p k) (view x.1.now)) name)
+          ∙ (ap (put (text x.0.now) (pointed to b (at_key p (text x.0.now)) (view x.1.now))) g
+          ∙ ap (λ xs. pointed_members to b p (members_listed xs)) (sym front))))
 
 -- ---- the whole
 
-pub bundle_made : (t : Tree) (ms : List Marked) (at : Places) → ms ≡ marks_of t → is_bundle ms ≡ true
-    → ((u : List ℕ) → at u ≡ place_of ms u) → pointed at [] [] t ≡ bundled t
-bundle_made t ms at e is h =
+pub bundle_made : (t : Tree) (ms ns : List Marked) (r : List ℕ) (at : Places) → ms ≡ marks_of t → ns ≡ ms → is_bundle ms ≡ true
+    → r ≡ base_in [] t → ((u : List ℕ) → at u ≡ place_of ms u) → pointed (leads_of at ns r) [] [] t ≡ bundled t
+bundle_made t ms ns r at e f is g h =
     let same : at ≡ place_of ms = λ i. λ u. h u i in
-    ap (λ f. pointed f [] [] t) same ∙ (ap (λ b. cond b (pointed (place_of ms) [] [] t) t) (sym is)
-    ∙ ap (λ xs. cond (is_bundle xs) (pointed (place_of xs) [] [] t) t) e)
+    ap (λ x. pointed (leads_of x ns r) [] [] t) same ∙ (ap (λ xs. pointed (leads_of (place_of ms) xs r) [] [] t) f
+    ∙ (ap (λ u. pointed (leads_of (place_of ms) ms u) [] [] t) g
+    ∙ (ap (λ b. cond b (pointed (leads_of (place_of ms) ms (base_in [] t)) [] [] t) t) (sym is)
+    ∙ ap (λ xs. cond (is_bundle xs) (pointed (leads_of (place_of xs) xs (base_in [] t)) [] [] t) t) e)))
 
 pub no_bundle : (t : Tree) (ms : List Marked) → ms ≡ marks_of t → is_bundle ms ≡ false → t ≡ bundled t
-no_bundle t ms e is = ap (λ b. cond b (pointed (place_of ms) [] [] t) t) (sym is)
-    ∙ ap (λ xs. cond (is_bundle xs) (pointed (place_of xs) [] [] t) t) e
+no_bundle t ms e is = ap (λ b. cond b (pointed (leads_of (place_of ms) ms (base_in [] t)) [] [] t) t) (sym is)
+    ∙ ap (λ xs. cond (is_bundle xs) (pointed (leads_of (place_of xs) xs (base_in [] t)) [] [] t) t) e

@@ -6,7 +6,7 @@ use Rattle.std.specs.Fmt.{decimal}
 use Rattle.std.specs.Global.{Global}
 use Rattle.std.specs.Prelude.{◌≡◌, ℕ, suc, Bool, true, false, not, ◌&&◌, ◌||◌, ◌==◌, List, [], ◌∷◌, ◌++◌, Option, Some, None, cond}
 use Rattle.std.specs.Prelude.{codes, option_map, option_and_then, unwrap_or, encode_utf8_all, map, String, string_bytes}
-use Rattle.std.specs.Option.{option_map_or}
+use Rattle.std.specs.Option.{option_map_or, option_or}
 use Rattle.std.specs.Str.{bytes_eq, chars, is_utf8}
 use Rattle.tinyjson.specs.Access.{is_string}
 use Rattle.tinyjson.specs.Characters.{solidus, tilde}
@@ -19,6 +19,7 @@ use Rattle.json_schema.specs.Names.{name}
 use Rattle.json_schema.specs.References.{percent, number_sign, percent_decoded}
 use Rattle.json_schema.specs.declared.form.Form.{Form}
 use Rattle.json_schema.specs.declared.form.Form.TheVariants as form
+use Rattle.json_schema.specs.declared.guide.Guide.{Guide}
 use Rattle.json_schema.specs.declared.keyword.Keyword.TheVariants as kw
 use Rattle.json_schema.specs.declared.mark.Kind.{Kind}
 use Rattle.json_schema.specs.declared.mark.Kind.TheVariants as kind
@@ -71,9 +72,13 @@ is_resource p s = is_empty p || option_map_or is_string (schema_at s kw.Id) fals
 abbrev pub resource_marks : List ℕ → List ℕ → Tree → List Marked
 resource_marks b p s = cond (is_resource p s) ((kind.Resource, b, p) ∷ []) []
 
-abbrev pub name_marks : List ℕ → List ℕ → Tree → List Marked
-name_marks b p (string cs) = (kind.Name, with_name b (encode_utf8_all cs), p) ∷ []
-name_marks b p _ = []
+-- the kind of a name that the keyword gives
+abbrev pub name_kind : List ℕ → Kind
+name_kind key = cond (bytes_eq key (name kw.DynamicAnchor)) kind.DynamicName kind.Name
+
+abbrev pub name_marks : Kind → List ℕ → List ℕ → Tree → List Marked
+name_marks k b p (string cs) = (k, with_name b (encode_utf8_all cs), p) ∷ []
+name_marks k b p _ = []
 
 -- a reference that is more than a fragment
 abbrev pub is_fragment : List ℕ → Bool
@@ -102,8 +107,8 @@ abbrev mutual
 
   pub marks_among : List ℕ → List ℕ → Members → List Marked
   marks_among b p no_members = []
-  marks_among b p (member k w ms) = marks_by (form_at (encode_utf8_all k)) (name_marks b p w) (outside_marks p w)
-      (marks_in b (at_key p k) w) (marks_in_list b (at_key p k) w) (marks_in_map b (at_key p k) w) ++ marks_among b p ms
+  marks_among b p (member k w ms) = marks_by (form_at (encode_utf8_all k)) (name_marks (name_kind (encode_utf8_all k)) b p w)
+      (outside_marks p w) (marks_in b (at_key p k) w) (marks_in_list b (at_key p k) w) (marks_in_map b (at_key p k) w) ++ marks_among b p ms
 
   pub marks_in_list : List ℕ → List ℕ → Tree → List Marked
   marks_in_list b p (array ts) = marks_of_items b p 0 ts
@@ -129,6 +134,7 @@ marks_of t = marks_in [] [] t
 abbrev pub is_bundled_by : Kind → List ℕ → Bool
 is_bundled_by kind.Resource p = not (is_empty p)
 is_bundled_by kind.Name p = false
+is_bundled_by kind.DynamicName p = false
 is_bundled_by kind.Outside p = true
 
 abbrev pub is_bundle : List Marked → Bool
@@ -144,30 +150,75 @@ abbrev pub place_of : List Marked → List ℕ → Option (List ℕ)
 place_of [] u = None
 place_of (m ∷ ms) u = cond (is_place m.0 && bytes_eq m.1 u) (Some m.2) (place_of ms u)
 
--- ---- where references lead
+-- ---- where dynamic references to names lead
+
+abbrev pub is_dynamic_name : Kind → Bool
+is_dynamic_name kind.DynamicName = true
+is_dynamic_name _ = false
+
+-- the URI of a name by `$dynamicAnchor`
+abbrev pub is_dynamic_at : Marked → List ℕ → Bool
+is_dynamic_at m u = is_dynamic_name m.0 && bytes_eq m.1 u
+
+-- the place of the first schema that has the URI so
+abbrev pub dynamic_place : List Marked → List ℕ → Option (List ℕ)
+dynamic_place [] u = None
+dynamic_place (m ∷ ms) u = cond (is_dynamic_at m u) (Some m.2) (dynamic_place ms u)
+
+-- the name n by `$dynamicAnchor`, in any resource
+abbrev pub is_named : Marked → List ℕ → Bool
+is_named m n = is_dynamic_name m.0 && bytes_eq (unwrap_or (fragment_of m.1) []) n
+
+-- the same elsewhere than at p
+abbrev pub is_other : Marked → List ℕ → List ℕ → Bool
+is_other m n p = is_named m n && not (bytes_eq m.2 p)
+
+-- Each schema that has the name n by `$dynamicAnchor` is at p.
+abbrev pub is_only : List Marked → List ℕ → List ℕ → Bool
+is_only [] n p = true
+is_only (m ∷ ms) n p = not (is_other m n p) && is_only ms n p
+
+-- A dynamic reference that leads first to a schema at p, which has the name n by `$dynamicAnchor`, leads on to the outermost one of the
+-- dynamic scope (8.2.3.2). That is the one in the resource of the whole, r, where each scope begins; without one there it is known
+-- if no other schema has the name.
+abbrev pub outermost : List Marked → List ℕ → List ℕ → List ℕ → Option (List ℕ)
+outermost ms r n p = option_or (dynamic_place ms (with_name r n)) (cond (is_only ms n p) (Some p) None)
 
 -- the place of a URI
 abbrev pub Places : Type 0
 Places = List ℕ → Option (List ℕ)
 
+-- In the resource u, a dynamic reference to a name by `$anchor` leads to it.
+abbrev pub leads_on : Places → List Marked → List ℕ → List ℕ → List ℕ → Option (List ℕ)
+leads_on at ms r u n = option_map_or (outermost ms r n) (dynamic_place ms (with_name u n)) (at (with_name u n))
+
+-- ---- where references lead
+
+-- the place of a URI, and the one where a dynamic reference to a name in a resource leads
+abbrev pub Leads : Type 0
+Leads = Places × (List ℕ → List ℕ → Option (List ℕ))
+
+abbrev pub leads_of : Places → List Marked → List ℕ → Leads
+leads_of at ms r = (at, leads_on at ms r)
+
 abbrev pub begins_pointer : List ℕ → Bool
 begins_pointer [] = true
 begins_pointer (b ∷ bs) = b == solidus
 
--- In the resource u, the fragment f is a pointer, or the name ds, which it is percent-encoded. A dynamic reference to a name
--- is not followed.
-abbrev pub leads_in : Places → Bool → List ℕ → List ℕ → List ℕ → Option (List ℕ)
-leads_in at dynamic u f ds = cond (begins_pointer ds) (option_map (λ p. p ++ f) (at u)) (cond dynamic None (at (with_name u ds)))
+-- In the resource u, the fragment f is a pointer, or the name ds, which it is percent-encoded.
+abbrev pub leads_in : Leads → Bool → List ℕ → List ℕ → List ℕ → Option (List ℕ)
+leads_in to dynamic u f ds = cond (begins_pointer ds) (option_map (λ p. p ++ f) (to.0 u))
+    (cond dynamic (to.1 u ds) (to.0 (with_name u ds)))
 
-abbrev pub leads_by : Places → Bool → List ℕ → List ℕ → List ℕ → Option (List ℕ)
-leads_by at dynamic u f ds = cond (is_utf8 ds) (leads_in at dynamic u f ds) None
+abbrev pub leads_by : Leads → Bool → List ℕ → List ℕ → List ℕ → Option (List ℕ)
+leads_by to dynamic u f ds = cond (is_utf8 ds) (leads_in to dynamic u f ds) None
 
-abbrev pub leads_from : Places → Bool → List ℕ → List ℕ → Option (List ℕ)
-leads_from at dynamic u f = option_and_then (leads_by at dynamic u f) (percent_decoded f)
+abbrev pub leads_from : Leads → Bool → List ℕ → List ℕ → Option (List ℕ)
+leads_from to dynamic u f = option_and_then (leads_by to dynamic u f) (percent_decoded f)
 
 -- the place that the URI t leads to
-abbrev pub destination : Places → Bool → List ℕ → Option (List ℕ)
-destination at dynamic t = leads_from at dynamic (without_fragment t) (unwrap_or (fragment_of t) [])
+abbrev pub destination : Leads → Bool → List ℕ → Option (List ℕ)
+destination to dynamic t = leads_from to dynamic (without_fragment t) (unwrap_or (fragment_of t) [])
 
 -- ---- the document with pointers
 
@@ -176,10 +227,10 @@ abbrev pub string_of : List ℕ → Tree
 string_of bs = string (chars bs)
 
 -- a reference as a pointer; one that leads nowhere stays
-abbrev pub pointing : Places → Bool → List ℕ → Tree → Tree
-pointing at dynamic b (string cs) =
-    option_map_or (λ p. string_of (number_sign ∷ p)) (destination at dynamic (resolved b (encode_utf8_all cs))) (string cs)
-pointing at dynamic b w = w
+abbrev pub pointing : Leads → Bool → List ℕ → Tree → Tree
+pointing to dynamic b (string cs) =
+    option_map_or (λ p. string_of (number_sign ∷ p)) (destination to dynamic (resolved b (encode_utf8_all cs))) (string cs)
+pointing to dynamic b w = w
 
 -- the URI has the place p
 abbrev pub is_here : Option (List ℕ) → List ℕ → Bool
@@ -221,44 +272,45 @@ is_dynamic key = bytes_eq key (name kw.DynamicRef)
 
 abbrev mutual
   -- a schema at p, b is the base URI around it
-  pub pointed : Places → List ℕ → List ℕ → Tree → Tree
-  pointed at b p (object ms) = object (pointed_among at (base_in b (object ms)) p ms)
-  pointed at b p t = t
+  pub pointed : Leads → List ℕ → List ℕ → Tree → Tree
+  pointed to b p (object ms) = object (pointed_among to (base_in b (object ms)) p ms)
+  pointed to b p t = t
 
-  pub pointed_among : Places → List ℕ → List ℕ → Members → Members
-  pointed_among at b p no_members = no_members
-  pointed_among at b p (member k w ms) = put_some k (kept_by (form_at (encode_utf8_all k)) w (kept_id at b p w) (kept_anchor at b p w)
-      (pointing at (is_dynamic (encode_utf8_all k)) b w) (pointed at b (at_key p k) w) (pointed_list at b (at_key p k) w)
-      (pointed_map at b (at_key p k) w)) (pointed_among at b p ms)
+  pub pointed_among : Leads → List ℕ → List ℕ → Members → Members
+  pointed_among to b p no_members = no_members
+  pointed_among to b p (member k w ms) = put_some k (kept_by (form_at (encode_utf8_all k)) w (kept_id to.0 b p w) (kept_anchor to.0 b p w)
+      (pointing to (is_dynamic (encode_utf8_all k)) b w) (pointed to b (at_key p k) w) (pointed_list to b (at_key p k) w)
+      (pointed_map to b (at_key p k) w)) (pointed_among to b p ms)
 
-  pub pointed_list : Places → List ℕ → List ℕ → Tree → Tree
-  pointed_list at b p (array ts) = array (pointed_items at b p 0 ts)
-  pointed_list at b p t = t
+  pub pointed_list : Leads → List ℕ → List ℕ → Tree → Tree
+  pointed_list to b p (array ts) = array (pointed_items to b p 0 ts)
+  pointed_list to b p t = t
 
-  pub pointed_map : Places → List ℕ → List ℕ → Tree → Tree
-  pointed_map at b p (object ms) = object (pointed_members at b p ms)
-  pointed_map at b p t = t
+  pub pointed_map : Leads → List ℕ → List ℕ → Tree → Tree
+  pointed_map to b p (object ms) = object (pointed_members to b p ms)
+  pointed_map to b p t = t
 
-  pub pointed_items : Places → List ℕ → List ℕ → ℕ → Items → Items
-  pointed_items at b p i no_items = no_items
-  pointed_items at b p i (item t ts) = item (pointed at b (at_index p i) t) (pointed_items at b p (suc i) ts)
+  pub pointed_items : Leads → List ℕ → List ℕ → ℕ → Items → Items
+  pointed_items to b p i no_items = no_items
+  pointed_items to b p i (item t ts) = item (pointed to b (at_index p i) t) (pointed_items to b p (suc i) ts)
 
-  pub pointed_members : Places → List ℕ → List ℕ → Members → Members
-  pointed_members at b p no_members = no_members
-  pointed_members at b p (member k t ms) = put k (pointed at b (at_key p k) t) (pointed_members at b p ms)
+  pub pointed_members : Leads → List ℕ → List ℕ → Members → Members
+  pointed_members to b p no_members = no_members
+  pointed_members to b p (member k t ms) = put k (pointed to b (at_key p k) t) (pointed_members to b p ms)
 
 -- The document, in which each reference to a schema in it is a pointer from its root.
 abbrev pub bundled : Tree → Tree
-bundled t = cond (is_bundle (marks_of t)) (pointed (place_of (marks_of t)) [] [] t) t
+bundled t = cond (is_bundle (marks_of t)) (pointed (leads_of (place_of (marks_of t)) (marks_of t) (base_in [] t)) [] [] t) t
 
 -- ---- words of private contracts
 
-abbrev pub marks_by_form : Form → List ℕ → List ℕ → List ℕ → Tree → List Marked
-marks_by_form f b p q w = marks_by f (name_marks b p w) (outside_marks p w) (marks_in b q w) (marks_in_list b q w) (marks_in_map b q w)
+abbrev pub marks_of_keyword : List ℕ → List ℕ → List ℕ → List ℕ → Tree → List Marked
+marks_of_keyword key b p q w = marks_by (form_at key) (name_marks (name_kind key) b p w) (outside_marks p w) (marks_in b q w)
+    (marks_in_list b q w) (marks_in_map b q w)
 
-abbrev pub kept_of : Places → List ℕ → List ℕ → List ℕ → List ℕ → Tree → Option Tree
-kept_of at key b p q w = kept_by (form_at key) w (kept_id at b p w) (kept_anchor at b p w) (pointing at (is_dynamic key) b w)
-    (pointed at b q w) (pointed_list at b q w) (pointed_map at b q w)
+abbrev pub kept_of : Leads → List ℕ → List ℕ → List ℕ → List ℕ → Tree → Option Tree
+kept_of to key b p q w = kept_by (form_at key) w (kept_id to.0 b p w) (kept_anchor to.0 b p w) (pointing to (is_dynamic key) b w)
+    (pointed to b q w) (pointed_list to b q w) (pointed_map to b q w)
 
 abbrev pub marked : Mark → Marked
 marked m = (m.kind, string_bytes m.uri, string_bytes m.place)
@@ -276,3 +328,6 @@ places_in m u = option_map string_bytes (tree.get_by_text m u)
 -- The map has the places of these.
 abbrev pub HasPlaces : List Marked → BTreeMap (String Global) (String Global) → Type 0
 HasPlaces ms m = (u : List ℕ) → places_in m u ≡ place_of ms u
+
+abbrev pub guided : Guide → Leads
+guided g = leads_of (places_in g.places.now) (all_marked g.marks.now) g.root.now

@@ -1,12 +1,11 @@
 //! A document with each reference to a schema in it as a pointer from its root.
-ghost use Rattle.std.specs.Prelude.{◌≡◌, ◌++◌, ◌&&◌, [], IfOk, OnOk, option_map, unwrap_or};
+ghost use Rattle.std.specs.Prelude.{◌≡◌, ◌&&◌, IfOk, OnOk, option_map};
 ghost use Rattle.std.specs.Str.{chars};
 ghost use Rattle.std.specs.String.{string_bytes};
 ghost use Rattle.tinyjson.specs.Tree.{put};
 ghost use Rattle.tinyjson.specs.View.{view, items_view, members_view, members_listed};
-ghost use Rattle.uri_reference.specs.Resolving.{fragment_of};
 ghost use Rattle.json_schema.specs.Anchors.{is_plain_name};
-ghost use Rattle.json_schema.specs.Bundles.{all_marked, is_place, HasPlaces, places_in};
+ghost use Rattle.json_schema.specs.Bundles.{places_in, guided};
 ghost use Rattle.json_schema.specs.Bundles.{begins_pointer, destination, pointing};
 ghost use Rattle.json_schema.specs.Bundles.{is_here, is_own_id, kept_id};
 ghost use Rattle.json_schema.specs.Bundles.{kept_anchor, kept_of, put_some, is_dynamic, with_name};
@@ -15,20 +14,21 @@ ghost use Rattle.json_schema.specs.Bundles.{pointed_items, pointed_members, bund
 
 use crate::anchor::is_plain_name;
 use crate::form::{Form, form_at};
+use crate::guide::{Guide, fragment_in, place_below, place_of_dynamic, place_of_name, places_of};
 use crate::keyword::Keyword;
-use crate::mark::{Kind, Mark, Spot, base_in, is_bundle, marks_of, with_name};
+use crate::mark::{Spot, base_in, is_bundle, marks_of, with_name};
 use crate::place::{at_index, at_key};
 use crate::reference::percent_decoded;
 use std::alloc::{AllocError, Global};
 use std::collections::{BTreeMap, HashMap};
 use std::str;
 use tinyjson::{JsonValue, insert_member, sorted_members};
-use uri_reference::{fragment, resolve, without_fragment};
+use uri_reference::{resolve, without_fragment};
 
 /// The document as one schema resource: each reference that leads to a schema in it, also to one in another resource,
-/// is a pointer from the root, and the `$id`s and names of schemas in it are left out (Core, 8.2.1 and 9.3). What can't be
-/// changed so, as a reference that leads elsewhere, stays, so that [`Schema::read`](crate::schema::Schema::read) refuses
-/// it at its place. The only error is out of memory.
+/// is a pointer from the root, and the `$id`s and names of schemas in it are left out (Core, 8.2.1, 8.2.3.2 and 9.3). What
+/// can't be changed so, as a reference that leads elsewhere, stays, so that [`Schema::read`](crate::schema::Schema::read)
+/// refuses it at its place. The only error is out of memory.
 ///
 /// It calls itself for each schema in the schema, so it takes stack as the schema is deep. Not inlined, so that a check
 /// that comes after it has the stack.
@@ -41,50 +41,27 @@ pub fn bundled(document: &JsonValue, alloc: Global) -> Result<JsonValue, AllocEr
         return document.try_clone(alloc);
     }
     let places = places_of(marks.as_slice(), alloc)?;
+    let root = base_in("", document, alloc)?;
+    let guide = Guide {
+        places: &places,
+        marks: marks.as_slice(),
+        root: root.as_str(),
+    };
     let spot = Spot {
         base: "",
         place: "",
     };
-    pointed(document, &places, spot, alloc)
-}
-
-/// The place of each URI: the first one that it has.
-fn places_of(marks: &[Mark], alloc: Global) -> Result<BTreeMap<String, String>, AllocError>
-    ensures { IfOk result (HasPlaces (all_marked marks.now)) }
-{
-    let mut places = BTreeMap::new(alloc);
-    let mut left = marks.len();
-    while left > 0 {
-        left -= 1;
-        let mark = &marks[left];
-        if is_place(mark.kind) {
-            let uri = String::from_str(alloc, mark.uri.as_str())?;
-            let place = String::from_str(alloc, mark.place.as_str())?;
-            let Ok(_) = places.insert(uri, place) else {
-                return Err(AllocError);
-            };
-        }
-    }
-    Ok(places)
-}
-
-fn is_place(kind: Kind) -> bool
-    ensures { result ≡ is_place kind }
-{
-    match kind {
-        Kind::Outside => false,
-        _ => true,
-    }
+    pointed(document, &guide, spot, alloc)
 }
 
 #[cycle(bundle)]
 fn pointed(
     schema: &JsonValue,
-    places: &BTreeMap<String, String>,
+    guide: &Guide<'_>,
     spot: Spot<'_>,
     alloc: Global,
 ) -> Result<JsonValue, AllocError>
-    ensures { IfOk result (λ v. view v ≡ pointed (places_in places.now)
+    ensures { IfOk result (λ v. view v ≡ pointed (guided guide.now)
         spot.entry.base.now spot.entry.place.now (view schema.now)) }
 {
     let JsonValue::Object(keywords) = schema else {
@@ -96,7 +73,7 @@ fn pointed(
         place: spot.place,
     };
     let sorted = sorted_members(alloc, keywords)?;
-    let members = pointed_named(sorted.as_slice(), places, spot, alloc)?;
+    let members = pointed_named(sorted.as_slice(), guide, spot, alloc)?;
     Ok(JsonValue::Object(members))
 }
 
@@ -104,11 +81,11 @@ fn pointed(
 #[cycle(bundle)]
 fn pointed_named(
     keywords: &[(&String, &JsonValue)],
-    places: &BTreeMap<String, String>,
+    guide: &Guide<'_>,
     spot: Spot<'_>,
     alloc: Global,
 ) -> Result<HashMap<String, JsonValue>, AllocError>
-    ensures { IfOk result (λ m. members_view m.entries ≡ pointed_among (places_in places.now)
+    ensures { IfOk result (λ m. members_view m.entries ≡ pointed_among (guided guide.now)
         spot.entry.base.now spot.entry.place.now (members_listed keywords.now)) }
 {
     let mut members = HashMap::new(alloc);
@@ -118,7 +95,7 @@ fn pointed_named(
         let keyword = keywords[left];
         let (name, operand) = keyword;
         let place = at_key(spot.place, name.as_str(), alloc)?;
-        let kept = kept_of(name.as_str(), operand, spot, place.as_str(), places, alloc)?;
+        let kept = kept_of(name.as_str(), operand, spot, place.as_str(), guide, alloc)?;
         put_some(&mut members, name.as_str(), kept, alloc)?;
     }
     Ok(members)
@@ -131,10 +108,10 @@ fn kept_of(
     operand: &JsonValue,
     spot: Spot<'_>,
     place: &str,
-    places: &BTreeMap<String, String>,
+    guide: &Guide<'_>,
     alloc: Global,
 ) -> Result<Option<JsonValue>, AllocError>
-    ensures { IfOk result (λ o. option_map view o ≡ kept_of (places_in places.now) name.now
+    ensures { IfOk result (λ o. option_map view o ≡ kept_of (guided guide.now) name.now
         spot.entry.base.now spot.entry.place.now place.now (view operand.now)) }
 {
     let inner = Spot {
@@ -142,12 +119,12 @@ fn kept_of(
         place,
     };
     match form_at(name) {
-        Form::Base => kept_id(operand, spot, places, alloc),
-        Form::Anchor => kept_anchor(operand, spot, places, alloc),
-        Form::Reference => Ok(Some(pointing(operand, is_dynamic(name), spot.base, places, alloc)?)),
-        Form::Schema => Ok(Some(pointed(operand, places, inner, alloc)?)),
-        Form::Schemas => Ok(Some(pointed_list(operand, places, inner, alloc)?)),
-        Form::SchemaMap | Form::PatternMap => Ok(Some(pointed_map(operand, places, inner, alloc)?)),
+        Form::Base => kept_id(operand, spot, guide.places, alloc),
+        Form::Anchor => kept_anchor(operand, spot, guide.places, alloc),
+        Form::Reference => Ok(Some(pointing(operand, is_dynamic(name), spot.base, guide, alloc)?)),
+        Form::Schema => Ok(Some(pointed(operand, guide, inner, alloc)?)),
+        Form::Schemas => Ok(Some(pointed_list(operand, guide, inner, alloc)?)),
+        Form::SchemaMap | Form::PatternMap => Ok(Some(pointed_map(operand, guide, inner, alloc)?)),
         _ => Ok(Some(operand.try_clone(alloc)?)),
     }
 }
@@ -155,28 +132,28 @@ fn kept_of(
 #[cycle(bundle)]
 fn pointed_list(
     schemas: &JsonValue,
-    places: &BTreeMap<String, String>,
+    guide: &Guide<'_>,
     spot: Spot<'_>,
     alloc: Global,
 ) -> Result<JsonValue, AllocError>
-    ensures { IfOk result (λ v. view v ≡ pointed_list (places_in places.now)
+    ensures { IfOk result (λ v. view v ≡ pointed_list (guided guide.now)
         spot.entry.base.now spot.entry.place.now (view schemas.now)) }
 {
     let JsonValue::Array(items) = schemas else {
         return schemas.try_clone(alloc);
     };
-    let items = pointed_items(items.as_slice(), places, spot, alloc)?;
+    let items = pointed_items(items.as_slice(), guide, spot, alloc)?;
     Ok(JsonValue::Array(items))
 }
 
 #[cycle(bundle)]
 fn pointed_items(
     schemas: &[JsonValue],
-    places: &BTreeMap<String, String>,
+    guide: &Guide<'_>,
     spot: Spot<'_>,
     alloc: Global,
 ) -> Result<Vec<JsonValue>, AllocError>
-    ensures { IfOk result (λ l. items_view l.items ≡ pointed_items (places_in places.now)
+    ensures { IfOk result (λ l. items_view l.items ≡ pointed_items (guided guide.now)
         spot.entry.base.now spot.entry.place.now 0 (items_view schemas.now)) }
 {
     let mut items = Vec::new(alloc);
@@ -186,7 +163,7 @@ fn pointed_items(
             base: spot.base,
             place: place.as_str(),
         };
-        let item = pointed(schema, places, inner, alloc)?;
+        let item = pointed(schema, guide, inner, alloc)?;
         items.push(item)?;
     }
     Ok(items)
@@ -195,29 +172,29 @@ fn pointed_items(
 #[cycle(bundle)]
 fn pointed_map(
     schemas: &JsonValue,
-    places: &BTreeMap<String, String>,
+    guide: &Guide<'_>,
     spot: Spot<'_>,
     alloc: Global,
 ) -> Result<JsonValue, AllocError>
-    ensures { IfOk result (λ v. view v ≡ pointed_map (places_in places.now)
+    ensures { IfOk result (λ v. view v ≡ pointed_map (guided guide.now)
         spot.entry.base.now spot.entry.place.now (view schemas.now)) }
 {
     let JsonValue::Object(members) = schemas else {
         return schemas.try_clone(alloc);
     };
     let sorted = sorted_members(alloc, members)?;
-    let members = pointed_members(sorted.as_slice(), places, spot, alloc)?;
+    let members = pointed_members(sorted.as_slice(), guide, spot, alloc)?;
     Ok(JsonValue::Object(members))
 }
 
 #[cycle(bundle)]
 fn pointed_members(
     schemas: &[(&String, &JsonValue)],
-    places: &BTreeMap<String, String>,
+    guide: &Guide<'_>,
     spot: Spot<'_>,
     alloc: Global,
 ) -> Result<HashMap<String, JsonValue>, AllocError>
-    ensures { IfOk result (λ m. members_view m.entries ≡ pointed_members (places_in places.now)
+    ensures { IfOk result (λ m. members_view m.entries ≡ pointed_members (guided guide.now)
         spot.entry.base.now spot.entry.place.now (members_listed schemas.now)) }
 {
     let mut members = HashMap::new(alloc);
@@ -231,7 +208,7 @@ fn pointed_members(
             base: spot.base,
             place: place.as_str(),
         };
-        let value = pointed(schema, places, inner, alloc)?;
+        let value = pointed(schema, guide, inner, alloc)?;
         put_member(&mut members, key.as_str(), value, alloc)?;
     }
     Ok(members)
@@ -299,16 +276,6 @@ fn is_own_id(id: &str, spot: Spot<'_>, places: &BTreeMap<String, String>) -> boo
     !spot.place.is_empty() && fragment_in(id).is_empty() && is_here(spot.base, spot.place, places)
 }
 
-/// The fragment, or an empty text.
-fn fragment_in(text: &str) -> &str
-    ensures { result.now ≡ unwrap_or (fragment_of text.now) [] }
-{
-    match fragment(text) {
-        Some(fragment) => fragment,
-        None => "",
-    }
-}
-
 /// Whether the URI has the place.
 fn is_here(uri: &str, place: &str, places: &BTreeMap<String, String>) -> bool
     ensures { result ≡ is_here (places_in places.now uri.now) place.now }
@@ -361,17 +328,17 @@ fn pointing(
     reference: &JsonValue,
     dynamic: bool,
     base: &str,
-    places: &BTreeMap<String, String>,
+    guide: &Guide<'_>,
     alloc: Global,
 ) -> Result<JsonValue, AllocError>
     ensures { IfOk result (λ v. view v
-        ≡ pointing (places_in places.now) dynamic base.now (view reference.now)) }
+        ≡ pointing (guided guide.now) dynamic base.now (view reference.now)) }
 {
     let JsonValue::String(text) = reference else {
         return reference.try_clone(alloc);
     };
     let target = resolve(alloc, base, text.as_str())?;
-    match destination(target.as_str(), dynamic, places, alloc)? {
+    match destination(target.as_str(), dynamic, guide, alloc)? {
         Some(place) => Ok(JsonValue::String(format!(in alloc; "#{place}")?)),
         None => reference.try_clone(alloc),
     }
@@ -381,11 +348,11 @@ fn pointing(
 fn destination(
     target: &str,
     dynamic: bool,
-    places: &BTreeMap<String, String>,
+    guide: &Guide<'_>,
     alloc: Global,
 ) -> Result<Option<String>, AllocError>
     ensures { IfOk result (λ p. option_map string_bytes p
-        ≡ destination (places_in places.now) dynamic target.now) }
+        ≡ destination (guided guide.now) dynamic target.now) }
 {
     let fragment = fragment_in(target);
     let Some(decoded) = percent_decoded(fragment.as_bytes(), alloc)? else {
@@ -396,11 +363,11 @@ fn destination(
     };
     let uri = without_fragment(target);
     if begins_pointer(decoded) {
-        place_below(uri, fragment, places, alloc)
+        place_below(uri, fragment, guide.places, alloc)
     } else if dynamic {
-        Ok(None)
+        place_of_dynamic(uri, decoded, guide, alloc)
     } else {
-        place_of_name(uri, decoded, places, alloc)
+        place_of_name(uri, decoded, guide.places, alloc)
     }
 }
 
@@ -411,38 +378,5 @@ fn begins_pointer(text: &str) -> bool
     match text.as_bytes().split_first() {
         Some((first, _)) => *first == b'/',
         None => true,
-    }
-}
-
-/// The place to which the pointer leads in the resource with the URI.
-fn place_below(
-    uri: &str,
-    pointer: &str,
-    places: &BTreeMap<String, String>,
-    alloc: Global,
-) -> Result<Option<String>, AllocError>
-    ensures { IfOk result (λ p. option_map string_bytes p
-        ≡ option_map (λ q. q ++ pointer.now) (places_in places.now uri.now)) }
-{
-    match places.get(uri) {
-        Some(place) => Ok(Some(format!(in alloc; "{place}{pointer}")?)),
-        None => Ok(None),
-    }
-}
-
-/// The place of the schema with the name in the resource with the URI.
-fn place_of_name(
-    uri: &str,
-    name: &str,
-    places: &BTreeMap<String, String>,
-    alloc: Global,
-) -> Result<Option<String>, AllocError>
-    ensures { IfOk result (λ p. option_map string_bytes p
-        ≡ places_in places.now (with_name uri.now name.now)) }
-{
-    let uri = with_name(uri, name, alloc)?;
-    match places.get(uri.as_str()) {
-        Some(place) => Ok(Some(String::from_str(alloc, place.as_str())?)),
-        None => Ok(None),
     }
 }

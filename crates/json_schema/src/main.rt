@@ -19,6 +19,7 @@ mod contains;
 mod document;
 mod failure;
 mod form;
+mod guide;
 mod keyword;
 mod lines;
 mod mark;

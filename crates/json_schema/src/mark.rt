@@ -4,9 +4,9 @@ ghost use Rattle.std.specs.String.{string_bytes};
 ghost use Rattle.tinyjson.specs.Access.{is_string};
 ghost use Rattle.tinyjson.specs.View.{view, items_view, members_listed};
 ghost use Rattle.json_schema.specs.Bundles.{base_by, base_in, is_resource, is_fragment};
-ghost use Rattle.json_schema.specs.Bundles.{marks_of, marks_in, marks_among, marks_by_form};
+ghost use Rattle.json_schema.specs.Bundles.{marks_of, marks_in, marks_among, marks_of_keyword};
 ghost use Rattle.json_schema.specs.Bundles.{marks_in_list, marks_in_map, marks_of_items};
-ghost use Rattle.json_schema.specs.Bundles.{marks_of_members, resource_marks, name_marks};
+ghost use Rattle.json_schema.specs.Bundles.{marks_of_members, resource_marks, name_kind, name_marks};
 ghost use Rattle.json_schema.specs.Bundles.{outside_marks, is_bundled_by, is_bundle};
 ghost use Rattle.json_schema.specs.Bundles.{all_marked, Gathers, with_name};
 
@@ -23,8 +23,10 @@ use uri_reference::{resolve, without_fragment};
 pub enum Kind {
     /// A schema resource: the whole, or a schema with an `$id`.
     Resource,
-    /// A schema with a name in its resource.
+    /// A schema with a name in its resource, by `$anchor`.
     Name,
+    /// One with a name by `$dynamicAnchor`.
+    DynamicName,
     /// A schema with a reference that is more than a fragment.
     Outside,
 }
@@ -165,7 +167,7 @@ fn gather_named(
     for (name, operand) in keywords {
         let name = name.as_str();
         let place = at_key(spot.place, name, alloc)?;
-        gather_within(form_at(name), operand, spot, place.as_str(), alloc, marks)?;
+        gather_within(name, operand, spot, place.as_str(), alloc, marks)?;
     }
     Ok(())
 }
@@ -173,7 +175,7 @@ fn gather_named(
 /// The one of a keyword of the schema, or those of the schemas in its value, which is at the place.
 #[cycle(marks)]
 fn gather_within(
-    form: Form,
+    keyword: &str,
     operand: &JsonValue,
     spot: Spot<'_>,
     place: &str,
@@ -181,15 +183,16 @@ fn gather_within(
     marks: &mut Vec<Mark>,
 ) -> Result<(), AllocError>
     ensures { OnOk result (Gathers
-        (marks_by_form form spot.entry.base.now spot.entry.place.now place.now (view operand.now))
+        (marks_of_keyword keyword.now spot.entry.base.now spot.entry.place.now place.now
+        (view operand.now))
         marks.old.items marks.new.items) }
 {
     let inner = Spot {
         base: spot.base,
         place,
     };
-    match form {
-        Form::Anchor => gather_name(operand, spot, alloc, marks),
+    match form_at(keyword) {
+        Form::Anchor => gather_name(name_kind(keyword), operand, spot, alloc, marks),
         Form::Reference => gather_outside(operand, spot.place, alloc, marks),
         Form::Schema => gather(operand, inner, alloc, marks),
         Form::Schemas => gather_in_list(operand, inner, alloc, marks),
@@ -198,23 +201,34 @@ fn gather_within(
     }
 }
 
+/// The kind of a name that the keyword gives.
+fn name_kind(keyword: &str) -> Kind
+    ensures { result ≡ name_kind keyword.now }
+{
+    if keyword == Keyword::DynamicAnchor.name() {
+        return Kind::DynamicName;
+    }
+    Kind::Name
+}
+
 /// The name of the schema.
 #[inline(never)]
 fn gather_name(
+    kind: Kind,
     operand: &JsonValue,
     spot: Spot<'_>,
     alloc: Global,
     marks: &mut Vec<Mark>,
 ) -> Result<(), AllocError>
     ensures { OnOk result (Gathers
-        (name_marks spot.entry.base.now spot.entry.place.now (view operand.now))
+        (name_marks kind spot.entry.base.now spot.entry.place.now (view operand.now))
         marks.old.items marks.new.items) }
 {
     let JsonValue::String(name) = operand else {
         return Ok(());
     };
     let mark = Mark {
-        kind: Kind::Name,
+        kind,
         uri: with_name(spot.base, name.as_str(), alloc)?,
         place: String::from_str(alloc, spot.place)?,
     };
@@ -363,7 +377,7 @@ fn is_bundled_by(mark: &Mark) -> bool
 {
     match mark.kind {
         Kind::Resource => !mark.place.is_empty(),
-        Kind::Name => false,
+        Kind::Name | Kind::DynamicName => false,
         Kind::Outside => true,
     }
 }

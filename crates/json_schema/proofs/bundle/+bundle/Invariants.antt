@@ -1,7 +1,7 @@
 use Rattle.std.proofs.Common.{◌≡◌, ◌≤◌, ◌+◌, ◌*◌, drop, length}
 use Rattle.tinyjson.specs.Tree.{tree_depth, items_depth, members_depth}
 use Rattle.tinyjson.specs.View.{view, items_view, members_view, members_listed}
-use Rattle.json_schema.specs.Bundles.{places_in, pointed_among, pointed_members}
+use Rattle.json_schema.specs.Bundles.{guided, pointed_among, pointed_members}
 use Rattle.json_schema.proofs.Pointing.{AreMade}
 use Rattle.json_schema.proofs.bundle.+bundle.Given as goal
 
@@ -28,17 +28,17 @@ decreases-pointed_members l = 3 * members_depth (members_listed l.schemas.now) +
 
 abbrev pub invariant-pointed_named-loop-left : goal.invariant-pointed_named-loop-left
 invariant-pointed_named-loop-left l = (l.left ≤ length l.keywords) × (members_view l.members.entries
-    ≡ pointed_among (places_in l.places) l.spot.base.now l.spot.place.now (members_listed (drop l.left l.keywords)))
+    ≡ pointed_among (guided l.guide) l.spot.base.now l.spot.place.now (members_listed (drop l.left l.keywords)))
 
 abbrev pub decreases-pointed_named-loop-left : goal.decreases-pointed_named-loop-left
 decreases-pointed_named-loop-left l = l.left
 
 abbrev pub invariant-pointed_items-loop-index : goal.invariant-pointed_items-loop-index
-invariant-pointed_items-loop-index l = AreMade (places_in l.places) l.spot.base.now l.spot.place.now l.schemas l.items.items l.index
+invariant-pointed_items-loop-index l = AreMade (guided l.guide) l.spot.base.now l.spot.place.now l.schemas l.items.items l.index
 
 abbrev pub invariant-pointed_members-loop-left : goal.invariant-pointed_members-loop-left
 invariant-pointed_members-loop-left l = (l.left ≤ length l.schemas) × (members_view l.members.entries
-    ≡ pointed_members (places_in l.places) l.spot.base.now l.spot.place.now (members_listed (drop l.left l.schemas)))
+    ≡ pointed_members (guided l.guide) l.spot.base.now l.spot.place.now (members_listed (drop l.left l.schemas)))
 
 abbrev pub decreases-pointed_members-loop-left : goal.decreases-pointed_members-loop-left
 decreases-pointed_members-loop-left l = l.left

@@ -13,8 +13,10 @@ returns-then-not-is_bundle c = subst (λ t. IfOk c.try_clone.result (λ v. view 
 pub returns : goal.returns
 returns c =
     let xs = c.as_slice-2.result.now in
+    let ys = c.as_slice-3.result.now in
     let is : is_bundle (all_marked xs) ≡ true = ap (λ ms. is_bundle (all_marked ms))
     (c.as_slice-2.ensures.value ∙ sym c.as_slice.ensures.value) ∙ (sym c.is_bundle.ensures ∙ c.if-not-is_bundle.false) in
-    subst (λ t. IfOk c.pointed.result (λ v. view v ≡ t)) (bundle_made (view c.args.document.now) (all_marked xs)
-    (places_in c.in_ok-places.places) (ap all_marked c.as_slice-2.ensures.value ∙ c.in_ok-marks.ensures) is c.in_ok-places.ensures)
-    c.pointed.ensures
+    subst (λ t. IfOk c.pointed.result (λ v. view v ≡ t)) (bundle_made (view c.args.document.now) (all_marked xs) (all_marked ys)
+    c.as_str.result.now (places_in c.in_ok-places.places) (ap all_marked c.as_slice-2.ensures.value ∙ c.in_ok-marks.ensures)
+    (ap all_marked (c.as_slice-3.ensures.value ∙ sym c.as_slice-2.ensures.value)) is (c.as_str.ensures.value ∙ c.in_ok-root.ensures)
+    c.in_ok-places.ensures) c.pointed.ensures

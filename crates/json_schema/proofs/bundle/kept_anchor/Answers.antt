@@ -16,7 +16,7 @@ returns-then-is_own_anchor c =
     let own : is_own_anchor at b p bs ≡ true = ap (λ u. is_plain_name bs && is_here (at u) p)
     (sym (c.as_str.ensures.value ∙ c.in_ok-uri.ensures)) ∙ (sym c.is_own_anchor.ensures ∙ c.if-is_own_anchor.true) in
     sym (ap (λ x. cond x None (Some (string_of (with_name b bs)))) own)
-    ∙ anchor_said at c.args.operand.now c.in-String.name bs c.in-String.is c.as_str-name.ensures.value b p
+    ∙ anchor_said c.args.operand.now c.in-String.name bs c.in-String.is c.as_str-name.ensures.value at b p
 
 pub returns : goal.returns
 returns c =
@@ -28,4 +28,4 @@ returns c =
     (sym (c.as_str.ensures.value ∙ c.in_ok-uri.ensures)) ∙ (sym c.is_own_anchor.ensures ∙ c.if-is_own_anchor.false) in
     ap Some (view_String c.in_ok-uri.uri ∙ ap (λ xs. string (chars xs)) c.in_ok-uri.ensures)
     ∙ (sym (ap (λ x. cond x None (Some (string_of (with_name b bs)))) own)
-    ∙ anchor_said at c.args.operand.now c.in-String.name bs c.in-String.is c.as_str-name.ensures.value b p)
+    ∙ anchor_said c.args.operand.now c.in-String.name bs c.in-String.is c.as_str-name.ensures.value at b p)

@@ -12,7 +12,7 @@ returns-then-is_own_id c =
     let bs = c.as_str.result.now in
     let own : is_own_id at b p bs ≡ true = sym c.is_own_id.ensures ∙ c.if-is_own_id.true in
     sym (ap (λ x. cond x None (Some (view c.args.operand.now))) own)
-    ∙ id_said at c.args.operand.now c.in-String.id bs c.in-String.is c.as_str.ensures.value b p
+    ∙ id_said c.args.operand.now c.in-String.id bs c.in-String.is c.as_str.ensures.value at b p
 
 pub returns : goal.returns
 returns c =
@@ -22,4 +22,4 @@ returns c =
     let bs = c.as_str.result.now in
     let own : is_own_id at b p bs ≡ false = sym c.is_own_id.ensures ∙ c.if-is_own_id.false in
     ap Some c.in_ok-try_clone-2.ensures ∙ (sym (ap (λ x. cond x None (Some (view c.args.operand.now))) own)
-    ∙ id_said at c.args.operand.now c.in-String.id bs c.in-String.is c.as_str.ensures.value b p)
+    ∙ id_said c.args.operand.now c.in-String.id bs c.in-String.is c.as_str.ensures.value at b p)

@@ -5,28 +5,28 @@ use Rattle.tinyjson.proofs.Callers.{view_String}
 use Rattle.tinyjson.specs.Tree.{string}
 use Rattle.tinyjson.specs.View.{view}
 use Rattle.uri_reference.specs.Resolving.{resolved}
-use Rattle.json_schema.specs.Bundles.{places_in, destination}
+use Rattle.json_schema.specs.Bundles.{guided, destination}
 use Rattle.json_schema.proofs.Placing.{reference_pointed}
 use Rattle.json_schema.proofs.bundle.pointing.Goals as goal
 
 pub returns-in-Some : goal.returns-in-Some
 returns-in-Some c =
-    let at = places_in c.args.places.now in
+    let to = guided c.args.guide.now in
     let d = c.args.dynamic in
     let b = c.args.base.now in
     let bs = c.as_str.result.now in
-    let led : Some (string_bytes c.in-Some.place) ≡ destination at d (resolved b bs) = ap (option_map string_bytes) (sym c.in-Some.is)
-    ∙ (c.in_ok-place.ensures ∙ ap (destination at d) (c.as_str-2.ensures.value ∙ c.in_ok-target.ensures)) in
+    let led : Some (string_bytes c.in-Some.place) ≡ destination to d (resolved b bs) = ap (option_map string_bytes) (sym c.in-Some.is)
+    ∙ (c.in_ok-place.ensures ∙ ap (destination to d) (c.as_str-2.ensures.value ∙ c.in_ok-target.ensures)) in
     view_String c.in_ok-format-in-Some.field-0 ∙ (ap (λ xs. string (chars xs)) c.in_ok-format-in-Some.ensures.ok
-    ∙ reference_pointed at c.args.reference.now c.in-String.text bs c.in-String.is c.as_str.ensures.value d b _ led)
+    ∙ reference_pointed c.args.reference.now c.in-String.text bs c.in-String.is c.as_str.ensures.value to d b _ led)
 
 pub returns : goal.returns
 returns c =
-    let at = places_in c.args.places.now in
+    let to = guided c.args.guide.now in
     let d = c.args.dynamic in
     let b = c.args.base.now in
     let bs = c.as_str.result.now in
-    let led : None ≡ destination at d (resolved b bs) = ap (option_map string_bytes) (sym c.in-None.is)
-    ∙ (c.in_ok-place.ensures ∙ ap (destination at d) (c.as_str-2.ensures.value ∙ c.in_ok-target.ensures)) in
+    let led : None ≡ destination to d (resolved b bs) = ap (option_map string_bytes) (sym c.in-None.is)
+    ∙ (c.in_ok-place.ensures ∙ ap (destination to d) (c.as_str-2.ensures.value ∙ c.in_ok-target.ensures)) in
     subst (λ t. IfOk c.try_clone-in-None.result (λ v. view v ≡ t))
-    (reference_pointed at c.args.reference.now c.in-String.text bs c.in-String.is c.as_str.ensures.value d b _ led) c.try_clone-in-None.ensures
+    (reference_pointed c.args.reference.now c.in-String.text bs c.in-String.is c.as_str.ensures.value to d b _ led) c.try_clone-in-None.ensures

@@ -1,8 +1,7 @@
 use Rattle.std.proofs.Common.{◌≡◌, ◌<◌, ◌+◌, ◌*◌, ◌∙◌, arith, rules, ap, subst, chars}
 use Rattle.tinyjson.specs.Tree.{tree_depth, items_depth, members_depth}
 use Rattle.tinyjson.specs.View.{view, text, items_view, members_listed}
-use Rattle.json_schema.specs.Bundles.{Gathers, at_key, marks_in, marks_by_form}
-use Rattle.json_schema.specs.Forms.{form_at}
+use Rattle.json_schema.specs.Bundles.{Gathers, at_key, marks_in, marks_of_keyword}
 use Rattle.json_schema.proofs.Depths.{listed_depth, items_depth_at}
 use Rattle.json_schema.proofs.Lookups.{text_bytes}
 use Rattle.json_schema.proofs.Marking.{item_marked, member_marked, keyword_marked}
@@ -65,6 +64,5 @@ gather_named-loop-name-preserved t c =
     keyword_marked b p c.args.keywords.now c.loop-name.name-index c.args.marks.now.items c.loop-name.marks.items c.loop-name.invariant x
     key c.gather_within.new.marks.items c.loop-name-test.true c.loop-name-item.is
     (text_bytes x.0.now key c.as_str-name.ensures.value)
-    (subst (λ q. Gathers (marks_by_form (form_at key) b p q (view x.1.now)) c.loop-name.marks.items c.gather_within.new.marks.items) place
-    (subst (λ f. Gathers (marks_by_form f b p c.as_str.result.now (view x.1.now)) c.loop-name.marks.items
-    c.gather_within.new.marks.items) c.form_at.ensures c.in_ok-gather_within.ensures))
+    (subst (λ q. Gathers (marks_of_keyword key b p q (view x.1.now)) c.loop-name.marks.items c.gather_within.new.marks.items) place
+    c.in_ok-gather_within.ensures)

@@ -1,6 +1,6 @@
 use Rattle.std.proofs.Common.{◌≤◌, ◌-◌, ◌∙◌, length, sym, arith}
 use Rattle.json_schema.proofs.Placing.{put_back}
-use Rattle.json_schema.proofs.bundle.places_of.Goals as goal
+use Rattle.json_schema.proofs.guide.places_of.Goals as goal
 
 pub loop-left-preserved-in-Ok : goal.loop-left-preserved-in-Ok
 loop-left-preserved-in-Ok c =
