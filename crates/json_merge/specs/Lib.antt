@@ -1,2 +1,4 @@
 pub mod Apply
 pub mod Merge
+pub mod Options
+pub mod Failures

@@ -6,57 +6,17 @@
 //! memory, a read or a write failed.
 #![tactic(auto)]
 
-ghost use Rattle.std.specs.Prelude.{None};
-
 mod apply;
+mod failure;
+mod options;
 
-use apply::{PatchingError, write_patched, writing_error};
+use apply::{write_patched, writing_error};
+use failure::{Failure, input_error, patch_error};
+use options::asked;
 use std::env::{self, Env};
-use std::fmt;
 use std::fs::{self, Files};
 use std::io::{self, BufWriter, ErrorKind, Write};
 use std::process::ExitCode;
-
-/// Why the program prints no result.
-#[derive(Debug, Drop)]
-enum Failure {
-    /// The arguments are others than the name of a file.
-    Arguments,
-    /// The file of the patch can't be read, or is not UTF-8.
-    PatchFile(io::Error),
-    /// Standard input can't be read, or is not UTF-8.
-    Input(io::Error),
-    /// Memory ran out while the arguments or the texts were read, or before a write.
-    Memory(io::Error),
-    /// No changed value was written.
-    Patching(PatchingError),
-}
-
-impl Failure {
-    /// The status with which the program ends.
-    fn status(&self) -> u8 {
-        match self {
-            Failure::Arguments | Failure::PatchFile(_) => 2,
-            Failure::Input(error) if error.kind() == ErrorKind::InvalidData => 3,
-            Failure::Input(_) | Failure::Memory(_) => 4,
-            Failure::Patching(error) => error.status(),
-        }
-    }
-}
-
-/// The message that the program writes after its name.
-impl fmt::Display for Failure {
-    ghost output = { λ _. None };
-
-    fn fmt<W: fmt::Write>(&self, f: &mut fmt::Formatter<W>) -> fmt::Result {
-        match self {
-            Failure::Arguments => f.write_str("usage: json_patch PATCH-FILE"),
-            Failure::PatchFile(error) => write!(f, "the patch: {error}"),
-            Failure::Input(error) | Failure::Memory(error) => write!(f, "{error}"),
-            Failure::Patching(error) => write!(f, "{error}"),
-        }
-    }
-}
 
 fn main(rt: HostRuntime) -> ExitCode {
     match print_patched(&rt) {
@@ -71,10 +31,15 @@ fn main(rt: HostRuntime) -> ExitCode {
 /// From the file of the patch and standard input to standard output, which is flushed once, after success.
 fn print_patched(rt: &(impl Env + Files + Input + Print + AllocGlobal)) -> Result<(), Failure> {
     let alloc = rt.alloc();
-    let name = file_asked(rt)?;
-    let patch = fs::read_to_string(rt, name.as_str()).map_err(patch_error)?;
+    let words = arguments(rt)?;
+    let Some(file) = asked(words.as_slice()) else {
+        return Err(Failure::Arguments);
+    };
+    let patch = fs::read_to_string(rt, file).map_err(patch_error)?;
     let text = io::read_to_string(alloc, rt.reader()).map_err(input_error)?;
-    let mut output = BufWriter::new(alloc, io::writer(rt)).map_err(Failure::Memory)?;
+    let Ok(mut output) = BufWriter::new(alloc, io::writer(rt)) else {
+        return Err(Failure::OutOfMemory);
+    };
     let answer = write_patched(alloc, patch.as_str(), text.as_str(), &mut output);
     let answer = answer.and_then(|()| output.flush().map_err(writing_error));
     // Dropped, the gathered bytes would be written, also after a write that failed.
@@ -82,29 +47,11 @@ fn print_patched(rt: &(impl Env + Files + Input + Print + AllocGlobal)) -> Resul
     answer.map_err(Failure::Patching)
 }
 
-/// The one argument.
-fn file_asked(rt: &(impl Env + AllocGlobal)) -> Result<String, Failure> {
-    let mut words = match env::args(rt) {
-        Ok(words) => words.skip(1),
-        Err(error) if error.kind() == ErrorKind::OutOfMemory => return Err(Failure::Memory(error)),
-        Err(_) => return Err(Failure::Arguments),
-    };
-    match (words.next(), words.next()) {
-        (Some(name), None) => Ok(name),
-        _ => Err(Failure::Arguments),
-    }
-}
-
-fn patch_error(error: io::Error) -> Failure {
-    match error.kind() {
-        ErrorKind::OutOfMemory => Failure::Memory(error),
-        _ => Failure::PatchFile(error),
-    }
-}
-
-fn input_error(error: io::Error) -> Failure {
-    match error.kind() {
-        ErrorKind::OutOfMemory => Failure::Memory(error),
-        _ => Failure::Input(error),
+/// The arguments after the program's name.
+fn arguments(rt: &(impl Env + AllocGlobal)) -> Result<Vec<String>, Failure> {
+    match env::args(rt) {
+        Ok(words) => Ok(words.skip(1).collect::<Vec<String>>(rt.alloc())?),
+        Err(error) if error.kind() == ErrorKind::OutOfMemory => Err(Failure::OutOfMemory),
+        Err(_) => Err(Failure::Arguments),
     }
 }

@@ -8,3 +8,5 @@ pub mod Strings
 pub mod Paths
 pub mod Seen
 pub mod Lines
+pub mod Options
+pub mod Failures
