@@ -12,4 +12,4 @@ mod sorting;
 pub use copies::{copy, put};
 pub use plain::{Plain, is_plain, plain_end};
 pub use runs::{Class, Digit, digits_end, is_white, white_end};
-pub use sorting::presort;
+pub use sorting::{leading, presort};

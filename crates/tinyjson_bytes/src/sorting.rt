@@ -83,7 +83,7 @@ fn rank_words<T>(words: &mut [u64], mask: u64, members: &[(&str, &T)], from: usi
 {
     for word in words.iter_mut() {
         let index = *word & mask;
-        *word = (!rank(key_at(members, index).as_bytes(), from) & !mask) | index;
+        *word = (!leading(key_at(members, index).as_bytes(), from) & !mask) | index;
     }
 }
 
@@ -137,7 +137,7 @@ fn shared_len<T>(words: &[u64], mask: u64, members: &[(&str, &T)], common: usize
     let first = key_at(members, word & mask).as_bytes();
     let mut len = common;
     while len < first.len() {
-        let unequal = differences(words, mask, members, len, rank(first, len));
+        let unequal = differences(words, mask, members, len, leading(first, len));
         if unequal != 0 {
             return len.saturating_add((unequal.leading_zeros() / 8) as usize);
         }
@@ -146,7 +146,7 @@ fn shared_len<T>(words: &[u64], mask: u64, members: &[(&str, &T)], common: usize
     first.len()
 }
 
-/// The bits in which the keys' ranks from that place on differ from that one.
+/// The bits in which the eight bytes from that place on of some key differ from those.
 fn differences<T>(
     words: &[u64],
     mask: u64,
@@ -156,16 +156,16 @@ fn differences<T>(
 ) -> u64 {
     let mut bits = 0;
     for word in words {
-        bits |= rank(key_at(members, word & mask).as_bytes(), from) ^ expected;
+        bits |= leading(key_at(members, word & mask).as_bytes(), from) ^ expected;
     }
     bits
 }
 
 /// The eight bytes from that place on as a number, the first the greatest, with zeros after the last.
 #[inline(always)]
-fn rank(bytes: &[u8], from: usize) -> u64 {
+pub fn leading(bytes: &[u8], from: usize) -> u64 {
     if bytes.len() < 8 {
-        return short_rank(bytes, from);
+        return leading_of_short(bytes, from);
     }
     let at = from.min(bytes.len() - 8);
     let word = u64::from_be_bytes([
@@ -186,7 +186,7 @@ fn rank(bytes: &[u8], from: usize) -> u64 {
 }
 
 #[inline(never)]
-fn short_rank(bytes: &[u8], from: usize) -> u64 {
+fn leading_of_short(bytes: &[u8], from: usize) -> u64 {
     let mut word = [0u8; 8];
     let rest = &bytes[from.min(bytes.len())..];
     for i in 0..8 {

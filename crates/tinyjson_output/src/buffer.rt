@@ -230,7 +230,7 @@ pub fn flush<W: Write>(out: &mut W, buffer: &mut Buffer) -> io::Result<()>
 
 /// Writes the bytes, and ends with the writer's first error, an interruption too. The writer is not
 /// called with an empty slice.
-fn write_all<W: Write>(out: &mut W, bytes: &[u8]) -> io::Result<()>
+pub fn write_all<W: Write>(out: &mut W, bytes: &[u8]) -> io::Result<()>
     ensures { WritesPrefix (W.contents out.old) (W.contents out.new) bytes.now result }
 {
     let mut rest = bytes;

@@ -10,7 +10,9 @@ mod layout;
 mod number;
 mod strings;
 
-pub use buffer::{Buffer, flush, quick_key, quick_number, quick_text, quick_word, write_bytes};
+pub use buffer::{
+    Buffer, flush, quick_key, quick_number, quick_text, quick_word, write_all, write_bytes,
+};
 pub use layout::{separate, write_colon, write_newline};
 pub use number::write_number;
 pub use strings::quote;
