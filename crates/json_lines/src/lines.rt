@@ -1,7 +1,5 @@
 //! The normal forms of the lines of an input.
 ghost use Rattle.std.specs.Prelude.{[], ◌∷◌};
-ghost use Rattle.std.specs.Str.{chars};
-ghost use Rattle.tinyjson.specs.Events.{TellsText};
 ghost use Rattle.tinyjson.specs.Tree.{Tree};
 ghost use Rattle.tinyjson.specs.Written.{WritesPrefix};
 ghost use Rattle.tinyjson_normal.specs.Normal.{HasTree};
@@ -13,8 +11,7 @@ use json_line::{Cause, Refusal, content, read_line, write_all};
 use std::alloc::Global;
 use std::io::{self, BufRead, ErrorKind, Write};
 use std::str;
-use tinyjson::JsonParseError;
-use tinyjson_normal::NormalText;
+use tinyjson_normal::{NormalReader, NormalText};
 
 /// How lines are read.
 #[derive(Clone, Copy, Debug, PartialEq, Eq)]
@@ -61,6 +58,7 @@ pub fn run<R: BufRead, W: Write, E: Write>(
         (E.contents errors.old) (E.contents errors.new) result }
 {
     let mut line = Vec::new(alloc);
+    let mut reader = NormalReader::new(alloc);
     let mut outcome = Outcome::AllWritten;
     for number in 1..u64::MAX {
         if !read_line(input, &mut line)? {
@@ -68,7 +66,7 @@ pub fn run<R: BufRead, W: Write, E: Write>(
             return Ok(outcome);
         }
         let handled = handle(
-            alloc,
+            &mut reader,
             options.limit,
             number,
             line.as_slice(),
@@ -88,7 +86,7 @@ pub fn run<R: BufRead, W: Write, E: Write>(
 
 /// Writes the normal form of one line, or tells of it, after what was written before it.
 fn handle<W: Write, E: Write>(
-    alloc: Global,
+    reader: &mut NormalReader,
     limit: Option<usize>,
     number: u64,
     line: &[u8],
@@ -98,17 +96,17 @@ fn handle<W: Write, E: Write>(
     ensures { Handles limit number line.now (W.contents output.old) (W.contents output.new)
         (E.contents errors.old) (E.contents errors.new) result }
 {
-    let Some(cause) = write_line(alloc, limit, line, output)? else {
+    let Some(cause) = write_line(reader, limit, line, output)? else {
         return Ok(Outcome::AllWritten);
     };
     output.flush()?;
-    tell(alloc, errors, Refusal { number, cause })?;
+    tell(reader.allocator(), errors, Refusal { number, cause })?;
     Ok(Outcome::SomeRefused)
 }
 
 /// Writes the normal form of one line and a line feed; or nothing, where the line is refused.
 fn write_line<W: Write>(
-    alloc: Global,
+    reader: &mut NormalReader,
     limit: Option<usize>,
     line: &[u8],
     output: &mut W,
@@ -118,9 +116,10 @@ fn write_line<W: Write>(
     let Ok(text) = str::from_utf8(content(line)) else {
         return Ok(Some(Cause::NotUtf8));
     };
-    match read(alloc, text, limit) {
+    match reader.read(text, limit) {
         Ok(normal) => {
-            write_normal(alloc, &normal, output)?;
+            write_normal(reader.allocator(), &normal, output)?;
+            reader.reuse(normal);
             Ok(None)
         }
         Err(error) => {
@@ -129,15 +128,6 @@ fn write_line<W: Write>(
             }
             Ok(Some(Cause::NotJson(error)))
         }
-    }
-}
-
-fn read(alloc: Global, text: &str, limit: Option<usize>) -> Result<NormalText, JsonParseError>
-    ensures { TellsText HasTree limit (chars text.now) result }
-{
-    match limit {
-        None => NormalText::read(alloc, text),
-        Some(limit) => NormalText::read_with_depth_limit(alloc, text, limit),
     }
 }
 

@@ -27,6 +27,7 @@ use Rattle.tinyjson_normal.specs.Node.{IsText, Grows}
 use Rattle.tinyjson_normal.specs.Order.{IsOrdered, AreMembersBy, lasts, paired}
 use Rattle.tinyjson_normal.specs.Normal.{HasTree}
 use Rattle.tinyjson_normal.specs.declared.normal.NormalText.{NormalText}
+use Rattle.tinyjson_normal.specs.declared.reader.Boxed.{Boxed}
 use Rattle.tinyjson_normal.specs.declared.compact.Begun.{Begun}
 use Rattle.tinyjson_normal.specs.declared.compact.Compact.{Compact}
 use Rattle.tinyjson_normal.specs.declared.compact.Start.{Start}
@@ -493,6 +494,19 @@ closes_object r a b c ms os place places members ns h o em ordered et some none 
     (λ i. record { places = (eo ∙ sym inner.others) i; begun = (eu ∙ inner.outer_begun) i; text = e i }))
     (object_closed r b.text.items c.text.items h.0.text ms some none sorted)
 
+-- ---- compact text in a box
+
+put_in_box : (os : List Open) (t : Tree) (b : Boxed) → Puts Holds IsOf os t b.compact.value
+    → Puts (λ x w. Holds x.compact.value w) (λ x u. IsOf x.compact.value u) os t b
+put_in_box [] t b h = h
+put_in_box (in_array ts ∷ os) t b h = h
+put_in_box (at_key ms ∷ os) t b h = h
+put_in_box (at_value ms k ∷ os) t b h = h
+
+pub puts_boxed : {T E : Type 0} (r : Result T E) (os : List Open) (t : Tree) (b : Boxed) → OnOk r (Puts Holds IsOf os t b.compact.value)
+    → OnOk r (Puts (λ x w. Holds x.compact.value w) (λ x u. IsOf x.compact.value u) os t b)
+puts_boxed r os t b h = on_ok r (put_in_box os t b) h
+
 -- ---- what is kept of a text
 
 pub whole_kept : (text kept bytes : List ℕ) (n : ℕ) → text ≡ bytes ++ 44 ∷ [] → n + 1 ≡ length text → kept ≡ take n text → kept ≡ bytes
@@ -500,9 +514,9 @@ whole_kept text kept bytes n e l k =
     k ∙ ap (take n) e ∙ take_at bytes (44 ∷ []) n (omega (arith, l, ap length e, length-append bytes (44 ∷ [])))
 
 -- the tree of a text that was built is one that a value may have
-pub told_kept : (limit : Option ℕ) (xs : List ℕ) (c : Compact) (n : NormalText) → ((t : Tree) → IsOf c t → sound.IsTree t → HasTree n t)
-    → TellsText IsOf limit xs (Ok c) → TellsText HasTree limit xs (Ok n)
-told_kept limit xs c n f h = record {
+pub told_kept : {E : Type 0} (is : E → Tree → Type 0) (limit : Option ℕ) (xs : List ℕ) (e : E) (n : NormalText)
+    → ((t : Tree) → is e t → sound.IsTree t → HasTree n t) → TellsText is limit xs (Ok e) → TellsText HasTree limit xs (Ok n)
+told_kept is limit xs e n f h = record {
   consumed = h.consumed;
   rest = h.rest;
   whole = h.whole;

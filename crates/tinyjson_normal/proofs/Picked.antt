@@ -9,7 +9,8 @@ use Rattle.std.proofs.lemmas.Bool.{and_parts}
 use Rattle.std.proofs.lemmas.List.{nil_from_length}
 use Rattle.std.proofs.lemmas.List.Elements.{All-nil, All-cons, All-head, All-tail, All-weaker, All-filter, filter_passes}
 use Rattle.std.proofs.lemmas.List.Sorted.{IsPermutation-refl, IsPermutation-sym, IsPermutation-trans, IsPermutation-cons}
-use Rattle.std.proofs.lemmas.List.Sorted.{IsPermutation-remove, All-permutation, Contains-permutation, length_permutation, sum_by-IsPermutation}
+use Rattle.std.proofs.lemmas.List.Sorted.{IsPermutation-remove, All-permutation, Contains-permutation}
+use Rattle.std.proofs.lemmas.List.Sorted.{length_permutation, sum_by-IsPermutation}
 use Rattle.std.proofs.lemmas.List.Sums.{length-filter}
 use Rattle.std.proofs.lemmas.Cmp.{nat_list_cmp_total}
 use Rattle.std.proofs.lemmas.List.MinMax.{ranks_by}
@@ -67,7 +68,8 @@ module _ {X : Type 0} where
         let there : Contains (filter p ks) z.0 = All-head Q z.0 [] (subst (All Q) z.1 all) passes in
         e ∙ ap (λ x. x ∷ []) (only y z.0 (subst (λ l. Contains l z.0) e there)) ∙ sym z.1
 
-    same_passing : (ms ks : List X) → IsPermutation ms ks → (filter p ks ≡ []) ⊎ ((y : X) × (filter p ks ≡ y ∷ [])) → filter p ks ≡ filter p ms
+    same_passing : (ms ks : List X) → IsPermutation ms ks → (filter p ks ≡ []) ⊎ ((y : X) × (filter p ks ≡ y ∷ []))
+        → filter p ks ≡ filter p ms
     same_passing ms ks h c = ⊎_elim
         (λ e. e ∙ sym (nil_from_length (filter p ms) (same_length ms ks h ∙ ap length e)))
         (λ k. same_one ms ks k.0 h k.1) c
@@ -101,7 +103,8 @@ module _ {X : Type 0} (lt : X → X → Bool) (o : IsStrictWeakOrder lt) where
       ⊎_elim (λ (q : k ≡ y). absurd (unlike k y l q)) (λ (q : Contains rest y). q)
       (first_or_later k y rest (Contains-permutation ms (k ∷ rest) y first h)) in
       IsPermutation-trans _ _ _ first (IsPermutation-cons k rest ks
-      (picked_permuted rest ks s.1 (omega (arith, long, e)) (λ j d l. later (get_or ks j d) (s.0 j d l) (All-tail (Contains ms) k ks c j d l))))
+      (picked_permuted rest ks s.1 (omega (arith, long, e))
+      (λ j d l. later (get_or ks j d) (s.0 j d l) (All-tail (Contains ms) k ks c j d l))))
 
   no_further_tie : (x m n : X) → ties lt x m ≡ true → lt m n ≡ true → ties lt x n ≡ false
   no_further_tie x m n t l = by (lt x n) (lt n x) refl refl
@@ -158,5 +161,7 @@ module _ (xs : List ℕ) where
       → IsOrdered xs ms ks × (lasts xs ks ≡ ks)
   picked_ordered ms ks c e h =
       let s = rise_strict ks h in
-      let permuted = picked_permuted (key_lt xs) order ms ks s e c in
-      (record { permuted = permuted; sorted = rise_sorted xs ks h; stable = picked_stable (key_lt xs) order ms ks permuted s }, rise_lasts xs ks h)
+      let permuted = picked_permuted (key_lt xs) order ms ks s e c in (
+        record { permuted = permuted; sorted = rise_sorted xs ks h; stable = picked_stable (key_lt xs) order ms ks permuted s },
+        rise_lasts xs ks h,
+      )

@@ -405,13 +405,6 @@ pub left_moved : (i j : Option (Bor (List ℕ))) (a b : Bor Store) (rs : List Re
 left_moved i j a b rs xs e d h = subst (λ k. AreLeft (indent_of k) b.now rs xs) e (subst (λ c. AreLeft (indent_of i) c.now rs xs) d h)
 
 -- all that is written, with nothing buffered before
-pub whole_flushed : {T E : Type 0} (a b c : Option (List ℕ)) (p q bytes : List ℕ) (r : Result T E) → p ≡ []
-    → Sent (a, p) (b, q) bytes [] → WritesPrefix b c q r → WritesPrefix a c bytes r
-whole_flushed a b c p q bytes r e h k = flushes a b c q bytes r (subst (λ z. Sent (a, z) (b, q) bytes []) e h) k
-
-pub whole_part : (a b : Option (List ℕ)) (p q bytes : List ℕ) → p ≡ [] → SentPart (a, p) (b, q) bytes → WrittenPart a b bytes
-whole_part a b p q bytes e h = (subst (λ z. SentPart (a, z) (b, q) bytes) e h).part
-
 pub flushed : {T E : Type 0} (a b c : Option (List ℕ)) (p q xs : List ℕ) (r : Result T E) → p ≡ []
     → Sent (a, p) (b, q) (enc (xs ++ [])) [] → WritesPrefix b c q r → WritesPrefix a c (enc xs) r
 flushed a b c p q xs r e h k =

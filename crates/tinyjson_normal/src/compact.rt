@@ -55,14 +55,10 @@ pub(crate) struct Compact {
 }
 
 impl Compact {
-    /// With no text yet, room for so many bytes if there is memory for them, and so many bytes that may be
-    /// moved.
-    pub(crate) fn new(alloc: Global, room: usize, left: usize) -> Self
-        ensures { Holds result [] }
-    {
+    pub(crate) fn new(alloc: Global) -> Self {
         Compact {
             store: Store::new(alloc),
-            text: Vec::with_capacity(alloc, room).unwrap_or(Vec::new(alloc)),
+            text: Vec::new(alloc),
             opened: Vec::new(alloc),
             begun: Vec::new(alloc),
             members: Vec::new(alloc),
@@ -70,8 +66,21 @@ impl Compact {
             kept: Vec::new(alloc),
             moved: Vec::new(alloc),
             buffer: Buffer::new(),
-            left,
+            left: 0,
         }
+    }
+
+    /// Begins anew with no text, room for so many bytes if there is memory for them, and so many bytes that
+    /// may be moved. The memory of the text before is kept, and the order of its last members.
+    pub(crate) fn begin(&mut self, room: usize, left: usize)
+        ensures { Holds self.new [] }
+    {
+        self.store.texts.clear();
+        self.text.clear();
+        self.opened.clear();
+        self.begun.clear();
+        let _ = self.text.reserve(room);
+        self.left = left;
     }
 
     /// Puts the members of the object that is being closed in order, of those with one key the last. What

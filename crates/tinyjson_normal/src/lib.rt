@@ -6,6 +6,7 @@ mod arena;
 mod compact;
 pub mod normal;
 mod ranking;
+pub mod reader;
 mod sorting;
 mod store;
 #[cfg(test)]
@@ -13,3 +14,4 @@ mod tests;
 mod walk;
 
 pub use normal::{NormalText, is_normal};
+pub use reader::NormalReader;

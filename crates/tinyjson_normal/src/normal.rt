@@ -1,5 +1,5 @@
 //! A text whose normal text is asked for.
-ghost use Rattle.std.specs.Prelude.{◌≡◌, ◌↔◌, [], None, Some, IfOk, IfSome, IsTrue, codes};
+ghost use Rattle.std.specs.Prelude.{◌≡◌, ◌↔◌, None, Some, IfOk, IfSome, IsTrue, codes};
 ghost use Rattle.std.specs.Prelude.{encode_utf8_all, string_bytes};
 ghost use Rattle.std.specs.Str.{all_scalars, chars};
 ghost use Rattle.tinyjson.specs.Events.{TellsText};
@@ -8,25 +8,18 @@ ghost use Rattle.tinyjson.specs.Text.{compact, indented, text};
 ghost use Rattle.tinyjson.specs.Tree.{Tree};
 ghost use Rattle.tinyjson.specs.Written.{WritesPrefix, WritesText};
 ghost use Rattle.tinyjson_grammar.specs.Soundness.{IsTree};
-ghost use Rattle.tinyjson_normal.specs.Compacting.{Holds, IsOf};
 ghost use Rattle.tinyjson_normal.specs.Normal.{HasTree, IsNormal};
 
 use crate::arena::Arena;
-use crate::compact::Compact;
+use crate::reader::NormalReader;
 use std::alloc::{AllocError, Global};
 use std::io::{self, ErrorKind, Write};
 use std::str;
-use tinyjson::{
-    JsonGenerateError, JsonGenerateResult, JsonParseError, read_events,
-    read_events_with_depth_limit,
-};
-use tinyjson_output::{Buffer, flush, write_bytes};
+use tinyjson::{JsonGenerateError, JsonGenerateResult, JsonParseError, read_events};
+use tinyjson_output::write_all;
 
 /// The indent of [`NormalText::format`].
 const INDENT: &str = "  ";
-
-/// How many times the length of a text may be moved for the order of members.
-const MOVES: usize = 8;
 
 /// How many bytes are written at once.
 const PIECE: usize = 4096;
@@ -64,11 +57,7 @@ impl NormalText {
     pub fn read(alloc: Global, text: &str) -> Result<NormalText, JsonParseError>
         ensures { TellsText HasTree None (chars text.now) result }
     {
-        match read_events(alloc, text, begin(alloc, text)) {
-            Ok(compact) => Ok(of_compact(compact)),
-            Err(error) if error.is_out_of_memory() => of_nodes(alloc, text),
-            Err(error) => Err(error),
-        }
+        NormalReader::new(alloc).read(text, None)
     }
 
     /// Reads a text in which at most `limit` containers are open at once, as
@@ -86,11 +75,7 @@ impl NormalText {
     ) -> Result<NormalText, JsonParseError>
         ensures { TellsText HasTree (Some limit) (chars text.now) result }
     {
-        match read_events_with_depth_limit(alloc, text, limit, begin(alloc, text)) {
-            Ok(compact) => Ok(of_compact(compact)),
-            Err(error) if error.is_out_of_memory() => of_nodes_within(alloc, text, limit),
-            Err(error) => Err(error),
-        }
+        NormalReader::new(alloc).read(text, Some(limit))
     }
 
     /// Writes the compact text of the tree, in UTF-8, and flushes nothing: the bytes that `JsonValue::write_to`
@@ -196,61 +181,17 @@ impl NormalText {
     }
 }
 
-/// No text yet, where one of this length is read.
-fn begin(alloc: Global, text: &str) -> Compact
-    ensures { Holds result [] }
-{
-    let len = text.len();
-    Compact::new(alloc, len, len.saturating_mul(MOVES))
-}
-
-/// What was built, without the comma behind it.
-fn of_compact(compact: Compact) -> NormalText
-    ensures { (t : Tree) → IsOf compact t → IsTree t → HasTree result t }
-{
-    let mut text = compact.text;
-    text.truncate(text.len().saturating_sub(1));
-    NormalText {
-        content: Content::Text(text),
-    }
-}
-
-/// A text that is read into nodes.
-fn of_nodes(alloc: Global, text: &str) -> Result<NormalText, JsonParseError>
-    ensures { TellsText HasTree None (chars text.now) result }
-{
-    match read_events(alloc, text, Arena::new(alloc)) {
-        Ok(arena) => Ok(NormalText {
-            content: Content::Arena(arena),
-        }),
-        Err(error) => Err(error),
-    }
-}
-
-/// One in which at most `limit` containers are open at once.
-fn of_nodes_within(alloc: Global, text: &str, limit: usize) -> Result<NormalText, JsonParseError>
-    ensures { TellsText HasTree (Some limit) (chars text.now) result }
-{
-    match read_events_with_depth_limit(alloc, text, limit, Arena::new(alloc)) {
-        Ok(arena) => Ok(NormalText {
-            content: Content::Arena(arena),
-        }),
-        Err(error) => Err(error),
-    }
-}
-
 /// Writes these bytes, and no others, so many at once that a writer which gathers them takes them in.
 fn write_whole<W: Write>(out: &mut W, bytes: &[u8]) -> io::Result<()>
     ensures { WritesPrefix (W.contents out.old) (W.contents out.new) bytes.now result }
 {
-    let mut buffer = Buffer::new();
     let mut rest = bytes;
     while !rest.is_empty() {
         let count = rest.len().min(PIECE);
-        write_bytes(out, &mut buffer, &rest[..count])?;
+        write_all(out, &rest[..count])?;
         rest = &rest[count..];
     }
-    flush(out, &mut buffer)
+    Ok(())
 }
 
 /// Writes the text of the tree that a compact text has, indented by a text: it is read again.

@@ -8,6 +8,7 @@ ghost use Rattle.tinyjson_normal.specs.declared.store.Member.{Member as Pair};
 use crate::sorting::{push_lasts, rise, sort};
 use crate::store::{Member, part};
 use std::alloc::AllocError;
+use tinyjson_bytes::leading;
 
 /// Up to this many members, their keys are compared as soon as some bytes of them are the same.
 const FEW: usize = 32;
@@ -164,40 +165,4 @@ fn differences(texts: &[u8], members: &[Member], ranks: &[u64], from: usize, exp
         bits |= leading(key_at(texts, members, rank & mask), from) ^ expected;
     }
     bits
-}
-
-/// The eight bytes from that place on as a number, the first the greatest, with zeros after the last.
-#[inline(always)]
-fn leading(bytes: &[u8], from: usize) -> u64 {
-    if bytes.len() < 8 {
-        return leading_of_short(bytes, from);
-    }
-    let at = from.min(bytes.len() - 8);
-    let word = u64::from_be_bytes([
-        bytes[at],
-        bytes[at + 1],
-        bytes[at + 2],
-        bytes[at + 3],
-        bytes[at + 4],
-        bytes[at + 5],
-        bytes[at + 6],
-        bytes[at + 7],
-    ]);
-    if from - at < 8 {
-        word << (8 * (from - at))
-    } else {
-        0
-    }
-}
-
-#[inline(never)]
-fn leading_of_short(bytes: &[u8], from: usize) -> u64 {
-    let mut word = [0u8; 8];
-    let rest = &bytes[from.min(bytes.len())..];
-    for i in 0..8 {
-        if i < rest.len() {
-            word[i] = rest[i];
-        }
-    }
-    u64::from_be_bytes(word)
 }

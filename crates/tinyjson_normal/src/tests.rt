@@ -1,11 +1,11 @@
 //! What no clause says: that a text is read and written where there is memory, by its bytes and its refusals.
 ghost use Rattle.std.specs.Prelude.{Some};
 
-use crate::{NormalText, is_normal};
+use crate::{NormalReader, NormalText, is_normal};
 use std::alloc::Global;
 use std::io::{self, ErrorKind, Write};
 use std::test::Fail;
-use tinyjson::{JsonParseErrorKind, JsonValue};
+use tinyjson::{JsonParseError, JsonParseErrorKind, JsonValue};
 
 /// A text, and its compact text.
 const WRITTEN: &[(&str, &str)] = &[
@@ -106,12 +106,13 @@ const ENDS: [&str; 12] = [
     "\u{1}",
 ];
 
-/// Whether the text is written as its value, or refused as it.
-fn is_alike(alloc: Global, text: &str) -> Result<bool, Fail> {
-    match (
-        NormalText::read(alloc, text),
-        JsonValue::from_str(alloc, text),
-    ) {
+/// Whether the text that was read is written as its value, or refused as it.
+fn is_alike(
+    alloc: Global,
+    text: &str,
+    read: &Result<NormalText, JsonParseError>,
+) -> Result<bool, Fail> {
+    match (read, JsonValue::from_str(alloc, text)) {
         (Ok(normal), Ok(value)) => {
             let (compact, indented) = (normal.to_string(alloc)?, normal.format(alloc)?);
             Ok(
@@ -119,7 +120,7 @@ fn is_alike(alloc: Global, text: &str) -> Result<bool, Fail> {
                     && indented.as_str() == value.format(alloc)?.as_str(),
             )
         }
-        (Err(error), Err(expected)) => Ok(error == expected && !error.is_out_of_memory()),
+        (Err(error), Err(expected)) => Ok(*error == expected && !error.is_out_of_memory()),
         _ => Ok(false),
     }
 }
@@ -127,12 +128,19 @@ fn is_alike(alloc: Global, text: &str) -> Result<bool, Fail> {
 #[test]
 fn texts_are_read_as_values(rt: HostRuntime) -> Result<(), Fail> {
     let alloc = rt.alloc();
+    let mut reader = NormalReader::new(alloc);
     for text in TEXTS {
         for length in 0..=text.chars().count() {
             let prefix: String = text.chars().take(length).collect(alloc)?;
             for end in ENDS {
                 let text = format!(in alloc; "{prefix}{end}")?;
-                assert!(rt; is_alike(alloc, text.as_str())?, "{text}");
+                let read = NormalText::read(alloc, text.as_str());
+                assert!(rt; is_alike(alloc, text.as_str(), &read)?, "{text}");
+                let read = reader.read(text.as_str(), None);
+                assert!(rt; is_alike(alloc, text.as_str(), &read)?, "{text}");
+                if let Ok(normal) = read {
+                    reader.reuse(normal);
+                }
             }
         }
     }
@@ -246,5 +254,18 @@ fn examples(rt: HostRuntime) -> Result<(), Fail> {
 
     assert!(rt; is_normal(alloc, r#"{"a":1.5,"b":[]}"#)?);
     assert!(rt; !is_normal(alloc, r#"{"a":1.50,"b":[]}"#)?);
+
+    let mut output = Vec::new(alloc);
+    let mut reader = NormalReader::new(alloc);
+    for line in ["[1.0]", r#"{"b": 2, "a": 1}"#] {
+        let normal = reader.read(line, None)?;
+        normal.write_to(reader.allocator(), &mut output)?;
+        reader.reuse(normal);
+    }
+    assert_eq!(rt; output.as_slice(), br#"[1]{"a":1,"b":2}"#.as_slice());
+
+    assert!(rt; reader.read("[[1]]", Some(2)).is_ok());
+    let result = reader.read("[[1]]", Some(1));
+    assert!(rt; result.is_err_and(|error| error.kind() == JsonParseErrorKind::TooDeep('[')));
     Ok(())
 }

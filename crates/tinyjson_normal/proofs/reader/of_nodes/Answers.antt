@@ -1,4 +1,4 @@
-use Rattle.tinyjson_normal.proofs.normal.of_nodes.Goals as goal
+use Rattle.tinyjson_normal.proofs.reader.of_nodes.Goals as goal
 
 pub returns-in-Ok : goal.returns-in-Ok
 returns-in-Ok c =

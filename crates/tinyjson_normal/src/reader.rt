@@ -1,0 +1,186 @@
+//! Texts that are read one after the other.
+ghost use Rattle.std.specs.Prelude.{[], IfOk};
+ghost use Rattle.std.specs.Str.{chars};
+ghost use Rattle.tinyjson.specs.Events.{TellsText};
+ghost use Rattle.tinyjson.specs.Tree.{Tree};
+ghost use Rattle.tinyjson_grammar.specs.Soundness.{IsTree};
+ghost use Rattle.tinyjson_normal.specs.Compacting.{Holds, IsOf};
+ghost use Rattle.tinyjson_normal.specs.Normal.{HasTree};
+
+use crate::arena::Arena;
+use crate::compact::Compact;
+use crate::normal::{Content, NormalText};
+use std::alloc::{AllocError, Global};
+use std::mem;
+use tinyjson::{Events, JsonNumber, JsonParseError, read_events, read_events_with_depth_limit};
+
+/// How many times the length of a text may be moved for the order of members.
+const MOVES: usize = 8;
+
+/// Reads texts one after the other, and keeps memory from each for the next: for many small texts, as the lines
+/// of a log are. It holds as much as the largest of them took.
+///
+/// ```
+/// for line in ["[1.0]", r#"{"b": 2, "a": 1}"#] {
+///     let normal = reader.read(line, None)?;
+///     normal.write_to(reader.allocator(), &mut output)?;
+///     reader.reuse(normal);
+/// }
+/// assert_eq!(rt; output.as_slice(), br#"[1]{"a":1,"b":2}"#.as_slice());
+/// ```
+#[derive(Drop)]
+pub struct NormalReader {
+    alloc: Global,
+    spare: Option<Box<Compact>>,
+}
+
+impl NormalReader {
+    /// With no memory kept yet.
+    ///
+    /// ```
+    /// let mut reader = NormalReader::new(alloc);
+    /// ```
+    pub fn new(alloc: Global) -> NormalReader {
+        NormalReader { alloc, spare: None }
+    }
+
+    /// The allocator that it reads with.
+    ///
+    /// ```
+    /// normal.write_to(reader.allocator(), &mut output)?;
+    /// ```
+    pub fn allocator(&self) -> Global {
+        self.alloc
+    }
+
+    /// Reads a text in which at most `limit` containers are open at once, if there is a limit: what
+    /// [`NormalText::read`] and [`NormalText::read_with_depth_limit`] return, whatever was read before.
+    ///
+    /// ```
+    /// assert!(rt; reader.read("[[1]]", Some(2)).is_ok());
+    /// let result = reader.read("[[1]]", Some(1));
+    /// assert!(rt; result.is_err_and(|error| error.kind() == JsonParseErrorKind::TooDeep('[')));
+    /// ```
+    pub fn read(&mut self, text: &str, limit: Option<usize>) -> Result<NormalText, JsonParseError>
+        ensures { TellsText HasTree limit (chars text.now) result }
+    {
+        let Ok(compact) = self.begin(text.len()) else {
+            return of_nodes(self.alloc, text, limit);
+        };
+        match tell(self.alloc, text, limit, Boxed { compact }) {
+            Ok(boxed) => Ok(self.finish(boxed)),
+            Err(error) if error.is_out_of_memory() => of_nodes(self.alloc, text, limit),
+            Err(error) => Err(error),
+        }
+    }
+
+    /// Keeps the memory of a text for the next ones.
+    ///
+    /// ```
+    /// reader.reuse(normal);
+    /// ```
+    pub fn reuse(&mut self, normal: NormalText) {
+        if let (Content::Text(text), Some(compact)) = (normal.content, &mut self.spare) {
+            compact.text = text;
+        }
+    }
+
+    /// No text yet, where one of that length is read.
+    fn begin(&mut self, len: usize) -> Result<Box<Compact>, AllocError>
+        ensures { IfOk result (λ b. Holds b.value []) }
+    {
+        let mut compact = match self.spare.take() {
+            Some(compact) => compact,
+            None => Box::new(self.alloc, Compact::new(self.alloc))?,
+        };
+        compact.begin(len, len.saturating_mul(MOVES));
+        Ok(compact)
+    }
+
+    /// What was built, without the comma behind it. The other memory is kept.
+    fn finish(&mut self, boxed: Boxed) -> NormalText
+        ensures { (t : Tree) → IsOf boxed.compact.value t → IsTree t → HasTree result t }
+    {
+        let mut compact = boxed.compact;
+        let mut text = mem::replace(&mut compact.text, Vec::new(self.alloc));
+        text.truncate(text.len().saturating_sub(1));
+        self.spare = Some(compact);
+        NormalText {
+            content: Content::Text(text),
+        }
+    }
+}
+
+/// Compact text in a box, so that little is moved where it is handed on.
+#[derive(Drop)]
+struct Boxed {
+    compact: Box<Compact>,
+}
+
+impl Events for Boxed {
+    ghost use Rattle.tinyjson_normal.specs.Compacting.{Holds, IsOf};
+
+    ghost holds = { λ b os. Holds b.compact.value os };
+
+    ghost is = { λ b t. IsOf b.compact.value t };
+
+    fn open_array(&mut self) -> Result<(), AllocError> {
+        self.compact.open_array()
+    }
+
+    fn close_array(&mut self) -> Result<(), AllocError> {
+        self.compact.close_array()
+    }
+
+    fn open_object(&mut self) -> Result<(), AllocError> {
+        self.compact.open_object()
+    }
+
+    fn close_object(&mut self) -> Result<(), AllocError> {
+        self.compact.close_object()
+    }
+
+    fn key(&mut self, key: &str) -> Result<(), AllocError> {
+        self.compact.key(key)
+    }
+
+    fn string(&mut self, value: &str) -> Result<(), AllocError> {
+        self.compact.string(value)
+    }
+
+    fn number(&mut self, value: JsonNumber) -> Result<(), AllocError> {
+        self.compact.number(value)
+    }
+
+    fn literal(&mut self, value: Option<bool>) -> Result<(), AllocError> {
+        self.compact.literal(value)
+    }
+}
+
+/// A text that is read into nodes.
+fn of_nodes(alloc: Global, text: &str, limit: Option<usize>) -> Result<NormalText, JsonParseError>
+    ensures { TellsText HasTree limit (chars text.now) result }
+{
+    match tell(alloc, text, limit, Arena::new(alloc)) {
+        Ok(arena) => Ok(NormalText {
+            content: Content::Arena(arena),
+        }),
+        Err(error) => Err(error),
+    }
+}
+
+/// Tells the text to events.
+fn tell<E: Events>(
+    alloc: Global,
+    text: &str,
+    limit: Option<usize>,
+    events: E,
+) -> Result<E, JsonParseError>
+    requires { E.holds events [] }
+    ensures { TellsText E.is limit (chars text.now) result }
+{
+    match limit {
+        None => read_events(alloc, text, events),
+        Some(limit) => read_events_with_depth_limit(alloc, text, limit, events),
+    }
+}
