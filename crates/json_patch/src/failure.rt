@@ -63,7 +63,8 @@ impl fmt::Display for Failure {
 
 /// A failure to read the patch.
 pub fn patch_error(error: io::Error) -> Failure
-    ensures { IsMemoryOr (error_kind error ≡ ErrorKind.OutOfMemory) (Failure.PatchFile error) result }
+    ensures { IsMemoryOr (error_kind error ≡ ErrorKind.OutOfMemory)
+        (Failure.PatchFile error) result }
 {
     match error.kind() {
         ErrorKind::OutOfMemory => Failure::OutOfMemory,
@@ -73,7 +74,8 @@ pub fn patch_error(error: io::Error) -> Failure
 
 /// A failure to read the text.
 pub fn input_error(error: io::Error) -> Failure
-    ensures { IsMemoryOr (error_kind error ≡ ErrorKind.OutOfMemory) (Failure.Input error) result }
+    ensures { IsMemoryOr (error_kind error ≡ ErrorKind.OutOfMemory)
+        (Failure.Input error) result }
 {
     match error.kind() {
         ErrorKind::OutOfMemory => Failure::OutOfMemory,

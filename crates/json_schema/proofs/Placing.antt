@@ -15,7 +15,8 @@ use Rattle.tinyjson.specs.View.{view}
 use Rattle.tinyjson.specs.declared.value.JsonValue.{JsonValue}
 use Rattle.tinyjson.specs.declared.value.JsonValue.TheVariants as made
 use Rattle.uri_reference.specs.Resolving.{resolved, without_fragment, fragment_of}
-use Rattle.json_schema.specs.Bundles.{Places, Leads, begins_pointer, leads_in, leads_by, leads_from, destination, with_name, string_of, pointing}
+use Rattle.json_schema.specs.Bundles.{Places, Leads, begins_pointer, leads_in, leads_by, leads_from, destination}
+use Rattle.json_schema.specs.Bundles.{with_name, string_of, pointing}
 use Rattle.json_schema.specs.Bundles.{is_own_id, kept_id, is_own_anchor, kept_anchor}
 use Rattle.json_schema.specs.References.{number_sign, percent_decoded}
 use Rattle.json_schema.specs.Bundles.{Marked, is_place, place_of, places_in, HasPlaces, marked, all_marked}
@@ -83,7 +84,8 @@ module _ (to : Leads) (dynamic : Bool) (t f : List ℕ) (same : f ≡ unwrap_or 
     leads : IsUtf8 ds → leads_in to dynamic (without_fragment t) f ds ≡ destination to dynamic t
     leads u = ap (λ b. cond b (leads_in to dynamic (without_fragment t) f ds) None) (sym (is_utf8-from_IsUtf8 ds u)) ∙ decoded
 
-    pub pointer_leads : IsUtf8 ds → begins_pointer ds ≡ true → option_map (λ q. q ++ f) (to.0 (without_fragment t)) ≡ destination to dynamic t
+    pub pointer_leads : IsUtf8 ds → begins_pointer ds ≡ true
+        → option_map (λ q. q ++ f) (to.0 (without_fragment t)) ≡ destination to dynamic t
     pointer_leads u b = ap (λ x. cond x (option_map (λ q. q ++ f) (to.0 (without_fragment t)))
         (cond dynamic (to.1 (without_fragment t) ds) (to.0 (with_name (without_fragment t) ds)))) (sym b) ∙ leads u
 

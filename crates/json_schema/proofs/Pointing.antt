@@ -4,7 +4,8 @@ use Rattle.std.proofs.Common.{true, false, cond, get_or, drop, chars, encode_utf
 use Rattle.tinyjson.specs.Tree.{Tree, Items, no_items, item, Members, put}
 use Rattle.tinyjson.specs.View.{view, text, items_view, members_listed}
 use Rattle.tinyjson.specs.declared.value.JsonValue.{JsonValue}
-use Rattle.json_schema.specs.Bundles.{Places, Leads, leads_of, at_key, at_index, kept_of, put_some, pointed, pointed_among, pointed_items, pointed_members}
+use Rattle.json_schema.specs.Bundles.{Places, Leads, leads_of, at_key, at_index, kept_of, put_some}
+use Rattle.json_schema.specs.Bundles.{pointed, pointed_among, pointed_items, pointed_members}
 use Rattle.json_schema.specs.Bundles.{Marked, base_in, marks_of, is_bundle, place_of, bundled}
 use Rattle.json_schema.proofs.Listed.{Listed}
 use Rattle.json_schema.proofs.Lookups.{text_bytes}

@@ -7,7 +7,8 @@ use Rattle.json_schema.proofs.bundle.bundled.Goals as goal
 
 pub returns-then-not-is_bundle : goal.returns-then-not-is_bundle
 returns-then-not-is_bundle c = subst (λ t. IfOk c.try_clone.result (λ v. view v ≡ t))
-    (no_bundle (view c.args.document.now) (all_marked c.as_slice.result.now) (ap all_marked c.as_slice.ensures.value ∙ c.in_ok-marks.ensures)
+    (no_bundle (view c.args.document.now) (all_marked c.as_slice.result.now)
+    (ap all_marked c.as_slice.ensures.value ∙ c.in_ok-marks.ensures)
     (sym c.is_bundle.ensures ∙ c.if-not-is_bundle.true)) c.try_clone.ensures
 
 pub returns : goal.returns

@@ -29,4 +29,5 @@ returns c =
     let led : None ≡ destination to d (resolved b bs) = ap (option_map string_bytes) (sym c.in-None.is)
     ∙ (c.in_ok-place.ensures ∙ ap (destination to d) (c.as_str-2.ensures.value ∙ c.in_ok-target.ensures)) in
     subst (λ t. IfOk c.try_clone-in-None.result (λ v. view v ≡ t))
-    (reference_pointed c.args.reference.now c.in-String.text bs c.in-String.is c.as_str.ensures.value to d b _ led) c.try_clone-in-None.ensures
+    (reference_pointed c.args.reference.now c.in-String.text bs c.in-String.is c.as_str.ensures.value to d b _ led)
+    c.try_clone-in-None.ensures

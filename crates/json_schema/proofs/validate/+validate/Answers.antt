@@ -47,8 +47,8 @@ use Rattle.json_schema.proofs.Validity.{reference_met, no_reference, both_met}
 use Rattle.json_schema.proofs.validate.+validate.Goals.{in_dependents-then-has_key+in_ok-found+in_default, in_dependents-else-has_key}
 use Rattle.json_schema.proofs.validate.+validate.Goals.{in_found-then-is_found+in_ok-found+in_default, in_found-else-is_found}
 use Rattle.json_schema.proofs.validate.+validate.Goals.{in_members-in-Some+in_ok-found+in_default-2, in_members-in_default}
-use Rattle.json_schema.proofs.validate.+validate.Goals.{count_accepting-then-accepted, count_accepting-else-accepted}
-use Rattle.json_schema.proofs.validate.+validate.Goals.{count_passing-then-accepted, count_passing-else-accepted}
+use Rattle.json_schema.proofs.validate.+validate.Goals.{tested::count_accepting-then-accepted, tested::count_accepting-else-accepted}
+use Rattle.json_schema.proofs.validate.+validate.Goals.{tested::count_passing-then-accepted, tested::count_passing-else-accepted}
 use Rattle.json_schema.proofs.validate.+validate.Goals.{in_items-in-Some+in_ok-found+in_default-2, in_items-in_default}
 use Rattle.json_schema.proofs.validate.+validate.Goals.{unevaluated::in_members_left-then-not-evaluated+in_ok-found+in_default}
 use Rattle.json_schema.proofs.validate.+validate.Goals.{unevaluated::in_members_left-else-not-evaluated}
@@ -204,26 +204,26 @@ is_accepted-returns t c g = c.is_nothing.ensures
     ∙ verdict (view c.args.walk.whole.now.root.now) c.args.walk.steps (view c.args.schema.now) (view c.args.value.now) c.in_ok-found.found
     c.in_ok-found.ensures g
 
-pub unmet_test-returns-then-not-any : goal.unmet_test-returns-then-not-any
-unmet_test-returns-then-not-any t c g =
+pub tested::unmet_test-returns-then-not-any : goal.tested::unmet_test-returns-then-not-any
+tested::unmet_test-returns-then-not-any t c g =
     let f = says c.args.walk g in
     let v = view c.args.value.now in
     sym (c.in_ok-any.ensures g ∙ ap (λ rs. any_of f rs v) c.schemas_at.ensures) ∙ c.if-not-any.true
 
-pub unmet_test-returns-then-not-one : goal.unmet_test-returns-then-not-one
-unmet_test-returns-then-not-one t c g =
+pub tested::unmet_test-returns-then-not-one : goal.tested::unmet_test-returns-then-not-one
+tested::unmet_test-returns-then-not-one t c g =
     let f = says c.args.walk g in
     let v = view c.args.value.now in
     sym (c.in_ok-one.ensures g ∙ ap (λ rs. one_of f rs v) c.schemas_at-2.ensures) ∙ c.if-not-one.true
 
-pub unmet_test-returns-then-not-other : goal.unmet_test-returns-then-not-other
-unmet_test-returns-then-not-other t c g = sym (c.in_ok-other.ensures g) ∙ c.if-not-other.true
+pub tested::unmet_test-returns-then-not-other : goal.tested::unmet_test-returns-then-not-other
+tested::unmet_test-returns-then-not-other t c g = sym (c.in_ok-other.ensures g) ∙ c.if-not-other.true
 
-pub unmet_test-returns-then-not-names : goal.unmet_test-returns-then-not-names
-unmet_test-returns-then-not-names t c g = sym (c.in_ok-names.ensures g) ∙ c.if-not-names.true
+pub tested::unmet_test-returns-then-not-names : goal.tested::unmet_test-returns-then-not-names
+tested::unmet_test-returns-then-not-names t c g = sym (c.in_ok-names.ensures g) ∙ c.if-not-names.true
 
-pub unmet_test-returns : goal.unmet_test-returns
-unmet_test-returns t c =
+pub tested::unmet_test-returns : goal.tested::unmet_test-returns
+tested::unmet_test-returns t c =
     let w = c.args.walk in
     let s = view c.args.schema.now in
     let v = view c.args.value.now in
@@ -234,8 +234,8 @@ unmet_test-returns t c =
       sym (c.in_ok-names.ensures g) ∙ c.if-not-names.false,
     )) c.unmet_count.ensures
 
-pub unmet_count-returns : goal.unmet_count-returns
-unmet_count-returns t c g =
+pub tested::unmet_count-returns : goal.tested::unmet_count-returns
+tested::unmet_count-returns t c g =
     let s = view c.args.schema.now in
     let counted = c.in_ok-count.ensures g in
     let some : contains_some c.in_ok-count.count s ≡ true = sym c.contains_some-some.ensures ∙ c.if-not-some.false in
@@ -247,14 +247,14 @@ unmet_count-returns t c g =
 
 -- ---- schemas and items that are counted
 
-pub is_any_met-returns : goal.is_any_met-returns
-is_any_met-returns t c g =
+pub tested::is_any_met-returns : goal.tested::is_any_met-returns
+tested::is_any_met-returns t c g =
     let rs = items_view c.args.schemas.now in
     c.in_ok-accepted.ensures g ∙ sym (ap (λ b. not b || some_accepts (says c.args.walk g) rs (view c.args.value.now))
     (sym c.is_some_item.ensures ∙ c.if-not-is_some_item.false))
 
-pub is_some_met-returns-then-accepted : goal.is_some_met-returns-then-accepted
-is_some_met-returns-then-accepted t c g =
+pub tested::is_some_met-returns-then-accepted : goal.tested::is_some_met-returns-then-accepted
+tested::is_some_met-returns-then-accepted t c g =
     let f = says c.args.walk g in
     let v = view c.args.value.now in
     let vs = c.args.schemas.now in
@@ -263,8 +263,8 @@ is_some_met-returns-then-accepted t c g =
     (ap (λ b. b || some_accepts f (items_view (drop (i + 1) vs)) v) (sym (c.in_ok-accepted.ensures g) ∙ c.if-accepted.true))
     (c.loop-schema.invariant g)
 
-pub is_some_met-loop-schema-preserved : goal.is_some_met-loop-schema-preserved
-is_some_met-loop-schema-preserved t c g =
+pub tested::is_some_met-loop-schema-preserved : goal.tested::is_some_met-loop-schema-preserved
+tested::is_some_met-loop-schema-preserved t c g =
     let f = says c.args.walk g in
     let v = view c.args.value.now in
     let vs = c.args.schemas.now in
@@ -273,33 +273,33 @@ is_some_met-loop-schema-preserved t c g =
     (ap (λ b. b || some_accepts f (items_view (drop (i + 1) vs)) v) (sym (c.in_ok-accepted.ensures g) ∙ c.if-accepted.false))
     (c.loop-schema.invariant g)
 
-pub is_some_met-returns : goal.is_some_met-returns
-is_some_met-returns t c g =
+pub tested::is_some_met-returns : goal.tested::is_some_met-returns
+tested::is_some_met-returns t c g =
     let v = view c.args.value.now in
     sym (turn_end (λ xs. some_accepts (says c.args.walk g) (items_view xs) v) c.args.schemas.now c.loop-schema.schema-index false
     c.loop-schema-test.false refl (c.loop-schema.invariant g))
 
-pub is_one_met-returns : goal.is_one_met-returns
-is_one_met-returns t c g =
+pub tested::is_one_met-returns : goal.tested::is_one_met-returns
+tested::is_one_met-returns t c g =
     let rs = items_view c.args.schemas.now in
     ap (λ n. n == 1) (c.in_ok-count.ensures g) ∙ sym (ap (λ b. not b || accepting (says c.args.walk g) rs (view c.args.value.now) == 1)
     (sym c.is_some_item.ensures ∙ c.if-not-is_some_item.false))
 
-pub count_accepting-loop-schema-preserved : goal.count_accepting-loop-schema-preserved
-count_accepting-loop-schema-preserved t c =
+pub tested::count_accepting-loop-schema-preserved : goal.tested::count_accepting-loop-schema-preserved
+tested::count_accepting-loop-schema-preserved t c =
     let v = view c.args.value.now in
     let vs = c.args.schemas.now in
     let i = c.loop-schema.schema-index in
     let n = c.loop-schema.count in
     let x = c.schema-item.result in
     elim c.if-accepted.branch [
-      | count_accepting-then-accepted w ↦ (
+      | tested::count_accepting-then-accepted w ↦ (
         omega (arith, w.count-is, c.loop-schema.invariant.0),
         λ g. count_next (λ xs. accepting (says c.args.walk g) (items_view xs) v) vs i n x 1 c.if-accepted.count c.loop-schema-test.true
             c.schema-item.is (ap (λ b. cond b 1 0 + accepting (says c.args.walk g) (items_view (drop (i + 1) vs)) v)
             (sym (c.in_ok-accepted.ensures g) ∙ w.if-accepted.true)) w.count-is (c.loop-schema.invariant.1 g),
       )
-      | count_accepting-else-accepted w ↦ (
+      | tested::count_accepting-else-accepted w ↦ (
         omega (arith, w.count-is, c.loop-schema.invariant.0),
         λ g. count_next (λ xs. accepting (says c.args.walk g) (items_view xs) v) vs i n x 0 c.if-accepted.count c.loop-schema-test.true
             c.schema-item.is (ap (λ b. cond b 1 0 + accepting (says c.args.walk g) (items_view (drop (i + 1) vs)) v)
@@ -307,22 +307,22 @@ count_accepting-loop-schema-preserved t c =
       )
     ]
 
-pub count_accepting-returns : goal.count_accepting-returns
-count_accepting-returns t c g =
+pub tested::count_accepting-returns : goal.tested::count_accepting-returns
+tested::count_accepting-returns t c g =
     let v = view c.args.value.now in
     count_end (λ xs. accepting (says c.args.walk g) (items_view xs) v) c.args.schemas.now c.loop-schema.schema-index c.loop-schema.count
     c.loop-schema-test.false refl (c.loop-schema.invariant.1 g)
 
-pub are_names_met-returns-in_ok-accepted-in-Some : goal.are_names_met-returns-in_ok-accepted-in-Some
-are_names_met-returns-in_ok-accepted-in-Some t c g =
+pub tested::are_names_met-returns-in_ok-accepted-in-Some : goal.tested::are_names_met-returns-in_ok-accepted-in-Some
+tested::are_names_met-returns-in_ok-accepted-in-Some t c g =
     let f = says c.args.walk g in
     let v = view c.args.value.now in
     c.in_ok-accepted-in-Some.ensures g
     ∙ (ap (keys_pass (f (view c.in-Some.part.now))) (ap members_listed c.as_slice.ensures.value ∙ c.in_ok-members-in-Some.ensures.listed)
     ∙ ap (λ o. option_map_or (λ r. keys_pass (f r) (members_in v)) o true) c.in-Some.ensures)
 
-pub are_keys_met-returns-then-not-accepted : goal.are_keys_met-returns-then-not-accepted
-are_keys_met-returns-then-not-accepted t c g =
+pub tested::are_keys_met-returns-then-not-accepted : goal.tested::are_keys_met-returns-then-not-accepted
+tested::are_keys_met-returns-then-not-accepted t c g =
     let f = says c.args.walk g in
     let s = view c.args.schema.now in
     let ps = c.args.members.now in
@@ -332,8 +332,8 @@ are_keys_met-returns-then-not-accepted t c g =
     (ap (f s) (sym c.in_ok-name.ensures) ∙ (sym (c.in_ok-accepted.ensures g) ∙ c.if-not-accepted.true)))
     (c.loop-key.invariant g)
 
-pub are_keys_met-loop-key-preserved : goal.are_keys_met-loop-key-preserved
-are_keys_met-loop-key-preserved t c g =
+pub tested::are_keys_met-loop-key-preserved : goal.tested::are_keys_met-loop-key-preserved
+tested::are_keys_met-loop-key-preserved t c g =
     let f = says c.args.walk g in
     let s = view c.args.schema.now in
     let ps = c.args.members.now in
@@ -343,14 +343,14 @@ are_keys_met-loop-key-preserved t c g =
     (ap (f s) (sym c.in_ok-name.ensures) ∙ (sym (c.in_ok-accepted.ensures g) ∙ c.if-not-accepted.false)))
     (c.loop-key.invariant g)
 
-pub are_keys_met-returns : goal.are_keys_met-returns
-are_keys_met-returns t c g =
+pub tested::are_keys_met-returns : goal.tested::are_keys_met-returns
+tested::are_keys_met-returns t c g =
     let s = view c.args.schema.now in
     sym (turn_end (λ xs. keys_pass (says c.args.walk g s) (members_listed xs)) c.args.members.now c.loop-key.key-index true
     c.loop-key-test.false refl (c.loop-key.invariant g))
 
-pub contained-returns-in_ok-count-in-Array : goal.contained-returns-in_ok-count-in-Array
-contained-returns-in_ok-count-in-Array t c g =
+pub tested::contained-returns-in_ok-count-in-Array : goal.tested::contained-returns-in_ok-count-in-Array
+tested::contained-returns-in_ok-count-in-Array t c g =
     let f = says c.args.walk g in
     let v = view c.args.value.now in
     let same : array (items_view c.as_slice.result.now) ≡ v
@@ -358,21 +358,21 @@ contained-returns-in_ok-count-in-Array t c g =
     ap Some (c.in_ok-count-in-Array.ensures g) ∙ (ap (items_passing (f (view c.in-Some.part.now))) same
     ∙ ap (option_and_then (λ r. items_passing (f r) v)) c.in-Some.ensures)
 
-pub count_passing-loop-item-preserved : goal.count_passing-loop-item-preserved
-count_passing-loop-item-preserved t c =
+pub tested::count_passing-loop-item-preserved : goal.tested::count_passing-loop-item-preserved
+tested::count_passing-loop-item-preserved t c =
     let s = view c.args.schema.now in
     let vs = c.args.items.now in
     let i = c.loop-item.item-index in
     let n = c.loop-item.count in
     let x = c.item-item.result in
     elim c.if-accepted.branch [
-      | count_passing-then-accepted w ↦ (
+      | tested::count_passing-then-accepted w ↦ (
         omega (arith, w.count-is, c.loop-item.invariant.0),
         λ g. count_next (λ xs. passing (says c.args.walk g s) (items_view xs)) vs i n x 1 c.if-accepted.count c.loop-item-test.true
             c.item-item.is (ap (λ b. cond b 1 0 + passing (says c.args.walk g s) (items_view (drop (i + 1) vs)))
             (sym (c.in_ok-accepted.ensures g) ∙ w.if-accepted.true)) w.count-is (c.loop-item.invariant.1 g),
       )
-      | count_passing-else-accepted w ↦ (
+      | tested::count_passing-else-accepted w ↦ (
         omega (arith, w.count-is, c.loop-item.invariant.0),
         λ g. count_next (λ xs. passing (says c.args.walk g s) (items_view xs)) vs i n x 0 c.if-accepted.count c.loop-item-test.true
             c.item-item.is (ap (λ b. cond b 1 0 + passing (says c.args.walk g s) (items_view (drop (i + 1) vs)))
@@ -380,24 +380,24 @@ count_passing-loop-item-preserved t c =
       )
     ]
 
-pub count_passing-returns : goal.count_passing-returns
-count_passing-returns t c g =
+pub tested::count_passing-returns : goal.tested::count_passing-returns
+tested::count_passing-returns t c g =
     let s = view c.args.schema.now in
     count_end (λ xs. passing (says c.args.walk g s) (items_view xs)) c.args.items.now c.loop-item.item-index c.loop-item.count
     c.loop-item-test.false refl (c.loop-item.invariant.1 g)
 
-pub unmet_count-returns-then-not-some : goal.unmet_count-returns-then-not-some
-unmet_count-returns-then-not-some t c g =
+pub tested::unmet_count-returns-then-not-some : goal.tested::unmet_count-returns-then-not-some
+tested::unmet_count-returns-then-not-some t c g =
     let s = view c.args.schema.now in
     ap (λ n. contains_some n s) (sym (c.in_ok-count.ensures g)) ∙ (sym c.contains_some-some.ensures ∙ c.if-not-some.true)
 
-pub unmet_count-returns-then-not-most : goal.unmet_count-returns-then-not-most
-unmet_count-returns-then-not-most t c g =
+pub tested::unmet_count-returns-then-not-most : goal.tested::unmet_count-returns-then-not-most
+tested::unmet_count-returns-then-not-most t c g =
     let s = view c.args.schema.now in
     ap (λ n. contains_at_most n s) (sym (c.in_ok-count.ensures g)) ∙ (sym c.in_ok-most.ensures ∙ c.if-not-most.true)
 
-pub unmet_count-returns-then-not-least : goal.unmet_count-returns-then-not-least
-unmet_count-returns-then-not-least t c g =
+pub tested::unmet_count-returns-then-not-least : goal.tested::unmet_count-returns-then-not-least
+tested::unmet_count-returns-then-not-least t c g =
     let s = view c.args.schema.now in
     ap (λ n. contains_at_least n s) (sym (c.in_ok-count.ensures g)) ∙ (sym c.in_ok-least.ensures ∙ c.if-not-least.true)
 

@@ -6,4 +6,5 @@ use Rattle.tinyjson.specs.JsonKind.TheVariants as kind
 use Rattle.json_count.proofs.counts.CountsEvents.string.Goals as goal
 
 pub returns : goal.returns
-returns c = λ os h. added c.add.result c.args.self.now c.add.new.self os (string (chars c.args.arg2.now)) kind.String (λ k. refl) c.add.ensures h
+returns c = λ os h. added c.add.result c.args.self.now c.add.new.self os (string (chars c.args.arg2.now)) kind.String (λ k. refl)
+    c.add.ensures h

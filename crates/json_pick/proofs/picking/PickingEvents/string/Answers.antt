@@ -10,4 +10,5 @@ pub returns : goal.returns
 returns g c = λ os h.
     let e = c.value.ensures in
     value_told g.W.Wanted.is_wanted depth_of key_of picked_of c.value.result os (string (chars c.args.value.now)) _
-    c.args.self.now c.value.new.self (view_String c.in_ok-value.value ∙ ap (λ bs. string (chars bs)) c.in_ok-value.ensures.ok) refl e.depth (ap (option_map text) e.key) e.members h
+    c.args.self.now c.value.new.self (view_String c.in_ok-value.value ∙ ap (λ bs. string (chars bs)) c.in_ok-value.ensures.ok)
+    refl e.depth (ap (option_map text) e.key) e.members h
