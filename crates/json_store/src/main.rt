@@ -12,7 +12,7 @@ use std::io::{self, BufReader, ErrorKind};
 use std::process::ExitCode;
 use std::str;
 use store::Store;
-use tinyjson_normal::NormalText;
+use tinyjson_normal::NormalReader;
 
 fn main(rt: HostRuntime) -> ExitCode {
     match count_lines(&rt) {
@@ -33,12 +33,13 @@ fn count_lines(rt: &(impl Input + Print + AllocGlobal)) -> io::Result<Option<Ref
     let alloc = rt.alloc();
     let mut input = BufReader::new(alloc, rt.reader())?;
     let mut line = Vec::new(alloc);
+    let mut reader = NormalReader::new(alloc);
     let mut store = Store::new(alloc);
     for number in 1..u64::MAX {
         if !read_line(&mut input, &mut line)? {
             return Ok(None);
         }
-        if let Some(cause) = count_line(rt, &mut store, line.as_slice())? {
+        if let Some(cause) = count_line(rt, &mut reader, &mut store, line.as_slice())? {
             return Ok(Some(Refusal { number, cause }));
         }
     }
@@ -48,6 +49,7 @@ fn count_lines(rt: &(impl Input + Print + AllocGlobal)) -> io::Result<Option<Ref
 /// Counts the value of a line and prints it with its count; or returns why the line is refused.
 fn count_line(
     rt: &(impl Print + AllocGlobal),
+    reader: &mut NormalReader,
     store: &mut Store,
     line: &[u8],
 ) -> io::Result<Option<Cause>> {
@@ -55,11 +57,12 @@ fn count_line(
     let Ok(text) = str::from_utf8(content(line)) else {
         return Ok(Some(Cause::NotUtf8));
     };
-    match NormalText::read(alloc, text) {
+    match reader.read(text, None) {
         Ok(value) => {
             store.add(alloc, &value)?;
             let count = store.count(alloc, &value)?;
             println!(rt; "{count} {}", value.to_string(alloc)?)?;
+            reader.reuse(value);
             Ok(None)
         }
         Err(error) if error.is_out_of_memory() => Err(error.into()),
