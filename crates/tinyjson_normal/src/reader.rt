@@ -91,7 +91,7 @@ impl NormalReader {
     {
         let mut compact = match self.spare.take() {
             Some(compact) => compact,
-            None => Box::new(self.alloc, Compact::new(self.alloc))?,
+            None => new_box(self.alloc)?,
         };
         compact.begin(len, len.saturating_mul(MOVES));
         Ok(compact)
@@ -155,6 +155,13 @@ impl Events for Boxed {
     fn literal(&mut self, value: Option<bool>) -> Result<(), AllocError> {
         self.compact.literal(value)
     }
+}
+
+/// New memory. Not inlined, so that no room for it is cleared where memory was kept.
+#[cold]
+#[inline(never)]
+fn new_box(alloc: Global) -> Result<Box<Compact>, AllocError> {
+    Ok(Box::new(alloc, Compact::new(alloc))?)
 }
 
 /// A text that is read into nodes.
