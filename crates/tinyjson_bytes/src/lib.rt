@@ -1,5 +1,5 @@
-//! What works on bytes alone: runs of plain characters, white space and digits, found sixteen at a time; copies by
-//! vectors; members put near their order before they are sorted.
+//! What works on bytes alone: runs of plain characters, white space, digits and the rest of a line, found sixteen at
+//! a time; copies by vectors; members put near their order before they are sorted.
 //!
 //! It is part of the inside of `tinyjson`, which a program takes alone.
 #![tactic(auto)]
@@ -11,5 +11,5 @@ mod sorting;
 
 pub use copies::{copy, put};
 pub use plain::{Plain, is_plain, plain_end};
-pub use runs::{Class, Digit, digits_end, is_white, white_end};
+pub use runs::{Class, Digit, digits_end, is_white, line_end, white_end};
 pub use sorting::{leading, presort};

@@ -4,7 +4,7 @@ ghost use Rattle.std.specs.Char.{is_ascii_digit};
 ghost use Rattle.std.specs.List.{prefix_len};
 ghost use Rattle.std.specs.Simd.Lanes.{mask_l};
 ghost use Rattle.tinyjson_bytes.specs.Characters.{is_white};
-ghost use Rattle.tinyjson_bytes.specs.Scan.{fails};
+ghost use Rattle.tinyjson_bytes.specs.Scan.{fails, is_in_line};
 
 use std::simd::prelude::*;
 
@@ -38,6 +38,9 @@ struct White;
 
 /// The digits 0 to 9.
 pub struct Digit;
+
+/// What stands in one line: all but a line feed.
+struct Line;
 
 impl Class for White {
     ghost test = { is_white };
@@ -73,6 +76,22 @@ impl Lanes for Digit {
         (v - u8x16::splat(b'0'))
             .simd_ge(u8x16::splat(10))
             .to_bitmask()
+    }
+}
+
+impl Class for Line {
+    ghost test = { is_in_line };
+
+    #[inline(always)]
+    fn passes(c: char) -> bool {
+        c != '\n'
+    }
+}
+
+impl Lanes for Line {
+    #[inline(always)]
+    fn failing(v: u8x16) -> u64 {
+        v.simd_eq(u8x16::splat(b'\n')).to_bitmask()
     }
 }
 
@@ -121,6 +140,15 @@ pub fn digits_end(bytes: &[u8], from: usize) -> usize
     ensures { result ≡ from + prefix_len is_ascii_digit (drop from bytes.now) }
 {
     run_end::<Digit>(bytes, from)
+}
+
+/// The place of the first line feed, or the length.
+#[inline(always)]
+pub fn line_end(bytes: &[u8]) -> usize
+    ensures end { result ≡ prefix_len is_in_line bytes.now }
+    ensures within { result ≤ length bytes.now }
+{
+    run_end::<Line>(bytes, 0)
 }
 
 /// Whether this is white space of JSON (RFC 8259, section 2).
