@@ -2,7 +2,7 @@
 use Rattle.std.specs.Prelude.{◌≡◌, ℕ, suc, ◌==◌, Bool, true, false, List, [], ◌∷◌, ◌++◌, cond, Option, None, Some, IfSome}
 use Rattle.std.specs.Prelude.{Result, Ok, Err, ⊤}
 use Rattle.std.specs.Io.BufRead.{strip_last}
-use Rattle.std.specs.Io.KnownBytes.{Appends}
+use Rattle.std.specs.Io.KnownBytes.{Appends, Keeps}
 use Rattle.std.specs.declared.io.Error.{Error}
 use Rattle.tinyjson.specs.Characters.{line_feed}
 use Rattle.tinyjson.specs.Written.{WrittenPart}
@@ -36,6 +36,12 @@ abbrev pub ReadsLine : Option (List ℕ) → Option (List ℕ) → List ℕ → 
 ReadsLine unread left line (Ok true) = LinesRead unread left (line ∷ [])
 ReadsLine unread left line (Ok false) = AllRead unread left []
 ReadsLine unread left line (Err e) = ⊤
+
+-- The next line is taken, or nothing is. For a private contract.
+abbrev pub TakesShown : Option (List ℕ) → Option (List ℕ) → List ℕ → Result Bool Error → Type 0
+TakesShown unread left line (Ok true) = LinesRead unread left (line ∷ [])
+TakesShown unread left line (Ok false) = Keeps unread left × (line ≡ [])
+TakesShown unread left line (Err e) = ⊤
 
 -- ---- what lines give
 

@@ -1,8 +1,9 @@
 //! The lines of an input.
 ghost use Rattle.std.specs.Prelude.{◌≡◌};
-ghost use Rattle.json_line.specs.Lines.{ReadsLine, content as content_of};
+ghost use Rattle.json_line.specs.Lines.{ReadsLine, TakesShown, content as content_of};
 
-use std::io::{self, BufRead};
+use std::io::{self, BufRead, ErrorKind};
+use tinyjson_bytes::line_end;
 
 /// Reads one line with its line feed, in place of what `line` held; `false` where the input is at its end.
 ///
@@ -17,10 +18,37 @@ use std::io::{self, BufRead};
 pub fn read_line<R: BufRead>(input: &mut R, line: &mut Vec<u8>) -> io::Result<bool>
     ensures { ReadsLine (R.remaining input.old) (R.remaining input.new) line.new.items result }
 {
-    line.clear();
+    if shown_line(input, line)? {
+        return Ok(true);
+    }
     if input.read_until(b'\n', line)? == 0 {
         return Ok(false);
     }
+    Ok(true)
+}
+
+/// Takes the next line, in place of what `line` held, if all of it stands in the reader's buffer. Otherwise nothing
+/// is taken, and what interrupted the reader is left to the next call.
+fn shown_line<R: BufRead>(input: &mut R, line: &mut Vec<u8>) -> io::Result<bool>
+    ensures { TakesShown (R.remaining input.old) (R.remaining input.new) line.new.items result }
+{
+    line.clear();
+    let available = match input.fill_buf() {
+        Ok(available) => available,
+        Err(e) => {
+            return if e.kind() == ErrorKind::Interrupted {
+                Ok(false)
+            } else {
+                Err(e)
+            };
+        }
+    };
+    let end = line_end(available);
+    if end == available.len() {
+        return Ok(false);
+    }
+    line.extend_from_slice(&available[..end + 1])?;
+    input.consume(end + 1);
     Ok(true)
 }
 

@@ -43,9 +43,9 @@ module _ {S : Type 0} (sight : Sight S) where
   abbrev pub Stops : (ℕ → Bool) → S → Type 0
   Stops test q = (o : Option ℕ) × sight.shows q o × IfSome o (λ c. test c ≡ false)
 
-  -- A call took a run, added it to a text, and took the quote after it; or it took a run alone, as above.
-  abbrev pub TakesQuoted : (test : ℕ → Bool) {E : Type 0} → S → List ℕ → Result Bool E → List ℕ → S → Type 0
-  TakesQuoted test p old (Ok true) new q = (cs : List ℕ) × AllByRecursion (λ c. test c ≡ true) cs
-      × Takes p (cs ++ quotation_mark ∷ []) q × (new ≡ old ++ cs)
-  TakesQuoted test p old (Ok false) new q = TakesRun test {E = Unit {0}} p old (Ok tt) new q
-  TakesQuoted test p old (Err e) new q = TakesRun test p old (Err e) new q
+  -- A call took a run, which it lends, and the quote after it; or it took a run alone, as above.
+  abbrev pub TakesQuoted : (test : ℕ → Bool) → (S → List ℕ) → {E : Type 0} → S → List ℕ → Result Bool E → List ℕ → S → Type 0
+  TakesQuoted test lent p old (Ok true) new q = AllByRecursion (λ c. test c ≡ true) (lent q)
+      × Takes p (lent q ++ quotation_mark ∷ []) q
+  TakesQuoted test lent p old (Ok false) new q = TakesRun test {E = Unit {0}} p old (Ok tt) new q
+  TakesQuoted test lent p old (Err e) new q = TakesRun test p old (Err e) new q

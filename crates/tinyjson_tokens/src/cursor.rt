@@ -230,6 +230,8 @@ impl<I: Iterator<Item = char>> Source for Characters<I> {
 
     ghost left = { λ p. left I.remaining p.cursor };
 
+    ghost lent = { λ p. [] };
+
     fn peek(&mut self) -> Option<char> {
         self.ready();
         if self.cursor.peeked.is_some() || self.cursor.done {
@@ -263,6 +265,10 @@ impl<I: Iterator<Item = char>> Source for Characters<I> {
 
     fn plain(&mut self, string: &mut String) -> Result<(), AllocError> {
         self.run::<Plain>(string)
+    }
+
+    fn lent(&self) -> &str {
+        ""
     }
 
     fn digits(&mut self, buffer: &mut String) -> Result<(), AllocError> {

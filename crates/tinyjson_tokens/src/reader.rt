@@ -1,6 +1,6 @@
 //! The reader of tokens, each read by one call, and by the shortest way where the source has its characters in memory.
 ghost use Rattle.std.specs.Prelude.{◌≡◌, ℕ, ◌<◌, ◌≤◌, List, [], ◌∷◌, true, false, OnOk, IfSome};
-ghost use Rattle.std.specs.Prelude.{Option, Some};
+ghost use Rattle.std.specs.Prelude.{Option, Some, cond};
 ghost use Rattle.std.specs.Str.{chars};
 ghost use Rattle.tinyjson_grammar.specs.Characters.{is_white, quotation_mark, text};
 ghost use Rattle.tinyjson_grammar.specs.Machine.{Frame, awaited, complete, next, plain, quoted};
@@ -71,13 +71,16 @@ impl<S: Tokens> TokenReader<S> {
         self.source.position()
     }
 
-    /// Reads the string whose opening quote comes next, in place of what the buffer holds.
+    /// Reads the string whose opening quote comes next, in place of what the buffer holds; `true` where the source
+    /// lends its characters.
     #[inline(always)]
-    pub fn string(&mut self, buffer: &mut String) -> Result<(), JsonParseErrorKind>
+    pub fn string(&mut self, buffer: &mut String) -> Result<bool, JsonParseErrorKind>
         requires shown { S.sight.shows self.old.source (Some quotation_mark) }
         ensures reads { (limit : Option ℕ) (fs : List Frame) →
             Reads S.sight limit self.old.source (next fs awaited) result
-            (λ _. complete true fs (string (text buffer.new)) true) self.new.source }
+            (λ lent. complete true fs
+            (string (cond lent (S.lent self.new.source) (text buffer.new))) true)
+            self.new.source }
         ensures left { OnOk result (S.left self.new.source < S.left self.old.source) }
     {
         self.source.consume('"');
@@ -86,17 +89,34 @@ impl<S: Tokens> TokenReader<S> {
 
     /// Reads the rest of a string, after its opening quote.
     #[inline(always)]
-    fn after_quote(&mut self, buffer: &mut String) -> Result<(), JsonParseErrorKind>
+    fn after_quote(&mut self, buffer: &mut String) -> Result<bool, JsonParseErrorKind>
         ensures reads { (limit : Option ℕ) (fs : List Frame) →
             Reads S.sight limit self.old.source (next fs (quoted plain [] [])) result
-            (λ _. complete true fs (string (text buffer.new)) true) self.new.source }
+            (λ lent. complete true fs
+            (string (cond lent (S.lent self.new.source) (text buffer.new))) true)
+            self.new.source }
         ensures left { S.left self.new.source ≤ S.left self.old.source }
     {
         buffer.clear();
         match self.source.quoted(buffer) {
-            Ok(true) => Ok(()),
-            Ok(false) => self.escaped(buffer),
+            Ok(true) => Ok(true),
+            Ok(false) => {
+                self.escaped(buffer)?;
+                Ok(false)
+            }
             Err(_) => Err(JsonParseErrorKind::OutOfMemory),
+        }
+    }
+
+    /// The characters of the string that was read last, which the source lends, or which stand in the buffer.
+    #[inline(always)]
+    pub fn characters<'b>(&'b self, lent: bool, buffer: &'b String) -> &'b str
+        ensures { chars result.now ≡ cond lent (S.lent self.now.source) (text buffer.now) }
+    {
+        if lent {
+            self.source.lent()
+        } else {
+            buffer.as_str()
         }
     }
 

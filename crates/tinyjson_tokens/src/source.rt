@@ -1,5 +1,5 @@
 //! What a source of characters is.
-ghost use Rattle.std.specs.Prelude.{◌≡◌, ℕ, ◌+◌, ◌<◌, ◌≤◌, [], ◌∷◌, false, IfSome};
+ghost use Rattle.std.specs.Prelude.{◌≡◌, ℕ, ◌+◌, ◌<◌, ◌≤◌, List, [], ◌∷◌, false, IfSome};
 ghost use Rattle.std.specs.Prelude.{MatchOption, OnOk, Option, Some, None, length};
 ghost use Rattle.std.specs.Prelude.{string_bytes};
 ghost use Rattle.std.specs.Bool.{MatchBool};
@@ -16,11 +16,14 @@ use std::alloc::AllocError;
 
 /// A source of characters, of which the next one can be looked at.
 ///
-/// `sight` says what the source still gives and where it stands, and `left` goes down with each character.
+/// `sight` says what the source still gives and where it stands, `left` goes down with each character, and `lent`
+/// has the characters of the string that was lent last.
 pub trait Source: Drop {
     ghost sight: { Sight Self };
 
     ghost left: { Self → ℕ };
+
+    ghost lent: { Self → List ℕ };
 
     /// The next character, which is not consumed yet.
     fn peek(&mut self) -> Option<char>
@@ -69,16 +72,20 @@ pub trait Source: Drop {
         self.plain(string)
     }
 
-    /// Takes the plain characters of a string that come next, and adds them to it; and then the quote that closes
-    /// it, if the source finds at once that it is next: only then it says `true`.
+    /// Takes the plain characters of a string that come next, and the quote that closes it, if the source finds at
+    /// once that it is next: then it says `true`, and lends the characters. Otherwise it adds them to the string.
     fn quoted(&mut self, string: &mut String) -> Result<bool, AllocError>
-        ensures quoted { TakesQuoted sight is_plain self.old (text string.old) result
+        ensures quoted { TakesQuoted sight is_plain lent self.old (text string.old) result
             (text string.new) self.new }
         ensures left { left self.new ≤ left self.old }
     {
         self.plain(string)?;
         Ok(false)
     }
+
+    /// The characters that were lent last.
+    fn lent(&self) -> &str
+        ensures { chars result.now ≡ lent self.now };
 
     /// Consumes these characters, if the source finds at once that they come next. It may decline.
     fn word(&mut self, word: &str) -> bool

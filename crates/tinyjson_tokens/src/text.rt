@@ -22,6 +22,8 @@ use tinyjson_number::{JsonNumber, number_at, short_number_at};
 pub struct TextBytes<'a> {
     pub text: &'a str,
     pub at: usize,
+    /// The last string that was taken with its quote.
+    pub lent: &'a str,
     pub ghost utf8: { ∥ IsUtf8 text.now ∥₁ },
     pub ghost boundary: { IsCharBoundary text.now at },
 }
@@ -32,7 +34,11 @@ impl<'a> TextBytes<'a> {
         ensures gives { chars_after result.text.now result.at ≡ chars text.now }
         ensures start { advance origin (before result.text.now result.at) ≡ origin }
     {
-        TextBytes { text, at: 0 }
+        TextBytes {
+            text,
+            at: 0,
+            lent: "",
+        }
     }
 
     /// Passes over white space, and shows what follows it. One space alone needs no search.
@@ -94,6 +100,8 @@ impl<'a> Source for TextBytes<'a> {
 
     ghost left = { λ p. length p.text.now - p.at };
 
+    ghost lent = { λ p. chars p.lent.now };
+
     fn peek(&mut self) -> Option<char> {
         self.first()
     }
@@ -150,13 +158,20 @@ impl<'a> Source for TextBytes<'a> {
     fn quoted(&mut self, string: &mut String) -> Result<bool, AllocError> {
         let bytes = self.text.as_bytes();
         let end = plain_end(bytes, self.at);
-        string.push_str(&self.text[self.at..end])?;
+        let run = &self.text[self.at..end];
         if end == bytes.len() || bytes[end] != b'"' {
+            string.push_str(run)?;
             self.at = end;
             return Ok(false);
         }
+        self.lent = run;
         self.at = end + 1;
         Ok(true)
+    }
+
+    #[inline(always)]
+    fn lent(&self) -> &str {
+        self.lent
     }
 
     #[inline(always)]
@@ -203,6 +218,7 @@ impl<'a> Tokens for TextBytes<'a> {
         let after = TextBytes {
             text: self.text,
             at: end,
+            lent: self.lent,
         };
         Some((number, after))
     }
@@ -212,6 +228,7 @@ impl<'a> Tokens for TextBytes<'a> {
         let after = TextBytes {
             text: self.text,
             at: end,
+            lent: self.lent,
         };
         match JsonNumber::from_parts(alloc, parts) {
             Ok(number) => Some((number, after)),

@@ -1,7 +1,7 @@
 //! The reader: values by their first character, arrays and objects (RFC 8259, sections 4 and 5), and the
 //! loop over open containers. What is built is a builder's matter.
 ghost use Rattle.std.specs.Prelude.{◌≡◌, ℕ, ◌<◌, ◌≤◌, List, [], ◌∷◌, false, OnOk, IfErr};
-ghost use Rattle.std.specs.Prelude.{IsTrue, Option, Some, None};
+ghost use Rattle.std.specs.Prelude.{IsTrue, Option, Some, None, cond};
 ghost use Rattle.tinyjson_grammar.specs.Characters.{begin_array, begin_object, is_white};
 ghost use Rattle.tinyjson_grammar.specs.Characters.{quotation_mark, text};
 ghost use Rattle.tinyjson_grammar.specs.Refusal.{begins_growth};
@@ -248,11 +248,11 @@ impl<S: Tokens> Reader<S> {
             nest.new self.new.tokens.source }
         ensures left { OnOk result (S.left self.new.tokens.source < S.left self.old.tokens.source) }
     {
-        self.tokens.string(&mut self.string)?;
+        let lent = self.tokens.string(&mut self.string)?;
         if nest.awaits_key() {
-            return self.colon(nest);
+            return self.colon(nest, lent);
         }
-        nest.string(self.string.as_str())
+        nest.string(self.tokens.characters(lent, &self.string))
     }
 
     /// Reads the number whose first character, a minus sign or a digit, comes next, and puts it
@@ -346,30 +346,39 @@ impl<S: Tokens> Reader<S> {
     {
         match self.tokens.skip_white() {
             Some('"') => {
-                self.tokens.string(&mut self.string)?;
-                self.colon(nest)
+                let lent = self.tokens.string(&mut self.string)?;
+                self.colon(nest, lent)
             }
             _ => Ok(Progress::Awaits),
         }
     }
 
-    /// Reads the colon after a key, the last string that was read.
+    /// Gives the object its key, the last string that was read, and reads the colon after it.
     #[inline(always)]
-    fn colon<B: Builder>(&mut self, nest: &mut Nest<B>) -> Result<Progress, JsonParseErrorKind>
+    fn colon<B: Builder>(
+        &mut self,
+        nest: &mut Nest<B>,
+        lent: bool,
+    ) -> Result<Progress, JsonParseErrorKind>
         requires open { (ms : Members) × (fs : List Frame) ×
             IsOpen B.holds nest.old (at_key ms ∷ fs) }
         ensures reads { (limit : Option ℕ) (ms : Members) (fs : List Frame) →
             IsOpen B.holds nest.old (at_key ms ∷ fs) →
             Continues B.holds B.is S.sight limit self.old.tokens.source
-            (next (at_key ms ∷ fs) (colon (text self.old.string))) result nest.new self.new.tokens.source }
+            (next (at_key ms ∷ fs)
+            (colon (cond lent (S.lent self.old.tokens.source) (text self.old.string))))
+            result nest.new self.new.tokens.source }
         ensures left { OnOk result (S.left self.new.tokens.source ≤ S.left self.old.tokens.source) }
     {
+        if nest
+            .key(self.tokens.characters(lent, &self.string))
+            .is_err()
+        {
+            return Err(JsonParseErrorKind::OutOfMemory);
+        }
         match self.tokens.skip_white() {
             Some(':') => {
                 self.tokens.consume(':');
-                if nest.key(self.string.as_str()).is_err() {
-                    return Err(JsonParseErrorKind::OutOfMemory);
-                }
                 Ok(Progress::Awaits)
             }
             Some(c) => {

@@ -1,9 +1,10 @@
-use Rattle.std.proofs.Common.{rules, ◌∷◌}
+use Rattle.std.proofs.Common.{rules, ◌≡◌, ◌∷◌, cond, chars, subst}
 use Rattle.tinyjson.specs.View.{text}
+use Rattle.tinyjson.specs.private.Building.{IsOpen}
 use Rattle.tinyjson_grammar.specs.Machine.{at_value}
 use Rattle.tinyjson_grammar.specs.declared.error.JsonParseErrorKind.TheVariants.{UnexpectedEof, ExpectedColon}
-use Rattle.tinyjson_tokens.proofs.Callers.{end_colon, Leads_whites, Leads_one, Leads_end, Halts_here, Refuses_as, Refuses_memory}
-use Rattle.tinyjson_tokens.proofs.Callers.{white_colon}
+use Rattle.tinyjson_tokens.proofs.Callers.{end_colon, Leads_nil, Leads_whites, Leads_one, Leads_end, Halts_here}
+use Rattle.tinyjson_tokens.proofs.Callers.{Refuses_as, Refuses_memory, white_colon}
 use Rattle.tinyjson.proofs.Reading.Containers.{colon_read, colon_other}
 use Rattle.tinyjson.proofs.Reading.Loop.{awaits}
 use Rattle.tinyjson.proofs.parser.reader.Reader.colon.Goals as goal
@@ -11,26 +12,27 @@ use Rattle.tinyjson.proofs.parser.reader.Reader.colon.Goals as goal
 pub returns-then-is_err-clause-reads : goal.returns-then-is_err-clause-reads
 returns-then-is_err-clause-reads g c = λ limit ms fs h.
     let sight = g.S.Source.sight in
-    Refuses_memory sight limit _ _ (Halts_here sight limit _ _
-    (Leads_one sight limit _ _ _ 58 (Leads_whites sight limit _ _ _ c.skip_white.ensures.white tt (white_colon limit _ _))
-    c.consume.ensures.takes tt (colon_read limit fs ms (text c.args.self.now.string) 58 (search rules)) tt) tt tt)
+    Refuses_memory sight limit _ _ (Halts_here sight limit _ _ (Leads_nil sight limit _ _) tt tt)
 
-pub returns-else-is_err-clause-reads : goal.returns-else-is_err-clause-reads
-returns-else-is_err-clause-reads g c = λ limit ms fs h.
+pub returns-in-Some-eq58-clause-reads : goal.returns-in-Some-eq58-clause-reads
+returns-in-Some-eq58-clause-reads g c = λ limit ms fs h.
     let sight = g.S.Source.sight in
-    awaits g.B.Builder.holds g.B.Builder.is sight limit _ _ (at_value ms (text c.args.self.now.string) ∷ fs) c.key.new.self
+    let holds = g.B.Builder.holds in
+    let key = cond c.args.lent (g.S.Source.lent c.args.self.now.tokens.source) (text c.args.self.now.string) in
+    let keyed : IsOpen holds c.key.new.self (at_value ms (chars c.characters.result.now) ∷ fs) = search rules in
+    awaits holds g.B.Builder.is sight limit _ _ (at_value ms key ∷ fs) c.key.new.self
     (Leads_one sight limit _ _ _ 58 (Leads_whites sight limit _ _ _ c.skip_white.ensures.white tt (white_colon limit _ _))
-    c.consume.ensures.takes tt (colon_read limit fs ms (text c.args.self.now.string) 58 (search rules)) tt)
-    (search rules)
+    c.consume.ensures.takes tt (colon_read limit fs ms key 58 (search rules)) tt)
+    (subst (λ k. IsOpen holds c.key.new.self (at_value ms k ∷ fs)) c.characters.ensures keyed)
 
 pub returns-in-Some-clause-reads : goal.returns-in-Some-clause-reads
 returns-in-Some-clause-reads g c = λ limit ms fs h.
     let sight = g.S.Source.sight in
+    let key = cond c.args.lent (g.S.Source.lent c.args.self.now.tokens.source) (text c.args.self.now.string) in
     let d = c.in-Some.c in
     Refuses_as sight limit _ _ (ExpectedColon d)
     (Leads_one sight limit _ _ _ d (Leads_whites sight limit _ _ _ c.skip_white.ensures.white tt (white_colon limit _ _))
-    c.consume-in-Some.ensures.takes tt
-    (colon_other limit fs ms (text c.args.self.now.string) d c.in-Some.ensures.stops (search rules)) tt)
+    c.consume-in-Some.ensures.takes tt (colon_other limit fs ms key d c.in-Some.ensures.stops (search rules)) tt)
 
 pub returns-in-None-clause-reads : goal.returns-in-None-clause-reads
 returns-in-None-clause-reads g c = λ limit ms fs h.

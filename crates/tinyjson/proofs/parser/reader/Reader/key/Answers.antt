@@ -5,19 +5,19 @@ use Rattle.tinyjson_tokens.proofs.Callers.{Leads_whites, Leads_trans, Refuses_af
 use Rattle.tinyjson.proofs.Reading.Loop.{awaits, Continues_after}
 use Rattle.tinyjson.proofs.parser.reader.Reader.key.Goals as goal
 
-pub returns-in_err-string-in-Some-eq34-clause-reads : goal.returns-in_err-string-in-Some-eq34-clause-reads
-returns-in_err-string-in-Some-eq34-clause-reads g c = λ limit ms fs h.
+pub returns-in_err-lent-in-Some-eq34-clause-reads : goal.returns-in_err-lent-in-Some-eq34-clause-reads
+returns-in_err-lent-in-Some-eq34-clause-reads g c = λ limit ms fs h.
     let sight = g.S.Source.sight in
     let p = err_from_is_err_and c.from_residual.result c.from_residual.ensures.1 in
     let q = Leads_whites sight limit _ _ _ c.skip_white.ensures.white tt (white_awaited limit _) in
-    rw (p.1, p.2) (Refuses_after sight limit _ _ _ _ q (c.in_err-string-in-Some-eq34.ensures.reads limit (at_key ms ∷ fs)))
+    rw (p.1, p.2) (Refuses_after sight limit _ _ _ _ q (c.in_err-lent-in-Some-eq34.ensures.reads limit (at_key ms ∷ fs)))
 
-pub returns-in_ok-string-in-Some-eq34-clause-reads : goal.returns-in_ok-string-in-Some-eq34-clause-reads
-returns-in_ok-string-in-Some-eq34-clause-reads g c = λ limit ms fs h.
+pub returns-in_ok-lent-in-Some-eq34-clause-reads : goal.returns-in_ok-lent-in-Some-eq34-clause-reads
+returns-in_ok-lent-in-Some-eq34-clause-reads g c = λ limit ms fs h.
     let sight = g.S.Source.sight in
     let q = Leads_whites sight limit _ _ _ c.skip_white.ensures.white tt (white_awaited limit _) in
     Continues_after g.B.Builder.holds g.B.Builder.is sight limit _ _ _ _ c.colon.new.nest
-    (Leads_trans sight limit _ _ _ q (c.in_ok-string-in-Some-eq34.ensures.reads limit (at_key ms ∷ fs)))
+    (Leads_trans sight limit _ _ _ q (c.in_ok-lent-in-Some-eq34.ensures.reads limit (at_key ms ∷ fs)))
     (c.colon.ensures.reads limit ms fs h)
 
 pub returns-in_default-clause-reads : goal.returns-in_default-clause-reads

@@ -6,19 +6,19 @@ use Rattle.tinyjson.specs.private.Building.{TakesValue}
 use Rattle.tinyjson.proofs.Reading.Loop.{joined, string_at_key}
 use Rattle.tinyjson.proofs.parser.reader.Reader.string.Goals as goal
 
-pub returns-in_err-string-clause-reads : goal.returns-in_err-string-clause-reads
-returns-in_err-string-clause-reads g c = λ limit fs h.
+pub returns-in_err-lent-clause-reads : goal.returns-in_err-lent-clause-reads
+returns-in_err-lent-clause-reads g c = λ limit fs h.
     let p = err_from_is_err_and c.from_residual.result c.from_residual.ensures.1 in
-    rw (p.1, p.2) (c.in_err-string.ensures.reads limit fs)
+    rw (p.1, p.2) (c.in_err-lent.ensures.reads limit fs)
 
 pub returns-then-awaits_key-clause-reads : goal.returns-then-awaits_key-clause-reads
 returns-then-awaits_key-clause-reads g c = λ limit fs h.
     let w : (ms : Members) × (gs : List Frame) × (fs ≡ at_key ms ∷ gs) = search rules in
     string_at_key g.B.Builder.holds g.B.Builder.is g.S.Source.sight limit _ _ _ fs w.0 w.1 w.2 _ _ c.args.nest.now c.colon.new.nest
-    (c.in_ok-string.ensures.reads limit fs) h (c.colon.ensures.reads limit w.0 w.1)
+    (c.in_ok-lent.ensures.reads limit fs) h (c.colon.ensures.reads limit w.0 w.1)
 
 pub returns-clause-reads : goal.returns-clause-reads
 returns-clause-reads g c = λ limit fs h.
     let w : TakesValue fs = search rules in
     joined g.B.Builder.holds g.B.Builder.is g.S.Source.sight limit _ _ fs awaited _ c.string-2.new.self
-    (c.in_ok-string.ensures.reads limit fs) (rw c.as_str.ensures.value at c.string-2.ensures fs h w)
+    (c.in_ok-lent.ensures.reads limit fs) (rw c.characters.ensures at c.string-2.ensures fs h w)
