@@ -16,6 +16,9 @@ use std::env::{self, Env};
 use std::io::{self, BufReader, BufWriter, ErrorKind};
 use std::process::ExitCode;
 
+/// How many bytes are gathered of the input, and of the output.
+const BUFFER_LEN: usize = 64 * 1024;
+
 const USAGE: &str = "usage: json_lines [-k] [-d N]";
 
 fn main(rt: HostRuntime) -> ExitCode {
@@ -52,8 +55,8 @@ fn asked(rt: &(impl Env + AllocGlobal)) -> io::Result<Option<Options>> {
 /// written, though some bytes may be gathered.
 fn write_lines(rt: HostRuntime, options: Options) -> io::Result<Outcome> {
     let alloc = rt.alloc();
-    let mut input = BufReader::new(alloc, rt.reader())?;
-    let mut output = BufWriter::new(alloc, rt.stdout())?;
+    let mut input = BufReader::with_capacity(alloc, BUFFER_LEN, rt.reader())?;
+    let mut output = BufWriter::with_capacity(alloc, BUFFER_LEN, rt.stdout())?;
     let mut errors = rt.stderr();
     let answer = lines::run(alloc, options, &mut input, &mut output, &mut errors);
     // Dropped, the gathered bytes would be written.
