@@ -1,5 +1,6 @@
 //! A text told event by event.
-ghost use Rattle.std.specs.Prelude.{◌≡◌, ℕ, List, [], ◌∷◌, map, false, IfErr, IsTrue, None, OnOk, Option, Some};
+ghost use Rattle.std.specs.Prelude.{◌≡◌, ℕ, List, [], ◌∷◌, map, false, IsTrue, IfErr, OnOk};
+ghost use Rattle.std.specs.Prelude.{None, Option, Some};
 ghost use Rattle.std.specs.Str.{chars};
 ghost use Rattle.tinyjson_grammar.specs.Characters.{is_white};
 ghost use Rattle.tinyjson_grammar.specs.Machine.{awaited, next};

@@ -1,4 +1,5 @@
-use Rattle.std.proofs.Common.{rules, ◌≡◌, ◌∙◌, ◌∷◌, ◌++◌, [], true, sym, ap, append-nil, append_assoc, subst, arith, length, length-append, ◌<◌}
+use Rattle.std.proofs.Common.{rules, ◌≡◌, ◌∙◌, ◌∷◌, ◌++◌, [], true, sym, ap}
+use Rattle.std.proofs.Common.{append-nil, append_assoc, subst, arith, length, length-append, ◌<◌}
 use Rattle.tinyjson_grammar.specs.Position.{advance, position_at}
 use Rattle.tinyjson_grammar.specs.Characters.{text}
 use Rattle.tinyjson_tokens.proofs.Cursors.{Goes_nil, Goes_filled, Goes_drawn, Ready_filled, run_column}

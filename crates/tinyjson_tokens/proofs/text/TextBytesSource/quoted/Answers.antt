@@ -7,7 +7,8 @@ use Rattle.std.specs.Str.{chars}
 use Rattle.tinyjson_bytes.specs.Scan.{is_plain}
 use Rattle.tinyjson_tokens.specs.Slice.{before, run_end}
 use Rattle.tinyjson_grammar.specs.Characters.{text}
-use Rattle.tinyjson_tokens.proofs.Slices.{between, plain_high, plain_boundary, plain_between, quote_boundary, quote_between, stay_moves, step_gives}
+use Rattle.tinyjson_tokens.proofs.Slices.{between, plain_high, plain_boundary, plain_between, quote_boundary}
+use Rattle.tinyjson_tokens.proofs.Slices.{quote_between, stay_moves, step_gives}
 use Rattle.tinyjson_tokens.proofs.Slices.{step_moves}
 use Rattle.tinyjson_tokens.proofs.text.TextBytesSource.quoted.Goals as goal
 
