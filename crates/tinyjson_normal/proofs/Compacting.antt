@@ -111,7 +111,7 @@ between begin close inside o c =
     ∙ ap (λ z. begin ∷ ((enc inside ++ z) ++ 44 ∷ [])) c
     ∙ ap (λ z. begin ∷ z) (append_assoc (enc inside) (close ∷ []) (44 ∷ []))
 
-on_ok : {T E A B : Type 0} (r : Result T E) → (A → B) → OnOk r A → OnOk r B
+pub on_ok : {T E A B : Type 0} (r : Result T E) → (A → B) → OnOk r A → OnOk r B
 on_ok (Ok x) f h = f h
 on_ok (Err e) f h = tt
 

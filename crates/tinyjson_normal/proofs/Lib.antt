@@ -12,6 +12,8 @@ pub mod Gathered
 pub mod Rising
 -- Members that were picked from others.
 pub mod Picked
+-- Texts that grow by more than is meant.
+pub mod Appending
 -- What stands in compact text.
 pub mod Compacting
 -- What a walk writes.

@@ -11,6 +11,7 @@ ghost use Rattle.tinyjson_normal.specs.Order.{IsOrdered, lasts};
 ghost use Rattle.tinyjson_normal.specs.declared.store.Member.{Member as Pair};
 ghost use Rattle.tinyjson_number.specs.Text.{decimal_text};
 
+use crate::append::{ROOM, append, append_number, append_quoted};
 use crate::ranking::keep_ordered;
 use crate::sorting::rise;
 use crate::store::{Member, Node, Span, Store, part};
@@ -79,7 +80,7 @@ impl Compact {
         self.text.clear();
         self.opened.clear();
         self.begun.clear();
-        let _ = self.text.reserve(room);
+        let _ = self.text.reserve(room.saturating_add(ROOM));
         self.left = left;
     }
 
@@ -230,10 +231,7 @@ fn push_quoted(
         text.push(behind)?;
         return Ok(());
     }
-    text.push(b'"')?;
-    text.extend_from_slice(bytes)?;
-    text.extend_from_slice(&[b'"', behind])?;
-    Ok(())
+    append_quoted(text, bytes, behind)
 }
 
 /// Appends the characters between quotes, with escapes.
@@ -261,14 +259,10 @@ fn push_number(
     ensures { OnOk result (text.new.items
         ≡ text.old.items ++ encode_utf8_all (decimal_text number.now.decimal)) }
 {
-    let mut short = [0; 32];
-    match number.write_short(&mut short) {
-        Some(count) => {
-            text.extend_from_slice(&short[..count])?;
-            Ok(())
-        }
-        None => push_long(text, buffer, number),
+    if append_number(text, number)? {
+        return Ok(());
     }
+    push_long(text, buffer, number)
 }
 
 #[inline(never)]
@@ -323,7 +317,7 @@ fn copy_placed(text: &[u8], moved: &mut Vec<u8>, members: &[Member]) -> Result<(
 {
     let mut rest = members;
     while let Some((member, others)) = rest.split_first() {
-        moved.extend_from_slice(placed(text, member.value))?;
+        append(moved, placed(text, member.value))?;
         rest = others;
     }
     Ok(())

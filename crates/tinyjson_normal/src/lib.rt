@@ -2,6 +2,7 @@
 //! an arena of nodes where members would be moved too often.
 #![tactic(auto)]
 
+mod append;
 mod arena;
 mod compact;
 pub mod normal;

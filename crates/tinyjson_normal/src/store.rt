@@ -5,6 +5,7 @@ ghost use Rattle.tinyjson_normal.specs.Node.{IsRun, IsText, IsNumberAt, Grows};
 ghost use Rattle.tinyjson_normal.specs.declared.store.Member.{Member};
 ghost use Rattle.tinyjson_normal.specs.Order.{IsOrdered, lasts, part};
 
+use crate::append::append;
 use crate::sorting::{push_lasts, rise, sort};
 use std::alloc::{AllocError, Global};
 use std::mem;
@@ -70,7 +71,7 @@ impl Store {
         ensures grows { OnOk result (Grows self.old self.new) }
     {
         let from = self.texts.len();
-        self.texts.extend_from_slice(text.as_bytes())?;
+        append(&mut self.texts, text.as_bytes())?;
         Ok(Span {
             from,
             to: self.texts.len(),
