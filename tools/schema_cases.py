@@ -552,8 +552,33 @@ KINDS = (
     '"stringList":{"$id":"stringList","$defs":{"itemType":{"$dynamicAnchor":"itemType","type":"string"}},"$ref":"genericList"}}}'
 )
 
+# Two lists of one kind, and a list of them, in one another; each names the items.
+SCOPES = (
+    '"$defs":{"g":{"$id":"g","items":{"$dynamicRef":"#T"},"$defs":{"t":{"$dynamicAnchor":"T"}}},"a":{"$id":"a","$ref":"b","$defs":{"t":{"$dynamicAnchor":"T","type":"integer"}}},'
+    '"b":{"$id":"b","$ref":"g","$defs":{"t":{"$dynamicAnchor":"T","type":"string"}}}}'
+)
+# Two trees that extend one.
+TREES = (
+    '{"properties":{"x":{"$ref":"s"},"y":{"$ref":"u"},"z":{"$ref":"tree"}},"$defs":{"tree":{"$id":"tree","$dynamicAnchor":"node","type":"object","properties":{"data":true,"children":{"items":{"$dynamicRef":"#node"}}}},'
+    '"s":{"$id":"s","$dynamicAnchor":"node","$ref":"tree","unevaluatedProperties":false},"u":{"$id":"u","$dynamicAnchor":"node","$ref":"tree","required":["data"]}}}'
+)
+
 # Core, 8.2.3.2: dynamic references to names in a document with resources.
 DYNAMIC = [
+    (KINDS, ['{"kindOfList":"numbers","list":[1.1]}', '{"kindOfList":"strings","list":["foo"]}'],
+     [('{"kindOfList":"numbers","list":["foo"]}', "/list/0", "/then/$ref/$ref/properties/list/items/$dynamicRef/type"),
+      ('{"kindOfList":"strings","list":[1.1]}', "/list/0", "/else/$ref/$ref/properties/list/items/$dynamicRef/type")]),
+    # The outermost resource of those that have led to the reference tells, also where they are entered without one, or by a pointer.
+    ('{"properties":{"x":{"$ref":"a"},"y":{"$ref":"b"},"z":{"$ref":"g"}},%s}' % SCOPES, ['{"x":[1],"y":["a"],"z":[1,"a"]}', "{}"],
+     [('{"x":["a"]}', "/x/0", "/properties/x/$ref/$ref/$ref/items/$dynamicRef/type"), ('{"y":[1]}', "/y/0", "/properties/y/$ref/$ref/items/$dynamicRef/type")]),
+    ('{"properties":{"x":{"$id":"c","$ref":"b","$defs":{"t":{"$dynamicAnchor":"T","type":"null"}}},"y":{"$ref":"#/$defs/b"},"z":{"$id":"d","$ref":"a"}},%s}' % SCOPES,
+     ['{"x":[null],"y":["a"],"z":[1]}'],
+     [('{"x":["a"]}', "/x/0", "/properties/x/$ref/$ref/items/$dynamicRef/type"), ('{"y":[null]}', "/y/0", "/properties/y/$ref/$ref/items/$dynamicRef/type"),
+      ('{"z":[null]}', "/z/0", "/properties/z/$ref/$ref/$ref/items/$dynamicRef/type")]),
+    (TREES, ['{"x":{"children":[{"data":1}]},"y":{"data":1,"k":2,"children":[{"data":1,"k":2}]},"z":{"k":1,"children":[{"k":2}]}}'],
+     [('{"x":{"children":[{"k":1}]}}', "/x/children/0/k", "/properties/x/$ref/$ref/properties/children/items/$dynamicRef/unevaluatedProperties"),
+      ('{"y":{"data":1,"children":[{}]}}', "/y/children/0", "/properties/y/$ref/$ref/properties/children/items/$dynamicRef/required"),
+      ('{"z":{"children":[1]}}', "/z/children/0", "/properties/z/$ref/properties/children/items/$dynamicRef/type")]),
     # The strict tree's node is taken in the tree, too, unless it or the tree's has the name by `$anchor`.
     (STRICT_TREE % ("$dynamicAnchor", TREE % ("", "$dynamicAnchor")), ['{"children":[{"data":1}]}', '{"children":[{"children":[{}]}]}'],
      [('{"children":[{"daat":1}]}', "/children/0/daat", "/$ref/properties/children/items/$dynamicRef/unevaluatedProperties"), ('{"daat":1}', "/daat", "/unevaluatedProperties"),
@@ -640,8 +665,8 @@ REFUSED_RESOURCES = [
     ('{"$id":"https://example.com/a","$ref":"b#/$defs/z","$defs":{"b":{"$id":"b"}}}', "/$ref"), ('{"$id":"https://example.com/a","$ref":"c","$defs":{"b":{"$id":"b"}}}', "/$ref"),
     ('{"$defs":{"a":{"type":"null"},"b":{"$id":"b","$ref":"#/$defs/a"}}}', "/$defs/b/$ref"), ('{"$defs":{"b":{"$id":"b","$ref":"#"}}}', "/$defs/b/$ref"),
     ('{"$ref":"x","enum":[{"$id":"x"}]}', "/$ref"), ('{"$ref":"x","const":{"$id":"x"}}', "/$ref"), ('{"$ref":"x","properties":{"$id":{"$anchor":"x"}}}', "/$ref"),
-    # Of two schemas with the name none is in the whole's resource; there is none with the name; a resource has it twice.
-    (KINDS, "/$defs/genericList/properties/list/items/$dynamicRef"), ('{"$defs":{"a":{"$id":"a","$dynamicAnchor":"n"}},"$dynamicRef":"a#m"}', "/$dynamicRef"),
+    # There is none with the name; a resource has it twice.
+    ('{"$defs":{"a":{"$id":"a","$dynamicAnchor":"n"}},"$dynamicRef":"a#m"}', "/$dynamicRef"),
     ('{"$defs":{"a":{"$id":"a","$dynamicAnchor":"n"}},"$dynamicRef":"#n"}', "/$dynamicRef"), ('{"$defs":{"n":{"$anchor":"n"},"o":{"$dynamicAnchor":"n"},"b":{"$id":"b"}}}', "/$defs/o/$dynamicAnchor"),
     ('{"$ref":"x#y z","$defs":{"a":{"$id":"x"}}}', "/$ref"), ('{"$ref":"x#1","allOf":[{"$id":"x"}]}', "/$ref"), ('{"$ref":"x#%FF","$defs":{"a":{"$id":"x"}}}', "/$ref"), ('{"$ref":"x#%2","$defs":{"a":{"$id":"x"}}}', "/$ref"),
 ]

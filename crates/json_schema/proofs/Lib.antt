@@ -1,3 +1,4 @@
+pub mod Scoping
 pub mod Settling
 pub mod Depths
 pub mod Examples

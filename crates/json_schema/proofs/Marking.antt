@@ -1,6 +1,6 @@
 -- Marks that are gathered, one after the other.
 use Rattle.std.proofs.Common.{◌≡◌, ◌∷◌, [], ◌++◌, ℕ, suc, ◌<◌, ◌≤◌, ◌+◌, List, Some, String, Global, length, get_or, drop}
-use Rattle.std.proofs.Common.{Bool, true, false, cond, encode_utf8_all, string_bytes, sym, ap, ◌∙◌, subst, append_assoc, append-nil}
+use Rattle.std.proofs.Common.{true, false, cond, encode_utf8_all, string_bytes, sym, ap, ◌∙◌, subst, append_assoc, append-nil}
 use Rattle.std.proofs.Common.{arith}
 use Rattle.std.proofs.lemmas.List.{map-append}
 use Rattle.tinyjson.proofs.Callers.{view_String}
@@ -9,7 +9,7 @@ use Rattle.tinyjson.specs.View.{view, text, items_view, members_listed}
 use Rattle.tinyjson.specs.declared.value.JsonValue.{JsonValue}
 use Rattle.tinyjson.specs.declared.value.JsonValue.TheVariants as is
 use Rattle.uri_reference.specs.Resolving.{resolved, without_fragment}
-use Rattle.json_schema.specs.Bundles.{Marked, base_by, with_name, is_fragment, is_resource, resource_marks, name_marks, outside_marks}
+use Rattle.json_schema.specs.Bundles.{Marked, base_by, with_name, reference_kind, is_resource, resource_marks, name_marks, reference_marks}
 use Rattle.json_schema.specs.Bundles.{at_key, at_index, marks_in, marks_among, marks_of_items, marks_of_members, marks_of_keyword}
 use Rattle.json_schema.specs.Bundles.{marked, all_marked, Gathers}
 use Rattle.json_schema.specs.declared.mark.Kind.{Kind}
@@ -51,17 +51,10 @@ name_marked v s k b p bs m old e h f =
     ∙ ap (name_marks k b p) (sym (ap view e ∙ view_String s))) (one_marked m old)
 
 module _ (v : JsonValue) (s : String Global) (p bs : List ℕ) (old : List Mark) (e : v ≡ is.String s) (h : bs ≡ string_bytes s) where
-  outside : (t : Bool) → is_fragment bs ≡ t → cond t [] ((kind.Outside, bs, p) ∷ []) ≡ outside_marks p (view v)
-  outside t f = ap (λ x. cond x [] ((kind.Outside, bs, p) ∷ [])) (sym f)
-      ∙ (ap (λ xs. cond (is_fragment xs) [] ((kind.Outside, xs, p) ∷ [])) (text_bytes s bs h)
-      ∙ ap (outside_marks p) (sym (ap view e ∙ view_String s)))
-
-  pub outside_marked : (m : Mark) → is_fragment bs ≡ false → marked m ≡ (kind.Outside, bs, p)
-      → Gathers (outside_marks p (view v)) old (old ++ m ∷ [])
-  outside_marked m f g = subst (λ ms. Gathers ms old (old ++ m ∷ [])) (ap (λ x. x ∷ []) g ∙ outside false f) (one_marked m old)
-
-  pub inside_kept : is_fragment bs ≡ true → Gathers (outside_marks p (view v)) old old
-  inside_kept f = subst (λ ms. Gathers ms old old) (outside true f) (none_marked old)
+  pub reference_marked : (m : Mark) → marked m ≡ (reference_kind bs, bs, p) → Gathers (reference_marks p (view v)) old (old ++ m ∷ [])
+  reference_marked m g = subst (λ ms. Gathers ms old (old ++ m ∷ []))
+      (ap (λ x. x ∷ []) (g ∙ ap (λ xs. (reference_kind xs, xs, p)) (text_bytes s bs h))
+      ∙ ap (reference_marks p) (sym (ap view e ∙ view_String s))) (one_marked m old)
 
 -- ---- the loops
 

@@ -1,5 +1,5 @@
 -- Where URIs lead in a document: the map of places, and what is looked up in it.
-use Rattle.std.proofs.Common.{◌≡◌, ◌∷◌, [], ◌++◌, ℕ, suc, ◌<◌, ◌≤◌, ◌-◌, Bool, true, false, ◌&&◌, cond, List, Option, Some, None}
+use Rattle.std.proofs.Common.{◌≡◌, ◌∷◌, [], ℕ, suc, ◌<◌, ◌≤◌, ◌-◌, Bool, true, false, ◌&&◌, cond, List, Option, Some, None}
 use Rattle.std.proofs.Common.{String, Global, length, get_or, bytes_eq, drop, option_map, string_bytes, refl, sym, ap, ◌∙◌, subst, arith}
 use Rattle.std.proofs.lemmas.Map.Text.{btree_map_updates_text}
 use Rattle.std.proofs.lemmas.Str.{is_utf8-from_IsUtf8, IsUtf8-from_is_utf8}
@@ -10,15 +10,16 @@ use Rattle.std.specs.Prelude.{unwrap_or, option_and_then}
 use Rattle.std.specs.Str.{IsUtf8, chars, is_utf8}
 use Rattle.std.specs.String.{string_cmp}
 use Rattle.tinyjson.proofs.Callers.{view_String}
-use Rattle.tinyjson.specs.Tree.{string}
+use Rattle.tinyjson.specs.Tree.{Tree, string}
 use Rattle.tinyjson.specs.View.{view}
 use Rattle.tinyjson.specs.declared.value.JsonValue.{JsonValue}
 use Rattle.tinyjson.specs.declared.value.JsonValue.TheVariants as made
 use Rattle.uri_reference.specs.Resolving.{resolved, without_fragment, fragment_of}
-use Rattle.json_schema.specs.Bundles.{Places, Leads, begins_pointer, leads_in, leads_by, leads_from, destination}
+use Rattle.json_schema.specs.Bundles.{Places, Leads, begins_pointer, place_below, leads_in, leads_by, first_place, destination}
 use Rattle.json_schema.specs.Bundles.{with_name, string_of, pointing}
 use Rattle.json_schema.specs.Bundles.{is_own_id, kept_id, is_own_anchor, kept_anchor}
-use Rattle.json_schema.specs.References.{number_sign, percent_decoded}
+use Rattle.json_schema.specs.References.{number_sign, percent_decoded, at_pointer}
+use Rattle.json_schema.specs.Scopes.{schema_there}
 use Rattle.json_schema.specs.Bundles.{Marked, is_place, place_of, places_in, HasPlaces, marked, all_marked}
 use Rattle.json_schema.specs.declared.mark.Mark.{Mark}
 use Rattle.json_schema.proofs.Lookups.{text_bytes}
@@ -66,43 +67,64 @@ module _ (xs : List Mark) (n : ℕ) (a : Mark) (more : 0 < n) (among : n ≤ len
 
 -- ---- where a URI leads, by its fragment f
 
-module _ (to : Leads) (dynamic : Bool) (t f : List ℕ) (same : f ≡ unwrap_or (fragment_of t) []) where
-  pub no_bytes : None ≡ percent_decoded f → None ≡ destination to dynamic t
-  no_bytes h = ap (option_and_then (leads_by to dynamic (without_fragment t) f)) h ∙ ap (leads_from to dynamic (without_fragment t)) same
+module _ (to : Leads) (dynamic : Bool) (b t f : List ℕ) (same : f ≡ unwrap_or (fragment_of t) []) where
+  abbrev found : List ℕ → Option (List ℕ)
+  found ds = leads_by to dynamic b (without_fragment t) ds
+
+  pub no_bytes : None ≡ percent_decoded f → None ≡ first_place to dynamic b t
+  no_bytes h = ap (option_and_then found) (h ∙ ap percent_decoded same)
 
   module _ (ds : List ℕ) (is : Some ds ≡ percent_decoded f) where
-    decoded : leads_by to dynamic (without_fragment t) f ds ≡ destination to dynamic t
-    decoded = ap (option_and_then (leads_by to dynamic (without_fragment t) f)) is ∙ ap (leads_from to dynamic (without_fragment t)) same
+    decoded : found ds ≡ first_place to dynamic b t
+    decoded = ap (option_and_then found) (is ∙ ap percent_decoded same)
 
-    pub no_text : ¬ IsUtf8 ds → None ≡ destination to dynamic t
+    pub no_text : ¬ IsUtf8 ds → None ≡ first_place to dynamic b t
     no_text n = by (is_utf8 ds) refl ∙ decoded
       where
-        by : (b : Bool) → is_utf8 ds ≡ b → None ≡ cond b (leads_in to dynamic (without_fragment t) f ds) None
+        by : (x : Bool) → is_utf8 ds ≡ x → None ≡ cond x (leads_in to dynamic b (without_fragment t) ds) None
         by true e = absurd (n (IsUtf8-from_is_utf8 ds e))
         by false e = refl
 
-    leads : IsUtf8 ds → leads_in to dynamic (without_fragment t) f ds ≡ destination to dynamic t
-    leads u = ap (λ b. cond b (leads_in to dynamic (without_fragment t) f ds) None) (sym (is_utf8-from_IsUtf8 ds u)) ∙ decoded
+    leads : IsUtf8 ds → leads_in to dynamic b (without_fragment t) ds ≡ first_place to dynamic b t
+    leads u = ap (λ x. cond x (leads_in to dynamic b (without_fragment t) ds) None) (sym (is_utf8-from_IsUtf8 ds u)) ∙ decoded
+
+    abbrev one_of : Bool → Option (List ℕ)
+    one_of x = cond x (option_and_then (λ p. place_below p ds) (to.0 (without_fragment t)))
+        (cond dynamic (to.1 b (without_fragment t) ds) (to.0 (with_name (without_fragment t) ds)))
 
     pub pointer_leads : IsUtf8 ds → begins_pointer ds ≡ true
-        → option_map (λ q. q ++ f) (to.0 (without_fragment t)) ≡ destination to dynamic t
-    pointer_leads u b = ap (λ x. cond x (option_map (λ q. q ++ f) (to.0 (without_fragment t)))
-        (cond dynamic (to.1 (without_fragment t) ds) (to.0 (with_name (without_fragment t) ds)))) (sym b) ∙ leads u
+        → option_and_then (λ p. place_below p ds) (to.0 (without_fragment t)) ≡ first_place to dynamic b t
+    pointer_leads u h = ap one_of (sym h) ∙ leads u
 
     pub name_leads : IsUtf8 ds → begins_pointer ds ≡ false
-        → cond dynamic (to.1 (without_fragment t) ds) (to.0 (with_name (without_fragment t) ds)) ≡ destination to dynamic t
-    name_leads u b = ap (λ x. cond x (option_map (λ q. q ++ f) (to.0 (without_fragment t)))
-        (cond dynamic (to.1 (without_fragment t) ds) (to.0 (with_name (without_fragment t) ds)))) (sym b) ∙ leads u
+        → cond dynamic (to.1 b (without_fragment t) ds) (to.0 (with_name (without_fragment t) ds)) ≡ first_place to dynamic b t
+    name_leads u h = ap one_of (sym h) ∙ leads u
+
+-- ---- the schema at a place
+
+module _ (t : Tree) (p ds : List ℕ) (is : Some ds ≡ percent_decoded p) where
+  abbrev there : List ℕ → Option Tree
+  there bs = cond (is_utf8 bs) (at_pointer t (chars bs)) None
+
+  pub schema_found : IsUtf8 ds → at_pointer t (chars ds) ≡ schema_there t p
+  schema_found u = ap (λ b. cond b (at_pointer t (chars ds)) None) (sym (is_utf8-from_IsUtf8 ds u)) ∙ ap (option_and_then there) is
+
+  pub schema_missing : ¬ IsUtf8 ds → None ≡ schema_there t p
+  schema_missing n = by (is_utf8 ds) refl ∙ ap (option_and_then there) is
+    where
+      by : (x : Bool) → is_utf8 ds ≡ x → None ≡ cond x (at_pointer t (chars ds)) None
+      by true e = absurd (n (IsUtf8-from_is_utf8 ds e))
+      by false e = refl
 
 -- ---- a text, as it stays
 
 module _ (v : JsonValue) (s : String Global) (bs : List ℕ) (e : v ≡ made.String s) (h : bs ≡ string_bytes s) where
-  pub reference_pointed : (to : Leads) (dynamic : Bool) (b : List ℕ) (o : Option (List ℕ)) → o ≡ destination to dynamic (resolved b bs)
+  pub reference_pointed : (to : Leads) (dynamic : Bool) (b : List ℕ) (o : Option (List ℕ)) → o ≡ destination to dynamic b (resolved b bs)
       → option_map_or (λ p. string_of (number_sign ∷ p)) o (view v) ≡ pointing to dynamic b (view v)
   reference_pointed to dynamic b o g =
       ap (λ w. option_map_or (λ p. string_of (number_sign ∷ p)) o w) (ap view e ∙ view_String s)
       ∙ (ap (λ x. option_map_or (λ p. string_of (number_sign ∷ p)) x (string (chars (string_bytes s))))
-      (g ∙ ap (λ xs. destination to dynamic (resolved b xs)) (text_bytes s bs h))
+      (g ∙ ap (λ xs. destination to dynamic b (resolved b xs)) (text_bytes s bs h))
       ∙ ap (pointing to dynamic b) (sym (ap view e ∙ view_String s)))
 
   pub id_said : (at : Places) (b p : List ℕ) → cond (is_own_id at b p bs) None (Some (view v)) ≡ kept_id at b p (view v)

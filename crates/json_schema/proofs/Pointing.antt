@@ -1,12 +1,13 @@
 -- A document with each reference as a pointer, one keyword, item or member after the other.
 use Rattle.std.proofs.Common.{◌≡◌, ◌∷◌, [], ◌++◌, ℕ, suc, ◌<◌, ◌≤◌, ◌+◌, ◌-◌, List, Option, length}
-use Rattle.std.proofs.Common.{true, false, cond, get_or, drop, chars, encode_utf8_all, string_bytes, refl, sym, ap, ◌∙◌, arith}
+use Rattle.std.proofs.Common.{Bool, true, false, cond, get_or, drop, chars, encode_utf8_all, string_bytes, refl, sym, ap, ◌∙◌, arith}
 use Rattle.tinyjson.specs.Tree.{Tree, Items, no_items, item, Members, put}
 use Rattle.tinyjson.specs.View.{view, text, items_view, members_listed}
 use Rattle.tinyjson.specs.declared.value.JsonValue.{JsonValue}
-use Rattle.json_schema.specs.Bundles.{Places, Leads, leads_of, at_key, at_index, kept_of, put_some}
+use Rattle.json_schema.specs.Bundles.{Places, Leads, at_key, at_index, kept_of, put_some}
 use Rattle.json_schema.specs.Bundles.{pointed, pointed_among, pointed_items, pointed_members}
-use Rattle.json_schema.specs.Bundles.{Marked, base_in, marks_of, is_bundle, place_of, bundled}
+use Rattle.json_schema.specs.Bundles.{Marked, base_in, marks_of, is_bundle, place_of}
+use Rattle.json_schema.specs.Scopes.{Reached, letters, some_contested, with_copies, bundled}
 use Rattle.json_schema.proofs.Listed.{Listed}
 use Rattle.json_schema.proofs.Lookups.{text_bytes}
 use Rattle.json_schema.proofs.Turns.{drop_suc, drop_item, drop_end}
@@ -81,15 +82,22 @@ module _ (to : Leads) (b p : List ℕ) where
 
 -- ---- the whole
 
-pub bundle_made : (t : Tree) (ms ns : List Marked) (r : List ℕ) (at : Places) → ms ≡ marks_of t → ns ≡ ms → is_bundle ms ≡ true
-    → r ≡ base_in [] t → ((u : List ℕ) → at u ≡ place_of ms u) → pointed (leads_of at ns r) [] [] t ≡ bundled t
-bundle_made t ms ns r at e f is g h =
+pub bundle_made : (t : Tree) (ms : List Marked) (r z : List ℕ) (some : Bool) (at : Places) (copies : List Reached) → ms ≡ marks_of t
+    → is_bundle ms ≡ true → r ≡ base_in [] t → z ≡ letters t → some ≡ some_contested ms r ms → ((u : List ℕ) → at u ≡ place_of ms u)
+    → with_copies at ms r z some copies t copies ≡ bundled copies t
+bundle_made t ms r z some at copies e is g f k h =
     let same : at ≡ place_of ms = λ i. λ u. h u i in
-    ap (λ x. pointed (leads_of x ns r) [] [] t) same ∙ (ap (λ xs. pointed (leads_of (place_of ms) xs r) [] [] t) f
-    ∙ (ap (λ u. pointed (leads_of (place_of ms) ms u) [] [] t) g
-    ∙ (ap (λ b. cond b (pointed (leads_of (place_of ms) ms (base_in [] t)) [] [] t) t) (sym is)
-    ∙ ap (λ xs. cond (is_bundle xs) (pointed (leads_of (place_of xs) xs (base_in [] t)) [] [] t) t) e)))
+    ap (λ x. with_copies x ms r z some copies t copies) same
+    ∙ (ap (λ x. with_copies (place_of ms) ms r z x copies t copies) k
+    ∙ (ap (λ x. with_copies (place_of ms) ms r x (some_contested ms r ms) copies t copies) f
+    ∙ (ap (λ x. with_copies (place_of ms) ms x (letters t) (some_contested ms x ms) copies t copies) g
+    ∙ (ap (λ b. cond b
+    (with_copies (place_of ms) ms (base_in [] t) (letters t) (some_contested ms (base_in [] t) ms) copies t copies) t) (sym is)
+    ∙ ap (λ xs. cond (is_bundle xs) (with_copies (place_of xs) xs (base_in [] t) (letters t) (some_contested xs (base_in [] t) xs)
+    copies t copies) t) e))))
 
-pub no_bundle : (t : Tree) (ms : List Marked) → ms ≡ marks_of t → is_bundle ms ≡ false → t ≡ bundled t
-no_bundle t ms e is = ap (λ b. cond b (pointed (leads_of (place_of ms) ms (base_in [] t)) [] [] t) t) (sym is)
-    ∙ ap (λ xs. cond (is_bundle xs) (pointed (leads_of (place_of xs) xs (base_in [] t)) [] [] t) t) e
+pub no_bundle : (t : Tree) (ms : List Marked) → ms ≡ marks_of t → is_bundle ms ≡ false → t ≡ bundled [] t
+no_bundle t ms e is =
+    let whole : List Marked → Tree = λ xs.
+    with_copies (place_of xs) xs (base_in [] t) (letters t) (some_contested xs (base_in [] t) xs) [] t [] in
+    ap (λ b. cond b (whole ms) t) (sym is) ∙ ap (λ xs. cond (is_bundle xs) (whole xs) t) e

@@ -12,6 +12,7 @@ use Rattle.tinyjson.specs.Access.{is_string}
 use Rattle.tinyjson.specs.Characters.{solidus, tilde}
 use Rattle.tinyjson.specs.Tree.{Tree, string, array, object, Items, no_items, item, Members, no_members, member, put}
 use Rattle.uri_reference.specs.Resolving.{resolved, without_fragment, fragment_of}
+use Rattle.json_pointer.specs.Text.{pointer_tokens}
 use Rattle.json_schema.specs.Anchors.{is_plain_name}
 use Rattle.json_schema.specs.Applied.{schema_at}
 use Rattle.json_schema.specs.Forms.{form_at}
@@ -19,7 +20,6 @@ use Rattle.json_schema.specs.Names.{name}
 use Rattle.json_schema.specs.References.{percent, number_sign, percent_decoded}
 use Rattle.json_schema.specs.declared.form.Form.{Form}
 use Rattle.json_schema.specs.declared.form.Form.TheVariants as form
-use Rattle.json_schema.specs.declared.guide.Guide.{Guide}
 use Rattle.json_schema.specs.declared.keyword.Keyword.TheVariants as kw
 use Rattle.json_schema.specs.declared.mark.Kind.{Kind}
 use Rattle.json_schema.specs.declared.mark.Kind.TheVariants as kind
@@ -85,9 +85,12 @@ abbrev pub is_fragment : List ℕ → Bool
 is_fragment [] = false
 is_fragment (b ∷ bs) = b == number_sign
 
-abbrev pub outside_marks : List ℕ → Tree → List Marked
-outside_marks p (string cs) = cond (is_fragment (encode_utf8_all cs)) [] ((kind.Outside, encode_utf8_all cs, p) ∷ [])
-outside_marks p _ = []
+abbrev pub reference_kind : List ℕ → Kind
+reference_kind bs = cond (is_fragment bs) kind.Inside kind.Outside
+
+abbrev pub reference_marks : List ℕ → Tree → List Marked
+reference_marks p (string cs) = (reference_kind (encode_utf8_all cs), encode_utf8_all cs, p) ∷ []
+reference_marks p _ = []
 
 -- of a keyword's value: of itself, or of the schemas in it
 abbrev pub marks_by : Form → List Marked → List Marked → List Marked → List Marked → List Marked → List Marked
@@ -108,7 +111,8 @@ abbrev mutual
   pub marks_among : List ℕ → List ℕ → Members → List Marked
   marks_among b p no_members = []
   marks_among b p (member k w ms) = marks_by (form_at (encode_utf8_all k)) (name_marks (name_kind (encode_utf8_all k)) b p w)
-      (outside_marks p w) (marks_in b (at_key p k) w) (marks_in_list b (at_key p k) w) (marks_in_map b (at_key p k) w) ++ marks_among b p ms
+      (reference_marks p w) (marks_in b (at_key p k) w) (marks_in_list b (at_key p k) w) (marks_in_map b (at_key p k) w)
+      ++ marks_among b p ms
 
   pub marks_in_list : List ℕ → List ℕ → Tree → List Marked
   marks_in_list b p (array ts) = marks_of_items b p 0 ts
@@ -135,6 +139,7 @@ abbrev pub is_bundled_by : Kind → List ℕ → Bool
 is_bundled_by kind.Resource p = not (is_empty p)
 is_bundled_by kind.Name p = false
 is_bundled_by kind.DynamicName p = false
+is_bundled_by kind.Inside p = false
 is_bundled_by kind.Outside p = true
 
 abbrev pub is_bundle : List Marked → Bool
@@ -142,6 +147,7 @@ is_bundle [] = false
 is_bundle (m ∷ ms) = is_bundled_by m.0 m.2 || is_bundle ms
 
 abbrev pub is_place : Kind → Bool
+is_place kind.Inside = false
 is_place kind.Outside = false
 is_place _ = true
 
@@ -188,37 +194,39 @@ outermost ms r n p = option_or (dynamic_place ms (with_name r n)) (cond (is_only
 abbrev pub Places : Type 0
 Places = List ℕ → Option (List ℕ)
 
--- In the resource u, a dynamic reference to a name by `$anchor` leads to it.
-abbrev pub leads_on : Places → List Marked → List ℕ → List ℕ → List ℕ → Option (List ℕ)
-leads_on at ms r u n = option_map_or (outermost ms r n) (dynamic_place ms (with_name u n)) (at (with_name u n))
-
 -- ---- where references lead
 
--- the place of a URI, and the one where a dynamic reference to a name in a resource leads
+-- the place of a URI; from a schema with the base URI b, the one where a dynamic reference to a name in a resource leads; and the
+-- one where a place that a reference leads to is found
 abbrev pub Leads : Type 0
-Leads = Places × (List ℕ → List ℕ → Option (List ℕ))
-
-abbrev pub leads_of : Places → List Marked → List ℕ → Leads
-leads_of at ms r = (at, leads_on at ms r)
+Leads = Places × (List ℕ → List ℕ → List ℕ → Option (List ℕ)) × (List ℕ → List ℕ → List ℕ)
 
 abbrev pub begins_pointer : List ℕ → Bool
 begins_pointer [] = true
 begins_pointer (b ∷ bs) = b == solidus
 
--- In the resource u, the fragment f is a pointer, or the name ds, which it is percent-encoded.
+-- where tokens lead from the place p
+abbrev pub place_after : List ℕ → List (List ℕ) → List ℕ
+place_after p [] = p
+place_after p (k ∷ ks) = place_after (at_key p k) ks
+
+abbrev pub place_below : List ℕ → List ℕ → Option (List ℕ)
+place_below p ds = option_map (place_after p) (pointer_tokens (chars ds))
+
+-- From a schema with the base URI b, in the resource u: the fragment is percent-encoded for ds, a pointer or a name.
 abbrev pub leads_in : Leads → Bool → List ℕ → List ℕ → List ℕ → Option (List ℕ)
-leads_in to dynamic u f ds = cond (begins_pointer ds) (option_map (λ p. p ++ f) (to.0 u))
-    (cond dynamic (to.1 u ds) (to.0 (with_name u ds)))
+leads_in to dynamic b u ds = cond (begins_pointer ds) (option_and_then (λ p. place_below p ds) (to.0 u))
+    (cond dynamic (to.1 b u ds) (to.0 (with_name u ds)))
 
 abbrev pub leads_by : Leads → Bool → List ℕ → List ℕ → List ℕ → Option (List ℕ)
-leads_by to dynamic u f ds = cond (is_utf8 ds) (leads_in to dynamic u f ds) None
-
-abbrev pub leads_from : Leads → Bool → List ℕ → List ℕ → Option (List ℕ)
-leads_from to dynamic u f = option_and_then (leads_by to dynamic u f) (percent_decoded f)
+leads_by to dynamic b u ds = cond (is_utf8 ds) (leads_in to dynamic b u ds) None
 
 -- the place that the URI t leads to
-abbrev pub destination : Leads → Bool → List ℕ → Option (List ℕ)
-destination to dynamic t = leads_from to dynamic (without_fragment t) (unwrap_or (fragment_of t) [])
+abbrev pub first_place : Leads → Bool → List ℕ → List ℕ → Option (List ℕ)
+first_place to dynamic b t = option_and_then (leads_by to dynamic b (without_fragment t)) (percent_decoded (unwrap_or (fragment_of t) []))
+
+abbrev pub destination : Leads → Bool → List ℕ → List ℕ → Option (List ℕ)
+destination to dynamic b t = option_map (to.2 b) (first_place to dynamic b t)
 
 -- ---- the document with pointers
 
@@ -229,7 +237,7 @@ string_of bs = string (chars bs)
 -- a reference as a pointer; one that leads nowhere stays
 abbrev pub pointing : Leads → Bool → List ℕ → Tree → Tree
 pointing to dynamic b (string cs) =
-    option_map_or (λ p. string_of (number_sign ∷ p)) (destination to dynamic (resolved b (encode_utf8_all cs))) (string cs)
+    option_map_or (λ p. string_of (number_sign ∷ p)) (destination to dynamic b (resolved b (encode_utf8_all cs))) (string cs)
 pointing to dynamic b w = w
 
 -- the URI has the place p
@@ -298,14 +306,10 @@ abbrev mutual
   pointed_members to b p no_members = no_members
   pointed_members to b p (member k t ms) = put k (pointed to b (at_key p k) t) (pointed_members to b p ms)
 
--- The document, in which each reference to a schema in it is a pointer from its root.
-abbrev pub bundled : Tree → Tree
-bundled t = cond (is_bundle (marks_of t)) (pointed (leads_of (place_of (marks_of t)) (marks_of t) (base_in [] t)) [] [] t) t
-
 -- ---- words of private contracts
 
 abbrev pub marks_of_keyword : List ℕ → List ℕ → List ℕ → List ℕ → Tree → List Marked
-marks_of_keyword key b p q w = marks_by (form_at key) (name_marks (name_kind key) b p w) (outside_marks p w) (marks_in b q w)
+marks_of_keyword key b p q w = marks_by (form_at key) (name_marks (name_kind key) b p w) (reference_marks p w) (marks_in b q w)
     (marks_in_list b q w) (marks_in_map b q w)
 
 abbrev pub kept_of : Leads → List ℕ → List ℕ → List ℕ → List ℕ → Tree → Option Tree
@@ -328,6 +332,3 @@ places_in m u = option_map string_bytes (tree.get_by_text m u)
 -- The map has the places of these.
 abbrev pub HasPlaces : List Marked → BTreeMap (String Global) (String Global) → Type 0
 HasPlaces ms m = (u : List ℕ) → places_in m u ≡ place_of ms u
-
-abbrev pub guided : Guide → Leads
-guided g = leads_of (places_in g.places.now) (all_marked g.marks.now) g.root.now

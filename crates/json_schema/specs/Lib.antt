@@ -17,6 +17,7 @@ pub mod Refused
 pub mod Report
 pub mod Run
 pub mod Schemas
+pub mod Scopes
 pub mod Sources
 pub mod Told
 pub mod Unknown

@@ -1,24 +1,28 @@
 //! A document with each reference to a schema in it as a pointer from its root.
-ghost use Rattle.std.specs.Prelude.{◌≡◌, ◌&&◌, IfOk, OnOk, option_map};
+ghost use Rattle.std.specs.Prelude.{◌≡◌, ◌&&◌, List, IfOk, OnOk, option_map};
 ghost use Rattle.std.specs.Str.{chars};
 ghost use Rattle.std.specs.String.{string_bytes};
 ghost use Rattle.tinyjson.specs.Tree.{put};
 ghost use Rattle.tinyjson.specs.View.{view, items_view, members_view, members_listed};
 ghost use Rattle.json_schema.specs.Anchors.{is_plain_name};
-ghost use Rattle.json_schema.specs.Bundles.{places_in, guided};
-ghost use Rattle.json_schema.specs.Bundles.{begins_pointer, destination, pointing};
+ghost use Rattle.json_schema.specs.Bundles.{places_in, begins_pointer, first_place};
+ghost use Rattle.json_schema.specs.Bundles.{destination, pointing};
 ghost use Rattle.json_schema.specs.Bundles.{is_here, is_own_id, kept_id};
-ghost use Rattle.json_schema.specs.Bundles.{kept_anchor, kept_of, put_some, is_dynamic, with_name};
+ghost use Rattle.json_schema.specs.Bundles.{kept_anchor, kept_by, kept_of, put_some, is_dynamic};
 ghost use Rattle.json_schema.specs.Bundles.{pointed, pointed_among, pointed_list, pointed_map};
-ghost use Rattle.json_schema.specs.Bundles.{pointed_items, pointed_members, bundled};
+ghost use Rattle.json_schema.specs.Bundles.{pointed_items, pointed_members};
+ghost use Rattle.json_schema.specs.Forms.{form_at};
+ghost use Rattle.json_schema.specs.Scopes.{Reached, guided, bundled};
 
 use crate::anchor::is_plain_name;
+use crate::copies::{copies_of, letters, with_copies};
 use crate::form::{Form, form_at};
-use crate::guide::{Guide, fragment_in, place_below, place_of_dynamic, place_of_name, places_of};
+use crate::guide::{Guide, fragment_in, place_below, place_of_name, places_of};
 use crate::keyword::Keyword;
 use crate::mark::{Spot, base_in, is_bundle, marks_of, with_name};
 use crate::place::{at_index, at_key};
 use crate::reference::percent_decoded;
+use crate::scope::{State, moved, place_of_dynamic, some_contested};
 use std::alloc::{AllocError, Global};
 use std::collections::{BTreeMap, HashMap};
 use std::str;
@@ -26,36 +30,49 @@ use tinyjson::{JsonValue, insert_member, sorted_members};
 use uri_reference::{resolve, without_fragment};
 
 /// The document as one schema resource: each reference that leads to a schema in it, also to one in another resource,
-/// is a pointer from the root, and the `$id`s and names of schemas in it are left out (Core, 8.2.1, 8.2.3.2 and 9.3). What
-/// can't be changed so, as a reference that leads elsewhere, stays, so that [`Schema::read`](crate::schema::Schema::read)
-/// refuses it at its place. The only error is out of memory.
+/// is a pointer from the root, and the `$id`s and names of schemas in it are left out (Core, 8.2.1, 8.2.3.2 and 9.3). A
+/// resource in which a dynamic reference leads elsewhere by what has led to it is copied into `$defs`. What can't be changed
+/// so, as a reference that leads elsewhere, stays, so that [`Schema::read`](crate::schema::Schema::read) refuses it at its
+/// place. The only error is out of memory.
 ///
 /// It calls itself for each schema in the schema, so it takes stack as the schema is deep. Not inlined, so that a check
 /// that comes after it has the stack.
 #[inline(never)]
 pub fn bundled(document: &JsonValue, alloc: Global) -> Result<JsonValue, AllocError>
-    ensures { IfOk result (λ v. view v ≡ bundled (view document.now)) }
+    ensures { IfOk result (λ v. (copies : List Reached)
+        × (view v ≡ bundled copies (view document.now))) }
 {
-    let marks = marks_of(document, alloc)?;
-    if !is_bundle(marks.as_slice()) {
+    let gathered = marks_of(document, alloc)?;
+    let marks = gathered.as_slice();
+    if !is_bundle(marks) {
         return document.try_clone(alloc);
     }
-    let places = places_of(marks.as_slice(), alloc)?;
-    let root = base_in("", document, alloc)?;
+    let places = places_of(marks, alloc)?;
+    let uri = base_in("", document, alloc)?;
+    let root = uri.as_str();
+    let letters = letters(document, alloc)?;
+    let letters = letters.as_str();
+    let contested = some_contested(marks, root, alloc)?;
+    let start = State::whole(alloc);
     let guide = Guide {
         places: &places,
-        marks: marks.as_slice(),
-        root: root.as_str(),
+        marks,
+        root,
+        contested,
+        letters,
+        copies: &[],
+        from: &start,
     };
-    let spot = Spot {
-        base: "",
-        place: "",
+    let copies = copies_of(&guide, alloc)?;
+    let guide = Guide {
+        copies: copies.as_slice(),
+        ..guide
     };
-    pointed(document, &guide, spot, alloc)
+    with_copies(document, &guide, alloc)
 }
 
 #[cycle(bundle)]
-fn pointed(
+pub fn pointed(
     schema: &JsonValue,
     guide: &Guide<'_>,
     spot: Spot<'_>,
@@ -79,7 +96,7 @@ fn pointed(
 
 /// The keywords of a schema that stay, from the last one on.
 #[cycle(bundle)]
-fn pointed_named(
+pub fn pointed_named(
     keywords: &[(&String, &JsonValue)],
     guide: &Guide<'_>,
     spot: Spot<'_>,
@@ -101,8 +118,10 @@ fn pointed_named(
     Ok(members)
 }
 
-/// What stays of a keyword's value, which is at the place.
+/// What stays of a keyword's value, which is at the place. Neither this is inlined nor what it calls, so that the recursion
+/// takes less stack.
 #[cycle(bundle)]
+#[inline(never)]
 fn kept_of(
     name: &str,
     operand: &JsonValue,
@@ -119,17 +138,15 @@ fn kept_of(
         place,
     };
     match form_at(name) {
-        Form::Base => kept_id(operand, spot, guide.places, alloc),
-        Form::Anchor => kept_anchor(operand, spot, guide.places, alloc),
-        Form::Reference => Ok(Some(pointing(operand, is_dynamic(name), spot.base, guide, alloc)?)),
         Form::Schema => Ok(Some(pointed(operand, guide, inner, alloc)?)),
         Form::Schemas => Ok(Some(pointed_list(operand, guide, inner, alloc)?)),
         Form::SchemaMap | Form::PatternMap => Ok(Some(pointed_map(operand, guide, inner, alloc)?)),
-        _ => Ok(Some(operand.try_clone(alloc)?)),
+        _ => kept_alone(name, operand, spot, guide, alloc),
     }
 }
 
 #[cycle(bundle)]
+#[inline(never)]
 fn pointed_list(
     schemas: &JsonValue,
     guide: &Guide<'_>,
@@ -170,6 +187,7 @@ fn pointed_items(
 }
 
 #[cycle(bundle)]
+#[inline(never)]
 fn pointed_map(
     schemas: &JsonValue,
     guide: &Guide<'_>,
@@ -188,7 +206,7 @@ fn pointed_map(
 }
 
 #[cycle(bundle)]
-fn pointed_members(
+pub fn pointed_members(
     schemas: &[(&String, &JsonValue)],
     guide: &Guide<'_>,
     spot: Spot<'_>,
@@ -215,7 +233,7 @@ fn pointed_members(
 }
 
 /// Puts the value at the key, if there is one.
-fn put_some(
+pub fn put_some(
     members: &mut HashMap<String, JsonValue>,
     key: &str,
     value: Option<JsonValue>,
@@ -232,7 +250,7 @@ fn put_some(
 
 /// Puts the value at the key, of which it makes a string.
 #[inline(never)]
-fn put_member(
+pub fn put_member(
     members: &mut HashMap<String, JsonValue>,
     key: &str,
     value: JsonValue,
@@ -248,8 +266,32 @@ fn put_member(
     insert_member(members, key, value)
 }
 
-/// An `$id` of the schema at the spot, unless it is left out.
+/// What stays of the value of a keyword that has no schemas.
 #[inline(never)]
+fn kept_alone(
+    name: &str,
+    operand: &JsonValue,
+    spot: Spot<'_>,
+    guide: &Guide<'_>,
+    alloc: Global,
+) -> Result<Option<JsonValue>, AllocError>
+    ensures { IfOk result (λ o. option_map view o ≡ kept_by (form_at name.now) (view operand.now)
+        (kept_id (places_in guide.now.places.now) spot.entry.base.now spot.entry.place.now
+        (view operand.now))
+        (kept_anchor (places_in guide.now.places.now) spot.entry.base.now spot.entry.place.now
+        (view operand.now))
+        (pointing (guided guide.now) (is_dynamic name.now) spot.entry.base.now (view operand.now))
+        (view operand.now) (view operand.now) (view operand.now)) }
+{
+    match form_at(name) {
+        Form::Base => kept_id(operand, spot, guide.places, alloc),
+        Form::Anchor => kept_anchor(operand, spot, guide.places, alloc),
+        Form::Reference => Ok(Some(pointing(operand, is_dynamic(name), spot.base, guide, alloc)?)),
+        _ => Ok(Some(operand.try_clone(alloc)?)),
+    }
+}
+
+/// An `$id` of the schema at the spot, unless it is left out.
 fn kept_id(
     operand: &JsonValue,
     spot: Spot<'_>,
@@ -287,7 +329,6 @@ fn is_here(uri: &str, place: &str, places: &BTreeMap<String, String>) -> bool
 }
 
 /// A name of the schema at the spot, unless it is left out.
-#[inline(never)]
 fn kept_anchor(
     operand: &JsonValue,
     spot: Spot<'_>,
@@ -323,7 +364,6 @@ fn is_dynamic(name: &str) -> bool
 }
 
 /// A reference in a schema with the base URI, as a pointer.
-#[inline(never)]
 fn pointing(
     reference: &JsonValue,
     dynamic: bool,
@@ -338,21 +378,39 @@ fn pointing(
         return reference.try_clone(alloc);
     };
     let target = resolve(alloc, base, text.as_str())?;
-    match destination(target.as_str(), dynamic, guide, alloc)? {
+    match destination(target.as_str(), dynamic, base, guide, alloc)? {
         Some(place) => Ok(JsonValue::String(format!(in alloc; "#{place}")?)),
         None => reference.try_clone(alloc),
     }
 }
 
-/// The place that a URI leads to.
+/// The place that a URI leads to, in the document or in a copy.
 fn destination(
     target: &str,
     dynamic: bool,
+    base: &str,
     guide: &Guide<'_>,
     alloc: Global,
 ) -> Result<Option<String>, AllocError>
     ensures { IfOk result (λ p. option_map string_bytes p
-        ≡ destination (guided guide.now) dynamic target.now) }
+        ≡ destination (guided guide.now) dynamic base.now target.now) }
+{
+    match first_place(target, dynamic, base, guide, alloc)? {
+        Some(place) => Ok(Some(moved(base, place, guide, alloc)?)),
+        None => Ok(None),
+    }
+}
+
+/// The place in the document that a URI leads to.
+pub fn first_place(
+    target: &str,
+    dynamic: bool,
+    base: &str,
+    guide: &Guide<'_>,
+    alloc: Global,
+) -> Result<Option<String>, AllocError>
+    ensures { IfOk result (λ p. option_map string_bytes p
+        ≡ first_place (guided guide.now) dynamic base.now target.now) }
 {
     let fragment = fragment_in(target);
     let Some(decoded) = percent_decoded(fragment.as_bytes(), alloc)? else {
@@ -363,9 +421,9 @@ fn destination(
     };
     let uri = without_fragment(target);
     if begins_pointer(decoded) {
-        place_below(uri, fragment, guide.places, alloc)
+        place_below(uri, decoded, guide.places, alloc)
     } else if dynamic {
-        place_of_dynamic(uri, decoded, guide, alloc)
+        place_of_dynamic(base, uri, decoded, guide, alloc)
     } else {
         place_of_name(uri, decoded, guide.places, alloc)
     }

@@ -1,23 +1,33 @@
 //! Where the URIs of a document lead.
-ghost use Rattle.std.specs.Prelude.{◌≡◌, ◌++◌, [], IfOk, option_map, unwrap_or};
+ghost use Rattle.std.specs.Prelude.{◌≡◌, [], IfOk, map, option_and_then, option_map, unwrap_or};
 ghost use Rattle.std.specs.String.{string_bytes};
+ghost use Rattle.tinyjson.specs.View.{text};
 ghost use Rattle.uri_reference.specs.Resolving.{fragment_of};
 ghost use Rattle.json_schema.specs.Bundles.{all_marked, is_place, HasPlaces, places_in};
-ghost use Rattle.json_schema.specs.Bundles.{with_name, guided, outermost, dynamic_place};
+ghost use Rattle.json_schema.specs.Bundles.{with_name, outermost, dynamic_place};
 ghost use Rattle.json_schema.specs.Bundles.{marked, is_dynamic_name, is_dynamic_at};
-ghost use Rattle.json_schema.specs.Bundles.{is_named, is_other, is_only};
+ghost use Rattle.json_schema.specs.Bundles.{is_named, is_other, is_only, place_after, place_below};
 
 use crate::mark::{Kind, Mark, with_name};
+use crate::place::at_key;
+use crate::reference::read_pointer;
+use crate::scope::State;
 use std::alloc::{AllocError, Global};
 use std::collections::BTreeMap;
 use uri_reference::fragment;
 
-/// What the references of a document are looked up in: the place of each URI, all marks, and the URI of the whole.
+/// What the references of a document are looked up in: the place of each URI, all marks, and the URI of the whole; whether
+/// what has led to a dynamic reference tells where it leads, what was reached so, and what has a copy, at a key that
+/// begins with the letters.
 #[derive(Clone, Copy)]
 pub struct Guide<'a> {
     pub places: &'a BTreeMap<String, String>,
     pub marks: &'a [Mark],
     pub root: &'a str,
+    pub contested: bool,
+    pub letters: &'a str,
+    pub copies: &'a [State],
+    pub from: &'a State,
 }
 
 /// The place of each URI: the first one that it has.
@@ -44,7 +54,7 @@ fn is_place(kind: Kind) -> bool
     ensures { result ≡ is_place kind }
 {
     match kind {
-        Kind::Outside => false,
+        Kind::Inside | Kind::Outside => false,
         _ => true,
     }
 }
@@ -67,12 +77,26 @@ pub fn place_below(
     alloc: Global,
 ) -> Result<Option<String>, AllocError>
     ensures { IfOk result (λ p. option_map string_bytes p
-        ≡ option_map (λ q. q ++ pointer.now) (places_in places.now uri.now)) }
+        ≡ option_and_then (λ q. place_below q pointer.now) (places_in places.now uri.now)) }
 {
-    match places.get(uri) {
-        Some(place) => Ok(Some(format!(in alloc; "{place}{pointer}")?)),
-        None => Ok(None),
+    let Some(place) = places.get(uri) else {
+        return Ok(None);
+    };
+    let Some(pointer) = read_pointer(pointer, alloc)? else {
+        return Ok(None);
+    };
+    Ok(Some(place_after(place.as_str(), pointer.tokens(), alloc)?))
+}
+
+/// Where tokens lead from a place.
+fn place_after(place: &str, tokens: &[String], alloc: Global) -> Result<String, AllocError>
+    ensures { IfOk result (λ s. string_bytes s ≡ place_after place.now (map text tokens.now)) }
+{
+    let mut below = String::from_str(alloc, place)?;
+    for token in tokens {
+        below = at_key(below.as_str(), token.as_str(), alloc)?;
     }
+    Ok(below)
 }
 
 /// The place of the schema with the name in the resource with the URI.
@@ -92,47 +116,30 @@ pub fn place_of_name(
     }
 }
 
-/// The place to which a dynamic reference to the name in the resource with the URI leads, whatever has led to it (Core,
-/// 8.2.3.2); none where the document does not tell.
-pub fn place_of_dynamic(
-    uri: &str,
-    name: &str,
-    guide: &Guide<'_>,
-    alloc: Global,
-) -> Result<Option<String>, AllocError>
-    ensures { IfOk result (λ p. option_map string_bytes p
-        ≡ (guided guide.now).1 uri.now name.now) }
-{
-    let first = with_name(uri, name, alloc)?;
-    match dynamic_place(guide.marks, first.as_str()) {
-        Some(place) => outermost(name, place, guide, alloc),
-        None => place_of_name(uri, name, guide.places, alloc),
-    }
-}
-
 /// The place to which a dynamic reference leads on from the schema at the place, which has the name by `$dynamicAnchor`: the
-/// schema with it in the resource of the whole, or that one, if no other has it.
-fn outermost(
+/// schema with it in the resource of the whole, or that one, if no other has it (Core, 8.2.3.2).
+pub fn outermost<'m>(
+    marks: &'m [Mark],
+    root: &str,
     name: &str,
-    place: &str,
-    guide: &Guide<'_>,
+    place: &'m str,
     alloc: Global,
-) -> Result<Option<String>, AllocError>
-    ensures { IfOk result (λ p. option_map string_bytes p
-        ≡ outermost (all_marked guide.now.marks.now) guide.now.root.now name.now place.now) }
+) -> Result<Option<&'m str>, AllocError>
+    ensures { IfOk result (λ p. option_map (λ x. x.now) p
+        ≡ outermost (all_marked marks.now) root.now name.now place.now) }
 {
-    let uri = with_name(guide.root, name, alloc)?;
-    if let Some(found) = dynamic_place(guide.marks, uri.as_str()) {
-        return Ok(Some(String::from_str(alloc, found)?));
+    let uri = with_name(root, name, alloc)?;
+    if let Some(found) = dynamic_place(marks, uri.as_str()) {
+        return Ok(Some(found));
     }
-    if is_only(guide.marks, name, place) {
-        return Ok(Some(String::from_str(alloc, place)?));
+    if is_only(marks, name, place) {
+        return Ok(Some(place));
     }
     Ok(None)
 }
 
 /// The place of the first schema that has the URI by `$dynamicAnchor`.
-fn dynamic_place<'m>(marks: &'m [Mark], uri: &str) -> Option<&'m str>
+pub fn dynamic_place<'m>(marks: &'m [Mark], uri: &str) -> Option<&'m str>
     ensures { option_map (λ p. p.now) result ≡ dynamic_place (all_marked marks.now) uri.now }
 {
     for mark in marks {
@@ -149,7 +156,7 @@ fn is_dynamic_at(mark: &Mark, uri: &str) -> bool
     is_dynamic_name(mark.kind) && mark.uri.as_str() == uri
 }
 
-fn is_dynamic_name(kind: Kind) -> bool
+pub fn is_dynamic_name(kind: Kind) -> bool
     ensures { result ≡ is_dynamic_name kind }
 {
     matches!(kind, Kind::DynamicName)
@@ -175,7 +182,7 @@ fn is_other(mark: &Mark, name: &str, place: &str) -> bool
 }
 
 /// Whether it is of the name, by `$dynamicAnchor`, in any resource.
-fn is_named(mark: &Mark, name: &str) -> bool
+pub fn is_named(mark: &Mark, name: &str) -> bool
     ensures { result ≡ is_named (marked mark.now) name.now }
 {
     is_dynamic_name(mark.kind) && fragment_in(mark.uri.as_str()) == name

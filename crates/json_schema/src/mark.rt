@@ -7,8 +7,8 @@ ghost use Rattle.json_schema.specs.Bundles.{base_by, base_in, is_resource, is_fr
 ghost use Rattle.json_schema.specs.Bundles.{marks_of, marks_in, marks_among, marks_of_keyword};
 ghost use Rattle.json_schema.specs.Bundles.{marks_in_list, marks_in_map, marks_of_items};
 ghost use Rattle.json_schema.specs.Bundles.{marks_of_members, resource_marks, name_kind, name_marks};
-ghost use Rattle.json_schema.specs.Bundles.{outside_marks, is_bundled_by, is_bundle};
-ghost use Rattle.json_schema.specs.Bundles.{all_marked, Gathers, with_name};
+ghost use Rattle.json_schema.specs.Bundles.{reference_kind, reference_marks, is_bundled_by, is_bundle};
+ghost use Rattle.json_schema.specs.Bundles.{marked, all_marked, Gathers, with_name};
 
 use crate::applied::schema_at;
 use crate::form::{Form, form_at};
@@ -27,7 +27,9 @@ pub enum Kind {
     Name,
     /// One with a name by `$dynamicAnchor`.
     DynamicName,
-    /// A schema with a reference that is more than a fragment.
+    /// A schema with a reference that is nothing but a fragment.
+    Inside,
+    /// One with a reference that is more.
     Outside,
 }
 
@@ -37,6 +39,18 @@ pub struct Mark {
     pub kind: Kind,
     pub uri: String,
     pub place: String,
+}
+
+impl Mark {
+    pub fn try_clone(&self, alloc: Global) -> Result<Mark, AllocError>
+        ensures { IfOk result (λ m. marked m ≡ marked self.now) }
+    {
+        Ok(Mark {
+            kind: self.kind,
+            uri: String::from_str(alloc, self.uri.as_str())?,
+            place: String::from_str(alloc, self.place.as_str())?,
+        })
+    }
 }
 
 /// The place of a schema, and a base URI: in it, or around it.
@@ -193,7 +207,7 @@ fn gather_within(
     };
     match form_at(keyword) {
         Form::Anchor => gather_name(name_kind(keyword), operand, spot, alloc, marks),
-        Form::Reference => gather_outside(operand, spot.place, alloc, marks),
+        Form::Reference => gather_reference(operand, spot.place, alloc, marks),
         Form::Schema => gather(operand, inner, alloc, marks),
         Form::Schemas => gather_in_list(operand, inner, alloc, marks),
         Form::SchemaMap | Form::PatternMap => gather_in_map(operand, inner, alloc, marks),
@@ -243,30 +257,37 @@ pub fn with_name(base: &str, name: &str, alloc: Global) -> Result<String, AllocE
     format!(in alloc; "{base}#{name}")
 }
 
-/// The reference of the schema, if it is more than a fragment.
+/// The reference of the schema.
 #[inline(never)]
-fn gather_outside(
+fn gather_reference(
     operand: &JsonValue,
     place: &str,
     alloc: Global,
     marks: &mut Vec<Mark>,
 ) -> Result<(), AllocError>
-    ensures { OnOk result (Gathers (outside_marks place.now (view operand.now))
+    ensures { OnOk result (Gathers (reference_marks place.now (view operand.now))
         marks.old.items marks.new.items) }
 {
     let JsonValue::String(reference) = operand else {
         return Ok(());
     };
-    if is_fragment(reference.as_str()) {
-        return Ok(());
-    }
     let mark = Mark {
-        kind: Kind::Outside,
+        kind: reference_kind(reference.as_str()),
         uri: String::from_str(alloc, reference.as_str())?,
         place: String::from_str(alloc, place)?,
     };
     marks.push(mark)?;
     Ok(())
+}
+
+/// The kind of a reference.
+fn reference_kind(reference: &str) -> Kind
+    ensures { result ≡ reference_kind reference.now }
+{
+    if is_fragment(reference) {
+        return Kind::Inside;
+    }
+    Kind::Outside
 }
 
 fn is_fragment(reference: &str) -> bool
@@ -377,7 +398,7 @@ fn is_bundled_by(mark: &Mark) -> bool
 {
     match mark.kind {
         Kind::Resource => !mark.place.is_empty(),
-        Kind::Name | Kind::DynamicName => false,
+        Kind::Name | Kind::DynamicName | Kind::Inside => false,
         Kind::Outside => true,
     }
 }

@@ -75,7 +75,7 @@ fn at_fragment<'s>(
 }
 
 /// The schema that a pointer leads to.
-fn at_pointer<'s>(
+pub fn at_pointer<'s>(
     root: &'s JsonValue,
     text: &str,
     alloc: Global,
@@ -92,7 +92,7 @@ fn at_pointer<'s>(
     Ok(pointer.find(root))
 }
 
-fn read_pointer(text: &str, alloc: Global) -> Result<Option<Pointer>, AllocError>
+pub fn read_pointer(text: &str, alloc: Global) -> Result<Option<Pointer>, AllocError>
     ensures { IfOk result (λ p. option_map tokens_of p ≡ pointer_tokens (chars text.now)) }
 {
     match Pointer::parse(alloc, text) {

@@ -1,7 +1,8 @@
 use Rattle.std.proofs.Common.{◌≡◌, ◌<◌, ◌≤◌, ◌+◌, ◌-◌, ◌*◌, ◌∙◌, length, drop, option_map, arith, rules, sym, ap, subst, chars}
 use Rattle.tinyjson.specs.Tree.{put, tree_depth, items_depth, members_depth}
 use Rattle.tinyjson.specs.View.{view, items_view, members_view, members_listed}
-use Rattle.json_schema.specs.Bundles.{guided, pointed, pointed_among, pointed_members, kept_of, put_some}
+use Rattle.json_schema.specs.Bundles.{pointed, pointed_among, pointed_members, kept_of, put_some}
+use Rattle.json_schema.specs.Scopes.{guided}
 use Rattle.json_schema.proofs.Depths.{listed_depth, items_depth_at}
 use Rattle.json_schema.proofs.Pointing.{AreMade, item_made, items_made, keyword_back, member_back}
 use Rattle.json_schema.proofs.bundle.+bundle.Goals as goal

@@ -1,7 +1,8 @@
 use Rattle.std.proofs.Common.{◌≡◌, ◌≤◌, ◌+◌, ◌*◌, drop, length}
 use Rattle.tinyjson.specs.Tree.{tree_depth, items_depth, members_depth}
 use Rattle.tinyjson.specs.View.{view, items_view, members_view, members_listed}
-use Rattle.json_schema.specs.Bundles.{guided, pointed_among, pointed_members}
+use Rattle.json_schema.specs.Bundles.{pointed_among, pointed_members}
+use Rattle.json_schema.specs.Scopes.{guided}
 use Rattle.json_schema.proofs.Pointing.{AreMade}
 use Rattle.json_schema.proofs.bundle.+bundle.Given as goal
 

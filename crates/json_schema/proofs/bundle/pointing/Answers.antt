@@ -5,7 +5,8 @@ use Rattle.tinyjson.proofs.Callers.{view_String}
 use Rattle.tinyjson.specs.Tree.{string}
 use Rattle.tinyjson.specs.View.{view}
 use Rattle.uri_reference.specs.Resolving.{resolved}
-use Rattle.json_schema.specs.Bundles.{guided, destination}
+use Rattle.json_schema.specs.Bundles.{destination}
+use Rattle.json_schema.specs.Scopes.{guided}
 use Rattle.json_schema.proofs.Placing.{reference_pointed}
 use Rattle.json_schema.proofs.bundle.pointing.Goals as goal
 
@@ -15,8 +16,8 @@ returns-in-Some c =
     let d = c.args.dynamic in
     let b = c.args.base.now in
     let bs = c.as_str.result.now in
-    let led : Some (string_bytes c.in-Some.place) ≡ destination to d (resolved b bs) = ap (option_map string_bytes) (sym c.in-Some.is)
-    ∙ (c.in_ok-place.ensures ∙ ap (destination to d) (c.as_str-2.ensures.value ∙ c.in_ok-target.ensures)) in
+    let led : Some (string_bytes c.in-Some.place) ≡ destination to d b (resolved b bs) = ap (option_map string_bytes) (sym c.in-Some.is)
+    ∙ (c.in_ok-place.ensures ∙ ap (destination to d b) (c.as_str-2.ensures.value ∙ c.in_ok-target.ensures)) in
     view_String c.in_ok-format-in-Some.field-0 ∙ (ap (λ xs. string (chars xs)) c.in_ok-format-in-Some.ensures.ok
     ∙ reference_pointed c.args.reference.now c.in-String.text bs c.in-String.is c.as_str.ensures.value to d b _ led)
 
@@ -26,8 +27,8 @@ returns c =
     let d = c.args.dynamic in
     let b = c.args.base.now in
     let bs = c.as_str.result.now in
-    let led : None ≡ destination to d (resolved b bs) = ap (option_map string_bytes) (sym c.in-None.is)
-    ∙ (c.in_ok-place.ensures ∙ ap (destination to d) (c.as_str-2.ensures.value ∙ c.in_ok-target.ensures)) in
+    let led : None ≡ destination to d b (resolved b bs) = ap (option_map string_bytes) (sym c.in-None.is)
+    ∙ (c.in_ok-place.ensures ∙ ap (destination to d b) (c.as_str-2.ensures.value ∙ c.in_ok-target.ensures)) in
     subst (λ t. IfOk c.try_clone-in-None.result (λ v. view v ≡ t))
     (reference_pointed c.args.reference.now c.in-String.text bs c.in-String.is c.as_str.ensures.value to d b _ led)
     c.try_clone-in-None.ensures
