@@ -60,7 +60,6 @@ impl fmt::Display for IRegexpErrorKind {
 ///
 /// ```
 /// if let Err(error) = IRegexp::parse(alloc, "ab[c-a]") {
-///     assert_eq!(rt; error.place, 2);
 ///     let words = error.to_string(alloc)?;
 ///     assert_eq!(rt;
 ///         words.as_str(),

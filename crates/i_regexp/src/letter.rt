@@ -261,29 +261,22 @@ fn control_of(letter: char) -> Option<char>
 fn byte(text: &[char]) -> Result<(Letter, &[char]), IRegexpErrorKind>
     ensures { Fronts ⊥ (λ x. x) (byte_front text.now) result }
 {
-    let Some((a, rest)) = text.split_first() else {
+    let [a, b, rest @ ..] = text else {
         return Err(IRegexpErrorKind::Invalid);
     };
-    let Some((b, rest)) = rest.split_first() else {
-        return Err(IRegexpErrorKind::Invalid);
-    };
-    let Some(code) = byte_of(*a, *b) else {
-        return Err(IRegexpErrorKind::Invalid);
-    };
-    let Some(c) = scalar(code) else {
-        return Err(IRegexpErrorKind::Invalid);
-    };
-    Ok((Letter::Literal(c), rest))
+    match byte_of(*a, *b) {
+        Some(code) => literal(scalar(code), rest),
+        None => Err(IRegexpErrorKind::Invalid),
+    }
 }
 
 /// The code that stands here by four digits.
 fn four_digits(text: &[char]) -> Option<(u32, &[char])>
     ensures { CodeFront (four_front text.now) result }
 {
-    let (a, rest) = text.split_first()?;
-    let (b, rest) = rest.split_first()?;
-    let (c, rest) = rest.split_first()?;
-    let (d, rest) = rest.split_first()?;
+    let [a, b, c, d, rest @ ..] = text else {
+        return None;
+    };
     let code = code_of(*a, *b, *c, *d)?;
     Some((code, rest))
 }
@@ -311,41 +304,33 @@ fn value(text: &[char]) -> Option<(u32, &[char])>
 fn braced(text: &[char]) -> Option<(u32, &[char])>
     ensures { CodeFront (braced_front text.now) result }
 {
-    let (first, _) = text.split_first()?;
-    if *first == '}' {
-        return None;
+    match text {
+        ['}', ..] => None,
+        _ => value(text),
     }
-    value(text)
 }
 
 /// The code that stands here, by four digits or in braces.
 pub(crate) fn code(text: &[char]) -> Option<(u32, &[char])>
     ensures { CodeFront (code_front text.now) result }
 {
-    let (first, rest) = text.split_first()?;
-    if *first == '{' {
-        return braced(rest);
+    match text {
+        ['{', rest @ ..] => braced(rest),
+        _ => four_digits(text),
     }
-    four_digits(text)
 }
 
 /// The character of which the second half stands here, behind the first.
 fn low(first: u32, text: &[char]) -> Result<(Letter, &[char]), IRegexpErrorKind>
     ensures { Fronts ⊥ (λ x. x) (low_front first text.now) result }
 {
-    let Some((backslash, rest)) = text.split_first() else {
+    let ['\\', 'u', rest @ ..] = text else {
         return Err(IRegexpErrorKind::Invalid);
     };
-    let Some((letter, rest)) = rest.split_first() else {
-        return Err(IRegexpErrorKind::Invalid);
-    };
-    if *backslash == '\\' && *letter == 'u' {
-        let Some((second, after)) = four_digits(rest) else {
-            return Err(IRegexpErrorKind::Invalid);
-        };
-        return literal(pair_of(first, second), after);
+    match four_digits(rest) {
+        Some((second, after)) => literal(pair_of(first, second), after),
+        None => Err(IRegexpErrorKind::Invalid),
     }
-    Err(IRegexpErrorKind::Invalid)
 }
 
 /// The character, which the text follows.
@@ -373,19 +358,16 @@ fn half(code: u32, text: &[char]) -> Result<(Letter, &[char]), IRegexpErrorKind>
 fn unit(text: &[char]) -> Result<(Letter, &[char]), IRegexpErrorKind>
     ensures { Fronts ⊥ (λ x. x) (unit_front text.now) result }
 {
-    let Some((first, rest)) = text.split_first() else {
-        return Err(IRegexpErrorKind::Invalid);
-    };
-    if *first == '{' {
-        let Some((code, after)) = braced(rest) else {
-            return Err(IRegexpErrorKind::Invalid);
+    if let ['{', rest @ ..] = text {
+        return match braced(rest) {
+            Some((code, after)) => literal(scalar(code), after),
+            None => Err(IRegexpErrorKind::Invalid),
         };
-        return literal(scalar(code), after);
     }
-    let Some((code, after)) = four_digits(text) else {
-        return Err(IRegexpErrorKind::Invalid);
-    };
-    half(code, after)
+    match four_digits(text) {
+        Some((code, after)) => half(code, after),
+        None => Err(IRegexpErrorKind::Invalid),
+    }
 }
 
 /// The control character of the letter that stands here.
@@ -402,9 +384,9 @@ fn control(text: &[char]) -> Result<(Letter, &[char]), IRegexpErrorKind>
 fn begins_with_digit(text: &[char]) -> bool
     ensures { result ≡ begins_with_digit text.now }
 {
-    match text.split_first() {
-        Some((first, _)) => is_digit(*first),
-        None => false,
+    match text {
+        [first, ..] => is_digit(*first),
+        [] => false,
     }
 }
 
@@ -422,24 +404,16 @@ fn null(text: &[char]) -> Result<(Letter, &[char]), IRegexpErrorKind>
 pub(crate) fn escape(text: &[char]) -> Result<(Letter, &[char]), IRegexpErrorKind>
     ensures { Fronts ⊥ (λ x. x) (escape_front text.now) result }
 {
-    let Some((first, rest)) = text.split_first() else {
-        return Err(IRegexpErrorKind::Invalid);
-    };
-    if *first == 'x' {
-        return byte(rest);
-    }
-    if *first == 'u' {
-        return unit(rest);
-    }
-    if *first == 'c' {
-        return control(rest);
-    }
-    if *first == '0' {
-        return null(rest);
-    }
-    match named(*first) {
-        Some(letter) => Ok((letter, rest)),
-        None => Err(IRegexpErrorKind::Invalid),
+    match text {
+        ['x', rest @ ..] => byte(rest),
+        ['u', rest @ ..] => unit(rest),
+        ['c', rest @ ..] => control(rest),
+        ['0', rest @ ..] => null(rest),
+        [first, rest @ ..] => match named(*first) {
+            Some(letter) => Ok((letter, rest)),
+            None => Err(IRegexpErrorKind::Invalid),
+        },
+        [] => Err(IRegexpErrorKind::Invalid),
     }
 }
 
@@ -447,11 +421,9 @@ pub(crate) fn escape(text: &[char]) -> Result<(Letter, &[char]), IRegexpErrorKin
 pub(crate) fn next_letter(text: &[char]) -> Result<(Letter, &[char]), IRegexpErrorKind>
     ensures { Fronts ⊥ (λ x. x) (letter_front text.now) result }
 {
-    let Some((first, rest)) = text.split_first() else {
-        return Err(IRegexpErrorKind::Invalid);
-    };
-    if *first == '\\' {
-        return escape(rest);
+    match text {
+        ['\\', rest @ ..] => escape(rest),
+        [first, rest @ ..] => Ok((Letter::Plain(*first), rest)),
+        [] => Err(IRegexpErrorKind::Invalid),
     }
-    Ok((Letter::Plain(*first), rest))
 }

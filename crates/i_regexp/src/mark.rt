@@ -64,20 +64,14 @@ fn takes_question(token: &Token) -> bool
 fn ends_branch(text: &[char]) -> bool
     ensures { result ≡ ends_branch text.now }
 {
-    match text.split_first() {
-        Some((first, _)) => *first == '|',
-        None => true,
-    }
+    matches!(text, ['|', ..] | [])
 }
 
 /// Whether a `?` stands here.
 fn begins_with_question(text: &[char]) -> bool
     ensures { result ≡ begins_with_question text.now }
 {
-    match text.split_first() {
-        Some((first, _)) => *first == '?',
-        None => false,
-    }
+    matches!(text, ['?', ..])
 }
 
 /// The first mark of a text, whatever stands after it.
@@ -123,25 +117,19 @@ fn is_normal(c: char) -> bool
 fn silent(text: &[char]) -> &[char]
     ensures { result.now ≡ silent text.now }
 {
-    let Some((first, rest)) = text.split_first() else {
-        return text;
-    };
-    let Some((second, after)) = rest.split_first() else {
-        return text;
-    };
-    if *first == '?' && *second == ':' {
-        return after;
+    match text {
+        ['?', ':', after @ ..] => after,
+        _ => text,
     }
-    text
 }
 
 /// What stands behind a quantifier, without its `?`.
 fn eager(text: &[char]) -> &[char]
     ensures { result.now ≡ eager text.now }
 {
-    match text.split_first() {
-        Some((first, rest)) => if *first == '?' { rest } else { text },
-        None => text,
+    match text {
+        ['?', after @ ..] => after,
+        _ => text,
     }
 }
 
@@ -203,13 +191,9 @@ fn caret(text: &[char]) -> (bool, &[char])
     ensures negated { result.0 ≡ (caret_front text.now).0 }
     ensures rest { result.1.now ≡ (caret_front text.now).1 }
 {
-    match text.split_first() {
-        Some((first, rest)) => if *first == '^' {
-            (true, rest)
-        } else {
-            (false, text)
-        },
-        None => (false, text),
+    match text {
+        ['^', after @ ..] => (true, after),
+        _ => (false, text),
     }
 }
 
@@ -256,12 +240,10 @@ fn items(alloc: Global, letters: &[Letter]) -> Result<Vec<Item>, IRegexpErrorKin
 fn range_behind(letters: &[Letter]) -> Option<(Letter, &[Letter])>
     ensures { RangeBehind letters.now result }
 {
-    let (dash, rest) = letters.split_first()?;
-    let (last, after) = rest.split_first()?;
-    if !dash.is_dash() {
-        return None;
+    match letters {
+        [dash, last, after @ ..] if dash.is_dash() => Some((*last, after)),
+        _ => None,
     }
-    Some((*last, after))
 }
 
 /// The range from one letter to another.

@@ -33,7 +33,7 @@ pub(crate) fn next_token<'t>(
 ) -> Result<(Token, &'t [char]), IRegexpErrorKind>
     ensures { Fronts (LargeCount text.now) token_of (token_front text.now) result }
 {
-    let Some((first, rest)) = text.split_first() else {
+    let [first, rest @ ..] = text else {
         return Err(IRegexpErrorKind::Invalid);
     };
     match *first {
@@ -114,7 +114,7 @@ fn escape(letter: char) -> Option<char>
 fn escaped(text: &[char]) -> Result<(char, &[char]), IRegexpErrorKind>
     ensures { Fronts ⊥ (λ c. c) (escape_front text.now) result }
 {
-    let Some((first, rest)) = text.split_first() else {
+    let [first, rest @ ..] = text else {
         return Err(IRegexpErrorKind::Invalid);
     };
     match escape(*first) {
@@ -145,27 +145,24 @@ fn escape_token<'t>(
 fn is_category_letter(text: &[char]) -> bool
     ensures { result ≡ is_category_letter text.now }
 {
-    match text.split_first() {
-        Some((first, _)) => *first == 'p' || *first == 'P',
-        None => false,
-    }
+    matches!(text, ['p' | 'P', ..])
 }
 
 /// The category that stands behind a backslash.
 fn category(text: &[char]) -> Result<(Item, &[char]), IRegexpErrorKind>
     ensures { Fronts ⊥ (λ i. i) (category_front text.now) result }
 {
-    let Some((letter, rest)) = text.split_first() else {
-        return Err(IRegexpErrorKind::Invalid);
-    };
-    let (category, after) = name(rest)?;
-    if *letter == 'p' {
-        return Ok((Item::In(category), after));
+    match text {
+        ['p', rest @ ..] => {
+            let (category, after) = name(rest)?;
+            Ok((Item::In(category), after))
+        }
+        ['P', rest @ ..] => {
+            let (category, after) = name(rest)?;
+            Ok((Item::NotIn(category), after))
+        }
+        _ => Err(IRegexpErrorKind::Invalid),
     }
-    if *letter == 'P' {
-        return Ok((Item::NotIn(category), after));
-    }
-    Err(IRegexpErrorKind::Invalid)
 }
 
 /// The category of which the name stands in braces here.
@@ -378,38 +375,27 @@ fn characters(text: &[char]) -> Result<(Item, &[char]), IRegexpErrorKind>
     ensures { Fronts ⊥ (λ r. r) (characters_front text.now) result }
 {
     let (first, rest) = member(text)?;
-    let Some((next, after)) = rest.split_first() else {
-        return Ok((Item::Range(first, first), rest));
-    };
-    if *next != '-' {
-        return Ok((Item::Range(first, first), rest));
+    match rest {
+        // the last `-` of a class
+        ['-', ']', ..] => Ok((Item::Range(first, first), rest)),
+        ['-', after @ ..] => {
+            let (last, after) = member(after)?;
+            if last < first {
+                return Err(IRegexpErrorKind::Invalid);
+            }
+            Ok((Item::Range(first, last), after))
+        }
+        _ => Ok((Item::Range(first, first), rest)),
     }
-    let Some((next, _)) = after.split_first() else {
-        return Err(IRegexpErrorKind::Invalid);
-    };
-    // the last `-` of a class
-    if *next == ']' {
-        return Ok((Item::Range(first, first), rest));
-    }
-    let (last, after) = member(after)?;
-    if last < first {
-        return Err(IRegexpErrorKind::Invalid);
-    }
-    Ok((Item::Range(first, last), after))
 }
 
 /// A character of a class, as it stands or behind a backslash.
 fn member(text: &[char]) -> Result<(char, &[char]), IRegexpErrorKind>
     ensures { Fronts ⊥ (λ c. c) (member_front text.now) result }
 {
-    let Some((first, rest)) = text.split_first() else {
-        return Err(IRegexpErrorKind::Invalid);
-    };
-    if *first == '\\' {
-        return escaped(rest);
+    match text {
+        ['\\', rest @ ..] => escaped(rest),
+        [first, rest @ ..] if is_plain(*first) => Ok((*first, rest)),
+        _ => Err(IRegexpErrorKind::Invalid),
     }
-    if !is_plain(*first) {
-        return Err(IRegexpErrorKind::Invalid);
-    }
-    Ok((*first, rest))
 }

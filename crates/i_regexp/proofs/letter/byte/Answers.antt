@@ -1,9 +1,11 @@
-use Rattle.std.proofs.Common.{sym, ◌∙◌}
+use Rattle.std.proofs.Common.{subst, ap, sym, ◌∙◌}
+use Rattle.i_regexp.specs.Fronts.{Fronts}
+use Rattle.i_regexp.specs.PatternFronts.{literal_front}
 use Rattle.i_regexp.proofs.PatternLetters.{byte_read}
 use Rattle.i_regexp.proofs.letter.byte.Goals as goal
 
-pub returns : goal.returns
-returns c =
-    byte_read c.args.text.now c.in-Some.rest.now _ c.in-Some.a.now c.in-Some-split_first.b.now c.in-Some-byte_of.code _
-    c.in-Some.ensures.cases.0 c.in-Some-split_first.ensures.cases.0 (sym c.in-Some-byte_of.ensures.value) c.in-Some-byte_of.ensures.few
-    (sym c.scalar.ensures ∙ c.in-Some-scalar.is)
+pub returns-in-Some : goal.returns-in-Some
+returns-in-Some c =
+    subst (λ o. Fronts ⊥ (λ x. x) o c.literal.result)
+    (ap (literal_front _) c.scalar.ensures ∙ byte_read c.args.text.now c.a-item.result c.b-item.result c.in-Some.code c.in-len2-up.len_at_least c.a-item.is c.b-item.is
+    (sym c.in-Some.is ∙ c.byte_of.ensures.value) c.in-Some.ensures.few) c.literal.ensures
