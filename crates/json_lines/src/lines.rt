@@ -14,7 +14,7 @@ use std::str;
 use tinyjson_normal::{NormalReader, NormalText};
 
 /// How lines are read.
-#[derive(Clone, Copy, Debug, PartialEq, Eq)]
+#[derive(Clone, Copy)]
 pub struct Options {
     /// Whether the run goes on after a line that is refused.
     pub goes_on: bool,
@@ -23,7 +23,7 @@ pub struct Options {
 }
 
 /// What became of the lines that were read.
-#[derive(Clone, Copy, Debug, PartialEq, Eq)]
+#[derive(Clone, Copy)]
 pub enum Outcome {
     /// The normal form of each was written.
     AllWritten,

@@ -18,7 +18,7 @@ use tinyjson::{JsonParseError, JsonValue};
 const PATCH_DEPTH: usize = 1_000;
 
 /// Why no merged value is written.
-#[derive(Debug, Drop)]
+#[derive(Drop)]
 pub enum MergeError {
     /// The patch is no JSON text, or deeper than 1,000 containers.
     BadPatch(JsonParseError),

@@ -15,7 +15,7 @@ use std::io::{self, ErrorKind, Write};
 use tinyjson::{JsonParseError, JsonValue};
 
 /// Why no part is written.
-#[derive(Debug, Drop)]
+#[derive(Drop)]
 pub enum PartError {
     /// The pointer's text is that of no pointer.
     BadPointer(PointerError),

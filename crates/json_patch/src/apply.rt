@@ -19,7 +19,7 @@ use tinyjson::{JsonParseError, JsonValue};
 const PATCH_DEPTH: usize = 1_000;
 
 /// Why no changed value is written.
-#[derive(Debug, Drop)]
+#[derive(Drop)]
 pub enum PatchingError {
     /// The patch is no JSON text, or deeper than 1,000 containers.
     BadText(JsonParseError),

@@ -10,7 +10,7 @@ use std::fmt;
 use std::io::{self, ErrorKind};
 
 /// Why the program prints no result.
-#[derive(Debug, Drop)]
+#[derive(Drop)]
 pub enum Failure {
     /// The arguments are others than the name of a file.
     Arguments,

@@ -10,7 +10,7 @@ use std::fmt;
 use std::io::{self, ErrorKind};
 
 /// Why the program prints nothing, or not all.
-#[derive(Debug, Drop)]
+#[derive(Drop)]
 pub enum Failure {
     /// The arguments are others than a query, or `-p` and a query.
     Arguments,

@@ -23,7 +23,7 @@ use std::io::{self, ErrorKind, Write};
 use tinyjson::{JsonParseError, JsonValue};
 
 /// What is written of a node.
-#[derive(Clone, Copy, Debug, PartialEq, Eq)]
+#[derive(Clone, Copy)]
 pub enum Form {
     /// The compact text of its value.
     Value,
@@ -32,7 +32,7 @@ pub enum Form {
 }
 
 /// Why no nodes are written, or not all.
-#[derive(Debug, Drop)]
+#[derive(Drop)]
 pub enum PathError {
     /// The query's text is that of no query.
     BadQuery(ParseError),

@@ -5,7 +5,7 @@ ghost use Rattle.json_path.specs.Options.{asks};
 use crate::lines::Form;
 
 /// A query, and what is written of each node that it selects.
-#[derive(Clone, Copy, Debug, PartialEq, Eq)]
+#[derive(Clone, Copy)]
 pub struct Request<'a> {
     pub form: Form,
     pub query: &'a str,

@@ -18,7 +18,7 @@ use std::fmt;
 use tinyjson::JsonValue;
 
 /// How a regular expression is more than is read.
-#[derive(Clone, Copy, Debug, PartialEq, Eq)]
+#[derive(Clone, Copy)]
 pub enum PatternLimit {
     /// More than 200 groups are open at once.
     TooDeep,
@@ -38,7 +38,7 @@ impl fmt::Display for PatternLimit {
 }
 
 /// Why it can't be told what a query selects.
-#[derive(Clone, Copy, Debug, PartialEq, Eq)]
+#[derive(Clone, Copy)]
 pub enum FindError {
     /// A regular expression that was asked for is too deep or too large.
     Pattern(PatternLimit),

@@ -14,7 +14,7 @@ use std::collections::BTreeSet;
 use tinyjson::{JsonValue, sorted_members};
 
 /// A name of `$anchor` or `$dynamicAnchor`, and the schema that has it.
-#[derive(Clone, Copy, Debug)]
+#[derive(Clone, Copy)]
 pub struct Anchor<'s> {
     pub name: &'s String,
     pub schema: &'s JsonValue,
@@ -94,7 +94,7 @@ fn gather_named<'s>(
     ensures { OnOk result (Gathers (anchors_among (view schema.now) (members_listed keywords.now))
         anchors.old.items anchors.new.items) }
 {
-    for (name, operand) in keywords {
+    for &(name, operand) in keywords {
         gather_within(form_at(name.as_str()), operand, schema, alloc, anchors)?;
     }
     Ok(())
@@ -195,7 +195,7 @@ fn gather_members<'s>(
     ensures { OnOk result (Gathers (anchors_of_members (members_listed schemas.now))
         anchors.old.items anchors.new.items) }
 {
-    for (_, schema) in schemas {
+    for &(_, schema) in schemas {
         gather(schema, alloc, anchors)?;
     }
     Ok(())

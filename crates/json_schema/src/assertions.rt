@@ -370,7 +370,7 @@ fn has_dependents(
     ensures { result
         ≡ has_dependents (members_listed dependents.now) (members_view members.now.entries) }
 {
-    for (key, keys) in dependents {
+    for &(key, keys) in dependents {
         if !has_dependents_of(key, keys, members) {
             return false;
         }

@@ -162,7 +162,7 @@ fn map_settles(
     ensures { IfOk result (λ is. is
         ≡ map_passes (settles_in walk.entry) (members_listed schemas.now)) }
 {
-    for (_, schema) in schemas {
+    for &(_, schema) in schemas {
         let settled = settles(schema, walk, alloc)?;
         if !settled {
             return Ok(false);

@@ -8,7 +8,7 @@ use crate::anchor::Anchor;
 use tinyjson::JsonValue;
 
 /// A whole schema, and its anchors.
-#[derive(Debug, Drop)]
+#[derive(Drop)]
 pub struct Whole<'s> {
     pub root: &'s JsonValue,
     pub anchors: Vec<Anchor<'s>>,

@@ -13,7 +13,7 @@ use std::io::{self, ErrorKind};
 use tinyjson::{JsonParseError, JsonParseErrorKind};
 
 /// Why the program ends with no answer, or before all of it.
-#[derive(Debug, Drop)]
+#[derive(Drop)]
 pub enum Failure {
     /// The arguments are others than the name of a file, or `-l` and one.
     Arguments,

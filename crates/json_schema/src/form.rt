@@ -6,7 +6,7 @@ ghost use Rattle.json_schema.specs.Forms.{form_of, form_at};
 use crate::keyword::{Keyword, keyword_of};
 
 /// What the standard asks of a keyword's value.
-#[derive(Clone, Copy, Debug, PartialEq, Eq)]
+#[derive(Clone, Copy)]
 pub enum Form {
     Anything,
     Text,

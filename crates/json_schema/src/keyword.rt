@@ -3,7 +3,7 @@ ghost use Rattle.std.specs.Prelude.{◌≡◌};
 ghost use Rattle.json_schema.specs.Names.{name, keywords, keyword_among};
 
 /// A keyword of the standard's vocabularies (Core, sections 8, 10 and 11; Validation, 6 to 9).
-#[derive(Clone, Copy, Debug, PartialEq, Eq)]
+#[derive(Clone, Copy)]
 pub enum Keyword {
     Schema,
     Id,

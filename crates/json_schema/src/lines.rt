@@ -12,7 +12,7 @@ use std::alloc::Global;
 use std::io::{self, BufRead, ErrorKind, Write};
 
 /// What became of the texts that were checked.
-#[derive(Clone, Copy, Debug, PartialEq, Eq)]
+#[derive(Clone, Copy)]
 pub enum Outcome {
     /// Each is valid.
     AllValid,

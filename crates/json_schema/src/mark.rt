@@ -19,7 +19,7 @@ use tinyjson::{JsonValue, sorted_members};
 use uri_reference::{resolve, without_fragment};
 
 /// What has a place in a document.
-#[derive(Clone, Copy, Debug, PartialEq, Eq)]
+#[derive(Clone, Copy)]
 pub enum Kind {
     /// A schema resource: the whole, or a schema with an `$id`.
     Resource,
@@ -34,7 +34,7 @@ pub enum Kind {
 }
 
 /// A URI in a document, and the place of the schema that has it.
-#[derive(Debug, Drop)]
+#[derive(Drop)]
 pub struct Mark {
     pub kind: Kind,
     pub uri: String,
@@ -178,7 +178,7 @@ fn gather_named(
         (marks_among spot.entry.base.now spot.entry.place.now (members_listed keywords.now))
         marks.old.items marks.new.items) }
 {
-    for (name, operand) in keywords {
+    for &(name, operand) in keywords {
         let name = name.as_str();
         let place = at_key(spot.place, name, alloc)?;
         gather_within(name, operand, spot, place.as_str(), alloc, marks)?;
@@ -369,7 +369,7 @@ fn gather_members(
         (marks_of_members spot.entry.base.now spot.entry.place.now (members_listed schemas.now))
         marks.old.items marks.new.items) }
 {
-    for (key, schema) in schemas {
+    for &(key, schema) in schemas {
         let place = at_key(spot.place, key.as_str(), alloc)?;
         let inner = Spot {
             base: spot.base,

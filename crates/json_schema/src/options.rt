@@ -3,7 +3,7 @@ ghost use Rattle.std.specs.Prelude.{◌≡◌, option_map, map, string_bytes};
 ghost use Rattle.json_schema.specs.Options.{asks};
 
 /// A check against the schema of a file.
-#[derive(Clone, Copy, Debug, PartialEq, Eq)]
+#[derive(Clone, Copy)]
 pub struct Request<'a> {
     /// Whether each line of the input is a text.
     pub by_lines: bool,

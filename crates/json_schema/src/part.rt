@@ -107,10 +107,8 @@ fn some_found(
     ensures { IfOk result
         (λ some. some ≡ some_found (members_listed patterns.now) (chars key.now)) }
 {
-    for (pattern, _) in patterns {
-        let mut pattern = Pattern::read(alloc, pattern.as_str())?;
-        let found = pattern.is_found_in(key);
-        if found {
+    for &(pattern, _) in patterns {
+        if Pattern::read(alloc, pattern.as_str())?.is_found_in(key) {
             return Ok(true);
         }
     }

@@ -9,7 +9,7 @@ use i_regexp::{SchemaPattern, SchemaPatternErrorKind};
 use std::alloc::{AllocError, Global};
 
 /// Why a pattern is not read.
-#[derive(Clone, Copy, Debug, PartialEq, Eq)]
+#[derive(Clone, Copy)]
 pub enum PatternError {
     /// It is too deep or too large.
     AboveLimits,

@@ -10,7 +10,7 @@ use std::fmt;
 use std::io::{self, Write};
 
 /// A line that can't be checked.
-#[derive(Clone, Copy, Debug, PartialEq, Eq)]
+#[derive(Clone, Copy)]
 pub struct Refusal {
     /// Which line of the input it is, from 1.
     pub number: u64,

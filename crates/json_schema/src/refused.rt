@@ -31,14 +31,14 @@ use std::alloc::{AllocError, Global};
 use tinyjson::{JsonValue, sorted_members};
 
 /// A place in a schema that is refused, and why.
-#[derive(Debug, Drop)]
+#[derive(Drop)]
 pub struct RefusedPlace {
     pub pointer: Pointer,
     pub reason: Reason,
 }
 
 /// Why a place is refused.
-#[derive(Clone, Copy, Debug, PartialEq, Eq)]
+#[derive(Clone, Copy)]
 pub enum Reason {
     /// What stands there can't be applied.
     Misfit,
@@ -96,7 +96,7 @@ fn refused_keyword(
         (whole_of document.entry) is_whole form.Schema
         (object (members_listed keywords.now)) result }
 {
-    for (name, operand) in keywords {
+    for &(name, operand) in keywords {
         if let Some(mut place) = misfit(
             form_at(name.as_str()),
             operand,
@@ -212,7 +212,7 @@ fn refused_member(
         (whole_of document.entry) false form.SchemaMap
         (object (members_listed schemas.now)) result }
 {
-    for (key, schema) in schemas {
+    for &(key, schema) in schemas {
         if let Some(mut place) = refused_in(schema, document, false, alloc)? {
             place
                 .pointer
@@ -262,7 +262,7 @@ fn refused_key(
     ensures { (root : Tree) → Refuses (are_patterns (members_listed schemas.now))
         root false form.PatternMap (object (members_listed schemas.now)) result }
 {
-    for (key, _) in schemas {
+    for &(key, _) in schemas {
         if let Some(reason) = text_reason(key.as_str(), alloc)? {
             let mut place = whole_place(alloc, reason);
             place
@@ -430,13 +430,10 @@ fn is_type_name(value: &JsonValue) -> bool
 fn is_name_of_type(name: &str) -> bool
     ensures { result ≡ is_name_of_type name.now }
 {
-    name == "null"
-        || name == "boolean"
-        || name == "object"
-        || name == "array"
-        || name == "number"
-        || name == "string"
-        || name == "integer"
+    matches!(
+        name,
+        "null" | "boolean" | "object" | "array" | "number" | "string" | "integer"
+    )
 }
 
 fn is_key_list(value: &JsonValue, alloc: Global) -> Result<bool, AllocError>
@@ -484,7 +481,7 @@ fn is_key_map(value: &JsonValue, alloc: Global) -> Result<bool, AllocError>
 fn have_key_lists(lists: &[(&String, &JsonValue)], alloc: Global) -> Result<bool, AllocError>
     ensures { IfOk result (λ have. have ≡ have_key_lists (members_listed lists.now)) }
 {
-    for (_, keys) in lists {
+    for &(_, keys) in lists {
         let is = is_key_list(keys, alloc)?;
         if !is {
             return Ok(false);

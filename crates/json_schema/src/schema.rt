@@ -16,14 +16,14 @@ use tinyjson::JsonValue;
 
 /// A schema that can be applied: each keyword in it has a value of the standard's form, and is one that is applied or
 /// says nothing, and each reference leads to a schema in it, and not in a circle.
-#[derive(Debug, Drop)]
+#[derive(Drop)]
 pub struct Schema<'s> {
     whole: Whole<'s>,
     ghost checked: { is_schema (view whole.root.now) true (view whole.root.now) ≡ true },
 }
 
 /// Why a tree is not taken as a schema.
-#[derive(Debug, Drop)]
+#[derive(Drop)]
 pub enum SchemaError {
     /// What stands at this place can't be applied: a keyword whose value has another form than the standard's,
     /// a reference that leads to no schema in the tree, or in a circle, a name that another schema

@@ -51,7 +51,7 @@ fn gather_named(
 ) -> Result<(), AllocError>
     ensures { OnOk result (Gathers (words_of (members_listed keywords.now)) words.old words.new) }
 {
-    for (name, operand) in keywords {
+    for &(name, operand) in keywords {
         let name = name.as_str();
         gather_word(name, alloc, words)?;
         gather_within(form_at(name), operand, alloc, words)?;
@@ -145,7 +145,7 @@ fn gather_members(
     ensures { OnOk result
         (Gathers (words_of_members (members_listed schemas.now)) words.old words.new) }
 {
-    for (_, schema) in schemas {
+    for &(_, schema) in schemas {
         gather(schema, alloc, words)?;
     }
     Ok(())

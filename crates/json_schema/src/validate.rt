@@ -187,7 +187,7 @@ fn in_dependents(
 {
     let listed = schema_map_at(schema, Keyword::DependentSchemas, alloc)?;
     let dependents = listed.as_slice();
-    for (key, part) in dependents {
+    for &(key, part) in dependents {
         if has_key(value, key.as_str()) {
             if let Some(mut found) = violation_in(value, part, walk, alloc)? {
                 found.enter_keyed(alloc, Keyword::DependentSchemas, key.as_str())?;
@@ -213,7 +213,7 @@ fn in_patterned(
 {
     let listed = schema_map_at(schema, Keyword::PatternProperties, alloc)?;
     let patterns = listed.as_slice();
-    for (pattern, part) in patterns {
+    for &(pattern, part) in patterns {
         if let Some(mut found) = in_found(value, pattern.as_str(), part, walk, alloc)? {
             found.enter_keyed(alloc, Keyword::PatternProperties, pattern.as_str())?;
             return Ok(Some(found));
@@ -238,7 +238,7 @@ fn in_found(
     let mut code = Pattern::read(alloc, pattern)?;
     let listed = listed_members(value, alloc)?;
     let members = listed.as_slice();
-    for (key, member) in members {
+    for &(key, member) in members {
         let is_found = code.is_found_in(key.as_str());
         if is_found {
             if let Some(mut found) = violation_in(member, schema, walk, alloc)? {
@@ -326,7 +326,7 @@ fn in_members(
         (λ f. members_accepted f (view schema.now) (members_listed members.now))
         (view schema.now) (object (members_listed members.now)) result }
 {
-    for (key, member) in members {
+    for &(key, member) in members {
         if let Some(part) = member_part(schema, key.as_str(), alloc)? {
             if let Some(mut found) = violation_in(member, part.schema, walk, alloc)? {
                 found.enter_member(alloc, part.applicator, key.as_str())?;

@@ -20,7 +20,7 @@ pub const DEPTH_LIMIT: usize = 100;
 const STEP_LIMIT: usize = 200;
 
 /// What a check says of a text.
-#[derive(Debug, Drop)]
+#[derive(Drop)]
 pub enum Verdict {
     /// The text has a value, which is valid.
     Valid,
@@ -31,7 +31,7 @@ pub enum Verdict {
 }
 
 /// Why a text is not checked.
-#[derive(Clone, Copy, Debug, PartialEq, Eq)]
+#[derive(Clone, Copy)]
 pub enum Cause {
     /// It is not UTF-8.
     NotUtf8,

@@ -12,7 +12,7 @@ use json_pointer::Pointer;
 use std::alloc::{AllocError, Global};
 
 /// A place in the schema, and the place in the value that does not meet it (Core, 12.3).
-#[derive(Debug, Drop)]
+#[derive(Drop)]
 pub struct Violation {
     /// The place of the keyword, or of the schema `false`.
     pub keyword_location: Pointer,

@@ -6,7 +6,7 @@ use crate::document::Whole;
 use std::alloc::{AllocError, AllocFailed};
 
 /// Why it is not known whether a value is valid.
-#[derive(Clone, Copy, Debug, PartialEq, Eq)]
+#[derive(Clone, Copy)]
 pub enum CheckError {
     /// More schemas would be applied in one another than the caller allows.
     TooDeep,

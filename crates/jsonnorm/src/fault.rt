@@ -10,7 +10,7 @@ use std::io::{self, ErrorKind};
 use tinyjson::{JsonParseError, JsonParseErrorKind};
 
 /// Why a run gives no text, or not all of it.
-#[derive(Debug, PartialEq, Eq, Drop)]
+#[derive(Debug, Drop)]
 pub enum RunFault {
     /// The input is no JSON text, or is nested deeper than the limit.
     Refused(JsonParseError),

@@ -24,7 +24,7 @@ const PIECE_LEN: usize = 65_536;
 const MAX_READS: u32 = 1_073_741_824;
 
 /// How a text is read and written.
-#[derive(Clone, Copy, Debug, PartialEq, Eq)]
+#[derive(Clone, Copy)]
 pub struct Options {
     /// Whether the text is indented with two spaces.
     pub indented: bool,

@@ -215,7 +215,7 @@ fn are_keys_met(
         (λ is. Follows walk.entry is
         (λ f. keys_pass (f (view schema.now)) (members_listed members.now))) }
 {
-    for (key, _) in members {
+    for &(key, _) in members {
         let name = name_of(key, alloc)?;
         let accepted = is_accepted(&name, schema, walk, alloc)?;
         if !accepted {

@@ -84,7 +84,7 @@ fn in_members_left(
     ensures { FindsLeft walk.entry kw.UnevaluatedProperties sources.now (view rest.now)
         (object (members_listed members.now)) result }
 {
-    for (key, member) in members {
+    for &(key, member) in members {
         let evaluated = is_member_evaluated(key.as_str(), sources, alloc)?;
         if !evaluated {
             if let Some(mut found) = violation_in(member, rest, walk, alloc)? {
@@ -408,7 +408,7 @@ fn add_dependents<'d, 's>(
 {
     let listed = schema_map_at(schema, Keyword::DependentSchemas, alloc)?;
     let dependents = listed.as_slice();
-    for (key, part) in dependents {
+    for &(key, part) in dependents {
         add_dependent(value, key.as_str(), part, walk, alloc, sources)?;
     }
     Ok(())
