@@ -10,8 +10,6 @@ mod ranking;
 pub mod reader;
 mod sorting;
 mod store;
-#[cfg(test)]
-mod tests;
 mod walk;
 
 pub use normal::{NormalText, is_normal};

@@ -11,8 +11,6 @@ mod dots;
 mod laws;
 mod parts;
 mod resolving;
-#[cfg(test)]
-mod tests;
 
 pub use laws::{fragment_of_parts, text_of_parts};
 pub use resolving::{fragment, resolve, without_fragment};

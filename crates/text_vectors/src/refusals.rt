@@ -1,7 +1,8 @@
 //! Which texts are refused, why, and where.
 
 use i_regexp::IRegexpErrorKind::{Invalid, TooLarge};
-use i_regexp::{IRegexp, IRegexpErrorKind};
+use i_regexp::{IRegexp, IRegexpError, IRegexpErrorKind};
+use std::alloc::{AllocError, Global};
 use std::test::Fail;
 
 /// Of each row a text that is refused, why, and how many characters stand before what is refused.
@@ -44,34 +45,33 @@ const ROWS: &[(&str, IRegexpErrorKind, usize)] = &[
 
 #[test]
 fn rows(rt: HostRuntime) -> Result<(), Fail> {
-    for (text, kind, place) in ROWS {
-        match IRegexp::parse(rt.alloc(), text) {
-            Ok(_) => assert!(rt; false, "{text}"),
-            Err(error) => {
-                assert!(rt; error.kind == *kind, "{text}: {error}");
-                assert_eq!(rt; error.place, *place, "{text}: {error}");
-            }
-        }
+    for &(text, kind, place) in ROWS {
+        let error = IRegexp::parse(rt.alloc(), text).err();
+        assert!(rt; error == Some(IRegexpError { kind, place }), "{text}");
     }
     Ok(())
 }
 
+/// An `a` in so many groups, each repeated.
+fn nested(alloc: Global, groups: usize) -> Result<String, AllocError> {
+    let mut text = "(".repeat(alloc, groups)?;
+    text.push('a')?;
+    text.push_str(")*".repeat(alloc, groups)?.as_str())?;
+    Ok(text)
+}
+
 #[test]
-fn depths(rt: HostRuntime) -> Result<(), Fail> {
-    let alloc = rt.alloc();
-    for (deep, fits) in [(200, true), (201, false)] {
-        let mut text = String::new(alloc);
-        for _ in 0..deep {
-            text.push('(')?;
-        }
-        text.push('a')?;
-        for _ in 0..deep {
-            text.push_str(")*")?;
-        }
-        match IRegexp::parse(alloc, text.as_str()) {
-            Ok(mut regexp) => assert!(rt; fits && regexp.matches("aaa")),
-            Err(error) => assert!(rt; !fits && error.kind == IRegexpErrorKind::TooDeep),
-        }
-    }
+fn the_greatest_depth(rt: HostRuntime) -> Result<(), Fail> {
+    let text = nested(rt.alloc(), 200)?;
+    let mut regexp = IRegexp::parse(rt.alloc(), text.as_str())?;
+    assert!(rt; regexp.matches("aaa"));
+    Ok(())
+}
+
+#[test]
+fn a_greater_depth(rt: HostRuntime) -> Result<(), Fail> {
+    let text = nested(rt.alloc(), 201)?;
+    let error = IRegexp::parse(rt.alloc(), text.as_str()).err();
+    assert!(rt; error.is_some_and(|e| e.kind == IRegexpErrorKind::TooDeep));
     Ok(())
 }

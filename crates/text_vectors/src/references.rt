@@ -1,7 +1,7 @@
 //! The examples of RFC 3986, sections 5.4.1 and 5.4.2, and of the documentation; and that a long path takes little time.
 
-use crate::{fragment, resolve, without_fragment};
 use std::test::Fail;
+use uri_reference::{fragment, resolve, without_fragment};
 
 const BASE: &str = "http://a/b/c/d;p?q";
 
@@ -65,14 +65,23 @@ fn the_examples_of_the_rfc(rt: HostRuntime) -> Result<(), Fail> {
 }
 
 #[test]
-fn the_examples_of_the_documentation(rt: HostRuntime) -> Result<(), Fail> {
+fn the_example_of_the_crate(rt: HostRuntime) -> Result<(), Fail> {
     let alloc = rt.alloc();
     let target = resolve(alloc, "http://example.com/a/b", "../c#d")?;
     assert_eq!(rt; target.as_str(), "http://example.com/c#d");
+    Ok(())
+}
 
+#[test]
+fn the_example_of_resolve(rt: HostRuntime) -> Result<(), Fail> {
+    let alloc = rt.alloc();
     let target = resolve(alloc, "http://example.com/a/b?c", "../d")?;
     assert_eq!(rt; target.as_str(), "http://example.com/d");
+    Ok(())
+}
 
+#[test]
+fn the_examples_of_fragments(rt: HostRuntime) -> Result<(), Fail> {
     assert_eq!(rt; without_fragment("a/b#c"), "a/b");
 
     assert!(rt; fragment("a/b#c") == Some("c"));
@@ -83,13 +92,8 @@ fn the_examples_of_the_documentation(rt: HostRuntime) -> Result<(), Fail> {
 #[test]
 fn many_segments_are_taken_back(rt: HostRuntime) -> Result<(), Fail> {
     let alloc = rt.alloc();
-    let mut reference = String::new(alloc);
-    for _ in 0..200_000 {
-        reference.push_str("é/")?;
-    }
-    for _ in 0..200_000 {
-        reference.push_str("../")?;
-    }
+    let mut reference = "é/".repeat(alloc, 200_000)?;
+    reference.push_str("../".repeat(alloc, 200_000)?.as_str())?;
     let target = resolve(alloc, "http://a/b", reference.as_str())?;
     assert_eq!(rt; target.as_str(), "http://a/");
     Ok(())

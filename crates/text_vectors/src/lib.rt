@@ -1,0 +1,16 @@
+//! Tests of `i_regexp`, `general_category` and `uri_reference`: the examples of their documentation,
+//! and what none of their contracts says.
+#![tactic(auto)]
+
+#[cfg(test)]
+mod categories;
+#[cfg(test)]
+mod examples;
+#[cfg(test)]
+mod matching;
+#[cfg(test)]
+mod patterns;
+#[cfg(test)]
+mod references;
+#[cfg(test)]
+mod refusals;
