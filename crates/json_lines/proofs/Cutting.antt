@@ -4,10 +4,10 @@ use Rattle.std.proofs.Common.{subst, append_assoc}
 use Rattle.std.specs.Str.{chars}
 use Rattle.tinyjson.specs.Characters.{line_feed}
 use Rattle.tinyjson.proofs.Callers.{only_tree}
-use Rattle.json_line.specs.Line.{line_of}
+use Rattle.tinyjson_lines.specs.Line.{line_of}
 use Rattle.json_lines.specs.Lines.{lines, onto_first, content, Fate, HasFate, HaveFates, output_of, outputs_of}
 use Rattle.json_lines.specs.Shares.{ended, LinesOfShares, OutputOfShares}
-use Rattle.json_line.specs.declared.refusal.Cause.TheVariants.{NotUtf8, NotJson}
+use Rattle.tinyjson_lines.specs.declared.refusal.Cause.TheVariants.{NotUtf8, NotJson}
 
 -- bytes that end with a line feed have a first line
 HasFirst : List (List ℕ) → Type 0

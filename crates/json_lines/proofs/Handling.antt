@@ -11,7 +11,7 @@ use Rattle.json_lines.specs.Lines.{telling_of}
 use Rattle.json_lines.specs.Run.{Handles, WritesLine}
 use Rattle.json_lines.specs.declared.lines.Outcome.{Outcome}
 use Rattle.json_lines.specs.declared.lines.Outcome.TheVariants.{AllWritten, SomeRefused}
-use Rattle.json_line.specs.declared.refusal.Cause.{Cause}
+use Rattle.tinyjson_lines.specs.declared.refusal.Cause.{Cause}
 
 module _ (limit : Option ℕ) (n : ℕ) (line : List ℕ) (held holds told : Option (List ℕ)) where
   pub line_written : (o : Option Cause) → o ≡ None → WritesLine limit line held holds (Ok o)

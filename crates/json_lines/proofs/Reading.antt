@@ -9,7 +9,7 @@ use Rattle.std.specs.Result.{IsErr}
 use Rattle.std.specs.declared.io.Error.{Error}
 use Rattle.tinyjson.proofs.Callers.{Appends_keeps, stop, stops_then, written_same}
 use Rattle.tinyjson.specs.Written.{Written, WrittenPart}
-use Rattle.json_line.proofs.Callers.{lines_read_next, all_read, first_lines}
+use Rattle.tinyjson_lines.proofs.Callers.{lines_read_next, all_read, first_lines}
 use Rattle.json_lines.proofs.Cutting.{both_fates, both_outputs}
 use Rattle.json_lines.specs.Lines.{Fate, HasFate, HaveFates, output_of, outputs_of, telling_of, tellings_of, outcome_of}
 use Rattle.json_lines.specs.Run.{LinesRead, AllRead, EndsRefused, Reaches, AnswersLines, StopsAmongLines, Handles, Runs}

@@ -7,14 +7,14 @@ use Rattle.tinyjson.specs.JsonParseErrorKind.TheVariants as kind
 use Rattle.tinyjson.specs.Parser.{ParsesText}
 use Rattle.tinyjson.specs.Tree.{Tree}
 use Rattle.tinyjson.specs.declared.parser.error.JsonParseError.{JsonParseError}
-use Rattle.json_line.specs.Line.{line_of}
+use Rattle.tinyjson_lines.specs.Line.{line_of}
 -- the lines of the bytes, and a line without its line feed
-pub use Rattle.json_line.specs.Lines.{lines, onto_first, content}
+pub use Rattle.tinyjson_lines.specs.Lines.{lines, onto_first, content}
 use Rattle.json_lines.specs.Refusal.{told_line}
 use Rattle.json_lines.specs.declared.lines.Outcome.{Outcome}
 use Rattle.json_lines.specs.declared.lines.Outcome.TheVariants.{AllWritten, SomeRefused}
-use Rattle.json_line.specs.declared.refusal.Cause.{Cause}
-use Rattle.json_line.specs.declared.refusal.Cause.TheVariants.{NotUtf8, NotJson}
+use Rattle.tinyjson_lines.specs.declared.refusal.Cause.{Cause}
+use Rattle.tinyjson_lines.specs.declared.refusal.Cause.TheVariants.{NotUtf8, NotJson}
 
 -- what a line gives: the tree of its text, or the cause why it is refused
 abbrev pub Fate : Type 0

@@ -4,14 +4,14 @@ use Rattle.std.specs.Io.KnownBytes.{Appends, Keeps}
 use Rattle.std.specs.declared.io.Error.{Error}
 use Rattle.tinyjson.specs.Tree.{Tree}
 use Rattle.tinyjson.specs.Written.{WrittenPart}
-use Rattle.json_line.specs.Line.{line_of}
+use Rattle.tinyjson_lines.specs.Line.{line_of}
 -- of the known bytes these lines are read; these are all, and nothing is left
-pub use Rattle.json_line.specs.Lines.{LinesRead, AllRead}
+pub use Rattle.tinyjson_lines.specs.Lines.{LinesRead, AllRead}
 use Rattle.json_lines.specs.Lines.{lines, Fate, HasFate, HaveFates, output_of, outputs_of, telling_of, tellings_of, outcome_of}
 use Rattle.json_lines.specs.declared.lines.Options.{Options}
 use Rattle.json_lines.specs.declared.lines.Outcome.{Outcome}
 use Rattle.json_lines.specs.declared.lines.Outcome.TheVariants.{AllWritten, SomeRefused}
-use Rattle.json_line.specs.declared.refusal.Cause.{Cause}
+use Rattle.tinyjson_lines.specs.declared.refusal.Cause.{Cause}
 
 -- only the last is refused
 abbrev pub EndsRefused : List Fate → Type 0

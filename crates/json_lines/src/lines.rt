@@ -3,14 +3,14 @@ ghost use Rattle.std.specs.Prelude.{[], ◌∷◌};
 ghost use Rattle.tinyjson.specs.Tree.{Tree};
 ghost use Rattle.tinyjson.specs.Written.{WritesPrefix};
 ghost use Rattle.tinyjson_normal.specs.Normal.{HasTree};
-ghost use Rattle.json_line.specs.Line.{line_of};
+ghost use Rattle.tinyjson_lines.specs.Line.{line_of};
 ghost use Rattle.json_lines.specs.Run.{Runs, Handles, WritesLine};
 
 use crate::refusal::tell;
-use json_line::{Cause, Refusal, content, read_line, write_all};
 use std::alloc::Global;
 use std::io::{self, BufRead, ErrorKind, Write};
 use std::str;
+use tinyjson_lines::{Cause, Refusal, content, read_line, write_all};
 use tinyjson_normal::{NormalReader, NormalText};
 
 /// How lines are read.

@@ -2,9 +2,9 @@
 ghost use Rattle.tinyjson.specs.Written.{WritesPrefix};
 ghost use Rattle.json_lines.specs.Refusal.{told_line};
 
-use json_line::{Refusal, write_all};
 use std::alloc::Global;
 use std::io::{self, Write};
+use tinyjson_lines::{Refusal, write_all};
 
 /// Writes what the program tells of a line that is refused: one line, which is written at once where
 /// the writer takes it.

@@ -5,7 +5,7 @@ use Rattle.tinyjson.proofs.Callers.{Appends_written, begins, stop}
 use Rattle.tinyjson.specs.Grammar.{IsText}
 use Rattle.tinyjson.specs.Tree.{Tree}
 use Rattle.tinyjson.specs.Written.{Written, WrittenPart}
-use Rattle.json_line.specs.Line.{line_of}
+use Rattle.tinyjson_lines.specs.Line.{line_of}
 use Rattle.json_merge.specs.Apply.{patch_depth, IsFailedWrite, AppliesTree, Applies, WritesMerged}
 use Rattle.json_merge.specs.Merge.{merge_patch}
 use Rattle.json_merge.specs.declared.apply.MergeError.{MergeError}

@@ -9,7 +9,7 @@ use Rattle.tinyjson.specs.Tree.{Tree}
 use Rattle.tinyjson.specs.Written.{WrittenPart}
 use Rattle.json_merge.specs.Merge.{merge_patch}
 use Rattle.tinyjson.specs.declared.parser.error.JsonParseError.{JsonParseError}
-use Rattle.json_line.specs.Line.{line_of}
+use Rattle.tinyjson_lines.specs.Line.{line_of}
 use Rattle.json_merge.specs.declared.apply.MergeError.{MergeError}
 use Rattle.json_merge.specs.declared.apply.MergeError.TheVariants.{BadPatch, Refused, OutOfMemory, Writing}
 

@@ -7,11 +7,11 @@ ghost use Rattle.json_merge.specs.Apply.{status_of, merge_error_message, patch_d
 ghost use Rattle.json_merge.specs.Apply.{IsFailedWrite, AppliesTree, Applies, WritesMerged};
 
 use crate::merge::merge;
-use json_line::write_line;
 use std::alloc::Global;
 use std::fmt;
 use std::io::{self, ErrorKind, Write};
 use tinyjson::{JsonParseError, JsonValue};
+use tinyjson_lines::write_line;
 
 /// How many containers of a patch may be open at once: the merge and the drop of the patch take stack as it
 /// is deep.

@@ -2,7 +2,7 @@
 use Rattle.std.proofs.Common.{◌≡◌, ℕ, List, Option, None, Result, Ok, Err, inr}
 use Rattle.tinyjson.specs.Grammar.{IsText}
 use Rattle.tinyjson.specs.Tree.{Tree}
-use Rattle.json_pointer.specs.Text.{pointer_text}
+use Rattle.tinyjson_pointer.specs.Text.{pointer_text}
 use Rattle.json_part.specs.Part.{WritesFound, WritesPart}
 use Rattle.json_part.specs.declared.part.PartError.{PartError}
 use Rattle.json_part.specs.declared.part.PartError.TheVariants.{BadPointer, Refused, NoPart, OutOfMemory, Writing}

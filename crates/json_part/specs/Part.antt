@@ -7,11 +7,11 @@ use Rattle.tinyjson.specs.JsonParseErrorKind.TheVariants as kind
 use Rattle.tinyjson.specs.Parser.{ParsesText}
 use Rattle.tinyjson.specs.Tree.{Tree}
 use Rattle.tinyjson.specs.Written.{WrittenPart}
-use Rattle.json_pointer.specs.Reading.{IsNoPointer, Reads, pointer_error_message}
-use Rattle.json_pointer.specs.Text.{pointer_text}
-use Rattle.json_pointer.specs.Walk.{part_at}
-use Rattle.json_pointer.specs.declared.pointer.PointerError.TheVariants as refusal
-use Rattle.json_line.specs.Line.{line_of}
+use Rattle.tinyjson_pointer.specs.Reading.{IsNoPointer, Reads, pointer_error_message}
+use Rattle.tinyjson_pointer.specs.Text.{pointer_text}
+use Rattle.tinyjson_pointer.specs.Walk.{part_at}
+use Rattle.tinyjson_pointer.specs.declared.pointer.PointerError.TheVariants as refusal
+use Rattle.tinyjson_lines.specs.Line.{line_of}
 use Rattle.json_part.specs.declared.part.PartError.{PartError}
 use Rattle.json_part.specs.declared.part.PartError.TheVariants.{BadPointer, Refused, NoPart, OutOfMemory, Writing}
 

@@ -3,16 +3,16 @@ ghost use Rattle.std.specs.IoError.{error_kind};
 ghost use Rattle.std.specs.Prelude.{◌≡◌, Some};
 ghost use Rattle.std.specs.Str.{chars};
 ghost use Rattle.tinyjson.specs.View.{view};
-ghost use Rattle.json_pointer.specs.Tokens.{tokens_of};
+ghost use Rattle.tinyjson_pointer.specs.Tokens.{tokens_of};
 ghost use Rattle.json_part.specs.Part.{status_of, part_error_message};
 ghost use Rattle.json_part.specs.Part.{IsFailedWrite, WritesFound, WritesPart};
 
-use json_line::write_line;
-use json_pointer::{Pointer, PointerError};
 use std::alloc::Global;
 use std::fmt;
 use std::io::{self, ErrorKind, Write};
 use tinyjson::{JsonParseError, JsonValue};
+use tinyjson_lines::write_line;
+use tinyjson_pointer::{Pointer, PointerError};
 
 /// Why no part is written.
 #[derive(Drop)]

@@ -4,10 +4,10 @@ use Rattle.tinyjson.proofs.Callers.{Appends_written}
 use Rattle.tinyjson.specs.Grammar.{IsText}
 use Rattle.tinyjson.specs.Tree.{Tree}
 use Rattle.tinyjson.specs.Written.{Written, WrittenPart}
-use Rattle.json_patch_document.specs.Document.{IsPatch}
-use Rattle.json_patch_document.specs.Operation.{Action}
-use Rattle.json_patch_document.specs.Patch.{all_applied}
-use Rattle.json_line.specs.Line.{line_of}
+use Rattle.tinyjson_patch.specs.Document.{IsPatch}
+use Rattle.tinyjson_patch.specs.Operation.{Action}
+use Rattle.tinyjson_patch.specs.Patch.{all_applied}
+use Rattle.tinyjson_lines.specs.Line.{line_of}
 use Rattle.json_patch.specs.Apply.{patch_depth, IsFailedWrite, WritesLine, AppliesTree, AppliesText}
 use Rattle.json_patch.specs.Apply.{AppliesDocument, WritesPatched}
 use Rattle.json_patch.specs.declared.apply.PatchingError.{PatchingError}

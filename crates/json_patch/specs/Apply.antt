@@ -7,13 +7,13 @@ use Rattle.tinyjson.specs.JsonParseErrorKind.TheVariants as kind
 use Rattle.tinyjson.specs.Parser.{ParsesText}
 use Rattle.tinyjson.specs.Tree.{Tree}
 use Rattle.tinyjson.specs.Written.{WrittenPart}
-use Rattle.json_patch_document.specs.Document.{IsPatch, ReadsPatch}
-use Rattle.json_patch_document.specs.Message.{patch_error_message, numbered_message}
-use Rattle.json_patch_document.specs.Operation.{Action, reason_message}
-use Rattle.json_patch_document.specs.Patch.{all_applied}
-use Rattle.json_patch_document.specs.declared.fault.PatchError.{PatchError}
-use Rattle.json_patch_document.specs.declared.fault.PatchError.TheVariants as document
-use Rattle.json_line.specs.Line.{line_of}
+use Rattle.tinyjson_patch.specs.Document.{IsPatch, ReadsPatch}
+use Rattle.tinyjson_patch.specs.Message.{patch_error_message, numbered_message}
+use Rattle.tinyjson_patch.specs.Operation.{Action, reason_message}
+use Rattle.tinyjson_patch.specs.Patch.{all_applied}
+use Rattle.tinyjson_patch.specs.declared.fault.PatchError.{PatchError}
+use Rattle.tinyjson_patch.specs.declared.fault.PatchError.TheVariants as document
+use Rattle.tinyjson_lines.specs.Line.{line_of}
 use Rattle.json_patch.specs.declared.apply.PatchingError.{PatchingError}
 use Rattle.json_patch.specs.declared.apply.PatchingError.TheVariants.{BadText, BadPatch, Refused, Failed, OutOfMemory, Writing}
 use Rattle.tinyjson.specs.declared.parser.error.JsonParseError.{JsonParseError}

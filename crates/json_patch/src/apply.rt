@@ -3,17 +3,17 @@ ghost use Rattle.std.specs.IoError.{error_kind};
 ghost use Rattle.std.specs.Prelude.{◌≡◌, Some};
 ghost use Rattle.std.specs.Str.{chars};
 ghost use Rattle.tinyjson.specs.View.{view};
-ghost use Rattle.json_patch_document.specs.Patch.{actions_of};
+ghost use Rattle.tinyjson_patch.specs.Patch.{actions_of};
 ghost use Rattle.json_patch.specs.Apply.{status_of, patching_error_message, patch_depth};
 ghost use Rattle.json_patch.specs.Apply.{IsFailedWrite, WritesLine, AppliesTree, AppliesText};
 ghost use Rattle.json_patch.specs.Apply.{AppliesDocument, WritesPatched};
 
-use json_line::write_line;
-use json_patch_document::{ApplyError, Patch, PatchError, Reason};
 use std::alloc::Global;
 use std::fmt;
 use std::io::{self, ErrorKind, Write};
 use tinyjson::{JsonParseError, JsonValue};
+use tinyjson_lines::write_line;
+use tinyjson_patch::{ApplyError, Patch, PatchError, Reason};
 
 /// How many containers of a patch may be open at once: the drop of the patch takes stack as it is deep.
 const PATCH_DEPTH: usize = 1_000;

@@ -15,11 +15,11 @@ use Rattle.json_path.proofs.Stated.{comparable_keeps}
 use Rattle.json_path.proofs.Selected.{AreWithin, are_within, is_origin}
 use Rattle.json_path.proofs.Within.{Within, within_same, within_left, within_right, within_trans, within_each, within_both}
 use Rattle.json_path.proofs.Within.{from_within, from_error, from_result, of_query, of_here, of_all}
-use Rattle.json_path_query.specs.declared.query.Comparable.{Comparable}
-use Rattle.json_path_query.specs.declared.query.Expression.{Expression, the_lemmas}
-use Rattle.json_path_query.specs.declared.query.Expression.TheVariants as expression
-use Rattle.json_path_query.specs.declared.query.FilterQuery.{FilterQuery}
-use Rattle.json_path_query.specs.declared.query.Origin.{Origin}
+use Rattle.tinyjson_path_query.specs.declared.query.Comparable.{Comparable}
+use Rattle.tinyjson_path_query.specs.declared.query.Expression.{Expression, the_lemmas}
+use Rattle.tinyjson_path_query.specs.declared.query.Expression.TheVariants as expression
+use Rattle.tinyjson_path_query.specs.declared.query.FilterQuery.{FilterQuery}
+use Rattle.tinyjson_path_query.specs.declared.query.Origin.{Origin}
 
 -- ---- of the query
 

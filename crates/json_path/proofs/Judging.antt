@@ -12,12 +12,12 @@ use Rattle.i_regexp.specs.Grammar.{Regexp, IsText}
 use Rattle.i_regexp.specs.Regexps.{form_in, IsReading}
 use Rattle.i_regexp.specs.declared.regexp.IRegexp.{IRegexp}
 use Rattle.json_path.specs.Patterns.{IsRight, judged, answer_of, holds_of_trees}
-use Rattle.json_path_query.specs.declared.query.PatternFunction.{PatternFunction}
+use Rattle.tinyjson_path_query.specs.declared.query.PatternFunction.{PatternFunction}
 use Rattle.tinyjson.proofs.Callers.{view_String}
 use Rattle.tinyjson.specs.View.{view, text}
 use Rattle.tinyjson.specs.declared.value.JsonValue.{JsonValue}
 use Rattle.tinyjson.specs.declared.value.JsonValue.TheVariants as is
-use Rattle.json_path_query.specs.declared.query.PatternFunction.TheVariants.{Match, Search}
+use Rattle.tinyjson_path_query.specs.declared.query.PatternFunction.TheVariants.{Match, Search}
 
 pub judged_right : IsRight judged
 judged_right Match ps cs = (pattern_matches_sound ps cs, pattern_matches_complete ps cs)

@@ -13,11 +13,11 @@ use Rattle.json_path.specs.Selecting.{from_each, one_below, by_name, by_index, b
 use Rattle.json_path.specs.Selecting.{tree_at_place}
 use Rattle.json_path.specs.Slices.{place_of, clamped, clamped_after, bound_or, is_up, is_down}
 use Rattle.json_path.specs.Strings.{Texts, strings_in, strings_in_items, strings_in_members, strings_at, strings_of}
-use Rattle.json_path_query.specs.declared.query.Origin.{Origin}
-use Rattle.json_path_query.specs.declared.query.Origin.TheVariants.{Root, CurrentNode}
-use Rattle.json_path_query.specs.declared.query.SingularQuery.{SingularQuery}
-use Rattle.json_path_query.specs.declared.query.SingularSegment.{SingularSegment}
-use Rattle.json_path_query.specs.declared.query.SingularSegment.TheVariants.{Name, Index}
+use Rattle.tinyjson_path_query.specs.declared.query.Origin.{Origin}
+use Rattle.tinyjson_path_query.specs.declared.query.Origin.TheVariants.{Root, CurrentNode}
+use Rattle.tinyjson_path_query.specs.declared.query.SingularQuery.{SingularQuery}
+use Rattle.tinyjson_path_query.specs.declared.query.SingularSegment.{SingularSegment}
+use Rattle.tinyjson_path_query.specs.declared.query.SingularSegment.TheVariants.{Name, Index}
 use Rattle.json_path.proofs.Within.{Within, within_self, within_none, within_left, within_right, within_both, within_trans}
 
 abbrev pub AreWithin : Texts → List Part → Type 0

@@ -17,24 +17,24 @@ use Rattle.json_path.specs.Strings.{segment_texts, selector_texts, expression_te
 use Rattle.json_path.proofs.Selected.{AreWithin, are_both, are_each, are_chosen, are_children, are_visited, are_by_name, are_by_index}
 use Rattle.json_path.proofs.Selected.{are_by_slice, is_origin, is_one_tree, is_length, is_value}
 use Rattle.json_path.proofs.Within.{Within, within_self, within_none, within_left, within_right, within_trans}
-use Rattle.json_path_query.specs.declared.query.Comparable.{Comparable, Comparable-F, fold_out-Comparable, map-Comparable, out-Comparable}
-use Rattle.json_path_query.specs.declared.query.Comparable.TheVariants as comparable
-use Rattle.json_path_query.specs.declared.query.ComparisonOperator.{ComparisonOperator}
-use Rattle.json_path_query.specs.declared.query.Expression.{Expression}
-use Rattle.json_path_query.specs.declared.query.Expression.TheVariants as expression
-use Rattle.json_path_query.specs.declared.query.FilterQuery.{FilterQuery, FilterQuery-F, fold_out-FilterQuery, map-FilterQuery}
-use Rattle.json_path_query.specs.declared.query.FilterQuery.{out-FilterQuery}
-use Rattle.json_path_query.specs.declared.query.FunctionExpression.{FunctionExpression, FunctionExpression-F, fold-FunctionExpression}
-use Rattle.json_path_query.specs.declared.query.FunctionExpression.{fold_out-FunctionExpression, map-FunctionExpression}
-use Rattle.json_path_query.specs.declared.query.FunctionExpression.{out-FunctionExpression}
-use Rattle.json_path_query.specs.declared.query.FunctionExpression.TheVariants as function
-use Rattle.json_path_query.specs.declared.query.Literal.{Literal}
-use Rattle.json_path_query.specs.declared.query.Literal.TheVariants as literal
-use Rattle.json_path_query.specs.declared.query.PatternFunction.{PatternFunction}
-use Rattle.json_path_query.specs.declared.query.Segment.{Segment, Segment-F, fold_out-Segment, map-Segment, out-Segment, the_lemmas}
-use Rattle.json_path_query.specs.declared.query.Segment.TheVariants as segment
-use Rattle.json_path_query.specs.declared.query.Selector.{Selector, Selector-F, fold_out-Selector}
-use Rattle.json_path_query.specs.declared.query.Selector.TheVariants as selector
+use Rattle.tinyjson_path_query.specs.declared.query.Comparable.{Comparable, Comparable-F, fold_out-Comparable, map-Comparable, out-Comparable}
+use Rattle.tinyjson_path_query.specs.declared.query.Comparable.TheVariants as comparable
+use Rattle.tinyjson_path_query.specs.declared.query.ComparisonOperator.{ComparisonOperator}
+use Rattle.tinyjson_path_query.specs.declared.query.Expression.{Expression}
+use Rattle.tinyjson_path_query.specs.declared.query.Expression.TheVariants as expression
+use Rattle.tinyjson_path_query.specs.declared.query.FilterQuery.{FilterQuery, FilterQuery-F, fold_out-FilterQuery, map-FilterQuery}
+use Rattle.tinyjson_path_query.specs.declared.query.FilterQuery.{out-FilterQuery}
+use Rattle.tinyjson_path_query.specs.declared.query.FunctionExpression.{FunctionExpression, FunctionExpression-F, fold-FunctionExpression}
+use Rattle.tinyjson_path_query.specs.declared.query.FunctionExpression.{fold_out-FunctionExpression, map-FunctionExpression}
+use Rattle.tinyjson_path_query.specs.declared.query.FunctionExpression.{out-FunctionExpression}
+use Rattle.tinyjson_path_query.specs.declared.query.FunctionExpression.TheVariants as function
+use Rattle.tinyjson_path_query.specs.declared.query.Literal.{Literal}
+use Rattle.tinyjson_path_query.specs.declared.query.Literal.TheVariants as literal
+use Rattle.tinyjson_path_query.specs.declared.query.PatternFunction.{PatternFunction}
+use Rattle.tinyjson_path_query.specs.declared.query.Segment.{Segment, Segment-F, fold_out-Segment, map-Segment, out-Segment, the_lemmas}
+use Rattle.tinyjson_path_query.specs.declared.query.Segment.TheVariants as segment
+use Rattle.tinyjson_path_query.specs.declared.query.Selector.{Selector, Selector-F, fold_out-Selector}
+use Rattle.tinyjson_path_query.specs.declared.query.Selector.TheVariants as selector
 
 -- ---- the strings of each variant
 

@@ -5,8 +5,8 @@ use Rattle.tinyjson.proofs.Callers.{Appends_written, begins, stop}
 use Rattle.tinyjson.specs.Grammar.{IsText}
 use Rattle.tinyjson.specs.Tree.{Tree}
 use Rattle.tinyjson.specs.Written.{Written, WrittenPart}
-use Rattle.json_path_query.specs.Reading.{Reads}
-use Rattle.json_path_query.specs.declared.query.Query.{Query}
+use Rattle.tinyjson_path_query.specs.Reading.{Reads}
+use Rattle.tinyjson_path_query.specs.declared.query.Query.{Query}
 use Rattle.json_path.specs.Lines.{lines_of, IsFailedWrite, WritesNodes, WritesOfText, WritesOfQuery}
 use Rattle.json_path.specs.Nodes.{parts_view}
 use Rattle.json_path.specs.Patterns.{judged}

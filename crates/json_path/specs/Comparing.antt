@@ -2,7 +2,7 @@
 use Rattle.std.specs.Prelude.{ℕ, suc, pos, Bool, true, false, ◌||◌, not}
 use Rattle.std.specs.Prelude.{List, [], ◌∷◌, length, Option, Some, None, option_and_then, option_map}
 use Rattle.std.specs.Ordering.{is_lt}
-use Rattle.json_order.specs.Order.{is_less}
+use Rattle.tinyjson_compare.specs.Order.{is_less}
 use Rattle.tinyjson.specs.Equality.{tree_eq}
 use Rattle.tinyjson.specs.Index.{item_count, tree_at_key}
 use Rattle.tinyjson.specs.Number.{integer_decimal}
@@ -11,15 +11,15 @@ use Rattle.tinyjson.specs.View.{text}
 use Rattle.json_path.specs.Nodes.{Part}
 use Rattle.json_path.specs.Selecting.{items_in, tree_at_place}
 use Rattle.json_path.specs.Slices.{place_of}
-use Rattle.json_path_query.specs.declared.query.ComparisonOperator.{ComparisonOperator}
-use Rattle.json_path_query.specs.declared.query.ComparisonOperator.TheVariants.{Equal, NotEqual, Less, LessOrEqual, Greater, GreaterOrEqual}
-use Rattle.json_path_query.specs.declared.query.Literal.{Literal}
-use Rattle.json_path_query.specs.declared.query.Literal.TheVariants as literal
-use Rattle.json_path_query.specs.declared.query.Origin.{Origin}
-use Rattle.json_path_query.specs.declared.query.Origin.TheVariants.{Root, CurrentNode}
-use Rattle.json_path_query.specs.declared.query.SingularQuery.{SingularQuery}
-use Rattle.json_path_query.specs.declared.query.SingularSegment.{SingularSegment}
-use Rattle.json_path_query.specs.declared.query.SingularSegment.TheVariants.{Name, Index}
+use Rattle.tinyjson_path_query.specs.declared.query.ComparisonOperator.{ComparisonOperator}
+use Rattle.tinyjson_path_query.specs.declared.query.ComparisonOperator.TheVariants.{Equal, NotEqual, Less, LessOrEqual, Greater, GreaterOrEqual}
+use Rattle.tinyjson_path_query.specs.declared.query.Literal.{Literal}
+use Rattle.tinyjson_path_query.specs.declared.query.Literal.TheVariants as literal
+use Rattle.tinyjson_path_query.specs.declared.query.Origin.{Origin}
+use Rattle.tinyjson_path_query.specs.declared.query.Origin.TheVariants.{Root, CurrentNode}
+use Rattle.tinyjson_path_query.specs.declared.query.SingularQuery.{SingularQuery}
+use Rattle.tinyjson_path_query.specs.declared.query.SingularSegment.{SingularSegment}
+use Rattle.tinyjson_path_query.specs.declared.query.SingularSegment.TheVariants.{Name, Index}
 
 -- ---- comparisons
 

@@ -10,10 +10,10 @@ use Rattle.tinyjson.specs.Parser.{ParsesText}
 use Rattle.tinyjson.specs.Text.{compact}
 use Rattle.tinyjson.specs.Tree.{Tree}
 use Rattle.tinyjson.specs.Written.{WrittenPart}
-use Rattle.json_path_query.specs.Message as query
-use Rattle.json_path_query.specs.Reading.{Reads}
-use Rattle.json_path_query.specs.declared.error.ParseErrorKind.TheVariants as refusal
-use Rattle.json_path_query.specs.declared.query.Query.{Query}
+use Rattle.tinyjson_path_query.specs.Message as query
+use Rattle.tinyjson_path_query.specs.Reading.{Reads}
+use Rattle.tinyjson_path_query.specs.declared.error.ParseErrorKind.TheVariants as refusal
+use Rattle.tinyjson_path_query.specs.declared.query.Query.{Query}
 use Rattle.json_path.specs.Nodes.{Part}
 use Rattle.json_path.specs.Paths.{path_text}
 use Rattle.json_path.specs.Patterns.{Judge, IsRight}

@@ -3,8 +3,8 @@ use Rattle.std.specs.Prelude.{◌↔◌, ℕ, Bool, false, IsTrue, List, Option,
 use Rattle.i_regexp.specs.Deciding.{matches, searches, pattern_matches, pattern_searches}
 use Rattle.i_regexp.specs.Regexps.{form_in, PatternMatches, PatternSearches}
 use Rattle.i_regexp.specs.declared.regexp.IRegexp.{IRegexp}
-use Rattle.json_path_query.specs.declared.query.PatternFunction.{PatternFunction}
-use Rattle.json_path_query.specs.declared.query.PatternFunction.TheVariants.{Match, Search}
+use Rattle.tinyjson_path_query.specs.declared.query.PatternFunction.{PatternFunction}
+use Rattle.tinyjson_path_query.specs.declared.query.PatternFunction.TheVariants.{Match, Search}
 use Rattle.tinyjson.specs.Tree.{Tree, string}
 
 -- the first text is a regular expression of RFC 9485 that matches the whole of the second, or a part of it

@@ -6,13 +6,13 @@ use Rattle.json_path.specs.Comparing.{compares, literal_tree, origin_tree, one_t
 use Rattle.json_path.specs.Nodes.{Part, root_part, children, visited}
 use Rattle.json_path.specs.Patterns.{Judge, pattern_holds, judged}
 use Rattle.json_path.specs.Selecting.{from_each, by_name, by_index, by_slice}
-use Rattle.json_path_query.specs.declared.query.Query.{Query}
-use Rattle.json_path_query.specs.declared.query.Comparable.{Comparable, fold-Comparable, Comparable-F}
-use Rattle.json_path_query.specs.declared.query.Expression.{Expression, fold-Expression, Expression-F}
-use Rattle.json_path_query.specs.declared.query.FilterQuery.{FilterQuery, fold-FilterQuery, FilterQuery-F}
-use Rattle.json_path_query.specs.declared.query.FunctionExpression.{FunctionExpression-F}
-use Rattle.json_path_query.specs.declared.query.Segment.{Segment, fold-Segment, Segment-F}
-use Rattle.json_path_query.specs.declared.query.Selector.{Selector, fold-Selector, Selector-F}
+use Rattle.tinyjson_path_query.specs.declared.query.Query.{Query}
+use Rattle.tinyjson_path_query.specs.declared.query.Comparable.{Comparable, fold-Comparable, Comparable-F}
+use Rattle.tinyjson_path_query.specs.declared.query.Expression.{Expression, fold-Expression, Expression-F}
+use Rattle.tinyjson_path_query.specs.declared.query.FilterQuery.{FilterQuery, fold-FilterQuery, FilterQuery-F}
+use Rattle.tinyjson_path_query.specs.declared.query.FunctionExpression.{FunctionExpression-F}
+use Rattle.tinyjson_path_query.specs.declared.query.Segment.{Segment, fold-Segment, Segment-F}
+use Rattle.tinyjson_path_query.specs.declared.query.Selector.{Selector, fold-Selector, Selector-F}
 
 -- what a segment and a selector select from a part, in a value with this root
 abbrev pub Selects : Type 0

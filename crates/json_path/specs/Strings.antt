@@ -11,15 +11,15 @@ use Rattle.json_path.specs.declared.patterns.FindError.{FindError}
 use Rattle.json_path.specs.declared.patterns.FindError.TheVariants.{Pattern, OutOfMemory}
 use Rattle.json_path.specs.declared.patterns.PatternLimit.{PatternLimit}
 use Rattle.json_path.specs.declared.patterns.PatternLimit.TheVariants.{TooDeep, TooLarge}
-use Rattle.json_path_query.specs.declared.query.Comparable.{Comparable, fold-Comparable, Comparable-F}
-use Rattle.json_path_query.specs.declared.query.Expression.{Expression, fold-Expression, Expression-F}
-use Rattle.json_path_query.specs.declared.query.FilterQuery.{FilterQuery, fold-FilterQuery, FilterQuery-F}
-use Rattle.json_path_query.specs.declared.query.FunctionExpression.{FunctionExpression-F}
-use Rattle.json_path_query.specs.declared.query.Literal.{Literal}
-use Rattle.json_path_query.specs.declared.query.Literal.TheVariants as literal
-use Rattle.json_path_query.specs.declared.query.Query.{Query}
-use Rattle.json_path_query.specs.declared.query.Segment.{Segment, fold-Segment, Segment-F}
-use Rattle.json_path_query.specs.declared.query.Selector.{Selector, fold-Selector, Selector-F}
+use Rattle.tinyjson_path_query.specs.declared.query.Comparable.{Comparable, fold-Comparable, Comparable-F}
+use Rattle.tinyjson_path_query.specs.declared.query.Expression.{Expression, fold-Expression, Expression-F}
+use Rattle.tinyjson_path_query.specs.declared.query.FilterQuery.{FilterQuery, fold-FilterQuery, FilterQuery-F}
+use Rattle.tinyjson_path_query.specs.declared.query.FunctionExpression.{FunctionExpression-F}
+use Rattle.tinyjson_path_query.specs.declared.query.Literal.{Literal}
+use Rattle.tinyjson_path_query.specs.declared.query.Literal.TheVariants as literal
+use Rattle.tinyjson_path_query.specs.declared.query.Query.{Query}
+use Rattle.tinyjson_path_query.specs.declared.query.Segment.{Segment, fold-Segment, Segment-F}
+use Rattle.tinyjson_path_query.specs.declared.query.Selector.{Selector, fold-Selector, Selector-F}
 
 abbrev pub Texts : Type 0
 Texts = List (List ℕ)

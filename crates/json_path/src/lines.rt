@@ -15,12 +15,12 @@ use crate::node::{Location, Node};
 use crate::path::path_text;
 use crate::patterns::{FindError, PatternLimit};
 use crate::select::find;
-use json_line::write_all;
-use json_path_query::{ParseError, ParseErrorKind, Query};
 use std::alloc::Global;
 use std::fmt;
 use std::io::{self, ErrorKind, Write};
 use tinyjson::{JsonParseError, JsonValue};
+use tinyjson_lines::write_all;
+use tinyjson_path_query::{ParseError, ParseErrorKind, Query};
 
 /// What is written of a node.
 #[derive(Clone, Copy)]

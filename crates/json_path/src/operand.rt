@@ -9,10 +9,10 @@ ghost use Rattle.json_path.specs.Seen.{operand_tree, value_tree};
 
 use crate::children::{child_at, child_named};
 use crate::node::Node;
-use json_order::is_less;
-use json_path_query::{ComparisonOperator, Literal, Origin, SingularQuery, SingularSegment};
 use std::alloc::{AllocError, Global};
 use tinyjson::{JsonNumber, JsonValue, sorted_members};
+use tinyjson_compare::is_less;
+use tinyjson_path_query::{ComparisonOperator, Literal, Origin, SingularQuery, SingularSegment};
 
 /// A value that is compared: one of the input's, or one of the filter's own.
 pub(crate) enum Operand<'v> {

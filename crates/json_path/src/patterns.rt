@@ -8,14 +8,14 @@ ghost use Rattle.json_path.specs.Patterns.{judged, answer_of, holds_of_trees, pa
 ghost use Rattle.json_path.specs.Seen.{operand_tree, value_tree};
 ghost use Rattle.json_path.specs.Strings.{strings_in, strings_at, IsFrom};
 ghost use Rattle.json_path.specs.declared.patterns.FindError.{FindError};
-ghost use Rattle.json_path_query.specs.declared.query.PatternFunction.{PatternFunction};
+ghost use Rattle.tinyjson_path_query.specs.declared.query.PatternFunction.{PatternFunction};
 
 use crate::operand::{Operand, release, value_of};
 use i_regexp::{IRegexp, IRegexpErrorKind};
-use json_path_query::PatternFunction;
 use std::alloc::{AllocError, AllocFailed, Global};
 use std::fmt;
 use tinyjson::JsonValue;
+use tinyjson_path_query::PatternFunction;
 
 /// How a regular expression is more than is read.
 #[derive(Clone, Copy)]

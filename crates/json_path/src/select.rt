@@ -17,9 +17,9 @@ use crate::operand::{
     self, Operand, compare, literal_value, only_value, release, singular_value, start,
 };
 use crate::patterns::{FindError, Patterns};
-use json_path_query::{Comparable, Expression, FunctionExpression, Query, Segment, Selector};
 use std::alloc::{AllocError, Global};
 use tinyjson::JsonValue;
+use tinyjson_path_query::{Comparable, Expression, FunctionExpression, Query, Segment, Selector};
 
 /// The nodes that the query selects in the value, in order (RFC 9535, 2.1.2); one that is selected twice
 /// is there twice. The members of an object come in the order of their keys' bytes, which the RFC leaves

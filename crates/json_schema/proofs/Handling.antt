@@ -8,7 +8,7 @@ use Rattle.std.specs.declared.io.Error.{Error}
 use Rattle.tinyjson.proofs.Callers.{Appends_keeps, Appends_written, begins, stop, written_same}
 use Rattle.tinyjson.specs.Tree.{Tree}
 use Rattle.tinyjson.specs.Written.{Written, WrittenPart}
-use Rattle.json_line.specs.Line.{line_of}
+use Rattle.tinyjson_lines.specs.Line.{line_of}
 use Rattle.json_schema.specs.Report.{report_tree}
 use Rattle.json_schema.specs.Run.{Handles}
 use Rattle.json_schema.specs.Told.{told_line}

@@ -3,8 +3,8 @@ use Rattle.std.proofs.Common.{◌≡◌, ◌∷◌, [], ℕ, Bool, true, false, 
 use Rattle.std.specs.Prelude.{option_and_then}
 use Rattle.tinyjson.specs.Index.{tree_at, tree_at_key}
 use Rattle.tinyjson.specs.Tree.{Tree, array, object}
-use Rattle.json_pointer.specs.Index.{index_of}
-use Rattle.json_pointer.specs.Walk.{step, part_at, item_of}
+use Rattle.tinyjson_pointer.specs.Index.{index_of}
+use Rattle.tinyjson_pointer.specs.Walk.{step, part_at, item_of}
 use Rattle.json_schema.specs.Parts.{property, prefix_item, is_patterned, additional, member_schema, item_schema, or_else}
 use Rattle.json_schema.specs.Places.{place}
 use Rattle.json_schema.specs.declared.keyword.Keyword.TheVariants as kw

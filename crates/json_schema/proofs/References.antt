@@ -11,14 +11,14 @@ use Rattle.tinyjson.specs.Tree.{Tree}
 use Rattle.tinyjson.specs.View.{view, text}
 use Rattle.tinyjson.specs.declared.value.JsonValue.{JsonValue}
 use Rattle.tinyjson.specs.declared.value.JsonValue.TheVariants as is
-use Rattle.json_pointer.specs.Reading.{Reads}
-use Rattle.json_pointer.specs.Text.{pointer_tokens}
-use Rattle.json_pointer.specs.Tokens.{tokens_of}
-use Rattle.json_pointer.specs.declared.pointer.Pointer.{Pointer}
-use Rattle.json_pointer.specs.declared.pointer.PointerError.{PointerError}
-use Rattle.json_pointer.specs.declared.pointer.PointerError.TheVariants.{NoSlash, BadEscape, OutOfMemory}
-use Rattle.json_pointer.proofs.Callers.{tokens_read, no_tokens_read}
-use Rattle.json_pointer.specs.Walk.{part_at}
+use Rattle.tinyjson_pointer.specs.Reading.{Reads}
+use Rattle.tinyjson_pointer.specs.Text.{pointer_tokens}
+use Rattle.tinyjson_pointer.specs.Tokens.{tokens_of}
+use Rattle.tinyjson_pointer.specs.declared.pointer.Pointer.{Pointer}
+use Rattle.tinyjson_pointer.specs.declared.pointer.PointerError.{PointerError}
+use Rattle.tinyjson_pointer.specs.declared.pointer.PointerError.TheVariants.{NoSlash, BadEscape, OutOfMemory}
+use Rattle.tinyjson_pointer.proofs.Callers.{tokens_read, no_tokens_read}
+use Rattle.tinyjson_pointer.specs.Walk.{part_at}
 use Rattle.json_schema.specs.Anchors.{anchors_in, anchored, is_plain_name}
 use Rattle.json_schema.specs.References.{percent_decoded, after_percent, hex_byte, escape_front, byte_front}
 use Rattle.json_schema.specs.References.{reference_bytes, form_in, form_after, is_schema_form}

@@ -11,9 +11,9 @@ use Rattle.tinyjson.specs.Tree.{Tree, boolean, string, array, object, Items, Mem
 use Rattle.tinyjson.specs.View.{view, text, members_listed}
 use Rattle.tinyjson.specs.declared.value.JsonValue.{JsonValue}
 use Rattle.tinyjson.specs.declared.value.JsonValue.TheVariants as is
-use Rattle.json_pointer.specs.Index.{HasIndexBefore}
-use Rattle.json_pointer.specs.Tokens.{tokens_of}
-use Rattle.json_pointer.specs.Walk.{item_of, step}
+use Rattle.tinyjson_pointer.specs.Index.{HasIndexBefore}
+use Rattle.tinyjson_pointer.specs.Tokens.{tokens_of}
+use Rattle.tinyjson_pointer.specs.Walk.{item_of, step}
 use Rattle.json_schema.specs.Forms.{form_at, is_pattern_text, are_patterns, has_patterns}
 use Rattle.json_schema.specs.References.{form_in}
 use Rattle.json_schema.specs.Refused.{IsRefusedAt, IsAboveAt, IsReason, IsTextReason, IsWhole, Refuses, RefusesWhole, has_own_form}

@@ -10,9 +10,9 @@ use Rattle.tinyjson.specs.Characters.{solidus, tilde}
 use Rattle.tinyjson.specs.Tree.{Tree, boolean, string, object, Members, no_members, put}
 use Rattle.tinyjson.specs.View.{view, text, members_view}
 use Rattle.tinyjson.specs.declared.value.JsonValue.TheVariants as is
-use Rattle.json_pointer.specs.Text.{escape_char, escape, pointer_text}
-use Rattle.json_pointer.specs.Tokens.{tokens_of}
-use Rattle.json_pointer.specs.declared.pointer.Pointer.{Pointer}
+use Rattle.tinyjson_pointer.specs.Text.{escape_char, escape, pointer_text}
+use Rattle.tinyjson_pointer.specs.Tokens.{tokens_of}
+use Rattle.tinyjson_pointer.specs.declared.pointer.Pointer.{Pointer}
 use Rattle.json_schema.specs.Report.{place_tree, with_line, report_tree}
 use Rattle.json_schema.specs.declared.violation.Violation.{Violation}
 

@@ -5,8 +5,8 @@ use Rattle.std.specs.Io.KnownBytes.{Keeps}
 use Rattle.std.specs.Result.{IsErr}
 use Rattle.std.specs.declared.io.Error.{Error}
 use Rattle.tinyjson.specs.Tree.{Tree}
-use Rattle.json_line.proofs.Callers as run
-use Rattle.json_line.specs.Lines.{LinesRead, AllRead}
+use Rattle.tinyjson_lines.proofs.Callers as run
+use Rattle.tinyjson_lines.specs.Lines.{LinesRead, AllRead}
 use Rattle.json_schema.specs.Run.{Handles, Runs, report_of, telling_of, both, outcome_of_all}
 use Rattle.json_schema.specs.Verdicts.{LineGives}
 use Rattle.json_schema.specs.declared.lines.Outcome.{Outcome}

@@ -9,9 +9,9 @@ use Rattle.std.specs.Prelude.{option_and_then, IfOk}
 use Rattle.tinyjson.specs.Index.{tree_at_key, nth}
 use Rattle.tinyjson.specs.Tree.{Tree, array, object, Items, no_items, item, Members, no_members, member, find}
 use Rattle.tinyjson.specs.View.{view}
-use Rattle.json_pointer.specs.Index.{index_of}
-use Rattle.json_pointer.specs.Tokens.{tokens_of}
-use Rattle.json_pointer.specs.Walk.{step, part_at, item_of}
+use Rattle.tinyjson_pointer.specs.Index.{index_of}
+use Rattle.tinyjson_pointer.specs.Tokens.{tokens_of}
+use Rattle.tinyjson_pointer.specs.Walk.{step, part_at, item_of}
 use Rattle.json_schema.specs.Applied.{Judge, schema_at, schemas_at, schema_map_at, all_accept, branch, branch_accepts, dependents_accept}
 use Rattle.json_schema.specs.Applied.{applies, apply_all, counts, tests, demands, member_accepted, members_accepted, item_accepted}
 use Rattle.i_regexp.specs.PatternDeciding.{is_found}

@@ -12,7 +12,7 @@ use Rattle.tinyjson.specs.Access.{is_string}
 use Rattle.tinyjson.specs.Characters.{solidus, tilde}
 use Rattle.tinyjson.specs.Tree.{Tree, string, array, object, Items, no_items, item, Members, no_members, member, put}
 use Rattle.uri_reference.specs.Resolving.{resolved, without_fragment, fragment_of}
-use Rattle.json_pointer.specs.Text.{pointer_tokens}
+use Rattle.tinyjson_pointer.specs.Text.{pointer_tokens}
 use Rattle.json_schema.specs.Anchors.{is_plain_name}
 use Rattle.json_schema.specs.Applied.{schema_at}
 use Rattle.json_schema.specs.Forms.{form_at}

@@ -4,7 +4,7 @@ use Rattle.std.specs.Prelude.{◌≡◌, ℕ, suc, Bool, true, false, ◌&&◌, 
 use Rattle.std.specs.Option.{option_map_or}
 use Rattle.tinyjson.specs.Index.{tree_at_key, nth}
 use Rattle.tinyjson.specs.Tree.{Tree, array, object, Items, no_items, item, Members, no_members, member, find}
-use Rattle.json_pointer.specs.Index.{index_of}
+use Rattle.tinyjson_pointer.specs.Index.{index_of}
 use Rattle.json_schema.specs.Applied.{Judge, schema_at, schemas_at, schema_map_at, branch, items_in, members_in}
 use Rattle.json_schema.specs.Parts.{is_patterned, member_schema, item_schema}
 use Rattle.json_schema.specs.References.{referenced}

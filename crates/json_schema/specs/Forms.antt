@@ -5,8 +5,8 @@ use Rattle.std.specs.Str.{bytes_eq}
 use Rattle.i_regexp.specs.PatternDeciding.{is_pattern}
 use Rattle.tinyjson.specs.Access.{is_string}
 use Rattle.tinyjson.specs.Tree.{Tree, number, string, array, object, Items, no_items, item, Members, no_members, member}
-use Rattle.json_order.specs.Distinct.{are_distinct}
-use Rattle.json_order.specs.Multiples.{is_divisor}
+use Rattle.tinyjson_compare.specs.Distinct.{are_distinct}
+use Rattle.tinyjson_compare.specs.Multiples.{is_divisor}
 use Rattle.json_schema.specs.Keywords.{is_among}
 use Rattle.json_schema.specs.Names.{keywords, keyword_among}
 use Rattle.json_schema.specs.declared.form.Form.{Form}

@@ -12,10 +12,10 @@ use Rattle.tinyjson.specs.Kind.{kind_of, kind_name}
 use Rattle.tinyjson.specs.Number.{Decimal, integer_decimal}
 use Rattle.tinyjson.specs.Tree.{Tree, boolean, number, string, array, object, Items, no_items, item, Members, no_members, member, find}
 use Rattle.json_schema.specs.Names.{name}
-pub use Rattle.json_order.specs.Distinct.{is_among}
-use Rattle.json_order.specs.Distinct.{are_distinct}
-use Rattle.json_order.specs.Multiples.{is_divisor, is_multiple}
-use Rattle.json_order.specs.Order.{is_at_most}
+pub use Rattle.tinyjson_compare.specs.Distinct.{is_among}
+use Rattle.tinyjson_compare.specs.Distinct.{are_distinct}
+use Rattle.tinyjson_compare.specs.Multiples.{is_divisor, is_multiple}
+use Rattle.tinyjson_compare.specs.Order.{is_at_most}
 use Rattle.json_schema.specs.declared.keyword.Keyword.{Keyword}
 use Rattle.json_schema.specs.declared.keyword.Keyword.TheVariants as kw
 

@@ -4,7 +4,7 @@ use Rattle.std.specs.Option.{option_map_or}
 use Rattle.i_regexp.specs.PatternDeciding.{is_found}
 use Rattle.tinyjson.specs.Index.{tree_at, tree_at_key}
 use Rattle.tinyjson.specs.Tree.{Tree, array, object, Members, no_members, member}
-use Rattle.json_pointer.specs.Index.{index_of}
+use Rattle.tinyjson_pointer.specs.Index.{index_of}
 use Rattle.json_schema.specs.declared.keyword.Keyword.{Keyword}
 use Rattle.json_schema.specs.declared.keyword.Keyword.TheVariants as kw
 

@@ -2,9 +2,9 @@
 use Rattle.std.specs.Prelude.{◌≡◌, ℕ, List, [], ◌∷◌, ◌++◌, Option, Some, None, cond}
 use Rattle.tinyjson.specs.Tree.{Tree}
 use Rattle.tinyjson.specs.View.{view}
-use Rattle.json_pointer.specs.Index.{index_of}
-use Rattle.json_pointer.specs.Tokens.{tokens_of}
-use Rattle.json_pointer.specs.Walk.{part_at}
+use Rattle.tinyjson_pointer.specs.Index.{index_of}
+use Rattle.tinyjson_pointer.specs.Tokens.{tokens_of}
+use Rattle.tinyjson_pointer.specs.Walk.{part_at}
 use Rattle.json_schema.specs.Names.{name}
 use Rattle.json_schema.specs.Parts.{is_by_part, member_schema, item_schema}
 use Rattle.json_schema.specs.declared.keyword.Keyword.{Keyword}

@@ -2,7 +2,7 @@
 use Rattle.std.specs.Prelude.{◌≡◌, true, false, Result, Ok, Err}
 use Rattle.tinyjson.specs.Tree.{Tree}
 use Rattle.tinyjson.specs.View.{view}
-use Rattle.json_pointer.specs.Tokens.{tokens_of}
+use Rattle.tinyjson_pointer.specs.Tokens.{tokens_of}
 use Rattle.json_schema.specs.Refused.{IsRefusedAt, IsAboveAt}
 use Rattle.json_schema.specs.Schemas.{is_schema}
 use Rattle.json_schema.specs.declared.form.Form.TheVariants as form

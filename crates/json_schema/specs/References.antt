@@ -5,8 +5,8 @@ use Rattle.std.specs.Prelude.{option_and_then, encode_utf8_all}
 use Rattle.std.specs.Str.{chars, is_utf8}
 use Rattle.tinyjson.specs.Characters.{is_hex}
 use Rattle.tinyjson.specs.Tree.{Tree, string}
-use Rattle.json_pointer.specs.Text.{pointer_tokens}
-use Rattle.json_pointer.specs.Walk.{part_at}
+use Rattle.tinyjson_pointer.specs.Text.{pointer_tokens}
+use Rattle.tinyjson_pointer.specs.Walk.{part_at}
 use Rattle.json_schema.specs.Anchors.{anchors_in, anchored, is_plain_name}
 use Rattle.json_schema.specs.Applied.{schema_at}
 use Rattle.json_schema.specs.Forms.{form_at}

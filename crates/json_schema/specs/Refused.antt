@@ -5,8 +5,8 @@ use Rattle.i_regexp.specs.PatternDeciding.{is_pattern}
 use Rattle.tinyjson.specs.Access.{is_boolean, is_object}
 use Rattle.tinyjson.specs.Tree.{Tree, string, array}
 use Rattle.tinyjson.specs.View.{view}
-use Rattle.json_pointer.specs.Tokens.{tokens_of}
-use Rattle.json_pointer.specs.Walk.{step}
+use Rattle.tinyjson_pointer.specs.Tokens.{tokens_of}
+use Rattle.tinyjson_pointer.specs.Walk.{step}
 use Rattle.json_schema.specs.Forms.{is_some_item}
 use Rattle.json_schema.specs.Patterns.{IsAboveLimits}
 use Rattle.json_schema.specs.References.{form_in}

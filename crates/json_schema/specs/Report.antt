@@ -3,9 +3,9 @@
 use Rattle.std.specs.Prelude.{ℕ, pos, false, Option, Some, None, codes}
 use Rattle.tinyjson.specs.Number.{integer_decimal}
 use Rattle.tinyjson.specs.Tree.{Tree, boolean, number, string, object, Members, no_members, member, put}
-use Rattle.json_pointer.specs.Text.{pointer_text}
-use Rattle.json_pointer.specs.Tokens.{tokens_of}
-use Rattle.json_pointer.specs.declared.pointer.Pointer.{Pointer}
+use Rattle.tinyjson_pointer.specs.Text.{pointer_text}
+use Rattle.tinyjson_pointer.specs.Tokens.{tokens_of}
+use Rattle.tinyjson_pointer.specs.declared.pointer.Pointer.{Pointer}
 use Rattle.json_schema.specs.declared.violation.Violation.{Violation}
 
 abbrev pub place_tree : Pointer → Tree

@@ -4,8 +4,8 @@ use Rattle.std.specs.Io.KnownBytes.{Appends, Keeps}
 use Rattle.std.specs.declared.io.Error.{Error}
 use Rattle.tinyjson.specs.Tree.{Tree}
 use Rattle.tinyjson.specs.Written.{WrittenPart}
-use Rattle.json_line.specs.Line.{line_of}
-use Rattle.json_line.specs.Lines.{AnswersAll, StopsAmong}
+use Rattle.tinyjson_lines.specs.Line.{line_of}
+use Rattle.tinyjson_lines.specs.Lines.{AnswersAll, StopsAmong}
 use Rattle.json_schema.specs.Report.{report_tree}
 use Rattle.json_schema.specs.Told.{told_line}
 use Rattle.json_schema.specs.Verdicts.{LineGives}

@@ -5,9 +5,9 @@ use Rattle.std.specs.Option.{option_map_or}
 use Rattle.tinyjson.specs.Index.{tree_at_key}
 use Rattle.tinyjson.specs.Tree.{Tree, boolean, Members, find}
 use Rattle.tinyjson.specs.View.{view}
-use Rattle.json_pointer.specs.Index.{index_of}
-use Rattle.json_pointer.specs.Tokens.{tokens_of}
-use Rattle.json_pointer.specs.Walk.{step, part_at, item_of}
+use Rattle.tinyjson_pointer.specs.Index.{index_of}
+use Rattle.tinyjson_pointer.specs.Tokens.{tokens_of}
+use Rattle.tinyjson_pointer.specs.Walk.{step, part_at, item_of}
 use Rattle.json_schema.specs.Applied.{Judge, schema_at, schemas_at, schema_map_at, applies, apply_all, tests, demands}
 use Rattle.i_regexp.specs.PatternDeciding.{is_found}
 use Rattle.json_schema.specs.Applied.{branch, parts_accepted, members_in, found_pass}

@@ -7,7 +7,7 @@ use Rattle.tinyjson.specs.JsonParseErrorKind.TheVariants as kind
 use Rattle.tinyjson.specs.Parser.{ParsesText}
 use Rattle.tinyjson.specs.Tree.{Tree}
 use Rattle.tinyjson.specs.declared.parser.error.JsonParseError.{JsonParseError}
-use Rattle.json_line.specs.Lines.{content}
+use Rattle.tinyjson_lines.specs.Lines.{content}
 use Rattle.json_schema.specs.Valid.{Validates}
 use Rattle.json_schema.specs.declared.verdict.Cause.TheVariants as cause
 use Rattle.json_schema.specs.declared.verdict.Verdict.{Verdict}

@@ -20,10 +20,10 @@ use crate::keyword::Keyword;
 use crate::multiple::are_multiple;
 use crate::pattern::Pattern;
 use crate::unique::are_unique;
-use json_order::is_at_most;
 use std::alloc::{AllocError, Global};
 use std::collections::HashMap;
 use tinyjson::{JsonNumber, JsonValue, sorted_members};
+use tinyjson_compare::is_at_most;
 
 /// The keywords that speak of a value and not of its parts, in the order in which they are checked.
 const ASSERTIONS: [Keyword; 18] = [

@@ -7,9 +7,9 @@ use crate::refusal::{Refusal, tell};
 use crate::report::write_report;
 use crate::schema::Schema;
 use crate::verdict::{Verdict, check_line};
-use json_line::read_line;
 use std::alloc::Global;
 use std::io::{self, BufRead, ErrorKind, Write};
+use tinyjson_lines::read_line;
 
 /// What became of the texts that were checked.
 #[derive(Clone, Copy)]

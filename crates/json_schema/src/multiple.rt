@@ -4,8 +4,8 @@ ghost use Rattle.tinyjson.specs.View.{view};
 ghost use Rattle.json_schema.specs.Forms.{is_divisor_number};
 ghost use Rattle.json_schema.specs.Keywords.{are_multiple};
 
-use json_order::{is_divisor, is_multiple};
 use tinyjson::JsonValue;
+use tinyjson_compare::{is_divisor, is_multiple};
 
 /// Whether the value is a number above zero with at most 19 digits.
 pub fn is_divisor_number(value: &JsonValue) -> bool

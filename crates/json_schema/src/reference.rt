@@ -2,8 +2,8 @@
 ghost use Rattle.std.specs.Prelude.{◌≡◌, Some, None, option_map, map, IfOk, MatchOption};
 ghost use Rattle.std.specs.Str.{chars};
 ghost use Rattle.tinyjson.specs.View.{view, text};
-ghost use Rattle.json_pointer.specs.Text.{pointer_tokens};
-ghost use Rattle.json_pointer.specs.Tokens.{tokens_of};
+ghost use Rattle.tinyjson_pointer.specs.Text.{pointer_tokens};
+ghost use Rattle.tinyjson_pointer.specs.Tokens.{tokens_of};
 ghost use Rattle.json_schema.specs.References.{percent_decoded, hex_byte, escape_front, byte_front};
 ghost use Rattle.json_schema.specs.References.{reference_bytes, at_fragment, at_pointer};
 ghost use Rattle.json_schema.specs.References.{form_in, form_after};
@@ -15,10 +15,10 @@ use crate::applied::schema_at;
 use crate::form::{Form, form_at};
 use crate::keyword::Keyword;
 use crate::walk::Walk;
-use json_pointer::{Pointer, PointerError};
 use std::alloc::{AllocError, Global};
 use std::str;
 use tinyjson::JsonValue;
+use tinyjson_pointer::{Pointer, PointerError};
 
 /// The schema that the keyword, `$ref` or `$dynamicRef`, of the schema leads to, in the whole schema.
 pub fn referenced<'s>(

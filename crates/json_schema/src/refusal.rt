@@ -4,10 +4,10 @@ ghost use Rattle.tinyjson.specs.Written.{WritesPrefix};
 ghost use Rattle.json_schema.specs.Told.{refusal_message, told_line};
 
 use crate::verdict::Cause;
-use json_line::write_all;
 use std::alloc::Global;
 use std::fmt;
 use std::io::{self, Write};
+use tinyjson_lines::write_all;
 
 /// A line that can't be checked.
 #[derive(Clone, Copy)]

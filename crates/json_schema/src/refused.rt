@@ -25,10 +25,10 @@ use crate::document::Document;
 use crate::form::{Form, form_at};
 use crate::multiple::is_divisor_number;
 use crate::pattern::{PatternError, is_pattern};
-use json_order::are_distinct;
-use json_pointer::Pointer;
 use std::alloc::{AllocError, Global};
 use tinyjson::{JsonValue, sorted_members};
+use tinyjson_compare::are_distinct;
+use tinyjson_pointer::Pointer;
 
 /// A place in a schema that is refused, and why.
 #[derive(Drop)]

@@ -4,16 +4,16 @@ ghost use Rattle.std.specs.Str.{chars};
 ghost use Rattle.tinyjson.specs.Tree.{put};
 ghost use Rattle.tinyjson.specs.View.{view, members_view};
 ghost use Rattle.tinyjson.specs.Written.{WritesPrefix};
-ghost use Rattle.json_line.specs.Line.{line_of};
+ghost use Rattle.tinyjson_lines.specs.Line.{line_of};
 ghost use Rattle.json_schema.specs.Report.{report_tree, place_tree, with_line};
 
 use crate::violation::Violation;
-use json_line::write_line;
-use json_pointer::Pointer;
 use std::alloc::{AllocError, Global};
 use std::collections::HashMap;
 use std::io::{self, Write};
 use tinyjson::{JsonNumber, JsonValue, insert_member};
+use tinyjson_lines::write_line;
+use tinyjson_pointer::Pointer;
 
 /// Writes an output unit (Core, 12.4.2) as one line in normal form, with the number of the value's line if it
 /// has one.

@@ -10,9 +10,9 @@ use crate::refused::{Reason, refused_place};
 use crate::validate::find_violation;
 use crate::violation::Violation;
 use crate::walk::{CheckError, Walk};
-use json_pointer::Pointer;
 use std::alloc::{AllocError, Global};
 use tinyjson::JsonValue;
+use tinyjson_pointer::Pointer;
 
 /// A schema that can be applied: each keyword in it has a value of the standard's form, and is one that is applied or
 /// says nothing, and each reference leads to a schema in it, and not in a circle.

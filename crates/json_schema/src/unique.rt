@@ -3,9 +3,9 @@ ghost use Rattle.std.specs.Prelude.{◌≡◌, IfOk};
 ghost use Rattle.tinyjson.specs.View.{view};
 ghost use Rattle.json_schema.specs.Keywords.{are_unique};
 
-use json_order::are_distinct;
 use std::alloc::{AllocError, Global};
 use tinyjson::JsonValue;
+use tinyjson_compare::are_distinct;
 
 /// Whether no two items of an array are equal, where that is asked; `true` of another value.
 pub fn are_unique(asked: &JsonValue, value: &JsonValue, alloc: Global) -> Result<bool, AllocError>

@@ -11,11 +11,11 @@ ghost use Rattle.json_schema.specs.Unknown.{word_of, words_in};
 use crate::form::{Form, form_at};
 use crate::keyword::keyword_of;
 use crate::shown::Shown;
-use json_line::write_all;
 use std::alloc::{AllocError, Global};
 use std::collections::BTreeSet;
 use std::io::{self, Write};
 use tinyjson::{JsonValue, sorted_members};
+use tinyjson_lines::write_all;
 
 /// The names that are no keywords, of the schema and of the schemas in it: each once, in the order of bytes. What
 /// stands where no schema does is none: a key of `properties` or `$defs`, say, or what an `enum` holds. The

@@ -8,10 +8,10 @@ ghost use Rattle.json_schema.specs.Verdicts.{ValueGives, TextGives, LineGives};
 use crate::schema::Schema;
 use crate::violation::Violation;
 use crate::walk::CheckError;
-use json_line::content;
 use std::alloc::{AllocError, Global};
 use std::str;
 use tinyjson::{JsonParseError, JsonValue};
+use tinyjson_lines::content;
 
 /// How many containers of a schema or a value may be open at once: the check takes stack as they are deep.
 pub const DEPTH_LIMIT: usize = 100;

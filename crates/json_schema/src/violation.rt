@@ -1,15 +1,15 @@
 //! What a value does not meet.
 ghost use Rattle.std.specs.Prelude.{◌≡◌, ◌∷◌, [], IfOk, OnOk};
 ghost use Rattle.std.specs.Str.{chars};
-ghost use Rattle.json_pointer.specs.Tokens.{tokens_of};
+ghost use Rattle.tinyjson_pointer.specs.Tokens.{tokens_of};
 ghost use Rattle.json_schema.specs.Names.{name};
 ghost use Rattle.json_schema.specs.Parts.{is_by_part};
 ghost use Rattle.json_schema.specs.Places.{IsAt, IsUnder, IsUnderKey, IsUnderIndex};
 ghost use Rattle.json_schema.specs.Places.{Enters, EntersItem, IsWithin};
 
 use crate::keyword::Keyword;
-use json_pointer::Pointer;
 use std::alloc::{AllocError, Global};
+use tinyjson_pointer::Pointer;
 
 /// A place in the schema, and the place in the value that does not meet it (Core, 12.3).
 #[derive(Drop)]

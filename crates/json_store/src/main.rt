@@ -7,11 +7,11 @@
 
 pub mod store;
 
-use json_line::{Cause, Refusal, content, read_line};
 use std::io::{self, BufReader, ErrorKind};
 use std::process::ExitCode;
 use std::str;
 use store::Store;
+use tinyjson_lines::{Cause, Refusal, content, read_line};
 use tinyjson_normal::NormalReader;
 
 fn main(rt: HostRuntime) -> ExitCode {

@@ -10,11 +10,11 @@ ghost use Rattle.jsonnorm.specs.Input.{ReadsToEnd};
 ghost use Rattle.jsonnorm.specs.Run.{Runs, line_of, normal_text};
 
 use crate::fault::{RunFault, refusal, writing_error};
-use json_line::write_all;
 use std::alloc::{AllocError, Global};
 use std::io::{self, ErrorKind, Read, Write};
 use std::{mem, str};
 use tinyjson::JsonParseError;
+use tinyjson_lines::write_all;
 use tinyjson_normal::NormalText;
 
 /// How many bytes are asked for at once.

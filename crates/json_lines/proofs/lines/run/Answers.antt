@@ -1,6 +1,6 @@
 use Rattle.std.proofs.Common.{◌≡◌, ◌∷◌, [], true, false, Ok, sym, subst}
 use Rattle.std.proofs.KnownBytes.{Keeps-refl}
-use Rattle.json_line.specs.Lines.{LinesRead, AllRead, ReadsLine}
+use Rattle.tinyjson_lines.specs.Lines.{LinesRead, AllRead, ReadsLine}
 use Rattle.json_lines.proofs.Reading.{begun, stopped, ended, refused, next, next_refused, failed, at_error}
 use Rattle.json_lines.proofs.lines.run.Goals as goal
 

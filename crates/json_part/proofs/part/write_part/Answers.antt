@@ -5,7 +5,7 @@ use Rattle.tinyjson.proofs.Callers.{accepted_text, refused_text}
 use Rattle.tinyjson.specs.Error.{error_kind}
 use Rattle.tinyjson.specs.JsonParseErrorKind.TheVariants as kind
 use Rattle.tinyjson.specs.View.{view}
-use Rattle.json_pointer.specs.Tokens.{tokens_of}
+use Rattle.tinyjson_pointer.specs.Tokens.{tokens_of}
 use Rattle.json_part.proofs.Finding.{found}
 use Rattle.json_part.proofs.part.write_part.Goals as goal
 

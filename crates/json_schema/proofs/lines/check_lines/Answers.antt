@@ -1,7 +1,7 @@
 use Rattle.std.proofs.Common.{◌∷◌, [], Ok, sym, subst}
 use Rattle.std.proofs.KnownBytes.{Keeps-refl}
-use Rattle.json_line.proofs.Callers as run
-use Rattle.json_line.specs.Lines.{LinesRead, AllRead, ReadsLine}
+use Rattle.tinyjson_lines.proofs.Callers as run
+use Rattle.tinyjson_lines.specs.Lines.{LinesRead, AllRead, ReadsLine}
 use Rattle.json_schema.specs.Run.{report_of, telling_of}
 use Rattle.json_schema.specs.Verdicts.{LineGives}
 use Rattle.json_schema.proofs.Running.{begun, stopped, ended, next, failed}

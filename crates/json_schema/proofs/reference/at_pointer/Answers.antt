@@ -1,7 +1,7 @@
 use Rattle.std.proofs.Common.{◌≡◌, ◌∙◌, true, false, option_map, sym, ap}
 use Rattle.std.specs.Str.{chars}
 use Rattle.tinyjson.specs.View.{view}
-use Rattle.json_pointer.specs.Tokens.{tokens_of}
+use Rattle.tinyjson_pointer.specs.Tokens.{tokens_of}
 use Rattle.json_schema.specs.References.{form_after, is_schema_form}
 use Rattle.json_schema.specs.declared.form.Form.TheVariants as form
 use Rattle.json_schema.proofs.References.{no_tokens_there, no_schema_there, schema_there}

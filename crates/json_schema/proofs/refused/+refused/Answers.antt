@@ -5,7 +5,7 @@ use Rattle.tinyjson.proofs.Callers.{view_Array, view_Object}
 use Rattle.tinyjson.specs.Soundness.{IsSorted}
 use Rattle.tinyjson.specs.Tree.{tree_depth, items_depth, members_depth, array, object}
 use Rattle.tinyjson.specs.View.{view, text, items_view, members_listed}
-use Rattle.json_pointer.specs.Tokens.{tokens_of}
+use Rattle.tinyjson_pointer.specs.Tokens.{tokens_of}
 use Rattle.json_schema.specs.Forms.{form_at, is_some_item, has_patterns}
 use Rattle.json_schema.specs.Refused.{Refuses, is_some_list, whole_for, whole_of}
 use Rattle.json_schema.specs.Schemas.{fits, is_schema, keywords_fit, are_schemas, have_schemas, is_schema_map}

@@ -3,7 +3,7 @@ use Rattle.std.specs.Str.{chars}
 use Rattle.i_regexp.specs.PatternDeciding.{is_pattern}
 use Rattle.tinyjson.specs.Tree.{object}
 use Rattle.tinyjson.specs.View.{text, members_listed}
-use Rattle.json_pointer.specs.Tokens.{tokens_of}
+use Rattle.tinyjson_pointer.specs.Tokens.{tokens_of}
 use Rattle.json_schema.specs.Forms.{are_patterns}
 use Rattle.json_schema.specs.Refused.{IsReason, IsTextReason}
 use Rattle.json_schema.specs.declared.form.Form.TheVariants as form

@@ -10,9 +10,9 @@ use Rattle.tinyjson.specs.Index.{nth, tree_at_key}
 use Rattle.tinyjson.specs.Tree.{object, array, find}
 use Rattle.tinyjson.specs.View.{view, text, items_view, members_view, members_listed}
 use Rattle.tinyjson.specs.Soundness.{IsSorted}
-use Rattle.json_pointer.specs.Index.{index_of}
-use Rattle.json_pointer.specs.Tokens.{tokens_of}
-use Rattle.json_pointer.specs.Walk.{item_of}
+use Rattle.tinyjson_pointer.specs.Index.{index_of}
+use Rattle.tinyjson_pointer.specs.Tokens.{tokens_of}
+use Rattle.tinyjson_pointer.specs.Walk.{item_of}
 use Rattle.json_schema.specs.Applied.{schema_at, schemas_at, schema_map_at, all_accept, dependents_accept, members_accepted, items_accepted}
 use Rattle.i_regexp.specs.PatternDeciding.{is_found}
 use Rattle.json_schema.specs.Applied.{found_pass, patterns_accept}

@@ -1,5 +1,5 @@
 use Rattle.std.proofs.Common.{◌∙◌, sym}
-use Rattle.json_pointer.specs.Tokens.{tokens_of}
+use Rattle.tinyjson_pointer.specs.Tokens.{tokens_of}
 use Rattle.json_schema.proofs.Places.{by_part_place, whole_place}
 use Rattle.json_schema.proofs.violation.Violation.enter_item.Goals as goal
 

@@ -1,5 +1,5 @@
 use Rattle.std.proofs.Common.{◌∙◌, ◌∷◌}
-use Rattle.json_pointer.specs.Tokens.{tokens_of}
+use Rattle.tinyjson_pointer.specs.Tokens.{tokens_of}
 use Rattle.json_schema.proofs.Lookups.{name_chars}
 use Rattle.json_schema.proofs.violation.Violation.enter_keyword.Goals as goal
 

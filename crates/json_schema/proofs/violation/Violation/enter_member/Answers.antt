@@ -1,6 +1,6 @@
 use Rattle.std.proofs.Common.{◌∙◌, ◌∷◌, sym, ap}
 use Rattle.std.specs.Str.{chars}
-use Rattle.json_pointer.specs.Tokens.{tokens_of}
+use Rattle.tinyjson_pointer.specs.Tokens.{tokens_of}
 use Rattle.json_schema.proofs.Places.{by_part_place, whole_place}
 use Rattle.json_schema.proofs.violation.Violation.enter_member.Goals as goal
 

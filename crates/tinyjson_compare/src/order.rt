@@ -1,0 +1,63 @@
+//! The order of exact decimals.
+ghost use Rattle.std.specs.Prelude.{◌≡◌};
+ghost use Rattle.tinyjson_compare.specs.Order.{is_at_most, is_less, is_magnitude_at_most, first_place};
+
+use tinyjson::JsonNumber;
+
+/// Whether a number is less than another, as exact decimals.
+///
+/// It takes the time of one comparison of their digits, and no memory.
+///
+/// ```
+/// let small = JsonNumber::from_text(alloc, "0.1")?;
+/// let large = JsonNumber::from_text(alloc, "1e400")?;
+/// is_less(&small, &large) // true
+/// ```
+pub fn is_less(number: &JsonNumber, other: &JsonNumber) -> bool
+    ensures { result ≡ is_less number.now.decimal other.now.decimal }
+{
+    !is_at_most(other, number)
+}
+
+/// Whether a number is at most another, as exact decimals.
+///
+/// ```
+/// let one = JsonNumber::from_text(alloc, "1.0")?;
+/// is_at_most(&one, &one) // true
+/// ```
+pub fn is_at_most(number: &JsonNumber, other: &JsonNumber) -> bool
+    ensures { result ≡ is_at_most number.now.decimal other.now.decimal }
+{
+    match (number.is_negative(), other.is_negative()) {
+        (false, false) => is_magnitude_at_most(number, other),
+        (true, true) => is_magnitude_at_most(other, number),
+        (true, false) => true,
+        (false, true) => false,
+    }
+}
+
+/// Whether the number is at most the other, both without their signs. Where the first digits do not stand at one
+/// place, that decides.
+fn is_magnitude_at_most(number: &JsonNumber, other: &JsonNumber) -> bool
+    ensures { result ≡ is_magnitude_at_most number.now.decimal other.now.decimal }
+{
+    if number.is_zero() {
+        return true;
+    }
+    if other.is_zero() {
+        return false;
+    }
+    let place = first_place(number);
+    let other_place = first_place(other);
+    if place != other_place {
+        return place < other_place;
+    }
+    number.digits() <= other.digits()
+}
+
+/// The least power of ten that is above a number without its sign, for one that is not zero.
+fn first_place(number: &JsonNumber) -> i128
+    ensures { result ≡ first_place number.now.decimal }
+{
+    number.digits().len() as i128 + number.power() as i128
+}

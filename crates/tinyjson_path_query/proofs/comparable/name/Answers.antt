@@ -1,0 +1,23 @@
+use Rattle.std.proofs.Common.{◌≡◌, ◌∙◌, ◌∷◌, [], ◌++◌, true, ap, refl, rules}
+use Rattle.std.proofs.lemmas.Str.{chars-nil}
+use Rattle.std.specs.Str.{chars}
+use Rattle.tinyjson.specs.Characters.{text}
+use Rattle.tinyjson_path_query.specs.Grammar.{is_name_first, name_chars}
+use Rattle.tinyjson_path_query.specs.Values as value
+use Rattle.tinyjson_path_query.proofs.Literals.{name_at}
+use Rattle.tinyjson_path_query.proofs.comparable.name.Goals as goal
+
+pub returns : goal.returns
+returns c =
+    let first = c.in-Some.first.now in
+    let rest = c.in-Some.rest.now in
+    let begins : is_name_first first ≡ true = search rules in
+    let name = text c.push_name_chars.new.name in
+    let run = c.in_ok-after.ensures in
+    let nothing : text c.new-name.result ≡ [] = ap chars c.new-name.ensures.bytes ∙ chars-nil in
+    let whole : name ≡ first ∷ (name_chars rest).0 =
+    run.name ∙ ap (λ s. s ++ (name_chars rest).0) (c.in_ok-push.ensures ∙ ap (λ s. s ++ first ∷ []) nothing) in (
+      value.name name,
+      name_at c.args.text.now rest first name c.in_ok-after.after.now c.in-Some.ensures.cases.0 begins whole run.rest,
+      (c.push_name_chars.new.name, refl, refl),
+    )

@@ -1,0 +1,67 @@
+-- What reading a query returns; all but `Reads` is for private contracts.
+use Rattle.std.specs.Prelude.{◌≡◌, ◌≢◌, ℕ, ◌≤◌, List, ◌++◌, length, Option, Some, None, option_map, Result, Ok, Err}
+use Rattle.std.specs.Prelude.{String}
+use Rattle.std.specs.Borrow.{Bor}
+use Rattle.std.specs.declared.alloc.Global.{Global}
+use Rattle.tinyjson.specs.Characters.{text}
+use Rattle.tinyjson_path_query.specs.declared.error.ParseError.{ParseError}
+use Rattle.tinyjson_path_query.specs.declared.error.Refusal.{Refusal}
+use Rattle.tinyjson_path_query.specs.declared.error.ParseErrorKind.TheVariants.{OutOfMemory}
+use Rattle.tinyjson_path_query.specs.declared.query.Query.{Query}
+use Rattle.tinyjson_path_query.specs.Forms.{Segment, Expression, nesting_limit, QuerySegment, IsQuery, AreSegmentsIn, IsExpression}
+use Rattle.tinyjson_path_query.specs.Fronts.{query_front}
+use Rattle.tinyjson_path_query.specs.Grammar.{QueryText, name_chars, number_chars}
+
+-- The text is this query, and no other.
+pub record IsReading (cs : List ℕ) (q : Query) : Type 0 where
+  pub segments : List QuerySegment
+  pub text : QueryText nesting_limit cs segments
+  pub only : (ss : List QuerySegment) → QueryText nesting_limit cs ss → ss ≡ segments
+  pub same : IsQuery segments q
+
+-- The text is no query, unless memory ran out, and the place is in it.
+pub record IsRefused (cs : List ℕ) (e : ParseError) : Type 0 where
+  pub none : e.kind ≢ OutOfMemory → (ss : List QuerySegment) → QueryText nesting_limit cs ss → ⊥
+  pub within : e.place ≤ length cs
+
+-- what reading a text returns
+abbrev pub Reads : List ℕ → Result Query ParseError → Type 0
+Reads cs (Ok q) = IsReading cs q
+Reads cs (Err e) = IsRefused cs e
+
+-- what a reading of the front of a text returns: o, unless memory ran out
+abbrev pub Fronts : {U V : Type 0} → (V → U → Type 0) → Option (V × List ℕ) → Result (U × Bor (List ℕ)) Refusal → Type 0
+Fronts {V = V} stands o (Ok r) = (v : V) × (o ≡ Some (v, r.1.now)) × stands v r.0
+Fronts stands o (Err e) = e.kind ≢ OutOfMemory → o ≡ None
+
+-- the same of a value that is seen as it is
+abbrev pub FrontsAs : {V : Type 0} → Option (V × List ℕ) → Result (V × Bor (List ℕ)) Refusal → Type 0
+FrontsAs o (Ok r) = o ≡ Some (r.0, r.1.now)
+FrontsAs o (Err e) = e.kind ≢ OutOfMemory → o ≡ None
+
+-- The characters of a name are appended, and what is left follows them.
+pub record PushesName (old xs new left : List ℕ) : Type 0 where
+  pub name : new ≡ old ++ (name_chars xs).0
+  pub rest : left ≡ (name_chars xs).1
+
+-- The characters of a number are appended, and what is left follows them.
+pub record PushesNumber (old xs new left : List ℕ) : Type 0 where
+  pub number : new ≡ old ++ (number_chars xs).0
+  pub rest : left ≡ (number_chars xs).1
+
+-- what was found is o, and what follows it
+abbrev pub FoundAs : {V : Type 0} → Option (V × List ℕ) → Option (V × Bor (List ℕ)) → Type 0
+FoundAs o r = o ≡ option_map (λ p. (p.0, p.1.now)) r
+
+-- the code's string has these characters
+abbrev pub IsText : List ℕ → String Global → Type 0
+IsText cs s = text s ≡ cs
+
+-- what reading a whole query returns
+abbrev pub ReadsQuery : (n : ℕ) → List ℕ → Result Query Refusal → Type 0
+ReadsQuery n xs (Ok q) = (ss : List (Segment (Expression n))) × (query_front n xs ≡ Some ss) × AreSegmentsIn (IsExpression n) ss q.segments
+ReadsQuery n xs (Err e) = e.kind ≢ OutOfMemory → query_front n xs ≡ None
+
+-- what follows, if it does
+abbrev pub IsRest : Option (List ℕ) → Option (Bor (List ℕ)) → Type 0
+IsRest o r = o ≡ option_map (λ b. b.now) r

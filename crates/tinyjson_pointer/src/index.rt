@@ -1,0 +1,39 @@
+//! The index that a token is.
+ghost use Rattle.std.specs.Prelude.{◌≡◌, ℕ, ◌≤◌, ◌^◌, Some, MatchOption};
+ghost use Rattle.std.specs.Str.{chars, all_ascii_digits};
+ghost use Rattle.tinyjson_pointer.specs.Index.{index_of, is_index};
+
+/// The index that the token is (RFC 6901, section 4): decimal digits with no needless zero in front.
+/// `None` for other tokens, as `-`, and for an index that no array in memory reaches.
+pub(crate) fn index(token: &str) -> Option<usize>
+    ensures { MatchOption result
+        ((i : ℕ) → index_of (chars token.now) ≡ Some i → 2 ^ 64 ≤ i)
+        (λ i. index_of (chars token.now) ≡ Some i) }
+{
+    if !is_numeral(token.as_bytes()) {
+        return None;
+    }
+    token.parse().ok()
+}
+
+/// Whether the bytes are digits, of which the first of several is not 0.
+fn is_numeral(bytes: &[u8]) -> bool
+    ensures { result ≡ is_index bytes.now }
+{
+    match bytes {
+        [] => false,
+        [first] => first.is_ascii_digit(),
+        [first, ..] => *first != b'0' && are_digits(bytes),
+    }
+}
+
+fn are_digits(bytes: &[u8]) -> bool
+    ensures { result ≡ all_ascii_digits bytes.now }
+{
+    for byte in bytes {
+        if !byte.is_ascii_digit() {
+            return false;
+        }
+    }
+    true
+}
