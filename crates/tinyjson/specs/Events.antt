@@ -9,9 +9,9 @@ use Rattle.tinyjson_grammar.specs.Syntax.{AreWhite}
 use Rattle.tinyjson_grammar.specs.Tree.{Tree, Members, put}
 use Rattle.tinyjson.specs.declared.parser.error.JsonParseError.{JsonParseError}
 use Rattle.tinyjson_grammar.specs.declared.error.JsonParseErrorKind.TheVariants as kind
-use Rattle.tinyjson_tokens.specs.Steps.{BeginsLiteral}
+use Rattle.tinyjson_grammar.specs.Characters.{BeginsLiteral}
 -- null, or a boolean
-pub use Rattle.tinyjson_tokens.specs.Steps.{literal_tree}
+pub use Rattle.tinyjson_grammar.specs.Tree.{literal_tree}
 
 -- An open container: an array with its items, an object that awaits a key, and one that awaits the value of a key.
 pub data Open : Type 0 where

@@ -9,3 +9,4 @@ pub use Rattle.tinyjson_grammar.proofs.Texts.WrittenTexts.{compact_text, one_com
 pub use Rattle.tinyjson_grammar.proofs.Members.{cond_swap, find_below, find_put, find_remove, flip, found_first, key_same}
 pub use Rattle.tinyjson_grammar.proofs.Members.{members_from_find, same_key, some_none, sorted_put, sorted_remove}
 pub use Rattle.tinyjson_grammar.proofs.Positions.{advance_append, advance_nil}
+pub use Rattle.tinyjson_grammar.proofs.ReadTrees.{are_put, sound_at, text_sound}

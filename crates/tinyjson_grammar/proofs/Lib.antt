@@ -6,6 +6,8 @@ pub mod Prefix
 pub mod Accepts
 pub mod Step
 pub mod Trace
+-- What a text gives is a sound tree, no deeper than the text.
+pub mod ReadTrees
 -- What the text of a tree is read as, and finite maps of members.
 pub mod Texts
 pub mod Members

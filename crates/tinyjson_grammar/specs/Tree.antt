@@ -24,6 +24,11 @@ mutual
     no_members : Members
     member : List ℕ → Tree → Members → Members
 
+-- what a literal means: null, or a boolean
+abbrev pub literal_tree : Option Bool → Tree
+literal_tree None = null
+literal_tree (Some b) = boolean b
+
 -- keys are ordered by their bytes in UTF-8
 abbrev pub key_cmp : List ℕ → List ℕ → Ordering
 key_cmp k l = slice_cmp nat_cmp (encode_utf8_all k) (encode_utf8_all l)

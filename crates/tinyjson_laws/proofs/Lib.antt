@@ -1,4 +1,3 @@
-pub mod ReadTrees
 pub mod TextScalars
 pub mod Wider
 pub mod ReadingLaws

@@ -7,13 +7,10 @@ use Rattle.tinyjson_grammar.specs.Syntax.{depth, IsWithin}
 use Rattle.tinyjson_grammar.specs.Grammar.{IsLoose, IsTextAt}
 use Rattle.tinyjson_grammar.specs.Text as written
 use Rattle.tinyjson_grammar.specs.Soundness.{IsTreeAt}
-use Rattle.tinyjson_grammar.proofs.Callers.Laws.{only_tree, IsWhiteIndent, within_le, written_text}
+use Rattle.tinyjson_grammar.proofs.Callers.Laws.{depth_is, only_tree, IsWhiteIndent, within_le, written_text}
 use Rattle.tinyjson_laws.specs.Reading.{OneTree, TextsAreSound, TreesHaveTexts, WiderLimit, WiderRange}
-use Rattle.tinyjson_laws.proofs.ReadTrees.{tree_is, depth_is}
+use Rattle.tinyjson_grammar.proofs.Callers.{sound_at, text_sound}
 use Rattle.tinyjson_laws.proofs.Wider.{wider_text}
-
-sound_at : (width : Width) (limit : Option ℕ) (xs : List ℕ) (t : Tree) → IsTextAt width limit xs t → IsTreeAt width t
-sound_at width limit xs t h = subst (IsTreeAt width) (sym h.tree) (tree_is width h.loose.value h.loose.spelled h.strict)
 
 -- the tree of a text keeps the limit of the text
 pub tree_within : (width : Width) (limit : Option ℕ) (xs : List ℕ) (t : Tree) → IsTextAt width limit xs t → IsWithin limit (tree_depth t)
@@ -29,7 +26,7 @@ pub one_tree : OneTree
 one_tree limit xs t u h j = only_tree limit xs t u h j
 
 pub texts_are_sound : TextsAreSound
-texts_are_sound limit xs t h = sound_at power_width limit xs t h
+texts_are_sound limit xs t h = text_sound limit xs t h
 
 pub trees_have_texts : TreesHaveTexts
 trees_have_texts t = (λ h. (written.compact t, written_text power_width None None 0 t tt h tt), λ p. texts_are_sound None p.0 t p.1)

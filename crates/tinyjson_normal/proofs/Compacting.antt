@@ -14,7 +14,7 @@ use Rattle.tinyjson_output.proofs.Callers.{enc, enc_cons, quoted_bytes}
 use Rattle.tinyjson_grammar.proofs.Callers.{compact_text}
 use Rattle.tinyjson_grammar.proofs.Callers.Laws.{only_tree}
 use Rattle.tinyjson_grammar.specs.Soundness as sound
-use Rattle.tinyjson_laws.proofs.ReadingLaws.{texts_are_sound}
+use Rattle.tinyjson_grammar.proofs.Callers.{text_sound}
 use Rattle.tinyjson_normal.proofs.Gathered.{gathered_by}
 use Rattle.tinyjson_normal.proofs.Growing.{text_stays}
 use Rattle.tinyjson_normal.proofs.Slices.{run_part}
@@ -520,7 +520,7 @@ told_kept is limit xs e n f h = record {
   consumed = h.consumed;
   rest = h.rest;
   whole = h.whole;
-  answer = (h.answer.0, h.answer.1, h.answer.2, f h.answer.1 h.answer.3 (texts_are_sound limit xs h.answer.1 h.answer.2));
+  answer = (h.answer.0, h.answer.1, h.answer.2, f h.answer.1 h.answer.3 (text_sound limit xs h.answer.1 h.answer.2));
   refused = tt;
   broken_off = tt;
 }

@@ -3,8 +3,8 @@ use Rattle.std.specs.Prelude.{◌≡◌, ℕ, Bool, true, false, List, [], ◌�
 use Rattle.std.specs.Prelude.{IfErr, MatchResult, IfSome, String, cond, ◌⊎◌, ⊤}
 use Rattle.std.specs.Char.{is_ascii_digit}
 use Rattle.std.specs.declared.alloc.Global.{Global}
-use Rattle.tinyjson_grammar.specs.Tree.{Tree, null, boolean, string}
-use Rattle.tinyjson_grammar.specs.Characters.{text, letter_f, letter_n, letter_t}
+use Rattle.tinyjson_grammar.specs.Tree.{Tree, string}
+use Rattle.tinyjson_grammar.specs.Characters.{text}
 use Rattle.tinyjson_grammar.specs.Position.{advance}
 use Rattle.tinyjson_tokens.specs.Source.{Sight}
 use Rattle.tinyjson_grammar.specs.Machine.{Frame, literal, plain, quoted, Next, next, stop, Outcome}
@@ -16,15 +16,6 @@ use Rattle.tinyjson_grammar.specs.declared.error.JsonParseErrorKind.TheVariants.
 abbrev pub letters_left : List Frame → List ℕ → Tree → Next
 letters_left fs [] t = complete true fs t true
 letters_left fs (l ∷ ls) t = next fs (literal (l ∷ ls) t)
-
--- a letter that begins a literal
-abbrev pub BeginsLiteral : ℕ → Type 0
-BeginsLiteral c = (c ≡ letter_n) ⊎ (c ≡ letter_t) ⊎ (c ≡ letter_f)
-
--- what a literal means: null, or a boolean
-abbrev pub literal_tree : Option Bool → Tree
-literal_tree None = null
-literal_tree (Some b) = boolean b
 
 -- within a string, and after it where it is done
 abbrev pub within : List Frame → String Global → List ℕ → Bool → Next

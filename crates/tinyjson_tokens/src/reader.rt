@@ -8,8 +8,9 @@ ghost use Rattle.tinyjson_grammar.specs.Position.{position_at};
 ghost use Rattle.tinyjson_grammar.specs.Tree.{Tree, number, string};
 ghost use Rattle.tinyjson_tokens.specs.NumberSteps.{BeginsNumber};
 ghost use Rattle.tinyjson_tokens.specs.Source.{Takes, Whites};
-ghost use Rattle.tinyjson_tokens.specs.Steps.{BeginsLiteral, NeedsNone, Reads, letters_left};
-ghost use Rattle.tinyjson_tokens.specs.Steps.{literal_tree};
+ghost use Rattle.tinyjson_tokens.specs.Steps.{NeedsNone, Reads, letters_left};
+ghost use Rattle.tinyjson_grammar.specs.Characters.{BeginsLiteral};
+ghost use Rattle.tinyjson_grammar.specs.Tree.{literal_tree};
 
 use crate::tokens::Tokens;
 use std::alloc::Global;

@@ -17,7 +17,8 @@ use Rattle.tinyjson_grammar.specs.declared.error.JsonParseErrorKind.{JsonParseEr
 use Rattle.tinyjson_grammar.specs.declared.error.JsonParseErrorKind.TheVariants.{OutOfMemory}
 use Rattle.tinyjson_tokens.proofs.Callers.{Comes_outcome, Leads_trans, Refuses_after}
 use Rattle.tinyjson_tokens.specs.Source.{Sight, Whites}
-use Rattle.tinyjson_tokens.specs.Steps.{BeginsLiteral, Leads, Refuses}
+use Rattle.tinyjson_tokens.specs.Steps.{Leads, Refuses}
+use Rattle.tinyjson_grammar.specs.Characters.{BeginsLiteral}
 use Rattle.tinyjson.proofs.Reading.Memory.{grows_at, white_list}
 use Rattle.tinyjson.proofs.Reading.Parse.{all_front, answered_value, held_interrupted, refusal_says, refused_list}
 

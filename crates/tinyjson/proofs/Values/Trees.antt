@@ -1,12 +1,11 @@
 -- Every value is seen as a tree of characters and canonical decimals, with members in order.
-use Rattle.std.proofs.Common.{ℕ, List, [], ◌∷◌, String, Global, string_bytes, map, Ordering, Less, Equal, Greater, IsTrue, sym, subst}
+use Rattle.std.proofs.Common.{ℕ, List, [], ◌∷◌, String, Global, string_bytes, map, sym, subst}
 use Rattle.std.proofs.lemmas.Str.{scalars-chars, IsUtf8-string_bytes}
-use Rattle.std.specs.Ordering.{match_ordering}
 use Rattle.tinyjson_number.specs.Numeral.{power_width}
-use Rattle.std.specs.Int.{Width}
 use Rattle.std.specs.Str.{all_scalars}
-use Rattle.tinyjson_grammar.specs.Tree.{Tree, items_of, Members, no_members, member, key_cmp, put}
-use Rattle.tinyjson_grammar.specs.Soundness.{IsTree, IsTreeAt, AreItemsAt, AreMembersAt}
+use Rattle.tinyjson_grammar.specs.Tree.{Tree, items_of}
+use Rattle.tinyjson_grammar.specs.Soundness.{IsTree, AreItemsAt, AreMembersAt}
+use Rattle.tinyjson_grammar.proofs.Callers.{are_put}
 use Rattle.tinyjson.specs.View.{text, view, view_step, members_view, seen_entries}
 use Rattle.tinyjson.proofs.Values.Entries.{members_of_sorted}
 use Rattle.tinyjson.specs.declared.value.JsonValue.{JsonValue, roll-JsonValue, map-JsonValue, fold-roll-JsonValue, ind-JsonValue}
@@ -15,18 +14,6 @@ use Rattle.tinyjson.specs.declared.value.JsonValue.TheOpen.{JsonValue-F}
 -- the characters of a text are scalar values
 pub text_scalars : (s : String Global) → IsTrue (all_scalars (text s))
 text_scalars s = scalars-chars (string_bytes s) (IsUtf8-string_bytes s)
-
-are_put_at : (width : Width) (o : Ordering) (k l : List ℕ) (t u : Tree) (ms : Members) → IsTrue (all_scalars k) → IsTreeAt width t
-    → AreMembersAt width (member l u ms) → AreMembersAt width (put k t ms)
-    → AreMembersAt width (match_ordering o (member k t (member l u ms)) (member k t ms) (member l u (put k t ms)))
-are_put_at width Less k l t u ms a b c later = (a, b, c)
-are_put_at width Equal k l t u ms a b c later = (a, b, c.2)
-are_put_at width Greater k l t u ms a b c later = (c.0, c.1, later)
-
-pub are_put : (width : Width) (k : List ℕ) (t : Tree) (ms : Members) → IsTrue (all_scalars k) → IsTreeAt width t → AreMembersAt width ms
-    → AreMembersAt width (put k t ms)
-are_put width k t no_members a b c = (a, b, tt)
-are_put width k t (member l u ms) a b c = are_put_at width (key_cmp k l) k l t u ms a b c (are_put width k t ms a b c.2)
 
 abbrev Seen : JsonValue → Type 0
 Seen v = IsTree (view v)

@@ -9,7 +9,7 @@ ghost use Rattle.tinyjson_grammar.specs.Machine.{complete, stop};
 ghost use Rattle.tinyjson_grammar.specs.Tree.{Tree, Members, no_members, items_of, is_string};
 ghost use Rattle.tinyjson_grammar.specs.Tree.{array, object, string, number};
 ghost use Rattle.tinyjson_grammar.specs.declared.error.JsonParseErrorKind.TheVariants.{OutOfMemory};
-ghost use Rattle.tinyjson_tokens.specs.Steps.{literal_tree};
+ghost use Rattle.tinyjson_grammar.specs.Tree.{literal_tree};
 ghost use Rattle.tinyjson.specs.private.Building.{Agree, awaited_of, IsOpen, IsWithin, Joins};
 ghost use Rattle.tinyjson.specs.private.Building.{Puts, TakesValue};
 ghost use Rattle.tinyjson.specs.declared.parser.builder.Awaited.{Awaited};

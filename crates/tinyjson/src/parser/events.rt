@@ -9,7 +9,7 @@ ghost use Rattle.tinyjson_grammar.specs.Tree.{Tree, Members, no_members, items_o
 ghost use Rattle.tinyjson_grammar.specs.Tree.{array, object, string, number};
 ghost use Rattle.tinyjson.specs.Events.{Open, in_array, at_key, at_value, Puts, literal_tree};
 ghost use Rattle.tinyjson_grammar.specs.declared.error.JsonParseErrorKind.TheVariants.{OutOfMemory};
-ghost use Rattle.tinyjson_tokens.specs.Steps.{BeginsLiteral};
+ghost use Rattle.tinyjson_grammar.specs.Characters.{BeginsLiteral};
 ghost use Rattle.tinyjson.specs.private.Building.{Meets, Tells, TellsAll};
 
 use super::builder::{Builder, Nest};

@@ -7,7 +7,7 @@ ghost use Rattle.tinyjson.specs.private.Building.{Puts};
 ghost use Rattle.tinyjson.specs.private.Stack.{gather, holds, is, maps_of};
 ghost use Rattle.tinyjson.specs.private.Stack.{other_maps, own_members};
 ghost use Rattle.tinyjson.specs.View.{view, members_view};
-ghost use Rattle.tinyjson_tokens.specs.Steps.{literal_tree};
+ghost use Rattle.tinyjson_grammar.specs.Tree.{literal_tree};
 
 use super::builder::Builder;
 use crate::value::{JsonValue, add_member, insert_member};

@@ -24,3 +24,4 @@ pub use Rattle.tinyjson_grammar.proofs.Trace.State.{loosely_from, Read, at_first
 pub use Rattle.tinyjson_grammar.proofs.Trace.State.{Part, part_stage, part_numeral, read_frames, read_phase, IsRead, IsFresh, values}
 pub use Rattle.tinyjson_grammar.proofs.Trace.State.{part_minus, part_integer, part_point, part_fraction, part_letter, part_sign}
 pub use Rattle.tinyjson_grammar.proofs.Trace.State.{part_exponent, read_text, IsWithinLiteral, Spells, exponent_with}
+pub use Rattle.tinyjson_grammar.proofs.ReadTrees.{depth_is}

@@ -4,7 +4,9 @@ use Rattle.std.proofs.lemmas.Str.{chars-encodes}
 use Rattle.std.specs.Str.{chars}
 use Rattle.tinyjson_grammar.specs.Machine.{step, quoted, plain, Frame, awaited, next}
 use Rattle.tinyjson_tokens.specs.Source.{Sight, Takes}
-use Rattle.tinyjson_tokens.specs.Steps.{BeginsLiteral, IsTaken, Leads, letters_left, literal_tree, onward}
+use Rattle.tinyjson_tokens.specs.Steps.{IsTaken, Leads, letters_left, onward}
+use Rattle.tinyjson_grammar.specs.Characters.{BeginsLiteral}
+use Rattle.tinyjson_grammar.specs.Tree.{literal_tree}
 use Rattle.tinyjson_tokens.proofs.Reading.Steps.{Leads_nil, Leads_one, Leads_to}
 
 -- the letters of a literal, of which the first was taken

@@ -1,5 +1,5 @@
 use Rattle.std.specs.Str.{chars}
-use Rattle.tinyjson_tokens.specs.Steps.{literal_tree}
+use Rattle.tinyjson_grammar.specs.Tree.{literal_tree}
 use Rattle.tinyjson_tokens.proofs.Reading.Steps.{Leads_letters}
 use Rattle.tinyjson_tokens.proofs.reader.TokenReader.letters.Goals as goal
 

@@ -1,7 +1,7 @@
 use Rattle.std.proofs.Common.{[]}
 use Rattle.std.specs.Prelude.{⊤}
 use Rattle.std.proofs.lemmas.Result.{err_from_is_err_and}
-use Rattle.tinyjson_tokens.specs.Steps.{literal_tree}
+use Rattle.tinyjson_grammar.specs.Tree.{literal_tree}
 use Rattle.tinyjson_grammar.specs.declared.error.JsonParseErrorKind.TheVariants.{UnexpectedEof}
 use Rattle.tinyjson.proofs.Reading.Memory.{grows_text}
 use Rattle.tinyjson.proofs.Reading.Check.{finds_end, finds_built}

@@ -1,7 +1,7 @@
 use Rattle.std.proofs.Common.{rules, []}
 use Rattle.tinyjson_grammar.specs.declared.error.JsonParseErrorKind.TheVariants.{UnexpectedEof}
 use Rattle.tinyjson_tokens.proofs.Callers.{end_awaited, Leads_end, Leads_whites, Refuses_as, white_awaited}
-use Rattle.tinyjson_tokens.specs.Steps.{BeginsLiteral}
+use Rattle.tinyjson_grammar.specs.Characters.{BeginsLiteral}
 use Rattle.tinyjson.proofs.Reading.Events.{literal_meets, grows_meets, Tells_after}
 use Rattle.tinyjson.proofs.parser.reader.Reader.tell.Goals as goal
 

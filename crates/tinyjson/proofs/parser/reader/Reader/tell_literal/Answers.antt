@@ -1,6 +1,6 @@
 use Rattle.std.proofs.Common.{rules, []}
 use Rattle.std.proofs.lemmas.Result.{err_from_is_err_and}
-use Rattle.tinyjson_tokens.specs.Steps.{literal_tree}
+use Rattle.tinyjson_grammar.specs.Tree.{literal_tree}
 use Rattle.tinyjson_tokens.proofs.Callers.{Halts_here, Leads_trans, Refuses_after, Refuses_memory}
 use Rattle.tinyjson.proofs.parser.reader.Reader.tell_literal.Goals as goal
 

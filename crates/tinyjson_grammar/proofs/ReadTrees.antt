@@ -1,11 +1,12 @@
 -- What a text of the grammar gives is a sound tree, no deeper than the text.
-use Rattle.std.proofs.Common.{◌≡◌, ℕ, ◌<◌, ◌≤◌, max, Bool, true, false, cond, List, [], ◌∷◌, refl, arith, IsTrue, not, ◌&&◌}
+use Rattle.std.proofs.Common.{◌≡◌, ℕ, ◌<◌, ◌≤◌, max, Bool, true, false, cond, List, [], ◌∷◌, Option, refl, sym, subst, arith, IsTrue, not, ◌&&◌}
 use Rattle.std.specs.Prelude.{⊤, unwrap_or}
 use Rattle.std.specs.Int.{Width}
 use Rattle.std.specs.Char.{IsScalar, digit_value}
 use Rattle.std.specs.Str.{all_scalars}
+use Rattle.std.specs.Ordering.{match_ordering}
 use Rattle.std.specs.declared.cmp.Ordering.{Ordering}
-use Rattle.std.specs.declared.cmp.Ordering.TheVariants.{Less}
+use Rattle.std.specs.declared.cmp.Ordering.TheVariants.{Less, Equal, Greater}
 use Rattle.std.proofs.lemmas.Bool.{false≢true, and_from, and_parts, ltb-true}
 use Rattle.tinyjson_grammar.specs.Characters.{short_escape, is_hex, is_high, is_low, is_surrogate, pair_of, decode, paired}
 use Rattle.tinyjson_grammar.specs.Tree as tree
@@ -14,9 +15,10 @@ use Rattle.tinyjson_grammar.specs.Syntax.{Syntax, Elements, Pairs, null, number,
 use Rattle.tinyjson_grammar.specs.Syntax.{last_pair, pair, Piece, plain, escape, unit, IsPiece, ArePieces, code, piece_codes, unit_value}
 use Rattle.tinyjson_grammar.specs.Syntax.{IsSpelled, AreElements, ArePairs, IsStrictAt, ElementsAreStrictAt, PairsAreStrictAt, is_key}
 use Rattle.tinyjson_grammar.specs.Syntax.{tree_of, elements_trees, pairs_members, depth, elements_depth, pairs_depth}
-use Rattle.tinyjson_grammar.specs.Soundness.{IsSorted, IsTreeAt, AreItemsAt, AreMembersAt}
-use Rattle.tinyjson.proofs.Callers.{sorted_put}
-use Rattle.tinyjson.proofs.Callers.Laws.{are_put}
+use Rattle.tinyjson_grammar.specs.Soundness.{IsSorted, IsTree, IsTreeAt, AreItemsAt, AreMembersAt}
+use Rattle.tinyjson_grammar.specs.Grammar.{IsText, IsTextAt}
+use Rattle.tinyjson_grammar.proofs.Members.{sorted_put}
+use Rattle.tinyjson_number.specs.Numeral.{power_width}
 use Rattle.tinyjson_number.proofs.Callers.{value_canonical}
 
 -- ---- characters
@@ -81,6 +83,18 @@ depth_put : (k : List ℕ) (t : tree.Tree) (ms : tree.Members) → members_depth
 depth_put k t tree.no_members = omega arith
 depth_put k t (tree.member l u ms) = depth_put_at (key_cmp k l) k t l u ms (tree.put k t ms) (depth_put k t ms)
 
+are_put_at : (width : Width) (o : Ordering) (k l : List ℕ) (t u : tree.Tree) (ms : tree.Members) → IsTrue (all_scalars k) → IsTreeAt width t
+    → AreMembersAt width (tree.member l u ms) → AreMembersAt width (tree.put k t ms)
+    → AreMembersAt width (match_ordering o (tree.member k t (tree.member l u ms)) (tree.member k t ms) (tree.member l u (tree.put k t ms)))
+are_put_at width Less k l t u ms a b c later = (a, b, c)
+are_put_at width Equal k l t u ms a b c later = (a, b, c.2)
+are_put_at width Greater k l t u ms a b c later = (c.0, c.1, later)
+
+pub are_put : (width : Width) (k : List ℕ) (t : tree.Tree) (ms : tree.Members) → IsTrue (all_scalars k) → IsTreeAt width t → AreMembersAt width ms
+    → AreMembersAt width (tree.put k t ms)
+are_put width k t tree.no_members a b c = (a, b, tt)
+are_put width k t (tree.member l u ms) a b c = are_put_at width (key_cmp k l) k l t u ms a b c (are_put width k t ms a b c.2)
+
 -- ---- values
 
 key_scalars : (width : Width) (k : Syntax) → IsSpelled k → IsTrue (is_key k) → IsStrictAt width k
@@ -132,3 +146,11 @@ mutual
     depth_is s,
     depth_of_members ps (tree.put (tree.key_of (tree_of k)) (tree_of s) ms),
   )
+
+-- ---- texts
+
+pub sound_at : (width : Width) (limit : Option ℕ) (xs : List ℕ) (t : tree.Tree) → IsTextAt width limit xs t → IsTreeAt width t
+sound_at width limit xs t h = subst (IsTreeAt width) (sym h.tree) (tree_is width h.loose.value h.loose.spelled h.strict)
+
+pub text_sound : (limit : Option ℕ) (xs : List ℕ) (t : tree.Tree) → IsText limit xs t → IsTree t
+text_sound limit xs t h = sound_at power_width limit xs t h
