@@ -1,15 +1,17 @@
 //! What works on bytes alone: runs of plain characters, white space, digits and the rest of a line, found sixteen at
-//! a time; copies by vectors; members put near their order before they are sorted.
+//! a time; copies by vectors; keys put in order by numbers, and members near their order before they are sorted.
 //!
 //! It is part of the inside of `tinyjson`, which a program takes alone.
 #![tactic(auto)]
 
 mod copies;
 mod plain;
+mod ranking;
 mod runs;
 mod sorting;
 
 pub use copies::{copy, put};
 pub use plain::{Plain, is_plain, plain_end};
+pub use ranking::{Keys, place_mask, rank};
 pub use runs::{Class, Digit, digits_end, is_white, line_end, white_end};
-pub use sorting::{leading, presort};
+pub use sorting::presort;

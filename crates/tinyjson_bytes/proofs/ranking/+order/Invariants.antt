@@ -1,4 +1,4 @@
-use Rattle.tinyjson_bytes.proofs.sorting.+order.Given as goal
+use Rattle.tinyjson_bytes.proofs.ranking.+order.Given as goal
 
 abbrev pub decreases-order : goal.decreases-order
 decreases-order g l = l.passes
