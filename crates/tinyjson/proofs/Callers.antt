@@ -11,7 +11,7 @@ pub use Rattle.tinyjson.specs.Access.Laws.{put_of_array, put_of_object}
 pub use Rattle.tinyjson.proofs.Values.Index.{items_view_set, tree_with_item, tree_with_member}
 pub use Rattle.tinyjson_grammar.proofs.Callers.{find_below, find_put, find_remove, found_first, key_same, sorted_put, sorted_remove}
 pub use Rattle.tinyjson_grammar.proofs.Callers.{members_from_find, one_compact, some_none}
-pub use Rattle.tinyjson_grammar.proofs.Messages.{code_point_text}
+pub use Rattle.tinyjson_grammar.proofs.Callers.{code_point_text}
 pub use Rattle.tinyjson.proofs.Writing.Scalars.{encoded_chars, encoded_utf8, text_of_scalars}
 pub use Rattle.tinyjson.proofs.Values.Trees.{view_IsTree, text_scalars}
 pub use Rattle.tinyjson.proofs.Values.View.{view_Null, view_Boolean, view_Number, view_String, view_Array, view_Object, Entry}

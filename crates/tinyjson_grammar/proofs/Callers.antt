@@ -10,3 +10,4 @@ pub use Rattle.tinyjson_grammar.proofs.Members.{cond_swap, find_below, find_put,
 pub use Rattle.tinyjson_grammar.proofs.Members.{members_from_find, same_key, some_none, sorted_put, sorted_remove}
 pub use Rattle.tinyjson_grammar.proofs.Positions.{advance_append, advance_nil}
 pub use Rattle.tinyjson_grammar.proofs.ReadTrees.{are_put, sound_at, text_sound}
+pub use Rattle.tinyjson_grammar.proofs.Messages.{code_point_text}

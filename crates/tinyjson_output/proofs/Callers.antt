@@ -1,6 +1,6 @@
 -- For proofs of callers: what is written, what is buffered, and the bytes of quoted strings.
 pub use Rattle.tinyjson_output.proofs.Bytes.{closed, enc, enc_cons, null_bytes, three, two_bytes}
-pub use Rattle.tinyjson_output.proofs.Quotes.{escape_ascii, high, quoted_bytes, two_ascii}
+pub use Rattle.tinyjson_output.proofs.Quotes.{all_plain, escape_ascii, high, quoted_bytes, two_ascii}
 pub use Rattle.std.proofs.KnownBytes.{Appends-trans, Appends-kept as Appends_keeps, Appends-nil as Appends_nothing}
 pub use Rattle.tinyjson_output.proofs.Written.{begins, ends, fails, goes}
 pub use Rattle.tinyjson_output.proofs.Written.{stop, stops, stops_then, written_all, written_none, written_same}

@@ -1,5 +1,5 @@
 use Rattle.std.proofs.Common.{arith}
-use Rattle.tinyjson_output.proofs.Quotes.{all_plain}
+use Rattle.tinyjson_output.proofs.Callers.{all_plain}
 use Rattle.tinyjson_normal.proofs.Compacting.{plain_quoted, on_ok}
 use Rattle.tinyjson_normal.proofs.compact.push_quoted.Goals as goal
 

@@ -1,6 +1,6 @@
 use Rattle.std.proofs.Common.{arith}
 use Rattle.std.proofs.lemmas.Simd.{zip2_splat}
-use Rattle.tinyjson_bytes.proofs.Scans.{hit, masked}
+use Rattle.tinyjson_bytes.proofs.Callers.{hit, masked}
 use Rattle.tinyjson_grammar.specs.Position.{is_line_feed}
 use Rattle.tinyjson_tokens.proofs.place.feeds.Goals as goal
 

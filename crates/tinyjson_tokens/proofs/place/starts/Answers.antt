@@ -1,7 +1,7 @@
 use Rattle.std.proofs.Common.{◌+◌, ◌-◌, ◌%◌, arith}
 use Rattle.std.proofs.lemmas.Simd.{zip2_splat}
 use Rattle.std.specs.Fmt.{is_char_start}
-use Rattle.tinyjson_bytes.proofs.Scans.{at_most, from_splat, masked}
+use Rattle.tinyjson_bytes.proofs.Callers.{at_most, from_splat, masked}
 use Rattle.tinyjson_tokens.proofs.place.starts.Goals as goal
 
 pub returns : goal.returns
