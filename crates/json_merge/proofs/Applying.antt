@@ -7,7 +7,7 @@ use Rattle.tinyjson.specs.Tree.{Tree}
 use Rattle.tinyjson.specs.Written.{Written, WrittenPart}
 use Rattle.tinyjson_lines.specs.Line.{line_of}
 use Rattle.json_merge.specs.Apply.{patch_depth, IsFailedWrite, AppliesTree, Applies, WritesMerged}
-use Rattle.json_merge.specs.Merge.{merge_patch}
+use Rattle.tinyjson_patch.specs.Merge.{merge_patch}
 use Rattle.json_merge.specs.declared.apply.MergeError.{MergeError}
 use Rattle.json_merge.specs.declared.apply.MergeError.TheVariants.{BadPatch, Refused, OutOfMemory, Writing}
 

@@ -1,4 +1,1 @@
 pub mod Applying
-pub mod Entries
-pub mod Examples
-pub mod Merging

@@ -7,7 +7,7 @@ use Rattle.tinyjson.specs.JsonParseErrorKind.TheVariants as kind
 use Rattle.tinyjson.specs.Parser.{ParsesText}
 use Rattle.tinyjson.specs.Tree.{Tree}
 use Rattle.tinyjson.specs.Written.{WrittenPart}
-use Rattle.json_merge.specs.Merge.{merge_patch}
+use Rattle.tinyjson_patch.specs.Merge.{merge_patch}
 use Rattle.tinyjson.specs.declared.parser.error.JsonParseError.{JsonParseError}
 use Rattle.tinyjson_lines.specs.Line.{line_of}
 use Rattle.json_merge.specs.declared.apply.MergeError.{MergeError}

@@ -1,4 +1,3 @@
 pub mod Apply
-pub mod Merge
 pub mod Options
 pub mod Failures

@@ -6,12 +6,12 @@ ghost use Rattle.tinyjson.specs.View.{view};
 ghost use Rattle.json_merge.specs.Apply.{status_of, merge_error_message, patch_depth};
 ghost use Rattle.json_merge.specs.Apply.{IsFailedWrite, AppliesTree, Applies, WritesMerged};
 
-use crate::merge::merge;
 use std::alloc::Global;
 use std::fmt;
 use std::io::{self, ErrorKind, Write};
 use tinyjson::{JsonParseError, JsonValue};
 use tinyjson_lines::write_line;
+use tinyjson_patch::merge;
 
 /// How many containers of a patch may be open at once: the merge and the drop of the patch take stack as it
 /// is deep.

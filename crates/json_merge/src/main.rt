@@ -7,7 +7,6 @@
 
 mod apply;
 mod failure;
-mod merge;
 mod options;
 
 use apply::{write_merged, writing_error};

@@ -1,3 +1,6 @@
 pub mod Documents
+pub mod Entries
+pub mod Examples
+pub mod Merging
 pub mod Siblings
 pub mod Turns

@@ -1,4 +1,5 @@
 pub mod Document
+pub mod Merge
 pub mod Message
 pub mod Operation
 pub mod Patch

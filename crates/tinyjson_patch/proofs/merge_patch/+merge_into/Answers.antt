@@ -6,10 +6,10 @@ use Rattle.std.specs.String.{string_eq}
 use Rattle.tinyjson.proofs.Callers.{view_IsTree, view_Object}
 use Rattle.tinyjson.specs.Tree.{null, object, find, put, remove}
 use Rattle.tinyjson.specs.View.{view, text, members_view}
-use Rattle.json_merge.specs.Merge.{members_of, merge_patch, merge_members}
-use Rattle.json_merge.proofs.Entries.{merge_begins, merge_next, merge_ends, null_changed, value_changed, patch_replaces}
-use Rattle.json_merge.proofs.Merging.{sorted_in}
-use Rattle.json_merge.proofs.merge.+merge_into.Goals as goal
+use Rattle.tinyjson_patch.specs.Merge.{members_of, merge_patch, merge_members}
+use Rattle.tinyjson_patch.proofs.Entries.{merge_begins, merge_next, merge_ends, null_changed, value_changed, patch_replaces}
+use Rattle.tinyjson_patch.proofs.Merging.{sorted_in}
+use Rattle.tinyjson_patch.proofs.merge_patch.+merge_into.Goals as goal
 
 pub loop-key-init : goal.loop-key-init
 loop-key-init t c =

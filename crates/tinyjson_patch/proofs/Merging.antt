@@ -4,7 +4,7 @@ use Rattle.std.proofs.lemmas.Slice.Eq.{bytes_eq-Decides}
 use Rattle.tinyjson.proofs.Callers.{find_below, find_put, find_remove, sorted_put, sorted_remove}
 use Rattle.tinyjson.specs.Soundness.{IsTree, IsSorted}
 use Rattle.tinyjson.specs.Tree.{Tree, null, object, Members, no_members, member, find, put, remove}
-use Rattle.json_merge.specs.Merge.{members_of, merge_patch, merge_members}
+use Rattle.tinyjson_patch.specs.Merge.{members_of, merge_patch, merge_members}
 
 -- the member that one of the patch leaves, which is null or gives the merged r
 abbrev pub left_by : Tree → Tree → Option Tree

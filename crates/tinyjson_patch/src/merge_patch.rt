@@ -3,7 +3,7 @@ ghost use Rattle.std.specs.Prelude.{◌≡◌, IfOk, OnOk, unwrap_or};
 ghost use Rattle.std.specs.Str.{chars};
 ghost use Rattle.tinyjson.specs.Tree.{null, find, put, remove};
 ghost use Rattle.tinyjson.specs.View.{view, text, members_view};
-ghost use Rattle.json_merge.specs.Merge.{merge_patch, members_of};
+ghost use Rattle.tinyjson_patch.specs.Merge.{merge_patch, members_of};
 
 use std::alloc::{AllocError, Global};
 use std::collections::HashMap;

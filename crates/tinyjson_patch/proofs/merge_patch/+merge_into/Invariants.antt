@@ -1,7 +1,7 @@
 use Rattle.tinyjson.specs.View.{view, members_view}
-use Rattle.json_merge.specs.Merge.{members_of}
-use Rattle.json_merge.proofs.Entries.{AreMerged}
-use Rattle.json_merge.proofs.merge.+merge_into.Given as goal
+use Rattle.tinyjson_patch.specs.Merge.{members_of}
+use Rattle.tinyjson_patch.proofs.Entries.{AreMerged}
+use Rattle.tinyjson_patch.proofs.merge_patch.+merge_into.Given as goal
 
 abbrev pub decreases-merge_into : goal.decreases-merge_into
 decreases-merge_into l = goal.size-merge_into l
