@@ -1,10 +1,1 @@
-pub mod Parts
-pub mod Items
-pub mod Values
 pub mod Writing
-pub mod Comparisons
-pub mod Judging
-pub mod Within
-pub mod Selected
-pub mod Stated
-pub mod Errors

@@ -5,16 +5,16 @@ use Rattle.tinyjson.proofs.Callers.{Appends_written, begins, stop}
 use Rattle.tinyjson.specs.Grammar.{IsText}
 use Rattle.tinyjson.specs.Tree.{Tree}
 use Rattle.tinyjson.specs.Written.{Written, WrittenPart}
-use Rattle.tinyjson_path_query.specs.Reading.{Reads}
-use Rattle.tinyjson_path_query.specs.declared.query.Query.{Query}
+use Rattle.tinyjson_path.specs.Reading.{Reads}
+use Rattle.tinyjson_path.specs.Query.{Query}
 use Rattle.json_path.specs.Lines.{lines_of, IsFailedWrite, WritesNodes, WritesOfText, WritesOfQuery}
-use Rattle.json_path.specs.Nodes.{parts_view}
-use Rattle.json_path.specs.Patterns.{judged}
-use Rattle.json_path.specs.Queries.{query_parts}
+use Rattle.tinyjson_path.specs.Nodes.{parts_view}
+use Rattle.tinyjson_path.specs.Patterns.{judged}
+use Rattle.tinyjson_path.specs.Queries.{query_parts}
 use Rattle.json_path.specs.declared.lines.Form.{Form}
 use Rattle.json_path.specs.declared.lines.PathError.{PathError}
 use Rattle.json_path.specs.declared.lines.PathError.TheVariants.{BadQuery, Refused, NoNode, Pattern, OutOfMemory, Writing}
-use Rattle.json_path.specs.declared.node.Node.{Node}
+use Rattle.tinyjson_path.specs.declared.node.Node.{Node}
 
 some_parts : (ns : List Node) → ns ≢ [] → parts_view ns ≢ []
 some_parts [] h e = h refl

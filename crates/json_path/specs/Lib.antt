@@ -1,12 +1,3 @@
-pub mod Nodes
-pub mod Slices
-pub mod Selecting
-pub mod Comparing
-pub mod Patterns
-pub mod Queries
-pub mod Strings
-pub mod Paths
-pub mod Seen
 pub mod Lines
 pub mod Options
 pub mod Failures

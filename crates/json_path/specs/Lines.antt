@@ -10,21 +10,20 @@ use Rattle.tinyjson.specs.Parser.{ParsesText}
 use Rattle.tinyjson.specs.Text.{compact}
 use Rattle.tinyjson.specs.Tree.{Tree}
 use Rattle.tinyjson.specs.Written.{WrittenPart}
-use Rattle.tinyjson_path_query.specs.Message as query
-use Rattle.tinyjson_path_query.specs.Reading.{Reads}
-use Rattle.tinyjson_path_query.specs.declared.error.ParseErrorKind.TheVariants as refusal
-use Rattle.tinyjson_path_query.specs.declared.query.Query.{Query}
-use Rattle.json_path.specs.Nodes.{Part}
-use Rattle.json_path.specs.Paths.{path_text}
-use Rattle.json_path.specs.Patterns.{Judge, IsRight}
-use Rattle.json_path.specs.Queries.{query_parts}
-use Rattle.json_path.specs.Strings.{strings_in, query_strings, Exceeds}
+use Rattle.tinyjson_path.specs.Message as query
+use Rattle.tinyjson_path.specs.Reading.{Reads}
+use Rattle.tinyjson_path.specs.ParseErrorKind.TheVariants as refusal
+use Rattle.tinyjson_path.specs.Query.{Query}
+use Rattle.tinyjson_path.specs.Limits.{limit_message}
+use Rattle.tinyjson_path.specs.Nodes.{Part}
+use Rattle.tinyjson_path.specs.Paths.{path_text}
+use Rattle.tinyjson_path.specs.Patterns.{Judge, IsRight}
+use Rattle.tinyjson_path.specs.Queries.{query_parts}
+use Rattle.tinyjson_path.specs.Strings.{strings_in, query_strings, Exceeds}
 use Rattle.json_path.specs.declared.lines.Form.{Form}
 use Rattle.json_path.specs.declared.lines.Form.TheVariants.{Value, Path}
 use Rattle.json_path.specs.declared.lines.PathError.{PathError}
 use Rattle.json_path.specs.declared.lines.PathError.TheVariants.{BadQuery, Refused, NoNode, Pattern, OutOfMemory, Writing}
-use Rattle.json_path.specs.declared.patterns.PatternLimit.{PatternLimit}
-use Rattle.json_path.specs.declared.patterns.PatternLimit.TheVariants.{TooDeep, TooLarge}
 
 abbrev pub status_of : PathError → ℕ
 status_of NoNode = 1
@@ -33,10 +32,6 @@ status_of (Refused e) = 3
 status_of (Pattern l) = 4
 status_of OutOfMemory = 4
 status_of Writing = 4
-
-abbrev pub limit_message : PatternLimit → List ℕ
-limit_message TooDeep = codes "the groups of a regular expression are too deep"
-limit_message TooLarge = codes "a regular expression is too large"
 
 -- the message of an error; of a text that is no query and of a refused one its reader's
 abbrev pub path_error_message : PathError → List ℕ

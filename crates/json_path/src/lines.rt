@@ -7,20 +7,18 @@ ghost use Rattle.tinyjson.specs.View.{view};
 ghost use Rattle.tinyjson.specs.Written.{WritesPrefix};
 ghost use Rattle.json_path.specs.Lines.{status_of, path_error_message, form_text, line_of, lines_of};
 ghost use Rattle.json_path.specs.Lines.{IsFailedWrite, WritesNodes, WritesOfText, WritesOfQuery, WritesSelected};
-ghost use Rattle.json_path.specs.Nodes.{path_view, part_view, parts_view};
-ghost use Rattle.json_path.specs.Paths.{path_text};
-ghost use Rattle.json_path.specs.Patterns.{judged};
+ghost use Rattle.tinyjson_path.specs.Nodes.{path_view, part_view, parts_view};
+ghost use Rattle.tinyjson_path.specs.Paths.{path_text};
+ghost use Rattle.tinyjson_path.specs.Patterns.{judged};
 
-use crate::node::{Location, Node};
-use crate::path::path_text;
-use crate::patterns::{FindError, PatternLimit};
-use crate::select::find;
 use std::alloc::Global;
 use std::fmt;
 use std::io::{self, ErrorKind, Write};
 use tinyjson::{JsonParseError, JsonValue};
 use tinyjson_lines::write_all;
-use tinyjson_path_query::{ParseError, ParseErrorKind, Query};
+use tinyjson_path::{
+    FindError, Location, Node, ParseError, ParseErrorKind, PatternLimit, Query, find, path_text,
+};
 
 /// What is written of a node.
 #[derive(Clone, Copy)]

@@ -6,16 +6,9 @@
 //! memory, a read or a write failed, or a regular expression is too deep or too large.
 #![tactic(auto)]
 
-mod children;
 mod failure;
 mod lines;
-mod node;
-mod operand;
 mod options;
-mod path;
-mod patterns;
-mod select;
-mod slice;
 
 use failure::{Failure, input_error};
 use lines::{write_selected, writing_error};

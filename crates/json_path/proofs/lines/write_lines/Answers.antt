@@ -2,8 +2,8 @@ use Rattle.std.proofs.Common.{◌+◌, drop, subst}
 use Rattle.tinyjson.proofs.Callers.{fails, goes}
 use Rattle.tinyjson.specs.Written.{Written}
 use Rattle.json_path.specs.Lines.{lines_of}
-use Rattle.json_path.specs.Nodes.{parts_view}
-use Rattle.json_path.proofs.Items.{drop_at}
+use Rattle.tinyjson_path.specs.Nodes.{parts_view}
+use Rattle.tinyjson_path.proofs.Callers.{drop_at}
 use Rattle.json_path.proofs.lines.write_lines.Goals as goal
 
 pub returns-in_err-write_line : goal.returns-in_err-write_line

@@ -1,7 +1,7 @@
 use Rattle.std.proofs.Common.{drop}
 use Rattle.tinyjson.specs.Written.{Written}
 use Rattle.json_path.specs.Lines.{lines_of}
-use Rattle.json_path.specs.Nodes.{parts_view}
+use Rattle.tinyjson_path.specs.Nodes.{parts_view}
 use Rattle.json_path.proofs.lines.write_lines.Given as goal
 
 abbrev pub invariant-loop-node : goal.invariant-loop-node

@@ -1,5 +1,5 @@
-use Rattle.json_path.proofs.Judging.{judged_right}
-use Rattle.json_path.specs.Patterns.{judged}
+use Rattle.tinyjson_path.proofs.Callers.{judged_right}
+use Rattle.tinyjson_path.specs.Patterns.{judged}
 use Rattle.json_path.proofs.lines.write_selected.Goals as goal
 
 pub returns : goal.returns

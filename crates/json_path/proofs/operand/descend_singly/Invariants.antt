@@ -1,7 +1,0 @@
-use Rattle.std.proofs.Common.{◌≡◌, drop}
-use Rattle.tinyjson.specs.View.{view}
-use Rattle.json_path.specs.Comparing.{one_at}
-use Rattle.json_path.proofs.operand.descend_singly.Given as goal
-
-abbrev pub invariant-loop-segment : goal.invariant-loop-segment
-invariant-loop-segment l = one_at (drop l.segment-index l.segments) (view l.here) ≡ one_at l.segments (view l.value)

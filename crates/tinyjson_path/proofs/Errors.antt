@@ -1,0 +1,132 @@
+-- What an error of a part of a query says of the whole.
+use Rattle.std.proofs.Common.{◌≡◌, ℕ, ◌<◌, ◌==◌, false, not, List, [], ◌∷◌, ◌++◌, map, length, get_or, refl, sym, ap}
+use Rattle.std.proofs.Common.{◌∙◌, subst}
+use Rattle.std.proofs.Common.{rules, Result, Option, suc, arith}
+use Rattle.std.proofs.lemmas.Bool.Decides.{nat_tests}
+use Rattle.std.specs.Prelude.{IsErrAnd, IfErr}
+use Rattle.tinyjson.specs.Tree.{Tree}
+use Rattle.tinyjson_path.specs.Comparing.{origin_tree}
+use Rattle.tinyjson_path.specs.Nodes.{Part, part_view, parts_view}
+use Rattle.tinyjson_path.specs.Queries.{holds_of, found_by, is_some_part, comparable_value}
+use Rattle.tinyjson_path.specs.Strings.{Texts, joined, strings_in, strings_at, strings_of, comparable_strings, IsFrom, IsFromAny}
+use Rattle.tinyjson_path.specs.declared.node.Node.{Node}
+use Rattle.tinyjson_path.specs.declared.patterns.FindError.{FindError}
+use Rattle.tinyjson_path.proofs.Stated.{comparable_keeps}
+use Rattle.tinyjson_path.proofs.Selected.{AreWithin, are_within, is_origin}
+use Rattle.tinyjson_path.proofs.Within.{Within, within_same, within_left, within_right, within_trans, within_each, within_both}
+use Rattle.tinyjson_path.proofs.Within.{from_within, from_error, from_result, of_query, of_here, of_all}
+use Rattle.tinyjson_path_query.specs.declared.query.Comparable.{Comparable}
+use Rattle.tinyjson_path_query.specs.declared.query.Expression.{Expression, the_lemmas}
+use Rattle.tinyjson_path_query.specs.declared.query.Expression.TheVariants as expression
+use Rattle.tinyjson_path_query.specs.declared.query.FilterQuery.{FilterQuery}
+use Rattle.tinyjson_path_query.specs.declared.query.Origin.{Origin}
+
+-- ---- of the query
+
+-- a part that is the whole, the left or the right of it, or one of a list
+pub is_whole : (whole part here : Texts) (root : Tree) → whole ≡ part → Within part (whole ++ (strings_in root ++ here))
+is_whole whole part here root e =
+    within_trans part whole (whole ++ (strings_in root ++ here)) (within_same part whole (sym e)) (of_query whole here root)
+
+pub is_left : (whole l r here : Texts) (root : Tree) → whole ≡ l ++ r → Within l (whole ++ (strings_in root ++ here))
+is_left whole l r here root e =
+    within_trans l (l ++ r) (whole ++ (strings_in root ++ here)) (within_left l r) (is_whole whole (l ++ r) here root e)
+
+pub is_right : (whole l r here : Texts) (root : Tree) → whole ≡ l ++ r → Within r (whole ++ (strings_in root ++ here))
+is_right whole l r here root e =
+    within_trans r (l ++ r) (whole ++ (strings_in root ++ here)) (within_right l r) (is_whole whole (l ++ r) here root e)
+
+pub is_one : {A : Type 0} (f : A → Texts) (xs ys : List A) (i : ℕ) (x : A) (whole here : Texts) (root : Tree)
+    → whole ≡ joined (map f ys) → xs ≡ ys → i < length xs → x ≡ get_or xs i x → Within (f x) (whole ++ (strings_in root ++ here))
+is_one f xs ys i x whole here root e s l g =
+    within_trans (f x) (joined (map f xs)) (whole ++ (strings_in root ++ here)) (within_each (λ ts. ts) f xs i x l g)
+    (is_whole whole (joined (map f xs)) here root (e ∙ ap (λ zs. joined (map f zs)) (sym s)))
+
+-- ---- of what is looked at
+
+-- one of the nodes
+pub node_in : (ns : List Node) (i : ℕ) (n : Node) → i < length ns → n ≡ get_or ns i n
+    → Within (strings_in (part_view n).tree) (strings_of (parts_view ns))
+node_in ns i n l e = within_each (λ (p : Part). strings_in p.tree) part_view ns i n l e
+
+-- one of the nodes of parts that are within others
+pub node_within : (ns ms : List Node) (ps : List Part) (i : ℕ) (n : Node) (zs : Texts) → ns ≡ ms → parts_view ms ≡ ps
+    → AreWithin zs ps → i < length ns → n ≡ get_or ns i n → Within (strings_in (part_view n).tree) zs
+node_within ns ms ps i n zs s e h l g =
+    within_trans (strings_in (part_view n).tree) (strings_of (parts_view ns)) zs (node_in ns i n l g)
+    (are_within zs (parts_view ns) (subst (AreWithin zs) (sym (ap parts_view s ∙ e)) h))
+
+-- ---- errors
+
+pub error_of : {T : Type 0} (whole part here below : Texts) (root : Tree) (d : FindError) (r : Result T FindError)
+    → IsErrAnd r (λ e. e ≡ d) → Within part (whole ++ (strings_in root ++ here)) → Within below here → IsFromAny part root below d
+    → IfErr r (IsFromAny whole root here)
+error_of whole part here below root d r h w v k =
+    from_error (part ++ (strings_in root ++ below)) (whole ++ (strings_in root ++ here)) d r h
+    (of_all whole here root part below w (within_trans below here (whole ++ (strings_in root ++ here)) v (of_here whole here root))) k
+
+-- of a query in a filter
+pub error_from : {T : Type 0} (whole part : Texts) (o : Origin) (root here start : Tree) (d : FindError) (r : Result T FindError)
+    → IsErrAnd r (λ e. e ≡ d) → whole ≡ part → start ≡ origin_tree o root here → IsFromAny part root (strings_in start) d
+    → IfErr r (IsFromAny whole root (strings_in here))
+error_from whole part o root here start d r h e s k =
+    from_error (part ++ (strings_in root ++ strings_in start)) (whole ++ (strings_in root ++ strings_in here)) d r h
+    (of_all whole (strings_in here) root part (strings_in start) (is_whole whole part (strings_in here) root e)
+    (within_trans (strings_in start) (strings_in root ++ strings_in here) (whole ++ (strings_in root ++ strings_in here))
+    (subst (λ t. Within (strings_in t) (strings_in root ++ strings_in here)) (sym s) (is_origin o root here))
+    (within_right whole (strings_in root ++ strings_in here))))
+    k
+
+-- of the pattern, whose text may come from a value
+pub error_of_pattern : {T : Type 0} (whole : Texts) (root here : Tree) (p : Comparable) (o : Option Tree) (d : FindError)
+    (r : Result T FindError) → IsErrAnd r (λ e. e ≡ d)
+    → Within (comparable_strings p) (whole ++ (strings_in root ++ strings_in here)) → o ≡ comparable_value p root here
+    → IsFrom (strings_at o) d → IfErr r (IsFromAny whole root (strings_in here))
+error_of_pattern whole root here p o d r h w e k =
+    from_error (strings_at o) (whole ++ (strings_in root ++ strings_in here)) d r h
+    (within_trans (strings_at o) (comparable_strings p ++ (strings_in root ++ strings_in here))
+    (whole ++ (strings_in root ++ strings_in here))
+    (subst (λ t. Within (strings_at t) (comparable_strings p ++ (strings_in root ++ strings_in here))) (sym e)
+    (comparable_keeps root here p))
+    (of_all whole (strings_in here) root (comparable_strings p) (strings_in here) w (of_here whole (strings_in here) root)))
+    k
+
+pub same_error : (whole part here : Texts) (root : Tree) (d : FindError) → Within part (whole ++ (strings_in root ++ here))
+    → IsFromAny part root here d → IsFromAny whole root here d
+same_error whole part here root d w k =
+    from_within (part ++ (strings_in root ++ here)) (whole ++ (strings_in root ++ here)) d
+    (of_all whole here root part here w (of_here whole here root)) k
+
+pub same_result : {T : Type 0} (whole part here : Texts) (root : Tree) (r : Result T FindError) → whole ≡ part
+    → IfErr r (IsFromAny part root here) → IfErr r (IsFromAny whole root here)
+same_result whole part here root r e k =
+    from_result (part ++ (strings_in root ++ here)) (whole ++ (strings_in root ++ here)) r
+    (of_all whole here root part here (is_whole whole part here root e) (of_here whole here root)) k
+
+-- of a query that is asked of the root
+pub error_of_root : {T : Type 0} (whole part : Texts) (root : Tree) (r : Result T FindError) → whole ≡ part
+    → IfErr r (IsFromAny part root (strings_in root)) → IfErr r (IsFrom (whole ++ strings_in root))
+error_of_root whole part root r e k =
+    let zs = strings_in root in
+    from_result (part ++ (zs ++ zs)) (whole ++ zs) r
+    (within_both part (zs ++ zs) (whole ++ zs)
+    (within_trans part whole (whole ++ zs) (within_same part whole (sym e)) (within_left whole zs))
+    (within_both zs zs (whole ++ zs) (within_right whole zs) (within_right whole zs)))
+    k
+
+-- ---- a test
+
+some_are : (ns : List Node) → not (length ns == 0) ≡ is_some_part (parts_view ns)
+some_are [] = refl
+some_are (n ∷ ns) = let none : (suc (length ns) == 0) ≡ false = grind (arith, nat_tests) in ap not none
+
+pub test_holds : (x : Expression) (q : FilterQuery) (root here start : Tree) (ns : List Node) → x ≡ expression.Test q
+    → start ≡ origin_tree q.origin root here → parts_view ns ≡ found_by q.segments.items root start
+    → not (length ns == 0) ≡ holds_of x root here
+test_holds x q root here start ns e s p =
+    some_are ns
+    ∙ (ap is_some_part (p ∙ ap (found_by q.segments.items root) s)
+    ∙ sym (ap (λ y. holds_of y root here) e ∙ stated))
+  where
+    stated : holds_of (expression.Test q) root here ≡ is_some_part (found_by q.segments.items root (origin_tree q.origin root here))
+    stated = search (rules, the_lemmas)

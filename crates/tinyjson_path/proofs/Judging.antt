@@ -1,0 +1,69 @@
+-- What patterns answer is right.
+use Rattle.std.proofs.Common.{◌≡◌, ◌↔◌, ℕ, Bool, IsTrue, List, Option, Some, None, Global, String, string_bytes, bytes_eq, sym, ap, ap₂}
+use Rattle.std.proofs.Common.{◌∙◌}
+use Rattle.std.proofs.lemmas.Slice.Eq.{bytes_eq-Decides}
+use Rattle.std.specs.Str.{chars}
+use Rattle.i_regexp.proofs.Callers.{matched_as, searched_as, reads_matches, reads_searches, nothing_matches, nothing_searches}
+use Rattle.i_regexp.proofs.Callers.{pattern_matches_sound, pattern_matches_complete}
+use Rattle.i_regexp.proofs.Callers.{pattern_searches_sound, pattern_searches_complete}
+use Rattle.i_regexp.specs.Deciding.{matches, searches}
+use Rattle.i_regexp.specs.Forms.{Matches, Searches}
+use Rattle.i_regexp.specs.Grammar.{Regexp, IsText}
+use Rattle.i_regexp.specs.Regexps.{form_in, IsReading}
+use Rattle.i_regexp.specs.declared.regexp.IRegexp.{IRegexp}
+use Rattle.tinyjson_path.specs.Patterns.{IsRight, judged, answer_of, holds_of_trees}
+use Rattle.tinyjson_path_query.specs.declared.query.PatternFunction.{PatternFunction}
+use Rattle.tinyjson.proofs.Callers.{view_String}
+use Rattle.tinyjson.specs.View.{view, text}
+use Rattle.tinyjson.specs.declared.value.JsonValue.{JsonValue}
+use Rattle.tinyjson.specs.declared.value.JsonValue.TheVariants as is
+use Rattle.tinyjson_path_query.specs.declared.query.PatternFunction.TheVariants.{Match, Search}
+
+pub judged_right : IsRight judged
+judged_right Match ps cs = (pattern_matches_sound ps cs, pattern_matches_complete ps cs)
+judged_right Search ps cs = (pattern_searches_sound ps cs, pattern_searches_complete ps cs)
+
+-- a text that was read
+pub answers_read : (ps : List ℕ) (x : IRegexp) → IsReading ps x → (f : PatternFunction) (cs : List ℕ)
+    → judged f ps cs ≡ answer_of (Some x) f cs
+answers_read ps x r Match cs = reads_matches ps cs x r
+answers_read ps x r Search cs = reads_searches ps cs x r
+
+-- a text that is no regular expression
+pub answers_nothing : (ps : List ℕ) → ((r : Regexp) → IsText ps r → ⊥) → (f : PatternFunction) (cs : List ℕ)
+    → judged f ps cs ≡ answer_of None f cs
+answers_nothing ps n Match cs = nothing_matches ps cs n
+answers_nothing ps n Search cs = nothing_searches ps cs n
+
+-- the same regular expression once more answers the same
+pub answers_same : (x y : IRegexp) → form_in y ≡ form_in x → (f : PatternFunction) (cs : List ℕ)
+    → answer_of (Some x) f cs ≡ answer_of (Some y) f cs
+answers_same x y e Match cs = ap (λ f. matches f cs) (sym e)
+answers_same x y e Search cs = ap (λ f. searches f cs) (sym e)
+
+-- what was answered of the whole text, or of a part, is right
+pub matched_right : (ps cs : List ℕ) (o : Option IRegexp) (x : IRegexp) (g : PatternFunction) (b : Bool)
+    → ((f : PatternFunction) (ds : List ℕ) → judged f ps ds ≡ answer_of o f ds) → o ≡ Some x → g ≡ Match
+    → (IsTrue b ↔ Matches (form_in x) cs) → b ≡ judged g ps cs
+matched_right ps cs o x g b k e m h =
+    matched_as (form_in x) cs b h
+    ∙ (sym (k Match cs ∙ ap (λ q. answer_of q Match cs) e) ∙ ap (λ f. judged f ps cs) (sym m))
+
+pub searched_right : (ps cs : List ℕ) (o : Option IRegexp) (x : IRegexp) (g : PatternFunction) (b : Bool)
+    → ((f : PatternFunction) (ds : List ℕ) → judged f ps ds ≡ answer_of o f ds) → o ≡ Some x → g ≡ Search
+    → (IsTrue b ↔ Searches (form_in x) cs) → b ≡ judged g ps cs
+searched_right ps cs o x g b k e m h =
+    searched_as (form_in x) cs b h
+    ∙ (sym (k Search cs ∙ ap (λ q. answer_of q Search cs) e) ∙ ap (λ f. judged f ps cs) (sym m))
+
+-- of two strings
+pub strings_judged : (f : PatternFunction) (v w : JsonValue) (s t : String Global) (a b : List ℕ) → v ≡ is.String s → w ≡ is.String t
+    → a ≡ string_bytes s → b ≡ string_bytes t → judged f (chars b) (chars a) ≡ holds_of_trees judged f (view v) (view w)
+strings_judged f v w s t a b e g h k =
+    ap₂ (λ x y. judged f (chars y) (chars x)) h k
+    ∙ ap₂ (holds_of_trees judged f) (sym (ap view e ∙ view_String s)) (sym (ap view g ∙ view_String t))
+
+-- of a pattern that is kept
+pub kept_judged : (f : PatternFunction) (k : String Global) (bs ps vs : List ℕ) → bs ≡ string_bytes k → IsTrue (bytes_eq bs ps)
+    → judged f (text k) vs ≡ judged f (chars ps) vs
+kept_judged f k bs ps vs e t = ap (λ x. judged f (chars x) vs) (sym e ∙ (bytes_eq-Decides bs ps).0 t)

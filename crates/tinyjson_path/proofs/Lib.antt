@@ -1,0 +1,10 @@
+pub mod Parts
+pub mod Items
+pub mod Values
+pub mod Comparisons
+pub mod Judging
+pub mod Within
+pub mod Selected
+pub mod Stated
+pub mod Errors
+pub mod Callers

@@ -1,0 +1,20 @@
+-- what public contracts say
+pub mod Nodes
+pub mod Slices
+pub mod Selecting
+pub mod Comparing
+pub mod Patterns
+pub mod Queries
+pub mod Strings
+pub mod Paths
+pub mod Limits
+-- what they say of a query's text, by the names of the crate `tinyjson_path_query`, so that callers name one crate
+pub use Rattle.tinyjson_path_query.specs.Forms
+pub use Rattle.tinyjson_path_query.specs.Grammar
+pub use Rattle.tinyjson_path_query.specs.Message
+pub use Rattle.tinyjson_path_query.specs.Reading
+pub use Rattle.tinyjson_path_query.specs.declared.error.ParseError
+pub use Rattle.tinyjson_path_query.specs.declared.error.ParseErrorKind
+pub use Rattle.tinyjson_path_query.specs.declared.query.Query
+-- what private contracts alone say
+pub mod Seen

@@ -1,0 +1,92 @@
+//! The nodes of a value, each with its location.
+ghost use Rattle.std.specs.Prelude.{◌≡◌, ◌++◌, ◌∷◌, [], IfOk};
+ghost use Rattle.tinyjson.specs.View.{view, text};
+ghost use Rattle.tinyjson_path.specs.Nodes.{at_key, at_index, path_of, part_view, root_part, below};
+
+use std::alloc::{AllocError, Global};
+use std::rc::Rc;
+use tinyjson::JsonValue;
+
+/// Where a node stands in the value that a query is asked of: its normalized path (RFC 9535, 2.7). A
+/// location shares the one of its parent.
+pub enum Location<'v> {
+    Root,
+    Member(Rc<Location<'v>>, &'v String),
+    Item(Rc<Location<'v>>, usize),
+}
+
+/// Those above that no node shares are freed too, by a loop.
+impl Drop for Location<'_> {
+    fn drop(mut self) {
+        loop {
+            let up = match self {
+                Location::Root => return,
+                Location::Member(up, _) => up,
+                Location::Item(up, _) => up,
+            };
+            match Rc::into_inner(up) {
+                Some(location) => self = location,
+                None => return,
+            }
+        }
+    }
+}
+
+/// A node (RFC 9535, 1.1): a part of the value that a query is asked of, and its location there.
+#[derive(Drop)]
+pub struct Node<'v> {
+    pub location: Rc<Location<'v>>,
+    pub value: &'v JsonValue,
+}
+
+impl<'v> Node<'v> {
+    pub(crate) fn root(alloc: Global, value: &'v JsonValue) -> Result<Node<'v>, AllocError>
+        ensures { IfOk result (λ n. part_view n ≡ root_part (view value.now)) }
+    {
+        Ok(Node {
+            location: Rc::new(alloc, Location::Root)?,
+            value,
+        })
+    }
+
+    /// The node of a member of this one.
+    pub(crate) fn member(
+        &self,
+        alloc: Global,
+        name: &'v String,
+        value: &'v JsonValue,
+    ) -> Result<Node<'v>, AllocError>
+        ensures { IfOk result (λ n. part_view n
+            ≡ below (path_of self.now) (at_key (text name.now)) (view value.now)) }
+    {
+        Ok(Node {
+            location: Rc::new(alloc, Location::Member(self.location.clone()?, name))?,
+            value,
+        })
+    }
+
+    /// The node of an item of this one.
+    pub(crate) fn item(
+        &self,
+        alloc: Global,
+        index: usize,
+        value: &'v JsonValue,
+    ) -> Result<Node<'v>, AllocError>
+        ensures { IfOk result (λ n. part_view n
+            ≡ below (path_of self.now) (at_index index) (view value.now)) }
+    {
+        Ok(Node {
+            location: Rc::new(alloc, Location::Item(self.location.clone()?, index))?,
+            value,
+        })
+    }
+
+    pub(crate) fn try_clone(&self) -> Result<Node<'v>, AllocError>
+        ensures { IfOk result (λ n. part_view n ≡ part_view self.now) }
+    {
+        Ok(Node {
+            location: self.location.clone()?,
+            value: self.value,
+        })
+    }
+}

@@ -1,0 +1,231 @@
+//! What filters compare (RFC 9535, 2.3.5.2.2), and the functions of values.
+ghost use Rattle.std.specs.Prelude.{◌≡◌, ◌<◌, Some, IfOk, option_map};
+ghost use Rattle.tinyjson.specs.View.{view};
+ghost use Rattle.tinyjson_path.specs.Comparing.{compares, is_same, is_below, is_tree_less, literal_tree};
+ghost use Rattle.tinyjson_path.specs.Comparing.{one_at, one_child, one_tree, origin_tree};
+ghost use Rattle.tinyjson_path.specs.Comparing.{length_of, count_of, value_of, size_of, whole};
+ghost use Rattle.tinyjson_path.specs.Nodes.{parts_view};
+ghost use Rattle.tinyjson_path.specs.Seen.{operand_tree, value_tree};
+
+use crate::children::{child_at, child_named};
+use crate::node::Node;
+use std::alloc::{AllocError, Global};
+use tinyjson::{JsonNumber, JsonValue, sorted_members};
+use tinyjson_compare::is_less;
+use tinyjson_path_query::{ComparisonOperator, Literal, Origin, SingularQuery, SingularSegment};
+
+/// A value that is compared: one of the input's, or one of the filter's own.
+pub(crate) enum Operand<'v> {
+    Part(&'v JsonValue),
+    // In a box, for the stack that a filter in a filter takes.
+    Own(Box<JsonValue>),
+}
+
+/// The value, if there is one.
+pub(crate) fn value_of<'a>(operand: &'a Option<Operand>) -> Option<&'a JsonValue>
+    ensures { value_tree result ≡ option_map operand_tree operand.now }
+{
+    match operand {
+        None => None,
+        Some(Operand::Part(value)) => Some(*value),
+        Some(Operand::Own(value)) => Some(value),
+    }
+}
+
+/// Frees what is the filter's own.
+// Inlined, this and `compare` would take half as much again of the stack at each level of a filter.
+#[inline(never)]
+pub(crate) fn release(operand: Option<Operand>) {
+    let Some(operand) = operand else {
+        return;
+    };
+    match operand {
+        Operand::Own(value) => Box::into_inner(value).dismantle(),
+        Operand::Part(_) => {}
+    }
+}
+
+/// Whether the two compare so; both are given up.
+#[inline(never)]
+pub(crate) fn compare(
+    operator: ComparisonOperator,
+    left: Option<Operand>,
+    right: Option<Operand>,
+) -> bool
+    ensures { result ≡ compares operator
+        (option_map operand_tree left.entry) (option_map operand_tree right.entry) }
+{
+    let is_so = compares(operator, value_of(&left), value_of(&right));
+    release(left);
+    release(right);
+    is_so
+}
+
+fn compares(
+    operator: ComparisonOperator,
+    left: Option<&JsonValue>,
+    right: Option<&JsonValue>,
+) -> bool
+    ensures { result ≡ compares operator (value_tree left.entry) (value_tree right.entry) }
+{
+    match operator {
+        ComparisonOperator::Equal => is_same(left, right),
+        ComparisonOperator::NotEqual => !is_same(left, right),
+        ComparisonOperator::Less => is_below(left, right),
+        ComparisonOperator::LessOrEqual => is_below(left, right) || is_same(left, right),
+        ComparisonOperator::Greater => is_below(right, left),
+        ComparisonOperator::GreaterOrEqual => is_below(right, left) || is_same(left, right),
+    }
+}
+
+fn is_same(left: Option<&JsonValue>, right: Option<&JsonValue>) -> bool
+    ensures { result ≡ is_same (value_tree left.entry) (value_tree right.entry) }
+{
+    match (left, right) {
+        (None, None) => true,
+        (Some(left), Some(right)) => *left == *right,
+        _ => false,
+    }
+}
+
+fn is_below(left: Option<&JsonValue>, right: Option<&JsonValue>) -> bool
+    ensures { result ≡ is_below (value_tree left.entry) (value_tree right.entry) }
+{
+    match (left, right) {
+        (Some(left), Some(right)) => is_value_less(left, right),
+        _ => false,
+    }
+}
+
+fn is_value_less(left: &JsonValue, right: &JsonValue) -> bool
+    ensures { result ≡ is_tree_less (view left.now) (view right.now) }
+{
+    match (left, right) {
+        (JsonValue::Number(left), JsonValue::Number(right)) => is_less(left, right),
+        (JsonValue::String(left), JsonValue::String(right)) => left.as_str() < right.as_str(),
+        _ => false,
+    }
+}
+
+pub(crate) fn literal_value<'v>(
+    alloc: Global,
+    literal: &Literal,
+) -> Result<Option<Operand<'v>>, AllocError>
+    ensures { IfOk result (λ o. option_map operand_tree o ≡ Some (literal_tree literal.now)) }
+{
+    let value = match literal {
+        Literal::Null => JsonValue::Null,
+        Literal::Boolean(is_true) => JsonValue::Boolean(*is_true),
+        Literal::Number(number) => JsonValue::Number(number.try_clone(alloc)?),
+        Literal::String(text) => JsonValue::String(String::from_str(alloc, text.as_str())?),
+    };
+    Ok(Some(Operand::Own(Box::new(alloc, value)?)))
+}
+
+/// Where a query inside a filter begins.
+pub(crate) fn start<'v>(origin: Origin, root: &'v JsonValue, here: &'v JsonValue) -> &'v JsonValue
+    ensures { view result.now ≡ origin_tree origin (view root.now) (view here.now) }
+{
+    match origin {
+        Origin::Root => root,
+        Origin::CurrentNode => here,
+    }
+}
+
+/// The value of the one node that the query selects, if it selects one.
+pub(crate) fn singular_value<'v>(
+    query: &SingularQuery,
+    root: &'v JsonValue,
+    here: &'v JsonValue,
+) -> Option<Operand<'v>>
+    ensures { option_map operand_tree result ≡ one_tree query.now (view root.now) (view here.now) }
+{
+    match descend_singly(query.segments.as_slice(), start(query.origin, root, here)) {
+        Some(value) => Some(Operand::Part(value)),
+        None => None,
+    }
+}
+
+fn descend_singly<'v>(segments: &[SingularSegment], value: &'v JsonValue) -> Option<&'v JsonValue>
+    ensures { value_tree result ≡ one_at segments.now (view value.now) }
+{
+    let mut here = value;
+    for segment in segments {
+        match one_child(segment, here) {
+            Some(child) => here = child,
+            None => return None,
+        }
+    }
+    Some(here)
+}
+
+fn one_child<'v>(segment: &SingularSegment, value: &'v JsonValue) -> Option<&'v JsonValue>
+    ensures { value_tree result ≡ one_child segment.now (view value.now) }
+{
+    match segment {
+        SingularSegment::Name(name) => match child_named(value, name.as_str()) {
+            Some((_, child)) => Some(child),
+            None => None,
+        },
+        SingularSegment::Index(index) => match child_at(value, *index) {
+            Some((_, child)) => Some(child),
+            None => None,
+        },
+    }
+}
+
+/// `length` (RFC 9535, 2.4.4) of what is given up.
+pub(crate) fn length<'v>(
+    alloc: Global,
+    argument: Option<Operand>,
+) -> Result<Option<Operand<'v>>, AllocError>
+    ensures { IfOk result (λ o. option_map operand_tree o
+        ≡ length_of (option_map operand_tree argument.entry)) }
+{
+    let size = match value_of(&argument) {
+        Some(value) => size(alloc, value),
+        None => Ok(None),
+    };
+    release(argument);
+    match size? {
+        Some(size) => whole(alloc, size),
+        None => Ok(None),
+    }
+}
+
+/// The characters of a string, the items of an array or the members of an object.
+fn size(alloc: Global, value: &JsonValue) -> Result<Option<usize>, AllocError>
+    ensures { IfOk result (λ n. n ≡ size_of (view value.now)) }
+{
+    match value {
+        JsonValue::String(text) => Ok(Some(text.as_str().chars().count())),
+        JsonValue::Array(items) => Ok(Some(items.len())),
+        JsonValue::Object(members) => Ok(Some(sorted_members(alloc, members)?.len())),
+        _ => Ok(None),
+    }
+}
+
+/// A whole number.
+fn whole<'v>(alloc: Global, value: usize) -> Result<Option<Operand<'v>>, AllocError>
+    ensures { IfOk result (λ o. option_map operand_tree o ≡ Some (whole value)) }
+{
+    let number = JsonValue::Number(JsonNumber::from_u64(alloc, value as u64)?);
+    Ok(Some(Operand::Own(Box::new(alloc, number)?)))
+}
+
+/// `count` (RFC 9535, 2.4.5) of the nodes.
+pub(crate) fn count<'v>(alloc: Global, nodes: &[Node]) -> Result<Option<Operand<'v>>, AllocError>
+    ensures { IfOk result (λ o. option_map operand_tree o ≡ count_of (parts_view nodes.now)) }
+{
+    whole(alloc, nodes.len())
+}
+
+/// `value` (RFC 9535, 2.4.8) of the nodes.
+pub(crate) fn only_value<'v>(nodes: &[Node<'v>]) -> Option<Operand<'v>>
+    ensures { option_map operand_tree result ≡ value_of (parts_view nodes.now) }
+{
+    match nodes {
+        [node] => Some(Operand::Part(node.value)),
+        _ => None,
+    }
+}

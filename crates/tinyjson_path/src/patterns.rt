@@ -1,0 +1,215 @@
+//! Regular expressions that `match` and `search` ask for (RFC 9535, 2.4.6 and 2.4.7).
+ghost use Rattle.std.specs.Prelude.{◌≡◌, ◌≤◌, ℕ, Bool, List, [], ◌∷◌, Some, IfOk, IfErr};
+ghost use Rattle.std.specs.Prelude.{option_map, vec_len};
+ghost use Rattle.std.specs.Str.{chars};
+ghost use Rattle.tinyjson.specs.View.{view, text};
+ghost use Rattle.tinyjson_path.specs.Limits.{limit_message};
+ghost use Rattle.tinyjson_path.specs.Patterns.{judged, answer_of, holds_of_trees, pattern_holds};
+ghost use Rattle.tinyjson_path.specs.Seen.{operand_tree, value_tree};
+ghost use Rattle.tinyjson_path.specs.Strings.{strings_in, strings_at, IsFrom};
+ghost use Rattle.tinyjson_path.specs.declared.patterns.FindError.{FindError};
+ghost use Rattle.tinyjson_path_query.specs.declared.query.PatternFunction.{PatternFunction};
+
+use crate::operand::{Operand, release, value_of};
+use i_regexp::{IRegexp, IRegexpErrorKind};
+use std::alloc::{AllocError, AllocFailed, Global};
+use std::fmt;
+use tinyjson::JsonValue;
+use tinyjson_path_query::PatternFunction;
+
+/// How a regular expression is more than is read.
+#[derive(Clone, Copy)]
+pub enum PatternLimit {
+    /// More than 200 groups are open at once.
+    TooDeep,
+    /// It has more than 10,000 characters, classes, groups and bars, with repetitions written out.
+    TooLarge,
+}
+
+impl fmt::Display for PatternLimit {
+    ghost output = { λ l. Some (limit_message l) };
+
+    fn fmt<W: fmt::Write>(&self, f: &mut fmt::Formatter<W>) -> fmt::Result {
+        f.write_str(match self {
+            PatternLimit::TooDeep => "the groups of a regular expression are too deep",
+            PatternLimit::TooLarge => "a regular expression is too large",
+        })
+    }
+}
+
+/// Why it can't be told what a query selects.
+#[derive(Clone, Copy)]
+pub enum FindError {
+    /// A regular expression that was asked for is too deep or too large.
+    Pattern(PatternLimit),
+    /// An allocation failed.
+    OutOfMemory,
+}
+
+impl From<AllocError> for FindError {
+    ghost from_gives = { λ _ e. e ≡ FindError.OutOfMemory };
+
+    fn from(_: AllocError) -> FindError {
+        FindError::OutOfMemory
+    }
+}
+
+impl<T: Drop> From<AllocFailed<T>> for FindError {
+    ghost from_gives = { λ _ e. e ≡ FindError.OutOfMemory };
+
+    fn from(_: AllocFailed<T>) -> FindError {
+        FindError::OutOfMemory
+    }
+}
+
+/// A text that was read as a regular expression.
+#[derive(Drop)]
+struct Pattern {
+    pattern: String,
+    /// Nothing where the text is no regular expression.
+    regexp: Option<IRegexp>,
+    ghost read: { (f : PatternFunction) (cs : List ℕ)
+        → judged f (text pattern) cs ≡ answer_of regexp f cs },
+}
+
+/// The regular expression that the text is, if it is one.
+fn regexp_of(alloc: Global, pattern: &str) -> Result<Option<IRegexp>, FindError>
+    ensures ok { IfOk result (λ o. (f : PatternFunction) (cs : List ℕ)
+        → judged f (chars pattern.now) cs ≡ answer_of o f cs) }
+    ensures err { IfErr result (IsFrom (chars pattern.now ∷ [])) }
+{
+    match IRegexp::parse(alloc, pattern) {
+        Ok(regexp) => Ok(Some(regexp)),
+        Err(error) => match error.kind {
+            IRegexpErrorKind::Invalid => Ok(None),
+            IRegexpErrorKind::TooDeep => Err(FindError::Pattern(PatternLimit::TooDeep)),
+            IRegexpErrorKind::TooLarge => Err(FindError::Pattern(PatternLimit::TooLarge)),
+            IRegexpErrorKind::OutOfMemory => Err(FindError::OutOfMemory),
+        },
+    }
+}
+
+impl Pattern {
+    fn read(alloc: Global, pattern: &str) -> Result<Pattern, FindError>
+        ensures ok { IfOk result (λ p. text p.pattern ≡ chars pattern.now) }
+        ensures err { IfErr result (IsFrom (chars pattern.now ∷ [])) }
+    {
+        let regexp = regexp_of(alloc, pattern)?;
+        let pattern = String::from_str(alloc, pattern)?;
+        Ok(Pattern { pattern, regexp })
+    }
+
+    /// Whether the function holds of the value; of what is no regular expression it does not.
+    fn holds(&mut self, function: PatternFunction, value: &str) -> bool
+        ensures { result ≡ judged function (text self.old.pattern) (chars value.now) }
+    {
+        let Some(regexp) = &mut self.regexp else {
+            return false;
+        };
+        match function {
+            PatternFunction::Match => regexp.matches(value),
+            PatternFunction::Search => regexp.searches(value),
+        }
+    }
+}
+
+/// The patterns of a query that were read so far, in the order of their bytes.
+#[derive(Drop)]
+pub(crate) struct Patterns {
+    kept: Vec<Pattern>,
+}
+
+impl Patterns {
+    pub(crate) fn new(alloc: Global) -> Patterns {
+        Patterns {
+            kept: Vec::new(alloc),
+        }
+    }
+
+    /// Whether the function holds of the value and the pattern, which is kept if it stands in the query.
+    /// Both are given up.
+    // Inlined, it would double what each level of a filter takes of the stack.
+    #[inline(never)]
+    pub(crate) fn test(
+        &mut self,
+        alloc: Global,
+        function: PatternFunction,
+        is_kept: bool,
+        value: Option<Operand>,
+        pattern: Option<Operand>,
+    ) -> Result<bool, FindError>
+        ensures ok { IfOk result (λ b. b ≡ pattern_holds judged function
+            (option_map operand_tree value.entry) (option_map operand_tree pattern.entry)) }
+        ensures err { IfErr result
+            (IsFrom (strings_at (option_map operand_tree pattern.entry))) }
+    {
+        let answer = match (value_of(&value), value_of(&pattern)) {
+            (Some(value), Some(pattern)) => self.of_values(
+                alloc, function, is_kept, value, pattern,
+            ),
+            _ => Ok(false),
+        };
+        release(value);
+        release(pattern);
+        answer
+    }
+
+    fn of_values(
+        &mut self,
+        alloc: Global,
+        function: PatternFunction,
+        is_kept: bool,
+        value: &JsonValue,
+        pattern: &JsonValue,
+    ) -> Result<bool, FindError>
+        ensures ok { IfOk result (λ b. b
+            ≡ holds_of_trees judged function (view value.now) (view pattern.now)) }
+        ensures err { IfErr result (IsFrom (strings_in (view pattern.now))) }
+    {
+        match (value, pattern) {
+            (JsonValue::String(value), JsonValue::String(pattern)) => {
+                Ok(self.of_strings(alloc, function, is_kept, value.as_str(), pattern.as_str())?)
+            }
+            _ => Ok(false),
+        }
+    }
+
+    /// A pattern that is kept is read if it was not before.
+    #[inline(never)]
+    fn of_strings(
+        &mut self,
+        alloc: Global,
+        function: PatternFunction,
+        is_kept: bool,
+        value: &str,
+        pattern: &str,
+    ) -> Result<bool, FindError>
+        ensures ok { IfOk result (λ b. b
+            ≡ judged function (chars pattern.now) (chars value.now)) }
+        ensures err { IfErr result (IsFrom (chars pattern.now ∷ [])) }
+    {
+        if !is_kept {
+            let mut read = Pattern::read(alloc, pattern)?;
+            return Ok(read.holds(function, value));
+        }
+        let place = self.place(pattern);
+        if let Some(kept) = self.kept.get_mut(place) {
+            if kept.pattern.as_str() == pattern {
+                return Ok(kept.holds(function, value));
+            }
+        }
+        let mut read = Pattern::read(alloc, pattern)?;
+        let holds = read.holds(function, value);
+        self.kept.insert(place, read)?;
+        Ok(holds)
+    }
+
+    /// Where the pattern stands among those that are kept, or is to stand.
+    fn place(&self, pattern: &str) -> usize
+        ensures { result ≤ vec_len self.now.kept }
+    {
+        self.kept
+            .as_slice()
+            .partition_point(|kept| kept.pattern.as_str() < pattern)
+    }
+}

@@ -1,0 +1,333 @@
+//! The nodes that a query selects.
+ghost use Rattle.std.specs.Prelude.{◌≡◌, ◌++◌, reverse, OnOk, IfOk, IfErr, option_map};
+ghost use Rattle.tinyjson.specs.View.{view};
+ghost use Rattle.tinyjson_path.specs.Nodes.{path_of, part_view, parts_view, visited, children};
+ghost use Rattle.tinyjson_path.specs.Queries.{query_parts, segment_parts, selector_parts, selected_by};
+ghost use Rattle.tinyjson_path.specs.Queries.{found_by, holds_of, kept, comparable_value};
+ghost use Rattle.tinyjson_path.specs.Patterns.{judged};
+ghost use Rattle.tinyjson_path.specs.Seen.{operand_tree};
+ghost use Rattle.tinyjson_path.specs.Selecting.{from_each};
+ghost use Rattle.tinyjson_path.specs.Strings.{query_strings, strings_in, strings_of, IsFrom, IsFromAny};
+ghost use Rattle.tinyjson_path.specs.Strings.{segments_strings, segment_strings, selectors_strings};
+ghost use Rattle.tinyjson_path.specs.Strings.{selector_strings, expression_strings, comparable_strings};
+
+use crate::children::{children, push_children, push_indexed, push_named, push_slice};
+use crate::node::Node;
+use crate::operand::{
+    self, Operand, compare, literal_value, only_value, release, singular_value, start,
+};
+use crate::patterns::{FindError, Patterns};
+use std::alloc::{AllocError, Global};
+use tinyjson::JsonValue;
+use tinyjson_path_query::{Comparable, Expression, FunctionExpression, Query, Segment, Selector};
+
+/// The nodes that the query selects in the value, in order (RFC 9535, 2.1.2); one that is selected twice
+/// is there twice. The members of an object come in the order of their keys' bytes, which the RFC leaves
+/// open. The errors are out of memory, and a regular expression that is too deep or too large.
+///
+/// A regular expression that is a literal of the query is read once, where it is first needed, and one from
+/// the value each time. The stack grows with the nesting of expressions and queries in the query, not with the
+/// value's depth.
+///
+/// ```
+/// let value = JsonValue::from_str(alloc, r#"{"a": [{"b": 1}, {"b": 2.50}]}"#)?;
+/// let query = Query::parse(alloc, "$.a[?@.b > 1].b")?;
+/// let nodes = find(&query, alloc, &value)?;
+/// assert_eq!(rt; nodes.len(), 1);
+/// let number = nodes[0].value.stringify(alloc)?;
+/// assert_eq!(rt; number.as_str(), "2.5");
+/// let path = path_text(alloc, &nodes[0].location)?;
+/// assert_eq!(rt; path.as_str(), "$['a'][1]['b']");
+/// ```
+pub fn find<'v>(
+    query: &Query,
+    alloc: Global,
+    value: &'v JsonValue,
+) -> Result<Vec<Node<'v>>, FindError>
+    ensures ok { IfOk result (λ v. parts_view v.items
+        ≡ query_parts judged query.now (view value.now)) }
+    ensures err { IfErr result (IsFrom (query_strings query.now ++ strings_in (view value.now))) }
+{
+    let mut patterns = Patterns::new(alloc);
+    find_from(
+        query.segments.as_slice(),
+        alloc,
+        value,
+        value,
+        &mut patterns,
+    )
+}
+
+/// What the segments select, one after the other, from a value on.
+#[cycle(selecting)]
+fn find_from<'v>(
+    segments: &[Segment],
+    alloc: Global,
+    root: &'v JsonValue,
+    value: &'v JsonValue,
+    patterns: &mut Patterns,
+) -> Result<Vec<Node<'v>>, FindError>
+    ensures ok { IfOk result (λ v. parts_view v.items
+        ≡ found_by segments.now (view root.now) (view value.now)) }
+    ensures err { IfErr result (IsFromAny (segments_strings segments.now) (view root.now)
+        (strings_in (view value.now))) }
+{
+    let mut nodes = Vec::new(alloc);
+    nodes.push(Node::root(alloc, value)?)?;
+    for segment in segments {
+        nodes = apply(segment, alloc, root, nodes.as_slice(), patterns)?;
+    }
+    Ok(nodes)
+}
+
+/// What the segment selects from each of the nodes.
+#[cycle(selecting)]
+fn apply<'v>(
+    segment: &Segment,
+    alloc: Global,
+    root: &'v JsonValue,
+    nodes: &[Node<'v>],
+    patterns: &mut Patterns,
+) -> Result<Vec<Node<'v>>, FindError>
+    ensures ok { IfOk result (λ v. parts_view v.items
+        ≡ from_each (segment_parts segment.now (view root.now)) (parts_view nodes.now)) }
+    ensures err { IfErr result (IsFromAny (segment_strings segment.now) (view root.now)
+        (strings_of (parts_view nodes.now))) }
+{
+    let mut selected = Vec::new(alloc);
+    for node in nodes {
+        select_from(segment, alloc, root, node, &mut selected, patterns)?;
+    }
+    Ok(selected)
+}
+
+#[cycle(selecting)]
+fn select_from<'v>(
+    segment: &Segment,
+    alloc: Global,
+    root: &'v JsonValue,
+    node: &Node<'v>,
+    selected: &mut Vec<Node<'v>>,
+    patterns: &mut Patterns,
+) -> Result<(), FindError>
+    ensures ok { OnOk result (parts_view selected.new.items ≡ parts_view selected.old.items
+        ++ segment_parts segment.now (view root.now) (part_view node.now)) }
+    ensures err { IfErr result (IsFromAny (segment_strings segment.now) (view root.now)
+        (strings_in (view node.now.value.now))) }
+{
+    match segment {
+        Segment::Child(selectors) => {
+            select_each(selectors.as_slice(), alloc, root, node, selected, patterns)
+        }
+        Segment::Descendant(selectors) => {
+            descend(selectors.as_slice(), alloc, root, node, selected, patterns)
+        }
+    }
+}
+
+/// From the node and each of its descendants, which wait on a stack.
+#[cycle(selecting)]
+fn descend<'v>(
+    selectors: &[Selector],
+    alloc: Global,
+    root: &'v JsonValue,
+    node: &Node<'v>,
+    selected: &mut Vec<Node<'v>>,
+    patterns: &mut Patterns,
+) -> Result<(), FindError>
+    ensures ok { OnOk result (parts_view selected.new.items ≡ parts_view selected.old.items
+        ++ from_each (selected_by selectors.now (view root.now))
+        (visited (path_of node.now) (view node.now.value.now))) }
+    ensures err { IfErr result (IsFromAny (selectors_strings selectors.now) (view root.now)
+        (strings_in (view node.now.value.now))) }
+{
+    let mut waiting = Vec::new(alloc);
+    waiting.push(node.try_clone()?)?;
+    while let Some(node) = waiting.pop() {
+        select_each(selectors, alloc, root, &node, selected, patterns)?;
+        push_reversed(children(alloc, &node)?, &mut waiting)?;
+    }
+    Ok(())
+}
+
+#[cycle(selecting)]
+fn select_each<'v>(
+    selectors: &[Selector],
+    alloc: Global,
+    root: &'v JsonValue,
+    node: &Node<'v>,
+    selected: &mut Vec<Node<'v>>,
+    patterns: &mut Patterns,
+) -> Result<(), FindError>
+    ensures ok { OnOk result (parts_view selected.new.items ≡ parts_view selected.old.items
+        ++ selected_by selectors.now (view root.now) (part_view node.now)) }
+    ensures err { IfErr result (IsFromAny (selectors_strings selectors.now) (view root.now)
+        (strings_in (view node.now.value.now))) }
+{
+    for selector in selectors {
+        select(selector, alloc, root, node, selected, patterns)?;
+    }
+    Ok(())
+}
+
+#[cycle(selecting)]
+fn select<'v>(
+    selector: &Selector,
+    alloc: Global,
+    root: &'v JsonValue,
+    node: &Node<'v>,
+    selected: &mut Vec<Node<'v>>,
+    patterns: &mut Patterns,
+) -> Result<(), FindError>
+    ensures ok { OnOk result (parts_view selected.new.items ≡ parts_view selected.old.items
+        ++ selector_parts selector.now (view root.now) (part_view node.now)) }
+    ensures err { IfErr result (IsFromAny (selector_strings selector.now) (view root.now)
+        (strings_in (view node.now.value.now))) }
+{
+    match selector {
+        Selector::Name(name) => push_named(alloc, node, name.as_str(), selected)?,
+        Selector::Wildcard => push_children(alloc, node, selected)?,
+        Selector::Index(index) => push_indexed(alloc, node, *index, selected)?,
+        Selector::Slice { start, end, step } => {
+            push_slice(alloc, node, *start, *end, *step, selected)?
+        }
+        Selector::Filter(expression) => {
+            push_kept(expression, alloc, root, node, selected, patterns)?
+        }
+    }
+    Ok(())
+}
+
+/// The children of which the expression holds (RFC 9535, 2.3.5).
+#[cycle(selecting)]
+fn push_kept<'v>(
+    expression: &Expression,
+    alloc: Global,
+    root: &'v JsonValue,
+    node: &Node<'v>,
+    selected: &mut Vec<Node<'v>>,
+    patterns: &mut Patterns,
+) -> Result<(), FindError>
+    ensures ok { OnOk result (parts_view selected.new.items ≡ parts_view selected.old.items
+        ++ kept (holds_of expression.now (view root.now))
+        (children (path_of node.now) (view node.now.value.now))) }
+    ensures err { IfErr result (IsFromAny (expression_strings expression.now) (view root.now)
+        (strings_in (view node.now.value.now))) }
+{
+    let children = children(alloc, node)?;
+    for child in children.as_slice() {
+        if holds(expression, alloc, root, child.value, patterns)? {
+            selected.push(child.try_clone()?)?;
+        }
+    }
+    Ok(())
+}
+
+/// Whether the expression holds of the value.
+#[cycle(selecting)]
+fn holds<'v>(
+    expression: &Expression,
+    alloc: Global,
+    root: &'v JsonValue,
+    here: &'v JsonValue,
+    patterns: &mut Patterns,
+) -> Result<bool, FindError>
+    ensures ok { IfOk result (λ b. b
+        ≡ holds_of expression.now (view root.now) (view here.now)) }
+    ensures err { IfErr result (IsFromAny (expression_strings expression.now) (view root.now)
+        (strings_in (view here.now))) }
+{
+    match expression {
+        Expression::Or(expressions) => {
+            for choice in expressions {
+                if holds(choice, alloc, root, here, patterns)? {
+                    return Ok(true);
+                }
+            }
+            Ok(false)
+        }
+        Expression::And(expressions) => {
+            for condition in expressions {
+                if !holds(condition, alloc, root, here, patterns)? {
+                    return Ok(false);
+                }
+            }
+            Ok(true)
+        }
+        Expression::Not(expression) => Ok(!holds(expression, alloc, root, here, patterns)?),
+        Expression::Comparison(operator, left, right) => {
+            let left = compared(left, alloc, root, here, patterns)?;
+            match compared(right, alloc, root, here, patterns) {
+                Ok(right) => Ok(compare(*operator, left, right)),
+                Err(error) => {
+                    release(left);
+                    Err(error)
+                }
+            }
+        }
+        Expression::Test(query) => {
+            let start = start(query.origin, root, here);
+            Ok(!find_from(query.segments.as_slice(), alloc, root, start, patterns)?.is_empty())
+        }
+        Expression::Pattern(function, value, pattern) => {
+            let stays = matches!(&**pattern, Comparable::Literal(_));
+            let value = compared(value, alloc, root, here, patterns)?;
+            match compared(pattern, alloc, root, here, patterns) {
+                Ok(pattern) => Ok(patterns.test(alloc, *function, stays, value, pattern)?),
+                Err(error) => {
+                    release(value);
+                    Err(error)
+                }
+            }
+        }
+    }
+}
+
+/// The value that is compared, or nothing.
+#[cycle(selecting)]
+fn compared<'v>(
+    comparable: &Comparable,
+    alloc: Global,
+    root: &'v JsonValue,
+    here: &'v JsonValue,
+    patterns: &mut Patterns,
+) -> Result<Option<Operand<'v>>, FindError>
+    ensures ok { IfOk result (λ o. option_map operand_tree o
+        ≡ comparable_value comparable.now (view root.now) (view here.now)) }
+    ensures err { IfErr result (IsFromAny (comparable_strings comparable.now) (view root.now)
+        (strings_in (view here.now))) }
+{
+    match comparable {
+        Comparable::Literal(literal) => Ok(literal_value(alloc, literal)?),
+        Comparable::SingularQuery(query) => Ok(singular_value(query, root, here)),
+        Comparable::Function(function) => match function {
+            FunctionExpression::Length(argument) => {
+                Ok(operand::length(alloc, compared(argument, alloc, root, here, patterns)?)?)
+            }
+            FunctionExpression::Count(query) => {
+                let start = start(query.origin, root, here);
+                let nodes = find_from(query.segments.as_slice(), alloc, root, start, patterns)?;
+                Ok(operand::count(alloc, nodes.as_slice())?)
+            }
+            FunctionExpression::Value(query) => {
+                let start = start(query.origin, root, here);
+                let nodes = find_from(query.segments.as_slice(), alloc, root, start, patterns)?;
+                Ok(only_value(nodes.as_slice()))
+            }
+        },
+    }
+}
+
+/// Puts the nodes behind those that wait, the last one first.
+fn push_reversed<'v>(
+    mut nodes: Vec<Node<'v>>,
+    waiting: &mut Vec<Node<'v>>,
+) -> Result<(), AllocError>
+    ensures { OnOk result (parts_view waiting.new.items
+        ≡ parts_view waiting.old.items ++ reverse (parts_view nodes.entry.items)) }
+{
+    while let Some(node) = nodes.pop() {
+        waiting.push(node)?;
+    }
+    Ok(())
+}
