@@ -7,15 +7,15 @@ use std::alloc::{AllocError, Global};
 use std::rc::Rc;
 use tinyjson::JsonValue;
 
-/// Where a node stands in the value that a query is asked of: its normalized path (RFC 9535, 2.7). A
-/// location shares the one of its parent.
+/// The place of a node in the queried value: its normalized path (RFC 9535, 2.7). A location shares that of
+/// its parent.
 pub enum Location<'v> {
     Root,
     Member(Rc<Location<'v>>, &'v String),
     Item(Rc<Location<'v>>, usize),
 }
 
-/// Those above that no node shares are freed too, by a loop.
+/// A loop also frees the locations above that no node shares.
 impl Drop for Location<'_> {
     fn drop(mut self) {
         loop {
@@ -32,7 +32,7 @@ impl Drop for Location<'_> {
     }
 }
 
-/// A node (RFC 9535, 1.1): a part of the value that a query is asked of, and its location there.
+/// A node (RFC 9535, 1.1): a part of the queried value, and its location there.
 #[derive(Drop)]
 pub struct Node<'v> {
     pub location: Rc<Location<'v>>,

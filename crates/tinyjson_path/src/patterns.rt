@@ -1,4 +1,4 @@
-//! Regular expressions that `match` and `search` ask for (RFC 9535, 2.4.6 and 2.4.7).
+//! The regular expressions of `match` and `search` (RFC 9535, 2.4.6 and 2.4.7).
 ghost use Rattle.std.specs.Prelude.{◌≡◌, ◌≤◌, ℕ, Bool, List, [], ◌∷◌, Some, IfOk, IfErr};
 ghost use Rattle.std.specs.Prelude.{option_map, vec_len};
 ghost use Rattle.std.specs.Str.{chars};
@@ -17,7 +17,7 @@ use std::fmt;
 use tinyjson::JsonValue;
 use tinyjson_path_query::PatternFunction;
 
-/// How a regular expression is more than is read.
+/// The limit that a regular expression exceeds.
 #[derive(Clone, Copy)]
 pub enum PatternLimit {
     /// More than 200 groups are open at once.
@@ -37,10 +37,10 @@ impl fmt::Display for PatternLimit {
     }
 }
 
-/// Why it can't be told what a query selects.
+/// Why `find` returns no nodes.
 #[derive(Clone, Copy)]
 pub enum FindError {
-    /// A regular expression that was asked for is too deep or too large.
+    /// A regular expression that the query needs is too deep or too large.
     Pattern(PatternLimit),
     /// An allocation failed.
     OutOfMemory,
@@ -66,7 +66,7 @@ impl<T: Drop> From<AllocFailed<T>> for FindError {
 #[derive(Drop)]
 struct Pattern {
     pattern: String,
-    /// Nothing where the text is no regular expression.
+    /// `None` if the text is no regular expression.
     regexp: Option<IRegexp>,
     ghost read: { (f : PatternFunction) (cs : List ℕ)
         → judged f (text pattern) cs ≡ answer_of regexp f cs },
@@ -99,7 +99,7 @@ impl Pattern {
         Ok(Pattern { pattern, regexp })
     }
 
-    /// Whether the function holds of the value; of what is no regular expression it does not.
+    /// Whether the function holds of the value. It does not if the text is no regular expression.
     fn holds(&mut self, function: PatternFunction, value: &str) -> bool
         ensures { result ≡ judged function (text self.old.pattern) (chars value.now) }
     {
@@ -204,7 +204,7 @@ impl Patterns {
         Ok(holds)
     }
 
-    /// Where the pattern stands among those that are kept, or is to stand.
+    /// The index of the pattern among those that are kept, or where it is to be inserted.
     fn place(&self, pattern: &str) -> usize
         ensures { result ≤ vec_len self.now.kept }
     {
